@@ -1,0 +1,3 @@
+pub mod Signature
+pub mod Image
+pub mod Places
