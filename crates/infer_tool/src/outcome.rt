@@ -1,0 +1,35 @@
+//! How a report ended.
+ghost use Rattle.std.specs.Prelude.{◌≡◌};
+ghost use Rattle.infer_tool.specs.Outcome.{status_of, worse_of};
+
+/// How a report ended: with a type, without one, or with a fault or a failed write.
+#[derive(Clone, Copy, Debug)]
+pub enum Outcome {
+    Known,
+    Unknown,
+    Failed,
+}
+
+impl Outcome {
+    /// The exit status: 0, 1 or 2.
+    pub fn status(self) -> u8
+        ensures { result ≡ status_of self }
+    {
+        match self {
+            Outcome::Known => 0,
+            Outcome::Unknown => 1,
+            Outcome::Failed => 2,
+        }
+    }
+
+    /// The one of greater status.
+    pub fn worse(self, other: Outcome) -> Outcome
+        ensures { result ≡ worse_of self other }
+    {
+        if self.status() < other.status() {
+            other
+        } else {
+            self
+        }
+    }
+}
