@@ -6,6 +6,9 @@ pub mod Triple
 pub mod BuiltIn
 pub mod Row
 pub mod First
+pub mod Questions
+pub mod Caller
+pub mod Rows
 pub mod Format
 pub mod Table
 pub mod RowSeen

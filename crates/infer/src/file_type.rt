@@ -1,5 +1,5 @@
 //! What a file type is.
-ghost use Rattle.std.specs.Prelude.{◌≡◌, Some};
+ghost use Rattle.std.specs.Prelude.{◌≡◌, ◌↔◌, IsTrue, Some};
 
 use std::fmt;
 
@@ -27,6 +27,14 @@ pub struct FileType {
     pub(crate) matcher_type: MatcherType,
     pub(crate) mime_type: &'static str,
     pub(crate) extension: &'static str,
+}
+
+/// What a question asks of a type.
+#[derive(Clone, Copy)]
+pub enum Wanted<'a> {
+    Extension(&'a str),
+    MimeType(&'a str),
+    Class(MatcherType),
 }
 
 impl FileType {
@@ -65,6 +73,22 @@ impl FileType {
         ensures { result.now ≡ (triple_of self.now).extension }
     {
         self.extension
+    }
+}
+
+impl FileType {
+    ghost use Rattle.infer.specs.Questions.{Fits};
+    ghost use Rattle.infer.specs.Triple.{triple_of};
+
+    // Whether it is one that is asked for.
+    pub(crate) fn fits(&self, wanted: Wanted) -> bool
+        ensures { IsTrue result ↔ Fits wanted.entry (triple_of self.now) }
+    {
+        match wanted {
+            Wanted::Extension(text) => self.extension == text,
+            Wanted::MimeType(text) => self.mime_type == text,
+            Wanted::Class(class) => self.matcher_type == class,
+        }
     }
 }
 

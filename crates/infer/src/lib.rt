@@ -1,10 +1,22 @@
 //! Tells the type of a file from its first bytes.
+//!
+//! [`get`] answers the type of the first built-in row whose signature accepts a buffer. An [`Infer`] asks rows
+//! that its caller added before the built-in ones. No question takes memory, reads a file or can refuse.
 #![tactic(auto)]
 
+ghost use Rattle.std.specs.Prelude.{◌↔◌, IsTrue, option_map};
+ghost use Rattle.infer.specs.First.{IsAnswer, SomeHas};
+ghost use Rattle.infer.specs.Questions.{HasClass, HasExtension, HasMimeType, SomeBoth};
+ghost use Rattle.infer.specs.Row.{Accepts};
+ghost use Rattle.infer.specs.Table.{table};
+ghost use Rattle.infer.specs.Triple.{triple_of};
+
+mod custom;
 mod fault;
 mod file_type;
 mod format;
 pub mod image;
+mod infer;
 pub mod laws;
 mod map;
 #[cfg(test)]
@@ -12,4 +24,97 @@ mod tests;
 
 pub use fault::Fault;
 pub use file_type::{FileType as Type, Matcher, MatcherType};
-pub use map::{get, is};
+pub use infer::Infer;
+
+use file_type::Wanted;
+
+/// The type of the first built-in row that accepts `buf`, and `None` exactly where no row accepts it.
+pub fn get(buf: &[u8]) -> Option<Type>
+    ensures { IsAnswer (Accepts buf.now) table (option_map triple_of result) }
+{
+    map::get(buf)
+}
+
+/// Whether some built-in row with this extension accepts `buf`. Upper and lower case are apart.
+pub fn is(buf: &[u8], extension: &str) -> bool
+    ensures { IsTrue result ↔ SomeBoth (HasExtension extension.now) (Accepts buf.now) table }
+{
+    map::some(Wanted::Extension(extension), buf)
+}
+
+/// Whether some built-in row with this MIME type accepts `buf`. Upper and lower case are apart.
+pub fn is_mime(buf: &[u8], mime_type: &str) -> bool
+    ensures { IsTrue result ↔ SomeBoth (HasMimeType mime_type.now) (Accepts buf.now) table }
+{
+    map::some(Wanted::MimeType(mime_type), buf)
+}
+
+/// Whether some built-in row has this extension.
+pub fn is_supported(extension: &str) -> bool
+    ensures { IsTrue result ↔ SomeHas (HasExtension extension.now) table }
+{
+    map::has(Wanted::Extension(extension))
+}
+
+/// Whether some built-in row has this MIME type.
+pub fn is_mime_supported(mime_type: &str) -> bool
+    ensures { IsTrue result ↔ SomeHas (HasMimeType mime_type.now) table }
+{
+    map::has(Wanted::MimeType(mime_type))
+}
+
+/// Whether some built-in row of the class `App` accepts `buf`.
+pub fn is_app(buf: &[u8]) -> bool
+    ensures { IsTrue result ↔ SomeBoth (HasClass MatcherType.App) (Accepts buf.now) table }
+{
+    map::some(Wanted::Class(MatcherType::App), buf)
+}
+
+/// Whether some built-in row of the class `Archive` accepts `buf`.
+pub fn is_archive(buf: &[u8]) -> bool
+    ensures { IsTrue result ↔ SomeBoth (HasClass MatcherType.Archive) (Accepts buf.now) table }
+{
+    map::some(Wanted::Class(MatcherType::Archive), buf)
+}
+
+/// Whether some built-in row of the class `Audio` accepts `buf`.
+pub fn is_audio(buf: &[u8]) -> bool
+    ensures { IsTrue result ↔ SomeBoth (HasClass MatcherType.Audio) (Accepts buf.now) table }
+{
+    map::some(Wanted::Class(MatcherType::Audio), buf)
+}
+
+/// Whether some built-in row of the class `Book` accepts `buf`.
+pub fn is_book(buf: &[u8]) -> bool
+    ensures { IsTrue result ↔ SomeBoth (HasClass MatcherType.Book) (Accepts buf.now) table }
+{
+    map::some(Wanted::Class(MatcherType::Book), buf)
+}
+
+/// Whether some built-in row of the class `Doc` accepts `buf`.
+pub fn is_document(buf: &[u8]) -> bool
+    ensures { IsTrue result ↔ SomeBoth (HasClass MatcherType.Doc) (Accepts buf.now) table }
+{
+    map::some(Wanted::Class(MatcherType::Doc), buf)
+}
+
+/// Whether some built-in row of the class `Font` accepts `buf`.
+pub fn is_font(buf: &[u8]) -> bool
+    ensures { IsTrue result ↔ SomeBoth (HasClass MatcherType.Font) (Accepts buf.now) table }
+{
+    map::some(Wanted::Class(MatcherType::Font), buf)
+}
+
+/// Whether some built-in row of the class `Image` accepts `buf`.
+pub fn is_image(buf: &[u8]) -> bool
+    ensures { IsTrue result ↔ SomeBoth (HasClass MatcherType.Image) (Accepts buf.now) table }
+{
+    map::some(Wanted::Class(MatcherType::Image), buf)
+}
+
+/// Whether some built-in row of the class `Video` accepts `buf`.
+pub fn is_video(buf: &[u8]) -> bool
+    ensures { IsTrue result ↔ SomeBoth (HasClass MatcherType.Video) (Accepts buf.now) table }
+{
+    map::some(Wanted::Class(MatcherType::Video), buf)
+}

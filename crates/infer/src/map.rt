@@ -1,12 +1,13 @@
 //! The built-in rows.
 ghost use Rattle.std.specs.Prelude.{◌≡◌, ◌↔◌, IsTrue, map, option_map, slice_get};
 ghost use Rattle.infer.specs.First.{IsAnswer, IsFirstOf, SomeHas};
+ghost use Rattle.infer.specs.Questions.{IsWanted, SomeBoth};
 ghost use Rattle.infer.specs.Row.{Accepts, shows};
 ghost use Rattle.infer.specs.RowSeen.{row_seen};
 ghost use Rattle.infer.specs.Table.{table};
 ghost use Rattle.infer.specs.Triple.{triple_of};
 
-use crate::file_type::{FileType, MatcherType};
+use crate::file_type::{FileType, MatcherType, Wanted};
 use crate::format::Format;
 
 /// A built-in row: what it tells, and the signature that decides.
@@ -57,10 +58,10 @@ impl BuiltInRow {
         self.format.accepts(buf)
     }
 
-    fn has_extension(&self, extension: &str) -> bool
-        ensures { IsTrue result ↔ ((row_seen self.now).shows.extension ≡ extension.now) }
+    fn fits(&self, wanted: Wanted) -> bool
+        ensures { IsTrue result ↔ IsWanted wanted.entry (row_seen self.now) }
     {
-        self.file_type.extension == extension
+        self.file_type.fits(wanted)
     }
 }
 
@@ -90,19 +91,31 @@ fn row(i: usize) -> Option<FileType>
     rows().get(i).map(|row| row.file_type)
 }
 
-/// The type of the first row whose signature accepts `buf`, and `None` exactly where no row accepts it.
+// The answer of the built-in rows.
 pub fn get(buf: &[u8]) -> Option<FileType>
     ensures { IsAnswer (Accepts buf.now) table (option_map triple_of result) }
 {
     row(position(buf)?)
 }
 
-/// Whether some row with this extension accepts `buf`. Upper and lower case are apart.
-pub fn is(buf: &[u8], extension: &str) -> bool
-    ensures { IsTrue result ↔ SomeHas (λ r. (r.shows.extension ≡ extension.now) × Accepts buf.now r) table }
+// Whether some built-in row that is wanted accepts the buffer.
+pub fn some(wanted: Wanted, buf: &[u8]) -> bool
+    ensures { IsTrue result ↔ SomeBoth (IsWanted wanted.entry) (Accepts buf.now) table }
 {
     for row in rows() {
-        if row.has_extension(extension) && row.accepts(buf) {
+        if row.fits(wanted) && row.accepts(buf) {
+            return true;
+        }
+    }
+    false
+}
+
+// Whether some built-in row is wanted.
+pub fn has(wanted: Wanted) -> bool
+    ensures { IsTrue result ↔ SomeHas (IsWanted wanted.entry) table }
+{
+    for row in rows() {
+        if row.fits(wanted) {
             return true;
         }
     }

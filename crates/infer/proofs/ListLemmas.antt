@@ -1,0 +1,118 @@
+-- The first and some element of a list with a property: of a list that was read, of the images of a list, and of
+-- two lists joined.
+use Rattle.std.proofs.Common.{◌≡◌, ◌+◌, ◌-◌, ◌<◌, ◌≤◌, ℕ, zero, suc, List, [], ◌∷◌, ◌++◌, ◌⊎◌, inl, inr, map, length, get_or, refl, subst, arith, length-append}
+use Rattle.std.specs.List.{HoldsAt, AllWithin}
+use Rattle.std.proofs.lemmas.Bool.{cases_lt}
+use Rattle.std.proofs.lemmas.List.{get_or-map, get_or_append_left, get_or-append-add, get_or-append_right, length-map}
+use Rattle.infer.specs.First.{IsFirst, NoneHas, SomeHas}
+
+-- what holds of an element that was read holds at its index
+HoldsAt-read : {A : Type 0} (P : A → Type 0) (xs : List A) (i : ℕ) (c : A) → i < length xs → P (get_or xs i c) → HoldsAt P xs i
+HoldsAt-read P [] i c lt h = absurd (omega arith)
+HoldsAt-read P (x ∷ xs) zero c lt h = λ d. h
+HoldsAt-read P (x ∷ xs) (suc i) c lt h = HoldsAt-read P xs i c (omega arith) h
+
+-- no element has a property that none has
+pub not_some : {A : Type 0} (P : A → Type 0) (xs : List A) → NoneHas P xs → ¬ SomeHas P xs
+not_some P [] none h = absurd (let lt = h.1 in omega arith)
+not_some P (x ∷ xs) none h = none h.0 x (omega arith) h.1 (h.2 x)
+
+module _ {A B : Type 0} (f : A → B) (P : B → Type 0) where
+  HoldsAt-map : (xs : List A) (i : ℕ) → i < length xs → HoldsAt (λ x. P (f x)) xs i → HoldsAt P (map f xs) i
+  HoldsAt-map [] i lt h = absurd (omega arith)
+  HoldsAt-map (x ∷ xs) i lt h = λ e. rw (get_or-map f (x ∷ xs) i x e lt) (h x)
+
+  HoldsAt-from_map : (xs : List A) (i : ℕ) → i < length xs → HoldsAt P (map f xs) i → HoldsAt (λ x. P (f x)) xs i
+  HoldsAt-from_map xs i lt h = λ d. rw (← get_or-map f xs i d (f d) lt) (h (f d))
+
+  AllWithin-map : (xs : List A) (n : ℕ) → n ≤ length xs → AllWithin (λ x. P (f x)) xs 0 n → AllWithin P (map f xs) 0 n
+  AllWithin-map [] n le h = λ k d a b. absurd (omega arith)
+  AllWithin-map (x ∷ xs) n le h =
+      λ k d a b. let lt : k < length (x ∷ xs) = omega arith in rw (get_or-map f (x ∷ xs) k x d lt) (h k x a b)
+
+module _ {A B : Type 0} (f : A → B) (P : B → Type 0) (xs : List A) where
+  pub SomeHas-map : SomeHas (λ x. P (f x)) xs → SomeHas P (map f xs)
+  SomeHas-map h = (h.0, rw (length-map {A = A} {B = B} xs f) h.1, HoldsAt-map f P xs h.0 h.1 h.2)
+
+  pub SomeHas-from_map : SomeHas P (map f xs) → SomeHas (λ x. P (f x)) xs
+  SomeHas-from_map h =
+      let lt : h.0 < length xs = omega (arith, h.1, length-map {A = A} {B = B} xs f) in
+      (h.0, lt, HoldsAt-from_map f P xs h.0 lt h.2)
+
+  pub NoneHas-map : NoneHas (λ x. P (f x)) xs → NoneHas P (map f xs)
+  NoneHas-map h = rw (length-map {A = A} {B = B} xs f) (AllWithin-map f (λ y. ¬ P y) xs (length xs) (omega arith) h)
+
+  pub IsFirst-map : (i : ℕ) → IsFirst (λ x. P (f x)) xs i → IsFirst P (map f xs) i
+  IsFirst-map i h = record {
+    within = rw (length-map {A = A} {B = B} xs f) h.within;
+    here = HoldsAt-map f P xs i h.within h.here;
+    before = AllWithin-map f (λ y. ¬ P y) xs i (omega (arith, h.within)) h.before;
+  }
+
+  pub HoldsAt-images : (i : ℕ) → i < length xs → HoldsAt (λ x. P (f x)) xs i → HoldsAt P (map f xs) i
+  HoldsAt-images = HoldsAt-map f P xs
+
+-- what a loop over xs found tells of their images ys
+module _ {A B : Type 0} (f : A → B) (P : B → Type 0) (xs : List A) (ys : List B) (e : map f xs ≡ ys) where
+  pub holds_read : (i : ℕ) (c : A) → i < length xs → P (f (get_or xs i c)) → HoldsAt P ys i
+  holds_read i c lt h = subst (λ l. HoldsAt P l i) e (HoldsAt-map f P xs i lt (HoldsAt-read (λ x. P (f x)) xs i c lt h))
+
+  pub some_read : (i : ℕ) (c : A) → i < length xs → P (f (get_or xs i c)) → SomeHas P ys
+  some_read i c lt h = subst (SomeHas P) e (SomeHas-map f P xs (i, lt, HoldsAt-read (λ x. P (f x)) xs i c lt h))
+
+  pub none_read : (n : ℕ) → length xs ≤ n → AllWithin (λ x. ¬ P (f x)) xs 0 n → NoneHas P ys
+  none_read n le h = subst (NoneHas P) e (NoneHas-map f P xs (λ k d a b. h k d a (omega arith)))
+
+  pub first_read : (i : ℕ) (c : A) → i < length xs → P (f (get_or xs i c)) → AllWithin (λ x. ¬ P (f x)) xs 0 i → IsFirst P ys i
+  first_read i c lt h before = subst (λ l. IsFirst P l i) e (IsFirst-map f P xs i (record {
+    within = lt;
+    here = HoldsAt-read (λ x. P (f x)) xs i c lt h;
+    before = before;
+  }))
+
+module _ {A : Type 0} (P : A → Type 0) (xs ys : List A) where
+  pub HoldsAt-left : (i : ℕ) → i < length xs → HoldsAt P xs i → HoldsAt P (xs ++ ys) i
+  HoldsAt-left i lt h = λ d. rw (get_or_append_left xs ys d i lt) (h d)
+
+  pub HoldsAt-right : (i : ℕ) → HoldsAt P ys i → HoldsAt P (xs ++ ys) (length xs + i)
+  HoldsAt-right i h = λ d. rw (get_or-append-add xs ys i d) (h d)
+
+  pub SomeHas-left : SomeHas P xs → SomeHas P (xs ++ ys)
+  SomeHas-left h = (h.0, omega (arith, h.1, length-append xs ys), HoldsAt-left h.0 h.1 h.2)
+
+  pub SomeHas-right : SomeHas P ys → SomeHas P (xs ++ ys)
+  SomeHas-right h = (length xs + h.0, omega (arith, h.1, length-append xs ys), HoldsAt-right h.0 h.2)
+
+  -- one in the whole is one in the front or in the rest
+  pub SomeHas-either : SomeHas P (xs ++ ys) → SomeHas P xs ⊎ SomeHas P ys
+  SomeHas-either h = elim (cases_lt h.0 (length xs)) [
+    | inl lt ↦ inl (h.0, lt, λ d. rw (← get_or_append_left xs ys d h.0 lt) (h.2 d))
+    | inr le ↦ inr (h.0 - length xs, omega (arith, h.1, length-append xs ys), λ d. rw (← get_or-append_right xs ys (length xs) h.0 d refl le) (h.2 d))
+  ]
+
+module _ {A : Type 0} (P : A → Type 0) (xs ys : List A) where
+  AllWithin-left : (n : ℕ) → n ≤ length xs → AllWithin P xs 0 n → AllWithin P (xs ++ ys) 0 n
+  AllWithin-left n le h = λ k d a b. let lt : k < length xs = omega arith in rw (get_or_append_left xs ys d k lt) (h k d a b)
+
+  AllWithin-both : (n : ℕ) → AllWithin P xs 0 (length xs) → AllWithin P ys 0 n → AllWithin P (xs ++ ys) 0 (length xs + n)
+  AllWithin-both n p q = λ k d a b. grind (arith, p k d, q (k - length xs) d, get_or_append_left xs ys d k, get_or-append_right xs ys (length xs) k d)
+
+module _ {A : Type 0} (P : A → Type 0) (xs ys : List A) where
+  -- the first of the front is that of the whole
+  pub IsFirst-left : (i : ℕ) → IsFirst P xs i → IsFirst P (xs ++ ys) i
+  IsFirst-left i h = record {
+    within = omega (arith, h.within, length-append xs ys);
+    here = HoldsAt-left P xs ys i h.within h.here;
+    before = AllWithin-left (λ x. ¬ P x) xs ys i (omega (arith, h.within)) h.before;
+  }
+
+  -- where the front has none, it is that of the rest
+  pub IsFirst-right : (i : ℕ) → NoneHas P xs → IsFirst P ys i → IsFirst P (xs ++ ys) (length xs + i)
+  IsFirst-right i none h = record {
+    within = omega (arith, h.within, length-append xs ys);
+    here = HoldsAt-right P xs ys i h.here;
+    before = AllWithin-both (λ x. ¬ P x) xs ys i none h.before;
+  }
+
+  pub NoneHas-both : NoneHas P xs → NoneHas P ys → NoneHas P (xs ++ ys)
+  NoneHas-both none h = rw (length-append xs ys) (AllWithin-both (λ x. ¬ P x) xs ys (length ys) none h)

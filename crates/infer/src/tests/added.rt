@@ -1,0 +1,169 @@
+//! Rows that a caller adds, and the questions over all rows.
+ghost use Rattle.std.specs.Prelude.{◌≡◌, ◌↔◌, [], ◌∷◌, IsTrue, length, nat_eq};
+ghost use Rattle.std.specs.List.{starts_with};
+
+use crate::{Infer, MatcherType};
+use linked_list_allocator::LocalHeap;
+use std::alloc::Allocator;
+use std::test::Fail;
+
+fn begins_jpeg(buf: &[u8]) -> bool
+    ensures { IsTrue result ↔ IsTrue (starts_with nat_eq buf.now (0xFF ∷ 0xD8 ∷ 0xFF ∷ [])) }
+{
+    buf.starts_with(&[0xFF, 0xD8, 0xFF])
+}
+
+fn begins_png(buf: &[u8]) -> bool
+    ensures { IsTrue result ↔ IsTrue (starts_with nat_eq buf.now (0x89 ∷ 0x50 ∷ 0x4E ∷ 0x47 ∷ [])) }
+{
+    buf.starts_with(&[0x89, 0x50, 0x4E, 0x47])
+}
+
+fn begins_00(buf: &[u8]) -> bool
+    ensures { IsTrue result ↔ IsTrue (starts_with nat_eq buf.now (0x00 ∷ [])) }
+{
+    buf.starts_with(&[0x00])
+}
+
+fn begins_01(buf: &[u8]) -> bool
+    ensures { IsTrue result ↔ IsTrue (starts_with nat_eq buf.now (0x01 ∷ [])) }
+{
+    buf.starts_with(&[0x01])
+}
+
+fn begins_10_11_12(buf: &[u8]) -> bool
+    ensures { IsTrue result ↔ IsTrue (starts_with nat_eq buf.now (0x10 ∷ 0x11 ∷ 0x12 ∷ [])) }
+{
+    buf.starts_with(&[0x10, 0x11, 0x12])
+}
+
+fn is_two_long(buf: &[u8]) -> bool
+    ensures { IsTrue result ↔ (length buf.now ≡ 2) }
+{
+    buf.len() == 2
+}
+
+const JPEG: [u8; 3] = [0xFF, 0xD8, 0xFF];
+
+const PNG: [u8; 4] = [0x89, 0x50, 0x4E, 0x47];
+
+/// The MIME type of the first row that accepts `buf`, and no text where none does.
+fn mime_of<A: Allocator>(infer: &Infer<A>, buf: &[u8]) -> &'static str {
+    match infer.get(buf) {
+        Some(found) => found.mime_type(),
+        None => "",
+    }
+}
+
+#[test]
+fn built_in_rows_alone(rt: HostRuntime) {
+    let infer = Infer::default();
+    let jpeg = [0xFF, 0xD8, 0xFF, 0xAA];
+    assert_eq!(rt; infer.get(&jpeg), crate::get(&jpeg));
+    assert_eq!(rt; mime_of(&infer, &jpeg), "image/jpeg");
+    assert_eq!(rt; mime_of(&infer, b""), "");
+    assert!(rt; infer.is(&jpeg, "jpg") && crate::is(&jpeg, "jpg"));
+    assert!(rt; infer.is_mime(&jpeg, "image/jpeg") && crate::is_mime(&jpeg, "image/jpeg"));
+    assert!(rt; !infer.is_mime(&jpeg, "image/JPEG") && !crate::is_mime(&jpeg, "image/JPEG"));
+    assert!(rt; infer.is_supported("jpg") && crate::is_supported("jpg"));
+    assert!(rt; infer.is_mime_supported("image/jpeg") && crate::is_mime_supported("image/jpeg"));
+    assert!(rt; !infer.is_mime_supported("image") && !crate::is_mime_supported("image"));
+    assert!(rt; infer.is_image(&jpeg) && crate::is_image(&jpeg));
+    assert!(rt; !infer.is_custom(&jpeg));
+}
+
+#[test]
+fn no_class_of_another_row(rt: HostRuntime) {
+    let infer = Infer::new();
+    for buf in [JPEG.as_slice(), PNG.as_slice(), b"".as_slice()] {
+        assert!(rt; !infer.is_app(buf) && !crate::is_app(buf));
+        assert!(rt; !infer.is_archive(buf) && !crate::is_archive(buf));
+        assert!(rt; !infer.is_audio(buf) && !crate::is_audio(buf));
+        assert!(rt; !infer.is_book(buf) && !crate::is_book(buf));
+        assert!(rt; !infer.is_document(buf) && !crate::is_document(buf));
+        assert!(rt; !infer.is_font(buf) && !crate::is_font(buf));
+        assert!(rt; !infer.is_video(buf) && !crate::is_video(buf));
+    }
+}
+
+#[test]
+fn added_rows_come_first(rt: HostRuntime) -> Result<(), Fail> {
+    let mut infer = Infer::new();
+    assert!(rt; !infer.is_supported("foo"));
+    infer.add(rt.alloc(), "custom/foo", "foo", begins_jpeg)?;
+    assert!(rt; infer.is_supported("foo"));
+    assert!(rt; infer.is_mime_supported("custom/foo"));
+    assert!(rt; !crate::is_supported("foo"));
+    infer.add(rt.alloc(), "custom/bar", "bar", begins_png)?;
+    assert_eq!(rt; mime_of(&infer, &JPEG), "custom/foo");
+    assert_eq!(rt; mime_of(&infer, &PNG), "custom/bar");
+    assert!(rt; infer.is_image(&JPEG));
+    assert!(rt; infer.is_custom(&JPEG));
+    Ok(())
+}
+
+#[test]
+fn an_added_row_is_not_the_built_in_one(rt: HostRuntime) -> Result<(), Fail> {
+    let mut infer = Infer::new();
+    infer.add(rt.alloc(), "image/jpeg", "jpg", begins_00)?;
+    let found = infer.get(&[0x00]).ok_or("known")?;
+    assert_eq!(rt; found.matcher_type(), MatcherType::Custom);
+    assert_eq!(rt; found.mime_type(), "image/jpeg");
+    assert_eq!(rt; found.extension(), "jpg");
+    assert!(rt; found != crate::get(&JPEG).ok_or("known")?);
+    assert!(rt; infer.is(&[0x00], "jpg"));
+    assert!(rt; infer.is_mime(&[0x00], "image/jpeg"));
+    assert!(rt; infer.is_custom(&[0x00]));
+    assert!(rt; !infer.is_image(&[0x00]));
+    Ok(())
+}
+
+#[test]
+fn the_first_of_two_answers(rt: HostRuntime) -> Result<(), Fail> {
+    let mut infer = Infer::new();
+    infer.add(rt.alloc(), "custom/foo", "foo", begins_10_11_12)?;
+    let found = infer.get(&[0x10, 0x11, 0x12, 0x13]).ok_or("known")?;
+    assert_eq!(rt; found.mime_type(), "custom/foo");
+    assert_eq!(rt; found.extension(), "foo");
+    assert!(rt; infer.is_custom(&[0x10, 0x11, 0x12, 0x13]));
+    infer.add(rt.alloc(), "a", "x", begins_01)?;
+    infer.add(rt.alloc(), "b", "x", begins_01)?;
+    assert_eq!(rt; mime_of(&infer, &[0x01]), "a");
+    assert!(rt; infer.is_mime(&[0x01], "b"));
+    Ok(())
+}
+
+#[test]
+fn a_yes_that_does_not_last(rt: HostRuntime) -> Result<(), Fail> {
+    let mut infer = Infer::new();
+    infer.add(rt.alloc(), "custom/two", "two", is_two_long)?;
+    assert_eq!(rt; mime_of(&infer, &[0x00, 0x00]), "custom/two");
+    assert_eq!(rt; infer.get(&[0x00, 0x00, 0x00]), None);
+    Ok(())
+}
+
+#[test]
+fn a_refused_addition_changes_nothing(rt: HostRuntime) -> Result<(), Fail> {
+    let heap = LocalHeap::new(rt.alloc(), 512)?;
+    let mut infer: Infer<&LocalHeap> = Infer { list: None };
+    infer.add(&heap, "custom/foo", "foo", begins_jpeg)?;
+    let mut refused = false;
+    for _ in 0..64 {
+        refused = infer.add(&heap, "custom/bar", "bar", begins_png).is_err();
+        assert_eq!(rt; mime_of(&infer, &JPEG), "custom/foo");
+        assert!(rt; infer.is_image(&JPEG));
+        assert!(rt; infer.is_custom(&JPEG));
+        if refused {
+            break;
+        }
+        assert_eq!(rt; mime_of(&infer, &PNG), "custom/bar");
+    }
+    assert!(rt; refused);
+    assert_eq!(rt; mime_of(&infer, &PNG), "custom/bar");
+    let empty = LocalHeap::new(rt.alloc(), 64)?;
+    let mut first: Infer<&LocalHeap> = Infer { list: None };
+    assert!(rt; first.add(&empty, "custom/foo", "foo", begins_jpeg).is_err());
+    assert_eq!(rt; mime_of(&first, &JPEG), "image/jpeg");
+    assert!(rt; !first.is_custom(&JPEG));
+    Ok(())
+}
