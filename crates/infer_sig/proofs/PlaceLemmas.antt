@@ -1,5 +1,5 @@
 -- A text stands just where each of its bytes does.
-use Rattle.std.proofs.Common.{◌≡◌, ℕ, zero, suc, ◌+◌, ◌<◌, Bool, true, false, ◌&&◌, ◌↔◌, List, [], ◌∷◌, length, get_or, drop, refl, sym, ◌∙◌, arith, eqb, nat_eq, IsTrue, eq-eqb, length-drop, get_or-drop}
+use Rattle.std.proofs.Common.{◌≡◌, ℕ, zero, suc, ◌<◌, Bool, true, false, ◌&&◌, ◌↔◌, List, [], ◌∷◌, length, get_or, drop, refl, sym, ◌∙◌, arith, eqb, nat_eq, IsTrue, eq-eqb, length-drop, get_or-drop}
 use Rattle.std.specs.List.{starts_with}
 use borrow.Author.Tests.{eqb-true}
 use Rattle.infer_sig.specs.Signature.{stands}
