@@ -9,3 +9,4 @@ pub mod Odf
 pub mod Archive
 pub mod Text
 pub mod Places
+pub mod Laws
