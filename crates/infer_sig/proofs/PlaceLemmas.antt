@@ -1,4 +1,4 @@
--- A text stands just where each of its bytes does; it stays there, and only that part of the buffer tells.
+-- A text stands just where each of its bytes does.
 use Rattle.std.proofs.Common.{◌≡◌, ℕ, zero, suc, ◌+◌, ◌-◌, ◌<◌, ◌≤◌, ◌↔◌, List, [], ◌∷◌, ◌++◌, length, get_or, take, drop, refl, sym, ap, ◌∙◌, arith, eqb, nat_eq, IsTrue, length-append, length-drop, get_or-drop, take-take}
 use Rattle.std.proofs.lemmas.Bool.{and_parts, and_from, eqb-true, eq-eqb}
 use Rattle.std.proofs.lemmas.List.{drop-take, get_or_append_left}
@@ -7,6 +7,7 @@ use Rattle.std.specs.List.{starts_with}
 use Rattle.infer_sig.specs.Signature.{stands}
 use Rattle.infer_sig.specs.Places.{StandsByPlace}
 
+-- by place, at the front
 front_read : (t xs : List ℕ) → IsTrue (starts_with nat_eq xs t)
     → (k : ℕ) → k < length t → (k < length xs) × (get_or xs k 0 ≡ get_or t k 0)
 front_read [] xs h k l = absurd (omega arith)
@@ -34,14 +35,16 @@ stands_by_place place t buf = (
 )
 
 -- it stands there however the buffer goes on
-pub stands_lasts : (place : ℕ) (t buf more : List ℕ) → IsTrue (stands place t buf) → IsTrue (stands place t (buf ++ more))
+pub stands_lasts : (place : ℕ) (t buf more : List ℕ)
+    → IsTrue (stands place t buf) → IsTrue (stands place t (buf ++ more))
 stands_lasts place t buf more h =
     (stands_by_place place t (buf ++ more)).1
     (λ k l. let here = (stands_by_place place t buf).0 h k l in
     (omega (arith, here.0, length-append buf more), get_or_append_left buf more 0 (place + k) here.0 ∙ here.1))
 
--- the buffer up to the text's end tells
-pub stands-take : (place n : ℕ) (t buf : List ℕ) → place + length t ≤ n → stands place t (take n buf) ≡ stands place t buf
+-- any front of the buffer that reaches the text's end tells
+pub stands-take : (place n : ℕ) (t buf : List ℕ) → place + length t ≤ n
+    → stands place t (take n buf) ≡ stands place t buf
 unfolding stands
 stands-take place n t buf within =
     let cut : drop place (take n buf) ≡ take (n - place) (drop place buf) =

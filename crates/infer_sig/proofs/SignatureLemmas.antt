@@ -35,7 +35,8 @@ signature_lasts s buf more h = list_any_passes _ _ (alternative_lasts buf more) 
 leb-take : (m n : ℕ) (buf : List ℕ) → m ≤ n → leb m (length (take n buf)) ≡ leb m (length buf)
 leb-take m n buf within = grind (arith, nat_tests, common_steps)
 
-part_near : (n : ℕ) (buf : List ℕ) (part : Part) → IsTrue (is_part_within n part) → has_part (take n buf) part ≡ has_part buf part
+part_near : (n : ℕ) (buf : List ℕ) (part : Part) → IsTrue (is_part_within n part)
+    → has_part (take n buf) part ≡ has_part buf part
 part_near n buf (text place t) h = stands-take place n t buf (leb-true (place + length t) n h)
 part_near n buf (any_text place ts) h =
     list_any_same _ _ (λ t. leb (place + length t) n)
@@ -46,7 +47,8 @@ part_near n buf (byte place set) h =
     let as_long : ltb place (length (take n buf)) ≡ ltb place (length buf) = leb-take (suc place) n buf (omega arith) in
     cc
 
-alternative_near : (n : ℕ) (buf : List ℕ) (a : Alternative) → IsTrue (is_alternative_within n a) → fits (take n buf) a ≡ fits buf a
+alternative_near : (n : ℕ) (buf : List ℕ) (a : Alternative) → IsTrue (is_alternative_within n a)
+    → fits (take n buf) a ≡ fits buf a
 alternative_near n buf (at_least least parts) h =
     let both = and_parts (leb least n) _ h in
     let as_long = leb-take least n buf (leb-true least n both.0) in
@@ -71,7 +73,8 @@ part_leads f rest (text (suc place) t) h = refl
 part_leads f rest (any_text (suc place) ts) h = refl
 part_leads f rest (byte (suc place) set) h = refl
 
-alternative_leads : (f : ℕ) (rest : List ℕ) (a : Alternative) → IsTrue (fits (f ∷ rest) a) → IsTrue (alternative_lead a f)
+alternative_leads : (f : ℕ) (rest : List ℕ) (a : Alternative) → IsTrue (fits (f ∷ rest) a)
+    → IsTrue (alternative_lead a f)
 alternative_leads f rest (at_least least parts) h =
     list_all_passes _ _ (part_leads f rest) parts (and_parts (leb least (length (f ∷ rest))) _ h).1
 

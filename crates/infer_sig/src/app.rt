@@ -3,6 +3,7 @@ ghost use Rattle.std.specs.Prelude.{◌≡◌};
 ghost use Rattle.infer_sig.specs.Signature.{accepts};
 ghost use Rattle.infer_sig.specs.App.{coff, coff_i386, coff_ia64, coff_x64, der, dex, dey, elf, exe, java, llvm, mach, pem, qcow2, wasm};
 
+// Nothing at a fixed place tells a library from a program.
 pub use self::is_exe as is_dll;
 use crate::stands::stands;
 
@@ -20,7 +21,7 @@ pub fn is_elf(buf: &[u8]) -> bool
     buf.len() >= 53 && stands(buf, 0, b"\x7FELF")
 }
 
-/// Windows program, or its library by the name `is_dll`: at least 2 bytes, "MZ" first.
+/// Windows program or library: at least 2 bytes, "MZ" first.
 pub fn is_exe(buf: &[u8]) -> bool
     ensures { result ≡ accepts exe buf.now }
 {
