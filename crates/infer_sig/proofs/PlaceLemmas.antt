@@ -1,25 +1,20 @@
 -- A text stands just where each of its bytes does.
-use Rattle.std.proofs.Common.{◌≡◌, ℕ, zero, suc, ◌+◌, ◌<◌, Bool, true, false, ◌&&◌, ◌↔◌, List, [], ◌∷◌, length, get_or, drop, refl, sym, ◌∙◌, arith, eqb, nat_eq, IsTrue, eq-eqb, length-drop, get_or-drop}
+use Rattle.std.proofs.Common.{◌≡◌, ℕ, zero, suc, ◌+◌, ◌-◌, ◌<◌, ◌≤◌, ◌↔◌, List, [], ◌∷◌, ◌++◌, length, get_or, take, drop, refl, sym, ap, ◌∙◌, arith, eqb, nat_eq, IsTrue, length-append, length-drop, get_or-drop, take-take}
+use Rattle.std.proofs.lemmas.Bool.{and_parts, and_from, eqb-true, eq-eqb}
+use Rattle.std.proofs.lemmas.List.{drop-take, get_or_append_left}
+use Rattle.std.specs.Cmp.Lexicographic.{pointwise}
 use Rattle.std.specs.List.{starts_with}
-use borrow.Author.Tests.{eqb-true}
 use Rattle.infer_sig.specs.Signature.{stands}
 use Rattle.infer_sig.specs.Places.{StandsByPlace}
 
-and_both : (a b : Bool) → IsTrue (a && b) → IsTrue a × IsTrue b
-and_both true b h = (refl, h)
-and_both false b h = absurd (cc)
-
-and_made : (a b : Bool) → IsTrue a → IsTrue b → IsTrue (a && b)
-and_made true b h k = k
-and_made false b h k = h
-
+-- by place, at the front
 front_read : (t xs : List ℕ) → IsTrue (starts_with nat_eq xs t)
     → (k : ℕ) → k < length t → (k < length xs) × (get_or xs k 0 ≡ get_or t k 0)
 front_read [] xs h k l = absurd (omega arith)
 front_read (c ∷ t) [] h k l = absurd (cc)
-front_read (c ∷ t) (x ∷ xs) h zero l = (omega arith, sym (eqb-true c x (and_both (eqb c x) _ h).0))
+front_read (c ∷ t) (x ∷ xs) h zero l = (omega arith, sym (eqb-true c x (and_parts (eqb c x) _ h).0))
 front_read (c ∷ t) (x ∷ xs) h (suc k) l =
-    let rest = front_read t xs (and_both (eqb c x) _ h).1 k (omega arith) in
+    let rest = front_read t xs (and_parts (eqb c x) _ h).1 k (omega arith) in
     (omega (arith, rest.0), rest.1)
 
 front_made : (t xs : List ℕ) → ((k : ℕ) → k < length t → (k < length xs) × (get_or xs k 0 ≡ get_or t k 0))
@@ -27,7 +22,7 @@ front_made : (t xs : List ℕ) → ((k : ℕ) → k < length t → (k < length x
 front_made [] xs h = refl
 front_made (c ∷ t) [] h = absurd (omega (arith, (h 0 (omega arith)).0))
 front_made (c ∷ t) (x ∷ xs) h =
-    and_made (eqb c x) _ (eq-eqb c x (sym (h 0 (omega arith)).1))
+    and_from (eqb c x) _ (eq-eqb c x (sym (h 0 (omega arith)).1))
     (front_made t xs (λ k l. let rest = h (suc k) (omega arith) in (omega (arith, rest.0), rest.1)))
 
 pub stands_by_place : (place : ℕ) (t buf : List ℕ) → IsTrue (stands place t buf) ↔ StandsByPlace place t buf
@@ -38,3 +33,20 @@ stands_by_place place t buf = (
   λ h. front_made t (drop place buf)
       (λ k l. let here = h k l in (omega (arith, here.0, length-drop place buf), get_or-drop place buf k 0 ∙ here.1)),
 )
+
+-- it stands there however the buffer goes on
+pub stands_lasts : (place : ℕ) (t buf more : List ℕ)
+    → IsTrue (stands place t buf) → IsTrue (stands place t (buf ++ more))
+stands_lasts place t buf more h =
+    (stands_by_place place t (buf ++ more)).1
+    (λ k l. let here = (stands_by_place place t buf).0 h k l in
+    (omega (arith, here.0, length-append buf more), get_or_append_left buf more 0 (place + k) here.0 ∙ here.1))
+
+-- any front of the buffer that reaches the text's end tells
+pub stands-take : (place n : ℕ) (t buf : List ℕ) → place + length t ≤ n
+    → stands place t (take n buf) ≡ stands place t buf
+unfolding stands
+stands-take place n t buf within =
+    let cut : drop place (take n buf) ≡ take (n - place) (drop place buf) =
+    ap (λ m. drop place (take m buf)) (omega arith) ∙ drop-take place (n - place) buf in
+    ap (pointwise nat_eq t) (ap (take (length t)) cut ∙ take-take (length t) (n - place) (drop place buf) (omega arith))

@@ -1,3 +1,12 @@
 pub mod Signature
+pub mod App
+pub mod Book
 pub mod Image
+pub mod Video
+pub mod Audio
+pub mod Font
+pub mod Odf
+pub mod Archive
+pub mod Text
 pub mod Places
+pub mod Laws

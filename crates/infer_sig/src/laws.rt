@@ -1,9 +1,26 @@
 //! Facts about the definitions, each the contract of a function that does nothing.
 ghost use Rattle.std.specs.Prelude.{◌↔◌, ℕ, List, IsTrue};
-ghost use Rattle.infer_sig.specs.Signature.{stands};
+ghost use Rattle.infer_sig.specs.Signature.{Alternative, stands};
 ghost use Rattle.infer_sig.specs.Places.{StandsByPlace};
+ghost use Rattle.infer_sig.specs.Laws.{IsNear, Lasts, Leads, is_within};
 
 /// A text stands at a place exactly where each place from there on is in the buffer and holds the text's byte.
 pub fn by_place()
     ensures { (place : ℕ) (t buf : List ℕ) → IsTrue (stands place t buf) ↔ StandsByPlace place t buf }
+{}
+
+/// What a signature accepts, it accepts however the buffer goes on.
+pub fn growth()
+    ensures { (signature : List Alternative) → Lasts signature }
+{}
+
+/// Where no part and no least length of a signature reaches past the first n bytes, these decide, however long
+/// the buffer is.
+pub fn near()
+    ensures { (n : ℕ) (signature : List Alternative) → IsTrue (is_within n signature) → IsNear n signature }
+{}
+
+/// A buffer that a signature accepts begins with a byte that the signature allows there.
+pub fn leads()
+    ensures { (signature : List Alternative) → Leads signature }
 {}

@@ -1,0 +1,82 @@
+-- The laws of a signature, from its parts up.
+use Rattle.std.proofs.Common.{◌≡◌, ℕ, zero, suc, ◌+◌, ◌≤◌, List, [], ◌∷◌, ◌++◌, length, get_or, take, refl, sym, subst, arith, eqb, ltb, leb, IsTrue, get_or-take}
+use Rattle.std.proofs.lemmas.Bool.{and_parts, and_from, leb-true, ltb-true}
+use Rattle.std.proofs.lemmas.Bool.Decides.{nat_tests}
+use Rattle.std.proofs.lemmas.Grind.{common_steps}
+use Rattle.std.proofs.lemmas.List.{get_or_append_left}
+use Rattle.infer_sig.proofs.ListLemmas.{list_any_passes, list_all_passes, list_any_same, list_all_same}
+use Rattle.infer_sig.proofs.PlaceLemmas.{stands_lasts, stands-take}
+use Rattle.infer_sig.specs.Signature.{Alternative, at_least, Part, text, byte, any_text, allows, has_part, fits, stands}
+use Rattle.infer_sig.specs.Laws.{Lasts, IsNear, Leads, is_part_within, is_alternative_within, is_within, text_lead, part_lead, alternative_lead}
+
+-- ---- a buffer that goes on
+
+part_lasts : (buf more : List ℕ) (part : Part) → IsTrue (has_part buf part) → IsTrue (has_part (buf ++ more) part)
+part_lasts buf more (text place t) h = stands_lasts place t buf more h
+part_lasts buf more (any_text place ts) h = list_any_passes _ _ (λ t. stands_lasts place t buf more) ts h
+part_lasts buf more (byte place set) h =
+    let parts = and_parts (ltb place (length buf)) _ h in
+    let in_front = ltb-true place (length buf) parts.0 in
+    let still : IsTrue (ltb place (length (buf ++ more))) = grind (arith, nat_tests, common_steps) in
+    let same = get_or_append_left buf more 0 place in_front in
+    and_from (ltb place (length (buf ++ more))) _ still (subst (λ x. IsTrue (allows set x)) (sym same) parts.1)
+
+alternative_lasts : (buf more : List ℕ) (a : Alternative) → IsTrue (fits buf a) → IsTrue (fits (buf ++ more) a)
+alternative_lasts buf more (at_least least parts) h =
+    let both = and_parts (leb least (length buf)) _ h in
+    let still : IsTrue (leb least (length (buf ++ more))) = grind (arith, nat_tests, common_steps) in
+    and_from (leb least (length (buf ++ more))) _ still (list_all_passes _ _ (part_lasts buf more) parts both.1)
+
+pub signature_lasts : (s : List Alternative) → Lasts s
+signature_lasts s buf more h = list_any_passes _ _ (alternative_lasts buf more) s h
+
+-- ---- a front of the buffer
+
+leb-take : (m n : ℕ) (buf : List ℕ) → m ≤ n → leb m (length (take n buf)) ≡ leb m (length buf)
+leb-take m n buf within = grind (arith, nat_tests, common_steps)
+
+part_near : (n : ℕ) (buf : List ℕ) (part : Part) → IsTrue (is_part_within n part)
+    → has_part (take n buf) part ≡ has_part buf part
+part_near n buf (text place t) h = stands-take place n t buf (leb-true (place + length t) n h)
+part_near n buf (any_text place ts) h =
+    list_any_same _ _ (λ t. leb (place + length t) n)
+    (λ t within. stands-take place n t buf (leb-true (place + length t) n within)) ts h
+part_near n buf (byte place set) h =
+    let within = ltb-true place n h in
+    let same : get_or (take n buf) place 0 ≡ get_or buf place 0 = get_or-take n buf place 0 within in
+    let as_long : ltb place (length (take n buf)) ≡ ltb place (length buf) = leb-take (suc place) n buf (omega arith) in
+    cc
+
+alternative_near : (n : ℕ) (buf : List ℕ) (a : Alternative) → IsTrue (is_alternative_within n a)
+    → fits (take n buf) a ≡ fits buf a
+alternative_near n buf (at_least least parts) h =
+    let both = and_parts (leb least n) _ h in
+    let as_long = leb-take least n buf (leb-true least n both.0) in
+    let same = list_all_same (has_part (take n buf)) (has_part buf) (is_part_within n) (part_near n buf) parts both.1 in
+    cc
+
+pub signature_near : (n : ℕ) (s : List Alternative) → IsTrue (is_within n s) → IsNear n s
+signature_near n s h buf = list_any_same _ _ (is_alternative_within n) (alternative_near n buf) s h
+
+-- ---- the first byte
+
+text_leads : (f : ℕ) (rest t : List ℕ) → IsTrue (stands 0 t (f ∷ rest)) → IsTrue (text_lead t f)
+unfolding stands
+text_leads f rest [] h = refl
+text_leads f rest (c ∷ t) h = (and_parts (eqb c f) _ h).0
+
+part_leads : (f : ℕ) (rest : List ℕ) (part : Part) → IsTrue (has_part (f ∷ rest) part) → IsTrue (part_lead part f)
+part_leads f rest (text zero t) h = text_leads f rest t h
+part_leads f rest (any_text zero ts) h = list_any_passes _ _ (text_leads f rest) ts h
+part_leads f rest (byte zero set) h = (and_parts (ltb 0 (length (f ∷ rest))) _ h).1
+part_leads f rest (text (suc place) t) h = refl
+part_leads f rest (any_text (suc place) ts) h = refl
+part_leads f rest (byte (suc place) set) h = refl
+
+alternative_leads : (f : ℕ) (rest : List ℕ) (a : Alternative) → IsTrue (fits (f ∷ rest) a)
+    → IsTrue (alternative_lead a f)
+alternative_leads f rest (at_least least parts) h =
+    list_all_passes _ _ (part_leads f rest) parts (and_parts (leb least (length (f ∷ rest))) _ h).1
+
+pub signature_leads : (s : List Alternative) → Leads s
+signature_leads s f rest h = list_any_passes _ _ (alternative_leads f rest) s h

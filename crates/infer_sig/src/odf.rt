@@ -1,0 +1,38 @@
+//! OpenDocument files.
+ghost use Rattle.std.specs.Prelude.{◌≡◌};
+ghost use Rattle.infer_sig.specs.Signature.{accepts};
+ghost use Rattle.infer_sig.specs.Odf.{odp, ods, odt};
+
+use crate::stands::stands;
+
+/// OpenDocument text: at least 77 bytes, a ZIP header first, "mimetype" at 30, "vnd.oasis.opendocument.text" at 50.
+pub fn is_odt(buf: &[u8]) -> bool
+    ensures { result ≡ accepts odt buf.now }
+{
+    buf.len() >= 77
+        && stands(buf, 0, b"PK\x03\x04")
+        && stands(buf, 30, b"mimetype")
+        && stands(buf, 50, b"vnd.oasis.opendocument.text")
+}
+
+/// OpenDocument spreadsheet: at least 84 bytes, a ZIP header first, "mimetype" at 30,
+/// "vnd.oasis.opendocument.spreadsheet" at 50.
+pub fn is_ods(buf: &[u8]) -> bool
+    ensures { result ≡ accepts ods buf.now }
+{
+    buf.len() >= 84
+        && stands(buf, 0, b"PK\x03\x04")
+        && stands(buf, 30, b"mimetype")
+        && stands(buf, 50, b"vnd.oasis.opendocument.spreadsheet")
+}
+
+/// OpenDocument presentation: at least 85 bytes, a ZIP header first, "mimetype" at 30,
+/// "vnd.oasis.opendocument.presentation" at 50.
+pub fn is_odp(buf: &[u8]) -> bool
+    ensures { result ≡ accepts odp buf.now }
+{
+    buf.len() >= 85
+        && stands(buf, 0, b"PK\x03\x04")
+        && stands(buf, 30, b"mimetype")
+        && stands(buf, 50, b"vnd.oasis.opendocument.presentation")
+}

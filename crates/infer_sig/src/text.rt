@@ -1,0 +1,13 @@
+//! Texts.
+ghost use Rattle.std.specs.Prelude.{◌≡◌};
+ghost use Rattle.infer_sig.specs.Signature.{accepts};
+ghost use Rattle.infer_sig.specs.Text.{shellscript};
+
+use crate::stands::stands;
+
+/// Script that names its interpreter: at least 3 bytes, "#!" first.
+pub fn is_shellscript(buf: &[u8]) -> bool
+    ensures { result ≡ accepts shellscript buf.now }
+{
+    buf.len() >= 3 && stands(buf, 0, b"#!")
+}
