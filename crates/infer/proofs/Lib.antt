@@ -1,3 +1,5 @@
 pub mod ListLemmas
 pub mod RowLemmas
 pub mod CallerLemmas
+pub mod TableLemmas
+pub mod LawLemmas

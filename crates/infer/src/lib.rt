@@ -4,35 +4,57 @@
 //! that its caller added before the built-in ones. No question takes memory, reads a file or can refuse.
 #![tactic(auto)]
 
-ghost use Rattle.std.specs.Prelude.{◌↔◌, IsTrue, option_map};
-ghost use Rattle.infer.specs.First.{IsAnswer, SomeHas};
+ghost use Rattle.std.specs.Prelude.{◌≡◌, ◌↔◌, ◌≤◌, IsNone, IsTrue, option_map, slice_get};
+ghost use Rattle.infer.specs.First.{IsAnswer, IsFirstOf, SomeHas};
 ghost use Rattle.infer.specs.Questions.{HasClass, HasExtension, HasMimeType, SomeBoth};
-ghost use Rattle.infer.specs.Row.{Accepts};
+ghost use Rattle.infer.specs.Row.{Accepts, shows};
 ghost use Rattle.infer.specs.Table.{table};
 ghost use Rattle.infer.specs.Triple.{triple_of};
 
+pub mod app;
+pub mod archive;
+pub mod audio;
+pub mod book;
 mod custom;
 mod fault;
 mod file_type;
+pub mod font;
 mod format;
 pub mod image;
 mod infer;
 pub mod laws;
 mod map;
+pub mod odf;
 #[cfg(test)]
 mod tests;
+pub mod text;
+pub mod video;
 
 pub use fault::Fault;
+use file_type::Wanted;
 pub use file_type::{FileType as Type, Matcher, MatcherType};
 pub use infer::Infer;
-
-use file_type::Wanted;
 
 /// The type of the first built-in row that accepts `buf`, and `None` exactly where no row accepts it.
 pub fn get(buf: &[u8]) -> Option<Type>
     ensures { IsAnswer (Accepts buf.now) table (option_map triple_of result) }
 {
     map::get(buf)
+}
+
+/// The number of the first built-in row that accepts `buf`, from 0 to 97, and `None` exactly where no row accepts it.
+pub fn position(buf: &[u8]) -> Option<usize>
+    ensures { IsFirstOf (Accepts buf.now) table result }
+{
+    map::position(buf)
+}
+
+/// The type of the built-in row `i`, and `None` exactly from 98 on.
+pub fn row(i: usize) -> Option<Type>
+    ensures shows { option_map triple_of result ≡ option_map shows (slice_get table i) }
+    ensures none { IsNone result ↔ (98 ≤ i) }
+{
+    map::row(i)
 }
 
 /// Whether some built-in row with this extension accepts `buf`. Upper and lower case are apart.

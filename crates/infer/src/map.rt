@@ -30,7 +30,22 @@ macro_rules! rows {
     };
 }
 
-static ROWS: [BuiltInRow; 15] = rows![
+static ROWS: [BuiltInRow; 98] = rows![
+    App "application/wasm" "wasm" Wasm;
+    App "application/x-executable" "elf" Elf;
+    App "application/vnd.microsoft.portable-executable" "exe" Exe;
+    App "application/vnd.microsoft.portable-executable" "dll" Exe;
+    App "application/java" "class" Java;
+    App "application/x-llvm" "bc" Llvm;
+    App "application/x-mach-binary" "mach" Mach;
+    App "application/vnd.android.dex" "dex" Dex;
+    App "application/vnd.android.dey" "dey" Dey;
+    App "application/x-x509-ca-cert" "der" Der;
+    App "application/x-executable" "obj" Coff;
+    App "application/x-x509-ca-cert" "pem" Pem;
+    App "application/x-qemu-disk" "qcow2" Qcow2;
+    Book "application/epub+zip" "epub" Epub;
+    Book "application/x-mobipocket-ebook" "mobi" Mobi;
     Image "image/jpeg" "jpg" Jpeg;
     Image "image/jp2" "jp2" Jpeg2000;
     Image "image/png" "png" Png;
@@ -42,10 +57,78 @@ static ROWS: [BuiltInRow; 15] = rows![
     Image "image/vnd.ms-photo" "jxr" Jxr;
     Image "image/vnd.adobe.photoshop" "psd" Psd;
     Image "image/vnd.microsoft.icon" "ico" Ico;
+    Image "image/heif" "heif" Unwritten;
+    Image "image/avif" "avif" Unwritten;
     Image "image/jxl" "jxl" Jxl;
     Image "image/openraster" "ora" Ora;
     Image "image/vnd.djvu" "djvu" Djvu;
     Image "image/vnd.dwg" "dwg" Dwg;
+    Video "video/mp4" "mp4" Mp4;
+    Video "video/x-m4v" "m4v" M4v;
+    Video "video/x-matroska" "mkv" Unwritten;
+    Video "video/webm" "webm" Unwritten;
+    Video "video/quicktime" "mov" Mov;
+    Video "video/x-msvideo" "avi" Avi;
+    Video "video/x-ms-wmv" "wmv" Wmv;
+    Video "video/mpeg" "mpg" Mpeg;
+    Video "video/x-flv" "flv" Flv;
+    Audio "audio/midi" "midi" Midi;
+    Audio "audio/mpeg" "mp3" Mp3;
+    Audio "audio/m4a" "m4a" M4a;
+    Audio "audio/opus" "opus" OggOpus;
+    Audio "audio/ogg" "ogg" Ogg;
+    Audio "audio/x-flac" "flac" Flac;
+    Audio "audio/x-wav" "wav" Wav;
+    Audio "audio/amr" "amr" Amr;
+    Audio "audio/aac" "aac" Aac;
+    Audio "audio/x-aiff" "aiff" Aiff;
+    Audio "audio/x-dsf" "dsf" Dsf;
+    Audio "audio/x-ape" "ape" Ape;
+    Font "application/font-woff" "woff" Woff;
+    Font "application/font-woff" "woff2" Woff2;
+    Font "application/font-sfnt" "ttf" Ttf;
+    Font "application/font-sfnt" "otf" Otf;
+    Doc "application/msword" "doc" Unwritten;
+    Doc "application/vnd.openxmlformats-officedocument.wordprocessingml.document" "docx" Unwritten;
+    Doc "application/vnd.ms-excel" "xls" Unwritten;
+    Doc "application/vnd.openxmlformats-officedocument.spreadsheetml.sheet" "xlsx" Unwritten;
+    Doc "application/vnd.ms-powerpoint" "ppt" Unwritten;
+    Doc "application/vnd.openxmlformats-officedocument.presentationml.presentation" "pptx" Unwritten;
+    Doc "application/vnd.oasis.opendocument.text" "odt" Odt;
+    Doc "application/vnd.oasis.opendocument.spreadsheet" "ods" Ods;
+    Doc "application/vnd.oasis.opendocument.presentation" "odp" Odp;
+    Archive "application/epub+zip" "epub" Epub;
+    Archive "application/zip" "zip" Zip;
+    Archive "application/x-tar" "tar" Tar;
+    Archive "application/x-par2" "par2" Par2;
+    Archive "application/vnd.rar" "rar" Rar;
+    Archive "application/gzip" "gz" Gz;
+    Archive "application/x-bzip2" "bz2" Bz2;
+    Archive "application/vnd.bzip3" "bz3" Bz3;
+    Archive "application/x-7z-compressed" "7z" SevenZ;
+    Archive "application/x-xz" "xz" Xz;
+    Archive "application/pdf" "pdf" Unwritten;
+    Archive "application/x-shockwave-flash" "swf" Swf;
+    Archive "application/rtf" "rtf" Rtf;
+    Archive "application/octet-stream" "eot" Eot;
+    Archive "application/postscript" "ps" Ps;
+    Archive "application/vnd.sqlite3" "sqlite" Sqlite;
+    Archive "application/x-nintendo-nes-rom" "nes" Nes;
+    Archive "application/x-google-chrome-extension" "crx" Crx;
+    Archive "application/vnd.ms-cab-compressed" "cab" Cab;
+    Archive "application/vnd.debian.binary-package" "deb" Deb;
+    Archive "application/x-unix-archive" "ar" Ar;
+    Archive "application/x-compress" "Z" Z;
+    Archive "application/x-lzip" "lz" Lz;
+    Archive "application/x-rpm" "rpm" Rpm;
+    Archive "application/dicom" "dcm" Dcm;
+    Archive "application/zstd" "zst" Unwritten;
+    Archive "application/x-lz4" "lz4" Unwritten;
+    Archive "application/x-ole-storage" "msi" Msi;
+    Archive "application/x-cpio" "cpio" Cpio;
+    Text "text/html" "html" Unwritten;
+    Text "text/xml" "xml" Unwritten;
+    Text "text/x-shellscript" "sh" Shellscript;
 ];
 
 impl BuiltInRow {
@@ -73,7 +156,7 @@ fn rows() -> &'static [BuiltInRow]
 }
 
 // The number of the first row whose signature accepts `buf`.
-fn position(buf: &[u8]) -> Option<usize>
+pub fn position(buf: &[u8]) -> Option<usize>
     ensures { IsFirstOf (Accepts buf.now) table result }
 {
     for (i, row) in rows().iter().enumerate() {
@@ -85,7 +168,7 @@ fn position(buf: &[u8]) -> Option<usize>
 }
 
 // The type of row `i`.
-fn row(i: usize) -> Option<FileType>
+pub fn row(i: usize) -> Option<FileType>
     ensures { option_map triple_of result ≡ option_map shows (slice_get table i) }
 {
     rows().get(i).map(|row| row.file_type)

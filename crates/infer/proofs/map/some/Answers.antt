@@ -9,7 +9,7 @@ use Rattle.infer.proofs.map.some.Goals as goal
 pub returns-then-accepts : goal.returns-then-accepts
 returns-then-accepts c = (
   λ _. some_read row_seen (λ r. IsWanted c.args.wanted r × Accepts c.args.buf.now r) _ table c.rows-row-items.ensures
-    c.loop-row.row-index _ c.loop-row-test.true (c.if-fits.ensures.0 refl, c.if-accepts.ensures.0 refl),
+      c.loop-row.row-index _ c.loop-row-test.true (c.if-fits.ensures.0 refl, c.if-accepts.ensures.0 refl),
   λ _. refl,
 )
 
@@ -17,6 +17,6 @@ pub returns : goal.returns
 returns c = (
   λ e. absurd (cc),
   λ h. absurd (not_some (λ r. IsWanted c.args.wanted r × Accepts c.args.buf.now r) table
-    (none_read row_seen (λ r. IsWanted c.args.wanted r × Accepts c.args.buf.now r) _ table c.rows-row-items.ensures
+      (none_read row_seen (λ r. IsWanted c.args.wanted r × Accepts c.args.buf.now r) _ table c.rows-row-items.ensures
       c.loop-row.row-index c.loop-row-test.false c.loop-row.invariant) h),
 )

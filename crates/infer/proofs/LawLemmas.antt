@@ -1,0 +1,51 @@
+-- The laws of all matchers, from those of every signature.
+use Rattle.std.proofs.Common.{◌≡◌, ◌+◌, ◌<◌, ℕ, zero, suc, Bool, true, false, ◌||◌, ◌&&◌, not, List, [], ◌∷◌, length, get_or, refl, subst, sym, arith, IsTrue}
+use Rattle.std.proofs.lemmas.Bool.{and_parts}
+use Rattle.infer_sig.specs.Signature.{Alternative}
+use Rattle.infer_sig.specs.Laws as Fixed
+use Rattle.infer.specs.BuiltIn.{BuiltIn, fixed}
+use Rattle.infer.specs.Matchers.{signatures, is_of_the_twelve, Lasts, IsNear, OthersAreNear}
+use Rattle.infer.specs.Table.{table}
+
+pub length-signatures : length signatures ≡ 101
+unfolding signatures table
+length-signatures = refl
+
+pub every_lasts : ((s : List Alternative) → Fixed.Lasts s) → (s : BuiltIn) → Lasts s
+every_lasts fixed_last (fixed alternatives) = fixed_last alternatives
+
+-- the test for a signature that the first 1024 bytes decide
+abbrev is_within : BuiltIn → Bool
+is_within (fixed alternatives) = Fixed.is_within 1024 alternatives
+
+every_near : ((n : ℕ) (s : List Alternative) → IsTrue (Fixed.is_within n s) → Fixed.IsNear n s) → (s : BuiltIn) → IsTrue (is_within s) → IsNear s
+every_near fixed_near (fixed alternatives) within = λ buf long. (
+  λ yes. subst (λ r. IsTrue r) (sym (fixed_near 1024 alternatives within buf)) yes,
+  λ yes. subst (λ r. IsTrue r) (fixed_near 1024 alternatives within buf) yes,
+)
+
+-- each signature from number n on passes that test, or is one of the twelve
+abbrev others_within : ℕ → List BuiltIn → Bool
+others_within n [] = true
+others_within n (s ∷ ss) = (is_of_the_twelve n || is_within s) && others_within (suc n) ss
+
+all_within : IsTrue (others_within 0 signatures)
+unfolding signatures table
+all_within = refl
+
+other : (a b : Bool) → IsTrue (a || b) → IsTrue (not a) → IsTrue b
+other true b h e = absurd (cc)
+other false b h e = h
+
+within_at : (ss : List BuiltIn) (n m i : ℕ) (d : BuiltIn) → IsTrue (others_within n ss) → m ≡ n + i → i < length ss
+    → IsTrue (not (is_of_the_twelve m)) → IsTrue (is_within (get_or ss i d))
+within_at [] n m i d h e lt out = absurd (omega arith)
+within_at (s ∷ ss) n m zero d h e lt out =
+    let same : m ≡ n = omega arith in
+    other (is_of_the_twelve n) (is_within s) (and_parts (is_of_the_twelve n || is_within s) _ h).0 (subst (λ k. IsTrue (not (is_of_the_twelve k))) same out)
+within_at (s ∷ ss) n m (suc i) d h e lt out =
+    within_at ss (suc n) m i d (and_parts (is_of_the_twelve n || is_within s) _ h).1 (omega arith) (omega arith) out
+
+pub others_near : ((n : ℕ) (s : List Alternative) → IsTrue (Fixed.is_within n s) → Fixed.IsNear n s) → OthersAreNear signatures
+others_near fixed_near m lt out d =
+    every_near fixed_near (get_or signatures m d) (within_at signatures 0 m m d all_within (omega arith) lt out)

@@ -1,0 +1,85 @@
+-- The table's length, and that its triples differ.
+use Rattle.std.proofs.Common.{◌≡◌, ◌≢◌, ◌<◌, ℕ, zero, suc, Bool, true, false, ◌&&◌, ◌||◌, not, List, [], ◌∷◌, map, length, get_or, refl, sym, subst, arith, IsTrue, nat_eq, eq-eqb, ◌↔◌, ◌≤◌, Option, None, Some, IsNone}
+use Rattle.std.specs.List.{AllPairs, list_any, slice_get}
+use Rattle.std.specs.Option.{option_map}
+use Rattle.std.proofs.lemmas.Option.{none-some}
+use Rattle.std.specs.Str.{bytes_eq}
+use Rattle.std.proofs.lemmas.Bool.{and_parts, and_from}
+use Rattle.infer.specs.Row.{shows}
+use Rattle.infer.specs.Table.{table}
+use Rattle.infer.specs.Triple.{Triple, triple_of}
+use Rattle.infer.specs.declared.file_type.FileType.{FileType}
+use Rattle.infer.specs.declared.file_type.MatcherType.{MatcherType}
+use Rattle.infer.specs.declared.file_type.MatcherType.TheVariants.{App, Archive, Audio, Book, Doc, Font, Image, Text, Video, Custom}
+
+pub length-table : length table ≡ 98
+unfolding table
+length-table = refl
+
+abbrev class_number : MatcherType → ℕ
+class_number App = 0
+class_number Archive = 1
+class_number Audio = 2
+class_number Book = 3
+class_number Doc = 4
+class_number Font = 5
+class_number Image = 6
+class_number Text = 7
+class_number Video = 8
+class_number Custom = 9
+
+-- a test that each triple passes with itself
+abbrev is_like : Triple → Triple → Bool
+is_like a b = nat_eq (class_number a.class) (class_number b.class) && bytes_eq a.extension b.extension && bytes_eq a.mime_type b.mime_type
+
+-- no triple passes it with a later one
+abbrev are_apart : List Triple → Bool
+are_apart [] = true
+are_apart (t ∷ ts) = not (list_any (is_like t) ts) && are_apart ts
+
+text_like_itself : (t : List ℕ) → bytes_eq t t ≡ true
+text_like_itself [] = refl
+text_like_itself (c ∷ t) = and_from (nat_eq c c) _ (eq-eqb c c refl) (text_like_itself t)
+
+is_like-same : (a b : Triple) → a ≡ b → IsTrue (is_like a b)
+is_like-same a b e = subst (λ x. IsTrue (is_like a x)) e
+    (and_from (nat_eq (class_number a.class) (class_number a.class) && bytes_eq a.extension a.extension) _
+    (and_from (nat_eq (class_number a.class) (class_number a.class)) _ (eq-eqb (class_number a.class) (class_number a.class) refl) (text_like_itself a.extension))
+    (text_like_itself a.mime_type))
+
+neither : (a b : Bool) → IsTrue (not (a || b)) → IsTrue (not a) × IsTrue (not b)
+neither true b h = absurd (cc)
+neither false b h = (refl, h)
+
+not_both : (a : Bool) → IsTrue a → ¬ IsTrue (not a)
+not_both true h k = absurd (cc)
+not_both false h k = absurd (cc)
+
+apart_later : (t : Triple) (ts : List Triple) → IsTrue (not (list_any (is_like t) ts)) → (j : ℕ) (d : Triple) → j < length ts → t ≢ get_or ts j d
+apart_later t [] h j d lt = absurd (omega arith)
+apart_later t (u ∷ ts) h zero d lt =
+    λ e. not_both (is_like t u) (is_like-same t u e) (neither (is_like t u) (list_any (is_like t) ts) h).0
+apart_later t (u ∷ ts) h (suc j) d lt = apart_later t ts (neither (is_like t u) (list_any (is_like t) ts) h).1 j d (omega arith)
+
+pub pairs_apart : (ts : List Triple) → IsTrue (are_apart ts) → AllPairs (λ a b. a ≢ b) ts
+pairs_apart [] h i j d before lt = absurd (omega arith)
+pairs_apart (t ∷ ts) h zero zero d before lt = absurd (omega arith)
+pairs_apart (t ∷ ts) h zero (suc j) d before lt = apart_later t ts (and_parts (not (list_any (is_like t) ts)) _ h).0 j d (omega arith)
+pairs_apart (t ∷ ts) h (suc i) zero d before lt = absurd (omega arith)
+pairs_apart (t ∷ ts) h (suc i) (suc j) d before lt =
+    pairs_apart ts (and_parts (not (list_any (is_like t) ts)) _ h).1 i j d (omega arith) (omega arith)
+
+pub table_apart : IsTrue (are_apart (map shows table))
+unfolding table
+table_apart = refl
+
+-- what is read of a list is none exactly past its end
+pub none_past : {A : Type 0} (f : A → Triple) (xs : List A) (r : Option FileType) (i : ℕ)
+    → option_map triple_of r ≡ option_map f (slice_get xs i) → IsNone r ↔ (length xs ≤ i)
+none_past f [] None i e = (λ h. omega arith, λ h. refl)
+none_past f [] (Some t) i e = absurd (none-some _ (sym e))
+none_past f (x ∷ xs) None zero e = absurd (none-some _ e)
+none_past f (x ∷ xs) (Some t) zero e = (λ h. absurd (cc), λ h. absurd (omega arith))
+none_past f (x ∷ xs) r (suc i) e =
+    let rest = none_past f xs r i e in
+    (λ h. let le = rest.0 h in omega arith, λ h. rest.1 (omega arith))

@@ -1,0 +1,10 @@
+use Rattle.std.proofs.Common.{get_or}
+use Rattle.infer.specs.Matchers.{signatures}
+use Rattle.infer.proofs.LawLemmas.{length-signatures, every_lasts}
+use Rattle.infer.proofs.laws.growth.Goals as goal
+
+pub returns-clause-many : goal.returns-clause-many
+returns-clause-many c = length-signatures
+
+pub returns-clause-last : goal.returns-clause-last
+returns-clause-last c = λ m d lt. every_lasts c.growth.ensures (get_or signatures m d)

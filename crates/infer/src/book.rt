@@ -1,0 +1,2 @@
+//! Books.
+pub use infer_sig::book::{is_epub, is_mobi};

@@ -1,0 +1,2 @@
+//! Text.
+pub use infer_sig::text::is_shellscript;
