@@ -1,0 +1,104 @@
+-- Skippable frames: where one stands at the front, and that it stands there in one way.
+use Rattle.std.proofs.Common.{◌≡◌, ℕ, ◌+◌, ◌-◌, ◌<◌, ◌≤◌, ◌⊎◌, inl, inr, List, ◌∷◌, ◌++◌, length, get_or, take, drop, refl, sym, ap, subst, ◌∙◌, arith, length-append}
+use Rattle.std.proofs.lemmas.List.{append_assoc, take_rest, take-append-drop, length-take-le, get_or_append_left}
+use Rattle.infer_deep.specs.Numbers.{le32}
+use Rattle.infer_deep.specs.Signatures.{IsLasting}
+use Rattle.infer_deep.specs.Joined.{SkipsTo, NoneBegins, BeginsWith}
+use Rattle.infer_deep.proofs.PlaceLemmas.{OccursAt-append, OccursAt-front, OccursAt-begins, begins-from_OccursAt}
+use Rattle.infer_deep.proofs.NumberLemmas.{le32-append}
+use Rattle.infer_deep.proofs.JoinedLemmas.{IsPrefixFree, same_fronts, SkipsTo-same, SkipsTo-append, SkipsTo-first}
+use Rattle.infer_deep.specs.Frames.{BeginsFrame, IsFrame, IsFramed}
+use Rattle.memchr.specs.Find.{OccursAt}
+
+-- what begins as a frame does begins so in front of anything, and back
+BeginsFrame-append : (b more : List ℕ) → 8 ≤ length b → BeginsFrame b → BeginsFrame (b ++ more)
+BeginsFrame-append b more l f =
+    let low = f.low in
+    let high = f.high in
+    let first = get_or_append_left b more 0 0 (omega arith) in
+    record { low = omega arith; high = omega arith; mark = OccursAt-append b more _ 1 f.mark }
+
+BeginsFrame-front : (b more : List ℕ) → 8 ≤ length b → BeginsFrame (b ++ more) → BeginsFrame b
+BeginsFrame-front b more l f =
+    let low = f.low in
+    let high = f.high in
+    let first = get_or_append_left b more 0 0 (omega arith) in
+    record { low = omega arith; high = omega arith; mark = OccursAt-front b more _ 1 (omega arith) f.mark }
+
+-- what a buffer says of the frame that begins it
+module _ (b word rest : List ℕ) (f : IsFrame word) (e : b ≡ word ++ rest) where
+  size : le32 b 4 ≡ le32 word 4
+  size = let s = f.sized in ap (λ u. le32 u 4) e ∙ le32-append word rest 4 (omega arith)
+
+  pub begun-fits : 8 + le32 b 4 ≤ length b
+  begun-fits = let s = f.sized in let g = size in omega (arith, ap length e, length-append word rest)
+
+  begun-length : length word ≡ 8 + le32 b 4
+  begun-length = let s = f.sized in let g = size in omega arith
+
+  pub begun-frame : BeginsFrame b
+  begun-frame =
+      let s = f.sized in
+      subst BeginsFrame (sym e) (BeginsFrame-append word rest (omega arith) f.begins)
+
+IsFrame-prefix_free : IsPrefixFree IsFrame
+IsFrame-prefix_free v w x y f g e =
+    let m = begun-length (v ++ x) v x f refl in
+    let n = begun-length (v ++ x) w y g e in
+    same_fronts v w x y (omega arith) e
+
+-- a frame of n bytes stands at the front
+pub BeginsWith-frame : (b : List ℕ) (n : ℕ)
+    → n ≡ 8 + le32 b 4 → BeginsFrame b → n ≤ length b → BeginsWith IsFrame b (take (length b - n) (drop n b))
+BeginsWith-frame b n is begins fits =
+    let split : take n b ++ drop n b ≡ b = take-append-drop n b in
+    let long : length (take n b) ≡ n = length-take-le n b fits in
+    let number : le32 b 4 ≡ le32 (take n b) 4
+    = ap (λ u. le32 u 4) (sym split) ∙ le32-append (take n b) (drop n b) 4 (omega arith) in
+    record {
+      word = take n b;
+      kind = record {
+        begins = BeginsFrame-front (take n b) (drop n b) (omega arith) (subst BeginsFrame (sym split) begins);
+        sized = omega arith;
+      };
+      whole = sym split ∙ ap (λ u. take n b ++ u) (sym (take_rest b n));
+    }
+
+-- no frame begins with a byte below 50
+NoneBegins-low : (b : List ℕ) → get_or b 0 0 < 0x50 → NoneBegins IsFrame b
+NoneBegins-low b small word more f is = let low = (begun-frame b word more f is).low in omega arith
+
+-- what is left after the frames is one, where it begins so
+left_same : (b x y : List ℕ)
+    → SkipsTo IsFrame b x → NoneBegins IsFrame x → SkipsTo IsFrame b y → get_or y 0 0 < 0x50 → x ≡ y
+left_same b x y s stops t low = SkipsTo-same IsFrame IsFrame-prefix_free b x y s stops t (NoneBegins-low y low)
+
+-- the data, from what is left after the frames
+module _ (b left magic : List ℕ) (skips : SkipsTo IsFrame b left) (stops : NoneBegins IsFrame left) where
+  pub IsFramed-from_left : OccursAt left magic 0 → IsFramed magic b
+  IsFramed-from_left o = (drop (length magic) left, subst (SkipsTo IsFrame b) (begins-from_OccursAt left magic o) skips)
+
+  pub left-from_IsFramed : ((rest : List ℕ) → get_or (magic ++ rest) 0 0 < 0x50) → IsFramed magic b → OccursAt left magic 0
+  left-from_IsFramed small (rest, s) =
+      OccursAt-begins left magic rest (left_same b left (magic ++ rest) skips stops s (small rest))
+
+pub IsFramed-lasting : (magic : List ℕ) → IsLasting (IsFramed magic)
+IsFramed-lasting magic b more (rest, s) =
+    (rest ++ more, subst (SkipsTo IsFrame (b ++ more)) (append_assoc magic rest more) (SkipsTo-append IsFrame b (magic ++ rest) more s))
+
+-- the first byte is the magic's, or one from 50 to 5F
+pub IsFramed-lead : (b magic : List ℕ) (x : ℕ)
+    → IsFramed (x ∷ magic) b → (get_or b 0 0 ≡ x) ⊎ ((0x50 ≤ get_or b 0 0) × (get_or b 0 0 ≤ 0x5F))
+IsFramed-lead b magic x (rest, s) = go (SkipsTo-first IsFrame b (x ∷ magic ++ rest) s)
+  where
+    go : (b ≡ x ∷ magic ++ rest) ⊎ ((left : List ℕ) × BeginsWith IsFrame b left)
+        → (get_or b 0 0 ≡ x) ⊎ ((0x50 ≤ get_or b 0 0) × (get_or b 0 0 ≤ 0x5F))
+    go (inl e) = inl (ap (λ u. get_or u 0 0) e)
+    go (inr (left, h)) = let f = begun-frame b h.word left h.kind h.whole in inr (f.low, f.high)
+
+-- magics whose first bytes are below 50 and differ exclude each other
+pub IsFramed-apart : (b v w : List ℕ) → ((x y : List ℕ) → get_or (v ++ x) 0 0 ≡ get_or (w ++ y) 0 0 → ⊥)
+    → ((rest : List ℕ) → get_or (v ++ rest) 0 0 < 0x50) → ((rest : List ℕ) → get_or (w ++ rest) 0 0 < 0x50)
+    → IsFramed v b → ¬ IsFramed w b
+IsFramed-apart b v w differ low_v low_w (x, s) (y, t) =
+    differ x y (ap (λ u. get_or u 0 0) (left_same b (v ++ x) (w ++ y) s (NoneBegins-low _ (low_v x)) t (low_w y)))

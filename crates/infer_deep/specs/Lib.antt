@@ -1,0 +1,9 @@
+pub mod Numbers
+pub mod Places
+pub mod Blocks
+pub mod Joined
+pub mod Signatures
+pub mod Windows
+pub mod Frames
+pub mod Brands
+pub mod Laws

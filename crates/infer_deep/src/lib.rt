@@ -1,0 +1,9 @@
+//! Matchers of the file types that no list of bytes at fixed places tells.
+#![tactic(auto)]
+
+pub mod archive;
+pub mod image;
+pub mod laws;
+mod numbers;
+mod places;
+pub mod video;
