@@ -6,7 +6,7 @@ use Rattle.infer_deep.specs.Signatures.{IsLasting}
 use Rattle.infer_deep.specs.Joined.{SkipsTo, NoneBegins, BeginsWith}
 use Rattle.infer_deep.proofs.PlaceLemmas.{OccursAt-append, OccursAt-front, OccursAt-begins, begins-from_OccursAt}
 use Rattle.infer_deep.proofs.NumberLemmas.{le32-append}
-use Rattle.infer_deep.proofs.JoinedLemmas.{IsPrefixFree, same_fronts, SkipsTo-same, SkipsTo-append, SkipsTo-first}
+use Rattle.infer_deep.proofs.JoinedLemmas.{IsPrefixFree, WordsBegin, same_fronts, SkipsTo-same, SkipsTo-append, SkipsTo-lead, NoneBegins-first}
 use Rattle.infer_deep.specs.Frames.{BeginsFrame, IsFrame, IsFramed}
 use Rattle.memchr.specs.Find.{OccursAt}
 
@@ -64,9 +64,15 @@ BeginsWith-frame b n is begins fits =
       whole = sym split ∙ ap (λ u. take n b ++ u) (sym (take_rest b n));
     }
 
--- no frame begins with a byte below 50
+-- the first byte of a frame
+abbrev pub IsFrameByte : ℕ → Type 0
+IsFrameByte x = (0x50 ≤ x) × (x ≤ 0x5F)
+
+IsFrame-begin : WordsBegin IsFrame IsFrameByte
+IsFrame-begin frame f = let s = f.sized in (omega arith, (f.begins.low, f.begins.high))
+
 NoneBegins-low : (b : List ℕ) → get_or b 0 0 < 0x50 → NoneBegins IsFrame b
-NoneBegins-low b small word more f is = let low = (begun-frame b word more f is).low in omega arith
+NoneBegins-low b small = NoneBegins-first IsFrame IsFrameByte IsFrame-begin b (λ f. let low = f.0 in omega arith)
 
 -- what is left after the frames is one, where it begins so
 left_same : (b x y : List ℕ)
@@ -86,15 +92,10 @@ pub IsFramed-lasting : (magic : List ℕ) → IsLasting (IsFramed magic)
 IsFramed-lasting magic b more (rest, s) =
     (rest ++ more, subst (SkipsTo IsFrame (b ++ more)) (append_assoc magic rest more) (SkipsTo-append IsFrame b (magic ++ rest) more s))
 
--- the first byte is the magic's, or one from 50 to 5F
-pub IsFramed-lead : (b magic : List ℕ) (x : ℕ)
-    → IsFramed (x ∷ magic) b → (get_or b 0 0 ≡ x) ⊎ ((0x50 ≤ get_or b 0 0) × (get_or b 0 0 ≤ 0x5F))
-IsFramed-lead b magic x (rest, s) = go (SkipsTo-first IsFrame b (x ∷ magic ++ rest) s)
-  where
-    go : (b ≡ x ∷ magic ++ rest) ⊎ ((left : List ℕ) × BeginsWith IsFrame b left)
-        → (get_or b 0 0 ≡ x) ⊎ ((0x50 ≤ get_or b 0 0) × (get_or b 0 0 ≤ 0x5F))
-    go (inl e) = inl (ap (λ u. get_or u 0 0) e)
-    go (inr (left, h)) = let f = begun-frame b h.word left h.kind h.whole in inr (f.low, f.high)
+-- the first byte is the magic's, or a frame's
+pub IsFramed-lead : (b magic : List ℕ) (x : ℕ) → IsFramed (x ∷ magic) b → (get_or b 0 0 ≡ x) ⊎ IsFrameByte (get_or b 0 0)
+IsFramed-lead b magic x (rest, s) =
+    elim (SkipsTo-lead IsFrame IsFrameByte IsFrame-begin b (x ∷ magic ++ rest) s) [ inl f ↦ inr f | inr e ↦ inl e ]
 
 -- magics whose first bytes are below 50 and differ exclude each other
 pub IsFramed-apart : (b v w : List ℕ) → ((x y : List ℕ) → get_or (v ++ x) 0 0 ≡ get_or (w ++ y) 0 0 → ⊥)

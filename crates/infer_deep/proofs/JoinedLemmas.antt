@@ -1,6 +1,6 @@
 -- Words joined: what is left after them is one, however it is found.
-use Rattle.std.proofs.Common.{◌≡◌, ℕ, ◌⊎◌, inl, inr, List, [], ◌∷◌, ◌++◌, length, take, refl, sym, ap, ◌∙◌}
-use Rattle.std.proofs.lemmas.List.{append_assoc, append_cancel_left, take_at}
+use Rattle.std.proofs.Common.{◌≡◌, ℕ, ◌<◌, ◌⊎◌, inl, inr, List, [], ◌∷◌, ◌++◌, length, get_or, take, refl, sym, ap, subst, ◌∙◌}
+use Rattle.std.proofs.lemmas.List.{append_assoc, append_cancel_left, take_at, get_or_append_left}
 use Rattle.std.specs.List.{AllByRecursion, concat}
 use Rattle.infer_deep.specs.Joined.{SkipsTo, NoneBegins, BeginsWith, LeadsTo}
 
@@ -51,12 +51,25 @@ module _ (P : List ℕ → Type 0) where
       → SkipsTo P b x → NoneBegins P x → SkipsTo P b y → NoneBegins P y → x ≡ y
   SkipsTo-same free b x y s n t m = same_rests free s.words t.words x y s.each t.each n m (sym s.whole ∙ t.whole)
 
-  -- a buffer is what is left, or a word begins it
-  pub SkipsTo-first : (b rest : List ℕ) → SkipsTo P b rest → (b ≡ rest) ⊎ ((left : List ℕ) × BeginsWith P b left)
-  SkipsTo-first b rest s = go s.words s.each s.whole
+-- each word of the kind P begins with a byte of the kind Q
+abbrev pub WordsBegin : (List ℕ → Type 0) → (ℕ → Type 0) → Type 0
+WordsBegin P Q = (word : List ℕ) → P word → (0 < length word) × Q (get_or word 0 0)
+
+module _ (P : List ℕ → Type 0) (Q : ℕ → Type 0) (begin : WordsBegin P Q) where
+  begun-first : (b word rest : List ℕ) → P word → b ≡ word ++ rest → Q (get_or b 0 0)
+  begun-first b word rest is e =
+      let w = begin word is in
+      let first = ap (λ u. get_or u 0 0) e ∙ get_or_append_left word rest 0 0 w.0 in
+      subst Q (sym first) w.1
+
+  pub NoneBegins-first : (b : List ℕ) → (¬ Q (get_or b 0 0)) → NoneBegins P b
+  NoneBegins-first b not word rest is e = not (begun-first b word rest is e)
+
+  -- the first byte is that of what is left, or one of the kind Q
+  pub SkipsTo-lead : (b rest : List ℕ) → SkipsTo P b rest → Q (get_or b 0 0) ⊎ (get_or b 0 0 ≡ get_or rest 0 0)
+  SkipsTo-lead b rest s = go s.words s.each s.whole
     where
       go : (words : List (List ℕ)) → AllByRecursion P words
-          → b ≡ concat words ++ rest → (b ≡ rest) ⊎ ((left : List ℕ) × BeginsWith P b left)
-      go [] all e = inl e
-      go (word ∷ words) all e =
-          inr (concat words ++ rest, record { word = word; kind = all.0; whole = e ∙ append_assoc word (concat words) rest })
+          → b ≡ concat words ++ rest → Q (get_or b 0 0) ⊎ (get_or b 0 0 ≡ get_or rest 0 0)
+      go [] all e = inr (ap (λ u. get_or u 0 0) e)
+      go (word ∷ words) all e = inl (begun-first b word (concat words ++ rest) all.0 (e ∙ append_assoc word (concat words) rest))

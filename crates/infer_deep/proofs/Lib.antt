@@ -5,3 +5,7 @@ pub mod JoinedLemmas
 pub mod WindowLemmas
 pub mod FrameLemmas
 pub mod BrandLemmas
+pub mod OfficeLemmas
+pub mod ClassIdLemmas
+pub mod AnyLemmas
+pub mod TextLemmas

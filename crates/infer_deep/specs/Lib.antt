@@ -6,4 +6,7 @@ pub mod Signatures
 pub mod Windows
 pub mod Frames
 pub mod Brands
+pub mod Office
+pub mod ClassId
+pub mod Text
 pub mod Laws

@@ -2,8 +2,10 @@
 #![tactic(auto)]
 
 pub mod archive;
+pub mod doc;
 pub mod image;
 pub mod laws;
 mod numbers;
 mod places;
+pub mod text;
 pub mod video;

@@ -1,0 +1,11 @@
+use Rattle.std.proofs.Common.{sym, subst}
+use Rattle.std.proofs.lemmas.Bool.{false≢true}
+use Rattle.infer_deep.specs.Places.{FindsPlace}
+use Rattle.infer_deep.specs.Office.{IsDecidingPlace}
+use Rattle.infer_deep.proofs.OfficeLemmas.{no_deciding}
+use Rattle.infer_deep.proofs.doc.deciding_place.Goals as goal
+
+pub returns-in_err-fourth : goal.returns-in_err-fourth
+returns-in_err-fourth c =
+    subst (FindsPlace (IsDecidingPlace c.args.buf.now)) (sym c.from_residual.ensures)
+    (no_deciding c.args.buf.now (λ h. false≢true (c.if-has_folder.ensures.1 h)) c.in_err-fourth.ensures)
