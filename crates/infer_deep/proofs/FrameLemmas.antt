@@ -4,7 +4,7 @@ use Rattle.std.proofs.lemmas.List.{append_assoc, take_rest, take-append-drop, le
 use Rattle.infer_deep.specs.Numbers.{le32}
 use Rattle.infer_deep.specs.Signatures.{IsLasting}
 use Rattle.infer_deep.specs.Joined.{SkipsTo, NoneBegins, BeginsWith}
-use Rattle.infer_deep.proofs.PlaceLemmas.{OccursAt-append, OccursAt-front, OccursAt-begins, begins-from_OccursAt}
+use Rattle.infer_deep.proofs.PlaceLemmas.{OccursAt-append, OccursAt-first, OccursAt-front, OccursAt-begins, begins-from_OccursAt}
 use Rattle.infer_deep.proofs.NumberLemmas.{le32-append}
 use Rattle.infer_deep.proofs.JoinedLemmas.{IsPrefixFree, WordsBegin, same_fronts, SkipsTo-same, SkipsTo-append, SkipsTo-lead, NoneBegins-first}
 use Rattle.infer_deep.specs.Frames.{BeginsFrame, IsFrame, IsFramed}
@@ -79,14 +79,17 @@ left_same : (b x y : List ℕ)
     → SkipsTo IsFrame b x → NoneBegins IsFrame x → SkipsTo IsFrame b y → get_or y 0 0 < 0x50 → x ≡ y
 left_same b x y s stops t low = SkipsTo-same IsFrame IsFrame-prefix_free b x y s stops t (NoneBegins-low y low)
 
+low_front : (magic rest : List ℕ) → 0 < length magic → get_or magic 0 0 < 0x50 → get_or (magic ++ rest) 0 0 < 0x50
+low_front magic rest some small = let first = get_or_append_left magic rest 0 0 some in omega arith
+
 -- the data, from what is left after the frames
 module _ (b left magic : List ℕ) (skips : SkipsTo IsFrame b left) (stops : NoneBegins IsFrame left) where
   pub IsFramed-from_left : OccursAt left magic 0 → IsFramed magic b
   IsFramed-from_left o = (drop (length magic) left, subst (SkipsTo IsFrame b) (begins-from_OccursAt left magic o) skips)
 
-  pub left-from_IsFramed : ((rest : List ℕ) → get_or (magic ++ rest) 0 0 < 0x50) → IsFramed magic b → OccursAt left magic 0
-  left-from_IsFramed small (rest, s) =
-      OccursAt-begins left magic rest (left_same b left (magic ++ rest) skips stops s (small rest))
+  pub left-from_IsFramed : 0 < length magic → get_or magic 0 0 < 0x50 → IsFramed magic b → OccursAt left magic 0
+  left-from_IsFramed some small (rest, s) =
+      OccursAt-begins left magic rest (left_same b left (magic ++ rest) skips stops s (low_front magic rest some small))
 
 pub IsFramed-lasting : (magic : List ℕ) → IsLasting (IsFramed magic)
 IsFramed-lasting magic b more (rest, s) =
@@ -98,8 +101,8 @@ IsFramed-lead b magic x (rest, s) =
     elim (SkipsTo-lead IsFrame IsFrameByte IsFrame-begin b (x ∷ magic ++ rest) s) [ inl f ↦ inr f | inr e ↦ inl e ]
 
 -- magics whose first bytes are below 50 and differ exclude each other
-pub IsFramed-apart : (b v w : List ℕ) → ((x y : List ℕ) → get_or (v ++ x) 0 0 ≡ get_or (w ++ y) 0 0 → ⊥)
-    → ((rest : List ℕ) → get_or (v ++ rest) 0 0 < 0x50) → ((rest : List ℕ) → get_or (w ++ rest) 0 0 < 0x50)
-    → IsFramed v b → ¬ IsFramed w b
-IsFramed-apart b v w differ low_v low_w (x, s) (y, t) =
-    differ x y (ap (λ u. get_or u 0 0) (left_same b (v ++ x) (w ++ y) s (NoneBegins-low _ (low_v x)) t (low_w y)))
+pub IsFramed-apart : (b v w : List ℕ) → (get_or v 0 0 ≡ get_or w 0 0 → ⊥)
+    → 0 < length v → 0 < length w → get_or v 0 0 < 0x50 → get_or w 0 0 < 0x50 → IsFramed v b → ¬ IsFramed w b
+IsFramed-apart b v w differ some_v some_w low_v low_w (x, s) k =
+    let stands = left-from_IsFramed b (v ++ x) w s (NoneBegins-low (v ++ x) (low_front v x some_v low_v)) some_w low_w k in
+    differ (sym (get_or_append_left v x 0 0 some_v) ∙ OccursAt-first (v ++ x) w 0 some_w stands)

@@ -12,8 +12,18 @@ le16-append b more p l = omega (arith, same_read b more p (omega arith), same_re
 
 pub le32-append : (b more : List ℕ) (p : ℕ) → p + 4 ≤ length b → le32 (b ++ more) p ≡ le32 b p
 unfolding le32
-le32-append b more p l = omega (arith, same_read b more p (omega arith), same_read b more (p + 1) (omega arith), same_read b more (p + 2) (omega arith), same_read b more (p + 3) (omega arith))
+le32-append b more p l =
+    let first = same_read b more p (omega arith) in
+    let second = same_read b more (p + 1) (omega arith) in
+    let third = same_read b more (p + 2) (omega arith) in
+    let fourth = same_read b more (p + 3) (omega arith) in
+    omega arith
 
 pub be32-append : (b more : List ℕ) (p : ℕ) → p + 4 ≤ length b → be32 (b ++ more) p ≡ be32 b p
 unfolding be32
-be32-append b more p l = omega (arith, same_read b more p (omega arith), same_read b more (p + 1) (omega arith), same_read b more (p + 2) (omega arith), same_read b more (p + 3) (omega arith))
+be32-append b more p l =
+    let first = same_read b more p (omega arith) in
+    let second = same_read b more (p + 1) (omega arith) in
+    let third = same_read b more (p + 2) (omega arith) in
+    let fourth = same_read b more (p + 3) (omega arith) in
+    omega arith

@@ -1,7 +1,7 @@
 -- White space, marks and tags: what a buffer begins with, and that it begins so in one way.
-use Rattle.std.proofs.Common.{◌≡◌, ℕ, suc, ◌+◌, ◌-◌, ◌<◌, ◌≤◌, ◌⊎◌, Bool, true, ◌&&◌, not, cond, List, [], ◌∷◌, ◌++◌, length, get_or, take, drop, map, refl, sym, ap, subst, ◌∙◌, inl, inr, arith, eqb, ltb, length-append}
+use Rattle.std.proofs.Common.{◌≡◌, ℕ, suc, ◌+◌, ◌-◌, ◌<◌, ◌≤◌, ◌⊎◌, Bool, true, ◌&&◌, not, cond, List, [], ◌∷◌, ◌++◌, length, get_or, take, drop, map, refl, sym, ap, subst, ◌∙◌, inl, inr, arith, eqb, ltb}
 use Rattle.std.proofs.Math.ListN.{get_or-map}
-use Rattle.std.proofs.lemmas.List.{take-append-drop, take_at, take_rest, get_or_at, get_or_append_left, drop_more, length-map, length-take-le, append_assoc}
+use Rattle.std.proofs.lemmas.List.{take-append-drop, take_at, take_rest, get_or_append_left, drop_more, length-map, length-take-le, append_assoc}
 use Rattle.std.proofs.lemmas.List.Sums.{AllPass-from_list_all}
 use Rattle.std.proofs.lemmas.Bool.Decides.{nat_tests}
 use Rattle.std.specs.Prelude.{Any, codes}
@@ -153,19 +153,6 @@ BeginsWithTag-front b tag l closes h =
 pub BeginsInAnyCase-tag : (b tag : List ℕ) → BeginsWithTag tag b → BeginsInAnyCase tag b
 BeginsInAnyCase-tag b tag h = record { word = h.word; rest = h.end ∷ h.rest; same = h.same; whole = h.whole }
 
-pub tag_fits : (b tag : List ℕ) → BeginsWithTag tag b → length tag < length b
-tag_fits b tag h =
-    let n = same_length h.word tag h.same in
-    omega (arith, ap length h.whole, length-append h.word (h.end ∷ h.rest))
-
-pub tag_closes : (b tag : List ℕ)
-    → BeginsWithTag tag b → (get_or b (length tag) 0 ≡ 0x20) ⊎ (get_or b (length tag) 0 ≡ 0x3E)
-tag_closes b tag h =
-    let at : get_or b (length tag) 0 ≡ h.end
-    = ap (λ u. get_or u (length tag) 0) h.whole
-    ∙ get_or_at h.word h.end h.rest 0 (length tag) (same_length h.word tag h.same) in
-    subst (λ x. (x ≡ 0x20) ⊎ (x ≡ 0x3E)) (sym at) h.closes
-
 -- each tag begins with "<" and then with no "?"
 abbrev opens : List ℕ → Bool
 opens tag = ltb 1 (length tag) && (eqb (get_or tag 0 0) 0x3C && not (eqb (to_ascii_lowercase (get_or tag 1 0)) 0x3F))
@@ -241,8 +228,13 @@ IsHtml-lasting b more (text, s, (k, tag, l, e, h)) =
     (text ++ more, SkipsTo-append IsSpace b text more s, (k, tag, l, e, BeginsWithTag-append tag text more h))
 
 pub IsXml-lasting : IsLasting IsXml
-IsXml-lasting b more (marked, text, s, m, h) =
-    (marked ++ more, text ++ more, SkipsTo-append IsSpace b marked more s, SkipsTo-append IsMark marked text more m, BeginsInAnyCase-append _ text more h)
+IsXml-lasting b more (marked, text, s, m, h) = (
+  marked ++ more,
+  text ++ more,
+  SkipsTo-append IsSpace b marked more s,
+  SkipsTo-append IsMark marked text more m,
+  BeginsInAnyCase-append _ text more h,
+)
 
 -- the first byte
 pub IsHtml-lead : (b : List ℕ) → IsHtml b → IsWhite (get_or b 0 0) ⊎ (get_or b 0 0 ≡ 0x3C)

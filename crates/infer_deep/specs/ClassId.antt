@@ -32,24 +32,30 @@ HasClassId id b = (root : ℕ) × IsRoot b root × OccursAt b id (root + 80)
 abbrev pub id_end : List ℕ
 id_end = 0x00 ∷ 0x00 ∷ 0x00 ∷ 0x00 ∷ 0xC0 ∷ 0x00 ∷ 0x00 ∷ 0x00 ∷ 0x00 ∷ 0x00 ∷ 0x00 ∷ 0x46 ∷ []
 
+-- the class id of Word
 abbrev pub word_id : List ℕ
 word_id = 0x06 ∷ 0x09 ∷ 0x02 ∷ 0x00 ∷ [] ++ id_end
 
+-- the two class ids of Excel
 abbrev pub old_excel_id : List ℕ
 old_excel_id = 0x10 ∷ 0x08 ∷ 0x02 ∷ 0x00 ∷ [] ++ id_end
 
 abbrev pub excel_id : List ℕ
 excel_id = 0x20 ∷ 0x08 ∷ 0x02 ∷ 0x00 ∷ [] ++ id_end
 
+-- the class id of PowerPoint
 abbrev pub powerpoint_id : List ℕ
 powerpoint_id =
     0x10 ∷ 0x8D ∷ 0x81 ∷ 0x64 ∷ 0x9B ∷ 0x4F ∷ 0xCF ∷ 0x11 ∷ 0x86 ∷ 0xEA ∷ 0x00 ∷ 0xAA ∷ 0x00 ∷ 0xB9 ∷ 0x29 ∷ 0xE8 ∷ []
 
+-- a document of Word
 abbrev pub IsDoc : List ℕ → Type 0
 IsDoc b = HasClassId word_id b
 
+-- a workbook of Excel
 abbrev pub IsXls : List ℕ → Type 0
 IsXls b = HasClassId old_excel_id b ⊎ HasClassId excel_id b
 
+-- a presentation of PowerPoint
 abbrev pub IsPpt : List ℕ → Type 0
 IsPpt b = HasClassId powerpoint_id b

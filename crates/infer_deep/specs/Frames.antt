@@ -19,14 +19,18 @@ pub record IsFrame (frame : List ℕ) : Type 0 where
 abbrev pub IsFramed : List ℕ → List ℕ → Type 0
 IsFramed magic b = (rest : List ℕ) × SkipsTo IsFrame b (magic ++ rest)
 
+-- the magic number of Zstandard
 abbrev pub zst_magic : List ℕ
 zst_magic = 0x28 ∷ 0xB5 ∷ 0x2F ∷ 0xFD ∷ []
 
+-- the magic number of LZ4
 abbrev pub lz4_magic : List ℕ
 lz4_magic = 0x04 ∷ 0x22 ∷ 0x4D ∷ 0x18 ∷ []
 
+-- b is Zstandard data behind skippable frames
 abbrev pub IsZst : List ℕ → Type 0
 IsZst b = IsFramed zst_magic b
 
+-- b is LZ4 data behind skippable frames
 abbrev pub IsLz4 : List ℕ → Type 0
 IsLz4 b = IsFramed lz4_magic b

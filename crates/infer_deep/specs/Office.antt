@@ -48,11 +48,14 @@ IsDecidingPlace b p =
 abbrev pub IsOffice : List ℕ → List ℕ → Type 0
 IsOffice folder b = (p : ℕ) × IsDecidingPlace b p × OccursAt b folder p
 
+-- a document of Word
 abbrev pub IsDocx : List ℕ → Type 0
 IsDocx b = IsOffice (codes "word/") b
 
+-- a presentation of PowerPoint
 abbrev pub IsPptx : List ℕ → Type 0
 IsPptx b = IsOffice (codes "ppt/") b
 
+-- a workbook of Excel
 abbrev pub IsXlsx : List ℕ → Type 0
 IsXlsx b = IsOffice (codes "xl/") b

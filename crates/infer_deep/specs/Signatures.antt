@@ -1,7 +1,7 @@
 -- What can be said of a signature, which is a property of buffers.
 use Rattle.std.specs.Prelude.{ℕ, ◌↔◌, ◌≤◌, List, ◌++◌, length, take}
 
--- what a buffer has, each has that grows it
+-- a buffer that has it has it with any bytes behind it too
 abbrev pub IsLasting : (List ℕ → Type 0) → Type 0
 IsLasting S = (b more : List ℕ) → S b → S (b ++ more)
 

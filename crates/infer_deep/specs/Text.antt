@@ -35,6 +35,7 @@ pub record BeginsWithTag (tag b : List ℕ) : Type 0 where
   pub closes : (end ≡ 0x20) ⊎ (end ≡ 0x3E)
   pub whole : b ≡ word ++ end ∷ rest
 
+-- the 17 tags that tell HTML
 abbrev pub tags : List (List ℕ)
 tags =
     codes "<!DOCTYPE HTML" ∷ codes "<HTML" ∷ codes "<HEAD" ∷ codes "<SCRIPT" ∷ codes "<IFRAME" ∷ codes "<H1"

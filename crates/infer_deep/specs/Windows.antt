@@ -24,8 +24,10 @@ mkv_type = 0x42 ∷ 0x82 ∷ 0x88 ∷ codes "matroska"
 abbrev pub webm_type : List ℕ
 webm_type = 0x42 ∷ 0x82 ∷ 0x84 ∷ codes "webm"
 
+-- its document type is "matroska"
 abbrev pub IsMkv : List ℕ → Type 0
 IsMkv b = IsMatroska mkv_type b
 
+-- its document type is "webm"
 abbrev pub IsWebm : List ℕ → Type 0
 IsWebm b = IsMatroska webm_type b

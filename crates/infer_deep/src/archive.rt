@@ -1,7 +1,7 @@
 //! Archives and documents in one file.
-ghost use Rattle.std.specs.Prelude.{◌↔◌, IsTrue, MatchOption};
+ghost use Rattle.std.specs.Prelude.{◌↔◌, ◌<◌, length, slice_index, IsTrue, MatchOption};
 ghost use Rattle.infer_deep.specs.Joined.{BeginsWith, NoneBegins, SkipsTo};
-ghost use Rattle.infer_deep.specs.Frames.{IsFrame, IsLz4, IsZst};
+ghost use Rattle.infer_deep.specs.Frames.{IsFrame, IsFramed, IsLz4, IsZst};
 ghost use Rattle.infer_deep.specs.Windows.{IsPdf};
 
 use crate::numbers::le32;
@@ -18,14 +18,22 @@ pub fn is_pdf(buf: &[u8]) -> bool
 pub fn is_zst(buf: &[u8]) -> bool
     ensures { IsTrue result ↔ IsZst buf.now }
 {
-    stands_at(after_frames(buf), b"\x28\xB5\x2F\xFD", 0)
+    is_framed(buf, b"\x28\xB5\x2F\xFD")
 }
 
 /// LZ4: some skippable frames, perhaps none, then 04 22 4D 18.
 pub fn is_lz4(buf: &[u8]) -> bool
     ensures { IsTrue result ↔ IsLz4 buf.now }
 {
-    stands_at(after_frames(buf), b"\x04\x22\x4D\x18", 0)
+    is_framed(buf, b"\x04\x22\x4D\x18")
+}
+
+fn is_framed(buf: &[u8], magic: &[u8]) -> bool
+    requires some { 0 < length magic.now }
+    requires no_frame { slice_index magic.now 0 < 0x50 }
+    ensures { IsTrue result ↔ IsFramed magic.now buf.now }
+{
+    stands_at(after_frames(buf), magic, 0)
 }
 
 /// What follows the skippable frames at the front of `buf`. Each takes at least 8 bytes away.

@@ -5,10 +5,11 @@ ghost use Rattle.infer_deep.specs.Brands.{HasCompatible, IsAvif, IsBoxed, IsHeif
 use crate::numbers::be32;
 use crate::places::stands_at;
 
-/// HEIF: a whole first box "ftyp" of at least 16 bytes in all, whose major brand is heic or heix, or whose major
-/// brand is mif1 or msf1 and which has the compatible brand heic.
+/// HEIF: at least 16 bytes, and first a whole box "ftyp" that has the major brand heic or heix, or the major brand
+/// mif1 or msf1 and the compatible brand heic.
 ///
-/// The box states its length in the first four bytes, the highest first, and brands behind it don't count.
+/// The first four bytes state the length of the box, the highest first. Brands behind the box do not count, and
+/// neither does a box that states to be longer than `buf`.
 pub fn is_heif(buf: &[u8]) -> bool
     ensures { IsTrue result ↔ IsHeif buf.now }
 {
@@ -21,7 +22,8 @@ pub fn is_heif(buf: &[u8]) -> bool
     (stands_at(buf, b"mif1", 8) || stands_at(buf, b"msf1", 8)) && has_compatible(buf, b"heic")
 }
 
-/// AVIF: a whole first box "ftyp" as for HEIF, in which avif or avis is the major brand or a compatible one.
+/// AVIF: at least 16 bytes, and first a whole box "ftyp" as for HEIF, in which avif or avis is the major brand or a
+/// compatible one.
 pub fn is_avif(buf: &[u8]) -> bool
     ensures { IsTrue result ↔ IsAvif buf.now }
 {

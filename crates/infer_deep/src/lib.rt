@@ -7,5 +7,7 @@ pub mod image;
 pub mod laws;
 mod numbers;
 mod places;
+#[cfg(test)]
+mod tests;
 pub mod text;
 pub mod video;

@@ -23,7 +23,7 @@ pub fn stands_by(buf: &[u8], text: &[u8], end: usize) -> bool
 
 /// The least place from `start` on at which `text` stands and ends by `end`.
 ///
-/// Most buffers lack the first two bytes of `text`, which whole blocks show faster than the search does.
+/// Most buffers lack the first two bytes of `text`, which a look at whole blocks shows faster than the search.
 pub fn find(buf: &[u8], text: &[u8], start: usize, end: usize) -> Option<usize>
     requires { 2 ≤ length text.now }
     ensures { IsFirstWithin buf.now text.now start end result }

@@ -10,7 +10,8 @@ use Rattle.infer_deep.proofs.laws.apart.Goals as goal
 
 pub returns : goal.returns
 returns c = record {
-  zst_lz4 = λ b zst lz4. IsFramed-apart b zst_magic lz4_magic (λ x y e. omega arith) (λ rest. omega arith) (λ rest. omega arith) zst lz4;
+  zst_lz4 = λ b.
+      IsFramed-apart b zst_magic lz4_magic (λ e. omega arith) (omega arith) (omega arith) (omega arith) (omega arith);
   open_heif = λ b o h. open-apart_boxed b o h.0;
   open_avif = λ b o h. open-apart_boxed b o h.0;
   docx_pptx = λ b. IsOffice-apart b (codes "word/") (codes "ppt/") (λ e. omega arith) (omega arith) (omega arith);
