@@ -3,7 +3,8 @@ use Rattle.std.proofs.Common.{◌≡◌, ◌+◌, ◌<◌, ℕ, zero, suc, Bool,
 use Rattle.std.proofs.lemmas.Bool.{and_parts}
 use Rattle.infer_sig.specs.Signature.{Alternative}
 use Rattle.infer_sig.specs.Laws as Fixed
-use Rattle.infer.specs.BuiltIn.{BuiltIn, fixed}
+use Rattle.infer_deep.specs.Laws as Deep
+use Rattle.infer.specs.BuiltIn.{BuiltIn, fixed, avif, doc, framed, heif, html, matroska, office, pdf, ppt, xls, xml}
 use Rattle.infer.specs.Matchers.{signatures, is_of_the_twelve, Lasts, IsNear, OthersAreNear}
 use Rattle.infer.specs.Table.{table}
 
@@ -11,18 +12,44 @@ pub length-signatures : length signatures ≡ 101
 unfolding signatures table
 length-signatures = refl
 
-pub every_lasts : ((s : List Alternative) → Fixed.Lasts s) → (s : BuiltIn) → Lasts s
-every_lasts fixed_last (fixed alternatives) = fixed_last alternatives
+pub every_lasts : ((s : List Alternative) → Fixed.Lasts s) → Deep.Growth → (s : BuiltIn) → Lasts s
+every_lasts fixed_last deep_last (fixed alternatives) = fixed_last alternatives
+every_lasts fixed_last deep_last pdf = deep_last.pdf
+every_lasts fixed_last deep_last (matroska doc_type) = deep_last.matroska doc_type
+every_lasts fixed_last deep_last (framed magic) = deep_last.framed magic
+every_lasts fixed_last deep_last heif = deep_last.heif
+every_lasts fixed_last deep_last avif = deep_last.avif
+every_lasts fixed_last deep_last (office folder) = deep_last.office folder
+every_lasts fixed_last deep_last doc = deep_last.doc
+every_lasts fixed_last deep_last xls = deep_last.xls
+every_lasts fixed_last deep_last ppt = deep_last.ppt
+every_lasts fixed_last deep_last html = deep_last.html
+every_lasts fixed_last deep_last xml = deep_last.xml
 
 -- the test for a signature that the first 1024 bytes decide
 abbrev is_within : BuiltIn → Bool
 is_within (fixed alternatives) = Fixed.is_within 1024 alternatives
+is_within pdf = true
+is_within (matroska doc_type) = true
+is_within _ = false
 
-every_near : ((n : ℕ) (s : List Alternative) → IsTrue (Fixed.is_within n s) → Fixed.IsNear n s) → (s : BuiltIn) → IsTrue (is_within s) → IsNear s
-every_near fixed_near (fixed alternatives) within = λ buf long. (
+every_near : ((n : ℕ) (s : List Alternative) → IsTrue (Fixed.is_within n s) → Fixed.IsNear n s) → Deep.Near
+    → (s : BuiltIn) → IsTrue (is_within s) → IsNear s
+every_near fixed_near deep_near (fixed alternatives) within = λ buf long. (
   λ yes. subst (λ r. IsTrue r) (sym (fixed_near 1024 alternatives within buf)) yes,
   λ yes. subst (λ r. IsTrue r) (fixed_near 1024 alternatives within buf) yes,
 )
+every_near fixed_near deep_near pdf within = deep_near.pdf
+every_near fixed_near deep_near (matroska doc_type) within = deep_near.matroska doc_type
+every_near fixed_near deep_near (framed magic) within = absurd (cc)
+every_near fixed_near deep_near heif within = absurd (cc)
+every_near fixed_near deep_near avif within = absurd (cc)
+every_near fixed_near deep_near (office folder) within = absurd (cc)
+every_near fixed_near deep_near doc within = absurd (cc)
+every_near fixed_near deep_near xls within = absurd (cc)
+every_near fixed_near deep_near ppt within = absurd (cc)
+every_near fixed_near deep_near html within = absurd (cc)
+every_near fixed_near deep_near xml within = absurd (cc)
 
 -- each signature from number n on passes that test, or is one of the twelve
 abbrev others_within : ℕ → List BuiltIn → Bool
@@ -46,6 +73,6 @@ within_at (s ∷ ss) n m zero d h e lt out =
 within_at (s ∷ ss) n m (suc i) d h e lt out =
     within_at ss (suc n) m i d (and_parts (is_of_the_twelve n || is_within s) _ h).1 (omega arith) (omega arith) out
 
-pub others_near : ((n : ℕ) (s : List Alternative) → IsTrue (Fixed.is_within n s) → Fixed.IsNear n s) → OthersAreNear signatures
-others_near fixed_near m lt out d =
-    every_near fixed_near (get_or signatures m d) (within_at signatures 0 m m d all_within (omega arith) lt out)
+pub others_near : ((n : ℕ) (s : List Alternative) → IsTrue (Fixed.is_within n s) → Fixed.IsNear n s) → Deep.Near → OthersAreNear signatures
+others_near fixed_near deep_near m lt out d =
+    every_near fixed_near deep_near (get_or signatures m d) (within_at signatures 0 m m d all_within (omega arith) lt out)

@@ -1,4 +1,4 @@
--- signatures, of the crate below
+-- signatures, of the crates below
 pub use Rattle.infer_sig.specs.Signature
 pub use Rattle.infer_sig.specs.App
 pub use Rattle.infer_sig.specs.Archive
@@ -10,6 +10,17 @@ pub use Rattle.infer_sig.specs.Odf
 pub use Rattle.infer_sig.specs.Text
 pub use Rattle.infer_sig.specs.Video
 pub use Rattle.infer_sig.specs.Laws as FixedLaws
+pub use Rattle.infer_deep.specs.Numbers
+pub use Rattle.infer_deep.specs.Places
+pub use Rattle.infer_deep.specs.Joined
+pub use Rattle.infer_deep.specs.Signatures
+pub use Rattle.infer_deep.specs.Windows
+pub use Rattle.infer_deep.specs.Frames
+pub use Rattle.infer_deep.specs.Brands
+pub use Rattle.infer_deep.specs.Office
+pub use Rattle.infer_deep.specs.ClassId
+pub use Rattle.infer_deep.specs.Text as MarkupText
+pub use Rattle.infer_deep.specs.Laws as DeepLaws
 pub mod Buffer
 pub mod Triple
 pub mod BuiltIn

@@ -9,7 +9,9 @@ use Rattle.infer_sig.specs.Image.{bmp, cr2, djvu, dwg, gif, ico, jpeg, jpeg2000,
 use Rattle.infer_sig.specs.Odf.{odp, ods, odt}
 use Rattle.infer_sig.specs.Text.{shellscript}
 use Rattle.infer_sig.specs.Video.{avi, flv, m4v, mov, mp4, mpeg, wmv}
-use Rattle.infer.specs.BuiltIn.{BuiltIn, fixed}
+use Rattle.infer_deep.specs.Frames.{lz4_magic, zst_magic}
+use Rattle.infer_deep.specs.Windows.{mkv_type, webm_type}
+use Rattle.infer.specs.BuiltIn.{BuiltIn, fixed, avif, doc, framed, heif, html, matroska, office, pdf, ppt, xls, xml}
 use Rattle.infer.specs.Row.{Row}
 use Rattle.infer.specs.Triple.{triple}
 use Rattle.infer.specs.declared.file_type.MatcherType.{MatcherType}
@@ -17,10 +19,6 @@ use Rattle.infer.specs.declared.file_type.MatcherType.TheVariants.{App, Archive,
 
 abbrev pub row : MatcherType → List ℕ → List ℕ → BuiltIn → Row BuiltIn
 row class mime_type extension signature = record { shows = triple class mime_type extension; signature = signature }
-
--- the signature of a row that is not written yet: it accepts nothing
-abbrev pub unwritten : BuiltIn
-unwritten = fixed []
 
 unfoldable pub table : List (Row BuiltIn)
 table =
@@ -50,16 +48,16 @@ table =
     ∷ row Image (codes "image/vnd.ms-photo") (codes "jxr") (fixed jxr)
     ∷ row Image (codes "image/vnd.adobe.photoshop") (codes "psd") (fixed psd)
     ∷ row Image (codes "image/vnd.microsoft.icon") (codes "ico") (fixed ico)
-    ∷ row Image (codes "image/heif") (codes "heif") unwritten
-    ∷ row Image (codes "image/avif") (codes "avif") unwritten
+    ∷ row Image (codes "image/heif") (codes "heif") heif
+    ∷ row Image (codes "image/avif") (codes "avif") avif
     ∷ row Image (codes "image/jxl") (codes "jxl") (fixed jxl)
     ∷ row Image (codes "image/openraster") (codes "ora") (fixed ora)
     ∷ row Image (codes "image/vnd.djvu") (codes "djvu") (fixed djvu)
     ∷ row Image (codes "image/vnd.dwg") (codes "dwg") (fixed dwg)
     ∷ row Video (codes "video/mp4") (codes "mp4") (fixed mp4)
     ∷ row Video (codes "video/x-m4v") (codes "m4v") (fixed m4v)
-    ∷ row Video (codes "video/x-matroska") (codes "mkv") unwritten
-    ∷ row Video (codes "video/webm") (codes "webm") unwritten
+    ∷ row Video (codes "video/x-matroska") (codes "mkv") (matroska mkv_type)
+    ∷ row Video (codes "video/webm") (codes "webm") (matroska webm_type)
     ∷ row Video (codes "video/quicktime") (codes "mov") (fixed mov)
     ∷ row Video (codes "video/x-msvideo") (codes "avi") (fixed avi)
     ∷ row Video (codes "video/x-ms-wmv") (codes "wmv") (fixed wmv)
@@ -81,12 +79,12 @@ table =
     ∷ row Font (codes "application/font-woff") (codes "woff2") (fixed woff2)
     ∷ row Font (codes "application/font-sfnt") (codes "ttf") (fixed ttf)
     ∷ row Font (codes "application/font-sfnt") (codes "otf") (fixed otf)
-    ∷ row Doc (codes "application/msword") (codes "doc") unwritten
-    ∷ row Doc (codes "application/vnd.openxmlformats-officedocument.wordprocessingml.document") (codes "docx") unwritten
-    ∷ row Doc (codes "application/vnd.ms-excel") (codes "xls") unwritten
-    ∷ row Doc (codes "application/vnd.openxmlformats-officedocument.spreadsheetml.sheet") (codes "xlsx") unwritten
-    ∷ row Doc (codes "application/vnd.ms-powerpoint") (codes "ppt") unwritten
-    ∷ row Doc (codes "application/vnd.openxmlformats-officedocument.presentationml.presentation") (codes "pptx") unwritten
+    ∷ row Doc (codes "application/msword") (codes "doc") doc
+    ∷ row Doc (codes "application/vnd.openxmlformats-officedocument.wordprocessingml.document") (codes "docx") (office (codes "word/"))
+    ∷ row Doc (codes "application/vnd.ms-excel") (codes "xls") xls
+    ∷ row Doc (codes "application/vnd.openxmlformats-officedocument.spreadsheetml.sheet") (codes "xlsx") (office (codes "xl/"))
+    ∷ row Doc (codes "application/vnd.ms-powerpoint") (codes "ppt") ppt
+    ∷ row Doc (codes "application/vnd.openxmlformats-officedocument.presentationml.presentation") (codes "pptx") (office (codes "ppt/"))
     ∷ row Doc (codes "application/vnd.oasis.opendocument.text") (codes "odt") (fixed odt)
     ∷ row Doc (codes "application/vnd.oasis.opendocument.spreadsheet") (codes "ods") (fixed ods)
     ∷ row Doc (codes "application/vnd.oasis.opendocument.presentation") (codes "odp") (fixed odp)
@@ -100,7 +98,7 @@ table =
     ∷ row Archive (codes "application/vnd.bzip3") (codes "bz3") (fixed bz3)
     ∷ row Archive (codes "application/x-7z-compressed") (codes "7z") (fixed seven_z)
     ∷ row Archive (codes "application/x-xz") (codes "xz") (fixed xz)
-    ∷ row Archive (codes "application/pdf") (codes "pdf") unwritten
+    ∷ row Archive (codes "application/pdf") (codes "pdf") pdf
     ∷ row Archive (codes "application/x-shockwave-flash") (codes "swf") (fixed swf)
     ∷ row Archive (codes "application/rtf") (codes "rtf") (fixed rtf)
     ∷ row Archive (codes "application/octet-stream") (codes "eot") (fixed eot)
@@ -115,11 +113,11 @@ table =
     ∷ row Archive (codes "application/x-lzip") (codes "lz") (fixed lz)
     ∷ row Archive (codes "application/x-rpm") (codes "rpm") (fixed rpm)
     ∷ row Archive (codes "application/dicom") (codes "dcm") (fixed dcm)
-    ∷ row Archive (codes "application/zstd") (codes "zst") unwritten
-    ∷ row Archive (codes "application/x-lz4") (codes "lz4") unwritten
+    ∷ row Archive (codes "application/zstd") (codes "zst") (framed zst_magic)
+    ∷ row Archive (codes "application/x-lz4") (codes "lz4") (framed lz4_magic)
     ∷ row Archive (codes "application/x-ole-storage") (codes "msi") (fixed msi)
     ∷ row Archive (codes "application/x-cpio") (codes "cpio") (fixed cpio)
-    ∷ row Text (codes "text/html") (codes "html") unwritten
-    ∷ row Text (codes "text/xml") (codes "xml") unwritten
+    ∷ row Text (codes "text/html") (codes "html") html
+    ∷ row Text (codes "text/xml") (codes "xml") xml
     ∷ row Text (codes "text/x-shellscript") (codes "sh") (fixed shellscript)
     ∷ []

@@ -1,7 +1,7 @@
 //! The built-in signatures, as values that a row can hold.
 ghost use Rattle.std.specs.Prelude.{◌↔◌, IsTrue};
 
-use crate::{app, archive, audio, book, font, image, odf, text, video};
+use crate::{app, archive, audio, book, doc, font, image, odf, text, video};
 
 /// A built-in signature, by its matcher.
 #[derive(Clone, Copy)]
@@ -31,12 +31,16 @@ pub enum Format {
     Jxr,
     Psd,
     Ico,
+    Heif,
+    Avif,
     Jxl,
     Ora,
     Djvu,
     Dwg,
     Mp4,
     M4v,
+    Mkv,
+    Webm,
     Mov,
     Avi,
     Wmv,
@@ -58,6 +62,12 @@ pub enum Format {
     Woff2,
     Ttf,
     Otf,
+    Doc,
+    Docx,
+    Xls,
+    Xlsx,
+    Ppt,
+    Pptx,
     Odt,
     Ods,
     Odp,
@@ -70,6 +80,7 @@ pub enum Format {
     Bz3,
     SevenZ,
     Xz,
+    Pdf,
     Swf,
     Rtf,
     Eot,
@@ -84,10 +95,13 @@ pub enum Format {
     Lz,
     Rpm,
     Dcm,
+    Zst,
+    Lz4,
     Msi,
     Cpio,
+    Html,
+    Xml,
     Shellscript,
-    Unwritten,
 }
 
 impl Format {
@@ -126,12 +140,16 @@ impl Format {
             Format::Jxr => image::is_jxr(buf),
             Format::Psd => image::is_psd(buf),
             Format::Ico => image::is_ico(buf),
+            Format::Heif => image::is_heif(buf),
+            Format::Avif => image::is_avif(buf),
             Format::Jxl => image::is_jxl(buf),
             Format::Ora => image::is_ora(buf),
             Format::Djvu => image::is_djvu(buf),
             Format::Dwg => image::is_dwg(buf),
             Format::Mp4 => video::is_mp4(buf),
             Format::M4v => video::is_m4v(buf),
+            Format::Mkv => video::is_mkv(buf),
+            Format::Webm => video::is_webm(buf),
             Format::Mov => video::is_mov(buf),
             Format::Avi => video::is_avi(buf),
             Format::Wmv => video::is_wmv(buf),
@@ -153,6 +171,12 @@ impl Format {
             Format::Woff2 => font::is_woff2(buf),
             Format::Ttf => font::is_ttf(buf),
             Format::Otf => font::is_otf(buf),
+            Format::Doc => doc::is_doc(buf),
+            Format::Docx => doc::is_docx(buf),
+            Format::Xls => doc::is_xls(buf),
+            Format::Xlsx => doc::is_xlsx(buf),
+            Format::Ppt => doc::is_ppt(buf),
+            Format::Pptx => doc::is_pptx(buf),
             Format::Odt => odf::is_odt(buf),
             Format::Ods => odf::is_ods(buf),
             Format::Odp => odf::is_odp(buf),
@@ -165,6 +189,7 @@ impl Format {
             Format::Bz3 => archive::is_bz3(buf),
             Format::SevenZ => archive::is_7z(buf),
             Format::Xz => archive::is_xz(buf),
+            Format::Pdf => archive::is_pdf(buf),
             Format::Swf => archive::is_swf(buf),
             Format::Rtf => archive::is_rtf(buf),
             Format::Eot => archive::is_eot(buf),
@@ -179,10 +204,13 @@ impl Format {
             Format::Lz => archive::is_lz(buf),
             Format::Rpm => archive::is_rpm(buf),
             Format::Dcm => archive::is_dcm(buf),
+            Format::Zst => archive::is_zst(buf),
+            Format::Lz4 => archive::is_lz4(buf),
             Format::Msi => archive::is_msi(buf),
             Format::Cpio => archive::is_cpio(buf),
+            Format::Html => text::is_html(buf),
+            Format::Xml => text::is_xml(buf),
             Format::Shellscript => text::is_shellscript(buf),
-            Format::Unwritten => false,
         }
     }
 }

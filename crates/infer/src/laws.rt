@@ -28,6 +28,7 @@ pub fn growth()
     ensures last { All Lasts signatures }
 {
     infer_sig::laws::growth();
+    infer_deep::laws::growth();
 }
 
 /// The first 1024 bytes decide: every matcher but those of twelve rows answers on a buffer of at least 1024 bytes
@@ -36,4 +37,5 @@ pub fn near()
     ensures { OthersAreNear signatures }
 {
     infer_sig::laws::near();
+    infer_deep::laws::near();
 }

@@ -16,6 +16,7 @@ pub mod archive;
 pub mod audio;
 pub mod book;
 mod custom;
+pub mod doc;
 mod fault;
 mod file_type;
 pub mod font;

@@ -7,4 +7,4 @@ pub returns-clause-many : goal.returns-clause-many
 returns-clause-many c = length-signatures
 
 pub returns-clause-last : goal.returns-clause-last
-returns-clause-last c = λ m d lt. every_lasts c.growth.ensures (get_or signatures m d)
+returns-clause-last c = λ m d lt. every_lasts c.growth.ensures c.growth-2.ensures (get_or signatures m d)

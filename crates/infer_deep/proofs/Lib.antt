@@ -1,0 +1,11 @@
+pub mod PlaceLemmas
+pub mod SearchLemmas
+pub mod NumberLemmas
+pub mod JoinedLemmas
+pub mod WindowLemmas
+pub mod FrameLemmas
+pub mod BrandLemmas
+pub mod OfficeLemmas
+pub mod ClassIdLemmas
+pub mod AnyLemmas
+pub mod TextLemmas

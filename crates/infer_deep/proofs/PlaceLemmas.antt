@@ -1,0 +1,90 @@
+-- A text stands at a place of a buffer: in one that grows it, in a part of it, beside other texts.
+use Rattle.std.proofs.Common.{◌≡◌, ℕ, ◌+◌, ◌-◌, ◌<◌, ◌≤◌, List, ◌++◌, length, get_or, inl, inr, take, drop, sym, ap, ◌∙◌, arith, length-append, length-drop, length-take}
+use Rattle.std.proofs.lemmas.List.{get_or_append_left, get_or-take, get_or-drop}
+use Rattle.std.proofs.lemmas.List.Prefix.{front_fits, front_reads, front_from_reads}
+use Rattle.std.proofs.lemmas.Bool.{cases_lt}
+use Rattle.memchr.specs.Find.{OccursAt}
+use Rattle.infer_deep.specs.Places.{IsFirstPlace}
+
+-- it stands in each buffer that grows the buffer
+pub OccursAt-append : (b more text : List ℕ) (p : ℕ) → OccursAt b text p → OccursAt (b ++ more) text p
+OccursAt-append b more text p o = record {
+  fits = let f = o.fits in simp length-append (omega arith);
+  reads = λ j l. let f = o.fits in get_or_append_left b more 0 (p + j) (omega arith) ∙ o.reads j l;
+}
+
+-- and where it ends in the buffer, it stands there
+pub OccursAt-front : (b more text : List ℕ) (p : ℕ)
+    → p + length text ≤ length b → OccursAt (b ++ more) text p → OccursAt b text p
+OccursAt-front b more text p f o = record {
+  fits = f;
+  reads = λ j l. sym (get_or_append_left b more 0 (p + j) (omega arith)) ∙ o.reads j l;
+}
+
+-- the byte at its place is its first
+pub OccursAt-first : (b text : List ℕ) (p : ℕ) → 0 < length text → OccursAt b text p → get_or b p 0 ≡ get_or text 0 0
+OccursAt-first b text p l o = ap (λ i. get_or b i 0) (let r : p ≡ p + 0 = omega arith in r) ∙ o.reads 0 l
+
+-- two texts at one place have the same bytes
+pub OccursAt-agree : (b v w : List ℕ) (p i : ℕ)
+    → OccursAt b v p → OccursAt b w p → i < length v → i < length w → get_or v i 0 ≡ get_or w i 0
+OccursAt-agree b v w p i o k in_v in_w = sym (o.reads i in_v) ∙ k.reads i in_w
+
+-- what stands at 0 is a front
+pub begins-from_OccursAt : (b text : List ℕ) → OccursAt b text 0 → b ≡ text ++ drop (length text) b
+begins-from_OccursAt b text o =
+    let f = o.fits in
+    front_from_reads 0 b text (omega arith) (λ j l. ap (λ i. get_or b i 0) (let r : j ≡ 0 + j = omega arith in r) ∙ o.reads j l)
+
+pub OccursAt-begins : (b text rest : List ℕ) → b ≡ text ++ rest → OccursAt b text 0
+OccursAt-begins b text rest e = record {
+  fits = let f = front_fits b text rest e in omega arith;
+  reads = λ j l. ap (λ i. get_or b i 0) (let r : 0 + j ≡ j = omega arith in r) ∙ front_reads 0 b text rest e j l;
+}
+
+-- the reads of a part
+pub part_reads : (b : List ℕ) (s e i : ℕ) → s + i < e → get_or (take (e - s) (drop s b)) i 0 ≡ get_or b (s + i) 0
+part_reads b s e i l = get_or-take (e - s) (drop s b) i 0 (omega arith) ∙ get_or-drop s b i 0
+
+pub part_length : (b : List ℕ) (s e : ℕ) → s ≤ e → e ≤ length b → length (take (e - s) (drop s b)) ≡ e - s
+part_length b s e l h = simp (length-take, length-drop) (omega arith)
+
+-- what stands in a part of a buffer stands in the buffer, and back
+pub OccursAt-from_part : (b text : List ℕ) (s e k : ℕ)
+    → s ≤ e → e ≤ length b → OccursAt (take (e - s) (drop s b)) text k → OccursAt b text (s + k)
+OccursAt-from_part b text s e k l h o =
+    let n = part_length b s e l h in
+    let f = o.fits in
+    record {
+      fits = omega arith;
+      reads = λ j lt. ap (λ i. get_or b i 0) (let r : s + k + j ≡ s + (k + j) = omega arith in r)
+          ∙ sym (part_reads b s e (k + j) (omega arith)) ∙ o.reads j lt;
+    }
+
+pub OccursAt-part : (b text : List ℕ) (s e k : ℕ)
+    → s ≤ e → e ≤ length b → s + k + length text ≤ e → OccursAt b text (s + k) → OccursAt (take (e - s) (drop s b)) text k
+OccursAt-part b text s e k l h ends o =
+    let n = part_length b s e l h in
+    record {
+      fits = omega arith;
+      reads = λ j lt. part_reads b s e (k + j) (omega arith)
+          ∙ ap (λ i. get_or b i 0) (let r : s + (k + j) ≡ s + k + j = omega arith in r) ∙ o.reads j lt;
+    }
+
+-- a least place is one place, and stays it in a buffer that grows
+pub IsFirstPlace-same : (b text : List ℕ) (start end p q : ℕ)
+    → IsFirstPlace b text start end p → IsFirstPlace b text start end q → p ≡ q
+IsFirstPlace-same b text start end p q f g =
+    elim (cases_lt p q) [
+      | inl l ↦ absurd (g.before p l f.here)
+      | inr l ↦ elim (cases_lt q p) [ inl k ↦ absurd (f.before q k g.here) | inr k ↦ omega arith ]
+    ]
+
+pub IsFirstPlace-append : (b more text : List ℕ) (start end p : ℕ)
+    → IsFirstPlace b text start end p → IsFirstPlace (b ++ more) text start end p
+IsFirstPlace-append b more text start end p f = record {
+  here = record { stands = OccursAt-append b more text p f.here.stands; low = f.here.low; high = f.here.high };
+  before = λ q lt w.
+      let fits = f.here.stands.fits in
+      f.before q lt (record { stands = OccursAt-front b more text q (omega arith) w.stands; low = w.low; high = w.high });
+}

@@ -1,0 +1,47 @@
+-- Windows: they last, and the first 1024 bytes decide.
+use Rattle.std.proofs.Common.{◌≡◌, ◌↔◌, ℕ, ◌≤◌, List, ◌++◌, length, take, drop, refl, true, Option, Some, None, sym, subst, arith, length-append}
+use Rattle.std.proofs.lemmas.List.{take-append-drop, length-take-le}
+use Rattle.std.proofs.lemmas.Bool.{false≢true}
+use Rattle.std.specs.Option.{is_some}
+use Rattle.infer_deep.specs.Places.{IsFirstWithin}
+use Rattle.infer_deep.specs.Signatures.{IsLasting, IsNear}
+use Rattle.infer_deep.proofs.PlaceLemmas.{OccursAt-append, OccursAt-front}
+use Rattle.infer_deep.specs.Windows.{StandsBy, IsPdf, IsMatroska}
+
+pub StandsBy-lasting : (text : List ℕ) (end : ℕ) → IsLasting (StandsBy text end)
+StandsBy-lasting text end b more (p, w) =
+    (p, record { stands = OccursAt-append b more text p w.stands; low = w.low; high = w.high })
+
+-- it stands in a front that reaches the end of the window
+StandsBy-front : (text : List ℕ) (end : ℕ) (b more : List ℕ)
+    → end ≤ length b → StandsBy text end (b ++ more) → StandsBy text end b
+StandsBy-front text end b more l (p, w) =
+    let h = w.high in
+    (p, record { stands = OccursAt-front b more text p (omega arith) w.stands; low = w.low; high = w.high })
+
+pub IsMatroska-lasting : (doc_type : List ℕ) → IsLasting (IsMatroska doc_type)
+IsMatroska-lasting doc_type b more h =
+    (let l = h.0 in omega (arith, length-append b more), OccursAt-append b more _ 0 h.1, StandsBy-lasting doc_type 256 b more h.2)
+
+-- what lasts is near, where the first 1024 bytes of a yes say yes
+near_from_lasting : (S : List ℕ → Type 0) → IsLasting S
+    → ((b more : List ℕ) → length b ≡ 1024 → S (b ++ more) → S b) → IsNear S
+near_from_lasting S lasts front b l =
+    let split : take 1024 b ++ drop 1024 b ≡ b = take-append-drop 1024 b in (
+      λ h. front (take 1024 b) (drop 1024 b) (length-take-le 1024 b l) (subst S (sym split) h),
+      λ h. subst S split (lasts (take 1024 b) (drop 1024 b) h),
+    )
+
+pub IsPdf-near : IsNear IsPdf
+IsPdf-near =
+    near_from_lasting IsPdf (StandsBy-lasting _ 1024) (λ b more l h. StandsBy-front _ 1024 b more (omega arith) h)
+
+pub IsMatroska-near : (doc_type : List ℕ) → IsNear (IsMatroska doc_type)
+IsMatroska-near doc_type = near_from_lasting (IsMatroska doc_type) (IsMatroska-lasting doc_type)
+    (λ b more l h. (omega arith, OccursAt-front b more _ 0 (omega arith) h.1, StandsBy-front doc_type 256 b more (omega arith) h.2))
+
+-- whether there is a least place says whether there is one
+pub StandsBy-found : (b text : List ℕ) (end : ℕ) (r : Option ℕ)
+    → IsFirstWithin b text 0 end r → is_some r ≡ true ↔ StandsBy text end b
+StandsBy-found b text end None h = (λ is. absurd (false≢true is), λ (p, w). absurd (h p w))
+StandsBy-found b text end (Some p) h = (λ is. (p, h.here), λ is. refl)

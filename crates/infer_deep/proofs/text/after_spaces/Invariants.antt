@@ -1,0 +1,11 @@
+-- what is left is behind some white space
+use Rattle.std.proofs.Common.{length}
+use Rattle.infer_deep.specs.Joined.{LeadsTo}
+use Rattle.infer_deep.specs.Text.{IsSpace}
+use Rattle.infer_deep.proofs.text.after_spaces.Given as goal
+
+abbrev pub invariant-loop-rest : goal.invariant-loop-rest
+invariant-loop-rest l = LeadsTo IsSpace l.fn.buf l.buf
+
+abbrev pub decreases-loop-rest : goal.decreases-loop-rest
+decreases-loop-rest l = length l.buf

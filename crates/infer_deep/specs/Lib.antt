@@ -1,0 +1,12 @@
+pub mod Numbers
+pub mod Places
+pub mod Blocks
+pub mod Joined
+pub mod Signatures
+pub mod Windows
+pub mod Frames
+pub mod Brands
+pub mod Office
+pub mod ClassId
+pub mod Text
+pub mod Laws

@@ -1,0 +1,61 @@
+-- Office Open XML documents, by the folder of one of their ZIP entries.
+use Rattle.std.specs.Prelude.{◌≡◌, ℕ, ◌+◌, ◌≤◌, ◌⊎◌, List, [], ◌∷◌, codes}
+use Rattle.memchr.specs.Find.{OccursAt}
+use Rattle.infer_deep.specs.Numbers.{le32}
+use Rattle.infer_deep.specs.Places.{IsFirstPlace}
+
+-- with which the local header of a ZIP entry begins
+abbrev pub zip_header : List ℕ
+zip_header = 0x50 ∷ 0x4B ∷ 0x03 ∷ 0x04 ∷ []
+
+-- p is the least place from s on at which a header stands, and its four bytes end by s + 6000
+abbrev pub IsHeaderFrom : List ℕ → ℕ → ℕ → Type 0
+IsHeaderFrom b s p = IsFirstPlace b zip_header s (s + 6000) p
+
+-- a folder of Office stands at p
+abbrev pub HasFolder : List ℕ → ℕ → Type 0
+HasFolder b p = OccursAt b (codes "word/") p ⊎ OccursAt b (codes "ppt/") p ⊎ OccursAt b (codes "xl/") p
+
+-- a name that Office gives to a first entry stands at 30, where the first header has its name
+abbrev pub HasOfficeName : List ℕ → Type 0
+HasOfficeName b =
+    OccursAt b (codes "[Content_Types].xml") 30 ⊎ OccursAt b (codes "_rels/.rels") 30 ⊎ OccursAt b (codes "docProps") 30
+
+-- the third header stands at `third`, and a folder of Office in it: the second is the least behind the size that
+-- the first states at 18, and the third is the least behind the second
+pub record IsThirdHeader (b : List ℕ) (third : ℕ) : Type 0 where
+  pub second : ℕ
+  pub start_fits : le32 b 18 + 49 ≤ 0xFFFFFFFF
+  pub second_found : IsHeaderFrom b (le32 b 18 + 49) second
+  pub third_found : IsHeaderFrom b (second + 30) third
+  pub folder : HasFolder b (third + 30)
+
+-- the fourth header stands at `fourth`: the least behind the third
+pub record IsFourthHeader (b : List ℕ) (fourth : ℕ) : Type 0 where
+  pub third : ℕ
+  pub third_found : IsThirdHeader b third
+  pub fourth_found : IsHeaderFrom b (third + 56) fourth
+
+-- b begins as a ZIP archive, and p is the place of the folder that decides: 30 where a folder stands there, and
+-- otherwise, behind a name of Office, the place in the fourth header
+abbrev pub IsDecidingPlace : List ℕ → ℕ → Type 0
+IsDecidingPlace b p =
+    OccursAt b zip_header 0
+    × ((HasFolder b 30 × (p ≡ 30))
+    ⊎ ((¬ HasFolder b 30) × HasOfficeName b × ((fourth : ℕ) × IsFourthHeader b fourth × (p ≡ fourth + 30))))
+
+-- the folder stands at the deciding place
+abbrev pub IsOffice : List ℕ → List ℕ → Type 0
+IsOffice folder b = (p : ℕ) × IsDecidingPlace b p × OccursAt b folder p
+
+-- a document of Word
+abbrev pub IsDocx : List ℕ → Type 0
+IsDocx b = IsOffice (codes "word/") b
+
+-- a presentation of PowerPoint
+abbrev pub IsPptx : List ℕ → Type 0
+IsPptx b = IsOffice (codes "ppt/") b
+
+-- a workbook of Excel
+abbrev pub IsXlsx : List ℕ → Type 0
+IsXlsx b = IsOffice (codes "xl/") b

@@ -1,0 +1,14 @@
+-- What can be said of a signature, which is a property of buffers.
+use Rattle.std.specs.Prelude.{ℕ, ◌↔◌, ◌≤◌, List, ◌++◌, length, take}
+
+-- a buffer that has it has it with any bytes behind it too
+abbrev pub IsLasting : (List ℕ → Type 0) → Type 0
+IsLasting S = (b more : List ℕ) → S b → S (b ++ more)
+
+-- a buffer of at least 1024 bytes has it just where its first 1024 bytes have it
+abbrev pub IsNear : (List ℕ → Type 0) → Type 0
+IsNear S = (b : List ℕ) → 1024 ≤ length b → S b ↔ S (take 1024 b)
+
+-- no buffer has both
+abbrev pub AreApart : (List ℕ → Type 0) → (List ℕ → Type 0) → Type 0
+AreApart S T = (b : List ℕ) → S b → ¬ T b

@@ -1,0 +1,62 @@
+//! Archives and documents in one file.
+ghost use Rattle.std.specs.Prelude.{◌↔◌, ◌<◌, length, slice_index, IsTrue, MatchOption};
+ghost use Rattle.infer_deep.specs.Joined.{BeginsWith, NoneBegins, SkipsTo};
+ghost use Rattle.infer_deep.specs.Frames.{IsFrame, IsFramed, IsLz4, IsZst};
+ghost use Rattle.infer_deep.specs.Windows.{IsPdf};
+
+use crate::numbers::le32;
+use crate::places::{stands_at, stands_by};
+
+/// PDF: "%PDF" somewhere in the first 1024 bytes.
+pub fn is_pdf(buf: &[u8]) -> bool
+    ensures { IsTrue result ↔ IsPdf buf.now }
+{
+    stands_by(buf, b"%PDF", 1024)
+}
+
+/// Zstandard: some skippable frames of RFC 8878, perhaps none, then 28 B5 2F FD.
+pub fn is_zst(buf: &[u8]) -> bool
+    ensures { IsTrue result ↔ IsZst buf.now }
+{
+    is_framed(buf, b"\x28\xB5\x2F\xFD")
+}
+
+/// LZ4: some skippable frames, perhaps none, then 04 22 4D 18.
+pub fn is_lz4(buf: &[u8]) -> bool
+    ensures { IsTrue result ↔ IsLz4 buf.now }
+{
+    is_framed(buf, b"\x04\x22\x4D\x18")
+}
+
+fn is_framed(buf: &[u8], magic: &[u8]) -> bool
+    requires some { 0 < length magic.now }
+    requires no_frame { slice_index magic.now 0 < 0x50 }
+    ensures { IsTrue result ↔ IsFramed magic.now buf.now }
+{
+    stands_at(after_frames(buf), magic, 0)
+}
+
+/// What follows the skippable frames at the front of `buf`. Each takes at least 8 bytes away.
+fn after_frames(mut buf: &[u8]) -> &[u8]
+    ensures skips { SkipsTo IsFrame buf.entry.now result.now }
+    ensures stops { NoneBegins IsFrame result.now }
+{
+    while let Some(rest) = after_frame(buf) {
+        buf = rest;
+    }
+    buf
+}
+
+/// What follows the skippable frame at the front of `buf`, if a whole one stands there.
+fn after_frame(buf: &[u8]) -> Option<&[u8]>
+    ensures { MatchOption result (NoneBegins IsFrame buf.now) (λ rest. BeginsWith IsFrame buf.now rest.now) }
+{
+    if buf.len() < 8 || !(0x50..=0x5F).contains(&buf[0]) || !stands_at(buf, b"\x2A\x4D\x18", 1) {
+        return None;
+    }
+    let end = 8 + le32(buf, 4) as usize;
+    if buf.len() < end {
+        return None;
+    }
+    Some(&buf[end..])
+}

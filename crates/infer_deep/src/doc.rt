@@ -1,0 +1,171 @@
+//! Documents of Microsoft Office, in compound files and in ZIP archives.
+ghost use Rattle.std.specs.Prelude.{◌↔◌, ◌+◌, ◌≤◌, length, IsTrue};
+ghost use Rattle.infer_deep.specs.Places.{FindsPlace, IsFirstWithin};
+ghost use Rattle.infer_deep.specs.ClassId.{HasClassId, IsDoc, IsPpt, IsRoot, IsXls};
+ghost use Rattle.infer_deep.specs.Office.{HasFolder, HasOfficeName, IsDecidingPlace, IsDocx, IsFourthHeader, IsOffice, IsPptx, IsThirdHeader, IsXlsx, zip_header};
+
+use crate::numbers::{le16, le32};
+use crate::places::{find, stands_at};
+
+const WORD_ID: [u8; 16] = *b"\x06\x09\x02\x00\x00\x00\x00\x00\xC0\x00\x00\x00\x00\x00\x00\x46";
+
+const OLD_EXCEL_ID: [u8; 16] = *b"\x10\x08\x02\x00\x00\x00\x00\x00\xC0\x00\x00\x00\x00\x00\x00\x46";
+
+const EXCEL_ID: [u8; 16] = *b"\x20\x08\x02\x00\x00\x00\x00\x00\xC0\x00\x00\x00\x00\x00\x00\x46";
+
+const POWERPOINT_ID: [u8; 16] =
+    *b"\x10\x8D\x81\x64\x9B\x4F\xCF\x11\x86\xEA\x00\xAA\x00\xB9\x29\xE8";
+
+/// Word's binary document: a compound file of MS-CFB whose root entry has the class id of Word.
+///
+/// Of the compound file only its header and the 128 bytes of its root entry are looked at.
+pub fn is_doc(buf: &[u8]) -> bool
+    ensures { IsTrue result ↔ IsDoc buf.now }
+{
+    has_class_id(buf, &WORD_ID)
+}
+
+/// Word's document in a ZIP archive: its folder "word/" decides.
+///
+/// One of the folders "word/", "ppt/" and "xl/" in the first entry decides. Where the first entry's name begins with
+/// "[Content_Types].xml", "_rels/.rels" or "docProps", the third local header has to have one of them, and the one
+/// in the fourth decides. Each header is searched for in 6000 bytes.
+pub fn is_docx(buf: &[u8]) -> bool
+    ensures { IsTrue result ↔ IsDocx buf.now }
+{
+    is_office(buf, b"word/")
+}
+
+/// Excel's binary workbook: as for Word's binary document, with one of the two class ids of Excel.
+pub fn is_xls(buf: &[u8]) -> bool
+    ensures { IsTrue result ↔ IsXls buf.now }
+{
+    has_class_id(buf, &OLD_EXCEL_ID) || has_class_id(buf, &EXCEL_ID)
+}
+
+/// Excel's workbook in a ZIP archive: as for Word's, its folder "xl/" decides.
+pub fn is_xlsx(buf: &[u8]) -> bool
+    ensures { IsTrue result ↔ IsXlsx buf.now }
+{
+    is_office(buf, b"xl/")
+}
+
+/// PowerPoint's binary presentation: as for Word's binary document, with the class id of PowerPoint.
+pub fn is_ppt(buf: &[u8]) -> bool
+    ensures { IsTrue result ↔ IsPpt buf.now }
+{
+    has_class_id(buf, &POWERPOINT_ID)
+}
+
+/// PowerPoint's presentation in a ZIP archive: as for Word's, its folder "ppt/" decides.
+pub fn is_pptx(buf: &[u8]) -> bool
+    ensures { IsTrue result ↔ IsPptx buf.now }
+{
+    is_office(buf, b"ppt/")
+}
+
+fn has_class_id(buf: &[u8], id: &[u8]) -> bool
+    ensures { IsTrue result ↔ HasClassId id.now buf.now }
+{
+    match root_entry(buf) {
+        Some(root) => stands_at(buf, id, root + 80),
+        None => false,
+    }
+}
+
+/// Where the root entry of a compound file begins, if `buf` has it whole.
+fn root_entry(buf: &[u8]) -> Option<usize>
+    ensures { FindsPlace (IsRoot buf.now) result }
+{
+    if buf.len() < 512
+        || !stands_at(buf, b"\xD0\xCF\x11\xE0\xA1\xB1\x1A\xE1", 0)
+        || !stands_at(buf, b"\xFE\xFF", 28)
+    {
+        return None;
+    }
+    let sector_size = match (le16(buf, 26), le16(buf, 30)) {
+        (3, 9) => 512,
+        (4, 12) => 4096,
+        _ => return None,
+    };
+    let root = (le32(buf, 48) as usize + 1) * sector_size;
+    if buf.len() < root + 128 || buf[root + 66] != 5 {
+        return None;
+    }
+    Some(root)
+}
+
+fn is_office(buf: &[u8], folder: &[u8]) -> bool
+    ensures { IsTrue result ↔ IsOffice folder.now buf.now }
+{
+    match deciding_place(buf) {
+        Some(place) => stands_at(buf, folder, place),
+        None => false,
+    }
+}
+
+/// Where the deciding folder stands, if anywhere. It is the same place for all three kinds.
+fn deciding_place(buf: &[u8]) -> Option<usize>
+    ensures { FindsPlace (IsDecidingPlace buf.now) result }
+{
+    if !stands_at(buf, b"PK\x03\x04", 0) {
+        return None;
+    }
+    if has_folder(buf, 30) {
+        return Some(30);
+    }
+    if !has_office_name(buf) {
+        return None;
+    }
+    let fourth = fourth_header(buf)?;
+    Some(fourth + 30)
+}
+
+fn fourth_header(buf: &[u8]) -> Option<usize>
+    requires { 22 ≤ length buf.now }
+    ensures { FindsPlace (IsFourthHeader buf.now) result }
+{
+    let third = third_header(buf)?;
+    header_from(buf, third + 56)
+}
+
+/// Where the third header stands, if it has a folder of Office.
+fn third_header(buf: &[u8]) -> Option<usize>
+    requires { 22 ≤ length buf.now }
+    ensures { FindsPlace (IsThirdHeader buf.now) result }
+{
+    let start = le32(buf, 18).checked_add(49)?;
+    let second = header_from(buf, start as usize)?;
+    let third = header_from(buf, second + 30)?;
+    if has_folder(buf, third + 30) {
+        Some(third)
+    } else {
+        None
+    }
+}
+
+/// The least place from `start` on at which a header stands that ends in the next 6000 bytes.
+fn header_from(buf: &[u8], start: usize) -> Option<usize>
+    ensures { IsFirstWithin buf.now zip_header start (start + 6000) result }
+{
+    if start > buf.len() {
+        return None;
+    }
+    find(buf, b"PK\x03\x04", start, start + 6000)
+}
+
+fn has_folder(buf: &[u8], place: usize) -> bool
+    ensures { IsTrue result ↔ HasFolder buf.now place }
+{
+    stands_at(buf, b"word/", place)
+        || stands_at(buf, b"ppt/", place)
+        || stands_at(buf, b"xl/", place)
+}
+
+fn has_office_name(buf: &[u8]) -> bool
+    ensures { IsTrue result ↔ HasOfficeName buf.now }
+{
+    stands_at(buf, b"[Content_Types].xml", 30)
+        || stands_at(buf, b"_rels/.rels", 30)
+        || stands_at(buf, b"docProps", 30)
+}

@@ -1,0 +1,56 @@
+//! Images in ISO media files.
+ghost use Rattle.std.specs.Prelude.{◌↔◌, ◌≤◌, length, IsTrue};
+ghost use Rattle.infer_deep.specs.Brands.{HasCompatible, IsAvif, IsBoxed, IsHeif};
+
+use crate::numbers::be32;
+use crate::places::stands_at;
+
+/// HEIF: at least 16 bytes, and first a whole box "ftyp" that has the major brand heic or heix, or the major brand
+/// mif1 or msf1 and the compatible brand heic.
+///
+/// The first four bytes state the length of the box, the highest first. Brands behind the box do not count, and
+/// neither does a box that states to be longer than `buf`.
+pub fn is_heif(buf: &[u8]) -> bool
+    ensures { IsTrue result ↔ IsHeif buf.now }
+{
+    if !is_boxed(buf) {
+        return false;
+    }
+    if stands_at(buf, b"heic", 8) || stands_at(buf, b"heix", 8) {
+        return true;
+    }
+    (stands_at(buf, b"mif1", 8) || stands_at(buf, b"msf1", 8)) && has_compatible(buf, b"heic")
+}
+
+/// AVIF: at least 16 bytes, and first a whole box "ftyp" as for HEIF, in which avif or avis is the major brand or a
+/// compatible one.
+pub fn is_avif(buf: &[u8]) -> bool
+    ensures { IsTrue result ↔ IsAvif buf.now }
+{
+    if !is_boxed(buf) {
+        return false;
+    }
+    stands_at(buf, b"avif", 8)
+        || stands_at(buf, b"avis", 8)
+        || has_compatible(buf, b"avif")
+        || has_compatible(buf, b"avis")
+}
+
+fn is_boxed(buf: &[u8]) -> bool
+    ensures { IsTrue result ↔ IsBoxed buf.now }
+{
+    buf.len() >= 16 && stands_at(buf, b"ftyp", 4) && be32(buf, 0) as usize <= buf.len()
+}
+
+fn has_compatible(buf: &[u8], brand: &[u8]) -> bool
+    requires { 16 ≤ length buf.now }
+    ensures { IsTrue result ↔ HasCompatible brand.now buf.now }
+{
+    let count = (be32(buf, 0) as usize / 4).saturating_sub(4);
+    for k in 0..count {
+        if stands_at(buf, brand, 16 + 4 * k) {
+            return true;
+        }
+    }
+    false
+}

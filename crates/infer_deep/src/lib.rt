@@ -1,0 +1,13 @@
+//! Matchers of the file types that no list of bytes at fixed places tells.
+#![tactic(auto)]
+
+pub mod archive;
+pub mod doc;
+pub mod image;
+pub mod laws;
+mod numbers;
+mod places;
+#[cfg(test)]
+mod tests;
+pub mod text;
+pub mod video;

@@ -1,0 +1,98 @@
+//! Where a text stands in a buffer.
+ghost use Rattle.std.specs.Prelude.{◌≡◌, ◌↔◌, ◌+◌, ◌<◌, ◌≤◌, ℕ, length, slice_index, IsTrue};
+ghost use Rattle.std.specs.Bool.{OnFalse};
+ghost use Rattle.memchr.specs.Find.{OccursAt};
+ghost use Rattle.infer_deep.specs.Blocks.{LacksPair};
+ghost use Rattle.infer_deep.specs.Places.{IsFirstWithin};
+ghost use Rattle.infer_deep.specs.Windows.{StandsBy};
+
+use memchr::memmem;
+
+pub fn stands_at(buf: &[u8], text: &[u8], place: usize) -> bool
+    ensures { IsTrue result ↔ OccursAt buf.now text.now place }
+{
+    place <= buf.len() && buf[place..].starts_with(text)
+}
+
+pub fn stands_by(buf: &[u8], text: &[u8], end: usize) -> bool
+    requires { 2 ≤ length text.now }
+    ensures { IsTrue result ↔ StandsBy text.now end buf.now }
+{
+    find(buf, text, 0, end).is_some()
+}
+
+/// The least place from `start` on at which `text` stands and ends by `end`.
+///
+/// Most buffers lack the first two bytes of `text`, which a look at whole blocks shows faster than the search.
+pub fn find(buf: &[u8], text: &[u8], start: usize, end: usize) -> Option<usize>
+    requires { 2 ≤ length text.now }
+    ensures { IsFirstWithin buf.now text.now start end result }
+{
+    let stop = end.min(buf.len());
+    if start > stop || stop - start < 129 {
+        return search(buf, text, start, end);
+    }
+    let free = pair_free(&buf[start..stop], text[0], text[1]);
+    search(buf, text, start + free, end)
+}
+
+fn search(buf: &[u8], text: &[u8], start: usize, end: usize) -> Option<usize>
+    ensures { IsFirstWithin buf.now text.now start end result }
+{
+    let stop = end.min(buf.len());
+    if start > stop {
+        return None;
+    }
+    let at = memmem::find(&buf[start..stop], text)?;
+    Some(start + at)
+}
+
+/// How many places at the front of `hay` surely begin no such pair of bytes.
+fn pair_free(hay: &[u8], first: u8, second: u8) -> usize
+    requires { 129 ≤ length hay.now }
+    ensures within { result ≤ length hay.now }
+    ensures lacks { LacksPair first second hay.now result }
+{
+    for k in 0..(hay.len() + 126) / 128 {
+        // The last block overlaps the one before, so that each has the same length.
+        let at = (128 * k).min(hay.len() - 129);
+        if has_pair(&hay[at..at + 129], first, second) {
+            return at;
+        }
+    }
+    hay.len() - 1
+}
+
+/// Whether the two bytes stand together at one of the first 128 places.
+#[inline(always)]
+fn has_pair(block: &[u8], first: u8, second: u8) -> bool
+    requires { 129 ≤ length block.now }
+    ensures { OnFalse result (LacksPair first second block.now 128) }
+{
+    has_byte(block, first) && stand_together(block, first, second)
+}
+
+// No early exit: of a loop whose length is known the compiler makes vectors.
+#[inline(always)]
+fn has_byte(block: &[u8], byte: u8) -> bool
+    requires { 128 ≤ length block.now }
+    ensures { OnFalse result ((p : ℕ) → p < 128 → ¬ (slice_index block.now p ≡ byte)) }
+{
+    let mut any = false;
+    for i in 0..128 {
+        any |= block[i] == byte;
+    }
+    any
+}
+
+#[inline(always)]
+fn stand_together(block: &[u8], first: u8, second: u8) -> bool
+    requires { 129 ≤ length block.now }
+    ensures { OnFalse result (LacksPair first second block.now 128) }
+{
+    let mut any = false;
+    for i in 0..128 {
+        any |= (block[i] == first) & (block[i + 1] == second);
+    }
+    any
+}

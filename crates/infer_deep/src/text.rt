@@ -1,0 +1,191 @@
+//! Text that begins with markup.
+ghost use Rattle.std.specs.Prelude.{◌≡◌, ◌↔◌, ◌⊎◌, ◌<◌, ◌≤◌, map, slice_index, Any, IsTrue, MatchOption};
+ghost use Rattle.std.specs.Bool.{OnTrue};
+ghost use Rattle.infer_deep.specs.Blocks.{AllBelow};
+ghost use Rattle.infer_deep.specs.Joined.{BeginsWith, LeadsTo, NoneBegins, SkipsTo};
+ghost use Rattle.infer_deep.specs.Text.{BeginsInAnyCase, BeginsWithTag, IsHtml, IsMark, IsSpace, IsWhite, IsXml};
+
+use crate::places::stands_at;
+
+const TAGS: [&[u8]; 17] = [
+    b"<!DOCTYPE HTML",
+    b"<HTML",
+    b"<HEAD",
+    b"<SCRIPT",
+    b"<IFRAME",
+    b"<H1",
+    b"<DIV",
+    b"<FONT",
+    b"<TABLE",
+    b"<A",
+    b"<STYLE",
+    b"<TITLE",
+    b"<B",
+    b"<BODY",
+    b"<BR",
+    b"<P",
+    b"<!--",
+];
+
+/// HTML: any white space (09 0A 0C 0D 20), then one of 17 tags in any ASCII case, then a space or ">".
+///
+/// That this meets the WHATWG sniffing standard is not claimed.
+pub fn is_html(buf: &[u8]) -> bool
+    ensures { IsTrue result ↔ IsHtml buf.now }
+{
+    let text = trim_start_whitespaces(buf);
+    if !opens_tag(text) {
+        return false;
+    }
+    begins_with_some_tag(text, &TAGS)
+}
+
+/// XML: any white space (09 0A 0C 0D 20), then any byte order marks (EF BB BF, FE FF, FF FE), then "<?xml" in any
+/// ASCII case.
+///
+/// The marks are only passed over, so XML in UTF-16 is not found. That this meets the WHATWG sniffing standard is
+/// not claimed.
+pub fn is_xml(buf: &[u8]) -> bool
+    ensures { IsTrue result ↔ IsXml buf.now }
+{
+    let text = trim_start_byte_order_marks(trim_start_whitespaces(buf));
+    begins_in_any_case(text, b"<?xml")
+}
+
+#[inline(always)]
+fn opens_tag(text: &[u8]) -> bool
+    ensures { IsTrue result ↔ (slice_index text.now 0 ≡ 0x3C) }
+{
+    !text.is_empty() && text[0] == b'<'
+}
+
+fn trim_start_whitespaces(buf: &[u8]) -> &[u8]
+    ensures skips { SkipsTo IsSpace buf.now result.now }
+    ensures stops { NoneBegins IsSpace result.now }
+{
+    // Most text begins with little white space, for which whole blocks do not pay.
+    if buf.len() < 16 || !is_white(buf[15]) {
+        return after_spaces(buf);
+    }
+    after_spaces(after_white_blocks::<16>(after_white_blocks::<64>(buf)))
+}
+
+/// What follows the blocks of `N` white bytes at the front of `buf`.
+#[inline(always)]
+fn after_white_blocks<const N: usize>(mut buf: &[u8]) -> &[u8]
+    requires some { 0 < N }
+    requires small { N ≤ 64 }
+    ensures { LeadsTo IsSpace buf.entry.now result.now }
+{
+    while let Some((block, rest)) = buf.split_first_chunk::<N>() {
+        if !all_white(block) {
+            break;
+        }
+        buf = rest;
+    }
+    buf
+}
+
+// No early exit: of a loop whose length is known the compiler makes vectors.
+#[inline(always)]
+fn all_white<const N: usize>(block: &[u8; N]) -> bool
+    requires { N ≤ 64 }
+    ensures { OnTrue result (AllBelow IsWhite block.now N) }
+{
+    let mut all = true;
+    for byte in block {
+        all &= is_white(*byte);
+    }
+    all
+}
+
+fn after_spaces(mut buf: &[u8]) -> &[u8]
+    ensures skips { SkipsTo IsSpace buf.entry.now result.now }
+    ensures stops { NoneBegins IsSpace result.now }
+{
+    while let Some(rest) = after_space(buf) {
+        buf = rest;
+    }
+    buf
+}
+
+fn after_space(buf: &[u8]) -> Option<&[u8]>
+    ensures { MatchOption result (NoneBegins IsSpace buf.now) (λ rest. BeginsWith IsSpace buf.now rest.now) }
+{
+    if buf.is_empty() || !is_white(buf[0]) {
+        return None;
+    }
+    Some(&buf[1..])
+}
+
+// Without branches, so that many bytes are tested at once.
+#[inline(always)]
+fn is_white(byte: u8) -> bool
+    ensures { IsTrue result ↔ IsWhite byte }
+{
+    (byte == b' ') | ((byte >= b'\t') & (byte <= b'\r') & (byte != 0x0B))
+}
+
+fn trim_start_byte_order_marks(mut buf: &[u8]) -> &[u8]
+    ensures skips { SkipsTo IsMark buf.entry.now result.now }
+    ensures stops { NoneBegins IsMark result.now }
+{
+    while let Some(rest) = after_mark(buf) {
+        buf = rest;
+    }
+    buf
+}
+
+fn after_mark(buf: &[u8]) -> Option<&[u8]>
+    ensures { MatchOption result (NoneBegins IsMark buf.now) (λ rest. BeginsWith IsMark buf.now rest.now) }
+{
+    if stands_at(buf, b"\xEF\xBB\xBF", 0) {
+        return Some(&buf[3..]);
+    }
+    if stands_at(buf, b"\xFE\xFF", 0) || stands_at(buf, b"\xFF\xFE", 0) {
+        return Some(&buf[2..]);
+    }
+    None
+}
+
+fn begins_with_some_tag(buf: &[u8], tags: &[&[u8]]) -> bool
+    ensures { IsTrue result ↔ Any (λ tag. BeginsWithTag tag buf.now) (map (λ t. t.now) tags.now) }
+{
+    tags.iter().any(|tag| begins_with_tag(buf, tag))
+}
+
+fn begins_with_tag(buf: &[u8], tag: &[u8]) -> bool
+    ensures { IsTrue result ↔ BeginsWithTag tag.now buf.now }
+{
+    if buf.len() <= tag.len() || !closes_tag(buf[tag.len()]) {
+        return false;
+    }
+    begins_in_any_case(buf, tag)
+}
+
+fn closes_tag(byte: u8) -> bool
+    ensures { IsTrue result ↔ ((byte ≡ 0x20) ⊎ (byte ≡ 0x3E)) }
+{
+    matches!(byte, b' ' | b'>')
+}
+
+fn begins_in_any_case(buf: &[u8], text: &[u8]) -> bool
+    ensures { IsTrue result ↔ BeginsInAnyCase text.now buf.now }
+{
+    buf.len() >= text.len() && buf[..text.len()].eq_ignore_ascii_case(text)
+}
+
+#[cfg(test)]
+mod tests {
+    use super::*;
+
+    #[test]
+    fn white_space_is_trimmed(rt: HostRuntime) {
+        assert_eq!(rt;
+            trim_start_whitespaces(b"\x09\x0A\x0C\x0D\x20ABC"),
+            b"ABC".as_slice()
+        );
+        assert_eq!(rt; trim_start_whitespaces(b"abc"), b"abc".as_slice());
+        assert_eq!(rt; trim_start_whitespaces(b""), b"".as_slice());
+    }
+}
