@@ -1,2 +1,3 @@
 mod added;
+mod positions;
 mod types;

@@ -1,0 +1,183 @@
+//! The numbers of first rows, on worked buffers.
+use crate::{MatcherType, app, archive, get, is, is_archive, is_audio, is_book, is_image, is_mime};
+use crate::{is_mime_supported, is_supported, position, row};
+use std::alloc::{AllocError, Global};
+use std::test::Fail;
+
+/// A buffer of `len` bytes, zeros but for the texts at their places.
+fn zeros_but(alloc: Global, len: usize, texts: &[(usize, &[u8])]) -> Result<Vec<u8>, AllocError> {
+    let mut buf = vec![in alloc; 0u8; len]?;
+    for (place, text) in texts {
+        let end = place.saturating_add(text.len()).min(len);
+        let start = (*place).min(end);
+        let count = end - start;
+        if count <= text.len() {
+            buf.as_mut_slice()[start..end].copy_from_slice(&text[..count]);
+        }
+    }
+    Ok(buf)
+}
+
+const ZIP: &[u8] = b"PK\x03\x04";
+
+const EBML: &[u8] = b"\x1A\x45\xDF\xA3";
+
+const MKV: &[u8] = b"\x42\x82\x88matroska";
+
+const COMPOUND: &[u8] = b"\xD0\xCF\x11\xE0\xA1\xB1\x1A\xE1";
+
+const WORD_ID: &[u8] = b"\x06\x09\x02\x00\x00\x00\x00\x00\xC0\x00\x00\x00\x00\x00\x00\x46";
+
+type Case<'a> = (usize, &'a [(usize, &'a [u8])], Option<usize>);
+
+#[test]
+fn short_buffers(rt: HostRuntime) {
+    let cases: [(&[u8], Option<usize>); 37] = [
+        (b"", None),
+        (b"\xFF\xD8\xFF\xAA", Some(15)),
+        (b"MZ", Some(2)),
+        (b"\xCA\xFE\xBA\xBE\0\0\0\x02", Some(6)),
+        (b"\xCA\xFE\xBA\xBE\0\0\0\x2D", Some(4)),
+        (b"\xCA\xFE\xBA\xBE\0\x2D\0\0", None),
+        (b"II*\0\0\0\0\0\0R", None),
+        (b"II*\0\0\0\0\0\0\0", Some(21)),
+        (b"070701", None),
+        (b"070701\0", Some(94)),
+        (b"#!", None),
+        (b"#!AMR\n", Some(97)),
+        (b"#!AMR\n\0\0\0\0\0\0", Some(48)),
+        (b"!<arch>", Some(86)),
+        (b"!<arch>\ndebian-binary", Some(85)),
+        (b"BZh", Some(72)),
+        (b"BZ3v", None),
+        (b"BZ3v1", Some(73)),
+        (b"\0\0\0\0\0\0\0\0\0\0\0\0mdat", Some(36)),
+        (b"\x00\x02\x00", Some(10)),
+        (b"\x4C\x01", None),
+        (b"\x4C\x01\x00", Some(10)),
+        (b"\x50\x2A\x4D\x18\x01\0\0\0\0\x28\xB5\x2F\xFD", Some(91)),
+        (b"\x50\x2A\x4D\x18\x01\0\0\0\0\x28\xB5\x2F", None),
+        (b"\x50\x2A\x4D\x18\xFF\xFF\xFF\xFF", None),
+        (
+            b"\x5F\x2A\x4D\x18\0\0\0\0\x50\x2A\x4D\x18\x02\0\0\0\xAA\xBB\x04\x22\x4D\x18",
+            Some(92),
+        ),
+        (
+            b"\x60\x2A\x4D\x18\0\0\0\0\x50\x2A\x4D\x18\x02\0\0\0\xAA\xBB\x04\x22\x4D\x18",
+            None,
+        ),
+        (b"\0\0\0\x18ftypmif1\0\0\0\0mif1heic", Some(26)),
+        (b"\0\0\0\x14ftypmif1\0\0\0\0mif1heic", None),
+        (b"\0\0\0\x19ftypmif1\0\0\0\0mif1heic", None),
+        (b"\0\0\0\x19ftypmif1\0\0\0\0mif1heic\0", Some(26)),
+        (b"\0\0\0\x08ftypavif\0\0\0\0", Some(27)),
+        (b"\0\0\0\x14ftypheic\0\0\0\0avif", Some(26)),
+        (b"\xFF\xFE<?xml", Some(96)),
+        (b"<!-->", Some(95)),
+        (b"<A\t", None),
+        (b"P\0\0\0\0\0\0\0WEBP", Some(19)),
+    ];
+    for (i, (buf, expected)) in cases.iter().enumerate() {
+        assert_eq!(rt; position(*buf), *expected, "case {i}");
+    }
+}
+
+#[test]
+fn long_buffers(rt: HostRuntime) -> Result<(), Fail> {
+    let cases: [Case; 17] = [
+        (36, &[(0, b"OggS"), (28, b"OpusHead")], Some(44)),
+        (35, &[(0, b"OggS"), (28, b"OpusHead")], Some(45)),
+        (100, &[(0, b"dey\n"), (40, b"dex\n"), (76, b"p")], None),
+        (101, &[(0, b"dey\n"), (40, b"dex\n"), (76, b"p")], Some(8)),
+        (257, &[(0, EBML), (245, MKV)], Some(34)),
+        (257, &[(0, EBML), (246, MKV)], None),
+        (604, &[(600, b"%PDF")], Some(76)),
+        (1024, &[(1020, b"%PDF")], Some(76)),
+        (1025, &[(1021, b"%PDF")], None),
+        (1028, &[(0, b"\0\0\x04\x04ftypheic")], Some(26)),
+        (1024, &[(0, b"\0\0\x04\x04ftypheic")], None),
+        (
+            640,
+            &[(0, COMPOUND), (26, b"\x03\0\xFE\xFF\x09"), (578, b"\x05"), (592, WORD_ID)],
+            Some(57),
+        ),
+        (
+            639,
+            &[(0, COMPOUND), (26, b"\x03\0\xFE\xFF\x09"), (578, b"\x05"), (592, WORD_ID)],
+            Some(93),
+        ),
+        (34, &[(0, ZIP), (30, b"word")], Some(67)),
+        (35, &[(0, ZIP), (30, b"word/")], Some(58)),
+        (58, &[(0, ZIP), (30, b"mimetypeapplication/epub+zip")], Some(13)),
+        (262, &[(0, b"<P>"), (257, b"ustar")], Some(68)),
+    ];
+    for (i, (len, texts, expected)) in cases.iter().enumerate() {
+        let buf = zeros_but(rt.alloc(), *len, *texts)?;
+        assert_eq!(rt; position(buf.as_slice()), *expected, "case {i}");
+    }
+    Ok(())
+}
+
+#[test]
+fn office_headers(rt: HostRuntime) -> Result<(), Fail> {
+    let names: (usize, &[u8]) = (30, b"[Content_Types].xml");
+    for (gap, expected) in [(0usize, Some(58usize)), (5996, Some(58)), (5997, Some(67))] {
+        let texts = [
+            (0, ZIP),
+            names,
+            (49 + gap, ZIP),
+            (79 + gap, ZIP),
+            (109 + gap, b"xl/".as_slice()),
+            (135 + gap, ZIP),
+            (165 + gap, b"word/".as_slice()),
+        ];
+        let buf = zeros_but(rt.alloc(), 170 + gap, &texts)?;
+        assert_eq!(rt; position(buf.as_slice()), expected, "{gap} bytes put in");
+        let (whole, _) = buf.as_slice().split_at(buf.len() - 1);
+        assert_eq!(rt; position(whole), Some(67), "{gap} bytes put in, one cut off");
+    }
+    Ok(())
+}
+
+#[test]
+fn questions_about_rows(rt: HostRuntime) -> Result<(), Fail> {
+    assert!(rt; is(b"MZ", "exe") && is(b"MZ", "dll") && !is(b"MZ", "EXE"));
+    assert!(rt; app::is_dll(b"MZ"));
+    assert!(rt; is_audio(b"\xFF\xFB\x90\x44\x00"));
+    assert!(rt; is_image(b"\xFF\xD8\xFF\xAA"));
+    assert!(rt; is(b"\0\0\0\x14ftypheic\0\0\0\0avif", "avif"));
+    let epub = zeros_but(
+        rt.alloc(),
+        58,
+        &[(0, ZIP), (30, b"mimetypeapplication/epub+zip")],
+    )?;
+    let epub = epub.as_slice();
+    assert_eq!(rt; get(epub).ok_or("known")?.matcher_type(), MatcherType::Book);
+    assert!(rt; is_archive(epub) && is_book(epub) && is(epub, "zip"));
+    assert!(rt; archive::is_epub(epub));
+    assert!(rt; row(13) != row(66));
+    for (extension, expected) in [("midi", true), ("jpg", true), ("mid", false)] {
+        assert_eq!(rt; is_supported(extension), expected);
+    }
+    for (mime_type, expected) in [
+        ("application/x-llvm", true),
+        ("image/jpeg", true),
+        ("application/llvm", false),
+    ] {
+        assert_eq!(rt; is_mime_supported(mime_type), expected);
+    }
+    assert!(rt; is_mime(b"BC", "application/x-llvm"));
+    let shell = row(97).ok_or("a row")?;
+    assert_eq!(rt; shell.matcher_type(), MatcherType::Text);
+    assert_eq!(rt; shell.mime_type(), "text/x-shellscript");
+    assert_eq!(rt; shell.extension(), "sh");
+    assert_eq!(rt; row(98), None);
+    Ok(())
+}
+
+#[test]
+fn matchers_without_a_row(rt: HostRuntime) {
+    assert!(rt; app::is_coff_i386(b"\x4C\x01\x00") && !app::is_coff_i386(b"\x4C\x01"));
+    assert!(rt; app::is_coff_x64(b"\x64\x86\x00") && !app::is_coff_x64(b"\x4C\x01\x00"));
+    assert!(rt; app::is_coff_ia64(b"\x00\x02\x00") && !app::is_coff_ia64(b"\x02\x00\x00"));
+}

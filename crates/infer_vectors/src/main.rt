@@ -1,0 +1,134 @@
+//! Compares the rows and the answers of `infer` with data from outside, and prints each line that differs.
+#![tactic(auto)]
+
+use anyhow::{Context, Result};
+use std::alloc::Global;
+use std::fs;
+use std::rt::Files;
+
+/// How many lines were compared, and how many of them differ.
+#[derive(Clone, Copy)]
+struct Tally {
+    compared: u32,
+    differing: u32,
+}
+
+impl Tally {
+    const NONE: Tally = Tally {
+        compared: 0,
+        differing: 0,
+    };
+
+    fn add(&mut self, is_same: bool) {
+        self.compared = self.compared.saturating_add(1);
+        if !is_same {
+            self.differing = self.differing.saturating_add(1);
+        }
+    }
+}
+
+/// The token's bytes, as often as its count says.
+fn append(buf: &mut Vec<u8>, alloc: Global, token: &str) -> Result<()> {
+    let (digits, count) = match token.split_once('*') {
+        Some((digits, count)) => (digits, count.parse::<u32>()?),
+        None => (token, 1),
+    };
+    let bytes = hex::decode(alloc, digits)?;
+    for _ in 0..count {
+        buf.extend_from_slice(bytes.as_slice())?;
+    }
+    Ok(())
+}
+
+/// The buffer that a line writes as tokens.
+fn decode(alloc: Global, tokens: &str) -> Result<Vec<u8>> {
+    let mut buf = Vec::new(alloc);
+    if tokens == "-" {
+        return Ok(buf);
+    }
+    for token in tokens.split(' ') {
+        append(&mut buf, alloc, token)?;
+    }
+    Ok(buf)
+}
+
+/// Whether `position`, `get` and the questions about the expected row answer what the line says.
+fn is_same(buf: &[u8], expected: Option<usize>) -> bool {
+    if infer::position(buf) != expected {
+        return false;
+    }
+    match expected.and_then(infer::row) {
+        Some(row) => {
+            infer::get(buf) == Some(row)
+                && infer::is(buf, row.extension())
+                && infer::is_mime(buf, row.mime_type())
+        }
+        None => infer::get(buf).is_none(),
+    }
+}
+
+fn compare_buffers(rt: &(impl Print + AllocGlobal), text: &str) -> Result<Tally> {
+    let mut tally = Tally::NONE;
+    for line in text.lines() {
+        let fields: Vec<&str> = line.split('\t').collect(rt.alloc())?;
+        let [name, number, _, tokens] = fields.as_slice() else {
+            println!(rt; "not four columns: {line}")?;
+            tally.add(false);
+            continue;
+        };
+        let expected = number.parse::<usize>().ok();
+        let buf = decode(rt.alloc(), *tokens).context(format_args!("{name}"))?;
+        let same = is_same(buf.as_slice(), expected);
+        if !same {
+            println!(rt; "{name}: row {number} is expected")?;
+        }
+        tally.add(same);
+    }
+    Ok(tally)
+}
+
+/// Whether the row has the number, class, MIME type and extension that the line says.
+fn is_row(alloc: Global, fields: &[&str]) -> Result<bool> {
+    let [number, class, mime_type, extension] = fields else {
+        return Ok(false);
+    };
+    let Some(row) = infer::row(number.parse::<usize>()?) else {
+        return Ok(false);
+    };
+    let found = row.matcher_type();
+    let shown = format!(in alloc; "{found:?}")?;
+    Ok(shown.as_str() == *class && row.mime_type() == *mime_type && row.extension() == *extension)
+}
+
+fn compare_rows(rt: &(impl Print + AllocGlobal), text: &str) -> Result<Tally> {
+    let mut tally = Tally::NONE;
+    for line in text.lines() {
+        let fields: Vec<&str> = line.split('\t').collect(rt.alloc())?;
+        let same = is_row(rt.alloc(), fields.as_slice())?;
+        if !same {
+            println!(rt; "another row: {line}")?;
+        }
+        tally.add(same);
+    }
+    Ok(tally)
+}
+
+fn run(rt: &(impl Files + Print + AllocGlobal)) -> Result<()> {
+    let rows = fs::read_to_string(rt, "rows.tsv").context("rows.tsv")?;
+    let Tally {
+        compared,
+        differing,
+    } = compare_rows(rt, rows.as_str())?;
+    println!(rt; "{compared} rows compared, {differing} differ")?;
+    let vectors = fs::read_to_string(rt, "vectors.tsv").context("vectors.tsv")?;
+    let Tally {
+        compared,
+        differing,
+    } = compare_buffers(rt, vectors.as_str())?;
+    println!(rt; "{compared} buffers compared, {differing} differ")?;
+    Ok(())
+}
+
+fn main(rt: HostRuntime) -> Result<()> {
+    run(&rt)
+}
