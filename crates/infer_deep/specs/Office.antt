@@ -21,8 +21,8 @@ abbrev pub HasOfficeName : List ℕ → Type 0
 HasOfficeName b =
     OccursAt b (codes "[Content_Types].xml") 30 ⊎ OccursAt b (codes "_rels/.rels") 30 ⊎ OccursAt b (codes "docProps") 30
 
--- the third header stands at `third`, and a folder of Office in it: the second is the least behind the size that
--- the first states at 18, and the third is the least behind the second
+-- the third header stands at `third`, and a folder of Office 30 past it: the second header is the least from 49
+-- past the size on that the first states at 18, and the third the least from 30 past the second on
 pub record IsThirdHeader (b : List ℕ) (third : ℕ) : Type 0 where
   pub second : ℕ
   pub start_fits : le32 b 18 + 49 ≤ 0xFFFFFFFF
@@ -30,14 +30,14 @@ pub record IsThirdHeader (b : List ℕ) (third : ℕ) : Type 0 where
   pub third_found : IsHeaderFrom b (second + 30) third
   pub folder : HasFolder b (third + 30)
 
--- the fourth header stands at `fourth`: the least behind the third
+-- the fourth header stands at `fourth`, the least from 56 past the third on
 pub record IsFourthHeader (b : List ℕ) (fourth : ℕ) : Type 0 where
   pub third : ℕ
   pub third_found : IsThirdHeader b third
   pub fourth_found : IsHeaderFrom b (third + 56) fourth
 
 -- b begins as a ZIP archive, and p is the place of the folder that decides: 30 where a folder stands there, and
--- otherwise, behind a name of Office, the place in the fourth header
+-- otherwise, behind a name of Office, 30 past the fourth header
 abbrev pub IsDecidingPlace : List ℕ → ℕ → Type 0
 IsDecidingPlace b p =
     OccursAt b zip_header 0
