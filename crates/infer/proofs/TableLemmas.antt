@@ -1,11 +1,13 @@
 -- The table's length, and that its triples differ.
-use Rattle.std.proofs.Common.{◌≡◌, ◌≢◌, ◌<◌, ℕ, zero, suc, Bool, true, false, ◌&&◌, ◌||◌, not, List, [], ◌∷◌, map, length, get_or, refl, sym, subst, arith, IsTrue, nat_eq, eq-eqb, ◌↔◌, ◌≤◌, Option, None, Some, IsNone}
+use Rattle.std.proofs.Common.{◌≡◌, ◌≢◌, ◌<◌, ℕ, zero, suc, Bool, true, false, ◌&&◌, ◌||◌, not, List, [], ◌∷◌, map, length, get_or, refl, sym, subst, arith, IsTrue, nat_eq, eq-eqb, ◌↔◌, ◌≤◌, Option, None, Some, IsNone, IfSome}
 use Rattle.std.specs.List.{AllPairs, list_any, slice_get}
 use Rattle.std.specs.Option.{option_map}
 use Rattle.std.proofs.lemmas.Option.{none-some}
 use Rattle.std.specs.Str.{bytes_eq}
 use Rattle.std.proofs.lemmas.Bool.{and_parts, and_from}
-use Rattle.infer.specs.Row.{shows}
+use Rattle.infer.specs.BuiltIn.{BuiltIn}
+use Rattle.infer.specs.First.{IsFirstOf}
+use Rattle.infer.specs.Row.{Row, shows}
 use Rattle.infer.specs.Table.{table}
 use Rattle.infer.specs.Triple.{Triple, triple_of}
 use Rattle.infer.specs.declared.file_type.FileType.{FileType}
@@ -83,3 +85,7 @@ none_past f (x ∷ xs) (Some t) zero e = (λ h. absurd (cc), λ h. absurd (omega
 none_past f (x ∷ xs) r (suc i) e =
     let rest = none_past f xs r i e in
     (λ h. let le = rest.0 h in omega arith, λ h. rest.1 (omega arith))
+
+pub first_within : (P : Row BuiltIn → Type 0) (o : Option ℕ) → IsFirstOf P table o → IfSome o (λ i. i < 98)
+first_within P None first = tt
+first_within P (Some i) first = let lt = first.within in let n = length-table in omega arith

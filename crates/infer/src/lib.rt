@@ -4,7 +4,7 @@
 //! that its caller added before the built-in ones. No question takes memory, reads a file or can refuse.
 #![tactic(auto)]
 
-ghost use Rattle.std.specs.Prelude.{◌≡◌, ◌↔◌, ◌≤◌, IsNone, IsTrue, option_map, slice_get};
+ghost use Rattle.std.specs.Prelude.{◌≡◌, ◌↔◌, ◌<◌, ◌≤◌, IfSome, IsNone, IsTrue, option_map, slice_get};
 ghost use Rattle.infer.specs.First.{IsAnswer, IsFirstOf, SomeHas};
 ghost use Rattle.infer.specs.Questions.{HasClass, HasExtension, HasMimeType, SomeBoth};
 ghost use Rattle.infer.specs.Row.{Accepts, shows};
@@ -45,7 +45,8 @@ pub fn get(buf: &[u8]) -> Option<Type>
 
 /// The number of the first built-in row that accepts `buf`, from 0 to 97, and `None` exactly where no row accepts it.
 pub fn position(buf: &[u8]) -> Option<usize>
-    ensures { IsFirstOf (Accepts buf.now) table result }
+    ensures first { IsFirstOf (Accepts buf.now) table result }
+    ensures bound { IfSome result (λ i. i < 98) }
 {
     map::position(buf)
 }

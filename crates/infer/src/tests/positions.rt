@@ -1,20 +1,19 @@
 //! The numbers of first rows, on worked buffers.
-use crate::{MatcherType, app, archive, get, is, is_archive, is_audio, is_book, is_image, is_mime};
-use crate::{is_mime_supported, is_supported, position, row};
+use crate::{
+    MatcherType, app, archive, get, is, is_archive, is_audio, is_book, is_image, is_mime,
+    is_mime_supported, is_supported, position, row,
+};
 use std::alloc::{AllocError, Global};
 use std::test::Fail;
 
-/// A buffer of `len` bytes, zeros but for the texts at their places.
+/// A buffer of `len` bytes, zeros but for the texts at their places, which ascend.
 fn zeros_but(alloc: Global, len: usize, texts: &[(usize, &[u8])]) -> Result<Vec<u8>, AllocError> {
-    let mut buf = vec![in alloc; 0u8; len]?;
+    let mut buf = Vec::new(alloc);
     for (place, text) in texts {
-        let end = place.saturating_add(text.len()).min(len);
-        let start = (*place).min(end);
-        let count = end - start;
-        if count <= text.len() {
-            buf.as_mut_slice()[start..end].copy_from_slice(&text[..count]);
-        }
+        buf.resize(*place, 0)?;
+        buf.extend_from_slice(*text)?;
     }
+    buf.resize(len, 0)?;
     Ok(buf)
 }
 
@@ -98,17 +97,31 @@ fn long_buffers(rt: HostRuntime) -> Result<(), Fail> {
         (1024, &[(0, b"\0\0\x04\x04ftypheic")], None),
         (
             640,
-            &[(0, COMPOUND), (26, b"\x03\0\xFE\xFF\x09"), (578, b"\x05"), (592, WORD_ID)],
+            &[
+                (0, COMPOUND),
+                (26, b"\x03\0\xFE\xFF\x09"),
+                (578, b"\x05"),
+                (592, WORD_ID),
+            ],
             Some(57),
         ),
         (
             639,
-            &[(0, COMPOUND), (26, b"\x03\0\xFE\xFF\x09"), (578, b"\x05"), (592, WORD_ID)],
+            &[
+                (0, COMPOUND),
+                (26, b"\x03\0\xFE\xFF\x09"),
+                (578, b"\x05"),
+                (592, WORD_ID),
+            ],
             Some(93),
         ),
         (34, &[(0, ZIP), (30, b"word")], Some(67)),
         (35, &[(0, ZIP), (30, b"word/")], Some(58)),
-        (58, &[(0, ZIP), (30, b"mimetypeapplication/epub+zip")], Some(13)),
+        (
+            58,
+            &[(0, ZIP), (30, b"mimetypeapplication/epub+zip")],
+            Some(13),
+        ),
         (262, &[(0, b"<P>"), (257, b"ustar")], Some(68)),
     ];
     for (i, (len, texts, expected)) in cases.iter().enumerate() {
@@ -134,7 +147,11 @@ fn office_headers(rt: HostRuntime) -> Result<(), Fail> {
         let buf = zeros_but(rt.alloc(), 170 + gap, &texts)?;
         assert_eq!(rt; position(buf.as_slice()), expected, "{gap} bytes put in");
         let (whole, _) = buf.as_slice().split_at(buf.len() - 1);
-        assert_eq!(rt; position(whole), Some(67), "{gap} bytes put in, one cut off");
+        assert_eq!(rt;
+            position(whole),
+            Some(67),
+            "{gap} bytes put in, one cut off"
+        );
     }
     Ok(())
 }
