@@ -131,26 +131,32 @@ fn long_buffers(rt: HostRuntime) -> Result<(), Fail> {
     Ok(())
 }
 
+/// A first entry with a name of Office, a second, a third with "xl/" and a fourth with "word/", where `gap` zeros
+/// stand before the second.
+fn office(alloc: Global, gap: usize) -> Result<Vec<u8>, AllocError> {
+    let mut buf = zeros_but(alloc, 49, &[(0, ZIP), (30, b"[Content_Types].xml")])?;
+    buf.extend_from_slice(vec![in alloc; 0u8; gap]?.as_slice())?;
+    let entries: [(usize, &[u8]); 5] = [
+        (0, ZIP),
+        (30, ZIP),
+        (60, b"xl/"),
+        (86, ZIP),
+        (116, b"word/"),
+    ];
+    buf.extend_from_slice(zeros_but(alloc, 121, &entries)?.as_slice())?;
+    Ok(buf)
+}
+
 #[test]
 fn office_headers(rt: HostRuntime) -> Result<(), Fail> {
-    let names: (usize, &[u8]) = (30, b"[Content_Types].xml");
-    for (gap, expected) in [(0usize, Some(58usize)), (5996, Some(58)), (5997, Some(67))] {
-        let texts = [
-            (0, ZIP),
-            names,
-            (49 + gap, ZIP),
-            (79 + gap, ZIP),
-            (109 + gap, b"xl/".as_slice()),
-            (135 + gap, ZIP),
-            (165 + gap, b"word/".as_slice()),
-        ];
-        let buf = zeros_but(rt.alloc(), 170 + gap, &texts)?;
-        assert_eq!(rt; position(buf.as_slice()), expected, "{gap} bytes put in");
-        let (whole, _) = buf.as_slice().split_at(buf.len() - 1);
+    for (gap, expected) in [(0, 58), (5996, 58), (5997, 67)] {
+        let mut buf = office(rt.alloc(), gap)?;
+        assert_eq!(rt; position(buf.as_slice()), Some(expected), "{gap} zeros");
+        let _last = buf.pop();
         assert_eq!(rt;
-            position(whole),
+            position(buf.as_slice()),
             Some(67),
-            "{gap} bytes put in, one cut off"
+            "{gap} zeros, one byte less"
         );
     }
     Ok(())
