@@ -81,6 +81,7 @@ impl FileType {
     ghost use Rattle.infer.specs.Triple.{triple_of};
 
     // Whether it is one that is asked for.
+    #[inline(always)]
     pub(crate) fn fits(&self, wanted: Wanted) -> bool
         ensures { IsTrue result ↔ Fits wanted.entry (triple_of self.now) }
     {

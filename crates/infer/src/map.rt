@@ -141,6 +141,15 @@ impl BuiltInRow {
         self.format.accepts(buf)
     }
 
+    // The same behind a call, so that the many loops of the questions stay short.
+    #[inline(never)]
+    fn accepts_by_call(&self, buf: &[u8]) -> bool
+        ensures { IsTrue result ↔ Accepts buf.now (row_seen self.now) }
+    {
+        self.accepts(buf)
+    }
+
+    #[inline(always)]
     fn fits(&self, wanted: Wanted) -> bool
         ensures { IsTrue result ↔ IsWanted wanted.entry (row_seen self.now) }
     {
@@ -181,12 +190,14 @@ pub fn get(buf: &[u8]) -> Option<FileType>
     row(position(buf)?)
 }
 
-// Whether some built-in row that is wanted accepts the buffer.
+// Whether some built-in row that is wanted accepts the buffer. Each question makes a loop of its own of it, in
+// which what is wanted is settled.
+#[inline(always)]
 pub fn some(wanted: Wanted, buf: &[u8]) -> bool
     ensures { IsTrue result ↔ SomeBoth (IsWanted wanted.entry) (Accepts buf.now) table }
 {
     for row in rows() {
-        if row.fits(wanted) && row.accepts(buf) {
+        if row.fits(wanted) && row.accepts_by_call(buf) {
             return true;
         }
     }
@@ -194,6 +205,7 @@ pub fn some(wanted: Wanted, buf: &[u8]) -> bool
 }
 
 // Whether some built-in row is wanted.
+#[inline(always)]
 pub fn has(wanted: Wanted) -> bool
     ensures { IsTrue result ↔ SomeHas (IsWanted wanted.entry) table }
 {

@@ -6,10 +6,10 @@ use Rattle.infer.specs.Table.{table}
 use Rattle.infer.proofs.ListLemmas.{some_read, none_read, not_some}
 use Rattle.infer.proofs.map.some.Goals as goal
 
-pub returns-then-accepts : goal.returns-then-accepts
-returns-then-accepts c = (
+pub returns-then-accepts_by_call : goal.returns-then-accepts_by_call
+returns-then-accepts_by_call c = (
   λ _. some_read row_seen (λ r. IsWanted c.args.wanted r × Accepts c.args.buf.now r) _ table c.rows-row-items.ensures
-      c.loop-row.row-index _ c.loop-row-test.true (c.if-fits.ensures.0 refl, c.if-accepts.ensures.0 refl),
+      c.loop-row.row-index _ c.loop-row-test.true (c.if-fits.ensures.0 refl, c.if-accepts_by_call.ensures.0 refl),
   λ _. refl,
 )
 
