@@ -1,3 +1,4 @@
 pub mod ListLemmas
 pub mod RowLemmas
 pub mod CallerLemmas
+pub mod HeadLemmas

@@ -12,3 +12,5 @@ pub mod Rows
 pub mod Format
 pub mod Table
 pub mod RowSeen
+pub mod Watched
+pub mod Fault

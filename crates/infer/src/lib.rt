@@ -12,6 +12,7 @@ ghost use Rattle.infer.specs.Table.{table};
 ghost use Rattle.infer.specs.Triple.{triple_of};
 
 mod custom;
+mod engine;
 mod fault;
 mod file_type;
 mod format;
@@ -21,10 +22,12 @@ pub mod laws;
 mod map;
 #[cfg(test)]
 mod tests;
+mod watched;
 
 pub use fault::Fault;
 pub use file_type::{FileType as Type, Matcher, MatcherType};
 pub use infer::Infer;
+pub use watched::Watched;
 
 use file_type::Wanted;
 
