@@ -2,3 +2,4 @@ pub mod ListLemmas
 pub mod RowLemmas
 pub mod CallerLemmas
 pub mod HeadLemmas
+pub mod BuiltInLemmas

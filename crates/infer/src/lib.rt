@@ -4,7 +4,7 @@
 //! that its caller added before the built-in ones. No question takes memory, reads a file or can refuse.
 #![tactic(auto)]
 
-ghost use Rattle.std.specs.Prelude.{◌↔◌, IsTrue, option_map};
+ghost use Rattle.std.specs.Prelude.{◌≤◌, ◌↔◌, ℕ, List, IfOk, IsTrue, length, option_map};
 ghost use Rattle.infer.specs.First.{IsAnswer, SomeHas};
 ghost use Rattle.infer.specs.Questions.{HasClass, HasExtension, HasMimeType, SomeBoth};
 ghost use Rattle.infer.specs.Row.{Accepts};
@@ -24,18 +24,35 @@ mod map;
 mod tests;
 mod watched;
 
+use engine::FRONT;
 pub use fault::Fault;
+use file_type::Wanted;
 pub use file_type::{FileType as Type, Matcher, MatcherType};
 pub use infer::Infer;
+use std::alloc::Allocator;
+use std::rt::Files;
 pub use watched::Watched;
-
-use file_type::Wanted;
 
 /// The type of the first built-in row that accepts `buf`, and `None` exactly where no row accepts it.
 pub fn get(buf: &[u8]) -> Option<Type>
     ensures { IsAnswer (Accepts buf.now) table (option_map triple_of result) }
 {
     map::get(buf)
+}
+
+/// The type of the first built-in row that accepts the first 8192 bytes of a file, or all where it has fewer, and
+/// `None` exactly where no row accepts them.
+///
+/// It opens the file, reserves 8192 bytes and reads, in this order, as [`Infer::get_from_path`] does.
+pub fn get_from_path<R: Files, A: Allocator>(
+    rt: &R,
+    alloc: A,
+    path: &str,
+) -> Result<Option<Type>, Fault>
+    ensures { IfOk result (λ found. (b : List ℕ) × (length b ≤ FRONT)
+        × IsAnswer (Accepts b) table (option_map triple_of found)) }
+{
+    Infer::new().get_from_path(rt, alloc, path)
 }
 
 /// Whether some built-in row with this extension accepts `buf`. Upper and lower case are apart.

@@ -1,2 +1,4 @@
 mod added;
+mod input;
+mod readers;
 mod types;
