@@ -1,5 +1,5 @@
 //! One line for one input.
-ghost use Rattle.std.specs.Prelude.{◌≡◌, ◌≢◌, IfOk, IfSome, OnErr, option_map};
+ghost use Rattle.std.specs.Prelude.{◌≡◌, ◌≢◌, ◌≤◌, ℕ, List, IfOk, IfSome, OnErr, length, option_map};
 ghost use Rattle.infer.specs.Buffer.{head};
 ghost use Rattle.infer.specs.First.{IsAnswer};
 ghost use Rattle.infer.specs.Row.{Accepts};
@@ -8,10 +8,10 @@ ghost use Rattle.infer.specs.Triple.{triple_of};
 ghost use Rattle.infer_tool.specs.Report.{Reports, ReportsTheOne};
 
 use crate::outcome::Outcome;
-use crate::read::answer_within;
-use infer::{Fault, Type};
+use infer::{Fault, Infer, Type, Watched, get_from_path};
 use std::alloc::Allocator;
 use std::io::{Read, Write};
+use std::rt::Files;
 
 /// How many bytes of an input are looked at.
 pub const FRONT: usize = 8192;
@@ -54,7 +54,7 @@ pub fn report<W: Write, E: Write>(
 pub fn run_reader<A: Allocator, R: Read + Drop, W: Write, E: Write>(
     alloc: A,
     name: &str,
-    mut reader: R,
+    reader: R,
     out: &mut W,
     err: &mut E,
 ) -> Outcome
@@ -62,6 +62,22 @@ pub fn run_reader<A: Allocator, R: Read + Drop, W: Write, E: Write>(
         ReportsTheOne result name.now (IsAnswer (Accepts (head FRONT s)) table) (W.contents out.old) (W.contents out.new)) }
     ensures silent { result ≢ Outcome.Failed → err.new ≡ err.old }
 {
-    let answer = answer_within(alloc, &mut reader, FRONT);
+    let mut watched = Watched::new(reader);
+    let answer = Infer::new().get_from_reader(alloc, &mut watched);
     report(name, answer, out, err)
+}
+
+/// Reads at most 8192 bytes of a file, and reports what they are, under its path.
+pub fn run_path<R: Files, A: Allocator, W: Write, E: Write>(
+    rt: &R,
+    alloc: A,
+    path: &str,
+    out: &mut W,
+    err: &mut E,
+) -> Outcome
+    ensures line { (b : List ℕ) × (length b ≤ FRONT)
+        × ReportsTheOne result path.now (IsAnswer (Accepts b) table) (W.contents out.old) (W.contents out.new) }
+    ensures silent { result ≢ Outcome.Failed → err.new ≡ err.old }
+{
+    report(path, get_from_path(rt, alloc, path), out, err)
 }
