@@ -1,12 +1,13 @@
 //! Prints the type of each file that it is given, or of standard input.
 #![tactic(auto)]
 
-ghost use Rattle.std.specs.Prelude.{◌≡◌, ◌≢◌, [], IfSome, codes};
+ghost use Rattle.std.specs.Prelude.{◌≡◌, ◌≢◌, [], IfSome, codes, map, string_bytes};
 ghost use Rattle.infer.specs.Buffer.{head};
 ghost use Rattle.infer.specs.First.{IsAnswer};
 ghost use Rattle.infer.specs.Row.{Accepts};
 ghost use Rattle.infer.specs.Table.{table};
 ghost use Rattle.infer_tool.specs.Report.{ReportsTheOne};
+ghost use Rattle.infer_tool.specs.Run.{ReportsEach};
 
 mod outcome;
 mod report;
@@ -40,6 +41,7 @@ pub fn run<R: Files, A: Allocator + Copy, I: Read + Drop, W: Write, E: Write>(
 ) -> Outcome
     ensures line { words.now ≡ [] → IfSome (I.remaining input) (λ s.
         ReportsTheOne result (codes "-") (IsAnswer (Accepts (head FRONT s)) table) (W.contents out.old) (W.contents out.new)) }
+    ensures each { words.now ≢ [] → ReportsEach FRONT (map string_bytes words.now) result (W.contents out.old) (W.contents out.new) }
     ensures silent { result ≢ Outcome.Failed → err.new ≡ err.old }
 {
     if words.is_empty() {

@@ -1,11 +1,12 @@
 //! One line for one input.
-ghost use Rattle.std.specs.Prelude.{◌≡◌, ◌≢◌, ◌≤◌, ℕ, List, IfOk, IfSome, OnErr, length, option_map};
+ghost use Rattle.std.specs.Prelude.{◌≡◌, ◌≢◌, IfOk, IfSome, OnErr, option_map};
 ghost use Rattle.infer.specs.Buffer.{head};
 ghost use Rattle.infer.specs.First.{IsAnswer};
 ghost use Rattle.infer.specs.Row.{Accepts};
 ghost use Rattle.infer.specs.Table.{table};
 ghost use Rattle.infer.specs.Triple.{triple_of};
 ghost use Rattle.infer_tool.specs.Report.{Reports, ReportsTheOne};
+ghost use Rattle.infer_tool.specs.Run.{ReportsSome};
 
 use crate::outcome::Outcome;
 use infer::{Fault, Infer, Type, Watched, get_from_path};
@@ -75,8 +76,7 @@ pub fn run_path<R: Files, A: Allocator, W: Write, E: Write>(
     out: &mut W,
     err: &mut E,
 ) -> Outcome
-    ensures line { (b : List ℕ) × (length b ≤ FRONT)
-        × ReportsTheOne result path.now (IsAnswer (Accepts b) table) (W.contents out.old) (W.contents out.new) }
+    ensures line { ReportsSome FRONT result path.now (W.contents out.old) (W.contents out.new) }
     ensures silent { result ≢ Outcome.Failed → err.new ≡ err.old }
 {
     report(path, get_from_path(rt, alloc, path), out, err)
