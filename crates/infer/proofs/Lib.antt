@@ -3,3 +3,5 @@ pub mod RowLemmas
 pub mod CallerLemmas
 pub mod TableLemmas
 pub mod LawLemmas
+pub mod HeadLemmas
+pub mod BuiltInLemmas

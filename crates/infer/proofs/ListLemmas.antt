@@ -30,6 +30,10 @@ module _ {A B : Type 0} (f : A → B) (P : B → Type 0) where
   AllWithin-map (x ∷ xs) n le h =
       λ k d a b. let lt : k < length (x ∷ xs) = omega arith in rw (get_or-map f (x ∷ xs) k x d lt) (h k x a b)
 
+  AllWithin-from_map : (xs : List A) (n : ℕ) → n ≤ length xs → AllWithin P (map f xs) 0 n → AllWithin (λ x. P (f x)) xs 0 n
+  AllWithin-from_map xs n le h =
+      λ k d a b. let lt : k < length xs = omega arith in rw (← get_or-map f xs k d (f d) lt) (h k (f d) a b)
+
 module _ {A B : Type 0} (f : A → B) (P : B → Type 0) (xs : List A) where
   pub SomeHas-map : SomeHas (λ x. P (f x)) xs → SomeHas P (map f xs)
   SomeHas-map h = (h.0, rw (length-map {A = A} {B = B} xs f) h.1, HoldsAt-map f P xs h.0 h.1 h.2)
@@ -48,6 +52,20 @@ module _ {A B : Type 0} (f : A → B) (P : B → Type 0) (xs : List A) where
     here = HoldsAt-map f P xs i h.within h.here;
     before = AllWithin-map f (λ y. ¬ P y) xs i (omega (arith, h.within)) h.before;
   }
+
+  pub NoneHas-from_map : NoneHas P (map f xs) → NoneHas (λ x. P (f x)) xs
+  NoneHas-from_map h =
+      AllWithin-from_map f (λ y. ¬ P y) xs (length xs) (omega arith) (rw (← length-map {A = A} {B = B} xs f) h)
+
+  pub IsFirst-from_map : (i : ℕ) → IsFirst P (map f xs) i → IsFirst (λ x. P (f x)) xs i
+  IsFirst-from_map i h = let lt : i < length xs = omega (arith, h.within, length-map {A = A} {B = B} xs f) in record {
+    within = lt;
+    here = HoldsAt-from_map f P xs i lt h.here;
+    before = AllWithin-from_map f (λ y. ¬ P y) xs i (omega (arith, lt)) h.before;
+  }
+
+  pub HoldsAt-sources : (i : ℕ) → i < length xs → HoldsAt P (map f xs) i → HoldsAt (λ x. P (f x)) xs i
+  HoldsAt-sources = HoldsAt-from_map f P xs
 
   pub HoldsAt-images : (i : ℕ) → i < length xs → HoldsAt (λ x. P (f x)) xs i → HoldsAt P (map f xs) i
   HoldsAt-images = HoldsAt-map f P xs

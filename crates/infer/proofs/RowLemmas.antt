@@ -6,7 +6,7 @@ use Rattle.std.proofs.lemmas.Option.{slice_get-get_or, none-some, same_Some}
 use Rattle.infer.specs.First.{IsFirst, NoneHas, IsAnswer}
 use Rattle.infer.specs.Row.{Row, shows}
 use Rattle.infer.specs.Triple.{Triple}
-use Rattle.infer.proofs.ListLemmas.{holds_read, first_read, HoldsAt-images, HoldsAt-left, HoldsAt-right, IsFirst-map, IsFirst-left, IsFirst-right, NoneHas-map, NoneHas-both}
+use Rattle.infer.proofs.ListLemmas.{holds_read, first_read, HoldsAt-images, HoldsAt-sources, HoldsAt-left, HoldsAt-right, IsFirst-map, IsFirst-from_map, IsFirst-left, IsFirst-right, NoneHas-map, NoneHas-from_map, NoneHas-both}
 
 -- the row at the first index tells the answer
 pub answer_at : {S : Type 0} (P : Row S → Type 0) (rows : List (Row S)) (i : ℕ) (o : Option Triple)
@@ -30,6 +30,13 @@ pub IsAnswer-map : {S T : Type 0} (f : Row S → Row T) (P : Row T → Type 0) �
 IsAnswer-map f P same rows None h = NoneHas-map f P rows h
 IsAnswer-map f P same rows (Some t) h =
     (h.0, IsFirst-map f P rows h.0 h.1, HoldsAt-images f (λ r. r.shows ≡ t) rows h.0 h.1.within (λ d. same _ ∙ h.2 d))
+
+pub IsAnswer-from_map : {S T : Type 0} (f : Row S → Row T) (P : Row T → Type 0) → ((r : Row S) → (f r).shows ≡ r.shows)
+    → (rows : List (Row S)) (o : Option Triple) → IsAnswer P (map f rows) o → IsAnswer (λ r. P (f r)) rows o
+IsAnswer-from_map f P same rows None h = NoneHas-from_map f P rows h
+IsAnswer-from_map f P same rows (Some t) h =
+    let first : IsFirst (λ r. P (f r)) rows h.0 = IsFirst-from_map f P rows h.0 h.1 in
+    (h.0, first, λ d. sym (same _) ∙ HoldsAt-sources f (λ r. r.shows ≡ t) rows h.0 first.within h.2 d)
 
 module _ {S : Type 0} (P : Row S → Type 0) (xs ys : List (Row S)) where
   -- the answer of the front is that of the whole

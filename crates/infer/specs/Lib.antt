@@ -33,3 +33,5 @@ pub mod Format
 pub mod Table
 pub mod RowSeen
 pub mod Matchers
+pub mod Watched
+pub mod Fault

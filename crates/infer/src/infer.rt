@@ -1,16 +1,25 @@
 //! The list of rows that is asked.
-ghost use Rattle.std.specs.Prelude.{◌≡◌, ◌↔◌, [], ◌∷◌, ◌++◌, IsTrue, OnErr, OnOk, map, option_map};
+ghost use Rattle.std.specs.Prelude.{◌≡◌, ◌↔◌, ◌≤◌, ℕ, List, None, Some, [], ◌∷◌, ◌++◌, IfOk, IfSome, IsErrOf, IsTrue, OnErr, OnOk, drop, length, map, option_map};
+ghost use Rattle.infer.specs.Buffer.{head};
 ghost use Rattle.infer.specs.Caller.{IsSettled};
+ghost use Rattle.infer.specs.Fault.{OpensNothing, read_fault};
 ghost use Rattle.infer.specs.First.{IsAnswer, SomeHas};
 ghost use Rattle.infer.specs.Questions.{HasClass, HasExtension, HasMimeType, IsWanted, SomeBoth};
 ghost use Rattle.infer.specs.Rows.{AnyAccepts, custom_row, custom_rows, given, rows};
 ghost use Rattle.infer.specs.Triple.{triple, triple_of};
+ghost use Rattle.infer.specs.Watched.{fault_of, inner};
 ghost use Rattle.infer.specs.declared.file_type.MatcherType.TheVariants.{Custom};
 
 use crate::custom::CustomRow;
+use crate::engine::{FRONT, read_head};
+use crate::fault::Fault;
 use crate::file_type::{FileType, Matcher, MatcherType, Wanted};
 use crate::map;
+use crate::watched::Watched;
 use std::alloc::{AllocError, Allocator, Global};
+use std::fs::File;
+use std::io::Read;
+use std::rt::Files;
 
 /// Rows to ask: those that were added, in that order, and then the built-in ones.
 ///
@@ -171,6 +180,81 @@ impl<A: Allocator> Infer<A> {
         ensures { IsTrue result ↔ SomeBoth (HasClass MatcherType.Custom) (AnyAccepts buf.now) (rows self.now) }
     {
         self.some(Wanted::Class(MatcherType::Custom), buf)
+    }
+
+    /// The type of the first row that accepts the first 8192 bytes of a reader, or all where it has fewer, and
+    /// `None` exactly where no row accepts them.
+    ///
+    /// It reserves 8192 bytes first, then reads until it has them or a read gives none. The rest stays in the
+    /// reader. `Memory` means that the bytes were refused and nothing was read, `Read` that a read failed, whatever
+    /// its kind; bytes that were read before are lost then. It is never `Open`.
+    pub fn get_from_reader<B: Allocator, R: Read>(
+        &self,
+        alloc: B,
+        r: &mut Watched<R>,
+    ) -> Result<Option<FileType>, Fault>
+        requires { fault_of r.old ≡ None }
+        ensures answer { IfOk result (λ found. IfSome (R.remaining (inner r.old))
+            (λ s. IsAnswer (AnyAccepts (head FRONT s)) (rows self.now) (option_map triple_of found))) }
+        ensures rest { OnOk result (IfSome (R.remaining (inner r.old))
+            (λ s. R.remaining (inner r.new) ≡ Some (drop FRONT s))) }
+
+        // Where the reader does not tell its bytes, it is still the answer of so many bytes or fewer.
+        ensures some_bytes { IfOk result (λ found. (b : List ℕ) × (length b ≤ FRONT)
+            × IsAnswer (AnyAccepts b) (rows self.now) (option_map triple_of found)) }
+
+        // It is `Read(k)` exactly where the reader's fault is now k.
+        ensures fault { fault_of r.new ≡ read_fault result }
+        ensures memory { IsErrOf result Fault.Memory → r.new ≡ r.old }
+        ensures opens_nothing { OpensNothing result }
+    {
+        self.read_within(alloc, r, FRONT)
+    }
+
+    /// The type of the first row that accepts the first 8192 bytes of a file, or all where it has fewer, and `None`
+    /// exactly where no row accepts them.
+    ///
+    /// It opens the file, reserves 8192 bytes and reads, in this order. Any error in opening is `Open`. The file's
+    /// length is not asked for.
+    pub fn get_from_path<R: Files, B: Allocator>(
+        &self,
+        rt: &R,
+        alloc: B,
+        path: &str,
+    ) -> Result<Option<FileType>, Fault>
+        ensures { IfOk result (λ found. (b : List ℕ) × (length b ≤ FRONT)
+            × IsAnswer (AnyAccepts b) (rows self.now) (option_map triple_of found)) }
+    {
+        match File::open(rt, path) {
+            Ok(file) => self.get_from_reader(alloc, &mut Watched::new(file)),
+            Err(error) => Err(Fault::Open(error.kind())),
+        }
+    }
+
+    // The answer of the first `limit` bytes of a reader.
+    fn read_within<B: Allocator, R: Read>(
+        &self,
+        alloc: B,
+        r: &mut Watched<R>,
+        limit: usize,
+    ) -> Result<Option<FileType>, Fault>
+        requires no_fault { fault_of r.old ≡ None }
+        requires least { 1 ≤ limit }
+        requires most { limit ≤ 65536 }
+        ensures answer { IfOk result (λ found. IfSome (R.remaining (inner r.old))
+            (λ s. IsAnswer (AnyAccepts (head limit s)) (rows self.now) (option_map triple_of found))) }
+        ensures rest { OnOk result (IfSome (R.remaining (inner r.old))
+            (λ s. R.remaining (inner r.new) ≡ Some (drop limit s))) }
+        ensures some_bytes { IfOk result (λ found. (b : List ℕ) × (length b ≤ limit)
+            × IsAnswer (AnyAccepts b) (rows self.now) (option_map triple_of found)) }
+        ensures fault { fault_of r.new ≡ read_fault result }
+        ensures memory { IsErrOf result Fault.Memory → r.new ≡ r.old }
+        ensures opens_nothing { OpensNothing result }
+    {
+        match read_head(alloc, r, limit) {
+            Ok(bytes) => Ok(self.get(bytes.as_slice())),
+            Err(fault) => Err(fault),
+        }
     }
 
     // Whether some row that is wanted accepts the buffer.

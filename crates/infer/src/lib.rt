@@ -4,7 +4,7 @@
 //! that its caller added before the built-in ones. No question takes memory, reads a file or can refuse.
 #![tactic(auto)]
 
-ghost use Rattle.std.specs.Prelude.{◌≡◌, ◌↔◌, ◌<◌, ◌≤◌, IfSome, IsNone, IsTrue, option_map, slice_get};
+ghost use Rattle.std.specs.Prelude.{◌≡◌, ◌↔◌, ◌<◌, ◌≤◌, ℕ, List, IfOk, IfSome, IsNone, IsTrue, length, option_map, slice_get};
 ghost use Rattle.infer.specs.First.{IsAnswer, IsFirstOf, SomeHas};
 ghost use Rattle.infer.specs.Questions.{HasClass, HasExtension, HasMimeType, SomeBoth};
 ghost use Rattle.infer.specs.Row.{Accepts, shows};
@@ -17,6 +17,7 @@ pub mod audio;
 pub mod book;
 mod custom;
 pub mod doc;
+mod engine;
 mod fault;
 mod file_type;
 pub mod font;
@@ -30,11 +31,16 @@ pub mod odf;
 mod tests;
 pub mod text;
 pub mod video;
+mod watched;
 
+use engine::FRONT;
 pub use fault::Fault;
 use file_type::Wanted;
 pub use file_type::{FileType as Type, Matcher, MatcherType};
 pub use infer::Infer;
+use std::alloc::Allocator;
+use std::rt::Files;
+pub use watched::Watched;
 
 /// The type of the first built-in row that accepts `buf`, and `None` exactly where no row accepts it.
 pub fn get(buf: &[u8]) -> Option<Type>
@@ -57,6 +63,21 @@ pub fn row(i: usize) -> Option<Type>
     ensures none { IsNone result ↔ (98 ≤ i) }
 {
     map::row(i)
+}
+
+/// The type of the first built-in row that accepts the first 8192 bytes of a file, or all where it has fewer, and
+/// `None` exactly where no row accepts them.
+///
+/// It opens the file, reserves 8192 bytes and reads, in this order, as [`Infer::get_from_path`] does.
+pub fn get_from_path<R: Files, A: Allocator>(
+    rt: &R,
+    alloc: A,
+    path: &str,
+) -> Result<Option<Type>, Fault>
+    ensures { IfOk result (λ found. (b : List ℕ) × (length b ≤ FRONT)
+        × IsAnswer (Accepts b) table (option_map triple_of found)) }
+{
+    Infer::new().get_from_path(rt, alloc, path)
 }
 
 /// Whether some built-in row with this extension accepts `buf`. Upper and lower case are apart.

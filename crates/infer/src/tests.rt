@@ -1,3 +1,5 @@
 mod added;
+mod input;
 mod positions;
+mod readers;
 mod types;

@@ -1,2 +1,2 @@
-pub mod HeadLemmas
 pub mod ReportLemmas
+pub mod RunLemmas

@@ -1,3 +1,4 @@
 pub mod Line
 pub mod Outcome
 pub mod Report
+pub mod Run

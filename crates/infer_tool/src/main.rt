@@ -1,15 +1,15 @@
-//! Prints the type of what it reads.
+//! Prints the type of each file that it is given, or of standard input.
 #![tactic(auto)]
 
-ghost use Rattle.std.specs.Prelude.{◌≡◌, ◌≢◌, [], IfSome, codes};
+ghost use Rattle.std.specs.Prelude.{◌≡◌, ◌≢◌, [], IfSome, codes, map, string_bytes};
 ghost use Rattle.infer.specs.Buffer.{head};
 ghost use Rattle.infer.specs.First.{IsAnswer};
 ghost use Rattle.infer.specs.Row.{Accepts};
 ghost use Rattle.infer.specs.Table.{table};
 ghost use Rattle.infer_tool.specs.Report.{ReportsTheOne};
+ghost use Rattle.infer_tool.specs.Run.{ReportsEach};
 
 mod outcome;
-mod read;
 mod report;
 #[cfg(test)]
 mod tests;
@@ -22,11 +22,17 @@ use std::process::ExitCode;
 use std::rt::{Env, Files};
 use std::{env, io};
 
-const USAGE: &[u8] = b"usage: infer_tool\n";
+const USAGE: &[u8] = b"usage: infer_tool [PATH ..]\n";
 
-/// Reports what `input` is, under the name `-`. A word is refused with the usage line, and then nothing is read.
-pub fn run<R: Files, A: Allocator, I: Read + Drop, W: Write, E: Write>(
-    _rt: &R,
+// A line with the longest path of a system fits.
+const LINE_BUFFER: usize = 8192;
+
+/// Reports what each file is that a word names as its path, in the order of the words, also after a fault. Without
+/// words it reports what `input` is, under the name `-`.
+///
+/// The outcome is the worst one.
+pub fn run<R: Files, A: Allocator + Copy, I: Read + Drop, W: Write, E: Write>(
+    rt: &R,
     alloc: A,
     words: &[String],
     input: I,
@@ -35,14 +41,27 @@ pub fn run<R: Files, A: Allocator, I: Read + Drop, W: Write, E: Write>(
 ) -> Outcome
     ensures line { words.now ≡ [] → IfSome (I.remaining input) (λ s.
         ReportsTheOne result (codes "-") (IsAnswer (Accepts (head FRONT s)) table) (W.contents out.old) (W.contents out.new)) }
+    ensures each { words.now ≢ [] → ReportsEach FRONT (map string_bytes words.now) result (W.contents out.old) (W.contents out.new) }
     ensures silent { result ≢ Outcome.Failed → err.new ≡ err.old }
-    ensures words { words.now ≢ [] → (result ≡ Outcome.Failed) × (out.new ≡ out.old) }
 {
     if words.is_empty() {
         return report::run_reader(alloc, "-", input, out, err);
     }
-    let _ = err.write_all(USAGE);
-    Outcome::Failed
+    let mut outcome = Outcome::Known;
+    for word in words {
+        outcome = outcome.worse(report::run_path(rt, alloc, word.as_str(), out, err));
+    }
+    outcome
+}
+
+// The outcome of a run whose last bytes are still to be written out.
+fn flushed<W: Write>(outcome: Outcome, out: &mut W) -> Outcome
+    ensures { result ≢ Outcome.Failed → result ≡ outcome }
+{
+    match out.flush() {
+        Ok(()) => outcome,
+        Err(_) => Outcome::Failed,
+    }
 }
 
 fn words_of<R: Env + AllocGlobal>(rt: &R) -> io::Result<Vec<String>> {
@@ -61,8 +80,11 @@ fn main(rt: HostRuntime) -> ExitCode {
     };
     let (words, input) = (words.as_slice(), rt.stdin());
     // A line costs one system call through a buffer, and several where the buffer is refused.
-    let outcome = match LineWriter::new(rt.alloc(), rt.stdout()) {
-        Ok(mut out) => run(&rt, rt.alloc(), words, input, &mut out, &mut err),
+    let outcome = match LineWriter::with_capacity(rt.alloc(), LINE_BUFFER, rt.stdout()) {
+        Ok(mut out) => {
+            let outcome = run(&rt, rt.alloc(), words, input, &mut out, &mut err);
+            flushed(outcome, &mut out)
+        }
         Err(_) => run(&rt, rt.alloc(), words, input, &mut rt.stdout(), &mut err),
     };
     ExitCode::from(outcome.status())

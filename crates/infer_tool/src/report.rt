@@ -6,12 +6,13 @@ ghost use Rattle.infer.specs.Row.{Accepts};
 ghost use Rattle.infer.specs.Table.{table};
 ghost use Rattle.infer.specs.Triple.{triple_of};
 ghost use Rattle.infer_tool.specs.Report.{Reports, ReportsTheOne};
+ghost use Rattle.infer_tool.specs.Run.{ReportsSome};
 
 use crate::outcome::Outcome;
-use crate::read::answer_within;
-use infer::{Fault, Type};
+use infer::{Fault, Infer, Type, Watched, get_from_path};
 use std::alloc::Allocator;
 use std::io::{Read, Write};
+use std::rt::Files;
 
 /// How many bytes of an input are looked at.
 pub const FRONT: usize = 8192;
@@ -54,7 +55,7 @@ pub fn report<W: Write, E: Write>(
 pub fn run_reader<A: Allocator, R: Read + Drop, W: Write, E: Write>(
     alloc: A,
     name: &str,
-    mut reader: R,
+    reader: R,
     out: &mut W,
     err: &mut E,
 ) -> Outcome
@@ -62,6 +63,21 @@ pub fn run_reader<A: Allocator, R: Read + Drop, W: Write, E: Write>(
         ReportsTheOne result name.now (IsAnswer (Accepts (head FRONT s)) table) (W.contents out.old) (W.contents out.new)) }
     ensures silent { result ≢ Outcome.Failed → err.new ≡ err.old }
 {
-    let answer = answer_within(alloc, &mut reader, FRONT);
+    let mut watched = Watched::new(reader);
+    let answer = Infer::new().get_from_reader(alloc, &mut watched);
     report(name, answer, out, err)
+}
+
+/// Reads at most 8192 bytes of a file, and reports what they are, under its path.
+pub fn run_path<R: Files, A: Allocator, W: Write, E: Write>(
+    rt: &R,
+    alloc: A,
+    path: &str,
+    out: &mut W,
+    err: &mut E,
+) -> Outcome
+    ensures line { ReportsSome FRONT result path.now (W.contents out.old) (W.contents out.new) }
+    ensures silent { result ≢ Outcome.Failed → err.new ≡ err.old }
+{
+    report(path, get_from_path(rt, alloc, path), out, err)
 }

@@ -1,0 +1,268 @@
+//! Answers of readers and of files, and each fault.
+ghost use Rattle.std.specs.Prelude.{◌<◌, ◌↔◌, IsTrue, length};
+
+use super::readers::Pieces;
+use crate::engine::FRONT;
+use crate::{Fault, Infer, Type, Watched, get_from_path};
+use linked_list_allocator::LocalHeap;
+use std::alloc::{Allocator, Global};
+use std::fs;
+use std::io::ErrorKind;
+use std::test::Fail;
+
+const JPEG: [u8; 4] = [0xFF, 0xD8, 0xFF, 0xAA];
+
+const KINDS: [ErrorKind; 5] = [
+    ErrorKind::Interrupted,
+    ErrorKind::WouldBlock,
+    ErrorKind::UnexpectedEof,
+    ErrorKind::OutOfMemory,
+    ErrorKind::Other,
+];
+
+fn is_too_long(buf: &[u8]) -> bool
+    ensures { IsTrue result ↔ (FRONT < length buf.now) }
+{
+    buf.len() > FRONT
+}
+
+fn is_empty(buf: &[u8]) -> bool
+    ensures { IsTrue result ↔ (length buf.now < 1) }
+{
+    buf.is_empty()
+}
+
+/// The extension that was answered, no text where no row accepts, and the fault's text where there is one.
+fn told(answer: Result<Option<Type>, Fault>) -> &'static str {
+    match answer {
+        Ok(Some(found)) => found.extension(),
+        Ok(None) => "",
+        Err(Fault::Open(_)) => "cannot open",
+        Err(Fault::Read(_)) => "cannot read",
+        Err(Fault::Memory) => "no memory",
+    }
+}
+
+/// What a call over the reader tells, and how many bytes it left.
+fn told_of<A: Allocator>(infer: &Infer, alloc: A, reader: Pieces<'_>) -> (&'static str, usize) {
+    let mut watched = Watched::new(reader);
+    let answer = infer.get_from_reader(alloc, &mut watched);
+    (told(answer), watched.into_inner().rest.len())
+}
+
+/// What a call answers over a reader that gives the bytes in one read and then fails, and the fault after it.
+fn failed(
+    alloc: Global,
+    bytes: &[u8],
+    kind: ErrorKind,
+) -> (Result<Option<Type>, Fault>, Option<ErrorKind>) {
+    let mut watched = Watched::new(Pieces::failing(bytes, 8192, 1, kind));
+    let answer = Infer::new().get_from_reader(alloc, &mut watched);
+    (answer, watched.fault())
+}
+
+#[test]
+fn a_watched_read(rt: HostRuntime) {
+    let reader = Pieces::failing(&JPEG, 3, 2, ErrorKind::Interrupted);
+    let mut watched = Watched::new(reader);
+    let mut out = [0u8; 8];
+    assert!(rt; watched.fault().is_none());
+    assert_eq!(rt; watched.read(&mut out), Ok(3));
+    assert!(rt; watched.fault().is_none());
+    assert_eq!(rt; watched.read(&mut out[3..]), Ok(1));
+    assert!(rt; watched.fault().is_none());
+    assert_eq!(rt; &out[..4], JPEG.as_slice());
+    assert_eq!(rt; watched.read(&mut out), Err(ErrorKind::Interrupted));
+    assert_eq!(rt; watched.fault(), Some(ErrorKind::Interrupted));
+    let reader = watched.into_inner();
+    assert_eq!(rt; reader.reads, 3);
+    assert!(rt; reader.rest.is_empty());
+}
+
+#[test]
+fn takes_8192_bytes(rt: HostRuntime) -> Result<(), Fail> {
+    let mut infer = Infer::new();
+    infer.add(rt.alloc(), "custom/long", "long", is_too_long)?;
+    infer.add(rt.alloc(), "custom/empty", "empty", is_empty)?;
+    let mut spaces = vec![in rt.alloc(); b' '; 8193]?;
+    spaces[8190..].copy_from_slice(b"<P>");
+    let mut jpeg = vec![in rt.alloc(); 0u8; 8193]?;
+    jpeg[..4].copy_from_slice(&JPEG);
+    assert_eq!(rt; told(Ok(infer.get(spaces.as_slice()))), "long");
+    for piece in [1, 7, 8191, 8192, 9000] {
+        let reader = Pieces::new(spaces.as_slice(), piece);
+        assert_eq!(rt;
+            told_of(&infer, rt.alloc(), reader),
+            ("", 1),
+            "{piece} bytes a read"
+        );
+        let reader = Pieces::new(jpeg.as_slice(), piece);
+        assert_eq!(rt;
+            told_of(&infer, rt.alloc(), reader),
+            ("jpg", 1),
+            "{piece} bytes a read"
+        );
+    }
+    Ok(())
+}
+
+#[test]
+fn takes_all_of_a_short_reader(rt: HostRuntime) -> Result<(), Fail> {
+    let mut infer = Infer::new();
+    infer.add(rt.alloc(), "custom/long", "long", is_too_long)?;
+    infer.add(rt.alloc(), "custom/empty", "empty", is_empty)?;
+    for piece in [1, 3, 4, 5] {
+        let reader = Pieces::new(&JPEG, piece);
+        assert_eq!(rt;
+            told_of(&infer, rt.alloc(), reader),
+            ("jpg", 0),
+            "{piece} bytes a read"
+        );
+    }
+    assert_eq!(rt;
+        told_of(&infer, rt.alloc(), Pieces::new(b"", 1)),
+        ("empty", 0)
+    );
+    assert_eq!(rt;
+        told_of(&Infer::new(), rt.alloc(), Pieces::new(b"", 1)),
+        ("", 0)
+    );
+    Ok(())
+}
+
+#[test]
+fn no_read_after_the_8192nd_byte(rt: HostRuntime) -> Result<(), Fail> {
+    let bytes = vec![in rt.alloc(); b' '; 8192]?;
+    for (piece, reads) in [(1usize, 8192), (4096, 2), (8192, 1)] {
+        let reader = Pieces::failing(bytes.as_slice(), piece, reads, ErrorKind::Other);
+        let mut watched = Watched::new(reader);
+        assert_eq!(rt;
+            Infer::new().get_from_reader(rt.alloc(), &mut watched),
+            Ok(None)
+        );
+        assert!(rt; watched.fault().is_none());
+        assert_eq!(rt; watched.into_inner().reads, reads);
+    }
+    Ok(())
+}
+
+#[test]
+fn a_failed_read_is_no_answer(rt: HostRuntime) -> Result<(), Fail> {
+    let spaces = vec![in rt.alloc(); b' '; 8191]?;
+    for kind in KINDS {
+        assert_eq!(rt;
+            failed(rt.alloc(), &JPEG[..3], kind),
+            (Err(Fault::Read(kind)), Some(kind))
+        );
+        assert_eq!(rt;
+            failed(rt.alloc(), spaces.as_slice(), kind),
+            (Err(Fault::Read(kind)), Some(kind))
+        );
+    }
+    Ok(())
+}
+
+#[test]
+fn each_read_fails_in_turn(rt: HostRuntime) {
+    for fails_at in 0..5u32 {
+        let reader = Pieces::failing(&JPEG, 1, fails_at, ErrorKind::Interrupted);
+        let mut watched = Watched::new(reader);
+        let answer = Infer::new().get_from_reader(rt.alloc(), &mut watched);
+        assert_eq!(rt; answer, Err(Fault::Read(ErrorKind::Interrupted)));
+        assert_eq!(rt; watched.fault(), Some(ErrorKind::Interrupted));
+        assert_eq!(rt;
+            watched.into_inner().rest.len(),
+            4usize.saturating_sub(fails_at as usize)
+        );
+    }
+}
+
+#[test]
+fn memory_for_a_reader(rt: HostRuntime) -> Result<(), Fail> {
+    let infer = Infer::new();
+    let small = LocalHeap::new(rt.alloc(), 4096)?;
+    let mut watched = Watched::new(Pieces::new(&JPEG, 4));
+    assert_eq!(rt;
+        infer.get_from_reader(&small, &mut watched),
+        Err(Fault::Memory)
+    );
+    assert!(rt; watched.fault().is_none());
+    assert_eq!(rt; watched.into_inner().reads, 0);
+    let ample = LocalHeap::new(rt.alloc(), 16384)?;
+    assert_eq!(rt; told_of(&infer, &ample, Pieces::new(&JPEG, 4)), ("jpg", 0));
+    assert_eq!(rt; ample.used(), 0);
+    Ok(())
+}
+
+#[test]
+fn files(rt: HostRuntime) -> Result<(), Fail> {
+    let mut infer = Infer::new();
+    infer.add(rt.alloc(), "custom/long", "long", is_too_long)?;
+    infer.add(rt.alloc(), "custom/empty", "empty", is_empty)?;
+    let mut bytes = vec![in rt.alloc(); b' '; 8193]?;
+    fs::write(&rt, "spaces.bin", bytes.as_slice())?;
+    bytes[..4].copy_from_slice(&JPEG);
+    fs::write(&rt, "long.jpg", bytes.as_slice())?;
+    fs::write(&rt, "short.jpg", &JPEG)?;
+    fs::write(&rt, "empty.bin", b"")?;
+    let files = [
+        ("spaces.bin", "", ""),
+        ("long.jpg", "jpg", "jpg"),
+        ("short.jpg", "jpg", "jpg"),
+        ("empty.bin", "empty", ""),
+    ];
+    for (path, extension, built_in) in files {
+        assert_eq!(rt;
+            told(infer.get_from_path(&rt, rt.alloc(), path)),
+            extension,
+            "{path}"
+        );
+        assert_eq!(rt;
+            told(get_from_path(&rt, rt.alloc(), path)),
+            built_in,
+            "{path}"
+        );
+        fs::remove_file(&rt, path)?;
+    }
+    Ok(())
+}
+
+#[test]
+fn paths_without_a_file(rt: HostRuntime) {
+    let paths = [
+        ("missing.bin", Fault::Open(ErrorKind::NotFound)),
+        ("", Fault::Open(ErrorKind::NotFound)),
+        (".", Fault::Read(ErrorKind::IsADirectory)),
+    ];
+    for (path, fault) in paths {
+        assert_eq!(rt; get_from_path(&rt, rt.alloc(), path), Err(fault), "{path}");
+        assert_eq!(rt;
+            Infer::new().get_from_path(&rt, rt.alloc(), path),
+            Err(fault),
+            "{path}"
+        );
+    }
+}
+
+#[test]
+fn memory_for_a_file(rt: HostRuntime) -> Result<(), Fail> {
+    let infer = Infer::new();
+    fs::write(&rt, "memory.jpg", &JPEG)?;
+    let small = LocalHeap::new(rt.alloc(), 4096)?;
+    assert_eq!(rt;
+        infer.get_from_path(&rt, &small, "memory.jpg"),
+        Err(Fault::Memory)
+    );
+    assert_eq!(rt;
+        get_from_path(&rt, &small, "memory.jpg"),
+        Err(Fault::Memory)
+    );
+    let missing = Fault::Open(ErrorKind::NotFound);
+    assert_eq!(rt; get_from_path(&rt, &small, "missing.bin"), Err(missing));
+    let ample = LocalHeap::new(rt.alloc(), 16384)?;
+    assert_eq!(rt; told(infer.get_from_path(&rt, &ample, "memory.jpg")), "jpg");
+    assert_eq!(rt; told(get_from_path(&rt, &ample, "memory.jpg")), "jpg");
+    assert_eq!(rt; ample.used(), 0);
+    fs::remove_file(&rt, "memory.jpg")?;
+    Ok(())
+}

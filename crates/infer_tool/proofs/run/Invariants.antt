@@ -1,0 +1,11 @@
+-- the words so far were reported, and no fault so far means that nothing was written of one
+use Rattle.std.proofs.Common.{◌≡◌, ◌≢◌, map, string_bytes, take}
+use Rattle.infer_tool.specs.Run.{ReportsEach}
+use Rattle.infer_tool.specs.declared.outcome.Outcome.TheVariants.{Failed}
+use Rattle.infer_tool.proofs.run.Given as goal
+
+abbrev pub invariant-loop-word : goal.invariant-loop-word
+invariant-loop-word g l = record {
+  each : ReportsEach 8192 (map string_bytes (take l.word-index l.words)) l.outcome (g.W.Write.contents l.initial.out) (g.W.Write.contents l.out);
+  silent : l.outcome ≢ Failed → l.err ≡ l.initial.err;
+}

@@ -1,0 +1,157 @@
+//! Lines and outcomes of one input, and each fault.
+use super::streams::{Failing, NEVER, Pieces};
+use crate::outcome::Outcome;
+use crate::report::{report, run_path, run_reader};
+use infer::{Fault, get};
+use linked_list_allocator::LocalHeap;
+use std::alloc::Global;
+use std::fs;
+use std::io::Read;
+use std::test::Fail;
+
+const JPEG: [u8; 4] = [0xFF, 0xD8, 0xFF, 0xAA];
+
+/// The outcome of a run over a reader, and what it wrote to each writer.
+fn written<R: Read + Drop>(alloc: Global, reader: R) -> (Outcome, Vec<u8>, Vec<u8>) {
+    let (mut out, mut err) = (Vec::new(alloc), Vec::new(alloc));
+    let outcome = run_reader(alloc, "-", reader, &mut out, &mut err);
+    (outcome, out, err)
+}
+
+#[test]
+fn lines_and_statuses(rt: HostRuntime) {
+    let (outcome, out, err) = written(rt.alloc(), JPEG.as_slice());
+    assert_eq!(rt; outcome.status(), 0);
+    assert_eq!(rt; out.as_slice(), b"-: image/jpeg jpg\n".as_slice());
+    assert!(rt; err.is_empty());
+    let (outcome, out, err) = written(rt.alloc(), b"".as_slice());
+    assert_eq!(rt; outcome.status(), 1);
+    assert_eq!(rt; out.as_slice(), b"-: unknown\n".as_slice());
+    assert!(rt; err.is_empty());
+}
+
+#[test]
+fn outcomes(rt: HostRuntime) -> Result<(), Fail> {
+    let all = [
+        (Outcome::Known, 0, "Known"),
+        (Outcome::Unknown, 1, "Unknown"),
+        (Outcome::Failed, 2, "Failed"),
+    ];
+    for (a, status, text) in all {
+        assert_eq!(rt; a.status(), status);
+        assert_eq!(rt; format!(in rt.alloc(); "{a:?}")?.as_str(), text);
+        for (b, other, _) in all {
+            assert_eq!(rt; a.worse(b).status(), status.max(other));
+        }
+    }
+    Ok(())
+}
+
+#[test]
+fn a_byte_a_read(rt: HostRuntime) -> Result<(), Fail> {
+    let mut bytes = vec![in rt.alloc(); 0u8; 8193]?;
+    bytes[0] = 0xFF;
+    bytes[1] = 0xD8;
+    bytes[2] = 0xFF;
+    for piece in [1, 7, 8191, 8192, 9000] {
+        let mut reader = Pieces::new(bytes.as_slice(), piece, NEVER);
+        let (outcome, out, err) = written(rt.alloc(), &mut reader);
+        assert_eq!(rt; outcome.status(), 0, "{piece} bytes a read");
+        assert_eq!(rt; out.as_slice(), b"-: image/jpeg jpg\n".as_slice());
+        assert!(rt; err.is_empty());
+        assert_eq!(rt; reader.rest.len(), 1, "{piece} bytes a read");
+    }
+    Ok(())
+}
+
+#[test]
+fn a_failed_read_is_no_answer(rt: HostRuntime) {
+    for fails_at in 0..5u32 {
+        let mut reader = Pieces::new(&JPEG, 1, fails_at);
+        let (outcome, out, err) = written(rt.alloc(), &mut reader);
+        assert_eq!(rt; outcome.status(), 2);
+        assert!(rt; out.is_empty());
+        assert_eq!(rt; err.as_slice(), b"-: cannot read\n".as_slice());
+    }
+}
+
+#[test]
+fn a_failed_write_is_a_failure(rt: HostRuntime) {
+    for input in [JPEG.as_slice(), b"".as_slice()] {
+        let (mut out, mut err) = (
+            Failing {
+                left: 0,
+                flushes: true,
+            },
+            Vec::new(rt.alloc()),
+        );
+        let outcome = report("-", Ok(get(input)), &mut out, &mut err);
+        assert_eq!(rt; outcome.status(), 2);
+        let outcome = run_reader(rt.alloc(), "-", input, &mut out, &mut err);
+        assert_eq!(rt; outcome.status(), 2);
+        assert!(rt; err.is_empty());
+    }
+    let (mut out, mut err) = (
+        Vec::new(rt.alloc()),
+        Failing {
+            left: 0,
+            flushes: true,
+        },
+    );
+    let outcome = report("-", Err(Fault::Memory), &mut out, &mut err);
+    assert_eq!(rt; outcome.status(), 2);
+    assert!(rt; out.is_empty());
+}
+
+#[test]
+fn a_refused_reservation_is_told(rt: HostRuntime) -> Result<(), Fail> {
+    let mut answered = false;
+    for size in [64, 1024, 4096, 16384usize] {
+        let heap = LocalHeap::new(rt.alloc(), size)?;
+        let (mut out, mut err) = (Vec::new(rt.alloc()), Vec::new(rt.alloc()));
+        let mut reader = Pieces::new(&JPEG, 4, NEVER);
+        let outcome = run_reader(&heap, "-", &mut reader, &mut out, &mut err);
+        if outcome.status() == 0 {
+            answered = true;
+            assert_eq!(rt; out.as_slice(), b"-: image/jpeg jpg\n".as_slice());
+        } else {
+            assert!(rt; size < 8192, "{size}");
+            assert_eq!(rt; outcome.status(), 2);
+            assert_eq!(rt; err.as_slice(), b"-: no memory\n".as_slice());
+            assert!(rt; out.is_empty());
+            assert_eq!(rt; reader.reads, 0);
+        }
+        assert_eq!(rt; heap.used(), 0);
+    }
+    assert!(rt; answered);
+    Ok(())
+}
+
+#[test]
+fn a_path_is_the_name(rt: HostRuntime) -> Result<(), Fail> {
+    fs::write(&rt, "named.jpg", &JPEG)?;
+    let (mut out, mut err) = (Vec::new(rt.alloc()), Vec::new(rt.alloc()));
+    let outcome = run_path(&rt, rt.alloc(), "named.jpg", &mut out, &mut err);
+    fs::remove_file(&rt, "named.jpg")?;
+    assert_eq!(rt; outcome.status(), 0);
+    assert_eq!(rt; out.as_slice(), b"named.jpg: image/jpeg jpg\n".as_slice());
+    assert!(rt; err.is_empty());
+    Ok(())
+}
+
+#[test]
+fn a_file_without_memory(rt: HostRuntime) -> Result<(), Fail> {
+    fs::write(&rt, "refused.jpg", &JPEG)?;
+    let heap = LocalHeap::new(rt.alloc(), 4096)?;
+    let (mut out, mut err) = (Vec::new(rt.alloc()), Vec::new(rt.alloc()));
+    let outcome = run_path(&rt, &heap, "refused.jpg", &mut out, &mut err);
+    assert_eq!(rt; outcome.status(), 2);
+    assert!(rt; out.is_empty());
+    assert_eq!(rt; err.as_slice(), b"refused.jpg: no memory\n".as_slice());
+    let heap = LocalHeap::new(rt.alloc(), 16384)?;
+    let outcome = run_path(&rt, &heap, "refused.jpg", &mut out, &mut err);
+    assert_eq!(rt; outcome.status(), 0);
+    assert_eq!(rt; out.as_slice(), b"refused.jpg: image/jpeg jpg\n".as_slice());
+    fs::remove_file(&rt, "refused.jpg")?;
+    Ok(())
+}
