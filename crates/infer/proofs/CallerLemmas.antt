@@ -1,5 +1,5 @@
 -- What a settled contract says of a call that answered false.
-use Rattle.std.proofs.Common.{◌≡◌, ◌<◌, ℕ, zero, suc, Bool, true, false, List, [], ◌∷◌, get_or, refl, arith}
+use Rattle.std.proofs.Common.{◌<◌, ℕ, zero, suc, Bool, true, false, List, [], ◌∷◌, get_or, refl, arith}
 use Rattle.std.specs.Bool.{OnFalse}
 use denote.Ref.{Bor}
 use Rattle.infer.specs.Buffer.{IsBuffer}

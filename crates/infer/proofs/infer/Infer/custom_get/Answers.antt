@@ -8,9 +8,9 @@ use Rattle.infer.proofs.infer.Infer.custom_get.Goals as goal
 pub returns-then-accepts : goal.returns-then-accepts
 returns-then-accepts g c =
     answer_read custom_row (AnyAccepts c.args.buf.now) _ (custom_rows c.args.self.now) c.custom-row-items.ensures
-      c.loop-row.row-index c.row-item.result _ c.loop-row-test.true
-      (subst (λ r. AnyAccepts c.args.buf.now (custom_row r)) c.row-item.is c.if-accepts.ensures.yes) c.loop-row.invariant
-      (sym (c.file_type.ensures ∙ ap (λ r. shows (custom_row r)) c.row-item.is))
+    c.loop-row.row-index c.row-item.result _ c.loop-row-test.true
+    (subst (λ r. AnyAccepts c.args.buf.now (custom_row r)) c.row-item.is c.if-accepts.ensures.yes) c.loop-row.invariant
+    (sym (c.file_type.ensures ∙ ap (λ r. shows (custom_row r)) c.row-item.is))
 
 pub returns : goal.returns
 returns g c = none_read custom_row (AnyAccepts c.args.buf.now) _ (custom_rows c.args.self.now) c.custom-row-items.ensures

@@ -10,4 +10,4 @@ returns-in-Some g c = IsAnswer-left (AnyAccepts c.args.buf.now) (custom_rows c.a
 pub returns-in-None : goal.returns-in-None
 returns-in-None g c =
     IsAnswer-right (AnyAccepts c.args.buf.now) (custom_rows c.args.self.now) (map kept_row table) _ c.in-None.ensures
-      (IsAnswer-map kept_row (AnyAccepts c.args.buf.now) (λ r. refl) table _ c.get.ensures)
+    (IsAnswer-map kept_row (AnyAccepts c.args.buf.now) (λ r. refl) table _ c.get.ensures)

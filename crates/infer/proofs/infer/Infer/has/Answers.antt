@@ -10,7 +10,7 @@ returns-else-custom_has g c =
     let front = custom_rows c.args.self.now in
     let rest = map kept_row table in (
       λ e. SomeHas-right (IsWanted c.args.wanted) front rest
-        (SomeHas-map kept_row (IsWanted c.args.wanted) table (c.has.ensures.0 e)),
+          (SomeHas-map kept_row (IsWanted c.args.wanted) table (c.has.ensures.0 e)),
       λ h. elim (SomeHas-either (IsWanted c.args.wanted) front rest h) [
         | inl k ↦ absurd (let yes = c.if-custom_has.ensures.1 k in cc)
         | inr k ↦ c.has.ensures.1 (SomeHas-from_map kept_row (IsWanted c.args.wanted) table k)

@@ -10,7 +10,7 @@ returns-else-custom_some g c =
     let front = custom_rows c.args.self.now in
     let rest = map kept_row table in (
       λ e. SomeHas-right (λ r. IsWanted c.args.wanted r × AnyAccepts c.args.buf.now r) front rest
-        (SomeHas-map kept_row (λ r. IsWanted c.args.wanted r × AnyAccepts c.args.buf.now r) table (c.some.ensures.0 e)),
+          (SomeHas-map kept_row (λ r. IsWanted c.args.wanted r × AnyAccepts c.args.buf.now r) table (c.some.ensures.0 e)),
       λ h. elim (SomeHas-either (λ r. IsWanted c.args.wanted r × AnyAccepts c.args.buf.now r) front rest h) [
         | inl k ↦ absurd (let yes = c.if-custom_some.ensures.1 k in cc)
         | inr k ↦ c.some.ensures.1 (SomeHas-from_map kept_row (λ r. IsWanted c.args.wanted r × AnyAccepts c.args.buf.now r) table k)
