@@ -1,7 +1,10 @@
 //! Tells the type of a file from its first bytes.
 //!
 //! [`get`] answers the type of the first built-in row whose signature accepts a buffer. An [`Infer`] asks rows
-//! that its caller added before the built-in ones. No question takes memory, reads a file or can refuse.
+//! that its caller added before the built-in ones. No question about a buffer takes memory or can refuse.
+//!
+//! [`get_from_path`] and [`Infer::get_from_reader`] look at the first 8192 bytes of a file or of a reader. A
+//! [`Fault`] says why they have no answer.
 #![tactic(auto)]
 
 ghost use Rattle.std.specs.Prelude.{◌≡◌, ◌↔◌, ◌<◌, ◌≤◌, ℕ, List, IfOk, IfSome, IsNone, IsTrue, length, option_map, slice_get};
