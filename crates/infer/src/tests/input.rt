@@ -3,7 +3,7 @@ ghost use Rattle.std.specs.Prelude.{◌<◌, ◌↔◌, IsTrue, length};
 
 use super::readers::Pieces;
 use crate::engine::FRONT;
-use crate::{Fault, Infer, Type, Watched, get_from_path};
+use crate::{Fault, Infer, Type, Watched, get, get_from_path};
 use linked_list_allocator::LocalHeap;
 use std::alloc::{Allocator, Global};
 use std::fs;
@@ -89,10 +89,17 @@ fn takes_8192_bytes(rt: HostRuntime) -> Result<(), Fail> {
     let mut jpeg = vec![in rt.alloc(); 0u8; 8193]?;
     jpeg[..4].copy_from_slice(&JPEG);
     assert_eq!(rt; told(Ok(infer.get(spaces.as_slice()))), "long");
+    assert_eq!(rt; told(Ok(get(spaces.as_slice()))), "html");
     for piece in [1, 7, 8191, 8192, 9000] {
         let reader = Pieces::new(spaces.as_slice(), piece);
         assert_eq!(rt;
             told_of(&infer, rt.alloc(), reader),
+            ("", 1),
+            "{piece} bytes a read"
+        );
+        let reader = Pieces::new(spaces.as_slice(), piece);
+        assert_eq!(rt;
+            told_of(&Infer::new(), rt.alloc(), reader),
             ("", 1),
             "{piece} bytes a read"
         );

@@ -43,21 +43,22 @@ fn no_words(rt: HostRuntime) -> Result<(), Fail> {
 
 #[test]
 fn two_paths(rt: HostRuntime) -> Result<(), Fail> {
-    fs::write(&rt, "a.bin", &JPEG)?;
+    fs::write(&rt, "a.bin", b"MZ")?;
     fs::write(&rt, "b.bin", b"")?;
     let ((status, out, err), reads) = over(&rt, &["a.bin", "b.bin"])?;
     assert_eq!(rt; status, 1);
     assert_eq!(rt;
         out.as_slice(),
-        b"a.bin: image/jpeg jpg\nb.bin: unknown\n".as_slice()
+        b"a.bin: application/vnd.microsoft.portable-executable exe\nb.bin: unknown\n".as_slice()
     );
     assert!(rt; err.is_empty());
     assert_eq!(rt; reads, 0);
-    let ((status, out, err), _) = over(&rt, &["a.bin", "a.bin"])?;
+    fs::write(&rt, "b.bin", &JPEG)?;
+    let ((status, out, err), _) = over(&rt, &["b.bin", "b.bin"])?;
     assert_eq!(rt; status, 0);
     assert_eq!(rt;
         out.as_slice(),
-        b"a.bin: image/jpeg jpg\na.bin: image/jpeg jpg\n".as_slice()
+        b"b.bin: image/jpeg jpg\nb.bin: image/jpeg jpg\n".as_slice()
     );
     assert!(rt; err.is_empty());
     fs::remove_file(&rt, "a.bin")?;
