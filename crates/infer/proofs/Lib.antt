@@ -3,3 +3,4 @@ pub mod RowLemmas
 pub mod CallerLemmas
 pub mod TableLemmas
 pub mod LawLemmas
+pub mod LeadLemmas

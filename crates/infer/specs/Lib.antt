@@ -33,3 +33,4 @@ pub mod Format
 pub mod Table
 pub mod RowSeen
 pub mod Matchers
+pub mod Leads

@@ -2,6 +2,8 @@
 //! laws. To use a law, call it.
 ghost use Rattle.std.specs.Prelude.{◌≡◌, ◌≢◌, ◌↔◌, All, IsTrue, length, map};
 ghost use Rattle.std.specs.List.{AllPairs};
+ghost use Rattle.infer.specs.BuiltIn.{BuiltIn};
+ghost use Rattle.infer.specs.Leads.{Leads};
 ghost use Rattle.infer.specs.Matchers.{Lasts, OthersAreNear, signatures};
 ghost use Rattle.infer.specs.Row.{shows};
 ghost use Rattle.infer.specs.Table.{table};
@@ -38,4 +40,12 @@ pub fn near()
 {
     infer_sig::laws::near();
     infer_deep::laws::near();
+}
+
+/// A buffer that a built-in signature accepts begins with a byte that the signature allows there.
+pub fn leads()
+    ensures { (signature : BuiltIn) → Leads signature }
+{
+    infer_sig::laws::leads();
+    infer_deep::laws::leads();
 }
