@@ -4,3 +4,5 @@ pub mod CallerLemmas
 pub mod TableLemmas
 pub mod LawLemmas
 pub mod LeadLemmas
+pub mod PlaceLemmas
+pub mod RefusalLemmas

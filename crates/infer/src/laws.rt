@@ -1,11 +1,12 @@
 //! Facts about the definitions, each the contract of a function that does nothing beside, but for calls of other
 //! laws. To use a law, call it.
-ghost use Rattle.std.specs.Prelude.{◌≡◌, ◌≢◌, ◌↔◌, All, IsTrue, length, map};
+ghost use Rattle.std.specs.Prelude.{◌≡◌, ◌≢◌, ◌↔◌, [], All, IsTrue, length, map};
 ghost use Rattle.std.specs.List.{AllPairs};
 ghost use Rattle.infer.specs.BuiltIn.{BuiltIn};
+ghost use Rattle.infer.specs.First.{NoneHas};
 ghost use Rattle.infer.specs.Leads.{Leads};
 ghost use Rattle.infer.specs.Matchers.{Lasts, OthersAreNear, signatures};
-ghost use Rattle.infer.specs.Row.{shows};
+ghost use Rattle.infer.specs.Row.{Accepts, shows};
 ghost use Rattle.infer.specs.Table.{table};
 ghost use Rattle.infer.specs.Triple.{triple_of};
 
@@ -47,5 +48,13 @@ pub fn leads()
     ensures { (signature : BuiltIn) → Leads signature }
 {
     infer_sig::laws::leads();
+    infer_deep::laws::leads();
+}
+
+/// No built-in row accepts the empty buffer.
+pub fn blank()
+    ensures { NoneHas (Accepts []) table }
+{
+    infer_sig::laws::by_place();
     infer_deep::laws::leads();
 }
