@@ -6,3 +6,6 @@ pub mod LawLemmas
 pub mod LeadLemmas
 pub mod PlaceLemmas
 pub mod RefusalLemmas
+pub mod FirstLemmas
+pub mod IndexLemmas
+pub mod SmallLemmas

@@ -34,3 +34,4 @@ pub mod Table
 pub mod RowSeen
 pub mod Matchers
 pub mod Leads
+pub mod Laws
