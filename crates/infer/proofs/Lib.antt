@@ -9,3 +9,6 @@ pub mod RefusalLemmas
 pub mod FirstLemmas
 pub mod IndexLemmas
 pub mod SmallLemmas
+pub mod AcceptanceLemmas
+pub mod OrderLemmas
+pub mod SampleLemmas

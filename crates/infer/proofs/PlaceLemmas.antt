@@ -1,6 +1,7 @@
 -- Tests that a text stands somewhere in a buffer or nowhere, and what they tell.
-use Rattle.std.proofs.Common.{◌≡◌, ◌<◌, ◌≤◌, ℕ, zero, suc, ◌+◌, ◌-◌, Bool, true, false, not, ◌↔◌, List, length, get_or, IsTrue, refl, subst, ◌∙◌, arith}
+use Rattle.std.proofs.Common.{◌≡◌, ◌<◌, ◌≤◌, ℕ, zero, suc, ◌+◌, ◌-◌, Bool, true, false, ◌&&◌, not, ◌↔◌, List, length, get_or, leb, IsTrue, refl, subst, ◌∙◌, arith}
 use Rattle.std.specs.List.{list_all, range_with_len}
+use Rattle.std.proofs.lemmas.Bool.{and_parts, leb-true}
 use Rattle.std.proofs.lemmas.List.Sums.{AllPass-from_list_all}
 use Rattle.std.proofs.lemmas.List.FromFn.{get_or-range_with_len, length-range_with_len}
 use Rattle.infer_deep.specs.Find.{OccursAt}
@@ -10,6 +11,10 @@ use Rattle.infer_sig.specs.Signature.{stands}
 pub not_both : (a : Bool) → IsTrue a → ¬ IsTrue (not a)
 not_both true h e = absurd (cc)
 not_both false h e = absurd (cc)
+
+-- the text stands in the buffer at p
+abbrev pub holds : ℕ → List ℕ → List ℕ → Bool
+holds p t b = leb (p + length t) (length b) && stands p t b
 
 -- the text does not stand at p
 abbrev pub lacks : ℕ → List ℕ → List ℕ → Bool
@@ -28,8 +33,10 @@ abbrev pub ByPlace : Type 0
 ByPlace = (place : ℕ) (t buf : List ℕ) → IsTrue (stands place t buf) ↔ StandsByPlace place t buf
 
 module _ (by_place : ByPlace) (t b : List ℕ) where
-  pub found : (p : ℕ) → p + length t ≤ length b → IsTrue (stands p t b) → OccursAt b t p
-  found p l h = record { fits = l; reads = λ j lt. ((by_place p t b).0 h j lt).1 }
+  pub found : (p : ℕ) → IsTrue (holds p t b) → OccursAt b t p
+  found p h =
+      let parts = and_parts (leb (p + length t) (length b)) _ h in
+      record { fits = leb-true _ _ parts.0; reads = λ j lt. ((by_place p t b).0 parts.1 j lt).1 }
 
   pub lacked : (p : ℕ) → IsTrue (lacks p t b) → ¬ OccursAt b t p
   lacked p e o = not_both (stands p t b) ((by_place p t b).1 (λ k l. let f = o.fits in (omega arith, o.reads k l))) e

@@ -40,7 +40,7 @@ has_cut_root b = eqb (le16 b 26) 3 && ltb (length b) ((le32 b 48 + 1) * 512 + 12
 abbrev class_refuses : List ℕ → Bool
 class_refuses b = lacks 0 compound_header b || (lacks 28 (0xFE ∷ 0xFF ∷ []) b || has_cut_root b)
 
-abbrev lacks_folder : List ℕ → Bool
+abbrev pub lacks_folder : List ℕ → Bool
 lacks_folder b = lacks 30 (codes "word/") b && (lacks 30 (codes "ppt/") b && lacks 30 (codes "xl/") b)
 
 abbrev lacks_name : List ℕ → Bool
@@ -143,6 +143,17 @@ cut_frame (x ∷ magic) b (w ∷ words) rest each whole =
     let behind = length-append (concat words) (x ∷ magic ++ rest) in
     inr (omega arith)
 
+module _ (by_place : ByPlace) (b : List ℕ) where
+  pub no_folder : IsTrue (lacks_folder b) → ¬ HasFolder b 30
+  no_folder e h =
+      let parts = and_parts (lacks 30 (codes "word/") b) _ e in
+      let others = and_parts (lacks 30 (codes "ppt/") b) _ parts.1 in
+      elim h [
+        | inl o ↦ lacked by_place _ b 30 parts.0 o
+        | inr (inl o) ↦ lacked by_place _ b 30 others.0 o
+        | inr (inr o) ↦ lacked by_place _ b 30 others.1 o
+      ]
+
 module _ (by_place : ByPlace) (deep : Deep.Leads) (b : List ℕ) where
   class_refused : (id : List ℕ) → IsTrue (class_refuses b) → ¬ HasClassId id b
   class_refused id e (root, r, o) = elim (or_cases (lacks 0 compound_header b) _ e) [
@@ -167,16 +178,6 @@ module _ (by_place : ByPlace) (deep : Deep.Leads) (b : List ℕ) where
       let parts = and_parts (leb 1 (length t)) _ k in
       lacked_from by_place t b 0 h.2.0 (leb-true _ _ parts.0) (omega arith) parts.1 h.2.1.stands
 
-  no_folder : IsTrue (lacks_folder b) → ¬ HasFolder b 30
-  no_folder e h =
-      let parts = and_parts (lacks 30 (codes "word/") b) _ e in
-      let others = and_parts (lacks 30 (codes "ppt/") b) _ parts.1 in
-      elim h [
-        | inl o ↦ lacked by_place _ b 30 parts.0 o
-        | inr (inl o) ↦ lacked by_place _ b 30 others.0 o
-        | inr (inr o) ↦ lacked by_place _ b 30 others.1 o
-      ]
-
   no_name : IsTrue (lacks_name b) → ¬ HasOfficeName b
   no_name e h =
       let parts = and_parts (lacks 30 (codes "[Content_Types].xml") b) _ e in
@@ -193,12 +194,12 @@ module _ (by_place : ByPlace) (deep : Deep.Leads) (b : List ℕ) where
     | inl none ↦ lacked by_place zip_header b 0 none d.0
     | inr none ↦
       let parts = and_parts (lacks_folder b) (lacks_name b) none in
-      elim d.1 [ inl h ↦ no_folder parts.0 h.0 | inr h ↦ no_name parts.1 h.1 ]
+      elim d.1 [ inl h ↦ no_folder by_place b parts.0 h.0 | inr h ↦ no_name parts.1 h.1 ]
   ]
   office_refused false folder e k (p, d, o) =
       let parts = and_parts (lacks_folder b) _ k in
       elim d.1 [
-        | inl h ↦ no_folder parts.0 h.0
+        | inl h ↦ no_folder by_place b parts.0 h.0
         | inr h ↦
           let second = h.2.1.third_found.second_found.here in
           lacked_from by_place zip_header b (le32 b 18 + 49) h.2.1.third_found.second (omega arith) second.low parts.1 second.stands

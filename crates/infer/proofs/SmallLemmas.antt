@@ -15,7 +15,7 @@ use Rattle.infer.proofs.PlaceLemmas.{ByPlace}
 use Rattle.infer.proofs.TableLemmas.{length-table}
 
 -- any row
-some_row : Row BuiltIn
+pub some_row : Row BuiltIn
 some_row = row Text [] [] html
 
 -- a row with the signature of an earlier one is not first

@@ -35,3 +35,5 @@ pub mod RowSeen
 pub mod Matchers
 pub mod Leads
 pub mod Laws
+pub mod Samples
+pub mod SampleSeen

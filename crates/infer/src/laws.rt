@@ -1,7 +1,7 @@
 //! Facts about the definitions, each the contract of a function that does nothing beside, but for calls of other
 //! laws. To use a law, call it.
-ghost use Rattle.std.specs.Prelude.{◌≡◌, ◌≢◌, ◌↔◌, ℕ, List, [], All, IsTrue, length, map};
-ghost use Rattle.std.specs.List.{AllPairs};
+ghost use Rattle.std.specs.Prelude.{◌≡◌, ◌≢◌, ◌↔◌, ◌<◌, ℕ, List, [], All, IsTrue, length, map};
+ghost use Rattle.std.specs.List.{AllPairs, HoldsAt};
 ghost use Rattle.infer_sig.specs.App.{java, mach};
 ghost use Rattle.infer_sig.specs.Signature.{accepts};
 ghost use Rattle.infer.specs.BuiltIn.{BuiltIn};
@@ -11,6 +11,7 @@ ghost use Rattle.infer.specs.Leads.{Leads};
 ghost use Rattle.infer.specs.Matchers.{Lasts, OthersAreNear, signatures};
 ghost use Rattle.infer.specs.Row.{Accepts, shows};
 ghost use Rattle.infer.specs.Rows.{custom_rows, rows};
+ghost use Rattle.infer.specs.Samples.{sample_of};
 ghost use Rattle.infer.specs.Table.{table};
 ghost use Rattle.infer.specs.Triple.{triple_of};
 
@@ -103,4 +104,13 @@ pub fn front()
 {
     growth();
     near();
+}
+
+// Every built-in row but 3 and 66 is first for its sample.
+pub fn reach()
+    ensures { (i : ℕ) → i < 98 → i ≢ 3 → i ≢ 66 → HoldsAt (λ r. IsFirst (Accepts (sample_of r.signature)) table i) table i }
+{
+    infer_sig::laws::by_place();
+    infer_deep::laws::leads();
+    infer_deep::laws::apart();
 }

@@ -26,6 +26,7 @@ mod infer;
 pub mod laws;
 mod map;
 pub mod odf;
+mod samples;
 #[cfg(test)]
 mod tests;
 pub mod text;
@@ -35,6 +36,7 @@ pub use fault::Fault;
 use file_type::Wanted;
 pub use file_type::{FileType as Type, Matcher, MatcherType};
 pub use infer::Infer;
+pub use samples::sample;
 
 /// The type of the first built-in row that accepts `buf`, and `None` exactly where no row accepts it.
 pub fn get(buf: &[u8]) -> Option<Type>
