@@ -163,7 +163,7 @@ module _ (by_place : ByPlace) (b : List ℕ) where
       let low = leb-true s p k1.0 in
       record {
         here = record { stands = found by_place zip_header b p k0.0; low = low; high = leb-true (p + 4) (s + 6000) k2.0 };
-        before = λ q lt h. let above = h.low in lacked_among by_place zip_header b s (p - s) q above (omega arith) k2.1 h.stands;
+        before = λ q lt h. let above = h.low in lacked_among by_place zip_header (omega arith) b s (p - s) q above (omega arith) k2.1 h.stands;
       }
 
   folder_found : (p : ℕ) → IsTrue (has_folder p b) → HasFolder b p

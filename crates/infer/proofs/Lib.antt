@@ -12,3 +12,4 @@ pub mod SmallLemmas
 pub mod AcceptanceLemmas
 pub mod OrderLemmas
 pub mod SampleLemmas
+pub mod BreakLemmas

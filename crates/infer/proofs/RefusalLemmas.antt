@@ -176,7 +176,7 @@ module _ (by_place : ByPlace) (deep : Deep.Leads) (b : List ℕ) where
   matroska_refused true t e k h = lacked by_place ebml b 0 (sym e) h.1
   matroska_refused false t e k h =
       let parts = and_parts (leb 1 (length t)) _ k in
-      lacked_from by_place t b 0 h.2.0 (leb-true _ _ parts.0) (omega arith) parts.1 h.2.1.stands
+      lacked_from by_place t (leb-true _ _ parts.0) b 0 h.2.0 (omega arith) parts.1 h.2.1.stands
 
   no_name : IsTrue (lacks_name b) → ¬ HasOfficeName b
   no_name e h =
@@ -202,7 +202,7 @@ module _ (by_place : ByPlace) (deep : Deep.Leads) (b : List ℕ) where
         | inl h ↦ no_folder by_place b parts.0 h.0
         | inr h ↦
           let second = h.2.1.third_found.second_found.here in
-          lacked_from by_place zip_header b (le32 b 18 + 49) h.2.1.third_found.second (omega arith) second.low parts.1 second.stands
+          lacked_from by_place zip_header (omega arith) b (le32 b 18 + 49) h.2.1.third_found.second second.low parts.1 second.stands
       ]
 
   heif_refused : IsTrue (refuses heif b) → ¬ IsHeif b
@@ -254,7 +254,7 @@ module _ (by_place : ByPlace) (deep : Deep.Leads) (b : List ℕ) where
 
   pub refused : (s : BuiltIn) → IsTrue (refuses s b) → ¬ IsAccepted s b
   refused (fixed alternatives) e h = not_both (accepts alternatives b) h e
-  refused pdf e h = lacked_from by_place (codes "%PDF") b 0 h.0 (omega arith) (omega arith) e h.1.stands
+  refused pdf e h = lacked_from by_place (codes "%PDF") (omega arith) b 0 h.0 (omega arith) e h.1.stands
   refused (matroska t) e h = matroska_refused (lacks 0 ebml b) t refl e h
   refused (framed magic) e h = framed_refused magic e h
   refused heif e h = heif_refused e h

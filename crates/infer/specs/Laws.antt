@@ -1,8 +1,8 @@
 -- Laws of the first row that accepts a buffer.
-use Rattle.std.specs.Prelude.{◌≡◌, ◌≤◌, ◌⊎◌, ℕ, Bool, false, not, List, ◌++◌, Option, None, Some, length, take, IsTrue}
+use Rattle.std.specs.Prelude.{◌≡◌, ◌≢◌, ◌≤◌, ◌⊎◌, ℕ, Bool, false, not, List, ◌++◌, Option, None, Some, length, take, IsTrue}
 use Rattle.infer.specs.Buffer.{IsBuffer}
 use Rattle.infer.specs.Caller.{Contracts}
-use Rattle.infer.specs.First.{IsAnswer, IsFirstOf}
+use Rattle.infer.specs.First.{IsAnswer, IsFirst, IsFirstOf}
 use Rattle.infer.specs.Matchers.{is_of_the_twelve}
 use Rattle.infer.specs.Questions.{HasExtension, HasMimeType, SomeBoth}
 use Rattle.infer.specs.Row.{Row, Accepts}
@@ -50,3 +50,11 @@ OnlyTheTwelveFollow =
     (short more : List ℕ) (before after : Option ℕ) → 1024 ≤ length short
     → IsFirstOf (Accepts short) table before → IsFirstOf (Accepts (short ++ more)) table after
     → (after ≡ before) ⊎ IsTrue (answers_twelve after)
+
+-- the buffer has row i as its first, and its first 1024 bytes have another answer
+pub record Breaks (i : ℕ) (buf : List ℕ) : Type 0 where
+  pub bytes : IsBuffer buf
+  pub first : IsFirst (Accepts buf) table i
+  pub front : Option ℕ
+  pub front_first : IsFirstOf (Accepts (take 1024 buf)) table front
+  pub other : front ≢ Some i

@@ -6,9 +6,9 @@ ghost use Rattle.infer_sig.specs.App.{java, mach};
 ghost use Rattle.infer_sig.specs.Signature.{accepts};
 ghost use Rattle.infer.specs.BuiltIn.{BuiltIn};
 ghost use Rattle.infer.specs.First.{IsFirst, NoneHas};
-ghost use Rattle.infer.specs.Laws.{AnswersAreNamed, FrontDecides, IsSteady, Keeps, OnlyTheTwelveFollow};
+ghost use Rattle.infer.specs.Laws.{AnswersAreNamed, Breaks, FrontDecides, IsSteady, Keeps, OnlyTheTwelveFollow};
 ghost use Rattle.infer.specs.Leads.{Leads};
-ghost use Rattle.infer.specs.Matchers.{Lasts, OthersAreNear, signatures};
+ghost use Rattle.infer.specs.Matchers.{Lasts, OthersAreNear, is_of_the_twelve, signatures};
 ghost use Rattle.infer.specs.Row.{Accepts, shows};
 ghost use Rattle.infer.specs.Rows.{custom_rows, rows};
 ghost use Rattle.infer.specs.Samples.{sample_of};
@@ -106,9 +106,18 @@ pub fn front()
     near();
 }
 
-// Every built-in row but 3 and 66 is first for its sample.
+/// Every built-in row but 3 and 66 is first for some buffer: for its sample.
 pub fn reach()
     ensures { (i : ℕ) → i < 98 → i ≢ 3 → i ≢ 66 → HoldsAt (λ r. IsFirst (Accepts (sample_of r.signature)) table i) table i }
+{
+    infer_sig::laws::by_place();
+    infer_deep::laws::leads();
+    infer_deep::laws::apart();
+}
+
+/// Each of the twelve rows is the first of some buffer whose first 1024 bytes have another answer.
+pub fn breaks()
+    ensures { (i : ℕ) → IsTrue (is_of_the_twelve i) → (buf : List ℕ) × Breaks i buf }
 {
     infer_sig::laws::by_place();
     infer_deep::laws::leads();
