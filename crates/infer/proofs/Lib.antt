@@ -5,3 +5,13 @@ pub mod TableLemmas
 pub mod LawLemmas
 pub mod HeadLemmas
 pub mod BuiltInLemmas
+pub mod LeadLemmas
+pub mod PlaceLemmas
+pub mod RefusalLemmas
+pub mod FirstLemmas
+pub mod IndexLemmas
+pub mod SmallLemmas
+pub mod AcceptanceLemmas
+pub mod OrderLemmas
+pub mod SampleLemmas
+pub mod BreakLemmas

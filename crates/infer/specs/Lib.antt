@@ -35,3 +35,7 @@ pub mod RowSeen
 pub mod Matchers
 pub mod Watched
 pub mod Fault
+pub mod Leads
+pub mod Laws
+pub mod Samples
+pub mod SampleSeen

@@ -1,13 +1,23 @@
 //! Facts about the definitions, each the contract of a function that does nothing beside, but for calls of other
 //! laws. To use a law, call it.
-ghost use Rattle.std.specs.Prelude.{◌≡◌, ◌≢◌, ◌↔◌, All, IsTrue, length, map};
-ghost use Rattle.std.specs.List.{AllPairs};
-ghost use Rattle.infer.specs.Matchers.{Lasts, OthersAreNear, signatures};
-ghost use Rattle.infer.specs.Row.{shows};
+ghost use Rattle.std.specs.Prelude.{◌≡◌, ◌≢◌, ◌↔◌, ◌<◌, ℕ, List, [], All, IsTrue, length, map};
+ghost use Rattle.std.specs.List.{AllPairs, HoldsAt};
+ghost use Rattle.infer_sig.specs.App.{java, mach};
+ghost use Rattle.infer_sig.specs.Signature.{accepts};
+ghost use Rattle.infer.specs.BuiltIn.{BuiltIn};
+ghost use Rattle.infer.specs.First.{IsFirst, NoneHas};
+ghost use Rattle.infer.specs.Laws.{AnswersAreNamed, Breaks, FrontDecides, IsSteady, Keeps, OnlyTheTwelveFollow};
+ghost use Rattle.infer.specs.Leads.{Leads};
+ghost use Rattle.infer.specs.Matchers.{Lasts, OthersAreNear, is_of_the_twelve, signatures};
+ghost use Rattle.infer.specs.Row.{Accepts, shows};
+ghost use Rattle.infer.specs.Rows.{custom_rows, rows};
+ghost use Rattle.infer.specs.Samples.{sample_of};
 ghost use Rattle.infer.specs.Table.{table};
 ghost use Rattle.infer.specs.Triple.{triple_of};
 
 use crate::file_type::FileType;
+use crate::infer::Infer;
+use std::alloc::Allocator;
 
 /// `a == b`, which compares the class, the MIME type and the extension of two types.
 pub fn equal(a: &FileType, b: &FileType) -> bool
@@ -38,4 +48,78 @@ pub fn near()
 {
     infer_sig::laws::near();
     infer_deep::laws::near();
+}
+
+/// A buffer that a built-in signature accepts begins with a byte that the signature allows there.
+pub fn leads()
+    ensures { (signature : BuiltIn) → Leads signature }
+{
+    infer_sig::laws::leads();
+    infer_deep::laws::leads();
+}
+
+/// No built-in row accepts the empty buffer.
+pub fn blank()
+    ensures { NoneHas (Accepts []) table }
+{
+    infer_sig::laws::by_place();
+    infer_deep::laws::leads();
+}
+
+/// The row of dynamic libraries, 3, and the second row of EPUB, 66, are first for no buffer: an earlier row has
+/// the same signature.
+pub fn never()
+    ensures { (buf : List ℕ) (i : ℕ) → IsFirst (Accepts buf) table i → (i ≢ 3) × (i ≢ 66) }
+{}
+
+/// No buffer is both a Java class and a Mach-O program.
+pub fn apart()
+    ensures { (buf : List ℕ) → ¬ (IsTrue (accepts java buf) × IsTrue (accepts mach buf)) }
+{
+    infer_sig::laws::by_place();
+}
+
+/// Where `get` answers a type, `is` is true of its extension, and `is_mime` of its MIME type.
+pub fn named<A: Allocator>(infer: &Infer<A>)
+    ensures { AnswersAreNamed (rows infer.now) }
+{
+    let _ = infer;
+}
+
+/// Bytes behind a buffer never make its first row a later one, where each function that was added keeps its yes
+/// as a buffer goes on. The built-in rows do.
+pub fn index<A: Allocator>(infer: &Infer<A>)
+    requires { All (λ r. Keeps r.signature) (custom_rows infer.now) }
+    ensures { IsSteady (rows infer.now) }
+{
+    let _ = infer;
+    growth();
+}
+
+/// The first 1024 bytes decide, but for twelve rows: where the answer of the built-in rows is none or another row,
+/// it is that of the first 1024 bytes. And behind these an answer stays, or gives way to one of the twelve.
+pub fn front()
+    ensures decides { FrontDecides }
+    ensures follow { OnlyTheTwelveFollow }
+{
+    growth();
+    near();
+}
+
+/// Every built-in row but 3 and 66 is first for some buffer: for its sample.
+pub fn reach()
+    ensures { (i : ℕ) → i < 98 → i ≢ 3 → i ≢ 66 → HoldsAt (λ r. IsFirst (Accepts (sample_of r.signature)) table i) table i }
+{
+    infer_sig::laws::by_place();
+    infer_deep::laws::leads();
+    infer_deep::laws::apart();
+}
+
+/// Each of the twelve rows is the first of some buffer whose first 1024 bytes have another answer.
+pub fn breaks()
+    ensures { (i : ℕ) → IsTrue (is_of_the_twelve i) → (buf : List ℕ) × Breaks i buf }
+{
+    infer_sig::laws::by_place();
+    infer_deep::laws::leads();
+    infer_deep::laws::apart();
 }

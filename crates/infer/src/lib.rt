@@ -30,6 +30,7 @@ mod infer;
 pub mod laws;
 mod map;
 pub mod odf;
+mod samples;
 #[cfg(test)]
 mod tests;
 pub mod text;
@@ -41,6 +42,7 @@ pub use fault::Fault;
 use file_type::Wanted;
 pub use file_type::{FileType as Type, Matcher, MatcherType};
 pub use infer::Infer;
+pub use samples::sample;
 use std::alloc::Allocator;
 use std::rt::Files;
 pub use watched::Watched;

@@ -1,3 +1,5 @@
+-- where a text stands, of the crate below
+pub use Rattle.memchr.specs.Find
 pub mod Numbers
 pub mod Places
 pub mod Blocks

@@ -1,0 +1,60 @@
+-- Laws of the first row that accepts a buffer.
+use Rattle.std.specs.Prelude.{◌≡◌, ◌≢◌, ◌≤◌, ◌⊎◌, ℕ, Bool, false, not, List, ◌++◌, Option, None, Some, length, take, IsTrue}
+use Rattle.infer.specs.Buffer.{IsBuffer}
+use Rattle.infer.specs.Caller.{Contracts}
+use Rattle.infer.specs.First.{IsAnswer, IsFirst, IsFirstOf}
+use Rattle.infer.specs.Matchers.{is_of_the_twelve}
+use Rattle.infer.specs.Questions.{HasExtension, HasMimeType, SomeBoth}
+use Rattle.infer.specs.Row.{Row, Accepts}
+use Rattle.infer.specs.Rows.{Signature, AnyAccepts, IsAcceptedBy}
+use Rattle.infer.specs.Table.{table}
+use Rattle.infer.specs.Triple.{Triple}
+
+-- the first index is not greater than the second, where none is the greatest
+abbrev pub IsNotLater : Option ℕ → Option ℕ → Type 0
+IsNotLater o None = Unit {0}
+IsNotLater None (Some j) = ⊥
+IsNotLater (Some i) (Some j) = i ≤ j
+
+module _ {X : Type 0} {g : Contracts X} where
+  -- what the signature accepts, it accepts however the buffer goes on
+  abbrev pub Keeps : Signature X g → Type 0
+  Keeps s = (short more : List ℕ) → IsBuffer (short ++ more) → IsAcceptedBy s short → IsAcceptedBy s (short ++ more)
+
+  -- bytes behind a buffer never make its first row a later one
+  abbrev pub IsSteady : List (Row (Signature X g)) → Type 0
+  IsSteady all =
+      (short more : List ℕ) (before after : Option ℕ) → IsBuffer (short ++ more)
+      → IsFirstOf (AnyAccepts short) all before → IsFirstOf (AnyAccepts (short ++ more)) all after → IsNotLater after before
+
+  -- some row with the extension of the answer accepts the buffer, and some row with its MIME type
+  abbrev pub AnswersAreNamed : List (Row (Signature X g)) → Type 0
+  AnswersAreNamed all =
+      (buf : List ℕ) (t : Triple) → IsAnswer (AnyAccepts buf) all (Some t)
+      → SomeBoth (HasExtension t.extension) (AnyAccepts buf) all × SomeBoth (HasMimeType t.mime_type) (AnyAccepts buf) all
+
+-- the answer is one of the twelve rows
+abbrev pub answers_twelve : Option ℕ → Bool
+answers_twelve None = false
+answers_twelve (Some i) = is_of_the_twelve i
+
+-- every other answer is that of the first 1024 bytes
+abbrev pub FrontDecides : Type 0
+FrontDecides =
+    (buf : List ℕ) (o : Option ℕ) → IsFirstOf (Accepts buf) table o → IsTrue (not (answers_twelve o))
+    → IsFirstOf (Accepts (take 1024 buf)) table o
+
+-- behind 1024 bytes an answer stays, or gives way to one of the twelve
+abbrev pub OnlyTheTwelveFollow : Type 0
+OnlyTheTwelveFollow =
+    (short more : List ℕ) (before after : Option ℕ) → 1024 ≤ length short
+    → IsFirstOf (Accepts short) table before → IsFirstOf (Accepts (short ++ more)) table after
+    → (after ≡ before) ⊎ IsTrue (answers_twelve after)
+
+-- the buffer has row i as its first, and its first 1024 bytes have another answer
+pub record Breaks (i : ℕ) (buf : List ℕ) : Type 0 where
+  pub bytes : IsBuffer buf
+  pub first : IsFirst (Accepts buf) table i
+  pub front : Option ℕ
+  pub front_first : IsFirstOf (Accepts (take 1024 buf)) table front
+  pub other : front ≢ Some i
