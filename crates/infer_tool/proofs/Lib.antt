@@ -1,2 +1,3 @@
 pub mod ReportLemmas
 pub mod RunLemmas
+pub mod SampleLemmas

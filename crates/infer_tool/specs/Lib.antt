@@ -1,4 +1,5 @@
 pub mod Line
 pub mod Outcome
 pub mod Report
+pub mod Sample
 pub mod Run

@@ -1,28 +1,31 @@
 //! Prints the type of each file that it is given, or of standard input.
 #![tactic(auto)]
 
-ghost use Rattle.std.specs.Prelude.{◌≡◌, ◌≢◌, [], IfSome, codes, map, string_bytes};
+ghost use Rattle.std.specs.Prelude.{◌≡◌, ◌≢◌, ◌↔◌, [], IfSome, IsTrue, codes, map, string_bytes};
 ghost use Rattle.infer.specs.Buffer.{head};
 ghost use Rattle.infer.specs.First.{IsAnswer};
 ghost use Rattle.infer.specs.Row.{Accepts};
 ghost use Rattle.infer.specs.Table.{table};
 ghost use Rattle.infer_tool.specs.Report.{ReportsTheOne};
 ghost use Rattle.infer_tool.specs.Run.{ReportsEach};
+ghost use Rattle.infer_tool.specs.Sample.{AnswersSample, AsksSample};
 
 mod outcome;
 mod report;
+mod sample;
 #[cfg(test)]
 mod tests;
 
 use outcome::Outcome;
 use report::FRONT;
+use sample::run_sample;
 use std::alloc::Allocator;
 use std::io::{LineWriter, Read, Write};
 use std::process::ExitCode;
 use std::rt::{Env, Files};
 use std::{env, io};
 
-const USAGE: &[u8] = b"usage: infer_tool [PATH ..]\n";
+const USAGE: &[u8] = b"usage: infer_tool [--front N] [PATH ..] or --sample EXT\n";
 
 // A line with the longest path of a system fits.
 const LINE_BUFFER: usize = 8192;
@@ -30,7 +33,9 @@ const LINE_BUFFER: usize = 8192;
 /// Reports what each file is that a word names as its path, in the order of the words, also after a fault. Without
 /// words it reports what `input` is, under the name `-`.
 ///
-/// The outcome is the worst one.
+/// Where the first word is `--sample`, the sample of the type with the extension that the second word names is
+/// written instead, or the usage line where there is not exactly one word behind it. Only the first word can be an
+/// option. The outcome is the worst one.
 pub fn run<R: Files, A: Allocator + Copy, I: Read + Drop, W: Write, E: Write>(
     rt: &R,
     alloc: A,
@@ -41,12 +46,58 @@ pub fn run<R: Files, A: Allocator + Copy, I: Read + Drop, W: Write, E: Write>(
 ) -> Outcome
     ensures line { words.now ≡ [] → IfSome (I.remaining input) (λ s.
         ReportsTheOne result (codes "-") (IsAnswer (Accepts (head FRONT s)) table) (W.contents out.old) (W.contents out.new)) }
-    ensures each { words.now ≢ [] → ReportsEach FRONT (map string_bytes words.now) result (W.contents out.old) (W.contents out.new) }
+    ensures each { words.now ≢ [] → ¬ AsksSample (map string_bytes words.now)
+        → ReportsEach FRONT (map string_bytes words.now) result (W.contents out.old) (W.contents out.new) }
+    ensures sample { AsksSample (map string_bytes words.now)
+        → AnswersSample (map string_bytes words.now) result (W.contents out.old) (W.contents out.new) }
     ensures silent { result ≢ Outcome.Failed → err.new ≡ err.old }
 {
     if words.is_empty() {
         return report::run_reader(alloc, "-", input, out, err);
     }
+    if asks_sample(words) {
+        return run_asked(words, out, err);
+    }
+    run_paths(rt, alloc, words, out, err)
+}
+
+fn asks_sample(words: &[String]) -> bool
+    ensures { IsTrue result ↔ AsksSample (map string_bytes words.now) }
+{
+    match words.first() {
+        Some(word) => is_sample_option(word.as_str()),
+        None => false,
+    }
+}
+
+fn is_sample_option(word: &str) -> bool
+    ensures { IsTrue result ↔ (word.now ≡ codes "--sample") }
+{
+    word == "--sample"
+}
+
+// Behind the first word, which asks for a sample.
+fn run_asked<W: Write, E: Write>(words: &[String], out: &mut W, err: &mut E) -> Outcome
+    ensures sample { AnswersSample (map string_bytes words.now) result (W.contents out.old) (W.contents out.new) }
+    ensures silent { result ≢ Outcome.Failed → err.new ≡ err.old }
+{
+    if words.len() != 2 {
+        let _ = err.write_all(USAGE);
+        return Outcome::Failed;
+    }
+    run_sample(words[1].as_str(), out, err)
+}
+
+fn run_paths<R: Files, A: Allocator + Copy, W: Write, E: Write>(
+    rt: &R,
+    alloc: A,
+    words: &[String],
+    out: &mut W,
+    err: &mut E,
+) -> Outcome
+    ensures each { ReportsEach FRONT (map string_bytes words.now) result (W.contents out.old) (W.contents out.new) }
+    ensures silent { result ≢ Outcome.Failed → err.new ≡ err.old }
+{
     let mut outcome = Outcome::Known;
     for word in words {
         outcome = outcome.worse(report::run_path(rt, alloc, word.as_str(), out, err));

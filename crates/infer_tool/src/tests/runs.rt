@@ -86,7 +86,7 @@ fn a_fault_ends_nothing(rt: HostRuntime) -> Result<(), Fail> {
 
 #[test]
 fn every_word_is_a_path(rt: HostRuntime) -> Result<(), Fail> {
-    for word in ["-", "missing.bin", "--sample", "--front", ""] {
+    for word in ["-", "missing.bin", "--front", ""] {
         let ((status, out, err), reads) = over(&rt, &[word])?;
         assert_eq!(rt; status, 2, "{word}");
         assert!(rt; out.is_empty(), "{word}");
@@ -94,6 +94,50 @@ fn every_word_is_a_path(rt: HostRuntime) -> Result<(), Fail> {
         assert_eq!(rt; err.as_slice(), expected.as_bytes(), "{word}");
         assert_eq!(rt; reads, 0, "{word}");
     }
+    Ok(())
+}
+
+#[test]
+fn samples(rt: HostRuntime) -> Result<(), Fail> {
+    let epub =
+        b"PK\x03\x04\0\0\0\0\0\0\0\0\0\0\0\0\0\0\0\0\0\0\0\0\0\0\0\0\0\0mimetypeapplication/epub+zip";
+    for (extension, sample) in [("html", b"<P>".as_slice()), ("epub", epub.as_slice())] {
+        let ((status, out, err), reads) = over(&rt, &["--sample", extension])?;
+        assert_eq!(rt; status, 0, "{extension}");
+        assert_eq!(rt; out.as_slice(), sample, "{extension}");
+        assert!(rt; err.is_empty(), "{extension}");
+        assert_eq!(rt; reads, 0, "{extension}");
+    }
+    for extension in ["dll", "JPG", "", "txt"] {
+        let ((status, out, err), reads) = over(&rt, &["--sample", extension])?;
+        assert_eq!(rt; status, 2, "{extension}");
+        assert!(rt; out.is_empty(), "{extension}");
+        let expected = format!(in rt.alloc(); "{extension}: no sample\n")?;
+        assert_eq!(rt; err.as_slice(), expected.as_bytes(), "{extension}");
+        assert_eq!(rt; reads, 0, "{extension}");
+    }
+    Ok(())
+}
+
+#[test]
+fn words_around_the_sample(rt: HostRuntime) -> Result<(), Fail> {
+    for words in [
+        ["--sample"].as_slice(),
+        ["--sample", "html", "png"].as_slice(),
+    ] {
+        let ((status, out, err), reads) = over(&rt, words)?;
+        assert_eq!(rt; status, 2);
+        assert!(rt; out.is_empty());
+        assert_eq!(rt; err.as_slice(), USAGE);
+        assert_eq!(rt; reads, 0);
+    }
+    let ((status, out, err), _) = over(&rt, &["missing.bin", "--sample"])?;
+    assert_eq!(rt; status, 2);
+    assert!(rt; out.is_empty());
+    assert_eq!(rt;
+        err.as_slice(),
+        b"missing.bin: cannot open\n--sample: cannot open\n".as_slice()
+    );
     Ok(())
 }
 
@@ -150,5 +194,8 @@ fn a_failed_flush_is_a_failure(rt: HostRuntime) {
 
 #[test]
 fn usage(rt: HostRuntime) {
-    assert_eq!(rt; USAGE, b"usage: infer_tool [PATH ..]\n".as_slice());
+    assert_eq!(rt;
+        USAGE,
+        b"usage: infer_tool [--front N] [PATH ..] or --sample EXT\n".as_slice()
+    );
 }

@@ -2,7 +2,7 @@
 use Rattle.std.proofs.Common.{◌≡◌, ◌≢◌, map, string_bytes, take}
 use Rattle.infer_tool.specs.Run.{ReportsEach}
 use Rattle.infer_tool.specs.declared.outcome.Outcome.TheVariants.{Failed}
-use Rattle.infer_tool.proofs.run.Given as goal
+use Rattle.infer_tool.proofs.run_paths.Given as goal
 
 abbrev pub invariant-loop-word : goal.invariant-loop-word
 invariant-loop-word g l = record {

@@ -1,7 +1,7 @@
 use Rattle.std.proofs.Common.{◌∙◌, ap, refl, rules, string_bytes}
 use Rattle.infer_tool.specs.Run.{no_input}
 use Rattle.infer_tool.proofs.RunLemmas.{each-more}
-use Rattle.infer_tool.proofs.run.Goals as goal
+use Rattle.infer_tool.proofs.run_paths.Goals as goal
 
 pub loop-word-init : goal.loop-word-init
 loop-word-init g c = record { each = no_input _; silent = λ _. refl }
