@@ -1,3 +1,4 @@
 mod added;
+mod laws;
 mod positions;
 mod types;
