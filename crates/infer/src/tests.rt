@@ -1,5 +1,6 @@
 mod added;
 mod input;
+mod laws;
 mod positions;
 mod readers;
 mod types;

@@ -1,0 +1,184 @@
+//! What the laws tell a caller, each as the contract of a function that calls one.
+ghost use Rattle.std.specs.Prelude.{◌≡◌, ◌≢◌, ◌↔◌, [], ◌∷◌, ◌++◌, ℕ, List, false, true, All, IfSome, IsNone, IsTrue, None, Some, not, take, nat_eq};
+ghost use Rattle.std.specs.List.{starts_with};
+ghost use Rattle.infer_deep.specs.Windows.{mkv_type};
+ghost use Rattle.infer.specs.BuiltIn.{IsAccepted, matroska};
+ghost use Rattle.infer.specs.First.{IsFirst};
+ghost use Rattle.infer.specs.Laws.{Keeps, answers_twelve};
+ghost use Rattle.infer.specs.Row.{Accepts};
+ghost use Rattle.infer.specs.Rows.{custom_rows};
+ghost use Rattle.infer.specs.Table.{table};
+
+use crate::app::{is_java, is_mach};
+use crate::{Infer, Type, laws, position, sample};
+use std::alloc::Allocator;
+use std::test::Fail;
+
+fn begins_00(buf: &[u8]) -> bool
+    ensures { IsTrue result ↔ IsTrue (starts_with nat_eq buf.now (0x00 ∷ [])) }
+{
+    buf.starts_with(&[0x00])
+}
+
+/// No Matroska file begins with 00.
+fn no_matroska()
+    ensures { (rest : List ℕ) → ¬ IsAccepted (matroska mkv_type) (0x00 ∷ rest) }
+{
+    laws::leads();
+}
+
+#[test]
+fn leads() {
+    no_matroska();
+}
+
+fn position_of_nothing() -> Option<usize>
+    ensures { result ≡ None }
+{
+    laws::blank();
+    position(&[])
+}
+
+#[test]
+fn blank(rt: HostRuntime) {
+    assert_eq!(rt; position_of_nothing(), None);
+}
+
+fn position_but_two(buf: &[u8]) -> Option<usize>
+    ensures { IfSome result (λ i. (i ≢ 3) × (i ≢ 66)) }
+{
+    laws::never();
+    position(buf)
+}
+
+#[test]
+fn never(rt: HostRuntime) {
+    assert_eq!(rt; position_but_two(b"MZ"), Some(2));
+}
+
+fn is_java_and_mach(buf: &[u8]) -> bool
+    ensures { result ≡ false }
+{
+    laws::apart();
+    is_java(buf) && is_mach(buf)
+}
+
+#[test]
+fn apart(rt: HostRuntime) {
+    assert!(rt; !is_java_and_mach(b"\xCA\xFE\xBA\xBE\0\0\0\x2C"));
+    assert!(rt; !is_java_and_mach(b"\xCA\xFE\xBA\xBE\0\0\0\x2D"));
+}
+
+/// Whether some row with the extension of the answer accepts the buffer.
+fn has_own_extension<A: Allocator>(infer: &Infer<A>, buf: &[u8]) -> bool
+    ensures { result ≡ true }
+{
+    laws::named(infer);
+    match infer.get(buf) {
+        Some(found) => infer.is(buf, found.extension()),
+        None => true,
+    }
+}
+
+/// The answers on a buffer and on one that it begins. Where the longer has none, the shorter has none.
+fn get_both<A: Allocator>(
+    infer: &Infer<A>,
+    short: &[u8],
+    long: &[u8],
+) -> (Option<Type>, Option<Type>)
+    requires keeps { All (λ r. Keeps r.signature) (custom_rows infer.now) }
+    requires begins { (more : List ℕ) × (long.now ≡ short.now ++ more) }
+    ensures { IsNone result.1 → IsNone result.0 }
+{
+    laws::index(infer);
+    (infer.get(short), infer.get(long))
+}
+
+#[test]
+fn built_in_rows_alone(rt: HostRuntime) {
+    let infer = Infer::new();
+    assert!(rt; has_own_extension(&infer, b"MZ"));
+    let (short, long) = get_both(&infer, b"MZ", b"MZ\0");
+    assert!(rt; short.is_some() && long.is_some());
+}
+
+#[test]
+fn after_an_addition(rt: HostRuntime) -> Result<(), Fail> {
+    let mut infer = Infer::new();
+    infer.add(rt.alloc(), "custom/zero", "zero", begins_00)?;
+    assert!(rt; has_own_extension(&infer, b"\0"));
+    let (short, long) = get_both(&infer, b"\0", b"\0\0");
+    assert!(rt; short.is_some() && long.is_some());
+    Ok(())
+}
+
+/// The positions of a buffer and of its first 1024 bytes.
+fn position_and_front(buf: &[u8], front: &[u8]) -> (Option<usize>, Option<usize>)
+    requires { front.now ≡ take 1024 buf.now }
+    ensures { IsTrue (not (answers_twelve result.0)) → result.1 ≡ result.0 }
+{
+    laws::front();
+    (position(buf), position(front))
+}
+
+#[test]
+fn front(rt: HostRuntime) {
+    assert_eq!(rt; position_and_front(b"MZ", b"MZ"), (Some(2), Some(2)));
+}
+
+/// A first row of some buffer is not that of its first 1024 bytes.
+fn document_breaks()
+    ensures { (buf : List ℕ) × IsFirst (Accepts buf) table 57 × ¬ IsFirst (Accepts (take 1024 buf)) table 57 }
+{
+    laws::breaks();
+}
+
+#[test]
+fn breaks() {
+    document_breaks();
+}
+
+/// Some buffer has the last row as its first.
+fn script_is_reached()
+    ensures { (buf : List ℕ) × IsFirst (Accepts buf) table 97 }
+{
+    laws::reach();
+}
+
+#[test]
+fn reach() {
+    script_is_reached();
+}
+
+#[test]
+fn each_sample_has_its_row(rt: HostRuntime) {
+    for i in 0..100 {
+        let mut out = [0xFF; 640];
+        match sample(i, &mut out) {
+            Some(n) => {
+                assert_eq!(rt; position(&out[..n]), Some(i));
+                assert!(rt; out[n..].iter().all(|x| *x == 0));
+            }
+            None => {
+                assert!(rt; i == 3 || i == 66 || i >= 98);
+                assert!(rt; out.iter().all(|x| *x == 0xFF));
+            }
+        }
+    }
+}
+
+#[test]
+fn samples_by_hand(rt: HostRuntime) {
+    let mut out = [0xFF; 640];
+    assert_eq!(rt; sample(2, &mut out), Some(2));
+    assert_eq!(rt; &out[..3], [0x4D, 0x5A, 0x00].as_slice());
+    assert_eq!(rt; sample(57, &mut out), Some(640));
+    assert_eq!(rt;
+        &out[..8],
+        [0xD0, 0xCF, 0x11, 0xE0, 0xA1, 0xB1, 0x1A, 0xE1].as_slice()
+    );
+    assert_eq!(rt; &out[592..596], [0x06, 0x09, 0x02, 0x00].as_slice());
+    assert_eq!(rt; sample(13, &mut out), Some(58));
+    assert_eq!(rt; sample(66, &mut out), None);
+    assert_eq!(rt; sample(98, &mut out), None);
+}
