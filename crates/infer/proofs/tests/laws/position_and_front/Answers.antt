@@ -7,6 +7,6 @@ use Rattle.infer.proofs.tests.laws.position_and_front.Goals as goal
 
 pub returns : goal.returns
 returns c = λ other.
-    let front = subst (λ (b : List ℕ). IsFirstOf (Accepts b) table c.position-2.result) c.requires c.position-2.ensures in
+    let front = subst (λ (b : List ℕ). IsFirstOf (Accepts b) table c.position-2.result) c.requires c.position-2.ensures.first in
     IsFirstOf-same (Accepts (take 1024 c.args.buf.now)) table c.position-2.result c.position.result front
-    (c.front.ensures.decides c.args.buf.now c.position.result c.position.ensures other)
+    (c.front.ensures.decides c.args.buf.now c.position.result c.position.ensures.first other)

@@ -10,4 +10,4 @@ but_two buf None never none = tt
 but_two buf (Some i) never first = never i first
 
 pub returns : goal.returns
-returns c = but_two c.args.buf.now c.position.result (c.never.ensures c.args.buf.now) c.position.ensures
+returns c = but_two c.args.buf.now c.position.result (c.never.ensures c.args.buf.now) c.position.ensures.first
