@@ -1,5 +1,5 @@
 -- A test that a signature accepts a buffer, and what it tells.
-use Rattle.std.proofs.Common.{◌≡◌, ◌<◌, ◌≤◌, ◌⊎◌, inl, inr, ℕ, zero, suc, ◌+◌, ◌-◌, ◌*◌, Bool, ◌||◌, ◌&&◌, List, [], ◌∷◌, ◌++◌, length, get_or, replicate, eqb, ltb, leb, IsTrue, refl, sym, ap, subst, ◌∙◌, codes, arith, lit≤}
+use Rattle.std.proofs.Common.{◌≡◌, inl, inr, ℕ, zero, suc, ◌+◌, ◌-◌, ◌*◌, Bool, ◌||◌, ◌&&◌, List, [], ◌∷◌, ◌++◌, length, get_or, replicate, eqb, leb, IsTrue, refl, sym, ap, subst, codes, arith, lit≤}
 use Rattle.std.specs.Str.{bytes_eq}
 use Rattle.std.proofs.lemmas.Bool.{and_parts, or_cases, leb-true, eqb-true}
 use Rattle.std.proofs.lemmas.List.{append-nil}
@@ -72,22 +72,38 @@ agrees xml b = bytes_eq b (codes "<?xml") || bytes_eq b (spaces 1024 ++ codes "<
 -- ---- text
 
 html_sample : IsHtml (codes "<P>")
-html_sample = (codes "<P>", record { words = []; each = tt; whole = refl }, (15, codes "<P", omega arith, refl, record {
-  word = codes "<P";
-  end = 0x3E;
-  rest = [];
-  same = refl;
-  closes = inr refl;
-  whole = refl;
-}))
+html_sample = (
+  codes "<P>",
+  record { words = []; each = tt; whole = refl },
+  (
+    15,
+    codes "<P",
+    omega arith,
+    refl,
+    record {
+      word = codes "<P";
+      end = 0x3E;
+      rest = [];
+      same = refl;
+      closes = inr refl;
+      whole = refl;
+    },
+  ),
+)
 
 xml_sample : IsXml (codes "<?xml")
-xml_sample = (codes "<?xml", codes "<?xml", record { words = []; each = tt; whole = refl }, record { words = []; each = tt; whole = refl }, record {
-  word = codes "<?xml";
-  rest = [];
-  same = refl;
-  whole = refl;
-})
+xml_sample = (
+  codes "<?xml",
+  codes "<?xml",
+  record { words = []; each = tt; whole = refl },
+  record { words = []; each = tt; whole = refl },
+  record {
+    word = codes "<?xml";
+    rest = [];
+    same = refl;
+    whole = refl;
+  },
+)
 
 space_before : (b rest : List ℕ) → SkipsTo IsSpace b rest → SkipsTo IsSpace (0x20 ∷ b) rest
 space_before b rest s = record {
@@ -135,25 +151,30 @@ module _ (by_place : ByPlace) (b : List ℕ) where
       let k2 = and_parts (eqb (le16 b 26) 3) _ k1.1 in
       let k3 = and_parts (eqb (le16 b 30) 9) _ k2.1 in
       let k4 = and_parts (leb (root + 128) (length b)) _ k3.1 in
-      let k5 = and_parts (eqb (get_or b (root + 66) 0) 5) _ k4.1 in
-      (root, record {
-        header = found by_place compound_header b 0 k0.0;
-        byte_order = found by_place (0xFE ∷ 0xFF ∷ []) b 28 k1.0;
-        begins = inl (eqb-true _ _ k2.0, eqb-true _ _ k3.0, at);
-        whole = leb-true _ _ k4.0;
-        kind = eqb-true _ _ k5.0;
-      }, found by_place id b (root + 80) k5.1)
+      let k5 = and_parts (eqb (get_or b (root + 66) 0) 5) _ k4.1 in (
+        root,
+        record {
+          header = found by_place compound_header b 0 k0.0;
+          byte_order = found by_place (0xFE ∷ 0xFF ∷ []) b 28 k1.0;
+          begins = inl (eqb-true _ _ k2.0, eqb-true _ _ k3.0, at);
+          whole = leb-true _ _ k4.0;
+          kind = eqb-true _ _ k5.0;
+        },
+        found by_place id b (root + 80) k5.1,
+      )
 
   brand_agreed : (brand : List ℕ) → IsTrue (brand_agrees brand b) → IsBoxed b × OccursAt b brand 8
   brand_agreed brand e =
       let k0 = and_parts (leb 16 (length b)) _ e in
       let k1 = and_parts (holds 4 (codes "ftyp") b) _ k0.1 in
-      let k2 = and_parts (leb (be32 b 0) (length b)) _ k1.1 in
-      (record {
-        long = leb-true _ _ k0.0;
-        kind = found by_place (codes "ftyp") b 4 k1.0;
-        whole = leb-true _ _ k2.0;
-      }, found by_place brand b 8 k2.1)
+      let k2 = and_parts (leb (be32 b 0) (length b)) _ k1.1 in (
+        record {
+          long = leb-true _ _ k0.0;
+          kind = found by_place (codes "ftyp") b 4 k1.0;
+          whole = leb-true _ _ k2.0;
+        },
+        found by_place brand b 8 k2.1,
+      )
 
   header_found : (s p : ℕ) → IsTrue (is_header b s p) → IsHeaderFrom b s p
   header_found s p e =
@@ -184,18 +205,32 @@ module _ (by_place : ByPlace) (b : List ℕ) where
       let k3 = and_parts (is_header b (le32 b 18 + 49) second) _ k2.1 in
       let k4 = and_parts (is_header b (second + 30) third) _ k3.1 in
       let k5 = and_parts (has_folder (third + 30) b) _ k4.1 in
-      let k6 = and_parts (is_header b (third + 56) fourth) _ k5.1 in
-      (fourth + 30, (zip, inr (no_folder by_place b k0.0, inl (found by_place _ b 30 k1.0), (fourth, record {
-        third = third;
-        third_found = record {
-          second = second;
-          start_fits = leb-true _ _ k2.0;
-          second_found = header_found (le32 b 18 + 49) second k3.0;
-          third_found = header_found (second + 30) third k4.0;
-          folder = folder_found (third + 30) k5.0;
-        };
-        fourth_found = header_found (third + 56) fourth k6.0;
-      }, refl))), found by_place folder b (fourth + 30) k6.1)
+      let k6 = and_parts (is_header b (third + 56) fourth) _ k5.1 in (
+        fourth + 30,
+        (
+          zip,
+          inr (
+            no_folder by_place b k0.0,
+            inl (found by_place _ b 30 k1.0),
+            (
+              fourth,
+              record {
+                third = third;
+                third_found = record {
+                  second = second;
+                  start_fits = leb-true _ _ k2.0;
+                  second_found = header_found (le32 b 18 + 49) second k3.0;
+                  third_found = header_found (second + 30) third k4.0;
+                  folder = folder_found (third + 30) k5.0;
+                };
+                fourth_found = header_found (third + 56) fourth k6.0;
+              },
+              refl,
+            ),
+          ),
+        ),
+        found by_place folder b (fourth + 30) k6.1,
+      )
 
   office_agreed : (folder : List ℕ) → IsTrue (agrees (office folder) b) → IsOffice folder b
   office_agreed folder e =
@@ -203,8 +238,8 @@ module _ (by_place : ByPlace) (b : List ℕ) where
       let zip = found by_place zip_header b 0 k.0 in
       elim (or_cases (early_folder folder b) _ k.1) [
         | inl early ↦
-          let j = and_parts (has_folder 30 b) _ early in
-          (30, (zip, inl (folder_found 30 j.0, refl)), found by_place folder b 30 j.1)
+            let j = and_parts (has_folder 30 b) _ early in
+            (30, (zip, inl (folder_found 30 j.0, refl)), found by_place folder b 30 j.1)
         | inr late ↦ late_agreed 1049 1079 1135 folder zip late
       ]
 
@@ -215,12 +250,18 @@ module _ (by_place : ByPlace) (b : List ℕ) where
   agreed (matroska t) e =
       let k0 = and_parts (leb 257 (length b)) _ e in
       let k1 = and_parts (holds 0 ebml b) _ k0.1 in
-      let k2 = and_parts (leb (4 + length t) 256) _ k1.1 in
-      (leb-true _ _ k0.0, found by_place ebml b 0 k1.0, (4, record {
-        stands = found by_place t b 4 k2.1;
-        low = omega arith;
-        high = leb-true _ _ k2.0;
-      }))
+      let k2 = and_parts (leb (4 + length t) 256) _ k1.1 in (
+        leb-true _ _ k0.0,
+        found by_place ebml b 0 k1.0,
+        (
+          4,
+          record {
+            stands = found by_place t b 4 k2.1;
+            low = omega arith;
+            high = leb-true _ _ k2.0;
+          },
+        ),
+      )
   agreed (framed magic) e =
       either_buffer (IsFramed magic) b magic (long_frame ++ magic) (unframed magic) (behind_frame by_place magic) e
   agreed heif e = let is = brand_agreed (codes "heic") e in (is.0, inl is.1)

@@ -1,5 +1,5 @@
 -- The first accepting row as a buffer goes on.
-use Rattle.std.proofs.Common.{◌≡◌, ◌<◌, ◌≤◌, ◌⊎◌, ℕ, Bool, true, false, not, List, ◌++◌, map, length, get_or, take, drop, Option, None, Some, sym, subst, ◌∙◌, inl, inr, All, IsTrue, refl, arith, length-append}
+use Rattle.std.proofs.Common.{◌<◌, ◌≤◌, ℕ, not, List, ◌++◌, map, length, get_or, take, drop, Option, None, Some, sym, subst, ◌∙◌, inl, inr, All, IsTrue, refl, arith, length-append}
 use Rattle.std.specs.List.{HoldsAt}
 use Rattle.std.proofs.lemmas.Bool.{cases_lt, cases_Bool}
 use Rattle.std.proofs.lemmas.List.{get_or-map, get_or_append_left, length-map, take-append-drop, take-append-le, take_all}
@@ -8,7 +8,7 @@ use Rattle.infer.specs.BuiltIn.{BuiltIn, IsAccepted}
 use Rattle.infer.specs.Caller.{Contracts}
 use Rattle.infer.specs.First.{IsFirstOf}
 use Rattle.infer.specs.Laws.{Keeps, IsSteady, answers_twelve, FrontDecides, OnlyTheTwelveFollow}
-use Rattle.infer.specs.Matchers.{signatures, is_of_the_twelve, Lasts, IsNear, OthersAreNear}
+use Rattle.infer.specs.Matchers.{signatures, Lasts, IsNear, OthersAreNear}
 use Rattle.infer.specs.Row.{Row, Accepts}
 use Rattle.infer.specs.Rows.{Signature, AnyAccepts, kept_row}
 use Rattle.infer.specs.Table.{table}
@@ -72,8 +72,8 @@ module _ (growth : All Lasts signatures) (near : OthersAreNear signatures) where
   front_decides buf o first out = elim (cases_lt (length buf) 1024) [
     | inl lt ↦ subst (λ (b : List ℕ). IsFirstOf (Accepts b) table o) (sym (take_all 1024 buf (omega arith))) first
     | inr long ↦
-      let split = subst (λ (b : List ℕ). IsFirstOf (Accepts b) table o) (sym (take-append-drop 1024 buf)) first in
-      shortened growth (take 1024 buf) (drop 1024 buf) o split (front_answered near buf long o out first)
+        let split = subst (λ (b : List ℕ). IsFirstOf (Accepts b) table o) (sym (take-append-drop 1024 buf)) first in
+        shortened growth (take 1024 buf) (drop 1024 buf) o split (front_answered near buf long o out first)
   ]
 
   lengthened : (short more : List ℕ) (o : Option ℕ) → 1024 ≤ length short → IsFirstOf (Accepts (short ++ more)) table o
@@ -81,7 +81,7 @@ module _ (growth : All Lasts signatures) (near : OthersAreNear signatures) where
   lengthened short more None long first here = tt
   lengthened short more (Some i) long first here = λ d.
       let cut : IsAccepted (get_or table i d).signature (take 1024 short) =
-          subst (IsAccepted (get_or table i d).signature) (take-append-le 1024 short more long) (here d) in
+      subst (IsAccepted (get_or table i d).signature) (take-append-le 1024 short more long) (here d) in
       subst (IsAccepted (get_or table i d).signature) (take-append-drop 1024 short)
       (row_lasts growth i d first.within (take 1024 short) (drop 1024 short) cut)
 
@@ -89,8 +89,8 @@ module _ (growth : All Lasts signatures) (near : OthersAreNear signatures) where
   only_the_twelve_follow short more before after long first then = elim (cases_Bool (answers_twelve after)) [
     | inl one ↦ inr one
     | inr other ↦
-      let out : IsTrue (not (answers_twelve after)) = rw other refl in
-      let longer : 1024 ≤ length (short ++ more) = omega (arith, length-append short more) in
-      let here = lengthened short more after long then (front_answered near (short ++ more) longer after out then) in
-      inl (IsFirstOf-same (Accepts short) table after before (shortened growth short more after then here) first)
+        let out : IsTrue (not (answers_twelve after)) = rw other refl in
+        let longer : 1024 ≤ length (short ++ more) = omega (arith, length-append short more) in
+        let here = lengthened short more after long then (front_answered near (short ++ more) longer after out then) in
+        inl (IsFirstOf-same (Accepts short) table after before (shortened growth short more after then here) first)
   ]

@@ -1,8 +1,7 @@
 -- A test that a signature refuses a buffer, and what it tells.
-use Rattle.std.proofs.Common.{◌≡◌, ◌<◌, ◌≤◌, ◌⊎◌, inl, inr, ℕ, zero, suc, ◌+◌, ◌-◌, ◌*◌, ◌/◌, Bool, true, false, ◌||◌, ◌&&◌, not, List, [], ◌∷◌, ◌++◌, map, length, get_or, take, eqb, ltb, leb, IsTrue, refl, sym, ap, subst, ◌∙◌, codes, arith, append_assoc, length-append}
+use Rattle.std.proofs.Common.{◌≡◌, ◌<◌, ◌≤◌, ◌⊎◌, inl, inr, ℕ, ◌+◌, ◌*◌, Bool, true, false, ◌||◌, ◌&&◌, not, List, [], ◌∷◌, ◌++◌, map, length, get_or, eqb, ltb, leb, IsTrue, refl, sym, ap, subst, ◌∙◌, codes, arith, append_assoc, length-append}
 use Rattle.std.specs.Char.{to_ascii_lowercase}
-use Rattle.std.specs.List.{list_all, AllByRecursion, AllWithin, concat}
-use Rattle.std.specs.Prelude.{Any}
+use Rattle.std.specs.List.{list_all, AllByRecursion, concat}
 use Rattle.std.proofs.lemmas.Bool.{and_parts, or_cases, leb-true, ltb-true, eqb-true}
 use Rattle.std.proofs.lemmas.Bool.Decides.{nat_tests}
 use Rattle.std.proofs.lemmas.List.Prefix.{front_fits, front_reads}
@@ -108,7 +107,7 @@ white_html : (b : List ℕ) → IsTrue (list_all is_white b) → ¬ IsHtml b
 white_html b white (text, skips, (k, tag, l, e, h)) =
     let here = behind_words is_white b text skips white in
     let first : get_or tag 0 0 ≡ 0x3C =
-        eqb-true _ _ (subst (λ t. IsTrue (eqb (get_or t 0 0) 0x3C)) e (AllPass-from_list_all (λ t. eqb (get_or t 0 0) 0x3C) tags begins_opening k tag l)) in
+    eqb-true _ _ (subst (λ t. IsTrue (eqb (get_or t 0 0) 0x3C)) e (AllPass-from_list_all (λ t. eqb (get_or t 0 0) 0x3C) tags begins_opening k tag l)) in
     not_white h.word (h.end ∷ h.rest) tag (subst (λ u. IsTrue (list_all is_white u)) h.whole here) first h.same
 
 white_xml : (b : List ℕ) → IsTrue (list_all is_white b) → ¬ IsXml b
@@ -161,14 +160,14 @@ module _ (by_place : ByPlace) (deep : Deep.Leads) (b : List ℕ) where
     | inr j ↦ elim (or_cases (lacks 28 (0xFE ∷ 0xFF ∷ []) b) _ j) [
       | inl k ↦ lacked by_place (0xFE ∷ 0xFF ∷ []) b 28 k r.byte_order
       | inr k ↦
-        let parts = and_parts (eqb (le16 b 26) 3) _ k in
-        let three : le16 b 26 ≡ 3 = eqb-true _ _ parts.0 in
-        let cut = ltb-true _ _ parts.1 in
-        let whole = r.whole in
-        elim r.begins [
-          | inl at ↦ absurd (let root_at = at.2 in omega arith)
-          | inr at ↦ absurd (let four = at.0 in omega arith)
-        ]
+          let parts = and_parts (eqb (le16 b 26) 3) _ k in
+          let three : le16 b 26 ≡ 3 = eqb-true _ _ parts.0 in
+          let cut = ltb-true _ _ parts.1 in
+          let whole = r.whole in
+          elim r.begins [
+            | inl at ↦ absurd (let root_at = at.2 in omega arith)
+            | inr at ↦ absurd (let four = at.0 in omega arith)
+          ]
     ]
   ]
 
@@ -193,16 +192,16 @@ module _ (by_place : ByPlace) (deep : Deep.Leads) (b : List ℕ) where
   office_refused true folder e k (p, d, o) = elim (or_cases (lacks 0 zip_header b) _ (sym e)) [
     | inl none ↦ lacked by_place zip_header b 0 none d.0
     | inr none ↦
-      let parts = and_parts (lacks_folder b) (lacks_name b) none in
-      elim d.1 [ inl h ↦ no_folder by_place b parts.0 h.0 | inr h ↦ no_name parts.1 h.1 ]
+        let parts = and_parts (lacks_folder b) (lacks_name b) none in
+        elim d.1 [ inl h ↦ no_folder by_place b parts.0 h.0 | inr h ↦ no_name parts.1 h.1 ]
   ]
   office_refused false folder e k (p, d, o) =
       let parts = and_parts (lacks_folder b) _ k in
       elim d.1 [
         | inl h ↦ no_folder by_place b parts.0 h.0
         | inr h ↦
-          let second = h.2.1.third_found.second_found.here in
-          lacked_from by_place zip_header (omega arith) b (le32 b 18 + 49) h.2.1.third_found.second second.low parts.1 second.stands
+            let second = h.2.1.third_found.second_found.here in
+            lacked_from by_place zip_header (omega arith) b (le32 b 18 + 49) h.2.1.third_found.second second.low parts.1 second.stands
       ]
 
   heif_refused : IsTrue (refuses heif b) → ¬ IsHeif b
@@ -211,14 +210,14 @@ module _ (by_place : ByPlace) (deep : Deep.Leads) (b : List ℕ) where
     | inr j ↦ elim (or_cases (ltb (length b) (be32 b 0)) _ j) [
       | inl k ↦ absurd (let long = ltb-true _ _ k in let whole = h.0.whole in omega arith)
       | inr k ↦
-        let p = and_parts (lacks 8 (codes "heic") b) _ k in
-        let q = and_parts (lacks 8 (codes "heix") b) _ p.1 in
-        let r = and_parts (lacks 8 (codes "mif1") b) _ q.1 in
-        elim h.1 [
-          | inl o ↦ lacked by_place _ b 8 p.0 o
-          | inr (inl o) ↦ lacked by_place _ b 8 q.0 o
-          | inr (inr m) ↦ elim m.0 [ inl o ↦ lacked by_place _ b 8 r.0 o | inr o ↦ lacked by_place _ b 8 r.1 o ]
-        ]
+          let p = and_parts (lacks 8 (codes "heic") b) _ k in
+          let q = and_parts (lacks 8 (codes "heix") b) _ p.1 in
+          let r = and_parts (lacks 8 (codes "mif1") b) _ q.1 in
+          elim h.1 [
+            | inl o ↦ lacked by_place _ b 8 p.0 o
+            | inr (inl o) ↦ lacked by_place _ b 8 q.0 o
+            | inr (inr m) ↦ elim m.0 [ inl o ↦ lacked by_place _ b 8 r.0 o | inr o ↦ lacked by_place _ b 8 r.1 o ]
+          ]
     ]
   ]
 
@@ -228,15 +227,15 @@ module _ (by_place : ByPlace) (deep : Deep.Leads) (b : List ℕ) where
     | inr j ↦ elim (or_cases (ltb (length b) (be32 b 0)) _ j) [
       | inl k ↦ absurd (let long = ltb-true _ _ k in let whole = h.0.whole in omega arith)
       | inr k ↦
-        let p = and_parts (lacks 8 (codes "avif") b) _ k in
-        let q = and_parts (lacks 8 (codes "avis") b) _ p.1 in
-        let few = ltb-true _ _ q.1 in
-        elim h.1 [
-          | inl o ↦ lacked by_place _ b 8 p.0 o
-          | inr (inl o) ↦ lacked by_place _ b 8 q.0 o
-          | inr (inr (inl m)) ↦ absurd (let l = m.1 in omega arith)
-          | inr (inr (inr m)) ↦ absurd (let l = m.1 in omega arith)
-        ]
+          let p = and_parts (lacks 8 (codes "avif") b) _ k in
+          let q = and_parts (lacks 8 (codes "avis") b) _ p.1 in
+          let few = ltb-true _ _ q.1 in
+          elim h.1 [
+            | inl o ↦ lacked by_place _ b 8 p.0 o
+            | inr (inl o) ↦ lacked by_place _ b 8 q.0 o
+            | inr (inr (inl m)) ↦ absurd (let l = m.1 in omega arith)
+            | inr (inr (inr m)) ↦ absurd (let l = m.1 in omega arith)
+          ]
     ]
   ]
 
@@ -244,12 +243,12 @@ module _ (by_place : ByPlace) (deep : Deep.Leads) (b : List ℕ) where
   framed_refused magic e h = elim (or_cases (not (allows_first (framed magic) (get_or b 0 0))) _ e) [
     | inl k ↦ not_both (allows_first (framed magic) (get_or b 0 0)) (framed_leads deep b magic h) k
     | inr k ↦
-      let parts = and_parts (lacks 0 magic b) _ k in
-      let cut = leb-true _ _ parts.1 in
-      elim (cut_frame magic b h.1.words h.0 h.1.each h.1.whole) [
-        | inl here ↦ lacked by_place magic b 0 parts.0 here
-        | inr long ↦ absurd (omega arith)
-      ]
+        let parts = and_parts (lacks 0 magic b) _ k in
+        let cut = leb-true _ _ parts.1 in
+        elim (cut_frame magic b h.1.words h.0 h.1.each h.1.whole) [
+          | inl here ↦ lacked by_place magic b 0 parts.0 here
+          | inr long ↦ absurd (omega arith)
+        ]
   ]
 
   pub refused : (s : BuiltIn) → IsTrue (refuses s b) → ¬ IsAccepted s b

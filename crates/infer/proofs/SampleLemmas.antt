@@ -12,7 +12,7 @@ use Rattle.infer.specs.BuiltIn.{BuiltIn}
 use Rattle.infer.specs.First.{IsFirst}
 use Rattle.infer.specs.Row.{Row, Accepts}
 use Rattle.infer.specs.SampleSeen.{buffer_seen}
-use Rattle.infer.specs.Samples.{HoldsSample, sample_of, zeros}
+use Rattle.infer.specs.Samples.{HoldsSample, padded, sample_of, zeros}
 use Rattle.infer.specs.Table.{table}
 use Rattle.infer.specs.declared.samples.Pieces.{Pieces}
 use Rattle.infer.proofs.OrderLemmas.{is_first, first_by_test}
@@ -47,9 +47,6 @@ sample_first by_place deep exclude i lt not_dll not_epub d =
 
 -- ---- the samples of the code
 
-abbrev padded : Row BuiltIn → List ℕ
-padded r = sample_of r.signature ++ zeros (640 - length (sample_of r.signature))
-
 abbrev sample_length : Row BuiltIn → ℕ
 sample_length r = length (sample_of r.signature)
 
@@ -69,9 +66,9 @@ module _ (xs : List Pieces) (buffers : map buffer_seen xs ≡ map padded table) 
   pub pieces_hold : (p : Pieces) → HoldsAt (HoldsSample (get_or xs i p).len (buffer_seen (get_or xs i p))) table i
   pieces_hold p d =
       let long : (get_or xs i p).len ≡ length (sample_of (get_or table i d).signature) =
-          sym (get_or-map pieces_length xs i p 0 as_many) ∙ ap (λ (l : List ℕ). get_or l i 0) lengths ∙ get_or-map sample_length table i d 0 in_table in
+      sym (get_or-map pieces_length xs i p 0 as_many) ∙ ap (λ (l : List ℕ). get_or l i 0) lengths ∙ get_or-map sample_length table i d 0 in_table in
       let whole : buffer_seen (get_or xs i p) ≡ padded (get_or table i d) =
-          sym (get_or-map buffer_seen xs i p [] as_many) ∙ ap (λ (l : List (List ℕ)). get_or l i []) buffers ∙ get_or-map padded table i d [] in_table in
+      sym (get_or-map buffer_seen xs i p [] as_many) ∙ ap (λ (l : List (List ℕ)). get_or l i []) buffers ∙ get_or-map padded table i d [] in_table in
       (long, whole ∙ ap (λ n. sample_of (get_or table i d).signature ++ zeros (640 - n)) (sym long))
 
 -- the front of what is written is the sample

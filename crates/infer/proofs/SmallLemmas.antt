@@ -1,6 +1,6 @@
 -- Rows that are never first, and what the answer's own row tells.
-use Rattle.std.proofs.Common.{◌≡◌, ◌≢◌, ◌<◌, ◌≤◌, ◌⊎◌, ◌+◌, ℕ, Bool, true, false, ◌||◌, ◌&&◌, List, [], ◌∷◌, length, get_or, leb, ltb, eqb, IsTrue, refl, sym, ap, subst, ◌∙◌, inl, inr, arith}
-use Rattle.std.proofs.lemmas.Bool.{and_parts, or_cases, leb-true, eqb-true}
+use Rattle.std.proofs.Common.{◌≡◌, ◌≢◌, ◌<◌, ◌≤◌, ◌⊎◌, ◌+◌, ℕ, true, false, ◌&&◌, List, [], ◌∷◌, length, get_or, leb, ltb, IsTrue, refl, sym, ap, subst, ◌∙◌, inl, inr, arith}
+use Rattle.std.proofs.lemmas.Bool.{and_parts, or_cases, leb-true}
 use Rattle.infer_sig.specs.App.{java, mach}
 use Rattle.infer_sig.specs.Signature.{Bytes, between, any_of, at_least, text, byte, allows, fits, accepts, stands}
 use Rattle.infer.specs.BuiltIn.{BuiltIn, IsAccepted, html}
@@ -12,7 +12,6 @@ use Rattle.infer.specs.Rows.{Signature}
 use Rattle.infer.specs.Table.{table, row}
 use Rattle.infer.specs.declared.file_type.MatcherType.TheVariants.{Text}
 use Rattle.infer.proofs.PlaceLemmas.{ByPlace}
-use Rattle.infer.proofs.TableLemmas.{length-table}
 
 -- any row
 pub some_row : Row BuiltIn
@@ -93,19 +92,19 @@ module _ (by_place : ByPlace) (buf : List ℕ) where
   mach_apart : IsTrue (accepts mach buf) → IsMachApart
   mach_apart h = elim (or_cases (fits buf (at_least 4 (byte 0 (any_of (0xCF ∷ 0xCE ∷ [])) ∷ text 1 (0xFA ∷ 0xED ∷ 0xFE ∷ []) ∷ []))) _ h) [
     | inl k ↦
-      let parts = and_parts (leb 4 (length buf)) _ k in
-      let first = and_parts (ltb 0 (length buf) && allows (any_of (0xCF ∷ 0xCE ∷ [])) (get_or buf 0 0)) _ parts.1 in
-      let among = (and_parts (ltb 0 (length buf)) _ first.0).1 in
-      inl (λ e. absurd (let there : IsTrue (allows (any_of (0xCF ∷ 0xCE ∷ [])) 0xCA) = subst (λ x. IsTrue (allows (any_of (0xCF ∷ 0xCE ∷ [])) x)) e among in cc))
+        let parts = and_parts (leb 4 (length buf)) _ k in
+        let first = and_parts (ltb 0 (length buf) && allows (any_of (0xCF ∷ 0xCE ∷ [])) (get_or buf 0 0)) _ parts.1 in
+        let among = (and_parts (ltb 0 (length buf)) _ first.0).1 in
+        inl (λ e. absurd (let there : IsTrue (allows (any_of (0xCF ∷ 0xCE ∷ [])) 0xCA) = subst (λ x. IsTrue (allows (any_of (0xCF ∷ 0xCE ∷ [])) x)) e among in cc))
     | inr j ↦ elim (or_cases (fits buf (at_least 4 (text 0 (0xFE ∷ 0xED ∷ 0xFA ∷ []) ∷ byte 3 (any_of (0xCF ∷ 0xCE ∷ [])) ∷ []))) _ j) [
       | inl k ↦
-        let parts = text_and_byte 4 3 (0xFE ∷ 0xED ∷ 0xFA ∷ []) (any_of (0xCF ∷ 0xCE ∷ [])) k in
-        let first : get_or buf 0 0 ≡ 0xFE = byte_of (0xFE ∷ 0xED ∷ 0xFA ∷ []) 0 (omega arith) parts.0 in
-        inl (λ e. omega arith)
+          let parts = text_and_byte 4 3 (0xFE ∷ 0xED ∷ 0xFA ∷ []) (any_of (0xCF ∷ 0xCE ∷ [])) k in
+          let first : get_or buf 0 0 ≡ 0xFE = byte_of (0xFE ∷ 0xED ∷ 0xFA ∷ []) 0 (omega arith) parts.0 in
+          inl (λ e. omega arith)
       | inr i ↦ elim (or_cases (fits buf (at_least 8 (text 0 several ∷ byte 7 (between 0x00 0x2C) ∷ []))) false i) [
         | inl k ↦
-          let parts = text_and_byte 8 7 several (between 0x00 0x2C) k in
-          inr (byte_of several 6 (omega arith) parts.0, (at_least_in 0x00 0x2C _ parts.1).1)
+            let parts = text_and_byte 8 7 several (between 0x00 0x2C) k in
+            inr (byte_of several 6 (omega arith) parts.0, (at_least_in 0x00 0x2C _ parts.1).1)
         | inr k ↦ absurd (cc)
       ]
     ]

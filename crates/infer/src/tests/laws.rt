@@ -81,7 +81,11 @@ fn has_own_extension<A: Allocator>(infer: &Infer<A>, buf: &[u8]) -> bool
 }
 
 /// The answers on a buffer and on one that it begins. Where the longer has none, the shorter has none.
-fn get_both<A: Allocator>(infer: &Infer<A>, short: &[u8], long: &[u8]) -> (Option<Type>, Option<Type>)
+fn get_both<A: Allocator>(
+    infer: &Infer<A>,
+    short: &[u8],
+    long: &[u8],
+) -> (Option<Type>, Option<Type>)
     requires keeps { All (λ r. Keeps r.signature) (custom_rows infer.now) }
     requires begins { (more : List ℕ) × (long.now ≡ short.now ++ more) }
     ensures { IsNone result.1 → IsNone result.0 }
@@ -169,7 +173,10 @@ fn samples_by_hand(rt: HostRuntime) {
     assert_eq!(rt; sample(2, &mut out), Some(2));
     assert_eq!(rt; &out[..3], [0x4D, 0x5A, 0x00].as_slice());
     assert_eq!(rt; sample(57, &mut out), Some(640));
-    assert_eq!(rt; &out[..8], [0xD0, 0xCF, 0x11, 0xE0, 0xA1, 0xB1, 0x1A, 0xE1].as_slice());
+    assert_eq!(rt;
+        &out[..8],
+        [0xD0, 0xCF, 0x11, 0xE0, 0xA1, 0xB1, 0x1A, 0xE1].as_slice()
+    );
     assert_eq!(rt; &out[592..596], [0x06, 0x09, 0x02, 0x00].as_slice());
     assert_eq!(rt; sample(13, &mut out), Some(58));
     assert_eq!(rt; sample(66, &mut out), None);
