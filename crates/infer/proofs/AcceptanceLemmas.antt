@@ -1,5 +1,5 @@
 -- A test that a signature accepts a buffer, and what it tells.
-use Rattle.std.proofs.Common.{◌≡◌, ◌<◌, ◌≤◌, ◌⊎◌, inl, inr, ℕ, zero, suc, ◌+◌, ◌-◌, ◌*◌, Bool, ◌||◌, ◌&&◌, List, [], ◌∷◌, ◌++◌, length, get_or, replicate, eqb, ltb, leb, IsTrue, refl, sym, ap, subst, ◌∙◌, codes, arith, lit≤}
+use Rattle.std.proofs.Common.{◌≡◌, inl, inr, ℕ, zero, suc, ◌+◌, ◌-◌, ◌*◌, Bool, ◌||◌, ◌&&◌, List, [], ◌∷◌, ◌++◌, length, get_or, replicate, eqb, leb, IsTrue, refl, sym, ap, subst, codes, arith, lit≤}
 use Rattle.std.specs.Str.{bytes_eq}
 use Rattle.std.proofs.lemmas.Bool.{and_parts, or_cases, leb-true, eqb-true}
 use Rattle.std.proofs.lemmas.List.{append-nil}

@@ -1,5 +1,5 @@
 -- For each of the twelve rows a buffer that has it as its first, and whose first 1024 bytes have another answer.
-use Rattle.std.proofs.Common.{◌≡◌, ◌≢◌, ◌+◌, ◌<◌, ◌||◌, ◌&&◌, ℕ, Bool, true, false, not, List, [], ◌∷◌, ◌++◌, Option, None, Some, get_or, length, take, eqb, ltb, eq-eqb, IsTrue, refl, sym, subst, codes, inl, inr, arith, All}
+use Rattle.std.proofs.Common.{◌≡◌, ◌≢◌, ◌+◌, ◌&&◌, ℕ, Bool, true, not, List, [], ◌∷◌, ◌++◌, Option, None, Some, get_or, length, take, eqb, ltb, eq-eqb, IsTrue, refl, sym, subst, codes, inl, inr, arith}
 use Rattle.std.specs.List.{list_all, list_any}
 use Rattle.std.proofs.lemmas.Bool.{and_parts, or_cases, eqb-true, ltb-true}
 use Rattle.std.proofs.lemmas.List.Sums.{AllPass-from_list_all}
@@ -8,12 +8,11 @@ use Rattle.infer_deep.specs.Laws as Deep
 use Rattle.infer_deep.specs.Numbers.{le16, le32, be32}
 use Rattle.infer_deep.specs.Office.{zip_header}
 use Rattle.infer_sig.specs.Signature.{stands}
-use Rattle.infer.specs.Buffer.{IsBuffer}
 use Rattle.infer.specs.BuiltIn.{BuiltIn, framed, heif, avif, office, doc, xls, ppt, html, xml}
-use Rattle.infer.specs.First.{IsFirst, IsFirstOf}
+use Rattle.infer.specs.First.{IsFirstOf}
 use Rattle.infer.specs.Laws.{Breaks}
 use Rattle.infer.specs.Matchers.{is_of_the_twelve}
-use Rattle.infer.specs.Row.{Row, Accepts}
+use Rattle.infer.specs.Row.{Accepts}
 use Rattle.infer.specs.Samples.{put, zeros}
 use Rattle.infer.specs.Table.{table}
 use Rattle.infer.proofs.AcceptanceLemmas.{long_frame, spaces}

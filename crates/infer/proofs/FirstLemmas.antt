@@ -1,8 +1,8 @@
 -- The first element with a property is one, and stands no later where more elements have it.
-use Rattle.std.proofs.Common.{◌≡◌, ◌<◌, ◌≤◌, ℕ, zero, suc, List, [], ◌∷◌, length, get_or, Option, None, Some, refl, ap, inl, inr, arith}
+use Rattle.std.proofs.Common.{◌≡◌, ◌<◌, ℕ, List, [], ◌∷◌, length, Option, None, Some, refl, ap, inl, inr, arith}
 use Rattle.std.specs.List.{HoldsAt, AllWithin}
 use Rattle.std.proofs.lemmas.Bool.{cases_lt}
-use Rattle.infer.specs.First.{IsFirst, IsFirstOf}
+use Rattle.infer.specs.First.{IsFirstOf}
 use Rattle.infer.specs.Laws.{IsNotLater}
 
 -- an element that has the property is not among those that lack it

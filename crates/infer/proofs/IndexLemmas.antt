@@ -1,5 +1,5 @@
 -- The first accepting row as a buffer goes on.
-use Rattle.std.proofs.Common.{◌≡◌, ◌<◌, ◌≤◌, ◌⊎◌, ℕ, Bool, true, false, not, List, ◌++◌, map, length, get_or, take, drop, Option, None, Some, sym, subst, ◌∙◌, inl, inr, All, IsTrue, refl, arith, length-append}
+use Rattle.std.proofs.Common.{◌<◌, ◌≤◌, ℕ, not, List, ◌++◌, map, length, get_or, take, drop, Option, None, Some, sym, subst, ◌∙◌, inl, inr, All, IsTrue, refl, arith, length-append}
 use Rattle.std.specs.List.{HoldsAt}
 use Rattle.std.proofs.lemmas.Bool.{cases_lt, cases_Bool}
 use Rattle.std.proofs.lemmas.List.{get_or-map, get_or_append_left, length-map, take-append-drop, take-append-le, take_all}
@@ -8,7 +8,7 @@ use Rattle.infer.specs.BuiltIn.{BuiltIn, IsAccepted}
 use Rattle.infer.specs.Caller.{Contracts}
 use Rattle.infer.specs.First.{IsFirstOf}
 use Rattle.infer.specs.Laws.{Keeps, IsSteady, answers_twelve, FrontDecides, OnlyTheTwelveFollow}
-use Rattle.infer.specs.Matchers.{signatures, is_of_the_twelve, Lasts, IsNear, OthersAreNear}
+use Rattle.infer.specs.Matchers.{signatures, Lasts, IsNear, OthersAreNear}
 use Rattle.infer.specs.Row.{Row, Accepts}
 use Rattle.infer.specs.Rows.{Signature, AnyAccepts, kept_row}
 use Rattle.infer.specs.Table.{table}

@@ -1,5 +1,5 @@
 -- With which bytes a buffer begins that a built-in signature accepts.
-use Rattle.std.proofs.Common.{◌≡◌, ◌<◌, ◌≤◌, ◌⊎◌, inl, inr, ℕ, Bool, true, ◌||◌, ◌&&◌, List, [], ◌∷◌, get_or, sym, subst, arith, rules, tests, refl, eqb, leb, IsTrue}
+use Rattle.std.proofs.Common.{◌≡◌, ◌≤◌, inl, inr, ℕ, Bool, true, ◌&&◌, List, [], ◌∷◌, get_or, sym, subst, rules, tests, refl, eqb, leb, IsTrue}
 use Rattle.std.proofs.lemmas.Bool.{or_left, or_right}
 use Rattle.infer_sig.specs.Signature.{Alternative}
 use Rattle.infer_sig.specs.Laws as Fixed

@@ -1,6 +1,6 @@
 -- Tests that a row is the first to accept a buffer, or none is, and what they tell.
-use Rattle.std.proofs.Common.{◌≡◌, ◌<◌, ◌≤◌, ℕ, Bool, true, false, ◌&&◌, ◌||◌, List, [], ◌∷◌, length, get_or, take, IsTrue, refl, sym, subst, codes, arith, inl, inr}
-use Rattle.std.specs.List.{list_all, HoldsAt, AllWithin}
+use Rattle.std.proofs.Common.{◌<◌, ℕ, Bool, true, false, ◌&&◌, ◌||◌, List, length, get_or, take, IsTrue, refl, sym, subst, codes, arith, inl, inr}
+use Rattle.std.specs.List.{list_all}
 use Rattle.std.specs.Str.{bytes_eq}
 use Rattle.std.proofs.lemmas.Bool.{and_parts, or_cases}
 use Rattle.std.proofs.lemmas.List.{get_or_default, get_or-take, length-take-le}

@@ -12,7 +12,7 @@ use Rattle.infer.specs.BuiltIn.{BuiltIn}
 use Rattle.infer.specs.First.{IsFirst}
 use Rattle.infer.specs.Row.{Row, Accepts}
 use Rattle.infer.specs.SampleSeen.{buffer_seen}
-use Rattle.infer.specs.Samples.{HoldsSample, sample_of, zeros}
+use Rattle.infer.specs.Samples.{HoldsSample, padded, sample_of, zeros}
 use Rattle.infer.specs.Table.{table}
 use Rattle.infer.specs.declared.samples.Pieces.{Pieces}
 use Rattle.infer.proofs.OrderLemmas.{is_first, first_by_test}
@@ -46,9 +46,6 @@ sample_first by_place deep exclude i lt not_dll not_epub d =
     (row_passes exclude d i lt not_dll not_epub)
 
 -- ---- the samples of the code
-
-abbrev padded : Row BuiltIn → List ℕ
-padded r = sample_of r.signature ++ zeros (640 - length (sample_of r.signature))
 
 abbrev sample_length : Row BuiltIn → ℕ
 sample_length r = length (sample_of r.signature)

@@ -1,6 +1,6 @@
 -- Rows that are never first, and what the answer's own row tells.
-use Rattle.std.proofs.Common.{◌≡◌, ◌≢◌, ◌<◌, ◌≤◌, ◌⊎◌, ◌+◌, ℕ, Bool, true, false, ◌||◌, ◌&&◌, List, [], ◌∷◌, length, get_or, leb, ltb, eqb, IsTrue, refl, sym, ap, subst, ◌∙◌, inl, inr, arith}
-use Rattle.std.proofs.lemmas.Bool.{and_parts, or_cases, leb-true, eqb-true}
+use Rattle.std.proofs.Common.{◌≡◌, ◌≢◌, ◌<◌, ◌≤◌, ◌⊎◌, ◌+◌, ℕ, true, false, ◌&&◌, List, [], ◌∷◌, length, get_or, leb, ltb, IsTrue, refl, sym, ap, subst, ◌∙◌, inl, inr, arith}
+use Rattle.std.proofs.lemmas.Bool.{and_parts, or_cases, leb-true}
 use Rattle.infer_sig.specs.App.{java, mach}
 use Rattle.infer_sig.specs.Signature.{Bytes, between, any_of, at_least, text, byte, allows, fits, accepts, stands}
 use Rattle.infer.specs.BuiltIn.{BuiltIn, IsAccepted, html}
@@ -12,7 +12,6 @@ use Rattle.infer.specs.Rows.{Signature}
 use Rattle.infer.specs.Table.{table, row}
 use Rattle.infer.specs.declared.file_type.MatcherType.TheVariants.{Text}
 use Rattle.infer.proofs.PlaceLemmas.{ByPlace}
-use Rattle.infer.proofs.TableLemmas.{length-table}
 
 -- any row
 pub some_row : Row BuiltIn

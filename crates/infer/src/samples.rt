@@ -1,10 +1,10 @@
 //! A sample of each built-in row: a short buffer that has it as its first.
-ghost use Rattle.std.specs.Prelude.{◌≡◌, ◌++◌, ◌+◌, ◌-◌, ◌<◌, ◌≤◌, ◌⊎◌, ◌↔◌, IfNone, IfSome, IsNone, IsTrue, length, map, take};
+ghost use Rattle.std.specs.Prelude.{◌≡◌, ◌+◌, ◌<◌, ◌≤◌, ◌⊎◌, ◌↔◌, IfNone, IfSome, IsNone, IsTrue, length, map, take};
 ghost use Rattle.std.specs.List.{HoldsAt, list_all};
 ghost use Rattle.infer.specs.First.{IsFirst};
 ghost use Rattle.infer.specs.Row.{Accepts};
 ghost use Rattle.infer.specs.SampleSeen.{buffer_seen, is_inside};
-ghost use Rattle.infer.specs.Samples.{HoldsSample, put, sample_of, zeros};
+ghost use Rattle.infer.specs.Samples.{HoldsSample, padded, put, sample_of};
 ghost use Rattle.infer.specs.Table.{table};
 
 use crate::laws;
@@ -139,14 +139,16 @@ static SAMPLES: [Pieces; 98] = samples![
     3 b"#!\0";
 ];
 
+// The samples, in the order of the rows.
 fn all() -> &'static [Pieces; 98]
-    ensures buffers { map buffer_seen result.now ≡ map (λ r. sample_of r.signature ++ zeros (640 - length (sample_of r.signature))) table }
+    ensures buffers { map buffer_seen result.now ≡ map padded table }
     ensures lengths { map (λ s. s.len) result.now ≡ map (λ r. length (sample_of r.signature)) table }
     ensures inside { IsTrue (list_all is_inside result.now) }
 {
     &SAMPLES
 }
 
+// That of row `i`.
 fn of_row(i: usize) -> &'static Pieces
     requires { i < 98 }
     ensures holds { HoldsAt (HoldsSample result.now.len (buffer_seen result.now)) table i }
@@ -155,6 +157,7 @@ fn of_row(i: usize) -> &'static Pieces
     &all()[i]
 }
 
+// Writes the text over `out`, from the place on.
 fn put(place: usize, text: &[u8], out: &mut [u8])
     requires { place + length text.now ≤ length out.old }
     ensures { out.new ≡ put place text.now out.old }
@@ -162,6 +165,7 @@ fn put(place: usize, text: &[u8], out: &mut [u8])
     out[place..place + text.len()].copy_from_slice(text);
 }
 
+// Writes the texts over zeros.
 fn write(pieces: &Pieces, out: &mut [u8; 640])
     requires { IsTrue (is_inside pieces.now) }
     ensures { out.new ≡ buffer_seen pieces.now }
@@ -185,6 +189,7 @@ pub fn sample(i: usize, out: &mut [u8; 640]) -> Option<usize>
     if i == 3 || i == 66 || i >= 98 {
         return None;
     }
+    // Tells that row `i` is the first that accepts the sample.
     laws::reach();
     let pieces = of_row(i);
     write(pieces, out);
