@@ -3,7 +3,7 @@ ghost use Rattle.std.specs.Prelude.{◌<◌, ◌↔◌, IsTrue, length};
 
 use super::readers::Pieces;
 use crate::engine::FRONT;
-use crate::{Fault, Infer, Type, Watched, get, get_from_path};
+use crate::{Fault, Infer, Type, Watched, get, get_from_path, row, sample};
 use linked_list_allocator::LocalHeap;
 use std::alloc::{Allocator, Global};
 use std::fs;
@@ -206,10 +206,12 @@ fn files(rt: HostRuntime) -> Result<(), Fail> {
     let mut infer = Infer::new();
     infer.add(rt.alloc(), "custom/long", "long", is_too_long)?;
     infer.add(rt.alloc(), "custom/empty", "empty", is_empty)?;
-    let mut bytes = vec![in rt.alloc(); b' '; 8193]?;
-    fs::write(&rt, "spaces.bin", bytes.as_slice())?;
-    bytes[..4].copy_from_slice(&JPEG);
-    fs::write(&rt, "long.jpg", bytes.as_slice())?;
+    let mut spaces = vec![in rt.alloc(); b' '; 8190]?;
+    spaces.extend_from_slice(b"<P>")?;
+    fs::write(&rt, "spaces.bin", spaces.as_slice())?;
+    let mut long = vec![in rt.alloc(); b' '; 8193]?;
+    long[..4].copy_from_slice(&JPEG);
+    fs::write(&rt, "long.jpg", long.as_slice())?;
     fs::write(&rt, "short.jpg", &JPEG)?;
     fs::write(&rt, "empty.bin", b"")?;
     let files = [
@@ -230,6 +232,19 @@ fn files(rt: HostRuntime) -> Result<(), Fail> {
             "{path}"
         );
         fs::remove_file(&rt, path)?;
+    }
+    Ok(())
+}
+
+#[test]
+fn samples_as_files(rt: HostRuntime) -> Result<(), Fail> {
+    for i in 0..98 {
+        let mut out = [0; 640];
+        if let Some(n) = sample(i, &mut out) {
+            fs::write(&rt, "sample.bin", &out[..n])?;
+            assert_eq!(rt; get_from_path(&rt, rt.alloc(), "sample.bin"), Ok(row(i)));
+            fs::remove_file(&rt, "sample.bin")?;
+        }
     }
     Ok(())
 }

@@ -27,6 +27,10 @@ const COMPOUND: &[u8] = b"\xD0\xCF\x11\xE0\xA1\xB1\x1A\xE1";
 
 const WORD_ID: &[u8] = b"\x06\x09\x02\x00\x00\x00\x00\x00\xC0\x00\x00\x00\x00\x00\x00\x46";
 
+const EXCEL_ID: &[u8] = b"\x10\x08\x02\x00\x00\x00\x00\x00\xC0\x00\x00\x00\x00\x00\x00\x46";
+
+const POWERPOINT_ID: &[u8] = b"\x10\x8D\x81\x64\x9B\x4F\xCF\x11\x86\xEA\x00\xAA\x00\xB9\x29\xE8";
+
 type Case<'a> = (usize, &'a [(usize, &'a [u8])], Option<usize>);
 
 #[test]
@@ -158,6 +162,68 @@ fn office_headers(rt: HostRuntime) -> Result<(), Fail> {
             Some(67),
             "{gap} zeros, one byte less"
         );
+    }
+    Ok(())
+}
+
+/// The positions of a buffer and of its first 1024 bytes.
+fn positions(buf: &[u8]) -> (Option<usize>, Option<usize>) {
+    (position(buf), position(buf.get(..1024).unwrap_or(buf)))
+}
+
+#[test]
+fn compounds_past_the_front(rt: HostRuntime) -> Result<(), Fail> {
+    for (row, id) in [(57, WORD_ID), (59, EXCEL_ID), (61, POWERPOINT_ID)] {
+        let texts: [(usize, &[u8]); 5] = [
+            (0, COMPOUND),
+            (26, b"\x03\0\xFE\xFF\x09"),
+            (48, b"\x01"),
+            (1090, b"\x05"),
+            (1104, id),
+        ];
+        let buf = zeros_but(rt.alloc(), 1152, &texts)?;
+        assert_eq!(rt; positions(buf.as_slice()), (Some(row), Some(93)));
+    }
+    Ok(())
+}
+
+#[test]
+fn folders_past_the_front(rt: HostRuntime) -> Result<(), Fail> {
+    let folders: [(usize, &[u8]); 3] = [(58, b"word/"), (60, b"xl/"), (62, b"ppt/")];
+    for (row, folder) in folders {
+        let texts: [(usize, &[u8]); 7] = [
+            (0, ZIP),
+            (30, b"[Content_Types].xml"),
+            (1049, ZIP),
+            (1079, ZIP),
+            (1109, folder),
+            (1135, ZIP),
+            (1165, folder),
+        ];
+        let buf = zeros_but(rt.alloc(), 1165 + folder.len(), &texts)?;
+        assert_eq!(rt; positions(buf.as_slice()), (Some(row), Some(67)));
+    }
+    Ok(())
+}
+
+#[test]
+fn others_past_the_front(rt: HostRuntime) -> Result<(), Fail> {
+    let frame = b"\x50\x2A\x4D\x18\xF8\x03";
+    let zeros: [(usize, &[(usize, &[u8])]); 4] = [
+        (26, &[(0, b"\0\0\x04\x04ftypheic")]),
+        (27, &[(0, b"\0\0\x04\x04ftypavif")]),
+        (91, &[(0, frame), (1024, b"\x28\xB5\x2F\xFD")]),
+        (92, &[(0, frame), (1024, b"\x04\x22\x4D\x18")]),
+    ];
+    for (row, texts) in zeros {
+        let buf = zeros_but(rt.alloc(), 1028, texts)?;
+        assert_eq!(rt; positions(buf.as_slice()), (Some(row), None));
+    }
+    let marks: [(usize, &[u8]); 2] = [(95, b"<P>"), (96, b"<?xml")];
+    for (row, mark) in marks {
+        let mut buf = vec![in rt.alloc(); b' '; 1024]?;
+        buf.extend_from_slice(mark)?;
+        assert_eq!(rt; positions(buf.as_slice()), (Some(row), None));
     }
     Ok(())
 }
