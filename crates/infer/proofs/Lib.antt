@@ -15,3 +15,7 @@ pub mod AcceptanceLemmas
 pub mod OrderLemmas
 pub mod SampleLemmas
 pub mod BreakLemmas
+pub mod ArmLemmas
+pub mod CandidateLemmas
+pub mod AskLemmas
+pub mod ChainLemmas

@@ -7,7 +7,7 @@ use Rattle.std.proofs.lemmas.List.{get_or-map, get_or_append_left, get_or-append
 use Rattle.infer.specs.First.{IsFirst, NoneHas, SomeHas}
 
 -- what holds of an element that was read holds at its index
-HoldsAt-read : {A : Type 0} (P : A → Type 0) (xs : List A) (i : ℕ) (c : A) → i < length xs → P (get_or xs i c) → HoldsAt P xs i
+pub HoldsAt-read : {A : Type 0} (P : A → Type 0) (xs : List A) (i : ℕ) (c : A) → i < length xs → P (get_or xs i c) → HoldsAt P xs i
 HoldsAt-read P [] i c lt h = absurd (omega arith)
 HoldsAt-read P (x ∷ xs) zero c lt h = λ d. h
 HoldsAt-read P (x ∷ xs) (suc i) c lt h = HoldsAt-read P xs i c (omega arith) h

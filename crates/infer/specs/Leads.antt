@@ -36,3 +36,8 @@ places_from test i (x ∷ xs) = if test x then i ∷ places_from test (suc i) xs
 -- the numbers of the rows whose signature allows the first byte f, ascending
 unfoldable pub candidates : ℕ → List ℕ
 candidates f = places_from (λ r. allows_first r.signature f) 0 table
+
+-- the numbers of the rows that can accept the buffer: the candidates of its first byte, and none of the empty one
+abbrev pub candidates_of : List ℕ → List ℕ
+candidates_of [] = []
+candidates_of (f ∷ rest) = candidates f

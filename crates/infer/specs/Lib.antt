@@ -36,6 +36,8 @@ pub mod Matchers
 pub mod Watched
 pub mod Fault
 pub mod Leads
+pub mod Walks
+pub mod Arms
 pub mod Laws
 pub mod Samples
 pub mod SampleSeen

@@ -1,5 +1,6 @@
 //! What a file type is.
 ghost use Rattle.std.specs.Prelude.{◌≡◌, ◌↔◌, IsTrue, Some};
+ghost use Rattle.std.specs.Str.{bytes_eq};
 
 use std::fmt;
 
@@ -86,8 +87,8 @@ impl FileType {
         ensures { IsTrue result ↔ Fits wanted.entry (triple_of self.now) }
     {
         match wanted {
-            Wanted::Extension(text) => self.extension == text,
-            Wanted::MimeType(text) => self.mime_type == text,
+            Wanted::Extension(text) => is_same(self.extension, text),
+            Wanted::MimeType(text) => is_same(self.mime_type, text),
             Wanted::Class(class) => self.matcher_type == class,
         }
     }
@@ -109,4 +110,13 @@ impl fmt::Debug for FileType {
             .field("extension", &self.extension)
             .finish_non_exhaustive()
     }
+}
+
+// Whether two texts are the same. Most that are asked for differ in the first byte or the length.
+#[inline(always)]
+pub(crate) fn is_same(a: &str, b: &str) -> bool
+    ensures same { IsTrue result ↔ (a.now ≡ b.now) }
+    ensures test { result ≡ bytes_eq a.now b.now }
+{
+    a.len() == b.len() && a.as_bytes().first() == b.as_bytes().first() && a == b
 }

@@ -16,9 +16,12 @@ ghost use Rattle.infer.specs.Triple.{triple_of};
 
 pub mod app;
 pub mod archive;
+mod ask;
 pub mod audio;
 pub mod book;
+mod chain;
 mod custom;
+mod dispatch;
 pub mod doc;
 mod engine;
 mod fault;
@@ -30,6 +33,7 @@ mod infer;
 pub mod laws;
 mod map;
 pub mod odf;
+mod question;
 mod samples;
 #[cfg(test)]
 mod tests;
@@ -37,6 +41,7 @@ pub mod text;
 pub mod video;
 mod watched;
 
+pub use ask::{Ask, Asker, is_counted, position_counted, walk};
 use engine::FRONT;
 pub use fault::Fault;
 use file_type::Wanted;

@@ -1,14 +1,21 @@
 //! The built-in rows.
 ghost use Rattle.std.specs.Prelude.{◌≡◌, ◌↔◌, IsTrue, map, option_map, slice_get};
 ghost use Rattle.infer.specs.First.{IsAnswer, IsFirstOf, SomeHas};
-ghost use Rattle.infer.specs.Questions.{IsWanted, SomeBoth};
+ghost use Rattle.infer.specs.Questions.{HasClass, IsWanted, SomeBoth};
 ghost use Rattle.infer.specs.Row.{Accepts, shows};
 ghost use Rattle.infer.specs.RowSeen.{row_seen};
 ghost use Rattle.infer.specs.Table.{table};
 ghost use Rattle.infer.specs.Triple.{triple_of};
+ghost use Rattle.infer.specs.Walks.{RowHas, Takes, is_named};
 
-use crate::file_type::{FileType, MatcherType, Wanted};
+use crate::ask::is_counted;
+use crate::dispatch::{arm_of, candidates_of, first_of};
+use crate::file_type::{FileType, MatcherType, Wanted, is_same};
 use crate::format::Format;
+use crate::laws;
+use crate::question::{
+    App, Archive, Audio, Book, Class, Doc, Every, Font, Image, OfClass, Question, Video,
+};
 
 /// A built-in row: what it tells, and the signature that decides.
 #[derive(Clone, Copy)]
@@ -141,19 +148,34 @@ impl BuiltInRow {
         self.format.accepts(buf)
     }
 
-    // The same behind a call, so that the many loops of the questions stay short.
-    #[inline(never)]
-    fn accepts_by_call(&self, buf: &[u8]) -> bool
-        ensures { IsTrue result ↔ Accepts buf.now (row_seen self.now) }
-    {
-        self.accepts(buf)
-    }
-
     #[inline(always)]
     fn fits(&self, wanted: Wanted) -> bool
         ensures { IsTrue result ↔ IsWanted wanted.entry (row_seen self.now) }
     {
         self.file_type.fits(wanted)
+    }
+}
+
+// Whether row `i` accepts `buf`, and is one that the question is about.
+#[inline(always)]
+pub fn takes<Q: Question>(i: usize, question: &Q, buf: &[u8]) -> bool
+    ensures { IsTrue result ↔ RowHas (Takes (Q.wanted question.now) buf.now) i }
+{
+    match rows().get(i) {
+        Some(row) => question.fits(&row.file_type) && row.accepts(buf),
+        None => false,
+    }
+}
+
+// Whether row `i` has the extension, where one is given.
+#[inline(always)]
+pub fn is_named(i: usize, wanted: Option<&str>) -> bool
+    ensures { result ≡ is_named wanted.entry i }
+{
+    match (rows().get(i), wanted) {
+        (_, None) => true,
+        (Some(row), Some(extension)) => is_same(row.file_type.extension, extension),
+        (None, Some(_)) => false,
     }
 }
 
@@ -164,19 +186,27 @@ fn rows() -> &'static [BuiltInRow]
     &ROWS
 }
 
+// The number of the first row whose signature accepts `buf`, of those that the question is about. Only the
+// candidates of its first byte are asked.
+#[inline(always)]
+fn first<Q: Question>(question: &Q, buf: &[u8]) -> Option<usize>
+    ensures { IsFirstOf (Takes (Q.wanted question.now) buf.now) table result }
+{
+    laws::leads();
+    laws::blank();
+    let lead = buf.first()?;
+    first_of(arm_of(*lead), question, buf)
+}
+
 // The number of the first row whose signature accepts `buf`.
 pub fn position(buf: &[u8]) -> Option<usize>
     ensures { IsFirstOf (Accepts buf.now) table result }
 {
-    for (i, row) in rows().iter().enumerate() {
-        if row.accepts(buf) {
-            return Some(i);
-        }
-    }
-    None
+    first(&Every, buf)
 }
 
 // The type of row `i`.
+#[inline(always)]
 pub fn row(i: usize) -> Option<FileType>
     ensures { option_map triple_of result ≡ option_map shows (slice_get table i) }
 {
@@ -190,14 +220,46 @@ pub fn get(buf: &[u8]) -> Option<FileType>
     row(position(buf)?)
 }
 
-// Whether some built-in row that is wanted accepts the buffer. Each question makes a loop of its own of it, in
-// which what is wanted is settled.
+// Whether some built-in row that is wanted accepts the buffer. Of the candidates only those that are wanted are
+// asked. Rows of a class are asked in code of their own, in which the class is settled.
 #[inline(always)]
 pub fn some(wanted: Wanted, buf: &[u8]) -> bool
     ensures { IsTrue result ↔ SomeBoth (IsWanted wanted.entry) (Accepts buf.now) table }
 {
-    for row in rows() {
-        if row.fits(wanted) && row.accepts_by_call(buf) {
+    match wanted {
+        Wanted::Extension(extension) => is_counted(buf, extension).0,
+        Wanted::MimeType(_) => some_candidate(wanted, buf),
+        Wanted::Class(MatcherType::App) => some_of_class(App, buf),
+        Wanted::Class(MatcherType::Archive) => some_of_class(Archive, buf),
+        Wanted::Class(MatcherType::Audio) => some_of_class(Audio, buf),
+        Wanted::Class(MatcherType::Book) => some_of_class(Book, buf),
+        Wanted::Class(MatcherType::Doc) => some_of_class(Doc, buf),
+        Wanted::Class(MatcherType::Font) => some_of_class(Font, buf),
+        Wanted::Class(MatcherType::Image) => some_of_class(Image, buf),
+        Wanted::Class(MatcherType::Video) => some_of_class(Video, buf),
+        Wanted::Class(MatcherType::Text | MatcherType::Custom) => some_candidate(wanted, buf),
+    }
+}
+
+// Whether some built-in row of the class accepts the buffer.
+#[inline(always)]
+fn some_of_class<K: Class>(class: K, buf: &[u8]) -> bool
+    ensures { IsTrue result ↔ SomeBoth (HasClass K.CLASS) (Accepts buf.now) table }
+{
+    first(&OfClass(class), buf).is_some()
+}
+
+// Whether some built-in row that is wanted accepts the buffer, by a loop.
+fn some_candidate(wanted: Wanted, buf: &[u8]) -> bool
+    ensures { IsTrue result ↔ SomeBoth (IsWanted wanted.entry) (Accepts buf.now) table }
+{
+    laws::leads();
+    laws::blank();
+    let Some(lead) = buf.first() else {
+        return false;
+    };
+    for row in candidates_of(arm_of(*lead)) {
+        if takes(usize::from(*row), &wanted, buf) {
             return true;
         }
     }

@@ -1,4 +1,5 @@
 mod added;
+mod asked;
 mod input;
 mod laws;
 mod positions;

@@ -1,12 +1,12 @@
 -- Skippable frames: where one stands at the front, and that it stands there in one way.
-use Rattle.std.proofs.Common.{◌≡◌, ℕ, ◌+◌, ◌-◌, ◌<◌, ◌≤◌, ◌⊎◌, inl, inr, List, ◌∷◌, ◌++◌, length, get_or, take, drop, refl, sym, ap, subst, ◌∙◌, arith, length-append}
+use Rattle.std.proofs.Common.{◌≡◌, ◌↔◌, ℕ, ◌+◌, ◌-◌, ◌<◌, ◌≤◌, ◌⊎◌, inl, inr, List, ◌∷◌, ◌++◌, length, get_or, take, drop, refl, sym, ap, subst, ◌∙◌, arith, length-append}
 use Rattle.std.proofs.lemmas.List.{append_assoc, take_rest, take-append-drop, length-take-le, get_or_append_left}
 use Rattle.infer_deep.specs.Numbers.{le32}
 use Rattle.infer_deep.specs.Signatures.{IsLasting}
 use Rattle.infer_deep.specs.Joined.{SkipsTo, NoneBegins, BeginsWith}
 use Rattle.infer_deep.proofs.PlaceLemmas.{OccursAt-append, OccursAt-first, OccursAt-front, OccursAt-begins, begins-from_OccursAt}
 use Rattle.infer_deep.proofs.NumberLemmas.{le32-append}
-use Rattle.infer_deep.proofs.JoinedLemmas.{IsPrefixFree, WordsBegin, same_fronts, SkipsTo-same, SkipsTo-append, SkipsTo-lead, NoneBegins-first}
+use Rattle.infer_deep.proofs.JoinedLemmas.{IsPrefixFree, WordsBegin, same_fronts, SkipsTo-none, SkipsTo-same, SkipsTo-append, SkipsTo-lead, NoneBegins-first}
 use Rattle.infer_deep.specs.Frames.{BeginsFrame, IsFrame, IsFramed}
 use Rattle.memchr.specs.Find.{OccursAt}
 
@@ -90,6 +90,15 @@ module _ (b left magic : List ℕ) (skips : SkipsTo IsFrame b left) (stops : Non
   pub left-from_IsFramed : 0 < length magic → get_or magic 0 0 < 0x50 → IsFramed magic b → OccursAt left magic 0
   left-from_IsFramed some small (rest, s) =
       OccursAt-begins left magic rest (left_same b left (magic ++ rest) skips stops s (low_front magic rest some small))
+
+-- it is of the buffer what it is of what is left
+pub IsFramed-left : (b left magic : List ℕ) → SkipsTo IsFrame b left → NoneBegins IsFrame left → 0 < length magic → get_or magic 0 0 < 0x50
+    → IsFramed magic left ↔ IsFramed magic b
+IsFramed-left b left magic skips stops some small =
+    let none = SkipsTo-none IsFrame left in (
+      λ h. IsFramed-from_left b left magic skips stops (left-from_IsFramed left left magic none stops some small h),
+      λ h. IsFramed-from_left left left magic none stops (left-from_IsFramed b left magic skips stops some small h),
+    )
 
 pub IsFramed-lasting : (magic : List ℕ) → IsLasting (IsFramed magic)
 IsFramed-lasting magic b more (rest, s) =

@@ -84,19 +84,19 @@ LacksPair-more b x y k at is long before lacks p lt (first, second) =
           )
     ]
 
--- a search may begin behind n places that lack the first two bytes of the text
-module _ (b text : List ℕ) (start end m n : ℕ) (two : 2 ≤ length text) (is : m ≡ min end (length b))
-    (lacks : LacksPair (get_or text 0 0) (get_or text 1 0) (take (m - start) (drop start b)) n) where
+-- a search may begin behind n places that lack the two bytes of the text from `rare` on
+module _ (b text : List ℕ) (rare start end m n : ℕ) (two : rare + 2 ≤ length text) (is : m ≡ min end (length b))
+    (lacks : LacksPair (get_or text rare 0) (get_or text (rare + 1) 0) (take (m - (start + rare)) (drop (start + rare) b)) n) where
   none_before : (q : ℕ) → q < start + n → ¬ IsWithin b text start end q
   none_before q lt w =
       let low = w.low in
       let high = w.high in
       let fits = w.stands.fits in
-      let back : start + (q - start) ≡ q + 0 = omega arith in
-      let next : start + (q - start + 1) ≡ q + 1 = omega arith in
+      let back : start + rare + (q - start) ≡ q + rare = omega arith in
+      let next : start + rare + (q - start + 1) ≡ q + (rare + 1) = omega arith in
       lacks (q - start) (omega arith) (
-        part_reads b start m (q - start) (omega arith) ∙ ap (λ i. get_or b i 0) back ∙ w.stands.reads 0 (omega arith),
-        part_reads b start m (q - start + 1) (omega arith) ∙ ap (λ i. get_or b i 0) next ∙ w.stands.reads 1 (omega arith),
+        part_reads b (start + rare) m (q - start) (omega arith) ∙ ap (λ i. get_or b i 0) back ∙ w.stands.reads rare (omega arith),
+        part_reads b (start + rare) m (q - start + 1) (omega arith) ∙ ap (λ i. get_or b i 0) next ∙ w.stands.reads (rare + 1) (omega arith),
       )
 
   later : (q : ℕ) → start + n ≤ q → IsWithin b text start end q → IsWithin b text (start + n) end q

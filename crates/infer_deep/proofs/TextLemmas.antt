@@ -1,5 +1,5 @@
 -- White space, marks and tags: what a buffer begins with, and that it begins so in one way.
-use Rattle.std.proofs.Common.{◌≡◌, ℕ, suc, ◌+◌, ◌-◌, ◌<◌, ◌≤◌, ◌⊎◌, Bool, true, ◌&&◌, not, cond, List, [], ◌∷◌, ◌++◌, length, get_or, take, drop, map, refl, sym, ap, subst, ◌∙◌, inl, inr, arith, eqb, ltb}
+use Rattle.std.proofs.Common.{◌≡◌, ◌↔◌, ℕ, suc, ◌+◌, ◌-◌, ◌<◌, ◌≤◌, ◌⊎◌, Bool, true, ◌&&◌, not, cond, List, [], ◌∷◌, ◌++◌, length, get_or, take, drop, map, refl, sym, ap, subst, ◌∙◌, inl, inr, arith, eqb, ltb}
 use Rattle.std.proofs.Math.ListN.{get_or-map}
 use Rattle.std.proofs.lemmas.List.{take-append-drop, take_at, take_rest, get_or_append_left, drop_more, length-map, length-take-le, append_assoc}
 use Rattle.std.proofs.lemmas.List.Sums.{AllPass-from_list_all}
@@ -196,6 +196,24 @@ module _ (b marked text : List ℕ) (skips : SkipsTo IsSpace b marked) (stops : 
       = SkipsTo-same IsMark IsMark-prefix_free marked left text
       (subst (λ u. SkipsTo IsMark u left) same m) (NoneBegins-mark left first) marks ends in
       subst (BeginsInAnyCase (codes "<?xml")) same_left h
+
+-- both are of the buffer what they are of its text
+module _ (b text : List ℕ) (skips : SkipsTo IsSpace b text) (stops : NoneBegins IsSpace text) where
+  pub IsHtml-trimmed : IsHtml text ↔ IsHtml b
+  IsHtml-trimmed = (
+    λ h. (text, skips, tag-from_IsHtml text text (SkipsTo-none IsSpace text) stops h),
+    λ h. (text, SkipsTo-none IsSpace text, tag-from_IsHtml b text skips stops h),
+  )
+
+  pub IsXml-trimmed : IsXml text ↔ IsXml b
+  IsXml-trimmed = (
+    λ (other, left, s, m, h).
+        let same = same_text text text (SkipsTo-none IsSpace text) stops other s (NoneBegins-space-marked other left m (xml_open left h)) in
+        (text, left, skips, subst (λ u. SkipsTo IsMark u left) same m, h),
+    λ (other, left, s, m, h).
+        let same = same_text b text skips stops other s (NoneBegins-space-marked other left m (xml_open left h)) in
+        (text, left, SkipsTo-none IsSpace text, subst (λ u. SkipsTo IsMark u left) same m, h),
+  )
 
 -- a text begins in no two ways
 pub IsHtml-apart_IsXml : AreApart IsHtml IsXml

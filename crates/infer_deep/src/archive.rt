@@ -11,7 +11,7 @@ use crate::places::{stands_at, stands_by};
 pub fn is_pdf(buf: &[u8]) -> bool
     ensures { IsTrue result ↔ IsPdf buf.now }
 {
-    stands_by(buf, b"%PDF", 1024)
+    stands_by(buf, b"%PDF", 0, 1024)
 }
 
 /// Zstandard: some skippable frames of RFC 8878, perhaps none, then 28 B5 2F FD.
@@ -26,6 +26,16 @@ pub fn is_lz4(buf: &[u8]) -> bool
     ensures { IsTrue result ↔ IsLz4 buf.now }
 {
     is_framed(buf, b"\x04\x22\x4D\x18")
+}
+
+/// What follows the skippable frames at the front of `buf`, which is Zstandard or LZ4 exactly where `buf` is.
+///
+/// Whoever asks for both asks them of this, and pays for the frames once.
+pub fn after_skippable_frames(buf: &[u8]) -> &[u8]
+    ensures zst { IsZst result.now ↔ IsZst buf.now }
+    ensures lz4 { IsLz4 result.now ↔ IsLz4 buf.now }
+{
+    after_frames(buf)
 }
 
 fn is_framed(buf: &[u8], magic: &[u8]) -> bool

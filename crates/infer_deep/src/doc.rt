@@ -151,7 +151,7 @@ fn header_from(buf: &[u8], start: usize) -> Option<usize>
     if start > buf.len() {
         return None;
     }
-    find(buf, b"PK\x03\x04", start, start + 6000)
+    find(buf, b"PK\x03\x04", 0, start, start + 6000)
 }
 
 fn has_folder(buf: &[u8], place: usize) -> bool

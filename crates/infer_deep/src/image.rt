@@ -10,12 +10,17 @@ use crate::places::stands_at;
 ///
 /// The first four bytes state the length of the box, the highest first. Brands behind the box do not count, and
 /// neither does a box that states to be longer than `buf`.
+#[inline(always)]
 pub fn is_heif(buf: &[u8]) -> bool
     ensures { IsTrue result ↔ IsHeif buf.now }
 {
-    if !is_boxed(buf) {
-        return false;
-    }
+    is_boxed(buf) && is_heif_box(buf)
+}
+
+fn is_heif_box(buf: &[u8]) -> bool
+    requires { IsBoxed buf.now }
+    ensures { IsTrue result ↔ IsHeif buf.now }
+{
     if stands_at(buf, b"heic", 8) || stands_at(buf, b"heix", 8) {
         return true;
     }
@@ -24,18 +29,24 @@ pub fn is_heif(buf: &[u8]) -> bool
 
 /// AVIF: at least 16 bytes, and first a whole box "ftyp" as for HEIF, in which avif or avis is the major brand or a
 /// compatible one.
+#[inline(always)]
 pub fn is_avif(buf: &[u8]) -> bool
     ensures { IsTrue result ↔ IsAvif buf.now }
 {
-    if !is_boxed(buf) {
-        return false;
-    }
+    is_boxed(buf) && is_avif_box(buf)
+}
+
+fn is_avif_box(buf: &[u8]) -> bool
+    requires { IsBoxed buf.now }
+    ensures { IsTrue result ↔ IsAvif buf.now }
+{
     stands_at(buf, b"avif", 8)
         || stands_at(buf, b"avis", 8)
         || has_compatible(buf, b"avif")
         || has_compatible(buf, b"avis")
 }
 
+#[inline(always)]
 fn is_boxed(buf: &[u8]) -> bool
     ensures { IsTrue result ↔ IsBoxed buf.now }
 {

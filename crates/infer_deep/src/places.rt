@@ -6,7 +6,7 @@ ghost use Rattle.infer_deep.specs.Blocks.{LacksPair};
 ghost use Rattle.infer_deep.specs.Places.{IsFirstWithin};
 ghost use Rattle.infer_deep.specs.Windows.{StandsBy};
 
-use memchr::memmem;
+use memchr::{memchr, memmem};
 
 pub fn stands_at(buf: &[u8], text: &[u8], place: usize) -> bool
     ensures { IsTrue result ↔ OccursAt buf.now text.now place }
@@ -14,28 +14,33 @@ pub fn stands_at(buf: &[u8], text: &[u8], place: usize) -> bool
     place <= buf.len() && buf[place..].starts_with(text)
 }
 
-pub fn stands_by(buf: &[u8], text: &[u8], end: usize) -> bool
-    requires { 2 ≤ length text.now }
+pub fn stands_by(buf: &[u8], text: &[u8], rare: usize, end: usize) -> bool
+    requires { rare + 2 ≤ length text.now }
     ensures { IsTrue result ↔ StandsBy text.now end buf.now }
 {
-    find(buf, text, 0, end).is_some()
+    find(buf, text, rare, 0, end).is_some()
 }
 
 /// The least place from `start` on at which `text` stands and ends by `end`.
 ///
-/// Most buffers lack the first two bytes of `text`, which a look at whole blocks shows faster than the search.
-pub fn find(buf: &[u8], text: &[u8], start: usize, end: usize) -> Option<usize>
-    requires { 2 ≤ length text.now }
+/// Most buffers lack the two bytes of `text` from `rare` on, which a look at whole blocks shows faster than the
+/// search.
+pub fn find(buf: &[u8], text: &[u8], rare: usize, start: usize, end: usize) -> Option<usize>
+    requires { rare + 2 ≤ length text.now }
     ensures { IsFirstWithin buf.now text.now start end result }
 {
     let stop = end.min(buf.len());
-    if start > stop || stop - start < 129 {
-        return search(buf, text, start, end);
+    if start > stop || stop - start < text.len() {
+        return None;
     }
-    let free = pair_free(&buf[start..stop], text[0], text[1]);
+    let free = places_free(&buf[start + rare..stop], text[rare], text[rare + 1]);
+    if stop - start - free < text.len() {
+        return None;
+    }
     search(buf, text, start + free, end)
 }
 
+#[inline(never)]
 fn search(buf: &[u8], text: &[u8], start: usize, end: usize) -> Option<usize>
     ensures { IsFirstWithin buf.now text.now start end result }
 {
@@ -48,6 +53,19 @@ fn search(buf: &[u8], text: &[u8], start: usize, end: usize) -> Option<usize>
 }
 
 /// How many places at the front of `hay` surely begin no such pair of bytes.
+#[inline(always)]
+fn places_free(hay: &[u8], first: u8, second: u8) -> usize
+    ensures within { result ≤ length hay.now }
+    ensures lacks { LacksPair first second hay.now result }
+{
+    if hay.len() < 129 {
+        return memchr(first, hay).unwrap_or(hay.len());
+    }
+    pair_free(hay, first, second)
+}
+
+/// The same in blocks.
+#[inline(never)]
 fn pair_free(hay: &[u8], first: u8, second: u8) -> usize
     requires { 129 ≤ length hay.now }
     ensures within { result ≤ length hay.now }

@@ -52,6 +52,16 @@ pub fn is_xml(buf: &[u8]) -> bool
     begins_in_any_case(text, b"<?xml")
 }
 
+/// What follows the white space at the front of `buf`, which is HTML or XML exactly where `buf` is.
+///
+/// Whoever asks for both asks them of this, and pays for the white space once.
+pub fn after_white_space(buf: &[u8]) -> &[u8]
+    ensures html { IsHtml result.now ↔ IsHtml buf.now }
+    ensures xml { IsXml result.now ↔ IsXml buf.now }
+{
+    trim_start_whitespaces(buf)
+}
+
 #[inline(always)]
 fn opens_tag(text: &[u8]) -> bool
     ensures { IsTrue result ↔ (slice_index text.now 0 ≡ 0x3C) }

@@ -19,8 +19,8 @@ pub fn is_webm(buf: &[u8]) -> bool
 }
 
 fn is_matroska(buf: &[u8], doc_type: &[u8]) -> bool
-    requires { 2 ≤ length doc_type.now }
+    requires { 4 ≤ length doc_type.now }
     ensures { IsTrue result ↔ IsMatroska doc_type.now buf.now }
 {
-    buf.len() >= 257 && stands_at(buf, b"\x1A\x45\xDF\xA3", 0) && stands_by(buf, doc_type, 256)
+    buf.len() >= 257 && stands_at(buf, b"\x1A\x45\xDF\xA3", 0) && stands_by(buf, doc_type, 2, 256)
 }

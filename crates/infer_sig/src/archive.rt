@@ -18,6 +18,7 @@ pub fn is_zip(buf: &[u8]) -> bool
 }
 
 /// Tar: at least 262 bytes, "ustar" at 257.
+#[inline(always)]
 pub fn is_tar(buf: &[u8]) -> bool
     ensures { result ≡ accepts tar buf.now }
 {
@@ -88,6 +89,7 @@ pub fn is_rtf(buf: &[u8]) -> bool
 }
 
 /// Embedded OpenType: at least 36 bytes, the version 02 00 01, 01 00 00 or 02 00 02 at 8, "LP" at 34.
+#[inline(always)]
 pub fn is_eot(buf: &[u8]) -> bool
     ensures { result ≡ accepts eot buf.now }
 {
@@ -169,6 +171,7 @@ pub fn is_rpm(buf: &[u8]) -> bool
 }
 
 /// DICOM: at least 132 bytes, "DICM" at 128.
+#[inline(always)]
 pub fn is_dcm(buf: &[u8]) -> bool
     ensures { result ≡ accepts dcm buf.now }
 {

@@ -15,6 +15,7 @@ pub fn is_epub(buf: &[u8]) -> bool
 }
 
 /// Mobipocket: at least 68 bytes, "BOOKMOBI" at 60.
+#[inline(always)]
 pub fn is_mobi(buf: &[u8]) -> bool
     ensures { result ≡ accepts mobi buf.now }
 {

@@ -34,6 +34,7 @@ pub fn is_gif(buf: &[u8]) -> bool
 }
 
 /// WebP: at least 12 bytes, "WEBP" at 8.
+#[inline(always)]
 pub fn is_webp(buf: &[u8]) -> bool
     ensures { result ≡ accepts webp buf.now }
 {

@@ -1,6 +1,7 @@
 //! Videos.
-ghost use Rattle.std.specs.Prelude.{◌≡◌};
-ghost use Rattle.infer_sig.specs.Signature.{accepts};
+ghost use Rattle.std.specs.Prelude.{◌≡◌, ◌≤◌, length};
+ghost use Rattle.std.specs.List.{list_any};
+ghost use Rattle.infer_sig.specs.Signature.{accepts, stands};
 ghost use Rattle.infer_sig.specs.Video.{avi, flv, m4v, mov, mp4, mpeg, wmv};
 
 use crate::stands::{any_stands, stands};
@@ -13,13 +14,22 @@ const MP4_BRANDS: [[u8; 4]; 28] = [
 ];
 
 /// MP4: at least 12 bytes, "ftyp" at 4, one of 28 brands at 8, such as "isom".
+#[inline(always)]
 pub fn is_mp4(buf: &[u8]) -> bool
     ensures { result ≡ accepts mp4 buf.now }
 {
-    buf.len() >= 12 && stands(buf, 4, b"ftyp") && any_stands(buf, 8, &MP4_BRANDS)
+    buf.len() >= 12 && stands(buf, 4, b"ftyp") && has_mp4_brand(buf)
+}
+
+fn has_mp4_brand(buf: &[u8]) -> bool
+    requires { 12 ≤ length buf.now }
+    ensures { result ≡ list_any (λ brand. stands 8 brand buf.now) MP4_BRANDS }
+{
+    any_stands(buf, 8, &MP4_BRANDS)
 }
 
 /// Apple's video M4V: at least 11 bytes, "ftypM4V" at 4.
+#[inline(always)]
 pub fn is_m4v(buf: &[u8]) -> bool
     ensures { result ≡ accepts m4v buf.now }
 {
@@ -27,6 +37,7 @@ pub fn is_m4v(buf: &[u8]) -> bool
 }
 
 /// QuickTime: at least 16 bytes, "ftypqt  ", "moov" or "mdat" at 4, or "mdat" at 12.
+#[inline(always)]
 pub fn is_mov(buf: &[u8]) -> bool
     ensures { result ≡ accepts mov buf.now }
 {

@@ -1,8 +1,14 @@
-use Rattle.std.proofs.Common.{arith}
+use Rattle.std.proofs.Common.{None, arith}
 use Rattle.infer_deep.proofs.SearchLemmas.{IsFirstWithin-later}
 use Rattle.infer_deep.proofs.places.find.Goals as goal
 
+pub returns-then-stop-start-2 : goal.returns-then-stop-start-2
+returns-then-stop-start-2 c =
+    IsFirstWithin-later c.args.buf.now c.args.text.now c.args.rare c.args.start c.args.end c.min-stop.result c.places_free-free.result
+    (omega arith) c.min-stop.ensures c.places_free-free.ensures.lacks None
+    (λ p w. let low = w.low in let high = w.high in let fits = w.stands.fits in omega arith)
+
 pub returns : goal.returns
 returns c =
-    IsFirstWithin-later c.args.buf.now c.args.text.now c.args.start c.args.end c.min-stop.result c.pair_free-free.result
-    (omega arith) c.min-stop.ensures c.pair_free-free.ensures.lacks _ c.search-2.ensures
+    IsFirstWithin-later c.args.buf.now c.args.text.now c.args.rare c.args.start c.args.end c.min-stop.result c.places_free-free.result
+    (omega arith) c.min-stop.ensures c.places_free-free.ensures.lacks _ c.search.ensures

@@ -1,0 +1,157 @@
+-- A walk over the candidates of a buffer: which numbers they are, where it ends, and how many it asks.
+use Rattle.std.proofs.Common.{◌≡◌, ◌<◌, ◌≤◌, ◌+◌, ℕ, zero, suc, Bool, true, false, ◌&&◌, List, [], ◌∷◌, length, get_or, take, sym, subst, ◌∙◌, ap, arith, refl, leb, Option, Some, None, inl, inr, cond, count_by, if◌then◌else◌, Bor, slice_get}
+use Rattle.std.specs.List.{AllWithin}
+use Rattle.std.proofs.lemmas.Bool.{le-leb}
+use Rattle.std.proofs.lemmas.List.Elements.{AllWithin-more}
+use Rattle.std.proofs.lemmas.List.Sums.{count_by-le-length, sum_by-cons, sum_by_more}
+use Rattle.infer.specs.Leads.{allows_first, candidates, candidates_of, places_from}
+use Rattle.infer.specs.Table.{table}
+use Rattle.infer.specs.Walks.{IsFirstAmong, count_asked, is_named, is_not_above}
+use Rattle.infer.proofs.ListLemmas.{HoldsAt-read}
+use Rattle.infer.proofs.TableLemmas.{length-table}
+
+-- ---- the numbers of the candidates
+
+-- each is from i to below n
+abbrev AreBetween : ℕ → ℕ → List ℕ → Type 0
+AreBetween i n ps = (k c : ℕ) → k < length ps → (i ≤ get_or ps k c) × (get_or ps k c < n)
+
+abbrev Ascends : List ℕ → Type 0
+Ascends ps = (k m c d : ℕ) → k < m → m < length ps → get_or ps k c < get_or ps m d
+
+between_more : (b : Bool) (ps : List ℕ) (i n : ℕ) → i < n → AreBetween (suc i) n ps → AreBetween i n (if b then i ∷ ps else ps)
+between_more true ps i n lt h zero c l = (omega arith, lt)
+between_more true ps i n lt h (suc k) c l = let e = h k c (omega arith) in (omega arith, e.1)
+between_more false ps i n lt h k c l = let e = h k c l in (omega arith, e.1)
+
+ascends_more : (b : Bool) (ps : List ℕ) (i n : ℕ) → AreBetween (suc i) n ps → Ascends ps → Ascends (if b then i ∷ ps else ps)
+ascends_more true ps i n h a zero zero c d l m = absurd (omega arith)
+ascends_more true ps i n h a zero (suc m) c d l k = let e = h m d (omega arith) in omega arith
+ascends_more true ps i n h a (suc k) zero c d l m = absurd (omega arith)
+ascends_more true ps i n h a (suc k) (suc m) c d l j = a k m c d (omega arith) (omega arith)
+ascends_more false ps i n h a k m c d l j = a k m c d l j
+
+module _ {A : Type 0} (test : A → Bool) where
+  between : (xs : List A) (i n : ℕ) → i + length xs ≡ n → AreBetween i n (places_from test i xs)
+  between [] i n e = λ k c l. absurd (omega arith)
+  between (x ∷ xs) i n e =
+      between_more (test x) (places_from test (suc i) xs) i n (omega arith) (between xs (suc i) n (omega arith))
+
+  ascends : (xs : List A) (i : ℕ) → Ascends (places_from test i xs)
+  ascends [] i = λ k m c d l n. absurd (omega arith)
+  ascends (x ∷ xs) i =
+      ascends_more (test x) (places_from test (suc i) xs) i (suc i + length xs) (between xs (suc i) (suc i + length xs) refl) (ascends xs (suc i))
+
+candidates-ascend : (f : ℕ) → Ascends (candidates f)
+unfolding candidates
+candidates-ascend f = ascends (λ r. allows_first r.signature f) table 0
+
+below : (f k d : ℕ) → k < length (candidates f) → get_or (candidates f) k d < 98
+unfolding candidates
+below f k d l = (between (λ r. allows_first r.signature f) table 0 98 (omega (arith, length-table)) k d l).1
+
+-- ---- where it ends
+
+module _ (P : ℕ → Type 0) where
+  pub none_among : (cs : List ℕ) → AllWithin (λ i. ¬ P i) cs 0 (length cs) → IsFirstAmong P cs None
+  unfolding IsFirstAmong
+  none_among [] h = refl
+  none_among (c ∷ cs) h =
+      inr (h 0 0 (omega arith) (omega arith), none_among cs (λ k d a b. h (suc k) d (omega arith) (omega arith)))
+
+  pub found_among : (cs : List ℕ) (k d : ℕ) → k < length cs → P (get_or cs k d) → AllWithin (λ i. ¬ P i) cs 0 k → IsFirstAmong P cs (Some (get_or cs k d))
+  unfolding IsFirstAmong
+  found_among [] k d l h none = absurd (omega arith)
+  found_among (c ∷ cs) zero d l h none = inl (h, refl)
+  found_among (c ∷ cs) (suc k) d l h none =
+      inr (none 0 0 (omega arith) (omega arith), found_among cs k d (omega arith) h (λ j e a b. none (suc j) e (omega arith) (omega arith)))
+
+  pub nothing_among : (cs : List ℕ) (o : Option ℕ) → cs ≡ [] → o ≡ None → IsFirstAmong P cs o
+  unfolding IsFirstAmong
+  nothing_among [] o none e = e
+  nothing_among (c ∷ cs) o none e = absurd (let n = ap length none in omega arith)
+
+  pub refused_more : (rs : List ℕ) (k i d : ℕ) → k < length rs → i ≡ get_or rs k d → (¬ P i) → AllWithin (λ j. ¬ P j) rs 0 k → AllWithin (λ j. ¬ P j) rs 0 (k + 1)
+  refused_more rs k i d l e h none =
+      AllWithin-more (λ j. ¬ P j) rs 0 k none (HoldsAt-read (λ j. ¬ P j) rs k d l (subst (λ j. ¬ P j) e h))
+
+  module _ (rs cs : List ℕ) (same : rs ≡ cs) where
+    pub none_of : (k : ℕ) → k ≡ length rs → AllWithin (λ i. ¬ P i) rs 0 k → IsFirstAmong P cs None
+    none_of k e h = subst (λ ns. IsFirstAmong P ns None) same (none_among rs (subst (AllWithin (λ i. ¬ P i) rs 0) e h))
+
+    pub found_at : (k i d : ℕ) → k < length rs → i ≡ get_or rs k d → P i → AllWithin (λ j. ¬ P j) rs 0 k → IsFirstAmong P cs (Some i)
+    found_at k i d l e h none =
+        subst (λ ns. IsFirstAmong P ns (Some i)) same (subst (λ j. IsFirstAmong P rs (Some j)) (sym e) (found_among rs k d l (subst P e h) none))
+
+-- ---- how many it asks
+
+one_more : (p : ℕ → Bool) (c : ℕ) (cs : List ℕ) → count_by p (c ∷ cs) ≡ cond (p c) 1 0 + count_by p cs
+one_more p c cs = sum_by-cons (λ x. cond (p x) 1 0) c cs
+
+above : (n x : ℕ) → n < x → leb x n ≡ false
+above n x l = grind (arith)
+
+module _ (w : ℕ → Bool) where
+  none_above : (cs : List ℕ) (n : ℕ) → ((k d : ℕ) → k < length cs → n < get_or cs k d) → count_by (λ i. leb i n && w i) cs ≡ 0
+  none_above [] n h = refl
+  none_above (c ∷ cs) n h =
+      one_more (λ i. leb i n && w i) c cs
+      ∙ ap (λ b. cond (b && w c) 1 0 + count_by (λ i. leb i n && w i) cs) (above n c (h 0 0 (omega arith)))
+      ∙ (let e = none_above cs n (λ k d l. h (suc k) d (omega arith)) in omega arith)
+
+  up_to : (cs : List ℕ) (k d : ℕ) → Ascends cs → k < length cs → count_by (λ i. leb i (get_or cs k d) && w i) cs ≡ count_by w (take (k + 1) cs)
+  up_to [] k d a l = absurd (omega arith)
+  up_to (c ∷ cs) zero d a l =
+      one_more (λ i. leb i c && w i) c cs
+      ∙ ap (λ b. cond (b && w c) 1 0 + count_by (λ i. leb i c && w i) cs) (le-leb c c (omega arith))
+      ∙ ap (λ n. cond (w c) 1 0 + n) (none_above cs c (λ k e m. a 0 (suc k) 0 e (omega arith) (omega arith)))
+      ∙ sym (one_more w c [])
+  up_to (c ∷ cs) (suc k) d a l =
+      one_more (λ i. leb i (get_or cs k d) && w i) c cs
+      ∙ ap (λ b. cond (b && w c) 1 0 + count_by (λ i. leb i (get_or cs k d) && w i) cs)
+      (le-leb c (get_or cs k d) (let e = a 0 (suc k) 0 d (omega arith) l in omega arith))
+      ∙ ap (λ n. cond (w c) 1 0 + n) (up_to cs k d (λ i j x y m n. a (suc i) (suc j) x y (omega arith) (omega arith)) (omega arith))
+      ∙ sym (one_more w c (take (k + 1) cs))
+      ∙ ap (λ n. count_by w (take n (c ∷ cs))) (let e : suc (k + 1) ≡ suc k + 1 = omega arith in e)
+
+-- ---- what a walk knows at its end
+
+pub candidates-read : (b : List ℕ) (f : ℕ) (ns rs : List ℕ) → Some f ≡ slice_get b 0 → ns ≡ candidates f → rs ≡ ns → rs ≡ candidates_of b
+candidates-read [] f ns rs e same read = absurd (let x = e in cc)
+candidates-read (x ∷ b) f ns rs e same read = read ∙ same ∙ ap candidates (let y = e in cc)
+
+pub candidates-nothing : (b : List ℕ) → None ≡ slice_get b 0 → candidates_of b ≡ []
+candidates-nothing [] e = refl
+candidates-nothing (x ∷ b) e = absurd (let y = e in cc)
+
+pub below_98 : (b : List ℕ) (rs : List ℕ) → rs ≡ candidates_of b → (k d : ℕ) → k < length rs → get_or rs k d < 98
+below_98 [] rs e k d l = absurd (let n = ap length e in omega arith)
+below_98 (f ∷ b) rs e k d l = subst (λ ns. get_or ns k d < 98) (sym e) (below f k d (let n = ap length e in omega arith))
+
+candidates_of-ascend : (b : List ℕ) → Ascends (candidates_of b)
+candidates_of-ascend [] = λ k m c d l n. absurd (omega arith)
+candidates_of-ascend (f ∷ b) = candidates-ascend f
+
+-- one row further, which was asked if it is named
+pub counted_more : (w : Option (Bor (List ℕ))) (rs : List ℕ) (k i d n m : ℕ) → k < length rs → i ≡ get_or rs k d
+    → m ≡ count_by (is_named w) (take k rs) → n ≡ m + cond (is_named w i) 1 0 → n ≡ count_by (is_named w) (take (k + 1) rs)
+counted_more w rs k i d n m l at before now =
+    now ∙ ap (λ j. m + cond (is_named w j) 1 0) at ∙ ap (λ x. x + cond (is_named w (get_or rs k d)) 1 0) before
+    ∙ sym (sum_by_more (λ x. cond (is_named w x) 1 0) rs k d l)
+
+module _ (w : Option (Bor (List ℕ))) (b rs : List ℕ) (same : rs ≡ candidates_of b) where
+  asked_up_to : (k i d : ℕ) → k < length rs → i ≡ get_or rs k d → count_by (is_named w) (take (k + 1) rs) ≡ count_asked w b (Some i)
+  asked_up_to k i d l at =
+      sym (up_to (is_named w) rs k d (subst Ascends (sym same) (candidates_of-ascend b)) l)
+      ∙ ap (λ e. count_by (λ j. leb j e && is_named w j) rs) (sym at)
+      ∙ ap (λ cs. count_by (λ j. leb j i && is_named w j) cs) same
+
+  pub counted_some : (k i d n m : ℕ) → k < length rs → i ≡ get_or rs k d → m ≡ count_by (is_named w) (take k rs) → n ≡ m + cond (is_named w i) 1 0
+      → n ≡ count_asked w b (Some i)
+  counted_some k i d n m l at before now = counted_more w rs k i d n m l at before now ∙ asked_up_to k i d l at
+
+  pub few_asked : (n : ℕ) (o : Option ℕ) → length rs ≤ 25 → n ≡ count_asked w b o → n ≤ 25
+  few_asked n o few e =
+      let most = count_by-le-length (λ i. is_not_above o i && is_named w i) (candidates_of b) in
+      let long : length rs ≡ length (candidates_of b) = ap length same in
+      omega (arith, e, most, long)

@@ -1,0 +1,137 @@
+//! Rows are asked through an asker, which counts them.
+ghost use Rattle.std.specs.Prelude.{◌≡◌, ◌↔◌, ◌+◌, ◌<◌, ◌≤◌, ℕ, List, Option, None, Some, cond, IsTrue, option_map, slice_get};
+ghost use Rattle.infer.specs.First.{IsFirstOf};
+ghost use Rattle.infer.specs.Leads.{candidates_of};
+ghost use Rattle.infer.specs.Questions.{HasExtension, SomeBoth};
+ghost use Rattle.infer.specs.Row.{Accepts};
+ghost use Rattle.infer.specs.Table.{table};
+ghost use Rattle.infer.specs.Walks.{IsFirstAmong, RowHas, Takes, count_asked, is_named};
+ghost use Rattle.infer.specs.declared.file_type.Wanted.TheVariants.{Extension};
+
+use crate::dispatch::{arm_of, candidates_of};
+use crate::laws;
+use crate::map::{is_named, takes};
+use crate::question::Every;
+
+/// Who asks the built-in rows about one buffer. A contract sees that buffer, and how many rows were asked.
+pub trait Ask {
+    ghost buffer: { Self → List ℕ };
+
+    ghost asked: { Self → ℕ };
+
+    /// The first byte of the buffer, and `None` exactly where it is empty.
+    fn first(&self) -> Option<u8>
+        ensures { result ≡ slice_get (buffer self.now) 0 };
+
+    /// Whether the built-in row `i` accepts the buffer. It is counted.
+    fn ask(&mut self, i: usize) -> bool
+        requires row { i < 98 }
+        requires room { asked self.old < 98 }
+        ensures answer { IsTrue result ↔ RowHas (Accepts (buffer self.old)) i }
+        ensures kept { buffer self.new ≡ buffer self.old }
+        ensures counted { asked self.new ≡ asked self.old + 1 };
+}
+
+/// Asks the matchers, and counts.
+#[derive(Drop)]
+pub struct Asker<'a> {
+    buf: &'a [u8],
+    count: u32,
+}
+
+impl<'a> Asker<'a> {
+    /// About `buf`, with no row asked.
+    pub fn new(buf: &'a [u8]) -> Asker<'a>
+        ensures buffer { ⟦<Asker<'a> as Ask>⟧.buffer result ≡ buf.now }
+        ensures asked { ⟦<Asker<'a> as Ask>⟧.asked result ≡ 0 }
+    {
+        Asker { buf, count: 0 }
+    }
+
+    /// How many rows were asked.
+    pub fn asked(&self) -> u32
+        ensures { result ≡ ⟦<Asker<'a> as Ask>⟧.asked self.now }
+    {
+        self.count
+    }
+}
+
+impl Ask for Asker<'_> {
+    ghost buffer = { λ s. s.buf.now };
+
+    ghost asked = { λ s. s.count };
+
+    fn first(&self) -> Option<u8> {
+        self.buf.first().copied()
+    }
+
+    fn ask(&mut self, i: usize) -> bool {
+        self.count += 1;
+        takes(i, &Every, self.buf)
+    }
+}
+
+/// The number of the first built-in row that accepts the asker's buffer, of those with the extension where one is
+/// given, and `None` exactly where none does.
+///
+/// Of those rows it asks the candidates of the first byte, which are the rows whose signature allows it there. It
+/// asks them in ascending order up to the answer, which are 25 at most, and no other.
+pub fn walk<A: Ask>(asker: &mut A, wanted: Option<&str>) -> Option<usize>
+    requires { A.asked asker.old ≡ 0 }
+    ensures first { IsFirstAmong (RowHas (Takes (option_map Extension wanted.entry) (A.buffer asker.old)))
+        (candidates_of (A.buffer asker.old)) result }
+    ensures counted { A.asked asker.new ≡ count_asked wanted.entry (A.buffer asker.old) result }
+    ensures few { A.asked asker.new ≤ 25 }
+    ensures kept { A.buffer asker.new ≡ A.buffer asker.old }
+{
+    let lead = asker.first()?;
+    for row in candidates_of(arm_of(lead)) {
+        let i = usize::from(*row);
+        if ask_named(asker, i, wanted) {
+            return Some(i);
+        }
+    }
+    None
+}
+
+/// The number of the first built-in row that accepts `buf`, as [`position`](crate::position) answers, and how many
+/// rows a [`walk`] asks for it: its candidates up to that row, all of them where no row accepts it.
+pub fn position_counted(buf: &[u8]) -> (Option<usize>, u32)
+    ensures first { IsFirstOf (Accepts buf.now) table result.0 }
+    ensures counted { result.1 ≡ count_asked None buf.now result.0 }
+    ensures few { result.1 ≤ 25 }
+{
+    laws::leads();
+    laws::blank();
+    let mut asker = Asker::new(buf);
+    let found = walk(&mut asker, None);
+    (found, asker.asked())
+}
+
+/// Whether some built-in row with this extension accepts `buf`, as [`is`](crate::is) answers, and how many rows a
+/// [`walk`] asks for it: the candidates with the extension up to the first that accepts `buf`.
+pub fn is_counted(buf: &[u8], extension: &str) -> (bool, u32)
+    ensures found { IsTrue result.0 ↔ SomeBoth (HasExtension extension.now) (Accepts buf.now) table }
+    ensures counted { (answer : Option ℕ)
+        × IsFirstAmong (RowHas (Takes (Some (Extension extension.entry)) buf.now)) (candidates_of buf.now) answer
+        × (result.1 ≡ count_asked (Some extension.entry) buf.now answer) }
+    ensures few { result.1 ≤ 25 }
+{
+    laws::leads();
+    laws::blank();
+    let mut asker = Asker::new(buf);
+    let found = walk(&mut asker, Some(extension));
+    (found.is_some(), asker.asked())
+}
+
+// Whether row `i` accepts the buffer and has the extension, where one is given. It is asked if it has.
+#[inline(always)]
+fn ask_named<A: Ask>(asker: &mut A, i: usize, wanted: Option<&str>) -> bool
+    requires row { i < 98 }
+    requires room { A.asked asker.old < 98 }
+    ensures answer { IsTrue result ↔ RowHas (Takes (option_map Extension wanted.entry) (A.buffer asker.old)) i }
+    ensures counted { A.asked asker.new ≡ A.asked asker.old + cond (is_named wanted.entry i) 1 0 }
+    ensures kept { A.buffer asker.new ≡ A.buffer asker.old }
+{
+    is_named(i, wanted) && asker.ask(i)
+}

@@ -1,0 +1,154 @@
+//! Which built-in rows are asked about a buffer, and how many.
+ghost use Rattle.std.specs.Prelude.{◌≡◌};
+
+use crate::{
+    Ask, Asker, is, is_archive, is_counted, is_document, position, position_counted, sample, walk,
+};
+use std::process::Abort;
+use std::test::Fail;
+
+const WEBP: &[u8] = b"P\0\0\0\0\0\0\0WEBP";
+
+/// A ZIP file whose first name begins with "word", and ends there.
+const WORD: &[u8] = b"PK\x03\x04\0\0\0\0\0\0\0\0\0\0\0\0\0\0\0\0\0\0\0\0\0\0\0\0\0\0word";
+
+const EPUB: &[u8] =
+    b"PK\x03\x04\0\0\0\0\0\0\0\0\0\0\0\0\0\0\0\0\0\0\0\0\0\0\0\0\0\0mimetypeapplication/epub+zip";
+
+/// Notes the number of each row that it asks.
+#[derive(Drop)]
+struct Noting<'a> {
+    inner: Asker<'a>,
+    rows: [usize; 98],
+}
+
+impl<'a> Noting<'a> {
+    fn new(buf: &'a [u8]) -> Noting<'a>
+        ensures { ⟦<Noting<'a> as Ask>⟧.asked result ≡ 0 }
+    {
+        Noting {
+            inner: Asker::new(buf),
+            rows: [98; 98],
+        }
+    }
+
+    /// The rows that were asked, in order.
+    fn rows(&self) -> &[usize] {
+        let count = self.inner.asked() as usize;
+        &self.rows[..count.min(98)]
+    }
+}
+
+impl<'a> Ask for Noting<'a> {
+    ghost buffer = { λ s. ⟦<Asker<'a> as Ask>⟧.buffer s.inner };
+
+    ghost asked = { λ s. ⟦<Asker<'a> as Ask>⟧.asked s.inner };
+
+    fn first(&self) -> Option<u8> {
+        self.inner.first()
+    }
+
+    fn ask(&mut self, i: usize) -> bool {
+        let place = self.inner.asked() as usize;
+        self.rows[place] = i;
+        self.inner.ask(i)
+    }
+}
+
+#[test]
+fn positions_and_counts(rt: HostRuntime) {
+    let cases: [(&[u8], Option<usize>, u32); 7] = [
+        (b"", None, 0),
+        (b"\x01", None, 12),
+        (b"MZ", Some(2), 1),
+        (b"\xFF\xD8\xFF\xAA", Some(15), 2),
+        (WEBP, Some(19), 3),
+        (
+            b"\x50\x2A\x4D\x18\x01\0\0\0\0\x28\xB5\x2F\xFD",
+            Some(91),
+            24,
+        ),
+        (b"\x50\x2A\x4D\x18\xFF\xFF\xFF\xFF", None, 25),
+    ];
+    for (i, (buf, expected, count)) in cases.iter().enumerate() {
+        assert_eq!(rt; position_counted(*buf), (*expected, *count), "case {i}");
+    }
+}
+
+#[test]
+fn rows_in_order(rt: HostRuntime) {
+    let cases: [(&[u8], Option<&str>, Option<usize>, &[usize]); 2] = [
+        (WEBP, None, Some(19), &[13, 14, 19]),
+        (WORD, Some("epub"), None, &[13, 66]),
+    ];
+    for (i, (buf, wanted, expected, rows)) in cases.iter().enumerate() {
+        let mut noting = Noting::new(*buf);
+        assert_eq!(rt; walk(&mut noting, *wanted), *expected, "case {i}");
+        assert_eq!(rt; noting.rows(), *rows, "case {i}");
+    }
+}
+
+#[test]
+fn extensions_and_counts(rt: HostRuntime) {
+    let cases: [(&[u8], &str, bool, u32); 3] = [
+        (b"MZ", "zip", false, 0),
+        (WORD, "epub", false, 2),
+        (EPUB, "epub", true, 1),
+    ];
+    for (i, (buf, extension, expected, count)) in cases.iter().enumerate() {
+        assert_eq!(rt;
+            is_counted(*buf, *extension),
+            (*expected, *count),
+            "case {i}"
+        );
+        assert_eq!(rt; is(*buf, *extension), *expected, "case {i}");
+    }
+    assert!(rt; !is(b"", "jpg"));
+}
+
+#[test]
+fn rows_behind_the_first(rt: HostRuntime) -> Result<(), Fail> {
+    let mut buf = vec![in rt.alloc(); b' '; 257]?;
+    buf[..3].copy_from_slice(b"<P>");
+    buf.extend_from_slice(b"ustar")?;
+    let buf = buf.as_slice();
+    assert!(rt; is(buf, "tar") && is(buf, "html"));
+    assert!(rt; is_archive(buf) && !is_document(buf));
+    Ok(())
+}
+
+/// The first of all rows that accepts the buffer, each asked by an asker of its own.
+fn plain_position(buf: &[u8]) -> Option<usize> {
+    for i in 0..98 {
+        if Asker::new(buf).ask(i) {
+            return Some(i);
+        }
+    }
+    None
+}
+
+fn compare(rt: &impl Abort, buf: &[u8]) {
+    let expected = plain_position(buf);
+    assert_eq!(rt; position(buf), expected, "{buf:?}");
+    assert_eq!(rt; position_counted(buf).0, expected, "{buf:?}");
+}
+
+fn compare_with_each_first_byte(rt: &impl Abort, buf: &mut [u8]) {
+    for first in 0..=255 {
+        if let Some(byte) = buf.first_mut() {
+            *byte = first;
+        }
+        compare(rt, buf);
+    }
+}
+
+#[test]
+fn asks_as_a_plain_walk(rt: HostRuntime) {
+    for i in 0..98 {
+        let mut out = [0; 640];
+        if let Some(n) = sample(i, &mut out) {
+            compare(&rt, &out[..n]);
+            compare_with_each_first_byte(&rt, &mut out[..n]);
+        }
+    }
+}
