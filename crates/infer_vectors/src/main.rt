@@ -87,6 +87,54 @@ fn compare_buffers(rt: &(impl Print + AllocGlobal), text: &str) -> Result<Tally>
     Ok(tally)
 }
 
+/// The places at which formats state a length, each with the bytes that are put there.
+const STATED: [(usize, [u8; 4]); 8] = [
+    (0, [0xFF; 4]),
+    (0, [0; 4]),
+    (4, [0xFF; 4]),
+    (4, [0; 4]),
+    (18, [0xFF; 4]),
+    (18, [0; 4]),
+    (48, [0xFF; 4]),
+    (48, [0; 4]),
+];
+
+/// `buf` with other bytes at the place, as far as it goes, and none where it does not reach that place.
+fn with_bytes(alloc: Global, buf: &[u8], place: usize, bytes: &[u8; 4]) -> Result<Option<Vec<u8>>> {
+    if place >= buf.len() {
+        return Ok(None);
+    }
+    let mut other = Vec::new(alloc);
+    other.extend_from_slice(&buf[..place])?;
+    other.extend_from_slice(bytes.as_slice())?;
+    if place + 4 < buf.len() {
+        other.extend_from_slice(&buf[place + 4..])?;
+    }
+    other.truncate(buf.len());
+    Ok(Some(other))
+}
+
+/// Tries `buf` with each other stated length. `position` and `get` have to answer alike.
+fn try_lengths(alloc: Global, buf: &[u8], tally: &mut Tally) -> Result<()> {
+    for (place, bytes) in &STATED {
+        if let Some(other) = with_bytes(alloc, buf, *place, bytes)? {
+            let other = other.as_slice();
+            tally.add(infer::get(other) == infer::position(other).and_then(infer::row));
+        }
+    }
+    Ok(())
+}
+
+fn try_all_lengths(alloc: Global, text: &str) -> Result<Tally> {
+    let mut tally = Tally::NONE;
+    for line in text.lines() {
+        let tokens = line.rsplit('\t').next().unwrap_or("-");
+        let buf = decode(alloc, tokens)?;
+        try_lengths(alloc, buf.as_slice(), &mut tally)?;
+    }
+    Ok(tally)
+}
+
 /// Whether the row has the number, class, MIME type and extension that the line says.
 fn is_row(alloc: Global, fields: &[&str]) -> Result<bool> {
     let [number, class, mime_type, extension] = fields else {
@@ -126,6 +174,11 @@ fn run(rt: &(impl Files + Print + AllocGlobal)) -> Result<()> {
         differing,
     } = compare_buffers(rt, vectors.as_str())?;
     println!(rt; "{compared} buffers compared, {differing} differ")?;
+    let Tally {
+        compared,
+        differing,
+    } = try_all_lengths(rt.alloc(), vectors.as_str())?;
+    println!(rt; "{compared} buffers with other stated lengths, {differing} without one answer")?;
     Ok(())
 }
 

@@ -152,3 +152,25 @@ fn asks_as_a_plain_walk(rt: HostRuntime) {
         }
     }
 }
+
+/// With each byte more the answer stays, or an earlier row takes its place.
+fn compare_beginnings(rt: &impl Abort, buf: &[u8]) {
+    for k in 0..buf.len() {
+        let before = position(&buf[..k]);
+        let after = position(&buf[..k + 1]);
+        assert!(rt;
+            before.is_none() || after.is_some() && after <= before,
+            "{buf:?} at {k}"
+        );
+    }
+}
+
+#[test]
+fn samples_grow(rt: HostRuntime) {
+    for i in 0..98 {
+        let mut out = [0; 640];
+        if let Some(n) = sample(i, &mut out) {
+            compare_beginnings(&rt, &out[..n]);
+        }
+    }
+}

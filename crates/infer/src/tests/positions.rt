@@ -35,7 +35,7 @@ type Case<'a> = (usize, &'a [(usize, &'a [u8])], Option<usize>);
 
 #[test]
 fn short_buffers(rt: HostRuntime) {
-    let cases: [(&[u8], Option<usize>); 37] = [
+    let cases: [(&[u8], Option<usize>); 39] = [
         (b"", None),
         (b"\xFF\xD8\xFF\xAA", Some(15)),
         (b"MZ", Some(2)),
@@ -75,6 +75,8 @@ fn short_buffers(rt: HostRuntime) {
         (b"\0\0\0\x19ftypmif1\0\0\0\0mif1heic\0", Some(26)),
         (b"\0\0\0\x08ftypavif\0\0\0\0", Some(27)),
         (b"\0\0\0\x14ftypheic\0\0\0\0avif", Some(26)),
+        (b"\xFF\xFF\xFF\xFFftypheic\0\0\0\0", None),
+        (b"\xFF\xFF\xFF\xFFftypisom", Some(32)),
         (b"\xFF\xFE<?xml", Some(96)),
         (b"<!-->", Some(95)),
         (b"<A\t", None),
@@ -87,7 +89,7 @@ fn short_buffers(rt: HostRuntime) {
 
 #[test]
 fn long_buffers(rt: HostRuntime) -> Result<(), Fail> {
-    let cases: [Case; 17] = [
+    let cases: [Case; 18] = [
         (36, &[(0, b"OggS"), (28, b"OpusHead")], Some(44)),
         (35, &[(0, b"OggS"), (28, b"OpusHead")], Some(45)),
         (100, &[(0, b"dey\n"), (40, b"dex\n"), (76, b"p")], None),
@@ -116,6 +118,17 @@ fn long_buffers(rt: HostRuntime) -> Result<(), Fail> {
                 (26, b"\x03\0\xFE\xFF\x09"),
                 (578, b"\x05"),
                 (592, WORD_ID),
+            ],
+            Some(93),
+        ),
+        (
+            4224,
+            &[
+                (0, COMPOUND),
+                (26, b"\x04\0\xFE\xFF\x0C"),
+                (48, b"\xFF\xFF\xFF\xFF"),
+                (4162, b"\x05"),
+                (4176, EXCEL_ID),
             ],
             Some(93),
         ),
@@ -162,6 +175,22 @@ fn office_headers(rt: HostRuntime) -> Result<(), Fail> {
             Some(67),
             "{gap} zeros, one byte less"
         );
+    }
+    Ok(())
+}
+
+#[test]
+fn office_sizes(rt: HostRuntime) -> Result<(), Fail> {
+    let sizes: [&[u8; 4]; 3] = [
+        b"\xFF\xFF\xFF\xFF",
+        b"\xCF\xFF\xFF\xFF",
+        b"\xCE\xFF\xFF\xFF",
+    ];
+    for size in sizes {
+        let mut buf = office(rt.alloc(), 0)?;
+        assert!(rt; buf.len() > 22);
+        buf[18..22].copy_from_slice(size);
+        assert_eq!(rt; position(buf.as_slice()), Some(67), "{size:?}");
     }
     Ok(())
 }

@@ -4,7 +4,7 @@ use crate::outcome::Outcome;
 use crate::report::{report, run_path, run_reader};
 use infer::{Fault, get};
 use linked_list_allocator::LocalHeap;
-use std::alloc::Global;
+use std::alloc::{AllocError, Global};
 use std::fs;
 use std::io::Read;
 use std::test::Fail;
@@ -60,6 +60,33 @@ fn a_byte_a_read(rt: HostRuntime) -> Result<(), Fail> {
         assert_eq!(rt; out.as_slice(), b"-: image/jpeg jpg\n".as_slice());
         assert!(rt; err.is_empty());
         assert_eq!(rt; reader.rest.len(), 1, "{piece} bytes a read");
+    }
+    Ok(())
+}
+
+/// Zstandard's magic number behind so many empty frames.
+fn framed(alloc: Global, frames: usize) -> Result<Vec<u8>, AllocError> {
+    let mut buf = b"\x50\x2A\x4D\x18\0\0\0\0".repeat(alloc, frames)?;
+    buf.extend_from_slice(b"\x28\xB5\x2F\xFD")?;
+    Ok(buf)
+}
+
+#[test]
+fn frames_up_to_the_limit(rt: HostRuntime) -> Result<(), Fail> {
+    let lines: [(usize, u8, &[u8]); 2] = [
+        (1023, 0, b"-: application/zstd zst\n"),
+        (1024, 1, b"-: unknown\n"),
+    ];
+    for (frames, status, line) in lines {
+        let buf = framed(rt.alloc(), frames)?;
+        let (outcome, out, err) = written(rt.alloc(), buf.as_slice());
+        assert_eq!(rt; outcome.status(), status, "{frames} frames");
+        assert_eq!(rt; out.as_slice(), line);
+        assert!(rt; err.is_empty());
+        assert_eq!(rt;
+            get(buf.as_slice()).map(|found| found.extension()),
+            Some("zst")
+        );
     }
     Ok(())
 }
