@@ -43,12 +43,12 @@ is_header b s p = holds p zip_header b && (leb s p && (leb (p + 4) (s + 6000) &&
 abbrev has_folder : ℕ → List ℕ → Bool
 has_folder p b = holds p (codes "word/") b || (holds p (codes "ppt/") b || holds p (codes "xl/") b)
 
--- the fourth header decides, with the headers at those places
-abbrev late_folder : ℕ → ℕ → ℕ → List ℕ → List ℕ → Bool
-late_folder second third fourth folder b =
+-- the third header decides, with the headers at those places
+abbrev late_folder : ℕ → ℕ → List ℕ → List ℕ → Bool
+late_folder second third folder b =
     lacks_folder b && (holds 30 (codes "[Content_Types].xml") b && (leb (le32 b 18 + 49) 0xFFFFFFFF
     && (is_header b (le32 b 18 + 49) second && (is_header b (second + 30) third && (has_folder (third + 30) b
-    && (is_header b (third + 56) fourth && holds (fourth + 30) folder b))))))
+    && holds (third + 30) folder b)))))
 
 -- one of the three folders, at the place where the first entry has its name
 abbrev early_folder : List ℕ → List ℕ → Bool
@@ -62,7 +62,7 @@ agrees (matroska t) b = leb 257 (length b) && (holds 0 ebml b && (leb (4 + lengt
 agrees (framed magic) b = bytes_eq b magic || bytes_eq b (long_frame ++ magic)
 agrees heif b = brand_agrees (codes "heic") b
 agrees avif b = brand_agrees (codes "avif") b
-agrees (office folder) b = holds 0 zip_header b && (early_folder folder b || late_folder 1049 1079 1135 folder b)
+agrees (office folder) b = holds 0 zip_header b && (early_folder folder b || late_folder 1049 1079 folder b)
 agrees doc b = class_agrees word_id b
 agrees xls b = class_agrees old_excel_id b
 agrees ppt b = class_agrees powerpoint_id b
@@ -196,24 +196,23 @@ module _ (by_place : ByPlace) (b : List ℕ) where
     ]
   ]
 
-  late_agreed : (second third fourth : ℕ) (folder : List ℕ) → OccursAt b zip_header 0
-      → IsTrue (late_folder second third fourth folder b) → IsOffice folder b
-  late_agreed second third fourth folder zip e =
+  late_agreed : (second third : ℕ) (folder : List ℕ) → OccursAt b zip_header 0
+      → IsTrue (late_folder second third folder b) → IsOffice folder b
+  late_agreed second third folder zip e =
       let k0 = and_parts (lacks_folder b) _ e in
       let k1 = and_parts (holds 30 (codes "[Content_Types].xml") b) _ k0.1 in
       let k2 = and_parts (leb (le32 b 18 + 49) 0xFFFFFFFF) _ k1.1 in
       let k3 = and_parts (is_header b (le32 b 18 + 49) second) _ k2.1 in
       let k4 = and_parts (is_header b (second + 30) third) _ k3.1 in
-      let k5 = and_parts (has_folder (third + 30) b) _ k4.1 in
-      let k6 = and_parts (is_header b (third + 56) fourth) _ k5.1 in (
-        fourth + 30,
+      let k5 = and_parts (has_folder (third + 30) b) _ k4.1 in (
+        third + 30,
         (
           zip,
           inr (
             no_folder by_place b k0.0,
             inl (found by_place _ b 30 k1.0),
             (
-              fourth,
+              third,
               record {
                 third = third;
                 third_found = record {
@@ -221,15 +220,14 @@ module _ (by_place : ByPlace) (b : List ℕ) where
                   start_fits = leb-true _ _ k2.0;
                   second_found = header_found (le32 b 18 + 49) second k3.0;
                   third_found = header_found (second + 30) third k4.0;
-                  folder = folder_found (third + 30) k5.0;
                 };
-                fourth_found = header_found (third + 56) fourth k6.0;
+                decides = inl (folder_found (third + 30) k5.0, refl);
               },
               refl,
             ),
           ),
         ),
-        found by_place folder b (fourth + 30) k6.1,
+        found by_place folder b (third + 30) k5.1,
       )
 
   office_agreed : (folder : List ℕ) → IsTrue (agrees (office folder) b) → IsOffice folder b
@@ -240,7 +238,7 @@ module _ (by_place : ByPlace) (b : List ℕ) where
         | inl early ↦
             let j = and_parts (has_folder 30 b) _ early in
             (30, (zip, inl (folder_found 30 j.0, refl)), found by_place folder b 30 j.1)
-        | inr late ↦ late_agreed 1049 1079 1135 folder zip late
+        | inr late ↦ late_agreed 1049 1079 folder zip late
       ]
 
   pub agreed : (s : BuiltIn) → IsTrue (agrees s b) → IsAccepted s b

@@ -21,6 +21,10 @@ abbrev pub IsAbout : Option Wanted → Triple → Type 0
 IsAbout None t = Unit {0}
 IsAbout (Some wanted) t = Fits wanted t
 
+-- the row is one that is asked for, where that is given
+abbrev pub IsAboutRow : Option Wanted → Row BuiltIn → Type 0
+IsAboutRow wanted r = IsAbout wanted r.shows
+
 -- the row accepts the buffer, and is one that is asked for where that is given
 abbrev pub Takes : Option Wanted → List ℕ → Row BuiltIn → Type 0
 Takes None b r = Accepts b r

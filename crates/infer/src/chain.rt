@@ -2,13 +2,16 @@
 #![tactic(auto, unfolding(crate::specs::Walks::IsFirstAmong))]
 
 ghost use Rattle.std.specs.Prelude.{◌↔◌, [], ◌∷◌, ℕ, List, IsTrue};
+ghost use Rattle.infer_deep.specs.Find.{OccursAt};
 ghost use Rattle.infer_deep.specs.Frames.{IsLz4, IsZst};
 ghost use Rattle.infer_deep.specs.Text.{IsHtml, IsXml};
-ghost use Rattle.infer.specs.Walks.{IsFirstAmong, RowHas, Takes};
+ghost use Rattle.infer.specs.Walks.{IsAboutRow, IsFirstAmong, RowHas, Takes};
 
-use crate::map::{row, takes};
+use crate::map::{is_about, takes};
 use crate::question::Question;
 use infer_deep::archive::after_skippable_frames;
+use infer_deep::doc::deciding_folder;
+use infer_deep::places::stands_at;
 use infer_deep::text::after_white_space;
 
 /// Rows to ask, in this order.
@@ -31,6 +34,10 @@ pub struct Then<const I: usize, C>(pub C);
 /// Three rows, and then others. A chain of threes is shorter, and so its proof.
 #[derive(Drop)]
 pub struct ThenThree<const I: usize, const J: usize, const K: usize, C>(pub C);
+
+/// The three types of Office in ZIP archives, whose deciding folder is looked for once, and then others.
+#[derive(Drop)]
+pub struct ThenOffice<C>(pub C);
 
 /// Zstandard and LZ4, behind skippable frames that are passed over once, and then others.
 #[derive(Drop)]
@@ -83,6 +90,18 @@ impl<const I: usize, const J: usize, const K: usize, C: Chain> Chain for ThenThr
     }
 }
 
+impl<C: Chain> Chain for ThenOffice<C> {
+    ghost rows = { λ s. 58 ∷ 60 ∷ 62 ∷ C.rows s.0 };
+
+    #[inline(always)]
+    fn first<Q: Question>(&self, question: &Q, buf: &[u8]) -> Option<usize> {
+        match office_row(question, buf) {
+            Some(row) => Some(row),
+            None => self.0.first(question, buf),
+        }
+    }
+}
+
 impl<C: Chain> Chain for ThenFrames<C> {
     ghost rows = { λ s. 91 ∷ 92 ∷ C.rows s.0 };
 
@@ -124,15 +143,44 @@ impl<C: Chain> Chain for Whole<C> {
     }
 }
 
+/// The first row of Office in ZIP archives that accepts `buf`, of those that the question is about.
+fn office_row<Q: Question>(question: &Q, buf: &[u8]) -> Option<usize>
+    ensures { IsFirstAmong (RowHas (Takes (Q.wanted question.now) buf.now)) (58 ∷ 60 ∷ 62 ∷ []) result }
+{
+    if !is_about(58, question) && !is_about(60, question) && !is_about(62, question) {
+        return None;
+    }
+    let folder = deciding_folder(buf);
+    if is_folder_of(58, question, folder, b"word/") {
+        return Some(58);
+    }
+    if is_folder_of(60, question, folder, b"xl/") {
+        return Some(60);
+    }
+    if is_folder_of(62, question, folder, b"ppt/") {
+        return Some(62);
+    }
+    None
+}
+
+/// Whether the question is about row `i`, and the folder has that name.
+#[inline(always)]
+fn is_folder_of<Q: Question>(i: usize, question: &Q, folder: &[u8], name: &[u8]) -> bool
+    ensures { IsTrue result ↔ RowHas (IsAboutRow (Q.wanted question.now)) i × OccursAt folder.now name.now 0 }
+{
+    is_about(i, question) && stands_at(folder, name, 0)
+}
+
 /// What follows the skippable frames of `buf`, or `buf` where the question is not about Zstandard.
 #[inline(always)]
 fn data_of<'a, Q: Question>(question: &Q, buf: &'a [u8]) -> &'a [u8]
     ensures zst { IsZst result.now ↔ IsZst buf.now }
     ensures lz4 { IsLz4 result.now ↔ IsLz4 buf.now }
 {
-    match row(91) {
-        Some(zst) if question.fits(&zst) => after_skippable_frames(buf),
-        _ => buf,
+    if is_about(91, question) {
+        after_skippable_frames(buf)
+    } else {
+        buf
     }
 }
 
@@ -142,8 +190,9 @@ fn text_of<'a, Q: Question>(question: &Q, buf: &'a [u8]) -> &'a [u8]
     ensures html { IsHtml result.now ↔ IsHtml buf.now }
     ensures xml { IsXml result.now ↔ IsXml buf.now }
 {
-    match row(95) {
-        Some(html) if question.fits(&html) => after_white_space(buf),
-        _ => buf,
+    if is_about(95, question) {
+        after_white_space(buf)
+    } else {
+        buf
     }
 }

@@ -5,7 +5,7 @@ ghost use Rattle.infer.specs.Arms.{rows_of};
 ghost use Rattle.infer.specs.Leads.{candidates};
 ghost use Rattle.infer.specs.Walks.{IsFirstAmong, RowHas, Takes};
 
-use crate::chain::{Chain, End, Then, ThenFrames, ThenMarkup, ThenThree, Whole};
+use crate::chain::{Chain, End, Then, ThenFrames, ThenMarkup, ThenOffice, ThenThree, Whole};
 use crate::question::Question;
 
 /// First bytes with the same candidates, named by the least of them. `Other` are those that no signature asks for.
@@ -112,7 +112,7 @@ macro_rules! with_candidates {
             Arm::B4D => $with!($($more)*; 2 3 14 19 20 21 26 27 31 32 33 36 41 43 52 68 76 79 84 90),
             Arm::B4E => $with!($($more)*; 14 19 26 27 32 33 36 43 68 76 79 82 90),
             Arm::B4F => $with!($($more)*; 14 19 26 27 32 33 36 43 44 45 56 68 76 79 90),
-            Arm::B50 => $with!($($more)*; 13 14 19 26 27 29 32 33 36 43 58 60 62 63 64 65 66 67 68 69 76 79 90 [91 92]),
+            Arm::B50 => $with!($($more)*; 13 14 19 26 27 29 32 33 36 43 [58 60 62] 63 64 65 66 67 68 69 76 79 90 [91 92]),
             Arm::B51 => $with!($($more)*; 12 14 19 26 27 32 33 36 43 68 76 79 90 [91 92]),
             Arm::B52 => $with!($($more)*; 14 19 26 27 32 33 36 37 43 47 68 70 76 79 90 [91 92]),
             Arm::B53 => $with!($($more)*; 14 19 26 27 32 33 36 43 68 76 79 81 90 [91 92]),
@@ -162,6 +162,9 @@ macro_rules! first {
 macro_rules! chain {
     () => {
         End
+    };
+    ([58 60 62] $($rest:tt)*) => {
+        ThenOffice(chain!($($rest)*))
     };
     ([91 92] $($rest:tt)*) => {
         ThenFrames(chain!($($rest)*))

@@ -6,7 +6,7 @@ ghost use Rattle.infer.specs.Row.{Accepts, shows};
 ghost use Rattle.infer.specs.RowSeen.{row_seen};
 ghost use Rattle.infer.specs.Table.{table};
 ghost use Rattle.infer.specs.Triple.{triple_of};
-ghost use Rattle.infer.specs.Walks.{RowHas, Takes, is_named};
+ghost use Rattle.infer.specs.Walks.{IsAboutRow, RowHas, Takes, is_named};
 
 use crate::ask::is_counted;
 use crate::dispatch::{arm_of, candidates_of, first_of};
@@ -156,6 +156,17 @@ impl BuiltInRow {
     }
 }
 
+// Whether the question is about row `i`.
+#[inline(always)]
+pub fn is_about<Q: Question>(i: usize, question: &Q) -> bool
+    ensures { IsTrue result ↔ RowHas (IsAboutRow (Q.wanted question.now)) i }
+{
+    match rows().get(i) {
+        Some(row) => question.fits(&row.file_type),
+        None => false,
+    }
+}
+
 // Whether row `i` accepts `buf`, and is one that the question is about.
 #[inline(always)]
 pub fn takes<Q: Question>(i: usize, question: &Q, buf: &[u8]) -> bool
@@ -206,7 +217,6 @@ pub fn position(buf: &[u8]) -> Option<usize>
 }
 
 // The type of row `i`.
-#[inline(always)]
 pub fn row(i: usize) -> Option<FileType>
     ensures { option_map triple_of result ≡ option_map shows (slice_get table i) }
 {

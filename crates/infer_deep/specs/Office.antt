@@ -21,28 +21,28 @@ abbrev pub HasOfficeName : List ℕ → Type 0
 HasOfficeName b =
     OccursAt b (codes "[Content_Types].xml") 30 ⊎ OccursAt b (codes "_rels/.rels") 30 ⊎ OccursAt b (codes "docProps") 30
 
--- the third header stands at `third`, and a folder of Office 30 past it: the second header is the least from 49
--- past the size on that the first states at 18, and the third the least from 30 past the second on
+-- the third header stands at `third`: the second header is the least from 49 past the size on that the first states
+-- at 18, and the third the least from 30 past the second on
 pub record IsThirdHeader (b : List ℕ) (third : ℕ) : Type 0 where
   pub second : ℕ
   pub start_fits : le32 b 18 + 49 ≤ 0xFFFFFFFF
   pub second_found : IsHeaderFrom b (le32 b 18 + 49) second
   pub third_found : IsHeaderFrom b (second + 30) third
-  pub folder : HasFolder b (third + 30)
 
--- the fourth header stands at `fourth`, the least from 56 past the third on
-pub record IsFourthHeader (b : List ℕ) (fourth : ℕ) : Type 0 where
+-- the header whose folder decides stands at `header`: the third where a folder of Office stands 30 past it, and
+-- otherwise the fourth, the least from 56 past the third on
+pub record IsDecidingHeader (b : List ℕ) (header : ℕ) : Type 0 where
   pub third : ℕ
   pub third_found : IsThirdHeader b third
-  pub fourth_found : IsHeaderFrom b (third + 56) fourth
+  pub decides : (HasFolder b (third + 30) × (header ≡ third)) ⊎ ((¬ HasFolder b (third + 30)) × IsHeaderFrom b (third + 56) header)
 
 -- b begins as a ZIP archive, and p is the place of the folder that decides: 30 where a folder stands there, and
--- otherwise, behind a name of Office, 30 past the fourth header
+-- otherwise, behind a name of Office, 30 past the header whose folder decides
 abbrev pub IsDecidingPlace : List ℕ → ℕ → Type 0
 IsDecidingPlace b p =
     OccursAt b zip_header 0
     × ((HasFolder b 30 × (p ≡ 30))
-    ⊎ ((¬ HasFolder b 30) × HasOfficeName b × ((fourth : ℕ) × IsFourthHeader b fourth × (p ≡ fourth + 30))))
+    ⊎ ((¬ HasFolder b 30) × HasOfficeName b × ((header : ℕ) × IsDecidingHeader b header × (p ≡ header + 30))))
 
 -- the folder stands at the deciding place
 abbrev pub IsOffice : List ℕ → List ℕ → Type 0

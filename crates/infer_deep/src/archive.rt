@@ -32,6 +32,8 @@ pub fn is_lz4(buf: &[u8]) -> bool
 ///
 /// Whoever asks for both asks them of this, and pays for the frames once.
 pub fn after_skippable_frames(buf: &[u8]) -> &[u8]
+    ensures skips { SkipsTo IsFrame buf.now result.now }
+    ensures stops { NoneBegins IsFrame result.now }
     ensures zst { IsZst result.now ↔ IsZst buf.now }
     ensures lz4 { IsLz4 result.now ↔ IsLz4 buf.now }
 {

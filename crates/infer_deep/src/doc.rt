@@ -1,8 +1,9 @@
 //! Documents of Microsoft Office, in compound files and in ZIP archives.
-ghost use Rattle.std.specs.Prelude.{◌↔◌, ◌+◌, ◌≤◌, length, IsTrue};
+ghost use Rattle.std.specs.Prelude.{◌↔◌, ◌+◌, ◌≤◌, codes, length, IsTrue};
+ghost use Rattle.memchr.specs.Find.{OccursAt};
 ghost use Rattle.infer_deep.specs.Places.{FindsPlace, IsFirstWithin};
 ghost use Rattle.infer_deep.specs.ClassId.{HasClassId, IsDoc, IsPpt, IsRoot, IsXls};
-ghost use Rattle.infer_deep.specs.Office.{HasFolder, HasOfficeName, IsDecidingPlace, IsDocx, IsFourthHeader, IsOffice, IsPptx, IsThirdHeader, IsXlsx, zip_header};
+ghost use Rattle.infer_deep.specs.Office.{HasFolder, HasOfficeName, IsDecidingHeader, IsDecidingPlace, IsDocx, IsOffice, IsPptx, IsThirdHeader, IsXlsx, zip_header};
 
 use crate::numbers::{le16, le32};
 use crate::places::{find, stands_at};
@@ -28,8 +29,8 @@ pub fn is_doc(buf: &[u8]) -> bool
 /// Word's document in a ZIP archive: its folder "word/" decides.
 ///
 /// One of the folders "word/", "ppt/" and "xl/" in the first entry decides. Where the first entry's name begins with
-/// "[Content_Types].xml", "_rels/.rels" or "docProps", the third local header has to have one of them, and the one
-/// in the fourth decides. Each header is searched for in 6000 bytes.
+/// "[Content_Types].xml", "_rels/.rels" or "docProps", the one in the third local header decides, and where there is
+/// none, the one in the fourth. Each header is searched for in 6000 bytes.
 pub fn is_docx(buf: &[u8]) -> bool
     ensures { IsTrue result ↔ IsDocx buf.now }
 {
@@ -104,6 +105,19 @@ fn is_office(buf: &[u8], folder: &[u8]) -> bool
     }
 }
 
+/// What follows in `buf` from the folder on that decides, and no bytes where none decides: `buf` is a document of the
+/// program whose folder this begins with.
+///
+/// Whoever asks for all three asks them of this, and pays for the search once.
+pub fn deciding_folder(buf: &[u8]) -> &[u8]
+    ensures word { OccursAt result.now (codes "word/") 0 ↔ IsDocx buf.now }
+    ensures excel { OccursAt result.now (codes "xl/") 0 ↔ IsXlsx buf.now }
+    ensures power_point { OccursAt result.now (codes "ppt/") 0 ↔ IsPptx buf.now }
+{
+    let place = deciding_place(buf).unwrap_or(buf.len());
+    &buf[place.min(buf.len())..]
+}
+
 /// Where the deciding folder stands, if anywhere. It is the same place for all three kinds.
 fn deciding_place(buf: &[u8]) -> Option<usize>
     ensures { FindsPlace (IsDecidingPlace buf.now) result }
@@ -117,31 +131,30 @@ fn deciding_place(buf: &[u8]) -> Option<usize>
     if !has_office_name(buf) {
         return None;
     }
-    let fourth = fourth_header(buf)?;
-    Some(fourth + 30)
+    let header = deciding_header(buf)?;
+    Some(header + 30)
 }
 
-fn fourth_header(buf: &[u8]) -> Option<usize>
+/// Where the header stands whose folder decides behind a name of Office: the third, or where it has no folder, the
+/// fourth.
+fn deciding_header(buf: &[u8]) -> Option<usize>
     requires { 22 ≤ length buf.now }
-    ensures { FindsPlace (IsFourthHeader buf.now) result }
+    ensures { FindsPlace (IsDecidingHeader buf.now) result }
 {
     let third = third_header(buf)?;
+    if has_folder(buf, third + 30) {
+        return Some(third);
+    }
     header_from(buf, third + 56)
 }
 
-/// Where the third header stands, if it has a folder of Office.
 fn third_header(buf: &[u8]) -> Option<usize>
     requires { 22 ≤ length buf.now }
     ensures { FindsPlace (IsThirdHeader buf.now) result }
 {
     let start = le32(buf, 18).checked_add(49)?;
     let second = header_from(buf, start as usize)?;
-    let third = header_from(buf, second + 30)?;
-    if has_folder(buf, third + 30) {
-        Some(third)
-    } else {
-        None
-    }
+    header_from(buf, second + 30)
 }
 
 /// The least place from `start` on at which a header stands that ends in the next 6000 bytes.

@@ -6,7 +6,7 @@ pub mod doc;
 pub mod image;
 pub mod laws;
 mod numbers;
-mod places;
+pub mod places;
 #[cfg(test)]
 mod tests;
 pub mod text;

@@ -154,15 +154,15 @@ fn class_ids_tell(rt: HostRuntime) -> Result<(), Fail> {
 }
 
 /// A package of four entries, of which the first states its size, `gap` bytes lie behind its name, the third is in
-/// "xl/" and the fourth in "word/".
-fn package(alloc: Global, size: &[u8], gap: u16) -> Result<Vec<u8>, AllocError> {
+/// the folder and the fourth in "word/".
+fn package(alloc: Global, size: &[u8], gap: u16, folder: &[u8]) -> Result<Vec<u8>, AllocError> {
     let gap = gap as usize;
     let mut buf = b"PK\x03\x04".to_vec(alloc)?;
     put(&mut buf, 18, size)?;
     put(&mut buf, 30, b"[Content_Types].xml")?;
     put(&mut buf, gap + 49, b"PK\x03\x04")?;
     put(&mut buf, gap + 79, b"PK\x03\x04")?;
-    put(&mut buf, gap + 109, b"xl/")?;
+    put(&mut buf, gap + 109, folder)?;
     put(&mut buf, gap + 135, b"PK\x03\x04")?;
     put(&mut buf, gap + 165, b"word/")?;
     Ok(buf)
@@ -184,20 +184,32 @@ fn folders_decide(rt: HostRuntime) -> Result<(), Fail> {
         assert_eq!(rt; is_xlsx(&buf), xlsx, "{folder:?}");
         assert_eq!(rt; is_pptx(&buf), pptx, "{folder:?}");
     }
-    let packages: [(&[u8], u16, bool); 6] = [
-        (b"\0\0\0\0", 0, true),
-        (b"\0\0\0\0", 5996, true),
-        (b"\0\0\0\0", 5997, false),
-        (b"\xFF\xFF\xFF\xFF", 0, false),
-        (b"\xCF\xFF\xFF\xFF", 0, false),
-        (b"\xCE\xFF\xFF\xFF", 0, false),
+    Ok(())
+}
+
+#[test]
+fn folders_of_the_third_header_decide(rt: HostRuntime) -> Result<(), Fail> {
+    let first: &[u8] = b"\0\0\0\0";
+    let excel: &[u8] = b"xl/";
+    let none: &[u8] = b"\0\0\0";
+    let packages: [(&[u8], u16, &[u8], usize, Option<&str>); 10] = [
+        (first, 0, excel, 111, None),
+        (first, 0, excel, 112, Some("xlsx")),
+        (first, 0, excel, 170, Some("xlsx")),
+        (first, 0, none, 169, None),
+        (first, 0, none, 170, Some("docx")),
+        (first, 5996, excel, 6166, Some("xlsx")),
+        (first, 5997, excel, 6167, None),
+        (b"\xFF\xFF\xFF\xFF", 0, excel, 170, None),
+        (b"\xCF\xFF\xFF\xFF", 0, excel, 170, None),
+        (b"\xCE\xFF\xFF\xFF", 0, excel, 170, None),
     ];
-    for (size, gap, found) in packages {
-        let mut buf = package(rt.alloc(), size, gap)?;
-        assert_eq!(rt; is_docx(&buf), found, "{size:?} {gap}");
-        assert!(rt; !is_xlsx(&buf) && !is_pptx(&buf));
-        buf.pop();
-        assert!(rt; !is_docx(&buf));
+    for (size, gap, folder, len, kind) in packages {
+        let mut buf = package(rt.alloc(), size, gap, folder)?;
+        buf.truncate(len);
+        assert_eq!(rt; is_docx(&buf), kind == Some("docx"), "{size:?} {gap} {len}");
+        assert_eq!(rt; is_xlsx(&buf), kind == Some("xlsx"), "{size:?} {gap} {len}");
+        assert!(rt; !is_pptx(&buf));
     }
     Ok(())
 }

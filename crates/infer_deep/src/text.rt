@@ -56,6 +56,8 @@ pub fn is_xml(buf: &[u8]) -> bool
 ///
 /// Whoever asks for both asks them of this, and pays for the white space once.
 pub fn after_white_space(buf: &[u8]) -> &[u8]
+    ensures skips { SkipsTo IsSpace buf.now result.now }
+    ensures stops { NoneBegins IsSpace result.now }
     ensures html { IsHtml result.now ↔ IsHtml buf.now }
     ensures xml { IsXml result.now ↔ IsXml buf.now }
 {

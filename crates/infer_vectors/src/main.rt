@@ -71,7 +71,7 @@ fn compare_buffers(rt: &(impl Print + AllocGlobal), text: &str) -> Result<Tally>
     let mut tally = Tally::NONE;
     for line in text.lines() {
         let fields: Vec<&str> = line.split('\t').collect(rt.alloc())?;
-        let [name, number, _, tokens] = fields.as_slice() else {
+        let [name, _, number, tokens] = fields.as_slice() else {
             println!(rt; "not four columns: {line}")?;
             tally.add(false);
             continue;

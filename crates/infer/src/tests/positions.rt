@@ -148,15 +148,15 @@ fn long_buffers(rt: HostRuntime) -> Result<(), Fail> {
     Ok(())
 }
 
-/// A first entry with a name of Office, a second, a third with "xl/" and a fourth with "word/", where `gap` zeros
+/// A first entry with a name of Office, a second, a third in the folder and a fourth in "word/", where `gap` zeros
 /// stand before the second.
-fn office(alloc: Global, gap: usize) -> Result<Vec<u8>, AllocError> {
+fn office(alloc: Global, gap: usize, folder: &[u8]) -> Result<Vec<u8>, AllocError> {
     let mut buf = zeros_but(alloc, 49, &[(0, ZIP), (30, b"[Content_Types].xml")])?;
     buf.extend_from_slice(vec![in alloc; 0u8; gap]?.as_slice())?;
     let entries: [(usize, &[u8]); 5] = [
         (0, ZIP),
         (30, ZIP),
-        (60, b"xl/"),
+        (60, folder),
         (86, ZIP),
         (116, b"word/"),
     ];
@@ -166,15 +166,21 @@ fn office(alloc: Global, gap: usize) -> Result<Vec<u8>, AllocError> {
 
 #[test]
 fn office_headers(rt: HostRuntime) -> Result<(), Fail> {
-    for (gap, expected) in [(0, 58), (5996, 58), (5997, 67)] {
-        let mut buf = office(rt.alloc(), gap)?;
-        assert_eq!(rt; position(buf.as_slice()), Some(expected), "{gap} zeros");
-        let _last = buf.pop();
-        assert_eq!(rt;
-            position(buf.as_slice()),
-            Some(67),
-            "{gap} zeros, one byte less"
-        );
+    let excel: &[u8] = b"xl/";
+    let none: &[u8] = b"\0\0\0";
+    let cases: [(usize, &[u8], usize, usize); 7] = [
+        (0, excel, 111, 67),
+        (0, excel, 112, 60),
+        (0, excel, 170, 60),
+        (0, none, 169, 67),
+        (0, none, 170, 58),
+        (5996, excel, 6166, 60),
+        (5997, excel, 6167, 67),
+    ];
+    for (i, (gap, folder, len, expected)) in cases.iter().enumerate() {
+        let mut buf = office(rt.alloc(), *gap, *folder)?;
+        buf.truncate(*len);
+        assert_eq!(rt; position(buf.as_slice()), Some(*expected), "case {i}");
     }
     Ok(())
 }
@@ -187,7 +193,7 @@ fn office_sizes(rt: HostRuntime) -> Result<(), Fail> {
         b"\xCE\xFF\xFF\xFF",
     ];
     for size in sizes {
-        let mut buf = office(rt.alloc(), 0)?;
+        let mut buf = office(rt.alloc(), 0, b"xl/")?;
         assert!(rt; buf.len() > 22);
         buf[18..22].copy_from_slice(size);
         assert_eq!(rt; position(buf.as_slice()), Some(67), "{size:?}");
