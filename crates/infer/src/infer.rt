@@ -208,7 +208,7 @@ impl<A: Allocator> Infer<A> {
         ensures memory { IsErrOf result Fault.Memory → r.new ≡ r.old }
         ensures opens_nothing { OpensNothing result }
     {
-        self.read_within(alloc, r, FRONT)
+        self.get_from_reader_within(alloc, r, FRONT)
     }
 
     /// The type of the first row that accepts the first 8192 bytes of a file, or all where it has fewer, and `None`
@@ -225,35 +225,51 @@ impl<A: Allocator> Infer<A> {
         ensures { IfOk result (λ found. (b : List ℕ) × (length b ≤ FRONT)
             × IsAnswer (AnyAccepts b) (rows self.now) (option_map triple_of found)) }
     {
-        match File::open(rt, path) {
-            Ok(file) => self.get_from_reader(alloc, &mut Watched::new(file)),
-            Err(error) => Err(Fault::Open(error.kind())),
-        }
+        self.get_from_path_within(rt, alloc, path, FRONT)
     }
 
-    // The answer of the first `limit` bytes of a reader.
-    fn read_within<B: Allocator, R: Read>(
+    /// [`Infer::get_from_reader`] with `n` bytes in place of 8192, of which there are from 1 to 65536.
+    pub fn get_from_reader_within<B: Allocator, R: Read>(
         &self,
         alloc: B,
         r: &mut Watched<R>,
-        limit: usize,
+        n: usize,
     ) -> Result<Option<FileType>, Fault>
         requires no_fault { fault_of r.old ≡ None }
-        requires least { 1 ≤ limit }
-        requires most { limit ≤ 65536 }
+        requires least { 1 ≤ n }
+        requires most { n ≤ 65536 }
         ensures answer { IfOk result (λ found. IfSome (R.remaining (inner r.old))
-            (λ s. IsAnswer (AnyAccepts (head limit s)) (rows self.now) (option_map triple_of found))) }
+            (λ s. IsAnswer (AnyAccepts (head n s)) (rows self.now) (option_map triple_of found))) }
         ensures rest { OnOk result (IfSome (R.remaining (inner r.old))
-            (λ s. R.remaining (inner r.new) ≡ Some (drop limit s))) }
-        ensures some_bytes { IfOk result (λ found. (b : List ℕ) × (length b ≤ limit)
+            (λ s. R.remaining (inner r.new) ≡ Some (drop n s))) }
+        ensures some_bytes { IfOk result (λ found. (b : List ℕ) × (length b ≤ n)
             × IsAnswer (AnyAccepts b) (rows self.now) (option_map triple_of found)) }
         ensures fault { fault_of r.new ≡ read_fault result }
         ensures memory { IsErrOf result Fault.Memory → r.new ≡ r.old }
         ensures opens_nothing { OpensNothing result }
     {
-        match read_head(alloc, r, limit) {
+        match read_head(alloc, r, n) {
             Ok(bytes) => Ok(self.get(bytes.as_slice())),
             Err(fault) => Err(fault),
+        }
+    }
+
+    /// [`Infer::get_from_path`] with `n` bytes in place of 8192, of which there are from 1 to 65536.
+    pub fn get_from_path_within<R: Files, B: Allocator>(
+        &self,
+        rt: &R,
+        alloc: B,
+        path: &str,
+        n: usize,
+    ) -> Result<Option<FileType>, Fault>
+        requires least { 1 ≤ n }
+        requires most { n ≤ 65536 }
+        ensures { IfOk result (λ found. (b : List ℕ) × (length b ≤ n)
+            × IsAnswer (AnyAccepts b) (rows self.now) (option_map triple_of found)) }
+    {
+        match File::open(rt, path) {
+            Ok(file) => self.get_from_reader_within(alloc, &mut Watched::new(file), n),
+            Err(error) => Err(Fault::Open(error.kind())),
         }
     }
 

@@ -2,6 +2,7 @@ mod added;
 mod asked;
 mod input;
 mod laws;
+mod limits;
 mod positions;
 mod readers;
 mod types;

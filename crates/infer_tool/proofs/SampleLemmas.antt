@@ -1,5 +1,5 @@
 -- A row that was read is the one at its number in the table, and what words ask for.
-use Rattle.std.proofs.Common.{◌≡◌, ◌≢◌, ◌↔◌, ◌<◌, ℕ, zero, suc, Bool, true, false, List, [], ◌∷◌, Option, None, Some, length, map, get_or, sym, ap, ◌∙◌, refl, subst, arith, IsTrue}
+use Rattle.std.proofs.Common.{◌≡◌, ◌≢◌, ◌↔◌, ◌<◌, ℕ, zero, suc, Bool, true, false, List, [], ◌∷◌, Option, Some, length, map, get_or, sym, ap, ◌∙◌, refl, subst, arith, IsTrue}
 use Rattle.std.specs.Bool.{OnTrue, OnFalse}
 use Rattle.std.specs.List.{HoldsAt, slice_get}
 use Rattle.std.specs.Option.{option_map}

@@ -3,3 +3,4 @@ pub mod Outcome
 pub mod Report
 pub mod Sample
 pub mod Run
+pub mod Limit

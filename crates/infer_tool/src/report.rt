@@ -1,5 +1,5 @@
 //! One line for one input.
-ghost use Rattle.std.specs.Prelude.{◌≡◌, ◌≢◌, IfOk, IfSome, OnErr, option_map};
+ghost use Rattle.std.specs.Prelude.{◌≡◌, ◌≢◌, ◌≤◌, IfOk, IfSome, OnErr, option_map};
 ghost use Rattle.infer.specs.Buffer.{head};
 ghost use Rattle.infer.specs.First.{IsAnswer};
 ghost use Rattle.infer.specs.Row.{Accepts};
@@ -9,7 +9,7 @@ ghost use Rattle.infer_tool.specs.Report.{Reports, ReportsTheOne};
 ghost use Rattle.infer_tool.specs.Run.{ReportsSome};
 
 use crate::outcome::Outcome;
-use infer::{Fault, Infer, Type, Watched, get_from_path};
+use infer::{Fault, Infer, Type, Watched};
 use std::alloc::Allocator;
 use std::io::{Read, Write};
 use std::rt::Files;
@@ -63,8 +63,26 @@ pub fn run_reader<A: Allocator, R: Read + Drop, W: Write, E: Write>(
         ReportsTheOne result name.now (IsAnswer (Accepts (head FRONT s)) table) (W.contents out.old) (W.contents out.new)) }
     ensures silent { result ≢ Outcome.Failed → err.new ≡ err.old }
 {
+    run_reader_within(alloc, name, reader, FRONT, out, err)
+}
+
+/// The same with `n` bytes in place of 8192.
+pub fn run_reader_within<A: Allocator, R: Read + Drop, W: Write, E: Write>(
+    alloc: A,
+    name: &str,
+    reader: R,
+    n: usize,
+    out: &mut W,
+    err: &mut E,
+) -> Outcome
+    requires least { 1 ≤ n }
+    requires most { n ≤ 65536 }
+    ensures line { IfSome (R.remaining reader) (λ s.
+        ReportsTheOne result name.now (IsAnswer (Accepts (head n s)) table) (W.contents out.old) (W.contents out.new)) }
+    ensures silent { result ≢ Outcome.Failed → err.new ≡ err.old }
+{
     let mut watched = Watched::new(reader);
-    let answer = Infer::new().get_from_reader(alloc, &mut watched);
+    let answer = Infer::new().get_from_reader_within(alloc, &mut watched, n);
     report(name, answer, out, err)
 }
 
@@ -79,5 +97,23 @@ pub fn run_path<R: Files, A: Allocator, W: Write, E: Write>(
     ensures line { ReportsSome FRONT result path.now (W.contents out.old) (W.contents out.new) }
     ensures silent { result ≢ Outcome.Failed → err.new ≡ err.old }
 {
-    report(path, get_from_path(rt, alloc, path), out, err)
+    run_path_within(rt, alloc, path, FRONT, out, err)
+}
+
+/// The same with `n` bytes in place of 8192.
+pub fn run_path_within<R: Files, A: Allocator, W: Write, E: Write>(
+    rt: &R,
+    alloc: A,
+    path: &str,
+    n: usize,
+    out: &mut W,
+    err: &mut E,
+) -> Outcome
+    requires least { 1 ≤ n }
+    requires most { n ≤ 65536 }
+    ensures line { ReportsSome n result path.now (W.contents out.old) (W.contents out.new) }
+    ensures silent { result ≢ Outcome.Failed → err.new ≡ err.old }
+{
+    let answer = Infer::new().get_from_path_within(rt, alloc, path, n);
+    report(path, answer, out, err)
 }

@@ -1,3 +1,4 @@
+mod limits;
 mod reports;
 mod runs;
 mod streams;

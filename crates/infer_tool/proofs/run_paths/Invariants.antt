@@ -6,6 +6,6 @@ use Rattle.infer_tool.proofs.run_paths.Given as goal
 
 abbrev pub invariant-loop-word : goal.invariant-loop-word
 invariant-loop-word g l = record {
-  each : ReportsEach 8192 (map string_bytes (take l.word-index l.words)) l.outcome (g.W.Write.contents l.initial.out) (g.W.Write.contents l.out);
+  each : ReportsEach l.n (map string_bytes (take l.word-index l.words)) l.outcome (g.W.Write.contents l.initial.out) (g.W.Write.contents l.out);
   silent : l.outcome ≢ Failed → l.err ≡ l.initial.err;
 }

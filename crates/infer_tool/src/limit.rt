@@ -1,0 +1,28 @@
+//! The number of bytes to look at, as a word.
+ghost use Rattle.std.specs.Prelude.{◌≡◌, ◌↔◌, ℕ, IsTrue, MatchOption, slice_index};
+ghost use Rattle.infer_tool.specs.Limit.{IsLimit};
+
+const MOST: usize = 65536;
+
+/// The number that the word writes with decimal digits alone, where it is from 1 to 65536.
+pub fn limit_of(word: &str) -> Option<usize>
+    ensures { MatchOption result ((n : ℕ) → ¬ IsLimit word.now n) (λ n. IsLimit word.now n) }
+{
+    if has_plus(word) {
+        return None;
+    }
+    match word.parse::<usize>() {
+        Ok(n) if n >= 1 && n <= MOST => Some(n),
+        _ => None,
+    }
+}
+
+// A number may be parsed behind a plus.
+fn has_plus(word: &str) -> bool
+    ensures { IsTrue result ↔ (slice_index word.now 0 ≡ 0x2B) }
+{
+    match word.as_bytes().first() {
+        Some(byte) => *byte == b'+',
+        None => false,
+    }
+}
