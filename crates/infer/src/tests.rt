@@ -4,5 +4,4 @@ mod input;
 mod laws;
 mod limits;
 mod positions;
-mod readers;
 mod types;

@@ -1,4 +1,3 @@
 mod limits;
 mod reports;
 mod runs;
-mod streams;

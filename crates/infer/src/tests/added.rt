@@ -142,28 +142,56 @@ fn a_yes_that_does_not_last(rt: HostRuntime) -> Result<(), Fail> {
     Ok(())
 }
 
-#[test]
-fn a_refused_addition_changes_nothing(rt: HostRuntime) -> Result<(), Fail> {
-    let heap = LocalHeap::new(rt.alloc(), 512)?;
-    let mut infer: Infer<&LocalHeap> = Infer { list: None };
-    infer.add(&heap, "custom/foo", "foo", begins_jpeg)?;
-    let mut refused = false;
-    for _ in 0..64 {
-        refused = infer.add(&heap, "custom/bar", "bar", begins_png).is_err();
-        assert_eq!(rt; mime_of(&infer, &JPEG), "custom/foo");
-        assert!(rt; infer.is_image(&JPEG));
-        assert!(rt; infer.is_custom(&JPEG));
-        if refused {
-            break;
-        }
-        assert_eq!(rt; mime_of(&infer, &PNG), "custom/bar");
+const NAMES: [&str; 10] = ["foo", "bar", "r2", "r3", "r4", "r5", "r6", "r7", "r8", "r9"];
+
+/// Whether the added rows are the first `count` of the ten.
+fn are_the_first(infer: &Infer<&LocalHeap>, count: usize) -> bool {
+    let mut right = infer.is_image(&JPEG) && infer.is_custom(&JPEG) == (count > 0);
+    for (i, name) in NAMES.iter().enumerate() {
+        right = right && infer.is_supported(name) == (i < count);
     }
-    assert!(rt; refused);
-    assert_eq!(rt; mime_of(&infer, &PNG), "custom/bar");
-    let empty = LocalHeap::new(rt.alloc(), 64)?;
-    let mut first: Infer<&LocalHeap> = Infer { list: None };
-    assert!(rt; first.add(&empty, "custom/foo", "foo", begins_jpeg).is_err());
-    assert_eq!(rt; mime_of(&first, &JPEG), "image/jpeg");
-    assert!(rt; !first.is_custom(&JPEG));
+    right
+}
+
+/// What the two images are by the first `count` of the ten rows.
+fn by_the_first(count: usize) -> (&'static str, &'static str) {
+    match count {
+        0 => ("image/jpeg", "image/png"),
+        1 => ("foo", "image/png"),
+        _ => ("foo", "bar"),
+    }
+}
+
+/// Adds ten rows in a heap. Tells how many were added, and whether the rows were those after each addition.
+fn ten_added(heap: &LocalHeap) -> (usize, bool) {
+    let mut infer: Infer<&LocalHeap> = Infer { list: None };
+    let (mut count, mut right) = (0usize, are_the_first(&infer, 0));
+    for (i, name) in NAMES.iter().enumerate() {
+        let added = match i {
+            0 => infer.add(heap, name, name, begins_jpeg),
+            1 => infer.add(heap, name, name, begins_png),
+            _ => infer.add(heap, name, name, begins_00),
+        };
+        if added.is_ok() {
+            count = count.saturating_add(1);
+        }
+        let images = (mime_of(&infer, &JPEG), mime_of(&infer, &PNG));
+        right = right && are_the_first(&infer, count) && images == by_the_first(count);
+    }
+    (count, right)
+}
+
+#[test]
+fn each_addition_is_refused_in_turn(rt: HostRuntime) -> Result<(), Fail> {
+    let (mut most, mut least) = (0usize, NAMES.len());
+    for step in 1..256usize {
+        let heap = LocalHeap::new(rt.alloc(), 16 * step)?;
+        let (count, right) = ten_added(&heap);
+        assert!(rt; right, "{count} rows");
+        assert!(rt; count >= most, "{count} rows");
+        assert_eq!(rt; heap.used(), 0);
+        (most, least) = (count, least.min(count));
+    }
+    assert_eq!(rt; (least, most), (0, 10));
     Ok(())
 }

@@ -1,11 +1,11 @@
 //! Answers of readers and of files, and each fault.
 ghost use Rattle.std.specs.Prelude.{◌<◌, ◌↔◌, IsTrue, length};
 
-use super::readers::Pieces;
 use crate::engine::FRONT;
 use crate::{Fault, Infer, Type, Watched, get, get_from_path, row, sample};
+use hostile_streams::PieceReader;
 use linked_list_allocator::LocalHeap;
-use std::alloc::{Allocator, Global};
+use std::alloc::{AllocError, Allocator, Global};
 use std::fs;
 use std::io::ErrorKind;
 use std::test::Fail;
@@ -44,7 +44,11 @@ fn told(answer: Result<Option<Type>, Fault>) -> &'static str {
 }
 
 /// What a call over the reader tells, and how many bytes it left.
-fn told_of<A: Allocator>(infer: &Infer, alloc: A, reader: Pieces<'_>) -> (&'static str, usize) {
+fn told_of<A: Allocator>(
+    infer: &Infer,
+    alloc: A,
+    reader: PieceReader<'_>,
+) -> (&'static str, usize) {
     let mut watched = Watched::new(reader);
     let answer = infer.get_from_reader(alloc, &mut watched);
     (told(answer), watched.into_inner().rest.len())
@@ -56,14 +60,14 @@ fn failed(
     bytes: &[u8],
     kind: ErrorKind,
 ) -> (Result<Option<Type>, Fault>, Option<ErrorKind>) {
-    let mut watched = Watched::new(Pieces::failing(bytes, 8192, 1, kind));
+    let mut watched = Watched::new(PieceReader::failing(bytes, 8192, 1, kind));
     let answer = Infer::new().get_from_reader(alloc, &mut watched);
     (answer, watched.fault())
 }
 
 #[test]
 fn a_watched_read(rt: HostRuntime) {
-    let reader = Pieces::failing(&JPEG, 3, 2, ErrorKind::Interrupted);
+    let reader = PieceReader::failing(&JPEG, 3, 2, ErrorKind::Interrupted);
     let mut watched = Watched::new(reader);
     let mut out = [0u8; 8];
     assert!(rt; watched.fault().is_none());
@@ -91,19 +95,19 @@ fn takes_8192_bytes(rt: HostRuntime) -> Result<(), Fail> {
     assert_eq!(rt; told(Ok(infer.get(spaces.as_slice()))), "long");
     assert_eq!(rt; told(Ok(get(spaces.as_slice()))), "html");
     for piece in [1, 7, 8191, 8192, 9000] {
-        let reader = Pieces::new(spaces.as_slice(), piece);
+        let reader = PieceReader::new(spaces.as_slice(), piece);
         assert_eq!(rt;
             told_of(&infer, rt.alloc(), reader),
             ("", 1),
             "{piece} bytes a read"
         );
-        let reader = Pieces::new(spaces.as_slice(), piece);
+        let reader = PieceReader::new(spaces.as_slice(), piece);
         assert_eq!(rt;
             told_of(&Infer::new(), rt.alloc(), reader),
             ("", 1),
             "{piece} bytes a read"
         );
-        let reader = Pieces::new(jpeg.as_slice(), piece);
+        let reader = PieceReader::new(jpeg.as_slice(), piece);
         assert_eq!(rt;
             told_of(&infer, rt.alloc(), reader),
             ("jpg", 1),
@@ -119,7 +123,7 @@ fn takes_all_of_a_short_reader(rt: HostRuntime) -> Result<(), Fail> {
     infer.add(rt.alloc(), "custom/long", "long", is_too_long)?;
     infer.add(rt.alloc(), "custom/empty", "empty", is_empty)?;
     for piece in [1, 3, 4, 5] {
-        let reader = Pieces::new(&JPEG, piece);
+        let reader = PieceReader::new(&JPEG, piece);
         assert_eq!(rt;
             told_of(&infer, rt.alloc(), reader),
             ("jpg", 0),
@@ -127,11 +131,11 @@ fn takes_all_of_a_short_reader(rt: HostRuntime) -> Result<(), Fail> {
         );
     }
     assert_eq!(rt;
-        told_of(&infer, rt.alloc(), Pieces::new(b"", 1)),
+        told_of(&infer, rt.alloc(), PieceReader::new(b"", 1)),
         ("empty", 0)
     );
     assert_eq!(rt;
-        told_of(&Infer::new(), rt.alloc(), Pieces::new(b"", 1)),
+        told_of(&Infer::new(), rt.alloc(), PieceReader::new(b"", 1)),
         ("", 0)
     );
     Ok(())
@@ -141,7 +145,7 @@ fn takes_all_of_a_short_reader(rt: HostRuntime) -> Result<(), Fail> {
 fn no_read_after_the_8192nd_byte(rt: HostRuntime) -> Result<(), Fail> {
     let bytes = vec![in rt.alloc(); b' '; 8192]?;
     for (piece, reads) in [(1usize, 8192), (4096, 2), (8192, 1)] {
-        let reader = Pieces::failing(bytes.as_slice(), piece, reads, ErrorKind::Other);
+        let reader = PieceReader::failing(bytes.as_slice(), piece, reads, ErrorKind::Other);
         let mut watched = Watched::new(reader);
         assert_eq!(rt;
             Infer::new().get_from_reader(rt.alloc(), &mut watched),
@@ -169,35 +173,74 @@ fn a_failed_read_is_no_answer(rt: HostRuntime) -> Result<(), Fail> {
     Ok(())
 }
 
+/// 262 bytes that are HTML up to the last, and with it a tar archive.
+fn archive(alloc: Global) -> Result<Vec<u8>, AllocError> {
+    let mut bytes = Vec::from_slice(alloc, b"<P>")?;
+    bytes.resize(257, b' ')?;
+    bytes.extend_from_slice(b"ustar")?;
+    Ok(bytes)
+}
+
 #[test]
-fn each_read_fails_in_turn(rt: HostRuntime) {
-    for fails_at in 0..5u32 {
-        let reader = Pieces::failing(&JPEG, 1, fails_at, ErrorKind::Interrupted);
+fn each_read_fails_in_turn(rt: HostRuntime) -> Result<(), Fail> {
+    let bytes = archive(rt.alloc())?;
+    assert_eq!(rt; bytes.len(), 262);
+    for fails_at in 0..263u32 {
+        let kind = KINDS[fails_at as usize % 5];
+        let reader = PieceReader::failing(bytes.as_slice(), 1, fails_at, kind);
         let mut watched = Watched::new(reader);
         let answer = Infer::new().get_from_reader(rt.alloc(), &mut watched);
-        assert_eq!(rt; answer, Err(Fault::Read(ErrorKind::Interrupted)));
-        assert_eq!(rt; watched.fault(), Some(ErrorKind::Interrupted));
+        assert_eq!(rt; answer, Err(Fault::Read(kind)), "read {fails_at}");
+        assert_eq!(rt; watched.fault(), Some(kind), "read {fails_at}");
+        let reader = watched.into_inner();
+        assert_eq!(rt; reader.reads, fails_at + 1);
         assert_eq!(rt;
-            watched.into_inner().rest.len(),
-            4usize.saturating_sub(fails_at as usize)
+            reader.rest.len(),
+            262usize.saturating_sub(fails_at as usize)
         );
     }
+    Ok(())
+}
+
+#[test]
+fn the_end_after_each_byte(rt: HostRuntime) -> Result<(), Fail> {
+    let bytes = archive(rt.alloc())?;
+    assert_eq!(rt; bytes.len(), 262);
+    for len in 0..263usize {
+        let front = &bytes[..len.min(bytes.len())];
+        let extension = match len {
+            0..=2 => "",
+            3..=261 => "html",
+            _ => "tar",
+        };
+        assert_eq!(rt; told(Ok(get(front))), extension, "{len} bytes");
+        assert_eq!(rt;
+            told_of(&Infer::new(), rt.alloc(), PieceReader::new(front, 1)),
+            (extension, 0),
+            "{len} bytes"
+        );
+    }
+    Ok(())
 }
 
 #[test]
 fn memory_for_a_reader(rt: HostRuntime) -> Result<(), Fail> {
-    let infer = Infer::new();
-    let small = LocalHeap::new(rt.alloc(), 4096)?;
-    let mut watched = Watched::new(Pieces::new(&JPEG, 4));
-    assert_eq!(rt;
-        infer.get_from_reader(&small, &mut watched),
-        Err(Fault::Memory)
-    );
-    assert!(rt; watched.fault().is_none());
-    assert_eq!(rt; watched.into_inner().reads, 0);
-    let ample = LocalHeap::new(rt.alloc(), 16384)?;
-    assert_eq!(rt; told_of(&infer, &ample, Pieces::new(&JPEG, 4)), ("jpg", 0));
-    assert_eq!(rt; ample.used(), 0);
+    let mut answered = false;
+    for step in 1..1024usize {
+        let heap = LocalHeap::new(rt.alloc(), 16 * step)?;
+        let mut watched = Watched::new(PieceReader::new(&JPEG, 4));
+        let answer = Infer::new().get_from_reader(&heap, &mut watched);
+        assert!(rt; watched.fault().is_none());
+        assert_eq!(rt; heap.used(), 0);
+        let reader = watched.into_inner();
+        answered = answer != Err(Fault::Memory);
+        if answered {
+            assert_eq!(rt; (told(answer), reader.rest.len()), ("jpg", 0));
+            break;
+        }
+        assert_eq!(rt; (reader.reads, reader.rest.len()), (0, 4));
+    }
+    assert!(rt; answered);
     Ok(())
 }
 
@@ -268,23 +311,23 @@ fn paths_without_a_file(rt: HostRuntime) {
 
 #[test]
 fn memory_for_a_file(rt: HostRuntime) -> Result<(), Fail> {
-    let infer = Infer::new();
     fs::write(&rt, "memory.jpg", &JPEG)?;
-    let small = LocalHeap::new(rt.alloc(), 4096)?;
-    assert_eq!(rt;
-        infer.get_from_path(&rt, &small, "memory.jpg"),
-        Err(Fault::Memory)
-    );
-    assert_eq!(rt;
-        get_from_path(&rt, &small, "memory.jpg"),
-        Err(Fault::Memory)
-    );
-    let missing = Fault::Open(ErrorKind::NotFound);
-    assert_eq!(rt; get_from_path(&rt, &small, "missing.bin"), Err(missing));
-    let ample = LocalHeap::new(rt.alloc(), 16384)?;
-    assert_eq!(rt; told(infer.get_from_path(&rt, &ample, "memory.jpg")), "jpg");
-    assert_eq!(rt; told(get_from_path(&rt, &ample, "memory.jpg")), "jpg");
-    assert_eq!(rt; ample.used(), 0);
+    let (infer, missing) = (Infer::new(), Err(Fault::Open(ErrorKind::NotFound)));
+    let mut answered = false;
+    for step in 1..1024usize {
+        let heap = LocalHeap::new(rt.alloc(), 16 * step)?;
+        let answer = infer.get_from_path(&rt, &heap, "memory.jpg");
+        assert_eq!(rt; get_from_path(&rt, &heap, "memory.jpg"), answer);
+        assert_eq!(rt; infer.get_from_path(&rt, &heap, "missing.bin"), missing);
+        assert_eq!(rt; get_from_path(&rt, &heap, "missing.bin"), missing);
+        assert_eq!(rt; heap.used(), 0);
+        answered = answer != Err(Fault::Memory);
+        if answered {
+            assert_eq!(rt; told(answer), "jpg");
+            break;
+        }
+    }
+    assert!(rt; answered);
     fs::remove_file(&rt, "memory.jpg")?;
     Ok(())
 }

@@ -1,12 +1,13 @@
 //! Lines and outcomes of one input, and each fault.
-use super::streams::{Failing, NEVER, Pieces};
 use crate::outcome::Outcome;
 use crate::report::{report, run_path, run_reader};
+use hostile_streams::{PieceReader, PieceWriter};
 use infer::{Fault, get};
 use linked_list_allocator::LocalHeap;
 use std::alloc::{AllocError, Global};
 use std::fs;
-use std::io::Read;
+use std::io::{ErrorKind, Read};
+use std::process::Abort;
 use std::test::Fail;
 
 const JPEG: [u8; 4] = [0xFF, 0xD8, 0xFF, 0xAA];
@@ -54,7 +55,7 @@ fn a_byte_a_read(rt: HostRuntime) -> Result<(), Fail> {
     bytes[1] = 0xD8;
     bytes[2] = 0xFF;
     for piece in [1, 7, 8191, 8192, 9000] {
-        let mut reader = Pieces::new(bytes.as_slice(), piece, NEVER);
+        let mut reader = PieceReader::new(bytes.as_slice(), piece);
         let (outcome, out, err) = written(rt.alloc(), &mut reader);
         assert_eq!(rt; outcome.status(), 0, "{piece} bytes a read");
         assert_eq!(rt; out.as_slice(), b"-: image/jpeg jpg\n".as_slice());
@@ -94,7 +95,7 @@ fn frames_up_to_the_limit(rt: HostRuntime) -> Result<(), Fail> {
 #[test]
 fn a_failed_read_is_no_answer(rt: HostRuntime) {
     for fails_at in 0..5u32 {
-        let mut reader = Pieces::new(&JPEG, 1, fails_at);
+        let mut reader = PieceReader::failing(&JPEG, 1, fails_at, ErrorKind::Interrupted);
         let (outcome, out, err) = written(rt.alloc(), &mut reader);
         assert_eq!(rt; outcome.status(), 2);
         assert!(rt; out.is_empty());
@@ -102,55 +103,83 @@ fn a_failed_read_is_no_answer(rt: HostRuntime) {
     }
 }
 
-#[test]
-fn a_failed_write_is_a_failure(rt: HostRuntime) {
-    for input in [JPEG.as_slice(), b"".as_slice()] {
-        let (mut out, mut err) = (
-            Failing {
-                left: 0,
-                flushes: true,
-            },
-            Vec::new(rt.alloc()),
-        );
-        let outcome = report("-", Ok(get(input)), &mut out, &mut err);
-        assert_eq!(rt; outcome.status(), 2);
-        let outcome = run_reader(rt.alloc(), "-", input, &mut out, &mut err);
-        assert_eq!(rt; outcome.status(), 2);
-        assert!(rt; err.is_empty());
+/// A report and a run over writers that fail at their first write, at their second and so on, up to those that no
+/// failure meets: these have the status and write the line, and all others fail and write less of it.
+fn each_write_fails_in_turn<R: AllocGlobal + Abort>(
+    rt: &R,
+    input: &[u8],
+    piece: usize,
+    status: u8,
+    line: &[u8],
+) {
+    for fails_at in 0..100u32 {
+        let mut err = PieceWriter::new(piece);
+        let mut out = PieceWriter::failing(piece, fails_at);
+        let reported = report("-", Ok(get(input)), &mut out, &mut err).status();
+        let mut again = PieceWriter::failing(piece, fails_at);
+        let read = run_reader(rt.alloc(), "-", input, &mut again, &mut err).status();
+        assert_eq!(rt; again.taken(), out.taken());
+        assert!(rt; err.taken().is_empty());
+        if !out.has_failed() {
+            assert_eq!(rt; (reported, read), (status, status), "write {fails_at}");
+            assert_eq!(rt; out.taken(), line);
+            return;
+        }
+        assert_eq!(rt; (reported, read), (2, 2), "write {fails_at}");
+        assert!(rt; line.starts_with(out.taken()) && out.taken().len() < line.len());
     }
-    let (mut out, mut err) = (
-        Vec::new(rt.alloc()),
-        Failing {
-            left: 0,
-            flushes: true,
-        },
-    );
-    let outcome = report("-", Err(Fault::Memory), &mut out, &mut err);
-    assert_eq!(rt; outcome.status(), 2);
-    assert!(rt; out.is_empty());
+    assert!(rt; false, "no run without a failure");
 }
 
 #[test]
-fn a_refused_reservation_is_told(rt: HostRuntime) -> Result<(), Fail> {
+fn a_failed_write_is_a_failure(rt: HostRuntime) {
+    for piece in [1, 5, 512] {
+        each_write_fails_in_turn(&rt, &JPEG, piece, 0, b"-: image/jpeg jpg\n");
+        each_write_fails_in_turn(&rt, b"", piece, 1, b"-: unknown\n");
+    }
+}
+
+#[test]
+fn a_fault_that_cannot_be_told(rt: HostRuntime) {
+    for fails_at in 0..20u32 {
+        let mut out = PieceWriter::new(1);
+        let mut err = PieceWriter::failing(1, fails_at);
+        let outcome = report("-", Err(Fault::Memory), &mut out, &mut err);
+        assert_eq!(rt; outcome.status(), 2);
+        assert!(rt; out.taken().is_empty());
+    }
+}
+
+#[test]
+fn each_request_is_refused_in_turn(rt: HostRuntime) -> Result<(), Fail> {
+    fs::write(&rt, "refused.jpg", &JPEG)?;
     let mut answered = false;
-    for size in [64, 1024, 4096, 16384usize] {
-        let heap = LocalHeap::new(rt.alloc(), size)?;
-        let (mut out, mut err) = (Vec::new(rt.alloc()), Vec::new(rt.alloc()));
-        let mut reader = Pieces::new(&JPEG, 4, NEVER);
-        let outcome = run_reader(&heap, "-", &mut reader, &mut out, &mut err);
-        if outcome.status() == 0 {
-            answered = true;
-            assert_eq!(rt; out.as_slice(), b"-: image/jpeg jpg\n".as_slice());
-        } else {
-            assert!(rt; size < 8192, "{size}");
-            assert_eq!(rt; outcome.status(), 2);
-            assert_eq!(rt; err.as_slice(), b"-: no memory\n".as_slice());
-            assert!(rt; out.is_empty());
-            assert_eq!(rt; reader.reads, 0);
-        }
+    for step in 1..1024usize {
+        let heap = LocalHeap::new(rt.alloc(), 16 * step)?;
+        let (mut out, mut err) = (PieceWriter::new(512), PieceWriter::new(512));
+        let mut reader = PieceReader::new(&JPEG, 4);
+        let read = run_reader(&heap, "-", &mut reader, &mut out, &mut err).status();
+        let opened = run_path(&rt, &heap, "refused.jpg", &mut out, &mut err).status();
         assert_eq!(rt; heap.used(), 0);
+        answered = read == 0;
+        if answered {
+            assert_eq!(rt; opened, 0);
+            assert_eq!(rt;
+                out.taken(),
+                b"-: image/jpeg jpg\nrefused.jpg: image/jpeg jpg\n".as_slice()
+            );
+            assert!(rt; err.taken().is_empty());
+            break;
+        }
+        assert_eq!(rt; (read, opened, reader.reads), (2, 2, 0));
+        assert!(rt; out.taken().is_empty());
+        assert_eq!(rt;
+            err.taken(),
+            b"-: no memory\nrefused.jpg: no memory\n".as_slice()
+        );
     }
     assert!(rt; answered);
+    fs::remove_file(&rt, "refused.jpg")?;
     Ok(())
 }
 
@@ -163,22 +192,5 @@ fn a_path_is_the_name(rt: HostRuntime) -> Result<(), Fail> {
     assert_eq!(rt; outcome.status(), 0);
     assert_eq!(rt; out.as_slice(), b"named.jpg: image/jpeg jpg\n".as_slice());
     assert!(rt; err.is_empty());
-    Ok(())
-}
-
-#[test]
-fn a_file_without_memory(rt: HostRuntime) -> Result<(), Fail> {
-    fs::write(&rt, "refused.jpg", &JPEG)?;
-    let heap = LocalHeap::new(rt.alloc(), 4096)?;
-    let (mut out, mut err) = (Vec::new(rt.alloc()), Vec::new(rt.alloc()));
-    let outcome = run_path(&rt, &heap, "refused.jpg", &mut out, &mut err);
-    assert_eq!(rt; outcome.status(), 2);
-    assert!(rt; out.is_empty());
-    assert_eq!(rt; err.as_slice(), b"refused.jpg: no memory\n".as_slice());
-    let heap = LocalHeap::new(rt.alloc(), 16384)?;
-    let outcome = run_path(&rt, &heap, "refused.jpg", &mut out, &mut err);
-    assert_eq!(rt; outcome.status(), 0);
-    assert_eq!(rt; out.as_slice(), b"refused.jpg: image/jpeg jpg\n".as_slice());
-    fs::remove_file(&rt, "refused.jpg")?;
     Ok(())
 }

@@ -1,10 +1,13 @@
 //! Runs over words, and over standard input where there are none.
-use super::streams::{Failing, NEVER, Pieces};
 use crate::outcome::Outcome;
-use crate::{USAGE, flushed, run};
+use crate::{LINE_BUFFER, USAGE, flushed, run};
+use hostile_streams::{PieceReader, PieceWriter};
 use linked_list_allocator::LocalHeap;
 use std::alloc::AllocError;
 use std::fs;
+use std::io::{LineWriter, Write};
+use std::process::Abort;
+use std::rt::Files;
 use std::test::Fail;
 
 const JPEG: [u8; 4] = [0xFF, 0xD8, 0xFF, 0xAA];
@@ -19,7 +22,7 @@ fn over(rt: &HostRuntime, paths: &[&str]) -> Result<(Done, u32), AllocError> {
         words.push(String::from_str(rt.alloc(), *path)?)?;
     }
     let (mut out, mut err) = (Vec::new(rt.alloc()), Vec::new(rt.alloc()));
-    let mut input = Pieces::new(&JPEG, 4, NEVER);
+    let mut input = PieceReader::new(&JPEG, 4);
     let outcome = run(
         rt,
         rt.alloc(),
@@ -84,13 +87,90 @@ fn a_fault_ends_nothing(rt: HostRuntime) -> Result<(), Fail> {
     Ok(())
 }
 
+const LINE: &[u8] = b"e.jpg: image/jpeg jpg\n";
+
+const NEXT: &[u8] = b"f.bin: unknown\n";
+
+/// The status of a run over two files, of which the first is known and the second is not.
+fn over_two<R: Files + AllocGlobal + Abort, W: Write>(
+    rt: &R,
+    out: &mut W,
+) -> Result<u8, AllocError> {
+    let words = [
+        String::from_str(rt.alloc(), "e.jpg")?,
+        String::from_str(rt.alloc(), "f.bin")?,
+    ];
+    let mut err = PieceWriter::new(512);
+    let outcome = run(rt, rt.alloc(), &words, b"".as_slice(), out, &mut err);
+    assert!(rt; err.taken().is_empty());
+    Ok(flushed(outcome, out).status())
+}
+
+/// Whether these are the two lines, with an end missing of just one.
+fn lacks_one_end(bytes: &[u8]) -> bool {
+    match (bytes.strip_prefix(LINE), bytes.strip_suffix(NEXT)) {
+        (Some(next), None) => NEXT.starts_with(next),
+        (None, Some(line)) => LINE.starts_with(line),
+        _ => false,
+    }
+}
+
+/// Runs over a writer that fails at each write in turn, by itself and behind a buffer for lines.
+fn each_write_fails_in_turn<R: Files + AllocGlobal + Abort>(
+    rt: &R,
+    piece: usize,
+) -> Result<(), Fail> {
+    let whole = [LINE, NEXT].concat(rt.alloc())?;
+    for fails_at in 0..100u32 {
+        let mut out = PieceWriter::failing(piece, fails_at);
+        let status = over_two(rt, &mut out)?;
+        let failing = PieceWriter::failing(piece, fails_at);
+        let mut lines = LineWriter::with_capacity(rt.alloc(), LINE_BUFFER, failing)?;
+        let buffered = over_two(rt, &mut lines)?;
+        let failed = lines.get_ref().has_failed();
+        assert_eq!(rt; buffered, if failed { 2 } else { 1 }, "write {fails_at}");
+        assert!(rt;
+            whole.starts_with(lines.get_ref().taken()),
+            "write {fails_at}"
+        );
+        if !out.has_failed() {
+            assert_eq!(rt; status, 1);
+            assert_eq!(rt; out.taken(), whole.as_slice());
+            return Ok(());
+        }
+        assert_eq!(rt; status, 2, "write {fails_at}");
+        assert!(rt; lacks_one_end(out.taken()), "write {fails_at}");
+    }
+    assert!(rt; false, "no run without a failure");
+    Ok(())
+}
+
+#[test]
+fn a_failed_write_ends_nothing(rt: HostRuntime) -> Result<(), Fail> {
+    fs::write(&rt, "e.jpg", &JPEG)?;
+    fs::write(&rt, "f.bin", b"")?;
+    for piece in [1, 5, 512] {
+        each_write_fails_in_turn(&rt, piece)?;
+    }
+    fs::remove_file(&rt, "e.jpg")?;
+    fs::remove_file(&rt, "f.bin")?;
+    Ok(())
+}
+
 #[test]
 fn every_word_is_a_path(rt: HostRuntime) -> Result<(), Fail> {
-    for word in ["-", "missing.bin", "--front", ""] {
+    let faults = [
+        ("-", "cannot open"),
+        ("missing.bin", "cannot open"),
+        ("--other", "cannot open"),
+        ("", "cannot open"),
+        (".", "cannot read"),
+    ];
+    for (word, fault) in faults {
         let ((status, out, err), reads) = over(&rt, &[word])?;
         assert_eq!(rt; status, 2, "{word}");
         assert!(rt; out.is_empty(), "{word}");
-        let expected = format!(in rt.alloc(); "{word}: cannot open\n")?;
+        let expected = format!(in rt.alloc(); "{word}: {fault}\n")?;
         assert_eq!(rt; err.as_slice(), expected.as_bytes(), "{word}");
         assert_eq!(rt; reads, 0, "{word}");
     }
@@ -166,29 +246,12 @@ fn memory_for_a_run(rt: HostRuntime) -> Result<(), Fail> {
 
 #[test]
 fn a_failed_flush_is_a_failure(rt: HostRuntime) {
-    for flushes in [true, false] {
-        let mut out = Failing {
-            left: NEVER,
-            flushes,
-        };
-        let outcome = run(
-            &rt,
-            rt.alloc(),
-            &[],
-            JPEG.as_slice(),
-            &mut out,
-            &mut Vec::new(rt.alloc()),
-        );
-        assert_eq!(rt; outcome.status(), 0);
-        assert_eq!(rt;
-            flushed(outcome, &mut out).status(),
-            if flushes { 0 } else { 2 }
-        );
-    }
-    let mut out = Failing {
-        left: 0,
-        flushes: true,
-    };
+    let (mut out, mut err) = (PieceWriter::without_flush(), PieceWriter::new(512));
+    let outcome = run(&rt, rt.alloc(), &[], JPEG.as_slice(), &mut out, &mut err);
+    assert_eq!(rt; outcome.status(), 0);
+    assert_eq!(rt; flushed(outcome, &mut out).status(), 2);
+    let mut out = PieceWriter::new(512);
+    assert_eq!(rt; flushed(outcome, &mut out).status(), 0);
     assert_eq!(rt; flushed(Outcome::Unknown, &mut out).status(), 1);
 }
 
