@@ -10,6 +10,7 @@ pub use Rattle.infer_sig.specs.Odf
 pub use Rattle.infer_sig.specs.Text
 pub use Rattle.infer_sig.specs.Video
 pub use Rattle.infer_sig.specs.Laws as FixedLaws
+pub use Rattle.infer_deep.specs.Find
 pub use Rattle.infer_deep.specs.Numbers
 pub use Rattle.infer_deep.specs.Places
 pub use Rattle.infer_deep.specs.Joined

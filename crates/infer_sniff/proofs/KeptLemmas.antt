@@ -1,0 +1,49 @@
+-- The first bytes of pieces that come one behind the other.
+use Rattle.std.proofs.Common.{◌≡◌, ℕ, ◌+◌, ◌-◌, ◌<◌, ◌≤◌, List, [], ◌∷◌, ◌++◌, length, get_or, map, take, min, sym, ap, ◌∙◌, arith, inl, inr}
+use Rattle.std.proofs.Math.Seq.{take-append-add}
+use Rattle.std.proofs.lemmas.Bool.{cases_lt}
+use Rattle.std.proofs.lemmas.List.{length-take-le, take-append-le, append_assoc, append-nil, map-append, take_all, take_min, take_more}
+use Rattle.std.proofs.lemmas.List.Folds.{concat-append}
+use Rattle.std.specs.List.{concat}
+use denote.Ref.{Bor}
+
+-- the front of some bytes and a piece, where there are no more of the bytes than it has
+pub front_of_both : (n m : ℕ) (bytes piece : List ℕ) → length bytes ≤ n → m ≡ min (length piece) (n - length bytes)
+    → bytes ++ take m piece ≡ take n (bytes ++ piece)
+front_of_both n m bytes piece fits is =
+    let room = n - length bytes in
+    let whole : length bytes + room ≡ n = omega arith in
+    ap (λ k. bytes ++ take k piece) (let e : m ≡ min room (length piece) = omega arith in e)
+    ∙ ap (λ u. bytes ++ u) (take_min room piece) ∙ sym (take-append-add bytes piece room) ∙ ap (λ k. take k (bytes ++ piece)) whole
+
+-- of a front and what follows the front is that of the whole
+pub front_again : (n : ℕ) (bytes piece : List ℕ) → take n (take n bytes ++ piece) ≡ take n (bytes ++ piece)
+front_again n bytes piece = elim (cases_lt n (length bytes)) [
+  | inl l ↦
+      let long = length-take-le n bytes (omega arith) in
+      take-append-le n (take n bytes) piece (omega arith) ∙ take_all n (take n bytes) (omega arith) ∙ sym (take-append-le n bytes piece (omega arith))
+  | inr l ↦ ap (λ u. take n (u ++ piece)) (take_all n bytes l)
+]
+
+-- the pieces joined, and with one more
+abbrev joined : List (Bor (List ℕ)) → List ℕ
+joined pieces = concat (map (λ piece. piece.now) pieces)
+
+joined_more : (pieces : List (Bor (List ℕ))) (i : ℕ) (d : Bor (List ℕ)) → i < length pieces
+    → joined (take (i + 1) pieces) ≡ joined (take i pieces) ++ (get_or pieces i d).now
+joined_more pieces i d lt =
+    ap joined (take_more pieces i d lt)
+    ∙ ap concat (map-append (λ piece. piece.now) (take i pieces) (get_or pieces i d ∷ []))
+    ∙ concat-append (map (λ piece. piece.now) (take i pieces)) ((get_or pieces i d).now ∷ [])
+    ∙ ap (λ u. joined (take i pieces) ++ u) (append-nil (get_or pieces i d).now)
+
+pub front_more : (n i : ℕ) (bytes kept new : List ℕ) (pieces : List (Bor (List ℕ))) (d : Bor (List ℕ)) → i < length pieces
+    → kept ≡ take n (bytes ++ joined (take i pieces)) → new ≡ take n (kept ++ (get_or pieces i d).now) → new ≡ take n (bytes ++ joined (take (i + 1) pieces))
+front_more n i bytes kept new pieces d lt before now =
+    now ∙ ap (λ u. take n (u ++ (get_or pieces i d).now)) before
+    ∙ front_again n (bytes ++ joined (take i pieces)) (get_or pieces i d).now
+    ∙ ap (take n) (append_assoc bytes (joined (take i pieces)) (get_or pieces i d).now)
+    ∙ ap (λ u. take n (bytes ++ u)) (sym (joined_more pieces i d lt))
+
+pub front_alone : (n : ℕ) (bytes : List ℕ) → length bytes ≤ n → bytes ≡ take n (bytes ++ [])
+front_alone n bytes few = sym (ap (take n) (append-nil bytes) ∙ take_all n bytes few)

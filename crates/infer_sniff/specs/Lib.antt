@@ -1,0 +1,4 @@
+pub mod Cases
+pub mod Verdicts
+pub mod Sniffers
+pub mod Order

@@ -1,0 +1,33 @@
+-- What can be said of the answer for a buffer that may go on.
+use Rattle.std.specs.Prelude.{◌≡◌, ◌≤◌, ℕ, List, ◌++◌, Option, length, option_map}
+use Rattle.infer.specs.First.{IsAnswer, IsFirstOf}
+use Rattle.infer.specs.Row.{Accepts}
+use Rattle.infer.specs.Table.{table}
+use Rattle.infer.specs.Triple.{triple_of}
+use Rattle.infer.specs.declared.file_type.FileType.{FileType}
+use Rattle.infer_sniff.specs.Cases.{IsWithinBounds}
+use Rattle.infer_sniff.specs.declared.verdict.Verdict.{Verdict}
+use Rattle.infer_sniff.specs.declared.verdict.Verdict.TheVariants.{SoFar, Final}
+
+-- the type is that of the first built-in row that accepts the buffer, and none where no row does
+abbrev pub IsTypeOf : List ℕ → Option FileType → Type 0
+IsTypeOf b answer = IsAnswer (Accepts b) table (option_map triple_of answer)
+
+-- there are at least 1024 bytes, and the first row that accepts them is within the bounds of the cases that hold
+pub record IsSettled (b : List ℕ) : Type 0 where
+  pub long : 1024 ≤ length b
+  pub within : (row : Option ℕ) → IsFirstOf (Accepts b) table row → IsWithinBounds b row
+
+-- the verdict of the buffer
+abbrev pub IsVerdict : List ℕ → Verdict → Type 0
+IsVerdict b (SoFar answer) = (¬ IsSettled b) × IsTypeOf b answer
+IsVerdict b (Final answer) = IsSettled b × IsTypeOf b answer
+
+-- where the verdict is final, its type is that of everything that grows the buffer, and so is the verdict
+abbrev pub Lasts : List ℕ → Verdict → Type 0
+Lasts b (SoFar answer) = Unit {0}
+Lasts b (Final answer) = (more : List ℕ) → IsTypeOf (b ++ more) answer × IsVerdict (b ++ more) (Final answer)
+
+-- the verdict lasts from a beginning of the buffer on
+abbrev pub Begins : Verdict → List ℕ → Type 0
+Begins verdict b = (short more : List ℕ) × (b ≡ short ++ more) × Lasts short verdict

@@ -1,0 +1,105 @@
+//! Bytes as they come.
+ghost use Rattle.std.specs.Prelude.{◌≡◌, ◌≤◌, ℕ, List, [], ◌++◌, IfOk, map, vec_capacity, vec_len};
+ghost use Rattle.std.specs.Bool.{OnFalse};
+ghost use Rattle.std.specs.List.{concat};
+ghost use Rattle.infer_sniff.specs.Sniffers.{IsSniffer};
+ghost use Rattle.infer.specs.Buffer.{head};
+ghost use Rattle.infer_sniff.specs.Verdicts.{IsVerdict, Lasts};
+
+use crate::verdict::{Verdict, verdict_behind, verdict_of};
+use std::alloc::{AllocError, Allocator, Global};
+use std::cmp;
+use std::marker::Model;
+
+// How many bytes are looked at.
+const FRONT: usize = 8192;
+
+/// The first 8192 bytes of an input, and the verdict of them.
+///
+/// A contract sees it as the list of the bytes that are kept.
+#[derive(Drop)]
+pub struct Sniffer<A: Allocator = Global> {
+    bytes: Vec<u8, A>,
+    verdict: Verdict,
+}
+
+impl<A: Allocator> Model for Sniffer<A> {
+    ghost Value = { List ℕ };
+
+    ghost view = { λ s. s.bytes.items };
+
+    ghost invariant = { λ s. IsSniffer (vec_capacity s.bytes) s.bytes.items s.verdict };
+}
+
+impl<A: Allocator> Sniffer<A> {
+    /// Reserves 8192 bytes, which the sniffer keeps. An error means that memory was refused.
+    pub fn new(alloc: A) -> Result<Sniffer<A>, AllocError>
+        ensures { IfOk result (λ sniffer. sniffer ≡ []) }
+    {
+        Ok(Sniffer {
+            bytes: Vec::with_capacity(alloc, FRONT)?,
+            verdict: verdict_of(&[]),
+        })
+    }
+
+    /// Adds a piece behind the bytes so far, of which the first 8192 are kept, and answers the verdict of these.
+    ///
+    /// It takes no memory and can't refuse.
+    pub fn push(&mut self, piece: &[u8]) -> Verdict
+        ensures kept { self.new ≡ head FRONT (self.old ++ piece.now) }
+        ensures verdict { IsVerdict self.new result }
+        ensures lasts { Lasts self.new result }
+    {
+        if !keep(&mut self.bytes, piece) {
+            return self.verdict;
+        }
+        self.verdict = verdict_behind(self.verdict, self.bytes.as_slice());
+        self.verdict
+    }
+
+    /// Pushes the pieces in order, and answers the last verdict, or the present one where there are none.
+    pub fn push_all(&mut self, pieces: &[&[u8]]) -> Verdict
+        ensures kept { self.new ≡ head FRONT (self.old ++ concat (map (λ piece. piece.now) pieces.now)) }
+        ensures verdict { IsVerdict self.new result }
+        ensures lasts { Lasts self.new result }
+    {
+        let mut verdict = self.verdict;
+        for piece in pieces {
+            verdict = self.push(piece);
+        }
+        verdict
+    }
+
+    /// The verdict of the bytes that are kept.
+    pub fn verdict(&self) -> Verdict
+        ensures verdict { IsVerdict self.now result }
+        ensures lasts { Lasts self.now result }
+    {
+        self.verdict
+    }
+
+    /// The first 8192 bytes of all that was pushed, or all where these are fewer.
+    pub fn kept(&self) -> &[u8]
+        ensures { result.now ≡ self.now }
+    {
+        self.bytes.as_slice()
+    }
+}
+
+// Adds of the piece as many bytes as are looked at, and tells whether it added any.
+fn keep<A: Allocator>(bytes: &mut Vec<u8, A>, piece: &[u8]) -> bool
+    requires room { FRONT ≤ vec_capacity bytes.old }
+    requires few { vec_len bytes.old ≤ FRONT }
+    ensures front { bytes.new.items ≡ head FRONT (bytes.old.items ++ piece.now) }
+    ensures grows { (added : List ℕ) × (bytes.new.items ≡ bytes.old.items ++ added) }
+    ensures room { FRONT ≤ vec_capacity bytes.new }
+    ensures none { OnFalse result (bytes.new.items ≡ bytes.old.items) }
+{
+    let count = cmp::min(piece.len(), FRONT - bytes.len());
+    if count == 0 {
+        return false;
+    }
+    // The room is there, so this takes no memory.
+    let _ = bytes.extend_from_slice(&piece[..count]);
+    true
+}

@@ -1,0 +1,225 @@
+//! Verdicts on worked streams.
+use crate::{Sniffer, Verdict};
+use linked_list_allocator::LocalHeap;
+use std::alloc::{AllocError, Allocator, Global};
+use std::test::Fail;
+
+/// Whether the verdict is final, and the extension of its type, empty where it has none.
+fn told(verdict: Verdict) -> (bool, &'static str) {
+    let (is_final, answer) = match verdict {
+        Verdict::SoFar(answer) => (false, answer),
+        Verdict::Final(answer) => (true, answer),
+    };
+    (is_final, answer.map_or("", |found| found.extension()))
+}
+
+/// A buffer of `len` bytes, each of them `fill` but for the texts at their places, which ascend.
+fn filled_but(
+    alloc: Global,
+    fill: u8,
+    len: usize,
+    texts: &[(usize, &[u8])],
+) -> Result<Vec<u8>, AllocError> {
+    let mut buf = Vec::new(alloc);
+    for (place, text) in texts {
+        buf.resize(*place, fill)?;
+        buf.extend_from_slice(*text)?;
+    }
+    buf.resize(len, fill)?;
+    Ok(buf)
+}
+
+/// The verdict of the pieces, one behind the other, on a new sniffer.
+fn judged<A: Allocator>(alloc: A, pieces: &[&[u8]]) -> Result<(bool, &'static str), AllocError> {
+    let mut sniffer = Sniffer::new(alloc)?;
+    Ok(told(sniffer.push_all(pieces)))
+}
+
+/// "<P>" and spaces up to 261 bytes, of which the last four are "usta".
+fn page(alloc: Global) -> Result<Vec<u8>, AllocError> {
+    filled_but(alloc, b' ', 261, &[(0, b"<P>"), (257, b"usta")])
+}
+
+#[test]
+fn a_page_becomes_an_archive(rt: HostRuntime) -> Result<(), Fail> {
+    let page = page(rt.alloc())?;
+    let zeros = [0; 762];
+    let mut sniffer = Sniffer::new(rt.alloc())?;
+    assert!(rt; sniffer.kept().is_empty());
+    assert_eq!(rt; told(sniffer.verdict()), (false, ""));
+    assert_eq!(rt; told(sniffer.push_all(&[])), (false, ""));
+    assert_eq!(rt; told(sniffer.push(page.as_slice())), (false, "html"));
+    assert_eq!(rt; told(sniffer.push(b"r")), (false, "tar"));
+    assert_eq!(rt; told(sniffer.push(&zeros)), (true, "tar"));
+    assert_eq!(rt; told(sniffer.push(b"%PDF")), (true, "tar"));
+    assert_eq!(rt; told(sniffer.push_all(&[])), (true, "tar"));
+    assert_eq!(rt; told(sniffer.verdict()), (true, "tar"));
+    assert_eq!(rt; sniffer.kept().len(), 1028);
+    assert!(rt; sniffer.kept().ends_with(b"\0\0\0%PDF"));
+    let pieces = [page.as_slice(), b"r", zeros.as_slice()];
+    assert_eq!(rt; judged(rt.alloc(), &pieces)?, (true, "tar"));
+    Ok(())
+}
+
+#[test]
+fn white_space_stays_open(rt: HostRuntime) -> Result<(), Fail> {
+    let spaces = [b' '; 8192];
+    assert_eq!(rt; judged(rt.alloc(), &[&spaces[..1024]])?, (false, ""));
+    assert_eq!(rt;
+        judged(rt.alloc(), &[&spaces[..1024], b"<P>"])?,
+        (true, "html")
+    );
+    let mut sniffer = Sniffer::new(rt.alloc())?;
+    assert_eq!(rt; told(sniffer.push(&spaces)), (false, ""));
+    assert_eq!(rt; told(sniffer.push(b"<P>")), (false, ""));
+    assert!(rt; sniffer.kept() == spaces.as_slice());
+    Ok(())
+}
+
+const COMPOUND: &[u8] = b"\xD0\xCF\x11\xE0\xA1\xB1\x1A\xE1";
+
+const ZIP: &[u8] = b"PK\x03\x04";
+
+const FRAME: &[u8] = b"\x50\x2A\x4D\x18\xF8\x03\0\0";
+
+fn compound(alloc: Global, id: &[u8]) -> Result<Vec<u8>, AllocError> {
+    let texts: [(usize, &[u8]); 5] = [
+        (0, COMPOUND),
+        (26, b"\x03\0\xFE\xFF\x09"),
+        (48, b"\x01"),
+        (1090, b"\x05"),
+        (1104, id),
+    ];
+    filled_but(alloc, 0, 1152, &texts)
+}
+
+fn office(alloc: Global, folder: &[u8]) -> Result<Vec<u8>, AllocError> {
+    let texts: [(usize, &[u8]); 7] = [
+        (0, ZIP),
+        (30, b"[Content_Types].xml"),
+        (1049, ZIP),
+        (1079, ZIP),
+        (1109, folder),
+        (1135, ZIP),
+        (1165, folder),
+    ];
+    filled_but(alloc, 0, 1165 + folder.len(), &texts)
+}
+
+/// A buffer for each of the twelve types that more than 1024 bytes can decide, with the extension of its first 1024
+/// bytes and its own.
+fn late(alloc: Global) -> Result<[(Vec<u8>, &'static str, &'static str); 12], AllocError> {
+    let word = b"\x06\x09\x02\0\0\0\0\0\xC0\0\0\0\0\0\0\x46";
+    let excel = b"\x10\x08\x02\0\0\0\0\0\xC0\0\0\0\0\0\0\x46";
+    let powerpoint = b"\x10\x8D\x81\x64\x9B\x4F\xCF\x11\x86\xEA\0\xAA\0\xB9\x29\xE8";
+    Ok([
+        (
+            filled_but(alloc, 0, 1028, &[(0, b"\0\0\x04\x04ftypheic")])?,
+            "",
+            "heif",
+        ),
+        (
+            filled_but(alloc, 0, 1028, &[(0, b"\0\0\x04\x04ftypavif")])?,
+            "",
+            "avif",
+        ),
+        (compound(alloc, word)?, "msi", "doc"),
+        (compound(alloc, excel)?, "msi", "xls"),
+        (compound(alloc, powerpoint)?, "msi", "ppt"),
+        (office(alloc, b"word/")?, "zip", "docx"),
+        (office(alloc, b"xl/")?, "zip", "xlsx"),
+        (office(alloc, b"ppt/")?, "zip", "pptx"),
+        (
+            filled_but(alloc, 0, 1028, &[(0, FRAME), (1024, b"\x28\xB5\x2F\xFD")])?,
+            "",
+            "zst",
+        ),
+        (
+            filled_but(alloc, 0, 1028, &[(0, FRAME), (1024, b"\x04\x22\x4D\x18")])?,
+            "",
+            "lz4",
+        ),
+        (
+            filled_but(alloc, b' ', 1027, &[(1024, b"<P>")])?,
+            "",
+            "html",
+        ),
+        (
+            filled_but(alloc, b' ', 1029, &[(1024, b"<?xml")])?,
+            "",
+            "xml",
+        ),
+    ])
+}
+
+#[test]
+fn the_twelve_come_late(rt: HostRuntime) -> Result<(), Fail> {
+    for (buf, early, own) in &late(rt.alloc())? {
+        let (front, rest) = buf.as_slice().split_at(buf.len().min(1024));
+        assert_eq!(rt; judged(rt.alloc(), &[front])?, (false, *early), "{own}");
+        assert_eq!(rt; judged(rt.alloc(), &[front, rest])?, (true, *own));
+    }
+    Ok(())
+}
+
+#[test]
+fn a_cut_changes_nothing(rt: HostRuntime) -> Result<(), Fail> {
+    let heif = filled_but(rt.alloc(), 0, 1028, &[(0, b"\0\0\x04\x04ftypheic")])?;
+    let tar = filled_but(
+        rt.alloc(),
+        0,
+        1024,
+        &[(0, page(rt.alloc())?.as_slice()), (261, b"r")],
+    )?;
+    let word = b"\x06\x09\x02\0\0\0\0\0\xC0\0\0\0\0\0\0\x46";
+    let texts: [(usize, &[u8]); 4] = [
+        (0, COMPOUND),
+        (26, b"\x03\0\xFE\xFF\x09"),
+        (578, b"\x05"),
+        (592, word),
+    ];
+    let doc = filled_but(rt.alloc(), 0, 640, &texts)?;
+    let cases = [
+        (heif.as_slice(), (true, "heif")),
+        (tar.as_slice(), (true, "tar")),
+        (doc.as_slice(), (false, "doc")),
+    ];
+    for (buf, expected) in cases {
+        for cut in 0..=buf.len() {
+            let (front, rest) = buf.split_at(cut);
+            assert_eq!(rt;
+                judged(rt.alloc(), &[front, rest])?,
+                expected,
+                "cut at {cut}"
+            );
+        }
+    }
+    Ok(())
+}
+
+#[test]
+fn memory_is_taken_once(rt: HostRuntime) -> Result<(), Fail> {
+    assert!(rt; Sniffer::new(&LocalHeap::new(rt.alloc(), 4096)?).is_err());
+    // Nothing is left beside what the sniffer reserved.
+    let heap = LocalHeap::new(rt.alloc(), 8192)?;
+    let mut sniffer = Sniffer::new(&heap)?;
+    assert!(rt; Vec::<u8, _>::with_capacity(&heap, 1).is_err());
+    assert_eq!(rt; told(sniffer.push(&[0; 9000])), (true, ""));
+    assert_eq!(rt; sniffer.kept().len(), 8192);
+    Ok(())
+}
+
+#[test]
+fn verdicts_print(rt: HostRuntime) -> Result<(), Fail> {
+    let mut sniffer = Sniffer::new(rt.alloc())?;
+    assert_eq!(rt;
+        format!(in rt.alloc(); "{:?}", sniffer.verdict())?.as_str(),
+        "SoFar(None)"
+    );
+    let verdict = sniffer.push(&[0; 1024]);
+    assert_eq!(rt;
+        format!(in rt.alloc(); "{verdict:?}")?.as_str(),
+        "Final(None)"
+    );
+    Ok(())
+}

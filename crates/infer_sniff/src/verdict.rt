@@ -1,0 +1,60 @@
+//! What is said of the bytes so far.
+ghost use Rattle.std.specs.Prelude.{◌↔◌, IsTrue};
+ghost use Rattle.infer_sniff.specs.Verdicts.{Begins, IsSettled, IsTypeOf, IsVerdict, Lasts};
+
+use crate::case::Case;
+use infer::{Type, get, laws};
+
+// Every row but twelve is decided by so many bytes.
+const LEAST: usize = 1024;
+
+/// What the bytes so far tell: the type that [`infer::get`] answers for them.
+#[derive(Clone, Copy, Debug)]
+pub enum Verdict {
+    /// More bytes may change the type.
+    SoFar(Option<Type>),
+    /// No bytes behind those so far change the type.
+    Final(Option<Type>),
+}
+
+/// The verdict of `buf`.
+pub fn verdict_of(buf: &[u8]) -> Verdict
+    ensures verdict { IsVerdict buf.now result }
+    ensures lasts { Lasts buf.now result }
+{
+    laws::growth();
+    laws::near();
+    let answer = get(buf);
+    if is_settled(buf, answer) {
+        Verdict::Final(answer)
+    } else {
+        Verdict::SoFar(answer)
+    }
+}
+
+/// The verdict of `buf`, where `before` is that of a beginning. A final one stays.
+pub fn verdict_behind(before: Verdict, buf: &[u8]) -> Verdict
+    requires { Begins before buf.now }
+    ensures verdict { IsVerdict buf.now result }
+    ensures lasts { Lasts buf.now result }
+{
+    match before {
+        Verdict::SoFar(_) => verdict_of(buf),
+        Verdict::Final(_) => before,
+    }
+}
+
+// Whether nothing behind `buf` can change its answer.
+fn is_settled(buf: &[u8], answer: Option<Type>) -> bool
+    requires { IsTypeOf buf.now answer }
+    ensures { IsTrue result ↔ IsSettled buf.now }
+{
+    if buf.len() < LEAST {
+        return false;
+    }
+    match (Case::of(buf), answer) {
+        (None, _) => true,
+        (Some(_), None) => false,
+        (Some(case), Some(found)) => !case.is_before(found),
+    }
+}
