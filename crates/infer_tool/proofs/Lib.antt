@@ -1,3 +1,4 @@
 pub mod ReportLemmas
 pub mod RunLemmas
+pub mod SniffLemmas
 pub mod SampleLemmas

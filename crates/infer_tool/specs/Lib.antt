@@ -4,3 +4,4 @@ pub mod Report
 pub mod Sample
 pub mod Run
 pub mod Limit
+pub mod Sniffed

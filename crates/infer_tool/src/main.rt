@@ -15,6 +15,7 @@ mod limit;
 mod outcome;
 mod report;
 mod sample;
+mod sniffed;
 #[cfg(test)]
 mod tests;
 

@@ -9,6 +9,7 @@ ghost use Rattle.infer_tool.specs.Report.{Reports, ReportsTheOne};
 ghost use Rattle.infer_tool.specs.Run.{ReportsSome};
 
 use crate::outcome::Outcome;
+use crate::sniffed::sniffed;
 use infer::{Fault, Infer, Type, Watched};
 use std::alloc::Allocator;
 use std::io::{Read, Write};
@@ -49,7 +50,7 @@ pub fn report<W: Write, E: Write>(
     }
 }
 
-/// Reads at most 8192 bytes, and reports what they are.
+/// Reads at most 8192 bytes, and reports what they are. No read follows one behind which the type is final.
 ///
 /// It promises the line, and nothing of what the reader keeps.
 pub fn run_reader<A: Allocator, R: Read + Drop, W: Write, E: Write>(
@@ -63,7 +64,7 @@ pub fn run_reader<A: Allocator, R: Read + Drop, W: Write, E: Write>(
         ReportsTheOne result name.now (IsAnswer (Accepts (head FRONT s)) table) (W.contents out.old) (W.contents out.new)) }
     ensures silent { result ≢ Outcome.Failed → err.new ≡ err.old }
 {
-    run_reader_within(alloc, name, reader, FRONT, out, err)
+    report(name, sniffed(alloc, reader), out, err)
 }
 
 /// The same with `n` bytes in place of 8192.

@@ -49,20 +49,55 @@ fn outcomes(rt: HostRuntime) -> Result<(), Fail> {
 }
 
 #[test]
-fn a_byte_a_read(rt: HostRuntime) -> Result<(), Fail> {
-    let mut bytes = vec![in rt.alloc(); 0u8; 8193]?;
-    bytes[0] = 0xFF;
-    bytes[1] = 0xD8;
-    bytes[2] = 0xFF;
-    for piece in [1, 7, 8191, 8192, 9000] {
+fn no_more_than_the_front(rt: HostRuntime) -> Result<(), Fail> {
+    let mut bytes = vec![in rt.alloc(); b' '; 8190]?;
+    bytes.extend_from_slice(b"<P>")?;
+    for piece in [1, 7, 1024, 8191, 8192, 9000] {
         let mut reader = PieceReader::new(bytes.as_slice(), piece);
         let (outcome, out, err) = written(rt.alloc(), &mut reader);
-        assert_eq!(rt; outcome.status(), 0, "{piece} bytes a read");
-        assert_eq!(rt; out.as_slice(), b"-: image/jpeg jpg\n".as_slice());
+        assert_eq!(rt; outcome.status(), 1, "{piece} bytes a read");
+        assert_eq!(rt; out.as_slice(), b"-: unknown\n".as_slice());
         assert!(rt; err.is_empty());
         assert_eq!(rt; reader.rest.len(), 1, "{piece} bytes a read");
     }
     Ok(())
+}
+
+/// FF D8 FF and zeros, which no byte behind the first 1024 turns into another type.
+fn settled_image() -> [u8; 2000] {
+    let mut image = [0; 2000];
+    image[..3].copy_from_slice(&JPEG[..3]);
+    image
+}
+
+#[test]
+fn no_read_behind_a_final_type(rt: HostRuntime) {
+    let image = settled_image();
+    for (piece, reads) in [(1, 1024), (64, 16), (1000, 2), (2000, 1)] {
+        let mut reader = PieceReader::new(&image, piece);
+        let (outcome, out, err) = written(rt.alloc(), &mut reader);
+        assert_eq!(rt; outcome.status(), 0, "{piece} bytes a read");
+        assert_eq!(rt; out.as_slice(), b"-: image/jpeg jpg\n".as_slice());
+        assert!(rt; err.is_empty());
+        assert_eq!(rt; reader.reads, reads, "{piece} bytes a read");
+        assert!(rt; reader.rest.len() <= 976, "{piece} bytes a read");
+        assert!(rt; piece != 1 || reader.rest.len() == 976);
+    }
+}
+
+#[test]
+fn only_a_final_type_outlives_an_error(rt: HostRuntime) {
+    let image = settled_image();
+    let mut reader = PieceReader::failing(&image, 1, 1024, ErrorKind::Interrupted);
+    let (outcome, out, err) = written(rt.alloc(), &mut reader);
+    assert_eq!(rt; outcome.status(), 0);
+    assert_eq!(rt; out.as_slice(), b"-: image/jpeg jpg\n".as_slice());
+    assert!(rt; err.is_empty());
+    let mut reader = PieceReader::failing(&image, 1, 1023, ErrorKind::Interrupted);
+    let (outcome, out, err) = written(rt.alloc(), &mut reader);
+    assert_eq!(rt; outcome.status(), 2);
+    assert!(rt; out.is_empty());
+    assert_eq!(rt; err.as_slice(), b"-: cannot read\n".as_slice());
 }
 
 /// Zstandard's magic number behind so many empty frames.
