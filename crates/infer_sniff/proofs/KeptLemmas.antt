@@ -1,5 +1,5 @@
 -- The first bytes of pieces that come one behind the other.
-use Rattle.std.proofs.Common.{◌≡◌, ℕ, ◌+◌, ◌-◌, ◌<◌, ◌≤◌, List, [], ◌∷◌, ◌++◌, length, get_or, map, take, min, sym, ap, ◌∙◌, arith, inl, inr}
+use Rattle.std.proofs.Common.{◌≡◌, ℕ, ◌+◌, ◌-◌, ◌<◌, ◌≤◌, List, [], ◌∷◌, ◌++◌, length, get_or, map, take, min, sym, ap, ◌∙◌, arith, inl, inr, length-append, length-take}
 use Rattle.std.proofs.Math.Seq.{take-append-add}
 use Rattle.std.proofs.lemmas.Bool.{cases_lt}
 use Rattle.std.proofs.lemmas.List.{length-take-le, take-append-le, append_assoc, append-nil, map-append, take_all, take_min, take_more}
@@ -47,3 +47,9 @@ front_more n i bytes kept new pieces d lt before now =
 
 pub front_alone : (n : ℕ) (bytes : List ℕ) → length bytes ≤ n → bytes ≡ take n (bytes ++ [])
 front_alone n bytes few = sym (ap (take n) (append-nil bytes) ∙ take_all n bytes few)
+
+-- a piece of some bytes leaves less room
+pub front_grows : (new bytes piece : List ℕ) → new ≡ take 8192 (bytes ++ piece) → length bytes < 8192 → 0 < length piece
+    → 8192 - length new < 8192 - length bytes
+front_grows new bytes piece e room some =
+    omega (arith, ap length e, length-take 8192 (bytes ++ piece), length-append bytes piece)

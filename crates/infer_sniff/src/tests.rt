@@ -1,7 +1,9 @@
 //! Verdicts on worked streams.
 use crate::{Sniffer, Verdict};
+use infer::Type;
 use linked_list_allocator::LocalHeap;
 use std::alloc::{AllocError, Allocator, Global};
+use std::io::{self, Read};
 use std::test::Fail;
 
 /// Whether the verdict is final, and the extension of its type, empty where it has none.
@@ -73,6 +75,36 @@ fn white_space_stays_open(rt: HostRuntime) -> Result<(), Fail> {
     assert_eq!(rt; told(sniffer.push(&spaces)), (false, ""));
     assert_eq!(rt; told(sniffer.push(b"<P>")), (false, ""));
     assert!(rt; sniffer.kept() == spaces.as_slice());
+    Ok(())
+}
+
+/// The type of what a reader gives, of which no more is read than it takes to know it.
+fn label<A: Allocator, R: Read>(alloc: A, reader: &mut R) -> io::Result<Option<Type>> {
+    let mut sniffer = Sniffer::new(alloc)?;
+    let mut piece = [0; 1024];
+    let mut label = None;
+    while sniffer.kept().len() < 8192 {
+        let count = reader.read(&mut piece)?;
+        match sniffer.push(&piece[..count]) {
+            Verdict::Final(found) => return Ok(found),
+            Verdict::SoFar(found) => label = found,
+        }
+        if count == 0 {
+            break;
+        }
+    }
+    Ok(label)
+}
+
+#[test]
+fn a_label_is_read_no_further(rt: HostRuntime) -> Result<(), Fail> {
+    let zeros = [0; 5000];
+    let mut reader = zeros.as_slice();
+    assert!(rt; label(rt.alloc(), &mut reader)?.is_none());
+    assert_eq!(rt; reader.len(), 5000 - 1024);
+    let mut image = b"\xFF\xD8\xFF".as_slice();
+    let found = label(rt.alloc(), &mut image)?;
+    assert_eq!(rt; found.map_or("", |found| found.extension()), "jpg");
     Ok(())
 }
 
