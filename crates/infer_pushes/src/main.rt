@@ -1,4 +1,4 @@
-//! Pushes standard input in pieces of a stated length, and prints the verdict.
+//! Pushes standard input into a sniffer in pieces of a stated length, and prints the verdict.
 #![tactic(auto)]
 
 use anyhow::{Context, Result};
@@ -8,23 +8,23 @@ use std::env;
 use std::io::Read;
 use std::rt::Env;
 
-/// The verdict behind all pieces of `input`.
+/// The verdict behind all pieces of `input`, of which each has at least one byte.
 fn verdict_of<A: Allocator>(alloc: A, input: &[u8], length: usize) -> Result<Verdict> {
     let mut sniffer = Sniffer::new(alloc)?;
-    if length > 0 {
-        for piece in input.chunks(length) {
-            sniffer.push(piece);
-        }
+    for piece in input.chunks(length.max(1)) {
+        sniffer.push(piece);
     }
     Ok(sniffer.verdict())
 }
 
 fn run<R: Env + AllocGlobal + Print, I: Read + Drop>(rt: &R, mut input: I) -> Result<()> {
-    let length = env::args(rt)?.nth(1).context("no length of a piece")?;
+    let length = env::args(rt)?
+        .nth(1)
+        .context("the length of a piece is missing")?;
     let length = length
         .as_str()
         .parse::<usize>()
-        .context("a length of a piece")?;
+        .context("the length of a piece is no number")?;
     let mut bytes = Vec::new(rt.alloc());
     input.read_to_end(&mut bytes)?;
     let verdict = verdict_of(rt.alloc(), bytes.as_slice(), length)?;

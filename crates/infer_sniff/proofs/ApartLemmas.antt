@@ -69,7 +69,7 @@ IsOffice-apart b v w differ in_v in_w (p, d, o) (q, e, k) =
 -- ---- data behind frames
 
 -- the first byte of a frame
-abbrev pub IsFrameByte : ℕ → Type 0
+abbrev IsFrameByte : ℕ → Type 0
 IsFrameByte x = (0x50 ≤ x) × (x ≤ 0x5F)
 
 IsFrame-begin : WordsBegin IsFrame IsFrameByte

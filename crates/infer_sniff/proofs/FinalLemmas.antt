@@ -54,7 +54,7 @@ first_by : (buf : List ℕ) (o : Option ℕ) (i : ℕ)
 first_by buf None i none lt h = none i some_row (omega arith) lt h
 first_by buf (Some j) i first lt h = elim (cases_lt i j) [ inl l ↦ absurd (first.before i some_row (omega arith) l h) | inr le ↦ le ]
 
--- the first row of a buffer is one
+-- two first rows of a buffer are the same
 same_first : (buf : List ℕ) (o p : Option ℕ) → IsFirstOf (Accepts buf) table o → IsFirstOf (Accepts buf) table p → IsNotLater o p
 same_first buf o None first then = tt
 same_first buf o (Some i) first then = first_by buf o i first then.within (then.here some_row)
@@ -66,7 +66,7 @@ later None (Some j) (Some n) h k = h
 later (Some i) None (Some n) h k = absurd k
 later (Some i) (Some j) (Some n) h k = omega arith
 
--- a buffer of 1024 bytes is settled by the case that holds and has the least bound
+-- a buffer of at least 1024 bytes is settled by the case that holds and has the least bound
 module _ (b : List ℕ) (long : 1024 ≤ length b) (case : Case) (holds : Holds case b) (least : (other : Case) → Holds other b → bound case ≤ bound other) where
   settled_within : (o : Option ℕ) → IsFirstOf (Accepts b) table o → IsNotLater o (Some (bound case)) → IsSettled b
   settled_within o first h = record {

@@ -16,8 +16,8 @@ front_of_both n m bytes piece fits is =
     ap (λ k. bytes ++ take k piece) (let e : m ≡ min room (length piece) = omega arith in e)
     ∙ ap (λ u. bytes ++ u) (take_min room piece) ∙ sym (take-append-add bytes piece room) ∙ ap (λ k. take k (bytes ++ piece)) whole
 
--- of a front and what follows the front is that of the whole
-pub front_again : (n : ℕ) (bytes piece : List ℕ) → take n (take n bytes ++ piece) ≡ take n (bytes ++ piece)
+-- the front of a front and what follows is that of the whole
+front_again : (n : ℕ) (bytes piece : List ℕ) → take n (take n bytes ++ piece) ≡ take n (bytes ++ piece)
 front_again n bytes piece = elim (cases_lt n (length bytes)) [
   | inl l ↦
       let long = length-take-le n bytes (omega arith) in
@@ -53,3 +53,8 @@ pub front_grows : (new bytes piece : List ℕ) → new ≡ take 8192 (bytes ++ p
     → 8192 - length new < 8192 - length bytes
 front_grows new bytes piece e room some =
     omega (arith, ap length e, length-take 8192 (bytes ++ piece), length-append bytes piece)
+
+-- what grows bytes that grow others grows these
+pub grown_more : (bytes kept new : List ℕ) → (added : List ℕ) × (kept ≡ bytes ++ added) → (added : List ℕ) × (new ≡ kept ++ added)
+    → (added : List ℕ) × (new ≡ bytes ++ added)
+grown_more bytes kept new (added, before) (more, now) = (added ++ more, now ∙ ap (λ u. u ++ more) before ∙ append_assoc bytes added more)

@@ -35,10 +35,6 @@ pub OccursAt-agree : (b v w : List ℕ) (p i : ℕ)
     → OccursAt b v p → OccursAt b w p → i < length v → i < length w → get_or v i 0 ≡ get_or w i 0
 OccursAt-agree b v w p i o k in_v in_w = sym (o.reads i in_v) ∙ k.reads i in_w
 
--- the byte at its place is its first
-pub OccursAt-first : (b text : List ℕ) (p : ℕ) → 0 < length text → OccursAt b text p → get_or b p 0 ≡ get_or text 0 0
-OccursAt-first b text p l o = ap (λ i. get_or b i 0) (let r : p ≡ p + 0 = omega arith in r) ∙ o.reads 0 l
-
 module _ (b more : List ℕ) where
   pub same_read : (i : ℕ) → i < length b → get_or (b ++ more) i 0 ≡ get_or b i 0
   same_read i l = get_or_append_left b more 0 i l

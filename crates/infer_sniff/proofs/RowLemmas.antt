@@ -1,4 +1,4 @@
--- Which rows only more bytes bring, and that no row comes before another that their case can bring.
+-- Which rows only more bytes bring, and that none comes while a row behind it, up to its case's last, is the answer.
 use Rattle.std.proofs.Common.{◌≡◌, ℕ, ◌-◌, ◌<◌, ◌≤◌, ◌⊎◌, Bool, true, false, ◌&&◌, ◌||◌, not, List, [], ◌++◌, length, get_or, refl, subst, inl, inr, Option, None, Some, arith, eqb, leb, ltb, suc, IsTrue}
 use Rattle.std.proofs.lemmas.Bool.{leb-true, or_cases}
 use Rattle.std.proofs.lemmas.Bool.Decides.{nat_tests}
@@ -145,7 +145,7 @@ module _ (b more : List ℕ) (long : 1024 ≤ length b) where
   arrives i {s} (comes n h) = has_rivals s i n
   arrives i unknown = false
 
-  -- row i is decided by 1024 bytes, or it comes in a case, where no row that comes before it can be the first
+  -- row i is decided by 1024 bytes, or it comes in a case, and then no row behind it up to the case's last is the answer
   abbrev is_right : ℕ → Bool
   is_right i = not (is_of_the_twelve i) || arrives i (arrival (signature_at i))
 

@@ -1,12 +1,12 @@
 -- The cases in which bytes behind a buffer can still bring a row that comes before its own.
 use Rattle.std.specs.Prelude.{ℕ, List, Option, Some, slice_index}
-use Rattle.infer.specs.Find.{OccursAt}
 use Rattle.infer.specs.Brands.{IsOpenBox}
 use Rattle.infer.specs.ClassId.{compound_header}
+use Rattle.infer.specs.Find.{OccursAt}
 use Rattle.infer.specs.Frames.{BeginsFrame}
-use Rattle.infer.specs.Office.{zip_header, HasOfficeName}
-use Rattle.infer.specs.MarkupText.{IsMark, IsWhite}
 use Rattle.infer.specs.Laws.{IsNotLater}
+use Rattle.infer.specs.MarkupText.{IsMark, IsWhite}
+use Rattle.infer.specs.Office.{zip_header, HasOfficeName}
 use Rattle.infer_sniff.specs.declared.case.Case.{Case}
 use Rattle.infer_sniff.specs.declared.case.Case.TheVariants.{OpenBox, Compound, Office, Frame, Space, Mark}
 

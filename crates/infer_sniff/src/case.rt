@@ -1,12 +1,12 @@
 //! What bytes behind a buffer can still bring.
 ghost use Rattle.std.specs.Prelude.{◌≡◌, ◌↔◌, ◌≤◌, List, ℕ, IsTrue, MatchOption, length, slice_index};
-ghost use Rattle.infer.specs.Triple.{triple_of};
-ghost use Rattle.infer.specs.Find.{OccursAt};
 ghost use Rattle.infer.specs.Brands.{IsOpenBox};
+ghost use Rattle.infer.specs.Find.{OccursAt};
 ghost use Rattle.infer.specs.Frames.{BeginsFrame};
+ghost use Rattle.infer.specs.MarkupText.{IsMark, IsWhite};
 ghost use Rattle.infer.specs.Numbers.{be32};
 ghost use Rattle.infer.specs.Office.{HasOfficeName};
-ghost use Rattle.infer.specs.MarkupText.{IsMark, IsWhite};
+ghost use Rattle.infer.specs.Triple.{triple_of};
 ghost use Rattle.infer_sniff.specs.Order.{order};
 
 use infer::{MatcherType, Type};
@@ -51,7 +51,7 @@ impl Case {
         }
     }
 
-    // Whether the extension is that of a row of the same class behind it.
+    // Whether the extension is that of a row behind this last one in its class.
     fn precedes(self, extension: &str) -> bool
         ensures { result ≡ precedes self extension.now }
     {

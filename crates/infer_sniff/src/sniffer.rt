@@ -1,9 +1,9 @@
 //! Bytes as they come.
-ghost use Rattle.std.specs.Prelude.{◌≡◌, ◌≤◌, ℕ, List, [], ◌++◌, IfOk, map, vec_capacity, vec_len};
+ghost use Rattle.std.specs.Prelude.{◌≡◌, ◌≤◌, ℕ, List, [], ◌++◌, IfOk, length, map, vec_capacity, vec_len};
 ghost use Rattle.std.specs.Bool.{OnFalse};
 ghost use Rattle.std.specs.List.{concat};
-ghost use Rattle.infer_sniff.specs.Sniffers.{IsSniffer};
 ghost use Rattle.infer.specs.Buffer.{head};
+ghost use Rattle.infer_sniff.specs.Sniffers.{IsSniffer};
 ghost use Rattle.infer_sniff.specs.Verdicts.{IsVerdict, Lasts};
 
 use crate::verdict::{Verdict, verdict_behind, verdict_of};
@@ -47,6 +47,7 @@ impl<A: Allocator> Sniffer<A> {
     /// It takes no memory and can't refuse.
     pub fn push(&mut self, piece: &[u8]) -> Verdict
         ensures kept { self.new ≡ head FRONT (self.old ++ piece.now) }
+        ensures grows { (added : List ℕ) × (self.new ≡ self.old ++ added) }
         ensures verdict { IsVerdict self.new result }
         ensures lasts { Lasts self.new result }
     {
@@ -60,6 +61,7 @@ impl<A: Allocator> Sniffer<A> {
     /// Pushes the pieces in order, and answers the last verdict, or the present one where there are none.
     pub fn push_all(&mut self, pieces: &[&[u8]]) -> Verdict
         ensures kept { self.new ≡ head FRONT (self.old ++ concat (map (λ piece. piece.now) pieces.now)) }
+        ensures grows { (added : List ℕ) × (self.new ≡ self.old ++ added) }
         ensures verdict { IsVerdict self.new result }
         ensures lasts { Lasts self.new result }
     {
@@ -80,13 +82,14 @@ impl<A: Allocator> Sniffer<A> {
 
     /// The first 8192 bytes of all that was pushed, or all where these are fewer.
     pub fn kept(&self) -> &[u8]
-        ensures { result.now ≡ self.now }
+        ensures bytes { result.now ≡ self.now }
+        ensures few { length result.now ≤ FRONT }
     {
         self.bytes.as_slice()
     }
 }
 
-// Adds of the piece as many bytes as are looked at, and tells whether it added any.
+// Adds as much of the piece as there is room for, and tells whether that was any.
 fn keep<A: Allocator>(bytes: &mut Vec<u8, A>, piece: &[u8]) -> bool
     requires room { FRONT ≤ vec_capacity bytes.old }
     requires few { vec_len bytes.old ≤ FRONT }

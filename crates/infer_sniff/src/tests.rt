@@ -15,7 +15,8 @@ fn told(verdict: Verdict) -> (bool, &'static str) {
     (is_final, answer.map_or("", |found| found.extension()))
 }
 
-/// A buffer of `len` bytes, each of them `fill` but for the texts at their places, which ascend.
+/// A buffer of `len` bytes, or of more where the texts go further, each `fill` but for the texts at their places,
+/// which ascend.
 fn filled_but(
     alloc: Global,
     fill: u8,
@@ -27,7 +28,7 @@ fn filled_but(
         buf.resize(*place, fill)?;
         buf.extend_from_slice(*text)?;
     }
-    buf.resize(len, fill)?;
+    buf.resize(len.max(buf.len()), fill)?;
     Ok(buf)
 }
 
@@ -52,7 +53,8 @@ fn a_page_becomes_an_archive(rt: HostRuntime) -> Result<(), Fail> {
     assert_eq!(rt; told(sniffer.push_all(&[])), (false, ""));
     assert_eq!(rt; told(sniffer.push(page.as_slice())), (false, "html"));
     assert_eq!(rt; told(sniffer.push(b"r")), (false, "tar"));
-    assert_eq!(rt; told(sniffer.push(&zeros)), (true, "tar"));
+    assert_eq!(rt; told(sniffer.push(&zeros[1..])), (false, "tar"));
+    assert_eq!(rt; told(sniffer.push(b"\0")), (true, "tar"));
     assert_eq!(rt; told(sniffer.push(b"%PDF")), (true, "tar"));
     assert_eq!(rt; told(sniffer.push_all(&[])), (true, "tar"));
     assert_eq!(rt; told(sniffer.verdict()), (true, "tar"));
@@ -78,7 +80,7 @@ fn white_space_stays_open(rt: HostRuntime) -> Result<(), Fail> {
     Ok(())
 }
 
-/// The type of what a reader gives, of which no more is read than it takes to know it.
+/// The type of what a reader gives, of which nothing is read once it is known.
 fn label<A: Allocator, R: Read>(alloc: A, reader: &mut R) -> io::Result<Option<Type>> {
     let mut sniffer = Sniffer::new(alloc)?;
     let mut piece = [0; 1024];
@@ -114,83 +116,93 @@ const ZIP: &[u8] = b"PK\x03\x04";
 
 const FRAME: &[u8] = b"\x50\x2A\x4D\x18\xF8\x03\0\0";
 
-fn compound(alloc: Global, id: &[u8]) -> Result<Vec<u8>, AllocError> {
-    let texts: [(usize, &[u8]); 5] = [
-        (0, COMPOUND),
-        (26, b"\x03\0\xFE\xFF\x09"),
-        (48, b"\x01"),
-        (1090, b"\x05"),
-        (1104, id),
-    ];
-    filled_but(alloc, 0, 1152, &texts)
+const WORD_ID: &[u8] = b"\x06\x09\x02\0\0\0\0\0\xC0\0\0\0\0\0\0\x46";
+
+const EXCEL_ID: &[u8] = b"\x10\x08\x02\0\0\0\0\0\xC0\0\0\0\0\0\0\x46";
+
+const POWERPOINT_ID: &[u8] = b"\x10\x8D\x81\x64\x9B\x4F\xCF\x11\x86\xEA\0\xAA\0\xB9\x29\xE8";
+
+/// A buffer that stays open up to its 1024th byte: what fills it, its texts, the extension of its first 1024 bytes
+/// and its own.
+type Late<'a> = (u8, &'a [(usize, &'a [u8])], &'static str, &'static str);
+
+/// A compound file whose root entry begins at 1024.
+macro_rules! compound {
+    ($id:expr) => {
+        &[
+            (0, COMPOUND),
+            (26, b"\x03\0\xFE\xFF\x09"),
+            (48, b"\x01"),
+            (1090, b"\x05"),
+            (1104, $id),
+            (1151, b"\0"),
+        ]
+    };
 }
 
-fn office(alloc: Global, folder: &[u8]) -> Result<Vec<u8>, AllocError> {
-    let texts: [(usize, &[u8]); 7] = [
-        (0, ZIP),
-        (30, b"[Content_Types].xml"),
-        (1049, ZIP),
-        (1079, ZIP),
-        (1109, folder),
-        (1135, ZIP),
-        (1165, folder),
-    ];
-    filled_but(alloc, 0, 1165 + folder.len(), &texts)
-}
-
-/// A buffer for each of the twelve types that more than 1024 bytes can decide, with the extension of its first 1024
-/// bytes and its own.
-fn late(alloc: Global) -> Result<[(Vec<u8>, &'static str, &'static str); 12], AllocError> {
-    let word = b"\x06\x09\x02\0\0\0\0\0\xC0\0\0\0\0\0\0\x46";
-    let excel = b"\x10\x08\x02\0\0\0\0\0\xC0\0\0\0\0\0\0\x46";
-    let powerpoint = b"\x10\x8D\x81\x64\x9B\x4F\xCF\x11\x86\xEA\0\xAA\0\xB9\x29\xE8";
-    Ok([
-        (
-            filled_but(alloc, 0, 1028, &[(0, b"\0\0\x04\x04ftypheic")])?,
-            "",
-            "heif",
-        ),
-        (
-            filled_but(alloc, 0, 1028, &[(0, b"\0\0\x04\x04ftypavif")])?,
-            "",
-            "avif",
-        ),
-        (compound(alloc, word)?, "msi", "doc"),
-        (compound(alloc, excel)?, "msi", "xls"),
-        (compound(alloc, powerpoint)?, "msi", "ppt"),
-        (office(alloc, b"word/")?, "zip", "docx"),
-        (office(alloc, b"xl/")?, "zip", "xlsx"),
-        (office(alloc, b"ppt/")?, "zip", "pptx"),
-        (
-            filled_but(alloc, 0, 1028, &[(0, FRAME), (1024, b"\x28\xB5\x2F\xFD")])?,
-            "",
-            "zst",
-        ),
-        (
-            filled_but(alloc, 0, 1028, &[(0, FRAME), (1024, b"\x04\x22\x4D\x18")])?,
-            "",
-            "lz4",
-        ),
-        (
-            filled_but(alloc, b' ', 1027, &[(1024, b"<P>")])?,
-            "",
-            "html",
-        ),
-        (
-            filled_but(alloc, b' ', 1029, &[(1024, b"<?xml")])?,
-            "",
-            "xml",
-        ),
-    ])
+/// A document of Office whose third header stands behind the 1024th byte.
+macro_rules! office {
+    ($folder:literal) => {
+        &[
+            (0, ZIP),
+            (30, b"[Content_Types].xml"),
+            (1049, ZIP),
+            (1079, ZIP),
+            (1109, $folder),
+            (1135, ZIP),
+            (1165, $folder),
+        ]
+    };
 }
 
 #[test]
 fn the_twelve_come_late(rt: HostRuntime) -> Result<(), Fail> {
-    for (buf, early, own) in &late(rt.alloc())? {
+    let cases: [Late; 12] = [
+        (
+            0,
+            &[(0, b"\0\0\x04\x04ftypheic"), (1027, b"\0")],
+            "",
+            "heif",
+        ),
+        (
+            0,
+            &[(0, b"\0\0\x04\x04ftypavif"), (1027, b"\0")],
+            "",
+            "avif",
+        ),
+        (0, compound!(WORD_ID), "msi", "doc"),
+        (0, compound!(EXCEL_ID), "msi", "xls"),
+        (0, compound!(POWERPOINT_ID), "msi", "ppt"),
+        (0, office!(b"word/"), "zip", "docx"),
+        (0, office!(b"xl/"), "zip", "xlsx"),
+        (0, office!(b"ppt/"), "zip", "pptx"),
+        (0, &[(0, FRAME), (1024, b"\x28\xB5\x2F\xFD")], "", "zst"),
+        (0, &[(0, FRAME), (1024, b"\x04\x22\x4D\x18")], "", "lz4"),
+        (b' ', &[(1024, b"<P>")], "", "html"),
+        (b' ', &[(1024, b"<?xml")], "", "xml"),
+    ];
+    for (fill, texts, early, own) in &cases {
+        let buf = filled_but(rt.alloc(), *fill, 0, *texts)?;
         let (front, rest) = buf.as_slice().split_at(buf.len().min(1024));
         assert_eq!(rt; judged(rt.alloc(), &[front])?, (false, *early), "{own}");
         assert_eq!(rt; judged(rt.alloc(), &[front, rest])?, (true, *own));
     }
+    Ok(())
+}
+
+#[test]
+fn marks_stay_open(rt: HostRuntime) -> Result<(), Fail> {
+    let marks = b"\xFE\xFF".repeat(rt.alloc(), 512)?;
+    let marks = marks.as_slice();
+    assert_eq!(rt; judged(rt.alloc(), &[marks])?, (false, ""));
+    assert_eq!(rt; judged(rt.alloc(), &[marks, b"<?xml"])?, (true, "xml"));
+    Ok(())
+}
+
+#[test]
+fn an_earlier_row_is_final_in_an_open_case(rt: HostRuntime) -> Result<(), Fail> {
+    let jpeg = filled_but(rt.alloc(), 0, 1024, &[(0, b"\xFF\xD8\xFF\0ftyp")])?;
+    assert_eq!(rt; judged(rt.alloc(), &[jpeg.as_slice()])?, (true, "jpg"));
     Ok(())
 }
 
@@ -203,12 +215,11 @@ fn a_cut_changes_nothing(rt: HostRuntime) -> Result<(), Fail> {
         1024,
         &[(0, page(rt.alloc())?.as_slice()), (261, b"r")],
     )?;
-    let word = b"\x06\x09\x02\0\0\0\0\0\xC0\0\0\0\0\0\0\x46";
     let texts: [(usize, &[u8]); 4] = [
         (0, COMPOUND),
         (26, b"\x03\0\xFE\xFF\x09"),
         (578, b"\x05"),
-        (592, word),
+        (592, WORD_ID),
     ];
     let doc = filled_but(rt.alloc(), 0, 640, &texts)?;
     let cases = [

@@ -5,7 +5,7 @@ ghost use Rattle.infer_sniff.specs.Verdicts.{Begins, IsSettled, IsTypeOf, IsVerd
 use crate::case::Case;
 use infer::{Type, get, laws};
 
-// Every row but twelve is decided by so many bytes.
+// So many bytes decide every row but twelve.
 const LEAST: usize = 1024;
 
 /// What the bytes so far tell: the type that [`infer::get`] answers for them.
@@ -32,7 +32,7 @@ pub fn verdict_of(buf: &[u8]) -> Verdict
     }
 }
 
-/// The verdict of `buf`, where `before` is that of a beginning. A final one stays.
+/// The verdict of `buf`, where `before` is that of a beginning of it. A final one is kept, and nothing is asked.
 pub fn verdict_behind(before: Verdict, buf: &[u8]) -> Verdict
     requires { Begins before buf.now }
     ensures verdict { IsVerdict buf.now result }

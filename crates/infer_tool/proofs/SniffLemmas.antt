@@ -35,14 +35,11 @@ module _ (left now : Option (List ℕ)) (before new buf rest : List ℕ) (n : �
     end = λ none. end none some;
   }
 
--- one more piece, and how many bytes there are then
+-- one more piece
 pub Consumes-pull : (given left now : Option (List ℕ)) (before kept : List ℕ) (n : ℕ)
     → Consumes given left before → Pulls left now before kept n → Consumes given now kept
 Consumes-pull given left now before kept n h p =
     subst (Consumes given now) (sym p.behind) (Consumes-trans given left now before p.piece h p.lost)
-
-pub length-pull : (left now : Option (List ℕ)) (before kept : List ℕ) (n : ℕ) → Pulls left now before kept n → length kept ≡ length before + n
-length-pull left now before kept n p = omega (arith, p.count, ap length p.behind, length-append before p.piece)
 
 -- the front of a stream that begins with the kept bytes
 front_behind : (kept rest : List ℕ) → length kept ≤ 8192 → take 8192 (kept ++ rest) ≡ kept ++ take (8192 - length kept) rest

@@ -1,6 +1,6 @@
-//! The type of an input, of which no more is read than it takes to know it.
-ghost use Rattle.std.specs.Prelude.{◌≡◌, ◌↔◌, ◌<◌, ◌≤◌, ◌++◌, ℕ, List, [], IfOk, IfSome, IsTrue, length};
-ghost use Rattle.std.specs.Io.KnownBytes.{Consumes, IsAtEnd};
+//! The type of an input, of which nothing is read once it is known.
+ghost use Rattle.std.specs.Prelude.{◌≡◌, ◌↔◌, ◌<◌, ◌≤◌, [], IfOk, IfSome, IsTrue, OnOk, length};
+ghost use Rattle.std.specs.Io.KnownBytes.{Consumes};
 ghost use Rattle.infer.specs.Buffer.{head};
 ghost use Rattle.infer_sniff.specs.Verdicts.{IsTypeOf};
 ghost use Rattle.infer_tool.specs.Sniffed.{IsOpen, Pulls, answer};
@@ -34,7 +34,9 @@ fn sniff<A: Allocator, R: Read>(
     reader: &mut R,
 ) -> io::Result<Option<Type>>
     requires { sniffer.old ≡ [] }
-    ensures { IfOk result (λ found. IfSome (R.remaining reader.old) (λ s. IsTypeOf (head FRONT s) found)) }
+    ensures answer { IfOk result (λ found. IfSome (R.remaining reader.old) (λ s. IsTypeOf (head FRONT s) found)) }
+    ensures taken { OnOk result (Consumes (R.remaining reader.old) (R.remaining reader.new) sniffer.new) }
+    ensures few { length sniffer.new ≤ FRONT }
 {
     let mut verdict = sniffer.verdict();
     while sniffer.kept().len() < FRONT && is_open(verdict) {

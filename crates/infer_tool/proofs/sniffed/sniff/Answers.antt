@@ -6,11 +6,11 @@ use Rattle.infer_tool.proofs.SniffLemmas.{Consumes-pull, front-from_kept}
 use Rattle.infer_tool.proofs.sniffed.sniff.Goals as goal
 use Rattle.infer_tool.proofs.sniffed.sniff.Goals.{then-loop-verdict-test+else-is_open, else-loop-verdict-test, then-loop-verdict-test+then-is_open+in_ok-count+then-count-eq0}
 
-pub returns : goal.returns
-returns g c =
+pub returns-clause-answer : goal.returns-clause-answer
+returns-clause-answer g c =
     let i = c.loop-verdict.invariant in
     let left = g.R.Read.remaining c.loop-verdict.reader in
-    let kept = ap length c.kept.ensures in
+    let kept = ap length c.kept.ensures.bytes in
     subst (λ a. IfSome (g.R.Read.remaining c.args.reader.now) (λ s. IsTypeOf (head 8192 s) a)) (sym c.answer_of.ensures)
     (elim c.loop-verdict-test.branch [
       | then-loop-verdict-test+else-is_open w ↦

@@ -1,5 +1,5 @@
--- what is kept is the front of the bytes before and the pieces so far, and the verdict is that of what is kept
-use Rattle.std.proofs.Common.{◌≡◌, ◌++◌, map, take}
+-- what is kept is the front of the bytes before and the pieces so far, and grows the bytes before, and the verdict is that of what is kept
+use Rattle.std.proofs.Common.{◌≡◌, ◌++◌, ℕ, List, map, take}
 use Rattle.std.specs.List.{concat}
 use Rattle.infer.specs.Buffer.{head}
 use Rattle.infer_sniff.specs.Verdicts.{IsVerdict, Lasts}
@@ -8,4 +8,4 @@ use Rattle.infer_sniff.proofs.sniffer.Sniffer.push_all.Given as goal
 abbrev pub invariant-loop-piece : goal.invariant-loop-piece
 invariant-loop-piece g l =
     (l.self ≡ head 8192 (l.initial.self ++ concat (map (λ piece. piece.now) (take l.piece-index l.pieces))))
-    × IsVerdict l.self l.verdict × Lasts l.self l.verdict
+    × ((added : List ℕ) × (l.self ≡ l.initial.self ++ added)) × IsVerdict l.self l.verdict × Lasts l.self l.verdict
