@@ -1,4 +1,4 @@
-//! `infer` for C: each function is the call below it, with its contract. `include/infer.h` declares and explains
+//! `infer` for C: each function is the call below it, with its contract. `c/infer.h` declares and explains
 //! them. A text from C is bytes: one that is not UTF-8 is no row's text.
 #![tactic(auto)]
 

@@ -13,7 +13,7 @@ pub record IsBoxed (b : List ℕ) : Type 0 where
   pub kind : OccursAt b (codes "ftyp") 4
   pub whole : box_length b ≤ length b
 
--- b begins with a box "ftyp" that states to be longer than b
+-- b begins with a box "ftyp" that states a length greater than b's
 pub record IsOpenBox (b : List ℕ) : Type 0 where
   pub kind : OccursAt b (codes "ftyp") 4
   pub longer : length b < box_length b

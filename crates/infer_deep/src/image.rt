@@ -9,7 +9,7 @@ use crate::places::stands_at;
 /// mif1 or msf1 and the compatible brand heic.
 ///
 /// The first four bytes state the length of the box, the highest first. Brands behind the box do not count, and
-/// neither does a box that states to be longer than `buf`.
+/// neither does a box that states a length greater than that of `buf`.
 #[inline(always)]
 pub fn is_heif(buf: &[u8]) -> bool
     ensures { IsTrue result ↔ IsHeif buf.now }

@@ -14,7 +14,7 @@ use infer::{MatcherType, Type};
 /// A case in which bytes behind a buffer can bring a row that comes before the buffer's own.
 #[derive(Clone, Copy)]
 pub enum Case {
-    /// The first box, "ftyp", states to be longer than the buffer, and its end decides about HEIF and AVIF.
+    /// The first box, "ftyp", states a length greater than the buffer's, and its end decides about HEIF and AVIF.
     OpenBox,
     /// A compound file, whose root entry tells Word, Excel and PowerPoint.
     Compound,
@@ -64,7 +64,7 @@ impl Case {
         }
     }
 
-    /// Of the cases that hold of `buf` one whose bound is the least.
+    /// Of the cases that hold of `buf` one whose bound is the least, and `None` where none holds.
     pub fn of(buf: &[u8]) -> Option<Case>
         ensures { MatchOption result ((case : Case) → ¬ Holds case buf.now)
             (λ case. Holds case buf.now × ((other : Case) → Holds other buf.now → bound case ≤ bound other)) }

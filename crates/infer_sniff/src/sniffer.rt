@@ -14,7 +14,7 @@ use std::marker::Model;
 // How many bytes are looked at.
 const FRONT: usize = 8192;
 
-/// The first 8192 bytes of an input, and the verdict of them.
+/// The first 8192 bytes of an input, and their verdict.
 ///
 /// A contract sees it as the list of the bytes that are kept.
 #[derive(Drop)]
@@ -44,7 +44,8 @@ impl<A: Allocator> Sniffer<A> {
 
     /// Adds a piece behind the bytes so far, of which the first 8192 are kept, and answers the verdict of these.
     ///
-    /// It takes no memory and can't refuse.
+    /// It takes no memory and cannot refuse. It costs a copy of what is kept of the piece and, as long as the verdict is
+    /// not final, one `get` of all that is kept.
     pub fn push(&mut self, piece: &[u8]) -> Verdict
         ensures kept { self.new ≡ head FRONT (self.old ++ piece.now) }
         ensures grows { (added : List ℕ) × (self.new ≡ self.old ++ added) }

@@ -80,7 +80,7 @@ fn white_space_stays_open(rt: HostRuntime) -> Result<(), Fail> {
     Ok(())
 }
 
-/// The type of what a reader gives, of which nothing is read once it is known.
+/// The type of what a reader gives, of which nothing is read once it is final.
 fn label<A: Allocator, R: Read>(alloc: A, reader: &mut R) -> io::Result<Option<Type>> {
     let mut sniffer = Sniffer::new(alloc)?;
     let mut piece = [0; 1024];

@@ -8,12 +8,12 @@ use infer::{Type, get, laws};
 // So many bytes decide every row but twelve.
 const LEAST: usize = 1024;
 
-/// What the bytes so far tell: the type that [`infer::get`] answers for them.
+/// What the bytes so far tell: the type that [`infer::get`] answers for them, and whether that is certain to stay.
 #[derive(Clone, Copy, Debug)]
 pub enum Verdict {
-    /// More bytes may change the type.
+    /// More bytes may change the type, or it is not known that none do.
     SoFar(Option<Type>),
-    /// No bytes behind those so far change the type.
+    /// No bytes behind those so far change the type, nor this verdict.
     Final(Option<Type>),
 }
 

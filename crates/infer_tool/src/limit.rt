@@ -4,7 +4,8 @@ ghost use Rattle.infer_tool.specs.Limit.{IsLimit};
 
 const MOST: usize = 65536;
 
-/// The number that the word writes with decimal digits alone, where it is from 1 to 65536.
+/// The number that the word writes with decimal digits alone, where it is from 1 to 65536, and `None` for every other
+/// word.
 pub fn limit_of(word: &str) -> Option<usize>
     ensures { MatchOption result ((n : ℕ) → ¬ IsLimit word.now n) (λ n. IsLimit word.now n) }
 {

@@ -36,13 +36,13 @@ const LIMITS: &[u8] = b"front must be 1 to 65536\n";
 // A line with the longest path of a system fits.
 const LINE_BUFFER: usize = 8192;
 
-/// Reports what each file is that a word names as its path, in the order of the words, also after a fault. Without
-/// words it reports what `input` is, under the name `-`.
+/// Reports the type of each file that a word names by its path, in the order of the words, also after a fault, and
+/// without words that of `input`, under the name `-`.
 ///
-/// Where the first word is `--front`, the second is the number of bytes to look at, from 1 to 65536, in place of
-/// 8192; the other words are paths. Where it is `--sample`, the sample of the type with the extension that the second word names is
-/// written instead, or the usage line where there is not exactly one word behind it. Only the first word can be an
-/// option. The outcome is the worst one.
+/// Only the first word can be an option. Behind `--front` stand the number of bytes to look at, from 1 to 65536 in
+/// place of 8192, and then paths, or none for `input`. Behind `--sample` stands one extension, and the sample of the
+/// first type with it is written instead. Where these words are wrong, `err` is told and nothing is read. The outcome
+/// is the worst one.
 pub fn run<R: Files, A: Allocator + Copy, I: Read + Drop, W: Write, E: Write>(
     rt: &R,
     alloc: A,

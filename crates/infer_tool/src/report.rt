@@ -15,7 +15,7 @@ use std::alloc::Allocator;
 use std::io::{Read, Write};
 use std::rt::Files;
 
-/// How many bytes of an input are looked at.
+/// How many bytes of an input are looked at, where no other limit is chosen.
 pub const FRONT: usize = 8192;
 
 /// Writes the line of an answer to `out`, or that of a fault to `err`. It is `Failed` where the answer is a
@@ -50,7 +50,7 @@ pub fn report<W: Write, E: Write>(
     }
 }
 
-/// Reads at most 8192 bytes, and reports what they are. No read follows one behind which the type is final.
+/// Reads at most 8192 bytes, and reports what they are. No read follows one after which the verdict is final.
 ///
 /// It promises the line, and nothing of what the reader keeps.
 pub fn run_reader<A: Allocator, R: Read + Drop, W: Write, E: Write>(
@@ -67,7 +67,7 @@ pub fn run_reader<A: Allocator, R: Read + Drop, W: Write, E: Write>(
     report(name, sniffed(alloc, reader), out, err)
 }
 
-/// The same with `n` bytes in place of 8192.
+/// Reads until it has `n` bytes or the input ends, and reports what they are.
 pub fn run_reader_within<A: Allocator, R: Read + Drop, W: Write, E: Write>(
     alloc: A,
     name: &str,
@@ -101,7 +101,7 @@ pub fn run_path<R: Files, A: Allocator, W: Write, E: Write>(
     run_path_within(rt, alloc, path, FRONT, out, err)
 }
 
-/// The same with `n` bytes in place of 8192.
+/// Reads at most `n` bytes of a file, and reports what they are, under its path.
 pub fn run_path_within<R: Files, A: Allocator, W: Write, E: Write>(
     rt: &R,
     alloc: A,

@@ -1,4 +1,4 @@
-//! The type of an input, of which nothing is read once it is known.
+//! The type of an input, of which nothing is read once it is final.
 ghost use Rattle.std.specs.Prelude.{◌≡◌, ◌↔◌, ◌<◌, ◌≤◌, [], IfOk, IfSome, IsTrue, OnOk, length};
 ghost use Rattle.std.specs.Io.KnownBytes.{Consumes};
 ghost use Rattle.infer.specs.Buffer.{head};
@@ -15,8 +15,8 @@ use std::io::{self, Read};
 // No verdict is final before so many bytes.
 const PIECE: usize = 1024;
 
-/// The type of the first 8192 bytes of a reader, or of all where it has fewer. No read follows one behind which the
-/// type is final.
+/// The type of the first 8192 bytes of a reader, or of all where it has fewer. No read follows one after which the
+/// verdict is final.
 pub fn sniffed<A: Allocator, R: Read + Drop>(alloc: A, mut reader: R) -> Result<Option<Type>, Fault>
     ensures { IfOk result (λ found. IfSome (R.remaining reader) (λ s. IsTypeOf (head FRONT s) found)) }
 {
