@@ -19,7 +19,7 @@ use Rattle.infer_sniff.proofs.RowLemmas.{signature_at, some_row, Answered, no_ne
 use Rattle.infer_sniff.specs.Cases.{Holds, bound}
 use Rattle.infer_sniff.specs.declared.case.Case.{Case}
 use Rattle.infer_sniff.specs.Order.{is_before}
-use Rattle.infer_sniff.specs.Verdicts.{Begins, IsTypeOf, IsSettled, IsVerdict, Lasts}
+use Rattle.infer_sniff.specs.Verdicts.{LastsFromBeginning, IsTypeOf, IsSettled, IsVerdict, Lasts}
 use Rattle.infer_sniff.specs.declared.verdict.Verdict.{Verdict}
 use Rattle.infer_sniff.specs.declared.verdict.Verdict.TheVariants.{SoFar, Final}
 
@@ -151,7 +151,7 @@ Final-lasts growth near b answer (settled, is) more =
     (stays, (settled_stays growth near b more settled (option_map triple_of answer) is, stays))
 
 -- what lasts from a beginning on lasts
-pub Lasts-on : (verdict : Verdict) (b : List ℕ) → Begins verdict b → Lasts b verdict
+pub Lasts-on : (verdict : Verdict) (b : List ℕ) → LastsFromBeginning verdict b → Lasts b verdict
 Lasts-on (SoFar answer) b h = tt
 Lasts-on (Final answer) b (short, more, e, lasts) = λ rest.
     let joined : b ++ rest ≡ short ++ (more ++ rest) = ap (λ u. u ++ rest) e ∙ append_assoc short more rest in

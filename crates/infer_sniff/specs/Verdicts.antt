@@ -29,5 +29,5 @@ Lasts b (SoFar answer) = Unit {0}
 Lasts b (Final answer) = (more : List ℕ) → IsTypeOf (b ++ more) answer × IsVerdict (b ++ more) (Final answer)
 
 -- the verdict lasts from a beginning of the buffer on
-abbrev pub Begins : Verdict → List ℕ → Type 0
-Begins verdict b = (short more : List ℕ) × (b ≡ short ++ more) × Lasts short verdict
+abbrev pub LastsFromBeginning : Verdict → List ℕ → Type 0
+LastsFromBeginning verdict b = (short more : List ℕ) × (b ≡ short ++ more) × Lasts short verdict

@@ -1,6 +1,6 @@
 //! What is said of the bytes so far.
 ghost use Rattle.std.specs.Prelude.{◌↔◌, IsTrue};
-ghost use Rattle.infer_sniff.specs.Verdicts.{Begins, IsSettled, IsTypeOf, IsVerdict, Lasts};
+ghost use Rattle.infer_sniff.specs.Verdicts.{LastsFromBeginning, IsSettled, IsTypeOf, IsVerdict, Lasts};
 
 use crate::case::Case;
 use infer::{Type, get, laws};
@@ -34,7 +34,7 @@ pub fn verdict_of(buf: &[u8]) -> Verdict
 
 /// The verdict of `buf`, where `before` is that of a beginning of it. A final one is kept, and nothing is asked.
 pub fn verdict_behind(before: Verdict, buf: &[u8]) -> Verdict
-    requires { Begins before buf.now }
+    requires { LastsFromBeginning before buf.now }
     ensures verdict { IsVerdict buf.now result }
     ensures lasts { Lasts buf.now result }
 {
