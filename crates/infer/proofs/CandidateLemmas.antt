@@ -42,9 +42,6 @@ later P i x xs (Some n) h first = (suc first.0, (let e = first.1 in omega arith)
 abbrev Stands : ℕ → List (Row BuiltIn) → Type 0
 Stands i xs = (k : ℕ) → slice_get table (i + k) ≡ slice_get xs k
 
-not_none : (x y : Row BuiltIn) → Some x ≡ Some y → x ≡ y
-not_none x y e = cc
-
 module _ (P : Row BuiltIn → Type 0) where
   of_row : (i : ℕ) (x : Row BuiltIn) → slice_get table i ≡ Some x → RowHas P i → P x
   of_row i x e h = subst (λ o. MatchOption o ⊥ P) e h

@@ -95,9 +95,6 @@ module _ {A : Type 0} (P : A → Type 0) (xs ys : List A) where
   pub HoldsAt-right : (i : ℕ) → HoldsAt P ys i → HoldsAt P (xs ++ ys) (length xs + i)
   HoldsAt-right i h = λ d. rw (get_or-append-add xs ys i d) (h d)
 
-  pub SomeHas-left : SomeHas P xs → SomeHas P (xs ++ ys)
-  SomeHas-left h = (h.0, omega (arith, h.1, length-append xs ys), HoldsAt-left h.0 h.1 h.2)
-
   pub SomeHas-right : SomeHas P ys → SomeHas P (xs ++ ys)
   SomeHas-right h = (length xs + h.0, omega (arith, h.1, length-append xs ys), HoldsAt-right h.0 h.2)
 

@@ -4,20 +4,13 @@ use Rattle.std.proofs.lemmas.List.{append_assoc, take_rest, take-append-drop, le
 use Rattle.infer_deep.specs.Numbers.{le32}
 use Rattle.infer_deep.specs.Signatures.{IsLasting}
 use Rattle.infer_deep.specs.Joined.{SkipsTo, NoneBegins, BeginsWith}
-use Rattle.infer_deep.proofs.PlaceLemmas.{OccursAt-append, OccursAt-first, OccursAt-front, OccursAt-begins, begins-from_OccursAt}
+use Rattle.infer_deep.proofs.PlaceLemmas.{OccursAt-first, OccursAt-front, OccursAt-begins, begins-from_OccursAt}
 use Rattle.infer_deep.proofs.NumberLemmas.{le32-append}
 use Rattle.infer_deep.proofs.JoinedLemmas.{IsPrefixFree, WordsBegin, same_fronts, SkipsTo-none, SkipsTo-same, SkipsTo-append, SkipsTo-lead, NoneBegins-first}
 use Rattle.infer_deep.specs.Frames.{BeginsFrame, IsFrame, IsFramed}
 use Rattle.memchr.specs.Find.{OccursAt}
 
--- what begins as a frame does begins so in front of anything, and back
-BeginsFrame-append : (b more : List ℕ) → 8 ≤ length b → BeginsFrame b → BeginsFrame (b ++ more)
-BeginsFrame-append b more l f =
-    let low = f.low in
-    let high = f.high in
-    let first = get_or_append_left b more 0 0 (omega arith) in
-    record { low = omega arith; high = omega arith; mark = OccursAt-append b more _ 1 f.mark }
-
+-- what begins as a frame in front of anything begins so by itself
 BeginsFrame-front : (b more : List ℕ) → 8 ≤ length b → BeginsFrame (b ++ more) → BeginsFrame b
 BeginsFrame-front b more l f =
     let low = f.low in
@@ -35,11 +28,6 @@ module _ (b word rest : List ℕ) (f : IsFrame word) (e : b ≡ word ++ rest) wh
 
   begun-length : length word ≡ 8 + le32 b 4
   begun-length = let s = f.sized in let g = size in omega arith
-
-  pub begun-frame : BeginsFrame b
-  begun-frame =
-      let s = f.sized in
-      subst BeginsFrame (sym e) (BeginsFrame-append word rest (omega arith) f.begins)
 
 IsFrame-prefix_free : IsPrefixFree IsFrame
 IsFrame-prefix_free v w x y f g e =
