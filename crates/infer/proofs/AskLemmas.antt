@@ -6,6 +6,7 @@ use Rattle.std.proofs.lemmas.List.Elements.{AllWithin-more}
 use Rattle.std.proofs.lemmas.List.Sums.{count_by-le-length, sum_by-cons, sum_by_more}
 use Rattle.infer.specs.Leads.{allows_first, candidates, candidates_of, places_from}
 use Rattle.infer.specs.Table.{table}
+use Rattle.infer.specs.declared.rows.TheConstants.{MOST_CANDIDATES, ROW_COUNT}
 use Rattle.infer.specs.Walks.{IsFirstAmong, count_asked, is_named, is_not_above}
 use Rattle.infer.proofs.ListLemmas.{HoldsAt-read}
 use Rattle.infer.proofs.TableLemmas.{length-table}
@@ -46,9 +47,9 @@ candidates-ascend : (f : ℕ) → Ascends (candidates f)
 unfolding candidates
 candidates-ascend f = ascends (λ r. allows_first r.signature f) table 0
 
-below : (f k d : ℕ) → k < length (candidates f) → get_or (candidates f) k d < 98
+below : (f k d : ℕ) → k < length (candidates f) → get_or (candidates f) k d < ROW_COUNT
 unfolding candidates
-below f k d l = (between (λ r. allows_first r.signature f) table 0 98 (omega (arith, length-table)) k d l).1
+below f k d l = (between (λ r. allows_first r.signature f) table 0 ROW_COUNT (omega (arith, length-table)) k d l).1
 
 -- ---- where it ends
 
@@ -124,9 +125,9 @@ pub candidates-nothing : (b : List ℕ) → None ≡ slice_get b 0 → candidate
 candidates-nothing [] e = refl
 candidates-nothing (x ∷ b) e = absurd (let y = e in cc)
 
-pub below_98 : (b : List ℕ) (rs : List ℕ) → rs ≡ candidates_of b → (k d : ℕ) → k < length rs → get_or rs k d < 98
-below_98 [] rs e k d l = absurd (let n = ap length e in omega arith)
-below_98 (f ∷ b) rs e k d l = subst (λ ns. get_or ns k d < 98) (sym e) (below f k d (let n = ap length e in omega arith))
+pub below_count : (b : List ℕ) (rs : List ℕ) → rs ≡ candidates_of b → (k d : ℕ) → k < length rs → get_or rs k d < ROW_COUNT
+below_count [] rs e k d l = absurd (let n = ap length e in omega arith)
+below_count (f ∷ b) rs e k d l = subst (λ ns. get_or ns k d < ROW_COUNT) (sym e) (below f k d (let n = ap length e in omega arith))
 
 candidates_of-ascend : (b : List ℕ) → Ascends (candidates_of b)
 candidates_of-ascend [] = λ k m c d l n. absurd (omega arith)
@@ -150,7 +151,7 @@ module _ (w : Option (Bor (List ℕ))) (b rs : List ℕ) (same : rs ≡ candidat
       → n ≡ count_asked w b (Some i)
   counted_some k i d n m l at before now = counted_more w rs k i d n m l at before now ∙ asked_up_to k i d l at
 
-  pub few_asked : (n : ℕ) (o : Option ℕ) → length rs ≤ 25 → n ≡ count_asked w b o → n ≤ 25
+  pub few_asked : (n : ℕ) (o : Option ℕ) → length rs ≤ MOST_CANDIDATES → n ≡ count_asked w b o → n ≤ MOST_CANDIDATES
   few_asked n o few e =
       let most = count_by-le-length (λ i. is_not_above o i && is_named w i) (candidates_of b) in
       let long : length rs ≡ length (candidates_of b) = ap length same in

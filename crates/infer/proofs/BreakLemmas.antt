@@ -1,26 +1,29 @@
 -- For each of the twelve rows a buffer that has it as its first, and whose first 1024 bytes have another answer.
-use Rattle.std.proofs.Common.{◌≡◌, ◌≢◌, ◌+◌, ◌&&◌, ℕ, Bool, true, not, List, [], ◌∷◌, ◌++◌, Option, None, Some, get_or, length, take, eqb, ltb, eq-eqb, IsTrue, refl, sym, subst, codes, inl, inr, arith}
-use Rattle.std.specs.List.{list_all, list_any}
-use Rattle.std.proofs.lemmas.Bool.{and_parts, or_cases, eqb-true, ltb-true}
+use Rattle.std.proofs.Common.{◌≡◌, ◌≢◌, ◌+◌, ◌<◌, ◌&&◌, ◌||◌, ℕ, zero, suc, Bool, true, not, List, [], ◌∷◌, ◌++◌, Option, None, Some, get_or, length, take, eqb, ltb, eq-eqb, IsTrue, refl, codes, inl, inr, arith}
+use Rattle.std.specs.List.{list_all, slice_get}
+use Rattle.std.specs.Option.{option_map_or}
+use Rattle.std.proofs.lemmas.Bool.{and_parts, or_cases, ltb-true}
 use Rattle.std.proofs.lemmas.List.Sums.{AllPass-from_list_all}
 use Rattle.infer_deep.specs.ClassId.{compound_header, word_id, old_excel_id, powerpoint_id}
 use Rattle.infer_deep.specs.Laws as Deep
 use Rattle.infer_deep.specs.Numbers.{le16, le32, be32}
 use Rattle.infer_deep.specs.Office.{zip_header}
 use Rattle.infer_sig.specs.Signature.{stands}
-use Rattle.infer.specs.BuiltIn.{BuiltIn, framed, heif, avif, office, doc, xls, ppt, html, xml}
+use Rattle.infer.specs.BuiltIn.{BuiltIn, fixed, framed, heif, avif, office, doc, xls, ppt, html, xml}
 use Rattle.infer.specs.First.{IsFirstOf}
 use Rattle.infer.specs.Laws.{Breaks}
-use Rattle.infer.specs.Matchers.{is_of_the_twelve}
-use Rattle.infer.specs.Row.{Accepts}
+use Rattle.infer.specs.Matchers.{is_deep, is_of_the_twelve}
+use Rattle.infer.specs.Row.{Row, Accepts}
 use Rattle.infer.specs.Samples.{put, zeros}
-use Rattle.infer.specs.Table.{table}
+use Rattle.infer.specs.Table.{signature_of, table}
+use Rattle.infer.specs.declared.rows.TheConstants.{MSI, ROW_COUNT, ZIP}
 use Rattle.infer.proofs.AcceptanceLemmas.{long_frame, spaces}
 use Rattle.infer.proofs.OrderLemmas.{is_first, first_by_test}
 use Rattle.infer.proofs.PlaceLemmas.{ByPlace, not_both}
 use Rattle.infer.proofs.RefusalLemmas.{refuses, none_accepts}
 use Rattle.infer.proofs.SmallLemmas.{some_row}
 use Rattle.infer.proofs.TableLemmas.{length-table}
+use Rattle.infer.proofs.TestLemmas.{NoneRefused, passed}
 
 -- a box that ends behind the first 1024 bytes
 abbrev long_box : List ℕ → List ℕ
@@ -53,43 +56,53 @@ late _ = []
 
 -- the answer on the first 1024 bytes: other rows know the beginning of a compound file and of an archive
 abbrev front_answer : BuiltIn → Option ℕ
-front_answer (office folder) = Some 67
-front_answer doc = Some 93
-front_answer xls = Some 93
-front_answer ppt = Some 93
+front_answer (office folder) = Some ZIP
+front_answer doc = Some MSI
+front_answer xls = Some MSI
+front_answer ppt = Some MSI
 front_answer _ = None
 
 abbrev is_not : ℕ → Option ℕ → Bool
 is_not i None = true
 is_not i (Some j) = not (eqb i j)
 
-abbrev signature_at : ℕ → BuiltIn
-signature_at i = (get_or table i some_row).signature
+abbrev decides : ℕ → BuiltIn
+decides i = (get_or table i some_row).signature
 
 module _ (exclude : Deep.Apart) where
   abbrev answers : Option ℕ → List ℕ → Bool
   answers None b = list_all (λ r. refuses r.signature b) table
-  answers (Some j) b = ltb j 98 && is_first exclude (take j table) (signature_at j) b
+  answers (Some j) b = ltb j ROW_COUNT && is_first exclude (take j table) (decides j) b
 
   abbrev breaks_with : ℕ → Option ℕ → List ℕ → Bool
   breaks_with i o b = answers (Some i) b && (answers o (take 1024 b) && (is_not i o && list_all (λ x. ltb x 256) b))
 
   abbrev breaks : ℕ → Bool
-  breaks i = breaks_with i (front_answer (signature_at i)) (late (signature_at i))
+  breaks i = breaks_with i (front_answer (decides i)) (late (decides i))
 
-  all_break : IsTrue (list_all breaks (26 ∷ 27 ∷ 57 ∷ 58 ∷ 59 ∷ 60 ∷ 61 ∷ 62 ∷ 91 ∷ 92 ∷ 95 ∷ 96 ∷ []))
-  unfolding table stands le16 le32 be32
-  all_break = refl
+  abbrev breaks_if : ℕ → Bool
+  breaks_if i = not (is_of_the_twelve i) || breaks i
 
--- a member of a list that passes passes
-member_passes : (test : ℕ → Bool) (i : ℕ) (ns : List ℕ) → IsTrue (list_any (λ n. eqb i n) ns) → IsTrue (list_all test ns) → IsTrue (test i)
-member_passes test i [] some all = absurd (cc)
-member_passes test i (n ∷ ns) some all =
-    let parts = and_parts (test n) (list_all test ns) all in
-    elim (or_cases (eqb i n) (list_any (λ m. eqb i m) ns) some) [
-      | inl k ↦ subst (λ m. IsTrue (test m)) (sym (eqb-true i n k)) parts.0
-      | inr k ↦ member_passes test i ns k parts.1
-    ]
+  all_break : NoneRefused breaks_if ROW_COUNT 0 8
+  unfolding table is_of_the_twelve signature_of stands le16 le32 be32
+  all_break = (refl, (refl, (refl, (refl, (refl, (refl, (refl, (refl, tt))))))))
+
+  row_breaks : (i : ℕ) → i < ROW_COUNT → IsTrue (is_of_the_twelve i) → IsTrue (breaks i)
+  row_breaks i lt twelve =
+      elim (or_cases (not (is_of_the_twelve i)) (breaks i) (passed breaks_if ROW_COUNT 8 all_break (omega arith) i lt)) [
+        | inl other ↦ absurd (not_both (is_of_the_twelve i) twelve other)
+        | inr h ↦ h
+      ]
+
+-- only rows that are there are of the twelve
+within : (xs : List (Row BuiltIn)) (i : ℕ) → IsTrue (is_deep (option_map_or (λ r. r.signature) (slice_get xs i) (fixed []))) → i < length xs
+within [] i e = absurd (cc)
+within (x ∷ xs) zero e = omega arith
+within (x ∷ xs) (suc i) e = let lt = within xs i e in omega arith
+
+twelve_within : (i : ℕ) → IsTrue (is_of_the_twelve i) → i < ROW_COUNT
+unfolding is_of_the_twelve signature_of
+twelve_within i e = let lt = within table i e in omega (arith, length-table)
 
 is_other : (i : ℕ) (o : Option ℕ) → IsTrue (is_not i o) → o ≢ Some i
 is_other i None e same = absurd (cc)
@@ -99,8 +112,8 @@ module _ (by_place : ByPlace) (deep : Deep.Leads) (exclude : Deep.Apart) where
   answered : (o : Option ℕ) (b : List ℕ) → IsTrue (answers exclude o b) → IsFirstOf (Accepts b) table o
   answered None b e = none_accepts by_place deep b table e
   answered (Some j) b e =
-      let parts = and_parts (ltb j 98) _ e in
-      let below = ltb-true j 98 parts.0 in
+      let parts = and_parts (ltb j ROW_COUNT) _ e in
+      let below = ltb-true j ROW_COUNT parts.0 in
       first_by_test exclude by_place deep table j some_row b (omega (arith, length-table)) parts.1
 
   break_by : (i : ℕ) (o : Option ℕ) (b : List ℕ) → IsTrue (breaks_with exclude i o b) → Breaks i b
@@ -118,5 +131,5 @@ module _ (by_place : ByPlace) (deep : Deep.Leads) (exclude : Deep.Apart) where
 
   pub broken : (i : ℕ) → IsTrue (is_of_the_twelve i) → (buf : List ℕ) × Breaks i buf
   broken i e =
-      let test = member_passes (breaks exclude) i (26 ∷ 27 ∷ 57 ∷ 58 ∷ 59 ∷ 60 ∷ 61 ∷ 62 ∷ 91 ∷ 92 ∷ 95 ∷ 96 ∷ []) e (all_break exclude) in
-      (late (signature_at i), break_by i (front_answer (signature_at i)) (late (signature_at i)) test)
+      let test = row_breaks exclude i (twelve_within i e) e in
+      (late (decides i), break_by i (front_answer (decides i)) (late (decides i)) test)

@@ -1,14 +1,16 @@
 -- The laws of all matchers, from those of every signature.
-use Rattle.std.proofs.Common.{◌≡◌, ◌+◌, ◌<◌, ℕ, zero, suc, Bool, true, false, ◌||◌, ◌&&◌, not, List, [], ◌∷◌, length, get_or, refl, subst, sym, arith, IsTrue}
-use Rattle.std.proofs.lemmas.Bool.{and_parts}
+use Rattle.std.proofs.Common.{◌≡◌, ℕ, Bool, true, false, ◌||◌, not, List, [], length, get_or, refl, subst, sym, arith, IsTrue}
+use Rattle.std.proofs.lemmas.List.{get_or_default}
 use Rattle.infer_sig.specs.Signature.{Alternative}
 use Rattle.infer_sig.specs.Laws as Fixed
 use Rattle.infer_deep.specs.Laws as Deep
 use Rattle.infer.specs.BuiltIn.{BuiltIn, fixed, avif, doc, framed, heif, html, matroska, office, pdf, ppt, xls, xml}
 use Rattle.infer.specs.Matchers.{signatures, is_of_the_twelve, Lasts, IsNear, OthersAreNear}
-use Rattle.infer.specs.Table.{table}
+use Rattle.infer.specs.Table.{signature_of, table}
+use Rattle.infer.proofs.TestLemmas.{NoneRefused, passed}
+use Rattle.infer.specs.declared.rows.TheConstants.{MATCHER_COUNT}
 
-pub length-signatures : length signatures ≡ 101
+pub length-signatures : length signatures ≡ MATCHER_COUNT
 unfolding signatures table
 length-signatures = refl
 
@@ -27,13 +29,13 @@ every_lasts fixed_last deep_last html = deep_last.html
 every_lasts fixed_last deep_last xml = deep_last.xml
 
 -- the test for a signature that the first 1024 bytes decide
-abbrev is_within : BuiltIn → Bool
+abbrev pub is_within : BuiltIn → Bool
 is_within (fixed alternatives) = Fixed.is_within 1024 alternatives
 is_within pdf = true
 is_within (matroska doc_type) = true
 is_within _ = false
 
-every_near : ((n : ℕ) (s : List Alternative) → IsTrue (Fixed.is_within n s) → Fixed.IsNear n s) → Deep.Near
+pub every_near : ((n : ℕ) (s : List Alternative) → IsTrue (Fixed.is_within n s) → Fixed.IsNear n s) → Deep.Near
     → (s : BuiltIn) → IsTrue (is_within s) → IsNear s
 every_near fixed_near deep_near (fixed alternatives) within = λ buf long. (
   λ yes. subst (λ r. IsTrue r) (sym (fixed_near 1024 alternatives within buf)) yes,
@@ -51,28 +53,20 @@ every_near fixed_near deep_near ppt within = absurd (cc)
 every_near fixed_near deep_near html within = absurd (cc)
 every_near fixed_near deep_near xml within = absurd (cc)
 
--- each signature from number n on passes that test, or is one of the twelve
-abbrev others_within : ℕ → List BuiltIn → Bool
-others_within n [] = true
-others_within n (s ∷ ss) = (is_of_the_twelve n || is_within s) && others_within (suc n) ss
+-- matcher m is one of the twelve, or its signature passes that test
+abbrev is_decided : ℕ → Bool
+is_decided m = is_of_the_twelve m || is_within (get_or signatures m (fixed []))
 
-all_within : IsTrue (others_within 0 signatures)
-unfolding signatures table
-all_within = refl
+all_decided : NoneRefused is_decided MATCHER_COUNT 0 8
+unfolding signatures table is_of_the_twelve signature_of
+all_decided = (refl, (refl, (refl, (refl, (refl, (refl, (refl, (refl, tt))))))))
 
 other : (a b : Bool) → IsTrue (a || b) → IsTrue (not a) → IsTrue b
 other true b h e = absurd (cc)
 other false b h e = h
 
-within_at : (ss : List BuiltIn) (n m i : ℕ) (d : BuiltIn) → IsTrue (others_within n ss) → m ≡ n + i → i < length ss
-    → IsTrue (not (is_of_the_twelve m)) → IsTrue (is_within (get_or ss i d))
-within_at [] n m i d h e lt out = absurd (omega arith)
-within_at (s ∷ ss) n m zero d h e lt out =
-    let same : m ≡ n = omega arith in
-    other (is_of_the_twelve n) (is_within s) (and_parts (is_of_the_twelve n || is_within s) _ h).0 (subst (λ k. IsTrue (not (is_of_the_twelve k))) same out)
-within_at (s ∷ ss) n m (suc i) d h e lt out =
-    within_at ss (suc n) m i d (and_parts (is_of_the_twelve n || is_within s) _ h).1 (omega arith) (omega arith) out
-
 pub others_near : ((n : ℕ) (s : List Alternative) → IsTrue (Fixed.is_within n s) → Fixed.IsNear n s) → Deep.Near → OthersAreNear signatures
 others_near fixed_near deep_near m lt out d =
-    every_near fixed_near deep_near (get_or signatures m d) (within_at signatures 0 m m d all_within (omega arith) lt out)
+    let test = passed is_decided MATCHER_COUNT 8 all_decided (omega arith) m (omega (arith, lt, length-signatures)) in
+    let within = other (is_of_the_twelve m) (is_within (get_or signatures m (fixed []))) test out in
+    every_near fixed_near deep_near (get_or signatures m d) (subst (λ s. IsTrue (is_within s)) (get_or_default signatures m (fixed []) d lt) within)

@@ -1,4 +1,5 @@
 pub mod ListLemmas
+pub mod TestLemmas
 pub mod RowLemmas
 pub mod CallerLemmas
 pub mod TableLemmas
@@ -13,6 +14,7 @@ pub mod IndexLemmas
 pub mod SmallLemmas
 pub mod AcceptanceLemmas
 pub mod OrderLemmas
+pub mod ArrivalLemmas
 pub mod SampleLemmas
 pub mod BreakLemmas
 pub mod ArmLemmas

@@ -1,12 +1,11 @@
 -- Tests that a row is the first to accept a buffer, or none is, and what they tell.
-use Rattle.std.proofs.Common.{◌<◌, ℕ, Bool, true, false, ◌&&◌, ◌||◌, List, length, get_or, take, IsTrue, refl, sym, subst, codes, arith, inl, inr}
+use Rattle.std.proofs.Common.{◌≡◌, ◌≢◌, ◌<◌, ℕ, Bool, true, false, ◌&&◌, ◌||◌, not, List, length, get_or, take, eqb, ltb, IsTrue, refl, subst, arith, inl, inr}
 use Rattle.std.specs.List.{list_all}
-use Rattle.std.specs.Str.{bytes_eq}
 use Rattle.std.proofs.lemmas.Bool.{and_parts, or_cases}
 use Rattle.std.proofs.lemmas.List.{get_or_default, get_or-take, length-take-le}
 use Rattle.std.proofs.lemmas.List.Sums.{AllPass-from_list_all}
-use Rattle.std.proofs.lemmas.Slice.Eq.{bytes_eq-Decides}
-use Rattle.infer_deep.specs.Frames.{IsFramed, zst_magic, lz4_magic}
+use Rattle.std.proofs.lemmas.Bool.Decides.{nat_tests}
+use Rattle.infer_deep.specs.ClassId.{HasClassId, IsXls}
 use Rattle.infer_deep.specs.Laws as Deep
 use Rattle.infer_deep.specs.Office.{IsOffice}
 use Rattle.infer_deep.specs.Signatures.{AreApart}
@@ -33,34 +32,39 @@ apart_of unknown e = absurd (cc)
 pub flipped : {S T : List ℕ → Type 0} → AreApart S T → AreApart T S
 flipped h b t s = h b s t
 
--- the first that is known
-abbrev pub either_apart : {S T : List ℕ → Type 0} → Pair S T → Pair S T → Pair S T
-either_apart (apart h) p = apart h
-either_apart unknown p = p
+-- the two words are some bytes, and begin with different ones below a limit
+abbrev pub begin_apart : ℕ → List ℕ → List ℕ → Bool
+begin_apart limit v w =
+    (ltb 0 (length v) && ltb 0 (length w)) && ((ltb (get_or v 0 0) limit && ltb (get_or w 0 0) limit) && not (eqb (get_or v 0 0) (get_or w 0 0)))
 
--- what is known of the two words v and w tells of words that are these
-module _ (S : List ℕ → List ℕ → Type 0) (v w : List ℕ) (h : AreApart (S v) (S w)) (f g : List ℕ) where
-  pub apart_words : IsTrue (bytes_eq f v && bytes_eq g w) → AreApart (S f) (S g)
-  apart_words e =
-      let parts = and_parts (bytes_eq f v) (bytes_eq g w) e in
-      subst (λ x. AreApart (S x) (S g)) (sym ((bytes_eq-Decides f v).0 parts.0))
-      (subst (λ x. AreApart (S v) (S x)) (sym ((bytes_eq-Decides g w).0 parts.1)) h)
+pub begun_apart : (m n x y limit : ℕ) → ((ltb 0 m && ltb 0 n) && ((ltb x limit && ltb y limit) && not (eqb x y))) ≡ true
+    → ((0 < m) × (0 < n) × (x ≢ y)) × (x < limit) × (y < limit)
+begun_apart m n x y limit e =
+    ((grind (arith, nat_tests), grind (arith, nat_tests), λ is. grind (arith, nat_tests)), grind (arith, nat_tests), grind (arith, nat_tests))
 
-  abbrev pub words_by : (r : Bool) → (IsTrue r → AreApart (S f) (S g)) → Pair (S f) (S g)
-  words_by true k = apart (k refl)
-  words_by false k = unknown
-
-  abbrev pub words_apart : Pair (S f) (S g)
-  words_apart = words_by (bytes_eq f v && bytes_eq g w) apart_words
+-- what a test that passes shows
+abbrev pub when : {S T : List ℕ → Type 0} (r : Bool) → (IsTrue r → AreApart S T) → Pair S T
+when true h = apart (h refl)
+when false h = unknown
 
 module _ (exclude : Deep.Apart) where
+  pub class_id_office : (id folder : List ℕ) → AreApart (HasClassId id) (IsOffice folder)
+  class_id_office id folder b (root, r, _) (_, d, _) = exclude.compound_zip b r.header d.0
+
+  pub xls_office : (folder : List ℕ) → AreApart IsXls (IsOffice folder)
+  xls_office folder b (inl h) o = class_id_office _ folder b h o
+  xls_office folder b (inr h) o = class_id_office _ folder b h o
+
   -- the later row's signature, and that of the earlier
   abbrev pub exclusion : (s r : BuiltIn) → Pair (IsAccepted s) (IsAccepted r)
-  exclusion (office f) (office g) =
-      either_apart (words_apart IsOffice (codes "xl/") (codes "word/") (flipped exclude.docx_xlsx) f g)
-      (either_apart (words_apart IsOffice (codes "ppt/") (codes "word/") (flipped exclude.docx_pptx) f g)
-      (words_apart IsOffice (codes "ppt/") (codes "xl/") exclude.pptx_xlsx f g))
-  exclusion (framed m) (framed n) = words_apart IsFramed lz4_magic zst_magic (flipped exclude.zst_lz4) m n
+  exclusion (framed v) (framed w) =
+      when (begin_apart 0x50 v w) (λ e. let d = begun_apart _ _ _ _ 0x50 e in exclude.framed v w d.0 d.1 d.2)
+  exclusion (office v) (office w) = when (begin_apart 0x100 v w) (λ e. exclude.office v w (begun_apart _ _ _ _ 0x100 e).0)
+  exclusion (office v) doc = apart (flipped (class_id_office _ v))
+  exclusion (office v) xls = apart (flipped (xls_office v))
+  exclusion (office v) ppt = apart (flipped (class_id_office _ v))
+  exclusion xls (office w) = apart (xls_office w)
+  exclusion ppt (office w) = apart (class_id_office _ w)
   exclusion xls doc = apart (flipped exclude.doc_xls)
   exclusion ppt doc = apart (flipped exclude.doc_ppt)
   exclusion ppt xls = apart (flipped exclude.xls_ppt)

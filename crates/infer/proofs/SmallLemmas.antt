@@ -10,6 +10,7 @@ use Rattle.infer.specs.Laws.{AnswersAreNamed}
 use Rattle.infer.specs.Row.{Row, Accepts}
 use Rattle.infer.specs.Rows.{Signature}
 use Rattle.infer.specs.Table.{table, row}
+use Rattle.infer.specs.declared.rows.TheConstants.{DLL, EPUB, EPUB_ARCHIVE, EXE}
 use Rattle.infer.specs.declared.file_type.MatcherType.TheVariants.{Text}
 use Rattle.infer.proofs.PlaceLemmas.{ByPlace}
 
@@ -22,18 +23,18 @@ repeated : (i j : ℕ) (buf : List ℕ) → i < j → (get_or table i some_row).
 repeated i j buf lt same first =
     first.before i some_row (omega arith) lt (subst (λ s. IsAccepted s buf) (sym same) (first.here some_row))
 
-same_exe : (get_or table 2 some_row).signature ≡ (get_or table 3 some_row).signature
+same_exe : (get_or table EXE some_row).signature ≡ (get_or table DLL some_row).signature
 unfolding table
 same_exe = refl
 
-same_epub : (get_or table 13 some_row).signature ≡ (get_or table 66 some_row).signature
+same_epub : (get_or table EPUB some_row).signature ≡ (get_or table EPUB_ARCHIVE some_row).signature
 unfolding table
 same_epub = refl
 
-pub never_first : (buf : List ℕ) (i : ℕ) → IsFirst (Accepts buf) table i → (i ≢ 3) × (i ≢ 66)
+pub never_first : (buf : List ℕ) (i : ℕ) → IsFirst (Accepts buf) table i → (i ≢ DLL) × (i ≢ EPUB_ARCHIVE)
 never_first buf i first = (
-  λ e. repeated 2 3 buf (omega arith) same_exe (subst (IsFirst (Accepts buf) table) e first),
-  λ e. repeated 13 66 buf (omega arith) same_epub (subst (IsFirst (Accepts buf) table) e first),
+  λ e. repeated EXE DLL buf (omega arith) same_exe (subst (IsFirst (Accepts buf) table) e first),
+  λ e. repeated EPUB EPUB_ARCHIVE buf (omega arith) same_epub (subst (IsFirst (Accepts buf) table) e first),
 )
 
 pub answers_named : {X : Type 0} {g : Contracts X} (all : List (Row (Signature X g))) → AnswersAreNamed all

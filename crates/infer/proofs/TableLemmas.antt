@@ -10,11 +10,12 @@ use Rattle.infer.specs.First.{IsFirstOf}
 use Rattle.infer.specs.Row.{Row, shows}
 use Rattle.infer.specs.Table.{table}
 use Rattle.infer.specs.Triple.{Triple, triple_of}
+use Rattle.infer.specs.declared.rows.TheConstants.{ROW_COUNT}
 use Rattle.infer.specs.declared.file_type.FileType.{FileType}
 use Rattle.infer.specs.declared.file_type.MatcherType.{MatcherType}
 use Rattle.infer.specs.declared.file_type.MatcherType.TheVariants.{App, Archive, Audio, Book, Doc, Font, Image, Text, Video, Custom}
 
-pub length-table : length table ≡ 98
+pub length-table : length table ≡ ROW_COUNT
 unfolding table
 length-table = refl
 
@@ -86,6 +87,6 @@ none_past f (x ∷ xs) r (suc i) e =
     let rest = none_past f xs r i e in
     (λ h. let le = rest.0 h in omega arith, λ h. rest.1 (omega arith))
 
-pub first_within : (P : Row BuiltIn → Type 0) (o : Option ℕ) → IsFirstOf P table o → IfSome o (λ i. i < 98)
+pub first_within : (P : Row BuiltIn → Type 0) (o : Option ℕ) → IsFirstOf P table o → IfSome o (λ i. i < ROW_COUNT)
 first_within P None first = tt
 first_within P (Some i) first = let lt = first.within in let n = length-table in omega arith

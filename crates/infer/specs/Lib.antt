@@ -30,9 +30,7 @@ pub mod First
 pub mod Questions
 pub mod Caller
 pub mod Rows
-pub mod Format
 pub mod Table
-pub mod RowSeen
 pub mod Matchers
 pub mod Watched
 pub mod Fault
@@ -41,4 +39,5 @@ pub mod Walks
 pub mod Arms
 pub mod Laws
 pub mod Samples
-pub mod SampleSeen
+pub mod Listed
+pub mod Arrivals

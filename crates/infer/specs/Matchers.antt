@@ -1,17 +1,24 @@
 -- The signatures of all matchers, and what holds of a signature as buffers grow.
-use Rattle.std.specs.Prelude.{◌≤◌, ◌<◌, ◌↔◌, ℕ, Bool, List, [], ◌∷◌, ◌++◌, ◌==◌, length, map, not, take, IsTrue}
-use Rattle.std.specs.List.{HoldsAt, list_any}
+use Rattle.std.specs.Prelude.{◌≤◌, ◌<◌, ◌↔◌, ℕ, Bool, true, false, List, [], ◌∷◌, ◌++◌, length, map, not, take, IsTrue}
+use Rattle.std.specs.List.{HoldsAt}
 use Rattle.infer_sig.specs.App.{coff_i386, coff_x64, coff_ia64}
-use Rattle.infer.specs.BuiltIn.{BuiltIn, fixed, IsAccepted}
-use Rattle.infer.specs.Table.{table}
+use Rattle.infer.specs.BuiltIn.{BuiltIn, fixed, matroska, pdf, IsAccepted}
+use Rattle.infer.specs.Table.{signature_of, table}
 
--- the signatures of the 101 matchers: those of the rows by their numbers, then those of three without a row
+-- the signatures of all matchers: those of the rows by their numbers, then those of three without a row
 unfoldable pub signatures : List BuiltIn
 signatures = map (λ r. r.signature) table ++ fixed coff_i386 ∷ fixed coff_x64 ∷ fixed coff_ia64 ∷ []
 
--- the numbers of the twelve rows that more than the first 1024 bytes can decide
-abbrev pub is_of_the_twelve : ℕ → Bool
-is_of_the_twelve m = list_any (λ n. m == n) (26 ∷ 27 ∷ 57 ∷ 58 ∷ 59 ∷ 60 ∷ 61 ∷ 62 ∷ 91 ∷ 92 ∷ 95 ∷ 96 ∷ [])
+-- more than the first 1024 bytes can decide about it: it is neither a fixed signature nor a window
+abbrev pub is_deep : BuiltIn → Bool
+is_deep (fixed alternatives) = false
+is_deep pdf = false
+is_deep (matroska doc_type) = false
+is_deep _ = true
+
+-- row m is one of those, which are twelve
+unfoldable pub is_of_the_twelve : ℕ → Bool
+is_of_the_twelve m = is_deep (signature_of m)
 
 -- what the signature accepts, it accepts in everything that grows it
 abbrev pub Lasts : BuiltIn → Type 0

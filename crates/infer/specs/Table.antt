@@ -1,5 +1,7 @@
 -- The built-in rows, in order.
 use Rattle.std.specs.Prelude.{ℕ, List, [], ◌∷◌, codes}
+use Rattle.std.specs.List.{slice_get}
+use Rattle.std.specs.Option.{option_map_or}
 use Rattle.infer_sig.specs.App.{coff, der, dex, dey, elf, exe, java, llvm, mach, pem, qcow2, wasm}
 use Rattle.infer_sig.specs.Archive.{ar, bz2, bz3, cab, cpio, crx, dcm, deb, eot, gz, lz, msi, nes, par2, ps, rar, rpm, rtf, seven_z, sqlite, swf, tar, xz, z, zip}
 use Rattle.infer_sig.specs.Audio.{aac, aiff, amr, ape, dsf, flac, m4a, midi, mp3, ogg, ogg_opus, wav}
@@ -121,3 +123,7 @@ table =
     ∷ row Text (codes "text/xml") (codes "xml") xml
     ∷ row Text (codes "text/x-shellscript") (codes "sh") (fixed shellscript)
     ∷ []
+
+-- the signature of row i, and one that accepts nothing where there is no such row
+unfoldable pub signature_of : ℕ → BuiltIn
+signature_of i = option_map_or (λ r. r.signature) (slice_get table i) (fixed [])

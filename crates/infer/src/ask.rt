@@ -12,6 +12,7 @@ use crate::dispatch::{arm_of, candidates_of};
 use crate::laws;
 use crate::map::{is_named, takes};
 use crate::question::Every;
+use crate::rows::{MOST_CANDIDATES, ROW_COUNT};
 
 /// Who asks the built-in rows about one buffer. A contract sees that buffer, and how many rows were asked.
 pub trait Ask {
@@ -25,8 +26,8 @@ pub trait Ask {
 
     /// Whether the built-in row `i` accepts the buffer. It is counted.
     fn ask(&mut self, i: usize) -> bool
-        requires row { i < 98 }
-        requires room { asked self.old < 98 }
+        requires row { i < ROW_COUNT }
+        requires room { asked self.old < ROW_COUNT }
         ensures answer { IsTrue result ↔ RowHas (Accepts (buffer self.old)) i }
         ensures kept { buffer self.new ≡ buffer self.old }
         ensures counted { asked self.new ≡ asked self.old + 1 };
@@ -75,20 +76,19 @@ impl Ask for Asker<'_> {
 /// given, and `None` exactly where none does.
 ///
 /// Of those rows it asks the candidates of the first byte, which are the rows whose signature allows it there. It
-/// asks them in ascending order up to the answer, which are 25 at most, and no other.
+/// asks them in ascending order up to the answer, which are at most [`MOST_CANDIDATES`], and no other.
 pub fn walk<A: Ask>(asker: &mut A, wanted: Option<&str>) -> Option<usize>
     requires { A.asked asker.old ≡ 0 }
     ensures first { IsFirstAmong (RowHas (Takes (option_map Extension wanted.entry) (A.buffer asker.old)))
         (candidates_of (A.buffer asker.old)) result }
     ensures counted { A.asked asker.new ≡ count_asked wanted.entry (A.buffer asker.old) result }
-    ensures few { A.asked asker.new ≤ 25 }
+    ensures few { A.asked asker.new ≤ MOST_CANDIDATES }
     ensures kept { A.buffer asker.new ≡ A.buffer asker.old }
 {
     let lead = asker.first()?;
     for row in candidates_of(arm_of(lead)) {
-        let i = usize::from(*row);
-        if ask_named(asker, i, wanted) {
-            return Some(i);
+        if ask_named(asker, *row, wanted) {
+            return Some(*row);
         }
     }
     None
@@ -99,7 +99,7 @@ pub fn walk<A: Ask>(asker: &mut A, wanted: Option<&str>) -> Option<usize>
 pub fn position_counted(buf: &[u8]) -> (Option<usize>, u32)
     ensures first { IsFirstOf (Accepts buf.now) table result.0 }
     ensures counted { result.1 ≡ count_asked None buf.now result.0 }
-    ensures few { result.1 ≤ 25 }
+    ensures few { result.1 ≤ MOST_CANDIDATES }
 {
     laws::leads();
     laws::blank();
@@ -115,7 +115,7 @@ pub fn is_counted(buf: &[u8], extension: &str) -> (bool, u32)
     ensures counted { (answer : Option ℕ)
         × IsFirstAmong (RowHas (Takes (Some (Extension extension.entry)) buf.now)) (candidates_of buf.now) answer
         × (result.1 ≡ count_asked (Some extension.entry) buf.now answer) }
-    ensures few { result.1 ≤ 25 }
+    ensures few { result.1 ≤ MOST_CANDIDATES }
 {
     laws::leads();
     laws::blank();
@@ -127,8 +127,8 @@ pub fn is_counted(buf: &[u8], extension: &str) -> (bool, u32)
 // Whether row `i` accepts the buffer and has the extension, where one is given. It is asked if it has.
 #[inline(always)]
 fn ask_named<A: Ask>(asker: &mut A, i: usize, wanted: Option<&str>) -> bool
-    requires row { i < 98 }
-    requires room { A.asked asker.old < 98 }
+    requires row { i < ROW_COUNT }
+    requires room { A.asked asker.old < ROW_COUNT }
     ensures answer { IsTrue result ↔ RowHas (Takes (option_map Extension wanted.entry) (A.buffer asker.old)) i }
     ensures counted { A.asked asker.new ≡ A.asked asker.old + cond (is_named wanted.entry i) 1 0 }
     ensures kept { A.buffer asker.new ≡ A.buffer asker.old }

@@ -9,6 +9,7 @@ ghost use Rattle.infer.specs.Walks.{IsAboutRow, IsFirstAmong, RowHas, Takes};
 
 use crate::map::{is_about, takes};
 use crate::question::Question;
+use crate::rows::{DOCX, HTML, LZ4, PPTX, XLSX, XML, ZST};
 use infer_deep::archive::after_skippable_frames;
 use infer_deep::doc::deciding_folder;
 use infer_deep::places::stands_at;
@@ -91,7 +92,9 @@ impl<const I: usize, const J: usize, const K: usize, C: Chain> Chain for ThenThr
 }
 
 impl<C: Chain> Chain for ThenOffice<C> {
-    ghost rows = { λ s. 58 ∷ 60 ∷ 62 ∷ C.rows s.0 };
+    ghost use Rattle.infer.specs.declared.rows.TheConstants.{DOCX, PPTX, XLSX};
+
+    ghost rows = { λ s. DOCX ∷ XLSX ∷ PPTX ∷ C.rows s.0 };
 
     #[inline(always)]
     fn first<Q: Question>(&self, question: &Q, buf: &[u8]) -> Option<usize> {
@@ -103,32 +106,36 @@ impl<C: Chain> Chain for ThenOffice<C> {
 }
 
 impl<C: Chain> Chain for ThenFrames<C> {
-    ghost rows = { λ s. 91 ∷ 92 ∷ C.rows s.0 };
+    ghost use Rattle.infer.specs.declared.rows.TheConstants.{LZ4, ZST};
+
+    ghost rows = { λ s. ZST ∷ LZ4 ∷ C.rows s.0 };
 
     #[inline(always)]
     fn first<Q: Question>(&self, question: &Q, buf: &[u8]) -> Option<usize> {
         let data = data_of(question, buf);
-        if takes(91, question, data) {
-            return Some(91);
+        if takes(ZST, question, data) {
+            return Some(ZST);
         }
-        if takes(92, question, data) {
-            return Some(92);
+        if takes(LZ4, question, data) {
+            return Some(LZ4);
         }
         self.0.first(question, buf)
     }
 }
 
 impl<C: Chain> Chain for ThenMarkup<C> {
-    ghost rows = { λ s. 95 ∷ 96 ∷ C.rows s.0 };
+    ghost use Rattle.infer.specs.declared.rows.TheConstants.{HTML, XML};
+
+    ghost rows = { λ s. HTML ∷ XML ∷ C.rows s.0 };
 
     #[inline(always)]
     fn first<Q: Question>(&self, question: &Q, buf: &[u8]) -> Option<usize> {
         let text = text_of(question, buf);
-        if takes(95, question, text) {
-            return Some(95);
+        if takes(HTML, question, text) {
+            return Some(HTML);
         }
-        if takes(96, question, text) {
-            return Some(96);
+        if takes(XML, question, text) {
+            return Some(XML);
         }
         self.0.first(question, buf)
     }
@@ -145,20 +152,20 @@ impl<C: Chain> Chain for Whole<C> {
 
 /// The first row of Office in ZIP archives that accepts `buf`, of those that the question is about.
 fn office_row<Q: Question>(question: &Q, buf: &[u8]) -> Option<usize>
-    ensures { IsFirstAmong (RowHas (Takes (Q.wanted question.now) buf.now)) (58 ∷ 60 ∷ 62 ∷ []) result }
+    ensures { IsFirstAmong (RowHas (Takes (Q.wanted question.now) buf.now)) (DOCX ∷ XLSX ∷ PPTX ∷ []) result }
 {
-    if !is_about(58, question) && !is_about(60, question) && !is_about(62, question) {
+    if !is_about(DOCX, question) && !is_about(XLSX, question) && !is_about(PPTX, question) {
         return None;
     }
     let folder = deciding_folder(buf);
-    if is_folder_of(58, question, folder, b"word/") {
-        return Some(58);
+    if is_folder_of(DOCX, question, folder, b"word/") {
+        return Some(DOCX);
     }
-    if is_folder_of(60, question, folder, b"xl/") {
-        return Some(60);
+    if is_folder_of(XLSX, question, folder, b"xl/") {
+        return Some(XLSX);
     }
-    if is_folder_of(62, question, folder, b"ppt/") {
-        return Some(62);
+    if is_folder_of(PPTX, question, folder, b"ppt/") {
+        return Some(PPTX);
     }
     None
 }
@@ -177,7 +184,7 @@ fn data_of<'a, Q: Question>(question: &Q, buf: &'a [u8]) -> &'a [u8]
     ensures zst { IsZst result.now ↔ IsZst buf.now }
     ensures lz4 { IsLz4 result.now ↔ IsLz4 buf.now }
 {
-    if is_about(91, question) {
+    if is_about(ZST, question) {
         after_skippable_frames(buf)
     } else {
         buf
@@ -190,7 +197,7 @@ fn text_of<'a, Q: Question>(question: &Q, buf: &'a [u8]) -> &'a [u8]
     ensures html { IsHtml result.now ↔ IsHtml buf.now }
     ensures xml { IsXml result.now ↔ IsXml buf.now }
 {
-    if is_about(95, question) {
+    if is_about(HTML, question) {
         after_white_space(buf)
     } else {
         buf

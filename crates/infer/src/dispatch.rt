@@ -7,6 +7,7 @@ ghost use Rattle.infer.specs.Walks.{IsFirstAmong, RowHas, Takes};
 
 use crate::chain::{Chain, End, Then, ThenFrames, ThenMarkup, ThenOffice, ThenThree, Whole};
 use crate::question::Question;
+use crate::rows::*;
 
 /// First bytes with the same candidates, named by the least of them. `Other` are those that no signature asks for.
 #[derive(Clone, Copy)]
@@ -84,55 +85,55 @@ static ARMS: [Arm; 256] = arms![
     Other Other Other Other Other Other Other Other Other Other Other Other Other BFD   BFE   BFF
 ];
 
-// Hands the candidates of an arm to another macro.
+// Hands the arms, each with its candidates, to another macro. Rows that share work stand in brackets.
 macro_rules! with_candidates {
-    ($arm:expr, $with:ident $($more:ident)*) => {
-        match $arm {
-            Arm::B00 => $with!($($more)*; 0 10 14 16 19 25 26 27 28 32 33 36 39 43 55 68 76 79 90),
-            Arm::B04 => $with!($($more)*; 14 19 26 27 32 33 36 43 68 76 79 90 92),
-            Arm::B09 => $with!($($more)*; 14 19 26 27 32 33 36 43 68 76 79 90 [95 96]),
-            Arm::B1A => $with!($($more)*; 14 19 26 27 32 33 34 35 36 43 68 76 79 90),
-            Arm::B1F => $with!($($more)*; 14 19 26 27 32 33 36 43 68 71 76 79 87 90),
-            Arm::B21 => $with!($($more)*; 14 19 26 27 32 33 36 43 68 76 79 85 86 90),
-            Arm::B23 => $with!($($more)*; 14 19 26 27 32 33 36 43 48 68 76 79 90 97),
-            Arm::B25 => $with!($($more)*; 14 19 26 27 32 33 36 43 68 76 79 80 90),
-            Arm::B28 => $with!($($more)*; 14 19 26 27 32 33 36 43 68 76 79 90 91),
-            Arm::B2D => $with!($($more)*; 11 14 19 26 27 32 33 36 43 68 76 79 90),
-            Arm::B30 => $with!($($more)*; 9 14 19 26 27 32 33 36 38 43 68 76 79 90 94),
-            Arm::B37 => $with!($($more)*; 14 19 26 27 32 33 36 43 68 74 76 79 90),
-            Arm::B38 => $with!($($more)*; 14 19 24 26 27 32 33 36 43 68 76 79 90),
-            Arm::B41 => $with!($($more)*; 14 19 26 27 30 31 32 33 36 43 68 76 79 90),
-            Arm::B42 => $with!($($more)*; 5 14 19 22 26 27 32 33 36 43 68 72 73 76 79 90),
-            Arm::B43 => $with!($($more)*; 14 19 26 27 32 33 36 43 68 76 77 79 83 90),
-            Arm::B44 => $with!($($more)*; 14 19 26 27 32 33 36 43 51 68 76 79 90),
-            Arm::B46 => $with!($($more)*; 14 19 26 27 32 33 36 40 43 50 68 76 77 79 90),
-            Arm::B47 => $with!($($more)*; 14 18 19 26 27 32 33 36 43 68 76 79 90),
-            Arm::B49 => $with!($($more)*; 14 19 20 21 23 26 27 32 33 36 42 43 68 76 79 84 90),
-            Arm::B4C => $with!($($more)*; 10 14 19 26 27 32 33 36 43 68 76 79 88 90),
-            Arm::B4D => $with!($($more)*; 2 3 14 19 20 21 26 27 31 32 33 36 41 43 52 68 76 79 84 90),
-            Arm::B4E => $with!($($more)*; 14 19 26 27 32 33 36 43 68 76 79 82 90),
-            Arm::B4F => $with!($($more)*; 14 19 26 27 32 33 36 43 44 45 56 68 76 79 90),
-            Arm::B50 => $with!($($more)*; 13 14 19 26 27 29 32 33 36 43 [58 60 62] 63 64 65 66 67 68 69 76 79 90 [91 92]),
-            Arm::B51 => $with!($($more)*; 12 14 19 26 27 32 33 36 43 68 76 79 90 [91 92]),
-            Arm::B52 => $with!($($more)*; 14 19 26 27 32 33 36 37 43 47 68 70 76 79 90 [91 92]),
-            Arm::B53 => $with!($($more)*; 14 19 26 27 32 33 36 43 68 76 79 81 90 [91 92]),
-            Arm::B54 => $with!($($more)*; 14 19 26 27 32 33 36 43 68 76 79 90 [91 92]),
-            Arm::B64 => $with!($($more)*; 7 8 10 14 19 26 27 32 33 36 43 68 76 79 90),
-            Arm::B66 => $with!($($more)*; 14 19 26 27 32 33 36 43 46 68 76 79 90),
-            Arm::B71 => $with!($($more)*; 14 19 26 27 32 33 36 43 68 76 79 90 94),
-            Arm::B77 => $with!($($more)*; 14 19 26 27 32 33 36 43 53 54 68 76 79 90),
-            Arm::B7B => $with!($($more)*; 14 19 26 27 32 33 36 43 68 76 78 79 90),
-            Arm::B7F => $with!($($more)*; 1 14 19 26 27 32 33 36 43 68 76 79 90),
-            Arm::B89 => $with!($($more)*; 14 17 19 26 27 32 33 36 43 68 76 79 90),
-            Arm::BCA => $with!($($more)*; 4 6 14 19 26 27 32 33 36 43 68 76 79 90),
-            Arm::BCE => $with!($($more)*; 6 14 19 26 27 32 33 36 43 68 76 79 90),
-            Arm::BD0 => $with!($($more)*; 14 19 26 27 32 33 36 43 57 59 61 68 76 79 90 93),
-            Arm::BED => $with!($($more)*; 14 19 26 27 32 33 36 43 68 76 79 89 90),
-            Arm::BEF => $with!($($more)*; 14 19 26 27 32 33 36 43 68 76 79 90 96),
-            Arm::BFD => $with!($($more)*; 14 19 26 27 32 33 36 43 68 75 76 79 90),
-            Arm::BFE => $with!($($more)*; 6 14 19 26 27 32 33 36 43 68 76 79 90 96),
-            Arm::BFF => $with!($($more)*; 14 15 19 26 27 28 32 33 36 42 43 49 68 76 79 90 96),
-            Arm::Other => $with!($($more)*; 14 19 26 27 32 33 36 43 68 76 79 90),
+    ($with:ident $($more:tt)*) => {
+        $with! { [$($more)*]
+            B00 (WASM COFF MOBI JPEG2000 WEBP ICO HEIF AVIF JXL MP4 M4V MOV MPEG M4A TTF TAR PDF EOT DCM)
+            B04 (MOBI WEBP HEIF AVIF MP4 M4V MOV M4A TAR PDF EOT DCM LZ4)
+            B09 (MOBI WEBP HEIF AVIF MP4 M4V MOV M4A TAR PDF EOT DCM [HTML XML])
+            B1A (MOBI WEBP HEIF AVIF MP4 M4V MKV WEBM MOV M4A TAR PDF EOT DCM)
+            B1F (MOBI WEBP HEIF AVIF MP4 M4V MOV M4A TAR GZ PDF EOT Z DCM)
+            B21 (MOBI WEBP HEIF AVIF MP4 M4V MOV M4A TAR PDF EOT DEB AR DCM)
+            B23 (MOBI WEBP HEIF AVIF MP4 M4V MOV M4A AMR TAR PDF EOT DCM SHELLSCRIPT)
+            B25 (MOBI WEBP HEIF AVIF MP4 M4V MOV M4A TAR PDF EOT PS DCM)
+            B28 (MOBI WEBP HEIF AVIF MP4 M4V MOV M4A TAR PDF EOT DCM ZST)
+            B2D (PEM MOBI WEBP HEIF AVIF MP4 M4V MOV M4A TAR PDF EOT DCM)
+            B30 (DER MOBI WEBP HEIF AVIF MP4 M4V MOV WMV M4A TAR PDF EOT DCM CPIO)
+            B37 (MOBI WEBP HEIF AVIF MP4 M4V MOV M4A TAR SEVEN_Z PDF EOT DCM)
+            B38 (MOBI WEBP PSD HEIF AVIF MP4 M4V MOV M4A TAR PDF EOT DCM)
+            B41 (MOBI WEBP HEIF AVIF DJVU DWG MP4 M4V MOV M4A TAR PDF EOT DCM)
+            B42 (LLVM MOBI WEBP BMP HEIF AVIF MP4 M4V MOV M4A TAR BZ2 BZ3 PDF EOT DCM)
+            B43 (MOBI WEBP HEIF AVIF MP4 M4V MOV M4A TAR PDF SWF EOT CRX DCM)
+            B44 (MOBI WEBP HEIF AVIF MP4 M4V MOV M4A DSF TAR PDF EOT DCM)
+            B46 (MOBI WEBP HEIF AVIF MP4 M4V MOV FLV M4A AIFF TAR PDF SWF EOT DCM)
+            B47 (MOBI GIF WEBP HEIF AVIF MP4 M4V MOV M4A TAR PDF EOT DCM)
+            B49 (MOBI WEBP CR2 TIFF JXR HEIF AVIF MP4 M4V MOV MP3 M4A TAR PDF EOT CAB DCM)
+            B4C (COFF MOBI WEBP HEIF AVIF MP4 M4V MOV M4A TAR PDF EOT LZ DCM)
+            B4D (EXE DLL MOBI WEBP CR2 TIFF HEIF AVIF DWG MP4 M4V MOV MIDI M4A APE TAR PDF EOT CAB DCM)
+            B4E (MOBI WEBP HEIF AVIF MP4 M4V MOV M4A TAR PDF EOT NES DCM)
+            B4F (MOBI WEBP HEIF AVIF MP4 M4V MOV M4A OGG_OPUS OGG OTF TAR PDF EOT DCM)
+            B50 (EPUB MOBI WEBP HEIF AVIF ORA MP4 M4V MOV M4A [DOCX XLSX PPTX] ODT ODS ODP EPUB_ARCHIVE ZIP TAR PAR2 PDF EOT DCM [ZST LZ4])
+            B51 (QCOW2 MOBI WEBP HEIF AVIF MP4 M4V MOV M4A TAR PDF EOT DCM [ZST LZ4])
+            B52 (MOBI WEBP HEIF AVIF MP4 M4V MOV AVI M4A WAV TAR RAR PDF EOT DCM [ZST LZ4])
+            B53 (MOBI WEBP HEIF AVIF MP4 M4V MOV M4A TAR PDF EOT SQLITE DCM [ZST LZ4])
+            B54 (MOBI WEBP HEIF AVIF MP4 M4V MOV M4A TAR PDF EOT DCM [ZST LZ4])
+            B64 (DEX DEY COFF MOBI WEBP HEIF AVIF MP4 M4V MOV M4A TAR PDF EOT DCM)
+            B66 (MOBI WEBP HEIF AVIF MP4 M4V MOV M4A FLAC TAR PDF EOT DCM)
+            B71 (MOBI WEBP HEIF AVIF MP4 M4V MOV M4A TAR PDF EOT DCM CPIO)
+            B77 (MOBI WEBP HEIF AVIF MP4 M4V MOV M4A WOFF WOFF2 TAR PDF EOT DCM)
+            B7B (MOBI WEBP HEIF AVIF MP4 M4V MOV M4A TAR PDF RTF EOT DCM)
+            B7F (ELF MOBI WEBP HEIF AVIF MP4 M4V MOV M4A TAR PDF EOT DCM)
+            B89 (MOBI PNG WEBP HEIF AVIF MP4 M4V MOV M4A TAR PDF EOT DCM)
+            BCA (JAVA MACH MOBI WEBP HEIF AVIF MP4 M4V MOV M4A TAR PDF EOT DCM)
+            BCE (MACH MOBI WEBP HEIF AVIF MP4 M4V MOV M4A TAR PDF EOT DCM)
+            BD0 (MOBI WEBP HEIF AVIF MP4 M4V MOV M4A DOC XLS PPT TAR PDF EOT DCM MSI)
+            BED (MOBI WEBP HEIF AVIF MP4 M4V MOV M4A TAR PDF EOT RPM DCM)
+            BEF (MOBI WEBP HEIF AVIF MP4 M4V MOV M4A TAR PDF EOT DCM XML)
+            BFD (MOBI WEBP HEIF AVIF MP4 M4V MOV M4A TAR XZ PDF EOT DCM)
+            BFE (MACH MOBI WEBP HEIF AVIF MP4 M4V MOV M4A TAR PDF EOT DCM XML)
+            BFF (MOBI JPEG WEBP HEIF AVIF JXL MP4 M4V MOV MP3 M4A AAC TAR PDF EOT DCM XML)
+            Other (MOBI WEBP HEIF AVIF MP4 M4V MOV M4A TAR PDF EOT DCM)
         }
     };
 }
@@ -142,20 +143,36 @@ macro_rules! list {
     (; $($row:tt)*) => {
         list!(@ [] $($row)*)
     };
-    (@ [$($done:literal)*]) => {
+    (@ [$($done:ident)*]) => {
         &[$($done),*]
     };
-    (@ [$($done:literal)*] [$($row:literal)*] $($rest:tt)*) => {
+    (@ [$($done:ident)*] [$($row:ident)*] $($rest:tt)*) => {
         list!(@ [$($done)* $($row)*] $($rest)*)
     };
-    (@ [$($done:literal)*] $row:literal $($rest:tt)*) => {
+    (@ [$($done:ident)*] $row:ident $($rest:tt)*) => {
         list!(@ [$($done)* $row] $($rest)*)
     };
 }
 
-macro_rules! first {
-    ($question:ident $buf:ident; $($row:tt)*) => {
-        Whole(chain!($($row)*)).first($question, $buf)
+macro_rules! lists {
+    ([] $($arm:ident ($($row:tt)*))*) => {
+        [$(list!(; $($row)*)),*]
+    };
+}
+
+macro_rules! list_at {
+    ([$arm:ident] $($name:ident ($($row:tt)*))*) => {
+        match $arm {
+            $(Arm::$name => list!(; $($row)*),)*
+        }
+    };
+}
+
+macro_rules! first_at {
+    ([$arm:ident $question:ident $buf:ident] $($name:ident ($($row:tt)*))*) => {
+        match $arm {
+            $(Arm::$name => Whole(chain!($($row)*)).first($question, $buf),)*
+        }
     };
 }
 
@@ -163,47 +180,44 @@ macro_rules! chain {
     () => {
         End
     };
-    ([58 60 62] $($rest:tt)*) => {
+    ([DOCX XLSX PPTX] $($rest:tt)*) => {
         ThenOffice(chain!($($rest)*))
     };
-    ([91 92] $($rest:tt)*) => {
+    ([ZST LZ4] $($rest:tt)*) => {
         ThenFrames(chain!($($rest)*))
     };
-    ([95 96] $($rest:tt)*) => {
+    ([HTML XML] $($rest:tt)*) => {
         ThenMarkup(chain!($($rest)*))
     };
-    ($i:literal $j:literal $k:literal $($rest:tt)*) => {
+    ($i:ident $j:ident $k:ident $($rest:tt)*) => {
         ThenThree::<$i, $j, $k, _>(chain!($($rest)*))
     };
-    ($i:literal $($rest:tt)*) => {
+    ($i:ident $($rest:tt)*) => {
         Then::<$i, _>(chain!($($rest)*))
     };
 }
 
-fn arms() -> &'static [Arm; 256]
-    ensures { map rows_of result.now ≡ map candidates (range_with_len 0 256) }
-{
-    &ARMS
-}
+// The candidates of each arm, which `rows_of` reads.
+static CANDIDATES: [&[usize]; 45] = with_candidates!(lists);
 
 /// The arm of a first byte.
 pub fn arm_of(first: u8) -> Arm
     ensures { rows_of result ≡ candidates first }
 {
-    arms()[usize::from(first)]
+    ARMS[usize::from(first)]
 }
 
-/// The candidates of an arm, ascending, at most 25.
-pub fn candidates_of(arm: Arm) -> &'static [u8]
+/// The candidates of an arm, ascending.
+pub fn candidates_of(arm: Arm) -> &'static [usize]
     ensures rows { result.now ≡ rows_of arm }
-    ensures few { length result.now ≤ 25 }
+    ensures few { length result.now ≤ MOST_CANDIDATES }
 {
-    with_candidates!(arm, list)
+    with_candidates!(list_at arm)
 }
 
 /// The first candidate of an arm that accepts `buf`, of those that the question is about.
 pub fn first_of<Q: Question>(arm: Arm, question: &Q, buf: &[u8]) -> Option<usize>
     ensures { IsFirstAmong (RowHas (Takes (Q.wanted question.now) buf.now)) (rows_of arm) result }
 {
-    with_candidates!(arm, first question buf)
+    with_candidates!(first_at arm question buf)
 }

@@ -1,9 +1,11 @@
 //! Facts about the definitions, each the contract of a function that does nothing beside, but for calls of other
 //! laws. To use a law, call it.
-ghost use Rattle.std.specs.Prelude.{◌≡◌, ◌≢◌, ◌↔◌, ◌<◌, ℕ, List, [], All, IsTrue, length, map};
-ghost use Rattle.std.specs.List.{AllPairs, HoldsAt};
+ghost use Rattle.std.specs.Prelude.{◌≡◌, ◌≢◌, ◌↔◌, ◌<◌, ◌+◌, ℕ, List, [], All, IsTrue, length, map};
+ghost use Rattle.std.specs.List.{AllPairs, HoldsAt, filter, range_with_len};
+ghost use Rattle.infer_deep.specs.Laws.{Apart, Beginnings};
 ghost use Rattle.infer_sig.specs.App.{java, mach};
 ghost use Rattle.infer_sig.specs.Signature.{accepts};
+ghost use Rattle.infer.specs.Arrivals.{NewcomersAreAwaited};
 ghost use Rattle.infer.specs.BuiltIn.{BuiltIn};
 ghost use Rattle.infer.specs.First.{IsFirst, NoneHas};
 ghost use Rattle.infer.specs.Laws.{AnswersAreNamed, Breaks, FrontDecides, IsSteady, Keeps, OnlyTheTwelveFollow};
@@ -17,6 +19,7 @@ ghost use Rattle.infer.specs.Triple.{triple_of};
 
 use crate::file_type::FileType;
 use crate::infer::Infer;
+use crate::rows::{DLL, EPUB_ARCHIVE, MATCHER_COUNT, ROW_COUNT};
 use std::alloc::Allocator;
 
 /// `a == b`, which compares the class, the MIME type and the extension of two types.
@@ -31,20 +34,22 @@ pub fn distinct()
     ensures { AllPairs (λ a b. a ≢ b) (map shows table) }
 {}
 
-/// A yes on the beginning of a buffer stays a yes: what one of the 101 matchers accepts, it accepts however the
+/// A yes on the beginning of a buffer stays a yes: what one of the matchers accepts, it accepts however the
 /// buffer goes on.
 pub fn growth()
-    ensures many { length signatures ≡ 101 }
+    ensures many { length signatures ≡ MATCHER_COUNT }
     ensures last { All Lasts signatures }
+    ensures every { (signature : BuiltIn) → Lasts signature }
 {
     infer_sig::laws::growth();
     infer_deep::laws::growth();
 }
 
 /// The first 1024 bytes decide: every matcher but those of twelve rows answers on a buffer of at least 1024 bytes
-/// as on its first 1024. The twelve are 26, 27, 57 to 62, 91, 92, 95 and 96.
+/// as on its first 1024. The twelve are those that have neither a list of bytes at fixed places nor a window.
 pub fn near()
-    ensures { OthersAreNear signatures }
+    ensures others { OthersAreNear signatures }
+    ensures twelve { length (filter is_of_the_twelve (range_with_len 0 ROW_COUNT)) ≡ 12 }
 {
     infer_sig::laws::near();
     infer_deep::laws::near();
@@ -66,17 +71,33 @@ pub fn blank()
     infer_deep::laws::leads();
 }
 
-/// The row of dynamic libraries, 3, and the second row of EPUB, 66, are first for no buffer: an earlier row has
+/// The row of dynamic libraries, [`DLL`], and the second row of EPUB, [`EPUB_ARCHIVE`], are first for no buffer: an earlier row has
 /// the same signature.
 pub fn never()
-    ensures { (buf : List ℕ) (i : ℕ) → IsFirst (Accepts buf) table i → (i ≢ 3) × (i ≢ 66) }
+    ensures { (buf : List ℕ) (i : ℕ) → IsFirst (Accepts buf) table i → (i ≢ DLL) × (i ≢ EPUB_ARCHIVE) }
 {}
 
-/// No buffer is both a Java class and a Mach-O program.
+/// What no buffer is at once: a Java class and a Mach-O program, and the types that exclude each other by their
+/// relations.
 pub fn apart()
-    ensures { (buf : List ℕ) → ¬ (IsTrue (accepts java buf) × IsTrue (accepts mach buf)) }
+    ensures programs { (buf : List ℕ) → ¬ (IsTrue (accepts java buf) × IsTrue (accepts mach buf)) }
+    ensures deep { Apart }
 {
     infer_sig::laws::by_place();
+    infer_deep::laws::apart();
+}
+
+/// What more bytes can bring to a buffer of at least 1024 bytes: only a row that is awaited after the buffer's
+/// beginning, and none of the later rows that are awaited so is the answer before and after. More bytes do not bring
+/// such a beginning.
+pub fn arrival()
+    ensures awaited { NewcomersAreAwaited }
+    ensures early { Beginnings }
+{
+    infer_sig::laws::near();
+    infer_deep::laws::near();
+    infer_deep::laws::apart();
+    infer_deep::laws::arrival();
 }
 
 /// Where `get` answers a type, `is` is true of its extension, and `is_mime` of its MIME type.
@@ -106,9 +127,9 @@ pub fn front()
     near();
 }
 
-/// Every built-in row but 3 and 66 is first for some buffer: for its sample.
+/// Every built-in row but [`DLL`] and [`EPUB_ARCHIVE`] is first for some buffer: for its sample.
 pub fn reach()
-    ensures { (i : ℕ) → i < 98 → i ≢ 3 → i ≢ 66 → HoldsAt (λ r. IsFirst (Accepts (sample_of r.signature)) table i) table i }
+    ensures { (i : ℕ) → i < ROW_COUNT → i ≢ DLL → i ≢ EPUB_ARCHIVE → HoldsAt (λ r. IsFirst (Accepts (sample_of r.signature)) table i) table i }
 {
     infer_sig::laws::by_place();
     infer_deep::laws::leads();

@@ -14,31 +14,21 @@ ghost use Rattle.infer.specs.Row.{Accepts, shows};
 ghost use Rattle.infer.specs.Table.{table};
 ghost use Rattle.infer.specs.Triple.{triple_of};
 
-pub mod app;
-pub mod archive;
 mod ask;
-pub mod audio;
-pub mod book;
 mod chain;
 mod custom;
 mod dispatch;
-pub mod doc;
 mod engine;
 mod fault;
 mod file_type;
-pub mod font;
-mod format;
-pub mod image;
 mod infer;
 pub mod laws;
 mod map;
-pub mod odf;
 mod question;
+pub mod rows;
 mod samples;
 #[cfg(test)]
 mod tests;
-pub mod text;
-pub mod video;
 mod watched;
 
 pub use ask::{Ask, Asker, is_counted, position_counted, walk};
@@ -47,6 +37,11 @@ pub use fault::Fault;
 use file_type::Wanted;
 pub use file_type::{FileType as Type, Matcher, MatcherType};
 pub use infer::Infer;
+pub use infer_sig::{
+    app as app, archive as archive, audio as audio, book as book, doc as doc, font as font,
+    image as image, odf as odf, text as text, video as video,
+};
+use rows::ROW_COUNT;
 pub use samples::sample;
 use std::alloc::Allocator;
 use std::rt::Files;
@@ -59,18 +54,18 @@ pub fn get(buf: &[u8]) -> Option<Type>
     map::get(buf)
 }
 
-/// The number of the first built-in row that accepts `buf`, from 0 to 97, and `None` exactly where no row accepts it.
+/// The number of the first built-in row that accepts `buf`, and `None` exactly where no row accepts it.
 pub fn position(buf: &[u8]) -> Option<usize>
     ensures first { IsFirstOf (Accepts buf.now) table result }
-    ensures bound { IfSome result (λ i. i < 98) }
+    ensures bound { IfSome result (λ i. i < ROW_COUNT) }
 {
     map::position(buf)
 }
 
-/// The type of the built-in row `i`, and `None` exactly from 98 on.
+/// The type of the built-in row `i`, and `None` exactly from [`ROW_COUNT`] on.
 pub fn row(i: usize) -> Option<Type>
     ensures shows { option_map triple_of result ≡ option_map shows (slice_get table i) }
-    ensures none { IsNone result ↔ (98 ≤ i) }
+    ensures none { IsNone result ↔ (ROW_COUNT ≤ i) }
 {
     map::row(i)
 }

@@ -9,6 +9,7 @@ use Rattle.infer.specs.BuiltIn.{BuiltIn}
 use Rattle.infer.specs.First.{SomeHas}
 use Rattle.infer.specs.Row.{Row}
 use Rattle.infer.specs.Table.{table}
+use Rattle.infer.specs.declared.rows.TheConstants.{ROW_COUNT}
 
 abbrev is_ascii : List ℕ → Bool
 is_ascii text = list_all (λ c. ltb c 128) text
@@ -40,6 +41,6 @@ extension_is_utf8 text h = text_of_some (λ (r : Row BuiltIn). r.shows.extension
 pub mime_type_is_utf8 : (text : List ℕ) → SomeHas (λ r. r.shows.mime_type ≡ text) table → IsUtf8 text
 mime_type_is_utf8 text h = text_of_some (λ (r : Row BuiltIn). r.shows.mime_type) table ascii_mime_types text h
 
-pub length-table : length table ≡ 98
+pub length-table : length table ≡ ROW_COUNT
 unfolding table
 length-table = refl

@@ -31,7 +31,7 @@ pub extern "C" fn infer_position(buf: &[u8]) -> i32
 pub extern "C" fn infer_row_count() -> usize
     ensures { result ≡ length table }
 {
-    98
+    infer::rows::ROW_COUNT
 }
 
 /// The length of the row's MIME type, which is written to `out` where it fits, and 0 where there is no such row.

@@ -4,14 +4,14 @@ use Rattle.std.proofs.lemmas.List.{append_assoc, take_rest, take-append-drop, le
 use Rattle.infer_deep.specs.Numbers.{le32}
 use Rattle.infer_deep.specs.Signatures.{IsLasting}
 use Rattle.infer_deep.specs.Joined.{SkipsTo, NoneBegins, BeginsWith}
-use Rattle.infer_deep.proofs.PlaceLemmas.{OccursAt-first, OccursAt-front, OccursAt-begins, begins-from_OccursAt}
+use Rattle.infer_deep.proofs.PlaceLemmas.{OccursAt-append, OccursAt-first, OccursAt-front, OccursAt-begins, begins-from_OccursAt}
 use Rattle.infer_deep.proofs.NumberLemmas.{le32-append}
 use Rattle.infer_deep.proofs.JoinedLemmas.{IsPrefixFree, WordsBegin, same_fronts, SkipsTo-none, SkipsTo-same, SkipsTo-append, SkipsTo-lead, NoneBegins-first}
 use Rattle.infer_deep.specs.Frames.{BeginsFrame, IsFrame, IsFramed}
 use Rattle.memchr.specs.Find.{OccursAt}
 
 -- what begins as a frame in front of anything begins so by itself
-BeginsFrame-front : (b more : List ℕ) → 8 ≤ length b → BeginsFrame (b ++ more) → BeginsFrame b
+pub BeginsFrame-front : (b more : List ℕ) → 8 ≤ length b → BeginsFrame (b ++ more) → BeginsFrame b
 BeginsFrame-front b more l f =
     let low = f.low in
     let high = f.high in
@@ -28,6 +28,15 @@ module _ (b word rest : List ℕ) (f : IsFrame word) (e : b ≡ word ++ rest) wh
 
   begun-length : length word ≡ 8 + le32 b 4
   begun-length = let s = f.sized in let g = size in omega arith
+
+-- and what a frame begins begins as one
+pub IsFrame-begins : (b word rest : List ℕ) → IsFrame word → b ≡ word ++ rest → BeginsFrame b
+IsFrame-begins b word rest f e =
+    let s = f.sized in
+    let low = f.begins.low in
+    let high = f.begins.high in
+    let first = get_or_append_left word rest 0 0 (omega arith) in
+    subst BeginsFrame (sym e) (record { low = omega arith; high = omega arith; mark = OccursAt-append word rest _ 1 f.begins.mark })
 
 IsFrame-prefix_free : IsPrefixFree IsFrame
 IsFrame-prefix_free v w x y f g e =

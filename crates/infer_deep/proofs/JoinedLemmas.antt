@@ -16,6 +16,15 @@ module _ (P : List ℕ → Type 0) where
   pub SkipsTo-none : (b : List ℕ) → SkipsTo P b b
   SkipsTo-none b = record { words = []; each = tt; whole = refl }
 
+  -- either there is no word, or the buffer begins with one
+  pub SkipsTo-begin : (b rest : List ℕ) → SkipsTo P b rest → (b ≡ rest) ⊎ ((x : List ℕ) × BeginsWith P b x)
+  SkipsTo-begin b rest s = go s.words s.each s.whole
+    where
+      go : (words : List (List ℕ)) → AllByRecursion P words → b ≡ concat words ++ rest → (b ≡ rest) ⊎ ((x : List ℕ) × BeginsWith P b x)
+      go [] all e = inl e
+      go (word ∷ words) all e =
+          inr (concat words ++ rest, record { word = word; kind = all.0; whole = e ∙ append_assoc word (concat words) rest })
+
   -- one more word in front
   pub SkipsTo-cons : (b c rest : List ℕ) → BeginsWith P b c → SkipsTo P c rest → SkipsTo P b rest
   SkipsTo-cons b c rest h s = record {
@@ -56,7 +65,7 @@ abbrev pub WordsBegin : (List ℕ → Type 0) → (ℕ → Type 0) → Type 0
 WordsBegin P Q = (word : List ℕ) → P word → (0 < length word) × Q (get_or word 0 0)
 
 module _ (P : List ℕ → Type 0) (Q : ℕ → Type 0) (begin : WordsBegin P Q) where
-  begun-first : (b word rest : List ℕ) → P word → b ≡ word ++ rest → Q (get_or b 0 0)
+  pub begun-first : (b word rest : List ℕ) → P word → b ≡ word ++ rest → Q (get_or b 0 0)
   begun-first b word rest is e =
       let w = begin word is in
       let first = ap (λ u. get_or u 0 0) e ∙ get_or_append_left word rest 0 0 w.0 in

@@ -9,3 +9,4 @@ pub mod OfficeLemmas
 pub mod ClassIdLemmas
 pub mod AnyLemmas
 pub mod TextLemmas
+pub mod ArrivalLemmas

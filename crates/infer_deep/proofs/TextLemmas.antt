@@ -50,7 +50,7 @@ LeadsTo-block b block rest n l p q all =
 IsSpace-prefix_free : IsPrefixFree IsSpace
 IsSpace-prefix_free v w x y (a, f, p) (b, g, q) e = cc
 
-IsSpace-begin : WordsBegin IsSpace IsWhite
+pub IsSpace-begin : WordsBegin IsSpace IsWhite
 IsSpace-begin word (x, white, e) = subst (λ (u : List ℕ). (0 < length u) × IsWhite (get_or u 0 0)) (sym e) (omega arith, white)
 
 -- the first byte of a mark, and how long the mark is that begins with it
@@ -101,7 +101,7 @@ NoneBegins-space-marked marked text marks first =
     (λ white. elim (SkipsTo-lead IsMark IsMarkByte IsMark-begin marked text marks) [ inl mark ↦ omega arith | inr e ↦ omega arith ])
 
 -- texts that are the same in any case
-same_length : (word text : List ℕ) → IsSameInAnyCase word text → length word ≡ length text
+pub same_length : (word text : List ℕ) → IsSameInAnyCase word text → length word ≡ length text
 same_length word text h = sym (length-map word to_ascii_lowercase) ∙ ap length h ∙ length-map text to_ascii_lowercase
 
 same_byte : (word text : List ℕ) (i : ℕ)

@@ -8,6 +8,10 @@ use Rattle.infer_deep.specs.Numbers.{le16, le32}
 abbrev pub compound_header : List ℕ
 compound_header = 0xD0 ∷ 0xCF ∷ 0x11 ∷ 0xE0 ∷ 0xA1 ∷ 0xB1 ∷ 0x1A ∷ 0xE1 ∷ []
 
+-- b begins as a compound file
+abbrev pub BeginsCompound : List ℕ → Type 0
+BeginsCompound b = OccursAt b compound_header 0
+
 -- the root entry begins at `root`, with the sector that the header names at 48 as the directory's first: the header
 -- takes a sector too, and sectors have 512 bytes where the major version at 26 and the sector shift at 30 are 3 and
 -- 9, and 4096 where they are 4 and 12

@@ -21,6 +21,10 @@ abbrev pub HasOfficeName : List ℕ → Type 0
 HasOfficeName b =
     OccursAt b (codes "[Content_Types].xml") 30 ⊎ OccursAt b (codes "_rels/.rels") 30 ⊎ OccursAt b (codes "docProps") 30
 
+-- b begins as a ZIP archive whose first entry has such a name
+abbrev pub BeginsOffice : List ℕ → Type 0
+BeginsOffice b = OccursAt b zip_header 0 × HasOfficeName b
+
 -- the third header stands at `third`: the second header is the least from 49 past the size on that the first states
 -- at 18, and the third the least from 30 past the second on
 pub record IsThirdHeader (b : List ℕ) (third : ℕ) : Type 0 where

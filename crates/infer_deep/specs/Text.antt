@@ -1,6 +1,7 @@
 -- HTML and XML, by what stands first but for white space and byte order marks.
-use Rattle.std.specs.Prelude.{◌≡◌, ℕ, ◌⊎◌, List, [], ◌∷◌, ◌++◌, map, Any, codes}
+use Rattle.std.specs.Prelude.{◌≡◌, ℕ, ◌⊎◌, List, [], ◌∷◌, ◌++◌, map, Any, codes, slice_index}
 use Rattle.std.specs.Char.{to_ascii_lowercase}
+use Rattle.memchr.specs.Find.{OccursAt}
 use Rattle.infer_deep.specs.Joined.{SkipsTo}
 
 -- a byte of white space
@@ -14,6 +15,14 @@ IsSpace word = (b : ℕ) × IsWhite b × (word ≡ b ∷ [])
 -- the byte order mark of UTF-8, or one of UTF-16
 abbrev pub IsMark : List ℕ → Type 0
 IsMark word = (word ≡ 0xEF ∷ 0xBB ∷ 0xBF ∷ []) ⊎ (word ≡ 0xFE ∷ 0xFF ∷ []) ⊎ (word ≡ 0xFF ∷ 0xFE ∷ [])
+
+-- b begins with a byte of white space
+abbrev pub BeginsWhite : List ℕ → Type 0
+BeginsWhite b = IsWhite (slice_index b 0)
+
+-- b begins with a byte order mark
+abbrev pub BeginsMarked : List ℕ → Type 0
+BeginsMarked b = (mark : List ℕ) × IsMark mark × OccursAt b mark 0
 
 -- the two texts differ in the case of ASCII letters at most
 abbrev pub IsSameInAnyCase : List ℕ → List ℕ → Type 0

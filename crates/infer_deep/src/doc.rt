@@ -175,7 +175,9 @@ fn has_folder(buf: &[u8], place: usize) -> bool
         || stands_at(buf, b"xl/", place)
 }
 
-fn has_office_name(buf: &[u8]) -> bool
+/// Whether the first entry of a ZIP archive has a name that Office gives it: "[Content_Types].xml", "_rels/.rels" or
+/// one that begins with "docProps".
+pub fn has_office_name(buf: &[u8]) -> bool
     ensures { IsTrue result ↔ HasOfficeName buf.now }
 {
     stands_at(buf, b"[Content_Types].xml", 30)

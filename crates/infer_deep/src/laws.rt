@@ -1,5 +1,5 @@
 //! Facts about the definitions, each the contract of a function that does nothing.
-ghost use Rattle.infer_deep.specs.Laws.{Apart, Growth, Leads, Near};
+ghost use Rattle.infer_deep.specs.Laws.{Apart, Arrivals, Beginnings, Growth, Leads, Near};
 
 /// What a matcher accepts it accepts with any bytes behind it too.
 pub fn growth()
@@ -19,4 +19,11 @@ pub fn leads()
 /// Which types exclude each other.
 pub fn apart()
     ensures { Apart }
+{}
+
+/// What more bytes can bring to a buffer of at least 1024 bytes: each type comes only if the buffer begins in one way.
+/// More bytes do not bring such a beginning.
+pub fn arrival()
+    ensures comes { Arrivals }
+    ensures early { Beginnings }
 {}

@@ -5,7 +5,7 @@ pub mod archive;
 pub mod doc;
 pub mod image;
 pub mod laws;
-mod numbers;
+pub mod numbers;
 pub mod places;
 #[cfg(test)]
 mod tests;

@@ -8,6 +8,7 @@ ghost use Rattle.infer_deep.specs.Windows.{StandsBy};
 
 use memchr::{memchr, memmem};
 
+/// Whether `text` stands in `buf` from `place` on.
 pub fn stands_at(buf: &[u8], text: &[u8], place: usize) -> bool
     ensures { IsTrue result ↔ OccursAt buf.now text.now place }
 {

@@ -5,6 +5,7 @@ ghost use Rattle.infer_sig.specs.Archive.{ar, bz2, bz3, cab, cpio, crx, dcm, deb
 
 pub use crate::book::is_epub;
 use crate::stands::stands;
+pub use infer_deep::archive::{is_lz4, is_pdf, is_zst};
 
 /// ZIP: at least 4 bytes, "PK" and one of 03 04, 05 06 and 07 08 first, or at least 8 bytes, "PK00PK" 03 04 first.
 pub fn is_zip(buf: &[u8]) -> bool

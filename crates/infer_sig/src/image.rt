@@ -4,6 +4,7 @@ ghost use Rattle.infer_sig.specs.Signature.{accepts};
 ghost use Rattle.infer_sig.specs.Image.{bmp, cr2, djvu, dwg, gif, ico, jpeg, jpeg2000, jxl, jxr, ora, png, psd, tiff, webp};
 
 use crate::stands::{any_stands, stands};
+pub use infer_deep::image::{is_avif, is_heif};
 
 /// JPEG: at least 3 bytes, FF D8 FF first.
 pub fn is_jpeg(buf: &[u8]) -> bool

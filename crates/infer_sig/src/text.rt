@@ -4,6 +4,7 @@ ghost use Rattle.infer_sig.specs.Signature.{accepts};
 ghost use Rattle.infer_sig.specs.Text.{shellscript};
 
 use crate::stands::stands;
+pub use infer_deep::text::{is_html, is_xml};
 
 /// Script that names its interpreter: at least 3 bytes, "#!" first.
 pub fn is_shellscript(buf: &[u8]) -> bool

@@ -5,6 +5,7 @@ ghost use Rattle.infer_sig.specs.Signature.{accepts, stands};
 ghost use Rattle.infer_sig.specs.Video.{avi, flv, m4v, mov, mp4, mpeg, wmv};
 
 use crate::stands::{any_stands, stands};
+pub use infer_deep::video::{is_mkv, is_webm};
 
 const MP4_BRANDS: [[u8; 4]; 28] = [
     *b"avc1", *b"dash", *b"iso2", *b"iso3", *b"iso4", *b"iso5", *b"iso6", *b"isom", *b"mmp4",

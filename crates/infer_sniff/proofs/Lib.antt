@@ -1,9 +1,2 @@
-pub mod PlaceLemmas
-pub mod JoinedLemmas
-pub mod ApartLemmas
-pub mod MarkupLemmas
-pub mod ArrivalLemmas
-pub mod RowLemmas
-pub mod OrderLemmas
-pub mod FinalLemmas
 pub mod KeptLemmas
+pub mod FinalLemmas

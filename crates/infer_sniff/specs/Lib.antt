@@ -1,4 +1,3 @@
 pub mod Cases
 pub mod Verdicts
 pub mod Sniffers
-pub mod Order

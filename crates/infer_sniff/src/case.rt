@@ -1,15 +1,13 @@
 //! What bytes behind a buffer can still bring.
-ghost use Rattle.std.specs.Prelude.{◌≡◌, ◌↔◌, ◌≤◌, List, ℕ, IsTrue, MatchOption, length, slice_index};
+ghost use Rattle.std.specs.Prelude.{◌≡◌, ◌↔◌, ◌≤◌, IsTrue, MatchOption};
 ghost use Rattle.infer.specs.Brands.{IsOpenBox};
-ghost use Rattle.infer.specs.Find.{OccursAt};
 ghost use Rattle.infer.specs.Frames.{BeginsFrame};
-ghost use Rattle.infer.specs.MarkupText.{IsMark, IsWhite};
-ghost use Rattle.infer.specs.Numbers.{be32};
-ghost use Rattle.infer.specs.Office.{HasOfficeName};
-ghost use Rattle.infer.specs.Triple.{triple_of};
-ghost use Rattle.infer_sniff.specs.Order.{order};
+ghost use Rattle.infer.specs.MarkupText.{BeginsMarked, BeginsWhite};
 
-use infer::{MatcherType, Type};
+use infer::rows::{AVIF, LZ4, PPT, PPTX, XML};
+use infer_deep::doc::has_office_name;
+use infer_deep::numbers::be32;
+use infer_deep::places::stands_at;
 
 /// A case in which bytes behind a buffer can bring a row that comes before the buffer's own.
 #[derive(Clone, Copy)]
@@ -30,37 +28,17 @@ pub enum Case {
 
 impl Case {
     ghost use Rattle.infer_sniff.specs.Cases.{Holds, bound};
-    ghost use Rattle.infer_sniff.specs.Order.{is_before, last_class, precedes};
 
-    /// Whether the row of `found` comes behind the last that the case can bring, which its class and extension tell.
-    pub fn is_before(self, found: Type) -> bool
-        ensures { result ≡ is_before self (triple_of found) }
-    {
-        order(found.matcher_type()) > order(self.last_class()) || self.precedes(found.extension())
-    }
-
-    // The class of the last row that the case can bring.
-    fn last_class(self) -> MatcherType
-        ensures { result ≡ last_class self }
+    /// The number of the last row that the case can bring.
+    pub fn bound(self) -> usize
+        ensures { result ≡ bound self }
     {
         match self {
-            Case::OpenBox => MatcherType::Image,
-            Case::Compound | Case::Office => MatcherType::Doc,
-            Case::Frame => MatcherType::Archive,
-            Case::Space | Case::Mark => MatcherType::Text,
-        }
-    }
-
-    // Whether the extension is that of a row behind this last one in its class.
-    fn precedes(self, extension: &str) -> bool
-        ensures { result ≡ precedes self extension.now }
-    {
-        match self {
-            Case::OpenBox => matches!(extension, "jxl" | "ora" | "djvu" | "dwg"),
-            Case::Compound => matches!(extension, "pptx" | "odt" | "ods" | "odp"),
-            Case::Office => matches!(extension, "odt" | "ods" | "odp"),
-            Case::Frame => matches!(extension, "msi" | "cpio"),
-            Case::Space | Case::Mark => extension == "sh",
+            Case::OpenBox => AVIF,
+            Case::Compound => PPT,
+            Case::Office => PPTX,
+            Case::Frame => LZ4,
+            Case::Space | Case::Mark => XML,
         }
     }
 
@@ -87,36 +65,10 @@ impl Case {
     }
 }
 
-// The place of a class among those of the table, whose rows stand by classes.
-fn order(class: MatcherType) -> u8
-    ensures { result ≡ order class }
-{
-    match class {
-        MatcherType::App => 0,
-        MatcherType::Book => 1,
-        MatcherType::Image => 2,
-        MatcherType::Video => 3,
-        MatcherType::Audio => 4,
-        MatcherType::Font => 5,
-        MatcherType::Doc => 6,
-        MatcherType::Archive => 7,
-        MatcherType::Text => 8,
-        MatcherType::Custom => 9,
-    }
-}
-
 fn is_open_box(buf: &[u8]) -> bool
     ensures { IsTrue result ↔ IsOpenBox buf.now }
 {
-    stands_at(buf, b"ftyp", 4) && be32(buf) as usize > buf.len()
-}
-
-fn has_office_name(buf: &[u8]) -> bool
-    ensures { IsTrue result ↔ HasOfficeName buf.now }
-{
-    stands_at(buf, b"[Content_Types].xml", 30)
-        || stands_at(buf, b"_rels/.rels", 30)
-        || stands_at(buf, b"docProps", 30)
+    stands_at(buf, b"ftyp", 4) && be32(buf, 0) as usize > buf.len()
 }
 
 fn begins_frame(buf: &[u8]) -> bool
@@ -126,29 +78,15 @@ fn begins_frame(buf: &[u8]) -> bool
 }
 
 fn begins_white(buf: &[u8]) -> bool
-    ensures { IsTrue result ↔ IsWhite (slice_index buf.now 0) }
+    ensures { IsTrue result ↔ BeginsWhite buf.now }
 {
     matches!(buf.first(), Some(b'\t' | b'\n' | 0x0C | b'\r' | b' '))
 }
 
 fn begins_mark(buf: &[u8]) -> bool
-    ensures { IsTrue result ↔ ((mark : List ℕ) × IsMark mark × OccursAt buf.now mark 0) }
+    ensures { IsTrue result ↔ BeginsMarked buf.now }
 {
     stands_at(buf, b"\xEF\xBB\xBF", 0)
         || stands_at(buf, b"\xFE\xFF", 0)
         || stands_at(buf, b"\xFF\xFE", 0)
-}
-
-fn stands_at(buf: &[u8], text: &[u8], place: usize) -> bool
-    ensures { IsTrue result ↔ OccursAt buf.now text.now place }
-{
-    place <= buf.len() && buf[place..].starts_with(text)
-}
-
-// The number in the first four bytes, the highest first.
-fn be32(buf: &[u8]) -> u32
-    requires { 4 ≤ length buf.now }
-    ensures { result ≡ be32 buf.now 0 }
-{
-    u32::from_be_bytes([buf[0], buf[1], buf[2], buf[3]])
 }

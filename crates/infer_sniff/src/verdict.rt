@@ -1,9 +1,12 @@
 //! What is said of the bytes so far.
 ghost use Rattle.std.specs.Prelude.{◌↔◌, IsTrue};
+ghost use Rattle.infer.specs.First.{IsFirstOf};
+ghost use Rattle.infer.specs.Row.{Accepts};
+ghost use Rattle.infer.specs.Table.{table};
 ghost use Rattle.infer_sniff.specs.Verdicts.{LastsFromBeginning, IsSettled, IsTypeOf, IsVerdict, Lasts};
 
 use crate::case::Case;
-use infer::{Type, get, laws};
+use infer::{Type, laws, position, row};
 
 // So many bytes decide every row but twelve.
 const LEAST: usize = 1024;
@@ -23,9 +26,9 @@ pub fn verdict_of(buf: &[u8]) -> Verdict
     ensures lasts { Lasts buf.now result }
 {
     laws::growth();
-    laws::near();
-    let answer = get(buf);
-    if is_settled(buf, answer) {
+    laws::arrival();
+    let (place, answer) = first_of(buf);
+    if is_settled(buf, place) {
         Verdict::Final(answer)
     } else {
         Verdict::SoFar(answer)
@@ -44,17 +47,28 @@ pub fn verdict_behind(before: Verdict, buf: &[u8]) -> Verdict
     }
 }
 
-// Whether nothing behind `buf` can change its answer.
-fn is_settled(buf: &[u8], answer: Option<Type>) -> bool
-    requires { IsTypeOf buf.now answer }
+// The number of the first row that accepts `buf`, and its type.
+fn first_of(buf: &[u8]) -> (Option<usize>, Option<Type>)
+    ensures first { IsFirstOf (Accepts buf.now) table result.0 }
+    ensures tells { IsTypeOf buf.now result.1 }
+{
+    match position(buf) {
+        Some(place) => (Some(place), row(place)),
+        None => (None, None),
+    }
+}
+
+// Whether nothing behind `buf` can change its first row.
+fn is_settled(buf: &[u8], place: Option<usize>) -> bool
+    requires { IsFirstOf (Accepts buf.now) table place }
     ensures { IsTrue result ↔ IsSettled buf.now }
 {
     if buf.len() < LEAST {
         return false;
     }
-    match (Case::of(buf), answer) {
+    match (Case::of(buf), place) {
         (None, _) => true,
         (Some(_), None) => false,
-        (Some(case), Some(found)) => !case.is_before(found),
+        (Some(case), Some(found)) => found <= case.bound(),
     }
 }

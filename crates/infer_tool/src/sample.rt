@@ -10,6 +10,7 @@ ghost use Rattle.infer_tool.specs.Sample.{WritesSample};
 
 use crate::outcome::Outcome;
 use infer::Type;
+use infer::rows::ROW_COUNT;
 use std::io::Write;
 
 /// Writes the sample of the first row with this extension to `out`, and nothing behind it. Where there is no such
@@ -44,7 +45,7 @@ fn refused<E: Write>(extension: &str, err: &mut E) -> Outcome
 fn first_with(extension: &str) -> Option<usize>
     ensures { IsFirstOf (HasExtension extension.now) table result }
 {
-    for i in 0..98 {
+    for i in 0..ROW_COUNT {
         if has_extension(i, extension) {
             return Some(i);
         }
@@ -53,7 +54,7 @@ fn first_with(extension: &str) -> Option<usize>
 }
 
 fn has_extension(i: usize, extension: &str) -> bool
-    requires { i < 98 }
+    requires { i < ROW_COUNT }
     ensures yes { OnTrue result (HoldsAt (HasExtension extension.now) table i) }
     ensures no { OnFalse result (HoldsAt (λ r. ¬ HasExtension extension.now r) table i) }
 {

@@ -2,30 +2,11 @@
 #![tactic(auto)]
 
 use anyhow::{Context, Result};
+use infer::rows::ROW_COUNT;
+use infer::{MatcherType, Type};
 use std::alloc::Global;
 use std::fs;
 use std::rt::Files;
-
-/// How many lines were compared, and how many of them differ.
-#[derive(Clone, Copy)]
-struct Tally {
-    compared: u32,
-    differing: u32,
-}
-
-impl Tally {
-    const NONE: Tally = Tally {
-        compared: 0,
-        differing: 0,
-    };
-
-    fn add(&mut self, is_same: bool) {
-        self.compared = self.compared.saturating_add(1);
-        if !is_same {
-            self.differing = self.differing.saturating_add(1);
-        }
-    }
-}
 
 /// The token's bytes, as often as its count says.
 fn append(buf: &mut Vec<u8>, alloc: Global, token: &str) -> Result<()> {
@@ -52,39 +33,73 @@ fn decode(alloc: Global, tokens: &str) -> Result<Vec<u8>> {
     Ok(buf)
 }
 
-/// Whether `position`, `get` and the questions about the expected row answer what the line says.
-fn is_same(buf: &[u8], expected: Option<usize>) -> bool {
-    if infer::position(buf) != expected {
-        return false;
-    }
-    match expected.and_then(infer::row) {
-        Some(row) => {
-            infer::get(buf) == Some(row)
-                && infer::is(buf, row.extension())
-                && infer::is_mime(buf, row.mime_type())
+/// Whether the row has this name: its class and its extension, as `Image/png`.
+fn has_name(row: &Type, name: &str) -> bool {
+    match name.split_once('/') {
+        Some((class, extension)) => {
+            class_name(row.matcher_type()) == class && row.extension() == extension
         }
-        None => infer::get(buf).is_none(),
+        None => false,
     }
 }
 
-fn compare_buffers(rt: &(impl Print + AllocGlobal), text: &str) -> Result<Tally> {
-    let mut tally = Tally::NONE;
+fn class_name(class: MatcherType) -> &'static str {
+    match class {
+        MatcherType::App => "App",
+        MatcherType::Archive => "Archive",
+        MatcherType::Audio => "Audio",
+        MatcherType::Book => "Book",
+        MatcherType::Custom => "Custom",
+        MatcherType::Doc => "Doc",
+        MatcherType::Font => "Font",
+        MatcherType::Image => "Image",
+        MatcherType::Text => "Text",
+        MatcherType::Video => "Video",
+    }
+}
+
+/// Whether `position`, `position_counted`, `get` and the questions about the row of that name, `-` for none, answer
+/// that it is the first.
+fn is_first(buf: &[u8], name: &str) -> bool {
+    let found = infer::position(buf);
+    if infer::position_counted(buf).0 != found || infer::get(buf) != found.and_then(infer::row) {
+        return false;
+    }
+    match infer::get(buf) {
+        Some(row) => {
+            has_name(&row, name)
+                && infer::is(buf, row.extension())
+                && infer::is_mime(buf, row.mime_type())
+        }
+        None => name == "-",
+    }
+}
+
+/// Compares the answer of each buffer, and notes the rows that are some buffer's.
+fn compare_buffers(
+    rt: &(impl Print + AllocGlobal),
+    text: &str,
+    seen: &mut [bool; ROW_COUNT],
+) -> Result<u32> {
+    let mut differing = 0u32;
     for line in text.lines() {
         let fields: Vec<&str> = line.split('\t').collect(rt.alloc())?;
-        let [name, _, number, tokens] = fields.as_slice() else {
+        let [case, _, name, tokens] = fields.as_slice() else {
             println!(rt; "not four columns: {line}")?;
-            tally.add(false);
+            differing = differing.saturating_add(1);
             continue;
         };
-        let expected = number.parse::<usize>().ok();
-        let buf = decode(rt.alloc(), *tokens).context(format_args!("{name}"))?;
-        let same = is_same(buf.as_slice(), expected);
-        if !same {
-            println!(rt; "{name}: row {number} is expected")?;
+        let buf = decode(rt.alloc(), *tokens).context(format_args!("{case}"))?;
+        if !is_first(buf.as_slice(), *name) {
+            println!(rt; "{case}: {name} is expected")?;
+            differing = differing.saturating_add(1);
+        } else if let Some(row) = infer::position(buf.as_slice()) {
+            if row < ROW_COUNT {
+                seen[row] = true;
+            }
         }
-        tally.add(same);
     }
-    Ok(tally)
+    Ok(differing)
 }
 
 /// The places at which formats state a length, each with the bytes that are put there.
@@ -99,7 +114,7 @@ const STATED: [(usize, [u8; 4]); 8] = [
     (48, [0; 4]),
 ];
 
-/// `buf` with other bytes at the place, as far as it goes, and none where it does not reach that place.
+/// `buf` with other bytes at the place, as far as it goes, and none if it does not reach that place.
 fn with_bytes(alloc: Global, buf: &[u8], place: usize, bytes: &[u8; 4]) -> Result<Option<Vec<u8>>> {
     if place >= buf.len() {
         return Ok(None);
@@ -114,72 +129,85 @@ fn with_bytes(alloc: Global, buf: &[u8], place: usize, bytes: &[u8; 4]) -> Resul
     Ok(Some(other))
 }
 
-/// Tries `buf` with each other stated length. `position` and `get` have to answer alike.
-fn try_lengths(alloc: Global, buf: &[u8], tally: &mut Tally) -> Result<()> {
+/// With how many of the other stated lengths `position` and `get` do not answer alike.
+fn try_lengths(alloc: Global, buf: &[u8]) -> Result<u32> {
+    let mut differing = 0u32;
     for (place, bytes) in &STATED {
         if let Some(other) = with_bytes(alloc, buf, *place, bytes)? {
             let other = other.as_slice();
-            tally.add(infer::get(other) == infer::position(other).and_then(infer::row));
+            if infer::get(other) != infer::position(other).and_then(infer::row) {
+                differing = differing.saturating_add(1);
+            }
         }
     }
-    Ok(())
+    Ok(differing)
 }
 
-fn try_all_lengths(alloc: Global, text: &str) -> Result<Tally> {
-    let mut tally = Tally::NONE;
+fn try_all_lengths(alloc: Global, text: &str) -> Result<u32> {
+    let mut differing = 0u32;
     for line in text.lines() {
         let tokens = line.rsplit('\t').next().unwrap_or("-");
         let buf = decode(alloc, tokens)?;
-        try_lengths(alloc, buf.as_slice(), &mut tally)?;
+        differing = differing.saturating_add(try_lengths(alloc, buf.as_slice())?);
     }
-    Ok(tally)
+    Ok(differing)
 }
 
-/// Whether the row has the number, class, MIME type and extension that the line says.
-fn is_row(alloc: Global, fields: &[&str]) -> Result<bool> {
-    let [number, class, mime_type, extension] = fields else {
-        return Ok(false);
+/// Whether row `i` has the class, MIME type and extension of the line, and no other row has its name.
+fn is_row(i: usize, fields: &[&str]) -> bool {
+    let ([class, mime_type, extension], Some(row)) = (fields, infer::row(i)) else {
+        return false;
     };
-    let Some(row) = infer::row(number.parse::<usize>()?) else {
-        return Ok(false);
+    let is_alike = |other: &Type| {
+        class_name(other.matcher_type()) == *class && other.extension() == *extension
     };
-    let found = row.matcher_type();
-    let shown = format!(in alloc; "{found:?}")?;
-    Ok(shown.as_str() == *class && row.mime_type() == *mime_type && row.extension() == *extension)
+    let named = (0..ROW_COUNT)
+        .filter_map(infer::row)
+        .filter(is_alike)
+        .count();
+    is_alike(&row) && row.mime_type() == *mime_type && named == 1
 }
 
-fn compare_rows(rt: &(impl Print + AllocGlobal), text: &str) -> Result<Tally> {
-    let mut tally = Tally::NONE;
-    for line in text.lines() {
+/// Compares row by row, of which line 1 tells row 0, and that no row follows.
+fn compare_rows(rt: &(impl Print + AllocGlobal), text: &str) -> Result<u32> {
+    let mut differing = 0u32;
+    let mut count = 0usize;
+    for (i, line) in text.lines().enumerate() {
         let fields: Vec<&str> = line.split('\t').collect(rt.alloc())?;
-        let same = is_row(rt.alloc(), fields.as_slice())?;
-        if !same {
-            println!(rt; "another row: {line}")?;
+        if !is_row(i, fields.as_slice()) {
+            println!(rt; "row {i} is another: {line}")?;
+            differing = differing.saturating_add(1);
         }
-        tally.add(same);
+        count = i;
     }
-    Ok(tally)
+    if count.saturating_add(1) != ROW_COUNT {
+        println!(rt; "rows.tsv does not tell {ROW_COUNT} rows")?;
+        differing = differing.saturating_add(1);
+    }
+    Ok(differing)
+}
+
+/// Prints the rows that are first for no buffer.
+fn print_unseen(rt: &impl Print, seen: &[bool; ROW_COUNT]) -> Result<()> {
+    for (i, is_seen) in seen.iter().enumerate() {
+        if let (Some(row), false) = (infer::row(i), *is_seen) {
+            let class = class_name(row.matcher_type());
+            println!(rt; "first for no buffer: {class}/{}", row.extension())?;
+        }
+    }
+    Ok(())
 }
 
 fn run(rt: &(impl Files + Print + AllocGlobal)) -> Result<()> {
     let rows = fs::read_to_string(rt, "rows.tsv").context("rows.tsv")?;
-    let Tally {
-        compared,
-        differing,
-    } = compare_rows(rt, rows.as_str())?;
-    println!(rt; "{compared} rows compared, {differing} differ")?;
+    println!(rt; "rows that differ: {}", compare_rows(rt, rows.as_str())?)?;
     let vectors = fs::read_to_string(rt, "vectors.tsv").context("vectors.tsv")?;
-    let Tally {
-        compared,
-        differing,
-    } = compare_buffers(rt, vectors.as_str())?;
-    println!(rt; "{compared} buffers compared, {differing} differ")?;
-    let Tally {
-        compared,
-        differing,
-    } = try_all_lengths(rt.alloc(), vectors.as_str())?;
-    println!(rt; "{compared} buffers with other stated lengths, {differing} without one answer")?;
-    Ok(())
+    let mut seen = [false; ROW_COUNT];
+    let differing = compare_buffers(rt, vectors.as_str(), &mut seen)?;
+    println!(rt; "buffers that differ: {differing}")?;
+    let differing = try_all_lengths(rt.alloc(), vectors.as_str())?;
+    println!(rt; "buffers with other stated lengths and no one answer: {differing}")?;
+    print_unseen(rt, &seen)
 }
 
 fn main(rt: HostRuntime) -> Result<()> {

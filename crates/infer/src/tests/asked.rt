@@ -2,7 +2,8 @@
 ghost use Rattle.std.specs.Prelude.{◌≡◌};
 
 use crate::{
-    Ask, Asker, is, is_archive, is_counted, is_document, position, position_counted, sample, walk,
+    Ask, Asker, is, is_archive, is_counted, is_document, position, position_counted, rows, sample,
+    walk,
 };
 use std::process::Abort;
 use std::test::Fail;
@@ -19,7 +20,7 @@ const EPUB: &[u8] =
 #[derive(Drop)]
 struct Noting<'a> {
     inner: Asker<'a>,
-    rows: [usize; 98],
+    rows: [usize; rows::ROW_COUNT],
 }
 
 impl<'a> Noting<'a> {
@@ -28,14 +29,14 @@ impl<'a> Noting<'a> {
     {
         Noting {
             inner: Asker::new(buf),
-            rows: [98; 98],
+            rows: [rows::ROW_COUNT; rows::ROW_COUNT],
         }
     }
 
     /// The rows that were asked, in order.
     fn rows(&self) -> &[usize] {
         let count = self.inner.asked() as usize;
-        &self.rows[..count.min(98)]
+        &self.rows[..count.min(rows::ROW_COUNT)]
     }
 }
 
@@ -60,12 +61,12 @@ fn positions_and_counts(rt: HostRuntime) {
     let cases: [(&[u8], Option<usize>, u32); 7] = [
         (b"", None, 0),
         (b"\x01", None, 12),
-        (b"MZ", Some(2), 1),
-        (b"\xFF\xD8\xFF\xAA", Some(15), 2),
-        (WEBP, Some(19), 3),
+        (b"MZ", Some(rows::EXE), 1),
+        (b"\xFF\xD8\xFF\xAA", Some(rows::JPEG), 2),
+        (WEBP, Some(rows::WEBP), 3),
         (
             b"\x50\x2A\x4D\x18\x01\0\0\0\0\x28\xB5\x2F\xFD",
-            Some(91),
+            Some(rows::ZST),
             24,
         ),
         (b"\x50\x2A\x4D\x18\xFF\xFF\xFF\xFF", None, 25),
@@ -78,8 +79,13 @@ fn positions_and_counts(rt: HostRuntime) {
 #[test]
 fn rows_in_order(rt: HostRuntime) {
     let cases: [(&[u8], Option<&str>, Option<usize>, &[usize]); 2] = [
-        (WEBP, None, Some(19), &[13, 14, 19]),
-        (WORD, Some("epub"), None, &[13, 66]),
+        (
+            WEBP,
+            None,
+            Some(rows::WEBP),
+            &[rows::EPUB, rows::MOBI, rows::WEBP],
+        ),
+        (WORD, Some("epub"), None, &[rows::EPUB, rows::EPUB_ARCHIVE]),
     ];
     for (i, (buf, wanted, expected, rows)) in cases.iter().enumerate() {
         let mut noting = Noting::new(*buf);
@@ -119,7 +125,7 @@ fn rows_behind_the_first(rt: HostRuntime) -> Result<(), Fail> {
 
 /// The first of all rows that accepts the buffer, each asked by an asker of its own.
 fn plain_position(buf: &[u8]) -> Option<usize> {
-    for i in 0..98 {
+    for i in 0..rows::ROW_COUNT {
         if Asker::new(buf).ask(i) {
             return Some(i);
         }
@@ -144,7 +150,7 @@ fn compare_with_each_first_byte(rt: &impl Abort, buf: &mut [u8]) {
 
 #[test]
 fn asks_as_a_plain_walk(rt: HostRuntime) {
-    for i in 0..98 {
+    for i in 0..rows::ROW_COUNT {
         let mut out = [0; 640];
         if let Some(n) = sample(i, &mut out) {
             compare(&rt, &out[..n]);
@@ -167,7 +173,7 @@ fn compare_beginnings(rt: &impl Abort, buf: &[u8]) {
 
 #[test]
 fn samples_grow(rt: HostRuntime) {
-    for i in 0..98 {
+    for i in 0..rows::ROW_COUNT {
         let mut out = [0; 640];
         if let Some(n) = sample(i, &mut out) {
             compare_beginnings(&rt, &out[..n]);

@@ -2,7 +2,7 @@
 ghost use Rattle.std.specs.Prelude.{◌<◌, ◌↔◌, IsTrue, length};
 
 use crate::engine::FRONT;
-use crate::{Fault, Infer, Type, Watched, get, get_from_path, row, sample};
+use crate::{Fault, Infer, Type, Watched, get, get_from_path, row, rows, sample};
 use hostile_streams::PieceReader;
 use linked_list_allocator::LocalHeap;
 use std::alloc::{AllocError, Allocator, Global};
@@ -281,7 +281,7 @@ fn files(rt: HostRuntime) -> Result<(), Fail> {
 
 #[test]
 fn samples_as_files(rt: HostRuntime) -> Result<(), Fail> {
-    for i in 0..98 {
+    for i in 0..rows::ROW_COUNT {
         let mut out = [0; 640];
         if let Some(n) = sample(i, &mut out) {
             fs::write(&rt, "sample.bin", &out[..n])?;

@@ -10,6 +10,7 @@ ghost use Rattle.infer.specs.Rows.{custom_rows};
 ghost use Rattle.infer.specs.Table.{table};
 
 use crate::app::{is_java, is_mach};
+use crate::rows::{DLL, DOC, EPUB, EPUB_ARCHIVE, EXE, ROW_COUNT, SHELLSCRIPT};
 use crate::{Infer, Type, laws, position, sample};
 use std::alloc::Allocator;
 use std::test::Fail;
@@ -45,7 +46,7 @@ fn blank(rt: HostRuntime) {
 }
 
 fn position_but_two(buf: &[u8]) -> Option<usize>
-    ensures { IfSome result (λ i. (i ≢ 3) × (i ≢ 66)) }
+    ensures { IfSome result (λ i. (i ≢ DLL) × (i ≢ EPUB_ARCHIVE)) }
 {
     laws::never();
     position(buf)
@@ -128,7 +129,7 @@ fn front(rt: HostRuntime) {
 
 /// A first row of some buffer is not that of its first 1024 bytes.
 fn document_breaks()
-    ensures { (buf : List ℕ) × IsFirst (Accepts buf) table 57 × ¬ IsFirst (Accepts (take 1024 buf)) table 57 }
+    ensures { (buf : List ℕ) × IsFirst (Accepts buf) table DOC × ¬ IsFirst (Accepts (take 1024 buf)) table DOC }
 {
     laws::breaks();
 }
@@ -140,7 +141,7 @@ fn breaks() {
 
 /// Some buffer has the last row as its first.
 fn script_is_reached()
-    ensures { (buf : List ℕ) × IsFirst (Accepts buf) table 97 }
+    ensures { (buf : List ℕ) × IsFirst (Accepts buf) table SHELLSCRIPT }
 {
     laws::reach();
 }
@@ -160,7 +161,7 @@ fn each_sample_has_its_row(rt: HostRuntime) {
                 assert!(rt; out[n..].iter().all(|x| *x == 0));
             }
             None => {
-                assert!(rt; i == 3 || i == 66 || i >= 98);
+                assert!(rt; i == DLL || i == EPUB_ARCHIVE || i >= ROW_COUNT);
                 assert!(rt; out.iter().all(|x| *x == 0xFF));
             }
         }
@@ -170,15 +171,15 @@ fn each_sample_has_its_row(rt: HostRuntime) {
 #[test]
 fn samples_by_hand(rt: HostRuntime) {
     let mut out = [0xFF; 640];
-    assert_eq!(rt; sample(2, &mut out), Some(2));
+    assert_eq!(rt; sample(EXE, &mut out), Some(2));
     assert_eq!(rt; &out[..3], [0x4D, 0x5A, 0x00].as_slice());
-    assert_eq!(rt; sample(57, &mut out), Some(640));
+    assert_eq!(rt; sample(DOC, &mut out), Some(640));
     assert_eq!(rt;
         &out[..8],
         [0xD0, 0xCF, 0x11, 0xE0, 0xA1, 0xB1, 0x1A, 0xE1].as_slice()
     );
     assert_eq!(rt; &out[592..596], [0x06, 0x09, 0x02, 0x00].as_slice());
-    assert_eq!(rt; sample(13, &mut out), Some(58));
-    assert_eq!(rt; sample(66, &mut out), None);
-    assert_eq!(rt; sample(98, &mut out), None);
+    assert_eq!(rt; sample(EPUB, &mut out), Some(58));
+    assert_eq!(rt; sample(EPUB_ARCHIVE, &mut out), None);
+    assert_eq!(rt; sample(ROW_COUNT, &mut out), None);
 }

@@ -1,7 +1,7 @@
 //! The numbers of first rows, on worked buffers.
 use crate::{
     MatcherType, app, archive, get, is, is_archive, is_audio, is_book, is_image, is_mime,
-    is_mime_supported, is_supported, position, row,
+    is_mime_supported, is_supported, position, row, rows,
 };
 use std::alloc::{AllocError, Global};
 use std::test::Fail;
@@ -37,50 +37,53 @@ type Case<'a> = (usize, &'a [(usize, &'a [u8])], Option<usize>);
 fn short_buffers(rt: HostRuntime) {
     let cases: [(&[u8], Option<usize>); 39] = [
         (b"", None),
-        (b"\xFF\xD8\xFF\xAA", Some(15)),
-        (b"MZ", Some(2)),
-        (b"\xCA\xFE\xBA\xBE\0\0\0\x02", Some(6)),
-        (b"\xCA\xFE\xBA\xBE\0\0\0\x2D", Some(4)),
+        (b"\xFF\xD8\xFF\xAA", Some(rows::JPEG)),
+        (b"MZ", Some(rows::EXE)),
+        (b"\xCA\xFE\xBA\xBE\0\0\0\x02", Some(rows::MACH)),
+        (b"\xCA\xFE\xBA\xBE\0\0\0\x2D", Some(rows::JAVA)),
         (b"\xCA\xFE\xBA\xBE\0\x2D\0\0", None),
         (b"II*\0\0\0\0\0\0R", None),
-        (b"II*\0\0\0\0\0\0\0", Some(21)),
+        (b"II*\0\0\0\0\0\0\0", Some(rows::TIFF)),
         (b"070701", None),
-        (b"070701\0", Some(94)),
+        (b"070701\0", Some(rows::CPIO)),
         (b"#!", None),
-        (b"#!AMR\n", Some(97)),
-        (b"#!AMR\n\0\0\0\0\0\0", Some(48)),
-        (b"!<arch>", Some(86)),
-        (b"!<arch>\ndebian-binary", Some(85)),
-        (b"BZh", Some(72)),
+        (b"#!AMR\n", Some(rows::SHELLSCRIPT)),
+        (b"#!AMR\n\0\0\0\0\0\0", Some(rows::AMR)),
+        (b"!<arch>", Some(rows::AR)),
+        (b"!<arch>\ndebian-binary", Some(rows::DEB)),
+        (b"BZh", Some(rows::BZ2)),
         (b"BZ3v", None),
-        (b"BZ3v1", Some(73)),
-        (b"\0\0\0\0\0\0\0\0\0\0\0\0mdat", Some(36)),
-        (b"\x00\x02\x00", Some(10)),
+        (b"BZ3v1", Some(rows::BZ3)),
+        (b"\0\0\0\0\0\0\0\0\0\0\0\0mdat", Some(rows::MOV)),
+        (b"\x00\x02\x00", Some(rows::COFF)),
         (b"\x4C\x01", None),
-        (b"\x4C\x01\x00", Some(10)),
-        (b"\x50\x2A\x4D\x18\x01\0\0\0\0\x28\xB5\x2F\xFD", Some(91)),
+        (b"\x4C\x01\x00", Some(rows::COFF)),
+        (
+            b"\x50\x2A\x4D\x18\x01\0\0\0\0\x28\xB5\x2F\xFD",
+            Some(rows::ZST),
+        ),
         (b"\x50\x2A\x4D\x18\x01\0\0\0\0\x28\xB5\x2F", None),
         (b"\x50\x2A\x4D\x18\xFF\xFF\xFF\xFF", None),
         (
             b"\x5F\x2A\x4D\x18\0\0\0\0\x50\x2A\x4D\x18\x02\0\0\0\xAA\xBB\x04\x22\x4D\x18",
-            Some(92),
+            Some(rows::LZ4),
         ),
         (
             b"\x60\x2A\x4D\x18\0\0\0\0\x50\x2A\x4D\x18\x02\0\0\0\xAA\xBB\x04\x22\x4D\x18",
             None,
         ),
-        (b"\0\0\0\x18ftypmif1\0\0\0\0mif1heic", Some(26)),
+        (b"\0\0\0\x18ftypmif1\0\0\0\0mif1heic", Some(rows::HEIF)),
         (b"\0\0\0\x14ftypmif1\0\0\0\0mif1heic", None),
         (b"\0\0\0\x19ftypmif1\0\0\0\0mif1heic", None),
-        (b"\0\0\0\x19ftypmif1\0\0\0\0mif1heic\0", Some(26)),
-        (b"\0\0\0\x08ftypavif\0\0\0\0", Some(27)),
-        (b"\0\0\0\x14ftypheic\0\0\0\0avif", Some(26)),
+        (b"\0\0\0\x19ftypmif1\0\0\0\0mif1heic\0", Some(rows::HEIF)),
+        (b"\0\0\0\x08ftypavif\0\0\0\0", Some(rows::AVIF)),
+        (b"\0\0\0\x14ftypheic\0\0\0\0avif", Some(rows::HEIF)),
         (b"\xFF\xFF\xFF\xFFftypheic\0\0\0\0", None),
-        (b"\xFF\xFF\xFF\xFFftypisom", Some(32)),
-        (b"\xFF\xFE<?xml", Some(96)),
-        (b"<!-->", Some(95)),
+        (b"\xFF\xFF\xFF\xFFftypisom", Some(rows::MP4)),
+        (b"\xFF\xFE<?xml", Some(rows::XML)),
+        (b"<!-->", Some(rows::HTML)),
         (b"<A\t", None),
-        (b"P\0\0\0\0\0\0\0WEBP", Some(19)),
+        (b"P\0\0\0\0\0\0\0WEBP", Some(rows::WEBP)),
     ];
     for (i, (buf, expected)) in cases.iter().enumerate() {
         assert_eq!(rt; position(*buf), *expected, "case {i}");
@@ -90,16 +93,20 @@ fn short_buffers(rt: HostRuntime) {
 #[test]
 fn long_buffers(rt: HostRuntime) -> Result<(), Fail> {
     let cases: [Case; 18] = [
-        (36, &[(0, b"OggS"), (28, b"OpusHead")], Some(44)),
-        (35, &[(0, b"OggS"), (28, b"OpusHead")], Some(45)),
+        (36, &[(0, b"OggS"), (28, b"OpusHead")], Some(rows::OGG_OPUS)),
+        (35, &[(0, b"OggS"), (28, b"OpusHead")], Some(rows::OGG)),
         (100, &[(0, b"dey\n"), (40, b"dex\n"), (76, b"p")], None),
-        (101, &[(0, b"dey\n"), (40, b"dex\n"), (76, b"p")], Some(8)),
-        (257, &[(0, EBML), (245, MKV)], Some(34)),
+        (
+            101,
+            &[(0, b"dey\n"), (40, b"dex\n"), (76, b"p")],
+            Some(rows::DEY),
+        ),
+        (257, &[(0, EBML), (245, MKV)], Some(rows::MKV)),
         (257, &[(0, EBML), (246, MKV)], None),
-        (604, &[(600, b"%PDF")], Some(76)),
-        (1024, &[(1020, b"%PDF")], Some(76)),
+        (604, &[(600, b"%PDF")], Some(rows::PDF)),
+        (1024, &[(1020, b"%PDF")], Some(rows::PDF)),
         (1025, &[(1021, b"%PDF")], None),
-        (1028, &[(0, b"\0\0\x04\x04ftypheic")], Some(26)),
+        (1028, &[(0, b"\0\0\x04\x04ftypheic")], Some(rows::HEIF)),
         (1024, &[(0, b"\0\0\x04\x04ftypheic")], None),
         (
             640,
@@ -109,7 +116,7 @@ fn long_buffers(rt: HostRuntime) -> Result<(), Fail> {
                 (578, b"\x05"),
                 (592, WORD_ID),
             ],
-            Some(57),
+            Some(rows::DOC),
         ),
         (
             639,
@@ -119,7 +126,7 @@ fn long_buffers(rt: HostRuntime) -> Result<(), Fail> {
                 (578, b"\x05"),
                 (592, WORD_ID),
             ],
-            Some(93),
+            Some(rows::MSI),
         ),
         (
             4224,
@@ -130,16 +137,16 @@ fn long_buffers(rt: HostRuntime) -> Result<(), Fail> {
                 (4162, b"\x05"),
                 (4176, EXCEL_ID),
             ],
-            Some(93),
+            Some(rows::MSI),
         ),
-        (34, &[(0, ZIP), (30, b"word")], Some(67)),
-        (35, &[(0, ZIP), (30, b"word/")], Some(58)),
+        (34, &[(0, ZIP), (30, b"word")], Some(rows::ZIP)),
+        (35, &[(0, ZIP), (30, b"word/")], Some(rows::DOCX)),
         (
             58,
             &[(0, ZIP), (30, b"mimetypeapplication/epub+zip")],
-            Some(13),
+            Some(rows::EPUB),
         ),
-        (262, &[(0, b"<P>"), (257, b"ustar")], Some(68)),
+        (262, &[(0, b"<P>"), (257, b"ustar")], Some(rows::TAR)),
     ];
     for (i, (len, texts, expected)) in cases.iter().enumerate() {
         let buf = zeros_but(rt.alloc(), *len, *texts)?;
@@ -169,13 +176,13 @@ fn office_headers(rt: HostRuntime) -> Result<(), Fail> {
     let excel: &[u8] = b"xl/";
     let none: &[u8] = b"\0\0\0";
     let cases: [(usize, &[u8], usize, usize); 7] = [
-        (0, excel, 111, 67),
-        (0, excel, 112, 60),
-        (0, excel, 170, 60),
-        (0, none, 169, 67),
-        (0, none, 170, 58),
-        (5996, excel, 6166, 60),
-        (5997, excel, 6167, 67),
+        (0, excel, 111, rows::ZIP),
+        (0, excel, 112, rows::XLSX),
+        (0, excel, 170, rows::XLSX),
+        (0, none, 169, rows::ZIP),
+        (0, none, 170, rows::DOCX),
+        (5996, excel, 6166, rows::XLSX),
+        (5997, excel, 6167, rows::ZIP),
     ];
     for (i, (gap, folder, len, expected)) in cases.iter().enumerate() {
         let mut buf = office(rt.alloc(), *gap, *folder)?;
@@ -196,7 +203,7 @@ fn office_sizes(rt: HostRuntime) -> Result<(), Fail> {
         let mut buf = office(rt.alloc(), 0, b"xl/")?;
         assert!(rt; buf.len() > 22);
         buf[18..22].copy_from_slice(size);
-        assert_eq!(rt; position(buf.as_slice()), Some(67), "{size:?}");
+        assert_eq!(rt; position(buf.as_slice()), Some(rows::ZIP), "{size:?}");
     }
     Ok(())
 }
@@ -208,7 +215,11 @@ fn positions(buf: &[u8]) -> (Option<usize>, Option<usize>) {
 
 #[test]
 fn compounds_past_the_front(rt: HostRuntime) -> Result<(), Fail> {
-    for (row, id) in [(57, WORD_ID), (59, EXCEL_ID), (61, POWERPOINT_ID)] {
+    for (row, id) in [
+        (rows::DOC, WORD_ID),
+        (rows::XLS, EXCEL_ID),
+        (rows::PPT, POWERPOINT_ID),
+    ] {
         let texts: [(usize, &[u8]); 5] = [
             (0, COMPOUND),
             (26, b"\x03\0\xFE\xFF\x09"),
@@ -217,14 +228,18 @@ fn compounds_past_the_front(rt: HostRuntime) -> Result<(), Fail> {
             (1104, id),
         ];
         let buf = zeros_but(rt.alloc(), 1152, &texts)?;
-        assert_eq!(rt; positions(buf.as_slice()), (Some(row), Some(93)));
+        assert_eq!(rt; positions(buf.as_slice()), (Some(row), Some(rows::MSI)));
     }
     Ok(())
 }
 
 #[test]
 fn folders_past_the_front(rt: HostRuntime) -> Result<(), Fail> {
-    let folders: [(usize, &[u8]); 3] = [(58, b"word/"), (60, b"xl/"), (62, b"ppt/")];
+    let folders: [(usize, &[u8]); 3] = [
+        (rows::DOCX, b"word/"),
+        (rows::XLSX, b"xl/"),
+        (rows::PPTX, b"ppt/"),
+    ];
     for (row, folder) in folders {
         let texts: [(usize, &[u8]); 7] = [
             (0, ZIP),
@@ -236,7 +251,7 @@ fn folders_past_the_front(rt: HostRuntime) -> Result<(), Fail> {
             (1165, folder),
         ];
         let buf = zeros_but(rt.alloc(), 1165 + folder.len(), &texts)?;
-        assert_eq!(rt; positions(buf.as_slice()), (Some(row), Some(67)));
+        assert_eq!(rt; positions(buf.as_slice()), (Some(row), Some(rows::ZIP)));
     }
     Ok(())
 }
@@ -245,16 +260,16 @@ fn folders_past_the_front(rt: HostRuntime) -> Result<(), Fail> {
 fn others_past_the_front(rt: HostRuntime) -> Result<(), Fail> {
     let frame = b"\x50\x2A\x4D\x18\xF8\x03";
     let zeros: [(usize, &[(usize, &[u8])]); 4] = [
-        (26, &[(0, b"\0\0\x04\x04ftypheic")]),
-        (27, &[(0, b"\0\0\x04\x04ftypavif")]),
-        (91, &[(0, frame), (1024, b"\x28\xB5\x2F\xFD")]),
-        (92, &[(0, frame), (1024, b"\x04\x22\x4D\x18")]),
+        (rows::HEIF, &[(0, b"\0\0\x04\x04ftypheic")]),
+        (rows::AVIF, &[(0, b"\0\0\x04\x04ftypavif")]),
+        (rows::ZST, &[(0, frame), (1024, b"\x28\xB5\x2F\xFD")]),
+        (rows::LZ4, &[(0, frame), (1024, b"\x04\x22\x4D\x18")]),
     ];
     for (row, texts) in zeros {
         let buf = zeros_but(rt.alloc(), 1028, texts)?;
         assert_eq!(rt; positions(buf.as_slice()), (Some(row), None));
     }
-    let marks: [(usize, &[u8]); 2] = [(95, b"<P>"), (96, b"<?xml")];
+    let marks: [(usize, &[u8]); 2] = [(rows::HTML, b"<P>"), (rows::XML, b"<?xml")];
     for (row, mark) in marks {
         let mut buf = vec![in rt.alloc(); b' '; 1024]?;
         buf.extend_from_slice(mark)?;
@@ -279,7 +294,7 @@ fn questions_about_rows(rt: HostRuntime) -> Result<(), Fail> {
     assert_eq!(rt; get(epub).ok_or("known")?.matcher_type(), MatcherType::Book);
     assert!(rt; is_archive(epub) && is_book(epub) && is(epub, "zip"));
     assert!(rt; archive::is_epub(epub));
-    assert!(rt; row(13) != row(66));
+    assert!(rt; row(rows::EPUB) != row(rows::EPUB_ARCHIVE));
     for (extension, expected) in [("midi", true), ("jpg", true), ("mid", false)] {
         assert_eq!(rt; is_supported(extension), expected);
     }
@@ -291,11 +306,11 @@ fn questions_about_rows(rt: HostRuntime) -> Result<(), Fail> {
         assert_eq!(rt; is_mime_supported(mime_type), expected);
     }
     assert!(rt; is_mime(b"BC", "application/x-llvm"));
-    let shell = row(97).ok_or("a row")?;
+    let shell = row(rows::SHELLSCRIPT).ok_or("a row")?;
     assert_eq!(rt; shell.matcher_type(), MatcherType::Text);
     assert_eq!(rt; shell.mime_type(), "text/x-shellscript");
     assert_eq!(rt; shell.extension(), "sh");
-    assert_eq!(rt; row(98), None);
+    assert_eq!(rt; row(rows::ROW_COUNT), None);
     Ok(())
 }
 

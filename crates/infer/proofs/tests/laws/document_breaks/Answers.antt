@@ -1,14 +1,17 @@
 use Rattle.std.proofs.Common.{Some, take, refl}
 use Rattle.infer.specs.Row.{Accepts}
-use Rattle.infer.specs.Table.{table}
+use Rattle.infer.specs.Matchers.{is_of_the_twelve}
+use Rattle.infer.specs.Table.{signature_of, table}
+use Rattle.infer.specs.declared.rows.TheConstants.{DOC}
 use Rattle.infer.proofs.FirstLemmas.{IsFirstOf-same}
 use Rattle.infer.proofs.tests.laws.document_breaks.Goals as goal
 
 pub returns : goal.returns
+unfolding is_of_the_twelve signature_of table
 returns c =
-    let found = c.breaks.ensures 57 refl in (
+    let found = c.breaks.ensures DOC refl in (
       found.0,
       found.1.first,
       λ first.
-          found.1.other (IsFirstOf-same (Accepts (take 1024 found.0)) table found.1.front (Some 57) found.1.front_first first),
+          found.1.other (IsFirstOf-same (Accepts (take 1024 found.0)) table found.1.front (Some DOC) found.1.front_first first),
     )

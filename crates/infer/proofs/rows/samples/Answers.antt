@@ -1,6 +1,6 @@
 use Rattle.std.proofs.Common.{refl}
 use Rattle.infer.specs.Table.{table}
-use Rattle.infer.proofs.samples.all.Goals as goal
+use Rattle.infer.proofs.rows.samples.Goals as goal
 
 pub returns-clause-buffers : goal.returns-clause-buffers
 unfolding table

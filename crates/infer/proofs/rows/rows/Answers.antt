@@ -1,0 +1,7 @@
+use Rattle.std.proofs.Common.{refl}
+use Rattle.infer.specs.Table.{signature_of, table}
+use Rattle.infer.proofs.rows.rows.Goals as goal
+
+pub returns : goal.returns
+unfolding table signature_of
+returns c = refl

@@ -1,2 +1,0 @@
-//! Books.
-pub use infer_sig::book::{is_epub, is_mobi};

@@ -1,2 +1,0 @@
-//! OpenDocument files.
-pub use infer_sig::odf::{is_odp, is_ods, is_odt};
