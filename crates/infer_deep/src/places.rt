@@ -6,7 +6,8 @@ ghost use Rattle.infer_deep.specs.Blocks.{LacksPair};
 ghost use Rattle.infer_deep.specs.Places.{IsFirstWithin};
 ghost use Rattle.infer_deep.specs.Windows.{StandsBy};
 
-use memchr::{memchr, memmem};
+use memchr::arch::all::twoway;
+use memchr::memchr;
 
 /// Whether `text` stands in `buf` from `place` on.
 pub fn stands_at(buf: &[u8], text: &[u8], place: usize) -> bool
@@ -49,7 +50,7 @@ fn search(buf: &[u8], text: &[u8], start: usize, end: usize) -> Option<usize>
     if start > stop {
         return None;
     }
-    let at = memmem::find(&buf[start..stop], text)?;
+    let at = twoway::Finder::new(text).find(&buf[start..stop], text)?;
     Some(start + at)
 }
 
