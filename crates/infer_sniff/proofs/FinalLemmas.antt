@@ -20,7 +20,7 @@ use Rattle.infer.specs.declared.file_type.MatcherType.TheVariants.{Text}
 use Rattle.infer_sniff.specs.Cases.{Holds, bound}
 use Rattle.infer_sniff.specs.declared.case.Case.{Case}
 use Rattle.infer_sniff.specs.declared.case.Case.TheVariants.{OpenBox, Compound, Office, Frame, Space, Mark}
-use Rattle.infer_sniff.specs.Verdicts.{LastsFromBeginning, IsTypeOf, IsSettled, IsVerdict, Lasts}
+use Rattle.infer_sniff.specs.Verdicts.{LastsFromBeginning, IsTypeOf, IsSettled, IsVerdict, Lasts, RowLasts}
 use Rattle.infer_sniff.specs.declared.verdict.Verdict.{Verdict}
 use Rattle.infer_sniff.specs.declared.verdict.Verdict.TheVariants.{SoFar, Final}
 
@@ -164,6 +164,11 @@ pub Final-lasts : ((s : BuiltIn) → KeepsYes s) → NewcomersAreAwaited → Beg
 Final-lasts every newcomers early b answer (settled, is) more =
     let stays = answer_stays every newcomers early b more settled (option_map triple_of answer) is in
     (stays, (settled_stays every newcomers early b more settled (option_map triple_of answer) is, stays))
+
+pub first-lasts : ((s : BuiltIn) → KeepsYes s) → NewcomersAreAwaited → Beginnings → (b : List ℕ) (row : Option ℕ)
+    → IsFirstOf (Accepts b) table row → IsSettled b → RowLasts b row
+first-lasts every newcomers early b row first settled more =
+    (first_stays every newcomers early b more settled row first, settled_by every newcomers early b more settled row first)
 
 -- what lasts from a beginning on lasts
 pub Lasts-on : (verdict : Verdict) (b : List ℕ) → LastsFromBeginning verdict b → Lasts b verdict

@@ -28,6 +28,10 @@ abbrev pub Lasts : List ℕ → Verdict → Type 0
 Lasts b (SoFar answer) = Unit {0}
 Lasts b (Final answer) = (more : List ℕ) → IsTypeOf (b ++ more) answer × IsVerdict (b ++ more) (Final answer)
 
+-- the row is the first of everything that grows the buffer, none as none, and that stays settled
+abbrev pub RowLasts : List ℕ → Option ℕ → Type 0
+RowLasts b row = (more : List ℕ) → IsFirstOf (Accepts (b ++ more)) table row × IsSettled (b ++ more)
+
 -- the verdict lasts from a beginning of the buffer on
 abbrev pub LastsFromBeginning : Verdict → List ℕ → Type 0
 LastsFromBeginning verdict b = (short more : List ℕ) × (b ≡ short ++ more) × Lasts short verdict

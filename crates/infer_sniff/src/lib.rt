@@ -6,10 +6,12 @@
 #![tactic(auto)]
 
 mod case;
+mod position;
 mod sniffer;
 #[cfg(test)]
 mod tests;
 mod verdict;
 
+pub use position::position_settled;
 pub use sniffer::Sniffer;
 pub use verdict::Verdict;

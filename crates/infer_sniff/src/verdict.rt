@@ -59,7 +59,7 @@ fn first_of(buf: &[u8]) -> (Option<usize>, Option<Type>)
 }
 
 // Whether nothing behind `buf` can change its first row.
-fn is_settled(buf: &[u8], place: Option<usize>) -> bool
+pub fn is_settled(buf: &[u8], place: Option<usize>) -> bool
     requires { IsFirstOf (Accepts buf.now) table place }
     ensures { IsTrue result ↔ IsSettled buf.now }
 {
