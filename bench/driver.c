@@ -6,9 +6,9 @@
 
 static volatile long sink;
 
-static void call(const char *what, const uint8_t *buf, size_t len) {
+static void call(const char *what, const void *buf, size_t len) {
     if (!strcmp(what, "position")) sink = infer_position(buf, len);
-    else if (!strcmp(what, "is")) sink = infer_is(buf, len, (const uint8_t *)"zip", 3);
+    else if (!strcmp(what, "is")) sink = infer_is(buf, len, "zip", 3);
     else if (!strcmp(what, "is_supported")) sink = infer_is_supported(buf, len);
     else if (!strcmp(what, "is_app")) sink = infer_is_app(buf, len);
     else if (!strcmp(what, "is_archive")) sink = infer_is_archive(buf, len);

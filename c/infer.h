@@ -1,8 +1,24 @@
 /* The type of a file from its first bytes.
  *
- * Link with libinfer.a. No function allocates, keeps state or calls back, and all may be called from any thread.
- * A buffer is a pointer and a length, and so is a text, as bytes without a terminating zero. A null pointer with
- * length 0 is the empty buffer or text. A text that is not UTF-8 is no row's text. Upper and lower case are apart. */
+ * Hand over 8192 bytes, or all where there are fewer: that labels most files. More is never wrong: a call looks only
+ * at bytes that decide, so a file that is mapped into memory may be handed over whole. Some old Office files are told
+ * only so: of 14 real ones 5 at 8192 bytes, 11 at 65536 and 12 whole.
+ *
+ * Allow by the answer: by infer_position or infer_verdict, and then by the row's MIME type. infer_is, infer_is_mime
+ * and the class tests ask whether SOME row accepts, which is not the answer. infer_is(buf, len, "pdf", 3) is true of
+ * a web page that has "%PDF" in its first 1024 bytes, and infer_is_image is true of "BM<html>", since two bytes make
+ * a BMP image here. Such a short signature says little: of random bytes one in 65536 begins with it.
+ *
+ * What stays the same in later versions: an extension and a MIME type keep their meaning, so store these. Row numbers
+ * change whenever a row is added, so never store them; the classes' numbers, below, stay, and new ones may come.
+ *
+ * No function allocates, keeps state or calls back, and all may be called from any thread. A buffer is a pointer and
+ * its length. So is a text that is handed over, whose length is that of strlen. A null pointer with length 0 is the
+ * empty buffer or text. A text that is not UTF-8 is no row's text. Upper and lower case are apart.
+ *
+ * A text that comes back is written as snprintf does it: at most `size` bytes are written, of which the last is a
+ * zero, and the answer is the text's length without the zero. So the text is whole where the answer is less than
+ * `size`, and cut otherwise. With `size` 0 nothing is written, and `out` may be null. */
 #ifndef INFER_H
 #define INFER_H
 
@@ -14,7 +30,13 @@
 extern "C" {
 #endif
 
-/* The class of a row. */
+/* The version of this header; infer_version tells that of the library. */
+#define INFER_VERSION "0.1.0"
+#define INFER_VERSION_MAJOR 0
+#define INFER_VERSION_MINOR 1
+#define INFER_VERSION_PATCH 0
+
+/* The class of a row. These numbers stay. INFER_CUSTOM is the class of no row here. */
 enum infer_class_code {
     INFER_NO_ROW = -1,
     INFER_APP = 0,
@@ -25,43 +47,68 @@ enum infer_class_code {
     INFER_FONT = 5,
     INFER_IMAGE = 6,
     INFER_TEXT = 7,
-    INFER_VIDEO = 8
+    INFER_VIDEO = 8,
+    INFER_CUSTOM = 9
 };
 
-/* The number of the first row whose signature accepts the buffer, from 0 on, or -1 where no row accepts it. */
-int32_t infer_position(const uint8_t *buf, size_t len);
+/* THE ANSWER: the number of the first row whose signature accepts the buffer, from 0 on, or -1 where no row does. */
+int32_t infer_position(const void *buf, size_t len);
+
+/* The same, and in `is_final` whether no bytes that may follow can change it. It is never final below 1024 bytes, and
+ * false does not say that the answer will change. `is_final` must not be null. */
+int32_t infer_verdict(const void *buf, size_t len, bool *is_final);
+
+/* The same as infer_position, and in `asked` how many rows were asked, at most 25. `asked` must not be null. */
+int32_t infer_position_counted(const void *buf, size_t len, uint32_t *asked);
+
+/* Whether that one row accepts the buffer; false where there is no such row. A buffer can fit several rows: of 1,258
+ * real files 82 did. */
+bool infer_accepts(const void *buf, size_t len, int32_t row);
 
 /* The number of rows. */
 size_t infer_row_count(void);
 
-/* The length of the row's MIME type or extension, without a dot, or 0 where there is no such row. The text is
- * written to `out`, with no zero behind it, where it fits into `size` bytes; else nothing is written. */
-size_t infer_mime_type(int32_t row, uint8_t *out, size_t size);
-size_t infer_extension(int32_t row, uint8_t *out, size_t size);
+/* The row's MIME type or extension, without a dot, and the empty text where there is no such row. No text of this
+ * version is longer than 73 bytes. */
+size_t infer_mime_type(int32_t row, char *out, size_t size);
+size_t infer_extension(int32_t row, char *out, size_t size);
 
 /* The row's class, one of `enum infer_class_code`. */
 int32_t infer_class(int32_t row);
 
-/* Whether some row with this extension or MIME type accepts the buffer. */
-bool infer_is(const uint8_t *buf, size_t len, const uint8_t *extension, size_t extension_len);
-bool infer_is_mime(const uint8_t *buf, size_t len, const uint8_t *mime_type, size_t mime_type_len);
+/* The name of a class, such as "image", and the empty text where no class has this number. */
+size_t infer_class_name(int32_t class_code, char *out, size_t size);
 
-/* Whether some row of this class accepts the buffer. */
-bool infer_is_app(const uint8_t *buf, size_t len);
-bool infer_is_archive(const uint8_t *buf, size_t len);
-bool infer_is_audio(const uint8_t *buf, size_t len);
-bool infer_is_book(const uint8_t *buf, size_t len);
-bool infer_is_document(const uint8_t *buf, size_t len);
-bool infer_is_font(const uint8_t *buf, size_t len);
-bool infer_is_image(const uint8_t *buf, size_t len);
-bool infer_is_video(const uint8_t *buf, size_t len);
+/* A short buffer of which the row is the answer: its length, and 0 where the row is never the answer or there is no
+ * such row. The bytes are written to `out` where they fit into `size`, with no zero after them; else nothing is
+ * written. 640 bytes are always enough. */
+size_t infer_sample(int32_t row, void *out, size_t size);
+
+/* Whether some row with this extension or MIME type accepts the buffer. It need not be the answer. */
+bool infer_is(const void *buf, size_t len, const char *extension, size_t extension_len);
+bool infer_is_mime(const void *buf, size_t len, const char *mime_type, size_t mime_type_len);
+
+/* Whether some row of this class accepts the buffer. It need not be the answer. */
+bool infer_is_app(const void *buf, size_t len);
+bool infer_is_archive(const void *buf, size_t len);
+bool infer_is_audio(const void *buf, size_t len);
+bool infer_is_book(const void *buf, size_t len);
+bool infer_is_document(const void *buf, size_t len);
+bool infer_is_font(const void *buf, size_t len);
+bool infer_is_image(const void *buf, size_t len);
+bool infer_is_video(const void *buf, size_t len);
+
+/* Whether the buffer begins as a COFF object for that processor. One row, "obj", stands for all three. */
+bool infer_is_coff_i386(const void *buf, size_t len);
+bool infer_is_coff_x64(const void *buf, size_t len);
+bool infer_is_coff_ia64(const void *buf, size_t len);
 
 /* Whether some row has this extension or MIME type. */
-bool infer_is_supported(const uint8_t *extension, size_t extension_len);
-bool infer_is_mime_supported(const uint8_t *mime_type, size_t mime_type_len);
+bool infer_is_supported(const char *extension, size_t extension_len);
+bool infer_is_mime_supported(const char *mime_type, size_t mime_type_len);
 
-/* The length of the library's version, such as 0.1.0, written to `out` as a row's texts are. */
-size_t infer_version(uint8_t *out, size_t size);
+/* The library's version, which is INFER_VERSION of its own header. */
+size_t infer_version(char *out, size_t size);
 
 #ifdef __cplusplus
 }

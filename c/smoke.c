@@ -13,74 +13,197 @@ static void same(const char *what, long got, long wanted) {
     }
 }
 
-static const uint8_t *bytes(const char *text) { return (const uint8_t *)text; }
+#define JPEG "\xFF\xD8\xFF\xAA", 4
 
-#define JPEG bytes("\xFF\xD8\xFF\xAA"), 4
+/* The number of the row that answers for this buffer, which is not written here: it changes with the versions. */
+static int32_t jpeg(void) { return infer_position(JPEG); }
+static int32_t last(void) { return (int32_t)infer_row_count() - 1; }
 
-static void rows(void) {
-    uint8_t out[32];
-    same("position of a JPEG", infer_position(JPEG), 15);
-    same("position of nothing", infer_position(NULL, 0), -1);
-    same("position of MZ", infer_position(bytes("MZ"), 2), 2);
-    same("row count", (long)infer_row_count(), 98);
-    memset(out, '.', sizeof out);
-    same("MIME type", (long)infer_mime_type(15, out, sizeof out), 10);
-    same("its bytes", memcmp(out, "image/jpeg.", 11), 0);
-    same("extension", (long)infer_extension(15, out, sizeof out), 3);
-    same("its bytes", memcmp(out, "jpg", 3), 0);
-    memset(out, '.', sizeof out);
-    same("MIME type without room", (long)infer_mime_type(15, out, 9), 10);
-    same("nothing written", out[0], '.');
-    same("MIME type into nothing", (long)infer_mime_type(15, NULL, 0), 10);
-    same("extension without room", (long)infer_extension(97, out, 1), 2);
-    same("nothing written", out[0], '.');
-    same("MIME type that just fits", (long)infer_mime_type(15, out, 10), 10);
-    same("its bytes", memcmp(out, "image/jpeg", 10), 0);
-    for (int32_t row = -1; row <= 98; row += 99) {
-        same("MIME type of no row", (long)infer_mime_type(row, out, sizeof out), 0);
-        same("extension of no row", (long)infer_extension(row, out, sizeof out), 0);
-        same("class of no row", infer_class(row), INFER_NO_ROW);
+typedef size_t text_of(int32_t number, char *out, size_t size);
+typedef bool test_of(const void *buf, size_t len);
+
+/* Whether the text is `wanted`, whole, and cut at each size, with a zero, and with nothing written after it. */
+static void text(const char *what, text_of *write, int32_t number, const char *wanted) {
+    size_t len = strlen(wanted);
+    char out[96];
+    for (size_t size = 0; size <= len + 2; size++) {
+        size_t kept = size ? (len < size ? len : size - 1) : 0;
+        memset(out, '.', sizeof out);
+        same(what, (long)write(number, out, size), (long)len);
+        same(what, memcmp(out, wanted, kept), 0);
+        same("its zero", out[kept], size ? 0 : '.');
+        same("the byte after it", out[size ? kept + 1 : 0], '.');
     }
-    same("version", (long)infer_version(out, sizeof out), 5);
-    same("its bytes", memcmp(out, "0.1.0", 5), 0);
+    same("text into nothing", (long)write(number, NULL, 0), (long)len);
+}
+
+static size_t version(int32_t number, char *out, size_t size) { return (void)number, infer_version(out, size); }
+
+static void texts(void) {
+    char made[32];
+    text("MIME type", infer_mime_type, jpeg(), "image/jpeg");
+    text("extension", infer_extension, jpeg(), "jpg");
+    text("extension of the last row", infer_extension, last(), "sh");
+    text("MIME type of row -1", infer_mime_type, -1, "");
+    text("MIME type of no row", infer_mime_type, last() + 1, "");
+    text("extension of the least number", infer_extension, INT32_MIN, "");
+    text("extension of the greatest number", infer_extension, INT32_MAX, "");
+    text("version", version, 0, INFER_VERSION);
+    snprintf(made, sizeof made, "%d.%d.%d", INFER_VERSION_MAJOR, INFER_VERSION_MINOR, INFER_VERSION_PATCH);
+    same("version of the macros", strcmp(made, INFER_VERSION), 0);
+}
+
+static void class_names(void) {
+    static const char *const names[] = {"app", "archive", "audio", "book", "doc", "font", "image", "text", "video", "custom"};
+    for (int32_t code = INFER_APP; code <= INFER_CUSTOM; code++)
+        text("class name", infer_class_name, code, names[code]);
+    text("name of no class", infer_class_name, INFER_NO_ROW, "");
+    text("name of class 10", infer_class_name, 10, "");
+    text("name of the least number", infer_class_name, INT32_MIN, "");
+}
+
+/* The class of the row that answers for the buffer, and its extension. */
+static void typed(const char *extension, int32_t code, const char *buf, size_t len) {
+    char out[16];
+    int32_t row = infer_position(buf, len);
+    same(extension, infer_class(row), code);
+    infer_extension(row, out, sizeof out);
+    same(extension, strcmp(out, extension), 0);
 }
 
 static void classes(void) {
-    static const struct { int32_t row, code; } all[] = {
-        {0, INFER_APP}, {13, INFER_BOOK}, {15, INFER_IMAGE}, {32, INFER_VIDEO}, {41, INFER_AUDIO},
-        {53, INFER_FONT}, {57, INFER_DOC}, {66, INFER_ARCHIVE}, {97, INFER_TEXT},
-    };
-    for (size_t i = 0; i < sizeof all / sizeof *all; i++)
-        same("class", infer_class(all[i].row), all[i].code);
+    typed("wasm", INFER_APP, "\0asm\1\0\0\0", 8);
+    typed("bz2", INFER_ARCHIVE, "BZh", 3);
+    typed("flac", INFER_AUDIO, "fLaC", 4);
+    typed("otf", INFER_FONT, "OTTO\0", 5);
+    typed("jpg", INFER_IMAGE, JPEG);
+    typed("sh", INFER_TEXT, "#!\0", 3);
+    typed("flv", INFER_VIDEO, "FLV\1", 4);
+    typed("docx", INFER_DOC, "PK\3\4\0\0\0\0\0\0\0\0\0\0\0\0\0\0\0\0\0\0\0\0\0\0\0\0\0\0word/", 35);
+    typed("epub", INFER_BOOK, "PK\3\4\0\0\0\0\0\0\0\0\0\0\0\0\0\0\0\0\0\0\0\0\0\0\0\0\0\0mimetypeapplication/epub+zip", 58);
+    same("class of row -1", infer_class(-1), INFER_NO_ROW);
+    same("class of no row", infer_class(last() + 1), INFER_NO_ROW);
+}
+
+static void answers(void) {
+    uint32_t asked = 99;
+    same("position of nothing", infer_position(NULL, 0), -1);
+    same("row count", (long)infer_row_count(), 98);
+    same("counted", infer_position_counted(JPEG, &asked), jpeg());
+    /* A book of Mobipocket may begin with any byte, and its row comes before. */
+    same("rows asked", asked, 2);
+    same("counted of nothing", infer_position_counted(NULL, 0, &asked), -1);
+    same("rows asked", asked, 0);
+    same("accepts", infer_accepts(JPEG, jpeg()), true);
+    same("accepts of another row", infer_accepts(JPEG, jpeg() + 1), false);
+    same("accepts of row -1", infer_accepts(JPEG, -1), false);
+    same("accepts of no row", infer_accepts(JPEG, last() + 1), false);
+    same("accepts nothing", infer_accepts(NULL, 0, jpeg()), false);
+    /* "MZ" fits the rows of programs and of their libraries, of which the first is the answer. */
+    same("accepts of the answer", infer_accepts("MZ", 2, infer_position("MZ", 2)), true);
+    same("accepts of a row after it", infer_accepts("MZ", 2, infer_position("MZ", 2) + 1), true);
+}
+
+/* `is_final` is written whatever stood there. */
+static void verdict(const char *what, const char *buf, size_t len, int32_t row, int is_final) {
+    bool got;
+    memset(&got, 0xA5, sizeof got);
+    same(what, infer_verdict(buf, len, &got), row);
+    unsigned char stored;
+    memcpy(&stored, &got, 1);
+    same(what, stored, is_final);
+}
+
+static void verdicts(void) {
+    static char front[1024] = "\xFF\xD8\xFF", spaces[1024], page[1024] = "<html>";
+    memset(spaces, ' ', sizeof spaces);
+    verdict("verdict of nothing", NULL, 0, -1, 0);
+    verdict("verdict of 1023 bytes", front, 1023, jpeg(), 0);
+    verdict("verdict of 1024 bytes", front, 1024, jpeg(), 1);
+    verdict("verdict of spaces", spaces, 1024, -1, 0);
+    verdict("verdict of a page", page, 1024, infer_position("<html>", 6), 1);
+}
+
+static void samples(void) {
+    unsigned char out[641];
+    int none = 0, wrong = 0;
+    for (int32_t row = 0; row <= last(); row++) {
+        memset(out, '.', sizeof out);
+        size_t len = infer_sample(row, out, 640);
+        none += len == 0;
+        wrong += len != 0 && infer_position(out, len) != row;
+        wrong += out[len] != '.';
+        if (len == 0) continue;
+        memset(out, '.', sizeof out);
+        wrong += infer_sample(row, out, len - 1) != len || out[0] != '.';
+        wrong += infer_sample(row, out, len) != len || infer_position(out, len) != row || out[len] != '.';
+    }
+    same("rows with no sample", none, 2);
+    same("samples of another row", wrong, 0);
+    same("sample", (long)infer_sample(jpeg(), out, sizeof out), 3);
+    same("its bytes", memcmp(out, "\xFF\xD8\xFF", 3), 0);
+    same("sample into nothing", (long)infer_sample(jpeg(), NULL, 0), 3);
+    same("sample of row -1", (long)infer_sample(-1, out, sizeof out), 0);
+    same("sample of no row", (long)infer_sample(last() + 1, out, sizeof out), 0);
 }
 
 static void questions(void) {
-    same("is jpg", infer_is(JPEG, bytes("jpg"), 3), true);
-    same("is JPG", infer_is(JPEG, bytes("JPG"), 3), false);
-    same("is no text", infer_is(JPEG, bytes("\xFF"), 1), false);
+    same("is jpg", infer_is(JPEG, "jpg", 3), true);
+    same("is JPG", infer_is(JPEG, "JPG", 3), false);
+    same("is no text", infer_is(JPEG, "\xFF", 1), false);
     same("is nothing", infer_is(NULL, 0, NULL, 0), false);
-    same("is MIME type", infer_is_mime(JPEG, bytes("image/jpeg"), 10), true);
-    same("is another MIME type", infer_is_mime(JPEG, bytes("image/png"), 9), false);
-    same("supported", infer_is_supported(bytes("jpg"), 3), true);
-    same("not supported", infer_is_supported(bytes("txt"), 3), false);
-    same("MIME type supported", infer_is_mime_supported(bytes("image/jpeg"), 10), true);
-    same("MIME type not supported", infer_is_mime_supported(bytes("image/JPEG"), 10), false);
+    same("is MIME type", infer_is_mime(JPEG, "image/jpeg", 10), true);
+    same("is another MIME type", infer_is_mime(JPEG, "image/png", 9), false);
+    same("supported", infer_is_supported("jpg", 3), true);
+    same("not supported", infer_is_supported("txt", 3), false);
+    same("MIME type supported", infer_is_mime_supported("image/jpeg", 10), true);
+    same("MIME type not supported", infer_is_mime_supported("image/JPEG", 10), false);
     same("nothing supported", infer_is_supported(NULL, 0), false);
-    same("app", infer_is_app(bytes("MZ"), 2), true);
-    same("archive", infer_is_archive(bytes("BZh"), 3), true);
-    same("audio", infer_is_audio(bytes("\xFF\xFB\x90\x44"), 4), true);
-    same("book", infer_is_book(JPEG), false);
-    same("document", infer_is_document(bytes("PK\3\4\0\0\0\0\0\0\0\0\0\0\0\0\0\0\0\0\0\0\0\0\0\0\0\0\0\0word/"), 35), true);
-    same("font", infer_is_font(bytes("OTTO\0"), 5), true);
-    same("image", infer_is_image(JPEG), true);
-    same("no image", infer_is_image(NULL, 0), false);
-    same("video", infer_is_video(bytes("FLV\1"), 4), true);
+}
+
+static void tests(void) {
+    static const struct { const char *what; test_of *is; const char *buf; size_t len; } all[] = {
+        {"app", infer_is_app, "MZ", 2},
+        {"archive", infer_is_archive, "BZh", 3},
+        {"audio", infer_is_audio, "\xFF\xFB\x90\x44", 4},
+        {"book", infer_is_book, "PK\3\4\0\0\0\0\0\0\0\0\0\0\0\0\0\0\0\0\0\0\0\0\0\0\0\0\0\0mimetypeapplication/epub+zip", 58},
+        {"document", infer_is_document, "PK\3\4\0\0\0\0\0\0\0\0\0\0\0\0\0\0\0\0\0\0\0\0\0\0\0\0\0\0word/", 35},
+        {"font", infer_is_font, "OTTO\0", 5},
+        {"image", infer_is_image, JPEG},
+        {"video", infer_is_video, "FLV\1", 4},
+        {"COFF for i386", infer_is_coff_i386, "\x4C\x01\0", 3},
+        {"COFF for x64", infer_is_coff_x64, "\x64\x86\0", 3},
+        {"COFF for IA-64", infer_is_coff_ia64, "\0\2\0", 3},
+    };
+    for (size_t i = 0; i < sizeof all / sizeof *all; i++) {
+        same(all[i].what, all[i].is(all[i].buf, all[i].len), true);
+        same(all[i].what, all[i].is(NULL, 0), false);
+        /* The next one's buffer is none of this class or kind. */
+        size_t other = (i + 1) % (sizeof all / sizeof *all);
+        same(all[i].what, all[i].is(all[other].buf, all[other].len), false);
+    }
+}
+
+/* What infer.h warns of: some row accepts, and the answer is another. */
+static void some_row_is_not_the_answer(void) {
+    static const char page[] = "<html>%PDF";
+    char mime[32];
+    same("a page is a PDF to infer_is", infer_is(page, sizeof page - 1, "pdf", 3), true);
+    infer_mime_type(infer_position(page, sizeof page - 1), mime, sizeof mime);
+    same("but not by its answer", strcmp(mime, "application/pdf"), 0);
+    same("two bytes are an image", infer_is_image("BM<html>", 8), true);
 }
 
 int main(void) {
-    rows();
+    answers();
+    verdicts();
+    texts();
+    class_names();
     classes();
+    samples();
     questions();
+    tests();
+    some_row_is_not_the_answer();
     printf("%d answers compared over C, %d differ\n", compared, differing);
     return differing != 0;
 }

@@ -1,11 +1,15 @@
--- What crosses to C: row numbers, classes and texts as numbers and bytes.
-use Rattle.std.specs.Prelude.{◌≡◌, ℕ, ℤ, pos, negsuc, ◌<◌, ◌≤◌, List, ◌++◌, Option, None, Some, drop, length, option_map}
-use Rattle.std.specs.List.{slice_get}
-use Rattle.infer.specs.Row.{shows}
+-- What crosses to C: rows and classes as numbers.
+use Rattle.std.specs.Prelude.{◌≡◌, ◌≤◌, ◌⊎◌, ℕ, ℤ, pos, negsuc, List, Option, None, Some, codes, option_map}
+use Rattle.std.specs.List.{HoldsAt, slice_get}
+use Rattle.infer.specs.First.{IsFirst}
+use Rattle.infer.specs.Row.{Accepts, shows}
+use Rattle.infer.specs.Samples.{sample_of}
 use Rattle.infer.specs.Table.{table}
 use Rattle.infer.specs.Triple.{Triple}
+use Rattle.infer.specs.Walks.{RowHas}
 use Rattle.infer.specs.declared.file_type.MatcherType.{MatcherType}
 use Rattle.infer.specs.declared.file_type.MatcherType.TheVariants.{App, Archive, Audio, Book, Doc, Font, Image, Text, Video, Custom}
+use Rattle.infer.specs.declared.rows.TheConstants.{DLL, EPUB_ARCHIVE, ROW_COUNT}
 
 -- the number of a row, and -1 for none
 abbrev pub row_code : Option ℕ → ℤ
@@ -16,6 +20,21 @@ row_code None = negsuc 0
 abbrev pub triple_at : ℤ → Option Triple
 triple_at (pos i) = option_map shows (slice_get table i)
 triple_at (negsuc i) = None
+
+-- there is a row with this number, and it accepts the buffer
+abbrev pub AcceptsAt : List ℕ → ℤ → Type 0
+AcceptsAt b (pos i) = RowHas (Accepts b) i
+AcceptsAt b (negsuc i) = ⊥
+
+-- the sample of row i, and none where there is no such row or it is first for no buffer
+abbrev pub IsSample : ℕ → Option (List ℕ) → Type 0
+IsSample i (Some sample) = HoldsAt (λ r. sample ≡ sample_of r.signature) table i × IsFirst (Accepts sample) table i
+IsSample i None = (i ≡ DLL) ⊎ (i ≡ EPUB_ARCHIVE) ⊎ (ROW_COUNT ≤ i)
+
+-- the sample of the row with this number, and none where it is no number of a row
+abbrev pub IsSampleOf : ℤ → Option (List ℕ) → Type 0
+IsSampleOf (pos i) sample = IsSample i sample
+IsSampleOf (negsuc i) sample = sample ≡ None
 
 -- the number of a class
 abbrev pub class_code : MatcherType → ℤ
@@ -30,7 +49,20 @@ class_code Text = pos 7
 class_code Video = pos 8
 class_code Custom = pos 9
 
--- the text was written to the front of the buffer, or it does not fit and nothing was written
-pub record WritesWhole (text old new : List ℕ) : Type 0 where
-  pub fits : length text ≤ length old → new ≡ text ++ drop (length text) old
-  pub short : length old < length text → new ≡ old
+-- the name of a class
+abbrev pub class_name : MatcherType → List ℕ
+class_name App = codes "app"
+class_name Archive = codes "archive"
+class_name Audio = codes "audio"
+class_name Book = codes "book"
+class_name Doc = codes "doc"
+class_name Font = codes "font"
+class_name Image = codes "image"
+class_name Text = codes "text"
+class_name Video = codes "video"
+class_name Custom = codes "custom"
+
+-- the class with this number, and none where no class has it
+abbrev pub IsClassOf : ℤ → Option MatcherType → Type 0
+IsClassOf code (Some class) = class_code class ≡ code
+IsClassOf code None = (class : MatcherType) → ¬ (class_code class ≡ code)

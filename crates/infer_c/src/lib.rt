@@ -2,16 +2,24 @@
 //! them. A text from C is bytes: one that is not UTF-8 is no row's text.
 #![tactic(auto)]
 
-ghost use Rattle.std.specs.Prelude.{◌≡◌, ◌↔◌, ℕ, Option, [], IsTrue, codes, length, negsuc, option_map};
+ghost use Rattle.std.specs.Prelude.{◌≡◌, ◌↔◌, ◌≤◌, ℕ, List, Option, None, [], IsTrue, codes, length, negsuc, option_map};
 ghost use Rattle.std.specs.Option.{option_map_or};
+ghost use Rattle.infer.specs.App.{coff_i386, coff_ia64, coff_x64};
+ghost use Rattle.infer.specs.Signature.{accepts};
 ghost use Rattle.infer.specs.First.{IsFirstOf, SomeHas};
 ghost use Rattle.infer.specs.Questions.{HasClass, HasExtension, HasMimeType, SomeBoth};
 ghost use Rattle.infer.specs.Row.{Accepts};
 ghost use Rattle.infer.specs.Table.{table};
-ghost use Rattle.infer.specs.Triple.{triple_of};
-ghost use Rattle.infer_c.specs.Codes.{WritesWhole, class_code, row_code, triple_at};
+ghost use Rattle.infer.specs.Walks.{count_asked};
+ghost use Rattle.infer_sniff.specs.Verdicts.{IsSettled, RowLasts};
+ghost use Rattle.infer_c.specs.Codes.{AcceptsAt, IsClassOf, IsSampleOf, class_code, class_name, row_code, triple_at};
+ghost use Rattle.infer_c.specs.Written.{WritesText, WritesWhole};
 
-use infer::{MatcherType, Type};
+mod class;
+mod row;
+mod written;
+
+use infer::MatcherType;
 
 const VERSION: &str = "0.1.0";
 
@@ -26,6 +34,44 @@ pub extern "C" fn infer_position(buf: &[u8]) -> i32
     }
 }
 
+/// The number of the first row that accepts `buf`, or -1, and whether no bytes behind `buf` can change it.
+#[unsafe(no_mangle)]
+pub extern "C" fn infer_verdict(buf: &[u8], is_final: &mut bool) -> i32
+    ensures first { (first : Option ℕ) × IsFirstOf (Accepts buf.now) table first × (result ≡ row_code first)
+        × (IsTrue is_final.new → RowLasts buf.now first) }
+    ensures settled { IsTrue is_final.new ↔ IsSettled buf.now }
+{
+    let (found, is_settled) = infer_sniff::position_settled(buf);
+    *is_final = is_settled;
+    match found {
+        Some(i) => i as i32,
+        None => -1,
+    }
+}
+
+/// The number of the first row that accepts `buf`, or -1, and how many rows were asked for it.
+#[unsafe(no_mangle)]
+pub extern "C" fn infer_position_counted(buf: &[u8], asked: &mut u32) -> i32
+    ensures first { (first : Option ℕ) × IsFirstOf (Accepts buf.now) table first × (result ≡ row_code first)
+        × (asked.new ≡ count_asked None buf.now first) }
+    ensures few { asked.new ≤ 25 }
+{
+    let (found, count) = row::count(buf);
+    *asked = count;
+    match found {
+        Some(i) => i as i32,
+        None => -1,
+    }
+}
+
+/// Whether there is a row with this number, and it accepts `buf`.
+#[unsafe(no_mangle)]
+pub extern "C" fn infer_accepts(buf: &[u8], row: i32) -> bool
+    ensures { IsTrue result ↔ AcceptsAt buf.now row }
+{
+    row >= 0 && row::accepts(row as usize, buf)
+}
+
 /// The number of rows.
 #[unsafe(no_mangle)]
 pub extern "C" fn infer_row_count() -> usize
@@ -34,27 +80,27 @@ pub extern "C" fn infer_row_count() -> usize
     infer::rows::ROW_COUNT
 }
 
-/// The length of the row's MIME type, which is written to `out` where it fits, and 0 where there is no such row.
+/// The length of the row's MIME type, which is written to `out`, and 0 where there is no such row.
 #[unsafe(no_mangle)]
 pub extern "C" fn infer_mime_type(row: i32, out: &mut [u8]) -> usize
     ensures length { result ≡ option_map_or (λ t. length t.mime_type) (triple_at row) 0 }
-    ensures written { WritesWhole (option_map_or (λ t. t.mime_type) (triple_at row) []) out.old out.new }
+    ensures written { WritesText (option_map_or (λ t. t.mime_type) (triple_at row) []) out.old out.new }
 {
-    match row_of(row) {
-        Some(found) => write_whole(found.mime_type(), out),
-        None => 0,
+    match row::of(row) {
+        Some(found) => written::write_text(found.mime_type(), out),
+        None => written::write_text("", out),
     }
 }
 
-/// The length of the row's extension, which is written to `out` where it fits, and 0 where there is no such row.
+/// The length of the row's extension, which is written to `out`, and 0 where there is no such row.
 #[unsafe(no_mangle)]
 pub extern "C" fn infer_extension(row: i32, out: &mut [u8]) -> usize
     ensures length { result ≡ option_map_or (λ t. length t.extension) (triple_at row) 0 }
-    ensures written { WritesWhole (option_map_or (λ t. t.extension) (triple_at row) []) out.old out.new }
+    ensures written { WritesText (option_map_or (λ t. t.extension) (triple_at row) []) out.old out.new }
 {
-    match row_of(row) {
-        Some(found) => write_whole(found.extension(), out),
-        None => 0,
+    match row::of(row) {
+        Some(found) => written::write_text(found.extension(), out),
+        None => written::write_text("", out),
     }
 }
 
@@ -63,19 +109,45 @@ pub extern "C" fn infer_extension(row: i32, out: &mut [u8]) -> usize
 pub extern "C" fn infer_class(row: i32) -> i32
     ensures { result ≡ option_map_or (λ t. class_code t.class) (triple_at row) (negsuc 0) }
 {
-    match row_of(row) {
-        Some(found) => class_code(found.matcher_type()),
+    match row::of(row) {
+        Some(found) => class::code(found.matcher_type()),
         None => -1,
     }
 }
 
-/// The length of the version's text, which is written to `out` where it fits.
+/// The length of the class's name, which is written to `out`, and 0 where no class has this number.
+#[unsafe(no_mangle)]
+pub extern "C" fn infer_class_name(class: i32, out: &mut [u8]) -> usize
+    ensures { (found : Option MatcherType) × IsClassOf class found
+        × (result ≡ option_map_or (λ c. length (class_name c)) found 0)
+        × WritesText (option_map_or class_name found []) out.old out.new }
+{
+    match class::of(class) {
+        Some(found) => written::write_text(class::name(found), out),
+        None => written::write_text("", out),
+    }
+}
+
+/// The length of the row's sample, which is written to `out` where it fits, and 0 where the row has none.
+#[unsafe(no_mangle)]
+pub extern "C" fn infer_sample(row: i32, out: &mut [u8]) -> usize
+    ensures { (sample : Option (List ℕ)) × IsSampleOf row sample
+        × (result ≡ option_map_or (λ s. length s) sample 0)
+        × WritesWhole (option_map_or (λ s. s) sample []) out.old out.new }
+{
+    if row < 0 {
+        return 0;
+    }
+    row::write_sample(row as usize, out)
+}
+
+/// The length of the version's text, which is written to `out`.
 #[unsafe(no_mangle)]
 pub extern "C" fn infer_version(out: &mut [u8]) -> usize
     ensures length { result ≡ length (codes "0.1.0") }
-    ensures written { WritesWhole (codes "0.1.0") out.old out.new }
+    ensures written { WritesText (codes "0.1.0") out.old out.new }
 {
-    write_whole(VERSION, out)
+    written::write_text(VERSION, out)
 }
 
 /// Whether some row with this extension accepts `buf`.
@@ -186,41 +258,26 @@ pub extern "C" fn infer_is_video(buf: &[u8]) -> bool
     infer::is_video(buf)
 }
 
-// The type of the row with this number.
-fn row_of(row: i32) -> Option<Type>
-    ensures { option_map triple_of result ≡ triple_at row }
+/// Whether `buf` begins as a COFF object for i386. One row stands for this matcher and the two below.
+#[unsafe(no_mangle)]
+pub extern "C" fn infer_is_coff_i386(buf: &[u8]) -> bool
+    ensures { result ≡ accepts coff_i386 buf.now }
 {
-    if row < 0 {
-        return None;
-    }
-    infer::row(row as usize)
+    infer::app::is_coff_i386(buf)
 }
 
-fn class_code(class: MatcherType) -> i32
-    ensures { result ≡ class_code class }
+/// Whether `buf` begins as a COFF object for x64.
+#[unsafe(no_mangle)]
+pub extern "C" fn infer_is_coff_x64(buf: &[u8]) -> bool
+    ensures { result ≡ accepts coff_x64 buf.now }
 {
-    match class {
-        MatcherType::App => 0,
-        MatcherType::Archive => 1,
-        MatcherType::Audio => 2,
-        MatcherType::Book => 3,
-        MatcherType::Doc => 4,
-        MatcherType::Font => 5,
-        MatcherType::Image => 6,
-        MatcherType::Text => 7,
-        MatcherType::Video => 8,
-        MatcherType::Custom => 9,
-    }
+    infer::app::is_coff_x64(buf)
 }
 
-// The length of the text, which is written to the front of `out` where it fits.
-fn write_whole(text: &str, out: &mut [u8]) -> usize
-    ensures length { result ≡ length text.now }
-    ensures written { WritesWhole text.now out.old out.new }
+/// Whether `buf` begins as a COFF object for IA-64.
+#[unsafe(no_mangle)]
+pub extern "C" fn infer_is_coff_ia64(buf: &[u8]) -> bool
+    ensures { result ≡ accepts coff_ia64 buf.now }
 {
-    let bytes = text.as_bytes();
-    if bytes.len() <= out.len() {
-        out[..bytes.len()].copy_from_slice(bytes);
-    }
-    bytes.len()
+    infer::app::is_coff_ia64(buf)
 }

@@ -1,0 +1,59 @@
+//! Rows by number.
+ghost use Rattle.std.specs.Prelude.{◌≡◌, ◌↔◌, ◌<◌, ◌≤◌, List, ℕ, Option, None, [], IfSome, IsTrue, length, option_map};
+ghost use Rattle.std.specs.Option.{option_map_or};
+ghost use Rattle.infer.specs.First.{IsFirstOf};
+ghost use Rattle.infer.specs.Row.{Accepts};
+ghost use Rattle.infer.specs.Table.{table};
+ghost use Rattle.infer.specs.Triple.{triple_of};
+ghost use Rattle.infer.specs.Walks.{RowHas, count_asked};
+ghost use Rattle.infer.specs.declared.rows.TheConstants.{ROW_COUNT};
+ghost use Rattle.infer_c.specs.Codes.{IsSample, triple_at};
+ghost use Rattle.infer_c.specs.Written.{WritesWhole};
+
+use crate::written::write_whole;
+use infer::rows::ROW_COUNT;
+use infer::{Ask, Asker, Type};
+
+// The type of the row with this number.
+pub fn of(row: i32) -> Option<Type>
+    ensures { option_map triple_of result ≡ triple_at row }
+{
+    if row < 0 {
+        return None;
+    }
+    infer::row(row as usize)
+}
+
+// Whether there is a row `i`, and it accepts `buf`.
+pub fn accepts(i: usize, buf: &[u8]) -> bool
+    ensures { IsTrue result ↔ RowHas (Accepts buf.now) i }
+{
+    if i >= ROW_COUNT {
+        return false;
+    }
+    let mut asker = Asker::new(buf);
+    asker.ask(i)
+}
+
+// The number of the first row that accepts `buf`, and how many were asked.
+pub fn count(buf: &[u8]) -> (Option<usize>, u32)
+    ensures first { IsFirstOf (Accepts buf.now) table result.0 }
+    ensures bound { IfSome result.0 (λ i. i < ROW_COUNT) }
+    ensures counted { result.1 ≡ count_asked None buf.now result.0 }
+    ensures few { result.1 ≤ 25 }
+{
+    infer::position_counted(buf)
+}
+
+// The length of the sample of row `i`, which is written to `out` where it fits, and 0 where it has none.
+pub fn write_sample(i: usize, out: &mut [u8]) -> usize
+    ensures { (sample : Option (List ℕ)) × IsSample i sample
+        × (result ≡ option_map_or (λ s. length s) sample 0)
+        × WritesWhole (option_map_or (λ s. s) sample []) out.old out.new }
+{
+    let mut bytes = [0; 640];
+    match infer::sample(i, &mut bytes) {
+        Some(count) => write_whole(&bytes[..count], out),
+        None => 0,
+    }
+}
