@@ -3,6 +3,10 @@
 //! [`get`] answers the type of the first built-in row whose signature accepts a buffer. An [`Infer`] asks rows
 //! that its caller added before the built-in ones. No question about a buffer takes memory or can refuse.
 //!
+//! Allow a file by [`get`]. [`is`], [`is_mime`] and the class tests ask whether some row accepts, which need not be the
+//! answer: `is(buf, "pdf")` is true of every buffer that has `%PDF` in its first 1024 bytes, such as the GIF image
+//! `GIF89a%PDF`. A signature of two bytes is worth little: `BM<html>` is a BMP image, by [`is_image`] and by [`get`].
+//!
 //! [`get_from_path`] and [`Infer::get_from_reader`] look at the first 8192 bytes of a file or of a reader. A
 //! [`Fault`] says why they have no answer.
 #![tactic(auto)]
@@ -85,14 +89,16 @@ pub fn get_from_path<R: Files, A: Allocator>(
     Infer::new().get_from_path(rt, alloc, path)
 }
 
-/// Whether some built-in row with this extension accepts `buf`. Upper and lower case are apart.
+/// Whether some built-in row with this extension accepts `buf`, which need not be the answer: allow by [`get`]. Upper
+/// and lower case are apart.
 pub fn is(buf: &[u8], extension: &str) -> bool
     ensures { IsTrue result ↔ SomeBoth (HasExtension extension.now) (Accepts buf.now) table }
 {
     map::some(Wanted::Extension(extension), buf)
 }
 
-/// Whether some built-in row with this MIME type accepts `buf`. Upper and lower case are apart.
+/// Whether some built-in row with this MIME type accepts `buf`, which need not be the answer: allow by [`get`]. Upper
+/// and lower case are apart.
 pub fn is_mime(buf: &[u8], mime_type: &str) -> bool
     ensures { IsTrue result ↔ SomeBoth (HasMimeType mime_type.now) (Accepts buf.now) table }
 {
@@ -113,56 +119,56 @@ pub fn is_mime_supported(mime_type: &str) -> bool
     map::has(Wanted::MimeType(mime_type))
 }
 
-/// Whether some built-in row of the class `App` accepts `buf`.
+/// Whether some built-in row of the class `App` accepts `buf`, which need not be the answer: allow by [`get`].
 pub fn is_app(buf: &[u8]) -> bool
     ensures { IsTrue result ↔ SomeBoth (HasClass MatcherType.App) (Accepts buf.now) table }
 {
     map::some(Wanted::Class(MatcherType::App), buf)
 }
 
-/// Whether some built-in row of the class `Archive` accepts `buf`.
+/// Whether some built-in row of the class `Archive` accepts `buf`, which need not be the answer: allow by [`get`].
 pub fn is_archive(buf: &[u8]) -> bool
     ensures { IsTrue result ↔ SomeBoth (HasClass MatcherType.Archive) (Accepts buf.now) table }
 {
     map::some(Wanted::Class(MatcherType::Archive), buf)
 }
 
-/// Whether some built-in row of the class `Audio` accepts `buf`.
+/// Whether some built-in row of the class `Audio` accepts `buf`, which need not be the answer: allow by [`get`].
 pub fn is_audio(buf: &[u8]) -> bool
     ensures { IsTrue result ↔ SomeBoth (HasClass MatcherType.Audio) (Accepts buf.now) table }
 {
     map::some(Wanted::Class(MatcherType::Audio), buf)
 }
 
-/// Whether some built-in row of the class `Book` accepts `buf`.
+/// Whether some built-in row of the class `Book` accepts `buf`, which need not be the answer: allow by [`get`].
 pub fn is_book(buf: &[u8]) -> bool
     ensures { IsTrue result ↔ SomeBoth (HasClass MatcherType.Book) (Accepts buf.now) table }
 {
     map::some(Wanted::Class(MatcherType::Book), buf)
 }
 
-/// Whether some built-in row of the class `Doc` accepts `buf`.
+/// Whether some built-in row of the class `Doc` accepts `buf`, which need not be the answer: allow by [`get`].
 pub fn is_document(buf: &[u8]) -> bool
     ensures { IsTrue result ↔ SomeBoth (HasClass MatcherType.Doc) (Accepts buf.now) table }
 {
     map::some(Wanted::Class(MatcherType::Doc), buf)
 }
 
-/// Whether some built-in row of the class `Font` accepts `buf`.
+/// Whether some built-in row of the class `Font` accepts `buf`, which need not be the answer: allow by [`get`].
 pub fn is_font(buf: &[u8]) -> bool
     ensures { IsTrue result ↔ SomeBoth (HasClass MatcherType.Font) (Accepts buf.now) table }
 {
     map::some(Wanted::Class(MatcherType::Font), buf)
 }
 
-/// Whether some built-in row of the class `Image` accepts `buf`.
+/// Whether some built-in row of the class `Image` accepts `buf`, which need not be the answer: allow by [`get`].
 pub fn is_image(buf: &[u8]) -> bool
     ensures { IsTrue result ↔ SomeBoth (HasClass MatcherType.Image) (Accepts buf.now) table }
 {
     map::some(Wanted::Class(MatcherType::Image), buf)
 }
 
-/// Whether some built-in row of the class `Video` accepts `buf`.
+/// Whether some built-in row of the class `Video` accepts `buf`, which need not be the answer: allow by [`get`].
 pub fn is_video(buf: &[u8]) -> bool
     ensures { IsTrue result ↔ SomeBoth (HasClass MatcherType.Video) (Accepts buf.now) table }
 {
