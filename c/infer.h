@@ -5,9 +5,10 @@
  * only so: of 14 real ones 5 at 8192 bytes, 11 at 65536 and 12 whole.
  *
  * Allow by the answer: by infer_position or infer_verdict, and then by the row's MIME type. infer_is, infer_is_mime
- * and the class tests ask whether SOME row accepts, which is not the answer. infer_is(buf, len, "pdf", 3) is true of
- * a web page that has "%PDF" in its first 1024 bytes, and infer_is_image is true of "BM<html>", since two bytes make
- * a BMP image here. Such a short signature says little: of random bytes one in 65536 begins with it.
+ * and the class tests ask whether SOME row accepts, which need not be the answer: infer_is(buf, len, "pdf", 3) is true
+ * of every buffer that has "%PDF" in its first 1024 bytes, such as the GIF image "GIF89a%PDF". And a signature of two
+ * bytes is worth little: "BM<html>" is a BMP image by infer_is_image and by the answer, and one in 65536 random
+ * buffers is one. Serve what you allowed as the type that you allowed, and let no browser guess again.
  *
  * What stays the same in later versions: an extension and a MIME type keep their meaning, so store these. Row numbers
  * change whenever a row is added, so never store them; the classes' numbers, below, stay, and new ones may come.

@@ -1,0 +1,115 @@
+/* Hands every function buffers that end at a page which may not be touched, and text buffers of every small size with
+ * a watched byte on both sides. A read or write outside ends the program by a signal; a wrong answer is counted. */
+#define _DEFAULT_SOURCE
+#include "infer.h"
+#include <stdio.h>
+#include <string.h>
+#include <sys/mman.h>
+#include <unistd.h>
+
+enum { ROOM = 16384, ROUNDS = 20000 };
+static unsigned char *end; /* of the room, right before the page that may not be touched */
+static long wrong;
+static uint64_t state = 0x2545F4914F6CDD1D;
+
+static uint64_t next(void) {
+    state ^= state << 13;
+    state ^= state >> 7;
+    state ^= state << 17;
+    return state;
+}
+
+static void wants(bool holds) { wrong += !holds; }
+
+typedef bool test_of(const void *buf, size_t len);
+static test_of *const tests[] = {
+    infer_is_app, infer_is_archive, infer_is_audio, infer_is_book, infer_is_document, infer_is_font, infer_is_image,
+    infer_is_video, infer_is_coff_i386, infer_is_coff_x64, infer_is_coff_ia64,
+};
+
+/* What the calls say of one buffer must agree. */
+static void ask(const void *buf, size_t len) {
+    bool is_final;
+    uint32_t asked;
+    int32_t row = infer_position(buf, len);
+    wants(row >= -1 && row < (int32_t)infer_row_count());
+    wants(infer_verdict(buf, len, &is_final) == row);
+    wants(!is_final || len >= 1024);
+    wants(infer_position_counted(buf, len, &asked) == row && asked <= 25);
+    wants(infer_accepts(buf, len, row) == (row >= 0));
+    for (int32_t before = 0; before < row; before++)
+        wants(!infer_accepts(buf, len, before));
+    for (size_t i = 0; i < sizeof tests / sizeof *tests; i++)
+        tests[i](buf, len);
+    infer_is(buf, len, buf, len);
+    infer_is_mime(buf, len, buf, len);
+    infer_is_supported(buf, len);
+    infer_is_mime_supported(buf, len);
+    wants(infer_is(buf, len, "no such", 7) == false);
+}
+
+/* A sample, or nothing, with random bytes in and after it, in a room that ends with it. */
+static void ask_some(void) {
+    static const size_t lengths[] = {0, 1, 2, 8, 64, 640, 1023, 1024, 1025, 4096, 8192, ROOM};
+    size_t len = lengths[next() % (sizeof lengths / sizeof *lengths)];
+    len -= len ? next() % len % 40 : 0;
+    unsigned char sample[640], *buf = end - len;
+    size_t known = infer_sample((int32_t)(next() % infer_row_count()), sample, sizeof sample);
+    int kind = (int)(next() % 3);
+    for (size_t i = 0; i < len; i++)
+        buf[i] = kind == 0 ? (unsigned char)next() : kind == 1 ? 0 : 0xFF;
+    memcpy(buf, sample, known < len ? known : len);
+    for (uint64_t flips = next() % 4; len && flips; flips--)
+        buf[next() % (len < 64 ? len : 64)] = (unsigned char)next();
+    ask(buf, len);
+}
+
+typedef size_t text_of(int32_t number, char *out, size_t size);
+static size_t version(int32_t number, char *out, size_t size) { return (void)number, infer_version(out, size); }
+static text_of *const texts[] = {infer_mime_type, infer_extension, infer_class_name, version};
+
+/* A text of any number, into each size, at the end of the room. */
+static void write_texts(int32_t number) {
+    char whole[128];
+    for (size_t t = 0; t < sizeof texts / sizeof *texts; t++) {
+        size_t len = texts[t](number, whole, sizeof whole);
+        wants(len == strlen(whole));
+        for (size_t size = 0; size <= len + 2; size++) {
+            char *out = (char *)end - size;
+            out[-1] = '.';
+            wants(texts[t](number, out, size) == len && out[-1] == '.');
+            wants(size == 0 || (strlen(out) == (len < size ? len : size - 1) && strncmp(out, whole, strlen(out)) == 0));
+        }
+    }
+}
+
+static void write_samples(int32_t row) {
+    unsigned char sample[640];
+    size_t len = infer_sample(row, sample, sizeof sample);
+    for (size_t size = 0; size <= len + 1; size++) {
+        unsigned char *out = end - size;
+        memset(out - 1, '.', size + 1);
+        wants(infer_sample(row, out, size) == len && out[-1] == '.');
+        wants(size >= len ? memcmp(out, sample, len) == 0 : size == 0 || (out[0] == '.' && out[size - 1] == '.'));
+    }
+}
+
+int main(void) {
+    static const int32_t numbers[] = {INT32_MIN, INT32_MIN + 1, -2, -1, 98, 99, 255, 256, 65536, INT32_MAX - 1, INT32_MAX};
+    size_t page = (size_t)sysconf(_SC_PAGESIZE);
+    unsigned char *room = mmap(NULL, ROOM + 2 * page, PROT_READ | PROT_WRITE, MAP_PRIVATE | MAP_ANONYMOUS, -1, 0);
+    if (room == MAP_FAILED || mprotect(room + page + ROOM, page, PROT_NONE) != 0) return perror("hostile"), 2;
+    end = room + page + ROOM;
+    for (int i = 0; i < ROUNDS; i++)
+        ask_some();
+    for (int32_t row = 0; row < (int32_t)infer_row_count(); row++) {
+        write_texts(row);
+        write_samples(row);
+    }
+    for (size_t i = 0; i < sizeof numbers / sizeof *numbers; i++) {
+        write_texts(numbers[i]);
+        write_samples(numbers[i]);
+    }
+    printf("%d hostile buffers, %ld answers wrong\n", ROUNDS, wrong);
+    return wrong != 0;
+}

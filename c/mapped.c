@@ -1,0 +1,54 @@
+/* Prints the MIME type of each file that is named, told by all of its bytes: the file is mapped into memory, and of a
+ * large one only the pages that decide are read. Map only files that nobody shortens meanwhile: a page that is gone
+ * when it is looked at ends the program by SIGBUS. */
+#define _POSIX_C_SOURCE 200809L
+#include "infer.h"
+#include <errno.h>
+#include <fcntl.h>
+#include <stdio.h>
+#include <string.h>
+#include <sys/mman.h>
+#include <sys/stat.h>
+#include <unistd.h>
+
+/* Maps the regular file `fd`, and tells whether that was done. A file without bytes cannot be mapped: it is null. */
+static bool map(int fd, const void **bytes, size_t *len) {
+    struct stat about;
+    if (fstat(fd, &about) != 0) return false;
+    if (!S_ISREG(about.st_mode)) return errno = EINVAL, false;
+    if ((uintmax_t)about.st_size > SIZE_MAX) return errno = EFBIG, false;
+    *bytes = NULL;
+    *len = (size_t)about.st_size;
+    if (*len == 0) return true;
+    void *mapped = mmap(NULL, *len, PROT_READ, MAP_PRIVATE, fd, 0);
+    if (mapped == MAP_FAILED) return false;
+    *bytes = mapped;
+    return true;
+}
+
+static bool print_type(const char *path) {
+    char mime[128];
+    const void *bytes;
+    size_t len;
+    /* A pipe without a writer would hold the open back. */
+    int fd = open(path, O_RDONLY | O_CLOEXEC | O_NONBLOCK);
+    if (fd < 0) return false;
+    bool is_mapped = map(fd, &bytes, &len);
+    int why = errno;
+    close(fd);
+    errno = why;
+    if (!is_mapped) return false;
+    infer_mime_type(infer_position(bytes, len), mime, sizeof mime);
+    if (len) munmap((void *)(uintptr_t)bytes, len);
+    return printf("%s: %s\n", path, *mime ? mime : "unknown") >= 0;
+}
+
+int main(int argc, char **argv) {
+    int status = 0;
+    for (int i = 1; i < argc; i++)
+        if (!print_type(argv[i])) {
+            fprintf(stderr, "%s: %s\n", argv[i], strerror(errno));
+            status = 1;
+        }
+    return fflush(stdout) != 0 ? 1 : status;
+}
