@@ -1,0 +1,178 @@
+/* Tells the types of the files whose names come on standard input. README.md says what a line has. */
+#define _POSIX_C_SOURCE 200809L
+#include "infer.h"
+#include <errno.h>
+#include <fcntl.h>
+#include <limits.h>
+#include <stdio.h>
+#include <string.h>
+#include <sys/stat.h>
+#include <unistd.h>
+
+enum { FRONT = 8192 };
+
+struct name {
+    char text[PATH_MAX + 1];
+    size_t size;
+    bool is_cut;
+};
+
+struct finding {
+    char mime_type[128], extension[32], class[16];
+    const char *fault; /* why there is no answer, or a null pointer */
+};
+
+/* Reads a name up to its zero byte. Of one that no file can have, the first bytes are kept. */
+static bool read_name(struct name *name) {
+    int byte = getc_unlocked(stdin);
+    if (byte == EOF)
+        return false;
+    name->size = 0;
+    name->is_cut = false;
+    for (; byte > 0; byte = getc_unlocked(stdin)) {
+        if (name->size < PATH_MAX)
+            name->text[name->size++] = (char)byte;
+        else
+            name->is_cut = true;
+    }
+    name->text[name->size] = 0;
+    return true;
+}
+
+/* The number of bytes that were read, or -1. */
+static ssize_t read_front(int fd, uint8_t front[FRONT]) {
+    size_t count = 0;
+    while (count < FRONT) {
+        ssize_t got = read(fd, front + count, FRONT - count);
+        if (got < 0 && errno == EINTR)
+            continue;
+        if (got < 0)
+            return -1;
+        if (got == 0)
+            break;
+        count += (size_t)got;
+    }
+    return (ssize_t)count;
+}
+
+/* Opening a FIFO to read waits for a writer, and reading one waits for bytes, so nothing but a regular file is read. */
+static const char *look(const char *path, uint8_t front[FRONT], size_t *size) {
+    struct stat status;
+    int fd = open(path, O_RDONLY | O_NONBLOCK | O_NOCTTY | O_CLOEXEC);
+    if (fd < 0)
+        return strerror(errno);
+    const char *fault = fstat(fd, &status) != 0 ? strerror(errno) : S_ISREG(status.st_mode) ? NULL : "Not a regular file";
+    if (!fault) {
+        ssize_t got = read_front(fd, front);
+        if (got < 0)
+            fault = strerror(errno);
+        else
+            *size = (size_t)got;
+    }
+    close(fd);
+    return fault;
+}
+
+static struct finding find(const struct name *name) {
+    static uint8_t front[FRONT];
+    struct finding found = {.fault = name->is_cut ? strerror(ENAMETOOLONG) : NULL};
+    size_t size = 0;
+    if (!found.fault)
+        found.fault = look(name->text, front, &size);
+    int32_t row = found.fault ? -1 : infer_position(front, size);
+    infer_mime_type(row, found.mime_type, sizeof found.mime_type);
+    infer_extension(row, found.extension, sizeof found.extension);
+    infer_class_name(infer_class(row), found.class, sizeof found.class);
+    return found;
+}
+
+/* The length of the UTF-8 character at the text's beginning, or 0 if it begins with none. */
+static size_t character(const unsigned char *text) {
+    unsigned char first = text[0];
+    size_t size = first < 0x80 ? 1 : first < 0xC2 ? 0 : first < 0xE0 ? 2 : first < 0xF0 ? 3 : first < 0xF5 ? 4 : 0;
+    for (size_t i = 1; i < size; i++)
+        if ((text[i] & 0xC0) != 0x80)
+            return 0;
+    bool is_long_form = (first == 0xE0 && text[1] < 0xA0) || (first == 0xF0 && text[1] < 0x90);
+    bool is_no_character = (first == 0xED && text[1] >= 0xA0) || (first == 0xF4 && text[1] >= 0x90);
+    return is_long_form || is_no_character ? 0 : size;
+}
+
+static bool is_utf8(const char *text) {
+    for (const unsigned char *at = (const unsigned char *)text; *at;) {
+        size_t size = character(at);
+        if (size == 0)
+            return false;
+        at += size;
+    }
+    return true;
+}
+
+static void put_json(const char *text) {
+    putchar('"');
+    for (; *text; text++) {
+        unsigned char byte = (unsigned char)*text;
+        if (byte < 0x20 || byte == 0x7F)
+            printf("\\u%04x", byte);
+        else {
+            if (byte == '"' || byte == '\\')
+                putchar('\\');
+            putchar(byte);
+        }
+    }
+    putchar('"');
+}
+
+static void put_json_name(const struct name *name) {
+    if (is_utf8(name->text)) {
+        fputs("{\"name\":", stdout);
+        put_json(name->text);
+        return;
+    }
+    fputs("{\"name_hex\":\"", stdout);
+    for (size_t i = 0; i < name->size; i++)
+        printf("%02x", (unsigned char)name->text[i]);
+    putchar('"');
+}
+
+static void put_json_line(const struct name *name, const struct finding *found) {
+    put_json_name(name);
+    if (found->fault) {
+        fputs(",\"fault\":", stdout);
+        put_json(found->fault);
+    } else if (*found->mime_type) {
+        printf(",\"mime_type\":\"%s\",\"extension\":\"%s\",\"class\":\"%s\"", found->mime_type, found->extension, found->class);
+    } else {
+        fputs(",\"mime_type\":null", stdout);
+    }
+    fputs("}\n", stdout);
+}
+
+/* The name comes last, since it alone can have tabs. */
+static void put_line(const struct name *name, const struct finding *found) {
+    if (found->fault)
+        printf("fault\t%s\t-\t%s", found->fault, name->text);
+    else if (*found->mime_type)
+        printf("%s\t%s\t%s\t%s", found->mime_type, found->extension, found->class, name->text);
+    else
+        printf("unknown\t-\t-\t%s", name->text);
+    putchar(0);
+}
+
+int main(int argc, char **argv) {
+    static struct name name;
+    bool is_json = argc == 2 && strcmp(argv[1], "-j") == 0;
+    if (argc > 2 || (argc == 2 && !is_json)) {
+        fputs("usage: directory_report [-j] < NAMES\n", stderr);
+        return 2;
+    }
+    while (read_name(&name)) {
+        struct finding found = find(&name);
+        if (is_json)
+            put_json_line(&name, &found);
+        else
+            put_line(&name, &found);
+    }
+    bool is_whole = !ferror(stdin) && !ferror(stdout);
+    return fflush(stdout) == 0 && is_whole ? 0 : 2;
+}
