@@ -128,5 +128,6 @@ def main() -> None:
     failed = len(result.failures) + len(result.errors)
     for test, why in result.skipped:
         print(f"left out: {test.id()}: {why}")
-    print(f"{result.testsRun - failed - len(result.skipped)} passed, {failed} failed", flush=True)
+    passed = max(0, result.testsRun - failed - len(result.skipped))
+    print(f"{passed} passed, {failed} failed", flush=True)
     sys.exit(failed != 0)
