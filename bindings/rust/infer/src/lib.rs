@@ -1,0 +1,134 @@
+#![doc = include_str!("../README.md")]
+
+use std::fs::File;
+use std::io::{self, Read};
+use std::path::Path;
+
+pub mod aliases;
+mod ffi;
+mod file_type;
+mod matchers;
+
+pub use file_type::{Matcher, MatcherType, Type};
+pub use matchers::{app, archive, audio, book, doc, font, image, odf, text, video};
+
+/// How many bytes of a file are looked at.
+const FRONT: u64 = 8192;
+
+/// The built-in types, and those that the caller added, which are asked first.
+#[derive(Default)]
+pub struct Infer {
+    added: Vec<(Type, Matcher)>,
+}
+
+impl Infer {
+    /// The built-in types alone.
+    pub const fn new() -> Infer {
+        Infer { added: Vec::new() }
+    }
+
+    /// Adds a type of the class [`MatcherType::Custom`], which is asked after those that were added before it.
+    pub fn add(&mut self, mime_type: &'static str, extension: &'static str, matcher: Matcher) {
+        self.added.push((Type::new(MatcherType::Custom, mime_type, extension, matcher), matcher));
+    }
+
+    /// The first type that accepts the buffer.
+    pub fn get(&self, buf: &[u8]) -> Option<Type> {
+        self.added.iter().find(|(_, matcher)| matcher(buf)).map(|(found, _)| *found).or_else(|| get(buf))
+    }
+
+    /// The first type that accepts the first 8192 bytes of a file.
+    pub fn get_from_path<P: AsRef<Path>>(&self, path: P) -> io::Result<Option<Type>> {
+        Ok(self.get(&front(path.as_ref())?))
+    }
+
+    /// Whether some type with this extension accepts the buffer. It need not be the first.
+    pub fn is(&self, buf: &[u8], extension: &str) -> bool {
+        self.adds(buf, |it| it.extension() == extension) || is(buf, extension)
+    }
+
+    /// Whether some type with this MIME type accepts the buffer. It need not be the first.
+    pub fn is_mime(&self, buf: &[u8], mime_type: &str) -> bool {
+        self.adds(buf, |it| it.mime_type() == mime_type) || is_mime(buf, mime_type)
+    }
+
+    /// Whether some type has this extension.
+    pub fn is_supported(&self, extension: &str) -> bool {
+        self.added.iter().any(|(it, _)| it.extension() == extension) || is_supported(extension)
+    }
+
+    /// Whether some type has this MIME type.
+    pub fn is_mime_supported(&self, mime_type: &str) -> bool {
+        self.added.iter().any(|(it, _)| it.mime_type() == mime_type) || is_mime_supported(mime_type)
+    }
+
+    /// Whether some type that the caller added accepts the buffer.
+    pub fn is_custom(&self, buf: &[u8]) -> bool {
+        self.adds(buf, |_| true)
+    }
+
+    fn adds(&self, buf: &[u8], wanted: impl Fn(&Type) -> bool) -> bool {
+        self.added.iter().any(|(it, matcher)| wanted(it) && matcher(buf))
+    }
+}
+
+/// The first type that accepts the buffer.
+pub fn get(buf: &[u8]) -> Option<Type> {
+    ffi::position(buf).map(|row| ffi::rows()[row])
+}
+
+/// The first type that accepts the first 8192 bytes of a file.
+pub fn get_from_path<P: AsRef<Path>>(path: P) -> io::Result<Option<Type>> {
+    Ok(get(&front(path.as_ref())?))
+}
+
+/// Whether some type with this extension accepts the buffer. It need not be the first.
+pub fn is(buf: &[u8], extension: &str) -> bool {
+    ffi::is(buf, extension)
+}
+
+/// Whether some type with this MIME type accepts the buffer. It need not be the first.
+pub fn is_mime(buf: &[u8], mime_type: &str) -> bool {
+    ffi::is_mime(buf, mime_type)
+}
+
+/// Whether some type has this extension.
+pub fn is_supported(extension: &str) -> bool {
+    ffi::is_supported(extension)
+}
+
+/// Whether some type has this MIME type.
+pub fn is_mime_supported(mime_type: &str) -> bool {
+    ffi::is_mime_supported(mime_type)
+}
+
+macro_rules! class_tests {
+    ($($name:ident: $what:literal),*) => {
+        $(
+            #[doc = concat!("Whether some type of ", $what, " accepts the buffer. It need not be the first.")]
+            pub fn $name(buf: &[u8]) -> bool {
+                ffi::$name(buf)
+            }
+        )*
+
+        impl Infer {
+            $(
+                #[doc = concat!("Whether some built-in type of ", $what, " accepts the buffer. It need not be the first.")]
+                pub fn $name(&self, buf: &[u8]) -> bool {
+                    $name(buf)
+                }
+            )*
+        }
+    };
+}
+
+class_tests! {
+    is_app: "programs", is_archive: "archives", is_audio: "sounds", is_book: "books", is_document: "documents",
+    is_font: "fonts", is_image: "images", is_video: "films"
+}
+
+fn front(path: &Path) -> io::Result<Vec<u8>> {
+    let mut front = Vec::new();
+    File::open(path)?.take(FRONT).read_to_end(&mut front)?;
+    Ok(front)
+}
