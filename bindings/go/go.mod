@@ -1,0 +1,3 @@
+module hoarvelt.example/infer
+
+go 1.19

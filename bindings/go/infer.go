@@ -1,0 +1,199 @@
+// Package infer tells the type of a file from its first bytes, by the library libinfer.
+package infer
+
+/*
+#cgo CFLAGS: -I${SRCDIR}/../../c -I${SRCDIR}/../../data
+#cgo LDFLAGS: ${SRCDIR}/../../c/out/libinfer.a
+#include "infer.h"
+
+// For an argument of the type void * Go allocates, and for one that C writes to. These have none.
+static int32_t position(const uint8_t *buf, size_t len) { return infer_position(buf, len); }
+static int64_t verdict(const uint8_t *buf, size_t len) {
+	bool is_final;
+	int32_t row = infer_verdict(buf, len, &is_final);
+	return (int64_t)row * 2 + is_final;
+}
+static bool is(const uint8_t *buf, size_t len, _GoString_ text) { return infer_is(buf, len, _GoStringPtr(text), _GoStringLen(text)); }
+static bool is_mime(const uint8_t *buf, size_t len, _GoString_ text) { return infer_is_mime(buf, len, _GoStringPtr(text), _GoStringLen(text)); }
+static bool is_supported(_GoString_ text) { return infer_is_supported(_GoStringPtr(text), _GoStringLen(text)); }
+static bool is_mime_supported(_GoString_ text) { return infer_is_mime_supported(_GoStringPtr(text), _GoStringLen(text)); }
+static bool is_app(const uint8_t *buf, size_t len) { return infer_is_app(buf, len); }
+static bool is_archive(const uint8_t *buf, size_t len) { return infer_is_archive(buf, len); }
+static bool is_audio(const uint8_t *buf, size_t len) { return infer_is_audio(buf, len); }
+static bool is_book(const uint8_t *buf, size_t len) { return infer_is_book(buf, len); }
+static bool is_document(const uint8_t *buf, size_t len) { return infer_is_document(buf, len); }
+static bool is_font(const uint8_t *buf, size_t len) { return infer_is_font(buf, len); }
+static bool is_image(const uint8_t *buf, size_t len) { return infer_is_image(buf, len); }
+static bool is_video(const uint8_t *buf, size_t len) { return infer_is_video(buf, len); }
+*/
+import "C"
+
+import (
+	"io"
+	"os"
+	"sync"
+	"unsafe"
+)
+
+// Front is how many bytes of a reader or a file are looked at.
+const Front = 8192
+
+// Class is the class of a type, such as "image".
+type Class string
+
+// The classes.
+const (
+	App      Class = "app"
+	Archive  Class = "archive"
+	Audio    Class = "audio"
+	Book     Class = "book"
+	Document Class = "doc"
+	Font     Class = "font"
+	Image    Class = "image"
+	Text     Class = "text"
+	Video    Class = "video"
+)
+
+// Type is a type: its MIME type, its usual extension without a dot, and its class.
+type Type struct {
+	MIMEType  string
+	Extension string
+	Class     Class
+}
+
+var types = rows()
+
+func rows() []Type {
+	all := make([]Type, int(C.infer_row_count()))
+	var out [256]C.char
+	for i := range all {
+		row := C.int32_t(i)
+		C.infer_mime_type(row, &out[0], 256)
+		all[i].MIMEType = C.GoString(&out[0])
+		C.infer_extension(row, &out[0], 256)
+		all[i].Extension = C.GoString(&out[0])
+		C.infer_class_name(C.infer_class(row), &out[0], 256)
+		all[i].Class = Class(C.GoString(&out[0]))
+	}
+	return all
+}
+
+// Types lists all types, in the order in which they are asked.
+func Types() []Type {
+	return append([]Type(nil), types...)
+}
+
+func typeOf(row int) (Type, bool) {
+	if row < 0 {
+		return Type{}, false
+	}
+	return types[row], true
+}
+
+func first(b []byte) *C.uint8_t {
+	if len(b) == 0 {
+		return nil
+	}
+	return (*C.uint8_t)(unsafe.Pointer(&b[0]))
+}
+
+// Detect tells the type of the bytes, and whether there is one.
+func Detect(b []byte) (Type, bool) {
+	return typeOf(int(C.position(first(b), C.size_t(len(b)))))
+}
+
+// Verdict tells the same, and whether no bytes that may follow can change it.
+func Verdict(b []byte) (found Type, ok bool, final bool) {
+	both := int64(C.verdict(first(b), C.size_t(len(b))))
+	found, ok = typeOf(int(both >> 1))
+	return found, ok, both&1 == 1
+}
+
+var fronts = sync.Pool{New: func() any { return new([Front]byte) }}
+
+// DetectReader tells the type of the first 8192 bytes of a reader, and takes no others.
+func DetectReader(r io.Reader) (Type, bool, error) {
+	front := fronts.Get().(*[Front]byte)
+	defer fronts.Put(front)
+	count, err := io.ReadFull(r, front[:])
+	if err != nil && err != io.EOF && err != io.ErrUnexpectedEOF {
+		return Type{}, false, err
+	}
+	found, ok := Detect(front[:count])
+	return found, ok, nil
+}
+
+// DetectFile tells the type of the first 8192 bytes of a file.
+func DetectFile(path string) (Type, bool, error) {
+	file, err := os.Open(path)
+	if err != nil {
+		return Type{}, false, err
+	}
+	defer file.Close()
+	return DetectReader(file)
+}
+
+// Is tells whether some type with this extension accepts the bytes. It need not be the answer of Detect.
+func Is(b []byte, extension string) bool {
+	return bool(C.is(first(b), C.size_t(len(b)), extension))
+}
+
+// IsMIMEType tells whether some type with this MIME type accepts the bytes. It need not be the answer of Detect.
+func IsMIMEType(b []byte, mimeType string) bool {
+	return bool(C.is_mime(first(b), C.size_t(len(b)), mimeType))
+}
+
+// IsSupported tells whether some type has this extension.
+func IsSupported(extension string) bool { return bool(C.is_supported(extension)) }
+
+// IsMIMETypeSupported tells whether some type has this MIME type.
+func IsMIMETypeSupported(mimeType string) bool { return bool(C.is_mime_supported(mimeType)) }
+
+// IsApp tells whether some program's type accepts the bytes. As of the seven below, it need not be the answer of Detect.
+func IsApp(b []byte) bool {
+	return bool(C.is_app(first(b), C.size_t(len(b))))
+}
+
+// IsArchive tells whether some archive's type accepts the bytes.
+func IsArchive(b []byte) bool {
+	return bool(C.is_archive(first(b), C.size_t(len(b))))
+}
+
+// IsAudio tells whether some sound's type accepts the bytes.
+func IsAudio(b []byte) bool {
+	return bool(C.is_audio(first(b), C.size_t(len(b))))
+}
+
+// IsBook tells whether some book's type accepts the bytes.
+func IsBook(b []byte) bool {
+	return bool(C.is_book(first(b), C.size_t(len(b))))
+}
+
+// IsDocument tells whether some document's type accepts the bytes.
+func IsDocument(b []byte) bool {
+	return bool(C.is_document(first(b), C.size_t(len(b))))
+}
+
+// IsFont tells whether some font's type accepts the bytes.
+func IsFont(b []byte) bool {
+	return bool(C.is_font(first(b), C.size_t(len(b))))
+}
+
+// IsImage tells whether some image's type accepts the bytes.
+func IsImage(b []byte) bool {
+	return bool(C.is_image(first(b), C.size_t(len(b))))
+}
+
+// IsVideo tells whether some film's type accepts the bytes.
+func IsVideo(b []byte) bool {
+	return bool(C.is_video(first(b), C.size_t(len(b))))
+}
+
+// Sample gives a short buffer of which the type in Types with this number is the answer, and nothing if there is none.
+func Sample(number int) []byte {
+	if number < 0 || number >= len(types) {
+		return nil
+	}
+	out := make([]byte, 640)
+	return out[:C.infer_sample(C.int32_t(number), unsafe.Pointer(&out[0]), 640)]
+}

@@ -1,0 +1,253 @@
+package infer
+
+import (
+	"bytes"
+	"encoding/hex"
+	"errors"
+	"io"
+	"os"
+	"path/filepath"
+	"strconv"
+	"strings"
+	"sync"
+	"testing"
+	"testing/iotest"
+)
+
+var (
+	jpeg = []byte("\xFF\xD8\xFF\xE0")
+	want = Type{"image/jpeg", "jpg", Image}
+)
+
+func lines(t *testing.T, name string) [][]string {
+	text, err := os.ReadFile(filepath.Join("..", "..", "crates", "infer_vectors", "data", name))
+	if err != nil {
+		t.Fatal(err)
+	}
+	var all [][]string
+	for _, line := range strings.Split(strings.TrimSuffix(string(text), "\n"), "\n") {
+		all = append(all, strings.Split(line, "\t"))
+	}
+	return all
+}
+
+func wantedRows(t *testing.T) []Type {
+	var all []Type
+	for _, line := range lines(t, "rows.tsv") {
+		all = append(all, Type{line[2], line[3], Class(strings.ToLower(line[1]))})
+	}
+	return all
+}
+
+func decode(t *testing.T, tokens string) []byte {
+	var all []byte
+	for _, token := range strings.Fields(strings.TrimPrefix(tokens, "-")) {
+		digits, times, found := strings.Cut(token, "*")
+		part, err := hex.DecodeString(digits)
+		count := 1
+		if err == nil && found {
+			count, err = strconv.Atoi(times)
+		}
+		if err != nil {
+			t.Fatal(err)
+		}
+		all = append(all, bytes.Repeat(part, count)...)
+	}
+	return all
+}
+
+type vector struct {
+	name string
+	data []byte
+	want Type
+	ok   bool
+}
+
+func vectors(t *testing.T) []vector {
+	rows := wantedRows(t)
+	var all []vector
+	for _, line := range lines(t, "vectors.tsv") {
+		it := vector{name: line[0], data: decode(t, line[3])}
+		if row, err := strconv.Atoi(line[2]); err == nil {
+			it.want, it.ok = rows[row], true
+		}
+		all = append(all, it)
+	}
+	return all
+}
+
+func TestRows(t *testing.T) {
+	rows := wantedRows(t)
+	if len(Types()) != len(rows) {
+		t.Fatal(len(Types()))
+	}
+	samples := 0
+	for i, found := range Types() {
+		if found != rows[i] {
+			t.Error(found, rows[i])
+		}
+		if !IsSupported(found.Extension) || !IsMIMETypeSupported(found.MIMEType) {
+			t.Error(found)
+		}
+		data := Sample(i)
+		if len(data) == 0 {
+			continue
+		}
+		samples++
+		if got, ok := Detect(data); !ok || got != rows[i] || !Is(data, got.Extension) || !IsMIMEType(data, got.MIMEType) {
+			t.Error(got, rows[i])
+		}
+	}
+	if samples != 96 || Sample(-1) != nil || Sample(len(rows)) != nil {
+		t.Error(samples)
+	}
+	if IsSupported("txt") || IsMIMETypeSupported("text/plain") || IsSupported("") || IsSupported("\xFF") {
+		t.Error("supported")
+	}
+}
+
+func TestVectors(t *testing.T) {
+	for _, it := range vectors(t) {
+		if got, ok := Detect(it.data); got != it.want || ok != it.ok {
+			t.Error(it.name, got)
+		}
+		if got, ok, _ := Verdict(it.data); got != it.want || ok != it.ok {
+			t.Error(it.name, got)
+		}
+		if got, ok, err := DetectReader(iotest.OneByteReader(bytes.NewReader(it.data))); err != nil || len(it.data) <= Front && (got != it.want || ok != it.ok) {
+			t.Error(it.name, got, err)
+		}
+	}
+}
+
+func TestClasses(t *testing.T) {
+	asks := []func([]byte) bool{IsApp, IsArchive, IsAudio, IsBook, IsDocument, IsFont, IsImage, IsVideo}
+	docx := append([]byte("PK\x03\x04"), append(make([]byte, 26), "word/"...)...)
+	buffers := [][]byte{[]byte("MZ"), []byte("BZh"), []byte("ID3"), append(make([]byte, 60), "BOOKMOBI"...), docx, []byte("OTTO\x00"), jpeg, []byte("FLV\x01")}
+	for i, ask := range asks {
+		for k, data := range buffers {
+			// A document of Office is an archive too.
+			if ask(data) != (i == k || i == 1 && k == 4) {
+				t.Error(i, k)
+			}
+		}
+		if ask(nil) {
+			t.Error(i)
+		}
+	}
+}
+
+func TestQuestions(t *testing.T) {
+	if !Is([]byte("MZ"), "dll") || Is(jpeg, "JPG") || Is(nil, "jpg") || Is(jpeg, "") || IsMIMEType(jpeg, "image/png") || IsMIMEType(nil, "") {
+		t.Error("questions")
+	}
+	if _, ok := Detect(nil); ok {
+		t.Error("empty")
+	}
+	if _, _, final := Verdict(append(jpeg, make([]byte, 1019)...)); final {
+		t.Error("final too soon")
+	}
+	if got, ok, final := Verdict(append(jpeg, make([]byte, 1020)...)); got != want || !ok || !final {
+		t.Error("not final")
+	}
+	if _, ok, final := Verdict(bytes.Repeat([]byte(" "), 5000)); ok || final {
+		t.Error("final spaces")
+	}
+}
+
+func TestReaders(t *testing.T) {
+	late := append(bytes.Repeat([]byte(" "), 8190), "<p>"...)
+	reader := bytes.NewReader(late)
+	if _, ok, err := DetectReader(reader); ok || err != nil || reader.Len() != 1 {
+		t.Error(ok, err, reader.Len())
+	}
+	fault := errors.New("fault")
+	if _, ok, err := DetectReader(io.MultiReader(bytes.NewReader(jpeg), iotest.ErrReader(fault))); ok || err != fault {
+		t.Error(ok, err)
+	}
+	path := filepath.Join(t.TempDir(), "photo")
+	if err := os.WriteFile(path, jpeg, 0o600); err != nil {
+		t.Fatal(err)
+	}
+	if got, ok, err := DetectFile(path); got != want || !ok || err != nil {
+		t.Error(got, ok, err)
+	}
+	if _, _, err := DetectFile(path + "-not"); !errors.Is(err, os.ErrNotExist) {
+		t.Error(err)
+	}
+	if _, _, err := DetectFile(filepath.Dir(path)); err == nil {
+		t.Error("a folder is read")
+	}
+}
+
+func TestBytesBesidePointers(t *testing.T) {
+	type record struct {
+		next *record
+		data [4]byte
+	}
+	it := &record{next: new(record), data: [4]byte{0xFF, 0xD8, 0xFF, 0xE0}}
+	if got, _ := Detect(it.data[:]); got != want || !IsImage(it.data[:]) {
+		t.Error(got)
+	}
+}
+
+func TestNoCallAllocates(t *testing.T) {
+	extension, reader := strings.Clone("jpg"), bytes.NewReader(jpeg)
+	calls := map[string]func(){
+		"Detect":       func() { Detect(jpeg) },
+		"Verdict":      func() { Verdict(jpeg) },
+		"Is":           func() { Is(jpeg, extension) },
+		"IsMIMEType":   func() { IsMIMEType(jpeg, extension) },
+		"IsImage":      func() { IsImage(jpeg) },
+		"IsSupported":  func() { IsSupported(extension) },
+		"Target":       func() { Target(OtherExtension, extension) },
+		"DetectReader": func() { reader.Reset(jpeg); DetectReader(reader) },
+	}
+	for name, call := range calls {
+		// The race detector drops some of what a pool keeps.
+		if count := testing.AllocsPerRun(1000, call); count != 0 && !(isRace && name == "DetectReader") {
+			t.Error(name, count)
+		}
+	}
+}
+
+func TestAllThreads(t *testing.T) {
+	all := vectors(t)
+	var waiting sync.WaitGroup
+	for range make([]struct{}, 16) {
+		waiting.Add(1)
+		go func() {
+			defer waiting.Done()
+			for _, it := range all {
+				if got, ok := Detect(it.data); got != it.want || ok != it.ok {
+					t.Error(it.name, got)
+				}
+				DetectReader(bytes.NewReader(it.data))
+				Target(OtherExtension, "jpeg")
+			}
+		}()
+	}
+	waiting.Wait()
+}
+
+func TestAliases(t *testing.T) {
+	extensions, texts := map[string]bool{}, map[string]bool{}
+	for _, row := range wantedRows(t) {
+		extensions[row.Extension], texts[row.Extension], texts[row.MIMEType] = true, true, true
+	}
+	text, err := os.ReadFile(filepath.Join("..", "..", "data", "aliases.def"))
+	if err != nil || strings.Count(string(text), "\")\n") != len(Aliases()) {
+		t.Error(err, len(Aliases()))
+	}
+	for alias, target := range Aliases() {
+		if !extensions[target] || texts[alias.Name] {
+			t.Error(alias, target)
+		}
+	}
+	if found, ok := Target(OtherExtension, "jpeg"); found != "jpg" || !ok {
+		t.Error(found)
+	}
+	if _, ok := Target(OtherMIMEType, "jpeg"); ok {
+		t.Error("another kind")
+	}
+}
