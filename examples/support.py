@@ -53,7 +53,7 @@ def shared_library() -> str:
     if "INFER_LIBRARY" not in os.environ:
         prefix = folder()
         subprocess.run([f"{ROOT}/c/install", prefix], check=True, stdout=subprocess.DEVNULL)
-        os.environ["INFER_LIBRARY"] = f"{prefix}/lib/libinfer.so.0"
+        os.environ["INFER_LIBRARY"] = f"{prefix}/lib/libinfer.so"
     return os.environ["INFER_LIBRARY"]
 
 

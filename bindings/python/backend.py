@@ -18,14 +18,14 @@ def _library(folder: str) -> str:
     if "INFER_LIBRARY" in os.environ:
         return os.environ["INFER_LIBRARY"]
     subprocess.run([os.path.join(ROOT, "c", "install"), folder], check=True)
-    return os.path.join(folder, "lib", "libinfer.so.0")
+    return os.path.join(folder, "lib", "libinfer.so")
 
 
 def _contents(folder: str, tag: str) -> dict[str, bytes]:
     """The files of the wheel by their names."""
     source = os.path.join(HERE, "src", "infer")
     paths = {f"infer/{name}": os.path.join(source, name) for name in sorted(os.listdir(source)) if name.endswith((".py", ".typed"))}
-    paths |= {"infer/aliases.def": os.path.join(ROOT, "data", "aliases.def"), "infer/libinfer.so.0": _library(folder)}
+    paths |= {"infer/aliases.def": os.path.join(ROOT, "data", "aliases.def"), "infer/libinfer.so": _library(folder)}
     paths |= {f"{NAME}-{VERSION}.dist-info/LICENSE": os.path.join(ROOT, "LICENSE")}
     files = {}
     for name, path in paths.items():

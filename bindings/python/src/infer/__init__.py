@@ -20,6 +20,7 @@ __all__ = [
 
 FRONT = 8192
 """How many bytes of a path or a file are looked at."""
+_SYSTEM_LIBRARY = "libinfer.so.0.1"
 
 Source = Union[str, "os.PathLike[str]", bytes, bytearray, memoryview, BinaryIO]
 
@@ -33,12 +34,12 @@ class Type(NamedTuple):
 
 
 def _load() -> ctypes.CDLL:
-    beside = os.path.join(os.path.dirname(os.path.abspath(__file__)), "libinfer.so.0")
-    path = os.environ.get("INFER_LIBRARY") or (beside if os.path.exists(beside) else "libinfer.so.0")
+    beside = os.path.join(os.path.dirname(os.path.abspath(__file__)), "libinfer.so")
+    path = os.environ.get("INFER_LIBRARY") or (beside if os.path.exists(beside) else _SYSTEM_LIBRARY)
     try:
         return ctypes.CDLL(path)
     except OSError as fault:
-        raise ImportError(f"no {path}: c/install makes libinfer.so.0, and INFER_LIBRARY can name it ({fault})") from None
+        raise ImportError(f"no {path}: c/install makes it, and INFER_LIBRARY can name it ({fault})") from None
 
 
 _library = _load()
