@@ -109,10 +109,10 @@ def rows() -> list[Row]:
 
 def vectors() -> list[Vector]:
     """Buffers, and the row of each answer or None, by the test data."""
-    numbered = rows()
+    named = {f"{row.group}/{row.extension}": row for row in rows()}
     with open(f"{ROOT}/crates/infer_vectors/data/vectors.tsv", encoding="ascii") as lines:
         split = [line.rstrip("\n").split("\t") for line in lines]
-    return [Vector(name, None if row == "-" else numbered[int(row)], decode(data)) for name, _, row, data in split]
+    return [Vector(name, None if row == "-" else named[row], decode(data)) for name, _, row, data in split]
 
 
 def command_in(readme: str, begins: str) -> str:

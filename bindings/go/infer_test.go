@@ -34,7 +34,7 @@ func lines(t *testing.T, name string) [][]string {
 func wantedRows(t *testing.T) []Type {
 	var all []Type
 	for _, line := range lines(t, "rows.tsv") {
-		all = append(all, Type{line[2], line[3], Class(strings.ToLower(line[1]))})
+		all = append(all, Type{line[1], line[2], Class(strings.ToLower(line[0]))})
 	}
 	return all
 }
@@ -64,13 +64,14 @@ type vector struct {
 }
 
 func vectors(t *testing.T) []vector {
-	rows := wantedRows(t)
+	named := map[string]Type{}
+	for _, line := range lines(t, "rows.tsv") {
+		named[line[0]+"/"+line[2]] = Type{line[1], line[2], Class(strings.ToLower(line[0]))}
+	}
 	var all []vector
 	for _, line := range lines(t, "vectors.tsv") {
 		it := vector{name: line[0], data: decode(t, line[3])}
-		if row, err := strconv.Atoi(line[2]); err == nil {
-			it.want, it.ok = rows[row], true
-		}
+		it.want, it.ok = named[line[2]]
 		all = append(all, it)
 	}
 	return all

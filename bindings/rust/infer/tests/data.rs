@@ -19,7 +19,14 @@ fn lines(name: &str) -> Vec<Vec<String>> {
 }
 
 fn rows() -> Vec<Row> {
-    lines("rows.tsv").iter().map(|line| (line[1].clone(), line[2].clone(), line[3].clone())).collect()
+    lines("rows.tsv").iter().map(|line| (line[0].clone(), line[1].clone(), line[2].clone())).collect()
+}
+
+/// The row of that name, a class and an extension, and none for "-".
+fn named(rows: &[Row], name: &str) -> Option<Row> {
+    let wanted = name.split_once('/')?;
+    let row = rows.iter().find(|row| (row.0.as_str(), row.2.as_str()) == wanted);
+    Some(row.expect("a row of the data").clone())
 }
 
 fn shown(found: Type) -> Row {
@@ -73,7 +80,7 @@ fn vectors_have_their_answers() {
     let vectors = lines("vectors.tsv");
     assert!(vectors.len() >= 990);
     for line in &vectors {
-        let wanted = (line[2] != "-").then(|| rows[line[2].parse::<usize>().unwrap()].clone());
+        let wanted = named(&rows, &line[2]);
         assert_eq!(infer::get(&decode(&line[3])).map(shown), wanted, "{}", line[0]);
         assert_eq!(infer::Infer::new().get(&decode(&line[3])).map(shown), wanted, "{}", line[0]);
     }
@@ -82,12 +89,12 @@ fn vectors_have_their_answers() {
 #[test]
 fn all_threads_have_the_same_answers() {
     let rows = rows();
-    let vectors: Vec<_> = lines("vectors.tsv").iter().map(|line| (decode(&line[3]), line[2].parse::<usize>().ok())).collect();
+    let vectors: Vec<_> = lines("vectors.tsv").iter().map(|line| (decode(&line[3]), named(&rows, &line[2]))).collect();
     std::thread::scope(|scope| {
         for _ in 0..8 {
             scope.spawn(|| {
                 for (data, wanted) in &vectors {
-                    assert_eq!(infer::get(data).map(shown), wanted.map(|row| rows[row].clone()));
+                    assert_eq!(&infer::get(data).map(shown), wanted);
                 }
             });
         }
