@@ -42,12 +42,13 @@ static void print_row(int32_t row, FILE *sources) {
     infer_mime_type(row, mime_type, sizeof mime_type);
     infer_class_name(infer_class(row), class_name, sizeof class_name);
     find_source(sources, extension, source, sizeof source);
-    printf("| %d | %s | %s | %s | ", row, extension, mime_type, class_name);
+    /* A page that is shown counts the items itself, so that a new row changes one line of the file. */
+    printf("0. **%s**, %s, %s: ", extension, mime_type, class_name);
     if (len == 0)
         fputs("never the answer", stdout);
     else
         print_bytes(sample, len);
-    printf(" | %s |\n", source);
+    printf(". Source: %s.\n", source);
 }
 
 int main(int argc, char **argv) {
@@ -57,12 +58,11 @@ int main(int argc, char **argv) {
         return 2;
     }
     puts("# Types\n\n"
-         "Made by `c/types` from the library for C, in the order in which the rows are asked. A row's number changes whenever one is added before it; "
-         "extensions and MIME types stay.\n\n"
-         "A sample is a shortest buffer of which the row is the answer, in hexadecimal digits: `00*26` is 26 bytes of 00. The source is a document that "
-         "states the signature. For a format that is kept in another, as docx in ZIP, it is that of the other. It is unknown if no document is known for "
-         "certain.\n\n"
-         "| Row | Extension | MIME type | Class | Shortest sample | Source |\n|---|---|---|---|---|---|");
+         "Made by `c/types` from the library for C, in the order in which the rows are asked. Each row has its number, its extension, MIME type and class, "
+         "a shortest buffer of which it is the answer, and the source of its signature. The number is that of the list, which counts from 0; it changes "
+         "whenever a row is added before it. Extensions and MIME types stay.\n\n"
+         "Samples are hexadecimal digits: `00*26` is 26 bytes of 00. The source is a document that states the signature. For a format that is kept in "
+         "another, as docx in ZIP, it is that of the other. It is unknown if no document is known for certain.\n");
     for (int32_t row = 0; row < (int32_t)infer_row_count(); row++)
         print_row(row, sources);
     fclose(sources);
