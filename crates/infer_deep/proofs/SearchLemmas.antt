@@ -1,5 +1,5 @@
 -- What a comparison, a search of a part and a look at blocks tell of a buffer.
-use Rattle.std.proofs.Common.{◌≡◌, ℕ, ◌+◌, ◌-◌, ◌*◌, ◌<◌, ◌≤◌, Bool, true, List, Option, length, get_or, Some, None, inl, inr, take, drop, min, ap, subst, ◌∙◌, arith, length-drop}
+use Rattle.std.proofs.Common.{◌≡◌, ℕ, ◌+◌, ◌-◌, ◌*◌, ◌<◌, ◌≤◌, Bool, true, List, Option, length, get_or, Some, None, inl, inr, take, drop, min, ap, subst, sym, ◌∙◌, arith, length-drop}
 use Rattle.std.proofs.lemmas.List.{take_rest}
 use Rattle.std.proofs.lemmas.List.Prefix.{at_reads, at_from_reads, front_fits}
 use Rattle.std.proofs.lemmas.Slice.Eq.{starts_is}
@@ -7,10 +7,12 @@ use Rattle.std.proofs.lemmas.Bool.Decides.{Decides-eqb}
 use Rattle.std.proofs.lemmas.Bool.{cases_lt}
 use Rattle.std.specs.List.{starts_with}
 use Rattle.std.specs.Prelude.{nat_eq}
-use Rattle.memchr.specs.Find.{OccursAt, FindsNeedle}
+use Rattle.memchr.specs.Find.{OccursAt, IsFirst, NoneBefore}
+use Rattle.memchr.specs.Pairs.{HasPair, IsPairFinderOf, reach_of}
+use Rattle.memchr.specs.declared.arch.all.packedpair.Finder.{Finder}
 use Rattle.infer_deep.specs.Blocks.{LacksPair}
 use Rattle.infer_deep.specs.Places.{IsWithin, IsFirstPlace, IsFirstWithin}
-use Rattle.infer_deep.proofs.PlaceLemmas.{OccursAt-from_part, OccursAt-part, part_length, part_reads}
+use Rattle.infer_deep.proofs.PlaceLemmas.{OccursAt-part, part_reads}
 
 -- what `starts_with` says of the rest of a buffer
 module _ (b text : List ℕ) (p : ℕ) (r : Bool) (e : r ≡ starts_with nat_eq (take (length b - p) (drop p b)) text) where
@@ -30,6 +32,19 @@ module _ (b text : List ℕ) (p : ℕ) (r : Bool) (e : r ≡ starts_with nat_eq 
   starts-from_OccursAt o =
       (starts_is Decides-eqb (drop p b) text r tested).1 _ (at_from_reads 0 b text p o.fits o.reads)
 
+-- a search may begin later where nothing stands before
+module _ (b text : List ℕ) (start later end : ℕ) (le : start ≤ later) (none : (q : ℕ) → q < later → ¬ IsWithin b text start end q) where
+  from_later : (q : ℕ) → later ≤ q → IsWithin b text start end q → IsWithin b text later end q
+  from_later q low w = record { stands = w.stands; low = low; high = w.high }
+
+  pub IsFirstWithin-skip : (r : Option ℕ) → IsFirstWithin b text later end r → IsFirstWithin b text start end r
+  IsFirstWithin-skip None h = λ q w. elim (cases_lt q later) [ inl l ↦ none q l w | inr l ↦ h q (from_later q (omega arith) w) ]
+  IsFirstWithin-skip (Some p) h = record {
+    here = let low = h.here.low in record { stands = h.here.stands; low = omega arith; high = h.here.high };
+    before = λ q lt w.
+        elim (cases_lt q later) [ inl l ↦ none q l w | inr l ↦ h.before q lt (from_later q (omega arith) w) ];
+  }
+
 -- what a search of the part from `start` on says of the buffer: m is where the part ends
 module _ (b text : List ℕ) (start end m : ℕ) (is : m ≡ min end (length b)) (l : start ≤ m) where
   in_part : (q : ℕ) → IsWithin b text start end (start + q) → OccursAt (take (m - start) (drop start b)) text q
@@ -38,35 +53,10 @@ module _ (b text : List ℕ) (start end m : ℕ) (is : m ≡ min end (length b))
       let h = w.high in
       OccursAt-part b text start m q l (omega arith) (omega arith) w.stands
 
-  within : (q : ℕ) → OccursAt (take (m - start) (drop start b)) text q → IsWithin b text start end (start + q)
-  within q o =
-      let n = part_length b start m l (omega arith) in
-      let f = o.fits in
-      record {
-        stands = OccursAt-from_part b text start m q l (omega arith) o;
-        low = omega arith;
-        high = omega arith;
-      }
-
   place : (p : ℕ) → IsWithin b text start end p → IsWithin b text start end (start + (p - start))
   place p w =
       let low = w.low in
       subst (IsWithin b text start end) (let r : p ≡ start + (p - start) = omega arith in r) w
-
-  pub IsFirstWithin-none : FindsNeedle (take (m - start) (drop start b)) text 0 None → IsFirstWithin b text start end None
-  IsFirstWithin-none h p w =
-      let o = in_part (p - start) (place p w) in
-      let f = o.fits in
-      h (p - start) (omega arith) (omega arith) o
-
-  pub IsFirstWithin-some : (k : ℕ)
-      → FindsNeedle (take (m - start) (drop start b)) text 0 (Some k) → IsFirstPlace b text start end (start + k)
-  IsFirstWithin-some k h = record {
-    here = within k h.1;
-    before = λ q lt w.
-        let low = w.low in
-        h.0.before (q - start) (omega arith) (omega arith) (in_part (q - start) (place q w));
-  }
 
 -- one more block of 128 places that lack the pair, which overlaps those before where the buffer ends
 pub LacksPair-more : (b : List ℕ) (x y k at : ℕ) → at ≡ min (128 * k) (length b - 129) → 129 ≤ length b
@@ -99,14 +89,57 @@ module _ (b text : List ℕ) (rare start end m n : ℕ) (two : rare + 2 ≤ leng
         part_reads b (start + rare) m (q - start + 1) (omega arith) ∙ ap (λ i. get_or b i 0) next ∙ w.stands.reads (rare + 1) (omega arith),
       )
 
-  later : (q : ℕ) → start + n ≤ q → IsWithin b text start end q → IsWithin b text (start + n) end q
-  later q low w = record { stands = w.stands; low = low; high = w.high }
-
   pub IsFirstWithin-later : (r : Option ℕ) → IsFirstWithin b text (start + n) end r → IsFirstWithin b text start end r
-  IsFirstWithin-later None h = λ q w.
-      elim (cases_lt q (start + n)) [ inl l ↦ none_before q l w | inr l ↦ h q (later q (omega arith) w) ]
-  IsFirstWithin-later (Some p) h = record {
-    here = let low = h.here.low in record { stands = h.here.stands; low = omega arith; high = h.here.high };
-    before = λ q lt w.
-        elim (cases_lt q (start + n)) [ inl l ↦ none_before q l w | inr l ↦ h.before q lt (later q (omega arith) w) ];
+  IsFirstWithin-later r h = IsFirstWithin-skip b text start (start + n) end (omega arith) none_before r h
+
+-- what a search for a pair of bytes of the text in the part from `from` on says of the buffer
+module _ (b text : List ℕ) (from end m : ℕ) (is : m ≡ min end (length b)) (l : from ≤ m) (f : Finder) (of : IsPairFinderOf f text) where
+  pair_at : (k : ℕ) → OccursAt (take (m - from) (drop from b)) text k → HasPair f (take (m - from) (drop from b)) k
+  pair_at k o = record {
+    first = o.reads f.pair.index1 of.pair.first ∙ sym of.byte1;
+    second = o.reads f.pair.index2 of.pair.second ∙ sym of.byte2;
   }
+
+  in_reach : (k : ℕ) → OccursAt (take (m - from) (drop from b)) text k → k < length (take (m - from) (drop from b)) - reach_of f
+  in_reach k o =
+      let fits = o.fits in
+      let first = of.pair.first in
+      let second = of.pair.second in
+      omega arith
+
+  pub IsFirstWithin-no_pair : IsFirst (HasPair f (take (m - from) (drop from b))) 0 (length (take (m - from) (drop from b)) - reach_of f) None
+      → IsFirstWithin b text from end None
+  IsFirstWithin-no_pair h p w =
+      let o = in_part b text from end m is l (p - from) (place b text from end m is l p w) in
+      h (p - from) (omega arith) (in_reach (p - from) o) (pair_at (p - from) o)
+
+  none_before_pair : (k n : ℕ) → NoneBefore (HasPair f (take (m - from) (drop from b))) 0 n k
+      → (q : ℕ) → q < from + k → ¬ IsWithin b text from end q
+  none_before_pair k n h q lt w =
+      let low = w.low in
+      let o = in_part b text from end m is l (q - from) (place b text from end m is l q w) in
+      h.before (q - from) (omega arith) (omega arith) (pair_at (q - from) o)
+
+  -- a text that stands where the first pair does is the first
+  pub first_at_pair : (k n : ℕ) → NoneBefore (HasPair f (take (m - from) (drop from b))) 0 n k
+      → OccursAt b text (from + k) × (from + k + length text ≤ m) → IsFirstPlace b text from end (from + k)
+  first_at_pair k n h o = record {
+    here = record { stands = o.0; low = omega arith; high = let high = o.1 in omega arith };
+    before = none_before_pair k n h;
+  }
+
+  -- and where none does, a search may begin behind it
+  pub IsFirstWithin-past : (k n : ℕ) → NoneBefore (HasPair f (take (m - from) (drop from b))) 0 n k
+      → ¬ (OccursAt b text (from + k) × (from + k + length text ≤ m))
+      → (r : Option ℕ) → IsFirstWithin b text (from + k + 1) end r → IsFirstWithin b text from end r
+  IsFirstWithin-past k n h absent = IsFirstWithin-skip b text from (from + k + 1) end (omega arith) none
+    where
+      none : (q : ℕ) → q < from + k + 1 → ¬ IsWithin b text from end q
+      none q lt w = elim (cases_lt q (from + k)) [
+        | inl before ↦ none_before_pair k n h q before w
+        | inr there ↦
+            let same : q ≡ from + k = omega arith in
+            let high = w.high in
+            let fits = w.stands.fits in
+            absent (subst (OccursAt b text) same w.stands, omega arith)
+      ]

@@ -6,7 +6,7 @@ ghost use Rattle.infer_deep.specs.Blocks.{LacksPair};
 ghost use Rattle.infer_deep.specs.Places.{IsFirstWithin};
 ghost use Rattle.infer_deep.specs.Windows.{StandsBy};
 
-use memchr::arch::all::twoway;
+use memchr::arch::all::packedpair;
 use memchr::memchr;
 
 /// Whether `text` stands in `buf` from `place` on.
@@ -42,16 +42,36 @@ pub fn find(buf: &[u8], text: &[u8], rare: usize, start: usize, end: usize) -> O
     search(buf, text, start + free, end)
 }
 
+// Whether `text` stands at the place and ends by `stop`.
+#[inline(always)]
+fn stands_within(buf: &[u8], text: &[u8], place: usize, stop: usize) -> bool
+    requires { place ≤ stop }
+    ensures { IsTrue result ↔ (OccursAt buf.now text.now place × (place + length text.now ≤ stop)) }
+{
+    text.len() <= stop - place && stands_at(buf, text, place)
+}
+
+// Places with the two rarest bytes of the text are compared whole. The finder of `memmem` may own its text, and would
+// bring in the heap.
 #[inline(never)]
 fn search(buf: &[u8], text: &[u8], start: usize, end: usize) -> Option<usize>
+    requires { 2 ≤ length text.now }
     ensures { IsFirstWithin buf.now text.now start end result }
 {
     let stop = end.min(buf.len());
     if start > stop {
         return None;
     }
-    let at = twoway::Finder::new(text).find(&buf[start..stop], text)?;
-    Some(start + at)
+    let pair = packedpair::Finder::new(text)?;
+    let mut from = start;
+    for _turn in start..stop {
+        let at = from + pair.find_prefilter(&buf[from..stop])?;
+        if stands_within(buf, text, at, stop) {
+            return Some(at);
+        }
+        from = at + 1;
+    }
+    None
 }
 
 /// How many places at the front of `hay` surely begin no such pair of bytes.
