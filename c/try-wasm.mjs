@@ -1,0 +1,47 @@
+// Asks the module that c/build --target wasm64-unknown-unknown makes about every row of docs/TYPES.md, and counts the
+// differences. usage: node --experimental-wasm-memory64 c/try-wasm.mjs [MODULE]
+import { readFileSync } from "node:fs";
+
+const here = new URL(".", import.meta.url);
+const path = process.argv[2] ?? new URL("out/wasm64-unknown-unknown/infer.wasm", here);
+const module = await WebAssembly.compile(readFileSync(path));
+const { exports: infer } = await WebAssembly.instantiate(module, {});
+const start = infer.__heap_base.value;
+const room = new Uint8Array(infer.memory.buffer, Number(start));
+
+const textOf = (write, row) => {
+    const length = Number(write(row, start, 128n));
+    return new TextDecoder().decode(room.slice(0, length));
+};
+
+/** The bytes of hexadecimal tokens, each with a count of repetitions after `*` where it has one. */
+const decode = (tokens) =>
+    tokens.split(" ").flatMap((token) => {
+        const [digits, count] = token.split("*");
+        const bytes = digits.match(/../g).map((pair) => parseInt(pair, 16));
+        return Array(Number(count ?? 1)).fill(bytes).flat();
+    });
+
+let [compared, differing] = [0, 0];
+const same = (what, got, wanted) => {
+    compared += 1;
+    if (got === wanted) return;
+    differing += 1;
+    console.log(`${what}: ${got} in place of ${wanted}`);
+};
+
+const lines = readFileSync(new URL("../docs/TYPES.md", here), "utf8").split("\n").filter((line) => /^\| \d/.test(line));
+same("imports", WebAssembly.Module.imports(module).length, 0);
+same("rows", Number(infer.infer_row_count()), lines.length);
+for (const line of lines) {
+    const [row, extension, mimeType, className, sample] = line.split("|").slice(1).map((cell) => cell.trim());
+    same(`extension of ${row}`, textOf(infer.infer_extension, Number(row)), extension);
+    same(`MIME type of ${row}`, textOf(infer.infer_mime_type, Number(row)), mimeType);
+    same(`class of ${row}`, textOf(infer.infer_class_name, infer.infer_class(Number(row))), className);
+    if (!sample.startsWith("`")) continue;
+    const bytes = decode(sample.slice(1, -1));
+    room.set(bytes);
+    same(`position of the sample of ${row}`, infer.infer_position(start, BigInt(bytes.length)), Number(row));
+}
+console.log(`${compared} answers of the module compared, ${differing} differ`);
+process.exitCode = differing === 0 ? 0 : 1;
