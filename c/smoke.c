@@ -88,7 +88,7 @@ static void classes(void) {
 static void answers(void) {
     uint32_t asked = 99;
     same("position of nothing", infer_position(NULL, 0), -1);
-    same("row count", (long)infer_row_count(), 98);
+    same("row count", (long)infer_row_count(), INFER_ROWS);
     same("counted", infer_position_counted(JPEG, &asked), jpeg());
     /* A book of Mobipocket may begin with any byte, and its row comes before. */
     same("rows asked", asked, 2);

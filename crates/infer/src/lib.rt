@@ -59,6 +59,7 @@ pub fn get(buf: &[u8]) -> Option<Type>
 }
 
 /// The number of the first built-in row that accepts `buf`, and `None` exactly where no row accepts it.
+#[inline(always)]
 pub fn position(buf: &[u8]) -> Option<usize>
     ensures first { IsFirstOf (Accepts buf.now) table result }
     ensures bound { IfSome result (λ i. i < ROW_COUNT) }

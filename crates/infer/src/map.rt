@@ -1,5 +1,5 @@
 //! The built-in rows.
-ghost use Rattle.std.specs.Prelude.{◌≡◌, ◌↔◌, IsTrue, option_map, slice_get};
+ghost use Rattle.std.specs.Prelude.{◌≡◌, ◌↔◌, ◌<◌, IsTrue, option_map, slice_get};
 ghost use Rattle.infer.specs.First.{IsAnswer, IsFirstOf, SomeHas};
 ghost use Rattle.infer.specs.Questions.{HasClass, IsWanted, SomeBoth};
 ghost use Rattle.infer.specs.Row.{Accepts, shows};
@@ -9,13 +9,13 @@ ghost use Rattle.infer.specs.Triple.{triple_of};
 ghost use Rattle.infer.specs.Walks.{IsAboutRow, RowHas, Takes, is_named};
 
 use crate::ask::is_counted;
-use crate::dispatch::{arm_of, candidates_of, first_of};
+use crate::dispatch::{arm_of, candidates_of, first_of, first_of_class};
 use crate::file_type::{FileType, MatcherType, Wanted, is_same};
 use crate::laws;
 use crate::question::{
     App, Archive, Audio, Book, Class, Doc, Every, Font, Image, OfClass, Question, Video,
 };
-use crate::rows::{BuiltInRow, accepts, rows};
+use crate::rows::{BuiltInRow, ROW_COUNT, accepts, row_at, rows};
 
 impl BuiltInRow {
     ghost use Rattle.infer.specs.Listed.{row_listed};
@@ -57,35 +57,27 @@ pub fn takes<Q: Question>(i: usize, question: &Q, buf: &[u8]) -> bool
     }
 }
 
-// Whether row `i` has the extension, where one is given.
+// Whether row `i` has the extension, if one is given.
 #[inline(always)]
 pub fn is_named(i: usize, wanted: Option<&str>) -> bool
+    requires { i < ROW_COUNT }
     ensures { result ≡ is_named wanted.entry i }
 {
-    match (rows().get(i), wanted) {
-        (_, None) => true,
-        (Some(row), Some(extension)) => is_same(row.file_type.extension, extension),
-        (None, Some(_)) => false,
+    match wanted {
+        Some(extension) => is_same(row_at(i).file_type.extension, extension),
+        None => true,
     }
 }
 
-// The number of the first row whose signature accepts `buf`, of those that the question is about. Only the
-// candidates of its first byte are asked.
+// The number of the first row whose signature accepts `buf`. Only the candidates of its first byte are asked.
 #[inline(always)]
-fn first<Q: Question>(question: &Q, buf: &[u8]) -> Option<usize>
-    ensures { IsFirstOf (Takes (Q.wanted question.now) buf.now) table result }
+pub fn position(buf: &[u8]) -> Option<usize>
+    ensures { IsFirstOf (Accepts buf.now) table result }
 {
     laws::leads();
     laws::blank();
     let lead = buf.first()?;
-    first_of(arm_of(*lead), question, buf)
-}
-
-// The number of the first row whose signature accepts `buf`.
-pub fn position(buf: &[u8]) -> Option<usize>
-    ensures { IsFirstOf (Accepts buf.now) table result }
-{
-    first(&Every, buf)
+    first_of(arm_of(*lead), &Every, buf)
 }
 
 // The type of row `i`.
@@ -128,7 +120,12 @@ pub fn some(wanted: Wanted, buf: &[u8]) -> bool
 fn some_of_class<K: Class>(class: K, buf: &[u8]) -> bool
     ensures { IsTrue result ↔ SomeBoth (HasClass K.CLASS) (Accepts buf.now) table }
 {
-    first(&OfClass(class), buf).is_some()
+    laws::leads();
+    laws::blank();
+    let Some(lead) = buf.first() else {
+        return false;
+    };
+    first_of_class(arm_of(*lead), &OfClass(class), buf).is_some()
 }
 
 // Whether some built-in row that is wanted accepts the buffer, by a loop.

@@ -1,5 +1,5 @@
 //! The built-in rows, each of which has a name for its number.
-ghost use Rattle.std.specs.Prelude.{◌≡◌, ◌↔◌, IsTrue, length, map};
+ghost use Rattle.std.specs.Prelude.{◌≡◌, ◌↔◌, ◌<◌, Some, IsTrue, length, map, slice_get};
 ghost use Rattle.std.specs.List.{list_all};
 ghost use Rattle.infer.specs.BuiltIn.{IsAccepted};
 ghost use Rattle.infer.specs.Listed.{buffer_listed, is_inside, number_of, row_listed};
@@ -497,9 +497,19 @@ static SAMPLES: [Pieces; ROW_COUNT] = with_rows!(samples);
 
 // The built-in rows, in the order in which they are asked.
 pub(crate) fn rows() -> &'static [BuiltInRow]
-    ensures { map row_listed result.now ≡ table }
+    ensures listed { map row_listed result.now ≡ table }
+    ensures many { length result.now ≡ ROW_COUNT }
 {
     &ROWS
+}
+
+// Row `i`.
+#[inline(always)]
+pub(crate) fn row_at(i: usize) -> &'static BuiltInRow
+    requires { i < ROW_COUNT }
+    ensures { slice_get table i ≡ Some (row_listed result.now) }
+{
+    &rows()[i]
 }
 
 // The samples, in the order of the rows.

@@ -7,7 +7,7 @@ use Rattle.infer.proofs.map.has.Goals as goal
 
 pub returns-then-fits : goal.returns-then-fits
 returns-then-fits c = (
-  λ _. some_read row_listed (IsWanted c.args.wanted) _ table c.rows-row-items.ensures
+  λ _. some_read row_listed (IsWanted c.args.wanted) _ table c.rows-row-items.ensures.listed
       c.loop-row.row-index _ c.loop-row-test.true (c.if-fits.ensures.0 refl),
   λ _. refl,
 )
@@ -16,5 +16,5 @@ pub returns : goal.returns
 returns c = (
   λ e. absurd (cc),
   λ h. absurd (not_some (IsWanted c.args.wanted) table
-      (none_read row_listed (IsWanted c.args.wanted) _ table c.rows-row-items.ensures c.loop-row.row-index c.loop-row-test.false c.loop-row.invariant) h),
+      (none_read row_listed (IsWanted c.args.wanted) _ table c.rows-row-items.ensures.listed c.loop-row.row-index c.loop-row-test.false c.loop-row.invariant) h),
 )

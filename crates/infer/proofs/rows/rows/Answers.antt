@@ -2,6 +2,6 @@ use Rattle.std.proofs.Common.{refl}
 use Rattle.infer.specs.Table.{signature_of, table}
 use Rattle.infer.proofs.rows.rows.Goals as goal
 
-pub returns : goal.returns
+pub returns-clause-listed : goal.returns-clause-listed
 unfolding table signature_of
-returns c = refl
+returns-clause-listed c = refl
