@@ -73,7 +73,7 @@ static void write_texts(int32_t number) {
     char whole[128];
     for (size_t t = 0; t < sizeof texts / sizeof *texts; t++) {
         size_t len = texts[t](number, whole, sizeof whole);
-        wants(len == strlen(whole));
+        wants(len == strlen(whole) && len <= 73);
         for (size_t size = 0; size <= len + 2; size++) {
             char *out = (char *)end - size;
             out[-1] = '.';
