@@ -30,18 +30,18 @@ const same = (what, got, wanted) => {
     console.log(`${what}: ${got} in place of ${wanted}`);
 };
 
-const lines = readFileSync(new URL("../docs/TYPES.md", here), "utf8").split("\n").filter((line) => /^\| \d/.test(line));
+const items = readFileSync(new URL("../docs/TYPES.md", here), "utf8").matchAll(/^0\. \*\*(.+)\*\*, (.+), (.+): (?:`(.+)`|never the answer)\. Source: /gm);
+const rows = [...items];
 same("imports", WebAssembly.Module.imports(module).length, 0);
-same("rows", Number(infer.infer_row_count()), lines.length);
-for (const line of lines) {
-    const [row, extension, mimeType, className, sample] = line.split("|").slice(1).map((cell) => cell.trim());
-    same(`extension of ${row}`, textOf(infer.infer_extension, Number(row)), extension);
-    same(`MIME type of ${row}`, textOf(infer.infer_mime_type, Number(row)), mimeType);
-    same(`class of ${row}`, textOf(infer.infer_class_name, infer.infer_class(Number(row))), className);
-    if (!sample.startsWith("`")) continue;
-    const bytes = decode(sample.slice(1, -1));
+same("rows", Number(infer.infer_row_count()), rows.length);
+for (const [row, [, extension, mimeType, className, sample]] of rows.entries()) {
+    same(`extension of ${row}`, textOf(infer.infer_extension, row), extension);
+    same(`MIME type of ${row}`, textOf(infer.infer_mime_type, row), mimeType);
+    same(`class of ${row}`, textOf(infer.infer_class_name, infer.infer_class(row)), className);
+    if (sample === undefined) continue;
+    const bytes = decode(sample);
     room.set(bytes);
-    same(`position of the sample of ${row}`, infer.infer_position(start, BigInt(bytes.length)), Number(row));
+    same(`position of the sample of ${row}`, infer.infer_position(start, BigInt(bytes.length)), row);
 }
 console.log(`${compared} answers of the module compared, ${differing} differ`);
 process.exitCode = differing === 0 ? 0 : 1;
