@@ -95,7 +95,8 @@ static void write_samples(int32_t row) {
 }
 
 int main(void) {
-    static const int32_t numbers[] = {INT32_MIN, INT32_MIN + 1, -2, -1, 98, 99, 255, 256, 65536, INT32_MAX - 1, INT32_MAX};
+    const int32_t last = (int32_t)infer_row_count() - 1;
+    const int32_t numbers[] = {INT32_MIN, INT32_MIN + 1, -2, -1, last + 1, last + 2, 255, 256, 65536, INT32_MAX - 1, INT32_MAX};
     size_t page = (size_t)sysconf(_SC_PAGESIZE);
     unsigned char *room = mmap(NULL, ROOM + 2 * page, PROT_READ | PROT_WRITE, MAP_PRIVATE | MAP_ANONYMOUS, -1, 0);
     if (room == MAP_FAILED || mprotect(room + page + ROOM, page, PROT_NONE) != 0) return perror("hostile"), 2;

@@ -99,7 +99,8 @@ func TestRows(t *testing.T) {
 			t.Error(got, rows[i])
 		}
 	}
-	if samples != 96 || Sample(-1) != nil || Sample(len(rows)) != nil {
+	// Two rows have the signature of an earlier one, and so no sample.
+	if samples != len(rows)-2 || Sample(-1) != nil || Sample(len(rows)) != nil {
 		t.Error(samples)
 	}
 	if IsSupported("txt") || IsMIMETypeSupported("text/plain") || IsSupported("") || IsSupported("\xFF") {

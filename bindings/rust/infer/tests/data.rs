@@ -54,7 +54,8 @@ fn sample(row: usize) -> Vec<u8> {
 #[test]
 fn samples_are_of_their_rows() {
     let mut told = 0;
-    for (row, wanted) in rows().into_iter().enumerate() {
+    let rows = rows();
+    for (row, wanted) in rows.iter().enumerate() {
         let data = sample(row);
         if data.is_empty() {
             continue;
@@ -63,7 +64,8 @@ fn samples_are_of_their_rows() {
         assert_eq!(infer::get(&data).map(shown), Some(wanted.clone()));
         assert!(infer::is(&data, &wanted.2) && infer::is_mime(&data, &wanted.1));
     }
-    assert_eq!(told, 96);
+    // Two rows have the signature of an earlier one, and so no sample.
+    assert_eq!(told, rows.len() - 2);
 }
 
 #[test]
