@@ -7,7 +7,8 @@ use Rattle.std.proofs.lemmas.List.Sums.{count_by-le-length, sum_by-cons, sum_by_
 use Rattle.infer.specs.Leads.{allows_first, candidates, candidates_of, places_from}
 use Rattle.infer.specs.Table.{table}
 use Rattle.infer.specs.declared.rows.TheConstants.{MOST_CANDIDATES, ROW_COUNT}
-use Rattle.infer.specs.Walks.{IsFirstAmong, count_asked, is_named, is_not_above}
+use Rattle.infer.specs.Walks.{IsFirstAmong, count_asked, is_wanted, is_not_above}
+use Rattle.infer.specs.declared.question.Wanted.{Wanted}
 use Rattle.infer.proofs.ListLemmas.{HoldsAt-read}
 use Rattle.infer.proofs.TableLemmas.{length-table}
 
@@ -133,26 +134,26 @@ candidates_of-ascend : (b : List ℕ) → Ascends (candidates_of b)
 candidates_of-ascend [] = λ k m c d l n. absurd (omega arith)
 candidates_of-ascend (f ∷ b) = candidates-ascend f
 
--- one row further, which was asked if it is named
-pub counted_more : (w : Option (Bor (List ℕ))) (rs : List ℕ) (k i d n m : ℕ) → k < length rs → i ≡ get_or rs k d
-    → m ≡ count_by (is_named w) (take k rs) → n ≡ m + cond (is_named w i) 1 0 → n ≡ count_by (is_named w) (take (k + 1) rs)
+-- one row further, which was asked if it is asked for
+pub counted_more : (w : Wanted) (rs : List ℕ) (k i d n m : ℕ) → k < length rs → i ≡ get_or rs k d
+    → m ≡ count_by (is_wanted w) (take k rs) → n ≡ m + cond (is_wanted w i) 1 0 → n ≡ count_by (is_wanted w) (take (k + 1) rs)
 counted_more w rs k i d n m l at before now =
-    now ∙ ap (λ j. m + cond (is_named w j) 1 0) at ∙ ap (λ x. x + cond (is_named w (get_or rs k d)) 1 0) before
-    ∙ sym (sum_by_more (λ x. cond (is_named w x) 1 0) rs k d l)
+    now ∙ ap (λ j. m + cond (is_wanted w j) 1 0) at ∙ ap (λ x. x + cond (is_wanted w (get_or rs k d)) 1 0) before
+    ∙ sym (sum_by_more (λ x. cond (is_wanted w x) 1 0) rs k d l)
 
-module _ (w : Option (Bor (List ℕ))) (b rs : List ℕ) (same : rs ≡ candidates_of b) where
-  asked_up_to : (k i d : ℕ) → k < length rs → i ≡ get_or rs k d → count_by (is_named w) (take (k + 1) rs) ≡ count_asked w b (Some i)
+module _ (w : Wanted) (b rs : List ℕ) (same : rs ≡ candidates_of b) where
+  asked_up_to : (k i d : ℕ) → k < length rs → i ≡ get_or rs k d → count_by (is_wanted w) (take (k + 1) rs) ≡ count_asked w b (Some i)
   asked_up_to k i d l at =
-      sym (up_to (is_named w) rs k d (subst Ascends (sym same) (candidates_of-ascend b)) l)
-      ∙ ap (λ e. count_by (λ j. leb j e && is_named w j) rs) (sym at)
-      ∙ ap (λ cs. count_by (λ j. leb j i && is_named w j) cs) same
+      sym (up_to (is_wanted w) rs k d (subst Ascends (sym same) (candidates_of-ascend b)) l)
+      ∙ ap (λ e. count_by (λ j. leb j e && is_wanted w j) rs) (sym at)
+      ∙ ap (λ cs. count_by (λ j. leb j i && is_wanted w j) cs) same
 
-  pub counted_some : (k i d n m : ℕ) → k < length rs → i ≡ get_or rs k d → m ≡ count_by (is_named w) (take k rs) → n ≡ m + cond (is_named w i) 1 0
+  pub counted_some : (k i d n m : ℕ) → k < length rs → i ≡ get_or rs k d → m ≡ count_by (is_wanted w) (take k rs) → n ≡ m + cond (is_wanted w i) 1 0
       → n ≡ count_asked w b (Some i)
   counted_some k i d n m l at before now = counted_more w rs k i d n m l at before now ∙ asked_up_to k i d l at
 
   pub few_asked : (n : ℕ) (o : Option ℕ) → length rs ≤ MOST_CANDIDATES → n ≡ count_asked w b o → n ≤ MOST_CANDIDATES
   few_asked n o few e =
-      let most = count_by-le-length (λ i. is_not_above o i && is_named w i) (candidates_of b) in
+      let most = count_by-le-length (λ i. is_not_above o i && is_wanted w i) (candidates_of b) in
       let long : length rs ≡ length (candidates_of b) = ap length same in
       omega (arith, e, most, long)

@@ -7,7 +7,8 @@ use Rattle.infer.specs.Leads.{Leads, allows_first, candidates, candidates_of, pl
 use Rattle.infer.specs.Row.{Row, Accepts}
 use Rattle.infer.specs.Table.{table}
 use Rattle.infer.specs.Walks.{IsFirstAmong, RowHas, Takes}
-use Rattle.infer.specs.declared.file_type.Wanted.{Wanted}
+use Rattle.infer.specs.declared.question.Wanted.{Wanted}
+use Rattle.infer.specs.declared.question.Wanted.TheVariants.{Every}
 use Rattle.infer.proofs.ListLemmas.{not_some}
 
 module _ {A : Type 0} (P : A → Type 0) (x : A) (xs : List A) where
@@ -85,21 +86,26 @@ module _ (P : Row BuiltIn → Type 0) where
       let test = λ (r : Row BuiltIn). allows_first r.signature f in
       first_of_table test only o (first_from test only table 0 o (λ k. ap (slice_get table) (let e : 0 + k ≡ k = omega arith in e)) h)
 
-accepts_of : (wanted : Option Wanted) (b : List ℕ) (r : Row BuiltIn) → Takes wanted b r → Accepts b r
-accepts_of None b r h = h
-accepts_of (Some w) b r h = h.1
-
 -- the first of the candidates of a buffer that takes it is the first row of the table that does
-pub first_of_buffer : ((s : BuiltIn) → Leads s) → NoneHas (Accepts []) table → (wanted : Option Wanted) (b cs : List ℕ) (o : Option ℕ)
+pub first_of_buffer : ((s : BuiltIn) → Leads s) → NoneHas (Accepts []) table → (wanted : Wanted) (b cs : List ℕ) (o : Option ℕ)
     → cs ≡ candidates_of b → IsFirstAmong (RowHas (Takes wanted b)) cs o → IsFirstOf (Takes wanted b) table o
 unfolding IsFirstAmong
 first_of_buffer leads blank wanted [] cs o same h =
     let none : o ≡ None = subst (λ ns. IsFirstAmong (RowHas (Takes wanted [])) ns o) same h in
-    subst (IsFirstOf (Takes wanted []) table) (sym none) (λ k d a b t. blank k d a b (accepts_of wanted [] (get_or table k d) t))
+    subst (IsFirstOf (Takes wanted []) table) (sym none) (λ k d a b t. blank k d a b t.1)
 first_of_buffer leads blank wanted (f ∷ b) cs o same h =
-    first_candidate (Takes wanted (f ∷ b)) f (λ r t. leads r.signature f b (accepts_of wanted (f ∷ b) r t)) o
+    first_candidate (Takes wanted (f ∷ b)) f (λ r t. leads r.signature f b t.1) o
     (subst (λ ns. IsFirstAmong (RowHas (Takes wanted (f ∷ b))) ns o) same h)
 
 pub some_of_first : {A : Type 0} (P : A → Type 0) (xs : List A) (o : Option ℕ) (r : Bool) → r ≡ is_some o → IsFirstOf P xs o → IsTrue r ↔ SomeHas P xs
 some_of_first P xs None r e none = (λ t. absurd (cc), λ some. absurd (not_some P xs none some))
 some_of_first P xs (Some i) r e first = (λ t. (i, first.within, first.here), λ some. e)
+
+-- of every row, the first that takes the buffer is the first that accepts it
+pub first_of_every : (b : List ℕ) (rows : List (Row BuiltIn)) (o : Option ℕ) → IsFirstOf (Takes Every b) rows o → IsFirstOf (Accepts b) rows o
+first_of_every b rows None none = λ k d low lt h. none k d low lt (tt, h)
+first_of_every b rows (Some i) first = record {
+  within = first.within;
+  here = λ d. (first.here d).1;
+  before = λ k d low lt h. first.before k d low lt (tt, h);
+}

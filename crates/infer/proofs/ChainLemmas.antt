@@ -2,25 +2,16 @@
 use Rattle.std.proofs.Common.{◌↔◌, ℕ, List, [], ◌∷◌, ◌++◌, Option, None, Some, inl, inr}
 use Rattle.infer.specs.BuiltIn.{BuiltIn}
 use Rattle.infer.specs.Row.{Row, Accepts}
-use Rattle.infer.specs.Walks.{IsAboutRow, IsFirstAmong, Takes}
-use Rattle.infer.specs.declared.file_type.Wanted.{Wanted}
-
--- a row that answers alike on two buffers
-pub taken_alike : (wanted : Option Wanted) (s t : List ℕ) (r : Row BuiltIn) → (Accepts s r → Accepts t r) → Takes wanted s r → Takes wanted t r
-taken_alike None s t r same h = same h
-taken_alike (Some question) s t r same h = (h.0, same h.1)
-
-pub about_taken : (wanted : Option Wanted) (b : List ℕ) (r : Row BuiltIn) → IsAboutRow wanted r × Accepts b r ↔ Takes wanted b r
-about_taken None b r = (λ h. h.1, λ h. (tt, h))
-about_taken (Some question) b r = (λ h. h, λ h. h)
+use Rattle.infer.specs.Walks.{IsFirstAmong, Takes}
+use Rattle.infer.specs.declared.question.Wanted.{Wanted}
 
 -- a row that is asked for by what is known of it, and by another word for the rest
-module _ (A D O T : Type 0) (means : A × D ↔ T) (word : O ↔ D) where
-  pub taken : A × O → T
-  taken h = means.0 (h.0, word.0 h.1)
+module _ (A D O : Type 0) (word : O ↔ D) where
+  pub taken : A × O → A × D
+  taken h = (h.0, word.0 h.1)
 
-  pub untaken : (¬ (A × O)) → ¬ T
-  untaken not h = let both = means.1 h in not (both.0, word.1 both.1)
+  pub untaken : (¬ (A × O)) → ¬ (A × D)
+  untaken not h = not (h.0, word.1 h.1)
 
 -- what is found stays found, and behind rows of which none was found the next decide
 pub found_stays : (P : ℕ → Type 0) (is js : List ℕ) (i : ℕ) → IsFirstAmong P is (Some i) → IsFirstAmong P (is ++ js) (Some i)

@@ -1,6 +1,6 @@
 -- The first and some element of a list with a property: of a list that was read, of the images of a list, and of
 -- two lists joined.
-use Rattle.std.proofs.Common.{◌≡◌, ◌+◌, ◌-◌, ◌<◌, ◌≤◌, ℕ, zero, suc, List, [], ◌∷◌, ◌++◌, ◌⊎◌, inl, inr, map, length, get_or, refl, subst, arith, length-append}
+use Rattle.std.proofs.Common.{◌≡◌, ◌↔◌, Bool, true, false, IsTrue, MatchBool, ◌+◌, ◌-◌, ◌<◌, ◌≤◌, ℕ, zero, suc, List, [], ◌∷◌, ◌++◌, ◌⊎◌, inl, inr, map, length, get_or, refl, subst, arith, length-append}
 use Rattle.std.specs.List.{HoldsAt, AllWithin}
 use Rattle.std.proofs.lemmas.Bool.{cases_lt}
 use Rattle.std.proofs.lemmas.List.{get_or-map, get_or_append_left, get_or-append-add, get_or-append_right, length-map}
@@ -87,6 +87,12 @@ module _ {A B : Type 0} (f : A → B) (P : B → Type 0) (xs : List A) (ys : Lis
     here = HoldsAt-read (λ x. P (f x)) xs i c lt h;
     before = before;
   }))
+
+-- what `any` answered of xs, for their images ys
+pub some_of_any : {A B : Type 0} (f : A → B) (P : B → Type 0) (xs : List A) (ys : List B) → map f xs ≡ ys → (r : Bool)
+    → MatchBool r (SomeHas (λ x. P (f x)) xs) (NoneHas (λ x. P (f x)) xs) → IsTrue r ↔ SomeHas P ys
+some_of_any f P xs ys e true h = (λ _. subst (SomeHas P) e (SomeHas-map f P xs h), λ _. refl)
+some_of_any f P xs ys e false h = (λ no. absurd (cc), λ some. absurd (not_some P ys (subst (NoneHas P) e (NoneHas-map f P xs h)) some))
 
 module _ {A : Type 0} (P : A → Type 0) (xs ys : List A) where
   pub HoldsAt-left : (i : ℕ) → i < length xs → HoldsAt P xs i → HoldsAt P (xs ++ ys) i

@@ -1,18 +1,18 @@
 //! Rows are asked through an asker, which counts them.
-ghost use Rattle.std.specs.Prelude.{◌≡◌, ◌↔◌, ◌+◌, ◌<◌, ◌≤◌, ℕ, List, Option, None, Some, cond, IsTrue, option_map, slice_get};
+ghost use Rattle.std.specs.Prelude.{◌≡◌, ◌↔◌, ◌+◌, ◌<◌, ◌≤◌, ℕ, List, Option, cond, is_some, IsTrue, slice_get};
 ghost use Rattle.infer.specs.First.{IsFirstOf};
 ghost use Rattle.infer.specs.Leads.{candidates_of};
 ghost use Rattle.infer.specs.Questions.{HasExtension, SomeBoth};
 ghost use Rattle.infer.specs.Row.{Accepts};
 ghost use Rattle.infer.specs.Table.{table};
-ghost use Rattle.infer.specs.Walks.{IsFirstAmong, RowHas, Takes, count_asked, is_named};
-ghost use Rattle.infer.specs.declared.file_type.Wanted.TheVariants.{Extension};
+ghost use Rattle.infer.specs.Walks.{IsFirstAmong, RowHas, Takes, count_asked, is_wanted, named};
+ghost use Rattle.infer.specs.declared.question.Wanted.TheVariants.{Every, Extension};
 
-use crate::dispatch::{arm_of, candidates_of};
+use crate::dispatch::{arm_of, candidates_at};
 use crate::laws;
-use crate::map::{is_named, takes};
-use crate::question::Every;
+use crate::question::Wanted;
 use crate::rows::{MOST_CANDIDATES, ROW_COUNT};
+use crate::taken::{accepts_at, fits_at};
 
 /// Who asks the built-in rows about one buffer. A contract sees that buffer, and how many rows were asked.
 pub trait Ask {
@@ -68,7 +68,7 @@ impl Ask for Asker<'_> {
 
     fn ask(&mut self, i: usize) -> bool {
         self.count += 1;
-        takes(i, &Every, self.buf)
+        accepts_at(i, self.buf)
     }
 }
 
@@ -79,33 +79,70 @@ impl Ask for Asker<'_> {
 /// asks them in ascending order up to the answer, which are at most [`MOST_CANDIDATES`], and no other.
 pub fn walk<A: Ask>(asker: &mut A, wanted: Option<&str>) -> Option<usize>
     requires { A.asked asker.old ≡ 0 }
-    ensures first { IsFirstAmong (RowHas (Takes (option_map Extension wanted.entry) (A.buffer asker.old)))
-        (candidates_of (A.buffer asker.old)) result }
+    ensures first { IsFirstAmong (RowHas (Takes (named wanted.entry) (A.buffer asker.old))) (candidates_of (A.buffer asker.old)) result }
+    ensures counted { A.asked asker.new ≡ count_asked (named wanted.entry) (A.buffer asker.old) result }
+    ensures few { A.asked asker.new ≤ MOST_CANDIDATES }
+    ensures kept { A.buffer asker.new ≡ A.buffer asker.old }
+{
+    match wanted {
+        Some(extension) => walk_wanted(asker, Wanted::Extension(extension)),
+        None => walk_wanted(asker, Wanted::Every),
+    }
+}
+
+/// The same for any question.
+#[inline(always)]
+fn walk_wanted<A: Ask>(asker: &mut A, wanted: Wanted) -> Option<usize>
+    requires { A.asked asker.old ≡ 0 }
+    ensures first { IsFirstAmong (RowHas (Takes wanted.entry (A.buffer asker.old))) (candidates_of (A.buffer asker.old)) result }
     ensures counted { A.asked asker.new ≡ count_asked wanted.entry (A.buffer asker.old) result }
     ensures few { A.asked asker.new ≤ MOST_CANDIDATES }
     ensures kept { A.buffer asker.new ≡ A.buffer asker.old }
 {
     let lead = asker.first()?;
-    for row in candidates_of(arm_of(lead)) {
-        if ask_named(asker, *row, wanted) {
+    for row in candidates_at(arm_of(lead)) {
+        if ask_wanted(asker, *row, wanted) {
             return Some(*row);
         }
     }
     None
 }
 
-/// The number of the first built-in row that accepts `buf`, as [`position`](crate::position) answers, and how many
-/// rows a [`walk`] asks for it: its candidates up to that row, all of them where no row accepts it.
-pub fn position_counted(buf: &[u8]) -> (Option<usize>, u32)
-    ensures first { IsFirstOf (Accepts buf.now) table result.0 }
-    ensures counted { result.1 ≡ count_asked None buf.now result.0 }
+/// Whether row `i` is asked for and accepts the buffer. It is asked if it is.
+#[inline(always)]
+fn ask_wanted<A: Ask>(asker: &mut A, i: usize, wanted: Wanted) -> bool
+    requires row { i < ROW_COUNT }
+    requires room { A.asked asker.old < ROW_COUNT }
+    ensures answer { IsTrue result ↔ RowHas (Takes wanted.entry (A.buffer asker.old)) i }
+    ensures counted { A.asked asker.new ≡ A.asked asker.old + cond (is_wanted wanted.entry i) 1 0 }
+    ensures kept { A.buffer asker.new ≡ A.buffer asker.old }
+{
+    fits_at(i, wanted) && asker.ask(i)
+}
+
+/// The number of the first built-in row that is asked for and accepts `buf`, and how many rows a [`walk`] asks.
+#[inline(always)]
+pub(crate) fn count_wanted(buf: &[u8], wanted: Wanted) -> (Option<usize>, u32)
+    ensures first { IsFirstOf (Takes wanted.entry buf.now) table result.0 }
+    ensures among { IsFirstAmong (RowHas (Takes wanted.entry buf.now)) (candidates_of buf.now) result.0 }
+    ensures counted { result.1 ≡ count_asked wanted.entry buf.now result.0 }
     ensures few { result.1 ≤ MOST_CANDIDATES }
 {
     laws::leads();
     laws::blank();
     let mut asker = Asker::new(buf);
-    let found = walk(&mut asker, None);
+    let found = walk_wanted(&mut asker, wanted);
     (found, asker.asked())
+}
+
+/// The number of the first built-in row that accepts `buf`, as [`position`](crate::position) answers, and how many
+/// rows a [`walk`] asks for it: its candidates up to that row, all of them where no row accepts it.
+pub fn position_counted(buf: &[u8]) -> (Option<usize>, u32)
+    ensures first { IsFirstOf (Accepts buf.now) table result.0 }
+    ensures counted { result.1 ≡ count_asked Every buf.now result.0 }
+    ensures few { result.1 ≤ MOST_CANDIDATES }
+{
+    count_wanted(buf, Wanted::Every)
 }
 
 /// Whether some built-in row with this extension accepts `buf`, as [`is`](crate::is) answers, and how many rows a
@@ -113,25 +150,10 @@ pub fn position_counted(buf: &[u8]) -> (Option<usize>, u32)
 pub fn is_counted(buf: &[u8], extension: &str) -> (bool, u32)
     ensures found { IsTrue result.0 ↔ SomeBoth (HasExtension extension.now) (Accepts buf.now) table }
     ensures counted { (answer : Option ℕ)
-        × IsFirstAmong (RowHas (Takes (Some (Extension extension.entry)) buf.now)) (candidates_of buf.now) answer
-        × (result.1 ≡ count_asked (Some extension.entry) buf.now answer) }
+        × IsFirstAmong (RowHas (Takes (Extension extension.entry) buf.now)) (candidates_of buf.now) answer × (result.0 ≡ is_some answer)
+        × (result.1 ≡ count_asked (Extension extension.entry) buf.now answer) }
     ensures few { result.1 ≤ MOST_CANDIDATES }
 {
-    laws::leads();
-    laws::blank();
-    let mut asker = Asker::new(buf);
-    let found = walk(&mut asker, Some(extension));
-    (found.is_some(), asker.asked())
-}
-
-// Whether row `i` accepts the buffer and has the extension, where one is given. It is asked if it has.
-#[inline(always)]
-fn ask_named<A: Ask>(asker: &mut A, i: usize, wanted: Option<&str>) -> bool
-    requires row { i < ROW_COUNT }
-    requires room { A.asked asker.old < ROW_COUNT }
-    ensures answer { IsTrue result ↔ RowHas (Takes (option_map Extension wanted.entry) (A.buffer asker.old)) i }
-    ensures counted { A.asked asker.new ≡ A.asked asker.old + cond (is_named wanted.entry i) 1 0 }
-    ensures kept { A.buffer asker.new ≡ A.buffer asker.old }
-{
-    is_named(i, wanted) && asker.ask(i)
+    let (found, count) = count_wanted(buf, Wanted::Extension(extension));
+    (found.is_some(), count)
 }

@@ -5,9 +5,10 @@ ghost use Rattle.std.specs.Prelude.{◌↔◌, [], ◌∷◌, ℕ, List, IsTrue}
 ghost use Rattle.infer_deep.specs.Find.{OccursAt};
 ghost use Rattle.infer_deep.specs.Frames.{IsLz4, IsZst};
 ghost use Rattle.infer_deep.specs.Text.{IsHtml, IsXml};
-ghost use Rattle.infer.specs.Walks.{IsAboutRow, IsFirstAmong, RowHas, Takes};
+ghost use Rattle.infer.specs.Questions.{IsWanted};
+ghost use Rattle.infer.specs.Walks.{IsFirstAmong, RowHas, Takes};
 
-use crate::map::{is_about, takes};
+use crate::taken::{is_wanted, takes};
 use crate::question::Question;
 use crate::rows::{DOCX, HTML, LZ4, PPTX, XLSX, XML, ZST};
 use infer_deep::archive::after_skippable_frames;
@@ -19,7 +20,7 @@ use infer_deep::text::after_white_space;
 pub trait Chain {
     ghost rows: { Self → List ℕ };
 
-    /// The first that accepts `buf`, of those that the question is about.
+    /// The first that accepts `buf`, of those that are asked for.
     fn first<Q: Question>(&self, question: &Q, buf: &[u8]) -> Option<usize>
         ensures { IsFirstAmong (RowHas (Takes (Q.wanted question.now) buf.now)) (rows self.now) result };
 }
@@ -150,11 +151,11 @@ impl<C: Chain> Chain for Whole<C> {
     }
 }
 
-/// The first row of Office in ZIP archives that accepts `buf`, of those that the question is about.
+/// The first row of Office in ZIP archives that accepts `buf`, of those that are asked for.
 fn office_row<Q: Question>(question: &Q, buf: &[u8]) -> Option<usize>
     ensures { IsFirstAmong (RowHas (Takes (Q.wanted question.now) buf.now)) (DOCX ∷ XLSX ∷ PPTX ∷ []) result }
 {
-    if !is_about(DOCX, question) && !is_about(XLSX, question) && !is_about(PPTX, question) {
+    if !is_wanted(DOCX, question) && !is_wanted(XLSX, question) && !is_wanted(PPTX, question) {
         return None;
     }
     let folder = deciding_folder(buf);
@@ -170,34 +171,34 @@ fn office_row<Q: Question>(question: &Q, buf: &[u8]) -> Option<usize>
     None
 }
 
-/// Whether the question is about row `i`, and the folder has that name.
+/// Whether row `i` is asked for, and the folder has that name.
 #[inline(always)]
 fn is_folder_of<Q: Question>(i: usize, question: &Q, folder: &[u8], name: &[u8]) -> bool
-    ensures { IsTrue result ↔ RowHas (IsAboutRow (Q.wanted question.now)) i × OccursAt folder.now name.now 0 }
+    ensures { IsTrue result ↔ RowHas (IsWanted (Q.wanted question.now)) i × OccursAt folder.now name.now 0 }
 {
-    is_about(i, question) && stands_at(folder, name, 0)
+    is_wanted(i, question) && stands_at(folder, name, 0)
 }
 
-/// What follows the skippable frames of `buf`, or `buf` where the question is not about Zstandard.
+/// What follows the skippable frames of `buf`, or `buf` if Zstandard is not asked for.
 #[inline(always)]
 fn data_of<'a, Q: Question>(question: &Q, buf: &'a [u8]) -> &'a [u8]
     ensures zst { IsZst result.now ↔ IsZst buf.now }
     ensures lz4 { IsLz4 result.now ↔ IsLz4 buf.now }
 {
-    if is_about(ZST, question) {
+    if is_wanted(ZST, question) {
         after_skippable_frames(buf)
     } else {
         buf
     }
 }
 
-/// What follows the white space of `buf`, or `buf` where the question is not about HTML.
+/// What follows the white space of `buf`, or `buf` if HTML is not asked for.
 #[inline(always)]
 fn text_of<'a, Q: Question>(question: &Q, buf: &'a [u8]) -> &'a [u8]
     ensures html { IsHtml result.now ↔ IsHtml buf.now }
     ensures xml { IsXml result.now ↔ IsXml buf.now }
 {
-    if is_about(HTML, question) {
+    if is_wanted(HTML, question) {
         after_white_space(buf)
     } else {
         buf

@@ -3,7 +3,8 @@ ghost use Rattle.std.specs.Prelude.{◌≡◌, ◌↔◌, IsTrue};
 ghost use Rattle.std.specs.Bool.{OnFalse, OnTrue};
 ghost use Rattle.infer.specs.Caller.{IsSettled};
 
-use crate::file_type::{FileType, Matcher, MatcherType, Wanted};
+use crate::file_type::{FileType, Matcher, MatcherType};
+use crate::question::Wanted;
 
 /// A row of a caller's. Its function may be called on every buffer, and its contract fixes one answer for each.
 #[derive(Clone, Copy)]
@@ -33,7 +34,7 @@ impl CustomRow {
     pub fn fits(&self, wanted: Wanted) -> bool
         ensures { IsTrue result ↔ IsWanted wanted.entry (custom_row self.now) }
     {
-        self.file_type().fits(wanted)
+        wanted.fits(&self.file_type())
     }
 
     pub fn accepts(&self, buf: &[u8]) -> bool

@@ -208,14 +208,14 @@ pub fn arm_of(first: u8) -> Arm
 }
 
 /// The candidates of an arm, ascending.
-pub fn candidates_of(arm: Arm) -> &'static [usize]
+pub fn candidates_at(arm: Arm) -> &'static [usize]
     ensures rows { result.now ≡ rows_of arm }
     ensures few { length result.now ≤ MOST_CANDIDATES }
 {
     with_candidates!(list_at arm)
 }
 
-/// The first candidate of an arm that accepts `buf`, of those that the question is about.
+/// The first candidate of an arm that accepts `buf`, of those that are asked for.
 #[inline(always)]
 pub fn first_of<Q: Question>(arm: Arm, question: &Q, buf: &[u8]) -> Option<usize>
     ensures { IsFirstAmong (RowHas (Takes (Q.wanted question.now) buf.now)) (rows_of arm) result }

@@ -30,14 +30,6 @@ pub struct FileType {
     pub(crate) extension: &'static str,
 }
 
-/// What a question asks of a type.
-#[derive(Clone, Copy)]
-pub enum Wanted<'a> {
-    Extension(&'a str),
-    MimeType(&'a str),
-    Class(MatcherType),
-}
-
 impl FileType {
     ghost use Rattle.infer.specs.Triple.{triple, triple_of};
 
@@ -74,23 +66,6 @@ impl FileType {
         ensures { result.now ≡ (triple_of self.now).extension }
     {
         self.extension
-    }
-}
-
-impl FileType {
-    ghost use Rattle.infer.specs.Questions.{Fits};
-    ghost use Rattle.infer.specs.Triple.{triple_of};
-
-    // Whether it is one that is asked for.
-    #[inline(always)]
-    pub(crate) fn fits(&self, wanted: Wanted) -> bool
-        ensures { IsTrue result ↔ Fits wanted.entry (triple_of self.now) }
-    {
-        match wanted {
-            Wanted::Extension(text) => is_same(self.extension, text),
-            Wanted::MimeType(text) => is_same(self.mime_type, text),
-            Wanted::Class(class) => self.matcher_type == class,
-        }
     }
 }
 

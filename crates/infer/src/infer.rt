@@ -13,8 +13,9 @@ ghost use Rattle.infer.specs.declared.file_type.MatcherType.TheVariants.{Custom}
 use crate::custom::CustomRow;
 use crate::engine::{FRONT, read_head};
 use crate::fault::Fault;
-use crate::file_type::{FileType, Matcher, MatcherType, Wanted};
-use crate::map;
+use crate::answers;
+use crate::file_type::{FileType, Matcher, MatcherType};
+use crate::question::Wanted;
 use crate::watched::Watched;
 use std::alloc::{AllocError, Allocator, Global};
 use std::fs::File;
@@ -87,7 +88,7 @@ impl<A: Allocator> Infer<A> {
     {
         match self.custom_get(buf) {
             Some(found) => Some(found),
-            None => map::get(buf),
+            None => answers::get(buf),
         }
     }
 
@@ -277,7 +278,7 @@ impl<A: Allocator> Infer<A> {
     fn some(&self, wanted: Wanted, buf: &[u8]) -> bool
         ensures { IsTrue result ↔ SomeBoth (IsWanted wanted.entry) (AnyAccepts buf.now) (rows self.now) }
     {
-        self.custom_some(wanted, buf) || map::some(wanted, buf)
+        self.custom_some(wanted, buf) || answers::some(wanted, buf)
     }
 
     // The same of the added rows alone.
@@ -296,7 +297,7 @@ impl<A: Allocator> Infer<A> {
     fn has(&self, wanted: Wanted) -> bool
         ensures { IsTrue result ↔ SomeHas (IsWanted wanted.entry) (rows self.now) }
     {
-        self.custom_has(wanted) || map::has(wanted)
+        self.custom_has(wanted) || answers::has(wanted)
     }
 
     // The same of the added rows alone.

@@ -18,6 +18,7 @@ ghost use Rattle.infer.specs.Row.{Accepts, shows};
 ghost use Rattle.infer.specs.Table.{table};
 ghost use Rattle.infer.specs.Triple.{triple_of};
 
+mod answers;
 mod ask;
 mod chain;
 mod custom;
@@ -27,10 +28,10 @@ mod fault;
 mod file_type;
 mod infer;
 pub mod laws;
-mod map;
 mod question;
 pub mod rows;
 mod samples;
+mod taken;
 #[cfg(test)]
 mod tests;
 mod watched;
@@ -38,13 +39,13 @@ mod watched;
 pub use ask::{Ask, Asker, is_counted, position_counted, walk};
 use engine::FRONT;
 pub use fault::Fault;
-use file_type::Wanted;
 pub use file_type::{FileType as Type, Matcher, MatcherType};
 pub use infer::Infer;
 pub use infer_sig::{
     app as app, archive as archive, audio as audio, book as book, doc as doc, font as font,
     image as image, odf as odf, text as text, video as video,
 };
+use question::Wanted;
 use rows::ROW_COUNT;
 pub use samples::sample;
 use std::alloc::Allocator;
@@ -55,7 +56,7 @@ pub use watched::Watched;
 pub fn get(buf: &[u8]) -> Option<Type>
     ensures { IsAnswer (Accepts buf.now) table (option_map triple_of result) }
 {
-    map::get(buf)
+    answers::get(buf)
 }
 
 /// The number of the first built-in row that accepts `buf`, and `None` exactly where no row accepts it.
@@ -64,7 +65,7 @@ pub fn position(buf: &[u8]) -> Option<usize>
     ensures first { IsFirstOf (Accepts buf.now) table result }
     ensures bound { IfSome result (λ i. i < ROW_COUNT) }
 {
-    map::position(buf)
+    answers::position(buf)
 }
 
 /// The type of the built-in row `i`, and `None` exactly from [`ROW_COUNT`] on.
@@ -72,7 +73,7 @@ pub fn row(i: usize) -> Option<Type>
     ensures shows { option_map triple_of result ≡ option_map shows (slice_get table i) }
     ensures none { IsNone result ↔ (ROW_COUNT ≤ i) }
 {
-    map::row(i)
+    answers::row(i)
 }
 
 /// The type of the first built-in row that accepts the first 8192 bytes of a file, or all where it has fewer, and
@@ -95,7 +96,7 @@ pub fn get_from_path<R: Files, A: Allocator>(
 pub fn is(buf: &[u8], extension: &str) -> bool
     ensures { IsTrue result ↔ SomeBoth (HasExtension extension.now) (Accepts buf.now) table }
 {
-    map::some(Wanted::Extension(extension), buf)
+    answers::some(Wanted::Extension(extension), buf)
 }
 
 /// Whether some built-in row with this MIME type accepts `buf`, which need not be the answer: allow by [`get`]. Upper
@@ -103,75 +104,75 @@ pub fn is(buf: &[u8], extension: &str) -> bool
 pub fn is_mime(buf: &[u8], mime_type: &str) -> bool
     ensures { IsTrue result ↔ SomeBoth (HasMimeType mime_type.now) (Accepts buf.now) table }
 {
-    map::some(Wanted::MimeType(mime_type), buf)
+    answers::some(Wanted::MimeType(mime_type), buf)
 }
 
 /// Whether some built-in row has this extension.
 pub fn is_supported(extension: &str) -> bool
     ensures { IsTrue result ↔ SomeHas (HasExtension extension.now) table }
 {
-    map::has(Wanted::Extension(extension))
+    answers::has(Wanted::Extension(extension))
 }
 
 /// Whether some built-in row has this MIME type.
 pub fn is_mime_supported(mime_type: &str) -> bool
     ensures { IsTrue result ↔ SomeHas (HasMimeType mime_type.now) table }
 {
-    map::has(Wanted::MimeType(mime_type))
+    answers::has(Wanted::MimeType(mime_type))
 }
 
 /// Whether some built-in row of the class `App` accepts `buf`, which need not be the answer: allow by [`get`].
 pub fn is_app(buf: &[u8]) -> bool
     ensures { IsTrue result ↔ SomeBoth (HasClass MatcherType.App) (Accepts buf.now) table }
 {
-    map::some(Wanted::Class(MatcherType::App), buf)
+    answers::some(Wanted::Class(MatcherType::App), buf)
 }
 
 /// Whether some built-in row of the class `Archive` accepts `buf`, which need not be the answer: allow by [`get`].
 pub fn is_archive(buf: &[u8]) -> bool
     ensures { IsTrue result ↔ SomeBoth (HasClass MatcherType.Archive) (Accepts buf.now) table }
 {
-    map::some(Wanted::Class(MatcherType::Archive), buf)
+    answers::some(Wanted::Class(MatcherType::Archive), buf)
 }
 
 /// Whether some built-in row of the class `Audio` accepts `buf`, which need not be the answer: allow by [`get`].
 pub fn is_audio(buf: &[u8]) -> bool
     ensures { IsTrue result ↔ SomeBoth (HasClass MatcherType.Audio) (Accepts buf.now) table }
 {
-    map::some(Wanted::Class(MatcherType::Audio), buf)
+    answers::some(Wanted::Class(MatcherType::Audio), buf)
 }
 
 /// Whether some built-in row of the class `Book` accepts `buf`, which need not be the answer: allow by [`get`].
 pub fn is_book(buf: &[u8]) -> bool
     ensures { IsTrue result ↔ SomeBoth (HasClass MatcherType.Book) (Accepts buf.now) table }
 {
-    map::some(Wanted::Class(MatcherType::Book), buf)
+    answers::some(Wanted::Class(MatcherType::Book), buf)
 }
 
 /// Whether some built-in row of the class `Doc` accepts `buf`, which need not be the answer: allow by [`get`].
 pub fn is_document(buf: &[u8]) -> bool
     ensures { IsTrue result ↔ SomeBoth (HasClass MatcherType.Doc) (Accepts buf.now) table }
 {
-    map::some(Wanted::Class(MatcherType::Doc), buf)
+    answers::some(Wanted::Class(MatcherType::Doc), buf)
 }
 
 /// Whether some built-in row of the class `Font` accepts `buf`, which need not be the answer: allow by [`get`].
 pub fn is_font(buf: &[u8]) -> bool
     ensures { IsTrue result ↔ SomeBoth (HasClass MatcherType.Font) (Accepts buf.now) table }
 {
-    map::some(Wanted::Class(MatcherType::Font), buf)
+    answers::some(Wanted::Class(MatcherType::Font), buf)
 }
 
 /// Whether some built-in row of the class `Image` accepts `buf`, which need not be the answer: allow by [`get`].
 pub fn is_image(buf: &[u8]) -> bool
     ensures { IsTrue result ↔ SomeBoth (HasClass MatcherType.Image) (Accepts buf.now) table }
 {
-    map::some(Wanted::Class(MatcherType::Image), buf)
+    answers::some(Wanted::Class(MatcherType::Image), buf)
 }
 
 /// Whether some built-in row of the class `Video` accepts `buf`, which need not be the answer: allow by [`get`].
 pub fn is_video(buf: &[u8]) -> bool
     ensures { IsTrue result ↔ SomeBoth (HasClass MatcherType.Video) (Accepts buf.now) table }
 {
-    map::some(Wanted::Class(MatcherType::Video), buf)
+    answers::some(Wanted::Class(MatcherType::Video), buf)
 }

@@ -1,131 +1,102 @@
-//! What a question is about: every row, or those with one extension, MIME type or class.
-ghost use Rattle.std.specs.Prelude.{◌↔◌, None, Option, Some, IsTrue};
+//! What is asked for: every row, or those with one extension, MIME type or class.
+ghost use Rattle.std.specs.Prelude.{◌≡◌, ◌↔◌, IsTrue};
+ghost use Rattle.infer.specs.Questions.{Fits, class_at, fits};
 ghost use Rattle.infer.specs.Triple.{triple_of};
-ghost use Rattle.infer.specs.Walks.{IsAbout};
-ghost use Rattle.infer.specs.declared.file_type.Wanted.{Wanted};
-ghost use Rattle.infer.specs.declared.file_type.MatcherType.{MatcherType};
+ghost use Rattle.infer.specs.declared.question.Wanted.{Wanted};
 
-use crate::file_type::{FileType, MatcherType, Wanted};
+use crate::file_type::{FileType, MatcherType, is_same};
 
-/// A question about some rows. Each kind is a type, so that code is made for each.
-pub trait Question {
-    ghost wanted: { Self → Option Wanted };
-
-    /// Whether it is about rows that tell this.
-    fn fits(&self, row: &FileType) -> bool
-        ensures { IsTrue result ↔ IsAbout (wanted self.now) (triple_of row.now) };
+/// What is asked for.
+#[derive(Clone, Copy)]
+pub enum Wanted<'a> {
+    Every,
+    Extension(&'a str),
+    MimeType(&'a str),
+    Class(MatcherType),
 }
 
-/// About every row.
+impl Wanted<'_> {
+    /// Whether the type is one that is asked for.
+    #[inline(always)]
+    pub fn fits(self, file_type: &FileType) -> bool
+        ensures same { IsTrue result ↔ Fits self.entry (triple_of file_type.now) }
+        ensures test { result ≡ fits self.entry (triple_of file_type.now) }
+    {
+        match self {
+            Wanted::Every => true,
+            Wanted::Extension(text) => is_same(file_type.extension, text),
+            Wanted::MimeType(text) => is_same(file_type.mime_type, text),
+            Wanted::Class(class) => file_type.matcher_type == class,
+        }
+    }
+}
+
+/// A question that its type tells, so that code is made for each.
+pub trait Question {
+    ghost wanted: { Self → Wanted };
+
+    /// Whether the type is one that is asked for.
+    fn fits(&self, file_type: &FileType) -> bool
+        ensures { IsTrue result ↔ Fits (wanted self.now) (triple_of file_type.now) };
+}
+
+/// Asks for every row.
 #[derive(Drop)]
 pub struct Every;
 
-/// About the rows of a class, which the type names.
+/// Asks for the rows of the class with that number.
 #[derive(Drop)]
-pub struct OfClass<K>(pub K);
-
-/// A class as a type.
-pub trait Class: Drop {
-    ghost CLASS: { MatcherType };
-
-    const CLASS: MatcherType;
-}
-
-#[derive(Drop)]
-pub struct App;
-
-#[derive(Drop)]
-pub struct Archive;
-
-#[derive(Drop)]
-pub struct Audio;
-
-#[derive(Drop)]
-pub struct Book;
-
-#[derive(Drop)]
-pub struct Doc;
-
-#[derive(Drop)]
-pub struct Font;
-
-#[derive(Drop)]
-pub struct Image;
-
-#[derive(Drop)]
-pub struct Video;
-
-impl Class for App {
-    ghost CLASS = { MatcherType.App };
-
-    const CLASS: MatcherType = MatcherType::App;
-}
-
-impl Class for Archive {
-    ghost CLASS = { MatcherType.Archive };
-
-    const CLASS: MatcherType = MatcherType::Archive;
-}
-
-impl Class for Audio {
-    ghost CLASS = { MatcherType.Audio };
-
-    const CLASS: MatcherType = MatcherType::Audio;
-}
-
-impl Class for Book {
-    ghost CLASS = { MatcherType.Book };
-
-    const CLASS: MatcherType = MatcherType::Book;
-}
-
-impl Class for Doc {
-    ghost CLASS = { MatcherType.Doc };
-
-    const CLASS: MatcherType = MatcherType::Doc;
-}
-
-impl Class for Font {
-    ghost CLASS = { MatcherType.Font };
-
-    const CLASS: MatcherType = MatcherType::Font;
-}
-
-impl Class for Image {
-    ghost CLASS = { MatcherType.Image };
-
-    const CLASS: MatcherType = MatcherType::Image;
-}
-
-impl Class for Video {
-    ghost CLASS = { MatcherType.Video };
-
-    const CLASS: MatcherType = MatcherType::Video;
-}
+pub struct OfClass<const CLASS: usize>;
 
 impl Question for Every {
-    ghost wanted = { λ _. None };
+    ghost wanted = { λ _. Wanted.Every };
 
     #[inline(always)]
-    fn fits(&self, _row: &FileType) -> bool {
+    fn fits(&self, _file_type: &FileType) -> bool {
         true
     }
 }
 
-impl<K: Class> Question for OfClass<K> {
-    ghost wanted = { λ _. Some (Wanted.Class K.CLASS) };
+impl<const CLASS: usize> Question for OfClass<CLASS> {
+    ghost wanted = { λ _. Wanted.Class (class_at CLASS) };
 
     #[inline(always)]
-    fn fits(&self, row: &FileType) -> bool {
-        row.matcher_type() == K::CLASS
+    fn fits(&self, file_type: &FileType) -> bool {
+        file_type.matcher_type == class_at(CLASS)
     }
 }
 
-impl Question for Wanted<'_> {
-    ghost wanted = { λ s. Some s };
+pub const APP: usize = MatcherType::App as usize;
 
-    #[inline(always)]
-    fn fits(&self, row: &FileType) -> bool {
-        row.fits(*self)
+pub const ARCHIVE: usize = MatcherType::Archive as usize;
+
+pub const AUDIO: usize = MatcherType::Audio as usize;
+
+pub const BOOK: usize = MatcherType::Book as usize;
+
+pub const DOC: usize = MatcherType::Doc as usize;
+
+pub const FONT: usize = MatcherType::Font as usize;
+
+pub const IMAGE: usize = MatcherType::Image as usize;
+
+pub const VIDEO: usize = MatcherType::Video as usize;
+
+/// The class of that number.
+#[inline(always)]
+fn class_at(number: usize) -> MatcherType
+    ensures { result ≡ class_at number }
+{
+    match number {
+        APP => MatcherType::App,
+        ARCHIVE => MatcherType::Archive,
+        AUDIO => MatcherType::Audio,
+        BOOK => MatcherType::Book,
+        DOC => MatcherType::Doc,
+        FONT => MatcherType::Font,
+        IMAGE => MatcherType::Image,
+        7 => MatcherType::Text,
+        VIDEO => MatcherType::Video,
+        _ => MatcherType::Custom,
     }
 }

@@ -1,10 +1,6 @@
-use Rattle.std.proofs.Common.{subst, refl, List, ℕ, None}
-use Rattle.infer.specs.Leads.{candidates_of}
-use Rattle.infer.specs.Walks.{IsFirstAmong, RowHas, Takes}
-use Rattle.infer.proofs.CandidateLemmas.{first_of_buffer}
+use Rattle.infer.specs.Table.{table}
+use Rattle.infer.proofs.CandidateLemmas.{first_of_every}
 use Rattle.infer.proofs.ask.position_counted.Goals as goal
 
 pub returns-clause-first : goal.returns-clause-first
-returns-clause-first c =
-    first_of_buffer c.leads.ensures c.blank.ensures None c.args.buf.now _ c.walk-found.result refl
-    (subst (λ (b : List ℕ). IsFirstAmong (RowHas (Takes None b)) (candidates_of b) c.walk-found.result) c.new-asker.ensures.buffer c.walk-found.ensures.first)
+returns-clause-first c = first_of_every c.args.buf.now table c.count_wanted.result.0 c.count_wanted.ensures.first
