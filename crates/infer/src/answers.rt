@@ -10,7 +10,7 @@ ghost use Rattle.infer.specs.Triple.{triple_of};
 use crate::ask::count_wanted;
 use crate::dispatch::{arm_of, first_of, first_of_class};
 use crate::file_type::{FileType, MatcherType};
-use crate::laws;
+use crate::leads::{blank, leads};
 use crate::question::{
     APP, ARCHIVE, AUDIO, BOOK, DOC, Every, FONT, IMAGE, OfClass, VIDEO, Wanted,
 };
@@ -21,8 +21,8 @@ use crate::rows::rows;
 pub fn position(buf: &[u8]) -> Option<usize>
     ensures { IsFirstOf (Accepts buf.now) table result }
 {
-    laws::leads();
-    laws::blank();
+    leads();
+    blank();
     let lead = buf.first()?;
     first_of(arm_of(*lead), &Every, buf)
 }
@@ -64,8 +64,8 @@ pub fn some(wanted: Wanted, buf: &[u8]) -> bool
 fn some_of_class<const CLASS: usize>(buf: &[u8]) -> bool
     ensures { IsTrue result ↔ SomeBoth (HasClass (class_at CLASS)) (Accepts buf.now) table }
 {
-    laws::leads();
-    laws::blank();
+    leads();
+    blank();
     let Some(lead) = buf.first() else {
         return false;
     };

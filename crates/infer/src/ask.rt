@@ -1,5 +1,5 @@
 //! Rows are asked through an asker, which counts them.
-ghost use Rattle.std.specs.Prelude.{◌≡◌, ◌↔◌, ◌+◌, ◌<◌, ◌≤◌, ℕ, List, Option, cond, is_some, IsTrue, slice_get};
+ghost use Rattle.std.specs.Prelude.{◌≡◌, ◌↔◌, ◌+◌, ◌<◌, ◌≤◌, ℕ, List, Option, cond, is_some, IsTrue, length, slice_get};
 ghost use Rattle.infer.specs.First.{IsFirstOf};
 ghost use Rattle.infer.specs.Leads.{candidates_of};
 ghost use Rattle.infer.specs.Questions.{HasExtension, SomeBoth};
@@ -9,7 +9,7 @@ ghost use Rattle.infer.specs.Walks.{IsFirstAmong, RowHas, Takes, count_asked, is
 ghost use Rattle.infer.specs.declared.question.Wanted.TheVariants.{Every, Extension};
 
 use crate::dispatch::{arm_of, candidates_at};
-use crate::laws;
+use crate::leads::{blank, leads};
 use crate::question::Wanted;
 use crate::rows::{MOST_CANDIDATES, ROW_COUNT};
 use crate::taken::{accepts_at, fits_at};
@@ -99,13 +99,24 @@ fn walk_wanted<A: Ask>(asker: &mut A, wanted: Wanted) -> Option<usize>
     ensures few { A.asked asker.new ≤ MOST_CANDIDATES }
     ensures kept { A.buffer asker.new ≡ A.buffer asker.old }
 {
-    let lead = asker.first()?;
-    for row in candidates_at(arm_of(lead)) {
+    for row in candidates_of(asker) {
         if ask_wanted(asker, *row, wanted) {
             return Some(*row);
         }
     }
     None
+}
+
+/// The rows that can accept the asker's buffer, ascending.
+#[inline(always)]
+fn candidates_of<A: Ask>(asker: &A) -> &'static [usize]
+    ensures rows { result.now ≡ candidates_of (A.buffer asker.now) }
+    ensures few { length result.now ≤ MOST_CANDIDATES }
+{
+    match asker.first() {
+        Some(first) => candidates_at(arm_of(first)),
+        None => &[],
+    }
 }
 
 /// Whether row `i` is asked for and accepts the buffer. It is asked if it is.
@@ -128,8 +139,8 @@ pub(crate) fn count_wanted(buf: &[u8], wanted: Wanted) -> (Option<usize>, u32)
     ensures counted { result.1 ≡ count_asked wanted.entry buf.now result.0 }
     ensures few { result.1 ≤ MOST_CANDIDATES }
 {
-    laws::leads();
-    laws::blank();
+    leads();
+    blank();
     let mut asker = Asker::new(buf);
     let found = walk_wanted(&mut asker, wanted);
     (found, asker.asked())

@@ -28,7 +28,7 @@ use std::rt::Files;
 #[derive(Drop)]
 pub struct Infer<A: Allocator = Global> {
     /// The rows that were added. The list is made by the first `add`, so that a new `Infer` takes no memory.
-    pub list: Option<Vec<CustomRow, A>>,
+    list: Option<Vec<CustomRow, A>>,
 }
 
 impl Infer {
@@ -36,7 +36,7 @@ impl Infer {
     pub fn new() -> Infer
         ensures { custom_rows result ≡ [] }
     {
-        Infer { list: None }
+        Infer::new_in()
     }
 }
 
@@ -49,6 +49,13 @@ impl Default for Infer {
 }
 
 impl<A: Allocator> Infer<A> {
+    /// The same, whose list is made in another allocator than the default.
+    pub fn new_in() -> Infer<A>
+        ensures { custom_rows result ≡ [] }
+    {
+        Infer { list: None }
+    }
+
     /// Adds a row of the class `Custom` behind those that were added before. None is dropped or replaced.
     ///
     /// The function may be called on every buffer, and its contract fixes one answer for each. The first call

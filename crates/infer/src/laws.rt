@@ -9,7 +9,6 @@ ghost use Rattle.infer.specs.Arrivals.{NewcomersAreAwaited};
 ghost use Rattle.infer.specs.BuiltIn.{BuiltIn};
 ghost use Rattle.infer.specs.First.{IsFirst, NoneHas};
 ghost use Rattle.infer.specs.Laws.{AnswersAreNamed, Breaks, FrontDecides, IsSteady, Keeps, OnlyTheTwelveFollow};
-ghost use Rattle.infer.specs.Leads.{Leads};
 ghost use Rattle.infer.specs.Matchers.{Lasts, OthersAreNear, is_of_the_twelve, signatures};
 ghost use Rattle.infer.specs.Row.{Accepts, shows};
 ghost use Rattle.infer.specs.Rows.{custom_rows, rows};
@@ -19,6 +18,7 @@ ghost use Rattle.infer.specs.Triple.{triple_of};
 
 use crate::file_type::FileType;
 use crate::infer::Infer;
+pub use crate::leads::{blank, leads};
 use crate::rows::{DLL, EPUB_ARCHIVE, MATCHER_COUNT, ROW_COUNT};
 use std::alloc::Allocator;
 
@@ -53,22 +53,6 @@ pub fn near()
 {
     infer_sig::laws::near();
     infer_deep::laws::near();
-}
-
-/// A buffer that a built-in signature accepts begins with a byte that the signature allows there.
-pub fn leads()
-    ensures { (signature : BuiltIn) → Leads signature }
-{
-    infer_sig::laws::leads();
-    infer_deep::laws::leads();
-}
-
-/// No built-in row accepts the empty buffer.
-pub fn blank()
-    ensures { NoneHas (Accepts []) table }
-{
-    infer_sig::laws::by_place();
-    infer_deep::laws::leads();
 }
 
 /// The row of dynamic libraries, [`DLL`], and the second row of EPUB, [`EPUB_ARCHIVE`], are first for no buffer: an earlier row has

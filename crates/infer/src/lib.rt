@@ -28,6 +28,7 @@ mod fault;
 mod file_type;
 mod infer;
 pub mod laws;
+mod leads;
 mod question;
 pub mod rows;
 mod samples;

@@ -164,7 +164,7 @@ fn by_the_first(count: usize) -> (&'static str, &'static str) {
 
 /// Adds ten rows in a heap. Tells how many were added, and whether the rows were those after each addition.
 fn ten_added(heap: &LocalHeap) -> (usize, bool) {
-    let mut infer: Infer<&LocalHeap> = Infer { list: None };
+    let mut infer: Infer<&LocalHeap> = Infer::new_in();
     let (mut count, mut right) = (0usize, are_the_first(&infer, 0));
     for (i, name) in NAMES.iter().enumerate() {
         let added = match i {
