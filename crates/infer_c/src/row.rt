@@ -6,6 +6,7 @@ ghost use Rattle.infer.specs.Row.{Accepts};
 ghost use Rattle.infer.specs.Table.{table};
 ghost use Rattle.infer.specs.Triple.{triple_of};
 ghost use Rattle.infer.specs.Walks.{RowHas, count_asked};
+ghost use Rattle.infer.specs.declared.question.Wanted.TheVariants.{Every};
 ghost use Rattle.infer.specs.declared.rows.TheConstants.{MOST_CANDIDATES, ROW_COUNT};
 ghost use Rattle.infer_c.specs.Codes.{IsSample, triple_at};
 ghost use Rattle.infer_c.specs.Written.{WritesWhole};
@@ -39,7 +40,7 @@ pub fn accepts(i: usize, buf: &[u8]) -> bool
 pub fn count(buf: &[u8]) -> (Option<usize>, u32)
     ensures first { IsFirstOf (Accepts buf.now) table result.0 }
     ensures bound { IfSome result.0 (λ i. i < ROW_COUNT) }
-    ensures counted { result.1 ≡ count_asked None buf.now result.0 }
+    ensures counted { result.1 ≡ count_asked Every buf.now result.0 }
     ensures few { result.1 ≤ MOST_CANDIDATES }
 {
     infer::position_counted(buf)
