@@ -1,5 +1,5 @@
 -- What more bytes can bring to a buffer of at least 1024 bytes.
-use Rattle.std.proofs.Common.{◌≡◌, ◌<◌, ◌≤◌, ◌-◌, ◌⊎◌, ◌&&◌, ℕ, suc, Bool, true, false, List, ◌++◌, length, leb, refl, subst, inl, inr, arith, IsTrue, length-append, get_or}
+use Rattle.std.proofs.Common.{◌≡◌, ◌<◌, ◌≤◌, ◌+◌, ◌-◌, ◌⊎◌, ◌&&◌, ◌∙◌, ℕ, suc, Bool, true, List, ◌++◌, length, leb, refl, subst, inl, inr, arith, IsTrue, length-append, get_or}
 use Rattle.std.specs.List.{list_all, range_with_len}
 use Rattle.std.proofs.lemmas.Bool.{and_parts, leb-true}
 use Rattle.std.proofs.lemmas.List.{take-append-le}
@@ -8,13 +8,14 @@ use Rattle.std.proofs.lemmas.List.Sums.{AllPass-from_list_all}
 use Rattle.infer_sig.specs.Signature.{Alternative}
 use Rattle.infer_sig.specs.Laws as Fixed
 use Rattle.infer_deep.specs.Laws as Deep
-use Rattle.infer.specs.Arrivals.{IsAwaited, last_awaited, Comes, NewcomersAreAwaited}
+use Rattle.infer.specs.Arrivals.{IsAwaited, last_awaited, NewcomersAreAwaited}
 use Rattle.infer.specs.BuiltIn.{BuiltIn, fixed, avif, doc, framed, heif, html, matroska, office, pdf, ppt, xls, xml, IsAccepted}
 use Rattle.infer.specs.Matchers.{IsNear}
 use Rattle.infer.specs.Table.{signature_of, table}
 use Rattle.infer.specs.declared.rows.TheConstants.{ROW_COUNT}
+use Rattle.infer.proofs.KnownLemmas.{Known, proved, is_proved, proof_of, takes, ◌>>=◌}
 use Rattle.infer.proofs.LawLemmas.{every_near, is_within}
-use Rattle.infer.proofs.OrderLemmas.{Pair, apart, unknown, exclusion}
+use Rattle.infer.proofs.OrderLemmas.{exclusion}
 use Rattle.infer.proofs.TestLemmas.{NoneRefused, passed}
 
 -- it is known how a buffer begins to which more bytes can bring the signature
@@ -23,6 +24,12 @@ is_known (fixed alternatives) = is_within (fixed alternatives)
 is_known (framed magic) = leb (length magic) 4
 is_known (office folder) = leb (length folder) 5
 is_known s = true
+
+-- a test of n numbers from s on
+in_range : (test : ℕ → Bool) (s n k : ℕ) → IsTrue (list_all test (range_with_len s n)) → s ≤ k → k < s + n → IsTrue (test k)
+in_range test s n k e low high =
+    let at : get_or (range_with_len s n) (k - s) 0 ≡ k = get_or-range_with_len s n (k - s) 0 (omega arith) ∙ (omega arith) in
+    subst (λ j. IsTrue (test j)) at (AllPass-from_list_all test (range_with_len s n) e (k - s) 0 (omega (arith, length-range_with_len s n)))
 
 module _ (fixed_near : (n : ℕ) (s : List Alternative) → IsTrue (Fixed.is_within n s) → Fixed.IsNear n s) (deep_near : Deep.Near)
     (arrivals : Deep.Arrivals) (exclude : Deep.Apart) (b more : List ℕ) (long : 1024 ≤ length b) where
@@ -46,54 +53,36 @@ module _ (fixed_near : (n : ℕ) (s : List Alternative) → IsTrue (Fixed.is_wit
   comes html e h = arrivals.html b more long h
   comes xml e h = arrivals.xml b more long h
 
-  -- what more bytes bring is not with the other, or nothing is known
-  data Rival (s t : BuiltIn) : Type 0 where
-    alone : (IsAccepted s (b ++ more) → (¬ IsAccepted s b) → IsAccepted t b → ¬ IsAccepted t (b ++ more)) → Rival s t
-    unclear : Rival s t
-
-  abbrev excluded : {s t : BuiltIn} → Pair (IsAccepted t) (IsAccepted s) → Rival s t
-  excluded (apart h) = alone (λ accepted refused here there. h (b ++ more) there accepted)
-  excluded unknown = unclear
+  -- what more bytes bring is not with the other
+  abbrev IsAlone : BuiltIn → BuiltIn → Type 0
+  IsAlone s t = IsAccepted s (b ++ more) → (¬ IsAccepted s b) → IsAccepted t b → ¬ IsAccepted t (b ++ more)
 
   -- the earlier row's signature, and that of the later
-  abbrev rival : (s t : BuiltIn) → Rival s t
-  rival heif avif = alone (λ accepted refused here there.
+  abbrev rival : (s t : BuiltIn) → Known (IsAlone s t)
+  rival heif avif = proved (λ accepted refused here there.
       elim (arrivals.heif b more long accepted) [ inl h ↦ refused h | inr o ↦ exclude.open_boxed b o here.0 ])
-  rival s t = excluded (exclusion exclude t s)
-
-  abbrev is_alone : {s t : BuiltIn} → Rival s t → Bool
-  is_alone (alone h) = true
-  is_alone unclear = false
-
-  abbrev is_alone_up_to : ℕ → ℕ → Bool
-  is_alone_up_to i n = list_all (λ k. is_alone (rival (signature_of i) (signature_of k))) (range_with_len (suc i) (n - i))
+  rival s t = do
+    apart ← takes (exclusion exclude t s)
+    proved (λ accepted refused here there. apart (b ++ more) there accepted)
 
   abbrev is_ruled : ℕ → Bool
-  is_ruled i = is_known (signature_of i) && is_alone_up_to i (last_awaited (signature_of i))
+  is_ruled i =
+      is_known (signature_of i)
+      && list_all (λ k. is_proved (rival (signature_of i) (signature_of k))) (range_with_len (suc i) (last_awaited (signature_of i) - i))
 
   all_ruled : NoneRefused is_ruled ROW_COUNT 0 8
   unfolding table signature_of
   all_ruled = (refl, (refl, (refl, (refl, (refl, (refl, (refl, (refl, tt))))))))
 
-  not_with : {s t : BuiltIn} (r : Rival s t) → IsTrue (is_alone r)
-      → IsAccepted s (b ++ more) → (¬ IsAccepted s b) → IsAccepted t b → ¬ IsAccepted t (b ++ more)
-  not_with (alone h) e accepted refused here there = h accepted refused here there
-  not_with unclear e accepted refused here there = absurd (cc)
-
-  newcomer : (i : ℕ) → i < ROW_COUNT → IsAccepted (signature_of i) (b ++ more) → (¬ IsAccepted (signature_of i) b) → Comes i b more
-  newcomer i lt accepted refused =
-      let last = last_awaited (signature_of i) in
-      let ruled = and_parts (is_known (signature_of i)) _ (passed is_ruled ROW_COUNT 8 all_ruled (omega arith) i lt) in
-      record {
-        awaited = elim (comes (signature_of i) ruled.0 accepted) [ inl here ↦ absurd (refused here) | inr awaited ↦ awaited ];
-        alone = λ k low high here there.
-            let count : k - suc i < length (range_with_len (suc i) (last - i)) = omega (arith, length-range_with_len (suc i) (last - i)) in
-            let test = AllPass-from_list_all (λ j. is_alone (rival (signature_of i) (signature_of j))) (range_with_len (suc i) (last - i)) ruled.1 (k - suc i) 0 count in
-            let at : get_or (range_with_len (suc i) (last - i)) (k - suc i) 0 ≡ k = omega (arith, get_or-range_with_len (suc i) (last - i) (k - suc i) 0 (omega arith)) in
-            not_with (rival (signature_of i) (signature_of k)) (subst (λ j. IsTrue (is_alone (rival (signature_of i) (signature_of j)))) at test)
-            accepted refused here there;
-      }
-
 pub newcomers_are_awaited : ((n : ℕ) (s : List Alternative) → IsTrue (Fixed.is_within n s) → Fixed.IsNear n s) → Deep.Near
     → Deep.Arrivals → Deep.Apart → NewcomersAreAwaited
-newcomers_are_awaited fixed_near deep_near arrivals exclude b more long = newcomer fixed_near deep_near arrivals exclude b more long
+newcomers_are_awaited fixed_near deep_near arrivals exclude b more long i lt accepted refused =
+    let s = signature_of i in
+    let alone = rival fixed_near deep_near arrivals exclude b more long s in
+    let ruled = and_parts (is_known s) _ (passed (is_ruled fixed_near deep_near arrivals exclude b more long) ROW_COUNT 8 (all_ruled fixed_near deep_near arrivals exclude b more long) (omega arith) i lt) in
+    record {
+      awaited = elim (comes fixed_near deep_near arrivals exclude b more long s ruled.0 accepted) [ inl here ↦ absurd (refused here) | inr awaited ↦ awaited ];
+      alone = λ k low high here there.
+          let test = in_range (λ j. is_proved (alone (signature_of j))) (suc i) (last_awaited s - i) k ruled.1 low (omega arith) in
+          proof_of (alone (signature_of k)) test accepted refused here there;
+    }

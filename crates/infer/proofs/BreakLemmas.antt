@@ -1,33 +1,31 @@
 -- For each of the twelve rows a buffer that has it as its first, and whose first 1024 bytes have another answer.
-use Rattle.std.proofs.Common.{◌≡◌, ◌≢◌, ◌+◌, ◌<◌, ◌&&◌, ◌||◌, ℕ, zero, suc, Bool, true, not, List, [], ◌∷◌, ◌++◌, Option, None, Some, get_or, length, take, eqb, ltb, eq-eqb, IsTrue, refl, codes, inl, inr, arith}
-use Rattle.std.specs.List.{list_all, slice_get}
-use Rattle.std.specs.Option.{option_map_or}
-use Rattle.std.proofs.lemmas.Bool.{and_parts, or_cases, ltb-true}
+use Rattle.std.proofs.Common.{◌≢◌, ◌+◌, ◌<◌, ◌||◌, ℕ, Bool, not, List, [], ◌∷◌, ◌++◌, Option, None, Some, get_or, length, take, eqb, ltb, eq-eqb, IsTrue, refl, codes, inl, inr, arith}
+use Rattle.std.specs.List.{list_all}
+use Rattle.std.proofs.lemmas.Bool.{cases_lt, or_cases, ltb-true}
 use Rattle.std.proofs.lemmas.List.Sums.{AllPass-from_list_all}
+use Rattle.std.proofs.lemmas.Option.{none-some, slice_get_past}
 use Rattle.infer_deep.specs.ClassId.{compound_header, word_id, old_excel_id, powerpoint_id}
 use Rattle.infer_deep.specs.Laws as Deep
 use Rattle.infer_deep.specs.Numbers.{le16, le32, be32}
 use Rattle.infer_deep.specs.Office.{zip_header}
 use Rattle.infer_sig.specs.Signature.{stands}
-use Rattle.infer.specs.BuiltIn.{BuiltIn, fixed, framed, heif, avif, office, doc, xls, ppt, html, xml}
-use Rattle.infer.specs.First.{IsFirstOf}
+use Rattle.infer.specs.Buffer.{IsBuffer}
+use Rattle.infer.specs.BuiltIn.{BuiltIn, framed, heif, avif, office, doc, xls, ppt, html, xml}
 use Rattle.infer.specs.Laws.{Breaks}
-use Rattle.infer.specs.Matchers.{is_deep, is_of_the_twelve}
-use Rattle.infer.specs.Row.{Row, Accepts}
-use Rattle.infer.specs.Samples.{put, zeros}
+use Rattle.infer.specs.Matchers.{is_of_the_twelve}
+use Rattle.infer.specs.Samples.{put, sample_of, zeros}
 use Rattle.infer.specs.Table.{signature_of, table}
 use Rattle.infer.specs.declared.rows.TheConstants.{MSI, ROW_COUNT, ZIP}
-use Rattle.infer.proofs.AcceptanceLemmas.{long_frame, spaces}
-use Rattle.infer.proofs.OrderLemmas.{is_first, first_by_test}
+use Rattle.infer.proofs.DecisionLemmas.{behind, long_frame, space}
+use Rattle.infer.proofs.KnownLemmas.{Known, proved, is_proved, proof_of, proved_if, takes, ◌>>=◌}
+use Rattle.infer.proofs.OrderLemmas.{known_first, some_row}
 use Rattle.infer.proofs.PlaceLemmas.{ByPlace, not_both}
-use Rattle.infer.proofs.RefusalLemmas.{refuses, none_accepts}
-use Rattle.infer.proofs.SmallLemmas.{some_row}
 use Rattle.infer.proofs.TableLemmas.{length-table}
 use Rattle.infer.proofs.TestLemmas.{NoneRefused, passed}
 
 -- a box that ends behind the first 1024 bytes
 abbrev long_box : List ℕ → List ℕ
-long_box brand = put 8 brand (put 4 (codes "ftyp") (put 2 (0x04 ∷ 0x04 ∷ []) (zeros 1028)))
+long_box sample = put 2 (0x04 ∷ 0x04 ∷ []) (sample ++ zeros 1012)
 
 -- a compound file with the root entry behind them
 abbrev late_root : List ℕ → List ℕ
@@ -43,16 +41,16 @@ late_entries folder =
 
 -- a buffer that the signature accepts by what stands behind them
 abbrev late : BuiltIn → List ℕ
-late heif = long_box (codes "heic")
-late avif = long_box (codes "avif")
-late (framed magic) = long_frame ++ magic
+late (framed magic) = behind 1 long_frame magic
 late (office folder) = late_entries folder
 late doc = late_root word_id
 late xls = late_root old_excel_id
 late ppt = late_root powerpoint_id
-late html = spaces 1024 ++ codes "<P>"
-late xml = spaces 1024 ++ codes "<?xml"
-late _ = []
+late html = behind 1024 space (sample_of html)
+late xml = behind 1024 space (sample_of xml)
+late heif = long_box (sample_of heif)
+late avif = long_box (sample_of avif)
+late s = []
 
 -- the answer on the first 1024 bytes: other rows know the beginning of a compound file and of an archive
 abbrev front_answer : BuiltIn → Option ℕ
@@ -62,74 +60,41 @@ front_answer xls = Some MSI
 front_answer ppt = Some MSI
 front_answer _ = None
 
-abbrev is_not : ℕ → Option ℕ → Bool
-is_not i None = true
-is_not i (Some j) = not (eqb i j)
+is_buffer : (b : List ℕ) → IsTrue (list_all (λ x. ltb x 256) b) → IsBuffer b
+is_buffer b e k d lt = ltb-true (get_or b k d) 256 (AllPass-from_list_all (λ x. ltb x 256) b e k d lt)
 
-abbrev decides : ℕ → BuiltIn
-decides i = (get_or table i some_row).signature
+other_row : (i j : ℕ) → IsTrue (not (eqb i j)) → Some j ≢ Some i
+other_row i j other e = not_both (eqb i j) (eq-eqb i j (cc)) other
 
-module _ (exclude : Deep.Apart) where
-  abbrev answers : Option ℕ → List ℕ → Bool
-  answers None b = list_all (λ r. refuses r.signature b) table
-  answers (Some j) b = ltb j ROW_COUNT && is_first exclude (take j table) (decides j) b
+abbrev differs : (i : ℕ) (o : Option ℕ) → Known (o ≢ Some i)
+differs i None = proved (none-some i)
+differs i (Some j) = proved_if (not (eqb i j)) (other_row i j)
 
-  abbrev breaks_with : ℕ → Option ℕ → List ℕ → Bool
-  breaks_with i o b = answers (Some i) b && (answers o (take 1024 b) && (is_not i o && list_all (λ x. ltb x 256) b))
+module _ (by_place : ByPlace) (exclude : Deep.Apart) where
+  abbrev breaks_with : (i : ℕ) (o : Option ℕ) (b : List ℕ) → Known (Breaks i b)
+  breaks_with i o b = do
+    bytes ← takes (proved_if (list_all (λ x. ltb x 256) b) (is_buffer b))
+    first ← takes (known_first by_place exclude some_row (Some i) b)
+    front_first ← takes (known_first by_place exclude some_row o (take 1024 b))
+    other ← takes (differs i o)
+    proved (record { bytes = bytes; first = first; front = o; front_first = front_first; other = other })
 
-  abbrev breaks : ℕ → Bool
-  breaks i = breaks_with i (front_answer (decides i)) (late (decides i))
+  abbrev breaks : (i : ℕ) → Known (Breaks i (late (signature_of i)))
+  breaks i = breaks_with i (front_answer (signature_of i)) (late (signature_of i))
 
   abbrev breaks_if : ℕ → Bool
-  breaks_if i = not (is_of_the_twelve i) || breaks i
+  breaks_if i = not (is_of_the_twelve i) || is_proved (breaks i)
 
   all_break : NoneRefused breaks_if ROW_COUNT 0 8
   unfolding table is_of_the_twelve signature_of stands le16 le32 be32
   all_break = (refl, (refl, (refl, (refl, (refl, (refl, (refl, (refl, tt))))))))
 
-  row_breaks : (i : ℕ) → i < ROW_COUNT → IsTrue (is_of_the_twelve i) → IsTrue (breaks i)
-  row_breaks i lt twelve =
-      elim (or_cases (not (is_of_the_twelve i)) (breaks i) (passed breaks_if ROW_COUNT 8 all_break (omega arith) i lt)) [
-        | inl other ↦ absurd (not_both (is_of_the_twelve i) twelve other)
-        | inr h ↦ h
-      ]
-
--- only rows that are there are of the twelve
-within : (xs : List (Row BuiltIn)) (i : ℕ) → IsTrue (is_deep (option_map_or (λ r. r.signature) (slice_get xs i) (fixed []))) → i < length xs
-within [] i e = absurd (cc)
-within (x ∷ xs) zero e = omega arith
-within (x ∷ xs) (suc i) e = let lt = within xs i e in omega arith
-
-twelve_within : (i : ℕ) → IsTrue (is_of_the_twelve i) → i < ROW_COUNT
-unfolding is_of_the_twelve signature_of
-twelve_within i e = let lt = within table i e in omega (arith, length-table)
-
-is_other : (i : ℕ) (o : Option ℕ) → IsTrue (is_not i o) → o ≢ Some i
-is_other i None e same = absurd (cc)
-is_other i (Some j) e same = let k : i ≡ j = cc in not_both (eqb i j) (eq-eqb i j k) e
-
-module _ (by_place : ByPlace) (deep : Deep.Leads) (exclude : Deep.Apart) where
-  answered : (o : Option ℕ) (b : List ℕ) → IsTrue (answers exclude o b) → IsFirstOf (Accepts b) table o
-  answered None b e = none_accepts by_place deep b table e
-  answered (Some j) b e =
-      let parts = and_parts (ltb j ROW_COUNT) _ e in
-      let below = ltb-true j ROW_COUNT parts.0 in
-      first_by_test exclude by_place deep table j some_row b (omega (arith, length-table)) parts.1
-
-  break_by : (i : ℕ) (o : Option ℕ) (b : List ℕ) → IsTrue (breaks_with exclude i o b) → Breaks i b
-  break_by i o b e =
-      let k0 = and_parts (answers exclude (Some i) b) _ e in
-      let k1 = and_parts (answers exclude o (take 1024 b)) _ k0.1 in
-      let k2 = and_parts (is_not i o) _ k1.1 in
-      record {
-        bytes = λ k d lt. ltb-true (get_or b k d) 256 (AllPass-from_list_all (λ x. ltb x 256) b k2.1 k d lt);
-        first = answered (Some i) b k0.0;
-        front = o;
-        front_first = answered o (take 1024 b) k1.0;
-        other = is_other i o k2.0;
-      }
+  twelve_within : (i : ℕ) → IsTrue (is_of_the_twelve i) → i < ROW_COUNT
+  unfolding is_of_the_twelve signature_of
+  twelve_within i e = elim (cases_lt i ROW_COUNT) [ inl lt ↦ lt | inr over ↦ absurd (let past = slice_get_past table i (omega (arith, length-table)) in let none = rw past at e in cc) ]
 
   pub broken : (i : ℕ) → IsTrue (is_of_the_twelve i) → (buf : List ℕ) × Breaks i buf
-  broken i e =
-      let test = row_breaks exclude i (twelve_within i e) e in
-      (late (decides i), break_by i (front_answer (decides i)) (late (decides i)) test)
+  broken i e = elim (or_cases (not (is_of_the_twelve i)) _ (passed breaks_if ROW_COUNT 8 all_break (omega arith) i (twelve_within i e))) [
+    | inl other ↦ absurd (not_both (is_of_the_twelve i) e other)
+    | inr h ↦ (late (signature_of i), proof_of (breaks i) h)
+  ]

@@ -1,5 +1,6 @@
 -- The laws of all matchers, from those of every signature.
-use Rattle.std.proofs.Common.{◌≡◌, ℕ, Bool, true, false, ◌||◌, not, List, [], length, get_or, refl, subst, sym, arith, IsTrue}
+use Rattle.std.proofs.Common.{◌≡◌, ℕ, Bool, true, false, ◌||◌, List, [], length, get_or, refl, inl, inr, subst, sym, arith, IsTrue}
+use Rattle.std.proofs.lemmas.Bool.{or_cases}
 use Rattle.std.proofs.lemmas.List.{get_or_default}
 use Rattle.infer_sig.specs.Signature.{Alternative}
 use Rattle.infer_sig.specs.Laws as Fixed
@@ -7,6 +8,7 @@ use Rattle.infer_deep.specs.Laws as Deep
 use Rattle.infer.specs.BuiltIn.{BuiltIn, fixed, avif, doc, framed, heif, html, matroska, office, pdf, ppt, xls, xml}
 use Rattle.infer.specs.Matchers.{signatures, is_of_the_twelve, Lasts, IsNear, OthersAreNear}
 use Rattle.infer.specs.Table.{signature_of, table}
+use Rattle.infer.proofs.PlaceLemmas.{not_both}
 use Rattle.infer.proofs.TestLemmas.{NoneRefused, passed}
 use Rattle.infer.specs.declared.rows.TheConstants.{MATCHER_COUNT}
 
@@ -43,15 +45,7 @@ every_near fixed_near deep_near (fixed alternatives) within = λ buf long. (
 )
 every_near fixed_near deep_near pdf within = deep_near.pdf
 every_near fixed_near deep_near (matroska doc_type) within = deep_near.matroska doc_type
-every_near fixed_near deep_near (framed magic) within = absurd (cc)
-every_near fixed_near deep_near heif within = absurd (cc)
-every_near fixed_near deep_near avif within = absurd (cc)
-every_near fixed_near deep_near (office folder) within = absurd (cc)
-every_near fixed_near deep_near doc within = absurd (cc)
-every_near fixed_near deep_near xls within = absurd (cc)
-every_near fixed_near deep_near ppt within = absurd (cc)
-every_near fixed_near deep_near html within = absurd (cc)
-every_near fixed_near deep_near xml within = absurd (cc)
+every_near fixed_near deep_near s within = absurd (cc)
 
 -- matcher m is one of the twelve, or its signature passes that test
 abbrev is_decided : ℕ → Bool
@@ -61,12 +55,10 @@ all_decided : NoneRefused is_decided MATCHER_COUNT 0 8
 unfolding signatures table is_of_the_twelve signature_of
 all_decided = (refl, (refl, (refl, (refl, (refl, (refl, (refl, (refl, tt))))))))
 
-other : (a b : Bool) → IsTrue (a || b) → IsTrue (not a) → IsTrue b
-other true b h e = absurd (cc)
-other false b h e = h
-
 pub others_near : ((n : ℕ) (s : List Alternative) → IsTrue (Fixed.is_within n s) → Fixed.IsNear n s) → Deep.Near → OthersAreNear signatures
 others_near fixed_near deep_near m lt out d =
-    let test = passed is_decided MATCHER_COUNT 8 all_decided (omega arith) m (omega (arith, lt, length-signatures)) in
-    let within = other (is_of_the_twelve m) (is_within (get_or signatures m (fixed []))) test out in
-    every_near fixed_near deep_near (get_or signatures m d) (subst (λ s. IsTrue (is_within s)) (get_or_default signatures m (fixed []) d lt) within)
+    elim (or_cases (is_of_the_twelve m) _ (passed is_decided MATCHER_COUNT 8 all_decided (omega arith) m (omega (arith, lt, length-signatures)))) [
+      | inl one ↦ absurd (not_both (is_of_the_twelve m) one out)
+      | inr within ↦
+          every_near fixed_near deep_near (get_or signatures m d) (subst (λ s. IsTrue (is_within s)) (get_or_default signatures m (fixed []) d lt) within)
+    ]

@@ -7,12 +7,11 @@ pub mod LawLemmas
 pub mod HeadLemmas
 pub mod BuiltInLemmas
 pub mod LeadLemmas
+pub mod KnownLemmas
 pub mod PlaceLemmas
-pub mod RefusalLemmas
+pub mod DecisionLemmas
 pub mod FirstLemmas
 pub mod IndexLemmas
-pub mod SmallLemmas
-pub mod AcceptanceLemmas
 pub mod OrderLemmas
 pub mod ArrivalLemmas
 pub mod SampleLemmas

@@ -1,5 +1,13 @@
-use Rattle.infer.proofs.SmallLemmas.{never_first}
+use Rattle.std.proofs.Common.{get_or, subst, arith}
+use Rattle.infer.specs.Row.{Accepts}
+use Rattle.infer.specs.Table.{table}
+use Rattle.infer.specs.declared.rows.TheConstants.{EPUB, EXE}
+use Rattle.infer.proofs.OrderLemmas.{some_row}
 use Rattle.infer.proofs.laws.never.Goals as goal
 
 pub returns : goal.returns
-returns c = never_first
+unfolding table
+returns c = λ buf i first. (
+  λ e. first.before EXE some_row (omega arith) (omega arith) (subst (λ j. Accepts buf (get_or table j some_row)) e (first.here some_row)),
+  λ e. first.before EPUB some_row (omega arith) (omega arith) (subst (λ j. Accepts buf (get_or table j some_row)) e (first.here some_row)),
+)

@@ -1,6 +1,6 @@
 use Rattle.std.proofs.Common.{arith}
 use Rattle.infer.specs.declared.rows.TheConstants.{SHELLSCRIPT}
-use Rattle.infer.proofs.SmallLemmas.{some_row}
+use Rattle.infer.proofs.OrderLemmas.{some_row}
 use Rattle.infer.proofs.tests.laws.script_is_reached.Goals as goal
 
 pub returns : goal.returns

@@ -1,0 +1,293 @@
+-- What a computation tells of a built-in signature and a buffer.
+use Rattle.std.proofs.Common.{◌≡◌, ◌≤◌, ◌⊎◌, inl, inr, ℕ, zero, suc, ◌+◌, ◌-◌, ◌*◌, ◌/◌, List, [], ◌∷◌, ◌++◌, map, length, get_or, replicate, eqb, IsTrue, refl, ap, subst, ◌∙◌, codes, arith, lit≤, append_assoc, Bool}
+use Rattle.std.specs.Char.{to_ascii_lowercase}
+use Rattle.std.specs.List.{list_any, list_all, AllByRecursion, concat}
+use Rattle.std.proofs.lemmas.Bool.{eqb-true, eq-eqb, or_left, or_right}
+use Rattle.std.proofs.lemmas.List.Folds.{list_any-append}
+use Rattle.std.proofs.lemmas.List.Prefix.{front_fits, front_reads}
+use Rattle.std.proofs.lemmas.List.Sums.{AllPass-from_list_all}
+use Rattle.infer_deep.specs.Brands.{HasCompatible, IsAvif, IsBoxed, IsHeif}
+use Rattle.infer_deep.specs.ClassId.{compound_header, HasClassId, word_id, old_excel_id, excel_id, powerpoint_id}
+use Rattle.infer_deep.specs.Find.{OccursAt}
+use Rattle.infer_deep.specs.Frames.{IsFrame, IsFramed}
+use Rattle.infer_deep.specs.Joined.{SkipsTo}
+use Rattle.infer_deep.specs.Numbers.{le16, le32, be32}
+use Rattle.infer_deep.specs.Office.{zip_header, HasFolder, IsDecidingHeader, IsHeaderFrom, IsThirdHeader, IsOffice}
+use Rattle.infer_deep.specs.Text.{IsSpace, IsHtml, IsXml, tags}
+use Rattle.infer_deep.specs.Windows.{StandsBy}
+use Rattle.infer_sig.specs.Signature.{accepts, stands}
+use Rattle.infer.specs.BuiltIn.{BuiltIn, fixed, avif, doc, framed, heif, html, matroska, office, pdf, ppt, xls, xml, IsAccepted}
+use Rattle.infer.proofs.KnownLemmas.{Known, proved, refuted, unknown, is, same, at_most, same_text, refuted_if, both, either, needs, takes, ◌>>=◌, ◌>>◌}
+use Rattle.infer.proofs.PlaceLemmas.{ByPlace, lacks, lacked}
+use Rattle.infer.proofs.PlaceLemmas as Place
+
+-- ---- words of one kind, as white space and frames, and then a text
+
+abbrev pub behind : ℕ → List ℕ → List ℕ → List ℕ
+behind n word rest = concat (replicate n word) ++ rest
+
+each_word : (P : List ℕ → Type 0) (n : ℕ) (word : List ℕ) → P word → AllByRecursion P (replicate n word)
+each_word P zero word h = tt
+each_word P (suc n) word h = (h, each_word P n word h)
+
+skips : (P : List ℕ → Type 0) (n : ℕ) (word rest b : List ℕ) → P word → b ≡ behind n word rest → SkipsTo P b rest
+skips P n word rest b h e = record { words = replicate n word; each = each_word P n word h; whole = e }
+
+abbrev pub space : List ℕ
+space = 0x20 ∷ []
+
+-- a frame of 1028 bytes
+abbrev pub long_frame : List ℕ
+long_frame = 0x50 ∷ 0x2A ∷ 0x4D ∷ 0x18 ∷ 0xFC ∷ 0x03 ∷ 0x00 ∷ 0x00 ∷ [] ++ replicate 1020 0x00
+
+-- ---- text
+
+is_space : IsSpace space
+is_space = (0x20, inr (inr (inr (inr refl))), refl)
+
+pub spaced_html : (n : ℕ) (b : List ℕ) → b ≡ behind n space (codes "<P>") → IsHtml b
+spaced_html n b e = (
+  codes "<P>",
+  skips IsSpace n space (codes "<P>") b is_space e,
+  (
+    15,
+    codes "<P",
+    omega arith,
+    refl,
+    record {
+      word = codes "<P";
+      end = 0x3E;
+      rest = [];
+      same = refl;
+      closes = inr refl;
+      whole = refl;
+    },
+  ),
+)
+
+pub spaced_xml : (n : ℕ) (b : List ℕ) → b ≡ behind n space (codes "<?xml") → IsXml b
+spaced_xml n b e = (
+  codes "<?xml",
+  codes "<?xml",
+  skips IsSpace n space (codes "<?xml") b is_space e,
+  record { words = []; each = tt; whole = refl },
+  record {
+    word = codes "<?xml";
+    rest = [];
+    same = refl;
+    whole = refl;
+  },
+)
+
+-- a byte that is "<" in some case
+abbrev is_opening : ℕ → Bool
+is_opening x = eqb (to_ascii_lowercase x) 0x3C
+
+-- a buffer with a word in it that is a text in some case, which begins with "<", has such a byte
+opens : (front word rest text b : List ℕ) → b ≡ front ++ (word ++ rest) → map to_ascii_lowercase word ≡ map to_ascii_lowercase text
+    → get_or text 0 0 ≡ 0x3C → IsTrue (list_any is_opening b)
+opens front word rest [] b e same first = absurd (cc)
+opens front [] rest (c ∷ text) b e same first = absurd (cc)
+opens front (x ∷ word) rest (c ∷ text) b e same first =
+    let lower : to_ascii_lowercase x ≡ 0x3C = ap (λ u. get_or u 0 0) same ∙ ap to_ascii_lowercase first in
+    let here = or_left (is_opening x) (list_any is_opening (word ++ rest)) (eq-eqb (to_ascii_lowercase x) 0x3C lower) in
+    rw e (rw (list_any-append is_opening front (x ∷ word ++ rest)) (or_right (list_any is_opening front) _ here))
+
+tags_open : IsTrue (list_all (λ tag. eqb (get_or tag 0 0) 0x3C) tags)
+tags_open = refl
+
+pub html_opens : (b : List ℕ) → IsHtml b → IsTrue (list_any is_opening b)
+html_opens b (text, skips, (k, tag, l, e, h)) =
+    let first : get_or tag 0 0 ≡ 0x3C =
+    eqb-true _ _ (subst (λ t. IsTrue (eqb (get_or t 0 0) 0x3C)) e (AllPass-from_list_all (λ t. eqb (get_or t 0 0) 0x3C) tags tags_open k tag l)) in
+    opens (concat skips.words) h.word (h.end ∷ h.rest) tag b (skips.whole ∙ ap (λ u. concat skips.words ++ u) h.whole) h.same first
+
+pub xml_opens : (b : List ℕ) → IsXml b → IsTrue (list_any is_opening b)
+xml_opens b (marked, text, spaces, marks, h) =
+    let split : b ≡ concat spaces.words ++ (concat marks.words ++ (h.word ++ h.rest)) =
+    spaces.whole ∙ ap (λ u. concat spaces.words ++ u) (marks.whole ∙ ap (λ u. concat marks.words ++ u) h.whole) in
+    opens (concat spaces.words ++ concat marks.words) h.word h.rest (codes "<?xml") b (split ∙ (simp append_assoc)) h.same refl
+
+-- ---- frames
+
+pub framed_behind : ByPlace → (n : ℕ) (magic b : List ℕ) → b ≡ behind n long_frame (magic ++ []) → IsFramed magic b
+unfolding le32 stands
+framed_behind by_place n magic b e = (
+  [],
+  skips IsFrame n long_frame (magic ++ []) b (record {
+    begins = record { low = lit≤ tt; high = lit≤ tt; mark = Place.found by_place (0x2A ∷ 0x4D ∷ 0x18 ∷ []) long_frame 1 refl };
+    sized = refl;
+  }) e,
+)
+
+le32-front : (b front rest : List ℕ) → b ≡ front ++ rest → 8 ≤ length front → le32 b 4 ≡ le32 front 4
+unfolding le32
+le32-front b front rest e long =
+    let first = front_reads 0 b front rest e 4 (omega arith) in
+    let second = front_reads 0 b front rest e 5 (omega arith) in
+    let third = front_reads 0 b front rest e 6 (omega arith) in
+    let fourth = front_reads 0 b front rest e 7 (omega arith) in
+    omega arith
+
+-- the magic number stands first, or the buffer has a whole first frame
+pub begins_framed : (magic b : List ℕ) (words : List (List ℕ)) (rest : List ℕ) → AllByRecursion IsFrame words
+    → b ≡ concat words ++ (magic ++ rest) → OccursAt b magic 0 ⊎ (8 + le32 b 4 ≤ length b)
+begins_framed magic b [] rest each whole = inl (record {
+  fits = let f = front_fits b magic rest whole in omega arith;
+  reads = λ j lt. ap (λ i. get_or b i 0) (let r : 0 + j ≡ j = omega arith in r) ∙ front_reads 0 b magic rest whole j lt;
+})
+begins_framed magic b (w ∷ words) rest each whole =
+    let sized : length w ≡ 8 + le32 w 4 = each.0.sized in
+    let split : b ≡ w ++ (concat words ++ (magic ++ rest)) = whole ∙ append_assoc w (concat words) (magic ++ rest) in
+    let same = le32-front b w (concat words ++ (magic ++ rest)) split (omega arith) in
+    let long = front_fits b w (concat words ++ (magic ++ rest)) split in
+    inr (omega arith)
+
+module _ (by_place : ByPlace) (b : List ℕ) where
+  abbrev occurs : (p : ℕ) (t : List ℕ) → Known (OccursAt b t p)
+  occurs p t = Place.occurs by_place t b p
+
+  -- it may stand at p
+  abbrev stands_by : (p end : ℕ) (t : List ℕ) → Known (StandsBy t end b)
+  stands_by p end t = do
+    refuted_if (lacks 0 (suc (length b)) t b) (λ e (q, w). let f = w.stands.fits in lacked by_place t b 0 (suc (length b)) q (omega arith) (omega arith) e w.stands)
+    stands ← takes (occurs p t)
+    high ← takes (at_most (p + length t) end)
+    proved (p, record { stands = stands; low = omega arith; high = high })
+
+  abbrev known_matroska : (t : List ℕ) → Known (IsAccepted (matroska t) b)
+  known_matroska t = do
+    long ← needs (at_most 257 (length b)) (λ h. h.0)
+    begins ← needs (occurs 0 (0x1A ∷ 0x45 ∷ 0xDF ∷ 0xA3 ∷ [])) (λ h. h.1)
+    there ← needs (stands_by 4 256 t) (λ h. h.2)
+    proved (long, begins, there)
+
+  abbrev known_framed : (magic : List ℕ) → Known (IsFramed magic b)
+  known_framed magic = do
+    begins ← needs (either (occurs 0 magic) (at_most (8 + le32 b 4) (length b))) (λ (rest, s). begins_framed magic b s.words rest s.each s.whole)
+    equal ← takes (same_text b (behind (length b / 1028) long_frame (magic ++ [])))
+    proved (framed_behind by_place (length b / 1028) magic b equal)
+
+  abbrev boxed : Known (IsBoxed b)
+  boxed = do
+    long ← needs (at_most 16 (length b)) (λ h. h.long)
+    kind ← needs (occurs 4 (codes "ftyp")) (λ h. h.kind)
+    whole ← needs (at_most (be32 b 0) (length b)) (λ h. h.whole)
+    proved (record { long = long; kind = kind; whole = whole })
+
+  -- a box of less than 20 bytes has none
+  abbrev compatible : (brand : List ℕ) → Known (HasCompatible brand b)
+  compatible brand = do
+    room ← needs (at_most 20 (be32 b 0)) (λ (k, lt, o). omega arith)
+    unknown
+
+  abbrev known_heif : Known (IsHeif b)
+  known_heif =
+      both boxed (either (occurs 8 (codes "heic")) (either (occurs 8 (codes "heix"))
+      (both (either (occurs 8 (codes "mif1")) (occurs 8 (codes "msf1"))) (compatible (codes "heic")))))
+
+  abbrev known_avif : Known (IsAvif b)
+  known_avif =
+      both boxed (either (occurs 8 (codes "avif")) (either (occurs 8 (codes "avis"))
+      (either (compatible (codes "avif")) (compatible (codes "avis")))))
+
+  pub root_fits : (id : List ℕ) → HasClassId id b → (le32 b 48 + 1) * 512 + 128 ≤ length b
+  root_fits id (root, r, o) =
+      let whole = r.whole in
+      elim r.begins [ inl at ↦ let root_at = at.2 in omega arith | inr at ↦ let root_at = at.2 in omega arith ]
+
+  -- a compound file of the smaller sectors
+  abbrev known_class : (root : ℕ) (id : List ℕ) → root ≡ (le32 b 48 + 1) * 512 → Known (HasClassId id b)
+  known_class root id at = do
+    header ← needs (occurs 0 compound_header) (λ h. h.1.header)
+    whole ← needs (at_most ((le32 b 48 + 1) * 512 + 128) (length b)) (root_fits id)
+    order ← takes (occurs 28 (0xFE ∷ 0xFF ∷ []))
+    version ← takes (same (le16 b 26) 3)
+    shift ← takes (same (le16 b 30) 9)
+    kind ← takes (same (get_or b (root + 66) 0) 5)
+    here ← takes (occurs (root + 80) id)
+    proved (
+      root,
+      record {
+        header = header;
+        byte_order = order;
+        begins = inl (version, shift, at);
+        whole = omega arith;
+        kind = kind;
+      },
+      here,
+    )
+
+  abbrev folder_at : (p : ℕ) → Known (HasFolder b p)
+  folder_at p = either (occurs p (codes "word/")) (either (occurs p (codes "ppt/")) (occurs p (codes "xl/")))
+
+  abbrev header_from : (s p : ℕ) → Known (IsHeaderFrom b s p)
+  header_from s p = do
+    stands ← takes (occurs p zip_header)
+    low ← takes (at_most s p)
+    high ← takes (at_most (p + 4) (s + 6000))
+    none ← takes (is (lacks s p zip_header b))
+    proved (record {
+      here = record { stands = stands; low = low; high = high };
+      before = λ q lt h. lacked by_place zip_header b s p q h.low lt none h.stands;
+    })
+
+  pub no_second : (folder : List ℕ) → ¬ HasFolder b 30 → IsTrue (lacks (le32 b 18 + 49) (suc (length b)) zip_header b) → ¬ IsOffice folder b
+  no_second folder none e (p, d, o) = elim d.1 [
+    | inl h ↦ none h.0
+    | inr h ↦
+        let second = h.2.1.third_found.second_found.here in
+        let f = second.stands.fits in
+        lacked by_place zip_header b (le32 b 18 + 49) (suc (length b)) h.2.1.third_found.second second.low (omega arith) e second.stands
+  ]
+
+  -- the third header decides, at the place where it may stand
+  abbrev known_late : (second third : ℕ) (folder : List ℕ) → OccursAt b zip_header 0 → ¬ HasFolder b 30 → Known (IsOffice folder b)
+  known_late second third folder zip none = do
+    refuted_if (lacks (le32 b 18 + 49) (suc (length b)) zip_header b) (no_second folder none)
+    name ← takes (occurs 30 (codes "[Content_Types].xml"))
+    fits ← takes (at_most (le32 b 18 + 49) 0xFFFFFFFF)
+    second_found ← takes (header_from (le32 b 18 + 49) second)
+    third_found ← takes (header_from (second + 30) third)
+    some ← takes (folder_at (third + 30))
+    here ← takes (occurs (third + 30) folder)
+    let found : IsThirdHeader b third = record { second = second; start_fits = fits; second_found = second_found; third_found = third_found }
+    let header : IsDecidingHeader b third = record { third = third; third_found = found; decides = inl (some, refl) }
+    proved (third + 30, (zip, inr (none, inl name, (third, header, refl))), here)
+
+  abbrev known_office : (folder : List ℕ) → Known (IsOffice folder b)
+  known_office folder = do
+    zip ← needs (occurs 0 zip_header) (λ h. h.1.0)
+    elim (folder_at 30) [
+      | proved some ↦ do
+        here ← takes (occurs 30 folder)
+        proved (30, (zip, inl (some, refl)), here)
+      | refuted none ↦ known_late 1049 1079 folder zip none
+      | unknown ↦ unknown
+    ]
+
+  abbrev known_html : Known (IsHtml b)
+  known_html = do
+    some ← needs (is (list_any is_opening b)) (html_opens b)
+    equal ← takes (same_text b (behind (length b - 3) space (codes "<P>")))
+    proved (spaced_html (length b - 3) b equal)
+
+  abbrev known_xml : Known (IsXml b)
+  known_xml = do
+    some ← needs (is (list_any is_opening b)) (xml_opens b)
+    equal ← takes (same_text b (behind (length b - 5) space (codes "<?xml")))
+    proved (spaced_xml (length b - 5) b equal)
+
+  abbrev pub known : (s : BuiltIn) → Known (IsAccepted s b)
+  known (fixed alternatives) = is (accepts alternatives b)
+  known pdf = stands_by 0 1024 (codes "%PDF")
+  known (matroska t) = known_matroska t
+  known (framed magic) = known_framed magic
+  known heif = known_heif
+  known avif = known_avif
+  known (office folder) = known_office folder
+  known doc = known_class ((le32 b 48 + 1) * 512) word_id refl
+  known xls = either (known_class ((le32 b 48 + 1) * 512) old_excel_id refl) (known_class ((le32 b 48 + 1) * 512) excel_id refl)
+  known ppt = known_class ((le32 b 48 + 1) * 512) powerpoint_id refl
+  known html = known_html
+  known xml = known_xml

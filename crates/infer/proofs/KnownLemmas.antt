@@ -1,0 +1,83 @@
+-- What a computation tells of a claim: a proof of it, a proof that it fails, or nothing.
+use Rattle.std.proofs.Common.{◌≡◌, ◌≤◌, ◌⊎◌, inl, inr, ℕ, Bool, true, false, List, eqb, leb, IsTrue, refl}
+use Rattle.std.specs.Bool.{Decides}
+use Rattle.std.specs.Str.{bytes_eq}
+use Rattle.std.proofs.lemmas.Bool.{leb-true, le-leb}
+use Rattle.std.proofs.lemmas.Bool.Decides.{Decides-eqb, not_from_Decides}
+use Rattle.std.proofs.lemmas.Slice.Eq.{bytes_eq-Decides}
+
+pub data Known (P : Type 0) : Type 0 where
+  proved : P → Known P
+  refuted : ¬ P → Known P
+  unknown : Known P
+
+module _ {P : Type 0} where
+  abbrev pub is_proved : Known P → Bool
+  is_proved (proved h) = true
+  is_proved k = false
+
+  abbrev pub is_refuted : Known P → Bool
+  is_refuted (refuted h) = true
+  is_refuted k = false
+
+  pub proof_of : (k : Known P) → IsTrue (is_proved k) → P
+  proof_of (proved h) e = h
+  proof_of k e = absurd (cc)
+
+  pub refutation_of : (k : Known P) → IsTrue (is_refuted k) → ¬ P
+  refutation_of (refuted h) e = h
+  refutation_of k e = absurd (cc)
+
+  -- by a test that is enough for the claim, or against it, or that decides it
+  abbrev pub proved_if : (r : Bool) → (IsTrue r → P) → Known P
+  proved_if true h = proved (h refl)
+  proved_if false h = unknown
+
+  abbrev pub refuted_if : (r : Bool) → (IsTrue r → ¬ P) → Known P
+  refuted_if true h = refuted (h refl)
+  refuted_if false h = unknown
+
+  abbrev pub decided : (r : Bool) → Decides r P → Known P
+  decided true d = proved (d.0 refl)
+  decided false d = refuted (not_from_Decides false d refl)
+
+  -- what the first tells, and where it tells nothing what the second does
+  abbrev pub ◌>>◌ : Known P → Known P → Known P
+  ◌>>◌ unknown k = k
+  ◌>>◌ h k = h
+
+abbrev pub is : (r : Bool) → Known (IsTrue r)
+is r = decided r ((λ h. h), (λ h. h))
+
+abbrev pub same : (m n : ℕ) → Known (m ≡ n)
+same m n = decided (eqb m n) (Decides-eqb m n)
+
+abbrev pub at_most : (m n : ℕ) → Known (m ≤ n)
+at_most m n = decided (leb m n) (leb-true m n, le-leb m n)
+
+abbrev pub same_text : (v w : List ℕ) → Known (v ≡ w)
+same_text v w = decided (bytes_eq v w) (bytes_eq-Decides v w)
+
+module _ {P Q : Type 0} where
+  abbrev pub both : Known P → Known Q → Known (P × Q)
+  both (proved p) (proved q) = proved (p, q)
+  both (refuted h) k = refuted (λ s. h s.0)
+  both k (refuted h) = refuted (λ s. h s.1)
+  both h k = unknown
+
+  abbrev pub either : Known P → Known Q → Known (P ⊎ Q)
+  either (proved p) k = proved (inl p)
+  either k (proved q) = proved (inr q)
+  either (refuted h) (refuted g) = refuted (λ s. elim s [ inl p ↦ h p | inr q ↦ g q ])
+  either h k = unknown
+
+-- a step on the way to Q: a claim P that Q needs, or one that helps to prove it
+pub data Step (P Q : Type 0) : Type 0 where
+  needs : Known P → (Q → P) → Step P Q
+  takes : Known P → Step P Q
+
+abbrev pub ◌>>=◌ : {P Q : Type 0} → Step P Q → (P → Known Q) → Known Q
+◌>>=◌ (needs (proved p) from) next = next p
+◌>>=◌ (needs (refuted h) from) next = refuted (λ q. h (from q))
+◌>>=◌ (takes (proved p)) next = next p
+◌>>=◌ step next = unknown
