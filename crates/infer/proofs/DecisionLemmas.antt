@@ -6,14 +6,14 @@ use Rattle.std.proofs.lemmas.Bool.{eqb-true, eq-eqb, or_left, or_right}
 use Rattle.std.proofs.lemmas.List.Folds.{list_any-append}
 use Rattle.std.proofs.lemmas.List.Prefix.{front_fits, front_reads}
 use Rattle.std.proofs.lemmas.List.Sums.{AllPass-from_list_all}
-use Rattle.infer_deep.specs.Brands.{HasCompatible, IsAvif, IsBoxed, IsHeif}
-use Rattle.infer_deep.specs.ClassId.{compound_header, HasClassId, word_id, old_excel_id, excel_id, powerpoint_id}
+use Rattle.infer_deep.specs.Brands.{HasCompatible, IsBoxed}
+use Rattle.infer_deep.specs.ClassId.{compound_header, HasClassId, IsRoot, word_id, old_excel_id, excel_id, powerpoint_id}
 use Rattle.infer_deep.specs.Find.{OccursAt}
 use Rattle.infer_deep.specs.Frames.{IsFrame, IsFramed}
 use Rattle.infer_deep.specs.Joined.{SkipsTo}
 use Rattle.infer_deep.specs.Numbers.{le16, le32, be32}
 use Rattle.infer_deep.specs.Office.{zip_header, HasFolder, IsDecidingHeader, IsHeaderFrom, IsThirdHeader, IsOffice}
-use Rattle.infer_deep.specs.Text.{IsSpace, IsHtml, IsXml, tags}
+use Rattle.infer_deep.specs.Text.{BeginsWithTag, IsHtml, IsMark, IsSpace, IsXml, tags}
 use Rattle.infer_deep.specs.Windows.{StandsBy}
 use Rattle.infer_sig.specs.Signature.{accepts, stands}
 use Rattle.infer.specs.BuiltIn.{BuiltIn, fixed, avif, doc, framed, heif, html, matroska, office, pdf, ppt, xls, xml, IsAccepted}
@@ -42,42 +42,18 @@ long_frame = 0x50 ∷ 0x2A ∷ 0x4D ∷ 0x18 ∷ 0xFC ∷ 0x03 ∷ 0x00 ∷ 0x00
 
 -- ---- text
 
-is_space : IsSpace space
-is_space = (0x20, inr (inr (inr (inr refl))), refl)
+spaced : (n : ℕ) (rest b : List ℕ) → b ≡ behind n space rest → SkipsTo IsSpace b rest
+spaced n rest b e = skips IsSpace n space rest b (0x20, inr (inr (inr (inr refl))), refl) e
 
 pub spaced_html : (n : ℕ) (b : List ℕ) → b ≡ behind n space (codes "<P>") → IsHtml b
-spaced_html n b e = (
-  codes "<P>",
-  skips IsSpace n space (codes "<P>") b is_space e,
-  (
-    15,
-    codes "<P",
-    omega arith,
-    refl,
-    record {
-      word = codes "<P";
-      end = 0x3E;
-      rest = [];
-      same = refl;
-      closes = inr refl;
-      whole = refl;
-    },
-  ),
-)
+spaced_html n b e =
+    let tag : BeginsWithTag (codes "<P") (codes "<P>") = record { word = codes "<P"; end = 0x3E; rest = []; same = refl; closes = inr refl; whole = refl } in
+    (codes "<P>", spaced n (codes "<P>") b e, (15, codes "<P", omega arith, refl, tag))
 
 pub spaced_xml : (n : ℕ) (b : List ℕ) → b ≡ behind n space (codes "<?xml") → IsXml b
-spaced_xml n b e = (
-  codes "<?xml",
-  codes "<?xml",
-  skips IsSpace n space (codes "<?xml") b is_space e,
-  record { words = []; each = tt; whole = refl },
-  record {
-    word = codes "<?xml";
-    rest = [];
-    same = refl;
-    whole = refl;
-  },
-)
+spaced_xml n b e =
+    let unmarked : SkipsTo IsMark (codes "<?xml") (codes "<?xml") = record { words = []; each = tt; whole = refl } in
+    (codes "<?xml", codes "<?xml", spaced n (codes "<?xml") b e, unmarked, record { word = codes "<?xml"; rest = []; same = refl; whole = refl })
 
 -- a byte that is "<" in some case
 abbrev is_opening : ℕ → Bool
@@ -100,13 +76,12 @@ pub html_opens : (b : List ℕ) → IsHtml b → IsTrue (list_any is_opening b)
 html_opens b (text, skips, (k, tag, l, e, h)) =
     let first : get_or tag 0 0 ≡ 0x3C =
     eqb-true _ _ (subst (λ t. IsTrue (eqb (get_or t 0 0) 0x3C)) e (AllPass-from_list_all (λ t. eqb (get_or t 0 0) 0x3C) tags tags_open k tag l)) in
-    opens (concat skips.words) h.word (h.end ∷ h.rest) tag b (skips.whole ∙ ap (λ u. concat skips.words ++ u) h.whole) h.same first
+    opens (concat skips.words) h.word (h.end ∷ h.rest) tag b (cc) h.same first
 
 pub xml_opens : (b : List ℕ) → IsXml b → IsTrue (list_any is_opening b)
 xml_opens b (marked, text, spaces, marks, h) =
-    let split : b ≡ concat spaces.words ++ (concat marks.words ++ (h.word ++ h.rest)) =
-    spaces.whole ∙ ap (λ u. concat spaces.words ++ u) (marks.whole ∙ ap (λ u. concat marks.words ++ u) h.whole) in
-    opens (concat spaces.words ++ concat marks.words) h.word h.rest (codes "<?xml") b (split ∙ (simp append_assoc)) h.same refl
+    let joined = append_assoc (concat spaces.words) (concat marks.words) (h.word ++ h.rest) in
+    opens (concat spaces.words ++ concat marks.words) h.word h.rest (codes "<?xml") b (cc) h.same refl
 
 -- ---- frames
 
@@ -122,12 +97,7 @@ framed_behind by_place n magic b e = (
 
 le32-front : (b front rest : List ℕ) → b ≡ front ++ rest → 8 ≤ length front → le32 b 4 ≡ le32 front 4
 unfolding le32
-le32-front b front rest e long =
-    let first = front_reads 0 b front rest e 4 (omega arith) in
-    let second = front_reads 0 b front rest e 5 (omega arith) in
-    let third = front_reads 0 b front rest e 6 (omega arith) in
-    let fourth = front_reads 0 b front rest e 7 (omega arith) in
-    omega arith
+le32-front b front rest e long = omega (arith, front_reads 0 b front rest e)
 
 -- the magic number stands first, or the buffer has a whole first frame
 pub begins_framed : (magic b : List ℕ) (words : List (List ℕ)) (rest : List ℕ) → AllByRecursion IsFrame words
@@ -155,19 +125,6 @@ module _ (by_place : ByPlace) (b : List ℕ) where
     high ← takes (at_most (p + length t) end)
     proved (p, record { stands = stands; low = omega arith; high = high })
 
-  abbrev known_matroska : (t : List ℕ) → Known (IsAccepted (matroska t) b)
-  known_matroska t = do
-    long ← needs (at_most 257 (length b)) (λ h. h.0)
-    begins ← needs (occurs 0 (0x1A ∷ 0x45 ∷ 0xDF ∷ 0xA3 ∷ [])) (λ h. h.1)
-    there ← needs (stands_by 4 256 t) (λ h. h.2)
-    proved (long, begins, there)
-
-  abbrev known_framed : (magic : List ℕ) → Known (IsFramed magic b)
-  known_framed magic = do
-    begins ← needs (either (occurs 0 magic) (at_most (8 + le32 b 4) (length b))) (λ (rest, s). begins_framed magic b s.words rest s.each s.whole)
-    equal ← takes (same_text b (behind (length b / 1028) long_frame (magic ++ [])))
-    proved (framed_behind by_place (length b / 1028) magic b equal)
-
   abbrev boxed : Known (IsBoxed b)
   boxed = do
     long ← needs (at_most 16 (length b)) (λ h. h.long)
@@ -181,42 +138,26 @@ module _ (by_place : ByPlace) (b : List ℕ) where
     room ← needs (at_most 20 (be32 b 0)) (λ (k, lt, o). omega arith)
     unknown
 
-  abbrev known_heif : Known (IsHeif b)
-  known_heif =
-      both boxed (either (occurs 8 (codes "heic")) (either (occurs 8 (codes "heix"))
-      (both (either (occurs 8 (codes "mif1")) (occurs 8 (codes "msf1"))) (compatible (codes "heic")))))
+  -- where the sectors are the smaller
+  abbrev root : ℕ
+  root = (le32 b 48 + 1) * 512
 
-  abbrev known_avif : Known (IsAvif b)
-  known_avif =
-      both boxed (either (occurs 8 (codes "avif")) (either (occurs 8 (codes "avis"))
-      (either (compatible (codes "avif")) (compatible (codes "avis")))))
-
-  pub root_fits : (id : List ℕ) → HasClassId id b → (le32 b 48 + 1) * 512 + 128 ≤ length b
-  root_fits id (root, r, o) =
+  pub root_fits : (id : List ℕ) → HasClassId id b → root + 128 ≤ length b
+  root_fits id (place, r, o) =
       let whole = r.whole in
       elim r.begins [ inl at ↦ let root_at = at.2 in omega arith | inr at ↦ let root_at = at.2 in omega arith ]
 
-  -- a compound file of the smaller sectors
-  abbrev known_class : (root : ℕ) (id : List ℕ) → root ≡ (le32 b 48 + 1) * 512 → Known (HasClassId id b)
-  known_class root id at = do
+  abbrev known_class : (id : List ℕ) → Known (HasClassId id b)
+  known_class id = do
     header ← needs (occurs 0 compound_header) (λ h. h.1.header)
-    whole ← needs (at_most ((le32 b 48 + 1) * 512 + 128) (length b)) (root_fits id)
+    whole ← needs (at_most (root + 128) (length b)) (root_fits id)
     order ← takes (occurs 28 (0xFE ∷ 0xFF ∷ []))
     version ← takes (same (le16 b 26) 3)
     shift ← takes (same (le16 b 30) 9)
     kind ← takes (same (get_or b (root + 66) 0) 5)
     here ← takes (occurs (root + 80) id)
-    proved (
-      root,
-      record {
-        header = header;
-        byte_order = order;
-        begins = inl (version, shift, at);
-        whole = omega arith;
-        kind = kind;
-      },
-      here,
-    )
+    let found : IsRoot b root = record { header = header; byte_order = order; begins = inl (version, shift, refl); whole = whole; kind = kind }
+    proved (root, found, here)
 
   abbrev folder_at : (p : ℕ) → Known (HasFolder b p)
   folder_at p = either (occurs p (codes "word/")) (either (occurs p (codes "ppt/")) (occurs p (codes "xl/")))
@@ -255,8 +196,25 @@ module _ (by_place : ByPlace) (b : List ℕ) where
     let header : IsDecidingHeader b third = record { third = third; third_found = found; decides = inl (some, refl) }
     proved (third + 30, (zip, inr (none, inl name, (third, header, refl))), here)
 
-  abbrev known_office : (folder : List ℕ) → Known (IsOffice folder b)
-  known_office folder = do
+  abbrev pub known : (s : BuiltIn) → Known (IsAccepted s b)
+  known (fixed alternatives) = is (accepts alternatives b)
+  known pdf = stands_by 0 1024 (codes "%PDF")
+  known (matroska t) = do
+    long ← needs (at_most 257 (length b)) (λ h. h.0)
+    begins ← needs (occurs 0 (0x1A ∷ 0x45 ∷ 0xDF ∷ 0xA3 ∷ [])) (λ h. h.1)
+    there ← needs (stands_by 4 256 t) (λ h. h.2)
+    proved (long, begins, there)
+  known (framed magic) = do
+    begins ← needs (either (occurs 0 magic) (at_most (8 + le32 b 4) (length b))) (λ (rest, s). begins_framed magic b s.words rest s.each s.whole)
+    equal ← takes (same_text b (behind (length b / 1028) long_frame (magic ++ [])))
+    proved (framed_behind by_place (length b / 1028) magic b equal)
+  known heif =
+      both boxed (either (occurs 8 (codes "heic")) (either (occurs 8 (codes "heix"))
+      (both (either (occurs 8 (codes "mif1")) (occurs 8 (codes "msf1"))) (compatible (codes "heic")))))
+  known avif =
+      both boxed (either (occurs 8 (codes "avif")) (either (occurs 8 (codes "avis"))
+      (either (compatible (codes "avif")) (compatible (codes "avis")))))
+  known (office folder) = do
     zip ← needs (occurs 0 zip_header) (λ h. h.1.0)
     elim (folder_at 30) [
       | proved some ↦ do
@@ -265,29 +223,14 @@ module _ (by_place : ByPlace) (b : List ℕ) where
       | refuted none ↦ known_late 1049 1079 folder zip none
       | unknown ↦ unknown
     ]
-
-  abbrev known_html : Known (IsHtml b)
-  known_html = do
+  known doc = known_class word_id
+  known xls = either (known_class old_excel_id) (known_class excel_id)
+  known ppt = known_class powerpoint_id
+  known html = do
     some ← needs (is (list_any is_opening b)) (html_opens b)
     equal ← takes (same_text b (behind (length b - 3) space (codes "<P>")))
     proved (spaced_html (length b - 3) b equal)
-
-  abbrev known_xml : Known (IsXml b)
-  known_xml = do
+  known xml = do
     some ← needs (is (list_any is_opening b)) (xml_opens b)
     equal ← takes (same_text b (behind (length b - 5) space (codes "<?xml")))
     proved (spaced_xml (length b - 5) b equal)
-
-  abbrev pub known : (s : BuiltIn) → Known (IsAccepted s b)
-  known (fixed alternatives) = is (accepts alternatives b)
-  known pdf = stands_by 0 1024 (codes "%PDF")
-  known (matroska t) = known_matroska t
-  known (framed magic) = known_framed magic
-  known heif = known_heif
-  known avif = known_avif
-  known (office folder) = known_office folder
-  known doc = known_class ((le32 b 48 + 1) * 512) word_id refl
-  known xls = either (known_class ((le32 b 48 + 1) * 512) old_excel_id refl) (known_class ((le32 b 48 + 1) * 512) excel_id refl)
-  known ppt = known_class ((le32 b 48 + 1) * 512) powerpoint_id refl
-  known html = known_html
-  known xml = known_xml
