@@ -39,26 +39,19 @@ late_entries folder =
     put 1165 folder (put 1135 zip_header (put 1109 folder (put 1079 zip_header (put 1049 zip_header
     (put 30 (codes "[Content_Types].xml") (put 0 zip_header (zeros (1165 + length folder))))))))
 
--- a buffer that the signature accepts by what stands behind them
-abbrev late : BuiltIn → List ℕ
-late (framed magic) = behind 1 long_frame magic
-late (office folder) = late_entries folder
-late doc = late_root word_id
-late xls = late_root old_excel_id
-late ppt = late_root powerpoint_id
-late html = behind 1024 space (sample_of html)
-late xml = behind 1024 space (sample_of xml)
-late heif = long_box (sample_of heif)
-late avif = long_box (sample_of avif)
-late s = []
-
--- the answer on the first 1024 bytes: other rows know the beginning of a compound file and of an archive
-abbrev front_answer : BuiltIn → Option ℕ
-front_answer (office folder) = Some ZIP
-front_answer doc = Some MSI
-front_answer xls = Some MSI
-front_answer ppt = Some MSI
-front_answer _ = None
+-- a buffer that the signature accepts by what stands behind them, and the answer on the first 1024 bytes: other rows
+-- know the beginning of a compound file and of an archive
+abbrev late : BuiltIn → List ℕ × Option ℕ
+late heif = (long_box (sample_of heif), None)
+late avif = (long_box (sample_of avif), None)
+late (framed magic) = (behind 1 long_frame magic, None)
+late (office folder) = (late_entries folder, Some ZIP)
+late doc = (late_root word_id, Some MSI)
+late xls = (late_root old_excel_id, Some MSI)
+late ppt = (late_root powerpoint_id, Some MSI)
+late html = (behind 1024 space (sample_of html), None)
+late xml = (behind 1024 space (sample_of xml), None)
+late s = ([], None)
 
 is_buffer : (b : List ℕ) → IsTrue (list_all (λ x. ltb x 256) b) → IsBuffer b
 is_buffer b e k d lt = ltb-true (get_or b k d) 256 (AllPass-from_list_all (λ x. ltb x 256) b e k d lt)
@@ -79,8 +72,8 @@ module _ (by_place : ByPlace) (exclude : Deep.Apart) where
     other ← takes (differs i o)
     proved (record { bytes = bytes; first = first; front = o; front_first = front_first; other = other })
 
-  abbrev breaks : (i : ℕ) → Known (Breaks i (late (signature_of i)))
-  breaks i = breaks_with i (front_answer (signature_of i)) (late (signature_of i))
+  abbrev breaks : (i : ℕ) → Known (Breaks i (late (signature_of i)).0)
+  breaks i = breaks_with i (late (signature_of i)).1 (late (signature_of i)).0
 
   abbrev breaks_if : ℕ → Bool
   breaks_if i = not (is_of_the_twelve i) || is_proved (breaks i)
@@ -96,5 +89,5 @@ module _ (by_place : ByPlace) (exclude : Deep.Apart) where
   pub broken : (i : ℕ) → IsTrue (is_of_the_twelve i) → (buf : List ℕ) × Breaks i buf
   broken i e = elim (or_cases (not (is_of_the_twelve i)) _ (passed breaks_if ROW_COUNT 8 all_break (omega arith) i (twelve_within i e))) [
     | inl other ↦ absurd (not_both (is_of_the_twelve i) e other)
-    | inr h ↦ (late (signature_of i), proof_of (breaks i) h)
+    | inr h ↦ ((late (signature_of i)).0, proof_of (breaks i) h)
   ]

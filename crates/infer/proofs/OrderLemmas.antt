@@ -1,7 +1,7 @@
 -- What a computation tells of the first row that accepts a buffer.
-use Rattle.std.proofs.Common.{◌≡◌, ◌≢◌, ◌<◌, ℕ, Bool, true, ◌&&◌, ◌||◌, not, List, [], Option, None, Some, length, get_or, take, eqb, ltb, IsTrue, subst, arith, inl, inr}
+use Rattle.std.proofs.Common.{◌≡◌, ◌≢◌, ◌<◌, ℕ, Bool, true, ◌&&◌, not, List, [], Option, None, Some, length, get_or, take, eqb, ltb, IsTrue, subst, arith, inl, inr}
 use Rattle.std.specs.List.{list_all}
-use Rattle.std.proofs.lemmas.Bool.{and_parts, or_cases, ltb-true}
+use Rattle.std.proofs.lemmas.Bool.{and_parts, ltb-true}
 use Rattle.std.proofs.lemmas.List.{get_or_default, get_or-take, length-take-le}
 use Rattle.std.proofs.lemmas.List.Sums.{AllPass-from_list_all}
 use Rattle.std.proofs.lemmas.Bool.Decides.{nat_tests}
@@ -16,7 +16,7 @@ use Rattle.infer.specs.Table.{table, row}
 use Rattle.infer.specs.declared.file_type.MatcherType.TheVariants.{Text}
 use Rattle.infer.specs.declared.rows.TheConstants.{ROW_COUNT}
 use Rattle.infer.proofs.DecisionLemmas.{known}
-use Rattle.infer.proofs.KnownLemmas.{Known, proved, unknown, proved_if, is_proved, is_refuted, proof_of, refutation_of}
+use Rattle.infer.proofs.KnownLemmas.{Known, proved, unknown, proved_if, is_proved, is_refuted, proof_of, refutation_of, ◌>>◌}
 use Rattle.infer.proofs.PlaceLemmas.{ByPlace}
 use Rattle.infer.proofs.TableLemmas.{length-table}
 
@@ -68,18 +68,14 @@ none_accepts by_place b = proved_if (list_all (λ r. is_refuted (known by_place 
 
 module _ (by_place : ByPlace) (exclude : Deep.Apart) where
   -- a buffer that has the signature lacks that of the row
-  abbrev lacks_row : BuiltIn → List ℕ → Row BuiltIn → Bool
-  lacks_row s b r = is_proved (exclusion exclude s r.signature) || is_refuted (known by_place b r.signature)
-
-  lacking : (b : List ℕ) (s : BuiltIn) → IsAccepted s b → (r : Row BuiltIn) → IsTrue (lacks_row s b r) → ¬ Accepts b r
-  lacking b s accepted r e = elim (or_cases (is_proved (exclusion exclude s r.signature)) _ e) [
-    | inl k ↦ proof_of (exclusion exclude s r.signature) k b accepted
-    | inr k ↦ refutation_of (known by_place b r.signature) k
-  ]
+  abbrev lacks_row : (s : BuiltIn) (b : List ℕ) (r : Row BuiltIn) → Known (IsAccepted s b → ¬ Accepts b r)
+  lacks_row s b r = do
+    proved_if (is_proved (exclusion exclude s r.signature)) (λ k. proof_of (exclusion exclude s r.signature) k b)
+    proved_if (is_refuted (known by_place b r.signature)) (λ k accepted. refutation_of (known by_place b r.signature) k)
 
   -- the signature of row i accepts the buffer, and those before it do not
   abbrev is_first : List ℕ → ℕ → BuiltIn → Bool
-  is_first b i s = ltb i ROW_COUNT && (is_proved (known by_place b s) && list_all (lacks_row s b) (take i table))
+  is_first b i s = ltb i ROW_COUNT && (is_proved (known by_place b s) && list_all (λ r. is_proved (lacks_row s b r)) (take i table))
 
   pub first_by_test : (b : List ℕ) (i : ℕ) (d : Row BuiltIn) → IsTrue (is_first b i (get_or table i d).signature) → IsFirst (Accepts b) table i
   first_by_test b i d e =
@@ -93,8 +89,8 @@ module _ (by_place : ByPlace) (exclude : Deep.Apart) where
         here = λ c. subst (Accepts b) (get_or_default table i d c lt) yes;
         before = λ k c low below.
             let long : k < length (take i table) = omega (arith, length-take-le i table (omega arith)) in
-            let no = lacking b s yes (get_or (take i table) k c) (AllPass-from_list_all (lacks_row s b) (take i table) tests.1 k c long) in
-            subst (λ (r : Row BuiltIn). ¬ Accepts b r) (get_or-take i table k c below) no;
+            let test = AllPass-from_list_all (λ r. is_proved (lacks_row s b r)) (take i table) tests.1 k c long in
+            subst (λ (r : Row BuiltIn). ¬ Accepts b r) (get_or-take i table k c below) (proof_of (lacks_row s b (get_or (take i table) k c)) test yes);
       }
 
   abbrev pub known_first : (d : Row BuiltIn) (o : Option ℕ) (b : List ℕ) → Known (IsFirstOf (Accepts b) table o)
