@@ -1,47 +1,75 @@
--- Brands: they last, and an open box is no whole one.
-use Rattle.std.proofs.Common.{◌≡◌, ℕ, ◌+◌, ◌-◌, ◌*◌, ◌/◌, ◌<◌, ◌⊎◌, List, ◌++◌, sym, subst, inl, inr, arith, length-append}
-use Rattle.infer_deep.specs.Numbers.{be32}
-use Rattle.infer_deep.specs.Signatures.{IsLasting, AreApart}
-use Rattle.infer_deep.proofs.PlaceLemmas.{OccursAt-append}
+-- Brands of a boxed file: they last, and only to an open box do more bytes bring them.
+use Rattle.std.proofs.Common.{◌≡◌, ℕ, ◌+◌, ◌-◌, ◌*◌, ◌/◌, ◌<◌, ◌≤◌, List, ◌++◌, length, sym, subst, inl, inr, arith, length-append}
+use Rattle.std.proofs.lemmas.Bool.{cases_lt}
+use Rattle.infer_deep.specs.Signatures.{Lasts, AreApart, ComesWith, IsEarly}
+use Rattle.infer_deep.proofs.PlaceLemmas.{Carries, OccursAt-append, OccursAt-front}
 use Rattle.infer_deep.proofs.NumberLemmas.{be32-append}
-use Rattle.infer_deep.specs.Brands.{IsBoxed, IsOpenBox, HasMajor, HasCompatible, IsHeif, IsAvif}
+use Rattle.infer_deep.specs.Brands.{box_length, IsBoxed, IsOpenBox, HasMajor, HasCompatible, IsHeif, IsAvif}
 
 pub open-apart_boxed : AreApart IsOpenBox IsBoxed
 open-apart_boxed b o box = let l = o.longer in let w = box.whole in omega arith
 
-module _ (b more : List ℕ) (box : IsBoxed b) where
-  same_size : be32 (b ++ more) 0 ≡ be32 b 0
-  same_size = let l = box.long in be32-append b more 0 (omega arith)
+pub IsOpenBox-early : IsEarly IsOpenBox
+IsOpenBox-early b more long o =
+    let same = be32-append b more 0 (omega arith) in
+    let l = o.longer in
+    record { kind = OccursAt-front b more _ 4 (omega arith) o.kind; longer = omega (arith, length-append b more) }
 
-  IsBoxed-append : IsBoxed (b ++ more)
-  IsBoxed-append =
+-- the brands of a boxed file are those of each that has the same box
+module _ (b c : List ℕ) (n : ℕ) (carries : Carries n b c) (size : box_length b ≡ box_length c) (long : 12 ≤ n) (whole : box_length c ≤ n) where
+  major : (brand : List ℕ) → length brand ≤ 4 → HasMajor brand b → HasMajor brand c
+  major brand short o = carries brand 8 (omega arith) o
+
+  compatible : (brand : List ℕ) → length brand ≤ 4 → HasCompatible brand b → HasCompatible brand c
+  compatible brand short (k, l, o) =
+      let here = subst (λ s. k < s / 4 - 4) size l in (k, here, carries brand (16 + 4 * k) (omega arith) o)
+
+  IsHeif-carried : IsBoxed c → IsHeif b → IsHeif c
+  IsHeif-carried box (_, inl o) = (box, inl (major _ (omega arith) o))
+  IsHeif-carried box (_, inr (inl o)) = (box, inr (inl (major _ (omega arith) o)))
+  IsHeif-carried box (_, inr (inr (inl o, k))) = (box, inr (inr (inl (major _ (omega arith) o), compatible _ (omega arith) k)))
+  IsHeif-carried box (_, inr (inr (inr o, k))) = (box, inr (inr (inr (major _ (omega arith) o), compatible _ (omega arith) k)))
+
+  IsAvif-carried : IsBoxed c → IsAvif b → IsAvif c
+  IsAvif-carried box (_, inl o) = (box, inl (major _ (omega arith) o))
+  IsAvif-carried box (_, inr (inl o)) = (box, inr (inl (major _ (omega arith) o)))
+  IsAvif-carried box (_, inr (inr (inl k))) = (box, inr (inr (inl (compatible _ (omega arith) k))))
+  IsAvif-carried box (_, inr (inr (inr k))) = (box, inr (inr (inr (compatible _ (omega arith) k))))
+
+-- a property of boxed files that is carried so
+module _ (S : List ℕ → Type 0) (boxed : (b : List ℕ) → S b → IsBoxed b) (carried : (b c : List ℕ) (n : ℕ)
+    → Carries n b c → box_length b ≡ box_length c → 12 ≤ n → box_length c ≤ n → IsBoxed c → S b → S c) where
+  boxed-lasts : Lasts S
+  boxed-lasts b more x =
+      let box = boxed b x in
       let l = box.long in
       let w = box.whole in
-      let s = same_size in
-      record {
+      let size = be32-append b more 0 (omega arith) in
+      carried b (b ++ more) (length b) (λ text p within o. OccursAt-append b more text p o) (sym size) (omega arith) (omega arith)
+      (record {
         long = omega (arith, length-append b more);
         kind = OccursAt-append b more _ 4 box.kind;
         whole = omega (arith, length-append b more);
-      }
+      }) x
 
-  HasCompatible-append : (brand : List ℕ) → HasCompatible brand b → HasCompatible brand (b ++ more)
-  HasCompatible-append brand (k, l, o) =
-      (k, subst (λ s. k < s / 4 - 4) (sym same_size) l, OccursAt-append b more brand (16 + 4 * k) o)
+  boxed-comes : ComesWith S IsOpenBox
+  boxed-comes b more long x =
+      let kind = OccursAt-front b more _ 4 (omega arith) (boxed (b ++ more) x).kind in
+      let size = be32-append b more 0 (omega arith) in
+      elim (cases_lt (length b) (box_length b)) [
+        | inl l ↦ inr (record { kind = kind; longer = l })
+        | inr l ↦ inl (carried (b ++ more) b (length b) (OccursAt-front b more) size (omega arith) l
+            (record { long = omega arith; kind = kind; whole = l }) x)
+      ]
 
-either-append : (v w b more : List ℕ) → HasMajor v b ⊎ HasMajor w b → HasMajor v (b ++ more) ⊎ HasMajor w (b ++ more)
-either-append v w b more (inl o) = inl (OccursAt-append b more v 8 o)
-either-append v w b more (inr o) = inr (OccursAt-append b more w 8 o)
+pub IsHeif-lasts : Lasts IsHeif
+IsHeif-lasts = boxed-lasts IsHeif (λ b h. h.0) IsHeif-carried
 
-pub IsHeif-lasting : IsLasting IsHeif
-IsHeif-lasting b more (box, inl o) = (IsBoxed-append b more box, inl (OccursAt-append b more _ 8 o))
-IsHeif-lasting b more (box, inr (inl o)) = (IsBoxed-append b more box, inr (inl (OccursAt-append b more _ 8 o)))
-IsHeif-lasting b more (box, inr (inr (m, c))) =
-    (IsBoxed-append b more box, inr (inr (either-append _ _ b more m, HasCompatible-append b more box _ c)))
+pub IsHeif-comes : ComesWith IsHeif IsOpenBox
+IsHeif-comes = boxed-comes IsHeif (λ b h. h.0) IsHeif-carried
 
-pub IsAvif-lasting : IsLasting IsAvif
-IsAvif-lasting b more (box, inl o) = (IsBoxed-append b more box, inl (OccursAt-append b more _ 8 o))
-IsAvif-lasting b more (box, inr (inl o)) = (IsBoxed-append b more box, inr (inl (OccursAt-append b more _ 8 o)))
-IsAvif-lasting b more (box, inr (inr (inl c))) =
-    (IsBoxed-append b more box, inr (inr (inl (HasCompatible-append b more box _ c))))
-IsAvif-lasting b more (box, inr (inr (inr c))) =
-    (IsBoxed-append b more box, inr (inr (inr (HasCompatible-append b more box _ c))))
+pub IsAvif-lasts : Lasts IsAvif
+IsAvif-lasts = boxed-lasts IsAvif (λ b h. h.0) IsAvif-carried
+
+pub IsAvif-comes : ComesWith IsAvif IsOpenBox
+IsAvif-comes = boxed-comes IsAvif (λ b h. h.0) IsAvif-carried

@@ -1,22 +1,25 @@
--- Skippable frames: where one stands at the front, and that it stands there in one way.
+-- Skippable frames: where one stands at the front, and what is data behind them.
 use Rattle.std.proofs.Common.{◌≡◌, ◌↔◌, ℕ, ◌+◌, ◌-◌, ◌<◌, ◌≤◌, ◌⊎◌, inl, inr, List, ◌∷◌, ◌++◌, length, get_or, take, drop, refl, sym, ap, subst, ◌∙◌, arith, length-append}
-use Rattle.std.proofs.lemmas.List.{append_assoc, take_rest, take-append-drop, length-take-le, get_or_append_left}
+use Rattle.std.proofs.lemmas.List.{take_rest, take-append-drop, length-take-le, get_or_append_left}
 use Rattle.infer_deep.specs.Numbers.{le32}
-use Rattle.infer_deep.specs.Signatures.{IsLasting}
-use Rattle.infer_deep.specs.Joined.{SkipsTo, NoneBegins, BeginsWith}
-use Rattle.infer_deep.proofs.PlaceLemmas.{OccursAt-append, OccursAt-first, OccursAt-front, OccursAt-begins, begins-from_OccursAt}
+use Rattle.infer_deep.specs.Signatures.{Lasts, ComesWith, AreApart, IsEarly}
+use Rattle.infer_deep.specs.Joined.{Behind, SkipsTo, NoneBegins, BeginsWith}
+use Rattle.infer_deep.proofs.PlaceLemmas.{OccursAt-append, OccursAt-agree, OccursAt-first, OccursAt-front, OccursAt-begins, begins-from_OccursAt}
 use Rattle.infer_deep.proofs.NumberLemmas.{le32-append}
-use Rattle.infer_deep.proofs.JoinedLemmas.{IsPrefixFree, WordsBegin, same_fronts, SkipsTo-none, SkipsTo-same, SkipsTo-append, SkipsTo-lead, NoneBegins-first}
+use Rattle.infer_deep.proofs.JoinedLemmas.{IsPrefixFree, Stops, WordsBegin, same_fronts, NoneBegins-first, Behind-lead, Behind-lasts, Behind-comes, Behind-left, Behind-trimmed, Behind-apart}
 use Rattle.infer_deep.specs.Frames.{BeginsFrame, IsFrame, IsFramed}
 use Rattle.memchr.specs.Find.{OccursAt}
 
 -- what begins as a frame in front of anything begins so by itself
-pub BeginsFrame-front : (b more : List ℕ) → 8 ≤ length b → BeginsFrame (b ++ more) → BeginsFrame b
+BeginsFrame-front : (b more : List ℕ) → 4 ≤ length b → BeginsFrame (b ++ more) → BeginsFrame b
 BeginsFrame-front b more l f =
     let low = f.low in
     let high = f.high in
     let first = get_or_append_left b more 0 0 (omega arith) in
     record { low = omega arith; high = omega arith; mark = OccursAt-front b more _ 1 (omega arith) f.mark }
+
+pub BeginsFrame-early : IsEarly BeginsFrame
+BeginsFrame-early b more long f = BeginsFrame-front b more (omega arith) f
 
 -- what a buffer says of the frame that begins it
 module _ (b word rest : List ℕ) (f : IsFrame word) (e : b ≡ word ++ rest) where
@@ -30,13 +33,14 @@ module _ (b word rest : List ℕ) (f : IsFrame word) (e : b ≡ word ++ rest) wh
   begun-length = let s = f.sized in let g = size in omega arith
 
 -- and what a frame begins begins as one
-pub IsFrame-begins : (b word rest : List ℕ) → IsFrame word → b ≡ word ++ rest → BeginsFrame b
-IsFrame-begins b word rest f e =
-    let s = f.sized in
-    let low = f.begins.low in
-    let high = f.begins.high in
-    let first = get_or_append_left word rest 0 0 (omega arith) in
-    subst BeginsFrame (sym e) (record { low = omega arith; high = omega arith; mark = OccursAt-append word rest _ 1 f.begins.mark })
+IsFrame-begins : (b rest : List ℕ) → BeginsWith IsFrame b rest → BeginsFrame b
+IsFrame-begins b rest w =
+    let s = w.kind.sized in
+    let low = w.kind.begins.low in
+    let high = w.kind.begins.high in
+    let first = get_or_append_left w.word rest 0 0 (omega arith) in
+    subst BeginsFrame (sym w.whole)
+    (record { low = omega arith; high = omega arith; mark = OccursAt-append w.word rest _ 1 w.kind.begins.mark })
 
 IsFrame-prefix_free : IsPrefixFree IsFrame
 IsFrame-prefix_free v w x y f g e =
@@ -62,53 +66,65 @@ BeginsWith-frame b n is begins fits =
     }
 
 -- the first byte of a frame
-abbrev pub IsFrameByte : ℕ → Type 0
+abbrev IsFrameByte : ℕ → Type 0
 IsFrameByte x = (0x50 ≤ x) × (x ≤ 0x5F)
 
 IsFrame-begin : WordsBegin IsFrame IsFrameByte
 IsFrame-begin frame f = let s = f.sized in (omega arith, (f.begins.low, f.begins.high))
 
-NoneBegins-low : (b : List ℕ) → get_or b 0 0 < 0x50 → NoneBegins IsFrame b
-NoneBegins-low b small = NoneBegins-first IsFrame IsFrameByte IsFrame-begin b (λ f. let low = f.0 in omega arith)
+-- what is framed is a text behind frames
+abbrev Stands : List ℕ → List ℕ → Type 0
+Stands magic b = OccursAt b magic 0
 
--- what is left after the frames is one, where it begins so
-left_same : (b x y : List ℕ)
-    → SkipsTo IsFrame b x → NoneBegins IsFrame x → SkipsTo IsFrame b y → get_or y 0 0 < 0x50 → x ≡ y
-left_same b x y s stops t low = SkipsTo-same IsFrame IsFrame-prefix_free b x y s stops t (NoneBegins-low y low)
+Stands-framed : (magic b : List ℕ) → Behind IsFrame (Stands magic) b ↔ IsFramed magic b
+Stands-framed magic b = (
+  λ (left, s, o). (drop (length magic) left, subst (SkipsTo IsFrame b) (begins-from_OccursAt left magic o) s),
+  λ (rest, s). (magic ++ rest, s, OccursAt-begins (magic ++ rest) magic rest refl),
+)
 
-low_front : (magic rest : List ℕ) → 0 < length magic → get_or magic 0 0 < 0x50 → get_or (magic ++ rest) 0 0 < 0x50
-low_front magic rest some small = let first = get_or_append_left magic rest 0 0 some in omega arith
+pub IsFramed-lasts : (magic : List ℕ) → Lasts (IsFramed magic)
+IsFramed-lasts magic b more h =
+    (Stands-framed magic (b ++ more)).0
+    (Behind-lasts IsFrame (Stands magic) (λ u x. OccursAt-append u x magic 0) b more ((Stands-framed magic b).1 h))
 
--- the data, from what is left after the frames
-module _ (b left magic : List ℕ) (skips : SkipsTo IsFrame b left) (stops : NoneBegins IsFrame left) where
-  pub IsFramed-from_left : OccursAt left magic 0 → IsFramed magic b
-  IsFramed-from_left o = (drop (length magic) left, subst (SkipsTo IsFrame b) (begins-from_OccursAt left magic o) skips)
-
-  pub left-from_IsFramed : 0 < length magic → get_or magic 0 0 < 0x50 → IsFramed magic b → OccursAt left magic 0
-  left-from_IsFramed some small (rest, s) =
-      OccursAt-begins left magic rest (left_same b left (magic ++ rest) skips stops s (low_front magic rest some small))
-
--- it is of the buffer what it is of what is left
-pub IsFramed-left : (b left magic : List ℕ) → SkipsTo IsFrame b left → NoneBegins IsFrame left → 0 < length magic → get_or magic 0 0 < 0x50
-    → IsFramed magic left ↔ IsFramed magic b
-IsFramed-left b left magic skips stops some small =
-    let none = SkipsTo-none IsFrame left in (
-      λ h. IsFramed-from_left b left magic skips stops (left-from_IsFramed left left magic none stops some small h),
-      λ h. IsFramed-from_left left left magic none stops (left-from_IsFramed b left magic skips stops some small h),
-    )
-
-pub IsFramed-lasting : (magic : List ℕ) → IsLasting (IsFramed magic)
-IsFramed-lasting magic b more (rest, s) =
-    (rest ++ more, subst (SkipsTo IsFrame (b ++ more)) (append_assoc magic rest more) (SkipsTo-append IsFrame b (magic ++ rest) more s))
+pub IsFramed-comes : (magic : List ℕ) → length magic ≤ 4 → ComesWith (IsFramed magic) BeginsFrame
+IsFramed-comes magic short b more long h =
+    elim (
+    Behind-comes IsFrame (Stands magic) BeginsFrame
+    (λ u x rest l w. BeginsFrame-early u x l (IsFrame-begins (u ++ x) rest w))
+    (λ u x l o. inl (OccursAt-front u x magic 0 (omega arith) o)) b more long ((Stands-framed magic (b ++ more)).1 h)
+    ) [ inl k ↦ inl ((Stands-framed magic b).0 k) | inr f ↦ inr f ]
 
 -- the first byte is the magic's, or a frame's
-pub IsFramed-lead : (b magic : List ℕ) (x : ℕ) → IsFramed (x ∷ magic) b → (get_or b 0 0 ≡ x) ⊎ IsFrameByte (get_or b 0 0)
-IsFramed-lead b magic x (rest, s) =
-    elim (SkipsTo-lead IsFrame IsFrameByte IsFrame-begin b (x ∷ magic ++ rest) s) [ inl f ↦ inr f | inr e ↦ inl e ]
+pub IsFramed-lead : (x : ℕ) (magic b : List ℕ) → IsFramed (x ∷ magic) b → (get_or b 0 0 ≡ x) ⊎ IsFrameByte (get_or b 0 0)
+IsFramed-lead x magic b h =
+    elim (
+    Behind-lead IsFrame IsFrameByte IsFrame-begin (Stands (x ∷ magic)) (λ y. y ≡ x) (λ u o. OccursAt-first u (x ∷ magic) 0 (omega arith) o) b
+    ((Stands-framed (x ∷ magic) b).1 h)
+    ) [ inl f ↦ inr f | inr e ↦ inl e ]
 
--- magics whose first bytes are below 50 and differ exclude each other
-pub IsFramed-apart : (b v w : List ℕ) → (get_or v 0 0 ≡ get_or w 0 0 → ⊥)
-    → 0 < length v → 0 < length w → get_or v 0 0 < 0x50 → get_or w 0 0 < 0x50 → IsFramed v b → ¬ IsFramed w b
-IsFramed-apart b v w differ some_v some_w low_v low_w (x, s) k =
-    let stands = left-from_IsFramed b (v ++ x) w s (NoneBegins-low (v ++ x) (low_front v x some_v low_v)) some_w low_w k in
-    differ (sym (get_or_append_left v x 0 0 some_v) ∙ OccursAt-first (v ++ x) w 0 some_w stands)
+-- a magic number whose first byte is below 50 begins with no frame
+module _ (magic : List ℕ) (some : 0 < length magic) (low : get_or magic 0 0 < 0x50) where
+  stands-stops : Stops (Stands magic) IsFrame
+  stands-stops b o =
+      NoneBegins-first IsFrame IsFrameByte IsFrame-begin b (λ f. let over = f.0 in let first = OccursAt-first b magic 0 some o in omega arith)
+
+  module _ (b left : List ℕ) (skips : SkipsTo IsFrame b left) (none : NoneBegins IsFrame left) where
+    pub IsFramed-left : Stands magic left ↔ IsFramed magic b
+    IsFramed-left =
+        let both = Behind-left IsFrame (Stands magic) IsFrame-prefix_free stands-stops b left skips none in
+        (λ o. (Stands-framed magic b).0 (both.0 o), λ h. both.1 ((Stands-framed magic b).1 h))
+
+    pub IsFramed-trimmed : IsFramed magic left ↔ IsFramed magic b
+    IsFramed-trimmed =
+        let both = Behind-trimmed IsFrame (Stands magic) IsFrame-prefix_free stands-stops b left skips none in (
+          λ h. (Stands-framed magic b).0 (both.0 ((Stands-framed magic left).1 h)),
+          λ h. (Stands-framed magic left).0 (both.1 ((Stands-framed magic b).1 h)),
+        )
+
+-- two that differ in the first byte exclude each other
+pub IsFramed-apart : (v w : List ℕ) → 0 < length v → 0 < length w → (get_or v 0 0 ≡ get_or w 0 0 → ⊥)
+    → get_or v 0 0 < 0x50 → get_or w 0 0 < 0x50 → AreApart (IsFramed v) (IsFramed w)
+IsFramed-apart v w some_v some_w differ low_v low_w b f g =
+    Behind-apart IsFrame (Stands v) (Stands w) IsFrame-prefix_free (stands-stops v some_v low_v) (stands-stops w some_w low_w)
+    (λ u o k. differ (OccursAt-agree u v w 0 0 o k some_v some_w)) b ((Stands-framed v b).1 f) ((Stands-framed w b).1 g)

@@ -1,12 +1,21 @@
--- Words joined: what is left after them is one, however it is found.
-use Rattle.std.proofs.Common.{◌≡◌, ℕ, ◌<◌, ◌⊎◌, inl, inr, List, [], ◌∷◌, ◌++◌, length, get_or, take, refl, sym, ap, subst, ◌∙◌}
+-- Words joined: what is left after them is one, however it is found, and what holds of a buffer behind them.
+use Rattle.std.proofs.Common.{◌≡◌, ◌↔◌, ℕ, ◌<◌, ◌≤◌, ◌⊎◌, inl, inr, List, [], ◌∷◌, ◌++◌, length, get_or, take, refl, sym, ap, subst, ◌∙◌}
 use Rattle.std.proofs.lemmas.List.{append_assoc, append_cancel_left, take_at, get_or_append_left}
 use Rattle.std.specs.List.{AllByRecursion, concat}
-use Rattle.infer_deep.specs.Joined.{SkipsTo, NoneBegins, BeginsWith, LeadsTo}
+use Rattle.infer_deep.specs.Joined.{SkipsTo, NoneBegins, BeginsWith, LeadsTo, Behind}
+use Rattle.infer_deep.specs.Signatures.{Lasts, ComesWith, AreApart}
 
 -- a word of the kind P begins another only where they are the same
 abbrev pub IsPrefixFree : (List ℕ → Type 0) → Type 0
 IsPrefixFree P = (v w x y : List ℕ) → P v → P w → v ++ x ≡ w ++ y → v ≡ w
+
+-- each word of the kind P begins with a byte of the kind Q
+abbrev pub WordsBegin : (List ℕ → Type 0) → (ℕ → Type 0) → Type 0
+WordsBegin P Q = (word : List ℕ) → P word → (0 < length word) × Q (get_or word 0 0)
+
+-- what has the property S begins with no word of the kind P
+abbrev pub Stops : (List ℕ → Type 0) → (List ℕ → Type 0) → Type 0
+Stops S P = (b : List ℕ) → S b → NoneBegins P b
 
 -- two fronts of one length are the same
 pub same_fronts : (v w x y : List ℕ) → length v ≡ length w → v ++ x ≡ w ++ y → v ≡ w
@@ -17,7 +26,7 @@ module _ (P : List ℕ → Type 0) where
   SkipsTo-none b = record { words = []; each = tt; whole = refl }
 
   -- either there is no word, or the buffer begins with one
-  pub SkipsTo-begin : (b rest : List ℕ) → SkipsTo P b rest → (b ≡ rest) ⊎ ((x : List ℕ) × BeginsWith P b x)
+  SkipsTo-begin : (b rest : List ℕ) → SkipsTo P b rest → (b ≡ rest) ⊎ ((x : List ℕ) × BeginsWith P b x)
   SkipsTo-begin b rest s = go s.words s.each s.whole
     where
       go : (words : List (List ℕ)) → AllByRecursion P words → b ≡ concat words ++ rest → (b ≡ rest) ⊎ ((x : List ℕ) × BeginsWith P b x)
@@ -37,13 +46,6 @@ module _ (P : List ℕ → Type 0) where
   pub LeadsTo-more : (b c d : List ℕ) → LeadsTo P b c → BeginsWith P c d → LeadsTo P b d
   LeadsTo-more b c d leads h = λ rest s. leads rest (SkipsTo-cons c d rest h s)
 
-  pub SkipsTo-append : (b rest more : List ℕ) → SkipsTo P b rest → SkipsTo P (b ++ more) (rest ++ more)
-  SkipsTo-append b rest more s = record {
-    words = s.words;
-    each = s.each;
-    whole = ap (λ u. u ++ more) s.whole ∙ append_assoc (concat s.words) rest more;
-  }
-
   same_rests : IsPrefixFree P → (vs ws : List (List ℕ)) (x y : List ℕ) → AllByRecursion P vs → AllByRecursion P ws
       → NoneBegins P x → NoneBegins P y → concat vs ++ x ≡ concat ws ++ y → x ≡ y
   same_rests free [] [] x y a b n m e = e
@@ -55,30 +57,55 @@ module _ (P : List ℕ → Type 0) where
       let same = free v w _ _ a.0 b.0 joined in
       same_rests free vs ws x y a.1 b.1 n m (append_cancel_left v _ _ (joined ∙ ap (λ u. u ++ (concat ws ++ y)) (sym same)))
 
-  -- the words can be skipped in one way, as far as no word follows
-  pub SkipsTo-same : IsPrefixFree P → (b x y : List ℕ)
-      → SkipsTo P b x → NoneBegins P x → SkipsTo P b y → NoneBegins P y → x ≡ y
-  SkipsTo-same free b x y s n t m = same_rests free s.words t.words x y s.each t.each n m (sym s.whole ∙ t.whole)
-
--- each word of the kind P begins with a byte of the kind Q
-abbrev pub WordsBegin : (List ℕ → Type 0) → (ℕ → Type 0) → Type 0
-WordsBegin P Q = (word : List ℕ) → P word → (0 < length word) × Q (get_or word 0 0)
-
 module _ (P : List ℕ → Type 0) (Q : ℕ → Type 0) (begin : WordsBegin P Q) where
-  pub begun-first : (b word rest : List ℕ) → P word → b ≡ word ++ rest → Q (get_or b 0 0)
-  begun-first b word rest is e =
-      let w = begin word is in
-      let first = ap (λ u. get_or u 0 0) e ∙ get_or_append_left word rest 0 0 w.0 in
+  pub begun-first : (b rest : List ℕ) → BeginsWith P b rest → Q (get_or b 0 0)
+  begun-first b rest h =
+      let w = begin h.word h.kind in
+      let first = ap (λ u. get_or u 0 0) h.whole ∙ get_or_append_left h.word rest 0 0 w.0 in
       subst Q (sym first) w.1
 
   pub NoneBegins-first : (b : List ℕ) → (¬ Q (get_or b 0 0)) → NoneBegins P b
-  NoneBegins-first b not word rest is e = not (begun-first b word rest is e)
+  NoneBegins-first b not word rest is e = not (begun-first b rest (record { word = word; kind = is; whole = e }))
 
-  -- the first byte is that of what is left, or one of the kind Q
-  pub SkipsTo-lead : (b rest : List ℕ) → SkipsTo P b rest → Q (get_or b 0 0) ⊎ (get_or b 0 0 ≡ get_or rest 0 0)
-  SkipsTo-lead b rest s = go s.words s.each s.whole
-    where
-      go : (words : List (List ℕ)) → AllByRecursion P words
-          → b ≡ concat words ++ rest → Q (get_or b 0 0) ⊎ (get_or b 0 0 ≡ get_or rest 0 0)
-      go [] all e = inr (ap (λ u. get_or u 0 0) e)
-      go (word ∷ words) all e = inl (begun-first b word (concat words ++ rest) all.0 (e ∙ append_assoc word (concat words) rest))
+  -- the first byte is one of the kind Q, or what the property wants
+  pub Behind-lead : (S : List ℕ → Type 0) (R : ℕ → Type 0) → ((rest : List ℕ) → S rest → R (get_or rest 0 0))
+      → (b : List ℕ) → Behind P S b → Q (get_or b 0 0) ⊎ R (get_or b 0 0)
+  Behind-lead S R first b (rest, s, h) = elim (SkipsTo-begin P b rest s) [
+    | inl e ↦ inr (subst (λ u. R (get_or u 0 0)) (sym e) (first rest h))
+    | inr (x, w) ↦ inl (begun-first b x w)
+  ]
+
+module _ (P S : List ℕ → Type 0) where
+  pub Behind-lasts : Lasts S → Lasts (Behind P S)
+  Behind-lasts lasts b more (rest, s, h) = (
+    rest ++ more,
+    record { words = s.words; each = s.each; whole = ap (λ u. u ++ more) s.whole ∙ append_assoc (concat s.words) rest more },
+    lasts rest more h,
+  )
+
+  -- what more bytes bring, a word in front brings or the property's own more bytes
+  pub Behind-comes : (T : List ℕ → Type 0) → ((b more rest : List ℕ) → 1024 ≤ length b → BeginsWith P (b ++ more) rest → T b)
+      → ComesWith S T → ComesWith (Behind P S) T
+  Behind-comes T begun comes b more long (rest, s, h) = elim (SkipsTo-begin P (b ++ more) rest s) [
+    | inl e ↦ elim (comes b more long (subst S (sym e) h)) [ inl k ↦ inl (b, SkipsTo-none P b, k) | inr t ↦ inr t ]
+    | inr (x, w) ↦ inr (begun b more x long w)
+  ]
+
+-- what is left after the words has the property just where the buffer has it behind them
+module _ (P S : List ℕ → Type 0) (free : IsPrefixFree P) (stops : Stops S P) where
+  module _ (b left : List ℕ) (skips : SkipsTo P b left) (none : NoneBegins P left) where
+    pub Behind-left : S left ↔ Behind P S b
+    Behind-left = (
+      λ h. (left, skips, h),
+      λ (rest, s, h). subst S (same_rests P free s.words skips.words rest left s.each skips.each (stops rest h) none (sym s.whole ∙ skips.whole)) h,
+    )
+
+  pub Behind-trimmed : (b left : List ℕ) → SkipsTo P b left → NoneBegins P left → Behind P S left ↔ Behind P S b
+  Behind-trimmed b left skips none =
+      let here = Behind-left left left (SkipsTo-none P left) none in
+      let there = Behind-left b left skips none in
+      (λ h. there.0 (here.1 h), λ h. here.0 (there.1 h))
+
+pub Behind-apart : (P S T : List ℕ → Type 0) → IsPrefixFree P → Stops S P → Stops T P → AreApart S T → AreApart (Behind P S) (Behind P T)
+Behind-apart P S T free stops_s stops_t apart b (rest, s, h) k =
+    apart rest h ((Behind-left P T free stops_t b rest s (stops_s rest h)).1 k)

@@ -1,6 +1,7 @@
 pub mod PlaceLemmas
 pub mod SearchLemmas
 pub mod NumberLemmas
+pub mod FrontLemmas
 pub mod JoinedLemmas
 pub mod WindowLemmas
 pub mod FrameLemmas
@@ -9,4 +10,3 @@ pub mod OfficeLemmas
 pub mod ClassIdLemmas
 pub mod AnyLemmas
 pub mod TextLemmas
-pub mod ArrivalLemmas

@@ -1,5 +1,5 @@
 -- A text stands at a place of a buffer: in one that grows it, in a part of it, beside other texts.
-use Rattle.std.proofs.Common.{◌≡◌, ℕ, ◌+◌, ◌-◌, ◌<◌, ◌≤◌, List, ◌++◌, length, get_or, inl, inr, take, drop, sym, ap, ◌∙◌, arith, length-append, length-drop, length-take}
+use Rattle.std.proofs.Common.{◌≡◌, ℕ, ◌+◌, ◌-◌, ◌<◌, ◌≤◌, List, ◌++◌, length, get_or, inl, inr, take, drop, sym, ap, subst, ◌∙◌, ◌↔◌, arith, length-append, length-drop, length-take}
 use Rattle.std.proofs.lemmas.List.{get_or_append_left, get_or-take, get_or-drop}
 use Rattle.std.proofs.lemmas.List.Prefix.{front_fits, front_reads, front_from_reads}
 use Rattle.std.proofs.lemmas.Bool.{cases_lt}
@@ -20,6 +20,10 @@ OccursAt-front b more text p f o = record {
   fits = f;
   reads = λ j l. sym (get_or_append_left b more 0 (p + j) (omega arith)) ∙ o.reads j l;
 }
+
+-- what stands in b and ends by n stands in c
+abbrev pub Carries : ℕ → List ℕ → List ℕ → Type 0
+Carries n b c = (text : List ℕ) (p : ℕ) → p + length text ≤ n → OccursAt b text p → OccursAt c text p
 
 -- the byte at its place is its first
 pub OccursAt-first : (b text : List ℕ) (p : ℕ) → 0 < length text → OccursAt b text p → get_or b p 0 ≡ get_or text 0 0
@@ -49,31 +53,35 @@ part_reads b s e i l = get_or-take (e - s) (drop s b) i 0 (omega arith) ∙ get_
 pub part_length : (b : List ℕ) (s e : ℕ) → s ≤ e → e ≤ length b → length (take (e - s) (drop s b)) ≡ e - s
 part_length b s e l h = simp (length-take, length-drop) (omega arith)
 
--- what stands in a part of a buffer stands in the buffer, and back
-pub OccursAt-from_part : (b text : List ℕ) (s e k : ℕ)
-    → s ≤ e → e ≤ length b → OccursAt (take (e - s) (drop s b)) text k → OccursAt b text (s + k)
-OccursAt-from_part b text s e k l h o =
+-- a text stands in a part of a buffer just where it stands in the buffer and ends in the part
+pub OccursAt-part : (b text : List ℕ) (s e k : ℕ) → s ≤ e → e ≤ length b
+    → OccursAt (take (e - s) (drop s b)) text k ↔ (OccursAt b text (s + k) × (s + k + length text ≤ e))
+OccursAt-part b text s e k l h =
     let n = part_length b s e l h in
-    let f = o.fits in
-    record {
-      fits = omega arith;
-      reads = λ j lt. ap (λ i. get_or b i 0) (let r : s + k + j ≡ s + (k + j) = omega arith in r)
-          ∙ sym (part_reads b s e (k + j) (omega arith)) ∙ o.reads j lt;
-    }
+    let place = λ (j : ℕ). ap (λ i. get_or b i 0) (let r : s + (k + j) ≡ s + k + j = omega arith in r) in (
+      λ o.
+          let f = o.fits in
+          (record { fits = omega arith; reads = λ j lt. sym (place j) ∙ sym (part_reads b s e (k + j) (omega arith)) ∙ o.reads j lt }, omega arith),
+      λ (o, ends). record { fits = omega arith; reads = λ j lt. part_reads b s e (k + j) (omega arith) ∙ place j ∙ o.reads j lt },
+    )
 
-pub OccursAt-part : (b text : List ℕ) (s e k : ℕ)
-    → s ≤ e → e ≤ length b → s + k + length text ≤ e → OccursAt b text (s + k) → OccursAt (take (e - s) (drop s b)) text k
-OccursAt-part b text s e k l h ends o =
-    let n = part_length b s e l h in
-    record {
-      fits = omega arith;
-      reads = λ j lt. part_reads b s e (k + j) (omega arith)
-          ∙ ap (λ i. get_or b i 0) (let r : s + (k + j) ≡ s + k + j = omega arith in r) ∙ o.reads j lt;
-    }
+-- one place at most has the property
+abbrev pub IsUnique : (ℕ → Type 0) → Type 0
+IsUnique P = (p q : ℕ) → P p → P q → p ≡ q
+
+-- a text stands at what the one place tells just where it stands at what some such place tells
+module _ (P : ℕ → Type 0) (one : IsUnique P) (b : List ℕ) (at : ℕ → ℕ) where
+  pub stands_at_one : (text : List ℕ) (p : ℕ) → P p → OccursAt b text (at p) ↔ ((q : ℕ) × P q × OccursAt b text (at q))
+  stands_at_one text p here = (λ o. (p, here, o), λ (q, there, o). subst (λ x. OccursAt b text (at x)) (one q p there here) o)
+
+  -- and two texts that differ in a byte do not both
+  pub apart_at_one : (v w : List ℕ) (i : ℕ) → i < length v → i < length w → (get_or v i 0 ≡ get_or w i 0 → ⊥)
+      → ((p : ℕ) × P p × OccursAt b v (at p)) → ¬ ((p : ℕ) × P p × OccursAt b w (at p))
+  apart_at_one v w i in_v in_w differ (p, here, o) there =
+      differ (OccursAt-agree b v w (at p) i o ((stands_at_one w p here).1 there) in_v in_w)
 
 -- a least place is one place, and stays it in a buffer that grows
-pub IsFirstPlace-same : (b text : List ℕ) (start end p q : ℕ)
-    → IsFirstPlace b text start end p → IsFirstPlace b text start end q → p ≡ q
+pub IsFirstPlace-same : (b text : List ℕ) (start end : ℕ) → IsUnique (IsFirstPlace b text start end)
 IsFirstPlace-same b text start end p q f g =
     elim (cases_lt p q) [
       | inl l ↦ absurd (g.before p l f.here)

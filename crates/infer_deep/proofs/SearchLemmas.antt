@@ -51,7 +51,7 @@ module _ (b text : List ℕ) (start end m : ℕ) (is : m ≡ min end (length b))
   in_part q w =
       let f = w.stands.fits in
       let h = w.high in
-      OccursAt-part b text start m q l (omega arith) (omega arith) w.stands
+      (OccursAt-part b text start m q l (omega arith)).1 (w.stands, omega arith)
 
   place : (p : ℕ) → IsWithin b text start end p → IsWithin b text start end (start + (p - start))
   place p w =

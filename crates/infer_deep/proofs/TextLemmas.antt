@@ -1,19 +1,19 @@
--- White space, marks and tags: what a buffer begins with, and that it begins so in one way.
-use Rattle.std.proofs.Common.{◌≡◌, ◌↔◌, ℕ, suc, ◌+◌, ◌-◌, ◌<◌, ◌≤◌, ◌⊎◌, Bool, true, ◌&&◌, not, cond, List, [], ◌∷◌, ◌++◌, length, get_or, take, drop, map, refl, sym, ap, subst, ◌∙◌, inl, inr, arith, eqb, ltb}
+-- White space, marks and tags: what a buffer begins with, and what is markup behind them.
+use Rattle.std.proofs.Common.{◌≡◌, ◌↔◌, ℕ, suc, ◌+◌, ◌-◌, ◌<◌, ◌≤◌, ◌⊎◌, Bool, true, ◌&&◌, not, cond, List, [], ◌∷◌, ◌++◌, length, get_or, take, drop, map, refl, sym, ap, subst, ◌∙◌, inl, inr, arith, eqb, ltb, length-append}
 use Rattle.std.proofs.Math.ListN.{get_or-map}
 use Rattle.std.proofs.lemmas.List.{take-append-drop, take_at, take_rest, get_or_append_left, drop_more, length-map, length-take-le, append_assoc}
 use Rattle.std.proofs.lemmas.List.Sums.{AllPass-from_list_all}
 use Rattle.std.proofs.lemmas.Bool.Decides.{nat_tests}
 use Rattle.std.specs.Prelude.{Any, codes}
-use Rattle.std.specs.List.{AllPass}
 use Rattle.std.specs.Char.{to_ascii_lowercase}
 use Rattle.memchr.specs.Find.{OccursAt}
 use Rattle.infer_deep.specs.Blocks.{AllBelow}
-use Rattle.infer_deep.specs.Signatures.{IsLasting, AreApart}
-use Rattle.infer_deep.proofs.PlaceLemmas.{begins-from_OccursAt}
-use Rattle.infer_deep.specs.Joined.{SkipsTo, LeadsTo, NoneBegins, BeginsWith}
-use Rattle.infer_deep.proofs.JoinedLemmas.{IsPrefixFree, WordsBegin, same_fronts, SkipsTo-none, SkipsTo-cons, SkipsTo-same, SkipsTo-append, SkipsTo-lead, NoneBegins-first}
-use Rattle.infer_deep.specs.Text.{IsWhite, IsSpace, IsMark, IsSameInAnyCase, BeginsInAnyCase, BeginsWithTag, IsHtml, IsXml, tags}
+use Rattle.infer_deep.specs.Signatures.{Lasts, AreApart, ComesWith, IsEarly}
+use Rattle.infer_deep.specs.Joined.{Behind, SkipsTo, LeadsTo, NoneBegins, BeginsWith}
+use Rattle.infer_deep.specs.Text.{IsWhite, IsSpace, IsMark, IsSameInAnyCase, BeginsInAnyCase, BeginsMarked, BeginsWhite, BeginsWithTag, IsHtml, IsXml, tags}
+use Rattle.infer_deep.proofs.FrontLemmas.{IsTold, told-early, told-lasts}
+use Rattle.infer_deep.proofs.JoinedLemmas.{IsPrefixFree, Stops, WordsBegin, same_fronts, begun-first, SkipsTo-none, SkipsTo-cons, NoneBegins-first, Behind-lead, Behind-lasts, Behind-comes, Behind-left, Behind-trimmed, Behind-apart}
+use Rattle.infer_deep.proofs.PlaceLemmas.{begins-from_OccursAt, OccursAt-begins, OccursAt-front}
 
 -- a word that stands at the front
 pub BeginsWith-word : (P : List ℕ → Type 0) (b word : List ℕ) (n : ℕ)
@@ -50,75 +50,44 @@ LeadsTo-block b block rest n l p q all =
 IsSpace-prefix_free : IsPrefixFree IsSpace
 IsSpace-prefix_free v w x y (a, f, p) (b, g, q) e = cc
 
-pub IsSpace-begin : WordsBegin IsSpace IsWhite
+IsSpace-begin : WordsBegin IsSpace IsWhite
 IsSpace-begin word (x, white, e) = subst (λ (u : List ℕ). (0 < length u) × IsWhite (get_or u 0 0)) (sym e) (omega arith, white)
 
--- the first byte of a mark, and how long the mark is that begins with it
-abbrev pub IsMarkByte : ℕ → Type 0
+-- the first byte of a mark
+abbrev IsMarkByte : ℕ → Type 0
 IsMarkByte x = (x ≡ 0xEF) ⊎ (x ≡ 0xFE) ⊎ (x ≡ 0xFF)
 
-abbrev mark_length : ℕ → ℕ
-mark_length x = cond (eqb x 0xEF) 3 2
-
-abbrev BeginsAsMark : List ℕ → Type 0
-BeginsAsMark u = (0 < length u) × IsMarkByte (get_or u 0 0)
-
-abbrev IsMarkLong : List ℕ → Type 0
-IsMarkLong u = length u ≡ mark_length (get_or u 0 0)
+-- what holds of the three marks holds of each
+each_mark : (R : List ℕ → Type 0) → R (0xEF ∷ 0xBB ∷ 0xBF ∷ []) → R (0xFE ∷ 0xFF ∷ []) → R (0xFF ∷ 0xFE ∷ []) → (word : List ℕ) → IsMark word → R word
+each_mark R x y z word is = elim is [ inl e ↦ subst R (sym e) x | inr (inl e) ↦ subst R (sym e) y | inr (inr e) ↦ subst R (sym e) z ]
 
 IsMark-begin : WordsBegin IsMark IsMarkByte
-IsMark-begin word is = elim is [
-  | inl e ↦ subst BeginsAsMark (sym e) (omega arith, inl refl)
-  | inr (inl e) ↦ subst BeginsAsMark (sym e) (omega arith, inr (inl refl))
-  | inr (inr e) ↦ subst BeginsAsMark (sym e) (omega arith, inr (inr refl))
-]
+IsMark-begin = each_mark (λ (u : List ℕ). (0 < length u) × IsMarkByte (get_or u 0 0))
+    (omega arith, inl refl) (omega arith, inr (inl refl)) (omega arith, inr (inr refl))
 
-length-mark : (word : List ℕ) → IsMark word → length word ≡ mark_length (get_or word 0 0)
-length-mark word is = elim is [
-  | inl e ↦ subst IsMarkLong (sym e) refl
-  | inr (inl e) ↦ subst IsMarkLong (sym e) refl
-  | inr (inr e) ↦ subst IsMarkLong (sym e) refl
-]
+length-mark : (word : List ℕ) → IsMark word → length word ≡ cond (eqb (get_or word 0 0) 0xEF) 3 2
+length-mark = each_mark (λ u. length u ≡ cond (eqb (get_or u 0 0) 0xEF) 3 2) refl refl refl
 
 IsMark-prefix_free : IsPrefixFree IsMark
 IsMark-prefix_free v w x y f g e =
     let first : get_or v 0 0 ≡ get_or w 0 0
     = sym (get_or_append_left v x 0 0 (IsMark-begin v f).0) ∙ ap (λ u. get_or u 0 0) e
     ∙ get_or_append_left w y 0 0 (IsMark-begin w g).0 in
-    same_fronts v w x y (length-mark v f ∙ ap mark_length first ∙ sym (length-mark w g)) e
-
--- what begins with "<" begins with no space and no mark
-NoneBegins-space : (b : List ℕ) → get_or b 0 0 ≡ 0x3C → NoneBegins IsSpace b
-NoneBegins-space b first = NoneBegins-first IsSpace IsWhite IsSpace-begin b (λ white. omega arith)
-
-NoneBegins-mark : (b : List ℕ) → get_or b 0 0 ≡ 0x3C → NoneBegins IsMark b
-NoneBegins-mark b first = NoneBegins-first IsMark IsMarkByte IsMark-begin b (λ mark. omega arith)
-
--- and what begins with marks and then "<" begins with no space
-NoneBegins-space-marked : (marked text : List ℕ) → SkipsTo IsMark marked text → get_or text 0 0 ≡ 0x3C → NoneBegins IsSpace marked
-NoneBegins-space-marked marked text marks first =
-    NoneBegins-first IsSpace IsWhite IsSpace-begin marked
-    (λ white. elim (SkipsTo-lead IsMark IsMarkByte IsMark-begin marked text marks) [ inl mark ↦ omega arith | inr e ↦ omega arith ])
+    same_fronts v w x y (length-mark v f ∙ ap (λ c. cond (eqb c 0xEF) 3 2) first ∙ sym (length-mark w g)) e
 
 -- texts that are the same in any case
-pub same_length : (word text : List ℕ) → IsSameInAnyCase word text → length word ≡ length text
+same_length : (word text : List ℕ) → IsSameInAnyCase word text → length word ≡ length text
 same_length word text h = sym (length-map word to_ascii_lowercase) ∙ ap length h ∙ length-map text to_ascii_lowercase
 
-same_byte : (word text : List ℕ) (i : ℕ)
-    → IsSameInAnyCase word text → to_ascii_lowercase (get_or word i 0) ≡ to_ascii_lowercase (get_or text i 0)
-same_byte word text i h =
-    sym (get_or-map to_ascii_lowercase word i 0) ∙ ap (λ u. get_or u i 0) h ∙ get_or-map to_ascii_lowercase text i 0
-
 -- what begins with a text in any case
-pub BeginsInAnyCase-front : (b text : List ℕ) (n : ℕ)
-    → n ≤ length b → IsSameInAnyCase (take n b) text → BeginsInAnyCase text b
-BeginsInAnyCase-front b text n l h =
-    record { word = take n b; rest = drop n b; same = h; whole = sym (take-append-drop n b) }
+pub BeginsInAnyCase-front : (b text : List ℕ) → IsSameInAnyCase (take (length text) b) text → BeginsInAnyCase text b
+BeginsInAnyCase-front b text h =
+    let n = length text in record { word = take n b; rest = drop n b; same = h; whole = sym (take-append-drop n b) }
 
-pub front-BeginsInAnyCase : (b text : List ℕ) (n : ℕ)
-    → n ≡ length text → BeginsInAnyCase text b → IsSameInAnyCase (take n b) text
-front-BeginsInAnyCase b text n e h =
-    let front : take n b ≡ h.word = ap (take n) h.whole ∙ take_at h.word h.rest n (same_length h.word text h.same ∙ sym e) in
+pub front-BeginsInAnyCase : (b text : List ℕ) → BeginsInAnyCase text b → IsSameInAnyCase (take (length text) b) text
+front-BeginsInAnyCase b text h =
+    let front : take (length text) b ≡ h.word
+    = ap (take (length text)) h.whole ∙ take_at h.word h.rest (length text) (same_length h.word text h.same) in
     ap (map to_ascii_lowercase) front ∙ h.same
 
 BeginsInAnyCase-byte : (b text : List ℕ) (i : ℕ)
@@ -127,7 +96,8 @@ BeginsInAnyCase-byte b text i l h =
     let n = same_length h.word text h.same in
     let read : get_or b i 0 ≡ get_or h.word i 0
     = ap (λ u. get_or u i 0) h.whole ∙ get_or_append_left h.word h.rest 0 i (omega arith) in
-    ap to_ascii_lowercase read ∙ same_byte h.word text i h.same
+    ap to_ascii_lowercase read ∙ sym (get_or-map to_ascii_lowercase h.word i 0) ∙ ap (λ u. get_or u i 0) h.same
+    ∙ get_or-map to_ascii_lowercase text i 0
 
 -- a byte that is "<" in lower case is "<"
 lower_open : (c : ℕ) → to_ascii_lowercase c ≡ 0x3C → c ≡ 0x3C
@@ -145,7 +115,7 @@ BeginsWithTag-front b tag l closes h =
       word = take n b;
       end = get_or b n 0;
       rest = drop (n + 1) b;
-      same = front-BeginsInAnyCase b tag n refl h;
+      same = front-BeginsInAnyCase b tag h;
       closes = closes;
       whole = sym (take-append-drop n b) ∙ ap (λ u. take n b ++ u) (drop_more b n 0 l);
     }
@@ -153,118 +123,152 @@ BeginsWithTag-front b tag l closes h =
 pub BeginsInAnyCase-tag : (b tag : List ℕ) → BeginsWithTag tag b → BeginsInAnyCase tag b
 BeginsInAnyCase-tag b tag h = record { word = h.word; rest = h.end ∷ h.rest; same = h.same; whole = h.whole }
 
--- each tag begins with "<" and then with no "?"
+-- the text of HTML begins with one of the tags, and that of XML so
+abbrev pub HasTag : List ℕ → Type 0
+HasTag b = Any (λ tag. BeginsWithTag tag b) tags
+
+abbrev pub HasXml : List ℕ → Type 0
+HasXml b = BeginsInAnyCase (codes "<?xml") b
+
+-- each tag is short, and begins with "<" and then with no "?"
 abbrev opens : List ℕ → Bool
-opens tag = ltb 1 (length tag) && (eqb (get_or tag 0 0) 0x3C && not (eqb (to_ascii_lowercase (get_or tag 1 0)) 0x3F))
+opens tag = ltb (length tag) 1000 && (ltb 1 (length tag) && (eqb (get_or tag 0 0) 0x3C && not (eqb (to_ascii_lowercase (get_or tag 1 0)) 0x3F)))
 
-tags_open : AllPass opens tags
-tags_open = AllPass-from_list_all opens tags refl
+opened : (n x y : ℕ) → (ltb n 1000 && (ltb 1 n && (eqb x 0x3C && not (eqb y 0x3F)))) ≡ true → (n < 1000) × (1 < n) × (x ≡ 0x3C) × (y ≡ 0x3F → ⊥)
+opened n x y e = (grind (arith, nat_tests), grind (arith, nat_tests), grind (arith, nat_tests), λ is. grind (arith, nat_tests))
 
-opened : (n x y : ℕ) → (ltb 1 n && (eqb x 0x3C && not (eqb y 0x3F))) ≡ true → (1 < n) × (x ≡ 0x3C) × (y ≡ 0x3F → ⊥)
-opened n x y e = (grind (arith, nat_tests), grind (arith, nat_tests), λ is. grind (arith, nat_tests))
+tag_opens : (k : ℕ) (tag : List ℕ) → k < length tags → get_or tags k tag ≡ tag
+    → (length tag < 1000) × (1 < length tag) × (get_or tag 0 0 ≡ 0x3C) × (to_ascii_lowercase (get_or tag 1 0) ≡ 0x3F → ⊥)
+tag_opens k tag l e = opened (length tag) (get_or tag 0 0) (to_ascii_lowercase (get_or tag 1 0))
+    (subst (λ t. opens t ≡ true) e (AllPass-from_list_all opens tags refl k tag l))
 
-some_tag : (b : List ℕ) → Any (λ tag. BeginsWithTag tag b) tags
-    → (get_or b 0 0 ≡ 0x3C) × (to_ascii_lowercase (get_or b 1 0) ≡ 0x3F → ⊥)
-some_tag b (k, tag, l, e, h) =
-    let o = opened (length tag) (get_or tag 0 0) (to_ascii_lowercase (get_or tag 1 0)) (subst (λ t. opens t ≡ true) e (tags_open k tag l)) in
-    let begins = BeginsInAnyCase-tag b tag h in
-    let second = BeginsInAnyCase-byte b tag 1 o.0 begins in
-    (BeginsInAnyCase-open b tag (omega arith) o.1 begins, λ is. o.2 (sym second ∙ is))
+pub HasTag-open : (b : List ℕ) → HasTag b → get_or b 0 0 ≡ 0x3C
+HasTag-open b (k, tag, l, e, h) =
+    let o = tag_opens k tag l e in BeginsInAnyCase-open b tag (omega arith) o.2 (BeginsInAnyCase-tag b tag h)
 
-pub some_tag_open : (b : List ℕ) → Any (λ tag. BeginsWithTag tag b) tags → get_or b 0 0 ≡ 0x3C
-some_tag_open b h = (some_tag b h).0
+HasXml-open : (b : List ℕ) → HasXml b → get_or b 0 0 ≡ 0x3C
+HasXml-open b h = BeginsInAnyCase-open b (codes "<?xml") (omega arith) refl h
 
-xml_open : (b : List ℕ) → BeginsInAnyCase (codes "<?xml") b → get_or b 0 0 ≡ 0x3C
-xml_open b h = BeginsInAnyCase-open b (codes "<?xml") (omega arith) refl h
+-- a buffer begins in no two ways
+HasTag-apart_xml : AreApart HasTag HasXml
+HasTag-apart_xml b (k, tag, l, e, h) x =
+    let o = tag_opens k tag l e in
+    o.3 (sym (BeginsInAnyCase-byte b tag 1 o.1 (BeginsInAnyCase-tag b tag h)) ∙ BeginsInAnyCase-byte b (codes "<?xml") 1 (omega arith) x)
 
--- the text of HTML, and that of XML, is what the trimming leaves
-module _ (b text : List ℕ) (skips : SkipsTo IsSpace b text) (stops : NoneBegins IsSpace text) where
-  same_text : (other : List ℕ) → SkipsTo IsSpace b other → NoneBegins IsSpace other → other ≡ text
-  same_text other s none = SkipsTo-same IsSpace IsSpace-prefix_free b other text s none skips stops
+-- a front tells of both
+HasTag-told : (b : List ℕ) → HasTag b → IsTold 1024 HasTag b
+HasTag-told b (k, tag, l, e, h) =
+    let o = tag_opens k tag l e in
+    let n = same_length h.word tag h.same in
+    record {
+      front = h.word ++ h.end ∷ [];
+      rest = h.rest;
+      whole = h.whole ∙ sym (append_assoc h.word (h.end ∷ []) h.rest);
+      short = omega (arith, length-append h.word (h.end ∷ []));
+      tells = λ more. (
+        k,
+        tag,
+        l,
+        e,
+        record { word = h.word; end = h.end; rest = more; same = h.same; closes = h.closes; whole = append_assoc h.word (h.end ∷ []) more },
+      );
+    }
 
-  pub tag-from_IsHtml : IsHtml b → Any (λ tag. BeginsWithTag tag text) tags
-  tag-from_IsHtml (other, s, h) =
-      subst (λ u. Any (λ tag. BeginsWithTag tag u) tags) (same_text other s (NoneBegins-space other (some_tag_open other h))) h
+HasXml-told : (b : List ℕ) → HasXml b → IsTold 1024 HasXml b
+HasXml-told b h = record {
+  front = h.word;
+  rest = h.rest;
+  whole = h.whole;
+  short = let n = same_length h.word (codes "<?xml") h.same in omega arith;
+  tells = λ more. record { word = h.word; rest = more; same = h.same; whole = refl };
+}
 
-module _ (b marked text : List ℕ) (skips : SkipsTo IsSpace b marked) (stops : NoneBegins IsSpace marked)
-    (marks : SkipsTo IsMark marked text) (ends : NoneBegins IsMark text) where
-  pub text-from_IsXml : IsXml b → BeginsInAnyCase (codes "<?xml") text
-  text-from_IsXml (other, left, s, m, h) =
-      let first = xml_open left h in
-      let same : other ≡ marked = same_text b marked skips stops other s (NoneBegins-space-marked other left m first) in
-      let same_left : left ≡ text
-      = SkipsTo-same IsMark IsMark-prefix_free marked left text
-      (subst (λ u. SkipsTo IsMark u left) same m) (NoneBegins-mark left first) marks ends in
-      subst (BeginsInAnyCase (codes "<?xml")) same_left h
+-- what begins with "<" begins with no space and no mark, nor do marks begin with a space
+HasTag-stops : Stops HasTag IsSpace
+HasTag-stops b h = let first = HasTag-open b h in NoneBegins-first IsSpace IsWhite IsSpace-begin b (λ white. omega arith)
 
--- both are of the buffer what they are of its text
-module _ (b text : List ℕ) (skips : SkipsTo IsSpace b text) (stops : NoneBegins IsSpace text) where
+NoneBegins-mark : (b : List ℕ) → get_or b 0 0 ≡ 0x3C → NoneBegins IsMark b
+NoneBegins-mark b first = NoneBegins-first IsMark IsMarkByte IsMark-begin b (λ mark. omega arith)
+
+HasXml-stops : Stops HasXml IsMark
+HasXml-stops b h = NoneBegins-mark b (HasXml-open b h)
+
+abbrev IsMarkedXml : List ℕ → Type 0
+IsMarkedXml = Behind IsMark HasXml
+
+IsMarkedXml-lead : (b : List ℕ) → IsMarkedXml b → IsMarkByte (get_or b 0 0) ⊎ (get_or b 0 0 ≡ 0x3C)
+IsMarkedXml-lead = Behind-lead IsMark IsMarkByte IsMark-begin HasXml (λ x. x ≡ 0x3C) HasXml-open
+
+IsMarkedXml-stops : Stops IsMarkedXml IsSpace
+IsMarkedXml-stops b h =
+    let first = IsMarkedXml-lead b h in NoneBegins-first IsSpace IsWhite IsSpace-begin b (λ white. absurd (omega arith))
+
+-- XML is that behind white space
+IsXml-nested : (b : List ℕ) → IsXml b ↔ Behind IsSpace IsMarkedXml b
+IsXml-nested b = (λ (marked, text, s, m, h). (marked, s, (text, m, h)), λ (marked, s, (text, m, h)). (marked, text, s, m, h))
+
+module _ (b text : List ℕ) (skips : SkipsTo IsSpace b text) (none : NoneBegins IsSpace text) where
+  pub IsHtml-left : HasTag text ↔ IsHtml b
+  IsHtml-left = Behind-left IsSpace HasTag IsSpace-prefix_free HasTag-stops b text skips none
+
   pub IsHtml-trimmed : IsHtml text ↔ IsHtml b
-  IsHtml-trimmed = (
-    λ h. (text, skips, tag-from_IsHtml text text (SkipsTo-none IsSpace text) stops h),
-    λ h. (text, SkipsTo-none IsSpace text, tag-from_IsHtml b text skips stops h),
-  )
+  IsHtml-trimmed = Behind-trimmed IsSpace HasTag IsSpace-prefix_free HasTag-stops b text skips none
 
   pub IsXml-trimmed : IsXml text ↔ IsXml b
-  IsXml-trimmed = (
-    λ (other, left, s, m, h).
-        let same = same_text text text (SkipsTo-none IsSpace text) stops other s (NoneBegins-space-marked other left m (xml_open left h)) in
-        (text, left, skips, subst (λ u. SkipsTo IsMark u left) same m, h),
-    λ (other, left, s, m, h).
-        let same = same_text b text skips stops other s (NoneBegins-space-marked other left m (xml_open left h)) in
-        (text, left, SkipsTo-none IsSpace text, subst (λ u. SkipsTo IsMark u left) same m, h),
-  )
+  IsXml-trimmed =
+      let both = Behind-trimmed IsSpace IsMarkedXml IsSpace-prefix_free IsMarkedXml-stops b text skips none in
+      (λ x. (IsXml-nested b).1 (both.0 ((IsXml-nested text).0 x)), λ x. (IsXml-nested text).1 (both.1 ((IsXml-nested b).0 x)))
 
--- a text begins in no two ways
+  pub text-from_IsXml : (left : List ℕ) → SkipsTo IsMark text left → NoneBegins IsMark left → IsXml b → HasXml left
+  text-from_IsXml left marks ends x =
+      (Behind-left IsMark HasXml IsMark-prefix_free HasXml-stops text left marks ends).1
+      ((Behind-left IsSpace IsMarkedXml IsSpace-prefix_free IsMarkedXml-stops b text skips none).1 ((IsXml-nested b).0 x))
+
 pub IsHtml-apart_IsXml : AreApart IsHtml IsXml
-IsHtml-apart_IsXml b (text, s, h) x =
-    let tag = some_tag text h in
-    let begins = text-from_IsXml b text text s (NoneBegins-space text tag.0) (SkipsTo-none IsMark text) (NoneBegins-mark text tag.0) x in
-    tag.1 (BeginsInAnyCase-byte text (codes "<?xml") 1 (omega arith) begins)
+IsHtml-apart_IsXml b h x =
+    Behind-apart IsSpace HasTag IsMarkedXml IsSpace-prefix_free HasTag-stops IsMarkedXml-stops
+    (λ u tag xml. HasTag-apart_xml u tag
+    ((Behind-left IsMark HasXml IsMark-prefix_free HasXml-stops u u (SkipsTo-none IsMark u) (NoneBegins-mark u (HasTag-open u tag))).1 xml))
+    b h ((IsXml-nested b).0 x)
 
 -- in a buffer that grows
-BeginsInAnyCase-append : (text b more : List ℕ) → BeginsInAnyCase text b → BeginsInAnyCase text (b ++ more)
-BeginsInAnyCase-append text b more h = record {
-  word = h.word;
-  rest = h.rest ++ more;
-  same = h.same;
-  whole = ap (λ u. u ++ more) h.whole ∙ append_assoc h.word h.rest more;
-}
+pub IsHtml-lasts : Lasts IsHtml
+IsHtml-lasts = Behind-lasts IsSpace HasTag (told-lasts 1024 HasTag HasTag-told)
 
-BeginsWithTag-append : (tag b more : List ℕ) → BeginsWithTag tag b → BeginsWithTag tag (b ++ more)
-BeginsWithTag-append tag b more h = record {
-  word = h.word;
-  end = h.end;
-  rest = h.rest ++ more;
-  same = h.same;
-  closes = h.closes;
-  whole = ap (λ u. u ++ more) h.whole ∙ append_assoc h.word (h.end ∷ h.rest) more;
-}
-
-pub IsHtml-lasting : IsLasting IsHtml
-IsHtml-lasting b more (text, s, (k, tag, l, e, h)) =
-    (text ++ more, SkipsTo-append IsSpace b text more s, (k, tag, l, e, BeginsWithTag-append tag text more h))
-
-pub IsXml-lasting : IsLasting IsXml
-IsXml-lasting b more (marked, text, s, m, h) = (
-  marked ++ more,
-  text ++ more,
-  SkipsTo-append IsSpace b marked more s,
-  SkipsTo-append IsMark marked text more m,
-  BeginsInAnyCase-append _ text more h,
-)
+pub IsXml-lasts : Lasts IsXml
+IsXml-lasts b more x = (IsXml-nested (b ++ more)).1
+    (Behind-lasts IsSpace IsMarkedXml (Behind-lasts IsMark HasXml (told-lasts 1024 HasXml HasXml-told)) b more ((IsXml-nested b).0 x))
 
 -- the first byte
 pub IsHtml-lead : (b : List ℕ) → IsHtml b → IsWhite (get_or b 0 0) ⊎ (get_or b 0 0 ≡ 0x3C)
-IsHtml-lead b (text, s, h) =
-    elim (SkipsTo-lead IsSpace IsWhite IsSpace-begin b text s) [ inl w ↦ inl w | inr e ↦ inr (e ∙ some_tag_open text h) ]
+IsHtml-lead = Behind-lead IsSpace IsWhite IsSpace-begin HasTag (λ x. x ≡ 0x3C) HasTag-open
 
 pub IsXml-lead : (b : List ℕ) → IsXml b → IsWhite (get_or b 0 0) ⊎ (get_or b 0 0 ≡ 0x3C) ⊎ IsMarkByte (get_or b 0 0)
-IsXml-lead b (marked, text, s, m, h) =
-    elim (SkipsTo-lead IsSpace IsWhite IsSpace-begin b marked s) [
-      | inl w ↦ inl w
-      | inr e ↦ elim (SkipsTo-lead IsMark IsMarkByte IsMark-begin marked text m) [
-        | inl k ↦ inr (inr (subst IsMarkByte (sym e) k))
-        | inr f ↦ inr (inl (e ∙ f ∙ xml_open text h))
-      ]
-    ]
+IsXml-lead b x = Behind-lead IsSpace IsWhite IsSpace-begin IsMarkedXml (λ y. (y ≡ 0x3C) ⊎ IsMarkByte y)
+    (λ u h. elim (IsMarkedXml-lead u h) [ inl m ↦ inr m | inr e ↦ inl e ]) b ((IsXml-nested b).0 x)
+
+-- what more bytes bring
+pub BeginsWhite-early : IsEarly BeginsWhite
+BeginsWhite-early b more long w = subst IsWhite (get_or_append_left b more 0 0 (omega arith)) w
+
+pub BeginsMarked-early : IsEarly BeginsMarked
+BeginsMarked-early b more long (mark, is, o) =
+    let short = each_mark (λ u. length u ≤ 3) (omega arith) (omega arith) (omega arith) mark is in
+    (mark, is, OccursAt-front b more mark 0 (omega arith) o)
+
+white_begins : (b more rest : List ℕ) → 1024 ≤ length b → BeginsWith IsSpace (b ++ more) rest → BeginsWhite b
+white_begins b more rest long w = BeginsWhite-early b more long (begun-first IsSpace IsWhite IsSpace-begin (b ++ more) rest w)
+
+pub IsHtml-comes : ComesWith IsHtml BeginsWhite
+IsHtml-comes = Behind-comes IsSpace HasTag BeginsWhite white_begins (λ b more long h. inl (told-early HasTag HasTag-told b more long h))
+
+pub IsXml-comes : ComesWith IsXml (λ b. BeginsWhite b ⊎ BeginsMarked b)
+IsXml-comes b more long x =
+    let brings : ComesWith IsMarkedXml (λ u. BeginsWhite u ⊎ BeginsMarked u)
+    = Behind-comes IsMark HasXml (λ u. BeginsWhite u ⊎ BeginsMarked u)
+    (λ u y rest l w. inr (BeginsMarked-early u y l (w.word, w.kind, OccursAt-begins (u ++ y) w.word rest w.whole)))
+    (λ u y l h. inl (told-early HasXml HasXml-told u y l h)) in
+    elim (
+    Behind-comes IsSpace IsMarkedXml (λ u. BeginsWhite u ⊎ BeginsMarked u) (λ u y rest l w. inl (white_begins u y rest l w)) brings b more long
+    ((IsXml-nested (b ++ more)).0 x)
+    ) [ inl h ↦ inl ((IsXml-nested b).1 h) | inr t ↦ inr t ]

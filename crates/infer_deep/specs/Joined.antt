@@ -21,3 +21,7 @@ NoneBegins P b = (word rest : List ℕ) → P word → ¬ (b ≡ word ++ rest)
 -- b is some words of the kind P joined, and then c: what can follow P's words in c can follow them in b
 abbrev pub LeadsTo : (List ℕ → Type 0) → List ℕ → List ℕ → Type 0
 LeadsTo P b c = (rest : List ℕ) → SkipsTo P c rest → SkipsTo P b rest
+
+-- b is some words of the kind P joined, perhaps none, and then a buffer with the property S
+abbrev pub Behind : (List ℕ → Type 0) → (List ℕ → Type 0) → List ℕ → Type 0
+Behind P S b = (rest : List ℕ) × SkipsTo P b rest × S rest

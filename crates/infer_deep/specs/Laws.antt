@@ -1,7 +1,7 @@
 -- Laws of the signatures, each group as one record.
 use Rattle.std.specs.Prelude.{◌≡◌, ◌≢◌, ℕ, ◌<◌, ◌≤◌, ◌⊎◌, List, ◌∷◌, length, slice_index}
 use Rattle.memchr.specs.Find.{OccursAt}
-use Rattle.infer_deep.specs.Signatures.{IsLasting, IsNear, AreApart, ComesWith, IsEarly}
+use Rattle.infer_deep.specs.Signatures.{Lasts, IsNear, AreApart, ComesWith, IsEarly}
 use Rattle.infer_deep.specs.Windows.{IsPdf, IsMatroska}
 use Rattle.infer_deep.specs.Frames.{BeginsFrame, IsFramed}
 use Rattle.infer_deep.specs.Brands.{IsBoxed, IsOpenBox, IsHeif, IsAvif}
@@ -11,17 +11,17 @@ use Rattle.infer_deep.specs.Text.{BeginsMarked, BeginsWhite, IsWhite, IsHtml, Is
 
 -- what is accepted stays accepted in a buffer that grows
 pub record Growth : Type 0 where
-  pub pdf : IsLasting IsPdf
-  pub matroska : (doc_type : List ℕ) → IsLasting (IsMatroska doc_type)
-  pub framed : (magic : List ℕ) → IsLasting (IsFramed magic)
-  pub heif : IsLasting IsHeif
-  pub avif : IsLasting IsAvif
-  pub office : (folder : List ℕ) → IsLasting (IsOffice folder)
-  pub doc : IsLasting IsDoc
-  pub xls : IsLasting IsXls
-  pub ppt : IsLasting IsPpt
-  pub html : IsLasting IsHtml
-  pub xml : IsLasting IsXml
+  pub pdf : Lasts IsPdf
+  pub matroska : (doc_type : List ℕ) → Lasts (IsMatroska doc_type)
+  pub framed : (magic : List ℕ) → Lasts (IsFramed magic)
+  pub heif : Lasts IsHeif
+  pub avif : Lasts IsAvif
+  pub office : (folder : List ℕ) → Lasts (IsOffice folder)
+  pub doc : Lasts IsDoc
+  pub xls : Lasts IsXls
+  pub ppt : Lasts IsPpt
+  pub html : Lasts IsHtml
+  pub xml : Lasts IsXml
 
 -- the first 1024 bytes decide
 pub record Near : Type 0 where

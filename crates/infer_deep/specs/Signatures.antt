@@ -2,8 +2,8 @@
 use Rattle.std.specs.Prelude.{ℕ, ◌↔◌, ◌≤◌, ◌⊎◌, List, ◌++◌, length, take}
 
 -- a buffer that has it has it with any bytes behind it too
-abbrev pub IsLasting : (List ℕ → Type 0) → Type 0
-IsLasting S = (b more : List ℕ) → S b → S (b ++ more)
+abbrev pub Lasts : (List ℕ → Type 0) → Type 0
+Lasts S = (b more : List ℕ) → S b → S (b ++ more)
 
 -- a buffer of at least 1024 bytes has it just where its first 1024 bytes have it
 abbrev pub IsNear : (List ℕ → Type 0) → Type 0

@@ -1,18 +1,10 @@
-use Rattle.std.proofs.Common.{arith, codes, ◌∙◌, ap, min, length}
+use Rattle.std.proofs.Common.{arith, codes, ◌<◌, List, ℕ, ◌∙◌, ap, min, length}
 use Rattle.infer_deep.proofs.OfficeLemmas.{folder_follows}
 use Rattle.infer_deep.proofs.doc.deciding_folder.Goals as goal
 
-pub returns-clause-word : goal.returns-clause-word
-returns-clause-word c =
-    let from = c.min.ensures ∙ ap (λ x. min x (length c.args.buf.now)) c.unwrap_or-place.ensures in
-    folder_follows c.args.buf.now (codes "word/") c.deciding_place.result c.min.result (omega arith) c.deciding_place.ensures from
-
-pub returns-clause-excel : goal.returns-clause-excel
-returns-clause-excel c =
-    let from = c.min.ensures ∙ ap (λ x. min x (length c.args.buf.now)) c.unwrap_or-place.ensures in
-    folder_follows c.args.buf.now (codes "xl/") c.deciding_place.result c.min.result (omega arith) c.deciding_place.ensures from
-
-pub returns-clause-power_point : goal.returns-clause-power_point
-returns-clause-power_point c =
-    let from = c.min.ensures ∙ ap (λ x. min x (length c.args.buf.now)) c.unwrap_or-place.ensures in
-    folder_follows c.args.buf.now (codes "ppt/") c.deciding_place.result c.min.result (omega arith) c.deciding_place.ensures from
+pub returns : goal.returns
+returns c =
+    let b = c.args.buf.now in
+    let from = c.min.ensures ∙ ap (λ x. min x (length b)) c.unwrap_or-place.ensures in
+    let follows = λ (folder : List ℕ) (some : 0 < length folder). folder_follows b folder _ c.min.result some c.deciding_place.ensures from in
+    record { word = follows (codes "word/") (omega arith); excel = follows (codes "xl/") (omega arith); power_point = follows (codes "ppt/") (omega arith) }

@@ -1,8 +1,8 @@
-use Rattle.std.proofs.Common.{refl, sym, subst}
+use Rattle.std.proofs.Common.{inl, refl, sym, subst}
 use Rattle.std.proofs.lemmas.Bool.{false≢true}
 use Rattle.infer_deep.specs.Places.{FindsPlace}
 use Rattle.infer_deep.specs.Office.{IsDecidingHeader}
-use Rattle.infer_deep.proofs.OfficeLemmas.{fourth_from_search, third_decides}
+use Rattle.infer_deep.proofs.OfficeLemmas.{fourth_from_search}
 use Rattle.infer_deep.proofs.doc.deciding_header.Goals as goal
 
 pub returns-in_err-third : goal.returns-in_err-third
@@ -11,7 +11,8 @@ returns-in_err-third c =
     (λ p d. c.in_err-third.ensures d.third d.third_found)
 
 pub returns-then-has_folder : goal.returns-then-has_folder
-returns-then-has_folder c = third_decides c.args.buf.now c.in_ok-third.third c.in_ok-third.ensures (c.if-has_folder.ensures.0 refl)
+returns-then-has_folder c =
+    record { third = c.in_ok-third.third; third_found = c.in_ok-third.ensures; decides = inl (c.if-has_folder.ensures.0 refl, refl) }
 
 pub returns : goal.returns
 returns c =

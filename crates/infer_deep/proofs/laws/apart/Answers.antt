@@ -1,27 +1,31 @@
-use Rattle.std.proofs.Common.{arith, inl, inr}
-use Rattle.infer_deep.specs.ClassId.{compound_header, word_id, old_excel_id, excel_id, powerpoint_id}
-use Rattle.infer_deep.specs.Office.{zip_header}
+use Rattle.std.proofs.Common.{◌+◌, ◌<◌, ◌≡◌, ℕ, List, get_or, length, arith, inl, inr}
+use Rattle.infer_deep.specs.ClassId.{HasClassId, IsRoot, compound_header, word_id, old_excel_id, excel_id, powerpoint_id}
+use Rattle.infer_deep.specs.Office.{IsDecidingPlace, zip_header}
+use Rattle.infer_deep.specs.Signatures.{AreApart}
 use Rattle.infer_deep.proofs.BrandLemmas.{open-apart_boxed}
-use Rattle.infer_deep.proofs.ClassIdLemmas.{HasClassId-apart}
+use Rattle.infer_deep.proofs.ClassIdLemmas.{IsRoot-one}
 use Rattle.infer_deep.proofs.FrameLemmas.{IsFramed-apart}
-use Rattle.infer_deep.proofs.OfficeLemmas.{IsOffice-apart}
-use Rattle.infer_deep.proofs.PlaceLemmas.{OccursAt-agree}
+use Rattle.infer_deep.proofs.OfficeLemmas.{IsDecidingPlace-one}
+use Rattle.infer_deep.proofs.PlaceLemmas.{OccursAt-agree, apart_at_one}
 use Rattle.infer_deep.proofs.TextLemmas.{IsHtml-apart_IsXml}
 use Rattle.infer_deep.proofs.laws.apart.Goals as goal
 
+ids_apart : (v w : List ℕ) (i : ℕ) → i < length v → i < length w → (get_or v i 0 ≡ get_or w i 0 → ⊥) → AreApart (HasClassId v) (HasClassId w)
+ids_apart v w i in_v in_w differ b = apart_at_one (IsRoot b) (IsRoot-one b) b (λ p. p + 80) v w i in_v in_w differ
+
 pub returns : goal.returns
 returns c = record {
-  framed = λ v w (some_v, some_w, differ) low_v low_w b. IsFramed-apart b v w differ some_v some_w low_v low_w;
-  office = λ v w (some_v, some_w, differ) b. IsOffice-apart b v w differ some_v some_w;
-  class_id = λ v w i in_v in_w differ b. HasClassId-apart b v w i differ in_v in_w;
+  framed = λ v w (some_v, some_w, differ). IsFramed-apart v w some_v some_w differ;
+  office = λ v w (some_v, some_w, differ) b. apart_at_one (IsDecidingPlace b) (IsDecidingPlace-one b) b (λ p. p) v w 0 some_v some_w differ;
+  class_id = ids_apart;
   doc_xls = λ b doc xls. elim xls [
-    | inl h ↦ HasClassId-apart b word_id old_excel_id 0 (λ e. omega arith) (omega arith) (omega arith) doc h
-    | inr h ↦ HasClassId-apart b word_id excel_id 0 (λ e. omega arith) (omega arith) (omega arith) doc h
+    | inl h ↦ ids_apart word_id old_excel_id 0 (omega arith) (omega arith) (λ e. omega arith) b doc h
+    | inr h ↦ ids_apart word_id excel_id 0 (omega arith) (omega arith) (λ e. omega arith) b doc h
   ];
-  doc_ppt = λ b. HasClassId-apart b word_id powerpoint_id 0 (λ e. omega arith) (omega arith) (omega arith);
+  doc_ppt = ids_apart word_id powerpoint_id 0 (omega arith) (omega arith) (λ e. omega arith);
   xls_ppt = λ b xls ppt. elim xls [
-    | inl h ↦ HasClassId-apart b old_excel_id powerpoint_id 1 (λ e. omega arith) (omega arith) (omega arith) h ppt
-    | inr h ↦ HasClassId-apart b excel_id powerpoint_id 1 (λ e. omega arith) (omega arith) (omega arith) h ppt
+    | inl h ↦ ids_apart old_excel_id powerpoint_id 1 (omega arith) (omega arith) (λ e. omega arith) b h ppt
+    | inr h ↦ ids_apart excel_id powerpoint_id 1 (omega arith) (omega arith) (λ e. omega arith) b h ppt
   ];
   compound_zip = λ b compound zip.
       let same = OccursAt-agree b compound_header zip_header 0 0 compound zip (omega arith) (omega arith) in absurd (omega arith);

@@ -1,24 +1,28 @@
 use Rattle.std.proofs.Common.{inr}
-use Rattle.infer_deep.proofs.ArrivalLemmas.{avif_comes, class_id_comes, compound_before, frame_before, framed_comes, heif_comes, html_comes, mark_before, office_before, office_comes, open_before, white_before, xml_comes}
+use Rattle.infer_deep.proofs.BrandLemmas.{IsAvif-comes, IsHeif-comes, IsOpenBox-early}
+use Rattle.infer_deep.proofs.ClassIdLemmas.{BeginsCompound-early}
+use Rattle.infer_deep.proofs.FrameLemmas.{BeginsFrame-early, IsFramed-comes}
+use Rattle.infer_deep.proofs.OfficeLemmas.{BeginsOffice-early, IsOffice-comes}
+use Rattle.infer_deep.proofs.TextLemmas.{BeginsMarked-early, BeginsWhite-early, IsHtml-comes, IsXml-comes}
 use Rattle.infer_deep.proofs.laws.arrival.Goals as goal
 
 pub returns-clause-comes : goal.returns-clause-comes
 returns-clause-comes c = record {
-  heif = heif_comes;
-  avif = avif_comes;
-  class_id = λ id b more long h. inr (class_id_comes b more long id h);
-  office = λ folder short b more long. office_comes b more long folder short;
-  framed = λ magic short b more long. framed_comes b more long magic short;
-  html = html_comes;
-  xml = xml_comes;
+  heif = IsHeif-comes;
+  avif = IsAvif-comes;
+  class_id = λ id b more long (root, r, o). inr (BeginsCompound-early b more long r.header);
+  office = IsOffice-comes;
+  framed = IsFramed-comes;
+  html = IsHtml-comes;
+  xml = IsXml-comes;
 }
 
 pub returns-clause-early : goal.returns-clause-early
 returns-clause-early c = record {
-  open_box = open_before;
-  compound = compound_before;
-  office = office_before;
-  frame = frame_before;
-  white = white_before;
-  mark = mark_before;
+  open_box = IsOpenBox-early;
+  compound = BeginsCompound-early;
+  office = BeginsOffice-early;
+  frame = BeginsFrame-early;
+  white = BeginsWhite-early;
+  mark = BeginsMarked-early;
 }
