@@ -26,8 +26,8 @@ module _ (b word rest : List ℕ) (f : IsFrame word) (e : b ≡ word ++ rest) wh
   size : le32 b 4 ≡ le32 word 4
   size = let s = f.sized in ap (λ u. le32 u 4) e ∙ le32-append word rest 4 (omega arith)
 
-  pub begun-fits : 8 + le32 b 4 ≤ length b
-  begun-fits = let s = f.sized in let g = size in omega (arith, ap length e, length-append word rest)
+  pub begun_fits : 8 + le32 b 4 ≤ length b
+  begun_fits = let s = f.sized in let g = size in omega (arith, ap length e, length-append word rest)
 
   begun-length : length word ≡ 8 + le32 b 4
   begun-length = let s = f.sized in let g = size in omega arith
@@ -49,9 +49,9 @@ IsFrame-prefix_free v w x y f g e =
     same_fronts v w x y (omega arith) e
 
 -- a frame of n bytes stands at the front
-pub BeginsWith-frame : (b : List ℕ) (n : ℕ)
+pub frame_begins : (b : List ℕ) (n : ℕ)
     → n ≡ 8 + le32 b 4 → BeginsFrame b → n ≤ length b → BeginsWith IsFrame b (take (length b - n) (drop n b))
-BeginsWith-frame b n is begins fits =
+frame_begins b n is begins fits =
     let split : take n b ++ drop n b ≡ b = take-append-drop n b in
     let long : length (take n b) ≡ n = length-take-le n b fits in
     let number : le32 b 4 ≡ le32 (take n b) 4
@@ -82,49 +82,36 @@ Stands-framed magic b = (
   λ (rest, s). (magic ++ rest, s, OccursAt-begins (magic ++ rest) magic rest refl),
 )
 
-pub IsFramed-lasts : (magic : List ℕ) → Lasts (IsFramed magic)
-IsFramed-lasts magic b more h =
-    (Stands-framed magic (b ++ more)).0
-    (Behind-lasts IsFrame (Stands magic) (λ u x. OccursAt-append u x magic 0) b more ((Stands-framed magic b).1 h))
+module _ (magic : List ℕ) where
+  pub IsFramed-lasts : Lasts (IsFramed magic)
+  IsFramed-lasts = Behind-lasts IsFrame (Stands magic) (IsFramed magic) (Stands-framed magic) (λ u x. OccursAt-append u x magic 0)
 
-pub IsFramed-comes : (magic : List ℕ) → length magic ≤ 4 → ComesWith (IsFramed magic) BeginsFrame
-IsFramed-comes magic short b more long h =
-    elim (
-    Behind-comes IsFrame (Stands magic) BeginsFrame
-    (λ u x rest l w. BeginsFrame-early u x l (IsFrame-begins (u ++ x) rest w))
-    (λ u x l o. inl (OccursAt-front u x magic 0 (omega arith) o)) b more long ((Stands-framed magic (b ++ more)).1 h)
-    ) [ inl k ↦ inl ((Stands-framed magic b).0 k) | inr f ↦ inr f ]
+  pub IsFramed-comes : length magic ≤ 4 → ComesWith (IsFramed magic) BeginsFrame
+  IsFramed-comes short = Behind-comes IsFrame (Stands magic) (IsFramed magic) (Stands-framed magic) BeginsFrame
+      (λ u x rest l w. BeginsFrame-early u x l (IsFrame-begins (u ++ x) rest w)) (λ u x l o. inl (OccursAt-front u x magic 0 (omega arith) o))
 
 -- the first byte is the magic's, or a frame's
 pub IsFramed-lead : (x : ℕ) (magic b : List ℕ) → IsFramed (x ∷ magic) b → (get_or b 0 0 ≡ x) ⊎ IsFrameByte (get_or b 0 0)
 IsFramed-lead x magic b h =
-    elim (
-    Behind-lead IsFrame IsFrameByte IsFrame-begin (Stands (x ∷ magic)) (λ y. y ≡ x) (λ u o. OccursAt-first u (x ∷ magic) 0 (omega arith) o) b
-    ((Stands-framed (x ∷ magic) b).1 h)
-    ) [ inl f ↦ inr f | inr e ↦ inl e ]
+    let stands = x ∷ magic in
+    let lead = Behind-lead IsFrame (Stands stands) (IsFramed stands) (Stands-framed stands) IsFrameByte (λ y. y ≡ x) IsFrame-begin in
+    elim (lead (λ u o. OccursAt-first u stands 0 (omega arith) o) b h) [ inl f ↦ inr f | inr e ↦ inl e ]
 
 -- a magic number whose first byte is below 50 begins with no frame
 module _ (magic : List ℕ) (some : 0 < length magic) (low : get_or magic 0 0 < 0x50) where
-  stands-stops : Stops (Stands magic) IsFrame
-  stands-stops b o =
+  stands_stops : Stops (Stands magic) IsFrame
+  stands_stops b o =
       NoneBegins-first IsFrame IsFrameByte IsFrame-begin b (λ f. let over = f.0 in let first = OccursAt-first b magic 0 some o in omega arith)
 
-  module _ (b left : List ℕ) (skips : SkipsTo IsFrame b left) (none : NoneBegins IsFrame left) where
-    pub IsFramed-left : Stands magic left ↔ IsFramed magic b
-    IsFramed-left =
-        let both = Behind-left IsFrame (Stands magic) IsFrame-prefix_free stands-stops b left skips none in
-        (λ o. (Stands-framed magic b).0 (both.0 o), λ h. both.1 ((Stands-framed magic b).1 h))
+  pub IsFramed-left : (b left : List ℕ) → SkipsTo IsFrame b left → NoneBegins IsFrame left → Stands magic left ↔ IsFramed magic b
+  IsFramed-left = Behind-left IsFrame (Stands magic) (IsFramed magic) (Stands-framed magic) IsFrame-prefix_free stands_stops
 
-    pub IsFramed-trimmed : IsFramed magic left ↔ IsFramed magic b
-    IsFramed-trimmed =
-        let both = Behind-trimmed IsFrame (Stands magic) IsFrame-prefix_free stands-stops b left skips none in (
-          λ h. (Stands-framed magic b).0 (both.0 ((Stands-framed magic left).1 h)),
-          λ h. (Stands-framed magic left).0 (both.1 ((Stands-framed magic b).1 h)),
-        )
+  pub IsFramed-trimmed : (b left : List ℕ) → SkipsTo IsFrame b left → NoneBegins IsFrame left → IsFramed magic left ↔ IsFramed magic b
+  IsFramed-trimmed = Behind-trimmed IsFrame (Stands magic) (IsFramed magic) (Stands-framed magic) IsFrame-prefix_free stands_stops
 
 -- two that differ in the first byte exclude each other
 pub IsFramed-apart : (v w : List ℕ) → 0 < length v → 0 < length w → (get_or v 0 0 ≡ get_or w 0 0 → ⊥)
     → get_or v 0 0 < 0x50 → get_or w 0 0 < 0x50 → AreApart (IsFramed v) (IsFramed w)
-IsFramed-apart v w some_v some_w differ low_v low_w b f g =
-    Behind-apart IsFrame (Stands v) (Stands w) IsFrame-prefix_free (stands-stops v some_v low_v) (stands-stops w some_w low_w)
-    (λ u o k. differ (OccursAt-agree u v w 0 0 o k some_v some_w)) b ((Stands-framed v b).1 f) ((Stands-framed w b).1 g)
+IsFramed-apart v w some_v some_w differ low_v low_w b f =
+    Behind-apart IsFrame (Stands w) (IsFramed w) (Stands-framed w) IsFrame-prefix_free (stands_stops w some_w low_w) (Stands v) (stands_stops v some_v low_v)
+    (λ u o k. differ (OccursAt-agree u v w 0 0 o k some_v some_w)) b ((Stands-framed v b).1 f)

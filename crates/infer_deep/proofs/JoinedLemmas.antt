@@ -43,8 +43,8 @@ module _ (P : List ℕ → Type 0) where
   }
 
   -- one more word skipped
-  pub LeadsTo-more : (b c d : List ℕ) → LeadsTo P b c → BeginsWith P c d → LeadsTo P b d
-  LeadsTo-more b c d leads h = λ rest s. leads rest (SkipsTo-cons c d rest h s)
+  pub leads_past : (b c d : List ℕ) → LeadsTo P b c → BeginsWith P c d → LeadsTo P b d
+  leads_past b c d leads h = λ rest s. leads rest (SkipsTo-cons c d rest h s)
 
   same_rests : IsPrefixFree P → (vs ws : List (List ℕ)) (x y : List ℕ) → AllByRecursion P vs → AllByRecursion P ws
       → NoneBegins P x → NoneBegins P y → concat vs ++ x ≡ concat ws ++ y → x ≡ y
@@ -67,45 +67,53 @@ module _ (P : List ℕ → Type 0) (Q : ℕ → Type 0) (begin : WordsBegin P Q)
   pub NoneBegins-first : (b : List ℕ) → (¬ Q (get_or b 0 0)) → NoneBegins P b
   NoneBegins-first b not word rest is e = not (begun-first b rest (record { word = word; kind = is; whole = e }))
 
-  -- the first byte is one of the kind Q, or what the property wants
-  pub Behind-lead : (S : List ℕ → Type 0) (R : ℕ → Type 0) → ((rest : List ℕ) → S rest → R (get_or rest 0 0))
-      → (b : List ℕ) → Behind P S b → Q (get_or b 0 0) ⊎ R (get_or b 0 0)
-  Behind-lead S R first b (rest, s, h) = elim (SkipsTo-begin P b rest s) [
-    | inl e ↦ inr (subst (λ u. R (get_or u 0 0)) (sym e) (first rest h))
-    | inr (x, w) ↦ inl (begun-first b x w)
-  ]
+-- what T is of is what S is of behind words of the kind P
+module _ (P S T : List ℕ → Type 0) (is : (b : List ℕ) → Behind P S b ↔ T b) where
+  -- the first byte is one of the kind Q, or what S wants
+  pub Behind-lead : (Q R : ℕ → Type 0) → WordsBegin P Q → ((rest : List ℕ) → S rest → R (get_or rest 0 0))
+      → (b : List ℕ) → T b → Q (get_or b 0 0) ⊎ R (get_or b 0 0)
+  Behind-lead Q R begin first b t =
+      let (rest, s, h) = (is b).1 t in
+      elim (SkipsTo-begin P b rest s) [
+        | inl e ↦ inr (subst (λ u. R (get_or u 0 0)) (sym e) (first rest h))
+        | inr (x, w) ↦ inl (begun-first P Q begin b x w)
+      ]
 
-module _ (P S : List ℕ → Type 0) where
-  pub Behind-lasts : Lasts S → Lasts (Behind P S)
-  Behind-lasts lasts b more (rest, s, h) = (
-    rest ++ more,
-    record { words = s.words; each = s.each; whole = ap (λ u. u ++ more) s.whole ∙ append_assoc (concat s.words) rest more },
-    lasts rest more h,
-  )
+  pub Behind-lasts : Lasts S → Lasts T
+  Behind-lasts lasts b more t =
+      let (rest, s, h) = (is b).1 t in
+      (is (b ++ more)).0 (
+        rest ++ more,
+        record { words = s.words; each = s.each; whole = ap (λ u. u ++ more) s.whole ∙ append_assoc (concat s.words) rest more },
+        lasts rest more h,
+      )
 
-  -- what more bytes bring, a word in front brings or the property's own more bytes
-  pub Behind-comes : (T : List ℕ → Type 0) → ((b more rest : List ℕ) → 1024 ≤ length b → BeginsWith P (b ++ more) rest → T b)
-      → ComesWith S T → ComesWith (Behind P S) T
-  Behind-comes T begun comes b more long (rest, s, h) = elim (SkipsTo-begin P (b ++ more) rest s) [
-    | inl e ↦ elim (comes b more long (subst S (sym e) h)) [ inl k ↦ inl (b, SkipsTo-none P b, k) | inr t ↦ inr t ]
-    | inr (x, w) ↦ inr (begun b more x long w)
-  ]
+  -- what more bytes bring, a word in front brings or what brings S
+  pub Behind-comes : (U : List ℕ → Type 0) → ((b more rest : List ℕ) → 1024 ≤ length b → BeginsWith P (b ++ more) rest → U b)
+      → ComesWith S U → ComesWith T U
+  Behind-comes U begun comes b more long t =
+      let (rest, s, h) = (is (b ++ more)).1 t in
+      elim (SkipsTo-begin P (b ++ more) rest s) [
+        | inl e ↦ elim (comes b more long (subst S (sym e) h)) [ inl k ↦ inl ((is b).0 (b, SkipsTo-none P b, k)) | inr u ↦ inr u ]
+        | inr (x, w) ↦ inr (begun b more x long w)
+      ]
 
--- what is left after the words has the property just where the buffer has it behind them
-module _ (P S : List ℕ → Type 0) (free : IsPrefixFree P) (stops : Stops S P) where
-  module _ (b left : List ℕ) (skips : SkipsTo P b left) (none : NoneBegins P left) where
-    pub Behind-left : S left ↔ Behind P S b
-    Behind-left = (
-      λ h. (left, skips, h),
-      λ (rest, s, h). subst S (same_rests P free s.words skips.words rest left s.each skips.each (stops rest h) none (sym s.whole ∙ skips.whole)) h,
+  -- what is left after the words is S just where the buffer is T
+  module _ (free : IsPrefixFree P) (stops : Stops S P) where
+    pub Behind-left : (b left : List ℕ) → SkipsTo P b left → NoneBegins P left → S left ↔ T b
+    Behind-left b left skips none = (
+      λ h. (is b).0 (left, skips, h),
+      λ t.
+          let (rest, s, h) = (is b).1 t in
+          subst S (same_rests P free s.words skips.words rest left s.each skips.each (stops rest h) none (sym s.whole ∙ skips.whole)) h,
     )
 
-  pub Behind-trimmed : (b left : List ℕ) → SkipsTo P b left → NoneBegins P left → Behind P S left ↔ Behind P S b
-  Behind-trimmed b left skips none =
-      let here = Behind-left left left (SkipsTo-none P left) none in
-      let there = Behind-left b left skips none in
-      (λ h. there.0 (here.1 h), λ h. here.0 (there.1 h))
+    pub Behind-trimmed : (b left : List ℕ) → SkipsTo P b left → NoneBegins P left → T left ↔ T b
+    Behind-trimmed b left skips none =
+        let here = Behind-left left left (SkipsTo-none P left) none in
+        let there = Behind-left b left skips none in
+        (λ t. there.0 (here.1 t), λ t. here.0 (there.1 t))
 
-pub Behind-apart : (P S T : List ℕ → Type 0) → IsPrefixFree P → Stops S P → Stops T P → AreApart S T → AreApart (Behind P S) (Behind P T)
-Behind-apart P S T free stops_s stops_t apart b (rest, s, h) k =
-    apart rest h ((Behind-left P T free stops_t b rest s (stops_s rest h)).1 k)
+    -- what excludes S behind them excludes T
+    pub Behind-apart : (R : List ℕ → Type 0) → Stops R P → AreApart R S → AreApart (Behind P R) T
+    Behind-apart R stops_r apart b (rest, s, h) t = apart rest h ((Behind-left b rest s (stops_r rest h)).1 t)

@@ -1,5 +1,5 @@
 -- The headers of an Office document: each is one place, and stays it in a buffer that grows.
-use Rattle.std.proofs.Common.{◌≡◌, ℕ, ◌+◌, ◌<◌, ◌≤◌, List, ◌++◌, Option, Some, None, length, sym, ap, subst, ◌∙◌, inl, inr, arith, min, take, drop, ◌-◌, ◌↔◌}
+use Rattle.std.proofs.Common.{◌≡◌, ℕ, ◌+◌, ◌<◌, ◌≤◌, List, ◌++◌, Option, Some, None, length, refl, sym, ap, subst, ◌∙◌, inl, inr, arith, min, take, drop, ◌-◌, ◌↔◌}
 use Rattle.std.specs.Option.{unwrap_or}
 use Rattle.memchr.specs.Find.{OccursAt}
 use Rattle.infer_deep.specs.Numbers.{le32}
@@ -16,8 +16,9 @@ IsThirdHeader-one b p q t u =
 
 -- what the searches for the second and the third header tell of the third
 module _ (b : List ℕ) (start : ℕ) (is : start ≡ le32 b 18 + 49) where
-  pub no_second : ((p : ℕ) → ¬ IsWithin b zip_header start (start + 6000) p) → (p : ℕ) → ¬ IsThirdHeader b p
-  no_second none p t = none t.second (subst (λ (s : ℕ). IsWithin b zip_header s (s + 6000) t.second) (sym is) t.second_found.here)
+  pub no_second : (r : Option ℕ) → r ≡ None → ((p : ℕ) → ¬ IsWithin b zip_header start (start + 6000) p) → FindsPlace (IsThirdHeader b) r
+  no_second r e none = subst (FindsPlace (IsThirdHeader b)) (sym e)
+      (λ p t. none t.second (subst (λ (s : ℕ). IsWithin b zip_header s (s + 6000) t.second) (sym is) t.second_found.here))
 
   pub third_from_search : (second : ℕ) → IsHeaderFrom b start second → start ≤ 0xFFFFFFFF → (r : Option ℕ)
       → IsFirstWithin b zip_header (second + 30) (second + 30 + 6000) r → FindsPlace (IsThirdHeader b) r
@@ -30,6 +31,10 @@ module _ (b : List ℕ) (start : ℕ) (is : start ≡ le32 b 18 + 49) where
     second_found = subst (λ (s : ℕ). IsHeaderFrom b s second) is found;
     third_found = there;
   }
+
+-- where no header is the third, none decides
+pub no_third : (b : List ℕ) (r : Option ℕ) → r ≡ None → ((p : ℕ) → ¬ IsThirdHeader b p) → FindsPlace (IsDecidingHeader b) r
+no_third b r e none = subst (FindsPlace (IsDecidingHeader b)) (sym e) (λ p d. none d.third d.third_found)
 
 -- what the search for the fourth header tells, where no folder of Office stands at the third
 pub fourth_from_search : (b : List ℕ) (third : ℕ) → IsThirdHeader b third → (¬ HasFolder b (third + 30)) → (r : Option ℕ)
@@ -59,11 +64,18 @@ IsDecidingPlace-one b p q (_, inr h) (_, inl k) = absurd (h.0 k.0)
 IsDecidingPlace-one b p q (_, inr (_, _, (x, f, e))) (_, inr (_, _, (y, g, d))) =
     e ∙ ap (λ u. u + 30) (IsDecidingHeader-one b x y f g) ∙ sym d
 
--- where no folder stands and no header decides, no place does
-pub no_deciding : (b : List ℕ)
-    → (¬ HasFolder b 30) → ((p : ℕ) → ¬ IsDecidingHeader b p) → (p : ℕ) → ¬ IsDecidingPlace b p
-no_deciding b free none p (_, inl h) = free h.0
-no_deciding b free none p (_, inr (_, _, (header, d, _))) = none header d
+-- where no folder stands at the first header, the place is that of the header that decides, if any
+pub no_deciding : (b : List ℕ) (r : Option ℕ) → r ≡ None
+    → (¬ HasFolder b 30) → ((p : ℕ) → ¬ IsDecidingHeader b p) → FindsPlace (IsDecidingPlace b) r
+no_deciding b r e free none = subst (FindsPlace (IsDecidingPlace b)) (sym e)
+    (λ p (_, d). elim d [ inl h ↦ free h.0 | inr (_, _, (header, here, _)) ↦ none header here ])
+
+pub header_decides : (b : List ℕ) (header : ℕ) → IsDecidingHeader b header → OccursAt b zip_header 0
+    → (¬ HasFolder b 30) → HasOfficeName b → IsDecidingPlace b (header + 30)
+header_decides b header d zip free name = (zip, inr (free, name, (header, d, refl)))
+
+pub IsOffice-at : (b folder : List ℕ) (p : ℕ) → IsDecidingPlace b p → OccursAt b folder p ↔ IsOffice folder b
+IsOffice-at b folder p d = stands_at_one (IsDecidingPlace b) (IsDecidingPlace-one b) b (λ x. x) folder p d
 
 -- what follows from the deciding place on begins with the folder of the document
 pub folder_follows : (b folder : List ℕ) (r : Option ℕ) (n : ℕ) → 0 < length folder → FindsPlace (IsDecidingPlace b) r
@@ -74,7 +86,7 @@ folder_follows b folder None n some none is = (
 )
 folder_follows b folder (Some p) n some d is =
     let part = OccursAt-part b folder n (length b) 0 (omega arith) (omega arith) in
-    let there = stands_at_one (IsDecidingPlace b) (IsDecidingPlace-one b) b (λ x. x) folder p d in (
+    let there = IsOffice-at b folder p d in (
       λ o. let ends = (part.0 o).1 in there.0 (subst (OccursAt b folder) (let r : n + 0 ≡ p = omega arith in r) (part.0 o).0),
       λ office.
           let o = there.1 office in

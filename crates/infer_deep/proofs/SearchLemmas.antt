@@ -7,7 +7,7 @@ use Rattle.std.proofs.lemmas.Bool.Decides.{Decides-eqb}
 use Rattle.std.proofs.lemmas.Bool.{cases_lt}
 use Rattle.std.specs.List.{starts_with}
 use Rattle.std.specs.Prelude.{nat_eq}
-use Rattle.memchr.specs.Find.{OccursAt, IsFirst, NoneBefore}
+use Rattle.memchr.specs.Find.{OccursAt, NoneBefore, Nowhere}
 use Rattle.memchr.specs.Pairs.{HasPair, IsPairFinderOf, reach_of}
 use Rattle.memchr.specs.declared.arch.all.packedpair.Finder.{Finder}
 use Rattle.infer_deep.specs.Blocks.{LacksPair}
@@ -19,8 +19,8 @@ module _ (b text : List ℕ) (p : ℕ) (r : Bool) (e : r ≡ starts_with nat_eq 
   tested : r ≡ starts_with nat_eq (drop p b) text
   tested = e ∙ ap (λ rest. starts_with nat_eq rest text) (take_rest b p)
 
-  pub OccursAt-from_starts : p ≤ length b → r ≡ true → OccursAt b text p
-  OccursAt-from_starts l is =
+  pub occurs_from_starts : p ≤ length b → r ≡ true → OccursAt b text p
+  occurs_from_starts l is =
       let split = (starts_is Decides-eqb (drop p b) text r tested).0 is in
       let n = front_fits (drop p b) text _ split in
       record {
@@ -28,8 +28,8 @@ module _ (b text : List ℕ) (p : ℕ) (r : Bool) (e : r ≡ starts_with nat_eq 
         reads = at_reads 0 b text p _ split;
       }
 
-  pub starts-from_OccursAt : OccursAt b text p → r ≡ true
-  starts-from_OccursAt o =
+  pub starts_from_occurs : OccursAt b text p → r ≡ true
+  starts_from_occurs o =
       (starts_is Decides-eqb (drop p b) text r tested).1 _ (at_from_reads 0 b text p o.fits o.reads)
 
 -- a search may begin later where nothing stands before
@@ -45,24 +45,11 @@ module _ (b text : List ℕ) (start later end : ℕ) (le : start ≤ later) (non
         elim (cases_lt q later) [ inl l ↦ none q l w | inr l ↦ h.before q lt (from_later q (omega arith) w) ];
   }
 
--- what a search of the part from `start` on says of the buffer: m is where the part ends
-module _ (b text : List ℕ) (start end m : ℕ) (is : m ≡ min end (length b)) (l : start ≤ m) where
-  in_part : (q : ℕ) → IsWithin b text start end (start + q) → OccursAt (take (m - start) (drop start b)) text q
-  in_part q w =
-      let f = w.stands.fits in
-      let h = w.high in
-      (OccursAt-part b text start m q l (omega arith)).1 (w.stands, omega arith)
-
-  place : (p : ℕ) → IsWithin b text start end p → IsWithin b text start end (start + (p - start))
-  place p w =
-      let low = w.low in
-      subst (IsWithin b text start end) (let r : p ≡ start + (p - start) = omega arith in r) w
-
 -- one more block of 128 places that lack the pair, which overlaps those before where the buffer ends
-pub LacksPair-more : (b : List ℕ) (x y k at : ℕ) → at ≡ min (128 * k) (length b - 129) → 129 ≤ length b
+pub lacks_more : (b : List ℕ) (x y k at : ℕ) → at ≡ min (128 * k) (length b - 129) → 129 ≤ length b
     → LacksPair x y b (min (128 * k) (length b - 1)) → LacksPair x y (take (at + 129 - at) (drop at b)) 128
     → LacksPair x y b (min (128 * (k + 1)) (length b - 1))
-LacksPair-more b x y k at is long before lacks p lt (first, second) =
+lacks_more b x y k at is long before lacks p lt (first, second) =
     elim (cases_lt p (128 * k)) [
       | inl l ↦ before p (omega arith) (first, second)
       | inr l ↦
@@ -92,54 +79,54 @@ module _ (b text : List ℕ) (rare start end m n : ℕ) (two : rare + 2 ≤ leng
   pub IsFirstWithin-later : (r : Option ℕ) → IsFirstWithin b text (start + n) end r → IsFirstWithin b text start end r
   IsFirstWithin-later r h = IsFirstWithin-skip b text start (start + n) end (omega arith) none_before r h
 
--- what a search for a pair of bytes of the text in the part from `from` on says of the buffer
-module _ (b text : List ℕ) (from end m : ℕ) (is : m ≡ min end (length b)) (l : from ≤ m) (f : Finder) (of : IsPairFinderOf f text) where
-  pair_at : (k : ℕ) → OccursAt (take (m - from) (drop from b)) text k → HasPair f (take (m - from) (drop from b)) k
-  pair_at k o = record {
-    first = o.reads f.pair.index1 of.pair.first ∙ sym of.byte1;
-    second = o.reads f.pair.index2 of.pair.second ∙ sym of.byte2;
-  }
+-- what a search for a pair of bytes of the text in the part from `from` on says, where the text stands nowhere before
+module _ (b text : List ℕ) (start from end m : ℕ) (is : m ≡ min end (length b)) (l : from ≤ m) (low : start ≤ from)
+    (none : (q : ℕ) → q < from → ¬ IsWithin b text start end q) (f : Finder) (of : IsPairFinderOf f text) where
+  in_part : (q : ℕ) → from ≤ q → IsWithin b text start end q → OccursAt (take (m - from) (drop from b)) text (q - from)
+  in_part q begun w =
+      let fits = w.stands.fits in
+      let high = w.high in
+      let same : q ≡ from + (q - from) = omega arith in
+      (OccursAt-part b text from m (q - from) l (omega arith)).1 (subst (OccursAt b text) same w.stands, omega arith)
 
-  in_reach : (k : ℕ) → OccursAt (take (m - from) (drop from b)) text k → k < length (take (m - from) (drop from b)) - reach_of f
-  in_reach k o =
-      let fits = o.fits in
-      let first = of.pair.first in
-      let second = of.pair.second in
-      omega arith
+  none_to : (k : ℕ) → Nowhere (HasPair f (take (m - from) (drop from b))) 0 k → (q : ℕ) → q < from + k → ¬ IsWithin b text start end q
+  none_to k lacks q lt w = elim (cases_lt q from) [
+    | inl before ↦ none q before w
+    | inr begun ↦
+        let o = in_part q begun w in
+        lacks (q - from) (omega arith) (omega arith)
+        (record { first = o.reads f.pair.index1 of.pair.first ∙ sym of.byte1; second = o.reads f.pair.index2 of.pair.second ∙ sym of.byte2 })
+  ]
 
-  pub IsFirstWithin-no_pair : IsFirst (HasPair f (take (m - from) (drop from b))) 0 (length (take (m - from) (drop from b)) - reach_of f) None
-      → IsFirstWithin b text from end None
-  IsFirstWithin-no_pair h p w =
-      let o = in_part b text from end m is l (p - from) (place b text from end m is l p w) in
-      h (p - from) (omega arith) (in_reach (p - from) o) (pair_at (p - from) o)
-
-  none_before_pair : (k n : ℕ) → NoneBefore (HasPair f (take (m - from) (drop from b))) 0 n k
-      → (q : ℕ) → q < from + k → ¬ IsWithin b text from end q
-  none_before_pair k n h q lt w =
-      let low = w.low in
-      let o = in_part b text from end m is l (q - from) (place b text from end m is l q w) in
-      h.before (q - from) (omega arith) (omega arith) (pair_at (q - from) o)
+  -- where there is no pair the text does not stand
+  pub none_without_pair : (r : Option ℕ) → r ≡ None
+      → Nowhere (HasPair f (take (m - from) (drop from b))) 0 (length (take (m - from) (drop from b)) - reach_of f) → IsFirstWithin b text start end r
+  none_without_pair r e lacks = subst (IsFirstWithin b text start end) (sym e) (λ q w. elim (cases_lt q from) [
+    | inl before ↦ none q before w
+    | inr begun ↦
+        let o = in_part q begun w in
+        let fits = o.fits in
+        let first = of.pair.first in
+        let second = of.pair.second in
+        none_to _ lacks q (omega arith) w
+  ])
 
   -- a text that stands where the first pair does is the first
   pub first_at_pair : (k n : ℕ) → NoneBefore (HasPair f (take (m - from) (drop from b))) 0 n k
-      → OccursAt b text (from + k) × (from + k + length text ≤ m) → IsFirstPlace b text from end (from + k)
+      → OccursAt b text (from + k) × (from + k + length text ≤ m) → IsFirstPlace b text start end (from + k)
   first_at_pair k n h o = record {
     here = record { stands = o.0; low = omega arith; high = let high = o.1 in omega arith };
-    before = none_before_pair k n h;
+    before = none_to k h.before;
   }
 
-  -- and where none does, a search may begin behind it
-  pub IsFirstWithin-past : (k n : ℕ) → NoneBefore (HasPair f (take (m - from) (drop from b))) 0 n k
-      → ¬ (OccursAt b text (from + k) × (from + k + length text ≤ m))
-      → (r : Option ℕ) → IsFirstWithin b text (from + k + 1) end r → IsFirstWithin b text from end r
-  IsFirstWithin-past k n h absent = IsFirstWithin-skip b text from (from + k + 1) end (omega arith) none
-    where
-      none : (q : ℕ) → q < from + k + 1 → ¬ IsWithin b text from end q
-      none q lt w = elim (cases_lt q (from + k)) [
-        | inl before ↦ none_before_pair k n h q before w
-        | inr there ↦
-            let same : q ≡ from + k = omega arith in
-            let high = w.high in
-            let fits = w.stands.fits in
-            absent (subst (OccursAt b text) same w.stands, omega arith)
-      ]
+  -- and where none does, it does not stand there either
+  pub none_past_pair : (k n : ℕ) → NoneBefore (HasPair f (take (m - from) (drop from b))) 0 n k
+      → ¬ (OccursAt b text (from + k) × (from + k + length text ≤ m)) → (q : ℕ) → q < from + k + 1 → ¬ IsWithin b text start end q
+  none_past_pair k n h absent q lt w = elim (cases_lt q (from + k)) [
+    | inl before ↦ none_to k h.before q before w
+    | inr there ↦
+        let same : q ≡ from + k = omega arith in
+        let high = w.high in
+        let fits = w.stands.fits in
+        absent (subst (OccursAt b text) same w.stands, omega arith)
+  ]

@@ -15,18 +15,20 @@ use Rattle.infer_deep.proofs.FrontLemmas.{IsTold, told-early, told-lasts}
 use Rattle.infer_deep.proofs.JoinedLemmas.{IsPrefixFree, Stops, WordsBegin, same_fronts, begun-first, SkipsTo-none, SkipsTo-cons, NoneBegins-first, Behind-lead, Behind-lasts, Behind-comes, Behind-left, Behind-trimmed, Behind-apart}
 use Rattle.infer_deep.proofs.PlaceLemmas.{begins-from_OccursAt, OccursAt-begins, OccursAt-front}
 
--- a word that stands at the front
-pub BeginsWith-word : (P : List ℕ → Type 0) (b word : List ℕ) (n : ℕ)
-    → n ≡ length word → P word → OccursAt b word 0 → BeginsWith P b (take (length b - n) (drop n b))
-BeginsWith-word P b word n e is o = record {
-  word = word;
-  kind = is;
-  whole = begins-from_OccursAt b word o ∙ ap (λ k. word ++ drop k b) (sym e) ∙ ap (λ u. word ++ u) (sym (take_rest b n));
-}
+-- a mark that stands at the front
+mark_begins : (b word : List ℕ) → IsMark word → OccursAt b word 0 → BeginsWith IsMark b (take (length b - length word) (drop (length word) b))
+mark_begins b word is o =
+    record { word = word; kind = is; whole = begins-from_OccursAt b word o ∙ ap (λ u. word ++ u) (sym (take_rest b (length word))) }
 
-pub BeginsWith-space : (b : List ℕ)
+pub long_mark : (b : List ℕ) → OccursAt b (0xEF ∷ 0xBB ∷ 0xBF ∷ []) 0 → BeginsWith IsMark b (take (length b - 3) (drop 3 b))
+long_mark b o = mark_begins b _ (inl refl) o
+
+pub short_mark : (b : List ℕ) → OccursAt b (0xFE ∷ 0xFF ∷ []) 0 ⊎ OccursAt b (0xFF ∷ 0xFE ∷ []) 0 → BeginsWith IsMark b (take (length b - 2) (drop 2 b))
+short_mark b o = elim o [ inl x ↦ mark_begins b _ (inr (inl refl)) x | inr y ↦ mark_begins b _ (inr (inr refl)) y ]
+
+pub space_begins : (b : List ℕ)
     → 0 < length b → IsWhite (get_or b 0 0) → BeginsWith IsSpace b (take (length b - 1) (drop 1 b))
-BeginsWith-space b l white = record {
+space_begins b l white = record {
   word = get_or b 0 0 ∷ [];
   kind = (get_or b 0 0, white, refl);
   whole = drop_more b 0 0 l ∙ ap (λ u. get_or b 0 0 ∷ u) (sym (take_rest b 1));
@@ -40,12 +42,12 @@ LeadsTo-white (x ∷ block) b all rest s =
     (record { word = x ∷ []; kind = (x, all 0 (omega arith), refl); whole = refl })
     (LeadsTo-white block b (λ k l. all (suc k) (omega arith)) rest s)
 
-pub LeadsTo-block : (b block rest : List ℕ) (n : ℕ)
-    → n ≤ length b → block ≡ take n b → rest ≡ drop n b → AllBelow IsWhite block n → LeadsTo IsSpace b rest
-LeadsTo-block b block rest n l p q all =
-    let long : length block ≡ n = ap length p ∙ length-take-le n b l in
-    let whole : block ++ rest ≡ b = ap (λ u. u ++ rest) p ∙ ap (λ u. take n b ++ u) q ∙ take-append-drop n b in
-    subst (λ u. LeadsTo IsSpace u rest) whole (LeadsTo-white block rest (λ k lt. all k (omega arith)))
+pub leads_past_block : (b c block rest : List ℕ) (n : ℕ)
+    → LeadsTo IsSpace b c → n ≤ length c → block ≡ take n c → rest ≡ drop n c → AllBelow IsWhite block n → LeadsTo IsSpace b rest
+leads_past_block b c block rest n leads l p q all more s =
+    let long : length block ≡ n = ap length p ∙ length-take-le n c l in
+    let whole : block ++ rest ≡ c = ap (λ u. u ++ rest) p ∙ ap (λ u. take n c ++ u) q ∙ take-append-drop n c in
+    leads more (subst (λ u. LeadsTo IsSpace u rest) whole (LeadsTo-white block rest (λ k lt. all k (omega arith))) more s)
 
 IsSpace-prefix_free : IsPrefixFree IsSpace
 IsSpace-prefix_free v w x y (a, f, p) (b, g, q) e = cc
@@ -80,12 +82,12 @@ same_length : (word text : List ℕ) → IsSameInAnyCase word text → length wo
 same_length word text h = sym (length-map word to_ascii_lowercase) ∙ ap length h ∙ length-map text to_ascii_lowercase
 
 -- what begins with a text in any case
-pub BeginsInAnyCase-front : (b text : List ℕ) → IsSameInAnyCase (take (length text) b) text → BeginsInAnyCase text b
-BeginsInAnyCase-front b text h =
+pub begins_in_any_case : (b text : List ℕ) → IsSameInAnyCase (take (length text) b) text → BeginsInAnyCase text b
+begins_in_any_case b text h =
     let n = length text in record { word = take n b; rest = drop n b; same = h; whole = sym (take-append-drop n b) }
 
-pub front-BeginsInAnyCase : (b text : List ℕ) → BeginsInAnyCase text b → IsSameInAnyCase (take (length text) b) text
-front-BeginsInAnyCase b text h =
+pub front_in_any_case : (b text : List ℕ) → BeginsInAnyCase text b → IsSameInAnyCase (take (length text) b) text
+front_in_any_case b text h =
     let front : take (length text) b ≡ h.word
     = ap (take (length text)) h.whole ∙ take_at h.word h.rest (length text) (same_length h.word text h.same) in
     ap (map to_ascii_lowercase) front ∙ h.same
@@ -107,21 +109,21 @@ BeginsInAnyCase-open : (b text : List ℕ) → 0 < length text → get_or text 0
 BeginsInAnyCase-open b text l first h = lower_open (get_or b 0 0) (BeginsInAnyCase-byte b text 0 l h ∙ ap to_ascii_lowercase first)
 
 -- a tag, from its text and the byte after it
-pub BeginsWithTag-front : (b tag : List ℕ) → length tag < length b
+pub tag_from_text : (b tag : List ℕ) → length tag < length b
     → (get_or b (length tag) 0 ≡ 0x20) ⊎ (get_or b (length tag) 0 ≡ 0x3E) → BeginsInAnyCase tag b → BeginsWithTag tag b
-BeginsWithTag-front b tag l closes h =
+tag_from_text b tag l closes h =
     let n = length tag in
     record {
       word = take n b;
       end = get_or b n 0;
       rest = drop (n + 1) b;
-      same = front-BeginsInAnyCase b tag h;
+      same = front_in_any_case b tag h;
       closes = closes;
       whole = sym (take-append-drop n b) ∙ ap (λ u. take n b ++ u) (drop_more b n 0 l);
     }
 
-pub BeginsInAnyCase-tag : (b tag : List ℕ) → BeginsWithTag tag b → BeginsInAnyCase tag b
-BeginsInAnyCase-tag b tag h = record { word = h.word; rest = h.end ∷ h.rest; same = h.same; whole = h.whole }
+pub text_of_tag : (b tag : List ℕ) → BeginsWithTag tag b → BeginsInAnyCase tag b
+text_of_tag b tag h = record { word = h.word; rest = h.end ∷ h.rest; same = h.same; whole = h.whole }
 
 -- the text of HTML begins with one of the tags, and that of XML so
 abbrev pub HasTag : List ℕ → Type 0
@@ -144,7 +146,7 @@ tag_opens k tag l e = opened (length tag) (get_or tag 0 0) (to_ascii_lowercase (
 
 pub HasTag-open : (b : List ℕ) → HasTag b → get_or b 0 0 ≡ 0x3C
 HasTag-open b (k, tag, l, e, h) =
-    let o = tag_opens k tag l e in BeginsInAnyCase-open b tag (omega arith) o.2 (BeginsInAnyCase-tag b tag h)
+    let o = tag_opens k tag l e in BeginsInAnyCase-open b tag (omega arith) o.2 (text_of_tag b tag h)
 
 HasXml-open : (b : List ℕ) → HasXml b → get_or b 0 0 ≡ 0x3C
 HasXml-open b h = BeginsInAnyCase-open b (codes "<?xml") (omega arith) refl h
@@ -153,7 +155,7 @@ HasXml-open b h = BeginsInAnyCase-open b (codes "<?xml") (omega arith) refl h
 HasTag-apart_xml : AreApart HasTag HasXml
 HasTag-apart_xml b (k, tag, l, e, h) x =
     let o = tag_opens k tag l e in
-    o.3 (sym (BeginsInAnyCase-byte b tag 1 o.1 (BeginsInAnyCase-tag b tag h)) ∙ BeginsInAnyCase-byte b (codes "<?xml") 1 (omega arith) x)
+    o.3 (sym (BeginsInAnyCase-byte b tag 1 o.1 (text_of_tag b tag h)) ∙ BeginsInAnyCase-byte b (codes "<?xml") 1 (omega arith) x)
 
 -- a front tells of both
 HasTag-told : (b : List ℕ) → HasTag b → IsTold 1024 HasTag b
@@ -193,59 +195,62 @@ NoneBegins-mark b first = NoneBegins-first IsMark IsMarkByte IsMark-begin b (λ 
 HasXml-stops : Stops HasXml IsMark
 HasXml-stops b h = NoneBegins-mark b (HasXml-open b h)
 
+-- XML is marks and the text behind white space
 abbrev IsMarkedXml : List ℕ → Type 0
 IsMarkedXml = Behind IsMark HasXml
 
+itself : (P S : List ℕ → Type 0) (b : List ℕ) → Behind P S b ↔ Behind P S b
+itself P S b = (λ h. h, λ h. h)
+
+IsXml-nested : (b : List ℕ) → Behind IsSpace IsMarkedXml b ↔ IsXml b
+IsXml-nested b = (λ (marked, s, (text, m, h)). (marked, text, s, m, h), λ (marked, text, s, m, h). (marked, s, (text, m, h)))
+
 IsMarkedXml-lead : (b : List ℕ) → IsMarkedXml b → IsMarkByte (get_or b 0 0) ⊎ (get_or b 0 0 ≡ 0x3C)
-IsMarkedXml-lead = Behind-lead IsMark IsMarkByte IsMark-begin HasXml (λ x. x ≡ 0x3C) HasXml-open
+IsMarkedXml-lead = Behind-lead IsMark HasXml IsMarkedXml (itself IsMark HasXml) IsMarkByte (λ x. x ≡ 0x3C) IsMark-begin HasXml-open
 
 IsMarkedXml-stops : Stops IsMarkedXml IsSpace
 IsMarkedXml-stops b h =
     let first = IsMarkedXml-lead b h in NoneBegins-first IsSpace IsWhite IsSpace-begin b (λ white. absurd (omega arith))
 
--- XML is that behind white space
-IsXml-nested : (b : List ℕ) → IsXml b ↔ Behind IsSpace IsMarkedXml b
-IsXml-nested b = (λ (marked, text, s, m, h). (marked, s, (text, m, h)), λ (marked, s, (text, m, h)). (marked, text, s, m, h))
+IsMarkedXml-left : (b left : List ℕ) → SkipsTo IsMark b left → NoneBegins IsMark left → HasXml left ↔ IsMarkedXml b
+IsMarkedXml-left = Behind-left IsMark HasXml IsMarkedXml (itself IsMark HasXml) IsMark-prefix_free HasXml-stops
 
+-- what is left after white space, and after marks
 module _ (b text : List ℕ) (skips : SkipsTo IsSpace b text) (none : NoneBegins IsSpace text) where
   pub IsHtml-left : HasTag text ↔ IsHtml b
-  IsHtml-left = Behind-left IsSpace HasTag IsSpace-prefix_free HasTag-stops b text skips none
+  IsHtml-left = Behind-left IsSpace HasTag IsHtml (itself IsSpace HasTag) IsSpace-prefix_free HasTag-stops b text skips none
 
   pub IsHtml-trimmed : IsHtml text ↔ IsHtml b
-  IsHtml-trimmed = Behind-trimmed IsSpace HasTag IsSpace-prefix_free HasTag-stops b text skips none
+  IsHtml-trimmed = Behind-trimmed IsSpace HasTag IsHtml (itself IsSpace HasTag) IsSpace-prefix_free HasTag-stops b text skips none
+
+  pub IsXml-left : (left : List ℕ) → SkipsTo IsMark text left → NoneBegins IsMark left → HasXml left ↔ IsXml b
+  IsXml-left left marks ends =
+      let unmarked = IsMarkedXml-left text left marks ends in
+      let unspaced = Behind-left IsSpace IsMarkedXml IsXml IsXml-nested IsSpace-prefix_free IsMarkedXml-stops b text skips none in
+      (λ h. unspaced.0 (unmarked.0 h), λ x. unmarked.1 (unspaced.1 x))
 
   pub IsXml-trimmed : IsXml text ↔ IsXml b
-  IsXml-trimmed =
-      let both = Behind-trimmed IsSpace IsMarkedXml IsSpace-prefix_free IsMarkedXml-stops b text skips none in
-      (λ x. (IsXml-nested b).1 (both.0 ((IsXml-nested text).0 x)), λ x. (IsXml-nested text).1 (both.1 ((IsXml-nested b).0 x)))
-
-  pub text-from_IsXml : (left : List ℕ) → SkipsTo IsMark text left → NoneBegins IsMark left → IsXml b → HasXml left
-  text-from_IsXml left marks ends x =
-      (Behind-left IsMark HasXml IsMark-prefix_free HasXml-stops text left marks ends).1
-      ((Behind-left IsSpace IsMarkedXml IsSpace-prefix_free IsMarkedXml-stops b text skips none).1 ((IsXml-nested b).0 x))
+  IsXml-trimmed = Behind-trimmed IsSpace IsMarkedXml IsXml IsXml-nested IsSpace-prefix_free IsMarkedXml-stops b text skips none
 
 pub IsHtml-apart_IsXml : AreApart IsHtml IsXml
-IsHtml-apart_IsXml b h x =
-    Behind-apart IsSpace HasTag IsMarkedXml IsSpace-prefix_free HasTag-stops IsMarkedXml-stops
-    (λ u tag xml. HasTag-apart_xml u tag
-    ((Behind-left IsMark HasXml IsMark-prefix_free HasXml-stops u u (SkipsTo-none IsMark u) (NoneBegins-mark u (HasTag-open u tag))).1 xml))
-    b h ((IsXml-nested b).0 x)
+IsHtml-apart_IsXml = Behind-apart IsSpace IsMarkedXml IsXml IsXml-nested IsSpace-prefix_free IsMarkedXml-stops HasTag HasTag-stops
+    (λ u tag x. HasTag-apart_xml u tag ((IsMarkedXml-left u u (SkipsTo-none IsMark u) (NoneBegins-mark u (HasTag-open u tag))).1 x))
 
 -- in a buffer that grows
 pub IsHtml-lasts : Lasts IsHtml
-IsHtml-lasts = Behind-lasts IsSpace HasTag (told-lasts 1024 HasTag HasTag-told)
+IsHtml-lasts = Behind-lasts IsSpace HasTag IsHtml (itself IsSpace HasTag) (told-lasts 1024 HasTag HasTag-told)
 
 pub IsXml-lasts : Lasts IsXml
-IsXml-lasts b more x = (IsXml-nested (b ++ more)).1
-    (Behind-lasts IsSpace IsMarkedXml (Behind-lasts IsMark HasXml (told-lasts 1024 HasXml HasXml-told)) b more ((IsXml-nested b).0 x))
+IsXml-lasts = Behind-lasts IsSpace IsMarkedXml IsXml IsXml-nested
+    (Behind-lasts IsMark HasXml IsMarkedXml (itself IsMark HasXml) (told-lasts 1024 HasXml HasXml-told))
 
 -- the first byte
 pub IsHtml-lead : (b : List ℕ) → IsHtml b → IsWhite (get_or b 0 0) ⊎ (get_or b 0 0 ≡ 0x3C)
-IsHtml-lead = Behind-lead IsSpace IsWhite IsSpace-begin HasTag (λ x. x ≡ 0x3C) HasTag-open
+IsHtml-lead = Behind-lead IsSpace HasTag IsHtml (itself IsSpace HasTag) IsWhite (λ x. x ≡ 0x3C) IsSpace-begin HasTag-open
 
 pub IsXml-lead : (b : List ℕ) → IsXml b → IsWhite (get_or b 0 0) ⊎ (get_or b 0 0 ≡ 0x3C) ⊎ IsMarkByte (get_or b 0 0)
-IsXml-lead b x = Behind-lead IsSpace IsWhite IsSpace-begin IsMarkedXml (λ y. (y ≡ 0x3C) ⊎ IsMarkByte y)
-    (λ u h. elim (IsMarkedXml-lead u h) [ inl m ↦ inr m | inr e ↦ inl e ]) b ((IsXml-nested b).0 x)
+IsXml-lead = Behind-lead IsSpace IsMarkedXml IsXml IsXml-nested IsWhite (λ y. (y ≡ 0x3C) ⊎ IsMarkByte y) IsSpace-begin
+    (λ u h. elim (IsMarkedXml-lead u h) [ inl m ↦ inr m | inr e ↦ inl e ])
 
 -- what more bytes bring
 pub BeginsWhite-early : IsEarly BeginsWhite
@@ -260,15 +265,11 @@ white_begins : (b more rest : List ℕ) → 1024 ≤ length b → BeginsWith IsS
 white_begins b more rest long w = BeginsWhite-early b more long (begun-first IsSpace IsWhite IsSpace-begin (b ++ more) rest w)
 
 pub IsHtml-comes : ComesWith IsHtml BeginsWhite
-IsHtml-comes = Behind-comes IsSpace HasTag BeginsWhite white_begins (λ b more long h. inl (told-early HasTag HasTag-told b more long h))
+IsHtml-comes = Behind-comes IsSpace HasTag IsHtml (itself IsSpace HasTag) BeginsWhite white_begins
+    (λ b more long h. inl (told-early HasTag HasTag-told b more long h))
 
 pub IsXml-comes : ComesWith IsXml (λ b. BeginsWhite b ⊎ BeginsMarked b)
-IsXml-comes b more long x =
-    let brings : ComesWith IsMarkedXml (λ u. BeginsWhite u ⊎ BeginsMarked u)
-    = Behind-comes IsMark HasXml (λ u. BeginsWhite u ⊎ BeginsMarked u)
+IsXml-comes = Behind-comes IsSpace IsMarkedXml IsXml IsXml-nested (λ u. BeginsWhite u ⊎ BeginsMarked u) (λ u y rest l w. inl (white_begins u y rest l w))
+    (Behind-comes IsMark HasXml IsMarkedXml (itself IsMark HasXml) (λ u. BeginsWhite u ⊎ BeginsMarked u)
     (λ u y rest l w. inr (BeginsMarked-early u y l (w.word, w.kind, OccursAt-begins (u ++ y) w.word rest w.whole)))
-    (λ u y l h. inl (told-early HasXml HasXml-told u y l h)) in
-    elim (
-    Behind-comes IsSpace IsMarkedXml (λ u. BeginsWhite u ⊎ BeginsMarked u) (λ u y rest l w. inl (white_begins u y rest l w)) brings b more long
-    ((IsXml-nested (b ++ more)).0 x)
-    ) [ inl h ↦ inl ((IsXml-nested b).1 h) | inr t ↦ inr t ]
+    (λ u y l h. inl (told-early HasXml HasXml-told u y l h)))

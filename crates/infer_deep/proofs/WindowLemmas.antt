@@ -41,7 +41,7 @@ IsMatroska-near doc_type = near_from_growth (IsMatroska doc_type) (IsMatroska-la
     (λ b more l h. (omega arith, OccursAt-front b more _ 0 (omega arith) h.1, StandsBy-front doc_type 256 b more (omega arith) h.2))
 
 -- whether there is a least place says whether there is one
-pub StandsBy-found : (b text : List ℕ) (end : ℕ) (r : Option ℕ)
+pub found_stands : (b text : List ℕ) (end : ℕ) (r : Option ℕ)
     → IsFirstWithin b text 0 end r → is_some r ≡ true ↔ StandsBy text end b
-StandsBy-found b text end None h = (λ is. absurd (false≢true is), λ (p, w). absurd (h p w))
-StandsBy-found b text end (Some p) h = (λ is. (p, h.here), λ is. refl)
+found_stands b text end None h = (λ is. absurd (false≢true is), λ (p, w). absurd (h p w))
+found_stands b text end (Some p) h = (λ is. (p, h.here), λ is. refl)

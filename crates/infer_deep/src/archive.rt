@@ -49,6 +49,7 @@ fn is_framed(buf: &[u8], magic: &[u8]) -> bool
 }
 
 /// What follows the skippable frames at the front of `buf`. Each takes at least 8 bytes away.
+#[tactic(auto, using(crate::proofs::JoinedLemmas::leads_past))]
 fn after_frames(mut buf: &[u8]) -> &[u8]
     ensures skips { SkipsTo IsFrame buf.entry.now result.now }
     ensures stops { NoneBegins IsFrame result.now }
@@ -60,6 +61,7 @@ fn after_frames(mut buf: &[u8]) -> &[u8]
 }
 
 /// What follows the skippable frame at the front of `buf`, if a whole one stands there.
+#[tactic(auto, using(crate::proofs::FrameLemmas::begun_fits, crate::proofs::FrameLemmas::frame_begins))]
 fn after_frame(buf: &[u8]) -> Option<&[u8]>
     ensures { MatchOption result (NoneBegins IsFrame buf.now) (λ rest. BeginsWith IsFrame buf.now rest.now) }
 {

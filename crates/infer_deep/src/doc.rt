@@ -119,6 +119,7 @@ pub fn deciding_folder(buf: &[u8]) -> &[u8]
 }
 
 /// Where the deciding folder stands, if anywhere. It is the same place for all three kinds.
+#[tactic(auto, using(crate::proofs::OfficeLemmas::no_deciding, crate::proofs::OfficeLemmas::header_decides))]
 fn deciding_place(buf: &[u8]) -> Option<usize>
     ensures { FindsPlace (IsDecidingPlace buf.now) result }
 {
@@ -137,6 +138,7 @@ fn deciding_place(buf: &[u8]) -> Option<usize>
 
 /// Where the header stands whose folder decides behind a name of Office: the third, or where it has no folder, the
 /// fourth.
+#[tactic(auto, using(crate::proofs::OfficeLemmas::no_third, crate::proofs::OfficeLemmas::fourth_from_search))]
 fn deciding_header(buf: &[u8]) -> Option<usize>
     requires { 22 ≤ length buf.now }
     ensures { FindsPlace (IsDecidingHeader buf.now) result }
@@ -148,6 +150,7 @@ fn deciding_header(buf: &[u8]) -> Option<usize>
     header_from(buf, third + 56)
 }
 
+#[tactic(auto, using(crate::proofs::OfficeLemmas::no_second, crate::proofs::OfficeLemmas::third_from_search))]
 fn third_header(buf: &[u8]) -> Option<usize>
     requires { 22 ≤ length buf.now }
     ensures { FindsPlace (IsThirdHeader buf.now) result }

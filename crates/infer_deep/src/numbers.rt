@@ -1,4 +1,6 @@
 //! Numbers in the bytes of a buffer.
+#![tactic(auto, unfolding(crate::specs::Numbers::be32, crate::specs::Numbers::le16, crate::specs::Numbers::le32))]
+
 ghost use Rattle.std.specs.Prelude.{◌≡◌, ◌+◌, ◌≤◌, length};
 ghost use Rattle.infer_deep.specs.Numbers.{be32, le16, le32};
 

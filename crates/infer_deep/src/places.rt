@@ -10,12 +10,14 @@ use memchr::arch::all::packedpair;
 use memchr::memchr;
 
 /// Whether `text` stands in `buf` from `place` on.
+#[tactic(auto, using(crate::proofs::SearchLemmas::occurs_from_starts, crate::proofs::SearchLemmas::starts_from_occurs))]
 pub fn stands_at(buf: &[u8], text: &[u8], place: usize) -> bool
     ensures { IsTrue result ↔ OccursAt buf.now text.now place }
 {
     place <= buf.len() && buf[place..].starts_with(text)
 }
 
+#[tactic(auto, using(crate::proofs::WindowLemmas::found_stands))]
 pub fn stands_by(buf: &[u8], text: &[u8], rare: usize, end: usize) -> bool
     requires { rare + 2 ≤ length text.now }
     ensures { IsTrue result ↔ StandsBy text.now end buf.now }
@@ -53,6 +55,7 @@ fn stands_within(buf: &[u8], text: &[u8], place: usize, stop: usize) -> bool
 
 // Places with the two rarest bytes of the text are compared whole. The finder of `memmem` may own its text, and would
 // bring in the heap.
+#[tactic(auto, using(crate::proofs::SearchLemmas::first_at_pair, crate::proofs::SearchLemmas::none_past_pair, crate::proofs::SearchLemmas::none_without_pair))]
 #[inline(never)]
 fn search(buf: &[u8], text: &[u8], start: usize, end: usize) -> Option<usize>
     requires { 2 ≤ length text.now }
@@ -87,6 +90,7 @@ fn places_free(hay: &[u8], first: u8, second: u8) -> usize
 }
 
 /// The same in blocks.
+#[tactic(auto, using(std::proofs::lemmas::Bool::OnFalse_at, crate::proofs::SearchLemmas::lacks_more))]
 #[inline(never)]
 fn pair_free(hay: &[u8], first: u8, second: u8) -> usize
     requires { 129 ≤ length hay.now }

@@ -83,6 +83,7 @@ fn trim_start_whitespaces(buf: &[u8]) -> &[u8]
 }
 
 /// What follows the blocks of `N` white bytes at the front of `buf`.
+
 #[inline(always)]
 fn after_white_blocks<const N: usize>(mut buf: &[u8]) -> &[u8]
     requires some { 0 < N }
@@ -111,6 +112,7 @@ fn all_white<const N: usize>(block: &[u8; N]) -> bool
     all
 }
 
+#[tactic(auto, using(crate::proofs::JoinedLemmas::leads_past))]
 fn after_spaces(mut buf: &[u8]) -> &[u8]
     ensures skips { SkipsTo IsSpace buf.entry.now result.now }
     ensures stops { NoneBegins IsSpace result.now }
@@ -121,6 +123,7 @@ fn after_spaces(mut buf: &[u8]) -> &[u8]
     buf
 }
 
+#[tactic(auto, using(crate::proofs::TextLemmas::space_begins))]
 fn after_space(buf: &[u8]) -> Option<&[u8]>
     ensures { MatchOption result (NoneBegins IsSpace buf.now) (λ rest. BeginsWith IsSpace buf.now rest.now) }
 {
@@ -138,6 +141,7 @@ fn is_white(byte: u8) -> bool
     (byte == b' ') | ((byte >= b'\t') & (byte <= b'\r') & (byte != 0x0B))
 }
 
+#[tactic(auto, using(crate::proofs::JoinedLemmas::leads_past))]
 fn trim_start_byte_order_marks(mut buf: &[u8]) -> &[u8]
     ensures skips { SkipsTo IsMark buf.entry.now result.now }
     ensures stops { NoneBegins IsMark result.now }
@@ -148,6 +152,7 @@ fn trim_start_byte_order_marks(mut buf: &[u8]) -> &[u8]
     buf
 }
 
+#[tactic(auto, using(crate::proofs::TextLemmas::long_mark, crate::proofs::TextLemmas::short_mark))]
 fn after_mark(buf: &[u8]) -> Option<&[u8]>
     ensures { MatchOption result (NoneBegins IsMark buf.now) (λ rest. BeginsWith IsMark buf.now rest.now) }
 {
@@ -166,6 +171,7 @@ fn begins_with_some_tag(buf: &[u8], tags: &[&[u8]]) -> bool
     tags.iter().any(|tag| begins_with_tag(buf, tag))
 }
 
+#[tactic(auto, using(crate::proofs::TextLemmas::tag_from_text, crate::proofs::TextLemmas::text_of_tag))]
 fn begins_with_tag(buf: &[u8], tag: &[u8]) -> bool
     ensures { IsTrue result ↔ BeginsWithTag tag.now buf.now }
 {
@@ -181,6 +187,7 @@ fn closes_tag(byte: u8) -> bool
     matches!(byte, b' ' | b'>')
 }
 
+#[tactic(auto, using(crate::proofs::TextLemmas::begins_in_any_case, crate::proofs::TextLemmas::front_in_any_case))]
 fn begins_in_any_case(buf: &[u8], text: &[u8]) -> bool
     ensures { IsTrue result ↔ BeginsInAnyCase text.now buf.now }
 {

@@ -3,6 +3,6 @@ use Rattle.infer_deep.proofs.archive.is_framed.Goals as goal
 
 pub returns : goal.returns
 returns c =
-    let after = c.after_frames in
-    let both = IsFramed-left c.args.magic.now c.requires.some c.requires.no_frame _ _ after.ensures.skips after.ensures.stops in
+    let after = c.after_frames.ensures in
+    let both = IsFramed-left c.args.magic.now c.requires.some c.requires.no_frame _ _ after.skips after.stops in
     (λ is. both.0 (c.stands_at.ensures.0 is), λ h. c.stands_at.ensures.1 (both.1 h))

@@ -1,13 +1,10 @@
 use Rattle.std.proofs.lemmas.Bool.{false≢true}
-use Rattle.infer_deep.specs.Office.{IsDecidingPlace}
-use Rattle.infer_deep.proofs.OfficeLemmas.{IsDecidingPlace-one}
-use Rattle.infer_deep.proofs.PlaceLemmas.{stands_at_one}
+use Rattle.infer_deep.proofs.OfficeLemmas.{IsOffice-at}
 use Rattle.infer_deep.proofs.doc.is_office.Goals as goal
 
 pub returns-in-Some : goal.returns-in-Some
 returns-in-Some c =
-    let b = c.args.buf.now in
-    let there = stands_at_one (IsDecidingPlace b) (IsDecidingPlace-one b) b (λ p. p) c.args.folder.now c.in-Some.place c.in-Some.ensures in
+    let there = IsOffice-at c.args.buf.now c.args.folder.now c.in-Some.place c.in-Some.ensures in
     (λ is. there.0 (c.stands_at.ensures.0 is), λ office. c.stands_at.ensures.1 (there.1 office))
 
 pub returns-in-None : goal.returns-in-None
