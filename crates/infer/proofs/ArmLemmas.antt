@@ -5,9 +5,9 @@ use Rattle.std.proofs.lemmas.List.{get_or_default}
 use Rattle.infer.specs.Arms.{rows_of}
 use Rattle.infer.specs.Leads.{candidates}
 use Rattle.infer.specs.Table.{table}
-use Rattle.infer.specs.declared.dispatch.Arm.{Arm}
-use Rattle.infer.specs.declared.dispatch.Arm.TheVariants.{Other}
-use Rattle.infer.specs.declared.dispatch.TheConstants.{ARMS}
+use Rattle.infer.specs.declared.candidates.dispatch.Arm.{Arm}
+use Rattle.infer.specs.declared.candidates.dispatch.Arm.TheVariants.{Other}
+use Rattle.infer.specs.declared.candidates.dispatch.TheConstants.{ARMS}
 use Rattle.infer.proofs.TestLemmas.{NoneRefused, passed}
 
 abbrev are_same : List ℕ → List ℕ → Bool

@@ -12,7 +12,7 @@ use Rattle.infer.specs.Arrivals.{IsAwaited, last_awaited, NewcomersAreAwaited}
 use Rattle.infer.specs.BuiltIn.{BuiltIn, fixed, avif, doc, framed, heif, html, matroska, office, pdf, ppt, xls, xml, IsAccepted}
 use Rattle.infer.specs.Matchers.{IsNear}
 use Rattle.infer.specs.Table.{signature_of, table}
-use Rattle.infer.specs.declared.rows.TheConstants.{ROW_COUNT}
+use Rattle.infer.specs.declared.table.rows.TheConstants.{ROW_COUNT}
 use Rattle.infer.proofs.KnownLemmas.{Known, proved, is_proved, proof_of, takes, ◌>>=◌}
 use Rattle.infer.proofs.LawLemmas.{every_near, is_within}
 use Rattle.infer.proofs.OrderLemmas.{exclusion}

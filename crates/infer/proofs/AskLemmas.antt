@@ -6,9 +6,9 @@ use Rattle.std.proofs.lemmas.List.Elements.{AllWithin-more}
 use Rattle.std.proofs.lemmas.List.Sums.{count_by-le-length, sum_by-cons, sum_by_more}
 use Rattle.infer.specs.Leads.{allows_first, candidates, candidates_of, places_from}
 use Rattle.infer.specs.Table.{table}
-use Rattle.infer.specs.declared.rows.TheConstants.{MOST_CANDIDATES, ROW_COUNT}
+use Rattle.infer.specs.declared.table.rows.TheConstants.{MOST_CANDIDATES, ROW_COUNT}
 use Rattle.infer.specs.Walks.{IsFirstAmong, count_asked, is_wanted, is_not_above}
-use Rattle.infer.specs.declared.question.Wanted.{Wanted}
+use Rattle.infer.specs.declared.ask.question.Wanted.{Wanted}
 use Rattle.infer.proofs.ListLemmas.{HoldsAt-read}
 use Rattle.infer.proofs.TableLemmas.{length-table}
 

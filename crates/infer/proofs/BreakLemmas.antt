@@ -15,7 +15,7 @@ use Rattle.infer.specs.Laws.{Breaks}
 use Rattle.infer.specs.Matchers.{is_of_the_twelve}
 use Rattle.infer.specs.Samples.{put, sample_of, zeros}
 use Rattle.infer.specs.Table.{signature_of, table}
-use Rattle.infer.specs.declared.rows.TheConstants.{MSI, ROW_COUNT, ZIP}
+use Rattle.infer.specs.declared.table.rows.TheConstants.{MSI, ROW_COUNT, ZIP}
 use Rattle.infer.proofs.DecisionLemmas.{behind, long_frame, space}
 use Rattle.infer.proofs.KnownLemmas.{Known, proved, is_proved, proof_of, proved_if, takes, ◌>>=◌}
 use Rattle.infer.proofs.OrderLemmas.{known_first, some_row}

@@ -6,9 +6,9 @@ use Rattle.infer.specs.Row.{Accepts}
 use Rattle.infer.specs.Rows.{AnyAccepts, custom_rows, kept_row, rows}
 use Rattle.infer.specs.Table.{table}
 use Rattle.infer.specs.Triple.{Triple, triple_of}
-use Rattle.infer.specs.declared.fault.Fault.{Fault}
-use Rattle.infer.specs.declared.file_type.FileType.{FileType}
-use Rattle.infer.specs.declared.infer.Infer.{Infer}
+use Rattle.infer.specs.declared.read.fault.Fault.{Fault}
+use Rattle.infer.specs.declared.table.file_type.FileType.{FileType}
+use Rattle.infer.specs.declared.caller.infer.Infer.{Infer}
 use Rattle.infer.proofs.RowLemmas.{IsAnswer-from_map}
 
 module _ {X : Type 0} {g : Contracts X} {A : Type 0} (infer : Infer A X g) (none : custom_rows infer ≡ []) where

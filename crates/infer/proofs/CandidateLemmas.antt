@@ -7,8 +7,8 @@ use Rattle.infer.specs.Leads.{Leads, allows_first, candidates, candidates_of, pl
 use Rattle.infer.specs.Row.{Row, Accepts}
 use Rattle.infer.specs.Table.{table}
 use Rattle.infer.specs.Walks.{IsFirstAmong, RowHas, Takes}
-use Rattle.infer.specs.declared.question.Wanted.{Wanted}
-use Rattle.infer.specs.declared.question.Wanted.TheVariants.{Every}
+use Rattle.infer.specs.declared.ask.question.Wanted.{Wanted}
+use Rattle.infer.specs.declared.ask.question.Wanted.TheVariants.{Every}
 use Rattle.infer.proofs.ListLemmas.{not_some}
 
 module _ {A : Type 0} (P : A → Type 0) (x : A) (xs : List A) where

@@ -3,7 +3,7 @@ use Rattle.std.proofs.Common.{◌↔◌, ℕ, List, [], ◌∷◌, ◌++◌, Opt
 use Rattle.infer.specs.BuiltIn.{BuiltIn}
 use Rattle.infer.specs.Row.{Row, Accepts}
 use Rattle.infer.specs.Walks.{IsFirstAmong, Takes}
-use Rattle.infer.specs.declared.question.Wanted.{Wanted}
+use Rattle.infer.specs.declared.ask.question.Wanted.{Wanted}
 
 -- a row that is asked for by what is known of it, and by another word for the rest
 module _ (A D O : Type 0) (word : O ↔ D) where

@@ -10,7 +10,7 @@ use Rattle.infer.specs.Matchers.{signatures, is_of_the_twelve, Lasts, IsNear, Ot
 use Rattle.infer.specs.Table.{signature_of, table}
 use Rattle.infer.proofs.PlaceLemmas.{not_both}
 use Rattle.infer.proofs.TestLemmas.{NoneRefused, passed}
-use Rattle.infer.specs.declared.rows.TheConstants.{MATCHER_COUNT}
+use Rattle.infer.specs.declared.table.rows.TheConstants.{MATCHER_COUNT}
 
 pub length-signatures : length signatures ≡ MATCHER_COUNT
 unfolding signatures table

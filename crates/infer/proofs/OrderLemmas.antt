@@ -13,8 +13,8 @@ use Rattle.infer.specs.BuiltIn.{BuiltIn, framed, office, doc, xls, ppt, html, xm
 use Rattle.infer.specs.First.{IsFirst, IsFirstOf, NoneHas}
 use Rattle.infer.specs.Row.{Row, Accepts}
 use Rattle.infer.specs.Table.{table, row}
-use Rattle.infer.specs.declared.file_type.MatcherType.TheVariants.{Text}
-use Rattle.infer.specs.declared.rows.TheConstants.{ROW_COUNT}
+use Rattle.infer.specs.declared.table.file_type.MatcherType.TheVariants.{Text}
+use Rattle.infer.specs.declared.table.rows.TheConstants.{ROW_COUNT}
 use Rattle.infer.proofs.DecisionLemmas.{known}
 use Rattle.infer.proofs.KnownLemmas.{Known, proved, unknown, proved_if, is_proved, is_refuted, proof_of, refutation_of, ◌>>◌}
 use Rattle.infer.proofs.PlaceLemmas.{ByPlace}

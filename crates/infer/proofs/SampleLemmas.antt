@@ -11,8 +11,8 @@ use Rattle.infer.specs.Row.{Row, Accepts}
 use Rattle.infer.specs.Listed.{buffer_listed}
 use Rattle.infer.specs.Samples.{HoldsSample, padded, sample_of, zeros}
 use Rattle.infer.specs.Table.{table}
-use Rattle.infer.specs.declared.rows.Pieces.{Pieces}
-use Rattle.infer.specs.declared.rows.TheConstants.{DLL, EPUB_ARCHIVE, ROW_COUNT}
+use Rattle.infer.specs.declared.table.rows.Pieces.{Pieces}
+use Rattle.infer.specs.declared.table.rows.TheConstants.{DLL, EPUB_ARCHIVE, ROW_COUNT}
 use Rattle.infer.proofs.KnownLemmas.{Known, same, either, is_proved, proof_of}
 use Rattle.infer.proofs.OrderLemmas.{known_first, some_row}
 use Rattle.infer.proofs.PlaceLemmas.{ByPlace}

@@ -10,10 +10,10 @@ use Rattle.infer.specs.First.{IsFirstOf}
 use Rattle.infer.specs.Row.{Row, shows}
 use Rattle.infer.specs.Table.{table}
 use Rattle.infer.specs.Triple.{Triple, triple_of}
-use Rattle.infer.specs.declared.rows.TheConstants.{ROW_COUNT}
-use Rattle.infer.specs.declared.file_type.FileType.{FileType}
-use Rattle.infer.specs.declared.file_type.MatcherType.{MatcherType}
-use Rattle.infer.specs.declared.file_type.MatcherType.TheVariants.{App, Archive, Audio, Book, Doc, Font, Image, Text, Video, Custom}
+use Rattle.infer.specs.declared.table.rows.TheConstants.{ROW_COUNT}
+use Rattle.infer.specs.declared.table.file_type.FileType.{FileType}
+use Rattle.infer.specs.declared.table.file_type.MatcherType.{MatcherType}
+use Rattle.infer.specs.declared.table.file_type.MatcherType.TheVariants.{App, Archive, Audio, Book, Doc, Font, Image, Text, Video, Custom}
 
 pub length-table : length table ≡ ROW_COUNT
 unfolding table

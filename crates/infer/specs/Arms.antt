@@ -3,9 +3,9 @@ use Rattle.std.specs.Prelude.{ℕ, List, []}
 use Rattle.std.specs.List.{slice_get}
 use Rattle.std.specs.Option.{option_map_or}
 use denote.Enum.Declared.{tag_of}
-use Rattle.infer.specs.contracts.dispatch.Arm as arm_type
-use Rattle.infer.specs.declared.dispatch.Arm.{Arm}
-use Rattle.infer.specs.declared.dispatch.TheConstants.{CANDIDATES}
+use Rattle.infer.specs.contracts.candidates.dispatch.Arm as arm_type
+use Rattle.infer.specs.declared.candidates.dispatch.Arm.{Arm}
+use Rattle.infer.specs.declared.candidates.dispatch.TheConstants.{CANDIDATES}
 
 abbrev pub rows_of : Arm → List ℕ
 rows_of arm = option_map_or (λ rows. rows.now) (slice_get CANDIDATES (tag_of arm_type.the_type arm)) []

@@ -7,7 +7,7 @@ use Rattle.infer_deep.specs.Office.{BeginsOffice}
 use Rattle.infer_deep.specs.Text.{BeginsMarked, BeginsWhite}
 use Rattle.infer.specs.BuiltIn.{BuiltIn, fixed, avif, doc, framed, heif, html, matroska, office, pdf, ppt, xls, xml, IsAccepted}
 use Rattle.infer.specs.Table.{signature_of}
-use Rattle.infer.specs.declared.rows.TheConstants.{AVIF, LZ4, PPT, PPTX, ROW_COUNT, XML}
+use Rattle.infer.specs.declared.table.rows.TheConstants.{AVIF, LZ4, PPT, PPTX, ROW_COUNT, XML}
 
 -- how a buffer begins to which more bytes can bring the signature
 abbrev pub IsAwaited : BuiltIn → List ℕ → Type 0

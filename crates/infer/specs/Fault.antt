@@ -1,8 +1,8 @@
 -- What a result tells of a fault.
 use Rattle.std.specs.Prelude.{Option, None, Some, Result, Ok, Err}
 use Rattle.std.specs.declared.io.ErrorKind.{ErrorKind}
-use Rattle.infer.specs.declared.fault.Fault.{Fault}
-use Rattle.infer.specs.declared.fault.Fault.TheVariants.{Open, Read, Memory}
+use Rattle.infer.specs.declared.read.fault.Fault.{Fault}
+use Rattle.infer.specs.declared.read.fault.Fault.TheVariants.{Open, Read, Memory}
 
 -- the kind in `Err(Read(kind))`, and none at any other result
 abbrev pub read_fault : {A : Type 0} → Result A Fault → Option ErrorKind

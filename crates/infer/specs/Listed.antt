@@ -6,10 +6,10 @@ use Rattle.infer.specs.Row.{Row}
 use Rattle.infer.specs.Samples.{put, zeros}
 use Rattle.infer.specs.Table.{signature_of}
 use Rattle.infer.specs.Triple.{triple_of}
-use Rattle.infer.specs.contracts.rows.RowName as row_name
-use Rattle.infer.specs.declared.rows.BuiltInRow.{BuiltInRow}
-use Rattle.infer.specs.declared.rows.Pieces.{Pieces}
-use Rattle.infer.specs.declared.rows.RowName.{RowName}
+use Rattle.infer.specs.contracts.table.rows.RowName as row_name
+use Rattle.infer.specs.declared.table.rows.BuiltInRow.{BuiltInRow}
+use Rattle.infer.specs.declared.table.rows.Pieces.{Pieces}
+use Rattle.infer.specs.declared.table.rows.RowName.{RowName}
 
 -- the number of the row with that name: its place among the names
 abbrev pub number_of : RowName → ℕ

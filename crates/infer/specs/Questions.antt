@@ -5,11 +5,11 @@ use denote.Enum.Bare.{sameb}
 use Rattle.infer.specs.First.{SomeHas}
 use Rattle.infer.specs.Row.{Row}
 use Rattle.infer.specs.Triple.{Triple}
-use Rattle.infer.specs.contracts.file_type.MatcherType as matcher_type
-use Rattle.infer.specs.declared.file_type.MatcherType.{MatcherType}
-use Rattle.infer.specs.declared.file_type.MatcherType.TheVariants.{App, Archive, Audio, Book, Doc, Font, Image, Text, Video, Custom}
-use Rattle.infer.specs.declared.question.Wanted.{Wanted}
-use Rattle.infer.specs.declared.question.Wanted.TheVariants.{Every, Extension, MimeType, Class}
+use Rattle.infer.specs.contracts.table.file_type.MatcherType as matcher_type
+use Rattle.infer.specs.declared.table.file_type.MatcherType.{MatcherType}
+use Rattle.infer.specs.declared.table.file_type.MatcherType.TheVariants.{App, Archive, Audio, Book, Doc, Font, Image, Text, Video, Custom}
+use Rattle.infer.specs.declared.ask.question.Wanted.{Wanted}
+use Rattle.infer.specs.declared.ask.question.Wanted.TheVariants.{Every, Extension, MimeType, Class}
 
 -- some element has both properties
 abbrev pub SomeBoth : {A : Type 0} → (A → Type 0) → (A → Type 0) → List A → Type 0

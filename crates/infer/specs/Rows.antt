@@ -6,9 +6,9 @@ use Rattle.infer.specs.Caller.{Contracts, contract_of, Allows}
 use Rattle.infer.specs.Row.{Row}
 use Rattle.infer.specs.Table.{table}
 use Rattle.infer.specs.Triple.{triple}
-use Rattle.infer.specs.declared.custom.CustomRow.{CustomRow}
-use Rattle.infer.specs.declared.file_type.MatcherType.TheVariants.{Custom}
-use Rattle.infer.specs.declared.infer.Infer.{Infer}
+use Rattle.infer.specs.declared.caller.custom.CustomRow.{CustomRow}
+use Rattle.infer.specs.declared.table.file_type.MatcherType.TheVariants.{Custom}
+use Rattle.infer.specs.declared.caller.infer.Infer.{Infer}
 
 -- what decides: a built-in signature, or a function that a caller gave
 pub data Signature (X : Type 0) (g : Contracts X) : Type 0 where

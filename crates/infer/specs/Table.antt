@@ -16,8 +16,8 @@ use Rattle.infer_deep.specs.Windows.{mkv_type, webm_type}
 use Rattle.infer.specs.BuiltIn.{BuiltIn, fixed, avif, doc, framed, heif, html, matroska, office, pdf, ppt, xls, xml}
 use Rattle.infer.specs.Row.{Row}
 use Rattle.infer.specs.Triple.{triple}
-use Rattle.infer.specs.declared.file_type.MatcherType.{MatcherType}
-use Rattle.infer.specs.declared.file_type.MatcherType.TheVariants.{App, Archive, Audio, Book, Doc, Font, Image, Text, Video}
+use Rattle.infer.specs.declared.table.file_type.MatcherType.{MatcherType}
+use Rattle.infer.specs.declared.table.file_type.MatcherType.TheVariants.{App, Archive, Audio, Book, Doc, Font, Image, Text, Video}
 
 abbrev pub row : MatcherType → List ℕ → List ℕ → BuiltIn → Row BuiltIn
 row class mime_type extension signature = record { shows = triple class mime_type extension; signature = signature }

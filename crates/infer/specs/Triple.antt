@@ -1,7 +1,7 @@
 -- What a type tells of itself.
 use Rattle.std.specs.Prelude.{ℕ, List}
-use Rattle.infer.specs.declared.file_type.MatcherType.{MatcherType}
-use Rattle.infer.specs.declared.file_type.FileType.{FileType}
+use Rattle.infer.specs.declared.table.file_type.MatcherType.{MatcherType}
+use Rattle.infer.specs.declared.table.file_type.FileType.{FileType}
 
 -- a class, a MIME type and an extension
 pub record Triple : Type 0 where

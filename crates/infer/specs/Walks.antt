@@ -8,8 +8,8 @@ use Rattle.infer.specs.Leads.{candidates_of}
 use Rattle.infer.specs.Questions.{IsWanted, fits}
 use Rattle.infer.specs.Row.{Row, Accepts}
 use Rattle.infer.specs.Table.{table}
-use Rattle.infer.specs.declared.question.Wanted.{Wanted}
-use Rattle.infer.specs.declared.question.Wanted.TheVariants.{Every, Extension}
+use Rattle.infer.specs.declared.ask.question.Wanted.{Wanted}
+use Rattle.infer.specs.declared.ask.question.Wanted.TheVariants.{Every, Extension}
 
 -- row i of the table is there and has the property
 abbrev pub RowHas : (Row BuiltIn → Type 0) → ℕ → Type 0

@@ -1,7 +1,7 @@
 -- What a clause reads of a watched reader.
 use Rattle.std.specs.Prelude.{Option}
 use Rattle.std.specs.declared.io.ErrorKind.{ErrorKind}
-use Rattle.infer.specs.declared.watched.Watched.{Watched}
+use Rattle.infer.specs.declared.read.watched.Watched.{Watched}
 
 -- the reader inside
 abbrev pub inner : {R : Type 0} → Watched R → R

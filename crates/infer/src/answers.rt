@@ -7,14 +7,14 @@ ghost use Rattle.infer.specs.Row.{Accepts, shows};
 ghost use Rattle.infer.specs.Table.{table};
 ghost use Rattle.infer.specs.Triple.{triple_of};
 
-use crate::ask::count_wanted;
-use crate::dispatch::{arm_of, first_of, first_of_class};
-use crate::file_type::{FileType, MatcherType};
-use crate::leads::{blank, leads};
-use crate::question::{
+use crate::ask::question::{
     APP, ARCHIVE, AUDIO, BOOK, DOC, Every, FONT, IMAGE, OfClass, VIDEO, Wanted,
 };
-use crate::rows::rows;
+use crate::candidates::asker::count_wanted;
+use crate::candidates::dispatch::{arm_of, first_of, first_of_class};
+use crate::table::file_type::{FileType, MatcherType};
+use crate::table::leads::{blank, leads};
+use crate::table::rows::rows;
 
 /// The number of the first row that accepts `buf`. Only the candidates of its first byte are asked.
 #[inline(always)]

@@ -16,10 +16,10 @@ ghost use Rattle.infer.specs.Samples.{sample_of};
 ghost use Rattle.infer.specs.Table.{table};
 ghost use Rattle.infer.specs.Triple.{triple_of};
 
-use crate::file_type::FileType;
-use crate::infer::Infer;
-pub use crate::leads::{blank, leads};
-use crate::rows::{DLL, EPUB_ARCHIVE, MATCHER_COUNT, ROW_COUNT};
+use crate::caller::infer::Infer;
+use crate::table::file_type::FileType;
+pub use crate::table::leads::{blank, leads};
+use crate::table::rows::{DLL, EPUB_ARCHIVE, MATCHER_COUNT, ROW_COUNT};
 use std::alloc::Allocator;
 
 /// `a == b`, which compares the class, the MIME type and the extension of two types.

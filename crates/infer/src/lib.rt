@@ -9,6 +9,10 @@
 //!
 //! [`get_from_path`] and [`Infer::get_from_reader`] look at the first 8192 bytes of a file or of a reader. A
 //! [`Fault`] says why they have no answer.
+//!
+//! Each module uses only those before it: `table`, the rows and their types; `ask`, a question and one row; `candidates`, the
+//! rows that a first byte allows, asked in order; `answers`, what the built-in rows answer; `caller`, an [`Infer`] and
+//! its rows; `read`, the front of a file or reader; `laws`, facts about all of these; `samples`.
 #![tactic(auto)]
 
 ghost use Rattle.std.specs.Prelude.{◌≡◌, ◌↔◌, ◌<◌, ◌≤◌, ℕ, List, IfOk, IfSome, IsNone, IsTrue, length, option_map, slice_get};
@@ -20,38 +24,31 @@ ghost use Rattle.infer.specs.Triple.{triple_of};
 
 mod answers;
 mod ask;
-mod chain;
-mod custom;
-mod dispatch;
-mod engine;
-mod fault;
-mod file_type;
-mod infer;
+mod caller;
+mod candidates;
 pub mod laws;
-mod leads;
-mod question;
-pub mod rows;
+mod read;
 mod samples;
-mod taken;
+mod table;
 #[cfg(test)]
 mod tests;
-mod watched;
 
-pub use ask::{Ask, Asker, is_counted, position_counted, walk};
-use engine::FRONT;
-pub use fault::Fault;
-pub use file_type::{FileType as Type, Matcher, MatcherType};
-pub use infer::Infer;
+use ask::question::Wanted;
+pub use caller::infer::Infer;
+pub use candidates::asker::{Ask, Asker, is_counted, position_counted, walk};
 pub use infer_sig::{
     app as app, archive as archive, audio as audio, book as book, doc as doc, font as font,
     image as image, odf as odf, text as text, video as video,
 };
-use question::Wanted;
-use rows::ROW_COUNT;
+pub use read::fault::Fault;
+use read::head::FRONT;
+pub use read::watched::Watched;
 pub use samples::sample;
 use std::alloc::Allocator;
 use std::rt::Files;
-pub use watched::Watched;
+pub use table::file_type::{FileType as Type, Matcher, MatcherType};
+pub use table::rows as rows;
+use table::rows::ROW_COUNT;
 
 /// The type of the first built-in row that accepts `buf`, and `None` exactly where no row accepts it.
 pub fn get(buf: &[u8]) -> Option<Type>

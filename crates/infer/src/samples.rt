@@ -8,7 +8,7 @@ ghost use Rattle.infer.specs.Samples.{HoldsSample, put};
 ghost use Rattle.infer.specs.Table.{table};
 
 use crate::laws;
-use crate::rows::{DLL, EPUB_ARCHIVE, Pieces, ROW_COUNT, samples};
+use crate::table::rows::{DLL, EPUB_ARCHIVE, Pieces, ROW_COUNT, samples};
 
 // That of row `i`.
 fn of_row(i: usize) -> &'static Pieces

@@ -9,7 +9,7 @@ use Rattle.infer.specs.BuiltIn.{BuiltIn}
 use Rattle.infer.specs.First.{SomeHas}
 use Rattle.infer.specs.Row.{Row}
 use Rattle.infer.specs.Table.{table}
-use Rattle.infer.specs.declared.rows.TheConstants.{ROW_COUNT}
+use Rattle.infer.specs.declared.table.rows.TheConstants.{ROW_COUNT}
 
 abbrev is_ascii : List ℕ → Bool
 is_ascii text = list_all (λ c. ltb c 128) text

@@ -7,9 +7,9 @@ use Rattle.infer.specs.Samples.{sample_of}
 use Rattle.infer.specs.Table.{table}
 use Rattle.infer.specs.Triple.{Triple}
 use Rattle.infer.specs.Walks.{RowHas}
-use Rattle.infer.specs.declared.file_type.MatcherType.{MatcherType}
-use Rattle.infer.specs.declared.file_type.MatcherType.TheVariants.{App, Archive, Audio, Book, Doc, Font, Image, Text, Video, Custom}
-use Rattle.infer.specs.declared.rows.TheConstants.{DLL, EPUB_ARCHIVE, ROW_COUNT}
+use Rattle.infer.specs.declared.table.file_type.MatcherType.{MatcherType}
+use Rattle.infer.specs.declared.table.file_type.MatcherType.TheVariants.{App, Archive, Audio, Book, Doc, Font, Image, Text, Video, Custom}
+use Rattle.infer.specs.declared.table.rows.TheConstants.{DLL, EPUB_ARCHIVE, ROW_COUNT}
 
 -- the number of a row, and -1 for none
 abbrev pub row_code : Option ℕ → ℤ

@@ -11,8 +11,8 @@ ghost use Rattle.infer.specs.Questions.{HasClass, HasExtension, HasMimeType, Som
 ghost use Rattle.infer.specs.Row.{Accepts};
 ghost use Rattle.infer.specs.Table.{table};
 ghost use Rattle.infer.specs.Walks.{count_asked};
-ghost use Rattle.infer.specs.declared.question.Wanted.TheVariants.{Every};
-ghost use Rattle.infer.specs.declared.rows.TheConstants.{MOST_CANDIDATES};
+ghost use Rattle.infer.specs.declared.ask.question.Wanted.TheVariants.{Every};
+ghost use Rattle.infer.specs.declared.table.rows.TheConstants.{MOST_CANDIDATES};
 ghost use Rattle.infer_sniff.specs.Verdicts.{IsSettled, RowLasts};
 ghost use Rattle.infer_c.specs.Codes.{AcceptsAt, IsClassOf, IsSampleOf, class_code, class_name, row_code, triple_at};
 ghost use Rattle.infer_c.specs.Written.{WritesText, WritesWhole};

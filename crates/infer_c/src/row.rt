@@ -6,8 +6,8 @@ ghost use Rattle.infer.specs.Row.{Accepts};
 ghost use Rattle.infer.specs.Table.{table};
 ghost use Rattle.infer.specs.Triple.{triple_of};
 ghost use Rattle.infer.specs.Walks.{RowHas, count_asked};
-ghost use Rattle.infer.specs.declared.question.Wanted.TheVariants.{Every};
-ghost use Rattle.infer.specs.declared.rows.TheConstants.{MOST_CANDIDATES, ROW_COUNT};
+ghost use Rattle.infer.specs.declared.ask.question.Wanted.TheVariants.{Every};
+ghost use Rattle.infer.specs.declared.table.rows.TheConstants.{MOST_CANDIDATES, ROW_COUNT};
 ghost use Rattle.infer_c.specs.Codes.{IsSample, triple_at};
 ghost use Rattle.infer_c.specs.Written.{WritesWhole};
 

@@ -14,9 +14,9 @@ use Rattle.infer.specs.Matchers.{Lasts as KeepsYes}
 use Rattle.infer.specs.Row.{Row, Accepts}
 use Rattle.infer.specs.Table.{row, signature_of, table}
 use Rattle.infer.specs.Triple.{Triple, triple_of}
-use Rattle.infer.specs.declared.rows.TheConstants.{ROW_COUNT}
-use Rattle.infer.specs.declared.file_type.FileType.{FileType}
-use Rattle.infer.specs.declared.file_type.MatcherType.TheVariants.{Text}
+use Rattle.infer.specs.declared.table.rows.TheConstants.{ROW_COUNT}
+use Rattle.infer.specs.declared.table.file_type.FileType.{FileType}
+use Rattle.infer.specs.declared.table.file_type.MatcherType.TheVariants.{Text}
 use Rattle.infer_sniff.specs.Cases.{Holds, bound}
 use Rattle.infer_sniff.specs.declared.case.Case.{Case}
 use Rattle.infer_sniff.specs.declared.case.Case.TheVariants.{OpenBox, Compound, Office, Frame, Space, Mark}

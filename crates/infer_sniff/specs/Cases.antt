@@ -6,7 +6,7 @@ use Rattle.infer.specs.Frames.{BeginsFrame}
 use Rattle.infer.specs.Laws.{IsNotLater}
 use Rattle.infer.specs.MarkupText.{BeginsMarked, BeginsWhite}
 use Rattle.infer.specs.Office.{BeginsOffice}
-use Rattle.infer.specs.declared.rows.TheConstants.{AVIF, LZ4, PPT, PPTX, XML}
+use Rattle.infer.specs.declared.table.rows.TheConstants.{AVIF, LZ4, PPT, PPTX, XML}
 use Rattle.infer_sniff.specs.declared.case.Case.{Case}
 use Rattle.infer_sniff.specs.declared.case.Case.TheVariants.{OpenBox, Compound, Office, Frame, Space, Mark}
 

@@ -3,7 +3,7 @@ ghost use Rattle.std.specs.Prelude.{◌↔◌, ◌<◌, IfSome, IsTrue};
 ghost use Rattle.infer.specs.First.{IsFirstOf};
 ghost use Rattle.infer.specs.Row.{Accepts};
 ghost use Rattle.infer.specs.Table.{table};
-ghost use Rattle.infer.specs.declared.rows.TheConstants.{ROW_COUNT};
+ghost use Rattle.infer.specs.declared.table.rows.TheConstants.{ROW_COUNT};
 ghost use Rattle.infer_sniff.specs.Verdicts.{IsSettled, RowLasts};
 
 use crate::verdict::is_settled;

@@ -1,8 +1,8 @@
 -- The report of an answer that was found by reading.
 use Rattle.std.proofs.Common.{◌≡◌, ◌≤◌, ℕ, List, [], Option, None, Some, Result, Ok, Err, IfOk, IfSome, OnErr, arith, length, option_map, subst}
 use Rattle.infer.specs.Triple.{Triple, triple_of}
-use Rattle.infer.specs.declared.fault.Fault.{Fault}
-use Rattle.infer.specs.declared.file_type.FileType.{FileType}
+use Rattle.infer.specs.declared.read.fault.Fault.{Fault}
+use Rattle.infer.specs.declared.table.file_type.FileType.{FileType}
 use Rattle.infer_tool.specs.Report.{Reports, ReportsTheOne}
 use Rattle.infer_tool.specs.declared.outcome.Outcome.{Outcome}
 use Rattle.infer_tool.specs.declared.outcome.Outcome.TheVariants.{Known, Unknown, Failed}

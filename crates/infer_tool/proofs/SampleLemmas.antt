@@ -9,7 +9,7 @@ use Rattle.infer.specs.BuiltIn.{BuiltIn}
 use Rattle.infer.specs.Row.{Row, shows}
 use Rattle.infer.specs.Table.{table}
 use Rattle.infer.specs.Triple.{Triple}
-use Rattle.infer.specs.declared.rows.TheConstants.{ROW_COUNT}
+use Rattle.infer.specs.declared.table.rows.TheConstants.{ROW_COUNT}
 use Rattle.infer_tool.specs.Sample.{AnswersSample, WritesSample}
 use Rattle.infer_tool.specs.declared.outcome.Outcome.{Outcome}
 use Rattle.infer_tool.specs.declared.outcome.Outcome.TheVariants.{Known, Unknown, Failed}

@@ -1,7 +1,7 @@
 -- What one read gives a sniffer.
 use Rattle.std.specs.Prelude.{◌≡◌, ◌++◌, ℕ, List, Option, length}
 use Rattle.std.specs.Io.KnownBytes.{Consumes, IsAtEnd}
-use Rattle.infer.specs.declared.file_type.FileType.{FileType}
+use Rattle.infer.specs.declared.table.file_type.FileType.{FileType}
 use Rattle.infer_sniff.specs.declared.verdict.Verdict.{Verdict}
 use Rattle.infer_sniff.specs.declared.verdict.Verdict.TheVariants.{SoFar, Final}
 

@@ -4,7 +4,7 @@ use Rattle.infer.specs.First.{IsAnswer}
 use Rattle.infer.specs.Row.{Accepts}
 use Rattle.infer.specs.Table.{table}
 use Rattle.infer.specs.Triple.{Triple}
-use Rattle.infer.specs.declared.file_type.MatcherType.{MatcherType}
+use Rattle.infer.specs.declared.table.file_type.MatcherType.{MatcherType}
 use Rattle.infer_uses.specs.Answers.{IsOfClass}
 
 -- one more for each buffer whose answer is of the class, and none for any other

@@ -1,7 +1,7 @@
 //! Answers of readers and of files, and each fault.
 ghost use Rattle.std.specs.Prelude.{◌<◌, ◌↔◌, IsTrue, length};
 
-use crate::engine::FRONT;
+use crate::read::head::FRONT;
 use crate::{Fault, Infer, Type, Watched, get, get_from_path, row, rows, sample};
 use hostile_streams::PieceReader;
 use linked_list_allocator::LocalHeap;

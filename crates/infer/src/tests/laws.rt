@@ -10,7 +10,7 @@ ghost use Rattle.infer.specs.Rows.{custom_rows};
 ghost use Rattle.infer.specs.Table.{table};
 
 use crate::app::{is_java, is_mach};
-use crate::rows::{DLL, DOC, EPUB, EPUB_ARCHIVE, EXE, ROW_COUNT, SHELLSCRIPT};
+use crate::table::rows::{DLL, DOC, EPUB, EPUB_ARCHIVE, EXE, ROW_COUNT, SHELLSCRIPT};
 use crate::{Infer, Type, laws, position, sample};
 use std::alloc::Allocator;
 use std::test::Fail;

@@ -1,6 +1,6 @@
 use Rattle.std.proofs.Common.{refl}
 use Rattle.infer.specs.Table.{table}
-use Rattle.infer.specs.declared.question.Wanted.TheVariants.{Every}
+use Rattle.infer.specs.declared.ask.question.Wanted.TheVariants.{Every}
 use Rattle.infer.proofs.AskLemmas.{candidates-read}
 use Rattle.infer.proofs.CandidateLemmas.{first_of_buffer, first_of_every}
 use Rattle.infer.proofs.answers.position.Goals as goal

@@ -2,7 +2,7 @@ use Rattle.std.proofs.Common.{refl}
 use Rattle.infer.specs.Questions.{class_at}
 use Rattle.infer.specs.Table.{table}
 use Rattle.infer.specs.Walks.{Takes}
-use Rattle.infer.specs.declared.question.Wanted.TheVariants.{Class}
+use Rattle.infer.specs.declared.ask.question.Wanted.TheVariants.{Class}
 use Rattle.infer.proofs.AskLemmas.{candidates-read}
 use Rattle.infer.proofs.CandidateLemmas.{first_of_buffer, some_of_first}
 use Rattle.infer.proofs.answers.some_of_class.Goals as goal

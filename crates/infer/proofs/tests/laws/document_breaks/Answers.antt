@@ -2,7 +2,7 @@ use Rattle.std.proofs.Common.{Some, take, refl}
 use Rattle.infer.specs.Row.{Accepts}
 use Rattle.infer.specs.Matchers.{is_of_the_twelve}
 use Rattle.infer.specs.Table.{signature_of, table}
-use Rattle.infer.specs.declared.rows.TheConstants.{DOC}
+use Rattle.infer.specs.declared.table.rows.TheConstants.{DOC}
 use Rattle.infer.proofs.FirstLemmas.{IsFirstOf-same}
 use Rattle.infer.proofs.tests.laws.document_breaks.Goals as goal
 

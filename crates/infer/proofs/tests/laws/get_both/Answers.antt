@@ -6,7 +6,7 @@ use Rattle.infer.specs.Laws.{IsNotLater}
 use Rattle.infer.specs.Row.{Row}
 use Rattle.infer.specs.Rows.{AnyAccepts, rows}
 use Rattle.infer.specs.Triple.{triple_of}
-use Rattle.infer.specs.declared.file_type.FileType.{FileType}
+use Rattle.infer.specs.declared.table.file_type.FileType.{FileType}
 use Rattle.infer.proofs.CallerLemmas.{IsBuffer-bytes}
 use Rattle.infer.proofs.tests.laws.get_both.Goals as goal
 

@@ -2,7 +2,7 @@ use Rattle.std.proofs.Common.{◌≢◌, ℕ, List, Option, None, Some, IfSome}
 use Rattle.infer.specs.First.{IsFirst, IsFirstOf}
 use Rattle.infer.specs.Row.{Accepts}
 use Rattle.infer.specs.Table.{table}
-use Rattle.infer.specs.declared.rows.TheConstants.{DLL, EPUB_ARCHIVE}
+use Rattle.infer.specs.declared.table.rows.TheConstants.{DLL, EPUB_ARCHIVE}
 use Rattle.infer.proofs.tests.laws.position_but_two.Goals as goal
 
 but_two : (buf : List ℕ) (o : Option ℕ) → ((i : ℕ) → IsFirst (Accepts buf) table i → (i ≢ DLL) × (i ≢ EPUB_ARCHIVE)) → IsFirstOf (Accepts buf) table o

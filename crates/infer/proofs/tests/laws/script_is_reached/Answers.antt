@@ -1,5 +1,5 @@
 use Rattle.std.proofs.Common.{arith}
-use Rattle.infer.specs.declared.rows.TheConstants.{SHELLSCRIPT}
+use Rattle.infer.specs.declared.table.rows.TheConstants.{SHELLSCRIPT}
 use Rattle.infer.proofs.OrderLemmas.{some_row}
 use Rattle.infer.proofs.tests.laws.script_is_reached.Goals as goal
 

@@ -1,9 +1,0 @@
-use Rattle.infer.specs.Table.{table}
-use Rattle.infer.specs.Walks.{Takes}
-use Rattle.infer.specs.declared.question.Wanted.TheVariants.{Extension}
-use Rattle.infer.proofs.CandidateLemmas.{some_of_first}
-use Rattle.infer.proofs.ask.is_counted.Goals as goal
-
-pub returns-clause-found : goal.returns-clause-found
-returns-clause-found c =
-    some_of_first (Takes (Extension c.args.extension) c.args.buf.now) table c.count_wanted-found.result.0 c.is_some.result c.is_some.ensures c.count_wanted-found.ensures.first

@@ -1,0 +1,21 @@
+use Rattle.std.proofs.Common.{inl, inr, refl}
+use Rattle.infer.specs.Table.{table}
+use Rattle.infer.specs.Walks.{IsFirstAmong}
+use Rattle.infer.proofs.candidates.chain.ThenMarkupChain.first.Goals as goal
+
+pub returns-then-takes : goal.returns-then-takes
+unfolding IsFirstAmong table
+returns-then-takes g c = let h = c.if-takes.ensures.0 refl in inl ((h.0, c.text_of-text.ensures.html.0 h.1), refl)
+
+pub returns-then-takes-2 : goal.returns-then-takes-2
+unfolding IsFirstAmong table
+returns-then-takes-2 g c =
+    let k = c.if-takes-2.ensures.0 refl in
+    inr (λ h. absurd (let e = c.if-takes.ensures.1 (h.0, c.text_of-text.ensures.html.1 h.1) in cc), inl ((k.0, c.text_of-text.ensures.xml.0 k.1), refl))
+
+pub returns : goal.returns
+unfolding IsFirstAmong table
+returns g c = inr (
+  λ h. absurd (let e = c.if-takes.ensures.1 (h.0, c.text_of-text.ensures.html.1 h.1) in cc),
+  inr (λ h. absurd (let e = c.if-takes-2.ensures.1 (h.0, c.text_of-text.ensures.xml.1 h.1) in cc), c.first.ensures),
+)

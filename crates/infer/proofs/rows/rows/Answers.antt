@@ -1,7 +1,0 @@
-use Rattle.std.proofs.Common.{refl}
-use Rattle.infer.specs.Table.{signature_of, table}
-use Rattle.infer.proofs.rows.rows.Goals as goal
-
-pub returns-clause-listed : goal.returns-clause-listed
-unfolding table signature_of
-returns-clause-listed c = refl

@@ -1,0 +1,11 @@
+use Rattle.std.proofs.Common.{[], refl}
+use Rattle.infer_deep.specs.Numbers.{le16, le32, be32}
+use Rattle.infer_sig.specs.Signature.{stands}
+use Rattle.infer.specs.Table.{table}
+use Rattle.infer.proofs.KnownLemmas.{proof_of}
+use Rattle.infer.proofs.OrderLemmas.{none_accepts}
+use Rattle.infer.proofs.table.leads.blank.Goals as goal
+
+pub returns : goal.returns
+unfolding table stands le16 le32 be32
+returns c = proof_of (none_accepts c.by_place.ensures []) refl

@@ -1,0 +1,14 @@
+use Rattle.std.proofs.Common.{refl}
+use Rattle.infer.specs.Table.{table}
+use Rattle.infer.proofs.table.rows.samples.Goals as goal
+
+pub returns-clause-buffers : goal.returns-clause-buffers
+unfolding table
+returns-clause-buffers c = refl
+
+pub returns-clause-lengths : goal.returns-clause-lengths
+unfolding table
+returns-clause-lengths c = refl
+
+pub returns-clause-inside : goal.returns-clause-inside
+returns-clause-inside c = refl

@@ -1,0 +1,46 @@
+//! A row that a caller added.
+ghost use Rattle.std.specs.Prelude.{◌≡◌, ◌↔◌, IsTrue};
+ghost use Rattle.std.specs.Bool.{OnFalse, OnTrue};
+ghost use Rattle.infer.specs.Caller.{IsSettled};
+
+use crate::ask::question::Wanted;
+use crate::table::file_type::{FileType, Matcher, MatcherType};
+
+/// A row of a caller's. Its function may be called on every buffer, and its contract fixes one answer for each.
+#[derive(Clone, Copy)]
+pub struct CustomRow {
+    pub mime_type: &'static str,
+    pub extension: &'static str,
+    pub matcher: Matcher,
+    pub ghost callable: { IsAlwaysCallable matcher },
+    pub ghost settled: { IsSettled (post matcher) },
+}
+
+impl CustomRow {
+    ghost use Rattle.infer.specs.Questions.{IsWanted};
+    ghost use Rattle.infer.specs.Rows.{AnyAccepts, custom_row};
+    ghost use Rattle.infer.specs.Triple.{triple_of};
+
+    pub fn file_type(&self) -> FileType
+        ensures { triple_of result ≡ (custom_row self.now).shows }
+    {
+        FileType {
+            matcher_type: MatcherType::Custom,
+            mime_type: self.mime_type,
+            extension: self.extension,
+        }
+    }
+
+    pub fn fits(&self, wanted: Wanted) -> bool
+        ensures { IsTrue result ↔ IsWanted wanted.entry (custom_row self.now) }
+    {
+        wanted.fits(&self.file_type())
+    }
+
+    pub fn accepts(&self, buf: &[u8]) -> bool
+        ensures yes { OnTrue result (AnyAccepts buf.now (custom_row self.now)) }
+        ensures no { OnFalse result (¬ AnyAccepts buf.now (custom_row self.now)) }
+    {
+        (self.matcher)(buf)
+    }
+}

@@ -1,0 +1,343 @@
+//! The list of rows that is asked.
+ghost use Rattle.std.specs.Prelude.{◌≡◌, ◌↔◌, ◌≤◌, ℕ, List, None, Some, [], ◌∷◌, ◌++◌, IfOk, IfSome, IsErrOf, IsTrue, OnErr, OnOk, drop, length, map, option_map};
+ghost use Rattle.infer.specs.Buffer.{head};
+ghost use Rattle.infer.specs.Caller.{IsSettled};
+ghost use Rattle.infer.specs.Fault.{OpensNothing, read_fault};
+ghost use Rattle.infer.specs.First.{IsAnswer, SomeHas};
+ghost use Rattle.infer.specs.Questions.{HasClass, HasExtension, HasMimeType, IsWanted, SomeBoth};
+ghost use Rattle.infer.specs.Rows.{AnyAccepts, custom_row, custom_rows, given, rows};
+ghost use Rattle.infer.specs.Triple.{triple, triple_of};
+ghost use Rattle.infer.specs.Watched.{fault_of, inner};
+ghost use Rattle.infer.specs.declared.table.file_type.MatcherType.TheVariants.{Custom};
+
+use crate::answers;
+use crate::ask::question::Wanted;
+use crate::caller::custom::CustomRow;
+use crate::read::fault::Fault;
+use crate::read::head::{FRONT, read_head};
+use crate::read::watched::Watched;
+use crate::table::file_type::{FileType, Matcher, MatcherType};
+use std::alloc::{AllocError, Allocator, Global};
+use std::fs::File;
+use std::io::Read;
+use std::rt::Files;
+
+/// Rows to ask: those that were added, in that order, and then the built-in ones.
+///
+/// A contract sees it as the list of the rows that were added. Asking takes no memory and cannot be refused.
+#[derive(Drop)]
+pub struct Infer<A: Allocator = Global> {
+    /// The rows that were added. The list is made by the first `add`, so that a new `Infer` takes no memory.
+    list: Option<Vec<CustomRow, A>>,
+}
+
+impl Infer {
+    /// An `Infer` without rows of a caller.
+    pub fn new() -> Infer
+        ensures { custom_rows result ≡ [] }
+    {
+        Infer::new_in()
+    }
+}
+
+impl Default for Infer {
+    fn default() -> Infer
+        ensures { custom_rows result ≡ [] }
+    {
+        Infer::new()
+    }
+}
+
+impl<A: Allocator> Infer<A> {
+    /// The same, whose list is made in another allocator than the default.
+    pub fn new_in() -> Infer<A>
+        ensures { custom_rows result ≡ [] }
+    {
+        Infer { list: None }
+    }
+
+    /// Adds a row of the class `Custom` behind those that were added before. None is dropped or replaced.
+    ///
+    /// The function may be called on every buffer, and its contract fixes one answer for each. The first call
+    /// makes the list in `alloc`, which the list keeps. An error means that memory was refused.
+    pub fn add(
+        &mut self,
+        alloc: A,
+        mime_type: &'static str,
+        extension: &'static str,
+        m: Matcher,
+    ) -> Result<(), AllocError>
+        requires callable { IsAlwaysCallable m }
+        requires settled { IsSettled (post m) }
+        ensures added { OnOk result (custom_rows self.new ≡ custom_rows self.old
+            ++ record { shows = triple Custom mime_type.now extension.now; signature = given m } ∷ []) }
+        ensures refused { OnErr result (custom_rows self.new ≡ custom_rows self.old) }
+    {
+        let row = CustomRow {
+            mime_type,
+            extension,
+            matcher: m,
+        };
+        match &mut self.list {
+            Some(list) => list.push(row)?,
+            None => {
+                let mut list = Vec::new(alloc);
+                list.push(row)?;
+                self.list = Some(list);
+            }
+        }
+        Ok(())
+    }
+
+    /// The type of the first row that accepts `buf`, and `None` exactly where no row accepts it.
+    pub fn get(&self, buf: &[u8]) -> Option<FileType>
+        ensures { IsAnswer (AnyAccepts buf.now) (rows self.now) (option_map triple_of result) }
+    {
+        match self.custom_get(buf) {
+            Some(found) => Some(found),
+            None => answers::get(buf),
+        }
+    }
+
+    /// Whether some row with this extension accepts `buf`. Upper and lower case are apart.
+    pub fn is(&self, buf: &[u8], extension: &str) -> bool
+        ensures { IsTrue result ↔ SomeBoth (HasExtension extension.now) (AnyAccepts buf.now) (rows self.now) }
+    {
+        self.some(Wanted::Extension(extension), buf)
+    }
+
+    /// Whether some row with this MIME type accepts `buf`. Upper and lower case are apart.
+    pub fn is_mime(&self, buf: &[u8], mime_type: &str) -> bool
+        ensures { IsTrue result ↔ SomeBoth (HasMimeType mime_type.now) (AnyAccepts buf.now) (rows self.now) }
+    {
+        self.some(Wanted::MimeType(mime_type), buf)
+    }
+
+    /// Whether some row has this extension.
+    pub fn is_supported(&self, extension: &str) -> bool
+        ensures { IsTrue result ↔ SomeHas (HasExtension extension.now) (rows self.now) }
+    {
+        self.has(Wanted::Extension(extension))
+    }
+
+    /// Whether some row has this MIME type.
+    pub fn is_mime_supported(&self, mime_type: &str) -> bool
+        ensures { IsTrue result ↔ SomeHas (HasMimeType mime_type.now) (rows self.now) }
+    {
+        self.has(Wanted::MimeType(mime_type))
+    }
+
+    /// Whether some row of the class `App` accepts `buf`.
+    pub fn is_app(&self, buf: &[u8]) -> bool
+        ensures { IsTrue result ↔ SomeBoth (HasClass MatcherType.App) (AnyAccepts buf.now) (rows self.now) }
+    {
+        self.some(Wanted::Class(MatcherType::App), buf)
+    }
+
+    /// Whether some row of the class `Archive` accepts `buf`.
+    pub fn is_archive(&self, buf: &[u8]) -> bool
+        ensures { IsTrue result ↔ SomeBoth (HasClass MatcherType.Archive) (AnyAccepts buf.now) (rows self.now) }
+    {
+        self.some(Wanted::Class(MatcherType::Archive), buf)
+    }
+
+    /// Whether some row of the class `Audio` accepts `buf`.
+    pub fn is_audio(&self, buf: &[u8]) -> bool
+        ensures { IsTrue result ↔ SomeBoth (HasClass MatcherType.Audio) (AnyAccepts buf.now) (rows self.now) }
+    {
+        self.some(Wanted::Class(MatcherType::Audio), buf)
+    }
+
+    /// Whether some row of the class `Book` accepts `buf`.
+    pub fn is_book(&self, buf: &[u8]) -> bool
+        ensures { IsTrue result ↔ SomeBoth (HasClass MatcherType.Book) (AnyAccepts buf.now) (rows self.now) }
+    {
+        self.some(Wanted::Class(MatcherType::Book), buf)
+    }
+
+    /// Whether some row of the class `Doc` accepts `buf`.
+    pub fn is_document(&self, buf: &[u8]) -> bool
+        ensures { IsTrue result ↔ SomeBoth (HasClass MatcherType.Doc) (AnyAccepts buf.now) (rows self.now) }
+    {
+        self.some(Wanted::Class(MatcherType::Doc), buf)
+    }
+
+    /// Whether some row of the class `Font` accepts `buf`.
+    pub fn is_font(&self, buf: &[u8]) -> bool
+        ensures { IsTrue result ↔ SomeBoth (HasClass MatcherType.Font) (AnyAccepts buf.now) (rows self.now) }
+    {
+        self.some(Wanted::Class(MatcherType::Font), buf)
+    }
+
+    /// Whether some row of the class `Image` accepts `buf`.
+    pub fn is_image(&self, buf: &[u8]) -> bool
+        ensures { IsTrue result ↔ SomeBoth (HasClass MatcherType.Image) (AnyAccepts buf.now) (rows self.now) }
+    {
+        self.some(Wanted::Class(MatcherType::Image), buf)
+    }
+
+    /// Whether some row of the class `Video` accepts `buf`.
+    pub fn is_video(&self, buf: &[u8]) -> bool
+        ensures { IsTrue result ↔ SomeBoth (HasClass MatcherType.Video) (AnyAccepts buf.now) (rows self.now) }
+    {
+        self.some(Wanted::Class(MatcherType::Video), buf)
+    }
+
+    /// Whether some row of the class `Custom` accepts `buf`.
+    pub fn is_custom(&self, buf: &[u8]) -> bool
+        ensures { IsTrue result ↔ SomeBoth (HasClass MatcherType.Custom) (AnyAccepts buf.now) (rows self.now) }
+    {
+        self.some(Wanted::Class(MatcherType::Custom), buf)
+    }
+
+    /// The type of the first row that accepts the first 8192 bytes of a reader, or all where it has fewer, and
+    /// `None` exactly where no row accepts them.
+    ///
+    /// It reserves 8192 bytes first, then reads until it has them or a read gives none. The rest stays in the
+    /// reader. `Memory` means that the bytes were refused and nothing was read, `Read` that a read failed, whatever
+    /// its kind; bytes that were read before are lost then. It is never `Open`.
+    pub fn get_from_reader<B: Allocator, R: Read>(
+        &self,
+        alloc: B,
+        r: &mut Watched<R>,
+    ) -> Result<Option<FileType>, Fault>
+        requires { fault_of r.old ≡ None }
+        ensures answer { IfOk result (λ found. IfSome (R.remaining (inner r.old))
+            (λ s. IsAnswer (AnyAccepts (head FRONT s)) (rows self.now) (option_map triple_of found))) }
+        ensures rest { OnOk result (IfSome (R.remaining (inner r.old))
+            (λ s. R.remaining (inner r.new) ≡ Some (drop FRONT s))) }
+
+        // Where the reader does not tell its bytes, it is still the answer of so many bytes or fewer.
+        ensures some_bytes { IfOk result (λ found. (b : List ℕ) × (length b ≤ FRONT)
+            × IsAnswer (AnyAccepts b) (rows self.now) (option_map triple_of found)) }
+
+        // It is `Read(k)` exactly where the reader's fault is now k.
+        ensures fault { fault_of r.new ≡ read_fault result }
+        ensures memory { IsErrOf result Fault.Memory → r.new ≡ r.old }
+        ensures opens_nothing { OpensNothing result }
+    {
+        self.get_from_reader_within(alloc, r, FRONT)
+    }
+
+    /// The type of the first row that accepts the first 8192 bytes of a file, or all where it has fewer, and `None`
+    /// exactly where no row accepts them.
+    ///
+    /// It opens the file, reserves 8192 bytes and reads, in this order. Any error in opening is `Open`. The file's
+    /// length is not asked for.
+    pub fn get_from_path<R: Files, B: Allocator>(
+        &self,
+        rt: &R,
+        alloc: B,
+        path: &str,
+    ) -> Result<Option<FileType>, Fault>
+        ensures { IfOk result (λ found. (b : List ℕ) × (length b ≤ FRONT)
+            × IsAnswer (AnyAccepts b) (rows self.now) (option_map triple_of found)) }
+    {
+        self.get_from_path_within(rt, alloc, path, FRONT)
+    }
+
+    /// [`Infer::get_from_reader`] with `n` bytes in place of 8192, of which there are from 1 to 65536.
+    pub fn get_from_reader_within<B: Allocator, R: Read>(
+        &self,
+        alloc: B,
+        r: &mut Watched<R>,
+        n: usize,
+    ) -> Result<Option<FileType>, Fault>
+        requires no_fault { fault_of r.old ≡ None }
+        requires least { 1 ≤ n }
+        requires most { n ≤ 65536 }
+        ensures answer { IfOk result (λ found. IfSome (R.remaining (inner r.old))
+            (λ s. IsAnswer (AnyAccepts (head n s)) (rows self.now) (option_map triple_of found))) }
+        ensures rest { OnOk result (IfSome (R.remaining (inner r.old))
+            (λ s. R.remaining (inner r.new) ≡ Some (drop n s))) }
+        ensures some_bytes { IfOk result (λ found. (b : List ℕ) × (length b ≤ n)
+            × IsAnswer (AnyAccepts b) (rows self.now) (option_map triple_of found)) }
+        ensures fault { fault_of r.new ≡ read_fault result }
+        ensures memory { IsErrOf result Fault.Memory → r.new ≡ r.old }
+        ensures opens_nothing { OpensNothing result }
+    {
+        match read_head(alloc, r, n) {
+            Ok(bytes) => Ok(self.get(bytes.as_slice())),
+            Err(fault) => Err(fault),
+        }
+    }
+
+    /// [`Infer::get_from_path`] with `n` bytes in place of 8192, of which there are from 1 to 65536.
+    pub fn get_from_path_within<R: Files, B: Allocator>(
+        &self,
+        rt: &R,
+        alloc: B,
+        path: &str,
+        n: usize,
+    ) -> Result<Option<FileType>, Fault>
+        requires least { 1 ≤ n }
+        requires most { n ≤ 65536 }
+        ensures { IfOk result (λ found. (b : List ℕ) × (length b ≤ n)
+            × IsAnswer (AnyAccepts b) (rows self.now) (option_map triple_of found)) }
+    {
+        match File::open(rt, path) {
+            Ok(file) => self.get_from_reader_within(alloc, &mut Watched::new(file), n),
+            Err(error) => Err(Fault::Open(error.kind())),
+        }
+    }
+
+    // Whether some row that is wanted accepts the buffer.
+    fn some(&self, wanted: Wanted, buf: &[u8]) -> bool
+        ensures { IsTrue result ↔ SomeBoth (IsWanted wanted.entry) (AnyAccepts buf.now) (rows self.now) }
+    {
+        self.custom_some(wanted, buf) || answers::some(wanted, buf)
+    }
+
+    // The same of the added rows alone.
+    fn custom_some(&self, wanted: Wanted, buf: &[u8]) -> bool
+        ensures { IsTrue result ↔ SomeBoth (IsWanted wanted.entry) (AnyAccepts buf.now) (custom_rows self.now) }
+    {
+        for row in self.custom() {
+            if row.fits(wanted) && row.accepts(buf) {
+                return true;
+            }
+        }
+        false
+    }
+
+    // Whether some row is wanted.
+    fn has(&self, wanted: Wanted) -> bool
+        ensures { IsTrue result ↔ SomeHas (IsWanted wanted.entry) (rows self.now) }
+    {
+        self.custom_has(wanted) || answers::has(wanted)
+    }
+
+    // The same of the added rows alone.
+    fn custom_has(&self, wanted: Wanted) -> bool
+        ensures { IsTrue result ↔ SomeHas (IsWanted wanted.entry) (custom_rows self.now) }
+    {
+        for row in self.custom() {
+            if row.fits(wanted) {
+                return true;
+            }
+        }
+        false
+    }
+
+    // The answer of the added rows alone.
+    fn custom_get(&self, buf: &[u8]) -> Option<FileType>
+        ensures { IsAnswer (AnyAccepts buf.now) (custom_rows self.now) (option_map triple_of result) }
+    {
+        for row in self.custom() {
+            if row.accepts(buf) {
+                return Some(row.file_type());
+            }
+        }
+        None
+    }
+
+    // The added rows.
+    fn custom(&self) -> &[CustomRow]
+        ensures { map custom_row result.now ≡ custom_rows self.now }
+    {
+        match &self.list {
+            Some(list) => list.as_slice(),
+            None => &[],
+        }
+    }
+}

@@ -1,0 +1,170 @@
+//! Rows are asked through an asker, which counts them.
+ghost use Rattle.std.specs.Prelude.{◌≡◌, ◌↔◌, ◌+◌, ◌<◌, ◌≤◌, ℕ, List, Option, cond, is_some, IsTrue, length, slice_get};
+ghost use Rattle.infer.specs.First.{IsFirstOf};
+ghost use Rattle.infer.specs.Leads.{candidates_of};
+ghost use Rattle.infer.specs.Questions.{HasExtension, SomeBoth};
+ghost use Rattle.infer.specs.Row.{Accepts};
+ghost use Rattle.infer.specs.Table.{table};
+ghost use Rattle.infer.specs.Walks.{IsFirstAmong, RowHas, Takes, count_asked, is_wanted, named};
+ghost use Rattle.infer.specs.declared.ask.question.Wanted.TheVariants.{Every, Extension};
+
+use crate::ask::question::Wanted;
+use crate::ask::taken::{accepts_at, fits_at};
+use crate::candidates::dispatch::{arm_of, candidates_at};
+use crate::table::leads::{blank, leads};
+use crate::table::rows::{MOST_CANDIDATES, ROW_COUNT};
+
+/// Who asks the built-in rows about one buffer. A contract sees that buffer, and how many rows were asked.
+pub trait Ask {
+    ghost buffer: { Self → List ℕ };
+
+    ghost asked: { Self → ℕ };
+
+    /// The first byte of the buffer, and `None` exactly where it is empty.
+    fn first(&self) -> Option<u8>
+        ensures { result ≡ slice_get (buffer self.now) 0 };
+
+    /// Whether the built-in row `i` accepts the buffer. It is counted.
+    fn ask(&mut self, i: usize) -> bool
+        requires row { i < ROW_COUNT }
+        requires room { asked self.old < ROW_COUNT }
+        ensures answer { IsTrue result ↔ RowHas (Accepts (buffer self.old)) i }
+        ensures kept { buffer self.new ≡ buffer self.old }
+        ensures counted { asked self.new ≡ asked self.old + 1 };
+}
+
+/// Asks the matchers, and counts.
+#[derive(Drop)]
+pub struct Asker<'a> {
+    buf: &'a [u8],
+    count: u32,
+}
+
+impl<'a> Asker<'a> {
+    /// About `buf`, with no row asked.
+    pub fn new(buf: &'a [u8]) -> Asker<'a>
+        ensures buffer { ⟦<Asker<'a> as Ask>⟧.buffer result ≡ buf.now }
+        ensures asked { ⟦<Asker<'a> as Ask>⟧.asked result ≡ 0 }
+    {
+        Asker { buf, count: 0 }
+    }
+
+    /// How many rows were asked.
+    pub fn asked(&self) -> u32
+        ensures { result ≡ ⟦<Asker<'a> as Ask>⟧.asked self.now }
+    {
+        self.count
+    }
+}
+
+impl Ask for Asker<'_> {
+    ghost buffer = { λ s. s.buf.now };
+
+    ghost asked = { λ s. s.count };
+
+    fn first(&self) -> Option<u8> {
+        self.buf.first().copied()
+    }
+
+    fn ask(&mut self, i: usize) -> bool {
+        self.count += 1;
+        accepts_at(i, self.buf)
+    }
+}
+
+/// The number of the first built-in row that accepts the asker's buffer, of those with the extension where one is
+/// given, and `None` exactly where none does.
+///
+/// Of those rows it asks the candidates of the first byte, which are the rows whose signature allows it there. It
+/// asks them in ascending order up to the answer, which are at most [`MOST_CANDIDATES`], and no other.
+pub fn walk<A: Ask>(asker: &mut A, wanted: Option<&str>) -> Option<usize>
+    requires { A.asked asker.old ≡ 0 }
+    ensures first { IsFirstAmong (RowHas (Takes (named wanted.entry) (A.buffer asker.old))) (candidates_of (A.buffer asker.old)) result }
+    ensures counted { A.asked asker.new ≡ count_asked (named wanted.entry) (A.buffer asker.old) result }
+    ensures few { A.asked asker.new ≤ MOST_CANDIDATES }
+    ensures kept { A.buffer asker.new ≡ A.buffer asker.old }
+{
+    match wanted {
+        Some(extension) => walk_wanted(asker, Wanted::Extension(extension)),
+        None => walk_wanted(asker, Wanted::Every),
+    }
+}
+
+/// The same for any question.
+#[inline(always)]
+fn walk_wanted<A: Ask>(asker: &mut A, wanted: Wanted) -> Option<usize>
+    requires { A.asked asker.old ≡ 0 }
+    ensures first { IsFirstAmong (RowHas (Takes wanted.entry (A.buffer asker.old))) (candidates_of (A.buffer asker.old)) result }
+    ensures counted { A.asked asker.new ≡ count_asked wanted.entry (A.buffer asker.old) result }
+    ensures few { A.asked asker.new ≤ MOST_CANDIDATES }
+    ensures kept { A.buffer asker.new ≡ A.buffer asker.old }
+{
+    for row in candidates_of(asker) {
+        if ask_wanted(asker, *row, wanted) {
+            return Some(*row);
+        }
+    }
+    None
+}
+
+/// The rows that can accept the asker's buffer, ascending.
+#[inline(always)]
+fn candidates_of<A: Ask>(asker: &A) -> &'static [usize]
+    ensures rows { result.now ≡ candidates_of (A.buffer asker.now) }
+    ensures few { length result.now ≤ MOST_CANDIDATES }
+{
+    match asker.first() {
+        Some(first) => candidates_at(arm_of(first)),
+        None => &[],
+    }
+}
+
+/// Whether row `i` is asked for and accepts the buffer. It is asked if it is.
+#[inline(always)]
+fn ask_wanted<A: Ask>(asker: &mut A, i: usize, wanted: Wanted) -> bool
+    requires row { i < ROW_COUNT }
+    requires room { A.asked asker.old < ROW_COUNT }
+    ensures answer { IsTrue result ↔ RowHas (Takes wanted.entry (A.buffer asker.old)) i }
+    ensures counted { A.asked asker.new ≡ A.asked asker.old + cond (is_wanted wanted.entry i) 1 0 }
+    ensures kept { A.buffer asker.new ≡ A.buffer asker.old }
+{
+    fits_at(i, wanted) && asker.ask(i)
+}
+
+/// The number of the first built-in row that is asked for and accepts `buf`, and how many rows a [`walk`] asks.
+#[inline(always)]
+pub(crate) fn count_wanted(buf: &[u8], wanted: Wanted) -> (Option<usize>, u32)
+    ensures first { IsFirstOf (Takes wanted.entry buf.now) table result.0 }
+    ensures among { IsFirstAmong (RowHas (Takes wanted.entry buf.now)) (candidates_of buf.now) result.0 }
+    ensures counted { result.1 ≡ count_asked wanted.entry buf.now result.0 }
+    ensures few { result.1 ≤ MOST_CANDIDATES }
+{
+    leads();
+    blank();
+    let mut asker = Asker::new(buf);
+    let found = walk_wanted(&mut asker, wanted);
+    (found, asker.asked())
+}
+
+/// The number of the first built-in row that accepts `buf`, as [`position`](crate::position) answers, and how many
+/// rows a [`walk`] asks for it: its candidates up to that row, all of them where no row accepts it.
+pub fn position_counted(buf: &[u8]) -> (Option<usize>, u32)
+    ensures first { IsFirstOf (Accepts buf.now) table result.0 }
+    ensures counted { result.1 ≡ count_asked Every buf.now result.0 }
+    ensures few { result.1 ≤ MOST_CANDIDATES }
+{
+    count_wanted(buf, Wanted::Every)
+}
+
+/// Whether some built-in row with this extension accepts `buf`, as [`is`](crate::is) answers, and how many rows a
+/// [`walk`] asks for it: the candidates with the extension up to the first that accepts `buf`.
+pub fn is_counted(buf: &[u8], extension: &str) -> (bool, u32)
+    ensures found { IsTrue result.0 ↔ SomeBoth (HasExtension extension.now) (Accepts buf.now) table }
+    ensures counted { (answer : Option ℕ)
+        × IsFirstAmong (RowHas (Takes (Extension extension.entry) buf.now)) (candidates_of buf.now) answer × (result.0 ≡ is_some answer)
+        × (result.1 ≡ count_asked (Extension extension.entry) buf.now answer) }
+    ensures few { result.1 ≤ MOST_CANDIDATES }
+{
+    let (found, count) = count_wanted(buf, Wanted::Extension(extension));
+    (found.is_some(), count)
+}

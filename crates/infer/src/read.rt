@@ -1,0 +1,4 @@
+//! The front of a file or of a reader.
+pub mod fault;
+pub mod head;
+pub mod watched;

@@ -1,0 +1,532 @@
+//! The built-in rows, each of which has a name for its number.
+ghost use Rattle.std.specs.Prelude.{◌≡◌, ◌↔◌, ◌<◌, Some, IsTrue, length, map, slice_get};
+ghost use Rattle.std.specs.List.{list_all};
+ghost use Rattle.infer.specs.BuiltIn.{IsAccepted};
+ghost use Rattle.infer.specs.Listed.{buffer_listed, is_inside, number_of, row_listed};
+ghost use Rattle.infer.specs.Samples.{padded, sample_of};
+ghost use Rattle.infer.specs.Table.{signature_of, table};
+
+use crate::table::file_type::{FileType, MatcherType};
+use infer_sig::{app, archive, audio, book, doc, font, image, odf, text, video};
+
+/// The rows, in order.
+#[derive(Clone, Copy)]
+pub enum RowName {
+    Wasm,
+    Elf,
+    Exe,
+    Dll,
+    Java,
+    Llvm,
+    Mach,
+    Dex,
+    Dey,
+    Der,
+    Coff,
+    Pem,
+    Qcow2,
+    Epub,
+    Mobi,
+    Jpeg,
+    Jpeg2000,
+    Png,
+    Gif,
+    Webp,
+    Cr2,
+    Tiff,
+    Bmp,
+    Jxr,
+    Psd,
+    Ico,
+    Heif,
+    Avif,
+    Jxl,
+    Ora,
+    Djvu,
+    Dwg,
+    Mp4,
+    M4v,
+    Mkv,
+    Webm,
+    Mov,
+    Avi,
+    Wmv,
+    Mpeg,
+    Flv,
+    Midi,
+    Mp3,
+    M4a,
+    OggOpus,
+    Ogg,
+    Flac,
+    Wav,
+    Amr,
+    Aac,
+    Aiff,
+    Dsf,
+    Ape,
+    Woff,
+    Woff2,
+    Ttf,
+    Otf,
+    Doc,
+    Docx,
+    Xls,
+    Xlsx,
+    Ppt,
+    Pptx,
+    Odt,
+    Ods,
+    Odp,
+    EpubArchive,
+    Zip,
+    Tar,
+    Par2,
+    Rar,
+    Gz,
+    Bz2,
+    Bz3,
+    SevenZ,
+    Xz,
+    Pdf,
+    Swf,
+    Rtf,
+    Eot,
+    Ps,
+    Sqlite,
+    Nes,
+    Crx,
+    Cab,
+    Deb,
+    Ar,
+    Z,
+    Lz,
+    Rpm,
+    Dcm,
+    Zst,
+    Lz4,
+    Msi,
+    Cpio,
+    Html,
+    Xml,
+    Shellscript,
+}
+
+pub const WASM: usize = RowName::Wasm as usize;
+
+pub const ELF: usize = RowName::Elf as usize;
+
+pub const EXE: usize = RowName::Exe as usize;
+
+pub const DLL: usize = RowName::Dll as usize;
+
+pub const JAVA: usize = RowName::Java as usize;
+
+pub const LLVM: usize = RowName::Llvm as usize;
+
+pub const MACH: usize = RowName::Mach as usize;
+
+pub const DEX: usize = RowName::Dex as usize;
+
+pub const DEY: usize = RowName::Dey as usize;
+
+pub const DER: usize = RowName::Der as usize;
+
+pub const COFF: usize = RowName::Coff as usize;
+
+pub const PEM: usize = RowName::Pem as usize;
+
+pub const QCOW2: usize = RowName::Qcow2 as usize;
+
+pub const EPUB: usize = RowName::Epub as usize;
+
+pub const MOBI: usize = RowName::Mobi as usize;
+
+pub const JPEG: usize = RowName::Jpeg as usize;
+
+pub const JPEG2000: usize = RowName::Jpeg2000 as usize;
+
+pub const PNG: usize = RowName::Png as usize;
+
+pub const GIF: usize = RowName::Gif as usize;
+
+pub const WEBP: usize = RowName::Webp as usize;
+
+pub const CR2: usize = RowName::Cr2 as usize;
+
+pub const TIFF: usize = RowName::Tiff as usize;
+
+pub const BMP: usize = RowName::Bmp as usize;
+
+pub const JXR: usize = RowName::Jxr as usize;
+
+pub const PSD: usize = RowName::Psd as usize;
+
+pub const ICO: usize = RowName::Ico as usize;
+
+pub const HEIF: usize = RowName::Heif as usize;
+
+pub const AVIF: usize = RowName::Avif as usize;
+
+pub const JXL: usize = RowName::Jxl as usize;
+
+pub const ORA: usize = RowName::Ora as usize;
+
+pub const DJVU: usize = RowName::Djvu as usize;
+
+pub const DWG: usize = RowName::Dwg as usize;
+
+pub const MP4: usize = RowName::Mp4 as usize;
+
+pub const M4V: usize = RowName::M4v as usize;
+
+pub const MKV: usize = RowName::Mkv as usize;
+
+pub const WEBM: usize = RowName::Webm as usize;
+
+pub const MOV: usize = RowName::Mov as usize;
+
+pub const AVI: usize = RowName::Avi as usize;
+
+pub const WMV: usize = RowName::Wmv as usize;
+
+pub const MPEG: usize = RowName::Mpeg as usize;
+
+pub const FLV: usize = RowName::Flv as usize;
+
+pub const MIDI: usize = RowName::Midi as usize;
+
+pub const MP3: usize = RowName::Mp3 as usize;
+
+pub const M4A: usize = RowName::M4a as usize;
+
+pub const OGG_OPUS: usize = RowName::OggOpus as usize;
+
+pub const OGG: usize = RowName::Ogg as usize;
+
+pub const FLAC: usize = RowName::Flac as usize;
+
+pub const WAV: usize = RowName::Wav as usize;
+
+pub const AMR: usize = RowName::Amr as usize;
+
+pub const AAC: usize = RowName::Aac as usize;
+
+pub const AIFF: usize = RowName::Aiff as usize;
+
+pub const DSF: usize = RowName::Dsf as usize;
+
+pub const APE: usize = RowName::Ape as usize;
+
+pub const WOFF: usize = RowName::Woff as usize;
+
+pub const WOFF2: usize = RowName::Woff2 as usize;
+
+pub const TTF: usize = RowName::Ttf as usize;
+
+pub const OTF: usize = RowName::Otf as usize;
+
+pub const DOC: usize = RowName::Doc as usize;
+
+pub const DOCX: usize = RowName::Docx as usize;
+
+pub const XLS: usize = RowName::Xls as usize;
+
+pub const XLSX: usize = RowName::Xlsx as usize;
+
+pub const PPT: usize = RowName::Ppt as usize;
+
+pub const PPTX: usize = RowName::Pptx as usize;
+
+pub const ODT: usize = RowName::Odt as usize;
+
+pub const ODS: usize = RowName::Ods as usize;
+
+pub const ODP: usize = RowName::Odp as usize;
+
+pub const EPUB_ARCHIVE: usize = RowName::EpubArchive as usize;
+
+pub const ZIP: usize = RowName::Zip as usize;
+
+pub const TAR: usize = RowName::Tar as usize;
+
+pub const PAR2: usize = RowName::Par2 as usize;
+
+pub const RAR: usize = RowName::Rar as usize;
+
+pub const GZ: usize = RowName::Gz as usize;
+
+pub const BZ2: usize = RowName::Bz2 as usize;
+
+pub const BZ3: usize = RowName::Bz3 as usize;
+
+pub const SEVEN_Z: usize = RowName::SevenZ as usize;
+
+pub const XZ: usize = RowName::Xz as usize;
+
+pub const PDF: usize = RowName::Pdf as usize;
+
+pub const SWF: usize = RowName::Swf as usize;
+
+pub const RTF: usize = RowName::Rtf as usize;
+
+pub const EOT: usize = RowName::Eot as usize;
+
+pub const PS: usize = RowName::Ps as usize;
+
+pub const SQLITE: usize = RowName::Sqlite as usize;
+
+pub const NES: usize = RowName::Nes as usize;
+
+pub const CRX: usize = RowName::Crx as usize;
+
+pub const CAB: usize = RowName::Cab as usize;
+
+pub const DEB: usize = RowName::Deb as usize;
+
+pub const AR: usize = RowName::Ar as usize;
+
+pub const Z: usize = RowName::Z as usize;
+
+pub const LZ: usize = RowName::Lz as usize;
+
+pub const RPM: usize = RowName::Rpm as usize;
+
+pub const DCM: usize = RowName::Dcm as usize;
+
+pub const ZST: usize = RowName::Zst as usize;
+
+pub const LZ4: usize = RowName::Lz4 as usize;
+
+pub const MSI: usize = RowName::Msi as usize;
+
+pub const CPIO: usize = RowName::Cpio as usize;
+
+pub const HTML: usize = RowName::Html as usize;
+
+pub const XML: usize = RowName::Xml as usize;
+
+pub const SHELLSCRIPT: usize = RowName::Shellscript as usize;
+
+// Hands the rows, in order, to another macro: the name, what it tells, the matcher, and a sample as its length, what
+// stands first, and a place with what stands there.
+macro_rules! with_rows {
+    ($with:ident $($more:tt)*) => {
+        $with! { [$($more)*]
+            Wasm App "application/wasm" "wasm" app::is_wasm, 8 b"\0asm\x01\0\0\0";
+            Elf App "application/x-executable" "elf" app::is_elf, 53 b"\x7FELF";
+            Exe App "application/vnd.microsoft.portable-executable" "exe" app::is_exe, 2 b"MZ";
+            Dll App "application/vnd.microsoft.portable-executable" "dll" app::is_exe, 2 b"MZ";
+            Java App "application/java" "class" app::is_java, 8 b"\xCA\xFE\xBA\xBE\0\0\0-";
+            Llvm App "application/x-llvm" "bc" app::is_llvm, 2 b"BC";
+            Mach App "application/x-mach-binary" "mach" app::is_mach, 4 b"\xCF\xFA\xED\xFE";
+            Dex App "application/vnd.android.dex" "dex" app::is_dex, 37 b"dex\n" 36 b"p";
+            Dey App "application/vnd.android.dey" "dey" app::is_dey, 101 b"dey\n" 40 b"dex\n\0\0\0\0\0\0\0\0\0\0\0\0\0\0\0\0\0\0\0\0\0\0\0\0\0\0\0\0\0\0\0\0p";
+            Der App "application/x-x509-ca-cert" "der" app::is_der, 3 b"0\x82\0";
+            Coff App "application/x-executable" "obj" app::is_coff, 3 b"d\x86\0";
+            Pem App "application/x-x509-ca-cert" "pem" app::is_pem, 12 b"-----BEGIN \0";
+            Qcow2 App "application/x-qemu-disk" "qcow2" app::is_qcow2, 5 b"QFI\xFB\0";
+            Epub Book "application/epub+zip" "epub" book::is_epub, 58 b"PK\x03\x04" 30 b"mimetypeapplication/epub+zip";
+            Mobi Book "application/x-mobipocket-ebook" "mobi" book::is_mobi, 68 b"" 60 b"BOOKMOBI";
+            Jpeg Image "image/jpeg" "jpg" image::is_jpeg, 3 b"\xFF\xD8\xFF";
+            Jpeg2000 Image "image/jp2" "jp2" image::is_jpeg2000, 13 b"\0\0\0\x0CjP  \r\n\x87\n\0";
+            Png Image "image/png" "png" image::is_png, 4 b"\x89PNG";
+            Gif Image "image/gif" "gif" image::is_gif, 3 b"GIF";
+            Webp Image "image/webp" "webp" image::is_webp, 12 b"" 8 b"WEBP";
+            Cr2 Image "image/x-canon-cr2" "cr2" image::is_cr2, 11 b"II*\0\0\0\0\0CR\x02";
+            Tiff Image "image/tiff" "tif" image::is_tiff, 10 b"II*\0\0\0\0\0\0\0";
+            Bmp Image "image/bmp" "bmp" image::is_bmp, 2 b"BM";
+            Jxr Image "image/vnd.ms-photo" "jxr" image::is_jxr, 3 b"II\xBC";
+            Psd Image "image/vnd.adobe.photoshop" "psd" image::is_psd, 4 b"8BPS";
+            Ico Image "image/vnd.microsoft.icon" "ico" image::is_ico, 4 b"\0\0\x01\0";
+            Heif Image "image/heif" "heif" image::is_heif, 16 b"\0\0\0\x10ftypheic\0\0\0\0";
+            Avif Image "image/avif" "avif" image::is_avif, 16 b"\0\0\0\x10ftypavif\0\0\0\0";
+            Jxl Image "image/jxl" "jxl" image::is_jxl, 3 b"\xFF\n\0";
+            Ora Image "image/openraster" "ora" image::is_ora, 58 b"PK\x03\x04" 30 b"mimetypeimage/openraster\0\0\0\0";
+            Djvu Image "image/vnd.djvu" "djvu" image::is_djvu, 15 b"AT&TFORM\0\0\0\0DJV";
+            Dwg Image "image/vnd.dwg" "dwg" image::is_dwg, 6 b"MC0.0\0";
+            Mp4 Video "video/mp4" "mp4" video::is_mp4, 12 b"\0\0\0\0ftypavc1";
+            M4v Video "video/x-m4v" "m4v" video::is_m4v, 11 b"\0\0\0\0ftypM4V";
+            Mkv Video "video/x-matroska" "mkv" video::is_mkv, 257 b"\x1AE\xDF\xA3B\x82\x88matroska";
+            Webm Video "video/webm" "webm" video::is_webm, 257 b"\x1AE\xDF\xA3B\x82\x84webm";
+            Mov Video "video/quicktime" "mov" video::is_mov, 16 b"\0\0\0\0ftypqt  \0\0\0\0";
+            Avi Video "video/x-msvideo" "avi" video::is_avi, 11 b"RIFF\0\0\0\0AVI";
+            Wmv Video "video/x-ms-wmv" "wmv" video::is_wmv, 10 b"0&\xB2u\x8Ef\xCF\x11\xA6\xD9";
+            Mpeg Video "video/mpeg" "mpg" video::is_mpeg, 4 b"\0\0\x01\xB0";
+            Flv Video "video/x-flv" "flv" video::is_flv, 4 b"FLV\x01";
+            Midi Audio "audio/midi" "midi" audio::is_midi, 4 b"MThd";
+            Mp3 Audio "audio/mpeg" "mp3" audio::is_mp3, 3 b"ID3";
+            M4a Audio "audio/m4a" "m4a" audio::is_m4a, 11 b"\0\0\0\0ftypM4A";
+            OggOpus Audio "audio/opus" "opus" audio::is_ogg_opus, 36 b"OggS" 28 b"OpusHead";
+            Ogg Audio "audio/ogg" "ogg" audio::is_ogg, 4 b"OggS";
+            Flac Audio "audio/x-flac" "flac" audio::is_flac, 4 b"fLaC";
+            Wav Audio "audio/x-wav" "wav" audio::is_wav, 12 b"RIFF\0\0\0\0WAVE";
+            Amr Audio "audio/amr" "amr" audio::is_amr, 12 b"#!AMR\n\0\0\0\0\0\0";
+            Aac Audio "audio/aac" "aac" audio::is_aac, 2 b"\xFF\xF1";
+            Aiff Audio "audio/x-aiff" "aiff" audio::is_aiff, 12 b"FORM\0\0\0\0AIFF";
+            Dsf Audio "audio/x-dsf" "dsf" audio::is_dsf, 5 b"DSD \0";
+            Ape Audio "audio/x-ape" "ape" audio::is_ape, 5 b"MAC \0";
+            Woff Font "application/font-woff" "woff" font::is_woff, 8 b"wOFF\0\x01\0\0";
+            Woff2 Font "application/font-woff" "woff2" font::is_woff2, 8 b"wOF2\0\x01\0\0";
+            Ttf Font "application/font-sfnt" "ttf" font::is_ttf, 5 b"\0\x01\0\0\0";
+            Otf Font "application/font-sfnt" "otf" font::is_otf, 5 b"OTTO\0";
+            Doc Doc "application/msword" "doc" doc::is_doc, 640 b"\xD0\xCF\x11\xE0\xA1\xB1\x1A\xE1\0\0\0\0\0\0\0\0\0\0\0\0\0\0\0\0\0\0\x03\0\xFE\xFF\x09" 578 b"\x05\0\0\0\0\0\0\0\0\0\0\0\0\0\x06\x09\x02\0\0\0\0\0\xC0\0\0\0\0\0\0F";
+            Docx Doc "application/vnd.openxmlformats-officedocument.wordprocessingml.document" "docx" doc::is_docx, 35 b"PK\x03\x04" 30 b"word/";
+            Xls Doc "application/vnd.ms-excel" "xls" doc::is_xls, 640 b"\xD0\xCF\x11\xE0\xA1\xB1\x1A\xE1\0\0\0\0\0\0\0\0\0\0\0\0\0\0\0\0\0\0\x03\0\xFE\xFF\x09" 578 b"\x05\0\0\0\0\0\0\0\0\0\0\0\0\0\x10\x08\x02\0\0\0\0\0\xC0\0\0\0\0\0\0F";
+            Xlsx Doc "application/vnd.openxmlformats-officedocument.spreadsheetml.sheet" "xlsx" doc::is_xlsx, 33 b"PK\x03\x04" 30 b"xl/";
+            Ppt Doc "application/vnd.ms-powerpoint" "ppt" doc::is_ppt, 640 b"\xD0\xCF\x11\xE0\xA1\xB1\x1A\xE1\0\0\0\0\0\0\0\0\0\0\0\0\0\0\0\0\0\0\x03\0\xFE\xFF\x09" 578 b"\x05\0\0\0\0\0\0\0\0\0\0\0\0\0\x10\x8D\x81d\x9BO\xCF\x11\x86\xEA\0\xAA\0\xB9)\xE8";
+            Pptx Doc "application/vnd.openxmlformats-officedocument.presentationml.presentation" "pptx" doc::is_pptx, 34 b"PK\x03\x04" 30 b"ppt/";
+            Odt Doc "application/vnd.oasis.opendocument.text" "odt" odf::is_odt, 77 b"PK\x03\x04" 30 b"mimetype\0\0\0\0\0\0\0\0\0\0\0\0vnd.oasis.opendocument.text";
+            Ods Doc "application/vnd.oasis.opendocument.spreadsheet" "ods" odf::is_ods, 84 b"PK\x03\x04" 30 b"mimetype\0\0\0\0\0\0\0\0\0\0\0\0vnd.oasis.opendocument.spreadsheet";
+            Odp Doc "application/vnd.oasis.opendocument.presentation" "odp" odf::is_odp, 85 b"PK\x03\x04" 30 b"mimetype\0\0\0\0\0\0\0\0\0\0\0\0vnd.oasis.opendocument.presentation";
+            EpubArchive Archive "application/epub+zip" "epub" book::is_epub, 58 b"PK\x03\x04" 30 b"mimetypeapplication/epub+zip";
+            Zip Archive "application/zip" "zip" archive::is_zip, 4 b"PK\x03\x04";
+            Tar Archive "application/x-tar" "tar" archive::is_tar, 262 b"" 257 b"ustar";
+            Par2 Archive "application/x-par2" "par2" archive::is_par2, 9 b"PAR2\0PKT\0";
+            Rar Archive "application/vnd.rar" "rar" archive::is_rar, 7 b"Rar!\x1A\x07\0";
+            Gz Archive "application/gzip" "gz" archive::is_gz, 3 b"\x1F\x8B\x08";
+            Bz2 Archive "application/x-bzip2" "bz2" archive::is_bz2, 3 b"BZh";
+            Bz3 Archive "application/vnd.bzip3" "bz3" archive::is_bz3, 5 b"BZ3v1";
+            SevenZ Archive "application/x-7z-compressed" "7z" archive::is_7z, 6 b"7z\xBC\xAF'\x1C";
+            Xz Archive "application/x-xz" "xz" archive::is_xz, 6 b"\xFD7zXZ\0";
+            Pdf Archive "application/pdf" "pdf" archive::is_pdf, 4 b"%PDF";
+            Swf Archive "application/x-shockwave-flash" "swf" archive::is_swf, 3 b"CWS";
+            Rtf Archive "application/rtf" "rtf" archive::is_rtf, 5 b"{\\rtf";
+            Eot Archive "application/octet-stream" "eot" archive::is_eot, 36 b"\0\0\0\0\0\0\0\0\x02\0\x01" 34 b"LP";
+            Ps Archive "application/postscript" "ps" archive::is_ps, 2 b"%!";
+            Sqlite Archive "application/vnd.sqlite3" "sqlite" archive::is_sqlite, 4 b"SQLi";
+            Nes Archive "application/x-nintendo-nes-rom" "nes" archive::is_nes, 4 b"NES\x1A";
+            Crx Archive "application/x-google-chrome-extension" "crx" archive::is_crx, 4 b"Cr24";
+            Cab Archive "application/vnd.ms-cab-compressed" "cab" archive::is_cab, 4 b"MSCF";
+            Deb Archive "application/vnd.debian.binary-package" "deb" archive::is_deb, 21 b"!<arch>\ndebian-binary";
+            Ar Archive "application/x-unix-archive" "ar" archive::is_ar, 7 b"!<arch>";
+            Z Archive "application/x-compress" "Z" archive::is_z, 2 b"\x1F\xA0";
+            Lz Archive "application/x-lzip" "lz" archive::is_lz, 4 b"LZIP";
+            Rpm Archive "application/x-rpm" "rpm" archive::is_rpm, 97 b"\xED\xAB\xEE\xDB";
+            Dcm Archive "application/dicom" "dcm" archive::is_dcm, 132 b"" 128 b"DICM";
+            Zst Archive "application/zstd" "zst" archive::is_zst, 4 b"(\xB5/\xFD";
+            Lz4 Archive "application/x-lz4" "lz4" archive::is_lz4, 4 b"\x04\"M\x18";
+            Msi Archive "application/x-ole-storage" "msi" archive::is_msi, 8 b"\xD0\xCF\x11\xE0\xA1\xB1\x1A\xE1";
+            Cpio Archive "application/x-cpio" "cpio" archive::is_cpio, 2 b"\xC7q";
+            Html Text "text/html" "html" text::is_html, 3 b"<P>";
+            Xml Text "text/xml" "xml" text::is_xml, 5 b"<?xml";
+            Shellscript Text "text/x-shellscript" "sh" text::is_shellscript, 3 b"#!\0";
+        }
+    };
+}
+
+macro_rules! count {
+    ([] $($row:ident $class:ident $mime_type:literal $extension:literal $matcher:path, $len:literal $front:literal $($place:literal $text:literal)?;)*) => {
+        [$(RowName::$row),*].len()
+    };
+}
+
+/// How many rows there are.
+pub const ROW_COUNT: usize = with_rows!(count);
+
+/// How many matchers there are: those of the rows, and the three of object files for one processor.
+pub const MATCHER_COUNT: usize = ROW_COUNT + 3;
+
+/// How many rows are candidates of one buffer at most.
+pub const MOST_CANDIDATES: usize = 25;
+
+/// The numbers that the names stand for.
+pub fn numbers()
+    ensures { (ROW_COUNT ≡ 98) × (DLL ≡ 3) × (EPUB_ARCHIVE ≡ 66) × (MOST_CANDIDATES ≡ 25) }
+{}
+
+macro_rules! rows {
+    ([] $($row:ident $class:ident $mime_type:literal $extension:literal $matcher:path, $len:literal $front:literal $($place:literal $text:literal)?;)*) => {
+        [$(BuiltInRow {
+            file_type: FileType {
+                matcher_type: MatcherType::$class,
+                mime_type: $mime_type,
+                extension: $extension,
+            },
+            row: RowName::$row,
+        }),*]
+    };
+}
+
+macro_rules! matchers {
+    ([$name:ident $buf:ident] $($row:ident $class:ident $mime_type:literal $extension:literal $matcher:path, $len:literal $front:literal $($place:literal $text:literal)?;)*) => {
+        match $name {
+            $(RowName::$row => $matcher($buf),)*
+        }
+    };
+}
+
+macro_rules! samples {
+    ([] $($row:ident $class:ident $mime_type:literal $extension:literal $matcher:path, $len:literal $front:literal $($place:literal $text:literal)?;)*) => {
+        [$(Pieces {
+            len: $len,
+            front: $front,
+            place: or_else!(0 $($place)?),
+            text: or_else!(b"" $($text)?),
+        }),*]
+    };
+}
+
+macro_rules! or_else {
+    ($default:literal) => {
+        $default
+    };
+    ($default:literal $given:literal) => {
+        $given
+    };
+}
+
+/// A built-in row: what it tells, and its name.
+#[derive(Clone, Copy)]
+pub(crate) struct BuiltInRow {
+    pub file_type: FileType,
+    pub row: RowName,
+}
+
+/// A buffer of `len` bytes: zeros, but for one text at 0 and one at `place`.
+pub(crate) struct Pieces {
+    pub len: usize,
+    pub front: &'static [u8],
+    pub place: usize,
+    pub text: &'static [u8],
+}
+
+static ROWS: [BuiltInRow; ROW_COUNT] = with_rows!(rows);
+
+static SAMPLES: [Pieces; ROW_COUNT] = with_rows!(samples);
+
+// The built-in rows, in the order in which they are asked.
+pub(crate) fn rows() -> &'static [BuiltInRow]
+    ensures listed { map row_listed result.now ≡ table }
+    ensures many { length result.now ≡ ROW_COUNT }
+{
+    &ROWS
+}
+
+// Row `i`.
+#[inline(always)]
+pub(crate) fn row_at(i: usize) -> &'static BuiltInRow
+    requires { i < ROW_COUNT }
+    ensures { slice_get table i ≡ Some (row_listed result.now) }
+{
+    &rows()[i]
+}
+
+// The samples, in the order of the rows.
+pub(crate) fn samples() -> &'static [Pieces; ROW_COUNT]
+    ensures buffers { map buffer_listed result.now ≡ map padded table }
+    ensures lengths { map (λ s. s.len) result.now ≡ map (λ r. length (sample_of r.signature)) table }
+    ensures inside { IsTrue (list_all is_inside result.now) }
+{
+    &SAMPLES
+}
+
+// Whether the row accepts `buf`. Matchers are called by name: a function pointer in a static would hide what its
+// contract says.
+#[tactic(auto, unfolding(crate::specs::Table::signature_of, crate::specs::Table::table))]
+#[inline(always)]
+pub(crate) fn accepts(name: RowName, buf: &[u8]) -> bool
+    ensures { IsTrue result ↔ IsAccepted (signature_of (number_of name)) buf.now }
+{
+    with_rows!(matchers name buf)
+}
