@@ -1,5 +1,6 @@
 -- The answers of an `Infer` without rows of a caller are those of the built-in rows.
 use Rattle.std.proofs.Common.{◌≡◌, ◌≤◌, ℕ, List, [], ◌++◌, IfOk, IfSome, Option, None, Some, Result, Ok, Err, length, map, option_map, refl, subst}
+use Rattle.infer.specs.Buffer.{IsBuffer}
 use Rattle.infer.specs.Caller.{Contracts}
 use Rattle.infer.specs.First.{IsAnswer}
 use Rattle.infer.specs.Row.{Accepts}
@@ -27,7 +28,7 @@ module _ {X : Type 0} {g : Contracts X} {A : Type 0} (infer : Infer A X g) (none
 
   -- an answer of some bytes, at most n
   pub some-built_in : (n : ℕ) (result : Result (Option FileType) Fault)
-      → IfOk result (λ found. (b : List ℕ) × (length b ≤ n) × IsAnswer (AnyAccepts b) (rows infer) (option_map triple_of found))
-      → IfOk result (λ found. (b : List ℕ) × (length b ≤ n) × IsAnswer (Accepts b) table (option_map triple_of found))
-  some-built_in n (Ok found) h = (h.0, h.1, IsAnswer-built_in h.0 (option_map triple_of found) h.2)
+      → IfOk result (λ found. (b : List ℕ) × IsBuffer b × (length b ≤ n) × IsAnswer (AnyAccepts b) (rows infer) (option_map triple_of found))
+      → IfOk result (λ found. (b : List ℕ) × IsBuffer b × (length b ≤ n) × IsAnswer (Accepts b) table (option_map triple_of found))
+  some-built_in n (Ok found) h = (h.0, h.1, h.2, IsAnswer-built_in h.0 (option_map triple_of found) h.3)
   some-built_in n (Err fault) h = tt

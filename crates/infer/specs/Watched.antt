@@ -1,5 +1,6 @@
 -- What a clause reads of a watched reader.
-use Rattle.std.specs.Prelude.{Option}
+use Rattle.std.specs.Prelude.{◌<◌, ℕ, List, Option, length}
+use Rattle.std.specs.Io.KnownBytes.{Consumes}
 use Rattle.std.specs.declared.io.ErrorKind.{ErrorKind}
 use Rattle.infer.specs.declared.read.watched.Watched.{Watched}
 
@@ -10,3 +11,7 @@ inner w = w.reader
 -- the kind of its first error, and none where no read has failed
 abbrev pub fault_of : {R : Type 0} → Watched R → Option ErrorKind
 fault_of w = w.first_error
+
+-- of what was left, fewer than n bytes are gone
+abbrev pub Loses : ℕ → Option (List ℕ) → Option (List ℕ) → Type 0
+Loses n old new = (taken : List ℕ) × (length taken < n) × Consumes old new taken

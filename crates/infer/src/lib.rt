@@ -16,6 +16,7 @@
 #![tactic(auto)]
 
 ghost use Rattle.std.specs.Prelude.{◌≡◌, ◌↔◌, ◌<◌, ◌≤◌, ℕ, List, IfOk, IfSome, IsNone, IsTrue, length, option_map, slice_get};
+ghost use Rattle.infer.specs.Buffer.{IsBuffer};
 ghost use Rattle.infer.specs.First.{IsAnswer, IsFirstOf, SomeHas};
 ghost use Rattle.infer.specs.Questions.{HasClass, HasExtension, HasMimeType, SomeBoth};
 ghost use Rattle.infer.specs.Row.{Accepts, shows};
@@ -41,7 +42,7 @@ pub use infer_sig::{
     image as image, odf as odf, text as text, video as video,
 };
 pub use read::fault::Fault;
-use read::head::FRONT;
+pub use read::head::{Enough, FRONT, read_until};
 pub use read::watched::Watched;
 pub use samples::sample;
 use std::alloc::Allocator;
@@ -83,7 +84,7 @@ pub fn get_from_path<R: Files, A: Allocator>(
     alloc: A,
     path: &str,
 ) -> Result<Option<Type>, Fault>
-    ensures { IfOk result (λ found. (b : List ℕ) × (length b ≤ FRONT)
+    ensures { IfOk result (λ found. (b : List ℕ) × IsBuffer b × (length b ≤ FRONT)
         × IsAnswer (Accepts b) table (option_map triple_of found)) }
 {
     Infer::new().get_from_path(rt, alloc, path)

@@ -1,13 +1,13 @@
 //! The list of rows that is asked.
 ghost use Rattle.std.specs.Prelude.{◌≡◌, ◌↔◌, ◌≤◌, ℕ, List, None, Some, [], ◌∷◌, ◌++◌, IfOk, IfSome, IsErrOf, IsTrue, OnErr, OnOk, drop, length, map, option_map};
-ghost use Rattle.infer.specs.Buffer.{head};
+ghost use Rattle.infer.specs.Buffer.{IsBuffer, head};
 ghost use Rattle.infer.specs.Caller.{IsSettled};
 ghost use Rattle.infer.specs.Fault.{OpensNothing, read_fault};
 ghost use Rattle.infer.specs.First.{IsAnswer, SomeHas};
 ghost use Rattle.infer.specs.Questions.{HasClass, HasExtension, HasMimeType, IsWanted, SomeBoth};
 ghost use Rattle.infer.specs.Rows.{AnyAccepts, custom_row, custom_rows, given, rows};
 ghost use Rattle.infer.specs.Triple.{triple, triple_of};
-ghost use Rattle.infer.specs.Watched.{fault_of, inner};
+ghost use Rattle.infer.specs.Watched.{Loses, fault_of, inner};
 ghost use Rattle.infer.specs.declared.table.file_type.MatcherType.TheVariants.{Custom};
 
 use crate::answers;
@@ -208,13 +208,16 @@ impl<A: Allocator> Infer<A> {
             (λ s. R.remaining (inner r.new) ≡ Some (drop FRONT s))) }
 
         // Where the reader does not tell its bytes, it is still the answer of so many bytes or fewer.
-        ensures some_bytes { IfOk result (λ found. (b : List ℕ) × (length b ≤ FRONT)
+        ensures some_bytes { IfOk result (λ found. (b : List ℕ) × IsBuffer b × (length b ≤ FRONT)
             × IsAnswer (AnyAccepts b) (rows self.now) (option_map triple_of found)) }
 
         // It is `Read(k)` exactly where the reader's fault is now k.
         ensures fault { fault_of r.new ≡ read_fault result }
         ensures memory { IsErrOf result Fault.Memory → r.new ≡ r.old }
         ensures opens_nothing { OpensNothing result }
+
+        // What is lost is what the reads before gave, which were of fewer bytes.
+        ensures lost { OnErr result (Loses FRONT (R.remaining (inner r.old)) (R.remaining (inner r.new))) }
     {
         self.get_from_reader_within(alloc, r, FRONT)
     }
@@ -230,7 +233,7 @@ impl<A: Allocator> Infer<A> {
         alloc: B,
         path: &str,
     ) -> Result<Option<FileType>, Fault>
-        ensures { IfOk result (λ found. (b : List ℕ) × (length b ≤ FRONT)
+        ensures { IfOk result (λ found. (b : List ℕ) × IsBuffer b × (length b ≤ FRONT)
             × IsAnswer (AnyAccepts b) (rows self.now) (option_map triple_of found)) }
     {
         self.get_from_path_within(rt, alloc, path, FRONT)
@@ -250,11 +253,12 @@ impl<A: Allocator> Infer<A> {
             (λ s. IsAnswer (AnyAccepts (head n s)) (rows self.now) (option_map triple_of found))) }
         ensures rest { OnOk result (IfSome (R.remaining (inner r.old))
             (λ s. R.remaining (inner r.new) ≡ Some (drop n s))) }
-        ensures some_bytes { IfOk result (λ found. (b : List ℕ) × (length b ≤ n)
+        ensures some_bytes { IfOk result (λ found. (b : List ℕ) × IsBuffer b × (length b ≤ n)
             × IsAnswer (AnyAccepts b) (rows self.now) (option_map triple_of found)) }
         ensures fault { fault_of r.new ≡ read_fault result }
         ensures memory { IsErrOf result Fault.Memory → r.new ≡ r.old }
         ensures opens_nothing { OpensNothing result }
+        ensures lost { OnErr result (Loses n (R.remaining (inner r.old)) (R.remaining (inner r.new))) }
     {
         match read_head(alloc, r, n) {
             Ok(bytes) => Ok(self.get(bytes.as_slice())),
@@ -272,7 +276,7 @@ impl<A: Allocator> Infer<A> {
     ) -> Result<Option<FileType>, Fault>
         requires least { 1 ≤ n }
         requires most { n ≤ 65536 }
-        ensures { IfOk result (λ found. (b : List ℕ) × (length b ≤ n)
+        ensures { IfOk result (λ found. (b : List ℕ) × IsBuffer b × (length b ≤ n)
             × IsAnswer (AnyAccepts b) (rows self.now) (option_map triple_of found)) }
     {
         match File::open(rt, path) {

@@ -1,31 +1,62 @@
 //! Reads the front of an input.
-ghost use Rattle.std.specs.Prelude.{◌≡◌, ◌<◌, ◌≤◌, IfOk, IfSome, IsErrOf, None, OnOk, Some, drop, length, take, vec_len};
+ghost use Rattle.std.specs.Prelude.{◌≡◌, ◌<◌, ◌≤◌, ◌↔◌, ◌⊎◌, ℕ, List, IfOk, IfSome, IsErrOf, IsTrue, None, OnErr, OnOk, Some, drop, length, take, vec_len};
 ghost use Rattle.std.specs.Result.{result_err};
 ghost use Rattle.std.specs.Io.{ReadsAtMost};
 ghost use Rattle.std.specs.Io.KnownBytes.{Consumes, IsAtEnd};
-ghost use Rattle.infer.specs.Buffer.{head};
+ghost use Rattle.infer.specs.Buffer.{IsBuffer, head};
 ghost use Rattle.infer.specs.Fault.{OpensNothing, read_fault};
-ghost use Rattle.infer.specs.Watched.{fault_of, inner};
+ghost use Rattle.infer.specs.Watched.{Loses, fault_of, inner};
 
 use crate::read::fault::Fault;
 use crate::read::watched::Watched;
 use std::alloc::Allocator;
+use std::cmp;
 use std::io::{ErrorKind, Read};
 
-/// How many bytes of an input are looked at.
+/// How many bytes of an input are looked at, where no other number is chosen.
 pub const FRONT: usize = 8192;
 
-// Reads until `out` is full or the reader ends, and tells how many bytes it read.
-fn fill<R: Read>(reader: &mut Watched<R>, out: &mut [u8]) -> Result<usize, ErrorKind>
-    requires { fault_of reader.old ≡ None }
+/// A test by which reading ends before its limit.
+pub trait Enough {
+    ghost suffices: { Self → List ℕ → Type 0 };
+
+    /// Whether these bytes are enough, so that no more are read.
+    fn is_enough(&self, bytes: &[u8]) -> bool
+        ensures { IsTrue result ↔ suffices self.now bytes.now };
+}
+
+/// No bytes are enough before the limit.
+struct Limit;
+
+impl Enough for Limit {
+    ghost suffices = { λ _ _. ⊥ };
+
+    fn is_enough(&self, _bytes: &[u8]) -> bool {
+        false
+    }
+}
+
+/// Reads at most `piece` bytes at a time until `out` is full, what was read is enough or the reader ends, and tells how
+/// many bytes it read.
+fn fill<R: Read, E: Enough>(
+    reader: &mut Watched<R>,
+    out: &mut [u8],
+    piece: usize,
+    enough: &E,
+) -> Result<usize, ErrorKind>
+    requires no_fault { fault_of reader.old ≡ None }
+    requires some { 1 ≤ piece }
     ensures bound { ReadsAtMost result out.new }
     ensures bytes { IfOk result (λ n. Consumes (R.remaining (inner reader.old)) (R.remaining (inner reader.new)) (take n out.new)) }
-    ensures end { IfOk result (λ n. n < length out.new → IsAtEnd (R.remaining (inner reader.new))) }
+    ensures end { IfOk result (λ n. n < length out.new
+        → IsAtEnd (R.remaining (inner reader.new)) ⊎ E.suffices enough.now (take n out.new)) }
     ensures fault { fault_of reader.new ≡ result_err result }
+    ensures lost { OnErr result (Loses (length out.new) (R.remaining (inner reader.old)) (R.remaining (inner reader.new))) }
 {
     let mut filled = 0;
-    while filled < out.len() {
-        let count = reader.read(&mut out[filled..])?;
+    while filled < out.len() && !enough.is_enough(&out[..filled]) {
+        let room = cmp::min(piece, out.len() - filled);
+        let count = reader.read(&mut out[filled..filled + room])?;
         if count == 0 {
             break;
         }
@@ -34,29 +65,65 @@ fn fill<R: Read>(reader: &mut Watched<R>, out: &mut [u8]) -> Result<usize, Error
     Ok(filled)
 }
 
+/// Reads at most `piece` bytes at a time until there are `limit` bytes, those read are enough or the reader ends. It
+/// reserves `limit` bytes first.
+pub fn read_until<A: Allocator, R: Read, E: Enough>(
+    alloc: A,
+    reader: &mut Watched<R>,
+    limit: usize,
+    piece: usize,
+    enough: &E,
+) -> Result<Vec<u8, A>, Fault>
+    requires no_fault { fault_of reader.old ≡ None }
+    requires some { 1 ≤ limit }
+    requires some_a_read { 1 ≤ piece }
+    ensures bytes { IfOk result (λ bytes. IsBuffer bytes.items) }
+    ensures few { IfOk result (λ bytes. vec_len bytes ≤ limit) }
+    ensures taken { IfOk result (λ bytes. Consumes (R.remaining (inner reader.old)) (R.remaining (inner reader.new)) bytes.items) }
+    ensures end { IfOk result (λ bytes. vec_len bytes < limit
+        → IsAtEnd (R.remaining (inner reader.new)) ⊎ E.suffices enough.now bytes.items) }
+    ensures fault { fault_of reader.new ≡ read_fault result }
+    ensures memory { IsErrOf result Fault.Memory → reader.new ≡ reader.old }
+    ensures opens_nothing { OpensNothing result }
+    ensures lost { OnErr result (Loses limit (R.remaining (inner reader.old)) (R.remaining (inner reader.new))) }
+{
+    let Ok(mut bytes) = vec![in alloc; 0; limit] else {
+        return Err(Fault::Memory);
+    };
+    match fill(reader, bytes.as_mut_slice(), piece, enough) {
+        Ok(count) => {
+            bytes.truncate(count);
+            are_bytes(bytes.as_slice());
+            Ok(bytes)
+        }
+        Err(kind) => Err(Fault::Read(kind)),
+    }
+}
+
+/// The elements of a slice of bytes are below 256.
+fn are_bytes(buf: &[u8])
+    ensures { IsBuffer buf.now }
+{
+    let _ = buf;
+}
+
 /// Takes the first `limit` bytes of the reader, or all where it has fewer. It reserves `limit` bytes first.
 pub fn read_head<A: Allocator, R: Read>(
     alloc: A,
     reader: &mut Watched<R>,
     limit: usize,
 ) -> Result<Vec<u8, A>, Fault>
-    requires { fault_of reader.old ≡ None }
+    requires no_fault { fault_of reader.old ≡ None }
+    requires some { 1 ≤ limit }
     ensures front { IfOk result (λ bytes. IfSome (R.remaining (inner reader.old)) (λ s. bytes.items ≡ head limit s)) }
+    ensures bytes { IfOk result (λ bytes. IsBuffer bytes.items) }
     ensures few { IfOk result (λ bytes. vec_len bytes ≤ limit) }
     ensures rest { OnOk result (IfSome (R.remaining (inner reader.old))
         (λ s. R.remaining (inner reader.new) ≡ Some (drop limit s))) }
     ensures fault { fault_of reader.new ≡ read_fault result }
     ensures memory { IsErrOf result Fault.Memory → reader.new ≡ reader.old }
     ensures opens_nothing { OpensNothing result }
+    ensures lost { OnErr result (Loses limit (R.remaining (inner reader.old)) (R.remaining (inner reader.new))) }
 {
-    let Ok(mut bytes) = vec![in alloc; 0; limit] else {
-        return Err(Fault::Memory);
-    };
-    match fill(reader, bytes.as_mut_slice()) {
-        Ok(count) => {
-            bytes.truncate(count);
-            Ok(bytes)
-        }
-        Err(kind) => Err(Fault::Read(kind)),
-    }
+    read_until(alloc, reader, limit, limit, &Limit)
 }

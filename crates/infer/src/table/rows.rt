@@ -432,7 +432,8 @@ pub const MOST_CANDIDATES: usize = 25;
 
 /// The numbers that the names stand for.
 pub fn numbers()
-    ensures { (ROW_COUNT ≡ 98) × (DLL ≡ 3) × (EPUB_ARCHIVE ≡ 66) × (MOST_CANDIDATES ≡ 25) }
+    ensures names { (ROW_COUNT ≡ 98) × (DLL ≡ 3) × (EPUB_ARCHIVE ≡ 66) × (MOST_CANDIDATES ≡ 25) }
+    ensures many { length table ≡ ROW_COUNT }
 {}
 
 macro_rules! rows {

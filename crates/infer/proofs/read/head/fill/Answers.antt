@@ -7,5 +7,5 @@ pub loop-filled-preserved : goal.loop-filled-preserved
 loop-filled-preserved g c = record {
   in_range = search rules;
   no_fault = search rules;
-  bytes = Consumes-one_more _ _ _ _ _ _ _ c.loop-filled.invariant.in_range c.in_ok-count.ensures.bound.0 c.loop-filled.invariant.bytes c.in_ok-count.ensures.bytes.0;
+  bytes = Consumes-one_more _ _ _ _ _ _ _ _ c.loop-filled.invariant.in_range c.in_ok-count.ensures.bound.0 c.loop-filled.invariant.bytes c.in_ok-count.ensures.bytes.0;
 }
