@@ -1,5 +1,5 @@
 -- The texts of the built-in rows are ASCII, so a text that is not UTF-8 is none of them.
-use Rattle.std.proofs.Common.{◌≡◌, ℕ, zero, suc, Bool, List, [], ◌∷◌, length, ltb, refl, subst, arith, IsTrue}
+use Rattle.std.proofs.Common.{◌≡◌, ℕ, zero, suc, Bool, List, [], ◌∷◌, ltb, refl, subst, arith, IsTrue}
 use Rattle.std.specs.List.{list_all}
 use Rattle.std.specs.Str.{IsAscii, IsUtf8}
 use Rattle.std.proofs.lemmas.Bool.{and_parts}
@@ -9,7 +9,6 @@ use Rattle.infer.specs.BuiltIn.{BuiltIn}
 use Rattle.infer.specs.First.{SomeHas}
 use Rattle.infer.specs.Row.{Row}
 use Rattle.infer.specs.Table.{table}
-use Rattle.infer.specs.declared.table.rows.TheConstants.{ROW_COUNT}
 
 abbrev is_ascii : List ℕ → Bool
 is_ascii text = list_all (λ c. ltb c 128) text
@@ -40,7 +39,3 @@ extension_is_utf8 text h = text_of_some (λ (r : Row BuiltIn). r.shows.extension
 
 pub mime_type_is_utf8 : (text : List ℕ) → SomeHas (λ r. r.shows.mime_type ≡ text) table → IsUtf8 text
 mime_type_is_utf8 text h = text_of_some (λ (r : Row BuiltIn). r.shows.mime_type) table ascii_mime_types text h
-
-pub length-table : length table ≡ ROW_COUNT
-unfolding table
-length-table = refl

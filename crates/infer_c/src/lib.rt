@@ -13,7 +13,7 @@ ghost use Rattle.infer.specs.Table.{table};
 ghost use Rattle.infer.specs.Walks.{count_asked};
 ghost use Rattle.infer.specs.declared.ask.question.Wanted.TheVariants.{Every};
 ghost use Rattle.infer.specs.declared.table.rows.TheConstants.{MOST_CANDIDATES};
-ghost use Rattle.infer_sniff.specs.Verdicts.{IsSettled, RowLasts};
+ghost use Rattle.infer_sniff.specs.Verdicts.{IsSettled, RowStaysFinal};
 ghost use Rattle.infer_c.specs.Codes.{AcceptsAt, IsClassOf, IsSampleOf, class_code, class_name, row_code, triple_at};
 ghost use Rattle.infer_c.specs.Written.{WritesText, WritesWhole};
 
@@ -40,7 +40,7 @@ pub extern "C" fn infer_position(buf: &[u8]) -> i32
 #[unsafe(no_mangle)]
 pub extern "C" fn infer_verdict(buf: &[u8], is_final: &mut bool) -> i32
     ensures first { (first : Option ℕ) × IsFirstOf (Accepts buf.now) table first × (result ≡ row_code first)
-        × (IsTrue is_final.new → RowLasts buf.now first) }
+        × (IsTrue is_final.new → RowStaysFinal buf.now first) }
     ensures settled { IsTrue is_final.new ↔ IsSettled buf.now }
 {
     let (found, is_settled) = infer_sniff::position_settled(buf);
@@ -79,6 +79,7 @@ pub extern "C" fn infer_accepts(buf: &[u8], row: i32) -> bool
 pub extern "C" fn infer_row_count() -> usize
     ensures { result ≡ length table }
 {
+    infer::rows::numbers();
     infer::rows::ROW_COUNT
 }
 

@@ -12,7 +12,7 @@ ghost use Rattle.infer_c.specs.Codes.{IsSample, triple_at};
 ghost use Rattle.infer_c.specs.Written.{WritesWhole};
 
 use crate::written::write_whole;
-use infer::rows::ROW_COUNT;
+use infer::rows::{ROW_COUNT, numbers};
 use infer::{Ask, Asker, Type};
 
 // The type of the row with this number.
@@ -29,6 +29,7 @@ pub fn of(row: i32) -> Option<Type>
 pub fn accepts(i: usize, buf: &[u8]) -> bool
     ensures { IsTrue result ↔ RowHas (Accepts buf.now) i }
 {
+    numbers();
     if i >= ROW_COUNT {
         return false;
     }

@@ -1,4 +1,4 @@
--- A final verdict lasts.
+-- A final verdict stays final.
 use Rattle.std.proofs.Common.{◌≡◌, ◌↔◌, ℕ, ◌<◌, ◌≤◌, Bool, leb, List, [], ◌++◌, length, get_or, refl, sym, ap, subst, ◌∙◌, inl, inr, Option, None, Some, arith, IsTrue, length-append}
 use Rattle.std.proofs.lemmas.Bool.{cases_lt}
 use Rattle.std.proofs.lemmas.Bool.Decides.{nat_tests}
@@ -10,7 +10,7 @@ use Rattle.infer.specs.BuiltIn.{BuiltIn, fixed, avif, doc, framed, heif, html, m
 use Rattle.infer.specs.DeepLaws.{Beginnings}
 use Rattle.infer.specs.First.{IsAnswer, IsFirstOf}
 use Rattle.infer.specs.Laws.{IsNotLater}
-use Rattle.infer.specs.Matchers.{Lasts as KeepsYes}
+use Rattle.infer.specs.Matchers.{Lasts}
 use Rattle.infer.specs.Row.{Row, Accepts}
 use Rattle.infer.specs.Table.{row, signature_of, table}
 use Rattle.infer.specs.Triple.{Triple, triple_of}
@@ -20,13 +20,9 @@ use Rattle.infer.specs.declared.table.file_type.MatcherType.TheVariants.{Text}
 use Rattle.infer_sniff.specs.Cases.{Holds, bound}
 use Rattle.infer_sniff.specs.declared.case.Case.{Case}
 use Rattle.infer_sniff.specs.declared.case.Case.TheVariants.{OpenBox, Compound, Office, Frame, Space, Mark}
-use Rattle.infer_sniff.specs.Verdicts.{LastsFromBeginning, IsTypeOf, IsSettled, IsVerdict, Lasts, RowLasts}
+use Rattle.infer_sniff.specs.Verdicts.{AreAlike, StaysFinalFromBeginning, IsTypeOf, IsSettled, IsVerdict, StaysFinal, RowStaysFinal}
 use Rattle.infer_sniff.specs.declared.verdict.Verdict.{Verdict}
 use Rattle.infer_sniff.specs.declared.verdict.Verdict.TheVariants.{SoFar, Final}
-
-length-table : length table ≡ ROW_COUNT
-unfolding table
-length-table = refl
 
 -- any row
 some_row : Row BuiltIn
@@ -54,6 +50,23 @@ first_by buf (Some j) i first lt h = elim (cases_lt i j) [ inl l ↦ absurd (fir
 same_first : (buf : List ℕ) (o p : Option ℕ) → IsFirstOf (Accepts buf) table o → IsFirstOf (Accepts buf) table p → IsNotLater o p
 same_first buf o None first then = tt
 same_first buf o (Some i) first then = first_by buf o i first then.within (accepts_at buf i then.within some_row (then.here some_row))
+
+same_answer : (buf : List ℕ) (o p : Option Triple) → IsAnswer (Accepts buf) table o → IsAnswer (Accepts buf) table p → o ≡ p
+same_answer buf None None h k = refl
+same_answer buf None (Some u) none (j, then, shows) = absurd (none j some_row (omega arith) then.within (then.here some_row))
+same_answer buf (Some t) None (i, first, shown) none = absurd (none i some_row (omega arith) first.within (first.here some_row))
+same_answer buf (Some t) (Some u) (i, first, shown) (j, then, shows) =
+    let le : i ≤ j = same_first buf (Some i) (Some j) first then in
+    let ge : j ≤ i = same_first buf (Some j) (Some i) then first in
+    let same : i ≡ j = omega arith in
+    ap Some (sym (shown some_row) ∙ ap (λ k. (get_or table k some_row).shows) same ∙ shows some_row)
+
+-- one buffer has one verdict
+pub alike : (b : List ℕ) (v w : Verdict) → IsVerdict b v → IsVerdict b w → AreAlike v w
+alike b (SoFar x) (SoFar y) h k = ((λ f. f, λ f. f), same_answer b _ _ h.1 k.1)
+alike b (Final x) (Final y) h k = ((λ f. f, λ f. f), same_answer b _ _ h.1 k.1)
+alike b (SoFar x) (Final y) h k = absurd (h.0 k.0)
+alike b (Final x) (SoFar y) h k = absurd (k.0 h.0)
 
 later : (o p q : Option ℕ) → IsNotLater o p → IsNotLater p q → IsNotLater o q
 later o p None h k = tt
@@ -96,7 +109,7 @@ in_case html b h = (Space, h, refl)
 in_case xml b (inl h) = (Space, h, refl)
 in_case xml b (inr h) = (Mark, h, refl)
 
-module _ (every : (s : BuiltIn) → KeepsYes s) (b more : List ℕ) where
+module _ (every : (s : BuiltIn) → Lasts s) (b more : List ℕ) where
   keeps : (i : ℕ) → i < length table → Accepts b (get_or table i some_row) → IsAccepted (signature_of i) (b ++ more)
   keeps i lt h = every (signature_of i) b more (accepts_at b i lt some_row h)
 
@@ -104,7 +117,8 @@ module _ (every : (s : BuiltIn) → KeepsYes s) (b more : List ℕ) where
   not_later None p first then = tt
   not_later (Some i) p first then = first_by (b ++ more) p i then first.within (keeps i first.within (first.here some_row))
 
-module _ (every : (s : BuiltIn) → KeepsYes s) (newcomers : NewcomersAreAwaited) (early : Beginnings) (b more : List ℕ) (settled : IsSettled b) where
+module _ (many : length table ≡ ROW_COUNT) (every : (s : BuiltIn) → Lasts s) (newcomers : NewcomersAreAwaited) (early : Beginnings)
+    (b more : List ℕ) (settled : IsSettled b) where
   long : 1024 ≤ length b
   long = settled.long
 
@@ -121,7 +135,7 @@ module _ (every : (s : BuiltIn) → KeepsYes s) (newcomers : NewcomersAreAwaited
 
   none_before : (o : Option ℕ) → IsFirstOf (Accepts b) table o → (i : ℕ) → i < length table → (¬ IsNotLater o (Some i)) → ¬ IsAccepted (signature_of i) (b ++ more)
   none_before o first i lt earlier h =
-      let comes = newcomers b more long i (omega (arith, lt, length-table)) h (λ k. earlier (first_by b o i first lt k)) in
+      let comes = newcomers b more long i (omega (arith, lt, many)) h (λ k. earlier (first_by b o i first lt k)) in
       let case = in_case (signature_of i) b comes.awaited in
       none_between o first i (last_awaited (signature_of i)) lt earlier
       (subst (λ n. IsNotLater o (Some n)) case.2 (settled.within o first case.0 case.1)) comes.alone
@@ -159,20 +173,20 @@ module _ (every : (s : BuiltIn) → KeepsYes s) (newcomers : NewcomersAreAwaited
   settled_stays None none = settled_by None none
   settled_stays (Some t) (i, first, shown) = settled_by (Some i) first
 
-pub Final-lasts : ((s : BuiltIn) → KeepsYes s) → NewcomersAreAwaited → Beginnings → (b : List ℕ) (answer : Option FileType)
-    → IsVerdict b (Final answer) → Lasts b (Final answer)
-Final-lasts every newcomers early b answer (settled, is) more =
-    let stays = answer_stays every newcomers early b more settled (option_map triple_of answer) is in
-    (stays, (settled_stays every newcomers early b more settled (option_map triple_of answer) is, stays))
+pub Final-stays : length table ≡ ROW_COUNT → ((s : BuiltIn) → Lasts s) → NewcomersAreAwaited → Beginnings → (b : List ℕ) (answer : Option FileType)
+    → IsVerdict b (Final answer) → StaysFinal b (Final answer)
+Final-stays many every newcomers early b answer (settled, is) more =
+    let stays = answer_stays many every newcomers early b more settled (option_map triple_of answer) is in
+    (stays, (settled_stays many every newcomers early b more settled (option_map triple_of answer) is, stays))
 
-pub first-lasts : ((s : BuiltIn) → KeepsYes s) → NewcomersAreAwaited → Beginnings → (b : List ℕ) (row : Option ℕ)
-    → IsFirstOf (Accepts b) table row → IsSettled b → RowLasts b row
-first-lasts every newcomers early b row first settled more =
-    (first_stays every newcomers early b more settled row first, settled_by every newcomers early b more settled row first)
+pub first-stays : length table ≡ ROW_COUNT → ((s : BuiltIn) → Lasts s) → NewcomersAreAwaited → Beginnings → (b : List ℕ) (row : Option ℕ)
+    → IsFirstOf (Accepts b) table row → IsSettled b → RowStaysFinal b row
+first-stays many every newcomers early b row first settled more =
+    (first_stays many every newcomers early b more settled row first, settled_by many every newcomers early b more settled row first)
 
--- what lasts from a beginning on lasts
-pub Lasts-on : (verdict : Verdict) (b : List ℕ) → LastsFromBeginning verdict b → Lasts b verdict
-Lasts-on (SoFar answer) b h = tt
-Lasts-on (Final answer) b (short, more, e, lasts) = λ rest.
+-- what stays final from a beginning on stays final
+pub Final-stays-on : (verdict : Verdict) (b : List ℕ) → StaysFinalFromBeginning verdict b → StaysFinal b verdict
+Final-stays-on (SoFar answer) b h = tt
+Final-stays-on (Final answer) b (short, more, e, lasts) = λ rest.
     let joined : b ++ rest ≡ short ++ (more ++ rest) = ap (λ u. u ++ rest) e ∙ append_assoc short more rest in
     subst (λ u. IsTypeOf u answer × IsVerdict u (Final answer)) (sym joined) (lasts (more ++ rest))

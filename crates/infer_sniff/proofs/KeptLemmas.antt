@@ -25,6 +25,9 @@ front_again n bytes piece = elim (cases_lt n (length bytes)) [
   | inr l ↦ ap (λ u. take n (u ++ piece)) (take_all n bytes l)
 ]
 
+pub front_joined : (n : ℕ) (kept a b : List ℕ) → take n (take n (kept ++ a) ++ b) ≡ take n (kept ++ (a ++ b))
+front_joined n kept a b = front_again n (kept ++ a) b ∙ ap (take n) (append_assoc kept a b)
+
 -- the pieces joined, and with one more
 abbrev joined : List (Bor (List ℕ)) → List ℕ
 joined pieces = concat (map (λ piece. piece.now) pieces)
@@ -41,18 +44,15 @@ pub front_more : (n i : ℕ) (bytes kept new : List ℕ) (pieces : List (Bor (Li
     → kept ≡ take n (bytes ++ joined (take i pieces)) → new ≡ take n (kept ++ (get_or pieces i d).now) → new ≡ take n (bytes ++ joined (take (i + 1) pieces))
 front_more n i bytes kept new pieces d lt before now =
     now ∙ ap (λ u. take n (u ++ (get_or pieces i d).now)) before
-    ∙ front_again n (bytes ++ joined (take i pieces)) (get_or pieces i d).now
-    ∙ ap (take n) (append_assoc bytes (joined (take i pieces)) (get_or pieces i d).now)
+    ∙ front_joined n bytes (joined (take i pieces)) (get_or pieces i d).now
     ∙ ap (λ u. take n (bytes ++ u)) (sym (joined_more pieces i d lt))
 
 pub front_alone : (n : ℕ) (bytes : List ℕ) → length bytes ≤ n → bytes ≡ take n (bytes ++ [])
 front_alone n bytes few = sym (ap (take n) (append-nil bytes) ∙ take_all n bytes few)
 
--- a piece of some bytes leaves less room
-pub front_grows : (new bytes piece : List ℕ) → new ≡ take 8192 (bytes ++ piece) → length bytes < 8192 → 0 < length piece
-    → 8192 - length new < 8192 - length bytes
-front_grows new bytes piece e room some =
-    omega (arith, ap length e, length-take 8192 (bytes ++ piece), length-append bytes piece)
+-- a piece leaves less room by its length
+pub room_left : (n : ℕ) (new bytes piece : List ℕ) → new ≡ take n (bytes ++ piece) → n - length new ≡ n - length bytes - length piece
+room_left n new bytes piece e = omega (arith, ap length e, length-take n (bytes ++ piece), length-append bytes piece)
 
 -- what grows bytes that grow others grows these
 pub grown_more : (bytes kept new : List ℕ) → (added : List ℕ) × (kept ≡ bytes ++ added) → (added : List ℕ) × (new ≡ kept ++ added)

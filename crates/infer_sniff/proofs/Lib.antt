@@ -1,2 +1,3 @@
 pub mod KeptLemmas
 pub mod FinalLemmas
+pub mod LabelLemmas

@@ -1,5 +1,5 @@
 -- What can be said of the answer for a buffer that may go on.
-use Rattle.std.specs.Prelude.{◌≡◌, ◌≤◌, ℕ, List, ◌++◌, Option, length, option_map}
+use Rattle.std.specs.Prelude.{◌≡◌, ◌↔◌, ◌≤◌, ℕ, List, ◌++◌, Option, length, option_map}
 use Rattle.infer.specs.First.{IsAnswer, IsFirstOf}
 use Rattle.infer.specs.Row.{Accepts}
 use Rattle.infer.specs.Table.{table}
@@ -18,20 +18,34 @@ pub record IsSettled (b : List ℕ) : Type 0 where
   pub long : 1024 ≤ length b
   pub within : (row : Option ℕ) → IsFirstOf (Accepts b) table row → IsWithinBounds b row
 
+-- the type that a verdict tells
+abbrev pub found_of : Verdict → Option FileType
+found_of (SoFar found) = found
+found_of (Final found) = found
+
+-- the verdict is final
+abbrev pub IsFinal : Verdict → Type 0
+IsFinal (SoFar found) = ⊥
+IsFinal (Final found) = Unit {0}
+
 -- the verdict of the buffer
 abbrev pub IsVerdict : List ℕ → Verdict → Type 0
 IsVerdict b (SoFar answer) = (¬ IsSettled b) × IsTypeOf b answer
 IsVerdict b (Final answer) = IsSettled b × IsTypeOf b answer
 
+-- both are final or none is, and they tell the same type
+abbrev pub AreAlike : Verdict → Verdict → Type 0
+AreAlike v w = (IsFinal v ↔ IsFinal w) × (option_map triple_of (found_of v) ≡ option_map triple_of (found_of w))
+
 -- where the verdict is final, its type is that of everything that grows the buffer, and so is the verdict
-abbrev pub Lasts : List ℕ → Verdict → Type 0
-Lasts b (SoFar answer) = Unit {0}
-Lasts b (Final answer) = (more : List ℕ) → IsTypeOf (b ++ more) answer × IsVerdict (b ++ more) (Final answer)
+abbrev pub StaysFinal : List ℕ → Verdict → Type 0
+StaysFinal b (SoFar answer) = Unit {0}
+StaysFinal b (Final answer) = (more : List ℕ) → IsTypeOf (b ++ more) answer × IsVerdict (b ++ more) (Final answer)
 
 -- the row is the first of everything that grows the buffer, none as none, and that stays settled
-abbrev pub RowLasts : List ℕ → Option ℕ → Type 0
-RowLasts b row = (more : List ℕ) → IsFirstOf (Accepts (b ++ more)) table row × IsSettled (b ++ more)
+abbrev pub RowStaysFinal : List ℕ → Option ℕ → Type 0
+RowStaysFinal b row = (more : List ℕ) → IsFirstOf (Accepts (b ++ more)) table row × IsSettled (b ++ more)
 
--- the verdict lasts from a beginning of the buffer on
-abbrev pub LastsFromBeginning : Verdict → List ℕ → Type 0
-LastsFromBeginning verdict b = (short more : List ℕ) × (b ≡ short ++ more) × Lasts short verdict
+-- the verdict stays final from a beginning of the buffer on
+abbrev pub StaysFinalFromBeginning : Verdict → List ℕ → Type 0
+StaysFinalFromBeginning verdict b = (short more : List ℕ) × (b ≡ short ++ more) × StaysFinal short verdict

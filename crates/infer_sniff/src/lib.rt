@@ -6,12 +6,15 @@
 #![tactic(auto)]
 
 mod case;
+pub mod laws;
 mod position;
+mod reading;
 mod sniffer;
 #[cfg(test)]
 mod tests;
 mod verdict;
 
 pub use position::position_settled;
+pub use reading::label;
 pub use sniffer::Sniffer;
 pub use verdict::Verdict;

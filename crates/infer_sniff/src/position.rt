@@ -4,10 +4,10 @@ ghost use Rattle.infer.specs.First.{IsFirstOf};
 ghost use Rattle.infer.specs.Row.{Accepts};
 ghost use Rattle.infer.specs.Table.{table};
 ghost use Rattle.infer.specs.declared.table.rows.TheConstants.{ROW_COUNT};
-ghost use Rattle.infer_sniff.specs.Verdicts.{IsSettled, RowLasts};
+ghost use Rattle.infer_sniff.specs.Verdicts.{IsSettled, RowStaysFinal};
 
 use crate::verdict::is_settled;
-use infer::{laws, position};
+use infer::{laws, position, rows};
 
 /// The number of the first built-in row that accepts `buf`, as [`position`] answers, and whether the verdict of `buf`
 /// is final. The rows are gone through once.
@@ -15,8 +15,9 @@ pub fn position_settled(buf: &[u8]) -> (Option<usize>, bool)
     ensures first { IsFirstOf (Accepts buf.now) table result.0 }
     ensures bound { IfSome result.0 (λ i. i < ROW_COUNT) }
     ensures settled { IsTrue result.1 ↔ IsSettled buf.now }
-    ensures lasts { IsTrue result.1 → RowLasts buf.now result.0 }
+    ensures lasts { IsTrue result.1 → RowStaysFinal buf.now result.0 }
 {
+    rows::numbers();
     laws::growth();
     laws::arrival();
     let place = position(buf);

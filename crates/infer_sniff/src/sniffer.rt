@@ -1,18 +1,16 @@
 //! Bytes as they come.
-ghost use Rattle.std.specs.Prelude.{◌≡◌, ◌≤◌, ℕ, List, [], ◌++◌, IfOk, length, map, vec_capacity, vec_len};
+ghost use Rattle.std.specs.Prelude.{◌≡◌, ◌-◌, ◌≤◌, ℕ, List, [], ◌++◌, IfOk, length, map, vec_capacity, vec_len};
 ghost use Rattle.std.specs.Bool.{OnFalse};
 ghost use Rattle.std.specs.List.{concat};
 ghost use Rattle.infer.specs.Buffer.{head};
 ghost use Rattle.infer_sniff.specs.Sniffers.{IsSniffer};
-ghost use Rattle.infer_sniff.specs.Verdicts.{IsVerdict, Lasts};
+ghost use Rattle.infer_sniff.specs.Verdicts.{IsVerdict, StaysFinal};
 
 use crate::verdict::{Verdict, verdict_behind, verdict_of};
+use infer::FRONT;
 use std::alloc::{AllocError, Allocator, Global};
 use std::cmp;
 use std::marker::Model;
-
-// How many bytes are looked at.
-const FRONT: usize = 8192;
 
 /// The first 8192 bytes of an input, and their verdict.
 ///
@@ -49,8 +47,9 @@ impl<A: Allocator> Sniffer<A> {
     pub fn push(&mut self, piece: &[u8]) -> Verdict
         ensures kept { self.new ≡ head FRONT (self.old ++ piece.now) }
         ensures grows { (added : List ℕ) × (self.new ≡ self.old ++ added) }
+        ensures room { FRONT - length self.new ≡ FRONT - length self.old - length piece.now }
         ensures verdict { IsVerdict self.new result }
-        ensures lasts { Lasts self.new result }
+        ensures lasts { StaysFinal self.new result }
     {
         if !keep(&mut self.bytes, piece) {
             return self.verdict;
@@ -64,7 +63,7 @@ impl<A: Allocator> Sniffer<A> {
         ensures kept { self.new ≡ head FRONT (self.old ++ concat (map (λ piece. piece.now) pieces.now)) }
         ensures grows { (added : List ℕ) × (self.new ≡ self.old ++ added) }
         ensures verdict { IsVerdict self.new result }
-        ensures lasts { Lasts self.new result }
+        ensures lasts { StaysFinal self.new result }
     {
         let mut verdict = self.verdict;
         for piece in pieces {
@@ -76,7 +75,7 @@ impl<A: Allocator> Sniffer<A> {
     /// The verdict of the bytes that are kept.
     pub fn verdict(&self) -> Verdict
         ensures verdict { IsVerdict self.now result }
-        ensures lasts { Lasts self.now result }
+        ensures lasts { StaysFinal self.now result }
     {
         self.verdict
     }
@@ -90,7 +89,7 @@ impl<A: Allocator> Sniffer<A> {
     }
 }
 
-// Adds as much of the piece as there is room for, and tells whether that was any.
+/// Adds as much of the piece as there is room for, and tells whether that was any.
 fn keep<A: Allocator>(bytes: &mut Vec<u8, A>, piece: &[u8]) -> bool
     requires room { FRONT ≤ vec_capacity bytes.old }
     requires few { vec_len bytes.old ≤ FRONT }

@@ -1,18 +1,20 @@
 //! Verdicts on worked streams.
-use crate::{Sniffer, Verdict};
-use infer::Type;
+ghost use Rattle.std.specs.Prelude.{◌≡◌, ◌++◌};
+ghost use Rattle.infer.specs.Buffer.{head};
+ghost use Rattle.infer_sniff.specs.Verdicts.{IsVerdict};
+
+use crate::laws::cuts;
+use crate::{Sniffer, Verdict, label};
+use infer::{FRONT, Type, Watched};
 use linked_list_allocator::LocalHeap;
 use std::alloc::{AllocError, Allocator, Global};
-use std::io::{self, Read};
+use std::io::{self, Read, Write};
 use std::test::Fail;
 
 /// Whether the verdict is final, and the extension of its type, empty where it has none.
 fn told(verdict: Verdict) -> (bool, &'static str) {
-    let (is_final, answer) = match verdict {
-        Verdict::SoFar(answer) => (false, answer),
-        Verdict::Final(answer) => (true, answer),
-    };
-    (is_final, answer.map_or("", |found| found.extension()))
+    let extension = verdict.found().map_or("", |found| found.extension());
+    (verdict.is_final(), extension)
 }
 
 /// A buffer of `len` bytes, or of more where the texts go further, each `fill` but for the texts at their places,
@@ -80,33 +82,54 @@ fn white_space_stays_open(rt: HostRuntime) -> Result<(), Fail> {
     Ok(())
 }
 
-/// The type of what a reader gives, of which nothing is read once it is final.
-fn label<A: Allocator, R: Read>(alloc: A, reader: &mut R) -> io::Result<Option<Type>> {
+/// Passes a stream on up to its end or its 8192nd byte, and answers its type.
+fn pass<A: Allocator, R: Read, W: Write>(
+    alloc: A,
+    from: &mut R,
+    to: &mut W,
+) -> io::Result<Option<Type>> {
     let mut sniffer = Sniffer::new(alloc)?;
     let mut piece = [0; 1024];
-    let mut label = None;
-    while sniffer.kept().len() < 8192 {
-        let count = reader.read(&mut piece)?;
-        match sniffer.push(&piece[..count]) {
-            Verdict::Final(found) => return Ok(found),
-            Verdict::SoFar(found) => label = found,
-        }
-        if count == 0 {
+    for _ in 0..8192 {
+        let count = from.read(&mut piece)?;
+        to.write_all(&piece[..count])?;
+        if sniffer.push(&piece[..count]).is_final() || count == 0 {
             break;
         }
     }
-    Ok(label)
+    Ok(sniffer.verdict().found())
 }
 
 #[test]
 fn a_label_is_read_no_further(rt: HostRuntime) -> Result<(), Fail> {
     let zeros = [0; 5000];
-    let mut reader = zeros.as_slice();
-    assert!(rt; label(rt.alloc(), &mut reader)?.is_none());
-    assert_eq!(rt; reader.len(), 5000 - 1024);
-    let mut image = b"\xFF\xD8\xFF".as_slice();
-    let found = label(rt.alloc(), &mut image)?;
+    let mut reader = Watched::new(zeros.as_slice());
+    assert!(rt; matches!(label(rt.alloc(), &mut reader), Ok(None)));
+    assert_eq!(rt; reader.into_inner().len(), 5000 - 1024);
+    let (mut image, mut copy) = (b"\xFF\xD8\xFF".as_slice(), Vec::new(rt.alloc()));
+    let found = pass(rt.alloc(), &mut image, &mut copy)?;
     assert_eq!(rt; found.map_or("", |found| found.extension()), "jpg");
+    assert_eq!(rt; copy.as_slice(), b"\xFF\xD8\xFF".as_slice());
+    Ok(())
+}
+
+/// Two pushes keep what one push of both pieces joined keeps.
+fn push_both<A: Allocator>(sniffer: &mut Sniffer<A>, front: &[u8], rest: &[u8]) -> Verdict
+    ensures kept { sniffer.new ≡ head FRONT (sniffer.old ++ (front.now ++ rest.now)) }
+    ensures verdict { IsVerdict sniffer.new result }
+{
+    cuts();
+    sniffer.push(front);
+    sniffer.push(rest)
+}
+
+#[test]
+fn two_pushes_are_one(rt: HostRuntime) -> Result<(), Fail> {
+    let mut sniffer = Sniffer::new(rt.alloc())?;
+    assert_eq!(rt;
+        told(push_both(&mut sniffer, b"\xFF\xD8", b"\xFF")),
+        (false, "jpg")
+    );
     Ok(())
 }
 

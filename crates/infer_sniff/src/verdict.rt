@@ -1,14 +1,14 @@
 //! What is said of the bytes so far.
-ghost use Rattle.std.specs.Prelude.{◌↔◌, IsTrue};
+ghost use Rattle.std.specs.Prelude.{◌≡◌, ◌↔◌, IsTrue};
 ghost use Rattle.infer.specs.First.{IsFirstOf};
 ghost use Rattle.infer.specs.Row.{Accepts};
 ghost use Rattle.infer.specs.Table.{table};
-ghost use Rattle.infer_sniff.specs.Verdicts.{LastsFromBeginning, IsSettled, IsTypeOf, IsVerdict, Lasts};
+ghost use Rattle.infer_sniff.specs.Verdicts.{StaysFinalFromBeginning, IsFinal, IsSettled, IsTypeOf, IsVerdict, StaysFinal, found_of};
 
 use crate::case::Case;
-use infer::{Type, laws, position, row};
+use infer::{Type, laws, position, row, rows};
 
-// So many bytes decide every row but twelve.
+/// So many bytes decide every row but twelve.
 const LEAST: usize = 1024;
 
 /// What the bytes so far tell: the type that [`infer::get`] answers for them, and whether that is certain to stay.
@@ -20,11 +20,30 @@ pub enum Verdict {
     Final(Option<Type>),
 }
 
+impl Verdict {
+    /// The type, be it final or not.
+    pub fn found(self) -> Option<Type>
+        ensures { result ≡ found_of self }
+    {
+        match self {
+            Verdict::SoFar(found) | Verdict::Final(found) => found,
+        }
+    }
+
+    /// Whether no bytes behind those so far change the type.
+    pub fn is_final(self) -> bool
+        ensures { IsTrue result ↔ IsFinal self }
+    {
+        matches!(self, Verdict::Final(_))
+    }
+}
+
 /// The verdict of `buf`.
 pub fn verdict_of(buf: &[u8]) -> Verdict
     ensures verdict { IsVerdict buf.now result }
-    ensures lasts { Lasts buf.now result }
+    ensures lasts { StaysFinal buf.now result }
 {
+    rows::numbers();
     laws::growth();
     laws::arrival();
     let (place, answer) = first_of(buf);
@@ -37,9 +56,9 @@ pub fn verdict_of(buf: &[u8]) -> Verdict
 
 /// The verdict of `buf`, where `before` is that of a beginning of it. A final one is kept, and nothing is asked.
 pub fn verdict_behind(before: Verdict, buf: &[u8]) -> Verdict
-    requires { LastsFromBeginning before buf.now }
+    requires { StaysFinalFromBeginning before buf.now }
     ensures verdict { IsVerdict buf.now result }
-    ensures lasts { Lasts buf.now result }
+    ensures lasts { StaysFinal buf.now result }
 {
     match before {
         Verdict::SoFar(_) => verdict_of(buf),
@@ -47,7 +66,7 @@ pub fn verdict_behind(before: Verdict, buf: &[u8]) -> Verdict
     }
 }
 
-// The number of the first row that accepts `buf`, and its type.
+/// The number of the first row that accepts `buf`, and its type.
 fn first_of(buf: &[u8]) -> (Option<usize>, Option<Type>)
     ensures first { IsFirstOf (Accepts buf.now) table result.0 }
     ensures tells { IsTypeOf buf.now result.1 }
@@ -58,7 +77,7 @@ fn first_of(buf: &[u8]) -> (Option<usize>, Option<Type>)
     }
 }
 
-// Whether nothing behind `buf` can change its first row.
+/// Whether nothing behind `buf` can change its first row.
 pub fn is_settled(buf: &[u8], place: Option<usize>) -> bool
     requires { IsFirstOf (Accepts buf.now) table place }
     ensures { IsTrue result ↔ IsSettled buf.now }

@@ -1,22 +1,29 @@
 -- A row that was read is the one at its number in the table, and what words ask for.
-use Rattle.std.proofs.Common.{◌≡◌, ◌≢◌, ◌↔◌, ◌<◌, ℕ, zero, suc, Bool, true, false, List, [], ◌∷◌, Option, Some, length, map, get_or, sym, ap, ◌∙◌, refl, subst, arith, IsTrue}
+use Rattle.std.proofs.Common.{◌≡◌, ◌↔◌, ◌-◌, ◌<◌, ◌≤◌, ◌⊎◌, inl, inr, ℕ, zero, suc, Bool, true, false, List, [], ◌∷◌, Option, Some, take, length, map, get_or, sym, ap, ◌∙◌, refl, subst, arith, IsTrue}
 use Rattle.std.specs.Bool.{OnTrue, OnFalse}
 use Rattle.std.specs.List.{HoldsAt, slice_get}
 use Rattle.std.specs.Option.{option_map}
 use Rattle.std.proofs.lemmas.Option.{none-some, same_Some, slice_get-map}
-use Rattle.std.proofs.lemmas.List.{get_or-map, length-map}
+use Rattle.std.proofs.lemmas.List.{get_or-map, take_at}
+use Rattle.std.proofs.lemmas.Bool.{cases_lt}
+use Rattle.std.specs.Io.KnownBytes.{Appends}
 use Rattle.infer.specs.BuiltIn.{BuiltIn}
 use Rattle.infer.specs.Row.{Row, shows}
-use Rattle.infer.specs.Table.{table}
+use Rattle.infer.specs.BuiltIn.{html}
+use Rattle.infer.specs.First.{IsFirst}
+use Rattle.infer.specs.Questions.{HasExtension}
+use Rattle.infer.specs.Samples.{HoldsSample, sample_of, zeros}
+use Rattle.infer.specs.Table.{row, table}
+use Rattle.infer.specs.declared.table.file_type.MatcherType.TheVariants.{Text}
+use Rattle.infer.specs.declared.table.rows.TheConstants.{DLL, EPUB_ARCHIVE, ROW_COUNT}
+use Rattle.infer_tool.specs.Report.{UnlessFailed}
+use Rattle.infer_tool.specs.Sample.{HasSample, WritesSample}
+use Rattle.infer_tool.specs.declared.outcome.Outcome.TheVariants.{Known}
 use Rattle.infer.specs.Triple.{Triple}
-use Rattle.infer.specs.declared.table.rows.TheConstants.{ROW_COUNT}
-use Rattle.infer_tool.specs.Sample.{AnswersSample, WritesSample}
-use Rattle.infer_tool.specs.declared.outcome.Outcome.{Outcome}
-use Rattle.infer_tool.specs.declared.outcome.Outcome.TheVariants.{Known, Unknown, Failed}
 
-pub length-table : length table ≡ ROW_COUNT
-unfolding table
-length-table = refl
+-- any row
+some_row : Row BuiltIn
+some_row = row Text [] [] html
 
 -- what holds of the triple that was read holds of the row
 pub HoldsAt-shown : (P : Triple → Type 0) (rows : List (Row BuiltIn)) (i : ℕ) (t : Triple)
@@ -41,13 +48,40 @@ first_is name_of words word name text b first named same =
     let at : slice_get (map name_of words) 0 ≡ Some (name_of word) = slice_get-map name_of words 0 ∙ ap (option_map name_of) (sym first) in
     (λ yes. at ∙ ap Some (sym named ∙ same.0 yes), λ is. same.1 (named ∙ same_Some _ _ (sym at ∙ is)))
 
--- the report of a sample is the answer of two words, of which the second names it
-pub AnswersSample-made : {A : Type 0} (name_of : A → List ℕ) (words : List A) (word : A) (name : List ℕ) (outcome : Outcome) (old new : Option (List ℕ))
-    → length words ≡ 2 → word ≡ get_or words 1 word → name ≡ name_of word
-    → (outcome ≡ Known → WritesSample name old new) → outcome ≢ Unknown → AnswersSample (map name_of words) outcome old new
-AnswersSample-made {A} name_of words word name Known old new two second named writes known =
-    let lt : 1 < length words = omega arith in
-    let same : name ≡ get_or (map name_of words) 1 [] = named ∙ ap name_of second ∙ sym (get_or-map name_of words 1 word [] lt) in
-    (length-map {A = A} {B = List ℕ} words name_of ∙ two, subst (λ x. WritesSample x old new) same (writes refl))
-AnswersSample-made name_of words word name Unknown old new two second named writes known = known refl
-AnswersSample-made name_of words word name Failed old new two second named writes known = tt
+-- the word at 1 names what stands behind the option
+pub second_is : {A : Type 0} (name_of : A → List ℕ) (words : List A) (word : A) (name : List ℕ) → 1 < length words
+    → word ≡ get_or words 1 word → name ≡ name_of word → name ≡ get_or (map name_of words) 1 []
+second_is name_of words word name lt at named = named ∙ ap name_of at ∙ sym (get_or-map name_of words 1 word [] lt)
+
+-- one row is the first
+same_row : (P : Row BuiltIn → Type 0) (i j : ℕ) → IsFirst P table i → IsFirst P table j → i ≡ j
+same_row P i j first then = elim (cases_lt i j) [
+  | inl l ↦ absurd (then.before i some_row (omega arith) l (first.here some_row))
+  | inr ge ↦ elim (cases_lt j i) [ inl l ↦ absurd (first.before j some_row (omega arith) l (then.here some_row)) | inr le ↦ omega arith ]
+]
+
+module _ (extension : List ℕ) where
+  -- a row of which a sample was given has one, and a row of which none was given has none
+  pub sampled : (i : ℕ) → IsFirst (HasExtension extension) table i → (¬ ((i ≡ DLL) ⊎ ((i ≡ EPUB_ARCHIVE) ⊎ (ROW_COUNT ≤ i)))) → HasSample extension i
+  sampled i first some = (first, λ e. some (inl e), λ e. some (inr (inl e)))
+
+  pub never_sampled : length table ≡ ROW_COUNT → (i j : ℕ) → HasSample extension i → IsFirst (HasExtension extension) table j
+      → (j ≡ DLL) ⊎ ((j ≡ EPUB_ARCHIVE) ⊎ (ROW_COUNT ≤ j)) → ⊥
+  never_sampled many i j has first none =
+      let same = same_row (HasExtension extension) i j has.0 first in
+      elim none [
+        | inl e ↦ has.1 (same ∙ e)
+        | inr (inl e) ↦ has.2 (same ∙ e)
+        | inr (inr past) ↦ let lt = first.within in omega (arith, many)
+      ]
+
+  pub WritesSample-made : (i j n : ℕ) (buf : List ℕ) (failed : Bool) (old new : Option (List ℕ)) → HasSample extension i
+      → IsFirst (HasExtension extension) table j → HoldsAt (HoldsSample n buf) table j → failed ≡ false
+      → OnFalse failed (Appends old new (take n buf)) → UnlessFailed failed Known (WritesSample i Known old new)
+  WritesSample-made i j n buf true old new has first holds none app = absurd (cc)
+  WritesSample-made i j n buf false old new has first holds none app = (
+    refl,
+    subst (λ k. HoldsAt (λ r. Appends old new (sample_of r.signature)) table k) (sym (same_row (HasExtension extension) i j has.0 first))
+        (λ d. let h = holds d in
+        subst (Appends old new) (ap (take n) h.1 ∙ take_at (sample_of (get_or table j d).signature) (zeros (640 - n)) n (sym h.0)) app),
+  )

@@ -1,7 +1,8 @@
 pub mod Line
 pub mod Outcome
+pub mod Writer
 pub mod Report
-pub mod Sample
 pub mod Run
+pub mod Words
+pub mod Sample
 pub mod Limit
-pub mod Sniffed

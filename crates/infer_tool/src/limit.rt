@@ -18,7 +18,7 @@ pub fn limit_of(word: &str) -> Option<usize>
     }
 }
 
-// A number may be parsed behind a plus.
+/// Whether the word begins with a plus, behind which a number may be parsed too.
 fn has_plus(word: &str) -> bool
     ensures { IsTrue result ↔ (slice_index word.now 0 ≡ 0x2B) }
 {

@@ -1,39 +1,39 @@
 //! Prints the type of each file that it is given, or of standard input.
 #![tactic(auto)]
 
-ghost use Rattle.std.specs.Prelude.{◌≡◌, ◌≢◌, ◌↔◌, ◌≤◌, [], IfSome, IsTrue, codes, map, string_bytes};
-ghost use Rattle.infer.specs.Buffer.{head};
-ghost use Rattle.infer.specs.First.{IsAnswer};
-ghost use Rattle.infer.specs.Row.{Accepts};
-ghost use Rattle.infer.specs.Table.{table};
-ghost use Rattle.infer_tool.specs.Limit.{AnswersLimit, AsksLimit};
-ghost use Rattle.infer_tool.specs.Report.{ReportsTheOne};
+ghost use Rattle.std.specs.Prelude.{◌≡◌, ◌≢◌, ◌↔◌, ◌≤◌, ℕ, [], IsTrue, codes, false, length, map, string_bytes};
+ghost use Rattle.std.specs.Io.KnownBytes.{Keeps};
+ghost use Rattle.infer_tool.specs.Limit.{IsLimit, ReportsWithin};
+ghost use Rattle.infer_tool.specs.Report.{ReportsInput, UnlessFailed};
 ghost use Rattle.infer_tool.specs.Run.{ReportsEach};
-ghost use Rattle.infer_tool.specs.Sample.{AnswersSample, AsksSample};
+ghost use Rattle.infer_tool.specs.Sample.{HasSample, WritesSample};
+ghost use Rattle.infer_tool.specs.Words.{Asks, front_option, sample_option, second};
+ghost use Rattle.infer_tool.specs.Writer.{has_failed, inner};
 
 mod limit;
 mod outcome;
 mod report;
 mod sample;
-mod sniffed;
 #[cfg(test)]
 mod tests;
+mod writer;
 
+use infer::FRONT;
 use limit::limit_of;
 use outcome::Outcome;
-use report::FRONT;
 use sample::run_sample;
 use std::alloc::Allocator;
 use std::io::{LineWriter, Read, Write};
 use std::process::ExitCode;
 use std::rt::{Env, Files};
 use std::{env, io};
+use writer::WatchedWriter;
 
 const USAGE: &[u8] = b"usage: infer_tool [--front N] [PATH ..] or --sample EXT\n";
 
 const LIMITS: &[u8] = b"front must be 1 to 65536\n";
 
-// A line with the longest path of a system fits.
+/// A line with the longest path of a system fits.
 const LINE_BUFFER: usize = 8192;
 
 /// Reports the type of each file that a word names by its path, in the order of the words, also after a fault, and
@@ -41,56 +41,77 @@ const LINE_BUFFER: usize = 8192;
 ///
 /// Only the first word can be an option. Behind `--front` stand the number of bytes to look at, from 1 to 65536 in
 /// place of 8192, and then paths, or none for `input`. Behind `--sample` stands one extension, and the sample of the
-/// first type with it is written instead. Where these words are wrong, `err` is told and nothing is read. The outcome
-/// is the worst one.
+/// first type with it is written instead. Where these words are wrong, `err` is told, nothing is read and nothing is
+/// written to `out`. The outcome is the worst one, and `Failed` where a write to `out` failed.
 pub fn run<R: Files, A: Allocator + Copy, I: Read + Drop, W: Write, E: Write>(
     rt: &R,
     alloc: A,
     words: &[String],
     input: I,
-    out: &mut W,
+    out: &mut WatchedWriter<W>,
     err: &mut E,
 ) -> Outcome
-    ensures line { words.now ≡ [] → IfSome (I.remaining input) (λ s.
-        ReportsTheOne result (codes "-") (IsAnswer (Accepts (head FRONT s)) table) (W.contents out.old) (W.contents out.new)) }
-    ensures each { words.now ≢ [] → ¬ AsksSample (map string_bytes words.now) → ¬ AsksLimit (map string_bytes words.now)
-        → ReportsEach FRONT (map string_bytes words.now) result (W.contents out.old) (W.contents out.new) }
-    ensures sample { AsksSample (map string_bytes words.now)
-        → AnswersSample (map string_bytes words.now) result (W.contents out.old) (W.contents out.new) }
-    ensures limit { AsksLimit (map string_bytes words.now)
-        → AnswersLimit (map string_bytes words.now) (I.remaining input) result (W.contents out.old) (W.contents out.new) }
+    requires { has_failed out.old ≡ false }
+    ensures line { words.now ≡ [] → UnlessFailed (has_failed out.new) result
+        (ReportsInput FRONT (I.remaining input) result (codes "-") (W.contents (inner out.old)) (W.contents (inner out.new))) }
+    ensures each { words.now ≢ [] → ¬ Asks sample_option (map string_bytes words.now) → ¬ Asks front_option (map string_bytes words.now)
+        → UnlessFailed (has_failed out.new) result
+        (ReportsEach FRONT (map string_bytes words.now) result (W.contents (inner out.old)) (W.contents (inner out.new))) }
+
+    // Behind `--sample`.
+    ensures sample { Asks sample_option (map string_bytes words.now) → length words.now ≡ 2
+        → (i : ℕ) → HasSample (second (map string_bytes words.now)) i
+        → UnlessFailed (has_failed out.new) result (WritesSample i result (W.contents (inner out.old)) (W.contents (inner out.new))) }
+    ensures usage { Asks sample_option (map string_bytes words.now) → length words.now ≢ 2 → (result ≡ Outcome.Failed) × (out.new ≡ out.old) }
+    ensures no_sample { Asks sample_option (map string_bytes words.now) → ((i : ℕ) → ¬ HasSample (second (map string_bytes words.now)) i)
+        → (result ≡ Outcome.Failed) × (out.new ≡ out.old) }
+
+    // Behind `--front`.
+    ensures limit { Asks front_option (map string_bytes words.now) → (n : ℕ) → IsLimit (second (map string_bytes words.now)) n
+        → UnlessFailed (has_failed out.new) result
+        (ReportsWithin n (map string_bytes words.now) (I.remaining input) result (W.contents (inner out.old)) (W.contents (inner out.new))) }
+    ensures no_limit { Asks front_option (map string_bytes words.now) → ((n : ℕ) → ¬ IsLimit (second (map string_bytes words.now)) n)
+        → (result ≡ Outcome.Failed) × (out.new ≡ out.old) }
     ensures silent { result ≢ Outcome.Failed → err.new ≡ err.old }
 {
     if words.is_empty() {
         return report::run_reader(alloc, "-", input, out, err);
     }
-    if asks_sample(words) {
+    if asks(words, "--sample") {
         return run_asked(words, out, err);
     }
-    if asks_limit(words) {
+    if asks(words, "--front") {
         return run_limited(rt, alloc, words, input, out, err);
     }
     run_paths(rt, alloc, words, FRONT, out, err)
 }
 
-fn asks_sample(words: &[String]) -> bool
-    ensures { IsTrue result ↔ AsksSample (map string_bytes words.now) }
+/// Whether the first word is this option.
+fn asks(words: &[String], option: &str) -> bool
+    ensures { IsTrue result ↔ Asks option.now (map string_bytes words.now) }
 {
     match words.first() {
-        Some(word) => is_sample_option(word.as_str()),
+        Some(word) => is_text(word.as_str(), option),
         None => false,
     }
 }
 
-fn is_sample_option(word: &str) -> bool
-    ensures { IsTrue result ↔ (word.now ≡ codes "--sample") }
+fn is_text(word: &str, text: &str) -> bool
+    ensures { IsTrue result ↔ (word.now ≡ text.now) }
 {
-    word == "--sample"
+    word == text
 }
 
-// Behind the first word, which asks for a sample.
-fn run_asked<W: Write, E: Write>(words: &[String], out: &mut W, err: &mut E) -> Outcome
-    ensures sample { AnswersSample (map string_bytes words.now) result (W.contents out.old) (W.contents out.new) }
+/// Runs behind the first word, which asks for a sample.
+fn run_asked<W: Write, E: Write>(
+    words: &[String],
+    out: &mut WatchedWriter<W>,
+    err: &mut E,
+) -> Outcome
+    ensures sample { length words.now ≡ 2 → (i : ℕ) → HasSample (second (map string_bytes words.now)) i
+        → UnlessFailed (has_failed out.new) result (WritesSample i result (W.contents (inner out.old)) (W.contents (inner out.new))) }
+    ensures usage { length words.now ≢ 2 → (result ≡ Outcome.Failed) × (out.new ≡ out.old) }
+    ensures no_sample { ((i : ℕ) → ¬ HasSample (second (map string_bytes words.now)) i) → (result ≡ Outcome.Failed) × (out.new ≡ out.old) }
     ensures silent { result ≢ Outcome.Failed → err.new ≡ err.old }
 {
     if words.len() != 2 {
@@ -100,31 +121,20 @@ fn run_asked<W: Write, E: Write>(words: &[String], out: &mut W, err: &mut E) -> 
     run_sample(words[1].as_str(), out, err)
 }
 
-fn asks_limit(words: &[String]) -> bool
-    ensures { IsTrue result ↔ AsksLimit (map string_bytes words.now) }
-{
-    match words.first() {
-        Some(word) => is_limit_option(word.as_str()),
-        None => false,
-    }
-}
-
-fn is_limit_option(word: &str) -> bool
-    ensures { IsTrue result ↔ (word.now ≡ codes "--front") }
-{
-    word == "--front"
-}
-
-// Behind the first word, which chooses the limit.
+/// Runs behind the first word, which chooses the limit.
 fn run_limited<R: Files, A: Allocator + Copy, I: Read + Drop, W: Write, E: Write>(
     rt: &R,
     alloc: A,
     words: &[String],
     input: I,
-    out: &mut W,
+    out: &mut WatchedWriter<W>,
     err: &mut E,
 ) -> Outcome
-    ensures limit { AnswersLimit (map string_bytes words.now) (I.remaining input) result (W.contents out.old) (W.contents out.new) }
+    requires { has_failed out.old ≡ false }
+    ensures limit { (n : ℕ) → IsLimit (second (map string_bytes words.now)) n
+        → UnlessFailed (has_failed out.new) result
+        (ReportsWithin n (map string_bytes words.now) (I.remaining input) result (W.contents (inner out.old)) (W.contents (inner out.new))) }
+    ensures no_limit { ((n : ℕ) → ¬ IsLimit (second (map string_bytes words.now)) n) → (result ≡ Outcome.Failed) × (out.new ≡ out.old) }
     ensures silent { result ≢ Outcome.Failed → err.new ≡ err.old }
 {
     if words.len() < 2 {
@@ -135,23 +145,47 @@ fn run_limited<R: Files, A: Allocator + Copy, I: Read + Drop, W: Write, E: Write
         let _ = err.write_all(LIMITS);
         return Outcome::Failed;
     };
+    run_within(rt, alloc, words, n, input, out, err)
+}
+
+/// Runs with the limit that the first two words choose.
+fn run_within<R: Files, A: Allocator + Copy, I: Read + Drop, W: Write, E: Write>(
+    rt: &R,
+    alloc: A,
+    words: &[String],
+    n: usize,
+    input: I,
+    out: &mut WatchedWriter<W>,
+    err: &mut E,
+) -> Outcome
+    requires words { 2 ≤ length words.now }
+    requires least { 1 ≤ n }
+    requires most { n ≤ 65536 }
+    requires no_failure { has_failed out.old ≡ false }
+    ensures limit { UnlessFailed (has_failed out.new) result
+        (ReportsWithin n (map string_bytes words.now) (I.remaining input) result (W.contents (inner out.old)) (W.contents (inner out.new))) }
+    ensures silent { result ≢ Outcome.Failed → err.new ≡ err.old }
+{
     if words.len() == 2 {
         return report::run_reader_within(alloc, "-", input, n, out, err);
     }
     run_paths(rt, alloc, &words[2..], n, out, err)
 }
 
+/// Reports each file, one after the other.
 fn run_paths<R: Files, A: Allocator + Copy, W: Write, E: Write>(
     rt: &R,
     alloc: A,
     words: &[String],
     n: usize,
-    out: &mut W,
+    out: &mut WatchedWriter<W>,
     err: &mut E,
 ) -> Outcome
     requires least { 1 ≤ n }
     requires most { n ≤ 65536 }
-    ensures each { ReportsEach n (map string_bytes words.now) result (W.contents out.old) (W.contents out.new) }
+    requires no_failure { has_failed out.old ≡ false }
+    ensures each { UnlessFailed (has_failed out.new) result
+        (ReportsEach n (map string_bytes words.now) result (W.contents (inner out.old)) (W.contents (inner out.new))) }
     ensures silent { result ≢ Outcome.Failed → err.new ≡ err.old }
 {
     let mut outcome = Outcome::Known;
@@ -161,14 +195,16 @@ fn run_paths<R: Files, A: Allocator + Copy, W: Write, E: Write>(
     outcome
 }
 
-// The outcome of a run whose last bytes are still to be written out.
-fn flushed<W: Write>(outcome: Outcome, out: &mut W) -> Outcome
-    ensures { result ≢ Outcome.Failed → result ≡ outcome }
+/// Writes out the last bytes of a run: the outcome is its own, and `Failed` exactly where a write or this flush failed.
+fn flush<W: Write>(outcome: Outcome, out: &mut WatchedWriter<W>) -> Outcome
+    ensures kept { UnlessFailed (has_failed out.new) result (result ≡ outcome) }
+    ensures bytes { Keeps (W.contents (inner out.old)) (W.contents (inner out.new)) }
 {
-    match out.flush() {
-        Ok(()) => outcome,
-        Err(_) => Outcome::Failed,
+    out.flush();
+    if out.has_failed() {
+        return Outcome::Failed;
     }
+    outcome
 }
 
 fn words_of<R: Env + AllocGlobal>(rt: &R) -> io::Result<Vec<String>> {
@@ -180,19 +216,55 @@ fn words_of<R: Env + AllocGlobal>(rt: &R) -> io::Result<Vec<String>> {
 }
 
 fn main(rt: HostRuntime) -> ExitCode {
-    let mut err = rt.stderr();
-    let Ok(words) = words_of(&rt) else {
-        let _ = err.write_all(USAGE);
-        return ExitCode::from(Outcome::Failed.status());
-    };
-    let (words, input) = (words.as_slice(), rt.stdin());
-    // A line costs one system call through a buffer, and several where the buffer is refused.
-    let outcome = match LineWriter::with_capacity(rt.alloc(), LINE_BUFFER, rt.stdout()) {
-        Ok(mut out) => {
-            let outcome = run(&rt, rt.alloc(), words, input, &mut out, &mut err);
-            flushed(outcome, &mut out)
+    let (mut out, mut err) = (rt.stdout(), rt.stderr());
+    let outcome = match words_of(&rt) {
+        Ok(words) => run_lines(
+            &rt,
+            rt.alloc(),
+            words.as_slice(),
+            rt.stdin(),
+            &mut out,
+            &mut err,
+        ),
+        Err(_) => {
+            let _ = err.write_all(USAGE);
+            Outcome::Failed
         }
-        Err(_) => run(&rt, rt.alloc(), words, input, &mut rt.stdout(), &mut err),
     };
     ExitCode::from(outcome.status())
+}
+
+/// Runs through buffers for lines: a line, also one of `err`, costs one system call, and several where the buffer is
+/// refused.
+fn run_lines<R: Files, A: Allocator + Copy, I: Read + Drop, W: Write, E: Write>(
+    rt: &R,
+    alloc: A,
+    words: &[String],
+    input: I,
+    out: &mut W,
+    err: &mut E,
+) -> Outcome {
+    if let Ok(mut lines) = LineWriter::with_capacity(alloc, LINE_BUFFER, &mut *err) {
+        return run_to_end(rt, alloc, words, input, out, &mut lines);
+    }
+    run_to_end(rt, alloc, words, input, out, err)
+}
+
+/// Runs, and writes out the last bytes.
+fn run_to_end<R: Files, A: Allocator + Copy, I: Read + Drop, W: Write, E: Write>(
+    rt: &R,
+    alloc: A,
+    words: &[String],
+    input: I,
+    out: &mut W,
+    err: &mut E,
+) -> Outcome {
+    if let Ok(lines) = LineWriter::with_capacity(alloc, LINE_BUFFER, &mut *out) {
+        let mut lines = WatchedWriter::new(lines);
+        let outcome = run(rt, alloc, words, input, &mut lines, err);
+        return flush(outcome, &mut lines);
+    }
+    let mut bare = WatchedWriter::new(out);
+    let outcome = run(rt, alloc, words, input, &mut bare, err);
+    flush(outcome, &mut bare)
 }

@@ -1,50 +1,63 @@
 //! The sample of a type, by its extension.
-ghost use Rattle.std.specs.Prelude.{◌≡◌, ◌≢◌, ◌↔◌, ◌<◌, IsTrue};
+ghost use Rattle.std.specs.Prelude.{◌≡◌, ◌≢◌, ◌↔◌, ◌<◌, ℕ, IsTrue};
 ghost use Rattle.std.specs.Bool.{OnFalse, OnTrue};
 ghost use Rattle.std.specs.List.{HoldsAt};
-ghost use Rattle.infer.specs.First.{IsFirstOf, NoneHas};
+ghost use Rattle.infer.specs.First.{IsFirstOf};
 ghost use Rattle.infer.specs.Questions.{HasExtension};
 ghost use Rattle.infer.specs.Table.{table};
 ghost use Rattle.infer.specs.Triple.{triple_of};
-ghost use Rattle.infer_tool.specs.Sample.{WritesSample};
+ghost use Rattle.infer_tool.specs.Report.{UnlessFailed};
+ghost use Rattle.infer_tool.specs.Sample.{HasSample, WritesSample};
+ghost use Rattle.infer_tool.specs.Writer.{has_failed, inner};
 
 use crate::outcome::Outcome;
+use crate::writer::WatchedWriter;
 use infer::Type;
-use infer::rows::ROW_COUNT;
+use infer::rows::{ROW_COUNT, numbers};
 use std::io::Write;
 
 /// Writes the sample of the first row with this extension to `out`, and nothing behind it. Where there is no such
-/// row, or it has no sample, `err` is told so.
-pub fn run_sample<W: Write, E: Write>(extension: &str, out: &mut W, err: &mut E) -> Outcome
-    ensures sample { result ≡ Outcome.Known → WritesSample extension.now (W.contents out.old) (W.contents out.new) }
-    ensures known { result ≢ Outcome.Unknown }
+/// row, or it has no sample, `err` is told so and nothing is written to `out`.
+pub fn run_sample<W: Write, E: Write>(
+    extension: &str,
+    out: &mut WatchedWriter<W>,
+    err: &mut E,
+) -> Outcome
+    ensures sample { (i : ℕ) → HasSample extension.now i
+        → UnlessFailed (has_failed out.new) result (WritesSample i result (W.contents (inner out.old)) (W.contents (inner out.new))) }
+    ensures none { ((i : ℕ) → ¬ HasSample extension.now i) → (result ≡ Outcome.Failed) × (out.new ≡ out.old) }
     ensures silent { result ≢ Outcome.Failed → err.new ≡ err.old }
-    ensures none { NoneHas (HasExtension extension.now) table → (result ≡ Outcome.Failed) × (out.new ≡ out.old) }
 {
+    numbers();
     let mut buf = [0u8; 640];
     let Some(row) = first_with(extension) else {
-        return refused(extension, err);
+        return refuse(extension, err);
     };
     match infer::sample(row, &mut buf) {
-        Some(count) => match out.write_all(&buf[..count]) {
-            Ok(()) => Outcome::Known,
-            Err(_) => Outcome::Failed,
-        },
-        None => refused(extension, err),
+        Some(count) => {
+            out.write_all(&buf[..count]);
+            if out.has_failed() {
+                return Outcome::Failed;
+            }
+            Outcome::Known
+        }
+        None => refuse(extension, err),
     }
 }
 
-fn refused<E: Write>(extension: &str, err: &mut E) -> Outcome
+/// Tells that there is no sample.
+fn refuse<E: Write>(extension: &str, err: &mut E) -> Outcome
     ensures { result ≡ Outcome.Failed }
 {
     let _ = writeln!(err, "{extension}: no sample");
     Outcome::Failed
 }
 
-// The number of the first row with this extension.
+/// The number of the first row with this extension.
 fn first_with(extension: &str) -> Option<usize>
     ensures { IsFirstOf (HasExtension extension.now) table result }
 {
+    numbers();
     for i in 0..ROW_COUNT {
         if has_extension(i, extension) {
             return Some(i);

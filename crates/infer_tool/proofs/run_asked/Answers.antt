@@ -1,8 +1,17 @@
-use Rattle.std.proofs.Common.{string_bytes}
-use Rattle.infer_tool.proofs.SampleLemmas.{AnswersSample-made}
+use Rattle.std.proofs.Common.{◌<◌, arith, length, string_bytes, subst, sym}
+use Rattle.infer_tool.specs.Sample.{HasSample}
+use Rattle.infer_tool.proofs.SampleLemmas.{second_is}
 use Rattle.infer_tool.proofs.run_asked.Goals as goal
 
 pub returns-clause-sample : goal.returns-clause-sample
-returns-clause-sample g c =
-    AnswersSample-made string_bytes c.args.words.now c.index-words-1.result c.as_str.result.now c.run_sample.result _ _
-    c.if-words-ne2.false c.index-words-1.is c.as_str.ensures.value c.run_sample.ensures.sample c.run_sample.ensures.known
+returns-clause-sample g c = λ two i has.
+    let lt : 1 < length c.args.words.now = omega arith in
+    let same = second_is string_bytes c.args.words.now _ _ lt c.index-words-1.is c.as_str.ensures.value in
+    c.run_sample.ensures.sample i (subst (λ x. HasSample x i) (sym same) has)
+
+pub returns-clause-no_sample : goal.returns-clause-no_sample
+returns-clause-no_sample g c = λ none.
+    let two = c.if-words-ne2.false in
+    let lt : 1 < length c.args.words.now = omega arith in
+    let same = second_is string_bytes c.args.words.now _ _ lt c.index-words-1.is c.as_str.ensures.value in
+    c.run_sample.ensures.none (λ i has. none i (subst (λ x. HasSample x i) same has))

@@ -1,22 +1,32 @@
 //! Runs whose limit is chosen.
 use crate::run;
+use crate::writer::WatchedWriter;
+use hostile_streams::PieceReader;
 use std::alloc::AllocError;
 use std::fs;
 use std::test::Fail;
 
-/// The status of a run, and what it writes to each writer.
+/// The status of a run, what it writes to each writer, and how many reads of its input there were.
 fn over(
     rt: &HostRuntime,
     words: &[&str],
     input: &[u8],
-) -> Result<(u8, Vec<u8>, Vec<u8>), AllocError> {
+) -> Result<(u8, Vec<u8>, Vec<u8>, u32), AllocError> {
     let mut list = Vec::new(rt.alloc());
     for word in words {
         list.push(String::from_str(rt.alloc(), *word)?)?;
     }
     let (mut out, mut err) = (Vec::new(rt.alloc()), Vec::new(rt.alloc()));
-    let outcome = run(rt, rt.alloc(), list.as_slice(), input, &mut out, &mut err);
-    Ok((outcome.status(), out, err))
+    let mut reader = PieceReader::new(input, 4);
+    let outcome = run(
+        rt,
+        rt.alloc(),
+        list.as_slice(),
+        &mut reader,
+        &mut WatchedWriter::new(&mut out),
+        &mut err,
+    );
+    Ok((outcome.status(), out, err, reader.reads))
 }
 
 #[test]
@@ -78,6 +88,7 @@ fn standard_input(rt: HostRuntime) -> Result<(), Fail> {
         assert_eq!(rt; found.0, *status, "case {i}");
         assert_eq!(rt; found.1.as_slice(), *out, "case {i}");
         assert_eq!(rt; found.2.as_slice(), *err, "case {i}");
+        assert_eq!(rt; found.3 > 0, *status < 2, "case {i}");
     }
     Ok(())
 }
@@ -103,14 +114,14 @@ fn late_document(rt: &HostRuntime) -> Result<Vec<u8>, AllocError> {
 #[test]
 fn paths(rt: HostRuntime) -> Result<(), Fail> {
     fs::write(&rt, "late.doc", late_document(&rt)?.as_slice())?;
-    let (status, out, err) = over(&rt, &["late.doc"], b"")?;
+    let (status, out, err, _) = over(&rt, &["late.doc"], b"")?;
     assert_eq!(rt; status, 0);
     assert_eq!(rt;
         out.as_slice(),
         b"late.doc: application/x-ole-storage msi\n".as_slice()
     );
     let words = ["--front", "16384", "late.doc", "--front"];
-    let (limited, lines, faults) = over(&rt, &words, b"")?;
+    let (limited, lines, faults, _) = over(&rt, &words, b"")?;
     assert_eq!(rt; limited, 2);
     assert_eq!(rt;
         lines.as_slice(),

@@ -1,6 +1,7 @@
 //! Lines and outcomes of one input, and each fault.
 use crate::outcome::Outcome;
 use crate::report::{report, run_path, run_reader};
+use crate::writer::WatchedWriter;
 use hostile_streams::{PieceReader, PieceWriter};
 use infer::{Fault, get};
 use linked_list_allocator::LocalHeap;
@@ -15,7 +16,13 @@ const JPEG: [u8; 4] = [0xFF, 0xD8, 0xFF, 0xAA];
 /// The outcome of a run over a reader, and what it wrote to each writer.
 fn written<R: Read + Drop>(alloc: Global, reader: R) -> (Outcome, Vec<u8>, Vec<u8>) {
     let (mut out, mut err) = (Vec::new(alloc), Vec::new(alloc));
-    let outcome = run_reader(alloc, "-", reader, &mut out, &mut err);
+    let outcome = run_reader(
+        alloc,
+        "-",
+        reader,
+        &mut WatchedWriter::new(&mut out),
+        &mut err,
+    );
     (outcome, out, err)
 }
 
@@ -150,9 +157,11 @@ fn each_write_fails_in_turn<R: AllocGlobal + Abort>(
     for fails_at in 0..100u32 {
         let mut err = PieceWriter::new(piece);
         let mut out = PieceWriter::failing(piece, fails_at);
-        let reported = report("-", Ok(get(input)), &mut out, &mut err).status();
+        let watched = &mut WatchedWriter::new(&mut out);
+        let reported = report("-", Ok(get(input)), watched, &mut err).status();
         let mut again = PieceWriter::failing(piece, fails_at);
-        let read = run_reader(rt.alloc(), "-", input, &mut again, &mut err).status();
+        let watched = &mut WatchedWriter::new(&mut again);
+        let read = run_reader(rt.alloc(), "-", input, watched, &mut err).status();
         assert_eq!(rt; again.taken(), out.taken());
         assert!(rt; err.taken().is_empty());
         if !out.has_failed() {
@@ -179,7 +188,8 @@ fn a_fault_that_cannot_be_told(rt: HostRuntime) {
     for fails_at in 0..20u32 {
         let mut out = PieceWriter::new(1);
         let mut err = PieceWriter::failing(1, fails_at);
-        let outcome = report("-", Err(Fault::Memory), &mut out, &mut err);
+        let watched = &mut WatchedWriter::new(&mut out);
+        let outcome = report("-", Err(Fault::Memory), watched, &mut err);
         assert_eq!(rt; outcome.status(), 2);
         assert!(rt; out.taken().is_empty());
     }
@@ -193,8 +203,9 @@ fn each_request_is_refused_in_turn(rt: HostRuntime) -> Result<(), Fail> {
         let heap = LocalHeap::new(rt.alloc(), 16 * step)?;
         let (mut out, mut err) = (PieceWriter::new(512), PieceWriter::new(512));
         let mut reader = PieceReader::new(&JPEG, 4);
-        let read = run_reader(&heap, "-", &mut reader, &mut out, &mut err).status();
-        let opened = run_path(&rt, &heap, "refused.jpg", &mut out, &mut err).status();
+        let watched = &mut WatchedWriter::new(&mut out);
+        let read = run_reader(&heap, "-", &mut reader, watched, &mut err).status();
+        let opened = run_path(&rt, &heap, "refused.jpg", watched, &mut err).status();
         assert_eq!(rt; heap.used(), 0);
         answered = read == 0;
         if answered {
@@ -222,7 +233,8 @@ fn each_request_is_refused_in_turn(rt: HostRuntime) -> Result<(), Fail> {
 fn a_path_is_the_name(rt: HostRuntime) -> Result<(), Fail> {
     fs::write(&rt, "named.jpg", &JPEG)?;
     let (mut out, mut err) = (Vec::new(rt.alloc()), Vec::new(rt.alloc()));
-    let outcome = run_path(&rt, rt.alloc(), "named.jpg", &mut out, &mut err);
+    let watched = &mut WatchedWriter::new(&mut out);
+    let outcome = run_path(&rt, rt.alloc(), "named.jpg", watched, &mut err);
     fs::remove_file(&rt, "named.jpg")?;
     assert_eq!(rt; outcome.status(), 0);
     assert_eq!(rt; out.as_slice(), b"named.jpg: image/jpeg jpg\n".as_slice());

@@ -1,6 +1,7 @@
 //! Runs over words, and over standard input where there are none.
 use crate::outcome::Outcome;
-use crate::{LINE_BUFFER, USAGE, flushed, run};
+use crate::writer::WatchedWriter;
+use crate::{LINE_BUFFER, USAGE, flush, run};
 use hostile_streams::{PieceReader, PieceWriter};
 use linked_list_allocator::LocalHeap;
 use std::alloc::AllocError;
@@ -28,7 +29,7 @@ fn over(rt: &HostRuntime, paths: &[&str]) -> Result<(Done, u32), AllocError> {
         rt.alloc(),
         words.as_slice(),
         &mut input,
-        &mut out,
+        &mut WatchedWriter::new(&mut out),
         &mut err,
     );
     Ok(((outcome.status(), out, err), input.reads))
@@ -101,9 +102,17 @@ fn over_two<R: Files + AllocGlobal + Abort, W: Write>(
         String::from_str(rt.alloc(), "f.bin")?,
     ];
     let mut err = PieceWriter::new(512);
-    let outcome = run(rt, rt.alloc(), &words, b"".as_slice(), out, &mut err);
+    let mut watched = WatchedWriter::new(out);
+    let outcome = run(
+        rt,
+        rt.alloc(),
+        &words,
+        b"".as_slice(),
+        &mut watched,
+        &mut err,
+    );
     assert!(rt; err.taken().is_empty());
-    Ok(flushed(outcome, out).status())
+    Ok(flush(outcome, &mut watched).status())
 }
 
 /// Whether these are the two lines, with an end missing of just one.
@@ -227,17 +236,19 @@ fn memory_for_a_run(rt: HostRuntime) -> Result<(), Fail> {
     let words = [String::from_str(rt.alloc(), "d.bin")?];
     let (mut out, mut err) = (Vec::new(rt.alloc()), Vec::new(rt.alloc()));
     let small = LocalHeap::new(rt.alloc(), 4096)?;
-    let outcome = run(&rt, &small, &words, JPEG.as_slice(), &mut out, &mut err);
-    assert_eq!(rt; outcome.status(), 2);
-    let outcome = run(&rt, &small, &[], JPEG.as_slice(), &mut out, &mut err);
-    assert_eq!(rt; outcome.status(), 2);
+    for words in [words.as_slice(), [].as_slice()] {
+        let watched = &mut WatchedWriter::new(&mut out);
+        let outcome = run(&rt, &small, words, JPEG.as_slice(), watched, &mut err);
+        assert_eq!(rt; outcome.status(), 2);
+    }
     assert!(rt; out.is_empty());
     assert_eq!(rt;
         err.as_slice(),
         b"d.bin: no memory\n-: no memory\n".as_slice()
     );
     let ample = LocalHeap::new(rt.alloc(), 16384)?;
-    let outcome = run(&rt, &ample, &words, JPEG.as_slice(), &mut out, &mut err);
+    let watched = &mut WatchedWriter::new(&mut out);
+    let outcome = run(&rt, &ample, &words, JPEG.as_slice(), watched, &mut err);
     assert_eq!(rt; outcome.status(), 0);
     assert_eq!(rt; out.as_slice(), b"d.bin: image/jpeg jpg\n".as_slice());
     fs::remove_file(&rt, "d.bin")?;
@@ -246,13 +257,14 @@ fn memory_for_a_run(rt: HostRuntime) -> Result<(), Fail> {
 
 #[test]
 fn a_failed_flush_is_a_failure(rt: HostRuntime) {
-    let (mut out, mut err) = (PieceWriter::without_flush(), PieceWriter::new(512));
+    let mut out = WatchedWriter::new(PieceWriter::without_flush());
+    let mut err = PieceWriter::new(512);
     let outcome = run(&rt, rt.alloc(), &[], JPEG.as_slice(), &mut out, &mut err);
     assert_eq!(rt; outcome.status(), 0);
-    assert_eq!(rt; flushed(outcome, &mut out).status(), 2);
-    let mut out = PieceWriter::new(512);
-    assert_eq!(rt; flushed(outcome, &mut out).status(), 0);
-    assert_eq!(rt; flushed(Outcome::Unknown, &mut out).status(), 1);
+    assert_eq!(rt; flush(outcome, &mut out).status(), 2);
+    let mut out = WatchedWriter::new(PieceWriter::new(512));
+    assert_eq!(rt; flush(outcome, &mut out).status(), 0);
+    assert_eq!(rt; flush(Outcome::Unknown, &mut out).status(), 1);
 }
 
 #[test]

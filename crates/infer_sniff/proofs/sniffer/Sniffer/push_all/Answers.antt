@@ -1,12 +1,12 @@
 use Rattle.std.proofs.Common.{◌≡◌, ◌++◌, List, ℕ, [], take, sym, subst}
 use Rattle.std.proofs.lemmas.List.{append-nil}
-use Rattle.infer_sniff.specs.Verdicts.{IsVerdict, Lasts}
+use Rattle.infer_sniff.specs.Verdicts.{IsVerdict, StaysFinal}
 use Rattle.infer_sniff.proofs.KeptLemmas.{front_alone, front_more, grown_more}
 use Rattle.infer_sniff.proofs.sniffer.Sniffer.push_all.Goals as goal
 
 pub loop-piece-init : goal.loop-piece-init
 loop-piece-init g c =
-    subst (λ u. (u ≡ take 8192 (u ++ [])) × ((added : List ℕ) × (u ≡ u ++ added)) × IsVerdict u c.self.inside.verdict × Lasts u c.self.inside.verdict) c.self.view_is
+    subst (λ u. (u ≡ take 8192 (u ++ [])) × ((added : List ℕ) × (u ≡ u ++ added)) × IsVerdict u c.self.inside.verdict × StaysFinal u c.self.inside.verdict) c.self.view_is
     (front_alone 8192 c.self.inside.bytes.items c.self.invariant.few, ([], sym (append-nil c.self.inside.bytes.items)), c.self.invariant.judged, c.self.invariant.lasts)
 
 pub loop-piece-preserved : goal.loop-piece-preserved

@@ -2,10 +2,10 @@
 use Rattle.std.proofs.Common.{◌≡◌, ◌++◌, ℕ, List, map, take}
 use Rattle.std.specs.List.{concat}
 use Rattle.infer.specs.Buffer.{head}
-use Rattle.infer_sniff.specs.Verdicts.{IsVerdict, Lasts}
+use Rattle.infer_sniff.specs.Verdicts.{IsVerdict, StaysFinal}
 use Rattle.infer_sniff.proofs.sniffer.Sniffer.push_all.Given as goal
 
 abbrev pub invariant-loop-piece : goal.invariant-loop-piece
 invariant-loop-piece g l =
     (l.self ≡ head 8192 (l.initial.self ++ concat (map (λ piece. piece.now) (take l.piece-index l.pieces))))
-    × ((added : List ℕ) × (l.self ≡ l.initial.self ++ added)) × IsVerdict l.self l.verdict × Lasts l.self l.verdict
+    × ((added : List ℕ) × (l.self ≡ l.initial.self ++ added)) × IsVerdict l.self l.verdict × StaysFinal l.self l.verdict

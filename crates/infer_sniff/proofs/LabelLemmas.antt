@@ -1,0 +1,39 @@
+-- What the bytes that were read tell of the front of all that there was to read.
+use Rattle.std.proofs.Common.{◌≡◌, ℕ, ◌+◌, ◌-◌, ◌<◌, ◌≤◌, ◌⊎◌, List, [], ◌++◌, Option, None, Some, IfSome, length, take, sym, ap, subst, ◌∙◌, arith, inl, inr}
+use Rattle.std.proofs.Math.Seq.{take-append-add}
+use Rattle.std.proofs.lemmas.Bool.{cases_lt}
+use Rattle.std.proofs.lemmas.List.{append-nil, take_all}
+use Rattle.std.specs.Io.KnownBytes.{Consumes, IsAtEnd}
+use Rattle.infer.specs.declared.table.file_type.FileType.{FileType}
+use Rattle.infer_sniff.specs.Verdicts.{IsSettled, IsTypeOf, IsVerdict, StaysFinal, found_of}
+use Rattle.infer_sniff.specs.declared.verdict.Verdict.{Verdict}
+use Rattle.infer_sniff.specs.declared.verdict.Verdict.TheVariants.{SoFar, Final}
+
+module _ (n : ℕ) (b : List ℕ) (few : length b ≤ n) where
+  front_behind : (rest : List ℕ) → take n (b ++ rest) ≡ b ++ take (n - length b) rest
+  front_behind rest =
+      ap (λ k. take k (b ++ rest)) (let e : n ≡ length b + (n - length b) = omega arith in e) ∙ take-append-add b rest (n - length b)
+
+  tells : (v : Verdict) (rest : List ℕ) → IsVerdict b v → StaysFinal b v → (length b < n → (rest ≡ []) ⊎ IsSettled b)
+      → IsTypeOf (take n (b ++ rest)) (found_of v)
+  tells (Final found) rest is stays end = subst (λ u. IsTypeOf u found) (sym (front_behind rest)) (stays (take (n - length b) rest)).0
+  tells (SoFar found) rest is stays end =
+      let none : take (n - length b) rest ≡ [] = elim (cases_lt (length b) n) [
+        | inl l ↦ elim (end l) [ inl e ↦ ap (take (n - length b)) e ∙ take_all (n - length b) [] (omega arith) | inr settled ↦ absurd (is.0 settled) ]
+        | inr full ↦ ap (λ k. take k rest) (let e : n - length b ≡ 0 = omega arith in e)
+      ] in
+      subst (λ u. IsTypeOf u found) (sym (front_behind rest ∙ ap (λ u. b ++ u) none ∙ append-nil b)) is.1
+
+  of_front : (v : Verdict) (given left : Option (List ℕ)) → IsVerdict b v → StaysFinal b v → Consumes given left b
+      → (length b < n → IsAtEnd left ⊎ IsSettled b) → IfSome given (λ s. IsTypeOf (take n s) (found_of v))
+  of_front v None left is stays h end = tt
+  of_front v (Some s) None is stays h end = absurd h
+  of_front v (Some s) (Some rest) is stays h end = subst (λ u. IsTypeOf (take n u) (found_of v)) (sym h) (tells v rest is stays end)
+
+-- where the reader is at its end, or there are n bytes, or the verdict is final
+pub front-from_read : (n : ℕ) (read b : List ℕ) (v : Verdict) (found : Option FileType) (given left : Option (List ℕ)) → read ≡ b → found ≡ found_of v
+    → length b ≤ n → IsVerdict read v → StaysFinal read v → Consumes given left b → (length b < n → IsAtEnd left ⊎ IsSettled b)
+    → IfSome given (λ s. IsTypeOf (take n s) found)
+front-from_read n read b v found given left same shown few is stays h end =
+    subst (λ o. IfSome given (λ s. IsTypeOf (take n s) o)) (sym shown)
+    (of_front n b few v given left (subst (λ u. IsVerdict u v) same is) (subst (λ u. StaysFinal u v) same stays) h end)

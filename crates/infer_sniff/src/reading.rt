@@ -1,0 +1,47 @@
+//! The type of what a reader gives, of which no more is read than it takes to tell it.
+ghost use Rattle.std.specs.Prelude.{◌≡◌, ◌≤◌, ℕ, List, None, IfOk, IfSome, IsErrOf, OnErr, length};
+ghost use Rattle.infer.specs.Buffer.{IsBuffer, head};
+ghost use Rattle.infer.specs.Fault.{OpensNothing, read_fault};
+ghost use Rattle.infer.specs.Watched.{Loses, fault_of, inner};
+ghost use Rattle.infer_sniff.specs.Verdicts.{IsSettled, IsTypeOf};
+
+use crate::position::position_settled;
+use crate::verdict::verdict_of;
+use infer::{Enough, FRONT, Fault, Type, Watched, read_until};
+use std::alloc::Allocator;
+use std::io::Read;
+
+/// How many bytes are read at once: no verdict is final before.
+const PIECE: usize = 1024;
+
+/// Bytes are enough where their verdict is final.
+struct Settled;
+
+impl Enough for Settled {
+    ghost suffices = { λ _ bytes. IsSettled bytes };
+
+    fn is_enough(&self, bytes: &[u8]) -> bool {
+        position_settled(bytes).1
+    }
+}
+
+/// The type of the first 8192 bytes of a reader, or of all where it has fewer. It reads 1024 bytes at a time, and no
+/// read follows one after which the verdict is final.
+///
+/// It reserves 8192 bytes first. `Memory` means that these were refused and nothing was read, `Read` that a read
+/// failed; it is never `Open`.
+pub fn label<A: Allocator, R: Read>(
+    alloc: A,
+    reader: &mut Watched<R>,
+) -> Result<Option<Type>, Fault>
+    requires { fault_of reader.old ≡ None }
+    ensures answer { IfOk result (λ found. IfSome (R.remaining (inner reader.old)) (λ s. IsTypeOf (head FRONT s) found)) }
+    ensures some_bytes { IfOk result (λ found. (b : List ℕ) × IsBuffer b × (length b ≤ FRONT) × IsTypeOf b found) }
+    ensures fault { fault_of reader.new ≡ read_fault result }
+    ensures memory { IsErrOf result Fault.Memory → reader.new ≡ reader.old }
+    ensures opens_nothing { OpensNothing result }
+    ensures lost { OnErr result (Loses FRONT (R.remaining (inner reader.old)) (R.remaining (inner reader.new))) }
+{
+    let bytes = read_until(alloc, reader, FRONT, PIECE, &Settled)?;
+    Ok(verdict_of(bytes.as_slice()).found())
+}

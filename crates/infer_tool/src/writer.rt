@@ -1,0 +1,77 @@
+//! A writer that remembers whether a write of it failed.
+ghost use Rattle.std.specs.Prelude.{◌≡◌, IfSome, IsTrue, OnErr, OnOk, false};
+ghost use Rattle.std.specs.Bool.{OnFalse};
+ghost use Rattle.std.specs.Io.KnownBytes.{Appends, Keeps};
+ghost use Rattle.infer_tool.specs.Writer.{has_failed, inner};
+
+use std::fmt::Display;
+use std::io::{self, Write};
+
+/// A writer that remembers whether a write or a flush of it failed.
+///
+/// No other code can set that, so where it tells of a failure there was one.
+#[derive(Drop)]
+pub struct WatchedWriter<W: Write> {
+    writer: W,
+    has_failed: bool,
+}
+
+impl<W: Write> WatchedWriter<W> {
+    /// Watches `writer`, of which no write has failed.
+    pub fn new(writer: W) -> WatchedWriter<W>
+        ensures writer { inner result ≡ writer }
+        ensures failed { has_failed result ≡ false }
+    {
+        WatchedWriter {
+            writer,
+            has_failed: false,
+        }
+    }
+
+    /// Writes a text, as `write!` and `writeln!` call it.
+    pub fn write_fmt<D: Display + Drop>(&mut self, text: D)
+        ensures bytes { OnFalse (has_failed self.new) (IfSome (D.output text)
+            (Appends (W.contents (inner self.old)) (W.contents (inner self.new)))) }
+        ensures remembers { IsTrue (has_failed self.old) → IsTrue (has_failed self.new) }
+    {
+        let done = self.writer.write_fmt(text);
+        self.note(done);
+    }
+
+    /// Writes bytes.
+    pub fn write_all(&mut self, bytes: &[u8])
+        ensures bytes { OnFalse (has_failed self.new)
+            (Appends (W.contents (inner self.old)) (W.contents (inner self.new)) bytes.now) }
+        ensures remembers { IsTrue (has_failed self.old) → IsTrue (has_failed self.new) }
+    {
+        let done = self.writer.write_all(bytes);
+        self.note(done);
+    }
+
+    /// Writes out what a buffer holds.
+    pub fn flush(&mut self)
+        ensures bytes { Keeps (W.contents (inner self.old)) (W.contents (inner self.new)) }
+        ensures remembers { IsTrue (has_failed self.old) → IsTrue (has_failed self.new) }
+    {
+        let done = self.writer.flush();
+        self.note(done);
+    }
+
+    /// Remembers a failure, and nothing else.
+    fn note(&mut self, done: io::Result<()>)
+        ensures failed { OnErr done (IsTrue (has_failed self.new)) }
+        ensures kept { OnOk done (has_failed self.new ≡ has_failed self.old) }
+        ensures writer { inner self.new ≡ inner self.old }
+    {
+        if done.is_err() {
+            self.has_failed = true;
+        }
+    }
+
+    /// Whether a write or a flush has failed.
+    pub fn has_failed(&self) -> bool
+        ensures { result ≡ has_failed self.now }
+    {
+        self.has_failed
+    }
+}
