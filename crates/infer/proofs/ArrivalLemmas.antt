@@ -1,35 +1,32 @@
 -- What more bytes can bring to a buffer of at least 1024 bytes.
-use Rattle.std.proofs.Common.{◌≡◌, ◌<◌, ◌≤◌, ◌+◌, ◌-◌, ◌⊎◌, ◌&&◌, ◌∙◌, ℕ, suc, Bool, true, List, ◌++◌, length, leb, refl, subst, inl, inr, arith, IsTrue, length-append, get_or}
+use Rattle.std.proofs.Common.{◌≡◌, ◌<◌, ◌≤◌, ◌+◌, ◌-◌, ◌⊎◌, ◌∙◌, ℕ, suc, List, ◌++◌, length, refl, subst, inl, inr, arith, IsTrue, length-append, get_or}
 use Rattle.std.specs.List.{list_all, range_with_len}
-use Rattle.std.proofs.lemmas.Bool.{and_parts, leb-true}
 use Rattle.std.proofs.lemmas.List.{take-append-le}
 use Rattle.std.proofs.lemmas.List.FromFn.{get_or-range_with_len, length-range_with_len}
 use Rattle.std.proofs.lemmas.List.Sums.{AllPass-from_list_all}
 use Rattle.infer_sig.specs.Signature.{Alternative}
 use Rattle.infer_sig.specs.Laws as Fixed
 use Rattle.infer_deep.specs.Laws as Deep
-use Rattle.infer.specs.Arrivals.{IsAwaited, last_awaited, NewcomersAreAwaited}
-use Rattle.infer.specs.BuiltIn.{BuiltIn, fixed, avif, doc, framed, heif, html, matroska, office, pdf, ppt, xls, xml, IsAccepted}
+use Rattle.infer.specs.Arrivals.{IsAwaited, last_awaited, Comes, NewcomersAreAwaited}
+use Rattle.infer.specs.BuiltIn.{BuiltIn, avif, doc, framed, heif, html, office, ppt, xls, xml, IsAccepted}
 use Rattle.infer.specs.Matchers.{IsNear}
 use Rattle.infer.specs.Table.{signature_of, table}
 use Rattle.infer.specs.declared.table.rows.TheConstants.{ROW_COUNT}
-use Rattle.infer.proofs.KnownLemmas.{Known, proved, is_proved, proof_of, takes, ◌>>=◌}
-use Rattle.infer.proofs.LawLemmas.{every_near, is_within}
+use Rattle.infer.proofs.KnownLemmas.{Known, proved, is_proved, proof_of, proved_if, at_most, takes, ◌>>=◌}
+use Rattle.infer.proofs.LawLemmas.{known_near}
 use Rattle.infer.proofs.OrderLemmas.{exclusion}
 use Rattle.infer.proofs.TestLemmas.{NoneRefused, passed}
 
--- it is known how a buffer begins to which more bytes can bring the signature
-abbrev is_known : BuiltIn → Bool
-is_known (fixed alternatives) = is_within (fixed alternatives)
-is_known (framed magic) = leb (length magic) 4
-is_known (office folder) = leb (length folder) 5
-is_known s = true
+-- a claim of each of n numbers from s on
+module _ {P : ℕ → Type 0} (known : (k : ℕ) → Known (P k)) (s n : ℕ) where
+  pub range_proved : IsTrue (list_all (λ k. is_proved (known k)) (range_with_len s n)) → (k : ℕ) → s ≤ k → k < s + n → P k
+  range_proved e k low high =
+      let at : get_or (range_with_len s n) (k - s) 0 ≡ k = get_or-range_with_len s n (k - s) 0 (omega arith) ∙ (omega arith) in
+      let test = AllPass-from_list_all (λ j. is_proved (known j)) (range_with_len s n) e (k - s) 0 (omega (arith, length-range_with_len s n)) in
+      proof_of (known k) (subst (λ j. IsTrue (is_proved (known j))) at test)
 
--- a test of n numbers from s on
-in_range : (test : ℕ → Bool) (s n k : ℕ) → IsTrue (list_all test (range_with_len s n)) → s ≤ k → k < s + n → IsTrue (test k)
-in_range test s n k e low high =
-    let at : get_or (range_with_len s n) (k - s) 0 ≡ k = get_or-range_with_len s n (k - s) 0 (omega arith) ∙ (omega arith) in
-    subst (λ j. IsTrue (test j)) at (AllPass-from_list_all test (range_with_len s n) e (k - s) 0 (omega (arith, length-range_with_len s n)))
+  abbrev each_between : Known ((k : ℕ) → s ≤ k → k < s + n → P k)
+  each_between = proved_if (list_all (λ k. is_proved (known k)) (range_with_len s n)) range_proved
 
 module _ (fixed_near : (n : ℕ) (s : List Alternative) → IsTrue (Fixed.is_within n s) → Fixed.IsNear n s) (deep_near : Deep.Near)
     (arrivals : Deep.Arrivals) (exclude : Deep.Apart) (b more : List ℕ) (long : 1024 ≤ length b) where
@@ -38,20 +35,28 @@ module _ (fixed_near : (n : ℕ) (s : List Alternative) → IsTrue (Fixed.is_wit
       let front = (near (b ++ more) (omega (arith, length-append b more))).0 h in
       (near b long).1 (subst (IsAccepted s) (take-append-le 1024 b more long) front)
 
-  comes : (s : BuiltIn) → IsTrue (is_known s) → IsAccepted s (b ++ more) → IsAccepted s b ⊎ IsAwaited s b
-  comes (fixed alternatives) e h = inl (before (fixed alternatives) (every_near fixed_near deep_near (fixed alternatives) e) h)
-  comes pdf e h = inl (before pdf deep_near.pdf h)
-  comes (matroska doc_type) e h = inl (before (matroska doc_type) (deep_near.matroska doc_type) h)
-  comes (framed magic) e h = arrivals.framed magic (leb-true (length magic) 4 e) b more long h
-  comes heif e h = arrivals.heif b more long h
-  comes avif e h = arrivals.avif b more long h
-  comes (office folder) e h = arrivals.office folder (leb-true (length folder) 5 e) b more long h
-  comes doc e h = arrivals.class_id _ b more long h
-  comes xls e (inl h) = elim (arrivals.class_id _ b more long h) [ inl here ↦ inl (inl here) | inr begins ↦ inr begins ]
-  comes xls e (inr h) = elim (arrivals.class_id _ b more long h) [ inl here ↦ inl (inr here) | inr begins ↦ inr begins ]
-  comes ppt e h = arrivals.class_id _ b more long h
-  comes html e h = arrivals.html b more long h
-  comes xml e h = arrivals.xml b more long h
+  either_id : IsAccepted xls (b ++ more) → IsAccepted xls b ⊎ IsAwaited xls b
+  either_id (inl h) = elim (arrivals.class_id _ b more long h) [ inl here ↦ inl (inl here) | inr begins ↦ inr begins ]
+  either_id (inr h) = elim (arrivals.class_id _ b more long h) [ inl here ↦ inl (inr here) | inr begins ↦ inr begins ]
+
+  -- how the buffer begins, if more bytes bring the signature
+  abbrev comes : (s : BuiltIn) → Known (IsAccepted s (b ++ more) → IsAccepted s b ⊎ IsAwaited s b)
+  comes (framed magic) = do
+    short ← takes (at_most (length magic) 4)
+    proved (arrivals.framed magic short b more long)
+  comes heif = proved (arrivals.heif b more long)
+  comes avif = proved (arrivals.avif b more long)
+  comes (office folder) = do
+    short ← takes (at_most (length folder) 5)
+    proved (arrivals.office folder short b more long)
+  comes doc = proved (arrivals.class_id _ b more long)
+  comes xls = proved either_id
+  comes ppt = proved (arrivals.class_id _ b more long)
+  comes html = proved (arrivals.html b more long)
+  comes xml = proved (arrivals.xml b more long)
+  comes s = do
+    near ← takes (known_near fixed_near deep_near s)
+    proved (λ h. inl (before s near h))
 
   -- what more bytes bring is not with the other
   abbrev IsAlone : BuiltIn → BuiltIn → Type 0
@@ -65,24 +70,21 @@ module _ (fixed_near : (n : ℕ) (s : List Alternative) → IsTrue (Fixed.is_wit
     apart ← takes (exclusion exclude t s)
     proved (λ accepted refused here there. apart (b ++ more) there accepted)
 
-  abbrev is_ruled : ℕ → Bool
-  is_ruled i =
-      is_known (signature_of i)
-      && list_all (λ k. is_proved (rival (signature_of i) (signature_of k))) (range_with_len (suc i) (last_awaited (signature_of i) - i))
+  abbrev newcomer : (i : ℕ) → Known (IsAccepted (signature_of i) (b ++ more) → (¬ IsAccepted (signature_of i) b) → Comes i b more)
+  newcomer i = do
+    brought ← takes (comes (signature_of i))
+    alone ← takes (each_between (λ k. rival (signature_of i) (signature_of k)) (suc i) (last_awaited (signature_of i) - i))
+    proved (λ accepted refused. record {
+      awaited = elim (brought accepted) [ inl here ↦ absurd (refused here) | inr awaited ↦ awaited ];
+      alone = λ k low high. alone k low (omega arith) accepted refused;
+    })
 
-  all_ruled : NoneRefused is_ruled ROW_COUNT 0 8
+  all_newcomers : NoneRefused (λ i. is_proved (newcomer i)) ROW_COUNT 0 8
   unfolding table signature_of
-  all_ruled = (refl, (refl, (refl, (refl, (refl, (refl, (refl, (refl, tt))))))))
+  all_newcomers = (refl, (refl, (refl, (refl, (refl, (refl, (refl, (refl, tt))))))))
 
 pub newcomers_are_awaited : ((n : ℕ) (s : List Alternative) → IsTrue (Fixed.is_within n s) → Fixed.IsNear n s) → Deep.Near
     → Deep.Arrivals → Deep.Apart → NewcomersAreAwaited
-newcomers_are_awaited fixed_near deep_near arrivals exclude b more long i lt accepted refused =
-    let s = signature_of i in
-    let alone = rival fixed_near deep_near arrivals exclude b more long s in
-    let ruled = and_parts (is_known s) _ (passed (is_ruled fixed_near deep_near arrivals exclude b more long) ROW_COUNT 8 (all_ruled fixed_near deep_near arrivals exclude b more long) (omega arith) i lt) in
-    record {
-      awaited = elim (comes fixed_near deep_near arrivals exclude b more long s ruled.0 accepted) [ inl here ↦ absurd (refused here) | inr awaited ↦ awaited ];
-      alone = λ k low high here there.
-          let test = in_range (λ j. is_proved (alone (signature_of j))) (suc i) (last_awaited s - i) k ruled.1 low (omega arith) in
-          proof_of (alone (signature_of k)) test accepted refused here there;
-    }
+newcomers_are_awaited fixed_near deep_near arrivals exclude b more long i lt =
+    let known = newcomer fixed_near deep_near arrivals exclude b more long in
+    proof_of (known i) (passed (λ j. is_proved (known j)) ROW_COUNT 8 (all_newcomers fixed_near deep_near arrivals exclude b more long) (omega arith) i lt)

@@ -1,15 +1,12 @@
 -- For each of the twelve rows a buffer that has it as its first, and whose first 1024 bytes have another answer.
-use Rattle.std.proofs.Common.{◌≢◌, ◌+◌, ◌<◌, ◌||◌, ℕ, Bool, not, List, [], ◌∷◌, ◌++◌, Option, None, Some, get_or, length, take, eqb, ltb, eq-eqb, IsTrue, refl, codes, inl, inr, arith}
-use Rattle.std.specs.List.{list_all}
-use Rattle.std.proofs.lemmas.Bool.{cases_lt, or_cases, ltb-true}
-use Rattle.std.proofs.lemmas.List.Sums.{AllPass-from_list_all}
-use Rattle.std.proofs.lemmas.Option.{none-some, slice_get_past}
+use Rattle.std.proofs.Common.{le_refl, zero-le, suc, ◌⊎◌, ◌≢◌, ◌+◌, ◌<◌, ℕ, not, List, [], ◌∷◌, ◌++◌, Option, None, Some, length, take, IsTrue, refl, codes, inl, inr, arith}
+use Rattle.std.proofs.lemmas.Bool.{cases_lt}
+use Rattle.std.proofs.lemmas.Option.{none-some, same_Some, slice_get_past}
 use Rattle.infer_deep.specs.ClassId.{compound_header, word_id, old_excel_id, powerpoint_id}
 use Rattle.infer_deep.specs.Laws as Deep
 use Rattle.infer_deep.specs.Numbers.{le16, le32, be32}
 use Rattle.infer_deep.specs.Office.{zip_header}
 use Rattle.infer_sig.specs.Signature.{stands}
-use Rattle.infer.specs.Buffer.{IsBuffer}
 use Rattle.infer.specs.BuiltIn.{BuiltIn, framed, heif, avif, office, doc, xls, ppt, html, xml}
 use Rattle.infer.specs.Laws.{Breaks}
 use Rattle.infer.specs.Matchers.{is_of_the_twelve}
@@ -17,7 +14,7 @@ use Rattle.infer.specs.Samples.{put, sample_of, zeros}
 use Rattle.infer.specs.Table.{signature_of, table}
 use Rattle.infer.specs.declared.table.rows.TheConstants.{MSI, ROW_COUNT, ZIP}
 use Rattle.infer.proofs.DecisionLemmas.{behind, long_frame, space}
-use Rattle.infer.proofs.KnownLemmas.{Known, proved, is_proved, proof_of, proved_if, takes, ◌>>=◌}
+use Rattle.infer.proofs.KnownLemmas.{Known, proved, is, is_proved, proof_of, same, at_most, negated, either, each_before, takes, ◌>>=◌}
 use Rattle.infer.proofs.OrderLemmas.{known_first, some_row}
 use Rattle.infer.proofs.PlaceLemmas.{ByPlace, not_both}
 use Rattle.infer.proofs.TableLemmas.{length-table}
@@ -53,32 +50,26 @@ late html = (behind 1024 space (sample_of html), None)
 late xml = (behind 1024 space (sample_of xml), None)
 late s = ([], None)
 
-is_buffer : (b : List ℕ) → IsTrue (list_all (λ x. ltb x 256) b) → IsBuffer b
-is_buffer b e k d lt = ltb-true (get_or b k d) 256 (AllPass-from_list_all (λ x. ltb x 256) b e k d lt)
-
-other_row : (i j : ℕ) → IsTrue (not (eqb i j)) → Some j ≢ Some i
-other_row i j other e = not_both (eqb i j) (eq-eqb i j (cc)) other
-
 abbrev differs : (i : ℕ) (o : Option ℕ) → Known (o ≢ Some i)
 differs i None = proved (none-some i)
-differs i (Some j) = proved_if (not (eqb i j)) (other_row i j)
+differs i (Some j) = do
+  other ← takes (negated (same j i))
+  proved (λ e. other (same_Some j i e))
 
 module _ (by_place : ByPlace) (exclude : Deep.Apart) where
   abbrev breaks_with : (i : ℕ) (o : Option ℕ) (b : List ℕ) → Known (Breaks i b)
   breaks_with i o b = do
-    bytes ← takes (proved_if (list_all (λ x. ltb x 256) b) (is_buffer b))
+    bytes ← takes (each_before (λ x. at_most (suc x) 256) b (length b) (le_refl (length b)))
     first ← takes (known_first by_place exclude some_row (Some i) b)
     front_first ← takes (known_first by_place exclude some_row o (take 1024 b))
     other ← takes (differs i o)
-    proved (record { bytes = bytes; first = first; front = o; front_first = front_first; other = other })
+    proved (record { bytes = λ k d lt. bytes k d zero-le lt; first = first; front = o; front_first = front_first; other = other })
 
-  abbrev breaks : (i : ℕ) → Known (Breaks i (late (signature_of i)).0)
-  breaks i = breaks_with i (late (signature_of i)).1 (late (signature_of i)).0
+  -- the row is not one of the twelve, or its late buffer breaks
+  abbrev breaks : (i : ℕ) → Known (IsTrue (not (is_of_the_twelve i)) ⊎ Breaks i (late (signature_of i)).0)
+  breaks i = either (is (not (is_of_the_twelve i))) (breaks_with i (late (signature_of i)).1 (late (signature_of i)).0)
 
-  abbrev breaks_if : ℕ → Bool
-  breaks_if i = not (is_of_the_twelve i) || is_proved (breaks i)
-
-  all_break : NoneRefused breaks_if ROW_COUNT 0 8
+  all_break : NoneRefused (λ i. is_proved (breaks i)) ROW_COUNT 0 8
   unfolding table is_of_the_twelve signature_of stands le16 le32 be32
   all_break = (refl, (refl, (refl, (refl, (refl, (refl, (refl, (refl, tt))))))))
 
@@ -87,7 +78,7 @@ module _ (by_place : ByPlace) (exclude : Deep.Apart) where
   twelve_within i e = elim (cases_lt i ROW_COUNT) [ inl lt ↦ lt | inr over ↦ absurd (let past = slice_get_past table i (omega (arith, length-table)) in let none = rw past at e in cc) ]
 
   pub broken : (i : ℕ) → IsTrue (is_of_the_twelve i) → (buf : List ℕ) × Breaks i buf
-  broken i e = elim (or_cases (not (is_of_the_twelve i)) _ (passed breaks_if ROW_COUNT 8 all_break (omega arith) i (twelve_within i e))) [
+  broken i e = elim (proof_of (breaks i) (passed (λ j. is_proved (breaks j)) ROW_COUNT 8 all_break (omega arith) i (twelve_within i e))) [
     | inl other ↦ absurd (not_both (is_of_the_twelve i) e other)
-    | inr h ↦ ((late (signature_of i)).0, proof_of (breaks i) h)
+    | inr h ↦ ((late (signature_of i)).0, h)
   ]

@@ -1,9 +1,12 @@
 -- What a computation tells of a claim: a proof of it, a proof that it fails, or nothing.
-use Rattle.std.proofs.Common.{◌≡◌, ◌≤◌, ◌⊎◌, inl, inr, ℕ, Bool, true, false, List, eqb, leb, IsTrue, refl}
+use Rattle.std.proofs.Common.{◌≡◌, ◌≤◌, ◌<◌, ◌⊎◌, inl, inr, ℕ, Bool, true, false, List, eqb, leb, IsTrue, refl, length, take, get_or, subst, arith}
 use Rattle.std.specs.Bool.{Decides}
+use Rattle.std.specs.List.{AllWithin, list_all}
 use Rattle.std.specs.Str.{bytes_eq}
 use Rattle.std.proofs.lemmas.Bool.{leb-true, le-leb}
 use Rattle.std.proofs.lemmas.Bool.Decides.{Decides-eqb, not_from_Decides}
+use Rattle.std.proofs.lemmas.List.{get_or-take, length-take-le}
+use Rattle.std.proofs.lemmas.List.Sums.{AllPass-from_list_all}
 use Rattle.std.proofs.lemmas.Slice.Eq.{bytes_eq-Decides}
 
 pub data Known (P : Type 0) : Type 0 where
@@ -58,6 +61,11 @@ at_most m n = decided (leb m n) (leb-true m n, le-leb m n)
 abbrev pub same_text : (v w : List ℕ) → Known (v ≡ w)
 same_text v w = decided (bytes_eq v w) (bytes_eq-Decides v w)
 
+abbrev pub negated : {P : Type 0} → Known P → Known (¬ P)
+negated (proved p) = refuted (λ h. h p)
+negated (refuted h) = proved h
+negated unknown = unknown
+
 module _ {P Q : Type 0} where
   abbrev pub both : Known P → Known Q → Known (P × Q)
   both (proved p) (proved q) = proved (p, q)
@@ -70,6 +78,16 @@ module _ {P Q : Type 0} where
   either k (proved q) = proved (inr q)
   either (refuted h) (refuted g) = refuted (λ s. elim s [ inl p ↦ h p | inr q ↦ g q ])
   either h k = unknown
+
+-- a claim of each of the first n elements
+module _ {X : Type 0} {P : X → Type 0} (k : (x : X) → Known (P x)) (xs : List X) (n : ℕ) (within : n ≤ length xs) where
+  pub each_proved : IsTrue (list_all (λ x. is_proved (k x)) (take n xs)) → AllWithin P xs 0 n
+  each_proved e i d low lt =
+      let long : i < length (take n xs) = omega (arith, length-take-le n xs within) in
+      subst P (get_or-take n xs i d lt) (proof_of (k (get_or (take n xs) i d)) (AllPass-from_list_all (λ x. is_proved (k x)) (take n xs) e i d long))
+
+  abbrev pub each_before : Known (AllWithin P xs 0 n)
+  each_before = proved_if (list_all (λ x. is_proved (k x)) (take n xs)) each_proved
 
 -- a step on the way to Q: a claim P that Q needs, or one that helps to prove it
 pub data Step (P Q : Type 0) : Type 0 where

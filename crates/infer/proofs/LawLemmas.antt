@@ -1,13 +1,12 @@
 -- The laws of all matchers, from those of every signature.
-use Rattle.std.proofs.Common.{◌≡◌, ℕ, Bool, true, false, ◌||◌, List, [], length, get_or, refl, inl, inr, subst, sym, arith, IsTrue}
-use Rattle.std.proofs.lemmas.Bool.{or_cases}
-use Rattle.std.proofs.lemmas.List.{get_or_default}
+use Rattle.std.proofs.Common.{◌≡◌, ℕ, List, length, get_or, refl, ◌⊎◌, inl, inr, subst, sym, arith, IsTrue}
 use Rattle.infer_sig.specs.Signature.{Alternative}
 use Rattle.infer_sig.specs.Laws as Fixed
 use Rattle.infer_deep.specs.Laws as Deep
 use Rattle.infer.specs.BuiltIn.{BuiltIn, fixed, avif, doc, framed, heif, html, matroska, office, pdf, ppt, xls, xml}
 use Rattle.infer.specs.Matchers.{signatures, is_of_the_twelve, Lasts, IsNear, OthersAreNear}
 use Rattle.infer.specs.Table.{signature_of, table}
+use Rattle.infer.proofs.KnownLemmas.{Known, proved, unknown, is, either, is_proved, proof_of, proved_if}
 use Rattle.infer.proofs.PlaceLemmas.{not_both}
 use Rattle.infer.proofs.TestLemmas.{NoneRefused, passed}
 use Rattle.infer.specs.declared.table.rows.TheConstants.{MATCHER_COUNT}
@@ -30,35 +29,31 @@ every_lasts fixed_last deep_last ppt = deep_last.ppt
 every_lasts fixed_last deep_last html = deep_last.html
 every_lasts fixed_last deep_last xml = deep_last.xml
 
--- the test for a signature that the first 1024 bytes decide
-abbrev pub is_within : BuiltIn → Bool
-is_within (fixed alternatives) = Fixed.is_within 1024 alternatives
-is_within pdf = true
-is_within (matroska doc_type) = true
-is_within _ = false
+module _ (fixed_near : (n : ℕ) (s : List Alternative) → IsTrue (Fixed.is_within n s) → Fixed.IsNear n s) (deep_near : Deep.Near) where
+  pub fixed_is_near : (s : List Alternative) → IsTrue (Fixed.is_within 1024 s) → IsNear (fixed s)
+  fixed_is_near s within buf long = (
+    λ yes. subst (λ r. IsTrue r) (sym (fixed_near 1024 s within buf)) yes,
+    λ yes. subst (λ r. IsTrue r) (fixed_near 1024 s within buf) yes,
+  )
 
-pub every_near : ((n : ℕ) (s : List Alternative) → IsTrue (Fixed.is_within n s) → Fixed.IsNear n s) → Deep.Near
-    → (s : BuiltIn) → IsTrue (is_within s) → IsNear s
-every_near fixed_near deep_near (fixed alternatives) within = λ buf long. (
-  λ yes. subst (λ r. IsTrue r) (sym (fixed_near 1024 alternatives within buf)) yes,
-  λ yes. subst (λ r. IsTrue r) (fixed_near 1024 alternatives within buf) yes,
-)
-every_near fixed_near deep_near pdf within = deep_near.pdf
-every_near fixed_near deep_near (matroska doc_type) within = deep_near.matroska doc_type
-every_near fixed_near deep_near s within = absurd (cc)
+  -- whether the first 1024 bytes decide
+  abbrev pub known_near : (s : BuiltIn) → Known (IsNear s)
+  known_near (fixed alternatives) = proved_if (Fixed.is_within 1024 alternatives) (fixed_is_near alternatives)
+  known_near pdf = proved deep_near.pdf
+  known_near (matroska doc_type) = proved (deep_near.matroska doc_type)
+  known_near s = unknown
 
--- matcher m is one of the twelve, or its signature passes that test
-abbrev is_decided : ℕ → Bool
-is_decided m = is_of_the_twelve m || is_within (get_or signatures m (fixed []))
+  -- matcher m is one of the twelve, or they do
+  abbrev is_decided : (d : BuiltIn) (m : ℕ) → Known (IsTrue (is_of_the_twelve m) ⊎ IsNear (get_or signatures m d))
+  is_decided d m = either (is (is_of_the_twelve m)) (known_near (get_or signatures m d))
 
-all_decided : NoneRefused is_decided MATCHER_COUNT 0 8
-unfolding signatures table is_of_the_twelve signature_of
-all_decided = (refl, (refl, (refl, (refl, (refl, (refl, (refl, (refl, tt))))))))
+  all_decided : (d : BuiltIn) → NoneRefused (λ m. is_proved (is_decided d m)) MATCHER_COUNT 0 8
+  unfolding signatures table is_of_the_twelve signature_of
+  all_decided d = (refl, (refl, (refl, (refl, (refl, (refl, (refl, (refl, tt))))))))
 
-pub others_near : ((n : ℕ) (s : List Alternative) → IsTrue (Fixed.is_within n s) → Fixed.IsNear n s) → Deep.Near → OthersAreNear signatures
-others_near fixed_near deep_near m lt out d =
-    elim (or_cases (is_of_the_twelve m) _ (passed is_decided MATCHER_COUNT 8 all_decided (omega arith) m (omega (arith, lt, length-signatures)))) [
-      | inl one ↦ absurd (not_both (is_of_the_twelve m) one out)
-      | inr within ↦
-          every_near fixed_near deep_near (get_or signatures m d) (subst (λ s. IsTrue (is_within s)) (get_or_default signatures m (fixed []) d lt) within)
-    ]
+  pub others_near : OthersAreNear signatures
+  others_near m lt out d =
+      elim (proof_of (is_decided d m) (passed (λ j. is_proved (is_decided d j)) MATCHER_COUNT 8 (all_decided d) (omega arith) m (omega (arith, lt, length-signatures)))) [
+        | inl one ↦ absurd (not_both (is_of_the_twelve m) one out)
+        | inr near ↦ near
+      ]

@@ -1,24 +1,19 @@
 -- What a computation tells of the first row that accepts a buffer.
-use Rattle.std.proofs.Common.{◌≡◌, ◌≢◌, ◌<◌, ℕ, Bool, true, ◌&&◌, not, List, [], Option, None, Some, length, get_or, take, eqb, ltb, IsTrue, subst, arith, inl, inr}
-use Rattle.std.specs.List.{list_all}
-use Rattle.std.proofs.lemmas.Bool.{and_parts, ltb-true}
-use Rattle.std.proofs.lemmas.List.{get_or_default, get_or-take, length-take-le}
-use Rattle.std.proofs.lemmas.List.Sums.{AllPass-from_list_all}
+use Rattle.std.proofs.Common.{le_refl, suc, ◌≡◌, ◌≢◌, ◌<◌, ℕ, Bool, true, ◌&&◌, not, List, [], Option, None, Some, length, get_or, eqb, ltb, subst, arith, inl, inr}
+use Rattle.std.proofs.lemmas.List.{get_or_default}
 use Rattle.std.proofs.lemmas.Bool.Decides.{nat_tests}
 use Rattle.infer_deep.specs.ClassId.{HasClassId, IsXls}
 use Rattle.infer_deep.specs.Laws as Deep
 use Rattle.infer_deep.specs.Office.{IsOffice}
 use Rattle.infer_deep.specs.Signatures.{AreApart}
 use Rattle.infer.specs.BuiltIn.{BuiltIn, framed, office, doc, xls, ppt, html, xml, IsAccepted}
-use Rattle.infer.specs.First.{IsFirst, IsFirstOf, NoneHas}
+use Rattle.infer.specs.First.{IsFirstOf, NoneHas}
 use Rattle.infer.specs.Row.{Row, Accepts}
 use Rattle.infer.specs.Table.{table, row}
 use Rattle.infer.specs.declared.table.file_type.MatcherType.TheVariants.{Text}
-use Rattle.infer.specs.declared.table.rows.TheConstants.{ROW_COUNT}
 use Rattle.infer.proofs.DecisionLemmas.{known}
-use Rattle.infer.proofs.KnownLemmas.{Known, proved, unknown, proved_if, is_proved, is_refuted, proof_of, refutation_of, ◌>>◌}
+use Rattle.infer.proofs.KnownLemmas.{Known, proved, unknown, proved_if, is_proved, proof_of, negated, each_before, at_most, takes, ◌>>=◌, ◌>>◌}
 use Rattle.infer.proofs.PlaceLemmas.{ByPlace}
-use Rattle.infer.proofs.TableLemmas.{length-table}
 
 -- any row
 pub some_row : Row BuiltIn
@@ -61,38 +56,21 @@ module _ (exclude : Deep.Apart) where
   exclusion xml html = proved (flipped exclude.html_xml)
   exclusion s r = unknown
 
--- every row refuses the buffer
+-- no row accepts the buffer
 abbrev pub none_accepts : ByPlace → (b : List ℕ) → Known (NoneHas (Accepts b) table)
-none_accepts by_place b = proved_if (list_all (λ r. is_refuted (known by_place b r.signature)) table) (λ e k d low lt.
-    refutation_of (known by_place b (get_or table k d).signature) (AllPass-from_list_all (λ r. is_refuted (known by_place b r.signature)) table e k d lt))
+none_accepts by_place b = each_before (λ r. negated (known by_place b r.signature)) table (length table) (le_refl (length table))
 
 module _ (by_place : ByPlace) (exclude : Deep.Apart) where
   -- a buffer that has the signature lacks that of the row
-  abbrev lacks_row : (s : BuiltIn) (b : List ℕ) (r : Row BuiltIn) → Known (IsAccepted s b → ¬ Accepts b r)
-  lacks_row s b r = do
-    proved_if (is_proved (exclusion exclude s r.signature)) (λ k. proof_of (exclusion exclude s r.signature) k b)
-    proved_if (is_refuted (known by_place b r.signature)) (λ k accepted. refutation_of (known by_place b r.signature) k)
-
-  -- the signature of row i accepts the buffer, and those before it do not
-  abbrev is_first : List ℕ → ℕ → BuiltIn → Bool
-  is_first b i s = ltb i ROW_COUNT && (is_proved (known by_place b s) && list_all (λ r. is_proved (lacks_row s b r)) (take i table))
-
-  pub first_by_test : (b : List ℕ) (i : ℕ) (d : Row BuiltIn) → IsTrue (is_first b i (get_or table i d).signature) → IsFirst (Accepts b) table i
-  first_by_test b i d e =
-      let s = (get_or table i d).signature in
-      let parts = and_parts (ltb i ROW_COUNT) _ e in
-      let lt : i < length table = let below = ltb-true i ROW_COUNT parts.0 in omega (arith, length-table) in
-      let tests = and_parts (is_proved (known by_place b s)) _ parts.1 in
-      let yes = proof_of (known by_place b s) tests.0 in
-      record {
-        within = lt;
-        here = λ c. subst (Accepts b) (get_or_default table i d c lt) yes;
-        before = λ k c low below.
-            let long : k < length (take i table) = omega (arith, length-take-le i table (omega arith)) in
-            let test = AllPass-from_list_all (λ r. is_proved (lacks_row s b r)) (take i table) tests.1 k c long in
-            subst (λ (r : Row BuiltIn). ¬ Accepts b r) (get_or-take i table k c below) (proof_of (lacks_row s b (get_or (take i table) k c)) test yes);
-      }
+  abbrev lacks_row : (s : BuiltIn) (b : List ℕ) → IsAccepted s b → (r : Row BuiltIn) → Known (¬ Accepts b r)
+  lacks_row s b accepted r = do
+    proved_if (is_proved (exclusion exclude s r.signature)) (λ k. proof_of (exclusion exclude s r.signature) k b accepted)
+    negated (known by_place b r.signature)
 
   abbrev pub known_first : (d : Row BuiltIn) (o : Option ℕ) (b : List ℕ) → Known (IsFirstOf (Accepts b) table o)
   known_first d None b = none_accepts by_place b
-  known_first d (Some i) b = proved_if (is_first b i (get_or table i d).signature) (first_by_test b i d)
+  known_first d (Some i) b = do
+    within ← takes (at_most (suc i) (length table))
+    accepted ← takes (known by_place b (get_or table i d).signature)
+    before ← takes (each_before (lacks_row (get_or table i d).signature b accepted) table i (omega arith))
+    proved (record { within = within; here = λ c. subst (Accepts b) (get_or_default table i d c within) accepted; before = before })
