@@ -1,8 +1,9 @@
 -- What a computation tells of a built-in signature and a buffer.
-use Rattle.std.proofs.Common.{◌≡◌, ◌≤◌, ◌⊎◌, inl, inr, ℕ, zero, suc, ◌+◌, ◌-◌, ◌*◌, ◌/◌, List, [], ◌∷◌, ◌++◌, map, length, get_or, replicate, eqb, IsTrue, refl, ap, subst, ◌∙◌, codes, arith, lit≤, append_assoc, Bool}
+use Rattle.std.proofs.Common.{◌≡◌, ◌≤◌, ◌⊎◌, inl, inr, ℕ, zero, suc, ◌+◌, ◌-◌, ◌*◌, ◌/◌, List, [], ◌∷◌, ◌++◌, map, length, get_or, replicate, take, eqb, IsTrue, refl, ap, subst, ◌∙◌, codes, arith, lit≤, append_assoc, Bool}
 use Rattle.std.specs.Char.{to_ascii_lowercase}
-use Rattle.std.specs.List.{list_any, list_all, AllByRecursion, concat}
+use Rattle.std.specs.List.{list_any, AllByRecursion, concat}
 use Rattle.std.proofs.lemmas.Bool.{eqb-true, eq-eqb, or_left, or_right}
+use Rattle.std.proofs.lemmas.List.{take_at}
 use Rattle.std.proofs.lemmas.List.Folds.{list_any-append}
 use Rattle.std.proofs.lemmas.List.Prefix.{front_fits, front_reads}
 use Rattle.std.proofs.lemmas.List.Sums.{AllPass-from_list_all}
@@ -69,13 +70,10 @@ opens front (x ∷ word) rest (c ∷ text) b e same first =
     let here = or_left (is_opening x) (list_any is_opening (word ++ rest)) (eq-eqb (to_ascii_lowercase x) 0x3C lower) in
     rw e (rw (list_any-append is_opening front (x ∷ word ++ rest)) (or_right (list_any is_opening front) _ here))
 
-tags_open : IsTrue (list_all (λ tag. eqb (get_or tag 0 0) 0x3C) tags)
-tags_open = refl
-
 pub html_opens : (b : List ℕ) → IsHtml b → IsTrue (list_any is_opening b)
 html_opens b (text, skips, (k, tag, l, e, h)) =
     let first : get_or tag 0 0 ≡ 0x3C =
-    eqb-true _ _ (subst (λ t. IsTrue (eqb (get_or t 0 0) 0x3C)) e (AllPass-from_list_all (λ t. eqb (get_or t 0 0) 0x3C) tags tags_open k tag l)) in
+    eqb-true _ _ (subst (λ t. IsTrue (eqb (get_or t 0 0) 0x3C)) e (AllPass-from_list_all (λ t. eqb (get_or t 0 0) 0x3C) tags refl k tag l)) in
     opens (concat skips.words) h.word (h.end ∷ h.rest) tag b (cc) h.same first
 
 pub xml_opens : (b : List ℕ) → IsXml b → IsTrue (list_any is_opening b)
@@ -101,11 +99,8 @@ le32-front b front rest e long = omega (arith, front_reads 0 b front rest e)
 
 -- the magic number stands first, or the buffer has a whole first frame
 pub begins_framed : (magic b : List ℕ) (words : List (List ℕ)) (rest : List ℕ) → AllByRecursion IsFrame words
-    → b ≡ concat words ++ (magic ++ rest) → OccursAt b magic 0 ⊎ (8 + le32 b 4 ≤ length b)
-begins_framed magic b [] rest each whole = inl (record {
-  fits = let f = front_fits b magic rest whole in omega arith;
-  reads = λ j lt. ap (λ i. get_or b i 0) (let r : 0 + j ≡ j = omega arith in r) ∙ front_reads 0 b magic rest whole j lt;
-})
+    → b ≡ concat words ++ (magic ++ rest) → (take (length magic) b ≡ magic) ⊎ (8 + le32 b 4 ≤ length b)
+begins_framed magic b [] rest each whole = inl (ap (take (length magic)) whole ∙ take_at magic rest (length magic) refl)
 begins_framed magic b (w ∷ words) rest each whole =
     let sized : length w ≡ 8 + le32 w 4 = each.0.sized in
     let split : b ≡ w ++ (concat words ++ (magic ++ rest)) = whole ∙ append_assoc w (concat words) (magic ++ rest) in
@@ -205,7 +200,7 @@ module _ (by_place : ByPlace) (b : List ℕ) where
     there ← needs (stands_by 4 256 t) (λ h. h.2)
     proved (long, begins, there)
   known (framed magic) = do
-    begins ← needs (either (occurs 0 magic) (at_most (8 + le32 b 4) (length b))) (λ (rest, s). begins_framed magic b s.words rest s.each s.whole)
+    begins ← needs (either (same_text (take (length magic) b) magic) (at_most (8 + le32 b 4) (length b))) (λ (rest, s). begins_framed magic b s.words rest s.each s.whole)
     equal ← takes (same_text b (behind (length b / 1028) long_frame (magic ++ [])))
     proved (framed_behind by_place (length b / 1028) magic b equal)
   known heif =

@@ -19,17 +19,9 @@ module _ {P : Type 0} where
   is_proved (proved h) = true
   is_proved k = false
 
-  abbrev pub is_refuted : Known P → Bool
-  is_refuted (refuted h) = true
-  is_refuted k = false
-
   pub proof_of : (k : Known P) → IsTrue (is_proved k) → P
   proof_of (proved h) e = h
   proof_of k e = absurd (cc)
-
-  pub refutation_of : (k : Known P) → IsTrue (is_refuted k) → ¬ P
-  refutation_of (refuted h) e = h
-  refutation_of k e = absurd (cc)
 
   -- by a test that is enough for the claim, or against it, or that decides it
   abbrev pub proved_if : (r : Bool) → (IsTrue r → P) → Known P

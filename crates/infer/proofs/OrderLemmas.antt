@@ -12,7 +12,7 @@ use Rattle.infer.specs.Row.{Row, Accepts}
 use Rattle.infer.specs.Table.{table, row}
 use Rattle.infer.specs.declared.table.file_type.MatcherType.TheVariants.{Text}
 use Rattle.infer.proofs.DecisionLemmas.{known}
-use Rattle.infer.proofs.KnownLemmas.{Known, proved, unknown, proved_if, is_proved, proof_of, negated, each_before, at_most, takes, ◌>>=◌, ◌>>◌}
+use Rattle.infer.proofs.KnownLemmas.{Known, proved, unknown, proved_if, negated, each_before, at_most, takes, ◌>>=◌, ◌>>◌}
 use Rattle.infer.proofs.PlaceLemmas.{ByPlace}
 
 -- any row
@@ -64,7 +64,7 @@ module _ (by_place : ByPlace) (exclude : Deep.Apart) where
   -- a buffer that has the signature lacks that of the row
   abbrev lacks_row : (s : BuiltIn) (b : List ℕ) → IsAccepted s b → (r : Row BuiltIn) → Known (¬ Accepts b r)
   lacks_row s b accepted r = do
-    proved_if (is_proved (exclusion exclude s r.signature)) (λ k. proof_of (exclusion exclude s r.signature) k b accepted)
+    (do apart ← takes (exclusion exclude s r.signature); proved (apart b accepted))
     negated (known by_place b r.signature)
 
   abbrev pub known_first : (d : Row BuiltIn) (o : Option ℕ) (b : List ℕ) → Known (IsFirstOf (Accepts b) table o)

@@ -1,5 +1,7 @@
 -- What a computation tells of a text in a buffer: that it stands at a place, or at none of some places.
-use Rattle.std.proofs.Common.{◌≡◌, ◌<◌, ◌≤◌, ℕ, zero, suc, ◌+◌, ◌-◌, Bool, true, false, ◌&&◌, not, ◌↔◌, List, [], ◌∷◌, length, get_or, drop, leb, IsTrue, ap, ◌∙◌, arith, length-drop, get_or-drop}
+use Rattle.std.proofs.Common.{◌≡◌, ◌<◌, ◌≤◌, ℕ, zero, suc, ◌+◌, ◌-◌, Bool, true, false, ◌&&◌, not, ◌↔◌, List, [], ◌∷◌, length, drop, leb, IsTrue, ap, nat_eq, subst, ◌∙◌, arith}
+use Rattle.std.specs.List.{starts_with}
+use Rattle.std.proofs.lemmas.List.{drop-drop}
 use Rattle.std.proofs.lemmas.Bool.{and_parts, and_from, leb-true, le-leb}
 use Rattle.infer_deep.specs.Find.{OccursAt}
 use Rattle.infer_sig.specs.Places.{StandsByPlace}
@@ -38,21 +40,17 @@ module _ (by_place : ByPlace) (t : List ℕ) where
       decided (leb (p + length t) (length b) && stands p t b)
       (found b p, λ o. and_from (leb (p + length t) (length b)) _ (le-leb _ _ o.fits) (stands-from b p o))
 
-  not_absent : (n p : ℕ) (b : List ℕ) → p < n → IsTrue (absent n t b) → ¬ OccursAt b t p
-  not_absent zero p b lt e o = absurd (omega arith)
-  not_absent (suc n) zero [] lt e o = not_both (stands 0 t []) (stands-from [] 0 o) e
-  not_absent (suc n) (suc p) [] lt e o = absurd (let f = o.fits in omega arith)
-  not_absent (suc n) zero (x ∷ b) lt e o =
-      not_both (stands 0 t (x ∷ b)) (stands-from (x ∷ b) 0 o) (and_parts (not (stands 0 t (x ∷ b))) _ e).0
-  not_absent (suc n) (suc p) (x ∷ b) lt e o =
-      not_absent n p b (omega arith) (and_parts (not (stands 0 t (x ∷ b))) (absent n t b) e).1 (record {
-        fits = let f = o.fits in omega arith;
-        reads = λ j l. ap (λ i. get_or (x ∷ b) i 0) (let r : suc (p + j) ≡ suc p + j = omega arith in r) ∙ o.reads j l;
-      })
+  not_absent : (n p : ℕ) (b : List ℕ) → p < n → IsTrue (absent n t b) → IsTrue (not (stands p t b))
+  unfolding stands
+  not_absent zero p b lt e = absurd (omega arith)
+  not_absent (suc n) zero [] lt e = e
+  not_absent (suc n) (suc p) [] lt e = e
+  not_absent (suc n) zero (x ∷ b) lt e = (and_parts (not (stands 0 t (x ∷ b))) (absent n t b) e).0
+  not_absent (suc n) (suc p) (x ∷ b) lt e = not_absent n p b (omega arith) (and_parts (not (stands 0 t (x ∷ b))) (absent n t b) e).1
 
   pub lacked : (b : List ℕ) (s e p : ℕ) → s ≤ p → p < e → IsTrue (lacks s e t b) → ¬ OccursAt b t p
+  unfolding stands
   lacked b s e p low high none o =
-      not_absent (e - s) (p - s) (drop s b) (omega arith) none (record {
-        fits = let f = o.fits in omega (arith, length-drop s b);
-        reads = λ j l. get_or-drop s b (p - s + j) 0 ∙ ap (λ i. get_or b i 0) (let r : s + (p - s + j) ≡ p + j = omega arith in r) ∙ o.reads j l;
-      })
+      let at : drop (p - s) (drop s b) ≡ drop p b = drop-drop (p - s) s b ∙ ap (λ i. drop i b) (let r : s + (p - s) ≡ p = omega arith in r) in
+      let not_here = not_absent (e - s) (p - s) (drop s b) (omega arith) none in
+      not_both (stands p t b) (stands-from b p o) (subst (λ l. IsTrue (not (starts_with nat_eq l t))) at not_here)
