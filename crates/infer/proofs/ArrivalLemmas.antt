@@ -1,9 +1,8 @@
 -- What more bytes can bring to a buffer of at least 1024 bytes.
-use Rattle.std.proofs.Common.{◌≡◌, ◌<◌, ◌≤◌, ◌+◌, ◌-◌, ◌⊎◌, ◌∙◌, ℕ, suc, List, ◌++◌, length, refl, subst, inl, inr, arith, IsTrue, length-append, get_or}
-use Rattle.std.specs.List.{list_all, range_with_len}
+use Rattle.std.proofs.Common.{zero-le, ◌<◌, ◌≤◌, ◌+◌, ◌-◌, ◌⊎◌, ◌∙◌, ℕ, suc, List, ◌++◌, length, refl, subst, inl, inr, arith, IsTrue, length-append}
+use Rattle.std.specs.List.{AllWithin, range_with_len}
 use Rattle.std.proofs.lemmas.List.{take-append-le}
 use Rattle.std.proofs.lemmas.List.FromFn.{get_or-range_with_len, length-range_with_len}
-use Rattle.std.proofs.lemmas.List.Sums.{AllPass-from_list_all}
 use Rattle.infer_sig.specs.Signature.{Alternative}
 use Rattle.infer_sig.specs.Laws as Fixed
 use Rattle.infer_deep.specs.Laws as Deep
@@ -12,21 +11,15 @@ use Rattle.infer.specs.BuiltIn.{BuiltIn, avif, doc, framed, heif, html, office, 
 use Rattle.infer.specs.Matchers.{IsNear}
 use Rattle.infer.specs.Table.{signature_of, table}
 use Rattle.infer.specs.declared.table.rows.TheConstants.{ROW_COUNT}
-use Rattle.infer.proofs.KnownLemmas.{Known, proved, is_proved, proof_of, proved_if, at_most, takes, ◌>>=◌}
+use Rattle.infer.proofs.KnownLemmas.{Known, proved, is_proved, proof_of, each_before, at_most, takes, ◌>>=◌}
 use Rattle.infer.proofs.LawLemmas.{known_near}
 use Rattle.infer.proofs.OrderLemmas.{exclusion}
 use Rattle.infer.proofs.TestLemmas.{NoneRefused, passed}
 
--- a claim of each of n numbers from s on
-module _ {P : ℕ → Type 0} (known : (k : ℕ) → Known (P k)) (s n : ℕ) where
-  pub range_proved : IsTrue (list_all (λ k. is_proved (known k)) (range_with_len s n)) → (k : ℕ) → s ≤ k → k < s + n → P k
-  range_proved e k low high =
-      let at : get_or (range_with_len s n) (k - s) 0 ≡ k = get_or-range_with_len s n (k - s) 0 (omega arith) ∙ (omega arith) in
-      let test = AllPass-from_list_all (λ j. is_proved (known j)) (range_with_len s n) e (k - s) 0 (omega (arith, length-range_with_len s n)) in
-      proof_of (known k) (subst (λ j. IsTrue (is_proved (known j))) at test)
-
-  abbrev each_between : Known ((k : ℕ) → s ≤ k → k < s + n → P k)
-  each_between = proved_if (list_all (λ k. is_proved (known k)) (range_with_len s n)) range_proved
+-- what holds of n numbers from s on holds of each
+in_range : (P : ℕ → Type 0) (s n : ℕ) → AllWithin P (range_with_len s n) 0 n → (k : ℕ) → s ≤ k → k < s + n → P k
+in_range P s n all k low high =
+    subst P (get_or-range_with_len s n (k - s) 0 (omega arith) ∙ (omega arith)) (all (k - s) 0 zero-le (omega arith))
 
 module _ (fixed_near : (n : ℕ) (s : List Alternative) → IsTrue (Fixed.is_within n s) → Fixed.IsNear n s) (deep_near : Deep.Near)
     (arrivals : Deep.Arrivals) (exclude : Deep.Apart) (b more : List ℕ) (long : 1024 ≤ length b) where
@@ -73,10 +66,11 @@ module _ (fixed_near : (n : ℕ) (s : List Alternative) → IsTrue (Fixed.is_wit
   abbrev newcomer : (i : ℕ) → Known (IsAccepted (signature_of i) (b ++ more) → (¬ IsAccepted (signature_of i) b) → Comes i b more)
   newcomer i = do
     brought ← takes (comes (signature_of i))
-    alone ← takes (each_between (λ k. rival (signature_of i) (signature_of k)) (suc i) (last_awaited (signature_of i) - i))
+    let n = last_awaited (signature_of i) - i
+    alone ← takes (each_before (λ k. rival (signature_of i) (signature_of k)) (range_with_len (suc i) n) n (omega (arith, length-range_with_len (suc i) n)))
     proved (λ accepted refused. record {
       awaited = elim (brought accepted) [ inl here ↦ absurd (refused here) | inr awaited ↦ awaited ];
-      alone = λ k low high. alone k low (omega arith) accepted refused;
+      alone = λ k low high. in_range (λ j. IsAlone (signature_of i) (signature_of j)) (suc i) n alone k low (omega arith) accepted refused;
     })
 
   all_newcomers : NoneRefused (λ i. is_proved (newcomer i)) ROW_COUNT 0 8

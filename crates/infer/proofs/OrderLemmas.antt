@@ -1,7 +1,6 @@
 -- What a computation tells of the first row that accepts a buffer.
-use Rattle.std.proofs.Common.{le_refl, suc, ◌≡◌, ◌≢◌, ◌<◌, ℕ, Bool, true, ◌&&◌, not, List, [], Option, None, Some, length, get_or, eqb, ltb, subst, arith, inl, inr}
+use Rattle.std.proofs.Common.{le_refl, suc, ℕ, List, [], ◌∷◌, Option, None, Some, length, get_or, subst, arith, inl, inr}
 use Rattle.std.proofs.lemmas.List.{get_or_default}
-use Rattle.std.proofs.lemmas.Bool.Decides.{nat_tests}
 use Rattle.infer_deep.specs.ClassId.{HasClassId, IsXls}
 use Rattle.infer_deep.specs.Laws as Deep
 use Rattle.infer_deep.specs.Office.{IsOffice}
@@ -12,7 +11,7 @@ use Rattle.infer.specs.Row.{Row, Accepts}
 use Rattle.infer.specs.Table.{table, row}
 use Rattle.infer.specs.declared.table.file_type.MatcherType.TheVariants.{Text}
 use Rattle.infer.proofs.DecisionLemmas.{known}
-use Rattle.infer.proofs.KnownLemmas.{Known, proved, unknown, proved_if, negated, each_before, at_most, takes, ◌>>=◌, ◌>>◌}
+use Rattle.infer.proofs.KnownLemmas.{Known, proved, unknown, same, negated, each_before, at_most, takes, ◌>>=◌, ◌>>◌}
 use Rattle.infer.proofs.PlaceLemmas.{ByPlace}
 
 -- any row
@@ -21,16 +20,6 @@ some_row = row Text [] [] html
 
 pub flipped : {S T : List ℕ → Type 0} → AreApart S T → AreApart T S
 flipped h b t s = h b s t
-
--- the two words are some bytes, and begin with different ones below a limit
-abbrev begin_apart : ℕ → List ℕ → List ℕ → Bool
-begin_apart limit v w =
-    (ltb 0 (length v) && ltb 0 (length w)) && ((ltb (get_or v 0 0) limit && ltb (get_or w 0 0) limit) && not (eqb (get_or v 0 0) (get_or w 0 0)))
-
-pub begun_apart : (m n x y limit : ℕ) → ((ltb 0 m && ltb 0 n) && ((ltb x limit && ltb y limit) && not (eqb x y))) ≡ true
-    → ((0 < m) × (0 < n) × (x ≢ y)) × (x < limit) × (y < limit)
-begun_apart m n x y limit e =
-    ((grind (arith, nat_tests), grind (arith, nat_tests), λ is. grind (arith, nat_tests)), grind (arith, nat_tests), grind (arith, nat_tests))
 
 module _ (exclude : Deep.Apart) where
   pub class_id_office : (id folder : List ℕ) → AreApart (HasClassId id) (IsOffice folder)
@@ -42,9 +31,14 @@ module _ (exclude : Deep.Apart) where
 
   -- the later row's signature, and that of the earlier
   abbrev pub exclusion : (s r : BuiltIn) → Known (AreApart (IsAccepted s) (IsAccepted r))
-  exclusion (framed v) (framed w) =
-      proved_if (begin_apart 0x50 v w) (λ e. let d = begun_apart _ _ _ _ 0x50 e in exclude.framed v w d.0 d.1 d.2)
-  exclusion (office v) (office w) = proved_if (begin_apart 0x100 v w) (λ e. exclude.office v w (begun_apart _ _ _ _ 0x100 e).0)
+  exclusion (framed (x ∷ v)) (framed (y ∷ w)) = do
+    low ← takes (at_most (suc x) 0x50)
+    other_low ← takes (at_most (suc y) 0x50)
+    differ ← takes (negated (same x y))
+    proved (exclude.framed (x ∷ v) (y ∷ w) (omega arith, omega arith, differ) low other_low)
+  exclusion (office (x ∷ v)) (office (y ∷ w)) = do
+    differ ← takes (negated (same x y))
+    proved (exclude.office (x ∷ v) (y ∷ w) (omega arith, omega arith, differ))
   exclusion (office v) doc = proved (flipped (class_id_office _ v))
   exclusion (office v) xls = proved (flipped (xls_office v))
   exclusion (office v) ppt = proved (flipped (class_id_office _ v))
