@@ -6,7 +6,7 @@ use Rattle.std.proofs.lemmas.List.FromFn.{get_or-range_with_len, length-range_wi
 use Rattle.infer_sig.specs.Signature.{Alternative}
 use Rattle.infer_sig.specs.Laws as Fixed
 use Rattle.infer_deep.specs.Laws as Deep
-use Rattle.infer.specs.Arrivals.{IsAwaited, last_awaited, Comes, NewcomersAreAwaited}
+use Rattle.infer.specs.Arrivals.{IsAwaited, last_awaited, Comes}
 use Rattle.infer.specs.BuiltIn.{BuiltIn, avif, doc, framed, heif, html, office, ppt, xls, xml, IsAccepted}
 use Rattle.infer.specs.Matchers.{IsNear}
 use Rattle.infer.specs.Table.{signature_of, table}
@@ -77,8 +77,5 @@ module _ (fixed_near : (n : ℕ) (s : List Alternative) → IsTrue (Fixed.is_wit
   unfolding table signature_of
   all_newcomers = (refl, (refl, (refl, (refl, (refl, (refl, (refl, (refl, tt))))))))
 
-pub newcomers_are_awaited : ((n : ℕ) (s : List Alternative) → IsTrue (Fixed.is_within n s) → Fixed.IsNear n s) → Deep.Near
-    → Deep.Arrivals → Deep.Apart → NewcomersAreAwaited
-newcomers_are_awaited fixed_near deep_near arrivals exclude b more long i lt =
-    let known = newcomer fixed_near deep_near arrivals exclude b more long in
-    proof_of (known i) (passed (λ j. is_proved (known j)) ROW_COUNT 8 (all_newcomers fixed_near deep_near arrivals exclude b more long) (omega arith) i lt)
+  pub awaited_newcomer : (i : ℕ) → i < ROW_COUNT → IsAccepted (signature_of i) (b ++ more) → (¬ IsAccepted (signature_of i) b) → Comes i b more
+  awaited_newcomer i lt = proof_of (newcomer i) (passed (λ j. is_proved (newcomer j)) ROW_COUNT 8 all_newcomers (omega arith) i lt)

@@ -1,5 +1,5 @@
 -- The laws of all matchers, from those of every signature.
-use Rattle.std.proofs.Common.{◌≡◌, ℕ, List, length, get_or, refl, ◌⊎◌, inl, inr, subst, sym, arith, IsTrue}
+use Rattle.std.proofs.Common.{◌≡◌, ℕ, List, length, get_or, refl, ◌⊎◌, inl, inr, sym, ◌∙◌, arith, IsTrue}
 use Rattle.infer_sig.specs.Signature.{Alternative}
 use Rattle.infer_sig.specs.Laws as Fixed
 use Rattle.infer_deep.specs.Laws as Deep
@@ -30,15 +30,10 @@ every_lasts fixed_last deep_last html = deep_last.html
 every_lasts fixed_last deep_last xml = deep_last.xml
 
 module _ (fixed_near : (n : ℕ) (s : List Alternative) → IsTrue (Fixed.is_within n s) → Fixed.IsNear n s) (deep_near : Deep.Near) where
-  pub fixed_is_near : (s : List Alternative) → IsTrue (Fixed.is_within 1024 s) → IsNear (fixed s)
-  fixed_is_near s within buf long = (
-    λ yes. subst (λ r. IsTrue r) (sym (fixed_near 1024 s within buf)) yes,
-    λ yes. subst (λ r. IsTrue r) (fixed_near 1024 s within buf) yes,
-  )
-
   -- whether the first 1024 bytes decide
   abbrev pub known_near : (s : BuiltIn) → Known (IsNear s)
-  known_near (fixed alternatives) = proved_if (Fixed.is_within 1024 alternatives) (fixed_is_near alternatives)
+  known_near (fixed alternatives) = proved_if (Fixed.is_within 1024 alternatives) (λ within buf long.
+      let same = fixed_near 1024 alternatives within buf in (λ yes. same ∙ yes, λ yes. sym same ∙ yes))
   known_near pdf = proved deep_near.pdf
   known_near (matroska doc_type) = proved (deep_near.matroska doc_type)
   known_near s = unknown

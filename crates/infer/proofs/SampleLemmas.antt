@@ -28,14 +28,12 @@ module _ (by_place : ByPlace) (exclude : Deep.Apart) (d : Row BuiltIn) where
   unfolding table stands le16 le32 be32
   all_reach = (refl, (refl, (refl, (refl, (refl, (refl, (refl, (refl, tt))))))))
 
-pub sample_first : ByPlace → Deep.Apart → (i : ℕ) → i < ROW_COUNT → i ≢ DLL → i ≢ EPUB_ARCHIVE
-    → HoldsAt (λ r. IsFirst (Accepts (sample_of r.signature)) table i) table i
-sample_first by_place exclude i lt not_dll not_epub d =
-    elim (proof_of (reaches by_place exclude d i) (passed (λ j. is_proved (reaches by_place exclude d j)) ROW_COUNT 8 (all_reach by_place exclude d) (omega arith) i lt)) [
-      | inl e ↦ absurd (not_dll e)
-      | inr (inl e) ↦ absurd (not_epub e)
-      | inr (inr first) ↦ first
-    ]
+  pub sample_first : (i : ℕ) → i < ROW_COUNT → i ≢ DLL → i ≢ EPUB_ARCHIVE → IsFirst (Accepts (sample_of (get_or table i d).signature)) table i
+  sample_first i lt not_dll not_epub = elim (proof_of (reaches i) (passed (λ j. is_proved (reaches j)) ROW_COUNT 8 all_reach (omega arith) i lt)) [
+    | inl e ↦ absurd (not_dll e)
+    | inr (inl e) ↦ absurd (not_epub e)
+    | inr (inr first) ↦ first
+  ]
 
 -- ---- the samples of the code
 
