@@ -60,26 +60,25 @@ spaced_xml n b e =
 abbrev is_opening : ℕ → Bool
 is_opening x = eqb (to_ascii_lowercase x) 0x3C
 
--- a buffer with a word in it that is a text in some case, which begins with "<", has such a byte
-opens : (front word rest text b : List ℕ) → b ≡ front ++ (word ++ rest) → map to_ascii_lowercase word ≡ map to_ascii_lowercase text
-    → get_or text 0 0 ≡ 0x3C → IsTrue (list_any is_opening b)
-opens front word rest [] b e same first = absurd (cc)
-opens front [] rest (c ∷ text) b e same first = absurd (cc)
-opens front (x ∷ word) rest (c ∷ text) b e same first =
-    let lower : to_ascii_lowercase x ≡ 0x3C = ap (λ u. get_or u 0 0) same ∙ ap to_ascii_lowercase first in
-    let here = or_left (is_opening x) (list_any is_opening (word ++ rest)) (eq-eqb (to_ascii_lowercase x) 0x3C lower) in
+-- a buffer with a word in it that begins with one has it
+opens : (front word rest b : List ℕ) → b ≡ front ++ (word ++ rest) → get_or (map to_ascii_lowercase word) 0 0 ≡ 0x3C → IsTrue (list_any is_opening b)
+opens front [] rest b e first = absurd (cc)
+opens front (x ∷ word) rest b e first =
+    let here = or_left (is_opening x) (list_any is_opening (word ++ rest)) (eq-eqb (to_ascii_lowercase x) 0x3C first) in
     rw e (rw (list_any-append is_opening front (x ∷ word ++ rest)) (or_right (list_any is_opening front) _ here))
+
+abbrev is_tag : List ℕ → Bool
+is_tag t = eqb (get_or (map to_ascii_lowercase t) 0 0) 0x3C
 
 pub html_opens : (b : List ℕ) → IsHtml b → IsTrue (list_any is_opening b)
 html_opens b (text, skips, (k, tag, l, e, h)) =
-    let first : get_or tag 0 0 ≡ 0x3C =
-    eqb-true _ _ (subst (λ t. IsTrue (eqb (get_or t 0 0) 0x3C)) e (AllPass-from_list_all (λ t. eqb (get_or t 0 0) 0x3C) tags refl k tag l)) in
-    opens (concat skips.words) h.word (h.end ∷ h.rest) tag b (cc) h.same first
+    let first = eqb-true _ _ (subst (λ t. IsTrue (is_tag t)) e (AllPass-from_list_all is_tag tags refl k tag l)) in
+    opens (concat skips.words) h.word (h.end ∷ h.rest) b (cc) (ap (λ u. get_or u 0 0) h.same ∙ first)
 
 pub xml_opens : (b : List ℕ) → IsXml b → IsTrue (list_any is_opening b)
 xml_opens b (marked, text, spaces, marks, h) =
     let joined = append_assoc (concat spaces.words) (concat marks.words) (h.word ++ h.rest) in
-    opens (concat spaces.words ++ concat marks.words) h.word h.rest (codes "<?xml") b (cc) h.same refl
+    opens (concat spaces.words ++ concat marks.words) h.word h.rest b (cc) (ap (λ u. get_or u 0 0) h.same)
 
 -- ---- frames
 
