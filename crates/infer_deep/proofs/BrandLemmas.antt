@@ -1,5 +1,5 @@
 -- Brands of a boxed file: they last, and only to an open box do more bytes bring them.
-use Rattle.std.proofs.Common.{◌≡◌, ℕ, ◌+◌, ◌-◌, ◌*◌, ◌/◌, ◌<◌, ◌≤◌, List, ◌++◌, length, sym, subst, inl, inr, arith, length-append}
+use Rattle.std.proofs.Common.{◌≡◌, ℕ, ◌+◌, ◌-◌, ◌*◌, ◌/◌, ◌<◌, ◌≤◌, List, ◌++◌, length, sym, subst, inl, inr, arith, codes, length-append}
 use Rattle.std.proofs.lemmas.Bool.{cases_lt}
 use Rattle.infer_deep.specs.Signatures.{Lasts, AreApart, ComesWith, IsEarly}
 use Rattle.infer_deep.proofs.PlaceLemmas.{Carries, OccursAt-append, OccursAt-front}
@@ -25,10 +25,7 @@ module _ (b c : List ℕ) (n : ℕ) (carries : Carries n b c) (size : box_length
       let here = subst (λ s. k < s / 4 - 4) size l in (k, here, carries brand (16 + 4 * k) (omega arith) o)
 
   IsHeif-carried : IsBoxed c → IsHeif b → IsHeif c
-  IsHeif-carried box (_, inl o) = (box, inl (major _ (omega arith) o))
-  IsHeif-carried box (_, inr (inl o)) = (box, inr (inl (major _ (omega arith) o)))
-  IsHeif-carried box (_, inr (inr (inl o, k))) = (box, inr (inr (inl (major _ (omega arith) o), compatible _ (omega arith) k)))
-  IsHeif-carried box (_, inr (inr (inr o, k))) = (box, inr (inr (inr (major _ (omega arith) o), compatible _ (omega arith) k)))
+  IsHeif-carried box h = grind (arith, major (codes "heic"), major (codes "heix"), major (codes "mif1"), major (codes "msf1"), compatible (codes "heic"))
 
   IsAvif-carried : IsBoxed c → IsAvif b → IsAvif c
   IsAvif-carried box (_, inl o) = (box, inl (major _ (omega arith) o))

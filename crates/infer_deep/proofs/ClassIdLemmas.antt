@@ -1,5 +1,5 @@
 -- The root entry of a compound file is one place, and lasts.
-use Rattle.std.proofs.Common.{ℕ, ◌+◌, ◌≤◌, ◌↔◌, List, ◌++◌, ◌∙◌, inl, inr, arith, length-append}
+use Rattle.std.proofs.Common.{ℕ, ◌+◌, ◌≤◌, ◌↔◌, List, ◌++◌, ◌∙◌, arith, length-append}
 use Rattle.std.proofs.lemmas.List.{get_or_append_left}
 use Rattle.memchr.specs.Find.{OccursAt}
 use Rattle.infer_deep.specs.Signatures.{Lasts, IsEarly}
@@ -28,10 +28,7 @@ module _ (b more : List ℕ) where
       record {
         header = OccursAt-append b more _ 0 r.header;
         byte_order = OccursAt-append b more _ 28 r.byte_order;
-        begins = elim r.begins [
-          | inl h ↦ inl (version ∙ h.0, shift ∙ h.1, let e = h.2 in omega arith)
-          | inr h ↦ inr (version ∙ h.0, shift ∙ h.1, let e = h.2 in omega arith)
-        ];
+        begins = let begins = r.begins in grind arith;
         whole = omega (arith, length-append b more);
         kind = get_or_append_left b more 0 (root + 66) (omega arith) ∙ r.kind;
       }
@@ -43,5 +40,4 @@ pub HasClassId-lasts : (id : List ℕ) → Lasts (HasClassId id)
 HasClassId-lasts id b more (root, r, o) = (root, IsRoot-append b more root r, OccursAt-append b more id (root + 80) o)
 
 pub IsXls-lasts : Lasts IsXls
-IsXls-lasts b more (inl h) = inl (HasClassId-lasts _ b more h)
-IsXls-lasts b more (inr h) = inr (HasClassId-lasts _ b more h)
+IsXls-lasts b more h = grind (arith, HasClassId-lasts)

@@ -4,22 +4,25 @@ use Rattle.std.proofs.lemmas.List.{take_rest, take-append-drop, length-take-le, 
 use Rattle.infer_deep.specs.Numbers.{le32}
 use Rattle.infer_deep.specs.Signatures.{Lasts, ComesWith, AreApart, IsEarly}
 use Rattle.infer_deep.specs.Joined.{Behind, SkipsTo, NoneBegins, BeginsWith}
-use Rattle.infer_deep.proofs.PlaceLemmas.{OccursAt-append, OccursAt-agree, OccursAt-first, OccursAt-front, OccursAt-begins, begins-from_OccursAt}
+use Rattle.infer_deep.proofs.PlaceLemmas.{Carries, OccursAt-append, OccursAt-agree, OccursAt-first, OccursAt-front, OccursAt-begins, begins-from_OccursAt}
 use Rattle.infer_deep.proofs.NumberLemmas.{le32-append}
 use Rattle.infer_deep.proofs.JoinedLemmas.{IsPrefixFree, Stops, WordsBegin, same_fronts, NoneBegins-first, Behind-lead, Behind-lasts, Behind-comes, Behind-left, Behind-trimmed, Behind-apart}
 use Rattle.infer_deep.specs.Frames.{BeginsFrame, IsFrame, IsFramed}
 use Rattle.memchr.specs.Find.{OccursAt}
 
--- what begins as a frame in front of anything begins so by itself
-BeginsFrame-front : (b more : List ℕ) → 4 ≤ length b → BeginsFrame (b ++ more) → BeginsFrame b
-BeginsFrame-front b more l f =
+-- what begins as a frame does so with other bytes behind its first four
+BeginsFrame-carried : (b c : List ℕ) → Carries 4 b c → get_or b 0 0 ≡ get_or c 0 0 → BeginsFrame b → BeginsFrame c
+BeginsFrame-carried b c carries first f =
     let low = f.low in
     let high = f.high in
-    let first = get_or_append_left b more 0 0 (omega arith) in
-    record { low = omega arith; high = omega arith; mark = OccursAt-front b more _ 1 (omega arith) f.mark }
+    record { low = omega arith; high = omega arith; mark = carries _ 1 (omega arith) f.mark }
+
+front_begins : (b more : List ℕ) → 4 ≤ length b → BeginsFrame (b ++ more) → BeginsFrame b
+front_begins b more l f =
+    BeginsFrame-carried (b ++ more) b (λ text p within o. OccursAt-front b more text p (omega arith) o) (get_or_append_left b more 0 0 (omega arith)) f
 
 pub BeginsFrame-early : IsEarly BeginsFrame
-BeginsFrame-early b more long f = BeginsFrame-front b more (omega arith) f
+BeginsFrame-early b more long f = front_begins b more (omega arith) f
 
 -- what a buffer says of the frame that begins it
 module _ (b word rest : List ℕ) (f : IsFrame word) (e : b ≡ word ++ rest) where
@@ -36,11 +39,8 @@ module _ (b word rest : List ℕ) (f : IsFrame word) (e : b ≡ word ++ rest) wh
 IsFrame-begins : (b rest : List ℕ) → BeginsWith IsFrame b rest → BeginsFrame b
 IsFrame-begins b rest w =
     let s = w.kind.sized in
-    let low = w.kind.begins.low in
-    let high = w.kind.begins.high in
-    let first = get_or_append_left w.word rest 0 0 (omega arith) in
-    subst BeginsFrame (sym w.whole)
-    (record { low = omega arith; high = omega arith; mark = OccursAt-append w.word rest _ 1 w.kind.begins.mark })
+    subst BeginsFrame (sym w.whole) (BeginsFrame-carried w.word (w.word ++ rest) (λ text p within o. OccursAt-append w.word rest text p o)
+    (sym (get_or_append_left w.word rest 0 0 (omega arith))) w.kind.begins)
 
 IsFrame-prefix_free : IsPrefixFree IsFrame
 IsFrame-prefix_free v w x y f g e =
@@ -59,7 +59,7 @@ frame_begins b n is begins fits =
     record {
       word = take n b;
       kind = record {
-        begins = BeginsFrame-front (take n b) (drop n b) (omega arith) (subst BeginsFrame (sym split) begins);
+        begins = front_begins (take n b) (drop n b) (omega arith) (subst BeginsFrame (sym split) begins);
         sized = omega arith;
       };
       whole = sym split ∙ ap (λ u. take n b ++ u) (sym (take_rest b n));

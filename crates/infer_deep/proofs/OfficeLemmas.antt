@@ -1,5 +1,5 @@
 -- The headers of an Office document: each is one place, and stays it in a buffer that grows.
-use Rattle.std.proofs.Common.{◌≡◌, ℕ, ◌+◌, ◌<◌, ◌≤◌, List, ◌++◌, Option, Some, None, length, refl, sym, ap, subst, ◌∙◌, inl, inr, arith, min, take, drop, ◌-◌, ◌↔◌}
+use Rattle.std.proofs.Common.{◌≡◌, ℕ, ◌+◌, ◌<◌, ◌≤◌, List, ◌++◌, Option, Some, None, length, refl, sym, ap, subst, ◌∙◌, inl, inr, arith, codes, min, take, drop, ◌-◌, ◌↔◌}
 use Rattle.std.specs.Option.{unwrap_or}
 use Rattle.memchr.specs.Find.{OccursAt}
 use Rattle.infer_deep.specs.Numbers.{le32}
@@ -47,10 +47,7 @@ fourth_from_search b third t free None none = λ p d.
 fourth_from_search b third t free (Some p) there = record { third = third; third_found = t; decides = inr (free, there) }
 
 same_decided : (b : List ℕ) (third p q : ℕ) → DecidesBehind b third p → DecidesBehind b third q → p ≡ q
-same_decided b third p q (inl h) (inl k) = h.1 ∙ sym k.1
-same_decided b third p q (inl h) (inr k) = absurd (k.0 h.0)
-same_decided b third p q (inr h) (inl k) = absurd (h.0 k.0)
-same_decided b third p q (inr h) (inr k) = IsFirstPlace-same b zip_header _ _ p q h.1 k.1
+same_decided b third p q d e = grind (arith, IsFirstPlace-same b zip_header (third + 56) (third + 56 + 6000) p q)
 
 IsDecidingHeader-one : (b : List ℕ) → IsUnique (IsDecidingHeader b)
 IsDecidingHeader-one b p q d e =
@@ -97,18 +94,15 @@ folder_follows b folder (Some p) n some d is =
 -- what stands in one buffer and another
 module _ (b c : List ℕ) (n : ℕ) (carries : Carries n b c) where
   HasFolder-carried : (p : ℕ) → p + 5 ≤ n → HasFolder b p → HasFolder c p
-  HasFolder-carried p l (inl o) = inl (carries _ p (omega arith) o)
-  HasFolder-carried p l (inr (inl o)) = inr (inl (carries _ p (omega arith) o))
-  HasFolder-carried p l (inr (inr o)) = inr (inr (carries _ p (omega arith) o))
+  HasFolder-carried p l h = grind (arith, carries (codes "word/") p, carries (codes "ppt/") p, carries (codes "xl/") p)
 
   HasOfficeName-carried : 49 ≤ n → HasOfficeName b → HasOfficeName c
-  HasOfficeName-carried l (inl o) = inl (carries _ 30 (omega arith) o)
-  HasOfficeName-carried l (inr (inl o)) = inr (inl (carries _ 30 (omega arith) o))
-  HasOfficeName-carried l (inr (inr o)) = inr (inr (carries _ 30 (omega arith) o))
+  HasOfficeName-carried l h =
+      grind (arith, carries (codes "[Content_Types].xml") 30, carries (codes "_rels/.rels") 30, carries (codes "docProps") 30)
 
 -- where a name of Office stands, a folder would stand too
 name_long : (b : List ℕ) → HasOfficeName b → 35 ≤ length b
-name_long b name = elim name [ inl o ↦ let f = o.fits in omega arith | inr (inl o) ↦ let f = o.fits in omega arith | inr (inr o) ↦ let f = o.fits in omega arith ]
+name_long b name = grind arith
 
 -- in a buffer that grows
 module _ (b more : List ℕ) where

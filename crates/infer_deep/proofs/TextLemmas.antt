@@ -1,5 +1,5 @@
 -- White space, marks and tags: what a buffer begins with, and what is markup behind them.
-use Rattle.std.proofs.Common.{◌≡◌, ◌↔◌, ℕ, suc, ◌+◌, ◌-◌, ◌<◌, ◌≤◌, ◌⊎◌, Bool, true, ◌&&◌, not, cond, List, [], ◌∷◌, ◌++◌, length, get_or, take, drop, map, refl, sym, ap, subst, ◌∙◌, inl, inr, arith, eqb, ltb, length-append}
+use Rattle.std.proofs.Common.{◌≡◌, ◌↔◌, ℕ, suc, ◌+◌, ◌-◌, ◌<◌, ◌≤◌, ◌⊎◌, Bool, true, ◌&&◌, not, List, [], ◌∷◌, ◌++◌, length, get_or, take, drop, map, refl, sym, ap, subst, ◌∙◌, inl, inr, arith, eqb, ltb, length-append}
 use Rattle.std.proofs.Math.ListN.{get_or-map}
 use Rattle.std.proofs.lemmas.List.{take-append-drop, take_at, take_rest, get_or_append_left, drop_more, length-map, length-take-le, append_assoc}
 use Rattle.std.proofs.lemmas.List.Sums.{AllPass-from_list_all}
@@ -12,7 +12,7 @@ use Rattle.infer_deep.specs.Signatures.{Lasts, AreApart, ComesWith, IsEarly}
 use Rattle.infer_deep.specs.Joined.{Behind, SkipsTo, LeadsTo, NoneBegins, BeginsWith}
 use Rattle.infer_deep.specs.Text.{IsWhite, IsSpace, IsMark, IsSameInAnyCase, BeginsInAnyCase, BeginsMarked, BeginsWhite, BeginsWithTag, IsHtml, IsXml, tags}
 use Rattle.infer_deep.proofs.FrontLemmas.{IsTold, told-early, told-lasts}
-use Rattle.infer_deep.proofs.JoinedLemmas.{IsPrefixFree, Stops, WordsBegin, same_fronts, begun-first, SkipsTo-none, SkipsTo-cons, NoneBegins-first, Behind-lead, Behind-lasts, Behind-comes, Behind-left, Behind-trimmed, Behind-apart}
+use Rattle.infer_deep.proofs.JoinedLemmas.{IsPrefixFree, Stops, WordsBegin, begun-first, SkipsTo-none, SkipsTo-cons, NoneBegins-first, Behind-lead, Behind-lasts, Behind-comes, Behind-left, Behind-trimmed, Behind-apart}
 use Rattle.infer_deep.proofs.PlaceLemmas.{begins-from_OccursAt, OccursAt-begins, OccursAt-front}
 
 -- a mark that stands at the front
@@ -59,23 +59,11 @@ IsSpace-begin word (x, white, e) = subst (λ (u : List ℕ). (0 < length u) × I
 abbrev IsMarkByte : ℕ → Type 0
 IsMarkByte x = (x ≡ 0xEF) ⊎ (x ≡ 0xFE) ⊎ (x ≡ 0xFF)
 
--- what holds of the three marks holds of each
-each_mark : (R : List ℕ → Type 0) → R (0xEF ∷ 0xBB ∷ 0xBF ∷ []) → R (0xFE ∷ 0xFF ∷ []) → R (0xFF ∷ 0xFE ∷ []) → (word : List ℕ) → IsMark word → R word
-each_mark R x y z word is = elim is [ inl e ↦ subst R (sym e) x | inr (inl e) ↦ subst R (sym e) y | inr (inr e) ↦ subst R (sym e) z ]
-
 IsMark-begin : WordsBegin IsMark IsMarkByte
-IsMark-begin = each_mark (λ (u : List ℕ). (0 < length u) × IsMarkByte (get_or u 0 0))
-    (omega arith, inl refl) (omega arith, inr (inl refl)) (omega arith, inr (inr refl))
-
-length-mark : (word : List ℕ) → IsMark word → length word ≡ cond (eqb (get_or word 0 0) 0xEF) 3 2
-length-mark = each_mark (λ u. length u ≡ cond (eqb (get_or u 0 0) 0xEF) 3 2) refl refl refl
+IsMark-begin word is = grind arith
 
 IsMark-prefix_free : IsPrefixFree IsMark
-IsMark-prefix_free v w x y f g e =
-    let first : get_or v 0 0 ≡ get_or w 0 0
-    = sym (get_or_append_left v x 0 0 (IsMark-begin v f).0) ∙ ap (λ u. get_or u 0 0) e
-    ∙ get_or_append_left w y 0 0 (IsMark-begin w g).0 in
-    same_fronts v w x y (length-mark v f ∙ ap (λ c. cond (eqb c 0xEF) 3 2) first ∙ sym (length-mark w g)) e
+IsMark-prefix_free v w x y f g e = grind arith
 
 -- texts that are the same in any case
 same_length : (word text : List ℕ) → IsSameInAnyCase word text → length word ≡ length text
@@ -258,7 +246,7 @@ BeginsWhite-early b more long w = subst IsWhite (get_or_append_left b more 0 0 (
 
 pub BeginsMarked-early : IsEarly BeginsMarked
 BeginsMarked-early b more long (mark, is, o) =
-    let short = each_mark (λ u. length u ≤ 3) (omega arith) (omega arith) (omega arith) mark is in
+    let short : length mark ≤ 3 = grind arith in
     (mark, is, OccursAt-front b more mark 0 (omega arith) o)
 
 white_begins : (b more rest : List ℕ) → 1024 ≤ length b → BeginsWith IsSpace (b ++ more) rest → BeginsWhite b

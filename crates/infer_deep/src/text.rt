@@ -83,7 +83,6 @@ fn trim_start_whitespaces(buf: &[u8]) -> &[u8]
 }
 
 /// What follows the blocks of `N` white bytes at the front of `buf`.
-
 #[inline(always)]
 fn after_white_blocks<const N: usize>(mut buf: &[u8]) -> &[u8]
     requires some { 0 < N }

@@ -4,11 +4,8 @@ use Rattle.infer_deep.proofs.places.find.Goals as goal
 
 pub returns-then-stop-start-2 : goal.returns-then-stop-start-2
 returns-then-stop-start-2 c =
-    IsFirstWithin-later c.args.buf.now c.args.text.now c.args.rare c.args.start c.args.end c.min-stop.result c.places_free-free.result
-    (omega arith) c.min-stop.ensures c.places_free-free.ensures.lacks None
+    IsFirstWithin-later _ _ _ _ _ _ _ (omega arith) c.min-stop.ensures c.places_free-free.ensures.lacks None
     (λ p w. let low = w.low in let high = w.high in let fits = w.stands.fits in omega arith)
 
 pub returns : goal.returns
-returns c =
-    IsFirstWithin-later c.args.buf.now c.args.text.now c.args.rare c.args.start c.args.end c.min-stop.result c.places_free-free.result
-    (omega arith) c.min-stop.ensures c.places_free-free.ensures.lacks _ c.search.ensures
+returns c = IsFirstWithin-later _ _ _ _ _ _ _ (omega arith) c.min-stop.ensures c.places_free-free.ensures.lacks _ c.search.ensures
