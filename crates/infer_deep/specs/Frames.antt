@@ -19,11 +19,11 @@ pub record IsFrame (frame : List ℕ) : Type 0 where
 abbrev pub IsFramed : List ℕ → List ℕ → Type 0
 IsFramed magic b = (rest : List ℕ) × SkipsTo IsFrame b (magic ++ rest)
 
--- the magic number of Zstandard
+-- the magic number of Zstandard: RFC 8878
 abbrev pub zst_magic : List ℕ
 zst_magic = 0x28 ∷ 0xB5 ∷ 0x2F ∷ 0xFD ∷ []
 
--- the magic number of LZ4
+-- the magic number of LZ4: "LZ4 Frame Format Description"
 abbrev pub lz4_magic : List ℕ
 lz4_magic = 0x04 ∷ 0x22 ∷ 0x4D ∷ 0x18 ∷ []
 

@@ -1,12 +1,12 @@
--- Office Open XML documents, by the folder of one of their ZIP entries.
-use Rattle.std.specs.Prelude.{◌≡◌, ℕ, ◌+◌, ◌≤◌, ◌⊎◌, List, [], ◌∷◌, codes}
+-- Office Open XML documents, by the folder of one of their ZIP entries. ISO/IEC 29500-2 defines the packages.
+use Rattle.std.specs.Prelude.{◌≡◌, ℕ, ◌+◌, ◌≤◌, ◌⊎◌, List, [], ◌∷◌, ◌++◌, codes}
 use Rattle.memchr.specs.Find.{OccursAt}
 use Rattle.infer_deep.specs.Numbers.{le32}
 use Rattle.infer_deep.specs.Places.{IsFirstPlace}
 
--- with which the local header of a ZIP entry begins
+-- with which the local header of a ZIP entry begins: "APPNOTE.TXT - .ZIP File Format Specification"
 abbrev pub zip_header : List ℕ
-zip_header = 0x50 ∷ 0x4B ∷ 0x03 ∷ 0x04 ∷ []
+zip_header = codes "PK" ++ 0x03 ∷ 0x04 ∷ []
 
 -- p is the least place from s on at which a header stands, and its four bytes end by s + 6000
 abbrev pub IsHeaderFrom : List ℕ → ℕ → ℕ → Type 0

@@ -18,7 +18,8 @@ pub fn stands_at(buf: &[u8], text: &[u8], place: usize) -> bool
 }
 
 #[tactic(auto, using(crate::proofs::WindowLemmas::found_stands))]
-pub fn stands_by(buf: &[u8], text: &[u8], rare: usize, end: usize) -> bool
+/// Whether `text` stands anywhere in `buf` and ends by `end`. The two bytes of `text` from `rare` on are rare ones.
+pub(crate) fn stands_by(buf: &[u8], text: &[u8], rare: usize, end: usize) -> bool
     requires { rare + 2 ≤ length text.now }
     ensures { IsTrue result ↔ StandsBy text.now end buf.now }
 {
@@ -29,7 +30,7 @@ pub fn stands_by(buf: &[u8], text: &[u8], rare: usize, end: usize) -> bool
 ///
 /// Most buffers lack the two bytes of `text` from `rare` on, which a look at whole blocks shows faster than the
 /// search.
-pub fn find(buf: &[u8], text: &[u8], rare: usize, start: usize, end: usize) -> Option<usize>
+pub(crate) fn find(buf: &[u8], text: &[u8], rare: usize, start: usize, end: usize) -> Option<usize>
     requires { rare + 2 ≤ length text.now }
     ensures { IsFirstWithin buf.now text.now start end result }
 {
@@ -44,7 +45,7 @@ pub fn find(buf: &[u8], text: &[u8], rare: usize, start: usize, end: usize) -> O
     search(buf, text, start + free, end)
 }
 
-// Whether `text` stands at the place and ends by `stop`.
+/// Whether `text` stands at `place` and ends by `stop`.
 #[inline(always)]
 fn stands_within(buf: &[u8], text: &[u8], place: usize, stop: usize) -> bool
     requires { place ≤ stop }
@@ -53,8 +54,7 @@ fn stands_within(buf: &[u8], text: &[u8], place: usize, stop: usize) -> bool
     text.len() <= stop - place && stands_at(buf, text, place)
 }
 
-// Places with the two rarest bytes of the text are compared whole. The finder of `memmem` may own its text, and would
-// bring in the heap.
+/// The same by the two rarest bytes of `text`: where they stand, the whole of it is compared.
 #[tactic(auto, using(crate::proofs::SearchLemmas::first_at_pair, crate::proofs::SearchLemmas::none_past_pair, crate::proofs::SearchLemmas::none_without_pair))]
 #[inline(never)]
 fn search(buf: &[u8], text: &[u8], start: usize, end: usize) -> Option<usize>
@@ -65,6 +65,7 @@ fn search(buf: &[u8], text: &[u8], start: usize, end: usize) -> Option<usize>
     if start > stop {
         return None;
     }
+    // The finder of `memmem` may own its text, and would bring in the heap.
     let pair = packedpair::Finder::new(text)?;
     let mut from = start;
     for _turn in start..stop {
@@ -107,7 +108,7 @@ fn pair_free(hay: &[u8], first: u8, second: u8) -> usize
     hay.len() - 1
 }
 
-/// Whether the two bytes stand together at one of the first 128 places.
+/// Whether the two bytes stand together at one of the first 128 places. A block without the first is told sooner.
 #[inline(always)]
 fn has_pair(block: &[u8], first: u8, second: u8) -> bool
     requires { 129 ≤ length block.now }
@@ -116,12 +117,13 @@ fn has_pair(block: &[u8], first: u8, second: u8) -> bool
     has_byte(block, first) && stand_together(block, first, second)
 }
 
-// No early exit: of a loop whose length is known the compiler makes vectors.
+/// Whether `byte` is one of the first 128.
 #[inline(always)]
 fn has_byte(block: &[u8], byte: u8) -> bool
     requires { 128 ≤ length block.now }
     ensures { OnFalse result ((p : ℕ) → p < 128 → ¬ (slice_index block.now p ≡ byte)) }
 {
+    // No early exit: of a loop whose length is known the compiler makes vectors.
     let mut any = false;
     for i in 0..128 {
         any |= block[i] == byte;
@@ -129,6 +131,7 @@ fn has_byte(block: &[u8], byte: u8) -> bool
     any
 }
 
+/// The same by both bytes at each place.
 #[inline(always)]
 fn stand_together(block: &[u8], first: u8, second: u8) -> bool
     requires { 129 ≤ length block.now }

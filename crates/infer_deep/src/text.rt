@@ -98,12 +98,13 @@ fn after_white_blocks<const N: usize>(mut buf: &[u8]) -> &[u8]
     buf
 }
 
-// No early exit: of a loop whose length is known the compiler makes vectors.
+/// Whether each byte of the block is white.
 #[inline(always)]
 fn all_white<const N: usize>(block: &[u8; N]) -> bool
     requires { N ≤ 64 }
     ensures { OnTrue result (AllBelow IsWhite block.now N) }
 {
+    // No early exit: of a loop whose length is known the compiler makes vectors.
     let mut all = true;
     for byte in block {
         all &= is_white(*byte);
@@ -132,11 +133,11 @@ fn after_space(buf: &[u8]) -> Option<&[u8]>
     Some(&buf[1..])
 }
 
-// Without branches, so that many bytes are tested at once.
 #[inline(always)]
 fn is_white(byte: u8) -> bool
     ensures { IsTrue result ↔ IsWhite byte }
 {
+    // Without branches, so that many bytes are tested at once.
     (byte == b' ') | ((byte >= b'\t') & (byte <= b'\r') & (byte != 0x0B))
 }
 
