@@ -1,22 +1,27 @@
 -- The fixed signatures of archives, in the order of their rows.
 use Rattle.std.specs.Prelude.{List, [], ◌∷◌, ◌++◌, codes}
+use Rattle.infer_deep.specs.ClassId.{compound_header}
+use Rattle.infer_deep.specs.Office.{zip_header}
 use Rattle.infer_sig.specs.Signature.{Alternative, at_least, text, byte, any_of}
 
+-- "APPNOTE.TXT - .ZIP File Format Specification"
 abbrev pub zip : List Alternative
-zip = at_least 4 (text 0 (0x50 ∷ 0x4B ∷ 0x03 ∷ 0x04 ∷ []) ∷ [])
-    ∷ at_least 4 (text 0 (0x50 ∷ 0x4B ∷ 0x05 ∷ 0x06 ∷ []) ∷ [])
-    ∷ at_least 4 (text 0 (0x50 ∷ 0x4B ∷ 0x07 ∷ 0x08 ∷ []) ∷ [])
-    ∷ at_least 8 (text 0 (0x50 ∷ 0x4B ∷ 0x30 ∷ 0x30 ∷ 0x50 ∷ 0x4B ∷ 0x03 ∷ 0x04 ∷ []) ∷ []) ∷ []
+zip = at_least 4 (text 0 zip_header ∷ [])
+    ∷ at_least 4 (text 0 (codes "PK" ++ 0x05 ∷ 0x06 ∷ []) ∷ [])
+    ∷ at_least 4 (text 0 (codes "PK" ++ 0x07 ∷ 0x08 ∷ []) ∷ [])
+    ∷ at_least 8 (text 0 (codes "PK00" ++ zip_header) ∷ []) ∷ []
 
+-- POSIX.1, the ustar format of the command pax
 abbrev pub tar : List Alternative
 tar = at_least 262 (text 257 (codes "ustar") ∷ []) ∷ []
 
 abbrev pub par2 : List Alternative
-par2 = at_least 9 (text 0 (0x50 ∷ 0x41 ∷ 0x52 ∷ 0x32 ∷ 0x00 ∷ 0x50 ∷ 0x4B ∷ 0x54 ∷ []) ∷ []) ∷ []
+par2 = at_least 9 (text 0 (codes "PAR2" ++ 0x00 ∷ codes "PKT") ∷ []) ∷ []
 
 abbrev pub rar : List Alternative
-rar = at_least 7 (text 0 (0x52 ∷ 0x61 ∷ 0x72 ∷ 0x21 ∷ 0x1A ∷ 0x07 ∷ []) ∷ byte 6 (any_of (0x00 ∷ 0x01 ∷ [])) ∷ []) ∷ []
+rar = at_least 7 (text 0 (codes "Rar!" ++ 0x1A ∷ 0x07 ∷ []) ∷ byte 6 (any_of (0x00 ∷ 0x01 ∷ [])) ∷ []) ∷ []
 
+-- RFC 1952
 abbrev pub gz : List Alternative
 gz = at_least 3 (text 0 (0x1F ∷ 0x8B ∷ 0x08 ∷ []) ∷ []) ∷ []
 
@@ -27,25 +32,28 @@ abbrev pub bz3 : List Alternative
 bz3 = at_least 5 (text 0 (codes "BZ3v1") ∷ []) ∷ []
 
 abbrev pub seven_z : List Alternative
-seven_z = at_least 6 (text 0 (0x37 ∷ 0x7A ∷ 0xBC ∷ 0xAF ∷ 0x27 ∷ 0x1C ∷ []) ∷ []) ∷ []
+seven_z = at_least 6 (text 0 (codes "7z" ++ 0xBC ∷ 0xAF ∷ 0x27 ∷ 0x1C ∷ []) ∷ []) ∷ []
 
+-- "The .xz File Format"
 abbrev pub xz : List Alternative
-xz = at_least 6 (text 0 (0xFD ∷ 0x37 ∷ 0x7A ∷ 0x58 ∷ 0x5A ∷ 0x00 ∷ []) ∷ []) ∷ []
+xz = at_least 6 (text 0 (0xFD ∷ codes "7zXZ" ++ 0x00 ∷ []) ∷ []) ∷ []
 
 abbrev pub swf : List Alternative
-swf = at_least 3 (byte 0 (any_of (0x43 ∷ 0x46 ∷ [])) ∷ text 1 (0x57 ∷ 0x53 ∷ []) ∷ []) ∷ []
+swf = at_least 3 (byte 0 (any_of (codes "CF")) ∷ text 1 (codes "WS") ∷ []) ∷ []
 
 abbrev pub rtf : List Alternative
-rtf = at_least 5 (text 0 (0x7B ∷ 0x5C ∷ 0x72 ∷ 0x74 ∷ 0x66 ∷ []) ∷ []) ∷ []
+rtf = at_least 5 (text 0 (0x7B ∷ 0x5C ∷ codes "rtf") ∷ []) ∷ []
 
+-- W3C, "Embedded OpenType (EOT) File Format"
 abbrev pub eot : List Alternative
-eot = at_least 36 (text 8 (0x02 ∷ 0x00 ∷ 0x01 ∷ []) ∷ text 34 (0x4C ∷ 0x50 ∷ []) ∷ [])
-    ∷ at_least 36 (text 8 (0x01 ∷ 0x00 ∷ 0x00 ∷ []) ∷ text 34 (0x4C ∷ 0x50 ∷ []) ∷ [])
-    ∷ at_least 36 (text 8 (0x02 ∷ 0x00 ∷ 0x02 ∷ []) ∷ text 34 (0x4C ∷ 0x50 ∷ []) ∷ []) ∷ []
+eot = at_least 36 (text 8 (0x02 ∷ 0x00 ∷ 0x01 ∷ []) ∷ text 34 (codes "LP") ∷ [])
+    ∷ at_least 36 (text 8 (0x01 ∷ 0x00 ∷ 0x00 ∷ []) ∷ text 34 (codes "LP") ∷ [])
+    ∷ at_least 36 (text 8 (0x02 ∷ 0x00 ∷ 0x02 ∷ []) ∷ text 34 (codes "LP") ∷ []) ∷ []
 
 abbrev pub ps : List Alternative
-ps = at_least 2 (text 0 (0x25 ∷ 0x21 ∷ []) ∷ []) ∷ []
+ps = at_least 2 (text 0 (codes "%!") ∷ []) ∷ []
 
+-- SQLite, "Database File Format"
 abbrev pub sqlite : List Alternative
 sqlite = at_least 4 (text 0 (codes "SQLi") ∷ []) ∷ []
 
@@ -55,6 +63,7 @@ nes = at_least 4 (text 0 (codes "NES" ++ 0x1A ∷ []) ∷ []) ∷ []
 abbrev pub crx : List Alternative
 crx = at_least 4 (text 0 (codes "Cr24") ∷ []) ∷ []
 
+-- MS-CAB
 abbrev pub cab : List Alternative
 cab = at_least 4 (text 0 (codes "MSCF") ∷ [])
     ∷ at_least 4 (text 0 (codes "ISc(") ∷ []) ∷ []
@@ -74,11 +83,13 @@ lz = at_least 4 (text 0 (codes "LZIP") ∷ []) ∷ []
 abbrev pub rpm : List Alternative
 rpm = at_least 97 (text 0 (0xED ∷ 0xAB ∷ 0xEE ∷ 0xDB ∷ []) ∷ []) ∷ []
 
+-- DICOM PS3.10
 abbrev pub dcm : List Alternative
 dcm = at_least 132 (text 128 (codes "DICM") ∷ []) ∷ []
 
+-- MS-CFB
 abbrev pub msi : List Alternative
-msi = at_least 8 (text 0 (0xD0 ∷ 0xCF ∷ 0x11 ∷ 0xE0 ∷ 0xA1 ∷ 0xB1 ∷ 0x1A ∷ 0xE1 ∷ []) ∷ []) ∷ []
+msi = at_least 8 (text 0 compound_header ∷ []) ∷ []
 
 abbrev pub cpio : List Alternative
 cpio = at_least 2 (text 0 (0xC7 ∷ 0x71 ∷ []) ∷ [])

@@ -1,4 +1,5 @@
 pub mod Signature
+pub mod Headers
 pub mod App
 pub mod Book
 pub mod Image

@@ -1,18 +1,22 @@
 -- The fixed signatures of OpenDocument files, in the order of their rows.
 use Rattle.std.specs.Prelude.{List, [], ◌∷◌, codes}
+use Rattle.infer_deep.specs.Office.{zip_header}
 use Rattle.infer_sig.specs.Signature.{Alternative, at_least, text}
 
+-- "OpenDocument", ISO/IEC 26300
 abbrev pub odt : List Alternative
 odt = at_least 77
-    (text 0 (0x50 ∷ 0x4B ∷ 0x03 ∷ 0x04 ∷ []) ∷ text 30 (codes "mimetype")
+    (text 0 zip_header ∷ text 30 (codes "mimetype")
     ∷ text 50 (codes "vnd.oasis.opendocument.text") ∷ []) ∷ []
 
+-- "OpenDocument", ISO/IEC 26300
 abbrev pub ods : List Alternative
 ods = at_least 84
-    (text 0 (0x50 ∷ 0x4B ∷ 0x03 ∷ 0x04 ∷ []) ∷ text 30 (codes "mimetype")
+    (text 0 zip_header ∷ text 30 (codes "mimetype")
     ∷ text 50 (codes "vnd.oasis.opendocument.spreadsheet") ∷ []) ∷ []
 
+-- "OpenDocument", ISO/IEC 26300
 abbrev pub odp : List Alternative
 odp = at_least 85
-    (text 0 (0x50 ∷ 0x4B ∷ 0x03 ∷ 0x04 ∷ []) ∷ text 30 (codes "mimetype")
+    (text 0 zip_header ∷ text 30 (codes "mimetype")
     ∷ text 50 (codes "vnd.oasis.opendocument.presentation") ∷ []) ∷ []

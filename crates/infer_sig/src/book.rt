@@ -3,15 +3,15 @@ ghost use Rattle.std.specs.Prelude.{◌≡◌};
 ghost use Rattle.infer_sig.specs.Signature.{accepts};
 ghost use Rattle.infer_sig.specs.Book.{epub, mobi};
 
-use crate::stands::stands;
+use crate::places::stands_at;
 
 /// EPUB: at least 58 bytes, a ZIP header first, "mimetypeapplication/epub+zip" at 30.
 pub fn is_epub(buf: &[u8]) -> bool
     ensures { result ≡ accepts epub buf.now }
 {
     buf.len() >= 58
-        && stands(buf, 0, b"PK\x03\x04")
-        && stands(buf, 30, b"mimetypeapplication/epub+zip")
+        && stands_at(buf, b"PK\x03\x04", 0)
+        && stands_at(buf, b"mimetypeapplication/epub+zip", 30)
 }
 
 /// Mobipocket: at least 68 bytes, "BOOKMOBI" at 60.
@@ -19,5 +19,5 @@ pub fn is_epub(buf: &[u8]) -> bool
 pub fn is_mobi(buf: &[u8]) -> bool
     ensures { result ≡ accepts mobi buf.now }
 {
-    buf.len() >= 68 && stands(buf, 60, b"BOOKMOBI")
+    buf.len() >= 68 && stands_at(buf, b"BOOKMOBI", 60)
 }

@@ -3,35 +3,35 @@ ghost use Rattle.std.specs.Prelude.{◌≡◌};
 ghost use Rattle.infer_sig.specs.Signature.{accepts};
 ghost use Rattle.infer_sig.specs.Image.{bmp, cr2, djvu, dwg, gif, ico, jpeg, jpeg2000, jxl, jxr, ora, png, psd, tiff, webp};
 
-use crate::stands::{any_stands, stands};
+use crate::places::{any_stands_at, stands_at};
 pub use infer_deep::image::{is_avif, is_heif};
 
 /// JPEG: at least 3 bytes, FF D8 FF first.
 pub fn is_jpeg(buf: &[u8]) -> bool
     ensures { result ≡ accepts jpeg buf.now }
 {
-    buf.len() >= 3 && stands(buf, 0, b"\xFF\xD8\xFF")
+    buf.len() >= 3 && stands_at(buf, b"\xFF\xD8\xFF", 0)
 }
 
 /// JPEG 2000: at least 13 bytes, the signature box 00 00 00 0C "jP  " 0D 0A 87 0A and 00 first.
 pub fn is_jpeg2000(buf: &[u8]) -> bool
     ensures { result ≡ accepts jpeg2000 buf.now }
 {
-    buf.len() >= 13 && stands(buf, 0, b"\x00\x00\x00\x0CjP  \r\n\x87\n\x00")
+    buf.len() >= 13 && stands_at(buf, b"\x00\x00\x00\x0CjP  \r\n\x87\n\x00", 0)
 }
 
 /// PNG: at least 4 bytes, 89 "PNG" first.
 pub fn is_png(buf: &[u8]) -> bool
     ensures { result ≡ accepts png buf.now }
 {
-    buf.len() >= 4 && stands(buf, 0, b"\x89PNG")
+    buf.len() >= 4 && stands_at(buf, b"\x89PNG", 0)
 }
 
 /// GIF: at least 3 bytes, "GIF" first.
 pub fn is_gif(buf: &[u8]) -> bool
     ensures { result ≡ accepts gif buf.now }
 {
-    buf.len() >= 3 && stands(buf, 0, b"GIF")
+    buf.len() >= 3 && stands_at(buf, b"GIF", 0)
 }
 
 /// WebP: at least 12 bytes, "WEBP" at 8.
@@ -39,7 +39,7 @@ pub fn is_gif(buf: &[u8]) -> bool
 pub fn is_webp(buf: &[u8]) -> bool
     ensures { result ≡ accepts webp buf.now }
 {
-    buf.len() >= 12 && stands(buf, 8, b"WEBP")
+    buf.len() >= 12 && stands_at(buf, b"WEBP", 8)
 }
 
 /// Canon's raw image CR2: at least 11 bytes, a TIFF header of either byte order first, "CR" 02 at 8.
@@ -47,8 +47,8 @@ pub fn is_cr2(buf: &[u8]) -> bool
     ensures { result ≡ accepts cr2 buf.now }
 {
     buf.len() >= 11
-        && (stands(buf, 0, b"II*\x00") || stands(buf, 0, b"MM\x00*"))
-        && stands(buf, 8, b"CR\x02")
+        && (stands_at(buf, b"II*\x00", 0) || stands_at(buf, b"MM\x00*", 0))
+        && stands_at(buf, b"CR\x02", 8)
 }
 
 /// TIFF: at least 10 bytes, a TIFF header of either byte order first, at 8 no "C" and at 9 no "R".
@@ -58,7 +58,7 @@ pub fn is_tiff(buf: &[u8]) -> bool
     ensures { result ≡ accepts tiff buf.now }
 {
     buf.len() >= 10
-        && (stands(buf, 0, b"II*\x00") || stands(buf, 0, b"MM\x00*"))
+        && (stands_at(buf, b"II*\x00", 0) || stands_at(buf, b"MM\x00*", 0))
         && buf[8] != b'C'
         && buf[9] != b'R'
 }
@@ -67,28 +67,28 @@ pub fn is_tiff(buf: &[u8]) -> bool
 pub fn is_bmp(buf: &[u8]) -> bool
     ensures { result ≡ accepts bmp buf.now }
 {
-    buf.len() >= 2 && stands(buf, 0, b"BM")
+    buf.len() >= 2 && stands_at(buf, b"BM", 0)
 }
 
 /// JPEG XR: at least 3 bytes, "II" BC first.
 pub fn is_jxr(buf: &[u8]) -> bool
     ensures { result ≡ accepts jxr buf.now }
 {
-    buf.len() >= 3 && stands(buf, 0, b"II\xBC")
+    buf.len() >= 3 && stands_at(buf, b"II\xBC", 0)
 }
 
 /// Photoshop: at least 4 bytes, "8BPS" first.
 pub fn is_psd(buf: &[u8]) -> bool
     ensures { result ≡ accepts psd buf.now }
 {
-    buf.len() >= 4 && stands(buf, 0, b"8BPS")
+    buf.len() >= 4 && stands_at(buf, b"8BPS", 0)
 }
 
 /// Windows icon: at least 4 bytes, 00 00 01 00 first.
 pub fn is_ico(buf: &[u8]) -> bool
     ensures { result ≡ accepts ico buf.now }
 {
-    buf.len() >= 4 && stands(buf, 0, b"\x00\x00\x01\x00")
+    buf.len() >= 4 && stands_at(buf, b"\x00\x00\x01\x00", 0)
 }
 
 /// JPEG XL: a codestream of at least 3 bytes, FF 0A first, or a container of at least 13 bytes, the signature
@@ -96,22 +96,24 @@ pub fn is_ico(buf: &[u8]) -> bool
 pub fn is_jxl(buf: &[u8]) -> bool
     ensures { result ≡ accepts jxl buf.now }
 {
-    buf.len() >= 3 && stands(buf, 0, b"\xFF\n")
-        || buf.len() >= 13 && stands(buf, 0, b"\x00\x00\x00\x0CJXL \r\n\x87\n")
+    buf.len() >= 3 && stands_at(buf, b"\xFF\n", 0)
+        || buf.len() >= 13 && stands_at(buf, b"\x00\x00\x00\x0CJXL \r\n\x87\n", 0)
 }
 
 /// OpenRaster: at least 58 bytes, a ZIP header first, "mimetypeimage/openraster" at 30.
 pub fn is_ora(buf: &[u8]) -> bool
     ensures { result ≡ accepts ora buf.now }
 {
-    buf.len() >= 58 && stands(buf, 0, b"PK\x03\x04") && stands(buf, 30, b"mimetypeimage/openraster")
+    buf.len() >= 58
+        && stands_at(buf, b"PK\x03\x04", 0)
+        && stands_at(buf, b"mimetypeimage/openraster", 30)
 }
 
 /// DjVu: at least 15 bytes, "AT&TFORM" first, "DJV" at 12.
 pub fn is_djvu(buf: &[u8]) -> bool
     ensures { result ≡ accepts djvu buf.now }
 {
-    buf.len() >= 15 && stands(buf, 0, b"AT&TFORM") && stands(buf, 12, b"DJV")
+    buf.len() >= 15 && stands_at(buf, b"AT&TFORM", 0) && stands_at(buf, b"DJV", 12)
 }
 
 const DWG_VERSIONS: [[u8; 6]; 24] = [
@@ -145,5 +147,5 @@ const DWG_VERSIONS: [[u8; 6]; 24] = [
 pub fn is_dwg(buf: &[u8]) -> bool
     ensures { result ≡ accepts dwg buf.now }
 {
-    buf.len() >= 6 && any_stands(buf, 0, &DWG_VERSIONS)
+    buf.len() >= 6 && any_stands_at(buf, &DWG_VERSIONS, 0)
 }

@@ -12,6 +12,6 @@ pub mod font;
 pub mod image;
 pub mod laws;
 pub mod odf;
-mod stands;
+mod places;
 pub mod text;
 pub mod video;

@@ -3,16 +3,16 @@ ghost use Rattle.std.specs.Prelude.{◌≡◌};
 ghost use Rattle.infer_sig.specs.Signature.{accepts};
 ghost use Rattle.infer_sig.specs.Odf.{odp, ods, odt};
 
-use crate::stands::stands;
+use crate::places::stands_at;
 
 /// OpenDocument text: at least 77 bytes, a ZIP header first, "mimetype" at 30, "vnd.oasis.opendocument.text" at 50.
 pub fn is_odt(buf: &[u8]) -> bool
     ensures { result ≡ accepts odt buf.now }
 {
     buf.len() >= 77
-        && stands(buf, 0, b"PK\x03\x04")
-        && stands(buf, 30, b"mimetype")
-        && stands(buf, 50, b"vnd.oasis.opendocument.text")
+        && stands_at(buf, b"PK\x03\x04", 0)
+        && stands_at(buf, b"mimetype", 30)
+        && stands_at(buf, b"vnd.oasis.opendocument.text", 50)
 }
 
 /// OpenDocument spreadsheet: at least 84 bytes, a ZIP header first, "mimetype" at 30,
@@ -21,9 +21,9 @@ pub fn is_ods(buf: &[u8]) -> bool
     ensures { result ≡ accepts ods buf.now }
 {
     buf.len() >= 84
-        && stands(buf, 0, b"PK\x03\x04")
-        && stands(buf, 30, b"mimetype")
-        && stands(buf, 50, b"vnd.oasis.opendocument.spreadsheet")
+        && stands_at(buf, b"PK\x03\x04", 0)
+        && stands_at(buf, b"mimetype", 30)
+        && stands_at(buf, b"vnd.oasis.opendocument.spreadsheet", 50)
 }
 
 /// OpenDocument presentation: at least 85 bytes, a ZIP header first, "mimetype" at 30,
@@ -32,7 +32,7 @@ pub fn is_odp(buf: &[u8]) -> bool
     ensures { result ≡ accepts odp buf.now }
 {
     buf.len() >= 85
-        && stands(buf, 0, b"PK\x03\x04")
-        && stands(buf, 30, b"mimetype")
-        && stands(buf, 50, b"vnd.oasis.opendocument.presentation")
+        && stands_at(buf, b"PK\x03\x04", 0)
+        && stands_at(buf, b"mimetype", 30)
+        && stands_at(buf, b"vnd.oasis.opendocument.presentation", 50)
 }

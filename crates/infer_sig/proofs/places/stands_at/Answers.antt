@@ -2,7 +2,7 @@
 use Rattle.std.proofs.Common.{◌≡◌, ℕ, zero, suc, ◌+◌, ◌-◌, ◌<◌, Bool, true, false, ◌&&◌, List, [], ◌∷◌, length, get_or, take, drop, refl, ap, ◌∙◌, arith, rules, tests, eqb, nat_eq, add-one, take-take, length-take, length-drop, take_all}
 use Rattle.std.specs.Cmp.Lexicographic.{pointwise}
 use Rattle.infer_sig.specs.Signature.{stands}
-use Rattle.infer_sig.proofs.stands.stands.Goals as goal
+use Rattle.infer_sig.proofs.places.stands_at.Goals as goal
 
 and_last : (a b : ℕ) → (eqb a b && true) ≡ eqb b a
 and_last a b = search (rules, tests)

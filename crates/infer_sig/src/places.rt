@@ -3,12 +3,13 @@ ghost use Rattle.std.specs.Prelude.{◌≡◌, ◌≤◌, ◌+◌, length};
 ghost use Rattle.std.specs.List.{list_any};
 ghost use Rattle.infer_sig.specs.Signature.{stands};
 
-// No early exit: of a text whose length is known the compiler makes whole words.
+/// Whether `text` stands in `buf` from `place` on.
 #[inline(always)]
-pub fn stands<const N: usize>(buf: &[u8], place: usize, text: &[u8; N]) -> bool
+pub fn stands_at<const N: usize>(buf: &[u8], text: &[u8; N], place: usize) -> bool
     requires { place + N ≤ length buf.now }
     ensures { result ≡ stands place text.now buf.now }
 {
+    // No early exit: of a text whose length is known the compiler makes whole words.
     let part = &buf[place..place + N];
     let mut same = true;
     for i in 0..N {
@@ -17,13 +18,14 @@ pub fn stands<const N: usize>(buf: &[u8], place: usize, text: &[u8; N]) -> bool
     same
 }
 
+/// Whether one of the texts does.
 #[inline(always)]
-pub fn any_stands<const N: usize>(buf: &[u8], place: usize, texts: &[[u8; N]]) -> bool
+pub fn any_stands_at<const N: usize>(buf: &[u8], texts: &[[u8; N]], place: usize) -> bool
     requires { place + N ≤ length buf.now }
     ensures { result ≡ list_any (λ t. stands place t buf.now) texts.now }
 {
     for text in texts {
-        if stands(buf, place, text) {
+        if stands_at(buf, text, place) {
             return true;
         }
     }
