@@ -1,5 +1,5 @@
 -- Skippable frames: where one stands at the front, and what is data behind them.
-use Rattle.std.proofs.Common.{◌≡◌, ◌↔◌, ℕ, ◌+◌, ◌-◌, ◌<◌, ◌≤◌, ◌⊎◌, inl, inr, List, ◌∷◌, ◌++◌, length, get_or, take, drop, refl, sym, ap, subst, ◌∙◌, arith, length-append}
+use Rattle.std.proofs.Common.{◌≡◌, ◌↔◌, ℕ, ◌+◌, ◌-◌, ◌<◌, ◌≤◌, ◌⊎◌, inl, inr, List, [], ◌∷◌, ◌++◌, length, get_or, take, drop, refl, sym, ap, subst, ◌∙◌, arith, length-append}
 use Rattle.std.proofs.lemmas.List.{take_rest, take-append-drop, length-take-le, get_or_append_left}
 use Rattle.infer_deep.specs.Numbers.{le32}
 use Rattle.infer_deep.specs.Signatures.{Lasts, ComesWith, AreApart, IsEarly}
@@ -12,10 +12,7 @@ use Rattle.memchr.specs.Find.{OccursAt}
 
 -- what begins as a frame does so with other bytes behind its first four
 BeginsFrame-carried : (b c : List ℕ) → Carries 4 b c → get_or b 0 0 ≡ get_or c 0 0 → BeginsFrame b → BeginsFrame c
-BeginsFrame-carried b c carries first f =
-    let low = f.low in
-    let high = f.high in
-    record { low = omega arith; high = omega arith; mark = carries _ 1 (omega arith) f.mark }
+BeginsFrame-carried b c carries first f = grind (arith, carries (0x2A ∷ 0x4D ∷ 0x18 ∷ []) 1)
 
 front_begins : (b more : List ℕ) → 4 ≤ length b → BeginsFrame (b ++ more) → BeginsFrame b
 front_begins b more l f =

@@ -124,13 +124,11 @@ HasXml b = BeginsInAnyCase (codes "<?xml") b
 abbrev opens : List ℕ → Bool
 opens tag = ltb (length tag) 1000 && (ltb 1 (length tag) && (eqb (get_or tag 0 0) 0x3C && not (eqb (to_ascii_lowercase (get_or tag 1 0)) 0x3F)))
 
-opened : (n x y : ℕ) → (ltb n 1000 && (ltb 1 n && (eqb x 0x3C && not (eqb y 0x3F)))) ≡ true → (n < 1000) × (1 < n) × (x ≡ 0x3C) × (y ≡ 0x3F → ⊥)
-opened n x y e = (grind (arith, nat_tests), grind (arith, nat_tests), grind (arith, nat_tests), λ is. grind (arith, nat_tests))
-
 tag_opens : (k : ℕ) (tag : List ℕ) → k < length tags → get_or tags k tag ≡ tag
     → (length tag < 1000) × (1 < length tag) × (get_or tag 0 0 ≡ 0x3C) × (to_ascii_lowercase (get_or tag 1 0) ≡ 0x3F → ⊥)
-tag_opens k tag l e = opened (length tag) (get_or tag 0 0) (to_ascii_lowercase (get_or tag 1 0))
-    (subst (λ t. opens t ≡ true) e (AllPass-from_list_all opens tags refl k tag l))
+tag_opens k tag l e =
+    let test : opens tag ≡ true = subst (λ t. opens t ≡ true) e (AllPass-from_list_all opens tags refl k tag l) in
+    (grind (arith, nat_tests), grind (arith, nat_tests), grind (arith, nat_tests), λ is. grind (arith, nat_tests))
 
 pub HasTag-open : (b : List ℕ) → HasTag b → get_or b 0 0 ≡ 0x3C
 HasTag-open b (k, tag, l, e, h) =

@@ -5,6 +5,7 @@ ghost use Rattle.infer_sig.specs.Places.{StandsByPlace};
 ghost use Rattle.infer_sig.specs.Laws.{IsNear, Lasts, Leads, is_within};
 
 /// A text stands at a place exactly where each place from there on is in the buffer and holds the text's byte.
+#[tactic(auto, using(crate::proofs::PlaceLemmas::stands_by_place))]
 pub fn by_place()
     ensures { (place : ℕ) (t buf : List ℕ) → IsTrue (stands place t buf) ↔ StandsByPlace place t buf }
 {}
