@@ -103,14 +103,14 @@ class Vector(NamedTuple):
 
 def rows() -> list[Row]:
     """The rows by the test data, which were written by hand."""
-    with open(f"{ROOT}/crates/infer_vectors/data/rows.tsv", encoding="ascii") as lines:
+    with open(f"{ROOT}/crates/test_vectors/data/rows.tsv", encoding="ascii") as lines:
         return [Row(*line.rstrip("\n").split("\t")[-3:]) for line in lines]
 
 
 def vectors() -> list[Vector]:
     """Buffers, and the row of each answer or None, by the test data."""
     named = {f"{row.group}/{row.extension}": row for row in rows()}
-    with open(f"{ROOT}/crates/infer_vectors/data/vectors.tsv", encoding="ascii") as lines:
+    with open(f"{ROOT}/crates/test_vectors/data/vectors.tsv", encoding="ascii") as lines:
         split = [line.rstrip("\n").split("\t") for line in lines]
     return [Vector(name, None if row == "-" else named[row], decode(data)) for name, _, row, data in split]
 

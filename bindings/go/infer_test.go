@@ -20,7 +20,7 @@ var (
 )
 
 func lines(t *testing.T, name string) [][]string {
-	text, err := os.ReadFile(filepath.Join("..", "..", "crates", "infer_vectors", "data", name))
+	text, err := os.ReadFile(filepath.Join("..", "..", "crates", "test_vectors", "data", name))
 	if err != nil {
 		t.Fatal(err)
 	}

@@ -13,7 +13,7 @@ unsafe extern "C" {
 type Row = (String, String, String);
 
 fn lines(name: &str) -> Vec<Vec<String>> {
-    let path = Path::new(env!("CARGO_MANIFEST_DIR")).join("../../../crates/infer_vectors/data").join(name);
+    let path = Path::new(env!("CARGO_MANIFEST_DIR")).join("../../../crates/test_vectors/data").join(name);
     let text = fs::read_to_string(path).unwrap();
     text.lines().map(|line| line.split('\t').map(String::from).collect()).collect()
 }

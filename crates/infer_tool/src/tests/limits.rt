@@ -1,7 +1,7 @@
 //! Runs whose limit is chosen.
 use crate::run;
 use crate::writer::WatchedWriter;
-use hostile_streams::PieceReader;
+use test_streams::PieceReader;
 use std::alloc::AllocError;
 use std::fs;
 use std::test::Fail;

@@ -2,7 +2,7 @@
 use crate::outcome::Outcome;
 use crate::report::{report, run_path, run_reader};
 use crate::writer::WatchedWriter;
-use hostile_streams::{PieceReader, PieceWriter};
+use test_streams::{PieceReader, PieceWriter};
 use infer::{Fault, get};
 use linked_list_allocator::LocalHeap;
 use std::alloc::{AllocError, Global};

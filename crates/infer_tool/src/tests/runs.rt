@@ -2,7 +2,7 @@
 use crate::outcome::Outcome;
 use crate::writer::WatchedWriter;
 use crate::{LINE_BUFFER, USAGE, flush, run};
-use hostile_streams::{PieceReader, PieceWriter};
+use test_streams::{PieceReader, PieceWriter};
 use linked_list_allocator::LocalHeap;
 use std::alloc::AllocError;
 use std::fs;

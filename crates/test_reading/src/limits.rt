@@ -1,5 +1,5 @@
 //! Limits that a caller chooses.
-use crate::{Fault, Infer, Type, Watched};
+use infer::{Fault, Infer, Type, Watched};
 use linked_list_allocator::LocalHeap;
 use std::alloc::Allocator;
 use std::fs;

@@ -1,14 +1,13 @@
 //! Answers of readers and of files, and each fault.
 ghost use Rattle.std.specs.Prelude.{◌<◌, ◌↔◌, IsTrue, length};
 
-use crate::read::head::FRONT;
-use crate::{Fault, Infer, Type, Watched, get, get_from_path, row, rows, sample};
-use hostile_streams::PieceReader;
+use infer::{FRONT, Fault, Infer, Type, Watched, get, get_from_path, row, rows, sample};
 use linked_list_allocator::LocalHeap;
 use std::alloc::{AllocError, Allocator, Global};
 use std::fs;
 use std::io::ErrorKind;
 use std::test::Fail;
+use test_streams::PieceReader;
 
 const JPEG: [u8; 4] = [0xFF, 0xD8, 0xFF, 0xAA];
 
