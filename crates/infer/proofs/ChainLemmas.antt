@@ -1,9 +1,6 @@
 -- Links of a chain that ask several rows: buffers on which signatures answer alike, and two chains joined.
 use Rattle.std.proofs.Common.{◌↔◌, ℕ, List, [], ◌∷◌, ◌++◌, Option, None, Some, inl, inr}
-use Rattle.infer.specs.BuiltIn.{BuiltIn}
-use Rattle.infer.specs.Row.{Row, Accepts}
-use Rattle.infer.specs.Walks.{IsFirstAmong, Takes}
-use Rattle.infer.specs.declared.ask.question.Wanted.{Wanted}
+use Rattle.infer.specs.Walks.{IsFirstAmong}
 
 -- a row that is asked for by what is known of it, and by another word for the rest
 module _ (A D O : Type 0) (word : O ↔ D) where

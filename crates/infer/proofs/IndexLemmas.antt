@@ -7,7 +7,7 @@ use Rattle.std.proofs.lemmas.List.Elements.{All-append, All-map}
 use Rattle.infer.specs.BuiltIn.{BuiltIn, IsAccepted}
 use Rattle.infer.specs.Caller.{Contracts}
 use Rattle.infer.specs.First.{IsFirstOf}
-use Rattle.infer.specs.Laws.{Keeps, IsSteady, answers_twelve, FrontDecides, OnlyTheTwelveFollow}
+use Rattle.infer.specs.Laws.{AnyLasts, IsSteady, answers_twelve, FrontDecides, OnlyTheTwelveFollow}
 use Rattle.infer.specs.Matchers.{signatures, Lasts, IsNear, OthersAreNear}
 use Rattle.infer.specs.Row.{Row, Accepts}
 use Rattle.infer.specs.Rows.{Signature, AnyAccepts, kept_row}
@@ -34,13 +34,13 @@ module _ (growth : All Lasts signatures) where
   row_lasts : (i : ℕ) (d : Row BuiltIn) → i < length table → Lasts (get_or table i d).signature
   row_lasts i d lt = row_signature Lasts i d lt (λ e. growth i e (among_signatures i lt))
 
-  pub rows_keep : {X : Type 0} {g : Contracts X} (added : List (Row (Signature X g))) → All (λ r. Keeps r.signature) added
-      → All (λ r. Keeps r.signature) (added ++ map kept_row table)
+  pub rows_keep : {X : Type 0} {g : Contracts X} (added : List (Row (Signature X g))) → All (λ r. AnyLasts r.signature) added
+      → All (λ r. AnyLasts r.signature) (added ++ map kept_row table)
   rows_keep {X} {g} added keep =
-      All-append (λ (r : Row (Signature X g)). Keeps r.signature) added (map kept_row table) keep
-      (All-map (λ (r : Row (Signature X g)). Keeps r.signature) kept_row table (λ i d lt short more bytes h. row_lasts i d lt short more h))
+      All-append (λ (r : Row (Signature X g)). AnyLasts r.signature) added (map kept_row table) keep
+      (All-map (λ (r : Row (Signature X g)). AnyLasts r.signature) kept_row table (λ i d lt short more bytes h. row_lasts i d lt short more h))
 
-pub steady : {X : Type 0} {g : Contracts X} (all : List (Row (Signature X g))) → All (λ r. Keeps r.signature) all → IsSteady all
+pub steady : {X : Type 0} {g : Contracts X} (all : List (Row (Signature X g))) → All (λ r. AnyLasts r.signature) all → IsSteady all
 steady all keep short more before after bytes =
     IsNotLater-grows (AnyAccepts short) (AnyAccepts (short ++ more)) all (λ i lt here d. keep i d lt short more bytes (here d)) before after
 

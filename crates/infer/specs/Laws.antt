@@ -18,8 +18,8 @@ IsNotLater (Some i) (Some j) = i ≤ j
 
 module _ {X : Type 0} {g : Contracts X} where
   -- what the signature accepts, it accepts however the buffer goes on
-  abbrev pub Keeps : Signature X g → Type 0
-  Keeps s = (short more : List ℕ) → IsBuffer (short ++ more) → IsAcceptedBy s short → IsAcceptedBy s (short ++ more)
+  abbrev pub AnyLasts : Signature X g → Type 0
+  AnyLasts s = (short more : List ℕ) → IsBuffer (short ++ more) → IsAcceptedBy s short → IsAcceptedBy s (short ++ more)
 
   -- bytes behind a buffer never make its first row a later one
   abbrev pub IsSteady : List (Row (Signature X g)) → Type 0

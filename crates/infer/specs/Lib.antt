@@ -34,6 +34,7 @@ pub mod Table
 pub mod Matchers
 pub mod Watched
 pub mod Fault
+pub mod Reading
 pub mod Leads
 pub mod Walks
 pub mod Arms

@@ -8,7 +8,7 @@ ghost use Rattle.infer_sig.specs.Signature.{accepts};
 ghost use Rattle.infer.specs.Arrivals.{NewcomersAreAwaited};
 ghost use Rattle.infer.specs.BuiltIn.{BuiltIn};
 ghost use Rattle.infer.specs.First.{IsFirst, NoneHas};
-ghost use Rattle.infer.specs.Laws.{AnswersAreNamed, Breaks, FrontDecides, IsSteady, Keeps, OnlyTheTwelveFollow};
+ghost use Rattle.infer.specs.Laws.{AnswersAreNamed, Breaks, FrontDecides, IsSteady, AnyLasts, OnlyTheTwelveFollow};
 ghost use Rattle.infer.specs.Matchers.{Lasts, OthersAreNear, is_of_the_twelve, signatures};
 ghost use Rattle.infer.specs.Row.{Accepts, shows};
 ghost use Rattle.infer.specs.Rows.{custom_rows, rows};
@@ -94,7 +94,7 @@ pub fn named<A: Allocator>(infer: &Infer<A>)
 /// Bytes behind a buffer never make its first row a later one, where each function that was added keeps its yes
 /// as a buffer goes on. The built-in rows do.
 pub fn index<A: Allocator>(infer: &Infer<A>)
-    requires { All (λ r. Keeps r.signature) (custom_rows infer.now) }
+    requires { All (λ r. AnyLasts r.signature) (custom_rows infer.now) }
     ensures { IsSteady (rows infer.now) }
 {
     let _ = infer;

@@ -19,6 +19,7 @@ ghost use Rattle.std.specs.Prelude.{◌≡◌, ◌↔◌, ◌<◌, ◌≤◌, �
 ghost use Rattle.infer.specs.Buffer.{IsBuffer};
 ghost use Rattle.infer.specs.First.{IsAnswer, IsFirstOf, SomeHas};
 ghost use Rattle.infer.specs.Questions.{HasClass, HasExtension, HasMimeType, SomeBoth};
+ghost use Rattle.infer.specs.Reading.{AnswersSome};
 ghost use Rattle.infer.specs.Row.{Accepts, shows};
 ghost use Rattle.infer.specs.Table.{table};
 ghost use Rattle.infer.specs.Triple.{triple_of};
@@ -84,8 +85,7 @@ pub fn get_from_path<R: Files, A: Allocator>(
     alloc: A,
     path: &str,
 ) -> Result<Option<Type>, Fault>
-    ensures { IfOk result (λ found. (b : List ℕ) × IsBuffer b × (length b ≤ FRONT)
-        × IsAnswer (Accepts b) table (option_map triple_of found)) }
+    ensures { AnswersSome FRONT Accepts table result }
 {
     Infer::new().get_from_path(rt, alloc, path)
 }

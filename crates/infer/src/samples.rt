@@ -10,7 +10,7 @@ ghost use Rattle.infer.specs.Table.{table};
 use crate::laws;
 use crate::table::rows::{DLL, EPUB_ARCHIVE, Pieces, ROW_COUNT, samples};
 
-// That of row `i`.
+/// That of row `i`.
 fn of_row(i: usize) -> &'static Pieces
     requires { i < ROW_COUNT }
     ensures holds { HoldsAt (HoldsSample result.now.len (buffer_listed result.now)) table i }
@@ -19,7 +19,7 @@ fn of_row(i: usize) -> &'static Pieces
     &samples()[i]
 }
 
-// Writes the text over `out`, from the place on.
+/// Writes the text over `out`, from the place on.
 fn put(place: usize, text: &[u8], out: &mut [u8])
     requires { place + length text.now ≤ length out.old }
     ensures { out.new ≡ put place text.now out.old }
@@ -27,7 +27,7 @@ fn put(place: usize, text: &[u8], out: &mut [u8])
     out[place..place + text.len()].copy_from_slice(text);
 }
 
-// Writes the texts over zeros.
+/// Writes the texts over zeros.
 fn write(pieces: &Pieces, out: &mut [u8; 640])
     requires { IsTrue (is_inside pieces.now) }
     ensures { out.new ≡ buffer_listed pieces.now }

@@ -21,7 +21,7 @@ pub fn code(class: MatcherType) -> i32
     }
 }
 
-// The class with this number.
+/// The class with this number.
 pub fn of(code: i32) -> Option<MatcherType>
     ensures { IsClassOf code result }
 {

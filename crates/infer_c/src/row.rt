@@ -15,7 +15,7 @@ use crate::written::write_whole;
 use infer::rows::{ROW_COUNT, numbers};
 use infer::{Ask, Asker, Type};
 
-// The type of the row with this number.
+/// The type of the row with this number.
 pub fn of(row: i32) -> Option<Type>
     ensures { option_map triple_of result ≡ triple_at row }
 {
@@ -25,7 +25,7 @@ pub fn of(row: i32) -> Option<Type>
     infer::row(row as usize)
 }
 
-// Whether there is a row `i`, and it accepts `buf`.
+/// Whether there is a row `i`, and it accepts `buf`.
 pub fn accepts(i: usize, buf: &[u8]) -> bool
     ensures { IsTrue result ↔ RowHas (Accepts buf.now) i }
 {
@@ -37,7 +37,7 @@ pub fn accepts(i: usize, buf: &[u8]) -> bool
     asker.ask(i)
 }
 
-// The number of the first row that accepts `buf`, and how many were asked.
+/// The number of the first row that accepts `buf`, and how many were asked.
 pub fn count(buf: &[u8]) -> (Option<usize>, u32)
     ensures first { IsFirstOf (Accepts buf.now) table result.0 }
     ensures bound { IfSome result.0 (λ i. i < ROW_COUNT) }
@@ -47,7 +47,7 @@ pub fn count(buf: &[u8]) -> (Option<usize>, u32)
     infer::position_counted(buf)
 }
 
-// The length of the sample of row `i`, which is written to `out` where it fits, and 0 where it has none.
+/// The length of the sample of row `i`, which is written to `out` where it fits, and 0 where it has none.
 pub fn write_sample(i: usize, out: &mut [u8]) -> usize
     ensures { (sample : Option (List ℕ)) × IsSample i sample
         × (result ≡ option_map_or (λ s. length s) sample 0)

@@ -1,26 +1,17 @@
 //! The list of rows that is asked.
 ghost use Rattle.std.specs.Prelude.{◌≡◌, ◌↔◌, ◌≤◌, ℕ, List, None, Some, [], ◌∷◌, ◌++◌, IfOk, IfSome, IsErrOf, IsTrue, OnErr, OnOk, drop, length, map, option_map};
-ghost use Rattle.infer.specs.Buffer.{IsBuffer, head};
 ghost use Rattle.infer.specs.Caller.{IsSettled};
-ghost use Rattle.infer.specs.Fault.{OpensNothing, read_fault};
 ghost use Rattle.infer.specs.First.{IsAnswer, SomeHas};
 ghost use Rattle.infer.specs.Questions.{HasClass, HasExtension, HasMimeType, IsWanted, SomeBoth};
 ghost use Rattle.infer.specs.Rows.{AnyAccepts, custom_row, custom_rows, given, rows};
 ghost use Rattle.infer.specs.Triple.{triple, triple_of};
-ghost use Rattle.infer.specs.Watched.{Loses, fault_of, inner};
 ghost use Rattle.infer.specs.declared.table.file_type.MatcherType.TheVariants.{Custom};
 
 use crate::answers;
 use crate::ask::question::Wanted;
 use crate::caller::custom::CustomRow;
-use crate::read::fault::Fault;
-use crate::read::head::{FRONT, read_head};
-use crate::read::watched::Watched;
 use crate::table::file_type::{FileType, Matcher, MatcherType};
 use std::alloc::{AllocError, Allocator, Global};
-use std::fs::File;
-use std::io::Read;
-use std::rt::Files;
 
 /// Rows to ask: those that were added, in that order, and then the built-in ones.
 ///
@@ -190,109 +181,14 @@ impl<A: Allocator> Infer<A> {
         self.some(Wanted::Class(MatcherType::Custom), buf)
     }
 
-    /// The type of the first row that accepts the first 8192 bytes of a reader, or all where it has fewer, and
-    /// `None` exactly where no row accepts them.
-    ///
-    /// It reserves 8192 bytes first, then reads until it has them or a read gives none. The rest stays in the
-    /// reader. `Memory` means that the bytes were refused and nothing was read, `Read` that a read failed, whatever
-    /// its kind; bytes that were read before are lost then. It is never `Open`.
-    pub fn get_from_reader<B: Allocator, R: Read>(
-        &self,
-        alloc: B,
-        r: &mut Watched<R>,
-    ) -> Result<Option<FileType>, Fault>
-        requires { fault_of r.old ≡ None }
-        ensures answer { IfOk result (λ found. IfSome (R.remaining (inner r.old))
-            (λ s. IsAnswer (AnyAccepts (head FRONT s)) (rows self.now) (option_map triple_of found))) }
-        ensures rest { OnOk result (IfSome (R.remaining (inner r.old))
-            (λ s. R.remaining (inner r.new) ≡ Some (drop FRONT s))) }
-
-        // Where the reader does not tell its bytes, it is still the answer of so many bytes or fewer.
-        ensures some_bytes { IfOk result (λ found. (b : List ℕ) × IsBuffer b × (length b ≤ FRONT)
-            × IsAnswer (AnyAccepts b) (rows self.now) (option_map triple_of found)) }
-
-        // It is `Read(k)` exactly where the reader's fault is now k.
-        ensures fault { fault_of r.new ≡ read_fault result }
-        ensures memory { IsErrOf result Fault.Memory → r.new ≡ r.old }
-        ensures opens_nothing { OpensNothing result }
-
-        // What is lost is what the reads before gave, which were of fewer bytes.
-        ensures lost { OnErr result (Loses FRONT (R.remaining (inner r.old)) (R.remaining (inner r.new))) }
-    {
-        self.get_from_reader_within(alloc, r, FRONT)
-    }
-
-    /// The type of the first row that accepts the first 8192 bytes of a file, or all where it has fewer, and `None`
-    /// exactly where no row accepts them.
-    ///
-    /// It opens the file, reserves 8192 bytes and reads, in this order. Any error in opening is `Open`. The file's
-    /// length is not asked for.
-    pub fn get_from_path<R: Files, B: Allocator>(
-        &self,
-        rt: &R,
-        alloc: B,
-        path: &str,
-    ) -> Result<Option<FileType>, Fault>
-        ensures { IfOk result (λ found. (b : List ℕ) × IsBuffer b × (length b ≤ FRONT)
-            × IsAnswer (AnyAccepts b) (rows self.now) (option_map triple_of found)) }
-    {
-        self.get_from_path_within(rt, alloc, path, FRONT)
-    }
-
-    /// [`Infer::get_from_reader`] with `n` bytes in place of 8192, of which there are from 1 to 65536.
-    pub fn get_from_reader_within<B: Allocator, R: Read>(
-        &self,
-        alloc: B,
-        r: &mut Watched<R>,
-        n: usize,
-    ) -> Result<Option<FileType>, Fault>
-        requires no_fault { fault_of r.old ≡ None }
-        requires least { 1 ≤ n }
-        requires most { n ≤ 65536 }
-        ensures answer { IfOk result (λ found. IfSome (R.remaining (inner r.old))
-            (λ s. IsAnswer (AnyAccepts (head n s)) (rows self.now) (option_map triple_of found))) }
-        ensures rest { OnOk result (IfSome (R.remaining (inner r.old))
-            (λ s. R.remaining (inner r.new) ≡ Some (drop n s))) }
-        ensures some_bytes { IfOk result (λ found. (b : List ℕ) × IsBuffer b × (length b ≤ n)
-            × IsAnswer (AnyAccepts b) (rows self.now) (option_map triple_of found)) }
-        ensures fault { fault_of r.new ≡ read_fault result }
-        ensures memory { IsErrOf result Fault.Memory → r.new ≡ r.old }
-        ensures opens_nothing { OpensNothing result }
-        ensures lost { OnErr result (Loses n (R.remaining (inner r.old)) (R.remaining (inner r.new))) }
-    {
-        match read_head(alloc, r, n) {
-            Ok(bytes) => Ok(self.get(bytes.as_slice())),
-            Err(fault) => Err(fault),
-        }
-    }
-
-    /// [`Infer::get_from_path`] with `n` bytes in place of 8192, of which there are from 1 to 65536.
-    pub fn get_from_path_within<R: Files, B: Allocator>(
-        &self,
-        rt: &R,
-        alloc: B,
-        path: &str,
-        n: usize,
-    ) -> Result<Option<FileType>, Fault>
-        requires least { 1 ≤ n }
-        requires most { n ≤ 65536 }
-        ensures { IfOk result (λ found. (b : List ℕ) × IsBuffer b × (length b ≤ n)
-            × IsAnswer (AnyAccepts b) (rows self.now) (option_map triple_of found)) }
-    {
-        match File::open(rt, path) {
-            Ok(file) => self.get_from_reader_within(alloc, &mut Watched::new(file), n),
-            Err(error) => Err(Fault::Open(error.kind())),
-        }
-    }
-
-    // Whether some row that is wanted accepts the buffer.
+    /// Whether some row that is wanted accepts the buffer.
     fn some(&self, wanted: Wanted, buf: &[u8]) -> bool
         ensures { IsTrue result ↔ SomeBoth (IsWanted wanted.entry) (AnyAccepts buf.now) (rows self.now) }
     {
         self.custom_some(wanted, buf) || answers::some(wanted, buf)
     }
 
-    // The same of the added rows alone.
+    /// The same of the added rows alone.
     fn custom_some(&self, wanted: Wanted, buf: &[u8]) -> bool
         ensures { IsTrue result ↔ SomeBoth (IsWanted wanted.entry) (AnyAccepts buf.now) (custom_rows self.now) }
     {
@@ -304,14 +200,14 @@ impl<A: Allocator> Infer<A> {
         false
     }
 
-    // Whether some row is wanted.
+    /// Whether some row is wanted.
     fn has(&self, wanted: Wanted) -> bool
         ensures { IsTrue result ↔ SomeHas (IsWanted wanted.entry) (rows self.now) }
     {
         self.custom_has(wanted) || answers::has(wanted)
     }
 
-    // The same of the added rows alone.
+    /// The same of the added rows alone.
     fn custom_has(&self, wanted: Wanted) -> bool
         ensures { IsTrue result ↔ SomeHas (IsWanted wanted.entry) (custom_rows self.now) }
     {
@@ -323,7 +219,7 @@ impl<A: Allocator> Infer<A> {
         false
     }
 
-    // The answer of the added rows alone.
+    /// The answer of the added rows alone.
     fn custom_get(&self, buf: &[u8]) -> Option<FileType>
         ensures { IsAnswer (AnyAccepts buf.now) (custom_rows self.now) (option_map triple_of result) }
     {
@@ -335,7 +231,7 @@ impl<A: Allocator> Infer<A> {
         None
     }
 
-    // The added rows.
+    /// The added rows.
     fn custom(&self) -> &[CustomRow]
         ensures { map custom_row result.now ≡ custom_rows self.now }
     {

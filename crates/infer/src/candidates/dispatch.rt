@@ -67,7 +67,7 @@ macro_rules! arms {
     };
 }
 
-// The arm of each first byte, sixteen a line.
+/// The arm of each first byte, sixteen a line.
 static ARMS: [Arm; 256] = arms![
     B00   Other Other Other B04   Other Other Other Other B09   B09   Other B09   B09   Other Other
     Other Other Other Other Other Other Other Other Other Other B1A   Other Other Other Other B1F
@@ -199,7 +199,7 @@ macro_rules! chain {
     };
 }
 
-// The candidates of each arm, which `rows_of` reads.
+/// The candidates of each arm, which `rows_of` reads.
 static CANDIDATES: [&[usize]; 45] = with_candidates!(lists);
 
 /// The arm of a first byte.

@@ -87,7 +87,7 @@ impl fmt::Debug for FileType {
     }
 }
 
-// Whether two texts are the same. Most that are asked for differ in the first byte or the length.
+/// Whether two texts are the same. Most that are asked for differ in the first byte or the length.
 #[inline(always)]
 pub(crate) fn is_same(a: &str, b: &str) -> bool
     ensures same { IsTrue result ↔ (a.now ≡ b.now) }
@@ -96,7 +96,7 @@ pub(crate) fn is_same(a: &str, b: &str) -> bool
     a.len() == b.len() && a.as_bytes().first() == b.as_bytes().first() && is_equal(a, b)
 }
 
-// A function of its own, so that a loop over texts does not prepare for a comparison that seldom comes.
+/// A function of its own, so that a loop over texts does not prepare for a comparison that seldom comes.
 #[inline(never)]
 fn is_equal(a: &str, b: &str) -> bool
     ensures same { IsTrue result ↔ (a.now ≡ b.now) }

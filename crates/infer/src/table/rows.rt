@@ -496,7 +496,7 @@ static ROWS: [BuiltInRow; ROW_COUNT] = with_rows!(rows);
 
 static SAMPLES: [Pieces; ROW_COUNT] = with_rows!(samples);
 
-// The built-in rows, in the order in which they are asked.
+/// The built-in rows, in the order in which they are asked.
 pub(crate) fn rows() -> &'static [BuiltInRow]
     ensures listed { map row_listed result.now ≡ table }
     ensures many { length result.now ≡ ROW_COUNT }
@@ -504,7 +504,7 @@ pub(crate) fn rows() -> &'static [BuiltInRow]
     &ROWS
 }
 
-// Row `i`.
+/// Row `i`.
 #[inline(always)]
 pub(crate) fn row_at(i: usize) -> &'static BuiltInRow
     requires { i < ROW_COUNT }
@@ -513,7 +513,7 @@ pub(crate) fn row_at(i: usize) -> &'static BuiltInRow
     &rows()[i]
 }
 
-// The samples, in the order of the rows.
+/// The samples, in the order of the rows.
 pub(crate) fn samples() -> &'static [Pieces; ROW_COUNT]
     ensures buffers { map buffer_listed result.now ≡ map padded table }
     ensures lengths { map (λ s. s.len) result.now ≡ map (λ r. length (sample_of r.signature)) table }
@@ -522,8 +522,8 @@ pub(crate) fn samples() -> &'static [Pieces; ROW_COUNT]
     &SAMPLES
 }
 
-// Whether the row accepts `buf`. Matchers are called by name: a function pointer in a static would hide what its
-// contract says.
+/// Whether the row accepts `buf`. Matchers are called by name: a function pointer in a static would hide what its
+/// contract says.
 #[tactic(auto, unfolding(crate::specs::Table::signature_of, crate::specs::Table::table))]
 #[inline(always)]
 pub(crate) fn accepts(name: RowName, buf: &[u8]) -> bool

@@ -4,7 +4,7 @@ ghost use Rattle.std.specs.List.{starts_with};
 ghost use Rattle.infer_deep.specs.Windows.{mkv_type};
 ghost use Rattle.infer.specs.BuiltIn.{IsAccepted, matroska};
 ghost use Rattle.infer.specs.First.{IsFirst};
-ghost use Rattle.infer.specs.Laws.{Keeps, answers_twelve};
+ghost use Rattle.infer.specs.Laws.{AnyLasts, answers_twelve};
 ghost use Rattle.infer.specs.Row.{Accepts};
 ghost use Rattle.infer.specs.Rows.{custom_rows};
 ghost use Rattle.infer.specs.Table.{table};
@@ -87,7 +87,7 @@ fn get_both<A: Allocator>(
     short: &[u8],
     long: &[u8],
 ) -> (Option<Type>, Option<Type>)
-    requires keeps { All (λ r. Keeps r.signature) (custom_rows infer.now) }
+    requires keeps { All (λ r. AnyLasts r.signature) (custom_rows infer.now) }
     requires begins { (more : List ℕ) × (long.now ≡ short.now ++ more) }
     ensures { IsNone result.1 → IsNone result.0 }
 {

@@ -11,7 +11,7 @@ const JPEG: [u8; 4] = [0xFF, 0xD8, 0xFF, 0xAA];
 
 const NONE: (&str, &str) = ("", "");
 
-// The shortest buffers that each row accepts, and buffers next to them.
+/// The shortest buffers that each row accepts, and buffers next to them.
 const ANSWERS: [(&[u8], (&str, &str)); 23] = [
     (b"", NONE),
     (b"\xFF\xD8\xFF\xAA", ("image/jpeg", "jpg")),
@@ -77,7 +77,7 @@ fn each_matcher_of_images(rt: HostRuntime) {
     assert!(rt; image::is_dwg(b"MC0.0\0"));
 }
 
-// A clone has the values of its source, and `==` finds them equal.
+/// A clone has the values of its source, and `==` finds them equal.
 fn cloned(t: &Type) -> Result<Type, AllocError>
     ensures { IfOk result (λ copy. triple_of copy ≡ triple_of t.now) }
 {

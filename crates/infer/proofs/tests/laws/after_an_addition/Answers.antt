@@ -1,7 +1,7 @@
 use Rattle.std.proofs.Common.{◌≡◌, ℕ, List, [], ◌∷◌, ◌++◌, All, IsTrue, nat_eq, refl, arith}
 use Rattle.std.specs.List.{starts_with}
 use Rattle.infer.specs.Caller.{Contracts}
-use Rattle.infer.specs.Laws.{Keeps}
+use Rattle.infer.specs.Laws.{AnyLasts}
 use Rattle.infer.specs.Row.{Row}
 use Rattle.infer.specs.Rows.{Signature}
 use Rattle.infer.proofs.tests.laws.after_an_addition.Goals as goal
@@ -11,7 +11,7 @@ zero_stays [] more h = absurd (cc)
 zero_stays (x ∷ short) more h = h
 
 keeps_one : {X : Type 0} {g : Contracts X} (old new : List (Row (Signature X g))) (r : Row (Signature X g))
-    → old ≡ [] → new ≡ old ++ r ∷ [] → Keeps r.signature → All (λ x. Keeps x.signature) new
+    → old ≡ [] → new ≡ old ++ r ∷ [] → AnyLasts r.signature → All (λ x. AnyLasts x.signature) new
 keeps_one old new r e h keeps = rw h (rw e (λ k d lt. let z : k ≡ 0 = omega arith in rw z keeps))
 
 pub get_both-requires-clause-keeps : goal.get_both-requires-clause-keeps
