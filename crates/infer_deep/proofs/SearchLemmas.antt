@@ -10,7 +10,7 @@ use Rattle.std.specs.Prelude.{nat_eq}
 use Rattle.memchr.specs.Find.{OccursAt, NoneBefore, Nowhere}
 use Rattle.memchr.specs.Pairs.{HasPair, IsPairFinderOf, reach_of}
 use Rattle.memchr.specs.declared.arch.all.packedpair.Finder.{Finder}
-use Rattle.infer_deep.specs.Blocks.{LacksPair}
+use Rattle.infer_deep.specs.Blocks.{IsPairAt, LacksPair}
 use Rattle.infer_deep.specs.Places.{IsWithin, IsFirstPlace, IsFirstWithin}
 use Rattle.infer_deep.proofs.PlaceLemmas.{OccursAt-part, part_reads}
 
@@ -45,20 +45,23 @@ module _ (b text : List ℕ) (start later end : ℕ) (le : start ≤ later) (non
         elim (cases_lt q later) [ inl l ↦ none q l w | inr l ↦ h.before q lt (from_later q (omega arith) w) ];
   }
 
+-- a pair that stands in a part of a buffer from s to e
+pair_in_part : (b : List ℕ) (x y s e p : ℕ) → s ≤ p → p + 1 < e → IsPairAt x y b p → IsPairAt x y (take (e - s) (drop s b)) (p - s)
+pair_in_part b x y s e p low high (first, second) =
+    let back : s + (p - s) ≡ p = omega arith in
+    let next : s + (p - s + 1) ≡ p + 1 = omega arith in (
+      part_reads b s e (p - s) (omega arith) ∙ ap (λ i. get_or b i 0) back ∙ first,
+      part_reads b s e (p - s + 1) (omega arith) ∙ ap (λ i. get_or b i 0) next ∙ second,
+    )
+
 -- one more block of 128 places that lack the pair, which overlaps those before where the buffer ends
 pub lacks_more : (b : List ℕ) (x y k at : ℕ) → at ≡ min (128 * k) (length b - 129) → 129 ≤ length b
     → LacksPair x y b (min (128 * k) (length b - 1)) → LacksPair x y (take (at + 129 - at) (drop at b)) 128
     → LacksPair x y b (min (128 * (k + 1)) (length b - 1))
-lacks_more b x y k at is long before lacks p lt (first, second) =
+lacks_more b x y k at is long before lacks p lt pair =
     elim (cases_lt p (128 * k)) [
-      | inl l ↦ before p (omega arith) (first, second)
-      | inr l ↦
-          let back : at + (p - at) ≡ p = omega arith in
-          let next : at + (p - at + 1) ≡ p + 1 = omega arith in
-          lacks (p - at) (omega arith) (
-            part_reads b at (at + 129) (p - at) (omega arith) ∙ ap (λ i. get_or b i 0) back ∙ first,
-            part_reads b at (at + 129) (p - at + 1) (omega arith) ∙ ap (λ i. get_or b i 0) next ∙ second,
-          )
+      | inl l ↦ before p (omega arith) pair
+      | inr l ↦ lacks (p - at) (omega arith) (pair_in_part b x y at (at + 129) p (omega arith) (omega arith) pair)
     ]
 
 -- a search may begin behind n places that lack the two bytes of the text from `rare` on
@@ -69,12 +72,10 @@ module _ (b text : List ℕ) (rare start end m n : ℕ) (two : rare + 2 ≤ leng
       let low = w.low in
       let high = w.high in
       let fits = w.stands.fits in
-      let back : start + rare + (q - start) ≡ q + rare = omega arith in
-      let next : start + rare + (q - start + 1) ≡ q + (rare + 1) = omega arith in
-      lacks (q - start) (omega arith) (
-        part_reads b (start + rare) m (q - start) (omega arith) ∙ ap (λ i. get_or b i 0) back ∙ w.stands.reads rare (omega arith),
-        part_reads b (start + rare) m (q - start + 1) (omega arith) ∙ ap (λ i. get_or b i 0) next ∙ w.stands.reads (rare + 1) (omega arith),
-      )
+      let next : q + rare + 1 ≡ q + (rare + 1) = omega arith in
+      let second = ap (λ i. get_or b i 0) next ∙ w.stands.reads (rare + 1) (omega arith) in
+      lacks (q + rare - (start + rare)) (omega arith)
+      (pair_in_part b _ _ (start + rare) m (q + rare) (omega arith) (omega arith) (w.stands.reads rare (omega arith), second))
 
   pub IsFirstWithin-later : (r : Option ℕ) → IsFirstWithin b text (start + n) end r → IsFirstWithin b text start end r
   IsFirstWithin-later r h = IsFirstWithin-skip b text start (start + n) end (omega arith) none_before r h
