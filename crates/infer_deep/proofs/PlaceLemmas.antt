@@ -50,7 +50,7 @@ OccursAt-begins b text rest e = record {
 pub part_reads : (b : List ℕ) (s e i : ℕ) → s + i < e → get_or (take (e - s) (drop s b)) i 0 ≡ get_or b (s + i) 0
 part_reads b s e i l = get_or-take (e - s) (drop s b) i 0 (omega arith) ∙ get_or-drop s b i 0
 
-pub part_length : (b : List ℕ) (s e : ℕ) → s ≤ e → e ≤ length b → length (take (e - s) (drop s b)) ≡ e - s
+part_length : (b : List ℕ) (s e : ℕ) → s ≤ e → e ≤ length b → length (take (e - s) (drop s b)) ≡ e - s
 part_length b s e l h = simp (length-take, length-drop) (omega arith)
 
 -- a text stands in a part of a buffer just where it stands in the buffer and ends in the part

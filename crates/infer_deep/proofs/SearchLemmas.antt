@@ -37,7 +37,7 @@ module _ (b text : List ℕ) (start later end : ℕ) (le : start ≤ later) (non
   from_later : (q : ℕ) → later ≤ q → IsWithin b text start end q → IsWithin b text later end q
   from_later q low w = record { stands = w.stands; low = low; high = w.high }
 
-  pub IsFirstWithin-skip : (r : Option ℕ) → IsFirstWithin b text later end r → IsFirstWithin b text start end r
+  IsFirstWithin-skip : (r : Option ℕ) → IsFirstWithin b text later end r → IsFirstWithin b text start end r
   IsFirstWithin-skip None h = λ q w. elim (cases_lt q later) [ inl l ↦ none q l w | inr l ↦ h q (from_later q (omega arith) w) ]
   IsFirstWithin-skip (Some p) h = record {
     here = let low = h.here.low in record { stands = h.here.stands; low = omega arith; high = h.here.high };
