@@ -1,5 +1,5 @@
 -- What more bytes can bring to a buffer of at least 1024 bytes.
-use Rattle.std.proofs.Common.{zero-le, ◌<◌, ◌≤◌, ◌+◌, ◌-◌, ◌⊎◌, ◌∙◌, ℕ, suc, List, ◌++◌, length, refl, subst, inl, inr, arith, IsTrue, length-append}
+use Rattle.std.proofs.Common.{◌<◌, ◌≤◌, ◌+◌, ◌-◌, ◌⊎◌, ◌∙◌, ◌++◌, zero-le, ℕ, suc, List, length, refl, subst, inl, inr, arith, IsTrue, length-append}
 use Rattle.std.specs.List.{AllWithin, range_with_len}
 use Rattle.std.proofs.lemmas.List.{take-append-le}
 use Rattle.std.proofs.lemmas.List.FromFn.{get_or-range_with_len, length-range_with_len}
@@ -67,7 +67,8 @@ module _ (fixed_near : (n : ℕ) (s : List Alternative) → IsTrue (Fixed.is_wit
   newcomer i = do
     brought ← takes (comes (signature_of i))
     let n = last_awaited (signature_of i) - i
-    alone ← takes (each_before (λ k. rival (signature_of i) (signature_of k)) (range_with_len (suc i) n) n (omega (arith, length-range_with_len (suc i) n)))
+    let within : n ≤ length (range_with_len (suc i) n) = omega (arith, length-range_with_len (suc i) n)
+    alone ← takes (each_before (λ k. rival (signature_of i) (signature_of k)) (range_with_len (suc i) n) n within)
     proved (λ accepted refused. record {
       awaited = elim (brought accepted) [ inl here ↦ absurd (refused here) | inr awaited ↦ awaited ];
       alone = λ k low high. in_range (λ j. IsAlone (signature_of i) (signature_of j)) (suc i) n alone k low (omega arith) accepted refused;
@@ -77,5 +78,6 @@ module _ (fixed_near : (n : ℕ) (s : List Alternative) → IsTrue (Fixed.is_wit
   unfolding table signature_of
   all_newcomers = (refl, (refl, (refl, (refl, (refl, (refl, (refl, (refl, tt))))))))
 
-  pub awaited_newcomer : (i : ℕ) → i < ROW_COUNT → IsAccepted (signature_of i) (b ++ more) → (¬ IsAccepted (signature_of i) b) → Comes i b more
+  pub awaited_newcomer : (i : ℕ) → i < ROW_COUNT
+      → IsAccepted (signature_of i) (b ++ more) → (¬ IsAccepted (signature_of i) b) → Comes i b more
   awaited_newcomer i lt = proof_of (newcomer i) (passed (λ j. is_proved (newcomer j)) ROW_COUNT 8 all_newcomers (omega arith) i lt)

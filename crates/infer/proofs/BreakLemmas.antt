@@ -1,5 +1,5 @@
 -- For each of the twelve rows a buffer that has it as its first, and whose first 1024 bytes have another answer.
-use Rattle.std.proofs.Common.{le_refl, zero-le, suc, ◌⊎◌, ◌≢◌, ◌+◌, ◌<◌, ℕ, not, List, [], ◌∷◌, ◌++◌, Option, None, Some, length, take, IsTrue, refl, codes, inl, inr, arith}
+use Rattle.std.proofs.Common.{◌⊎◌, ◌≢◌, ◌+◌, ◌<◌, ◌∷◌, ◌++◌, le_refl, zero-le, suc, ℕ, not, List, [], Option, None, Some, length, take, IsTrue, refl, codes, inl, inr, arith}
 use Rattle.std.proofs.lemmas.Bool.{cases_lt}
 use Rattle.std.proofs.lemmas.Option.{none-some, same_Some, slice_get_past}
 use Rattle.infer_deep.specs.ClassId.{compound_header, word_id, old_excel_id, powerpoint_id}
@@ -75,7 +75,10 @@ module _ (by_place : ByPlace) (exclude : Deep.Apart) where
 
   twelve_within : (i : ℕ) → IsTrue (is_of_the_twelve i) → i < ROW_COUNT
   unfolding is_of_the_twelve signature_of
-  twelve_within i e = elim (cases_lt i ROW_COUNT) [ inl lt ↦ lt | inr over ↦ absurd (let past = slice_get_past table i (omega (arith, length-table)) in let none = rw past at e in cc) ]
+  twelve_within i e = elim (cases_lt i ROW_COUNT) [
+    | inl lt ↦ lt
+    | inr over ↦ absurd (let none = rw (slice_get_past table i (omega (arith, length-table))) at e in cc)
+  ]
 
   pub broken : (i : ℕ) → IsTrue (is_of_the_twelve i) → (buf : List ℕ) × Breaks i buf
   broken i e = elim (proof_of (breaks i) (passed (λ j. is_proved (breaks j)) ROW_COUNT 8 all_break (omega arith) i (twelve_within i e))) [

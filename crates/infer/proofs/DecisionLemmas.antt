@@ -19,7 +19,7 @@ use Rattle.infer_deep.specs.Windows.{StandsBy}
 use Rattle.infer_sig.specs.Signature.{accepts, stands}
 use Rattle.infer.specs.BuiltIn.{BuiltIn, fixed, avif, doc, framed, heif, html, matroska, office, pdf, ppt, xls, xml, IsAccepted}
 use Rattle.infer.proofs.KnownLemmas.{Known, proved, refuted, unknown, is, same, at_most, same_text, refuted_if, both, either, needs, takes, ◌>>=◌, ◌>>◌}
-use Rattle.infer.proofs.PlaceLemmas.{ByPlace, lacks, lacked}
+use Rattle.infer.proofs.PlaceLemmas.{ByPlace, lacks, lacked, nowhere_from}
 use Rattle.infer.proofs.PlaceLemmas as Place
 
 -- ---- words of one kind, as white space and frames, and then a text
@@ -61,7 +61,8 @@ abbrev is_opening : ℕ → Bool
 is_opening x = eqb (to_ascii_lowercase x) 0x3C
 
 -- a buffer with a word in it that begins with one has it
-opens : (front word rest b : List ℕ) → b ≡ front ++ (word ++ rest) → get_or (map to_ascii_lowercase word) 0 0 ≡ 0x3C → IsTrue (list_any is_opening b)
+opens : (front word rest b : List ℕ) → b ≡ front ++ (word ++ rest) → get_or (map to_ascii_lowercase word) 0 0 ≡ 0x3C
+    → IsTrue (list_any is_opening b)
 opens front [] rest b e first = absurd (cc)
 opens front (x ∷ word) rest b e first =
     let here = or_left (is_opening x) (list_any is_opening (word ++ rest)) (eq-eqb (to_ascii_lowercase x) 0x3C first) in
@@ -114,7 +115,7 @@ module _ (by_place : ByPlace) (b : List ℕ) where
   -- it may stand at p
   abbrev stands_by : (p end : ℕ) (t : List ℕ) → Known (StandsBy t end b)
   stands_by p end t = do
-    refuted_if (lacks 0 (suc (length b)) t b) (λ e (q, w). let f = w.stands.fits in lacked by_place t b 0 (suc (length b)) q (omega arith) (omega arith) e w.stands)
+    refuted_if (lacks 0 (suc (length b)) t b) (λ none (q, w). nowhere_from by_place t b 0 q w.low none w.stands)
     stands ← takes (occurs p t)
     high ← takes (at_most (p + length t) end)
     proved (p, record { stands = stands; low = omega arith; high = high })
@@ -172,8 +173,7 @@ module _ (by_place : ByPlace) (b : List ℕ) where
     | inl h ↦ none h.0
     | inr h ↦
         let second = h.2.1.third_found.second_found.here in
-        let f = second.stands.fits in
-        lacked by_place zip_header b (le32 b 18 + 49) (suc (length b)) h.2.1.third_found.second second.low (omega arith) e second.stands
+        nowhere_from by_place zip_header b (le32 b 18 + 49) h.2.1.third_found.second second.low e second.stands
   ]
 
   -- the third header decides, at the place where it may stand
@@ -199,7 +199,8 @@ module _ (by_place : ByPlace) (b : List ℕ) where
     there ← needs (stands_by 4 256 t) (λ h. h.2)
     proved (long, begins, there)
   known (framed magic) = do
-    begins ← needs (either (same_text (take (length magic) b) magic) (at_most (8 + le32 b 4) (length b))) (λ (rest, s). begins_framed magic b s.words rest s.each s.whole)
+    begins ← needs (either (same_text (take (length magic) b) magic) (at_most (8 + le32 b 4) (length b)))
+        (λ (rest, s). begins_framed magic b s.words rest s.each s.whole)
     equal ← takes (same_text b (behind (length b / 1028) long_frame (magic ++ [])))
     proved (framed_behind by_place (length b / 1028) magic b equal)
   known heif =

@@ -1,5 +1,5 @@
 -- The laws of all matchers, from those of every signature.
-use Rattle.std.proofs.Common.{◌≡◌, ℕ, List, length, get_or, refl, ◌⊎◌, inl, inr, sym, ◌∙◌, arith, IsTrue}
+use Rattle.std.proofs.Common.{◌≡◌, ◌<◌, ℕ, List, length, get_or, refl, ◌⊎◌, inl, inr, sym, ◌∙◌, arith, IsTrue}
 use Rattle.infer_sig.specs.Signature.{Alternative}
 use Rattle.infer_sig.specs.Laws as Fixed
 use Rattle.infer_deep.specs.Laws as Deep
@@ -48,7 +48,8 @@ module _ (fixed_near : (n : ℕ) (s : List Alternative) → IsTrue (Fixed.is_wit
 
   pub others_near : OthersAreNear signatures
   others_near m lt out d =
-      elim (proof_of (is_decided d m) (passed (λ j. is_proved (is_decided d j)) MATCHER_COUNT 8 (all_decided d) (omega arith) m (omega (arith, lt, length-signatures)))) [
+      let below : m < MATCHER_COUNT = omega (arith, lt, length-signatures) in
+      elim (proof_of (is_decided d m) (passed (λ j. is_proved (is_decided d j)) MATCHER_COUNT 8 (all_decided d) (omega arith) m below)) [
         | inl one ↦ absurd (not_both (is_of_the_twelve m) one out)
         | inr near ↦ near
       ]

@@ -54,3 +54,6 @@ module _ (by_place : ByPlace) (t : List ℕ) where
       let at : drop (p - s) (drop s b) ≡ drop p b = drop-drop (p - s) s b ∙ ap (λ i. drop i b) (let r : s + (p - s) ≡ p = omega arith in r) in
       let not_here = not_absent (e - s) (p - s) (drop s b) (omega arith) none in
       not_both (stands p t b) (stands-from b p o) (subst (λ l. IsTrue (not (starts_with nat_eq l t))) at not_here)
+
+  pub nowhere_from : (b : List ℕ) (s p : ℕ) → s ≤ p → IsTrue (lacks s (suc (length b)) t b) → ¬ OccursAt b t p
+  nowhere_from b s p low none o = let f = o.fits in lacked b s (suc (length b)) p low (omega arith) none o

@@ -28,7 +28,8 @@ module _ (by_place : ByPlace) (exclude : Deep.Apart) (d : Row BuiltIn) where
   unfolding table stands le16 le32 be32
   all_reach = (refl, (refl, (refl, (refl, (refl, (refl, (refl, (refl, tt))))))))
 
-  pub sample_first : (i : ℕ) → i < ROW_COUNT → i ≢ DLL → i ≢ EPUB_ARCHIVE → IsFirst (Accepts (sample_of (get_or table i d).signature)) table i
+  pub sample_first : (i : ℕ) → i < ROW_COUNT → i ≢ DLL → i ≢ EPUB_ARCHIVE
+      → IsFirst (Accepts (sample_of (get_or table i d).signature)) table i
   sample_first i lt not_dll not_epub = elim (proof_of (reaches i) (passed (λ j. is_proved (reaches j)) ROW_COUNT 8 all_reach (omega arith) i lt)) [
     | inl e ↦ absurd (not_dll e)
     | inr (inl e) ↦ absurd (not_epub e)
@@ -45,8 +46,9 @@ agree_at f g [] (y ∷ ys) e i a b lt = absurd (cc)
 agree_at f g (x ∷ xs) (y ∷ ys) e zero a b lt = cc
 agree_at f g (x ∷ xs) (y ∷ ys) e (suc i) a b lt = agree_at f g xs ys (cc) i a b (omega arith)
 
-pub pieces_hold : (xs : List Pieces) → map buffer_listed xs ≡ map padded table → map (λ p. p.len) xs ≡ map (λ r. length (sample_of r.signature)) table
-    → (i : ℕ) → i < ROW_COUNT → (p : Pieces) → HoldsAt (HoldsSample (get_or xs i p).len (buffer_listed (get_or xs i p))) table i
+pub pieces_hold : (xs : List Pieces) → map buffer_listed xs ≡ map padded table
+    → map (λ p. p.len) xs ≡ map (λ r. length (sample_of r.signature)) table → (i : ℕ) → i < ROW_COUNT
+    → (p : Pieces) → HoldsAt (HoldsSample (get_or xs i p).len (buffer_listed (get_or xs i p))) table i
 pieces_hold xs buffers lengths i lt p d =
     let here : i < length table = omega (arith, length-table) in
     let long = agree_at (λ (q : Pieces). q.len) (λ (r : Row BuiltIn). length (sample_of r.signature)) xs table lengths i p d here in
@@ -58,5 +60,6 @@ pub written_first : (i n : ℕ) (buf : List ℕ) → i < ROW_COUNT → HoldsAt (
     → HoldsAt (λ r. IsFirst (Accepts (sample_of r.signature)) table i) table i → IsFirst (Accepts (take n buf)) table i
 written_first i n buf lt holds first =
     let h = holds some_row in
-    let front : take n buf ≡ sample_of (get_or table i some_row).signature = ap (take n) h.1 ∙ take_at (sample_of (get_or table i some_row).signature) (zeros (640 - n)) n (sym h.0) in
+    let s = sample_of (get_or table i some_row).signature in
+    let front : take n buf ≡ s = ap (take n) h.1 ∙ take_at s (zeros (640 - n)) n (sym h.0) in
     subst (λ b. IsFirst (Accepts b) table i) (sym front) (first some_row)
