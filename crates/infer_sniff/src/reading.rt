@@ -1,8 +1,9 @@
 //! The type of what a reader gives, of which no more is read than it takes to tell it.
-ghost use Rattle.std.specs.Prelude.{◌≡◌, ◌≤◌, ℕ, List, None, IfOk, IfSome, IsErrOf, OnErr, length};
+ghost use Rattle.std.specs.Prelude.{◌≡◌, ◌≤◌, ℕ, List, None, IfOk, IfSome, IsErrOf, OnErr, OnOk, length};
+ghost use Rattle.std.specs.Io.KnownBytes.{Consumes};
 ghost use Rattle.infer.specs.Buffer.{IsBuffer, head};
 ghost use Rattle.infer.specs.Fault.{OpensNothing, read_fault};
-ghost use Rattle.infer.specs.Watched.{Loses, fault_of, inner};
+ghost use Rattle.infer.specs.Watched.{IsDue, Loses, fault_of, inner};
 ghost use Rattle.infer_sniff.specs.Verdicts.{IsSettled, IsTypeOf};
 
 use crate::position::position_settled;
@@ -37,6 +38,10 @@ pub fn label<A: Allocator, R: Read>(
     requires { fault_of reader.old ≡ None }
     ensures answer { IfOk result (λ found. IfSome (R.remaining (inner reader.old)) (λ s. IsTypeOf (head FRONT s) found)) }
     ensures some_bytes { IfOk result (λ found. (b : List ℕ) × IsBuffer b × (length b ≤ FRONT) × IsTypeOf b found) }
+
+    // Behind a final verdict nothing is read: what was lost but for the last piece had none.
+    ensures no_further { OnOk result ((b : List ℕ) × Consumes (R.remaining (inner reader.old)) (R.remaining (inner reader.new)) b
+        × IsDue PIECE IsSettled b) }
     ensures fault { fault_of reader.new ≡ read_fault result }
     ensures memory { IsErrOf result Fault.Memory → reader.new ≡ reader.old }
     ensures opens_nothing { OpensNothing result }

@@ -149,7 +149,7 @@ const POWERPOINT_ID: &[u8] = b"\x10\x8D\x81\x64\x9B\x4F\xCF\x11\x86\xEA\0\xAA\0\
 /// and its own.
 type Late<'a> = (u8, &'a [(usize, &'a [u8])], &'static str, &'static str);
 
-/// A compound file whose root entry begins at 1024.
+// A compound file whose root entry begins at 1024.
 macro_rules! compound {
     ($id:expr) => {
         &[
@@ -163,7 +163,7 @@ macro_rules! compound {
     };
 }
 
-/// A document of Office whose third header stands behind the 1024th byte.
+// A document of Office whose third header stands behind the 1024th byte.
 macro_rules! office {
     ($folder:literal) => {
         &[

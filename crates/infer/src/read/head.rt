@@ -5,7 +5,7 @@ ghost use Rattle.std.specs.Io.{ReadsAtMost};
 ghost use Rattle.std.specs.Io.KnownBytes.{Consumes, IsAtEnd};
 ghost use Rattle.infer.specs.Buffer.{IsBuffer, head};
 ghost use Rattle.infer.specs.Fault.{OpensNothing, read_fault};
-ghost use Rattle.infer.specs.Watched.{Loses, fault_of, inner};
+ghost use Rattle.infer.specs.Watched.{IsDue, Loses, fault_of, inner};
 
 use crate::read::fault::Fault;
 use crate::read::watched::Watched;
@@ -50,6 +50,7 @@ fn fill<R: Read, E: Enough>(
     ensures bytes { IfOk result (λ n. Consumes (R.remaining (inner reader.old)) (R.remaining (inner reader.new)) (take n out.new)) }
     ensures end { IfOk result (λ n. n < length out.new
         → IsAtEnd (R.remaining (inner reader.new)) ⊎ E.suffices enough.now (take n out.new)) }
+    ensures due { IfOk result (λ n. IsDue piece (E.suffices enough.now) (take n out.new)) }
     ensures fault { fault_of reader.new ≡ result_err result }
     ensures lost { OnErr result (Loses (length out.new) (R.remaining (inner reader.old)) (R.remaining (inner reader.new))) }
 {
@@ -82,6 +83,7 @@ pub fn read_until<A: Allocator, R: Read, E: Enough>(
     ensures taken { IfOk result (λ bytes. Consumes (R.remaining (inner reader.old)) (R.remaining (inner reader.new)) bytes.items) }
     ensures end { IfOk result (λ bytes. vec_len bytes < limit
         → IsAtEnd (R.remaining (inner reader.new)) ⊎ E.suffices enough.now bytes.items) }
+    ensures due { IfOk result (λ bytes. IsDue piece (E.suffices enough.now) bytes.items) }
     ensures fault { fault_of reader.new ≡ read_fault result }
     ensures memory { IsErrOf result Fault.Memory → reader.new ≡ reader.old }
     ensures opens_nothing { OpensNothing result }

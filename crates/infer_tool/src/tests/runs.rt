@@ -236,9 +236,16 @@ fn memory_for_a_run(rt: HostRuntime) -> Result<(), Fail> {
     let words = [String::from_str(rt.alloc(), "d.bin")?];
     let (mut out, mut err) = (Vec::new(rt.alloc()), Vec::new(rt.alloc()));
     let small = LocalHeap::new(rt.alloc(), 4096)?;
-    for words in [words.as_slice(), [].as_slice()] {
+    for count in [1, 0] {
         let watched = &mut WatchedWriter::new(&mut out);
-        let outcome = run(&rt, &small, words, JPEG.as_slice(), watched, &mut err);
+        let outcome = run(
+            &rt,
+            &small,
+            &words[..count],
+            JPEG.as_slice(),
+            watched,
+            &mut err,
+        );
         assert_eq!(rt; outcome.status(), 2);
     }
     assert!(rt; out.is_empty());

@@ -1,7 +1,7 @@
 -- What was read so far stands at the front of the buffer.
 use Rattle.std.proofs.Common.{◌≡◌, ◌-◌, ◌≤◌, None, length, take}
 use Rattle.std.specs.Io.KnownBytes.{Consumes}
-use Rattle.infer.specs.Watched.{fault_of, inner}
+use Rattle.infer.specs.Watched.{IsDue, fault_of, inner}
 use Rattle.infer.proofs.read.head.fill.Given as goal
 
 abbrev pub invariant-loop-filled : goal.invariant-loop-filled
@@ -9,6 +9,7 @@ invariant-loop-filled g l = record {
   in_range : l.filled ≤ length l.out;
   no_fault : fault_of l.reader ≡ None;
   bytes : Consumes (g.R.Read.remaining (inner l.initial.reader)) (g.R.Read.remaining (inner l.reader)) (take l.filled l.out);
+  due : IsDue l.piece (g.E.Enough.suffices l.enough) (take l.filled l.out);
 }
 
 abbrev pub decreases-loop-filled : goal.decreases-loop-filled
