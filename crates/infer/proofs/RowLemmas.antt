@@ -1,21 +1,10 @@
 -- Answers of a list of rows.
-use Rattle.std.proofs.Common.{◌≡◌, ◌+◌, ◌<◌, ℕ, List, [], ◌∷◌, ◌++◌, map, length, get_or, Option, None, Some, sym, ap, ◌∙◌, arith}
-use Rattle.std.specs.List.{AllWithin, slice_get}
-use Rattle.std.specs.Option.{option_map}
-use Rattle.std.proofs.lemmas.Option.{slice_get-get_or, none-some, same_Some}
+use Rattle.std.proofs.Common.{◌≡◌, ◌+◌, ◌<◌, ℕ, List, ◌++◌, map, length, get_or, Option, None, Some, sym, ◌∙◌}
+use Rattle.std.specs.List.{AllWithin}
 use Rattle.infer.specs.First.{IsFirst, NoneHas, IsAnswer}
-use Rattle.infer.specs.Row.{Row, shows}
+use Rattle.infer.specs.Row.{Row}
 use Rattle.infer.specs.Triple.{Triple}
 use Rattle.infer.proofs.ListLemmas.{holds_read, first_read, HoldsAt-images, HoldsAt-sources, HoldsAt-left, HoldsAt-right, IsFirst-map, IsFirst-from_map, IsFirst-left, IsFirst-right, NoneHas-map, NoneHas-from_map, NoneHas-both}
-
--- the row at the first index tells the answer
-pub answer_at : {S : Type 0} (P : Row S → Type 0) (rows : List (Row S)) (i : ℕ) (o : Option Triple)
-    → IsFirst P rows i → o ≡ option_map shows (slice_get rows i) → IsAnswer P rows o
-answer_at P [] i o first e = absurd (omega (arith, first.within))
-answer_at P (r ∷ rs) i None first e =
-    absurd (none-some _ (e ∙ ap (option_map shows) (slice_get-get_or (r ∷ rs) i r first.within)))
-answer_at P (r ∷ rs) i (Some t) first e =
-    (i, first, λ d. sym (same_Some _ _ (e ∙ ap (option_map shows) (slice_get-get_or (r ∷ rs) i d first.within))))
 
 -- what a loop over xs found is the answer of the rows that it shows
 pub answer_read : {A S : Type 0} (f : A → Row S) (P : Row S → Type 0) (xs : List A) (rows : List (Row S)) → map f xs ≡ rows

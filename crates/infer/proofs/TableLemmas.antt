@@ -5,35 +5,29 @@ use Rattle.std.specs.Option.{option_map}
 use Rattle.std.proofs.lemmas.Option.{none-some}
 use Rattle.std.specs.Str.{bytes_eq}
 use Rattle.std.proofs.lemmas.Bool.{and_parts, and_from}
+use Rattle.std.proofs.lemmas.Slice.Eq.{bytes_eq-Decides}
+use denote.Enum.Declared.{tag_of}
 use Rattle.infer.specs.BuiltIn.{BuiltIn}
+use Rattle.infer.specs.contracts.table.file_type.MatcherType as matcher_type
 use Rattle.infer.specs.First.{IsFirstOf}
 use Rattle.infer.specs.Row.{Row, shows}
 use Rattle.infer.specs.Table.{table}
 use Rattle.infer.specs.Triple.{Triple, triple_of}
 use Rattle.infer.specs.declared.table.rows.TheConstants.{ROW_COUNT}
 use Rattle.infer.specs.declared.table.file_type.FileType.{FileType}
-use Rattle.infer.specs.declared.table.file_type.MatcherType.{MatcherType}
-use Rattle.infer.specs.declared.table.file_type.MatcherType.TheVariants.{App, Archive, Audio, Book, Doc, Font, Image, Text, Video, Custom}
+use Rattle.infer.proofs.PlaceLemmas.{not_both}
 
 pub length-table : length table ≡ ROW_COUNT
 unfolding table
 length-table = refl
 
-abbrev class_number : MatcherType → ℕ
-class_number App = 0
-class_number Archive = 1
-class_number Audio = 2
-class_number Book = 3
-class_number Doc = 4
-class_number Font = 5
-class_number Image = 6
-class_number Text = 7
-class_number Video = 8
-class_number Custom = 9
+-- the number of its class
+abbrev class_number : Triple → ℕ
+class_number t = tag_of matcher_type.the_type t.class
 
 -- a test that each triple passes with itself
 abbrev is_like : Triple → Triple → Bool
-is_like a b = nat_eq (class_number a.class) (class_number b.class) && bytes_eq a.extension b.extension && bytes_eq a.mime_type b.mime_type
+is_like a b = nat_eq (class_number a) (class_number b) && bytes_eq a.extension b.extension && bytes_eq a.mime_type b.mime_type
 
 -- no triple passes it with a later one
 abbrev are_apart : List Triple → Bool
@@ -41,22 +35,17 @@ are_apart [] = true
 are_apart (t ∷ ts) = not (list_any (is_like t) ts) && are_apart ts
 
 text_like_itself : (t : List ℕ) → bytes_eq t t ≡ true
-text_like_itself [] = refl
-text_like_itself (c ∷ t) = and_from (nat_eq c c) _ (eq-eqb c c refl) (text_like_itself t)
+text_like_itself t = (bytes_eq-Decides t t).1 refl
 
 is_like-same : (a b : Triple) → a ≡ b → IsTrue (is_like a b)
 is_like-same a b e = subst (λ x. IsTrue (is_like a x)) e
-    (and_from (nat_eq (class_number a.class) (class_number a.class) && bytes_eq a.extension a.extension) _
-    (and_from (nat_eq (class_number a.class) (class_number a.class)) _ (eq-eqb (class_number a.class) (class_number a.class) refl) (text_like_itself a.extension))
+    (and_from (nat_eq (class_number a) (class_number a) && bytes_eq a.extension a.extension) _
+    (and_from (nat_eq (class_number a) (class_number a)) _ (eq-eqb (class_number a) (class_number a) refl) (text_like_itself a.extension))
     (text_like_itself a.mime_type))
 
 neither : (a b : Bool) → IsTrue (not (a || b)) → IsTrue (not a) × IsTrue (not b)
 neither true b h = absurd (cc)
 neither false b h = (refl, h)
-
-not_both : (a : Bool) → IsTrue a → ¬ IsTrue (not a)
-not_both true h k = absurd (cc)
-not_both false h k = absurd (cc)
 
 apart_later : (t : Triple) (ts : List Triple) → IsTrue (not (list_any (is_like t) ts)) → (j : ℕ) (d : Triple) → j < length ts → t ≢ get_or ts j d
 apart_later t [] h j d lt = absurd (omega arith)

@@ -116,7 +116,6 @@ pub fn reach()
     ensures { (i : ℕ) → i < ROW_COUNT → i ≢ DLL → i ≢ EPUB_ARCHIVE → HoldsAt (λ r. IsFirst (Accepts (sample_of r.signature)) table i) table i }
 {
     infer_sig::laws::by_place();
-    infer_deep::laws::leads();
     infer_deep::laws::apart();
 }
 
@@ -125,6 +124,5 @@ pub fn breaks()
     ensures { (i : ℕ) → IsTrue (is_of_the_twelve i) → (buf : List ℕ) × Breaks i buf }
 {
     infer_sig::laws::by_place();
-    infer_deep::laws::leads();
     infer_deep::laws::apart();
 }

@@ -19,5 +19,4 @@ pub fn blank()
     ensures { NoneHas (Accepts []) table }
 {
     infer_sig::laws::by_place();
-    infer_deep::laws::leads();
 }
