@@ -1,5 +1,6 @@
 -- signatures, of the crates below
 pub use Rattle.infer_sig.specs.Signature
+pub use Rattle.infer_sig.specs.Headers
 pub use Rattle.infer_sig.specs.App
 pub use Rattle.infer_sig.specs.Archive
 pub use Rattle.infer_sig.specs.Audio

@@ -14,6 +14,7 @@ pub record IsLimit (text : List ℕ) (n : ℕ) : Type 0 where
 
 -- what a run with the limit n tells: the same as one with 8192, of standard input where there are no words behind the
 -- first two, and otherwise of each word behind
-abbrev pub ReportsWithin : ℕ → List (List ℕ) → Option (List ℕ) → Outcome → Option (List ℕ) → Option (List ℕ) → Type 0
-ReportsWithin n words left outcome old new =
-    (length words ≡ 2 → ReportsInput n left outcome (codes "-") old new) × (length words ≢ 2 → ReportsEach n (drop 2 words) outcome old new)
+abbrev pub ReportsWithin : ℕ → List (List ℕ) → Option (List ℕ) → Outcome → (old new err_old err_new : Option (List ℕ)) → Type 0
+ReportsWithin n words left outcome old new err_old err_new =
+    (length words ≡ 2 → ReportsInput n left outcome (codes "-") old new err_old err_new)
+    × (length words ≢ 2 → ReportsEach n (drop 2 words) outcome old new err_old err_new)

@@ -6,8 +6,8 @@ use Rattle.infer_tool.specs.declared.outcome.Outcome.{Outcome}
 use Rattle.infer_tool.specs.declared.outcome.Outcome.TheVariants.{Known}
 
 -- the reports of files of these names, one after the other, with the worst of their outcomes
-pub data ReportsEach (n : ℕ) : List (List ℕ) → Outcome → Option (List ℕ) → Option (List ℕ) → Type 0 where
-  no_input : (bytes : Option (List ℕ)) → ReportsEach n [] Known bytes bytes
-  one_more : (names : List (List ℕ)) (name : List ℕ) (earlier outcome : Outcome) (old between new : Option (List ℕ))
-      → ReportsEach n names earlier old between → ReportsInput n None outcome name between new
-      → ReportsEach n (names ++ name ∷ []) (worse_of earlier outcome) old new
+pub data ReportsEach (n : ℕ) : List (List ℕ) → Outcome → (old new err_old err_new : Option (List ℕ)) → Type 0 where
+  no_input : (bytes err_bytes : Option (List ℕ)) → ReportsEach n [] Known bytes bytes err_bytes err_bytes
+  one_more : (names : List (List ℕ)) (name : List ℕ) (earlier outcome : Outcome) (old between new err_old err_between err_new : Option (List ℕ))
+      → ReportsEach n names earlier old between err_old err_between → ReportsInput n None outcome name between new err_between err_new
+      → ReportsEach n (names ++ name ∷ []) (worse_of earlier outcome) old new err_old err_new

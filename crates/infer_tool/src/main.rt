@@ -4,7 +4,7 @@
 ghost use Rattle.std.specs.Prelude.{◌≡◌, ◌≢◌, ◌↔◌, ◌≤◌, ℕ, [], IsTrue, codes, false, length, map, string_bytes};
 ghost use Rattle.std.specs.Io.KnownBytes.{Keeps};
 ghost use Rattle.infer_tool.specs.Limit.{IsLimit, ReportsWithin};
-ghost use Rattle.infer_tool.specs.Report.{ReportsInput, UnlessFailed};
+ghost use Rattle.infer_tool.specs.Report.{ReportsInput, UnlessFailed, unless_failed};
 ghost use Rattle.infer_tool.specs.Run.{ReportsEach};
 ghost use Rattle.infer_tool.specs.Sample.{HasSample, WritesSample};
 ghost use Rattle.infer_tool.specs.Words.{Asks, front_option, sample_option, second};
@@ -49,14 +49,17 @@ pub fn run<R: Files, A: Allocator + Copy, I: Read + Drop, W: Write, E: Write>(
     words: &[String],
     input: I,
     out: &mut WatchedWriter<W>,
-    err: &mut E,
+    err: &mut WatchedWriter<E>,
 ) -> Outcome
-    requires { has_failed out.old ≡ false }
+    requires no_failure { has_failed out.old ≡ false }
+    requires no_err_failure { has_failed err.old ≡ false }
     ensures line { words.now ≡ [] → UnlessFailed (has_failed out.new) result
-        (ReportsInput FRONT (I.remaining input) result (codes "-") (W.contents (inner out.old)) (W.contents (inner out.new))) }
+        (ReportsInput FRONT (I.remaining input) result (codes "-") (W.contents (inner out.old)) (W.contents (inner out.new))
+        (unless_failed (has_failed err.new) (E.contents (inner err.old))) (E.contents (inner err.new))) }
     ensures each { words.now ≢ [] → ¬ Asks sample_option (map string_bytes words.now) → ¬ Asks front_option (map string_bytes words.now)
         → UnlessFailed (has_failed out.new) result
-        (ReportsEach FRONT (map string_bytes words.now) result (W.contents (inner out.old)) (W.contents (inner out.new))) }
+        (ReportsEach FRONT (map string_bytes words.now) result (W.contents (inner out.old)) (W.contents (inner out.new))
+        (unless_failed (has_failed err.new) (E.contents (inner err.old))) (E.contents (inner err.new))) }
 
     // Behind `--sample`.
     ensures sample { Asks sample_option (map string_bytes words.now) → length words.now ≡ 2
@@ -69,7 +72,8 @@ pub fn run<R: Files, A: Allocator + Copy, I: Read + Drop, W: Write, E: Write>(
     // Behind `--front`.
     ensures limit { Asks front_option (map string_bytes words.now) → (n : ℕ) → IsLimit (second (map string_bytes words.now)) n
         → UnlessFailed (has_failed out.new) result
-        (ReportsWithin n (map string_bytes words.now) (I.remaining input) result (W.contents (inner out.old)) (W.contents (inner out.new))) }
+        (ReportsWithin n (map string_bytes words.now) (I.remaining input) result (W.contents (inner out.old)) (W.contents (inner out.new))
+        (unless_failed (has_failed err.new) (E.contents (inner err.old))) (E.contents (inner err.new))) }
     ensures no_limit { Asks front_option (map string_bytes words.now) → ((n : ℕ) → ¬ IsLimit (second (map string_bytes words.now)) n)
         → (result ≡ Outcome.Failed) × (out.new ≡ out.old) }
     ensures silent { result ≢ Outcome.Failed → err.new ≡ err.old }
@@ -106,7 +110,7 @@ fn is_text(word: &str, text: &str) -> bool
 fn run_asked<W: Write, E: Write>(
     words: &[String],
     out: &mut WatchedWriter<W>,
-    err: &mut E,
+    err: &mut WatchedWriter<E>,
 ) -> Outcome
     ensures sample { length words.now ≡ 2 → (i : ℕ) → HasSample (second (map string_bytes words.now)) i
         → UnlessFailed (has_failed out.new) result (WritesSample i result (W.contents (inner out.old)) (W.contents (inner out.new))) }
@@ -115,7 +119,7 @@ fn run_asked<W: Write, E: Write>(
     ensures silent { result ≢ Outcome.Failed → err.new ≡ err.old }
 {
     if words.len() != 2 {
-        let _ = err.write_all(USAGE);
+        err.write_all(USAGE);
         return Outcome::Failed;
     }
     run_sample(words[1].as_str(), out, err)
@@ -128,21 +132,23 @@ fn run_limited<R: Files, A: Allocator + Copy, I: Read + Drop, W: Write, E: Write
     words: &[String],
     input: I,
     out: &mut WatchedWriter<W>,
-    err: &mut E,
+    err: &mut WatchedWriter<E>,
 ) -> Outcome
-    requires { has_failed out.old ≡ false }
+    requires no_failure { has_failed out.old ≡ false }
+    requires no_err_failure { has_failed err.old ≡ false }
     ensures limit { (n : ℕ) → IsLimit (second (map string_bytes words.now)) n
         → UnlessFailed (has_failed out.new) result
-        (ReportsWithin n (map string_bytes words.now) (I.remaining input) result (W.contents (inner out.old)) (W.contents (inner out.new))) }
+        (ReportsWithin n (map string_bytes words.now) (I.remaining input) result (W.contents (inner out.old)) (W.contents (inner out.new))
+        (unless_failed (has_failed err.new) (E.contents (inner err.old))) (E.contents (inner err.new))) }
     ensures no_limit { ((n : ℕ) → ¬ IsLimit (second (map string_bytes words.now)) n) → (result ≡ Outcome.Failed) × (out.new ≡ out.old) }
     ensures silent { result ≢ Outcome.Failed → err.new ≡ err.old }
 {
     if words.len() < 2 {
-        let _ = err.write_all(USAGE);
+        err.write_all(USAGE);
         return Outcome::Failed;
     }
     let Some(n) = limit_of(words[1].as_str()) else {
-        let _ = err.write_all(LIMITS);
+        err.write_all(LIMITS);
         return Outcome::Failed;
     };
     run_within(rt, alloc, words, n, input, out, err)
@@ -156,14 +162,16 @@ fn run_within<R: Files, A: Allocator + Copy, I: Read + Drop, W: Write, E: Write>
     n: usize,
     input: I,
     out: &mut WatchedWriter<W>,
-    err: &mut E,
+    err: &mut WatchedWriter<E>,
 ) -> Outcome
     requires words { 2 ≤ length words.now }
     requires least { 1 ≤ n }
     requires most { n ≤ 65536 }
     requires no_failure { has_failed out.old ≡ false }
+    requires no_err_failure { has_failed err.old ≡ false }
     ensures limit { UnlessFailed (has_failed out.new) result
-        (ReportsWithin n (map string_bytes words.now) (I.remaining input) result (W.contents (inner out.old)) (W.contents (inner out.new))) }
+        (ReportsWithin n (map string_bytes words.now) (I.remaining input) result (W.contents (inner out.old)) (W.contents (inner out.new))
+        (unless_failed (has_failed err.new) (E.contents (inner err.old))) (E.contents (inner err.new))) }
     ensures silent { result ≢ Outcome.Failed → err.new ≡ err.old }
 {
     if words.len() == 2 {
@@ -179,13 +187,15 @@ fn run_paths<R: Files, A: Allocator + Copy, W: Write, E: Write>(
     words: &[String],
     n: usize,
     out: &mut WatchedWriter<W>,
-    err: &mut E,
+    err: &mut WatchedWriter<E>,
 ) -> Outcome
     requires least { 1 ≤ n }
     requires most { n ≤ 65536 }
     requires no_failure { has_failed out.old ≡ false }
+    requires no_err_failure { has_failed err.old ≡ false }
     ensures each { UnlessFailed (has_failed out.new) result
-        (ReportsEach n (map string_bytes words.now) result (W.contents (inner out.old)) (W.contents (inner out.new))) }
+        (ReportsEach n (map string_bytes words.now) result (W.contents (inner out.old)) (W.contents (inner out.new))
+        (unless_failed (has_failed err.new) (E.contents (inner err.old))) (E.contents (inner err.new))) }
     ensures silent { result ≢ Outcome.Failed → err.new ≡ err.old }
 {
     let mut outcome = Outcome::Known;
@@ -244,10 +254,11 @@ fn run_lines<R: Files, A: Allocator + Copy, I: Read + Drop, W: Write, E: Write>(
     out: &mut W,
     err: &mut E,
 ) -> Outcome {
-    if let Ok(mut lines) = LineWriter::with_capacity(alloc, LINE_BUFFER, &mut *err) {
+    if let Ok(lines) = LineWriter::with_capacity(alloc, LINE_BUFFER, &mut *err) {
+        let mut lines = WatchedWriter::new(lines);
         return run_to_end(rt, alloc, words, input, out, &mut lines);
     }
-    run_to_end(rt, alloc, words, input, out, err)
+    run_to_end(rt, alloc, words, input, out, &mut WatchedWriter::new(err))
 }
 
 /// Runs, and writes out the last bytes.
@@ -257,8 +268,10 @@ fn run_to_end<R: Files, A: Allocator + Copy, I: Read + Drop, W: Write, E: Write>
     words: &[String],
     input: I,
     out: &mut W,
-    err: &mut E,
-) -> Outcome {
+    err: &mut WatchedWriter<E>,
+) -> Outcome
+    requires { has_failed err.old ≡ false }
+{
     if let Ok(lines) = LineWriter::with_capacity(alloc, LINE_BUFFER, &mut *out) {
         let mut lines = WatchedWriter::new(lines);
         let outcome = run(rt, alloc, words, input, &mut lines, err);

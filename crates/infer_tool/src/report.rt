@@ -1,6 +1,7 @@
 //! One line for one input.
 ghost use Rattle.std.specs.Prelude.{◌≡◌, ◌≢◌, ◌≤◌, IsTrue, None, OnErr};
-ghost use Rattle.infer_tool.specs.Report.{Reports, ReportsInput, UnlessFailed, told};
+ghost use Rattle.infer_tool.specs.Line.{fault_text};
+ghost use Rattle.infer_tool.specs.Report.{Reports, ReportsInput, UnlessFailed, told, unless_failed};
 ghost use Rattle.infer_tool.specs.Writer.{has_failed, inner};
 
 use crate::outcome::Outcome;
@@ -17,11 +18,13 @@ pub fn report<W: Write, E: Write>(
     name: &str,
     answer: Result<Option<Type>, Fault>,
     out: &mut WatchedWriter<W>,
-    err: &mut E,
+    err: &mut WatchedWriter<E>,
 ) -> Outcome
     ensures line { UnlessFailed (has_failed out.new) result
-        (Reports result name.now (told answer) (W.contents (inner out.old)) (W.contents (inner out.new))) }
+        (Reports result name.now (told answer) (W.contents (inner out.old)) (W.contents (inner out.new))
+        (unless_failed (has_failed err.new) (E.contents (inner err.old))) (E.contents (inner err.new))) }
     ensures remembers { IsTrue (has_failed out.old) → IsTrue (has_failed out.new) }
+    ensures err_remembers { IsTrue (has_failed err.old) → IsTrue (has_failed err.new) }
     ensures silent { result ≢ Outcome.Failed → err.new ≡ err.old }
     ensures fault { OnErr answer (out.new ≡ out.old) }
 {
@@ -36,7 +39,8 @@ pub fn report<W: Write, E: Write>(
             Outcome::Unknown
         }
         Err(fault) => {
-            let _ = writeln!(err, "{name}: {fault}");
+            let text = text_of(fault);
+            writeln!(err, "{name}: {text}");
             Outcome::Failed
         }
     };
@@ -44,6 +48,17 @@ pub fn report<W: Write, E: Write>(
         return Outcome::Failed;
     }
     outcome
+}
+
+/// What is said of a fault.
+fn text_of(fault: Fault) -> &'static str
+    ensures { result.now ≡ fault_text fault }
+{
+    match fault {
+        Fault::Open(_) => "cannot open",
+        Fault::Read(_) => "cannot read",
+        Fault::Memory => "no memory",
+    }
 }
 
 /// Reads at most 8192 bytes, and reports what they are. No read follows one after which the verdict is final.
@@ -54,11 +69,13 @@ pub fn run_reader<A: Allocator, R: Read + Drop, W: Write, E: Write>(
     name: &str,
     reader: R,
     out: &mut WatchedWriter<W>,
-    err: &mut E,
+    err: &mut WatchedWriter<E>,
 ) -> Outcome
     ensures line { UnlessFailed (has_failed out.new) result
-        (ReportsInput FRONT (R.remaining reader) result name.now (W.contents (inner out.old)) (W.contents (inner out.new))) }
+        (ReportsInput FRONT (R.remaining reader) result name.now (W.contents (inner out.old)) (W.contents (inner out.new))
+        (unless_failed (has_failed err.new) (E.contents (inner err.old))) (E.contents (inner err.new))) }
     ensures remembers { IsTrue (has_failed out.old) → IsTrue (has_failed out.new) }
+    ensures err_remembers { IsTrue (has_failed err.old) → IsTrue (has_failed err.new) }
     ensures silent { result ≢ Outcome.Failed → err.new ≡ err.old }
 {
     let mut watched = Watched::new(reader);
@@ -72,13 +89,15 @@ pub fn run_reader_within<A: Allocator, R: Read + Drop, W: Write, E: Write>(
     reader: R,
     n: usize,
     out: &mut WatchedWriter<W>,
-    err: &mut E,
+    err: &mut WatchedWriter<E>,
 ) -> Outcome
     requires least { 1 ≤ n }
     requires most { n ≤ 65536 }
     ensures line { UnlessFailed (has_failed out.new) result
-        (ReportsInput n (R.remaining reader) result name.now (W.contents (inner out.old)) (W.contents (inner out.new))) }
+        (ReportsInput n (R.remaining reader) result name.now (W.contents (inner out.old)) (W.contents (inner out.new))
+        (unless_failed (has_failed err.new) (E.contents (inner err.old))) (E.contents (inner err.new))) }
     ensures remembers { IsTrue (has_failed out.old) → IsTrue (has_failed out.new) }
+    ensures err_remembers { IsTrue (has_failed err.old) → IsTrue (has_failed err.new) }
     ensures silent { result ≢ Outcome.Failed → err.new ≡ err.old }
 {
     let mut watched = Watched::new(reader);
@@ -92,11 +111,13 @@ pub fn run_path<R: Files, A: Allocator, W: Write, E: Write>(
     alloc: A,
     path: &str,
     out: &mut WatchedWriter<W>,
-    err: &mut E,
+    err: &mut WatchedWriter<E>,
 ) -> Outcome
     ensures line { UnlessFailed (has_failed out.new) result
-        (ReportsInput FRONT None result path.now (W.contents (inner out.old)) (W.contents (inner out.new))) }
+        (ReportsInput FRONT None result path.now (W.contents (inner out.old)) (W.contents (inner out.new))
+        (unless_failed (has_failed err.new) (E.contents (inner err.old))) (E.contents (inner err.new))) }
     ensures remembers { IsTrue (has_failed out.old) → IsTrue (has_failed out.new) }
+    ensures err_remembers { IsTrue (has_failed err.old) → IsTrue (has_failed err.new) }
     ensures silent { result ≢ Outcome.Failed → err.new ≡ err.old }
 {
     run_path_within(rt, alloc, path, FRONT, out, err)
@@ -109,13 +130,15 @@ pub fn run_path_within<R: Files, A: Allocator, W: Write, E: Write>(
     path: &str,
     n: usize,
     out: &mut WatchedWriter<W>,
-    err: &mut E,
+    err: &mut WatchedWriter<E>,
 ) -> Outcome
     requires least { 1 ≤ n }
     requires most { n ≤ 65536 }
     ensures line { UnlessFailed (has_failed out.new) result
-        (ReportsInput n None result path.now (W.contents (inner out.old)) (W.contents (inner out.new))) }
+        (ReportsInput n None result path.now (W.contents (inner out.old)) (W.contents (inner out.new))
+        (unless_failed (has_failed err.new) (E.contents (inner err.old))) (E.contents (inner err.new))) }
     ensures remembers { IsTrue (has_failed out.old) → IsTrue (has_failed out.new) }
+    ensures err_remembers { IsTrue (has_failed err.old) → IsTrue (has_failed err.new) }
     ensures silent { result ≢ Outcome.Failed → err.new ≡ err.old }
 {
     let answer = Infer::new().get_from_path_within(rt, alloc, path, n);

@@ -21,7 +21,7 @@ use std::io::Write;
 pub fn run_sample<W: Write, E: Write>(
     extension: &str,
     out: &mut WatchedWriter<W>,
-    err: &mut E,
+    err: &mut WatchedWriter<E>,
 ) -> Outcome
     ensures sample { (i : ℕ) → HasSample extension.now i
         → UnlessFailed (has_failed out.new) result (WritesSample i result (W.contents (inner out.old)) (W.contents (inner out.new))) }
@@ -46,10 +46,10 @@ pub fn run_sample<W: Write, E: Write>(
 }
 
 /// Tells that there is no sample.
-fn refuse<E: Write>(extension: &str, err: &mut E) -> Outcome
+fn refuse<E: Write>(extension: &str, err: &mut WatchedWriter<E>) -> Outcome
     ensures { result ≡ Outcome.Failed }
 {
-    let _ = writeln!(err, "{extension}: no sample");
+    writeln!(err, "{extension}: no sample");
     Outcome::Failed
 }
 

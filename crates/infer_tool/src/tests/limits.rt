@@ -24,7 +24,7 @@ fn over(
         list.as_slice(),
         &mut reader,
         &mut WatchedWriter::new(&mut out),
-        &mut err,
+        &mut WatchedWriter::new(&mut err),
     );
     Ok((outcome.status(), out, err, reader.reads))
 }

@@ -21,7 +21,7 @@ fn written<R: Read + Drop>(alloc: Global, reader: R) -> (Outcome, Vec<u8>, Vec<u
         "-",
         reader,
         &mut WatchedWriter::new(&mut out),
-        &mut err,
+        &mut WatchedWriter::new(&mut err),
     );
     (outcome, out, err)
 }
@@ -158,10 +158,23 @@ fn each_write_fails_in_turn<R: AllocGlobal + Abort>(
         let mut err = PieceWriter::new(piece);
         let mut out = PieceWriter::failing(piece, fails_at);
         let watched = &mut WatchedWriter::new(&mut out);
-        let reported = report("-", Ok(get(input)), watched, &mut err).status();
+        let reported = report(
+            "-",
+            Ok(get(input)),
+            watched,
+            &mut WatchedWriter::new(&mut err),
+        )
+        .status();
         let mut again = PieceWriter::failing(piece, fails_at);
         let watched = &mut WatchedWriter::new(&mut again);
-        let read = run_reader(rt.alloc(), "-", input, watched, &mut err).status();
+        let read = run_reader(
+            rt.alloc(),
+            "-",
+            input,
+            watched,
+            &mut WatchedWriter::new(&mut err),
+        )
+        .status();
         assert_eq!(rt; again.taken(), out.taken());
         assert!(rt; err.taken().is_empty());
         if !out.has_failed() {
@@ -189,7 +202,12 @@ fn a_fault_that_cannot_be_told(rt: HostRuntime) {
         let mut out = PieceWriter::new(1);
         let mut err = PieceWriter::failing(1, fails_at);
         let watched = &mut WatchedWriter::new(&mut out);
-        let outcome = report("-", Err(Fault::Memory), watched, &mut err);
+        let outcome = report(
+            "-",
+            Err(Fault::Memory),
+            watched,
+            &mut WatchedWriter::new(&mut err),
+        );
         assert_eq!(rt; outcome.status(), 2);
         assert!(rt; out.taken().is_empty());
     }
@@ -204,8 +222,22 @@ fn each_request_is_refused_in_turn(rt: HostRuntime) -> Result<(), Fail> {
         let (mut out, mut err) = (PieceWriter::new(512), PieceWriter::new(512));
         let mut reader = PieceReader::new(&JPEG, 4);
         let watched = &mut WatchedWriter::new(&mut out);
-        let read = run_reader(&heap, "-", &mut reader, watched, &mut err).status();
-        let opened = run_path(&rt, &heap, "refused.jpg", watched, &mut err).status();
+        let read = run_reader(
+            &heap,
+            "-",
+            &mut reader,
+            watched,
+            &mut WatchedWriter::new(&mut err),
+        )
+        .status();
+        let opened = run_path(
+            &rt,
+            &heap,
+            "refused.jpg",
+            watched,
+            &mut WatchedWriter::new(&mut err),
+        )
+        .status();
         assert_eq!(rt; heap.used(), 0);
         answered = read == 0;
         if answered {
@@ -234,7 +266,13 @@ fn a_path_is_the_name(rt: HostRuntime) -> Result<(), Fail> {
     fs::write(&rt, "named.jpg", &JPEG)?;
     let (mut out, mut err) = (Vec::new(rt.alloc()), Vec::new(rt.alloc()));
     let watched = &mut WatchedWriter::new(&mut out);
-    let outcome = run_path(&rt, rt.alloc(), "named.jpg", watched, &mut err);
+    let outcome = run_path(
+        &rt,
+        rt.alloc(),
+        "named.jpg",
+        watched,
+        &mut WatchedWriter::new(&mut err),
+    );
     fs::remove_file(&rt, "named.jpg")?;
     assert_eq!(rt; outcome.status(), 0);
     assert_eq!(rt; out.as_slice(), b"named.jpg: image/jpeg jpg\n".as_slice());

@@ -1,7 +1,7 @@
 //! Runs over words, and over standard input where there are none.
 use crate::outcome::Outcome;
 use crate::writer::WatchedWriter;
-use crate::{LINE_BUFFER, USAGE, flush, run};
+use crate::{LINE_BUFFER, USAGE, flush, run, run_lines};
 use test_streams::{PieceReader, PieceWriter};
 use linked_list_allocator::LocalHeap;
 use std::alloc::AllocError;
@@ -30,7 +30,7 @@ fn over(rt: &HostRuntime, paths: &[&str]) -> Result<(Done, u32), AllocError> {
         words.as_slice(),
         &mut input,
         &mut WatchedWriter::new(&mut out),
-        &mut err,
+        &mut WatchedWriter::new(&mut err),
     );
     Ok(((outcome.status(), out, err), input.reads))
 }
@@ -109,7 +109,7 @@ fn over_two<R: Files + AllocGlobal + Abort, W: Write>(
         &words,
         b"".as_slice(),
         &mut watched,
-        &mut err,
+        &mut WatchedWriter::new(&mut err),
     );
     assert!(rt; err.taken().is_empty());
     Ok(flush(outcome, &mut watched).status())
@@ -244,7 +244,7 @@ fn memory_for_a_run(rt: HostRuntime) -> Result<(), Fail> {
             &words[..count],
             JPEG.as_slice(),
             watched,
-            &mut err,
+            &mut WatchedWriter::new(&mut err),
         );
         assert_eq!(rt; outcome.status(), 2);
     }
@@ -255,7 +255,14 @@ fn memory_for_a_run(rt: HostRuntime) -> Result<(), Fail> {
     );
     let ample = LocalHeap::new(rt.alloc(), 16384)?;
     let watched = &mut WatchedWriter::new(&mut out);
-    let outcome = run(&rt, &ample, &words, JPEG.as_slice(), watched, &mut err);
+    let outcome = run(
+        &rt,
+        &ample,
+        &words,
+        JPEG.as_slice(),
+        watched,
+        &mut WatchedWriter::new(&mut err),
+    );
     assert_eq!(rt; outcome.status(), 0);
     assert_eq!(rt; out.as_slice(), b"d.bin: image/jpeg jpg\n".as_slice());
     fs::remove_file(&rt, "d.bin")?;
@@ -263,10 +270,35 @@ fn memory_for_a_run(rt: HostRuntime) -> Result<(), Fail> {
 }
 
 #[test]
+fn a_refused_line_buffer_is_done_without(rt: HostRuntime) -> Result<(), Fail> {
+    let words = [
+        String::from_str(rt.alloc(), "--sample")?,
+        String::from_str(rt.alloc(), "dll")?,
+    ];
+    for (size, is_one_write) in [(4096, false), (65536, true)] {
+        let heap = LocalHeap::new(rt.alloc(), size)?;
+        let (mut out, mut err) = (PieceWriter::new(512), PieceWriter::new(512));
+        let outcome = run_lines(&rt, &heap, &words, b"".as_slice(), &mut out, &mut err);
+        assert_eq!(rt; outcome.status(), 2);
+        assert_eq!(rt; err.taken(), b"dll: no sample\n".as_slice());
+        assert_eq!(rt; err.writes == 1, is_one_write, "{size} bytes");
+        assert_eq!(rt; heap.used(), 0);
+    }
+    Ok(())
+}
+
+#[test]
 fn a_failed_flush_is_a_failure(rt: HostRuntime) {
     let mut out = WatchedWriter::new(PieceWriter::without_flush());
     let mut err = PieceWriter::new(512);
-    let outcome = run(&rt, rt.alloc(), &[], JPEG.as_slice(), &mut out, &mut err);
+    let outcome = run(
+        &rt,
+        rt.alloc(),
+        &[],
+        JPEG.as_slice(),
+        &mut out,
+        &mut WatchedWriter::new(&mut err),
+    );
     assert_eq!(rt; outcome.status(), 0);
     assert_eq!(rt; flush(outcome, &mut out).status(), 2);
     let mut out = WatchedWriter::new(PieceWriter::new(512));

@@ -7,4 +7,4 @@ pub returns-clause-line : goal.returns-clause-line
 returns-clause-line g c =
     let read = c.get_from_path_within-answer in
     ReportsInput-found read.result c.args.n None None refl (some-built_in c.new.result c.new.ensures c.args.n read.result read.ensures)
-    (unknown_front read.result c.args.n) _ _ _ _ _ c.report.ensures.line
+    (unknown_front read.result c.args.n) _ _ _ _ _ _ _ c.report.ensures.line

@@ -9,4 +9,4 @@ returns-clause-line g c =
     let read = c.get_from_reader_within-answer in
     ReportsInput-found read.result c.args.n _ (g.R.Read.remaining c.args.reader) (ap g.R.Read.remaining c.new-watched.ensures.reader)
     (some-built_in c.new.result c.new.ensures c.args.n read.result read.ensures.some_bytes)
-    (known-built_in c.new.result c.new.ensures (head c.args.n) _ read.result read.ensures.answer) _ _ _ _ _ c.report.ensures.line
+    (known-built_in c.new.result c.new.ensures (head c.args.n) _ read.result read.ensures.answer) _ _ _ _ _ _ _ c.report.ensures.line
