@@ -1,10 +1,10 @@
 //! Runs whose limit is chosen.
 use crate::run;
 use crate::writer::WatchedWriter;
-use test_streams::PieceReader;
 use std::alloc::AllocError;
 use std::fs;
 use std::test::Fail;
+use test_streams::PieceReader;
 
 /// The status of a run, what it writes to each writer, and how many reads of its input there were.
 fn over(

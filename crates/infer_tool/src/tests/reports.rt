@@ -2,7 +2,6 @@
 use crate::outcome::Outcome;
 use crate::report::{report, run_path, run_reader};
 use crate::writer::WatchedWriter;
-use test_streams::{PieceReader, PieceWriter};
 use infer::{Fault, get};
 use linked_list_allocator::LocalHeap;
 use std::alloc::{AllocError, Global};
@@ -10,6 +9,7 @@ use std::fs;
 use std::io::{ErrorKind, Read};
 use std::process::Abort;
 use std::test::Fail;
+use test_streams::{PieceReader, PieceWriter};
 
 const JPEG: [u8; 4] = [0xFF, 0xD8, 0xFF, 0xAA];
 

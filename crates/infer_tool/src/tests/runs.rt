@@ -2,7 +2,6 @@
 use crate::outcome::Outcome;
 use crate::writer::WatchedWriter;
 use crate::{LINE_BUFFER, USAGE, flush, run, run_lines};
-use test_streams::{PieceReader, PieceWriter};
 use linked_list_allocator::LocalHeap;
 use std::alloc::AllocError;
 use std::fs;
@@ -10,6 +9,7 @@ use std::io::{LineWriter, Write};
 use std::process::Abort;
 use std::rt::Files;
 use std::test::Fail;
+use test_streams::{PieceReader, PieceWriter};
 
 const JPEG: [u8; 4] = [0xFF, 0xD8, 0xFF, 0xAA];
 
