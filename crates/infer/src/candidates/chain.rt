@@ -3,9 +3,8 @@
 
 ghost use Rattle.std.specs.Prelude.{◌↔◌, [], ◌∷◌, ℕ, List, IsTrue};
 ghost use Rattle.infer_deep.specs.Find.{OccursAt};
-ghost use Rattle.infer_deep.specs.Frames.{IsLz4, IsZst};
-ghost use Rattle.infer_deep.specs.Text.{IsHtml, IsXml};
 ghost use Rattle.infer.specs.Questions.{IsWanted};
+ghost use Rattle.infer.specs.Row.{Accepts};
 ghost use Rattle.infer.specs.Walks.{IsFirstAmong, RowHas, Takes};
 
 use crate::ask::question::Question;
@@ -41,13 +40,25 @@ pub struct ThenThree<const I: usize, const J: usize, const K: usize, C>(pub C);
 #[derive(Drop)]
 pub struct ThenOffice<C>(pub C);
 
-/// Zstandard and LZ4, behind skippable frames that are passed over once, and then others.
+/// Two rows that pass over the same beginning of a buffer, which is passed over once, and then others.
 #[derive(Drop)]
-pub struct ThenFrames<C>(pub C);
+pub struct ThenTwo<const I: usize, const J: usize, S, C>(pub S, pub C);
 
-/// HTML and XML, behind white space that is passed over once, and then others.
+/// The beginning that two rows pass over.
+pub trait Shared<const I: usize, const J: usize>: Drop {
+    /// What follows it in `buf`, or `buf` if row `I` is not asked for. Both rows answer of it as of `buf`.
+    fn after<'a, Q: Question>(&self, question: &Q, buf: &'a [u8]) -> &'a [u8]
+        ensures first { RowHas (Accepts result.now) I ↔ RowHas (Accepts buf.now) I }
+        ensures second { RowHas (Accepts result.now) J ↔ RowHas (Accepts buf.now) J };
+}
+
+/// Zstandard and LZ4, after skippable frames.
 #[derive(Drop)]
-pub struct ThenMarkup<C>(pub C);
+pub struct Frames;
+
+/// HTML and XML, after white space.
+#[derive(Drop)]
+pub struct Markup;
 
 /// A chain as a function of its own.
 #[derive(Drop)]
@@ -106,39 +117,43 @@ impl<C: Chain> Chain for ThenOffice<C> {
     }
 }
 
-impl<C: Chain> Chain for ThenFrames<C> {
-    ghost use Rattle.infer.specs.declared.table.rows.TheConstants.{LZ4, ZST};
-
-    ghost rows = { λ s. ZST ∷ LZ4 ∷ C.rows s.0 };
+impl<const I: usize, const J: usize, S: Shared<I, J>, C: Chain> Chain for ThenTwo<I, J, S, C> {
+    ghost rows = { λ s. I ∷ J ∷ C.rows s.1 };
 
     #[inline(always)]
     fn first<Q: Question>(&self, question: &Q, buf: &[u8]) -> Option<usize> {
-        let data = data_of(question, buf);
-        if takes(ZST, question, data) {
-            return Some(ZST);
+        let rest = self.0.after(question, buf);
+        if takes(I, question, rest) {
+            return Some(I);
         }
-        if takes(LZ4, question, data) {
-            return Some(LZ4);
+        if takes(J, question, rest) {
+            return Some(J);
         }
-        self.0.first(question, buf)
+        self.1.first(question, buf)
     }
 }
 
-impl<C: Chain> Chain for ThenMarkup<C> {
-    ghost use Rattle.infer.specs.declared.table.rows.TheConstants.{HTML, XML};
-
-    ghost rows = { λ s. HTML ∷ XML ∷ C.rows s.0 };
-
+impl Shared<{ ZST }, { LZ4 }> for Frames {
+    #[tactic(auto, unfolding(crate::specs::Table::table))]
     #[inline(always)]
-    fn first<Q: Question>(&self, question: &Q, buf: &[u8]) -> Option<usize> {
-        let text = text_of(question, buf);
-        if takes(HTML, question, text) {
-            return Some(HTML);
+    fn after<'a, Q: Question>(&self, question: &Q, buf: &'a [u8]) -> &'a [u8] {
+        if is_wanted(ZST, question) {
+            after_skippable_frames(buf)
+        } else {
+            buf
         }
-        if takes(XML, question, text) {
-            return Some(XML);
+    }
+}
+
+impl Shared<{ HTML }, { XML }> for Markup {
+    #[tactic(auto, unfolding(crate::specs::Table::table))]
+    #[inline(always)]
+    fn after<'a, Q: Question>(&self, question: &Q, buf: &'a [u8]) -> &'a [u8] {
+        if is_wanted(HTML, question) {
+            after_white_space(buf)
+        } else {
+            buf
         }
-        self.0.first(question, buf)
     }
 }
 
@@ -177,30 +192,4 @@ fn is_folder_of<Q: Question>(i: usize, question: &Q, folder: &[u8], name: &[u8])
     ensures { IsTrue result ↔ RowHas (IsWanted (Q.wanted question.now)) i × OccursAt folder.now name.now 0 }
 {
     is_wanted(i, question) && stands_at(folder, name, 0)
-}
-
-/// What follows the skippable frames of `buf`, or `buf` if Zstandard is not asked for.
-#[inline(always)]
-fn data_of<'a, Q: Question>(question: &Q, buf: &'a [u8]) -> &'a [u8]
-    ensures zst { IsZst result.now ↔ IsZst buf.now }
-    ensures lz4 { IsLz4 result.now ↔ IsLz4 buf.now }
-{
-    if is_wanted(ZST, question) {
-        after_skippable_frames(buf)
-    } else {
-        buf
-    }
-}
-
-/// What follows the white space of `buf`, or `buf` if HTML is not asked for.
-#[inline(always)]
-fn text_of<'a, Q: Question>(question: &Q, buf: &'a [u8]) -> &'a [u8]
-    ensures html { IsHtml result.now ↔ IsHtml buf.now }
-    ensures xml { IsXml result.now ↔ IsXml buf.now }
-{
-    if is_wanted(HTML, question) {
-        after_white_space(buf)
-    } else {
-        buf
-    }
 }

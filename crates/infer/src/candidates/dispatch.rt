@@ -7,7 +7,7 @@ ghost use Rattle.infer.specs.Walks.{IsFirstAmong, RowHas, Takes};
 
 use crate::ask::question::Question;
 use crate::candidates::chain::{
-    Chain, End, Then, ThenFrames, ThenMarkup, ThenOffice, ThenThree, Whole,
+    Chain, End, Frames, Markup, Then, ThenOffice, ThenThree, ThenTwo, Whole,
 };
 use crate::table::rows::*;
 
@@ -186,10 +186,10 @@ macro_rules! chain {
         ThenOffice(chain!($($rest)*))
     };
     ([ZST LZ4] $($rest:tt)*) => {
-        ThenFrames(chain!($($rest)*))
+        ThenTwo::<ZST, LZ4, Frames, _>(Frames, chain!($($rest)*))
     };
     ([HTML XML] $($rest:tt)*) => {
-        ThenMarkup(chain!($($rest)*))
+        ThenTwo::<HTML, XML, Markup, _>(Markup, chain!($($rest)*))
     };
     ($i:ident $j:ident $k:ident $($rest:tt)*) => {
         ThenThree::<$i, $j, $k, _>(chain!($($rest)*))
