@@ -70,24 +70,6 @@ module _ {A B : Type 0} (f : A → B) (P : B → Type 0) (xs : List A) where
   pub HoldsAt-images : (i : ℕ) → i < length xs → HoldsAt (λ x. P (f x)) xs i → HoldsAt P (map f xs) i
   HoldsAt-images = HoldsAt-map f P xs
 
--- what a loop over xs found tells of their images ys
-module _ {A B : Type 0} (f : A → B) (P : B → Type 0) (xs : List A) (ys : List B) (e : map f xs ≡ ys) where
-  pub holds_read : (i : ℕ) (c : A) → i < length xs → P (f (get_or xs i c)) → HoldsAt P ys i
-  holds_read i c lt h = subst (λ l. HoldsAt P l i) e (HoldsAt-map f P xs i lt (HoldsAt-read (λ x. P (f x)) xs i c lt h))
-
-  pub some_read : (i : ℕ) (c : A) → i < length xs → P (f (get_or xs i c)) → SomeHas P ys
-  some_read i c lt h = subst (SomeHas P) e (SomeHas-map f P xs (i, lt, HoldsAt-read (λ x. P (f x)) xs i c lt h))
-
-  pub none_read : (n : ℕ) → length xs ≤ n → AllWithin (λ x. ¬ P (f x)) xs 0 n → NoneHas P ys
-  none_read n le h = subst (NoneHas P) e (NoneHas-map f P xs (λ k d a b. h k d a (omega arith)))
-
-  pub first_read : (i : ℕ) (c : A) → i < length xs → P (f (get_or xs i c)) → AllWithin (λ x. ¬ P (f x)) xs 0 i → IsFirst P ys i
-  first_read i c lt h before = subst (λ l. IsFirst P l i) e (IsFirst-map f P xs i (record {
-    within = lt;
-    here = HoldsAt-read (λ x. P (f x)) xs i c lt h;
-    before = before;
-  }))
-
 -- what `any` answered of xs, for their images ys
 pub some_of_any : {A B : Type 0} (f : A → B) (P : B → Type 0) (xs : List A) (ys : List B) → map f xs ≡ ys → (r : Bool)
     → MatchBool r (SomeHas (λ x. P (f x)) xs) (NoneHas (λ x. P (f x)) xs) → IsTrue r ↔ SomeHas P ys

@@ -1,17 +1,26 @@
 -- Answers of a list of rows.
-use Rattle.std.proofs.Common.{◌≡◌, ◌+◌, ◌<◌, ℕ, List, ◌++◌, map, length, get_or, Option, None, Some, sym, ◌∙◌}
-use Rattle.std.specs.List.{AllWithin}
+use Rattle.std.proofs.Common.{ap, subst, MatchOption, option_map, ◌≡◌, ◌+◌, ◌<◌, ℕ, List, ◌++◌, map, length, Option, None, Some, sym, ◌∙◌}
+use Rattle.std.specs.List.{AllWithin, HoldsAt}
+use denote.Ref.{Bor}
 use Rattle.infer.specs.First.{IsFirst, NoneHas, IsAnswer}
 use Rattle.infer.specs.Row.{Row}
 use Rattle.infer.specs.Triple.{Triple}
-use Rattle.infer.proofs.ListLemmas.{holds_read, first_read, HoldsAt-images, HoldsAt-sources, HoldsAt-left, HoldsAt-right, IsFirst-map, IsFirst-from_map, IsFirst-left, IsFirst-right, NoneHas-map, NoneHas-from_map, NoneHas-both}
+use Rattle.infer.proofs.ListLemmas.{HoldsAt-images, HoldsAt-sources, HoldsAt-left, HoldsAt-right, IsFirst-map, IsFirst-from_map, IsFirst-left, IsFirst-right, NoneHas-map, NoneHas-from_map, NoneHas-both}
 
--- what a loop over xs found is the answer of the rows that it shows
-pub answer_read : {A S : Type 0} (f : A → Row S) (P : Row S → Type 0) (xs : List A) (rows : List (Row S)) → map f xs ≡ rows
-    → (i : ℕ) (c : A) (t : Triple) → i < length xs → P (f (get_or xs i c)) → AllWithin (λ x. ¬ P (f x)) xs 0 i
-    → (f (get_or xs i c)).shows ≡ t → IsAnswer P rows (Some t)
-answer_read f P xs rows e i c t lt h before told =
-    (i, first_read f P xs rows e i c lt h before, holds_read f (λ r. r.shows ≡ t) xs rows e i c lt told)
+-- what `find` found of xs is the answer of the rows that it shows
+pub answer_of_find : {A S : Type 0} (f : A → Row S) (P : Row S → Type 0) (xs : List A) (rows : List (Row S)) → map f xs ≡ rows → (found : Option (Bor A))
+    → MatchOption found (AllWithin (λ x. ¬ P (f x)) xs 0 (length xs))
+    (λ x. P (f x.now) × (i : ℕ) × (i < length xs) × HoldsAt (λ y. y ≡ x.now) xs i × AllWithin (λ y. ¬ P (f y)) xs 0 i)
+    → (o : Option Triple) → o ≡ option_map (λ x. (f x.now).shows) found → IsAnswer P rows o
+answer_of_find f P xs rows e None none o same = rw (← e, same) (NoneHas-map f P xs none)
+answer_of_find f P xs rows e (Some x) (holds, i, lt, at, before) o same =
+    let first : IsFirst (λ y. P (f y)) xs i = record {
+      within = lt;
+      here = λ d. subst (λ y. P (f y)) (sym (at d)) holds;
+      before = before;
+    } in
+    let shown : HoldsAt (λ y. (f y).shows ≡ (f x.now).shows) xs i = λ d. ap (λ y. (f y).shows) (at d) in
+    rw (← e, same) (i, IsFirst-map f P xs i first, HoldsAt-images f (λ r. r.shows ≡ (f x.now).shows) xs i lt shown)
 
 -- rows that show the same and accept the same have the same answer
 pub IsAnswer-map : {S T : Type 0} (f : Row S → Row T) (P : Row T → Type 0) → ((r : Row S) → (f r).shows ≡ r.shows)

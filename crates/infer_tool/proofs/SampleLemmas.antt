@@ -1,5 +1,5 @@
 -- A row that was read is the one at its number in the table, and what words ask for.
-use Rattle.std.proofs.Common.{◌≡◌, ◌↔◌, ◌-◌, ◌<◌, ◌≤◌, ◌⊎◌, inl, inr, ℕ, zero, suc, Bool, true, false, List, [], ◌∷◌, Option, Some, take, length, map, get_or, sym, ap, ◌∙◌, refl, subst, arith, IsTrue}
+use Rattle.std.proofs.Common.{MatchOption, None, ◌≡◌, ◌↔◌, ◌-◌, ◌<◌, ◌≤◌, ◌⊎◌, inl, inr, ℕ, zero, suc, Bool, true, false, List, [], ◌∷◌, Option, Some, take, length, map, get_or, sym, ap, ◌∙◌, refl, subst, arith, IsTrue}
 use Rattle.std.specs.Bool.{OnTrue, OnFalse}
 use Rattle.std.specs.List.{HoldsAt, slice_get}
 use Rattle.std.specs.Option.{option_map}
@@ -10,7 +10,7 @@ use Rattle.std.specs.Io.KnownBytes.{Appends}
 use Rattle.infer.specs.BuiltIn.{BuiltIn}
 use Rattle.infer.specs.Row.{Row, shows}
 use Rattle.infer.specs.BuiltIn.{html}
-use Rattle.infer.specs.First.{IsFirst}
+use Rattle.infer.specs.First.{IsFirst, IsFirstOf}
 use Rattle.infer.specs.Questions.{HasExtension}
 use Rattle.infer.specs.Samples.{HoldsSample, sample_of, zeros}
 use Rattle.infer.specs.Table.{row, table}
@@ -85,3 +85,15 @@ module _ (extension : List ℕ) where
         (λ d. let h = holds d in
         subst (Appends old new) (ap (take n) h.1 ∙ take_at (sample_of (get_or table j d).signature) (zeros (640 - n)) n (sym h.0)) app),
   )
+
+-- what `find` found of the numbers of the rows
+pub first_found : (P : Row BuiltIn → Type 0) (n : ℕ) → length table ≡ n → (found : Option ℕ)
+    → MatchOption found ((k : ℕ) → 0 ≤ k → k < n → HoldsAt (λ r. ¬ P r) table k)
+    (λ i. (0 ≤ i) × (i < n) × HoldsAt P table i × ((k : ℕ) → 0 ≤ k → k < i → HoldsAt (λ r. ¬ P r) table k))
+    → IsFirstOf P table found
+first_found P n many None none = λ k d low lt. none k low (omega (arith, lt, many)) d
+first_found P n many (Some i) (low, lt, here, before) = record {
+  within = omega (arith, lt, many);
+  here = here;
+  before = λ k d a b. before k a b d;
+}

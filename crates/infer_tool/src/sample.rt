@@ -58,12 +58,12 @@ fn first_with(extension: &str) -> Option<usize>
     ensures { IsFirstOf (HasExtension extension.now) table result }
 {
     numbers();
-    for i in 0..ROW_COUNT {
-        if has_extension(i, extension) {
-            return Some(i);
-        }
-    }
-    None
+    let has_it = |i: &usize| -> bool
+        requires { i.now < ROW_COUNT }
+        ensures yes { OnTrue result (HoldsAt (HasExtension extension.entry.now) table i.now) }
+        ensures no { OnFalse result (HoldsAt (λ r. ¬ HasExtension extension.entry.now r) table i.now) }
+    { has_extension(*i, extension) };
+    (0..ROW_COUNT).find(has_it)
 }
 
 fn has_extension(i: usize, extension: &str) -> bool

@@ -192,12 +192,10 @@ impl<A: Allocator> Infer<A> {
     fn custom_some(&self, wanted: Wanted, buf: &[u8]) -> bool
         ensures { IsTrue result ↔ SomeBoth (IsWanted wanted.entry) (AnyAccepts buf.now) (custom_rows self.now) }
     {
-        for row in self.custom() {
-            if row.fits(wanted) && row.accepts(buf) {
-                return true;
-            }
-        }
-        false
+        let takes = |row: &CustomRow| -> bool
+            ensures { IsTrue result ↔ (IsWanted wanted.entry (custom_row row.now) × AnyAccepts buf.entry.now (custom_row row.now)) }
+        { row.fits(wanted) && row.accepts(buf) };
+        self.custom().iter().any(takes)
     }
 
     /// Whether some row is wanted.
@@ -211,24 +209,21 @@ impl<A: Allocator> Infer<A> {
     fn custom_has(&self, wanted: Wanted) -> bool
         ensures { IsTrue result ↔ SomeHas (IsWanted wanted.entry) (custom_rows self.now) }
     {
-        for row in self.custom() {
-            if row.fits(wanted) {
-                return true;
-            }
-        }
-        false
+        let fits = |row: &CustomRow| -> bool
+            ensures { IsTrue result ↔ IsWanted wanted.entry (custom_row row.now) }
+        { row.fits(wanted) };
+        self.custom().iter().any(fits)
     }
 
     /// The answer of the added rows alone.
     fn custom_get(&self, buf: &[u8]) -> Option<FileType>
         ensures { IsAnswer (AnyAccepts buf.now) (custom_rows self.now) (option_map triple_of result) }
     {
-        for row in self.custom() {
-            if row.accepts(buf) {
-                return Some(row.file_type());
-            }
-        }
-        None
+        let accepts = |row: &&CustomRow| -> bool
+            ensures { IsTrue result ↔ AnyAccepts buf.entry.now (custom_row row.now.now) }
+        { row.accepts(buf) };
+        let row = self.custom().iter().find(accepts)?;
+        Some(row.file_type())
     }
 
     /// The added rows.

@@ -1,12 +1,13 @@
-use Rattle.std.proofs.Common.{arith}
+use Rattle.std.proofs.Common.{rules, tests}
+use Rattle.std.specs.List.{HoldsAt}
+use Rattle.std.proofs.lemmas.Iterator.{first_from_Range}
+use Rattle.infer.specs.Questions.{HasExtension}
+use Rattle.infer.specs.Table.{table}
+use Rattle.infer_tool.proofs.SampleLemmas.{first_found}
 use Rattle.infer_tool.proofs.sample.first_with.Goals as goal
 
-pub returns-then-has_extension : goal.returns-then-has_extension
-returns-then-has_extension c = record {
-  within = let n = c.numbers.ensures.many in omega arith;
-  here = c.if-has_extension.ensures.yes;
-  before = c.loop-i.invariant;
-}
-
 pub returns : goal.returns
-returns c = λ k d a b. c.loop-i.invariant k d a (let n = c.numbers.ensures.many in omega arith)
+returns c =
+    first_found (HasExtension c.args.extension.now) _ c.numbers.ensures.many c.find.result
+    (first_from_Range _ _ _ c.find.result (HoldsAt (HasExtension c.args.extension.now) table) (HoldsAt (λ r. ¬ HasExtension c.args.extension.now r) table)
+    c.find.ensures.ran (λ i q called. search (rules, tests)) (λ i q called. search (rules, tests)))

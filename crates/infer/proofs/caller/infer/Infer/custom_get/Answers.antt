@@ -1,17 +1,20 @@
-use Rattle.std.proofs.Common.{sym, ◌∙◌, ap, subst}
-use Rattle.infer.specs.Row.{shows}
+use Rattle.std.proofs.Common.{rules, tests, sym, ap, ◌∙◌, Some, option_map}
+use Rattle.std.proofs.lemmas.Iterator.{YieldsList-from_slice, first_from_find}
 use Rattle.infer.specs.Rows.{AnyAccepts, custom_row, custom_rows}
-use Rattle.infer.proofs.ListLemmas.{none_read}
-use Rattle.infer.proofs.RowLemmas.{answer_read}
+use Rattle.infer.specs.Triple.{triple_of}
+use Rattle.infer.proofs.RowLemmas.{answer_of_find}
 use Rattle.infer.proofs.caller.infer.Infer.custom_get.Goals as goal
 
-pub returns-then-accepts : goal.returns-then-accepts
-returns-then-accepts g c =
-    answer_read custom_row (AnyAccepts c.args.buf.now) _ (custom_rows c.args.self.now) c.custom-row-items.ensures
-    c.loop-row.row-index c.row-item.result _ c.loop-row-test.true
-    (subst (λ r. AnyAccepts c.args.buf.now (custom_row r)) c.row-item.is c.if-accepts.ensures.yes) c.loop-row.invariant
-    (sym (c.file_type.ensures ∙ ap (λ r. shows (custom_row r)) c.row-item.is))
+pub returns-in_err-row : goal.returns-in_err-row
+returns-in_err-row g c =
+    answer_of_find custom_row (AnyAccepts c.args.buf.now) c.custom.result.now (custom_rows c.args.self.now) c.custom.ensures c.find.result
+    (first_from_find _ _ c.find.result (λ r. AnyAccepts c.args.buf.now (custom_row r)) (λ r. ¬ AnyAccepts c.args.buf.now (custom_row r)) c.find.ensures.ran
+    (YieldsList-from_slice c.custom.result.now c.iter.ensures.rest) (λ x q k. search (rules, tests)) (λ x q k. search (rules, tests)))
+    _ (ap (option_map triple_of) c.from_residual.ensures ∙ sym (ap (option_map (λ x. (custom_row x.now).shows)) c.in_err-row.was))
 
 pub returns : goal.returns
-returns g c = none_read custom_row (AnyAccepts c.args.buf.now) _ (custom_rows c.args.self.now) c.custom-row-items.ensures
-    c.loop-row.row-index c.loop-row-test.false c.loop-row.invariant
+returns g c =
+    answer_of_find custom_row (AnyAccepts c.args.buf.now) c.custom.result.now (custom_rows c.args.self.now) c.custom.ensures c.find.result
+    (first_from_find _ _ c.find.result (λ r. AnyAccepts c.args.buf.now (custom_row r)) (λ r. ¬ AnyAccepts c.args.buf.now (custom_row r)) c.find.ensures.ran
+    (YieldsList-from_slice c.custom.result.now c.iter.ensures.rest) (λ x q k. search (rules, tests)) (λ x q k. search (rules, tests)))
+    _ (ap Some c.file_type.ensures ∙ sym (ap (option_map (λ x. (custom_row x.now).shows)) c.in_ok-row.was))
