@@ -1,8 +1,6 @@
--- Some element of a list mapped is some element of the list, and what `any` answers of numbers.
-use Rattle.std.proofs.Common.{◌≡◌, ◌↔◌, ◌≤◌, Bool, true, false, IsTrue, MatchBool, ℕ, zero, suc, ◌<◌, List, [], ◌∷◌, length, get_or, map, refl, sym, ap, subst, ◌∙◌, arith}
+-- Some element of a list mapped is some element of the list.
+use Rattle.std.proofs.Common.{◌≡◌, ℕ, zero, suc, ◌<◌, List, [], ◌∷◌, length, get_or, map, refl, sym, ap, subst, ◌∙◌, arith}
 use Rattle.std.proofs.lemmas.List.{get_or-map, length-map}
-use Rattle.std.specs.List.{AllWithin, HoldsAt, range_with_len}
-use Rattle.std.proofs.lemmas.List.FromFn.{get_or-range_with_len, length-range_with_len}
 use Rattle.std.specs.Prelude.{Any}
 
 element : {X : Type 0} (xs : List X) (k : ℕ) → k < length xs → (x : X) × (get_or xs k x ≡ x)
@@ -20,19 +18,3 @@ module _ {X : Type 0} (f : X → List ℕ) (P : List ℕ → Type 0) (xs : List 
       let at = element xs k in_xs in
       let same : y ≡ f at.0 = sym e ∙ get_or-map f xs k at.0 y in_xs ∙ ap f at.1 in
       (k, at.0, in_xs, at.1, subst P same p)
-
-nth_below : (n k : ℕ) → k < n → get_or (range_with_len 0 n) k 0 ≡ k
-nth_below n k lt = get_or-range_with_len 0 n k 0 lt ∙ (omega arith)
-
--- what `any` answered of the numbers below n
-pub any_below : (P : ℕ → Type 0) (n : ℕ) (r : Bool)
-    → MatchBool r ((k : ℕ) × (k < length (range_with_len 0 n)) × HoldsAt P (range_with_len 0 n) k)
-    (AllWithin (λ k. ¬ P k) (range_with_len 0 n) 0 (length (range_with_len 0 n)))
-    → IsTrue r ↔ ((k : ℕ) × (k < n) × P k)
-any_below P n true (k, lt, at) =
-    let below : k < n = omega (arith, lt, length-range_with_len 0 n) in
-    (λ _. (k, below, subst P (nth_below n k below) (at 0)), λ _. refl)
-any_below P n false none = (
-  λ e. absurd (cc),
-  λ (k, lt, h). absurd (none k 0 (omega arith) (omega (arith, lt, length-range_with_len 0 n)) (subst P (sym (nth_below n k lt)) h)),
-)
