@@ -68,11 +68,6 @@ module _ (P : ℕ → Type 0) where
   found_among (c ∷ cs) (suc k) d l h none =
       inr (none 0 0 (omega arith) (omega arith), found_among cs k d (omega arith) h (λ j e a b. none (suc j) e (omega arith) (omega arith)))
 
-  pub nothing_among : (cs : List ℕ) (o : Option ℕ) → cs ≡ [] → o ≡ None → IsFirstAmong P cs o
-  unfolding IsFirstAmong
-  nothing_among [] o none e = e
-  nothing_among (c ∷ cs) o none e = absurd (let n = ap length none in omega arith)
-
   pub refused_more : (rs : List ℕ) (k i d : ℕ) → k < length rs → i ≡ get_or rs k d → (¬ P i) → AllWithin (λ j. ¬ P j) rs 0 k → AllWithin (λ j. ¬ P j) rs 0 (k + 1)
   refused_more rs k i d l e h none =
       AllWithin-more (λ j. ¬ P j) rs 0 k none (HoldsAt-read (λ j. ¬ P j) rs k d l (subst (λ j. ¬ P j) e h))

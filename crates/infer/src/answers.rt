@@ -1,7 +1,6 @@
 //! What the built-in rows answer.
 ghost use Rattle.std.specs.Prelude.{◌≡◌, ◌↔◌, IsTrue, option_map, slice_get};
 ghost use Rattle.infer.specs.First.{IsAnswer, IsFirstOf, SomeHas};
-ghost use Rattle.infer.specs.Listed.{row_listed};
 ghost use Rattle.infer.specs.Questions.{HasClass, IsWanted, SomeBoth, class_at};
 ghost use Rattle.infer.specs.Row.{Accepts, shows};
 ghost use Rattle.infer.specs.Table.{table};

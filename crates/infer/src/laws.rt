@@ -1,13 +1,13 @@
 //! Facts about the definitions, each the contract of a function that does nothing beside, but for calls of other
 //! laws. To use a law, call it.
-ghost use Rattle.std.specs.Prelude.{◌≡◌, ◌≢◌, ◌↔◌, ◌<◌, ◌+◌, ℕ, List, [], All, IsTrue, length, map};
+ghost use Rattle.std.specs.Prelude.{◌≡◌, ◌≢◌, ◌↔◌, ◌<◌, ℕ, List, All, IsTrue, length, map};
 ghost use Rattle.std.specs.List.{AllPairs, HoldsAt, filter, range_with_len};
 ghost use Rattle.infer_deep.specs.Laws.{Apart, Beginnings};
 ghost use Rattle.infer_sig.specs.App.{java, mach};
 ghost use Rattle.infer_sig.specs.Signature.{accepts};
 ghost use Rattle.infer.specs.Arrivals.{NewcomersAreAwaited};
 ghost use Rattle.infer.specs.BuiltIn.{BuiltIn};
-ghost use Rattle.infer.specs.First.{IsFirst, NoneHas};
+ghost use Rattle.infer.specs.First.{IsFirst};
 ghost use Rattle.infer.specs.Laws.{AnswersAreNamed, Breaks, FrontDecides, IsSteady, AnyLasts, OnlyTheTwelveFollow};
 ghost use Rattle.infer.specs.Matchers.{Lasts, OthersAreNear, is_of_the_twelve, signatures};
 ghost use Rattle.infer.specs.Row.{Accepts, shows};

@@ -10,13 +10,13 @@
 //! [`get_from_path`] and [`Infer::get_from_reader`] look at the first 8192 bytes of a file or of a reader. A
 //! [`Fault`] says why they have no answer.
 //!
-//! Each module uses only those before it: `table`, the rows and their types; `ask`, a question and one row; `candidates`, the
-//! rows that a first byte allows, asked in order; `answers`, what the built-in rows answer; `caller`, an [`Infer`] and
-//! its rows; `read`, the front of a file or reader; `laws`, facts about all of these; `samples`.
+//! Each module uses only those before it: `table`, the rows and their types; `ask`, a question and one row;
+//! `candidates`, the rows that a first byte allows, asked in order; `answers`, what the built-in rows answer;
+//! `caller`, an [`Infer`] and its rows; `read`, the front of a file or of a reader; `laws`, facts about all of these;
+//! `samples`.
 #![tactic(auto)]
 
-ghost use Rattle.std.specs.Prelude.{◌≡◌, ◌↔◌, ◌<◌, ◌≤◌, ℕ, List, IfOk, IfSome, IsNone, IsTrue, length, option_map, slice_get};
-ghost use Rattle.infer.specs.Buffer.{IsBuffer};
+ghost use Rattle.std.specs.Prelude.{◌≡◌, ◌↔◌, ◌<◌, ◌≤◌, IfSome, IsNone, IsTrue, option_map, slice_get};
 ghost use Rattle.infer.specs.First.{IsAnswer, IsFirstOf, SomeHas};
 ghost use Rattle.infer.specs.Questions.{HasClass, HasExtension, HasMimeType, SomeBoth};
 ghost use Rattle.infer.specs.Reading.{AnswersSome};

@@ -2,7 +2,7 @@
 //! them. A text from C is bytes: one that is not UTF-8 is no row's text.
 #![tactic(auto)]
 
-ghost use Rattle.std.specs.Prelude.{◌≡◌, ◌↔◌, ◌≤◌, ℕ, List, Option, None, [], IsTrue, codes, length, negsuc, option_map};
+ghost use Rattle.std.specs.Prelude.{◌≡◌, ◌↔◌, ◌≤◌, ℕ, List, Option, None, [], IsTrue, codes, length, negsuc};
 ghost use Rattle.std.specs.Option.{option_map_or};
 ghost use Rattle.infer.specs.App.{coff_i386, coff_ia64, coff_x64};
 ghost use Rattle.infer.specs.Signature.{accepts};

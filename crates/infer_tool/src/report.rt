@@ -50,7 +50,7 @@ pub fn report<W: Write, E: Write>(
     outcome
 }
 
-/// What is said of a fault.
+/// What is said of a fault. The `Display` of a fault says the same, but is derived, so no contract tells its text.
 fn text_of(fault: Fault) -> &'static str
     ensures { result.now ≡ fault_text fault }
 {

@@ -66,6 +66,7 @@ impl<const CLASS: usize> Question for OfClass<CLASS> {
     }
 }
 
+// The numbers of the classes: a const parameter is an integer.
 pub const APP: usize = MatcherType::App as usize;
 
 pub const ARCHIVE: usize = MatcherType::Archive as usize;
@@ -79,6 +80,8 @@ pub const DOC: usize = MatcherType::Doc as usize;
 pub const FONT: usize = MatcherType::Font as usize;
 
 pub const IMAGE: usize = MatcherType::Image as usize;
+
+const TEXT: usize = MatcherType::Text as usize;
 
 pub const VIDEO: usize = MatcherType::Video as usize;
 
@@ -95,7 +98,7 @@ fn class_at(number: usize) -> MatcherType
         DOC => MatcherType::Doc,
         FONT => MatcherType::Font,
         IMAGE => MatcherType::Image,
-        7 => MatcherType::Text,
+        TEXT => MatcherType::Text,
         VIDEO => MatcherType::Video,
         _ => MatcherType::Custom,
     }

@@ -1,6 +1,5 @@
 //! The first byte of a buffer decides which rows are asked.
-ghost use Rattle.std.specs.Prelude.{◌≡◌, ◌≤◌, length, map};
-ghost use Rattle.std.specs.List.{range_with_len};
+ghost use Rattle.std.specs.Prelude.{◌≡◌, ◌≤◌, length};
 ghost use Rattle.infer.specs.Arms.{rows_of};
 ghost use Rattle.infer.specs.Leads.{candidates};
 ghost use Rattle.infer.specs.Walks.{IsFirstAmong, RowHas, Takes};

@@ -1,5 +1,5 @@
 //! Answers, printed texts, and each public call once.
-ghost use Rattle.std.specs.Prelude.{◌≡◌, ◌↔◌, IfOk, IsTrue};
+ghost use Rattle.std.specs.Prelude.{◌≡◌, IfOk, IsTrue};
 ghost use Rattle.infer.specs.Triple.{triple_of};
 
 use crate::{Fault, MatcherType, Type, get, image, is, laws};
