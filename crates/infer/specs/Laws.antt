@@ -1,14 +1,17 @@
 -- Laws of the first row that accepts a buffer.
-use Rattle.std.specs.Prelude.{◌≡◌, ◌≢◌, ◌≤◌, ◌⊎◌, ℕ, Bool, false, not, List, ◌++◌, Option, None, Some, length, take, IsTrue}
+use Rattle.std.specs.Prelude.{◌≡◌, ◌≢◌, ◌≤◌, ◌⊎◌, ℕ, Bool, false, not, List, ◌++◌, Option, None, Some, Result, length, take, IsTrue}
 use Rattle.infer.specs.Buffer.{IsBuffer}
 use Rattle.infer.specs.Caller.{Contracts}
 use Rattle.infer.specs.First.{IsAnswer, IsFirst, IsFirstOf}
 use Rattle.infer.specs.Matchers.{is_of_the_twelve}
 use Rattle.infer.specs.Questions.{HasExtension, HasMimeType, SomeBoth}
+use Rattle.infer.specs.Reading.{AnswersFront, AnswersSome}
 use Rattle.infer.specs.Row.{Row, Accepts}
 use Rattle.infer.specs.Rows.{Signature, AnyAccepts, IsAcceptedBy}
 use Rattle.infer.specs.Table.{table}
 use Rattle.infer.specs.Triple.{Triple}
+use Rattle.infer.specs.declared.read.fault.Fault.{Fault}
+use Rattle.infer.specs.declared.table.file_type.FileType.{FileType}
 
 -- the first index is not greater than the second, where none is the greatest
 abbrev pub IsNotLater : Option ℕ → Option ℕ → Type 0
@@ -32,6 +35,13 @@ module _ {X : Type 0} {g : Contracts X} where
   AnswersAreNamed all =
       (buf : List ℕ) (t : Triple) → IsAnswer (AnyAccepts buf) all (Some t)
       → SomeBoth (HasExtension t.extension) (AnyAccepts buf) all × SomeBoth (HasMimeType t.mime_type) (AnyAccepts buf) all
+
+  -- what a call tells of an answer by these rows, it tells of the built-in rows
+  pub record AnswersAsBuiltIn (all : List (Row (Signature X g))) : Type 0 where
+    pub answer : (buf : List ℕ) (o : Option Triple) → IsAnswer (AnyAccepts buf) all o → IsAnswer (Accepts buf) table o
+    pub file : (n : ℕ) (result : Result (Option FileType) Fault) → AnswersSome n AnyAccepts all result → AnswersSome n Accepts table result
+    pub front : (n : ℕ) (left : Option (List ℕ)) (result : Result (Option FileType) Fault)
+        → AnswersFront n AnyAccepts all left result → AnswersFront n Accepts table left result
 
 -- the answer is one of the twelve rows
 abbrev pub answers_twelve : Option ℕ → Bool

@@ -1,14 +1,14 @@
 //! Facts about the definitions, each the contract of a function that does nothing beside, but for calls of other
 //! laws. To use a law, call it.
-ghost use Rattle.std.specs.Prelude.{◌≡◌, ◌≢◌, ◌↔◌, ◌<◌, ℕ, List, All, IsTrue, length, map};
+ghost use Rattle.std.specs.Prelude.{◌≡◌, ◌≢◌, ◌↔◌, ◌<◌, ℕ, List, Option, [], All, IsTrue, length, map};
 ghost use Rattle.std.specs.List.{AllPairs, HoldsAt, filter, range_with_len};
 ghost use Rattle.infer_deep.specs.Laws.{Apart, Beginnings};
 ghost use Rattle.infer_sig.specs.App.{java, mach};
 ghost use Rattle.infer_sig.specs.Signature.{accepts};
 ghost use Rattle.infer.specs.Arrivals.{NewcomersAreAwaited};
 ghost use Rattle.infer.specs.BuiltIn.{BuiltIn};
-ghost use Rattle.infer.specs.First.{IsFirst};
-ghost use Rattle.infer.specs.Laws.{AnswersAreNamed, Breaks, FrontDecides, IsSteady, AnyLasts, OnlyTheTwelveFollow};
+ghost use Rattle.infer.specs.First.{IsFirst, IsFirstOf};
+ghost use Rattle.infer.specs.Laws.{AnswersAreNamed, AnswersAsBuiltIn, Breaks, FrontDecides, IsSteady, AnyLasts, OnlyTheTwelveFollow};
 ghost use Rattle.infer.specs.Matchers.{Lasts, OthersAreNear, is_of_the_twelve, signatures};
 ghost use Rattle.infer.specs.Row.{Accepts, shows};
 ghost use Rattle.infer.specs.Rows.{custom_rows, rows};
@@ -82,6 +82,19 @@ pub fn arrival()
     infer_deep::laws::near();
     infer_deep::laws::apart();
     infer_deep::laws::arrival();
+}
+
+/// A buffer has one answer: two numbers that are its first row are the same.
+pub fn single()
+    ensures { (buf : List ℕ) (o p : Option ℕ) → IsFirstOf (Accepts buf) table o → IsFirstOf (Accepts buf) table p → o ≡ p }
+{}
+
+/// An `Infer` without rows of a caller answers as the built-in rows do.
+pub fn built_in<A: Allocator>(infer: &Infer<A>)
+    requires { custom_rows infer.now ≡ [] }
+    ensures { AnswersAsBuiltIn (rows infer.now) }
+{
+    let _ = infer;
 }
 
 /// Where `get` answers a type, `is` is true of its extension, and `is_mime` of its MIME type.

@@ -32,8 +32,6 @@ pub mod laws;
 mod read;
 mod samples;
 mod table;
-#[cfg(test)]
-mod tests;
 
 use ask::question::Wanted;
 pub use caller::infer::Infer;

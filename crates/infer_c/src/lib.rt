@@ -58,7 +58,7 @@ pub extern "C" fn infer_position_counted(buf: &[u8], asked: &mut u32) -> i32
         × (asked.new ≡ count_asked Every buf.now first) }
     ensures few { asked.new ≤ MOST_CANDIDATES }
 {
-    let (found, count) = row::count(buf);
+    let (found, count) = infer::position_counted(buf);
     *asked = count;
     match found {
         Some(i) => i as i32,

@@ -37,16 +37,6 @@ pub fn accepts(i: usize, buf: &[u8]) -> bool
     asker.ask(i)
 }
 
-/// The number of the first row that accepts `buf`, and how many were asked.
-pub fn count(buf: &[u8]) -> (Option<usize>, u32)
-    ensures first { IsFirstOf (Accepts buf.now) table result.0 }
-    ensures bound { IfSome result.0 (λ i. i < ROW_COUNT) }
-    ensures counted { result.1 ≡ count_asked Every buf.now result.0 }
-    ensures few { result.1 ≤ MOST_CANDIDATES }
-{
-    infer::position_counted(buf)
-}
-
 /// The length of the sample of row `i`, which is written to `out` where it fits, and 0 where it has none.
 pub fn write_sample(i: usize, out: &mut [u8]) -> usize
     ensures { (sample : Option (List ℕ)) × IsSample i sample

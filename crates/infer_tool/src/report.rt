@@ -6,7 +6,7 @@ ghost use Rattle.infer_tool.specs.Writer.{has_failed, inner};
 
 use crate::outcome::Outcome;
 use crate::writer::WatchedWriter;
-use infer::{FRONT, Fault, Infer, Type, Watched};
+use infer::{FRONT, Fault, Infer, Type, Watched, laws};
 use infer_sniff::label;
 use std::alloc::Allocator;
 use std::io::{Read, Write};
@@ -101,7 +101,9 @@ pub fn run_reader_within<A: Allocator, R: Read + Drop, W: Write, E: Write>(
     ensures silent { result ≢ Outcome.Failed → err.new ≡ err.old }
 {
     let mut watched = Watched::new(reader);
-    let answer = Infer::new().get_from_reader_within(alloc, &mut watched, n);
+    let infer = Infer::new();
+    laws::built_in(&infer);
+    let answer = infer.get_from_reader_within(alloc, &mut watched, n);
     report(name, answer, out, err)
 }
 
@@ -141,6 +143,8 @@ pub fn run_path_within<R: Files, A: Allocator, W: Write, E: Write>(
     ensures err_remembers { IsTrue (has_failed err.old) → IsTrue (has_failed err.new) }
     ensures silent { result ≢ Outcome.Failed → err.new ≡ err.old }
 {
-    let answer = Infer::new().get_from_path_within(rt, alloc, path, n);
+    let infer = Infer::new();
+    laws::built_in(&infer);
+    let answer = infer.get_from_path_within(rt, alloc, path, n);
     report(path, answer, out, err)
 }

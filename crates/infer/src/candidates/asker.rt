@@ -1,5 +1,5 @@
 //! Rows are asked through an asker, which counts them.
-ghost use Rattle.std.specs.Prelude.{◌≡◌, ◌↔◌, ◌+◌, ◌<◌, ◌≤◌, ℕ, List, Option, cond, is_some, IsTrue, length, slice_get};
+ghost use Rattle.std.specs.Prelude.{◌≡◌, ◌↔◌, ◌+◌, ◌<◌, ◌≤◌, ℕ, List, Option, IfSome, cond, is_some, IsTrue, length, slice_get};
 ghost use Rattle.infer.specs.First.{IsFirstOf};
 ghost use Rattle.infer.specs.Leads.{candidates_of};
 ghost use Rattle.infer.specs.Questions.{HasExtension, SomeBoth};
@@ -150,6 +150,7 @@ pub(crate) fn count_wanted(buf: &[u8], wanted: Wanted) -> (Option<usize>, u32)
 /// rows a [`walk`] asks for it: its candidates up to that row, all of them where no row accepts it.
 pub fn position_counted(buf: &[u8]) -> (Option<usize>, u32)
     ensures first { IsFirstOf (Accepts buf.now) table result.0 }
+    ensures bound { IfSome result.0 (λ i. i < ROW_COUNT) }
     ensures counted { result.1 ≡ count_asked Every buf.now result.0 }
     ensures few { result.1 ≤ MOST_CANDIDATES }
 {

@@ -3,7 +3,7 @@ use Rattle.infer.specs.First.{IsFirst, IsFirstOf}
 use Rattle.infer.specs.Row.{Accepts}
 use Rattle.infer.specs.Table.{table}
 use Rattle.infer.specs.declared.table.rows.TheConstants.{DLL, EPUB_ARCHIVE}
-use Rattle.infer.proofs.tests.laws.position_but_two.Goals as goal
+use Rattle.test_infer.proofs.laws.position_but_two.Goals as goal
 
 but_two : (buf : List ℕ) (o : Option ℕ) → ((i : ℕ) → IsFirst (Accepts buf) table i → (i ≢ DLL) × (i ≢ EPUB_ARCHIVE)) → IsFirstOf (Accepts buf) table o
     → IfSome o (λ i. (i ≢ DLL) × (i ≢ EPUB_ARCHIVE))

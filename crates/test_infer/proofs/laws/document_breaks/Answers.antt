@@ -1,10 +1,8 @@
 use Rattle.std.proofs.Common.{Some, take, refl}
-use Rattle.infer.specs.Row.{Accepts}
 use Rattle.infer.specs.Matchers.{is_of_the_twelve}
 use Rattle.infer.specs.Table.{signature_of, table}
 use Rattle.infer.specs.declared.table.rows.TheConstants.{DOC}
-use Rattle.infer.proofs.FirstLemmas.{IsFirstOf-same}
-use Rattle.infer.proofs.tests.laws.document_breaks.Goals as goal
+use Rattle.test_infer.proofs.laws.document_breaks.Goals as goal
 
 pub returns : goal.returns
 unfolding is_of_the_twelve signature_of table
@@ -13,5 +11,5 @@ returns c =
       found.0,
       found.1.first,
       λ first.
-          found.1.other (IsFirstOf-same (Accepts (take 1024 found.0)) table found.1.front (Some DOC) found.1.front_first first),
+          found.1.other (c.single.ensures (take 1024 found.0) found.1.front (Some DOC) found.1.front_first first),
     )

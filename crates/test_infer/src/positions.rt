@@ -1,5 +1,5 @@
 //! The numbers of first rows, on worked buffers.
-use crate::{
+use infer::{
     MatcherType, app, archive, get, is, is_archive, is_audio, is_book, is_image, is_mime,
     is_mime_supported, is_supported, position, row, rows,
 };

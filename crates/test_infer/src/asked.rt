@@ -1,7 +1,7 @@
 //! Which built-in rows are asked about a buffer, and how many.
 ghost use Rattle.std.specs.Prelude.{◌≡◌};
 
-use crate::{
+use infer::{
     Ask, Asker, is, is_archive, is_counted, is_document, position, position_counted, rows, sample,
     walk,
 };

@@ -2,7 +2,7 @@
 ghost use Rattle.std.specs.Prelude.{◌≡◌, ◌↔◌, [], ◌∷◌, IsTrue, length, nat_eq};
 ghost use Rattle.std.specs.List.{starts_with};
 
-use crate::{Infer, MatcherType};
+use infer::{Infer, MatcherType};
 use linked_list_allocator::LocalHeap;
 use std::alloc::Allocator;
 use std::test::Fail;
@@ -59,16 +59,16 @@ fn mime_of<A: Allocator>(infer: &Infer<A>, buf: &[u8]) -> &'static str {
 fn built_in_rows_alone(rt: HostRuntime) {
     let infer = Infer::default();
     let jpeg = [0xFF, 0xD8, 0xFF, 0xAA];
-    assert_eq!(rt; infer.get(&jpeg), crate::get(&jpeg));
+    assert_eq!(rt; infer.get(&jpeg), infer::get(&jpeg));
     assert_eq!(rt; mime_of(&infer, &jpeg), "image/jpeg");
     assert_eq!(rt; mime_of(&infer, b""), "");
-    assert!(rt; infer.is(&jpeg, "jpg") && crate::is(&jpeg, "jpg"));
-    assert!(rt; infer.is_mime(&jpeg, "image/jpeg") && crate::is_mime(&jpeg, "image/jpeg"));
-    assert!(rt; !infer.is_mime(&jpeg, "image/JPEG") && !crate::is_mime(&jpeg, "image/JPEG"));
-    assert!(rt; infer.is_supported("jpg") && crate::is_supported("jpg"));
-    assert!(rt; infer.is_mime_supported("image/jpeg") && crate::is_mime_supported("image/jpeg"));
-    assert!(rt; !infer.is_mime_supported("image") && !crate::is_mime_supported("image"));
-    assert!(rt; infer.is_image(&jpeg) && crate::is_image(&jpeg));
+    assert!(rt; infer.is(&jpeg, "jpg") && infer::is(&jpeg, "jpg"));
+    assert!(rt; infer.is_mime(&jpeg, "image/jpeg") && infer::is_mime(&jpeg, "image/jpeg"));
+    assert!(rt; !infer.is_mime(&jpeg, "image/JPEG") && !infer::is_mime(&jpeg, "image/JPEG"));
+    assert!(rt; infer.is_supported("jpg") && infer::is_supported("jpg"));
+    assert!(rt; infer.is_mime_supported("image/jpeg") && infer::is_mime_supported("image/jpeg"));
+    assert!(rt; !infer.is_mime_supported("image") && !infer::is_mime_supported("image"));
+    assert!(rt; infer.is_image(&jpeg) && infer::is_image(&jpeg));
     assert!(rt; !infer.is_custom(&jpeg));
 }
 
@@ -76,13 +76,13 @@ fn built_in_rows_alone(rt: HostRuntime) {
 fn no_class_of_another_row(rt: HostRuntime) {
     let infer = Infer::new();
     for buf in [JPEG.as_slice(), PNG.as_slice(), b"".as_slice()] {
-        assert!(rt; !infer.is_app(buf) && !crate::is_app(buf));
-        assert!(rt; !infer.is_archive(buf) && !crate::is_archive(buf));
-        assert!(rt; !infer.is_audio(buf) && !crate::is_audio(buf));
-        assert!(rt; !infer.is_book(buf) && !crate::is_book(buf));
-        assert!(rt; !infer.is_document(buf) && !crate::is_document(buf));
-        assert!(rt; !infer.is_font(buf) && !crate::is_font(buf));
-        assert!(rt; !infer.is_video(buf) && !crate::is_video(buf));
+        assert!(rt; !infer.is_app(buf) && !infer::is_app(buf));
+        assert!(rt; !infer.is_archive(buf) && !infer::is_archive(buf));
+        assert!(rt; !infer.is_audio(buf) && !infer::is_audio(buf));
+        assert!(rt; !infer.is_book(buf) && !infer::is_book(buf));
+        assert!(rt; !infer.is_document(buf) && !infer::is_document(buf));
+        assert!(rt; !infer.is_font(buf) && !infer::is_font(buf));
+        assert!(rt; !infer.is_video(buf) && !infer::is_video(buf));
     }
 }
 
@@ -93,7 +93,7 @@ fn added_rows_come_first(rt: HostRuntime) -> Result<(), Fail> {
     infer.add(rt.alloc(), "custom/foo", "foo", begins_jpeg)?;
     assert!(rt; infer.is_supported("foo"));
     assert!(rt; infer.is_mime_supported("custom/foo"));
-    assert!(rt; !crate::is_supported("foo"));
+    assert!(rt; !infer::is_supported("foo"));
     infer.add(rt.alloc(), "custom/bar", "bar", begins_png)?;
     assert_eq!(rt; mime_of(&infer, &JPEG), "custom/foo");
     assert_eq!(rt; mime_of(&infer, &PNG), "custom/bar");
@@ -110,7 +110,7 @@ fn an_added_row_is_not_the_built_in_one(rt: HostRuntime) -> Result<(), Fail> {
     assert_eq!(rt; found.matcher_type(), MatcherType::Custom);
     assert_eq!(rt; found.mime_type(), "image/jpeg");
     assert_eq!(rt; found.extension(), "jpg");
-    assert!(rt; found != crate::get(&JPEG).ok_or("known")?);
+    assert!(rt; found != infer::get(&JPEG).ok_or("known")?);
     assert!(rt; infer.is(&[0x00], "jpg"));
     assert!(rt; infer.is_mime(&[0x00], "image/jpeg"));
     assert!(rt; infer.is_custom(&[0x00]));

@@ -1,4 +1,4 @@
-use Rattle.std.proofs.Common.{◌++◌, List, ℕ, Option, None, Some, IsNone, subst, refl, arith}
+use Rattle.std.proofs.Common.{◌++◌, ◌<◌, List, [], ◌∷◌, ℕ, suc, zero, get_or, Option, None, Some, IsNone, subst, refl, arith}
 use Rattle.std.specs.Option.{option_map}
 use Rattle.infer.specs.Buffer.{IsBuffer}
 use Rattle.infer.specs.First.{IsAnswer, IsFirstOf}
@@ -7,8 +7,7 @@ use Rattle.infer.specs.Row.{Row}
 use Rattle.infer.specs.Rows.{AnyAccepts, rows}
 use Rattle.infer.specs.Triple.{triple_of}
 use Rattle.infer.specs.declared.table.file_type.FileType.{FileType}
-use Rattle.infer.proofs.CallerLemmas.{IsBuffer-bytes}
-use Rattle.infer.proofs.tests.laws.get_both.Goals as goal
+use Rattle.test_infer.proofs.laws.get_both.Goals as goal
 
 none_before : {S : Type 0} (P Q : Row S → Type 0) (all : List (Row S))
     → ((before after : Option ℕ) → IsFirstOf P all before → IsFirstOf Q all after → IsNotLater after before)
@@ -16,6 +15,11 @@ none_before : {S : Type 0} (P Q : Row S → Type 0) (all : List (Row S))
 none_before P Q all steady None p before after e = refl
 none_before P Q all steady (Some t) None before after e = absurd (steady (Some before.0) None before.1 after)
 none_before P Q all steady (Some t) (Some u) before after e = absurd (cc)
+
+IsBuffer-bytes : (b : List ℕ) → ((i : ℕ) → get_or b i 0 < 256) → IsBuffer b
+IsBuffer-bytes [] h k d lt = absurd (omega arith)
+IsBuffer-bytes (x ∷ b) h zero d lt = h 0
+IsBuffer-bytes (x ∷ b) h (suc k) d lt = IsBuffer-bytes b (λ i. h (suc i)) k d (omega arith)
 
 pub returns : goal.returns
 returns g c =

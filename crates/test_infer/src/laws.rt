@@ -9,9 +9,9 @@ ghost use Rattle.infer.specs.Row.{Accepts};
 ghost use Rattle.infer.specs.Rows.{custom_rows};
 ghost use Rattle.infer.specs.Table.{table};
 
-use crate::app::{is_java, is_mach};
-use crate::table::rows::{DLL, DOC, EPUB, EPUB_ARCHIVE, EXE, ROW_COUNT, SHELLSCRIPT};
-use crate::{Infer, Type, laws, position, sample};
+use infer::app::{is_java, is_mach};
+use infer::rows::{DLL, DOC, EPUB, EPUB_ARCHIVE, EXE, ROW_COUNT, SHELLSCRIPT};
+use infer::{Infer, Type, laws, position, sample};
 use std::alloc::Allocator;
 use std::test::Fail;
 
@@ -119,6 +119,7 @@ fn position_and_front(buf: &[u8], front: &[u8]) -> (Option<usize>, Option<usize>
     ensures { IsTrue (not (answers_twelve result.0)) → result.1 ≡ result.0 }
 {
     laws::front();
+    laws::single();
     (position(buf), position(front))
 }
 
@@ -132,6 +133,7 @@ fn document_breaks()
     ensures { (buf : List ℕ) × IsFirst (Accepts buf) table DOC × ¬ IsFirst (Accepts (take 1024 buf)) table DOC }
 {
     laws::breaks();
+    laws::single();
 }
 
 #[test]

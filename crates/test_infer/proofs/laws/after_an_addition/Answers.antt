@@ -4,7 +4,7 @@ use Rattle.infer.specs.Caller.{Contracts}
 use Rattle.infer.specs.Laws.{AnyLasts}
 use Rattle.infer.specs.Row.{Row}
 use Rattle.infer.specs.Rows.{Signature}
-use Rattle.infer.proofs.tests.laws.after_an_addition.Goals as goal
+use Rattle.test_infer.proofs.laws.after_an_addition.Goals as goal
 
 zero_stays : (short more : List ℕ) → IsTrue (starts_with nat_eq short (0x00 ∷ [])) → IsTrue (starts_with nat_eq (short ++ more) (0x00 ∷ []))
 zero_stays [] more h = absurd (cc)

@@ -2,7 +2,7 @@
 ghost use Rattle.std.specs.Prelude.{◌≡◌, IfOk, IsTrue};
 ghost use Rattle.infer.specs.Triple.{triple_of};
 
-use crate::{Fault, MatcherType, Type, get, image, is, laws};
+use infer::{Fault, MatcherType, Type, get, image, is, laws};
 use std::alloc::AllocError;
 use std::io::ErrorKind;
 use std::test::Fail;

@@ -1,5 +1,0 @@
-mod added;
-mod asked;
-mod laws;
-mod positions;
-mod types;
