@@ -9,6 +9,8 @@ static volatile long sink;
 static void call(const char *what, const void *buf, size_t len) {
     if (!strcmp(what, "position")) sink = infer_position(buf, len);
     else if (!strcmp(what, "is")) sink = infer_is(buf, len, "zip", 3);
+    else if (!strcmp(what, "is_mime")) sink = infer_is_mime(buf, len, "application/zip", 15);
+    else if (!strcmp(what, "is_mime_supported")) sink = infer_is_mime_supported(buf, len);
     else if (!strcmp(what, "is_supported")) sink = infer_is_supported(buf, len);
     else if (!strcmp(what, "is_app")) sink = infer_is_app(buf, len);
     else if (!strcmp(what, "is_archive")) sink = infer_is_archive(buf, len);
