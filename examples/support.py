@@ -104,7 +104,7 @@ class Vector(NamedTuple):
 def rows() -> list[Row]:
     """The rows by the test data, which were written by hand."""
     with open(f"{ROOT}/crates/test_vectors/data/rows.tsv", encoding="ascii") as lines:
-        return [Row(*line.rstrip("\n").split("\t")[-3:]) for line in lines]
+        return [Row(*line.rstrip("\n").split("\t")[:3]) for line in lines]
 
 
 def vectors() -> list[Vector]:

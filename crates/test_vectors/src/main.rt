@@ -1,8 +1,8 @@
-//! Compares the rows and the answers of `infer` with data from outside, and prints each line that differs.
+//! Compares the rows, the samples and the answers of `infer` with data from outside, and prints each line that differs.
 #![tactic(auto)]
 
 use anyhow::{Context, Result};
-use infer::rows::ROW_COUNT;
+use infer::rows::{MOST_CANDIDATES, ROW_COUNT};
 use infer::{MatcherType, Type};
 use std::alloc::Global;
 use std::fs;
@@ -58,11 +58,17 @@ fn class_name(class: MatcherType) -> &'static str {
     }
 }
 
+/// Whether `position_counted` answers that number, and counts a row where there is one, and no more than there can be.
+fn is_counted_right(buf: &[u8], found: Option<usize>) -> bool {
+    let (counted, asked) = infer::position_counted(buf);
+    counted == found && asked as usize <= MOST_CANDIDATES && (asked > 0 || found.is_none())
+}
+
 /// Whether `position`, `position_counted`, `get` and the questions about the row of that name, `-` for none, answer
 /// that it is the first.
 fn is_first(buf: &[u8], name: &str) -> bool {
     let found = infer::position(buf);
-    if infer::position_counted(buf).0 != found || infer::get(buf) != found.and_then(infer::row) {
+    if !is_counted_right(buf, found) || infer::get(buf) != found.and_then(infer::row) {
         return false;
     }
     match infer::get(buf) {
@@ -155,7 +161,7 @@ fn try_all_lengths(alloc: Global, text: &str) -> Result<u32> {
 
 /// Whether row `i` has the class, MIME type and extension of the line, and no other row has its name.
 fn is_row(i: usize, fields: &[&str]) -> bool {
-    let ([class, mime_type, extension], Some(row)) = (fields, infer::row(i)) else {
+    let ([class, mime_type, extension, _], Some(row)) = (fields, infer::row(i)) else {
         return false;
     };
     let is_alike = |other: &Type| {
@@ -171,18 +177,40 @@ fn is_row(i: usize, fields: &[&str]) -> bool {
 /// Compares row by row, of which line 1 tells row 0, and that no row follows.
 fn compare_rows(rt: &(impl Print + AllocGlobal), text: &str) -> Result<u32> {
     let mut differing = 0u32;
-    let mut count = 0usize;
+    if text.lines().count() != ROW_COUNT {
+        println!(rt; "rows.tsv does not tell {ROW_COUNT} rows")?;
+        differing = 1;
+    }
     for (i, line) in text.lines().enumerate() {
         let fields: Vec<&str> = line.split('\t').collect(rt.alloc())?;
         if !is_row(i, fields.as_slice()) {
             println!(rt; "row {i} is another: {line}")?;
             differing = differing.saturating_add(1);
         }
-        count = i;
     }
-    if count.saturating_add(1) != ROW_COUNT {
-        println!(rt; "rows.tsv does not tell {ROW_COUNT} rows")?;
-        differing = differing.saturating_add(1);
+    Ok(differing)
+}
+
+/// Whether row `i` has the sample that the tokens write, or none if they say so.
+fn has_sample(alloc: Global, i: usize, tokens: &str) -> Result<bool> {
+    let mut out = [0; 640];
+    let sample = infer::sample(i, &mut out);
+    if tokens == "none" {
+        return Ok(sample.is_none());
+    }
+    let bytes = decode(alloc, tokens)?;
+    Ok(sample.is_some_and(|count| bytes.as_slice() == &out[..count]))
+}
+
+/// Compares the sample of each row, the last column.
+fn compare_samples(rt: &(impl Print + AllocGlobal), text: &str) -> Result<u32> {
+    let mut differing = 0u32;
+    for (i, line) in text.lines().enumerate() {
+        let tokens = line.rsplit('\t').next().unwrap_or("none");
+        if !has_sample(rt.alloc(), i, tokens).context(format_args!("line {i}"))? {
+            println!(rt; "row {i} has another sample: {line}")?;
+            differing = differing.saturating_add(1);
+        }
     }
     Ok(differing)
 }
@@ -201,6 +229,10 @@ fn print_unseen(rt: &impl Print, seen: &[bool; ROW_COUNT]) -> Result<()> {
 fn run(rt: &(impl Files + Print + AllocGlobal)) -> Result<()> {
     let rows = fs::read_to_string(rt, "rows.tsv").context("rows.tsv")?;
     println!(rt; "rows that differ: {}", compare_rows(rt, rows.as_str())?)?;
+    println!(rt;
+        "samples that differ: {}",
+        compare_samples(rt, rows.as_str())?
+    )?;
     let vectors = fs::read_to_string(rt, "vectors.tsv").context("vectors.tsv")?;
     let mut seen = [false; ROW_COUNT];
     let differing = compare_buffers(rt, vectors.as_str(), &mut seen)?;
