@@ -72,17 +72,57 @@ fn built_in_rows_alone(rt: HostRuntime) {
     assert!(rt; !infer.is_custom(&jpeg));
 }
 
+/// Buffers, and the classes whose rows accept them. No call asks for the class Text.
+const CLASSES: [(&[u8], &[&str]); 11] = [
+    (b"", &[]),
+    (b"#!\0", &[]),
+    (b"MZ", &["app"]),
+    (b"BZh", &["archive"]),
+    (b"fLaC", &["audio"]),
+    (
+        b"............................................................BOOKMOBI",
+        &["book"],
+    ),
+    (
+        b"PK\x03\x04..........................mimetypeapplication/epub+zip",
+        &["archive", "book"],
+    ),
+    (
+        b"PK\x03\x04..........................word/",
+        &["archive", "document"],
+    ),
+    (b"OTTO\0", &["font"]),
+    (b"8BPS", &["image"]),
+    (b"FLV\x01", &["video"]),
+];
+
+/// What the two forms of each class's question answer.
+fn classes_of(infer: &Infer, buf: &[u8]) -> [(&'static str, bool, bool); 8] {
+    [
+        ("app", infer.is_app(buf), infer::is_app(buf)),
+        ("archive", infer.is_archive(buf), infer::is_archive(buf)),
+        ("audio", infer.is_audio(buf), infer::is_audio(buf)),
+        ("book", infer.is_book(buf), infer::is_book(buf)),
+        ("document", infer.is_document(buf), infer::is_document(buf)),
+        ("font", infer.is_font(buf), infer::is_font(buf)),
+        ("image", infer.is_image(buf), infer::is_image(buf)),
+        ("video", infer.is_video(buf), infer::is_video(buf)),
+    ]
+}
+
 #[test]
-fn no_class_of_another_row(rt: HostRuntime) {
+fn classes(rt: HostRuntime) {
     let infer = Infer::new();
-    for buf in [JPEG.as_slice(), PNG.as_slice(), b"".as_slice()] {
-        assert!(rt; !infer.is_app(buf) && !infer::is_app(buf));
-        assert!(rt; !infer.is_archive(buf) && !infer::is_archive(buf));
-        assert!(rt; !infer.is_audio(buf) && !infer::is_audio(buf));
-        assert!(rt; !infer.is_book(buf) && !infer::is_book(buf));
-        assert!(rt; !infer.is_document(buf) && !infer::is_document(buf));
-        assert!(rt; !infer.is_font(buf) && !infer::is_font(buf));
-        assert!(rt; !infer.is_video(buf) && !infer::is_video(buf));
+    for (i, (buf, expected)) in CLASSES.iter().enumerate() {
+        for (class, over_rows, built_in) in classes_of(&infer, *buf) {
+            let is_one = expected.contains(&class);
+            assert_eq!(rt;
+                (over_rows, built_in),
+                (is_one, is_one),
+                "{class}, buffer {i}"
+            );
+        }
+        assert!(rt; !infer.is_custom(*buf), "buffer {i}");
     }
 }
 

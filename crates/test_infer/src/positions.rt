@@ -1,7 +1,7 @@
 //! The numbers of first rows, on worked buffers.
 use infer::{
     MatcherType, app, archive, get, is, is_archive, is_audio, is_book, is_image, is_mime,
-    is_mime_supported, is_supported, position, row, rows,
+    is_mime_supported, is_supported, position, row, rows, text,
 };
 use std::alloc::{AllocError, Global};
 use std::test::Fail;
@@ -310,6 +310,7 @@ fn questions_about_rows(rt: HostRuntime) -> Result<(), Fail> {
     assert_eq!(rt; shell.matcher_type(), MatcherType::Text);
     assert_eq!(rt; shell.mime_type(), "text/x-shellscript");
     assert_eq!(rt; shell.extension(), "sh");
+    assert!(rt; text::is_shellscript(b"#!\0") && !text::is_shellscript(b"#!"));
     assert_eq!(rt; row(rows::ROW_COUNT), None);
     Ok(())
 }
