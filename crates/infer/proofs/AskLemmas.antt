@@ -1,13 +1,14 @@
--- A walk over the candidates of a buffer: which numbers they are, where it ends, and how many it asks.
-use Rattle.std.proofs.Common.{◌≡◌, ◌<◌, ◌≤◌, ◌+◌, ℕ, zero, suc, Bool, true, false, ◌&&◌, List, [], ◌∷◌, length, get_or, take, sym, subst, ◌∙◌, ap, arith, refl, leb, Option, Some, None, inl, inr, cond, count_by, if◌then◌else◌, slice_get}
-use Rattle.std.specs.List.{AllWithin}
+-- A walk over the candidates of a buffer: which numbers they are, where it ends, and which it asks.
+use Rattle.std.proofs.Common.{◌≡◌, ◌<◌, ◌≤◌, ◌+◌, ℕ, zero, suc, Bool, true, false, ◌&&◌, List, [], ◌∷◌, length, get_or, take, ◌++◌, sym, subst, ◌∙◌, ap, arith, refl, leb, Option, Some, None, inl, inr, cond, if◌then◌else◌, slice_get}
+use Rattle.std.specs.List.{AllWithin, filter}
 use Rattle.std.proofs.lemmas.Bool.{le-leb}
-use Rattle.std.proofs.lemmas.List.Elements.{AllWithin-more}
-use Rattle.std.proofs.lemmas.List.Sums.{count_by-le-length, sum_by-cons, sum_by_more}
+use Rattle.std.proofs.lemmas.List.{length-take-le}
+use Rattle.std.proofs.lemmas.List.Elements.{AllWithin-more, filter_more}
+use Rattle.std.proofs.lemmas.List.Sums.{count_by-le-length, length-filter}
 use Rattle.infer.specs.Leads.{allows_first, candidates, candidates_of, places_from}
 use Rattle.infer.specs.Table.{table}
 use Rattle.infer.specs.declared.table.rows.TheConstants.{MOST_CANDIDATES, ROW_COUNT}
-use Rattle.infer.specs.Walks.{IsFirstAmong, count_asked, is_wanted, is_not_above}
+use Rattle.infer.specs.Walks.{IsFirstAmong, asked_rows, count_asked, is_wanted, is_not_above}
 use Rattle.infer.specs.declared.ask.question.Wanted.{Wanted}
 use Rattle.infer.proofs.ListLemmas.{HoldsAt-read}
 use Rattle.infer.proofs.TableLemmas.{length-table}
@@ -80,36 +81,29 @@ module _ (P : ℕ → Type 0) where
     found_at k i d l e h none =
         subst (λ ns. IsFirstAmong P ns (Some i)) same (subst (λ j. IsFirstAmong P rs (Some j)) (sym e) (found_among rs k d l (subst P e h) none))
 
--- ---- how many it asks
-
-one_more : (p : ℕ → Bool) (c : ℕ) (cs : List ℕ) → count_by p (c ∷ cs) ≡ cond (p c) 1 0 + count_by p cs
-one_more p c cs = sum_by-cons (λ x. cond (p x) 1 0) c cs
+-- ---- which it asks
 
 above : (n x : ℕ) → n < x → leb x n ≡ false
 above n x l = grind (arith)
 
 module _ (w : ℕ → Bool) where
-  none_above : (cs : List ℕ) (n : ℕ) → ((k d : ℕ) → k < length cs → n < get_or cs k d) → count_by (λ i. leb i n && w i) cs ≡ 0
+  none_above : (cs : List ℕ) (n : ℕ) → ((k d : ℕ) → k < length cs → n < get_or cs k d) → filter (λ i. leb i n && w i) cs ≡ []
   none_above [] n h = refl
   none_above (c ∷ cs) n h =
-      one_more (λ i. leb i n && w i) c cs
-      ∙ ap (λ b. cond (b && w c) 1 0 + count_by (λ i. leb i n && w i) cs) (above n c (h 0 0 (omega arith)))
-      ∙ (let e = none_above cs n (λ k d l. h (suc k) d (omega arith)) in omega arith)
+      let rest = filter (λ i. leb i n && w i) cs in
+      ap (λ b. cond (b && w c) (c ∷ rest) rest) (above n c (h 0 0 (omega arith))) ∙ none_above cs n (λ k d l. h (suc k) d (omega arith))
 
-  up_to : (cs : List ℕ) (k d : ℕ) → Ascends cs → k < length cs → count_by (λ i. leb i (get_or cs k d) && w i) cs ≡ count_by w (take (k + 1) cs)
+  up_to : (cs : List ℕ) (k d : ℕ) → Ascends cs → k < length cs → filter (λ i. leb i (get_or cs k d) && w i) cs ≡ filter w (take (k + 1) cs)
   up_to [] k d a l = absurd (omega arith)
   up_to (c ∷ cs) zero d a l =
-      one_more (λ i. leb i c && w i) c cs
-      ∙ ap (λ b. cond (b && w c) 1 0 + count_by (λ i. leb i c && w i) cs) (le-leb c c (omega arith))
-      ∙ ap (λ n. cond (w c) 1 0 + n) (none_above cs c (λ k e m. a 0 (suc k) 0 e (omega arith) (omega arith)))
-      ∙ sym (one_more w c [])
+      ap (λ b. cond (b && w c) (c ∷ filter (λ i. leb i c && w i) cs) (filter (λ i. leb i c && w i) cs)) (le-leb c c (omega arith))
+      ∙ ap (λ xs. cond (w c) (c ∷ xs) xs) (none_above cs c (λ k e m. a 0 (suc k) 0 e (omega arith) (omega arith)))
   up_to (c ∷ cs) (suc k) d a l =
-      one_more (λ i. leb i (get_or cs k d) && w i) c cs
-      ∙ ap (λ b. cond (b && w c) 1 0 + count_by (λ i. leb i (get_or cs k d) && w i) cs)
-      (le-leb c (get_or cs k d) (let e = a 0 (suc k) 0 d (omega arith) l in omega arith))
-      ∙ ap (λ n. cond (w c) 1 0 + n) (up_to cs k d (λ i j x y m n. a (suc i) (suc j) x y (omega arith) (omega arith)) (omega arith))
-      ∙ sym (one_more w c (take (k + 1) cs))
-      ∙ ap (λ n. count_by w (take n (c ∷ cs))) (let e : suc (k + 1) ≡ suc k + 1 = omega arith in e)
+      let n = get_or cs k d in
+      ap (λ b. cond (b && w c) (c ∷ filter (λ i. leb i n && w i) cs) (filter (λ i. leb i n && w i) cs))
+      (le-leb c n (let e = a 0 (suc k) 0 d (omega arith) l in omega arith))
+      ∙ ap (λ xs. cond (w c) (c ∷ xs) xs) (up_to cs k d (λ i j x y m o. a (suc i) (suc j) x y (omega arith) (omega arith)) (omega arith))
+      ∙ ap (λ n. filter w (take n (c ∷ cs))) (let e : suc (k + 1) ≡ suc k + 1 = omega arith in e)
 
 -- ---- what a walk knows at its end
 
@@ -129,26 +123,26 @@ candidates_of-ascend : (b : List ℕ) → Ascends (candidates_of b)
 candidates_of-ascend [] = λ k m c d l n. absurd (omega arith)
 candidates_of-ascend (f ∷ b) = candidates-ascend f
 
+no_more : (test : ℕ → Bool) (xs : List ℕ) (n : ℕ) → length xs ≤ n → length (filter test xs) ≤ n
+no_more test xs n few = let count = length-filter test xs in let most = count_by-le-length test xs in omega (arith, count, most)
+
 -- one row further, which was asked if it is asked for
-pub counted_more : (w : Wanted) (rs : List ℕ) (k i d n m : ℕ) → k < length rs → i ≡ get_or rs k d
-    → m ≡ count_by (is_wanted w) (take k rs) → n ≡ m + cond (is_wanted w i) 1 0 → n ≡ count_by (is_wanted w) (take (k + 1) rs)
-counted_more w rs k i d n m l at before now =
-    now ∙ ap (λ j. m + cond (is_wanted w j) 1 0) at ∙ ap (λ x. x + cond (is_wanted w (get_or rs k d)) 1 0) before
-    ∙ sym (sum_by_more (λ x. cond (is_wanted w x) 1 0) rs k d l)
+pub asked_more : (w : Wanted) (rs : List ℕ) (k i d : ℕ) → k < length rs → i ≡ get_or rs k d
+    → filter (is_wanted w) (take k rs) ++ filter (is_wanted w) (i ∷ []) ≡ filter (is_wanted w) (take (k + 1) rs)
+asked_more w rs k i d l at =
+    ap (λ j. filter (is_wanted w) (take k rs) ++ filter (is_wanted w) (j ∷ [])) at ∙ sym (filter_more (is_wanted w) rs k d l)
 
 module _ (w : Wanted) (b rs : List ℕ) (same : rs ≡ candidates_of b) where
-  asked_up_to : (k i d : ℕ) → k < length rs → i ≡ get_or rs k d → count_by (is_wanted w) (take (k + 1) rs) ≡ count_asked w b (Some i)
+  pub asked_up_to : (k i d : ℕ) → k < length rs → i ≡ get_or rs k d → filter (is_wanted w) (take (k + 1) rs) ≡ asked_rows w b (Some i)
   asked_up_to k i d l at =
       sym (up_to (is_wanted w) rs k d (subst Ascends (sym same) (candidates_of-ascend b)) l)
-      ∙ ap (λ e. count_by (λ j. leb j e && is_wanted w j) rs) (sym at)
-      ∙ ap (λ cs. count_by (λ j. leb j i && is_wanted w j) cs) same
+      ∙ ap (λ e. filter (λ j. leb j e && is_wanted w j) rs) (sym at)
+      ∙ ap (filter (λ j. leb j i && is_wanted w j)) same
 
-  pub counted_some : (k i d n m : ℕ) → k < length rs → i ≡ get_or rs k d → m ≡ count_by (is_wanted w) (take k rs) → n ≡ m + cond (is_wanted w i) 1 0
-      → n ≡ count_asked w b (Some i)
-  counted_some k i d n m l at before now = counted_more w rs k i d n m l at before now ∙ asked_up_to k i d l at
+  pub few_asked : (o : Option ℕ) → length rs ≤ MOST_CANDIDATES → count_asked w b o ≤ MOST_CANDIDATES
+  few_asked o few = no_more (λ i. is_not_above o i && is_wanted w i) (candidates_of b) MOST_CANDIDATES (subst (λ cs. length cs ≤ MOST_CANDIDATES) same few)
 
-  pub few_asked : (n : ℕ) (o : Option ℕ) → length rs ≤ MOST_CANDIDATES → n ≡ count_asked w b o → n ≤ MOST_CANDIDATES
-  few_asked n o few e =
-      let most = count_by-le-length (λ i. is_not_above o i && is_wanted w i) (candidates_of b) in
-      let long : length rs ≡ length (candidates_of b) = ap length same in
-      omega (arith, e, most, long)
+pub room_left : (w : Wanted) (rs : List ℕ) (k : ℕ) → k < length rs → length rs ≤ MOST_CANDIDATES → length (filter (is_wanted w) (take k rs)) < ROW_COUNT
+room_left w rs k l few =
+    let most = no_more (is_wanted w) (take k rs) k (let e = length-take-le k rs (omega arith) in omega (arith, e)) in
+    omega (arith, most)

@@ -1,6 +1,6 @@
--- The first of some rows, named by their numbers, and how many were asked.
-use Rattle.std.specs.Prelude.{◌≡◌, ◌⊎◌, ◌&&◌, ℕ, Bool, true, false, List, [], ◌∷◌, Option, None, Some, MatchOption, count_by, nat_le}
-use Rattle.std.specs.List.{slice_get}
+-- The first of some rows, named by their numbers, and which were asked.
+use Rattle.std.specs.Prelude.{◌≡◌, ◌⊎◌, ◌&&◌, ℕ, Bool, true, false, List, [], ◌∷◌, Option, None, Some, MatchOption, length, nat_le}
+use Rattle.std.specs.List.{filter, slice_get}
 use Rattle.std.specs.Option.{option_map_or}
 use denote.Ref.{Bor}
 use Rattle.infer.specs.BuiltIn.{BuiltIn}
@@ -38,6 +38,10 @@ abbrev pub is_not_above : Option ℕ → ℕ → Bool
 is_not_above None i = true
 is_not_above (Some answer) i = nat_le i answer
 
--- how many of the candidates of the buffer are asked for and not above the answer
+-- the candidates of the buffer that are asked for, in order, up to the answer
+abbrev pub asked_rows : Wanted → List ℕ → Option ℕ → List ℕ
+asked_rows wanted b answer = filter (λ i. is_not_above answer i && is_wanted wanted i) (candidates_of b)
+
+-- how many these are
 abbrev pub count_asked : Wanted → List ℕ → Option ℕ → ℕ
-count_asked wanted b answer = count_by (λ i. is_not_above answer i && is_wanted wanted i) (candidates_of b)
+count_asked wanted b answer = length (asked_rows wanted b answer)

@@ -1,6 +1,8 @@
 //! Which built-in rows are asked about a buffer, and how many.
-ghost use Rattle.std.specs.Prelude.{◌≡◌};
+ghost use Rattle.std.specs.Prelude.{◌≡◌, ◌≤◌, ℕ, List, [], length, take};
+ghost use Rattle.infer.specs.Walks.{asked_rows, named};
 
+use infer::rows::ROW_COUNT;
 use infer::{
     Ask, Asker, is, is_archive, is_counted, is_document, position, position_counted, rows, sample,
     walk,
@@ -20,30 +22,33 @@ const EPUB: &[u8] =
 #[derive(Drop)]
 struct Noting<'a> {
     inner: Asker<'a>,
-    rows: [usize; rows::ROW_COUNT],
+    rows: [usize; ROW_COUNT],
 }
 
 impl<'a> Noting<'a> {
     fn new(buf: &'a [u8]) -> Noting<'a>
-        ensures { ⟦<Noting<'a> as Ask>⟧.asked result ≡ 0 }
+        ensures buffer { ⟦<Noting<'a> as Ask>⟧.buffer result ≡ buf.now }
+        ensures asked { ⟦<Noting<'a> as Ask>⟧.has_asked result [] }
     {
         Noting {
             inner: Asker::new(buf),
-            rows: [rows::ROW_COUNT; rows::ROW_COUNT],
+            rows: [ROW_COUNT; ROW_COUNT],
         }
     }
 
     /// The rows that were asked, in order.
-    fn rows(&self) -> &[usize] {
+    fn rows(&self) -> &[usize]
+        ensures { (rows : List ℕ) → length rows ≤ ROW_COUNT → ⟦<Noting<'a> as Ask>⟧.has_asked self.now rows → result.now ≡ rows }
+    {
         let count = self.inner.asked() as usize;
-        &self.rows[..count.min(rows::ROW_COUNT)]
+        &self.rows[..count.min(ROW_COUNT)]
     }
 }
 
 impl<'a> Ask for Noting<'a> {
     ghost buffer = { λ s. ⟦<Asker<'a> as Ask>⟧.buffer s.inner };
 
-    ghost asked = { λ s. ⟦<Asker<'a> as Ask>⟧.asked s.inner };
+    ghost has_asked = { λ s rows. ⟦<Asker<'a> as Ask>⟧.has_asked s.inner rows × (take (length rows) s.rows ≡ rows) };
 
     fn first(&self) -> Option<u8> {
         self.inner.first()
@@ -54,6 +59,18 @@ impl<'a> Ask for Noting<'a> {
         self.rows[place] = i;
         self.inner.ask(i)
     }
+}
+
+/// A walk, and the rows that it asked, in order.
+fn walk_noting<'a, 'b>(
+    noting: &'a mut Noting<'b>,
+    wanted: Option<&str>,
+) -> (Option<usize>, &'a [usize])
+    requires { ⟦<Noting<'b> as Ask>⟧.has_asked noting.old [] }
+    ensures { result.1.now ≡ asked_rows (named wanted.entry) (⟦<Noting<'b> as Ask>⟧.buffer noting.old) result.0 }
+{
+    let found = walk(noting, wanted);
+    (found, noting.rows())
 }
 
 #[test]
@@ -89,8 +106,11 @@ fn rows_in_order(rt: HostRuntime) {
     ];
     for (i, (buf, wanted, expected, rows)) in cases.iter().enumerate() {
         let mut noting = Noting::new(*buf);
-        assert_eq!(rt; walk(&mut noting, *wanted), *expected, "case {i}");
-        assert_eq!(rt; noting.rows(), *rows, "case {i}");
+        assert_eq!(rt;
+            walk_noting(&mut noting, *wanted),
+            (*expected, *rows),
+            "case {i}"
+        );
     }
 }
 
@@ -125,7 +145,7 @@ fn rows_behind_the_first(rt: HostRuntime) -> Result<(), Fail> {
 
 /// The first of all rows that accepts the buffer, each asked by an asker of its own.
 fn plain_position(buf: &[u8]) -> Option<usize> {
-    for i in 0..rows::ROW_COUNT {
+    for i in 0..ROW_COUNT {
         if Asker::new(buf).ask(i) {
             return Some(i);
         }
@@ -150,7 +170,7 @@ fn compare_with_each_first_byte(rt: &impl Abort, buf: &mut [u8]) {
 
 #[test]
 fn asks_as_a_plain_walk(rt: HostRuntime) {
-    for i in 0..rows::ROW_COUNT {
+    for i in 0..ROW_COUNT {
         let mut out = [0; 640];
         if let Some(n) = sample(i, &mut out) {
             compare(&rt, &out[..n]);
@@ -173,7 +193,7 @@ fn compare_beginnings(rt: &impl Abort, buf: &[u8]) {
 
 #[test]
 fn samples_grow(rt: HostRuntime) {
-    for i in 0..rows::ROW_COUNT {
+    for i in 0..ROW_COUNT {
         let mut out = [0; 640];
         if let Some(n) = sample(i, &mut out) {
             compare_beginnings(&rt, &out[..n]);

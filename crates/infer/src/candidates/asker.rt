@@ -1,11 +1,12 @@
 //! Rows are asked through an asker, which counts them.
-ghost use Rattle.std.specs.Prelude.{◌≡◌, ◌↔◌, ◌+◌, ◌<◌, ◌≤◌, ℕ, List, Option, IfSome, cond, is_some, IsTrue, length, slice_get};
+ghost use Rattle.std.specs.Prelude.{◌≡◌, ◌↔◌, ◌<◌, ◌≤◌, ◌++◌, ℕ, List, [], ◌∷◌, Option, IfSome, is_some, IsTrue, length, slice_get};
+ghost use Rattle.std.specs.List.{filter};
 ghost use Rattle.infer.specs.First.{IsFirstOf};
 ghost use Rattle.infer.specs.Leads.{candidates_of};
 ghost use Rattle.infer.specs.Questions.{HasExtension, SomeBoth};
 ghost use Rattle.infer.specs.Row.{Accepts};
 ghost use Rattle.infer.specs.Table.{table};
-ghost use Rattle.infer.specs.Walks.{IsFirstAmong, RowHas, Takes, count_asked, is_wanted, named};
+ghost use Rattle.infer.specs.Walks.{IsFirstAmong, RowHas, Takes, asked_rows, count_asked, is_wanted, named};
 ghost use Rattle.infer.specs.declared.ask.question.Wanted.TheVariants.{Every, Extension};
 
 use crate::ask::question::Wanted;
@@ -14,26 +15,27 @@ use crate::candidates::dispatch::{arm_of, candidates_at};
 use crate::table::leads::{blank, leads};
 use crate::table::rows::{MOST_CANDIDATES, ROW_COUNT};
 
-/// Who asks the built-in rows about one buffer. A contract sees that buffer, and how many rows were asked.
+/// Who asks the built-in rows about one buffer. A contract sees that buffer, and which rows were asked, in order.
 pub trait Ask {
     ghost buffer: { Self → List ℕ };
 
-    ghost asked: { Self → ℕ };
+    // Whether these can be the rows that were asked, as far as the asker knows.
+    ghost has_asked: { Self → List ℕ → Type 0 };
 
     /// The first byte of the buffer, and `None` exactly where it is empty.
     fn first(&self) -> Option<u8>
         ensures { result ≡ slice_get (buffer self.now) 0 };
 
-    /// Whether the built-in row `i` accepts the buffer. It is counted.
+    /// Whether the built-in row `i` accepts the buffer. It is the last that was asked.
     fn ask(&mut self, i: usize) -> bool
         requires row { i < ROW_COUNT }
-        requires room { asked self.old < ROW_COUNT }
+        requires room { (before : List ℕ) × has_asked self.old before × (length before < ROW_COUNT) }
         ensures answer { IsTrue result ↔ RowHas (Accepts (buffer self.old)) i }
         ensures kept { buffer self.new ≡ buffer self.old }
-        ensures counted { asked self.new ≡ asked self.old + 1 };
+        ensures asked { (before : List ℕ) → has_asked self.old before → has_asked self.new (before ++ i ∷ []) };
 }
 
-/// Asks the matchers, and counts.
+/// Asks the matchers, and counts. Of the rows that were asked it knows their number alone.
 #[derive(Drop)]
 pub struct Asker<'a> {
     buf: &'a [u8],
@@ -44,14 +46,14 @@ impl<'a> Asker<'a> {
     /// About `buf`, with no row asked.
     pub fn new(buf: &'a [u8]) -> Asker<'a>
         ensures buffer { ⟦<Asker<'a> as Ask>⟧.buffer result ≡ buf.now }
-        ensures asked { ⟦<Asker<'a> as Ask>⟧.asked result ≡ 0 }
+        ensures asked { ⟦<Asker<'a> as Ask>⟧.has_asked result [] }
     {
         Asker { buf, count: 0 }
     }
 
     /// How many rows were asked.
     pub fn asked(&self) -> u32
-        ensures { result ≡ ⟦<Asker<'a> as Ask>⟧.asked self.now }
+        ensures { (rows : List ℕ) → ⟦<Asker<'a> as Ask>⟧.has_asked self.now rows → result ≡ length rows }
     {
         self.count
     }
@@ -60,7 +62,7 @@ impl<'a> Asker<'a> {
 impl Ask for Asker<'_> {
     ghost buffer = { λ s. s.buf.now };
 
-    ghost asked = { λ s. s.count };
+    ghost has_asked = { λ s rows. s.count ≡ length rows };
 
     fn first(&self) -> Option<u8> {
         self.buf.first().copied()
@@ -78,10 +80,10 @@ impl Ask for Asker<'_> {
 /// Of those rows it asks the candidates of the first byte, which are the rows whose signature allows it there. It
 /// asks them in ascending order up to the answer, which are at most [`MOST_CANDIDATES`], and no other.
 pub fn walk<A: Ask>(asker: &mut A, wanted: Option<&str>) -> Option<usize>
-    requires { A.asked asker.old ≡ 0 }
+    requires { A.has_asked asker.old [] }
     ensures first { IsFirstAmong (RowHas (Takes (named wanted.entry) (A.buffer asker.old))) (candidates_of (A.buffer asker.old)) result }
-    ensures counted { A.asked asker.new ≡ count_asked (named wanted.entry) (A.buffer asker.old) result }
-    ensures few { A.asked asker.new ≤ MOST_CANDIDATES }
+    ensures asked { A.has_asked asker.new (asked_rows (named wanted.entry) (A.buffer asker.old) result) }
+    ensures few { count_asked (named wanted.entry) (A.buffer asker.old) result ≤ MOST_CANDIDATES }
     ensures kept { A.buffer asker.new ≡ A.buffer asker.old }
 {
     match wanted {
@@ -93,10 +95,10 @@ pub fn walk<A: Ask>(asker: &mut A, wanted: Option<&str>) -> Option<usize>
 /// The same for any question.
 #[inline(always)]
 fn walk_wanted<A: Ask>(asker: &mut A, wanted: Wanted) -> Option<usize>
-    requires { A.asked asker.old ≡ 0 }
+    requires { A.has_asked asker.old [] }
     ensures first { IsFirstAmong (RowHas (Takes wanted.entry (A.buffer asker.old))) (candidates_of (A.buffer asker.old)) result }
-    ensures counted { A.asked asker.new ≡ count_asked wanted.entry (A.buffer asker.old) result }
-    ensures few { A.asked asker.new ≤ MOST_CANDIDATES }
+    ensures asked { A.has_asked asker.new (asked_rows wanted.entry (A.buffer asker.old) result) }
+    ensures few { count_asked wanted.entry (A.buffer asker.old) result ≤ MOST_CANDIDATES }
     ensures kept { A.buffer asker.new ≡ A.buffer asker.old }
 {
     for row in candidates_of(asker) {
@@ -123,9 +125,9 @@ fn candidates_of<A: Ask>(asker: &A) -> &'static [usize]
 #[inline(always)]
 fn ask_wanted<A: Ask>(asker: &mut A, i: usize, wanted: Wanted) -> bool
     requires row { i < ROW_COUNT }
-    requires room { A.asked asker.old < ROW_COUNT }
+    requires room { (before : List ℕ) × A.has_asked asker.old before × (length before < ROW_COUNT) }
     ensures answer { IsTrue result ↔ RowHas (Takes wanted.entry (A.buffer asker.old)) i }
-    ensures counted { A.asked asker.new ≡ A.asked asker.old + cond (is_wanted wanted.entry i) 1 0 }
+    ensures asked { (before : List ℕ) → A.has_asked asker.old before → A.has_asked asker.new (before ++ filter (is_wanted wanted.entry) (i ∷ [])) }
     ensures kept { A.buffer asker.new ≡ A.buffer asker.old }
 {
     fits_at(i, wanted) && asker.ask(i)

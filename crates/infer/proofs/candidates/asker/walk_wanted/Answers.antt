@@ -1,12 +1,20 @@
-use Rattle.std.proofs.Common.{◌∙◌, arith, refl, get_or, Some, subst, sym, List, ℕ}
-use Rattle.infer.specs.Walks.{RowHas, Takes}
-use Rattle.infer.proofs.AskLemmas.{below_count, counted_more, counted_some, few_asked, found_at, none_of, refused_more}
+use Rattle.std.proofs.Common.{◌∙◌, arith, refl, filter, get_or, take, None, Some, subst, sym, List, ℕ}
+use Rattle.infer.specs.Walks.{RowHas, Takes, is_wanted}
+use Rattle.infer.proofs.AskLemmas.{asked_more, asked_up_to, below_count, few_asked, found_at, none_of, refused_more, room_left}
 use Rattle.infer.proofs.candidates.asker.walk_wanted.Goals as goal
 
 pub ask_wanted-requires-clause-row : goal.ask_wanted-requires-clause-row
 ask_wanted-requires-clause-row g c =
     below_count (g.A.Ask.buffer c.args.asker.now) c.candidates_of-row-items.result.now c.candidates_of-row-items.ensures.rows
     c.loop-row.row-index _ c.loop-row-test.true
+
+pub ask_wanted-requires-clause-room : goal.ask_wanted-requires-clause-room
+ask_wanted-requires-clause-room g c =
+    let rs = c.candidates_of-row-items.result.now in (
+      filter (is_wanted c.args.wanted) (take c.loop-row.row-index rs),
+      c.loop-row.invariant.asked,
+      room_left c.args.wanted rs c.loop-row.row-index c.loop-row-test.true c.candidates_of-row-items.ensures.few,
+    )
 
 pub returns-then-ask_wanted-clause-first : goal.returns-then-ask_wanted-clause-first
 returns-then-ask_wanted-clause-first g c =
@@ -17,17 +25,20 @@ returns-then-ask_wanted-clause-first g c =
     (subst (λ (x : List ℕ). RowHas (Takes c.args.wanted x) i) c.loop-row.invariant.kept (c.if-ask_wanted.ensures.answer.0 refl))
     c.loop-row.invariant.refused
 
-pub returns-then-ask_wanted-clause-counted : goal.returns-then-ask_wanted-clause-counted
-returns-then-ask_wanted-clause-counted g c =
+pub returns-then-ask_wanted-clause-asked : goal.returns-then-ask_wanted-clause-asked
+returns-then-ask_wanted-clause-asked g c =
     let rs = c.candidates_of-row-items.result.now in
-    counted_some c.args.wanted (g.A.Ask.buffer c.args.asker.now) rs c.candidates_of-row-items.ensures.rows c.loop-row.row-index
-    (get_or rs c.loop-row.row-index 0) _ _ _ c.loop-row-test.true refl c.loop-row.invariant.counted c.ask_wanted.ensures.counted
+    let i = get_or rs c.loop-row.row-index 0 in
+    subst (g.A.Ask.has_asked _)
+    (asked_more c.args.wanted rs c.loop-row.row-index i _ c.loop-row-test.true refl
+    ∙ asked_up_to c.args.wanted (g.A.Ask.buffer c.args.asker.now) rs c.candidates_of-row-items.ensures.rows c.loop-row.row-index i _ c.loop-row-test.true refl)
+    (c.ask_wanted.ensures.asked _ c.loop-row.invariant.asked)
 
 pub returns-then-ask_wanted-clause-few : goal.returns-then-ask_wanted-clause-few
 returns-then-ask_wanted-clause-few g c =
     let rs = c.candidates_of-row-items.result.now in
-    few_asked c.args.wanted (g.A.Ask.buffer c.args.asker.now) rs c.candidates_of-row-items.ensures.rows _ (Some (get_or rs c.loop-row.row-index 0))
-    c.candidates_of-row-items.ensures.few (returns-then-ask_wanted-clause-counted g c)
+    few_asked c.args.wanted (g.A.Ask.buffer c.args.asker.now) rs c.candidates_of-row-items.ensures.rows (Some (get_or rs c.loop-row.row-index 0))
+    c.candidates_of-row-items.ensures.few
 
 pub loop-row-preserved : goal.loop-row-preserved
 loop-row-preserved g c =
@@ -39,10 +50,16 @@ loop-row-preserved g c =
       refused = refused_more (RowHas (Takes c.args.wanted b)) rs c.loop-row.row-index i _ c.loop-row-test.true refl
           (λ h. absurd (let e = c.if-ask_wanted.ensures.answer.1 (subst (λ (x : List ℕ). RowHas (Takes c.args.wanted x) i) (sym c.loop-row.invariant.kept) h) in cc))
           c.loop-row.invariant.refused;
-      counted = counted_more c.args.wanted rs c.loop-row.row-index i _ _ _ c.loop-row-test.true refl c.loop-row.invariant.counted c.ask_wanted.ensures.counted;
+      asked = subst (g.A.Ask.has_asked _) (asked_more c.args.wanted rs c.loop-row.row-index i _ c.loop-row-test.true refl)
+          (c.ask_wanted.ensures.asked _ c.loop-row.invariant.asked);
     }
 
 pub returns-clause-first : goal.returns-clause-first
 returns-clause-first g c =
     none_of _ c.candidates_of-row-items.result.now _ c.candidates_of-row-items.ensures.rows c.loop-row.row-index
     (omega (arith, c.loop-row-test.false, c.loop-row.auto.row-index-end)) c.loop-row.invariant.refused
+
+pub returns-clause-few : goal.returns-clause-few
+returns-clause-few g c =
+    few_asked c.args.wanted (g.A.Ask.buffer c.args.asker.now) c.candidates_of-row-items.result.now c.candidates_of-row-items.ensures.rows None
+    c.candidates_of-row-items.ensures.few
