@@ -1,22 +1,27 @@
--- For each of the twelve rows a buffer that has it as its first, and whose first 1024 bytes have another answer.
-use Rattle.std.proofs.Common.{◌⊎◌, ◌≢◌, ◌+◌, ◌<◌, ◌∷◌, ◌++◌, le_refl, zero-le, suc, ℕ, not, List, [], Option, None, Some, length, take, IsTrue, refl, codes, inl, inr, arith}
+-- For each of the twelve rows, and for each beginning, a buffer that has the row as its first, and whose first 1024 bytes
+-- have another answer.
+use Rattle.std.proofs.Common.{◌≡◌, ◌⊎◌, ◌≢◌, ◌+◌, ◌<◌, ◌∷◌, ◌++◌, le_refl, zero-le, suc, ℕ, not, List, [], Option, None, Some, length, get_or, take, subst, IsTrue, refl, codes, inl, inr, arith}
 use Rattle.std.proofs.lemmas.Bool.{cases_lt}
 use Rattle.std.proofs.lemmas.Option.{none-some, same_Some, slice_get_past}
 use Rattle.infer_deep.specs.ClassId.{compound_header, word_id, old_excel_id, powerpoint_id}
+use Rattle.infer_deep.specs.Find.{OccursAt}
 use Rattle.infer_deep.specs.Laws as Deep
 use Rattle.infer_deep.specs.Numbers.{le16, le32, be32}
 use Rattle.infer_deep.specs.Office.{zip_header}
+use Rattle.infer_deep.specs.Text.{BeginsMarked}
 use Rattle.infer_sig.specs.Signature.{stands}
+use Rattle.infer.specs.Arrivals.{Beginning, open_box, compound, archive, frame, white, mark, Begins, BeginsAlone, last_after}
 use Rattle.infer.specs.BuiltIn.{BuiltIn, framed, heif, avif, office, doc, xls, ppt, html, xml}
 use Rattle.infer.specs.Laws.{Breaks}
 use Rattle.infer.specs.Matchers.{is_of_the_twelve}
 use Rattle.infer.specs.Samples.{put, sample_of, zeros}
 use Rattle.infer.specs.Table.{signature_of, table}
-use Rattle.infer.specs.declared.table.rows.TheConstants.{MSI, ROW_COUNT, ZIP}
-use Rattle.infer.proofs.DecisionLemmas.{behind, long_frame, space}
-use Rattle.infer.proofs.KnownLemmas.{Known, proved, is, is_proved, proof_of, same, at_most, negated, either, each_before, takes, ◌>>=◌}
+use Rattle.infer.specs.declared.table.rows.TheConstants.{MSI, PDF, ROW_COUNT, ZIP}
+use Rattle.infer.proofs.DecisionLemmas.{behind, long_frame, space, wide_mark}
+use Rattle.infer.proofs.KnownLemmas.{Known, proved, is, is_proved, proof_of, same, at_most, negated, both, either, each_before, needs, takes, ◌>>=◌}
 use Rattle.infer.proofs.OrderLemmas.{known_first, some_row}
 use Rattle.infer.proofs.PlaceLemmas.{ByPlace, not_both}
+use Rattle.infer.proofs.PlaceLemmas as Place
 use Rattle.infer.proofs.TableLemmas.{length-table}
 use Rattle.infer.proofs.TestLemmas.{NoneRefused, passed}
 
@@ -57,17 +62,18 @@ differs i (Some j) = do
   proved (λ e. other (same_Some j i e))
 
 module _ (by_place : ByPlace) (exclude : Deep.Apart) where
-  abbrev breaks_with : (i : ℕ) (o : Option ℕ) (b : List ℕ) → Known (Breaks i b)
-  breaks_with i o b = do
+  abbrev breaks_with : (n i : ℕ) (o : Option ℕ) (b : List ℕ) → Known (Breaks n i b)
+  breaks_with n i o b = do
     bytes ← takes (each_before (λ x. at_most (suc x) 256) b (length b) (le_refl (length b)))
+    long ← takes (at_most (suc n) (length b))
     first ← takes (known_first by_place exclude some_row (Some i) b)
-    front_first ← takes (known_first by_place exclude some_row o (take 1024 b))
+    front_first ← takes (known_first by_place exclude some_row o (take n b))
     other ← takes (differs i o)
-    proved (record { bytes = λ k d lt. bytes k d zero-le lt; first = first; front = o; front_first = front_first; other = other })
+    proved (record { bytes = λ k d lt. bytes k d zero-le lt; long = long; first = first; front = o; front_first = front_first; other = other })
 
   -- the row is not one of the twelve, or its late buffer breaks
-  abbrev breaks : (i : ℕ) → Known (IsTrue (not (is_of_the_twelve i)) ⊎ Breaks i (late (signature_of i)).0)
-  breaks i = either (is (not (is_of_the_twelve i))) (breaks_with i (late (signature_of i)).1 (late (signature_of i)).0)
+  abbrev breaks : (i : ℕ) → Known (IsTrue (not (is_of_the_twelve i)) ⊎ Breaks 1024 i (late (signature_of i)).0)
+  breaks i = either (is (not (is_of_the_twelve i))) (breaks_with 1024 i (late (signature_of i)).1 (late (signature_of i)).0)
 
   all_break : NoneRefused (λ i. is_proved (breaks i)) ROW_COUNT 0 8
   unfolding table is_of_the_twelve signature_of stands le16 le32 be32
@@ -80,8 +86,94 @@ module _ (by_place : ByPlace) (exclude : Deep.Apart) where
     | inr over ↦ absurd (let none = rw (slice_get_past table i (omega (arith, length-table))) at e in cc)
   ]
 
-  pub broken : (i : ℕ) → IsTrue (is_of_the_twelve i) → (buf : List ℕ) × Breaks i buf
+  pub broken : (i : ℕ) → IsTrue (is_of_the_twelve i) → (buf : List ℕ) × Breaks 1024 i buf
   broken i e = elim (proof_of (breaks i) (passed (λ j. is_proved (breaks j)) ROW_COUNT 8 all_break (omega arith) i (twelve_within i e))) [
     | inl other ↦ absurd (not_both (is_of_the_twelve i) e other)
     | inr h ↦ ((late (signature_of i)).0, h)
   ]
+
+-- ---- how a buffer begins
+
+module _ (by_place : ByPlace) (b : List ℕ) where
+  abbrev occurs : (p : ℕ) (t : List ℕ) → Known (OccursAt b t p)
+  occurs p t = Place.occurs by_place t b p
+
+  abbrev known_mark : Known (BeginsMarked b)
+  known_mark = do
+    some ← needs (either (occurs 0 (0xEF ∷ 0xBB ∷ 0xBF ∷ [])) (either (occurs 0 (0xFE ∷ 0xFF ∷ [])) (occurs 0 (0xFF ∷ 0xFE ∷ []))))
+        (λ (m, is, o). elim is [
+          | inl e ↦ inl (subst (λ w. OccursAt b w 0) e o)
+          | inr (inl e) ↦ inr (inl (subst (λ w. OccursAt b w 0) e o))
+          | inr (inr e) ↦ inr (inr (subst (λ w. OccursAt b w 0) e o))
+        ])
+    proved (elim some [ inl o ↦ (_, inl refl, o) | inr (inl o) ↦ (_, inr (inl refl), o) | inr (inr o) ↦ (_, inr (inr refl), o) ])
+
+  abbrev begins : (how : Beginning) → Known (Begins how b)
+  begins open_box = do
+    kind ← needs (occurs 4 (codes "ftyp")) (λ h. h.kind)
+    longer ← needs (at_most (suc (length b)) (be32 b 0)) (λ h. h.longer)
+    proved (record { kind = kind; longer = longer })
+  begins compound = occurs 0 compound_header
+  begins archive =
+      both (occurs 0 zip_header) (either (occurs 30 (codes "[Content_Types].xml")) (either (occurs 30 (codes "_rels/.rels")) (occurs 30 (codes "docProps"))))
+  begins frame = do
+    low ← needs (at_most 0x50 (get_or b 0 0)) (λ h. h.low)
+    high ← needs (at_most (get_or b 0 0) 0x5F) (λ h. h.high)
+    number ← needs (occurs 1 (0x2A ∷ 0x4D ∷ 0x18 ∷ [])) (λ h. h.mark)
+    proved (record { low = low; high = high; mark = number })
+  begins white =
+      let x = get_or b 0 0 in either (same x 0x09) (either (same x 0x0A) (either (same x 0x0C) (either (same x 0x0D) (same x 0x20))))
+  begins mark = known_mark
+
+  abbrev excluded : (how other : Beginning) → Known (Begins other b → other ≡ how)
+  excluded open_box open_box = proved (λ h. refl)
+  excluded compound compound = proved (λ h. refl)
+  excluded archive archive = proved (λ h. refl)
+  excluded frame frame = proved (λ h. refl)
+  excluded white white = proved (λ h. refl)
+  excluded mark mark = proved (λ h. refl)
+  excluded how other = do
+    none ← takes (negated (begins other))
+    proved (λ h. absurd (none h))
+
+  -- a claim of every beginning
+  abbrev of_each : {P : Beginning → Type 0} → ((how : Beginning) → Known (P how)) → Known ((how : Beginning) → P how)
+  of_each k = do
+    box ← takes (k open_box)
+    file ← takes (k compound)
+    entry ← takes (k archive)
+    skipped ← takes (k frame)
+    blank ← takes (k white)
+    marked ← takes (k mark)
+    proved (elim [ open_box ↦ box | compound ↦ file | archive ↦ entry | frame ↦ skipped | white ↦ blank | mark ↦ marked ])
+
+-- a buffer that begins so alone, to which bytes behind the first 1024 bring the last row that can come
+abbrev late_after : Beginning → List ℕ × Option ℕ
+late_after mark = (behind 512 wide_mark (sample_of xml), None)
+late_after how = late (signature_of (last_after how))
+
+-- one that its 1024th byte decides, and that states no frame which would fit
+abbrev late_by_one : List ℕ
+late_by_one = put 1020 (codes "%PDF") (put 7 (0xFF ∷ []) (zeros 1024))
+
+module _ (by_place : ByPlace) (exclude : Deep.Apart) where
+  abbrev brought : (how : Beginning) → Known (Breaks 1024 (last_after how) (late_after how).0 × BeginsAlone how (take 1024 (late_after how).0))
+  brought how =
+      let b = (late_after how).0 in let front = take 1024 b in
+      both (breaks_with by_place exclude 1024 (last_after how) (late_after how).1 b)
+      (both (begins by_place front how) (of_each by_place front (excluded by_place front how)))
+
+  pub brought_alone : (how : Beginning) → (buf : List ℕ) × Breaks 1024 (last_after how) buf × BeginsAlone how (take 1024 buf)
+  unfolding table signature_of stands le16 le32 be32
+  brought_alone how =
+      let h = proof_of (of_each by_place [] brought) refl how in ((late_after how).0, h.0, h.1)
+
+  pub by_one_byte : (i : ℕ) × (buf : List ℕ) × (length buf ≡ 1024) × Breaks 1023 i buf × ((how : Beginning) → ¬ Begins how (take 1023 buf))
+  unfolding table signature_of stands le16 le32 be32
+  by_one_byte = (
+    PDF,
+    late_by_one,
+    refl,
+    proof_of (breaks_with by_place exclude 1023 PDF None late_by_one) refl,
+    proof_of (of_each by_place [] (λ how. negated (begins by_place (take 1023 late_by_one) how))) refl,
+  )

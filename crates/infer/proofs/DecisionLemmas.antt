@@ -37,6 +37,10 @@ skips P n word rest b h e = record { words = replicate n word; each = each_word 
 abbrev pub space : List ℕ
 space = 0x20 ∷ []
 
+-- a byte order mark
+abbrev pub wide_mark : List ℕ
+wide_mark = 0xFE ∷ 0xFF ∷ []
+
 -- a frame of 1028 bytes
 abbrev pub long_frame : List ℕ
 long_frame = 0x50 ∷ 0x2A ∷ 0x4D ∷ 0x18 ∷ 0xFC ∷ 0x03 ∷ 0x00 ∷ 0x00 ∷ [] ++ replicate 1020 0x00
@@ -55,6 +59,11 @@ pub spaced_xml : (n : ℕ) (b : List ℕ) → b ≡ behind n space (codes "<?xml
 spaced_xml n b e =
     let unmarked : SkipsTo IsMark (codes "<?xml") (codes "<?xml") = record { words = []; each = tt; whole = refl } in
     (codes "<?xml", codes "<?xml", spaced n (codes "<?xml") b e, unmarked, record { word = codes "<?xml"; rest = []; same = refl; whole = refl })
+
+pub marked_xml : (n : ℕ) (b : List ℕ) → b ≡ behind n wide_mark (codes "<?xml") → IsXml b
+marked_xml n b e =
+    let unspaced : SkipsTo IsSpace b b = record { words = []; each = tt; whole = refl } in
+    (b, codes "<?xml", unspaced, skips IsMark n wide_mark (codes "<?xml") b (inr (inl refl)) e, record { word = codes "<?xml"; rest = []; same = refl; whole = refl })
 
 -- a byte that is "<" in some case
 abbrev is_opening : ℕ → Bool
@@ -192,7 +201,9 @@ module _ (by_place : ByPlace) (b : List ℕ) where
 
   abbrev pub known : (s : BuiltIn) → Known (IsAccepted s b)
   known (fixed alternatives) = is (accepts alternatives b)
-  known pdf = stands_by 0 1024 (codes "%PDF")
+  known pdf = do
+    stands_by 0 1024 (codes "%PDF")
+    stands_by 1020 1024 (codes "%PDF")
   known (matroska t) = do
     long ← needs (at_most 257 (length b)) (λ h. h.0)
     begins ← needs (occurs 0 (0x1A ∷ 0x45 ∷ 0xDF ∷ 0xA3 ∷ [])) (λ h. h.1)
@@ -227,5 +238,5 @@ module _ (by_place : ByPlace) (b : List ℕ) where
     proved (spaced_html (length b - 3) b equal)
   known xml = do
     some ← needs (is (list_any is_opening b)) (xml_opens b)
-    equal ← takes (same_text b (behind (length b - 5) space (codes "<?xml")))
-    proved (spaced_xml (length b - 5) b equal)
+    (do equal ← takes (same_text b (behind (length b - 5) space (codes "<?xml"))); proved (spaced_xml (length b - 5) b equal))
+    (do equal ← takes (same_text b (behind ((length b - 5) / 2) wide_mark (codes "<?xml"))); proved (marked_xml ((length b - 5) / 2) b equal))

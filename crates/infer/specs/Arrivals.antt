@@ -1,5 +1,5 @@
 -- What more bytes can bring to a buffer of at least 1024 bytes.
-use Rattle.std.specs.Prelude.{◌<◌, ◌≤◌, ◌⊎◌, ℕ, List, ◌++◌, length}
+use Rattle.std.specs.Prelude.{◌≡◌, ◌<◌, ◌≤◌, ◌⊎◌, ℕ, List, ◌++◌, length}
 use Rattle.infer_deep.specs.Brands.{IsOpenBox}
 use Rattle.infer_deep.specs.ClassId.{BeginsCompound}
 use Rattle.infer_deep.specs.Frames.{BeginsFrame}
@@ -9,35 +9,65 @@ use Rattle.infer.specs.BuiltIn.{BuiltIn, fixed, avif, doc, framed, heif, html, m
 use Rattle.infer.specs.Table.{signature_of}
 use Rattle.infer.specs.declared.table.rows.TheConstants.{AVIF, LZ4, PPT, PPTX, ROW_COUNT, XML}
 
+-- the ways in which a buffer can begin to which more bytes can bring a row
+pub data Beginning : Type 0 where
+  open_box : Beginning
+  compound : Beginning
+  archive : Beginning
+  frame : Beginning
+  white : Beginning
+  mark : Beginning
+
+abbrev pub Begins : Beginning → List ℕ → Type 0
+Begins open_box b = IsOpenBox b
+Begins compound b = BeginsCompound b
+Begins archive b = BeginsOffice b
+Begins frame b = BeginsFrame b
+Begins white b = BeginsWhite b
+Begins mark b = BeginsMarked b
+
+-- b begins so and in no other of these ways
+abbrev pub BeginsAlone : Beginning → List ℕ → Type 0
+BeginsAlone how b = Begins how b × ((other : Beginning) → Begins other b → other ≡ how)
+
+-- the number of the last row that can come after it
+abbrev pub last_after : Beginning → ℕ
+last_after open_box = AVIF
+last_after compound = PPT
+last_after archive = PPTX
+last_after frame = LZ4
+last_after white = XML
+last_after mark = XML
+
 -- how a buffer begins to which more bytes can bring the signature
 abbrev pub IsAwaited : BuiltIn → List ℕ → Type 0
 IsAwaited (fixed alternatives) b = ⊥
 IsAwaited pdf b = ⊥
 IsAwaited (matroska doc_type) b = ⊥
-IsAwaited (framed magic) b = BeginsFrame b
-IsAwaited heif b = IsOpenBox b
-IsAwaited avif b = IsOpenBox b
-IsAwaited (office folder) b = BeginsOffice b
-IsAwaited doc b = BeginsCompound b
-IsAwaited xls b = BeginsCompound b
-IsAwaited ppt b = BeginsCompound b
-IsAwaited html b = BeginsWhite b
-IsAwaited xml b = BeginsWhite b ⊎ BeginsMarked b
+IsAwaited (framed magic) b = Begins frame b
+IsAwaited heif b = Begins open_box b
+IsAwaited avif b = Begins open_box b
+IsAwaited (office folder) b = Begins archive b
+IsAwaited doc b = Begins compound b
+IsAwaited xls b = Begins compound b
+IsAwaited ppt b = Begins compound b
+IsAwaited html b = Begins white b
+IsAwaited xml b = Begins white b ⊎ Begins mark b
 
 -- the number of the last row that is awaited so
 abbrev pub last_awaited : BuiltIn → ℕ
 last_awaited (fixed alternatives) = 0
 last_awaited pdf = 0
 last_awaited (matroska doc_type) = 0
-last_awaited (framed magic) = LZ4
-last_awaited heif = AVIF
-last_awaited avif = AVIF
-last_awaited (office folder) = PPTX
-last_awaited doc = PPT
-last_awaited xls = PPT
-last_awaited ppt = PPT
-last_awaited html = XML
-last_awaited xml = XML
+last_awaited (framed magic) = last_after frame
+last_awaited heif = last_after open_box
+last_awaited avif = last_after open_box
+last_awaited (office folder) = last_after archive
+last_awaited doc = last_after compound
+last_awaited xls = last_after compound
+last_awaited ppt = last_after compound
+last_awaited html = last_after white
+last_awaited xml = last_after mark
 
 -- row i is awaited, and none of the rows after it up to the last that is awaited so accepts the buffer before and with
 -- the bytes that follow

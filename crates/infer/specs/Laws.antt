@@ -1,5 +1,5 @@
 -- Laws of the first row that accepts a buffer.
-use Rattle.std.specs.Prelude.{◌≡◌, ◌≢◌, ◌≤◌, ◌⊎◌, ℕ, Bool, false, not, List, ◌++◌, Option, None, Some, Result, length, take, IsTrue}
+use Rattle.std.specs.Prelude.{◌≡◌, ◌≢◌, ◌<◌, ◌≤◌, ◌⊎◌, ℕ, Bool, false, not, List, ◌++◌, Option, None, Some, Result, length, take, IsTrue}
 use Rattle.infer.specs.Buffer.{IsBuffer}
 use Rattle.infer.specs.Caller.{Contracts}
 use Rattle.infer.specs.First.{IsAnswer, IsFirst, IsFirstOf}
@@ -61,10 +61,11 @@ OnlyTheTwelveFollow =
     → IsFirstOf (Accepts short) table before → IsFirstOf (Accepts (short ++ more)) table after
     → (after ≡ before) ⊎ IsTrue (answers_twelve after)
 
--- the buffer has row i as its first, and its first 1024 bytes have another answer
-pub record Breaks (i : ℕ) (buf : List ℕ) : Type 0 where
+-- the buffer has row i as its first, and its first n bytes, which are not all, have another answer
+pub record Breaks (n i : ℕ) (buf : List ℕ) : Type 0 where
   pub bytes : IsBuffer buf
+  pub long : n < length buf
   pub first : IsFirst (Accepts buf) table i
   pub front : Option ℕ
-  pub front_first : IsFirstOf (Accepts (take 1024 buf)) table front
+  pub front_first : IsFirstOf (Accepts (take n buf)) table front
   pub other : front ≢ Some i

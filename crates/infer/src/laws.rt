@@ -1,11 +1,11 @@
 //! Facts about the definitions, each the contract of a function that does nothing beside, but for calls of other
 //! laws. To use a law, call it.
-ghost use Rattle.std.specs.Prelude.{◌≡◌, ◌≢◌, ◌↔◌, ◌<◌, ℕ, List, Option, [], All, IsTrue, length, map};
+ghost use Rattle.std.specs.Prelude.{◌≡◌, ◌≢◌, ◌↔◌, ◌<◌, ℕ, List, Option, [], All, IsTrue, length, map, take};
 ghost use Rattle.std.specs.List.{AllPairs, HoldsAt, filter, range_with_len};
 ghost use Rattle.infer_deep.specs.Laws.{Apart, Beginnings};
 ghost use Rattle.infer_sig.specs.App.{java, mach};
 ghost use Rattle.infer_sig.specs.Signature.{accepts};
-ghost use Rattle.infer.specs.Arrivals.{NewcomersAreAwaited};
+ghost use Rattle.infer.specs.Arrivals.{Beginning, Begins, BeginsAlone, NewcomersAreAwaited, last_after};
 ghost use Rattle.infer.specs.BuiltIn.{BuiltIn};
 ghost use Rattle.infer.specs.First.{IsFirst, IsFirstOf};
 ghost use Rattle.infer.specs.Laws.{AnswersAreNamed, AnswersAsBuiltIn, Breaks, FrontDecides, IsSteady, AnyLasts, OnlyTheTwelveFollow};
@@ -132,9 +132,13 @@ pub fn reach()
     infer_deep::laws::apart();
 }
 
-/// Each of the twelve rows is the first of some buffer whose first 1024 bytes have another answer.
+/// Each of the twelve rows is the first of some buffer whose first 1024 bytes have another answer. So is the last row
+/// that is awaited after each beginning, of a buffer that begins so alone, and some row of 1024 bytes of which the first
+/// 1023 have another answer and begin in none of these ways.
 pub fn breaks()
-    ensures { (i : ℕ) → IsTrue (is_of_the_twelve i) → (buf : List ℕ) × Breaks i buf }
+    ensures rows { (i : ℕ) → IsTrue (is_of_the_twelve i) → (buf : List ℕ) × Breaks 1024 i buf }
+    ensures beginnings { (how : Beginning) → (buf : List ℕ) × Breaks 1024 (last_after how) buf × BeginsAlone how (take 1024 buf) }
+    ensures least { (i : ℕ) × (buf : List ℕ) × (length buf ≡ 1024) × Breaks 1023 i buf × ((how : Beginning) → ¬ Begins how (take 1023 buf)) }
 {
     infer_sig::laws::by_place();
     infer_deep::laws::apart();

@@ -1,3 +1,4 @@
 pub mod KeptLemmas
 pub mod FinalLemmas
 pub mod LabelLemmas
+pub mod NeededLemmas

@@ -1,11 +1,12 @@
 -- What can be said of the answer for a buffer that may go on.
 use Rattle.std.specs.Prelude.{◌≡◌, ◌↔◌, ◌≤◌, ℕ, List, ◌++◌, Option, length, option_map}
-use Rattle.infer.specs.First.{IsAnswer, IsFirstOf}
+use Rattle.infer.specs.First.{IsAnswer, IsFirst, IsFirstOf}
 use Rattle.infer.specs.Row.{Accepts}
 use Rattle.infer.specs.Table.{table}
 use Rattle.infer.specs.Triple.{triple_of}
 use Rattle.infer.specs.declared.table.file_type.FileType.{FileType}
-use Rattle.infer_sniff.specs.Cases.{IsWithinBounds}
+use Rattle.infer_sniff.specs.Cases.{Holds, IsWithinBounds, bound}
+use Rattle.infer_sniff.specs.declared.case.Case.{Case}
 use Rattle.infer_sniff.specs.declared.verdict.Verdict.{Verdict}
 use Rattle.infer_sniff.specs.declared.verdict.Verdict.TheVariants.{SoFar, Final}
 
@@ -49,3 +50,20 @@ RowStaysFinal b row = (more : List ℕ) → IsFirstOf (Accepts (b ++ more)) tabl
 -- the verdict stays final from a beginning of the buffer on
 abbrev pub StaysFinalFromBeginning : Verdict → List ℕ → Type 0
 StaysFinalFromBeginning verdict b = (short more : List ℕ) × (b ≡ short ++ more) × StaysFinal short verdict
+
+-- the case holds of the buffer, and no other does; the buffer is not settled, and more bytes bring the last row that the
+-- case can bring, which is not the buffer's own
+pub record KeepsOpen (case : Case) (b more : List ℕ) : Type 0 where
+  pub long : 1024 ≤ length b
+  pub holds : Holds case b
+  pub alone : (other : Case) → Holds other b → other ≡ case
+  pub unsettled : ¬ IsSettled b
+  pub own : ¬ IsFirst (Accepts b) table (bound case)
+  pub brought : IsFirst (Accepts (b ++ more)) table (bound case)
+
+-- no case holds of the buffer, which has 1023 bytes, and one byte more changes its first row
+pub record IsOneShort (b more : List ℕ) : Type 0 where
+  pub short : length b ≡ 1023
+  pub one : length more ≡ 1
+  pub none : (case : Case) → ¬ Holds case b
+  pub changes : (row : Option ℕ) → IsFirstOf (Accepts b) table row → ¬ IsFirstOf (Accepts (b ++ more)) table row

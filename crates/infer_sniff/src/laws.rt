@@ -1,10 +1,11 @@
 //! What holds of verdicts whatever the bytes are.
 ghost use Rattle.std.specs.Prelude.{◌≡◌, ℕ, List, ◌++◌};
 ghost use Rattle.infer.specs.Buffer.{head};
-ghost use Rattle.infer_sniff.specs.Verdicts.{AreAlike, IsVerdict};
+ghost use Rattle.infer_sniff.specs.Verdicts.{AreAlike, IsOneShort, IsVerdict, KeepsOpen};
+ghost use Rattle.infer_sniff.specs.declared.case.Case.{Case};
 ghost use Rattle.infer_sniff.specs.declared.verdict.Verdict.{Verdict};
 
-use infer::FRONT;
+use infer::{FRONT, laws, rows};
 
 /// Pieces may be cut in any way: what is kept after two pushes is what is kept after one of both pieces joined, and
 /// one buffer has one verdict.
@@ -12,3 +13,17 @@ pub fn cuts()
     ensures joined { (kept a b : List ℕ) → head FRONT (head FRONT (kept ++ a) ++ b) ≡ head FRONT (kept ++ (a ++ b)) }
     ensures one_verdict { (b : List ℕ) (v w : Verdict) → IsVerdict b v → IsVerdict b w → AreAlike v w }
 {}
+
+/// Each case is needed, and so is each of the 1024 bytes. Of every case there is a buffer that it alone keeps open, and to
+/// which more bytes bring the last row that it allows; and a buffer of 1023 bytes, of which no case holds, gets another
+/// row by one byte more.
+pub fn needed()
+    ensures cases { (case : Case) → (b more : List ℕ) × KeepsOpen case b more }
+    ensures least { (b more : List ℕ) × IsOneShort b more }
+{
+    rows::numbers();
+    laws::growth();
+    laws::arrival();
+    laws::single();
+    laws::breaks();
+}

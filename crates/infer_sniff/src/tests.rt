@@ -1,9 +1,10 @@
 //! Verdicts on worked streams.
-ghost use Rattle.std.specs.Prelude.{◌≡◌, ◌++◌};
+ghost use Rattle.std.specs.Prelude.{◌≡◌, ◌++◌, ℕ, List};
 ghost use Rattle.infer.specs.Buffer.{head};
-ghost use Rattle.infer_sniff.specs.Verdicts.{IsVerdict};
+ghost use Rattle.infer_sniff.specs.Verdicts.{IsVerdict, KeepsOpen};
 
-use crate::laws::cuts;
+use crate::case::Case;
+use crate::laws::{cuts, needed};
 use crate::{Sniffer, Verdict, label};
 use infer::{FRONT, Type, Watched};
 use linked_list_allocator::LocalHeap;
@@ -261,6 +262,18 @@ fn a_cut_changes_nothing(rt: HostRuntime) -> Result<(), Fail> {
         }
     }
     Ok(())
+}
+
+/// Some buffer is kept open by the case of marks alone.
+fn open_by_a_mark()
+    ensures { (b more : List ℕ) × KeepsOpen Case.Mark b more }
+{
+    needed();
+}
+
+#[test]
+fn marks_are_needed() {
+    open_by_a_mark();
 }
 
 #[test]

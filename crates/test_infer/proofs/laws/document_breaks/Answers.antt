@@ -7,7 +7,7 @@ use Rattle.test_infer.proofs.laws.document_breaks.Goals as goal
 pub returns : goal.returns
 unfolding is_of_the_twelve signature_of table
 returns c =
-    let found = c.breaks.ensures DOC refl in (
+    let found = c.breaks.ensures.rows DOC refl in (
       found.0,
       found.1.first,
       λ first.

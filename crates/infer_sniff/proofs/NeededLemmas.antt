@@ -1,0 +1,56 @@
+-- A buffer for each case that it alone keeps open, and one that is a byte too short.
+use Rattle.std.proofs.Common.{◌≡◌, ℕ, List, ◌++◌, length, take, drop, Option, Some, sym, subst, ap, ◌∙◌, arith, refl, length-append}
+use Rattle.std.proofs.lemmas.List.{length-take-le, take-append-drop}
+use Rattle.infer.specs.Arrivals.{Beginning, Begins, BeginsAlone, archive, compound, frame, mark, open_box, white}
+use Rattle.infer.specs.First.{IsFirst, IsFirstOf}
+use Rattle.infer.specs.Laws.{Breaks}
+use Rattle.infer.specs.Row.{Accepts}
+use Rattle.infer.specs.Table.{table}
+use Rattle.infer_sniff.specs.Cases.{beginning_of, bound}
+use Rattle.infer_sniff.specs.Verdicts.{IsOneShort, IsSettled, KeepsOpen, RowStaysFinal}
+use Rattle.infer_sniff.specs.declared.case.Case.{Case}
+use Rattle.infer_sniff.specs.declared.case.Case.TheVariants.{OpenBox, Compound, Office, Frame, Space, Mark}
+
+abbrev case_of : Beginning → Case
+case_of = elim [ open_box ↦ OpenBox | compound ↦ Compound | archive ↦ Office | frame ↦ Frame | white ↦ Space | mark ↦ Mark ]
+
+is_own : (case : Case) → case_of (beginning_of case) ≡ case
+is_own = elim [ OpenBox ↦ refl | Compound ↦ refl | Office ↦ refl | Frame ↦ refl | Space ↦ refl | Mark ↦ refl ]
+
+module _ (single : (b : List ℕ) (o p : Option ℕ) → IsFirstOf (Accepts b) table o → IsFirstOf (Accepts b) table p → o ≡ p) where
+  module _ (n i : ℕ) (buf : List ℕ) (h : Breaks n i buf) where
+    whole : take n buf ++ drop n buf ≡ buf
+    whole = take-append-drop n buf
+
+    short : length (take n buf) ≡ n
+    short = length-take-le n buf (let l = h.long in omega arith)
+
+    brought : IsFirst (Accepts (take n buf ++ drop n buf)) table i
+    brought = subst (λ b. IsFirst (Accepts b) table i) (sym whole) h.first
+
+    changed : (row : Option ℕ) → IsFirstOf (Accepts (take n buf)) table row → ¬ IsFirstOf (Accepts (take n buf ++ drop n buf)) table row
+    changed row before after =
+        h.other (single (take n buf) h.front row h.front_first before ∙ single (take n buf ++ drop n buf) row (Some i) after brought)
+
+  pub one_short : (i : ℕ) (buf : List ℕ) → length buf ≡ 1024 → Breaks 1023 i buf → ((how : Beginning) → ¬ Begins how (take 1023 buf))
+      → IsOneShort (take 1023 buf) (drop 1023 buf)
+  one_short i buf long h none = record {
+    short = short 1023 i buf h;
+    one = (let e = ap length (whole 1023 i buf h) in omega (arith, e, long, length-append (take 1023 buf) (drop 1023 buf), short 1023 i buf h));
+    none = λ case. none (beginning_of case);
+    changes = changed 1023 i buf h;
+  }
+
+  pub kept_open : ((b : List ℕ) (row : Option ℕ) → IsFirstOf (Accepts b) table row → IsSettled b → RowStaysFinal b row) → (case : Case) (buf : List ℕ)
+      → Breaks 1024 (bound case) buf → BeginsAlone (beginning_of case) (take 1024 buf) → KeepsOpen case (take 1024 buf) (drop 1024 buf)
+  kept_open stays case buf h alone =
+      let b = take 1024 buf in
+      let other = changed 1024 (bound case) buf h in
+      record {
+        long = (let e = short 1024 (bound case) buf h in omega arith);
+        holds = alone.0;
+        alone = λ other held. sym (is_own other) ∙ ap case_of (alone.1 (beginning_of other) held) ∙ is_own case;
+        unsettled = λ settled. other h.front h.front_first (stays b h.front h.front_first settled (drop 1024 buf)).0;
+        own = λ first. h.other (single b h.front (Some (bound case)) h.front_first first);
+        brought = brought 1024 (bound case) buf h;
+      }

@@ -1,0 +1,19 @@
+use Rattle.std.proofs.Common.{take, drop}
+use Rattle.infer_sniff.proofs.FinalLemmas.{first-stays}
+use Rattle.infer_sniff.proofs.NeededLemmas.{kept_open, one_short}
+use Rattle.infer_sniff.specs.Cases.{beginning_of}
+use Rattle.infer_sniff.proofs.laws.needed.Goals as goal
+
+pub returns-clause-cases : goal.returns-clause-cases
+returns-clause-cases c case =
+    let found = c.breaks.ensures.beginnings (beginning_of case) in (
+      take 1024 found.0,
+      drop 1024 found.0,
+      kept_open c.single.ensures (first-stays c.numbers.ensures.many c.growth.ensures.every c.arrival.ensures.awaited c.arrival.ensures.early)
+          case found.0 found.1 found.2,
+    )
+
+pub returns-clause-least : goal.returns-clause-least
+returns-clause-least c =
+    let found = c.breaks.ensures.least in
+    (take 1023 found.1, drop 1023 found.1, one_short c.single.ensures found.0 found.1 found.2 found.3 found.4)
