@@ -17,7 +17,7 @@ ghost use Rattle.infer.specs.Table.{table};
 ghost use Rattle.infer.specs.Triple.{triple_of};
 
 use crate::caller::infer::Infer;
-use crate::table::file_type::FileType;
+use crate::table::file_type::{FileType, MatcherType};
 pub use crate::table::leads::{blank, leads};
 use crate::table::rows::{DLL, EPUB_ARCHIVE, MATCHER_COUNT, ROW_COUNT};
 use std::alloc::Allocator;
@@ -25,6 +25,13 @@ use std::alloc::Allocator;
 /// `a == b`, which compares the class, the MIME type and the extension of two types.
 pub fn equal(a: &FileType, b: &FileType) -> bool
     ensures { IsTrue result ↔ (triple_of a.now ≡ triple_of b.now) }
+{
+    a == b
+}
+
+/// `a == b` of two classes.
+pub fn equal_classes(a: &MatcherType, b: &MatcherType) -> bool
+    ensures { IsTrue result ↔ (a.now ≡ b.now) }
 {
     a == b
 }

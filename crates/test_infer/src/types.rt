@@ -41,6 +41,20 @@ const ANSWERS: [(&[u8], (&str, &str)); 23] = [
     (b"AC1035", ("image/vnd.dwg", "dwg")),
 ];
 
+/// Each class, and what it prints.
+const CLASSES: [(MatcherType, &str); 10] = [
+    (MatcherType::App, "App"),
+    (MatcherType::Archive, "Archive"),
+    (MatcherType::Audio, "Audio"),
+    (MatcherType::Book, "Book"),
+    (MatcherType::Doc, "Doc"),
+    (MatcherType::Font, "Font"),
+    (MatcherType::Image, "Image"),
+    (MatcherType::Text, "Text"),
+    (MatcherType::Video, "Video"),
+    (MatcherType::Custom, "Custom"),
+];
+
 #[test]
 fn answers(rt: HostRuntime) {
     for (i, (buf, (mime_type, extension))) in ANSWERS.iter().enumerate() {
@@ -109,6 +123,31 @@ fn equality(rt: HostRuntime) -> Result<(), Fail> {
     Ok(())
 }
 
+fn class_cloned(class: &MatcherType) -> Result<MatcherType, AllocError>
+    ensures { IfOk result (λ copy. copy ≡ class.now) }
+{
+    class.clone()
+}
+
+fn equal_after_class_clone(class: &MatcherType) -> Result<bool, AllocError>
+    ensures { IfOk result (λ same. IsTrue same) }
+{
+    let copy = class_cloned(class)?;
+    Ok(laws::equal_classes(&copy, class))
+}
+
+#[test]
+fn equality_of_classes(rt: HostRuntime) -> Result<(), Fail> {
+    for (i, (a, _)) in CLASSES.iter().enumerate() {
+        assert!(rt; equal_after_class_clone(a)?, "{a:?}");
+        for (j, (b, _)) in CLASSES.iter().enumerate() {
+            assert_eq!(rt; *a == *b, i == j, "{a:?} and {b:?}");
+            assert_eq!(rt; laws::equal_classes(a, b), i == j, "{a:?} and {b:?}");
+        }
+    }
+    Ok(())
+}
+
 #[test]
 fn texts_of_a_type(rt: HostRuntime) -> Result<(), Fail> {
     let t = get(&JPEG).ok_or("known")?;
@@ -143,21 +182,8 @@ fn texts_of_a_type(rt: HostRuntime) -> Result<(), Fail> {
 
 #[test]
 fn texts_of_classes(rt: HostRuntime) -> Result<(), Fail> {
-    let classes = [
-        (MatcherType::App, "App"),
-        (MatcherType::Archive, "Archive"),
-        (MatcherType::Audio, "Audio"),
-        (MatcherType::Book, "Book"),
-        (MatcherType::Doc, "Doc"),
-        (MatcherType::Font, "Font"),
-        (MatcherType::Image, "Image"),
-        (MatcherType::Text, "Text"),
-        (MatcherType::Video, "Video"),
-        (MatcherType::Custom, "Custom"),
-    ];
-    for (class, text) in classes {
-        assert_eq!(rt; format!(in rt.alloc(); "{class:?}")?.as_str(), text);
-        assert_eq!(rt; class == MatcherType::Image, text == "Image");
+    for (class, text) in &CLASSES {
+        assert_eq!(rt; format!(in rt.alloc(); "{class:?}")?.as_str(), *text);
     }
     Ok(())
 }
