@@ -269,20 +269,40 @@ fn memory_for_a_run(rt: HostRuntime) -> Result<(), Fail> {
     Ok(())
 }
 
+/// The status of a run through buffers for lines that are taken from a heap of that size, and its two writers.
+fn through_lines<R: Files + AllocGlobal + Abort>(
+    rt: &R,
+    size: usize,
+    words: &[String],
+) -> Result<(u8, PieceWriter, PieceWriter), AllocError> {
+    let heap = LocalHeap::new(rt.alloc(), size)?;
+    let (mut out, mut err) = (PieceWriter::new(512), PieceWriter::new(512));
+    let outcome = run_lines(rt, &heap, words, b"".as_slice(), &mut out, &mut err);
+    assert_eq!(rt; heap.used(), 0);
+    Ok((outcome.status(), out, err))
+}
+
+/// Both buffers are refused, that of `out` alone, and none.
 #[test]
 fn a_refused_line_buffer_is_done_without(rt: HostRuntime) -> Result<(), Fail> {
-    let words = [
+    let none = [
         String::from_str(rt.alloc(), "--sample")?,
         String::from_str(rt.alloc(), "dll")?,
     ];
-    for (size, is_one_write) in [(4096, false), (65536, true)] {
-        let heap = LocalHeap::new(rt.alloc(), size)?;
-        let (mut out, mut err) = (PieceWriter::new(512), PieceWriter::new(512));
-        let outcome = run_lines(&rt, &heap, &words, b"".as_slice(), &mut out, &mut err);
-        assert_eq!(rt; outcome.status(), 2);
+    let one = [
+        String::from_str(rt.alloc(), "--sample")?,
+        String::from_str(rt.alloc(), "html")?,
+    ];
+    for (size, is_one_write) in [(4096, false), (12288, true), (65536, true)] {
+        let (status, out, err) = through_lines(&rt, size, &none)?;
+        assert_eq!(rt; status, 2);
+        assert!(rt; out.taken().is_empty());
         assert_eq!(rt; err.taken(), b"dll: no sample\n".as_slice());
         assert_eq!(rt; err.writes == 1, is_one_write, "{size} bytes");
-        assert_eq!(rt; heap.used(), 0);
+        let (status, out, err) = through_lines(&rt, size, &one)?;
+        assert_eq!(rt; status, 0);
+        assert_eq!(rt; out.taken(), b"<P>".as_slice(), "{size} bytes");
+        assert!(rt; err.taken().is_empty());
     }
     Ok(())
 }
