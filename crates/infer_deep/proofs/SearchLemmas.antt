@@ -1,5 +1,5 @@
 -- What a comparison, a search of a part and a look at blocks tell of a buffer.
-use Rattle.std.proofs.Common.{◌≡◌, ℕ, ◌+◌, ◌-◌, ◌*◌, ◌<◌, ◌≤◌, Bool, true, List, Option, length, get_or, Some, None, inl, inr, take, drop, min, ap, subst, sym, ◌∙◌, arith, length-drop}
+use Rattle.std.proofs.Common.{◌≡◌, ℕ, ◌+◌, ◌-◌, ◌<◌, ◌≤◌, Bool, true, List, Option, length, get_or, Some, None, inl, inr, take, drop, min, ap, subst, sym, ◌∙◌, arith, length-drop}
 use Rattle.std.proofs.lemmas.List.{take_rest}
 use Rattle.std.proofs.lemmas.List.Prefix.{at_reads, at_from_reads, front_fits}
 use Rattle.std.proofs.lemmas.Slice.Eq.{starts_is}
@@ -54,13 +54,12 @@ pair_in_part b x y s e p low high (first, second) =
       part_reads b s e (p - s + 1) (omega arith) ∙ ap (λ i. get_or b i 0) next ∙ second,
     )
 
--- one more block of 128 places that lack the pair, which overlaps those before where the buffer ends
-pub lacks_more : (b : List ℕ) (x y k at : ℕ) → at ≡ min (128 * k) (length b - 129) → 129 ≤ length b
-    → LacksPair x y b (min (128 * k) (length b - 1)) → LacksPair x y (take (at + 129 - at) (drop at b)) 128
-    → LacksPair x y b (min (128 * (k + 1)) (length b - 1))
-lacks_more b x y k at is long before lacks p lt pair =
-    elim (cases_lt p (128 * k)) [
-      | inl l ↦ before p (omega arith) pair
+-- one more block of 128 places that lack the pair, which may overlap those before
+pub lacks_more : (b : List ℕ) (x y n at m : ℕ) → at ≤ n → m ≤ at + 128
+    → LacksPair x y b n → LacksPair x y (take (at + 129 - at) (drop at b)) 128 → LacksPair x y b m
+lacks_more b x y n at m le reach before lacks p lt pair =
+    elim (cases_lt p n) [
+      | inl l ↦ before p l pair
       | inr l ↦ lacks (p - at) (omega arith) (pair_in_part b x y at (at + 129) p (omega arith) (omega arith) pair)
     ]
 
@@ -77,8 +76,22 @@ module _ (b text : List ℕ) (rare start end m n : ℕ) (two : rare + 2 ≤ leng
       lacks (q + rare - (start + rare)) (omega arith)
       (pair_in_part b _ _ (start + rare) m (q + rare) (omega arith) (omega arith) (w.stands.reads rare (omega arith), second))
 
-  pub IsFirstWithin-later : (r : Option ℕ) → IsFirstWithin b text (start + n) end r → IsFirstWithin b text start end r
-  IsFirstWithin-later r h = IsFirstWithin-skip b text start (start + n) end (omega arith) none_before r h
+  pub first_later : (r : Option ℕ) → IsFirstWithin b text (start + n) end r → IsFirstWithin b text start end r
+  first_later r h = IsFirstWithin-skip b text start (start + n) end (omega arith) none_before r h
+
+  -- it does not fit there, or stands there, or the search may begin behind that place too
+  pub none_fits : (m - start - n < length text) → IsFirstWithin b text start end None
+  none_fits short = first_later None (λ p w. let low = w.low in let high = w.high in let fits = w.stands.fits in omega arith)
+
+  pub first_here : (start + n + length text ≤ m) → OccursAt b text (start + n) → IsFirstWithin b text start end (Some (start + n))
+  first_here fits o = first_later (Some (start + n))
+      (record { here = record { stands = o; low = omega arith; high = omega arith }; before = λ q lt w. let low = w.low in omega arith })
+
+  pub first_past : (r : Option ℕ) → ¬ OccursAt b text (start + n)
+      → IsFirstWithin b text (start + n + 1) end r → IsFirstWithin b text start end r
+  first_past r absent h =
+      first_later r (IsFirstWithin-skip b text (start + n) (start + n + 1) end (omega arith) (λ q lt w.
+      let low = w.low in let same : q ≡ start + n = omega arith in absent (subst (OccursAt b text) same w.stands)) r h)
 
 -- what a search for a pair of bytes of the text in the part from `from` on says, where the text stands nowhere before
 module _ (b text : List ℕ) (start from end m : ℕ) (is : m ≡ min end (length b)) (l : from ≤ m) (low : start ≤ from)

@@ -1,17 +1,21 @@
 //! Archives and documents in one file.
-ghost use Rattle.std.specs.Prelude.{◌↔◌, ◌<◌, length, slice_index, IsTrue, MatchOption};
+ghost use Rattle.std.specs.Prelude.{◌↔◌, ◌<◌, slice_index, IsTrue, MatchOption};
 ghost use Rattle.infer_deep.specs.Joined.{BeginsWith, NoneBegins, SkipsTo};
 ghost use Rattle.infer_deep.specs.Frames.{IsFrame, IsFramed, IsLz4, IsZst};
 ghost use Rattle.infer_deep.specs.Windows.{IsPdf};
 
 use crate::numbers::le32;
-use crate::places::{stands_at, stands_by};
+use crate::places::{find, has_at, stands_in};
 
 /// PDF: "%PDF" somewhere in the first 1024 bytes.
+#[tactic(auto, using(crate::proofs::WindowLemmas::found_stands))]
 pub fn is_pdf(buf: &[u8]) -> bool
     ensures { IsTrue result ↔ IsPdf buf.now }
 {
-    stands_by(buf, b"%PDF", 0, 1024)
+    if buf.len() < 32 {
+        return stands_in(buf, b"%PDF");
+    }
+    find(buf, b"%PDF", 0, 0, 1024).is_some()
 }
 
 /// Zstandard: some skippable frames of RFC 8878, perhaps none, then 28 B5 2F FD.
@@ -40,12 +44,11 @@ pub fn after_skippable_frames(buf: &[u8]) -> &[u8]
     after_frames(buf)
 }
 
-fn is_framed(buf: &[u8], magic: &[u8]) -> bool
-    requires some { 0 < length magic.now }
-    requires no_frame { slice_index magic.now 0 < 0x50 }
+fn is_framed(buf: &[u8], magic: &[u8; 4]) -> bool
+    requires { slice_index magic.now 0 < 0x50 }
     ensures { IsTrue result ↔ IsFramed magic.now buf.now }
 {
-    stands_at(after_frames(buf), magic, 0)
+    has_at(after_frames(buf), magic, 0)
 }
 
 /// What follows the skippable frames at the front of `buf`. Each takes at least 8 bytes away.
@@ -65,7 +68,7 @@ fn after_frames(mut buf: &[u8]) -> &[u8]
 fn after_frame(buf: &[u8]) -> Option<&[u8]>
     ensures { MatchOption result (NoneBegins IsFrame buf.now) (λ rest. BeginsWith IsFrame buf.now rest.now) }
 {
-    if buf.len() < 8 || !(0x50..=0x5F).contains(&buf[0]) || !stands_at(buf, b"\x2A\x4D\x18", 1) {
+    if buf.len() < 8 || !(0x50..=0x5F).contains(&buf[0]) || !has_at(buf, b"\x2A\x4D\x18", 1) {
         return None;
     }
     let end = 8 + le32(buf, 4) as usize;

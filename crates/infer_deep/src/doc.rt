@@ -6,7 +6,7 @@ ghost use Rattle.infer_deep.specs.ClassId.{HasClassId, IsDoc, IsPpt, IsRoot, IsX
 ghost use Rattle.infer_deep.specs.Office.{HasFolder, HasOfficeName, IsDecidingHeader, IsDecidingPlace, IsDocx, IsOffice, IsPptx, IsThirdHeader, IsXlsx, zip_header};
 
 use crate::numbers::{le16, le32};
-use crate::places::{find, stands_at};
+use crate::places::{find, has_at};
 
 const WORD_ID: [u8; 16] = *b"\x06\x09\x02\x00\x00\x00\x00\x00\xC0\x00\x00\x00\x00\x00\x00\x46";
 
@@ -65,11 +65,11 @@ pub fn is_pptx(buf: &[u8]) -> bool
     is_office(buf, b"ppt/")
 }
 
-fn has_class_id(buf: &[u8], id: &[u8]) -> bool
+fn has_class_id(buf: &[u8], id: &[u8; 16]) -> bool
     ensures { IsTrue result ↔ HasClassId id.now buf.now }
 {
     match root_entry(buf) {
-        Some(root) => stands_at(buf, id, root + 80),
+        Some(root) => has_at(buf, id, root + 80),
         None => false,
     }
 }
@@ -79,8 +79,8 @@ fn root_entry(buf: &[u8]) -> Option<usize>
     ensures { FindsPlace (IsRoot buf.now) result }
 {
     if buf.len() < 512
-        || !stands_at(buf, b"\xD0\xCF\x11\xE0\xA1\xB1\x1A\xE1", 0)
-        || !stands_at(buf, b"\xFE\xFF", 28)
+        || !has_at(buf, b"\xD0\xCF\x11\xE0\xA1\xB1\x1A\xE1", 0)
+        || !has_at(buf, b"\xFE\xFF", 28)
     {
         return None;
     }
@@ -96,11 +96,11 @@ fn root_entry(buf: &[u8]) -> Option<usize>
     Some(root)
 }
 
-fn is_office(buf: &[u8], folder: &[u8]) -> bool
+fn is_office<const N: usize>(buf: &[u8], folder: &[u8; N]) -> bool
     ensures { IsTrue result ↔ IsOffice folder.now buf.now }
 {
     match deciding_place(buf) {
-        Some(place) => stands_at(buf, folder, place),
+        Some(place) => has_at(buf, folder, place),
         None => false,
     }
 }
@@ -123,7 +123,7 @@ pub fn deciding_folder(buf: &[u8]) -> &[u8]
 fn deciding_place(buf: &[u8]) -> Option<usize>
     ensures { FindsPlace (IsDecidingPlace buf.now) result }
 {
-    if !stands_at(buf, b"PK\x03\x04", 0) {
+    if !has_at(buf, b"PK\x03\x04", 0) {
         return None;
     }
     if has_folder(buf, 30) {
@@ -173,9 +173,7 @@ fn header_from(buf: &[u8], start: usize) -> Option<usize>
 fn has_folder(buf: &[u8], place: usize) -> bool
     ensures { IsTrue result ↔ HasFolder buf.now place }
 {
-    stands_at(buf, b"word/", place)
-        || stands_at(buf, b"ppt/", place)
-        || stands_at(buf, b"xl/", place)
+    has_at(buf, b"word/", place) || has_at(buf, b"ppt/", place) || has_at(buf, b"xl/", place)
 }
 
 /// Whether the first entry of a ZIP archive has a name that Office gives it: "[Content_Types].xml", "_rels/.rels" or
@@ -183,7 +181,7 @@ fn has_folder(buf: &[u8], place: usize) -> bool
 pub fn has_office_name(buf: &[u8]) -> bool
     ensures { IsTrue result ↔ HasOfficeName buf.now }
 {
-    stands_at(buf, b"[Content_Types].xml", 30)
-        || stands_at(buf, b"_rels/.rels", 30)
-        || stands_at(buf, b"docProps", 30)
+    has_at(buf, b"[Content_Types].xml", 30)
+        || has_at(buf, b"_rels/.rels", 30)
+        || has_at(buf, b"docProps", 30)
 }

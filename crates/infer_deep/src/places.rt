@@ -4,9 +4,9 @@ ghost use Rattle.std.specs.Bool.{OnFalse};
 ghost use Rattle.memchr.specs.Find.{OccursAt};
 ghost use Rattle.infer_deep.specs.Blocks.{LacksPair};
 ghost use Rattle.infer_deep.specs.Places.{IsFirstWithin};
-ghost use Rattle.infer_deep.specs.Windows.{StandsBy};
 
 use memchr::arch::all::packedpair;
+use memchr::arch::all::packedpair::Pair;
 use memchr::memchr;
 
 /// Whether `text` stands in `buf` from `place` on.
@@ -17,48 +17,115 @@ pub fn stands_at(buf: &[u8], text: &[u8], place: usize) -> bool
     place <= buf.len() && buf[place..].starts_with(text)
 }
 
-#[tactic(auto, using(crate::proofs::WindowLemmas::found_stands))]
-/// Whether `text` stands anywhere in `buf` and ends by `end`. The two bytes of `text` from `rare` on are rare ones.
-pub(crate) fn stands_by(buf: &[u8], text: &[u8], rare: usize, end: usize) -> bool
-    requires { rare + 2 ≤ length text.now }
-    ensures { IsTrue result ↔ StandsBy text.now end buf.now }
+/// The same for a text of a stated length, which the compiler compares by words.
+#[inline(always)]
+pub(crate) fn has_at<const N: usize>(buf: &[u8], text: &[u8; N], place: usize) -> bool
+    ensures { IsTrue result ↔ OccursAt buf.now text.now place }
 {
-    find(buf, text, rare, 0, end).is_some()
+    place <= buf.len() && N <= buf.len() - place && same_at(buf, text, place)
+}
+
+#[inline(always)]
+fn same_at<const N: usize>(buf: &[u8], text: &[u8; N], place: usize) -> bool
+    requires { place + N ≤ length buf.now }
+    ensures { IsTrue result ↔ OccursAt buf.now text.now place }
+{
+    // No early exit: of a loop whose length is known the compiler makes words.
+    let mut same = true;
+    for i in 0..N {
+        same &= buf[place + i] == text[i];
+    }
+    same
+}
+
+/// Whether `text` stands anywhere in `buf`, place by place: for a short `buf`.
+#[inline(always)]
+pub(crate) fn stands_in<const N: usize>(buf: &[u8], text: &[u8; N]) -> bool
+    requires { 0 < N }
+    ensures { IsTrue result ↔ ((p : ℕ) × OccursAt buf.now text.now p) }
+{
+    for place in 0..(buf.len() + 1).saturating_sub(N) {
+        if same_at(buf, text, place) {
+            return true;
+        }
+    }
+    false
 }
 
 /// The least place from `start` on at which `text` stands and ends by `end`.
 ///
 /// Most buffers lack the two bytes of `text` from `rare` on, which a look at whole blocks shows faster than the
-/// search.
-pub(crate) fn find(buf: &[u8], text: &[u8], rare: usize, start: usize, end: usize) -> Option<usize>
-    requires { rare + 2 ≤ length text.now }
+/// search. That is a function of its own, so that a look that finds nothing saves no registers.
+#[inline(always)]
+pub(crate) fn find<const N: usize>(
+    buf: &[u8],
+    text: &[u8; N],
+    rare: usize,
+    start: usize,
+    end: usize,
+) -> Option<usize>
+    requires long { 4 ≤ N }
+    requires pair { rare + 2 ≤ N }
     ensures { IsFirstWithin buf.now text.now start end result }
 {
     let stop = end.min(buf.len());
-    if start > stop || stop - start < text.len() {
+    if start > stop || stop - start < N {
         return None;
     }
     let free = places_free(&buf[start + rare..stop], text[rare], text[rare + 1]);
-    if stop - start - free < text.len() {
+    if stop - start - free < N {
         return None;
     }
-    search(buf, text, start + free, end)
+    search_on(buf, text, rare, start + free, end)
 }
 
-/// Whether `text` stands at `place` and ends by `stop`.
-#[inline(always)]
-fn stands_within(buf: &[u8], text: &[u8], place: usize, stop: usize) -> bool
-    requires { place ≤ stop }
-    ensures { IsTrue result ↔ (OccursAt buf.now text.now place × (place + length text.now ≤ stop)) }
+#[inline(never)]
+fn search_on<const N: usize>(
+    buf: &[u8],
+    text: &[u8; N],
+    rare: usize,
+    start: usize,
+    end: usize,
+) -> Option<usize>
+    requires long { 4 ≤ N }
+    requires pair { rare + 2 ≤ N }
+    ensures { IsFirstWithin buf.now text.now start end result }
 {
-    text.len() <= stop - place && stands_at(buf, text, place)
+    search(buf, text, rare, start, end)
 }
 
-/// The same by the two rarest bytes of `text`: where they stand, the whole of it is compared.
+/// The same by the first place of the byte of `text` at `rare`, where the whole of it mostly stands.
+#[inline(always)]
+pub(crate) fn search<const N: usize>(
+    buf: &[u8],
+    text: &[u8; N],
+    rare: usize,
+    start: usize,
+    end: usize,
+) -> Option<usize>
+    requires long { 4 ≤ N }
+    requires pair { rare + 2 ≤ N }
+    ensures { IsFirstWithin buf.now text.now start end result }
+{
+    let stop = end.min(buf.len());
+    if start > stop || stop - start < N {
+        return None;
+    }
+    let free = byte_free(&buf[start + rare..stop], text[rare], text[rare + 1]);
+    if stop - start - free < N {
+        return None;
+    }
+    if same_at(buf, text, start + free) {
+        return Some(start + free);
+    }
+    search_pairs(buf, text, start + free + 1, end)
+}
+
+/// The same by two bytes of `text`: where they stand, the whole of it is compared.
 #[tactic(auto, using(crate::proofs::SearchLemmas::first_at_pair, crate::proofs::SearchLemmas::none_past_pair, crate::proofs::SearchLemmas::none_without_pair))]
 #[inline(never)]
-fn search(buf: &[u8], text: &[u8], start: usize, end: usize) -> Option<usize>
-    requires { 2 ≤ length text.now }
+fn search_pairs(buf: &[u8], text: &[u8], start: usize, end: usize) -> Option<usize>
+    requires { 4 ≤ length text.now }
     ensures { IsFirstWithin buf.now text.now start end result }
 {
     let stop = end.min(buf.len());
@@ -66,7 +133,7 @@ fn search(buf: &[u8], text: &[u8], start: usize, end: usize) -> Option<usize>
         return None;
     }
     // The finder of `memmem` may own its text, and would bring in the heap.
-    let pair = packedpair::Finder::new(text)?;
+    let pair = packedpair::Finder::with_pair(text, Pair::with_indices(text, 0, 3)?);
     let mut from = start;
     for _turn in start..stop {
         let at = from + pair.find_prefilter(&buf[from..stop])?;
@@ -78,32 +145,65 @@ fn search(buf: &[u8], text: &[u8], start: usize, end: usize) -> Option<usize>
     None
 }
 
-/// How many places at the front of `hay` surely begin no such pair of bytes.
+/// Whether `text` stands at `place` and ends by `stop`.
+#[inline(always)]
+fn stands_within(buf: &[u8], text: &[u8], place: usize, stop: usize) -> bool
+    requires { place ≤ stop }
+    ensures { IsTrue result ↔ (OccursAt buf.now text.now place × (place + length text.now ≤ stop)) }
+{
+    text.len() <= stop - place && stands_at(buf, text, place)
+}
+
+/// How many places at the front of `hay` surely begin no such pair of bytes, by the first byte alone.
+#[inline(always)]
+fn byte_free(hay: &[u8], first: u8, second: u8) -> usize
+    ensures within { result ≤ length hay.now }
+    ensures lacks { LacksPair first second hay.now result }
+{
+    memchr(first, hay).unwrap_or(hay.len())
+}
+
+/// The same in whole blocks. A block with the pair ends the count.
 #[inline(always)]
 fn places_free(hay: &[u8], first: u8, second: u8) -> usize
     ensures within { result ≤ length hay.now }
     ensures lacks { LacksPair first second hay.now result }
 {
     if hay.len() < 129 {
-        return memchr(first, hay).unwrap_or(hay.len());
+        return 0;
     }
-    pair_free(hay, first, second)
+    // Of a known number of blocks the compiler makes no loop.
+    match hay.as_array::<1024>() {
+        Some(window) => blocks_free(window, first, second),
+        None => pair_free(hay, first, second),
+    }
 }
 
-/// The same in blocks.
-#[tactic(auto, using(std::proofs::lemmas::Bool::OnFalse_at, crate::proofs::SearchLemmas::lacks_more))]
 #[inline(never)]
 fn pair_free(hay: &[u8], first: u8, second: u8) -> usize
     requires { 129 ≤ length hay.now }
     ensures within { result ≤ length hay.now }
     ensures lacks { LacksPair first second hay.now result }
 {
-    for k in 0..(hay.len() + 126) / 128 {
-        // The last block overlaps the one before, so that each has the same length.
-        let at = (128 * k).min(hay.len() - 129);
-        if has_pair(&hay[at..at + 129], first, second) {
-            return at;
+    blocks_free(hay, first, second)
+}
+
+#[tactic(auto, using(std::proofs::lemmas::Bool::OnFalse_at, crate::proofs::SearchLemmas::lacks_more))]
+#[inline(always)]
+fn blocks_free(hay: &[u8], first: u8, second: u8) -> usize
+    requires { 129 ≤ length hay.now }
+    ensures within { result ≤ length hay.now }
+    ensures lacks { LacksPair first second hay.now result }
+{
+    for k in 0..(hay.len() - 1) / 128 {
+        if has_pair(&hay[128 * k..128 * k + 129], first, second) {
+            return 128 * k;
         }
+    }
+    // The last block overlaps the one before, so that each has the same length.
+    let last = hay.len() - 129;
+    if has_pair(&hay[last..last + 129], first, second) {
+        return last;
     }
     hay.len() - 1
 }

@@ -5,7 +5,7 @@ ghost use Rattle.infer_deep.specs.Blocks.{AllBelow};
 ghost use Rattle.infer_deep.specs.Joined.{BeginsWith, LeadsTo, NoneBegins, SkipsTo};
 ghost use Rattle.infer_deep.specs.Text.{BeginsInAnyCase, BeginsWithTag, IsHtml, IsMark, IsSpace, IsWhite, IsXml};
 
-use crate::places::stands_at;
+use crate::places::has_at;
 
 const TAGS: [&[u8]; 17] = [
     b"<!DOCTYPE HTML",
@@ -156,10 +156,10 @@ fn trim_start_byte_order_marks(mut buf: &[u8]) -> &[u8]
 fn after_mark(buf: &[u8]) -> Option<&[u8]>
     ensures { MatchOption result (NoneBegins IsMark buf.now) (λ rest. BeginsWith IsMark buf.now rest.now) }
 {
-    if stands_at(buf, b"\xEF\xBB\xBF", 0) {
+    if has_at(buf, b"\xEF\xBB\xBF", 0) {
         return Some(&buf[3..]);
     }
-    if stands_at(buf, b"\xFE\xFF", 0) || stands_at(buf, b"\xFF\xFE", 0) {
+    if has_at(buf, b"\xFE\xFF", 0) || has_at(buf, b"\xFF\xFE", 0) {
         return Some(&buf[2..]);
     }
     None

@@ -2,7 +2,7 @@
 ghost use Rattle.std.specs.Prelude.{◌↔◌, ◌≤◌, length, IsTrue};
 ghost use Rattle.infer_deep.specs.Windows.{IsMatroska, IsMkv, IsWebm};
 
-use crate::places::{stands_at, stands_by};
+use crate::places::{has_at, search};
 
 /// Matroska: at least 257 bytes, 1A 45 DF A3 first, and 42 82 88 "matroska" somewhere in the first 256 bytes.
 pub fn is_mkv(buf: &[u8]) -> bool
@@ -18,9 +18,13 @@ pub fn is_webm(buf: &[u8]) -> bool
     is_matroska(buf, b"\x42\x82\x84webm")
 }
 
-fn is_matroska(buf: &[u8], doc_type: &[u8]) -> bool
-    requires { 4 ≤ length doc_type.now }
+#[tactic(auto, using(crate::proofs::WindowLemmas::found_stands))]
+#[inline(always)]
+fn is_matroska<const N: usize>(buf: &[u8], doc_type: &[u8; N]) -> bool
+    requires { 4 ≤ N }
     ensures { IsTrue result ↔ IsMatroska doc_type.now buf.now }
 {
-    buf.len() >= 257 && stands_at(buf, b"\x1A\x45\xDF\xA3", 0) && stands_by(buf, doc_type, 2, 256)
+    buf.len() >= 257
+        && has_at(buf, b"\x1A\x45\xDF\xA3", 0)
+        && search(buf, doc_type, 2, 0, 256).is_some()
 }

@@ -1,7 +1,7 @@
 -- the text stands nowhere before
 use Rattle.std.proofs.Common.{ℕ, ◌<◌, ◌≤◌}
 use Rattle.infer_deep.specs.Places.{IsWithin}
-use Rattle.infer_deep.proofs.places.search.Given as goal
+use Rattle.infer_deep.proofs.places.search_pairs.Given as goal
 
 abbrev pub invariant-loop-turn : goal.invariant-loop-turn
 invariant-loop-turn l =

@@ -1,7 +1,0 @@
--- the places before the blocks from here on lack the pair
-use Rattle.std.proofs.Common.{◌*◌, ◌-◌, length, min}
-use Rattle.infer_deep.specs.Blocks.{LacksPair}
-use Rattle.infer_deep.proofs.places.pair_free.Given as goal
-
-abbrev pub invariant-loop-k : goal.invariant-loop-k
-invariant-loop-k l = LacksPair l.first l.second l.hay (min (128 * l.k) (length l.hay - 1))

@@ -1,0 +1,38 @@
+use Rattle.std.proofs.Common.{arith}
+use Rattle.infer_deep.proofs.SearchLemmas.{first_at_pair, none_past_pair, none_without_pair}
+use Rattle.infer_deep.proofs.places.search_pairs.Goals as goal
+
+pub loop-turn-init : goal.loop-turn-init
+loop-turn-init c = (omega arith, omega arith, λ q lt w. let low = w.low in omega arith)
+
+pub slice_bounds-find_prefilter-count : goal.slice_bounds-find_prefilter-count
+slice_bounds-find_prefilter-count c = c.loop-turn.invariant.1
+
+pub returns-in_err-at : goal.returns-in_err-at
+returns-in_err-at c =
+    let i = c.loop-turn.invariant in
+    none_without_pair _ _ _ _ _ _ c.min-stop.ensures i.1 (omega arith) i.2 _ c.with_pair-pair.ensures.value _ c.from_residual-in_err-at.ensures c.in_err-at.ensures
+
+pub returns-then-stands_within : goal.returns-then-stands_within
+returns-then-stands_within c =
+    let i = c.loop-turn.invariant in
+    first_at_pair _ _ _ _ _ _ c.min-stop.ensures i.1 (omega arith) i.2 _ c.with_pair-pair.ensures.value _ _ c.in_ok-at.ensures.0
+    (c.stands_within.ensures.0 c.if-stands_within.true)
+
+pub loop-turn-preserved : goal.loop-turn-preserved
+loop-turn-preserved c =
+    let i = c.loop-turn.invariant in
+    let inside = c.in_ok-at.ensures.0.high in (
+      omega arith,
+      omega arith,
+      none_past_pair _ _ _ _ _ _ c.min-stop.ensures i.1 (omega arith) i.2 _ c.with_pair-pair.ensures.value _ _ c.in_ok-at.ensures.0
+          (λ there. let e = c.if-stands_within.ensures.1 there in absurd (cc)),
+    )
+
+pub returns : goal.returns
+returns c = λ p w.
+    let high = w.high in
+    let fits = w.stands.fits in
+    let begun = c.loop-turn.invariant.0 in
+    let ended = c.loop-turn-test.false in
+    c.loop-turn.invariant.2 p (let two = c.requires in omega (arith, c.min-stop.ensures)) w
