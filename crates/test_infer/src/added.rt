@@ -1,10 +1,14 @@
 //! Rows that a caller adds, and the questions over all rows.
-ghost use Rattle.std.specs.Prelude.{◌≡◌, ◌↔◌, [], ◌∷◌, IsTrue, length, nat_eq};
+ghost use Rattle.std.specs.Prelude.{◌≡◌, ◌↔◌, [], ◌∷◌, IfOk, IsTrue, Some, codes, length, nat_eq, option_map};
 ghost use Rattle.std.specs.List.{starts_with};
+ghost use Rattle.infer.specs.Caller.{IsSettled};
+ghost use Rattle.infer.specs.Rows.{custom_rows, given};
+ghost use Rattle.infer.specs.Triple.{triple, triple_of};
+ghost use Rattle.infer.specs.declared.table.file_type.MatcherType.TheVariants.{Custom};
 
-use infer::{Infer, MatcherType};
+use infer::{Infer, Matcher, MatcherType, Type};
 use linked_list_allocator::LocalHeap;
-use std::alloc::Allocator;
+use std::alloc::{AllocError, Allocator, Global};
 use std::test::Fail;
 
 fn begins_jpeg(buf: &[u8]) -> bool
@@ -46,6 +50,35 @@ fn is_two_long(buf: &[u8]) -> bool
 const JPEG: [u8; 3] = [0xFF, 0xD8, 0xFF];
 
 const PNG: [u8; 4] = [0x89, 0x50, 0x4E, 0x47];
+
+/// An `Infer` with one row, whose function is the caller's.
+fn with_row(alloc: Global, m: Matcher) -> Result<Infer, AllocError>
+    requires callable { IsAlwaysCallable m }
+    requires settled { IsSettled (post m) }
+    ensures { IfOk result (λ infer. custom_rows infer ≡ record { shows = triple Custom (codes "custom/foo") (codes "foo"); signature = given m } ∷ []) }
+{
+    let mut infer = Infer::new();
+    infer.add(alloc, "custom/foo", "foo", m)?;
+    Ok(infer)
+}
+
+/// The answer of an `Infer` with a row for buffers that begin with 10 11 12, which it is for these.
+fn get_with_row(alloc: Global, buf: &[u8]) -> Result<Option<Type>, AllocError>
+    ensures { IsTrue (starts_with nat_eq buf.now (0x10 ∷ 0x11 ∷ 0x12 ∷ [])) → IfOk result (λ found.
+        option_map triple_of found ≡ Some (triple Custom (codes "custom/foo") (codes "foo"))) }
+{
+    let infer = with_row(alloc, begins_10_11_12)?;
+    Ok(infer.get(buf))
+}
+
+#[test]
+fn a_function_from_the_caller(rt: HostRuntime) -> Result<(), Fail> {
+    let found = get_with_row(rt.alloc(), &[0x10, 0x11, 0x12, 0x13])?;
+    assert_eq!(rt; found.ok_or("known")?.extension(), "foo");
+    let found = get_with_row(rt.alloc(), &JPEG)?;
+    assert_eq!(rt; found.ok_or("known")?.extension(), "jpg");
+    Ok(())
+}
 
 /// The MIME type of the first row that accepts `buf`, and no text where none does.
 fn mime_of<A: Allocator>(infer: &Infer<A>, buf: &[u8]) -> &'static str {
