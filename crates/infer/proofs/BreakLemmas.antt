@@ -94,6 +94,17 @@ module _ (by_place : ByPlace) (exclude : Deep.Apart) where
 
 -- ---- how a buffer begins
 
+-- a claim of every beginning
+abbrev of_each : {P : Beginning → Type 0} → ((how : Beginning) → Known (P how)) → Known ((how : Beginning) → P how)
+of_each k = do
+  box ← takes (k open_box)
+  file ← takes (k compound)
+  entry ← takes (k archive)
+  skipped ← takes (k frame)
+  blank ← takes (k white)
+  marked ← takes (k mark)
+  proved (elim [ open_box ↦ box | compound ↦ file | archive ↦ entry | frame ↦ skipped | white ↦ blank | mark ↦ marked ])
+
 module _ (by_place : ByPlace) (b : List ℕ) where
   abbrev occurs : (p : ℕ) (t : List ℕ) → Known (OccursAt b t p)
   occurs p t = Place.occurs by_place t b p
@@ -136,17 +147,6 @@ module _ (by_place : ByPlace) (b : List ℕ) where
     none ← takes (negated (begins other))
     proved (λ h. absurd (none h))
 
-  -- a claim of every beginning
-  abbrev of_each : {P : Beginning → Type 0} → ((how : Beginning) → Known (P how)) → Known ((how : Beginning) → P how)
-  of_each k = do
-    box ← takes (k open_box)
-    file ← takes (k compound)
-    entry ← takes (k archive)
-    skipped ← takes (k frame)
-    blank ← takes (k white)
-    marked ← takes (k mark)
-    proved (elim [ open_box ↦ box | compound ↦ file | archive ↦ entry | frame ↦ skipped | white ↦ blank | mark ↦ marked ])
-
 -- a buffer that begins so alone, to which bytes behind the first 1024 bring the last row that can come
 abbrev late_after : Beginning → List ℕ × Option ℕ
 late_after mark = (behind 512 wide_mark (sample_of xml), None)
@@ -161,12 +161,12 @@ module _ (by_place : ByPlace) (exclude : Deep.Apart) where
   brought how =
       let b = (late_after how).0 in let front = take 1024 b in
       both (breaks_with by_place exclude 1024 (last_after how) (late_after how).1 b)
-      (both (begins by_place front how) (of_each by_place front (excluded by_place front how)))
+      (both (begins by_place front how) (of_each (excluded by_place front how)))
 
   pub brought_alone : (how : Beginning) → (buf : List ℕ) × Breaks 1024 (last_after how) buf × BeginsAlone how (take 1024 buf)
   unfolding table signature_of stands le16 le32 be32
   brought_alone how =
-      let h = proof_of (of_each by_place [] brought) refl how in ((late_after how).0, h.0, h.1)
+      let h = proof_of (of_each brought) refl how in ((late_after how).0, h.0, h.1)
 
   pub by_one_byte : (i : ℕ) × (buf : List ℕ) × (length buf ≡ 1024) × Breaks 1023 i buf × ((how : Beginning) → ¬ Begins how (take 1023 buf))
   unfolding table signature_of stands le16 le32 be32
@@ -175,5 +175,5 @@ module _ (by_place : ByPlace) (exclude : Deep.Apart) where
     late_by_one,
     refl,
     proof_of (breaks_with by_place exclude 1023 PDF None late_by_one) refl,
-    proof_of (of_each by_place [] (λ how. negated (begins by_place (take 1023 late_by_one) how))) refl,
+    proof_of (of_each (λ how. negated (begins by_place (take 1023 late_by_one) how))) refl,
   )
