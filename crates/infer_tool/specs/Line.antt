@@ -15,6 +15,17 @@ fault_text (Open kind) = codes "cannot open"
 fault_text (Read kind) = codes "cannot read"
 fault_text Memory = codes "no memory"
 
+-- what is said where the type with this extension has no sample, or there is none
+abbrev pub no_sample_line : List ℕ → List ℕ
+no_sample_line extension = extension ++ (codes ": no sample" ++ 0x0A ∷ [])
+
+-- what is said of words that are wrong, and of a number that is no limit
+abbrev pub usage_line : List ℕ
+usage_line = codes "usage: infer_tool [--front N] [PATH ..] or --sample EXT" ++ 0x0A ∷ []
+
+abbrev pub limits_line : List ℕ
+limits_line = codes "front must be 1 to 65536" ++ 0x0A ∷ []
+
 -- the line for an input of this name that had a fault
 abbrev pub fault_line : List ℕ → Fault → List ℕ
 fault_line name fault = name ++ codes ": " ++ fault_text fault ++ 0x0A ∷ []

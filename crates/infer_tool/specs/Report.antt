@@ -1,5 +1,6 @@
 -- What an outcome tells of an answer and of what was written.
 use Rattle.std.specs.Prelude.{◌≡◌, ◌≤◌, ℕ, Bool, true, false, List, [], Option, None, Some, Result, Ok, Err, IfOk, IfSome, length, option_map}
+use Rattle.std.specs.Bool.{OnFalse}
 use Rattle.std.specs.Io.KnownBytes.{Appends}
 use Rattle.infer.specs.Buffer.{IsBuffer, head}
 use Rattle.infer.specs.First.{IsAnswer}
@@ -37,6 +38,10 @@ fault_written name (Err fault) = fault_line name fault
 abbrev pub unless_failed : Bool → Option (List ℕ) → Option (List ℕ)
 unless_failed true bytes = None
 unless_failed false bytes = bytes
+
+-- what is known of the bytes of a writer grew by exactly a line, unless the writer has failed
+abbrev pub Tells : Bool → (old new : Option (List ℕ)) → List ℕ → Type 0
+Tells failed old new told_line = OnFalse failed (Appends old new told_line)
 
 -- the outcome is that of what was found, and what is known of the writers' bytes grew by exactly what is written
 abbrev pub Reports : Outcome → List ℕ → Result (Option Triple) Fault → (old new err_old err_new : Option (List ℕ)) → Type 0

@@ -1,10 +1,11 @@
 //! Prints the type of each file that it is given, or of standard input.
 #![tactic(auto)]
 
-ghost use Rattle.std.specs.Prelude.{◌≡◌, ◌≢◌, ◌↔◌, ◌≤◌, ℕ, [], IsTrue, codes, false, length, map, string_bytes};
+ghost use Rattle.std.specs.Prelude.{◌≡◌, ◌≢◌, ◌↔◌, ◌<◌, ◌≤◌, ℕ, [], IsTrue, codes, false, length, map, string_bytes};
 ghost use Rattle.std.specs.Io.KnownBytes.{Keeps};
 ghost use Rattle.infer_tool.specs.Limit.{IsLimit, ReportsWithin};
-ghost use Rattle.infer_tool.specs.Report.{ReportsInput, UnlessFailed, unless_failed};
+ghost use Rattle.infer_tool.specs.Line.{limits_line, no_sample_line, usage_line};
+ghost use Rattle.infer_tool.specs.Report.{ReportsInput, Tells, UnlessFailed, unless_failed};
 ghost use Rattle.infer_tool.specs.Run.{ReportsEach};
 ghost use Rattle.infer_tool.specs.Sample.{HasSample, WritesSample};
 ghost use Rattle.infer_tool.specs.Words.{Asks, front_option, sample_option, second};
@@ -65,9 +66,11 @@ pub fn run<R: Files, A: Allocator + Copy, I: Read + Drop, W: Write, E: Write>(
     ensures sample { Asks sample_option (map string_bytes words.now) → length words.now ≡ 2
         → (i : ℕ) → HasSample (second (map string_bytes words.now)) i
         → UnlessFailed (has_failed out.new) result (WritesSample i result (W.contents (inner out.old)) (W.contents (inner out.new))) }
-    ensures usage { Asks sample_option (map string_bytes words.now) → length words.now ≢ 2 → (result ≡ Outcome.Failed) × (out.new ≡ out.old) }
+    ensures usage { Asks sample_option (map string_bytes words.now) → length words.now ≢ 2 → (result ≡ Outcome.Failed) × (out.new ≡ out.old)
+        × Tells (has_failed err.new) (E.contents (inner err.old)) (E.contents (inner err.new)) usage_line }
     ensures no_sample { Asks sample_option (map string_bytes words.now) → ((i : ℕ) → ¬ HasSample (second (map string_bytes words.now)) i)
-        → (result ≡ Outcome.Failed) × (out.new ≡ out.old) }
+        → (result ≡ Outcome.Failed) × (out.new ≡ out.old)
+        × (length words.now ≡ 2 → Tells (has_failed err.new) (E.contents (inner err.old)) (E.contents (inner err.new)) (no_sample_line (second (map string_bytes words.now)))) }
 
     // Behind `--front`.
     ensures limit { Asks front_option (map string_bytes words.now) → (n : ℕ) → IsLimit (second (map string_bytes words.now)) n
@@ -75,7 +78,9 @@ pub fn run<R: Files, A: Allocator + Copy, I: Read + Drop, W: Write, E: Write>(
         (ReportsWithin n (map string_bytes words.now) (I.remaining input) result (W.contents (inner out.old)) (W.contents (inner out.new))
         (unless_failed (has_failed err.new) (E.contents (inner err.old))) (E.contents (inner err.new))) }
     ensures no_limit { Asks front_option (map string_bytes words.now) → ((n : ℕ) → ¬ IsLimit (second (map string_bytes words.now)) n)
-        → (result ≡ Outcome.Failed) × (out.new ≡ out.old) }
+        → (result ≡ Outcome.Failed) × (out.new ≡ out.old)
+        × (length words.now < 2 → Tells (has_failed err.new) (E.contents (inner err.old)) (E.contents (inner err.new)) usage_line)
+        × (2 ≤ length words.now → Tells (has_failed err.new) (E.contents (inner err.old)) (E.contents (inner err.new)) limits_line) }
     ensures silent { result ≢ Outcome.Failed → err.new ≡ err.old }
 {
     if words.is_empty() {
@@ -114,8 +119,10 @@ fn run_asked<W: Write, E: Write>(
 ) -> Outcome
     ensures sample { length words.now ≡ 2 → (i : ℕ) → HasSample (second (map string_bytes words.now)) i
         → UnlessFailed (has_failed out.new) result (WritesSample i result (W.contents (inner out.old)) (W.contents (inner out.new))) }
-    ensures usage { length words.now ≢ 2 → (result ≡ Outcome.Failed) × (out.new ≡ out.old) }
-    ensures no_sample { ((i : ℕ) → ¬ HasSample (second (map string_bytes words.now)) i) → (result ≡ Outcome.Failed) × (out.new ≡ out.old) }
+    ensures usage { length words.now ≢ 2 → (result ≡ Outcome.Failed) × (out.new ≡ out.old)
+        × Tells (has_failed err.new) (E.contents (inner err.old)) (E.contents (inner err.new)) usage_line }
+    ensures no_sample { ((i : ℕ) → ¬ HasSample (second (map string_bytes words.now)) i) → (result ≡ Outcome.Failed) × (out.new ≡ out.old)
+        × (length words.now ≡ 2 → Tells (has_failed err.new) (E.contents (inner err.old)) (E.contents (inner err.new)) (no_sample_line (second (map string_bytes words.now)))) }
     ensures silent { result ≢ Outcome.Failed → err.new ≡ err.old }
 {
     if words.len() != 2 {
@@ -140,7 +147,9 @@ fn run_limited<R: Files, A: Allocator + Copy, I: Read + Drop, W: Write, E: Write
         → UnlessFailed (has_failed out.new) result
         (ReportsWithin n (map string_bytes words.now) (I.remaining input) result (W.contents (inner out.old)) (W.contents (inner out.new))
         (unless_failed (has_failed err.new) (E.contents (inner err.old))) (E.contents (inner err.new))) }
-    ensures no_limit { ((n : ℕ) → ¬ IsLimit (second (map string_bytes words.now)) n) → (result ≡ Outcome.Failed) × (out.new ≡ out.old) }
+    ensures no_limit { ((n : ℕ) → ¬ IsLimit (second (map string_bytes words.now)) n) → (result ≡ Outcome.Failed) × (out.new ≡ out.old)
+        × (length words.now < 2 → Tells (has_failed err.new) (E.contents (inner err.old)) (E.contents (inner err.new)) usage_line)
+        × (2 ≤ length words.now → Tells (has_failed err.new) (E.contents (inner err.old)) (E.contents (inner err.new)) limits_line) }
     ensures silent { result ≢ Outcome.Failed → err.new ≡ err.old }
 {
     if words.len() < 2 {

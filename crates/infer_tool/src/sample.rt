@@ -6,7 +6,8 @@ ghost use Rattle.infer.specs.First.{IsFirstOf};
 ghost use Rattle.infer.specs.Questions.{HasExtension};
 ghost use Rattle.infer.specs.Table.{table};
 ghost use Rattle.infer.specs.Triple.{triple_of};
-ghost use Rattle.infer_tool.specs.Report.{UnlessFailed};
+ghost use Rattle.infer_tool.specs.Line.{no_sample_line};
+ghost use Rattle.infer_tool.specs.Report.{Tells, UnlessFailed};
 ghost use Rattle.infer_tool.specs.Sample.{HasSample, WritesSample};
 ghost use Rattle.infer_tool.specs.Writer.{has_failed, inner};
 
@@ -25,7 +26,8 @@ pub fn run_sample<W: Write, E: Write>(
 ) -> Outcome
     ensures sample { (i : ℕ) → HasSample extension.now i
         → UnlessFailed (has_failed out.new) result (WritesSample i result (W.contents (inner out.old)) (W.contents (inner out.new))) }
-    ensures none { ((i : ℕ) → ¬ HasSample extension.now i) → (result ≡ Outcome.Failed) × (out.new ≡ out.old) }
+    ensures none { ((i : ℕ) → ¬ HasSample extension.now i) → (result ≡ Outcome.Failed) × (out.new ≡ out.old)
+        × Tells (has_failed err.new) (E.contents (inner err.old)) (E.contents (inner err.new)) (no_sample_line extension.now) }
     ensures silent { result ≢ Outcome.Failed → err.new ≡ err.old }
 {
     numbers();
@@ -47,7 +49,8 @@ pub fn run_sample<W: Write, E: Write>(
 
 /// Tells that there is no sample.
 fn refuse<E: Write>(extension: &str, err: &mut WatchedWriter<E>) -> Outcome
-    ensures { result ≡ Outcome.Failed }
+    ensures failed { result ≡ Outcome.Failed }
+    ensures told { Tells (has_failed err.new) (E.contents (inner err.old)) (E.contents (inner err.new)) (no_sample_line extension.now) }
 {
     writeln!(err, "{extension}: no sample");
     Outcome::Failed

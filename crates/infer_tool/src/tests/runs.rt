@@ -325,11 +325,3 @@ fn a_failed_flush_is_a_failure(rt: HostRuntime) {
     assert_eq!(rt; flush(outcome, &mut out).status(), 0);
     assert_eq!(rt; flush(Outcome::Unknown, &mut out).status(), 1);
 }
-
-#[test]
-fn usage(rt: HostRuntime) {
-    assert_eq!(rt;
-        USAGE,
-        b"usage: infer_tool [--front N] [PATH ..] or --sample EXT\n".as_slice()
-    );
-}
