@@ -78,23 +78,20 @@ module _ (P : Row BuiltIn → Type 0) where
     first_of_table None none = none
     first_of_table (Some n) first = subst (IsFirst P table) (let e = first.1 in omega arith) first.2
 
-  -- where only rows that allow the first byte have the property
-  pub first_candidate : (f : ℕ) → ((r : Row BuiltIn) → P r → IsTrue (allows_first r.signature f)) → (o : Option ℕ)
-      → IsFirstAmong (RowHas P) (candidates f) o → IsFirstOf P table o
-  unfolding candidates
-  first_candidate f only o h =
-      let test = λ (r : Row BuiltIn). allows_first r.signature f in
-      first_of_table test only o (first_from test only table 0 o (λ k. ap (slice_get table) (let e : 0 + k ≡ k = omega arith in e)) h)
+    -- where only rows that pass a test have the property, they alone are looked at
+    pub first_listed : (o : Option ℕ) → IsFirstAmong (RowHas P) (places_from test 0 table) o → IsFirstOf P table o
+    first_listed o h =
+        first_of_table o (first_from table 0 o (λ k. ap (slice_get table) (let e : 0 + k ≡ k = omega arith in e)) h)
 
 -- the first of the candidates of a buffer that takes it is the first row of the table that does
 pub first_of_buffer : ((s : BuiltIn) → Leads s) → NoneHas (Accepts []) table → (wanted : Wanted) (b cs : List ℕ) (o : Option ℕ)
     → cs ≡ candidates_of b → IsFirstAmong (RowHas (Takes wanted b)) cs o → IsFirstOf (Takes wanted b) table o
-unfolding IsFirstAmong
+unfolding IsFirstAmong candidates
 first_of_buffer leads blank wanted [] cs o same h =
     let none : o ≡ None = subst (λ ns. IsFirstAmong (RowHas (Takes wanted [])) ns o) same h in
     subst (IsFirstOf (Takes wanted []) table) (sym none) (λ k d a b t. blank k d a b t.1)
 first_of_buffer leads blank wanted (f ∷ b) cs o same h =
-    first_candidate (Takes wanted (f ∷ b)) f (λ r t. leads r.signature f b t.1) o
+    first_listed (Takes wanted (f ∷ b)) (λ r. allows_first r.signature f) (λ r t. leads r.signature f b t.1) o
     (subst (λ ns. IsFirstAmong (RowHas (Takes wanted (f ∷ b))) ns o) same h)
 
 pub some_of_first : {A : Type 0} (P : A → Type 0) (xs : List A) (o : Option ℕ) (r : Bool) → r ≡ is_some o → IsFirstOf P xs o → IsTrue r ↔ SomeHas P xs

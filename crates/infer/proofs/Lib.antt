@@ -19,4 +19,5 @@ pub mod BreakLemmas
 pub mod ArmLemmas
 pub mod CandidateLemmas
 pub mod AskLemmas
+pub mod SlotLemmas
 pub mod ChainLemmas

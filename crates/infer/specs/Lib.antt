@@ -42,4 +42,5 @@ pub mod Arms
 pub mod Laws
 pub mod Samples
 pub mod Listed
+pub mod Slots
 pub mod Arrivals

@@ -1,19 +1,22 @@
 //! What the built-in rows answer.
-ghost use Rattle.std.specs.Prelude.{◌≡◌, ◌↔◌, IsTrue, option_map, slice_get};
+ghost use Rattle.std.specs.Prelude.{◌≡◌, ◌↔◌, IsTrue, map, option_map, slice_get};
 ghost use Rattle.infer.specs.First.{IsAnswer, IsFirstOf, SomeHas};
-ghost use Rattle.infer.specs.Questions.{HasClass, IsWanted, SomeBoth, class_at};
+ghost use Rattle.infer.specs.Listed.{number_of};
+ghost use Rattle.infer.specs.Questions.{HasClass, HasExtension, HasMimeType, IsWanted, SomeBoth, class_at};
 ghost use Rattle.infer.specs.Row.{Accepts, shows};
 ghost use Rattle.infer.specs.Table.{table};
 ghost use Rattle.infer.specs.Triple.{triple_of};
+ghost use Rattle.infer.specs.Walks.{RowHas, Takes};
 
 use crate::ask::question::{
     APP, ARCHIVE, AUDIO, BOOK, DOC, Every, FONT, IMAGE, OfClass, VIDEO, Wanted,
 };
 use crate::candidates::asker::count_wanted;
 use crate::candidates::dispatch::{arm_of, first_of, first_of_class};
+use crate::candidates::slots::{Listed, OfExtension, OfMimeType};
 use crate::table::file_type::{FileType, MatcherType};
 use crate::table::leads::{blank, leads};
-use crate::table::rows::rows;
+use crate::table::rows::{RowName, accepts, rows};
 
 /// The number of the first row that accepts `buf`. Only the candidates of its first byte are asked.
 #[inline(always)]
@@ -47,6 +50,8 @@ pub fn some(wanted: Wanted, buf: &[u8]) -> bool
     ensures { IsTrue result ↔ SomeBoth (IsWanted wanted.entry) (Accepts buf.now) table }
 {
     match wanted {
+        Wanted::Extension(text) => some_of_extension(text.as_bytes(), buf),
+        Wanted::MimeType(text) => some_of_mime_type(text.as_bytes(), buf),
         Wanted::Class(MatcherType::App) => some_of_class::<{ APP }>(buf),
         Wanted::Class(MatcherType::Archive) => some_of_class::<{ ARCHIVE }>(buf),
         Wanted::Class(MatcherType::Audio) => some_of_class::<{ AUDIO }>(buf),
@@ -71,10 +76,84 @@ fn some_of_class<const CLASS: usize>(buf: &[u8]) -> bool
     first_of_class(arm_of(*lead), &OfClass::<CLASS>, buf).is_some()
 }
 
+/// Whether some row with this extension accepts `buf`. A function of its own, so that class tests stay small.
+#[inline(never)]
+fn some_of_extension(extension: &[u8], buf: &[u8]) -> bool
+    ensures { IsTrue result ↔ SomeBoth (HasExtension extension.now) (Accepts buf.now) table }
+{
+    some_listed(OfExtension(extension), buf)
+}
+
+/// The same of a MIME type.
+#[inline(never)]
+fn some_of_mime_type(mime_type: &[u8], buf: &[u8]) -> bool
+    ensures { IsTrue result ↔ SomeBoth (HasMimeType mime_type.now) (Accepts buf.now) table }
+{
+    some_listed(OfMimeType(mime_type), buf)
+}
+
+/// Whether some row that is asked for accepts `buf`. Of the rows in the text's slot those with the text are asked.
+#[inline(always)]
+pub fn some_listed<Q: Listed>(question: Q, buf: &[u8]) -> bool
+    ensures { IsTrue result ↔ SomeBoth (IsWanted (Q.wanted question)) (Accepts buf.now) table }
+{
+    let rows = question.rows();
+    if let [row] = rows {
+        return takes_named(*row, &question, buf);
+    }
+    some_among(rows, question, buf)
+}
+
+/// The same of these rows, as a function of its own: most slots have one row.
+#[inline(never)]
+fn some_among<Q: Listed>(rows: &[RowName], question: Q, buf: &[u8]) -> bool
+    ensures { IsTrue result ↔ SomeHas (RowHas (Takes (Q.wanted question) buf.now)) (map number_of rows.now) }
+{
+    let takes = |row: &RowName| -> bool
+        ensures { IsTrue result ↔ RowHas (Takes (Q.wanted question) buf.entry.now) (number_of row.now) }
+    { takes_named(*row, &question, buf) };
+    rows.iter().any(takes)
+}
+
+/// Whether the row is one that is asked for, and accepts `buf`.
+#[inline(always)]
+fn takes_named<Q: Listed>(row: RowName, question: &Q, buf: &[u8]) -> bool
+    ensures { IsTrue result ↔ RowHas (Takes (Q.wanted question.now) buf.now) (number_of row) }
+{
+    question.asks(row) && accepts(row, buf)
+}
+
+/// Whether some row is asked for. Only those in the text's slot are looked at.
+#[inline(always)]
+pub fn has_listed<Q: Listed>(question: Q) -> bool
+    ensures { IsTrue result ↔ SomeHas (IsWanted (Q.wanted question)) table }
+{
+    let rows = question.rows();
+    if let [row] = rows {
+        return question.asks(*row);
+    }
+    has_among(rows, question)
+}
+
+/// The same of these rows.
+#[inline(never)]
+fn has_among<Q: Listed>(rows: &[RowName], question: Q) -> bool
+    ensures { IsTrue result ↔ SomeHas (RowHas (IsWanted (Q.wanted question))) (map number_of rows.now) }
+{
+    let asks = |row: &RowName| -> bool
+        ensures { IsTrue result ↔ RowHas (IsWanted (Q.wanted question)) (number_of row.now) }
+    { question.asks(*row) };
+    rows.iter().any(asks)
+}
+
 /// Whether some row is asked for.
 #[inline(always)]
 pub fn has(wanted: Wanted) -> bool
     ensures { IsTrue result ↔ SomeHas (IsWanted wanted.entry) table }
 {
-    rows().iter().any(|row| row.fits(wanted))
+    match wanted {
+        Wanted::Extension(text) => has_listed(OfExtension(text.as_bytes())),
+        Wanted::MimeType(text) => has_listed(OfMimeType(text.as_bytes())),
+        _ => rows().iter().any(|row| row.fits(wanted)),
+    }
 }

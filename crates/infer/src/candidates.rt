@@ -2,3 +2,4 @@
 pub mod asker;
 pub mod chain;
 pub mod dispatch;
+pub mod slots;

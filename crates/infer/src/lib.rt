@@ -11,9 +11,9 @@
 //! [`Fault`] says why they have no answer.
 //!
 //! Each module uses only those before it: `table`, the rows and their types; `ask`, a question and one row;
-//! `candidates`, the rows that a first byte allows, asked in order; `answers`, what the built-in rows answer;
-//! `caller`, an [`Infer`] and its rows; `read`, the front of a file or of a reader; `laws`, facts about all of these;
-//! `samples`.
+//! `candidates`, the rows that a first byte allows, asked in order, and those that a text can name; `answers`, what the
+//! built-in rows answer; `texts`, questions with a text; `caller`, an [`Infer`] and its rows; `read`, the front of a
+//! file or of a reader; `laws`, facts about all of these; `samples`.
 #![tactic(auto)]
 
 ghost use Rattle.std.specs.Prelude.{◌≡◌, ◌↔◌, ◌<◌, ◌≤◌, IfSome, IsNone, IsTrue, option_map, slice_get};
@@ -32,6 +32,7 @@ pub mod laws;
 mod read;
 mod samples;
 mod table;
+pub mod texts;
 
 use ask::question::Wanted;
 pub use caller::infer::Infer;
@@ -93,7 +94,7 @@ pub fn get_from_path<R: Files, A: Allocator>(
 pub fn is(buf: &[u8], extension: &str) -> bool
     ensures { IsTrue result ↔ SomeBoth (HasExtension extension.now) (Accepts buf.now) table }
 {
-    answers::some(Wanted::Extension(extension), buf)
+    texts::is(buf, extension.as_bytes())
 }
 
 /// Whether some built-in row with this MIME type accepts `buf`, which need not be the answer: allow by [`get`]. Upper
@@ -101,21 +102,21 @@ pub fn is(buf: &[u8], extension: &str) -> bool
 pub fn is_mime(buf: &[u8], mime_type: &str) -> bool
     ensures { IsTrue result ↔ SomeBoth (HasMimeType mime_type.now) (Accepts buf.now) table }
 {
-    answers::some(Wanted::MimeType(mime_type), buf)
+    texts::is_mime(buf, mime_type.as_bytes())
 }
 
 /// Whether some built-in row has this extension.
 pub fn is_supported(extension: &str) -> bool
     ensures { IsTrue result ↔ SomeHas (HasExtension extension.now) table }
 {
-    answers::has(Wanted::Extension(extension))
+    texts::is_supported(extension.as_bytes())
 }
 
 /// Whether some built-in row has this MIME type.
 pub fn is_mime_supported(mime_type: &str) -> bool
     ensures { IsTrue result ↔ SomeHas (HasMimeType mime_type.now) table }
 {
-    answers::has(Wanted::MimeType(mime_type))
+    texts::is_mime_supported(mime_type.as_bytes())
 }
 
 /// Whether some built-in row of the class `App` accepts `buf`, which need not be the answer: allow by [`get`].

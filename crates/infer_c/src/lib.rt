@@ -158,10 +158,7 @@ pub extern "C" fn infer_version(out: &mut [u8]) -> usize
 pub extern "C" fn infer_is(buf: &[u8], extension: &[u8]) -> bool
     ensures { IsTrue result ↔ SomeBoth (HasExtension extension.now) (Accepts buf.now) table }
 {
-    match str::from_utf8(extension) {
-        Ok(extension) => infer::is(buf, extension),
-        Err(_) => false,
-    }
+    infer::texts::is(buf, extension)
 }
 
 /// Whether some row with this MIME type accepts `buf`.
@@ -169,10 +166,7 @@ pub extern "C" fn infer_is(buf: &[u8], extension: &[u8]) -> bool
 pub extern "C" fn infer_is_mime(buf: &[u8], mime_type: &[u8]) -> bool
     ensures { IsTrue result ↔ SomeBoth (HasMimeType mime_type.now) (Accepts buf.now) table }
 {
-    match str::from_utf8(mime_type) {
-        Ok(mime_type) => infer::is_mime(buf, mime_type),
-        Err(_) => false,
-    }
+    infer::texts::is_mime(buf, mime_type)
 }
 
 /// Whether some row has this extension.
@@ -180,10 +174,7 @@ pub extern "C" fn infer_is_mime(buf: &[u8], mime_type: &[u8]) -> bool
 pub extern "C" fn infer_is_supported(extension: &[u8]) -> bool
     ensures { IsTrue result ↔ SomeHas (HasExtension extension.now) table }
 {
-    match str::from_utf8(extension) {
-        Ok(extension) => infer::is_supported(extension),
-        Err(_) => false,
-    }
+    infer::texts::is_supported(extension)
 }
 
 /// Whether some row has this MIME type.
@@ -191,10 +182,7 @@ pub extern "C" fn infer_is_supported(extension: &[u8]) -> bool
 pub extern "C" fn infer_is_mime_supported(mime_type: &[u8]) -> bool
     ensures { IsTrue result ↔ SomeHas (HasMimeType mime_type.now) table }
 {
-    match str::from_utf8(mime_type) {
-        Ok(mime_type) => infer::is_mime_supported(mime_type),
-        Err(_) => false,
-    }
+    infer::texts::is_mime_supported(mime_type)
 }
 
 /// Whether some row of the class `App` accepts `buf`.

@@ -3,8 +3,11 @@ ghost use Rattle.std.specs.Prelude.{◌≡◌, ◌↔◌, ◌<◌, Some, IsTrue,
 ghost use Rattle.std.specs.List.{list_all};
 ghost use Rattle.infer.specs.BuiltIn.{IsAccepted};
 ghost use Rattle.infer.specs.Listed.{buffer_listed, is_inside, number_of, row_listed};
+ghost use Rattle.infer.specs.Questions.{HasExtension, HasMimeType};
+ghost use Rattle.infer.specs.Slots.{ListSlots, extension_of, mime_type_of};
 ghost use Rattle.infer.specs.Samples.{padded, sample_of};
 ghost use Rattle.infer.specs.Table.{signature_of, table};
+ghost use Rattle.infer.specs.Walks.{RowHas};
 
 use crate::table::file_type::{FileType, MatcherType};
 use infer_sig::{app, archive, audio, book, doc, font, image, odf, text, video};
@@ -457,6 +460,22 @@ macro_rules! matchers {
     };
 }
 
+macro_rules! extensions {
+    ([$name:ident $text:ident] $($row:ident $class:ident $mime_type:literal $extension:literal $matcher:path, $len:literal $front:literal $($place:literal $piece:literal)?;)*) => {
+        match $name {
+            $(RowName::$row => is_text($text, $extension),)*
+        }
+    };
+}
+
+macro_rules! mime_types {
+    ([$name:ident $text:ident] $($row:ident $class:ident $mime_type:literal $extension:literal $matcher:path, $len:literal $front:literal $($place:literal $piece:literal)?;)*) => {
+        match $name {
+            $(RowName::$row => is_text($text, $mime_type),)*
+        }
+    };
+}
+
 macro_rules! samples {
     ([] $($row:ident $class:ident $mime_type:literal $extension:literal $matcher:path, $len:literal $front:literal $($place:literal $text:literal)?;)*) => {
         [$(Pieces {
@@ -530,4 +549,90 @@ pub(crate) fn accepts(name: RowName, buf: &[u8]) -> bool
     ensures { IsTrue result ↔ IsAccepted (signature_of (number_of name)) buf.now }
 {
     with_rows!(matchers name buf)
+}
+
+macro_rules! slots {
+    ($(($($row:ident)*))*) => {
+        [$(&[$(RowName::$row),*]),*]
+    };
+}
+
+/// The rows by the slot of their extension, eight slots a line.
+static BY_EXTENSION: [&[RowName]; 128] = slots![
+    (Ods) () () (Odt) (Mp3) (Z) () (Mp4)
+    () (Flv) (M4a) () (Zst) () () ()
+    (Wmv) (Jxr Webm Pdf) (Dsf) (Msi) (Qcow2) () (Swf) (Nes)
+    () () (Webp) () (Ora) (Woff2) (Gz SevenZ) ()
+    (Mpeg) (Elf Mach) () () (Gif) () () ()
+    (Llvm Tar) (Xlsx) (Png Xml) (Html) (Psd) (Djvu) () (Bz2)
+    () () (Bz3) () (Amr Deb) () (Lz) (Dcm)
+    (Woff Pptx Rar Eot) () () () () () (Ar) ()
+    (OggOpus Cab) (Crx) (Mkv) () (Sqlite) () () (Coff)
+    (Par2) (M4v Ogg Otf) (Rpm) () () (Doc) () ()
+    (Wasm) (Dwg) (Exe) (Aac) () (Mobi Ico Avif) (Xz) ()
+    (Ps) (Jpeg2000 Docx) () () (Wav) (Epub Heif EpubArchive) () ()
+    (Avi Cpio) (Ttf) () () (Der) (Lz4) (Bmp) ()
+    (Aiff) () (Zip) () (Flac) () () (Cr2 Ppt)
+    (Xls) (Rtf) () (Midi) () (Java Pem) (Dex) (Odp)
+    (Jpeg) (Dey) (Ape Shellscript) (Dll) (Tiff) () (Mov) (Jxl)
+];
+
+/// The rows by the slot of their MIME type, eight slots a line.
+static BY_MIME_TYPE: [&[RowName]; 128] = slots![
+    () () () () (Nes) () (Tar) (Elf Coff)
+    (Msi) (Jxr Ora) (Swf) () () (Ppt) (Epub EpubArchive) (Avi)
+    (Mpeg) (Der Pem Qcow2) () () () () () ()
+    () () () (Ttf Otf) (OggOpus) (Xz) () ()
+    () (Par2) (Psd Webm Odt Bz2) (Wmv) (Dwg) (M4a) (Mkv Wav) ()
+    (Cab Z) (Mov) () (Aac Ps) (Cr2) (Dex Xml) (Html) ()
+    (Dey) () () () () (Tiff Heif Avif) (Mp4) (Ogg Doc)
+    (Jpeg) () () () () () (M4v Flv) ()
+    () (Odp) (Jpeg2000) () (Mach) (Pdf Rtf) () ()
+    () () (Deb) () (Lz4) () () (Xlsx)
+    () () (Java Llvm Ods) (Webp) () (Exe Dll) () (Djvu)
+    (Mobi Amr Bz3 Eot Cpio) () () (Lz Zst) () () (Gif) ()
+    () (Png) (Rar SevenZ) (Zip) (Ar) () () (Ico)
+    (Docx) (Sqlite) () () () () () ()
+    (Jxl) (Woff Woff2) () (Ape) () (Flac) (Wasm Dsf Pptx) (Rpm Dcm)
+    (Mp3) (Shellscript) () (Crx) (Bmp) () (Midi Aiff Xls) (Gz)
+];
+
+#[inline(always)]
+pub(crate) fn extensions() -> &'static [&'static [RowName]; 128]
+    ensures { ListSlots extension_of result.now }
+{
+    &BY_EXTENSION
+}
+
+#[inline(always)]
+pub(crate) fn mime_types() -> &'static [&'static [RowName]; 128]
+    ensures { ListSlots mime_type_of result.now }
+{
+    &BY_MIME_TYPE
+}
+
+/// Whether the bytes are that text.
+#[inline(always)]
+fn is_text(bytes: &[u8], text: &str) -> bool
+    ensures { IsTrue result ↔ (text.now ≡ bytes.now) }
+{
+    text.as_bytes() == bytes
+}
+
+/// Whether the row has this extension. Each is compared by its name too, so that its length is known.
+#[tactic(auto, unfolding(crate::specs::Table::table))]
+#[inline(always)]
+pub(crate) fn has_extension(name: RowName, text: &[u8]) -> bool
+    ensures { IsTrue result ↔ RowHas (HasExtension text.now) (number_of name) }
+{
+    with_rows!(extensions name text)
+}
+
+/// Whether the row has this MIME type.
+#[tactic(auto, unfolding(crate::specs::Table::table))]
+#[inline(always)]
+pub(crate) fn has_mime_type(name: RowName, text: &[u8]) -> bool
+    ensures { IsTrue result ↔ RowHas (HasMimeType text.now) (number_of name) }
+{
+    with_rows!(mime_types name text)
 }

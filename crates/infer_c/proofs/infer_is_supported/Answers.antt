@@ -1,5 +1,0 @@
-use Rattle.infer_c.proofs.TextLemmas.{extension_is_utf8}
-use Rattle.infer_c.proofs.infer_is_supported.Goals as goal
-
-pub returns-in-Err : goal.returns-in-Err
-returns-in-Err c = (λ e. absurd (cc), λ h. absurd (c.in-Err.ensures.cases.0 (extension_is_utf8 _ h)))
