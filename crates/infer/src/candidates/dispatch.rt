@@ -86,7 +86,8 @@ static ARMS: [Arm; 256] = arms![
     Other Other Other Other Other Other Other Other Other Other Other Other Other BFD   BFE   BFF
 ];
 
-// Hands the arms, each with its candidates, to another macro. Rows that share work stand in brackets.
+// Hands the arms, each with its candidates, to another macro. Rows that share work stand in brackets. Those after a
+// stroke are code of their own, so that the rows before it are asked before any register is saved.
 macro_rules! with_candidates {
     ($with:ident $($more:tt)*) => {
         $with! { [$($more)*]
@@ -108,7 +109,7 @@ macro_rules! with_candidates {
             B43 (MOBI WEBP HEIF AVIF MP4 M4V MOV M4A TAR PDF SWF EOT CRX DCM)
             B44 (MOBI WEBP HEIF AVIF MP4 M4V MOV M4A DSF TAR PDF EOT DCM)
             B46 (MOBI WEBP HEIF AVIF MP4 M4V MOV FLV M4A AIFF TAR PDF SWF EOT DCM)
-            B47 (MOBI GIF WEBP HEIF AVIF MP4 M4V MOV M4A TAR PDF EOT DCM)
+            B47 (MOBI GIF / WEBP HEIF AVIF MP4 M4V MOV M4A TAR PDF EOT DCM)
             B49 (MOBI WEBP CR2 TIFF JXR HEIF AVIF MP4 M4V MOV MP3 M4A TAR PDF EOT CAB DCM)
             B4C (COFF MOBI WEBP HEIF AVIF MP4 M4V MOV M4A TAR PDF EOT LZ DCM)
             B4D (EXE DLL MOBI WEBP CR2 TIFF HEIF AVIF DWG MP4 M4V MOV MIDI M4A APE TAR PDF EOT CAB DCM)
@@ -125,7 +126,7 @@ macro_rules! with_candidates {
             B77 (MOBI WEBP HEIF AVIF MP4 M4V MOV M4A WOFF WOFF2 TAR PDF EOT DCM)
             B7B (MOBI WEBP HEIF AVIF MP4 M4V MOV M4A TAR PDF RTF EOT DCM)
             B7F (ELF MOBI WEBP HEIF AVIF MP4 M4V MOV M4A TAR PDF EOT DCM)
-            B89 (MOBI PNG WEBP HEIF AVIF MP4 M4V MOV M4A TAR PDF EOT DCM)
+            B89 (MOBI PNG / WEBP HEIF AVIF MP4 M4V MOV M4A TAR PDF EOT DCM)
             BCA (JAVA MACH MOBI WEBP HEIF AVIF MP4 M4V MOV M4A TAR PDF EOT DCM)
             BCE (MACH MOBI WEBP HEIF AVIF MP4 M4V MOV M4A TAR PDF EOT DCM)
             BD0 (MOBI WEBP HEIF AVIF MP4 M4V MOV M4A DOC XLS PPT TAR PDF EOT DCM MSI)
@@ -133,13 +134,13 @@ macro_rules! with_candidates {
             BEF (MOBI WEBP HEIF AVIF MP4 M4V MOV M4A TAR PDF EOT DCM XML)
             BFD (MOBI WEBP HEIF AVIF MP4 M4V MOV M4A TAR XZ PDF EOT DCM)
             BFE (MACH MOBI WEBP HEIF AVIF MP4 M4V MOV M4A TAR PDF EOT DCM XML)
-            BFF (MOBI JPEG WEBP HEIF AVIF JXL MP4 M4V MOV MP3 M4A AAC TAR PDF EOT DCM XML)
+            BFF (MOBI JPEG / WEBP HEIF AVIF JXL MP4 M4V MOV MP3 M4A AAC TAR PDF EOT DCM XML)
             Other (MOBI WEBP HEIF AVIF MP4 M4V MOV M4A TAR PDF EOT DCM)
         }
     };
 }
 
-// The list, in which rows that share work stand in brackets.
+// The list, without brackets and strokes.
 macro_rules! list {
     (; $($row:tt)*) => {
         list!(@ [] $($row)*)
@@ -149,6 +150,9 @@ macro_rules! list {
     };
     (@ [$($done:ident)*] [$($row:ident)*] $($rest:tt)*) => {
         list!(@ [$($done)* $($row)*] $($rest)*)
+    };
+    (@ [$($done:ident)*] / $($rest:tt)*) => {
+        list!(@ [$($done)*] $($rest)*)
     };
     (@ [$($done:ident)*] $row:ident $($rest:tt)*) => {
         list!(@ [$($done)* $row] $($rest)*)
@@ -180,6 +184,9 @@ macro_rules! first_at {
 macro_rules! chain {
     () => {
         End
+    };
+    (/ $($rest:tt)*) => {
+        Whole(chain!($($rest)*))
     };
     ([DOCX XLSX PPTX] $($rest:tt)*) => {
         ThenOffice(chain!($($rest)*))
