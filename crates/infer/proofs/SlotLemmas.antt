@@ -15,7 +15,7 @@ use Rattle.infer.specs.Slots.{HasWanted, ListSlots, extension_of, mime_type_of, 
 use Rattle.infer.specs.Table.{signature_of, table}
 use Rattle.infer.specs.Walks.{IsFirstAmong, RowHas, Takes}
 use Rattle.infer.specs.declared.ask.question.Wanted.{Wanted}
-use Rattle.infer.specs.declared.candidates.slots.TheConstants.{BY_EXTENSION, BY_MIME_TYPE}
+use Rattle.infer.specs.declared.table.rows.TheConstants.{BY_EXTENSION, BY_MIME_TYPE}
 use Rattle.infer.specs.declared.table.rows.RowName.{RowName}
 use Rattle.infer.proofs.AskLemmas.{none_among}
 use Rattle.infer.proofs.CandidateLemmas.{first_listed}
