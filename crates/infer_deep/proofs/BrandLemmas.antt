@@ -1,6 +1,8 @@
 -- Brands of a boxed file: they last, and only to an open box do more bytes bring them.
-use Rattle.std.proofs.Common.{◌≡◌, ℕ, ◌+◌, ◌-◌, ◌*◌, ◌/◌, ◌<◌, ◌≤◌, List, ◌++◌, length, sym, subst, inl, inr, arith, codes, length-append}
+use Rattle.std.proofs.Common.{◌≡◌, ℕ, ◌+◌, ◌-◌, ◌*◌, ◌/◌, ◌<◌, ◌≤◌, List, ◌++◌, Option, Some, None, true, refl, length, sym, subst, inl, inr, arith, codes, length-append}
 use Rattle.std.proofs.lemmas.Bool.{cases_lt}
+use Rattle.std.specs.Option.{is_some}
+use Rattle.infer_deep.specs.Places.{IsFirstWithin}
 use Rattle.infer_deep.specs.Signatures.{Lasts, AreApart, ComesWith, IsEarly}
 use Rattle.infer_deep.proofs.PlaceLemmas.{Carries, OccursAt-append, OccursAt-front}
 use Rattle.infer_deep.proofs.NumberLemmas.{be32-append}
@@ -8,6 +10,13 @@ use Rattle.infer_deep.specs.Brands.{box_length, IsBoxed, IsOpenBox, HasMajor, Ha
 
 pub open-apart_boxed : AreApart IsOpenBox IsBoxed
 open-apart_boxed b o box = let l = o.longer in let w = box.whole in omega arith
+
+-- a compatible brand is found in the box
+pub compatible_found : (b brand : List ℕ) (end : ℕ) (r : Option ℕ) → length brand ≡ 4 → end ≡ box_length b
+    → IsFirstWithin b brand 16 end r → HasCompatible brand b → is_some r ≡ true
+compatible_found b brand end None n e none (k, l, o) =
+    absurd (none (16 + 4 * k) (record { stands = o; low = omega arith; high = omega arith }))
+compatible_found b brand end (Some p) n e first h = refl
 
 pub IsOpenBox-early : IsEarly IsOpenBox
 IsOpenBox-early b more long o =

@@ -3,7 +3,7 @@ ghost use Rattle.std.specs.Prelude.{◌↔◌, ◌≤◌, length, IsTrue};
 ghost use Rattle.infer_deep.specs.Brands.{HasCompatible, IsAvif, IsBoxed, IsHeif};
 
 use crate::numbers::be32;
-use crate::places::stands_at;
+use crate::places::{find, stands_at};
 
 /// HEIF: at least 16 bytes, and first a whole box "ftyp" that has the major brand heic or heix, or the major brand
 /// mif1 or msf1 and the compatible brand heic.
@@ -53,7 +53,32 @@ fn is_boxed(buf: &[u8]) -> bool
     buf.len() >= 16 && stands_at(buf, b"ftyp", 4) && be32(buf, 0) as usize <= buf.len()
 }
 
-fn has_compatible(buf: &[u8], brand: &[u8]) -> bool
+#[inline(always)]
+fn has_compatible(buf: &[u8], brand: &[u8; 4]) -> bool
+    requires { IsBoxed buf.now }
+    ensures { IsTrue result ↔ HasCompatible brand.now buf.now }
+{
+    if be32(buf, 0) > 512 {
+        return has_compatible_in_long(buf, brand);
+    }
+    is_listed(buf, brand)
+}
+
+/// The same in a long box, which mostly has the brand at no place at all, as a look at whole blocks shows.
+#[inline(never)]
+fn has_compatible_in_long(buf: &[u8], brand: &[u8; 4]) -> bool
+    requires { IsBoxed buf.now }
+    ensures { IsTrue result ↔ HasCompatible brand.now buf.now }
+{
+    let end = be32(buf, 0) as usize;
+    if find(buf, brand, 0, 16, end).is_none() {
+        return false;
+    }
+    is_listed(buf, brand)
+}
+
+#[inline(always)]
+fn is_listed(buf: &[u8], brand: &[u8; 4]) -> bool
     requires { 16 ≤ length buf.now }
     ensures { IsTrue result ↔ HasCompatible brand.now buf.now }
 {

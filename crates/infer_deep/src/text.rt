@@ -1,5 +1,5 @@
 //! Text that begins with markup.
-ghost use Rattle.std.specs.Prelude.{◌≡◌, ◌↔◌, ◌⊎◌, ◌<◌, ◌≤◌, map, slice_index, Any, IsTrue, MatchOption};
+ghost use Rattle.std.specs.Prelude.{◌≡◌, ◌↔◌, ◌⊎◌, ◌<◌, ◌≤◌, map, length, slice_index, Any, IfSome, IsTrue, MatchOption};
 ghost use Rattle.std.specs.Bool.{OnTrue};
 ghost use Rattle.infer_deep.specs.Blocks.{AllBelow};
 ghost use Rattle.infer_deep.specs.Joined.{BeginsWith, LeadsTo, NoneBegins, SkipsTo};
@@ -26,6 +26,15 @@ const TAGS: [&[u8]; 17] = [
     b"<P",
     b"<!--",
 ];
+
+const BIG_MARKS: [u8; 32] = *b"\xFE\xFF\xFE\xFF\xFE\xFF\xFE\xFF\xFE\xFF\xFE\xFF\xFE\xFF\xFE\xFF\
+    \xFE\xFF\xFE\xFF\xFE\xFF\xFE\xFF\xFE\xFF\xFE\xFF\xFE\xFF\xFE\xFF";
+
+const LITTLE_MARKS: [u8; 32] = *b"\xFF\xFE\xFF\xFE\xFF\xFE\xFF\xFE\xFF\xFE\xFF\xFE\xFF\xFE\xFF\xFE\
+    \xFF\xFE\xFF\xFE\xFF\xFE\xFF\xFE\xFF\xFE\xFF\xFE\xFF\xFE\xFF\xFE";
+
+const UTF8_MARKS: [u8; 24] =
+    *b"\xEF\xBB\xBF\xEF\xBB\xBF\xEF\xBB\xBF\xEF\xBB\xBF\xEF\xBB\xBF\xEF\xBB\xBF\xEF\xBB\xBF\xEF\xBB\xBF";
 
 /// HTML: any white space (09 0A 0C 0D 20), then one of 17 tags in any ASCII case, then a space or ">".
 ///
@@ -76,7 +85,7 @@ fn trim_start_whitespaces(buf: &[u8]) -> &[u8]
     ensures stops { NoneBegins IsSpace result.now }
 {
     // Most text begins with little white space, for which whole blocks do not pay.
-    if buf.len() < 16 || !is_white(buf[15]) {
+    if buf.len() < 16 || !is_white(buf[0]) || !is_white(buf[15]) {
         return after_spaces(buf);
     }
     after_spaces(after_white_blocks::<16>(after_white_blocks::<64>(buf)))
@@ -98,9 +107,29 @@ fn after_white_blocks<const N: usize>(mut buf: &[u8]) -> &[u8]
     buf
 }
 
-/// Whether each byte of the block is white.
+/// Whether each byte of the block is white. Mostly all of them are spaces, which is told sooner.
 #[inline(always)]
 fn all_white<const N: usize>(block: &[u8; N]) -> bool
+    requires { N ≤ 64 }
+    ensures { OnTrue result (AllBelow IsWhite block.now N) }
+{
+    all_spaces(block) || all_of_any_white(block)
+}
+
+#[inline(always)]
+fn all_spaces<const N: usize>(block: &[u8; N]) -> bool
+    requires { N ≤ 64 }
+    ensures { OnTrue result (AllBelow IsWhite block.now N) }
+{
+    let mut all = true;
+    for byte in block {
+        all &= *byte == b' ';
+    }
+    all
+}
+
+#[inline(always)]
+fn all_of_any_white<const N: usize>(block: &[u8; N]) -> bool
     requires { N ≤ 64 }
     ensures { OnTrue result (AllBelow IsWhite block.now N) }
 {
@@ -141,8 +170,47 @@ fn is_white(byte: u8) -> bool
     (byte == b' ') | ((byte >= b'\t') & (byte <= b'\r') & (byte != 0x0B))
 }
 
+fn trim_start_byte_order_marks(buf: &[u8]) -> &[u8]
+    ensures skips { SkipsTo IsMark buf.now result.now }
+    ensures stops { NoneBegins IsMark result.now }
+{
+    // Most text begins with one mark at most, for which whole blocks do not pay.
+    if buf.len() < 32 || buf[31] < 0xBB {
+        return after_marks(buf);
+    }
+    after_marks(after_mark_blocks(buf))
+}
+
+/// What follows the blocks of eight or sixteen equal marks at the front of `buf`.
+#[inline(never)]
+fn after_mark_blocks(mut buf: &[u8]) -> &[u8]
+    ensures { LeadsTo IsMark buf.entry.now result.now }
+{
+    while let Some(rest) = after_mark_block(buf) {
+        buf = rest;
+    }
+    buf
+}
+
+#[inline(always)]
+fn after_mark_block(buf: &[u8]) -> Option<&[u8]>
+    ensures leads { IfSome result (λ rest. LeadsTo IsMark buf.now rest.now) }
+    ensures shorter { IfSome result (λ rest. length rest.now < length buf.now) }
+{
+    if has_at(buf, &BIG_MARKS, 0) {
+        return Some(&buf[32..]);
+    }
+    if has_at(buf, &LITTLE_MARKS, 0) {
+        return Some(&buf[32..]);
+    }
+    if has_at(buf, &UTF8_MARKS, 0) {
+        return Some(&buf[24..]);
+    }
+    None
+}
+
 #[tactic(auto, using(crate::proofs::JoinedLemmas::leads_past))]
-fn trim_start_byte_order_marks(mut buf: &[u8]) -> &[u8]
+fn after_marks(mut buf: &[u8]) -> &[u8]
     ensures skips { SkipsTo IsMark buf.entry.now result.now }
     ensures stops { NoneBegins IsMark result.now }
 {

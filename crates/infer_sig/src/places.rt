@@ -24,10 +24,10 @@ pub fn any_stands_at<const N: usize>(buf: &[u8], texts: &[[u8; N]], place: usize
     requires { place + N ≤ length buf.now }
     ensures { result ≡ list_any (λ t. stands place t buf.now) texts.now }
 {
+    // No early exit, as above.
+    let mut any = false;
     for text in texts {
-        if stands_at(buf, text, place) {
-            return true;
-        }
+        any |= stands_at(buf, text, place);
     }
-    false
+    any
 }

@@ -1,8 +1,8 @@
--- none of the texts so far stands there
-use Rattle.std.proofs.Common.{◌≡◌, false, take}
+-- whether one of the texts so far stands there
+use Rattle.std.proofs.Common.{◌≡◌, take}
 use Rattle.std.specs.List.{list_any}
 use Rattle.infer_sig.specs.Signature.{stands}
 use Rattle.infer_sig.proofs.places.any_stands_at.Given as goal
 
 abbrev pub invariant-loop-text : goal.invariant-loop-text
-invariant-loop-text g l = list_any (λ t. stands l.place t l.buf) (take l.text-index l.texts) ≡ false
+invariant-loop-text g l = l.any ≡ list_any (λ t. stands l.place t l.buf) (take l.text-index l.texts)

@@ -2,7 +2,7 @@
 use Rattle.std.specs.Bool.{OnTrue}
 use Rattle.infer_deep.specs.Blocks.{AllBelow}
 use Rattle.infer_deep.specs.Text.{IsWhite}
-use Rattle.infer_deep.proofs.text.all_white.Given as goal
+use Rattle.infer_deep.proofs.text.all_of_any_white.Given as goal
 
 abbrev pub invariant-loop-byte : goal.invariant-loop-byte
 invariant-loop-byte g l = OnTrue l.all (AllBelow IsWhite l.block l.byte-index)

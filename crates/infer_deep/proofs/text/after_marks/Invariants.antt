@@ -2,7 +2,7 @@
 use Rattle.std.proofs.Common.{length}
 use Rattle.infer_deep.specs.Joined.{LeadsTo}
 use Rattle.infer_deep.specs.Text.{IsMark}
-use Rattle.infer_deep.proofs.text.trim_start_byte_order_marks.Given as goal
+use Rattle.infer_deep.proofs.text.after_marks.Given as goal
 
 abbrev pub invariant-loop-rest : goal.invariant-loop-rest
 invariant-loop-rest l = LeadsTo IsMark l.fn.buf l.buf

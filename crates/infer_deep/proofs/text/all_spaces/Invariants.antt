@@ -1,0 +1,8 @@
+-- the bytes so far are white
+use Rattle.std.specs.Bool.{OnTrue}
+use Rattle.infer_deep.specs.Blocks.{AllBelow}
+use Rattle.infer_deep.specs.Text.{IsWhite}
+use Rattle.infer_deep.proofs.text.all_spaces.Given as goal
+
+abbrev pub invariant-loop-byte : goal.invariant-loop-byte
+invariant-loop-byte g l = OnTrue l.all (AllBelow IsWhite l.block l.byte-index)
