@@ -1,3 +1,2 @@
-pub mod ReportLemmas
 pub mod RunLemmas
 pub mod SampleLemmas

@@ -1,7 +1,6 @@
 -- Reports of the inputs that words name, one word after the other.
-use Rattle.std.proofs.Common.{◌≡◌, ◌+◌, ◌<◌, ℕ, suc, Bool, true, false, List, [], ◌∷◌, ◌++◌, Option, None, IsTrue, length, map, take, get_or, add-one, ap, refl, subst, sym, ◌∙◌}
-use Rattle.std.proofs.Math.Seq.{take-suc}
-use Rattle.std.proofs.lemmas.List.{map-append}
+use Rattle.std.proofs.Common.{◌≡◌, ◌+◌, ◌<◌, ℕ, Bool, true, false, List, [], ◌∷◌, ◌++◌, Option, None, IsTrue, length, map, take, get_or, ap, refl, subst, sym, ◌∙◌}
+use Rattle.std.proofs.lemmas.List.{map_more}
 use Rattle.infer_tool.specs.Outcome.{worse_of}
 use Rattle.infer_tool.specs.Report.{ReportsInput, UnlessFailed, unless_failed}
 use Rattle.infer_tool.specs.Run.{ReportsEach, no_input, one_more}
@@ -28,21 +27,7 @@ unless_later n names outcome old new err_old err_new before true remembers h = f
 unless_later n names outcome old new err_old err_new false false remembers h = h
 unless_later n names outcome old new err_old err_new true false remembers h = absurd (let e = remembers refl in cc)
 
--- before the first word
-pub nothing_yet : (n : ℕ) (failed err_failed : Bool) (bytes err_bytes : Option (List ℕ)) → failed ≡ false → err_failed ≡ false
-    → UnlessFailed failed Known (ReportsEach n [] Known bytes bytes (unless_failed err_failed err_bytes) err_bytes)
-nothing_yet n false false bytes err_bytes none none_err = no_input bytes err_bytes
-nothing_yet n false true bytes err_bytes none none_err = absurd (cc)
-nothing_yet n true err_failed bytes err_bytes none none_err = absurd (cc)
-
 module _ {A : Type 0} (name_of : A → List ℕ) (n : ℕ) (words : List A) where
-  names-more : (i : ℕ) (d : A) → i < length words
-      → map name_of (take i words) ++ name_of (get_or words i d) ∷ [] ≡ map name_of (take (i + 1) words)
-  names-more i d lt =
-      let more : map name_of (take (suc i) words) ≡ map name_of (take i words) ++ name_of (get_or words i d) ∷ [] =
-      ap (map name_of) (take-suc words i d lt) ∙ map-append name_of (take i words) (get_or words i d ∷ []) in
-      rw add-one (sym more)
-
   -- the report of one more word
   pub each-more : (i : ℕ) (d : A) (name : List ℕ) (earlier outcome both : Outcome) (old between new err_old err_between err_new : Option (List ℕ)) → i < length words
       → name ≡ name_of (get_or words i d) → both ≡ worse_of earlier outcome
@@ -56,7 +41,7 @@ module _ {A : Type 0} (name_of : A → List ℕ) (n : ℕ) (words : List A) wher
       absurd (let e = remembers refl in cc)
   each-more i d name earlier outcome both old between new eo eb en lt named worst false false fb fa remembers told reports this =
       let more : map name_of (take i words) ++ name ∷ [] ≡ map name_of (take (i + 1) words) =
-      ap (λ l. map name_of (take i words) ++ l ∷ []) named ∙ names-more i d lt in
+      ap (λ l. map name_of (take i words) ++ l ∷ []) named ∙ sym (map_more name_of words i d lt) in
       let so_far = unless_later n (map name_of (take i words)) earlier old between eo eb fb fa told reports in
       subst (λ l. ReportsEach n l both old new (unless_failed fa eo) en) more
       (rw worst (one_more (map name_of (take i words)) name earlier outcome old between new (unless_failed fa eo) (unless_failed fa eb) en so_far this))

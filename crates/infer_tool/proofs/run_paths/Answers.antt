@@ -1,12 +1,11 @@
 use Rattle.std.proofs.Common.{◌∙◌, ap, refl, rules, string_bytes}
-use Rattle.infer_tool.specs.Writer.{inner}
-use Rattle.infer_tool.proofs.RunLemmas.{each-more, nothing_yet}
+use Rattle.infer_tool.specs.Run.{no_input}
+use Rattle.infer_tool.proofs.RunLemmas.{each-more}
 use Rattle.infer_tool.proofs.run_paths.Goals as goal
 
 pub loop-word-init : goal.loop-word-init
 loop-word-init g c = record {
-  each = nothing_yet c.args.n _ _ (g.W.Write.contents (inner c.args.out.now)) (g.E.Write.contents (inner c.args.err.now))
-      c.requires.no_failure c.requires.no_err_failure;
+  each = rw (c.requires.no_failure, c.requires.no_err_failure) (no_input _ _);
   silent = λ _. refl;
 }
 
