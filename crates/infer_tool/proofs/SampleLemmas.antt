@@ -1,14 +1,11 @@
 -- A row that was read is the one at its number in the table, and what words ask for.
-use Rattle.std.proofs.Common.{MatchOption, None, ◌≡◌, ◌↔◌, ◌-◌, ◌<◌, ◌≤◌, ◌⊎◌, inl, inr, ℕ, zero, suc, Bool, true, false, List, [], ◌∷◌, Option, Some, take, length, map, get_or, sym, ap, ◌∙◌, refl, subst, arith, IsTrue}
-use Rattle.std.specs.Bool.{OnTrue, OnFalse}
-use Rattle.std.specs.List.{HoldsAt, slice_get}
-use Rattle.std.specs.Option.{option_map}
-use Rattle.std.proofs.lemmas.Option.{none-some, same_Some, slice_get-map}
+use Rattle.std.proofs.Common.{MatchOption, None, ◌≡◌, ◌-◌, ◌<◌, ◌≤◌, ◌⊎◌, inl, inr, ℕ, Bool, true, false, List, [], Option, Some, take, length, map, get_or, sym, ap, ◌∙◌, refl, subst, arith}
+use Rattle.std.specs.Bool.{OnFalse}
+use Rattle.std.specs.List.{HoldsAt}
 use Rattle.std.proofs.lemmas.List.{get_or-map, take_at}
-use Rattle.std.proofs.lemmas.Bool.{cases_lt}
 use Rattle.std.specs.Io.KnownBytes.{Appends}
 use Rattle.infer.specs.BuiltIn.{BuiltIn}
-use Rattle.infer.specs.Row.{Row, shows}
+use Rattle.infer.specs.Row.{Row}
 use Rattle.infer.specs.BuiltIn.{html}
 use Rattle.infer.specs.First.{IsFirst, IsFirstOf}
 use Rattle.infer.specs.Questions.{HasExtension}
@@ -19,34 +16,10 @@ use Rattle.infer.specs.declared.table.rows.TheConstants.{DLL, EPUB_ARCHIVE, ROW_
 use Rattle.infer_tool.specs.Report.{UnlessFailed}
 use Rattle.infer_tool.specs.Sample.{HasSample, WritesSample}
 use Rattle.infer_tool.specs.declared.outcome.Outcome.TheVariants.{Known}
-use Rattle.infer.specs.Triple.{Triple}
 
 -- any row
 some_row : Row BuiltIn
 some_row = row Text [] [] html
-
--- what holds of the triple that was read holds of the row
-pub HoldsAt-shown : (P : Triple → Type 0) (rows : List (Row BuiltIn)) (i : ℕ) (t : Triple)
-    → Some t ≡ option_map shows (slice_get rows i) → P t → HoldsAt (λ r. P r.shows) rows i
-HoldsAt-shown P [] i t e p = absurd (none-some _ (sym e))
-HoldsAt-shown P (r ∷ rows) zero t e p = λ d. subst P (same_Some _ _ e) p
-HoldsAt-shown P (r ∷ rows) (suc i) t e p = HoldsAt-shown P rows i t e p
-
-pub OnTrue-made : {P : Type 0} (b : Bool) → (IsTrue b → P) → OnTrue b P
-OnTrue-made true f = f refl
-OnTrue-made false f = tt
-
-pub OnFalse-made : {P Q : Type 0} (b : Bool) → (IsTrue b ↔ Q) → (¬ Q → P) → OnFalse b P
-OnFalse-made true e f = tt
-OnFalse-made false e f = f (λ q. absurd (let h : false ≡ true = e.1 q in cc))
-
--- the first word's name is the text
-pub first_is : {A : Type 0} (name_of : A → List ℕ) (words : List A) (word : A) (name text : List ℕ) (b : Bool)
-    → Some word ≡ slice_get words 0 → name ≡ name_of word → (IsTrue b ↔ (name ≡ text))
-    → IsTrue b ↔ (slice_get (map name_of words) 0 ≡ Some text)
-first_is name_of words word name text b first named same =
-    let at : slice_get (map name_of words) 0 ≡ Some (name_of word) = slice_get-map name_of words 0 ∙ ap (option_map name_of) (sym first) in
-    (λ yes. at ∙ ap Some (sym named ∙ same.0 yes), λ is. same.1 (named ∙ same_Some _ _ (sym at ∙ is)))
 
 -- the word at 1 names what stands behind the option
 pub second_is : {A : Type 0} (name_of : A → List ℕ) (words : List A) (word : A) (name : List ℕ) → 1 < length words
@@ -55,10 +28,8 @@ second_is name_of words word name lt at named = named ∙ ap name_of at ∙ sym 
 
 -- one row is the first
 same_row : (P : Row BuiltIn → Type 0) (i j : ℕ) → IsFirst P table i → IsFirst P table j → i ≡ j
-same_row P i j first then = elim (cases_lt i j) [
-  | inl l ↦ absurd (then.before i some_row (omega arith) l (first.here some_row))
-  | inr ge ↦ elim (cases_lt j i) [ inl l ↦ absurd (first.before j some_row (omega arith) l (then.here some_row)) | inr le ↦ omega arith ]
-]
+same_row P i j first then =
+    grind (arith, first.before j some_row, first.here some_row, first.within, then.before i some_row, then.here some_row, then.within)
 
 module _ (extension : List ℕ) where
   -- a row of which a sample was given has one, and a row of which none was given has none
