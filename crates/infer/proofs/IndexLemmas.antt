@@ -1,5 +1,5 @@
 -- The first accepting row as a buffer goes on.
-use Rattle.std.proofs.Common.{◌<◌, ◌≤◌, ℕ, not, List, ◌++◌, map, length, get_or, take, drop, Option, None, Some, sym, subst, ◌∙◌, inl, inr, All, IsTrue, refl, arith, length-append}
+use Rattle.std.proofs.Common.{◌<◌, ◌≤◌, ℕ, not, List, ◌++◌, map, length, get_or, take, drop, Option, None, Some, IfSome, sym, subst, ◌∙◌, inl, inr, All, IsTrue, refl, arith, length-append}
 use Rattle.std.specs.List.{HoldsAt}
 use Rattle.std.proofs.lemmas.Bool.{cases_lt, cases_Bool}
 use Rattle.std.proofs.lemmas.List.{get_or-map, get_or_append_left, length-map, take-append-drop, take-append-le, take_all}
@@ -48,8 +48,7 @@ steady all keep short more before after bytes =
 
 -- the row that the answer names accepts the buffer
 abbrev Answered : List ℕ → Option ℕ → Type 0
-Answered buf None = Unit {0}
-Answered buf (Some i) = HoldsAt (Accepts buf) table i
+Answered buf o = IfSome o (HoldsAt (Accepts buf) table)
 
 module _ (growth : All Lasts signatures) (short more : List ℕ) where
   -- an answer of the longer buffer that the shorter one has too is its first

@@ -1,38 +1,33 @@
 -- The first and some element of a list with a property: of a list that was read, of the images of a list, and of
 -- two lists joined.
-use Rattle.std.proofs.Common.{◌≡◌, ◌↔◌, Bool, true, false, IsTrue, MatchBool, ◌+◌, ◌-◌, ◌<◌, ◌≤◌, ℕ, zero, suc, List, [], ◌∷◌, ◌++◌, ◌⊎◌, inl, inr, map, length, get_or, refl, subst, arith, length-append}
+use Rattle.std.proofs.Common.{◌≡◌, ◌↔◌, Bool, true, false, IsTrue, MatchBool, ◌+◌, ◌-◌, ◌<◌, ◌≤◌, ℕ, List, [], ◌∷◌, ◌++◌, ◌⊎◌, inl, inr, map, length, get_or, refl, subst, arith, length-append}
 use Rattle.std.specs.List.{HoldsAt, AllWithin}
 use Rattle.std.proofs.lemmas.Bool.{cases_lt}
-use Rattle.std.proofs.lemmas.List.{get_or-map, get_or_append_left, get_or-append-add, get_or-append_right, length-map}
+use Rattle.std.proofs.lemmas.List.{get_or-map, get_or_default, get_or_append_left, get_or-append-add, get_or-append_right, length-map}
+use Rattle.std.proofs.lemmas.List.Folds.{none_from_all_within}
 use Rattle.infer.specs.First.{IsFirst, NoneHas, SomeHas}
 
 -- what holds of an element that was read holds at its index
 pub HoldsAt-read : {A : Type 0} (P : A → Type 0) (xs : List A) (i : ℕ) (c : A) → i < length xs → P (get_or xs i c) → HoldsAt P xs i
-HoldsAt-read P [] i c lt h = absurd (omega arith)
-HoldsAt-read P (x ∷ xs) zero c lt h = λ d. h
-HoldsAt-read P (x ∷ xs) (suc i) c lt h = HoldsAt-read P xs i c (omega arith) h
+HoldsAt-read P xs i c lt h = λ d. subst P (get_or_default xs i c d lt) h
 
 -- no element has a property that none has
 pub not_some : {A : Type 0} (P : A → Type 0) (xs : List A) → NoneHas P xs → ¬ SomeHas P xs
-not_some P [] none h = absurd (let lt = h.1 in omega arith)
-not_some P (x ∷ xs) none h = none h.0 x (omega arith) h.1 (h.2 x)
+not_some = none_from_all_within
 
 module _ {A B : Type 0} (f : A → B) (P : B → Type 0) where
-  HoldsAt-map : (xs : List A) (i : ℕ) → i < length xs → HoldsAt (λ x. P (f x)) xs i → HoldsAt P (map f xs) i
+  pub HoldsAt-map : (xs : List A) (i : ℕ) → i < length xs → HoldsAt (λ x. P (f x)) xs i → HoldsAt P (map f xs) i
   HoldsAt-map [] i lt h = absurd (omega arith)
   HoldsAt-map (x ∷ xs) i lt h = λ e. rw (get_or-map f (x ∷ xs) i x e lt) (h x)
 
-  HoldsAt-from_map : (xs : List A) (i : ℕ) → i < length xs → HoldsAt P (map f xs) i → HoldsAt (λ x. P (f x)) xs i
+  pub HoldsAt-from_map : (xs : List A) (i : ℕ) → i < length xs → HoldsAt P (map f xs) i → HoldsAt (λ x. P (f x)) xs i
   HoldsAt-from_map xs i lt h = λ d. rw (← get_or-map f xs i d (f d) lt) (h (f d))
 
   AllWithin-map : (xs : List A) (n : ℕ) → n ≤ length xs → AllWithin (λ x. P (f x)) xs 0 n → AllWithin P (map f xs) 0 n
-  AllWithin-map [] n le h = λ k d a b. absurd (omega arith)
-  AllWithin-map (x ∷ xs) n le h =
-      λ k d a b. let lt : k < length (x ∷ xs) = omega arith in rw (get_or-map f (x ∷ xs) k x d lt) (h k x a b)
+  AllWithin-map xs n le h = λ k d a b. HoldsAt-map xs k (omega arith) (λ e. h k e a b) d
 
   AllWithin-from_map : (xs : List A) (n : ℕ) → n ≤ length xs → AllWithin P (map f xs) 0 n → AllWithin (λ x. P (f x)) xs 0 n
-  AllWithin-from_map xs n le h =
-      λ k d a b. let lt : k < length xs = omega arith in rw (← get_or-map f xs k d (f d) lt) (h k (f d) a b)
+  AllWithin-from_map xs n le h = λ k d a b. HoldsAt-from_map xs k (omega arith) (λ e. h k e a b) d
 
 module _ {A B : Type 0} (f : A → B) (P : B → Type 0) (xs : List A) where
   pub SomeHas-map : SomeHas (λ x. P (f x)) xs → SomeHas P (map f xs)
@@ -63,12 +58,6 @@ module _ {A B : Type 0} (f : A → B) (P : B → Type 0) (xs : List A) where
     here = HoldsAt-from_map f P xs i lt h.here;
     before = AllWithin-from_map f (λ y. ¬ P y) xs i (omega (arith, lt)) h.before;
   }
-
-  pub HoldsAt-sources : (i : ℕ) → i < length xs → HoldsAt P (map f xs) i → HoldsAt (λ x. P (f x)) xs i
-  HoldsAt-sources = HoldsAt-from_map f P xs
-
-  pub HoldsAt-images : (i : ℕ) → i < length xs → HoldsAt (λ x. P (f x)) xs i → HoldsAt P (map f xs) i
-  HoldsAt-images = HoldsAt-map f P xs
 
 -- what `any` answered of xs, for their images ys
 pub some_of_any : {A B : Type 0} (f : A → B) (P : B → Type 0) (xs : List A) (ys : List B) → map f xs ≡ ys → (r : Bool)

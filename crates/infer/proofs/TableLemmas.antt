@@ -1,10 +1,12 @@
 -- The table's length, and that its triples differ.
-use Rattle.std.proofs.Common.{◌≡◌, ◌≢◌, ◌<◌, ℕ, zero, suc, Bool, true, false, ◌&&◌, ◌||◌, not, List, [], ◌∷◌, map, length, get_or, refl, sym, subst, arith, IsTrue, nat_eq, eq-eqb, ◌↔◌, ◌≤◌, Option, None, Some, IsNone, IfSome}
+use Rattle.std.proofs.Common.{◌≡◌, ◌≢◌, ◌<◌, ℕ, zero, suc, Bool, true, ◌&&◌, not, List, [], ◌∷◌, map, length, get_or, refl, sym, subst, arith, IsTrue, nat_eq, eq-eqb, ◌↔◌, ◌≤◌, Option, None, Some, IsNone, IfSome}
 use Rattle.std.specs.List.{AllPairs, list_any, slice_get}
 use Rattle.std.specs.Option.{option_map}
 use Rattle.std.proofs.lemmas.Option.{none-some}
 use Rattle.std.specs.Str.{bytes_eq}
 use Rattle.std.proofs.lemmas.Bool.{and_parts, and_from}
+use Rattle.std.proofs.lemmas.List.Folds.{list_any_at}
+use Rattle.std.proofs.lemmas.List.Kept.{AllPairs-cons}
 use Rattle.std.proofs.lemmas.Slice.Eq.{bytes_eq-Decides}
 use denote.Enum.Declared.{tag_of}
 use Rattle.infer.specs.BuiltIn.{BuiltIn}
@@ -43,23 +45,15 @@ is_like-same a b e = subst (λ x. IsTrue (is_like a x)) e
     (and_from (nat_eq (class_number a) (class_number a)) _ (eq-eqb (class_number a) (class_number a) refl) (text_like_itself a.extension))
     (text_like_itself a.mime_type))
 
-neither : (a b : Bool) → IsTrue (not (a || b)) → IsTrue (not a) × IsTrue (not b)
-neither true b h = absurd (cc)
-neither false b h = (refl, h)
-
 apart_later : (t : Triple) (ts : List Triple) → IsTrue (not (list_any (is_like t) ts)) → (j : ℕ) (d : Triple) → j < length ts → t ≢ get_or ts j d
-apart_later t [] h j d lt = absurd (omega arith)
-apart_later t (u ∷ ts) h zero d lt =
-    λ e. not_both (is_like t u) (is_like-same t u e) (neither (is_like t u) (list_any (is_like t) ts) h).0
-apart_later t (u ∷ ts) h (suc j) d lt = apart_later t ts (neither (is_like t u) (list_any (is_like t) ts) h).1 j d (omega arith)
+apart_later t ts h j d lt =
+    λ e. not_both (list_any (is_like t) ts) (list_any_at (is_like t) ts j d lt (is_like-same t (get_or ts j d) e)) h
 
 pub pairs_apart : (ts : List Triple) → IsTrue (are_apart ts) → AllPairs (λ a b. a ≢ b) ts
-pairs_apart [] h i j d before lt = absurd (omega arith)
-pairs_apart (t ∷ ts) h zero zero d before lt = absurd (omega arith)
-pairs_apart (t ∷ ts) h zero (suc j) d before lt = apart_later t ts (and_parts (not (list_any (is_like t) ts)) _ h).0 j d (omega arith)
-pairs_apart (t ∷ ts) h (suc i) zero d before lt = absurd (omega arith)
-pairs_apart (t ∷ ts) h (suc i) (suc j) d before lt =
-    pairs_apart ts (and_parts (not (list_any (is_like t) ts)) _ h).1 i j d (omega arith) (omega arith)
+pairs_apart [] h = λ i j d before lt. absurd (omega arith)
+pairs_apart (t ∷ ts) h =
+    let both = and_parts (not (list_any (is_like t) ts)) _ h in
+    AllPairs-cons (λ a b. a ≢ b) t ts (apart_later t ts both.0) (pairs_apart ts both.1)
 
 pub table_apart : IsTrue (are_apart (map shows table))
 unfolding table

@@ -2,7 +2,7 @@
 use Rattle.std.proofs.Common.{◌≡◌, ℕ, ◌+◌, ◌-◌, ◌<◌, ◌≤◌, List, [], ◌∷◌, ◌++◌, length, get_or, map, take, min, sym, ap, ◌∙◌, arith, inl, inr, length-append, length-take}
 use Rattle.std.proofs.Math.Seq.{take-append-add}
 use Rattle.std.proofs.lemmas.Bool.{cases_lt}
-use Rattle.std.proofs.lemmas.List.{length-take-le, take-append-le, append_assoc, append-nil, map-append, take_all, take_min, take_more}
+use Rattle.std.proofs.lemmas.List.{length-take-le, take-append-le, append_assoc, append-nil, map_more, take_all, take_min}
 use Rattle.std.proofs.lemmas.List.Folds.{concat-append}
 use Rattle.std.specs.List.{concat}
 use denote.Ref.{Bor}
@@ -35,8 +35,7 @@ joined pieces = concat (map (λ piece. piece.now) pieces)
 joined_more : (pieces : List (Bor (List ℕ))) (i : ℕ) (d : Bor (List ℕ)) → i < length pieces
     → joined (take (i + 1) pieces) ≡ joined (take i pieces) ++ (get_or pieces i d).now
 joined_more pieces i d lt =
-    ap joined (take_more pieces i d lt)
-    ∙ ap concat (map-append (λ piece. piece.now) (take i pieces) (get_or pieces i d ∷ []))
+    ap concat (map_more (λ piece. piece.now) pieces i d lt)
     ∙ concat-append (map (λ piece. piece.now) (take i pieces)) ((get_or pieces i d).now ∷ [])
     ∙ ap (λ u. joined (take i pieces) ++ u) (append-nil (get_or pieces i d).now)
 
