@@ -8,7 +8,7 @@ use std::env;
 use std::io::Read;
 use std::rt::Env;
 
-/// The verdict behind all pieces of `input`, of which each has at least one byte.
+/// The verdict after all pieces of `input`, of which each has at least one byte.
 fn verdict_of<A: Allocator>(alloc: A, input: &[u8], length: usize) -> Result<Verdict> {
     let mut sniffer = Sniffer::new(alloc)?;
     for piece in input.chunks(length.max(1)) {

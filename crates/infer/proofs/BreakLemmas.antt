@@ -25,23 +25,23 @@ use Rattle.infer.proofs.PlaceLemmas as Place
 use Rattle.infer.proofs.TableLemmas.{length-table}
 use Rattle.infer.proofs.TestLemmas.{NoneRefused, passed}
 
--- a box that ends behind the first 1024 bytes
+-- a box that ends after the first 1024 bytes
 abbrev long_box : List ℕ → List ℕ
 long_box sample = put 2 (0x04 ∷ 0x04 ∷ []) (sample ++ zeros 1012)
 
--- a compound file with the root entry behind them
+-- a compound file with the root entry after them
 abbrev late_root : List ℕ → List ℕ
 late_root id =
     put 1104 id (put 1090 (0x05 ∷ []) (put 48 (0x01 ∷ []) (put 30 (0x09 ∷ 0x00 ∷ []) (put 28 (0xFE ∷ 0xFF ∷ [])
     (put 26 (0x03 ∷ 0x00 ∷ []) (put 0 compound_header (zeros 1152)))))))
 
--- an archive whose second entry stands behind them
+-- an archive whose second entry stands after them
 abbrev late_entries : List ℕ → List ℕ
 late_entries folder =
     put 1165 folder (put 1135 zip_header (put 1109 folder (put 1079 zip_header (put 1049 zip_header
     (put 30 (codes "[Content_Types].xml") (put 0 zip_header (zeros (1165 + length folder))))))))
 
--- a buffer that the signature accepts by what stands behind them, and the answer on the first 1024 bytes: other rows
+-- a buffer that the signature accepts by what stands after them, and the answer on the first 1024 bytes: other rows
 -- know the beginning of a compound file and of an archive
 abbrev late : BuiltIn → List ℕ × Option ℕ
 late heif = (long_box (sample_of heif), None)
@@ -147,7 +147,7 @@ module _ (by_place : ByPlace) (b : List ℕ) where
     none ← takes (negated (begins other))
     proved (λ h. absurd (none h))
 
--- a buffer that begins so alone, to which bytes behind the first 1024 bring the last row that can come
+-- a buffer that begins so alone, to which bytes after the first 1024 bring the last row that can come
 abbrev late_after : Beginning → List ℕ × Option ℕ
 late_after mark = (behind 512 wide_mark (sample_of xml), None)
 late_after how = late (signature_of (last_after how))

@@ -23,7 +23,7 @@ module _ (A D O : Type 0) (word : O ↔ D) where
   pub untaken : (¬ (A × O)) → ¬ (A × D)
   untaken not h = not (h.0, word.1 h.1)
 
--- what is found stays found, and behind rows of which none was found the next decide
+-- what is found stays found, and after rows of which none was found the next decide
 pub found_stays : (P : ℕ → Type 0) (is js : List ℕ) (i : ℕ) → IsFirstAmong P is (Some i) → IsFirstAmong P (is ++ js) (Some i)
 unfolding IsFirstAmong
 found_stays P [] js i e = absurd (cc)

@@ -21,7 +21,7 @@ module _ (at room n : ℕ) (out new : List ℕ) (within : at ≤ length out) (fi
       let long = length-take-le n new fits in
       inr (take at out, take n new, take-put_mid, omega (arith, long, few), omega (arith, long, some), before)
 
-  -- one more read goes behind what earlier reads gave
+  -- one more read goes after what earlier reads gave
   pub Consumes-one_more : (a b c : Option (List ℕ)) → Consumes a b (take at out) → Consumes b c (take n new)
       → Consumes a c (take (at + n) (put_mid at room out new))
   Consumes-one_more a b c before read = subst (Consumes a c) (sym take-put_mid) (Consumes-trans _ _ _ _ _ before read)

@@ -18,12 +18,12 @@ NoneHas P xs = AllWithin (λ x. ¬ P x) xs 0 (length xs)
 abbrev pub SomeHas : {A : Type 0} → (A → Type 0) → List A → Type 0
 SomeHas P xs = (i : ℕ) × (i < length xs) × HoldsAt P xs i
 
--- the least index of an element with the property, and none exactly where no element has it
+-- the least index of an element with the property, and none exactly if no element has it
 abbrev pub IsFirstOf : {A : Type 0} → (A → Type 0) → List A → Option ℕ → Type 0
 IsFirstOf P xs None = NoneHas P xs
 IsFirstOf P xs (Some i) = IsFirst P xs i
 
--- the triple of the first row with the property, and none exactly where no row has it
+-- the triple of the first row with the property, and none exactly if no row has it
 abbrev pub IsAnswer : {S : Type 0} → (Row S → Type 0) → List (Row S) → Option Triple → Type 0
 IsAnswer P rows None = NoneHas P rows
 IsAnswer P rows (Some t) = (i : ℕ) × IsFirst P rows i × HoldsAt (λ r. r.shows ≡ t) rows i

@@ -13,7 +13,7 @@ use Rattle.infer.specs.Triple.{Triple}
 use Rattle.infer.specs.declared.read.fault.Fault.{Fault}
 use Rattle.infer.specs.declared.table.file_type.FileType.{FileType}
 
--- the first index is not greater than the second, where none is the greatest
+-- the first index is not greater than the second; none is the greatest
 abbrev pub IsNotLater : Option ℕ → Option ℕ → Type 0
 IsNotLater o None = Unit {0}
 IsNotLater None (Some j) = ⊥
@@ -24,7 +24,7 @@ module _ {X : Type 0} {g : Contracts X} where
   abbrev pub AnyLasts : Signature X g → Type 0
   AnyLasts s = (short more : List ℕ) → IsBuffer (short ++ more) → IsAcceptedBy s short → IsAcceptedBy s (short ++ more)
 
-  -- bytes behind a buffer never make its first row a later one
+  -- bytes after a buffer never make its first row a later one
   abbrev pub IsSteady : List (Row (Signature X g)) → Type 0
   IsSteady all =
       (short more : List ℕ) (before after : Option ℕ) → IsBuffer (short ++ more)
@@ -54,7 +54,7 @@ FrontDecides =
     (buf : List ℕ) (o : Option ℕ) → IsFirstOf (Accepts buf) table o → IsTrue (not (answers_twelve o))
     → IsFirstOf (Accepts (take 1024 buf)) table o
 
--- behind 1024 bytes an answer stays, or gives way to one of the twelve
+-- after 1024 bytes an answer stays, or gives way to one of the twelve
 abbrev pub OnlyTheTwelveFollow : Type 0
 OnlyTheTwelveFollow =
     (short more : List ℕ) (before after : Option ℕ) → 1024 ≤ length short

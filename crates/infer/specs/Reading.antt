@@ -17,12 +17,12 @@ module _ {S : Type 0} (n : ℕ) (Accepts : List ℕ → Row S → Type 0) (rows 
   AnswersSome result =
       IfOk result (λ found. (b : List ℕ) × IsBuffer b × (length b ≤ n) × IsAnswer (Accepts b) rows (option_map triple_of found))
 
-  -- an answer is that of the first n bytes of those that were left, where these are told
+  -- an answer is that of the first n bytes of those that were left, if these are told
   abbrev pub AnswersFront : Option (List ℕ) → Result (Option FileType) Fault → Type 0
   AnswersFront left result = IfOk result (λ found. IfSome left (λ s. IsAnswer (Accepts (head n s)) rows (option_map triple_of found)))
 
--- What is told of a watched reader. An answer is that of its first n bytes, which alone it loses, where it tells its
--- bytes, and that of some bytes at any rate. The result is `Read(kind)` exactly where its fault is now that kind, and
+-- What is told of a watched reader. An answer is that of its first n bytes, which alone it loses, if it tells its
+-- bytes, and that of some bytes at any rate. The result is `Read(kind)` exactly if its fault is now that kind, and
 -- what it lost then is fewer bytes. Want of memory leaves it as it was. Nothing is opened.
 pub record AnswersReader {R S : Type 0} (remaining : R → Option (List ℕ)) (n : ℕ) (Accepts : List ℕ → Row S → Type 0) (rows : List (Row S))
     (old new : Watched R) (result : Result (Option FileType) Fault) : Type 0 where

@@ -16,7 +16,7 @@ pub data Signature (X : Type 0) (g : Contracts X) : Type 0 where
   given : X → Signature X g
 
 module _ {X : Type 0} {g : Contracts X} where
-  -- the signature accepts the buffer: that of a given function does where its contract allows the answer true
+  -- the signature accepts the buffer: that of a given function does if its contract allows the answer true
   abbrev pub IsAcceptedBy : Signature X g → List ℕ → Type 0
   IsAcceptedBy (built_in s) b = IsAccepted s b
   IsAcceptedBy (given m) b = Allows (contract_of g m) b true

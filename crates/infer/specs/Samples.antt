@@ -37,7 +37,7 @@ abbrev pub fixed_sample : List Alternative → List ℕ
 fixed_sample [] = []
 fixed_sample (at_least least parts ∷ others) = with_parts parts (zeros least)
 
--- a compound file of one sector behind the header, with that class id
+-- a compound file of one sector after the header, with that class id
 abbrev pub class_sample : List ℕ → List ℕ
 class_sample id =
     put 592 id (put 578 (0x05 ∷ []) (put 30 (0x09 ∷ 0x00 ∷ []) (put 28 (0xFE ∷ 0xFF ∷ [])
@@ -61,10 +61,10 @@ sample_of ppt = class_sample powerpoint_id
 sample_of html = codes "<P>"
 sample_of xml = codes "<?xml"
 
--- the row's sample with zeros behind it, 640 bytes in all
+-- the row's sample with zeros after it, 640 bytes in all
 abbrev pub padded : Row BuiltIn → List ℕ
 padded r = sample_of r.signature ++ zeros (640 - length (sample_of r.signature))
 
--- the buffer begins with the n bytes of the row's sample, and has zeros behind it
+-- the buffer begins with the n bytes of the row's sample, and has zeros after it
 abbrev pub HoldsSample : ℕ → List ℕ → Row BuiltIn → Type 0
 HoldsSample n buf r = (n ≡ length (sample_of r.signature)) × (buf ≡ sample_of r.signature ++ zeros (640 - n))

@@ -124,6 +124,6 @@ table =
     ∷ row Text (codes "text/x-shellscript") (codes "sh") (fixed shellscript)
     ∷ []
 
--- the signature of row i, and one that accepts nothing where there is no such row
+-- the signature of row i, and one that accepts nothing if there is no such row
 unfoldable pub signature_of : ℕ → BuiltIn
 signature_of i = option_map_or (λ r. r.signature) (slice_get table i) (fixed [])

@@ -19,12 +19,12 @@ RowHas P i = MatchOption (slice_get table i) ⊥ P
 abbrev pub Takes : Wanted → List ℕ → Row BuiltIn → Type 0
 Takes wanted b r = IsWanted wanted r × Accepts b r
 
--- what a walk asks for: the rows with the extension, where one is given
+-- what a walk asks for: the rows with the extension, if one is given
 abbrev pub named : Option (Bor (List ℕ)) → Wanted
 named None = Every
 named (Some extension) = Extension extension
 
--- o is the first of the numbers that have the property, and none where no number has it
+-- o is the first of the numbers that have the property, and none if no number has it
 unfoldable pub IsFirstAmong : (ℕ → Type 0) → List ℕ → Option ℕ → Type 0
 IsFirstAmong P [] o = o ≡ None
 IsFirstAmong P (i ∷ is) o = (P i × (o ≡ Some i)) ⊎ ((¬ P i) × IsFirstAmong P is o)

@@ -8,7 +8,7 @@ use Rattle.infer.specs.declared.read.watched.Watched.{Watched}
 abbrev pub inner : {R : Type 0} → Watched R → R
 inner w = w.reader
 
--- the kind of its first error, and none where no read has failed
+-- the kind of its first error, and none if no read has failed
 abbrev pub fault_of : {R : Type 0} → Watched R → Option ErrorKind
 fault_of w = w.first_error
 

@@ -104,14 +104,14 @@ pub fn built_in<A: Allocator>(infer: &Infer<A>)
     let _ = infer;
 }
 
-/// Where `get` answers a type, `is` is true of its extension, and `is_mime` of its MIME type.
+/// If `get` answers a type, `is` is true of its extension, and `is_mime` of its MIME type.
 pub fn named<A: Allocator>(infer: &Infer<A>)
     ensures { AnswersAreNamed (rows infer.now) }
 {
     let _ = infer;
 }
 
-/// Bytes behind a buffer never make its first row a later one, where each function that was added keeps its yes
+/// Bytes after a buffer never make its first row a later one, if each function that was added keeps its yes
 /// as a buffer goes on. The built-in rows do.
 pub fn index<A: Allocator>(infer: &Infer<A>)
     requires { All (λ r. AnyLasts r.signature) (custom_rows infer.now) }
@@ -121,8 +121,8 @@ pub fn index<A: Allocator>(infer: &Infer<A>)
     growth();
 }
 
-/// The first 1024 bytes decide, but for twelve rows: where the answer of the built-in rows is none or another row,
-/// it is that of the first 1024 bytes. And behind these an answer stays, or gives way to one of the twelve.
+/// The first 1024 bytes decide, but for twelve rows: if the answer of the built-in rows is none or another row,
+/// it is that of the first 1024 bytes. And after these an answer stays, or gives way to one of the twelve.
 pub fn front()
     ensures decides { FrontDecides }
     ensures follow { OnlyTheTwelveFollow }

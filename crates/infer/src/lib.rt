@@ -51,14 +51,14 @@ pub use table::file_type::{FileType as Type, Matcher, MatcherType};
 pub use table::rows as rows;
 use table::rows::ROW_COUNT;
 
-/// The type of the first built-in row that accepts `buf`, and `None` exactly where no row accepts it.
+/// The type of the first built-in row that accepts `buf`, and `None` exactly if no row accepts it.
 pub fn get(buf: &[u8]) -> Option<Type>
     ensures { IsAnswer (Accepts buf.now) table (option_map triple_of result) }
 {
     answers::get(buf)
 }
 
-/// The number of the first built-in row that accepts `buf`, and `None` exactly where no row accepts it.
+/// The number of the first built-in row that accepts `buf`, and `None` exactly if no row accepts it.
 #[inline(always)]
 pub fn position(buf: &[u8]) -> Option<usize>
     ensures first { IsFirstOf (Accepts buf.now) table result }
@@ -75,8 +75,8 @@ pub fn row(i: usize) -> Option<Type>
     answers::row(i)
 }
 
-/// The type of the first built-in row that accepts the first 8192 bytes of a file, or all where it has fewer, and
-/// `None` exactly where no row accepts them.
+/// The type of the first built-in row that accepts the first 8192 bytes of a file, or all if it has fewer, and
+/// `None` exactly if no row accepts them.
 ///
 /// It opens the file, reserves 8192 bytes and reads, in this order, as [`Infer::get_from_path`] does.
 pub fn get_from_path<R: Files, A: Allocator>(

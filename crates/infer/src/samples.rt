@@ -37,7 +37,7 @@ fn write(pieces: &Pieces, out: &mut [u8; 640])
     put(pieces.place, pieces.text, out);
 }
 
-/// Writes the sample of the built-in row `i` to the front of `out`, and zeros behind it, and gives its length.
+/// Writes the sample of the built-in row `i` to the front of `out`, and zeros after it, and gives its length.
 ///
 /// Row `i` is the first that accepts the sample. Rows [`DLL`] and [`EPUB_ARCHIVE`] are first for no buffer: for these, and from [`ROW_COUNT`] on,
 /// the answer is `None`, and `out` stays as it was.

@@ -26,12 +26,12 @@ abbrev pub AcceptsAt : List ℕ → ℤ → Type 0
 AcceptsAt b (pos i) = RowHas (Accepts b) i
 AcceptsAt b (negsuc i) = ⊥
 
--- the sample of row i, and none where there is no such row or it is first for no buffer
+-- the sample of row i, and none if there is no such row or it is first for no buffer
 abbrev pub IsSample : ℕ → Option (List ℕ) → Type 0
 IsSample i (Some sample) = HoldsAt (λ r. sample ≡ sample_of r.signature) table i × IsFirst (Accepts sample) table i
 IsSample i None = (i ≡ DLL) ⊎ (i ≡ EPUB_ARCHIVE) ⊎ (ROW_COUNT ≤ i)
 
--- the sample of the row with this number, and none where it is no number of a row
+-- the sample of the row with this number, and none if it is no number of a row
 abbrev pub IsSampleOf : ℤ → Option (List ℕ) → Type 0
 IsSampleOf (pos i) sample = IsSample i sample
 IsSampleOf (negsuc i) sample = sample ≡ None
@@ -62,7 +62,7 @@ class_name Text = codes "text"
 class_name Video = codes "video"
 class_name Custom = codes "custom"
 
--- the class with this number, and none where no class has it
+-- the class with this number, and none if no class has it
 abbrev pub IsClassOf : ℤ → Option MatcherType → Type 0
 IsClassOf code (Some class) = class_code class ≡ code
 IsClassOf code None = (class : MatcherType) → ¬ (class_code class ≡ code)

@@ -36,7 +36,7 @@ pub extern "C" fn infer_position(buf: &[u8]) -> i32
     }
 }
 
-/// The number of the first row that accepts `buf`, or -1, and whether no bytes behind `buf` can change it.
+/// The number of the first row that accepts `buf`, or -1, and whether no bytes after `buf` can change it.
 #[unsafe(no_mangle)]
 pub extern "C" fn infer_verdict(buf: &[u8], is_final: &mut bool) -> i32
     ensures first { (first : Option ℕ) × IsFirstOf (Accepts buf.now) table first × (result ≡ row_code first)
@@ -83,7 +83,7 @@ pub extern "C" fn infer_row_count() -> usize
     infer::rows::ROW_COUNT
 }
 
-/// The length of the row's MIME type, which is written to `out`, and 0 where there is no such row.
+/// The length of the row's MIME type, which is written to `out`, and 0 if there is no such row.
 #[unsafe(no_mangle)]
 pub extern "C" fn infer_mime_type(row: i32, out: &mut [u8]) -> usize
     ensures length { result ≡ option_map_or (λ t. length t.mime_type) (triple_at row) 0 }
@@ -95,7 +95,7 @@ pub extern "C" fn infer_mime_type(row: i32, out: &mut [u8]) -> usize
     }
 }
 
-/// The length of the row's extension, which is written to `out`, and 0 where there is no such row.
+/// The length of the row's extension, which is written to `out`, and 0 if there is no such row.
 #[unsafe(no_mangle)]
 pub extern "C" fn infer_extension(row: i32, out: &mut [u8]) -> usize
     ensures length { result ≡ option_map_or (λ t. length t.extension) (triple_at row) 0 }
@@ -107,7 +107,7 @@ pub extern "C" fn infer_extension(row: i32, out: &mut [u8]) -> usize
     }
 }
 
-/// The number of the row's class, and -1 where there is no such row.
+/// The number of the row's class, and -1 if there is no such row.
 #[unsafe(no_mangle)]
 pub extern "C" fn infer_class(row: i32) -> i32
     ensures { result ≡ option_map_or (λ t. class_code t.class) (triple_at row) (negsuc 0) }
@@ -118,7 +118,7 @@ pub extern "C" fn infer_class(row: i32) -> i32
     }
 }
 
-/// The length of the class's name, which is written to `out`, and 0 where no class has this number.
+/// The length of the class's name, which is written to `out`, and 0 if no class has this number.
 #[unsafe(no_mangle)]
 pub extern "C" fn infer_class_name(class: i32, out: &mut [u8]) -> usize
     ensures { (found : Option MatcherType) × IsClassOf class found
@@ -131,7 +131,7 @@ pub extern "C" fn infer_class_name(class: i32, out: &mut [u8]) -> usize
     }
 }
 
-/// The length of the row's sample, which is written to `out` where it fits, and 0 where the row has none.
+/// The length of the row's sample, which is written to `out` if it fits, and 0 if the row has none.
 #[unsafe(no_mangle)]
 pub extern "C" fn infer_sample(row: i32, out: &mut [u8]) -> usize
     ensures { (sample : Option (List ℕ)) × IsSampleOf row sample

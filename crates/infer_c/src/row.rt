@@ -37,7 +37,7 @@ pub fn accepts(i: usize, buf: &[u8]) -> bool
     asker.ask(i)
 }
 
-/// The length of the sample of row `i`, which is written to `out` where it fits, and 0 where it has none.
+/// The length of the sample of row `i`, which is written to `out` if it fits, and 0 if it has none.
 pub fn write_sample(i: usize, out: &mut [u8]) -> usize
     ensures { (sample : Option (List ℕ)) × IsSample i sample
         × (result ≡ option_map_or (λ s. length s) sample 0)

@@ -2,7 +2,7 @@
 ghost use Rattle.std.specs.Prelude.{◌≡◌, length};
 ghost use Rattle.infer_c.specs.Written.{WritesText, WritesWhole};
 
-/// The length of the text. As much of it as there is room for is written to the front of `out`, and a zero behind that.
+/// The length of the text. As much of it as there is room for is written to the front of `out`, and a zero after that.
 pub fn write_text(text: &str, out: &mut [u8]) -> usize
     ensures length { result ≡ length text.now }
     ensures written { WritesText text.now out.old out.new }
@@ -16,7 +16,7 @@ pub fn write_text(text: &str, out: &mut [u8]) -> usize
     bytes.len()
 }
 
-/// The number of the bytes, which are written to the front of `out` where they fit.
+/// The number of the bytes, which are written to the front of `out` if they fit.
 pub fn write_whole(bytes: &[u8], out: &mut [u8]) -> usize
     ensures length { result ≡ length bytes.now }
     ensures written { WritesWhole bytes.now out.old out.new }

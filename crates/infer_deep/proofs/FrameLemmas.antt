@@ -1,4 +1,4 @@
--- Skippable frames: where one stands at the front, and what is data behind them.
+-- Skippable frames: where one stands at the front, and what is data after them.
 use Rattle.std.proofs.Common.{◌≡◌, ◌↔◌, ℕ, ◌+◌, ◌-◌, ◌<◌, ◌≤◌, ◌⊎◌, inl, inr, List, [], ◌∷◌, ◌++◌, length, get_or, take, drop, refl, sym, ap, subst, ◌∙◌, arith, length-append}
 use Rattle.std.proofs.lemmas.List.{take_rest, take-append-drop, length-take-le, get_or_append_left}
 use Rattle.infer_deep.specs.Numbers.{le32}
@@ -10,7 +10,7 @@ use Rattle.infer_deep.proofs.JoinedLemmas.{IsPrefixFree, Stops, WordsBegin, same
 use Rattle.infer_deep.specs.Frames.{BeginsFrame, IsFrame, IsFramed}
 use Rattle.memchr.specs.Find.{OccursAt}
 
--- what begins as a frame does so with other bytes behind its first four
+-- what begins as a frame does so with other bytes after its first four
 BeginsFrame-carried : (b c : List ℕ) → Carries 4 b c → get_or b 0 0 ≡ get_or c 0 0 → BeginsFrame b → BeginsFrame c
 BeginsFrame-carried b c carries first f = grind (arith, carries (0x2A ∷ 0x4D ∷ 0x18 ∷ []) 1)
 
@@ -69,7 +69,7 @@ IsFrameByte x = (0x50 ≤ x) × (x ≤ 0x5F)
 IsFrame-begin : WordsBegin IsFrame IsFrameByte
 IsFrame-begin frame f = let s = f.sized in (omega arith, (f.begins.low, f.begins.high))
 
--- what is framed is a text behind frames
+-- what is framed is a text after frames
 abbrev Stands : List ℕ → List ℕ → Type 0
 Stands magic b = OccursAt b magic 0
 

@@ -1,11 +1,11 @@
--- Words joined: what is left after them is one, however it is found, and what holds of a buffer behind them.
+-- Words joined: what is left after them is one, however it is found, and what holds of a buffer after them.
 use Rattle.std.proofs.Common.{◌≡◌, ◌↔◌, ℕ, ◌<◌, ◌≤◌, ◌⊎◌, inl, inr, List, [], ◌∷◌, ◌++◌, length, get_or, take, refl, sym, ap, subst, ◌∙◌}
 use Rattle.std.proofs.lemmas.List.{append_assoc, append_cancel_left, take_at, get_or_append_left}
 use Rattle.std.specs.List.{AllByRecursion, concat}
 use Rattle.infer_deep.specs.Joined.{SkipsTo, NoneBegins, BeginsWith, LeadsTo, Behind}
 use Rattle.infer_deep.specs.Signatures.{Lasts, ComesWith, AreApart}
 
--- a word of the kind P begins another only where they are the same
+-- a word of the kind P begins another only if they are the same
 abbrev pub IsPrefixFree : (List ℕ → Type 0) → Type 0
 IsPrefixFree P = (v w x y : List ℕ) → P v → P w → v ++ x ≡ w ++ y → v ≡ w
 
@@ -67,7 +67,7 @@ module _ (P : List ℕ → Type 0) (Q : ℕ → Type 0) (begin : WordsBegin P Q)
   pub NoneBegins-first : (b : List ℕ) → (¬ Q (get_or b 0 0)) → NoneBegins P b
   NoneBegins-first b not word rest is e = not (begun-first b rest (record { word = word; kind = is; whole = e }))
 
--- what T is of is what S is of behind words of the kind P
+-- what T is of is what S is of after words of the kind P
 module _ (P S T : List ℕ → Type 0) (is : (b : List ℕ) → Behind P S b ↔ T b) where
   -- the first byte is one of the kind Q, or what S wants
   pub Behind-lead : (Q R : ℕ → Type 0) → WordsBegin P Q → ((rest : List ℕ) → S rest → R (get_or rest 0 0))
@@ -114,6 +114,6 @@ module _ (P S T : List ℕ → Type 0) (is : (b : List ℕ) → Behind P S b ↔
         let there = Behind-left b left skips none in
         (λ t. there.0 (here.1 t), λ t. here.0 (there.1 t))
 
-    -- what excludes S behind them excludes T
+    -- what excludes S after them excludes T
     pub Behind-apart : (R : List ℕ → Type 0) → Stops R P → AreApart R S → AreApart (Behind P R) T
     Behind-apart R stops_r apart b (rest, s, h) t = apart rest h ((Behind-left b rest s (stops_r rest h)).1 t)

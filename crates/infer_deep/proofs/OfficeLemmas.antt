@@ -130,7 +130,7 @@ module _ (b more : List ℕ) where
         third_found = IsHeaderFrom-append _ third t.third_found;
       }
 
-  -- where the fourth header stands, the bytes behind the third are all there
+  -- where the fourth header stands, the bytes after the third are all there
   DecidesBehind-append : (third header : ℕ) → DecidesBehind b third header → DecidesBehind (b ++ more) third header
   DecidesBehind-append third header (inl h) = inl (HasFolder-append (third + 30) h.0, h.1)
   DecidesBehind-append third header (inr h) =

@@ -63,7 +63,7 @@ lacks_more b x y n at m le reach before lacks p lt pair =
       | inr l ↦ lacks (p - at) (omega arith) (pair_in_part b x y at (at + 129) p (omega arith) (omega arith) pair)
     ]
 
--- a search may begin behind n places that lack the two bytes of the text from `rare` on
+-- a search may begin after n places that lack the two bytes of the text from `rare` on
 module _ (b text : List ℕ) (rare start end m n : ℕ) (two : rare + 2 ≤ length text) (is : m ≡ min end (length b))
     (lacks : LacksPair (get_or text rare 0) (get_or text (rare + 1) 0) (take (m - (start + rare)) (drop (start + rare) b)) n) where
   none_before : (q : ℕ) → q < start + n → ¬ IsWithin b text start end q
@@ -79,7 +79,7 @@ module _ (b text : List ℕ) (rare start end m n : ℕ) (two : rare + 2 ≤ leng
   pub first_later : (r : Option ℕ) → IsFirstWithin b text (start + n) end r → IsFirstWithin b text start end r
   first_later r h = IsFirstWithin-skip b text start (start + n) end (omega arith) none_before r h
 
-  -- it does not fit there, or stands there, or the search may begin behind that place too
+  -- it does not fit there, or stands there, or the search may begin after that place too
   pub none_fits : (m - start - n < length text) → IsFirstWithin b text start end None
   none_fits short = first_later None (λ p w. let low = w.low in let high = w.high in let fits = w.stands.fits in omega arith)
 

@@ -1,4 +1,4 @@
--- White space, marks and tags: what a buffer begins with, and what is markup behind them.
+-- White space, marks and tags: what a buffer begins with, and what is markup after them.
 use Rattle.std.proofs.Common.{◌≡◌, ◌↔◌, ℕ, zero, suc, ◌+◌, ◌-◌, ◌<◌, ◌≤◌, ◌⊎◌, Bool, true, ◌&&◌, not, List, [], ◌∷◌, ◌++◌, length, get_or, take, drop, map, refl, sym, ap, subst, ◌∙◌, inl, inr, arith, eqb, ltb, length-append}
 use Rattle.std.proofs.Math.ListN.{get_or-map}
 use Rattle.std.proofs.lemmas.List.{take-append-drop, take_at, take_rest, get_or_append_left, drop_more, length-map, length-take-le, append_assoc}
@@ -201,7 +201,7 @@ NoneBegins-mark b first = NoneBegins-first IsMark IsMarkByte IsMark-begin b (λ 
 HasXml-stops : Stops HasXml IsMark
 HasXml-stops b h = NoneBegins-mark b (HasXml-open b h)
 
--- XML is marks and the text behind white space
+-- XML is marks and the text after white space
 abbrev IsMarkedXml : List ℕ → Type 0
 IsMarkedXml = Behind IsMark HasXml
 

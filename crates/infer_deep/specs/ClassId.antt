@@ -13,8 +13,8 @@ abbrev pub BeginsCompound : List ℕ → Type 0
 BeginsCompound b = OccursAt b compound_header 0
 
 -- the root entry begins at `root`, with the sector that the header names at 48 as the directory's first: the header
--- takes a sector too, and sectors have 512 bytes where the major version at 26 and the sector shift at 30 are 3 and
--- 9, and 4096 where they are 4 and 12
+-- takes a sector too, and sectors have 512 bytes if the major version at 26 and the sector shift at 30 are 3 and
+-- 9, and 4096 if they are 4 and 12
 abbrev pub BeginsRoot : List ℕ → ℕ → Type 0
 BeginsRoot b root =
     ((le16 b 26 ≡ 3) × (le16 b 30 ≡ 9) × (root ≡ (le32 b 48 + 1) * 512))

@@ -1,4 +1,4 @@
--- Data behind skippable frames, which RFC 8878 defines in section 3.1.2.
+-- Data after skippable frames, which RFC 8878 defines in section 3.1.2.
 use Rattle.std.specs.Prelude.{◌≡◌, ℕ, ◌+◌, ◌≤◌, List, [], ◌∷◌, ◌++◌, length, slice_index}
 use Rattle.memchr.specs.Find.{OccursAt}
 use Rattle.infer_deep.specs.Numbers.{le32}
@@ -27,10 +27,10 @@ zst_magic = 0x28 ∷ 0xB5 ∷ 0x2F ∷ 0xFD ∷ []
 abbrev pub lz4_magic : List ℕ
 lz4_magic = 0x04 ∷ 0x22 ∷ 0x4D ∷ 0x18 ∷ []
 
--- b is Zstandard data behind skippable frames
+-- b is Zstandard data after skippable frames
 abbrev pub IsZst : List ℕ → Type 0
 IsZst b = IsFramed zst_magic b
 
--- b is LZ4 data behind skippable frames
+-- b is LZ4 data after skippable frames
 abbrev pub IsLz4 : List ℕ → Type 0
 IsLz4 b = IsFramed lz4_magic b

@@ -57,7 +57,7 @@ pub record Apart : Type 0 where
   pub open_boxed : AreApart IsOpenBox IsBoxed
   pub html_xml : AreApart IsHtml IsXml
 
--- what more bytes can bring to a buffer of at least 1024 bytes, and how the buffer begins where they can
+-- what more bytes can bring to a buffer of at least 1024 bytes, and how the buffer begins if they can
 pub record Arrivals : Type 0 where
   pub heif : ComesWith IsHeif IsOpenBox
   pub avif : ComesWith IsAvif IsOpenBox

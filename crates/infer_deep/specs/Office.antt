@@ -33,7 +33,7 @@ pub record IsThirdHeader (b : List ℕ) (third : ℕ) : Type 0 where
   pub second_found : IsHeaderFrom b (le32 b 18 + 49) second
   pub third_found : IsHeaderFrom b (second + 30) third
 
--- behind the third header decides the third itself where a folder of Office stands 30 past it, and otherwise the
+-- after the third header decides the third itself if a folder of Office stands 30 past it, and otherwise the
 -- fourth, the least from 56 past the third on
 abbrev pub DecidesBehind : List ℕ → ℕ → ℕ → Type 0
 DecidesBehind b third header =
@@ -46,8 +46,8 @@ pub record IsDecidingHeader (b : List ℕ) (header : ℕ) : Type 0 where
   pub third_found : IsThirdHeader b third
   pub decides : DecidesBehind b third header
 
--- b begins as a ZIP archive, and p is the place of the folder that decides: 30 where a folder stands there, and
--- otherwise, behind a name of Office, 30 past the header whose folder decides
+-- b begins as a ZIP archive, and p is the place of the folder that decides: 30 if a folder stands there, and
+-- otherwise, after a name of Office, 30 past the header whose folder decides
 abbrev pub IsDecidingPlace : List ℕ → ℕ → Type 0
 IsDecidingPlace b p =
     OccursAt b zip_header 0

@@ -13,11 +13,11 @@ pub record IsFirstPlace (b text : List ℕ) (start end p : ℕ) : Type 0 where
   pub here : IsWithin b text start end p
   pub before : (q : ℕ) → q < p → ¬ IsWithin b text start end q
 
--- r is the least such place, and none only where there is none
+-- r is the least such place, and none only if there is none
 abbrev pub IsFirstWithin : List ℕ → List ℕ → ℕ → ℕ → Option ℕ → Type 0
 IsFirstWithin b text start end r =
     MatchOption r ((p : ℕ) → ¬ IsWithin b text start end p) (λ p. IsFirstPlace b text start end p)
 
--- r is a place that has the property, and none only where no place has it
+-- r is a place that has the property, and none only if no place has it
 abbrev pub FindsPlace : (ℕ → Type 0) → Option ℕ → Type 0
 FindsPlace P r = MatchOption r ((p : ℕ) → ¬ P p) (λ p. P p)

@@ -1,15 +1,15 @@
 -- What can be said of a signature, which is a property of buffers.
 use Rattle.std.specs.Prelude.{ℕ, ◌↔◌, ◌≤◌, ◌⊎◌, List, ◌++◌, length, take}
 
--- a buffer that has it has it with any bytes behind it too
+-- a buffer that has it has it with any bytes after it too
 abbrev pub Lasts : (List ℕ → Type 0) → Type 0
 Lasts S = (b more : List ℕ) → S b → S (b ++ more)
 
--- a buffer of at least 1024 bytes has it just where its first 1024 bytes have it
+-- a buffer of at least 1024 bytes has it exactly if its first 1024 bytes have it
 abbrev pub IsNear : (List ℕ → Type 0) → Type 0
 IsNear S = (b : List ℕ) → 1024 ≤ length b → S b ↔ S (take 1024 b)
 
--- where more bytes bring S to a buffer of at least 1024 bytes, the buffer has Q
+-- if more bytes bring S to a buffer of at least 1024 bytes, the buffer has Q
 abbrev pub ComesWith : (List ℕ → Type 0) → (List ℕ → Type 0) → Type 0
 ComesWith S Q = (b more : List ℕ) → 1024 ≤ length b → S (b ++ more) → S b ⊎ Q b
 

@@ -16,7 +16,7 @@ abbrev pub IsMatroska : List ℕ → List ℕ → Type 0
 IsMatroska doc_type b =
     (257 ≤ length b) × OccursAt b (0x1A ∷ 0x45 ∷ 0xDF ∷ 0xA3 ∷ []) 0 × StandsBy doc_type 256 b
 
--- the document type "matroska", behind the two bytes of its EBML name and one of its size
+-- the document type "matroska", after the two bytes of its EBML name and one of its size
 abbrev pub mkv_type : List ℕ
 mkv_type = 0x42 ∷ 0x82 ∷ 0x88 ∷ codes "matroska"
 

@@ -32,7 +32,7 @@ pub fn is_lz4(buf: &[u8]) -> bool
     is_framed(buf, b"\x04\x22\x4D\x18")
 }
 
-/// What follows the skippable frames at the front of `buf`, which is Zstandard or LZ4 exactly where `buf` is.
+/// What follows the skippable frames at the front of `buf`, which is Zstandard or LZ4 exactly if `buf` is.
 ///
 /// Whoever asks for both asks them of this, and pays for the frames once.
 pub fn after_skippable_frames(buf: &[u8]) -> &[u8]

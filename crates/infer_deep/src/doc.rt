@@ -28,8 +28,8 @@ pub fn is_doc(buf: &[u8]) -> bool
 
 /// Word's document in a ZIP archive: its folder "word/" decides.
 ///
-/// One of the folders "word/", "ppt/" and "xl/" in the first entry decides. Where the first entry's name begins with
-/// "[Content_Types].xml", "_rels/.rels" or "docProps", the one in the third local header decides, and where there is
+/// One of the folders "word/", "ppt/" and "xl/" in the first entry decides. If the first entry's name begins with
+/// "[Content_Types].xml", "_rels/.rels" or "docProps", the one in the third local header decides, and if there is
 /// none, the one in the fourth. Each header is searched for in 6000 bytes.
 pub fn is_docx(buf: &[u8]) -> bool
     ensures { IsTrue result ↔ IsDocx buf.now }
@@ -105,7 +105,7 @@ fn is_office<const N: usize>(buf: &[u8], folder: &[u8; N]) -> bool
     }
 }
 
-/// What follows in `buf` from the folder on that decides, and no bytes where none decides: `buf` is a document of the
+/// What follows in `buf` from the folder on that decides, and no bytes if none decides: `buf` is a document of the
 /// program whose folder this begins with.
 ///
 /// Whoever asks for all three asks them of this, and pays for the search once.
@@ -136,7 +136,7 @@ fn deciding_place(buf: &[u8]) -> Option<usize>
     Some(header + 30)
 }
 
-/// Where the header stands whose folder decides behind a name of Office: the third, or where it has no folder, the
+/// Where the header stands whose folder decides after a name of Office: the third, or where it has no folder, the
 /// fourth.
 #[tactic(auto, using(crate::proofs::OfficeLemmas::no_third, crate::proofs::OfficeLemmas::fourth_from_search))]
 fn deciding_header(buf: &[u8]) -> Option<usize>

@@ -8,7 +8,7 @@ use crate::places::{find, stands_at};
 /// HEIF: at least 16 bytes, and first a whole box "ftyp" that has the major brand heic or heix, or the major brand
 /// mif1 or msf1 and the compatible brand heic.
 ///
-/// The first four bytes state the length of the box, the highest first. Brands behind the box do not count, and
+/// The first four bytes state the length of the box, the highest first. Brands after the box do not count, and
 /// neither does a box that states a length greater than that of `buf`.
 #[inline(always)]
 pub fn is_heif(buf: &[u8]) -> bool

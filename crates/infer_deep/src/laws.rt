@@ -1,7 +1,7 @@
 //! Facts about the definitions, each the contract of a function that does nothing.
 ghost use Rattle.infer_deep.specs.Laws.{Apart, Arrivals, Beginnings, Growth, Leads, Near};
 
-/// What a matcher accepts it accepts with any bytes behind it too.
+/// What a matcher accepts it accepts with any bytes after it too.
 pub fn growth()
     ensures { Growth }
 {}
@@ -11,7 +11,7 @@ pub fn near()
     ensures { Near }
 {}
 
-/// The first bytes that each signature allows, where it does not allow all of them.
+/// The first bytes that each signature allows, if it does not allow all of them.
 pub fn leads()
     ensures { Leads }
 {}

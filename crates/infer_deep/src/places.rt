@@ -121,7 +121,7 @@ pub(crate) fn search<const N: usize>(
     search_pairs(buf, text, start + free + 1, end)
 }
 
-/// The same by two bytes of `text`: where they stand, the whole of it is compared.
+/// The same by two bytes of `text`: if they stand, the whole of it is compared.
 #[tactic(auto, using(crate::proofs::SearchLemmas::first_at_pair, crate::proofs::SearchLemmas::none_past_pair, crate::proofs::SearchLemmas::none_without_pair))]
 #[inline(never)]
 fn search_pairs(buf: &[u8], text: &[u8], start: usize, end: usize) -> Option<usize>

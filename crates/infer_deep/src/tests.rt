@@ -153,7 +153,7 @@ fn class_ids_tell(rt: HostRuntime) -> Result<(), Fail> {
     Ok(())
 }
 
-/// A package of four entries, of which the first states its size, `gap` bytes lie behind its name, the third is in
+/// A package of four entries, of which the first states its size, `gap` bytes lie after its name, the third is in
 /// the folder and the fourth in "word/".
 fn package(alloc: Global, size: &[u8], gap: u16, folder: &[u8]) -> Result<Vec<u8>, AllocError> {
     let gap = gap as usize;

@@ -61,7 +61,7 @@ pub fn is_xml(buf: &[u8]) -> bool
     begins_in_any_case(text, b"<?xml")
 }
 
-/// What follows the white space at the front of `buf`, which is HTML or XML exactly where `buf` is.
+/// What follows the white space at the front of `buf`, which is HTML or XML exactly if `buf` is.
 ///
 /// Whoever asks for both asks them of this, and pays for the white space once.
 pub fn after_white_space(buf: &[u8]) -> &[u8]

@@ -4,7 +4,7 @@ ghost use Rattle.infer_sig.specs.Signature.{Alternative, stands};
 ghost use Rattle.infer_sig.specs.Places.{StandsByPlace};
 ghost use Rattle.infer_sig.specs.Laws.{IsNear, Lasts, Leads, is_within};
 
-/// A text stands at a place exactly where each place from there on is in the buffer and holds the text's byte.
+/// A text stands at a place exactly if each place from there on is in the buffer and holds the text's byte.
 #[tactic(auto, using(crate::proofs::PlaceLemmas::stands_by_place))]
 pub fn by_place()
     ensures { (place : ℕ) (t buf : List ℕ) → IsTrue (stands place t buf) ↔ StandsByPlace place t buf }
@@ -15,7 +15,7 @@ pub fn growth()
     ensures { (signature : List Alternative) → Lasts signature }
 {}
 
-/// Where no part and no least length of a signature reaches past the first n bytes, these decide, however long
+/// If no part and no least length of a signature reaches past the first n bytes, these decide, however long
 /// the buffer is.
 pub fn near()
     ensures { (n : ℕ) (signature : List Alternative) → IsTrue (is_within n signature) → IsNear n signature }

@@ -1,4 +1,4 @@
--- The cases in which bytes behind a buffer can still bring a row that comes before its own.
+-- The cases in which bytes after a buffer can still bring a row that comes before its own.
 use Rattle.std.specs.Prelude.{ℕ, List, Option, Some}
 use Rattle.infer.specs.Arrivals.{Beginning, Begins, archive, compound, frame, last_after, mark, open_box, white}
 use Rattle.infer.specs.Laws.{IsNotLater}
@@ -22,6 +22,6 @@ Holds case b = Begins (beginning_of case) b
 abbrev pub bound : Case → ℕ
 bound case = last_after (beginning_of case)
 
--- the row, where none comes after all, is not after the last that a case which holds can bring
+-- the row is not after the last that a case which holds can bring; none comes after all
 abbrev pub IsWithinBounds : List ℕ → Option ℕ → Type 0
 IsWithinBounds b row = (case : Case) → Holds case b → IsNotLater row (Some (bound case))

@@ -10,7 +10,7 @@ use Rattle.infer_sniff.specs.declared.case.Case.{Case}
 use Rattle.infer_sniff.specs.declared.verdict.Verdict.{Verdict}
 use Rattle.infer_sniff.specs.declared.verdict.Verdict.TheVariants.{SoFar, Final}
 
--- the type is that of the first built-in row that accepts the buffer, and none where no row does
+-- the type is that of the first built-in row that accepts the buffer, and none if no row does
 abbrev pub IsTypeOf : List ℕ → Option FileType → Type 0
 IsTypeOf b answer = IsAnswer (Accepts b) table (option_map triple_of answer)
 
@@ -38,7 +38,7 @@ IsVerdict b (Final answer) = IsSettled b × IsTypeOf b answer
 abbrev pub AreAlike : Verdict → Verdict → Type 0
 AreAlike v w = (IsFinal v ↔ IsFinal w) × (option_map triple_of (found_of v) ≡ option_map triple_of (found_of w))
 
--- where the verdict is final, its type is that of everything that grows the buffer, and so is the verdict
+-- if the verdict is final, its type is that of everything that grows the buffer, and so is the verdict
 abbrev pub StaysFinal : List ℕ → Verdict → Type 0
 StaysFinal b (SoFar answer) = Unit {0}
 StaysFinal b (Final answer) = (more : List ℕ) → IsTypeOf (b ++ more) answer × IsVerdict (b ++ more) (Final answer)

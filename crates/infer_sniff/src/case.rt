@@ -1,4 +1,4 @@
-//! What bytes behind a buffer can still bring.
+//! What bytes after a buffer can still bring.
 ghost use Rattle.std.specs.Prelude.{◌≡◌, ◌↔◌, ◌≤◌, IsTrue, MatchOption};
 ghost use Rattle.infer.specs.Brands.{IsOpenBox};
 ghost use Rattle.infer.specs.Frames.{BeginsFrame};
@@ -9,7 +9,7 @@ use infer_deep::doc::has_office_name;
 use infer_deep::numbers::be32;
 use infer_deep::places::stands_at;
 
-/// A case in which bytes behind a buffer can bring a row that comes before the buffer's own.
+/// A case in which bytes after a buffer can bring a row that comes before the buffer's own.
 #[derive(Clone, Copy)]
 pub enum Case {
     /// The first box, "ftyp", states a length greater than the buffer's, and its end decides about HEIF and AVIF.
@@ -18,11 +18,11 @@ pub enum Case {
     Compound,
     /// A ZIP archive whose first entry has a name of Office, and whose later ones tell the kind of document.
     Office,
-    /// A skippable frame, behind which Zstandard or LZ4 data can begin.
+    /// A skippable frame, after which Zstandard or LZ4 data can begin.
     Frame,
-    /// White space, behind which HTML or XML can begin.
+    /// White space, after which HTML or XML can begin.
     Space,
-    /// A byte order mark, behind which XML can begin.
+    /// A byte order mark, after which XML can begin.
     Mark,
 }
 
@@ -42,7 +42,7 @@ impl Case {
         }
     }
 
-    /// Of the cases that hold of `buf` one whose bound is the least, and `None` where none holds.
+    /// Of the cases that hold of `buf` one whose bound is the least, and `None` if none holds.
     pub fn of(buf: &[u8]) -> Option<Case>
         ensures { MatchOption result ((case : Case) → ¬ Holds case buf.now)
             (λ case. Holds case buf.now × ((other : Case) → Holds other buf.now → bound case ≤ bound other)) }

@@ -15,7 +15,7 @@ use std::io::Read;
 /// How many bytes are read at once: no verdict is final before.
 const PIECE: usize = 1024;
 
-/// Bytes are enough where their verdict is final.
+/// Bytes are enough if their verdict is final.
 struct Settled;
 
 impl Enough for Settled {
@@ -26,7 +26,7 @@ impl Enough for Settled {
     }
 }
 
-/// The type of the first 8192 bytes of a reader, or of all where it has fewer. It reads 1024 bytes at a time, and no
+/// The type of the first 8192 bytes of a reader, or of all if it has fewer. It reads 1024 bytes at a time, and no
 /// read follows one after which the verdict is final.
 ///
 /// It reserves 8192 bytes first. `Memory` means that these were refused and nothing was read, `Read` that a read

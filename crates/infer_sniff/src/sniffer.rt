@@ -40,7 +40,7 @@ impl<A: Allocator> Sniffer<A> {
         })
     }
 
-    /// Adds a piece behind the bytes so far, of which the first 8192 are kept, and answers the verdict of these.
+    /// Adds a piece after the bytes so far, of which the first 8192 are kept, and answers the verdict of these.
     ///
     /// It takes no memory and cannot refuse. It costs a copy of what is kept of the piece and, as long as the verdict is
     /// not final, one `get` of all that is kept.
@@ -58,7 +58,7 @@ impl<A: Allocator> Sniffer<A> {
         self.verdict
     }
 
-    /// Pushes the pieces in order, and answers the last verdict, or the present one where there are none.
+    /// Pushes the pieces in order, and answers the last verdict, or the present one if there are none.
     pub fn push_all(&mut self, pieces: &[&[u8]]) -> Verdict
         ensures kept { self.new ≡ head FRONT (self.old ++ concat (map (λ piece. piece.now) pieces.now)) }
         ensures grows { (added : List ℕ) × (self.new ≡ self.old ++ added) }
@@ -80,7 +80,7 @@ impl<A: Allocator> Sniffer<A> {
         self.verdict
     }
 
-    /// The first 8192 bytes of all that was pushed, or all where these are fewer.
+    /// The first 8192 bytes of all that was pushed, or all if these are fewer.
     pub fn kept(&self) -> &[u8]
         ensures bytes { result.now ≡ self.now }
         ensures few { length result.now ≤ FRONT }

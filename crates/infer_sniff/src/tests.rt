@@ -12,13 +12,13 @@ use std::alloc::{AllocError, Allocator, Global};
 use std::io::{self, Read, Write};
 use std::test::Fail;
 
-/// Whether the verdict is final, and the extension of its type, empty where it has none.
+/// Whether the verdict is final, and the extension of its type, empty if it has none.
 fn told(verdict: Verdict) -> (bool, &'static str) {
     let extension = verdict.found().map_or("", |found| found.extension());
     (verdict.is_final(), extension)
 }
 
-/// A buffer of `len` bytes, or of more where the texts go further, each `fill` but for the texts at their places,
+/// A buffer of `len` bytes, or of more if the texts go further, each `fill` but for the texts at their places,
 /// which ascend.
 fn filled_but(
     alloc: Global,
@@ -35,7 +35,7 @@ fn filled_but(
     Ok(buf)
 }
 
-/// The verdict of the pieces, one behind the other, on a new sniffer.
+/// The verdict of the pieces, one after the other, on a new sniffer.
 fn judged<A: Allocator>(alloc: A, pieces: &[&[u8]]) -> Result<(bool, &'static str), AllocError> {
     let mut sniffer = Sniffer::new(alloc)?;
     Ok(told(sniffer.push_all(pieces)))
@@ -164,7 +164,7 @@ macro_rules! compound {
     };
 }
 
-// A document of Office whose third header stands behind the 1024th byte.
+// A document of Office whose third header stands after the 1024th byte.
 macro_rules! office {
     ($folder:literal) => {
         &[

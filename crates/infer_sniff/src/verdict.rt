@@ -16,7 +16,7 @@ const LEAST: usize = 1024;
 pub enum Verdict {
     /// More bytes may change the type, or it is not known that none do.
     SoFar(Option<Type>),
-    /// No bytes behind those so far change the type, nor this verdict.
+    /// No bytes after those so far change the type, nor this verdict.
     Final(Option<Type>),
 }
 
@@ -30,7 +30,7 @@ impl Verdict {
         }
     }
 
-    /// Whether no bytes behind those so far change the type.
+    /// Whether no bytes after those so far change the type.
     pub fn is_final(self) -> bool
         ensures { IsTrue result ↔ IsFinal self }
     {
@@ -77,7 +77,7 @@ fn first_of(buf: &[u8]) -> (Option<usize>, Option<Type>)
     }
 }
 
-/// Whether nothing behind `buf` can change its first row.
+/// Whether nothing after `buf` can change its first row.
 pub fn is_settled(buf: &[u8], place: Option<usize>) -> bool
     requires { IsFirstOf (Accepts buf.now) table place }
     ensures { IsTrue result ↔ IsSettled buf.now }

@@ -21,7 +21,7 @@ use Rattle.infer_tool.specs.declared.outcome.Outcome.TheVariants.{Known}
 some_row : Row BuiltIn
 some_row = row Text [] [] html
 
--- the word at 1 names what stands behind the option
+-- the word at 1 names what stands after the option
 pub second_is : {A : Type 0} (name_of : A → List ℕ) (words : List A) (word : A) (name : List ℕ) → 1 < length words
     → word ≡ get_or words 1 word → name ≡ name_of word → name ≡ get_or (map name_of words) 1 []
 second_is name_of words word name lt at named = named ∙ ap name_of at ∙ sym (get_or-map name_of words 1 word [] lt)

@@ -15,7 +15,7 @@ fault_text (Open kind) = codes "cannot open"
 fault_text (Read kind) = codes "cannot read"
 fault_text Memory = codes "no memory"
 
--- what is said where the type with this extension has no sample, or there is none
+-- what is said if the type with this extension has no sample, or there is none
 abbrev pub no_sample_line : List ℕ → List ℕ
 no_sample_line extension = extension ++ (codes ": no sample" ++ 0x0A ∷ [])
 

@@ -24,12 +24,12 @@ outcome_of (Ok (Some t)) = Known
 outcome_of (Ok None) = Unknown
 outcome_of (Err fault) = Failed
 
--- what is written: the line, and nothing where there was a fault
+-- what is written: the line, and nothing if there was a fault
 abbrev pub written : List ℕ → Result (Option Triple) Fault → List ℕ
 written name (Ok found) = line name found
 written name (Err fault) = []
 
--- what is written of a fault, and nothing where there was none
+-- what is written of a fault, and nothing if there was none
 abbrev pub fault_written : List ℕ → Result (Option Triple) Fault → List ℕ
 fault_written name (Ok found) = []
 fault_written name (Err fault) = fault_line name fault
@@ -48,7 +48,7 @@ abbrev pub Reports : Outcome → List ℕ → Result (Option Triple) Fault → (
 Reports outcome name answer old new err_old err_new =
     (outcome ≡ outcome_of answer) × Appends old new (written name answer) × Appends err_old err_new (fault_written name answer)
 
--- the answer of some bytes, at most n, and of the first n of those that were left, where these are known
+-- the answer of some bytes, at most n, and of the first n of those that were left, if these are known
 abbrev pub IsFound : ℕ → Option (List ℕ) → Option Triple → Type 0
 IsFound n left found =
     ((b : List ℕ) × IsBuffer b × (length b ≤ n) × IsAnswer (Accepts b) table found) × IfSome left (λ s. IsAnswer (Accepts (head n s)) table found)
@@ -59,7 +59,7 @@ abbrev pub ReportsInput : ℕ → Option (List ℕ) → Outcome → List ℕ →
 ReportsInput n left outcome name old new err_old err_new =
     (answer : Result (Option Triple) Fault) × IfOk answer (IsFound n left) × Reports outcome name answer old new err_old err_new
 
--- `Failed` where a write has failed, and otherwise what is said
+-- `Failed` if a write has failed, and otherwise what is said
 abbrev pub UnlessFailed : Bool → Outcome → Type 0 → Type 0
 UnlessFailed true outcome Said = outcome ≡ Failed
 UnlessFailed false outcome Said = Said

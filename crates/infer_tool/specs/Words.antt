@@ -13,6 +13,6 @@ sample_option = codes "--sample"
 abbrev pub front_option : List ℕ
 front_option = codes "--front"
 
--- the word behind the option, and the empty text where there is none
+-- the word after the option, and the empty text if there is none
 abbrev pub second : List (List ℕ) → List ℕ
 second words = slice_index_or words 1 []

@@ -4,7 +4,7 @@ ghost use Rattle.infer_tool.specs.Limit.{IsLimit};
 
 const MOST: usize = 65536;
 
-/// The number that the word writes with decimal digits alone, where it is from 1 to 65536, and `None` for every other
+/// The number that the word writes with decimal digits alone, if it is from 1 to 65536, and `None` for every other
 /// word.
 pub fn limit_of(word: &str) -> Option<usize>
     ensures { MatchOption result ((n : ℕ) → ¬ IsLimit word.now n) (λ n. IsLimit word.now n) }
@@ -18,7 +18,7 @@ pub fn limit_of(word: &str) -> Option<usize>
     }
 }
 
-/// Whether the word begins with a plus, behind which a number may be parsed too.
+/// Whether the word begins with a plus, after which a number may be parsed too.
 fn has_plus(word: &str) -> bool
     ensures { IsTrue result ↔ (slice_index word.now 0 ≡ 0x2B) }
 {

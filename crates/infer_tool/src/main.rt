@@ -42,8 +42,8 @@ const LINE_BUFFER: usize = 8192;
 ///
 /// Only the first word can be an option. Behind `--front` stand the number of bytes to look at, from 1 to 65536 in
 /// place of 8192, and then paths, or none for `input`. Behind `--sample` stands one extension, and the sample of the
-/// first type with it is written instead. Where these words are wrong, `err` is told, nothing is read and nothing is
-/// written to `out`. The outcome is the worst one, and `Failed` where a write to `out` failed.
+/// first type with it is written instead. If these words are wrong, `err` is told, nothing is read and nothing is
+/// written to `out`. The outcome is the worst one, and `Failed` if a write to `out` failed.
 pub fn run<R: Files, A: Allocator + Copy, I: Read + Drop, W: Write, E: Write>(
     rt: &R,
     alloc: A,
@@ -111,7 +111,7 @@ fn is_text(word: &str, text: &str) -> bool
     word == text
 }
 
-/// Runs behind the first word, which asks for a sample.
+/// Runs after the first word, which asks for a sample.
 fn run_asked<W: Write, E: Write>(
     words: &[String],
     out: &mut WatchedWriter<W>,
@@ -132,7 +132,7 @@ fn run_asked<W: Write, E: Write>(
     run_sample(words[1].as_str(), out, err)
 }
 
-/// Runs behind the first word, which chooses the limit.
+/// Runs after the first word, which chooses the limit.
 fn run_limited<R: Files, A: Allocator + Copy, I: Read + Drop, W: Write, E: Write>(
     rt: &R,
     alloc: A,
@@ -214,7 +214,7 @@ fn run_paths<R: Files, A: Allocator + Copy, W: Write, E: Write>(
     outcome
 }
 
-/// Writes out the last bytes of a run: the outcome is its own, and `Failed` exactly where a write or this flush failed.
+/// Writes out the last bytes of a run: the outcome is its own, and `Failed` exactly if a write or this flush failed.
 fn flush<W: Write>(outcome: Outcome, out: &mut WatchedWriter<W>) -> Outcome
     ensures kept { UnlessFailed (has_failed out.new) result (result ≡ outcome) }
     ensures bytes { Keeps (W.contents (inner out.old)) (W.contents (inner out.new)) }
@@ -253,7 +253,7 @@ fn main(rt: HostRuntime) -> ExitCode {
     ExitCode::from(outcome.status())
 }
 
-/// Runs through buffers for lines: a line, also one of `err`, costs one system call, and several where the buffer is
+/// Runs through buffers for lines: a line, also one of `err`, costs one system call, and several if the buffer is
 /// refused.
 fn run_lines<R: Files, A: Allocator + Copy, I: Read + Drop, W: Write, E: Write>(
     rt: &R,

@@ -12,7 +12,7 @@ use std::alloc::Allocator;
 use std::io::{Read, Write};
 use std::rt::Files;
 
-/// Writes the line of an answer to `out`, or that of a fault to `err`. It is `Failed` exactly where the answer is a
+/// Writes the line of an answer to `out`, or that of a fault to `err`. It is `Failed` exactly if the answer is a
 /// fault or a write to `out` has failed.
 pub fn report<W: Write, E: Write>(
     name: &str,

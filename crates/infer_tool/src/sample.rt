@@ -17,7 +17,7 @@ use infer::Type;
 use infer::rows::{ROW_COUNT, numbers};
 use std::io::Write;
 
-/// Writes the sample of the first row with this extension to `out`, and nothing behind it. Where there is no such
+/// Writes the sample of the first row with this extension to `out`, and nothing after it. If there is no such
 /// row, or it has no sample, `err` is told so and nothing is written to `out`.
 pub fn run_sample<W: Write, E: Write>(
     extension: &str,

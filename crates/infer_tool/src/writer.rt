@@ -9,7 +9,7 @@ use std::io::{self, Write};
 
 /// A writer that remembers whether a write or a flush of it failed.
 ///
-/// No other code can set that, so where it tells of a failure there was one.
+/// No other code can set that, so if it tells of a failure there was one.
 #[derive(Drop)]
 pub struct WatchedWriter<W: Write> {
     writer: W,

@@ -12,7 +12,7 @@ use Rattle.infer_uses.specs.declared.name.Choice.TheVariants.{Name, Bytes, NameA
 abbrev pub IsAgreed : List ℕ → List ℕ → Type 0
 IsAgreed extension b = SomeBoth (HasExtension extension) (Accepts b) table
 
--- the name's where a row with its extension accepts the buffer or no row does, and otherwise the answer
+-- the name's if a row with its extension accepts the buffer or no row does, and otherwise the answer
 abbrev pub IsChoice : List ℕ → List ℕ → Choice → Type 0
 IsChoice extension b Name = IsAgreed extension b
 IsChoice extension b (Bytes found) = (¬ IsAgreed extension b) × IsAnswer (Accepts b) table (Some (triple_of found))

@@ -5,7 +5,7 @@ use Rattle.infer.specs.Row.{Accepts}
 use Rattle.infer.specs.Table.{table}
 use Rattle.infer.specs.Triple.{Triple}
 
--- the MIME type of an answer, and "unknown" where there is none
+-- the MIME type of an answer, and "unknown" if there is none
 abbrev pub label_of : Option Triple → List ℕ
 label_of None = codes "unknown"
 label_of (Some t) = t.mime_type

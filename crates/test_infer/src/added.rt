@@ -80,7 +80,7 @@ fn a_function_from_the_caller(rt: HostRuntime) -> Result<(), Fail> {
     Ok(())
 }
 
-/// The MIME type of the first row that accepts `buf`, and no text where none does.
+/// The MIME type of the first row that accepts `buf`, and no text if none does.
 fn mime_of<A: Allocator>(infer: &Infer<A>, buf: &[u8]) -> &'static str {
     match infer.get(buf) {
         Some(found) => found.mime_type(),

@@ -31,7 +31,7 @@ fn is_empty(buf: &[u8]) -> bool
     buf.is_empty()
 }
 
-/// The extension that was answered, no text where no row accepts, and the fault's text where there is one.
+/// The extension that was answered, no text if no row accepts, and the fault's text if there is one.
 fn told(answer: Result<Option<Type>, Fault>) -> &'static str {
     match answer {
         Ok(Some(found)) => found.extension(),

@@ -81,7 +81,7 @@ fn has_own_extension<A: Allocator>(infer: &Infer<A>, buf: &[u8]) -> bool
     }
 }
 
-/// The answers on a buffer and on one that it begins. Where the longer has none, the shorter has none.
+/// The answers on a buffer and on one that it begins. If the longer has none, the shorter has none.
 fn get_both<A: Allocator>(
     infer: &Infer<A>,
     short: &[u8],

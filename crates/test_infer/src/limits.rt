@@ -6,7 +6,7 @@ use std::fs;
 use std::process::Abort;
 use std::test::Fail;
 
-/// The extension that was found, and `fault` where there is no answer.
+/// The extension that was found, and `fault` if there is no answer.
 fn told(answer: Result<Option<Type>, Fault>) -> &'static str {
     match answer {
         Ok(Some(found)) => found.extension(),

@@ -7,7 +7,7 @@ use std::io::{ErrorKind, Read};
 
 /// Gives at most a stated number of bytes a read, and fails at one stated read, counted from 0.
 ///
-/// A read that fails takes nothing, and the reads behind it go on as if it had not been there: whoever reads on after
+/// A read that fails takes nothing, and the reads after it go on as if it had not been there: whoever reads on after
 /// an error gets bytes.
 #[derive(Drop)]
 pub struct PieceReader<'a> {
@@ -22,7 +22,7 @@ pub struct PieceReader<'a> {
 }
 
 impl<'a> PieceReader<'a> {
-    /// Gives at most `piece` bytes a read, or one where that is 0: a read that gives none is the end.
+    /// Gives at most `piece` bytes a read, or one if that is 0: a read that gives none is the end.
     pub fn new(bytes: &'a [u8], piece: usize) -> PieceReader<'a>
         ensures rest { result.rest.now ≡ bytes.now }
         ensures reads { result.reads ≡ 0 }

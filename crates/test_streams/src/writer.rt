@@ -11,8 +11,8 @@ pub const ROOM: usize = 512;
 /// Takes at most a stated number of bytes a write, and fails at one stated write, counted from 0, or whenever it is
 /// flushed.
 ///
-/// A write that fails takes nothing, and the writes behind it go on as if it had not been there: whoever writes on
-/// after an error is seen to. It asks for no memory; where it is full, a write takes nothing.
+/// A write that fails takes nothing, and the writes after it go on as if it had not been there: whoever writes on
+/// after an error is seen to. It asks for no memory; if it is full, a write takes nothing.
 #[derive(Drop)]
 pub struct PieceWriter {
     /// How many writes there were, failed ones among them.

@@ -58,7 +58,7 @@ fn class_name(class: MatcherType) -> &'static str {
     }
 }
 
-/// Whether `position_counted` answers that number, and counts a row where there is one, and no more than there can be.
+/// Whether `position_counted` answers that number, and counts a row if there is one, and no more than there can be.
 fn is_counted_right(buf: &[u8], found: Option<usize>) -> bool {
     let (counted, asked) = infer::position_counted(buf);
     counted == found && asked as usize <= MOST_CANDIDATES && (asked > 0 || found.is_none())

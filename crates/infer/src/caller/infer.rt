@@ -47,7 +47,7 @@ impl<A: Allocator> Infer<A> {
         Infer { list: None }
     }
 
-    /// Adds a row of the class `Custom` behind those that were added before. None is dropped or replaced.
+    /// Adds a row of the class `Custom` after those that were added before. None is dropped or replaced.
     ///
     /// The function may be called on every buffer, and its contract fixes one answer for each. The first call
     /// makes the list in `alloc`, which the list keeps. An error means that memory was refused.
@@ -84,7 +84,7 @@ impl<A: Allocator> Infer<A> {
         Ok(())
     }
 
-    /// The type of the first row that accepts `buf`, and `None` exactly where no row accepts it.
+    /// The type of the first row that accepts `buf`, and `None` exactly if no row accepts it.
     pub fn get(&self, buf: &[u8]) -> Option<FileType>
         ensures { IsAnswer (AnyAccepts buf.now) (rows self.now) (option_map triple_of result) }
     {

@@ -22,7 +22,7 @@ pub trait Ask {
     // Whether these can be the rows that were asked, as far as the asker knows.
     ghost has_asked: { Self → List ℕ → Type 0 };
 
-    /// The first byte of the buffer, and `None` exactly where it is empty.
+    /// The first byte of the buffer, and `None` exactly if it is empty.
     fn first(&self) -> Option<u8>
         ensures { result ≡ slice_get (buffer self.now) 0 };
 
@@ -74,8 +74,8 @@ impl Ask for Asker<'_> {
     }
 }
 
-/// The number of the first built-in row that accepts the asker's buffer, of those with the extension where one is
-/// given, and `None` exactly where none does.
+/// The number of the first built-in row that accepts the asker's buffer, of those with the extension if one is
+/// given, and `None` exactly if none does.
 ///
 /// Of those rows it asks the candidates of the first byte, which are the rows whose signature allows it there. It
 /// asks them in ascending order up to the answer, which are at most [`MOST_CANDIDATES`], and no other.
@@ -149,7 +149,7 @@ pub(crate) fn count_wanted(buf: &[u8], wanted: Wanted) -> (Option<usize>, u32)
 }
 
 /// The number of the first built-in row that accepts `buf`, as [`position`](crate::position) answers, and how many
-/// rows a [`walk`] asks for it: its candidates up to that row, all of them where no row accepts it.
+/// rows a [`walk`] asks for it: its candidates up to that row, all of them if no row accepts it.
 pub fn position_counted(buf: &[u8]) -> (Option<usize>, u32)
     ensures first { IsFirstOf (Accepts buf.now) table result.0 }
     ensures bound { IfSome result.0 (λ i. i < ROW_COUNT) }

@@ -13,7 +13,7 @@ use std::alloc::Allocator;
 use std::cmp;
 use std::io::{ErrorKind, Read};
 
-/// How many bytes of an input are looked at, where no other number is chosen.
+/// How many bytes of an input are looked at, if no other number is chosen.
 pub const FRONT: usize = 8192;
 
 /// A test by which reading ends before its limit.
@@ -109,7 +109,7 @@ fn are_bytes(buf: &[u8])
     let _ = buf;
 }
 
-/// Takes the first `limit` bytes of the reader, or all where it has fewer. It reserves `limit` bytes first.
+/// Takes the first `limit` bytes of the reader, or all if it has fewer. It reserves `limit` bytes first.
 pub fn read_head<A: Allocator, R: Read>(
     alloc: A,
     reader: &mut Watched<R>,

@@ -70,7 +70,7 @@ fn no_more_than_the_front(rt: HostRuntime) -> Result<(), Fail> {
     Ok(())
 }
 
-/// FF D8 FF and zeros, which no byte behind the first 1024 turns into another type.
+/// FF D8 FF and zeros, which no byte after the first 1024 turns into another type.
 fn settled_image() -> [u8; 2000] {
     let mut image = [0; 2000];
     image[..3].copy_from_slice(&JPEG[..3]);
@@ -107,7 +107,7 @@ fn only_a_final_type_outlives_an_error(rt: HostRuntime) {
     assert_eq!(rt; err.as_slice(), b"-: cannot read\n".as_slice());
 }
 
-/// Zstandard's magic number behind so many empty frames.
+/// Zstandard's magic number after so many empty frames.
 fn framed(alloc: Global, frames: usize) -> Result<Vec<u8>, AllocError> {
     let mut buf = b"\x50\x2A\x4D\x18\0\0\0\0".repeat(alloc, frames)?;
     buf.extend_from_slice(b"\x28\xB5\x2F\xFD")?;

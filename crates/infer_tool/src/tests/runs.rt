@@ -1,4 +1,4 @@
-//! Runs over words, and over standard input where there are none.
+//! Runs over words, and over standard input if there are none.
 use crate::outcome::Outcome;
 use crate::writer::WatchedWriter;
 use crate::{LINE_BUFFER, USAGE, flush, run, run_lines};
@@ -124,7 +124,7 @@ fn lacks_one_end(bytes: &[u8]) -> bool {
     }
 }
 
-/// Runs over a writer that fails at each write in turn, by itself and behind a buffer for lines.
+/// Runs over a writer that fails at each write in turn, by itself and through a buffer for lines.
 fn each_write_fails_in_turn<R: Files + AllocGlobal + Abort>(
     rt: &R,
     piece: usize,

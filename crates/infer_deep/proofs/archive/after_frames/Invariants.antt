@@ -1,4 +1,4 @@
--- what is left is behind some frames
+-- what is left is after some frames
 use Rattle.std.proofs.Common.{length}
 use Rattle.infer_deep.specs.Joined.{LeadsTo}
 use Rattle.infer_deep.specs.Frames.{IsFrame}

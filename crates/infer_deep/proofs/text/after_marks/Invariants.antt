@@ -1,4 +1,4 @@
--- what is left is behind some marks
+-- what is left is after some marks
 use Rattle.std.proofs.Common.{length}
 use Rattle.infer_deep.specs.Joined.{LeadsTo}
 use Rattle.infer_deep.specs.Text.{IsMark}

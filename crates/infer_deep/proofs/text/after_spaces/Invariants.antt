@@ -1,4 +1,4 @@
--- what is left is behind some white space
+-- what is left is after some white space
 use Rattle.std.proofs.Common.{length}
 use Rattle.infer_deep.specs.Joined.{LeadsTo}
 use Rattle.infer_deep.specs.Text.{IsSpace}

@@ -1,4 +1,4 @@
--- A read that gives bytes goes behind those before it.
+-- A read that gives bytes goes after those before it.
 use Rattle.std.proofs.Common.{rules}
 use Rattle.std.proofs.lemmas.Bool.{false≢true}
 use Rattle.infer.proofs.HeadLemmas.{Consumes-one_more, IsDue-read}
