@@ -1,15 +1,14 @@
 -- What a settled contract says of a call that answered false.
-use Rattle.std.proofs.Common.{◌<◌, ℕ, zero, suc, Bool, true, false, List, [], ◌∷◌, get_or, refl, arith}
+use Rattle.std.proofs.Common.{◌<◌, ℕ, Bool, true, false, List, get_or, refl}
 use Rattle.std.specs.Bool.{OnFalse}
+use Rattle.std.proofs.lemmas.Grind.{get_or_default_zero}
 use denote.Ref.{Bor}
 use Rattle.infer.specs.Buffer.{IsBuffer}
 use Rattle.infer.specs.Caller.{Contract, Allows, IsSettled}
 
 -- a slice of bytes is a buffer
 pub IsBuffer-bytes : (b : List ℕ) → ((i : ℕ) → get_or b i 0 < 256) → IsBuffer b
-IsBuffer-bytes [] h k d lt = absurd (omega arith)
-IsBuffer-bytes (x ∷ b) h zero d lt = h 0
-IsBuffer-bytes (x ∷ b) h (suc k) d lt = IsBuffer-bytes b (λ i. h (suc i)) k d (omega arith)
+IsBuffer-bytes b h k d lt = rw (get_or_default_zero b k d lt) (h k)
 
 -- a call that answered false is one whose contract does not allow true
 pub settled_no : (post : Contract) (buf : Bor (List ℕ)) (answer : Bool) → ((i : ℕ) → get_or buf.now i 0 < 256) → IsSettled post

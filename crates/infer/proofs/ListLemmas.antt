@@ -66,9 +66,6 @@ some_of_any f P xs ys e true h = (λ _. subst (SomeHas P) e (SomeHas-map f P xs 
 some_of_any f P xs ys e false h = (λ no. absurd (cc), λ some. absurd (not_some P ys (subst (NoneHas P) e (NoneHas-map f P xs h)) some))
 
 module _ {A : Type 0} (P : A → Type 0) (xs ys : List A) where
-  pub HoldsAt-left : (i : ℕ) → i < length xs → HoldsAt P xs i → HoldsAt P (xs ++ ys) i
-  HoldsAt-left i lt h = λ d. rw (get_or_append_left xs ys d i lt) (h d)
-
   pub HoldsAt-right : (i : ℕ) → HoldsAt P ys i → HoldsAt P (xs ++ ys) (length xs + i)
   HoldsAt-right i h = λ d. rw (get_or-append-add xs ys i d) (h d)
 
@@ -83,21 +80,10 @@ module _ {A : Type 0} (P : A → Type 0) (xs ys : List A) where
   ]
 
 module _ {A : Type 0} (P : A → Type 0) (xs ys : List A) where
-  AllWithin-left : (n : ℕ) → n ≤ length xs → AllWithin P xs 0 n → AllWithin P (xs ++ ys) 0 n
-  AllWithin-left n le h = λ k d a b. let lt : k < length xs = omega arith in rw (get_or_append_left xs ys d k lt) (h k d a b)
-
   AllWithin-both : (n : ℕ) → AllWithin P xs 0 (length xs) → AllWithin P ys 0 n → AllWithin P (xs ++ ys) 0 (length xs + n)
   AllWithin-both n p q = λ k d a b. grind (arith, p k d, q (k - length xs) d, get_or_append_left xs ys d k, get_or-append_right xs ys (length xs) k d)
 
 module _ {A : Type 0} (P : A → Type 0) (xs ys : List A) where
-  -- the first of the front is that of the whole
-  pub IsFirst-left : (i : ℕ) → IsFirst P xs i → IsFirst P (xs ++ ys) i
-  IsFirst-left i h = record {
-    within = omega (arith, h.within, length-append xs ys);
-    here = HoldsAt-left P xs ys i h.within h.here;
-    before = AllWithin-left (λ x. ¬ P x) xs ys i (omega (arith, h.within)) h.before;
-  }
-
   -- where the front has none, it is that of the rest
   pub IsFirst-right : (i : ℕ) → NoneHas P xs → IsFirst P ys i → IsFirst P (xs ++ ys) (length xs + i)
   IsFirst-right i none h = record {

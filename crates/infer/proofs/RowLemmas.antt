@@ -5,7 +5,7 @@ use denote.Ref.{Bor}
 use Rattle.infer.specs.First.{IsFirst, NoneHas, IsAnswer}
 use Rattle.infer.specs.Row.{Row}
 use Rattle.infer.specs.Triple.{Triple}
-use Rattle.infer.proofs.ListLemmas.{HoldsAt-map, HoldsAt-from_map, HoldsAt-left, HoldsAt-right, IsFirst-map, IsFirst-from_map, IsFirst-left, IsFirst-right, NoneHas-map, NoneHas-from_map, NoneHas-both}
+use Rattle.infer.proofs.ListLemmas.{HoldsAt-map, HoldsAt-from_map, HoldsAt-right, IsFirst-map, IsFirst-from_map, IsFirst-right, NoneHas-map, NoneHas-from_map, NoneHas-both}
 
 -- what `find` found of xs is the answer of the rows that it shows
 pub answer_of_find : {A S : Type 0} (f : A → Row S) (P : Row S → Type 0) (xs : List A) (rows : List (Row S)) → map f xs ≡ rows → (found : Option (Bor A))
@@ -37,10 +37,6 @@ IsAnswer-from_map f P same rows (Some t) h =
     (h.0, first, λ d. sym (same _) ∙ HoldsAt-from_map f (λ r. r.shows ≡ t) rows h.0 first.within h.2 d)
 
 module _ {S : Type 0} (P : Row S → Type 0) (xs ys : List (Row S)) where
-  -- the answer of the front is that of the whole
-  pub IsAnswer-left : (t : Triple) → IsAnswer P xs (Some t) → IsAnswer P (xs ++ ys) (Some t)
-  IsAnswer-left t h = (h.0, IsFirst-left P xs ys h.0 h.1, HoldsAt-left (λ r. r.shows ≡ t) xs ys h.0 h.1.within h.2)
-
   -- where the front has none, it is that of the rest
   pub IsAnswer-right : (o : Option Triple) → NoneHas P xs → IsAnswer P ys o → IsAnswer P (xs ++ ys) o
   IsAnswer-right None none h = NoneHas-both P xs ys none h

@@ -4,7 +4,7 @@ use Rattle.std.proofs.lemmas.Bool.{cases_lt}
 use Rattle.std.proofs.lemmas.Bool.Decides.{nat_tests}
 use Rattle.std.proofs.lemmas.List.{append_assoc}
 use Rattle.std.proofs.lemmas.Option.{slice_get-get_or}
-use Rattle.std.specs.Option.{option_map, option_map_or}
+use Rattle.std.specs.Option.{option_map}
 use Rattle.infer.specs.Arrivals.{IsAwaited, last_awaited, NewcomersAreAwaited}
 use Rattle.infer.specs.BuiltIn.{BuiltIn, fixed, avif, doc, framed, heif, html, matroska, office, pdf, ppt, xls, xml, IsAccepted}
 use Rattle.infer.specs.DeepLaws.{Beginnings}
@@ -30,15 +30,13 @@ some_row = row Text [] [] html
 
 -- a row accepts a buffer whatever is read for a row that is not there
 module _ (buf : List ℕ) (i : ℕ) (lt : i < length table) where
-  row_signature : (d : Row BuiltIn) → signature_of i ≡ (get_or table i d).signature
-  unfolding signature_of
-  row_signature d = ap (λ o. option_map_or (λ (r : Row BuiltIn). r.signature) o (fixed [])) (slice_get-get_or table i d lt)
-
   accepts_at : (d : Row BuiltIn) → Accepts buf (get_or table i d) → IsAccepted (signature_of i) buf
-  accepts_at d h = subst (λ s. IsAccepted s buf) (sym (row_signature d)) h
+  unfolding signature_of
+  accepts_at d h = rw (slice_get-get_or table i d lt) h
 
   accepts_from : (d : Row BuiltIn) → IsAccepted (signature_of i) buf → Accepts buf (get_or table i d)
-  accepts_from d h = subst (λ s. IsAccepted s buf) (row_signature d) h
+  unfolding signature_of
+  accepts_from d h = rw (slice_get-get_or table i d lt) at h
 
 -- the first row of a buffer is not later than a row that accepts it
 first_by : (buf : List ℕ) (o : Option ℕ) (i : ℕ)
@@ -56,9 +54,7 @@ same_answer buf None None h k = refl
 same_answer buf None (Some u) none (j, then, shows) = absurd (none j some_row (omega arith) then.within (then.here some_row))
 same_answer buf (Some t) None (i, first, shown) none = absurd (none i some_row (omega arith) first.within (first.here some_row))
 same_answer buf (Some t) (Some u) (i, first, shown) (j, then, shows) =
-    let le : i ≤ j = same_first buf (Some i) (Some j) first then in
-    let ge : j ≤ i = same_first buf (Some j) (Some i) then first in
-    let same : i ≡ j = omega arith in
+    let same : i ≡ j = omega (arith, same_first buf (Some i) (Some j) first then, same_first buf (Some j) (Some i) then first) in
     ap Some (sym (shown some_row) ∙ ap (λ k. (get_or table k some_row).shows) same ∙ shows some_row)
 
 -- one buffer has one verdict

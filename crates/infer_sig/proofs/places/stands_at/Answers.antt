@@ -1,15 +1,9 @@
 -- One more byte, and the whole text.
-use Rattle.std.proofs.Common.{◌≡◌, ℕ, zero, suc, ◌+◌, ◌-◌, ◌<◌, Bool, true, false, ◌&&◌, List, [], ◌∷◌, length, get_or, take, drop, refl, ap, ◌∙◌, arith, rules, tests, eqb, nat_eq, add-one, take-take, length-take, length-drop, take_all}
+use Rattle.std.proofs.Common.{◌≡◌, ℕ, zero, suc, ◌+◌, ◌-◌, ◌<◌, ◌&&◌, List, [], ◌∷◌, length, get_or, take, drop, refl, ap, sym, ◌∙◌, arith, rules, tests, eqb, nat_eq, add-one, take-take, length-take, length-drop, take_all}
+use Rattle.std.proofs.Math.Bool.{and_assoc}
 use Rattle.std.specs.Cmp.Lexicographic.{pointwise}
 use Rattle.infer_sig.specs.Signature.{stands}
 use Rattle.infer_sig.proofs.places.stands_at.Goals as goal
-
-and_last : (a b : ℕ) → (eqb a b && true) ≡ eqb b a
-and_last a b = search (rules, tests)
-
-and_assoc : (a b c : Bool) → (a && (b && c)) ≡ ((a && b) && c)
-and_assoc true b c = refl
-and_assoc false b c = refl
 
 -- one more byte
 stands_more : (t xs : List ℕ) (i : ℕ) → i < length t → i < length xs
@@ -17,9 +11,9 @@ stands_more : (t xs : List ℕ) (i : ℕ) → i < length t → i < length xs
 unfolding stands
 stands_more [] xs i h k = absurd (omega arith)
 stands_more (c ∷ t) [] i h k = absurd (omega arith)
-stands_more (c ∷ t) (x ∷ xs) zero h k = and_last c x
+stands_more (c ∷ t) (x ∷ xs) zero h k = search (rules, tests)
 stands_more (c ∷ t) (x ∷ xs) (suc i) h k =
-    ap (λ r. eqb c x && r) (stands_more t xs i (omega arith) (omega arith)) ∙ and_assoc (eqb c x) _ _
+    ap (λ r. eqb c x && r) (stands_more t xs i (omega arith) (omega arith)) ∙ sym (and_assoc (eqb c x) _ _)
 
 -- the whole text, in the part of the buffer that is as long
 stands_whole : (place n m : ℕ) (t buf : List ℕ) → length t ≡ n → m ≡ n

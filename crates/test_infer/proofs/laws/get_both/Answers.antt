@@ -1,5 +1,6 @@
-use Rattle.std.proofs.Common.{◌++◌, ◌<◌, List, [], ◌∷◌, ℕ, suc, zero, get_or, Option, None, Some, IsNone, subst, refl, arith}
+use Rattle.std.proofs.Common.{◌++◌, ◌<◌, List, ℕ, get_or, Option, None, Some, IsNone, subst, refl, arith}
 use Rattle.std.specs.Option.{option_map}
+use Rattle.std.proofs.lemmas.Grind.{get_or_default_zero}
 use Rattle.infer.specs.Buffer.{IsBuffer}
 use Rattle.infer.specs.First.{IsAnswer, IsFirstOf}
 use Rattle.infer.specs.Laws.{IsNotLater}
@@ -17,9 +18,7 @@ none_before P Q all steady (Some t) None before after e = absurd (steady (Some b
 none_before P Q all steady (Some t) (Some u) before after e = absurd (cc)
 
 IsBuffer-bytes : (b : List ℕ) → ((i : ℕ) → get_or b i 0 < 256) → IsBuffer b
-IsBuffer-bytes [] h k d lt = absurd (omega arith)
-IsBuffer-bytes (x ∷ b) h zero d lt = h 0
-IsBuffer-bytes (x ∷ b) h (suc k) d lt = IsBuffer-bytes b (λ i. h (suc i)) k d (omega arith)
+IsBuffer-bytes b h k d lt = rw (get_or_default_zero b k d lt) (h k)
 
 pub returns : goal.returns
 returns g c =

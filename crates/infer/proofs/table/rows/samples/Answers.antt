@@ -9,6 +9,3 @@ returns-clause-buffers c = refl
 pub returns-clause-lengths : goal.returns-clause-lengths
 unfolding table
 returns-clause-lengths c = refl
-
-pub returns-clause-inside : goal.returns-clause-inside
-returns-clause-inside c = refl

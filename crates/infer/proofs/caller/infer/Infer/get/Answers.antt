@@ -1,11 +1,8 @@
 use Rattle.std.proofs.Common.{map, refl}
 use Rattle.infer.specs.Rows.{AnyAccepts, custom_rows, kept_row}
 use Rattle.infer.specs.Table.{table}
-use Rattle.infer.proofs.RowLemmas.{IsAnswer-map, IsAnswer-left, IsAnswer-right}
+use Rattle.infer.proofs.RowLemmas.{IsAnswer-map, IsAnswer-right}
 use Rattle.infer.proofs.caller.infer.Infer.get.Goals as goal
-
-pub returns-in-Some : goal.returns-in-Some
-returns-in-Some g c = IsAnswer-left (AnyAccepts c.args.buf.now) (custom_rows c.args.self.now) (map kept_row table) _ c.in-Some.ensures
 
 pub returns-in-None : goal.returns-in-None
 returns-in-None g c =
