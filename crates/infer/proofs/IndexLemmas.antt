@@ -27,12 +27,9 @@ row_signature P i d lt h =
     let inside : i < length (map decides table) = omega (arith, lt, length-map {A = Row BuiltIn} {B = BuiltIn} table decides) in
     subst P (get_or_append_left (map decides table) _ d.signature i inside ∙ get_or-map decides table i d d.signature lt) (h d.signature)
 
-among_signatures : (i : ℕ) → i < length table → i < length signatures
-among_signatures i lt = omega (arith, length-table, length-signatures)
-
 module _ (growth : All Lasts signatures) where
   row_lasts : (i : ℕ) (d : Row BuiltIn) → i < length table → Lasts (get_or table i d).signature
-  row_lasts i d lt = row_signature Lasts i d lt (λ e. growth i e (among_signatures i lt))
+  row_lasts i d lt = row_signature Lasts i d lt (λ e. growth i e (omega (arith, lt, length-table, length-signatures)))
 
   pub rows_keep : {X : Type 0} {g : Contracts X} (added : List (Row (Signature X g))) → All (λ r. AnyLasts r.signature) added
       → All (λ r. AnyLasts r.signature) (added ++ map kept_row table)
@@ -64,7 +61,7 @@ module _ (near : OthersAreNear signatures) (buf : List ℕ) (long : 1024 ≤ len
   front_answered : (o : Option ℕ) → IsTrue (not (answers_twelve o)) → IsFirstOf (Accepts buf) table o → Answered (take 1024 buf) o
   front_answered None out none = tt
   front_answered (Some i) out first =
-      λ d. (row_signature IsNear i d first.within (near i (among_signatures i first.within) out) buf long).0 (first.here d)
+      λ d. (row_signature IsNear i d first.within (near i (omega (arith, first.within, length-table, length-signatures)) out) buf long).0 (first.here d)
 
 module _ (growth : All Lasts signatures) (near : OthersAreNear signatures) where
   pub front_decides : FrontDecides

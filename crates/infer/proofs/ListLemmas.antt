@@ -65,6 +65,11 @@ pub some_of_any : {A B : Type 0} (f : A → B) (P : B → Type 0) (xs : List A) 
 some_of_any f P xs ys e true h = (λ _. subst (SomeHas P) e (SomeHas-map f P xs h), λ _. refl)
 some_of_any f P xs ys e false h = (λ no. absurd (cc), λ some. absurd (not_some P ys (subst (NoneHas P) e (NoneHas-map f P xs h)) some))
 
+AllWithin-both : {A : Type 0} (P : A → Type 0) (xs ys : List A) (n : ℕ) → AllWithin P xs 0 (length xs) → AllWithin P ys 0 n
+    → AllWithin P (xs ++ ys) 0 (length xs + n)
+AllWithin-both P xs ys n p q =
+    λ k d a b. grind (arith, p k d, q (k - length xs) d, get_or_append_left xs ys d k, get_or-append_right xs ys (length xs) k d)
+
 module _ {A : Type 0} (P : A → Type 0) (xs ys : List A) where
   pub HoldsAt-right : (i : ℕ) → HoldsAt P ys i → HoldsAt P (xs ++ ys) (length xs + i)
   HoldsAt-right i h = λ d. rw (get_or-append-add xs ys i d) (h d)
@@ -79,16 +84,11 @@ module _ {A : Type 0} (P : A → Type 0) (xs ys : List A) where
     | inr le ↦ inr (h.0 - length xs, omega (arith, h.1, length-append xs ys), λ d. rw (← get_or-append_right xs ys (length xs) h.0 d refl le) (h.2 d))
   ]
 
-module _ {A : Type 0} (P : A → Type 0) (xs ys : List A) where
-  AllWithin-both : (n : ℕ) → AllWithin P xs 0 (length xs) → AllWithin P ys 0 n → AllWithin P (xs ++ ys) 0 (length xs + n)
-  AllWithin-both n p q = λ k d a b. grind (arith, p k d, q (k - length xs) d, get_or_append_left xs ys d k, get_or-append_right xs ys (length xs) k d)
-
-module _ {A : Type 0} (P : A → Type 0) (xs ys : List A) where
   -- where the front has none, it is that of the rest
   pub IsFirst-right : (i : ℕ) → NoneHas P xs → IsFirst P ys i → IsFirst P (xs ++ ys) (length xs + i)
   IsFirst-right i none h = record {
     within = omega (arith, h.within, length-append xs ys);
-    here = HoldsAt-right P xs ys i h.here;
+    here = HoldsAt-right i h.here;
     before = AllWithin-both (λ x. ¬ P x) xs ys i none h.before;
   }
 

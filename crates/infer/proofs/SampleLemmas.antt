@@ -1,7 +1,7 @@
 -- Each built-in row but two is first for its sample.
-use Rattle.std.proofs.Common.{◌≡◌, ◌≢◌, ◌<◌, ◌-◌, ◌⊎◌, ℕ, zero, suc, List, [], Some, ◌∷◌, ◌++◌, map, get_or, length, sym, ap, take, refl, subst, ◌∙◌, inl, inr, arith}
+use Rattle.std.proofs.Common.{◌≡◌, ◌≢◌, ◌<◌, ◌-◌, ◌⊎◌, ℕ, List, Some, ◌++◌, map, get_or, length, sym, ap, take, refl, subst, ◌∙◌, inl, inr, arith}
 use Rattle.std.specs.List.{HoldsAt}
-use Rattle.std.proofs.lemmas.List.{take_at}
+use Rattle.std.proofs.lemmas.List.{get_or-map, length-map, take_at}
 use Rattle.infer_deep.specs.Laws as Deep
 use Rattle.infer_deep.specs.Numbers.{le16, le32, be32}
 use Rattle.infer_sig.specs.Signature.{stands}
@@ -41,10 +41,9 @@ module _ (by_place : ByPlace) (exclude : Deep.Apart) (d : Row BuiltIn) where
 -- two lists that a function each maps to one have as many elements, and the functions agree at each place
 agree_at : {A B C : Type 0} (f : A → C) (g : B → C) (xs : List A) (ys : List B) → map f xs ≡ map g ys
     → (i : ℕ) (a : A) (b : B) → i < length ys → f (get_or xs i a) ≡ g (get_or ys i b)
-agree_at f g xs [] e i a b lt = absurd (omega arith)
-agree_at f g [] (y ∷ ys) e i a b lt = absurd (cc)
-agree_at f g (x ∷ xs) (y ∷ ys) e zero a b lt = cc
-agree_at f g (x ∷ xs) (y ∷ ys) e (suc i) a b lt = agree_at f g xs ys (cc) i a b (omega arith)
+agree_at f g xs ys e i a b lt =
+    sym (get_or-map f xs i a (f a) (omega (arith, lt, ap length e, length-map xs f, length-map ys g))) ∙ ap (λ l. get_or l i (f a)) e
+    ∙ get_or-map g ys i b (f a) lt
 
 pub pieces_hold : (xs : List Pieces) → map buffer_listed xs ≡ map padded table
     → map (λ p. p.len) xs ≡ map (λ r. length (sample_of r.signature)) table → (i : ℕ) → i < ROW_COUNT

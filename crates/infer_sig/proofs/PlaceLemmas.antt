@@ -1,7 +1,9 @@
 -- A text stands just where each of its bytes does.
-use Rattle.std.proofs.Common.{◌≡◌, ℕ, zero, suc, ◌+◌, ◌-◌, ◌<◌, ◌≤◌, ◌↔◌, List, [], ◌∷◌, ◌++◌, length, get_or, take, drop, refl, sym, ap, ◌∙◌, arith, eqb, nat_eq, IsTrue, length-append, length-drop, get_or-drop, take-take}
-use Rattle.std.proofs.lemmas.Bool.{and_parts, and_from, eqb-true, eq-eqb}
+use Rattle.std.proofs.Common.{◌≡◌, ℕ, suc, ◌+◌, ◌-◌, ◌<◌, ◌≤◌, ◌↔◌, List, [], ◌∷◌, ◌++◌, length, get_or, take, drop, refl, sym, ap, ◌∙◌, arith, eqb, nat_eq, IsTrue, length-append, length-drop, get_or-drop, take-take}
+use Rattle.std.proofs.lemmas.Bool.{and_from, eq-eqb}
 use Rattle.std.proofs.lemmas.List.{drop-take, get_or_append_left}
+use Rattle.std.proofs.lemmas.Bool.Decides.{Decides-eqb}
+use Rattle.std.proofs.lemmas.Slice.Eq.{starts_is}
 use Rattle.std.specs.Cmp.Lexicographic.{pointwise}
 use Rattle.std.specs.List.{starts_with}
 use Rattle.infer_sig.specs.Signature.{stands}
@@ -10,12 +12,9 @@ use Rattle.infer_sig.specs.Places.{StandsByPlace}
 -- by place, at the front
 front_read : (t xs : List ℕ) → IsTrue (starts_with nat_eq xs t)
     → (k : ℕ) → k < length t → (k < length xs) × (get_or xs k 0 ≡ get_or t k 0)
-front_read [] xs h k l = absurd (omega arith)
-front_read (c ∷ t) [] h k l = absurd (cc)
-front_read (c ∷ t) (x ∷ xs) h zero l = (omega arith, sym (eqb-true c x (and_parts (eqb c x) _ h).0))
-front_read (c ∷ t) (x ∷ xs) h (suc k) l =
-    let rest = front_read t xs (and_parts (eqb c x) _ h).1 k (omega arith) in
-    (omega (arith, rest.0), rest.1)
+front_read t xs h k l =
+    let whole = (starts_is {E = nat_eq} Decides-eqb xs t _ refl).0 h in
+    (omega (arith, ap length whole, length-append t (drop (length t) xs)), ap (λ u. get_or u k 0) whole ∙ get_or_append_left t _ 0 k l)
 
 front_made : (t xs : List ℕ) → ((k : ℕ) → k < length t → (k < length xs) × (get_or xs k 0 ≡ get_or t k 0))
     → IsTrue (starts_with nat_eq xs t)

@@ -19,14 +19,11 @@ is_own = elim [ OpenBox ↦ refl | Compound ↦ refl | Office ↦ refl | Frame �
 
 module _ (single : (b : List ℕ) (o p : Option ℕ) → IsFirstOf (Accepts b) table o → IsFirstOf (Accepts b) table p → o ≡ p) where
   module _ (n i : ℕ) (buf : List ℕ) (h : Breaks n i buf) where
-    whole : take n buf ++ drop n buf ≡ buf
-    whole = take-append-drop n buf
-
     short : length (take n buf) ≡ n
     short = length-take-le n buf (let l = h.long in omega arith)
 
     brought : IsFirst (Accepts (take n buf ++ drop n buf)) table i
-    brought = subst (λ b. IsFirst (Accepts b) table i) (sym whole) h.first
+    brought = subst (λ b. IsFirst (Accepts b) table i) (sym (take-append-drop n buf)) h.first
 
     changed : (row : Option ℕ) → IsFirstOf (Accepts (take n buf)) table row → ¬ IsFirstOf (Accepts (take n buf ++ drop n buf)) table row
     changed row before after =
@@ -36,7 +33,7 @@ module _ (single : (b : List ℕ) (o p : Option ℕ) → IsFirstOf (Accepts b) t
       → IsOneShort (take 1023 buf) (drop 1023 buf)
   one_short i buf long h none = record {
     short = short 1023 i buf h;
-    one = (let e = ap length (whole 1023 i buf h) in omega (arith, e, long, length-append (take 1023 buf) (drop 1023 buf), short 1023 i buf h));
+    one = (let e = ap length (take-append-drop 1023 buf) in omega (arith, e, long, length-append (take 1023 buf) (drop 1023 buf), short 1023 i buf h));
     none = λ case. none (beginning_of case);
     changes = changed 1023 i buf h;
   }

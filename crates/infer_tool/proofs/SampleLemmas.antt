@@ -40,11 +40,7 @@ module _ (extension : List ℕ) where
       → (j ≡ DLL) ⊎ ((j ≡ EPUB_ARCHIVE) ⊎ (ROW_COUNT ≤ j)) → ⊥
   never_sampled many i j has first none =
       let same = same_row (HasExtension extension) i j has.0 first in
-      elim none [
-        | inl e ↦ has.1 (same ∙ e)
-        | inr (inl e) ↦ has.2 (same ∙ e)
-        | inr (inr past) ↦ let lt = first.within in omega (arith, many)
-      ]
+      grind (arith, many, none, same, has.1, has.2, first.within)
 
   pub WritesSample-made : (i j n : ℕ) (buf : List ℕ) (failed : Bool) (old new : Option (List ℕ)) → HasSample extension i
       → IsFirst (HasExtension extension) table j → HoldsAt (HoldsSample n buf) table j → failed ≡ false
