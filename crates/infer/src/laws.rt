@@ -140,8 +140,8 @@ pub fn reach()
 }
 
 /// Each of the twelve rows is the first of some buffer whose first 1024 bytes have another answer. So is, for each
-/// beginning, the last row that is awaited after it, of a buffer that begins so alone. And 1023 bytes that begin in none
-/// of these ways can get another answer by one byte more.
+/// beginning, the last row that is awaited after it, of a buffer whose first 1024 bytes begin so alone. And 1023 bytes
+/// that begin in none of these ways can get another answer by one byte more.
 pub fn breaks()
     ensures rows { (i : ℕ) → IsTrue (is_of_the_twelve i) → (buf : List ℕ) × Breaks 1024 i buf }
     ensures beginnings { (how : Beginning) → (buf : List ℕ) × Breaks 1024 (last_after how) buf × BeginsAlone how (take 1024 buf) }

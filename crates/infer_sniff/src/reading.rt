@@ -39,7 +39,7 @@ pub fn label<A: Allocator, R: Read>(
     ensures answer { IfOk result (λ found. IfSome (R.remaining (inner reader.old)) (λ s. IsTypeOf (head FRONT s) found)) }
     ensures some_bytes { IfOk result (λ found. (b : List ℕ) × IsBuffer b × (length b ≤ FRONT) × IsTypeOf b found) }
 
-    // Behind a final verdict nothing is read: what was lost but for the last piece had none.
+    // After a final verdict nothing is read: what was lost but for the last piece had none.
     ensures no_further { OnOk result ((b : List ℕ) × Consumes (R.remaining (inner reader.old)) (R.remaining (inner reader.new)) b
         × IsDue PIECE IsSettled b) }
     ensures fault { fault_of reader.new ≡ read_fault result }

@@ -83,7 +83,7 @@ fn white_space_stays_open(rt: HostRuntime) -> Result<(), Fail> {
     Ok(())
 }
 
-/// Passes a stream on up to its end or its 8192nd byte, and answers its type.
+/// Passes a stream on until its type is certain, it ends or 8192 reads are done, and answers the type.
 fn pass<A: Allocator, R: Read, W: Write>(
     alloc: A,
     from: &mut R,

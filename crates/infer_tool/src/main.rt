@@ -40,8 +40,8 @@ const LINE_BUFFER: usize = 8192;
 /// Reports the type of each file that a word names by its path, in the order of the words, also after a fault, and
 /// without words that of `input`, under the name `-`.
 ///
-/// Only the first word can be an option. Behind `--front` stand the number of bytes to look at, from 1 to 65536 in
-/// place of 8192, and then paths, or none for `input`. Behind `--sample` stands one extension, and the sample of the
+/// Only the first word can be an option. After `--front` stand the number of bytes to look at, from 1 to 65536 in
+/// place of 8192, and then paths, or none for `input`. After `--sample` stands one extension, and the sample of the
 /// first type with it is written instead. If these words are wrong, `err` is told, nothing is read and nothing is
 /// written to `out`. The outcome is the worst one, and `Failed` if a write to `out` failed.
 pub fn run<R: Files, A: Allocator + Copy, I: Read + Drop, W: Write, E: Write>(
@@ -62,7 +62,7 @@ pub fn run<R: Files, A: Allocator + Copy, I: Read + Drop, W: Write, E: Write>(
         (ReportsEach FRONT (map string_bytes words.now) result (W.contents (inner out.old)) (W.contents (inner out.new))
         (unless_failed (has_failed err.new) (E.contents (inner err.old))) (E.contents (inner err.new))) }
 
-    // Behind `--sample`.
+    // After `--sample`.
     ensures sample { Asks sample_option (map string_bytes words.now) → length words.now ≡ 2
         → (i : ℕ) → HasSample (second (map string_bytes words.now)) i
         → UnlessFailed (has_failed out.new) result (WritesSample i result (W.contents (inner out.old)) (W.contents (inner out.new))) }
@@ -72,7 +72,7 @@ pub fn run<R: Files, A: Allocator + Copy, I: Read + Drop, W: Write, E: Write>(
         → (result ≡ Outcome.Failed) × (out.new ≡ out.old)
         × (length words.now ≡ 2 → Tells (has_failed err.new) (E.contents (inner err.old)) (E.contents (inner err.new)) (no_sample_line (second (map string_bytes words.now)))) }
 
-    // Behind `--front`.
+    // After `--front`.
     ensures limit { Asks front_option (map string_bytes words.now) → (n : ℕ) → IsLimit (second (map string_bytes words.now)) n
         → UnlessFailed (has_failed out.new) result
         (ReportsWithin n (map string_bytes words.now) (I.remaining input) result (W.contents (inner out.old)) (W.contents (inner out.new))
