@@ -1,10 +1,9 @@
 -- The root entry of a compound file is one place, and lasts.
-use Rattle.std.proofs.Common.{ℕ, ◌+◌, ◌≤◌, ◌↔◌, List, ◌++◌, ◌∙◌, arith, length-append}
+use Rattle.std.proofs.Common.{ℕ, ◌+◌, ◌≤◌, List, ◌++◌, ◌∙◌, arith, length-append}
 use Rattle.std.proofs.lemmas.List.{get_or_append_left}
-use Rattle.memchr.specs.Find.{OccursAt}
 use Rattle.infer_deep.specs.Signatures.{Lasts, IsEarly}
 use Rattle.infer_deep.proofs.NumberLemmas.{le16-append, le32-append}
-use Rattle.infer_deep.proofs.PlaceLemmas.{IsUnique, OccursAt-append, OccursAt-front, stands_at_one}
+use Rattle.infer_deep.proofs.PlaceLemmas.{IsUnique, OccursAt-append, OccursAt-front}
 use Rattle.infer_deep.specs.ClassId.{BeginsCompound, BeginsRoot, IsRoot, HasClassId, IsXls}
 
 -- the entry begins past the header
@@ -13,9 +12,6 @@ root_far b root h = grind arith
 
 pub IsRoot-one : (b : List ℕ) → IsUnique (IsRoot b)
 IsRoot-one b p q r s = let here = r.begins in let there = s.begins in grind arith
-
-pub HasClassId-at : (b id : List ℕ) (root : ℕ) → IsRoot b root → OccursAt b id (root + 80) ↔ HasClassId id b
-HasClassId-at b id root r = stands_at_one (IsRoot b) (IsRoot-one b) b (λ p. p + 80) id root r
 
 module _ (b more : List ℕ) where
   IsRoot-append : (root : ℕ) → IsRoot b root → IsRoot (b ++ more) root

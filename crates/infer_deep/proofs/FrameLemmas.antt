@@ -4,19 +4,15 @@ use Rattle.std.proofs.lemmas.List.{take_rest, take-append-drop, length-take-le, 
 use Rattle.infer_deep.specs.Numbers.{le32}
 use Rattle.infer_deep.specs.Signatures.{Lasts, ComesWith, AreApart, IsEarly}
 use Rattle.infer_deep.specs.Joined.{Behind, SkipsTo, NoneBegins, BeginsWith}
-use Rattle.infer_deep.proofs.PlaceLemmas.{Carries, OccursAt-append, OccursAt-agree, OccursAt-first, OccursAt-front, OccursAt-begins, begins-from_OccursAt}
+use Rattle.infer_deep.proofs.PlaceLemmas.{OccursAt-append, OccursAt-agree, OccursAt-first, OccursAt-front, OccursAt-begins, begins-from_OccursAt}
 use Rattle.infer_deep.proofs.NumberLemmas.{le32-append}
 use Rattle.infer_deep.proofs.JoinedLemmas.{IsPrefixFree, Stops, WordsBegin, same_fronts, NoneBegins-first, Behind-lead, Behind-lasts, Behind-comes, Behind-left, Behind-trimmed, Behind-apart}
 use Rattle.infer_deep.specs.Frames.{BeginsFrame, IsFrame, IsFramed}
 use Rattle.memchr.specs.Find.{OccursAt}
 
--- what begins as a frame does so with other bytes after its first four
-BeginsFrame-carried : (b c : List ℕ) → Carries 4 b c → get_or b 0 0 ≡ get_or c 0 0 → BeginsFrame b → BeginsFrame c
-BeginsFrame-carried b c carries first f = grind (arith, carries (0x2A ∷ 0x4D ∷ 0x18 ∷ []) 1)
-
+-- what begins as a frame does so in a part that has its first four bytes
 front_begins : (b more : List ℕ) → 4 ≤ length b → BeginsFrame (b ++ more) → BeginsFrame b
-front_begins b more l f =
-    BeginsFrame-carried (b ++ more) b (λ text p within o. OccursAt-front b more text p (omega arith) o) (get_or_append_left b more 0 0 (omega arith)) f
+front_begins b more l f = grind (arith, OccursAt-front b more (0x2A ∷ 0x4D ∷ 0x18 ∷ []) 1, get_or_append_left b more 0 0)
 
 pub BeginsFrame-early : IsEarly BeginsFrame
 BeginsFrame-early b more long f = front_begins b more (omega arith) f
@@ -35,9 +31,9 @@ module _ (b word rest : List ℕ) (f : IsFrame word) (e : b ≡ word ++ rest) wh
 -- and what a frame begins begins as one
 IsFrame-begins : (b rest : List ℕ) → BeginsWith IsFrame b rest → BeginsFrame b
 IsFrame-begins b rest w =
-    let s = w.kind.sized in
-    subst BeginsFrame (sym w.whole) (BeginsFrame-carried w.word (w.word ++ rest) (λ text p within o. OccursAt-append w.word rest text p o)
-    (sym (get_or_append_left w.word rest 0 0 (omega arith))) w.kind.begins)
+    let begins = w.kind.begins in
+    let sized = w.kind.sized in
+    subst BeginsFrame (sym w.whole) (grind (arith, OccursAt-append w.word rest (0x2A ∷ 0x4D ∷ 0x18 ∷ []) 1, get_or_append_left w.word rest 0 0))
 
 IsFrame-prefix_free : IsPrefixFree IsFrame
 IsFrame-prefix_free v w x y f g e =

@@ -1,6 +1,7 @@
 -- Words joined: what is left after them is one, however it is found, and what holds of a buffer after them.
 use Rattle.std.proofs.Common.{◌≡◌, ◌↔◌, ℕ, ◌<◌, ◌≤◌, ◌⊎◌, inl, inr, List, [], ◌∷◌, ◌++◌, length, get_or, take, refl, sym, ap, subst, ◌∙◌}
-use Rattle.std.proofs.lemmas.List.{append_assoc, append_cancel_left, take_at, get_or_append_left}
+use Rattle.std.proofs.lemmas.List.{append_assoc, append_cancel_left, take_at}
+use Rattle.std.proofs.lemmas.List.Prefix.{front_reads}
 use Rattle.std.specs.List.{AllByRecursion, concat}
 use Rattle.infer_deep.specs.Joined.{SkipsTo, NoneBegins, BeginsWith, LeadsTo, Behind}
 use Rattle.infer_deep.specs.Signatures.{Lasts, ComesWith, AreApart}
@@ -60,9 +61,7 @@ module _ (P : List ℕ → Type 0) where
 module _ (P : List ℕ → Type 0) (Q : ℕ → Type 0) (begin : WordsBegin P Q) where
   pub begun-first : (b rest : List ℕ) → BeginsWith P b rest → Q (get_or b 0 0)
   begun-first b rest h =
-      let w = begin h.word h.kind in
-      let first = ap (λ u. get_or u 0 0) h.whole ∙ get_or_append_left h.word rest 0 0 w.0 in
-      subst Q (sym first) w.1
+      let w = begin h.word h.kind in subst Q (sym (front_reads 0 b h.word rest h.whole 0 w.0)) w.1
 
   pub NoneBegins-first : (b : List ℕ) → (¬ Q (get_or b 0 0)) → NoneBegins P b
   NoneBegins-first b not word rest is e = not (begun-first b rest (record { word = word; kind = is; whole = e }))

@@ -1,12 +1,10 @@
 pub mod PlaceLemmas
 pub mod SearchLemmas
 pub mod NumberLemmas
-pub mod FrontLemmas
 pub mod JoinedLemmas
 pub mod WindowLemmas
 pub mod FrameLemmas
 pub mod BrandLemmas
 pub mod OfficeLemmas
 pub mod ClassIdLemmas
-pub mod AnyLemmas
 pub mod TextLemmas

@@ -46,13 +46,12 @@ fourth_from_search b third t free None none = λ p d.
     ]
 fourth_from_search b third t free (Some p) there = record { third = third; third_found = t; decides = inr (free, there) }
 
-same_decided : (b : List ℕ) (third p q : ℕ) → DecidesBehind b third p → DecidesBehind b third q → p ≡ q
-same_decided b third p q d e = grind (arith, IsFirstPlace-same b zip_header (third + 56) (third + 56 + 6000) p q)
-
 IsDecidingHeader-one : (b : List ℕ) → IsUnique (IsDecidingHeader b)
 IsDecidingHeader-one b p q d e =
     let same = IsThirdHeader-one b d.third e.third d.third_found e.third_found in
-    same_decided b e.third p q (subst (λ x. DecidesBehind b x p) same d.decides) e.decides
+    let here = subst (λ x. DecidesBehind b x p) same d.decides in
+    let there = e.decides in
+    grind (arith, IsFirstPlace-same b zip_header (e.third + 56) (e.third + 56 + 6000) p q)
 
 pub IsDecidingPlace-one : (b : List ℕ) → IsUnique (IsDecidingPlace b)
 IsDecidingPlace-one b p q (_, inl h) (_, inl k) = h.1 ∙ sym k.1

@@ -1,7 +1,7 @@
 -- A text stands at a place of a buffer: in one that grows it, in a part of it, beside other texts.
-use Rattle.std.proofs.Common.{◌≡◌, ℕ, ◌+◌, ◌-◌, ◌<◌, ◌≤◌, List, ◌++◌, length, get_or, inl, inr, take, drop, sym, ap, subst, ◌∙◌, ◌↔◌, arith, length-append, length-drop, length-take}
+use Rattle.std.proofs.Common.{◌≡◌, ℕ, ◌+◌, ◌-◌, ◌<◌, ◌≤◌, List, ◌++◌, length, get_or, inl, inr, take, drop, sym, ap, subst, ◌∙◌, ◌↔◌, arith, add-zero, zero-add, length-append, length-drop, length-take}
 use Rattle.std.proofs.lemmas.List.{get_or_append_left, get_or-take, get_or-drop}
-use Rattle.std.proofs.lemmas.List.Prefix.{front_fits, front_reads, front_from_reads}
+use Rattle.std.proofs.lemmas.List.Prefix.{front_fits, at_reads, at_from_reads}
 use Rattle.std.proofs.lemmas.Bool.{cases_lt}
 use Rattle.memchr.specs.Find.{OccursAt}
 use Rattle.infer_deep.specs.Places.{IsFirstPlace}
@@ -27,7 +27,7 @@ Carries n b c = (text : List ℕ) (p : ℕ) → p + length text ≤ n → Occurs
 
 -- the byte at its place is its first
 pub OccursAt-first : (b text : List ℕ) (p : ℕ) → 0 < length text → OccursAt b text p → get_or b p 0 ≡ get_or text 0 0
-OccursAt-first b text p l o = ap (λ i. get_or b i 0) (let r : p ≡ p + 0 = omega arith in r) ∙ o.reads 0 l
+OccursAt-first b text p l o = rw add-zero at (o.reads 0 l)
 
 -- two texts at one place have the same bytes
 pub OccursAt-agree : (b v w : List ℕ) (p i : ℕ)
@@ -36,15 +36,10 @@ OccursAt-agree b v w p i o k in_v in_w = sym (o.reads i in_v) ∙ k.reads i in_w
 
 -- what stands at 0 is a front
 pub begins-from_OccursAt : (b text : List ℕ) → OccursAt b text 0 → b ≡ text ++ drop (length text) b
-begins-from_OccursAt b text o =
-    let f = o.fits in
-    front_from_reads 0 b text (omega arith) (λ j l. ap (λ i. get_or b i 0) (let r : j ≡ 0 + j = omega arith in r) ∙ o.reads j l)
+begins-from_OccursAt b text o = simp zero-add at (at_from_reads 0 b text 0 o.fits o.reads)
 
 pub OccursAt-begins : (b text rest : List ℕ) → b ≡ text ++ rest → OccursAt b text 0
-OccursAt-begins b text rest e = record {
-  fits = let f = front_fits b text rest e in omega arith;
-  reads = λ j l. ap (λ i. get_or b i 0) (let r : 0 + j ≡ j = omega arith in r) ∙ front_reads 0 b text rest e j l;
-}
+OccursAt-begins b text rest e = record { fits = let f = front_fits b text rest e in omega arith; reads = at_reads 0 b text 0 rest e }
 
 -- the reads of a part
 pub part_reads : (b : List ℕ) (s e i : ℕ) → s + i < e → get_or (take (e - s) (drop s b)) i 0 ≡ get_or b (s + i) 0

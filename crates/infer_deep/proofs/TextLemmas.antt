@@ -1,7 +1,7 @@
 -- White space, marks and tags: what a buffer begins with, and what is markup after them.
-use Rattle.std.proofs.Common.{◌≡◌, ◌↔◌, ℕ, zero, suc, ◌+◌, ◌-◌, ◌<◌, ◌≤◌, ◌⊎◌, Bool, true, ◌&&◌, not, List, [], ◌∷◌, ◌++◌, length, get_or, take, drop, map, refl, sym, ap, subst, ◌∙◌, inl, inr, arith, eqb, ltb, length-append}
+use Rattle.std.proofs.Common.{◌≡◌, ◌↔◌, ℕ, zero, suc, ◌+◌, ◌-◌, ◌<◌, ◌≤◌, ◌⊎◌, Bool, true, ◌&&◌, not, List, [], ◌∷◌, ◌++◌, length, get_or, take, drop, map, refl, sym, ap, subst, ◌∙◌, inl, inr, arith, eqb, ltb}
 use Rattle.std.proofs.Math.ListN.{get_or-map}
-use Rattle.std.proofs.lemmas.List.{take-append-drop, take_at, take_rest, get_or_append_left, drop_more, length-map, length-take-le, append_assoc}
+use Rattle.std.proofs.lemmas.List.{take-append-drop, take_at, take_rest, get_or_append_left, get_or-take, get_or_at, take-append-le, drop_more, length-map, length-take-le, append_assoc}
 use Rattle.std.proofs.lemmas.List.Sums.{AllPass-from_list_all}
 use Rattle.std.proofs.lemmas.Bool.Decides.{nat_tests}
 use Rattle.std.specs.Prelude.{Any, codes}
@@ -12,7 +12,6 @@ use Rattle.infer_deep.specs.Blocks.{AllBelow}
 use Rattle.infer_deep.specs.Signatures.{Lasts, AreApart, ComesWith, IsEarly}
 use Rattle.infer_deep.specs.Joined.{Behind, SkipsTo, LeadsTo, NoneBegins, BeginsWith}
 use Rattle.infer_deep.specs.Text.{IsWhite, IsSpace, IsMark, IsSameInAnyCase, BeginsInAnyCase, BeginsMarked, BeginsWhite, BeginsWithTag, IsHtml, IsXml, tags}
-use Rattle.infer_deep.proofs.FrontLemmas.{IsTold, told-early, told-lasts}
 use Rattle.infer_deep.proofs.JoinedLemmas.{IsPrefixFree, Stops, WordsBegin, begun-first, SkipsTo-none, SkipsTo-cons, NoneBegins-first, Behind-lead, Behind-lasts, Behind-comes, Behind-left, Behind-trimmed, Behind-apart}
 use Rattle.infer_deep.proofs.PlaceLemmas.{begins-from_OccursAt, OccursAt-begins, OccursAt-front}
 
@@ -103,11 +102,16 @@ front_in_any_case b text h =
 BeginsInAnyCase-byte : (b text : List ℕ) (i : ℕ)
     → i < length text → BeginsInAnyCase text b → to_ascii_lowercase (get_or b i 0) ≡ to_ascii_lowercase (get_or text i 0)
 BeginsInAnyCase-byte b text i l h =
-    let n = same_length h.word text h.same in
-    let read : get_or b i 0 ≡ get_or h.word i 0
-    = ap (λ u. get_or u i 0) h.whole ∙ get_or_append_left h.word h.rest 0 i (omega arith) in
-    ap to_ascii_lowercase read ∙ sym (get_or-map to_ascii_lowercase h.word i 0) ∙ ap (λ u. get_or u i 0) h.same
-    ∙ get_or-map to_ascii_lowercase text i 0
+    ap to_ascii_lowercase (sym (get_or-take (length text) b i 0 l)) ∙ sym (get_or-map to_ascii_lowercase (take (length text) b) i 0)
+    ∙ ap (λ u. get_or u i 0) (front_in_any_case b text h) ∙ get_or-map to_ascii_lowercase text i 0
+
+BeginsInAnyCase-lasts : (text : List ℕ) → Lasts (BeginsInAnyCase text)
+BeginsInAnyCase-lasts text b more h =
+    record { word = h.word; rest = h.rest ++ more; same = h.same; whole = ap (λ u. u ++ more) h.whole ∙ append_assoc h.word h.rest more }
+
+BeginsInAnyCase-front : (b more text : List ℕ) → length text ≤ length b → BeginsInAnyCase text (b ++ more) → BeginsInAnyCase text b
+BeginsInAnyCase-front b more text l h =
+    begins_in_any_case b text (subst (λ u. IsSameInAnyCase u text) (take-append-le (length text) b more l) (front_in_any_case (b ++ more) text h))
 
 -- a byte that is "<" in lower case is "<"
 lower_open : (c : ℕ) → to_ascii_lowercase c ≡ 0x3C → c ≡ 0x3C
@@ -163,33 +167,20 @@ HasTag-apart_xml b (k, tag, l, e, h) x =
     let o = tag_opens k tag l e in
     o.3 (sym (BeginsInAnyCase-byte b tag 1 o.1 (text_of_tag b tag h)) ∙ BeginsInAnyCase-byte b (codes "<?xml") 1 (omega arith) x)
 
--- a front tells of both
-HasTag-told : (b : List ℕ) → HasTag b → IsTold 1024 HasTag b
-HasTag-told b (k, tag, l, e, h) =
-    let o = tag_opens k tag l e in
-    let n = same_length h.word tag h.same in
-    record {
-      front = h.word ++ h.end ∷ [];
-      rest = h.rest;
-      whole = h.whole ∙ sym (append_assoc h.word (h.end ∷ []) h.rest);
-      short = omega (arith, length-append h.word (h.end ∷ []));
-      tells = λ more. (
-        k,
-        tag,
-        l,
-        e,
-        record { word = h.word; end = h.end; rest = more; same = h.same; closes = h.closes; whole = append_assoc h.word (h.end ∷ []) more },
-      );
-    }
+-- in a buffer that grows, and in its front
+HasTag-lasts : Lasts HasTag
+HasTag-lasts b more (k, tag, l, e, h) =
+    let whole = ap (λ u. u ++ more) h.whole ∙ append_assoc h.word (h.end ∷ h.rest) more in
+    (k, tag, l, e, record { word = h.word; end = h.end; rest = h.rest ++ more; same = h.same; closes = h.closes; whole = whole })
 
-HasXml-told : (b : List ℕ) → HasXml b → IsTold 1024 HasXml b
-HasXml-told b h = record {
-  front = h.word;
-  rest = h.rest;
-  whole = h.whole;
-  short = let n = same_length h.word (codes "<?xml") h.same in omega arith;
-  tells = λ more. record { word = h.word; rest = more; same = h.same; whole = refl };
-}
+HasTag-early : IsEarly HasTag
+HasTag-early b more long (k, tag, l, e, h) =
+    let o = tag_opens k tag l e in
+    let end : get_or b (length tag) 0 ≡ h.end
+    = sym (get_or_append_left b more 0 (length tag) (omega arith)) ∙ ap (λ u. get_or u (length tag) 0) h.whole
+    ∙ get_or_at h.word h.end h.rest 0 (length tag) (same_length h.word tag h.same) in
+    let text = BeginsInAnyCase-front b more tag (omega arith) (text_of_tag (b ++ more) tag h) in
+    (k, tag, l, e, tag_from_text b tag (omega arith) (subst (λ c. (c ≡ 0x20) ⊎ (c ≡ 0x3E)) (sym end) h.closes) text)
 
 -- what begins with "<" begins with no space and no mark, nor do marks begin with a space
 HasTag-stops : Stops HasTag IsSpace
@@ -244,11 +235,11 @@ IsHtml-apart_IsXml = Behind-apart IsSpace IsMarkedXml IsXml IsXml-nested IsSpace
 
 -- in a buffer that grows
 pub IsHtml-lasts : Lasts IsHtml
-IsHtml-lasts = Behind-lasts IsSpace HasTag IsHtml (itself IsSpace HasTag) (told-lasts 1024 HasTag HasTag-told)
+IsHtml-lasts = Behind-lasts IsSpace HasTag IsHtml (itself IsSpace HasTag) HasTag-lasts
 
 pub IsXml-lasts : Lasts IsXml
 IsXml-lasts = Behind-lasts IsSpace IsMarkedXml IsXml IsXml-nested
-    (Behind-lasts IsMark HasXml IsMarkedXml (itself IsMark HasXml) (told-lasts 1024 HasXml HasXml-told))
+    (Behind-lasts IsMark HasXml IsMarkedXml (itself IsMark HasXml) (BeginsInAnyCase-lasts _))
 
 -- the first byte
 pub IsHtml-lead : (b : List ℕ) → IsHtml b → IsWhite (get_or b 0 0) ⊎ (get_or b 0 0 ≡ 0x3C)
@@ -272,10 +263,10 @@ white_begins b more rest long w = BeginsWhite-early b more long (begun-first IsS
 
 pub IsHtml-comes : ComesWith IsHtml BeginsWhite
 IsHtml-comes = Behind-comes IsSpace HasTag IsHtml (itself IsSpace HasTag) BeginsWhite white_begins
-    (λ b more long h. inl (told-early HasTag HasTag-told b more long h))
+    (λ b more long h. inl (HasTag-early b more long h))
 
 pub IsXml-comes : ComesWith IsXml (λ b. BeginsWhite b ⊎ BeginsMarked b)
 IsXml-comes = Behind-comes IsSpace IsMarkedXml IsXml IsXml-nested (λ u. BeginsWhite u ⊎ BeginsMarked u) (λ u y rest l w. inl (white_begins u y rest l w))
     (Behind-comes IsMark HasXml IsMarkedXml (itself IsMark HasXml) (λ u. BeginsWhite u ⊎ BeginsMarked u)
     (λ u y rest l w. inr (BeginsMarked-early u y l (w.word, w.kind, OccursAt-begins (u ++ y) w.word rest w.whole)))
-    (λ u y l h. inl (told-early HasXml HasXml-told u y l h)))
+    (λ u y l h. inl (BeginsInAnyCase-front u y _ (omega arith) h)))

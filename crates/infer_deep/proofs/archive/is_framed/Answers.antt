@@ -1,9 +1,8 @@
-use Rattle.std.proofs.Common.{arith}
+use Rattle.std.proofs.Common.{arith, rules}
 use Rattle.infer_deep.proofs.FrameLemmas.{IsFramed-left}
 use Rattle.infer_deep.proofs.archive.is_framed.Goals as goal
 
 pub returns : goal.returns
 returns c =
     let after = c.after_frames.ensures in
-    let both = IsFramed-left c.args.magic.now (omega arith) c.requires _ _ after.skips after.stops in
-    (λ is. both.0 (c.has_at.ensures.0 is), λ h. c.has_at.ensures.1 (both.1 h))
+    let both = IsFramed-left c.args.magic.now (omega arith) c.requires _ _ after.skips after.stops in search (rules, both.0, both.1)

@@ -2,12 +2,6 @@ use Rattle.std.proofs.Common.{arith}
 use Rattle.infer_deep.proofs.SearchLemmas.{first_at_pair, none_past_pair, none_without_pair}
 use Rattle.infer_deep.proofs.places.search_pairs.Goals as goal
 
-pub loop-turn-init : goal.loop-turn-init
-loop-turn-init c = (omega arith, omega arith, λ q lt w. let low = w.low in omega arith)
-
-pub slice_bounds-find_prefilter-count : goal.slice_bounds-find_prefilter-count
-slice_bounds-find_prefilter-count c = c.loop-turn.invariant.1
-
 pub returns-in_err-at : goal.returns-in_err-at
 returns-in_err-at c =
     let i = c.loop-turn.invariant in

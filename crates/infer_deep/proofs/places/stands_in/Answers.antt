@@ -6,7 +6,4 @@ pub loop-place-preserved : goal.loop-place-preserved
 loop-place-preserved g c = below_more _ _ c.loop-place.invariant (λ o. false≢true (c.if-same_at.ensures.1 o))
 
 pub returns : goal.returns
-returns g c = (
-  λ is. absurd (false≢true is),
-  λ (p, o). let fits = o.fits in absurd (c.loop-place.invariant p (grind arith) o),
-)
+returns g c = (λ is. absurd (cc), λ (p, o). let fits = o.fits in absurd (c.loop-place.invariant p (grind arith) o))
