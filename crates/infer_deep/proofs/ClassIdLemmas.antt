@@ -4,11 +4,7 @@ use Rattle.std.proofs.lemmas.List.{get_or_append_left}
 use Rattle.infer_deep.specs.Signatures.{Lasts, IsEarly}
 use Rattle.infer_deep.proofs.NumberLemmas.{le16-append, le32-append}
 use Rattle.infer_deep.proofs.PlaceLemmas.{IsUnique, OccursAt-append, OccursAt-front}
-use Rattle.infer_deep.specs.ClassId.{BeginsCompound, BeginsRoot, IsRoot, HasClassId, IsXls}
-
--- the entry begins past the header
-root_far : (b : List ℕ) (root : ℕ) → BeginsRoot b root → 512 ≤ root
-root_far b root h = grind arith
+use Rattle.infer_deep.specs.ClassId.{BeginsCompound, IsRoot, HasClassId, IsXls}
 
 pub IsRoot-one : (b : List ℕ) → IsUnique (IsRoot b)
 IsRoot-one b p q r s = let here = r.begins in let there = s.begins in grind arith
@@ -16,7 +12,7 @@ IsRoot-one b p q r s = let here = r.begins in let there = s.begins in grind arit
 module _ (b more : List ℕ) where
   IsRoot-append : (root : ℕ) → IsRoot b root → IsRoot (b ++ more) root
   IsRoot-append root r =
-      let far = root_far b root r.begins in
+      let far : 512 ≤ root = let begins = r.begins in grind arith in
       let w = r.whole in
       let version = le16-append b more 26 (omega arith) in
       let shift = le16-append b more 30 (omega arith) in

@@ -1,12 +1,12 @@
 -- Skippable frames: where one stands at the front, and what is data after them.
 use Rattle.std.proofs.Common.{◌≡◌, ◌↔◌, ℕ, ◌+◌, ◌-◌, ◌<◌, ◌≤◌, ◌⊎◌, inl, inr, List, [], ◌∷◌, ◌++◌, length, get_or, take, drop, refl, sym, ap, subst, ◌∙◌, arith, length-append}
-use Rattle.std.proofs.lemmas.List.{take_rest, take-append-drop, length-take-le, get_or_append_left}
+use Rattle.std.proofs.lemmas.List.{take_at, take_rest, take-append-drop, length-take-le, get_or_append_left}
 use Rattle.infer_deep.specs.Numbers.{le32}
 use Rattle.infer_deep.specs.Signatures.{Lasts, ComesWith, AreApart, IsEarly}
 use Rattle.infer_deep.specs.Joined.{Behind, SkipsTo, NoneBegins, BeginsWith}
 use Rattle.infer_deep.proofs.PlaceLemmas.{OccursAt-append, OccursAt-agree, OccursAt-first, OccursAt-front, OccursAt-begins, begins-from_OccursAt}
 use Rattle.infer_deep.proofs.NumberLemmas.{le32-append}
-use Rattle.infer_deep.proofs.JoinedLemmas.{IsPrefixFree, Stops, WordsBegin, same_fronts, NoneBegins-first, Behind-lead, Behind-lasts, Behind-comes, Behind-left, Behind-trimmed, Behind-apart}
+use Rattle.infer_deep.proofs.JoinedLemmas.{IsPrefixFree, Stops, WordsBegin, NoneBegins-first, Behind-lead, Behind-lasts, Behind-comes, Behind-left, Behind-trimmed, Behind-apart}
 use Rattle.infer_deep.specs.Frames.{BeginsFrame, IsFrame, IsFramed}
 use Rattle.memchr.specs.Find.{OccursAt}
 
@@ -39,7 +39,8 @@ IsFrame-prefix_free : IsPrefixFree IsFrame
 IsFrame-prefix_free v w x y f g e =
     let m = begun-length (v ++ x) v x f refl in
     let n = begun-length (v ++ x) w y g e in
-    same_fronts v w x y (omega arith) e
+    let long : length w ≡ length v = omega arith in
+    sym (take_at v x (length v) refl) ∙ ap (take (length v)) e ∙ take_at w y (length v) long
 
 -- a frame of n bytes stands at the front
 pub frame_begins : (b : List ℕ) (n : ℕ)

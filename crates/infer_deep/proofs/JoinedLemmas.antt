@@ -1,6 +1,6 @@
 -- Words joined: what is left after them is one, however it is found, and what holds of a buffer after them.
-use Rattle.std.proofs.Common.{◌≡◌, ◌↔◌, ℕ, ◌<◌, ◌≤◌, ◌⊎◌, inl, inr, List, [], ◌∷◌, ◌++◌, length, get_or, take, refl, sym, ap, subst, ◌∙◌}
-use Rattle.std.proofs.lemmas.List.{append_assoc, append_cancel_left, take_at}
+use Rattle.std.proofs.Common.{◌≡◌, ◌↔◌, ℕ, ◌<◌, ◌≤◌, ◌⊎◌, inl, inr, List, [], ◌∷◌, ◌++◌, length, get_or, refl, sym, ap, subst, ◌∙◌}
+use Rattle.std.proofs.lemmas.List.{append_assoc, append_cancel_left}
 use Rattle.std.proofs.lemmas.List.Prefix.{front_reads}
 use Rattle.std.specs.List.{AllByRecursion, concat}
 use Rattle.infer_deep.specs.Joined.{SkipsTo, NoneBegins, BeginsWith, LeadsTo, Behind}
@@ -18,22 +18,16 @@ WordsBegin P Q = (word : List ℕ) → P word → (0 < length word) × Q (get_or
 abbrev pub Stops : (List ℕ → Type 0) → (List ℕ → Type 0) → Type 0
 Stops S P = (b : List ℕ) → S b → NoneBegins P b
 
--- two fronts of one length are the same
-pub same_fronts : (v w x y : List ℕ) → length v ≡ length w → v ++ x ≡ w ++ y → v ≡ w
-same_fronts v w x y n e = sym (take_at v x (length v) refl) ∙ ap (take (length v)) e ∙ take_at w y (length v) (sym n)
-
 module _ (P : List ℕ → Type 0) where
   pub SkipsTo-none : (b : List ℕ) → SkipsTo P b b
   SkipsTo-none b = record { words = []; each = tt; whole = refl }
 
   -- either there is no word, or the buffer begins with one
-  SkipsTo-begin : (b rest : List ℕ) → SkipsTo P b rest → (b ≡ rest) ⊎ ((x : List ℕ) × BeginsWith P b x)
-  SkipsTo-begin b rest s = go s.words s.each s.whole
-    where
-      go : (words : List (List ℕ)) → AllByRecursion P words → b ≡ concat words ++ rest → (b ≡ rest) ⊎ ((x : List ℕ) × BeginsWith P b x)
-      go [] all e = inl e
-      go (word ∷ words) all e =
-          inr (concat words ++ rest, record { word = word; kind = all.0; whole = e ∙ append_assoc word (concat words) rest })
+  SkipsTo-begin : (b rest : List ℕ) (words : List (List ℕ)) → AllByRecursion P words → b ≡ concat words ++ rest
+      → (b ≡ rest) ⊎ ((x : List ℕ) × BeginsWith P b x)
+  SkipsTo-begin b rest [] all e = inl e
+  SkipsTo-begin b rest (word ∷ words) all e =
+      inr (concat words ++ rest, record { word = word; kind = all.0; whole = e ∙ append_assoc word (concat words) rest })
 
   -- one more word in front
   pub SkipsTo-cons : (b c rest : List ℕ) → BeginsWith P b c → SkipsTo P c rest → SkipsTo P b rest
@@ -73,7 +67,7 @@ module _ (P S T : List ℕ → Type 0) (is : (b : List ℕ) → Behind P S b ↔
       → (b : List ℕ) → T b → Q (get_or b 0 0) ⊎ R (get_or b 0 0)
   Behind-lead Q R begin first b t =
       let (rest, s, h) = (is b).1 t in
-      elim (SkipsTo-begin P b rest s) [
+      elim (SkipsTo-begin P b rest s.words s.each s.whole) [
         | inl e ↦ inr (subst (λ u. R (get_or u 0 0)) (sym e) (first rest h))
         | inr (x, w) ↦ inl (begun-first P Q begin b x w)
       ]
@@ -92,7 +86,7 @@ module _ (P S T : List ℕ → Type 0) (is : (b : List ℕ) → Behind P S b ↔
       → ComesWith S U → ComesWith T U
   Behind-comes U begun comes b more long t =
       let (rest, s, h) = (is (b ++ more)).1 t in
-      elim (SkipsTo-begin P (b ++ more) rest s) [
+      elim (SkipsTo-begin P (b ++ more) rest s.words s.each s.whole) [
         | inl e ↦ elim (comes b more long (subst S (sym e) h)) [ inl k ↦ inl ((is b).0 (b, SkipsTo-none P b, k)) | inr u ↦ inr u ]
         | inr (x, w) ↦ inr (begun b more x long w)
       ]

@@ -114,9 +114,6 @@ module _ (b more : List ℕ) where
   no_folder-append : (p : ℕ) → p + 5 ≤ length b → (¬ HasFolder b p) → ¬ HasFolder (b ++ more) p
   no_folder-append p long free h = free (HasFolder-carried (b ++ more) b (length b) (OccursAt-front b more) p long h)
 
-  IsHeaderFrom-append : (s p : ℕ) → IsHeaderFrom b s p → IsHeaderFrom (b ++ more) s p
-  IsHeaderFrom-append s p f = IsFirstPlace-append b more zip_header s (s + 6000) p f
-
   IsThirdHeader-append : (third : ℕ) → IsThirdHeader b third → IsThirdHeader (b ++ more) third
   IsThirdHeader-append third t =
       let low = t.second_found.here.low in
@@ -125,8 +122,8 @@ module _ (b more : List ℕ) where
       record {
         second = t.second;
         start_fits = let f = t.start_fits in omega arith;
-        second_found = subst (λ (n : ℕ). IsHeaderFrom (b ++ more) (n + 49) t.second) (sym same) (IsHeaderFrom-append _ t.second t.second_found);
-        third_found = IsHeaderFrom-append _ third t.third_found;
+        second_found = subst (λ (n : ℕ). IsHeaderFrom (b ++ more) (n + 49) t.second) (sym same) (IsFirstPlace-append b more zip_header _ _ t.second t.second_found);
+        third_found = IsFirstPlace-append b more zip_header _ _ third t.third_found;
       }
 
   -- where the fourth header stands, the bytes after the third are all there
@@ -135,7 +132,7 @@ module _ (b more : List ℕ) where
   DecidesBehind-append third header (inr h) =
       let low = h.1.here.low in
       let fits = h.1.here.stands.fits in
-      inr (no_folder-append (third + 30) (omega arith) h.0, IsHeaderFrom-append _ header h.1)
+      inr (no_folder-append (third + 30) (omega arith) h.0, IsFirstPlace-append b more zip_header _ _ header h.1)
 
   IsDecidingPlace-append : (p : ℕ) → IsDecidingPlace b p → IsDecidingPlace (b ++ more) p
   IsDecidingPlace-append p (z, inl h) = (OccursAt-append b more zip_header 0 z, inl (HasFolder-append 30 h.0, h.1))

@@ -1,8 +1,7 @@
 -- A text stands at a place of a buffer: in one that grows it, in a part of it, beside other texts.
-use Rattle.std.proofs.Common.{◌≡◌, ℕ, ◌+◌, ◌-◌, ◌<◌, ◌≤◌, List, ◌++◌, length, get_or, inl, inr, take, drop, sym, ap, subst, ◌∙◌, ◌↔◌, arith, add-zero, zero-add, length-append, length-drop, length-take}
+use Rattle.std.proofs.Common.{◌≡◌, ℕ, ◌+◌, ◌-◌, ◌<◌, ◌≤◌, List, ◌++◌, length, get_or, take, drop, sym, ap, subst, ◌∙◌, ◌↔◌, arith, add-zero, zero-add, length-append, length-drop, length-take}
 use Rattle.std.proofs.lemmas.List.{get_or_append_left, get_or-take, get_or-drop}
 use Rattle.std.proofs.lemmas.List.Prefix.{front_fits, at_reads, at_from_reads}
-use Rattle.std.proofs.lemmas.Bool.{cases_lt}
 use Rattle.memchr.specs.Find.{OccursAt}
 use Rattle.infer_deep.specs.Places.{IsFirstPlace}
 
@@ -78,10 +77,9 @@ module _ (P : ℕ → Type 0) (one : IsUnique P) (b : List ℕ) (at : ℕ → �
 -- a least place is one place, and stays it in a buffer that grows
 pub IsFirstPlace-same : (b text : List ℕ) (start end : ℕ) → IsUnique (IsFirstPlace b text start end)
 IsFirstPlace-same b text start end p q f g =
-    elim (cases_lt p q) [
-      | inl l ↦ absurd (g.before p l f.here)
-      | inr l ↦ elim (cases_lt q p) [ inl k ↦ absurd (f.before q k g.here) | inr k ↦ omega arith ]
-    ]
+    let not_before = g.before p in
+    let not_after = f.before q in
+    grind (arith, f.here, g.here)
 
 pub IsFirstPlace-append : (b more text : List ℕ) (start end p : ℕ)
     → IsFirstPlace b text start end p → IsFirstPlace (b ++ more) text start end p

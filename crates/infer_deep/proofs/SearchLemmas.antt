@@ -38,21 +38,18 @@ module _ (b text : List ℕ) (start later end : ℕ) (le : start ≤ later) (non
   from_later q low w = record { stands = w.stands; low = low; high = w.high }
 
   IsFirstWithin-skip : (r : Option ℕ) → IsFirstWithin b text later end r → IsFirstWithin b text start end r
-  IsFirstWithin-skip None h = λ q w. elim (cases_lt q later) [ inl l ↦ none q l w | inr l ↦ h q (from_later q (omega arith) w) ]
+  IsFirstWithin-skip None h = λ q w. grind (arith, none q, h q, from_later q)
   IsFirstWithin-skip (Some p) h = record {
     here = let low = h.here.low in record { stands = h.here.stands; low = omega arith; high = h.here.high };
-    before = λ q lt w.
-        elim (cases_lt q later) [ inl l ↦ none q l w | inr l ↦ h.before q lt (from_later q (omega arith) w) ];
+    before = λ q lt w. grind (arith, none q, h.before q, from_later q);
   }
 
 -- a pair that stands in a part of a buffer from s to e
 pair_in_part : (b : List ℕ) (x y s e p : ℕ) → s ≤ p → p + 1 < e → IsPairAt x y b p → IsPairAt x y (take (e - s) (drop s b)) (p - s)
 pair_in_part b x y s e p low high (first, second) =
-    let back : s + (p - s) ≡ p = omega arith in
-    let next : s + (p - s + 1) ≡ p + 1 = omega arith in (
-      part_reads b s e (p - s) (omega arith) ∙ ap (λ i. get_or b i 0) back ∙ first,
-      part_reads b s e (p - s + 1) (omega arith) ∙ ap (λ i. get_or b i 0) next ∙ second,
-    )
+    let back = part_reads b s e (p - s) (omega arith) in
+    let next = part_reads b s e (p - s + 1) (omega arith) in
+    grind arith
 
 -- one more block of 128 places that lack the pair, which may overlap those before
 pub lacks_more : (b : List ℕ) (x y n at m : ℕ) → at ≤ n → m ≤ at + 128

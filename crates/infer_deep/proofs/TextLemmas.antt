@@ -114,11 +114,10 @@ BeginsInAnyCase-front b more text l h =
     begins_in_any_case b text (subst (λ u. IsSameInAnyCase u text) (take-append-le (length text) b more l) (front_in_any_case (b ++ more) text h))
 
 -- a byte that is "<" in lower case is "<"
-lower_open : (c : ℕ) → to_ascii_lowercase c ≡ 0x3C → c ≡ 0x3C
-lower_open c e = grind (arith, nat_tests)
-
 BeginsInAnyCase-open : (b text : List ℕ) → 0 < length text → get_or text 0 0 ≡ 0x3C → BeginsInAnyCase text b → get_or b 0 0 ≡ 0x3C
-BeginsInAnyCase-open b text l first h = lower_open (get_or b 0 0) (BeginsInAnyCase-byte b text 0 l h ∙ ap to_ascii_lowercase first)
+BeginsInAnyCase-open b text l first h =
+    let same : to_ascii_lowercase (get_or b 0 0) ≡ 0x3C = BeginsInAnyCase-byte b text 0 l h ∙ ap to_ascii_lowercase first in
+    grind (arith, nat_tests)
 
 -- a tag, from its text and the byte after it
 pub tag_from_text : (b tag : List ℕ) → length tag < length b
@@ -189,9 +188,6 @@ HasTag-stops b h = let first = HasTag-open b h in NoneBegins-first IsSpace IsWhi
 NoneBegins-mark : (b : List ℕ) → get_or b 0 0 ≡ 0x3C → NoneBegins IsMark b
 NoneBegins-mark b first = NoneBegins-first IsMark IsMarkByte IsMark-begin b (λ mark. omega arith)
 
-HasXml-stops : Stops HasXml IsMark
-HasXml-stops b h = NoneBegins-mark b (HasXml-open b h)
-
 -- XML is marks and the text after white space
 abbrev IsMarkedXml : List ℕ → Type 0
 IsMarkedXml = Behind IsMark HasXml
@@ -210,7 +206,7 @@ IsMarkedXml-stops b h =
     let first = IsMarkedXml-lead b h in NoneBegins-first IsSpace IsWhite IsSpace-begin b (λ white. absurd (omega arith))
 
 IsMarkedXml-left : (b left : List ℕ) → SkipsTo IsMark b left → NoneBegins IsMark left → HasXml left ↔ IsMarkedXml b
-IsMarkedXml-left = Behind-left IsMark HasXml IsMarkedXml (itself IsMark HasXml) IsMark-prefix_free HasXml-stops
+IsMarkedXml-left = Behind-left IsMark HasXml IsMarkedXml (itself IsMark HasXml) IsMark-prefix_free (λ b h. NoneBegins-mark b (HasXml-open b h))
 
 -- what is left after white space, and after marks
 module _ (b text : List ℕ) (skips : SkipsTo IsSpace b text) (none : NoneBegins IsSpace text) where
