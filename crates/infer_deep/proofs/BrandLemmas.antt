@@ -3,13 +3,10 @@ use Rattle.std.proofs.Common.{◌≡◌, ℕ, ◌+◌, ◌-◌, ◌*◌, ◌/◌
 use Rattle.std.proofs.lemmas.Bool.{cases_lt}
 use Rattle.std.specs.Option.{is_some}
 use Rattle.infer_deep.specs.Places.{IsFirstWithin}
-use Rattle.infer_deep.specs.Signatures.{Lasts, AreApart, ComesWith, IsEarly}
+use Rattle.infer_deep.specs.Signatures.{Lasts, ComesWith, IsEarly}
 use Rattle.infer_deep.proofs.PlaceLemmas.{Carries, OccursAt-append, OccursAt-front}
 use Rattle.infer_deep.proofs.NumberLemmas.{be32-append}
 use Rattle.infer_deep.specs.Brands.{box_length, IsBoxed, IsOpenBox, HasMajor, HasCompatible, IsHeif, IsAvif}
-
-pub open-apart_boxed : AreApart IsOpenBox IsBoxed
-open-apart_boxed b o box = let l = o.longer in let w = box.whole in omega arith
 
 -- a compatible brand is found in the box
 pub compatible_found : (b brand : List ℕ) (end : ℕ) (r : Option ℕ) → length brand ≡ 4 → end ≡ box_length b
@@ -33,10 +30,10 @@ module _ (b c : List ℕ) (n : ℕ) (carries : Carries n b c) (size : box_length
   compatible brand short (k, l, o) =
       let here = subst (λ s. k < s / 4 - 4) size l in (k, here, carries brand (16 + 4 * k) (omega arith) o)
 
-  IsHeif-carried : IsBoxed c → IsHeif b → IsHeif c
+  pub IsHeif-carried : IsBoxed c → IsHeif b → IsHeif c
   IsHeif-carried box h = grind (arith, major (codes "heic"), major (codes "heix"), major (codes "mif1"), major (codes "msf1"), compatible (codes "heic"))
 
-  IsAvif-carried : IsBoxed c → IsAvif b → IsAvif c
+  pub IsAvif-carried : IsBoxed c → IsAvif b → IsAvif c
   IsAvif-carried box (_, inl o) = (box, inl (major _ (omega arith) o))
   IsAvif-carried box (_, inr (inl o)) = (box, inr (inl (major _ (omega arith) o)))
   IsAvif-carried box (_, inr (inr (inl k))) = (box, inr (inr (inl (compatible _ (omega arith) k))))
@@ -45,7 +42,7 @@ module _ (b c : List ℕ) (n : ℕ) (carries : Carries n b c) (size : box_length
 -- a property of boxed files that is carried so
 module _ (S : List ℕ → Type 0) (boxed : (b : List ℕ) → S b → IsBoxed b) (carried : (b c : List ℕ) (n : ℕ)
     → Carries n b c → box_length b ≡ box_length c → 12 ≤ n → box_length c ≤ n → IsBoxed c → S b → S c) where
-  boxed-lasts : Lasts S
+  pub boxed-lasts : Lasts S
   boxed-lasts b more x =
       let box = boxed b x in
       let l = box.long in
@@ -58,7 +55,7 @@ module _ (S : List ℕ → Type 0) (boxed : (b : List ℕ) → S b → IsBoxed b
         whole = omega (arith, length-append b more);
       }) x
 
-  boxed-comes : ComesWith S IsOpenBox
+  pub boxed-comes : ComesWith S IsOpenBox
   boxed-comes b more long x =
       let kind = OccursAt-front b more _ 4 (omega arith) (boxed (b ++ more) x).kind in
       let size = be32-append b more 0 (omega arith) in
@@ -67,15 +64,3 @@ module _ (S : List ℕ → Type 0) (boxed : (b : List ℕ) → S b → IsBoxed b
         | inr l ↦ inl (carried (b ++ more) b (length b) (OccursAt-front b more) size (omega arith) l
             (record { long = omega arith; kind = kind; whole = l }) x)
       ]
-
-pub IsHeif-lasts : Lasts IsHeif
-IsHeif-lasts = boxed-lasts IsHeif (λ b h. h.0) IsHeif-carried
-
-pub IsHeif-comes : ComesWith IsHeif IsOpenBox
-IsHeif-comes = boxed-comes IsHeif (λ b h. h.0) IsHeif-carried
-
-pub IsAvif-lasts : Lasts IsAvif
-IsAvif-lasts = boxed-lasts IsAvif (λ b h. h.0) IsAvif-carried
-
-pub IsAvif-comes : ComesWith IsAvif IsOpenBox
-IsAvif-comes = boxed-comes IsAvif (λ b h. h.0) IsAvif-carried

@@ -1,10 +1,10 @@
 -- The root entry of a compound file is one place, and lasts.
 use Rattle.std.proofs.Common.{ℕ, ◌+◌, ◌≤◌, List, ◌++◌, ◌∙◌, arith, length-append}
 use Rattle.std.proofs.lemmas.List.{get_or_append_left}
-use Rattle.infer_deep.specs.Signatures.{Lasts, IsEarly}
+use Rattle.infer_deep.specs.Signatures.{Lasts}
 use Rattle.infer_deep.proofs.NumberLemmas.{le16-append, le32-append}
-use Rattle.infer_deep.proofs.PlaceLemmas.{IsUnique, OccursAt-append, OccursAt-front}
-use Rattle.infer_deep.specs.ClassId.{BeginsCompound, IsRoot, HasClassId, IsXls}
+use Rattle.infer_deep.proofs.PlaceLemmas.{IsUnique, OccursAt-append}
+use Rattle.infer_deep.specs.ClassId.{IsRoot, HasClassId}
 
 pub IsRoot-one : (b : List ℕ) → IsUnique (IsRoot b)
 IsRoot-one b p q r s = let here = r.begins in let there = s.begins in grind arith
@@ -25,11 +25,5 @@ module _ (b more : List ℕ) where
         kind = get_or_append_left b more 0 (root + 66) (omega arith) ∙ r.kind;
       }
 
-pub BeginsCompound-early : IsEarly BeginsCompound
-BeginsCompound-early b more long o = OccursAt-front b more _ 0 (omega arith) o
-
 pub HasClassId-lasts : (id : List ℕ) → Lasts (HasClassId id)
 HasClassId-lasts id b more (root, r, o) = (root, IsRoot-append b more root r, OccursAt-append b more id (root + 80) o)
-
-pub IsXls-lasts : Lasts IsXls
-IsXls-lasts b more h = grind (arith, HasClassId-lasts)

@@ -133,11 +133,8 @@ module _ (b text : List ℕ) (start from end m : ℕ) (is : m ≡ min end (lengt
   -- and where none does, it does not stand there either
   pub none_past_pair : (k n : ℕ) → NoneBefore (HasPair f (take (m - from) (drop from b))) 0 n k
       → ¬ (OccursAt b text (from + k) × (from + k + length text ≤ m)) → (q : ℕ) → q < from + k + 1 → ¬ IsWithin b text start end q
-  none_past_pair k n h absent q lt w = elim (cases_lt q (from + k)) [
-    | inl before ↦ none_to k h.before q before w
-    | inr there ↦
-        let same : q ≡ from + k = omega arith in
-        let high = w.high in
-        let fits = w.stands.fits in
-        absent (subst (OccursAt b text) same w.stands, omega arith)
-  ]
+  none_past_pair k n h absent q lt w =
+      let before = none_to k h.before q in
+      let high = w.high in
+      let fits = w.stands.fits in
+      grind (arith, w.stands)

@@ -5,7 +5,7 @@ use Rattle.std.proofs.lemmas.List.{take-append-drop, take_at, take_rest, get_or_
 use Rattle.std.proofs.lemmas.List.Sums.{AllPass-from_list_all}
 use Rattle.std.proofs.lemmas.Bool.Decides.{nat_tests}
 use Rattle.std.specs.Prelude.{Any, codes}
-use Rattle.std.specs.List.{concat}
+use Rattle.std.specs.List.{repeat}
 use Rattle.std.specs.Char.{to_ascii_lowercase}
 use Rattle.memchr.specs.Find.{OccursAt}
 use Rattle.infer_deep.specs.Blocks.{AllBelow}
@@ -34,7 +34,7 @@ space_begins b l white = record {
   whole = drop_more b 0 0 l ∙ ap (λ u. get_or b 0 0 ∷ u) (sym (take_rest b 1));
 }
 
--- white bytes in front are spaces
+-- white bytes in front are words to skip
 LeadsTo-white : (block b : List ℕ) → AllBelow IsWhite block (length block) → LeadsTo IsSpace (block ++ b) b
 LeadsTo-white [] b all rest s = s
 LeadsTo-white (x ∷ block) b all rest s =
@@ -49,24 +49,19 @@ leads_past_block b c block rest n leads l p q all more s =
     let whole : block ++ rest ≡ c = ap (λ u. u ++ rest) p ∙ ap (λ u. take n c ++ u) q ∙ take-append-drop n c in
     leads more (subst (λ u. LeadsTo IsSpace u rest) whole (LeadsTo-white block rest (λ k lt. all k (omega arith))) more s)
 
--- the same mark n times, and then anything
-abbrev pub times : ℕ → List ℕ → List (List ℕ)
-times zero mark = []
-times (suc n) mark = mark ∷ times n mark
+-- so are the same mark n times
+LeadsTo-repeat : (n : ℕ) (mark rest : List ℕ) → IsMark mark → LeadsTo IsMark (repeat n mark ++ rest) rest
+LeadsTo-repeat zero mark rest is more s = s
+LeadsTo-repeat (suc n) mark rest is more s =
+    SkipsTo-cons IsMark _ (repeat n mark ++ rest) more
+    (record { word = mark; kind = is; whole = append_assoc mark (repeat n mark) rest }) (LeadsTo-repeat n mark rest is more s)
 
-LeadsTo-times : (n : ℕ) (mark rest : List ℕ) → IsMark mark → LeadsTo IsMark (concat (times n mark) ++ rest) rest
-LeadsTo-times zero mark rest is more s = s
-LeadsTo-times (suc n) mark rest is more s =
-    SkipsTo-cons IsMark _ (concat (times n mark) ++ rest) more
-    (record { word = mark; kind = is; whole = append_assoc mark (concat (times n mark)) rest })
-    (LeadsTo-times n mark rest is more s)
-
-pub leads_past_marks : (b mark : List ℕ) (n m : ℕ) → m ≡ length (concat (times n mark)) → IsMark mark
-    → OccursAt b (concat (times n mark)) 0 → LeadsTo IsMark b (take (length b - m) (drop m b))
+pub leads_past_marks : (b mark : List ℕ) (n m : ℕ)
+    → m ≡ length (repeat n mark) → IsMark mark → OccursAt b (repeat n mark) 0 → LeadsTo IsMark b (take (length b - m) (drop m b))
 leads_past_marks b mark n m e is o =
     let rest = ap (λ k. drop k b) (sym e) ∙ sym (take_rest b m) in
-    subst (LeadsTo IsMark b) rest (subst (λ u. LeadsTo IsMark u (drop (length (concat (times n mark))) b))
-    (sym (begins-from_OccursAt b _ o)) (LeadsTo-times n mark _ is))
+    subst (LeadsTo IsMark b) rest (subst (λ u. LeadsTo IsMark u (drop (length (repeat n mark)) b))
+    (sym (begins-from_OccursAt b _ o)) (LeadsTo-repeat n mark _ is))
 
 IsSpace-prefix_free : IsPrefixFree IsSpace
 IsSpace-prefix_free v w x y (a, f, p) (b, g, q) e = cc

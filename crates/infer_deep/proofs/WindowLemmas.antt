@@ -6,14 +6,14 @@ use Rattle.std.specs.Option.{is_some}
 use Rattle.infer_deep.specs.Places.{IsFirstWithin}
 use Rattle.infer_deep.specs.Signatures.{Lasts, IsNear}
 use Rattle.infer_deep.proofs.PlaceLemmas.{OccursAt-append, OccursAt-front}
-use Rattle.infer_deep.specs.Windows.{StandsBy, IsPdf, IsMatroska}
+use Rattle.infer_deep.specs.Windows.{StandsBy, IsMatroska}
 
 pub StandsBy-lasts : (text : List ℕ) (end : ℕ) → Lasts (StandsBy text end)
 StandsBy-lasts text end b more (p, w) =
     (p, record { stands = OccursAt-append b more text p w.stands; low = w.low; high = w.high })
 
 -- it stands in a front that reaches the end of the window
-StandsBy-front : (text : List ℕ) (end : ℕ) (b more : List ℕ)
+pub StandsBy-front : (text : List ℕ) (end : ℕ) (b more : List ℕ)
     → end ≤ length b → StandsBy text end (b ++ more) → StandsBy text end b
 StandsBy-front text end b more l (p, w) =
     let h = w.high in
@@ -24,21 +24,13 @@ IsMatroska-lasts doc_type b more h =
     (let l = h.0 in omega (arith, length-append b more), OccursAt-append b more _ 0 h.1, StandsBy-lasts doc_type 256 b more h.2)
 
 -- what lasts is near, where the first 1024 bytes of a yes say yes
-near_from_growth : (S : List ℕ → Type 0) → Lasts S
+pub near_from_growth : (S : List ℕ → Type 0) → Lasts S
     → ((b more : List ℕ) → length b ≡ 1024 → S (b ++ more) → S b) → IsNear S
 near_from_growth S lasts front b l =
     let split : take 1024 b ++ drop 1024 b ≡ b = take-append-drop 1024 b in (
       λ h. front (take 1024 b) (drop 1024 b) (length-take-le 1024 b l) (subst S (sym split) h),
       λ h. subst S split (lasts (take 1024 b) (drop 1024 b) h),
     )
-
-pub IsPdf-near : IsNear IsPdf
-IsPdf-near =
-    near_from_growth IsPdf (StandsBy-lasts _ 1024) (λ b more l h. StandsBy-front _ 1024 b more (omega arith) h)
-
-pub IsMatroska-near : (doc_type : List ℕ) → IsNear (IsMatroska doc_type)
-IsMatroska-near doc_type = near_from_growth (IsMatroska doc_type) (IsMatroska-lasts doc_type)
-    (λ b more l h. (omega arith, OccursAt-front b more _ 0 (omega arith) h.1, StandsBy-front doc_type 256 b more (omega arith) h.2))
 
 -- whether there is a least place says whether there is one
 pub found_stands : (b text : List ℕ) (end : ℕ) (r : Option ℕ)

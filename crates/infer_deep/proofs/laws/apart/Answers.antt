@@ -2,7 +2,6 @@ use Rattle.std.proofs.Common.{◌+◌, ◌<◌, ◌≡◌, ℕ, List, get_or, le
 use Rattle.infer_deep.specs.ClassId.{HasClassId, IsRoot, compound_header, word_id, old_excel_id, excel_id, powerpoint_id}
 use Rattle.infer_deep.specs.Office.{IsDecidingPlace, zip_header}
 use Rattle.infer_deep.specs.Signatures.{AreApart}
-use Rattle.infer_deep.proofs.BrandLemmas.{open-apart_boxed}
 use Rattle.infer_deep.proofs.ClassIdLemmas.{IsRoot-one}
 use Rattle.infer_deep.proofs.FrameLemmas.{IsFramed-apart}
 use Rattle.infer_deep.proofs.OfficeLemmas.{IsDecidingPlace-one}
@@ -29,6 +28,6 @@ returns c = record {
   ];
   compound_zip = λ b compound zip.
       let same = OccursAt-agree b compound_header zip_header 0 0 compound zip (omega arith) (omega arith) in absurd (omega arith);
-  open_boxed = open-apart_boxed;
+  open_boxed = λ b o box. let l = o.longer in let w = box.whole in omega arith;
   html_xml = IsHtml-apart_IsXml;
 }

@@ -1,16 +1,17 @@
-use Rattle.std.proofs.Common.{inr}
-use Rattle.infer_deep.proofs.BrandLemmas.{IsAvif-comes, IsHeif-comes, IsOpenBox-early}
-use Rattle.infer_deep.proofs.ClassIdLemmas.{BeginsCompound-early}
+use Rattle.std.proofs.Common.{inr, arith}
+use Rattle.infer_deep.proofs.BrandLemmas.{boxed-comes, IsAvif-carried, IsHeif-carried, IsOpenBox-early}
 use Rattle.infer_deep.proofs.FrameLemmas.{BeginsFrame-early, IsFramed-comes}
 use Rattle.infer_deep.proofs.OfficeLemmas.{BeginsOffice-early, IsOffice-comes}
+use Rattle.infer_deep.proofs.PlaceLemmas.{OccursAt-front}
 use Rattle.infer_deep.proofs.TextLemmas.{BeginsMarked-early, BeginsWhite-early, IsHtml-comes, IsXml-comes}
+use Rattle.infer_deep.specs.Brands.{IsHeif, IsAvif}
 use Rattle.infer_deep.proofs.laws.arrival.Goals as goal
 
 pub returns-clause-comes : goal.returns-clause-comes
 returns-clause-comes c = record {
-  heif = IsHeif-comes;
-  avif = IsAvif-comes;
-  class_id = λ id b more long (root, r, o). inr (BeginsCompound-early b more long r.header);
+  heif = boxed-comes IsHeif (λ b h. h.0) IsHeif-carried;
+  avif = boxed-comes IsAvif (λ b h. h.0) IsAvif-carried;
+  class_id = λ id b more long (root, r, o). inr (OccursAt-front b more _ 0 (omega arith) r.header);
   office = IsOffice-comes;
   framed = IsFramed-comes;
   html = IsHtml-comes;
@@ -20,7 +21,7 @@ returns-clause-comes c = record {
 pub returns-clause-early : goal.returns-clause-early
 returns-clause-early c = record {
   open_box = IsOpenBox-early;
-  compound = BeginsCompound-early;
+  compound = λ b more long o. OccursAt-front b more _ 0 (omega arith) o;
   office = BeginsOffice-early;
   frame = BeginsFrame-early;
   white = BeginsWhite-early;

@@ -1,9 +1,11 @@
-use Rattle.infer_deep.proofs.BrandLemmas.{IsHeif-lasts, IsAvif-lasts}
-use Rattle.infer_deep.proofs.ClassIdLemmas.{HasClassId-lasts, IsXls-lasts}
+use Rattle.std.proofs.Common.{arith}
+use Rattle.infer_deep.proofs.BrandLemmas.{boxed-lasts, IsHeif-carried, IsAvif-carried}
+use Rattle.infer_deep.proofs.ClassIdLemmas.{HasClassId-lasts}
 use Rattle.infer_deep.proofs.FrameLemmas.{IsFramed-lasts}
 use Rattle.infer_deep.proofs.OfficeLemmas.{IsOffice-lasts}
 use Rattle.infer_deep.proofs.TextLemmas.{IsHtml-lasts, IsXml-lasts}
 use Rattle.infer_deep.proofs.WindowLemmas.{StandsBy-lasts, IsMatroska-lasts}
+use Rattle.infer_deep.specs.Brands.{IsHeif, IsAvif}
 use Rattle.infer_deep.specs.ClassId.{word_id, powerpoint_id}
 use Rattle.infer_deep.proofs.laws.growth.Goals as goal
 
@@ -12,11 +14,11 @@ returns c = record {
   pdf = StandsBy-lasts _ 1024;
   matroska = IsMatroska-lasts;
   framed = IsFramed-lasts;
-  heif = IsHeif-lasts;
-  avif = IsAvif-lasts;
+  heif = boxed-lasts IsHeif (λ b h. h.0) IsHeif-carried;
+  avif = boxed-lasts IsAvif (λ b h. h.0) IsAvif-carried;
   office = IsOffice-lasts;
   doc = HasClassId-lasts word_id;
-  xls = IsXls-lasts;
+  xls = λ b more h. grind (arith, HasClassId-lasts);
   ppt = HasClassId-lasts powerpoint_id;
   html = IsHtml-lasts;
   xml = IsXml-lasts;
