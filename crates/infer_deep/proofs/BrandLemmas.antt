@@ -1,6 +1,6 @@
 -- Brands of a boxed file: they last, and only to an open box do more bytes bring them.
-use Rattle.std.proofs.Common.{◌≡◌, ℕ, ◌+◌, ◌-◌, ◌*◌, ◌/◌, ◌<◌, ◌≤◌, List, ◌++◌, Option, Some, None, true, refl, length, sym, subst, inl, inr, arith, codes, length-append}
-use Rattle.std.proofs.lemmas.Bool.{cases_lt}
+use Rattle.std.proofs.Common.{◌≡◌, false, ℕ, ◌+◌, ◌-◌, ◌*◌, ◌/◌, ◌<◌, ◌≤◌, List, ◌++◌, Option, Some, None, length, sym, subst, inl, inr, arith, codes, length-append}
+use Rattle.std.proofs.lemmas.Bool.{cases_lt, false≢true}
 use Rattle.std.specs.Option.{is_some}
 use Rattle.infer_deep.specs.Places.{IsFirstWithin}
 use Rattle.infer_deep.specs.Signatures.{Lasts, ComesWith, IsEarly}
@@ -8,12 +8,12 @@ use Rattle.infer_deep.proofs.PlaceLemmas.{Carries, OccursAt-append, OccursAt-fro
 use Rattle.infer_deep.proofs.NumberLemmas.{be32-append}
 use Rattle.infer_deep.specs.Brands.{box_length, IsBoxed, IsOpenBox, HasMajor, HasCompatible, IsHeif, IsAvif}
 
--- a compatible brand is found in the box
-pub compatible_found : (b brand : List ℕ) (end : ℕ) (r : Option ℕ) → length brand ≡ 4 → end ≡ box_length b
-    → IsFirstWithin b brand 16 end r → HasCompatible brand b → is_some r ≡ true
-compatible_found b brand end None n e none (k, l, o) =
-    absurd (none (16 + 4 * k) (record { stands = o; low = omega arith; high = omega arith }))
-compatible_found b brand end (Some p) n e first h = refl
+-- a brand that is not found in the box is not compatible
+pub not_compatible : (b brand : List ℕ) (end : ℕ) (r : Option ℕ) → length brand ≡ 4 → end ≡ box_length b
+    → IsFirstWithin b brand 16 end r → is_some r ≡ false → ¬ HasCompatible brand b
+not_compatible b brand end None n e none is (k, l, o) =
+    none (16 + 4 * k) (record { stands = o; low = omega arith; high = omega arith })
+not_compatible b brand end (Some p) n e first is h = false≢true (sym is)
 
 pub IsOpenBox-early : IsEarly IsOpenBox
 IsOpenBox-early b more long o =

@@ -72,7 +72,7 @@ Stands magic b = OccursAt b magic 0
 
 Stands-framed : (magic b : List ℕ) → Behind IsFrame (Stands magic) b ↔ IsFramed magic b
 Stands-framed magic b = (
-  λ (left, s, o). (drop (length magic) left, subst (SkipsTo IsFrame b) (begins-from_OccursAt left magic o) s),
+  λ (left, s, o). (_, subst (SkipsTo IsFrame b) (begins-from_OccursAt left magic o) s),
   λ (rest, s). (magic ++ rest, s, OccursAt-begins (magic ++ rest) magic rest refl),
 )
 

@@ -12,7 +12,7 @@ use Rattle.infer_deep.specs.Office.{zip_header, HasFolder, HasOfficeName, Begins
 IsThirdHeader-one : (b : List ℕ) → IsUnique (IsThirdHeader b)
 IsThirdHeader-one b p q t u =
     let same = IsFirstPlace-same b zip_header _ _ t.second u.second t.second_found u.second_found in
-    IsFirstPlace-same b zip_header _ _ p q (subst (λ (s : ℕ). IsHeaderFrom b (s + 30) p) same t.third_found) u.third_found
+    grind (arith, IsFirstPlace-same b zip_header (u.second + 30) (u.second + 30 + 6000) p q, t.third_found, u.third_found)
 
 -- what the searches for the second and the third header tell of the third
 module _ (b : List ℕ) (start : ℕ) (is : start ≡ le32 b 18 + 49) where
@@ -40,10 +40,9 @@ no_third b r e none = subst (FindsPlace (IsDecidingHeader b)) (sym e) (λ p d. n
 pub fourth_from_search : (b : List ℕ) (third : ℕ) → IsThirdHeader b third → (¬ HasFolder b (third + 30)) → (r : Option ℕ)
     → IsFirstWithin b zip_header (third + 56) (third + 56 + 6000) r → FindsPlace (IsDecidingHeader b) r
 fourth_from_search b third t free None none = λ p d.
-    elim (subst (λ x. DecidesBehind b x p) (IsThirdHeader-one b d.third third d.third_found t) d.decides) [
-      | inl h ↦ free h.0
-      | inr h ↦ none p h.1.here
-    ]
+    let decides = subst (λ x. DecidesBehind b x p) (IsThirdHeader-one b d.third third d.third_found t) d.decides in
+    let absent = none p in
+    grind arith
 fourth_from_search b third t free (Some p) there = record { third = third; third_found = t; decides = inr (free, there) }
 
 IsDecidingHeader-one : (b : List ℕ) → IsUnique (IsDecidingHeader b)
@@ -83,11 +82,8 @@ folder_follows b folder None n some none is = (
 folder_follows b folder (Some p) n some d is =
     let part = OccursAt-part b folder n (length b) 0 (omega arith) (omega arith) in
     let there = IsOffice-at b folder p d in (
-      λ o. let ends = (part.0 o).1 in there.0 (subst (OccursAt b folder) (let r : n + 0 ≡ p = omega arith in r) (part.0 o).0),
-      λ office.
-          let o = there.1 office in
-          let fits = o.fits in
-          part.1 (subst (OccursAt b folder) (let r : p ≡ n + 0 = omega arith in r) o, omega arith),
+      λ o. let here = part.0 o in grind (arith, there),
+      λ office. let o = there.1 office in grind (arith, part),
     )
 
 -- what stands in one buffer and another

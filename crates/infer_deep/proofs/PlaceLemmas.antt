@@ -1,6 +1,6 @@
 -- A text stands at a place of a buffer: in one that grows it, in a part of it, beside other texts.
 use Rattle.std.proofs.Common.{◌≡◌, ℕ, ◌+◌, ◌-◌, ◌<◌, ◌≤◌, List, ◌++◌, length, get_or, take, drop, sym, ap, subst, ◌∙◌, ◌↔◌, arith, add-zero, zero-add, length-append, length-drop, length-take}
-use Rattle.std.proofs.lemmas.List.{get_or_append_left, get_or-take, get_or-drop}
+use Rattle.std.proofs.lemmas.List.{get_or_append_left, get_or-take, get_or-drop, take_rest}
 use Rattle.std.proofs.lemmas.List.Prefix.{front_fits, at_reads, at_from_reads}
 use Rattle.memchr.specs.Find.{OccursAt}
 use Rattle.infer_deep.specs.Places.{IsFirstPlace}
@@ -34,8 +34,8 @@ pub OccursAt-agree : (b v w : List ℕ) (p i : ℕ)
 OccursAt-agree b v w p i o k in_v in_w = sym (o.reads i in_v) ∙ k.reads i in_w
 
 -- what stands at 0 is a front
-pub begins-from_OccursAt : (b text : List ℕ) → OccursAt b text 0 → b ≡ text ++ drop (length text) b
-begins-from_OccursAt b text o = simp zero-add at (at_from_reads 0 b text 0 o.fits o.reads)
+pub begins-from_OccursAt : (b text : List ℕ) → OccursAt b text 0 → b ≡ text ++ take (length b - length text) (drop (length text) b)
+begins-from_OccursAt b text o = simp zero-add at (at_from_reads 0 b text 0 o.fits o.reads) ∙ ap (λ u. text ++ u) (sym (take_rest b (length text)))
 
 pub OccursAt-begins : (b text rest : List ℕ) → b ≡ text ++ rest → OccursAt b text 0
 OccursAt-begins b text rest e = record { fits = let f = front_fits b text rest e in omega arith; reads = at_reads 0 b text 0 rest e }
@@ -51,12 +51,11 @@ part_length b s e l h = simp (length-take, length-drop) (omega arith)
 pub OccursAt-part : (b text : List ℕ) (s e k : ℕ) → s ≤ e → e ≤ length b
     → OccursAt (take (e - s) (drop s b)) text k ↔ (OccursAt b text (s + k) × (s + k + length text ≤ e))
 OccursAt-part b text s e k l h =
-    let n = part_length b s e l h in
-    let place = λ (j : ℕ). ap (λ i. get_or b i 0) (let r : s + (k + j) ≡ s + k + j = omega arith in r) in (
+    let n = part_length b s e l h in (
       λ o.
           let f = o.fits in
-          (record { fits = omega arith; reads = λ j lt. sym (place j) ∙ sym (part_reads b s e (k + j) (omega arith)) ∙ o.reads j lt }, omega arith),
-      λ (o, ends). record { fits = omega arith; reads = λ j lt. part_reads b s e (k + j) (omega arith) ∙ place j ∙ o.reads j lt },
+          (record { fits = omega arith; reads = λ j lt. let read = part_reads b s e (k + j) (omega arith) in let is = o.reads j lt in grind arith }, omega arith),
+      λ (o, ends). record { fits = omega arith; reads = λ j lt. let read = part_reads b s e (k + j) (omega arith) in let is = o.reads j lt in grind arith },
     )
 
 -- one place at most has the property

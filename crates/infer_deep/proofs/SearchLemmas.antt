@@ -1,10 +1,9 @@
 -- What a comparison, a search of a part and a look at blocks tell of a buffer.
-use Rattle.std.proofs.Common.{◌≡◌, ℕ, ◌+◌, ◌-◌, ◌<◌, ◌≤◌, Bool, true, List, Option, length, get_or, Some, None, inl, inr, take, drop, min, ap, subst, sym, ◌∙◌, arith, length-drop}
+use Rattle.std.proofs.Common.{◌≡◌, ℕ, ◌+◌, ◌-◌, ◌<◌, ◌≤◌, Bool, true, List, Option, length, get_or, Some, None, take, drop, min, ap, subst, sym, ◌∙◌, arith, length-drop}
 use Rattle.std.proofs.lemmas.List.{take_rest}
 use Rattle.std.proofs.lemmas.List.Prefix.{at_reads, at_from_reads, front_fits}
 use Rattle.std.proofs.lemmas.Slice.Eq.{starts_is}
 use Rattle.std.proofs.lemmas.Bool.Decides.{Decides-eqb}
-use Rattle.std.proofs.lemmas.Bool.{cases_lt}
 use Rattle.std.specs.List.{starts_with}
 use Rattle.std.specs.Prelude.{nat_eq}
 use Rattle.memchr.specs.Find.{OccursAt, NoneBefore, Nowhere}
@@ -55,10 +54,9 @@ pair_in_part b x y s e p low high (first, second) =
 pub lacks_more : (b : List ℕ) (x y n at m : ℕ) → at ≤ n → m ≤ at + 128
     → LacksPair x y b n → LacksPair x y (take (at + 129 - at) (drop at b)) 128 → LacksPair x y b m
 lacks_more b x y n at m le reach before lacks p lt pair =
-    elim (cases_lt p n) [
-      | inl l ↦ before p l pair
-      | inr l ↦ lacks (p - at) (omega arith) (pair_in_part b x y at (at + 129) p (omega arith) (omega arith) pair)
-    ]
+    let early = before p in
+    let late = lacks (p - at) in
+    grind (arith, pair_in_part b x y at (at + 129) p)
 
 -- a search may begin after n places that lack the two bytes of the text from `rare` on
 module _ (b text : List ℕ) (rare start end m n : ℕ) (two : rare + 2 ≤ length text) (is : m ≡ min end (length b))
@@ -88,7 +86,7 @@ module _ (b text : List ℕ) (rare start end m n : ℕ) (two : rare + 2 ≤ leng
       → IsFirstWithin b text (start + n + 1) end r → IsFirstWithin b text start end r
   first_past r absent h =
       first_later r (IsFirstWithin-skip b text (start + n) (start + n + 1) end (omega arith) (λ q lt w.
-      let low = w.low in let same : q ≡ start + n = omega arith in absent (subst (OccursAt b text) same w.stands)) r h)
+      let low = w.low in grind (arith, w.stands)) r h)
 
 -- what a search for a pair of bytes of the text in the part from `from` on says, where the text stands nowhere before
 module _ (b text : List ℕ) (start from end m : ℕ) (is : m ≡ min end (length b)) (l : from ≤ m) (low : start ≤ from)
@@ -101,26 +99,22 @@ module _ (b text : List ℕ) (start from end m : ℕ) (is : m ≡ min end (lengt
       (OccursAt-part b text from m (q - from) l (omega arith)).1 (subst (OccursAt b text) same w.stands, omega arith)
 
   none_to : (k : ℕ) → Nowhere (HasPair f (take (m - from) (drop from b))) 0 k → (q : ℕ) → q < from + k → ¬ IsWithin b text start end q
-  none_to k lacks q lt w = elim (cases_lt q from) [
-    | inl before ↦ none q before w
-    | inr begun ↦
-        let o = in_part q begun w in
-        lacks (q - from) (omega arith) (omega arith)
-        (record { first = o.reads f.pair.index1 of.pair.first ∙ sym of.byte1; second = o.reads f.pair.index2 of.pair.second ∙ sym of.byte2 })
-  ]
+  none_to k lacks q lt w =
+      let early = none q in
+      let pair = λ (begun : from ≤ q).
+      let o = in_part q begun w in
+      lacks (q - from) (omega arith) (omega arith)
+      (record { first = o.reads f.pair.index1 of.pair.first ∙ sym of.byte1; second = o.reads f.pair.index2 of.pair.second ∙ sym of.byte2 }) in
+      grind arith
 
   -- where there is no pair the text does not stand
   pub none_without_pair : (r : Option ℕ) → r ≡ None
       → Nowhere (HasPair f (take (m - from) (drop from b))) 0 (length (take (m - from) (drop from b)) - reach_of f) → IsFirstWithin b text start end r
-  none_without_pair r e lacks = subst (IsFirstWithin b text start end) (sym e) (λ q w. elim (cases_lt q from) [
-    | inl before ↦ none q before w
-    | inr begun ↦
-        let o = in_part q begun w in
-        let fits = o.fits in
-        let first = of.pair.first in
-        let second = of.pair.second in
-        none_to _ lacks q (omega arith) w
-  ])
+  none_without_pair r e lacks = subst (IsFirstWithin b text start end) (sym e) (λ q w.
+      let part = in_part q in
+      let first = of.pair.first in
+      let second = of.pair.second in
+      grind (arith, none q, none_to _ lacks q))
 
   -- a text that stands where the first pair does is the first
   pub first_at_pair : (k n : ℕ) → NoneBefore (HasPair f (take (m - from) (drop from b))) 0 n k

@@ -17,8 +17,7 @@ use Rattle.infer_deep.proofs.PlaceLemmas.{begins-from_OccursAt, OccursAt-begins,
 
 -- a mark that stands at the front
 mark_begins : (b word : List ℕ) → IsMark word → OccursAt b word 0 → BeginsWith IsMark b (take (length b - length word) (drop (length word) b))
-mark_begins b word is o =
-    record { word = word; kind = is; whole = begins-from_OccursAt b word o ∙ ap (λ u. word ++ u) (sym (take_rest b (length word))) }
+mark_begins b word is o = record { word = word; kind = is; whole = begins-from_OccursAt b word o }
 
 pub long_mark : (b : List ℕ) → OccursAt b (0xEF ∷ 0xBB ∷ 0xBF ∷ []) 0 → BeginsWith IsMark b (take (length b - 3) (drop 3 b))
 long_mark b o = mark_begins b _ (inl refl) o
@@ -56,12 +55,10 @@ LeadsTo-repeat (suc n) mark rest is more s =
     SkipsTo-cons IsMark _ (repeat n mark ++ rest) more
     (record { word = mark; kind = is; whole = append_assoc mark (repeat n mark) rest }) (LeadsTo-repeat n mark rest is more s)
 
-pub leads_past_marks : (b mark : List ℕ) (n m : ℕ)
-    → m ≡ length (repeat n mark) → IsMark mark → OccursAt b (repeat n mark) 0 → LeadsTo IsMark b (take (length b - m) (drop m b))
-leads_past_marks b mark n m e is o =
-    let rest = ap (λ k. drop k b) (sym e) ∙ sym (take_rest b m) in
-    subst (LeadsTo IsMark b) rest (subst (λ u. LeadsTo IsMark u (drop (length (repeat n mark)) b))
-    (sym (begins-from_OccursAt b _ o)) (LeadsTo-repeat n mark _ is))
+pub leads_past_marks : (b mark : List ℕ) (n : ℕ) → IsMark mark
+    → OccursAt b (repeat n mark) 0 → LeadsTo IsMark b (take (length b - length (repeat n mark)) (drop (length (repeat n mark)) b))
+leads_past_marks b mark n is o more s =
+    subst (λ u. SkipsTo IsMark u more) (sym (begins-from_OccursAt b _ o)) (LeadsTo-repeat n mark _ is more s)
 
 IsSpace-prefix_free : IsPrefixFree IsSpace
 IsSpace-prefix_free v w x y (a, f, p) (b, g, q) e = cc

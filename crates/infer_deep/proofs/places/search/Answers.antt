@@ -1,5 +1,4 @@
 use Rattle.std.proofs.Common.{arith}
-use Rattle.std.proofs.lemmas.Bool.{false≢true}
 use Rattle.infer_deep.proofs.SearchLemmas.{none_fits, first_here, first_past}
 use Rattle.infer_deep.proofs.places.search.Goals as goal
 
@@ -14,4 +13,4 @@ returns-then-same_at g c =
 pub returns : goal.returns
 returns g c =
     first_past _ _ _ _ _ _ _ (omega arith) c.min-stop.ensures c.byte_free-free.ensures.lacks _
-    (λ o. false≢true (c.if-same_at.ensures.1 o)) c.search_pairs.ensures
+    (λ o. let is = c.if-same_at.ensures.1 o in absurd (cc)) c.search_pairs.ensures
