@@ -18,7 +18,6 @@ not_compatible b brand end (Some p) n e first is h = false≢true (sym is)
 pub IsOpenBox-early : IsEarly IsOpenBox
 IsOpenBox-early b more long o =
     let same = be32-append b more 0 (omega arith) in
-    let l = o.longer in
     record { kind = OccursAt-front b more _ 4 (omega arith) o.kind; longer = omega (arith, length-append b more) }
 
 -- the brands of a boxed file are those of each that has the same box
@@ -45,8 +44,6 @@ module _ (S : List ℕ → Type 0) (boxed : (b : List ℕ) → S b → IsBoxed b
   pub boxed-lasts : Lasts S
   boxed-lasts b more x =
       let box = boxed b x in
-      let l = box.long in
-      let w = box.whole in
       let size = be32-append b more 0 (omega arith) in
       carried b (b ++ more) (length b) (λ text p within o. OccursAt-append b more text p o) (sym size) (omega arith) (omega arith)
       (record {

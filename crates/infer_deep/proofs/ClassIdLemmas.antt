@@ -7,20 +7,19 @@ use Rattle.infer_deep.proofs.PlaceLemmas.{IsUnique, OccursAt-append}
 use Rattle.infer_deep.specs.ClassId.{IsRoot, HasClassId}
 
 pub IsRoot-one : (b : List ℕ) → IsUnique (IsRoot b)
-IsRoot-one b p q r s = let here = r.begins in let there = s.begins in grind arith
+IsRoot-one b p q r s = grind arith
 
 module _ (b more : List ℕ) where
   IsRoot-append : (root : ℕ) → IsRoot b root → IsRoot (b ++ more) root
   IsRoot-append root r =
-      let far : 512 ≤ root = let begins = r.begins in grind arith in
-      let w = r.whole in
+      let far : 512 ≤ root = grind arith in
       let version = le16-append b more 26 (omega arith) in
       let shift = le16-append b more 30 (omega arith) in
       let sector = le32-append b more 48 (omega arith) in
       record {
         header = OccursAt-append b more _ 0 r.header;
         byte_order = OccursAt-append b more _ 28 r.byte_order;
-        begins = let begins = r.begins in grind arith;
+        begins = grind arith;
         whole = omega (arith, length-append b more);
         kind = get_or_append_left b more 0 (root + 66) (omega arith) ∙ r.kind;
       }

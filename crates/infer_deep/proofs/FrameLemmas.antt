@@ -19,20 +19,15 @@ BeginsFrame-early b more long f = front_begins b more (omega arith) f
 
 -- what a buffer says of the frame that begins it
 module _ (b word rest : List ℕ) (f : IsFrame word) (e : b ≡ word ++ rest) where
-  size : le32 b 4 ≡ le32 word 4
-  size = let s = f.sized in ap (λ u. le32 u 4) e ∙ le32-append word rest 4 (omega arith)
+  begun-length : length word ≡ 8 + le32 b 4
+  begun-length = let same = le32-append word rest 4 (omega arith) in omega (arith, ap (λ u. le32 u 4) e)
 
   pub begun_fits : 8 + le32 b 4 ≤ length b
-  begun_fits = let s = f.sized in let g = size in omega (arith, ap length e, length-append word rest)
-
-  begun-length : length word ≡ 8 + le32 b 4
-  begun-length = let s = f.sized in let g = size in omega arith
+  begun_fits = let n = begun-length in omega (arith, ap length e, length-append word rest)
 
 -- and what a frame begins begins as one
 IsFrame-begins : (b rest : List ℕ) → BeginsWith IsFrame b rest → BeginsFrame b
 IsFrame-begins b rest w =
-    let begins = w.kind.begins in
-    let sized = w.kind.sized in
     subst BeginsFrame (sym w.whole) (grind (arith, OccursAt-append w.word rest (0x2A ∷ 0x4D ∷ 0x18 ∷ []) 1, get_or_append_left w.word rest 0 0))
 
 IsFrame-prefix_free : IsPrefixFree IsFrame
@@ -64,7 +59,7 @@ abbrev IsFrameByte : ℕ → Type 0
 IsFrameByte x = (0x50 ≤ x) × (x ≤ 0x5F)
 
 IsFrame-begin : WordsBegin IsFrame IsFrameByte
-IsFrame-begin frame f = let s = f.sized in (omega arith, (f.begins.low, f.begins.high))
+IsFrame-begin frame f = (omega arith, (f.begins.low, f.begins.high))
 
 -- what is framed is a text after frames
 abbrev Stands : List ℕ → List ℕ → Type 0
@@ -95,7 +90,7 @@ IsFramed-lead x magic b h =
 module _ (magic : List ℕ) (some : 0 < length magic) (low : get_or magic 0 0 < 0x50) where
   stands_stops : Stops (Stands magic) IsFrame
   stands_stops b o =
-      NoneBegins-first IsFrame IsFrameByte IsFrame-begin b (λ f. let over = f.0 in let first = OccursAt-first b magic 0 some o in omega arith)
+      NoneBegins-first IsFrame IsFrameByte IsFrame-begin b (λ f. let first = OccursAt-first b magic 0 some o in omega arith)
 
   pub IsFramed-left : (b left : List ℕ) → SkipsTo IsFrame b left → NoneBegins IsFrame left → Stands magic left ↔ IsFramed magic b
   IsFramed-left = Behind-left IsFrame (Stands magic) (IsFramed magic) (Stands-framed magic) IsFrame-prefix_free stands_stops

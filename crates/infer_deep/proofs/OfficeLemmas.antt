@@ -41,15 +41,13 @@ pub fourth_from_search : (b : List ℕ) (third : ℕ) → IsThirdHeader b third 
     → IsFirstWithin b zip_header (third + 56) (third + 56 + 6000) r → FindsPlace (IsDecidingHeader b) r
 fourth_from_search b third t free None none = λ p d.
     let decides = subst (λ x. DecidesBehind b x p) (IsThirdHeader-one b d.third third d.third_found t) d.decides in
-    let absent = none p in
-    grind arith
+    grind (arith, none p)
 fourth_from_search b third t free (Some p) there = record { third = third; third_found = t; decides = inr (free, there) }
 
 IsDecidingHeader-one : (b : List ℕ) → IsUnique (IsDecidingHeader b)
 IsDecidingHeader-one b p q d e =
     let same = IsThirdHeader-one b d.third e.third d.third_found e.third_found in
     let here = subst (λ x. DecidesBehind b x p) same d.decides in
-    let there = e.decides in
     grind (arith, IsFirstPlace-same b zip_header (e.third + 56) (e.third + 56 + 6000) p q)
 
 pub IsDecidingPlace-one : (b : List ℕ) → IsUnique (IsDecidingPlace b)
@@ -112,12 +110,10 @@ module _ (b more : List ℕ) where
 
   IsThirdHeader-append : (third : ℕ) → IsThirdHeader b third → IsThirdHeader (b ++ more) third
   IsThirdHeader-append third t =
-      let low = t.second_found.here.low in
-      let fits = t.second_found.here.stands.fits in
       let same = le32-append b more 18 (omega arith) in
       record {
         second = t.second;
-        start_fits = let f = t.start_fits in omega arith;
+        start_fits = omega arith;
         second_found = subst (λ (n : ℕ). IsHeaderFrom (b ++ more) (n + 49) t.second) (sym same) (IsFirstPlace-append b more zip_header _ _ t.second t.second_found);
         third_found = IsFirstPlace-append b more zip_header _ _ third t.third_found;
       }
@@ -126,8 +122,6 @@ module _ (b more : List ℕ) where
   DecidesBehind-append : (third header : ℕ) → DecidesBehind b third header → DecidesBehind (b ++ more) third header
   DecidesBehind-append third header (inl h) = inl (HasFolder-append (third + 30) h.0, h.1)
   DecidesBehind-append third header (inr h) =
-      let low = h.1.here.low in
-      let fits = h.1.here.stands.fits in
       inr (no_folder-append (third + 30) (omega arith) h.0, IsFirstPlace-append b more zip_header _ _ header h.1)
 
   IsDecidingPlace-append : (p : ℕ) → IsDecidingPlace b p → IsDecidingPlace (b ++ more) p

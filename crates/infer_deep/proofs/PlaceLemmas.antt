@@ -8,8 +8,8 @@ use Rattle.infer_deep.specs.Places.{IsFirstPlace}
 -- it stands in each buffer that grows the buffer
 pub OccursAt-append : (b more text : List ℕ) (p : ℕ) → OccursAt b text p → OccursAt (b ++ more) text p
 OccursAt-append b more text p o = record {
-  fits = let f = o.fits in simp length-append (omega arith);
-  reads = λ j l. let f = o.fits in get_or_append_left b more 0 (p + j) (omega arith) ∙ o.reads j l;
+  fits = simp length-append (omega arith);
+  reads = λ j l. get_or_append_left b more 0 (p + j) (omega arith) ∙ o.reads j l;
 }
 
 -- and where it ends in the buffer, it stands there
@@ -44,16 +44,12 @@ OccursAt-begins b text rest e = record { fits = let f = front_fits b text rest e
 pub part_reads : (b : List ℕ) (s e i : ℕ) → s + i < e → get_or (take (e - s) (drop s b)) i 0 ≡ get_or b (s + i) 0
 part_reads b s e i l = get_or-take (e - s) (drop s b) i 0 (omega arith) ∙ get_or-drop s b i 0
 
-part_length : (b : List ℕ) (s e : ℕ) → s ≤ e → e ≤ length b → length (take (e - s) (drop s b)) ≡ e - s
-part_length b s e l h = simp (length-take, length-drop) (omega arith)
-
 -- a text stands in a part of a buffer just where it stands in the buffer and ends in the part
 pub OccursAt-part : (b text : List ℕ) (s e k : ℕ) → s ≤ e → e ≤ length b
     → OccursAt (take (e - s) (drop s b)) text k ↔ (OccursAt b text (s + k) × (s + k + length text ≤ e))
 OccursAt-part b text s e k l h =
-    let n = part_length b s e l h in (
+    let n : length (take (e - s) (drop s b)) ≡ e - s = simp (length-take, length-drop) (omega arith) in (
       λ o.
-          let f = o.fits in
           (record { fits = omega arith; reads = λ j lt. let read = part_reads b s e (k + j) (omega arith) in let is = o.reads j lt in grind arith }, omega arith),
       λ (o, ends). record { fits = omega arith; reads = λ j lt. let read = part_reads b s e (k + j) (omega arith) in let is = o.reads j lt in grind arith },
     )
@@ -85,6 +81,5 @@ pub IsFirstPlace-append : (b more text : List ℕ) (start end p : ℕ)
 IsFirstPlace-append b more text start end p f = record {
   here = record { stands = OccursAt-append b more text p f.here.stands; low = f.here.low; high = f.here.high };
   before = λ q lt w.
-      let fits = f.here.stands.fits in
       f.before q lt (record { stands = OccursAt-front b more text q (omega arith) w.stands; low = w.low; high = w.high });
 }

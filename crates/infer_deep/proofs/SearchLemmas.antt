@@ -39,7 +39,7 @@ module _ (b text : List ℕ) (start later end : ℕ) (le : start ≤ later) (non
   IsFirstWithin-skip : (r : Option ℕ) → IsFirstWithin b text later end r → IsFirstWithin b text start end r
   IsFirstWithin-skip None h = λ q w. grind (arith, none q, h q, from_later q)
   IsFirstWithin-skip (Some p) h = record {
-    here = let low = h.here.low in record { stands = h.here.stands; low = omega arith; high = h.here.high };
+    here = record { stands = h.here.stands; low = omega arith; high = h.here.high };
     before = λ q lt w. grind (arith, none q, h.before q, from_later q);
   }
 
@@ -63,9 +63,6 @@ module _ (b text : List ℕ) (rare start end m n : ℕ) (two : rare + 2 ≤ leng
     (lacks : LacksPair (get_or text rare 0) (get_or text (rare + 1) 0) (take (m - (start + rare)) (drop (start + rare) b)) n) where
   none_before : (q : ℕ) → q < start + n → ¬ IsWithin b text start end q
   none_before q lt w =
-      let low = w.low in
-      let high = w.high in
-      let fits = w.stands.fits in
       let next : q + rare + 1 ≡ q + (rare + 1) = omega arith in
       let second = ap (λ i. get_or b i 0) next ∙ w.stands.reads (rare + 1) (omega arith) in
       lacks (q + rare - (start + rare)) (omega arith)
@@ -76,25 +73,22 @@ module _ (b text : List ℕ) (rare start end m n : ℕ) (two : rare + 2 ≤ leng
 
   -- it does not fit there, or stands there, or the search may begin after that place too
   pub none_fits : (m - start - n < length text) → IsFirstWithin b text start end None
-  none_fits short = first_later None (λ p w. let low = w.low in let high = w.high in let fits = w.stands.fits in omega arith)
+  none_fits short = first_later None (λ p w. omega arith)
 
   pub first_here : (start + n + length text ≤ m) → OccursAt b text (start + n) → IsFirstWithin b text start end (Some (start + n))
   first_here fits o = first_later (Some (start + n))
-      (record { here = record { stands = o; low = omega arith; high = omega arith }; before = λ q lt w. let low = w.low in omega arith })
+      (record { here = record { stands = o; low = omega arith; high = omega arith }; before = λ q lt w. omega arith })
 
   pub first_past : (r : Option ℕ) → ¬ OccursAt b text (start + n)
       → IsFirstWithin b text (start + n + 1) end r → IsFirstWithin b text start end r
   first_past r absent h =
-      first_later r (IsFirstWithin-skip b text (start + n) (start + n + 1) end (omega arith) (λ q lt w.
-      let low = w.low in grind (arith, w.stands)) r h)
+      first_later r (IsFirstWithin-skip b text (start + n) (start + n + 1) end (omega arith) (λ q lt w. grind (arith, w.stands)) r h)
 
 -- what a search for a pair of bytes of the text in the part from `from` on says, where the text stands nowhere before
 module _ (b text : List ℕ) (start from end m : ℕ) (is : m ≡ min end (length b)) (l : from ≤ m) (low : start ≤ from)
     (none : (q : ℕ) → q < from → ¬ IsWithin b text start end q) (f : Finder) (of : IsPairFinderOf f text) where
   in_part : (q : ℕ) → from ≤ q → IsWithin b text start end q → OccursAt (take (m - from) (drop from b)) text (q - from)
   in_part q begun w =
-      let fits = w.stands.fits in
-      let high = w.high in
       let same : q ≡ from + (q - from) = omega arith in
       (OccursAt-part b text from m (q - from) l (omega arith)).1 (subst (OccursAt b text) same w.stands, omega arith)
 
@@ -112,15 +106,13 @@ module _ (b text : List ℕ) (start from end m : ℕ) (is : m ≡ min end (lengt
       → Nowhere (HasPair f (take (m - from) (drop from b))) 0 (length (take (m - from) (drop from b)) - reach_of f) → IsFirstWithin b text start end r
   none_without_pair r e lacks = subst (IsFirstWithin b text start end) (sym e) (λ q w.
       let part = in_part q in
-      let first = of.pair.first in
-      let second = of.pair.second in
-      grind (arith, none q, none_to _ lacks q))
+      grind (arith, none q, none_to _ lacks q, of.pair))
 
   -- a text that stands where the first pair does is the first
   pub first_at_pair : (k n : ℕ) → NoneBefore (HasPair f (take (m - from) (drop from b))) 0 n k
       → OccursAt b text (from + k) × (from + k + length text ≤ m) → IsFirstPlace b text start end (from + k)
   first_at_pair k n h o = record {
-    here = record { stands = o.0; low = omega arith; high = let high = o.1 in omega arith };
+    here = record { stands = o.0; low = omega arith; high = omega arith };
     before = none_to k h.before;
   }
 
@@ -129,6 +121,4 @@ module _ (b text : List ℕ) (start from end m : ℕ) (is : m ≡ min end (lengt
       → ¬ (OccursAt b text (from + k) × (from + k + length text ≤ m)) → (q : ℕ) → q < from + k + 1 → ¬ IsWithin b text start end q
   none_past_pair k n h absent q lt w =
       let before = none_to k h.before q in
-      let high = w.high in
-      let fits = w.stands.fits in
       grind (arith, w.stands)

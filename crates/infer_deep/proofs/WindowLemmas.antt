@@ -16,12 +16,11 @@ StandsBy-lasts text end b more (p, w) =
 pub StandsBy-front : (text : List ℕ) (end : ℕ) (b more : List ℕ)
     → end ≤ length b → StandsBy text end (b ++ more) → StandsBy text end b
 StandsBy-front text end b more l (p, w) =
-    let h = w.high in
     (p, record { stands = OccursAt-front b more text p (omega arith) w.stands; low = w.low; high = w.high })
 
 pub IsMatroska-lasts : (doc_type : List ℕ) → Lasts (IsMatroska doc_type)
 IsMatroska-lasts doc_type b more h =
-    (let l = h.0 in omega (arith, length-append b more), OccursAt-append b more _ 0 h.1, StandsBy-lasts doc_type 256 b more h.2)
+    (omega (arith, length-append b more), OccursAt-append b more _ 0 h.1, StandsBy-lasts doc_type 256 b more h.2)
 
 -- what lasts is near, where the first 1024 bytes of a yes say yes
 pub near_from_growth : (S : List ℕ → Type 0) → Lasts S

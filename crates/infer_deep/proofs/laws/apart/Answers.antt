@@ -28,6 +28,6 @@ returns c = record {
   ];
   compound_zip = λ b compound zip.
       let same = OccursAt-agree b compound_header zip_header 0 0 compound zip (omega arith) (omega arith) in absurd (omega arith);
-  open_boxed = λ b o box. let l = o.longer in let w = box.whole in omega arith;
+  open_boxed = λ b o box. omega arith;
   html_xml = IsHtml-apart_IsXml;
 }

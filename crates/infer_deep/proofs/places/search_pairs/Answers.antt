@@ -24,9 +24,4 @@ loop-turn-preserved c =
     )
 
 pub returns : goal.returns
-returns c = λ p w.
-    let high = w.high in
-    let fits = w.stands.fits in
-    let begun = c.loop-turn.invariant.0 in
-    let ended = c.loop-turn-test.false in
-    c.loop-turn.invariant.2 p (let two = c.requires in omega (arith, c.min-stop.ensures)) w
+returns c = λ p w. c.loop-turn.invariant.2 p (omega (arith, c.min-stop.ensures)) w

@@ -5,4 +5,4 @@ pub loop-place-preserved : goal.loop-place-preserved
 loop-place-preserved g c = below_more _ _ c.loop-place.invariant (λ o. let is = c.if-same_at.ensures.1 o in absurd (cc))
 
 pub returns : goal.returns
-returns g c = (λ is. absurd (cc), λ (p, o). let fits = o.fits in absurd (c.loop-place.invariant p (grind arith) o))
+returns g c = (λ is. absurd (cc), λ (p, o). absurd (c.loop-place.invariant p (grind arith) o))
