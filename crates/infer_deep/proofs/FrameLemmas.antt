@@ -1,6 +1,7 @@
 -- Skippable frames: where one stands at the front, and what is data after them.
 use Rattle.std.proofs.Common.{◌≡◌, ◌↔◌, ℕ, ◌+◌, ◌-◌, ◌<◌, ◌≤◌, ◌⊎◌, inl, inr, List, [], ◌∷◌, ◌++◌, length, get_or, take, drop, refl, sym, ap, subst, ◌∙◌, arith, length-append}
 use Rattle.std.proofs.lemmas.List.{take_at, take_rest, take-append-drop, length-take-le, get_or_append_left}
+use Rattle.infer_deep.specs.Laws.{BeginApart}
 use Rattle.infer_deep.specs.Numbers.{le32}
 use Rattle.infer_deep.specs.Signatures.{Lasts, ComesWith, AreApart, IsEarly}
 use Rattle.infer_deep.specs.Joined.{Behind, SkipsTo, NoneBegins, BeginsWith}
@@ -99,8 +100,8 @@ module _ (magic : List ℕ) (some : 0 < length magic) (low : get_or magic 0 0 < 
   IsFramed-trimmed = Behind-trimmed IsFrame (Stands magic) (IsFramed magic) (Stands-framed magic) IsFrame-prefix_free stands_stops
 
 -- two that differ in the first byte exclude each other
-pub IsFramed-apart : (v w : List ℕ) → 0 < length v → 0 < length w → (get_or v 0 0 ≡ get_or w 0 0 → ⊥)
-    → get_or v 0 0 < 0x50 → get_or w 0 0 < 0x50 → AreApart (IsFramed v) (IsFramed w)
-IsFramed-apart v w some_v some_w differ low_v low_w b f =
+pub IsFramed-apart : (v w : List ℕ)
+    → BeginApart v w → get_or v 0 0 < 0x50 → get_or w 0 0 < 0x50 → AreApart (IsFramed v) (IsFramed w)
+IsFramed-apart v w (some_v, some_w, differ) low_v low_w b f =
     Behind-apart IsFrame (Stands w) (IsFramed w) (Stands-framed w) IsFrame-prefix_free (stands_stops w some_w low_w) (Stands v) (stands_stops v some_v low_v)
     (λ u o k. differ (OccursAt-agree u v w 0 0 o k some_v some_w)) b ((Stands-framed v b).1 f)

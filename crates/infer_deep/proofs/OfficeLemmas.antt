@@ -4,7 +4,7 @@ use Rattle.std.specs.Option.{unwrap_or}
 use Rattle.memchr.specs.Find.{OccursAt}
 use Rattle.infer_deep.specs.Numbers.{le32}
 use Rattle.infer_deep.specs.Places.{IsWithin, IsFirstWithin, FindsPlace}
-use Rattle.infer_deep.specs.Signatures.{Lasts, IsEarly, ComesWith}
+use Rattle.infer_deep.specs.Signatures.{IsEarly, ComesWith}
 use Rattle.infer_deep.proofs.NumberLemmas.{le32-append}
 use Rattle.infer_deep.proofs.PlaceLemmas.{Carries, IsUnique, IsFirstPlace-same, IsFirstPlace-append, OccursAt-append, OccursAt-front, OccursAt-part, stands_at_one}
 use Rattle.infer_deep.specs.Office.{zip_header, HasFolder, HasOfficeName, BeginsOffice, IsHeaderFrom, IsThirdHeader, DecidesBehind, IsDecidingHeader, IsDecidingPlace, IsOffice}
@@ -124,7 +124,7 @@ module _ (b more : List ℕ) where
   DecidesBehind-append third header (inr h) =
       inr (no_folder-append (third + 30) (omega arith) h.0, IsFirstPlace-append b more zip_header _ _ header h.1)
 
-  IsDecidingPlace-append : (p : ℕ) → IsDecidingPlace b p → IsDecidingPlace (b ++ more) p
+  pub IsDecidingPlace-append : (p : ℕ) → IsDecidingPlace b p → IsDecidingPlace (b ++ more) p
   IsDecidingPlace-append p (z, inl h) = (OccursAt-append b more zip_header 0 z, inl (HasFolder-append 30 h.0, h.1))
   IsDecidingPlace-append p (z, inr (free, name, (header, d, e))) = (
     OccursAt-append b more zip_header 0 z,
@@ -138,9 +138,6 @@ module _ (b more : List ℕ) where
       ),
     ),
   )
-
-pub IsOffice-lasts : (folder : List ℕ) → Lasts (IsOffice folder)
-IsOffice-lasts folder b more (p, d, o) = (p, IsDecidingPlace-append b more p d, OccursAt-append b more folder p o)
 
 -- what more bytes bring
 pub BeginsOffice-early : IsEarly BeginsOffice

@@ -2,7 +2,6 @@ use Rattle.std.proofs.Common.{◌+◌, ◌<◌, ◌≡◌, ℕ, List, get_or, le
 use Rattle.infer_deep.specs.ClassId.{HasClassId, IsRoot, compound_header, word_id, old_excel_id, excel_id, powerpoint_id}
 use Rattle.infer_deep.specs.Office.{IsDecidingPlace, zip_header}
 use Rattle.infer_deep.specs.Signatures.{AreApart}
-use Rattle.infer_deep.proofs.ClassIdLemmas.{IsRoot-one}
 use Rattle.infer_deep.proofs.FrameLemmas.{IsFramed-apart}
 use Rattle.infer_deep.proofs.OfficeLemmas.{IsDecidingPlace-one}
 use Rattle.infer_deep.proofs.PlaceLemmas.{OccursAt-agree, apart_at_one}
@@ -10,11 +9,11 @@ use Rattle.infer_deep.proofs.TextLemmas.{IsHtml-apart_IsXml}
 use Rattle.infer_deep.proofs.laws.apart.Goals as goal
 
 ids_apart : (v w : List ℕ) (i : ℕ) → i < length v → i < length w → (get_or v i 0 ≡ get_or w i 0 → ⊥) → AreApart (HasClassId v) (HasClassId w)
-ids_apart v w i in_v in_w differ b = apart_at_one (IsRoot b) (IsRoot-one b) b (λ p. p + 80) v w i in_v in_w differ
+ids_apart v w i in_v in_w differ b = apart_at_one (IsRoot b) (λ p q r s. grind arith) b (λ p. p + 80) v w i in_v in_w differ
 
 pub returns : goal.returns
 returns c = record {
-  framed = λ v w (some_v, some_w, differ). IsFramed-apart v w some_v some_w differ;
+  framed = IsFramed-apart;
   office = λ v w (some_v, some_w, differ) b. apart_at_one (IsDecidingPlace b) (IsDecidingPlace-one b) b (λ p. p) v w 0 some_v some_w differ;
   class_id = ids_apart;
   doc_xls = λ b doc xls. elim xls [
