@@ -111,10 +111,6 @@ pub candidates-read : (b : List ℕ) (f : ℕ) (ns rs : List ℕ) → Some f ≡
 candidates-read [] f ns rs e same read = absurd (let x = e in cc)
 candidates-read (x ∷ b) f ns rs e same read = read ∙ same ∙ ap candidates (let y = e in cc)
 
-pub candidates-nothing : (b : List ℕ) → None ≡ slice_get b 0 → candidates_of b ≡ []
-candidates-nothing [] e = refl
-candidates-nothing (x ∷ b) e = absurd (let y = e in cc)
-
 pub below_count : (b : List ℕ) (rs : List ℕ) → rs ≡ candidates_of b → (k d : ℕ) → k < length rs → get_or rs k d < ROW_COUNT
 below_count [] rs e k d l = absurd (let n = ap length e in omega arith)
 below_count (f ∷ b) rs e k d l = subst (λ ns. get_or ns k d < ROW_COUNT) (sym e) (below f k d (let n = ap length e in omega arith))

@@ -22,16 +22,3 @@ module _ (A D O : Type 0) (word : O ↔ D) where
 
   pub untaken : (¬ (A × O)) → ¬ (A × D)
   untaken not h = not (h.0, word.1 h.1)
-
--- what is found stays found, and after rows of which none was found the next decide
-pub found_stays : (P : ℕ → Type 0) (is js : List ℕ) (i : ℕ) → IsFirstAmong P is (Some i) → IsFirstAmong P (is ++ js) (Some i)
-unfolding IsFirstAmong
-found_stays P [] js i e = absurd (cc)
-found_stays P (k ∷ is) js i (inl h) = inl h
-found_stays P (k ∷ is) js i (inr h) = inr (h.0, found_stays P is js i h.1)
-
-pub none_goes_on : (P : ℕ → Type 0) (is js : List ℕ) (o : Option ℕ) → IsFirstAmong P is None → IsFirstAmong P js o → IsFirstAmong P (is ++ js) o
-unfolding IsFirstAmong
-none_goes_on P [] js o e h = h
-none_goes_on P (k ∷ is) js o (inl e) h = absurd (let x = e.1 in cc)
-none_goes_on P (k ∷ is) js o (inr e) h = inr (e.0, none_goes_on P is js o e.1 h)

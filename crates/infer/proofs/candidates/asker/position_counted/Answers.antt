@@ -4,8 +4,6 @@ use Rattle.infer.proofs.CandidateLemmas.{first_of_every}
 use Rattle.infer.proofs.TableLemmas.{first_within}
 use Rattle.infer.proofs.candidates.asker.position_counted.Goals as goal
 
-pub returns-clause-first : goal.returns-clause-first
-returns-clause-first c = first_of_every c.args.buf.now table c.count_wanted.result.0 c.count_wanted.ensures.first
-
 pub returns-clause-bound : goal.returns-clause-bound
-returns-clause-bound c = first_within (Accepts c.args.buf.now) c.count_wanted.result.0 (returns-clause-first c)
+returns-clause-bound c =
+    first_within (Accepts c.args.buf.now) c.count_wanted.result.0 (first_of_every c.args.buf.now table c.count_wanted.result.0 c.count_wanted.ensures.first)

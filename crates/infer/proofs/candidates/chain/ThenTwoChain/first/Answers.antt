@@ -3,10 +3,6 @@ use Rattle.infer.specs.Walks.{IsFirstAmong}
 use Rattle.infer.proofs.ChainLemmas.{taken_alike}
 use Rattle.infer.proofs.candidates.chain.ThenTwoChain.first.Goals as goal
 
-pub returns-then-takes : goal.returns-then-takes
-unfolding IsFirstAmong
-returns-then-takes g c = inl (taken_alike _ _ _ _ c.after-rest.ensures.first.0 (c.if-takes.ensures.0 refl), refl)
-
 pub returns-then-takes-2 : goal.returns-then-takes-2
 unfolding IsFirstAmong
 returns-then-takes-2 g c = inr (
