@@ -1,87 +1,56 @@
 -- The first of the candidates that has a property is the first row of the table that has it.
-use Rattle.std.proofs.Common.{◌≡◌, ◌<◌, ◌+◌, ℕ, zero, suc, Bool, true, false, List, [], ◌∷◌, get_or, sym, subst, ◌∙◌, ap, arith, IsTrue, refl, Option, Some, None, MatchOption, if◌then◌else◌, inl, inr, is_some, ◌↔◌}
-use Rattle.std.specs.List.{slice_get}
+use Rattle.std.proofs.Common.{◌≡◌, ◌<◌, ◌+◌, ℕ, zero, suc, Bool, true, false, List, [], ◌∷◌, get_or, length, drop, length-drop, drop-cons, add-one, sym, subst, ap, arith, IsTrue, refl, Option, Some, None, MatchOption, if◌then◌else◌, inl, inr, is_some, ◌↔◌}
+use Rattle.std.specs.List.{slice_get, AllWithin, HoldsAt}
+use Rattle.std.proofs.lemmas.List.Elements.{AllWithin-more, AllWithin-none, AllWithin-upto}
 use Rattle.infer.specs.BuiltIn.{BuiltIn}
-use Rattle.infer.specs.First.{IsFirst, IsFirstOf, NoneHas, SomeHas}
+use Rattle.infer.specs.First.{IsFirstOf, NoneHas, SomeHas}
 use Rattle.infer.specs.Leads.{Leads, allows_first, candidates, candidates_of, places_from}
 use Rattle.infer.specs.Row.{Row, Accepts}
 use Rattle.infer.specs.Table.{table}
 use Rattle.infer.specs.Walks.{IsFirstAmong, RowHas, Takes}
 use Rattle.infer.specs.declared.ask.question.Wanted.{Wanted}
 use Rattle.infer.specs.declared.ask.question.Wanted.TheVariants.{Every}
-use Rattle.infer.proofs.ListLemmas.{not_some}
+use Rattle.infer.proofs.ListLemmas.{HoldsAt-read, not_some}
 
-module _ {A : Type 0} (P : A → Type 0) (x : A) (xs : List A) where
-  first_here : P x → IsFirst P (x ∷ xs) 0
-  first_here h = record { within = omega arith; here = λ d. h; before = λ k d a b. absurd (omega arith) }
-
-  none_more : (¬ P x) → NoneHas P xs → NoneHas P (x ∷ xs)
-  none_more h none zero d a b = h
-  none_more h none (suc k) d a b = none k d (omega arith) (omega arith)
-
-  before_later : (k : ℕ) → (¬ P x) → IsFirst P xs k → (j : ℕ) (d : A) → j < suc k → ¬ P (get_or (x ∷ xs) j d)
-  before_later k h first zero d b = h
-  before_later k h first (suc j) d b = first.before j d (omega arith) (omega arith)
-
-  first_later : (k : ℕ) → (¬ P x) → IsFirst P xs k → IsFirst P (x ∷ xs) (suc k)
-  first_later k h first = record {
-    within = let l = first.within in omega arith;
-    here = first.here;
-    before = λ j d a b. before_later k h first j d b;
-  }
-
--- o is the number of the first of xs with the property, where the numbers of xs begin at i
-abbrev IsFirstFrom : {A : Type 0} → (A → Type 0) → ℕ → List A → Option ℕ → Type 0
-IsFirstFrom P i xs None = NoneHas P xs
-IsFirstFrom P i xs (Some n) = (k : ℕ) × (n ≡ i + k) × IsFirst P xs k
-
-later : {A : Type 0} (P : A → Type 0) (i : ℕ) (x : A) (xs : List A) (o : Option ℕ) → (¬ P x) → IsFirstFrom P (suc i) xs o → IsFirstFrom P i (x ∷ xs) o
-later P i x xs None h none = none_more P x xs h none
-later P i x xs (Some n) h first = (suc first.0, (let e = first.1 in omega arith), first_later P x xs first.0 h first.2)
-
--- the numbers of xs begin at i in the table
-abbrev Stands : ℕ → List (Row BuiltIn) → Type 0
-Stands i xs = (k : ℕ) → slice_get table (i + k) ≡ slice_get xs k
+-- what is read at a place has the property just if the place is inside, and the property holds there
+pub read_has : {A : Type 0} (P : A → Type 0) (xs : List A) (i : ℕ) → MatchOption (slice_get xs i) ⊥ P ↔ ((i < length xs) × HoldsAt P xs i)
+read_has P [] i = (λ h. absurd h, λ h. absurd (omega arith))
+read_has P (x ∷ xs) zero = (λ h. (omega arith, λ d. h), λ h. h.1 x)
+read_has P (x ∷ xs) (suc i) =
+    let rest = read_has P xs i in (λ h. let at = rest.0 h in (omega arith, at.1), λ h. rest.1 (omega arith, h.1))
 
 module _ (P : Row BuiltIn → Type 0) where
-  of_row : (i : ℕ) (x : Row BuiltIn) → slice_get table i ≡ Some x → RowHas P i → P x
-  of_row i x e h = subst (λ o. MatchOption o ⊥ P) e h
+  -- none of the first i rows has the property
+  abbrev NoneBefore : ℕ → Type 0
+  NoneBefore i = AllWithin (λ r. ¬ P r) table 0 i
 
-  to_row : (i : ℕ) (x : Row BuiltIn) → slice_get table i ≡ Some x → P x → RowHas P i
-  to_row i x e h = subst (λ o. MatchOption o ⊥ P) (sym e) h
+  refused : (i : ℕ) → i < length table → (¬ RowHas P i) → NoneBefore i → NoneBefore (i + 1)
+  refused i lt not none =
+      AllWithin-more (λ r. ¬ P r) table 0 i none (λ d p. not ((read_has P table i).1 (lt, HoldsAt-read P table i d lt p)))
 
-  here_at : (i : ℕ) (x : Row BuiltIn) (xs : List (Row BuiltIn)) → Stands i (x ∷ xs) → slice_get table i ≡ Some x
-  here_at i x xs at = ap (slice_get table) (let e : i ≡ i + 0 = omega arith in e) ∙ at 0
-
-  next_at : (i : ℕ) (x : Row BuiltIn) (xs : List (Row BuiltIn)) → Stands i (x ∷ xs) → Stands (suc i) xs
-  next_at i x xs at k = ap (slice_get table) (let e : suc i + k ≡ i + suc k = omega arith in e) ∙ at (suc k)
+  first_step : (b : Bool) (i : ℕ) (ns : List ℕ) (o : Option ℕ) → i < length table → NoneBefore i → (RowHas P i → IsTrue b)
+      → (NoneBefore (i + 1) → IsFirstAmong (RowHas P) ns o → IsFirstOf P table o)
+      → IsFirstAmong (RowHas P) (if b then i ∷ ns else ns) o → IsFirstOf P table o
+  unfolding IsFirstAmong
+  first_step true i ns o lt none tested rest (inl h) = rw h.1 (record { within = lt; here = ((read_has P table i).0 h.0).1; before = none })
+  first_step true i ns o lt none tested rest (inr h) = rest (refused i lt h.0 none) h.1
+  first_step false i ns o lt none tested rest h = rest (refused i lt (λ has. absurd (let t = tested has in cc)) none) h
 
   module _ (test : Row BuiltIn → Bool) (only : (r : Row BuiltIn) → P r → IsTrue (test r)) where
-    untested : (x : Row BuiltIn) → test x ≡ false → ¬ P x
-    untested x e h = absurd (let t = only x h in cc)
-
-    first_step : (x : Row BuiltIn) (xs : List (Row BuiltIn)) (i : ℕ) (o : Option ℕ) (b : Bool) → test x ≡ b → slice_get table i ≡ Some x
-        → (IsFirstAmong (RowHas P) (places_from test (suc i) xs) o → IsFirstFrom P (suc i) xs o)
-        → IsFirstAmong (RowHas P) (if b then i ∷ places_from test (suc i) xs else places_from test (suc i) xs) o → IsFirstFrom P i (x ∷ xs) o
+    first_from : (xs : List (Row BuiltIn)) (i : ℕ) (o : Option ℕ) → drop i table ≡ xs → NoneBefore i
+        → IsFirstAmong (RowHas P) (places_from test i xs) o → IsFirstOf P table o
     unfolding IsFirstAmong
-    first_step x xs i o true e at rest (inl h) =
-        subst (IsFirstFrom P i (x ∷ xs)) (sym h.1) (0, (omega arith), first_here P x xs (of_row i x at h.0))
-    first_step x xs i o true e at rest (inr h) = later P i x xs o (λ p. h.0 (to_row i x at p)) (rest h.1)
-    first_step x xs i o false e at rest h = later P i x xs o (untested x e) (rest h)
-
-    first_from : (xs : List (Row BuiltIn)) (i : ℕ) (o : Option ℕ) → Stands i xs → IsFirstAmong (RowHas P) (places_from test i xs) o → IsFirstFrom P i xs o
-    unfolding IsFirstAmong
-    first_from [] i o at h = subst (IsFirstFrom P i []) (sym h) (λ k d a b. absurd (omega arith))
-    first_from (x ∷ xs) i o at h = first_step x xs i o (test x) refl (here_at i x xs at) (first_from xs (suc i) o (next_at i x xs at)) h
-
-    first_of_table : (o : Option ℕ) → IsFirstFrom P 0 table o → IsFirstOf P table o
-    first_of_table None none = none
-    first_of_table (Some n) first = subst (IsFirst P table) (let e = first.1 in omega arith) first.2
+    first_from [] i o e none h =
+        rw h (AllWithin-upto (λ r. ¬ P r) table 0 i (length table) (omega (arith, length-drop i table, ap length e)) none)
+    first_from (x ∷ xs) i o e none h =
+        let lt : i < length table = omega (arith, length-drop i table, ap length e) in
+        let split = drop-cons table i x lt in
+        first_step (test x) i _ o lt none (λ has. only x (rw (let same : x ≡ get_or table i x = cc in same) (((read_has P table i).0 has).1 x)))
+        (λ more. first_from xs (suc i) o (cc) (rw add-one at more)) h
 
     -- where only rows that pass a test have the property, they alone are looked at
     pub first_listed : (o : Option ℕ) → IsFirstAmong (RowHas P) (places_from test 0 table) o → IsFirstOf P table o
-    first_listed o h =
-        first_of_table o (first_from table 0 o (λ k. ap (slice_get table) (let e : 0 + k ≡ k = omega arith in e)) h)
+    first_listed o h = first_from table 0 o refl (AllWithin-none (λ r. ¬ P r) table 0) h
 
 -- the first of the candidates of a buffer that takes it is the first row of the table that does
 pub first_of_buffer : ((s : BuiltIn) → Leads s) → NoneHas (Accepts []) table → (wanted : Wanted) (b cs : List ℕ) (o : Option ℕ)

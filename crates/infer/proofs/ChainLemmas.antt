@@ -1,10 +1,10 @@
 -- Links of a chain that ask several rows: buffers on which signatures answer alike, and two chains joined.
-use Rattle.std.proofs.Common.{◌↔◌, ℕ, List, [], ◌∷◌, ◌++◌, MatchOption, Option, None, Some, inl, inr}
+use Rattle.std.proofs.Common.{◌↔◌, ℕ, List, MatchOption, Option, None, Some}
 use Rattle.std.specs.List.{slice_get}
 use Rattle.infer.specs.BuiltIn.{BuiltIn}
 use Rattle.infer.specs.Row.{Row, Accepts}
 use Rattle.infer.specs.Table.{table}
-use Rattle.infer.specs.Walks.{IsFirstAmong, RowHas, Takes}
+use Rattle.infer.specs.Walks.{RowHas, Takes}
 use Rattle.infer.specs.declared.ask.question.Wanted.{Wanted}
 
 -- a row that accepts two buffers alike takes them alike

@@ -1,6 +1,9 @@
 use Rattle.std.proofs.Common.{refl}
-use Rattle.infer.proofs.SlotLemmas.{extensions_listed}
+use Rattle.infer.specs.Slots.{extension_of, rows_in}
+use Rattle.infer.specs.Table.{table}
+use Rattle.infer.proofs.SlotLemmas.{slots_listed}
 use Rattle.infer.proofs.table.rows.extensions.Goals as goal
 
 pub returns : goal.returns
-returns c = extensions_listed _ refl
+unfolding rows_in table
+returns c = slots_listed extension_of _ refl (refl, (refl, (refl, (refl, (refl, (refl, (refl, (refl, tt))))))))

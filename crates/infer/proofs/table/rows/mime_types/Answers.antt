@@ -1,6 +1,9 @@
 use Rattle.std.proofs.Common.{refl}
-use Rattle.infer.proofs.SlotLemmas.{mime_types_listed}
+use Rattle.infer.specs.Slots.{mime_type_of, rows_in}
+use Rattle.infer.specs.Table.{table}
+use Rattle.infer.proofs.SlotLemmas.{slots_listed}
 use Rattle.infer.proofs.table.rows.mime_types.Goals as goal
 
 pub returns : goal.returns
-returns c = mime_types_listed _ refl
+unfolding rows_in table
+returns c = slots_listed mime_type_of _ refl (refl, (refl, (refl, (refl, (refl, (refl, (refl, (refl, tt))))))))
