@@ -1,5 +1,5 @@
 -- What a settled contract says of a call that answered false.
-use Rattle.std.proofs.Common.{◌<◌, ℕ, Bool, true, false, List, get_or, refl}
+use Rattle.std.proofs.Common.{◌<◌, ℕ, Bool, true, List, get_or, arith}
 use Rattle.std.specs.Bool.{OnFalse}
 use Rattle.std.proofs.lemmas.Grind.{get_or_default_zero}
 use denote.Ref.{Bor}
@@ -13,6 +13,4 @@ IsBuffer-bytes b h k d lt = rw (get_or_default_zero b k d lt) (h k)
 -- a call that answered false is one whose contract does not allow true
 pub settled_no : (post : Contract) (buf : Bor (List ℕ)) (answer : Bool) → ((i : ℕ) → get_or buf.now i 0 < 256) → IsSettled post
     → post buf answer → OnFalse answer (¬ Allows post buf.now true)
-settled_no post buf true bytes settled says = tt
-settled_no post buf false bytes settled says =
-    λ yes. settled buf.now (IsBuffer-bytes buf.now bytes) yes (record { shown = buf; shows = refl; says = says })
+settled_no post buf answer bytes settled says = grind (arith, IsBuffer-bytes buf.now bytes)

@@ -69,9 +69,4 @@ some_of_first P xs (Some i) r e first = (λ t. (i, first.within, first.here), λ
 
 -- of every row, the first that takes the buffer is the first that accepts it
 pub first_of_every : (b : List ℕ) (rows : List (Row BuiltIn)) (o : Option ℕ) → IsFirstOf (Takes Every b) rows o → IsFirstOf (Accepts b) rows o
-first_of_every b rows None none = λ k d low lt h. none k d low lt (tt, h)
-first_of_every b rows (Some i) first = record {
-  within = first.within;
-  here = λ d. (first.here d).1;
-  before = λ k d low lt h. first.before k d low lt (tt, h);
-}
+first_of_every b rows o first = grind arith

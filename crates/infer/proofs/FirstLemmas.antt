@@ -1,7 +1,6 @@
 -- The first element with a property is one, and stands no later where more elements have it.
-use Rattle.std.proofs.Common.{◌≡◌, ◌<◌, ℕ, List, [], ◌∷◌, length, Option, None, Some, refl, ap, inl, inr, arith}
+use Rattle.std.proofs.Common.{◌≡◌, ◌<◌, ℕ, List, [], ◌∷◌, length, Option, None, Some, arith}
 use Rattle.std.specs.List.{HoldsAt, AllWithin}
-use Rattle.std.proofs.lemmas.Bool.{cases_lt}
 use Rattle.infer.specs.First.{IsFirstOf}
 use Rattle.infer.specs.Laws.{IsNotLater}
 
@@ -16,17 +15,9 @@ module _ {A : Type 0} (P Q : A → Type 0) (xs : List A) (grows : (i : ℕ) → 
   IsNotLater-grows None after none first = tt
   IsNotLater-grows (Some j) None first none =
       absurd (among Q xs j (length xs) first.within first.within (grows j first.within first.here) none)
-  IsNotLater-grows (Some j) (Some i) first then = elim (cases_lt j i) [
-    | inl lt ↦ absurd (among Q xs j i first.within lt (grows j first.within first.here) then.before)
-    | inr le ↦ le
-  ]
-
-at_most_each : (o p : Option ℕ) → IsNotLater o p → IsNotLater p o → o ≡ p
-at_most_each None None h k = refl
-at_most_each None (Some j) h k = absurd h
-at_most_each (Some i) None h k = absurd k
-at_most_each (Some i) (Some j) h k = let same : i ≡ j = omega arith in ap Some same
+  IsNotLater-grows (Some j) (Some i) first then =
+      grind (arith, λ (lt : j < i). among Q xs j i first.within lt (grows j first.within first.here) then.before)
 
 pub IsFirstOf-same : {A : Type 0} (P : A → Type 0) (xs : List A) (o p : Option ℕ) → IsFirstOf P xs o → IsFirstOf P xs p → o ≡ p
 IsFirstOf-same P xs o p h k =
-    at_most_each o p (IsNotLater-grows P P xs (λ i lt here. here) p o k h) (IsNotLater-grows P P xs (λ i lt here. here) o p h k)
+    grind (arith, IsNotLater-grows P P xs (λ i lt here. here) p o k h, IsNotLater-grows P P xs (λ i lt here. here) o p h k)

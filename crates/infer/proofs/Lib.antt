@@ -20,4 +20,3 @@ pub mod ArmLemmas
 pub mod CandidateLemmas
 pub mod AskLemmas
 pub mod SlotLemmas
-pub mod ChainLemmas

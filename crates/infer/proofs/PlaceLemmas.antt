@@ -1,5 +1,5 @@
 -- What a computation tells of a text in a buffer: that it stands at a place, or at none of some places.
-use Rattle.std.proofs.Common.{◌≡◌, ◌<◌, ◌≤◌, ℕ, zero, suc, ◌+◌, ◌-◌, Bool, true, false, ◌&&◌, not, ◌↔◌, List, [], ◌∷◌, length, drop, leb, IsTrue, ap, nat_eq, subst, ◌∙◌, arith}
+use Rattle.std.proofs.Common.{◌≡◌, ◌<◌, ◌≤◌, ℕ, zero, suc, ◌+◌, ◌-◌, Bool, true, ◌&&◌, not, ◌↔◌, List, [], ◌∷◌, length, drop, leb, IsTrue, ap, nat_eq, subst, ◌∙◌, arith}
 use Rattle.std.specs.List.{starts_with}
 use Rattle.std.proofs.lemmas.List.{drop-drop}
 use Rattle.std.proofs.lemmas.Bool.{and_parts, and_from, leb-true, le-leb}
@@ -9,8 +9,7 @@ use Rattle.infer_sig.specs.Signature.{stands}
 use Rattle.infer.proofs.KnownLemmas.{Known, decided}
 
 pub not_both : (a : Bool) → IsTrue a → ¬ IsTrue (not a)
-not_both true h e = absurd (cc)
-not_both false h e = absurd (cc)
+not_both a h e = grind arith
 
 -- what it means that a text stands at a place
 abbrev pub ByPlace : Type 0

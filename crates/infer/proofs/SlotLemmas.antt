@@ -1,12 +1,10 @@
 -- Each slot lists the rows whose text has it.
-use Rattle.std.proofs.Common.{◌≡◌, ◌<◌, ◌≤◌, ◌↔◌, ◌==◌, eq-eqb, ℕ, Bool, true, false, IsTrue, List, [], ◌∙◌, ap, sym, subst, get_or, map, length, refl, arith, Bor, MatchOption, Option, None, Some}
-use Rattle.std.specs.List.{slice_get}
-use Rattle.std.specs.Option.{option_map_or}
+use Rattle.std.proofs.Common.{◌≡◌, ◌<◌, ◌≤◌, ◌↔◌, ◌==◌, eq-eqb, ℕ, Bool, true, false, IsTrue, List, [], ◌∙◌, ap, sym, subst, get_or, map, length, refl, arith, Bor, None}
 use Rattle.std.specs.Str.{bytes_eq}
 use Rattle.std.proofs.lemmas.Bool.{false≢true}
 use Rattle.std.proofs.lemmas.List.{get_or-map}
 use Rattle.std.proofs.lemmas.Slice.Eq.{bytes_eq-Decides}
-use Rattle.infer.specs.BuiltIn.{BuiltIn, IsAccepted, fixed}
+use Rattle.infer.specs.BuiltIn.{BuiltIn, IsAccepted}
 use Rattle.infer.specs.First.{SomeHas}
 use Rattle.infer.specs.Listed.{number_of}
 use Rattle.infer.specs.Questions.{IsWanted}
@@ -43,7 +41,9 @@ wanted_in_slot wanted text_of text asks lists slot d listed e lt =
 module _ (P : Row BuiltIn → Type 0) (wanted : Wanted) (asks : (x : Row BuiltIn) → P x → IsWanted wanted x) where
   pub some_listed : (rows : List ℕ) (r : Bool) → HasWanted wanted rows → IsTrue r ↔ SomeHas (RowHas P) rows → IsTrue r ↔ SomeHas P table
   unfolding HasWanted
-  some_listed rows true h some = let (k, lt, at) = some.0 refl in let found = (read_has P table _).0 (at 0) in (λ _. (_, found.0, found.1), λ _. refl)
+  some_listed rows true h some =
+      let (k, lt, at) = some.0 refl in
+      let found = (read_has P table _).0 (at 0) in (λ _. (_, found.0, found.1), λ _. refl)
   some_listed rows false (test, same, all) some =
       let none = none_among (RowHas P) rows (λ k d a b p. absurd (false≢true (some.1 (k, b, HoldsAt-read (RowHas P) rows k d b p)))) in (
         λ no. absurd (cc),
@@ -65,8 +65,4 @@ module _ (P : Row BuiltIn → Type 0) (wanted : Wanted) (asks : (x : Row BuiltIn
 -- a row takes a buffer if it is asked for and its signature accepts the buffer
 pub taken_named : (wanted : Wanted) (b : List ℕ) (i : ℕ) → RowHas (Takes wanted b) i ↔ (RowHas (IsWanted wanted) i × IsAccepted (signature_of i) b)
 unfolding signature_of
-taken_named wanted b i = by (slice_get table i)
-  where
-    by : (o : Option (Row BuiltIn)) → MatchOption o ⊥ (Takes wanted b) ↔ (MatchOption o ⊥ (IsWanted wanted) × IsAccepted (option_map_or (λ r. r.signature) o (fixed [])) b)
-    by None = (λ h. absurd h, λ h. absurd h.0)
-    by (Some r) = (λ h. h, λ h. h)
+taken_named wanted b i = (λ h. grind arith, λ h. grind arith)

@@ -1,8 +1,26 @@
-use Rattle.std.proofs.Common.{map}
+use Rattle.std.proofs.Common.{◌≢◌, ℕ, List, ◌∷◌, ◌++◌, map, sym, ap, ◌∙◌, refl, arith}
+use Rattle.std.specs.List.{AllPairs}
+use Rattle.std.proofs.lemmas.Cmp.{nat_list_eq_equiv}
+use Rattle.std.proofs.lemmas.List.{get_or-map, length-map}
+use Rattle.std.proofs.lemmas.Map.Made.{AllPairs-from_IsDistinct, IsDistinct-from_count}
+use Rattle.std.proofs.lemmas.Slice.Eq.{bytes_eq-Decides}
+use denote.Enum.Declared.{tag_of}
+use Rattle.infer.specs.contracts.table.file_type.MatcherType as matcher_type
 use Rattle.infer.specs.Row.{shows}
 use Rattle.infer.specs.Table.{table}
-use Rattle.infer.proofs.TableLemmas.{pairs_apart, table_apart}
+use Rattle.infer.specs.Triple.{Triple}
 use Rattle.infer.proofs.laws.distinct.Goals as goal
 
+-- a triple as one text
+abbrev key : Triple → List ℕ
+key t = tag_of matcher_type.the_type t.class ∷ t.extension ++ t.mime_type
+
+keys_apart : AllPairs (λ a b. a ≢ b) (map key (map shows table))
+unfolding table
+keys_apart =
+    let keys = map key (map shows table) in AllPairs-from_IsDistinct bytes_eq-Decides keys (IsDistinct-from_count nat_list_eq_equiv keys refl)
+
 pub returns : goal.returns
-returns c = pairs_apart (map shows table) table_apart
+returns c = λ i j d before lt same.
+    keys_apart i j (key d) before (omega (arith, length-map (map shows table) key))
+    (get_or-map key (map shows table) i d (key d) (omega arith) ∙ ap key same ∙ sym (get_or-map key (map shows table) j d (key d) lt))
