@@ -1,5 +1,5 @@
 -- A walk over the candidates of a buffer: which numbers they are, where it ends, and which it asks.
-use Rattle.std.proofs.Common.{◌≡◌, ◌<◌, ◌≤◌, ◌+◌, ℕ, zero, suc, Bool, true, false, ◌&&◌, List, [], ◌∷◌, length, get_or, take, sym, subst, ◌∙◌, ap, arith, refl, leb, Option, Some, None, inl, inr, cond, if◌then◌else◌, slice_get}
+use Rattle.std.proofs.Common.{◌≡◌, ◌<◌, ◌≤◌, ◌+◌, ℕ, zero, suc, Bool, true, false, ◌&&◌, List, [], ◌∷◌, length, get_or, take, sym, subst, ◌∙◌, ap, arith, refl, leb, Option, Some, None, inl, inr, cond, if◌then◌else◌}
 use Rattle.std.specs.List.{All, AllPairs, AllWithin, filter}
 use Rattle.std.proofs.lemmas.Bool.Decides.{nat_tests}
 use Rattle.std.proofs.lemmas.List.{length-take-le}
@@ -66,10 +66,6 @@ module _ (p w : ℕ → Bool) (d : ℕ) where
       (kept cs n (λ k l a. pass (suc k) (omega arith) (omega arith)) (λ k l a. fail (suc k) (omega arith) (omega arith))))
 
 -- ---- what a walk knows at its end
-
-pub candidates-read : (b : List ℕ) (f : ℕ) (ns rs : List ℕ) → Some f ≡ slice_get b 0 → ns ≡ candidates f → rs ≡ ns → rs ≡ candidates_of b
-candidates-read [] f ns rs e same read = absurd (let x = e in cc)
-candidates-read (x ∷ b) f ns rs e same read = read ∙ same ∙ ap candidates (let y = e in cc)
 
 pub below_count : (b : List ℕ) (rs : List ℕ) → rs ≡ candidates_of b → (k d : ℕ) → k < length rs → get_or rs k d < ROW_COUNT
 below_count b rs e k d l = ((subst (Rise 0 ROW_COUNT) (sym e) (candidates_rise b)).0 k d l).1

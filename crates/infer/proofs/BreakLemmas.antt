@@ -1,7 +1,6 @@
 -- For each of the twelve rows, and for each beginning, a buffer that has the row as its first, and whose first 1024 bytes
 -- have another answer.
-use Rattle.std.proofs.Common.{◌≡◌, ◌⊎◌, ◌≢◌, ◌+◌, ◌<◌, ◌∷◌, ◌++◌, le_refl, zero-le, suc, ℕ, not, List, [], Option, None, Some, length, get_or, take, subst, IsTrue, refl, codes, inl, inr, arith}
-use Rattle.std.proofs.lemmas.Bool.{cases_lt}
+use Rattle.std.proofs.Common.{◌≡◌, ◌⊎◌, ◌≢◌, ◌+◌, ◌<◌, ◌∷◌, ◌++◌, le_refl, zero-le, suc, ℕ, not, List, [], Option, None, Some, length, get_or, take, IsTrue, refl, codes, inl, inr, arith}
 use Rattle.std.proofs.lemmas.Option.{none-some, same_Some, slice_get_past}
 use Rattle.infer_deep.specs.ClassId.{compound_header, word_id, old_excel_id, powerpoint_id}
 use Rattle.infer_deep.specs.Find.{OccursAt}
@@ -81,10 +80,7 @@ module _ (by_place : ByPlace) (exclude : Deep.Apart) where
 
   twelve_within : (i : ℕ) → IsTrue (is_of_the_twelve i) → i < ROW_COUNT
   unfolding is_of_the_twelve signature_of
-  twelve_within i e = elim (cases_lt i ROW_COUNT) [
-    | inl lt ↦ lt
-    | inr over ↦ absurd (let none = rw (slice_get_past table i (omega (arith, length-table))) at e in cc)
-  ]
+  twelve_within i e = grind (arith, slice_get_past table i, length-table)
 
   pub broken : (i : ℕ) → IsTrue (is_of_the_twelve i) → (buf : List ℕ) × Breaks 1024 i buf
   broken i e = elim (proof_of (breaks i) (passed (λ j. is_proved (breaks j)) ROW_COUNT 8 all_break (omega arith) i (twelve_within i e))) [
@@ -109,15 +105,8 @@ module _ (by_place : ByPlace) (b : List ℕ) where
   abbrev occurs : (p : ℕ) (t : List ℕ) → Known (OccursAt b t p)
   occurs p t = Place.occurs by_place t b p
 
-  abbrev known_mark : Known (BeginsMarked b)
-  known_mark = do
-    some ← needs (either (occurs 0 (0xEF ∷ 0xBB ∷ 0xBF ∷ [])) (either (occurs 0 (0xFE ∷ 0xFF ∷ [])) (occurs 0 (0xFF ∷ 0xFE ∷ []))))
-        (λ (m, is, o). elim is [
-          | inl e ↦ inl (subst (λ w. OccursAt b w 0) e o)
-          | inr (inl e) ↦ inr (inl (subst (λ w. OccursAt b w 0) e o))
-          | inr (inr e) ↦ inr (inr (subst (λ w. OccursAt b w 0) e o))
-        ])
-    proved (elim some [ inl o ↦ (_, inl refl, o) | inr (inl o) ↦ (_, inr (inl refl), o) | inr (inr o) ↦ (_, inr (inr refl), o) ])
+  marked_by : BeginsMarked b → OccursAt b (0xEF ∷ 0xBB ∷ 0xBF ∷ []) 0 ⊎ OccursAt b (0xFE ∷ 0xFF ∷ []) 0 ⊎ OccursAt b (0xFF ∷ 0xFE ∷ []) 0
+  marked_by (m, is, o) = grind arith
 
   abbrev begins : (how : Beginning) → Known (Begins how b)
   begins open_box = do
@@ -134,7 +123,9 @@ module _ (by_place : ByPlace) (b : List ℕ) where
     proved (record { low = low; high = high; mark = number })
   begins white =
       let x = get_or b 0 0 in either (same x 0x09) (either (same x 0x0A) (either (same x 0x0C) (either (same x 0x0D) (same x 0x20))))
-  begins mark = known_mark
+  begins mark = do
+    some ← needs (either (occurs 0 (0xEF ∷ 0xBB ∷ 0xBF ∷ [])) (either (occurs 0 (0xFE ∷ 0xFF ∷ [])) (occurs 0 (0xFF ∷ 0xFE ∷ [])))) marked_by
+    proved (elim some [ inl o ↦ (_, inl refl, o) | inr (inl o) ↦ (_, inr (inl refl), o) | inr (inr o) ↦ (_, inr (inr refl), o) ])
 
   abbrev excluded : (how other : Beginning) → Known (Begins other b → other ≡ how)
   excluded open_box open_box = proved (λ h. refl)

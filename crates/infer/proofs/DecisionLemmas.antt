@@ -1,9 +1,10 @@
 -- What a computation tells of a built-in signature and a buffer.
-use Rattle.std.proofs.Common.{◌≡◌, ◌≤◌, ◌⊎◌, inl, inr, ℕ, zero, suc, ◌+◌, ◌-◌, ◌*◌, ◌/◌, List, [], ◌∷◌, ◌++◌, map, length, get_or, replicate, take, eqb, IsTrue, refl, ap, subst, ◌∙◌, codes, arith, lit≤, append_assoc, Bool}
+use Rattle.std.proofs.Common.{◌≡◌, ◌≤◌, ◌⊎◌, inl, inr, ℕ, suc, ◌+◌, ◌-◌, ◌*◌, ◌/◌, List, [], ◌∷◌, ◌++◌, map, length, get_or, replicate, take, eqb, IsTrue, refl, ap, subst, ◌∙◌, codes, arith, lit≤, append_assoc, Bool}
 use Rattle.std.specs.Char.{to_ascii_lowercase}
 use Rattle.std.specs.List.{list_any, AllByRecursion, concat}
 use Rattle.std.proofs.lemmas.Bool.{eqb-true, eq-eqb, or_left, or_right}
 use Rattle.std.proofs.lemmas.List.{take_at}
+use Rattle.std.proofs.lemmas.List.Elements.{All-replicate, recursion_from_All}
 use Rattle.std.proofs.lemmas.List.Folds.{list_any-append}
 use Rattle.std.proofs.lemmas.List.Prefix.{front_fits, front_reads}
 use Rattle.std.proofs.lemmas.List.Sums.{AllPass-from_list_all}
@@ -27,12 +28,8 @@ use Rattle.infer.proofs.PlaceLemmas as Place
 abbrev pub behind : ℕ → List ℕ → List ℕ → List ℕ
 behind n word rest = concat (replicate n word) ++ rest
 
-each_word : (P : List ℕ → Type 0) (n : ℕ) (word : List ℕ) → P word → AllByRecursion P (replicate n word)
-each_word P zero word h = tt
-each_word P (suc n) word h = (h, each_word P n word h)
-
 skips : (P : List ℕ → Type 0) (n : ℕ) (word rest b : List ℕ) → P word → b ≡ behind n word rest → SkipsTo P b rest
-skips P n word rest b h e = record { words = replicate n word; each = each_word P n word h; whole = e }
+skips P n word rest b h e = record { words = replicate n word; each = recursion_from_All P (replicate n word) (All-replicate P n word h); whole = e }
 
 abbrev pub space : List ℕ
 space = 0x20 ∷ []

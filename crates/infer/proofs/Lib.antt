@@ -1,7 +1,6 @@
 pub mod ListLemmas
 pub mod TestLemmas
 pub mod RowLemmas
-pub mod CallerLemmas
 pub mod TableLemmas
 pub mod LawLemmas
 pub mod HeadLemmas
@@ -16,7 +15,6 @@ pub mod OrderLemmas
 pub mod ArrivalLemmas
 pub mod SampleLemmas
 pub mod BreakLemmas
-pub mod ArmLemmas
 pub mod CandidateLemmas
 pub mod AskLemmas
 pub mod SlotLemmas

@@ -2,7 +2,7 @@
 -- two lists joined.
 use Rattle.std.proofs.Common.{◌≡◌, ◌↔◌, Bool, true, false, IsTrue, MatchBool, ◌+◌, ◌-◌, ◌<◌, ◌≤◌, ℕ, List, [], ◌∷◌, ◌++◌, ◌⊎◌, inl, inr, map, length, get_or, refl, subst, arith, length-append}
 use Rattle.std.specs.List.{HoldsAt, AllWithin}
-use Rattle.std.proofs.lemmas.Bool.{cases_lt}
+use Rattle.std.proofs.lemmas.Bool.{cases_lt, false≢true}
 use Rattle.std.proofs.lemmas.List.{get_or-map, get_or_default, get_or_append_left, get_or-append-add, get_or-append_right, length-map}
 use Rattle.std.proofs.lemmas.List.Folds.{none_from_all_within}
 use Rattle.infer.specs.First.{IsFirst, NoneHas, SomeHas}
@@ -74,11 +74,11 @@ module _ {A : Type 0} (P : A → Type 0) (xs ys : List A) where
   pub HoldsAt-right : (i : ℕ) → HoldsAt P ys i → HoldsAt P (xs ++ ys) (length xs + i)
   HoldsAt-right i h = λ d. rw (get_or-append-add xs ys i d) (h d)
 
-  pub SomeHas-right : SomeHas P ys → SomeHas P (xs ++ ys)
+  SomeHas-right : SomeHas P ys → SomeHas P (xs ++ ys)
   SomeHas-right h = (length xs + h.0, omega (arith, h.1, length-append xs ys), HoldsAt-right h.0 h.2)
 
   -- one in the whole is one in the front or in the rest
-  pub SomeHas-either : SomeHas P (xs ++ ys) → SomeHas P xs ⊎ SomeHas P ys
+  SomeHas-either : SomeHas P (xs ++ ys) → SomeHas P xs ⊎ SomeHas P ys
   SomeHas-either h = elim (cases_lt h.0 (length xs)) [
     | inl lt ↦ inl (h.0, lt, λ d. rw (← get_or_append_left xs ys d h.0 lt) (h.2 d))
     | inr le ↦ inr (h.0 - length xs, omega (arith, h.1, length-append xs ys), λ d. rw (← get_or-append_right xs ys (length xs) h.0 d refl le) (h.2 d))
@@ -94,3 +94,14 @@ module _ {A : Type 0} (P : A → Type 0) (xs ys : List A) where
 
   pub NoneHas-both : NoneHas P xs → NoneHas P ys → NoneHas P (xs ++ ys)
   NoneHas-both none h = rw (length-append xs ys) (AllWithin-both (λ x. ¬ P x) xs ys (length ys) none h)
+
+-- whether some does after a list in which none does
+pub some_of_rest : {A B : Type 0} (f : A → B) (P : B → Type 0) (xs : List B) (ys : List A) (r : Bool) → IsTrue false ↔ SomeHas P xs
+    → IsTrue r ↔ SomeHas (λ y. P (f y)) ys → IsTrue r ↔ SomeHas P (xs ++ map f ys)
+some_of_rest f P xs ys r front rest = (
+  λ e. SomeHas-right P xs (map f ys) (SomeHas-map f P ys (rest.0 e)),
+  λ h. elim (SomeHas-either P xs (map f ys) h) [
+    | inl k ↦ absurd (false≢true (front.1 k))
+    | inr k ↦ rest.1 (SomeHas-from_map f P ys k)
+  ],
+)

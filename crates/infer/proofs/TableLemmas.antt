@@ -1,4 +1,4 @@
--- The table's length, and that its triples differ.
+-- The table's length, and what is inside it.
 use Rattle.std.proofs.Common.{◌≡◌, ◌<◌, ℕ, List, length, refl, arith, ◌↔◌, ◌≤◌, Option, IsNone, IfSome}
 use Rattle.std.specs.List.{slice_get}
 use Rattle.std.specs.Option.{option_map}

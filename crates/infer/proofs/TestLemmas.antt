@@ -1,5 +1,5 @@
 -- A test of the numbers below n, in sixteens, so that the check of one which fails shows the numbers that it refuses.
-use Rattle.std.proofs.Common.{◌≡◌, ◌+◌, ◌-◌, ◌*◌, ◌<◌, ◌≤◌, ℕ, suc, zero, Bool, true, false, ◌||◌, not, cond, leb, List, [], ◌∷◌, ◌∙◌, get_or, length, refl, subst, inl, inr, arith, IsTrue}
+use Rattle.std.proofs.Common.{◌≡◌, ◌+◌, ◌-◌, ◌*◌, ◌<◌, ◌≤◌, ℕ, suc, zero, Bool, ◌||◌, not, cond, leb, List, [], ◌∷◌, ◌∙◌, get_or, length, subst, inl, inr, arith, IsTrue}
 use Rattle.std.specs.List.{filter, range_with_len}
 use Rattle.std.proofs.lemmas.Bool.{cases_lt, leb-true, or_cases}
 use Rattle.std.proofs.lemmas.List.FromFn.{get_or-range_with_len, length-range_with_len}
@@ -18,8 +18,7 @@ module _ (test : ℕ → Bool) (n : ℕ) where
   NoneRefused s (suc k) = (refused_from s ≡ []) × NoneRefused (s + 16) k
 
 none_refused : (r : Bool) (i : ℕ) (is : List ℕ) → cond (not r) (i ∷ is) is ≡ [] → IsTrue r × (is ≡ [])
-none_refused true i is e = (refl, e)
-none_refused false i is e = absurd (cc)
+none_refused r i is e = grind arith
 
 module _ (test : ℕ → Bool) (n : ℕ) where
   all_pass : (is : List ℕ) → filter (λ i. not (passes test n i)) is ≡ [] → (k : ℕ) → k < length is → IsTrue (passes test n (get_or is k 0))

@@ -1,7 +1,24 @@
-use Rattle.std.proofs.Common.{◌∙◌, ap, arith}
+use Rattle.std.proofs.Common.{ℕ, Bool, ◌∙◌, ap, get_or, refl, arith}
+use Rattle.std.proofs.lemmas.List.{get_or_default}
+use Rattle.std.specs.Str.{bytes_eq}
+use Rattle.std.proofs.lemmas.Slice.Eq.{bytes_eq-Decides}
+use Rattle.infer.specs.Arms.{rows_of}
 use Rattle.infer.specs.Leads.{candidates}
-use Rattle.infer.proofs.ArmLemmas.{arm_asks}
+use Rattle.infer.specs.Table.{table}
+use Rattle.infer.specs.declared.candidates.dispatch.Arm.TheVariants.{Other}
+use Rattle.infer.specs.declared.candidates.dispatch.TheConstants.{ARMS}
+use Rattle.infer.proofs.TestLemmas.{NoneRefused, passed}
 use Rattle.infer.proofs.candidates.dispatch.arm_of.Goals as goal
 
+-- the arm of a first byte asks the candidates of that byte
+abbrev asks_candidates : ℕ → Bool
+asks_candidates f = bytes_eq (rows_of (get_or ARMS f Other)) (candidates f)
+
+all_ask : NoneRefused asks_candidates 256 0 16
+unfolding table candidates
+all_ask = (refl, (refl, (refl, (refl, (refl, (refl, (refl, (refl, (refl, (refl, (refl, (refl, (refl, (refl, (refl, (refl, tt))))))))))))))))
+
 pub returns : goal.returns
-returns c = arm_asks c.from.result (omega arith) _ ∙ ap candidates c.from.ensures
+returns c =
+    ap rows_of (get_or_default ARMS c.from.result _ Other (omega arith))
+    ∙ (bytes_eq-Decides _ _).0 (passed asks_candidates 256 16 all_ask (omega arith) c.from.result (omega arith)) ∙ ap candidates c.from.ensures

@@ -1,6 +1,19 @@
-use Rattle.std.proofs.Common.{arith}
-use Rattle.infer.proofs.CallerLemmas.{settled_no}
+use Rattle.std.proofs.Common.{◌<◌, ℕ, Bool, true, List, get_or, arith}
+use Rattle.std.specs.Bool.{OnFalse}
+use Rattle.std.proofs.lemmas.Grind.{get_or_default_zero}
+use denote.Ref.{Bor}
+use Rattle.infer.specs.Buffer.{IsBuffer}
+use Rattle.infer.specs.Caller.{Contract, Allows, IsSettled}
 use Rattle.infer.proofs.caller.custom.CustomRow.accepts.Goals as goal
+
+-- a slice of bytes is a buffer
+IsBuffer-bytes : (b : List ℕ) → ((i : ℕ) → get_or b i 0 < 256) → IsBuffer b
+IsBuffer-bytes b h k d lt = rw (get_or_default_zero b k d lt) (h k)
+
+-- a call that answered false is one whose contract does not allow true
+settled_no : (post : Contract) (buf : Bor (List ℕ)) (answer : Bool) → ((i : ℕ) → get_or buf.now i 0 < 256) → IsSettled post
+    → post buf answer → OnFalse answer (¬ Allows post buf.now true)
+settled_no post buf answer bytes settled says = grind (arith, IsBuffer-bytes buf.now bytes)
 
 pub returns-clause-no : goal.returns-clause-no
 returns-clause-no g c =
