@@ -2,6 +2,7 @@
 use Rattle.std.proofs.Common.{◌≡◌, ◌<◌, ◌+◌, ℕ, zero, suc, Bool, true, false, List, [], ◌∷◌, get_or, length, drop, length-drop, drop-cons, add-one, sym, subst, ap, arith, IsTrue, refl, Option, Some, None, MatchOption, if◌then◌else◌, inl, inr, is_some, ◌↔◌}
 use Rattle.std.specs.List.{slice_get, AllWithin, HoldsAt}
 use Rattle.std.proofs.lemmas.List.Elements.{AllWithin-more, AllWithin-none, AllWithin-upto}
+use Rattle.std.proofs.lemmas.List.Folds.{none_from_all_within}
 use Rattle.infer.specs.BuiltIn.{BuiltIn}
 use Rattle.infer.specs.First.{IsFirstOf, NoneHas, SomeHas}
 use Rattle.infer.specs.Leads.{Leads, allows_first, candidates, candidates_of, places_from}
@@ -10,7 +11,7 @@ use Rattle.infer.specs.Table.{table}
 use Rattle.infer.specs.Walks.{IsFirstAmong, RowHas, Takes}
 use Rattle.infer.specs.declared.ask.question.Wanted.{Wanted}
 use Rattle.infer.specs.declared.ask.question.Wanted.TheVariants.{Every}
-use Rattle.infer.proofs.ListLemmas.{HoldsAt-read, not_some}
+use Rattle.infer.proofs.ListLemmas.{HoldsAt-read}
 
 -- what is read at a place has the property just if the place is inside, and the property holds there
 pub read_has : {A : Type 0} (P : A → Type 0) (xs : List A) (i : ℕ) → MatchOption (slice_get xs i) ⊥ P ↔ ((i < length xs) × HoldsAt P xs i)
@@ -64,7 +65,7 @@ first_of_buffer leads blank wanted (f ∷ b) cs o same h =
     (subst (λ ns. IsFirstAmong (RowHas (Takes wanted (f ∷ b))) ns o) same h)
 
 pub some_of_first : {A : Type 0} (P : A → Type 0) (xs : List A) (o : Option ℕ) (r : Bool) → r ≡ is_some o → IsFirstOf P xs o → IsTrue r ↔ SomeHas P xs
-some_of_first P xs None r e none = (λ t. absurd (cc), λ some. absurd (not_some P xs none some))
+some_of_first P xs None r e none = (λ t. absurd (cc), λ some. absurd (none_from_all_within P xs none some))
 some_of_first P xs (Some i) r e first = (λ t. (i, first.within, first.here), λ some. e)
 
 -- of every row, the first that takes the buffer is the first that accepts it

@@ -11,10 +11,6 @@ use Rattle.infer.specs.First.{IsFirst, NoneHas, SomeHas}
 pub HoldsAt-read : {A : Type 0} (P : A → Type 0) (xs : List A) (i : ℕ) (c : A) → i < length xs → P (get_or xs i c) → HoldsAt P xs i
 HoldsAt-read P xs i c lt h = λ d. subst P (get_or_default xs i c d lt) h
 
--- no element has a property that none has
-pub not_some : {A : Type 0} (P : A → Type 0) (xs : List A) → NoneHas P xs → ¬ SomeHas P xs
-not_some = none_from_all_within
-
 module _ {A B : Type 0} (f : A → B) (P : B → Type 0) where
   pub HoldsAt-map : (xs : List A) (i : ℕ) → i < length xs → HoldsAt (λ x. P (f x)) xs i → HoldsAt P (map f xs) i
   HoldsAt-map [] i lt h = absurd (omega arith)
@@ -63,7 +59,7 @@ module _ {A B : Type 0} (f : A → B) (P : B → Type 0) (xs : List A) where
 pub some_of_any : {A B : Type 0} (f : A → B) (P : B → Type 0) (xs : List A) (ys : List B) → map f xs ≡ ys → (r : Bool)
     → MatchBool r (SomeHas (λ x. P (f x)) xs) (NoneHas (λ x. P (f x)) xs) → IsTrue r ↔ SomeHas P ys
 some_of_any f P xs ys e true h = (λ _. subst (SomeHas P) e (SomeHas-map f P xs h), λ _. refl)
-some_of_any f P xs ys e false h = (λ no. absurd (cc), λ some. absurd (not_some P ys (subst (NoneHas P) e (NoneHas-map f P xs h)) some))
+some_of_any f P xs ys e false h = (λ no. absurd (cc), λ some. absurd (none_from_all_within P ys (subst (NoneHas P) e (NoneHas-map f P xs h)) some))
 
 AllWithin-both : {A : Type 0} (P : A → Type 0) (xs ys : List A) (n : ℕ) → AllWithin P xs 0 (length xs) → AllWithin P ys 0 n
     → AllWithin P (xs ++ ys) 0 (length xs + n)

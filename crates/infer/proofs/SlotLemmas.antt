@@ -4,6 +4,7 @@ use Rattle.std.specs.Str.{bytes_eq}
 use Rattle.std.proofs.lemmas.Bool.{false≢true}
 use Rattle.std.proofs.lemmas.List.{get_or-map}
 use Rattle.std.proofs.lemmas.Slice.Eq.{bytes_eq-Decides}
+use Rattle.std.proofs.lemmas.List.Folds.{none_from_all_within}
 use Rattle.infer.specs.BuiltIn.{BuiltIn, IsAccepted}
 use Rattle.infer.specs.First.{SomeHas}
 use Rattle.infer.specs.Listed.{number_of}
@@ -16,7 +17,7 @@ use Rattle.infer.specs.declared.ask.question.Wanted.{Wanted}
 use Rattle.infer.specs.declared.table.rows.RowName.{RowName}
 use Rattle.infer.proofs.AskLemmas.{none_among}
 use Rattle.infer.proofs.CandidateLemmas.{first_listed, read_has}
-use Rattle.infer.proofs.ListLemmas.{HoldsAt-read, SomeHas-map, SomeHas-from_map, not_some}
+use Rattle.infer.proofs.ListLemmas.{HoldsAt-read, SomeHas-map, SomeHas-from_map}
 use Rattle.infer.proofs.TestLemmas.{NoneRefused, passed}
 
 -- the rows of a slot are those whose text has it
@@ -47,7 +48,7 @@ module _ (P : Row BuiltIn → Type 0) (wanted : Wanted) (asks : (x : Row BuiltIn
   some_listed rows false (test, same, all) some =
       let none = none_among (RowHas P) rows (λ k d a b p. absurd (false≢true (some.1 (k, b, HoldsAt-read (RowHas P) rows k d b p)))) in (
         λ no. absurd (cc),
-        λ found. absurd (not_some P table
+        λ found. absurd (none_from_all_within P table
             (first_listed P test (λ x p. all x (asks x p)) None (subst (λ ns. IsFirstAmong (RowHas P) ns None) same none)) found),
       )
 

@@ -1,6 +1,6 @@
-use Rattle.infer.specs.Row.{Accepts}
-use Rattle.infer.proofs.TableLemmas.{first_within}
+use Rattle.std.proofs.Common.{arith}
+use Rattle.infer.proofs.TableLemmas.{length-table}
 use Rattle.infer.proofs.position.Goals as goal
 
 pub returns-clause-bound : goal.returns-clause-bound
-returns-clause-bound c = first_within (Accepts c.args.buf.now) c.position.result c.position.ensures
+returns-clause-bound c = let first = c.position.ensures in grind (arith, length-table)
