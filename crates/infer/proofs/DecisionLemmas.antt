@@ -144,9 +144,7 @@ module _ (by_place : ByPlace) (b : List ℕ) where
   root = (le32 b 48 + 1) * 512
 
   pub root_fits : (id : List ℕ) → HasClassId id b → root + 128 ≤ length b
-  root_fits id (place, r, o) =
-      let whole = r.whole in
-      elim r.begins [ inl at ↦ let root_at = at.2 in omega arith | inr at ↦ let root_at = at.2 in omega arith ]
+  root_fits id (place, r, o) = let whole = r.whole in let begins = r.begins in grind arith
 
   abbrev known_class : (id : List ℕ) → Known (HasClassId id b)
   known_class id = do

@@ -1,5 +1,5 @@
 -- The laws of all matchers, from those of every signature.
-use Rattle.std.proofs.Common.{◌≡◌, ◌<◌, ℕ, List, length, get_or, refl, ◌⊎◌, inl, inr, sym, ◌∙◌, arith, IsTrue}
+use Rattle.std.proofs.Common.{◌≡◌, ◌<◌, ℕ, List, length, get_or, refl, ◌⊎◌, sym, ◌∙◌, arith, IsTrue}
 use Rattle.infer_sig.specs.Signature.{Alternative}
 use Rattle.infer_sig.specs.Laws as Fixed
 use Rattle.infer_deep.specs.Laws as Deep
@@ -7,7 +7,6 @@ use Rattle.infer.specs.BuiltIn.{BuiltIn, fixed, avif, doc, framed, heif, html, m
 use Rattle.infer.specs.Matchers.{signatures, is_of_the_twelve, Lasts, IsNear, OthersAreNear}
 use Rattle.infer.specs.Table.{signature_of, table}
 use Rattle.infer.proofs.KnownLemmas.{Known, proved, unknown, is, either, is_proved, proof_of, proved_if}
-use Rattle.infer.proofs.PlaceLemmas.{not_both}
 use Rattle.infer.proofs.TestLemmas.{NoneRefused, passed}
 use Rattle.infer.specs.declared.table.rows.TheConstants.{MATCHER_COUNT}
 
@@ -49,7 +48,5 @@ module _ (fixed_near : (n : ℕ) (s : List Alternative) → IsTrue (Fixed.is_wit
   pub others_near : OthersAreNear signatures
   others_near m lt out d =
       let below : m < MATCHER_COUNT = omega (arith, lt, length-signatures) in
-      elim (proof_of (is_decided d m) (passed (λ j. is_proved (is_decided d j)) MATCHER_COUNT 8 (all_decided d) (omega arith) m below)) [
-        | inl one ↦ absurd (not_both (is_of_the_twelve m) one out)
-        | inr near ↦ near
-      ]
+      let known = proof_of (is_decided d m) (passed (λ j. is_proved (is_decided d j)) MATCHER_COUNT 8 (all_decided d) (omega arith) m below) in
+      grind arith

@@ -1,5 +1,5 @@
 -- Each built-in row but two is first for its sample.
-use Rattle.std.proofs.Common.{◌≡◌, ◌≢◌, ◌<◌, ◌-◌, ◌⊎◌, ℕ, List, Some, ◌++◌, map, get_or, length, sym, ap, take, refl, subst, ◌∙◌, inl, inr, arith}
+use Rattle.std.proofs.Common.{◌≡◌, ◌≢◌, ◌<◌, ◌-◌, ◌⊎◌, ℕ, List, Some, ◌++◌, map, get_or, length, sym, ap, take, refl, subst, ◌∙◌, arith}
 use Rattle.std.specs.List.{HoldsAt}
 use Rattle.std.proofs.lemmas.List.{get_or-map, length-map, take_at}
 use Rattle.infer_deep.specs.Laws as Deep
@@ -30,11 +30,8 @@ module _ (by_place : ByPlace) (exclude : Deep.Apart) (d : Row BuiltIn) where
 
   pub sample_first : (i : ℕ) → i < ROW_COUNT → i ≢ DLL → i ≢ EPUB_ARCHIVE
       → IsFirst (Accepts (sample_of (get_or table i d).signature)) table i
-  sample_first i lt not_dll not_epub = elim (proof_of (reaches i) (passed (λ j. is_proved (reaches j)) ROW_COUNT 8 all_reach (omega arith) i lt)) [
-    | inl e ↦ absurd (not_dll e)
-    | inr (inl e) ↦ absurd (not_epub e)
-    | inr (inr first) ↦ first
-  ]
+  sample_first i lt not_dll not_epub =
+      let known = proof_of (reaches i) (passed (λ j. is_proved (reaches j)) ROW_COUNT 8 all_reach (omega arith) i lt) in grind arith
 
 -- ---- the samples of the code
 

@@ -1,7 +1,8 @@
 -- A test of the numbers below n, in sixteens, so that the check of one which fails shows the numbers that it refuses.
 use Rattle.std.proofs.Common.{◌≡◌, ◌+◌, ◌-◌, ◌*◌, ◌<◌, ◌≤◌, ℕ, suc, zero, Bool, ◌||◌, not, cond, leb, List, [], ◌∷◌, ◌∙◌, get_or, length, subst, inl, inr, arith, IsTrue}
 use Rattle.std.specs.List.{filter, range_with_len}
-use Rattle.std.proofs.lemmas.Bool.{cases_lt, leb-true, or_cases}
+use Rattle.std.proofs.lemmas.Bool.{cases_lt}
+use Rattle.std.proofs.lemmas.Bool.Decides.{nat_tests}
 use Rattle.std.proofs.lemmas.List.FromFn.{get_or-range_with_len, length-range_with_len}
 
 module _ (test : ℕ → Bool) (n : ℕ) where
@@ -36,7 +37,4 @@ module _ (test : ℕ → Bool) (n : ℕ) where
   ]
 
   pub passed : (k : ℕ) → NoneRefused test n 0 k → n ≤ 16 * k → (i : ℕ) → i < n → IsTrue (test i)
-  passed k none enough i lt = elim (or_cases (leb n i) (test i) (passed_from 0 k none i (omega arith) (omega arith))) [
-    | inl over ↦ absurd (let le = leb-true n i over in omega arith)
-    | inr held ↦ held
-  ]
+  passed k none enough i lt = grind (arith, nat_tests, passed_from 0 k none i)
