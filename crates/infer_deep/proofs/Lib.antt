@@ -8,3 +8,4 @@ pub mod BrandLemmas
 pub mod OfficeLemmas
 pub mod ClassIdLemmas
 pub mod TextLemmas
+pub mod AnyLemmas

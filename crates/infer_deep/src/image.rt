@@ -1,5 +1,6 @@
 //! Images in ISO media files.
-ghost use Rattle.std.specs.Prelude.{◌↔◌, ◌≤◌, length, IsTrue};
+ghost use Rattle.std.specs.Prelude.{◌↔◌, ◌+◌, ◌*◌, ◌<◌, ◌≤◌, length, IsTrue};
+ghost use Rattle.memchr.specs.Find.{OccursAt};
 ghost use Rattle.infer_deep.specs.Brands.{HasCompatible, IsAvif, IsBoxed, IsHeif};
 
 use crate::numbers::be32;
@@ -83,10 +84,9 @@ fn is_listed(buf: &[u8], brand: &[u8; 4]) -> bool
     ensures { IsTrue result ↔ HasCompatible brand.now buf.now }
 {
     let count = (be32(buf, 0) as usize / 4).saturating_sub(4);
-    for k in 0..count {
-        if stands_at(buf, brand, 16 + 4 * k) {
-            return true;
-        }
-    }
-    false
+    let is_brand = |k: usize| -> bool
+        requires { k < 1073741824 }
+        ensures { IsTrue result ↔ OccursAt buf.entry.now brand.entry.now (16 + 4 * k) }
+    { stands_at(buf, brand, 16 + 4 * k) };
+    (0..count).any(is_brand)
 }

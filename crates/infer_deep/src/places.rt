@@ -44,12 +44,12 @@ pub(crate) fn stands_in<const N: usize>(buf: &[u8], text: &[u8; N]) -> bool
     requires { 0 < N }
     ensures { IsTrue result ↔ ((p : ℕ) × OccursAt buf.now text.now p) }
 {
-    for place in 0..(buf.len() + 1).saturating_sub(N) {
-        if same_at(buf, text, place) {
-            return true;
-        }
-    }
-    false
+    let count = (buf.len() + 1).saturating_sub(N);
+    let is_place = |place: usize| -> bool
+        requires { place + N ≤ length buf.now }
+        ensures { IsTrue result ↔ OccursAt buf.entry.now text.entry.now place }
+    { same_at(buf, text, place) };
+    (0..count).any(is_place)
 }
 
 /// The least place from `start` on at which `text` stands and ends by `end`.
