@@ -57,9 +57,8 @@ int main(int argc, char **argv) {
         perror(argc == 2 ? argv[1] : "usage: types SOURCES");
         return 2;
     }
-    printf("# Types\n\n"
-           "There are %zu rows.\n\n", infer_row_count());
-    puts("This page is made by `c/types` from the library for C, in the order in which the rows are asked. Each row has its number, its extension, MIME type "
+    puts("# Types\n\n"
+         "This page is made by `c/types` from the library for C, in the order in which the rows are asked. Each row has its number, its extension, MIME type "
          "and class, a shortest buffer of which it is the answer, and the source of its signature. The number is that of the list, which counts from 0; it "
          "changes whenever a row is added before it. Extensions and MIME types stay.\n\n"
          "Samples are hexadecimal digits: `00*26` is 26 bytes of 00. The source is a document that states the signature. For a format that is kept in "
