@@ -1,13 +1,9 @@
 //! Rows by number.
-ghost use Rattle.std.specs.Prelude.{◌≡◌, ◌↔◌, ◌<◌, ◌≤◌, List, ℕ, Option, None, [], IfSome, IsTrue, length, option_map};
+ghost use Rattle.std.specs.Prelude.{◌≡◌, ◌↔◌, ◌<◌, List, ℕ, Option, None, [], IsTrue, length, option_map};
 ghost use Rattle.std.specs.Option.{option_map_or};
-ghost use Rattle.infer.specs.First.{IsFirstOf};
 ghost use Rattle.infer.specs.Row.{Accepts};
-ghost use Rattle.infer.specs.Table.{table};
 ghost use Rattle.infer.specs.Triple.{triple_of};
-ghost use Rattle.infer.specs.Walks.{RowHas, count_asked};
-ghost use Rattle.infer.specs.declared.ask.question.Wanted.TheVariants.{Every};
-ghost use Rattle.infer.specs.declared.table.rows.TheConstants.{MOST_CANDIDATES, ROW_COUNT};
+ghost use Rattle.infer.specs.Walks.{RowHas};
 ghost use Rattle.infer_c.specs.Codes.{IsSample, triple_at};
 ghost use Rattle.infer_c.specs.Written.{WritesWhole};
 
