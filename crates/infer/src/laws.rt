@@ -62,8 +62,8 @@ pub fn near()
     infer_deep::laws::near();
 }
 
-/// The row of dynamic libraries, [`DLL`], and the second row of EPUB, [`EPUB_ARCHIVE`], are first for no buffer: an earlier row has
-/// the same signature.
+/// The row of dynamic libraries, [`DLL`], and the second row of EPUB, [`EPUB_ARCHIVE`], are first for no buffer: an
+/// earlier row has the same signature.
 pub fn never()
     ensures { (buf : List ℕ) (i : ℕ) → IsFirst (Accepts buf) table i → (i ≢ DLL) × (i ≢ EPUB_ARCHIVE) }
 {}

@@ -39,8 +39,8 @@ fn write(pieces: &Pieces, out: &mut [u8; 640])
 
 /// Writes the sample of the built-in row `i` to the front of `out`, and zeros after it, and gives its length.
 ///
-/// Row `i` is the first that accepts the sample. Rows [`DLL`] and [`EPUB_ARCHIVE`] are first for no buffer: for these, and from [`ROW_COUNT`] on,
-/// the answer is `None`, and `out` stays as it was.
+/// Row `i` is the first that accepts the sample. Rows [`DLL`] and [`EPUB_ARCHIVE`] are first for no buffer: for these,
+/// and from [`ROW_COUNT`] on, the answer is `None`, and `out` stays as it was.
 pub fn sample(i: usize, out: &mut [u8; 640]) -> Option<usize>
     ensures none { IsNone result ↔ ((i ≡ DLL) ⊎ (i ≡ EPUB_ARCHIVE) ⊎ (ROW_COUNT ≤ i)) }
     ensures unchanged { IfNone result (out.new ≡ out.old) }

@@ -1,5 +1,5 @@
 //! Videos.
-ghost use Rattle.std.specs.Prelude.{◌↔◌, ◌≤◌, length, IsTrue};
+ghost use Rattle.std.specs.Prelude.{◌↔◌, ◌≤◌, IsTrue};
 ghost use Rattle.infer_deep.specs.Windows.{IsMatroska, IsMkv, IsWebm};
 
 use crate::places::{has_at, search};

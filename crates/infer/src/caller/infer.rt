@@ -53,8 +53,8 @@ impl<A: Allocator> Infer<A> {
     /// makes the list in `alloc`, which the list keeps. An error means that memory was refused.
     ///
     /// A function that hands the `Infer` out takes `m` from its own caller, with these two conditions, as `with_row` in
-    /// docs/LIBRARY.md. One that adds a function by its name may use the `Infer` and hand out answers, but not the `Infer`, nor
-    /// add to its caller's: the gate refuses it (`hides NAME`).
+    /// docs/LIBRARY.md. One that adds a function by its name may use the `Infer` and hand out answers, but not the
+    /// `Infer`, nor add to its caller's: the gate refuses it (`hides NAME`).
     pub fn add(
         &mut self,
         alloc: A,
