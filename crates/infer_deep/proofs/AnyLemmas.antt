@@ -1,5 +1,7 @@
--- What `any` answers of numbers.
-use Rattle.std.proofs.Common.{◌≡◌, ◌↔◌, ◌<◌, Bool, true, false, IsTrue, MatchBool, ℕ, length, get_or, refl, sym, subst, ◌∙◌, arith}
+-- What `any` answers of numbers, and of a list that is mapped.
+use Rattle.std.proofs.Common.{List, map, ap, ◌≡◌, ◌↔◌, ◌<◌, Bool, true, false, IsTrue, MatchBool, ℕ, length, get_or, refl, sym, subst, ◌∙◌, arith}
+use Rattle.std.proofs.lemmas.List.{get_or-map, get_or_default, length-map}
+use Rattle.std.specs.Prelude.{Any}
 use Rattle.std.specs.List.{AllWithin, HoldsAt, range_with_len}
 use Rattle.std.proofs.lemmas.List.FromFn.{get_or-range_with_len, length-range_with_len}
 
@@ -17,4 +19,13 @@ any_below P n true (k, lt, at) =
 any_below P n false none = (
   λ e. absurd (cc),
   λ (k, lt, h). absurd (none k 0 (omega arith) (omega (arith, lt, length-range_with_len 0 n)) (subst P (sym (nth_below n k lt)) h)),
+)
+
+-- some element of a list mapped is some element of the list
+pub Any-map : {X : Type 0} (f : X → List ℕ) (P : List ℕ → Type 0) (xs : List X) → X → Any (λ x. P (f x)) xs ↔ Any P (map f xs)
+Any-map f P xs d = (
+  λ (k, x, l, e, p). (k, f x, omega (arith, length-map xs f), get_or-map f xs k x (f x) l ∙ ap f e, p),
+  λ (k, y, l, e, p).
+      let in_xs : k < length xs = omega (arith, length-map xs f) in
+      (k, get_or xs k d, in_xs, get_or_default xs k _ d in_xs, subst P (sym e ∙ get_or-map f xs k d y in_xs) p),
 )

@@ -1,19 +1,24 @@
 -- Brands of a boxed file: they last, and only to an open box do more bytes bring them.
-use Rattle.std.proofs.Common.{◌≡◌, false, ℕ, ◌+◌, ◌-◌, ◌*◌, ◌/◌, ◌<◌, ◌≤◌, List, ◌++◌, Option, Some, None, length, sym, subst, inl, inr, arith, codes, length-append}
-use Rattle.std.proofs.lemmas.Bool.{cases_lt, false≢true}
+use Rattle.std.proofs.Common.{◌≡◌, ◌⊎◌, Bool, true, false, not, ℕ, ◌+◌, ◌-◌, ◌*◌, ◌/◌, ◌<◌, ◌≤◌, max, List, [], ◌∷◌, ◌++◌, Option, Some, None, length, refl, ap, sym, subst, ◌∙◌, inl, inr, arith, codes, length-append, append_assoc, IsTrue}
+use Rattle.std.proofs.lemmas.List.Elements.{All-append}
+use Rattle.std.proofs.lemmas.Bool.{cases_lt}
+use Rattle.std.specs.Bool.{OnTrue}
 use Rattle.std.specs.Option.{is_some}
 use Rattle.infer_deep.specs.Places.{IsFirstWithin}
-use Rattle.infer_deep.specs.Signatures.{Lasts, ComesWith, IsEarly}
+use Rattle.infer_deep.specs.Open.{are_bytes, AgreesAt}
+use Rattle.infer_deep.specs.Signatures.{Lasts, ComesWith, IsEarly, Reachable}
+use Rattle.infer_deep.proofs.OpenLemmas.{IsBytes, Part, LieApart, AllAgree, AllStand, AllStand-append, agrees_none, agrees_past, agrees_where_stands, fills_parts, fills_text, grown_agrees, stands_where_whole}
 use Rattle.infer_deep.proofs.PlaceLemmas.{Carries, OccursAt-append, OccursAt-front}
 use Rattle.infer_deep.proofs.NumberLemmas.{be32-append}
-use Rattle.infer_deep.specs.Brands.{box_length, IsBoxed, IsOpenBox, HasMajor, HasCompatible, IsHeif, IsAvif}
+use Rattle.infer_deep.specs.Brands.{box_length, IsBoxed, IsOpenBox, HasMajor, HasCompatible, MayHaveCompatible, IsHeif, IsAvif}
 
 -- a brand that is not found in the box is not compatible
-pub not_compatible : (b brand : List ℕ) (end : ℕ) (r : Option ℕ) → length brand ≡ 4 → end ≡ box_length b
-    → IsFirstWithin b brand 16 end r → is_some r ≡ false → ¬ HasCompatible brand b
-not_compatible b brand end None n e none is (k, l, o) =
-    none (16 + 4 * k) (record { stands = o; low = omega arith; high = omega arith })
-not_compatible b brand end (Some p) n e first is h = false≢true (sym is)
+pub not_compatible : (b brand : List ℕ) (end : ℕ) (r : Option ℕ) (lacks : Bool) → length brand ≡ 4 → end ≡ box_length b
+    → IsFirstWithin b brand 16 end r → is_some r ≡ not lacks → OnTrue lacks (¬ HasCompatible brand b)
+not_compatible b brand end r false n e first is = tt
+not_compatible b brand end None true n e none is =
+    λ (k, l, o). none (16 + 4 * k) (record { stands = o; low = omega arith; high = omega arith })
+not_compatible b brand end (Some p) true n e first is = absurd (cc)
 
 pub IsOpenBox-early : IsEarly IsOpenBox
 IsOpenBox-early b more long o =
@@ -61,3 +66,144 @@ module _ (S : List ℕ → Type 0) (boxed : (b : List ℕ) → S b → IsBoxed b
         | inr l ↦ inl (carried (b ++ more) b (length b) (OccursAt-front b more) size (omega arith) l
             (record { long = omega arith; kind = kind; whole = l }) x)
       ]
+
+-- ---- what more bytes can bring
+abbrev ftyp : List ℕ
+ftyp = codes "ftyp"
+
+-- bytes with which b is boxed and has the parts, and states the length that it stated if it did
+record Boxing (xs : List Part) (b : List ℕ) : Type 0 where
+  pub more : List ℕ
+  pub bytes : IsBytes more
+  pub box : IsBoxed (b ++ more)
+  pub stand : AllStand xs (b ++ more)
+  pub same : 4 ≤ length b → box_length (b ++ more) ≡ box_length b
+
+boxing : (b : List ℕ) (xs : List Part) (end : ℕ) → AgreesAt b ftyp 4 → LieApart 8 xs end → AllAgree xs b → Boxing xs b
+boxing b xs end kind apart agree =
+    let f = fills_parts (record { place = 4; text = ftyp } ∷ xs) b 0 end (omega arith, refl, apart) (kind, agree) in
+    let c = b ++ f.more in
+    let n = max 16 (box_length c) in
+    let g = fills_text c [] n refl (agrees_none c n) in
+    let joined = append_assoc b f.more g.more in
+    let size = be32-append c g.more 0 in
+    let long : 4 ≤ length c = omega (arith, f.holds.0.fits) in
+    record {
+      more = f.more ++ g.more;
+      bytes = All-append (λ x. x < 256) f.more g.more f.bytes g.bytes;
+      box = subst IsBoxed joined (record {
+        long = omega (arith, g.long);
+        kind = OccursAt-append c g.more ftyp 4 f.holds.0;
+        whole = omega (arith, g.long, size);
+      });
+      stand = subst (AllStand xs) joined (AllStand-append xs c g.more f.holds.1);
+      same = λ l. ap box_length (sym joined) ∙ size long ∙ be32-append b f.more 0 l;
+    }
+
+module _ (S : List ℕ → Type 0) (b : List ℕ) (kind : AgreesAt b ftyp 4) where
+  by_major : (brand : List ℕ) → IsTrue (are_bytes brand) → AgreesAt b brand 8 → ((c : List ℕ) → IsBoxed c → HasMajor brand c → S c) → Reachable S b
+  by_major brand bytes a is =
+      let x = boxing b (record { place = 8; text = brand } ∷ []) (8 + length brand) kind (omega arith, bytes, omega arith) (a, tt) in
+      (x.more, x.bytes, is (b ++ x.more) x.box x.stand.0)
+
+  by_compatible : (major brand : List ℕ) → IsTrue (are_bytes major) → length major ≤ 8 → AgreesAt b major 8 → IsTrue (are_bytes brand) → 4 ≤ length b
+      → MayHaveCompatible brand b → ((c : List ℕ) → IsBoxed c → HasMajor major c → HasCompatible brand c → S c) → Reachable S b
+  by_compatible major brand major_bytes short m bytes long (k, l, a) is =
+      let x = boxing b (record { place = 8; text = major } ∷ record { place = 16 + 4 * k; text = brand } ∷ []) (16 + 4 * k + length brand) kind
+      (omega arith, major_bytes, (omega arith, bytes, omega arith)) (m, (a, tt)) in
+      (x.more, x.bytes, is (b ++ x.more) x.box x.stand.0 (k, subst (λ s. k < s / 4 - 4) (sym (x.same long)) l, x.stand.1.0))
+
+-- a brand that is compatible after more bytes may be one
+compatible_known : (b more brand : List ℕ) → 4 ≤ length b → HasCompatible brand (b ++ more) → MayHaveCompatible brand b
+compatible_known b more brand long (k, l, o) =
+    (k, subst (λ s. k < s / 4 - 4) (be32-append b more 0 long) l, grown_agrees b more brand (16 + 4 * k) o)
+
+-- a buffer that may be HEIF or AVIF, by what agrees; below four bytes everything does
+abbrev pub MayBeHeif : List ℕ → Type 0
+MayBeHeif b =
+    AgreesAt b (codes "heic") 8 ⊎ AgreesAt b (codes "heix") 8
+    ⊎ ((AgreesAt b (codes "mif1") 8 ⊎ AgreesAt b (codes "msf1") 8) × MayHaveCompatible (codes "heic") b)
+
+pub heif_reached : (b : List ℕ) → AgreesAt b ftyp 4 → MayBeHeif b → Reachable IsHeif b
+heif_reached b kind (inl a) = by_major IsHeif b kind (codes "heic") refl a (λ c box m. (box, inl m))
+heif_reached b kind (inr (inl a)) = by_major IsHeif b kind (codes "heix") refl a (λ c box m. (box, inr (inl m)))
+heif_reached b kind (inr (inr (major, compatible))) =
+    elim (cases_lt (length b) 4) [
+      | inl l ↦ by_major IsHeif b kind (codes "heic") refl (agrees_past b (codes "heic") 8 (omega arith)) (λ c box m. (box, inl m))
+      | inr long ↦ elim major [
+        | inl m ↦ by_compatible IsHeif b kind (codes "mif1") (codes "heic") refl (omega arith) m refl long compatible
+            (λ c box h k. (box, inr (inr (inl h, k))))
+        | inr m ↦ by_compatible IsHeif b kind (codes "msf1") (codes "heic") refl (omega arith) m refl long compatible
+            (λ c box h k. (box, inr (inr (inr h, k))))
+      ]
+    ]
+
+pub heif_known : (b : List ℕ) → Reachable IsHeif b → AgreesAt b ftyp 4 × MayBeHeif b
+heif_known b (more, bytes, (box, h)) = (
+  grown_agrees b more ftyp 4 box.kind,
+  grind (
+    arith,
+    agrees_past b (codes "heic") 8,
+    grown_agrees b more (codes "heic") 8,
+    grown_agrees b more (codes "heix") 8,
+    grown_agrees b more (codes "mif1") 8,
+    grown_agrees b more (codes "msf1") 8,
+    compatible_known b more (codes "heic"),
+  ),
+)
+
+abbrev pub MayBeAvif : List ℕ → Type 0
+MayBeAvif b =
+    AgreesAt b (codes "avif") 8 ⊎ AgreesAt b (codes "avis") 8
+    ⊎ MayHaveCompatible (codes "avif") b ⊎ MayHaveCompatible (codes "avis") b
+
+pub avif_reached : (b : List ℕ) → AgreesAt b ftyp 4 → MayBeAvif b → Reachable IsAvif b
+avif_reached b kind h =
+    elim (cases_lt (length b) 4) [
+      | inl l ↦ by_major IsAvif b kind (codes "avif") refl (agrees_past b (codes "avif") 8 (omega arith)) (λ c box m. (box, inl m))
+      | inr long ↦ elim h [
+        | inl a ↦ by_major IsAvif b kind (codes "avif") refl a (λ c box m. (box, inl m))
+        | inr (inl a) ↦ by_major IsAvif b kind (codes "avis") refl a (λ c box m. (box, inr (inl m)))
+        | inr (inr (inl k)) ↦ by_compatible IsAvif b kind [] (codes "avif") refl (omega arith) (agrees_none b 8) refl long k
+            (λ c box m h. (box, inr (inr (inl h))))
+        | inr (inr (inr k)) ↦ by_compatible IsAvif b kind [] (codes "avis") refl (omega arith) (agrees_none b 8) refl long k
+            (λ c box m h. (box, inr (inr (inr h))))
+      ]
+    ]
+
+pub avif_known : (b : List ℕ) → Reachable IsAvif b → AgreesAt b ftyp 4 × MayBeAvif b
+avif_known b (more, bytes, (box, h)) = (
+  grown_agrees b more ftyp 4 box.kind,
+  elim (cases_lt (length b) 4) [
+    | inl l ↦ inl (agrees_past b (codes "avif") 8 (omega arith))
+    | inr long ↦ elim h [
+      | inl m ↦ inl (grown_agrees b more _ 8 m)
+      | inr (inl m) ↦ inr (inl (grown_agrees b more _ 8 m))
+      | inr (inr (inl k)) ↦ inr (inr (inl (compatible_known b more _ long k)))
+      | inr (inr (inr k)) ↦ inr (inr (inr (compatible_known b more _ long k)))
+    ]
+  ],
+)
+
+-- of the fours only the last may be cut
+pub may_have_compatible_last : (b brand : List ℕ) → 0 < box_length b / 4 - 4
+    → AgreesAt b brand (12 + 4 * (box_length b / 4 - 4)) → MayHaveCompatible brand b
+may_have_compatible_last b brand some a =
+    let last : 12 + 4 * (box_length b / 4 - 4) ≡ 16 + 4 * (box_length b / 4 - 4 - 1) = omega arith in
+    (box_length b / 4 - 4 - 1, omega arith, subst (AgreesAt b brand) last a)
+
+pub has_compatible_may : (b brand : List ℕ) → HasCompatible brand b → MayHaveCompatible brand b
+has_compatible_may b brand (k, l, o) = (k, l, agrees_where_stands b brand (16 + 4 * k) o)
+
+pub last_or_whole : (b brand : List ℕ) → length brand ≡ 4 → MayHaveCompatible brand b
+    → AgreesAt b brand (12 + 4 * (box_length b / 4 - 4)) ⊎ HasCompatible brand b
+last_or_whole b brand four (k, l, a) =
+    elim (cases_lt (k + 1) (box_length b / 4 - 4)) [
+      | inr at ↦
+          let last : 16 + 4 * k ≡ 12 + 4 * (box_length b / 4 - 4) = omega arith in
+          inl (subst (AgreesAt b brand) last a)
+      | inl before ↦ elim (cases_lt (length b) (16 + 4 * k + 4)) [
+        | inl cut ↦ inl (agrees_past b brand (12 + 4 * (box_length b / 4 - 4)) (omega arith))
+        | inr whole ↦ inr (k, l, stands_where_whole b brand (16 + 4 * k) (omega arith) a)
+      ]
+    ]

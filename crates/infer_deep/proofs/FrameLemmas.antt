@@ -1,13 +1,17 @@
 -- Skippable frames: where one stands at the front, and what is data after them.
-use Rattle.std.proofs.Common.{◌≡◌, ◌↔◌, ℕ, ◌+◌, ◌-◌, ◌<◌, ◌≤◌, ◌⊎◌, inl, inr, List, [], ◌∷◌, ◌++◌, length, get_or, take, drop, refl, sym, ap, subst, ◌∙◌, arith, length-append}
+use Rattle.std.proofs.Common.{◌≡◌, ◌↔◌, ℕ, zero, suc, ◌+◌, ◌-◌, ◌<◌, ◌≤◌, ◌⊎◌, inl, inr, List, [], ◌∷◌, ◌++◌, length, get_or, take, drop, refl, sym, ap, subst, ◌∙◌, arith, length-append, IsTrue}
 use Rattle.std.proofs.lemmas.List.{take_at, take_rest, take-append-drop, length-take-le, get_or_append_left}
 use Rattle.infer_deep.specs.Laws.{BeginApart}
 use Rattle.infer_deep.specs.Numbers.{le32}
-use Rattle.infer_deep.specs.Signatures.{Lasts, ComesWith, AreApart, IsEarly}
+use Rattle.std.proofs.lemmas.Bool.{cases_lt}
+use Rattle.infer_deep.specs.Open.{are_bytes, AgreesAt}
+use Rattle.infer_deep.specs.Signatures.{Lasts, ComesWith, AreApart, IsEarly, Reachable}
+use Rattle.infer_deep.proofs.OpenLemmas.{Reachable-grown, agrees_none, agrees_past, agrees_where_stands, fills_parts, fills_text, grown_agrees, reaches_text}
+use Rattle.std.proofs.lemmas.Bool.Decides.{nat_tests}
 use Rattle.infer_deep.specs.Joined.{Behind, SkipsTo, NoneBegins, BeginsWith}
-use Rattle.infer_deep.proofs.PlaceLemmas.{OccursAt-append, OccursAt-agree, OccursAt-first, OccursAt-front, OccursAt-begins, begins-from_OccursAt}
+use Rattle.infer_deep.proofs.PlaceLemmas.{byte_stands, OccursAt-append, OccursAt-agree, OccursAt-first, OccursAt-front, OccursAt-begins, begins-from_OccursAt}
 use Rattle.infer_deep.proofs.NumberLemmas.{le32-append}
-use Rattle.infer_deep.proofs.JoinedLemmas.{IsPrefixFree, Stops, WordsBegin, NoneBegins-first, Behind-lead, Behind-lasts, Behind-comes, Behind-left, Behind-trimmed, Behind-apart}
+use Rattle.infer_deep.proofs.JoinedLemmas.{IsPrefixFree, Stops, WordsBegin, NoneBegins-first, Behind-lead, Behind-lasts, Behind-comes, Behind-left, Behind-trimmed, Behind-apart, Behind-open}
 use Rattle.infer_deep.specs.Frames.{BeginsFrame, IsFrame, IsFramed}
 use Rattle.memchr.specs.Find.{OccursAt}
 
@@ -17,6 +21,32 @@ front_begins b more l f = grind (arith, OccursAt-front b more (0x2A ∷ 0x4D ∷
 
 pub BeginsFrame-early : IsEarly BeginsFrame
 BeginsFrame-early b more long f = front_begins b more (omega arith) f
+
+-- what begins as a frame does so by the number in its first four bytes
+module _ (b : List ℕ) (long : 4 ≤ length b) where
+  mark_number : OccursAt b (0x2A ∷ 0x4D ∷ 0x18 ∷ []) 1 ↔ ((get_or b 1 0 ≡ 0x2A) × (get_or b 2 0 ≡ 0x4D) × (get_or b 3 0 ≡ 0x18))
+  mark_number = (
+    λ o. (o.reads 0 (omega arith), o.reads 1 (omega arith), o.reads 2 (omega arith)),
+    λ (x, y, z). record { fits = omega arith; reads = three x y z },
+  )
+    where
+      three : get_or b 1 0 ≡ 0x2A → get_or b 2 0 ≡ 0x4D → get_or b 3 0 ≡ 0x18
+          → (k : ℕ) → k < 3 → get_or b (1 + k) 0 ≡ get_or (0x2A ∷ 0x4D ∷ 0x18 ∷ []) k 0
+      three x y z zero l = x
+      three x y z (suc zero) l = y
+      three x y z (suc (suc zero)) l = z
+      three x y z (suc (suc (suc k))) l = absurd (omega (arith, l))
+
+  pub BeginsFrame-number : ((i : ℕ) → get_or b i 0 < 256) → BeginsFrame b ↔ ((0x184D2A50 ≤ le32 b 0) × (le32 b 0 ≤ 0x184D2A5F))
+  unfolding le32
+  BeginsFrame-number bytes = (
+    λ f. let m = mark_number.0 f.mark in (omega (arith, f.low, m.0, m.1, m.2), omega (arith, f.high, m.0, m.1, m.2)),
+    λ (low, high). record {
+      low = omega (arith, bytes, low, high);
+      high = omega (arith, bytes, low, high);
+      mark = mark_number.1 (omega (arith, bytes, low, high), omega (arith, bytes, low, high), omega (arith, bytes, low, high));
+    },
+  )
 
 -- what a buffer says of the frame that begins it
 module _ (b word rest : List ℕ) (f : IsFrame word) (e : b ≡ word ++ rest) where
@@ -99,9 +129,72 @@ module _ (magic : List ℕ) (some : 0 < length magic) (low : get_or magic 0 0 < 
   pub IsFramed-trimmed : (b left : List ℕ) → SkipsTo IsFrame b left → NoneBegins IsFrame left → IsFramed magic left ↔ IsFramed magic b
   IsFramed-trimmed = Behind-trimmed IsFrame (Stands magic) (IsFramed magic) (Stands-framed magic) IsFrame-prefix_free stands_stops
 
+  pub is_framed_open : IsTrue (are_bytes magic) → (b left : List ℕ) → SkipsTo IsFrame b left → NoneBegins IsFrame left
+      → (AgreesAt left magic 0 ⊎ Reachable IsFrame left) ↔ Reachable (IsFramed magic) b
+  is_framed_open bytes b left skips none =
+      let reached = Behind-open IsFrame (Stands magic) (IsFramed magic) (Stands-framed magic) IsFrame-prefix_free stands_stops
+      ((reaches_text [] magic 0 bytes).0 (record { reads = λ k l m. absurd (omega arith) })) b left skips none in
+      let text = reaches_text left magic 0 bytes in (
+        λ h. reached.0 (elim h [ inl a ↦ inl (text.0 a) | inr f ↦ inr f ]),
+        λ h. elim (reached.1 h) [ inl t ↦ inl (text.1 t) | inr f ↦ inr f ],
+      )
+
 -- two that differ in the first byte exclude each other
 pub IsFramed-apart : (v w : List ℕ)
     → BeginApart v w → get_or v 0 0 < 0x50 → get_or w 0 0 < 0x50 → AreApart (IsFramed v) (IsFramed w)
 IsFramed-apart v w (some_v, some_w, differ) low_v low_w b f =
     Behind-apart IsFrame (Stands w) (IsFramed w) (Stands-framed w) IsFrame-prefix_free (stands_stops w some_w low_w) (Stands v) (stands_stops v some_v low_v)
     (λ u o k. differ (OccursAt-agree u v w 0 0 o k some_v some_w)) b ((Stands-framed v b).1 f)
+
+-- what more bytes can make a frame agrees with its magic number
+abbrev mark : List ℕ
+mark = 0x2A ∷ 0x4D ∷ 0x18 ∷ []
+
+pub frame_first : (b : List ℕ) → Reachable IsFrame b → 0 < length b → IsFrameByte (get_or b 0 0)
+frame_first b (more, bytes, f) some = let first = get_or_append_left b more 0 0 some in grind (arith, f.begins)
+
+pub frame_mark : (b : List ℕ) → Reachable IsFrame b → AgreesAt b mark 1
+frame_mark b (more, bytes, f) = grown_agrees b more mark 1 f.begins.mark
+
+-- and what agrees with it, and begins with no whole frame, more bytes can make one
+record FirstByte (b : List ℕ) : Type 0 where
+  pub byte : ℕ
+  pub is : IsFrameByte byte
+  pub agrees : AgreesAt b (byte ∷ []) 0
+
+first_byte : (b : List ℕ) → (0 < length b → IsFrameByte (get_or b 0 0)) → FirstByte b
+first_byte [] h = record { byte = 0x50; is = (omega arith, omega arith); agrees = agrees_past [] (0x50 ∷ []) 0 (omega arith) }
+first_byte (x ∷ b) h = record {
+  byte = x;
+  is = h (omega arith);
+  agrees = agrees_where_stands (x ∷ b) (x ∷ []) 0 (byte_stands (x ∷ b) x 0 (omega arith) refl);
+}
+
+within_frame : (b : List ℕ) → NoneBegins IsFrame b → BeginsFrame b → length b ≤ 8 + le32 b 4
+within_frame b none begins =
+    elim (cases_lt (length b) (8 + le32 b 4)) [
+      | inl l ↦ omega arith
+      | inr l ↦ let w = frame_begins b (8 + le32 b 4) refl begins l in absurd (none w.word _ w.kind w.whole)
+    ]
+
+pub frame_reached : (b : List ℕ) → NoneBegins IsFrame b → (0 < length b → IsFrameByte (get_or b 0 0)) → AgreesAt b mark 1 → Reachable IsFrame b
+frame_reached b none first agrees =
+    let x = first_byte b first in
+    let f = fills_parts (record { place = 0; text = x.byte ∷ [] } ∷ record { place = 1; text = mark } ∷ []) b 0 8
+    (omega arith, grind (arith, nat_tests), (omega arith, refl, omega arith)) (x.agrees, (agrees, tt)) in
+    let c = b ++ f.more in
+    let head = OccursAt-first c (x.byte ∷ []) 0 (omega arith) f.holds.0 in
+    let begins : BeginsFrame c = record { low = omega arith; high = omega arith; mark = f.holds.1.0 } in
+    let within : length c ≤ 8 + le32 c 4 = elim (cases_lt (length b) 8) [
+      | inl l ↦ omega (arith, f.short)
+      | inr l ↦ omega (arith, f.short, le32-append b f.more 4, within_frame b none (front_begins b f.more (omega arith) begins))
+    ] in
+    let g = fills_text c [] (8 + le32 c 4) refl (agrees_none c (8 + le32 c 4)) in
+    Reachable-grown IsFrame b f.more f.bytes (
+      g.more,
+      g.bytes,
+      record {
+        begins = grind (arith, OccursAt-append c g.more mark 1, get_or_append_left c g.more 0 0);
+        sized = omega (arith, g.short, g.long, le32-append c g.more 4);
+      },
+    )

@@ -1,10 +1,16 @@
 -- Words joined: what is left after them is one, however it is found, and what holds of a buffer after them.
-use Rattle.std.proofs.Common.{◌≡◌, ◌↔◌, ℕ, ◌<◌, ◌≤◌, ◌⊎◌, inl, inr, List, [], ◌∷◌, ◌++◌, length, get_or, refl, sym, ap, subst, ◌∙◌}
-use Rattle.std.proofs.lemmas.List.{append_assoc, append_cancel_left}
+use Rattle.std.proofs.Common.{◌≡◌, ◌↔◌, ℕ, zero, suc, ◌-◌, ◌<◌, ◌≤◌, ◌⊎◌, inl, inr, List, [], ◌∷◌, ◌++◌, length, get_or, take, drop, refl, sym, ap, subst, ◌∙◌, ◌+◌, arith}
+use Rattle.std.proofs.lemmas.List.{append_assoc, append_cancel_left, take-append-drop, take-append-le, take_at}
+use Rattle.std.proofs.Math.Seq.{take-append-add}
+use Rattle.std.proofs.lemmas.Bool.{cases_lt}
+use Rattle.std.proofs.lemmas.List.Elements.{All-append, All-take}
 use Rattle.std.proofs.lemmas.List.Prefix.{front_reads}
-use Rattle.std.specs.List.{AllByRecursion, concat}
+use Rattle.std.specs.List.{AllByRecursion, concat, repeat}
+use Rattle.memchr.specs.Find.{OccursAt}
 use Rattle.infer_deep.specs.Joined.{SkipsTo, NoneBegins, BeginsWith, LeadsTo, Behind}
-use Rattle.infer_deep.specs.Signatures.{Lasts, ComesWith, AreApart}
+use Rattle.infer_deep.specs.Signatures.{Lasts, ComesWith, AreApart, Reachable}
+use Rattle.infer_deep.proofs.PlaceLemmas.{begins-from_OccursAt}
+use Rattle.infer_deep.proofs.OpenLemmas.{IsBytes}
 
 -- a word of the kind P begins another only if they are the same
 abbrev pub IsPrefixFree : (List ℕ → Type 0) → Type 0
@@ -41,16 +47,62 @@ module _ (P : List ℕ → Type 0) where
   pub leads_past : (b c d : List ℕ) → LeadsTo P b c → BeginsWith P c d → LeadsTo P b d
   leads_past b c d leads h = λ rest s. leads rest (SkipsTo-cons c d rest h s)
 
-  same_rests : IsPrefixFree P → (vs ws : List (List ℕ)) (x y : List ℕ) → AllByRecursion P vs → AllByRecursion P ws
-      → NoneBegins P x → NoneBegins P y → concat vs ++ x ≡ concat ws ++ y → x ≡ y
-  same_rests free [] [] x y a b n m e = e
-  same_rests free [] (w ∷ ws) x y a b n m e = absurd (n w _ b.0 (e ∙ append_assoc w (concat ws) y))
-  same_rests free (v ∷ vs) [] x y a b n m e = absurd (m v _ a.0 (sym e ∙ append_assoc v (concat vs) x))
-  same_rests free (v ∷ vs) (w ∷ ws) x y a b n m e =
+  -- one word n times is words to skip
+  LeadsTo-repeat : (n : ℕ) (word rest : List ℕ) → P word → LeadsTo P (repeat n word ++ rest) rest
+  LeadsTo-repeat zero word rest is more s = s
+  LeadsTo-repeat (suc n) word rest is more s =
+      SkipsTo-cons _ (repeat n word ++ rest) more
+      (record { word = word; kind = is; whole = append_assoc word (repeat n word) rest }) (LeadsTo-repeat n word rest is more s)
+
+  pub leads_past_repeat : (b c word : List ℕ) (n : ℕ) → LeadsTo P b c → P word
+      → OccursAt c (repeat n word) 0 → LeadsTo P b (take (length c - length (repeat n word)) (drop (length (repeat n word)) c))
+  leads_past_repeat b c word n leads is o more s =
+      leads more (subst (λ u. SkipsTo P u more) (sym (begins-from_OccursAt c _ o)) (LeadsTo-repeat n word _ is more s))
+
+  -- words after words
+  SkipsTo-join : (words : List (List ℕ)) (b x y : List ℕ) → AllByRecursion P words → b ≡ concat words ++ x → SkipsTo P x y → SkipsTo P b y
+  SkipsTo-join [] b x y all e s = subst (λ u. SkipsTo P u y) (sym e) s
+  SkipsTo-join (word ∷ words) b x y all e s =
+      SkipsTo-cons b (concat words ++ x) y (record { word = word; kind = all.0; whole = e ∙ append_assoc word (concat words) x })
+      (SkipsTo-join words (concat words ++ x) x y all.1 refl s)
+
+  -- in a buffer that grows
+  SkipsTo-append : (b rest more : List ℕ) → SkipsTo P b rest → SkipsTo P (b ++ more) (rest ++ more)
+  SkipsTo-append b rest more s =
+      record { words = s.words; each = s.each; whole = ap (λ u. u ++ more) s.whole ∙ append_assoc (concat s.words) rest more }
+
+  -- the way to a rest at which the words end leads over each other rest
+  through : IsPrefixFree P → (vs ws : List (List ℕ)) (x y : List ℕ) → AllByRecursion P vs → AllByRecursion P ws
+      → NoneBegins P y → concat vs ++ x ≡ concat ws ++ y → SkipsTo P x y
+  through free [] ws x y a b n e = record { words = ws; each = b; whole = e }
+  through free (v ∷ vs) [] x y a b n e = absurd (n v _ a.0 (sym e ∙ append_assoc v (concat vs) x))
+  through free (v ∷ vs) (w ∷ ws) x y a b n e =
       let joined : v ++ (concat vs ++ x) ≡ w ++ (concat ws ++ y)
       = sym (append_assoc v (concat vs) x) ∙ e ∙ append_assoc w (concat ws) y in
       let same = free v w _ _ a.0 b.0 joined in
-      same_rests free vs ws x y a.1 b.1 n m (append_cancel_left v _ _ (joined ∙ ap (λ u. u ++ (concat ws ++ y)) (sym same)))
+      through free vs ws x y a.1 b.1 n (append_cancel_left v _ _ (joined ∙ ap (λ u. u ++ (concat ws ++ y)) (sym same)))
+
+  same_rests : IsPrefixFree P → (b x y : List ℕ) → SkipsTo P b x → NoneBegins P x → SkipsTo P b y → NoneBegins P y → x ≡ y
+  same_rests free b x y s n t m =
+      let u = through free s.words t.words x y s.each t.each m (sym s.whole ∙ t.whole) in
+      elim (SkipsTo-begin x y u.words u.each u.whole) [ inl e ↦ e | inr (r, w) ↦ absurd (n w.word r w.kind w.whole) ]
+
+  -- a word that a buffer begins once it grows, and not before, is one that it can become
+  word_reached : (b more rest : List ℕ) → NoneBegins P b → IsBytes more → BeginsWith P (b ++ more) rest → Reachable P b
+  word_reached b more rest none bytes w =
+      let n = length w.word in
+      elim (cases_lt n (length b)) [
+        | inl l ↦
+            let front : take n b ≡ w.word
+            = sym (take-append-le n b more (omega arith)) ∙ ap (take n) w.whole ∙ take_at w.word rest n refl in
+            absurd (none w.word (drop n b) w.kind (sym (take-append-drop n b) ∙ ap (λ u. u ++ drop n b) front))
+        | inr l ↦
+            let long : n ≡ length b + (n - length b) = omega arith in
+            let split : w.word ≡ b ++ take (n - length b) more
+            = sym (take_at w.word rest n refl) ∙ ap (take n) (sym w.whole) ∙ ap (λ k. take k (b ++ more)) long
+            ∙ take-append-add b more (n - length b) in
+            (take (n - length b) more, All-take (λ x. x < 256) (n - length b) more bytes, subst P split w.kind)
+      ]
 
 module _ (P : List ℕ → Type 0) (Q : ℕ → Type 0) (begin : WordsBegin P Q) where
   pub begun-first : (b rest : List ℕ) → BeginsWith P b rest → Q (get_or b 0 0)
@@ -75,11 +127,7 @@ module _ (P S T : List ℕ → Type 0) (is : (b : List ℕ) → Behind P S b ↔
   pub Behind-lasts : Lasts S → Lasts T
   Behind-lasts lasts b more t =
       let (rest, s, h) = (is b).1 t in
-      (is (b ++ more)).0 (
-        rest ++ more,
-        record { words = s.words; each = s.each; whole = ap (λ u. u ++ more) s.whole ∙ append_assoc (concat s.words) rest more },
-        lasts rest more h,
-      )
+      (is (b ++ more)).0 (rest ++ more, SkipsTo-append P b rest more s, lasts rest more h)
 
   -- what more bytes bring, a word in front brings or what brings S
   pub Behind-comes : (U : List ℕ → Type 0) → ((b more rest : List ℕ) → 1024 ≤ length b → BeginsWith P (b ++ more) rest → U b)
@@ -91,14 +139,14 @@ module _ (P S T : List ℕ → Type 0) (is : (b : List ℕ) → Behind P S b ↔
         | inr (x, w) ↦ inr (begun b more x long w)
       ]
 
-  -- what is left after the words is S just where the buffer is T
+  -- what is left after the words is S exactly if the buffer is T
   module _ (free : IsPrefixFree P) (stops : Stops S P) where
     pub Behind-left : (b left : List ℕ) → SkipsTo P b left → NoneBegins P left → S left ↔ T b
     Behind-left b left skips none = (
       λ h. (is b).0 (left, skips, h),
       λ t.
           let (rest, s, h) = (is b).1 t in
-          subst S (same_rests P free s.words skips.words rest left s.each skips.each (stops rest h) none (sym s.whole ∙ skips.whole)) h,
+          subst S (same_rests P free b rest left s (stops rest h) skips none) h,
     )
 
     pub Behind-trimmed : (b left : List ℕ) → SkipsTo P b left → NoneBegins P left → T left ↔ T b
@@ -110,3 +158,27 @@ module _ (P S T : List ℕ → Type 0) (is : (b : List ℕ) → Behind P S b ↔
     -- what excludes S after them excludes T
     pub Behind-apart : (R : List ℕ → Type 0) → Stops R P → AreApart R S → AreApart (Behind P R) T
     Behind-apart R stops_r apart b (rest, s, h) t = apart rest h ((Behind-left b rest s (stops_r rest h)).1 t)
+
+    -- what is left can become S or another word just if the buffer can become T, provided that something is S
+    pub Behind-open : Reachable S [] → (b left : List ℕ) → SkipsTo P b left → NoneBegins P left → (Reachable S left ⊎ Reachable P left) ↔ Reachable T b
+    Behind-open (some, some_bytes, is_some) b left skips none = (
+      λ reach. elim reach [
+        | inl (more, bytes, h) ↦ (more, bytes, (is (b ++ more)).0 (left ++ more, SkipsTo-append P b left more skips, h))
+        | inr (more, bytes, word) ↦
+            let one = SkipsTo-cons P (left ++ (more ++ some)) some some
+            (record { word = left ++ more; kind = word; whole = sym (append_assoc left more some) }) (SkipsTo-none P some) in
+            let grown = SkipsTo-append P b left (more ++ some) skips in (
+              more ++ some,
+              All-append (λ x. x < 256) more some bytes some_bytes,
+              (is (b ++ (more ++ some))).0 (some, SkipsTo-join P grown.words _ _ some grown.each grown.whole one, is_some),
+            )
+      ],
+      λ (more, bytes, t).
+          let (rest, s, h) = (is (b ++ more)).1 t in
+          let u = through P free skips.words s.words (left ++ more) rest skips.each s.each (stops rest h)
+          (sym (append_assoc (concat skips.words) left more) ∙ ap (λ u. u ++ more) (sym skips.whole) ∙ s.whole) in
+          elim (SkipsTo-begin P (left ++ more) rest u.words u.each u.whole) [
+            | inl e ↦ inl (more, bytes, subst S (sym e) h)
+            | inr (x, w) ↦ inr (word_reached P left more x none bytes w)
+          ],
+    )

@@ -1,4 +1,5 @@
 pub mod PlaceLemmas
+pub mod OpenLemmas
 pub mod SearchLemmas
 pub mod NumberLemmas
 pub mod JoinedLemmas
@@ -6,6 +7,7 @@ pub mod WindowLemmas
 pub mod FrameLemmas
 pub mod BrandLemmas
 pub mod OfficeLemmas
+pub mod OpenOfficeLemmas
 pub mod ClassIdLemmas
 pub mod TextLemmas
 pub mod AnyLemmas

@@ -32,11 +32,11 @@ module _ (b : List ℕ) (start : ℕ) (is : start ≡ le32 b 18 + 49) where
     third_found = there;
   }
 
--- where no header is the third, none decides
+-- if no header is the third, none decides
 pub no_third : (b : List ℕ) (r : Option ℕ) → r ≡ None → ((p : ℕ) → ¬ IsThirdHeader b p) → FindsPlace (IsDecidingHeader b) r
 no_third b r e none = subst (FindsPlace (IsDecidingHeader b)) (sym e) (λ p d. none d.third d.third_found)
 
--- what the search for the fourth header tells, where no folder of Office stands at the third
+-- what the search for the fourth header says, if no folder of Office stands at the third
 pub fourth_from_search : (b : List ℕ) (third : ℕ) → IsThirdHeader b third → (¬ HasFolder b (third + 30)) → (r : Option ℕ)
     → IsFirstWithin b zip_header (third + 56) (third + 56 + 6000) r → FindsPlace (IsDecidingHeader b) r
 fourth_from_search b third t free None none = λ p d.
@@ -57,7 +57,7 @@ IsDecidingPlace-one b p q (_, inr h) (_, inl k) = absurd (h.0 k.0)
 IsDecidingPlace-one b p q (_, inr (_, _, (x, f, e))) (_, inr (_, _, (y, g, d))) =
     e ∙ ap (λ u. u + 30) (IsDecidingHeader-one b x y f g) ∙ sym d
 
--- where no folder stands at the first header, the place is that of the header that decides, if any
+-- if no folder stands at the first header, the place is that of the header that decides, if any
 pub no_deciding : (b : List ℕ) (r : Option ℕ) → r ≡ None
     → (¬ HasFolder b 30) → ((p : ℕ) → ¬ IsDecidingHeader b p) → FindsPlace (IsDecidingPlace b) r
 no_deciding b r e free none = subst (FindsPlace (IsDecidingPlace b)) (sym e)
@@ -89,26 +89,26 @@ module _ (b c : List ℕ) (n : ℕ) (carries : Carries n b c) where
   HasFolder-carried : (p : ℕ) → p + 5 ≤ n → HasFolder b p → HasFolder c p
   HasFolder-carried p l h = grind (arith, carries (codes "word/") p, carries (codes "ppt/") p, carries (codes "xl/") p)
 
-  HasOfficeName-carried : 49 ≤ n → HasOfficeName b → HasOfficeName c
+  pub HasOfficeName-carried : 49 ≤ n → HasOfficeName b → HasOfficeName c
   HasOfficeName-carried l h =
       grind (arith, carries (codes "[Content_Types].xml") 30, carries (codes "_rels/.rels") 30, carries (codes "docProps") 30)
 
--- where a name of Office stands, a folder would stand too
-name_long : (b : List ℕ) → HasOfficeName b → 35 ≤ length b
+-- if a name of Office stands there, a folder has room there too
+pub name_long : (b : List ℕ) → HasOfficeName b → 35 ≤ length b
 name_long b name = grind arith
 
 -- in a buffer that grows
 module _ (b more : List ℕ) where
-  grows : (n : ℕ) → Carries n b (b ++ more)
+  pub grows : (n : ℕ) → Carries n b (b ++ more)
   grows n text p within o = OccursAt-append b more text p o
 
-  HasFolder-append : (p : ℕ) → HasFolder b p → HasFolder (b ++ more) p
+  pub HasFolder-append : (p : ℕ) → HasFolder b p → HasFolder (b ++ more) p
   HasFolder-append p = HasFolder-carried b (b ++ more) (p + 5) (grows (p + 5)) p (omega arith)
 
-  no_folder-append : (p : ℕ) → p + 5 ≤ length b → (¬ HasFolder b p) → ¬ HasFolder (b ++ more) p
+  pub no_folder-append : (p : ℕ) → p + 5 ≤ length b → (¬ HasFolder b p) → ¬ HasFolder (b ++ more) p
   no_folder-append p long free h = free (HasFolder-carried (b ++ more) b (length b) (OccursAt-front b more) p long h)
 
-  IsThirdHeader-append : (third : ℕ) → IsThirdHeader b third → IsThirdHeader (b ++ more) third
+  pub IsThirdHeader-append : (third : ℕ) → IsThirdHeader b third → IsThirdHeader (b ++ more) third
   IsThirdHeader-append third t =
       let same = le32-append b more 18 (omega arith) in
       record {
@@ -118,7 +118,7 @@ module _ (b more : List ℕ) where
         third_found = IsFirstPlace-append b more zip_header _ _ third t.third_found;
       }
 
-  -- where the fourth header stands, the bytes after the third are all there
+  -- if the fourth header stands, the bytes after the third are all there
   DecidesBehind-append : (third header : ℕ) → DecidesBehind b third header → DecidesBehind (b ++ more) third header
   DecidesBehind-append third header (inl h) = inl (HasFolder-append (third + 30) h.0, h.1)
   DecidesBehind-append third header (inr h) =

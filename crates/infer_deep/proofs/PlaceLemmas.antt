@@ -1,5 +1,5 @@
 -- A text stands at a place of a buffer: in one that grows it, in a part of it, beside other texts.
-use Rattle.std.proofs.Common.{◌≡◌, ℕ, ◌+◌, ◌-◌, ◌<◌, ◌≤◌, List, ◌++◌, length, get_or, take, drop, sym, ap, subst, ◌∙◌, ◌↔◌, arith, add-zero, zero-add, length-append, length-drop, length-take}
+use Rattle.std.proofs.Common.{◌≡◌, ℕ, zero, suc, ◌+◌, ◌-◌, ◌<◌, ◌≤◌, List, [], ◌∷◌, ◌++◌, length, get_or, take, drop, sym, ap, subst, ◌∙◌, ◌↔◌, arith, add-zero, zero-add, length-append, length-drop, length-take}
 use Rattle.std.proofs.lemmas.List.{get_or_append_left, get_or-take, get_or-drop, take_rest}
 use Rattle.std.proofs.lemmas.List.Prefix.{front_fits, at_reads, at_from_reads}
 use Rattle.memchr.specs.Find.{OccursAt}
@@ -12,7 +12,7 @@ OccursAt-append b more text p o = record {
   reads = λ j l. get_or_append_left b more 0 (p + j) (omega arith) ∙ o.reads j l;
 }
 
--- and where it ends in the buffer, it stands there
+-- and if it ends in the buffer, it stands there
 pub OccursAt-front : (b more text : List ℕ) (p : ℕ)
     → p + length text ≤ length b → OccursAt (b ++ more) text p → OccursAt b text p
 OccursAt-front b more text p f o = record {
@@ -27,6 +27,14 @@ Carries n b c = (text : List ℕ) (p : ℕ) → p + length text ≤ n → Occurs
 -- the byte at its place is its first
 pub OccursAt-first : (b text : List ℕ) (p : ℕ) → 0 < length text → OccursAt b text p → get_or b p 0 ≡ get_or text 0 0
 OccursAt-first b text p l o = rw add-zero at (o.reads 0 l)
+
+-- and a byte is a text
+pub byte_stands : (b : List ℕ) (x p : ℕ) → p < length b → get_or b p 0 ≡ x → OccursAt b (x ∷ []) p
+byte_stands b x p l is = record { fits = omega arith; reads = go }
+  where
+    go : (k : ℕ) → k < 1 → get_or b (p + k) 0 ≡ get_or (x ∷ []) k 0
+    go zero h = rw add-zero is
+    go (suc k) h = absurd (omega arith)
 
 -- two texts at one place have the same bytes
 pub OccursAt-agree : (b v w : List ℕ) (p i : ℕ)
@@ -44,7 +52,7 @@ OccursAt-begins b text rest e = record { fits = let f = front_fits b text rest e
 pub part_reads : (b : List ℕ) (s e i : ℕ) → s + i < e → get_or (take (e - s) (drop s b)) i 0 ≡ get_or b (s + i) 0
 part_reads b s e i l = get_or-take (e - s) (drop s b) i 0 (omega arith) ∙ get_or-drop s b i 0
 
--- a text stands in a part of a buffer just where it stands in the buffer and ends in the part
+-- a text stands at a place of a part exactly if it stands there in the buffer and ends in the part
 pub OccursAt-part : (b text : List ℕ) (s e k : ℕ) → s ≤ e → e ≤ length b
     → OccursAt (take (e - s) (drop s b)) text k ↔ (OccursAt b text (s + k) × (s + k + length text ≤ e))
 OccursAt-part b text s e k l h =
@@ -58,7 +66,7 @@ OccursAt-part b text s e k l h =
 abbrev pub IsUnique : (ℕ → Type 0) → Type 0
 IsUnique P = (p q : ℕ) → P p → P q → p ≡ q
 
--- a text stands at what the one place tells just where it stands at what some such place tells
+-- a text stands at what the one place gives exactly if it stands at what some such place gives
 module _ (P : ℕ → Type 0) (one : IsUnique P) (b : List ℕ) (at : ℕ → ℕ) where
   pub stands_at_one : (text : List ℕ) (p : ℕ) → P p → OccursAt b text (at p) ↔ ((q : ℕ) × P q × OccursAt b text (at q))
   stands_at_one text p here = (λ o. (p, here, o), λ (q, there, o). subst (λ x. OccursAt b text (at x)) (one q p there here) o)

@@ -31,7 +31,7 @@ module _ (b text : List ℕ) (p : ℕ) (r : Bool) (e : r ≡ starts_with nat_eq 
   starts_from_occurs o =
       (starts_is Decides-eqb (drop p b) text r tested).1 _ (at_from_reads 0 b text p o.fits o.reads)
 
--- a search may begin later where nothing stands before
+-- a search may begin later if nothing stands before
 module _ (b text : List ℕ) (start later end : ℕ) (le : start ≤ later) (none : (q : ℕ) → q < later → ¬ IsWithin b text start end q) where
   from_later : (q : ℕ) → later ≤ q → IsWithin b text start end q → IsWithin b text later end q
   from_later q low w = record { stands = w.stands; low = low; high = w.high }
@@ -84,7 +84,7 @@ module _ (b text : List ℕ) (rare start end m n : ℕ) (two : rare + 2 ≤ leng
   first_past r absent h =
       first_later r (IsFirstWithin-skip b text (start + n) (start + n + 1) end (omega arith) (λ q lt w. grind (arith, w.stands)) r h)
 
--- what a search for a pair of bytes of the text in the part from `from` on says, where the text stands nowhere before
+-- what a search for a pair of bytes of the text in the part from `from` on says, if the text stands nowhere before
 module _ (b text : List ℕ) (start from end m : ℕ) (is : m ≡ min end (length b)) (l : from ≤ m) (low : start ≤ from)
     (none : (q : ℕ) → q < from → ¬ IsWithin b text start end q) (f : Finder) (of : IsPairFinderOf f text) where
   in_part : (q : ℕ) → from ≤ q → IsWithin b text start end q → OccursAt (take (m - from) (drop from b)) text (q - from)
@@ -101,14 +101,14 @@ module _ (b text : List ℕ) (start from end m : ℕ) (is : m ≡ min end (lengt
       (record { first = o.reads f.pair.index1 of.pair.first ∙ sym of.byte1; second = o.reads f.pair.index2 of.pair.second ∙ sym of.byte2 }) in
       grind arith
 
-  -- where there is no pair the text does not stand
+  -- if there is no pair the text does not stand
   pub none_without_pair : (r : Option ℕ) → r ≡ None
       → Nowhere (HasPair f (take (m - from) (drop from b))) 0 (length (take (m - from) (drop from b)) - reach_of f) → IsFirstWithin b text start end r
   none_without_pair r e lacks = subst (IsFirstWithin b text start end) (sym e) (λ q w.
       let part = in_part q in
       grind (arith, none q, none_to _ lacks q, of.pair))
 
-  -- a text that stands where the first pair does is the first
+  -- a text that stands at the first pair is the first
   pub first_at_pair : (k n : ℕ) → NoneBefore (HasPair f (take (m - from) (drop from b))) 0 n k
       → OccursAt b text (from + k) × (from + k + length text ≤ m) → IsFirstPlace b text start end (from + k)
   first_at_pair k n h o = record {
@@ -116,7 +116,7 @@ module _ (b text : List ℕ) (start from end m : ℕ) (is : m ≡ min end (lengt
     before = none_to k h.before;
   }
 
-  -- and where none does, it does not stand there either
+  -- and if none does, it does not stand there either
   pub none_past_pair : (k n : ℕ) → NoneBefore (HasPair f (take (m - from) (drop from b))) 0 n k
       → ¬ (OccursAt b text (from + k) × (from + k + length text ≤ m)) → (q : ℕ) → q < from + k + 1 → ¬ IsWithin b text start end q
   none_past_pair k n h absent q lt w =

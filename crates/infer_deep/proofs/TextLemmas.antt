@@ -1,18 +1,23 @@
 -- White space, marks and tags: what a buffer begins with, and what is markup after them.
-use Rattle.std.proofs.Common.{◌≡◌, ◌↔◌, ℕ, zero, suc, ◌+◌, ◌-◌, ◌<◌, ◌≤◌, ◌⊎◌, Bool, true, ◌&&◌, not, List, [], ◌∷◌, ◌++◌, length, get_or, take, drop, map, refl, sym, ap, subst, ◌∙◌, inl, inr, arith, eqb, ltb}
+use Rattle.std.proofs.Common.{◌≡◌, ◌↔◌, ℕ, zero, suc, ◌+◌, ◌-◌, ◌<◌, ◌≤◌, ◌⊎◌, Bool, true, false, ◌&&◌, not, List, [], ◌∷◌, ◌++◌, length, get_or, take, drop, map, refl, sym, ap, subst, ◌∙◌, inl, inr, arith, eqb, ltb, length-append, min, IsTrue}
 use Rattle.std.proofs.Math.ListN.{get_or-map}
-use Rattle.std.proofs.lemmas.List.{take-append-drop, take_at, take_rest, get_or_append_left, get_or-take, get_or_at, take-append-le, drop_more, length-map, length-take-le, append_assoc}
+use Rattle.std.proofs.lemmas.List.{take-append-drop, take_at, take_rest, get_or_append_left, get_or-take, get_or_at, take-append-le, drop_more, length-map, length-take-le, append_assoc, append-nil, map-append, take-map, take_all}
+use Rattle.std.proofs.lemmas.List.Elements.{All-append, All-drop}
+use Rattle.std.proofs.lemmas.Bool.{cases_lt}
 use Rattle.std.proofs.lemmas.List.Sums.{AllPass-from_list_all}
+use Rattle.std.proofs.lemmas.Bool.{eq-eqb}
 use Rattle.std.proofs.lemmas.Bool.Decides.{nat_tests}
 use Rattle.std.specs.Prelude.{Any, codes}
-use Rattle.std.specs.List.{repeat}
+use Rattle.std.specs.List.{filter, repeat}
 use Rattle.std.specs.Char.{to_ascii_lowercase}
 use Rattle.memchr.specs.Find.{OccursAt}
 use Rattle.infer_deep.specs.Blocks.{AllBelow}
-use Rattle.infer_deep.specs.Signatures.{Lasts, AreApart, ComesWith, IsEarly}
+use Rattle.infer_deep.specs.Open.{are_bytes, AgreesAt}
+use Rattle.infer_deep.specs.Signatures.{Lasts, AreApart, ComesWith, IsEarly, Reachable}
+use Rattle.infer_deep.proofs.OpenLemmas.{Reachable-here, bytes_from_test, fills_text, grown_agrees, stands_where_whole}
 use Rattle.infer_deep.specs.Joined.{Behind, SkipsTo, LeadsTo, NoneBegins, BeginsWith}
-use Rattle.infer_deep.specs.Text.{IsWhite, IsSpace, IsMark, IsSameInAnyCase, BeginsInAnyCase, BeginsMarked, BeginsWhite, BeginsWithTag, IsHtml, IsXml, tags}
-use Rattle.infer_deep.proofs.JoinedLemmas.{IsPrefixFree, Stops, WordsBegin, begun-first, SkipsTo-none, SkipsTo-cons, NoneBegins-first, Behind-lead, Behind-lasts, Behind-comes, Behind-left, Behind-trimmed, Behind-apart}
+use Rattle.infer_deep.specs.Text.{IsWhite, IsSpace, IsMark, IsSameInAnyCase, BeginsInAnyCase, BeginsMarked, BeginsWhite, BeginsWithTag, IsHtml, IsXml, tags, tags_with}
+use Rattle.infer_deep.proofs.JoinedLemmas.{IsPrefixFree, Stops, WordsBegin, begun-first, leads_past_repeat, SkipsTo-none, SkipsTo-cons, NoneBegins-first, Behind-lead, Behind-lasts, Behind-comes, Behind-left, Behind-trimmed, Behind-apart, Behind-open}
 use Rattle.infer_deep.proofs.PlaceLemmas.{begins-from_OccursAt, OccursAt-begins, OccursAt-front}
 
 -- a mark that stands at the front
@@ -48,17 +53,10 @@ leads_past_block b c block rest n leads l p q all more s =
     let whole : block ++ rest ≡ c = ap (λ u. u ++ rest) p ∙ ap (λ u. take n c ++ u) q ∙ take-append-drop n c in
     leads more (subst (λ u. LeadsTo IsSpace u rest) whole (LeadsTo-white block rest (λ k lt. all k (omega arith))) more s)
 
--- so are the same mark n times
-LeadsTo-repeat : (n : ℕ) (mark rest : List ℕ) → IsMark mark → LeadsTo IsMark (repeat n mark ++ rest) rest
-LeadsTo-repeat zero mark rest is more s = s
-LeadsTo-repeat (suc n) mark rest is more s =
-    SkipsTo-cons IsMark _ (repeat n mark ++ rest) more
-    (record { word = mark; kind = is; whole = append_assoc mark (repeat n mark) rest }) (LeadsTo-repeat n mark rest is more s)
-
+-- so is the same mark n times
 pub leads_past_marks : (b mark : List ℕ) (n : ℕ) → IsMark mark
     → OccursAt b (repeat n mark) 0 → LeadsTo IsMark b (take (length b - length (repeat n mark)) (drop (length (repeat n mark)) b))
-leads_past_marks b mark n is o more s =
-    subst (λ u. SkipsTo IsMark u more) (sym (begins-from_OccursAt b _ o)) (LeadsTo-repeat n mark _ is more s)
+leads_past_marks b mark n is o = leads_past_repeat IsMark b b mark n (λ rest s. s) is o
 
 IsSpace-prefix_free : IsPrefixFree IsSpace
 IsSpace-prefix_free v w x y (a, f, p) (b, g, q) e = cc
@@ -149,6 +147,60 @@ pub HasTag-open : (b : List ℕ) → HasTag b → get_or b 0 0 ≡ 0x3C
 HasTag-open b (k, tag, l, e, h) =
     let o = tag_opens k tag l e in BeginsInAnyCase-open b tag (omega arith) o.2 (text_of_tag b tag h)
 
+-- some element of a list is the first or one of the rest
+module _ {X : Type 0} (P : X → Type 0) (x : X) (xs : List X) where
+  Any-cons : P x ⊎ Any P xs → Any P (x ∷ xs)
+  Any-cons (inl p) = (0, x, omega arith, refl, p)
+  Any-cons (inr (k, y, l, e, p)) = (suc k, y, omega (arith, l), e, p)
+
+  cons-Any : Any P (x ∷ xs) → P x ⊎ Any P xs
+  cons-Any (zero, y, l, e, p) = inl (subst P (sym e) p)
+  cons-Any (suc k, y, l, e, p) = inr (k, y, omega (arith, l), e, p)
+
+-- and if it passes a test, one of those that pass
+module _ {X : Type 0} (P : X → Type 0) (test : X → Bool) where
+  Any-from_filter : (xs : List X) → Any P (filter test xs) → Any P xs
+  Any-from_filter [] h = h
+  Any-from_filter (x ∷ xs) h = kept (test x) refl (Any-from_filter xs)
+    where
+      kept : (r : Bool) → test x ≡ r → (Any P (filter test xs) → Any P xs) → Any P (x ∷ xs)
+      kept true e rest = Any-cons P x xs (elim (cons-Any P x (filter test xs) (rw e at h)) [ inl p ↦ inl p | inr q ↦ inr (rest q) ])
+      kept false e rest = Any-cons P x xs (inr (rest (rw e at h)))
+
+  Any-filter : ((x : X) → P x → test x ≡ true) → (xs : List X) → Any P xs → Any P (filter test xs)
+  Any-filter passes [] h = h
+  Any-filter passes (x ∷ xs) h = kept (test x) refl (Any-filter passes xs)
+    where
+      kept : (r : Bool) → test x ≡ r → (Any P xs → Any P (filter test xs)) → Any P (filter test (x ∷ xs))
+      kept true e rest = rw e (Any-cons P x (filter test xs) (elim (cons-Any P x xs h) [ inl p ↦ inl p | inr q ↦ inr (rest q) ]))
+      kept false e rest = rw e (elim (cons-Any P x xs h) [ inl p ↦ absurd (let t = passes x p in cc) | inr q ↦ rest q ])
+
+-- one of the tags has a property that tells its second byte just if one of those with that byte has it
+module _ (P : List ℕ → Type 0) (c : ℕ) (second : (tag : List ℕ) → P tag → 1 < length tag → to_ascii_lowercase (get_or tag 1 0) ≡ c) where
+  abbrev has_second : List ℕ → Bool
+  has_second tag = eqb (to_ascii_lowercase (get_or tag 1 0)) c
+
+  Any-second : Any P (tags_with c) ↔ Any P tags
+  unfolding tags_with
+  Any-second = (
+    λ h. Any-from_filter P has_second tags h,
+    λ (k, tag, l, e, h).
+        let (j, found, m, same, p) = Any-filter (λ tag. P tag × (1 < length tag)) has_second (λ tag p. eq-eqb _ _ (second tag p.0 p.1)) tags
+        (k, tag, l, e, (h, (tag_opens k tag l e).1)) in
+        (j, found, m, same, p.0),
+  )
+
+pub HasTag-second : (b : List ℕ) → Any (λ tag. BeginsWithTag tag b) (tags_with (to_ascii_lowercase (get_or b 1 0))) ↔ HasTag b
+HasTag-second b =
+    Any-second (λ tag. BeginsWithTag tag b) (to_ascii_lowercase (get_or b 1 0))
+    (λ tag h long. sym (BeginsInAnyCase-byte b tag 1 long (text_of_tag b tag h)))
+
+pub HasTag-long : (b : List ℕ) → HasTag b → 1 < length b
+HasTag-long b (k, tag, l, e, h) =
+    let o = tag_opens k tag l e in
+    let n = same_length h.word tag h.same in
+    omega (arith, o.1, n, ap length h.whole, length-append h.word (h.end ∷ h.rest))
+
 HasXml-open : (b : List ℕ) → HasXml b → get_or b 0 0 ≡ 0x3C
 HasXml-open b h = BeginsInAnyCase-open b (codes "<?xml") (omega arith) refl h
 
@@ -164,14 +216,19 @@ HasTag-lasts b more (k, tag, l, e, h) =
     let whole = ap (λ u. u ++ more) h.whole ∙ append_assoc h.word (h.end ∷ h.rest) more in
     (k, tag, l, e, record { word = h.word; end = h.end; rest = h.rest ++ more; same = h.same; closes = h.closes; whole = whole })
 
+pub tag_end : (b more tag : List ℕ) → BeginsWithTag tag (b ++ more) → length tag < length b
+    → (get_or b (length tag) 0 ≡ 0x20) ⊎ (get_or b (length tag) 0 ≡ 0x3E)
+tag_end b more tag h l =
+    let end : get_or b (length tag) 0 ≡ h.end
+    = sym (get_or_append_left b more 0 (length tag) l) ∙ ap (λ u. get_or u (length tag) 0) h.whole
+    ∙ get_or_at h.word h.end h.rest 0 (length tag) (same_length h.word tag h.same) in
+    subst (λ c. (c ≡ 0x20) ⊎ (c ≡ 0x3E)) (sym end) h.closes
+
 HasTag-early : IsEarly HasTag
 HasTag-early b more long (k, tag, l, e, h) =
     let o = tag_opens k tag l e in
-    let end : get_or b (length tag) 0 ≡ h.end
-    = sym (get_or_append_left b more 0 (length tag) (omega arith)) ∙ ap (λ u. get_or u (length tag) 0) h.whole
-    ∙ get_or_at h.word h.end h.rest 0 (length tag) (same_length h.word tag h.same) in
     let text = BeginsInAnyCase-front b more tag (omega arith) (text_of_tag (b ++ more) tag h) in
-    (k, tag, l, e, tag_from_text b tag (omega arith) (subst (λ c. (c ≡ 0x20) ⊎ (c ≡ 0x3E)) (sym end) h.closes) text)
+    (k, tag, l, e, tag_from_text b tag (omega arith) (tag_end b more tag h (omega arith)) text)
 
 -- what begins with "<" begins with no space and no mark, nor do marks begin with a space
 HasTag-stops : Stops HasTag IsSpace
@@ -258,3 +315,176 @@ IsXml-comes = Behind-comes IsSpace IsMarkedXml IsXml IsXml-nested (λ u. BeginsW
     (Behind-comes IsMark HasXml IsMarkedXml (itself IsMark HasXml) (λ u. BeginsWhite u ⊎ BeginsMarked u)
     (λ u y rest l w. inr (BeginsMarked-early u y l (w.word, w.kind, OccursAt-begins (u ++ y) w.word rest w.whole)))
     (λ u y l h. inl (BeginsInAnyCase-front u y _ (omega arith) h)))
+
+-- what more bytes can bring: a text that is the same as far as the buffer goes
+same_front : (word text : List ℕ) (n : ℕ) → IsSameInAnyCase word text → IsSameInAnyCase (take n word) (take n text)
+same_front word text n h = sym (take-map to_ascii_lowercase n word) ∙ ap (take n) h ∙ take-map to_ascii_lowercase n text
+
+same_filled : (b text : List ℕ) (n : ℕ) → length b ≤ length text → n ≡ min (length b) (length text)
+    → IsSameInAnyCase (take n b) (take n text) → IsSameInAnyCase (b ++ drop n text) text
+same_filled b text n l is h =
+    map-append to_ascii_lowercase b (drop n text)
+    ∙ ap (λ u. map to_ascii_lowercase u ++ map to_ascii_lowercase (drop n text)) (sym (take_all n b (omega arith)))
+    ∙ ap (λ u. u ++ map to_ascii_lowercase (drop n text)) h
+    ∙ sym (map-append to_ascii_lowercase (take n text) (drop n text))
+    ∙ ap (map to_ascii_lowercase) (take-append-drop n text)
+
+module _ (b text : List ℕ) (n : ℕ) (is : n ≡ min (length b) (length text)) where
+  pub known_from_reached : Reachable (BeginsInAnyCase text) b → IsSameInAnyCase (take n b) (take n text)
+  known_from_reached (more, bytes, h) =
+      let long = same_length h.word text h.same in
+      let front : take n b ≡ take n h.word
+      = sym (take-append-le n b more (omega arith)) ∙ ap (take n) h.whole ∙ take-append-le n h.word h.rest (omega arith) in
+      ap (map to_ascii_lowercase) front ∙ same_front h.word text n h.same
+
+  whole_from_known : length text < length b → IsSameInAnyCase (take n b) (take n text) → BeginsInAnyCase text b
+  whole_from_known l h =
+      let long : n ≡ length text = omega arith in
+      begins_in_any_case b text (subst (λ k. IsSameInAnyCase (take k b) text) long (h ∙ ap (map to_ascii_lowercase) (take_all n text (omega arith))))
+
+  pub reached_from_known : IsTrue (are_bytes text) → IsSameInAnyCase (take n b) (take n text) → Reachable (BeginsInAnyCase text) b
+  reached_from_known bytes h =
+      elim (cases_lt (length text) (length b)) [
+        | inl l ↦ Reachable-here (BeginsInAnyCase text) b (whole_from_known l h)
+        | inr l ↦ (
+          drop n text,
+          All-drop (λ x. x < 256) n text (bytes_from_test text bytes),
+          record {
+            word = b ++ drop n text;
+            rest = [];
+            same = same_filled b text n l is h;
+            whole = sym (append-nil (b ++ drop n text));
+          },
+        )
+      ]
+
+  tag_filled : IsTrue (are_bytes text) → IsSameInAnyCase (take n b) (take n text)
+      → (length text < length b → (get_or b (length text) 0 ≡ 0x20) ⊎ (get_or b (length text) 0 ≡ 0x3E)) → Reachable (BeginsWithTag text) b
+  tag_filled bytes h closes =
+      elim (cases_lt (length text) (length b)) [
+        | inl l ↦ Reachable-here (BeginsWithTag text) b (tag_from_text b text l (closes l) (whole_from_known l h))
+        | inr l ↦ (
+          drop n text ++ 0x3E ∷ [],
+          All-append (λ x. x < 256) (drop n text) (0x3E ∷ []) (All-drop (λ x. x < 256) n text (bytes_from_test text bytes)) (bytes_from_test (0x3E ∷ []) refl),
+          record {
+            word = b ++ drop n text;
+            end = 0x3E;
+            rest = [];
+            same = same_filled b text n l is h;
+            closes = inr refl;
+            whole = sym (append_assoc b (drop n text) (0x3E ∷ []));
+          },
+        )
+      ]
+
+-- a tag can come where its text can, unless another byte follows it
+pub tag_reached : (b tag : List ℕ) → IsTrue (are_bytes tag) → Reachable (BeginsInAnyCase tag) b
+    → (length tag < length b → (get_or b (length tag) 0 ≡ 0x20) ⊎ (get_or b (length tag) 0 ≡ 0x3E)) → Reachable (BeginsWithTag tag) b
+tag_reached b tag bytes h closes =
+    let n = min (length b) (length tag) in tag_filled b tag n refl bytes (known_from_reached b tag n refl h) closes
+
+pub text_reached : (b tag : List ℕ) → Reachable (BeginsWithTag tag) b → Reachable (BeginsInAnyCase tag) b
+text_reached b tag (more, bytes, h) = (more, bytes, text_of_tag (b ++ more) tag h)
+
+pub tag_closed : (b tag : List ℕ) → Reachable (BeginsWithTag tag) b → length tag < length b
+    → (get_or b (length tag) 0 ≡ 0x20) ⊎ (get_or b (length tag) 0 ≡ 0x3E)
+tag_closed b tag (more, bytes, h) = tag_end b more tag h
+
+pub has_tag_reached : (b : List ℕ) → Any (λ tag. Reachable (BeginsWithTag tag) b) tags ↔ Reachable HasTag b
+has_tag_reached b = (
+  λ (k, tag, l, e, (more, bytes, h)). (more, bytes, (k, tag, l, e, h)),
+  λ (more, bytes, (k, tag, l, e, h)). (k, tag, l, e, (more, bytes, h)),
+)
+
+pub reached_open : (b : List ℕ) → 0 < length b → Reachable HasTag b → get_or b 0 0 ≡ 0x3C
+reached_open b some (more, bytes, h) = sym (get_or_append_left b more 0 0 some) ∙ HasTag-open (b ++ more) h
+
+pub HasTag-reached_second : (b : List ℕ) → 1 < length b
+    → Any (λ tag. Reachable (BeginsWithTag tag) b) (tags_with (to_ascii_lowercase (get_or b 1 0))) ↔ Reachable HasTag b
+HasTag-reached_second b l =
+    let second = Any-second (λ tag. Reachable (BeginsWithTag tag) b) (to_ascii_lowercase (get_or b 1 0))
+    (λ tag (more, bytes, h) long.
+    sym (BeginsInAnyCase-byte (b ++ more) tag 1 long (text_of_tag (b ++ more) tag h))
+    ∙ ap to_ascii_lowercase (get_or_append_left b more 0 1 l)) in
+    let reached = has_tag_reached b in
+    (λ h. reached.0 (second.0 h), λ h. second.1 (reached.1 h))
+
+-- no more white space comes but to an empty rest
+no_space_comes : (b : List ℕ) → NoneBegins IsSpace b → Reachable IsSpace b → b ≡ []
+no_space_comes [] none h = refl
+no_space_comes (y ∷ ys) none (more, bytes, (x, white, e)) =
+    absurd (none (y ∷ []) ys (x, white, let first : y ≡ x = (cc) in ap (λ u. u ∷ []) first) refl)
+
+-- and what can follow white space can come to it
+space_open : (S T : List ℕ → Type 0) → ((b : List ℕ) → Behind IsSpace S b ↔ T b) → Stops S IsSpace → Reachable S []
+    → (b text : List ℕ) → SkipsTo IsSpace b text → NoneBegins IsSpace text → Reachable S text ↔ Reachable T b
+space_open S T is stops some b text skips none =
+    let both = Behind-open IsSpace S T is IsSpace-prefix_free stops some b text skips none in (
+      λ h. both.0 (inl h),
+      λ h. elim (both.1 h) [ inl s ↦ s | inr w ↦ subst (Reachable S) (sym (no_space_comes text none w)) some ],
+    )
+
+HasXml-some : Reachable HasXml []
+HasXml-some = reached_from_known [] (codes "<?xml") 0 refl refl refl
+
+HasTag-some : Reachable HasTag []
+HasTag-some =
+    (has_tag_reached []).0 (15, codes "<P", omega arith, refl, tag_filled [] (codes "<P") 0 refl refl refl (λ l. absurd (omega arith)))
+
+-- every tag can come to its first byte
+pub HasTag-begun : (b : List ℕ) → length b < 2 → (0 < length b → get_or b 0 0 ≡ 0x3C) → Reachable HasTag b
+HasTag-begun [] l h = HasTag-some
+HasTag-begun (x ∷ []) l h =
+    let p = codes "<P" in
+    let tag = tag_filled (0x3C ∷ []) p 1 refl refl refl (λ m. absurd (omega (arith, m))) in
+    subst (λ y. Reachable HasTag (y ∷ [])) (sym (h (omega arith))) ((has_tag_reached (0x3C ∷ [])).0 (15, p, omega arith, refl, tag))
+HasTag-begun (x ∷ y ∷ b) l h = absurd (omega (arith, l))
+
+IsMarkedXml-open : (text left : List ℕ) → SkipsTo IsMark text left → NoneBegins IsMark left
+    → (Reachable HasXml left ⊎ Reachable IsMark left) ↔ Reachable IsMarkedXml text
+IsMarkedXml-open = Behind-open IsMark HasXml IsMarkedXml (itself IsMark HasXml) IsMark-prefix_free (λ b h. NoneBegins-mark b (HasXml-open b h)) HasXml-some
+
+module _ (b text : List ℕ) (skips : SkipsTo IsSpace b text) (none : NoneBegins IsSpace text) where
+  pub is_html_open : Reachable HasTag text ↔ Reachable IsHtml b
+  is_html_open = space_open HasTag IsHtml (itself IsSpace HasTag) HasTag-stops HasTag-some b text skips none
+
+  pub is_xml_open : (left : List ℕ) → SkipsTo IsMark text left → NoneBegins IsMark left
+      → (Reachable HasXml left ⊎ Reachable IsMark left) ↔ Reachable IsXml b
+  is_xml_open left marks ends =
+      let unmarked = IsMarkedXml-open text left marks ends in
+      let some = (IsMarkedXml-open [] [] (SkipsTo-none IsMark []) (NoneBegins-first IsMark IsMarkByte IsMark-begin [] (λ mark. omega arith))).0 (inl HasXml-some) in
+      let unspaced = space_open IsMarkedXml IsXml IsXml-nested IsMarkedXml-stops some b text skips none in
+      (λ h. unspaced.0 (unmarked.0 h), λ x. unmarked.1 (unspaced.1 x))
+
+-- a mark that the end of the buffer cuts
+mark_reached : (b mark : List ℕ) → IsTrue (are_bytes mark) → IsMark mark → NoneBegins IsMark b → AgreesAt b mark 0 → Reachable IsMark b
+mark_reached b mark bytes is none a =
+    let cut : length b < length mark = elim (cases_lt (length b) (length mark)) [
+      | inl l ↦ l
+      | inr l ↦ absurd (none mark _ is (begins-from_OccursAt b mark (stands_where_whole b mark 0 (omega arith) a)))
+    ] in
+    let f = fills_text b mark 0 bytes a in
+    let c = b ++ f.more in
+    let exact : length c - length mark ≡ 0 = omega (arith, f.short) in
+    let same : c ≡ mark
+    = begins-from_OccursAt c mark f.holds ∙ ap (λ k. mark ++ take k (drop (length mark) c)) exact ∙ append-nil mark in
+    (f.more, f.bytes, subst IsMark (sym same) is)
+
+agrees_with_mark : (b mark : List ℕ) → (x : Reachable (λ c. c ≡ mark) b) → AgreesAt b mark 0
+agrees_with_mark b mark (more, bytes, e) = grown_agrees b more mark 0 (OccursAt-begins (b ++ more) mark [] (e ∙ sym (append-nil mark)))
+
+pub reaches_mark : (b : List ℕ) → NoneBegins IsMark b
+    → (AgreesAt b (0xEF ∷ 0xBB ∷ 0xBF ∷ []) 0 ⊎ AgreesAt b (0xFE ∷ 0xFF ∷ []) 0 ⊎ AgreesAt b (0xFF ∷ 0xFE ∷ []) 0) ↔ Reachable IsMark b
+reaches_mark b none = (
+  λ h. grind (
+    arith,
+    mark_reached b (0xEF ∷ 0xBB ∷ 0xBF ∷ []) refl (inl refl) none,
+    mark_reached b (0xFE ∷ 0xFF ∷ []) refl (inr (inl refl)) none,
+    mark_reached b (0xFF ∷ 0xFE ∷ []) refl (inr (inr refl)) none,
+  ),
+  λ (more, bytes, is). elim is [
+    | inl e ↦ inl (agrees_with_mark b _ (more, bytes, e))
+    | inr (inl e) ↦ inr (inl (agrees_with_mark b _ (more, bytes, e)))
+    | inr (inr e) ↦ inr (inr (agrees_with_mark b _ (more, bytes, e)))
+  ],
+)

@@ -1,11 +1,13 @@
 -- Windows: they last, and the first 1024 bytes decide.
-use Rattle.std.proofs.Common.{◌≡◌, ◌↔◌, ℕ, ◌≤◌, List, ◌++◌, length, take, drop, refl, true, Option, Some, None, sym, subst, arith, length-append}
+use Rattle.std.proofs.Common.{IsTrue, ◌≡◌, ◌↔◌, ℕ, ◌+◌, ◌≤◌, List, [], ◌∷◌, ◌++◌, length, take, drop, max, refl, true, Option, Some, None, inl, inr, sym, subst, arith, length-append}
 use Rattle.std.proofs.lemmas.List.{take-append-drop, length-take-le}
-use Rattle.std.proofs.lemmas.Bool.{false≢true}
+use Rattle.std.proofs.lemmas.Bool.{cases_lt, false≢true}
 use Rattle.std.specs.Option.{is_some}
 use Rattle.infer_deep.specs.Places.{IsFirstWithin}
-use Rattle.infer_deep.specs.Signatures.{Lasts, IsNear}
+use Rattle.infer_deep.specs.Open.{are_bytes, AgreesAt, IsFirstOpenWithin}
+use Rattle.infer_deep.specs.Signatures.{Lasts, IsNear, Reachable}
 use Rattle.infer_deep.proofs.PlaceLemmas.{OccursAt-append, OccursAt-front}
+use Rattle.infer_deep.proofs.OpenLemmas.{agrees_past, grown_agrees, stands_where_whole, fills_text, fills_parts}
 use Rattle.infer_deep.specs.Windows.{StandsBy, IsMatroska}
 
 pub StandsBy-lasts : (text : List ℕ) (end : ℕ) → Lasts (StandsBy text end)
@@ -22,7 +24,7 @@ pub IsMatroska-lasts : (doc_type : List ℕ) → Lasts (IsMatroska doc_type)
 IsMatroska-lasts doc_type b more h =
     (omega (arith, length-append b more), OccursAt-append b more _ 0 h.1, StandsBy-lasts doc_type 256 b more h.2)
 
--- what lasts is near, where the first 1024 bytes of a yes say yes
+-- what lasts is near, if the first 1024 bytes of a yes say yes
 pub near_from_growth : (S : List ℕ → Type 0) → Lasts S
     → ((b more : List ℕ) → length b ≡ 1024 → S (b ++ more) → S b) → IsNear S
 near_from_growth S lasts front b l =
@@ -36,3 +38,55 @@ pub found_stands : (b text : List ℕ) (end : ℕ) (r : Option ℕ)
     → IsFirstWithin b text 0 end r → is_some r ≡ true ↔ StandsBy text end b
 found_stands b text end None h = (λ is. absurd (false≢true is), λ (p, w). absurd (h p w))
 found_stands b text end (Some p) h = (λ is. (p, h.here), λ is. refl)
+
+-- a text can come to stand where it agrees, so it can after a buffer that leaves room for it
+pub reach_window : (text : List ℕ) (end : ℕ) (b : List ℕ) (p : ℕ) → IsTrue (are_bytes text) → p + length text ≤ end → AgreesAt b text p → Reachable (StandsBy text end) b
+reach_window text end b p bytes high a =
+    let f = fills_text b text p bytes a in (f.more, f.bytes, (p, record { stands = f.holds; low = omega arith; high = high }))
+
+pub room_reaches : (b text : List ℕ) (end : ℕ) → IsTrue (are_bytes text) → length b + length text ≤ end → Reachable (StandsBy text end) b
+room_reaches b text end bytes room = reach_window text end b (length b) bytes room (agrees_past b text (length b) (omega arith))
+
+pub found_reaches : (b text : List ℕ) (end : ℕ) (r : Option ℕ) → IsTrue (are_bytes text)
+    → IsFirstOpenWithin b text 0 end r → is_some r ≡ true ↔ Reachable (StandsBy text end) b
+found_reaches b text end None bytes none = (
+  λ is. absurd (false≢true is),
+  λ (more, all, (p, w)). absurd (none p (record { agrees = grown_agrees b more text p w.stands; low = w.low; high = w.high })),
+)
+found_reaches b text end (Some p) bytes first = (λ is. reach_window text end b p bytes first.here.high first.here.agrees, λ h. refl)
+
+-- the header of EBML and a document type can come to stand together
+abbrev ebml : List ℕ
+ebml = 0x1A ∷ 0x45 ∷ 0xDF ∷ 0xA3 ∷ []
+
+pub matroska_reaches : (doc_type b : List ℕ) → IsTrue (are_bytes doc_type) → length doc_type ≤ 252
+    → (AgreesAt b ebml 0 × Reachable (StandsBy doc_type 256) b) ↔ Reachable (IsMatroska doc_type) b
+matroska_reaches doc_type b bytes short = (
+  λ (header, (more, all, (p, w))). elim (cases_lt 256 (length b + length doc_type)) [
+    | inl full ↦
+        let f = fills_parts (record { place = p; text = doc_type } ∷ []) b 0 257
+        (omega arith, bytes, omega arith)
+        (grown_agrees b more doc_type p w.stands, tt) in (
+          f.more,
+          f.bytes,
+          (
+            f.long,
+            OccursAt-append b f.more ebml 0 (stands_where_whole b ebml 0 (omega arith) header),
+            (p, record { stands = f.holds.0; low = omega arith; high = w.high }),
+          ),
+        )
+    | inr room ↦
+        let f = fills_parts (record { place = 0; text = ebml } ∷ record { place = max 4 (length b); text = doc_type } ∷ []) b 0 257
+        (omega arith, refl, (omega arith, bytes, omega arith))
+        (header, (agrees_past b doc_type (max 4 (length b)) (omega arith), tt)) in (
+          f.more,
+          f.bytes,
+          (
+            omega arith,
+            f.holds.0,
+            (max 4 (length b), record { stands = f.holds.1.0; low = omega arith; high = omega arith }),
+          ),
+        )
+  ],
+  λ (more, all, (long, header, (p, w))). (grown_agrees b more ebml 0 header, (more, all, (p, w))),
+)

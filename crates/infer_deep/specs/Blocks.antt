@@ -1,4 +1,4 @@
--- What a look at a whole block of bytes tells a search.
+-- What a look at a whole block of bytes says to a search.
 use Rattle.std.specs.Prelude.{◌≡◌, ℕ, ◌+◌, ◌<◌, List, slice_index}
 
 -- the two bytes stand together at p

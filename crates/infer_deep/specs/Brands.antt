@@ -2,6 +2,7 @@
 use Rattle.std.specs.Prelude.{ℕ, ◌+◌, ◌-◌, ◌*◌, ◌/◌, ◌<◌, ◌≤◌, ◌⊎◌, List, length, codes}
 use Rattle.memchr.specs.Find.{OccursAt}
 use Rattle.infer_deep.specs.Numbers.{be32}
+use Rattle.infer_deep.specs.Open.{AgreesAt}
 
 -- the length that the first box states of itself
 abbrev pub box_length : List ℕ → ℕ
@@ -25,6 +26,10 @@ HasMajor brand b = OccursAt b brand 8
 -- the brand is a compatible brand, one of the fours of the stated box from place 16 on
 abbrev pub HasCompatible : List ℕ → List ℕ → Type 0
 HasCompatible brand b = (k : ℕ) × (k < box_length b / 4 - 4) × OccursAt b brand (16 + 4 * k)
+
+-- the brand may be a compatible brand, as far as b goes: it agrees at one of these fours
+abbrev pub MayHaveCompatible : List ℕ → List ℕ → Type 0
+MayHaveCompatible brand b = (k : ℕ) × (k < box_length b / 4 - 4) × AgreesAt b brand (16 + 4 * k)
 
 -- ISO/IEC 23008-12: the major brand is heic or heix, or it is mif1 or msf1 and heic is a compatible brand
 abbrev pub IsHeif : List ℕ → Type 0

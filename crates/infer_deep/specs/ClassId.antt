@@ -3,6 +3,7 @@
 use Rattle.std.specs.Prelude.{◌≡◌, ℕ, ◌+◌, ◌*◌, ◌≤◌, ◌⊎◌, List, [], ◌∷◌, ◌++◌, length, slice_index}
 use Rattle.memchr.specs.Find.{OccursAt}
 use Rattle.infer_deep.specs.Numbers.{le16, le32}
+use Rattle.infer_deep.specs.Open.{AgreesAt}
 
 -- the header's signature
 abbrev pub compound_header : List ℕ
@@ -20,7 +21,7 @@ BeginsRoot b root =
     ((le16 b 26 ≡ 3) × (le16 b 30 ≡ 9) × (root ≡ (le32 b 48 + 1) * 512))
     ⊎ ((le16 b 26 ≡ 4) × (le16 b 30 ≡ 12) × (root ≡ (le32 b 48 + 1) * 4096))
 
--- b is a compound file that has the 128 bytes of the root entry from `root` on, and byte 66 tells that it is one
+-- b is a compound file that has the 128 bytes of the root entry from `root` on, and byte 66 says that it is one
 pub record IsRoot (b : List ℕ) (root : ℕ) : Type 0 where
   pub header : OccursAt b compound_header 0
   pub byte_order : OccursAt b (0xFE ∷ 0xFF ∷ []) 28
@@ -63,3 +64,17 @@ IsXls b = HasClassId old_excel_id b ⊎ HasClassId excel_id b
 -- a presentation of PowerPoint
 abbrev pub IsPpt : List ℕ → Type 0
 IsPpt b = HasClassId powerpoint_id b
+
+-- the version, the byte order and the sector shift of a header, from 26 on
+abbrev pub format_3 : List ℕ
+format_3 = 0x03 ∷ 0x00 ∷ 0xFE ∷ 0xFF ∷ 0x09 ∷ 0x00 ∷ []
+
+abbrev pub format_4 : List ℕ
+format_4 = 0x04 ∷ 0x00 ∷ 0xFE ∷ 0xFF ∷ 0x0C ∷ 0x00 ∷ []
+
+-- as far as b goes it agrees with the format, and with a root entry that has the class id; bytes of the sector's number
+-- that b lacks count as 0, since the entry is past the end of such a b whatever they are
+pub record MayHaveRoot (format : List ℕ) (sector_size : ℕ) (id b : List ℕ) : Type 0 where
+  pub header : AgreesAt b format 26
+  pub kind : AgreesAt b (5 ∷ []) ((le32 b 48 + 1) * sector_size + 66)
+  pub tells : AgreesAt b id ((le32 b 48 + 1) * sector_size + 80)

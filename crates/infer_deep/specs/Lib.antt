@@ -2,6 +2,7 @@
 pub use Rattle.memchr.specs.Find
 pub mod Numbers
 pub mod Places
+pub mod Open
 pub mod Blocks
 pub mod Joined
 pub mod Signatures

@@ -3,6 +3,7 @@ use Rattle.std.specs.Prelude.{◌≡◌, ℕ, ◌+◌, ◌≤◌, ◌⊎◌, Lis
 use Rattle.memchr.specs.Find.{OccursAt}
 use Rattle.infer_deep.specs.Numbers.{le32}
 use Rattle.infer_deep.specs.Places.{IsFirstPlace}
+use Rattle.infer_deep.specs.Open.{AgreesAt, IsFirstOpen}
 
 -- with which the local header of a ZIP entry begins: "APPNOTE.TXT - .ZIP File Format Specification"
 abbrev pub zip_header : List ℕ
@@ -69,3 +70,35 @@ IsPptx b = IsOffice (codes "ppt/") b
 -- a workbook of Excel
 abbrev pub IsXlsx : List ℕ → Type 0
 IsXlsx b = IsOffice (codes "xl/") b
+
+-- one of the folders of Office
+abbrev pub IsFolder : List ℕ → Type 0
+IsFolder folder = (folder ≡ codes "word/") ⊎ (folder ≡ codes "ppt/") ⊎ (folder ≡ codes "xl/")
+
+-- b agrees at 30 with a name that Office gives to a first entry
+abbrev pub MayHaveOfficeName : List ℕ → Type 0
+MayHaveOfficeName b =
+    AgreesAt b (codes "[Content_Types].xml") 30 ⊎ AgreesAt b (codes "_rels/.rels") 30 ⊎ AgreesAt b (codes "docProps") 30
+
+-- p is the least place from s on at which a header stands or may come to stand, and its four bytes end by s + 6000
+abbrev pub IsOpenHeaderFrom : List ℕ → ℕ → ℕ → Type 0
+IsOpenHeaderFrom b s p = IsFirstOpen b zip_header s (s + 6000) p
+
+-- the third header may stand at `third`: it is found as the third header is, except that each header on the way may
+-- still be to come
+pub record IsOpenThird (b : List ℕ) (third : ℕ) : Type 0 where
+  pub second : ℕ
+  pub start_fits : le32 b 18 + 49 ≤ 0xFFFFFFFF
+  pub second_open : IsOpenHeaderFrom b (le32 b 18 + 49) second
+  pub third_open : IsOpenHeaderFrom b (second + 30) third
+
+-- the folder may decide after such a header: b agrees with it there, or no folder of Office stands there and b agrees
+-- with it at the fourth header, found in the same way
+abbrev pub MayDecideBehind : List ℕ → List ℕ → ℕ → Type 0
+MayDecideBehind folder b third =
+    AgreesAt b folder (third + 30)
+    ⊎ ((¬ HasFolder b (third + 30)) × ((fourth : ℕ) × IsOpenHeaderFrom b (third + 56) fourth × AgreesAt b folder (fourth + 30)))
+
+-- it may decide after some such header
+abbrev pub MayDecide : List ℕ → List ℕ → Type 0
+MayDecide folder b = (third : ℕ) × IsOpenThird b third × MayDecideBehind folder b third

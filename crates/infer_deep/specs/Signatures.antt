@@ -1,5 +1,5 @@
 -- What can be said of a signature, which is a property of buffers.
-use Rattle.std.specs.Prelude.{ℕ, ◌↔◌, ◌≤◌, ◌⊎◌, List, ◌++◌, length, take}
+use Rattle.std.specs.Prelude.{ℕ, ◌↔◌, ◌<◌, ◌≤◌, ◌⊎◌, List, ◌++◌, All, length, take}
 
 -- a buffer that has it has it with any bytes after it too
 abbrev pub Lasts : (List ℕ → Type 0) → Type 0
@@ -20,3 +20,7 @@ IsEarly S = (b more : List ℕ) → 1024 ≤ length b → S (b ++ more) → S b
 -- no buffer has both
 abbrev pub AreApart : (List ℕ → Type 0) → (List ℕ → Type 0) → Type 0
 AreApart S T = (b : List ℕ) → S b → ¬ T b
+
+-- some bytes after b make the signature accept it
+abbrev pub Reachable : (List ℕ → Type 0) → List ℕ → Type 0
+Reachable S b = (more : List ℕ) × All (λ x. x < 256) more × S (b ++ more)

@@ -1,6 +1,7 @@
 -- HTML and XML, by what stands first but for white space and byte order marks.
-use Rattle.std.specs.Prelude.{◌≡◌, ℕ, ◌⊎◌, List, [], ◌∷◌, ◌++◌, map, Any, codes, slice_index}
+use Rattle.std.specs.Prelude.{◌≡◌, ◌==◌, ℕ, ◌⊎◌, List, [], ◌∷◌, ◌++◌, map, Any, codes, slice_index}
 use Rattle.std.specs.Char.{to_ascii_lowercase}
+use Rattle.std.specs.List.{filter}
 use Rattle.memchr.specs.Find.{OccursAt}
 use Rattle.infer_deep.specs.Joined.{SkipsTo}
 
@@ -44,12 +45,16 @@ pub record BeginsWithTag (tag b : List ℕ) : Type 0 where
   pub closes : (end ≡ 0x20) ⊎ (end ≡ 0x3E)
   pub whole : b ≡ word ++ end ∷ rest
 
--- the 17 tags that tell HTML
+-- the 17 tags by which HTML is recognised
 abbrev pub tags : List (List ℕ)
 tags =
     codes "<!DOCTYPE HTML" ∷ codes "<HTML" ∷ codes "<HEAD" ∷ codes "<SCRIPT" ∷ codes "<IFRAME" ∷ codes "<H1"
     ∷ codes "<DIV" ∷ codes "<FONT" ∷ codes "<TABLE" ∷ codes "<A" ∷ codes "<STYLE" ∷ codes "<TITLE" ∷ codes "<B"
     ∷ codes "<BODY" ∷ codes "<BR" ∷ codes "<P" ∷ codes "<!--" ∷ []
+
+-- the tags whose second byte is c in lower case
+unfoldable pub tags_with : ℕ → List (List ℕ)
+tags_with c = filter (λ tag. to_ascii_lowercase (slice_index tag 1) == c) tags
 
 -- b is some white space, perhaps none, and then one of the tags
 abbrev pub IsHtml : List ℕ → Type 0

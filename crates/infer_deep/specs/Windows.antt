@@ -1,4 +1,4 @@
--- Types that a text tells which stands somewhere near the beginning.
+-- Types that are recognised by a text somewhere near the beginning.
 use Rattle.std.specs.Prelude.{ℕ, ◌≤◌, List, [], ◌∷◌, length, codes}
 use Rattle.memchr.specs.Find.{OccursAt}
 use Rattle.infer_deep.specs.Places.{IsWithin}

@@ -1,11 +1,12 @@
 //! Archives and documents in one file.
-ghost use Rattle.std.specs.Prelude.{◌↔◌, ◌<◌, slice_index, IsTrue, MatchOption};
-ghost use Rattle.infer_deep.specs.Joined.{BeginsWith, NoneBegins, SkipsTo};
-ghost use Rattle.infer_deep.specs.Frames.{IsFrame, IsFramed, IsLz4, IsZst};
+ghost use Rattle.std.specs.Prelude.{◌↔◌, ◌<◌, ◌≤◌, length, slice_index, IfSome, IsTrue, MatchOption};
+ghost use Rattle.infer_deep.specs.Joined.{BeginsWith, LeadsTo, NoneBegins, SkipsTo};
+ghost use Rattle.infer_deep.specs.Frames.{BeginsFrame, IsFrame, IsFramed, IsLz4, IsZst};
+ghost use Rattle.infer_deep.specs.Signatures.{Reachable};
 ghost use Rattle.infer_deep.specs.Windows.{IsPdf};
 
 use crate::numbers::le32;
-use crate::places::{find, has_at, stands_in};
+use crate::places::{agrees_at, find, has_at, may_stand_by, stands_in};
 
 /// PDF: "%PDF" somewhere in the first 1024 bytes.
 #[tactic(auto, using(crate::proofs::WindowLemmas::found_stands))]
@@ -16,6 +17,13 @@ pub fn is_pdf(buf: &[u8]) -> bool
         return stands_in(buf, b"%PDF");
     }
     find(buf, b"%PDF", 0, 0, 1024).is_some()
+}
+
+/// Whether some bytes after `buf` make it a PDF document.
+pub fn may_become_pdf(buf: &[u8]) -> bool
+    ensures { IsTrue result ↔ Reachable IsPdf buf.now }
+{
+    may_stand_by(buf, b"%PDF", 0, 1024)
 }
 
 /// Zstandard: some skippable frames of RFC 8878, perhaps none, then 28 B5 2F FD.
@@ -30,6 +38,20 @@ pub fn is_lz4(buf: &[u8]) -> bool
     ensures { IsTrue result ↔ IsLz4 buf.now }
 {
     is_framed(buf, b"\x04\x22\x4D\x18")
+}
+
+/// Whether some bytes after `buf` make it Zstandard.
+pub fn may_become_zst(buf: &[u8]) -> bool
+    ensures { IsTrue result ↔ Reachable IsZst buf.now }
+{
+    may_become_framed(buf, b"\x28\xB5\x2F\xFD")
+}
+
+/// Whether some bytes after `buf` make it LZ4.
+pub fn may_become_lz4(buf: &[u8]) -> bool
+    ensures { IsTrue result ↔ Reachable IsLz4 buf.now }
+{
+    may_become_framed(buf, b"\x04\x22\x4D\x18")
 }
 
 /// What follows the skippable frames at the front of `buf`, which is Zstandard or LZ4 exactly if `buf` is.
@@ -51,9 +73,75 @@ fn is_framed(buf: &[u8], magic: &[u8; 4]) -> bool
     has_at(after_frames(buf), magic, 0)
 }
 
-/// What follows the skippable frames at the front of `buf`. Each takes at least 8 bytes away.
+fn may_become_framed(buf: &[u8], magic: &[u8; 4]) -> bool
+    requires { slice_index magic.now 0 < 0x50 }
+    ensures { IsTrue result ↔ Reachable (IsFramed magic.now) buf.now }
+{
+    let rest = after_frames(buf);
+    agrees_at(rest, magic, 0) || may_become_frame(rest)
+}
+
+#[tactic(auto, using(crate::proofs::FrameLemmas::frame_first, crate::proofs::FrameLemmas::frame_mark, crate::proofs::FrameLemmas::frame_reached))]
+fn may_become_frame(buf: &[u8]) -> bool
+    requires { NoneBegins IsFrame buf.now }
+    ensures { IsTrue result ↔ Reachable IsFrame buf.now }
+{
+    if !buf.is_empty() && !(0x50..=0x5F).contains(&buf[0]) {
+        return false;
+    }
+    agrees_at(buf, b"\x2A\x4D\x18", 1)
+}
+
+/// What follows the skippable frames at the front of `buf`.
+fn after_frames(buf: &[u8]) -> &[u8]
+    ensures skips { SkipsTo IsFrame buf.now result.now }
+    ensures stops { NoneBegins IsFrame result.now }
+{
+    after_any_frames(after_frame_blocks(buf))
+}
+
+/// What follows the blocks of four empty frames at the front of `buf`. No frames are more a byte.
+#[inline(always)]
+fn after_frame_blocks(mut buf: &[u8]) -> &[u8]
+    ensures { LeadsTo IsFrame buf.entry.now result.now }
+{
+    while let Some(rest) = after_frame_block(buf) {
+        buf = rest;
+    }
+    buf
+}
+
 #[tactic(auto, using(crate::proofs::JoinedLemmas::leads_past))]
-fn after_frames(mut buf: &[u8]) -> &[u8]
+#[inline(always)]
+fn after_frame_block(buf: &[u8]) -> Option<&[u8]>
+    ensures leads { IfSome result (λ rest. LeadsTo IsFrame buf.now rest.now) }
+    ensures shorter { IfSome result (λ rest. length rest.now < length buf.now) }
+{
+    if buf.len() < 32 {
+        return None;
+    }
+    let first = after_empty_frame(buf)?;
+    let second = after_empty_frame(first)?;
+    let third = after_empty_frame(second)?;
+    after_empty_frame(third)
+}
+
+#[tactic(auto, using(crate::proofs::FrameLemmas::frame_begins))]
+#[inline(always)]
+fn after_empty_frame(buf: &[u8]) -> Option<&[u8]>
+    ensures begins { IfSome result (λ rest. BeginsWith IsFrame buf.now rest.now) }
+    ensures shorter { IfSome result (λ rest. length rest.now < length buf.now) }
+{
+    if buf.len() < 8 || !begins_frame(buf) || le32(buf, 4) != 0 {
+        return None;
+    }
+    Some(&buf[8..])
+}
+
+/// The same of frames of any length, each of which takes at least 8 bytes away.
+#[tactic(auto, using(crate::proofs::JoinedLemmas::leads_past))]
+#[inline(always)]
+fn after_any_frames(mut buf: &[u8]) -> &[u8]
     ensures skips { SkipsTo IsFrame buf.entry.now result.now }
     ensures stops { NoneBegins IsFrame result.now }
 {
@@ -68,7 +156,7 @@ fn after_frames(mut buf: &[u8]) -> &[u8]
 fn after_frame(buf: &[u8]) -> Option<&[u8]>
     ensures { MatchOption result (NoneBegins IsFrame buf.now) (λ rest. BeginsWith IsFrame buf.now rest.now) }
 {
-    if buf.len() < 8 || !(0x50..=0x5F).contains(&buf[0]) || !has_at(buf, b"\x2A\x4D\x18", 1) {
+    if buf.len() < 8 || !begins_frame(buf) {
         return None;
     }
     let end = 8 + le32(buf, 4) as usize;
@@ -76,4 +164,12 @@ fn after_frame(buf: &[u8]) -> Option<&[u8]>
         return None;
     }
     Some(&buf[end..])
+}
+
+#[inline(always)]
+fn begins_frame(buf: &[u8]) -> bool
+    requires { 4 ≤ length buf.now }
+    ensures { IsTrue result ↔ BeginsFrame buf.now }
+{
+    (0x184D2A50..=0x184D2A5F).contains(&le32(buf, 0))
 }

@@ -1,12 +1,15 @@
 //! Documents of Microsoft Office, in compound files and in ZIP archives.
-ghost use Rattle.std.specs.Prelude.{◌↔◌, ◌+◌, ◌≤◌, codes, length, IsTrue};
+ghost use Rattle.std.specs.Prelude.{◌≡◌, ◌↔◌, ◌+◌, ◌*◌, ◌<◌, ◌≤◌, codes, length, IsTrue};
+ghost use Rattle.infer_deep.specs.Numbers.{le32};
 ghost use Rattle.memchr.specs.Find.{OccursAt};
+ghost use Rattle.infer_deep.specs.Open.{IsFirstOpenWithin};
+ghost use Rattle.infer_deep.specs.Signatures.{Reachable};
 ghost use Rattle.infer_deep.specs.Places.{FindsPlace, IsFirstWithin};
-ghost use Rattle.infer_deep.specs.ClassId.{HasClassId, IsDoc, IsPpt, IsRoot, IsXls};
-ghost use Rattle.infer_deep.specs.Office.{HasFolder, HasOfficeName, IsDecidingHeader, IsDecidingPlace, IsDocx, IsOffice, IsPptx, IsThirdHeader, IsXlsx, zip_header};
+ghost use Rattle.infer_deep.specs.ClassId.{HasClassId, IsDoc, IsPpt, IsRoot, IsXls, MayHaveRoot};
+ghost use Rattle.infer_deep.specs.Office.{HasFolder, HasOfficeName, IsDecidingHeader, IsDecidingPlace, IsDocx, IsFolder, IsOffice, IsOpenThird, IsPptx, IsThirdHeader, IsXlsx, MayDecide, MayHaveOfficeName, zip_header};
 
 use crate::numbers::{le16, le32};
-use crate::places::{find, has_at};
+use crate::places::{agrees_at, find, find_open, has_at};
 
 const WORD_ID: [u8; 16] = *b"\x06\x09\x02\x00\x00\x00\x00\x00\xC0\x00\x00\x00\x00\x00\x00\x46";
 
@@ -65,6 +68,50 @@ pub fn is_pptx(buf: &[u8]) -> bool
     is_office(buf, b"ppt/")
 }
 
+/// Whether some bytes after `buf` make it Word's binary document.
+pub fn may_become_doc(buf: &[u8]) -> bool
+    ensures { IsTrue result ↔ Reachable IsDoc buf.now }
+{
+    may_have_class_id(buf, &WORD_ID)
+}
+
+/// Whether some bytes after `buf` make it Excel's binary workbook.
+pub fn may_become_xls(buf: &[u8]) -> bool
+    ensures { IsTrue result ↔ Reachable IsXls buf.now }
+{
+    may_have_class_id(buf, &OLD_EXCEL_ID) || may_have_class_id(buf, &EXCEL_ID)
+}
+
+/// Whether some bytes after `buf` make it PowerPoint's binary presentation.
+pub fn may_become_ppt(buf: &[u8]) -> bool
+    ensures { IsTrue result ↔ Reachable IsPpt buf.now }
+{
+    may_have_class_id(buf, &POWERPOINT_ID)
+}
+
+#[tactic(auto, using(crate::proofs::OpenLemmas::test_from_reads, crate::proofs::ClassIdLemmas::class_id_reached))]
+fn may_have_class_id(buf: &[u8], id: &[u8; 16]) -> bool
+    ensures { IsTrue result ↔ Reachable (HasClassId id.now) buf.now }
+{
+    agrees_at(buf, b"\xD0\xCF\x11\xE0\xA1\xB1\x1A\xE1", 0)
+        && (may_have_root(buf, b"\x03\0\xFE\xFF\x09\0", 512, id)
+            || may_have_root(buf, b"\x04\0\xFE\xFF\x0C\0", 4096, id))
+}
+
+fn may_have_root(buf: &[u8], format: &[u8; 6], sector_size: usize, id: &[u8; 16]) -> bool
+    requires large { 512 ≤ sector_size }
+    requires small { sector_size ≤ 4096 }
+    ensures { IsTrue result ↔ MayHaveRoot format.now sector_size id.now buf.now }
+{
+    if buf.len() < 52 {
+        return agrees_at(buf, format, 26);
+    }
+    let root = root_place(buf, sector_size);
+    agrees_at(buf, format, 26)
+        && agrees_at(buf, b"\x05", root + 66)
+        && agrees_at(buf, id, root + 80)
+}
+
 fn has_class_id(buf: &[u8], id: &[u8; 16]) -> bool
     ensures { IsTrue result ↔ HasClassId id.now buf.now }
 {
@@ -89,11 +136,22 @@ fn root_entry(buf: &[u8]) -> Option<usize>
         (4, 12) => 4096,
         _ => return None,
     };
-    let root = (le32(buf, 48) as usize + 1) * sector_size;
+    let root = root_place(buf, sector_size);
     if buf.len() < root + 128 || buf[root + 66] != 5 {
         return None;
     }
     Some(root)
+}
+
+/// Where the root entry begins, in sectors of that size.
+#[inline(always)]
+fn root_place(buf: &[u8], sector_size: usize) -> usize
+    requires long { 52 ≤ length buf.now }
+    requires small { sector_size ≤ 4096 }
+    ensures is { result ≡ (le32 buf.now 48 + 1) * sector_size }
+    ensures small { result ≤ 0x100000000000 }
+{
+    (le32(buf, 48) as usize + 1) * sector_size
 }
 
 fn is_office<const N: usize>(buf: &[u8], folder: &[u8; N]) -> bool
@@ -103,6 +161,84 @@ fn is_office<const N: usize>(buf: &[u8], folder: &[u8; N]) -> bool
         Some(place) => has_at(buf, folder, place),
         None => false,
     }
+}
+
+/// Whether some bytes after `buf` make it Word's document in a ZIP archive.
+pub fn may_become_docx(buf: &[u8]) -> bool
+    ensures { IsTrue result ↔ Reachable IsDocx buf.now }
+{
+    may_become_office(buf, b"word/")
+}
+
+/// Whether some bytes after `buf` make it Excel's workbook in a ZIP archive.
+pub fn may_become_xlsx(buf: &[u8]) -> bool
+    ensures { IsTrue result ↔ Reachable IsXlsx buf.now }
+{
+    may_become_office(buf, b"xl/")
+}
+
+/// Whether some bytes after `buf` make it PowerPoint's presentation in a ZIP archive.
+pub fn may_become_pptx(buf: &[u8]) -> bool
+    ensures { IsTrue result ↔ Reachable IsPptx buf.now }
+{
+    may_become_office(buf, b"ppt/")
+}
+
+#[tactic(auto, using(crate::proofs::OpenOfficeLemmas::office_reached, crate::proofs::OpenOfficeLemmas::office_known))]
+#[inline(always)]
+fn may_become_office<const N: usize>(buf: &[u8], folder: &[u8; N]) -> bool
+    requires { IsFolder folder.now }
+    ensures { IsTrue result ↔ Reachable (IsOffice folder.now) buf.now }
+{
+    if !agrees_at(buf, b"PK\x03\x04", 0) {
+        return false;
+    }
+    if agrees_at(buf, folder, 30) {
+        return true;
+    }
+    may_have_office_name(buf) && may_decide(buf, folder)
+}
+
+/// Whether `folder` may decide after a name of Office, as far as `buf` goes: at the third header, or if no folder
+/// stands there, at the fourth.
+#[tactic(auto, using(crate::proofs::OpenOfficeLemmas::decide_at))]
+#[inline(never)]
+fn may_decide<const N: usize>(buf: &[u8], folder: &[u8; N]) -> bool
+    requires { 30 < length buf.now }
+    ensures { IsTrue result ↔ MayDecide folder.now buf.now }
+{
+    let third = match open_third(buf) {
+        Some(third) => third,
+        None => return false,
+    };
+    if agrees_at(buf, folder, third + 30) {
+        return true;
+    }
+    if has_folder(buf, third + 30) {
+        return false;
+    }
+    match open_header_from(buf, third + 56) {
+        Some(fourth) => agrees_at(buf, folder, fourth + 30),
+        None => false,
+    }
+}
+
+/// Where the third header stands or may come to stand, if anywhere.
+fn open_third(buf: &[u8]) -> Option<usize>
+    requires { 30 < length buf.now }
+    ensures { FindsPlace (IsOpenThird buf.now) result }
+{
+    let start = second_start(buf)?;
+    let second = open_header_from(buf, start)?;
+    open_header_from(buf, second + 30)
+}
+
+/// The least place from `start` on at which a header stands or may come to stand that ends in the next 6000 bytes.
+fn open_header_from(buf: &[u8], start: usize) -> Option<usize>
+    requires { start ≤ 0x100010000 }
+    ensures { IsFirstOpenWithin buf.now zip_header start (start + 6000) result }
+{
+    find_open(buf, b"PK\x03\x04", 0, start, start + 6000)
 }
 
 /// What follows in `buf` from the folder on that decides, and no bytes if none decides: `buf` is a document of the
@@ -136,7 +272,7 @@ fn deciding_place(buf: &[u8]) -> Option<usize>
     Some(header + 30)
 }
 
-/// Where the header stands whose folder decides after a name of Office: the third, or where it has no folder, the
+/// Where the header stands whose folder decides after a name of Office: the third, or if it has no folder, the
 /// fourth.
 #[tactic(auto, using(crate::proofs::OfficeLemmas::no_third, crate::proofs::OfficeLemmas::fourth_from_search))]
 fn deciding_header(buf: &[u8]) -> Option<usize>
@@ -155,9 +291,19 @@ fn third_header(buf: &[u8]) -> Option<usize>
     requires { 22 ≤ length buf.now }
     ensures { FindsPlace (IsThirdHeader buf.now) result }
 {
-    let start = le32(buf, 18).checked_add(49)?;
-    let second = header_from(buf, start as usize)?;
+    let start = second_start(buf)?;
+    let second = header_from(buf, start)?;
     header_from(buf, second + 30)
+}
+
+/// From where on the second header is searched for: 49 after the size that the first states.
+#[inline(always)]
+fn second_start(buf: &[u8]) -> Option<usize>
+    requires { 22 ≤ length buf.now }
+    ensures { FindsPlace (λ start. (start ≡ le32 buf.now 18 + 49) × (start ≤ 0xFFFFFFFF)) result }
+{
+    let start = le32(buf, 18).checked_add(49)?;
+    Some(start as usize)
 }
 
 /// The least place from `start` on at which a header stands that ends in the next 6000 bytes.
@@ -184,4 +330,12 @@ pub fn has_office_name(buf: &[u8]) -> bool
     has_at(buf, b"[Content_Types].xml", 30)
         || has_at(buf, b"_rels/.rels", 30)
         || has_at(buf, b"docProps", 30)
+}
+
+fn may_have_office_name(buf: &[u8]) -> bool
+    ensures { IsTrue result ↔ MayHaveOfficeName buf.now }
+{
+    agrees_at(buf, b"[Content_Types].xml", 30)
+        || agrees_at(buf, b"_rels/.rels", 30)
+        || agrees_at(buf, b"docProps", 30)
 }

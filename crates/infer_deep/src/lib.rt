@@ -1,4 +1,4 @@
-//! Matchers of the file types that no list of bytes at fixed places tells.
+//! Matchers of the file types that no list of bytes at fixed places describes.
 #![tactic(auto)]
 
 pub mod archive;

@@ -3,8 +3,12 @@ ghost use Rattle.std.specs.Prelude.{◌≡◌, ◌↔◌, ◌+◌, ◌<◌, ◌�
 ghost use Rattle.std.specs.Bool.{OnFalse};
 ghost use Rattle.memchr.specs.Find.{OccursAt};
 ghost use Rattle.infer_deep.specs.Blocks.{LacksPair};
+ghost use Rattle.infer_deep.specs.Open.{AgreesAt, IsFirstOpenWithin, are_bytes};
 ghost use Rattle.infer_deep.specs.Places.{IsFirstWithin};
+ghost use Rattle.infer_deep.specs.Signatures.{Reachable};
+ghost use Rattle.infer_deep.specs.Windows.{StandsBy};
 
+use crate::numbers::{le16, le32};
 use memchr::arch::all::packedpair;
 use memchr::arch::all::packedpair::Pair;
 use memchr::memchr;
@@ -25,17 +29,79 @@ pub(crate) fn has_at<const N: usize>(buf: &[u8], text: &[u8; N], place: usize) -
     place <= buf.len() && N <= buf.len() - place && same_at(buf, text, place)
 }
 
-#[inline(always)]
-fn same_at<const N: usize>(buf: &[u8], text: &[u8; N], place: usize) -> bool
+/// The same if `text` ends in `buf`.
+///
+/// What is compared are words: the compiler makes them of single bytes only if no other comparison reads these.
+#[inline]
+pub fn same_at<const N: usize>(buf: &[u8], text: &[u8; N], place: usize) -> bool
     requires { place + N ≤ length buf.now }
     ensures { IsTrue result ↔ OccursAt buf.now text.now place }
 {
-    // No early exit: of a loop whose length is known the compiler makes words.
-    let mut same = true;
-    for i in 0..N {
-        same &= buf[place + i] == text[i];
+    match N {
+        0 => true,
+        1 => buf[place] == text[0],
+        2 | 3 => same_half(buf, place, text, 0) && same_half(buf, place + (N - 2), text, N - 2),
+        _ => same_words(buf, text, place),
     }
-    same
+}
+
+#[inline]
+fn same_words<const N: usize>(buf: &[u8], text: &[u8; N], place: usize) -> bool
+    requires long { 4 ≤ N }
+    requires fits { place + N ≤ length buf.now }
+    ensures { IsTrue result ↔ OccursAt buf.now text.now place }
+{
+    let mut i = 0;
+    while i < N - 4 {
+        if !same_word(buf, place + i, text, i) {
+            return false;
+        }
+        i += 4;
+    }
+    // The last word overlaps the one before, if the text is no whole number of words.
+    same_word(buf, place + (N - 4), text, N - 4)
+}
+
+/// Whether the two bytes from `place` on are those of `text` from `i` on.
+#[inline]
+fn same_half(buf: &[u8], place: usize, text: &[u8], i: usize) -> bool
+    requires in_buf { place + 2 ≤ length buf.now }
+    requires in_text { i + 2 ≤ length text.now }
+    ensures { IsTrue result ↔ ((k : ℕ) → k < 2 → slice_index buf.now (place + k) ≡ slice_index text.now (i + k)) }
+{
+    le16(buf, place) == le16(text, i)
+}
+
+/// Whether the four bytes from `place` on are those of `text` from `i` on.
+#[inline]
+fn same_word(buf: &[u8], place: usize, text: &[u8], i: usize) -> bool
+    requires in_buf { place + 4 ≤ length buf.now }
+    requires in_text { i + 4 ≤ length text.now }
+    ensures { IsTrue result ↔ ((k : ℕ) → k < 4 → slice_index buf.now (place + k) ≡ slice_index text.now (i + k)) }
+{
+    le32(buf, place) == le32(text, i)
+}
+
+/// Whether `buf` and `text` agree from `place` on, as far as both go: more bytes may make `text` stand there.
+#[tactic(auto, using(crate::proofs::OpenLemmas::stands_where_whole, crate::proofs::OpenLemmas::agrees_where_stands))]
+#[inline(always)]
+pub(crate) fn agrees_at<const N: usize>(buf: &[u8], text: &[u8; N], place: usize) -> bool
+    ensures { IsTrue result ↔ AgreesAt buf.now text.now place }
+{
+    if place <= buf.len() && N <= buf.len() - place {
+        return same_at(buf, text, place);
+    }
+    agrees_at_end(buf, text, place)
+}
+
+/// The same for a text that `buf` ends before or in.
+#[tactic(auto, using(crate::proofs::OpenLemmas::agrees_from_end, crate::proofs::OpenLemmas::end_from_agrees))]
+#[inline(never)]
+fn agrees_at_end(buf: &[u8], text: &[u8], place: usize) -> bool
+    requires { length buf.now < place + length text.now }
+    ensures { IsTrue result ↔ AgreesAt buf.now text.now place }
+{
+    buf.len() <= place || text.starts_with(&buf[place..])
 }
 
 /// Whether `text` stands anywhere in `buf`, place by place: for a short `buf`.
@@ -79,6 +145,52 @@ pub(crate) fn find<const N: usize>(
     search_on(buf, text, rare, start + free, end)
 }
 
+/// The least place from `start` on at which `text` stands or may come to stand, and ends by `end`.
+#[inline(always)]
+pub(crate) fn find_open<const N: usize>(
+    buf: &[u8],
+    text: &[u8; N],
+    rare: usize,
+    start: usize,
+    end: usize,
+) -> Option<usize>
+    requires long { 4 ≤ N }
+    requires pair { rare + 2 ≤ N }
+    requires room { start + N ≤ end }
+    ensures { IsFirstOpenWithin buf.now text.now start end result }
+{
+    if let Some(place) = find(buf, text, rare, start, end) {
+        return Some(place);
+    }
+    // Before `first` the whole of it would stand in `buf`, and from the end of `buf` on it may always come to stand.
+    let first = start.max((buf.len() + 1).saturating_sub(N));
+    let last = start.max(buf.len()).min(end - N);
+    for place in first..last + 1 {
+        if agrees_at(buf, text, place) {
+            return Some(place);
+        }
+    }
+    None
+}
+
+/// Whether some bytes after `buf` make `text` stand in the first `end` bytes.
+#[tactic(auto, using(crate::proofs::WindowLemmas::room_reaches, crate::proofs::WindowLemmas::found_reaches))]
+#[inline(always)]
+pub(crate) fn may_stand_by<const N: usize>(
+    buf: &[u8],
+    text: &[u8; N],
+    rare: usize,
+    end: usize,
+) -> bool
+    requires long { 4 ≤ N }
+    requires pair { rare + 2 ≤ N }
+    requires room { N ≤ end }
+    requires bytes { IsTrue (are_bytes text.now) }
+    ensures { IsTrue result ↔ Reachable (StandsBy text.now end) buf.now }
+{
+    buf.len() <= end - N || find_open(buf, text, rare, 0, end).is_some()
+}
+
 #[inline(never)]
 fn search_on<const N: usize>(
     buf: &[u8],
@@ -94,7 +206,7 @@ fn search_on<const N: usize>(
     search(buf, text, rare, start, end)
 }
 
-/// The same by the first place of the byte of `text` at `rare`, where the whole of it mostly stands.
+/// The same by the first place of the byte of `text` at `rare`, at which the whole of it mostly stands.
 #[inline(always)]
 pub(crate) fn search<const N: usize>(
     buf: &[u8],

@@ -1,9 +1,12 @@
 //! Worked buffers with their answers, and beginnings of a million bytes.
-use crate::archive::{is_lz4, is_pdf, is_zst};
-use crate::doc::{is_doc, is_docx, is_ppt, is_pptx, is_xls, is_xlsx};
-use crate::image::{is_avif, is_heif};
-use crate::text::{is_html, is_xml};
-use crate::video::{is_mkv, is_webm};
+use crate::archive::{is_lz4, is_pdf, is_zst, may_become_lz4, may_become_pdf, may_become_zst};
+use crate::doc::{
+    is_doc, is_docx, is_ppt, is_pptx, is_xls, is_xlsx, may_become_doc, may_become_docx,
+    may_become_xls, may_become_xlsx,
+};
+use crate::image::{is_avif, is_heif, may_become_avif, may_become_heif};
+use crate::text::{is_html, is_xml, may_become_html, may_become_xml};
+use crate::video::{is_mkv, is_webm, may_become_mkv, may_become_webm};
 use std::alloc::{AllocError, Global};
 use std::test::Fail;
 
@@ -255,5 +258,143 @@ fn much_white_space_and_many_marks_are_skipped(rt: HostRuntime) -> Result<(), Fa
     assert!(rt; is_html(&spaces));
     let marks = repeated(rt.alloc(), b"\xFE\xFF", 500_000, b"<?xml")?;
     assert!(rt; is_xml(&marks));
+    Ok(())
+}
+
+#[test]
+fn windows_may_still_fill(rt: HostRuntime) -> Result<(), Fail> {
+    let ends: [(usize, &[u8], bool); 7] = [
+        (1020, b"", true),
+        (1021, b"", false),
+        (1020, b"%", true),
+        (1020, b"%PD", true),
+        (1020, b"%PD ", false),
+        (1021, b"%PD", false),
+        (900, b"%PDF", true),
+    ];
+    for (spaces, end, open) in ends {
+        let buf = repeated(rt.alloc(), b" ", spaces, end)?;
+        assert_eq!(rt; may_become_pdf(&buf), open, "{end:?} after {spaces}");
+    }
+    let types: [(&[u8], usize, bool, bool); 6] = [
+        (b"", 245, true, true),
+        (b"", 249, false, true),
+        (b"\x42\x82", 245, true, true),
+        (b"\x42\x82\x84", 245, false, true),
+        (b"\x42\x82\x88matr", 245, true, false),
+        (b"\x42\x82\x88matr", 246, false, false),
+    ];
+    for (doc_type, place, mkv, webm) in types {
+        let mut buf = b"\x1A\x45\xDF\xA3".to_vec(rt.alloc())?;
+        put(&mut buf, place, doc_type)?;
+        assert_eq!(rt; may_become_mkv(&buf), mkv, "at {place}");
+        assert_eq!(rt; may_become_webm(&buf), webm, "at {place}");
+    }
+    Ok(())
+}
+
+#[test]
+fn frames_and_magic_may_still_follow(rt: HostRuntime) {
+    let rows: [(&[u8], bool, bool); 9] = [
+        (b"", true, true),
+        (b"\x28\xB5", true, false),
+        (b"\x28\xB6", false, false),
+        (b"\x5F\x2A\x4D", true, true),
+        (b"\x60\x2A\x4D", false, false),
+        (b"\x50\x2A\x4D\x18\x02\0", true, true),
+        (b"\x50\x2A\x4D\x18\x02\0\0\0\x28", true, true),
+        (b"\x50\x2A\x4D\x18\x01\0\0\0\x28\x28", true, false),
+        (b"\x50\x2A\x4D\x18\x01\0\0\0\x28\x29", false, false),
+    ];
+    for (buf, zst, lz4) in rows {
+        assert_eq!(rt; may_become_zst(buf), zst, "{buf:?}");
+        assert_eq!(rt; may_become_lz4(buf), lz4, "{buf:?}");
+    }
+}
+
+#[test]
+fn brands_may_still_follow(rt: HostRuntime) {
+    let rows: [(&[u8], bool, bool); 9] = [
+        (b"\0\0", true, true),
+        (b"\0\0\0\x08fty", true, true),
+        (b"\0\0\0\x08ftyq", false, false),
+        (b"\0\0\0\x08ftyphei", true, false),
+        (b"\0\0\0\x14ftypmif1", true, true),
+        (b"\0\0\0\x13ftypmif1", false, false),
+        (b"\0\0\0\x18ftypmif1\0\0\0\0mif1he", true, false),
+        (b"\0\0\0\x1Bftypmif1\0\0\0\0mif1mif1", false, false),
+        (b"\0\0\0\x1Cftypisom\0\0\0\0isomisom", false, true),
+    ];
+    for (buf, heif, avif) in rows {
+        assert_eq!(rt; may_become_heif(buf), heif, "{buf:?}");
+        assert_eq!(rt; may_become_avif(buf), avif, "{buf:?}");
+    }
+}
+
+#[test]
+fn markup_may_still_follow(rt: HostRuntime) {
+    let rows: [(&[u8], bool, bool); 11] = [
+        (b" \n", true, true),
+        (b" <", true, true),
+        (b"<b", true, false),
+        (b"<b\t", false, false),
+        (b"<bod", true, false),
+        (b"<body", true, false),
+        (b"<body\t", false, false),
+        (b"<?XM", false, true),
+        (b"\xEF\xBB", false, true),
+        (b"\xFE\xFF\xFF", false, true),
+        (b"\xFE\xFF ", false, false),
+    ];
+    for (buf, html, xml) in rows {
+        assert_eq!(rt; may_become_html(buf), html, "{buf:?}");
+        assert_eq!(rt; may_become_xml(buf), xml, "{buf:?}");
+    }
+}
+
+#[test]
+fn root_entries_may_still_follow(rt: HostRuntime) -> Result<(), Fail> {
+    let excel: &[u8] = b"\x20\x08\x02\0\0\0\0\0\xC0\0\0\0\0\0\0\x46";
+    let rows = [
+        (3, 9, 8, true, true),
+        (3, 9, 51, true, true),
+        (3, 12, 31, false, false),
+        (3, 12, 30, true, true),
+        (4, 12, 4176, true, true),
+        (4, 12, 4177, false, true),
+        (4, 12, 4224, false, true),
+    ];
+    for (version, shift, len, doc, xls) in rows {
+        let mut buf = compound(rt.alloc(), version, shift, b"\0\0\0\0", 4096, excel)?;
+        buf.truncate(len);
+        assert_eq!(rt; may_become_doc(&buf), doc, "{version} {shift} {len}");
+        assert_eq!(rt; may_become_xls(&buf), xls, "{version} {shift} {len}");
+    }
+    Ok(())
+}
+
+#[test]
+fn folders_may_still_follow(rt: HostRuntime) -> Result<(), Fail> {
+    let excel: &[u8] = b"xl/";
+    let none: &[u8] = b"\0\0\0";
+    let packages: [(&[u8], u16, &[u8], usize, bool, bool); 11] = [
+        (b"\0\0\0\0", 0, excel, 3, true, true),
+        (b"\0\0\0\0", 0, excel, 35, true, true),
+        (b"\0\0\0\0", 0, excel, 109, true, true),
+        (b"\0\0\0\0", 0, excel, 111, true, true),
+        (b"\0\0\0\0", 0, excel, 112, false, true),
+        (b"\0\0\0\0", 0, none, 164, true, true),
+        (b"\0\0\0\0", 0, none, 166, true, false),
+        (b"\0\0\0\0", 5997, none, 6047, false, false),
+        (b"\0\0\0\0", 5997, none, 6045, true, true),
+        (b"\xCF\xFF\xFF\xFF", 0, none, 60, false, false),
+        (b"\xCE\xFF\xFF\xFF", 0, none, 60, true, true),
+    ];
+    for (size, gap, folder, len, docx, xlsx) in packages {
+        let mut buf = package(rt.alloc(), size, gap, folder)?;
+        buf.truncate(len);
+        assert_eq!(rt; may_become_docx(&buf), docx, "{size:?} {gap} {len}");
+        assert_eq!(rt; may_become_xlsx(&buf), xlsx, "{size:?} {gap} {len}");
+    }
     Ok(())
 }

@@ -1,31 +1,13 @@
 //! Text that begins with markup.
 ghost use Rattle.std.specs.Prelude.{◌≡◌, ◌↔◌, ◌⊎◌, ◌<◌, ◌≤◌, map, length, slice_index, Any, IfSome, IsTrue, MatchOption};
 ghost use Rattle.std.specs.Bool.{OnTrue};
+ghost use Rattle.std.specs.Char.{to_ascii_lowercase};
 ghost use Rattle.infer_deep.specs.Blocks.{AllBelow};
 ghost use Rattle.infer_deep.specs.Joined.{BeginsWith, LeadsTo, NoneBegins, SkipsTo};
-ghost use Rattle.infer_deep.specs.Text.{BeginsInAnyCase, BeginsWithTag, IsHtml, IsMark, IsSpace, IsWhite, IsXml};
+ghost use Rattle.infer_deep.specs.Text.{BeginsInAnyCase, BeginsWithTag, IsHtml, IsMark, IsSpace, IsWhite, IsXml, tags_with};
+ghost use Rattle.infer_deep.specs.Signatures.{Reachable};
 
-use crate::places::has_at;
-
-const TAGS: [&[u8]; 17] = [
-    b"<!DOCTYPE HTML",
-    b"<HTML",
-    b"<HEAD",
-    b"<SCRIPT",
-    b"<IFRAME",
-    b"<H1",
-    b"<DIV",
-    b"<FONT",
-    b"<TABLE",
-    b"<A",
-    b"<STYLE",
-    b"<TITLE",
-    b"<B",
-    b"<BODY",
-    b"<BR",
-    b"<P",
-    b"<!--",
-];
+use crate::places::{agrees_at, has_at};
 
 const BIG_MARKS: [u8; 32] = *b"\xFE\xFF\xFE\xFF\xFE\xFF\xFE\xFF\xFE\xFF\xFE\xFF\xFE\xFF\xFE\xFF\
     \xFE\xFF\xFE\xFF\xFE\xFF\xFE\xFF\xFE\xFF\xFE\xFF\xFE\xFF\xFE\xFF";
@@ -46,7 +28,7 @@ pub fn is_html(buf: &[u8]) -> bool
     if !opens_tag(text) {
         return false;
     }
-    begins_with_some_tag(text, &TAGS)
+    begins_with_some_tag(text, tags_with(text[1]))
 }
 
 /// XML: any white space (09 0A 0C 0D 20), then any byte order marks (EF BB BF, FE FF, FF FE), then "<?xml" in any
@@ -59,6 +41,25 @@ pub fn is_xml(buf: &[u8]) -> bool
 {
     let text = trim_start_byte_order_marks(trim_start_whitespaces(buf));
     begins_in_any_case(text, b"<?xml")
+}
+
+/// Whether some bytes after `buf` make it HTML.
+pub fn may_become_html(buf: &[u8]) -> bool
+    ensures { IsTrue result ↔ Reachable IsHtml buf.now }
+{
+    let text = trim_start_whitespaces(buf);
+    if text.len() < 2 {
+        return text.is_empty() || text[0] == b'<';
+    }
+    text[0] == b'<' && may_begin_some_tag(text, tags_with(text[1]))
+}
+
+/// Whether some bytes after `buf` make it XML.
+pub fn may_become_xml(buf: &[u8]) -> bool
+    ensures { IsTrue result ↔ Reachable IsXml buf.now }
+{
+    let text = trim_start_byte_order_marks(trim_start_whitespaces(buf));
+    may_begin_in_any_case(text, b"<?xml") || may_become_mark(text)
 }
 
 /// What follows the white space at the front of `buf`, which is HTML or XML exactly if `buf` is.
@@ -75,9 +76,29 @@ pub fn after_white_space(buf: &[u8]) -> &[u8]
 
 #[inline(always)]
 fn opens_tag(text: &[u8]) -> bool
-    ensures { IsTrue result ↔ (slice_index text.now 0 ≡ 0x3C) }
+    ensures { IsTrue result ↔ ((1 < length text.now) × (slice_index text.now 0 ≡ 0x3C)) }
 {
-    !text.is_empty() && text[0] == b'<'
+    text.len() > 1 && text[0] == b'<'
+}
+
+/// The tags with this second byte, in any ASCII case. A text begins with no other tag than those with its own.
+#[tactic(auto, unfolding(crate::specs::Text::tags_with))]
+fn tags_with(second: u8) -> &'static [&'static [u8]]
+    ensures { map (λ tag. tag.now) result.now ≡ tags_with (to_ascii_lowercase second) }
+{
+    match second.to_ascii_lowercase() {
+        b'!' => &[b"<!DOCTYPE HTML", b"<!--"],
+        b'a' => &[b"<A"],
+        b'b' => &[b"<B", b"<BODY", b"<BR"],
+        b'd' => &[b"<DIV"],
+        b'f' => &[b"<FONT"],
+        b'h' => &[b"<HTML", b"<HEAD", b"<H1"],
+        b'i' => &[b"<IFRAME"],
+        b'p' => &[b"<P"],
+        b's' => &[b"<SCRIPT", b"<STYLE"],
+        b't' => &[b"<TABLE", b"<TITLE"],
+        _ => &[],
+    }
 }
 
 fn trim_start_whitespaces(buf: &[u8]) -> &[u8]
@@ -233,6 +254,16 @@ fn after_mark(buf: &[u8]) -> Option<&[u8]>
     None
 }
 
+#[tactic(auto, using(crate::proofs::TextLemmas::reaches_mark))]
+fn may_become_mark(buf: &[u8]) -> bool
+    requires { NoneBegins IsMark buf.now }
+    ensures { IsTrue result ↔ Reachable IsMark buf.now }
+{
+    agrees_at(buf, b"\xEF\xBB\xBF", 0)
+        || agrees_at(buf, b"\xFE\xFF", 0)
+        || agrees_at(buf, b"\xFF\xFE", 0)
+}
+
 fn begins_with_some_tag(buf: &[u8], tags: &[&[u8]]) -> bool
     ensures { IsTrue result ↔ Any (λ tag. BeginsWithTag tag buf.now) (map (λ t. t.now) tags.now) }
 {
@@ -260,6 +291,30 @@ fn begins_in_any_case(buf: &[u8], text: &[u8]) -> bool
     ensures { IsTrue result ↔ BeginsInAnyCase text.now buf.now }
 {
     buf.len() >= text.len() && buf[..text.len()].eq_ignore_ascii_case(text)
+}
+
+fn may_begin_some_tag(buf: &[u8], tags: &[&[u8]]) -> bool
+    ensures { IsTrue result ↔ Any (λ tag. Reachable (BeginsWithTag tag) buf.now) (map (λ t. t.now) tags.now) }
+{
+    tags.iter().any(|tag| may_begin_tag(buf, tag))
+}
+
+#[tactic(auto, using(crate::proofs::TextLemmas::tag_reached, crate::proofs::TextLemmas::text_reached, crate::proofs::TextLemmas::tag_closed, crate::proofs::OpenLemmas::test_from_reads))]
+fn may_begin_tag(buf: &[u8], tag: &[u8]) -> bool
+    ensures { IsTrue result ↔ Reachable (BeginsWithTag tag.now) buf.now }
+{
+    if buf.len() > tag.len() && !closes_tag(buf[tag.len()]) {
+        return false;
+    }
+    may_begin_in_any_case(buf, tag)
+}
+
+#[tactic(auto, using(crate::proofs::TextLemmas::known_from_reached, crate::proofs::TextLemmas::reached_from_known, crate::proofs::OpenLemmas::test_from_reads))]
+fn may_begin_in_any_case(buf: &[u8], text: &[u8]) -> bool
+    ensures { IsTrue result ↔ Reachable (BeginsInAnyCase text.now) buf.now }
+{
+    let known = buf.len().min(text.len());
+    buf[..known].eq_ignore_ascii_case(&text[..known])
 }
 
 #[cfg(test)]

@@ -2,7 +2,7 @@
 use Rattle.std.proofs.Common.{length}
 use Rattle.infer_deep.specs.Joined.{LeadsTo}
 use Rattle.infer_deep.specs.Frames.{IsFrame}
-use Rattle.infer_deep.proofs.archive.after_frames.Given as goal
+use Rattle.infer_deep.proofs.archive.after_any_frames.Given as goal
 
 abbrev pub invariant-loop-rest : goal.invariant-loop-rest
 invariant-loop-rest l = LeadsTo IsFrame l.fn.buf l.buf

@@ -1,0 +1,305 @@
+-- What bytes after a buffer can bring: texts that agree with it as far as it goes.
+use Rattle.std.proofs.Common.{IsTrue, ◌≡◌, ◌⊎◌, ◌↔◌, ℕ, zero, suc, ◌+◌, ◌-◌, ◌<◌, ◌≤◌, inl, inr, Bool, true, List, [], ◌∷◌, ◌++◌, length, get_or, take, drop, max, min, refl, sym, ap, subst, ◌∙◌, arith, length-append, length-drop, append_assoc}
+use Rattle.std.proofs.Math.Seq.{get_or-append_right}
+use Rattle.std.proofs.lemmas.Bool.{lt-ltb, cases_lt, cases_order, ltb-true}
+use Rattle.std.proofs.lemmas.List.{append-nil, get_or_append_left, get_or-drop, length-replicate}
+use Rattle.std.proofs.lemmas.List.Elements.{All-append, All-drop, All-from_get_or, All-nil, All-replicate}
+use Rattle.std.proofs.lemmas.List.{take_rest}
+use Rattle.std.proofs.lemmas.List.Prefix.{front_reads, front_from_reads}
+use Rattle.std.proofs.lemmas.Slice.Eq.{starts_is}
+use Rattle.std.proofs.lemmas.Bool.Decides.{Decides-eqb}
+use Rattle.std.proofs.lemmas.List.Sums.{AllPass-from_list_all, list_all-from_AllPass}
+use Rattle.std.specs.List.{starts_with}
+use Rattle.std.specs.Prelude.{All, nat_eq, nat_lt, replicate}
+use Rattle.memchr.specs.Find.{OccursAt}
+use Rattle.infer_deep.specs.Places.{IsWithin, IsFirstPlace}
+use Rattle.infer_deep.specs.Open.{are_bytes, AgreesAt, MayStandWithin, IsFirstOpen}
+use Rattle.infer_deep.specs.Signatures.{Reachable}
+use Rattle.infer_deep.proofs.PlaceLemmas.{IsUnique, OccursAt-append}
+
+abbrev pub IsBytes : List ℕ → Type 0
+IsBytes b = All (λ x. x < 256) b
+
+pub bytes_from_test : (text : List ℕ) → IsTrue (are_bytes text) → IsBytes text
+bytes_from_test text is k d l = ltb-true _ 256 (AllPass-from_list_all (λ x. nat_lt x 256) text is k d l)
+
+pub test_from_reads : (text : List ℕ) → ((i : ℕ) → get_or text i 0 < 256) → IsTrue (are_bytes text)
+test_from_reads text h =
+    list_all-from_AllPass (λ x. nat_lt x 256) text (λ k d l. lt-ltb _ 256 (All-from_get_or (λ x. x < 256) text 0 (λ i m. h i) k d l))
+
+-- what can be reached after some more bytes can be reached
+pub Reachable-grown : (S : List ℕ → Type 0) (b more : List ℕ) → IsBytes more → Reachable S (b ++ more) → Reachable S b
+Reachable-grown S b more bytes (rest, all, h) =
+    (more ++ rest, All-append (λ x. x < 256) more rest bytes all, subst S (append_assoc b more rest) h)
+
+-- and what is there
+pub Reachable-here : (S : List ℕ → Type 0) (b : List ℕ) → S b → Reachable S b
+Reachable-here S b h = ([], All-nil (λ x. x < 256), subst S (sym (append-nil b)) h)
+
+-- a text agrees where it stands, also in what b grows to
+pub agrees_where_stands : (b text : List ℕ) (p : ℕ) → OccursAt b text p → AgreesAt b text p
+agrees_where_stands b text p o = record { reads = λ k l m. o.reads k l }
+
+pub AgreesAt-front : (b more text : List ℕ) (p : ℕ) → AgreesAt (b ++ more) text p → AgreesAt b text p
+AgreesAt-front b more text p a = record {
+  reads = λ k l m. sym (get_or_append_left b more 0 (p + k) m) ∙ a.reads k l (omega (arith, length-append b more));
+}
+
+pub grown_agrees : (b more text : List ℕ) (p : ℕ) → OccursAt (b ++ more) text p → AgreesAt b text p
+grown_agrees b more text p o = AgreesAt-front b more text p (agrees_where_stands (b ++ more) text p o)
+
+-- it stands where it agrees and is whole, and agrees with what is past the end
+pub stands_where_whole : (b text : List ℕ) (p : ℕ) → p + length text ≤ length b → AgreesAt b text p → OccursAt b text p
+stands_where_whole b text p whole a = record { fits = whole; reads = λ k l. a.reads k l (omega arith) }
+
+pub agrees_past : (b text : List ℕ) (p : ℕ) → length b ≤ p → AgreesAt b text p
+agrees_past b text p past = record { reads = λ k l m. absurd (omega arith) }
+
+pub agrees_none : (b : List ℕ) (p : ℕ) → AgreesAt b [] p
+agrees_none b p = record { reads = λ k l m. absurd (omega arith) }
+
+-- bytes that do not reach past n change nothing from n on
+pub AgreesAt-later : (b more text : List ℕ) (n p : ℕ) → length (b ++ more) ≤ max (length b) n → n ≤ p → AgreesAt b text p → AgreesAt (b ++ more) text p
+AgreesAt-later b more text n p short late a = record {
+  reads = λ k l m. get_or_append_left b more 0 (p + k) (omega arith) ∙ a.reads k l (omega arith);
+}
+
+-- the bytes of a text at a place that a buffer of n bytes lacks
+missing : ℕ → List ℕ → ℕ → List ℕ
+missing place t n = replicate (place - n) 0 ++ drop (n - place) t
+
+length-missing : (place : ℕ) (t : List ℕ) (n : ℕ) → length (missing place t n) ≡ (place - n) + (length t - (n - place))
+unfolding missing
+length-missing place t n = simp (length-append, length-replicate, length-drop) refl
+
+read_missing : (place : ℕ) (t : List ℕ) (n k : ℕ) → n ≤ place + k → get_or (missing place t n) (place + k - n) 0 ≡ get_or t k 0
+unfolding missing
+read_missing place t n k l =
+    let zeros : length (replicate {A = ℕ} (place - n) 0) ≡ place - n = length-replicate {A = ℕ} (place - n) 0 in
+    get_or-append_right (replicate (place - n) 0) (drop (n - place) t) (place + k - n) 0 (omega arith)
+    ∙ get_or-drop (n - place) t (place + k - n - length (replicate {A = ℕ} (place - n) 0)) 0
+    ∙ ap (λ i. get_or t i 0) (omega arith)
+
+bytes-missing : (place : ℕ) (t : List ℕ) (n : ℕ) → IsBytes t → IsBytes (missing place t n)
+unfolding missing
+bytes-missing place t n h =
+    All-append (λ x. x < 256) (replicate (place - n) 0) (drop (n - place) t)
+    (All-replicate (λ x. x < 256) (place - n) 0 (omega arith)) (All-drop (λ x. x < 256) (n - place) t h)
+
+missing_stands : (b text : List ℕ) (p : ℕ) → AgreesAt b text p → OccursAt (b ++ missing p text (length b)) text p
+missing_stands b text p a = record {
+  fits = omega (arith, length-append b (missing p text (length b)), length-missing p text (length b));
+  reads = λ k l. elim (cases_lt (p + k) (length b)) [
+    | inl m ↦ get_or_append_left b (missing p text (length b)) 0 (p + k) m ∙ a.reads k l m
+    | inr m ↦ get_or-append_right b (missing p text (length b)) (p + k) 0 m ∙ read_missing p text (length b) k m
+  ];
+}
+
+-- bytes after b with which it is H, and reaches to `end` and not past it
+pub record Fills (H : List ℕ → Type 0) (b : List ℕ) (end : ℕ) : Type 0 where
+  pub more : List ℕ
+  pub bytes : IsBytes more
+  pub holds : H (b ++ more)
+  pub long : end ≤ length (b ++ more)
+  pub short : length (b ++ more) ≤ max (length b) end
+
+pub fills_text : (b text : List ℕ) (p : ℕ) → IsTrue (are_bytes text) → AgreesAt b text p → Fills (λ c. OccursAt c text p) b (p + length text)
+fills_text b text p bytes a = record {
+  more = missing p text (length b);
+  bytes = bytes-missing p text (length b) (bytes_from_test text bytes);
+  holds = missing_stands b text p a;
+  long = omega (arith, (missing_stands b text p a).fits);
+  short = omega (arith, length-append b (missing p text (length b)), length-missing p text (length b));
+}
+
+pub reaches_text : (b text : List ℕ) (p : ℕ) → IsTrue (are_bytes text) → AgreesAt b text p ↔ Reachable (λ c. OccursAt c text p) b
+reaches_text b text p bytes = (
+  λ a. let f = fills_text b text p bytes a in (f.more, f.bytes, f.holds),
+  λ (more, all, o). grown_agrees b more text p o,
+)
+
+-- a text with its place
+pub record Part : Type 0 where
+  pub place : ℕ
+  pub text : List ℕ
+
+abbrev pub AllAgree : List Part → List ℕ → Type 0
+AllAgree [] b = Unit
+AllAgree (x ∷ xs) b = AgreesAt b x.text x.place × AllAgree xs b
+
+abbrev pub AllStand : List Part → List ℕ → Type 0
+AllStand [] b = Unit
+AllStand (x ∷ xs) b = OccursAt b x.text x.place × AllStand xs b
+
+pub AllStand-append : (xs : List Part) (b more : List ℕ) → AllStand xs b → AllStand xs (b ++ more)
+AllStand-append [] b more s = tt
+AllStand-append (x ∷ xs) b more s = (OccursAt-append b more x.text x.place s.0, AllStand-append xs b more s.1)
+
+-- the parts are bytes, lie apart in that order from n on, and end by `end`
+abbrev pub LieApart : ℕ → List Part → ℕ → Type 0
+LieApart n [] end = n ≤ end
+LieApart n (x ∷ xs) end = (n ≤ x.place) × IsTrue (are_bytes x.text) × LieApart (x.place + length x.text) xs end
+
+end_after : (xs : List Part) (n end : ℕ) → LieApart n xs end → n ≤ end
+end_after [] n end l = l
+end_after (x ∷ xs) n end l = let rest = end_after xs (x.place + length x.text) end l.2 in omega (arith, l.0)
+
+AllAgree-later : (xs : List Part) (b more : List ℕ) (n end : ℕ) → length (b ++ more) ≤ max (length b) n → LieApart n xs end → AllAgree xs b → AllAgree xs (b ++ more)
+AllAgree-later [] b more n end short l a = tt
+AllAgree-later (x ∷ xs) b more n end short l a = (
+  AgreesAt-later b more x.text n x.place short l.0 a.0,
+  AllAgree-later xs b more (x.place + length x.text) end (omega (arith, l.0)) l.2 a.1,
+)
+
+-- parts that agree can be made to stand
+pub fills_parts : (xs : List Part) (b : List ℕ) (n end : ℕ) → LieApart n xs end → AllAgree xs b → Fills (AllStand xs) b end
+fills_parts [] b n end l a = let f = fills_text b [] end refl (agrees_none b end) in
+    record { more = f.more; bytes = f.bytes; holds = tt; long = omega (arith, f.long); short = omega (arith, f.short) }
+fills_parts (x ∷ xs) b n end l a =
+    let first = fills_text b x.text x.place l.1 a.0 in
+    let rest = fills_parts xs (b ++ first.more) (x.place + length x.text) end l.2
+    (AllAgree-later xs b first.more (x.place + length x.text) end first.short l.2 a.1) in
+    let same = append_assoc b first.more rest.more in
+    let after = end_after xs (x.place + length x.text) end l.2 in
+    record {
+      more = first.more ++ rest.more;
+      bytes = All-append (λ x. x < 256) first.more rest.more first.bytes rest.bytes;
+      holds = (
+        subst (λ c. OccursAt c x.text x.place) same (OccursAt-append (b ++ first.more) rest.more x.text x.place first.holds),
+        subst (AllStand xs) same rest.holds,
+      );
+      long = omega (arith, rest.long, ap length same);
+      short = omega (arith, first.short, rest.short, ap length same);
+    }
+
+-- what a comparison of a text with the end of a buffer says
+module _ (b text : List ℕ) (p : ℕ) (r : Bool) (e : r ≡ starts_with nat_eq text (take (length b - p) (drop p b)))
+    (l : p < length b) (short : length b < p + length text) where
+  end_tested : r ≡ starts_with nat_eq text (drop p b)
+  end_tested = e ∙ ap (λ u. starts_with nat_eq text u) (take_rest b p)
+
+  pub agrees_from_end : r ≡ true → AgreesAt b text p
+  agrees_from_end is =
+      let split = (starts_is Decides-eqb text (drop p b) r end_tested).0 is in
+      record {
+        reads = λ k in_text in_b.
+            sym (front_reads 0 text (drop p b) _ split k (omega (arith, length-drop p b)) ∙ get_or-drop p b k 0);
+      }
+
+  pub end_from_agrees : AgreesAt b text p → r ≡ true
+  end_from_agrees a = (starts_is Decides-eqb text (drop p b) r end_tested).1 _
+      (front_from_reads 0 text (drop p b) (omega (arith, length-drop p b))
+      (λ k in_end. sym (get_or-drop p b k 0 ∙ a.reads k (omega (arith, length-drop p b)) (omega (arith, length-drop p b)))))
+
+-- a least place at which a text stands is the least at which it may
+pub first_open_from_first : (b text : List ℕ) (start end p : ℕ) → IsFirstPlace b text start end p → IsFirstOpen b text start end p
+first_open_from_first b text start end p f = record {
+  here = record { agrees = agrees_where_stands b text p f.here.stands; low = f.here.low; high = f.here.high };
+  before = λ q lt m. f.before q lt
+      (record { stands = stands_where_whole b text q (let fits = f.here.stands.fits in omega arith) m.agrees; low = m.low; high = m.high });
+}
+
+-- if it stands nowhere, it may stand only from `first` on, since before that it would be whole; at `last`, where the
+-- buffer ends or no later place is left, there is nothing more to try
+module _ (b text : List ℕ) (start end first last : ℕ) (none : (q : ℕ) → ¬ IsWithin b text start end q) (some : 0 < length text)
+    (room : start + length text ≤ end) (is_first : first ≡ max start (length b + 1 - length text))
+    (is_last : last ≡ min (max start (length b)) (end - length text)) where
+  before_first : (q : ℕ) → q < first → ¬ MayStandWithin b text start end q
+  before_first q lt m =
+      none q (record { stands = stands_where_whole b text q (let low = m.low in omega arith) m.agrees; low = m.low; high = m.high })
+
+  pub first_open_found : (n : ℕ) → first ≤ n → n ≤ last → ((k : ℕ) → first ≤ k → k < n → ¬ AgreesAt b text k)
+      → AgreesAt b text n → IsFirstOpen b text start end n
+  first_open_found n low high passed a = record {
+    here = record { agrees = a; low = omega arith; high = omega arith };
+    before = λ q lt m. grind (arith, before_first q, passed q, m.agrees);
+  }
+
+  pub none_open_found : ((k : ℕ) → first ≤ k → k < last + 1 → ¬ AgreesAt b text k) → (p : ℕ) → ¬ MayStandWithin b text start end p
+  none_open_found passed p m = grind (arith, before_first p, passed p, passed last, agrees_past b text last, m.agrees)
+
+-- ---- least places
+
+-- the least place is one, and stays it under bytes that do not reach past the start
+pub IsFirstOpen-same : (b text : List ℕ) (start end : ℕ) → IsUnique (IsFirstOpen b text start end)
+IsFirstOpen-same b text start end p q f g =
+    let not_before = g.before p in
+    let not_after = f.before q in
+    grind (arith, f.here, g.here)
+
+pub IsFirstOpen-later : (b more text : List ℕ) (start end n p : ℕ) → length (b ++ more) ≤ max (length b) n → n ≤ start
+    → IsFirstOpen b text start end p → IsFirstOpen (b ++ more) text start end p
+IsFirstOpen-later b more text start end n p short late f = record {
+  here = record { agrees = AgreesAt-later b more text n p short (omega (arith, f.here.low)) f.here.agrees; low = f.here.low; high = f.here.high };
+  before = λ q lt m. f.before q lt (record { agrees = AgreesAt-front b more text q m.agrees; low = m.low; high = m.high });
+}
+
+-- put at the least place at which it may stand, a text stands there first
+pub fills_first : (b text : List ℕ) (start end p : ℕ) → IsTrue (are_bytes text) → IsFirstOpen b text start end p
+    → Fills (λ c. IsFirstPlace c text start end p) b (p + length text)
+fills_first b text start end p bytes first =
+    let f = fills_text b text p bytes first.here.agrees in
+    record {
+      more = f.more;
+      bytes = f.bytes;
+      holds = record {
+        here = record { stands = f.holds; low = first.here.low; high = first.here.high };
+        before = λ q lt w. first.before q lt (record { agrees = grown_agrees b f.more text q w.stands; low = w.low; high = w.high });
+      };
+      long = f.long;
+      short = f.short;
+    }
+
+-- if it is whole there, it stands there first whatever follows
+pub first_where_whole : (b more text : List ℕ) (start end p q : ℕ) → p + length text ≤ length b
+    → IsFirstOpen b text start end p → IsFirstPlace (b ++ more) text start end q → q ≡ p
+first_where_whole b more text start end p q whole f g =
+    let agrees = grown_agrees b more text q g.here.stands in
+    let stands = OccursAt-append b more text p (stands_where_whole b text p whole f.here.agrees) in
+    let not_before = λ (l : q < p). f.before q l (record { agrees = agrees; low = g.here.low; high = g.here.high }) in
+    let not_after = λ (l : p < q). g.before p l (record { stands = stands; low = f.here.low; high = f.here.high }) in
+    omega arith
+
+-- if there is such a place there is a least one
+module _ (b text : List ℕ) where
+  agrees_to : ℕ → ℕ → Type 0
+  agrees_to p n = (k : ℕ) → k < n → p + k < length b → get_or b (p + k) 0 ≡ get_or text k 0
+
+  decide_to : (p n : ℕ) → agrees_to p n ⊎ (agrees_to p n → ⊥)
+  unfolding agrees_to
+  decide_to p zero = inl (λ k l m. absurd (omega arith))
+  decide_to p (suc n) =
+      elim (decide_to p n) [
+        | inr differ ↦ inr (λ same. differ (λ k l m. same k (omega arith) m))
+        | inl same ↦ elim (cases_order (get_or b (p + n) 0) (get_or text n 0)) [
+          | inl e ↦ inl (λ k l m. grind (arith, same k))
+          | inr other ↦ elim (cases_lt (p + n) (length b)) [
+            | inl within ↦ inr (λ all. let e = all n (omega arith) within in omega arith)
+            | inr past ↦ inl (λ k l m. same k (omega arith) m)
+          ]
+        ]
+      ]
+
+  first_to : (start end n : ℕ) → ((q : ℕ) → q < n → ¬ MayStandWithin b text start end q) ⊎ ((p : ℕ) × IsFirstOpen b text start end p)
+  unfolding agrees_to
+  first_to start end zero = inl (λ q l m. omega arith)
+  first_to start end (suc n) =
+      elim (first_to start end n) [
+        | inr found ↦ inr found
+        | inl none ↦ elim (decide_to n (length text)) [
+          | inr differs ↦ inl (λ q l m. elim (cases_lt q n) [
+            | inl before ↦ none q before m
+            | inr at ↦ let here : q ≡ n = omega arith in differs (λ k in_text in_b. (subst (AgreesAt b text) here m.agrees).reads k in_text in_b)
+          ])
+          | inl agrees ↦ elim (cases_lt n start) [
+            | inl low ↦ inl (λ q l m. none q (let from = m.low in omega arith) m)
+            | inr low ↦ elim (cases_lt end (n + length text)) [
+              | inl high ↦ inl (λ q l m. none q (let to = m.high in omega arith) m)
+              | inr high ↦ inr (n, record { here = record { agrees = record { reads = agrees }; low = low; high = high }; before = none })
+            ]
+          ]
+        ]
+      ]
+
+  pub first_open : (start end q : ℕ) → MayStandWithin b text start end q → (p : ℕ) × IsFirstOpen b text start end p
+  first_open start end q m = elim (first_to start end (q + 1)) [ inl none ↦ absurd (none q (omega arith) m) | inr found ↦ found ]
