@@ -1,3 +1,4 @@
 pub mod ListLemmas
 pub mod PlaceLemmas
 pub mod SignatureLemmas
+pub mod OpenLemmas

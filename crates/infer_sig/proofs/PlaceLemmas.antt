@@ -1,10 +1,12 @@
--- A text stands just where each of its bytes does.
-use Rattle.std.proofs.Common.{◌≡◌, ℕ, suc, ◌+◌, ◌-◌, ◌<◌, ◌≤◌, ◌↔◌, List, [], ◌∷◌, ◌++◌, length, get_or, take, drop, refl, sym, ap, ◌∙◌, arith, eqb, nat_eq, IsTrue, length-append, length-drop, get_or-drop, take-take}
+-- A text stands at a place exactly if each of its bytes does.
+use Rattle.std.proofs.Common.{◌≡◌, Bool, ℕ, suc, ◌+◌, ◌-◌, ◌<◌, ◌≤◌, ◌↔◌, List, [], ◌∷◌, ◌++◌, length, get_or, take, drop, refl, sym, ap, ◌∙◌, arith, eqb, nat_eq, IsTrue, length-append, length-drop, get_or-drop, take-take}
 use Rattle.std.proofs.lemmas.Bool.{and_from, eq-eqb}
 use Rattle.std.proofs.lemmas.List.{drop-take, get_or_append_left}
 use Rattle.std.proofs.lemmas.Bool.Decides.{Decides-eqb}
 use Rattle.std.proofs.lemmas.Slice.Eq.{starts_is}
+use Rattle.std.specs.Cmp.{both_ways}
 use Rattle.std.specs.Cmp.Lexicographic.{pointwise}
+use Rattle.infer_deep.specs.Find.{OccursAt}
 use Rattle.std.specs.List.{starts_with}
 use Rattle.infer_sig.specs.Signature.{stands}
 use Rattle.infer_sig.specs.Places.{StandsByPlace}
@@ -49,3 +51,11 @@ stands-take place n t buf within =
     let cut : drop place (take n buf) ≡ take (n - place) (drop place buf) =
     ap (λ m. drop place (take m buf)) (omega arith) ∙ drop-take place (n - place) buf in
     ap (pointwise nat_eq t) (ap (take (length t)) cut ∙ take-take (length t) (n - place) (drop place buf) (omega arith))
+
+-- a test of whether it stands there is the signature's
+pub stands_from_occurs : (place : ℕ) (t buf : List ℕ) (r : Bool) → place + length t ≤ length buf
+    → IsTrue r ↔ OccursAt buf t place → r ≡ stands place t buf
+stands_from_occurs place t buf r fits h =
+    both_ways r (stands place t buf)
+    (λ e. (stands_by_place place t buf).1 (λ k l. (omega arith, (h.0 e).reads k l)))
+    (λ e. h.1 (record { fits = fits; reads = λ k l. ((stands_by_place place t buf).0 e k l).1 }))

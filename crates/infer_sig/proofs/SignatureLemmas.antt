@@ -11,7 +11,7 @@ use Rattle.infer_sig.specs.Laws.{Lasts, IsNear, Leads, is_part_within, is_altern
 
 -- ---- a buffer that goes on
 
-part_lasts : (buf more : List ℕ) (part : Part) → IsTrue (has_part buf part) → IsTrue (has_part (buf ++ more) part)
+pub part_lasts : (buf more : List ℕ) (part : Part) → IsTrue (has_part buf part) → IsTrue (has_part (buf ++ more) part)
 part_lasts buf more (text place t) h = stands_lasts place t buf more h
 part_lasts buf more (any_text place ts) h = list_any_passes _ _ (λ t. stands_lasts place t buf more) ts h
 part_lasts buf more (byte place set) h =

@@ -25,7 +25,7 @@ is_alternative_within n (at_least least parts) = nat_le least n && list_all (is_
 abbrev pub is_within : ℕ → List Alternative → Bool
 is_within n signature = list_all (is_alternative_within n) signature
 
--- the text may stand where the byte f does
+-- the text can begin with the byte f
 abbrev pub text_lead : List ℕ → ℕ → Bool
 text_lead [] f = true
 text_lead (c ∷ cs) f = c == f

@@ -11,3 +11,4 @@ pub mod Archive
 pub mod Text
 pub mod Places
 pub mod Laws
+pub mod Open

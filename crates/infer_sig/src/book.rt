@@ -1,11 +1,13 @@
 //! Books.
 ghost use Rattle.std.specs.Prelude.{◌≡◌};
+ghost use Rattle.infer_sig.specs.Open.{may_accept};
 ghost use Rattle.infer_sig.specs.Signature.{accepts};
 ghost use Rattle.infer_sig.specs.Book.{epub, mobi};
 
-use crate::places::stands_at;
+use crate::places::{agrees_at, stands_at};
 
 /// EPUB: at least 58 bytes, a ZIP header first, "mimetypeapplication/epub+zip" at 30.
+#[inline(always)]
 pub fn is_epub(buf: &[u8]) -> bool
     ensures { result ≡ accepts epub buf.now }
 {
@@ -14,10 +16,24 @@ pub fn is_epub(buf: &[u8]) -> bool
         && stands_at(buf, b"mimetypeapplication/epub+zip", 30)
 }
 
+/// Whether some bytes after `buf` make it an EPUB book.
+pub fn may_become_epub(buf: &[u8]) -> bool
+    ensures { result ≡ may_accept epub buf.now }
+{
+    agrees_at(buf, b"PK\x03\x04", 0) && agrees_at(buf, b"mimetypeapplication/epub+zip", 30)
+}
+
 /// Mobipocket: at least 68 bytes, "BOOKMOBI" at 60.
 #[inline(always)]
 pub fn is_mobi(buf: &[u8]) -> bool
     ensures { result ≡ accepts mobi buf.now }
 {
     buf.len() >= 68 && stands_at(buf, b"BOOKMOBI", 60)
+}
+
+/// Whether some bytes after `buf` make it a Mobipocket book.
+pub fn may_become_mobi(buf: &[u8]) -> bool
+    ensures { result ≡ may_accept mobi buf.now }
+{
+    agrees_at(buf, b"BOOKMOBI", 60)
 }

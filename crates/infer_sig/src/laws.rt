@@ -3,6 +3,7 @@ ghost use Rattle.std.specs.Prelude.{◌↔◌, ℕ, List, IsTrue};
 ghost use Rattle.infer_sig.specs.Signature.{Alternative, stands};
 ghost use Rattle.infer_sig.specs.Places.{StandsByPlace};
 ghost use Rattle.infer_sig.specs.Laws.{IsNear, Lasts, Leads, is_within};
+ghost use Rattle.infer_sig.specs.Open.{Begins, IsOpen, is_sound};
 
 /// A text stands at a place exactly if each place from there on is in the buffer and holds the text's byte.
 #[tactic(auto, using(crate::proofs::PlaceLemmas::stands_by_place))]
@@ -24,4 +25,15 @@ pub fn near()
 /// A buffer that a signature accepts begins with a byte that the signature allows there.
 pub fn leads()
     ensures { (signature : List Alternative) → Leads signature }
+{}
+
+/// If the parts of each alternative ascend, lie apart and are possible, bytes after a buffer can make the signature
+/// accept it exactly if the buffer has an alternative as far as it goes.
+pub fn open()
+    ensures { (signature : List Alternative) → IsTrue (is_sound signature) → IsOpen signature }
+{}
+
+/// With each byte that such a signature allows first begins a buffer that it accepts.
+pub fn begins()
+    ensures { (signature : List Alternative) → IsTrue (is_sound signature) → Begins signature }
 {}

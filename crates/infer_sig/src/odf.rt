@@ -1,11 +1,13 @@
 //! OpenDocument files.
 ghost use Rattle.std.specs.Prelude.{◌≡◌};
+ghost use Rattle.infer_sig.specs.Open.{may_accept};
 ghost use Rattle.infer_sig.specs.Signature.{accepts};
 ghost use Rattle.infer_sig.specs.Odf.{odp, ods, odt};
 
-use crate::places::stands_at;
+use crate::places::{agrees_at, stands_at};
 
 /// OpenDocument text: at least 77 bytes, a ZIP header first, "mimetype" at 30, "vnd.oasis.opendocument.text" at 50.
+#[inline(always)]
 pub fn is_odt(buf: &[u8]) -> bool
     ensures { result ≡ accepts odt buf.now }
 {
@@ -15,8 +17,18 @@ pub fn is_odt(buf: &[u8]) -> bool
         && stands_at(buf, b"vnd.oasis.opendocument.text", 50)
 }
 
+/// Whether some bytes after `buf` make it an OpenDocument text.
+pub fn may_become_odt(buf: &[u8]) -> bool
+    ensures { result ≡ may_accept odt buf.now }
+{
+    agrees_at(buf, b"PK\x03\x04", 0)
+        && agrees_at(buf, b"mimetype", 30)
+        && agrees_at(buf, b"vnd.oasis.opendocument.text", 50)
+}
+
 /// OpenDocument spreadsheet: at least 84 bytes, a ZIP header first, "mimetype" at 30,
 /// "vnd.oasis.opendocument.spreadsheet" at 50.
+#[inline(always)]
 pub fn is_ods(buf: &[u8]) -> bool
     ensures { result ≡ accepts ods buf.now }
 {
@@ -26,8 +38,18 @@ pub fn is_ods(buf: &[u8]) -> bool
         && stands_at(buf, b"vnd.oasis.opendocument.spreadsheet", 50)
 }
 
+/// Whether some bytes after `buf` make it an OpenDocument spreadsheet.
+pub fn may_become_ods(buf: &[u8]) -> bool
+    ensures { result ≡ may_accept ods buf.now }
+{
+    agrees_at(buf, b"PK\x03\x04", 0)
+        && agrees_at(buf, b"mimetype", 30)
+        && agrees_at(buf, b"vnd.oasis.opendocument.spreadsheet", 50)
+}
+
 /// OpenDocument presentation: at least 85 bytes, a ZIP header first, "mimetype" at 30,
 /// "vnd.oasis.opendocument.presentation" at 50.
+#[inline(always)]
 pub fn is_odp(buf: &[u8]) -> bool
     ensures { result ≡ accepts odp buf.now }
 {
@@ -35,4 +57,13 @@ pub fn is_odp(buf: &[u8]) -> bool
         && stands_at(buf, b"PK\x03\x04", 0)
         && stands_at(buf, b"mimetype", 30)
         && stands_at(buf, b"vnd.oasis.opendocument.presentation", 50)
+}
+
+/// Whether some bytes after `buf` make it an OpenDocument presentation.
+pub fn may_become_odp(buf: &[u8]) -> bool
+    ensures { result ≡ may_accept odp buf.now }
+{
+    agrees_at(buf, b"PK\x03\x04", 0)
+        && agrees_at(buf, b"mimetype", 30)
+        && agrees_at(buf, b"vnd.oasis.opendocument.presentation", 50)
 }

@@ -1,7 +1,10 @@
 //! Comparisons with texts of a stated length, which compile to comparisons of words.
 ghost use Rattle.std.specs.Prelude.{◌≡◌, ◌≤◌, ◌+◌, length};
 ghost use Rattle.std.specs.List.{list_any};
+ghost use Rattle.infer_sig.specs.Open.{agrees};
 ghost use Rattle.infer_sig.specs.Signature.{stands};
+
+use infer_deep::places::same_at;
 
 /// Whether `text` stands in `buf` from `place` on.
 #[inline(always)]
@@ -9,13 +12,7 @@ pub fn stands_at<const N: usize>(buf: &[u8], text: &[u8; N], place: usize) -> bo
     requires { place + N ≤ length buf.now }
     ensures { result ≡ stands place text.now buf.now }
 {
-    // No early exit: of a text whose length is known the compiler makes whole words.
-    let part = &buf[place..place + N];
-    let mut same = true;
-    for i in 0..N {
-        same &= part[i] == text[i];
-    }
-    same
+    same_at(buf, text, place)
 }
 
 /// Whether one of the texts does.
@@ -24,10 +21,43 @@ pub fn any_stands_at<const N: usize>(buf: &[u8], texts: &[[u8; N]], place: usize
     requires { place + N ≤ length buf.now }
     ensures { result ≡ list_any (λ t. stands place t buf.now) texts.now }
 {
-    // No early exit, as above.
+    // No early exit: of texts whose number is known the compiler makes vectors.
     let mut any = false;
     for text in texts {
         any |= stands_at(buf, text, place);
     }
     any
+}
+
+/// Whether as much of `text` as `buf` has room for from `place` on stands there.
+#[tactic(auto, using(crate::proofs::OpenLemmas::agrees_whole))]
+#[inline(always)]
+pub fn agrees_at<const N: usize>(buf: &[u8], text: &[u8; N], place: usize) -> bool
+    ensures { result ≡ agrees place text.now buf.now }
+{
+    if place <= buf.len() && N <= buf.len() - place {
+        return stands_at(buf, text, place);
+    }
+    begins_at(buf, text, place)
+}
+
+/// Whether one of the texts does.
+#[inline(always)]
+pub fn any_agrees_at<const N: usize>(buf: &[u8], texts: &[[u8; N]], place: usize) -> bool
+    ensures { result ≡ list_any (λ t. agrees place t buf.now) texts.now }
+{
+    let agrees = |text: &[u8; N]| -> bool
+        ensures { result ≡ agrees place text.now buf.entry.now }
+    { agrees_at(buf, text, place) };
+    texts.iter().any(agrees)
+}
+
+/// Whether a text does of which `buf` has no more than a part: a function of its own, since most have room.
+#[tactic(auto, unfolding(crate::specs::Open::agrees, crate::specs::Signature::stands))]
+#[inline(never)]
+fn begins_at(buf: &[u8], text: &[u8], place: usize) -> bool
+    requires { length buf.now ≤ place + length text.now }
+    ensures { result ≡ agrees place text.now buf.now }
+{
+    place >= buf.len() || buf[place..].starts_with(&text[..buf.len() - place])
 }

@@ -1,0 +1,68 @@
+-- What a buffer leaves open of a fixed signature, since more bytes may follow.
+use Rattle.std.specs.Prelude.{◌↔◌, ◌-◌, ℕ, Bool, true, false, List, [], ◌∷◌, length, take, slice_index, ◌&&◌, ◌||◌, nat_le, nat_lt, IsTrue}
+use Rattle.std.specs.List.{list_any, list_all}
+use Rattle.infer_deep.specs.Signatures.{Reachable}
+use Rattle.infer_sig.specs.Laws.{is_part_within, lead}
+use Rattle.infer_sig.specs.Signature.{Alternative, at_least, Bytes, any_of, between, all_but, Part, text, any_text, byte, allows, stands, accepts}
+
+-- as much of the text as the buffer has room for from the place on stands there
+unfoldable pub agrees : ℕ → List ℕ → List ℕ → Bool
+agrees place t buf = stands place (take (length buf - place) t) buf
+
+-- as far as the buffer goes, it has what the part asks
+abbrev pub may_have : List ℕ → Part → Bool
+may_have buf (text place t) = agrees place t buf
+may_have buf (any_text place ts) = list_any (λ t. agrees place t buf) ts
+may_have buf (byte place set) = nat_le (length buf) place || allows set (slice_index buf place)
+
+-- and every part of the alternative
+abbrev pub may_fit : List ℕ → Alternative → Bool
+may_fit buf (at_least n parts) = list_all (may_have buf) parts
+
+-- and this of some alternative of the signature
+abbrev pub may_accept : List Alternative → List ℕ → Bool
+may_accept signature buf = list_any (may_fit buf) signature
+
+-- every number in the text is a byte
+abbrev pub is_text : List ℕ → Bool
+is_text t = list_all (λ x. nat_lt x 256) t
+
+-- some byte is in the set
+abbrev pub has_byte : Bytes → Bool
+has_byte (any_of xs) = list_any (λ x. nat_lt x 256) xs
+has_byte (between low high) = nat_le low high && nat_lt low 256
+has_byte (all_but y) = true
+
+-- some bytes are what the part asks
+abbrev pub is_possible : Part → Bool
+is_possible (text place t) = is_text t
+is_possible (any_text place []) = false
+is_possible (any_text place (t ∷ ts)) = list_all is_text (t ∷ ts)
+is_possible (byte place set) = has_byte set
+
+-- the place from which the part asks
+abbrev pub place_of : Part → ℕ
+place_of (text place t) = place
+place_of (any_text place ts) = place
+place_of (byte place set) = place
+
+-- each part ends before those that follow it begin
+abbrev pub are_apart : List Part → Bool
+are_apart [] = true
+are_apart (part ∷ parts) = list_all (λ later. is_part_within (place_of later) part) parts && are_apart parts
+
+-- the parts ascend, lie apart and are possible
+abbrev pub is_alternative_sound : Alternative → Bool
+is_alternative_sound (at_least n parts) = are_apart parts && list_all is_possible parts
+
+-- so are those of each alternative of the signature
+abbrev pub is_sound : List Alternative → Bool
+is_sound signature = list_all is_alternative_sound signature
+
+-- bytes after a buffer can make the signature accept it exactly if the buffer has it as far as it goes
+abbrev pub IsOpen : List Alternative → Type 0
+IsOpen signature = (buf : List ℕ) → IsTrue (may_accept signature buf) ↔ Reachable (λ b. IsTrue (accepts signature b)) buf
+
+-- with each byte that the signature allows first begins a buffer that it accepts
+abbrev pub Begins : List Alternative → Type 0
+Begins signature = (f : ℕ) → IsTrue (lead signature f) → Reachable (λ b. IsTrue (accepts signature b)) (f ∷ [])
