@@ -1,6 +1,7 @@
 -- The first of the candidates that has a property is the first row of the table that has it.
 use Rattle.std.proofs.Common.{◌≡◌, ◌<◌, ◌+◌, ℕ, zero, suc, Bool, true, false, List, [], ◌∷◌, get_or, length, drop, length-drop, drop-cons, add-one, sym, subst, ap, arith, IsTrue, refl, Option, Some, None, MatchOption, if◌then◌else◌, inl, inr, is_some, ◌↔◌}
 use Rattle.std.specs.List.{slice_get, AllWithin, HoldsAt}
+use Rattle.std.proofs.lemmas.Bool.{ne_eqb}
 use Rattle.std.proofs.lemmas.List.Elements.{AllWithin-more, AllWithin-none, AllWithin-upto}
 use Rattle.std.proofs.lemmas.List.Folds.{none_from_all_within}
 use Rattle.infer.specs.BuiltIn.{BuiltIn}
@@ -8,10 +9,12 @@ use Rattle.infer.specs.First.{IsFirstOf, NoneHas, SomeHas}
 use Rattle.infer.specs.Leads.{Leads, allows_first, candidates, candidates_of, places_from}
 use Rattle.infer.specs.Row.{Row, Accepts}
 use Rattle.infer.specs.Table.{table}
-use Rattle.infer.specs.Walks.{IsFirstAmong, RowHas, Takes}
+use Rattle.infer.specs.Walks.{IsFirstAmong, RowHas, Takes, row_numbered}
 use Rattle.infer.specs.declared.ask.question.Wanted.{Wanted}
 use Rattle.infer.specs.declared.ask.question.Wanted.TheVariants.{Every}
+use Rattle.infer.specs.declared.table.rows.TheConstants.{ROW_COUNT}
 use Rattle.infer.proofs.ListLemmas.{HoldsAt-read}
+use Rattle.infer.proofs.TableLemmas.{length-table}
 
 -- what is read at a place has the property just if the place is inside, and the property holds there
 pub read_has : {A : Type 0} (P : A → Type 0) (xs : List A) (i : ℕ) → MatchOption (slice_get xs i) ⊥ P ↔ ((i < length xs) × HoldsAt P xs i)
@@ -49,7 +52,7 @@ module _ (P : Row BuiltIn → Type 0) where
         first_step (test x) i _ o lt none (λ has. only x (rw (let same : x ≡ get_or table i x = cc in same) (((read_has P table i).0 has).1 x)))
         (λ more. first_from xs (suc i) o (cc) (rw add-one at more)) h
 
-    -- where only rows that pass a test have the property, they alone are looked at
+    -- if only rows that pass a test have the property, they alone are looked at
     pub first_listed : (o : Option ℕ) → IsFirstAmong (RowHas P) (places_from test 0 table) o → IsFirstOf P table o
     first_listed o h = first_from table 0 o refl (AllWithin-none (λ r. ¬ P r) table 0) h
 
@@ -63,6 +66,19 @@ first_of_buffer leads blank wanted [] cs o same h =
 first_of_buffer leads blank wanted (f ∷ b) cs o same h =
     first_listed (Takes wanted (f ∷ b)) (λ r. allows_first r.signature f) (λ r t. leads r.signature f b t.1) o
     (subst (λ ns. IsFirstAmong (RowHas (Takes wanted (f ∷ b))) ns o) same h)
+
+-- the first of some numbers that a row has is the number of a row
+pub first_is_row : (P : Row BuiltIn → Type 0) (ns : List ℕ) (i : ℕ) → IsFirstAmong (RowHas P) ns (Some i) → i < ROW_COUNT
+unfolding IsFirstAmong
+first_is_row P [] i h = absurd (cc)
+first_is_row P (n ∷ ns) i (inl h) =
+    let same : i ≡ n = cc in
+    let within = ((read_has P table n).0 h.0).0 in
+    omega (arith, length-table)
+first_is_row P (n ∷ ns) i (inr h) = first_is_row P ns i h.1
+
+pub row_numbered-row : (i : ℕ) → i < ROW_COUNT → row_numbered i ≡ Some i
+row_numbered-row i l = rw (ne_eqb i 4294967295 (λ e. omega (arith, e, l))) refl
 
 pub some_of_first : {A : Type 0} (P : A → Type 0) (xs : List A) (o : Option ℕ) (r : Bool) → r ≡ is_some o → IsFirstOf P xs o → IsTrue r ↔ SomeHas P xs
 some_of_first P xs None r e none = (λ t. absurd (cc), λ some. absurd (none_from_all_within P xs none some))

@@ -1,4 +1,4 @@
--- What a computation tells of a built-in signature and a buffer.
+-- What a computation says of a built-in signature and a buffer.
 use Rattle.std.proofs.Common.{◌≡◌, ◌≤◌, ◌⊎◌, inl, inr, ℕ, suc, ◌+◌, ◌-◌, ◌*◌, ◌/◌, List, [], ◌∷◌, ◌++◌, map, length, get_or, replicate, take, eqb, IsTrue, refl, ap, subst, ◌∙◌, codes, arith, lit≤, append_assoc, Bool}
 use Rattle.std.specs.Char.{to_ascii_lowercase}
 use Rattle.std.specs.List.{list_any, AllByRecursion, concat}
@@ -139,7 +139,7 @@ module _ (by_place : ByPlace) (b : List ℕ) where
     room ← needs (at_most 20 (be32 b 0)) (λ (k, lt, o). omega arith)
     unknown
 
-  -- where the sectors are the smaller
+  -- if the sectors are the smaller
   abbrev root : ℕ
   root = (le32 b 48 + 1) * 512
 

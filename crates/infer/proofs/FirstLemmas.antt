@@ -1,4 +1,4 @@
--- The first element with a property is one, and stands no later where more elements have it.
+-- The first element with a property is one, and stands no later if more elements have it.
 use Rattle.std.proofs.Common.{◌≡◌, ◌<◌, ℕ, List, [], ◌∷◌, length, Option, None, Some, arith}
 use Rattle.std.specs.List.{HoldsAt, AllWithin}
 use Rattle.infer.specs.First.{IsFirstOf}
@@ -9,7 +9,7 @@ among : {A : Type 0} (P : A → Type 0) (xs : List A) (i n : ℕ) → i < length
 among P [] i n lt below here none = absurd (omega arith)
 among P (x ∷ xs) i n lt below here none = none i x (omega arith) below (here x)
 
--- where a second property holds of each element that has the first
+-- if a second property holds of each element that has the first
 module _ {A : Type 0} (P Q : A → Type 0) (xs : List A) (grows : (i : ℕ) → i < length xs → HoldsAt P xs i → HoldsAt Q xs i) where
   pub IsNotLater-grows : (before after : Option ℕ) → IsFirstOf P xs before → IsFirstOf Q xs after → IsNotLater after before
   IsNotLater-grows None after none first = tt

@@ -14,7 +14,7 @@ module _ (at room n : ℕ) (out new : List ℕ) (within : at ≤ length out) (fi
       ap (λ k. take (k + n) (take at out ++ rest)) (sym (length-take-le at out within)) ∙ take-append-add (take at out) rest n
       ∙ ap (λ l. take at out ++ l) (take-append-le n new _ fits)
 
-  -- the read that gave n bytes was due, where those before it did not suffice
+  -- the read that gave n bytes was due, if those before it did not suffice
   pub IsDue-read : (piece : ℕ) (Suffices : List ℕ → Type 0) → n ≢ 0 → n ≤ piece → (¬ Suffices (take at out))
       → IsDue piece Suffices (take (at + n) (put_mid at room out new))
   IsDue-read piece Suffices some few before =

@@ -1,4 +1,4 @@
--- What a computation tells of a claim: a proof of it, a proof that it fails, or nothing.
+-- What a computation says of a claim: a proof of it, a proof that it fails, or nothing.
 use Rattle.std.proofs.Common.{◌≡◌, ◌≤◌, ◌<◌, ◌⊎◌, inl, inr, ℕ, Bool, true, false, List, eqb, leb, IsTrue, refl, length, take, get_or, subst, arith}
 use Rattle.std.specs.Bool.{Decides}
 use Rattle.std.specs.List.{AllWithin, list_all}
@@ -36,7 +36,7 @@ module _ {P : Type 0} where
   decided true d = proved (d.0 refl)
   decided false d = refuted (not_from_Decides false d refl)
 
-  -- what the first tells, and where it tells nothing what the second does
+  -- what the first says, and what the second does if the first says nothing
   abbrev pub ◌>>◌ : Known P → Known P → Known P
   ◌>>◌ unknown k = k
   ◌>>◌ h k = h

@@ -18,3 +18,5 @@ pub mod BreakLemmas
 pub mod CandidateLemmas
 pub mod AskLemmas
 pub mod SlotLemmas
+pub mod DecidedLemmas
+pub mod FirstByteLemmas

@@ -80,7 +80,7 @@ module _ {A : Type 0} (P : A → Type 0) (xs ys : List A) where
     | inr le ↦ inr (h.0 - length xs, omega (arith, h.1, length-append xs ys), λ d. rw (← get_or-append_right xs ys (length xs) h.0 d refl le) (h.2 d))
   ]
 
-  -- where the front has none, it is that of the rest
+  -- if the front has none, it is that of the rest
   pub IsFirst-right : (i : ℕ) → NoneHas P xs → IsFirst P ys i → IsFirst P (xs ++ ys) (length xs + i)
   IsFirst-right i none h = record {
     within = omega (arith, h.within, length-append xs ys);

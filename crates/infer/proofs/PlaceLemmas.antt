@@ -1,4 +1,4 @@
--- What a computation tells of a text in a buffer: that it stands at a place, or at none of some places.
+-- What a computation says of a text in a buffer: that it stands at a place, or at none of some places.
 use Rattle.std.proofs.Common.{◌≡◌, ◌<◌, ◌≤◌, ℕ, zero, suc, ◌+◌, ◌-◌, Bool, true, ◌&&◌, not, ◌↔◌, List, [], ◌∷◌, length, drop, leb, IsTrue, ap, nat_eq, subst, ◌∙◌, arith}
 use Rattle.std.specs.List.{starts_with}
 use Rattle.std.proofs.lemmas.List.{drop-drop}

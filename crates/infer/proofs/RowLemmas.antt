@@ -37,7 +37,7 @@ IsAnswer-from_map f P same rows (Some t) h =
     (h.0, first, λ d. sym (same _) ∙ HoldsAt-from_map f (λ r. r.shows ≡ t) rows h.0 first.within h.2 d)
 
 module _ {S : Type 0} (P : Row S → Type 0) (xs ys : List (Row S)) where
-  -- where the front has none, it is that of the rest
+  -- if the front has none, it is that of the rest
   pub IsAnswer-right : (o : Option Triple) → NoneHas P xs → IsAnswer P ys o → IsAnswer P (xs ++ ys) o
   IsAnswer-right None none h = NoneHas-both P xs ys none h
   IsAnswer-right (Some t) none h =

@@ -38,7 +38,7 @@ unfolding HasWanted ListSlots rows_in
 wanted_in_slot wanted text_of text asks lists slot d listed e lt =
     ((λ r. slot_of (text_of r) == slot_of text), listed slot d lt ∙ ap (rows_in text_of) e, λ r w. eq-eqb (slot_of (text_of r)) (slot_of text) (ap slot_of (asks r w)))
 
--- one of them that has a property of rows that are asked for tells that of the table
+-- if one of them has a property of rows that are asked for, so has one of the table
 module _ (P : Row BuiltIn → Type 0) (wanted : Wanted) (asks : (x : Row BuiltIn) → P x → IsWanted wanted x) where
   pub some_listed : (rows : List ℕ) (r : Bool) → HasWanted wanted rows → IsTrue r ↔ SomeHas (RowHas P) rows → IsTrue r ↔ SomeHas P table
   unfolding HasWanted

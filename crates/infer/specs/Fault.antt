@@ -1,4 +1,4 @@
--- What a result tells of a fault.
+-- What a result says of a fault.
 use Rattle.std.specs.Prelude.{Option, None, Some, Result, Ok, Err}
 use Rattle.std.specs.declared.io.ErrorKind.{ErrorKind}
 use Rattle.infer.specs.declared.read.fault.Fault.{Fault}

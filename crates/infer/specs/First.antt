@@ -1,4 +1,4 @@
--- The first row of a list that has a property, and what it tells.
+-- The first row of a list that has a property, and what it shows.
 use Rattle.std.specs.Prelude.{◌≡◌, ◌<◌, ℕ, List, Option, Some, None, length}
 use Rattle.std.specs.List.{HoldsAt, AllWithin}
 use Rattle.infer.specs.Row.{Row}

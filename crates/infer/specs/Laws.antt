@@ -36,7 +36,7 @@ module _ {X : Type 0} {g : Contracts X} where
       (buf : List ℕ) (t : Triple) → IsAnswer (AnyAccepts buf) all (Some t)
       → SomeBoth (HasExtension t.extension) (AnyAccepts buf) all × SomeBoth (HasMimeType t.mime_type) (AnyAccepts buf) all
 
-  -- what a call tells of an answer by these rows, it tells of the built-in rows
+  -- what holds of a call's answer by these rows holds by the built-in rows
   pub record AnswersAsBuiltIn (all : List (Row (Signature X g))) : Type 0 where
     pub answer : (buf : List ℕ) (o : Option Triple) → IsAnswer (AnyAccepts buf) all o → IsAnswer (Accepts buf) table o
     pub file : (n : ℕ) (result : Result (Option FileType) Fault) → AnswersSome n AnyAccepts all result → AnswersSome n Accepts table result

@@ -11,6 +11,7 @@ pub use Rattle.infer_sig.specs.Odf
 pub use Rattle.infer_sig.specs.Text
 pub use Rattle.infer_sig.specs.Video
 pub use Rattle.infer_sig.specs.Laws as FixedLaws
+pub use Rattle.infer_sig.specs.Open as FixedOpen
 pub use Rattle.infer_deep.specs.Find
 pub use Rattle.infer_deep.specs.Numbers
 pub use Rattle.infer_deep.specs.Places
@@ -39,6 +40,7 @@ pub mod Reading
 pub mod Leads
 pub mod Walks
 pub mod Arms
+pub mod Decided
 pub mod Laws
 pub mod Samples
 pub mod Listed

@@ -1,4 +1,4 @@
--- What a call tells that reads at most n bytes and answers by some rows.
+-- What holds of a call that reads at most n bytes and answers by some rows.
 use Rattle.std.specs.Prelude.{◌≡◌, ◌≤◌, ℕ, List, Option, Some, Result, IfOk, IfSome, IsErrOf, OnErr, OnOk, drop, length, option_map}
 use Rattle.infer.specs.Buffer.{IsBuffer, head}
 use Rattle.infer.specs.Fault.{OpensNothing, read_fault}

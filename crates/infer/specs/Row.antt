@@ -12,6 +12,6 @@ pub record Row (Signature : Type 0) : Type 0 where
 abbrev pub Accepts : List ℕ → Row BuiltIn → Type 0
 Accepts b r = IsAccepted r.signature b
 
--- what the row tells
+-- what the row shows
 abbrev pub shows : {S : Type 0} → Row S → Triple
 shows r = r.shows

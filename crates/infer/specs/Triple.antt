@@ -1,4 +1,4 @@
--- What a type tells of itself.
+-- What a type shows of itself.
 use Rattle.std.specs.Prelude.{ℕ, List}
 use Rattle.infer.specs.declared.table.file_type.MatcherType.{MatcherType}
 use Rattle.infer.specs.declared.table.file_type.FileType.{FileType}

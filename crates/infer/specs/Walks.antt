@@ -1,5 +1,5 @@
 -- The first of some rows, named by their numbers, and which were asked.
-use Rattle.std.specs.Prelude.{◌≡◌, ◌⊎◌, ◌&&◌, ℕ, Bool, true, false, List, [], ◌∷◌, Option, None, Some, MatchOption, length, nat_le}
+use Rattle.std.specs.Prelude.{◌≡◌, ◌==◌, ◌⊎◌, ◌&&◌, ℕ, Bool, true, false, List, [], ◌∷◌, Option, None, Some, MatchOption, length, nat_le, if◌then◌else◌}
 use Rattle.std.specs.List.{filter, slice_get}
 use Rattle.std.specs.Option.{option_map_or}
 use denote.Ref.{Bor}
@@ -28,6 +28,10 @@ named (Some extension) = Extension extension
 unfoldable pub IsFirstAmong : (ℕ → Type 0) → List ℕ → Option ℕ → Type 0
 IsFirstAmong P [] o = o ≡ None
 IsFirstAmong P (i ∷ is) o = (P i × (o ≡ Some i)) ⊎ ((¬ P i) × IsFirstAmong P is o)
+
+-- the row with that number of 32 bits, of which the greatest stands for no row
+abbrev pub row_numbered : ℕ → Option ℕ
+row_numbered n = if n == 4294967295 then None else Some n
 
 -- row i is there and is one that is asked for
 abbrev pub is_wanted : Wanted → ℕ → Bool

@@ -7,6 +7,7 @@ ghost use Rattle.infer_sig.specs.App.{java, mach};
 ghost use Rattle.infer_sig.specs.Signature.{accepts};
 ghost use Rattle.infer.specs.Arrivals.{Beginning, Begins, BeginsAlone, NewcomersAreAwaited, last_after};
 ghost use Rattle.infer.specs.BuiltIn.{BuiltIn};
+ghost use Rattle.infer.specs.Decided.{AllowsExactly, DecidedByRows};
 ghost use Rattle.infer.specs.First.{IsFirst, IsFirstOf};
 ghost use Rattle.infer.specs.Laws.{AnswersAreNamed, AnswersAsBuiltIn, Breaks, FrontDecides, IsSteady, AnyLasts, OnlyTheTwelveFollow};
 ghost use Rattle.infer.specs.Matchers.{Lasts, OthersAreNear, is_of_the_twelve, signatures};
@@ -95,6 +96,23 @@ pub fn arrival()
 pub fn single()
     ensures { (buf : List ℕ) (o p : Option ℕ) → IsFirstOf (Accepts buf) table o → IsFirstOf (Accepts buf) table p → o ≡ p }
 {}
+
+/// No bytes after a buffer change its answer exactly if none of the rows before the answer, of all rows if there is
+/// none, accepts it with some bytes after it.
+pub fn decided()
+    ensures { DecidedByRows }
+{
+    growth();
+}
+
+/// A row is a candidate of a first byte exactly if some buffer that begins with the byte is one that the row accepts.
+pub fn candidates()
+    ensures { AllowsExactly }
+{
+    leads();
+    infer_sig::laws::by_place();
+    infer_sig::laws::begins();
+}
 
 /// An `Infer` without rows of a caller answers as the built-in rows do.
 pub fn built_in<A: Allocator>(infer: &Infer<A>)

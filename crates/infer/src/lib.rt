@@ -12,8 +12,8 @@
 //!
 //! Each module uses only those before it: `table`, the rows and their types; `ask`, a question and one row;
 //! `candidates`, the rows that a first byte allows, asked in order, and those that a text can name; `answers`, what the
-//! built-in rows answer; `texts`, questions with a text; `caller`, an [`Infer`] and its rows; `read`, the front of a
-//! file or of a reader; `laws`, facts about all of these; `samples`.
+//! built-in rows answer; `texts`, questions with a text; `decided`, what more bytes can change; `caller`, an [`Infer`]
+//! and its rows; `read`, the front of a file or of a reader; `laws`, facts about all of these; `samples`.
 #![tactic(auto)]
 
 ghost use Rattle.std.specs.Prelude.{◌≡◌, ◌↔◌, ◌<◌, ◌≤◌, IfSome, IsNone, IsTrue, option_map, slice_get};
@@ -28,6 +28,7 @@ mod answers;
 mod ask;
 mod caller;
 mod candidates;
+mod decided;
 pub mod laws;
 mod read;
 mod samples;
@@ -37,6 +38,7 @@ pub mod texts;
 use ask::question::Wanted;
 pub use caller::infer::Infer;
 pub use candidates::asker::{Ask, Asker, is_counted, position_counted, walk};
+pub use decided::{is_decided, may_become};
 pub use infer_sig::{
     app as app, archive as archive, audio as audio, book as book, doc as doc, font as font,
     image as image, odf as odf, text as text, video as video,

@@ -31,7 +31,7 @@ impl Wanted<'_> {
     }
 }
 
-/// A question that its type tells, so that code is made for each.
+/// A question that is known by its type, so that code is made for each.
 pub trait Question {
     ghost wanted: { Self → Wanted };
 

@@ -5,7 +5,7 @@ ghost use Rattle.std.specs.Prelude.{◌↔◌, [], ◌∷◌, ℕ, List, IsTrue}
 ghost use Rattle.infer_deep.specs.Find.{OccursAt};
 ghost use Rattle.infer.specs.Questions.{IsWanted};
 ghost use Rattle.infer.specs.Row.{Accepts};
-ghost use Rattle.infer.specs.Walks.{IsFirstAmong, RowHas, Takes};
+ghost use Rattle.infer.specs.Walks.{IsFirstAmong, RowHas, Takes, row_numbered};
 
 use crate::ask::question::Question;
 use crate::ask::taken::{is_wanted, takes};
@@ -14,6 +14,9 @@ use infer_deep::archive::after_skippable_frames;
 use infer_deep::doc::deciding_folder;
 use infer_deep::places::stands_at;
 use infer_deep::text::after_white_space;
+
+/// The number that no row has.
+pub const NO_ROW: u32 = u32::MAX;
 
 /// Rows to ask, in this order.
 pub trait Chain {
@@ -163,6 +166,19 @@ impl<C: Chain> Chain for Whole<C> {
     #[inline(never)]
     fn first<Q: Question>(&self, question: &Q, buf: &[u8]) -> Option<usize> {
         self.0.first(question, buf)
+    }
+}
+
+impl<C: Chain> Whole<C> {
+    /// The number of the first row, as [`Chain::first`] answers, and [`NO_ROW`] for none. A number takes one register.
+    #[inline(never)]
+    pub fn number<Q: Question>(&self, question: &Q, buf: &[u8]) -> u32
+        ensures { IsFirstAmong (RowHas (Takes (Q.wanted question.now) buf.now)) (C.rows self.now.0) (row_numbered result) }
+    {
+        match self.0.first(question, buf) {
+            Some(row) => row as u32,
+            None => NO_ROW,
+        }
     }
 }
 

@@ -1,12 +1,12 @@
 //! Answers of an [`Infer`] about a reader or a file.
-ghost use Rattle.std.specs.Prelude.{◌≡◌, ◌≤◌, None};
+ghost use Rattle.std.specs.Prelude.{◌≡◌, ◌≤◌, IsErrOf, None, length};
 ghost use Rattle.infer.specs.Reading.{AnswersReader, AnswersSome};
 ghost use Rattle.infer.specs.Rows.{AnyAccepts, rows};
 ghost use Rattle.infer.specs.Watched.{fault_of};
 
 use crate::caller::infer::Infer;
 use crate::read::fault::Fault;
-use crate::read::head::{FRONT, read_head};
+use crate::read::head::{FRONT, make_room, read_head};
 use crate::read::watched::Watched;
 use crate::table::file_type::FileType;
 use std::alloc::Allocator;
@@ -60,9 +60,25 @@ impl<A: Allocator> Infer<A> {
         requires most { n ≤ 65536 }
         ensures { AnswersReader R.remaining n AnyAccepts (rows self.now) r.old r.new result }
     {
-        match read_head(alloc, r, n) {
-            Ok(bytes) => Ok(self.get(bytes.as_slice())),
-            Err(fault) => Err(fault),
+        let mut room = make_room(alloc, n)?;
+        self.get_from_reader_in(room.as_mut_slice(), r)
+    }
+
+    /// [`Infer::get_from_reader`] with as many bytes as there are in `room`, into which it reads. It reserves nothing.
+    ///
+    /// Memory that is kept serves one reader after the other: what it had before is not looked at.
+    pub fn get_from_reader_in<R: Read>(
+        &self,
+        room: &mut [u8],
+        r: &mut Watched<R>,
+    ) -> Result<Option<FileType>, Fault>
+        requires { fault_of r.old ≡ None }
+        ensures answer { AnswersReader R.remaining (length room.new) AnyAccepts (rows self.now) r.old r.new result }
+        ensures no_memory { ¬ IsErrOf result Fault.Memory }
+    {
+        match read_head(r, room) {
+            Ok(count) => Ok(self.get(&room[..count])),
+            Err(kind) => Err(Fault::Read(kind)),
         }
     }
 

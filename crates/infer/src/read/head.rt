@@ -1,5 +1,5 @@
 //! Reads the front of an input.
-ghost use Rattle.std.specs.Prelude.{◌≡◌, ◌<◌, ◌≤◌, ◌↔◌, ◌⊎◌, ℕ, List, IfOk, IfSome, IsErrOf, IsTrue, None, OnErr, OnOk, Some, drop, length, take, vec_len};
+ghost use Rattle.std.specs.Prelude.{◌≡◌, ◌<◌, ◌≤◌, ◌↔◌, ◌⊎◌, ℕ, List, IfErr, IfOk, IfSome, IsErrOf, IsTrue, None, OnErr, OnOk, Some, drop, length, take, vec_len};
 ghost use Rattle.std.specs.Result.{result_err};
 ghost use Rattle.std.specs.Io.{ReadsAtMost};
 ghost use Rattle.std.specs.Io.KnownBytes.{Consumes, IsAtEnd};
@@ -36,8 +36,16 @@ impl Enough for Limit {
     }
 }
 
-/// Reads at most `piece` bytes at a time until `out` is full, what was read is enough or the reader ends, and tells how
-/// many bytes it read.
+/// Memory for `limit` bytes.
+pub fn make_room<A: Allocator>(alloc: A, limit: usize) -> Result<Vec<u8, A>, Fault>
+    ensures room { IfOk result (λ room. vec_len room ≡ limit) }
+    ensures refused { IfErr result (λ fault. fault ≡ Fault.Memory) }
+{
+    vec![in alloc; 0; limit].map_err(|_| Fault::Memory)
+}
+
+/// Reads at most `piece` bytes at a time until `out` is full, what was read is enough or the reader ends, and answers
+/// how many bytes it read.
 fn fill<R: Read, E: Enough>(
     reader: &mut Watched<R>,
     out: &mut [u8],
@@ -89,9 +97,7 @@ pub fn read_until<A: Allocator, R: Read, E: Enough>(
     ensures opens_nothing { OpensNothing result }
     ensures lost { OnErr result (Loses limit (R.remaining (inner reader.old)) (R.remaining (inner reader.new))) }
 {
-    let Ok(mut bytes) = vec![in alloc; 0; limit] else {
-        return Err(Fault::Memory);
-    };
+    let mut bytes = make_room(alloc, limit)?;
     match fill(reader, bytes.as_mut_slice(), piece, enough) {
         Ok(count) => {
             bytes.truncate(count);
@@ -109,23 +115,15 @@ fn are_bytes(buf: &[u8])
     let _ = buf;
 }
 
-/// Takes the first `limit` bytes of the reader, or all if it has fewer. It reserves `limit` bytes first.
-pub fn read_head<A: Allocator, R: Read>(
-    alloc: A,
-    reader: &mut Watched<R>,
-    limit: usize,
-) -> Result<Vec<u8, A>, Fault>
+/// Takes the bytes of the reader that fit into `room`, or all if it has fewer, and tells how many these are.
+pub fn read_head<R: Read>(reader: &mut Watched<R>, room: &mut [u8]) -> Result<usize, ErrorKind>
     requires no_fault { fault_of reader.old ≡ None }
-    requires some { 1 ≤ limit }
-    ensures front { IfOk result (λ bytes. IfSome (R.remaining (inner reader.old)) (λ s. bytes.items ≡ head limit s)) }
-    ensures bytes { IfOk result (λ bytes. IsBuffer bytes.items) }
-    ensures few { IfOk result (λ bytes. vec_len bytes ≤ limit) }
+    ensures bound { ReadsAtMost result room.new }
+    ensures front { IfOk result (λ n. IfSome (R.remaining (inner reader.old)) (λ s. take n room.new ≡ head (length room.new) s)) }
     ensures rest { OnOk result (IfSome (R.remaining (inner reader.old))
-        (λ s. R.remaining (inner reader.new) ≡ Some (drop limit s))) }
-    ensures fault { fault_of reader.new ≡ read_fault result }
-    ensures memory { IsErrOf result Fault.Memory → reader.new ≡ reader.old }
-    ensures opens_nothing { OpensNothing result }
-    ensures lost { OnErr result (Loses limit (R.remaining (inner reader.old)) (R.remaining (inner reader.new))) }
+        (λ s. R.remaining (inner reader.new) ≡ Some (drop (length room.new) s))) }
+    ensures fault { fault_of reader.new ≡ result_err result }
+    ensures lost { OnErr result (Loses (length room.new) (R.remaining (inner reader.old)) (R.remaining (inner reader.new))) }
 {
-    read_until(alloc, reader, limit, limit, &Limit)
+    fill(reader, room, usize::MAX, &Limit)
 }

@@ -9,7 +9,7 @@ use std::io::{ErrorKind, Read};
 
 /// A reader that remembers its first error.
 ///
-/// No other code can set the fault, so a fault that it tells was a failed read of the inner reader.
+/// No other code can set the fault, so a fault that it has is from a failed read of the inner reader.
 #[derive(Drop)]
 pub struct Watched<R: Read> {
     reader: R,

@@ -19,7 +19,7 @@ pub enum MatcherType {
     Custom,
 }
 
-/// A function that tells whether a buffer is of some type.
+/// A function that answers whether a buffer is of some type.
 pub type Matcher = fn(&[u8]) -> bool;
 
 /// A type of files: its class, its MIME type and its usual extension, without a dot.

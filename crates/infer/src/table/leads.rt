@@ -1,4 +1,4 @@
-//! What the first byte of a buffer tells of the rows: laws that the calls which ask rows cite.
+//! What the first byte of a buffer says of the rows: laws that the calls which ask rows cite.
 ghost use Rattle.std.specs.Prelude.{[]};
 ghost use Rattle.infer.specs.BuiltIn.{BuiltIn};
 ghost use Rattle.infer.specs.First.{NoneHas};

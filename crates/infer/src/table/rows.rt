@@ -311,7 +311,7 @@ pub const XML: usize = RowName::Xml as usize;
 
 pub const SHELLSCRIPT: usize = RowName::Shellscript as usize;
 
-// Hands the rows, in order, to another macro: the name, what it tells, the matcher, and a sample as its length, what
+// Hands the rows, in order, to another macro: the name, what it shows, the matcher, and a sample as its length, what
 // stands first, and a place with what stands there.
 macro_rules! with_rows {
     ($with:ident $($more:tt)*) => {
@@ -460,22 +460,6 @@ macro_rules! matchers {
     };
 }
 
-macro_rules! extensions {
-    ([$name:ident $text:ident] $($row:ident $class:ident $mime_type:literal $extension:literal $matcher:path, $len:literal $front:literal $($place:literal $piece:literal)?;)*) => {
-        match $name {
-            $(RowName::$row => is_text($text, $extension),)*
-        }
-    };
-}
-
-macro_rules! mime_types {
-    ([$name:ident $text:ident] $($row:ident $class:ident $mime_type:literal $extension:literal $matcher:path, $len:literal $front:literal $($place:literal $piece:literal)?;)*) => {
-        match $name {
-            $(RowName::$row => is_text($text, $mime_type),)*
-        }
-    };
-}
-
 macro_rules! samples {
     ([] $($row:ident $class:ident $mime_type:literal $extension:literal $matcher:path, $len:literal $front:literal $($place:literal $text:literal)?;)*) => {
         [$(Pieces {
@@ -496,7 +480,7 @@ macro_rules! or_else {
     };
 }
 
-/// A built-in row: what it tells, and its name.
+/// A built-in row: what it shows, and its name.
 #[derive(Clone, Copy)]
 pub(crate) struct BuiltInRow {
     pub file_type: FileType,
@@ -619,20 +603,26 @@ fn is_text(bytes: &[u8], text: &str) -> bool
     text.as_bytes() == bytes
 }
 
-/// Whether the row has this extension. Each is compared by its name too, so that its length is known.
-#[tactic(auto, unfolding(crate::specs::Table::table))]
+/// The row of that name.
+#[inline(always)]
+fn row_named(name: RowName) -> &'static BuiltInRow
+    ensures { slice_get table (number_of name) ≡ Some (row_listed result.now) }
+{
+    row_at(name as usize)
+}
+
+/// Whether the row has this extension.
 #[inline(always)]
 pub(crate) fn has_extension(name: RowName, text: &[u8]) -> bool
     ensures { IsTrue result ↔ RowHas (HasExtension text.now) (number_of name) }
 {
-    with_rows!(extensions name text)
+    is_text(text, row_named(name).file_type.extension)
 }
 
 /// Whether the row has this MIME type.
-#[tactic(auto, unfolding(crate::specs::Table::table))]
 #[inline(always)]
 pub(crate) fn has_mime_type(name: RowName, text: &[u8]) -> bool
     ensures { IsTrue result ↔ RowHas (HasMimeType text.now) (number_of name) }
 {
-    with_rows!(mime_types name text)
+    is_text(text, row_named(name).file_type.mime_type)
 }

@@ -1,0 +1,156 @@
+-- A buffer is decided just if none of the rows before its answer may still accept it.
+use Rattle.std.proofs.Common.{◌≡◌, ◌↔◌, ◌<◌, ◌≤◌, inl, inr, le_refl, ◌∙◌, sym, refl, zero, suc, ℕ, Bool, true, List, [], ◌∷◌, ◌++◌, length, get_or, Option, None, Some, IsTrue, subst, arith}
+use Rattle.std.proofs.lemmas.List.Elements.{All-cons, All-nil, AllWithin-none}
+use Rattle.std.proofs.lemmas.Bool.{and_parts, cases_Bool, cases_lt, cases_order}
+use Rattle.std.specs.List.{AllWithin, HoldsAt, list_all, slice_get}
+use Rattle.std.specs.Option.{option_map_or}
+use Rattle.infer_deep.specs.Signatures.{Reachable}
+use Rattle.infer_sig.specs.Open.{IsOpen, is_sound}
+use Rattle.infer_sig.specs.Signature.{Alternative, stands}
+use Rattle.infer.specs.BuiltIn.{BuiltIn, fixed, avif, doc, framed, heif, html, matroska, office, pdf, ppt, xls, xml, IsAccepted}
+use Rattle.infer.specs.Buffer.{IsBuffer}
+use Rattle.infer.specs.Decided.{IsDecided, MayAccept, Tells, rows_before, DecidedByRows}
+use Rattle.infer.specs.First.{IsFirst, IsFirstOf, NoneHas}
+use Rattle.infer.specs.Leads.{Leads, allows_first, candidates, candidates_of}
+use Rattle.infer.specs.Matchers.{Lasts}
+use Rattle.infer.specs.Row.{Row, Accepts}
+use Rattle.infer.specs.Table.{signature_of, table}
+use Rattle.infer.specs.Walks.{IsFirstAmong, RowHas}
+use Rattle.infer.specs.declared.table.rows.TheConstants.{EXE}
+use Rattle.infer.proofs.CandidateLemmas.{first_listed, read_has}
+use Rattle.infer.proofs.FirstLemmas.{IsFirstOf-same}
+use Rattle.infer.proofs.ListLemmas.{HoldsAt-read}
+use Rattle.infer.proofs.OrderLemmas.{some_row}
+
+module _ (lasts : (s : BuiltIn) → Lasts s) where
+  may_accept_now : (b : List ℕ) (r : Row BuiltIn) → Accepts b r → MayAccept b r
+  may_accept_now b r a = ([], All-nil (λ x. x < 256), lasts r.signature b [] a)
+
+  stays : (b more : List ℕ) (o : Option ℕ) → IsBuffer more → AllWithin (λ r. ¬ MayAccept b r) table 0 (rows_before o)
+      → IsFirstOf (Accepts b) table o → IsFirstOf (Accepts (b ++ more)) table o
+  stays b more None bytes none first = λ k d low lt a. none k d low lt (more, bytes, a)
+  stays b more (Some i) bytes none first = record {
+    within = first.within;
+    here = λ d. lasts _ b more (first.here d);
+    before = λ k d low lt a. none k d low lt (more, bytes, a);
+  }
+
+  none_comes : (b : List ℕ) (o : Option ℕ) → ((more : List ℕ) → IsBuffer more → IsFirstOf (Accepts (b ++ more)) table o)
+      → AllWithin (λ r. ¬ MayAccept b r) table 0 (rows_before o)
+  none_comes b None still = λ k d low lt r. still r.0 r.1 k d low lt r.2
+  none_comes b (Some i) still = λ k d low lt r. (still r.0 r.1).before k d low lt r.2
+
+  pub decided_by_rows : DecidedByRows
+  decided_by_rows b o first = (
+    λ decided. none_comes b o (λ more bytes. decided more o bytes first),
+    λ none more p bytes other. subst (IsFirstOf (Accepts (b ++ more)) table) (IsFirstOf-same (Accepts b) table o p first other) (stays b more o bytes none first),
+  )
+
+-- ---- what a look at the buffer tells of a row
+
+-- the signature is no fixed one, or its parts ascend, lie apart and are possible
+abbrev is_sound_if_fixed : BuiltIn → Bool
+is_sound_if_fixed (fixed alternatives) = is_sound alternatives
+is_sound_if_fixed s = true
+
+all_sound : IsTrue (list_all (λ r. is_sound_if_fixed r.signature) table)
+unfolding table
+all_sound = refl
+
+sound_at : (rows : List (Row BuiltIn)) → IsTrue (list_all (λ r. is_sound_if_fixed r.signature) rows) → (i : ℕ)
+    → IsTrue (is_sound_if_fixed (option_map_or (λ r. r.signature) (slice_get rows i) (fixed [])))
+sound_at [] all i = refl
+sound_at (r ∷ rows) all zero = (and_parts (is_sound_if_fixed r.signature) _ all).0
+sound_at (r ∷ rows) all (suc i) = sound_at rows (and_parts (is_sound_if_fixed r.signature) _ all).1 i
+
+module _ (opens : (s : List Alternative) → IsTrue (is_sound s) → IsOpen s) (b : List ℕ) (r : Bool) where
+  told : (s : BuiltIn) → IsTrue (is_sound_if_fixed s) → Tells s b r → IsTrue r ↔ Reachable (IsAccepted s) b
+  told (fixed alternatives) sound same = let open_it = opens alternatives sound b in (λ t. open_it.0 (sym same ∙ t), λ h. same ∙ open_it.1 h)
+  told pdf sound h = h
+  told (matroska doc_type) sound h = h
+  told (framed magic) sound h = h
+  told heif sound h = h
+  told avif sound h = h
+  told (office folder) sound h = h
+  told doc sound h = h
+  told xls sound h = h
+  told ppt sound h = h
+  told html sound h = h
+  told xml sound h = h
+
+  pub told_of_row : (i : ℕ) → Tells (signature_of i) b r → IsTrue r ↔ Reachable (IsAccepted (signature_of i)) b
+  unfolding signature_of
+  told_of_row i = told (signature_of i) (sound_at table all_sound i)
+
+-- ---- the first row that may accept
+
+-- a list of which nothing is the first element with the property lacks it in its first n
+none_first : {A : Type 0} (P : A → Type 0) (xs : List A) → ((o : Option ℕ) → ¬ IsFirstOf P xs o) → (n : ℕ) → n ≤ length xs
+    → AllWithin (λ x. ¬ P x) xs 0 n
+none_first P xs none zero le = AllWithin-none (λ x. ¬ P x) xs 0
+none_first P xs none (suc n) le =
+    let before = none_first P xs none n (omega (arith, le)) in
+    λ k d low lt p. elim (cases_lt k n) [
+      | inl l ↦ before k d low l p
+      | inr l ↦ none (Some k) (record {
+        within = omega (arith, lt, le);
+        here = HoldsAt-read P xs k d (omega (arith, lt, le)) p;
+        before = λ j e a b. before j e a (omega (arith, b, lt));
+      })
+    ]
+
+-- so nothing is without a first element or none
+not_unanswered : {A : Type 0} (P : A → Type 0) (xs : List A) → ¬ ((o : Option ℕ) → ¬ IsFirstOf P xs o)
+not_unanswered P xs none = none None (none_first P xs none (length xs) (le_refl (length xs)))
+
+module _ (lasts : (s : BuiltIn) → Lasts s) (b : List ℕ) where
+  pub decided_if_none : IsFirstOf (MayAccept b) table None → IsDecided b
+  decided_if_none none =
+      (decided_by_rows lasts b None (λ k d low lt a. none k d low lt (may_accept_now lasts b (get_or table k d) a))).1 none
+
+  module _ (i : ℕ) (first : IsFirst (MayAccept b) table i) where
+    decided_if_accepted : RowHas (Accepts b) i → IsDecided b
+    decided_if_accepted here =
+        let now : IsFirst (Accepts b) table i = record {
+          within = first.within;
+          here = ((read_has (Accepts b) table i).0 here).1;
+          before = λ k d low lt a. first.before k d low lt (may_accept_now lasts b (get_or table k d) a);
+        } in
+        (decided_by_rows lasts b (Some i) now).1 first.before
+
+    -- the answer cannot be this row, nor one before or after it
+    no_answer : IsDecided b → (¬ RowHas (Accepts b) i) → (o : Option ℕ) → ¬ IsFirstOf (Accepts b) table o
+    no_answer decided not None none =
+        (decided_by_rows lasts b None none).0 decided i some_row (omega arith) first.within (first.here some_row)
+    no_answer decided not (Some j) answer = elim (cases_order i j) [
+      | inl same ↦ not ((read_has (Accepts b) table i).1 (first.within, subst (HoldsAt (Accepts b) table) (sym same) answer.here))
+      | inr (inl lt) ↦ (decided_by_rows lasts b (Some j) answer).0 decided i some_row (omega arith) lt (first.here some_row)
+      | inr (inr lt) ↦ first.before j some_row (omega arith) lt (may_accept_now lasts b (get_or table j some_row) (answer.here some_row))
+    ]
+
+    pub decided_by_first : (r : Bool) → IsTrue r ↔ RowHas (Accepts b) i → IsTrue r ↔ IsDecided b
+    decided_by_first r h = (
+      λ t. decided_if_accepted (h.0 t),
+      λ decided. elim (cases_Bool r) [
+        | inl t ↦ t
+        | inr f ↦ absurd (not_unanswered (Accepts b) table (no_answer decided (λ a. absurd (let t = h.1 a in cc))))
+      ],
+    )
+
+-- the empty buffer, which no row accepts, can become a Windows program
+pub empty_open : NoneHas (Accepts []) table → (b : List ℕ) → length b ≡ 0 → ¬ IsDecided b
+unfolding table stands
+empty_open blank (x ∷ b) none decided = absurd (omega (arith, none))
+empty_open blank [] none decided =
+    let more : List ℕ = 0x4D ∷ 0x5A ∷ [] in
+    let bytes : IsBuffer more = All-cons (λ x. x < 256) 0x4D (0x5A ∷ []) (omega arith) (All-cons (λ x. x < 256) 0x5A [] (omega arith) (All-nil (λ x. x < 256))) in
+    decided more None bytes blank EXE some_row (omega arith) (omega arith) refl
+
+-- the first of the candidates that may accept the buffer is the first row of the table that may
+pub first_open_row : ((s : BuiltIn) → Leads s) → (b cs : List ℕ) (o : Option ℕ) → 0 < length b → cs ≡ candidates_of b
+    → IsFirstAmong (RowHas (MayAccept b)) cs o → IsFirstOf (MayAccept b) table o
+unfolding candidates
+first_open_row leads [] cs o long same h = absurd (omega (arith, long))
+first_open_row leads (f ∷ rest) cs o long same h =
+    first_listed (MayAccept (f ∷ rest)) (λ r. allows_first r.signature f) (λ r (more, bytes, a). leads r.signature f (rest ++ more) a) o
+    (subst (λ ns. IsFirstAmong (RowHas (MayAccept (f ∷ rest))) ns o) same h)

@@ -1,0 +1,217 @@
+-- With each byte that a row allows first begins a buffer that it accepts.
+use Rattle.std.proofs.Common.{◌≡◌, ◌≤◌, ◌<◌, ◌+◌, ◌*◌, ◌⊎◌, inl, inr, ℕ, List, [], ◌∷◌, ◌++◌, length, drop, ltb, IsTrue, Option, None, Some, MatchOption, refl, ap, sym, subst, codes, arith, rules, length-append}
+use Rattle.std.specs.Prelude.{All, replicate}
+use Rattle.std.specs.List.{slice_get}
+use Rattle.std.specs.Option.{option_map_or}
+use Rattle.std.proofs.lemmas.Bool.{eqb-true, ltb-true}
+use Rattle.std.proofs.lemmas.Bool.Decides.{nat_tests}
+use Rattle.std.proofs.lemmas.List.{length-replicate}
+use Rattle.std.proofs.lemmas.List.Elements.{All-append, All-replicate}
+use Rattle.std.proofs.lemmas.List.Sums.{AllPass-from_list_all}
+use Rattle.infer_deep.specs.Brands.{IsBoxed}
+use Rattle.infer_deep.specs.Find.{OccursAt}
+use Rattle.infer_deep.specs.Frames.{IsFrame, IsFramed}
+use Rattle.infer_deep.specs.Joined.{SkipsTo}
+use Rattle.infer_deep.specs.Numbers.{le16, le32, be32}
+use Rattle.infer_deep.specs.Signatures.{Reachable}
+use Rattle.infer_deep.specs.Text.{IsHtml, IsMark, IsSpace, IsWhite, IsXml}
+use Rattle.infer_sig.specs.Open.{is_sound, is_text}
+use Rattle.infer_sig.specs.Open as Fixed
+use Rattle.infer_sig.specs.Signature.{Alternative, stands}
+use Rattle.infer.specs.BuiltIn.{BuiltIn, fixed, avif, doc, framed, heif, html, matroska, office, pdf, ppt, xls, xml, IsAccepted}
+use Rattle.infer.specs.Decided.{AllowsExactly, MayAccept}
+use Rattle.infer.specs.Leads.{Leads, allows_first}
+use Rattle.infer.specs.Row.{Row}
+use Rattle.infer.specs.Samples.{sample_of}
+use Rattle.infer.specs.Table.{signature_of, table}
+use Rattle.infer.specs.declared.table.rows.TheConstants.{ROW_COUNT}
+use Rattle.infer.proofs.CandidateLemmas.{read_has}
+use Rattle.infer.proofs.DecisionLemmas.{known, spaced_html, spaced_xml}
+use Rattle.infer.proofs.KnownLemmas.{Known, proved, unknown, is, is_proved, proof_of, proved_if, takes, ◌>>=◌}
+use Rattle.infer.proofs.PlaceLemmas.{ByPlace}
+use Rattle.infer.proofs.PlaceLemmas as Place
+use Rattle.infer.proofs.TableLemmas.{length-table}
+use Rattle.infer.proofs.TestLemmas.{NoneRefused, passed}
+
+abbrev Begins : BuiltIn → Type 0
+Begins s = (f : ℕ) → f < 256 → IsTrue (allows_first s f) → Reachable (IsAccepted s) (f ∷ [])
+
+bytes_of : (t : List ℕ) → IsTrue (is_text t) → All (λ x. x < 256) t
+bytes_of t h = λ k d lt. ltb-true _ 256 (AllPass-from_list_all (λ x. ltb x 256) t h k d lt)
+
+-- where one byte alone is allowed, by a buffer that begins with it
+by_sample : (s : BuiltIn) (first : ℕ) (rest : List ℕ) → IsTrue (is_text rest) → IsAccepted s (first ∷ rest)
+    → ((f : ℕ) → IsTrue (allows_first s f) → f ≡ first) → Begins s
+by_sample s first rest bytes accepted only f lt h =
+    (rest, bytes_of rest bytes, subst (λ x. IsAccepted s (x ∷ rest)) (sym (only f h)) accepted)
+
+-- ---- a word before a buffer
+
+spaced_before : (f : ℕ) (b rest : List ℕ) → IsWhite f → SkipsTo IsSpace b rest → SkipsTo IsSpace (f ∷ b) rest
+spaced_before f b rest white skips = record {
+  words = (f ∷ []) ∷ skips.words;
+  each = ((f, white, refl), skips.each);
+  whole = ap (λ u. f ∷ u) skips.whole;
+}
+
+html_before : (f : ℕ) (b : List ℕ) → IsWhite f → IsHtml b → IsHtml (f ∷ b)
+html_before f b white (text, skips, tag) = (text, spaced_before f b text white skips, tag)
+
+xml_before : (f : ℕ) (b : List ℕ) → IsWhite f → IsXml b → IsXml (f ∷ b)
+xml_before f b white (marked, text, spaces, marks, h) = (marked, text, spaced_before f b marked white spaces, marks, h)
+
+marked_before : (mark : List ℕ) → IsMark mark → IsXml (mark ++ codes "<?xml")
+marked_before mark kind =
+    let unspaced : SkipsTo IsSpace (mark ++ codes "<?xml") (mark ++ codes "<?xml") = record { words = []; each = tt; whole = refl } in
+    let marks : SkipsTo IsMark (mark ++ codes "<?xml") (codes "<?xml") = record { words = mark ∷ []; each = (kind, tt); whole = search rules } in
+    (mark ++ codes "<?xml", codes "<?xml", unspaced, marks, record { word = codes "<?xml"; rest = []; same = refl; whole = refl })
+
+html_begins : Begins html
+html_begins f lt h =
+    let byte : IsWhite f ⊎ (f ≡ 0x3C) = grind (arith, nat_tests) in
+    elim byte [
+      | inl white ↦ (codes "<P>", bytes_of (codes "<P>") refl, html_before f (codes "<P>") white (spaced_html 0 (codes "<P>") refl))
+      | inr e ↦ (codes "P>", bytes_of (codes "P>") refl, subst (λ x. IsHtml (x ∷ codes "P>")) (sym e) (spaced_html 0 (codes "<P>") refl))
+    ]
+
+xml_begins : Begins xml
+xml_begins f lt h =
+    let byte : IsWhite f ⊎ (f ≡ 0x3C) ⊎ (f ≡ 0xEF) ⊎ (f ≡ 0xFE) ⊎ (f ≡ 0xFF) = grind (arith, nat_tests) in
+    elim byte [
+      | inl white ↦ (codes "<?xml", bytes_of (codes "<?xml") refl, xml_before f (codes "<?xml") white (spaced_xml 0 (codes "<?xml") refl))
+      | inr (inl e) ↦ (codes "?xml", bytes_of (codes "?xml") refl, subst (λ x. IsXml (x ∷ codes "?xml")) (sym e) (spaced_xml 0 (codes "<?xml") refl))
+      | inr (inr (inl e)) ↦
+          let rest : List ℕ = 0xBB ∷ 0xBF ∷ codes "<?xml" in
+          (rest, bytes_of rest refl, subst (λ x. IsXml (x ∷ rest)) (sym e) (marked_before (0xEF ∷ 0xBB ∷ 0xBF ∷ []) (inl refl)))
+      | inr (inr (inr (inl e))) ↦
+          let rest : List ℕ = 0xFF ∷ codes "<?xml" in
+          (rest, bytes_of rest refl, subst (λ x. IsXml (x ∷ rest)) (sym e) (marked_before (0xFE ∷ 0xFF ∷ []) (inr (inl refl))))
+      | inr (inr (inr (inr e))) ↦
+          let rest : List ℕ = 0xFE ∷ codes "<?xml" in
+          (rest, bytes_of rest refl, subst (λ x. IsXml (x ∷ rest)) (sym e) (marked_before (0xFF ∷ 0xFE ∷ []) (inr (inr refl))))
+    ]
+
+module _ (by_place : ByPlace) where
+  pdf_begins : Begins pdf
+  unfolding stands
+  pdf_begins f lt h =
+      let b : List ℕ = f ∷ codes "%PDF" in
+      (codes "%PDF", bytes_of (codes "%PDF") refl, (1, record { stands = Place.found by_place (codes "%PDF") b 1 refl; low = omega arith; high = omega arith }))
+
+  framed_begins : (x : ℕ) (magic : List ℕ) → IsTrue (is_text magic) → IsTrue (is_text (x ∷ magic)) → Begins (framed (x ∷ magic))
+  unfolding stands le32
+  framed_begins x magic bytes all f lt h =
+      let byte : (f ≡ x) ⊎ ((0x50 ≤ f) × (f ≤ 0x5F)) = grind (arith, nat_tests) in
+      elim byte [
+        | inl e ↦
+            let skips : SkipsTo IsFrame (x ∷ magic) ((x ∷ magic) ++ []) = record { words = []; each = tt; whole = search rules } in
+            (magic, bytes_of magic bytes, subst (λ y. IsFramed (x ∷ magic) (y ∷ magic)) (sym e) ([], skips))
+        | inr range ↦
+            let frame : List ℕ = f ∷ 0x2A ∷ 0x4D ∷ 0x18 ∷ 0x00 ∷ 0x00 ∷ 0x00 ∷ 0x00 ∷ [] in
+            let is_frame : IsFrame frame = record {
+              begins = record { low = range.0; high = range.1; mark = Place.found by_place (0x2A ∷ 0x4D ∷ 0x18 ∷ []) frame 1 refl };
+              sized = refl;
+            } in
+            let rest : List ℕ = drop 1 frame ++ (x ∷ magic) in
+            (rest, bytes_of rest all, ([], record { words = frame ∷ []; each = (is_frame, tt); whole = search rules }))
+      ]
+
+  -- a box whose stated length begins with the byte
+  module _ (f : ℕ) (brand : List ℕ) where
+    rest_of_box : List ℕ
+    rest_of_box = (0x00 ∷ 0x00 ∷ 0x10 ∷ codes "ftyp" ++ brand) ++ replicate (4 + 16777216 * f) 0x00
+
+    box_length : length brand ≡ 4 → length (f ∷ rest_of_box) ≡ 16 + 16777216 * f
+    unfolding rest_of_box
+    box_length four =
+        omega (
+          arith,
+          four,
+          length-append (0x00 ∷ 0x00 ∷ 0x10 ∷ codes "ftyp" ++ brand) (replicate (4 + 16777216 * f) 0x00),
+          length-append (codes "ftyp") brand,
+          length-replicate {A = ℕ} (4 + 16777216 * f) 0x00,
+        )
+
+    box_reads : (t : List ℕ) (p : ℕ) → length brand ≡ 4 → p + length t ≤ 16 → IsTrue (stands p t (f ∷ rest_of_box)) → OccursAt (f ∷ rest_of_box) t p
+    box_reads t p four fits h = record {
+      fits = omega (arith, fits, box_length four);
+      reads = λ j lt. ((by_place p t (f ∷ rest_of_box)).0 h j lt).1;
+    }
+
+    boxed : length brand ≡ 4 → IsBoxed (f ∷ rest_of_box)
+    unfolding rest_of_box stands be32
+    boxed four = record {
+      long = omega (arith, box_length four);
+      kind = box_reads (codes "ftyp") 4 four (omega arith) refl;
+      whole = omega (arith, box_length four);
+    }
+
+    box_bytes : IsTrue (is_text brand) → All (λ x. x < 256) rest_of_box
+    unfolding rest_of_box
+    box_bytes h =
+        All-append (λ x. x < 256) (0x00 ∷ 0x00 ∷ 0x10 ∷ codes "ftyp" ++ brand) (replicate (4 + 16777216 * f) 0x00)
+        (bytes_of (0x00 ∷ 0x00 ∷ 0x10 ∷ codes "ftyp" ++ brand) h) (All-replicate (λ x. x < 256) (4 + 16777216 * f) 0x00 (omega arith))
+
+  heif_begins : Begins heif
+  unfolding rest_of_box stands
+  heif_begins f lt h =
+      let brand = codes "heic" in
+      (rest_of_box f brand, box_bytes f brand refl, (boxed f brand refl, inl (box_reads f brand brand 8 refl (omega arith) refl)))
+
+  avif_begins : Begins avif
+  unfolding rest_of_box stands
+  avif_begins f lt h =
+      let brand = codes "avif" in
+      (rest_of_box f brand, box_bytes f brand refl, (boxed f brand refl, inl (box_reads f brand brand 8 refl (omega arith) refl)))
+
+  -- where one byte alone is allowed, by the sample
+  abbrev sampled : (s : BuiltIn) (first : ℕ) → ((f : ℕ) → IsTrue (allows_first s f) → f ≡ first) → Known (Begins s)
+  sampled s first only = do
+    bytes ← takes (is (is_text (drop 1 (sample_of s))))
+    accepted ← takes (known by_place (first ∷ drop 1 (sample_of s)) s)
+    proved (by_sample s first (drop 1 (sample_of s)) bytes accepted only)
+
+module _ (by_place : ByPlace) (begins : (s : List Alternative) → IsTrue (is_sound s) → Fixed.Begins s) where
+  abbrev known_begins : (s : BuiltIn) → Known (Begins s)
+  known_begins (fixed alternatives) = proved_if (is_sound alternatives) (λ sound f lt h. begins alternatives sound f h)
+  known_begins pdf = proved (pdf_begins by_place)
+  known_begins (matroska t) = sampled by_place (matroska t) 0x1A (λ f h. eqb-true f 0x1A h)
+  known_begins (framed []) = unknown
+  known_begins (framed (x ∷ magic)) = do
+    bytes ← takes (is (is_text magic))
+    all ← takes (is (is_text (x ∷ magic)))
+    proved (framed_begins by_place x magic bytes all)
+  known_begins heif = proved (heif_begins by_place)
+  known_begins avif = proved (avif_begins by_place)
+  known_begins (office folder) = sampled by_place (office folder) 0x50 (λ f h. eqb-true f 0x50 h)
+  known_begins doc = sampled by_place doc 0xD0 (λ f h. eqb-true f 0xD0 h)
+  known_begins xls = sampled by_place xls 0xD0 (λ f h. eqb-true f 0xD0 h)
+  known_begins ppt = sampled by_place ppt 0xD0 (λ f h. eqb-true f 0xD0 h)
+  known_begins html = proved html_begins
+  known_begins xml = proved xml_begins
+
+  all_begin : NoneRefused (λ i. is_proved (known_begins (signature_of i))) ROW_COUNT 0 8
+  unfolding signature_of table stands le16 le32 be32
+  all_begin = (refl, (refl, (refl, (refl, (refl, (refl, (refl, (refl, tt))))))))
+
+  row_begins : (i : ℕ) → i < ROW_COUNT → Begins (signature_of i)
+  row_begins i lt = proof_of (known_begins (signature_of i)) (passed (λ j. is_proved (known_begins (signature_of j))) ROW_COUNT 8 all_begin (omega arith) i lt)
+
+  may_accept_first : (f : ℕ) → f < 256 → (o : Option (Row BuiltIn)) → Begins (option_map_or (λ r. r.signature) o (fixed []))
+      → MatchOption o ⊥ (λ r. IsTrue (allows_first r.signature f)) → MatchOption o ⊥ (MayAccept (f ∷ []))
+  may_accept_first f lt None begins_so h = h
+  may_accept_first f lt (Some r) begins_so h = begins_so f lt h
+
+  allows_what_comes : ((s : BuiltIn) → Leads s) → (f : ℕ) (o : Option (Row BuiltIn))
+      → MatchOption o ⊥ (MayAccept (f ∷ [])) → MatchOption o ⊥ (λ r. IsTrue (allows_first r.signature f))
+  allows_what_comes leads f None h = h
+  allows_what_comes leads f (Some r) (more, bytes, accepted) = leads r.signature f more accepted
+
+  pub allows_exactly : ((s : BuiltIn) → Leads s) → AllowsExactly
+  unfolding signature_of
+  allows_exactly leads f i lt = (
+    λ h.
+        let at = (read_has (λ r. IsTrue (allows_first r.signature f)) table i).0 h in
+        may_accept_first f lt (slice_get table i) (row_begins i (omega (arith, at.0, length-table))) h,
+    allows_what_comes leads f (slice_get table i),
+  )

@@ -1,0 +1,14 @@
+use Rattle.std.proofs.Common.{arith, refl}
+use Rattle.infer.specs.Decided.{MayAccept}
+use Rattle.infer.specs.Walks.{RowHas}
+use Rattle.infer.proofs.AskLemmas.{found_among, none_among}
+use Rattle.infer.proofs.decided.first_open.Goals as goal
+
+pub returns-then-may_become : goal.returns-then-may_become
+returns-then-may_become c =
+    found_among (RowHas (MayAccept c.args.buf.now)) c.args.rows.now c.loop-row.row-index 0 c.loop-row-test.true (c.if-may_become.ensures.0 refl)
+    c.loop-row.invariant
+
+pub returns : goal.returns
+returns c =
+    none_among (RowHas (MayAccept c.args.buf.now)) c.args.rows.now (λ k d low lt. c.loop-row.invariant k d low (omega (arith, c.loop-row-test.false, lt)))

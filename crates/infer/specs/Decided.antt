@@ -1,0 +1,39 @@
+-- What more bytes can change of the answer.
+use Rattle.std.specs.Prelude.{◌≡◌, ◌↔◌, ℕ, Bool, ◌<◌, IsTrue, List, [], ◌∷◌, ◌++◌, Option, None, Some, length}
+use Rattle.std.specs.List.{AllWithin}
+use Rattle.infer_deep.specs.Signatures.{Reachable}
+use Rattle.infer_sig.specs.Open.{may_accept}
+use Rattle.infer.specs.Buffer.{IsBuffer}
+use Rattle.infer.specs.BuiltIn.{BuiltIn, fixed, IsAccepted}
+use Rattle.infer.specs.First.{IsFirstOf}
+use Rattle.infer.specs.Leads.{allows_first}
+use Rattle.infer.specs.Row.{Row, Accepts}
+use Rattle.infer.specs.Table.{table}
+use Rattle.infer.specs.Walks.{RowHas}
+
+-- whatever bytes follow, the first row that accepts the buffer, or that none does, stays
+abbrev pub IsDecided : List ℕ → Type 0
+IsDecided b = (more : List ℕ) (o : Option ℕ) → IsBuffer more → IsFirstOf (Accepts b) table o → IsFirstOf (Accepts (b ++ more)) table o
+
+-- some bytes after the buffer make the row accept it
+abbrev pub MayAccept : List ℕ → Row BuiltIn → Type 0
+MayAccept b r = (more : List ℕ) × IsBuffer more × Accepts (b ++ more) r
+
+-- how many rows stand before the answer: all, if it is none
+abbrev pub rows_before : Option ℕ → ℕ
+rows_before None = length table
+rows_before (Some i) = i
+
+-- a buffer is decided exactly if none of the rows before its answer may still accept it
+abbrev pub DecidedByRows : Type 0
+DecidedByRows =
+    (b : List ℕ) (o : Option ℕ) → IsFirstOf (Accepts b) table o → IsDecided b ↔ AllWithin (λ r. ¬ MayAccept b r) table 0 (rows_before o)
+
+-- a row allows a first byte exactly if some bytes after that byte make the row accept
+abbrev pub AllowsExactly : Type 0
+AllowsExactly = (f i : ℕ) → f < 256 → RowHas (λ r. IsTrue (allows_first r.signature f)) i ↔ RowHas (MayAccept (f ∷ [])) i
+
+-- the answer tells whether the signature may still accept the buffer: of a fixed one, by its parts
+abbrev pub Tells : BuiltIn → List ℕ → Bool → Type 0
+Tells (fixed alternatives) b r = r ≡ may_accept alternatives b
+Tells s b r = IsTrue r ↔ Reachable (IsAccepted s) b
