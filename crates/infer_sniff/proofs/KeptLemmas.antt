@@ -7,7 +7,7 @@ use Rattle.std.proofs.lemmas.List.Folds.{concat-append}
 use Rattle.std.specs.List.{concat}
 use denote.Ref.{Bor}
 
--- the front of some bytes and a piece, where there are no more of the bytes than it has
+-- the front of some bytes and a piece, if there are no more of the bytes than it has
 pub front_of_both : (n m : ℕ) (bytes piece : List ℕ) → length bytes ≤ n → m ≡ min (length piece) (n - length bytes)
     → bytes ++ take m piece ≡ take n (bytes ++ piece)
 front_of_both n m bytes piece fits is =

@@ -30,7 +30,7 @@ module _ (n : ℕ) (b : List ℕ) (few : length b ≤ n) where
   of_front v (Some s) None is stays h end = absurd h
   of_front v (Some s) (Some rest) is stays h end = subst (λ u. IsTypeOf (take n u) (found_of v)) (sym h) (tells v rest is stays end)
 
--- where the reader is at its end, or there are n bytes, or the verdict is final
+-- if the reader is at its end, or there are n bytes, or the verdict is final
 pub front-from_read : (n : ℕ) (read b : List ℕ) (v : Verdict) (found : Option FileType) (given left : Option (List ℕ)) → read ≡ b → found ≡ found_of v
     → length b ≤ n → IsVerdict read v → StaysFinal read v → Consumes given left b → (length b < n → IsAtEnd left ⊎ IsSettled b)
     → IfSome given (λ s. IsTypeOf (take n s) found)

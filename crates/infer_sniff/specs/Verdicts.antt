@@ -19,7 +19,7 @@ pub record IsSettled (b : List ℕ) : Type 0 where
   pub long : 1024 ≤ length b
   pub within : (row : Option ℕ) → IsFirstOf (Accepts b) table row → IsWithinBounds b row
 
--- the type that a verdict tells
+-- the type in a verdict
 abbrev pub found_of : Verdict → Option FileType
 found_of (SoFar found) = found
 found_of (Final found) = found
@@ -34,7 +34,7 @@ abbrev pub IsVerdict : List ℕ → Verdict → Type 0
 IsVerdict b (SoFar answer) = (¬ IsSettled b) × IsTypeOf b answer
 IsVerdict b (Final answer) = IsSettled b × IsTypeOf b answer
 
--- both are final or none is, and they tell the same type
+-- both are final or none is, and they have the same type
 abbrev pub AreAlike : Verdict → Verdict → Type 0
 AreAlike v w = (IsFinal v ↔ IsFinal w) × (option_map triple_of (found_of v) ≡ option_map triple_of (found_of w))
 

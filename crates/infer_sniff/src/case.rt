@@ -14,7 +14,7 @@ use infer_deep::places::stands_at;
 pub enum Case {
     /// The first box, "ftyp", states a length greater than the buffer's, and its end decides about HEIF and AVIF.
     OpenBox,
-    /// A compound file, whose root entry tells Word, Excel and PowerPoint.
+    /// A compound file, whose root entry distinguishes Word, Excel and PowerPoint.
     Compound,
     /// A ZIP archive whose first entry has a name of Office, and whose later ones tell the kind of document.
     Office,

@@ -1,8 +1,9 @@
 //! Bytes as they come.
-ghost use Rattle.std.specs.Prelude.{◌≡◌, ◌-◌, ◌≤◌, ℕ, List, [], ◌++◌, IfOk, length, map, vec_capacity, vec_len};
+ghost use Rattle.std.specs.Prelude.{◌≡◌, ◌↔◌, ◌-◌, ◌≤◌, ℕ, List, [], ◌++◌, IfOk, IsTrue, length, map, vec_capacity, vec_len};
 ghost use Rattle.std.specs.Bool.{OnFalse};
 ghost use Rattle.std.specs.List.{concat};
 ghost use Rattle.infer.specs.Buffer.{head};
+ghost use Rattle.infer.specs.Decided.{IsDecided};
 ghost use Rattle.infer_sniff.specs.Sniffers.{IsSniffer};
 ghost use Rattle.infer_sniff.specs.Verdicts.{IsVerdict, StaysFinal};
 
@@ -80,6 +81,13 @@ impl<A: Allocator> Sniffer<A> {
         self.verdict
     }
 
+    /// Whether no bytes after those that are kept change their answer, told exactly. It asks the rows anew.
+    pub fn is_decided(&self) -> bool
+        ensures { IsTrue result ↔ IsDecided self.now }
+    {
+        infer::is_decided(self.kept())
+    }
+
     /// The first 8192 bytes of all that was pushed, or all if these are fewer.
     pub fn kept(&self) -> &[u8]
         ensures bytes { result.now ≡ self.now }
@@ -89,7 +97,7 @@ impl<A: Allocator> Sniffer<A> {
     }
 }
 
-/// Adds as much of the piece as there is room for, and tells whether that was any.
+/// Adds as much of the piece as there is room for, and answers whether that was any.
 fn keep<A: Allocator>(bytes: &mut Vec<u8, A>, piece: &[u8]) -> bool
     requires room { FRONT ≤ vec_capacity bytes.old }
     requires few { vec_len bytes.old ≤ FRONT }

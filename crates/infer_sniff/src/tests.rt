@@ -289,6 +289,17 @@ fn memory_is_taken_once(rt: HostRuntime) -> Result<(), Fail> {
 }
 
 #[test]
+fn certainty_comes_before_the_verdict(rt: HostRuntime) -> Result<(), Fail> {
+    let mut sniffer = Sniffer::new(rt.alloc())?;
+    sniffer.push(b"\xFF\xD8\xFF");
+    sniffer.push(&[0; 57]);
+    assert!(rt; !sniffer.is_decided());
+    assert!(rt; !sniffer.push(&[0]).is_final());
+    assert!(rt; sniffer.is_decided());
+    Ok(())
+}
+
+#[test]
 fn verdicts_print(rt: HostRuntime) -> Result<(), Fail> {
     let mut sniffer = Sniffer::new(rt.alloc())?;
     assert_eq!(rt;

@@ -54,7 +54,7 @@ pub fn verdict_of(buf: &[u8]) -> Verdict
     }
 }
 
-/// The verdict of `buf`, where `before` is that of a beginning of it. A final one is kept, and nothing is asked.
+/// The verdict of `buf`, if `before` is that of a beginning of it. A final one is kept, and nothing is asked.
 pub fn verdict_behind(before: Verdict, buf: &[u8]) -> Verdict
     requires { StaysFinalFromBeginning before buf.now }
     ensures verdict { IsVerdict buf.now result }
