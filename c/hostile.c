@@ -37,8 +37,13 @@ static void ask(const void *buf, size_t len) {
     wants(!is_final || len >= 1024);
     wants(infer_position_counted(buf, len, &asked) == row && asked <= 25);
     wants(infer_accepts(buf, len, row) == (row >= 0));
-    for (int32_t before = 0; before < row; before++)
+    bool is_decided = infer_is_decided(buf, len);
+    wants(is_decided || !is_final);
+    wants(infer_may_become(buf, len, row) == (row >= 0));
+    for (int32_t before = 0; before < row; before++) {
         wants(!infer_accepts(buf, len, before));
+        wants(!is_decided || !infer_may_become(buf, len, before));
+    }
     for (size_t i = 0; i < sizeof tests / sizeof *tests; i++)
         tests[i](buf, len);
     infer_is(buf, len, buf, len);

@@ -1,8 +1,8 @@
 /* The type of a file from its first bytes.
  *
- * Hand over 8192 bytes, or all where there are fewer: that labels most files. More is never wrong: a call looks only
- * at bytes that decide, so a file that is mapped into memory may be handed over whole. Some old Office files are told
- * only so: of 14 real ones 5 at 8192 bytes, 11 at 65536 and 12 whole.
+ * Hand over 8192 bytes, or all if there are fewer: that labels most files. More is never wrong: a call looks only at
+ * bytes that decide, so a file that is mapped into memory may be handed over whole. Some old Office files are
+ * recognised only so: of 14 real ones 5 at 8192 bytes, 11 at 65536 and 12 whole.
  *
  * Allow by the answer: by infer_position or infer_verdict, and then by the row's MIME type. infer_is, infer_is_mime
  * and the class tests ask whether SOME row accepts, which need not be the answer: infer_is(buf, len, "pdf", 3) is true
@@ -18,7 +18,7 @@
  * empty buffer or text. A text that is not UTF-8 is no row's text. Upper and lower case are apart.
  *
  * A text that comes back is written as snprintf does it: at most `size` bytes are written, of which the last is a
- * zero, and the answer is the text's length without the zero. So the text is whole where the answer is less than
+ * zero, and the answer is the text's length without the zero. So the text is whole if the answer is less than
  * `size`, and cut otherwise. With `size` 0 nothing is written, and `out` may be null. */
 #ifndef INFER_H
 #define INFER_H
@@ -31,7 +31,7 @@
 extern "C" {
 #endif
 
-/* The version of this header; infer_version tells that of the library. */
+/* The version of this header; infer_version has that of the library. */
 #define INFER_VERSION "0.1.0"
 #define INFER_VERSION_MAJOR 0
 #define INFER_VERSION_MINOR 1
@@ -52,7 +52,7 @@ enum infer_class_code {
     INFER_CUSTOM = 9
 };
 
-/* THE ANSWER: the number of the first row whose signature accepts the buffer, from 0 on, or -1 where no row does. */
+/* THE ANSWER: the number of the first row whose signature accepts the buffer, from 0 on, or -1 if no row does. */
 int32_t infer_position(const void *buf, size_t len);
 
 /* The same, and in `is_final` whether no bytes that may follow can change it. It is never final below 1024 bytes, and
@@ -62,27 +62,35 @@ int32_t infer_verdict(const void *buf, size_t len, bool *is_final);
 /* The same as infer_position, and in `asked` how many rows were asked, at most 25. `asked` must not be null. */
 int32_t infer_position_counted(const void *buf, size_t len, uint32_t *asked);
 
-/* Whether that one row accepts the buffer; false where there is no such row. A buffer can fit several rows: of 1,258
+/* Whether that one row accepts the buffer; false if there is no such row. A buffer can fit several rows: of 1,258
  * real files 82 did. */
 bool infer_accepts(const void *buf, size_t len, int32_t row);
+
+/* Whether no bytes that may follow can change the answer, told exactly: if this is false, some do. It is true of
+ * most images from their 61st byte on, and never of the empty buffer. */
+bool infer_is_decided(const void *buf, size_t len);
+
+/* Whether some bytes that may follow make that one row accept the buffer; false if there is no such row. A row that
+ * accepts the buffer accepts it whatever follows. */
+bool infer_may_become(const void *buf, size_t len, int32_t row);
 
 /* The number of rows. */
 size_t infer_row_count(void);
 
-/* The row's MIME type or extension, without a dot, and the empty text where there is no such row. No text of this
+/* The row's MIME type or extension, without a dot, and the empty text if there is no such row. No text of this
  * version is longer than 73 bytes. */
 size_t infer_mime_type(int32_t row, char *out, size_t size);
 size_t infer_extension(int32_t row, char *out, size_t size);
 
-/* The row's class, one of `enum infer_class_code`. */
+/* The row's class, one of `enum infer_class_code`, and INFER_NO_ROW if there is no such row. */
 int32_t infer_class(int32_t row);
 
-/* The name of a class, such as "image", and the empty text where no class has this number. */
+/* The name of a class, such as "image", and the empty text if no class has this number. */
 size_t infer_class_name(int32_t class_code, char *out, size_t size);
 
-/* A short buffer of which the row is the answer: its length, and 0 where the row is never the answer or there is no
- * such row. The bytes are written to `out` where they fit into `size`, with no zero after them; else nothing is
- * written. 640 bytes are always enough. */
+/* The length of a short buffer of which the row is the answer, and 0 if the row is never the answer or there is no such
+ * row. The buffer is written to `out`, with no zero after it, if `size` bytes are room for all of it, and otherwise
+ * nothing is written. 640 bytes are always enough, and with `size` 0 `out` may be null. */
 size_t infer_sample(int32_t row, void *out, size_t size);
 
 /* Whether some row with this extension or MIME type accepts the buffer. It need not be the answer. */

@@ -11,7 +11,7 @@
 #include <sys/stat.h>
 #include <unistd.h>
 
-/* Maps the regular file `fd`, and tells whether that was done. A file without bytes cannot be mapped: it is null. */
+/* Maps the regular file `fd`, and answers whether that was done. A file without bytes cannot be mapped: it is null. */
 static bool map(int fd, const void **bytes, size_t *len) {
     struct stat about;
     if (fstat(fd, &about) != 0) return false;

@@ -124,6 +124,21 @@ static void verdicts(void) {
     verdict("verdict of a page", page, 1024, infer_position("<html>", 6), 1);
 }
 
+static void decided(void) {
+    /* A book of Mobipocket has its mark at 60, and its row comes before. */
+    static char front[61] = "\xFF\xD8\xFF";
+    same("decided of nothing", infer_is_decided(NULL, 0), false);
+    same("decided of 60 bytes", infer_is_decided(front, 60), false);
+    same("decided of 61 bytes", infer_is_decided(front, 61), true);
+    same("decided of a program", infer_is_decided("MZ", 2), true);
+    same("nothing may become", infer_may_become(NULL, 0, jpeg()), true);
+    same("a front may become", infer_may_become("\xFF\xD8", 2, jpeg()), true);
+    same("the whole may become", infer_may_become(JPEG, jpeg()), true);
+    same("another front may become", infer_may_become("\xFF\xD7", 2, jpeg()), false);
+    same("may become row -1", infer_may_become(NULL, 0, -1), false);
+    same("may become no row", infer_may_become(NULL, 0, last() + 1), false);
+}
+
 static void samples(void) {
     unsigned char out[641];
     int none = 0, wrong = 0;
@@ -197,6 +212,7 @@ static void warnings(void) {
 int main(void) {
     answers();
     verdicts();
+    decided();
     texts();
     class_names();
     classes();

@@ -14,7 +14,7 @@ const textOf = (write, row) => {
     return new TextDecoder().decode(room.slice(0, length));
 };
 
-/** The bytes of hexadecimal tokens, each with a count of repetitions after `*` where it has one. */
+/** The bytes of hexadecimal tokens, each with a count of repetitions after `*` if it has one. */
 const decode = (tokens) =>
     tokens.split(" ").flatMap((token) => {
         const [digits, count] = token.split("*");
@@ -30,7 +30,7 @@ const same = (what, got, wanted) => {
     console.log(`${what}: ${got} in place of ${wanted}`);
 };
 
-const items = readFileSync(new URL("../docs/TYPES.md", here), "utf8").matchAll(/^0\. \*\*(.+)\*\*, (.+), (.+): (?:`(.+)`|never the answer)\. Source: /gm);
+const items = readFileSync(new URL("../docs/TYPES.md", here), "utf8").matchAll(/^\d+\. \*\*(.+)\*\*, (.+), (.+): (?:\d+ bytes, `(.+)`|never the answer)\. Source: /gm);
 const rows = [...items];
 same("imports", WebAssembly.Module.imports(module).length, 0);
 same("rows", Number(infer.infer_row_count()), rows.length);

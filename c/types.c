@@ -42,12 +42,13 @@ static void print_row(int32_t row, FILE *sources) {
     infer_mime_type(row, mime_type, sizeof mime_type);
     infer_class_name(infer_class(row), class_name, sizeof class_name);
     find_source(sources, extension, source, sizeof source);
-    /* A page that is shown counts the items itself, so that a new row changes one line of the file. */
-    printf("0. **%s**, %s, %s: ", extension, mime_type, class_name);
-    if (len == 0)
+    printf("%d. **%s**, %s, %s: ", (int)row, extension, mime_type, class_name);
+    if (len == 0) {
         fputs("never the answer", stdout);
-    else
+    } else {
+        printf("%zu bytes, ", len);
         print_bytes(sample, len);
+    }
     printf(". Source: %s.\n", source);
 }
 
@@ -59,10 +60,11 @@ int main(int argc, char **argv) {
     }
     puts("# Types\n\n"
          "This page is made by `c/types` from the library for C, in the order in which the rows are asked. Each row has its number, its extension, MIME type "
-         "and class, a shortest buffer of which it is the answer, and the source of its signature. The number is that of the list, which counts from 0; it "
-         "changes whenever a row is added before it. Extensions and MIME types stay.\n\n"
-         "Samples are hexadecimal digits: `00*26` is 26 bytes of 00. The source is a document that states the signature. For a format that is kept in "
-         "another, as docx in ZIP, it is that of the other. It is unknown if no document is known for certain.\n");
+         "and class, the least length of a buffer of which it is the answer, such a buffer, and the source of its signature. The number changes whenever a "
+         "row is added before it. Extensions and MIME types stay.\n\n"
+         "Samples are hexadecimal digits, and the first is at place 0: `00*26` is 26 bytes of 00. Most types accept other bytes too; the definitions, in "
+         "`crates/infer_sig/specs` and `crates/infer_deep/specs`, have them all. The source is a document that states the signature. For a format that is "
+         "kept in another, as docx in ZIP, it is that of the other. It is unknown if no document is known for certain.\n");
     for (int32_t row = 0; row < (int32_t)infer_row_count(); row++)
         print_row(row, sources);
     fclose(sources);

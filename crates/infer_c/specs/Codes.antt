@@ -1,6 +1,7 @@
 -- What crosses to C: rows and classes as numbers.
 use Rattle.std.specs.Prelude.{◌≡◌, ◌≤◌, ◌⊎◌, ℕ, ℤ, pos, negsuc, List, Option, None, Some, codes, option_map}
 use Rattle.std.specs.List.{HoldsAt, slice_get}
+use Rattle.infer.specs.Decided.{MayAccept}
 use Rattle.infer.specs.First.{IsFirst}
 use Rattle.infer.specs.Row.{Accepts, shows}
 use Rattle.infer.specs.Samples.{sample_of}
@@ -25,6 +26,11 @@ triple_at (negsuc i) = None
 abbrev pub AcceptsAt : List ℕ → ℤ → Type 0
 AcceptsAt b (pos i) = RowHas (Accepts b) i
 AcceptsAt b (negsuc i) = ⊥
+
+-- there is a row with this number, and some bytes after the buffer make it accept
+abbrev pub MayAcceptAt : List ℕ → ℤ → Type 0
+MayAcceptAt b (pos i) = RowHas (MayAccept b) i
+MayAcceptAt b (negsuc i) = ⊥
 
 -- the sample of row i, and none if there is no such row or it is first for no buffer
 abbrev pub IsSample : ℕ → Option (List ℕ) → Type 0

@@ -6,6 +6,7 @@ ghost use Rattle.std.specs.Prelude.{◌≡◌, ◌↔◌, ◌≤◌, ℕ, List, 
 ghost use Rattle.std.specs.Option.{option_map_or};
 ghost use Rattle.infer.specs.App.{coff_i386, coff_ia64, coff_x64};
 ghost use Rattle.infer.specs.Signature.{accepts};
+ghost use Rattle.infer.specs.Decided.{IsDecided};
 ghost use Rattle.infer.specs.First.{IsFirstOf, SomeHas};
 ghost use Rattle.infer.specs.Questions.{HasClass, HasExtension, HasMimeType, SomeBoth};
 ghost use Rattle.infer.specs.Row.{Accepts};
@@ -14,7 +15,7 @@ ghost use Rattle.infer.specs.Walks.{count_asked};
 ghost use Rattle.infer.specs.declared.ask.question.Wanted.TheVariants.{Every};
 ghost use Rattle.infer.specs.declared.table.rows.TheConstants.{MOST_CANDIDATES};
 ghost use Rattle.infer_sniff.specs.Verdicts.{IsSettled, RowStaysFinal};
-ghost use Rattle.infer_c.specs.Codes.{AcceptsAt, IsClassOf, IsSampleOf, class_code, class_name, row_code, triple_at};
+ghost use Rattle.infer_c.specs.Codes.{AcceptsAt, IsClassOf, IsSampleOf, MayAcceptAt, class_code, class_name, row_code, triple_at};
 ghost use Rattle.infer_c.specs.Written.{WritesText, WritesWhole};
 
 mod class;
@@ -72,6 +73,22 @@ pub extern "C" fn infer_accepts(buf: &[u8], row: i32) -> bool
     ensures { IsTrue result ↔ AcceptsAt buf.now row }
 {
     row >= 0 && row::accepts(row as usize, buf)
+}
+
+/// Whether no bytes after `buf` change the number of the first row that accepts it.
+#[unsafe(no_mangle)]
+pub extern "C" fn infer_is_decided(buf: &[u8]) -> bool
+    ensures { IsTrue result ↔ IsDecided buf.now }
+{
+    infer::is_decided(buf)
+}
+
+/// Whether there is a row with this number, and some bytes after `buf` make it accept.
+#[unsafe(no_mangle)]
+pub extern "C" fn infer_may_become(buf: &[u8], row: i32) -> bool
+    ensures { IsTrue result ↔ MayAcceptAt buf.now row }
+{
+    row >= 0 && infer::may_become(buf, row as usize)
 }
 
 /// The number of rows.
