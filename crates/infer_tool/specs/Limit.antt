@@ -12,7 +12,7 @@ pub record IsLimit (text : List ℕ) (n : ℕ) : Type 0 where
   pub least : 1 ≤ n
   pub most : n ≤ 65536
 
--- what a run with the limit n tells: the same as one with 8192, of standard input if there are no words after the
+-- what a run with the limit n says: the same as one with 8192, of standard input if there are no words after the
 -- first two, and otherwise of each word after
 abbrev pub ReportsWithin : ℕ → List (List ℕ) → Option (List ℕ) → Outcome → (old new err_old err_new : Option (List ℕ)) → Type 0
 ReportsWithin n words left outcome old new err_old err_new =

@@ -1,4 +1,4 @@
--- What an outcome tells of an answer and of what was written.
+-- What an outcome says of an answer and of what was written.
 use Rattle.std.specs.Prelude.{◌≡◌, ◌≤◌, ℕ, Bool, true, false, List, [], Option, None, Some, Result, Ok, Err, IfOk, IfSome, length, option_map}
 use Rattle.std.specs.Bool.{OnFalse}
 use Rattle.std.specs.Io.KnownBytes.{Appends}

@@ -1,4 +1,4 @@
--- What a run over files tells.
+-- What a run over files says.
 use Rattle.std.specs.Prelude.{ℕ, List, [], ◌∷◌, ◌++◌, Option, None}
 use Rattle.infer_tool.specs.Outcome.{worse_of}
 use Rattle.infer_tool.specs.Report.{ReportsInput}

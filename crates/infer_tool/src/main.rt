@@ -1,7 +1,8 @@
 //! Prints the type of each file that it is given, or of standard input.
 #![tactic(auto)]
 
-ghost use Rattle.std.specs.Prelude.{◌≡◌, ◌≢◌, ◌↔◌, ◌<◌, ◌≤◌, ℕ, [], IsTrue, codes, false, length, map, string_bytes};
+ghost use Rattle.std.specs.Prelude.{◌≡◌, ◌≢◌, ◌↔◌, ◌<◌, ◌≤◌, ℕ, [], IfOk, IsTrue, codes, false, length, map, string_bytes};
+ghost use Rattle.std.specs.Io.Buffered.{line_writer_contents, line_writer_inner, writer_capacity, writer_contents, writer_inner};
 ghost use Rattle.std.specs.Io.KnownBytes.{Keeps};
 ghost use Rattle.infer_tool.specs.Limit.{IsLimit, ReportsWithin};
 ghost use Rattle.infer_tool.specs.Line.{limits_line, no_sample_line, usage_line};
@@ -24,7 +25,7 @@ use limit::limit_of;
 use outcome::Outcome;
 use sample::run_sample;
 use std::alloc::Allocator;
-use std::io::{LineWriter, Read, Write};
+use std::io::{BufWriter, IsTerminal, LineWriter, Read, Write};
 use std::process::ExitCode;
 use std::rt::{Env, Files};
 use std::{env, io};
@@ -37,13 +38,17 @@ const LIMITS: &[u8] = b"front must be 1 to 65536\n";
 /// A line with the longest path of a system fits.
 const LINE_BUFFER: usize = 8192;
 
+/// What a pipe takes in one piece, so that blocks of several runs are not mixed.
+const BLOCK: usize = 4096;
+
 /// Reports the type of each file that a word names by its path, in the order of the words, also after a fault, and
 /// without words that of `input`, under the name `-`.
 ///
 /// Only the first word can be an option. After `--front` stand the number of bytes to look at, from 1 to 65536 in
 /// place of 8192, and then paths, or none for `input`. After `--sample` stands one extension, and the sample of the
 /// first type with it is written instead. If these words are wrong, `err` is told, nothing is read and nothing is
-/// written to `out`. The outcome is the worst one, and `Failed` if a write to `out` failed.
+/// written to `out`. The outcome is the worst one, and `Failed` if a write to `out` failed. If it failed because nobody
+/// reads any more, no further file is opened.
 pub fn run<R: Files, A: Allocator + Copy, I: Read + Drop, W: Write, E: Write>(
     rt: &R,
     alloc: A,
@@ -189,7 +194,8 @@ fn run_within<R: Files, A: Allocator + Copy, I: Read + Drop, W: Write, E: Write>
     run_paths(rt, alloc, &words[2..], n, out, err)
 }
 
-/// Reports each file, one after the other.
+/// Reports each file, one after the other. After a write to `out` failed because nobody reads any more, no further file
+/// is opened.
 fn run_paths<R: Files, A: Allocator + Copy, W: Write, E: Write>(
     rt: &R,
     alloc: A,
@@ -207,9 +213,13 @@ fn run_paths<R: Files, A: Allocator + Copy, W: Write, E: Write>(
         (unless_failed (has_failed err.new) (E.contents (inner err.old))) (E.contents (inner err.new))) }
     ensures silent { result ≢ Outcome.Failed → err.new ≡ err.old }
 {
+    let mut room = Vec::new(alloc);
     let mut outcome = Outcome::Known;
     for word in words {
-        outcome = outcome.worse(report::run_path_within(rt, alloc, word.as_str(), n, out, err));
+        if out.has_lost_reader() {
+            return Outcome::Failed;
+        }
+        outcome = outcome.worse(report::run_path_within(rt, &mut room, word.as_str(), n, out, err));
     }
     outcome
 }
@@ -226,6 +236,23 @@ fn flush<W: Write>(outcome: Outcome, out: &mut WatchedWriter<W>) -> Outcome
     outcome
 }
 
+/// A writer that hands whole lines on to `out`, as many at once as fit into a block, or each by itself if that is 0.
+fn lines_over<A: Allocator + Copy, W: Write + Drop>(
+    alloc: A,
+    block: usize,
+    out: W,
+) -> io::Result<LineWriter<BufWriter<W, A>, A>>
+    ensures inner { IfOk result (λ lines. writer_inner (line_writer_inner lines) ≡ out) }
+    ensures block { IfOk result (λ lines. writer_capacity (line_writer_inner lines) ≡ block) }
+    ensures bytes { IfOk result (λ lines. Keeps (W.contents out) (line_writer_contents (writer_contents W.contents) lines)) }
+{
+    LineWriter::with_capacity(
+        alloc,
+        LINE_BUFFER,
+        BufWriter::with_capacity(alloc, block, out)?,
+    )
+}
+
 fn words_of<R: Env + AllocGlobal>(rt: &R) -> io::Result<Vec<String>> {
     let mut words = Vec::new(rt.alloc());
     for word in env::args(rt)?.skip(1) {
@@ -237,14 +264,18 @@ fn words_of<R: Env + AllocGlobal>(rt: &R) -> io::Result<Vec<String>> {
 fn main(rt: HostRuntime) -> ExitCode {
     let (mut out, mut err) = (rt.stdout(), rt.stderr());
     let outcome = match words_of(&rt) {
-        Ok(words) => run_lines(
-            &rt,
-            rt.alloc(),
-            words.as_slice(),
-            rt.stdin(),
-            &mut out,
-            &mut err,
-        ),
+        Ok(words) => {
+            let block = if out.is_terminal() { 0 } else { BLOCK };
+            run_lines(
+                &rt,
+                rt.alloc(),
+                words.as_slice(),
+                rt.stdin(),
+                block,
+                &mut out,
+                &mut err,
+            )
+        }
         Err(_) => {
             let _ = err.write_all(USAGE);
             Outcome::Failed
@@ -253,21 +284,30 @@ fn main(rt: HostRuntime) -> ExitCode {
     ExitCode::from(outcome.status())
 }
 
-/// Runs through buffers for lines: a line, also one of `err`, costs one system call, and several if the buffer is
-/// refused.
+/// Runs through buffers for lines. A line of `err` costs one system call, and so do the lines of `out` that fit into a
+/// block, or each of them if `block` is 0. If a buffer is refused, a line costs several.
 fn run_lines<R: Files, A: Allocator + Copy, I: Read + Drop, W: Write, E: Write>(
     rt: &R,
     alloc: A,
     words: &[String],
     input: I,
+    block: usize,
     out: &mut W,
     err: &mut E,
 ) -> Outcome {
     if let Ok(lines) = LineWriter::with_capacity(alloc, LINE_BUFFER, &mut *err) {
         let mut lines = WatchedWriter::new(lines);
-        return run_to_end(rt, alloc, words, input, out, &mut lines);
+        return run_to_end(rt, alloc, words, input, block, out, &mut lines);
     }
-    run_to_end(rt, alloc, words, input, out, &mut WatchedWriter::new(err))
+    run_to_end(
+        rt,
+        alloc,
+        words,
+        input,
+        block,
+        out,
+        &mut WatchedWriter::new(err),
+    )
 }
 
 /// Runs, and writes out the last bytes.
@@ -276,12 +316,13 @@ fn run_to_end<R: Files, A: Allocator + Copy, I: Read + Drop, W: Write, E: Write>
     alloc: A,
     words: &[String],
     input: I,
+    block: usize,
     out: &mut W,
     err: &mut WatchedWriter<E>,
 ) -> Outcome
     requires { has_failed err.old ≡ false }
 {
-    if let Ok(lines) = LineWriter::with_capacity(alloc, LINE_BUFFER, &mut *out) {
+    if let Ok(lines) = lines_over(alloc, block, &mut *out) {
         let mut lines = WatchedWriter::new(lines);
         let outcome = run(rt, alloc, words, input, &mut lines, err);
         return flush(outcome, &mut lines);

@@ -1,19 +1,20 @@
-//! A writer that remembers whether a write of it failed.
-ghost use Rattle.std.specs.Prelude.{◌≡◌, IfSome, IsTrue, OnErr, OnOk, false};
+//! A writer that remembers its last error.
+ghost use Rattle.std.specs.Prelude.{◌≡◌, ◌↔◌, IfErr, IfSome, IsTrue, OnOk, Some, false};
 ghost use Rattle.std.specs.Bool.{OnFalse};
+ghost use Rattle.std.specs.IoError.{error_kind};
 ghost use Rattle.std.specs.Io.KnownBytes.{Appends, Keeps};
-ghost use Rattle.infer_tool.specs.Writer.{has_failed, inner};
+ghost use Rattle.infer_tool.specs.Writer.{HasLostReader, failure_of, has_failed, inner};
 
 use std::fmt::Display;
-use std::io::{self, Write};
+use std::io::{self, ErrorKind, Write};
 
-/// A writer that remembers whether a write or a flush of it failed.
+/// A writer that remembers the last error of a write or a flush.
 ///
-/// No other code can set that, so if it tells of a failure there was one.
+/// No other code can set that, so if it is set there was a failure.
 #[derive(Drop)]
 pub struct WatchedWriter<W: Write> {
     writer: W,
-    has_failed: bool,
+    last_error: Option<ErrorKind>,
 }
 
 impl<W: Write> WatchedWriter<W> {
@@ -24,7 +25,7 @@ impl<W: Write> WatchedWriter<W> {
     {
         WatchedWriter {
             writer,
-            has_failed: false,
+            last_error: None,
         }
     }
 
@@ -59,12 +60,12 @@ impl<W: Write> WatchedWriter<W> {
 
     /// Remembers a failure, and nothing else.
     fn note(&mut self, done: io::Result<()>)
-        ensures failed { OnErr done (IsTrue (has_failed self.new)) }
-        ensures kept { OnOk done (has_failed self.new ≡ has_failed self.old) }
+        ensures failed { IfErr done (λ error. failure_of self.new ≡ Some (error_kind error)) }
+        ensures kept { OnOk done (failure_of self.new ≡ failure_of self.old) }
         ensures writer { inner self.new ≡ inner self.old }
     {
-        if done.is_err() {
-            self.has_failed = true;
+        if let Err(error) = done {
+            self.last_error = Some(error.kind());
         }
     }
 
@@ -72,6 +73,13 @@ impl<W: Write> WatchedWriter<W> {
     pub fn has_failed(&self) -> bool
         ensures { result ≡ has_failed self.now }
     {
-        self.has_failed
+        self.last_error.is_some()
+    }
+
+    /// Whether the last that failed did because nobody reads any more.
+    pub fn has_lost_reader(&self) -> bool
+        ensures { IsTrue result ↔ HasLostReader self.now }
+    {
+        self.last_error == Some(ErrorKind::BrokenPipe)
     }
 }

@@ -1,14 +1,16 @@
 //! Runs over words, and over standard input if there are none.
 use crate::outcome::Outcome;
+use crate::report::run_path_within;
 use crate::writer::WatchedWriter;
-use crate::{LINE_BUFFER, USAGE, flush, run, run_lines};
+use crate::{BLOCK, LINE_BUFFER, USAGE, flush, run, run_lines};
+use infer::FRONT;
 use linked_list_allocator::LocalHeap;
 use std::alloc::AllocError;
-use std::fs;
-use std::io::{LineWriter, Write};
+use std::io::{ErrorKind, LineWriter, Write};
 use std::process::Abort;
 use std::rt::Files;
 use std::test::Fail;
+use std::{fs, io};
 use test_streams::{PieceReader, PieceWriter};
 
 const JPEG: [u8; 4] = [0xFF, 0xD8, 0xFF, 0xAA];
@@ -269,15 +271,55 @@ fn memory_for_a_run(rt: HostRuntime) -> Result<(), Fail> {
     Ok(())
 }
 
+/// Memory that was refused is asked for again at the next file, and kept from then on.
+#[test]
+fn one_room_for_all_files(rt: HostRuntime) -> Result<(), Fail> {
+    fs::write(&rt, "g.jpg", &JPEG)?;
+    let heap = LocalHeap::new(rt.alloc(), 16384)?;
+    let (mut out, mut err) = (Vec::new(rt.alloc()), Vec::new(rt.alloc()));
+    let mut room = Vec::new(&heap);
+    for (taken, path, status) in [
+        (12288, "missing.bin", 2),
+        (12288, "g.jpg", 2),
+        (0, "g.jpg", 0),
+        (7168, "g.jpg", 0),
+    ] {
+        let others = vec![in &heap; 0u8; taken]?;
+        let outcome = run_path_within(
+            &rt,
+            &mut room,
+            path,
+            FRONT,
+            &mut WatchedWriter::new(&mut out),
+            &mut WatchedWriter::new(&mut err),
+        );
+        assert_eq!(rt; outcome.status(), status);
+        drop(others);
+    }
+    drop(room);
+    assert_eq!(rt; heap.used(), 0);
+    assert_eq!(rt;
+        out.as_slice(),
+        b"g.jpg: image/jpeg jpg\ng.jpg: image/jpeg jpg\n".as_slice()
+    );
+    assert_eq!(rt;
+        err.as_slice(),
+        b"missing.bin: cannot open\ng.jpg: no memory\n".as_slice()
+    );
+    fs::remove_file(&rt, "g.jpg")?;
+    Ok(())
+}
+
 /// The status of a run through buffers for lines that are taken from a heap of that size, and its two writers.
 fn through_lines<R: Files + AllocGlobal + Abort>(
     rt: &R,
     size: usize,
+    block: usize,
     words: &[String],
 ) -> Result<(u8, PieceWriter, PieceWriter), AllocError> {
     let heap = LocalHeap::new(rt.alloc(), size)?;
     let (mut out, mut err) = (PieceWriter::new(512), PieceWriter::new(512));
-    let outcome = run_lines(rt, &heap, words, b"".as_slice(), &mut out, &mut err);
+    let outcome = run_lines(rt, &heap, words, b"".as_slice(), block, &mut out, &mut err);
     assert_eq!(rt; heap.used(), 0);
     Ok((outcome.status(), out, err))
 }
@@ -294,16 +336,81 @@ fn a_refused_line_buffer_is_done_without(rt: HostRuntime) -> Result<(), Fail> {
         String::from_str(rt.alloc(), "html")?,
     ];
     for (size, is_one_write) in [(4096, false), (12288, true), (65536, true)] {
-        let (status, out, err) = through_lines(&rt, size, &none)?;
+        let (status, out, err) = through_lines(&rt, size, BLOCK, &none)?;
         assert_eq!(rt; status, 2);
         assert!(rt; out.taken().is_empty());
         assert_eq!(rt; err.taken(), b"dll: no sample\n".as_slice());
         assert_eq!(rt; err.writes == 1, is_one_write, "{size} bytes");
-        let (status, out, err) = through_lines(&rt, size, &one)?;
+        let (status, out, err) = through_lines(&rt, size, BLOCK, &one)?;
         assert_eq!(rt; status, 0);
         assert_eq!(rt; out.taken(), b"<P>".as_slice(), "{size} bytes");
         assert!(rt; err.taken().is_empty());
     }
+    Ok(())
+}
+
+/// A writer that nobody reads.
+#[derive(Drop)]
+struct Unread;
+
+impl Write for Unread {
+    fn write(&mut self, _buf: &[u8]) -> io::Result<usize> {
+        Err(io::Error::from(ErrorKind::BrokenPipe))
+    }
+
+    fn flush(&mut self) -> io::Result<()> {
+        Ok(())
+    }
+}
+
+/// The fault of a file is told only if the file was to be opened.
+#[test]
+fn no_file_is_opened_for_nobody(rt: HostRuntime) -> Result<(), Fail> {
+    fs::write(&rt, "i.jpg", &JPEG)?;
+    let words = [
+        String::from_str(rt.alloc(), "i.jpg")?,
+        String::from_str(rt.alloc(), "missing.bin")?,
+    ];
+    for (is_unread, told) in [
+        (true, b"".as_slice()),
+        (false, b"missing.bin: cannot open\n"),
+    ] {
+        let mut err = Vec::new(rt.alloc());
+        let faults = &mut WatchedWriter::new(&mut err);
+        let (unread, full) = (
+            &mut WatchedWriter::new(Unread),
+            &mut WatchedWriter::new(PieceWriter::failing(512, 0)),
+        );
+        let outcome = if is_unread {
+            run(&rt, rt.alloc(), &words, b"".as_slice(), unread, faults)
+        } else {
+            run(&rt, rt.alloc(), &words, b"".as_slice(), full, faults)
+        };
+        assert_eq!(rt; outcome.status(), 2);
+        assert_eq!(rt; err.as_slice(), told);
+    }
+    fs::remove_file(&rt, "i.jpg")?;
+    Ok(())
+}
+
+/// A block holds lines of several files, and is written out before a fault is told and at the end.
+#[test]
+fn lines_in_blocks(rt: HostRuntime) -> Result<(), Fail> {
+    fs::write(&rt, "h.jpg", &JPEG)?;
+    let mut words = Vec::new(rt.alloc());
+    for word in ["h.jpg", "h.jpg", "missing.bin", "h.jpg"] {
+        words.push(String::from_str(rt.alloc(), word)?)?;
+    }
+    let lines = b"h.jpg: image/jpeg jpg\n".repeat(rt.alloc(), 3)?;
+    for (block, writes) in [(0, 3), (60, 2), (30, 3), (BLOCK, 2)] {
+        let (status, out, err) = through_lines(&rt, 65536, block, words.as_slice())?;
+        assert_eq!(rt; status, 2);
+        assert_eq!(rt; out.taken(), lines.as_slice(), "{block}");
+        assert_eq!(rt; out.writes, writes, "{block}");
+        assert_eq!(rt; err.taken(), b"missing.bin: cannot open\n".as_slice());
+        assert_eq!(rt; err.writes, 1);
+    }
+    fs::remove_file(&rt, "h.jpg")?;
     Ok(())
 }
 
