@@ -42,7 +42,7 @@ fn told(answer: Result<Option<Type>, Fault>) -> &'static str {
     }
 }
 
-/// What a call over the reader tells, and how many bytes it left.
+/// What a call over the reader answers, and how many bytes it left.
 fn told_of<A: Allocator>(
     infer: &Infer,
     alloc: A,

@@ -43,6 +43,30 @@ fn readers(rt: HostRuntime) -> Result<(), Fail> {
     Ok(())
 }
 
+/// What was read before into the same memory is not looked at.
+#[test]
+fn one_room_for_many_readers(rt: HostRuntime) {
+    let mut room = [0; 4];
+    let cases: [(&[u8], &str, usize); 5] = [
+        (b"\xFF\xD8\xFF\xAA\0", "jpg", 1),
+        (b"\xFF\xD8", "", 0),
+        (b"MZ", "exe", 0),
+        (b"", "", 0),
+        (b"\xFF\xD8\xFF", "jpg", 0),
+    ];
+    for (bytes, extension, left) in cases {
+        let mut watched = Watched::new(bytes);
+        let answer = Infer::new().get_from_reader_in(&mut room, &mut watched);
+        assert_eq!(rt;
+            (told(answer), watched.into_inner().len()),
+            (extension, left)
+        );
+    }
+    let mut watched = Watched::new(b"MZ".as_slice());
+    let answer = Infer::new().get_from_reader_in(&mut [], &mut watched);
+    assert_eq!(rt; (told(answer), watched.into_inner().len()), ("", 2));
+}
+
 #[test]
 fn paths(rt: HostRuntime) -> Result<(), Fail> {
     fs::write(&rt, "limit.bin", b"MZ")?;

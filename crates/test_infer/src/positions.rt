@@ -1,7 +1,7 @@
 //! The numbers of first rows, on worked buffers.
 use infer::{
-    MatcherType, app, archive, get, is, is_archive, is_audio, is_book, is_image, is_mime,
-    is_mime_supported, is_supported, position, row, rows, text,
+    MatcherType, app, archive, get, is, is_archive, is_audio, is_book, is_decided, is_image,
+    is_mime, is_mime_supported, is_supported, may_become, position, row, rows, text,
 };
 use std::alloc::{AllocError, Global};
 use std::test::Fail;
@@ -87,6 +87,43 @@ fn short_buffers(rt: HostRuntime) {
     ];
     for (i, (buf, expected)) in cases.iter().enumerate() {
         assert_eq!(rt; position(*buf), *expected, "case {i}");
+    }
+}
+
+#[test]
+fn certainty_comes(rt: HostRuntime) -> Result<(), Fail> {
+    // A book of Mobipocket has its mark at 60, and a tar archive at 257.
+    let cases: [(&[u8], usize); 6] = [
+        (b"MZ", 2),
+        (b"BC", 2),
+        (b"\x7FELF", 53),
+        (b"\xFF\xD8\xFF", 61),
+        (b"GIF", 61),
+        (b"\x1F\x8B\x08", 258),
+    ];
+    for (front, least) in cases {
+        for len in 0..least {
+            assert!(rt; !is_decided(zeros_but(rt.alloc(), len, &[(0, front)])?.as_slice()));
+        }
+        assert!(rt; is_decided(zeros_but(rt.alloc(), least, &[(0, front)])?.as_slice()));
+    }
+    Ok(())
+}
+
+#[test]
+fn rows_that_may_come(rt: HostRuntime) {
+    let cases: [(&[u8], usize, bool); 8] = [
+        (b"", rows::PNG, true),
+        (b"\x89PN", rows::PNG, true),
+        (b"\x89PNG", rows::PNG, true),
+        (b"\x89PM", rows::PNG, false),
+        (b"\0\0\0\x18ftypmif1", rows::HEIF, true),
+        (b"\0\0\0\x18ftypmif2", rows::HEIF, false),
+        (b"", rows::ROW_COUNT, false),
+        (b"", usize::MAX, false),
+    ];
+    for (i, (buf, row, expected)) in cases.iter().enumerate() {
+        assert_eq!(rt; may_become(*buf, *row), *expected, "case {i}");
     }
 }
 

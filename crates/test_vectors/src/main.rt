@@ -174,7 +174,7 @@ fn is_row(i: usize, fields: &[&str]) -> bool {
     is_alike(&row) && row.mime_type() == *mime_type && named == 1
 }
 
-/// Compares row by row, of which line 1 tells row 0, and that no row follows.
+/// Compares row by row, of which line 1 describes row 0, and that no row follows.
 fn compare_rows(rt: &(impl Print + AllocGlobal), text: &str) -> Result<u32> {
     let mut differing = 0u32;
     if text.lines().count() != ROW_COUNT {
