@@ -1,4 +1,4 @@
-/* A proxy on the loopback that tells the type of what each client sends. README.md says what it writes. */
+/* A proxy on the loopback that prints the type of what each client sends. README.md says what it writes. */
 #define _POSIX_C_SOURCE 200809L
 #include "infer.h"
 #include <arpa/inet.h>
@@ -61,7 +61,7 @@ static void tell(struct stream *it, const char *when) {
     fflush(stdout);
 }
 
-/* Keeps what there is room for, and tells the label once no byte can change it, or there is room for no more. */
+/* Keeps what there is room for, and prints the label once no byte can change it, or there is room for no more. */
 static void label(struct stream *it, const uint8_t *bytes, size_t size) {
     struct label *label = &it->label;
     size_t room = FRONT - label->kept, count = size < room ? size : room;

@@ -1,5 +1,5 @@
 #!/usr/bin/env python3
-"""A static file server on the loopback, which tells the type of a file from its name and its bytes together.
+"""A static file server on the loopback, which takes the type of a file from its name and its bytes together.
 
 usage: static_server.py PORT FOLDER"""
 from __future__ import annotations

@@ -21,8 +21,8 @@
 
 enum { HEAD = 8192, FRONT = 65536, LARGEST = 8 << 20, NAME = 100, CHILDREN = 16, LINGER = 2000 };
 
-static unsigned allowed_classes; /* a bit for each class */
-static long patience = 30000;    /* milliseconds for a whole request */
+static bool *allowed;         /* of each row */
+static long patience = 30000; /* milliseconds for a whole request */
 
 struct request {
     char name[NAME + 1];
@@ -233,9 +233,9 @@ static int judge(const struct request *it, const uint8_t *front, size_t size, ch
     infer_extension(row, extension, sizeof extension);
     bool has_claim = *it->mime_type != 0 && strcmp(it->mime_type, "application/octet-stream") != 0;
     if (row < 0)
-        return snprintf(why, 256, "no type is told of these bytes"), 415;
-    if ((allowed_classes >> class & 1) == 0)
-        return snprintf(why, 256, "%s is of no allowed class", mime_type), 415;
+        return snprintf(why, 256, "these bytes are of no known type"), 415;
+    if (!allowed[row])
+        return snprintf(why, 256, "%s is not allowed", mime_type), 415;
     if (*it->extension == 0 && !has_claim)
         return snprintf(why, 256, "no extension and no Content-Type, but %s", mime_type), 422;
     if (*it->extension != 0 && !is_named(it, extension))
@@ -319,17 +319,26 @@ static void serve(int fd) {
     }
 }
 
-static bool allow(char *names) {
-    for (char *name = strtok(names, ","); name; name = strtok(NULL, ",")) {
-        int32_t class = INFER_APP;
-        for (char known[16]; class <= INFER_VIDEO; class++)
-            if (infer_class_name(class, known, sizeof known) > 0 && strcmp(name, known) == 0)
-                break;
-        if (class > INFER_VIDEO)
-            return false;
-        allowed_classes |= 1u << class;
+/* Allows the rows of a class or of a MIME type, and answers whether there are any. */
+static bool allow_rows(const char *name) {
+    bool has_some = false;
+    for (int32_t row = 0; row < (int32_t)infer_row_count(); row++) {
+        char class[16], mime_type[128];
+        infer_class_name(infer_class(row), class, sizeof class);
+        infer_mime_type(row, mime_type, sizeof mime_type);
+        if (strcmp(name, class) == 0 || strcmp(name, mime_type) == 0)
+            has_some = allowed[row] = true;
     }
-    return allowed_classes != 0;
+    return has_some;
+}
+
+static bool allow(char *names) {
+    allowed = calloc(infer_row_count(), sizeof *allowed);
+    char *name = allowed ? strtok(names, ",") : NULL;
+    bool are_known = name != NULL;
+    for (; name && are_known; name = strtok(NULL, ","))
+        are_known = allow_rows(name);
+    return are_known;
 }
 
 /* The listening socket, or -1. */
@@ -370,7 +379,7 @@ static void accept_all(int listening) {
 
 int main(int argc, char **argv) {
     if (argc < 4 || argc > 5 || !allow(argv[3]) || (argc == 5 && (patience = atol(argv[4]) * 1000) <= 0)) {
-        fputs("usage: upload_gate PORT FOLDER CLASS,CLASS.. [SECONDS]\n", stderr);
+        fputs("usage: upload_gate PORT FOLDER CLASS|MIME_TYPE,.. [SECONDS]\n", stderr);
         return 2;
     }
     signal(SIGPIPE, SIG_IGN);
