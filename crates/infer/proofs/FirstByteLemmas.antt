@@ -13,9 +13,10 @@ use Rattle.infer_deep.specs.Find.{OccursAt}
 use Rattle.infer_deep.specs.Frames.{IsFrame, IsFramed}
 use Rattle.infer_deep.specs.Joined.{SkipsTo}
 use Rattle.infer_deep.specs.Numbers.{le16, le32, be32}
+use Rattle.infer_deep.specs.Open.{are_bytes}
 use Rattle.infer_deep.specs.Signatures.{Reachable}
 use Rattle.infer_deep.specs.Text.{IsHtml, IsMark, IsSpace, IsWhite, IsXml}
-use Rattle.infer_sig.specs.Open.{is_sound, is_text}
+use Rattle.infer_sig.specs.Open.{is_sound}
 use Rattle.infer_sig.specs.Open as Fixed
 use Rattle.infer_sig.specs.Signature.{Alternative, stands}
 use Rattle.infer.specs.BuiltIn.{BuiltIn, fixed, avif, doc, framed, heif, html, matroska, office, pdf, ppt, xls, xml, IsAccepted}
@@ -36,11 +37,11 @@ use Rattle.infer.proofs.TestLemmas.{NoneRefused, passed}
 abbrev Begins : BuiltIn → Type 0
 Begins s = (f : ℕ) → f < 256 → IsTrue (allows_first s f) → Reachable (IsAccepted s) (f ∷ [])
 
-bytes_of : (t : List ℕ) → IsTrue (is_text t) → All (λ x. x < 256) t
+bytes_of : (t : List ℕ) → IsTrue (are_bytes t) → All (λ x. x < 256) t
 bytes_of t h = λ k d lt. ltb-true _ 256 (AllPass-from_list_all (λ x. ltb x 256) t h k d lt)
 
 -- where one byte alone is allowed, by a buffer that begins with it
-by_sample : (s : BuiltIn) (first : ℕ) (rest : List ℕ) → IsTrue (is_text rest) → IsAccepted s (first ∷ rest)
+by_sample : (s : BuiltIn) (first : ℕ) (rest : List ℕ) → IsTrue (are_bytes rest) → IsAccepted s (first ∷ rest)
     → ((f : ℕ) → IsTrue (allows_first s f) → f ≡ first) → Begins s
 by_sample s first rest bytes accepted only f lt h =
     (rest, bytes_of rest bytes, subst (λ x. IsAccepted s (x ∷ rest)) (sym (only f h)) accepted)
@@ -98,7 +99,7 @@ module _ (by_place : ByPlace) where
       let b : List ℕ = f ∷ codes "%PDF" in
       (codes "%PDF", bytes_of (codes "%PDF") refl, (1, record { stands = Place.found by_place (codes "%PDF") b 1 refl; low = omega arith; high = omega arith }))
 
-  framed_begins : (x : ℕ) (magic : List ℕ) → IsTrue (is_text magic) → IsTrue (is_text (x ∷ magic)) → Begins (framed (x ∷ magic))
+  framed_begins : (x : ℕ) (magic : List ℕ) → IsTrue (are_bytes magic) → IsTrue (are_bytes (x ∷ magic)) → Begins (framed (x ∷ magic))
   unfolding stands le32
   framed_begins x magic bytes all f lt h =
       let byte : (f ≡ x) ⊎ ((0x50 ≤ f) × (f ≤ 0x5F)) = grind (arith, nat_tests) in
@@ -146,7 +147,7 @@ module _ (by_place : ByPlace) where
       whole = omega (arith, box_length four);
     }
 
-    box_bytes : IsTrue (is_text brand) → All (λ x. x < 256) rest_of_box
+    box_bytes : IsTrue (are_bytes brand) → All (λ x. x < 256) rest_of_box
     unfolding rest_of_box
     box_bytes h =
         All-append (λ x. x < 256) (0x00 ∷ 0x00 ∷ 0x10 ∷ codes "ftyp" ++ brand) (replicate (4 + 16777216 * f) 0x00)
@@ -167,7 +168,7 @@ module _ (by_place : ByPlace) where
   -- where one byte alone is allowed, by the sample
   abbrev sampled : (s : BuiltIn) (first : ℕ) → ((f : ℕ) → IsTrue (allows_first s f) → f ≡ first) → Known (Begins s)
   sampled s first only = do
-    bytes ← takes (is (is_text (drop 1 (sample_of s))))
+    bytes ← takes (is (are_bytes (drop 1 (sample_of s))))
     accepted ← takes (known by_place (first ∷ drop 1 (sample_of s)) s)
     proved (by_sample s first (drop 1 (sample_of s)) bytes accepted only)
 
@@ -178,8 +179,8 @@ module _ (by_place : ByPlace) (begins : (s : List Alternative) → IsTrue (is_so
   known_begins (matroska t) = sampled by_place (matroska t) 0x1A (λ f h. eqb-true f 0x1A h)
   known_begins (framed []) = unknown
   known_begins (framed (x ∷ magic)) = do
-    bytes ← takes (is (is_text magic))
-    all ← takes (is (is_text (x ∷ magic)))
+    bytes ← takes (is (are_bytes magic))
+    all ← takes (is (are_bytes (x ∷ magic)))
     proved (framed_begins by_place x magic bytes all)
   known_begins heif = proved (heif_begins by_place)
   known_begins avif = proved (avif_begins by_place)

@@ -54,10 +54,10 @@ module _ (P : List ℕ → Type 0) where
       SkipsTo-cons _ (repeat n word ++ rest) more
       (record { word = word; kind = is; whole = append_assoc word (repeat n word) rest }) (LeadsTo-repeat n word rest is more s)
 
-  pub leads_past_repeat : (b c word : List ℕ) (n : ℕ) → LeadsTo P b c → P word
-      → OccursAt c (repeat n word) 0 → LeadsTo P b (take (length c - length (repeat n word)) (drop (length (repeat n word)) c))
-  leads_past_repeat b c word n leads is o more s =
-      leads more (subst (λ u. SkipsTo P u more) (sym (begins-from_OccursAt c _ o)) (LeadsTo-repeat n word _ is more s))
+  pub leads_past_repeat : (b word : List ℕ) (n : ℕ) → P word
+      → OccursAt b (repeat n word) 0 → LeadsTo P b (take (length b - length (repeat n word)) (drop (length (repeat n word)) b))
+  leads_past_repeat b word n is o more s =
+      subst (λ u. SkipsTo P u more) (sym (begins-from_OccursAt b _ o)) (LeadsTo-repeat n word _ is more s)
 
   -- words after words
   SkipsTo-join : (words : List (List ℕ)) (b x y : List ℕ) → AllByRecursion P words → b ≡ concat words ++ x → SkipsTo P x y → SkipsTo P b y

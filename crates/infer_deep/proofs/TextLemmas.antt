@@ -17,7 +17,7 @@ use Rattle.infer_deep.specs.Signatures.{Lasts, AreApart, ComesWith, IsEarly, Rea
 use Rattle.infer_deep.proofs.OpenLemmas.{Reachable-here, bytes_from_test, fills_text, grown_agrees, stands_where_whole}
 use Rattle.infer_deep.specs.Joined.{Behind, SkipsTo, LeadsTo, NoneBegins, BeginsWith}
 use Rattle.infer_deep.specs.Text.{IsWhite, IsSpace, IsMark, IsSameInAnyCase, BeginsInAnyCase, BeginsMarked, BeginsWhite, BeginsWithTag, IsHtml, IsXml, tags, tags_with}
-use Rattle.infer_deep.proofs.JoinedLemmas.{IsPrefixFree, Stops, WordsBegin, begun-first, leads_past_repeat, SkipsTo-none, SkipsTo-cons, NoneBegins-first, Behind-lead, Behind-lasts, Behind-comes, Behind-left, Behind-trimmed, Behind-apart, Behind-open}
+use Rattle.infer_deep.proofs.JoinedLemmas.{IsPrefixFree, Stops, WordsBegin, begun-first, SkipsTo-none, SkipsTo-cons, NoneBegins-first, Behind-lead, Behind-lasts, Behind-comes, Behind-left, Behind-trimmed, Behind-apart, Behind-open}
 use Rattle.infer_deep.proofs.PlaceLemmas.{begins-from_OccursAt, OccursAt-begins, OccursAt-front}
 
 -- a mark that stands at the front
@@ -52,11 +52,6 @@ leads_past_block b c block rest n leads l p q all more s =
     let long : length block ≡ n = ap length p ∙ length-take-le n c l in
     let whole : block ++ rest ≡ c = ap (λ u. u ++ rest) p ∙ ap (λ u. take n c ++ u) q ∙ take-append-drop n c in
     leads more (subst (λ u. LeadsTo IsSpace u rest) whole (LeadsTo-white block rest (λ k lt. all k (omega arith))) more s)
-
--- so is the same mark n times
-pub leads_past_marks : (b mark : List ℕ) (n : ℕ) → IsMark mark
-    → OccursAt b (repeat n mark) 0 → LeadsTo IsMark b (take (length b - length (repeat n mark)) (drop (length (repeat n mark)) b))
-leads_past_marks b mark n is o = leads_past_repeat IsMark b b mark n (λ rest s. s) is o
 
 IsSpace-prefix_free : IsPrefixFree IsSpace
 IsSpace-prefix_free v w x y (a, f, p) (b, g, q) e = cc

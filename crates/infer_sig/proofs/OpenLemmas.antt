@@ -8,12 +8,13 @@ use Rattle.std.proofs.lemmas.List.Elements.{All-append, All-cons, All-drop, All-
 use Rattle.std.proofs.lemmas.List.Sums.{AllPass-from_list_all}
 use Rattle.std.specs.Prelude.{All, replicate}
 use Rattle.std.specs.List.{list_any, list_all}
+use Rattle.infer_deep.specs.Open.{are_bytes}
 use Rattle.infer_deep.specs.Signatures.{Reachable}
 use Rattle.infer_sig.proofs.ListLemmas.{list_any_among, list_any_passes, list_all_joined, list_all_passes}
 use Rattle.infer_sig.proofs.PlaceLemmas.{stands_by_place}
 use Rattle.infer_sig.proofs.SignatureLemmas.{part_lasts}
 use Rattle.infer_sig.specs.Laws.{is_part_within, text_lead, part_lead, alternative_lead}
-use Rattle.infer_sig.specs.Open.{agrees, may_have, may_fit, may_accept, is_text, has_byte, is_possible, place_of, are_apart, is_alternative_sound, is_sound, IsOpen, Begins}
+use Rattle.infer_sig.specs.Open.{agrees, may_have, may_fit, may_accept, has_byte, is_possible, place_of, are_apart, is_alternative_sound, is_sound, IsOpen, Begins}
 use Rattle.infer_sig.specs.Signature.{Alternative, at_least, Bytes, any_of, between, all_but, Part, text, any_text, byte, allows, has_part, fits, stands, accepts}
 
 abbrev IsBytes : List ℕ → Type 0
@@ -57,7 +58,7 @@ record Filling (buf : List ℕ) (part : Part) : Type 0 where
   pub fills : (more : List ℕ) → IsTrue (stands (place_of part) filling (buf ++ more)) → IsTrue (has_part (buf ++ more) part)
   pub ends : (n : ℕ) → IsTrue (is_part_within n part) → place_of part + length filling ≤ n
 
-all_bytes : (t : List ℕ) → IsTrue (is_text t) → IsBytes t
+all_bytes : (t : List ℕ) → IsTrue (are_bytes t) → IsBytes t
 all_bytes t h = λ k d lt. ltb-true _ 256 (AllPass-from_list_all (λ x. ltb x 256) t h k d lt)
 
 -- a buffer that ends before the place agrees with any text there
@@ -72,11 +73,11 @@ unfolding agrees
 agrees_none place buf =
     (stands_by_place place (take (length buf - place) []) buf).1 (λ k m. absurd (omega (arith, m, length-take {A = ℕ} (length buf - place) [])))
 
-filled_any_text : (buf : List ℕ) (place : ℕ) (ts : List (List ℕ)) → IsTrue (list_all is_text ts)
+filled_any_text : (buf : List ℕ) (place : ℕ) (ts : List (List ℕ)) → IsTrue (list_all are_bytes ts)
     → IsTrue (may_have buf (any_text place ts)) → Filling buf (any_text place ts)
 filled_any_text buf place [] possible h = absurd (cc)
 filled_any_text buf place (t ∷ ts) possible h =
-    let each = and_parts (is_text t) _ possible in
+    let each = and_parts (are_bytes t) _ possible in
     elim (or_cases (agrees place t buf) _ h) [
       | inl here ↦ record {
         filling = t;

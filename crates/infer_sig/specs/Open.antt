@@ -1,6 +1,7 @@
 -- What a buffer leaves open of a fixed signature, since more bytes may follow.
 use Rattle.std.specs.Prelude.{◌↔◌, ◌-◌, ℕ, Bool, true, false, List, [], ◌∷◌, length, take, slice_index, ◌&&◌, ◌||◌, nat_le, nat_lt, IsTrue}
 use Rattle.std.specs.List.{list_any, list_all}
+use Rattle.infer_deep.specs.Open.{are_bytes}
 use Rattle.infer_deep.specs.Signatures.{Reachable}
 use Rattle.infer_sig.specs.Laws.{is_part_within, lead}
 use Rattle.infer_sig.specs.Signature.{Alternative, at_least, Bytes, any_of, between, all_but, Part, text, any_text, byte, allows, stands, accepts}
@@ -23,10 +24,6 @@ may_fit buf (at_least n parts) = list_all (may_have buf) parts
 abbrev pub may_accept : List Alternative → List ℕ → Bool
 may_accept signature buf = list_any (may_fit buf) signature
 
--- every number in the text is a byte
-abbrev pub is_text : List ℕ → Bool
-is_text t = list_all (λ x. nat_lt x 256) t
-
 -- some byte is in the set
 abbrev pub has_byte : Bytes → Bool
 has_byte (any_of xs) = list_any (λ x. nat_lt x 256) xs
@@ -35,9 +32,9 @@ has_byte (all_but y) = true
 
 -- some bytes are what the part asks
 abbrev pub is_possible : Part → Bool
-is_possible (text place t) = is_text t
+is_possible (text place t) = are_bytes t
 is_possible (any_text place []) = false
-is_possible (any_text place (t ∷ ts)) = list_all is_text (t ∷ ts)
+is_possible (any_text place (t ∷ ts)) = list_all are_bytes (t ∷ ts)
 is_possible (byte place set) = has_byte set
 
 -- the place from which the part asks
