@@ -1,16 +1,21 @@
 -- A walk over the candidates of a buffer: which numbers they are, where it ends, and which it asks.
-use Rattle.std.proofs.Common.{◌≡◌, ◌<◌, ◌≤◌, ◌+◌, ℕ, zero, suc, Bool, true, false, ◌&&◌, List, [], ◌∷◌, length, get_or, take, sym, subst, ◌∙◌, ap, arith, refl, leb, Option, Some, None, inl, inr, cond, if◌then◌else◌}
-use Rattle.std.specs.List.{All, AllPairs, AllWithin, filter}
+use Rattle.std.proofs.Common.{◌≡◌, ◌<◌, ◌≤◌, ◌+◌, ℕ, zero, suc, Bool, true, false, ◌&&◌, List, [], ◌∷◌, ◌++◌, length, get_or, take, sym, subst, ◌∙◌, ap, arith, refl, leb, Option, Some, None, inl, inr, cond, if◌then◌else◌, IsTrue, ◌↔◌, ◌==◌, ◌||◌, eq-eqb}
+use Rattle.std.specs.List.{All, AllPairs, AllWithin, filter, slice_get}
+use Rattle.std.specs.Option.{option_map_or}
+use Rattle.std.proofs.lemmas.Bool.{false≢true, ne_eqb}
 use Rattle.std.proofs.lemmas.Bool.Decides.{nat_tests}
-use Rattle.std.proofs.lemmas.List.{length-take-le}
-use Rattle.std.proofs.lemmas.List.Elements.{All-cons}
+use Rattle.std.proofs.lemmas.List.{get_or_default, length-take-le}
+use Rattle.std.proofs.lemmas.List.Elements.{All-cons, AllWithin-more, filter_more}
 use Rattle.std.proofs.lemmas.List.Kept.{AllPairs-cons}
 use Rattle.std.proofs.lemmas.List.Sums.{count_by-le-length, length-filter}
+use Rattle.infer.specs.BuiltIn.{BuiltIn}
 use Rattle.infer.specs.Leads.{allows_first, candidates, candidates_of, places_from}
+use Rattle.infer.specs.Row.{Row}
 use Rattle.infer.specs.Table.{table}
 use Rattle.infer.specs.declared.table.rows.TheConstants.{MOST_CANDIDATES, ROW_COUNT}
-use Rattle.infer.specs.Walks.{IsFirstAmong, asked_rows, count_asked, is_wanted, is_not_above}
+use Rattle.infer.specs.Walks.{IsFirstAmong, asked_rows, count_asked, is_listed, is_wanted, is_not_above}
 use Rattle.infer.specs.declared.ask.question.Wanted.{Wanted}
+use Rattle.infer.specs.declared.ask.question.Wanted.TheVariants.{Every}
 use Rattle.infer.proofs.TableLemmas.{length-table}
 
 -- ---- the numbers of the candidates
@@ -30,11 +35,6 @@ rise : {A : Type 0} (test : A → Bool) (xs : List A) (i n : ℕ) → i + length
 rise test [] i n e = (λ k d l. absurd (omega arith), λ j k d lt l. absurd (omega arith))
 rise test (x ∷ xs) i n e = rise_more (test x) _ i n (omega arith) (rise test xs (suc i) n (omega arith))
 
-candidates_rise : (b : List ℕ) → Rise 0 ROW_COUNT (candidates_of b)
-unfolding candidates
-candidates_rise [] = (λ k d l. absurd (omega arith), λ j k d lt l. absurd (omega arith))
-candidates_rise (f ∷ b) = rise (λ r. allows_first r.signature f) table 0 ROW_COUNT (omega (arith, length-table))
-
 -- ---- where it ends
 
 module _ (P : ℕ → Type 0) where
@@ -51,6 +51,21 @@ module _ (P : ℕ → Type 0) where
   found_among (c ∷ cs) (suc k) d l h none =
       inr (none 0 0 (omega arith) (omega arith), found_among cs k d (omega arith) h (λ j e a b. none (suc j) e (omega arith) (omega arith)))
 
+-- what a call tells of the next number, in words of the buffer as it was
+module _ (S : List ℕ → ℕ → Type 0) (b c rs : List ℕ) (k n : ℕ) (r : Bool) (kept : c ≡ b) (answer : IsTrue r ↔ S c n)
+    (inside : k < length rs) (at : get_or rs k 0 ≡ n) (none : AllWithin (λ i. ¬ S b i) rs 0 k) where
+  pub found_here : r ≡ true → IsFirstAmong (S b) rs (Some n)
+  found_here is =
+      let here = subst (λ (x : List ℕ). S x n) kept (answer.0 is) in
+      subst (λ i. IsFirstAmong (S b) rs (Some i)) at (found_among (S b) rs k 0 inside (subst (S b) (sym at) here) none)
+
+  pub refused_here : r ≡ false → AllWithin (λ i. ¬ S b i) rs 0 (k + 1)
+  refused_here not =
+      AllWithin-more (λ i. ¬ S b i) rs 0 k none
+      (λ d h.
+      let here = subst (λ i. S b i) (get_or_default rs k d 0 inside ∙ at) h in
+      absurd (false≢true (sym not ∙ answer.1 (subst (λ (x : List ℕ). S x n) (sym kept) here))))
+
 -- ---- which it asks
 
 -- a test that the first n numbers alone pass
@@ -65,26 +80,165 @@ module _ (p w : ℕ → Bool) (d : ℕ) where
       rw (pass 0 (omega arith) (omega arith)) (ap (λ xs. cond (w c) (c ∷ xs) xs)
       (kept cs n (λ k l a. pass (suc k) (omega arith) (omega arith)) (λ k l a. fail (suc k) (omega arith) (omega arith))))
 
--- ---- what a walk knows at its end
+-- ---- the places that pass one test, and those that pass another
 
-pub below_count : (b : List ℕ) (rs : List ℕ) → rs ≡ candidates_of b → (k d : ℕ) → k < length rs → get_or rs k d < ROW_COUNT
-below_count b rs e k d l = ((subst (Rise 0 ROW_COUNT) (sym e) (candidates_rise b)).0 k d l).1
+listed_step : (b : Bool) (i j : ℕ) (ps : List ℕ) → is_listed (if b then i ∷ ps else ps) j ≡ ((b && (i == j)) || is_listed ps j)
+listed_step true i j ps = refl
+listed_step false i j ps = refl
+
+none_listed : (ps : List ℕ) (i : ℕ) → All (λ p. i < p) ps → is_listed ps i ≡ false
+none_listed [] i above = refl
+none_listed (p ∷ ps) i above =
+    rw (ne_eqb p i (λ e. omega (arith, e, above 0 0 (omega arith)))) (none_listed ps i (λ k d l. above (suc k) d (omega arith)))
+
+only : (b : Bool) → ((b && true) || false) ≡ b
+only true = refl
+only false = refl
+
+past : (b : Bool) {c : Bool} → ((b && false) || c) ≡ c
+past true = refl
+past false = refl
+
+-- the number of an element is listed exactly if the element passes
+listed_at : {A : Type 0} (test : A → Bool) (xs : List A) (i k : ℕ) (d : A) → k < length xs → is_listed (places_from test i xs) (i + k) ≡ test (get_or xs k d)
+listed_at test [] i k d l = absurd (omega arith)
+listed_at test (x ∷ xs) i zero d l =
+    let above = rise test xs (suc i) (suc i + length xs) refl in
+    let none : is_listed (places_from test (suc i) xs) (i + 0) ≡ false
+    = none_listed _ (i + 0) (λ k e m. let at = above.0 k e m in omega (arith, at.0)) in
+    let here : (i == i + 0) ≡ true = eq-eqb i (i + 0) (omega arith) in
+    listed_step (test x) i (i + 0) _ ∙ rw (none, here) (only (test x))
+listed_at test (x ∷ xs) i (suc k) d l =
+    let apart : (i == i + suc k) ≡ false = ne_eqb i (i + suc k) (λ e. omega (arith, e)) in
+    let later : is_listed (places_from test (suc i) xs) (i + suc k) ≡ test (get_or xs k d)
+    = ap (is_listed (places_from test (suc i) xs)) (omega arith) ∙ listed_at test xs (suc i) k d (omega arith) in
+    listed_step (test x) i (i + suc k) _ ∙ rw apart (past (test x)) ∙ later
+
+pub listed_row : {A : Type 0} (test : A → Bool) (xs : List A) (k : ℕ) (d : A) → k < length xs → is_listed (places_from test 0 xs) k ≡ test (get_or xs k d)
+listed_row test xs k d l = ap (is_listed (places_from test 0 xs)) (omega arith) ∙ listed_at test xs 0 k d l
+
+module _ {A : Type 0} (t u : A → Bool) where
+  -- what has a property passes both: it is the first among both
+  module _ (P : ℕ → Type 0) where
+    moved_step : (s v : Bool) (i : ℕ) (ps qs : List ℕ) (o : Option ℕ) → (P i → IsTrue s × IsTrue v)
+        → (IsFirstAmong P ps o → IsFirstAmong P qs o) → IsFirstAmong P (if s then i ∷ ps else ps) o → IsFirstAmong P (if v then i ∷ qs else qs) o
+    unfolding IsFirstAmong
+    moved_step true true i ps qs o has rest (inl h) = inl h
+    moved_step true true i ps qs o has rest (inr h) = inr (h.0, rest h.1)
+    moved_step true false i ps qs o has rest (inl h) = absurd (let e = (has h.0).1 in cc)
+    moved_step true false i ps qs o has rest (inr h) = rest h.1
+    moved_step false true i ps qs o has rest h = inr (λ p. absurd (let e = (has p).0 in cc), rest h)
+    moved_step false false i ps qs o has rest h = rest h
+
+    first_moved_from : (xs : List A) (i : ℕ) (o : Option ℕ)
+        → ((k : ℕ) (d : A) → k < length xs → P (i + k) → IsTrue (t (get_or xs k d)) × IsTrue (u (get_or xs k d)))
+        → IsFirstAmong P (places_from t i xs) o → IsFirstAmong P (places_from u i xs) o
+    first_moved_from [] i o has h = h
+    first_moved_from (x ∷ xs) i o has h =
+        moved_step (t x) (u x) i _ _ o (λ p. has 0 x (omega arith) (subst P (omega arith) p))
+        (first_moved_from xs (suc i) o (λ k d l p. has (suc k) d (omega arith) (subst P (omega arith) p))) h
+
+    pub first_moved : (xs : List A) (o : Option ℕ) → ((k : ℕ) (d : A) → k < length xs → P k → IsTrue (t (get_or xs k d)) × IsTrue (u (get_or xs k d)))
+        → IsFirstAmong P (places_from t 0 xs) o → IsFirstAmong P (places_from u 0 xs) o
+    first_moved xs o has = first_moved_from xs 0 o (λ k d l p. has k d l (subst P (omega arith) p))
+
+  -- numbers that pass p, and of which the elements pass t, are those that pass q and u
+  module _ (p q : ℕ → Bool) where
+    filter_step : (p : ℕ → Bool) (b : Bool) (i : ℕ) (ps : List ℕ)
+        → filter p (if b then i ∷ ps else ps) ≡ cond (b && p i) (i ∷ filter p ps) (filter p ps)
+    filter_step p true i ps = refl
+    filter_step p false i ps = refl
+
+    filtered_from : (xs : List A) (i : ℕ) → ((k : ℕ) (d : A) → k < length xs → (t (get_or xs k d) && p (i + k)) ≡ (u (get_or xs k d) && q (i + k)))
+        → filter p (places_from t i xs) ≡ filter q (places_from u i xs)
+    filtered_from [] i same = refl
+    filtered_from (x ∷ xs) i same =
+        let rest = filtered_from xs (suc i) (λ k d l. ap (λ n. t (get_or xs k d) && p n) (omega arith) ∙ same (suc k) d (omega arith)
+        ∙ ap (λ n. u (get_or xs k d) && q n) (omega arith)) in
+        let here : (t x && p i) ≡ (u x && q i)
+        = ap (λ n. t x && p n) (omega arith) ∙ same 0 x (omega arith) ∙ ap (λ n. u x && q n) (omega arith) in
+        filter_step p (t x) i _ ∙ rw (here, rest) refl ∙ sym (filter_step q (u x) i _)
+
+    pub filtered_alike : (xs : List A) → ((k : ℕ) (d : A) → k < length xs → (t (get_or xs k d) && p k) ≡ (u (get_or xs k d) && q k))
+        → filter p (places_from t 0 xs) ≡ filter q (places_from u 0 xs)
+    filtered_alike xs same = filtered_from xs 0 (λ k d l. rw (let zero_left : 0 + k ≡ k = omega arith in zero_left) (same k d l))
+
+-- ---- the candidates are places
+
+-- the test of which the candidates are the places
+abbrev pub may_take : List ℕ → Row BuiltIn → Bool
+may_take [] r = false
+may_take (f ∷ b) r = allows_first r.signature f
+
+no_places : {A : Type 0} (test : A → Bool) → ((x : A) → test x ≡ false) → (xs : List A) (i : ℕ) → places_from test i xs ≡ []
+no_places test none [] i = refl
+no_places test none (x ∷ xs) i = rw (none x) (no_places test none xs (suc i))
+
+pub candidates_placed : (b : List ℕ) → places_from (may_take b) 0 table ≡ candidates_of b
+unfolding candidates
+candidates_placed [] = no_places (may_take []) (λ x. refl) table 0
+candidates_placed (f ∷ b) = refl
+
+-- ---- what a walk over places knows
+
+few_step : (b : Bool) (i n : ℕ) (ps : List ℕ) → length ps ≤ n → length (if b then i ∷ ps else ps) ≤ suc n
+few_step true i n ps few = omega (arith, few)
+few_step false i n ps few = omega (arith, few)
+
+few_places : {A : Type 0} (test : A → Bool) (xs : List A) (i : ℕ) → length (places_from test i xs) ≤ length xs
+few_places test [] i = omega arith
+few_places test (x ∷ xs) i = few_step (test x) i (length xs) _ (few_places test xs (suc i))
 
 no_more : (test : ℕ → Bool) (xs : List ℕ) (n : ℕ) → length xs ≤ n → length (filter test xs) ≤ n
 no_more test xs n few = let count = length-filter test xs in let most = count_by-le-length test xs in omega (arith, count, most)
 
-module _ (w : Wanted) (b rs : List ℕ) (same : rs ≡ candidates_of b) where
-  pub asked_up_to : (k d : ℕ) → k < length rs → filter (is_wanted w) (take (k + 1) rs) ≡ asked_rows w b (Some (get_or rs k d))
-  asked_up_to k d l =
-      let rise = (subst (Rise 0 ROW_COUNT) (sym same) (candidates_rise b)).1 in
-      sym (kept (λ j. leb j (get_or rs k d)) (is_wanted w) d rs (k + 1)
-      (λ j m a. grind (arith, nat_tests, rise j k d)) (λ j m a. grind (arith, nat_tests, rise k j d)))
-      ∙ ap (filter (λ j. leb j (get_or rs k d) && is_wanted w j)) same
+module _ (test : Row BuiltIn → Bool) (rs : List ℕ) (same : rs ≡ places_from test 0 table) where
+  places_rise : Rise 0 ROW_COUNT rs
+  places_rise = subst (Rise 0 ROW_COUNT) (sym same) (rise test table 0 ROW_COUNT (omega (arith, length-table)))
 
-  pub few_asked : (o : Option ℕ) → length rs ≤ MOST_CANDIDATES → count_asked w b o ≤ MOST_CANDIDATES
-  few_asked o few = no_more (λ i. is_not_above o i && is_wanted w i) (candidates_of b) MOST_CANDIDATES (subst (λ cs. length cs ≤ MOST_CANDIDATES) same few)
+  pub below_count : (k d : ℕ) → k < length rs → get_or rs k d < ROW_COUNT
+  below_count k d l = (places_rise.0 k d l).1
 
-pub room_left : (w : Wanted) (rs : List ℕ) (k : ℕ) → k < length rs → length rs ≤ MOST_CANDIDATES → length (filter (is_wanted w) (take k rs)) < ROW_COUNT
-room_left w rs k l few =
-    let most = no_more (is_wanted w) (take k rs) k (let e = length-take-le k rs (omega arith) in omega (arith, e)) in
-    omega (arith, most)
+  pub room_left : (p : ℕ → Bool) (k : ℕ) → k < length rs → length (filter p (take k rs)) < ROW_COUNT
+  room_left p k l =
+      let few = few_places test table 0 in
+      let most = no_more p (take k rs) k (let e = length-take-le k rs (omega arith) in omega (arith, e)) in
+      omega (arith, most, few, ap length same, length-table)
+
+  pub asked_up_to : (p : ℕ → Bool) (k d : ℕ) → k < length rs → filter p (take (k + 1) rs) ≡ filter (λ j. leb j (get_or rs k d) && p j) rs
+  asked_up_to p k d l =
+      sym (kept (λ j. leb j (get_or rs k d)) p d rs (k + 1)
+      (λ j m a. grind (arith, nat_tests, places_rise.1 j k d)) (λ j m a. grind (arith, nat_tests, places_rise.1 k j d)))
+
+pub few_asked : (w : Wanted) (b : List ℕ) (o : Option ℕ) → length (candidates_of b) ≤ MOST_CANDIDATES → count_asked w b o ≤ MOST_CANDIDATES
+few_asked w b o few = no_more (λ i. is_not_above o i && is_wanted w i) (candidates_of b) MOST_CANDIDATES few
+
+-- ---- a walk that asks every candidate
+
+some_at : (rows : List (Row BuiltIn)) (i : ℕ) → i < length rows → option_map_or (λ r. true) (slice_get rows i) false ≡ true
+some_at [] i l = absurd (omega arith)
+some_at (r ∷ rows) zero l = refl
+some_at (r ∷ rows) (suc i) l = some_at rows i (omega arith)
+
+every_row : (i : ℕ) → i < ROW_COUNT → is_wanted Every i ≡ true
+every_row i l = some_at table i (omega (arith, length-table))
+
+module _ (b rs : List ℕ) (same : rs ≡ candidates_of b) where
+  placed : rs ≡ places_from (may_take b) 0 table
+  placed = same ∙ sym (candidates_placed b)
+
+  pub candidate_row : (k d : ℕ) → k < length rs → get_or rs k d < ROW_COUNT
+  candidate_row = below_count (may_take b) rs placed
+
+  pub candidate_room : (k : ℕ) → k < length rs → length (filter (is_wanted Every) (take k rs)) < ROW_COUNT
+  candidate_room = room_left (may_take b) rs placed (is_wanted Every)
+
+  pub candidate_asked : (k d : ℕ) → k < length rs → filter (is_wanted Every) (take k rs) ++ get_or rs k d ∷ [] ≡ filter (is_wanted Every) (take (k + 1) rs)
+  candidate_asked k d l =
+      ap (λ (xs : List ℕ). filter (is_wanted Every) (take k rs) ++ xs)
+      (let here = every_row (get_or rs k d) (candidate_row k d l) in sym (rw here refl))
+      ∙ sym (filter_more (is_wanted Every) rs k d l)
+
+  pub candidates_asked : (k d : ℕ) → k < length rs → filter (is_wanted Every) (take (k + 1) rs) ≡ asked_rows Every b (Some (get_or rs k d))
+  candidates_asked k d l =
+      asked_up_to (may_take b) rs placed (is_wanted Every) k d l ∙ ap (filter (λ j. leb j (get_or rs k d) && is_wanted Every j)) same

@@ -87,3 +87,6 @@ some_of_first P xs (Some i) r e first = (λ t. (i, first.within, first.here), λ
 -- of every row, the first that takes the buffer is the first that accepts it
 pub first_of_every : (b : List ℕ) (rows : List (Row BuiltIn)) (o : Option ℕ) → IsFirstOf (Takes Every b) rows o → IsFirstOf (Accepts b) rows o
 first_of_every b rows o first = grind arith
+
+pub every_taken : (b : List ℕ) (i : ℕ) → RowHas (Accepts b) i ↔ RowHas (Takes Every b) i
+every_taken b i = (λ h. grind arith, λ h. grind arith)

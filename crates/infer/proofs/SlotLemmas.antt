@@ -1,23 +1,30 @@
 -- Each slot lists the rows whose text has it.
-use Rattle.std.proofs.Common.{◌≡◌, ◌<◌, ◌≤◌, ◌↔◌, ◌==◌, eq-eqb, ℕ, Bool, true, false, IsTrue, List, [], ◌∙◌, ap, sym, subst, get_or, map, length, refl, arith, Bor, None}
+use Rattle.std.proofs.Common.{◌∷◌, ◌++◌, ◌&&◌, ◌+◌, leb, suc, zero, take, filter, Option, Some, MatchOption, ◌≡◌, ◌<◌, ◌≤◌, ◌↔◌, ◌==◌, eq-eqb, ℕ, Bool, true, false, IsTrue, List, [], ◌∙◌, ap, sym, subst, get_or, map, length, refl, arith, Bor, None}
 use Rattle.std.specs.Str.{bytes_eq}
-use Rattle.std.proofs.lemmas.Bool.{false≢true}
+use Rattle.std.specs.List.{HoldsAt, slice_get}
+use Rattle.std.specs.Option.{option_map_or}
+use Rattle.std.proofs.lemmas.Bool.{cases_Bool, false≢true}
 use Rattle.std.proofs.lemmas.List.{get_or-map}
 use Rattle.std.proofs.lemmas.Slice.Eq.{bytes_eq-Decides}
+use Rattle.std.proofs.lemmas.List.Elements.{filter_more}
 use Rattle.std.proofs.lemmas.List.Folds.{none_from_all_within}
 use Rattle.infer.specs.BuiltIn.{BuiltIn, IsAccepted}
-use Rattle.infer.specs.First.{SomeHas}
+use Rattle.infer.specs.First.{NoneHas, SomeHas}
+use Rattle.infer.specs.Leads.{Leads, allows_first, candidates, candidates_of, places_from}
 use Rattle.infer.specs.Listed.{number_of}
 use Rattle.infer.specs.Questions.{IsWanted}
-use Rattle.infer.specs.Row.{Row}
+use Rattle.infer.specs.Row.{Row, Accepts}
 use Rattle.infer.specs.Slots.{HasWanted, ListSlots, rows_in, slot_of}
 use Rattle.infer.specs.Table.{signature_of, table}
-use Rattle.infer.specs.Walks.{IsFirstAmong, RowHas, Takes}
+use Rattle.infer.specs.Walks.{IsFirstAmong, RowHas, Takes, is_listed}
 use Rattle.infer.specs.declared.ask.question.Wanted.{Wanted}
+use Rattle.infer.specs.declared.ask.question.Wanted.TheVariants.{Extension}
 use Rattle.infer.specs.declared.table.rows.RowName.{RowName}
-use Rattle.infer.proofs.AskLemmas.{none_among}
+use Rattle.infer.specs.declared.table.rows.TheConstants.{ROW_COUNT}
+use Rattle.infer.proofs.AskLemmas.{asked_up_to, below_count, candidates_placed, filtered_alike, first_moved, listed_row, may_take, none_among, room_left}
 use Rattle.infer.proofs.CandidateLemmas.{first_listed, read_has}
 use Rattle.infer.proofs.ListLemmas.{HoldsAt-read, SomeHas-map, SomeHas-from_map}
+use Rattle.infer.proofs.OrderLemmas.{some_row}
 use Rattle.infer.proofs.TestLemmas.{NoneRefused, passed}
 
 -- the rows of a slot are those whose text has it
@@ -67,3 +74,95 @@ module _ (P : Row BuiltIn → Type 0) (wanted : Wanted) (asks : (x : Row BuiltIn
 pub taken_named : (wanted : Wanted) (b : List ℕ) (i : ℕ) → RowHas (Takes wanted b) i ↔ (RowHas (IsWanted wanted) i × IsAccepted (signature_of i) b)
 unfolding signature_of
 taken_named wanted b i = (λ h. grind arith, λ h. grind arith)
+
+-- ---- a walk over the rows of a slot is one over the candidates
+
+module _ (leads : (s : BuiltIn) → Leads s) (blank : NoneHas (Accepts []) table) where
+  accepted_may_take : (b : List ℕ) (r : Row BuiltIn) (k : ℕ) → k < length table → HoldsAt (Accepts b) table k → IsTrue (may_take b (get_or table k r))
+  accepted_may_take [] r k l here = absurd (blank k r (omega arith) l (here r))
+  accepted_may_take (f ∷ b) r k l here = leads (get_or table k r).signature f b (here r)
+
+module _ (leads : (s : BuiltIn) → Leads s) (blank : NoneHas (Accepts []) table) (b : List ℕ) where
+  -- a row that accepts the buffer is one of its candidates
+  pub accepted_listed : (i : ℕ) → RowHas (Accepts b) i → IsTrue (is_listed (candidates_of b) i)
+  accepted_listed i h =
+      let at = (read_has (Accepts b) table i).0 h in
+      ap (λ cs. is_listed cs i) (sym (candidates_placed b)) ∙ listed_row (may_take b) table i some_row at.0 ∙ accepted_may_take leads blank b some_row i at.0 at.1
+
+alike : (t low w listed may : Bool) → listed ≡ may → (IsTrue w → IsTrue t) → (t && (low && (w && listed))) ≡ (may && (low && w))
+alike t low w listed may e h = grind (arith, cases_Bool t, cases_Bool low, cases_Bool w, cases_Bool may)
+
+-- row i is there and has the extension
+abbrev has_extension : List ℕ → ℕ → Bool
+has_extension text i = option_map_or (λ r. bytes_eq r.shows.extension text) (slice_get table i) false
+
+extension_read : (text : List ℕ) (rows : List (Row BuiltIn)) (k : ℕ) (d : Row BuiltIn) → k < length rows
+    → IsTrue (option_map_or (λ r. bytes_eq r.shows.extension text) (slice_get rows k) false) → (get_or rows k d).shows.extension ≡ text
+extension_read text [] k d l t = absurd (omega arith)
+extension_read text (r ∷ rows) zero d l t = (bytes_eq-Decides _ _).0 t
+extension_read text (r ∷ rows) (suc k) d l t = extension_read text rows k d (omega arith) t
+
+-- whether a walk asks the row: if it has the extension and is a candidate
+abbrev pub is_asked : List ℕ → List ℕ → ℕ → Bool
+is_asked text b i = has_extension text i && is_listed (candidates_of b) i
+
+-- the row has the extension and accepts the buffer
+abbrev pub TakesText : List ℕ → List ℕ → Row BuiltIn → Type 0
+TakesText text b r = (r.shows.extension ≡ text) × Accepts b r
+
+module _ (text : List ℕ) (named : Bor (List ℕ)) (e : named.now ≡ text) (rows : List ℕ) (has : HasWanted (Extension named) rows) (b : List ℕ) where
+  pub slot_first : ((s : BuiltIn) → Leads s) → NoneHas (Accepts []) table → (o : Option ℕ)
+      → IsFirstAmong (RowHas (TakesText text b)) rows o → IsFirstAmong (RowHas (TakesText text b)) (candidates_of b) o
+  unfolding HasWanted
+  slot_first leads blank o first =
+      subst (λ cs. IsFirstAmong (RowHas (TakesText text b)) cs o) (candidates_placed b)
+      (first_moved has.0 (may_take b) (RowHas (TakesText text b)) table o
+      (λ k d l taken.
+      let at = (read_has (TakesText text b) table k).0 taken in
+      (has.2 _ ((at.1 d).0 ∙ sym e), accepted_may_take leads blank b d k l (λ x. (at.1 x).1)))
+      (subst (λ cs. IsFirstAmong (RowHas (TakesText text b)) cs o) has.1 first))
+
+  asked_alike : (low : ℕ → Bool) → filter (λ i. low i && is_asked text b i) rows ≡ filter (λ i. low i && has_extension text i) (candidates_of b)
+  unfolding HasWanted
+  asked_alike low =
+      ap (filter (λ i. low i && is_asked text b i)) has.1
+      ∙ filtered_alike has.0 (may_take b) (λ i. low i && is_asked text b i) (λ i. low i && has_extension text i) table
+      (λ k d l.
+      let listed : is_listed (candidates_of b) k ≡ may_take b (get_or table k d)
+      = ap (λ cs. is_listed cs k) (sym (candidates_placed b)) ∙ listed_row (may_take b) table k d l in
+      alike (has.0 (get_or table k d)) (low k) (has_extension text k) (is_listed (candidates_of b) k) (may_take b (get_or table k d)) listed
+      (λ t. has.2 _ (extension_read text table k d l t ∙ sym e)))
+      ∙ ap (filter (λ i. low i && has_extension text i)) (candidates_placed b)
+
+  -- those asked up to one of the rows, and in the end
+  pub slot_asked : (k d : ℕ) → k < length rows
+      → filter (is_asked text b) (take (k + 1) rows) ≡ filter (λ i. leb i (get_or rows k d) && has_extension text i) (candidates_of b)
+  unfolding HasWanted
+  slot_asked k d l = asked_up_to has.0 rows has.1 (is_asked text b) k d l ∙ asked_alike (λ i. leb i (get_or rows k d))
+
+  pub slot_asked_all : filter (is_asked text b) rows ≡ filter (has_extension text) (candidates_of b)
+  slot_asked_all = asked_alike (λ i. true)
+
+  pub slot_row : (k d : ℕ) → k < length rows → get_or rows k d < ROW_COUNT
+  unfolding HasWanted
+  slot_row = below_count has.0 rows has.1
+
+  pub slot_room : (k : ℕ) → k < length rows → length (filter (is_asked text b) (take k rows)) < ROW_COUNT
+  unfolding HasWanted
+  slot_room = room_left has.0 rows has.1 (is_asked text b)
+
+-- one row more of which the walk knows whether it is asked
+pub asked_one_more : (S : List ℕ → Type 0) (text b cs rows : List ℕ) (k n : ℕ) → cs ≡ candidates_of b → k < length rows → get_or rows k 0 ≡ n
+    → S (filter (is_asked text b) (take k rows) ++ filter (λ i. has_extension text i && is_listed cs i) (n ∷ [])) → S (filter (is_asked text b) (take (k + 1) rows))
+asked_one_more S text b cs rows k n same l at h =
+    subst S
+    (ap (λ (u : List ℕ). filter (is_asked text b) (take k rows) ++ filter (λ i. has_extension text i && is_listed u i) (n ∷ [])) same
+    ∙ ap (λ m. filter (is_asked text b) (take k rows) ++ filter (is_asked text b) (m ∷ [])) (sym at)
+    ∙ sym (filter_more (is_asked text b) rows k 0 l))
+    h
+
+-- a row that has both properties has each
+pub takes_both : (P Q : Row BuiltIn → Type 0) (i : ℕ) → RowHas (λ r. P r × Q r) i → RowHas P i × RowHas Q i
+takes_both P Q i h =
+    let at = (read_has (λ r. P r × Q r) table i).0 h in
+    ((read_has P table i).1 (at.0, λ d. (at.1 d).0), (read_has Q table i).1 (at.0, λ d. (at.1 d).1))

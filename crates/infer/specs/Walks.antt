@@ -1,6 +1,6 @@
 -- The first of some rows, named by their numbers, and which were asked.
 use Rattle.std.specs.Prelude.{◌≡◌, ◌==◌, ◌⊎◌, ◌&&◌, ℕ, Bool, true, false, List, [], ◌∷◌, Option, None, Some, MatchOption, length, nat_le, if◌then◌else◌}
-use Rattle.std.specs.List.{filter, slice_get}
+use Rattle.std.specs.List.{filter, list_any, slice_get}
 use Rattle.std.specs.Option.{option_map_or}
 use denote.Ref.{Bor}
 use Rattle.infer.specs.BuiltIn.{BuiltIn}
@@ -32,6 +32,10 @@ IsFirstAmong P (i ∷ is) o = (P i × (o ≡ Some i)) ⊎ ((¬ P i) × IsFirstAm
 -- the row with that number of 32 bits, of which the greatest stands for no row
 abbrev pub row_numbered : ℕ → Option ℕ
 row_numbered n = if n == 4294967295 then None else Some n
+
+-- the number is one of the list
+abbrev pub is_listed : List ℕ → ℕ → Bool
+is_listed rows i = list_any (λ row. row == i) rows
 
 -- row i is there and is one that is asked for
 abbrev pub is_wanted : Wanted → ℕ → Bool

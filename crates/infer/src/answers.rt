@@ -9,9 +9,8 @@ ghost use Rattle.infer.specs.Triple.{triple_of};
 ghost use Rattle.infer.specs.Walks.{RowHas, Takes};
 
 use crate::ask::question::{
-    APP, ARCHIVE, AUDIO, BOOK, DOC, Every, FONT, IMAGE, OfClass, VIDEO, Wanted,
+    APP, ARCHIVE, AUDIO, BOOK, CUSTOM, DOC, Every, FONT, IMAGE, OfClass, TEXT, VIDEO, Wanted,
 };
-use crate::candidates::asker::count_wanted;
 use crate::candidates::dispatch::{arm_of, first_of, first_of_class};
 use crate::candidates::slots::{Listed, OfExtension, OfMimeType};
 use crate::table::file_type::{FileType, MatcherType};
@@ -59,8 +58,10 @@ pub fn some(wanted: Wanted, buf: &[u8]) -> bool
         Wanted::Class(MatcherType::Doc) => some_of_class::<{ DOC }>(buf),
         Wanted::Class(MatcherType::Font) => some_of_class::<{ FONT }>(buf),
         Wanted::Class(MatcherType::Image) => some_of_class::<{ IMAGE }>(buf),
+        Wanted::Class(MatcherType::Text) => some_of_class::<{ TEXT }>(buf),
         Wanted::Class(MatcherType::Video) => some_of_class::<{ VIDEO }>(buf),
-        _ => count_wanted(buf, wanted).0.is_some(),
+        Wanted::Class(MatcherType::Custom) => some_of_class::<{ CUSTOM }>(buf),
+        Wanted::Every => position(buf).is_some(),
     }
 }
 

@@ -81,9 +81,11 @@ pub const FONT: usize = MatcherType::Font as usize;
 
 pub const IMAGE: usize = MatcherType::Image as usize;
 
-const TEXT: usize = MatcherType::Text as usize;
+pub const TEXT: usize = MatcherType::Text as usize;
 
 pub const VIDEO: usize = MatcherType::Video as usize;
+
+pub const CUSTOM: usize = MatcherType::Custom as usize;
 
 /// The class of that number.
 #[inline(always)]

@@ -2,7 +2,7 @@
 ghost use Rattle.std.specs.Prelude.{◌≡◌, ◌↔◌, ◌<◌, IsTrue};
 ghost use Rattle.infer.specs.Questions.{IsWanted};
 ghost use Rattle.infer.specs.Row.{Accepts};
-ghost use Rattle.infer.specs.Walks.{RowHas, Takes, is_wanted};
+ghost use Rattle.infer.specs.Walks.{RowHas, Takes};
 
 use crate::ask::question::{Question, Wanted};
 use crate::table::rows::{BuiltInRow, ROW_COUNT, accepts, row_at, rows};
@@ -32,16 +32,6 @@ pub fn accepts_at(i: usize, buf: &[u8]) -> bool
     ensures { IsTrue result ↔ RowHas (Accepts buf.now) i }
 {
     row_at(i).accepts(buf)
-}
-
-/// Whether row `i` is asked for.
-#[inline(always)]
-pub fn fits_at(i: usize, wanted: Wanted) -> bool
-    requires { i < ROW_COUNT }
-    ensures same { IsTrue result ↔ RowHas (IsWanted wanted.entry) i }
-    ensures test { result ≡ is_wanted wanted.entry i }
-{
-    wanted.fits(&row_at(i).file_type)
 }
 
 /// Whether row `i` is one that the question asks for.

@@ -1,19 +1,20 @@
 //! Rows are asked through an asker, which counts them.
-ghost use Rattle.std.specs.Prelude.{◌≡◌, ◌↔◌, ◌<◌, ◌≤◌, ◌++◌, ℕ, List, [], ◌∷◌, Option, IfSome, is_some, IsTrue, length, slice_get};
+ghost use Rattle.std.specs.Prelude.{◌≡◌, ◌↔◌, ◌<◌, ◌≤◌, ◌++◌, ◌&&◌, ℕ, List, [], ◌∷◌, Option, IfSome, is_some, IsTrue, length, slice_get};
 ghost use Rattle.std.specs.List.{filter};
 ghost use Rattle.infer.specs.First.{IsFirstOf};
 ghost use Rattle.infer.specs.Leads.{candidates_of};
+ghost use Rattle.infer.specs.Listed.{number_of};
 ghost use Rattle.infer.specs.Questions.{HasExtension, SomeBoth};
 ghost use Rattle.infer.specs.Row.{Accepts};
 ghost use Rattle.infer.specs.Table.{table};
-ghost use Rattle.infer.specs.Walks.{IsFirstAmong, RowHas, Takes, asked_rows, count_asked, is_wanted, named};
+ghost use Rattle.infer.specs.Walks.{IsFirstAmong, RowHas, Takes, asked_rows, count_asked, is_listed, is_wanted, named};
 ghost use Rattle.infer.specs.declared.ask.question.Wanted.TheVariants.{Every, Extension};
 
-use crate::ask::question::Wanted;
-use crate::ask::taken::{accepts_at, fits_at};
+use crate::ask::taken::accepts_at;
 use crate::candidates::dispatch::{arm_of, candidates_at};
+use crate::candidates::slots::{Listed, OfExtension};
 use crate::table::leads::{blank, leads};
-use crate::table::rows::{MOST_CANDIDATES, ROW_COUNT};
+use crate::table::rows::{MOST_CANDIDATES, ROW_COUNT, RowName, has_extension};
 
 /// Who asks the built-in rows about one buffer. A contract sees that buffer, and which rows were asked, in order.
 pub trait Ask {
@@ -87,26 +88,61 @@ pub fn walk<A: Ask>(asker: &mut A, wanted: Option<&str>) -> Option<usize>
     ensures kept { A.buffer asker.new ≡ A.buffer asker.old }
 {
     match wanted {
-        Some(extension) => walk_wanted(asker, Wanted::Extension(extension)),
-        None => walk_wanted(asker, Wanted::Every),
+        Some(extension) => walk_extension(asker, extension),
+        None => walk_every(asker),
     }
 }
 
-/// The same for any question.
+/// The same of every row.
 #[inline(always)]
-fn walk_wanted<A: Ask>(asker: &mut A, wanted: Wanted) -> Option<usize>
+fn walk_every<A: Ask>(asker: &mut A) -> Option<usize>
     requires { A.has_asked asker.old [] }
-    ensures first { IsFirstAmong (RowHas (Takes wanted.entry (A.buffer asker.old))) (candidates_of (A.buffer asker.old)) result }
-    ensures asked { A.has_asked asker.new (asked_rows wanted.entry (A.buffer asker.old) result) }
-    ensures few { count_asked wanted.entry (A.buffer asker.old) result ≤ MOST_CANDIDATES }
+    ensures first { IsFirstAmong (RowHas (Takes Every (A.buffer asker.old))) (candidates_of (A.buffer asker.old)) result }
+    ensures asked { A.has_asked asker.new (asked_rows Every (A.buffer asker.old) result) }
+    ensures few { count_asked Every (A.buffer asker.old) result ≤ MOST_CANDIDATES }
     ensures kept { A.buffer asker.new ≡ A.buffer asker.old }
 {
     for row in candidates_of(asker) {
-        if ask_wanted(asker, *row, wanted) {
+        if asker.ask(*row) {
             return Some(*row);
         }
     }
     None
+}
+
+/// The same of the rows with this extension, which its slot lists. The text is compared with these alone.
+fn walk_extension<A: Ask>(asker: &mut A, extension: &str) -> Option<usize>
+    requires { A.has_asked asker.old [] }
+    ensures first { IsFirstAmong (RowHas (Takes (Extension extension.entry) (A.buffer asker.old))) (candidates_of (A.buffer asker.old)) result }
+    ensures asked { A.has_asked asker.new (asked_rows (Extension extension.entry) (A.buffer asker.old) result) }
+    ensures few { count_asked (Extension extension.entry) (A.buffer asker.old) result ≤ MOST_CANDIDATES }
+    ensures kept { A.buffer asker.new ≡ A.buffer asker.old }
+{
+    leads();
+    blank();
+    let candidates = candidates_of(asker);
+    for row in OfExtension(extension.as_bytes()).rows() {
+        if ask_named(asker, *row, extension, candidates) {
+            return Some(*row as usize);
+        }
+    }
+    None
+}
+
+/// Whether the row has the extension and accepts the buffer. It is asked if it has it and is one of the candidates.
+#[inline(always)]
+fn ask_named<A: Ask>(asker: &mut A, row: RowName, extension: &str, candidates: &[usize]) -> bool
+    requires all { candidates.now ≡ candidates_of (A.buffer asker.old) }
+    requires room { (before : List ℕ) × A.has_asked asker.old before × (length before < ROW_COUNT) }
+    ensures answer { IsTrue result ↔ RowHas (Takes (Extension extension.entry) (A.buffer asker.old)) (number_of row) }
+    ensures asked { (before : List ℕ) → A.has_asked asker.old before
+        → A.has_asked asker.new (before ++ filter (λ i. is_wanted (Extension extension.entry) i && is_listed candidates.now i) (number_of row ∷ [])) }
+    ensures kept { A.buffer asker.new ≡ A.buffer asker.old }
+{
+    leads();
+    blank();
+    let i = row as usize;
+    has_extension(row, extension.as_bytes()) && candidates.contains(&i) && asker.ask(i)
 }
 
 /// The rows that can accept the asker's buffer, ascending.
@@ -121,30 +157,18 @@ fn candidates_of<A: Ask>(asker: &A) -> &'static [usize]
     }
 }
 
-/// Whether row `i` is asked for and accepts the buffer. It is asked if it is.
+/// What a [`walk`] about `buf` answers, and how many rows it asks.
 #[inline(always)]
-fn ask_wanted<A: Ask>(asker: &mut A, i: usize, wanted: Wanted) -> bool
-    requires row { i < ROW_COUNT }
-    requires room { (before : List ℕ) × A.has_asked asker.old before × (length before < ROW_COUNT) }
-    ensures answer { IsTrue result ↔ RowHas (Takes wanted.entry (A.buffer asker.old)) i }
-    ensures asked { (before : List ℕ) → A.has_asked asker.old before → A.has_asked asker.new (before ++ filter (is_wanted wanted.entry) (i ∷ [])) }
-    ensures kept { A.buffer asker.new ≡ A.buffer asker.old }
-{
-    fits_at(i, wanted) && asker.ask(i)
-}
-
-/// The number of the first built-in row that is asked for and accepts `buf`, and how many rows a [`walk`] asks.
-#[inline(always)]
-pub(crate) fn count_wanted(buf: &[u8], wanted: Wanted) -> (Option<usize>, u32)
-    ensures first { IsFirstOf (Takes wanted.entry buf.now) table result.0 }
-    ensures among { IsFirstAmong (RowHas (Takes wanted.entry buf.now)) (candidates_of buf.now) result.0 }
-    ensures counted { result.1 ≡ count_asked wanted.entry buf.now result.0 }
+fn count(buf: &[u8], wanted: Option<&str>) -> (Option<usize>, u32)
+    ensures first { IsFirstOf (Takes (named wanted.entry) buf.now) table result.0 }
+    ensures among { IsFirstAmong (RowHas (Takes (named wanted.entry) buf.now)) (candidates_of buf.now) result.0 }
+    ensures counted { result.1 ≡ count_asked (named wanted.entry) buf.now result.0 }
     ensures few { result.1 ≤ MOST_CANDIDATES }
 {
     leads();
     blank();
     let mut asker = Asker::new(buf);
-    let found = walk_wanted(&mut asker, wanted);
+    let found = walk(&mut asker, wanted);
     (found, asker.asked())
 }
 
@@ -156,7 +180,7 @@ pub fn position_counted(buf: &[u8]) -> (Option<usize>, u32)
     ensures counted { result.1 ≡ count_asked Every buf.now result.0 }
     ensures few { result.1 ≤ MOST_CANDIDATES }
 {
-    count_wanted(buf, Wanted::Every)
+    count(buf, None)
 }
 
 /// Whether some built-in row with this extension accepts `buf`, as [`is`](crate::is) answers, and how many rows a
@@ -168,6 +192,6 @@ pub fn is_counted(buf: &[u8], extension: &str) -> (bool, u32)
         × (result.1 ≡ count_asked (Extension extension.entry) buf.now answer) }
     ensures few { result.1 ≤ MOST_CANDIDATES }
 {
-    let (found, count) = count_wanted(buf, Wanted::Extension(extension));
+    let (found, count) = count(buf, Some(extension));
     (found.is_some(), count)
 }

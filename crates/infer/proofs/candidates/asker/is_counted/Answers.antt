@@ -6,4 +6,4 @@ use Rattle.infer.proofs.candidates.asker.is_counted.Goals as goal
 
 pub returns-clause-found : goal.returns-clause-found
 returns-clause-found c =
-    some_of_first (Takes (Extension c.args.extension) c.args.buf.now) table c.count_wanted-found.result.0 c.is_some.result c.is_some.ensures c.count_wanted-found.ensures.first
+    some_of_first (Takes (Extension c.args.extension) c.args.buf.now) table c.count-found.result.0 c.is_some.result c.is_some.ensures c.count-found.ensures.first

@@ -6,4 +6,4 @@ use Rattle.infer.proofs.candidates.asker.position_counted.Goals as goal
 
 pub returns-clause-bound : goal.returns-clause-bound
 returns-clause-bound c =
-    let first = first_of_every c.args.buf.now table c.count_wanted.result.0 c.count_wanted.ensures.first in grind (arith, length-table)
+    let first = first_of_every c.args.buf.now table c.count.result.0 c.count.ensures.first in grind (arith, length-table)
