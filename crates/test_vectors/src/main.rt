@@ -1,62 +1,21 @@
-//! Compares the rows, the samples and the answers of `infer` with data from outside, and prints each line that differs.
+//! Compares rows, samples, answers of `infer` and what can change them with data from outside, and prints what differs.
 #![tactic(auto)]
 
+mod decided;
+mod hostile;
+mod lines;
+mod names;
+mod tally;
+mod tokens;
+
 use anyhow::{Context, Result};
+use infer::Type;
 use infer::rows::{MOST_CANDIDATES, ROW_COUNT};
-use infer::{MatcherType, Type};
+use names::{class_name, has_name};
 use std::alloc::Global;
 use std::fs;
 use std::rt::Files;
-
-/// The token's bytes, as often as its count says.
-fn append(buf: &mut Vec<u8>, alloc: Global, token: &str) -> Result<()> {
-    let (digits, count) = match token.split_once('*') {
-        Some((digits, count)) => (digits, count.parse::<u32>()?),
-        None => (token, 1),
-    };
-    let bytes = hex::decode(alloc, digits)?;
-    for _ in 0..count {
-        buf.extend_from_slice(bytes.as_slice())?;
-    }
-    Ok(())
-}
-
-/// The buffer that a line writes as tokens.
-fn decode(alloc: Global, tokens: &str) -> Result<Vec<u8>> {
-    let mut buf = Vec::new(alloc);
-    if tokens == "-" {
-        return Ok(buf);
-    }
-    for token in tokens.split(' ') {
-        append(&mut buf, alloc, token)?;
-    }
-    Ok(buf)
-}
-
-/// Whether the row has this name: its class and its extension, as `Image/png`.
-fn has_name(row: &Type, name: &str) -> bool {
-    match name.split_once('/') {
-        Some((class, extension)) => {
-            class_name(row.matcher_type()) == class && row.extension() == extension
-        }
-        None => false,
-    }
-}
-
-fn class_name(class: MatcherType) -> &'static str {
-    match class {
-        MatcherType::App => "App",
-        MatcherType::Archive => "Archive",
-        MatcherType::Audio => "Audio",
-        MatcherType::Book => "Book",
-        MatcherType::Custom => "Custom",
-        MatcherType::Doc => "Doc",
-        MatcherType::Font => "Font",
-        MatcherType::Image => "Image",
-        MatcherType::Text => "Text",
-        MatcherType::Video => "Video",
-    }
-}
+use tokens::decode;
 
 /// Whether `position_counted` answers that number, and counts a row if there is one, and no more than there can be.
 fn is_counted_right(buf: &[u8], found: Option<usize>) -> bool {
@@ -239,7 +198,13 @@ fn run(rt: &(impl Files + Print + AllocGlobal)) -> Result<()> {
     println!(rt; "buffers that differ: {differing}")?;
     let differing = try_all_lengths(rt.alloc(), vectors.as_str())?;
     println!(rt; "buffers with other stated lengths and no one answer: {differing}")?;
-    print_unseen(rt, &seen)
+    print_unseen(rt, &seen)?;
+    let text = fs::read_to_string(rt, "decided.tsv").context("decided.tsv")?;
+    let lines = lines::parse(rt.alloc(), text.as_str())?;
+    println!(rt; "buffers whose cuts are told: {}", lines.len())?;
+    decided::compare_lines(rt, lines.as_slice())?;
+    decided::compare_changes(rt, lines.as_slice())?;
+    hostile::compare(rt, lines.as_slice())
 }
 
 fn main(rt: HostRuntime) -> Result<()> {
