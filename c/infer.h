@@ -14,11 +14,11 @@
  * change whenever a row is added, so never store them; the classes' numbers, below, stay, and new ones may come.
  *
  * No function allocates, keeps state or calls back, and all may be called from any thread. A buffer is a pointer and
- * its length. So is a text that is handed over, whose length is that of strlen. A null pointer with length 0 is the
- * empty buffer or text. A text that is not UTF-8 is no row's text. Upper and lower case are apart.
+ * its length, and that many bytes must be readable. So is a text that is handed over, whose length is that of strlen. A
+ * null pointer with length 0 is the empty buffer or text. A text that is not UTF-8 is no row's text. Upper and lower case are apart.
  *
- * A text that comes back is written as snprintf does it: at most `size` bytes are written, of which the last is a
- * zero, and the answer is the text's length without the zero. So the text is whole if the answer is less than
+ * A text that comes back is written as snprintf does it, to `out`, which must have room for `size` bytes: at most
+ * `size` bytes are written, of which the last is a zero, and the answer is the text's length without the zero. So the text is whole if the answer is less than
  * `size`, and cut otherwise. With `size` 0 nothing is written, and `out` may be null. */
 #ifndef INFER_H
 #define INFER_H
@@ -55,8 +55,9 @@ enum infer_class_code {
 /* THE ANSWER: the number of the first row whose signature accepts the buffer, from 0 on, or -1 if no row does. */
 int32_t infer_position(const void *buf, size_t len);
 
-/* The same, and in `is_final` whether no bytes that may follow can change it. It is never final below 1024 bytes, and
- * false does not say that the answer will change. `is_final` must not be null. */
+/* The same, and in `is_final` whether the verdict is final: no bytes that may follow can change it then. It is never
+ * final below 1024 bytes, and false does not say that the answer can change: infer_is_decided tells that exactly.
+ * `is_final` must not be null. */
 int32_t infer_verdict(const void *buf, size_t len, bool *is_final);
 
 /* The same as infer_position, and in `asked` how many rows were asked, at most 25. `asked` must not be null. */
@@ -71,7 +72,8 @@ bool infer_accepts(const void *buf, size_t len, int32_t row);
 bool infer_is_decided(const void *buf, size_t len);
 
 /* Whether some bytes that may follow make that one row accept the buffer; false if there is no such row. A row that
- * accepts the buffer accepts it whatever follows. */
+ * accepts the buffer accepts it whatever follows. It need not be the answer then: the answer moves only to rows before
+ * that of infer_position. */
 bool infer_may_become(const void *buf, size_t len, int32_t row);
 
 /* The number of rows. */

@@ -102,7 +102,7 @@ func Detect(b []byte) (Type, bool) {
 	return typeOf(int(C.position(first(b), C.size_t(len(b)))))
 }
 
-// Verdict tells the same, and whether no bytes that may follow can change it.
+// Verdict tells the same, and whether it is final: no bytes that may follow can change it then.
 func Verdict(b []byte) (found Type, ok bool, final bool) {
 	both := int64(C.verdict(first(b), C.size_t(len(b))))
 	found, ok = typeOf(int(both >> 1))

@@ -37,7 +37,8 @@ pub extern "C" fn infer_position(buf: &[u8]) -> i32
     }
 }
 
-/// The number of the first row that accepts `buf`, or -1, and whether no bytes after `buf` can change it.
+/// The number of the first row that accepts `buf`, or -1, and whether the verdict is final: then no bytes after `buf`
+/// change it.
 #[unsafe(no_mangle)]
 pub extern "C" fn infer_verdict(buf: &[u8], is_final: &mut bool) -> i32
     ensures first { (first : Option ℕ) × IsFirstOf (Accepts buf.now) table first × (result ≡ row_code first)

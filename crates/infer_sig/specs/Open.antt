@@ -30,7 +30,7 @@ has_byte (any_of xs) = list_any (λ x. nat_lt x 256) xs
 has_byte (between low high) = nat_le low high && nat_lt low 256
 has_byte (all_but y) = true
 
--- some bytes are what the part asks
+-- some bytes are what the part asks: its texts are bytes, of several there is at least one, and its set has a byte
 abbrev pub is_possible : Part → Bool
 is_possible (text place t) = are_bytes t
 is_possible (any_text place []) = false

@@ -30,7 +30,7 @@ impl Verdict {
         }
     }
 
-    /// Whether no bytes after those so far change the type.
+    /// Whether the verdict is final. Then no bytes after those so far change the type; false does not say that some do.
     pub fn is_final(self) -> bool
         ensures { IsTrue result ↔ IsFinal self }
     {
@@ -77,7 +77,7 @@ fn first_of(buf: &[u8]) -> (Option<usize>, Option<Type>)
     }
 }
 
-/// Whether nothing after `buf` can change its first row.
+/// Whether the verdict of `buf`, whose first row is `place`, is final. Then nothing after `buf` changes that row.
 pub fn is_settled(buf: &[u8], place: Option<usize>) -> bool
     requires { IsFirstOf (Accepts buf.now) table place }
     ensures { IsTrue result ↔ IsSettled buf.now }
