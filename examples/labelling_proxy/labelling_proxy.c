@@ -132,6 +132,12 @@ static void serve(struct stream *it, bool is_ready) {
         end(it);
 }
 
+/* Whether the word is a port in digits. */
+static bool is_port(const char *word) {
+    size_t len = strlen(word);
+    return len > 0 && len <= 5 && strspn(word, "0123456789") == len && atoi(word) <= 65535;
+}
+
 static struct sockaddr_in loopback(const char *port) {
     return (struct sockaddr_in){.sin_family = AF_INET, .sin_port = htons((uint16_t)atoi(port)), .sin_addr.s_addr = htonl(INADDR_LOOPBACK)};
 }
@@ -207,7 +213,7 @@ static int listen_at(const char *port) {
 }
 
 int main(int argc, char **argv) {
-    if (argc < 3 || argc > 4 || (argc == 4 && (patience = atol(argv[3]) * 1000) <= 0)) {
+    if (argc < 3 || argc > 4 || !is_port(argv[1]) || !is_port(argv[2]) || (argc == 4 && (patience = atol(argv[3]) * 1000) <= 0)) {
         fputs("usage: labelling_proxy PORT TO_PORT [SECONDS]\n", stderr);
         return 2;
     }

@@ -63,7 +63,7 @@ def content_type(name: str, front: bytes) -> str:
     named, told = type_of_extension(extension), infer.guess(front)
     if named is None:
         return with_charset(browser_type(told), front) if told else UNKNOWN
-    if told is None or extension == told.extension or BUILT_ON.get(extension) == told.extension:
+    if told is None or named == browser_type(told) or BUILT_ON.get(extension) == told.extension:
         return with_charset(named, front)
     # A text can begin as anything: a script by "#!", a page in Markdown by a tag, a note by BM as a bitmap does.
     if is_textual(named) and is_text(front):
@@ -156,7 +156,7 @@ class Server(http.server.ThreadingHTTPServer):
 
 
 def main() -> None:
-    if len(sys.argv) != 3 or not sys.argv[1].isdecimal() or not os.path.isdir(sys.argv[2]):
+    if len(sys.argv) != 3 or not sys.argv[1].isdecimal() or int(sys.argv[1]) > 65535 or not os.path.isdir(sys.argv[2]):
         sys.exit("usage: static_server.py PORT FOLDER")
     with Server(int(sys.argv[1]), sys.argv[2]) as server:
         print(f"listening on 127.0.0.1:{server.server_address[1]}", flush=True)

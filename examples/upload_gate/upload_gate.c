@@ -341,6 +341,12 @@ static bool allow(char *names) {
     return are_known;
 }
 
+/* Whether the word is a port in digits. */
+static bool is_port(const char *word) {
+    size_t len = strlen(word);
+    return len > 0 && len <= 5 && strspn(word, "0123456789") == len && atoi(word) <= 65535;
+}
+
 /* The listening socket, or -1. */
 static int listen_at(const char *port) {
     struct sockaddr_in at = {.sin_family = AF_INET, .sin_port = htons((uint16_t)atoi(port)), .sin_addr.s_addr = htonl(INADDR_LOOPBACK)};
@@ -378,7 +384,7 @@ static void accept_all(int listening) {
 }
 
 int main(int argc, char **argv) {
-    if (argc < 4 || argc > 5 || !allow(argv[3]) || (argc == 5 && (patience = atol(argv[4]) * 1000) <= 0)) {
+    if (argc < 4 || argc > 5 || !is_port(argv[1]) || !allow(argv[3]) || (argc == 5 && (patience = atol(argv[4]) * 1000) <= 0)) {
         fputs("usage: upload_gate PORT FOLDER CLASS|MIME_TYPE,.. [SECONDS]\n", stderr);
         return 2;
     }
