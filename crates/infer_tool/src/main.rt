@@ -224,7 +224,7 @@ fn run_paths<R: Files, A: Allocator + Copy, W: Write, E: Write>(
     outcome
 }
 
-/// Writes out the last bytes of a run: the outcome is its own, and `Failed` exactly if a write or this flush failed.
+/// Writes out the last bytes of a run: the outcome is its own, and `Failed` if a write or this flush failed.
 fn flush<W: Write>(outcome: Outcome, out: &mut WatchedWriter<W>) -> Outcome
     ensures kept { UnlessFailed (has_failed out.new) result (result ≡ outcome) }
     ensures bytes { Keeps (W.contents (inner out.old)) (W.contents (inner out.new)) }
