@@ -1,10 +1,8 @@
 -- Brands of a boxed file: they last, and only to an open box do more bytes bring them.
-use Rattle.std.proofs.Common.{◌≡◌, ◌⊎◌, Bool, true, false, not, ℕ, ◌+◌, ◌-◌, ◌*◌, ◌/◌, ◌<◌, ◌≤◌, max, List, [], ◌∷◌, ◌++◌, Option, Some, None, length, refl, ap, sym, subst, ◌∙◌, inl, inr, arith, codes, length-append, append_assoc, IsTrue}
+use Rattle.std.proofs.Common.{◌≡◌, ◌⊎◌, Bool, false, ◌||◌, ◌↔◌, ℕ, ◌+◌, ◌-◌, ◌*◌, ◌/◌, ◌<◌, ◌≤◌, max, min, List, [], ◌∷◌, ◌++◌, length, refl, ap, sym, subst, ◌∙◌, inl, inr, arith, codes, length-append, append_assoc, IsTrue}
 use Rattle.std.proofs.lemmas.List.Elements.{All-append}
-use Rattle.std.proofs.lemmas.Bool.{cases_lt}
-use Rattle.std.specs.Bool.{OnTrue}
-use Rattle.std.specs.Option.{is_some}
-use Rattle.infer_deep.specs.Places.{IsFirstWithin}
+use Rattle.std.proofs.lemmas.Bool.{cases_lt, or_cases, or_left, or_right}
+use Rattle.memchr.specs.Find.{OccursAt}
 use Rattle.infer_deep.specs.Open.{are_bytes, AgreesAt}
 use Rattle.infer_deep.specs.Signatures.{Lasts, ComesWith, IsEarly, Reachable}
 use Rattle.infer_deep.proofs.OpenLemmas.{IsBytes, Part, LieApart, AllAgree, AllStand, AllStand-append, agrees_none, agrees_past, agrees_where_stands, fills_parts, fills_text, grown_agrees, stands_where_whole}
@@ -12,13 +10,30 @@ use Rattle.infer_deep.proofs.PlaceLemmas.{Carries, OccursAt-append, OccursAt-fro
 use Rattle.infer_deep.proofs.NumberLemmas.{be32-append}
 use Rattle.infer_deep.specs.Brands.{box_length, IsBoxed, IsOpenBox, HasMajor, HasCompatible, MayHaveCompatible, IsHeif, IsAvif}
 
--- a brand that is not found in the box is not compatible
-pub not_compatible : (b brand : List ℕ) (end : ℕ) (r : Option ℕ) (lacks : Bool) → length brand ≡ 4 → end ≡ box_length b
-    → IsFirstWithin b brand 16 end r → is_some r ≡ not lacks → OnTrue lacks (¬ HasCompatible brand b)
-not_compatible b brand end r false n e first is = tt
-not_compatible b brand end None true n e none is =
-    λ (k, l, o). none (16 + 4 * k) (record { stands = o; low = omega arith; high = omega arith })
-not_compatible b brand end (Some p) true n e first is = absurd (cc)
+-- the brand is one of the first n compatible ones
+abbrev pub StandsBelow : List ℕ → List ℕ → ℕ → Type 0
+StandsBelow b brand n = (j : ℕ) × (j < n) × OccursAt b brand (16 + 4 * j)
+
+pub none_below : (b brand : List ℕ) → IsTrue false ↔ StandsBelow b brand 0
+none_below b brand = (λ t. absurd (cc), λ (j, lt, o). absurd (omega (arith, lt)))
+
+pub one_more_below : (b brand : List ℕ) (n : ℕ) (r s : Bool) → IsTrue r ↔ StandsBelow b brand n → IsTrue s ↔ OccursAt b brand (16 + 4 * n)
+    → IsTrue (r || s) ↔ StandsBelow b brand (n + 1)
+one_more_below b brand n r s before here = (
+  λ t. elim (or_cases r s t) [
+    | inl x ↦ let (j, lt, o) = before.0 x in (j, omega (arith, lt), o)
+    | inr x ↦ (n, omega arith, here.0 x)
+  ],
+  λ (j, lt, o). elim (cases_lt j n) [
+    | inl l ↦ or_left r s (before.1 (j, l, o))
+    | inr l ↦ let last : j ≡ n = omega (arith, lt, l) in or_right r s (here.1 (subst (λ k. OccursAt b brand (16 + 4 * k)) last o))
+  ],
+)
+
+-- those that the buffer has whole are all that are compatible
+pub compatible_below : (b brand : List ℕ) (n : ℕ) → length brand ≡ 4 → 16 ≤ length b → n ≡ min (box_length b / 4 - 4) ((length b - 16) / 4)
+    → StandsBelow b brand n ↔ HasCompatible brand b
+compatible_below b brand n four long is = (λ (j, lt, o). (j, grind (arith, lt), o), λ (j, lt, o). (j, grind (arith, lt, o.fits), o))
 
 pub IsOpenBox-early : IsEarly IsOpenBox
 IsOpenBox-early b more long o =

@@ -36,7 +36,7 @@ module _ (b text : List ℕ) (start later end : ℕ) (le : start ≤ later) (non
   from_later : (q : ℕ) → later ≤ q → IsWithin b text start end q → IsWithin b text later end q
   from_later q low w = record { stands = w.stands; low = low; high = w.high }
 
-  IsFirstWithin-skip : (r : Option ℕ) → IsFirstWithin b text later end r → IsFirstWithin b text start end r
+  pub IsFirstWithin-skip : (r : Option ℕ) → IsFirstWithin b text later end r → IsFirstWithin b text start end r
   IsFirstWithin-skip None h = λ q w. grind (arith, none q, h q, from_later q)
   IsFirstWithin-skip (Some p) h = record {
     here = record { stands = h.here.stands; low = omega arith; high = h.here.high };
@@ -83,6 +83,25 @@ module _ (b text : List ℕ) (rare start end m n : ℕ) (two : rare + 2 ≤ leng
       → IsFirstWithin b text (start + n + 1) end r → IsFirstWithin b text start end r
   first_past r absent h =
       first_later r (IsFirstWithin-skip b text (start + n) (start + n + 1) end (omega arith) (λ q lt w. grind (arith, w.stands)) r h)
+
+-- what a search of the rest says
+module _ (b text : List ℕ) (start end m : ℕ) (is : m ≡ min end (length b)) (l : start ≤ m) where
+  in_rest : (q : ℕ) → IsWithin b text start end q → OccursAt (take (m - start) (drop start b)) text (q - start)
+  in_rest q w =
+      let same : q ≡ start + (q - start) = omega (arith, w.low) in
+      (OccursAt-part b text start m (q - start) l (omega arith)).1 (subst (OccursAt b text) same w.stands, omega (arith, w.low, w.high, w.stands.fits))
+
+  pub none_in_rest : Nowhere (OccursAt (take (m - start) (drop start b)) text) 0 (length (take (m - start) (drop start b)) + 1)
+      → (p : ℕ) → ¬ IsWithin b text start end p
+  none_in_rest none p w = let o = in_rest p w in none (p - start) (omega arith) (omega (arith, o.fits)) o
+
+  pub first_in_rest : (k n : ℕ) → NoneBefore (OccursAt (take (m - start) (drop start b)) text) 0 n k
+      → OccursAt (take (m - start) (drop start b)) text k → IsFirstPlace b text start end (start + k)
+  first_in_rest k n h o =
+      let there = (OccursAt-part b text start m k l (omega arith)).0 o in record {
+        here = record { stands = there.0; low = omega arith; high = omega (arith, there.1) };
+        before = λ q lt w. h.before (q - start) (omega arith) (omega (arith, lt, w.low)) (in_rest q w);
+      }
 
 -- what a search for a pair of bytes of the text in the part from `from` on says, if the text stands nowhere before
 module _ (b text : List ℕ) (start from end m : ℕ) (is : m ≡ min end (length b)) (l : from ≤ m) (low : start ≤ from)

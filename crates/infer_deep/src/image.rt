@@ -1,13 +1,12 @@
 //! Images in ISO media files.
 ghost use Rattle.std.specs.Prelude.{◌↔◌, ◌+◌, ◌*◌, ◌≤◌, ◌⊎◌, length, IsTrue, ◌≡◌, ◌-◌, ◌/◌, ◌<◌, codes};
-ghost use Rattle.std.specs.Bool.{OnTrue};
 ghost use Rattle.memchr.specs.Find.{OccursAt};
 ghost use Rattle.infer_deep.specs.Brands.{HasCompatible, IsAvif, IsBoxed, IsHeif, MayHaveCompatible, box_length};
 ghost use Rattle.infer_deep.specs.Open.{AgreesAt};
 ghost use Rattle.infer_deep.specs.Signatures.{Reachable};
 
 use crate::numbers::be32;
-use crate::places::{agrees_at, find, same_at};
+use crate::places::{agrees_at, same_at};
 
 /// HEIF: at least 16 bytes, and first a whole box "ftyp" that has the major brand heic or heix, or the major brand
 /// mif1 or msf1 and the compatible brand heic.
@@ -115,28 +114,20 @@ fn has_compatible(buf: &[u8], one: &[u8; 4], other: &[u8; 4]) -> bool
     is_listed(buf, one, other)
 }
 
-/// The same in a long box, which mostly has neither at any place at all, as a look at whole blocks shows.
+/// The same in a long box. No brand ends the loop early, so that it compares many at a time.
 #[inline(never)]
 fn has_compatible_in_long(buf: &[u8], one: &[u8; 4], other: &[u8; 4]) -> bool
     requires { 16 ≤ length buf.now }
     ensures { IsTrue result ↔ (HasCompatible one.now buf.now ⊎ HasCompatible other.now buf.now) }
 {
-    if !lacks(buf, one) {
-        return is_listed(buf, one, other);
+    let count = brand_count(buf).min((buf.len() - 16) / 4);
+    let mut has_one = false;
+    let mut has_other = false;
+    for k in 0..count {
+        has_one |= same_at(buf, one, 16 + 4 * k);
+        has_other |= same_at(buf, other, 16 + 4 * k);
     }
-    if one == other {
-        return false;
-    }
-    !lacks(buf, other) && is_listed(buf, one, other)
-}
-
-/// Whether `brand` stands at no place of the box at all.
-#[inline(always)]
-fn lacks(buf: &[u8], brand: &[u8; 4]) -> bool
-    requires { 16 ≤ length buf.now }
-    ensures { OnTrue result (¬ HasCompatible brand.now buf.now) }
-{
-    find(buf, brand, 0, 16, be32(buf, 0) as usize).is_none()
+    has_one || has_other
 }
 
 #[inline(always)]

@@ -9,8 +9,8 @@ ghost use Rattle.infer_deep.specs.Signatures.{Reachable};
 ghost use Rattle.infer_deep.specs.Windows.{StandsBy};
 
 use crate::numbers::{le16, le32};
-use memchr::arch::all::packedpair;
 use memchr::arch::all::packedpair::Pair;
+use memchr::arch::all::{packedpair, rabinkarp};
 use memchr::memchr;
 
 /// Whether `text` stands in `buf` from `place` on.
@@ -233,6 +233,10 @@ pub(crate) fn search<const N: usize>(
     search_pairs(buf, text, start + free + 1, end)
 }
 
+/// How often two bytes of a text may stand without the whole of it, before it is searched for byte by byte. A search for
+/// the two begins anew then, which takes as long as some fifteen bytes.
+const NEAR_MISSES: usize = 8;
+
 /// The same by two bytes of `text`: if they stand, the whole of it is compared.
 #[tactic(auto, using(crate::proofs::SearchLemmas::first_at_pair, crate::proofs::SearchLemmas::none_past_pair, crate::proofs::SearchLemmas::none_without_pair))]
 #[inline(never)]
@@ -247,14 +251,27 @@ fn search_pairs(buf: &[u8], text: &[u8], start: usize, end: usize) -> Option<usi
     // The finder of `memmem` may own its text, and would bring in the heap.
     let pair = packedpair::Finder::with_pair(text, Pair::with_indices(text, 0, 3)?);
     let mut from = start;
-    for _turn in start..stop {
+    for _turn in 0..NEAR_MISSES {
         let at = from + pair.find_prefilter(&buf[from..stop])?;
         if stands_within(buf, text, at, stop) {
             return Some(at);
         }
         from = at + 1;
     }
-    None
+    search_bytes(buf, text, from, end)
+}
+
+/// The same byte by byte, whatever the bytes are.
+#[inline(never)]
+fn search_bytes(buf: &[u8], text: &[u8], start: usize, end: usize) -> Option<usize>
+    ensures { IsFirstWithin buf.now text.now start end result }
+{
+    let stop = end.min(buf.len());
+    if start > stop {
+        return None;
+    }
+    let at = rabinkarp::Finder::new(text).find(&buf[start..stop], text)?;
+    Some(start + at)
 }
 
 /// Whether `text` stands at `place` and ends by `stop`.

@@ -1,5 +1,5 @@
 use Rattle.std.proofs.Common.{arith}
-use Rattle.infer_deep.proofs.SearchLemmas.{first_at_pair, none_past_pair, none_without_pair}
+use Rattle.infer_deep.proofs.SearchLemmas.{IsFirstWithin-skip, first_at_pair, none_past_pair, none_without_pair}
 use Rattle.infer_deep.proofs.places.search_pairs.Goals as goal
 
 pub returns-in_err-at : goal.returns-in_err-at
@@ -24,4 +24,6 @@ loop-turn-preserved c =
     )
 
 pub returns : goal.returns
-returns c = λ p w. c.loop-turn.invariant.2 p (omega (arith, c.min-stop.ensures)) w
+returns c =
+    let i = c.loop-turn.invariant in
+    IsFirstWithin-skip _ _ _ _ _ i.0 i.2 _ c.search_bytes.ensures

@@ -5,4 +5,4 @@ use Rattle.infer_deep.proofs.places.search_pairs.Given as goal
 
 abbrev pub invariant-loop-turn : goal.invariant-loop-turn
 invariant-loop-turn l =
-    (l._turn ≤ l.from) × (l.from ≤ l.stop) × ((q : ℕ) → q < l.from → ¬ IsWithin l.buf l.text l.start l.end q)
+    (l.start ≤ l.from) × (l.from ≤ l.stop) × ((q : ℕ) → q < l.from → ¬ IsWithin l.buf l.text l.start l.end q)

@@ -1,0 +1,10 @@
+-- whether each brand is one of the first k
+use Rattle.std.proofs.Common.{◌↔◌, IsTrue}
+use Rattle.infer_deep.proofs.BrandLemmas.{StandsBelow}
+use Rattle.infer_deep.proofs.image.has_compatible_in_long.Given as goal
+
+abbrev pub invariant-loop-k : goal.invariant-loop-k
+invariant-loop-k l = record {
+  one : IsTrue l.has_one ↔ StandsBelow l.buf l.one l.k;
+  other : IsTrue l.has_other ↔ StandsBelow l.buf l.other l.k;
+}
