@@ -73,7 +73,7 @@ bool infer_is_decided(const void *buf, size_t len);
 
 /* Whether some bytes that may follow make that one row accept the buffer; false if there is no such row. A row that
  * accepts the buffer accepts it whatever follows. It need not be the answer then: the answer moves only to rows before
- * that of infer_position. */
+ * that of infer_position, or to any row if that is -1. */
 bool infer_may_become(const void *buf, size_t len, int32_t row);
 
 /* The number of rows. */

@@ -100,6 +100,8 @@ class Handler(http.server.BaseHTTPRequestHandler):
             path = os.path.realpath(os.path.join(path, "index.html"))
         if os.path.commonpath([path, self.server.folder]) != self.server.folder:
             return None
+        if any(part.startswith(".") for part in os.path.relpath(path, self.server.folder).split(os.sep)):
+            return None
         try:
             fd = os.open(path, os.O_RDONLY | os.O_NONBLOCK | os.O_NOCTTY)  # a FIFO does not hold it
         except OSError:
