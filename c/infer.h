@@ -14,12 +14,14 @@
  * change whenever a row is added, so never store them; the classes' numbers, below, stay, and new ones may come.
  *
  * No function allocates, keeps state or calls back, and all may be called from any thread. A buffer is a pointer and
- * its length, and that many bytes must be readable. So is a text that is handed over, whose length is that of strlen. A
- * null pointer with length 0 is the empty buffer or text. A text that is not UTF-8 is no row's text. Upper and lower case are apart.
+ * its length, and that many bytes must be readable. So is a text that is handed over, whose length is that of
+ * strlen. A null pointer with length 0 is the empty buffer or text. A text that is not UTF-8 is no row's text. Upper
+ * and lower case are apart.
  *
  * A text that comes back is written as snprintf does it, to `out`, which must have room for `size` bytes: at most
- * `size` bytes are written, of which the last is a zero, and the answer is the text's length without the zero. So the text is whole if the answer is less than
- * `size`, and cut otherwise. With `size` 0 nothing is written, and `out` may be null. */
+ * `size` bytes are written, of which the last is a zero, and the answer is the text's length without the zero. So
+ * the text is whole if the answer is less than `size`, and cut otherwise. With `size` 0 nothing is written, and
+ * `out` may be null. */
 #ifndef INFER_H
 #define INFER_H
 
