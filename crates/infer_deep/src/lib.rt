@@ -7,7 +7,5 @@ pub mod image;
 pub mod laws;
 pub mod numbers;
 pub mod places;
-#[cfg(test)]
-mod tests;
 pub mod text;
 pub mod video;

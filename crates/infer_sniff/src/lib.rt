@@ -10,8 +10,6 @@ pub mod laws;
 mod position;
 mod reading;
 mod sniffer;
-#[cfg(test)]
-mod tests;
 mod verdict;
 
 pub use position::position_settled;

@@ -6,5 +6,3 @@ pub mod count;
 pub mod gate;
 pub mod label;
 pub mod name;
-#[cfg(test)]
-mod tests;

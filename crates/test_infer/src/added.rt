@@ -1,5 +1,5 @@
 //! Rows that a caller adds, and the questions over all rows.
-ghost use Rattle.std.specs.Prelude.{◌≡◌, ◌↔◌, [], ◌∷◌, IfOk, IsTrue, Some, codes, length, nat_eq, option_map};
+ghost use Rattle.std.specs.Prelude.{◌≡◌, ◌↔◌, [], ◌∷◌, IfOk, IsTrue, Some, codes, nat_eq, option_map};
 ghost use Rattle.std.specs.List.{starts_with};
 ghost use Rattle.infer.specs.Caller.{IsSettled};
 ghost use Rattle.infer.specs.Rows.{custom_rows, given};
@@ -29,22 +29,10 @@ fn begins_00(buf: &[u8]) -> bool
     buf.starts_with(&[0x00])
 }
 
-fn begins_01(buf: &[u8]) -> bool
-    ensures { IsTrue result ↔ IsTrue (starts_with nat_eq buf.now (0x01 ∷ [])) }
-{
-    buf.starts_with(&[0x01])
-}
-
 fn begins_10_11_12(buf: &[u8]) -> bool
     ensures { IsTrue result ↔ IsTrue (starts_with nat_eq buf.now (0x10 ∷ 0x11 ∷ 0x12 ∷ [])) }
 {
     buf.starts_with(&[0x10, 0x11, 0x12])
-}
-
-fn is_two_long(buf: &[u8]) -> bool
-    ensures { IsTrue result ↔ (length buf.now ≡ 2) }
-{
-    buf.len() == 2
 }
 
 const JPEG: [u8; 3] = [0xFF, 0xD8, 0xFF];
@@ -89,77 +77,6 @@ fn mime_of<A: Allocator>(infer: &Infer<A>, buf: &[u8]) -> &'static str {
 }
 
 #[test]
-fn built_in_rows_alone(rt: HostRuntime) {
-    let infer = Infer::default();
-    let jpeg = [0xFF, 0xD8, 0xFF, 0xAA];
-    assert_eq!(rt; infer.get(&jpeg), infer::get(&jpeg));
-    assert_eq!(rt; mime_of(&infer, &jpeg), "image/jpeg");
-    assert_eq!(rt; mime_of(&infer, b""), "");
-    assert!(rt; infer.is(&jpeg, "jpg") && infer::is(&jpeg, "jpg"));
-    assert!(rt; infer.is_mime(&jpeg, "image/jpeg") && infer::is_mime(&jpeg, "image/jpeg"));
-    assert!(rt; !infer.is_mime(&jpeg, "image/JPEG") && !infer::is_mime(&jpeg, "image/JPEG"));
-    assert!(rt; infer.is_supported("jpg") && infer::is_supported("jpg"));
-    assert!(rt; infer.is_mime_supported("image/jpeg") && infer::is_mime_supported("image/jpeg"));
-    assert!(rt; !infer.is_mime_supported("image") && !infer::is_mime_supported("image"));
-    assert!(rt; infer.is_image(&jpeg) && infer::is_image(&jpeg));
-    assert!(rt; !infer.is_custom(&jpeg));
-}
-
-/// Buffers, and the classes whose rows accept them. No call asks for the class Text.
-const CLASSES: [(&[u8], &[&str]); 11] = [
-    (b"", &[]),
-    (b"#!\0", &[]),
-    (b"MZ", &["app"]),
-    (b"BZh", &["archive"]),
-    (b"fLaC", &["audio"]),
-    (
-        b"............................................................BOOKMOBI",
-        &["book"],
-    ),
-    (
-        b"PK\x03\x04..........................mimetypeapplication/epub+zip",
-        &["archive", "book"],
-    ),
-    (
-        b"PK\x03\x04..........................word/",
-        &["archive", "document"],
-    ),
-    (b"OTTO\0", &["font"]),
-    (b"8BPS", &["image"]),
-    (b"FLV\x01", &["video"]),
-];
-
-/// What the two forms of each class's question answer.
-fn classes_of(infer: &Infer, buf: &[u8]) -> [(&'static str, bool, bool); 8] {
-    [
-        ("app", infer.is_app(buf), infer::is_app(buf)),
-        ("archive", infer.is_archive(buf), infer::is_archive(buf)),
-        ("audio", infer.is_audio(buf), infer::is_audio(buf)),
-        ("book", infer.is_book(buf), infer::is_book(buf)),
-        ("document", infer.is_document(buf), infer::is_document(buf)),
-        ("font", infer.is_font(buf), infer::is_font(buf)),
-        ("image", infer.is_image(buf), infer::is_image(buf)),
-        ("video", infer.is_video(buf), infer::is_video(buf)),
-    ]
-}
-
-#[test]
-fn classes(rt: HostRuntime) {
-    let infer = Infer::new();
-    for (i, (buf, expected)) in CLASSES.iter().enumerate() {
-        for (class, over_rows, built_in) in classes_of(&infer, *buf) {
-            let is_one = expected.contains(&class);
-            assert_eq!(rt;
-                (over_rows, built_in),
-                (is_one, is_one),
-                "{class}, buffer {i}"
-            );
-        }
-        assert!(rt; !infer.is_custom(*buf), "buffer {i}");
-    }
-}
-
-#[test]
 fn added_rows_come_first(rt: HostRuntime) -> Result<(), Fail> {
     let mut infer = Infer::new();
     assert!(rt; !infer.is_supported("foo"));
@@ -188,30 +105,6 @@ fn an_added_row_is_not_the_built_in_one(rt: HostRuntime) -> Result<(), Fail> {
     assert!(rt; infer.is_mime(&[0x00], "image/jpeg"));
     assert!(rt; infer.is_custom(&[0x00]));
     assert!(rt; !infer.is_image(&[0x00]));
-    Ok(())
-}
-
-#[test]
-fn the_first_of_two_answers(rt: HostRuntime) -> Result<(), Fail> {
-    let mut infer = Infer::new();
-    infer.add(rt.alloc(), "custom/foo", "foo", begins_10_11_12)?;
-    let found = infer.get(&[0x10, 0x11, 0x12, 0x13]).ok_or("known")?;
-    assert_eq!(rt; found.mime_type(), "custom/foo");
-    assert_eq!(rt; found.extension(), "foo");
-    assert!(rt; infer.is_custom(&[0x10, 0x11, 0x12, 0x13]));
-    infer.add(rt.alloc(), "a", "x", begins_01)?;
-    infer.add(rt.alloc(), "b", "x", begins_01)?;
-    assert_eq!(rt; mime_of(&infer, &[0x01]), "a");
-    assert!(rt; infer.is_mime(&[0x01], "b"));
-    Ok(())
-}
-
-#[test]
-fn a_yes_that_does_not_last(rt: HostRuntime) -> Result<(), Fail> {
-    let mut infer = Infer::new();
-    infer.add(rt.alloc(), "custom/two", "two", is_two_long)?;
-    assert_eq!(rt; mime_of(&infer, &[0x00, 0x00]), "custom/two");
-    assert_eq!(rt; infer.get(&[0x00, 0x00, 0x00]), None);
     Ok(())
 }
 

@@ -3,12 +3,8 @@ ghost use Rattle.std.specs.Prelude.{◌≡◌, ◌≤◌, ℕ, List, [], length,
 ghost use Rattle.infer.specs.Walks.{asked_rows, named};
 
 use infer::rows::ROW_COUNT;
-use infer::{
-    Ask, Asker, is, is_archive, is_counted, is_document, position, position_counted, rows, sample,
-    walk,
-};
+use infer::{Ask, Asker, is, is_counted, position, position_counted, rows, sample, walk};
 use std::process::Abort;
-use std::test::Fail;
 
 const WEBP: &[u8] = b"P\0\0\0\0\0\0\0WEBP";
 
@@ -130,17 +126,6 @@ fn extensions_and_counts(rt: HostRuntime) {
         assert_eq!(rt; is(*buf, *extension), *expected, "case {i}");
     }
     assert!(rt; !is(b"", "jpg"));
-}
-
-#[test]
-fn rows_behind_the_first(rt: HostRuntime) -> Result<(), Fail> {
-    let mut buf = vec![in rt.alloc(); b' '; 257]?;
-    buf[..3].copy_from_slice(b"<P>");
-    buf.extend_from_slice(b"ustar")?;
-    let buf = buf.as_slice();
-    assert!(rt; is(buf, "tar") && is(buf, "html"));
-    assert!(rt; is_archive(buf) && !is_document(buf));
-    Ok(())
 }
 
 /// The first of all rows that accepts the buffer, each asked by an asker of its own.

@@ -10,8 +10,8 @@ ghost use Rattle.infer.specs.Rows.{custom_rows};
 ghost use Rattle.infer.specs.Table.{table};
 
 use infer::app::{is_java, is_mach};
-use infer::rows::{DLL, DOC, EPUB, EPUB_ARCHIVE, EXE, ROW_COUNT, SHELLSCRIPT};
-use infer::{Infer, Type, laws, position, sample};
+use infer::rows::{DLL, DOC, EPUB_ARCHIVE, SHELLSCRIPT};
+use infer::{Infer, Type, laws, position};
 use std::alloc::Allocator;
 use std::test::Fail;
 
@@ -151,37 +151,4 @@ fn script_is_reached()
 #[test]
 fn reach() {
     script_is_reached();
-}
-
-#[test]
-fn each_sample_has_its_row(rt: HostRuntime) {
-    for i in 0..100 {
-        let mut out = [0xFF; 640];
-        match sample(i, &mut out) {
-            Some(n) => {
-                assert_eq!(rt; position(&out[..n]), Some(i));
-                assert!(rt; out[n..].iter().all(|x| *x == 0));
-            }
-            None => {
-                assert!(rt; i == DLL || i == EPUB_ARCHIVE || i >= ROW_COUNT);
-                assert!(rt; out.iter().all(|x| *x == 0xFF));
-            }
-        }
-    }
-}
-
-#[test]
-fn samples_by_hand(rt: HostRuntime) {
-    let mut out = [0xFF; 640];
-    assert_eq!(rt; sample(EXE, &mut out), Some(2));
-    assert_eq!(rt; &out[..3], [0x4D, 0x5A, 0x00].as_slice());
-    assert_eq!(rt; sample(DOC, &mut out), Some(640));
-    assert_eq!(rt;
-        &out[..8],
-        [0xD0, 0xCF, 0x11, 0xE0, 0xA1, 0xB1, 0x1A, 0xE1].as_slice()
-    );
-    assert_eq!(rt; &out[592..596], [0x06, 0x09, 0x02, 0x00].as_slice());
-    assert_eq!(rt; sample(EPUB, &mut out), Some(58));
-    assert_eq!(rt; sample(EPUB_ARCHIVE, &mut out), None);
-    assert_eq!(rt; sample(ROW_COUNT, &mut out), None);
 }

@@ -1,5 +1,5 @@
-//! The tests of `infer`, over its public items alone. They stand apart, so that `infer` is proved once and not again with
-//! its tests.
+//! The tests of `infer`, `infer_sniff` and `infer_uses`, over their public items alone. They stand apart, so that each of
+//! these is proved once and not again with its tests.
 #![tactic(auto)]
 
 #[cfg(test)]
@@ -7,12 +7,14 @@ mod added;
 #[cfg(test)]
 mod asked;
 #[cfg(test)]
+mod decisions;
+#[cfg(test)]
 mod input;
 #[cfg(test)]
 mod laws;
 #[cfg(test)]
-mod limits;
-#[cfg(test)]
 mod positions;
+#[cfg(test)]
+mod streams;
 #[cfg(test)]
 mod types;

@@ -1,45 +1,13 @@
-//! Answers, printed texts, and each public call once.
+//! Equality and printed texts.
 ghost use Rattle.std.specs.Prelude.{◌≡◌, IfOk, IsTrue};
 ghost use Rattle.infer.specs.Triple.{triple_of};
 
-use infer::{Fault, MatcherType, Type, get, image, is, laws};
+use infer::{Fault, MatcherType, Type, get, image, laws};
 use std::alloc::AllocError;
 use std::io::ErrorKind;
 use std::test::Fail;
 
 const JPEG: [u8; 4] = [0xFF, 0xD8, 0xFF, 0xAA];
-
-const NONE: (&str, &str) = ("", "");
-
-/// The shortest buffers that each row accepts, and buffers next to them.
-const ANSWERS: [(&[u8], (&str, &str)); 23] = [
-    (b"", NONE),
-    (b"\xFF\xD8\xFF\xAA", ("image/jpeg", "jpg")),
-    (b"\xFF\xD8\xFF", ("image/jpeg", "jpg")),
-    (b"\xFF\xD8", NONE),
-    (b"\0\0\0\x0CjP  \r\n\x87\n\0", ("image/jp2", "jp2")),
-    (b"\x89PNG", ("image/png", "png")),
-    (b"GIF", ("image/gif", "gif")),
-    (b"\0\0\0\0\0\0\0\0WEBP", ("image/webp", "webp")),
-    (b"II*\0\0\0\0\0CR\x02", ("image/x-canon-cr2", "cr2")),
-    (b"MM\0*\0\0\0\0CR\x02", ("image/x-canon-cr2", "cr2")),
-    (b"II*\0\0\0\0\0\0\0", ("image/tiff", "tif")),
-    (b"II*\0\0\0\0\0\0R", NONE),
-    (b"MM\0*\0\0\0\0C\0", NONE),
-    (b"BM", ("image/bmp", "bmp")),
-    (b"II\xBC", ("image/vnd.ms-photo", "jxr")),
-    (b"8BPS", ("image/vnd.adobe.photoshop", "psd")),
-    (b"\0\0\x01\0", ("image/vnd.microsoft.icon", "ico")),
-    (b"\xFF\n", NONE),
-    (b"\xFF\n\0", ("image/jxl", "jxl")),
-    (b"\0\0\0\x0CJXL \r\n\x87\n\0", ("image/jxl", "jxl")),
-    (
-        b"PK\x03\x04\0\0\0\0\0\0\0\0\0\0\0\0\0\0\0\0\0\0\0\0\0\0\0\0\0\0mimetypeimage/openraster\0\0\0\0",
-        ("image/openraster", "ora"),
-    ),
-    (b"AT&TFORM\0\0\0\0DJV", ("image/vnd.djvu", "djvu")),
-    (b"AC1035", ("image/vnd.dwg", "dwg")),
-];
 
 /// Each class, and what it prints.
 const CLASSES: [(MatcherType, &str); 10] = [
@@ -54,42 +22,6 @@ const CLASSES: [(MatcherType, &str); 10] = [
     (MatcherType::Video, "Video"),
     (MatcherType::Custom, "Custom"),
 ];
-
-#[test]
-fn answers(rt: HostRuntime) {
-    for (i, (buf, (mime_type, extension))) in ANSWERS.iter().enumerate() {
-        match get(*buf) {
-            None => assert_eq!(rt; *extension, "", "answer {i}"),
-            Some(found) => {
-                assert_eq!(rt; found.extension(), *extension, "answer {i}");
-                assert_eq!(rt; found.mime_type(), *mime_type, "answer {i}");
-                assert_eq!(rt; found.matcher_type(), MatcherType::Image, "answer {i}");
-            }
-        }
-        assert_eq!(rt; is(*buf, *extension), !extension.is_empty(), "answer {i}");
-    }
-    assert!(rt; !is(&JPEG, "JPG"));
-    assert!(rt; !is(&JPEG, "png"));
-}
-
-#[test]
-fn each_matcher_of_images(rt: HostRuntime) {
-    assert!(rt; image::is_jpeg(&JPEG));
-    assert!(rt; image::is_jpeg2000(b"\0\0\0\x0CjP  \r\n\x87\n\0"));
-    assert!(rt; image::is_png(b"\x89PNG"));
-    assert!(rt; image::is_gif(b"GIF"));
-    assert!(rt; image::is_webp(b"\0\0\0\0\0\0\0\0WEBP"));
-    assert!(rt; image::is_cr2(b"II*\0\0\0\0\0CR\x02"));
-    assert!(rt; image::is_tiff(b"MM\0*\0\0\0\0\0\0"));
-    assert!(rt; image::is_bmp(b"BM"));
-    assert!(rt; image::is_jxr(b"II\xBC"));
-    assert!(rt; image::is_psd(b"8BPS"));
-    assert!(rt; image::is_ico(b"\0\0\x01\0"));
-    assert!(rt; image::is_jxl(b"\xFF\n\0"));
-    assert!(rt; !image::is_ora(b"PK\x03\x04"));
-    assert!(rt; image::is_djvu(b"AT&TFORM\0\0\0\0DJV"));
-    assert!(rt; image::is_dwg(b"MC0.0\0"));
-}
 
 /// A clone has the values of its source, and `==` finds them equal.
 fn cloned(t: &Type) -> Result<Type, AllocError>

@@ -2,11 +2,11 @@
 ghost use Rattle.std.specs.Prelude.{◌≡◌, ◌++◌, ℕ, List};
 ghost use Rattle.infer.specs.Buffer.{head};
 ghost use Rattle.infer_sniff.specs.Verdicts.{IsVerdict, KeepsOpen};
+ghost use Rattle.infer_sniff.specs.declared.case.Case.TheVariants.{Mark};
 
-use crate::case::Case;
-use crate::laws::{cuts, needed};
-use crate::{Sniffer, Verdict, label};
 use infer::{FRONT, Type, Watched};
+use infer_sniff::laws::{cuts, needed};
+use infer_sniff::{Sniffer, Verdict, label};
 use linked_list_allocator::LocalHeap;
 use std::alloc::{AllocError, Allocator, Global};
 use std::io::{self, Read, Write};
@@ -266,7 +266,7 @@ fn a_cut_changes_nothing(rt: HostRuntime) -> Result<(), Fail> {
 
 /// Some buffer is kept open by the case of marks alone.
 fn open_by_a_mark()
-    ensures { (b more : List ℕ) × KeepsOpen Case.Mark b more }
+    ensures { (b more : List ℕ) × KeepsOpen Mark b more }
 {
     needed();
 }

@@ -1,10 +1,10 @@
 //! Each decision on a few buffers.
-use crate::count::count;
-use crate::gate::admits;
-use crate::label::label;
-use crate::name::{Choice, choose};
 use infer::MatcherType;
 use infer_sniff::Sniffer;
+use infer_uses::count::count;
+use infer_uses::gate::admits;
+use infer_uses::label::label;
+use infer_uses::name::{Choice, choose};
 use std::test::Fail;
 
 const JPEG: &[u8] = b"\xFF\xD8\xFF\xAA";
