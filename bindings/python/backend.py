@@ -4,6 +4,7 @@ from __future__ import annotations
 import base64
 import hashlib
 import os
+import re
 import subprocess
 import sysconfig
 import tempfile
@@ -12,6 +13,18 @@ import zipfile
 HERE = os.path.dirname(os.path.abspath(__file__))
 ROOT = os.path.dirname(os.path.dirname(HERE))
 NAME, VERSION = "hoarvelt_infer", "0.1.0"
+METADATA = f"""Metadata-Version: 2.1
+Name: hoarvelt-infer
+Version: {VERSION}
+Summary: The type of a file from its first bytes
+License: MIT
+Requires-Python: >=3.9
+Description-Content-Type: text/markdown
+
+"""
+# What PEP 599 lets a wheel of manylinux2014 need of the system, as far as a library in C can need it.
+OLDEST_GLIBC = (2, 17)
+OLD_LIBRARIES = {"libc.so.6", "libm.so.6", "libdl.so.2", "librt.so.1", "libpthread.so.0", "libutil.so.1"}
 
 
 def _library(folder: str) -> str:
@@ -21,21 +34,36 @@ def _library(folder: str) -> str:
     return os.path.join(folder, "lib", "libinfer.so")
 
 
-def _contents(folder: str, tag: str) -> dict[str, bytes]:
+def _platforms(library: str) -> list[str]:
+    """The platforms of the tag: both names of manylinux2014 if the library needs no more than that has, by readelf."""
+    system, _, machine = sysconfig.get_platform().partition("-")
+    plain = [f"{system}-{machine}".replace("-", "_").replace(".", "_")]
+    words = ["readelf", "--wide", "--dynamic", "--version-info", library]
+    try:
+        shown = subprocess.run(words, env=os.environ | {"LC_ALL": "C"}, check=True, capture_output=True, text=True).stdout
+    except (OSError, subprocess.CalledProcessError):
+        return plain
+    libraries = set(re.findall(r"\(NEEDED\).*\[(.*)\]", shown))
+    versions = re.findall(r"Name: (\S+)", shown.partition("Version needs section")[2])
+    found = [re.fullmatch(r"GLIBC_(\d+)\.(\d+)(?:\.\d+)?", version) for version in versions]
+    fits = system == "linux" and libraries <= OLD_LIBRARIES and all(it and (int(it[1]), int(it[2])) <= OLDEST_GLIBC for it in found)
+    return [f"manylinux_2_17_{machine}", f"manylinux2014_{machine}"] if fits else plain
+
+
+def _contents(library: str, tags: list[str]) -> dict[str, bytes]:
     """The files of the wheel by their names."""
     source = os.path.join(HERE, "src", "infer")
     paths = {f"infer/{name}": os.path.join(source, name) for name in sorted(os.listdir(source)) if name.endswith((".py", ".typed"))}
-    paths |= {"infer/aliases.def": os.path.join(ROOT, "data", "aliases.def"), "infer/libinfer.so": _library(folder)}
+    paths |= {"infer/aliases.def": os.path.join(ROOT, "data", "aliases.def"), "infer/libinfer.so": library}
     paths |= {f"{NAME}-{VERSION}.dist-info/LICENSE": os.path.join(ROOT, "LICENSE")}
     files = {}
     for name, path in paths.items():
         with open(path, "rb") as file:
             files[name] = file.read()
-    files[f"{NAME}-{VERSION}.dist-info/METADATA"] = (
-        "Metadata-Version: 2.1\nName: hoarvelt-infer\nVersion: " + VERSION + "\n"
-        "Summary: The type of a file from its first bytes\nLicense: MIT\nRequires-Python: >=3.9\n"
-    ).encode()
-    files[f"{NAME}-{VERSION}.dist-info/WHEEL"] = f"Wheel-Version: 1.0\nGenerator: backend.py\nRoot-Is-Purelib: false\nTag: {tag}\n".encode()
+    with open(os.path.join(HERE, "README.md"), "rb") as file:
+        files[f"{NAME}-{VERSION}.dist-info/METADATA"] = METADATA.encode() + file.read()
+    wheel = "Wheel-Version: 1.0\nGenerator: backend.py\nRoot-Is-Purelib: false\n" + "".join(f"Tag: {tag}\n" for tag in tags)
+    files[f"{NAME}-{VERSION}.dist-info/WHEEL"] = wheel.encode()
     return files
 
 
@@ -48,13 +76,17 @@ def _record(files: dict[str, bytes]) -> bytes:
 
 
 def build_wheel(wheel_directory: str, config_settings: object = None, metadata_directory: object = None) -> str:
-    tag = "py3-none-" + sysconfig.get_platform().replace("-", "_").replace(".", "_")
-    wheel = f"{NAME}-{VERSION}-{tag}.whl"
-    with tempfile.TemporaryDirectory() as folder, zipfile.ZipFile(os.path.join(wheel_directory, wheel), "w", zipfile.ZIP_DEFLATED) as out:
-        files = _contents(folder, tag)
-        files[f"{NAME}-{VERSION}.dist-info/RECORD"] = _record(files)
+    with tempfile.TemporaryDirectory() as folder:
+        library = _library(folder)
+        platforms = _platforms(library)
+        files = _contents(library, [f"py3-none-{platform}" for platform in platforms])
+    files[f"{NAME}-{VERSION}.dist-info/RECORD"] = _record(files)
+    wheel = f"{NAME}-{VERSION}-py3-none-{'.'.join(platforms)}.whl"
+    with zipfile.ZipFile(os.path.join(wheel_directory, wheel), "w") as out:
         for name, data in files.items():
-            out.writestr(zipfile.ZipInfo(name), data)
+            entry = zipfile.ZipInfo(name)
+            entry.external_attr = 0o100644 << 16
+            out.writestr(entry, data, zipfile.ZIP_DEFLATED)
     return wheel
 
 

@@ -8,124 +8,134 @@ The names are those of filetype.py: `guess` takes a path, bytes or a file that i
 `Type` or None. `infer.magic` has the names of python-magic, and `infer.aliases` other names of the types."""
 from __future__ import annotations
 
-import ctypes
 import os
-from typing import BinaryIO, NamedTuple, Union
+from collections.abc import Iterable, Iterator
+from itertools import takewhile
+from typing import Union
+
+from . import _library
+from ._source import FRONT, Readable, Source, get_bytes
 
 __all__ = [
-    "Type", "types", "version", "guess", "guess_mime", "guess_extension", "verdict", "get_type", "is_extension", "is_mime",
-    "is_extension_supported", "is_mime_supported", "is_app", "is_archive", "is_audio", "is_book", "is_document", "is_font",
-    "is_image", "is_video",
+    "FRONT", "Readable", "Source", "TYPES", "Type", "add_type", "application_match", "application_matchers", "archive_match",
+    "archive_matchers", "audio_match", "audio_matchers", "document_match", "document_matchers", "font_match", "font_matchers",
+    "get_bytes", "get_signature_bytes", "get_type", "guess", "guess_extension", "guess_mime", "image_match", "image_matchers",
+    "is_app", "is_archive", "is_audio", "is_book", "is_document", "is_extension", "is_extension_supported", "is_font",
+    "is_image", "is_mime", "is_mime_supported", "is_video", "match", "signature", "types", "verdict", "version", "video_match",
+    "video_matchers",
 ]
 
-FRONT = 8192
-"""How many bytes of a path or a file are looked at."""
-_SYSTEM_LIBRARY = "libinfer.so.0.1"
 
-Source = Union[str, "os.PathLike[str]", bytes, bytearray, memoryview, BinaryIO]
+class Type:
+    """A type: its MIME type, its usual extension without a dot, and its class, such as "image".
 
+    A type of your own is a subclass with a `match`, and `add_type` takes an instance of it."""
 
-class Type(NamedTuple):
-    """A type: its MIME type, its usual extension without a dot, and its class, such as "image"."""
+    def __init__(self, mime: str, extension: str, group: str = "custom") -> None:
+        self._values = (mime, extension, group)
 
-    mime: str
-    extension: str
-    group: str
+    @property
+    def mime(self) -> str:
+        """The MIME type."""
+        return self._values[0]
 
+    @property
+    def extension(self) -> str:
+        """The usual extension, without a dot."""
+        return self._values[1]
 
-def _load() -> ctypes.CDLL:
-    beside = os.path.join(os.path.dirname(os.path.abspath(__file__)), "libinfer.so")
-    path = os.environ.get("INFER_LIBRARY") or (beside if os.path.exists(beside) else _SYSTEM_LIBRARY)
-    try:
-        return ctypes.CDLL(path)
-    except OSError as fault:
-        raise ImportError(f"no {path}: c/install makes it, and INFER_LIBRARY can name it ({fault})") from None
+    @property
+    def group(self) -> str:
+        """The class."""
+        return self._values[2]
 
+    def is_mime(self, mime: str) -> bool:
+        """Whether this is its MIME type."""
+        return self.mime == mime
 
-_library = _load()
-_buffer, _size, _row = ctypes.c_char_p, ctypes.c_size_t, ctypes.c_int32
+    def is_extension(self, extension: str) -> bool:
+        """Whether this is its usual extension."""
+        return self.extension == extension
 
+    def match(self, buf: bytes) -> bool:
+        """Whether the type accepts the first bytes. It need not be the answer of `guess`."""
+        row = _row_of.get(self._values)
+        if row is None:
+            raise NotImplementedError(f"{self!r} is no type of the library, so its class has to say what `match` answers")
+        front = get_bytes(buf)
+        return _library.accepts(front, len(front), row)
 
-def _declare(name: str, result: object, *arguments: object):
-    function = getattr(_library, name)
-    function.restype, function.argtypes = result, arguments
-    return function
+    def __iter__(self) -> Iterator[str]:
+        return iter(self._values)
 
+    def __eq__(self, other: object) -> bool:
+        return isinstance(other, Type) and self._values == other._values
 
-_position = _declare("infer_position", _row, _buffer, _size)
-_verdict = _declare("infer_verdict", _row, _buffer, _size, ctypes.POINTER(ctypes.c_bool))
-_is = _declare("infer_is", ctypes.c_bool, _buffer, _size, _buffer, _size)
-_is_mime = _declare("infer_is_mime", ctypes.c_bool, _buffer, _size, _buffer, _size)
-_is_supported = _declare("infer_is_supported", ctypes.c_bool, _buffer, _size)
-_is_mime_supported = _declare("infer_is_mime_supported", ctypes.c_bool, _buffer, _size)
-_CLASSES = {
-    name: _declare(f"infer_is_{name}", ctypes.c_bool, _buffer, _size)
-    for name in ["app", "archive", "audio", "book", "document", "font", "image", "video"]
-}
+    def __hash__(self) -> int:
+        return hash(self._values)
 
-
-def _texts() -> tuple[tuple[Type, ...], str]:
-    """The rows and the version, read once."""
-    out = ctypes.create_string_buffer(256)
-    mime_type, extension, class_name = (
-        _declare(name, _size, _row, ctypes.c_char_p, _size) for name in ["infer_mime_type", "infer_extension", "infer_class_name"]
-    )
-    class_code = _declare("infer_class", ctypes.c_int32, _row)
-    row_count = _declare("infer_row_count", _size)
-
-    def text(function, *words: int) -> str:
-        size = function(*words, out, len(out))
-        assert size < len(out)
-        return out.raw[:size].decode("ascii")
-
-    rows = tuple(Type(text(mime_type, row), text(extension, row), text(class_name, class_code(row))) for row in range(row_count()))
-    return rows, text(_declare("infer_version", _size, ctypes.c_char_p, _size))
+    def __repr__(self) -> str:
+        return f"{type(self).__name__}(mime={self.mime!r}, extension={self.extension!r}, group={self.group!r})"
 
 
-types: tuple[Type, ...]
-"""All types, in the order in which they are asked."""
 version: str
 """The version of the library."""
-types, version = _texts()
+_texts, version = _library.texts()
+__version__ = version
+_rows = tuple(Type(*texts) for texts in _texts)
+_row_of = {tuple(kind): row for row, kind in enumerate(_rows)}
+types: list[Type] = list(_rows)
+"""All types, in the order in which they are asked. `guess` asks those that stand before the library's own too."""
+TYPES = types
 
 
-def _read(file: BinaryIO) -> bytes:
-    parts, left = [], FRONT
-    while left > 0:
-        part = file.read(left)
-        if not part:
-            break
-        parts.append(part)
-        left -= len(part)
-    return b"".join(parts)
+def _of_group(group: str) -> tuple[Type, ...]:
+    return tuple(kind for kind in _rows if kind.group == group)
 
 
-def _front(source: Source) -> bytes:
-    """The first bytes of a source. The place of a file that can seek is put back."""
-    if isinstance(source, bytes):
-        return source
-    if isinstance(source, (bytearray, memoryview)):
-        return bytes(memoryview(source).cast("B")[:FRONT])
-    if isinstance(source, (str, os.PathLike)):
-        with open(source, "rb", buffering=0) as file:
-            return _read(file)
-    if not hasattr(source, "read"):
-        raise TypeError(f"a path, bytes or a file is wanted, and not {type(source)}")
-    if not (hasattr(source, "seekable") and source.seekable()):
-        return _read(source)
-    place = source.tell()
-    source.seek(0)
-    try:
-        return _read(source)
-    finally:
-        source.seek(place)
+application_matchers = _of_group("app")
+archive_matchers = _of_group("archive")
+audio_matchers = _of_group("audio")
+document_matchers = _of_group("doc")
+font_matchers = _of_group("font")
+image_matchers = _of_group("image")
+video_matchers = _of_group("video")
+
+
+def _added() -> Iterator[Type]:
+    """The types that stand before the library's."""
+    return takewhile(lambda kind: kind is not _rows[0], types)
+
+
+def _accepting(front: bytes) -> Iterator[Type]:
+    """Those of them that accept the first bytes. As in filetype.py none is asked about nothing, so `match` may look at a byte."""
+    return (kind for kind in _added() if front and kind.match(front))
+
+
+def add_type(instance: Type) -> None:
+    """Puts a type of your own before all others."""
+    if not isinstance(instance, Type):
+        raise TypeError(f"hand over an instance of a subclass of infer.Type, and not {type(instance).__name__}")
+    types.insert(0, instance)
+
+
+def get_signature_bytes(path: Union[str, os.PathLike[str], os.PathLike[bytes]]) -> bytes:
+    """The first 8192 bytes of the file at that path."""
+    return get_bytes(path)
+
+
+def signature(array: Union[bytes, bytearray, memoryview]) -> bytes:
+    """The first 8192 bytes of these."""
+    return get_bytes(array)
 
 
 def guess(obj: Source) -> Type | None:
     """The type of the first bytes, or None."""
-    front = _front(obj)
-    row = _position(front, min(len(front), FRONT))
-    return types[row] if row >= 0 else None
+    front = get_bytes(obj)
+    if types[0] is not _rows[0] and (kind := next(_accepting(front), None)):
+        return kind
+    row = _library.position(front, len(front))
+    return _rows[row] if row >= 0 else None
 
 
 def guess_mime(obj: Source) -> str | None:
@@ -141,10 +151,12 @@ def guess_extension(obj: Source) -> str | None:
 
 
 def verdict(obj: Source) -> tuple[Type | None, bool]:
-    """What `guess` answers, and whether no bytes that may follow can change it."""
-    front, is_final = _front(obj), ctypes.c_bool()
-    row = _verdict(front, min(len(front), FRONT), ctypes.byref(is_final))
-    return types[row] if row >= 0 else None, is_final.value
+    """What `guess` answers, and whether no bytes that may follow can change it. With added types that is never said."""
+    front = get_bytes(obj)
+    if types[0] is not _rows[0]:
+        return guess(front), False
+    row, is_final = _library.verdict(front)
+    return _rows[row] if row >= 0 else None, is_final
 
 
 def get_type(mime: str | None = None, ext: str | None = None) -> Type | None:
@@ -152,33 +164,83 @@ def get_type(mime: str | None = None, ext: str | None = None) -> Type | None:
     return next((kind for kind in types if kind.mime == mime or kind.extension == ext), None)
 
 
+def _encoded(text: str) -> bytes:
+    if not isinstance(text, str):
+        raise TypeError(f"hand over a str, and not {type(text).__name__}")
+    # A text that is not Unicode is nobody's.
+    return text.encode("utf-8", "surrogatepass")
+
+
 def is_extension(obj: Source, ext: str) -> bool:
     """Whether some type with this extension accepts the first bytes. It need not be the answer of `guess`."""
-    front, text = _front(obj), ext.encode("utf-8", "surrogateescape")
-    return _is(front, min(len(front), FRONT), text, len(text))
+    front, text = get_bytes(obj), _encoded(ext)
+    return any(kind.extension == ext for kind in _accepting(front)) or _library.is_(front, len(front), text, len(text))
 
 
 def is_mime(obj: Source, mime: str) -> bool:
     """Whether some type with this MIME type accepts the first bytes. It need not be the answer of `guess`."""
-    front, text = _front(obj), mime.encode("utf-8", "surrogateescape")
-    return _is_mime(front, min(len(front), FRONT), text, len(text))
+    front, text = get_bytes(obj), _encoded(mime)
+    return any(kind.mime == mime for kind in _accepting(front)) or _library.is_mime(front, len(front), text, len(text))
 
 
 def is_extension_supported(ext: str) -> bool:
     """Whether some type has this extension."""
-    text = ext.encode("utf-8", "surrogateescape")
-    return _is_supported(text, len(text))
+    text = _encoded(ext)
+    return any(kind.extension == ext for kind in _added()) or _library.is_supported(text, len(text))
 
 
 def is_mime_supported(mime: str) -> bool:
     """Whether some type has this MIME type."""
-    text = mime.encode("utf-8", "surrogateescape")
-    return _is_mime_supported(text, len(text))
+    text = _encoded(mime)
+    return any(kind.mime == mime for kind in _added()) or _library.is_mime_supported(text, len(text))
+
+
+def match(obj: Source, matchers: Iterable[Type] = types) -> Type | None:
+    """The first of these types that accepts the first bytes, or None. Without a list it is what `guess` answers."""
+    if matchers is types:
+        return guess(obj)
+    front = get_bytes(obj)
+    return next((kind for kind in matchers if kind.match(front)), None)
+
+
+def application_match(obj: Source) -> Type | None:
+    """The first program's type that accepts the first bytes. As of the six below, it need not be the answer of `guess`."""
+    return match(obj, application_matchers)
+
+
+def archive_match(obj: Source) -> Type | None:
+    """The first archive's type that accepts the first bytes."""
+    return match(obj, archive_matchers)
+
+
+def audio_match(obj: Source) -> Type | None:
+    """The first sound's type that accepts the first bytes."""
+    return match(obj, audio_matchers)
+
+
+def document_match(obj: Source) -> Type | None:
+    """The first document's type that accepts the first bytes."""
+    return match(obj, document_matchers)
+
+
+def font_match(obj: Source) -> Type | None:
+    """The first font's type that accepts the first bytes."""
+    return match(obj, font_matchers)
+
+
+def image_match(obj: Source) -> Type | None:
+    """The first image's type that accepts the first bytes."""
+    return match(obj, image_matchers)
+
+
+def video_match(obj: Source) -> Type | None:
+    """The first film's type that accepts the first bytes."""
+    return match(obj, video_matchers)
 
 
 def _is_of_class(name: str, obj: Source) -> bool:
-    front = _front(obj)
-    return _CLASSES[name](front, min(len(front), FRONT))
+    front = get_bytes(obj)
+    return _library.of_class[name](front, len(front))
 
 
 def is_app(obj: Source) -> bool:

@@ -3,50 +3,81 @@
 from __future__ import annotations
 
 import os
-from typing import Union
+from typing import NoReturn, Union
 
-from . import Type, guess
+from . import get_bytes, guess
 
-__all__ = ["Magic", "MagicException", "from_buffer", "from_file", "from_descriptor"]
+__all__ = ["Magic", "MagicException", "from_buffer", "from_file", "from_descriptor", "version"]
 
-Path = Union[str, "os.PathLike[str]"]
-Buffer = Union[bytes, bytearray, memoryview]
+Path = Union[str, bytes, "os.PathLike[str]", "os.PathLike[bytes]"]
+Buffer = Union[str, bytes, bytearray, memoryview]
 
 
 class MagicException(Exception):
-    """What is asked for is not told."""
+    """What is asked for is not told. The attribute `message` has the text."""
+
+    def __init__(self, message: str) -> None:
+        super().__init__(message)
+        self.message = message
 
 
 class Magic:
     """As python-magic's class, which is made once and asked often."""
 
-    def __init__(self, mime: bool = False, extension: bool = False) -> None:
-        if mime == extension:
+    def __init__(
+        self,
+        mime: bool = False,
+        magic_file: Path | None = None,
+        mime_encoding: bool = False,
+        keep_going: bool = False,
+        uncompress: bool = False,
+        raw: bool = False,
+        extension: bool = False,
+    ) -> None:
+        # `raw` is taken: all answers are ASCII, so nothing of them is escaped.
+        refused = {
+            "magic_file": (magic_file is not None, "the signatures are part of the library"),
+            "mime_encoding": (mime_encoding, "no encoding of a text is told"),
+            "keep_going": (keep_going, "there is one answer; infer.match takes a list of the types to ask"),
+            "uncompress": (uncompress, "nothing is unpacked: unpack it first, and ask about what comes out"),
+        }
+        for name, (is_wanted, why) in refused.items():
+            if is_wanted:
+                raise MagicException(f"{name} is not taken: {why}")
+        if bool(mime) == bool(extension):
             raise MagicException("ask with mime=True or extension=True: there are no descriptions")
-        self._is_mime = mime
+        self._is_mime = bool(mime)
 
-    def _text(self, kind: Type | None, is_empty: bool) -> str:
+    def _text(self, front: bytes) -> str:
+        kind = guess(front)
         if not self._is_mime:
             return kind.extension if kind else "???"
-        return kind.mime if kind else "application/x-empty" if is_empty else "application/octet-stream"
+        return kind.mime if kind else "application/octet-stream" if front else "application/x-empty"
 
     def from_buffer(self, buf: Buffer) -> str:
-        """What the first bytes are."""
-        return self._text(guess(buf), len(buf) == 0)
+        """What the first bytes are. A text stands for its bytes in UTF-8."""
+        return self._text(get_bytes(buf.encode("utf-8", "replace") if isinstance(buf, str) else buf))
 
     def from_file(self, filename: Path) -> str:
         """What the file is by its first bytes."""
-        with open(filename, "rb") as file:
-            return self._text(guess(file), os.fstat(file.fileno()).st_size == 0)
+        return self._text(get_bytes(os.fsdecode(filename)))
 
     def from_descriptor(self, fd: int) -> str:
         """What the open file is by its first bytes. Its place stays, if it can seek."""
         with open(fd, "rb", buffering=0, closefd=False) as file:
-            return self._text(guess(file), os.fstat(fd).st_size == 0)
+            return self._text(get_bytes(file))
+
+    def setparam(self, param: int, val: int) -> NoReturn:
+        """Raises NotImplementedError, as python-magic does if libmagic has no limits to set."""
+        raise NotImplementedError("there are no limits to set: at most 8192 bytes are read")
+
+    def getparam(self, param: int) -> NoReturn:
+        """Raises NotImplementedError, as python-magic does if libmagic has no limits to set."""
+        raise NotImplementedError("there are no limits to set: at most 8192 bytes are read")
 
 
 def from_buffer(buffer: Buffer, mime: bool = False) -> str:
-    """What the first bytes are."""
+    """What the first bytes are. A text stands for its bytes in UTF-8."""
     return Magic(mime).from_buffer(buffer)
 
 
@@ -56,5 +87,10 @@ def from_file(filename: Path, mime: bool = False) -> str:
 
 
 def from_descriptor(fd: int, mime: bool = False) -> str:
-    """What the open file is by its first bytes."""
+    """What the open file is by its first bytes. Its place stays, if it can seek."""
     return Magic(mime).from_descriptor(fd)
+
+
+def version() -> NoReturn:
+    """Raises NotImplementedError, as python-magic does if libmagic tells no version: `infer.version` is the library's."""
+    raise NotImplementedError("libmagic is not used; infer.version is the version of the library")

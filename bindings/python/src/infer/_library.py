@@ -1,0 +1,68 @@
+"""The functions of the shared library, with their types."""
+from __future__ import annotations
+
+import ctypes
+import os
+from collections.abc import Callable
+from typing import Any
+
+_SYSTEM_LIBRARY = "libinfer.so.0.1"
+
+
+def _load() -> ctypes.CDLL:
+    beside = os.path.join(os.path.dirname(os.path.abspath(__file__)), "libinfer.so")
+    path = os.environ.get("INFER_LIBRARY") or (beside if os.path.exists(beside) else _SYSTEM_LIBRARY)
+    try:
+        return ctypes.CDLL(path)
+    except OSError as fault:
+        raise ImportError(f"no {path}: c/install makes it, and INFER_LIBRARY can name it ({fault})") from None
+
+
+_library = _load()
+_BUFFER, _SIZE, _ROW = ctypes.c_char_p, ctypes.c_size_t, ctypes.c_int32
+
+
+def _declare(name: str, result: object, *arguments: object) -> Any:
+    function = getattr(_library, name)
+    function.restype, function.argtypes = result, arguments
+    return function
+
+
+_Ask = Callable[[bytes, int], bool]
+_AskByText = Callable[[bytes, int, bytes, int], bool]
+
+position: Callable[[bytes, int], int] = _declare("infer_position", _ROW, _BUFFER, _SIZE)
+accepts: Callable[[bytes, int, int], bool] = _declare("infer_accepts", ctypes.c_bool, _BUFFER, _SIZE, _ROW)
+is_: _AskByText = _declare("infer_is", ctypes.c_bool, _BUFFER, _SIZE, _BUFFER, _SIZE)
+is_mime: _AskByText = _declare("infer_is_mime", ctypes.c_bool, _BUFFER, _SIZE, _BUFFER, _SIZE)
+is_supported: _Ask = _declare("infer_is_supported", ctypes.c_bool, _BUFFER, _SIZE)
+is_mime_supported: _Ask = _declare("infer_is_mime_supported", ctypes.c_bool, _BUFFER, _SIZE)
+of_class: dict[str, _Ask] = {
+    name: _declare(f"infer_is_{name}", ctypes.c_bool, _BUFFER, _SIZE)
+    for name in ["app", "archive", "audio", "book", "document", "font", "image", "video"]
+}
+_verdict: Callable[..., int] = _declare("infer_verdict", _ROW, _BUFFER, _SIZE, ctypes.POINTER(ctypes.c_bool))
+
+
+def verdict(front: bytes) -> tuple[int, bool]:
+    """The number of the answer's row or -1, and whether it is final."""
+    is_final = ctypes.c_bool()
+    return _verdict(front, len(front), ctypes.byref(is_final)), is_final.value
+
+
+def texts() -> tuple[list[tuple[str, str, str]], str]:
+    """The MIME type, the extension and the class of each row, and the version."""
+    out = ctypes.create_string_buffer(256)
+    mime_type, extension, class_name = (
+        _declare(name, _SIZE, _ROW, ctypes.c_char_p, _SIZE) for name in ["infer_mime_type", "infer_extension", "infer_class_name"]
+    )
+    class_code = _declare("infer_class", ctypes.c_int32, _ROW)
+    row_count = _declare("infer_row_count", _SIZE)
+
+    def text(function: Callable[..., int], *words: int) -> str:
+        size = function(*words, out, len(out))
+        assert size < len(out)
+        return out.raw[:size].decode("ascii")
+
+    rows = [(text(mime_type, row), text(extension, row), text(class_name, class_code(row))) for row in range(row_count())]
+    return rows, text(_declare("infer_version", _SIZE, ctypes.c_char_p, _SIZE))

@@ -1,0 +1,92 @@
+"""The first bytes of a path, of bytes or of a file."""
+from __future__ import annotations
+
+import os
+from collections.abc import Awaitable
+from typing import Any, Protocol, Union
+
+FRONT = 8192
+"""How many bytes are looked at."""
+
+
+class Readable(Protocol):
+    """A file that is open for reading bytes. None says that there are none yet, as in `io.RawIOBase`."""
+
+    def read(self, size: int, /) -> bytes | None:
+        """At most so many bytes, and none at the end."""
+
+
+Source = Union[str, "os.PathLike[str]", "os.PathLike[bytes]", bytes, bytearray, memoryview, Readable]
+
+
+def get_bytes(obj: Source) -> bytes:
+    """The first 8192 bytes. The place of a file is put back if its `tell` and `seek` work."""
+    if isinstance(obj, bytes):
+        return obj[:FRONT]
+    if isinstance(obj, (bytearray, memoryview)):
+        return _of_view(memoryview(obj))
+    if isinstance(obj, (str, os.PathLike)):
+        with open(obj, "rb", buffering=0) as file:
+            return _read(file)
+    if not hasattr(obj, "read"):
+        raise TypeError(f"hand over a path, bytes, or a file that is open for reading bytes, and not {type(obj).__name__}")
+    place = _place(obj)
+    if place is None:
+        return _read(obj)
+    try:
+        return _read(obj)
+    finally:
+        obj.seek(place)  # type: ignore[attr-defined]
+
+
+def _of_view(view: memoryview) -> bytes:
+    """The first bytes of a view of any format, shape and step. No more is copied than the entries that hold them."""
+    if view.nbytes == 0:
+        return b""
+    entries = view[: FRONT * view.shape[0] // view.nbytes + 1] if view.shape else view
+    return entries.tobytes()[:FRONT]
+
+
+def _place(file: Any) -> int | None:
+    """Where the file stood before it went to its front, or None if it cannot go back and so stays where it is.
+
+    What `seekable` says is not asked: `tempfile.SpooledTemporaryFile` has none before Python 3.11."""
+    try:
+        place = file.tell()
+        _refuse_if_asynchronous(place)
+        if not isinstance(place, int):
+            return None
+        _refuse_if_asynchronous(file.seek(0))
+    except (AttributeError, NotImplementedError, OSError):
+        return None
+    return place
+
+
+def _read(file: Readable) -> bytes:
+    parts: list[bytes] = []
+    left = FRONT
+    while left > 0:
+        part = file.read(left)
+        if part is None and not parts:
+            raise BlockingIOError("the file does not block and has no bytes yet: hand it over again when it has some")
+        if part is None or not _is_bytes(part):
+            break
+        parts.append(bytes(part))
+        left -= len(parts[-1])
+    return b"".join(parts)[:FRONT]
+
+
+def _is_bytes(part: object) -> bool:
+    """Whether `read` gave bytes: some, and not the end."""
+    _refuse_if_asynchronous(part)
+    if not isinstance(part, (bytes, bytearray, memoryview)):
+        raise TypeError(f"`read` gives {type(part).__name__} and not bytes: open the file for reading bytes, as in mode 'rb'")
+    return len(part) > 0
+
+
+def _refuse_if_asynchronous(answer: object) -> None:
+    if isinstance(answer, Awaitable):
+        # Without this Python warns of a coroutine that nobody awaited.
+        if hasattr(answer, "close"):
+            answer.close()
+        raise TypeError("the file is asynchronous: await its first 8192 bytes, and hand over these")
