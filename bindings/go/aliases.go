@@ -1,7 +1,7 @@
 package infer
 
 /*
-#include "aliases.h"
+#include "library.h"
 
 static const struct infer_alias *alias_at(size_t at) { return &infer_aliases[at]; }
 */

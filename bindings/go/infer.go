@@ -2,9 +2,8 @@
 package infer
 
 /*
-#cgo CFLAGS: -I${SRCDIR}/../../c -I${SRCDIR}/../../data
-#cgo LDFLAGS: ${SRCDIR}/../../c/out/libinfer.a
-#include "infer.h"
+#cgo LDFLAGS: ${SRCDIR}/libinfer.a
+#include "library.h"
 
 // For an argument of the type void * Go allocates, and for one that C writes to. These have none.
 static int32_t position(const uint8_t *buf, size_t len) { return infer_position(buf, len); }
@@ -17,6 +16,7 @@ static bool is(const uint8_t *buf, size_t len, _GoString_ text) { return infer_i
 static bool is_mime(const uint8_t *buf, size_t len, _GoString_ text) { return infer_is_mime(buf, len, _GoStringPtr(text), _GoStringLen(text)); }
 static bool is_supported(_GoString_ text) { return infer_is_supported(_GoStringPtr(text), _GoStringLen(text)); }
 static bool is_mime_supported(_GoString_ text) { return infer_is_mime_supported(_GoStringPtr(text), _GoStringLen(text)); }
+static size_t sample(int32_t row, uint8_t *out, size_t size) { return infer_sample(row, out, size); }
 static bool is_app(const uint8_t *buf, size_t len) { return infer_is_app(buf, len); }
 static bool is_archive(const uint8_t *buf, size_t len) { return infer_is_archive(buf, len); }
 static bool is_audio(const uint8_t *buf, size_t len) { return infer_is_audio(buf, len); }
@@ -29,6 +29,7 @@ static bool is_video(const uint8_t *buf, size_t len) { return infer_is_video(buf
 import "C"
 
 import (
+	"bufio"
 	"io"
 	"os"
 	"sync"
@@ -111,7 +112,7 @@ func Verdict(b []byte) (found Type, ok bool, final bool) {
 
 var fronts = sync.Pool{New: func() any { return new([Front]byte) }}
 
-// DetectReader tells the type of the first 8192 bytes of a reader, and takes no others.
+// DetectReader tells the type of the first 8192 bytes of a reader, which are gone from it then. It takes no others.
 func DetectReader(r io.Reader) (Type, bool, error) {
 	front := fronts.Get().(*[Front]byte)
 	defer fronts.Put(front)
@@ -121,6 +122,18 @@ func DetectReader(r io.Reader) (Type, bool, error) {
 	}
 	found, ok := Detect(front[:count])
 	return found, ok, nil
+}
+
+// DetectWhole tells the same, and gives a reader of the whole: those bytes and then the rest. If a read fails, it gives
+// what came before. A *bufio.Reader of at least 8192 bytes is given back itself, with nothing taken from it.
+func DetectWhole(r io.Reader) (found Type, ok bool, whole *bufio.Reader, err error) {
+	whole = bufio.NewReaderSize(r, Front)
+	front, err := whole.Peek(Front)
+	if err != nil && err != io.EOF {
+		return Type{}, false, whole, err
+	}
+	found, ok = Detect(front)
+	return found, ok, whole, nil
 }
 
 // DetectFile tells the type of the first 8192 bytes of a file.
@@ -195,5 +208,5 @@ func Sample(number int) []byte {
 		return nil
 	}
 	out := make([]byte, 640)
-	return out[:C.infer_sample(C.int32_t(number), unsafe.Pointer(&out[0]), 640)]
+	return out[:C.sample(C.int32_t(number), first(out), 640)]
 }

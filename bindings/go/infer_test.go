@@ -1,12 +1,14 @@
 package infer
 
 import (
+	"bufio"
 	"bytes"
 	"encoding/hex"
 	"errors"
 	"io"
 	"os"
 	"path/filepath"
+	"runtime/debug"
 	"strconv"
 	"strings"
 	"sync"
@@ -193,21 +195,64 @@ func TestBytesBesidePointers(t *testing.T) {
 	}
 }
 
-func TestNoCallAllocates(t *testing.T) {
-	extension, reader := strings.Clone("jpg"), bytes.NewReader(jpeg)
-	calls := map[string]func(){
-		"Detect":       func() { Detect(jpeg) },
-		"Verdict":      func() { Verdict(jpeg) },
-		"Is":           func() { Is(jpeg, extension) },
-		"IsMIMEType":   func() { IsMIMEType(jpeg, extension) },
-		"IsImage":      func() { IsImage(jpeg) },
-		"IsSupported":  func() { IsSupported(extension) },
-		"Target":       func() { Target(OtherExtension, extension) },
-		"DetectReader": func() { reader.Reset(jpeg); DetectReader(reader) },
+func TestWholeReaders(t *testing.T) {
+	data := append(append([]byte{}, jpeg...), make([]byte, 3*Front)...)
+	late := append(bytes.Repeat([]byte(" "), 8190), "<p>"...)
+	for _, it := range []struct {
+		data []byte
+		ok   bool
+	}{{data, true}, {data[:Front], true}, {jpeg, true}, {nil, false}, {late, false}} {
+		for _, r := range []io.Reader{bytes.NewReader(it.data), iotest.OneByteReader(bytes.NewReader(it.data)), iotest.DataErrReader(bytes.NewReader(it.data))} {
+			_, ok, whole, err := DetectWhole(r)
+			if all, fault := io.ReadAll(whole); ok != it.ok || err != nil || fault != nil || !bytes.Equal(all, it.data) {
+				t.Error(len(it.data), ok, err, fault, len(all))
+			}
+		}
 	}
-	for name, call := range calls {
+	large := bufio.NewReaderSize(bytes.NewReader(data), 2*Front)
+	if found, _, whole, _ := DetectWhole(large); found != want || whole != large {
+		t.Error(found)
+	}
+	fault := errors.New("fault")
+	_, ok, whole, err := DetectWhole(io.MultiReader(bytes.NewReader(jpeg), iotest.ErrReader(fault)))
+	if all, after := io.ReadAll(whole); ok || err != fault || after != fault || !bytes.Equal(all, jpeg) {
+		t.Error(ok, err, after, all)
+	}
+}
+
+// What the page says of allocations.
+func TestAllocations(t *testing.T) {
+	defer debug.SetGCPercent(debug.SetGCPercent(-1))
+	extension, reader := strings.Clone("jpg"), bytes.NewReader(jpeg)
+	large := bufio.NewReaderSize(reader, Front)
+	calls := map[string]struct {
+		count float64
+		call  func()
+	}{
+		"Detect":              {0, func() { Detect(jpeg) }},
+		"Verdict":             {0, func() { Verdict(jpeg) }},
+		"Is":                  {0, func() { Is(jpeg, extension) }},
+		"IsMIMEType":          {0, func() { IsMIMEType(jpeg, extension) }},
+		"IsSupported":         {0, func() { IsSupported(extension) }},
+		"IsMIMETypeSupported": {0, func() { IsMIMETypeSupported(extension) }},
+		"IsApp":               {0, func() { IsApp(jpeg) }},
+		"IsArchive":           {0, func() { IsArchive(jpeg) }},
+		"IsAudio":             {0, func() { IsAudio(jpeg) }},
+		"IsBook":              {0, func() { IsBook(jpeg) }},
+		"IsDocument":          {0, func() { IsDocument(jpeg) }},
+		"IsFont":              {0, func() { IsFont(jpeg) }},
+		"IsImage":             {0, func() { IsImage(jpeg) }},
+		"IsVideo":             {0, func() { IsVideo(jpeg) }},
+		"Target":              {0, func() { Target(OtherExtension, extension) }},
+		"DetectReader":        {0, func() { reader.Reset(jpeg); DetectReader(reader) }},
+		"DetectWhole":         {2, func() { reader.Reset(jpeg); DetectWhole(reader) }},
+		"DetectWhole, large":  {0, func() { reader.Reset(jpeg); large.Reset(reader); DetectWhole(large) }},
+		"Types":               {1, func() { Types() }},
+		"Sample":              {1, func() { Sample(1) }},
+	}
+	for name, it := range calls {
 		// The race detector drops some of what a pool keeps.
-		if count := testing.AllocsPerRun(1000, call); count != 0 && !(isRace && name == "DetectReader") {
+		if count := testing.AllocsPerRun(1000, it.call); count != it.count && !(isRace && name == "DetectReader") {
 			t.Error(name, count)
 		}
 	}
