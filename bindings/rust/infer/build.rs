@@ -1,18 +1,47 @@
-//! Links with the library for C, from the folder that `INFER_LIB_DIR` names, or from `c/out` of the repository.
+//! Writes the table of the aliases, and links with the library for C, from the folder that `INFER_LIB_DIR` names, or from
+//! `c/out` of the repository. Without the library all goes but linking.
 
-use std::env;
-use std::path::PathBuf;
+use std::path::{Path, PathBuf};
+use std::{env, fs};
+
+/// The words of the lines, and the kinds of `src/aliases.rs`, in their order.
+const KINDS: [(&str, &str); 4] = [("EXTENSION", "Extension"), ("MIME_TYPE", "MimeType"), ("BROWSER", "Browser"), ("BUILT_ON", "BuiltOn")];
 
 fn main() {
+    let here = PathBuf::from(variable("CARGO_MANIFEST_DIR"));
+    let lines = here.join("aliases.def");
+    println!("cargo:rerun-if-changed={}", lines.display());
+    let text = fs::read_to_string(&lines).expect("aliases.def is part of the package");
+    fs::write(Path::new(&variable("OUT_DIR")).join("aliases.rs"), table(&text)).expect("Cargo's folder can be written to");
+    link(env::var_os("INFER_LIB_DIR").map_or(here.join("../../../c/out"), PathBuf::from));
+}
+
+fn variable(name: &str) -> String {
+    env::var(name).expect("Cargo sets its variables")
+}
+
+/// A slice of a kind, an alias and a target for each line, in order.
+fn table(text: &str) -> String {
+    let mut all: Vec<_> = text.lines().filter_map(parts).collect();
+    all.sort();
+    let entries: String =
+        all.iter().map(|(kind, alias, target)| format!("    (Kind::{}, {alias:?}, {target:?}),\n", KINDS[*kind].1)).collect();
+    format!("&[\n{entries}]\n")
+}
+
+/// The place of its kind, the alias and the target, of a line that has them.
+fn parts(line: &str) -> Option<(usize, &str, &str)> {
+    let (word, rest) = line.split_once("(\"")?;
+    let (alias, target) = rest.strip_suffix("\")")?.split_once("\", \"")?;
+    Some((KINDS.iter().position(|(kind, _)| *kind == word)?, alias, target))
+}
+
+fn link(folder: PathBuf) {
     println!("cargo:rerun-if-env-changed=INFER_LIB_DIR");
-    let folder = match env::var_os("INFER_LIB_DIR") {
-        Some(folder) => PathBuf::from(folder),
-        None => PathBuf::from(env::var_os("CARGO_MANIFEST_DIR").unwrap()).join("../../../c/out"),
-    };
     let library = folder.join("libinfer.a");
     println!("cargo:rerun-if-changed={}", library.display());
     if !library.exists() {
-        panic!("no {}: c/build makes it, and INFER_LIB_DIR can name its folder", library.display());
+        println!("cargo:warning=no {}: c/build makes it, and INFER_LIB_DIR can name its folder", library.display());
     }
     println!("cargo:rustc-link-search=native={}", folder.display());
     println!("cargo:rustc-link-lib=static=infer");

@@ -1,12 +1,7 @@
 //! Other names of the types, from the data file that every language reads. Each leads to the extension of a type.
 
-use std::collections::HashMap;
-use std::sync::LazyLock;
-
-const LINES: &str = include_str!("../../../../data/aliases.def");
-
 /// The kind of an alias.
-#[derive(Debug, Copy, Clone, Eq, PartialEq, Hash)]
+#[derive(Debug, Copy, Clone, Eq, PartialEq, Ord, PartialOrd, Hash)]
 pub enum Kind {
     /// Another extension of a type, as "jpeg".
     Extension,
@@ -18,25 +13,16 @@ pub enum Kind {
     BuiltOn,
 }
 
+/// Each kind, alias and target, in order.
+static ALIASES: &[(Kind, &str, &str)] = include!(concat!(env!("OUT_DIR"), "/aliases.rs"));
+
 /// The extension of the type that an alias leads to.
 pub fn target(kind: Kind, alias: &str) -> Option<&'static str> {
-    static TARGETS: LazyLock<HashMap<(Kind, &str), &str>> =
-        LazyLock::new(|| all().map(|(kind, alias, target)| ((kind, alias), target)).collect());
-    TARGETS.get(&(kind, alias)).copied()
+    let at = ALIASES.binary_search_by(|it| (it.0, it.1).cmp(&(kind, alias))).ok()?;
+    Some(ALIASES[at].2)
 }
 
 /// Every alias, with its kind before it and its target after it.
 pub fn all() -> impl Iterator<Item = (Kind, &'static str, &'static str)> {
-    LINES.lines().filter_map(|line| {
-        let (kind, rest) = line.split_once("(\"")?;
-        let (alias, target) = rest.strip_suffix("\")")?.split_once("\", \"")?;
-        let kind = match kind {
-            "EXTENSION" => Kind::Extension,
-            "MIME_TYPE" => Kind::MimeType,
-            "BROWSER" => Kind::Browser,
-            "BUILT_ON" => Kind::BuiltOn,
-            _ => return None,
-        };
-        Some((kind, alias, target))
-    })
+    ALIASES.iter().copied()
 }

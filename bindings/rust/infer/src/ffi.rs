@@ -1,8 +1,13 @@
 //! The functions of `infer.h`, and the rows, which are read once.
 
 use crate::{MatcherType, Type};
-use std::ffi::{c_char, c_void};
-use std::sync::LazyLock;
+use alloc::boxed::Box;
+use alloc::string::String;
+use alloc::vec;
+use alloc::vec::Vec;
+use core::ffi::{c_char, c_void};
+use core::ptr;
+use core::sync::atomic::{AtomicI32, AtomicPtr, Ordering};
 
 mod c {
     use super::{c_char, c_void};
@@ -33,8 +38,9 @@ mod c {
 }
 
 macro_rules! of_buffers {
-    ($($name:ident = $function:ident),*) => {
+    ($($(#[$doc:meta])* $name:ident = $function:ident),*) => {
         $(
+            $(#[$doc])*
             pub fn $name(buf: &[u8]) -> bool {
                 // SAFETY: the pointer and the length are those of a slice, which the call only reads.
                 unsafe { c::$function(buf.as_ptr().cast(), buf.len()) }
@@ -46,18 +52,18 @@ macro_rules! of_buffers {
 of_buffers! {
     is_app = infer_is_app, is_archive = infer_is_archive, is_audio = infer_is_audio, is_book = infer_is_book,
     is_document = infer_is_document, is_font = infer_is_font, is_image = infer_is_image, is_video = infer_is_video,
-    is_coff_i386 = infer_is_coff_i386, is_coff_x64 = infer_is_coff_x64, is_coff_ia64 = infer_is_coff_ia64
+    /// Whether the buffer begins as a COFF object for the processor i386.
+    is_coff_i386 = infer_is_coff_i386,
+    /// Whether the buffer begins as a COFF object for the processor x64.
+    is_coff_x64 = infer_is_coff_x64,
+    /// Whether the buffer begins as a COFF object for the processor ia64.
+    is_coff_ia64 = infer_is_coff_ia64
 }
 
 /// The number of the first row that accepts the buffer. It is an index into [`rows`].
 pub fn position(buf: &[u8]) -> Option<usize> {
     // SAFETY: as above.
     usize::try_from(unsafe { c::infer_position(buf.as_ptr().cast(), buf.len()) }).ok()
-}
-
-pub fn accepts(buf: &[u8], row: i32) -> bool {
-    // SAFETY: as above; any row may be asked for.
-    unsafe { c::infer_accepts(buf.as_ptr().cast(), buf.len(), row) }
 }
 
 pub fn is(buf: &[u8], extension: &str) -> bool {
@@ -80,25 +86,63 @@ pub fn is_mime_supported(mime_type: &str) -> bool {
     unsafe { c::infer_is_mime_supported(mime_type.as_ptr().cast(), mime_type.len()) }
 }
 
-/// The rows, in the order in which they are asked.
+/// The rows, in the order in which they are asked. The first call reads them, without the standard library's locks.
 pub fn rows() -> &'static [Type] {
-    static ROWS: LazyLock<Vec<Type>> = LazyLock::new(|| {
-        // SAFETY: it takes nothing.
-        let count = unsafe { c::infer_row_count() };
-        (0..count as i32).map(|row| Type::of(class(row), text(c::infer_mime_type, row), text(c::infer_extension, row))).collect()
-    });
-    &ROWS
+    static ROWS: AtomicPtr<Vec<Type>> = AtomicPtr::new(ptr::null_mut());
+    let mut rows = ROWS.load(Ordering::Acquire);
+    if rows.is_null() {
+        let read = Box::into_raw(Box::new(read_rows()));
+        rows = match ROWS.compare_exchange(ptr::null_mut(), read, Ordering::AcqRel, Ordering::Acquire) {
+            Ok(_) => read,
+            // Another thread was first. What this one read stays allocated, with the texts that it holds.
+            Err(first) => first,
+        };
+    }
+    // SAFETY: the pointer is that of a box, which is neither freed nor written to again.
+    unsafe { &*rows }
 }
 
-/// The number of the row with this class and extension, or one that accepts nothing.
-pub fn row_with(class: MatcherType, extension: &str) -> i32 {
-    rows().iter().position(|it| it.matcher_type() == class && it.extension() == extension).map_or(-1, |row| row as i32)
+fn read_rows() -> Vec<Type> {
+    // SAFETY: it takes nothing.
+    let count = unsafe { c::infer_row_count() };
+    (0..count as i32).map(|row| Type::of(class(row), text(c::infer_mime_type, row), text(c::infer_extension, row))).collect()
+}
+
+/// The row with a class and an extension, which is looked for once.
+pub struct KnownRow {
+    class: MatcherType,
+    extension: &'static str,
+    number: AtomicI32,
+}
+
+impl KnownRow {
+    const UNKNOWN: i32 = -1;
+
+    pub const fn new(class: MatcherType, extension: &'static str) -> KnownRow {
+        KnownRow { class, extension, number: AtomicI32::new(KnownRow::UNKNOWN) }
+    }
+
+    pub fn accepts(&self, buf: &[u8]) -> bool {
+        // SAFETY: as above; any row may be asked for.
+        unsafe { c::infer_accepts(buf.as_ptr().cast(), buf.len(), self.number()) }
+    }
+
+    /// Its number. Each thread that finds it stores the same.
+    fn number(&self) -> i32 {
+        let mut number = self.number.load(Ordering::Relaxed);
+        if number == KnownRow::UNKNOWN {
+            let place = rows().iter().position(|it| it.matcher_type() == self.class && it.extension() == self.extension);
+            number = place.map_or(KnownRow::UNKNOWN, |row| row as i32);
+            self.number.store(number, Ordering::Relaxed);
+        }
+        number
+    }
 }
 
 /// A text of a row, which is kept as long as the program runs.
 fn text(read: unsafe extern "C" fn(i32, *mut c_char, usize) -> usize, row: i32) -> &'static str {
     // SAFETY: without room nothing is written, and the answer is the length.
-    let size = unsafe { read(row, std::ptr::null_mut(), 0) };
+    let size = unsafe { read(row, ptr::null_mut(), 0) };
     let mut out = vec![0_u8; size + 1];
     // SAFETY: `out` has room for the text and its zero.
     unsafe { read(row, out.as_mut_ptr().cast(), out.len()) };

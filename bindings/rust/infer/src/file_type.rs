@@ -1,4 +1,4 @@
-use std::fmt;
+use core::fmt;
 
 /// Tells whether a buffer is of a type.
 pub type Matcher = fn(buf: &[u8]) -> bool;
@@ -6,15 +6,25 @@ pub type Matcher = fn(buf: &[u8]) -> bool;
 /// The class of a type.
 #[derive(Debug, Copy, Clone, Eq, PartialEq)]
 pub enum MatcherType {
+    /// A program, such as "exe".
     App,
+    /// An archive, such as "zip", and a few others, such as "pdf".
     Archive,
+    /// A sound, such as "mp3".
     Audio,
+    /// A book, such as "mobi".
     Book,
+    /// A document of Office or OpenDocument, such as "docx".
     Doc,
+    /// A font, such as "woff".
     Font,
+    /// An image, such as "png".
     Image,
+    /// A film, such as "mp4".
     Video,
+    /// A text, such as "html".
     Text,
+    /// A type that the caller added.
     Custom,
 }
 

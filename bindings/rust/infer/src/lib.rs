@@ -1,19 +1,23 @@
-#![doc = include_str!("../README.md")]
+#![cfg_attr(feature = "std", doc = include_str!("../README.md"))]
+#![cfg_attr(not(feature = "std"), doc = "The type of a file from its first bytes, without the standard library.")]
+#![cfg_attr(not(feature = "std"), no_std)]
+#![deny(missing_docs)]
 
-use std::fs::File;
-use std::io::{self, Read};
-use std::path::Path;
+extern crate alloc;
+
+use alloc::vec::Vec;
 
 pub mod aliases;
 mod ffi;
 mod file_type;
 mod matchers;
+#[cfg(feature = "std")]
+mod path;
 
 pub use file_type::{Matcher, MatcherType, Type};
 pub use matchers::{app, archive, audio, book, doc, font, image, odf, text, video};
-
-/// How many bytes of a file are looked at.
-const FRONT: u64 = 8192;
+#[cfg(feature = "std")]
+pub use path::get_from_path;
 
 /// The built-in types, and those that the caller added, which are asked first.
 #[derive(Default)]
@@ -35,11 +39,6 @@ impl Infer {
     /// The first type that accepts the buffer.
     pub fn get(&self, buf: &[u8]) -> Option<Type> {
         self.added.iter().find(|(_, matcher)| matcher(buf)).map(|(found, _)| *found).or_else(|| get(buf))
-    }
-
-    /// The first type that accepts the first 8192 bytes of a file.
-    pub fn get_from_path<P: AsRef<Path>>(&self, path: P) -> io::Result<Option<Type>> {
-        Ok(self.get(&front(path.as_ref())?))
     }
 
     /// Whether some type with this extension accepts the buffer. It need not be the first.
@@ -75,11 +74,6 @@ impl Infer {
 /// The first type that accepts the buffer.
 pub fn get(buf: &[u8]) -> Option<Type> {
     ffi::position(buf).map(|row| ffi::rows()[row])
-}
-
-/// The first type that accepts the first 8192 bytes of a file.
-pub fn get_from_path<P: AsRef<Path>>(path: P) -> io::Result<Option<Type>> {
-    Ok(get(&front(path.as_ref())?))
 }
 
 /// Whether some type with this extension accepts the buffer. It need not be the first.
@@ -125,10 +119,4 @@ macro_rules! class_tests {
 class_tests! {
     is_app: "programs", is_archive: "archives", is_audio: "sounds", is_book: "books", is_document: "documents",
     is_font: "fonts", is_image: "images", is_video: "films"
-}
-
-fn front(path: &Path) -> io::Result<Vec<u8>> {
-    let mut front = Vec::new();
-    File::open(path)?.take(FRONT).read_to_end(&mut front)?;
-    Ok(front)
 }

@@ -6,13 +6,12 @@ macro_rules! matchers {
             $(#[$doc])*
             pub mod $module {
                 use crate::{MatcherType, ffi};
-                use std::sync::LazyLock;
 
                 $(
                     #[doc = concat!("Whether the signature of the type \"", $extension, "\" accepts the buffer.")]
                     pub fn $name(buf: &[u8]) -> bool {
-                        static ROW: LazyLock<i32> = LazyLock::new(|| ffi::row_with(MatcherType::$class, $extension));
-                        ffi::accepts(buf, *ROW)
+                        static ROW: ffi::KnownRow = ffi::KnownRow::new(MatcherType::$class, $extension);
+                        ROW.accepts(buf)
                     }
                 )*
                 matchers!(@more $module);

@@ -1,12 +1,13 @@
 //! The rows, their samples and the vectors, by the repository's test data.
 
 use infer::{MatcherType, Type};
-use std::ffi::c_void;
+use std::ffi::{c_char, c_void};
 use std::fs;
 use std::path::Path;
 
 unsafe extern "C" {
     fn infer_sample(row: i32, out: *mut c_void, size: usize) -> usize;
+    fn infer_version(out: *mut c_char, size: usize) -> usize;
 }
 
 /// A class as it prints, a MIME type and an extension.
@@ -49,6 +50,15 @@ fn sample(row: usize) -> Vec<u8> {
     let size = unsafe { infer_sample(row as i32, out.as_mut_ptr().cast(), out.len()) };
     out.truncate(size);
     out
+}
+
+#[test]
+fn the_version_is_that_of_the_library_and_beside_it_that_of_the_crate() {
+    let mut out = [0_u8; 64];
+    // SAFETY: `out` has as many bytes as it says.
+    let size = unsafe { infer_version(out.as_mut_ptr().cast(), out.len()) };
+    let version = std::str::from_utf8(&out[..size]).unwrap();
+    assert_eq!(env!("CARGO_PKG_VERSION"), format!("{version}+infer.0.22.0"));
 }
 
 #[test]
