@@ -7,11 +7,13 @@ import os
 import re
 import shutil
 import signal
+import socket
 import subprocess
 import sys
 import tempfile
+import time
 import unittest
-from collections.abc import Iterator
+from collections.abc import Callable, Iterator
 from typing import NamedTuple
 
 ROOT = os.path.dirname(os.path.dirname(os.path.abspath(__file__)))
@@ -31,19 +33,26 @@ def compiler() -> str:
     return os.environ.get("CC", "cc")
 
 
-def has_sanitizers() -> bool:
+def has_sanitizers(by: str = "") -> bool:
     """Whether the compiler links and runs a program with its sanitizers."""
     source, program = os.path.join(_folder, "empty.c"), os.path.join(_folder, "empty")
     with open(source, "w") as file:
         file.write("int main(void) { return 0; }\n")
-    built = subprocess.run([compiler(), *SANITIZERS, source, "-o", program], capture_output=True)
-    return built.returncode == 0 and subprocess.run([program], capture_output=True).returncode == 0
+    built = shutil.which(by or compiler()) and subprocess.run([by or compiler(), *SANITIZERS, source, "-o", program], capture_output=True)
+    return bool(built) and built.returncode == 0 and subprocess.run([program], capture_output=True).returncode == 0
 
 
-def build(source: str, *flags: str) -> str:
+def sanitized(source: str, by: str) -> str:
+    """The program as that compiler makes it with its sanitizers. Without them the tests that ask are left out."""
+    if not has_sanitizers(by):
+        raise unittest.SkipTest(f"no {by} with its sanitizers is here")
+    return build(source, *SANITIZERS, by=by)
+
+
+def build(source: str, *flags: str, by: str = "") -> str:
     """Compiles an example as its README does, and gives the program's path."""
     program = os.path.join(folder(), os.path.splitext(os.path.basename(source))[0])
-    words = [compiler(), "-std=c11", "-O2", "-Wall", "-Wextra", "-Werror", *flags, f"-I{ROOT}/c/out", f"-I{ROOT}/data"]
+    words = [by or compiler(), "-std=c11", "-O2", "-Wall", "-Wextra", "-Werror", *flags, f"-I{ROOT}/c/out", f"-I{ROOT}/data"]
     subprocess.run([*words, f"{ROOT}/{source}", f"{ROOT}/c/out/libinfer.a", "-o", program], check=True)
     return program
 
@@ -81,6 +90,54 @@ def port_of(process: subprocess.Popen[bytes]) -> int:
     return int(found[1])
 
 
+def wait_until(is_so: Callable[[], bool]) -> None:
+    """Waits for what is to come soon, however slow the machine is."""
+    ends = time.monotonic() + PATIENCE
+    while not is_so():
+        if time.monotonic() > ends:
+            raise AssertionError("it did not come")
+        time.sleep(0.01)
+
+
+def cpu_seconds(process: subprocess.Popen[bytes]) -> float:
+    """The processor time of a process so far."""
+    with open(f"/proc/{process.pid}/stat", encoding="ascii") as file:
+        words = file.read().rpartition(")")[2].split()
+    return (int(words[11]) + int(words[12])) / os.sysconf("SC_CLK_TCK")
+
+
+def descriptors(process: subprocess.Popen[bytes]) -> int:
+    """How many descriptors a process has open."""
+    return len(os.listdir(f"/proc/{process.pid}/fd"))
+
+
+def is_open(port: int) -> bool:
+    """Whether somebody listens there."""
+    with socket.socket() as it:
+        return it.connect_ex(("127.0.0.1", port)) == 0
+
+
+def is_alive(process_id: int) -> bool:
+    """Whether a process has not ended; one that nobody waited for yet has."""
+    with contextlib.suppress(OSError), open(f"/proc/{process_id}/stat", encoding="ascii") as file:
+        return file.read().rpartition(")")[2].split()[0] != "Z"
+    return False
+
+
+def written(process_id: int) -> int:
+    """How many bytes a process has written to files."""
+    with open(f"/proc/{process_id}/io", encoding="ascii") as file:
+        return int(re.findall(r"^wchar: ([0-9]+)$", file.read(), re.MULTILINE)[0])
+
+
+def all_of(it: socket.socket) -> bytes:
+    """What comes until the other side ends."""
+    got = b""
+    while piece := it.recv(1 << 20):
+        got += piece
+    return got
+
+
 def decode(tokens: str) -> bytes:
     """The bytes of hexadecimal tokens, each with a count of repetitions after `*` if it has one."""
     if tokens == "-":
@@ -101,18 +158,25 @@ class Vector(NamedTuple):
     data: bytes
 
 
+def _lines_of(name: str) -> list[list[str]]:
+    with open(f"{ROOT}/crates/test_vectors/data/{name}", encoding="ascii") as lines:
+        return [line.rstrip("\n").split("\t") for line in lines]
+
+
 def rows() -> list[Row]:
     """The rows by the test data, which were written by hand."""
-    with open(f"{ROOT}/crates/test_vectors/data/rows.tsv", encoding="ascii") as lines:
-        return [Row(*line.rstrip("\n").split("\t")[:3]) for line in lines]
+    return [Row(*words[:3]) for words in _lines_of("rows.tsv")]
+
+
+def samples() -> list[tuple[Row, bytes]]:
+    """The rows that have a sample, and it."""
+    return [(Row(*words[:3]), decode(words[3])) for words in _lines_of("rows.tsv") if words[3] != "none"]
 
 
 def vectors() -> list[Vector]:
     """Buffers, and the row of each answer or None, by the test data."""
     named = {f"{row.group}/{row.extension}": row for row in rows()}
-    with open(f"{ROOT}/crates/test_vectors/data/vectors.tsv", encoding="ascii") as lines:
-        split = [line.rstrip("\n").split("\t") for line in lines]
-    return [Vector(name, None if row == "-" else named[row], decode(data)) for name, _, row, data in split]
+    return [Vector(name, None if row == "-" else named[row], decode(data)) for name, _, row, data in _lines_of("vectors.tsv")]
 
 
 def command_in(readme: str, begins: str) -> str:
@@ -128,6 +192,7 @@ def main() -> None:
     failed = len(result.failures) + len(result.errors)
     for test, why in result.skipped:
         print(f"left out: {test.id()}: {why}")
-    passed = max(0, result.testsRun - failed - len(result.skipped))
+    # Of a class that is left out as a whole no test is run.
+    passed = max(0, result.testsRun - failed - sum(isinstance(test, unittest.TestCase) for test, _ in result.skipped))
     print(f"{passed} passed, {failed} failed", flush=True)
     sys.exit(failed != 0)
