@@ -1,5 +1,5 @@
 /* An upload gate: takes PUT /NAME over HTTP/1.1 on the loopback. README.md says what it keeps and what it refuses. */
-#define _POSIX_C_SOURCE 200809L
+#define _GNU_SOURCE /* O_TMPFILE and memmem */
 #include "aliases.h"
 #include "infer.h"
 #include <arpa/inet.h>
@@ -9,26 +9,32 @@
 #include <netinet/in.h>
 #include <poll.h>
 #include <signal.h>
+#include <stdatomic.h>
 #include <stdio.h>
 #include <stdlib.h>
 #include <string.h>
 #include <strings.h>
+#include <sys/mman.h>
 #include <sys/socket.h>
-#include <sys/stat.h>
+#include <sys/time.h>
 #include <sys/wait.h>
 #include <time.h>
 #include <unistd.h>
 
-enum { HEAD = 8192, FRONT = 65536, LARGEST = 8 << 20, NAME = 100, CHILDREN = 16, LINGER = 2000 };
+#define LETTERS_AND_DIGITS "0123456789ABCDEFGHIJKLMNOPQRSTUVWXYZabcdefghijklmnopqrstuvwxyz"
+
+enum { HEAD = 8192, LARGEST = 8 << 20, NAME = 100, CHILDREN = 16, LINGER = 2000 };
 
 static bool *allowed;         /* of each row */
 static long patience = 30000; /* milliseconds for a whole request */
+static int folder;
+static atomic_ulong *lost; /* lines that nobody read in time, counted by all processes */
 
 struct request {
     char name[NAME + 1];
     char extension[NAME + 1]; /* in lower case, and empty if the name has none */
     char mime_type[128];      /* in lower case without parameters, and empty if none is claimed */
-    bool has_length, has_type, waits;
+    bool is_newer, has_host, has_length, has_type, waits; /* newer than HTTP/1.0 */
     size_t length;
 };
 
@@ -91,13 +97,36 @@ static const char *reason(int status) {
     return "Refused";
 }
 
+static void wake(int number) { (void)number; }
+
+/* Waits for no reader: without room the line is not written, and a write that is held up after all is interrupted. */
+static bool write_at_once(const char *text, size_t size) {
+    struct pollfd out = {.fd = STDOUT_FILENO, .events = POLLOUT};
+    struct itimerval soon = {{0, 10000}, {0, 10000}}, never = {0};
+    if (poll(&out, 1, 0) <= 0)
+        return false;
+    setitimer(ITIMER_REAL, &soon, NULL);
+    ssize_t put = write(STDOUT_FILENO, text, size);
+    setitimer(ITIMER_REAL, &never, NULL);
+    return put == (ssize_t)size;
+}
+
+/* Prints a line, and before it how many lines nobody had read in time. */
+static void tell(int status, const char *why) {
+    char text[512];
+    unsigned long before = atomic_exchange(lost, 0);
+    int size = before > 0 ? snprintf(text, sizeof text, "%lu lines dropped\n", before) : 0;
+    size += snprintf(text + size, sizeof text - (size_t)size, "%d %s\n", status, why);
+    if (!write_at_once(text, (size_t)size))
+        atomic_fetch_add(lost, before + 1);
+}
+
 static void respond(int fd, int status, const char *why) {
     char text[512];
     int size = snprintf(text, sizeof text, "HTTP/1.1 %d %s\r\nContent-Type: text/plain\r\nContent-Length: %zu\r\n"
-                        "Connection: close\r\n\r\n%s\n", status, reason(status), strlen(why) + 1, why);
+                        "X-Content-Type-Options: nosniff\r\nConnection: close\r\n\r\n%s\n", status, reason(status), strlen(why) + 1, why);
     write_all(fd, text, (size_t)size);
-    size = snprintf(text, sizeof text, "%d %s\n", status, why);
-    write_all(STDOUT_FILENO, text, (size_t)size);
+    tell(status, why);
 }
 
 /* A control byte could make another server read the head in another way, so the only ones are tabs and line ends. */
@@ -147,45 +176,73 @@ static void copy_lower(char *out, const char *text, size_t size) {
 }
 
 static int parse_type(const char *value, struct request *it) {
-    size_t size = strcspn(value, "; \t");
-    if (it->has_type || size >= sizeof it->mime_type)
+    size_t size = strspn(value, "!#$&^_.+-/" LETTERS_AND_DIGITS);
+    if (it->has_type || size >= sizeof it->mime_type || !strchr("; \t", value[size]))
         return 400;
     it->has_type = true;
     copy_lower(it->mime_type, value, size);
     return 0;
 }
 
+static int parse_host(const char *value, struct request *it) {
+    if (it->has_host || *value == 0 || value[strspn(value, "-._~:[]%" LETTERS_AND_DIGITS)] != 0)
+        return 400;
+    it->has_host = true;
+    return 0;
+}
+
+/* Only HTTP/1.1 has this header: an older sender does not wait. */
+static int parse_expect(const char *value, struct request *it) {
+    it->waits = it->is_newer;
+    return strcasecmp(value, "100-continue") == 0 ? 0 : 417;
+}
+
+static int refuse_coding(const char *value, struct request *it) {
+    (void)value;
+    (void)it;
+    return 501;
+}
+
+/* A header that decides what is read or kept, and what reads it. */
+static const struct { const char *name; int (*parse)(const char *value, struct request *it); } headers[] = {
+    {"Host", parse_host}, {"Content-Length", parse_length}, {"Content-Type", parse_type}, {"Expect", parse_expect},
+    {"Transfer-Encoding", refuse_coding}, {"Content-Encoding", refuse_coding}, {"Content-Range", refuse_coding},
+};
+
+/* A name has letters, digits and "-" alone, since some servers take "Content_Length" for "Content-Length". */
 static int parse_header(char *line, struct request *it) {
-    size_t size = strspn(line, "!#$%&'*+-.^_`|~0123456789ABCDEFGHIJKLMNOPQRSTUVWXYZabcdefghijklmnopqrstuvwxyz");
+    size_t size = strspn(line, "-" LETTERS_AND_DIGITS);
     if (size == 0 || line[size] != ':')
         return 400;
     line[size] = 0;
     char *value = line + size + 1;
     value += strspn(value, " \t");
-    for (size_t end = strlen(value); end > 0 && strchr(" \t", value[end - 1]); end--)
-        value[end - 1] = 0;
-    if (strcasecmp(line, "Content-Length") == 0)
-        return parse_length(value, it);
-    if (strcasecmp(line, "Content-Type") == 0)
-        return parse_type(value, it);
-    it->waits |= strcasecmp(line, "Expect") == 0;
-    if (strcasecmp(line, "Expect") == 0 && strcasecmp(value, "100-continue") != 0)
-        return 417;
-    return strcasecmp(line, "Transfer-Encoding") == 0 || strcasecmp(line, "Content-Encoding") == 0
-        || strcasecmp(line, "Content-Range") == 0 ? 501 : 0;
+    size_t end = strlen(value);
+    while (end > 0 && strchr(" \t", value[end - 1]))
+        value[--end] = 0;
+    for (size_t i = 0; i < sizeof headers / sizeof *headers; i++)
+        if (strcasecmp(line, headers[i].name) == 0)
+            return headers[i].parse(value, it);
+    return 0;
+}
+
+/* Whether it is letters, digits, "-", "_" and at most one dot between others, and no option of a program. */
+static bool is_name(const char *name, size_t size) {
+    const char *dot = memchr(name, '.', size);
+    size_t before = dot ? (size_t)(dot - name) : size, after = dot ? size - before - 1 : 1;
+    return before > 0 && after > 0 && size <= NAME && *name != '-' && !(dot && memchr(dot + 1, '.', after));
 }
 
 static int parse_request_line(const char *line, struct request *it) {
     if (strncmp(line, "PUT ", 4) != 0)
         return isupper((unsigned char)*line) ? 405 : 400;
     const char *name = line + 5;
-    size_t size = line[4] == '/' ? strspn(name, "-._0123456789ABCDEFGHIJKLMNOPQRSTUVWXYZabcdefghijklmnopqrstuvwxyz") : 0;
-    const char *dot = memchr(name, '.', size);
-    if (size == 0 || size > NAME || dot == name || (dot && memchr(dot + 1, '.', size - (size_t)(dot + 1 - name))))
-        return 400;
-    if (strcmp(name + size, " HTTP/1.1") != 0 && strcmp(name + size, " HTTP/1.0") != 0)
+    size_t size = line[4] == '/' ? strspn(name, "-._" LETTERS_AND_DIGITS) : 0;
+    it->is_newer = strcmp(name + size, " HTTP/1.1") == 0;
+    if (!is_name(name, size) || (!it->is_newer && strcmp(name + size, " HTTP/1.0") != 0))
         return 400;
     memcpy(it->name, name, size);
+    const char *dot = memchr(name, '.', size);
     if (dot)
         copy_lower(it->extension, dot + 1, size - (size_t)(dot + 1 - name));
     return 0;
@@ -202,6 +259,8 @@ static int parse_head(char *head, struct request *it) {
         *end = 0;
         status = parse_header(line, it);
     }
+    if (status == 0 && it->is_newer && !it->has_host)
+        return 400;
     return status == 0 && !it->has_length ? 411 : status;
 }
 
@@ -217,18 +276,62 @@ static bool is_claimed(const struct request *it, const char *mime_type, const ch
     return target ? strcmp(target, extension) == 0 : strcmp(it->mime_type, mime_type) == 0;
 }
 
-/* Whether a picture, sound or film also fits a class that the sender does not claim, as a JPEG image that is a PDF too. */
-static bool is_double(const uint8_t *front, size_t size, int32_t class) {
-    if (class != INFER_IMAGE && class != INFER_AUDIO && class != INFER_VIDEO && class != INFER_FONT)
-        return false;
-    return infer_is_app(front, size) || infer_is_archive(front, size) || infer_is_book(front, size) || infer_is_document(front, size)
-        || infer_is(front, size, "html", 4) || infer_is(front, size, "xml", 3);
+static bool is_row(int32_t row, const char *extension) {
+    char text[32];
+    infer_extension(row, text, sizeof text);
+    return strcmp(text, extension) == 0;
+}
+
+/* Whether honest files that are told as `row` fit `other` too: the format is built on it, or holds files of it. */
+static bool is_kin(int32_t row, int32_t other) {
+    int32_t class = infer_class(row);
+    if (is_row(other, "zip") || is_row(other, "msi"))
+        return class == INFER_DOC || class == INFER_BOOK || is_row(row, "ora");
+    if (is_row(other, "pdf"))
+        return class == INFER_ARCHIVE;
+    if (is_row(other, "epub"))
+        return is_row(row, "epub");
+    if (is_row(other, "sh") || is_row(other, "ar"))
+        return is_row(row, "amr") || is_row(row, "deb");
+    return class != INFER_ARCHIVE && class == infer_class(other);
+}
+
+/* Whether the bytes also fit a row that is no kin of theirs, as a JPEG image that is a PDF document too, or are a PDF
+ * document behind something that no row knows. */
+static bool is_double(const uint8_t *bytes, size_t size, int32_t row) {
+    bool is_found = is_row(row, "pdf") && memcmp(bytes, "%PDF", 4) != 0;
+    for (int32_t other = 0; other < (int32_t)infer_row_count() && !is_found; other++)
+        is_found = other != row && infer_accepts(bytes, size, other) && !is_kin(row, other);
+    return is_found;
+}
+
+/* Whether there is an archive behind the first bytes that its programs find wherever it begins: a ZIP archive by an
+ * entry of its directory and the directory's end, or one of RAR or 7z. */
+static bool hides_archive(const uint8_t *bytes, size_t size) {
+    const uint8_t *entry = memmem(bytes, size, "PK\1\2", 4);
+    return (entry && memmem(entry, size - (size_t)(entry - bytes), "PK\5\6", 4)) || memmem(bytes, size, "Rar!\x1a\7", 6)
+        || memmem(bytes, size, "7z\xbc\xaf\x27\x1c", 6);
+}
+
+/* Whether files of this row hold no archives as they are, so that one in them is hidden. */
+static bool holds_no_archives(int32_t row) {
+    switch (infer_class(row)) {
+    case INFER_AUDIO:
+    case INFER_FONT:
+    case INFER_TEXT:
+    case INFER_VIDEO:
+        return true;
+    case INFER_IMAGE:
+        return !is_row(row, "ora");
+    default:
+        return is_row(row, "pdf") || is_row(row, "rtf");
+    }
 }
 
 /* 0, or the status of a refusal, and in `why` the MIME type or the reason. */
-static int judge(const struct request *it, const uint8_t *front, size_t size, char why[256]) {
+static int judge(const struct request *it, const uint8_t *bytes, size_t size, char why[256]) {
     char mime_type[128], extension[32];
-    int32_t row = infer_position(front, size), class = infer_class(row);
+    int32_t row = infer_position(bytes, size);
     infer_mime_type(row, mime_type, sizeof mime_type);
     infer_extension(row, extension, sizeof extension);
     bool has_claim = *it->mime_type != 0 && strcmp(it->mime_type, "application/octet-stream") != 0;
@@ -242,65 +345,84 @@ static int judge(const struct request *it, const uint8_t *front, size_t size, ch
         return snprintf(why, 256, "named .%s, but %s", it->extension, mime_type), 422;
     if (has_claim && !is_claimed(it, mime_type, extension))
         return snprintf(why, 256, "claimed %.80s, but %s", it->mime_type, mime_type), 422;
-    if (is_double(front, size, class))
-        return snprintf(why, 256, "%s that fits another class too", mime_type), 422;
+    if (is_double(bytes, size, row))
+        return snprintf(why, 256, "%s that fits another type too", mime_type), 422;
+    if (holds_no_archives(row) && hides_archive(bytes, size))
+        return snprintf(why, 256, "%s that holds an archive", mime_type), 422;
     snprintf(why, 256, "%s", mime_type);
     return 0;
 }
 
-/* Passes on what is left of a body to the file. */
-static int copy(int fd, int out, size_t left, long long deadline) {
+/* Judges the whole file, which is mapped, so that only the pages that decide are read. It has no name, so that nobody
+ * shortens it meanwhile. */
+static int judge_file(const struct request *it, int file, char why[256]) {
+    void *bytes = it->length > 0 ? mmap(NULL, it->length, PROT_READ, MAP_PRIVATE, file, 0) : "";
+    return bytes == MAP_FAILED ? 500 : judge(it, bytes, it->length, why);
+}
+
+/* Passes the body on to the file. */
+static int copy(int fd, int file, size_t left, long long deadline) {
     static uint8_t piece[65536];
     while (left > 0) {
         size_t size = left < sizeof piece ? left : sizeof piece;
         int status = receive_all(fd, piece, size, deadline);
         if (status != 0)
             return status;
-        if (!write_all(out, piece, size))
+        if (!write_all(file, piece, size))
             return 500;
         left -= size;
     }
     return 0;
 }
 
-/* The file gets its name by `link` once it is whole, which replaces nothing and follows no link. */
-static int store(int fd, const struct request *it, const uint8_t *front, size_t size, long long deadline) {
-    char part[] = ".upload-XXXXXX";
-    int out = mkstemp(part);
-    if (out < 0)
+/* The path by which a file without a name is opened and linked. */
+static void path_of(int file, char out[32]) { snprintf(out, 32, "/proc/self/fd/%d", file); }
+
+/* A file without a name: whatever ends this process, no part of it is left. */
+static int open_file(void) { return openat(folder, ".", O_TMPFILE | O_RDWR | O_CLOEXEC, 0644); }
+
+/* The file is on the disk before it gets its name, and the name before the sender is told. `linkat` replaces nothing and
+ * follows no link of that name. */
+static int keep(int file, const char *name) {
+    char path[32];
+    path_of(file, path);
+    if (fsync(file) != 0)
         return 500;
-    int status = write_all(out, front, size) ? copy(fd, out, it->length - size, deadline) : 500;
-    if ((fchmod(out, 0644) != 0 || close(out) != 0) && status == 0)
-        status = 500;
-    if (status == 0 && link(part, it->name) != 0)
-        status = errno == EEXIST ? 409 : 500;
-    unlink(part);
-    return status == 0 ? 201 : status;
+    if (linkat(AT_FDCWD, path, folder, name, AT_SYMLINK_FOLLOW) != 0)
+        return errno == EEXIST ? 409 : 500;
+    if (fsync(folder) == 0)
+        return 201;
+    unlinkat(folder, name, 0);
+    return 500;
+}
+
+/* Takes the body, of which the head's last read brought `count` bytes. */
+static int store(int fd, const struct request *it, const char *early, size_t count, long long deadline, char why[256]) {
+    size_t size = count < it->length ? count : it->length;
+    int file = open_file();
+    if (file < 0)
+        return 503;
+    int status = write_all(file, early, size) ? copy(fd, file, it->length - size, deadline) : 500;
+    if (status == 0)
+        status = judge_file(it, file, why);
+    return status == 0 ? keep(file, it->name) : status;
 }
 
 static int take(int fd, char why[256]) {
     static char head[HEAD + 1];
-    static uint8_t front[FRONT];
     struct request it = {0};
     long long deadline = now() + patience;
     size_t have = 0, size = 0;
     int status = read_head(fd, head, &have, &size, deadline);
     if (status != 0)
         return status;
-    size_t wanted, count = have - size;
-    memcpy(front, head + size, count);
     head[size - 2] = 0;
     status = parse_head(head, &it);
     if (status != 0)
         return status;
     if (it.waits && !write_all(fd, "HTTP/1.1 100 Continue\r\n\r\n", 25))
         return 400;
-    wanted = it.length < FRONT ? it.length : FRONT;
-    if (count < wanted)
-        status = receive_all(fd, front + count, wanted - count, deadline);
-    if (status == 0)
-        status = judge(&it, front, wanted, why);
-    return status == 0 ? store(fd, &it, front, wanted, deadline) : status;
+    return store(fd, &it, head + size, have - size, deadline, why);
 }
 
 static void serve(int fd) {
@@ -347,22 +469,32 @@ static bool is_port(const char *word) {
     return len > 0 && len <= 5 && strspn(word, "0123456789") == len && atoi(word) <= 65535;
 }
 
-/* The listening socket, or -1. */
+/* The listening socket, or -1. SO_REUSEADDR allows a start right after an end. */
 static int listen_at(const char *port) {
     struct sockaddr_in at = {.sin_family = AF_INET, .sin_port = htons((uint16_t)atoi(port)), .sin_addr.s_addr = htonl(INADDR_LOOPBACK)};
     socklen_t size = sizeof at;
-    int fd = socket(AF_INET, SOCK_STREAM, 0);
-    if (fd < 0 || bind(fd, (struct sockaddr *)&at, size) != 0 || listen(fd, 64) != 0 || getsockname(fd, (struct sockaddr *)&at, &size) != 0)
+    int fd = socket(AF_INET, SOCK_STREAM, 0), yes = 1;
+    if (fd < 0 || setsockopt(fd, SOL_SOCKET, SO_REUSEADDR, &yes, sizeof yes) != 0 || bind(fd, (struct sockaddr *)&at, size) != 0
+        || listen(fd, 64) != 0 || getsockname(fd, (struct sockaddr *)&at, &size) != 0)
         return -1;
     printf("listening on 127.0.0.1:%d\n", ntohs(at.sin_port));
     fflush(stdout);
     return fd;
 }
 
+/* Whether a child has ended. It waits for one if there are as many as may be. */
+static bool has_ended(int children) {
+    int how = 0;
+    pid_t child = children > 0 ? waitpid(-1, &how, children < CHILDREN ? WNOHANG : 0) : 0;
+    if (child > 0 && WIFSIGNALED(how))
+        tell(500, "a request's process was ended by a signal");
+    return child > 0;
+}
+
 /* A process for each request, so that a slow sender holds up nobody, and a bound on them, so that memory has one. */
 static void accept_all(int listening) {
     for (int children = 0;;) {
-        while (children > 0 && waitpid(-1, NULL, children < CHILDREN ? WNOHANG : 0) > 0)
+        while (has_ended(children))
             children--;
         int fd = accept(listening, NULL, NULL);
         if (fd < 0) {
@@ -383,13 +515,41 @@ static void accept_all(int listening) {
     }
 }
 
+/* Opens the folder, and sees that it can do what `store` wants of it. */
+static bool open_folder(const char *name) {
+    char path[32];
+    folder = open(name, O_RDONLY | O_DIRECTORY | O_CLOEXEC);
+    int file = folder >= 0 ? open_file() : -1;
+    path_of(file, path);
+    bool is_good = file >= 0 && access(path, R_OK) == 0;
+    if (file >= 0)
+        close(file);
+    return is_good;
+}
+
+/* No connection gets the number of a standard descriptor that is closed, or the log would be sent over it. */
+static void fill_standard(void) {
+    int fd;
+    do
+        fd = open("/dev/null", O_RDWR);
+    while (fd >= 0 && fd <= STDERR_FILENO);
+    close(fd);
+}
+
+static bool set_up(void) {
+    fill_standard();
+    lost = mmap(NULL, sizeof *lost, PROT_READ | PROT_WRITE, MAP_SHARED | MAP_ANONYMOUS, -1, 0);
+    signal(SIGPIPE, SIG_IGN);
+    signal(SIGXFSZ, SIG_IGN); /* a file that grows past a limit is a failed write */
+    return lost != MAP_FAILED && sigaction(SIGALRM, &(struct sigaction){.sa_handler = wake}, NULL) == 0;
+}
+
 int main(int argc, char **argv) {
     if (argc < 4 || argc > 5 || !is_port(argv[1]) || !allow(argv[3]) || (argc == 5 && (patience = atol(argv[4]) * 1000) <= 0)) {
         fputs("usage: upload_gate PORT FOLDER CLASS|MIME_TYPE,.. [SECONDS]\n", stderr);
         return 2;
     }
-    signal(SIGPIPE, SIG_IGN);
-    int listening = chdir(argv[2]) == 0 ? listen_at(argv[1]) : -1;
+    int listening = set_up() && open_folder(argv[2]) ? listen_at(argv[1]) : -1;
     if (listening < 0) {
         perror("upload_gate");
         return 2;
