@@ -1,0 +1,215 @@
+/* Compares what infer_path and infer_fd say of files of each kind with constants, and counts the differences. They are
+ * linked with -Wl,--wrap=open,--wrap=pread, so that opening and reading are interrupted and give a few bytes at a time.
+ * usage: files FOLDER, an empty one. */
+#define _GNU_SOURCE
+#include "infer_file.h"
+#include <errno.h>
+#include <fcntl.h>
+#include <stdarg.h>
+#include <stdio.h>
+#include <stdlib.h>
+#include <string.h>
+#include <sys/resource.h>
+#include <sys/socket.h>
+#include <sys/stat.h>
+#include <sys/un.h>
+#include <unistd.h>
+
+static int compared, differing, interrupted;
+static bool is_swapped;
+
+int __real_open(const char *path, int flags, ...);
+ssize_t __real_pread(int fd, void *bytes, size_t size, off_t place);
+
+/* The first call is interrupted. While `is_swapped`, the file becomes a FIFO right before it is opened. */
+int __wrap_open(const char *path, int flags, ...) {
+    static bool is_next;
+    is_next = !is_next;
+    if (is_next && ++interrupted) return errno = EINTR, -1;
+    if (is_swapped && (unlink(path) != 0 || mkfifo(path, 0600) != 0)) return -1;
+    return __real_open(path, flags);
+}
+
+/* Every other call is interrupted, and the rest give seven bytes at most. */
+ssize_t __wrap_pread(int fd, void *bytes, size_t size, off_t place) {
+    static bool is_next;
+    is_next = !is_next;
+    if (is_next && ++interrupted) return errno = EINTR, -1;
+    return __real_pread(fd, bytes, size < 7 ? size : 7, place);
+}
+
+static void same(const char *what, long got, long wanted) {
+    compared++;
+    if (got != wanted) {
+        differing++;
+        printf("%s: %ld in place of %ld\n", what, got, wanted);
+    }
+}
+
+static int32_t jpeg(void) { return infer_position("\xFF\xD8\xFF", 3); }
+
+/* The row of what was answered, or the fault's number below 0. */
+static long told(int answer, int32_t row, int fault) {
+    same("the answer", answer, fault ? -1 : 0);
+    same("the row of a fault", fault ? row : -1, -1);
+    return fault ? -fault - 1 : row;
+}
+
+static void path_is(const char *path, long wanted) {
+    int32_t row = 99;
+    errno = 0;
+    int answer = infer_path(path, &row);
+    same(path, told(answer, row, answer ? errno : 0), wanted);
+}
+
+static void fd_is(const char *what, int fd, long wanted) {
+    int32_t row = 99;
+    errno = 0;
+    int answer = infer_fd(fd, &row);
+    same(what, told(answer, row, answer ? errno : 0), wanted);
+}
+
+#define FAULT(number) (-(number) - 1)
+
+static void write_file(const char *path, const char *front, size_t size, off_t length) {
+    int fd = __real_open(path, O_WRONLY | O_CREAT | O_TRUNC, 0600);
+    if (fd < 0 || write(fd, front, size) != (ssize_t)size || ftruncate(fd, length) != 0) perror(path), exit(2);
+    close(fd);
+}
+
+static void regular_files(void) {
+    static char late[INFER_FRONT + 3], spaces[INFER_FRONT + 3];
+    memset(late, ' ', sizeof late);
+    memcpy(late + INFER_FRONT - 3, "<p>", 3);
+    memset(spaces, ' ', sizeof spaces);
+    memcpy(spaces + INFER_FRONT - 2, "<p>", 3);
+    write_file("photo", "\xFF\xD8\xFF\xAA", 4, 4);
+    write_file("sparse", "\xFF\xD8\xFF", 3, (off_t)1 << 33);
+    write_file("empty", "", 0, 0);
+    write_file("late", late, sizeof late, sizeof late);
+    write_file("too late", spaces, sizeof spaces, sizeof spaces);
+    path_is("photo", jpeg());
+    path_is("./photo", jpeg());
+    path_is("sparse", jpeg());
+    path_is("empty", -1);
+    path_is("late", infer_position(late, INFER_FRONT));
+    path_is("too late", infer_position(spaces, INFER_FRONT));
+    path_is("/proc/self/status", -1);
+}
+
+static void other_kinds(void) {
+    struct sockaddr_un name = {.sun_family = AF_UNIX, .sun_path = "socket"};
+    int listening = socket(AF_UNIX, SOCK_STREAM, 0);
+    if (mkdir("folder", 0700) || mkfifo("fifo", 0600) || bind(listening, (struct sockaddr *)&name, sizeof name)) perror("files"), exit(2);
+    if (symlink("fifo", "to a fifo") || symlink("photo", "to a photo") || symlink("loop", "loop") || symlink("none", "to nothing")) perror("files"), exit(2);
+    path_is("folder", FAULT(EISDIR));
+    path_is("/", FAULT(EISDIR));
+    path_is("fifo", FAULT(ENOTSUP));
+    path_is("to a fifo", FAULT(ENOTSUP));
+    path_is("socket", FAULT(ENOTSUP));
+    path_is("/dev/zero", FAULT(ENOTSUP));
+    path_is("/dev/tty", FAULT(ENOTSUP));
+    path_is("to a photo", jpeg());
+    path_is("loop", FAULT(ELOOP));
+    path_is("to nothing", FAULT(ENOENT));
+    close(listening);
+}
+
+static void faults(void) {
+    char name[5000];
+    memset(name, 'a', sizeof name - 1);
+    name[sizeof name - 1] = 0;
+    path_is("none", FAULT(ENOENT));
+    path_is("", FAULT(ENOENT));
+    path_is("photo/", FAULT(ENOTDIR));
+    path_is("photo/more", FAULT(ENOTDIR));
+    path_is(name, FAULT(ENAMETOOLONG));
+    path_is(name + sizeof name - 257, FAULT(ENAMETOOLONG));
+    path_is(name + sizeof name - 256, FAULT(ENOENT));
+    path_is("/proc/self/mem", FAULT(EIO));
+    write_file("gone", "\xFF\xD8\xFF", 3, 3);
+    path_is("gone", jpeg());
+    unlink("gone");
+    path_is("gone", FAULT(ENOENT));
+}
+
+/* The superuser may read all files, and so another user is taken. */
+static void forbidden(void) {
+    bool is_superuser = geteuid() == 0;
+    if (is_superuser && (seteuid(65534) != 0 || seteuid(0) != 0)) {
+        puts("left out: files that may not be read, since no other user can be taken here");
+        return;
+    }
+    write_file("secret", "\xFF\xD8\xFF", 3, 3);
+    mkdir("shut", 0700);
+    write_file("shut/photo", "\xFF\xD8\xFF", 3, 3);
+    chmod("secret", 0);
+    chmod("shut", 0);
+    chmod(".", 0755);
+    if (is_superuser && seteuid(65534) != 0) perror("files"), exit(2);
+    path_is("secret", FAULT(EACCES));
+    path_is("shut/photo", FAULT(EACCES));
+    if (is_superuser && seteuid(0) != 0) perror("files"), exit(2);
+    chmod("shut", 0700);
+}
+
+static void no_descriptors(void) {
+    struct rlimit old, few;
+    getrlimit(RLIMIT_NOFILE, &old);
+    few = old;
+    few.rlim_cur = 0;
+    setrlimit(RLIMIT_NOFILE, &few);
+    path_is("photo", FAULT(EMFILE));
+    setrlimit(RLIMIT_NOFILE, &old);
+}
+
+static void swapped(void) {
+    write_file("swapped", "\xFF\xD8\xFF", 3, 3);
+    is_swapped = true;
+    path_is("swapped", FAULT(ENOTSUP));
+    is_swapped = false;
+}
+
+static void descriptors(void) {
+    int ends[2], folder = __real_open("folder", O_RDONLY), photo = __real_open("photo", O_RDWR);
+    int written = __real_open("photo", O_WRONLY), named = __real_open("photo", O_PATH), zero = __real_open("/dev/zero", O_RDONLY);
+    if (pipe(ends) != 0) perror("files"), exit(2);
+    lseek(photo, 2, SEEK_SET);
+    fd_is("a photo", photo, jpeg());
+    same("its place", lseek(photo, 0, SEEK_CUR), 2);
+    lseek(photo, 0, SEEK_END);
+    fd_is("a photo at its end", photo, jpeg());
+    same("its place", lseek(photo, 0, SEEK_CUR), 4);
+    unlink("photo");
+    fd_is("a removed photo", photo, jpeg());
+    fd_is("a folder", folder, FAULT(EISDIR));
+    fd_is("a pipe", ends[0], FAULT(ENOTSUP));
+    fd_is("a device", zero, FAULT(ENOTSUP));
+    fd_is("a file open for writing", written, FAULT(EBADF));
+    fd_is("a file open for nothing", named, FAULT(EBADF));
+    for (int fd = 3; fd < 10; fd++)
+        close(fd);
+    fd_is("a closed descriptor", photo, FAULT(EBADF));
+    fd_is("no descriptor", -1, FAULT(EBADF));
+}
+
+int main(int argc, char **argv) {
+    if (argc != 2 || chdir(argv[1]) != 0) return perror("usage: files FOLDER"), 2;
+    /* A call that waits ends the program by a signal. */
+    alarm(60);
+    int first = dup(0);
+    close(first);
+    regular_files();
+    other_kinds();
+    faults();
+    forbidden();
+    no_descriptors();
+    swapped();
+    int left = dup(0);
+    close(left);
+    same("descriptors left open", left, first);
+    descriptors();
+    same("calls were interrupted", interrupted > 1000, true);
+    printf("%d answers about files compared, %d differ\n", compared, differing);
+    return differing != 0;
+}

@@ -1,0 +1,62 @@
+/* infer_file.h says what these calls do. */
+#define _POSIX_C_SOURCE 200809L
+#include "infer_file.h"
+#include <errno.h>
+#include <fcntl.h>
+#include <sys/stat.h>
+#include <unistd.h>
+
+/* Whether this is a regular file. If not, errno says so. */
+static bool is_regular(const struct stat *about) {
+    if (S_ISREG(about->st_mode)) return true;
+    errno = S_ISDIR(about->st_mode) ? EISDIR : ENOTSUP;
+    return false;
+}
+
+/* The number of bytes that were read, or -1. */
+static ssize_t read_front(int fd, unsigned char front[INFER_FRONT]) {
+    size_t count = 0;
+    while (count < INFER_FRONT) {
+        ssize_t got = pread(fd, front + count, INFER_FRONT - count, (off_t)count);
+        if (got == 0) break;
+        if (got > 0)
+            count += (size_t)got;
+        else if (errno != EINTR)
+            return -1;
+    }
+    return (ssize_t)count;
+}
+
+/* Opening a FIFO waits for a writer unless O_NONBLOCK is given. */
+static int open_front(const char *path) {
+    int fd;
+    do
+        fd = open(path, O_RDONLY | O_NONBLOCK | O_NOCTTY | O_CLOEXEC);
+    while (fd < 0 && errno == EINTR);
+    return fd;
+}
+
+int infer_fd(int fd, int32_t *row) {
+    unsigned char front[INFER_FRONT];
+    struct stat about;
+    *row = -1;
+    if (fstat(fd, &about) != 0 || !is_regular(&about)) return -1;
+    ssize_t count = read_front(fd, front);
+    if (count < 0) return -1;
+    *row = infer_position(front, (size_t)count);
+    return 0;
+}
+
+int infer_path(const char *path, int32_t *row) {
+    struct stat about;
+    *row = -1;
+    /* A device can act as soon as it is opened: a tape winds back, a watchdog starts. */
+    if (stat(path, &about) != 0 || !is_regular(&about)) return -1;
+    int fd = open_front(path);
+    if (fd < 0) return -1;
+    /* The path may name another file by now, so the descriptor is asked again. */
+    int answer = infer_fd(fd, row), fault = errno;
+    close(fd);
+    errno = fault;
+    return answer;
+}
