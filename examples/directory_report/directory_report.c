@@ -1,20 +1,20 @@
 /* Tells the types of the files whose names come on standard input. README.md says what a line has. */
 #define _POSIX_C_SOURCE 200809L
-#include "infer.h"
+#include "infer_file.h"
 #include <errno.h>
-#include <fcntl.h>
 #include <limits.h>
 #include <stdio.h>
 #include <string.h>
-#include <sys/stat.h>
-#include <unistd.h>
-
-enum { FRONT = 8192 };
 
 struct name {
     char text[PATH_MAX + 1];
     size_t size;
-    bool is_cut;
+    bool is_cut, is_ended; /* it is longer than a path can be; it has its zero byte */
+};
+
+/* How many names were read, and of how many the file could not be. */
+struct counts {
+    uintmax_t names, faults;
 };
 
 struct finding {
@@ -35,51 +35,16 @@ static bool read_name(struct name *name) {
         else
             name->is_cut = true;
     }
+    name->is_ended = byte == 0;
     name->text[name->size] = 0;
     return true;
 }
 
-/* The number of bytes that were read, or -1. */
-static ssize_t read_front(int fd, uint8_t front[FRONT]) {
-    size_t count = 0;
-    while (count < FRONT) {
-        ssize_t got = read(fd, front + count, FRONT - count);
-        if (got < 0 && errno == EINTR)
-            continue;
-        if (got < 0)
-            return -1;
-        if (got == 0)
-            break;
-        count += (size_t)got;
-    }
-    return (ssize_t)count;
-}
-
-/* Opening a FIFO to read waits for a writer, and reading one waits for bytes, so nothing but a regular file is read. */
-static const char *look(const char *path, uint8_t front[FRONT], size_t *size) {
-    struct stat status;
-    int fd = open(path, O_RDONLY | O_NONBLOCK | O_NOCTTY | O_CLOEXEC);
-    if (fd < 0)
-        return strerror(errno);
-    const char *fault = fstat(fd, &status) != 0 ? strerror(errno) : S_ISREG(status.st_mode) ? NULL : "Not a regular file";
-    if (!fault) {
-        ssize_t got = read_front(fd, front);
-        if (got < 0)
-            fault = strerror(errno);
-        else
-            *size = (size_t)got;
-    }
-    close(fd);
-    return fault;
-}
-
 static struct finding find(const struct name *name) {
-    static uint8_t front[FRONT];
     struct finding found = {.fault = name->is_cut ? strerror(ENAMETOOLONG) : NULL};
-    size_t size = 0;
-    if (!found.fault)
-        found.fault = look(name->text, front, &size);
-    int32_t row = found.fault ? -1 : infer_position(front, size);
+    int32_t row = -1;
+    if (!name->is_cut && infer_path(name->text, &row) != 0)
+        found.fault = errno == ENOTSUP ? "Not a regular file" : strerror(errno);
     infer_mime_type(row, found.mime_type, sizeof found.mime_type);
     infer_extension(row, found.extension, sizeof found.extension);
     infer_class_name(infer_class(row), found.class, sizeof found.class);
@@ -159,6 +124,28 @@ static void put_line(const struct name *name, const struct finding *found) {
     putchar(0);
 }
 
+static struct counts report(bool is_json, struct name *name) {
+    struct counts counts = {0, 0};
+    while (read_name(name)) {
+        struct finding found = find(name);
+        counts.names++;
+        counts.faults += found.fault != NULL;
+        if (is_json)
+            put_json_line(name, &found);
+        else
+            put_line(name, &found);
+    }
+    return counts;
+}
+
+/* Says that no file could be read, and why that may be: a list of lines is one long name. */
+static void put_suspicion(const struct counts *counts, const struct name *last) {
+    bool is_lines = counts->names == 1 && !last->is_ended && memchr(last->text, '\n', last->size);
+    fputs("directory_report: none of the names is that of a file that can be read\n", stderr);
+    if (is_lines)
+        fputs("directory_report: there are line ends and no zero byte: find wants -print0, and other lists tr '\\n' '\\0'\n", stderr);
+}
+
 int main(int argc, char **argv) {
     static struct name name;
     bool is_json = argc == 2 && strcmp(argv[1], "-j") == 0;
@@ -166,13 +153,12 @@ int main(int argc, char **argv) {
         fputs("usage: directory_report [-j] < NAMES\n", stderr);
         return 2;
     }
-    while (read_name(&name)) {
-        struct finding found = find(&name);
-        if (is_json)
-            put_json_line(&name, &found);
-        else
-            put_line(&name, &found);
-    }
+    struct counts counts = report(is_json, &name);
     bool is_whole = !ferror(stdin) && !ferror(stdout);
-    return fflush(stdout) == 0 && is_whole ? 0 : 2;
+    if (fflush(stdout) != 0 || !is_whole)
+        return 2;
+    if (counts.names == 0 || counts.faults < counts.names)
+        return 0;
+    put_suspicion(&counts, &name);
+    return 1;
 }
