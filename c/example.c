@@ -2,8 +2,8 @@
 #include <stdio.h>
 
 int main(void) {
-    char buf[8192], mime[128];
+    char buf[8192];
     size_t len = fread(buf, 1, sizeof buf, stdin);
-    infer_mime_type(infer_position(buf, len), mime, sizeof mime);
-    puts(*mime ? mime : "unknown");
+    const char *mime_type = infer_mime_type_text(infer_position(buf, len));
+    puts(*mime_type ? mime_type : "unknown");
 }

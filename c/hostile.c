@@ -72,13 +72,16 @@ static void ask_some(void) {
 typedef size_t text_of(int32_t number, char *out, size_t size);
 static size_t version(int32_t number, char *out, size_t size) { return (void)number, infer_version(out, size); }
 static text_of *const texts[] = {infer_mime_type, infer_extension, infer_class_name, version};
+static const char *own_version(int32_t number) { return (void)number, INFER_VERSION; }
+static const char *(*const own_texts[])(int32_t) = {infer_mime_type_text, infer_extension_text, infer_class_name_text, own_version};
 
 /* A text of any number, into each size, at the end of the room. */
 static void write_texts(int32_t number) {
     char whole[128];
     for (size_t t = 0; t < sizeof texts / sizeof *texts; t++) {
         size_t len = texts[t](number, whole, sizeof whole);
-        wants(len == strlen(whole) && len <= 73);
+        wants(len == strlen(whole) && len < INFER_TEXT_SIZE);
+        wants(strcmp(own_texts[t](number), whole) == 0);
         for (size_t size = 0; size <= len + 2; size++) {
             char *out = (char *)end - size;
             out[-1] = '.';

@@ -18,10 +18,10 @@
  * strlen. A null pointer with length 0 is the empty buffer or text. A text that is not UTF-8 is no row's text. Upper
  * and lower case are apart.
  *
- * A text that comes back is written as snprintf does it, to `out`, which must have room for `size` bytes: at most
- * `size` bytes are written, of which the last is a zero, and the answer is the text's length without the zero. So
- * the text is whole if the answer is less than `size`, and cut otherwise. With `size` 0 nothing is written, and
- * `out` may be null. */
+ * A text that is written comes as snprintf does it, to `out`, which must have room for `size` bytes: at most `size`
+ * bytes are written, of which the last is a zero, and the answer is the text's length without the zero. So the text is
+ * whole if the answer is less than `size`, and cut otherwise. With `size` 0 nothing is written, and `out` may be
+ * null. */
 #ifndef INFER_H
 #define INFER_H
 
@@ -81,16 +81,31 @@ bool infer_may_become(const void *buf, size_t len, int32_t row);
 /* The number of rows. */
 size_t infer_row_count(void);
 
-/* The row's MIME type or extension, without a dot, and the empty text if there is no such row. No text of this
- * version is longer than 73 bytes. */
-size_t infer_mime_type(int32_t row, char *out, size_t size);
-size_t infer_extension(int32_t row, char *out, size_t size);
-
 /* The row's class, one of `enum infer_class_code`, and INFER_NO_ROW if there is no such row. */
 int32_t infer_class(int32_t row);
 
-/* The name of a class, such as "image", and the empty text if no class has this number. */
+/* The row's MIME type, its extension, without a dot, and the name of a class, such as "image". Each is a text of the
+ * library's own with a zero after it: it lasts as long as the library is loaded, and nobody frees it. It is the empty
+ * text if there is no such row, or if no class has this number. */
+static inline const char *infer_mime_type_text(int32_t row);
+static inline const char *infer_extension_text(int32_t row);
+static inline const char *infer_class_name_text(int32_t class_code);
+
+/* The same texts, written to `out`. INFER_TEXT_SIZE bytes are room for each text of this version. */
+#define INFER_TEXT_SIZE 74
+size_t infer_mime_type(int32_t row, char *out, size_t size);
+size_t infer_extension(int32_t row, char *out, size_t size);
 size_t infer_class_name(int32_t class_code, char *out, size_t size);
+
+/* What the calls that end in _text ask, for languages that cannot: `out` gets where the text stands, and its size with
+ * the zero. It must have a text before too, such as {"", 1}. */
+struct infer_text {
+    const char *bytes;
+    size_t size;
+};
+void infer_find_mime_type(int32_t row, struct infer_text *out);
+void infer_find_extension(int32_t row, struct infer_text *out);
+void infer_find_class_name(int32_t class_code, struct infer_text *out);
 
 /* The length of a short buffer of which the row is the answer, and 0 if the row is never the answer or there is no such
  * row. The buffer is written to `out`, with no zero after it, if `size` bytes are room for all of it, and otherwise
@@ -122,6 +137,24 @@ bool infer_is_mime_supported(const char *mime_type, size_t mime_type_len);
 
 /* The library's version, which is INFER_VERSION of its own header. */
 size_t infer_version(char *out, size_t size);
+
+static inline const char *infer_mime_type_text(int32_t row) {
+    struct infer_text found = {"", 1};
+    infer_find_mime_type(row, &found);
+    return found.bytes;
+}
+
+static inline const char *infer_extension_text(int32_t row) {
+    struct infer_text found = {"", 1};
+    infer_find_extension(row, &found);
+    return found.bytes;
+}
+
+static inline const char *infer_class_name_text(int32_t class_code) {
+    struct infer_text found = {"", 1};
+    infer_find_class_name(class_code, &found);
+    return found.bytes;
+}
 
 #ifdef __cplusplus
 }

@@ -27,20 +27,19 @@ static bool map(int fd, const void **bytes, size_t *len) {
 }
 
 static bool print_type(const char *path) {
-    char mime[128];
     const void *bytes;
     size_t len;
     /* A pipe without a writer would hold the open back. */
-    int fd = open(path, O_RDONLY | O_CLOEXEC | O_NONBLOCK);
+    int fd = open(path, O_RDONLY | O_NONBLOCK | O_NOCTTY | O_CLOEXEC);
     if (fd < 0) return false;
     bool is_mapped = map(fd, &bytes, &len);
     int why = errno;
     close(fd);
     errno = why;
     if (!is_mapped) return false;
-    infer_mime_type(infer_position(bytes, len), mime, sizeof mime);
+    const char *mime_type = infer_mime_type_text(infer_position(bytes, len));
     if (len) munmap((void *)(uintptr_t)bytes, len);
-    return printf("%s: %s\n", path, *mime ? mime : "unknown") >= 0;
+    return printf("%s: %s\n", path, *mime_type ? mime_type : "unknown") >= 0;
 }
 
 int main(int argc, char **argv) {

@@ -53,6 +53,38 @@ static void texts(void) {
     same("version of the macros", strcmp(made, INFER_VERSION), 0);
 }
 
+typedef const char *own_text_of(int32_t number);
+typedef void find_text(int32_t number, struct infer_text *out);
+
+/* Whether the library's own text is the one that is written, with its zero, and stands in one place. */
+static void own_text(own_text_of *own, find_text *find, text_of *write, int32_t number) {
+    char written[INFER_TEXT_SIZE];
+    struct infer_text found = {"", 1};
+    write(number, written, sizeof written);
+    same("a text of the library", strcmp(own(number), written), 0);
+    find(number, &found);
+    same("its place", found.bytes == own(number), true);
+    same("its size", (long)found.size, (long)strlen(written) + 1);
+}
+
+static void own_texts(void) {
+    const int32_t none[] = {INT32_MIN, -2, -1, last() + 1, INT32_MAX};
+    for (int32_t row = 0; row <= last(); row++) {
+        own_text(infer_mime_type_text, infer_find_mime_type, infer_mime_type, row);
+        own_text(infer_extension_text, infer_find_extension, infer_extension, row);
+    }
+    for (size_t i = 0; i < sizeof none / sizeof *none; i++) {
+        own_text(infer_mime_type_text, infer_find_mime_type, infer_mime_type, none[i]);
+        own_text(infer_extension_text, infer_find_extension, infer_extension, none[i]);
+        own_text(infer_class_name_text, infer_find_class_name, infer_class_name, none[i]);
+    }
+    for (int32_t code = INFER_APP - 1; code <= INFER_CUSTOM + 1; code++)
+        own_text(infer_class_name_text, infer_find_class_name, infer_class_name, code);
+    same("MIME type of its own", strcmp(infer_mime_type_text(jpeg()), "image/jpeg"), 0);
+    same("extension of its own", strcmp(infer_extension_text(jpeg()), "jpg"), 0);
+    same("class name of its own", strcmp(infer_class_name_text(INFER_IMAGE), "image"), 0);
+}
+
 static void class_names(void) {
     static const char *const names[] = {"app", "archive", "audio", "book", "doc", "font", "image", "text", "video", "custom"};
     for (int32_t code = INFER_APP; code <= INFER_CUSTOM; code++)
@@ -214,6 +246,7 @@ int main(void) {
     verdicts();
     decided();
     texts();
+    own_texts();
     class_names();
     classes();
     samples();

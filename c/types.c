@@ -36,13 +36,11 @@ static void find_source(FILE *sources, const char *extension, char *source, size
 
 static void print_row(int32_t row, FILE *sources) {
     unsigned char sample[640];
-    char extension[32], mime_type[128], class_name[32], source[256];
+    char source[256];
+    const char *extension = infer_extension_text(row);
     size_t len = infer_sample(row, sample, sizeof sample);
-    infer_extension(row, extension, sizeof extension);
-    infer_mime_type(row, mime_type, sizeof mime_type);
-    infer_class_name(infer_class(row), class_name, sizeof class_name);
     find_source(sources, extension, source, sizeof source);
-    printf("%d. **%s**, %s, %s: ", (int)row, extension, mime_type, class_name);
+    printf("%d. **%s**, %s, %s: ", (int)row, extension, infer_mime_type_text(row), infer_class_name_text(infer_class(row)));
     if (len == 0) {
         fputs("never the answer", stdout);
     } else {

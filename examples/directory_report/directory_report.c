@@ -18,7 +18,7 @@ struct counts {
 };
 
 struct finding {
-    char mime_type[128], extension[32], class[16];
+    int32_t row;
     const char *fault; /* why there is no answer, or a null pointer */
 };
 
@@ -41,13 +41,9 @@ static bool read_name(struct name *name) {
 }
 
 static struct finding find(const struct name *name) {
-    struct finding found = {.fault = name->is_cut ? strerror(ENAMETOOLONG) : NULL};
-    int32_t row = -1;
-    if (!name->is_cut && infer_path(name->text, &row) != 0)
+    struct finding found = {.row = -1, .fault = name->is_cut ? strerror(ENAMETOOLONG) : NULL};
+    if (!name->is_cut && infer_path(name->text, &found.row) != 0)
         found.fault = errno == ENOTSUP ? "Not a regular file" : strerror(errno);
-    infer_mime_type(row, found.mime_type, sizeof found.mime_type);
-    infer_extension(row, found.extension, sizeof found.extension);
-    infer_class_name(infer_class(row), found.class, sizeof found.class);
     return found;
 }
 
@@ -100,13 +96,16 @@ static void put_json_name(const struct name *name) {
     putchar('"');
 }
 
+static const char *class_of(int32_t row) { return infer_class_name_text(infer_class(row)); }
+
 static void put_json_line(const struct name *name, const struct finding *found) {
     put_json_name(name);
     if (found->fault) {
         fputs(",\"fault\":", stdout);
         put_json(found->fault);
-    } else if (*found->mime_type) {
-        printf(",\"mime_type\":\"%s\",\"extension\":\"%s\",\"class\":\"%s\"", found->mime_type, found->extension, found->class);
+    } else if (found->row >= 0) {
+        printf(",\"mime_type\":\"%s\",\"extension\":\"%s\"", infer_mime_type_text(found->row), infer_extension_text(found->row));
+        printf(",\"class\":\"%s\"", class_of(found->row));
     } else {
         fputs(",\"mime_type\":null", stdout);
     }
@@ -117,8 +116,8 @@ static void put_json_line(const struct name *name, const struct finding *found) 
 static void put_line(const struct name *name, const struct finding *found) {
     if (found->fault)
         printf("fault\t%s\t-\t%s", found->fault, name->text);
-    else if (*found->mime_type)
-        printf("%s\t%s\t%s\t%s", found->mime_type, found->extension, found->class, name->text);
+    else if (found->row >= 0)
+        printf("%s\t%s\t%s\t%s", infer_mime_type_text(found->row), infer_extension_text(found->row), class_of(found->row), name->text);
     else
         printf("unknown\t-\t-\t%s", name->text);
     putchar(0);

@@ -1,6 +1,7 @@
 //! Classes as numbers and as texts.
 ghost use Rattle.std.specs.Prelude.{◌≡◌};
 ghost use Rattle.infer_c.specs.Codes.{IsClassOf, class_code, class_name};
+ghost use Rattle.infer_c.specs.Ended.{ended};
 
 use infer::MatcherType;
 
@@ -54,5 +55,23 @@ pub fn name(class: MatcherType) -> &'static str
         MatcherType::Text => "text",
         MatcherType::Video => "video",
         MatcherType::Custom => "custom",
+    }
+}
+
+/// The name with a zero after it.
+pub fn ended_name(class: MatcherType) -> &'static str
+    ensures { result.now ≡ ended (class_name class) }
+{
+    match class {
+        MatcherType::App => "app\0",
+        MatcherType::Archive => "archive\0",
+        MatcherType::Audio => "audio\0",
+        MatcherType::Book => "book\0",
+        MatcherType::Doc => "doc\0",
+        MatcherType::Font => "font\0",
+        MatcherType::Image => "image\0",
+        MatcherType::Text => "text\0",
+        MatcherType::Video => "video\0",
+        MatcherType::Custom => "custom\0",
     }
 }

@@ -16,10 +16,12 @@ ghost use Rattle.infer.specs.declared.ask.question.Wanted.TheVariants.{Every};
 ghost use Rattle.infer.specs.declared.table.rows.TheConstants.{MOST_CANDIDATES};
 ghost use Rattle.infer_sniff.specs.Verdicts.{IsSettled, RowStaysFinal};
 ghost use Rattle.infer_c.specs.Codes.{AcceptsAt, IsClassOf, IsSampleOf, MayAcceptAt, class_code, class_name, row_code, triple_at};
+ghost use Rattle.infer_c.specs.Ended.{ended};
 ghost use Rattle.infer_c.specs.Written.{WritesText, WritesWhole};
 
 mod class;
 mod row;
+mod texts;
 mod written;
 
 use infer::MatcherType;
@@ -125,6 +127,22 @@ pub extern "C" fn infer_extension(row: i32, out: &mut [u8]) -> usize
     }
 }
 
+/// Stores where the row's MIME type stands, with a zero after it, and the empty text if there is no such row.
+#[unsafe(no_mangle)]
+pub extern "C" fn infer_find_mime_type(row: i32, out: &mut &'static [u8])
+    ensures { out.new.now ≡ ended (option_map_or (λ t. t.mime_type) (triple_at row) []) }
+{
+    *out = texts::of(row).mime_type.as_bytes();
+}
+
+/// Stores where the row's extension stands, with a zero after it, and the empty text if there is no such row.
+#[unsafe(no_mangle)]
+pub extern "C" fn infer_find_extension(row: i32, out: &mut &'static [u8])
+    ensures { out.new.now ≡ ended (option_map_or (λ t. t.extension) (triple_at row) []) }
+{
+    *out = texts::of(row).extension.as_bytes();
+}
+
 /// The number of the row's class, and -1 if there is no such row.
 #[unsafe(no_mangle)]
 pub extern "C" fn infer_class(row: i32) -> i32
@@ -147,6 +165,18 @@ pub extern "C" fn infer_class_name(class: i32, out: &mut [u8]) -> usize
         Some(found) => written::write_text(class::name(found), out),
         None => written::write_text("", out),
     }
+}
+
+/// Stores where the class's name stands, with a zero after it, and the empty text if no class has this number.
+#[unsafe(no_mangle)]
+pub extern "C" fn infer_find_class_name(class: i32, out: &mut &'static [u8])
+    ensures { (found : Option MatcherType) × IsClassOf class found
+        × (out.new.now ≡ ended (option_map_or class_name found [])) }
+{
+    *out = match class::of(class) {
+        Some(found) => class::ended_name(found).as_bytes(),
+        None => b"\0",
+    };
 }
 
 /// The length of the row's sample, which is written to `out` if it fits, and 0 if the row has none.
