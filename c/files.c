@@ -16,17 +16,19 @@
 #include <unistd.h>
 
 static int compared, differing, interrupted;
-static bool is_swapped;
+static enum { STAYS, GOES, IS_FIFO, IS_FOLDER } next; /* what becomes of a file right before it is opened */
 
 int __real_open(const char *path, int flags, ...);
 ssize_t __real_pread(int fd, void *bytes, size_t size, off_t place);
 
-/* The first call is interrupted. While `is_swapped`, the file becomes a FIFO right before it is opened. */
+/* Every other call is interrupted. */
 int __wrap_open(const char *path, int flags, ...) {
     static bool is_next;
     is_next = !is_next;
     if (is_next && ++interrupted) return errno = EINTR, -1;
-    if (is_swapped && (unlink(path) != 0 || mkfifo(path, 0600) != 0)) return -1;
+    if (next != STAYS && unlink(path) != 0) return -1;
+    if (next == IS_FIFO && mkfifo(path, 0600) != 0) return -1;
+    if (next == IS_FOLDER && mkdir(path, 0700) != 0) return -1;
     return __real_open(path, flags);
 }
 
@@ -163,11 +165,11 @@ static void no_descriptors(void) {
     setrlimit(RLIMIT_NOFILE, &old);
 }
 
-static void swapped(void) {
-    write_file("swapped", "\xFF\xD8\xFF", 3, 3);
-    is_swapped = true;
-    path_is("swapped", FAULT(ENOTSUP));
-    is_swapped = false;
+static void swapped(const char *path, int becomes, long wanted) {
+    write_file(path, "\xFF\xD8\xFF", 3, 3);
+    next = becomes;
+    path_is(path, wanted);
+    next = STAYS;
 }
 
 static void descriptors(void) {
@@ -204,7 +206,9 @@ int main(int argc, char **argv) {
     faults();
     forbidden();
     no_descriptors();
-    swapped();
+    swapped("goes", GOES, FAULT(ENOENT));
+    swapped("becomes a fifo", IS_FIFO, FAULT(ENOTSUP));
+    swapped("becomes a folder", IS_FOLDER, FAULT(EISDIR));
     int left = dup(0);
     close(left);
     same("descriptors left open", left, first);
