@@ -321,6 +321,7 @@ int main(int argc, char **argv) {
     }
     fill_standard();
     signal(SIGPIPE, SIG_IGN);
+    signal(SIGXFSZ, SIG_IGN); /* a file of lines that is full is a failed write */
     sigaction(SIGALRM, &(struct sigaction){.sa_handler = wake}, NULL);
     int listening = listen_at(argv[1]);
     if (listening < 0) {

@@ -25,7 +25,7 @@ import infer
 from infer.aliases import BROWSER_OF, BUILT_ON, EXTENSION
 
 FRONT, WHOLE, PIECE, HEAD = 8192, 1 << 20, 65536, 8192
-THREADS, SECONDS, GRACE, LINGER, REST = 64, 30, 1, 1, 0.1
+THREADS, SECONDS, GRACE, LINGER, REST = 64, 30, 2, 1, 0.1
 SHORT = {errno.EMFILE, errno.ENFILE, errno.ENOBUFS, errno.ENOMEM}  # the system has no more of something
 UNKNOWN, PAGE = "application/octet-stream", "application/xhtml+xml"
 TEXTS = {"js": "text/javascript", "mjs": "text/javascript", "md": "text/markdown", "json": "application/json", "svg": "image/svg+xml",
@@ -323,7 +323,8 @@ class Handler(http.server.BaseHTTPRequestHandler):
                 # A file that became shorter leaves a promise unkept, which the client sees by the closed connection.
                 self.close_connection = True
                 return
-            self.wfile.write(piece)
+            with self.server.waiting(self.connection):
+                self.wfile.write(piece)
             begin += len(piece)
 
 
@@ -349,7 +350,7 @@ class Server(http.server.ThreadingHTTPServer):
 
     @contextlib.contextmanager
     def waiting(self, connection: socket.socket) -> Iterator[None]:
-        """Meanwhile the connection waits for a head, and may be ended."""
+        """Meanwhile the client is waited for: for a head, or to take a piece of an answer."""
         with self.lock:
             self.since[connection] = time.monotonic()
         try:
@@ -359,11 +360,11 @@ class Server(http.server.ThreadingHTTPServer):
                 del self.since[connection]
 
     def end_longest(self) -> None:
-        """Ends the connection that waits for a head longest, unless that is not long."""
+        """Ends the connection whose client has been waited for longest, unless that is not long."""
         with self.lock, contextlib.suppress(OSError):
-            for connection, since in [*self.since.items()][:1]:
-                if time.monotonic() - since > GRACE:
-                    connection.shutdown(socket.SHUT_RD)
+            connection, since = next(iter(self.since.items()), (None, 0.0))
+            if connection and time.monotonic() - since > GRACE:
+                connection.shutdown(socket.SHUT_RDWR)
 
     def process_request(self, request, client_address) -> None:
         is_free = self.places.acquire(blocking=False)
