@@ -1,15 +1,15 @@
 -- The first of the candidates that has a property is the first row of the table that has it.
-use Rattle.std.proofs.Common.{◌≡◌, ◌<◌, ◌+◌, ℕ, zero, suc, Bool, true, false, List, [], ◌∷◌, get_or, length, drop, length-drop, drop-cons, add-one, sym, subst, ap, arith, IsTrue, refl, Option, Some, None, MatchOption, if◌then◌else◌, inl, inr, is_some, ◌↔◌}
+use Rattle.std.proofs.Common.{◌≡◌, ◌<◌, ◌≤◌, ◌+◌, ℕ, zero, suc, Bool, true, false, List, [], ◌∷◌, get_or, length, drop, length-drop, drop-cons, add-one, sym, subst, ap, arith, IsTrue, refl, Option, Some, None, MatchOption, if◌then◌else◌, inl, inr, is_some, ◌↔◌}
 use Rattle.std.specs.List.{slice_get, AllWithin, HoldsAt}
-use Rattle.std.proofs.lemmas.Bool.{ne_eqb}
+use Rattle.std.proofs.lemmas.Bool.{cases_lt, ne_eqb}
 use Rattle.std.proofs.lemmas.List.Elements.{AllWithin-more, AllWithin-none, AllWithin-upto}
 use Rattle.std.proofs.lemmas.List.Folds.{none_from_all_within}
 use Rattle.infer.specs.BuiltIn.{BuiltIn}
-use Rattle.infer.specs.First.{IsFirstOf, NoneHas, SomeHas}
+use Rattle.infer.specs.First.{IsFirst, IsFirstOf, NoneHas, SomeHas}
 use Rattle.infer.specs.Leads.{Leads, allows_first, candidates, candidates_of, places_from}
 use Rattle.infer.specs.Row.{Row, Accepts}
 use Rattle.infer.specs.Table.{table}
-use Rattle.infer.specs.Walks.{IsFirstAmong, RowHas, Takes, row_numbered}
+use Rattle.infer.specs.Walks.{IsFirstAmong, RowHas, Takes, WalksFindFirst, row_numbered}
 use Rattle.infer.specs.declared.ask.question.Wanted.{Wanted}
 use Rattle.infer.specs.declared.ask.question.Wanted.TheVariants.{Every}
 use Rattle.infer.specs.declared.table.rows.TheConstants.{ROW_COUNT}
@@ -67,6 +67,50 @@ first_of_buffer leads blank wanted (f ∷ b) cs o same h =
     first_listed (Takes wanted (f ∷ b)) (λ r. allows_first r.signature f) (λ r t. leads r.signature f b t.1) o
     (subst (λ ns. IsFirstAmong (RowHas (Takes wanted (f ∷ b))) ns o) same h)
 
+-- the other way round: the first row is the first of the candidates
+module _ (P : Row BuiltIn → Type 0) where
+  passed_over : (b : Bool) (i : ℕ) (ns : List ℕ) (o : Option ℕ) → (¬ RowHas P i) → IsFirstAmong (RowHas P) ns o
+      → IsFirstAmong (RowHas P) (if b then i ∷ ns else ns) o
+  unfolding IsFirstAmong
+  passed_over true i ns o not rest = inr (not, rest)
+  passed_over false i ns o not rest = rest
+
+  found : (b : Bool) (i : ℕ) (ns : List ℕ) → IsTrue b → RowHas P i → IsFirstAmong (RowHas P) (if b then i ∷ ns else ns) (Some i)
+  unfolding IsFirstAmong
+  found true i ns passes has = inl (has, refl)
+  found false i ns passes has = absurd (cc)
+
+  module _ (test : Row BuiltIn → Bool) (only : (r : Row BuiltIn) → P r → IsTrue (test r)) where
+    none_listed : NoneHas P table → (xs : List (Row BuiltIn)) (i : ℕ) → drop i table ≡ xs → IsFirstAmong (RowHas P) (places_from test i xs) None
+    unfolding IsFirstAmong
+    none_listed none [] i e = refl
+    none_listed none (x ∷ xs) i e =
+        let lt : i < length table = omega (arith, length-drop i table, ap length e) in
+        let split = drop-cons table i x lt in
+        passed_over (test x) i _ None (λ has. let at = (read_has P table i).0 has in none_from_all_within P table none (i, at.0, at.1)) (none_listed none xs (suc i) (cc))
+
+    first_listed_from : (k : ℕ) → IsFirst P table k → (xs : List (Row BuiltIn)) (i : ℕ) → drop i table ≡ xs → i ≤ k
+        → IsFirstAmong (RowHas P) (places_from test i xs) (Some k)
+    first_listed_from k first [] i e le = absurd (let w = first.within in omega (arith, length-drop i table, ap length e))
+    first_listed_from k first (x ∷ xs) i e le =
+        let lt : i < length table = omega (arith, length-drop i table, ap length e) in
+        let split = drop-cons table i x lt in
+        elim (cases_lt i k) [
+          | inl before ↦
+              passed_over (test x) i _ (Some k) (λ has. first.before i x (omega arith) before (((read_has P table i).0 has).1 x))
+              (first_listed_from k first xs (suc i) (cc) (omega arith))
+          | inr here ↦
+              let same : k ≡ i = omega arith in
+              let has = (read_has P table k).1 (first.within, first.here) in
+              let passes = only x (rw (let e : x ≡ get_or table i x = cc in e) (subst (λ j. P (get_or table j x)) same (first.here x))) in
+              subst (λ j. IsFirstAmong (RowHas P) (places_from test i (x ∷ xs)) (Some j)) (sym same)
+              (found (test x) i _ passes (subst (RowHas P) same has))
+        ]
+
+    pub among_listed : (o : Option ℕ) → IsFirstOf P table o → IsFirstAmong (RowHas P) (places_from test 0 table) o
+    among_listed None none = none_listed none table 0 refl
+    among_listed (Some k) first = first_listed_from k first table 0 refl (omega arith)
+
 -- the first of some numbers that a row has is the number of a row
 pub first_is_row : (P : Row BuiltIn → Type 0) (ns : List ℕ) (i : ℕ) → IsFirstAmong (RowHas P) ns (Some i) → i < ROW_COUNT
 unfolding IsFirstAmong
@@ -90,3 +134,25 @@ first_of_every b rows o first = grind arith
 
 pub every_taken : (b : List ℕ) (i : ℕ) → RowHas (Accepts b) i ↔ RowHas (Takes Every b) i
 every_taken b i = (λ h. grind arith, λ h. grind arith)
+
+accepted_taken : (b : List ℕ) (o : Option ℕ) → IsFirstOf (Accepts b) table o → IsFirstOf (Takes Every b) table o
+accepted_taken b None none = λ k d low lt t. none k d low lt t.1
+accepted_taken b (Some i) first = record {
+  within = first.within;
+  here = λ d. (tt, first.here d);
+  before = λ k d low lt t. first.before k d low lt t.1;
+}
+
+walk_of_first : ((s : BuiltIn) → Leads s) → NoneHas (Accepts []) table → (b : List ℕ) (o : Option ℕ) → IsFirstOf (Accepts b) table o
+    → IsFirstAmong (RowHas (Takes Every b)) (candidates_of b) o
+unfolding IsFirstAmong candidates
+walk_of_first leads blank [] None none = refl
+walk_of_first leads blank [] (Some i) first = absurd (none_from_all_within (Accepts []) table blank (i, first.within, first.here))
+walk_of_first leads blank (f ∷ b) o first =
+    among_listed (Takes Every (f ∷ b)) (λ r. allows_first r.signature f) (λ r t. leads r.signature f b t.1) o (accepted_taken (f ∷ b) o first)
+
+pub walks_find_first : ((s : BuiltIn) → Leads s) → NoneHas (Accepts []) table → WalksFindFirst
+walks_find_first leads blank b o = (
+  λ among. first_of_every b table o (first_of_buffer leads blank Every b (candidates_of b) o refl among),
+  walk_of_first leads blank b o,
+)

@@ -1,6 +1,8 @@
 -- A buffer is decided just if none of the rows before its answer may still accept it.
-use Rattle.std.proofs.Common.{◌≡◌, ◌↔◌, ◌<◌, ◌≤◌, inl, inr, le_refl, ◌∙◌, sym, refl, zero, suc, ℕ, Bool, true, List, [], ◌∷◌, ◌++◌, length, get_or, Option, None, Some, IsTrue, subst, arith}
-use Rattle.std.proofs.lemmas.List.Elements.{All-cons, All-nil, AllWithin-none}
+use Rattle.std.proofs.Common.{◌≡◌, ◌↔◌, ◌<◌, ◌≤◌, inl, inr, le_refl, ◌∙◌, sym, refl, zero, suc, ℕ, Bool, true, List, [], ◌∷◌, ◌++◌, length, map, get_or, Option, None, Some, All, IsTrue, subst, append_assoc, append-nil, arith}
+use Rattle.std.proofs.lemmas.List.Folds.{list_all-append, list_all-map}
+use Rattle.std.proofs.lemmas.List.Sums.{AllPass-from_list_all}
+use Rattle.std.proofs.lemmas.List.Elements.{All-append, All-cons, All-nil, AllWithin-none}
 use Rattle.std.proofs.lemmas.Bool.{and_parts, cases_Bool, cases_lt, cases_order}
 use Rattle.std.specs.List.{AllWithin, HoldsAt, list_all, slice_get}
 use Rattle.std.specs.Option.{option_map_or}
@@ -9,10 +11,10 @@ use Rattle.infer_sig.specs.Open.{IsOpen, is_sound}
 use Rattle.infer_sig.specs.Signature.{Alternative, stands}
 use Rattle.infer.specs.BuiltIn.{BuiltIn, fixed, avif, doc, framed, heif, html, matroska, office, pdf, ppt, xls, xml, IsAccepted}
 use Rattle.infer.specs.Buffer.{IsBuffer}
-use Rattle.infer.specs.Decided.{IsDecided, MayAccept, Tells, rows_before, DecidedByRows}
+use Rattle.infer.specs.Decided.{CanBeDecided, DecidedByRows, DecidedLasts, FirstOpenComes, IsChangeable, IsDecided, IsToldExactly, MayAccept, ReachNarrows, Tells, rows_before}
 use Rattle.infer.specs.First.{IsFirst, IsFirstOf, NoneHas}
 use Rattle.infer.specs.Leads.{Leads, allows_first, candidates, candidates_of}
-use Rattle.infer.specs.Matchers.{Lasts}
+use Rattle.infer.specs.Matchers.{Lasts, signatures}
 use Rattle.infer.specs.Row.{Row, Accepts}
 use Rattle.infer.specs.Table.{signature_of, table}
 use Rattle.infer.specs.Walks.{IsFirstAmong, RowHas}
@@ -53,9 +55,15 @@ abbrev is_sound_if_fixed : BuiltIn → Bool
 is_sound_if_fixed (fixed alternatives) = is_sound alternatives
 is_sound_if_fixed s = true
 
-all_sound : IsTrue (list_all (λ r. is_sound_if_fixed r.signature) table)
-unfolding table
+all_sound : IsTrue (list_all is_sound_if_fixed signatures)
+unfolding signatures table
 all_sound = refl
+
+rows_sound : IsTrue (list_all (λ r. is_sound_if_fixed r.signature) table)
+unfolding signatures
+rows_sound =
+    let whole = sym (list_all-append is_sound_if_fixed (map (λ r. r.signature) table) _) ∙ all_sound in
+    sym (list_all-map is_sound_if_fixed (λ r. r.signature) table) ∙ (and_parts _ _ whole).0
 
 sound_at : (rows : List (Row BuiltIn)) → IsTrue (list_all (λ r. is_sound_if_fixed r.signature) rows) → (i : ℕ)
     → IsTrue (is_sound_if_fixed (option_map_or (λ r. r.signature) (slice_get rows i) (fixed [])))
@@ -80,7 +88,10 @@ module _ (opens : (s : List Alternative) → IsTrue (is_sound s) → IsOpen s) (
 
   pub told_of_row : (i : ℕ) → Tells (signature_of i) b r → IsTrue r ↔ Reachable (IsAccepted (signature_of i)) b
   unfolding signature_of
-  told_of_row i = told (signature_of i) (sound_at table all_sound i)
+  told_of_row i = told (signature_of i) (sound_at table rows_sound i)
+
+pub open_signatures : ((s : List Alternative) → IsTrue (is_sound s) → IsOpen s) → All IsToldExactly signatures
+open_signatures opens i d lt b r = told opens b r (get_or signatures i d) (AllPass-from_list_all is_sound_if_fixed signatures all_sound i d lt)
 
 -- ---- the first row that may accept
 
@@ -146,6 +157,20 @@ empty_open blank [] none decided =
     let bytes : IsBuffer more = All-cons (λ x. x < 256) 0x4D (0x5A ∷ []) (omega arith) (All-cons (λ x. x < 256) 0x5A [] (omega arith) (All-nil (λ x. x < 256))) in
     decided more None bytes blank EXE some_row (omega arith) (omega arith) refl
 
+pub empty_changes : NoneHas (Accepts []) table → (b : List ℕ) → length b ≡ 0 → IsChangeable b
+unfolding table stands
+empty_changes blank (x ∷ b) none = absurd (omega (arith, none))
+empty_changes blank [] none =
+    let more : List ℕ = 0x4D ∷ 0x5A ∷ [] in
+    let bytes : IsBuffer more = All-cons (λ x. x < 256) 0x4D (0x5A ∷ []) (omega arith) (All-cons (λ x. x < 256) 0x5A [] (omega arith) (All-nil (λ x. x < 256))) in (
+      more,
+      bytes,
+      λ o first then.
+          let same = IsFirstOf-same (Accepts []) table o None first blank in
+          let nothing : NoneHas (Accepts more) table = subst (IsFirstOf (Accepts more) table) same then in
+          nothing EXE some_row (omega arith) (omega arith) refl,
+    )
+
 -- the first of the candidates that may accept the buffer is the first row of the table that may
 pub first_open_row : ((s : BuiltIn) → Leads s) → (b cs : List ℕ) (o : Option ℕ) → 0 < length b → cs ≡ candidates_of b
     → IsFirstAmong (RowHas (MayAccept b)) cs o → IsFirstOf (MayAccept b) table o
@@ -154,3 +179,63 @@ first_open_row leads [] cs o long same h = absurd (omega (arith, long))
 first_open_row leads (f ∷ rest) cs o long same h =
     first_listed (MayAccept (f ∷ rest)) (λ r. allows_first r.signature f) (λ r (more, bytes, a). leads r.signature f (rest ++ more) a) o
     (subst (λ ns. IsFirstAmong (RowHas (MayAccept (f ∷ rest))) ns o) same h)
+
+-- ---- what is decided later
+
+abbrev both_bytes : (more rest : List ℕ) → IsBuffer more → IsBuffer rest → IsBuffer (more ++ rest)
+both_bytes = All-append (λ x. x < 256)
+
+joined : (b more rest : List ℕ) (r : Row BuiltIn) → Accepts ((b ++ more) ++ rest) r → Accepts (b ++ (more ++ rest)) r
+joined b more rest r a = subst (λ l. Accepts l r) (append_assoc b more rest) a
+
+pub narrows : ReachNarrows
+narrows b more r bytes (rest, rest_bytes, a) = (more ++ rest, both_bytes more rest bytes rest_bytes, joined b more rest r a)
+
+pub first_open_comes : FirstOpenComes
+first_open_comes b i first =
+    let may = first.here some_row in (
+      may.0,
+      may.1,
+      record {
+        within = first.within;
+        here = HoldsAt-read (Accepts (b ++ may.0)) table i some_row first.within may.2;
+        before = λ k d low lt a. first.before k d low lt (may.0, may.1, a);
+      },
+    )
+
+module _ (lasts : (s : BuiltIn) → Lasts s) where
+  pub decided_lasts : DecidedLasts
+  decided_lasts b more bytes decided rest None rest_bytes none = λ k d low lt a.
+      not_unanswered (Accepts b) table (λ o first.
+      let same = IsFirstOf-same (Accepts (b ++ more)) table o None (decided more o bytes first) none in
+      let later = decided (more ++ rest) None (both_bytes more rest bytes rest_bytes) (subst (IsFirstOf (Accepts b) table) same first) in
+      later k d low lt (joined b more rest (get_or table k d) a))
+  decided_lasts b more bytes decided rest (Some i) rest_bytes now = record {
+    within = now.within;
+    here = λ d. lasts _ (b ++ more) rest (now.here d);
+    before = λ k d low lt a. not_unanswered (Accepts b) table (λ o first.
+        let same = IsFirstOf-same (Accepts (b ++ more)) table o (Some i) (decided more o bytes first) now in
+        let later : IsFirst (Accepts (b ++ (more ++ rest))) table i = decided (more ++ rest) (Some i) (both_bytes more rest bytes rest_bytes) (subst (IsFirstOf (Accepts b) table) same first) in
+        later.before k d low lt (joined b more rest (get_or table k d) a));
+  }
+
+  module _ (b : List ℕ) (i : ℕ) (first : IsFirst (MayAccept b) table i) where
+    pub changes_by_first : (¬ RowHas (Accepts b) i) → IsChangeable b
+    changes_by_first not =
+        let comes = first_open_comes b i first in (
+          comes.0,
+          comes.1,
+          λ o now then.
+              let same = IsFirstOf-same (Accepts (b ++ comes.0)) table o (Some i) then comes.2 in
+              let at : IsFirst (Accepts b) table i = subst (IsFirstOf (Accepts b) table) same now in
+              not ((read_has (Accepts b) table i).1 (at.within, at.here)),
+        )
+
+    pub decided_with_first : CanBeDecided b
+    decided_with_first =
+        let comes = first_open_comes b i first in
+        let none : AllWithin (λ r. ¬ MayAccept (b ++ comes.0) r) table 0 i = λ k d low lt may. first.before k d low lt (narrows b comes.0 (get_or table k d) comes.1 may) in
+        (comes.0, comes.1, (decided_by_rows lasts (b ++ comes.0) (Some i) comes.2).1 none)
+
+pub decided_itself : (b : List ℕ) → IsDecided b → CanBeDecided b
+decided_itself b decided = ([], All-nil (λ x. x < 256), subst IsDecided (sym (append-nil b)) decided)

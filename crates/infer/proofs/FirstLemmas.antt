@@ -1,8 +1,13 @@
 -- The first element with a property is one, and stands no later if more elements have it.
-use Rattle.std.proofs.Common.{◌≡◌, ◌<◌, ℕ, List, [], ◌∷◌, length, Option, None, Some, arith}
+use Rattle.std.proofs.Common.{◌≡◌, ◌∙◌, ◌<◌, ℕ, List, [], ◌∷◌, length, get_or, Option, None, Some, Ok, Err, ap, sym, refl, option_map, subst, arith}
 use Rattle.std.specs.List.{HoldsAt, AllWithin}
-use Rattle.infer.specs.First.{IsFirstOf}
-use Rattle.infer.specs.Laws.{IsNotLater}
+use Rattle.infer.specs.Buffer.{head}
+use Rattle.infer.specs.Caller.{Contracts}
+use Rattle.infer.specs.First.{IsAnswer, IsFirstOf}
+use Rattle.infer.specs.Laws.{IsNotLater, ReadersAreAlike}
+use Rattle.infer.specs.Row.{Row}
+use Rattle.infer.specs.Rows.{AnyAccepts, Signature}
+use Rattle.infer.specs.Triple.{Triple, triple_of}
 
 -- an element that has the property is not among those that lack it
 among : {A : Type 0} (P : A → Type 0) (xs : List A) (i n : ℕ) → i < length xs → i < n → HoldsAt P xs i → ¬ AllWithin (λ x. ¬ P x) xs 0 n
@@ -21,3 +26,20 @@ module _ {A : Type 0} (P Q : A → Type 0) (xs : List A) (grows : (i : ℕ) → 
 pub IsFirstOf-same : {A : Type 0} (P : A → Type 0) (xs : List A) (o p : Option ℕ) → IsFirstOf P xs o → IsFirstOf P xs p → o ≡ p
 IsFirstOf-same P xs o p h k =
     grind (arith, IsNotLater-grows P P xs (λ i lt here. here) p o k h, IsNotLater-grows P P xs (λ i lt here. here) o p h k)
+
+same_answer : {S : Type 0} (P : Row S → Type 0) (rows : List (Row S)) (t u : Option Triple) → IsAnswer P rows t → IsAnswer P rows u → t ≡ u
+same_answer P rows None None none nor = refl
+same_answer P rows None (Some u) none (j, then, shows) = absurd (let same = IsFirstOf-same P rows None (Some j) none then in cc)
+same_answer P rows (Some t) None (i, first, shown) none = absurd (let same = IsFirstOf-same P rows (Some i) None first none in cc)
+same_answer P [] (Some t) (Some u) (i, first, shown) (j, then, shows) = absurd (let lt = first.within in omega arith)
+same_answer P (r ∷ rows) (Some t) (Some u) (i, first, shown) (j, then, shows) =
+    let both = IsFirstOf-same P (r ∷ rows) (Some i) (Some j) first then in
+    let same : i ≡ j = cc in
+    ap Some (sym (shown r) ∙ ap (λ k. (get_or (r ∷ rows) k r).shows) same ∙ shows r)
+
+pub readers_alike : {X : Type 0} {g : Contracts X} (all : List (Row (Signature X g))) → ReadersAreAlike all
+readers_alike all n s t (Err fault) q same h k = tt
+readers_alike all n s t (Ok found) (Err fault) same h k = tt
+readers_alike all n s t (Ok found) (Ok other) same h k =
+    same_answer (AnyAccepts (head n t)) all (option_map triple_of found) (option_map triple_of other)
+    (subst (λ (l : List ℕ). IsAnswer (AnyAccepts l) all (option_map triple_of found)) same h) k

@@ -7,7 +7,7 @@ use Rattle.std.proofs.lemmas.List.Elements.{All-append, All-map}
 use Rattle.infer.specs.BuiltIn.{BuiltIn, IsAccepted}
 use Rattle.infer.specs.Caller.{Contracts}
 use Rattle.infer.specs.First.{IsFirstOf}
-use Rattle.infer.specs.Laws.{AnyLasts, IsSteady, answers_twelve, FrontDecides, OnlyTheTwelveFollow}
+use Rattle.infer.specs.Laws.{AnswersAreLocal, AnyLasts, IsSteady, answers_twelve, FrontDecides, OnlyTheTwelveFollow}
 use Rattle.infer.specs.Matchers.{signatures, Lasts, IsNear, OthersAreNear}
 use Rattle.infer.specs.Row.{Row, Accepts}
 use Rattle.infer.specs.Rows.{Signature, AnyAccepts, kept_row}
@@ -90,3 +90,16 @@ module _ (growth : All Lasts signatures) (near : OthersAreNear signatures) where
         let here = lengthened short more after long then (front_answered near (short ++ more) longer after out then) in
         inl (IsFirstOf-same (Accepts short) table after before (shortened growth short more after then here) first)
   ]
+
+pub answers_local : FrontDecides → AnswersAreLocal
+answers_local decides a b o p same first then = elim (cases_Bool (answers_twelve o)) [
+  | inl one ↦ inr (inl one)
+  | inr other ↦ elim (cases_Bool (answers_twelve p)) [
+    | inl one ↦ inr (inr one)
+    | inr neither ↦
+        let out : IsTrue (not (answers_twelve o)) = rw other refl in
+        let beyond : IsTrue (not (answers_twelve p)) = rw neither refl in
+        let front = subst (λ (l : List ℕ). IsFirstOf (Accepts l) table o) same (decides a o first out) in
+        inl (IsFirstOf-same (Accepts (take 1024 b)) table o p front (decides b p then beyond))
+  ]
+]

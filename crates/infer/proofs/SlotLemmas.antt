@@ -1,5 +1,5 @@
 -- Each slot lists the rows whose text has it.
-use Rattle.std.proofs.Common.{◌∷◌, ◌++◌, ◌&&◌, ◌+◌, leb, suc, zero, take, filter, Option, Some, MatchOption, ◌≡◌, ◌<◌, ◌≤◌, ◌↔◌, ◌==◌, eq-eqb, ℕ, Bool, true, false, IsTrue, List, [], ◌∙◌, ap, sym, subst, get_or, map, length, refl, arith, Bor, None}
+use Rattle.std.proofs.Common.{◌∷◌, ◌++◌, ◌&&◌, ◌+◌, leb, suc, zero, take, filter, Option, ◌≡◌, ◌<◌, ◌≤◌, ◌↔◌, ◌==◌, eq-eqb, ℕ, Bool, true, false, IsTrue, List, [], ◌∙◌, ap, sym, subst, get_or, map, length, refl, arith, Bor, None}
 use Rattle.std.specs.Str.{bytes_eq}
 use Rattle.std.specs.List.{HoldsAt, slice_get}
 use Rattle.std.specs.Option.{option_map_or}
@@ -10,7 +10,7 @@ use Rattle.std.proofs.lemmas.List.Elements.{filter_more}
 use Rattle.std.proofs.lemmas.List.Folds.{none_from_all_within}
 use Rattle.infer.specs.BuiltIn.{BuiltIn, IsAccepted}
 use Rattle.infer.specs.First.{NoneHas, SomeHas}
-use Rattle.infer.specs.Leads.{Leads, allows_first, candidates, candidates_of, places_from}
+use Rattle.infer.specs.Leads.{Leads, candidates_of}
 use Rattle.infer.specs.Listed.{number_of}
 use Rattle.infer.specs.Questions.{IsWanted}
 use Rattle.infer.specs.Row.{Row, Accepts}

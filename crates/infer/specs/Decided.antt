@@ -5,7 +5,7 @@ use Rattle.infer_deep.specs.Signatures.{Reachable}
 use Rattle.infer_sig.specs.Open.{may_accept}
 use Rattle.infer.specs.Buffer.{IsBuffer}
 use Rattle.infer.specs.BuiltIn.{BuiltIn, fixed, IsAccepted}
-use Rattle.infer.specs.First.{IsFirstOf}
+use Rattle.infer.specs.First.{IsFirst, IsFirstOf}
 use Rattle.infer.specs.Leads.{allows_first}
 use Rattle.infer.specs.Row.{Row, Accepts}
 use Rattle.infer.specs.Table.{table}
@@ -18,6 +18,27 @@ IsDecided b = (more : List ℕ) (o : Option ℕ) → IsBuffer more → IsFirstOf
 -- some bytes after the buffer make the row accept it
 abbrev pub MayAccept : List ℕ → Row BuiltIn → Type 0
 MayAccept b r = (more : List ℕ) × IsBuffer more × Accepts (b ++ more) r
+
+-- what is decided stays decided, whatever bytes follow
+abbrev pub DecidedLasts : Type 0
+DecidedLasts = (b more : List ℕ) → IsBuffer more → IsDecided b → IsDecided (b ++ more)
+
+-- a row that may accept a buffer that has grown may accept it before
+abbrev pub ReachNarrows : Type 0
+ReachNarrows = (b more : List ℕ) (r : Row BuiltIn) → IsBuffer more → MayAccept (b ++ more) r → MayAccept b r
+
+-- the first row that may accept a buffer is the answer of the buffer with some bytes after it
+abbrev pub FirstOpenComes : Type 0
+FirstOpenComes =
+    (b : List ℕ) (i : ℕ) → IsFirst (MayAccept b) table i → (more : List ℕ) × IsBuffer more × IsFirst (Accepts (b ++ more)) table i
+
+-- some bytes that follow change the first row
+abbrev pub IsChangeable : List ℕ → Type 0
+IsChangeable b = (more : List ℕ) × IsBuffer more × ((o : Option ℕ) → IsFirstOf (Accepts b) table o → ¬ IsFirstOf (Accepts (b ++ more)) table o)
+
+-- some bytes that follow decide it
+abbrev pub CanBeDecided : List ℕ → Type 0
+CanBeDecided b = (more : List ℕ) × IsBuffer more × IsDecided (b ++ more)
 
 -- how many rows stand before the answer: all, if it is none
 abbrev pub rows_before : Option ℕ → ℕ
@@ -37,3 +58,7 @@ AllowsExactly = (f i : ℕ) → f < 256 → RowHas (λ r. IsTrue (allows_first r
 abbrev pub Tells : BuiltIn → List ℕ → Bool → Type 0
 Tells (fixed alternatives) b r = r ≡ may_accept alternatives b
 Tells s b r = IsTrue r ↔ Reachable (IsAccepted s) b
+
+-- and what it tells is exact: some bytes after the buffer make the signature accept
+abbrev pub IsToldExactly : BuiltIn → Type 0
+IsToldExactly s = (b : List ℕ) (r : Bool) → Tells s b r → IsTrue r ↔ Reachable (IsAccepted s) b

@@ -1,6 +1,6 @@
 -- Laws of the first row that accepts a buffer.
-use Rattle.std.specs.Prelude.{◌≡◌, ◌≢◌, ◌<◌, ◌≤◌, ◌⊎◌, ℕ, Bool, false, not, List, ◌++◌, Option, None, Some, Result, length, take, IsTrue}
-use Rattle.infer.specs.Buffer.{IsBuffer}
+use Rattle.std.specs.Prelude.{◌≡◌, ◌≢◌, ◌<◌, ◌≤◌, ◌⊎◌, ℕ, Bool, false, not, List, ◌++◌, Option, None, Some, Result, IfOk, length, option_map, take, IsTrue}
+use Rattle.infer.specs.Buffer.{IsBuffer, head}
 use Rattle.infer.specs.Caller.{Contracts}
 use Rattle.infer.specs.First.{IsAnswer, IsFirst, IsFirstOf}
 use Rattle.infer.specs.Matchers.{is_of_the_twelve}
@@ -9,7 +9,7 @@ use Rattle.infer.specs.Reading.{AnswersFront, AnswersSome}
 use Rattle.infer.specs.Row.{Row, Accepts}
 use Rattle.infer.specs.Rows.{Signature, AnyAccepts, IsAcceptedBy}
 use Rattle.infer.specs.Table.{table}
-use Rattle.infer.specs.Triple.{Triple}
+use Rattle.infer.specs.Triple.{Triple, triple_of}
 use Rattle.infer.specs.declared.read.fault.Fault.{Fault}
 use Rattle.infer.specs.declared.table.file_type.FileType.{FileType}
 
@@ -36,6 +36,13 @@ module _ {X : Type 0} {g : Contracts X} where
       (buf : List ℕ) (t : Triple) → IsAnswer (AnyAccepts buf) all (Some t)
       → SomeBoth (HasExtension t.extension) (AnyAccepts buf) all × SomeBoth (HasMimeType t.mime_type) (AnyAccepts buf) all
 
+  -- two readers that have the same n bytes left at the front have the same answer within n bytes
+  abbrev pub ReadersAreAlike : List (Row (Signature X g)) → Type 0
+  ReadersAreAlike all =
+      (n : ℕ) (s t : List ℕ) (r q : Result (Option FileType) Fault) → head n s ≡ head n t
+      → AnswersFront n AnyAccepts all (Some s) r → AnswersFront n AnyAccepts all (Some t) q
+      → IfOk r (λ found. IfOk q (λ other. option_map triple_of found ≡ option_map triple_of other))
+
   -- what holds of a call's answer by these rows holds by the built-in rows
   pub record AnswersAsBuiltIn (all : List (Row (Signature X g))) : Type 0 where
     pub answer : (buf : List ℕ) (o : Option Triple) → IsAnswer (AnyAccepts buf) all o → IsAnswer (Accepts buf) table o
@@ -53,6 +60,12 @@ abbrev pub FrontDecides : Type 0
 FrontDecides =
     (buf : List ℕ) (o : Option ℕ) → IsFirstOf (Accepts buf) table o → IsTrue (not (answers_twelve o))
     → IsFirstOf (Accepts (take 1024 buf)) table o
+
+-- two buffers with the same first 1024 bytes have the same answer, unless that of one of them is one of the twelve
+abbrev pub AnswersAreLocal : Type 0
+AnswersAreLocal =
+    (a b : List ℕ) (o p : Option ℕ) → take 1024 a ≡ take 1024 b → IsFirstOf (Accepts a) table o → IsFirstOf (Accepts b) table p
+    → (o ≡ p) ⊎ IsTrue (answers_twelve o) ⊎ IsTrue (answers_twelve p)
 
 -- after 1024 bytes an answer stays, or gives way to one of the twelve
 abbrev pub OnlyTheTwelveFollow : Type 0

@@ -1,9 +1,10 @@
 -- The first of some rows, named by their numbers, and which were asked.
-use Rattle.std.specs.Prelude.{◌≡◌, ◌==◌, ◌⊎◌, ◌&&◌, ℕ, Bool, true, false, List, [], ◌∷◌, Option, None, Some, MatchOption, length, nat_le, if◌then◌else◌}
+use Rattle.std.specs.Prelude.{◌≡◌, ◌↔◌, ◌==◌, ◌⊎◌, ◌&&◌, ℕ, Bool, true, false, List, [], ◌∷◌, Option, None, Some, MatchOption, length, nat_le, if◌then◌else◌}
 use Rattle.std.specs.List.{filter, list_any, slice_get}
 use Rattle.std.specs.Option.{option_map_or}
 use denote.Ref.{Bor}
 use Rattle.infer.specs.BuiltIn.{BuiltIn}
+use Rattle.infer.specs.First.{IsFirstOf}
 use Rattle.infer.specs.Leads.{candidates_of}
 use Rattle.infer.specs.Questions.{IsWanted, fits}
 use Rattle.infer.specs.Row.{Row, Accepts}
@@ -49,6 +50,11 @@ is_not_above (Some answer) i = nat_le i answer
 -- the candidates of the buffer that are asked for, in order, up to the answer
 abbrev pub asked_rows : Wanted → List ℕ → Option ℕ → List ℕ
 asked_rows wanted b answer = filter (λ i. is_not_above answer i && is_wanted wanted i) (candidates_of b)
+
+-- going through the candidates of a buffer finds the first row that accepts it, and nothing else
+abbrev pub WalksFindFirst : Type 0
+WalksFindFirst =
+    (b : List ℕ) (o : Option ℕ) → IsFirstAmong (RowHas (Takes Every b)) (candidates_of b) o ↔ IsFirstOf (Accepts b) table o
 
 -- how many these are
 abbrev pub count_asked : Wanted → List ℕ → Option ℕ → ℕ

@@ -1,6 +1,6 @@
 //! What more bytes can change of an answer.
-ghost use Rattle.std.specs.Prelude.{◌↔◌, IsTrue};
-ghost use Rattle.infer.specs.Decided.{IsDecided, MayAccept};
+ghost use Rattle.std.specs.Prelude.{◌↔◌, ◌<◌, IsFalse, IsTrue, length};
+ghost use Rattle.infer.specs.Decided.{CanBeDecided, IsChangeable, IsDecided, MayAccept};
 ghost use Rattle.infer.specs.Listed.{row_listed};
 ghost use Rattle.infer.specs.Walks.{IsFirstAmong, RowHas};
 
@@ -9,12 +9,15 @@ use crate::candidates::dispatch::{arm_of, candidates_at};
 use crate::table::leads::{blank, leads};
 use crate::table::rows::{BuiltInRow, may_become_named, rows};
 
-/// Whether no bytes after `buf` change its answer. If this is false, some bytes do. The empty buffer is never decided.
+/// Whether no bytes after `buf` change its answer. If this is false, some bytes do. The empty buffer is never decided, and
+/// every other can be: some bytes after it make a buffer that is.
 ///
 /// The first candidate that may still accept `buf` is the answer of some longer buffer. So `buf` is decided exactly if
 /// that row accepts it already, or if there is none.
 pub fn is_decided(buf: &[u8]) -> bool
-    ensures { IsTrue result ↔ IsDecided buf.now }
+    ensures exact { IsTrue result ↔ IsDecided buf.now }
+    ensures open { IsFalse result → IsChangeable buf.now }
+    ensures can_be { 0 < length buf.now → CanBeDecided buf.now }
 {
     leads();
     blank();

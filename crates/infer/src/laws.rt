@@ -1,27 +1,28 @@
 //! Facts about the definitions, each the contract of a function that does nothing beside, but for calls of other
 //! laws. To use a law, call it.
-ghost use Rattle.std.specs.Prelude.{◌≡◌, ◌≢◌, ◌↔◌, ◌<◌, ℕ, List, Option, [], All, IsTrue, length, map, take};
+ghost use Rattle.std.specs.Prelude.{◌≡◌, ◌≢◌, ◌↔◌, ◌<◌, ℕ, List, Option, [], ◌∷◌, All, IfOk, IsTrue, length, map, take};
 ghost use Rattle.std.specs.List.{AllPairs, HoldsAt, filter, range_with_len};
 ghost use Rattle.infer_deep.specs.Laws.{Apart, Beginnings};
 ghost use Rattle.infer_sig.specs.App.{java, mach};
 ghost use Rattle.infer_sig.specs.Signature.{accepts};
 ghost use Rattle.infer.specs.Arrivals.{Beginning, Begins, BeginsAlone, NewcomersAreAwaited, last_after};
 ghost use Rattle.infer.specs.BuiltIn.{BuiltIn};
-ghost use Rattle.infer.specs.Decided.{AllowsExactly, DecidedByRows};
+ghost use Rattle.infer.specs.Decided.{AllowsExactly, DecidedByRows, DecidedLasts, FirstOpenComes, IsToldExactly, ReachNarrows};
 ghost use Rattle.infer.specs.First.{IsFirst, IsFirstOf};
-ghost use Rattle.infer.specs.Laws.{AnswersAreNamed, AnswersAsBuiltIn, Breaks, FrontDecides, IsSteady, AnyLasts, OnlyTheTwelveFollow};
+ghost use Rattle.infer.specs.Laws.{AnswersAreLocal, AnswersAreNamed, AnswersAsBuiltIn, AnyLasts, Breaks, FrontDecides, IsSteady, OnlyTheTwelveFollow, ReadersAreAlike};
 ghost use Rattle.infer.specs.Matchers.{Lasts, OthersAreNear, is_of_the_twelve, signatures};
 ghost use Rattle.infer.specs.Row.{Accepts, shows};
 ghost use Rattle.infer.specs.Rows.{custom_rows, rows};
 ghost use Rattle.infer.specs.Samples.{sample_of};
 ghost use Rattle.infer.specs.Table.{table};
 ghost use Rattle.infer.specs.Triple.{triple_of};
+ghost use Rattle.infer.specs.Walks.{WalksFindFirst};
 
 use crate::caller::infer::Infer;
 use crate::table::file_type::{FileType, MatcherType};
 pub use crate::table::leads::{blank, leads};
 use crate::table::rows::{DLL, EPUB_ARCHIVE, MATCHER_COUNT, ROW_COUNT};
-use std::alloc::Allocator;
+use std::alloc::{AllocError, Allocator};
 
 /// `a == b`, which compares the class, the MIME type and the extension of two types.
 pub fn equal(a: &FileType, b: &FileType) -> bool
@@ -35,6 +36,20 @@ pub fn equal_classes(a: &MatcherType, b: &MatcherType) -> bool
     ensures { IsTrue result ↔ (a.now ≡ b.now) }
 {
     a == b
+}
+
+/// `t.clone()`, which has the three values of the type.
+pub fn cloned(t: &FileType) -> Result<FileType, AllocError>
+    ensures { IfOk result (λ copy. triple_of copy ≡ triple_of t.now) }
+{
+    t.clone()
+}
+
+/// `class.clone()`, which is the same class.
+pub fn cloned_class(class: &MatcherType) -> Result<MatcherType, AllocError>
+    ensures { IfOk result (λ copy. copy ≡ class.now) }
+{
+    class.clone()
 }
 
 /// No two rows of the table have the same class, MIME type and extension.
@@ -54,10 +69,11 @@ pub fn growth()
 }
 
 /// The first 1024 bytes decide: every matcher but those of twelve rows answers on a buffer of at least 1024 bytes
-/// as on its first 1024. The twelve are those that have neither a list of bytes at fixed places nor a window.
+/// as on its first 1024. The twelve are those that have neither a list of bytes at fixed places nor a window, and these
+/// are their numbers.
 pub fn near()
     ensures others { OthersAreNear signatures }
-    ensures twelve { length (filter is_of_the_twelve (range_with_len 0 ROW_COUNT)) ≡ 12 }
+    ensures twelve { filter is_of_the_twelve (range_with_len 0 ROW_COUNT) ≡ 26 ∷ 27 ∷ 57 ∷ 58 ∷ 59 ∷ 60 ∷ 61 ∷ 62 ∷ 91 ∷ 92 ∷ 95 ∷ 96 ∷ [] }
 {
     infer_sig::laws::near();
     infer_deep::laws::near();
@@ -105,6 +121,33 @@ pub fn decided()
     growth();
 }
 
+/// What is decided stays decided, whatever bytes follow. A row that may accept a buffer that has grown may accept it
+/// before. And the first row that may accept a buffer is the answer of the buffer with some bytes after it.
+pub fn later()
+    ensures lasts { DecidedLasts }
+    ensures narrows { ReachNarrows }
+    ensures comes { FirstOpenComes }
+{
+    growth();
+}
+
+/// What the matcher's second function tells of a buffer, as `may_become_png` does, is that some bytes after it make the
+/// matcher accept: so of a fixed signature too, since the parts of each ascend, lie apart and are possible.
+pub fn open()
+    ensures { All IsToldExactly signatures }
+{
+    infer_sig::laws::open();
+}
+
+/// Going through the candidates of a buffer finds the first row of the table that accepts it: so the rows that
+/// `position_counted` counts are all that `position` needs to ask.
+pub fn walked()
+    ensures { WalksFindFirst }
+{
+    leads();
+    blank();
+}
+
 /// A row is a candidate of a first byte exactly if some buffer that begins with the byte is one that the row accepts.
 pub fn candidates()
     ensures { AllowsExactly }
@@ -147,6 +190,21 @@ pub fn front()
 {
     growth();
     near();
+}
+
+/// Two buffers with the same first 1024 bytes have the same answer, unless the answer of one of them is one of the twelve.
+pub fn locality()
+    ensures { AnswersAreLocal }
+{
+    front();
+    single();
+}
+
+/// Two readers that have the same n bytes to give have the same answer within n bytes.
+pub fn readers<A: Allocator>(infer: &Infer<A>)
+    ensures { ReadersAreAlike (rows infer.now) }
+{
+    let _ = infer;
 }
 
 /// Every built-in row but [`DLL`] and [`EPUB_ARCHIVE`] is first for some buffer: for its sample.

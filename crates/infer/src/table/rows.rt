@@ -437,6 +437,7 @@ pub const MOST_CANDIDATES: usize = 25;
 /// The numbers that the names stand for.
 pub fn numbers()
     ensures names { (ROW_COUNT ≡ 98) × (DLL ≡ 3) × (EPUB_ARCHIVE ≡ 66) × (MOST_CANDIDATES ≡ 25) }
+    ensures bounds { (AVIF ≡ 27) × (PPT ≡ 61) × (PPTX ≡ 62) × (LZ4 ≡ 92) × (XML ≡ 96) }
     ensures many { length table ≡ ROW_COUNT }
 {}
 

@@ -1,4 +1,4 @@
-use Rattle.std.proofs.Common.{◌∙◌, arith, refl, filter, get_or, take, length, ◌≤◌, None, Some, subst, sym, List, ℕ}
+use Rattle.std.proofs.Common.{◌∙◌, arith, refl, filter, get_or, take, length, ◌≤◌, None, Some, subst, List, ℕ}
 use Rattle.infer.specs.Row.{Accepts}
 use Rattle.infer.specs.Walks.{IsFirstAmong, RowHas, Takes, is_wanted}
 use Rattle.infer.specs.declared.ask.question.Wanted.TheVariants.{Every}

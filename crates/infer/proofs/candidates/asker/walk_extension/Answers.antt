@@ -1,8 +1,7 @@
-use Rattle.std.proofs.Common.{◌∙◌, ◌≡◌, ◌<◌, ◌≤◌, ap, arith, refl, filter, get_or, length, map, take, None, Some, subst, sym, List, ℕ}
+use Rattle.std.proofs.Common.{◌∙◌, ◌≡◌, ◌<◌, ◌≤◌, ap, arith, filter, get_or, length, map, take, None, Some, subst, List, ℕ}
 use Rattle.std.proofs.lemmas.List.{get_or-map, length-map, take_all}
-use Rattle.infer.specs.Leads.{candidates_of}
 use Rattle.infer.specs.Listed.{number_of}
-use Rattle.infer.specs.Walks.{IsFirstAmong, RowHas, asked_rows, count_asked}
+use Rattle.infer.specs.Walks.{RowHas, asked_rows, count_asked}
 use Rattle.infer.specs.declared.ask.question.Wanted.TheVariants.{Extension}
 use Rattle.infer.specs.declared.table.rows.TheConstants.{MOST_CANDIDATES}
 use Rattle.infer.proofs.AskLemmas.{few_asked, found_here, none_among, refused_here}
