@@ -12,8 +12,9 @@
 //!
 //! Each module uses only those before it: `table`, the rows and their types; `ask`, a question and one row;
 //! `candidates`, the rows that a first byte allows, asked in order, and those that a text can name; `answers`, what the
-//! built-in rows answer; `texts`, questions with a text; `decided`, what more bytes can change; `caller`, an [`Infer`]
-//! and its rows; `read`, the front of a file or of a reader; `laws`, facts about all of these; `samples`.
+//! built-in rows answer; `texts`, questions with a text; `decided`, what more bytes can change; `beginnings`, after which
+//! they can change it from 1024 bytes on; `caller`, an [`Infer`] and its rows; `read`, the front of a file or of a reader;
+//! `laws`, facts about all of these; `samples`.
 #![tactic(auto)]
 
 ghost use Rattle.std.specs.Prelude.{◌≡◌, ◌↔◌, ◌<◌, ◌≤◌, IfSome, IsNone, IsTrue, option_map, slice_get};
@@ -26,6 +27,7 @@ ghost use Rattle.infer.specs.Triple.{triple_of};
 
 mod answers;
 mod ask;
+pub mod beginnings;
 mod caller;
 mod candidates;
 mod decided;

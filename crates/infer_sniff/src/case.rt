@@ -1,13 +1,10 @@
 //! What bytes after a buffer can still bring.
-ghost use Rattle.std.specs.Prelude.{◌≡◌, ◌↔◌, ◌≤◌, IsTrue, MatchOption};
-ghost use Rattle.infer.specs.Brands.{IsOpenBox};
-ghost use Rattle.infer.specs.Frames.{BeginsFrame};
-ghost use Rattle.infer.specs.MarkupText.{BeginsMarked, BeginsWhite};
+ghost use Rattle.std.specs.Prelude.{◌≡◌, ◌≤◌, MatchOption};
 
+use infer::beginnings::{
+    begins_compound, begins_frame, begins_mark, begins_office, begins_white, is_open_box,
+};
 use infer::rows::{AVIF, LZ4, PPT, PPTX, XML};
-use infer_deep::doc::has_office_name;
-use infer_deep::numbers::be32;
-use infer_deep::places::stands_at;
 
 /// A case in which bytes after a buffer can bring a row that comes before the buffer's own.
 #[derive(Clone, Copy)]
@@ -49,9 +46,9 @@ impl Case {
     {
         if is_open_box(buf) {
             Some(Case::OpenBox)
-        } else if stands_at(buf, b"\xD0\xCF\x11\xE0\xA1\xB1\x1A\xE1", 0) {
+        } else if begins_compound(buf) {
             Some(Case::Compound)
-        } else if stands_at(buf, b"PK\x03\x04", 0) && has_office_name(buf) {
+        } else if begins_office(buf) {
             Some(Case::Office)
         } else if begins_frame(buf) {
             Some(Case::Frame)
@@ -63,30 +60,4 @@ impl Case {
             None
         }
     }
-}
-
-fn is_open_box(buf: &[u8]) -> bool
-    ensures { IsTrue result ↔ IsOpenBox buf.now }
-{
-    stands_at(buf, b"ftyp", 4) && be32(buf, 0) as usize > buf.len()
-}
-
-fn begins_frame(buf: &[u8]) -> bool
-    ensures { IsTrue result ↔ BeginsFrame buf.now }
-{
-    stands_at(buf, b"\x2A\x4D\x18", 1) && (0x50..=0x5F).contains(&buf[0])
-}
-
-fn begins_white(buf: &[u8]) -> bool
-    ensures { IsTrue result ↔ BeginsWhite buf.now }
-{
-    matches!(buf.first(), Some(b'\t' | b'\n' | 0x0C | b'\r' | b' '))
-}
-
-fn begins_mark(buf: &[u8]) -> bool
-    ensures { IsTrue result ↔ BeginsMarked buf.now }
-{
-    stands_at(buf, b"\xEF\xBB\xBF", 0)
-        || stands_at(buf, b"\xFE\xFF", 0)
-        || stands_at(buf, b"\xFF\xFE", 0)
 }
