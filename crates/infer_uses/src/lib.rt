@@ -1,8 +1,9 @@
-//! The decisions of four users of `infer`, each proved: what an upload gate lets pass, which type a file server sends,
-//! what a report on directories counts, and what a labelling proxy writes.
+//! Five users of `infer`, each proved: what an upload gate lets pass, which type a file server sends, what a report on
+//! directories counts, what a labelling proxy writes, and how a relay passes a stream on.
 #![tactic(auto)]
 
 pub mod count;
 pub mod gate;
 pub mod label;
 pub mod name;
+pub mod relay;
