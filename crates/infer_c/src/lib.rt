@@ -103,10 +103,11 @@ pub extern "C" fn infer_row_count() -> usize
     infer::rows::ROW_COUNT
 }
 
-/// The length of the row's MIME type, which is written to `out`, and 0 if there is no such row.
+/// The length of the row's MIME type, which is written to `out`, and 0 if there is no such row. It is at most 73.
 #[unsafe(no_mangle)]
 pub extern "C" fn infer_mime_type(row: i32, out: &mut [u8]) -> usize
     ensures length { result ≡ option_map_or (λ t. length t.mime_type) (triple_at row) 0 }
+    ensures few { result ≤ 73 }
     ensures written { WritesText (option_map_or (λ t. t.mime_type) (triple_at row) []) out.old out.new }
 {
     match row::of(row) {
@@ -179,12 +180,13 @@ pub extern "C" fn infer_find_class_name(class: i32, out: &mut &'static [u8])
     };
 }
 
-/// The length of the row's sample, which is written to `out` if it fits, and 0 if the row has none.
+/// The length of the row's sample, which is written to `out` if it fits, and 0 if the row has none. It is at most 640.
 #[unsafe(no_mangle)]
 pub extern "C" fn infer_sample(row: i32, out: &mut [u8]) -> usize
-    ensures { (sample : Option (List ℕ)) × IsSampleOf row sample
+    ensures sample { (sample : Option (List ℕ)) × IsSampleOf row sample
         × (result ≡ option_map_or (λ s. length s) sample 0)
         × WritesWhole (option_map_or (λ s. s) sample []) out.old out.new }
+    ensures few { result ≤ 640 }
 {
     if row < 0 {
         return 0;

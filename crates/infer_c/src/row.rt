@@ -1,5 +1,5 @@
 //! Rows by number.
-ghost use Rattle.std.specs.Prelude.{◌≡◌, ◌↔◌, ◌<◌, List, ℕ, Option, None, [], IsTrue, length, option_map};
+ghost use Rattle.std.specs.Prelude.{◌≡◌, ◌↔◌, ◌<◌, ◌≤◌, List, ℕ, Option, None, [], IsTrue, length, option_map};
 ghost use Rattle.std.specs.Option.{option_map_or};
 ghost use Rattle.infer.specs.Row.{Accepts};
 ghost use Rattle.infer.specs.Triple.{triple_of};
@@ -35,9 +35,10 @@ pub fn accepts(i: usize, buf: &[u8]) -> bool
 
 /// The length of the sample of row `i`, which is written to `out` if it fits, and 0 if it has none.
 pub fn write_sample(i: usize, out: &mut [u8]) -> usize
-    ensures { (sample : Option (List ℕ)) × IsSample i sample
+    ensures sample { (sample : Option (List ℕ)) × IsSample i sample
         × (result ≡ option_map_or (λ s. length s) sample 0)
         × WritesWhole (option_map_or (λ s. s) sample []) out.old out.new }
+    ensures few { result ≤ 640 }
 {
     let mut bytes = [0; 640];
     match infer::sample(i, &mut bytes) {
