@@ -11,7 +11,7 @@ use Rattle.infer_sig.specs.Open.{IsOpen, is_sound}
 use Rattle.infer_sig.specs.Signature.{Alternative, stands}
 use Rattle.infer.specs.BuiltIn.{BuiltIn, fixed, avif, doc, framed, heif, html, matroska, office, pdf, ppt, xls, xml, IsAccepted}
 use Rattle.infer.specs.Buffer.{IsBuffer}
-use Rattle.infer.specs.Decided.{CanBeDecided, DecidedByRows, DecidedLasts, FirstOpenComes, IsChangeable, IsDecided, IsToldExactly, MayAccept, ReachNarrows, Tells, rows_before}
+use Rattle.infer.specs.Decided.{AnswersAreOpen, CanBeDecided, DecidedByRows, DecidedLasts, FirstOpenComes, IsChangeable, IsDecided, IsToldExactly, MayAccept, ReachNarrows, Tells, rows_before}
 use Rattle.infer.specs.First.{IsFirst, IsFirstOf, NoneHas}
 use Rattle.infer.specs.Leads.{Leads, allows_first, candidates, candidates_of}
 use Rattle.infer.specs.Matchers.{Lasts, signatures}
@@ -218,6 +218,12 @@ module _ (lasts : (s : BuiltIn) → Lasts s) where
         let later : IsFirst (Accepts (b ++ (more ++ rest))) table i = decided (more ++ rest) (Some i) (both_bytes more rest bytes rest_bytes) (subst (IsFirstOf (Accepts b) table) same first) in
         later.before k d low lt (joined b more rest (get_or table k d) a));
   }
+
+  pub answers_open : AnswersAreOpen
+  answers_open b i (more, bytes, first) = (
+    λ d. (more, bytes, first.here d),
+    λ k d low lt a. first.before k d low lt (lasts _ b more a),
+  )
 
   module _ (b : List ℕ) (i : ℕ) (first : IsFirst (MayAccept b) table i) where
     pub changes_by_first : (¬ RowHas (Accepts b) i) → IsChangeable b

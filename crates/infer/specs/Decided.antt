@@ -1,6 +1,6 @@
 -- What more bytes can change of the answer.
 use Rattle.std.specs.Prelude.{◌≡◌, ◌↔◌, ℕ, Bool, ◌<◌, IsTrue, List, [], ◌∷◌, ◌++◌, Option, None, Some, length}
-use Rattle.std.specs.List.{AllWithin}
+use Rattle.std.specs.List.{AllWithin, HoldsAt}
 use Rattle.infer_deep.specs.Signatures.{Reachable}
 use Rattle.infer_sig.specs.Open.{may_accept}
 use Rattle.infer.specs.Buffer.{IsBuffer}
@@ -19,6 +19,10 @@ IsDecided b = (more : List ℕ) (o : Option ℕ) → IsBuffer more → IsFirstOf
 abbrev pub MayAccept : List ℕ → Row BuiltIn → Type 0
 MayAccept b r = (more : List ℕ) × IsBuffer more × Accepts (b ++ more) r
 
+-- some bytes after the buffer make row i its answer
+abbrev pub MayAnswer : List ℕ → ℕ → Type 0
+MayAnswer b i = (more : List ℕ) × IsBuffer more × IsFirst (Accepts (b ++ more)) table i
+
 -- what is decided stays decided, whatever bytes follow
 abbrev pub DecidedLasts : Type 0
 DecidedLasts = (b more : List ℕ) → IsBuffer more → IsDecided b → IsDecided (b ++ more)
@@ -27,10 +31,13 @@ DecidedLasts = (b more : List ℕ) → IsBuffer more → IsDecided b → IsDecid
 abbrev pub ReachNarrows : Type 0
 ReachNarrows = (b more : List ℕ) (r : Row BuiltIn) → IsBuffer more → MayAccept (b ++ more) r → MayAccept b r
 
--- the first row that may accept a buffer is the answer of the buffer with some bytes after it
+-- the first row that may accept a buffer may be its answer
 abbrev pub FirstOpenComes : Type 0
-FirstOpenComes =
-    (b : List ℕ) (i : ℕ) → IsFirst (MayAccept b) table i → (more : List ℕ) × IsBuffer more × IsFirst (Accepts (b ++ more)) table i
+FirstOpenComes = (b : List ℕ) (i : ℕ) → IsFirst (MayAccept b) table i → MayAnswer b i
+
+-- a row that may be the answer may accept the buffer, which no row before it accepts yet
+abbrev pub AnswersAreOpen : Type 0
+AnswersAreOpen = (b : List ℕ) (i : ℕ) → MayAnswer b i → HoldsAt (MayAccept b) table i × AllWithin (λ r. ¬ Accepts b r) table 0 i
 
 -- some bytes that follow change the first row
 abbrev pub IsChangeable : List ℕ → Type 0

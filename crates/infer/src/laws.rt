@@ -7,7 +7,7 @@ ghost use Rattle.infer_sig.specs.App.{java, mach};
 ghost use Rattle.infer_sig.specs.Signature.{accepts};
 ghost use Rattle.infer.specs.Arrivals.{Beginning, Begins, BeginsAlone, NewcomersAreAwaited, last_after};
 ghost use Rattle.infer.specs.BuiltIn.{BuiltIn};
-ghost use Rattle.infer.specs.Decided.{AllowsExactly, DecidedByRows, DecidedLasts, FirstOpenComes, IsToldExactly, ReachNarrows};
+ghost use Rattle.infer.specs.Decided.{AllowsExactly, AnswersAreOpen, DecidedByRows, DecidedLasts, FirstOpenComes, IsToldExactly, ReachNarrows};
 ghost use Rattle.infer.specs.First.{IsFirst, IsFirstOf};
 ghost use Rattle.infer.specs.Laws.{AnswersAreLocal, AnswersAreNamed, AnswersAsBuiltIn, AnyLasts, Breaks, FrontDecides, IsSteady, OnlyTheTwelveFollow, ReadersAreAlike};
 ghost use Rattle.infer.specs.Matchers.{Lasts, OthersAreNear, is_of_the_twelve, signatures};
@@ -122,11 +122,13 @@ pub fn decided()
 }
 
 /// What is decided stays decided, whatever bytes follow. A row that may accept a buffer that has grown may accept it
-/// before. And the first row that may accept a buffer is the answer of the buffer with some bytes after it.
+/// before. The first row that may accept a buffer may be its answer, by some bytes after it. And a row that may be its
+/// answer may accept it, and no row before it accepts it yet.
 pub fn later()
     ensures lasts { DecidedLasts }
     ensures narrows { ReachNarrows }
     ensures comes { FirstOpenComes }
+    ensures needs { AnswersAreOpen }
 {
     growth();
 }
