@@ -1,17 +1,21 @@
 //! What the laws tell a caller, each as the contract of a function that calls one.
 ghost use Rattle.std.specs.Prelude.{◌≡◌, ◌≢◌, ◌↔◌, [], ◌∷◌, ◌++◌, ℕ, List, false, true, All, IfSome, IsNone, IsTrue, None, Some, not, take, nat_eq};
-ghost use Rattle.std.specs.List.{starts_with};
+ghost use Rattle.std.specs.List.{HoldsAt, starts_with};
 ghost use Rattle.infer_deep.specs.Windows.{mkv_type};
+ghost use Rattle.infer.specs.App.{coff_x64};
+ghost use Rattle.infer.specs.Decided.{MayAnswer};
 ghost use Rattle.infer.specs.BuiltIn.{IsAccepted, matroska};
 ghost use Rattle.infer.specs.First.{IsFirst};
 ghost use Rattle.infer.specs.Laws.{AnyLasts, answers_twelve};
 ghost use Rattle.infer.specs.Row.{Accepts};
 ghost use Rattle.infer.specs.Rows.{custom_rows};
+ghost use Rattle.infer.specs.Signature.{accepts};
+ghost use Rattle.infer.specs.Signatures.{Reachable};
 ghost use Rattle.infer.specs.Table.{table};
 
-use infer::app::{is_java, is_mach};
-use infer::rows::{DLL, DOC, EPUB_ARCHIVE, SHELLSCRIPT};
-use infer::{Infer, Type, laws, position};
+use infer::app::{is_java, is_mach, may_become_coff_x64};
+use infer::rows::{DLL, DOC, EPUB_ARCHIVE, GIF, PDF, SHELLSCRIPT, WASM};
+use infer::{Asker, Infer, Type, is_decided, laws, may_become, position, walk};
 use std::alloc::Allocator;
 use std::test::Fail;
 
@@ -151,4 +155,78 @@ fn script_is_reached()
 #[test]
 fn reach() {
     script_is_reached();
+}
+
+/// Whether a buffer and a longer one are decided.
+fn both_decided(short: &[u8], long: &[u8]) -> (bool, bool)
+    requires { (more : List ℕ) × (long.now ≡ short.now ++ more) }
+    ensures { IsTrue result.0 → IsTrue result.1 }
+{
+    laws::later();
+    (is_decided(short), is_decided(long))
+}
+
+/// Whether some bytes after the buffer make the first row of the table its answer.
+fn may_answer_first(buf: &[u8]) -> bool
+    ensures { IsTrue result → MayAnswer buf.now WASM }
+{
+    laws::later();
+    may_become(buf, WASM)
+}
+
+/// What the row of GIF accepts can never be a PDF document by its answer, though that row may accept it too.
+fn no_pdf_after_gif()
+    ensures { (b : List ℕ) → HoldsAt (Accepts b) table GIF → ¬ MayAnswer b PDF }
+{
+    laws::later();
+}
+
+#[test]
+fn later(rt: HostRuntime) {
+    no_pdf_after_gif();
+    assert_eq!(rt; both_decided(b"MZ", b"MZ\0"), (true, true));
+    assert!(rt; may_answer_first(b"\0as"));
+    assert!(rt; !may_answer_first(b"\0as\0"));
+}
+
+/// Whether some bytes after the buffer make it a COFF object for x64, for which no row stands.
+fn may_become_x64(buf: &[u8]) -> bool
+    ensures { IsTrue result ↔ Reachable (λ b. IsTrue (accepts coff_x64 b)) buf.now }
+{
+    laws::open();
+    may_become_coff_x64(buf)
+}
+
+#[test]
+fn open(rt: HostRuntime) {
+    assert!(rt; may_become_x64(b"\x64"));
+    assert!(rt; !may_become_x64(b"\x4C"));
+}
+
+/// The position of a buffer, and that which a walk finds.
+fn position_and_walk(buf: &[u8]) -> (Option<usize>, Option<usize>)
+    ensures { result.0 ≡ result.1 }
+{
+    laws::walked();
+    laws::single();
+    (position(buf), walk(&mut Asker::new(buf), None))
+}
+
+#[test]
+fn walked(rt: HostRuntime) {
+    assert_eq!(rt; position_and_walk(b"MZ"), (Some(2), Some(2)));
+}
+
+/// The positions of two buffers with the same first 1024 bytes.
+fn positions_of_both(a: &[u8], b: &[u8]) -> (Option<usize>, Option<usize>)
+    requires { take 1024 a.now ≡ take 1024 b.now }
+    ensures { IsTrue (not (answers_twelve result.0)) → IsTrue (not (answers_twelve result.1)) → result.0 ≡ result.1 }
+{
+    laws::locality();
+    (position(a), position(b))
+}
+
+#[test]
+fn locality(rt: HostRuntime) {
+    assert_eq!(rt; positions_of_both(b"MZ", b"MZ"), (Some(2), Some(2)));
 }

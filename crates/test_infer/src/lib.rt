@@ -9,6 +9,8 @@ mod asked;
 #[cfg(test)]
 mod decisions;
 #[cfg(test)]
+mod definitions;
+#[cfg(test)]
 mod input;
 #[cfg(test)]
 mod laws;

@@ -1,15 +1,15 @@
 //! Verdicts on worked streams.
-ghost use Rattle.std.specs.Prelude.{◌≡◌, ◌++◌, ℕ, List};
+ghost use Rattle.std.specs.Prelude.{◌≡◌, ◌++◌, ℕ, IsTrue, List};
 ghost use Rattle.infer.specs.Buffer.{head};
 ghost use Rattle.infer_sniff.specs.Verdicts.{IsVerdict, KeepsOpen};
 ghost use Rattle.infer_sniff.specs.declared.case.Case.TheVariants.{Mark};
 
-use infer::{FRONT, Type, Watched};
-use infer_sniff::laws::{cuts, needed};
+use infer::{FRONT, Watched};
+use infer_sniff::laws::{cuts, decided, needed};
 use infer_sniff::{Sniffer, Verdict, label};
+use infer_uses::relay::{pass, pass_by_turns};
 use linked_list_allocator::LocalHeap;
 use std::alloc::{AllocError, Allocator, Global};
-use std::io::{self, Read, Write};
 use std::test::Fail;
 
 /// Whether the verdict is final, and the extension of its type, empty if it has none.
@@ -83,32 +83,32 @@ fn white_space_stays_open(rt: HostRuntime) -> Result<(), Fail> {
     Ok(())
 }
 
-/// Passes a stream on until its type is certain, it ends or 8192 reads are done, and answers the type.
-fn pass<A: Allocator, R: Read, W: Write>(
-    alloc: A,
-    from: &mut R,
-    to: &mut W,
-) -> io::Result<Option<Type>> {
-    let mut sniffer = Sniffer::new(alloc)?;
-    let mut piece = [0; 1024];
-    for _ in 0..8192 {
-        let count = from.read(&mut piece)?;
-        to.write_all(&piece[..count])?;
-        if sniffer.push(&piece[..count]).is_final() || count == 0 {
-            break;
-        }
-    }
-    Ok(sniffer.verdict().found())
-}
-
 #[test]
 fn a_label_is_read_no_further(rt: HostRuntime) -> Result<(), Fail> {
     let zeros = [0; 5000];
     let mut reader = Watched::new(zeros.as_slice());
     assert!(rt; matches!(label(rt.alloc(), &mut reader), Ok(None)));
     assert_eq!(rt; reader.into_inner().len(), 5000 - 1024);
+    Ok(())
+}
+
+/// After a final verdict the buffer is decided.
+fn final_and_decided<A: Allocator>(sniffer: &mut Sniffer<A>, piece: &[u8]) -> (bool, bool)
+    ensures { IsTrue result.0 → IsTrue result.1 }
+{
+    decided();
+    let verdict = sniffer.push(piece);
+    (verdict.is_final(), sniffer.is_decided())
+}
+
+#[test]
+fn a_relay_stops_once_the_type_is_certain(rt: HostRuntime) -> Result<(), Fail> {
+    let zeros = [0; 5000];
+    let (mut from, mut to) = (zeros.as_slice(), Vec::new(rt.alloc()));
+    assert!(rt; pass(rt.alloc(), &mut from, &mut to)?.is_none());
+    assert_eq!(rt; (from.len(), to.len()), (5000 - 1024, 1024));
     let (mut image, mut copy) = (b"\xFF\xD8\xFF".as_slice(), Vec::new(rt.alloc()));
-    let found = pass(rt.alloc(), &mut image, &mut copy)?;
+    let found = pass_by_turns(rt.alloc(), &mut image, &mut copy)?;
     assert_eq!(rt; found.map_or("", |found| found.extension()), "jpg");
     assert_eq!(rt; copy.as_slice(), b"\xFF\xD8\xFF".as_slice());
     Ok(())
@@ -296,6 +296,7 @@ fn certainty_comes_before_the_verdict(rt: HostRuntime) -> Result<(), Fail> {
     assert!(rt; !sniffer.is_decided());
     assert!(rt; !sniffer.push(&[0]).is_final());
     assert!(rt; sniffer.is_decided());
+    assert_eq!(rt; final_and_decided(&mut sniffer, &[0; 1024]), (true, true));
     Ok(())
 }
 

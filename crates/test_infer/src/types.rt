@@ -1,6 +1,5 @@
 //! Equality and printed texts.
-ghost use Rattle.std.specs.Prelude.{◌≡◌, IfOk, IsTrue};
-ghost use Rattle.infer.specs.Triple.{triple_of};
+ghost use Rattle.std.specs.Prelude.{IfOk, IsTrue};
 
 use infer::{Fault, MatcherType, Type, get, image, laws};
 use std::alloc::AllocError;
@@ -24,16 +23,10 @@ const CLASSES: [(MatcherType, &str); 10] = [
 ];
 
 /// A clone has the values of its source, and `==` finds them equal.
-fn cloned(t: &Type) -> Result<Type, AllocError>
-    ensures { IfOk result (λ copy. triple_of copy ≡ triple_of t.now) }
-{
-    t.clone()
-}
-
 fn equal_after_clone(t: &Type) -> Result<bool, AllocError>
     ensures { IfOk result (λ same. IsTrue same) }
 {
-    let copy = cloned(t)?;
+    let copy = laws::cloned(t)?;
     Ok(laws::equal(&copy, t))
 }
 
@@ -43,7 +36,7 @@ fn equality(rt: HostRuntime) -> Result<(), Fail> {
     let made = Type::new(MatcherType::Image, "image/jpeg", "jpg", image::is_png);
     assert!(rt; made == found);
     assert!(rt; equal_after_clone(&found)?);
-    assert!(rt; cloned(&made)? == found);
+    assert!(rt; laws::cloned(&made)? == found);
     let others = [
         Type::new(MatcherType::Custom, "image/jpeg", "jpg", image::is_jpeg),
         Type::new(MatcherType::Image, "image/jpg", "jpg", image::is_jpeg),
@@ -55,16 +48,10 @@ fn equality(rt: HostRuntime) -> Result<(), Fail> {
     Ok(())
 }
 
-fn class_cloned(class: &MatcherType) -> Result<MatcherType, AllocError>
-    ensures { IfOk result (λ copy. copy ≡ class.now) }
-{
-    class.clone()
-}
-
 fn equal_after_class_clone(class: &MatcherType) -> Result<bool, AllocError>
     ensures { IfOk result (λ same. IsTrue same) }
 {
-    let copy = class_cloned(class)?;
+    let copy = laws::cloned_class(class)?;
     Ok(laws::equal_classes(&copy, class))
 }
 

@@ -1,6 +1,5 @@
-use Rattle.std.proofs.Common.{◌++◌, ◌<◌, List, ℕ, get_or, Option, None, Some, IsNone, subst, refl, arith}
+use Rattle.std.proofs.Common.{◌++◌, List, ℕ, Option, None, Some, IsNone, subst, refl, arith}
 use Rattle.std.specs.Option.{option_map}
-use Rattle.std.proofs.lemmas.Grind.{get_or_default_zero}
 use Rattle.infer.specs.Buffer.{IsBuffer}
 use Rattle.infer.specs.First.{IsAnswer, IsFirstOf}
 use Rattle.infer.specs.Laws.{IsNotLater}
@@ -8,6 +7,7 @@ use Rattle.infer.specs.Row.{Row}
 use Rattle.infer.specs.Rows.{AnyAccepts, rows}
 use Rattle.infer.specs.Triple.{triple_of}
 use Rattle.infer.specs.declared.table.file_type.FileType.{FileType}
+use Rattle.test_infer.proofs.BufferLemmas.{IsBuffer-bytes}
 use Rattle.test_infer.proofs.laws.get_both.Goals as goal
 
 none_before : {S : Type 0} (P Q : Row S → Type 0) (all : List (Row S))
@@ -16,9 +16,6 @@ none_before : {S : Type 0} (P Q : Row S → Type 0) (all : List (Row S))
 none_before P Q all steady None p before after e = refl
 none_before P Q all steady (Some t) None before after e = absurd (steady (Some before.0) None before.1 after)
 none_before P Q all steady (Some t) (Some u) before after e = absurd (cc)
-
-IsBuffer-bytes : (b : List ℕ) → ((i : ℕ) → get_or b i 0 < 256) → IsBuffer b
-IsBuffer-bytes b h k d lt = rw (get_or_default_zero b k d lt) (h k)
 
 pub returns : goal.returns
 returns g c =
