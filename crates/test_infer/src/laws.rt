@@ -1,8 +1,9 @@
 //! What the laws tell a caller, each as the contract of a function that calls one.
-ghost use Rattle.std.specs.Prelude.{◌≡◌, ◌≢◌, ◌↔◌, [], ◌∷◌, ◌++◌, ℕ, List, false, true, All, IfSome, IsNone, IsTrue, None, Some, not, take, nat_eq};
+ghost use Rattle.std.specs.Prelude.{◌≡◌, ◌≢◌, ◌↔◌, [], ◌∷◌, ◌++◌, ℕ, List, false, true, All, IfOk, IfSome, IsNone, IsTrue, None, Some, not, option_map, take, nat_eq};
 ghost use Rattle.std.specs.List.{HoldsAt, starts_with};
 ghost use Rattle.infer_deep.specs.Windows.{mkv_type};
 ghost use Rattle.infer.specs.App.{coff_x64};
+ghost use Rattle.infer.specs.Buffer.{head};
 ghost use Rattle.infer.specs.Decided.{MayAnswer};
 ghost use Rattle.infer.specs.BuiltIn.{IsAccepted, matroska};
 ghost use Rattle.infer.specs.First.{IsFirst};
@@ -12,10 +13,11 @@ ghost use Rattle.infer.specs.Rows.{custom_rows};
 ghost use Rattle.infer.specs.Signature.{accepts};
 ghost use Rattle.infer.specs.Signatures.{Reachable};
 ghost use Rattle.infer.specs.Table.{table};
+ghost use Rattle.infer.specs.Triple.{triple_of};
 
 use infer::app::{is_java, is_mach, may_become_coff_x64};
 use infer::rows::{DLL, DOC, EPUB_ARCHIVE, GIF, PDF, SHELLSCRIPT, WASM};
-use infer::{Asker, Infer, Type, is_decided, laws, may_become, position, walk};
+use infer::{Asker, Fault, Infer, Type, Watched, is_decided, laws, may_become, position, walk};
 use std::alloc::Allocator;
 use std::test::Fail;
 
@@ -229,4 +231,26 @@ fn positions_of_both(a: &[u8], b: &[u8]) -> (Option<usize>, Option<usize>)
 #[test]
 fn locality(rt: HostRuntime) {
     assert_eq!(rt; positions_of_both(b"MZ", b"MZ"), (Some(2), Some(2)));
+}
+
+/// The answers for two readers whose first 64 bytes are the same, of which no more are looked at.
+fn answers_of_both<A: Allocator>(
+    infer: &Infer<A>,
+    a: &[u8],
+    b: &[u8],
+) -> Result<(Option<Type>, Option<Type>), Fault>
+    requires { head 64 a.now ≡ head 64 b.now }
+    ensures { IfOk result (λ both. option_map triple_of both.0 ≡ option_map triple_of both.1) }
+{
+    laws::readers(infer);
+    let mut room = [0; 64];
+    let one = infer.get_from_reader_in(&mut room, &mut Watched::new(a))?;
+    let other = infer.get_from_reader_in(&mut room, &mut Watched::new(b))?;
+    Ok((one, other))
+}
+
+#[test]
+fn readers(rt: HostRuntime) {
+    let both = answers_of_both(&Infer::new(), b"MZ", b"MZ");
+    assert!(rt; matches!(both, Ok((Some(one), Some(other))) if one == other));
 }
