@@ -1,0 +1,28 @@
+-- The further rows as the code lists them.
+use Rattle.std.specs.Prelude.{List, map}
+use Rattle.infer_sig.specs.Signature as signature
+use Rattle.infer_sig.specs.Signature.{Part, at_least, text, byte, any_of, between}
+use Rattle.infer.specs.Triple.{triple}
+use Rattle.infer_more.specs.Row.{Further}
+use Rattle.infer_more.specs.declared.rows.FurtherRow.{FurtherRow}
+use Rattle.infer_more.specs.declared.signature.Alternative.{Alternative}
+use Rattle.infer_more.specs.declared.signature.Piece.{Piece}
+use Rattle.infer_more.specs.declared.signature.Piece.TheVariants.{At, OneOf, Between}
+
+abbrev pub part_listed : Piece → Part
+part_listed (At place t) = text place t.now
+part_listed (OneOf place bytes) = byte place (any_of bytes.now)
+part_listed (Between place low high) = byte place (between low high)
+
+abbrev pub alternative_listed : Alternative → signature.Alternative
+alternative_listed a = at_least a.least (map part_listed a.pieces.now)
+
+abbrev pub signature_listed : List Alternative → List signature.Alternative
+signature_listed alternatives = map alternative_listed alternatives
+
+abbrev pub row_listed : FurtherRow → Further
+row_listed r = record {
+  shows = triple r.matcher_type r.mime_type.now r.extension.now;
+  parent = r.parent;
+  signature = signature_listed r.signature.now;
+}
