@@ -1,1 +1,7 @@
 pub mod ListLemmas
+pub mod JoinedLemmas
+pub mod IndexLemmas
+pub mod LeastLemmas
+pub mod TableLemmas
+pub mod ShownLemmas
+pub mod RowLemmas

@@ -1,3 +1,6 @@
 pub mod Row
 pub mod Table
 pub mod Listed
+pub mod Wider
+pub mod Index
+pub mod Reading

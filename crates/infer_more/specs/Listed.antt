@@ -1,10 +1,11 @@
 -- The further rows as the code lists them.
-use Rattle.std.specs.Prelude.{List, map}
+use Rattle.std.specs.Prelude.{List, [], ◌∷◌, ◌++◌, map}
+use denote.Ref.{Bor}
 use Rattle.infer_sig.specs.Signature as signature
 use Rattle.infer_sig.specs.Signature.{Part, at_least, text, byte, any_of, between}
 use Rattle.infer.specs.Triple.{triple}
 use Rattle.infer_more.specs.Row.{Further}
-use Rattle.infer_more.specs.declared.rows.FurtherRow.{FurtherRow}
+use Rattle.infer_more.specs.declared.table.FurtherRow.{FurtherRow}
 use Rattle.infer_more.specs.declared.signature.Alternative.{Alternative}
 use Rattle.infer_more.specs.declared.signature.Piece.{Piece}
 use Rattle.infer_more.specs.declared.signature.Piece.TheVariants.{At, OneOf, Between}
@@ -26,3 +27,8 @@ row_listed r = record {
   parent = r.parent;
   signature = signature_listed r.signature.now;
 }
+
+-- the rows of all lists, in order
+abbrev pub joined : List (Bor (List FurtherRow)) → List Further
+joined [] = []
+joined (rows ∷ others) = map row_listed rows.now ++ joined others

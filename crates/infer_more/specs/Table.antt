@@ -10,8 +10,9 @@ use Rattle.infer_more.specs.Row.{Further}
 abbrev pub row : MatcherType → List ℕ → List ℕ → Option ℕ → List Alternative → Further
 row class mime_type extension parent signature = record { shows = triple class mime_type extension; parent = parent; signature = signature }
 
-unfoldable pub further : List Further
-further =
+-- files that are built or packed: kinds of ELF files, ZIP archives and OpenDocument files
+unfoldable pub packages : List Further
+packages =
     row App (codes "application/x-object") (codes "o") (Some ELF) (at_least 18 (text 5 (0x01 ∷ []) ∷ text 16 (0x01 ∷ 0x00 ∷ []) ∷ []) ∷ at_least 18 (text 5 (0x02 ∷ []) ∷ text 16 (0x00 ∷ 0x01 ∷ []) ∷ []) ∷ [])
     ∷ row App (codes "application/x-core") (codes "core") (Some ELF) (at_least 18 (text 5 (0x01 ∷ []) ∷ text 16 (0x04 ∷ 0x00 ∷ []) ∷ []) ∷ at_least 18 (text 5 (0x02 ∷ []) ∷ text 16 (0x00 ∷ 0x04 ∷ []) ∷ []) ∷ [])
     ∷ row App (codes "application/vnd.appimage") (codes "appimage") (Some ELF) (at_least 11 (text 8 (codes "AI") ∷ byte 10 (any_of (0x01 ∷ 0x02 ∷ [])) ∷ []) ∷ [])
@@ -30,7 +31,12 @@ further =
     ∷ row Doc (codes "application/vnd.oasis.opendocument.text-template") (codes "ott") (Some ODT) (at_least 86 (text 77 (codes "-template") ∷ []) ∷ [])
     ∷ row Doc (codes "application/vnd.oasis.opendocument.spreadsheet-template") (codes "ots") (Some ODS) (at_least 93 (text 84 (codes "-template") ∷ []) ∷ [])
     ∷ row Doc (codes "application/vnd.oasis.opendocument.presentation-template") (codes "otp") (Some ODP) (at_least 94 (text 85 (codes "-template") ∷ []) ∷ [])
-    ∷ row App (codes "application/x-msi") (codes "msi") (Some MSI) []
+    ∷ []
+
+-- kinds of files whose parent has a header of its own: OLE storages, PEM, DER, SQLite, images and Ogg
+unfoldable pub headers : List Further
+headers =
+    row App (codes "application/x-msi") (codes "msi") (Some MSI) []
     ∷ row Doc (codes "application/vnd.ms-outlook") (codes "msg") (Some MSI) []
     ∷ row Doc (codes "application/vnd.ms-publisher") (codes "pub") (Some MSI) []
     ∷ row Doc (codes "application/vnd.visio") (codes "vsd") (Some MSI) []
@@ -49,7 +55,12 @@ further =
     ∷ row Image (codes "image/x-eps") (codes "eps") (Some PS) (at_least 20 (text 0 (codes "%!PS-Adobe-") ∷ text 14 (codes " EPSF-") ∷ []) ∷ [])
     ∷ row Video (codes "video/ogg") (codes "ogv") (Some OGG) (at_least 35 (text 28 (0x80 ∷ [] ++ codes "theora") ∷ []) ∷ [])
     ∷ row Audio (codes "audio/ogg") (codes "oga") (Some OGG) (at_least 33 (text 28 (0x7F ∷ [] ++ codes "FLAC") ∷ []) ∷ [])
-    ∷ row Text (codes "text/x-python") (codes "py") (Some SHELLSCRIPT) []
+    ∷ []
+
+-- programs that name their interpreter, and kinds of XML and HTML
+unfoldable pub markup : List Further
+markup =
+    row Text (codes "text/x-python") (codes "py") (Some SHELLSCRIPT) []
     ∷ row Text (codes "text/x-perl") (codes "pl") (Some SHELLSCRIPT) []
     ∷ row Text (codes "text/x-ruby") (codes "rb") (Some SHELLSCRIPT) []
     ∷ row Text (codes "text/javascript") (codes "js") (Some SHELLSCRIPT) []
@@ -66,7 +77,12 @@ further =
     ∷ row Text (codes "application/x-plist") (codes "plist") (Some XML) []
     ∷ row Image (codes "image/svg+xml") (codes "svg") (Some HTML) []
     ∷ row Image (codes "image/svg+xml") (codes "svg") None []
-    ∷ row App (codes "application/x-pcapng") (codes "pcapng") None (at_least 12 (text 0 (0x0A ∷ 0x0D ∷ 0x0D ∷ 0x0A ∷ []) ∷ text 8 (codes "M<+" ++ 0x1A ∷ []) ∷ []) ∷ at_least 12 (text 0 (0x0A ∷ 0x0D ∷ 0x0D ∷ 0x0A ∷ []) ∷ text 8 (0x1A ∷ [] ++ codes "+<M") ∷ []) ∷ [])
+    ∷ []
+
+-- bytecode, translations, time zones, keys and disks
+unfoldable pub code : List Further
+code =
+    row App (codes "application/x-pcapng") (codes "pcapng") None (at_least 12 (text 0 (0x0A ∷ 0x0D ∷ 0x0D ∷ 0x0A ∷ []) ∷ text 8 (codes "M<+" ++ 0x1A ∷ []) ∷ []) ∷ at_least 12 (text 0 (0x0A ∷ 0x0D ∷ 0x0D ∷ 0x0A ∷ []) ∷ text 8 (0x1A ∷ [] ++ codes "+<M") ∷ []) ∷ [])
     ∷ row App (codes "application/x-python-bytecode") (codes "pyc") None (at_least 17 (byte 1 (between 0x0D 0x0F) ∷ text 2 (0x0D ∷ 0x0A ∷ []) ∷ byte 4 (between 0x00 0x03) ∷ text 5 (0x00 ∷ 0x00 ∷ 0x00 ∷ []) ∷ byte 16 (any_of (0x63 ∷ 0xE3 ∷ [])) ∷ []) ∷ at_least 13 (byte 1 (between 0x0C 0x0D) ∷ text 2 (0x0D ∷ 0x0A ∷ []) ∷ byte 12 (any_of (0x63 ∷ 0xE3 ∷ [])) ∷ []) ∷ at_least 9 (byte 1 (between 0x0B 0x0C) ∷ text 2 (0x0D ∷ 0x0A ∷ []) ∷ byte 8 (any_of (0x63 ∷ 0xE3 ∷ [])) ∷ []) ∷ at_least 9 (byte 1 (any_of (0x4E ∷ 0xC4 ∷ 0xC6 ∷ 0xEB ∷ 0xED ∷ 0xF2 ∷ 0xF3 ∷ [])) ∷ text 2 (0x0D ∷ 0x0A ∷ []) ∷ text 8 (codes "c") ∷ []) ∷ [])
     ∷ row App (codes "application/x-terminfo") (codes "terminfo") None (at_least 13 (text 0 (0x1A ∷ 0x01 ∷ []) ∷ byte 2 (between 0x01 0xFF) ∷ text 3 (0x00 ∷ []) ∷ text 5 (0x00 ∷ []) ∷ text 7 (0x00 ∷ []) ∷ byte 12 (between 0x21 0x7E) ∷ []) ∷ at_least 13 (text 0 (0x1E ∷ 0x02 ∷ []) ∷ byte 2 (between 0x01 0xFF) ∷ text 3 (0x00 ∷ []) ∷ text 5 (0x00 ∷ []) ∷ text 7 (0x00 ∷ []) ∷ byte 12 (between 0x21 0x7E) ∷ []) ∷ [])
     ∷ row App (codes "application/x-gettext-translation") (codes "mo") None (at_least 4 (text 0 (0xDE ∷ 0x12 ∷ 0x04 ∷ 0x95 ∷ []) ∷ []) ∷ at_least 4 (text 0 (0x95 ∷ 0x04 ∷ 0x12 ∷ 0xDE ∷ []) ∷ []) ∷ [])
@@ -82,7 +98,12 @@ further =
     ∷ row App (codes "application/x-vhd-disk") (codes "vhd") None (at_least 8 (text 0 (codes "conectix") ∷ []) ∷ [])
     ∷ row App (codes "application/x-vhdx-disk") (codes "vhdx") None (at_least 8 (text 0 (codes "vhdxfile") ∷ []) ∷ [])
     ∷ row App (codes "application/x-systemd-journal") (codes "journal") None (at_least 8 (text 0 (codes "LPKSHHRH") ∷ []) ∷ [])
-    ∷ row App (codes "application/vnd.tcpdump.pcap") (codes "pcap") None (at_least 24 (text 0 (0xD4 ∷ 0xC3 ∷ 0xB2 ∷ 0xA1 ∷ 0x02 ∷ 0x00 ∷ []) ∷ []) ∷ at_least 24 (text 0 (codes "M<" ++ 0xB2 ∷ 0xA1 ∷ 0x02 ∷ 0x00 ∷ []) ∷ []) ∷ at_least 24 (text 0 (0xA1 ∷ 0xB2 ∷ 0xC3 ∷ 0xD4 ∷ 0x00 ∷ 0x02 ∷ []) ∷ []) ∷ at_least 24 (text 0 (0xA1 ∷ 0xB2 ∷ [] ++ codes "<M" ++ 0x00 ∷ 0x02 ∷ []) ∷ []) ∷ [])
+    ∷ []
+
+-- captures, shortcuts and sets of data
+unfoldable pub records : List Further
+records =
+    row App (codes "application/vnd.tcpdump.pcap") (codes "pcap") None (at_least 24 (text 0 (0xD4 ∷ 0xC3 ∷ 0xB2 ∷ 0xA1 ∷ 0x02 ∷ 0x00 ∷ []) ∷ []) ∷ at_least 24 (text 0 (codes "M<" ++ 0xB2 ∷ 0xA1 ∷ 0x02 ∷ 0x00 ∷ []) ∷ []) ∷ at_least 24 (text 0 (0xA1 ∷ 0xB2 ∷ 0xC3 ∷ 0xD4 ∷ 0x00 ∷ 0x02 ∷ []) ∷ []) ∷ at_least 24 (text 0 (0xA1 ∷ 0xB2 ∷ [] ++ codes "<M" ++ 0x00 ∷ 0x02 ∷ []) ∷ []) ∷ [])
     ∷ row App (codes "application/x-ms-evtx") (codes "evtx") None (at_least 8 (text 0 (codes "ElfFile" ++ 0x00 ∷ []) ∷ []) ∷ [])
     ∷ row App (codes "application/x-ms-shortcut") (codes "lnk") None (at_least 20 (text 0 (0x4C ∷ 0x00 ∷ 0x00 ∷ 0x00 ∷ 0x01 ∷ 0x14 ∷ 0x02 ∷ 0x00 ∷ 0x00 ∷ 0x00 ∷ 0x00 ∷ 0x00 ∷ 0xC0 ∷ 0x00 ∷ 0x00 ∷ 0x00 ∷ 0x00 ∷ 0x00 ∷ 0x00 ∷ 0x46 ∷ []) ∷ []) ∷ [])
     ∷ row App (codes "application/vnd.ms-outlook-pst") (codes "pst") None (at_least 10 (text 0 (codes "!BDN") ∷ text 8 (codes "SM") ∷ []) ∷ [])
@@ -98,7 +119,12 @@ further =
     ∷ row App (codes "application/x-gdbm") (codes "gdbm") None (at_least 4 (byte 0 (any_of (0xCD ∷ 0xCE ∷ 0xCF ∷ [])) ∷ text 1 (0x9A ∷ 0x57 ∷ 0x13 ∷ []) ∷ []) ∷ at_least 4 (text 0 (0x13 ∷ 0x57 ∷ 0x9A ∷ []) ∷ byte 3 (any_of (0xCD ∷ 0xCE ∷ 0xCF ∷ [])) ∷ []) ∷ [])
     ∷ row App (codes "application/vnd.shx") (codes "shx") None (at_least 108 (text 0 (0x00 ∷ 0x00 ∷ 0x27 ∷ 0x0A ∷ []) ∷ text 28 (0xE8 ∷ 0x03 ∷ 0x00 ∷ 0x00 ∷ []) ∷ text 100 (0x00 ∷ 0x00 ∷ 0x00 ∷ 0x32 ∷ []) ∷ []) ∷ [])
     ∷ row App (codes "application/vnd.shp") (codes "shp") None (at_least 100 (text 0 (0x00 ∷ 0x00 ∷ 0x27 ∷ 0x0A ∷ []) ∷ text 28 (0xE8 ∷ 0x03 ∷ 0x00 ∷ 0x00 ∷ []) ∷ []) ∷ [])
-    ∷ row Archive (codes "application/vnd.squashfs") (codes "squashfs") None (at_least 30 (text 0 (codes "hsqs") ∷ byte 28 (between 0x01 0x04) ∷ text 29 (0x00 ∷ []) ∷ []) ∷ at_least 30 (text 0 (codes "sqsh") ∷ text 28 (0x00 ∷ []) ∷ byte 29 (between 0x01 0x04) ∷ []) ∷ [])
+    ∷ []
+
+-- archives
+unfoldable pub archives : List Further
+archives =
+    row Archive (codes "application/vnd.squashfs") (codes "squashfs") None (at_least 30 (text 0 (codes "hsqs") ∷ byte 28 (between 0x01 0x04) ∷ text 29 (0x00 ∷ []) ∷ []) ∷ at_least 30 (text 0 (codes "sqsh") ∷ text 28 (0x00 ∷ []) ∷ byte 29 (between 0x01 0x04) ∷ []) ∷ [])
     ∷ row Archive (codes "application/x-ms-wim") (codes "wim") None (at_least 8 (text 0 (codes "MSWIM" ++ 0x00 ∷ 0x00 ∷ 0x00 ∷ []) ∷ []) ∷ [])
     ∷ row Archive (codes "application/x-xar") (codes "xar") None (at_least 5 (text 0 (codes "xar!" ++ 0x00 ∷ []) ∷ []) ∷ [])
     ∷ row Archive (codes "application/x-arj") (codes "arj") None (at_least 11 (text 0 (0x60 ∷ 0xEA ∷ []) ∷ byte 3 (between 0x00 0x0A) ∷ byte 4 (between 0x1E 0x40) ∷ text 10 (0x02 ∷ []) ∷ []) ∷ [])
@@ -107,7 +133,12 @@ further =
     ∷ row Archive (codes "application/x-lzma") (codes "lzma") None (at_least 13 (text 0 (0x5D ∷ 0x00 ∷ 0x00 ∷ []) ∷ text 5 (0xFF ∷ 0xFF ∷ 0xFF ∷ 0xFF ∷ 0xFF ∷ 0xFF ∷ 0xFF ∷ 0xFF ∷ []) ∷ []) ∷ at_least 14 (text 0 (0x5D ∷ 0x00 ∷ 0x00 ∷ []) ∷ text 10 (0x00 ∷ 0x00 ∷ 0x00 ∷ 0x00 ∷ []) ∷ []) ∷ [])
     ∷ row Archive (codes "application/x-cpio") (codes "cpio") None (at_least 7 (text 0 (codes "070707") ∷ byte 6 (between 0x30 0x37) ∷ []) ∷ at_least 7 (text 0 (codes "070702") ∷ byte 6 (between 0x30 0x39) ∷ []) ∷ at_least 7 (text 0 (codes "070702") ∷ byte 6 (between 0x41 0x46) ∷ []) ∷ at_least 7 (text 0 (codes "070702") ∷ byte 6 (between 0x61 0x66) ∷ []) ∷ [])
     ∷ row Archive (codes "application/warc") (codes "warc") None (at_least 8 (text 0 (codes "WARC/") ∷ byte 5 (between 0x30 0x39) ∷ text 6 (codes ".") ∷ byte 7 (between 0x30 0x39) ∷ []) ∷ [])
-    ∷ row Image (codes "image/x-xcursor") (codes "xcursor") None (at_least 8 (text 0 (codes "Xcur" ++ 0x10 ∷ 0x00 ∷ 0x00 ∷ 0x00 ∷ []) ∷ []) ∷ [])
+    ∷ []
+
+-- images
+unfoldable pub images : List Further
+images =
+    row Image (codes "image/x-xcursor") (codes "xcursor") None (at_least 8 (text 0 (codes "Xcur" ++ 0x10 ∷ 0x00 ∷ 0x00 ∷ 0x00 ∷ []) ∷ []) ∷ [])
     ∷ row Image (codes "image/x-xcf") (codes "xcf") None (at_least 9 (text 0 (codes "gimp xcf ") ∷ []) ∷ [])
     ∷ row Image (codes "image/fits") (codes "fits") None (at_least 30 (text 0 (codes "SIMPLE  =") ∷ text 29 (codes "T") ∷ []) ∷ [])
     ∷ row Image (codes "image/x-fuji-raf") (codes "raf") None (at_least 16 (text 0 (codes "FUJIFILMCCD-RAW ") ∷ []) ∷ [])
@@ -120,7 +151,12 @@ further =
     ∷ row Image (codes "image/x-eps") (codes "eps") None (at_least 4 (text 0 (0xC5 ∷ 0xD0 ∷ 0xD3 ∷ 0xC6 ∷ []) ∷ []) ∷ [])
     ∷ row Image (codes "model/gltf-binary") (codes "glb") None (at_least 8 (text 0 (codes "glTF") ∷ byte 4 (any_of (0x01 ∷ 0x02 ∷ [])) ∷ text 5 (0x00 ∷ 0x00 ∷ 0x00 ∷ []) ∷ []) ∷ [])
     ∷ row Image (codes "application/x-blender") (codes "blend") None (at_least 12 (text 0 (codes "BLENDER") ∷ byte 7 (any_of (0x2D ∷ 0x5F ∷ [])) ∷ byte 8 (any_of (0x56 ∷ 0x76 ∷ [])) ∷ byte 9 (between 0x30 0x39) ∷ []) ∷ [])
-    ∷ row Audio (codes "audio/basic") (codes "au") None (at_least 6 (text 0 (codes ".snd" ++ 0x00 ∷ 0x00 ∷ []) ∷ []) ∷ [])
+    ∷ []
+
+-- sound, documents, fonts and texts that begin with fixed bytes
+unfoldable pub media : List Further
+media =
+    row Audio (codes "audio/basic") (codes "au") None (at_least 6 (text 0 (codes ".snd" ++ 0x00 ∷ 0x00 ∷ []) ∷ []) ∷ [])
     ∷ row Audio (codes "audio/x-aifc") (codes "aifc") None (at_least 12 (text 0 (codes "FORM") ∷ text 8 (codes "AIFC") ∷ []) ∷ [])
     ∷ row Audio (codes "audio/x-wavpack") (codes "wv") None (at_least 10 (text 0 (codes "wvpk") ∷ text 9 (0x04 ∷ []) ∷ []) ∷ [])
     ∷ row Audio (codes "audio/x-musepack") (codes "mpc") None (at_least 4 (text 0 (codes "MPCK") ∷ []) ∷ at_least 4 (text 0 (codes "MP+") ∷ byte 3 (any_of (0x07 ∷ 0x17 ∷ [])) ∷ []) ∷ [])
@@ -133,7 +169,12 @@ further =
     ∷ row Text (codes "text/vtt") (codes "vtt") None (at_least 7 (text 0 (codes "WEBVTT") ∷ byte 6 (any_of (0x09 ∷ 0x0A ∷ 0x0D ∷ 0x20 ∷ [])) ∷ []) ∷ at_least 10 (text 0 (0xEF ∷ 0xBB ∷ 0xBF ∷ [] ++ codes "WEBVTT") ∷ byte 9 (any_of (0x09 ∷ 0x0A ∷ 0x0D ∷ 0x20 ∷ [])) ∷ []) ∷ [])
     ∷ row Text (codes "text/x-php") (codes "php") None (at_least 6 (text 0 (codes "<?php") ∷ byte 5 (any_of (0x09 ∷ 0x0A ∷ 0x0D ∷ 0x20 ∷ [])) ∷ []) ∷ [])
     ∷ row Text (codes "application/x-subrip") (codes "srt") None []
-    ∷ row Archive (codes "application/x-lzh-compressed") (codes "lzh") None (at_least 7 (text 2 (codes "-lh") ∷ byte 5 (between 0x30 0x37) ∷ text 6 (codes "-") ∷ []) ∷ at_least 7 (text 2 (codes "-lh") ∷ byte 5 (any_of (0x64 ∷ 0x78 ∷ [])) ∷ text 6 (codes "-") ∷ []) ∷ at_least 7 (text 2 (codes "-lz") ∷ byte 5 (any_of (0x34 ∷ 0x35 ∷ 0x73 ∷ [])) ∷ text 6 (codes "-") ∷ []) ∷ at_least 7 (text 2 (codes "-pm") ∷ byte 5 (between 0x30 0x32) ∷ text 6 (codes "-") ∷ []) ∷ [])
+    ∷ []
+
+-- rows that leave the first bytes free, and texts
+unfoldable pub late : List Further
+late =
+    row Archive (codes "application/x-lzh-compressed") (codes "lzh") None (at_least 7 (text 2 (codes "-lh") ∷ byte 5 (between 0x30 0x37) ∷ text 6 (codes "-") ∷ []) ∷ at_least 7 (text 2 (codes "-lh") ∷ byte 5 (any_of (0x64 ∷ 0x78 ∷ [])) ∷ text 6 (codes "-") ∷ []) ∷ at_least 7 (text 2 (codes "-lz") ∷ byte 5 (any_of (0x34 ∷ 0x35 ∷ 0x73 ∷ [])) ∷ text 6 (codes "-") ∷ []) ∷ at_least 7 (text 2 (codes "-pm") ∷ byte 5 (between 0x30 0x32) ∷ text 6 (codes "-") ∷ []) ∷ [])
     ∷ row Video (codes "video/3gpp") (codes "3gp") None (at_least 11 (text 4 (codes "ftyp3g") ∷ byte 10 (any_of (0x65 ∷ 0x67 ∷ 0x70 ∷ 0x72 ∷ 0x73 ∷ [])) ∷ []) ∷ [])
     ∷ row Video (codes "video/3gpp2") (codes "3g2") None (at_least 11 (text 4 (codes "ftyp3g2") ∷ []) ∷ [])
     ∷ row Video (codes "video/x-f4v") (codes "f4v") None (at_least 12 (text 4 (codes "ftypf4v ") ∷ []) ∷ [])
@@ -153,3 +194,7 @@ further =
     ∷ row Text (codes "application/json") (codes "json") None []
     ∷ row Text (codes "text/plain") (codes "txt") None []
     ∷ []
+
+-- all of them
+unfoldable pub further : List Further
+further = packages ++ (headers ++ (markup ++ (code ++ (records ++ (archives ++ (images ++ (media ++ (late ++ []))))))))

@@ -1,7 +1,132 @@
-//! Tells more types of files than the built-in rows of `infer`.
+//! Tells more types of files than the built-in rows of `infer`, as a further step after their answer.
+//!
+//! A further row has a class, a MIME type, an extension, a signature and often a parent, which is a built-in row. Let p be
+//! what [`infer::position`] answers. The wider answer is the first further row whose parent is p and whose signature
+//! accepts the buffer, and p if there is none. So an answer becomes more exact, as an ELF file an object file, or there is
+//! one where there was none. It never contradicts the built-in one.
+//!
+//! The numbers of the further rows go on from the built-in ones: the first has the number `ROW_COUNT`.
+//!
+//! Each module uses only those before it: `signature`, one function that decides any fixed signature; `table`, the rows;
+//! `index`, which rows are asked; `answers`, what they answer; `read`, the front of a file or of a reader.
 #![tactic(auto)]
 
-mod rows;
-mod signature;
+ghost use Rattle.std.specs.Prelude.{◌≡◌, ◌≤◌, ◌↔◌, IsTrue, None, option_map, slice_get};
+ghost use Rattle.infer.specs.Triple.{triple_of};
+ghost use Rattle.infer.specs.Watched.{fault_of};
+ghost use Rattle.infer_more.specs.Reading.{AnswersReader, AnswersSome};
+ghost use Rattle.infer_more.specs.Wider.{AcceptsAt, IsWider, IsWiderAnswer, ShowsExtension, ShowsMimeType, parent_at, shown};
 
-pub use rows::FURTHER_COUNT;
+mod answers;
+mod index;
+mod read;
+mod signature;
+mod table;
+
+use infer::{FRONT, Fault, Type, Watched};
+use std::alloc::Allocator;
+use std::io::Read;
+use std::rt::Files;
+pub use table::FURTHER_COUNT;
+
+/// The type of the wider answer of `buf`, and `None` exactly if no row accepts it.
+pub fn get(buf: &[u8]) -> Option<Type>
+    ensures { IsWiderAnswer buf.now (option_map triple_of result) }
+{
+    answers::get(buf)
+}
+
+/// The number of the wider answer of `buf`, and `None` exactly if no row accepts it.
+pub fn position(buf: &[u8]) -> Option<usize>
+    ensures { IsWider buf.now result }
+{
+    answers::position(buf)
+}
+
+/// The type of row `i`, built-in or further, and `None` from the sum of `ROW_COUNT` and [`FURTHER_COUNT`] on.
+pub fn row(i: usize) -> Option<Type>
+    ensures { option_map triple_of result ≡ slice_get shown i }
+{
+    answers::row(i)
+}
+
+/// The number of the built-in row that is the parent of further row `i`, and `None` if it has none or is no further row.
+pub fn parent(i: usize) -> Option<usize>
+    ensures { result ≡ parent_at i }
+{
+    answers::parent(i)
+}
+
+/// Whether the signature of row `i`, built-in or further, accepts `buf`, which need not be the answer. A further row's
+/// parent is not asked.
+pub fn accepts(buf: &[u8], i: usize) -> bool
+    ensures { IsTrue result ↔ AcceptsAt buf.now i }
+{
+    answers::accepts(buf, i)
+}
+
+/// Whether some row, built-in or further, has this extension.
+pub fn is_supported(extension: &str) -> bool
+    ensures { IsTrue result ↔ ShowsExtension extension.now }
+{
+    infer::is_supported(extension) || answers::has_extension(extension)
+}
+
+/// Whether some row, built-in or further, has this MIME type.
+pub fn is_mime_supported(mime_type: &str) -> bool
+    ensures { IsTrue result ↔ ShowsMimeType mime_type.now }
+{
+    infer::is_mime_supported(mime_type) || answers::has_mime_type(mime_type)
+}
+
+/// The type of the wider answer of the first 8192 bytes of a reader, or all if it has fewer. It reads and refuses as
+/// `Infer::get_from_reader` of `infer` does.
+pub fn get_from_reader<A: Allocator, R: Read>(
+    alloc: A,
+    r: &mut Watched<R>,
+) -> Result<Option<Type>, Fault>
+    requires { fault_of r.old ≡ None }
+    ensures { AnswersReader R.remaining FRONT r.old r.new result }
+{
+    read::get_from_reader_within(alloc, r, FRONT)
+}
+
+/// [`get_from_reader`] with `n` bytes in place of 8192, of which there are from 1 to 65536.
+pub fn get_from_reader_within<A: Allocator, R: Read>(
+    alloc: A,
+    r: &mut Watched<R>,
+    n: usize,
+) -> Result<Option<Type>, Fault>
+    requires no_fault { fault_of r.old ≡ None }
+    requires least { 1 ≤ n }
+    requires most { n ≤ 65536 }
+    ensures { AnswersReader R.remaining n r.old r.new result }
+{
+    read::get_from_reader_within(alloc, r, n)
+}
+
+/// The type of the wider answer of the first 8192 bytes of a file, or all if it has fewer. It opens the file, reserves
+/// 8192 bytes and reads, in this order.
+pub fn get_from_path<R: Files, A: Allocator>(
+    rt: &R,
+    alloc: A,
+    path: &str,
+) -> Result<Option<Type>, Fault>
+    ensures { AnswersSome FRONT result }
+{
+    read::get_from_path_within(rt, alloc, path, FRONT)
+}
+
+/// [`get_from_path`] with `n` bytes in place of 8192, of which there are from 1 to 65536.
+pub fn get_from_path_within<R: Files, A: Allocator>(
+    rt: &R,
+    alloc: A,
+    path: &str,
+    n: usize,
+) -> Result<Option<Type>, Fault>
+    requires least { 1 ≤ n }
+    requires most { n ≤ 65536 }
+    ensures { AnswersSome n result }
+{
+    read::get_from_path_within(rt, alloc, path, n)
+}

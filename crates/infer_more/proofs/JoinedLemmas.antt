@@ -1,0 +1,37 @@
+-- Elements of lists that are joined.
+use Rattle.std.proofs.Common.{◌≡◌, ℕ, zero, suc, ◌+◌, ◌-◌, ◌<◌, List, [], ◌∷◌, ◌++◌, Option, None, Some, map, option_map, length, drop, get_or, slice_get, ap, sym, ◌∙◌, subst, arith, refl, drop-cons, add-one}
+use Rattle.std.proofs.lemmas.Option.{slice_get-map}
+use Rattle.std.proofs.lemmas.List.{length-map}
+use denote.Ref.{Bor}
+use Rattle.infer_more.specs.Listed.{joined, row_listed}
+use Rattle.infer_more.specs.Row.{Further}
+use Rattle.infer_more.specs.declared.table.FurtherRow.{FurtherRow}
+
+module _ {A : Type 0} where
+  pub slice_get_front : (xs ys : List A) (i : ℕ) (x : A) → slice_get xs i ≡ Some x → slice_get (xs ++ ys) i ≡ Some x
+  slice_get_front [] ys i x e = absurd (cc)
+  slice_get_front (y ∷ xs) ys zero x e = e
+  slice_get_front (y ∷ xs) ys (suc i) x e = slice_get_front xs ys i x e
+
+  pub slice_get_rest : (xs ys : List A) (i : ℕ) → slice_get xs i ≡ None → slice_get (xs ++ ys) i ≡ slice_get ys (i - length xs)
+  slice_get_rest [] ys i e = ap (slice_get ys) (omega arith)
+  slice_get_rest (y ∷ xs) ys zero e = absurd (cc)
+  slice_get_rest (y ∷ xs) ys (suc i) e = slice_get_rest xs ys i e ∙ ap (slice_get ys) (omega arith)
+
+module _ (lists : List (Bor (List FurtherRow))) (k left : ℕ) (d : Bor (List FurtherRow)) (o : Option Further) (lt : k < length lists)
+    (left_of : slice_get (joined (drop k lists)) left ≡ o) where
+  opened : slice_get (map row_listed (get_or lists k d).now ++ joined (drop (k + 1) lists)) left ≡ o
+  opened =
+      let e : drop k lists ≡ get_or lists k d ∷ drop (k + 1) lists = rw add-one (drop-cons lists k d lt) in
+      subst (λ l. slice_get (joined l) left ≡ o) e left_of
+
+  -- the row that is found in a list is that of all
+  pub found_here : (row : FurtherRow) → slice_get (get_or lists k d).now left ≡ Some row → Some (row_listed row) ≡ o
+  found_here row e =
+      sym (slice_get_front _ (joined (drop (k + 1) lists)) left (row_listed row) (slice_get-map row_listed (get_or lists k d).now left ∙ ap (option_map row_listed) e)) ∙ opened
+
+  -- and otherwise it is among those that follow
+  pub found_later : slice_get (get_or lists k d).now left ≡ None → slice_get (joined (drop (k + 1) lists)) (left - length (get_or lists k d).now) ≡ o
+  found_later e =
+      ap (λ n. slice_get (joined (drop (k + 1) lists)) (left - n)) (sym (length-map {A = FurtherRow} {B = Further} (get_or lists k d).now row_listed))
+      ∙ (sym (slice_get_rest (map row_listed (get_or lists k d).now) (joined (drop (k + 1) lists)) left (slice_get-map row_listed (get_or lists k d).now left ∙ ap (option_map row_listed) e)) ∙ opened)

@@ -1,0 +1,16 @@
+use Rattle.std.proofs.Common.{◌<◌, ◌≤◌, None, length, arith}
+use Rattle.infer_more.proofs.LeastLemmas.{keeps_all_guards, keeps_guard, keeps_none}
+use Rattle.infer_more.proofs.answers.least_guarded.Goals as goal
+
+pub loop-guard-init : goal.loop-guard-init
+loop-guard-init c = keeps_none None c.args.buf.now c.args.before
+
+pub loop-guard-preserved : goal.loop-guard-preserved
+loop-guard-preserved c =
+    let lt : c.loop-guard.guard-index < length c.args.guards.now = omega arith in
+    keeps_guard None c.args.buf.now c.args.guards.now c.loop-guard.guard-index _ _ _ _ lt c.loop-guard.invariant c.least_behind-least.ensures
+
+pub returns : goal.returns
+returns c =
+    let le : length c.args.guards.now ≤ c.loop-guard.guard-index = omega arith in
+    keeps_all_guards None c.args.buf.now c.args.guards.now c.loop-guard.guard-index _ _ le c.loop-guard.invariant

@@ -1,0 +1,5 @@
+use Rattle.infer_more.proofs.IndexLemmas.{all_asked}
+use Rattle.infer_more.proofs.index.asked.Goals as goal
+
+pub returns : goal.returns
+returns c = all_asked c.by_place.ensures c.args.index.now c.requires

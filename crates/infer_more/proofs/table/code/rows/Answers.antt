@@ -1,0 +1,7 @@
+use Rattle.std.proofs.Common.{refl}
+use Rattle.infer_more.specs.Table.{code}
+use Rattle.infer_more.proofs.table.code.rows.Goals as goal
+
+pub returns : goal.returns
+unfolding code
+returns c = refl

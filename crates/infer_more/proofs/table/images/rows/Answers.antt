@@ -1,0 +1,7 @@
+use Rattle.std.proofs.Common.{refl}
+use Rattle.infer_more.specs.Table.{images}
+use Rattle.infer_more.proofs.table.images.rows.Goals as goal
+
+pub returns : goal.returns
+unfolding images
+returns c = refl

@@ -1,0 +1,7 @@
+use Rattle.std.proofs.Common.{refl}
+use Rattle.infer_more.specs.Table.{late}
+use Rattle.infer_more.proofs.table.late.rows.Goals as goal
+
+pub returns : goal.returns
+unfolding late
+returns c = refl

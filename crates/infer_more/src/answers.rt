@@ -1,0 +1,239 @@
+//! What the further rows answer.
+ghost use Rattle.std.specs.Prelude.{◌≡◌, ◌↔◌, ◌<◌, IsTrue, None, [], ◌∷◌, length, map, option_map, slice_get};
+ghost use Rattle.std.specs.List.{HoldsAt};
+ghost use Rattle.infer.specs.First.{IsFirstOf, SomeHas};
+ghost use Rattle.infer.specs.Triple.{triple_of};
+ghost use Rattle.infer_more.specs.Index.{KeepsLeast, asked, begun, guarded, number_of, numbers_at};
+ghost use Rattle.infer_more.specs.Table.{further};
+ghost use Rattle.infer_more.specs.Wider.{AcceptsAt, IsWider, IsWiderAnswer, Widens, WidensAt, parent_at, shown};
+ghost use Rattle.infer_more.specs.Listed.{row_listed};
+
+use crate::index::{Guard, RowIndex, asked, index};
+use crate::signature;
+use crate::table::{FURTHER_COUNT, FurtherRow, RowName, row_at};
+use infer::rows::{ROW_COUNT, numbers};
+use infer::{Ask, Asker, Type};
+
+/// Whether further row `i` has this parent and accepts the buffer.
+fn widens(i: usize, parent: Option<usize>, buf: &[u8]) -> bool
+    ensures { IsTrue result ↔ WidensAt parent buf.now i }
+{
+    match row_at(i) {
+        Some(row) => row.parent == parent && signature::accepts(row.signature, buf),
+        None => false,
+    }
+}
+
+/// The lesser of the two numbers, if further row `i` has this parent and accepts the buffer.
+fn lesser(i: usize, parent: Option<usize>, buf: &[u8], least: Option<usize>) -> Option<usize>
+    ensures { KeepsLeast parent buf.now (i ∷ []) least result }
+{
+    match least {
+        Some(found) if found <= i => least,
+        _ if widens(i, parent, buf) => Some(i),
+        _ => least,
+    }
+}
+
+/// The least of these rows, and of those before them, that has this parent and accepts the buffer.
+fn least_of(
+    rows: &[RowName],
+    parent: Option<usize>,
+    buf: &[u8],
+    before: Option<usize>,
+) -> Option<usize>
+    ensures { KeepsLeast parent buf.now (map number_of rows.now) before result }
+{
+    let mut least = before;
+    for row in rows {
+        least = lesser(*row as usize, parent, buf, least);
+    }
+    least
+}
+
+/// The same of a guard's rows, if the buffer has its byte.
+#[inline(always)]
+fn least_behind(guard: &Guard, buf: &[u8], before: Option<usize>) -> Option<usize>
+    ensures { KeepsLeast None buf.now (guarded buf.now (guard.now ∷ [])) before result }
+{
+    match buf.get(guard.place) {
+        Some(byte) if *byte == guard.byte => least_of(guard.rows, None, buf, before),
+        _ => before,
+    }
+}
+
+/// The same of the rows of all guards.
+fn least_guarded(guards: &[Guard], buf: &[u8], before: Option<usize>) -> Option<usize>
+    ensures { KeepsLeast None buf.now (guarded buf.now guards.now) before result }
+{
+    let mut least = before;
+    for guard in guards {
+        least = least_behind(guard, buf, least);
+    }
+    least
+}
+
+/// The rows at that place of the lists, and none past the last.
+#[inline(always)]
+fn rows_at(lists: &'static [&'static [RowName]], i: usize) -> &'static [RowName]
+    ensures { map number_of result.now ≡ numbers_at lists.now i }
+{
+    match lists.get(i) {
+        Some(rows) => rows,
+        None => &[],
+    }
+}
+
+/// The rows that are listed by the buffer's first byte.
+#[inline(always)]
+fn rows_begun(index: &RowIndex, buf: &[u8]) -> &'static [RowName]
+    ensures { map number_of result.now ≡ begun index.now buf.now }
+{
+    match buf.first() {
+        Some(byte) => rows_at(index.first, usize::from(*byte)),
+        None => &[],
+    }
+}
+
+/// The least further row without a parent that accepts the buffer.
+fn least_unknown(index: &RowIndex, buf: &[u8]) -> Option<usize>
+    ensures { KeepsLeast None buf.now (asked index.now None buf.now) None result }
+{
+    let least = least_of(rows_begun(index, buf), None, buf, None);
+    least_guarded(index.guards, buf, least)
+}
+
+/// The first further row with this parent that accepts the buffer.
+#[inline(always)]
+fn first_widening(parent: Option<usize>, buf: &[u8]) -> Option<usize>
+    ensures { IsFirstOf (Widens parent buf.now) further result }
+{
+    let index = index();
+    asked(index);
+    match parent {
+        Some(row) => least_of(rows_at(index.below, row), parent, buf, None),
+        None => least_unknown(index, buf),
+    }
+}
+
+/// The number of the wider answer.
+pub fn position(buf: &[u8]) -> Option<usize>
+    ensures { IsWider buf.now result }
+{
+    let parent = infer::position(buf);
+    match first_widening(parent, buf) {
+        Some(i) => Some(ROW_COUNT + i),
+        None => parent,
+    }
+}
+
+/// The type of the wider answer.
+pub fn get(buf: &[u8]) -> Option<Type>
+    ensures { IsWiderAnswer buf.now (option_map triple_of result) }
+{
+    let found = position(buf)?;
+    row(found)
+}
+
+/// A type keeps no matcher, so it is given one that accepts nothing.
+fn never(_buf: &[u8]) -> bool {
+    false
+}
+
+/// The type of a further row.
+fn type_of(row: &FurtherRow) -> Type
+    ensures { triple_of result ≡ (row_listed row.now).shows }
+{
+    Type::new(row.matcher_type, row.mime_type, row.extension, never)
+}
+
+/// The type of row `i`, built-in or further.
+pub fn row(i: usize) -> Option<Type>
+    ensures { option_map triple_of result ≡ slice_get shown i }
+{
+    numbers();
+    if i < ROW_COUNT {
+        return infer::row(i);
+    }
+    match row_at(i - ROW_COUNT) {
+        Some(row) => Some(type_of(row)),
+        None => None,
+    }
+}
+
+/// The number of the parent of row `i`.
+pub fn parent(i: usize) -> Option<usize>
+    ensures { result ≡ parent_at i }
+{
+    if i < ROW_COUNT {
+        return None;
+    }
+    match row_at(i - ROW_COUNT) {
+        Some(row) => row.parent,
+        None => None,
+    }
+}
+
+/// Whether the signature of row `i`, built-in or further, accepts the buffer.
+pub fn accepts(buf: &[u8], i: usize) -> bool
+    ensures { IsTrue result ↔ AcceptsAt buf.now i }
+{
+    if i < ROW_COUNT {
+        return Asker::new(buf).ask(i);
+    }
+    match row_at(i - ROW_COUNT) {
+        Some(row) => signature::accepts(row.signature, buf),
+        None => false,
+    }
+}
+
+/// Whether the texts are the same.
+fn is_same(a: &str, b: &str) -> bool
+    ensures { IsTrue result ↔ (a.now ≡ b.now) }
+{
+    a == b
+}
+
+/// Whether further row `i` has this extension.
+fn shows_extension(i: usize, extension: &str) -> bool
+    ensures { IsTrue result ↔ ((i < length further) × HoldsAt (λ r. r.shows.extension ≡ extension.now) further i) }
+{
+    match row_at(i) {
+        Some(row) => is_same(row.extension, extension),
+        None => false,
+    }
+}
+
+/// Whether some further row has this extension.
+pub fn has_extension(extension: &str) -> bool
+    ensures { IsTrue result ↔ SomeHas (λ r. r.shows.extension ≡ extension.now) further }
+{
+    for i in 0..FURTHER_COUNT {
+        if shows_extension(i, extension) {
+            return true;
+        }
+    }
+    false
+}
+
+/// Whether further row `i` has this MIME type.
+fn shows_mime_type(i: usize, mime_type: &str) -> bool
+    ensures { IsTrue result ↔ ((i < length further) × HoldsAt (λ r. r.shows.mime_type ≡ mime_type.now) further i) }
+{
+    match row_at(i) {
+        Some(row) => is_same(row.mime_type, mime_type),
+        None => false,
+    }
+}
+
+/// Whether some further row has this MIME type.
+pub fn has_mime_type(mime_type: &str) -> bool
+    ensures { IsTrue result ↔ SomeHas (λ r. r.shows.mime_type ≡ mime_type.now) further }
+{
+    for i in 0..FURTHER_COUNT {
+        if shows_mime_type(i, mime_type) {
+            return true;
+        }
+    }
+    false
+}

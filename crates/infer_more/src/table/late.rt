@@ -1,0 +1,38 @@
+//! Rows that leave the first bytes free, and texts.
+ghost use Rattle.std.specs.Prelude.{◌≡◌, map};
+ghost use Rattle.infer_more.specs.Listed.{row_listed};
+ghost use Rattle.infer_more.specs.Table.{late};
+
+use crate::signature::Alternative;
+use crate::signature::Piece::{At, Between, OneOf};
+use crate::table::FurtherRow;
+use infer::MatcherType;
+
+static ROWS: [FurtherRow; 19] = rows![
+    Archive "application/x-lzh-compressed" "lzh": => [7, At(2, b"-lh"), Between(5, 0x30, 0x37), At(6, b"-")] [7, At(2, b"-lh"), OneOf(5, b"dx"), At(6, b"-")] [7, At(2, b"-lz"), OneOf(5, b"45s"), At(6, b"-")] [7, At(2, b"-pm"), Between(5, 0x30, 0x32), At(6, b"-")];
+    Video "video/3gpp" "3gp": => [11, At(4, b"ftyp3g"), OneOf(10, b"egprs")];
+    Video "video/3gpp2" "3g2": => [11, At(4, b"ftyp3g2")];
+    Video "video/x-f4v" "f4v": => [12, At(4, b"ftypf4v ")];
+    Audio "audio/x-m4b" "m4b": => [11, At(4, b"ftypM4B")];
+    Image "image/x-canon-cr3" "cr3": => [12, At(4, b"ftypcrx ")];
+    Image "image/heic-sequence" "heics": => [12, At(4, b"ftyphev"), OneOf(11, b"cx")];
+    Image "image/heif" "heif": => [12, At(4, b"ftypmif1")];
+    App "application/x-safetensors" "safetensors": => [10, At(3, b"\0\0\0\0\0{\"")];
+    App "application/x-hdf5" "hdf5": => [8, At(0, b"\x89HDF\r\n\x1A\n")] [520, At(512, b"\x89HDF\r\n\x1A\n")];
+    App "application/x-dbm" "bdb": => [16, At(12, b"b1\x05\0")] [16, At(12, b"\0\x051b")] [16, At(12, b"a\x15\x06\0")] [16, At(12, b"\0\x06\x15a")];
+    App "application/x-vdi-disk" "vdi": => [68, At(64, b"\x7F\x10\xDA\xBE")];
+    App "application/vnd.dbf" "dbf": =>;
+    Archive "application/x-ext-filesystem" "ext2": => [1086, At(1080, b"S\xEF"), Between(1082, 0x00, 0x07), At(1083, b"\0"), Between(1084, 0x01, 0x03), At(1085, b"\0")];
+    Video "video/mp2t" "ts": => [753, At(0, b"G"), At(188, b"G"), At(376, b"G"), At(564, b"G"), At(752, b"G")] [773, At(4, b"G"), At(196, b"G"), At(388, b"G"), At(580, b"G"), At(772, b"G")];
+    Archive "application/x-tar" "tar": =>;
+    Text "application/x-ndjson" "ndjson": =>;
+    Text "application/json" "json": =>;
+    Text "text/plain" "txt": =>;
+];
+
+#[inline(always)]
+pub(super) fn rows() -> &'static [FurtherRow]
+    ensures { map row_listed result.now ≡ late }
+{
+    &ROWS
+}

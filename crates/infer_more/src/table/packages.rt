@@ -1,0 +1,38 @@
+//! Files that are built or packed: kinds of ELF files, ZIP archives and OpenDocument files.
+ghost use Rattle.std.specs.Prelude.{◌≡◌, map};
+ghost use Rattle.infer_more.specs.Listed.{row_listed};
+ghost use Rattle.infer_more.specs.Table.{packages};
+
+use crate::signature::Alternative;
+use crate::signature::Piece::{At, OneOf};
+use crate::table::FurtherRow;
+use infer::MatcherType;
+use infer::rows::{ELF, ODP, ODS, ODT, ZIP};
+
+static ROWS: [FurtherRow; 18] = rows![
+    App "application/x-object" "o": ELF => [18, At(5, b"\x01"), At(16, b"\x01\0")] [18, At(5, b"\x02"), At(16, b"\0\x01")];
+    App "application/x-core" "core": ELF => [18, At(5, b"\x01"), At(16, b"\x04\0")] [18, At(5, b"\x02"), At(16, b"\0\x04")];
+    App "application/vnd.appimage" "appimage": ELF => [11, At(8, b"AI"), OneOf(10, b"\x01\x02")];
+    App "application/x-sharedlib" "so": ELF =>;
+    App "application/vnd.android.package-archive" "apk": ZIP =>;
+    Archive "application/vnd.google-earth.kmz" "kmz": ZIP =>;
+    Archive "application/java-archive" "jar": ZIP =>;
+    Doc "application/vnd.openxmlformats-officedocument.wordprocessingml.document" "docx": ZIP =>;
+    Doc "application/vnd.openxmlformats-officedocument.spreadsheetml.sheet" "xlsx": ZIP =>;
+    Doc "application/vnd.openxmlformats-officedocument.presentationml.presentation" "pptx": ZIP =>;
+    Doc "application/vnd.ms-visio.drawing.main+xml" "vsdx": ZIP =>;
+    Image "model/3mf" "3mf": ZIP =>;
+    Image "application/vnd.oasis.opendocument.graphics" "odg": ZIP => [83, At(0, b"PK\x03\x04"), At(30, b"mimetypeapplication/vnd.oasis.opendocument.graphicsPK")];
+    Doc "application/vnd.oasis.opendocument.formula" "odf": ZIP => [82, At(0, b"PK\x03\x04"), At(30, b"mimetypeapplication/vnd.oasis.opendocument.formulaPK")];
+    Image "application/x-krita" "kra": ZIP => [57, At(0, b"PK\x03\x04"), At(30, b"mimetypeapplication/x-krita")];
+    Doc "application/vnd.oasis.opendocument.text-template" "ott": ODT => [86, At(77, b"-template")];
+    Doc "application/vnd.oasis.opendocument.spreadsheet-template" "ots": ODS => [93, At(84, b"-template")];
+    Doc "application/vnd.oasis.opendocument.presentation-template" "otp": ODP => [94, At(85, b"-template")];
+];
+
+#[inline(always)]
+pub(super) fn rows() -> &'static [FurtherRow]
+    ensures { map row_listed result.now ≡ packages }
+{
+    &ROWS
+}
