@@ -35,7 +35,9 @@ fn lesser(i: usize, parent: Option<usize>, buf: &[u8], least: Option<usize>) -> 
     }
 }
 
-/// The least of these rows, and of those before them, that has this parent and accepts the buffer.
+/// The least of these rows, and of those before them, that has this parent and accepts the buffer. A function of its own,
+/// since most built-in rows have no row below them.
+#[inline(never)]
 fn least_of(
     rows: &[RowName],
     parent: Option<usize>,
@@ -96,11 +98,23 @@ fn rows_begun(index: &RowIndex, buf: &[u8]) -> &'static [RowName]
 }
 
 /// The least further row without a parent that accepts the buffer.
+#[inline(never)]
 fn least_unknown(index: &RowIndex, buf: &[u8]) -> Option<usize>
     ensures { KeepsLeast None buf.now (asked index.now None buf.now) None result }
 {
     let least = least_of(rows_begun(index, buf), None, buf, None);
     least_guarded(index.guards, buf, least)
+}
+
+/// The least of these rows that has this parent and accepts the buffer. Nothing is called if there are none.
+#[inline(always)]
+fn least_below(rows: &[RowName], parent: Option<usize>, buf: &[u8]) -> Option<usize>
+    ensures { KeepsLeast parent buf.now (map number_of rows.now) None result }
+{
+    if rows.is_empty() {
+        return None;
+    }
+    least_of(rows, parent, buf, None)
 }
 
 /// The first further row with this parent that accepts the buffer.
@@ -111,12 +125,13 @@ fn first_widening(parent: Option<usize>, buf: &[u8]) -> Option<usize>
     let index = index();
     asked(index);
     match parent {
-        Some(row) => least_of(rows_at(index.below, row), parent, buf, None),
+        Some(row) => least_below(rows_at(index.below, row), parent, buf),
         None => least_unknown(index, buf),
     }
 }
 
 /// The number of the wider answer.
+#[inline(always)]
 pub fn position(buf: &[u8]) -> Option<usize>
     ensures { IsWider buf.now result }
 {
@@ -147,7 +162,19 @@ fn type_of(row: &FurtherRow) -> Type
     Type::new(row.matcher_type, row.mime_type, row.extension, never)
 }
 
+/// The type of further row `i`, counted among these.
+#[inline(never)]
+fn further_type(i: usize) -> Option<Type>
+    ensures { option_map triple_of result ≡ option_map (λ r. r.shows) (slice_get further i) }
+{
+    match row_at(i) {
+        Some(row) => Some(type_of(row)),
+        None => None,
+    }
+}
+
 /// The type of row `i`, built-in or further.
+#[inline(always)]
 pub fn row(i: usize) -> Option<Type>
     ensures { option_map triple_of result ≡ slice_get shown i }
 {
@@ -155,10 +182,7 @@ pub fn row(i: usize) -> Option<Type>
     if i < ROW_COUNT {
         return infer::row(i);
     }
-    match row_at(i - ROW_COUNT) {
-        Some(row) => Some(type_of(row)),
-        None => None,
-    }
+    further_type(i - ROW_COUNT)
 }
 
 /// The number of the parent of row `i`.
