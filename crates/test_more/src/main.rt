@@ -43,7 +43,7 @@ fn has_parent(i: usize, extension: &str) -> bool {
 
 /// Whether row `i` is what the line says, and its texts are supported.
 fn is_row(i: usize, fields: &[&str]) -> bool {
-    let ([class, mime_type, extension, parent], Some(row)) = (fields, infer_more::row(i)) else {
+    let ([class, mime_type, extension, parent, _], Some(row)) = (fields, infer_more::row(i)) else {
         return false;
     };
     is_type(&row, *class, *mime_type, *extension)
