@@ -16,11 +16,11 @@ use Rattle.infer_more.specs.declared.index.Guard.{Guard}
 use Rattle.infer_more.specs.declared.index.RowIndex.{RowIndex}
 
 -- both of two tests pass, or one of them
-both_left : (a b : Bool) → IsTrue (a && b) → IsTrue a
+pub both_left : (a b : Bool) → IsTrue (a && b) → IsTrue a
 both_left true b h = refl
 both_left false b h = absurd (cc)
 
-both_right : (a b : Bool) → IsTrue (a && b) → IsTrue b
+pub both_right : (a b : Bool) → IsTrue (a && b) → IsTrue b
 both_right true b h = h
 both_right false b h = absurd (cc)
 
@@ -28,7 +28,7 @@ both : (a b : Bool) → IsTrue a → IsTrue b → IsTrue (a && b)
 both true b h k = k
 both false b h k = absurd (cc)
 
-either : (a b : Bool) → IsTrue (a || b) → IsTrue a ⊎ IsTrue b
+pub either : (a b : Bool) → IsTrue (a || b) → IsTrue a ⊎ IsTrue b
 either true b h = inl refl
 either false b h = inr h
 
@@ -69,7 +69,7 @@ all_of_listed test z (x ∷ xs) h k = elim (either (z == x) _ k) [
 
 module _ (by_place : (place : ℕ) (t buf : List ℕ) → IsTrue (stands place t buf) ↔ StandsByPlace place t buf) (test : ℕ → Bool) (place : ℕ) (b : List ℕ) where
   -- the byte at the place is there and passes the test
-  abbrev Passes : Type 0
+  abbrev pub Passes : Type 0
   Passes = (place < length b) × IsTrue (test (slice_index b place))
 
   passes_text : (p : ℕ) (t : List ℕ) → IsTrue (is_settled test place (text p t)) → IsTrue (stands p t b) → Passes
@@ -106,7 +106,7 @@ module _ (by_place : (place : ℕ) (t buf : List ℕ) → IsTrue (stands place t
       )
   passes_byte p (all_but x) h k = absurd (cc)
 
-  passes_part : (part : Part) → IsTrue (is_settled test place part) → IsTrue (has_part b part) → Passes
+  pub passes_part : (part : Part) → IsTrue (is_settled test place part) → IsTrue (has_part b part) → Passes
   passes_part (text p t) h k = passes_text p t h k
   passes_part (any_text p ts) h k = absurd (cc)
   passes_part (byte p set) h k = passes_byte p set h k

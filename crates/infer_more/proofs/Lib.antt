@@ -5,3 +5,4 @@ pub mod LeastLemmas
 pub mod TableLemmas
 pub mod ShownLemmas
 pub mod RowLemmas
+pub mod LawLemmas

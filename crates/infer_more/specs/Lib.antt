@@ -4,3 +4,4 @@ pub mod Listed
 pub mod Wider
 pub mod Index
 pub mod Reading
+pub mod Laws

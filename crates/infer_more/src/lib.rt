@@ -8,7 +8,8 @@
 //! The numbers of the further rows go on from the built-in ones: the first has the number `ROW_COUNT`.
 //!
 //! Each module uses only those before it: `signature`, one function that decides any fixed signature; `table`, the rows;
-//! `index`, which rows are asked; `answers`, what they answer; `read`, the front of a file or of a reader.
+//! `index`, which rows are asked; `answers`, what they answer; `read`, the front of a file or of a reader; `laws`,
+//! facts about all of these.
 #![tactic(auto)]
 
 ghost use Rattle.std.specs.Prelude.{◌≡◌, ◌≤◌, ◌↔◌, IsTrue, None, option_map, slice_get};
@@ -19,6 +20,7 @@ ghost use Rattle.infer_more.specs.Wider.{AcceptsAt, IsWider, IsWiderAnswer, Show
 
 mod answers;
 mod index;
+pub mod laws;
 mod read;
 mod signature;
 mod table;
