@@ -1,17 +1,17 @@
 -- A row that widens an answer is asked.
-use Rattle.std.proofs.Common.{◌≡◌, ◌↔◌, ℕ, zero, suc, ◌+◌, ◌-◌, ◌<◌, ◌≤◌, ◌==◌, ◌⊎◌, inl, inr, Bool, true, false, IsTrue, List, [], ◌∷◌, ◌++◌, Option, None, Some, map, length, get_or, slice_get, ap, sym, ◌∙◌, subst, arith, refl, nat_le, nat_lt}
+use Rattle.std.proofs.Common.{◌≡◌, ◌↔◌, ℕ, zero, suc, ◌+◌, ◌-◌, ◌<◌, ◌≤◌, ◌==◌, ◌⊎◌, inl, inr, Bool, true, false, IsTrue, List, [], ◌∷◌, ◌++◌, Option, None, Some, map, length, slice_get, ap, sym, ◌∙◌, subst, arith, refl, nat_le, nat_lt}
 use Rattle.std.specs.Prelude.{◌&&◌, ◌||◌, if◌then◌else◌, slice_index}
-use Rattle.std.specs.List.{HoldsAt, list_all, list_any, range_with_len}
+use Rattle.std.specs.List.{list_all, list_any, range_with_len}
 use Rattle.std.specs.Option.{option_map_or}
 use Rattle.std.proofs.lemmas.Bool.{cases_lt, eqb-true, leb-true, lt-ltb, ltb-true}
 use Rattle.std.proofs.lemmas.Option.{get_or_from_slice_get, slice_get_cases}
-use Rattle.infer_sig.specs.Signature.{Alternative, at_least, Bytes, any_of, between, all_but, Part, text, any_text, byte, accepts, fits, has_part, allows, stands}
+use Rattle.infer_sig.specs.Signature.{Alternative, at_least, Bytes, any_of, between, all_but, Part, text, any_text, byte, accepts, fits, has_part, stands}
 use Rattle.infer_sig.specs.Places.{StandsByPlace}
 use Rattle.infer.specs.Walks.{is_listed}
 use Rattle.infer_more.specs.Index.{AllAreAsked, are_asked, asked, begun, guarded, is_asked, is_guard_of, is_guarded, is_settled, is_tested, number_of, numbers_at}
 use Rattle.infer_more.specs.Row.{Further}
 use Rattle.infer_more.specs.Table.{further}
-use Rattle.infer_more.specs.Wider.{Widens, WidensAt}
+use Rattle.infer_more.specs.Wider.{Widens}
 use Rattle.infer_more.specs.declared.index.Guard.{Guard}
 use Rattle.infer_more.specs.declared.index.RowIndex.{RowIndex}
 

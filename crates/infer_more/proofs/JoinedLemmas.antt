@@ -1,5 +1,5 @@
 -- Elements of lists that are joined.
-use Rattle.std.proofs.Common.{◌≡◌, ℕ, zero, suc, ◌+◌, ◌-◌, ◌<◌, List, [], ◌∷◌, ◌++◌, Option, None, Some, map, option_map, length, drop, get_or, slice_get, ap, sym, ◌∙◌, subst, arith, refl, drop-cons, add-one}
+use Rattle.std.proofs.Common.{◌≡◌, ℕ, zero, suc, ◌+◌, ◌-◌, ◌<◌, List, [], ◌∷◌, ◌++◌, Option, None, Some, map, option_map, length, drop, get_or, slice_get, ap, sym, ◌∙◌, subst, arith, drop-cons, add-one}
 use Rattle.std.proofs.lemmas.Option.{slice_get-map}
 use Rattle.std.proofs.lemmas.List.{length-map}
 use denote.Ref.{Bor}

@@ -1,14 +1,13 @@
 -- Laws of further rows.
-use Rattle.std.proofs.Common.{◌≡◌, ◌↔◌, ◌≢◌, ℕ, ◌+◌, ◌-◌, ◌<◌, ◌≤◌, ◌⊎◌, inl, inr, Bool, true, false, IsTrue, List, [], ◌∷◌, ◌++◌, Option, None, Some, All, length, get_or, slice_get, ap, sym, ◌∙◌, subst, arith, refl, nat_le, zero, suc}
+use Rattle.std.proofs.Common.{◌↔◌, ℕ, ◌<◌, inl, inr, Bool, true, false, IsTrue, List, [], ◌∷◌, ◌++◌, Option, None, Some, All, length, get_or, arith, nat_le, zero, suc}
 use Rattle.std.specs.Prelude.{not, slice_index}
 use Rattle.std.specs.List.{HoldsAt, list_all, list_any}
 use Rattle.std.proofs.lemmas.Bool.{cases_lt}
 use Rattle.std.proofs.lemmas.List.Elements.{AllWithin-from_all}
 use Rattle.std.proofs.lemmas.Option.{slice_get_cases}
-use Rattle.infer_sig.specs.Laws.{Lasts}
 use Rattle.infer_sig.specs.Places.{StandsByPlace}
 use Rattle.infer_sig.specs.Signature.{Alternative, at_least, Part, text, any_text, byte, accepts, fits, has_part, stands}
-use Rattle.infer.specs.First.{IsFirst, IsFirstOf, NoneHas}
+use Rattle.infer.specs.First.{IsFirstOf}
 use Rattle.infer.specs.Laws.{IsNotLater}
 use Rattle.infer.specs.Leads.{is_white}
 use Rattle.infer_more.specs.Index.{is_settled}

@@ -1,12 +1,10 @@
 -- The least of some rows that widens an answer.
-use Rattle.std.proofs.Common.{◌≡◌, ℕ, zero, suc, ◌+◌, ◌<◌, ◌≤◌, ◌==◌, ◌⊎◌, inl, inr, Bool, true, false, IsTrue, IfSome, List, [], ◌∷◌, ◌++◌, Option, None, Some, map, length, take, get_or, ap, sym, ◌∙◌, subst, arith, refl, append_assoc}
-use Rattle.std.specs.Prelude.{◌&&◌, ◌||◌, if◌then◌else◌, nat_lt, slice_index}
-use Rattle.std.specs.List.{HoldsAt, AllWithin}
-use Rattle.std.proofs.lemmas.Bool.{cases_lt, eq-eqb, eqb-true, ltb-true}
+use Rattle.std.proofs.Common.{◌≡◌, ℕ, zero, suc, ◌+◌, ◌<◌, ◌≤◌, Bool, true, false, IsTrue, List, [], ◌∷◌, ◌++◌, Option, None, Some, map, length, take, get_or, ap, sym, ◌∙◌, subst, arith, refl, append_assoc}
+use Rattle.std.specs.Prelude.{◌&&◌, if◌then◌else◌, nat_lt, slice_index}
+use Rattle.std.proofs.lemmas.Bool.{eq-eqb, ltb-true}
 use Rattle.std.proofs.lemmas.List.{append-nil, get_or_default, take_all}
-use Rattle.infer.specs.First.{IsFirst, IsFirstOf, NoneHas}
-use Rattle.infer.specs.Walks.{is_listed}
-use Rattle.infer_more.specs.Index.{AllAreAsked, IsAtMost, IsLeastOf, KeepsLeast, asked, guarded, is_guarded, number_of}
+use Rattle.infer.specs.First.{IsFirstOf}
+use Rattle.infer_more.specs.Index.{AllAreAsked, IsLeastOf, KeepsLeast, asked, guarded, is_guarded, number_of}
 use Rattle.infer_more.specs.Row.{Further}
 use Rattle.infer_more.specs.Table.{further}
 use Rattle.infer_more.specs.Wider.{Widens, WidensAt}

@@ -1,5 +1,5 @@
 -- What holds of a further row, and of some further row.
-use Rattle.std.proofs.Common.{◌≡◌, ◌↔◌, ◌+◌, ◌<◌, ◌≤◌, ℕ, Bool, false, IsTrue, None, Some, inl, inr, length, slice_get, subst, sym, arith, below_more}
+use Rattle.std.proofs.Common.{◌≡◌, ◌↔◌, ◌<◌, ◌≤◌, ℕ, Bool, false, IsTrue, None, Some, inl, inr, length, slice_get, subst, sym, arith}
 use Rattle.std.specs.List.{HoldsAt}
 use Rattle.std.proofs.lemmas.Option.{get_or_from_slice_get, slice_get_cases, slice_get_within}
 use Rattle.infer.specs.First.{SomeHas}

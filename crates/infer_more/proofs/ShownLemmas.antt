@@ -1,5 +1,5 @@
 -- What the rows of all numbers show.
-use Rattle.std.proofs.Common.{◌≡◌, ◌<◌, ◌≤◌, ◌-◌, ℕ, None, Some, inl, inr, length, map, option_map, slice_get, ap, sym, ◌∙◌, arith}
+use Rattle.std.proofs.Common.{◌≡◌, ◌<◌, ◌≤◌, ◌-◌, ℕ, inl, inr, length, map, option_map, slice_get, ap, sym, ◌∙◌, arith}
 use Rattle.std.proofs.lemmas.List.{length-map}
 use Rattle.std.proofs.lemmas.Option.{slice_get-map, slice_get_cases, slice_get_past}
 use Rattle.infer.specs.BuiltIn.{BuiltIn}

@@ -4,10 +4,9 @@ use Rattle.std.specs.List.{list_all, list_any, range_with_len}
 use Rattle.std.specs.Option.{option_map_or}
 use denote.Enum.Declared.{tag_of}
 use denote.Ref.{Bor}
-use Rattle.infer_sig.specs.Signature.{Alternative, at_least, Bytes, any_of, between, all_but, Part, text, any_text, byte}
+use Rattle.infer_sig.specs.Signature.{Alternative, at_least, any_of, between, all_but, Part, text, any_text, byte}
 use Rattle.infer.specs.Walks.{is_listed}
 use Rattle.infer_more.specs.Row.{Further}
-use Rattle.infer_more.specs.Table.{further}
 use Rattle.infer_more.specs.Wider.{WidensAt}
 use Rattle.infer_more.specs.contracts.table.names.RowName as row_name
 use Rattle.infer_more.specs.declared.index.Guard.{Guard}

@@ -1,6 +1,6 @@
 use Rattle.std.proofs.Common.{None, Some, subst, sym}
 use Rattle.infer.specs.First.{IsFirstOf}
-use Rattle.infer_more.specs.Index.{KeepsLeast, asked}
+use Rattle.infer_more.specs.Index.{KeepsLeast}
 use Rattle.infer_more.specs.Table.{further}
 use Rattle.infer_more.specs.Wider.{Widens}
 use Rattle.infer_more.proofs.LeastLemmas.{first_of_least}

@@ -1,4 +1,4 @@
-use Rattle.std.proofs.Common.{◌≡◌, ◌≤◌, below_more, false, length, arith}
+use Rattle.std.proofs.Common.{◌≡◌, ◌≤◌, below_more, length, arith}
 use Rattle.std.proofs.lemmas.Bool.{false≢true}
 use Rattle.infer_more.specs.Row.{Further}
 use Rattle.infer_more.specs.Table.{further}

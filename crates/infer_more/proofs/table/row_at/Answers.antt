@@ -1,4 +1,4 @@
-use Rattle.std.proofs.Common.{◌≡◌, ◌<◌, None, Some, get_or, length, slice_get, arith, refl}
+use Rattle.std.proofs.Common.{◌<◌, length, arith, refl}
 use Rattle.std.proofs.lemmas.Option.{slice_get_past, slice_get_read}
 use Rattle.infer_more.proofs.JoinedLemmas.{found_here, found_later}
 use Rattle.infer_more.proofs.table.row_at.Goals as goal
