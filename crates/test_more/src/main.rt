@@ -116,7 +116,10 @@ fn run(rt: &(impl Files + Print + AllocGlobal)) -> Result<()> {
     println!(rt; "rows that differ: {}", compare_rows(rt, rows.as_str())?)?;
     let vectors = fs::read_to_string(rt, "vectors.tsv").context("vectors.tsv")?;
     println!(rt; "buffers: {}", vectors.as_str().lines().count())?;
-    println!(rt; "buffers that differ: {}", compare_buffers(rt, vectors.as_str())?)?;
+    println!(rt;
+        "buffers that differ: {}",
+        compare_buffers(rt, vectors.as_str())?
+    )?;
     Ok(())
 }
 
