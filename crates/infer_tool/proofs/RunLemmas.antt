@@ -1,47 +1,80 @@
 -- Reports of the inputs that words name, one word after the other.
-use Rattle.std.proofs.Common.{◌≡◌, ◌+◌, ◌<◌, ℕ, Bool, true, false, List, [], ◌∷◌, ◌++◌, Option, None, IsTrue, length, map, take, get_or, ap, refl, subst, sym, ◌∙◌}
+use Rattle.std.proofs.Common.{◌≡◌, ◌≢◌, ◌+◌, ◌<◌, ℕ, Bool, true, false, List, [], ◌∷◌, ◌++◌, Option, None, Some, IsTrue, length, map, take, get_or, ap, ap₂, refl, subst, sym, ◌∙◌}
 use Rattle.std.proofs.lemmas.List.{map_more}
-use Rattle.infer_tool.specs.Outcome.{worse_of}
-use Rattle.infer_tool.specs.Report.{ReportsInput, UnlessFailed, unless_failed}
+use Rattle.std.specs.Io.KnownBytes.{Keeps}
+use Rattle.infer_tool.specs.Outcome.{outcome_after, worse_of}
+use Rattle.infer_tool.specs.Report.{ReportsInput, unless_failed}
 use Rattle.infer_tool.specs.Run.{ReportsEach, no_input, one_more}
 use Rattle.infer_tool.specs.declared.outcome.Outcome.{Outcome}
-use Rattle.infer_tool.specs.declared.outcome.Outcome.TheVariants.{Known, Unknown, Failed}
+use Rattle.infer_tool.specs.declared.outcome.Outcome.TheVariants.{Failed}
 
-worst_failed : (earlier : Outcome) → worse_of earlier Failed ≡ Failed
-worst_failed Known = refl
-worst_failed Unknown = refl
-worst_failed Failed = refl
+pub keeps_itself : (bytes : Option (List ℕ)) → Keeps bytes bytes
+keeps_itself None = tt
+keeps_itself (Some xs) = refl
 
--- the same of a writer of whose bytes nothing is known
-forget_errors : (n : ℕ) (names : List (List ℕ)) (outcome : Outcome) (old new err_old err_new : Option (List ℕ))
-    → ReportsEach n names outcome old new err_old err_new → ReportsEach n names outcome old new None None
-forget_errors n _ _ _ _ _ _ (no_input bytes err_bytes) = no_input bytes None
-forget_errors n _ _ _ _ _ _ (one_more names name earlier outcome old between new err_old err_between err_new reports (answer, found, (is, grown, told))) =
-    one_more names name earlier outcome old between new None None None
-    (forget_errors n names earlier old between err_old err_between reports) (answer, found, (is, grown, tt))
+pub keeps_unless_failed : (failed : Bool) (bytes : Option (List ℕ)) → Keeps (unless_failed failed bytes) bytes
+keeps_unless_failed true bytes = tt
+keeps_unless_failed false bytes = keeps_itself bytes
 
-unless_later : (n : ℕ) (names : List (List ℕ)) (outcome : Outcome) (old new err_old err_new : Option (List ℕ)) (before after : Bool) → (IsTrue before → IsTrue after)
-    → ReportsEach n names outcome old new (unless_failed before err_old) err_new
-    → ReportsEach n names outcome old new (unless_failed after err_old) (unless_failed after err_new)
-unless_later n names outcome old new err_old err_new before true remembers h = forget_errors n names outcome old new _ err_new h
-unless_later n names outcome old new err_old err_new false false remembers h = h
-unless_later n names outcome old new err_old err_new true false remembers h = absurd (let e = remembers refl in cc)
+-- the same of a writer of whose bytes before nothing is known
+pub forget_lines : (n : ℕ) (names : List (List ℕ)) (outcome : Outcome) (old new later err_old err_new : Option (List ℕ))
+    → ReportsEach n names outcome old new err_old err_new → ReportsEach n names outcome None later err_old err_new
+forget_lines n _ _ _ _ later _ _ (no_input old new err_old err_new kept err_kept) = no_input None later err_old err_new tt err_kept
+forget_lines n _ _ _ _ later _ _ (one_more names name earlier outcome old between new err_old err_between err_new reports (answer, found, (is, grown, told))) =
+    one_more names name earlier outcome None None later err_old err_between err_new
+    (forget_lines n names earlier old between None err_old err_between reports) (answer, found, (is, tt, told))
+
+pub forget_faults : (n : ℕ) (names : List (List ℕ)) (outcome : Outcome) (old new err_old err_new err_later : Option (List ℕ))
+    → ReportsEach n names outcome old new err_old err_new → ReportsEach n names outcome old new None err_later
+forget_faults n _ _ _ _ _ _ later (no_input old new err_old err_new kept err_kept) = no_input old new None later kept tt
+forget_faults n _ _ _ _ _ _ later (one_more names name earlier outcome old between new err_old err_between err_new reports (answer, found, (is, grown, told))) =
+    one_more names name earlier outcome old between new None None later
+    (forget_faults n names earlier old between err_old err_between None reports) (answer, found, (is, grown, tt))
+
+module _ (n : ℕ) (names : List (List ℕ)) (outcome : Outcome) (old new err_old err_new : Option (List ℕ)) where
+  later_lines : (before after : Bool) → (IsTrue before → IsTrue after)
+      → ReportsEach n names outcome (unless_failed before old) new err_old err_new
+      → ReportsEach n names outcome (unless_failed after old) (unless_failed after new) err_old err_new
+  later_lines before true remembers h = forget_lines n names outcome _ new None err_old err_new h
+  later_lines false false remembers h = h
+  later_lines true false remembers h = absurd (let e = remembers refl in cc)
+
+  later_faults : (before after : Bool) → (IsTrue before → IsTrue after)
+      → ReportsEach n names outcome old new (unless_failed before err_old) err_new
+      → ReportsEach n names outcome old new (unless_failed after err_old) (unless_failed after err_new)
+  later_faults before true remembers h = forget_faults n names outcome old new _ err_new None h
+  later_faults false false remembers h = h
+  later_faults true false remembers h = absurd (let e = remembers refl in cc)
+
+-- the worst so far is the outcome as long as the writer has not failed
+pub worse_unless_failed : (before after : Bool) → (IsTrue before → IsTrue after) → (so_far earlier result outcome : Outcome)
+    → (before ≡ false → so_far ≡ earlier) → result ≡ outcome_after after outcome → after ≡ false → worse_of so_far result ≡ worse_of earlier outcome
+worse_unless_failed before true remembers so_far earlier result outcome same is not_failed = absurd (cc)
+worse_unless_failed true false remembers so_far earlier result outcome same is not_failed = absurd (let e = remembers refl in cc)
+worse_unless_failed false false remembers so_far earlier result outcome same is not_failed = ap₂ worse_of (same refl) is
+
+-- a run that has not ended as `Failed` has a writer that has not
+pub unfailed : (failed : Bool) (result outcome : Outcome) → result ≢ Failed → result ≡ outcome_after failed outcome → failed ≡ false
+unfailed true result outcome fine is = absurd (fine is)
+unfailed false result outcome fine is = refl
+
+pub unfailed_outcome : (failed : Bool) (result outcome : Outcome) → result ≢ Failed → result ≡ outcome_after failed outcome → outcome ≡ result
+unfailed_outcome true result outcome fine is = absurd (fine is)
+unfailed_outcome false result outcome fine is = sym is
 
 module _ {A : Type 0} (name_of : A → List ℕ) (n : ℕ) (words : List A) where
   -- the report of one more word
-  pub each-more : (i : ℕ) (d : A) (name : List ℕ) (earlier outcome both : Outcome) (old between new err_old err_between err_new : Option (List ℕ)) → i < length words
-      → name ≡ name_of (get_or words i d) → both ≡ worse_of earlier outcome
+  pub each-more : (i : ℕ) (d : A) (name : List ℕ) (earlier outcome : Outcome) (old between new err_old err_between err_new : Option (List ℕ)) → i < length words
+      → name ≡ name_of (get_or words i d)
       → (before after err_before err_after : Bool) → (IsTrue before → IsTrue after) → (IsTrue err_before → IsTrue err_after)
-      → UnlessFailed before earlier (ReportsEach n (map name_of (take i words)) earlier old between (unless_failed err_before err_old) err_between)
-      → UnlessFailed after outcome (ReportsInput n None outcome name between new (unless_failed err_after err_between) err_new)
-      → UnlessFailed after both (ReportsEach n (map name_of (take (i + 1) words)) both old new (unless_failed err_after err_old) err_new)
-  each-more i d name earlier outcome both old between new eo eb en lt named worst before true fb fa remembers told reports failed =
-      worst ∙ ap (worse_of earlier) failed ∙ worst_failed earlier
-  each-more i d name earlier outcome both old between new eo eb en lt named worst true false fb fa remembers told reports this =
-      absurd (let e = remembers refl in cc)
-  each-more i d name earlier outcome both old between new eo eb en lt named worst false false fb fa remembers told reports this =
-      let more : map name_of (take i words) ++ name ∷ [] ≡ map name_of (take (i + 1) words) =
-      ap (λ l. map name_of (take i words) ++ l ∷ []) named ∙ sym (map_more name_of words i d lt) in
-      let so_far = unless_later n (map name_of (take i words)) earlier old between eo eb fb fa told reports in
-      subst (λ l. ReportsEach n l both old new (unless_failed fa eo) en) more
-      (rw worst (one_more (map name_of (take i words)) name earlier outcome old between new (unless_failed fa eo) (unless_failed fa eb) en so_far this))
+      → ReportsEach n (map name_of (take i words)) earlier (unless_failed before old) between (unless_failed err_before err_old) err_between
+      → ReportsInput n None name outcome (unless_failed after between) new (unless_failed err_after err_between) err_new
+      → ReportsEach n (map name_of (take (i + 1) words)) (worse_of earlier outcome) (unless_failed after old) new (unless_failed err_after err_old) err_new
+  each-more i d name earlier outcome old between new eo eb en lt named before after fb fa remembers told reports this =
+      let names = map name_of (take i words) in
+      let more : names ++ name ∷ [] ≡ map name_of (take (i + 1) words) =
+      ap (λ l. names ++ l ∷ []) named ∙ sym (map_more name_of words i d lt) in
+      let so_far = later_faults n names earlier (unless_failed after old) (unless_failed after between) eo eb fb fa told
+      (later_lines n names earlier old between (unless_failed fb eo) eb before after remembers reports) in
+      subst (λ l. ReportsEach n l (worse_of earlier outcome) (unless_failed after old) new (unless_failed fa eo) en) more
+      (one_more names name earlier outcome _ _ new _ _ en so_far this)

@@ -13,12 +13,11 @@ use Rattle.infer.specs.Samples.{HoldsSample, sample_of, zeros}
 use Rattle.infer.specs.Table.{row, table}
 use Rattle.infer.specs.declared.table.file_type.MatcherType.TheVariants.{Text}
 use Rattle.infer.specs.declared.table.rows.TheConstants.{DLL, EPUB_ARCHIVE, ROW_COUNT}
-use Rattle.infer_tool.specs.Report.{UnlessFailed}
-use Rattle.infer_tool.specs.Sample.{HasSample, WritesSample}
-use Rattle.infer_tool.specs.declared.outcome.Outcome.TheVariants.{Known}
+use Rattle.infer_tool.specs.Report.{unless_failed}
+use Rattle.infer_tool.specs.Sample.{HasSample}
 
 -- any row
-some_row : Row BuiltIn
+pub some_row : Row BuiltIn
 some_row = row Text [] [] html
 
 -- the word at 1 names what stands after the option
@@ -42,16 +41,15 @@ module _ (extension : List ℕ) where
       let same = same_row (HasExtension extension) i j has.0 first in
       grind (arith, many, none, same, has.1, has.2, first.within)
 
-  pub WritesSample-made : (i j n : ℕ) (buf : List ℕ) (failed : Bool) (old new : Option (List ℕ)) → HasSample extension i
-      → IsFirst (HasExtension extension) table j → HoldsAt (HoldsSample n buf) table j → failed ≡ false
-      → OnFalse failed (Appends old new (take n buf)) → UnlessFailed failed Known (WritesSample i Known old new)
-  WritesSample-made i j n buf true old new has first holds none app = absurd (cc)
-  WritesSample-made i j n buf false old new has first holds none app = (
-    refl,
-    subst (λ k. HoldsAt (λ r. Appends old new (sample_of r.signature)) table k) (sym (same_row (HasExtension extension) i j has.0 first))
-        (λ d. let h = holds d in
-        subst (Appends old new) (ap (take n) h.1 ∙ take_at (sample_of (get_or table j d).signature) (zeros (640 - n)) n (sym h.0)) app),
-  )
+  pub sample-written : (i j n : ℕ) (buf : List ℕ) (failed : Bool) (old new : Option (List ℕ)) → HasSample extension i
+      → IsFirst (HasExtension extension) table j → HoldsAt (HoldsSample n buf) table j
+      → OnFalse failed (Appends old new (take n buf))
+      → HoldsAt (λ r. Appends (unless_failed failed old) new (sample_of r.signature)) table i
+  sample-written i j n buf true old new has first holds app = λ d. tt
+  sample-written i j n buf false old new has first holds app =
+      subst (λ k. HoldsAt (λ r. Appends old new (sample_of r.signature)) table k) (sym (same_row (HasExtension extension) i j has.0 first))
+      (λ d. let h = holds d in
+      subst (Appends old new) (ap (take n) h.1 ∙ take_at (sample_of (get_or table j d).signature) (zeros (640 - n)) n (sym h.0)) app)
 
 -- what `find` found of the numbers of the rows
 pub first_found : (P : Row BuiltIn → Type 0) (n : ℕ) → length table ≡ n → (found : Option ℕ)

@@ -1,7 +1,8 @@
--- What an outcome says of an answer and of what was written.
+-- What is said of an input, and what an outcome says of it.
 use Rattle.std.specs.Prelude.{◌≡◌, ◌≤◌, ℕ, Bool, true, false, List, [], Option, None, Some, Result, Ok, Err, IfOk, IfSome, length, option_map}
 use Rattle.std.specs.Bool.{OnFalse}
-use Rattle.std.specs.Io.KnownBytes.{Appends}
+use Rattle.std.specs.Option.{is_none, option_and_then}
+use Rattle.std.specs.Io.KnownBytes.{Appends, Keeps}
 use Rattle.infer.specs.Buffer.{IsBuffer, head}
 use Rattle.infer.specs.First.{IsAnswer}
 use Rattle.infer.specs.Row.{Accepts}
@@ -10,8 +11,11 @@ use Rattle.infer.specs.Triple.{Triple, triple_of}
 use Rattle.infer.specs.declared.read.fault.Fault.{Fault}
 use Rattle.infer.specs.declared.table.file_type.FileType.{FileType}
 use Rattle.infer_tool.specs.Line.{fault_line, line}
+use Rattle.infer_tool.specs.Outcome.{outcome_after}
+use Rattle.infer_tool.specs.Writer.{has_failed, inner}
 use Rattle.infer_tool.specs.declared.outcome.Outcome.{Outcome}
 use Rattle.infer_tool.specs.declared.outcome.Outcome.TheVariants.{Known, Unknown, Failed}
+use Rattle.infer_tool.specs.declared.writer.WatchedWriter.{WatchedWriter}
 
 -- what was found, or the fault
 abbrev pub told : Result (Option FileType) Fault → Result (Option Triple) Fault
@@ -43,9 +47,34 @@ unless_failed false bytes = bytes
 abbrev pub Tells : Bool → (old new : Option (List ℕ)) → List ℕ → Type 0
 Tells failed old new told_line = OnFalse failed (Appends old new told_line)
 
+-- what a run says: its outcome, and the bytes of the writers of lines and of faults, before and after
+abbrev pub Saying : Type 1
+Saying = Outcome → (old new err_old err_new : Option (List ℕ)) → Type 0
+
+-- this is said through two watched writers. Of the bytes of one that has failed nothing is said; what is said of the
+-- other stands. The outcome is `Failed` if the writer of lines has failed.
+abbrev pub Says : {W E : Type 0} (contents : W → Option (List ℕ)) (err_contents : E → Option (List ℕ))
+    (old new : WatchedWriter W) (err_old err_new : WatchedWriter E) → Outcome → Saying → Type 0
+Says contents err_contents old new err_old err_new result Said =
+    (outcome : Outcome) × (result ≡ outcome_after (has_failed new) outcome)
+    × Said outcome (unless_failed (has_failed new) (contents (inner old))) (contents (inner new))
+    (unless_failed (has_failed err_new) (err_contents (inner err_old))) (err_contents (inner err_new))
+
+-- this was said through buffers, which gave their writers back, or none of one that has failed
+abbrev pub SaysThrough : {W E : Type 0} (contents : W → Option (List ℕ)) (err_contents : E → Option (List ℕ))
+    (out : W) (err : E) → Outcome × (Option W × Option E) → Saying → Type 0
+SaysThrough contents err_contents out err done Said =
+    (outcome : Outcome) × (done.0 ≡ outcome_after (is_none done.1.0) outcome)
+    × Said outcome (unless_failed (is_none done.1.0) (contents out)) (option_and_then contents done.1.0)
+    (unless_failed (is_none done.1.1) (err_contents err)) (option_and_then err_contents done.1.1)
+
+-- words that are wrong: nothing is written but this line, which says so
+abbrev pub Refuses : List ℕ → Saying
+Refuses refusal outcome old new err_old err_new = (outcome ≡ Failed) × Keeps old new × Appends err_old err_new refusal
+
 -- the outcome is that of what was found, and what is known of the writers' bytes grew by exactly what is written
-abbrev pub Reports : Outcome → List ℕ → Result (Option Triple) Fault → (old new err_old err_new : Option (List ℕ)) → Type 0
-Reports outcome name answer old new err_old err_new =
+abbrev pub Reports : List ℕ → Result (Option Triple) Fault → Saying
+Reports name answer outcome old new err_old err_new =
     (outcome ≡ outcome_of answer) × Appends old new (written name answer) × Appends err_old err_new (fault_written name answer)
 
 -- the answer of some bytes, at most n, and of the first n of those that were left, if these are known
@@ -55,11 +84,6 @@ IsFound n left found =
 
 -- the report of an input of which at most n bytes are looked at, and of which so many bytes are left: of a fault, or of
 -- the answer
-abbrev pub ReportsInput : ℕ → Option (List ℕ) → Outcome → List ℕ → (old new err_old err_new : Option (List ℕ)) → Type 0
-ReportsInput n left outcome name old new err_old err_new =
-    (answer : Result (Option Triple) Fault) × IfOk answer (IsFound n left) × Reports outcome name answer old new err_old err_new
-
--- `Failed` if a write has failed, and otherwise what is said
-abbrev pub UnlessFailed : Bool → Outcome → Type 0 → Type 0
-UnlessFailed true outcome Said = outcome ≡ Failed
-UnlessFailed false outcome Said = Said
+abbrev pub ReportsInput : ℕ → Option (List ℕ) → List ℕ → Saying
+ReportsInput n left name outcome old new err_old err_new =
+    (answer : Result (Option Triple) Fault) × IfOk answer (IsFound n left) × Reports name answer outcome old new err_old err_new

@@ -1,21 +1,15 @@
 -- What a clause reads of a watched writer.
-use Rattle.std.specs.Prelude.{◌≡◌, Bool, Option, Some, is_some}
-use Rattle.std.specs.declared.io.ErrorKind.{ErrorKind}
-use Rattle.std.specs.declared.io.ErrorKind.TheVariants.{BrokenPipe}
+use Rattle.std.specs.Prelude.{◌≡◌, Bool, IsTrue}
 use Rattle.infer_tool.specs.declared.writer.WatchedWriter.{WatchedWriter}
 
--- the writer inside
+-- the writer that it was lent, as it is now
 abbrev pub inner : {W : Type 0} → WatchedWriter W → W
-inner w = w.writer
-
--- the kind of the last error of a write or a flush, and none if none has failed
-abbrev pub failure_of : {W : Type 0} → WatchedWriter W → Option ErrorKind
-failure_of w = w.last_error
+inner w = w.writer.now
 
 -- a write or a flush of it has failed
 abbrev pub has_failed : {W : Type 0} → WatchedWriter W → Bool
-has_failed w = is_some (failure_of w)
+has_failed w = w.has_failed
 
--- the last that failed did because nobody reads any more
-abbrev pub HasLostReader : {W : Type 0} → WatchedWriter W → Type 0
-HasLostReader w = failure_of w ≡ Some BrokenPipe
+-- it is over the same writer, and what has failed stays failed
+abbrev pub IsLater : {W : Type 0} → (old new : WatchedWriter W) → Type 0
+IsLater old new = (new.writer.ghost_name ≡ old.writer.ghost_name) × (IsTrue (has_failed old) → IsTrue (has_failed new))

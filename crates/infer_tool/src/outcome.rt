@@ -1,6 +1,6 @@
 //! How a report ended.
 ghost use Rattle.std.specs.Prelude.{◌≡◌};
-ghost use Rattle.infer_tool.specs.Outcome.{status_of, worse_of};
+ghost use Rattle.infer_tool.specs.Outcome.{outcome_after, status_of, worse_of};
 
 /// How a report ended: with a type, without one, or with a fault or a failed write.
 #[derive(Clone, Copy, Debug)]
@@ -31,5 +31,11 @@ impl Outcome {
         } else {
             self
         }
+    }
+    /// The same, but `Failed` if a write failed.
+    pub fn failed_if(self, has_failed: bool) -> Outcome
+        ensures { result ≡ outcome_after has_failed self }
+    {
+        if has_failed { Outcome::Failed } else { self }
     }
 }

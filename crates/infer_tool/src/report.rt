@@ -1,11 +1,15 @@
 //! One line for one input.
-ghost use Rattle.std.specs.Prelude.{◌≡◌, ◌≢◌, ◌≤◌, IsTrue, None, OnErr};
+ghost use Rattle.std.specs.Prelude.{◌≡◌, ◌≢◌, ◌≤◌, None, OnErr};
+ghost use Rattle.std.specs.Io.KnownBytes.{Appends};
 ghost use Rattle.infer.specs.Reading.{AnswersSome};
 ghost use Rattle.infer.specs.Row.{Accepts};
 ghost use Rattle.infer.specs.Table.{table};
+ghost use Rattle.infer.specs.Watched.{fault_of};
 ghost use Rattle.infer_tool.specs.Line.{fault_text};
-ghost use Rattle.infer_tool.specs.Report.{Reports, ReportsInput, UnlessFailed, told, unless_failed};
-ghost use Rattle.infer_tool.specs.Writer.{HasLostReader, has_failed, inner};
+ghost use Rattle.infer_tool.specs.Outcome.{outcome_after};
+ghost use Rattle.infer_tool.specs.Reader.{LosesFront, LosesUntilFinal, ReportsReader};
+ghost use Rattle.infer_tool.specs.Report.{Reports, ReportsInput, Says, fault_written, outcome_of, told, unless_failed, written};
+ghost use Rattle.infer_tool.specs.Writer.{IsLater, has_failed, inner};
 
 use crate::outcome::Outcome;
 use crate::writer::WatchedWriter;
@@ -17,18 +21,36 @@ use std::io::{Read, Write};
 use std::rt::Files;
 
 /// Writes the line of an answer to `out`, or that of a fault to `err`. It is `Failed` exactly if the answer is a
-/// fault or a write to `out` has failed.
+/// fault or a write to `out` failed.
 pub fn report<W: Write, E: Write>(
     name: &str,
     answer: Result<Option<Type>, Fault>,
-    out: &mut WatchedWriter<W>,
-    err: &mut WatchedWriter<E>,
+    out: &mut W,
+    err: &mut E,
 ) -> Outcome
-    ensures line { UnlessFailed (has_failed out.new) result
-        (Reports result name.now (told answer) (W.contents (inner out.old)) (W.contents (inner out.new))
-        (unless_failed (has_failed err.new) (E.contents (inner err.old))) (E.contents (inner err.new))) }
-    ensures remembers { IsTrue (has_failed out.old) → IsTrue (has_failed out.new) }
-    ensures err_remembers { IsTrue (has_failed err.old) → IsTrue (has_failed err.new) }
+    ensures line { result ≢ Outcome.Failed → Reports name.now (told answer) result
+        (W.contents out.old) (W.contents out.new) (E.contents err.old) (E.contents err.new) }
+    ensures silent { result ≢ Outcome.Failed → err.new ≡ err.old }
+    ensures fault { OnErr answer ((result ≡ Outcome.Failed) × (out.new ≡ out.old)) }
+{
+    let (mut lines, mut faults) = (WatchedWriter::new(out), WatchedWriter::new(err));
+    report_watched(name, answer, &mut lines, &mut faults)
+}
+
+/// [`report`] through watched writers. It is `Failed` too if `out` had failed before. A fault is told then as well.
+pub fn report_watched<W: Write, E: Write>(
+    name: &str,
+    answer: Result<Option<Type>, Fault>,
+    out: &mut WatchedWriter<'_, W>,
+    err: &mut WatchedWriter<'_, E>,
+) -> Outcome
+    ensures outcome { result ≡ outcome_after (has_failed out.new) (outcome_of (told answer)) }
+    ensures line { Appends (unless_failed (has_failed out.new) (W.contents (inner out.old))) (W.contents (inner out.new))
+        (written name.now (told answer)) }
+    ensures err_line { Appends (unless_failed (has_failed err.new) (E.contents (inner err.old))) (E.contents (inner err.new))
+        (fault_written name.now (told answer)) }
+    ensures later { IsLater out.old out.new }
+    ensures err_later { IsLater err.old err.new }
     ensures silent { result ≢ Outcome.Failed → err.new ≡ err.old }
     ensures fault { OnErr answer (out.new ≡ out.old) }
 {
@@ -48,10 +70,7 @@ pub fn report<W: Write, E: Write>(
             Outcome::Failed
         }
     };
-    if out.has_failed() {
-        return Outcome::Failed;
-    }
-    outcome
+    outcome.failed_if(out.has_failed())
 }
 
 /// What is said of a fault. The `Display` of a fault says the same, but is derived, so no contract has its text.
@@ -66,101 +85,117 @@ fn text_of(fault: Fault) -> &'static str
 }
 
 /// Reads at most 8192 bytes, and reports what they are. No read follows one after which the verdict is final.
-///
-/// It promises the line, and nothing of what the reader keeps.
 pub fn run_reader<A: Allocator, R: Read + Drop, W: Write, E: Write>(
     alloc: A,
     name: &str,
     reader: R,
-    out: &mut WatchedWriter<W>,
-    err: &mut WatchedWriter<E>,
+    out: &mut W,
+    err: &mut E,
 ) -> Outcome
-    ensures line { UnlessFailed (has_failed out.new) result
-        (ReportsInput FRONT (R.remaining reader) result name.now (W.contents (inner out.old)) (W.contents (inner out.new))
-        (unless_failed (has_failed err.new) (E.contents (inner err.old))) (E.contents (inner err.new))) }
-    ensures remembers { IsTrue (has_failed out.old) → IsTrue (has_failed out.new) }
-    ensures err_remembers { IsTrue (has_failed err.old) → IsTrue (has_failed err.new) }
+    ensures line { result ≢ Outcome.Failed → ReportsInput FRONT (R.remaining reader) name.now result
+        (W.contents out.old) (W.contents out.new) (E.contents err.old) (E.contents err.new) }
     ensures silent { result ≢ Outcome.Failed → err.new ≡ err.old }
 {
-    let mut watched = Watched::new(reader);
-    report(name, label(alloc, &mut watched), out, err)
+    let (mut lines, mut faults) = (WatchedWriter::new(out), WatchedWriter::new(err));
+    run_reader_watched(
+        alloc,
+        name,
+        &mut Watched::new(reader),
+        &mut lines,
+        &mut faults,
+    )
+}
+
+/// [`run_reader`] over a watched reader and through watched writers. A fault is told also if `out` has failed, and is
+/// that of the read.
+pub fn run_reader_watched<A: Allocator, R: Read, W: Write, E: Write>(
+    alloc: A,
+    name: &str,
+    reader: &mut Watched<R>,
+    out: &mut WatchedWriter<'_, W>,
+    err: &mut WatchedWriter<'_, E>,
+) -> Outcome
+    requires { fault_of reader.old ≡ None }
+    ensures line { Says W.contents E.contents out.old out.new err.old err.new result
+        (ReportsReader R.remaining FRONT LosesUntilFinal reader.old reader.new name.now) }
+    ensures later { IsLater out.old out.new }
+    ensures err_later { IsLater err.old err.new }
+    ensures silent { result ≢ Outcome.Failed → err.new ≡ err.old }
+{
+    report_watched(name, label(alloc, reader), out, err)
 }
 
 /// Reads until it has `n` bytes or the input ends, and reports what they are.
-pub fn run_reader_within<A: Allocator, R: Read + Drop, W: Write, E: Write>(
+pub fn run_reader_within<A: Allocator, R: Read, W: Write, E: Write>(
     alloc: A,
     name: &str,
-    reader: R,
+    reader: &mut Watched<R>,
     n: usize,
-    out: &mut WatchedWriter<W>,
-    err: &mut WatchedWriter<E>,
+    out: &mut WatchedWriter<'_, W>,
+    err: &mut WatchedWriter<'_, E>,
 ) -> Outcome
+    requires fault { fault_of reader.old ≡ None }
     requires least { 1 ≤ n }
     requires most { n ≤ 65536 }
-    ensures line { UnlessFailed (has_failed out.new) result
-        (ReportsInput n (R.remaining reader) result name.now (W.contents (inner out.old)) (W.contents (inner out.new))
-        (unless_failed (has_failed err.new) (E.contents (inner err.old))) (E.contents (inner err.new))) }
-    ensures remembers { IsTrue (has_failed out.old) → IsTrue (has_failed out.new) }
-    ensures err_remembers { IsTrue (has_failed err.old) → IsTrue (has_failed err.new) }
+    ensures line { Says W.contents E.contents out.old out.new err.old err.new result
+        (ReportsReader R.remaining n (LosesFront n) reader.old reader.new name.now) }
+    ensures later { IsLater out.old out.new }
+    ensures err_later { IsLater err.old err.new }
     ensures silent { result ≢ Outcome.Failed → err.new ≡ err.old }
 {
-    let mut watched = Watched::new(reader);
     let infer = Infer::new();
     laws::built_in(&infer);
-    let answer = infer.get_from_reader_within(alloc, &mut watched, n);
-    report(name, answer, out, err)
+    let answer = infer.get_from_reader_within(alloc, reader, n);
+    report_watched(name, answer, out, err)
 }
 
-/// Reads at most 8192 bytes of a file, and reports what they are, under its path. If nobody reads `out` any more, the
-/// file is not opened.
+/// Reads at most 8192 bytes of a file, and reports what they are, under its path.
 pub fn run_path<R: Files, A: Allocator, W: Write, E: Write>(
     rt: &R,
     alloc: A,
     path: &str,
-    out: &mut WatchedWriter<W>,
-    err: &mut WatchedWriter<E>,
+    out: &mut W,
+    err: &mut E,
 ) -> Outcome
-    ensures line { UnlessFailed (has_failed out.new) result
-        (ReportsInput FRONT None result path.now (W.contents (inner out.old)) (W.contents (inner out.new))
-        (unless_failed (has_failed err.new) (E.contents (inner err.old))) (E.contents (inner err.new))) }
-    ensures remembers { IsTrue (has_failed out.old) → IsTrue (has_failed out.new) }
-    ensures err_remembers { IsTrue (has_failed err.old) → IsTrue (has_failed err.new) }
+    ensures line { result ≢ Outcome.Failed → ReportsInput FRONT None path.now result
+        (W.contents out.old) (W.contents out.new) (E.contents err.old) (E.contents err.new) }
     ensures silent { result ≢ Outcome.Failed → err.new ≡ err.old }
 {
-    if out.has_lost_reader() {
-        return Outcome::Failed;
-    }
-    run_path_within(rt, &mut Vec::new(alloc), path, FRONT, out, err)
+    let (mut lines, mut faults) = (WatchedWriter::new(out), WatchedWriter::new(err));
+    run_path_within(
+        rt,
+        &mut Vec::new(alloc),
+        path,
+        FRONT,
+        &mut lines,
+        &mut faults,
+    )
 }
 
-/// Reads at most `n` bytes of a file, and reports what they are, under its path.
+/// Reads at most `n` bytes of a file, and reports what they are, under its path. A fault is told also if `out` has
+/// failed.
 ///
 /// They are read into `room`, which is made `n` bytes long after the file was opened: it asks for memory only if it
 /// has less, so that one room serves many files. Before a fault is told, `out` is flushed, so that lines and faults come
 /// in their order if both writers write to the same file.
-///
-/// It opens the file, and so may be called only as long as `out` has not lost its reader.
 pub fn run_path_within<R: Files, A: Allocator, W: Write, E: Write>(
     rt: &R,
     room: &mut Vec<u8, A>,
     path: &str,
     n: usize,
-    out: &mut WatchedWriter<W>,
-    err: &mut WatchedWriter<E>,
+    out: &mut WatchedWriter<'_, W>,
+    err: &mut WatchedWriter<'_, E>,
 ) -> Outcome
-    requires { ¬ HasLostReader out.old }
-    ensures line { UnlessFailed (has_failed out.new) result
-        (ReportsInput n None result path.now (W.contents (inner out.old)) (W.contents (inner out.new))
-        (unless_failed (has_failed err.new) (E.contents (inner err.old))) (E.contents (inner err.new))) }
-    ensures remembers { IsTrue (has_failed out.old) → IsTrue (has_failed out.new) }
-    ensures err_remembers { IsTrue (has_failed err.old) → IsTrue (has_failed err.new) }
+    ensures line { Says W.contents E.contents out.old out.new err.old err.new result (ReportsInput n None path.now) }
+    ensures later { IsLater out.old out.new }
+    ensures err_later { IsLater err.old err.new }
     ensures silent { result ≢ Outcome.Failed → err.new ≡ err.old }
 {
     let answer = answer_about(rt, room, path, n);
     if answer.is_err() {
         out.flush();
     }
-    report(path, answer, out, err)
+    report_watched(path, answer, out, err)
 }
 
 /// What the built-in rows answer about the first `n` bytes of a file, which are read into `room`.

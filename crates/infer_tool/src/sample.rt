@@ -7,9 +7,9 @@ ghost use Rattle.infer.specs.Questions.{HasExtension};
 ghost use Rattle.infer.specs.Table.{table};
 ghost use Rattle.infer.specs.Triple.{triple_of};
 ghost use Rattle.infer_tool.specs.Line.{no_sample_line};
-ghost use Rattle.infer_tool.specs.Report.{Tells, UnlessFailed};
+ghost use Rattle.infer_tool.specs.Report.{Says, Tells};
 ghost use Rattle.infer_tool.specs.Sample.{HasSample, WritesSample};
-ghost use Rattle.infer_tool.specs.Writer.{has_failed, inner};
+ghost use Rattle.infer_tool.specs.Writer.{IsLater, has_failed, inner};
 
 use crate::outcome::Outcome;
 use crate::writer::WatchedWriter;
@@ -21,13 +21,15 @@ use std::io::Write;
 /// row, or it has no sample, `err` is told so and nothing is written to `out`.
 pub fn run_sample<W: Write, E: Write>(
     extension: &str,
-    out: &mut WatchedWriter<W>,
-    err: &mut WatchedWriter<E>,
+    out: &mut WatchedWriter<'_, W>,
+    err: &mut WatchedWriter<'_, E>,
 ) -> Outcome
     ensures sample { (i : ℕ) → HasSample extension.now i
-        → UnlessFailed (has_failed out.new) result (WritesSample i result (W.contents (inner out.old)) (W.contents (inner out.new))) }
+        → Says W.contents E.contents out.old out.new err.old err.new result (WritesSample i) }
     ensures none { ((i : ℕ) → ¬ HasSample extension.now i) → (result ≡ Outcome.Failed) × (out.new ≡ out.old)
         × Tells (has_failed err.new) (E.contents (inner err.old)) (E.contents (inner err.new)) (no_sample_line extension.now) }
+    ensures later { IsLater out.old out.new }
+    ensures err_later { IsLater err.old err.new }
     ensures silent { result ≢ Outcome.Failed → err.new ≡ err.old }
 {
     numbers();
@@ -38,19 +40,17 @@ pub fn run_sample<W: Write, E: Write>(
     match infer::sample(row, &mut buf) {
         Some(count) => {
             out.write_all(&buf[..count]);
-            if out.has_failed() {
-                return Outcome::Failed;
-            }
-            Outcome::Known
+            Outcome::Known.failed_if(out.has_failed())
         }
         None => refuse(extension, err),
     }
 }
 
 /// Tells that there is no sample.
-fn refuse<E: Write>(extension: &str, err: &mut WatchedWriter<E>) -> Outcome
+fn refuse<E: Write>(extension: &str, err: &mut WatchedWriter<'_, E>) -> Outcome
     ensures failed { result ≡ Outcome.Failed }
     ensures told { Tells (has_failed err.new) (E.contents (inner err.old)) (E.contents (inner err.new)) (no_sample_line extension.now) }
+    ensures later { IsLater err.old err.new }
 {
     writeln!(err, "{extension}: no sample");
     Outcome::Failed

@@ -1,31 +1,31 @@
-//! A writer that remembers its last error.
-ghost use Rattle.std.specs.Prelude.{◌≡◌, ◌↔◌, IfErr, IfSome, IsTrue, OnOk, Some, false};
+//! A writer that remembers whether it has failed.
+ghost use Rattle.std.specs.Prelude.{◌≡◌, IfSome, IsTrue, OnErr, OnOk, false};
 ghost use Rattle.std.specs.Bool.{OnFalse};
-ghost use Rattle.std.specs.IoError.{error_kind};
 ghost use Rattle.std.specs.Io.KnownBytes.{Appends, Keeps};
-ghost use Rattle.infer_tool.specs.Writer.{HasLostReader, failure_of, has_failed, inner};
+ghost use Rattle.infer_tool.specs.Writer.{IsLater, has_failed, inner};
 
 use std::fmt::Display;
-use std::io::{self, ErrorKind, Write};
+use std::io::{self, Write};
 
-/// A writer that remembers the last error of a write or a flush.
+/// A writer that remembers whether a write or a flush of it has failed.
 ///
 /// No other code can set that, so if it is set there was a failure.
 #[derive(Drop)]
-pub struct WatchedWriter<W: Write> {
-    writer: W,
-    last_error: Option<ErrorKind>,
+pub struct WatchedWriter<'a, W: Write> {
+    writer: &'a mut W,
+    has_failed: bool,
 }
 
-impl<W: Write> WatchedWriter<W> {
+impl<'a, W: Write> WatchedWriter<'a, W> {
     /// Watches `writer`, of which no write has failed.
-    pub fn new(writer: W) -> WatchedWriter<W>
-        ensures writer { inner result ≡ writer }
+    pub fn new(writer: &'a mut W) -> WatchedWriter<'a, W>
+        ensures writer { inner result ≡ writer.old }
+        ensures same { result.writer.ghost_name ≡ writer.entry.ghost_name }
         ensures failed { has_failed result ≡ false }
     {
         WatchedWriter {
             writer,
-            last_error: None,
+            has_failed: false,
         }
     }
 
@@ -33,7 +33,7 @@ impl<W: Write> WatchedWriter<W> {
     pub fn write_fmt<D: Display + Drop>(&mut self, text: D)
         ensures bytes { OnFalse (has_failed self.new) (IfSome (D.output text)
             (Appends (W.contents (inner self.old)) (W.contents (inner self.new)))) }
-        ensures remembers { IsTrue (has_failed self.old) → IsTrue (has_failed self.new) }
+        ensures later { IsLater self.old self.new }
     {
         let done = self.writer.write_fmt(text);
         self.note(done);
@@ -43,7 +43,7 @@ impl<W: Write> WatchedWriter<W> {
     pub fn write_all(&mut self, bytes: &[u8])
         ensures bytes { OnFalse (has_failed self.new)
             (Appends (W.contents (inner self.old)) (W.contents (inner self.new)) bytes.now) }
-        ensures remembers { IsTrue (has_failed self.old) → IsTrue (has_failed self.new) }
+        ensures later { IsLater self.old self.new }
     {
         let done = self.writer.write_all(bytes);
         self.note(done);
@@ -52,7 +52,7 @@ impl<W: Write> WatchedWriter<W> {
     /// Writes out what a buffer holds.
     pub fn flush(&mut self)
         ensures bytes { Keeps (W.contents (inner self.old)) (W.contents (inner self.new)) }
-        ensures remembers { IsTrue (has_failed self.old) → IsTrue (has_failed self.new) }
+        ensures later { IsLater self.old self.new }
     {
         let done = self.writer.flush();
         self.note(done);
@@ -60,12 +60,13 @@ impl<W: Write> WatchedWriter<W> {
 
     /// Remembers a failure, and nothing else.
     fn note(&mut self, done: io::Result<()>)
-        ensures failed { IfErr done (λ error. failure_of self.new ≡ Some (error_kind error)) }
-        ensures kept { OnOk done (failure_of self.new ≡ failure_of self.old) }
+        ensures failed { OnErr done (IsTrue (has_failed self.new)) }
+        ensures kept { OnOk done (has_failed self.new ≡ has_failed self.old) }
         ensures writer { inner self.new ≡ inner self.old }
+        ensures same { self.new.writer.ghost_name ≡ self.old.writer.ghost_name }
     {
-        if let Err(error) = done {
-            self.last_error = Some(error.kind());
+        if done.is_err() {
+            self.has_failed = true;
         }
     }
 
@@ -73,13 +74,6 @@ impl<W: Write> WatchedWriter<W> {
     pub fn has_failed(&self) -> bool
         ensures { result ≡ has_failed self.now }
     {
-        self.last_error.is_some()
-    }
-
-    /// Whether the last that failed did because nobody reads any more.
-    pub fn has_lost_reader(&self) -> bool
-        ensures { IsTrue result ↔ HasLostReader self.now }
-    {
-        self.last_error == Some(ErrorKind::BrokenPipe)
+        self.has_failed
     }
 }
