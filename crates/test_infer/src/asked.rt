@@ -3,8 +3,7 @@ ghost use Rattle.std.specs.Prelude.{◌≡◌, ◌≤◌, ℕ, List, [], length,
 ghost use Rattle.infer.specs.Walks.{asked_rows, named};
 
 use infer::rows::ROW_COUNT;
-use infer::{Ask, Asker, is, is_counted, position, position_counted, rows, sample, walk};
-use std::process::Abort;
+use infer::{Ask, Asker, is, is_counted, position_counted, rows, walk};
 
 const WEBP: &[u8] = b"P\0\0\0\0\0\0\0WEBP";
 
@@ -126,62 +125,4 @@ fn extensions_and_counts(rt: HostRuntime) {
         assert_eq!(rt; is(*buf, *extension), *expected, "case {i}");
     }
     assert!(rt; !is(b"", "jpg"));
-}
-
-/// The first of all rows that accepts the buffer, each asked by an asker of its own.
-fn plain_position(buf: &[u8]) -> Option<usize> {
-    for i in 0..ROW_COUNT {
-        if Asker::new(buf).ask(i) {
-            return Some(i);
-        }
-    }
-    None
-}
-
-fn compare(rt: &impl Abort, buf: &[u8]) {
-    let expected = plain_position(buf);
-    assert_eq!(rt; position(buf), expected, "{buf:?}");
-    assert_eq!(rt; position_counted(buf).0, expected, "{buf:?}");
-}
-
-fn compare_with_each_first_byte(rt: &impl Abort, buf: &mut [u8]) {
-    for first in 0..=255 {
-        if let Some(byte) = buf.first_mut() {
-            *byte = first;
-        }
-        compare(rt, buf);
-    }
-}
-
-#[test]
-fn asks_as_a_plain_walk(rt: HostRuntime) {
-    for i in 0..ROW_COUNT {
-        let mut out = [0; 640];
-        if let Some(n) = sample(i, &mut out) {
-            compare(&rt, &out[..n]);
-            compare_with_each_first_byte(&rt, &mut out[..n]);
-        }
-    }
-}
-
-/// With each byte more the answer stays, or an earlier row takes its place.
-fn compare_beginnings(rt: &impl Abort, buf: &[u8]) {
-    for k in 0..buf.len() {
-        let before = position(&buf[..k]);
-        let after = position(&buf[..k + 1]);
-        assert!(rt;
-            before.is_none() || after.is_some() && after <= before,
-            "{buf:?} at {k}"
-        );
-    }
-}
-
-#[test]
-fn samples_grow(rt: HostRuntime) {
-    for i in 0..ROW_COUNT {
-        let mut out = [0; 640];
-        if let Some(n) = sample(i, &mut out) {
-            compare_beginnings(&rt, &out[..n]);
-        }
-    }
 }

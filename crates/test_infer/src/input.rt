@@ -1,4 +1,5 @@
 //! Answers of readers and of files, and each fault.
+use crate::buffers::filled_but;
 use infer::{Fault, Infer, Type, Watched, get, get_from_path, row, rows, sample};
 use linked_list_allocator::LocalHeap;
 use std::alloc::{AllocError, Allocator, Global};
@@ -44,23 +45,18 @@ fn told_of<A: Allocator>(
 }
 
 /// Spaces and a mark of HTML, in so many bytes.
-fn page(alloc: Global, len: usize) -> Result<Vec<u8>, AllocError> {
-    let mut bytes = vec![in alloc; b' '; len.saturating_sub(3)]?;
-    bytes.extend_from_slice(b"<P>")?;
-    Ok(bytes)
+fn page(alloc: Global) -> Result<Vec<u8>, AllocError> {
+    filled_but(alloc, b' ', 0, &[(8190, b"<P>")])
 }
 
 /// 262 bytes that are HTML up to the last, and with it a tar archive.
 fn archive(alloc: Global) -> Result<Vec<u8>, AllocError> {
-    let mut bytes = Vec::from_slice(alloc, b"<P>")?;
-    bytes.resize(257, b' ')?;
-    bytes.extend_from_slice(b"ustar")?;
-    Ok(bytes)
+    filled_but(alloc, b' ', 0, &[(0, b"<P>"), (257, b"ustar")])
 }
 
 #[test]
 fn fronts_in_pieces(rt: HostRuntime) -> Result<(), Fail> {
-    let page = page(rt.alloc(), 8193)?;
+    let page = page(rt.alloc())?;
     let archive = archive(rt.alloc())?;
     let cases: [(&[u8], usize, &str, usize); 9] = [
         (page.as_slice(), FRONT, "", 1),
@@ -172,7 +168,7 @@ fn one_room_for_many_readers(rt: HostRuntime) {
 
 #[test]
 fn files(rt: HostRuntime) -> Result<(), Fail> {
-    let page = page(rt.alloc(), 8193)?;
+    let page = page(rt.alloc())?;
     let cases: [(&[u8], usize, &str); 6] = [
         (page.as_slice(), FRONT, ""),
         (page.as_slice(), 8193, "html"),

@@ -7,6 +7,8 @@ mod added;
 #[cfg(test)]
 mod asked;
 #[cfg(test)]
+mod buffers;
+#[cfg(test)]
 mod decisions;
 #[cfg(test)]
 mod definitions;

@@ -1,20 +1,10 @@
 //! The numbers of first rows, on worked buffers that the outside data of `test_vectors` lacks.
+use crate::buffers::filled_but;
 use infer::archive::{is_lz4, is_zst};
 use infer::text::{is_html, is_xml};
 use infer::{position, rows};
 use std::alloc::{AllocError, Global};
 use std::test::Fail;
-
-/// A buffer of `len` bytes, zeros but for the texts at their places, which ascend.
-fn zeros_but(alloc: Global, len: usize, texts: &[(usize, &[u8])]) -> Result<Vec<u8>, AllocError> {
-    let mut buf = Vec::new(alloc);
-    for (place, text) in texts {
-        buf.resize(*place, 0)?;
-        buf.extend_from_slice(*text)?;
-    }
-    buf.resize(len, 0)?;
-    Ok(buf)
-}
 
 type Case<'a> = (usize, &'a [(usize, &'a [u8])], usize);
 
@@ -36,7 +26,7 @@ fn long_buffers(rt: HostRuntime) -> Result<(), Fail> {
         ),
     ];
     for (i, (len, texts, expected)) in cases.iter().enumerate() {
-        let buf = zeros_but(rt.alloc(), *len, *texts)?;
+        let buf = filled_but(rt.alloc(), 0, *len, *texts)?;
         assert_eq!(rt; position(buf.as_slice()), Some(*expected), "case {i}");
     }
     Ok(())

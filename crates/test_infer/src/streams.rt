@@ -4,6 +4,7 @@ ghost use Rattle.infer.specs.Buffer.{head};
 ghost use Rattle.infer_sniff.specs.Verdicts.{IsVerdict, KeepsOpen};
 ghost use Rattle.infer_sniff.specs.declared.case.Case.TheVariants.{Mark};
 
+use crate::buffers::filled_but;
 use infer::{FRONT, Watched};
 use infer_sniff::laws::{cuts, decided, needed};
 use infer_sniff::{Sniffer, Verdict, label};
@@ -16,23 +17,6 @@ use std::test::Fail;
 fn told(verdict: Verdict) -> (bool, &'static str) {
     let extension = verdict.found().map_or("", |found| found.extension());
     (verdict.is_final(), extension)
-}
-
-/// A buffer of `len` bytes, or of more if the texts go further, each `fill` but for the texts at their places,
-/// which ascend.
-fn filled_but(
-    alloc: Global,
-    fill: u8,
-    len: usize,
-    texts: &[(usize, &[u8])],
-) -> Result<Vec<u8>, AllocError> {
-    let mut buf = Vec::new(alloc);
-    for (place, text) in texts {
-        buf.resize(*place, fill)?;
-        buf.extend_from_slice(*text)?;
-    }
-    buf.resize(len.max(buf.len()), fill)?;
-    Ok(buf)
 }
 
 /// The verdict of the pieces, one after the other, on a new sniffer.
@@ -49,22 +33,21 @@ fn page(alloc: Global) -> Result<Vec<u8>, AllocError> {
 #[test]
 fn a_page_becomes_an_archive(rt: HostRuntime) -> Result<(), Fail> {
     let page = page(rt.alloc())?;
-    let zeros = [0; 762];
+    let zeros = [0; 761];
+    let pieces: [(&[u8], bool, &str); 6] = [
+        (b"", false, ""),
+        (page.as_slice(), false, "html"),
+        (b"r", false, "tar"),
+        (&zeros, false, "tar"),
+        (b"\0", true, "tar"),
+        (b"%PDF", true, "tar"),
+    ];
     let mut sniffer = Sniffer::new(rt.alloc())?;
-    assert!(rt; sniffer.kept().is_empty());
-    assert_eq!(rt; told(sniffer.verdict()), (false, ""));
-    assert_eq!(rt; told(sniffer.push_all(&[])), (false, ""));
-    assert_eq!(rt; told(sniffer.push(page.as_slice())), (false, "html"));
-    assert_eq!(rt; told(sniffer.push(b"r")), (false, "tar"));
-    assert_eq!(rt; told(sniffer.push(&zeros[1..])), (false, "tar"));
-    assert_eq!(rt; told(sniffer.push(b"\0")), (true, "tar"));
-    assert_eq!(rt; told(sniffer.push(b"%PDF")), (true, "tar"));
-    assert_eq!(rt; told(sniffer.push_all(&[])), (true, "tar"));
-    assert_eq!(rt; told(sniffer.verdict()), (true, "tar"));
-    assert_eq!(rt; sniffer.kept().len(), 1028);
+    for (piece, is_final, extension) in pieces {
+        assert_eq!(rt; told(sniffer.push(piece)), (is_final, extension));
+        assert_eq!(rt; told(sniffer.push_all(&[])), (is_final, extension));
+    }
     assert!(rt; sniffer.kept().ends_with(b"\0\0\0%PDF"));
-    let pieces = [page.as_slice(), b"r", zeros.as_slice()];
-    assert_eq!(rt; judged(rt.alloc(), &pieces)?, (true, "tar"));
     Ok(())
 }
 

@@ -79,30 +79,22 @@ const STATED: [(usize, [u8; 4]); 8] = [
     (48, [0; 4]),
 ];
 
-/// `buf` with other bytes at the place, as far as it goes, and none if it does not reach that place.
-fn with_bytes(alloc: Global, buf: &[u8], place: usize, bytes: &[u8; 4]) -> Result<Option<Vec<u8>>> {
-    if place >= buf.len() {
-        return Ok(None);
+/// `buf` with other bytes at the place, as far as it goes.
+fn with_bytes(alloc: Global, buf: &[u8], place: usize, bytes: &[u8; 4]) -> Result<Vec<u8>> {
+    let mut other = Vec::from_slice(alloc, buf)?;
+    for (byte, stated) in other.iter_mut().skip(place).zip(bytes) {
+        *byte = *stated;
     }
-    let mut other = Vec::new(alloc);
-    other.extend_from_slice(&buf[..place])?;
-    other.extend_from_slice(bytes.as_slice())?;
-    if place + 4 < buf.len() {
-        other.extend_from_slice(&buf[place + 4..])?;
-    }
-    other.truncate(buf.len());
-    Ok(Some(other))
+    Ok(other)
 }
 
 /// With how many of the other stated lengths `position` and `get` do not answer alike.
 fn try_lengths(alloc: Global, buf: &[u8]) -> Result<u32> {
     let mut differing = 0u32;
     for (place, bytes) in &STATED {
-        if let Some(other) = with_bytes(alloc, buf, *place, bytes)? {
-            let other = other.as_slice();
-            if infer::get(other) != infer::position(other).and_then(infer::row) {
-                differing = differing.saturating_add(1);
-            }
+        let other = with_bytes(alloc, buf, *place, bytes)?;
+        if infer::get(other.as_slice()) != infer::position(other.as_slice()).and_then(infer::row) {
+            differing = differing.saturating_add(1);
         }
     }
     Ok(differing)
