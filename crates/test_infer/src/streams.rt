@@ -12,6 +12,7 @@ use infer_uses::relay::{pass, pass_by_turns};
 use linked_list_allocator::LocalHeap;
 use std::alloc::{AllocError, Allocator, Global};
 use std::test::Fail;
+use test_streams::PieceReader;
 
 /// Whether the verdict is final, and the extension of its type, empty if it has none.
 fn told(verdict: Verdict) -> (bool, &'static str) {
@@ -69,9 +70,10 @@ fn white_space_stays_open(rt: HostRuntime) -> Result<(), Fail> {
 #[test]
 fn a_label_is_read_no_further(rt: HostRuntime) -> Result<(), Fail> {
     let zeros = [0; 5000];
-    let mut reader = Watched::new(zeros.as_slice());
+    let mut reader = Watched::new(PieceReader::new(&zeros, 5000));
     assert!(rt; matches!(label(rt.alloc(), &mut reader), Ok(None)));
-    assert_eq!(rt; reader.into_inner().len(), 5000 - 1024);
+    let reader = reader.into_inner();
+    assert_eq!(rt; (reader.rest.len(), reader.reads), (5000 - 1024, 1));
     Ok(())
 }
 
