@@ -173,6 +173,14 @@ macro_rules! list_at {
     };
 }
 
+macro_rules! first_at {
+    ([$arm:ident $question:ident $buf:ident] $($name:ident ($($row:tt)*))*) => {
+        match $arm {
+            $(Arm::$name => Whole(chain!($($row)*)).first($question, $buf),)*
+        }
+    };
+}
+
 macro_rules! number_at {
     ([$arm:ident $question:ident $buf:ident] $($name:ident ($($row:tt)*))*) => {
         match $arm {
@@ -248,5 +256,5 @@ pub fn first_of<Q: Question>(arm: Arm, question: &Q, buf: &[u8]) -> Option<usize
 pub fn first_of_class<Q: Question>(arm: Arm, question: &Q, buf: &[u8]) -> Option<usize>
     ensures { IsFirstAmong (RowHas (Takes (Q.wanted question.now) buf.now)) (rows_of arm) result }
 {
-    first_of(arm, question, buf)
+    with_candidates!(first_at arm question buf)
 }
