@@ -30,7 +30,7 @@ const same = (what, got, wanted) => {
     console.log(`${what}: ${got} in place of ${wanted}`);
 };
 
-const items = readFileSync(new URL("../docs/TYPES.md", here), "utf8").matchAll(/^\d+\. \*\*(.+)\*\*, (.+), (.+): (?:\d+ bytes, `(.+)`|never the answer)\. Source: /gm);
+const items = readFileSync(new URL("../docs/TYPES.md", here), "utf8").matchAll(/^\| \d+ \| \*\*(.+)\*\* \| (.+) \| (.+) \| (?:\d+ \| `(.+)`| \| ) \| .+ \|$/gm);
 const rows = [...items];
 same("imports", WebAssembly.Module.imports(module).length, 0);
 same("rows", Number(infer.infer_row_count()), rows.length);

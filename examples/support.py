@@ -52,7 +52,7 @@ def sanitized(source: str, by: str) -> str:
 def build(source: str, *flags: str, by: str = "") -> str:
     """Compiles an example as its README does, and gives the program's path."""
     program = os.path.join(folder(), os.path.splitext(os.path.basename(source))[0])
-    words = [by or compiler(), "-std=c11", "-O2", "-Wall", "-Wextra", "-Werror", *flags, f"-I{ROOT}/c/out", f"-I{ROOT}/data"]
+    words = [by or compiler(), "-std=c11", "-O2", "-Wall", "-Wextra", "-Werror", *flags, f"-I{ROOT}/c/out", f"-I{ROOT}/aliases"]
     subprocess.run([*words, f"{ROOT}/{source}", f"{ROOT}/c/out/libinfer.a", "-o", program], check=True)
     return program
 

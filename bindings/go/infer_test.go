@@ -282,7 +282,7 @@ func TestAliases(t *testing.T) {
 	for _, row := range wantedRows(t) {
 		extensions[row.Extension], texts[row.Extension], texts[row.MIMEType] = true, true, true
 	}
-	text, err := os.ReadFile(filepath.Join("..", "..", "data", "aliases.def"))
+	text, err := os.ReadFile(filepath.Join("..", "..", "aliases", "aliases.def"))
 	if err != nil || strings.Count(string(text), "\")\n") != len(Aliases()) {
 		t.Error(err, len(Aliases()))
 	}

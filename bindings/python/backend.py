@@ -54,7 +54,7 @@ def _contents(library: str, tags: list[str]) -> dict[str, bytes]:
     """The files of the wheel by their names."""
     source = os.path.join(HERE, "src", "infer")
     paths = {f"infer/{name}": os.path.join(source, name) for name in sorted(os.listdir(source)) if name.endswith((".py", ".typed"))}
-    paths |= {"infer/aliases.def": os.path.join(ROOT, "data", "aliases.def"), "infer/libinfer.so": library}
+    paths |= {"infer/aliases.def": os.path.join(ROOT, "aliases", "aliases.def"), "infer/libinfer.so": library}
     paths |= {f"{NAME}-{VERSION}.dist-info/LICENSE": os.path.join(ROOT, "LICENSE")}
     files = {}
     for name, path in paths.items():

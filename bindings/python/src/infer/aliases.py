@@ -5,7 +5,7 @@ import os
 import re
 
 _HERE = os.path.dirname(os.path.abspath(__file__))
-_PLACES = [os.path.join(_HERE, "aliases.def"), os.path.join(_HERE, "..", "..", "..", "..", "data", "aliases.def")]
+_PLACES = [os.path.join(_HERE, "aliases.def"), os.path.join(_HERE, "..", "..", "..", "..", "aliases", "aliases.def")]
 
 
 def _read() -> dict[str, dict[str, str]]:

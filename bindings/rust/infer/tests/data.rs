@@ -122,7 +122,7 @@ fn aliases_lead_to_rows_and_are_none() {
         assert!(rows.iter().all(|row| row.1 != alias && row.2 != alias), "{alias}");
         assert_eq!(infer::aliases::target(kind, alias), Some(target));
     }
-    let text = fs::read_to_string(Path::new(env!("CARGO_MANIFEST_DIR")).join("../../../data/aliases.def")).unwrap();
+    let text = fs::read_to_string(Path::new(env!("CARGO_MANIFEST_DIR")).join("../../../aliases/aliases.def")).unwrap();
     assert_eq!(counted, text.lines().filter(|line| line.ends_with(')')).count());
     assert_eq!(infer::aliases::target(infer::aliases::Kind::Browser, "jpeg"), None);
 }
