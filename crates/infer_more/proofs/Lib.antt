@@ -6,3 +6,6 @@ pub mod TableLemmas
 pub mod ShownLemmas
 pub mod RowLemmas
 pub mod LawLemmas
+pub mod RefusalLemmas
+pub mod SampleLemmas
+pub mod WrittenLemmas

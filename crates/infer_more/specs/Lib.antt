@@ -5,3 +5,4 @@ pub mod Wider
 pub mod Index
 pub mod Reading
 pub mod Laws
+pub mod Samples

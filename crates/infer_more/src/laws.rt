@@ -1,6 +1,10 @@
 //! Facts about the definitions, each the contract of a function that does nothing beside, but for calls of other laws. To
 //! use a law, call it.
+ghost use Rattle.std.specs.Prelude.{IsTrue};
+ghost use Rattle.std.specs.List.{list_all};
 ghost use Rattle.infer_more.specs.Laws.{AllLast, IsSteady, NoneIsBlank};
+ghost use Rattle.infer_more.specs.Samples.{AllReach, has_room};
+ghost use Rattle.infer_more.specs.Table.{further};
 
 /// A yes stays a yes: what the signature of a further row accepts, it accepts however the buffer goes on.
 pub fn lasting()
@@ -22,3 +26,17 @@ pub fn blank()
 {
     infer_sig::laws::by_place();
 }
+
+/// Every further row that accepts anything is the wider answer of some buffer: of its sample.
+pub fn reach()
+    ensures { AllReach }
+{
+    infer::laws::leads();
+    infer_sig::laws::by_place();
+    infer_deep::laws::apart();
+}
+
+/// Every sample of a further row has room for what it holds.
+pub(crate) fn room()
+    ensures { IsTrue (list_all has_room further) }
+{}

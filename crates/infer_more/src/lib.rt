@@ -9,7 +9,7 @@
 //!
 //! Each module uses only those before it: `signature`, one function that decides any fixed signature; `table`, the rows;
 //! `index`, which rows are asked; `answers`, what they answer; `read`, the front of a file or of a reader; `laws`,
-//! facts about all of these.
+//! facts about all of these; `samples`.
 #![tactic(auto)]
 
 ghost use Rattle.std.specs.Prelude.{◌≡◌, ◌≤◌, ◌↔◌, IsTrue, None, option_map, slice_get};
@@ -22,10 +22,12 @@ mod answers;
 mod index;
 pub mod laws;
 mod read;
+mod samples;
 mod signature;
 mod table;
 
 use infer::{FRONT, Fault, Type, Watched};
+pub use samples::{SAMPLE_SIZE, sample};
 use std::alloc::Allocator;
 use std::io::Read;
 use std::rt::Files;

@@ -1,0 +1,76 @@
+-- Each further row is the wider answer of its sample.
+use Rattle.std.proofs.Common.{◌≡◌, ◌<◌, ◌+◌, suc, ℕ, List, Option, None, Some, IfSome, ap, get_or, length, refl, sym, ◌≢◌, subst, arith}
+use Rattle.std.proofs.lemmas.List.{get_or_default}
+use Rattle.infer_deep.specs.Laws as Deep
+use Rattle.infer_deep.specs.Numbers.{le16, le32, be32}
+use Rattle.infer_deep.specs.Text.{tags_with}
+use Rattle.infer_sig.specs.Signature.{accepts, stands}
+use Rattle.infer.specs.BuiltIn.{BuiltIn}
+use Rattle.infer.specs.First.{IsFirst, IsFirstOf}
+use Rattle.infer.specs.Leads.{Leads}
+use Rattle.infer.specs.Row.{Accepts}
+use Rattle.infer.specs.Table as built_in
+use Rattle.infer.specs.declared.table.rows.TheConstants.{ROW_COUNT}
+use Rattle.infer.proofs.KnownLemmas.{Known, proved, refuted, unknown, at_most, both, each_before, is, is_proved, negated, proof_of, same, takes, ◌>>=◌}
+use Rattle.infer.proofs.OrderLemmas.{known_first, some_row}
+use Rattle.infer.proofs.PlaceLemmas.{ByPlace}
+use Rattle.infer.proofs.TestLemmas.{NoneRefused, passed}
+use Rattle.infer_more.specs.Row.{Further}
+use Rattle.infer_more.specs.Samples.{Reaches, further_sample}
+use Rattle.infer_more.specs.Table.{archives, code, further, headers, images, late, markup, media, packages, records}
+use Rattle.infer_more.specs.Wider.{IsWider, Widens}
+use Rattle.infer_more.specs.declared.table.names.TheConstants.{FURTHER_COUNT}
+use Rattle.infer_more.proofs.RefusalLemmas.{none_accepts}
+use Rattle.infer_more.proofs.TableLemmas.{length-further}
+
+pub others_differ : (i j : ℕ) → i ≢ j → Some i ≢ Some j
+others_differ i j h e = h (cc)
+
+pub none_differs : (i : ℕ) → None ≢ Some i
+none_differs i e = cc
+
+abbrev same_number : (i j : ℕ) → Known (i ≡ j) → Known (Some i ≡ Some j)
+same_number i j (proved e) = proved (ap Some e)
+same_number i j (refuted h) = refuted (others_differ i j h)
+same_number i j unknown = unknown
+
+abbrev same_parent : (p q : Option ℕ) → Known (p ≡ q)
+same_parent None None = proved refl
+same_parent (Some i) (Some j) = same_number i j (same i j)
+same_parent None (Some j) = refuted (none_differs j)
+same_parent (Some i) None = refuted (λ e. none_differs i (sym e))
+
+-- what a computation says of a row, and of the first row
+abbrev widens : (parent : Option ℕ) (b : List ℕ) (r : Further) → Known (Widens parent b r)
+widens parent b r = both (same_parent r.parent parent) (is (accepts r.signature b))
+
+abbrev first_widening : (d : Further) (parent : Option ℕ) (b : List ℕ) (i : ℕ) → Known (IsFirst (Widens parent b) further i)
+first_widening d parent b i = do
+  within ← takes (at_most (suc i) (length further))
+  here ← takes (widens parent b (get_or further i d))
+  before ← takes (each_before (λ r. negated (widens parent b r)) further i (omega arith))
+  proved (record { within = within; here = λ c. subst (Widens parent b) (get_or_default further i d c within) here; before = before })
+
+module _ (by_place : ByPlace) (exclude : Deep.Apart) (leads : (s : BuiltIn) → Leads s) (d : Further) where
+  abbrev first_built_in : (b : List ℕ) (parent : Option ℕ) → Known (IsFirstOf (Accepts b) built_in.table parent)
+  first_built_in b None = none_accepts by_place leads b
+  first_built_in b parent = known_first by_place exclude some_row parent b
+
+  abbrev reached : (parent : Option ℕ) (i : ℕ) (o : Option (List ℕ)) → Known (IfSome o (λ s. IsWider s (Some (ROW_COUNT + i))))
+  reached parent i None = proved tt
+  reached parent i (Some s) = do
+    answers ← takes (first_built_in s parent)
+    first ← takes (first_widening d parent s i)
+    proved (record { parent = parent; found = Some i; answers = answers; widens = first; is = refl })
+
+  abbrev reaches : (i : ℕ) → Known (Reaches i (get_or further i d))
+  reaches i = reached (get_or further i d).parent i (further_sample (get_or further i d))
+
+  all_reach : NoneRefused (λ i. is_proved (reaches i)) FURTHER_COUNT 0 9
+  unfolding further archives code headers images late markup media packages records built_in.table stands le16 le32 be32 tags_with
+  all_reach = (refl, (refl, (refl, (refl, (refl, (refl, (refl, (refl, (refl, tt)))))))))
+
+  pub row_reaches : (i : ℕ) → i < length further → Reaches i (get_or further i d)
+  row_reaches i lt =
+      let many = length-further in
+      proof_of (reaches i) (passed (λ j. is_proved (reaches j)) FURTHER_COUNT 9 all_reach (omega arith) i (omega arith))

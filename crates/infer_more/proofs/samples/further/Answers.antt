@@ -1,0 +1,17 @@
+use Rattle.std.proofs.Common.{Some, ◌+◌}
+use Rattle.infer.specs.declared.table.rows.TheConstants.{ROW_COUNT}
+use Rattle.infer_more.specs.Listed.{row_listed}
+use Rattle.infer_more.specs.Samples.{further_sample}
+use Rattle.infer_more.specs.Table.{further}
+use Rattle.infer_more.specs.Wider.{IsWider}
+use Rattle.infer_more.proofs.WrittenLemmas.{holds_written, row_answered, row_room}
+use Rattle.infer_more.proofs.samples.further.Goals as goal
+
+pub of_row-requires : goal.of_row-requires
+of_row-requires c = row_room further c.args.i (row_listed c.in_ok-row_at.field-0.now) c.room.ensures c.in_ok-row_at.ensures
+
+pub returns-clause-answers : goal.returns-clause-answers
+returns-clause-answers c =
+    let r = row_listed c.in_ok-row_at.field-0.now in
+    holds_written (λ s. IsWider s (Some (ROW_COUNT + c.args.i))) (further_sample r) c.of_row.result c.args.out.now c.of_row.new.out
+    (row_answered c.reach.ensures c.args.i r c.in_ok-row_at.ensures) c.of_row.ensures.counted c.of_row.ensures.written

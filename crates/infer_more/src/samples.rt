@@ -1,0 +1,123 @@
+//! A sample of each row: a short buffer that has it as its answer.
+ghost use Rattle.std.specs.Prelude.{◌≡◌, ◌+◌, ◌-◌, ◌<◌, ◌≤◌, ◌⊎◌, ◌↔◌, ℕ, ◌++◌, IfSome, IsNone, IsTrue, List, length, map, option_and_then, option_map, slice_get, take};
+ghost use Rattle.std.specs.List.{list_all};
+ghost use Rattle.infer.specs.First.{IsFirst};
+ghost use Rattle.infer.specs.Row.{Accepts};
+ghost use Rattle.infer.specs.Samples.{put, with_part, with_parts, zeros};
+ghost use Rattle.infer.specs.Table as built_in;
+ghost use Rattle.infer_more.specs.Listed.{part_listed, row_listed};
+ghost use Rattle.infer_more.specs.Samples.{HasAnswer, built_in_sample, further_sample, has_room, is_inside, parent_sample, sample_at, written};
+ghost use Rattle.infer_more.specs.Table.{further};
+ghost use Rattle.infer_more.specs.Wider.{AcceptsAt, IsWider};
+
+use crate::laws;
+use crate::signature::Piece;
+use crate::table::{FurtherRow, row_at};
+use infer::rows::{DLL, EPUB_ARCHIVE, ROW_COUNT};
+
+/// The most bytes that a sample has, with some to spare.
+pub const SAMPLE_SIZE: usize = 1088;
+
+/// Writes the text over `out`, from the place on.
+fn put(place: usize, text: &[u8], out: &mut [u8])
+    requires { place + length text.now ≤ length out.old }
+    ensures { out.new ≡ put place text.now out.old }
+{
+    out[place..place + text.len()].copy_from_slice(text);
+}
+
+/// Writes what the piece asks.
+fn put_piece(piece: &Piece, out: &mut [u8])
+    requires { IsTrue (is_inside (length out.old) (part_listed piece.now)) }
+    ensures { out.new ≡ with_part (part_listed piece.now) out.old }
+{
+    match piece {
+        Piece::At(place, text) => put(*place, text, out),
+        Piece::OneOf(place, bytes) => match bytes.first() {
+            Some(byte) => put(*place, &[*byte], out),
+            None => put(*place, &[0], out),
+        },
+        Piece::Between(place, low, _) => put(*place, &[*low], out),
+    }
+}
+
+/// Writes what each piece asks.
+fn put_pieces(pieces: &[Piece], out: &mut [u8])
+    requires { IsTrue (list_all (is_inside (length out.old)) (map part_listed pieces.now)) }
+    ensures { out.new ≡ with_parts (map part_listed pieces.now) out.old }
+{
+    for piece in pieces {
+        put_piece(piece, out);
+    }
+}
+
+/// Writes the sample of built-in row `i`.
+fn built_in(i: usize, out: &mut [u8; SAMPLE_SIZE]) -> Option<usize>
+    ensures none { IsNone result ↔ ((i ≡ DLL) ⊎ (i ≡ EPUB_ARCHIVE) ⊎ (ROW_COUNT ≤ i)) }
+    ensures counted { result ≡ option_map length (built_in_sample i) }
+    ensures written { out.new ≡ written (built_in_sample i) out.old }
+    ensures fits { IfSome result (λ n. n ≤ 640) }
+    ensures first { IfSome result (λ n. IsFirst (Accepts (take n out.new)) built_in.table i) }
+{
+    let mut bytes = [0; 640];
+    let n = infer::sample(i, &mut bytes)?;
+    *out = [0; SAMPLE_SIZE];
+    put(0, &bytes[..n], out);
+    Some(n)
+}
+
+/// Writes the sample of the parent with zeros after it, and gives its length.
+fn parent(parent: Option<usize>, out: &mut [u8; SAMPLE_SIZE]) -> usize
+    ensures counted { result ≡ length (parent_sample parent) }
+    ensures fits { result ≤ 640 }
+    ensures written { out.new ≡ parent_sample parent ++ zeros (SAMPLE_SIZE - result) }
+{
+    *out = [0; SAMPLE_SIZE];
+    match parent {
+        Some(row) => built_in(row, out).unwrap_or(0),
+        None => 0,
+    }
+}
+
+/// Writes the sample of a further row.
+fn of_row(row: &FurtherRow, out: &mut [u8; SAMPLE_SIZE]) -> Option<usize>
+    requires { IsTrue (has_room (row_listed row.now)) }
+    ensures counted { result ≡ option_map length (further_sample (row_listed row.now)) }
+    ensures written { out.new ≡ written (further_sample (row_listed row.now)) out.old }
+    ensures fits { IfSome result (λ n. n ≤ SAMPLE_SIZE) }
+{
+    let alternative = row.signature.first()?;
+    let n = parent(row.parent, out).max(alternative.least);
+    put_pieces(alternative.pieces, &mut out[..n]);
+    Some(n)
+}
+
+/// Writes the sample of further row `i`, counted among these.
+fn further(i: usize, out: &mut [u8; SAMPLE_SIZE]) -> Option<usize>
+    ensures counted { result ≡ option_map length (option_and_then further_sample (slice_get further i)) }
+    ensures written { out.new ≡ written (option_and_then further_sample (slice_get further i)) out.old }
+    ensures fits { IfSome result (λ n. n ≤ SAMPLE_SIZE) }
+    ensures answers { IfSome result (λ n. IsWider (take n out.new) (Some (ROW_COUNT + i))) }
+{
+    laws::reach();
+    laws::room();
+    of_row(row_at(i)?, out)
+}
+
+/// Writes the sample of row `i`, built-in or further, to the front of `out`, and zeros after it, and gives its length.
+///
+/// A built-in row is the first that accepts its sample, and a further row is the wider answer of its own. Rows [`DLL`]
+/// and [`EPUB_ARCHIVE`], and the rows that accept nothing, have none: for these, and where there is no row, the answer is
+/// `None`, and `out` stays as it was.
+pub fn sample(i: usize, out: &mut [u8; SAMPLE_SIZE]) -> Option<usize>
+    ensures none { IsNone result ↔ ((i ≡ DLL) ⊎ (i ≡ EPUB_ARCHIVE) ⊎ ((b : List ℕ) → ¬ AcceptsAt b i)) }
+    ensures counted { result ≡ option_map length (sample_at i) }
+    ensures written { out.new ≡ written (sample_at i) out.old }
+    ensures fits { IfSome result (λ n. n ≤ SAMPLE_SIZE) }
+    ensures answers { IfSome result (λ n. HasAnswer i (take n out.new)) }
+{
+    if i < ROW_COUNT {
+        return built_in(i, out);
+    }
+    further(i - ROW_COUNT, out)
+}
