@@ -1,9 +1,11 @@
 -- Elements of lists that are joined.
-use Rattle.std.proofs.Common.{◌≡◌, ℕ, zero, suc, ◌+◌, ◌-◌, ◌<◌, List, [], ◌∷◌, ◌++◌, Option, None, Some, map, option_map, length, drop, get_or, slice_get, ap, sym, ◌∙◌, subst, arith, drop-cons, add-one}
+use Rattle.std.proofs.Common.{◌≡◌, ℕ, zero, suc, ◌+◌, ◌-◌, ◌<◌, List, [], ◌∷◌, ◌++◌, Option, None, Some, All, map, option_map, length, drop, get_or, slice_get, ap, sym, ◌∙◌, subst, arith, drop-cons, add-one}
 use Rattle.std.proofs.lemmas.Option.{slice_get-map}
 use Rattle.std.proofs.lemmas.List.{length-map}
+use Rattle.std.proofs.lemmas.List.Elements.{All-get_or}
 use denote.Ref.{Bor}
-use Rattle.infer_more.specs.Listed.{joined, row_listed}
+use Rattle.infer_more.specs.Ended.{ended_listed, ended_shown}
+use Rattle.infer_more.specs.Listed.{AreEnded, joined, row_listed}
 use Rattle.infer_more.specs.Row.{Further}
 use Rattle.infer_more.specs.declared.table.FurtherRow.{FurtherRow}
 
@@ -35,3 +37,14 @@ module _ (lists : List (Bor (List FurtherRow))) (k left : ℕ) (d : Bor (List Fu
   found_later e =
       ap (λ n. slice_get (joined (drop (k + 1) lists)) (left - n)) (sym (length-map {A = FurtherRow} {B = Further} (get_or lists k d).now row_listed))
       ∙ (sym (slice_get_rest (map row_listed (get_or lists k d).now) (joined (drop (k + 1) lists)) left (slice_get-map row_listed (get_or lists k d).now left ∙ ap (option_map row_listed) e)) ∙ opened)
+
+-- the row that is found in a list has its texts with their zeros
+pub ended_here : (lists : List (Bor (List FurtherRow))) (k left : ℕ) (d : Bor (List FurtherRow)) → k < length lists → All (λ rows. AreEnded rows.now) lists
+    → (row : FurtherRow) → slice_get (get_or lists k d).now left ≡ Some row → ended_listed row.ended ≡ ended_shown (row_listed row).shows
+ended_here lists k left d lt all row e =
+    let rows = (get_or lists k d).now in
+    let are = All-get_or (λ (rows : Bor (List FurtherRow)). AreEnded rows.now) lists k d lt all in
+    let texts = slice_get-map (λ (r : FurtherRow). ended_listed r.ended) rows left ∙ ap (option_map (λ (r : FurtherRow). ended_listed r.ended)) e in
+    let shown = slice_get-map (λ (r : FurtherRow). ended_shown (row_listed r).shows) rows left ∙ ap (option_map (λ (r : FurtherRow). ended_shown (row_listed r).shows)) e in
+    let same = sym texts ∙ (ap (λ l. slice_get l left) are ∙ shown) in
+    cc

@@ -1,6 +1,6 @@
 -- What the rows of all numbers show.
-use Rattle.std.proofs.Common.{◌≡◌, ◌<◌, ◌≤◌, ◌-◌, ℕ, inl, inr, length, map, option_map, slice_get, ap, sym, ◌∙◌, arith}
-use Rattle.std.proofs.lemmas.List.{length-map}
+use Rattle.std.proofs.Common.{◌≡◌, ◌<◌, ◌≤◌, ◌+◌, ◌-◌, ℕ, inl, inr, length, map, option_map, slice_get, ap, sym, ◌∙◌, arith}
+use Rattle.std.proofs.lemmas.List.{length-append, length-map}
 use Rattle.std.proofs.lemmas.Option.{slice_get-map, slice_get_cases, slice_get_past}
 use Rattle.infer.specs.BuiltIn.{BuiltIn}
 use Rattle.infer.specs.Row.{Row}
@@ -10,7 +10,18 @@ use Rattle.infer.specs.declared.table.rows.TheConstants.{ROW_COUNT}
 use Rattle.infer_more.specs.Row.{Further}
 use Rattle.infer_more.specs.Table.{further}
 use Rattle.infer_more.specs.Wider.{shown}
+use Rattle.infer_more.specs.declared.table.names.TheConstants.{FURTHER_COUNT}
 use Rattle.infer_more.proofs.JoinedLemmas.{slice_get_front, slice_get_rest}
+use Rattle.infer_more.proofs.TableLemmas.{length-further}
+
+pub length-shown : length built_in.table ≡ ROW_COUNT → length shown ≡ ROW_COUNT + FURTHER_COUNT
+unfolding shown
+length-shown many =
+    let first = length-map {A = Row BuiltIn} {B = Triple} built_in.table (λ r. r.shows) in
+    let rest = length-map {A = Further} {B = Triple} further (λ r. r.shows) in
+    let both = length-append (map (λ (r : Row BuiltIn). r.shows) built_in.table) (map (λ (r : Further). r.shows) further) in
+    let last = length-further in
+    omega arith
 
 module _ (many : length built_in.table ≡ ROW_COUNT) (i : ℕ) where
   many_shown : length (map (λ (r : Row BuiltIn). r.shows) built_in.table) ≡ ROW_COUNT

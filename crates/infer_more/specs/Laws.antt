@@ -1,15 +1,18 @@
 -- Laws of further rows and of the wider answer.
-use Rattle.std.specs.Prelude.{ℕ, Bool, IsTrue, List, ◌++◌, Option, All, not}
+use Rattle.std.specs.Prelude.{◌≡◌, ◌<◌, ℕ, Bool, IsTrue, List, ◌++◌, Option, All, not, option_map, slice_get}
 use Rattle.std.specs.List.{list_all, list_any}
 use Rattle.infer_sig.specs.Laws.{Lasts}
 use Rattle.infer_sig.specs.Signature.{Alternative, at_least, Part, text, any_text, byte, accepts}
 use Rattle.infer.specs.First.{IsFirstOf, NoneHas}
 use Rattle.infer.specs.Laws.{IsNotLater}
 use Rattle.infer.specs.Leads.{is_white}
+use Rattle.infer.specs.Row.{shows}
+use Rattle.infer.specs.Table as built_in
+use Rattle.infer.specs.declared.table.rows.TheConstants.{ROW_COUNT}
 use Rattle.infer_more.specs.Index.{is_settled}
 use Rattle.infer_more.specs.Row.{Further}
 use Rattle.infer_more.specs.Table.{further}
-use Rattle.infer_more.specs.Wider.{Widens}
+use Rattle.infer_more.specs.Wider.{Widens, shown}
 
 -- what the signature of a further row accepts, it accepts however the buffer goes on
 abbrev pub AllLast : Type 0
@@ -37,3 +40,7 @@ is_dark_alternative (at_least n parts) = list_any is_dark_part parts
 
 abbrev pub is_dark : Further → Bool
 is_dark r = list_all is_dark_alternative r.signature
+
+-- what a built-in row shows is what the row of that number shows among all
+abbrev pub ShowsBuiltIn : Type 0
+ShowsBuiltIn = (i : ℕ) → i < ROW_COUNT → slice_get shown i ≡ option_map shows (slice_get built_in.table i)

@@ -1,5 +1,6 @@
 pub mod Row
 pub mod Table
+pub mod Ended
 pub mod Listed
 pub mod Wider
 pub mod Index

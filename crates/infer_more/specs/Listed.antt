@@ -1,9 +1,10 @@
 -- The further rows as the code lists them.
-use Rattle.std.specs.Prelude.{List, [], ◌∷◌, ◌++◌, map}
+use Rattle.std.specs.Prelude.{◌≡◌, List, [], ◌∷◌, ◌++◌, map}
 use denote.Ref.{Bor}
 use Rattle.infer_sig.specs.Signature as signature
 use Rattle.infer_sig.specs.Signature.{Part, at_least, text, byte, any_of, between}
 use Rattle.infer.specs.Triple.{triple}
+use Rattle.infer_more.specs.Ended.{ended_listed, ended_shown}
 use Rattle.infer_more.specs.Row.{Further}
 use Rattle.infer_more.specs.declared.table.FurtherRow.{FurtherRow}
 use Rattle.infer_more.specs.declared.signature.Alternative.{Alternative}
@@ -27,6 +28,10 @@ row_listed r = record {
   parent = r.parent;
   signature = signature_listed r.signature.now;
 }
+
+-- the texts of each row stand there with their zeros too
+abbrev pub AreEnded : List FurtherRow → Type 0
+AreEnded rows = map (λ r. ended_listed r.ended) rows ≡ map (λ r. ended_shown (row_listed r).shows) rows
 
 -- the rows of all lists, in order
 abbrev pub joined : List (Bor (List FurtherRow)) → List Further

@@ -1,16 +1,19 @@
 //! What the further rows answer.
-ghost use Rattle.std.specs.Prelude.{◌≡◌, ◌↔◌, ◌<◌, IsTrue, None, [], ◌∷◌, length, map, option_map, slice_get};
+ghost use Rattle.std.specs.Prelude.{◌≡◌, ◌↔◌, ◌+◌, ◌<◌, ◌≤◌, IfSome, IsTrue, None, [], ◌∷◌, length, map, option_map, slice_get};
 ghost use Rattle.std.specs.List.{HoldsAt};
 ghost use Rattle.infer.specs.First.{IsFirstOf, SomeHas};
 ghost use Rattle.infer.specs.Triple.{triple_of};
+ghost use Rattle.infer.specs.declared.table.rows.TheConstants.{ROW_COUNT};
+ghost use Rattle.infer_more.specs.Ended.{ended_listed, ended_shown};
 ghost use Rattle.infer_more.specs.Index.{KeepsLeast, asked, begun, guarded, number_of, numbers_at};
 ghost use Rattle.infer_more.specs.Table.{further};
 ghost use Rattle.infer_more.specs.Wider.{AcceptsAt, IsWider, IsWiderAnswer, Widens, WidensAt, parent_at, shown};
 ghost use Rattle.infer_more.specs.Listed.{row_listed};
+ghost use Rattle.infer_more.specs.declared.table.names.TheConstants.{FURTHER_COUNT};
 
 use crate::index::{Guard, RowIndex, asked, index};
 use crate::signature;
-use crate::table::{FURTHER_COUNT, FurtherRow, RowName, row_at};
+use crate::table::{EndedTexts, FURTHER_COUNT, FurtherRow, RowName, row_at};
 use infer::rows::{ROW_COUNT, numbers};
 use infer::{Ask, Asker, Type};
 
@@ -133,7 +136,8 @@ fn first_widening(parent: Option<usize>, buf: &[u8]) -> Option<usize>
 /// The number of the wider answer.
 #[inline(always)]
 pub fn position(buf: &[u8]) -> Option<usize>
-    ensures { IsWider buf.now result }
+    ensures wider { IsWider buf.now result }
+    ensures bound { IfSome result (λ i. i < ROW_COUNT + FURTHER_COUNT) }
 {
     let parent = infer::position(buf);
     match first_widening(parent, buf) {
@@ -183,6 +187,21 @@ pub fn row(i: usize) -> Option<Type>
         return infer::row(i);
     }
     further_type(i - ROW_COUNT)
+}
+
+/// The texts of further row `i`, each with a zero after it.
+pub fn ended_texts(i: usize) -> Option<&'static EndedTexts>
+    ensures built_in { i < ROW_COUNT → result ≡ None }
+    ensures further { ROW_COUNT ≤ i → option_map (λ texts. ended_listed texts.now) result ≡ option_map ended_shown (slice_get shown i) }
+{
+    numbers();
+    if i < ROW_COUNT {
+        return None;
+    }
+    match row_at(i - ROW_COUNT) {
+        Some(row) => Some(&row.ended),
+        None => None,
+    }
 }
 
 /// The number of the parent of row `i`.

@@ -1,10 +1,13 @@
 //! Facts about the definitions, each the contract of a function that does nothing beside, but for calls of other laws. To
 //! use a law, call it.
-ghost use Rattle.std.specs.Prelude.{IsTrue};
+ghost use Rattle.std.specs.Prelude.{◌≡◌, ◌+◌, IsTrue, length};
 ghost use Rattle.std.specs.List.{list_all};
-ghost use Rattle.infer_more.specs.Laws.{AllLast, IsSteady, NoneIsBlank};
+ghost use Rattle.infer.specs.declared.table.rows.TheConstants.{ROW_COUNT};
+ghost use Rattle.infer_more.specs.Laws.{AllLast, IsSteady, NoneIsBlank, ShowsBuiltIn};
 ghost use Rattle.infer_more.specs.Samples.{AllReach, has_room};
 ghost use Rattle.infer_more.specs.Table.{further};
+ghost use Rattle.infer_more.specs.Wider.{shown};
+ghost use Rattle.infer_more.specs.declared.table.names.TheConstants.{FURTHER_COUNT};
 
 /// A yes stays a yes: what the signature of a further row accepts, it accepts however the buffer goes on.
 pub fn lasting()
@@ -40,3 +43,11 @@ pub fn reach()
 pub(crate) fn room()
     ensures { IsTrue (list_all has_room further) }
 {}
+
+/// How many rows there are, and that each built-in row is the row of its number among all.
+pub fn numbers()
+    ensures many { length shown ≡ ROW_COUNT + FURTHER_COUNT }
+    ensures built_in { ShowsBuiltIn }
+{
+    infer::rows::numbers();
+}

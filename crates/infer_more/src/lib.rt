@@ -12,11 +12,14 @@
 //! facts about all of these; `samples`.
 #![tactic(auto)]
 
-ghost use Rattle.std.specs.Prelude.{◌≡◌, ◌≤◌, ◌↔◌, IsTrue, None, option_map, slice_get};
+ghost use Rattle.std.specs.Prelude.{◌≡◌, ◌+◌, ◌<◌, ◌≤◌, ◌↔◌, IfSome, IsTrue, None, option_map, slice_get};
 ghost use Rattle.infer.specs.Triple.{triple_of};
 ghost use Rattle.infer.specs.Watched.{fault_of};
+ghost use Rattle.infer.specs.declared.table.rows.TheConstants.{ROW_COUNT};
+ghost use Rattle.infer_more.specs.Ended.{ended_listed, ended_shown};
 ghost use Rattle.infer_more.specs.Reading.{AnswersReader, AnswersSome};
 ghost use Rattle.infer_more.specs.Wider.{AcceptsAt, IsWider, IsWiderAnswer, ShowsExtension, ShowsMimeType, parent_at, shown};
+ghost use Rattle.infer_more.specs.declared.table.names.TheConstants.{FURTHER_COUNT};
 
 mod answers;
 mod index;
@@ -31,7 +34,7 @@ pub use samples::{SAMPLE_SIZE, sample};
 use std::alloc::Allocator;
 use std::io::Read;
 use std::rt::Files;
-pub use table::FURTHER_COUNT;
+pub use table::{EndedTexts, FURTHER_COUNT};
 
 /// The type of the wider answer of `buf`, and `None` exactly if no row accepts it.
 pub fn get(buf: &[u8]) -> Option<Type>
@@ -42,7 +45,8 @@ pub fn get(buf: &[u8]) -> Option<Type>
 
 /// The number of the wider answer of `buf`, and `None` exactly if no row accepts it.
 pub fn position(buf: &[u8]) -> Option<usize>
-    ensures { IsWider buf.now result }
+    ensures wider { IsWider buf.now result }
+    ensures bound { IfSome result (λ i. i < ROW_COUNT + FURTHER_COUNT) }
 {
     answers::position(buf)
 }
@@ -52,6 +56,14 @@ pub fn row(i: usize) -> Option<Type>
     ensures { option_map triple_of result ≡ slice_get shown i }
 {
     answers::row(i)
+}
+
+/// The texts of further row `i`, each with a zero after it, and `None` of any other number.
+pub fn ended_texts(i: usize) -> Option<&'static EndedTexts>
+    ensures built_in { i < ROW_COUNT → result ≡ None }
+    ensures further { ROW_COUNT ≤ i → option_map (λ texts. ended_listed texts.now) result ≡ option_map ended_shown (slice_get shown i) }
+{
+    answers::ended_texts(i)
 }
 
 /// The number of the built-in row that is the parent of further row `i`, and `None` if it has none or is no further row.

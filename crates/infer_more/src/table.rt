@@ -1,17 +1,25 @@
 //! The further rows, in the order in which they are asked.
-ghost use Rattle.std.specs.Prelude.{◌≡◌, option_map, slice_get};
-ghost use Rattle.infer_more.specs.Listed.{joined, row_listed};
+ghost use Rattle.std.specs.Prelude.{◌≡◌, All, IfSome, option_map, slice_get};
+ghost use Rattle.infer_more.specs.Ended.{ended_listed, ended_shown};
+ghost use Rattle.infer_more.specs.Listed.{AreEnded, joined, row_listed};
 ghost use Rattle.infer_more.specs.Table.{further};
 
 use crate::signature::Alternative;
 use infer::MatcherType;
 
-/// A further row: what it shows, the number of its parent among the built-in rows if it has one, and its signature. A
+/// The texts of a row, each with a zero after it, as C wants them.
+pub struct EndedTexts {
+    pub mime_type: &'static str,
+    pub extension: &'static str,
+}
+
+/// A further row: what it shows, its texts with their zeros, the number of its parent among the built-in rows if it has one, and its signature. A
 /// signature without an alternative accepts nothing.
 pub(crate) struct FurtherRow {
     pub matcher_type: MatcherType,
     pub mime_type: &'static str,
     pub extension: &'static str,
+    pub ended: EndedTexts,
     pub parent: Option<usize>,
     pub signature: &'static [Alternative],
 }
@@ -24,6 +32,10 @@ macro_rules! rows {
             matcher_type: MatcherType::$class,
             mime_type: $mime_type,
             extension: $extension,
+            ended: EndedTexts {
+                mime_type: concat!($mime_type, "\0"),
+                extension: concat!($extension, "\0"),
+            },
             parent: parent!($($parent)?),
             signature: &[$(Alternative {
                 least: $least,
@@ -58,7 +70,8 @@ pub use names::{FURTHER_COUNT, RowName};
 /// The rows, list by list.
 #[inline(always)]
 pub(crate) fn lists() -> [&'static [FurtherRow]; 9]
-    ensures { joined result ≡ further }
+    ensures listed { joined result ≡ further }
+    ensures ended { All (λ rows. AreEnded rows.now) result }
 {
     [
         packages::rows(),
@@ -75,7 +88,8 @@ pub(crate) fn lists() -> [&'static [FurtherRow]; 9]
 
 /// Row `i`.
 pub(crate) fn row_at(i: usize) -> Option<&'static FurtherRow>
-    ensures { option_map (λ row. row_listed row.now) result ≡ slice_get further i }
+    ensures listed { option_map (λ row. row_listed row.now) result ≡ slice_get further i }
+    ensures ended { IfSome result (λ row. ended_listed row.now.ended ≡ ended_shown (row_listed row.now).shows) }
 {
     let mut left = i;
     for rows in lists() {

@@ -1,11 +1,11 @@
 //! Archives.
 ghost use Rattle.std.specs.Prelude.{◌≡◌, map};
-ghost use Rattle.infer_more.specs.Listed.{row_listed};
+ghost use Rattle.infer_more.specs.Listed.{AreEnded, row_listed};
 ghost use Rattle.infer_more.specs.Table.{archives};
 
 use crate::signature::Alternative;
 use crate::signature::Piece::{At, Between};
-use crate::table::FurtherRow;
+use crate::table::{EndedTexts, FurtherRow};
 use infer::MatcherType;
 
 static ROWS: [FurtherRow; 9] = rows![
@@ -22,7 +22,8 @@ static ROWS: [FurtherRow; 9] = rows![
 
 #[inline(always)]
 pub(super) fn rows() -> &'static [FurtherRow]
-    ensures { map row_listed result.now ≡ archives }
+    ensures listed { map row_listed result.now ≡ archives }
+    ensures ended { AreEnded result.now }
 {
     &ROWS
 }

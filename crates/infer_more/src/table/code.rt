@@ -1,11 +1,11 @@
 //! Bytecode, translations, time zones, keys and disks.
 ghost use Rattle.std.specs.Prelude.{◌≡◌, map};
-ghost use Rattle.infer_more.specs.Listed.{row_listed};
+ghost use Rattle.infer_more.specs.Listed.{AreEnded, row_listed};
 ghost use Rattle.infer_more.specs.Table.{code};
 
 use crate::signature::Alternative;
 use crate::signature::Piece::{At, Between, OneOf};
-use crate::table::FurtherRow;
+use crate::table::{EndedTexts, FurtherRow};
 use infer::MatcherType;
 
 static ROWS: [FurtherRow; 16] = rows![
@@ -29,7 +29,8 @@ static ROWS: [FurtherRow; 16] = rows![
 
 #[inline(always)]
 pub(super) fn rows() -> &'static [FurtherRow]
-    ensures { map row_listed result.now ≡ code }
+    ensures listed { map row_listed result.now ≡ code }
+    ensures ended { AreEnded result.now }
 {
     &ROWS
 }

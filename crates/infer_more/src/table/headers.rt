@@ -1,11 +1,11 @@
 //! Kinds of files whose parent has a header of its own: OLE storages, PEM, DER, SQLite, images and Ogg.
 ghost use Rattle.std.specs.Prelude.{◌≡◌, map};
-ghost use Rattle.infer_more.specs.Listed.{row_listed};
+ghost use Rattle.infer_more.specs.Listed.{AreEnded, row_listed};
 ghost use Rattle.infer_more.specs.Table.{headers};
 
 use crate::signature::Alternative;
 use crate::signature::Piece::{At, OneOf};
-use crate::table::FurtherRow;
+use crate::table::{EndedTexts, FurtherRow};
 use infer::MatcherType;
 use infer::rows::{DER, HEIF, JPEG2000, MSI, OGG, PEM, PNG, PS, SQLITE, TIFF};
 
@@ -33,7 +33,8 @@ static ROWS: [FurtherRow; 19] = rows![
 
 #[inline(always)]
 pub(super) fn rows() -> &'static [FurtherRow]
-    ensures { map row_listed result.now ≡ headers }
+    ensures listed { map row_listed result.now ≡ headers }
+    ensures ended { AreEnded result.now }
 {
     &ROWS
 }

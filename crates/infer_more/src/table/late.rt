@@ -1,11 +1,11 @@
 //! Rows that leave the first bytes free, and texts.
 ghost use Rattle.std.specs.Prelude.{◌≡◌, map};
-ghost use Rattle.infer_more.specs.Listed.{row_listed};
+ghost use Rattle.infer_more.specs.Listed.{AreEnded, row_listed};
 ghost use Rattle.infer_more.specs.Table.{late};
 
 use crate::signature::Alternative;
 use crate::signature::Piece::{At, Between, OneOf};
-use crate::table::FurtherRow;
+use crate::table::{EndedTexts, FurtherRow};
 use infer::MatcherType;
 
 static ROWS: [FurtherRow; 19] = rows![
@@ -32,7 +32,8 @@ static ROWS: [FurtherRow; 19] = rows![
 
 #[inline(always)]
 pub(super) fn rows() -> &'static [FurtherRow]
-    ensures { map row_listed result.now ≡ late }
+    ensures listed { map row_listed result.now ≡ late }
+    ensures ended { AreEnded result.now }
 {
     &ROWS
 }

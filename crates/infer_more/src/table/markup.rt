@@ -1,10 +1,10 @@
 //! Programs that name their interpreter, and kinds of XML and HTML.
 ghost use Rattle.std.specs.Prelude.{◌≡◌, map};
-ghost use Rattle.infer_more.specs.Listed.{row_listed};
+ghost use Rattle.infer_more.specs.Listed.{AreEnded, row_listed};
 ghost use Rattle.infer_more.specs.Table.{markup};
 
 use crate::signature::Alternative;
-use crate::table::FurtherRow;
+use crate::table::{EndedTexts, FurtherRow};
 use infer::MatcherType;
 use infer::rows::{HTML, SHELLSCRIPT, XML};
 
@@ -30,7 +30,8 @@ static ROWS: [FurtherRow; 17] = rows![
 
 #[inline(always)]
 pub(super) fn rows() -> &'static [FurtherRow]
-    ensures { map row_listed result.now ≡ markup }
+    ensures listed { map row_listed result.now ≡ markup }
+    ensures ended { AreEnded result.now }
 {
     &ROWS
 }

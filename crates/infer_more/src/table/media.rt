@@ -1,11 +1,11 @@
 //! Sound, documents, fonts and texts that begin with fixed bytes.
 ghost use Rattle.std.specs.Prelude.{◌≡◌, map};
-ghost use Rattle.infer_more.specs.Listed.{row_listed};
+ghost use Rattle.infer_more.specs.Listed.{AreEnded, row_listed};
 ghost use Rattle.infer_more.specs.Table.{media};
 
 use crate::signature::Alternative;
 use crate::signature::Piece::{At, OneOf};
-use crate::table::FurtherRow;
+use crate::table::{EndedTexts, FurtherRow};
 use infer::MatcherType;
 
 static ROWS: [FurtherRow; 13] = rows![
@@ -26,7 +26,8 @@ static ROWS: [FurtherRow; 13] = rows![
 
 #[inline(always)]
 pub(super) fn rows() -> &'static [FurtherRow]
-    ensures { map row_listed result.now ≡ media }
+    ensures listed { map row_listed result.now ≡ media }
+    ensures ended { AreEnded result.now }
 {
     &ROWS
 }

@@ -1,11 +1,11 @@
 //! Files that are built or packed: kinds of ELF files, ZIP archives and OpenDocument files.
 ghost use Rattle.std.specs.Prelude.{◌≡◌, map};
-ghost use Rattle.infer_more.specs.Listed.{row_listed};
+ghost use Rattle.infer_more.specs.Listed.{AreEnded, row_listed};
 ghost use Rattle.infer_more.specs.Table.{packages};
 
 use crate::signature::Alternative;
 use crate::signature::Piece::{At, OneOf};
-use crate::table::FurtherRow;
+use crate::table::{EndedTexts, FurtherRow};
 use infer::MatcherType;
 use infer::rows::{ELF, ODP, ODS, ODT, ZIP};
 
@@ -32,7 +32,8 @@ static ROWS: [FurtherRow; 18] = rows![
 
 #[inline(always)]
 pub(super) fn rows() -> &'static [FurtherRow]
-    ensures { map row_listed result.now ≡ packages }
+    ensures listed { map row_listed result.now ≡ packages }
+    ensures ended { AreEnded result.now }
 {
     &ROWS
 }

@@ -1,11 +1,11 @@
 //! Captures, shortcuts and sets of data.
 ghost use Rattle.std.specs.Prelude.{◌≡◌, map};
-ghost use Rattle.infer_more.specs.Listed.{row_listed};
+ghost use Rattle.infer_more.specs.Listed.{AreEnded, row_listed};
 ghost use Rattle.infer_more.specs.Table.{records};
 
 use crate::signature::Alternative;
 use crate::signature::Piece::{At, Between, OneOf};
-use crate::table::FurtherRow;
+use crate::table::{EndedTexts, FurtherRow};
 use infer::MatcherType;
 
 static ROWS: [FurtherRow; 16] = rows![
@@ -29,7 +29,8 @@ static ROWS: [FurtherRow; 16] = rows![
 
 #[inline(always)]
 pub(super) fn rows() -> &'static [FurtherRow]
-    ensures { map row_listed result.now ≡ records }
+    ensures listed { map row_listed result.now ≡ records }
+    ensures ended { AreEnded result.now }
 {
     &ROWS
 }

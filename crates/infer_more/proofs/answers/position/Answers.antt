@@ -9,3 +9,10 @@ overflow_add-result c =
     let lt : c.in-Some.i < length further = first.within in
     let many = length-further in
     omega arith
+
+pub returns-in-Some-clause-bound : goal.returns-in-Some-clause-bound
+returns-in-Some-clause-bound c =
+    let first = c.in-Some.ensures in
+    let lt : c.in-Some.i < length further = first.within in
+    let many = length-further in
+    omega arith

@@ -1,13 +1,19 @@
 use Rattle.std.proofs.Common.{◌<◌, length, arith, refl}
 use Rattle.std.proofs.lemmas.Option.{slice_get_past, slice_get_read}
-use Rattle.infer_more.proofs.JoinedLemmas.{found_here, found_later}
+use Rattle.infer_more.proofs.JoinedLemmas.{ended_here, found_here, found_later}
 use Rattle.infer_more.proofs.table.row_at.Goals as goal
 
-pub returns-in-Some : goal.returns-in-Some
-returns-in-Some c =
+pub returns-in-Some-clause-listed : goal.returns-in-Some-clause-listed
+returns-in-Some-clause-listed c =
     let h = c.in-Some.ensures.lookup in
     let lt : c.loop-rows.rows-index < length c.lists-rows-items.result = omega arith in
     found_here _ _ _ _ _ lt c.loop-rows.invariant _ (slice_get_read _ _ _ _ refl h.3.0 h.1)
+
+pub returns-in-Some-clause-ended : goal.returns-in-Some-clause-ended
+returns-in-Some-clause-ended c =
+    let h = c.in-Some.ensures.lookup in
+    let lt : c.loop-rows.rows-index < length c.lists-rows-items.result = omega arith in
+    ended_here _ _ _ _ lt c.lists-rows-items.ensures.ended _ (slice_get_read _ _ _ _ refl h.3.0 h.1)
 
 pub loop-rows-preserved : goal.loop-rows-preserved
 loop-rows-preserved c =

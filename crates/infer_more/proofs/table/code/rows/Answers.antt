@@ -2,6 +2,6 @@ use Rattle.std.proofs.Common.{refl}
 use Rattle.infer_more.specs.Table.{code}
 use Rattle.infer_more.proofs.table.code.rows.Goals as goal
 
-pub returns : goal.returns
+pub returns-clause-listed : goal.returns-clause-listed
 unfolding code
-returns c = refl
+returns-clause-listed c = refl

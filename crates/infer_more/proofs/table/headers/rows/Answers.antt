@@ -2,6 +2,6 @@ use Rattle.std.proofs.Common.{refl}
 use Rattle.infer_more.specs.Table.{headers}
 use Rattle.infer_more.proofs.table.headers.rows.Goals as goal
 
-pub returns : goal.returns
+pub returns-clause-listed : goal.returns-clause-listed
 unfolding headers
-returns c = refl
+returns-clause-listed c = refl

@@ -2,6 +2,6 @@ use Rattle.std.proofs.Common.{refl}
 use Rattle.infer_more.specs.Table.{markup}
 use Rattle.infer_more.proofs.table.markup.rows.Goals as goal
 
-pub returns : goal.returns
+pub returns-clause-listed : goal.returns-clause-listed
 unfolding markup
-returns c = refl
+returns-clause-listed c = refl

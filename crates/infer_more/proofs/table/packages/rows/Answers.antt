@@ -2,6 +2,6 @@ use Rattle.std.proofs.Common.{refl}
 use Rattle.infer_more.specs.Table.{packages}
 use Rattle.infer_more.proofs.table.packages.rows.Goals as goal
 
-pub returns : goal.returns
+pub returns-clause-listed : goal.returns-clause-listed
 unfolding packages
-returns c = refl
+returns-clause-listed c = refl
