@@ -46,6 +46,10 @@ static void ask(const void *buf, size_t len) {
     }
     for (size_t i = 0; i < sizeof tests / sizeof *tests; i++)
         tests[i](buf, len);
+    int32_t wider = infer_more_position(buf, len);
+    wants(wider == row || (wider >= (int32_t)infer_row_count() && wider < (int32_t)infer_more_row_count()));
+    wants(infer_accepts(buf, len, wider) == (wider >= 0));
+    wants(infer_may_become(buf, len, wider) == (row >= 0 && wider == row));
     infer_is(buf, len, buf, len);
     infer_is_mime(buf, len, buf, len);
     infer_is_supported(buf, len);
@@ -58,7 +62,7 @@ static void ask_some(void) {
     static const size_t lengths[] = {0, 1, 2, 8, 64, 640, 1023, 1024, 1025, 4096, 8192, ROOM};
     size_t len = lengths[next() % (sizeof lengths / sizeof *lengths)];
     len -= len ? next() % len % 40 : 0;
-    unsigned char sample[640], *buf = end - len;
+    unsigned char sample[INFER_SAMPLE_SIZE], *buf = end - len;
     size_t known = infer_sample((int32_t)(next() % infer_row_count()), sample, sizeof sample);
     int kind = (int)(next() % 3);
     for (size_t i = 0; i < len; i++)
@@ -92,7 +96,7 @@ static void write_texts(int32_t number) {
 }
 
 static void write_samples(int32_t row) {
-    unsigned char sample[640];
+    unsigned char sample[INFER_SAMPLE_SIZE];
     size_t len = infer_sample(row, sample, sizeof sample);
     for (size_t size = 0; size <= len + 1; size++) {
         unsigned char *out = end - size;
@@ -103,7 +107,7 @@ static void write_samples(int32_t row) {
 }
 
 int main(void) {
-    const int32_t last = (int32_t)infer_row_count() - 1;
+    const int32_t last = (int32_t)infer_more_row_count() - 1;
     const int32_t numbers[] = {INT32_MIN, INT32_MIN + 1, -2, -1, last + 1, last + 2, 255, 256, 65536, INT32_MAX - 1, INT32_MAX};
     size_t page = (size_t)sysconf(_SC_PAGESIZE);
     unsigned char *room = mmap(NULL, ROOM + 2 * page, PROT_READ | PROT_WRITE, MAP_PRIVATE | MAP_ANONYMOUS, -1, 0);
@@ -111,7 +115,7 @@ int main(void) {
     end = room + page + ROOM;
     for (int i = 0; i < ROUNDS; i++)
         ask_some();
-    for (int32_t row = 0; row < (int32_t)infer_row_count(); row++) {
+    for (int32_t row = 0; row <= last; row++) {
         write_texts(row);
         write_samples(row);
     }

@@ -13,6 +13,11 @@
  * What stays the same in later versions: an extension and a MIME type keep their meaning, so store these. Row numbers
  * change whenever a row is added, so never store them; the classes' numbers, below, stay, and new ones may come.
  *
+ * Rows are built-in or further. Built-in rows come first, and infer_position asks them alone. infer_more_position asks
+ * further rows too, which make its answer more exact or give one where there was none. A call that takes a row's number
+ * takes that of a further row as well, unless it says otherwise. The calls that take a text or name a class ask the
+ * built-in rows.
+ *
  * No function allocates, keeps state or calls back, and all may be called from any thread. A buffer is a pointer and
  * its length, and that many bytes must be readable. So is a text that is handed over, whose length is that of
  * strlen. A null pointer with length 0 is the empty buffer or text. A text that is not UTF-8 is no row's text. Upper
@@ -54,7 +59,7 @@ enum infer_class_code {
     INFER_CUSTOM = 9
 };
 
-/* THE ANSWER: the number of the first row whose signature accepts the buffer, from 0 on, or -1 if no row does. */
+/* THE ANSWER: the number of the first built-in row whose signature accepts the buffer, from 0 on, or -1 if none does. */
 int32_t infer_position(const void *buf, size_t len);
 
 /* The same, and in `is_final` whether the verdict is final: no bytes that may follow can change it then. It is never
@@ -65,21 +70,27 @@ int32_t infer_verdict(const void *buf, size_t len, bool *is_final);
 /* The same as infer_position, and in `asked` how many rows were asked, at most 25. `asked` must not be null. */
 int32_t infer_position_counted(const void *buf, size_t len, uint32_t *asked);
 
-/* Whether that one row accepts the buffer; false if there is no such row. A buffer can fit several rows: of 1,258
- * real files 82 did. */
+/* The wider answer: the number of the first further row that stands below the answer of infer_position and whose
+ * signature accepts the buffer, and that answer itself if there is none. So an ELF file may be an object file, and a
+ * buffer that no built-in row accepts a time zone. */
+int32_t infer_more_position(const void *buf, size_t len);
+
+/* Whether the signature of that one row accepts the buffer; false if there is no such row. A buffer can fit several
+ * rows: of 1,258 real files 82 did. The row that a further row stands below is not asked. */
 bool infer_accepts(const void *buf, size_t len, int32_t row);
 
 /* Whether no bytes that may follow can change the answer, told exactly: if this is false, some do. It is true of
  * most images from their 61st byte on, and never of the empty buffer. */
 bool infer_is_decided(const void *buf, size_t len);
 
-/* Whether some bytes that may follow make that one row accept the buffer; false if there is no such row. A row that
- * accepts the buffer accepts it whatever follows. It need not be the answer then: the answer moves only to rows before
- * that of infer_position, or to any row if that is -1. */
+/* Whether some bytes that may follow make that one built-in row accept the buffer; false if there is no such row, and of
+ * every further row. A row that accepts the buffer accepts it whatever follows. It need not be the answer then: the
+ * answer moves only to rows before that of infer_position, or to any row if that is -1. */
 bool infer_may_become(const void *buf, size_t len, int32_t row);
 
-/* The number of rows. */
+/* The number of built-in rows, and of all rows. The further rows have the numbers from the first of these on. */
 size_t infer_row_count(void);
+size_t infer_more_row_count(void);
 
 /* The row's class, one of `enum infer_class_code`, and INFER_NO_ROW if there is no such row. */
 int32_t infer_class(int32_t row);
@@ -107,16 +118,18 @@ void infer_find_mime_type(int32_t row, struct infer_text *out);
 void infer_find_extension(int32_t row, struct infer_text *out);
 void infer_find_class_name(int32_t class_code, struct infer_text *out);
 
-/* The length of a short buffer of which the row is the answer, and 0 if the row is never the answer or there is no such
- * row. The buffer is written to `out`, with no zero after it, if `size` bytes are room for all of it, and otherwise
- * nothing is written. 640 bytes are always enough, and with `size` 0 `out` may be null. */
+/* The length of a short buffer of which that built-in row is the answer, and 0 if it is never the answer or there is no
+ * such row, and of every further row. The buffer is written to `out`, with no zero after it, if `size` bytes are room for
+ * all of it, and otherwise nothing is written. INFER_SAMPLE_SIZE bytes are always enough, and with `size` 0 `out` may be
+ * null. */
+#define INFER_SAMPLE_SIZE 640
 size_t infer_sample(int32_t row, void *out, size_t size);
 
-/* Whether some row with this extension or MIME type accepts the buffer. It need not be the answer. */
+/* Whether some built-in row with this extension or MIME type accepts the buffer. It need not be the answer. */
 bool infer_is(const void *buf, size_t len, const char *extension, size_t extension_len);
 bool infer_is_mime(const void *buf, size_t len, const char *mime_type, size_t mime_type_len);
 
-/* Whether some row of this class accepts the buffer. It need not be the answer. */
+/* Whether some built-in row of this class accepts the buffer. It need not be the answer. */
 bool infer_is_app(const void *buf, size_t len);
 bool infer_is_archive(const void *buf, size_t len);
 bool infer_is_audio(const void *buf, size_t len);
@@ -131,7 +144,7 @@ bool infer_is_coff_i386(const void *buf, size_t len);
 bool infer_is_coff_x64(const void *buf, size_t len);
 bool infer_is_coff_ia64(const void *buf, size_t len);
 
-/* Whether some row has this extension or MIME type. */
+/* Whether some built-in row has this extension or MIME type. */
 bool infer_is_supported(const char *extension, size_t extension_len);
 bool infer_is_mime_supported(const char *mime_type, size_t mime_type_len);
 

@@ -18,6 +18,8 @@ static void same(const char *what, long got, long wanted) {
 /* The number of the row that answers for this buffer, which is not written here: it changes with the versions. */
 static int32_t jpeg(void) { return infer_position(JPEG); }
 static int32_t last(void) { return (int32_t)infer_row_count() - 1; }
+/* The last of all rows. */
+static int32_t last_of_all(void) { return (int32_t)infer_more_row_count() - 1; }
 
 typedef size_t text_of(int32_t number, char *out, size_t size);
 typedef bool test_of(const void *buf, size_t len);
@@ -43,9 +45,11 @@ static void texts(void) {
     char made[32];
     text("MIME type", infer_mime_type, jpeg(), "image/jpeg");
     text("extension", infer_extension, jpeg(), "jpg");
-    text("extension of the last row", infer_extension, last(), "sh");
+    text("extension of the last built-in row", infer_extension, last(), "sh");
+    text("extension of the first further row", infer_extension, last() + 1, "o");
+    text("MIME type of the last row", infer_mime_type, last_of_all(), "text/plain");
     text("MIME type of row -1", infer_mime_type, -1, "");
-    text("MIME type of no row", infer_mime_type, last() + 1, "");
+    text("MIME type of no row", infer_mime_type, last_of_all() + 1, "");
     text("extension of the least number", infer_extension, INT32_MIN, "");
     text("extension of the greatest number", infer_extension, INT32_MAX, "");
     text("version", version, 0, INFER_VERSION);
@@ -68,8 +72,8 @@ static void own_text(own_text_of *own, find_text *find, text_of *write, int32_t 
 }
 
 static void own_texts(void) {
-    const int32_t none[] = {INT32_MIN, -2, -1, last() + 1, INT32_MAX};
-    for (int32_t row = 0; row <= last(); row++) {
+    const int32_t none[] = {INT32_MIN, -2, -1, last_of_all() + 1, INT32_MAX};
+    for (int32_t row = 0; row <= last_of_all(); row++) {
         own_text(infer_mime_type_text, infer_find_mime_type, infer_mime_type, row);
         own_text(infer_extension_text, infer_find_extension, infer_extension, row);
     }
@@ -114,13 +118,16 @@ static void classes(void) {
     typed("docx", INFER_DOC, "PK\3\4\0\0\0\0\0\0\0\0\0\0\0\0\0\0\0\0\0\0\0\0\0\0\0\0\0\0word/", 35);
     typed("epub", INFER_BOOK, "PK\3\4\0\0\0\0\0\0\0\0\0\0\0\0\0\0\0\0\0\0\0\0\0\0\0\0\0\0mimetypeapplication/epub+zip", 58);
     same("class of row -1", infer_class(-1), INFER_NO_ROW);
-    same("class of no row", infer_class(last() + 1), INFER_NO_ROW);
+    same("class of the first further row", infer_class(last() + 1), INFER_APP);
+    same("class of the last row", infer_class(last_of_all()), INFER_TEXT);
+    same("class of no row", infer_class(last_of_all() + 1), INFER_NO_ROW);
 }
 
 static void answers(void) {
     uint32_t asked = 99;
     same("position of nothing", infer_position(NULL, 0), -1);
     same("row count", (long)infer_row_count(), INFER_ROWS);
+    same("count of all rows", (long)infer_more_row_count(), INFER_ROWS + INFER_FURTHER_ROWS);
     same("counted", infer_position_counted(JPEG, &asked), jpeg());
     /* A book of Mobipocket may begin with any byte, and its row comes before. */
     same("rows asked", asked, 2);
@@ -129,7 +136,7 @@ static void answers(void) {
     same("accepts", infer_accepts(JPEG, jpeg()), true);
     same("accepts of another row", infer_accepts(JPEG, jpeg() + 1), false);
     same("accepts of row -1", infer_accepts(JPEG, -1), false);
-    same("accepts of no row", infer_accepts(JPEG, last() + 1), false);
+    same("accepts of no row", infer_accepts(JPEG, last_of_all() + 1), false);
     same("accepts nothing", infer_accepts(NULL, 0, jpeg()), false);
     /* "MZ" fits the rows of programs and of their libraries, of which the first is the answer. */
     same("accepts of the answer", infer_accepts("MZ", 2, infer_position("MZ", 2)), true);
@@ -168,15 +175,38 @@ static void decided(void) {
     same("the whole may become", infer_may_become(JPEG, jpeg()), true);
     same("another front may become", infer_may_become("\xFF\xD7", 2, jpeg()), false);
     same("may become row -1", infer_may_become(NULL, 0, -1), false);
-    same("may become no row", infer_may_become(NULL, 0, last() + 1), false);
+    same("may become a further row", infer_may_become(NULL, 0, last() + 1), false);
+    same("may become no row", infer_may_become(NULL, 0, last_of_all() + 1), false);
+}
+
+/* What the wider answer shows, and whether the signature of its row accepts the buffer. */
+static void wider(const char *extension, bool is_further, const char *buf, size_t len) {
+    int32_t row = infer_more_position(buf, len);
+    same(extension, strcmp(infer_extension_text(row), extension), 0);
+    same(extension, row > last(), is_further);
+    same(extension, infer_accepts(buf, len, row), true);
+}
+
+static void widers(void) {
+    static const char object[64] = "\x7F" "ELF\2\1\1\0\0\0\0\0\0\0\0\0\1\0";
+    static const char other[64] = "\x7F" "ELF";
+    static const char zone[44] = "TZif2";
+    same("wider answer of nothing", infer_more_position(NULL, 0), -1);
+    same("wider answer of an image", infer_more_position(JPEG), jpeg());
+    wider("jpg", false, JPEG);
+    wider("elf", false, other, sizeof other);
+    wider("o", true, object, sizeof object);
+    wider("tzif", true, zone, sizeof zone);
+    same("answer where there was none", infer_position(zone, sizeof zone), -1);
+    same("accepts of another further row", infer_accepts(zone, sizeof zone, infer_more_position(zone, sizeof zone) + 1), false);
 }
 
 static void samples(void) {
-    unsigned char out[641];
+    unsigned char out[INFER_SAMPLE_SIZE + 1];
     int none = 0, wrong = 0;
     for (int32_t row = 0; row <= last(); row++) {
         memset(out, '.', sizeof out);
-        size_t len = infer_sample(row, out, 640);
+        size_t len = infer_sample(row, out, INFER_SAMPLE_SIZE);
         none += len == 0;
         wrong += len != 0 && infer_position(out, len) != row;
         wrong += out[len] != '.';
@@ -191,7 +221,8 @@ static void samples(void) {
     same("its bytes", memcmp(out, "\xFF\xD8\xFF", 3), 0);
     same("sample into nothing", (long)infer_sample(jpeg(), NULL, 0), 3);
     same("sample of row -1", (long)infer_sample(-1, out, sizeof out), 0);
-    same("sample of no row", (long)infer_sample(last() + 1, out, sizeof out), 0);
+    same("sample of a further row", (long)infer_sample(last() + 1, out, sizeof out), 0);
+    same("sample of no row", (long)infer_sample(last_of_all() + 1, out, sizeof out), 0);
 }
 
 static void questions(void) {
@@ -245,6 +276,7 @@ int main(void) {
     answers();
     verdicts();
     decided();
+    widers();
     texts();
     own_texts();
     class_names();

@@ -1,9 +1,9 @@
 -- What crosses to C: rows and classes as numbers.
-use Rattle.std.specs.Prelude.{◌≡◌, ◌≤◌, ◌⊎◌, ℕ, ℤ, pos, negsuc, List, Option, None, Some, codes, option_map}
+use Rattle.std.specs.Prelude.{◌≡◌, ◌≤◌, ◌⊎◌, ℕ, ℤ, pos, negsuc, List, Option, None, Some, codes}
 use Rattle.std.specs.List.{HoldsAt, slice_get}
 use Rattle.infer.specs.Decided.{MayAccept}
 use Rattle.infer.specs.First.{IsFirst}
-use Rattle.infer.specs.Row.{Accepts, shows}
+use Rattle.infer.specs.Row.{Accepts}
 use Rattle.infer.specs.Samples.{sample_of}
 use Rattle.infer.specs.Table.{table}
 use Rattle.infer.specs.Triple.{Triple}
@@ -11,23 +11,25 @@ use Rattle.infer.specs.Walks.{RowHas}
 use Rattle.infer.specs.declared.table.file_type.MatcherType.{MatcherType}
 use Rattle.infer.specs.declared.table.file_type.MatcherType.TheVariants.{App, Archive, Audio, Book, Doc, Font, Image, Text, Video, Custom}
 use Rattle.infer.specs.declared.table.rows.TheConstants.{DLL, EPUB_ARCHIVE, ROW_COUNT}
+use Rattle.infer_more.specs.Wider as wider
+use Rattle.infer_more.specs.Wider.{shown}
 
 -- the number of a row, and -1 for none
 abbrev pub row_code : Option ℕ → ℤ
 row_code (Some i) = pos i
 row_code None = negsuc 0
 
--- the triple of the row with this number, if there is one
+-- the triple of the row with this number, built-in or further, if there is one
 abbrev pub triple_at : ℤ → Option Triple
-triple_at (pos i) = option_map shows (slice_get table i)
+triple_at (pos i) = slice_get shown i
 triple_at (negsuc i) = None
 
--- there is a row with this number, and it accepts the buffer
+-- there is a row with this number, built-in or further, and its signature accepts the buffer
 abbrev pub AcceptsAt : List ℕ → ℤ → Type 0
-AcceptsAt b (pos i) = RowHas (Accepts b) i
+AcceptsAt b (pos i) = wider.AcceptsAt b i
 AcceptsAt b (negsuc i) = ⊥
 
--- there is a row with this number, and some bytes after the buffer make it accept
+-- there is a built-in row with this number, and some bytes after the buffer make it accept
 abbrev pub MayAcceptAt : List ℕ → ℤ → Type 0
 MayAcceptAt b (pos i) = RowHas (MayAccept b) i
 MayAcceptAt b (negsuc i) = ⊥

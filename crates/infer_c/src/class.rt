@@ -1,7 +1,7 @@
 //! Classes as numbers and as texts.
 ghost use Rattle.std.specs.Prelude.{◌≡◌};
 ghost use Rattle.infer_c.specs.Codes.{IsClassOf, class_code, class_name};
-ghost use Rattle.infer_c.specs.Ended.{ended};
+ghost use Rattle.infer_more.specs.Ended.{ended};
 
 use infer::MatcherType;
 

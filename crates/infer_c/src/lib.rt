@@ -16,7 +16,8 @@ ghost use Rattle.infer.specs.declared.ask.question.Wanted.TheVariants.{Every};
 ghost use Rattle.infer.specs.declared.table.rows.TheConstants.{MOST_CANDIDATES};
 ghost use Rattle.infer_sniff.specs.Verdicts.{IsSettled, RowStaysFinal};
 ghost use Rattle.infer_c.specs.Codes.{AcceptsAt, IsClassOf, IsSampleOf, MayAcceptAt, class_code, class_name, row_code, triple_at};
-ghost use Rattle.infer_c.specs.Ended.{ended};
+ghost use Rattle.infer_more.specs.Ended.{ended};
+ghost use Rattle.infer_more.specs.Wider.{IsWider, shown};
 ghost use Rattle.infer_c.specs.Written.{WritesText, WritesWhole};
 
 mod class;
@@ -70,12 +71,12 @@ pub extern "C" fn infer_position_counted(buf: &[u8], asked: &mut u32) -> i32
     }
 }
 
-/// Whether there is a row with this number, and it accepts `buf`.
+/// Whether there is a row with this number, built-in or further, and its signature accepts `buf`.
 #[unsafe(no_mangle)]
 pub extern "C" fn infer_accepts(buf: &[u8], row: i32) -> bool
     ensures { IsTrue result ↔ AcceptsAt buf.now row }
 {
-    row >= 0 && row::accepts(row as usize, buf)
+    row >= 0 && infer_more::accepts(buf, row as usize)
 }
 
 /// Whether no bytes after `buf` change the number of the first row that accepts it.
@@ -86,7 +87,7 @@ pub extern "C" fn infer_is_decided(buf: &[u8]) -> bool
     infer::is_decided(buf)
 }
 
-/// Whether there is a row with this number, and some bytes after `buf` make it accept.
+/// Whether there is a built-in row with this number, and some bytes after `buf` make it accept.
 #[unsafe(no_mangle)]
 pub extern "C" fn infer_may_become(buf: &[u8], row: i32) -> bool
     ensures { IsTrue result ↔ MayAcceptAt buf.now row }
@@ -94,13 +95,33 @@ pub extern "C" fn infer_may_become(buf: &[u8], row: i32) -> bool
     row >= 0 && infer::may_become(buf, row as usize)
 }
 
-/// The number of rows.
+/// The number of built-in rows.
 #[unsafe(no_mangle)]
 pub extern "C" fn infer_row_count() -> usize
     ensures { result ≡ length table }
 {
     infer::rows::numbers();
     infer::rows::ROW_COUNT
+}
+
+/// The number of the wider answer of `buf`, or -1.
+#[unsafe(no_mangle)]
+pub extern "C" fn infer_more_position(buf: &[u8]) -> i32
+    ensures { (wider : Option ℕ) × IsWider buf.now wider × (result ≡ row_code wider) }
+{
+    match infer_more::position(buf) {
+        Some(i) => i as i32,
+        None => -1,
+    }
+}
+
+/// The number of rows, built-in and further.
+#[unsafe(no_mangle)]
+pub extern "C" fn infer_more_row_count() -> usize
+    ensures { result ≡ length shown }
+{
+    infer_more::laws::numbers();
+    infer::rows::ROW_COUNT + infer_more::FURTHER_COUNT
 }
 
 /// The length of the row's MIME type, which is written to `out`, and 0 if there is no such row. It is at most 73.

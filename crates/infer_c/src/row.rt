@@ -1,15 +1,12 @@
 //! Rows by number.
-ghost use Rattle.std.specs.Prelude.{◌≡◌, ◌↔◌, ◌<◌, ◌≤◌, List, ℕ, Option, None, [], IsTrue, length, option_map};
+ghost use Rattle.std.specs.Prelude.{◌≡◌, ◌≤◌, List, ℕ, Option, [], length, option_map};
 ghost use Rattle.std.specs.Option.{option_map_or};
-ghost use Rattle.infer.specs.Row.{Accepts};
 ghost use Rattle.infer.specs.Triple.{triple_of};
-ghost use Rattle.infer.specs.Walks.{RowHas};
 ghost use Rattle.infer_c.specs.Codes.{IsSample, triple_at};
 ghost use Rattle.infer_c.specs.Written.{WritesWhole};
 
 use crate::written::write_whole;
-use infer::rows::{ROW_COUNT, numbers};
-use infer::{Ask, Asker, Type};
+use infer::Type;
 
 /// The type of the row with this number.
 pub fn of(row: i32) -> Option<Type>
@@ -18,19 +15,7 @@ pub fn of(row: i32) -> Option<Type>
     if row < 0 {
         return None;
     }
-    infer::row(row as usize)
-}
-
-/// Whether there is a row `i`, and it accepts `buf`.
-pub fn accepts(i: usize, buf: &[u8]) -> bool
-    ensures { IsTrue result ↔ RowHas (Accepts buf.now) i }
-{
-    numbers();
-    if i >= ROW_COUNT {
-        return false;
-    }
-    let mut asker = Asker::new(buf);
-    asker.ask(i)
+    infer_more::row(row as usize)
 }
 
 /// The length of the sample of row `i`, which is written to `out` if it fits, and 0 if it has none.

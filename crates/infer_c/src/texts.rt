@@ -3,28 +3,24 @@ ghost use Rattle.std.specs.Prelude.{◌≡◌, ◌<◌, Some, [], length, map, o
 ghost use Rattle.std.specs.Option.{option_map_or};
 ghost use Rattle.infer.specs.Table.{table};
 ghost use Rattle.infer.specs.declared.table.rows.TheConstants.{ROW_COUNT};
+ghost use Rattle.infer_more.specs.Ended.{ended, ended_listed, ended_shown};
+ghost use Rattle.infer_more.specs.Wider.{shown};
 ghost use Rattle.infer_c.specs.Codes.{triple_at};
-ghost use Rattle.infer_c.specs.Ended.{ended, pair_listed, pair_shown};
 
-use infer::rows::{ROW_COUNT, numbers};
-
-/// The two texts of a row, each with its zero.
-pub struct Pair {
-    pub mime_type: &'static str,
-    pub extension: &'static str,
-}
+use infer::rows::ROW_COUNT;
+use infer_more::{EndedTexts, ended_texts, laws};
 
 macro_rules! pairs {
     ($($mime_type:literal $extension:literal;)*) => {
-        [$(Pair {
+        [$(EndedTexts {
             mime_type: concat!($mime_type, "\0"),
             extension: concat!($extension, "\0"),
         }),*]
     };
 }
 
-/// Those of the rows, in order. The check compares them with the table.
-static PAIRS: [Pair; ROW_COUNT] = pairs! {
+/// Those of the built-in rows, in order. The check compares them with the table.
+static PAIRS: [EndedTexts; ROW_COUNT] = pairs! {
     "application/wasm" "wasm";
     "application/x-executable" "elf";
     "application/vnd.microsoft.portable-executable" "exe";
@@ -125,34 +121,41 @@ static PAIRS: [Pair; ROW_COUNT] = pairs! {
     "text/x-shellscript" "sh";
 };
 
-static NONE: Pair = Pair {
+static NONE: EndedTexts = EndedTexts {
     mime_type: "\0",
     extension: "\0",
 };
 
-fn pairs() -> &'static [Pair]
-    ensures listed { map pair_listed result.now ≡ map pair_shown table }
+fn pairs() -> &'static [EndedTexts]
+    ensures listed { map ended_listed result.now ≡ map (λ r. ended_shown r.shows) table }
     ensures many { length result.now ≡ ROW_COUNT }
 {
     &PAIRS
 }
 
-/// Those of row `i`.
-fn at(i: usize) -> &'static Pair
+/// Those of built-in row `i`.
+fn at(i: usize) -> &'static EndedTexts
     requires { i < ROW_COUNT }
-    ensures { option_map pair_shown (slice_get table i) ≡ Some (pair_listed result.now) }
+    ensures { option_map ended_shown (slice_get shown i) ≡ Some (ended_listed result.now) }
 {
+    laws::numbers();
     &pairs()[i]
 }
 
 /// Those of the row with this number, which are empty if there is no such row.
-pub fn of(row: i32) -> &'static Pair
+pub fn of(row: i32) -> &'static EndedTexts
     ensures mime_type { result.now.mime_type.now ≡ ended (option_map_or (λ t. t.mime_type) (triple_at row) []) }
     ensures extension { result.now.extension.now ≡ ended (option_map_or (λ t. t.extension) (triple_at row) []) }
 {
-    numbers();
-    if row < 0 || row as usize >= ROW_COUNT {
+    if row < 0 {
         return &NONE;
     }
-    at(row as usize)
+    let i = row as usize;
+    if i < ROW_COUNT {
+        return at(i);
+    }
+    match ended_texts(i) {
+        Some(texts) => texts,
+        None => &NONE,
+    }
 }
