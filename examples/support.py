@@ -158,8 +158,8 @@ class Vector(NamedTuple):
     data: bytes
 
 
-def _lines_of(name: str) -> list[list[str]]:
-    with open(f"{ROOT}/crates/test_vectors/data/{name}", encoding="ascii") as lines:
+def _lines_of(name: str, crate: str = "test_vectors") -> list[list[str]]:
+    with open(f"{ROOT}/crates/{crate}/data/{name}", encoding="utf-8") as lines:
         return [line.rstrip("\n").split("\t") for line in lines]
 
 
@@ -177,6 +177,17 @@ def vectors() -> list[Vector]:
     """Buffers, and the row of each answer or None, by the test data."""
     named = {f"{row.group}/{row.extension}": row for row in rows()}
     return [Vector(name, None if row == "-" else named[row], decode(data)) for name, _, row, data in _lines_of("vectors.tsv")]
+
+
+def further_rows() -> list[Row]:
+    """The further rows by their test data."""
+    return [Row(*words[:3]) for words in _lines_of("rows.tsv", "test_more")]
+
+
+def further_vectors() -> list[tuple[str, bytes, int | None, str]]:
+    """Buffers: the name, the bytes, the number of the further row that is the wider answer or None, and what the wider
+    answer shows, its MIME type and its extension or "unknown"."""
+    return [(name, decode(data), None if row == "-" else int(row), shown) for name, data, row, shown in _lines_of("vectors.tsv", "test_more")]
 
 
 def command_in(readme: str, begins: str) -> str:

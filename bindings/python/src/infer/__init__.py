@@ -59,11 +59,11 @@ class Type:
 
     def match(self, buf: bytes) -> bool:
         """Whether the type accepts the first bytes. It need not be the answer of `guess`."""
-        row = _row_of.get(self._values)
-        if row is None:
+        rows = _rows_of.get(self._values)
+        if rows is None:
             raise NotImplementedError(f"{self!r} is no type of the library, so its class has to say what `match` answers")
         front = get_bytes(buf)
-        return _library.accepts(front, len(front), row)
+        return any(_library.accepts(front, len(front), row) for row in rows)
 
     def __iter__(self) -> Iterator[str]:
         return iter(self._values)
@@ -80,10 +80,15 @@ class Type:
 
 version: str
 """The version of the library."""
-_texts, version = _library.texts()
+_texts, _built_in, version = _library.texts()
 __version__ = version
-_rows = tuple(Type(*texts) for texts in _texts)
-_row_of = {tuple(kind): row for row, kind in enumerate(_rows)}
+_all_rows = tuple(Type(*texts) for texts in _texts)
+_rows = _all_rows[:_built_in]
+_rows_of = {tuple(kind): [row] for row, kind in enumerate(_rows)}
+# Several further rows can show the same. One that shows what a built-in row does is not asked by `match`.
+for _row, _kind in enumerate(_all_rows[_built_in:], _built_in):
+    if _kind not in _rows:
+        _rows_of.setdefault(tuple(_kind), []).append(_row)
 types: list[Type] = list(_rows)
 """All types, in the order in which they are asked. `guess` asks those that stand before the library's own too."""
 TYPES = types
@@ -129,24 +134,24 @@ def signature(array: Union[bytes, bytearray, memoryview]) -> bytes:
     return get_bytes(array)
 
 
-def guess(obj: Source) -> Type | None:
-    """The type of the first bytes, or None."""
+def guess(obj: Source, more: bool = False) -> Type | None:
+    """The type of the first bytes, or None. With `more` it is the wider answer, which can be a type beyond `types`."""
     front = get_bytes(obj)
     if types[0] is not _rows[0] and (kind := next(_accepting(front), None)):
         return kind
-    row = _library.position(front, len(front))
-    return _rows[row] if row >= 0 else None
+    row = _library.more_position(front, len(front)) if more else _library.position(front, len(front))
+    return _all_rows[row] if row >= 0 else None
 
 
-def guess_mime(obj: Source) -> str | None:
-    """The MIME type of the first bytes, or None."""
-    kind = guess(obj)
+def guess_mime(obj: Source, more: bool = False) -> str | None:
+    """The MIME type of what `guess` answers, or None."""
+    kind = guess(obj, more)
     return kind.mime if kind else None
 
 
-def guess_extension(obj: Source) -> str | None:
-    """The usual extension of the type of the first bytes, or None."""
-    kind = guess(obj)
+def guess_extension(obj: Source, more: bool = False) -> str | None:
+    """The usual extension of what `guess` answers, or None."""
+    kind = guess(obj, more)
     return kind.extension if kind else None
 
 

@@ -32,6 +32,7 @@ _Ask = Callable[[bytes, int], bool]
 _AskByText = Callable[[bytes, int, bytes, int], bool]
 
 position: Callable[[bytes, int], int] = _declare("infer_position", _ROW, _BUFFER, _SIZE)
+more_position: Callable[[bytes, int], int] = _declare("infer_more_position", _ROW, _BUFFER, _SIZE)
 accepts: Callable[[bytes, int, int], bool] = _declare("infer_accepts", ctypes.c_bool, _BUFFER, _SIZE, _ROW)
 is_: _AskByText = _declare("infer_is", ctypes.c_bool, _BUFFER, _SIZE, _BUFFER, _SIZE)
 is_mime: _AskByText = _declare("infer_is_mime", ctypes.c_bool, _BUFFER, _SIZE, _BUFFER, _SIZE)
@@ -50,19 +51,19 @@ def verdict(front: bytes) -> tuple[int, bool]:
     return _verdict(front, len(front), ctypes.byref(is_final)), is_final.value
 
 
-def texts() -> tuple[list[tuple[str, str, str]], str]:
-    """The MIME type, the extension and the class of each row, and the version."""
+def texts() -> tuple[list[tuple[str, str, str]], int, str]:
+    """The MIME type, the extension and the class of each row, how many of the rows are built-in, and the version."""
     out = ctypes.create_string_buffer(256)
     mime_type, extension, class_name = (
         _declare(name, _SIZE, _ROW, ctypes.c_char_p, _SIZE) for name in ["infer_mime_type", "infer_extension", "infer_class_name"]
     )
     class_code = _declare("infer_class", ctypes.c_int32, _ROW)
-    row_count = _declare("infer_row_count", _SIZE)
+    built_in, count = _declare("infer_row_count", _SIZE)(), _declare("infer_more_row_count", _SIZE)()
 
     def text(function: Callable[..., int], *words: int) -> str:
         size = function(*words, out, len(out))
         assert size < len(out)
         return out.raw[:size].decode("ascii")
 
-    rows = [(text(mime_type, row), text(extension, row), text(class_name, class_code(row))) for row in range(row_count())]
-    return rows, text(_declare("infer_version", _SIZE, ctypes.c_char_p, _SIZE))
+    rows = [(text(mime_type, row), text(extension, row), text(class_name, class_code(row))) for row in range(count)]
+    return rows, built_in, text(_declare("infer_version", _SIZE, ctypes.c_char_p, _SIZE))
