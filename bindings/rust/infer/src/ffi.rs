@@ -14,8 +14,10 @@ mod c {
 
     unsafe extern "C" {
         pub fn infer_position(buf: *const c_void, len: usize) -> i32;
+        pub fn infer_more_position(buf: *const c_void, len: usize) -> i32;
         pub fn infer_accepts(buf: *const c_void, len: usize, row: i32) -> bool;
         pub fn infer_row_count() -> usize;
+        pub fn infer_more_row_count() -> usize;
         pub fn infer_mime_type(row: i32, out: *mut c_char, size: usize) -> usize;
         pub fn infer_extension(row: i32, out: *mut c_char, size: usize) -> usize;
         pub fn infer_class(row: i32) -> i32;
@@ -60,10 +62,16 @@ of_buffers! {
     is_coff_ia64 = infer_is_coff_ia64
 }
 
-/// The number of the first row that accepts the buffer. It is an index into [`rows`].
+/// The number of the first built-in row that accepts the buffer. It is an index into [`all_rows`], as the one below.
 pub fn position(buf: &[u8]) -> Option<usize> {
     // SAFETY: as above.
     usize::try_from(unsafe { c::infer_position(buf.as_ptr().cast(), buf.len()) }).ok()
+}
+
+/// The number of the wider answer's row.
+pub fn more_position(buf: &[u8]) -> Option<usize> {
+    // SAFETY: as above.
+    usize::try_from(unsafe { c::infer_more_position(buf.as_ptr().cast(), buf.len()) }).ok()
 }
 
 pub fn is(buf: &[u8], extension: &str) -> bool {
@@ -86,8 +94,14 @@ pub fn is_mime_supported(mime_type: &str) -> bool {
     unsafe { c::infer_is_mime_supported(mime_type.as_ptr().cast(), mime_type.len()) }
 }
 
-/// The rows, in the order in which they are asked. The first call reads them, without the standard library's locks.
+/// The built-in rows, in the order in which they are asked.
 pub fn rows() -> &'static [Type] {
+    // SAFETY: it takes nothing.
+    &all_rows()[..unsafe { c::infer_row_count() }]
+}
+
+/// The built-in rows, and then the further ones. The first call reads them, without the standard library's locks.
+pub fn all_rows() -> &'static [Type] {
     static ROWS: AtomicPtr<Vec<Type>> = AtomicPtr::new(ptr::null_mut());
     let mut rows = ROWS.load(Ordering::Acquire);
     if rows.is_null() {
@@ -104,7 +118,7 @@ pub fn rows() -> &'static [Type] {
 
 fn read_rows() -> Vec<Type> {
     // SAFETY: it takes nothing.
-    let count = unsafe { c::infer_row_count() };
+    let count = unsafe { c::infer_more_row_count() };
     (0..count as i32).map(|row| Type::of(class(row), text(c::infer_mime_type, row), text(c::infer_extension, row))).collect()
 }
 

@@ -11,6 +11,7 @@ pub mod aliases;
 mod ffi;
 mod file_type;
 mod matchers;
+pub mod more;
 #[cfg(feature = "std")]
 mod path;
 
@@ -73,7 +74,7 @@ impl Infer {
 
 /// The first type that accepts the buffer.
 pub fn get(buf: &[u8]) -> Option<Type> {
-    ffi::position(buf).map(|row| ffi::rows()[row])
+    ffi::position(buf).map(|row| ffi::all_rows()[row])
 }
 
 /// Whether some type with this extension accepts the buffer. It need not be the first.

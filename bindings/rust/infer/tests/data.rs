@@ -14,7 +14,12 @@ unsafe extern "C" {
 type Row = (String, String, String);
 
 fn lines(name: &str) -> Vec<Vec<String>> {
-    let path = Path::new(env!("CARGO_MANIFEST_DIR")).join("../../../crates/test_vectors/data").join(name);
+    lines_of("test_vectors", name)
+}
+
+/// The lines of a file in the data of that crate, as their fields.
+fn lines_of(name_of_crate: &str, name: &str) -> Vec<Vec<String>> {
+    let path = Path::new(env!("CARGO_MANIFEST_DIR")).join("../../../crates").join(name_of_crate).join("data").join(name);
     let text = fs::read_to_string(path).unwrap();
     text.lines().map(|line| line.split('\t').map(String::from).collect()).collect()
 }
@@ -95,6 +100,23 @@ fn vectors_have_their_answers() {
         let wanted = named(&rows, &line[2]);
         assert_eq!(infer::get(&decode(&line[3])).map(shown), wanted, "{}", line[0]);
         assert_eq!(infer::Infer::new().get(&decode(&line[3])).map(shown), wanted, "{}", line[0]);
+    }
+}
+
+#[test]
+fn wider_answers_are_those_of_the_data() {
+    let rows = lines_of("test_more", "rows.tsv");
+    let vectors = lines_of("test_more", "vectors.tsv");
+    assert!(vectors.len() >= 365);
+    for line in &vectors {
+        let data = decode(&line[1]);
+        let found = infer::more::get(&data);
+        let told = found.map_or("unknown".to_string(), |it| format!("{} {}", it.mime_type(), it.extension()));
+        assert_eq!(told, line[3], "{}", line[0]);
+        match line[2].parse::<usize>() {
+            Ok(row) => assert_eq!(format!("{:?}", found.unwrap().matcher_type()), rows[row][0], "{}", line[0]),
+            Err(_) => assert_eq!(found, infer::get(&data), "{}", line[0]),
+        }
     }
 }
 
