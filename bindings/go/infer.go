@@ -7,6 +7,7 @@ package infer
 
 // For an argument of the type void * Go allocates, and for one that C writes to. These have none.
 static int32_t position(const uint8_t *buf, size_t len) { return infer_position(buf, len); }
+static int32_t more_position(const uint8_t *buf, size_t len) { return infer_more_position(buf, len); }
 static int64_t verdict(const uint8_t *buf, size_t len) {
 	bool is_final;
 	int32_t row = infer_verdict(buf, len, &is_final);
@@ -62,10 +63,12 @@ type Type struct {
 	Class     Class
 }
 
-var types = rows()
+// The built-in types, and then the further ones.
+var allTypes = rows()
+var types = allTypes[:int(C.infer_row_count())]
 
 func rows() []Type {
-	all := make([]Type, int(C.infer_row_count()))
+	all := make([]Type, int(C.infer_more_row_count()))
 	var out [256]C.char
 	for i := range all {
 		row := C.int32_t(i)
@@ -88,7 +91,7 @@ func typeOf(row int) (Type, bool) {
 	if row < 0 {
 		return Type{}, false
 	}
-	return types[row], true
+	return allTypes[row], true
 }
 
 func first(b []byte) *C.uint8_t {
@@ -103,7 +106,13 @@ func Detect(b []byte) (Type, bool) {
 	return typeOf(int(C.position(first(b), C.size_t(len(b)))))
 }
 
-// Verdict tells the same, and whether it is final: no bytes that may follow can change it then.
+// DetectMore tells the type of the wider answer, which knows further types too: the first below the answer of Detect that
+// accepts the bytes, and that answer if there is none.
+func DetectMore(b []byte) (Type, bool) {
+	return typeOf(int(C.more_position(first(b), C.size_t(len(b)))))
+}
+
+// Verdict tells what Detect does, and whether it is final: no bytes that may follow can change it then.
 func Verdict(b []byte) (found Type, ok bool, final bool) {
 	both := int64(C.verdict(first(b), C.size_t(len(b))))
 	found, ok = typeOf(int(both >> 1))

@@ -22,7 +22,11 @@ var (
 )
 
 func lines(t *testing.T, name string) [][]string {
-	text, err := os.ReadFile(filepath.Join("..", "..", "crates", "test_vectors", "data", name))
+	return linesOf(t, "test_vectors", name)
+}
+
+func linesOf(t *testing.T, crate, name string) [][]string {
+	text, err := os.ReadFile(filepath.Join("..", "..", "crates", crate, "data", name))
 	if err != nil {
 		t.Fatal(err)
 	}
@@ -56,6 +60,28 @@ func decode(t *testing.T, tokens string) []byte {
 		all = append(all, bytes.Repeat(part, count)...)
 	}
 	return all
+}
+
+func TestWiderAnswers(t *testing.T) {
+	rows := linesOf(t, "test_more", "rows.tsv")
+	for _, line := range linesOf(t, "test_more", "vectors.tsv") {
+		data := decode(t, line[1])
+		got, ok := DetectMore(data)
+		told := "unknown"
+		if ok {
+			told = got.MIMEType + " " + got.Extension
+		}
+		if told != line[3] {
+			t.Error(line[0], got)
+		}
+		if row, err := strconv.Atoi(line[2]); err == nil {
+			if got.Class != Class(strings.ToLower(rows[row][0])) {
+				t.Error(line[0], got)
+			}
+		} else if other, known := Detect(data); got != other || ok != known {
+			t.Error(line[0], got, other)
+		}
+	}
 }
 
 type vector struct {
