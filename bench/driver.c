@@ -8,6 +8,7 @@ static volatile long sink;
 
 static void call(const char *what, const void *buf, size_t len) {
     if (!strcmp(what, "position")) sink = infer_position(buf, len);
+    else if (!strcmp(what, "more_position")) sink = infer_more_position(buf, len);
     else if (!strcmp(what, "is_decided")) sink = infer_is_decided(buf, len);
     else if (!strcmp(what, "is")) sink = infer_is(buf, len, "zip", 3);
     else if (!strcmp(what, "is_mime")) sink = infer_is_mime(buf, len, "application/zip", 15);
