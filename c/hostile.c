@@ -63,7 +63,7 @@ static void ask_some(void) {
     size_t len = lengths[next() % (sizeof lengths / sizeof *lengths)];
     len -= len ? next() % len % 40 : 0;
     unsigned char sample[INFER_SAMPLE_SIZE], *buf = end - len;
-    size_t known = infer_sample((int32_t)(next() % infer_row_count()), sample, sizeof sample);
+    size_t known = infer_sample((int32_t)(next() % infer_more_row_count()), sample, sizeof sample);
     int kind = (int)(next() % 3);
     for (size_t i = 0; i < len; i++)
         buf[i] = kind == 0 ? (unsigned char)next() : kind == 1 ? 0 : 0xFF;

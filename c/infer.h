@@ -118,11 +118,11 @@ void infer_find_mime_type(int32_t row, struct infer_text *out);
 void infer_find_extension(int32_t row, struct infer_text *out);
 void infer_find_class_name(int32_t class_code, struct infer_text *out);
 
-/* The length of a short buffer of which that built-in row is the answer, and 0 if it is never the answer or there is no
- * such row, and of every further row. The buffer is written to `out`, with no zero after it, if `size` bytes are room for
- * all of it, and otherwise nothing is written. INFER_SAMPLE_SIZE bytes are always enough, and with `size` 0 `out` may be
+/* The length of a short buffer of which the row is the answer, or a further row the wider answer, and 0 if it is never
+ * that or there is no such row. The buffer is written to `out`, with no zero after it, if `size` bytes are room for all
+ * of it, and otherwise nothing is written. INFER_SAMPLE_SIZE bytes are always enough, and with `size` 0 `out` may be
  * null. */
-#define INFER_SAMPLE_SIZE 640
+#define INFER_SAMPLE_SIZE 1088
 size_t infer_sample(int32_t row, void *out, size_t size);
 
 /* Whether some built-in row with this extension or MIME type accepts the buffer. It need not be the answer. */

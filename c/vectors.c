@@ -56,8 +56,27 @@ static void compare_row(char *fields[], int32_t place) {
     wants(strcmp(infer_extension_text(row), fields[2]) == 0, fields[2]);
 }
 
-/* The wider answer of the buffer: its further row, if it has one, and what it shows. */
-static void compare_vector(char *fields[]) {
+/* The shortest buffer of a row's first alternative, or of its only one, is its sample. Whether this is one. */
+static bool compare_sample(const char *name, const unsigned char *buf, size_t len) {
+    unsigned char sample[INFER_SAMPLE_SIZE];
+    char *end;
+    int32_t row = further((int32_t)strtol(name, &end, 10));
+    if (strcmp(end, ", shortest") != 0 && strcmp(end, ", shortest of alternative 1") != 0) return false;
+    wants(infer_sample(row, sample, sizeof sample) == len && memcmp(sample, buf, len) == 0, name);
+    return true;
+}
+
+/* How many further rows have a sample. */
+static int32_t count_samples(void) {
+    int32_t count = 0;
+    for (int32_t row = further(0); row < (int32_t)infer_more_row_count(); row++)
+        count += infer_sample(row, NULL, 0) != 0;
+    return count;
+}
+
+/* The wider answer of the buffer: its further row, if it has one, and what it shows. Whether the buffer is a
+ * sample. */
+static bool compare_vector(char *fields[]) {
     static unsigned char buf[ROOM];
     char shown[2 * INFER_TEXT_SIZE] = "unknown";
     size_t len = decode(fields[1], buf);
@@ -69,6 +88,7 @@ static void compare_vector(char *fields[]) {
     else
         wants(row == further((int32_t)strtol(fields[2], NULL, 10)), fields[0]);
     wants(strcmp(shown, fields[3]) == 0, fields[0]);
+    return compare_sample(fields[0], buf, len);
 }
 
 static FILE *opened(const char *path) {
@@ -83,7 +103,7 @@ static FILE *opened(const char *path) {
 int main(int argc, char **argv) {
     static char line[ROOM];
     char *fields[5];
-    int32_t rows = 0;
+    int32_t rows = 0, sampled = 0;
     if (argc != 3) return fputs("usage: vectors ROWS VECTORS\n", stderr), 2;
     FILE *told = opened(argv[1]), *asked = opened(argv[2]);
     for (; fgets(line, sizeof line, told); rows++) {
@@ -93,8 +113,9 @@ int main(int argc, char **argv) {
     wants(further(rows) == (int32_t)infer_more_row_count(), "the number of rows");
     while (fgets(line, sizeof line, asked)) {
         wants(split(line, fields, 5) == 4, line);
-        compare_vector(fields);
+        sampled += compare_vector(fields);
     }
+    wants(count_samples() == sampled, "the number of samples");
     fclose(told);
     fclose(asked);
     printf("%d answers compared with the further rows' data, %d differ\n", compared, differing);

@@ -1,5 +1,5 @@
 -- No MIME type of a row, built-in or further, is longer than 73 bytes.
-use Rattle.std.proofs.Common.{◌≡◌, ◌≤◌, zero-le, ℕ, ℤ, pos, negsuc, Bool, List, [], ◌∷◌, zero, suc, Option, None, Some, leb, length, IsTrue, refl, arith}
+use Rattle.std.proofs.Common.{◌≤◌, zero-le, ℕ, ℤ, pos, negsuc, Bool, List, [], ◌∷◌, zero, suc, leb, length, IsTrue, refl, arith}
 use Rattle.std.specs.List.{list_all, slice_get}
 use Rattle.std.specs.Option.{option_map_or}
 use Rattle.std.proofs.lemmas.Bool.{and_parts}

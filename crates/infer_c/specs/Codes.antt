@@ -1,16 +1,13 @@
 -- What crosses to C: rows and classes as numbers.
-use Rattle.std.specs.Prelude.{◌≡◌, ◌≤◌, ◌⊎◌, ℕ, ℤ, pos, negsuc, List, Option, None, Some, codes}
-use Rattle.std.specs.List.{HoldsAt, slice_get}
+use Rattle.std.specs.Prelude.{◌≡◌, ◌⊎◌, ℕ, ℤ, pos, negsuc, List, Option, None, Some, codes}
+use Rattle.std.specs.List.{slice_get}
 use Rattle.infer.specs.Decided.{MayAccept}
-use Rattle.infer.specs.First.{IsFirst}
-use Rattle.infer.specs.Row.{Accepts}
-use Rattle.infer.specs.Samples.{sample_of}
-use Rattle.infer.specs.Table.{table}
 use Rattle.infer.specs.Triple.{Triple}
 use Rattle.infer.specs.Walks.{RowHas}
 use Rattle.infer.specs.declared.table.file_type.MatcherType.{MatcherType}
 use Rattle.infer.specs.declared.table.file_type.MatcherType.TheVariants.{App, Archive, Audio, Book, Doc, Font, Image, Text, Video, Custom}
-use Rattle.infer.specs.declared.table.rows.TheConstants.{DLL, EPUB_ARCHIVE, ROW_COUNT}
+use Rattle.infer.specs.declared.table.rows.TheConstants.{DLL, EPUB_ARCHIVE}
+use Rattle.infer_more.specs.Samples.{HasAnswer, sample_at}
 use Rattle.infer_more.specs.Wider as wider
 use Rattle.infer_more.specs.Wider.{shown}
 
@@ -34,10 +31,10 @@ abbrev pub MayAcceptAt : List ℕ → ℤ → Type 0
 MayAcceptAt b (pos i) = RowHas (MayAccept b) i
 MayAcceptAt b (negsuc i) = ⊥
 
--- the sample of row i, and none if there is no such row or it is first for no buffer
+-- the sample of row i, built-in or further, and none if it is no answer of any buffer
 abbrev pub IsSample : ℕ → Option (List ℕ) → Type 0
-IsSample i (Some sample) = HoldsAt (λ r. sample ≡ sample_of r.signature) table i × IsFirst (Accepts sample) table i
-IsSample i None = (i ≡ DLL) ⊎ (i ≡ EPUB_ARCHIVE) ⊎ (ROW_COUNT ≤ i)
+IsSample i (Some sample) = (sample_at i ≡ Some sample) × HasAnswer i sample
+IsSample i None = (i ≡ DLL) ⊎ (i ≡ EPUB_ARCHIVE) ⊎ ((b : List ℕ) → ¬ wider.AcceptsAt b i)
 
 -- the sample of the row with this number, and none if it is no number of a row
 abbrev pub IsSampleOf : ℤ → Option (List ℕ) → Type 0

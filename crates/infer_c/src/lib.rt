@@ -201,13 +201,13 @@ pub extern "C" fn infer_find_class_name(class: i32, out: &mut &'static [u8])
     };
 }
 
-/// The length of the row's sample, which is written to `out` if it fits, and 0 if the row has none. It is at most 640.
+/// The length of the row's sample, which is written to `out` if it fits, and 0 if the row has none. It is at most 1088.
 #[unsafe(no_mangle)]
 pub extern "C" fn infer_sample(row: i32, out: &mut [u8]) -> usize
     ensures sample { (sample : Option (List ℕ)) × IsSampleOf row sample
         × (result ≡ option_map_or (λ s. length s) sample 0)
         × WritesWhole (option_map_or (λ s. s) sample []) out.old out.new }
-    ensures few { result ≤ 640 }
+    ensures few { result ≤ 1088 }
 {
     if row < 0 {
         return 0;

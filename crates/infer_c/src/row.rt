@@ -7,6 +7,7 @@ ghost use Rattle.infer_c.specs.Written.{WritesWhole};
 
 use crate::written::write_whole;
 use infer::Type;
+use infer_more::SAMPLE_SIZE;
 
 /// The type of the row with this number.
 pub fn of(row: i32) -> Option<Type>
@@ -18,15 +19,15 @@ pub fn of(row: i32) -> Option<Type>
     infer_more::row(row as usize)
 }
 
-/// The length of the sample of row `i`, which is written to `out` if it fits, and 0 if it has none.
+/// The length of the sample of row `i`, built-in or further, which is written to `out` if it fits, and 0 if it has none.
 pub fn write_sample(i: usize, out: &mut [u8]) -> usize
     ensures sample { (sample : Option (List ℕ)) × IsSample i sample
         × (result ≡ option_map_or (λ s. length s) sample 0)
         × WritesWhole (option_map_or (λ s. s) sample []) out.old out.new }
-    ensures few { result ≤ 640 }
+    ensures few { result ≤ 1088 }
 {
-    let mut bytes = [0; 640];
-    match infer::sample(i, &mut bytes) {
+    let mut bytes = [0; SAMPLE_SIZE];
+    match infer_more::sample(i, &mut bytes) {
         Some(count) => write_whole(&bytes[..count], out),
         None => 0,
     }

@@ -1,17 +1,22 @@
-use Rattle.std.proofs.Common.{◌≡◌, ℕ, List, Some, length, take, ◌++◌, ◌-◌, ap, ◌∙◌}
+use Rattle.std.proofs.Common.{◌≡◌, ℕ, List, Option, None, Some, length, option_map, take, ◌++◌, ◌-◌, ap, sym, ◌∙◌}
 use Rattle.std.proofs.Math.Seq.{take-append_seam}
 use Rattle.infer.specs.Samples.{zeros}
+use Rattle.infer_more.specs.Samples.{written}
+use Rattle.infer_more.specs.declared.samples.TheConstants.{SAMPLE_SIZE}
 use Rattle.infer_c.proofs.row.write_sample.Goals as goal
 
-taken : (n : ℕ) (buf sample : List ℕ) → n ≡ length sample → buf ≡ sample ++ zeros (640 - n) → take n buf ≡ sample
-taken n buf sample l e =
-    ap (λ b. take n b) e ∙ ap (λ k. take k (sample ++ zeros (640 - n))) l ∙ take-append_seam sample (zeros (640 - n))
+-- what is written, as long as the sample is, is the sample
+taken : (sample : Option (List ℕ)) (n : ℕ) (old new : List ℕ) → Some n ≡ option_map length sample → new ≡ written sample old → sample ≡ Some (take n new)
+taken None n old new counted e = absurd (cc)
+taken (Some s) n old new counted e =
+    let l : n ≡ length s = cc in
+    ap Some (sym (ap (take n) e ∙ ap (λ k. take k (s ++ zeros (SAMPLE_SIZE - length s))) l ∙ take-append_seam s (zeros (SAMPLE_SIZE - length s))))
 
 pub returns-in-Some-clause-sample : goal.returns-in-Some-clause-sample
 returns-in-Some-clause-sample c =
     let sample = take c.in-Some.count c.sample.new.out in (
       Some sample,
-      (λ d. let held = c.in-Some.ensures.holds d in taken c.in-Some.count c.sample.new.out _ held.0 held.1, c.in-Some.ensures.first),
+      (taken _ c.in-Some.count _ _ c.in-Some.ensures.counted c.in-Some.ensures.written, c.in-Some.ensures.answers),
       c.write_whole.ensures.length,
       c.write_whole.ensures.written,
     )
