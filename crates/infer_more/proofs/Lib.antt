@@ -6,6 +6,7 @@ pub mod TableLemmas
 pub mod ShownLemmas
 pub mod RowLemmas
 pub mod LawLemmas
+pub mod BelowLemmas
 pub mod RefusalLemmas
 pub mod SampleLemmas
 pub mod WrittenLemmas

@@ -1,18 +1,18 @@
 -- Laws of further rows and of the wider answer.
-use Rattle.std.specs.Prelude.{◌≡◌, ◌<◌, ℕ, Bool, IsTrue, List, ◌++◌, Option, All, not, option_map, slice_get}
+use Rattle.std.specs.Prelude.{◌≡◌, ◌<◌, ℕ, Bool, IsTrue, List, ◌++◌, Option, None, Some, All, if◌then◌else◌, nat_lt, not, option_map, slice_get}
 use Rattle.std.specs.List.{list_all, list_any}
 use Rattle.infer_sig.specs.Laws.{Lasts}
 use Rattle.infer_sig.specs.Signature.{Alternative, at_least, Part, text, any_text, byte, accepts}
 use Rattle.infer.specs.First.{IsFirstOf, NoneHas}
 use Rattle.infer.specs.Laws.{IsNotLater}
 use Rattle.infer.specs.Leads.{is_white}
-use Rattle.infer.specs.Row.{shows}
+use Rattle.infer.specs.Row.{Accepts, shows}
 use Rattle.infer.specs.Table as built_in
 use Rattle.infer.specs.declared.table.rows.TheConstants.{ROW_COUNT}
 use Rattle.infer_more.specs.Index.{is_settled}
 use Rattle.infer_more.specs.Row.{Further}
 use Rattle.infer_more.specs.Table.{further}
-use Rattle.infer_more.specs.Wider.{Widens, shown}
+use Rattle.infer_more.specs.Wider.{IsWider, Widens, parent_at, shown}
 
 -- what the signature of a further row accepts, it accepts however the buffer goes on
 abbrev pub AllLast : Type 0
@@ -44,3 +44,12 @@ is_dark r = list_all is_dark_alternative r.signature
 -- what a built-in row shows is what the row of that number shows among all
 abbrev pub ShowsBuiltIn : Type 0
 ShowsBuiltIn = (i : ℕ) → i < ROW_COUNT → slice_get shown i ≡ option_map shows (slice_get built_in.table i)
+
+-- the number of the built-in answer, by that of the wider answer: a further row's parent, and otherwise the same
+abbrev pub built_in_by : Option ℕ → Option ℕ
+built_in_by None = None
+built_in_by (Some i) = if nat_lt i ROW_COUNT then Some i else parent_at i
+
+-- the wider answer alone tells the built-in one
+abbrev pub AllAreBelow : Type 0
+AllAreBelow = (b : List ℕ) (o : Option ℕ) → IsWider b o → IsFirstOf (Accepts b) built_in.table (built_in_by o)

@@ -3,7 +3,7 @@
 ghost use Rattle.std.specs.Prelude.{◌≡◌, ◌+◌, IsTrue, length};
 ghost use Rattle.std.specs.List.{list_all};
 ghost use Rattle.infer.specs.declared.table.rows.TheConstants.{ROW_COUNT};
-ghost use Rattle.infer_more.specs.Laws.{AllLast, IsSteady, NoneIsBlank, ShowsBuiltIn};
+ghost use Rattle.infer_more.specs.Laws.{AllAreBelow, AllLast, IsSteady, NoneIsBlank, ShowsBuiltIn};
 ghost use Rattle.infer_more.specs.Samples.{AllReach, has_room};
 ghost use Rattle.infer_more.specs.Table.{further};
 ghost use Rattle.infer_more.specs.Wider.{shown};
@@ -29,6 +29,12 @@ pub fn blank()
 {
     infer_sig::laws::by_place();
 }
+
+/// The wider answer contradicts no built-in one: if it is a further row, the built-in answer is that row's parent, and
+/// none if it has no parent. Otherwise both are the same.
+pub fn below()
+    ensures { AllAreBelow }
+{}
 
 /// Every further row that accepts anything is the wider answer of some buffer: of its sample.
 pub fn reach()

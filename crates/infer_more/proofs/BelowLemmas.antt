@@ -1,0 +1,49 @@
+-- What the wider answer says of the built-in one.
+use Rattle.std.proofs.Common.{◌≡◌, ◌≤◌, ◌<◌, ◌+◌, ◌-◌, ℕ, false, inl, inr, List, Option, None, Some, ap, length, nat_lt, slice_get, subst, sym, ◌∙◌, arith, refl}
+use Rattle.std.specs.Prelude.{if◌then◌else◌}
+use Rattle.std.specs.Option.{option_map_or}
+use Rattle.std.proofs.lemmas.Bool.{lt-ltb}
+use Rattle.std.proofs.lemmas.Bool.Decides.{nat_tests}
+use Rattle.std.proofs.lemmas.Option.{slice_get_cases}
+use Rattle.infer.specs.First.{IsFirst, IsFirstOf}
+use Rattle.infer.specs.Row.{Accepts}
+use Rattle.infer.specs.Table as built_in
+use Rattle.infer.specs.declared.table.rows.TheConstants.{ROW_COUNT}
+use Rattle.infer.proofs.TableLemmas.{length-table}
+use Rattle.infer_more.specs.Laws.{AllAreBelow, built_in_by}
+use Rattle.infer_more.specs.Row.{Further}
+use Rattle.infer_more.specs.Table.{further}
+use Rattle.infer_more.specs.Wider.{Widens, parent_at, wider}
+
+not_less : (m n : ℕ) → n ≤ m → nat_lt m n ≡ false
+not_less m n le = grind (arith, nat_tests)
+
+-- the row's parent is that of the row with its number
+parent_read : (parent : Option ℕ) (b : List ℕ) (j : ℕ) → IsFirst (Widens parent b) further j → parent_at (ROW_COUNT + j) ≡ parent
+parent_read parent b j h =
+    let there : nat_lt (ROW_COUNT + j) ROW_COUNT ≡ false = not_less (ROW_COUNT + j) ROW_COUNT (omega arith) in
+    let place : ROW_COUNT + j - ROW_COUNT ≡ j = omega arith in
+    let within : j < length further = h.within in
+    elim (slice_get_cases further j).1 [
+      | inl (r, lt, found, same) ↦
+          ap (λ t. if t then None else option_map_or (λ (r : Further). r.parent) (slice_get further (ROW_COUNT + j - ROW_COUNT)) None) there
+          ∙ ap (λ k. option_map_or (λ (r : Further). r.parent) (slice_get further k) None) place
+          ∙ ap (λ o. option_map_or (λ (r : Further). r.parent) o None) found
+          ∙ ap (λ (x : Further). x.parent) (sym same) ∙ (h.here r).0
+      | inr (past, none) ↦ absurd (omega arith)
+    ]
+
+told : (b : List ℕ) (parent found : Option ℕ) → IsFirstOf (Accepts b) built_in.table parent → IsFirstOf (Widens parent b) further found
+    → built_in_by (wider parent found) ≡ parent
+told b None None answers widens = refl
+told b (Some i) None answers widens =
+    let within : i < length built_in.table = answers.within in
+    let many = length-table in
+    ap (λ t. if t then Some i else parent_at i) (lt-ltb i ROW_COUNT (omega arith))
+told b parent (Some j) answers widens =
+    ap (λ t. if t then Some (ROW_COUNT + j) else parent_at (ROW_COUNT + j)) (not_less (ROW_COUNT + j) ROW_COUNT (omega arith))
+    ∙ parent_read parent b j widens
+
+pub all_below : AllAreBelow
+all_below b o w =
+    subst (IsFirstOf (Accepts b) built_in.table) (sym (ap built_in_by w.is ∙ told b w.parent w.found w.answers w.widens)) w.answers
