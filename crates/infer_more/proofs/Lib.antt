@@ -10,3 +10,4 @@ pub mod BelowLemmas
 pub mod RefusalLemmas
 pub mod SampleLemmas
 pub mod WrittenLemmas
+pub mod AddedLemmas

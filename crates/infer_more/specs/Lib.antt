@@ -3,6 +3,7 @@ pub mod Table
 pub mod Ended
 pub mod Listed
 pub mod Wider
+pub mod Added
 pub mod Index
 pub mod Reading
 pub mod Laws

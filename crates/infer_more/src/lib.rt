@@ -8,19 +8,22 @@
 //! The numbers of the further rows go on from the built-in ones: the first has the number `ROW_COUNT`.
 //!
 //! Each module uses only those before it: `signature`, one function that decides any fixed signature; `table`, the rows;
-//! `index`, which rows are asked; `answers`, what they answer; `read`, the front of a file or of a reader; `laws`,
+//! `index`, which rows are asked; `answers`, what they answer; `added`, the rows of a caller; `read`, the front of a file or of a reader; `laws`,
 //! facts about all of these; `samples`.
 #![tactic(auto)]
 
 ghost use Rattle.std.specs.Prelude.{◌≡◌, ◌+◌, ◌<◌, ◌≤◌, ◌↔◌, IfSome, IsTrue, None, option_map, slice_get};
+ghost use Rattle.infer.specs.Rows.{custom_rows};
 ghost use Rattle.infer.specs.Triple.{triple_of};
 ghost use Rattle.infer.specs.Watched.{fault_of};
 ghost use Rattle.infer.specs.declared.table.rows.TheConstants.{ROW_COUNT};
+ghost use Rattle.infer_more.specs.Added.{IsAnswerWith};
 ghost use Rattle.infer_more.specs.Ended.{ended_listed, ended_shown};
 ghost use Rattle.infer_more.specs.Reading.{AnswersReader, AnswersSome};
 ghost use Rattle.infer_more.specs.Wider.{AcceptsAt, IsWider, IsWiderAnswer, ShowsExtension, ShowsMimeType, parent_at, shown};
 ghost use Rattle.infer_more.specs.declared.table.names.TheConstants.{FURTHER_COUNT};
 
+mod added;
 mod answers;
 mod index;
 pub mod laws;
@@ -29,7 +32,7 @@ mod samples;
 mod signature;
 mod table;
 
-use infer::{FRONT, Fault, Type, Watched};
+use infer::{FRONT, Fault, Infer, Type, Watched};
 pub use samples::{SAMPLE_SIZE, sample};
 use std::alloc::Allocator;
 use std::io::Read;
@@ -41,6 +44,13 @@ pub fn get(buf: &[u8]) -> Option<Type>
     ensures { IsWiderAnswer buf.now (option_map triple_of result) }
 {
     answers::get(buf)
+}
+
+/// The type of the first row that was added to `infer` and accepts `buf`, or of the wider answer of `buf` if none does.
+pub fn get_with<A: Allocator>(infer: &Infer<A>, buf: &[u8]) -> Option<Type>
+    ensures { IsAnswerWith (custom_rows infer.now) buf.now (option_map triple_of result) }
+{
+    added::get_with(infer, buf)
 }
 
 /// The number of the wider answer of `buf`, and `None` exactly if no row accepts it.
