@@ -1,4 +1,4 @@
--- ISO media files (ISO/IEC 14496-12), by the brands in the box "ftyp" that they begin with.
+-- ISO media files, by the brands in the box "ftyp" that they begin with.
 use Rattle.std.specs.Prelude.{ℕ, ◌+◌, ◌-◌, ◌*◌, ◌/◌, ◌<◌, ◌≤◌, ◌⊎◌, List, length, codes}
 use Rattle.memchr.specs.Find.{OccursAt}
 use Rattle.infer_deep.specs.Numbers.{be32}
@@ -31,14 +31,14 @@ HasCompatible brand b = (k : ℕ) × (k < box_length b / 4 - 4) × OccursAt b br
 abbrev pub MayHaveCompatible : List ℕ → List ℕ → Type 0
 MayHaveCompatible brand b = (k : ℕ) × (k < box_length b / 4 - 4) × AgreesAt b brand (16 + 4 * k)
 
--- ISO/IEC 23008-12: the major brand is heic or heix, or it is mif1 or msf1 and heic is a compatible brand
+-- HEIF: the major brand is heic or heix, or it is mif1 or msf1 and heic is a compatible brand
 abbrev pub IsHeif : List ℕ → Type 0
 IsHeif b =
     IsBoxed b
     × (HasMajor (codes "heic") b ⊎ HasMajor (codes "heix") b
     ⊎ ((HasMajor (codes "mif1") b ⊎ HasMajor (codes "msf1") b) × HasCompatible (codes "heic") b))
 
--- "AV1 Image File Format (AVIF)": avif or avis is the major brand or a compatible one
+-- AVIF: avif or avis is the major brand or a compatible one
 abbrev pub IsAvif : List ℕ → Type 0
 IsAvif b =
     IsBoxed b

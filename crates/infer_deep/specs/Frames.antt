@@ -1,4 +1,4 @@
--- Data after skippable frames, which RFC 8878 defines in section 3.1.2.
+-- Data after skippable frames.
 use Rattle.std.specs.Prelude.{◌≡◌, ℕ, ◌+◌, ◌≤◌, List, [], ◌∷◌, ◌++◌, length, slice_index}
 use Rattle.memchr.specs.Find.{OccursAt}
 use Rattle.infer_deep.specs.Numbers.{le32}
@@ -19,11 +19,11 @@ pub record IsFrame (frame : List ℕ) : Type 0 where
 abbrev pub IsFramed : List ℕ → List ℕ → Type 0
 IsFramed magic b = (rest : List ℕ) × SkipsTo IsFrame b (magic ++ rest)
 
--- the magic number of Zstandard: RFC 8878
+-- the magic number of Zstandard
 abbrev pub zst_magic : List ℕ
 zst_magic = 0x28 ∷ 0xB5 ∷ 0x2F ∷ 0xFD ∷ []
 
--- the magic number of LZ4: "LZ4 Frame Format Description"
+-- the magic number of LZ4
 abbrev pub lz4_magic : List ℕ
 lz4_magic = 0x04 ∷ 0x22 ∷ 0x4D ∷ 0x18 ∷ []
 

@@ -1,11 +1,11 @@
--- Office Open XML documents, by the folder of one of their ZIP entries. ISO/IEC 29500-2 defines the packages.
+-- Office Open XML documents, by the folder of one of their ZIP entries.
 use Rattle.std.specs.Prelude.{◌≡◌, ℕ, ◌+◌, ◌≤◌, ◌⊎◌, List, [], ◌∷◌, ◌++◌, codes}
 use Rattle.memchr.specs.Find.{OccursAt}
 use Rattle.infer_deep.specs.Numbers.{le32}
 use Rattle.infer_deep.specs.Places.{IsFirstPlace}
 use Rattle.infer_deep.specs.Open.{AgreesAt, IsFirstOpen}
 
--- with which the local header of a ZIP entry begins: "APPNOTE.TXT - .ZIP File Format Specification"
+-- with which the local header of a ZIP entry begins
 abbrev pub zip_header : List ℕ
 zip_header = codes "PK" ++ 0x03 ∷ 0x04 ∷ []
 

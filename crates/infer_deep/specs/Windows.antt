@@ -7,11 +7,11 @@ use Rattle.infer_deep.specs.Places.{IsWithin}
 abbrev pub StandsBy : List ℕ → ℕ → List ℕ → Type 0
 StandsBy text end b = (p : ℕ) × IsWithin b text 0 end p
 
--- "%PDF" stands in the first 1024 bytes; ISO 32000 defines PDF
+-- "%PDF" stands in the first 1024 bytes
 abbrev pub IsPdf : List ℕ → Type 0
 IsPdf b = StandsBy (codes "%PDF") 1024 b
 
--- b has at least 257 bytes and begins as EBML does (RFC 8794), and the document type stands in its first 256 bytes
+-- b has at least 257 bytes and begins as EBML does, and the document type stands in its first 256 bytes
 abbrev pub IsMatroska : List ℕ → List ℕ → Type 0
 IsMatroska doc_type b =
     (257 ≤ length b) × OccursAt b (0x1A ∷ 0x45 ∷ 0xDF ∷ 0xA3 ∷ []) 0 × StandsBy doc_type 256 b
@@ -24,7 +24,7 @@ mkv_type = 0x42 ∷ 0x82 ∷ 0x88 ∷ codes "matroska"
 abbrev pub webm_type : List ℕ
 webm_type = 0x42 ∷ 0x82 ∷ 0x84 ∷ codes "webm"
 
--- its document type is "matroska": RFC 9559
+-- its document type is "matroska"
 abbrev pub IsMkv : List ℕ → Type 0
 IsMkv b = IsMatroska mkv_type b
 

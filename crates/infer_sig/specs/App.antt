@@ -1,23 +1,19 @@
--- The fixed signatures of programs and their parts, in the order of their rows.
+-- The fixed signatures of programs and their parts, in the order of their rows. docs/sources.tsv lists the documents.
 use Rattle.std.specs.Prelude.{List, [], ◌∷◌, ◌++◌, codes}
 use Rattle.infer_sig.specs.Signature.{Alternative, at_least, text, byte, any_of, between}
 
--- WebAssembly Core Specification, binary format of modules
 abbrev pub wasm : List Alternative
 wasm = at_least 8 (text 0 (0x00 ∷ codes "asm" ++ 0x01 ∷ 0x00 ∷ 0x00 ∷ 0x00 ∷ []) ∷ []) ∷ []
 
--- System V ABI, chapter "Object Files"
 abbrev pub elf : List Alternative
 elf = at_least 53 (text 0 (0x7F ∷ codes "ELF") ∷ []) ∷ []
 
 -- that of dynamic libraries too
--- Microsoft, "PE Format"
 abbrev pub exe : List Alternative
 exe = at_least 2 (text 0 (codes "MZ") ∷ []) ∷ []
 
 -- The four bytes after the magic number are the version, its highest byte first: the lower half of it is at
 -- least 45.
--- "The Java Virtual Machine Specification", chapter 4
 abbrev pub java : List Alternative
 java = at_least 8 (text 0 (0xCA ∷ 0xFE ∷ 0xBA ∷ 0xBE ∷ []) ∷ byte 7 (between 0x2D 0xFF) ∷ [])
     ∷ at_least 8 (text 0 (0xCA ∷ 0xFE ∷ 0xBA ∷ 0xBE ∷ []) ∷ byte 6 (between 0x01 0xFF) ∷ []) ∷ []
@@ -32,7 +28,6 @@ mach = at_least 4 (byte 0 (any_of (0xCF ∷ 0xCE ∷ [])) ∷ text 1 (0xFA ∷ 0
     ∷ at_least 4 (text 0 (0xFE ∷ 0xED ∷ 0xFA ∷ []) ∷ byte 3 (any_of (0xCF ∷ 0xCE ∷ [])) ∷ [])
     ∷ at_least 8 (text 0 (0xCA ∷ 0xFE ∷ 0xBA ∷ 0xBE ∷ 0x00 ∷ 0x00 ∷ 0x00 ∷ []) ∷ byte 7 (between 0x00 0x2C) ∷ []) ∷ []
 
--- Android, "Dalvik Executable format"
 abbrev pub dex : List Alternative
 dex = at_least 37 (text 0 (codes "dex" ++ 0x0A ∷ []) ∷ byte 36 (any_of (0x70 ∷ [])) ∷ []) ∷ []
 
@@ -40,11 +35,9 @@ abbrev pub dey : List Alternative
 dey = at_least 101
     (text 0 (codes "dey" ++ 0x0A ∷ []) ∷ text 40 (codes "dex" ++ 0x0A ∷ []) ∷ byte 76 (any_of (0x70 ∷ [])) ∷ []) ∷ []
 
--- ITU-T X.690
 abbrev pub der : List Alternative
 der = at_least 3 (text 0 (0x30 ∷ 0x82 ∷ []) ∷ []) ∷ []
 
--- Microsoft, "PE Format"
 abbrev pub coff : List Alternative
 coff = at_least 3 (text 0 (0x64 ∷ 0x86 ∷ []) ∷ [])
     ∷ at_least 3 (text 0 (0x4C ∷ 0x01 ∷ []) ∷ [])
@@ -59,7 +52,6 @@ coff_i386 = at_least 3 (text 0 (0x4C ∷ 0x01 ∷ []) ∷ []) ∷ []
 abbrev pub coff_ia64 : List Alternative
 coff_ia64 = at_least 3 (text 0 (0x00 ∷ 0x02 ∷ []) ∷ []) ∷ []
 
--- RFC 7468
 abbrev pub pem : List Alternative
 pem = at_least 12 (text 0 (codes "-----BEGIN ") ∷ []) ∷ []
 

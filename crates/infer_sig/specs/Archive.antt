@@ -1,17 +1,15 @@
--- The fixed signatures of archives, in the order of their rows.
+-- The fixed signatures of archives, in the order of their rows. docs/sources.tsv lists the documents.
 use Rattle.std.specs.Prelude.{List, [], ◌∷◌, ◌++◌, codes}
 use Rattle.infer_deep.specs.ClassId.{compound_header}
 use Rattle.infer_deep.specs.Office.{zip_header}
 use Rattle.infer_sig.specs.Signature.{Alternative, at_least, text, byte, any_of}
 
--- "APPNOTE.TXT - .ZIP File Format Specification"
 abbrev pub zip : List Alternative
 zip = at_least 4 (text 0 zip_header ∷ [])
     ∷ at_least 4 (text 0 (codes "PK" ++ 0x05 ∷ 0x06 ∷ []) ∷ [])
     ∷ at_least 4 (text 0 (codes "PK" ++ 0x07 ∷ 0x08 ∷ []) ∷ [])
     ∷ at_least 8 (text 0 (codes "PK00" ++ zip_header) ∷ []) ∷ []
 
--- POSIX.1, the ustar format of the command pax
 abbrev pub tar : List Alternative
 tar = at_least 262 (text 257 (codes "ustar") ∷ []) ∷ []
 
@@ -21,7 +19,6 @@ par2 = at_least 9 (text 0 (codes "PAR2" ++ 0x00 ∷ codes "PKT") ∷ []) ∷ []
 abbrev pub rar : List Alternative
 rar = at_least 7 (text 0 (codes "Rar!" ++ 0x1A ∷ 0x07 ∷ []) ∷ byte 6 (any_of (0x00 ∷ 0x01 ∷ [])) ∷ []) ∷ []
 
--- RFC 1952
 abbrev pub gz : List Alternative
 gz = at_least 3 (text 0 (0x1F ∷ 0x8B ∷ 0x08 ∷ []) ∷ []) ∷ []
 
@@ -34,7 +31,6 @@ bz3 = at_least 5 (text 0 (codes "BZ3v1") ∷ []) ∷ []
 abbrev pub seven_z : List Alternative
 seven_z = at_least 6 (text 0 (codes "7z" ++ 0xBC ∷ 0xAF ∷ 0x27 ∷ 0x1C ∷ []) ∷ []) ∷ []
 
--- "The .xz File Format"
 abbrev pub xz : List Alternative
 xz = at_least 6 (text 0 (0xFD ∷ codes "7zXZ" ++ 0x00 ∷ []) ∷ []) ∷ []
 
@@ -44,7 +40,6 @@ swf = at_least 3 (byte 0 (any_of (codes "CF")) ∷ text 1 (codes "WS") ∷ []) �
 abbrev pub rtf : List Alternative
 rtf = at_least 5 (text 0 (0x7B ∷ 0x5C ∷ codes "rtf") ∷ []) ∷ []
 
--- W3C, "Embedded OpenType (EOT) File Format"
 abbrev pub eot : List Alternative
 eot = at_least 36 (text 8 (0x02 ∷ 0x00 ∷ 0x01 ∷ []) ∷ text 34 (codes "LP") ∷ [])
     ∷ at_least 36 (text 8 (0x01 ∷ 0x00 ∷ 0x00 ∷ []) ∷ text 34 (codes "LP") ∷ [])
@@ -53,7 +48,6 @@ eot = at_least 36 (text 8 (0x02 ∷ 0x00 ∷ 0x01 ∷ []) ∷ text 34 (codes "LP
 abbrev pub ps : List Alternative
 ps = at_least 2 (text 0 (codes "%!") ∷ []) ∷ []
 
--- SQLite, "Database File Format"
 abbrev pub sqlite : List Alternative
 sqlite = at_least 4 (text 0 (codes "SQLi") ∷ []) ∷ []
 
@@ -63,7 +57,6 @@ nes = at_least 4 (text 0 (codes "NES" ++ 0x1A ∷ []) ∷ []) ∷ []
 abbrev pub crx : List Alternative
 crx = at_least 4 (text 0 (codes "Cr24") ∷ []) ∷ []
 
--- MS-CAB
 abbrev pub cab : List Alternative
 cab = at_least 4 (text 0 (codes "MSCF") ∷ [])
     ∷ at_least 4 (text 0 (codes "ISc(") ∷ []) ∷ []
@@ -83,11 +76,9 @@ lz = at_least 4 (text 0 (codes "LZIP") ∷ []) ∷ []
 abbrev pub rpm : List Alternative
 rpm = at_least 97 (text 0 (0xED ∷ 0xAB ∷ 0xEE ∷ 0xDB ∷ []) ∷ []) ∷ []
 
--- DICOM PS3.10
 abbrev pub dcm : List Alternative
 dcm = at_least 132 (text 128 (codes "DICM") ∷ []) ∷ []
 
--- MS-CFB
 abbrev pub msi : List Alternative
 msi = at_least 8 (text 0 compound_header ∷ []) ∷ []
 

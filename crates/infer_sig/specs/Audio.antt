@@ -1,9 +1,8 @@
--- The fixed signatures of sound, in the order of their rows.
+-- The fixed signatures of sound, in the order of their rows. docs/sources.tsv lists the documents.
 use Rattle.std.specs.Prelude.{List, [], ◌∷◌, ◌++◌, codes}
 use Rattle.infer_sig.specs.Headers.{riff_header}
 use Rattle.infer_sig.specs.Signature.{Alternative, at_least, text, byte, any_of}
 
--- "Standard MIDI Files 1.0"
 abbrev pub midi : List Alternative
 midi = at_least 4 (text 0 (codes "MThd") ∷ []) ∷ []
 
@@ -15,23 +14,18 @@ abbrev pub m4a : List Alternative
 m4a = at_least 11 (text 4 (codes "ftypM4A") ∷ [])
     ∷ at_least 11 (text 0 (codes "M4A ") ∷ []) ∷ []
 
--- RFC 7845
 abbrev pub ogg_opus : List Alternative
 ogg_opus = at_least 36 (text 0 (codes "OggS") ∷ text 28 (codes "OpusHead") ∷ []) ∷ []
 
--- RFC 3533
 abbrev pub ogg : List Alternative
 ogg = at_least 4 (text 0 (codes "OggS") ∷ []) ∷ []
 
--- RFC 9639
 abbrev pub flac : List Alternative
 flac = at_least 4 (text 0 (codes "fLaC") ∷ []) ∷ []
 
--- "Multimedia Programming Interface and Data Specifications 1.0"
 abbrev pub wav : List Alternative
 wav = at_least 12 (text 0 riff_header ∷ text 8 (codes "WAVE") ∷ []) ∷ []
 
--- RFC 4867
 abbrev pub amr : List Alternative
 amr = at_least 12 (text 0 (codes "#!AMR" ++ 0x0A ∷ []) ∷ []) ∷ []
 

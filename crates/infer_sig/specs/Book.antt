@@ -1,9 +1,8 @@
--- The fixed signatures of books, in the order of their rows.
+-- The fixed signatures of books, in the order of their rows. docs/sources.tsv lists the documents.
 use Rattle.std.specs.Prelude.{List, [], ◌∷◌, codes}
 use Rattle.infer_deep.specs.Office.{zip_header}
 use Rattle.infer_sig.specs.Signature.{Alternative, at_least, text}
 
--- "EPUB Open Container Format"
 abbrev pub epub : List Alternative
 epub = at_least 58 (text 0 zip_header ∷ text 30 (codes "mimetypeapplication/epub+zip") ∷ []) ∷ []
 

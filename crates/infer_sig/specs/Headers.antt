@@ -1,12 +1,11 @@
 -- Beginnings that several types share; that of a ZIP entry is `zip_header` of `infer_deep`.
 use Rattle.std.specs.Prelude.{ℕ, List, [], ◌∷◌, ◌++◌, codes}
 
--- the identifier of a RIFF file's one chunk: "Multimedia Programming Interface and Data Specifications 1.0"
+-- the identifier of a RIFF file's one chunk
 abbrev pub riff_header : List ℕ
 riff_header = codes "RIFF"
 
--- the header of a TIFF file whose numbers have their lowest byte first, and of one whose highest byte is first:
--- "TIFF Revision 6.0"
+-- the header of a TIFF file whose numbers have their lowest byte first, and of one whose highest byte is first
 abbrev pub little_tiff_header : List ℕ
 little_tiff_header = codes "II*" ++ 0x00 ∷ []
 

@@ -1,26 +1,21 @@
--- The fixed signatures of images, in the order of their rows.
+-- The fixed signatures of images, in the order of their rows. docs/sources.tsv lists the documents.
 use Rattle.std.specs.Prelude.{ℕ, List, [], ◌∷◌, ◌++◌, codes}
 use Rattle.infer_deep.specs.Office.{zip_header}
 use Rattle.infer_sig.specs.Headers.{big_tiff_header, little_tiff_header}
 use Rattle.infer_sig.specs.Signature.{Alternative, at_least, text, any_text, byte, all_but}
 
--- ITU-T T.81, ISO/IEC 10918-1
 abbrev pub jpeg : List Alternative
 jpeg = at_least 3 (text 0 (0xFF ∷ 0xD8 ∷ 0xFF ∷ []) ∷ []) ∷ []
 
--- ISO/IEC 15444-1
 abbrev pub jpeg2000 : List Alternative
 jpeg2000 = at_least 13 (text 0 (0x00 ∷ 0x00 ∷ 0x00 ∷ 0x0C ∷ codes "jP  " ++ 0x0D ∷ 0x0A ∷ 0x87 ∷ 0x0A ∷ 0x00 ∷ []) ∷ []) ∷ []
 
--- RFC 2083, ISO/IEC 15948
 abbrev pub png : List Alternative
 png = at_least 4 (text 0 (0x89 ∷ codes "PNG") ∷ []) ∷ []
 
--- "GIF89a Specification"
 abbrev pub gif : List Alternative
 gif = at_least 3 (text 0 (codes "GIF") ∷ []) ∷ []
 
--- RFC 9649
 abbrev pub webp : List Alternative
 webp = at_least 12 (text 8 (codes "WEBP") ∷ []) ∷ []
 
@@ -28,7 +23,7 @@ abbrev pub cr2 : List Alternative
 cr2 = at_least 11 (text 0 little_tiff_header ∷ text 8 (codes "CR" ++ 0x02 ∷ []) ∷ [])
     ∷ at_least 11 (text 0 big_tiff_header ∷ text 8 (codes "CR" ++ 0x02 ∷ []) ∷ []) ∷ []
 
--- "TIFF Revision 6.0"; the two bytes that begin the mark of a CR2 image are refused each by itself
+-- the two bytes that begin the mark of a CR2 image are refused each by itself
 abbrev pub tiff : List Alternative
 tiff = at_least 10 (text 0 little_tiff_header ∷ byte 8 (all_but 0x43) ∷ byte 9 (all_but 0x52) ∷ [])
     ∷ at_least 10 (text 0 big_tiff_header ∷ byte 8 (all_but 0x43) ∷ byte 9 (all_but 0x52) ∷ []) ∷ []
@@ -39,14 +34,12 @@ bmp = at_least 2 (text 0 (codes "BM") ∷ []) ∷ []
 abbrev pub jxr : List Alternative
 jxr = at_least 3 (text 0 (codes "II" ++ 0xBC ∷ []) ∷ []) ∷ []
 
--- Adobe, "Adobe Photoshop File Formats Specification"
 abbrev pub psd : List Alternative
 psd = at_least 4 (text 0 (codes "8BPS") ∷ []) ∷ []
 
 abbrev pub ico : List Alternative
 ico = at_least 4 (text 0 (0x00 ∷ 0x00 ∷ 0x01 ∷ 0x00 ∷ []) ∷ []) ∷ []
 
--- ISO/IEC 18181-2
 abbrev pub jxl : List Alternative
 jxl = at_least 3 (text 0 (0xFF ∷ 0x0A ∷ []) ∷ [])
     ∷ at_least 13 (text 0 (0x00 ∷ 0x00 ∷ 0x00 ∷ 0x0C ∷ codes "JXL " ++ 0x0D ∷ 0x0A ∷ 0x87 ∷ 0x0A ∷ []) ∷ []) ∷ []

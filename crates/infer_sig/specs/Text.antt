@@ -1,4 +1,4 @@
--- The fixed signature of a text.
+-- The fixed signature of a text. docs/sources.tsv lists the documents.
 use Rattle.std.specs.Prelude.{List, [], ◌∷◌, codes}
 use Rattle.infer_sig.specs.Signature.{Alternative, at_least, text}
 

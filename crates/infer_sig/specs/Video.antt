@@ -1,4 +1,4 @@
--- The fixed signatures of videos, in the order of their rows.
+-- The fixed signatures of videos, in the order of their rows. docs/sources.tsv lists the documents.
 use Rattle.std.specs.Prelude.{ℕ, List, [], ◌∷◌, ◌++◌, codes}
 use Rattle.infer_sig.specs.Headers.{riff_header}
 use Rattle.infer_sig.specs.Signature.{Alternative, at_least, text, any_text, byte, between}
@@ -11,14 +11,12 @@ mp4_brands =
     ∷ codes "NDAS" ∷ codes "NDSC" ∷ codes "NSDC" ∷ codes "NDSH" ∷ codes "NDSM" ∷ codes "NDSP" ∷ codes "NDSS"
     ∷ codes "NDXC" ∷ codes "NDXH" ∷ codes "NDXM" ∷ codes "NDXP" ∷ codes "NDXS" ∷ codes "F4V " ∷ codes "F4P " ∷ []
 
--- ISO/IEC 14496-12 and 14496-14
 abbrev pub mp4 : List Alternative
 mp4 = at_least 12 (text 4 (codes "ftyp") ∷ any_text 8 mp4_brands ∷ []) ∷ []
 
 abbrev pub m4v : List Alternative
 m4v = at_least 11 (text 4 (codes "ftypM4V") ∷ []) ∷ []
 
--- Apple, "QuickTime File Format Specification"
 abbrev pub mov : List Alternative
 mov = at_least 16 (text 4 (codes "ftypqt  ") ∷ [])
     ∷ at_least 16 (text 4 (codes "moov") ∷ [])
@@ -34,6 +32,5 @@ wmv = at_least 10 (text 0 (0x30 ∷ 0x26 ∷ 0xB2 ∷ 0x75 ∷ 0x8E ∷ 0x66 ∷
 abbrev pub mpeg : List Alternative
 mpeg = at_least 4 (text 0 (0x00 ∷ 0x00 ∷ 0x01 ∷ []) ∷ byte 3 (between 0xB0 0xBF) ∷ []) ∷ []
 
--- "Adobe Flash Video File Format Specification"
 abbrev pub flv : List Alternative
 flv = at_least 4 (text 0 (codes "FLV" ++ 0x01 ∷ []) ∷ []) ∷ []
