@@ -1,7 +1,9 @@
-//! Five users of `infer`, each proved: what an upload gate lets pass, which type a file server sends, what a report on
-//! directories counts, what a labelling proxy writes, and how a relay passes a stream on.
+//! Six users of `infer`, each proved: what an upload gate lets pass, which type a file server sends, what a report on
+//! directories counts, what a labelling proxy writes, how a relay passes a stream on, and what a catalogue of wider
+//! answers tells.
 #![tactic(auto)]
 
+pub mod catalogue;
 pub mod count;
 pub mod gate;
 pub mod label;
