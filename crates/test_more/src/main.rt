@@ -1,12 +1,14 @@
 //! Compares further rows and wider answers with data from outside, and prints what differs.
 #![tactic(auto)]
 
+mod hostile;
 mod tokens;
 
 use anyhow::{Context, Result};
+use hostile::ask_rows;
 use infer::rows::ROW_COUNT;
 use infer::{MatcherType, Type};
-use infer_more::FURTHER_COUNT;
+use infer_more::{FURTHER_COUNT, SAMPLE_SIZE};
 use std::fs;
 use std::rt::Files;
 use tokens::decode;
@@ -111,6 +113,60 @@ fn compare_buffers(rt: &(impl Print + AllocGlobal), text: &str) -> Result<u32> {
     Ok(differing)
 }
 
+/// The number of the row whose sample the line of this name has, if it has one.
+fn sampled(name: &str) -> Result<Option<usize>> {
+    match name.split_once(", ") {
+        Some((word, "shortest" | "shortest of alternative 1")) => {
+            Ok(word.parse::<usize>()?.checked_add(ROW_COUNT))
+        }
+        _ => Ok(None),
+    }
+}
+
+/// Whether row `i` has this sample, and is the wider answer of it.
+fn has_sample(i: usize, buf: &[u8]) -> bool {
+    let mut out = [0; SAMPLE_SIZE];
+    infer_more::sample(i, &mut out).is_some_and(|n| &out[..n] == buf)
+        && infer_more::position(buf) == Some(i)
+}
+
+/// How many further rows have a sample.
+fn count_samples() -> usize {
+    let mut out = [0; SAMPLE_SIZE];
+    (ROW_COUNT..ROW_COUNT + FURTHER_COUNT)
+        .filter(|i| infer_more::sample(*i, &mut out).is_some())
+        .count()
+}
+
+/// Compares the sample of each further row that has one.
+fn compare_samples(rt: &(impl Print + AllocGlobal), text: &str) -> Result<u32> {
+    let mut differing = 0u32;
+    let mut many = 0usize;
+    for line in text.lines() {
+        let fields: Vec<&str> = line.split('\t').collect(rt.alloc())?;
+        let Some(name) = fields.first() else {
+            continue;
+        };
+        let (Some(i), Some(tokens)) = (sampled(*name)?, fields.get(1)) else {
+            continue;
+        };
+        many = many.saturating_add(1);
+        let buf = decode(rt.alloc(), *tokens).context(format_args!("{name}"))?;
+        if !has_sample(i, buf.as_slice()) {
+            println!(rt; "{name}: the sample of row {i} is another")?;
+            differing = differing.saturating_add(1);
+        }
+    }
+    if many != count_samples() {
+        println!(rt;
+            "{many} rows are to have a sample, and {} have one",
+            count_samples()
+        )?;
+        differing = differing.saturating_add(1);
+    }
+    Ok(differing)
+}
+
 fn run(rt: &(impl Files + Print + AllocGlobal)) -> Result<()> {
     let rows = fs::read_to_string(rt, "rows.tsv").context("rows.tsv")?;
     println!(rt; "rows that differ: {}", compare_rows(rt, rows.as_str())?)?;
@@ -119,6 +175,15 @@ fn run(rt: &(impl Files + Print + AllocGlobal)) -> Result<()> {
     println!(rt;
         "buffers that differ: {}",
         compare_buffers(rt, vectors.as_str())?
+    )?;
+    println!(rt;
+        "samples that differ: {}",
+        compare_samples(rt, vectors.as_str())?
+    )?;
+    let hostile = ask_rows();
+    println!(rt;
+        "of {} hostile buffers, answers that are wrong: {}",
+        hostile.asked, hostile.wrong
     )?;
     Ok(())
 }
