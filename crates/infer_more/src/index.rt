@@ -85,14 +85,9 @@ static INDEX: RowIndex = RowIndex {
         2 0x2D (Lzh);
         2 0x0D (Pyc);
         2 0x27 (Shx Shp);
+        4 0x66 (ThreeGp ThreeGp2 F4v M4b Cr3 Heics Heif);
         4 0x53 (Mdb Accdb);
         4 0x47 (Ts);
-        8 0x33 (ThreeGp ThreeGp2);
-        8 0x4D (M4b);
-        8 0x63 (Cr3);
-        8 0x66 (F4v);
-        8 0x68 (Heics);
-        8 0x6D (Heif);
         8 0x7B (Safetensors);
         12 0x61 (Bdb);
         12 0x62 (Bdb);
