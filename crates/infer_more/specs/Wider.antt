@@ -21,10 +21,6 @@ Widens parent b r = (r.parent ≡ parent) × IsTrue (accepts r.signature b)
 abbrev pub WidensAt : Option ℕ → List ℕ → ℕ → Type 0
 WidensAt parent b i = (i < length further) × HoldsAt (Widens parent b) further i
 
--- no further row does, whatever the buffer is
-abbrev pub IsWidest : Option ℕ → Type 0
-IsWidest parent = (b : List ℕ) → IsFirstOf (Widens parent b) further None
-
 -- the number of the first further row that does, which goes on from the built-in ones, or else the parent's
 abbrev pub wider : Option ℕ → Option ℕ → Option ℕ
 wider parent None = parent

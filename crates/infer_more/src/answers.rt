@@ -7,7 +7,7 @@ ghost use Rattle.infer.specs.declared.table.rows.TheConstants.{ROW_COUNT};
 ghost use Rattle.infer_more.specs.Ended.{ended_listed, ended_shown};
 ghost use Rattle.infer_more.specs.Index.{KeepsLeast, asked, begun, guarded, number_of, numbers_at};
 ghost use Rattle.infer_more.specs.Table.{further};
-ghost use Rattle.infer_more.specs.Wider.{AcceptsAt, IsWider, IsWiderAnswer, IsWidest, Widens, WidensAt, parent_at, shown};
+ghost use Rattle.infer_more.specs.Wider.{AcceptsAt, IsWider, IsWiderAnswer, Widens, WidensAt, parent_at, shown};
 ghost use Rattle.infer_more.specs.Listed.{row_listed};
 ghost use Rattle.infer_more.specs.declared.table.names.TheConstants.{FURTHER_COUNT};
 
@@ -100,6 +100,15 @@ fn rows_begun(index: &RowIndex, buf: &[u8]) -> &'static [RowName]
     }
 }
 
+/// The least further row without a parent that accepts the buffer.
+#[inline(never)]
+fn least_unknown(index: &RowIndex, buf: &[u8]) -> Option<usize>
+    ensures { KeepsLeast None buf.now (asked index.now None buf.now) None result }
+{
+    let least = least_of(rows_begun(index, buf), None, buf, None);
+    least_guarded(index.guards, buf, least)
+}
+
 /// The least of these rows that has this parent and accepts the buffer. Nothing is called if there are none.
 #[inline(always)]
 fn least_below(rows: &[RowName], parent: Option<usize>, buf: &[u8]) -> Option<usize>
@@ -111,18 +120,8 @@ fn least_below(rows: &[RowName], parent: Option<usize>, buf: &[u8]) -> Option<us
     least_of(rows, parent, buf, None)
 }
 
-/// The least further row without a parent that accepts the buffer.
+/// The first further row with this parent that accepts the buffer.
 #[inline(always)]
-fn least_unknown(index: &RowIndex, buf: &[u8]) -> Option<usize>
-    ensures { KeepsLeast None buf.now (asked index.now None buf.now) None result }
-{
-    let least = least_below(rows_begun(index, buf), None, buf);
-    least_guarded(index.guards, buf, least)
-}
-
-/// The first further row with this parent that accepts the buffer. A function of its own, since few built-in rows have a
-/// row below them.
-#[inline(never)]
 fn first_widening(parent: Option<usize>, buf: &[u8]) -> Option<usize>
     ensures { IsFirstOf (Widens parent buf.now) further result }
 {
@@ -134,19 +133,6 @@ fn first_widening(parent: Option<usize>, buf: &[u8]) -> Option<usize>
     }
 }
 
-/// Whether no further row is asked below this answer, so that none widens it.
-#[inline(always)]
-fn is_widest(parent: Option<usize>) -> bool
-    ensures { IsTrue result → IsWidest parent }
-{
-    let index = index();
-    asked(index);
-    match parent {
-        Some(row) => rows_at(index.below, row).is_empty(),
-        None => false,
-    }
-}
-
 /// The number of the wider answer.
 #[inline(always)]
 pub fn position(buf: &[u8]) -> Option<usize>
@@ -154,9 +140,6 @@ pub fn position(buf: &[u8]) -> Option<usize>
     ensures bound { IfSome result (λ i. i < ROW_COUNT + FURTHER_COUNT) }
 {
     let parent = infer::position(buf);
-    if is_widest(parent) {
-        return parent;
-    }
     match first_widening(parent, buf) {
         Some(i) => Some(ROW_COUNT + i),
         None => parent,
