@@ -13,8 +13,8 @@ pub struct EndedTexts {
     pub extension: &'static str,
 }
 
-/// A further row: what it shows, its texts with their zeros, the number of its parent among the built-in rows if it has one, and its signature. A
-/// signature without an alternative accepts nothing.
+/// A further row: what it shows, its texts with their zeros, the number of its parent among the built-in rows if it has
+/// one, and its signature. A signature without an alternative accepts nothing.
 pub(crate) struct FurtherRow {
     pub matcher_type: MatcherType,
     pub mime_type: &'static str,
