@@ -318,16 +318,4 @@ fn may_begin_in_any_case(buf: &[u8], text: &[u8]) -> bool
 }
 
 #[cfg(test)]
-mod tests {
-    use super::*;
-
-    #[test]
-    fn white_space_is_trimmed(rt: HostRuntime) {
-        assert_eq!(rt;
-            trim_start_whitespaces(b"\x09\x0A\x0C\x0D\x20ABC"),
-            b"ABC".as_slice()
-        );
-        assert_eq!(rt; trim_start_whitespaces(b"abc"), b"abc".as_slice());
-        assert_eq!(rt; trim_start_whitespaces(b""), b"".as_slice());
-    }
-}
+mod tests;

@@ -18,8 +18,7 @@ ghost use Rattle.infer.specs.Triple.{triple_of};
 use infer::app::{is_java, is_mach, may_become_coff_x64};
 use infer::rows::{DLL, DOC, EPUB_ARCHIVE, GIF, PDF, SHELLSCRIPT, WASM};
 use infer::{Asker, Fault, Infer, Type, Watched, is_decided, laws, may_become, position, walk};
-use std::alloc::Allocator;
-use std::test::Fail;
+use std::alloc::{AllocError, Allocator, Global};
 
 fn begins_00(buf: &[u8]) -> bool
     ensures { IsTrue result ↔ IsTrue (starts_with nat_eq buf.now (0x00 ∷ [])) }
@@ -28,56 +27,35 @@ fn begins_00(buf: &[u8]) -> bool
 }
 
 /// No Matroska file begins with 00.
-fn no_matroska()
+pub fn no_matroska()
     ensures { (rest : List ℕ) → ¬ IsAccepted (matroska mkv_type) (0x00 ∷ rest) }
 {
     laws::leads();
 }
 
-#[test]
-fn leads() {
-    no_matroska();
-}
-
-fn position_of_nothing() -> Option<usize>
+pub fn position_of_nothing() -> Option<usize>
     ensures { result ≡ None }
 {
     laws::blank();
     position(&[])
 }
 
-#[test]
-fn blank(rt: HostRuntime) {
-    assert_eq!(rt; position_of_nothing(), None);
-}
-
-fn position_but_two(buf: &[u8]) -> Option<usize>
+pub fn position_but_two(buf: &[u8]) -> Option<usize>
     ensures { IfSome result (λ i. (i ≢ DLL) × (i ≢ EPUB_ARCHIVE)) }
 {
     laws::never();
     position(buf)
 }
 
-#[test]
-fn never(rt: HostRuntime) {
-    assert_eq!(rt; position_but_two(b"MZ"), Some(2));
-}
-
-fn is_java_and_mach(buf: &[u8]) -> bool
+pub fn is_java_and_mach(buf: &[u8]) -> bool
     ensures { result ≡ false }
 {
     laws::apart();
     is_java(buf) && is_mach(buf)
 }
 
-#[test]
-fn apart(rt: HostRuntime) {
-    assert!(rt; !is_java_and_mach(b"\xCA\xFE\xBA\xBE\0\0\0\x2C"));
-    assert!(rt; !is_java_and_mach(b"\xCA\xFE\xBA\xBE\0\0\0\x2D"));
-}
-
 /// Whether some row with the extension of the answer accepts the buffer.
-fn has_own_extension<A: Allocator>(infer: &Infer<A>, buf: &[u8]) -> bool
+pub fn has_own_extension<A: Allocator>(infer: &Infer<A>, buf: &[u8]) -> bool
     ensures { result ≡ true }
 {
     laws::named(infer);
@@ -88,7 +66,7 @@ fn has_own_extension<A: Allocator>(infer: &Infer<A>, buf: &[u8]) -> bool
 }
 
 /// The answers on a buffer and on one that it begins. If the longer has none, the shorter has none.
-fn get_both<A: Allocator>(
+pub fn get_both<A: Allocator>(
     infer: &Infer<A>,
     short: &[u8],
     long: &[u8],
@@ -101,26 +79,17 @@ fn get_both<A: Allocator>(
     (infer.get(short), infer.get(long))
 }
 
-#[test]
-fn built_in_rows_alone(rt: HostRuntime) {
-    let infer = Infer::new();
-    assert!(rt; has_own_extension(&infer, b"MZ"));
-    let (short, long) = get_both(&infer, b"MZ", b"MZ\0");
-    assert!(rt; short.is_some() && long.is_some());
-}
-
-#[test]
-fn after_an_addition(rt: HostRuntime) -> Result<(), Fail> {
+/// The same after a row was added, whose function keeps its answer with more bytes.
+pub fn get_both_after_addition(alloc: Global) -> Result<(Option<Type>, Option<Type>), AllocError>
+    ensures { IfOk result (λ both. IsNone both.1 → IsNone both.0) }
+{
     let mut infer = Infer::new();
-    infer.add(rt.alloc(), "custom/zero", "zero", begins_00)?;
-    assert!(rt; has_own_extension(&infer, b"\0"));
-    let (short, long) = get_both(&infer, b"\0", b"\0\0");
-    assert!(rt; short.is_some() && long.is_some());
-    Ok(())
+    infer.add(alloc, "custom/zero", "zero", begins_00)?;
+    Ok(get_both(&infer, b"\0", b"\0\0"))
 }
 
 /// The positions of a buffer and of its first 1024 bytes.
-fn position_and_front(buf: &[u8], front: &[u8]) -> (Option<usize>, Option<usize>)
+pub fn position_and_front(buf: &[u8], front: &[u8]) -> (Option<usize>, Option<usize>)
     requires { front.now ≡ take 1024 buf.now }
     ensures { IsTrue (not (answers_twelve result.0)) → result.1 ≡ result.0 }
 {
@@ -129,38 +98,23 @@ fn position_and_front(buf: &[u8], front: &[u8]) -> (Option<usize>, Option<usize>
     (position(buf), position(front))
 }
 
-#[test]
-fn front(rt: HostRuntime) {
-    assert_eq!(rt; position_and_front(b"MZ", b"MZ"), (Some(2), Some(2)));
-}
-
 /// A first row of some buffer is not that of its first 1024 bytes.
-fn document_breaks()
+pub fn document_breaks()
     ensures { (buf : List ℕ) × IsFirst (Accepts buf) table DOC × ¬ IsFirst (Accepts (take 1024 buf)) table DOC }
 {
     laws::breaks();
     laws::single();
 }
 
-#[test]
-fn breaks() {
-    document_breaks();
-}
-
 /// Some buffer has the last row as its first.
-fn script_is_reached()
+pub fn script_is_reached()
     ensures { (buf : List ℕ) × IsFirst (Accepts buf) table SHELLSCRIPT }
 {
     laws::reach();
 }
 
-#[test]
-fn reach() {
-    script_is_reached();
-}
-
 /// Whether a buffer and a longer one are decided.
-fn both_decided(short: &[u8], long: &[u8]) -> (bool, bool)
+pub fn both_decided(short: &[u8], long: &[u8]) -> (bool, bool)
     requires { (more : List ℕ) × (long.now ≡ short.now ++ more) }
     ensures { IsTrue result.0 → IsTrue result.1 }
 {
@@ -169,7 +123,7 @@ fn both_decided(short: &[u8], long: &[u8]) -> (bool, bool)
 }
 
 /// Whether some bytes after the buffer make the first row of the table its answer.
-fn may_answer_first(buf: &[u8]) -> bool
+pub fn may_answer_first(buf: &[u8]) -> bool
     ensures { IsTrue result → MayAnswer buf.now WASM }
 {
     laws::later();
@@ -177,36 +131,22 @@ fn may_answer_first(buf: &[u8]) -> bool
 }
 
 /// What the row of GIF accepts can never be a PDF document by its answer, though that row may accept it too.
-fn no_pdf_after_gif()
+pub fn no_pdf_after_gif()
     ensures { (b : List ℕ) → HoldsAt (Accepts b) table GIF → ¬ MayAnswer b PDF }
 {
     laws::later();
 }
 
-#[test]
-fn later(rt: HostRuntime) {
-    no_pdf_after_gif();
-    assert_eq!(rt; both_decided(b"MZ", b"MZ\0"), (true, true));
-    assert!(rt; may_answer_first(b"\0as"));
-    assert!(rt; !may_answer_first(b"\0as\0"));
-}
-
 /// Whether some bytes after the buffer make it a COFF object for x64, for which no row stands.
-fn may_become_x64(buf: &[u8]) -> bool
+pub fn may_become_x64(buf: &[u8]) -> bool
     ensures { IsTrue result ↔ Reachable (λ b. IsTrue (accepts coff_x64 b)) buf.now }
 {
     laws::open();
     may_become_coff_x64(buf)
 }
 
-#[test]
-fn open(rt: HostRuntime) {
-    assert!(rt; may_become_x64(b"\x64"));
-    assert!(rt; !may_become_x64(b"\x4C"));
-}
-
 /// The position of a buffer, and that which a walk finds.
-fn position_and_walk(buf: &[u8]) -> (Option<usize>, Option<usize>)
+pub fn position_and_walk(buf: &[u8]) -> (Option<usize>, Option<usize>)
     ensures { result.0 ≡ result.1 }
 {
     laws::walked();
@@ -214,13 +154,8 @@ fn position_and_walk(buf: &[u8]) -> (Option<usize>, Option<usize>)
     (position(buf), walk(&mut Asker::new(buf), None))
 }
 
-#[test]
-fn walked(rt: HostRuntime) {
-    assert_eq!(rt; position_and_walk(b"MZ"), (Some(2), Some(2)));
-}
-
 /// The positions of two buffers with the same first 1024 bytes.
-fn positions_of_both(a: &[u8], b: &[u8]) -> (Option<usize>, Option<usize>)
+pub fn positions_of_both(a: &[u8], b: &[u8]) -> (Option<usize>, Option<usize>)
     requires { take 1024 a.now ≡ take 1024 b.now }
     ensures { IsTrue (not (answers_twelve result.0)) → IsTrue (not (answers_twelve result.1)) → result.0 ≡ result.1 }
 {
@@ -228,13 +163,8 @@ fn positions_of_both(a: &[u8], b: &[u8]) -> (Option<usize>, Option<usize>)
     (position(a), position(b))
 }
 
-#[test]
-fn locality(rt: HostRuntime) {
-    assert_eq!(rt; positions_of_both(b"MZ", b"MZ"), (Some(2), Some(2)));
-}
-
 /// The answers for two readers whose first 64 bytes are the same, of which no more are looked at.
-fn answers_of_both<A: Allocator>(
+pub fn answers_of_both<A: Allocator>(
     infer: &Infer<A>,
     a: &[u8],
     b: &[u8],
@@ -247,10 +177,4 @@ fn answers_of_both<A: Allocator>(
     let one = infer.get_from_reader_in(&mut room, &mut Watched::new(a))?;
     let other = infer.get_from_reader_in(&mut room, &mut Watched::new(b))?;
     Ok((one, other))
-}
-
-#[test]
-fn readers(rt: HostRuntime) {
-    let both = answers_of_both(&Infer::new(), b"MZ", b"MZ");
-    assert!(rt; matches!(both, Ok((Some(one), Some(other))) if one == other));
 }

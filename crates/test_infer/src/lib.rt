@@ -1,24 +1,12 @@
-//! The tests of `infer`, `infer_sniff` and `infer_uses`, over their public items alone. They stand apart, so that each of
-//! these is proved once and not again with its tests.
+//! What the laws and contracts of `infer`, `infer_sniff` and `infer_uses` tell a caller, as functions with contracts, and
+//! the tests of these crates, over public items alone.
 #![tactic(auto)]
 
+pub mod added;
+pub mod asked;
+pub mod definitions;
+pub mod laws;
+pub mod streams;
 #[cfg(test)]
-mod added;
-#[cfg(test)]
-mod asked;
-#[cfg(test)]
-mod buffers;
-#[cfg(test)]
-mod decisions;
-#[cfg(test)]
-mod definitions;
-#[cfg(test)]
-mod input;
-#[cfg(test)]
-mod laws;
-#[cfg(test)]
-mod positions;
-#[cfg(test)]
-mod streams;
-#[cfg(test)]
-mod types;
+mod tests;
+pub mod types;

@@ -1,5 +1,5 @@
 //! The numbers of first rows, on worked buffers that the outside data of `test_vectors` lacks.
-use crate::buffers::filled_but;
+use crate::tests::buffers::filled_but;
 use infer::archive::{is_lz4, is_zst};
 use infer::text::{is_html, is_xml};
 use infer::{position, rows};

@@ -1,5 +1,5 @@
 //! Answers of readers and of files, and each fault.
-use crate::buffers::filled_but;
+use crate::tests::buffers::filled_but;
 use infer::{Fault, Infer, Type, Watched, get, get_from_path, row, rows, sample};
 use linked_list_allocator::LocalHeap;
 use std::alloc::{AllocError, Allocator, Global};

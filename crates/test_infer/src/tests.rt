@@ -1,0 +1,10 @@
+mod added;
+mod asked;
+mod buffers;
+mod decisions;
+mod definitions;
+mod input;
+mod laws;
+mod positions;
+mod streams;
+mod types;
