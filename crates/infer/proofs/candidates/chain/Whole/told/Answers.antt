@@ -1,13 +1,17 @@
-use Rattle.std.proofs.Common.{arith, subst, sym}
-use Rattle.infer.specs.Walks.{IsFirstAmong}
-use Rattle.infer.proofs.CandidateLemmas.{first_is_row, row_numbered-row}
-use Rattle.infer.proofs.candidates.chain.Whole.number.Goals as goal
+use Rattle.std.proofs.Common.{◌<◌, ℕ, List, Option, None, Some, IfSome, subst, sym}
+use Rattle.infer.specs.BuiltIn.{BuiltIn}
+use Rattle.infer.specs.Row.{Row}
+use Rattle.infer.specs.Walks.{IsFirstAmong, RowHas}
+use Rattle.infer.specs.declared.table.rows.TheConstants.{ROW_COUNT}
+use Rattle.infer.proofs.CandidateLemmas.{first_is_row}
+use Rattle.infer.proofs.candidates.chain.Whole.told.Goals as goal
 
-pub overflow_cast-result : goal.overflow_cast-result
-overflow_cast-result g c =
-    let row = first_is_row _ _ c.in-Some.row (subst (IsFirstAmong _ _) c.in-Some.is c.first.ensures) in omega (arith, row)
+are_rows : (P : Row BuiltIn → Type 0) (ns : List ℕ) (o : Option ℕ) → IsFirstAmong (RowHas P) ns o → IfSome o (λ i. i < ROW_COUNT)
+are_rows P ns None h = tt
+are_rows P ns (Some i) h = first_is_row P ns i h
 
-pub returns-in-Some : goal.returns-in-Some
-returns-in-Some g c =
-    let first = subst (IsFirstAmong _ _) c.in-Some.is c.first.ensures in
-    subst (IsFirstAmong _ _) (sym (row_numbered-row c.in-Some.row (first_is_row _ _ c.in-Some.row first))) first
+pub tell-requires : goal.tell-requires
+tell-requires g c = are_rows _ _ c.first.result c.first.ensures
+
+pub returns : goal.returns
+returns g c = subst (IsFirstAmong _ _) (sym c.tell.ensures) c.first.ensures
