@@ -1,5 +1,5 @@
 //! A reader that cuts its bytes.
-ghost use Rattle.std.specs.Prelude.{◌≡◌, ◌≤◌, Some};
+ghost use Rattle.std.specs.Prelude.{◌≡◌, ◌≤◌, Some, max};
 
 use crate::NEVER;
 use std::io;
@@ -15,9 +15,11 @@ pub struct PieceReader<'a> {
     pub rest: &'a [u8],
     /// How many reads there were, failed ones among them.
     pub reads: u32,
-    piece: usize,
-    fails_at: u32,
-    kind: ErrorKind,
+    /// How many bytes a read gives at most.
+    pub piece: usize,
+    /// The read that fails, and with which error.
+    pub fails_at: u32,
+    pub kind: ErrorKind,
     ghost some: { 1 ≤ piece },
 }
 
@@ -26,14 +28,18 @@ impl<'a> PieceReader<'a> {
     pub fn new(bytes: &'a [u8], piece: usize) -> PieceReader<'a>
         ensures rest { result.rest.now ≡ bytes.now }
         ensures reads { result.reads ≡ 0 }
+        ensures piece { result.piece ≡ max piece 1 }
+        ensures never { result.fails_at ≡ NEVER }
     {
         PieceReader::failing(bytes, piece, NEVER, ErrorKind::Other)
     }
 
-    /// The same, with an error of the kind `kind` at read `fails_at`.
+    /// Gives as many, with an error of the kind `kind` at read `fails_at`.
     pub fn failing(bytes: &'a [u8], piece: usize, fails_at: u32, kind: ErrorKind) -> PieceReader<'a>
         ensures rest { result.rest.now ≡ bytes.now }
         ensures reads { result.reads ≡ 0 }
+        ensures piece { result.piece ≡ max piece 1 }
+        ensures fails { (result.fails_at ≡ fails_at) × (result.kind ≡ kind) }
     {
         PieceReader {
             rest: bytes,

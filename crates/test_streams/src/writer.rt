@@ -1,5 +1,5 @@
 //! A writer that cuts its bytes.
-ghost use Rattle.std.specs.Prelude.{◌≤◌};
+ghost use Rattle.std.specs.Prelude.{◌≡◌, ◌↔◌, ◌<◌, ◌≤◌, IsTrue, false, take, true};
 
 use crate::NEVER;
 use std::io;
@@ -17,22 +17,34 @@ pub const ROOM: usize = 512;
 pub struct PieceWriter {
     /// How many writes there were, failed ones among them.
     pub writes: u32,
-    kept: [u8; ROOM],
-    len: usize,
-    piece: usize,
-    fails_at: u32,
-    flushes: bool,
+    /// What the writes took, in its first `len` bytes.
+    pub kept: [u8; ROOM],
+    pub len: usize,
+    /// How many bytes a write takes at most.
+    pub piece: usize,
+    /// The write that fails.
+    pub fails_at: u32,
+    /// Whether a flush succeeds.
+    pub flushes: bool,
     ghost fits: { len ≤ 512 },
 }
 
 impl PieceWriter {
     /// Takes at most `piece` bytes a write.
-    pub fn new(piece: usize) -> PieceWriter {
+    pub fn new(piece: usize) -> PieceWriter
+        ensures empty { (result.writes ≡ 0) × (result.len ≡ 0) }
+        ensures piece { result.piece ≡ piece }
+        ensures never { (result.fails_at ≡ NEVER) × (result.flushes ≡ true) }
+    {
         PieceWriter::failing(piece, NEVER)
     }
 
-    /// The same, with an error at write `fails_at`.
-    pub fn failing(piece: usize, fails_at: u32) -> PieceWriter {
+    /// Takes as many, with an error at write `fails_at`.
+    pub fn failing(piece: usize, fails_at: u32) -> PieceWriter
+        ensures empty { (result.writes ≡ 0) × (result.len ≡ 0) }
+        ensures piece { result.piece ≡ piece }
+        ensures fails { (result.fails_at ≡ fails_at) × (result.flushes ≡ true) }
+    {
         PieceWriter {
             writes: 0,
             kept: [0; ROOM],
@@ -44,7 +56,11 @@ impl PieceWriter {
     }
 
     /// Takes all of every write, and fails whenever it is flushed.
-    pub fn without_flush() -> PieceWriter {
+    pub fn without_flush() -> PieceWriter
+        ensures empty { (result.writes ≡ 0) × (result.len ≡ 0) }
+        ensures piece { result.piece ≡ ROOM }
+        ensures fails { (result.fails_at ≡ NEVER) × (result.flushes ≡ false) }
+    {
         PieceWriter {
             writes: 0,
             kept: [0; ROOM],
@@ -56,12 +72,16 @@ impl PieceWriter {
     }
 
     /// What the writes took.
-    pub fn taken(&self) -> &[u8] {
+    pub fn taken(&self) -> &[u8]
+        ensures { result.now ≡ take self.now.len self.now.kept }
+    {
         &self.kept[..self.len]
     }
 
     /// Whether the write that is to fail has come.
-    pub fn has_failed(&self) -> bool {
+    pub fn has_failed(&self) -> bool
+        ensures { IsTrue result ↔ self.now.fails_at < self.now.writes }
+    {
         self.fails_at < self.writes
     }
 }
