@@ -10,6 +10,7 @@ accepts it with some more bytes, with such bytes.
 proof. A no has none: `attack.py` attacks it."""
 from __future__ import annotations
 
+import functools
 import os
 import re
 import sys
@@ -122,6 +123,7 @@ EBML = bytes.fromhex("1A45DFA3")
 MATROSKA = {"mkv": b"\x42\x82\x88matroska", "webm": b"\x42\x82\x84webm"}
 FRAMED = {"zst": bytes.fromhex("28B52FFD"), "lz4": bytes.fromhex("04224D18")}
 SKIPPABLE = [bytes([first]) + b"\x2a\x4d\x18" for first in range(0x50, 0x60)]
+EMPTY_FRAMES = re.compile(rb"(?:[\x50-\x5f]\x2a\x4d\x18\0\0\0\0)*+")
 # Brands that decide as the major one, brands that ask for a compatible one, and the compatible ones.
 BRANDS = {
     "heif": ([b"heic", b"heix"], [b"mif1", b"msf1"], [b"heic"]),
@@ -140,6 +142,7 @@ CLASS_IDS = {
 }
 WHITE = b"\x09\x0a\x0c\x0d\x20"
 MARKS = [b"\xef\xbb\xbf", b"\xfe\xff", b"\xff\xfe"]
+ALL_MARKS = re.compile(b"(?:" + b"|".join(MARKS) + b")*+")
 TAGS = [
     b"<!DOCTYPE HTML", b"<HTML", b"<HEAD", b"<SCRIPT", b"<IFRAME", b"<H1", b"<DIV", b"<FONT", b"<TABLE", b"<A",
     b"<STYLE", b"<TITLE", b"<B", b"<BODY", b"<BR", b"<P", b"<!--",
@@ -222,11 +225,17 @@ def big(digits: bytes) -> int:
     return int.from_bytes(digits, "big")
 
 
+@functools.cache
+def led_by(extension: str, first: bytes) -> list[Alternative]:
+    """The alternatives that allow this first byte, and all if there is none: most rows end here."""
+    return [alternative for alternative in ALTERNATIVES[extension] if first in alternative.asked.get(0, first)]
+
+
 def is_fixed(extension: str, buf) -> bool:
     return any(
         alternative.least <= len(buf)
         and all(place < len(buf) and buf[place] in allowed for place, allowed in alternative.asked.items())
-        for alternative in ALTERNATIVES[extension]
+        for alternative in led_by(extension, buf[:1])
     )
 
 
@@ -240,7 +249,8 @@ def is_matroska(extension: str, buf) -> bool:
 
 def after_frames(buf) -> int:
     """The place after all whole frames that the buffer begins with."""
-    place = 0
+    # A million bytes of empty frames would take seconds one at a time.
+    place = EMPTY_FRAMES.match(buf).end() if isinstance(buf, bytes) else 0
     while buf[place:place + 4] in SKIPPABLE and len(buf) >= place + 8:
         end = place + 8 + little(buf[place + 4:place + 8])
         if end > len(buf):
@@ -320,10 +330,7 @@ def after_white(buf: bytes) -> int:
 
 def after_marks(buf: bytes) -> int:
     """The place after all white space, and all marks after that."""
-    place = after_white(buf)
-    while mark := next((mark for mark in MARKS if stands(buf, mark, place)), None):
-        place += len(mark)
-    return place
+    return ALL_MARKS.match(buf, after_white(buf)).end()
 
 
 def is_html(_: str, buf) -> bool:
@@ -373,7 +380,7 @@ def first_of(found: Iterable[Needs | None]) -> Needs | None:
 
 def needs_fixed(extension: str, buf: bytes) -> Needs | None:
     length = len(buf)
-    for least, asked in ALTERNATIVES[extension]:
+    for least, asked in led_by(extension, buf[:1]):
         if all(place >= length or buf[place] in allowed for place, allowed in asked.items()):
             return Needs(least, [(place, allowed[:1]) for place, allowed in asked.items() if place >= length])
     return None
