@@ -158,8 +158,8 @@ class Vector(NamedTuple):
     data: bytes
 
 
-def _lines_of(name: str, crate: str = "test_vectors") -> list[list[str]]:
-    with open(f"{ROOT}/crates/{crate}/data/{name}", encoding="utf-8") as lines:
+def _lines_of(name: str) -> list[list[str]]:
+    with open(f"{ROOT}/vectors/{name}", encoding="utf-8") as lines:
         return [line.rstrip("\n").split("\t") for line in lines]
 
 
@@ -181,13 +181,13 @@ def vectors() -> list[Vector]:
 
 def further_rows() -> list[Row]:
     """The further rows by their test data."""
-    return [Row(*words[:3]) for words in _lines_of("rows.tsv", "test_more")]
+    return [Row(*words[:3]) for words in _lines_of("further/rows.tsv")]
 
 
 def further_vectors() -> list[tuple[str, bytes, int | None, str]]:
     """Buffers: the name, the bytes, the number of the further row that is the wider answer or None, and what the wider
     answer shows, its MIME type and its extension or "unknown"."""
-    return [(name, decode(data), None if row == "-" else int(row), shown) for name, data, row, shown in _lines_of("vectors.tsv", "test_more")]
+    return [(name, decode(data), None if row == "-" else int(row), shown) for name, data, row, shown in _lines_of("further/vectors.tsv")]
 
 
 def command_in(readme: str, begins: str) -> str:

@@ -22,11 +22,7 @@ var (
 )
 
 func lines(t *testing.T, name string) [][]string {
-	return linesOf(t, "test_vectors", name)
-}
-
-func linesOf(t *testing.T, crate, name string) [][]string {
-	text, err := os.ReadFile(filepath.Join("..", "..", "crates", crate, "data", name))
+	text, err := os.ReadFile(filepath.Join("..", "..", "vectors", filepath.FromSlash(name)))
 	if err != nil {
 		t.Fatal(err)
 	}
@@ -63,8 +59,8 @@ func decode(t *testing.T, tokens string) []byte {
 }
 
 func TestWiderAnswers(t *testing.T) {
-	rows := linesOf(t, "test_more", "rows.tsv")
-	for _, line := range linesOf(t, "test_more", "vectors.tsv") {
+	rows := lines(t, "further/rows.tsv")
+	for _, line := range lines(t, "further/vectors.tsv") {
 		data := decode(t, line[1])
 		got, ok := DetectMore(data)
 		told := "unknown"

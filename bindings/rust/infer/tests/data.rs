@@ -13,13 +13,9 @@ unsafe extern "C" {
 /// A class as it prints, a MIME type and an extension.
 type Row = (String, String, String);
 
+/// The lines of a file of the test data, as their fields.
 fn lines(name: &str) -> Vec<Vec<String>> {
-    lines_of("test_vectors", name)
-}
-
-/// The lines of a file in the data of that crate, as their fields.
-fn lines_of(name_of_crate: &str, name: &str) -> Vec<Vec<String>> {
-    let path = Path::new(env!("CARGO_MANIFEST_DIR")).join("../../../crates").join(name_of_crate).join("data").join(name);
+    let path = Path::new(env!("CARGO_MANIFEST_DIR")).join("../../../vectors").join(name);
     let text = fs::read_to_string(path).unwrap();
     text.lines().map(|line| line.split('\t').map(String::from).collect()).collect()
 }
@@ -105,8 +101,8 @@ fn vectors_have_their_answers() {
 
 #[test]
 fn wider_answers_are_those_of_the_data() {
-    let rows = lines_of("test_more", "rows.tsv");
-    let vectors = lines_of("test_more", "vectors.tsv");
+    let rows = lines("further/rows.tsv");
+    let vectors = lines("further/vectors.tsv");
     assert!(vectors.len() >= 365);
     for line in &vectors {
         let data = decode(&line[1]);

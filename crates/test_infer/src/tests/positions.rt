@@ -1,4 +1,4 @@
-//! The numbers of first rows, on worked buffers that the outside data of `test_vectors` lacks.
+//! The numbers of first rows, on worked buffers that the outside data of `vectors/` lacks.
 use crate::tests::buffers::filled_but;
 use infer::archive::{is_lz4, is_zst};
 use infer::text::{is_html, is_xml};

@@ -1,10 +1,13 @@
 #!/usr/bin/env python3
-"""Prints `decided.tsv` by the model of `decided.py`.
+"""Prints what more bytes can change of some thousand buffers, by the model of `decided.py`.
 
-usage: table.py > ../data/decided.tsv"""
+usage: table.py [samples]
+
+With `samples` it prints the lines of the rows' samples alone, which are the first."""
 from __future__ import annotations
 
 import itertools
+import sys
 from collections.abc import Callable, Iterator
 
 from attack import IDS, Attack, texts_of
@@ -197,11 +200,15 @@ def edges() -> Iterator[tuple[str, bytes]]:
             yield f"{name}-edge", buf.ljust(PADDED, b"x")
 
 
-def buffers() -> Iterator[tuple[str, str]]:
+def samples() -> Iterator[tuple[str, str]]:
     """Names and tokens."""
     for row, sample in enumerate(SAMPLES):
         if sample:
             yield f"{EXTENSIONS[row]}-sample", encode([(sample.ljust(PADDED, b"\0"), 1)])
+
+
+def buffers() -> Iterator[tuple[str, str]]:
+    yield from samples()
     for name, _, _, tokens in fields_of("vectors.tsv"):
         yield name, tokens
     for byte in range(256):
@@ -215,5 +222,5 @@ def buffers() -> Iterator[tuple[str, str]]:
 
 
 if __name__ == "__main__":
-    for name, tokens in buffers():
+    for name, tokens in samples() if sys.argv[1:] == ["samples"] else buffers():
         print(line_of(name, tokens))
