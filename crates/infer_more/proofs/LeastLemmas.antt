@@ -4,7 +4,7 @@ use Rattle.std.specs.Prelude.{◌&&◌, if◌then◌else◌, nat_lt, slice_index
 use Rattle.std.proofs.lemmas.Bool.{eq-eqb, ltb-true}
 use Rattle.std.proofs.lemmas.List.{append-nil, get_or_default, take_all}
 use Rattle.infer.specs.First.{IsFirstOf}
-use Rattle.infer_more.specs.Index.{AllAreAsked, IsLeastOf, KeepsLeast, asked, guarded, is_guarded, number_of}
+use Rattle.infer_more.specs.Index.{AllAreAsked, IsLeastOf, KeepsLeast, asked, guarded, is_guarded, number_of, numbers_at}
 use Rattle.infer_more.specs.Row.{Further}
 use Rattle.infer_more.specs.Table.{further}
 use Rattle.infer_more.specs.Wider.{Widens, WidensAt}
@@ -39,6 +39,13 @@ module _ (parent : Option ℕ) (b : List ℕ) where
   pub first_of_least : (index : RowIndex) (o : Option ℕ) → AllAreAsked index → KeepsLeast parent b (asked index parent b) None o
       → IsFirstOf (Widens parent b) further o
   first_of_least index o all keeps = first_of index o all (keeps [] (record { widens = tt; least = λ i listed w. absurd (cc) }))
+
+-- no row widens an answer below which none is asked
+pub widest : (index : RowIndex) (row : ℕ) (rows : List RowName) → AllAreAsked index → map number_of rows ≡ numbers_at index.below.now row
+    → length rows ≡ 0 → (b : List ℕ) → IsFirstOf (Widens (Some row) b) further None
+widest index row [] all e none b =
+    first_of_least (Some row) b index None all (subst (λ l. KeepsLeast (Some row) b l None None) e (keeps_none (Some row) b None))
+widest index row (r ∷ rows) all e none b = absurd (omega arith)
 
 -- one more row, and one more guard
 numbers_more : (rows : List RowName) (k : ℕ) (d : RowName) → k < length rows

@@ -17,6 +17,10 @@ use Rattle.infer_more.specs.Table.{further}
 abbrev pub Widens : Option ℕ → List ℕ → Further → Type 0
 Widens parent b r = (r.parent ≡ parent) × IsTrue (accepts r.signature b)
 
+-- no further row does, whatever the buffer is
+abbrev pub IsWidest : Option ℕ → Type 0
+IsWidest parent = (b : List ℕ) → IsFirstOf (Widens parent b) further None
+
 -- the further row of that number, counted among the further ones, does so
 abbrev pub WidensAt : Option ℕ → List ℕ → ℕ → Type 0
 WidensAt parent b i = (i < length further) × HoldsAt (Widens parent b) further i

@@ -7,7 +7,7 @@ ghost use Rattle.infer.specs.declared.table.rows.TheConstants.{ROW_COUNT};
 ghost use Rattle.infer_more.specs.Ended.{ended_listed, ended_shown};
 ghost use Rattle.infer_more.specs.Index.{KeepsLeast, asked, begun, guarded, number_of, numbers_at};
 ghost use Rattle.infer_more.specs.Table.{further};
-ghost use Rattle.infer_more.specs.Wider.{AcceptsAt, IsWider, IsWiderAnswer, Widens, WidensAt, parent_at, shown};
+ghost use Rattle.infer_more.specs.Wider.{AcceptsAt, IsWider, IsWiderAnswer, IsWidest, Widens, WidensAt, parent_at, shown};
 ghost use Rattle.infer_more.specs.Listed.{row_listed};
 ghost use Rattle.infer_more.specs.declared.table.names.TheConstants.{FURTHER_COUNT};
 
@@ -109,17 +109,6 @@ fn least_unknown(index: &RowIndex, buf: &[u8]) -> Option<usize>
     least_guarded(index.guards, buf, least)
 }
 
-/// The least of these rows that has this parent and accepts the buffer. Nothing is called if there are none.
-#[inline(always)]
-fn least_below(rows: &[RowName], parent: Option<usize>, buf: &[u8]) -> Option<usize>
-    ensures { KeepsLeast parent buf.now (map number_of rows.now) None result }
-{
-    if rows.is_empty() {
-        return None;
-    }
-    least_of(rows, parent, buf, None)
-}
-
 /// The first further row with this parent that accepts the buffer.
 #[inline(always)]
 fn first_widening(parent: Option<usize>, buf: &[u8]) -> Option<usize>
@@ -128,8 +117,21 @@ fn first_widening(parent: Option<usize>, buf: &[u8]) -> Option<usize>
     let index = index();
     asked(index);
     match parent {
-        Some(row) => least_below(rows_at(index.below, row), parent, buf),
+        Some(row) => least_of(rows_at(index.below, row), parent, buf, None),
         None => least_unknown(index, buf),
+    }
+}
+
+/// Whether no further row is asked below this answer, so that none widens it.
+#[inline(always)]
+fn is_widest(parent: Option<usize>) -> bool
+    ensures { IsTrue result → IsWidest parent }
+{
+    let index = index();
+    asked(index);
+    match parent {
+        Some(row) => rows_at(index.below, row).is_empty(),
+        None => false,
     }
 }
 
@@ -140,6 +142,9 @@ pub fn position(buf: &[u8]) -> Option<usize>
     ensures bound { IfSome result (λ i. i < ROW_COUNT + FURTHER_COUNT) }
 {
     let parent = infer::position(buf);
+    if is_widest(parent) {
+        return parent;
+    }
     match first_widening(parent, buf) {
         Some(i) => Some(ROW_COUNT + i),
         None => parent,

@@ -9,8 +9,8 @@ use Rattle.infer_more.proofs.answers.first_widening.Goals as goal
 pub returns-in-Some : goal.returns-in-Some
 returns-in-Some c =
     let b = c.args.buf.now in
-    let o = c.least_below.result in
-    let least = subst (λ l. KeepsLeast (Some c.in-Some.row) b l None o) c.rows_at.ensures c.least_below.ensures in
+    let o = c.least_of.result in
+    let least = subst (λ l. KeepsLeast (Some c.in-Some.row) b l None o) c.rows_at.ensures c.least_of.ensures in
     subst (λ p. IsFirstOf (Widens p b) further o) (sym c.in-Some.is) (first_of_least (Some c.in-Some.row) b c.index-index.result.now o c.asked.ensures least)
 
 pub returns-in-None : goal.returns-in-None
