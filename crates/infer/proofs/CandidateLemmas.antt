@@ -1,7 +1,7 @@
 -- The first of the candidates that has a property is the first row of the table that has it.
 use Rattle.std.proofs.Common.{◌≡◌, ◌<◌, ◌≤◌, ◌+◌, ℕ, zero, suc, Bool, true, false, List, [], ◌∷◌, get_or, length, drop, length-drop, drop-cons, add-one, sym, subst, ap, arith, IsTrue, refl, Option, Some, None, MatchOption, if◌then◌else◌, inl, inr, is_some, ◌↔◌}
 use Rattle.std.specs.List.{slice_get, AllWithin, HoldsAt}
-use Rattle.std.proofs.lemmas.Bool.{cases_lt}
+use Rattle.std.proofs.lemmas.Bool.{cases_lt, ne_eqb}
 use Rattle.std.proofs.lemmas.List.Elements.{AllWithin-more, AllWithin-none, AllWithin-upto}
 use Rattle.std.proofs.lemmas.List.Folds.{none_from_all_within}
 use Rattle.infer.specs.BuiltIn.{BuiltIn}
@@ -9,7 +9,7 @@ use Rattle.infer.specs.First.{IsFirst, IsFirstOf, NoneHas, SomeHas}
 use Rattle.infer.specs.Leads.{Leads, allows_first, candidates, candidates_of, places_from}
 use Rattle.infer.specs.Row.{Row, Accepts}
 use Rattle.infer.specs.Table.{table}
-use Rattle.infer.specs.Walks.{IsFirstAmong, RowHas, Takes, WalksFindFirst}
+use Rattle.infer.specs.Walks.{IsFirstAmong, RowHas, Takes, WalksFindFirst, row_numbered}
 use Rattle.infer.specs.declared.ask.question.Wanted.{Wanted}
 use Rattle.infer.specs.declared.ask.question.Wanted.TheVariants.{Every}
 use Rattle.infer.specs.declared.table.rows.TheConstants.{ROW_COUNT}
@@ -120,6 +120,9 @@ first_is_row P (n ∷ ns) i (inl h) =
     let within = ((read_has P table n).0 h.0).0 in
     omega (arith, length-table)
 first_is_row P (n ∷ ns) i (inr h) = first_is_row P ns i h.1
+
+pub row_numbered-row : (i : ℕ) → i < ROW_COUNT → row_numbered i ≡ Some i
+row_numbered-row i l = rw (ne_eqb i 4294967295 (λ e. omega (arith, e, l))) refl
 
 pub some_of_first : {A : Type 0} (P : A → Type 0) (xs : List A) (o : Option ℕ) (r : Bool) → r ≡ is_some o → IsFirstOf P xs o → IsTrue r ↔ SomeHas P xs
 some_of_first P xs None r e none = (λ t. absurd (cc), λ some. absurd (none_from_all_within P xs none some))

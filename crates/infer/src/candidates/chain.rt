@@ -1,7 +1,7 @@
 //! Chains of rows that are asked in turn, each made straight code of its own.
 #![tactic(auto, unfolding(crate::specs::Walks::IsFirstAmong))]
 
-ghost use Rattle.std.specs.Prelude.{◌≡◌, ◌↔◌, ◌<◌, [], ◌∷◌, ℕ, List, Option, IfSome, IsTrue};
+ghost use Rattle.std.specs.Prelude.{◌↔◌, [], ◌∷◌, ℕ, List, IsTrue};
 ghost use Rattle.infer_deep.specs.Find.{OccursAt};
 ghost use Rattle.infer.specs.Questions.{IsWanted};
 ghost use Rattle.infer.specs.Row.{Accepts};
@@ -9,7 +9,7 @@ ghost use Rattle.infer.specs.Walks.{IsFirstAmong, RowHas, Takes, row_numbered};
 
 use crate::ask::question::Question;
 use crate::ask::taken::{is_wanted, takes};
-use crate::table::rows::{DOCX, HTML, LZ4, PPTX, ROW_COUNT, XLSX, XML, ZST};
+use crate::table::rows::{DOCX, HTML, LZ4, PPTX, XLSX, XML, ZST};
 use infer_deep::archive::after_skippable_frames;
 use infer_deep::doc::deciding_folder;
 use infer_deep::places::stands_at;
@@ -25,16 +25,6 @@ pub trait Chain {
     /// The first that accepts `buf`, of those that are asked for.
     fn first<Q: Question>(&self, question: &Q, buf: &[u8]) -> Option<usize>
         ensures { IsFirstAmong (RowHas (Takes (Q.wanted question.now) buf.now)) (rows self.now) result };
-}
-
-/// What tells a first row: an `Option`, or a number of 32 bits, [`NO_ROW`] for none, which takes one register.
-pub trait Told {
-    ghost first: { Self → Option ℕ };
-
-    /// Tells the row.
-    fn tell(found: Option<usize>) -> Self
-        requires { IfSome found (λ i. i < ROW_COUNT) }
-        ensures { first result ≡ found };
 }
 
 /// No row.
@@ -180,30 +170,12 @@ impl<C: Chain> Chain for Whole<C> {
 }
 
 impl<C: Chain> Whole<C> {
-    /// The first row, as [`Chain::first`] answers.
+    /// The number of the first row, as [`Chain::first`] answers, and [`NO_ROW`] for none. A number takes one register.
     #[inline(never)]
-    pub fn told<Q: Question, T: Told>(&self, question: &Q, buf: &[u8]) -> T
-        ensures { IsFirstAmong (RowHas (Takes (Q.wanted question.now) buf.now)) (C.rows self.now.0) (T.first result) }
+    pub fn number<Q: Question>(&self, question: &Q, buf: &[u8]) -> u32
+        ensures { IsFirstAmong (RowHas (Takes (Q.wanted question.now) buf.now)) (C.rows self.now.0) (row_numbered result) }
     {
-        T::tell(self.0.first(question, buf))
-    }
-}
-
-impl Told for Option<usize> {
-    ghost first = { λ s. s };
-
-    #[inline(always)]
-    fn tell(found: Option<usize>) -> Option<usize> {
-        found
-    }
-}
-
-impl Told for u32 {
-    ghost first = { row_numbered };
-
-    #[inline(always)]
-    fn tell(found: Option<usize>) -> u32 {
-        match found {
+        match self.0.first(question, buf) {
             Some(row) => row as u32,
             None => NO_ROW,
         }

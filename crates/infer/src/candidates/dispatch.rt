@@ -2,11 +2,11 @@
 ghost use Rattle.std.specs.Prelude.{◌≡◌, ◌≤◌, length};
 ghost use Rattle.infer.specs.Arms.{rows_of};
 ghost use Rattle.infer.specs.Leads.{candidates};
-ghost use Rattle.infer.specs.Walks.{IsFirstAmong, RowHas, Takes};
+ghost use Rattle.infer.specs.Walks.{IsFirstAmong, RowHas, Takes, row_numbered};
 
 use crate::ask::question::Question;
 use crate::candidates::chain::{
-    Chain, End, Frames, Markup, NO_ROW, Then, ThenOffice, ThenThree, ThenTwo, Told, Whole,
+    Chain, End, Frames, Markup, NO_ROW, Then, ThenOffice, ThenThree, ThenTwo, Whole,
 };
 use crate::table::rows::*;
 
@@ -173,10 +173,18 @@ macro_rules! list_at {
     };
 }
 
-macro_rules! told_at {
+macro_rules! first_at {
     ([$arm:ident $question:ident $buf:ident] $($name:ident ($($row:tt)*))*) => {
         match $arm {
-            $(Arm::$name => Whole(chain!($($row)*)).told($question, $buf),)*
+            $(Arm::$name => Whole(chain!($($row)*)).first($question, $buf),)*
+        }
+    };
+}
+
+macro_rules! number_at {
+    ([$arm:ident $question:ident $buf:ident] $($name:ident ($($row:tt)*))*) => {
+        match $arm {
+            $(Arm::$name => Whole(chain!($($row)*)).number($question, $buf),)*
         }
     };
 }
@@ -223,12 +231,13 @@ pub fn candidates_at(arm: Arm) -> &'static [usize]
     with_candidates!(list_at arm)
 }
 
-/// The first candidate of an arm that accepts `buf`, of those that are asked for.
+/// The number of the first candidate of an arm that accepts `buf`, of those that are asked for, and [`NO_ROW`] if none
+/// does.
 #[inline(always)]
-fn told_of<Q: Question, T: Told>(arm: Arm, question: &Q, buf: &[u8]) -> T
-    ensures { IsFirstAmong (RowHas (Takes (Q.wanted question.now) buf.now)) (rows_of arm) (T.first result) }
+fn first_number<Q: Question>(arm: Arm, question: &Q, buf: &[u8]) -> u32
+    ensures { IsFirstAmong (RowHas (Takes (Q.wanted question.now) buf.now)) (rows_of arm) (row_numbered result) }
 {
-    with_candidates!(told_at arm question buf)
+    with_candidates!(number_at arm question buf)
 }
 
 /// The first candidate of an arm that accepts `buf`, of those that are asked for.
@@ -236,7 +245,7 @@ fn told_of<Q: Question, T: Told>(arm: Arm, question: &Q, buf: &[u8]) -> T
 pub fn first_of<Q: Question>(arm: Arm, question: &Q, buf: &[u8]) -> Option<usize>
     ensures { IsFirstAmong (RowHas (Takes (Q.wanted question.now) buf.now)) (rows_of arm) result }
 {
-    match told_of::<Q, u32>(arm, question, buf) {
+    match first_number(arm, question, buf) {
         NO_ROW => None,
         number => Some(number as usize),
     }
@@ -247,5 +256,5 @@ pub fn first_of<Q: Question>(arm: Arm, question: &Q, buf: &[u8]) -> Option<usize
 pub fn first_of_class<Q: Question>(arm: Arm, question: &Q, buf: &[u8]) -> Option<usize>
     ensures { IsFirstAmong (RowHas (Takes (Q.wanted question.now) buf.now)) (rows_of arm) result }
 {
-    told_of::<Q, Option<usize>>(arm, question, buf)
+    with_candidates!(first_at arm question buf)
 }
