@@ -1,6 +1,6 @@
 //! The rows, their samples and the vectors, by the repository's test data.
 
-use infer::{MatcherType, Type};
+use infer::{Matcher, MatcherType, Type};
 use std::ffi::{c_char, c_void};
 use std::fs;
 use std::path::Path;
@@ -51,6 +51,129 @@ fn sample(row: usize) -> Vec<u8> {
     let size = unsafe { infer_sample(row as i32, out.as_mut_ptr().cast(), out.len()) };
     out.truncate(size);
     out
+}
+
+/// The name of each row, and its matcher.
+fn matchers() -> Vec<(&'static str, Matcher)> {
+    use infer::{app, archive, audio, book, doc, font, image, odf, text, video};
+    vec![
+        ("App/wasm", app::is_wasm),
+        ("App/elf", app::is_elf),
+        ("App/exe", app::is_exe),
+        ("App/dll", app::is_dll),
+        ("App/class", app::is_java),
+        ("App/bc", app::is_llvm),
+        ("App/mach", app::is_mach),
+        ("App/dex", app::is_dex),
+        ("App/dey", app::is_dey),
+        ("App/der", app::is_der),
+        ("App/obj", app::is_coff),
+        ("App/pem", app::is_pem),
+        ("App/qcow2", app::is_qcow2),
+        ("Book/epub", book::is_epub),
+        ("Book/mobi", book::is_mobi),
+        ("Image/jpg", image::is_jpeg),
+        ("Image/jp2", image::is_jpeg2000),
+        ("Image/png", image::is_png),
+        ("Image/gif", image::is_gif),
+        ("Image/webp", image::is_webp),
+        ("Image/cr2", image::is_cr2),
+        ("Image/tif", image::is_tiff),
+        ("Image/bmp", image::is_bmp),
+        ("Image/jxr", image::is_jxr),
+        ("Image/psd", image::is_psd),
+        ("Image/ico", image::is_ico),
+        ("Image/heif", image::is_heif),
+        ("Image/avif", image::is_avif),
+        ("Image/jxl", image::is_jxl),
+        ("Image/ora", image::is_ora),
+        ("Image/djvu", image::is_djvu),
+        ("Image/dwg", image::is_dwg),
+        ("Video/mp4", video::is_mp4),
+        ("Video/m4v", video::is_m4v),
+        ("Video/mkv", video::is_mkv),
+        ("Video/webm", video::is_webm),
+        ("Video/mov", video::is_mov),
+        ("Video/avi", video::is_avi),
+        ("Video/wmv", video::is_wmv),
+        ("Video/mpg", video::is_mpeg),
+        ("Video/flv", video::is_flv),
+        ("Audio/midi", audio::is_midi),
+        ("Audio/mp3", audio::is_mp3),
+        ("Audio/m4a", audio::is_m4a),
+        ("Audio/opus", audio::is_ogg_opus),
+        ("Audio/ogg", audio::is_ogg),
+        ("Audio/flac", audio::is_flac),
+        ("Audio/wav", audio::is_wav),
+        ("Audio/amr", audio::is_amr),
+        ("Audio/aac", audio::is_aac),
+        ("Audio/aiff", audio::is_aiff),
+        ("Audio/dsf", audio::is_dsf),
+        ("Audio/ape", audio::is_ape),
+        ("Font/woff", font::is_woff),
+        ("Font/woff2", font::is_woff2),
+        ("Font/ttf", font::is_ttf),
+        ("Font/otf", font::is_otf),
+        ("Doc/doc", doc::is_doc),
+        ("Doc/docx", doc::is_docx),
+        ("Doc/xls", doc::is_xls),
+        ("Doc/xlsx", doc::is_xlsx),
+        ("Doc/ppt", doc::is_ppt),
+        ("Doc/pptx", doc::is_pptx),
+        ("Doc/odt", odf::is_odt),
+        ("Doc/ods", odf::is_ods),
+        ("Doc/odp", odf::is_odp),
+        ("Archive/epub", archive::is_epub),
+        ("Archive/zip", archive::is_zip),
+        ("Archive/tar", archive::is_tar),
+        ("Archive/par2", archive::is_par2),
+        ("Archive/rar", archive::is_rar),
+        ("Archive/gz", archive::is_gz),
+        ("Archive/bz2", archive::is_bz2),
+        ("Archive/bz3", archive::is_bz3),
+        ("Archive/7z", archive::is_7z),
+        ("Archive/xz", archive::is_xz),
+        ("Archive/pdf", archive::is_pdf),
+        ("Archive/swf", archive::is_swf),
+        ("Archive/rtf", archive::is_rtf),
+        ("Archive/eot", archive::is_eot),
+        ("Archive/ps", archive::is_ps),
+        ("Archive/sqlite", archive::is_sqlite),
+        ("Archive/nes", archive::is_nes),
+        ("Archive/crx", archive::is_crx),
+        ("Archive/cab", archive::is_cab),
+        ("Archive/deb", archive::is_deb),
+        ("Archive/ar", archive::is_ar),
+        ("Archive/Z", archive::is_z),
+        ("Archive/lz", archive::is_lz),
+        ("Archive/rpm", archive::is_rpm),
+        ("Archive/dcm", archive::is_dcm),
+        ("Archive/zst", archive::is_zst),
+        ("Archive/lz4", archive::is_lz4),
+        ("Archive/msi", archive::is_msi),
+        ("Archive/cpio", archive::is_cpio),
+        ("Text/html", text::is_html),
+        ("Text/xml", text::is_xml),
+        ("Text/sh", text::is_shellscript),
+    ]
+}
+
+/// The row's sample, or that of another row with its MIME type if it has none.
+fn accepted(name: &str) -> Vec<u8> {
+    let rows = lines("rows.tsv");
+    let own = rows.iter().find(|row| format!("{}/{}", row[0], row[2]) == name).unwrap();
+    let sampled = [own].into_iter().chain(&rows).find(|row| row[1] == own[1] && row[3] != "none").unwrap();
+    decode(&sampled[3])
+}
+
+#[test]
+fn matchers_accept_the_samples_of_their_rows() {
+    let all = matchers();
+    assert_eq!(all.len(), rows().len());
+    for (name, matcher) in all {
+        let told = (matcher(&accepted(name)), matcher(b""), matcher(&[b'A'; 700]));
+        assert_eq!(told, (true, false, false), "{name}");
+    }
 }
 
 #[test]
