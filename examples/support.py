@@ -196,8 +196,14 @@ def command_in(readme: str, begins: str) -> str:
         return next(line.strip() for line in lines if line.startswith("    " + begins))
 
 
+def _refuse_to_wait(number: int, frame: object) -> None:
+    raise AssertionError("a test waits for what does not come")
+
+
 def main() -> None:
-    """Runs the tests of the program, with their counts in the last line."""
+    """Runs the tests of the program, with their counts in the last line. One that waits for ever has failed."""
+    signal.signal(signal.SIGALRM, _refuse_to_wait)
+    signal.setitimer(signal.ITIMER_REAL, 8 * PATIENCE, 8 * PATIENCE)
     program = unittest.main(module="__main__", exit=False, verbosity=1)
     result = program.result
     failed = len(result.failures) + len(result.errors)

@@ -23,7 +23,7 @@
 
 #define LETTERS_AND_DIGITS "0123456789ABCDEFGHIJKLMNOPQRSTUVWXYZabcdefghijklmnopqrstuvwxyz"
 
-enum { HEAD = 8192, LARGEST = 8 << 20, NAME = 100, CHILDREN = 16, LINGER = 2000 };
+enum { HEAD = 8192, LARGEST = 8 << 20, NAME = 100, CHILDREN = 16, LINGER = 2000, NOTICE = 100 };
 
 static bool *allowed;         /* of each row */
 static long patience = 30000; /* milliseconds for a whole request */
@@ -491,11 +491,20 @@ static bool has_ended(int children) {
     return child > 0;
 }
 
+/* Whether a sender comes. While there are children it waits a while and no longer, so that a child which has been ended
+ * is told of though nobody comes after it. */
+static bool comes(int listening, int children) {
+    struct pollfd ready = {.fd = listening, .events = POLLIN};
+    return children == 0 || poll(&ready, 1, NOTICE) > 0;
+}
+
 /* A process for each request, so that a slow sender holds up nobody, and a bound on them, so that memory has one. */
 static void accept_all(int listening) {
     for (int children = 0;;) {
         while (has_ended(children))
             children--;
+        if (!comes(listening, children))
+            continue;
         int fd = accept(listening, NULL, NULL);
         if (fd < 0) {
             poll(NULL, 0, 100); /* the system is short of something: no busy loop */
