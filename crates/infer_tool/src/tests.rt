@@ -5,10 +5,11 @@ use crate::outcome::Outcome;
 use crate::report::{report, run_path, run_path_within, run_reader};
 use crate::run::run;
 use crate::writer::WatchedWriter;
-use infer::{FRONT, Watched, get};
+use infer::{FRONT, Fault, Watched, get};
 use linked_list_allocator::LocalHeap;
 use std::alloc::AllocError;
 use std::fs;
+use std::io::ErrorKind;
 use std::process::Abort;
 use std::rt::Files;
 use std::test::Fail;
@@ -158,6 +159,32 @@ fn one_room_for_all_files(rt: HostRuntime) -> Result<(), Fail> {
     );
     fs::remove_file(&rt, "g.jpg")?;
     Ok(())
+}
+
+/// Over writers that are not watched, no clause says which fault is told.
+#[test]
+fn faults_over_plain_writers(rt: HostRuntime) -> Result<(), Fail> {
+    let (mut out, mut err) = (PieceWriter::new(512), PieceWriter::new(512));
+    let (one, other) = (failing(), failing());
+    let outcomes = [
+        report("a", Err(Fault::Memory), &mut out, &mut err),
+        run_reader(rt.alloc(), "b", one, &mut out, &mut err),
+        run_path(&rt, rt.alloc(), "missing.bin", &mut out, &mut err),
+        run(&rt, rt.alloc(), &[], other, &mut out, &mut err),
+    ];
+    for outcome in outcomes {
+        assert_eq!(rt; outcome.status(), 2);
+    }
+    let lines =
+        b"a: no memory\nb: cannot read\nmissing.bin: cannot open\n-: cannot read\n".as_slice();
+    assert_eq!(rt; err.taken(), lines);
+    assert!(rt; out.taken().is_empty());
+    Ok(())
+}
+
+/// A reader of which the first read fails.
+fn failing() -> PieceReader<'static> {
+    PieceReader::failing(&JPEG, 4, 0, ErrorKind::Other)
 }
 
 /// The last flush counts, the texts of `Debug` are the names, and `report` succeeds.
