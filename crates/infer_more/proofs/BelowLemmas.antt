@@ -1,5 +1,5 @@
 -- What the wider answer says of the built-in one.
-use Rattle.std.proofs.Common.{◌≡◌, ◌≤◌, ◌<◌, ◌+◌, ◌-◌, ℕ, false, inl, inr, List, Option, None, Some, ap, length, nat_lt, slice_get, subst, sym, ◌∙◌, arith, refl}
+use Rattle.std.proofs.Common.{◌≡◌, ◌≤◌, ◌<◌, ◌+◌, ◌-◌, ℕ, false, inl, inr, List, Option, None, Some, IfSome, ap, length, nat_lt, slice_get, subst, sym, ◌∙◌, arith, refl}
 use Rattle.std.specs.Prelude.{if◌then◌else◌}
 use Rattle.std.specs.Option.{option_map_or}
 use Rattle.std.proofs.lemmas.Bool.{lt-ltb}
@@ -13,7 +13,9 @@ use Rattle.infer.proofs.TableLemmas.{length-table}
 use Rattle.infer_more.specs.Laws.{AllAreBelow, built_in_by}
 use Rattle.infer_more.specs.Row.{Further}
 use Rattle.infer_more.specs.Table.{further}
-use Rattle.infer_more.specs.Wider.{Widens, parent_at, wider}
+use Rattle.infer_more.specs.Wider.{IsWider, Widens, parent_at, wider}
+use Rattle.infer_more.specs.declared.table.names.TheConstants.{FURTHER_COUNT}
+use Rattle.infer_more.proofs.TableLemmas.{length-further}
 
 not_less : (m n : ℕ) → n ≤ m → nat_lt m n ≡ false
 not_less m n le = grind (arith, nat_tests)
@@ -43,6 +45,26 @@ told b (Some i) None answers widens =
 told b parent (Some j) answers widens =
     ap (λ t. if t then Some (ROW_COUNT + j) else parent_at (ROW_COUNT + j)) (not_less (ROW_COUNT + j) ROW_COUNT (omega arith))
     ∙ parent_read parent b j widens
+
+-- the wider answer by the first further row that widens the built-in one
+module _ (b : List ℕ) (parent o : Option ℕ) where
+  pub is_wider : IsFirstOf (Accepts b) built_in.table parent → (found : Option ℕ) × IsFirstOf (Widens parent b) further found × (o ≡ wider parent found)
+      → IsWider b o
+  is_wider answers (found, widens, is) = record { parent = parent; found = found; answers = answers; widens = widens; is = is }
+
+  within_of : (p found : Option ℕ) → IfSome p (λ i. i < ROW_COUNT) → IsFirstOf (Widens p b) further found
+      → IfSome (wider p found) (λ i. i < ROW_COUNT + FURTHER_COUNT)
+  within_of None None bound first = tt
+  within_of (Some i) None bound first = let lt : i < ROW_COUNT = bound in omega arith
+  within_of p (Some j) bound first =
+      let within : j < length further = first.within in
+      let many = length-further in
+      omega arith
+
+  -- it is a row's number
+  pub wider_within : IfSome parent (λ i. i < ROW_COUNT) → (found : Option ℕ) × IsFirstOf (Widens parent b) further found × (o ≡ wider parent found)
+      → IfSome o (λ i. i < ROW_COUNT + FURTHER_COUNT)
+  wider_within bound (found, first, is) = subst (λ p. IfSome p (λ i. i < ROW_COUNT + FURTHER_COUNT)) (sym is) (within_of parent found bound first)
 
 pub all_below : AllAreBelow
 all_below b o w =

@@ -16,6 +16,11 @@ module _ (parent : Option ℕ) (b : List ℕ) where
   pub keeps_none : (o : Option ℕ) → KeepsLeast parent b [] o o
   keeps_none o numbers h = rw append-nil h
 
+  -- as no row does
+  pub keeps_no_row : (rows : List RowName) (numbers : List ℕ) (o : Option ℕ) → map number_of rows ≡ numbers → length rows ≡ 0 → KeepsLeast parent b numbers o o
+  keeps_no_row [] numbers o e none = subst (λ l. KeepsLeast parent b l o o) e (keeps_none o)
+  keeps_no_row (r ∷ rows) numbers o e none = absurd (omega arith)
+
   pub keeps_more : (xs ys : List ℕ) (o p q : Option ℕ) → KeepsLeast parent b xs o p → KeepsLeast parent b ys p q → KeepsLeast parent b (xs ++ ys) o q
   keeps_more xs ys o p q h k numbers least =
       subst (λ l. IsLeastOf parent b l q) (append_assoc numbers xs ys) (k (numbers ++ xs) (h numbers least))
@@ -43,9 +48,8 @@ module _ (parent : Option ℕ) (b : List ℕ) where
 -- no row widens an answer below which none is asked
 pub widest : (index : RowIndex) (row : ℕ) (rows : List RowName) → AllAreAsked index → map number_of rows ≡ numbers_at index.below.now row
     → length rows ≡ 0 → (b : List ℕ) → IsFirstOf (Widens (Some row) b) further None
-widest index row [] all e none b =
-    first_of_least (Some row) b index None all (subst (λ l. KeepsLeast (Some row) b l None None) e (keeps_none (Some row) b None))
-widest index row (r ∷ rows) all e none b = absurd (omega arith)
+widest index row rows all e none b =
+    first_of_least (Some row) b index None all (keeps_no_row (Some row) b rows (numbers_at index.below.now row) None e none)
 
 -- one more row, and one more guard
 numbers_more : (rows : List RowName) (k : ℕ) (d : RowName) → k < length rows

@@ -1,5 +1,5 @@
 //! What the further rows answer.
-ghost use Rattle.std.specs.Prelude.{◌≡◌, ◌↔◌, ◌+◌, ◌<◌, ◌≤◌, IfSome, IsTrue, None, [], ◌∷◌, length, map, option_map, slice_get};
+ghost use Rattle.std.specs.Prelude.{◌≡◌, ◌↔◌, ◌+◌, ◌<◌, ◌≤◌, ℕ, IfSome, IsTrue, None, Option, Some, [], ◌∷◌, length, map, option_map, slice_get};
 ghost use Rattle.std.specs.List.{HoldsAt};
 ghost use Rattle.infer.specs.First.{IsFirstOf, SomeHas};
 ghost use Rattle.infer.specs.Triple.{triple_of};
@@ -7,7 +7,7 @@ ghost use Rattle.infer.specs.declared.table.rows.TheConstants.{ROW_COUNT};
 ghost use Rattle.infer_more.specs.Ended.{ended_listed, ended_shown};
 ghost use Rattle.infer_more.specs.Index.{KeepsLeast, asked, begun, guarded, number_of, numbers_at};
 ghost use Rattle.infer_more.specs.Table.{further};
-ghost use Rattle.infer_more.specs.Wider.{AcceptsAt, IsWider, IsWiderAnswer, IsWidest, Widens, WidensAt, parent_at, shown};
+ghost use Rattle.infer_more.specs.Wider.{AcceptsAt, IsWider, IsWiderAnswer, IsWidest, Widens, WidensAt, parent_at, shown, wider};
 ghost use Rattle.infer_more.specs.Listed.{row_listed};
 ghost use Rattle.infer_more.specs.declared.table.names.TheConstants.{FURTHER_COUNT};
 
@@ -18,6 +18,7 @@ use infer::rows::{ROW_COUNT, numbers};
 use infer::{Ask, Asker, Type};
 
 /// Whether further row `i` has this parent and accepts the buffer.
+#[inline(always)]
 fn widens(i: usize, parent: Option<usize>, buf: &[u8]) -> bool
     ensures { IsTrue result ↔ WidensAt parent buf.now i }
 {
@@ -28,6 +29,7 @@ fn widens(i: usize, parent: Option<usize>, buf: &[u8]) -> bool
 }
 
 /// The lesser of the two numbers, if further row `i` has this parent and accepts the buffer.
+#[inline(always)]
 fn lesser(i: usize, parent: Option<usize>, buf: &[u8], least: Option<usize>) -> Option<usize>
     ensures { KeepsLeast parent buf.now (i ∷ []) least result }
 {
@@ -38,9 +40,8 @@ fn lesser(i: usize, parent: Option<usize>, buf: &[u8], least: Option<usize>) -> 
     }
 }
 
-/// The least of these rows, and of those before them, that has this parent and accepts the buffer. A function of its own,
-/// since most built-in rows have no row below them.
-#[inline(never)]
+/// The least of these rows, and of those before them, that has this parent and accepts the buffer.
+#[inline(always)]
 fn least_of(
     rows: &[RowName],
     parent: Option<usize>,
@@ -56,13 +57,21 @@ fn least_of(
     least
 }
 
+/// The same without a parent. A function of its own, so that what asks the guards stays short.
+#[inline(never)]
+fn least_alone(rows: &[RowName], buf: &[u8], before: Option<usize>) -> Option<usize>
+    ensures { KeepsLeast None buf.now (map number_of rows.now) before result }
+{
+    least_of(rows, None, buf, before)
+}
+
 /// The same of a guard's rows, if the buffer has its byte.
 #[inline(always)]
 fn least_behind(guard: &Guard, buf: &[u8], before: Option<usize>) -> Option<usize>
     ensures { KeepsLeast None buf.now (guarded buf.now (guard.now ∷ [])) before result }
 {
     match buf.get(guard.place) {
-        Some(byte) if *byte == guard.byte => least_of(guard.rows, None, buf, before),
+        Some(byte) if *byte == guard.byte => least_alone(guard.rows, buf, before),
         _ => before,
     }
 }
@@ -100,38 +109,77 @@ fn rows_begun(index: &RowIndex, buf: &[u8]) -> &'static [RowName]
     }
 }
 
-/// The least further row without a parent that accepts the buffer.
+/// The least further row without a parent that accepts the buffer. A function of its own, whose guards are then tested
+/// in straight code.
 #[inline(never)]
 fn least_unknown(index: &RowIndex, buf: &[u8]) -> Option<usize>
     ensures { KeepsLeast None buf.now (asked index.now None buf.now) None result }
 {
-    let least = least_of(rows_begun(index, buf), None, buf, None);
+    let least = least_alone(rows_begun(index, buf), buf, None);
     least_guarded(index.guards, buf, least)
 }
 
-/// The first further row with this parent that accepts the buffer.
+/// The first further row below this built-in row that accepts the buffer.
 #[inline(always)]
-fn first_widening(parent: Option<usize>, buf: &[u8]) -> Option<usize>
-    ensures { IsFirstOf (Widens parent buf.now) further result }
+fn first_below(row: usize, buf: &[u8]) -> Option<usize>
+    ensures { IsFirstOf (Widens (Some row) buf.now) further result }
 {
     let index = index();
     asked(index);
-    match parent {
-        Some(row) => least_of(rows_at(index.below, row), parent, buf, None),
-        None => least_unknown(index, buf),
+    least_of(rows_at(index.below, row), Some(row), buf, None)
+}
+
+/// The first further row without a parent that accepts the buffer.
+#[inline(always)]
+fn first_unknown(buf: &[u8]) -> Option<usize>
+    ensures { IsFirstOf (Widens None buf.now) further result }
+{
+    let index = index();
+    asked(index);
+    least_unknown(index, buf)
+}
+
+/// Whether no further row is asked below this built-in row, so that none widens it.
+#[inline(always)]
+fn is_widest(row: usize) -> bool
+    ensures { IsTrue result → IsWidest (Some row) }
+{
+    let index = index();
+    asked(index);
+    rows_at(index.below, row).is_empty()
+}
+
+/// The number of the wider answer of a buffer whose built-in answer is this row. A function of its own, so that a row that
+/// none widens takes nothing of what this one needs.
+#[inline(never)]
+fn asked_below(row: usize, buf: &[u8]) -> Option<usize>
+    ensures { (found : Option ℕ) × IsFirstOf (Widens (Some row) buf.now) further found × (result ≡ wider (Some row) found) }
+{
+    match first_below(row, buf) {
+        Some(i) => Some(ROW_COUNT + i),
+        None => Some(row),
     }
 }
 
-/// Whether no further row is asked below this answer, so that none widens it.
+/// The same, at once if no row is asked.
 #[inline(always)]
-fn is_widest(parent: Option<usize>) -> bool
-    ensures { IsTrue result → IsWidest parent }
+fn widened(row: usize, buf: &[u8]) -> Option<usize>
+    ensures { (found : Option ℕ) × IsFirstOf (Widens (Some row) buf.now) further found × (result ≡ wider (Some row) found) }
 {
-    let index = index();
-    asked(index);
-    match parent {
-        Some(row) => rows_at(index.below, row).is_empty(),
-        None => false,
+    if is_widest(row) {
+        return Some(row);
+    }
+    asked_below(row, buf)
+}
+
+/// The number of the wider answer of a buffer that no built-in row accepts.
+#[inline(always)]
+fn widened_unknown(buf: &[u8]) -> Option<usize>
+    ensures { (found : Option ℕ) × IsFirstOf (Widens None buf.now) further found × (result ≡ wider None found) }
+{
+    match first_unknown(buf) {
+        Some(found) => Some(ROW_COUNT + found),
+        None => None,
     }
 }
 
@@ -141,13 +189,9 @@ pub fn position(buf: &[u8]) -> Option<usize>
     ensures wider { IsWider buf.now result }
     ensures bound { IfSome result (λ i. i < ROW_COUNT + FURTHER_COUNT) }
 {
-    let parent = infer::position(buf);
-    if is_widest(parent) {
-        return parent;
-    }
-    match first_widening(parent, buf) {
-        Some(i) => Some(ROW_COUNT + i),
-        None => parent,
+    match infer::position(buf) {
+        Some(row) => widened(row, buf),
+        None => widened_unknown(buf),
     }
 }
 

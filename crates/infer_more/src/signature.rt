@@ -21,6 +21,7 @@ pub(crate) struct Alternative {
 }
 
 /// Whether the buffer has the least length and every piece of one of the alternatives.
+#[inline(always)]
 #[tactic(auto, using(crate::proofs::ListLemmas::list_any_map))]
 pub(crate) fn accepts(signature: &[Alternative], buf: &[u8]) -> bool
     ensures { result ≡ accepts (signature_listed signature.now) buf.now }
@@ -40,6 +41,7 @@ fn fits_any(signature: &[Alternative], buf: &[u8]) -> bool
 }
 
 /// Whether the buffer has the least length and every piece of this one.
+#[inline(always)]
 #[tactic(auto, using(crate::proofs::ListLemmas::list_all_map))]
 fn fits(alternative: &Alternative, buf: &[u8]) -> bool
     ensures { result ≡ fits buf.now (alternative_listed alternative.now) }
@@ -59,6 +61,7 @@ fn has_every(pieces: &[Piece], buf: &[u8]) -> bool
 }
 
 /// Whether it has what the piece asks.
+#[inline(always)]
 fn has_piece(piece: &Piece, buf: &[u8]) -> bool
     ensures { result ≡ has_part buf.now (part_listed piece.now) }
 {
@@ -76,6 +79,7 @@ fn has_piece(piece: &Piece, buf: &[u8]) -> bool
 }
 
 /// Whether the text stands in the buffer from the place on.
+#[inline(always)]
 #[tactic(auto, unfolding(infer_sig::specs::Signature::stands))]
 fn stands_at(place: usize, text: &[u8], buf: &[u8]) -> bool
     ensures { result ≡ stands place text.now buf.now }

@@ -6,5 +6,5 @@ use Rattle.infer_more.proofs.answers.least_unknown.Goals as goal
 pub returns : goal.returns
 returns c =
     let b = c.args.buf.now in
-    let begun = subst (λ l. KeepsLeast None b l None c.least_of-least.result) c.rows_begun.ensures c.least_of-least.ensures in
+    let begun = subst (λ l. KeepsLeast None b l None c.least_alone-least.result) c.rows_begun.ensures c.least_alone-least.ensures in
     keeps_more None b _ _ _ _ _ begun c.least_guarded.ensures
