@@ -137,10 +137,11 @@ pub extern "C" fn infer_mime_type(row: i32, out: &mut [u8]) -> usize
     }
 }
 
-/// The length of the row's extension, which is written to `out`, and 0 if there is no such row.
+/// The length of the row's extension, which is written to `out`, and 0 if there is no such row. It is at most 73.
 #[unsafe(no_mangle)]
 pub extern "C" fn infer_extension(row: i32, out: &mut [u8]) -> usize
     ensures length { result ≡ option_map_or (λ t. length t.extension) (triple_at row) 0 }
+    ensures few { result ≤ 73 }
     ensures written { WritesText (option_map_or (λ t. t.extension) (triple_at row) []) out.old out.new }
 {
     match row::of(row) {
@@ -176,12 +177,13 @@ pub extern "C" fn infer_class(row: i32) -> i32
     }
 }
 
-/// The length of the class's name, which is written to `out`, and 0 if no class has this number.
+/// The length of the class's name, which is written to `out`, and 0 if no class has this number. It is at most 73.
 #[unsafe(no_mangle)]
 pub extern "C" fn infer_class_name(class: i32, out: &mut [u8]) -> usize
-    ensures { (found : Option MatcherType) × IsClassOf class found
+    ensures text { (found : Option MatcherType) × IsClassOf class found
         × (result ≡ option_map_or (λ c. length (class_name c)) found 0)
         × WritesText (option_map_or class_name found []) out.old out.new }
+    ensures few { result ≤ 73 }
 {
     match class::of(class) {
         Some(found) => written::write_text(class::name(found), out),
