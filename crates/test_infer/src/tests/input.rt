@@ -204,6 +204,23 @@ fn samples_as_files(rt: HostRuntime) -> Result<(), Fail> {
     Ok(())
 }
 
+/// The wider answers of files, within 8192 bytes and within four.
+#[test]
+fn all_samples_as_files(rt: HostRuntime) -> Result<(), Fail> {
+    for i in 0..rows::ROW_COUNT + infer_more::FURTHER_COUNT {
+        let mut out = [0; infer_more::SAMPLE_SIZE];
+        if let Some(n) = infer_more::sample(i, &mut out) {
+            fs::write(&rt, "wider.bin", &out[..n])?;
+            let whole = infer_more::get_from_path(&rt, rt.alloc(), "wider.bin");
+            assert_eq!(rt; whole, Ok(infer_more::get(&out[..n])), "row {i}");
+            let front = infer_more::get_from_path_within(&rt, rt.alloc(), "wider.bin", 4);
+            assert_eq!(rt; front, Ok(infer_more::get(&out[..n.min(4)])), "row {i}");
+            fs::remove_file(&rt, "wider.bin")?;
+        }
+    }
+    Ok(())
+}
+
 #[test]
 fn paths_without_a_file(rt: HostRuntime) {
     let paths = [
