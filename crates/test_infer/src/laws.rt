@@ -1,10 +1,10 @@
 //! What the laws tell a caller, each as the contract of a function that calls one.
-ghost use Rattle.std.specs.Prelude.{◌≡◌, ◌≢◌, ◌↔◌, [], ◌∷◌, ◌++◌, ℕ, List, false, true, All, IfOk, IfSome, IsNone, IsTrue, None, Some, not, option_map, take, nat_eq};
+ghost use Rattle.std.specs.Prelude.{◌≡◌, ◌≢◌, ◌↔◌, ◌<◌, [], ◌∷◌, ◌++◌, ℕ, List, false, true, All, IfOk, IfSome, IsNone, IsTrue, None, Some, length, not, option_map, take, nat_eq};
 ghost use Rattle.std.specs.List.{HoldsAt, starts_with};
 ghost use Rattle.infer_deep.specs.Windows.{mkv_type};
 ghost use Rattle.infer.specs.App.{coff_x64};
-ghost use Rattle.infer.specs.Buffer.{head};
-ghost use Rattle.infer.specs.Decided.{MayAnswer};
+ghost use Rattle.infer.specs.Buffer.{IsBuffer, head};
+ghost use Rattle.infer.specs.Decided.{IsDecided, MayAnswer};
 ghost use Rattle.infer.specs.BuiltIn.{IsAccepted, matroska};
 ghost use Rattle.infer.specs.First.{IsFirst};
 ghost use Rattle.infer.specs.Laws.{AnyLasts, answers_twelve};
@@ -16,8 +16,10 @@ ghost use Rattle.infer.specs.Table.{table};
 ghost use Rattle.infer.specs.Triple.{triple_of};
 
 use infer::app::{is_java, is_mach, may_become_coff_x64};
-use infer::rows::{DLL, DOC, EPUB_ARCHIVE, GIF, PDF, SHELLSCRIPT, WASM};
-use infer::{Asker, Fault, Infer, Type, Watched, is_decided, laws, may_become, position, walk};
+use infer::rows::{DLL, DOC, EPUB_ARCHIVE, GIF, PDF, ROW_COUNT, SHELLSCRIPT, WASM};
+use infer::{
+    Asker, Fault, Infer, Type, Watched, is_decided, laws, may_become, position, sample, walk,
+};
 use std::alloc::{AllocError, Allocator, Global};
 
 fn begins_00(buf: &[u8]) -> bool
@@ -113,6 +115,16 @@ pub fn script_is_reached()
     laws::reach();
 }
 
+/// The sample of a row, for which the 640 bytes of `out` are enough, and no bytes if it has none.
+pub fn sample_within(row: usize, out: &mut [u8; 640]) -> &[u8]
+    ensures { row < ROW_COUNT → row ≢ DLL → row ≢ EPUB_ARCHIVE → IsFirst (Accepts result.now) table row }
+{
+    match sample(row, out) {
+        Some(count) => &out[..count],
+        None => &out[..0],
+    }
+}
+
 /// Whether a buffer and a longer one are decided.
 pub fn both_decided(short: &[u8], long: &[u8]) -> (bool, bool)
     requires { (more : List ℕ) × (long.now ≡ short.now ++ more) }
@@ -122,12 +134,37 @@ pub fn both_decided(short: &[u8], long: &[u8]) -> (bool, bool)
     (is_decided(short), is_decided(long))
 }
 
+/// Whether a row may become one of a buffer and of a longer one.
+pub fn both_may_become(short: &[u8], long: &[u8], row: usize) -> (bool, bool)
+    requires { (more : List ℕ) × (long.now ≡ short.now ++ more) }
+    ensures { IsTrue result.1 → IsTrue result.0 }
+{
+    laws::later();
+    (may_become(short, row), may_become(long, row))
+}
+
+/// Some bytes after a buffer that is not empty decide it, whatever follows these.
+pub fn can_stay_decided(buf: &[u8]) -> bool
+    requires { 0 < length buf.now }
+    ensures { (more : List ℕ) × ((rest : List ℕ) → IsBuffer rest → IsDecided ((buf.now ++ more) ++ rest)) }
+{
+    laws::later();
+    is_decided(buf)
+}
+
 /// Whether some bytes after the buffer make the first row of the table its answer.
 pub fn may_answer_first(buf: &[u8]) -> bool
-    ensures { IsTrue result → MayAnswer buf.now WASM }
+    ensures { IsTrue result ↔ MayAnswer buf.now WASM }
 {
     laws::later();
     may_become(buf, WASM)
+}
+
+/// The answer of a buffer may be its answer, since no bytes may follow.
+pub fn answer_may_stay(buf: &[u8]) -> Option<usize>
+    ensures { IfSome result (MayAnswer buf.now) }
+{
+    position(buf)
 }
 
 /// What the row of GIF accepts can never be a PDF document by its answer, though that row may accept it too.

@@ -1,4 +1,4 @@
-use Rattle.std.proofs.Common.{List, ℕ, subst, sym, arith}
+use Rattle.std.proofs.Common.{subst, sym, arith}
 use Rattle.infer.specs.Buffer.{IsBuffer}
 use Rattle.infer.specs.Decided.{IsDecided}
 use Rattle.test_infer.proofs.BufferLemmas.{IsBuffer-bytes, IsBuffer-rest}
