@@ -25,7 +25,23 @@ static void call(const char *what, const void *buf, size_t len) {
     else exit(3);
 }
 
+/* Writes the sample of each further row that has one as a pack. */
+static int write_samples(const char *path) {
+    FILE *pack = fopen(path, "wb");
+    if (!pack) return 2;
+    for (size_t row = infer_row_count(); row < infer_more_row_count(); row++) {
+        uint8_t sample[INFER_SAMPLE_SIZE];
+        size_t len = infer_sample((int32_t)row, sample, sizeof sample);
+        uint8_t head[4] = {len & 255, len >> 8 & 255, len >> 16 & 255, len >> 24 & 255};
+        if (!len) continue;
+        fwrite(head, 1, sizeof head, pack);
+        fwrite(sample, 1, len, pack);
+    }
+    return fclose(pack) ? 2 : 0;
+}
+
 int main(int argc, char **argv) {
+    if (argc == 3 && !strcmp(argv[1], "write_samples")) return write_samples(argv[2]);
     FILE *pack = argc == 3 ? fopen(argv[2], "rb") : NULL;
     uint8_t head[4];
     if (!pack) return 2;
