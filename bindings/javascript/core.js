@@ -1,0 +1,140 @@
+// All of the package but how the module is read, which differs between browsers and Node.
+import { frontOf } from "./bytes.js";
+
+/** So many first bytes are looked at, at most. */
+const FRONT = 8192;
+/** Most files are told by so many bytes, and of a Blob no more are read then. */
+const FIRST = 1024;
+const PAGE = 65536;
+const TEXT = 128n;
+/** The smallest module with a 64-bit memory. */
+const WIDE = new Uint8Array([0, 97, 115, 109, 1, 0, 0, 0, 5, 3, 1, 4, 1]);
+const NO_WIDE_MEMORY =
+    "hoarvelt-infer needs 64-bit WebAssembly memories, which this JavaScript engine does not have: start Node 20 or 22 with --experimental-wasm-memory64, or take a current Chromium or Firefox";
+
+let infer;
+let place;
+let room;
+const rows = [];
+
+export const supportedExtensions = new Set();
+export const supportedMimeTypes = new Set();
+
+/** Older engines take the number of pages as a number, and later ones as a BigInt. */
+const grow = (memory, pages) => {
+    try {
+        memory.grow(BigInt(pages));
+    } catch (fault) {
+        if (!(fault instanceof TypeError)) throw fault;
+        memory.grow(pages);
+    }
+};
+
+const textOf = (write, row) => {
+    const length = Number(write(row, place, TEXT));
+    return new TextDecoder().decode(room.slice(0, length));
+};
+
+/** Makes the package ready. `read` gives the bytes of infer.wasm, or a promise of them. */
+export const connect = async (read) => {
+    if (!WebAssembly.validate(WIDE)) throw new Error(NO_WIDE_MEMORY);
+    let bytes;
+    try {
+        bytes = await read();
+    } catch (fault) {
+        throw new Error(`hoarvelt-infer has no module infer.wasm, which bindings/javascript/fill copies to it: ${fault.message}`, { cause: fault });
+    }
+    infer = (await WebAssembly.instantiate(bytes, {})).instance.exports;
+    place = infer.__heap_base.value;
+    const start = Number(place);
+    const missing = start + FRONT - infer.memory.buffer.byteLength;
+    if (missing > 0) grow(infer.memory, Math.ceil(missing / PAGE));
+    room = new Uint8Array(infer.memory.buffer, start, FRONT);
+    const [builtIn, all] = [Number(infer.infer_row_count()), Number(infer.infer_more_row_count())];
+    for (let row = 0; row < all; row += 1) {
+        rows.push({ ext: textOf(infer.infer_extension, row), mime: textOf(infer.infer_mime_type, row) });
+        if (row >= builtIn) continue;
+        supportedExtensions.add(rows[row].ext);
+        supportedMimeTypes.add(rows[row].mime);
+    }
+};
+
+/** Copies the first bytes to where the module sees them, and asks it. */
+const ask = (question, input) => {
+    const front = frontOf(input, FRONT);
+    room.set(front);
+    return question(place, BigInt(front.length));
+};
+
+const answerOf = (row) => (row < 0 ? undefined : { ...rows[row] });
+const typeOf = (input) => answerOf(ask(infer.infer_position, input));
+
+export const wider = (input) => answerOf(ask(infer.infer_more_position, input));
+export const isDecided = (input) => ask(infer.infer_is_decided, input) !== 0;
+export const fileTypeFromBuffer = async (input) => typeOf(input);
+
+export const fileTypeFromBlob = async (blob) => {
+    if (typeof blob?.slice !== "function" || typeof blob.arrayBuffer !== "function") throw new TypeError("hand over a Blob or a File");
+    const first = frontOf(await blob.slice(0, FIRST).arrayBuffer(), FRONT);
+    if (first.length < FIRST || isDecided(first)) return typeOf(first);
+    return typeOf(await blob.slice(0, FRONT).arrayBuffer());
+};
+
+/** Reads until the type is decided, the bytes looked at are there, or the end. Gives the type and what was read. */
+export const readFront = async (read) => {
+    const front = new Uint8Array(FRONT);
+    const pieces = [];
+    let length = 0;
+    while (length < FRONT) {
+        const { done, value } = await read();
+        if (done) break;
+        const bytes = frontOf(value, FRONT - length);
+        // A piece without bytes is not kept, or a stream of such pieces would fill the memory.
+        if (bytes.length === 0) continue;
+        pieces.push(value);
+        front.set(bytes, length);
+        length += bytes.length;
+        if (isDecided(front.subarray(0, length))) break;
+    }
+    return { fileType: typeOf(front.subarray(0, length)), pieces };
+};
+
+const readerOf = (stream) => {
+    if (typeof stream?.getReader !== "function") throw new TypeError("hand over a ReadableStream");
+    return stream.getReader();
+};
+
+export const fileTypeFromStream = async (stream) => {
+    const reader = readerOf(stream);
+    try {
+        return (await readFront(() => reader.read())).fileType;
+    } finally {
+        reader.releaseLock();
+    }
+};
+
+/** What was read, and then the rest, each piece when somebody asks for it. */
+const wholeOf = (pieces, reader) =>
+    new ReadableStream(
+        {
+            async pull(controller) {
+                const { done, value } = pieces.length > 0 ? { value: pieces.shift() } : await reader.read();
+                if (done) controller.close();
+                else controller.enqueue(value);
+            },
+            cancel: (reason) => reader.cancel(reason),
+        },
+        { highWaterMark: 0 },
+    );
+
+export const fileTypeStream = async (stream) => {
+    const reader = readerOf(stream);
+    try {
+        const { fileType, pieces } = await readFront(() => reader.read());
+        return Object.assign(wholeOf(pieces, reader), { fileType });
+    } catch (fault) {
+        // Nobody else can reach what is left. Whether that can be cancelled changes nothing.
+        await reader.cancel(fault).catch(() => {});
+        throw fault;
+    }
+};

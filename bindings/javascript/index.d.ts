@@ -1,0 +1,33 @@
+/** The type of a file, from its first bytes. */
+export interface FileTypeResult {
+    /** The extension, without a dot. */
+    readonly ext: string;
+    readonly mime: string;
+}
+
+/** Bytes of any kind. */
+export type Bytes = ArrayBufferView | ArrayBufferLike;
+
+/** The type by the first 8192 bytes, or undefined if they are of no known type. */
+export function fileTypeFromBuffer(bytes: Bytes): Promise<FileTypeResult | undefined>;
+
+/** The type of a Blob or File, of which 8192 bytes are read at most. */
+export function fileTypeFromBlob(blob: Blob): Promise<FileTypeResult | undefined>;
+
+/** Reads until the type is decided, and takes away what it reads. The stream is left open and not locked. */
+export function fileTypeFromStream(stream: ReadableStream<Bytes>): Promise<FileTypeResult | undefined>;
+
+/** Reads until the type is decided, and gives a stream of the whole, with the type in `fileType`. */
+export function fileTypeStream<Piece extends Bytes>(stream: ReadableStream<Piece>): Promise<ReadableStream<Piece> & { readonly fileType?: FileTypeResult }>;
+
+/** The wider answer by the first 8192 bytes: that of fileTypeFromBuffer, or a further type that is more exact. */
+export function wider(bytes: Bytes): FileTypeResult | undefined;
+
+/** Whether no bytes that may follow can change the answer of fileTypeFromBuffer. */
+export function isDecided(bytes: Bytes): boolean;
+
+/** The extensions that fileTypeFromBuffer knows. */
+export const supportedExtensions: ReadonlySet<string>;
+
+/** The MIME types that fileTypeFromBuffer knows. */
+export const supportedMimeTypes: ReadonlySet<string>;

@@ -1,0 +1,20 @@
+// The package as browsers take it.
+import { connect } from "./core.js";
+
+const url = new URL("infer.wasm", import.meta.url);
+await connect(async () => {
+    const response = await fetch(url);
+    if (!response.ok) throw new Error(`${url} answers ${response.status}`);
+    return response.arrayBuffer();
+});
+
+export {
+    fileTypeFromBlob,
+    fileTypeFromBuffer,
+    fileTypeFromStream,
+    fileTypeStream,
+    isDecided,
+    supportedExtensions,
+    supportedMimeTypes,
+    wider,
+} from "./core.js";

@@ -1,0 +1,17 @@
+/// <reference types="node" />
+import type { PathLike } from "node:fs";
+import type { Readable } from "node:stream";
+import type { ReadableStream as NodeReadableStream } from "node:stream/web";
+import type { Bytes, FileTypeResult } from "./index.js";
+
+export { fileTypeFromBlob, fileTypeFromBuffer, isDecided, supportedExtensions, supportedMimeTypes, wider } from "./index.js";
+export type { Bytes, FileTypeResult } from "./index.js";
+
+/** The type of a file, of which 8192 bytes are read at most. */
+export function fileTypeFromFile(path: PathLike): Promise<FileTypeResult | undefined>;
+
+/** Reads until the type is decided, and takes away what it reads. The stream is left open and not locked. */
+export function fileTypeFromStream(stream: Readable | NodeReadableStream<Bytes>): Promise<FileTypeResult | undefined>;
+
+/** Reads until the type is decided, and gives a stream of the whole, with the type in `fileType`. */
+export function fileTypeStream<Stream extends Readable | NodeReadableStream<Bytes>>(stream: Stream): Promise<Stream & { readonly fileType?: FileTypeResult }>;

@@ -1,0 +1,153 @@
+// The answers, by the test data of the repository, and what callers can hand over as bytes.
+import assert from "node:assert/strict";
+import { test } from "node:test";
+import * as infer from "hoarvelt-infer";
+import * as aliases from "hoarvelt-infer/aliases";
+import { furtherVectors, generator, rows, samples, vectors } from "./support.mjs";
+
+const { fileTypeFromBuffer, isDecided, wider } = infer;
+const JPEG = { ext: "jpg", mime: "image/jpeg" };
+const jpeg = new Uint8Array([0xff, 0xd8, 0xff, 0xe0]);
+
+test("each sample has the type of its row", async () => {
+    assert.equal(samples.length, rows.length - 2);
+    for (const { type, sample } of samples) {
+        assert.deepEqual(await fileTypeFromBuffer(sample), type);
+        assert.deepEqual(await infer.fileTypeFromBlob(new Blob([sample])), type);
+        assert.deepEqual(await infer.fileTypeFromStream(new Blob([sample]).stream()), type);
+    }
+});
+
+test("the sets have the extensions and MIME types of the rows", () => {
+    assert.deepEqual([...infer.supportedExtensions], [...new Set(rows.map((row) => row.type.ext))]);
+    assert.deepEqual([...infer.supportedMimeTypes], [...new Set(rows.map((row) => row.type.mime))]);
+});
+
+test("each vector has its type", async () => {
+    for (const { name, type, data } of vectors) {
+        if (data.length <= 8192) assert.deepEqual(await fileTypeFromBuffer(data), type, name);
+    }
+});
+
+test("each vector of the further rows has its wider answer", () => {
+    for (const { name, data, shown } of furtherVectors) {
+        const found = wider(data);
+        assert.equal(found ? `${found.mime} ${found.ext}` : "unknown", shown, name);
+    }
+});
+
+test("what is decided stays the answer, whatever follows", async () => {
+    const below = generator(7);
+    for (const { sample, type } of samples) {
+        for (const more of [0, 200, 1100]) {
+            const data = new Uint8Array(sample.length + more);
+            data.set(sample);
+            if (!isDecided(data)) continue;
+            const longer = new Uint8Array(data.length + 300).map(() => below(256));
+            longer.set(data);
+            assert.deepEqual(await fileTypeFromBuffer(longer), type);
+        }
+    }
+    assert.equal(isDecided(new Uint8Array()), false);
+    assert.equal(isDecided(new Uint8Array(1 << 20)), true);
+});
+
+test("the first 8192 bytes are looked at", async () => {
+    const late = new TextEncoder().encode(`${" ".repeat(8190)}<p>`);
+    assert.equal(await fileTypeFromBuffer(late), undefined);
+    assert.equal((await fileTypeFromBuffer(late.subarray(1))).ext, "html");
+    assert.deepEqual(await fileTypeFromBuffer(Buffer.concat([jpeg, Buffer.alloc(1 << 26)])), JPEG);
+});
+
+test("bytes can be handed over in every kind of buffer and view", async () => {
+    const shared = new Uint8Array(new SharedArrayBuffer(4));
+    shared.set(jpeg);
+    const padded = new Uint8Array([1, 2, ...jpeg, 3]);
+    const kinds = [jpeg, jpeg.buffer, Buffer.from(jpeg), new DataView(jpeg.buffer), new Uint16Array(jpeg.buffer), shared, shared.buffer,
+        new DataView(shared.buffer), padded.subarray(2, 6), new DataView(padded.buffer, 2, 4)];
+    for (const kind of kinds) assert.deepEqual(await fileTypeFromBuffer(kind), JPEG);
+    for (const nothing of [new Uint8Array(), new ArrayBuffer(0), new SharedArrayBuffer(0)]) assert.equal(await fileTypeFromBuffer(nothing), undefined);
+});
+
+test("a detached buffer and its views are refused", async () => {
+    const data = new Uint8Array(jpeg);
+    const { buffer } = data;
+    const view = new DataView(buffer);
+    structuredClone(buffer, { transfer: [buffer] });
+    for (const gone of [buffer, data, view]) {
+        await assert.rejects(fileTypeFromBuffer(gone), TypeError);
+        assert.throws(() => wider(gone), TypeError);
+        assert.throws(() => isDecided(gone), TypeError);
+    }
+});
+
+test("what is no bytes is refused", async () => {
+    const others = [undefined, null, 1, 1n, "\xff\xd8\xff", [0xff, 0xd8, 0xff], {}, { byteLength: 4, length: 4, buffer: jpeg.buffer }, new Proxy(jpeg, {}),
+        Object.create(Uint8Array.prototype), Object.create(ArrayBuffer.prototype), () => jpeg, Symbol("bytes"), new Blob([jpeg]), new Map()];
+    for (const other of others) {
+        await assert.rejects(fileTypeFromBuffer(other), (fault) => fault instanceof TypeError && fault.message.startsWith("hand over bytes: "));
+        assert.throws(() => wider(other), TypeError);
+        assert.throws(() => isDecided(other), TypeError);
+    }
+});
+
+test("a view that lies about itself is believed in nothing", async () => {
+    class Liar extends Uint8Array {
+        get length() { throw new Error("asked"); }
+        get byteLength() { return 2 ** 40; }
+        get byteOffset() { return -1; }
+        get buffer() { return new ArrayBuffer(1); }
+        get [Symbol.toStringTag]() { return "DataView"; }
+        static get [Symbol.species]() { throw new Error("asked"); }
+        subarray() { throw new Error("asked"); }
+    }
+    const liar = new Liar(4);
+    for (const [at, byte] of jpeg.entries()) liar[at] = byte;
+    assert.deepEqual(await fileTypeFromBuffer(liar), JPEG);
+});
+
+test("an answer is the caller's own", async () => {
+    const found = await fileTypeFromBuffer(jpeg);
+    found.mime = "text/html";
+    assert.deepEqual(await fileTypeFromBuffer(jpeg), JPEG);
+});
+
+/** A sample with some bytes changed and cut or with bytes after it, or noise. */
+const hostile = (below) => {
+    const { sample } = samples[below(samples.length)];
+    const data = new Uint8Array(below(4) === 0 ? below(600) : Math.max(0, sample.length + below(40) - 20));
+    if (below(8) === 0) data.fill(below(2) * 255);
+    else for (let at = 0; at < data.length; at += 1) data[at] = below(256);
+    if (below(8) !== 0) data.set(sample.subarray(0, data.length));
+    for (let left = below(4); left > 0 && data.length > 0; left -= 1) data[below(data.length)] = [0, 255, 128, below(256)][below(4)];
+    return data;
+};
+
+test("100,000 hostile buffers are answered, and no answer depends on the buffers before it", () => {
+    const below = generator(20_260_000);
+    const known = new Set(rows.map((row) => `${row.type.mime} ${row.type.ext}`).concat(furtherVectors.map((it) => it.shown)));
+    let [recognised, last, lastShown] = [0, new Uint8Array(), "unknown"];
+    const shownOf = (data) => {
+        const found = wider(data);
+        return found ? `${found.mime} ${found.ext}` : "unknown";
+    };
+    for (let count = 0; count < 100_000; count += 1) {
+        const data = hostile(below);
+        const shown = shownOf(data);
+        assert.ok(shown === "unknown" || known.has(shown), shown);
+        assert.equal(typeof isDecided(data), "boolean");
+        // The buffer before, once more, after other bytes stood in its place.
+        assert.equal(shownOf(last), lastShown);
+        [last, lastShown, recognised] = [data, shown, recognised + (shown !== "unknown")];
+    }
+    assert.ok(recognised > 10_000 && recognised < 95_000, `${recognised} were recognised`);
+});
+
+test("the aliases lead to extensions that are known", () => {
+    assert.equal(aliases.extensions.get("jpeg"), "jpg");
+    assert.equal(aliases.browserTypes.get("font/woff2"), "woff2");
+    assert.equal(aliases.builtOn.get("svg"), "xml");
+    assert.equal(aliases.mimeTypes.get("image/jpg"), "jpg");
+    const maps = [aliases.extensions, aliases.mimeTypes, aliases.browserTypes, aliases.builtOn];
+    for (const target of maps.flatMap((map) => [...map.values()])) assert.ok(infer.supportedExtensions.has(target), target);
+});

@@ -1,0 +1,113 @@
+// The package as npm packs it, its faults before the first answer, its declarations, and the programs of its page.
+import assert from "node:assert/strict";
+import { spawnSync } from "node:child_process";
+import { cpSync, mkdirSync, mkdtempSync, readFileSync, readdirSync, rmSync, writeFileSync } from "node:fs";
+import { tmpdir } from "node:os";
+import { join } from "node:path";
+import { after, test } from "node:test";
+import { fileURLToPath } from "node:url";
+
+const here = fileURLToPath(new URL("..", import.meta.url));
+const work = mkdtempSync(join(tmpdir(), "infer-test-"));
+after(() => rmSync(work, { recursive: true }));
+
+const isThere = (program) => spawnSync(program, ["--version"]).status === 0;
+const run = (folder, program, ...words) =>
+    spawnSync(program, words, { cwd: folder, encoding: "utf8", timeout: 120_000, env: { ...process.env, HOME: work, npm_config_cache: join(work, "cache"), npm_config_offline: "true", npm_config_update_notifier: "false", NODE_OPTIONS: "" } });
+const node = (folder, ...words) => run(folder, process.execPath, ...process.execArgv.filter((it) => it.includes("wasm")), ...words);
+const folderFor = (name) => {
+    const folder = join(work, name);
+    mkdirSync(folder);
+    return folder;
+};
+
+/** The first program of the page, what the page says that it prints, and the second. */
+const page = readFileSync(join(here, "README.md"), "utf8");
+const [program, printed, storing] = [...page.matchAll(/```(?:js|text)\n(.*?)```/gs)].map((found) => found[1]);
+
+/** An empty folder in which the package is, by its files alone. */
+const folderWith = (name, change = () => {}) => {
+    const folder = folderFor(name);
+    const to = join(folder, "node_modules/hoarvelt-infer");
+    mkdirSync(to, { recursive: true });
+    for (const file of readdirSync(here)) if (/\.(js|wasm|def)$|^package\.json$|\.d\.ts$/.test(file)) cpSync(join(here, file), join(to, file));
+    change(to);
+    return folder;
+};
+
+test("npm packs all that is needed, and an empty folder takes it", { skip: isThere("npm") ? false : "no npm that runs is here" }, () => {
+    const packed = run(here, "npm", "pack", "--pack-destination", work);
+    assert.equal(packed.status, 0, packed.stderr);
+    const archive = join(work, packed.stdout.trim().split("\n").at(-1));
+    const folder = folderFor("empty");
+    const installed = run(folder, "npm", "install", "--no-audit", "--no-fund", archive);
+    assert.equal(installed.status, 0, installed.stderr);
+    const kept = readdirSync(join(folder, "node_modules/hoarvelt-infer"));
+    for (const name of ["infer.wasm", "aliases.def", "LICENSE", "README.md", "index.js", "index.d.ts"]) assert.ok(kept.includes(name), name);
+    assert.ok(!kept.includes("tests") && !kept.includes("fill"));
+    writeFileSync(join(folder, "program.mjs"), program);
+    writeFileSync(join(folder, "photo.jpg"), Buffer.from("ffd8ffe0", "hex"));
+    const ended = node(folder, "program.mjs");
+    assert.equal(ended.stdout, printed, ended.stderr);
+});
+
+test("the page's program stores an image, and nothing else", () => {
+    const folder = folderWith("storing");
+    writeFileSync(join(folder, "store.mjs"), storing);
+    const source = `import { Readable } from "node:stream"; import { existsSync, readFileSync } from "node:fs"; import { store } from "./store.mjs";
+        await store(Readable.from([Buffer.from("GIF8"), Buffer.from("9a rest")]), "kept");
+        const fault = await store(Readable.from([Buffer.from("%PDF-1.4")]), "refused").catch((it) => it.message);
+        console.log(readFileSync("kept", "utf8"), fault, existsSync("refused"));`;
+    const ended = node(folder, "--input-type=module", "-e", source);
+    assert.equal(ended.stdout, "GIF89a rest not an image false\n", ended.stderr);
+});
+
+test("a module that is not there is named in one sentence", () => {
+    const folder = folderWith("without-module", (to) => rmSync(join(to, "infer.wasm")));
+    const ended = node(folder, "--input-type=module", "-e", 'import("hoarvelt-infer").catch((fault) => console.log(fault.message, fault.cause.code))');
+    assert.match(ended.stdout, /^hoarvelt-infer has no module infer\.wasm, which bindings\/javascript\/fill copies to it: .* ENOENT\n$/);
+});
+
+test("an engine without 64-bit memories is told in one sentence", () => {
+    const folder = folderWith("without-memories");
+    const source = 'import v8 from "node:v8"; v8.setFlagsFromString("--no-experimental-wasm-memory64"); import("hoarvelt-infer").catch((fault) => console.log(fault.message))';
+    assert.match(run(folder, process.execPath, "--input-type=module", "-e", source).stdout, /^hoarvelt-infer needs 64-bit WebAssembly memories, .*\n$/);
+});
+
+test("the file for browsers has every name but that of files, and reads by fetch", () => {
+    const folder = folderWith("browser");
+    const source = `import { readFileSync } from "node:fs"; import { fileURLToPath } from "node:url";
+        globalThis.fetch = async (url) => new Response(readFileSync(fileURLToPath(url)));
+        const [forBrowsers, forNode] = [await import("./node_modules/hoarvelt-infer/index.js"), await import("hoarvelt-infer")];
+        const missing = Object.keys(forNode).filter((name) => !(name in forBrowsers));
+        console.log(missing.join(), (await forBrowsers.fileTypeFromBuffer(new Uint8Array([0x47, 0x49, 0x46]))).ext);
+        const { extensions } = await import("./node_modules/hoarvelt-infer/aliases.js");
+        console.log(extensions.get("jpeg"));`;
+    const ended = node(folder, "--input-type=module", "-e", source);
+    assert.equal(ended.stdout, "fileTypeFromFile gif\njpg\n", ended.stderr);
+});
+
+const TYPED = `import * as types from "hoarvelt-infer";
+import { extensions } from "hoarvelt-infer/aliases";
+const found: types.FileTypeResult | undefined = await types.fileTypeFromBuffer(new Uint8Array(4));
+const names: string[] = [found?.ext ?? "", found?.mime ?? "", extensions.get("jpeg") ?? "", ...types.supportedExtensions, ...types.supportedMimeTypes];
+const whole = await types.fileTypeStream(new Blob([]).stream());
+const more: types.FileTypeResult | undefined = whole.fileType ?? types.wider(new SharedArrayBuffer(4)) ?? (await types.fileTypeFromBlob(new Blob([])));
+const isDecided: boolean = types.isDecided(new DataView(new ArrayBuffer(4)));
+// @ts-expect-error
+await types.fileTypeFromBuffer("text");
+// @ts-expect-error
+found!.ext = "x";
+export { names, whole, more, isDecided };
+`;
+
+test("the declarations fit a program of a user's, by tsc", { skip: isThere("tsc") ? false : "no tsc that runs is here" }, () => {
+    const folder = folderWith("typed");
+    writeFileSync(join(folder, "program.mts"), TYPED);
+    // With the conditions of a browser: the declarations for Node need those of Node.
+    const paths = { "hoarvelt-infer": ["./node_modules/hoarvelt-infer/index.d.ts"], "hoarvelt-infer/aliases": ["./node_modules/hoarvelt-infer/aliases.d.ts"] };
+    const options = { strict: true, noEmit: true, skipDefaultLibCheck: true, target: "es2022", module: "node16", moduleResolution: "node16", lib: ["es2022", "dom", "dom.iterable"], types: [], baseUrl: ".", paths };
+    writeFileSync(join(folder, "tsconfig.json"), JSON.stringify({ compilerOptions: options, files: ["program.mts"] }));
+    const ended = run(folder, "tsc", "-p", ".");
+    assert.equal(ended.status, 0, ended.stdout);
+});
