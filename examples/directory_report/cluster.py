@@ -1,0 +1,349 @@
+#!/usr/bin/python3
+"""Tells the types of all files in folders on many processes or machines, by Dask. MANY_MACHINES.md says how.
+
+It needs Debian's packages python3-dask and python3-distributed, and python3-matplotlib for the picture."""
+from __future__ import annotations
+
+import argparse
+import contextlib
+import errno
+import glob
+import hashlib
+import json
+import os
+import stat
+import sys
+import tempfile
+import zlib
+from collections import Counter
+from collections.abc import Iterable, Iterator
+from dataclasses import dataclass
+from typing import TYPE_CHECKING
+
+if TYPE_CHECKING:
+    import distributed
+    import infer
+
+sys.path.append(os.path.join(os.path.dirname(os.path.abspath(__file__)), "..", "..", "bindings", "python", "src"))
+
+OPEN = os.O_RDONLY | os.O_NONBLOCK | os.O_NOFOLLOW | os.O_NOCTTY | os.O_CLOEXEC
+FRONT, MOST, USUAL, AHEAD = 8192, 4000, 1000, 64  # bytes of a file; names of a partition; partitions under way
+
+
+@dataclass(frozen=True)
+class Entry:
+    """A file by the folder that was asked for and the path below it, and why there is no answer if that is known."""
+    root: bytes
+    below: bytes
+    fault: str = ""
+
+    def name(self) -> bytes:
+        return self.root + (b"" if self.root.endswith(b"/") else b"/") + self.below
+
+
+def reason(fault: OSError) -> str:
+    return "Not a regular file" if fault.errno == errno.ENOTSUP else os.strerror(fault.errno or 0)
+
+
+def open_folder(root: bytes, below: bytes) -> int:
+    """Opens a folder step by step, so that no link is followed also if one is put in the place of a folder."""
+    fd = os.open(root, OPEN | os.O_DIRECTORY)
+    for step in filter(None, below.split(b"/")):
+        try:
+            deeper = os.open(step, OPEN | os.O_DIRECTORY, dir_fd=fd)
+        finally:
+            os.close(fd)
+        fd = deeper
+    return fd
+
+
+def entries_of(root: bytes, below: bytes) -> tuple[list[bytes], list[bytes]]:
+    """The paths of the folders and of the regular files in a folder, each sorted."""
+    fd = open_folder(root, below)
+    try:
+        with os.scandir(fd) as it:
+            entries = [(below + os.fsencode(entry.name), entry.is_dir(follow_symlinks=False), entry.is_file(follow_symlinks=False)) for entry in it]
+    finally:
+        os.close(fd)
+    folders, files = ([path for path, *kinds in entries if kinds[kind]] for kind in (0, 1))
+    return sorted(folders), sorted(files)
+
+
+def walk(root: bytes) -> Iterator[Entry]:
+    """The files under a folder. A folder that cannot be read is an entry with the reason."""
+    waiting = [b""]
+    while waiting:
+        below = waiting.pop()
+        try:
+            folders, files = entries_of(root, below)
+        except OSError as fault:
+            yield Entry(root, below.rstrip(b"/"), reason(fault))
+            continue
+        waiting += [folder + b"/" for folder in reversed(folders)]
+        yield from (Entry(root, file) for file in files)
+
+
+def partitions(entries: Iterable[Entry]) -> Iterator[list[Entry]]:
+    """Cuts the walk after names that their own bytes choose, so that a new file changes no partition but its own."""
+    part: list[Entry] = []
+    for entry in entries:
+        part.append(entry)
+        if len(part) == MOST or zlib.crc32(entry.name()) % USUAL == 0:
+            yield part
+            part = []
+    if part:
+        yield part
+
+
+def read_front(folder: int, path: bytes) -> tuple[bytes, int]:
+    """The first bytes of a regular file, and its size. A device can act as soon as it is opened, so none is."""
+    def check(about: os.stat_result) -> None:
+        if not stat.S_ISREG(about.st_mode):
+            raise OSError(errno.EISDIR if stat.S_ISDIR(about.st_mode) else errno.ENOTSUP, "")
+
+    check(os.stat(path, dir_fd=folder, follow_symlinks=False))
+    with open(os.open(path, OPEN, dir_fd=folder), "rb", buffering=0) as file:
+        about = os.fstat(file.fileno())
+        check(about)
+        front = b""
+        while len(front) < FRONT and (piece := file.read(FRONT - len(front))):
+            front += piece
+        return front, about.st_size
+
+
+def disagreement(name: bytes, front: bytes, kind: infer.Type) -> str:
+    """The extension of the type that the name says, if it is another than that of the bytes; otherwise nothing."""
+    import infer
+    from infer.aliases import BUILT_ON, EXTENSION
+    stem, _, last = os.path.basename(name).rpartition(b".")
+    word = os.fsdecode(last.lower()) if stem else ""
+    if word in ("", kind.extension):
+        return ""
+    claimed = infer.get_type(ext=EXTENSION.get(word, word)) or infer.get_type(ext=BUILT_ON.get(word, word))
+    if not claimed:
+        return ""
+    right = {claimed.extension, BUILT_ON.get(word, claimed.extension)}
+    fits = any(it.extension in right or it.mime == claimed.mime for it in (kind, infer.guess(front, more=True)) if it)
+    return "" if fits else claimed.extension
+
+
+def named(name: bytes) -> dict[str, str]:
+    try:
+        return {"name": name.decode()}
+    except UnicodeDecodeError:
+        return {"name_hex": name.hex()}
+
+
+def answer(entry: Entry, folder: int, sums: Counter[str]) -> dict[str, str | None]:
+    """The line of a file, which is counted in the sums."""
+    import infer
+    try:
+        if entry.fault:
+            return named(entry.name()) | {"fault": entry.fault}
+        front, size = read_front(folder, os.path.basename(entry.below))
+    except OSError as fault:
+        return named(entry.name()) | {"fault": reason(fault)}
+    kind = infer.guess(front)
+    key = "\t".join(kind) if kind else "unknown"
+    sums.update({f"files\t{key}": 1, f"bytes\t{key}": size})
+    if kind and (claimed := disagreement(entry.name(), front, kind)):
+        sums[f"disagree\t{claimed}\t{kind.extension}"] += 1
+    return named(entry.name()) | (dict(zip(["mime_type", "extension", "class"], kind)) if kind else {"mime_type": None})
+
+
+def lines_of(part: list[Entry], sums: Counter[str]) -> Iterator[dict[str, str | None]]:
+    """The lines of a partition. The folder of the last file stays open for the next."""
+    last, folder = None, -1
+    for entry in part:
+        place = (entry.root, os.path.dirname(entry.below))
+        if place != last and not entry.fault:
+            if folder >= 0:
+                os.close(folder)
+            last, folder = None, -1
+            try:
+                folder, last = open_folder(*place), place
+            except OSError as fault:
+                entry = Entry(entry.root, entry.below, reason(fault))
+        line = answer(entry, folder, sums)
+        sums["faults"] += "fault" in line
+        sums["names"] += 1
+        yield line
+    if folder >= 0:
+        os.close(folder)
+
+
+def path_of(out: str, part: list[Entry]) -> str:
+    """The path of a partition, which follows from what it holds."""
+    return os.path.join(out, "part-" + hashlib.sha256(repr([(entry.root, entry.below, entry.fault) for entry in part]).encode()).hexdigest())
+
+
+def put(path: str, text: str) -> None:
+    """Writes a file under another name, and renames it once it is whole."""
+    with tempfile.NamedTemporaryFile("w", encoding="utf-8", dir=os.path.dirname(path), prefix=".part-", delete=False) as file:
+        file.write(text)
+        file.flush()
+        os.fsync(file.fileno())
+    os.chmod(file.name, 0o644)
+    os.rename(file.name, path)
+
+
+def write(path: str, part: list[Entry]) -> dict[str, int]:
+    """Writes the sums and then the lines of a partition, on a worker: who sees the lines finds the sums too."""
+    sums: Counter[str] = Counter()
+    text = "".join(json.dumps(line, ensure_ascii=False, separators=(",", ":")) + "\n" for line in lines_of(part, sums))
+    put(path + ".sums", json.dumps(sums))
+    put(path + ".jsonl", text)
+    return dict(sums)
+
+
+def sums_of(path: str) -> dict[str, int]:
+    """The counts of a partition that was there before."""
+    with open(path + ".sums", encoding="utf-8") as file:
+        return json.load(file)
+
+
+def add(total: Counter[str], sums: dict[str, int], known: int) -> None:
+    """Counts a partition. A bar on a terminal tells how many are counted of those that the walk has come to."""
+    total.update(sums)
+    total["partitions"] += 1
+    if sys.stderr.isatty():
+        bar = "#" * (30 * total["partitions"] // known)
+        says = f"{total['partitions']} of {known} partitions, {total['names']} names, {total['faults']} faults"
+        print(f"\r[{bar:30}] {says}\033[K", end="", file=sys.stderr, flush=True)
+
+
+def counts(client: distributed.Client, parts: Iterable[tuple[str, list[Entry]]]) -> Iterator[dict[str, int]]:
+    """Has the workers write what is not there yet. At most some partitions are under way, so memory does not grow."""
+    from distributed import as_completed
+    waiting = as_completed()
+    for path, part in parts:
+        if os.path.exists(path + ".jsonl"):
+            yield sums_of(path)
+            continue
+        waiting.add(client.submit(write, path, part, pure=False))
+        if waiting.count() >= AHEAD:
+            yield result_of(next(waiting))
+    yield from map(result_of, waiting)
+
+
+def named_parts(out: str, roots: list[bytes], paths: set[str]) -> Iterator[tuple[str, list[Entry]]]:
+    """The partitions of the folders with their paths, which are added to the set."""
+    for part in partitions(entry for root in roots for entry in walk(root)):
+        path = path_of(out, part)
+        paths.add(path)
+        yield path, part
+
+
+def run(client: distributed.Client, out: str, roots: list[bytes]) -> Counter[str]:
+    """Writes all partitions, takes away what is none of them, and counts."""
+    total: Counter[str] = Counter()
+    paths: set[str] = set()
+    for sums in counts(client, named_parts(out, roots, paths)):
+        add(total, sums, len(paths))
+    clear(out, paths)
+    return total
+
+
+def clear(out: str, paths: set[str]) -> None:
+    """Takes away partitions of an earlier walk, whose files would be counted twice, and what dead workers left."""
+    for path in glob.glob(glob.escape(out) + "/part-*") + glob.glob(glob.escape(out) + "/.part-*"):
+        if os.path.splitext(path)[0] not in paths:
+            with contextlib.suppress(FileNotFoundError):
+                os.unlink(path)
+
+
+def summary(total: Counter[str]) -> dict[str, object]:
+    keys = sorted((key[6:] for key in total if key.startswith("files\t")), key=lambda key: (-total[f"files\t{key}"], key))
+    counts = {key: {"files": total[f"files\t{key}"], "bytes": total[f"bytes\t{key}"]} for key in keys}
+    unknown = counts.pop("unknown", {"files": 0, "bytes": 0})
+    types = [dict(zip(["mime_type", "extension", "class"], key.split("\t"))) | count for key, count in counts.items()]
+    wrong = [(*key.split("\t")[1:], files) for key, files in sorted(total.items()) if key.startswith("disagree\t")]
+    return {
+        "files": total["names"] - total["faults"], "bytes": sum(it["bytes"] for it in [*counts.values(), unknown]), "faults": total["faults"],
+        "unknown": unknown, "types": types, "disagree": [dict(zip(["name_extension", "extension", "files"], it)) for it in wrong],
+    }
+
+
+def draw(told: dict, path: str) -> None:
+    """A picture of the most frequent types, if matplotlib is there."""
+    try:
+        import matplotlib
+    except ImportError:
+        return
+    matplotlib.use("Agg")
+    from matplotlib import pyplot
+    bars = [(it["extension"], it["files"]) for it in told["types"][:15]] + [("unknown", told["unknown"]["files"]), ("faults", told["faults"])]
+    figure, axes = pyplot.subplots(figsize=(6, 4))
+    axes.barh([name for name, _ in bars][::-1], [files for _, files in bars][::-1], color="#36648b")
+    axes.set_xlabel("files")
+    figure.tight_layout()
+    figure.savefig(path, dpi=80)
+
+
+def refuse(why: str) -> None:
+    print(f"cluster.py: {why}", file=sys.stderr)
+    sys.exit(2)
+
+
+class Words(argparse.ArgumentParser):
+    def error(self, message: str) -> None:
+        refuse(f"{message}; cluster.py --help says more")
+
+
+def check_folders(out: str, folders: list[str]) -> None:
+    """Refuses what is no folder, and folders in each other, whose files would be counted twice."""
+    for folder in folders:
+        if not os.path.isdir(folder) or os.path.islink(folder):
+            refuse(f"{folder!a} is no folder")
+        real = os.path.realpath(folder)
+        others = [os.path.realpath(it) for it in folders if it is not folder]
+        if any(os.path.commonpath([real, it]) == it for it in others):
+            refuse(f"{folder!a} stands in another of the folders")
+        if os.path.commonpath([real, os.path.realpath(out)]) == real:
+            refuse(f"{out!a}, for the report, stands in {folder!a}")
+
+
+def connect(scheduler: str | None, stack: contextlib.ExitStack) -> distributed.Client:
+    """The client of that scheduler, or of a cluster of processes of this machine, which ends with the stack."""
+    from distributed import Client, LocalCluster
+    if not scheduler:
+        place = stack.enter_context(tempfile.TemporaryDirectory())
+        scheduler = stack.enter_context(LocalCluster(threads_per_worker=1, dashboard_address=None, host="127.0.0.1", local_directory=place))
+    return stack.enter_context(Client(scheduler, timeout=10))
+
+
+def result_of(future: distributed.Future) -> dict[str, int]:
+    """The counts of a partition that was written. One on which worker after worker dies is a failure."""
+    from distributed import KilledWorker
+    try:
+        return future.result()
+    except KilledWorker as fault:
+        raise OSError(f"the workers died again and again: {fault}") from None
+
+
+def main() -> int:
+    words = Words(description="Tells the types of all files in the folders, on many workers.", allow_abbrev=False)
+    words.add_argument("--scheduler", metavar="ADDRESS", help="of a cluster that runs; without it processes of this machine are the workers")
+    words.add_argument("--out", metavar="FOLDER", default="report", help="where the report is written, and goes on: report")
+    words.add_argument("folders", metavar="FOLDER", nargs="+")
+    given = words.parse_args()
+    check_folders(given.out, given.folders)
+    out = os.path.abspath(given.out)
+    try:
+        import infer  # noqa: F401
+        os.makedirs(out, exist_ok=True)
+        with contextlib.ExitStack() as stack:
+            client = connect(given.scheduler, stack)
+            total = run(client, out, [os.fsencode(os.path.abspath(it) if given.scheduler else it) for it in given.folders])
+        told = summary(total)
+        put(os.path.join(out, "summary.json"), json.dumps(told, indent=1) + "\n")
+        draw(told, os.path.join(out, "summary.png"))
+    except (ImportError, OSError, ValueError) as fault:
+        refuse((str(fault) or type(fault).__name__).splitlines()[0])
+    if sys.stderr.isatty():
+        print("\r\033[K", end="", file=sys.stderr)
+    return 1 if total["names"] and total["faults"] == total["names"] else 0
+
+
+if __name__ == "__main__":
+    sys.exit(main())
