@@ -30,36 +30,60 @@ pub(crate) fn has_at<const N: usize>(buf: &[u8], text: &[u8; N], place: usize) -
 }
 
 /// The same if `text` ends in `buf`.
-///
-/// What is compared are words: the compiler makes them of single bytes only if no other comparison reads these.
 #[inline]
 pub fn same_at<const N: usize>(buf: &[u8], text: &[u8; N], place: usize) -> bool
     requires { place + N ≤ length buf.now }
     ensures { IsTrue result ↔ OccursAt buf.now text.now place }
 {
-    match N {
+    same_text(buf, text, place)
+}
+
+/// The same for a text of any length.
+///
+/// What is compared are words: the compiler makes them of single bytes only if no other comparison reads these.
+#[inline(always)]
+pub fn same_text(buf: &[u8], text: &[u8], place: usize) -> bool
+    requires { place + length text.now ≤ length buf.now }
+    ensures { IsTrue result ↔ OccursAt buf.now text.now place }
+{
+    if text.len() < 4 {
+        return same_short(buf, text, place);
+    }
+    same_words(buf, text, place)
+}
+
+/// The same for a text of less than a word, by halves of one that overlap if they must.
+#[inline(always)]
+fn same_short(buf: &[u8], text: &[u8], place: usize) -> bool
+    requires short { length text.now < 4 }
+    requires fits { place + length text.now ≤ length buf.now }
+    ensures { IsTrue result ↔ OccursAt buf.now text.now place }
+{
+    let n = text.len();
+    match n {
         0 => true,
         1 => buf[place] == text[0],
-        2 | 3 => same_half(buf, place, text, 0) && same_half(buf, place + (N - 2), text, N - 2),
-        _ => same_words(buf, text, place),
+        _ => same_half(buf, place, text, 0) && same_half(buf, place + (n - 2), text, n - 2),
     }
 }
 
-#[inline]
-fn same_words<const N: usize>(buf: &[u8], text: &[u8; N], place: usize) -> bool
-    requires long { 4 ≤ N }
-    requires fits { place + N ≤ length buf.now }
+/// The same for a text of a word or more.
+#[inline(always)]
+fn same_words(buf: &[u8], text: &[u8], place: usize) -> bool
+    requires long { 4 ≤ length text.now }
+    requires fits { place + length text.now ≤ length buf.now }
     ensures { IsTrue result ↔ OccursAt buf.now text.now place }
 {
+    let last = text.len() - 4;
     let mut i = 0;
-    while i < N - 4 {
+    while i < last {
         if !same_word(buf, place + i, text, i) {
             return false;
         }
         i += 4;
     }
     // The last word overlaps the one before, if the text is no whole number of words.
-    same_word(buf, place + (N - 4), text, N - 4)
+    same_word(buf, place + last, text, last)
 }
 
 /// Whether the two bytes from `place` on are those of `text` from `i` on.

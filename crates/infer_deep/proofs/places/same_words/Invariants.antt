@@ -3,7 +3,7 @@ use Rattle.std.proofs.Common.{◌≡◌, ◌+◌, ◌-◌, ◌<◌, ℕ, length,
 use Rattle.infer_deep.proofs.places.same_words.Given as goal
 
 abbrev pub decreases-loop-i : goal.decreases-loop-i
-decreases-loop-i g l = length l.text - l.i
+decreases-loop-i l = length l.text - l.i
 
 abbrev pub invariant-loop-i : goal.invariant-loop-i
-invariant-loop-i g l = (j : ℕ) → j < l.i → get_or l.buf (l.place + j) 0 ≡ get_or l.text j 0
+invariant-loop-i l = (j : ℕ) → j < l.i → get_or l.buf (l.place + j) 0 ≡ get_or l.text j 0
