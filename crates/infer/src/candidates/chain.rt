@@ -1,7 +1,7 @@
 //! Chains of rows that are asked in turn, each made straight code of its own.
 #![tactic(auto, unfolding(crate::specs::Walks::IsFirstAmong))]
 
-ghost use Rattle.std.specs.Prelude.{◌↔◌, [], ◌∷◌, ℕ, List, IsTrue};
+ghost use Rattle.std.specs.Prelude.{◌↔◌, [], ◌∷◌, ℕ, List, Option, IsTrue};
 ghost use Rattle.infer_deep.specs.Find.{OccursAt};
 ghost use Rattle.infer.specs.Questions.{IsWanted};
 ghost use Rattle.infer.specs.Row.{Accepts};
@@ -179,6 +179,33 @@ impl<C: Chain> Whole<C> {
             Some(row) => row as u32,
             None => NO_ROW,
         }
+    }
+}
+
+/// How the first row of a chain is told.
+pub trait Told {
+    ghost told: { Self → Option ℕ };
+
+    fn of<C: Chain, Q: Question>(chain: &Whole<C>, question: &Q, buf: &[u8]) -> Self
+        ensures { IsFirstAmong (RowHas (Takes (Q.wanted question.now) buf.now)) (C.rows chain.now.0) (told result) };
+}
+
+impl Told for Option<usize> {
+    ghost told = { λ row. row };
+
+    #[inline(always)]
+    fn of<C: Chain, Q: Question>(chain: &Whole<C>, question: &Q, buf: &[u8]) -> Option<usize> {
+        chain.first(question, buf)
+    }
+}
+
+/// A number takes one register. That of no row is [`NO_ROW`].
+impl Told for u32 {
+    ghost told = { row_numbered };
+
+    #[inline(always)]
+    fn of<C: Chain, Q: Question>(chain: &Whole<C>, question: &Q, buf: &[u8]) -> u32 {
+        chain.number(question, buf)
     }
 }
 

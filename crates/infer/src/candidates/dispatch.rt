@@ -6,7 +6,7 @@ ghost use Rattle.infer.specs.Walks.{IsFirstAmong, RowHas, Takes, row_numbered};
 
 use crate::ask::question::Question;
 use crate::candidates::chain::{
-    Chain, End, Frames, Markup, NO_ROW, Then, ThenOffice, ThenThree, ThenTwo, Whole,
+    Chain, End, Frames, Markup, NO_ROW, Then, ThenOffice, ThenThree, ThenTwo, Told, Whole,
 };
 use crate::table::rows::*;
 
@@ -173,18 +173,10 @@ macro_rules! list_at {
     };
 }
 
-macro_rules! first_at {
+macro_rules! told_at {
     ([$arm:ident $question:ident $buf:ident] $($name:ident ($($row:tt)*))*) => {
         match $arm {
-            $(Arm::$name => Whole(chain!($($row)*)).first($question, $buf),)*
-        }
-    };
-}
-
-macro_rules! number_at {
-    ([$arm:ident $question:ident $buf:ident] $($name:ident ($($row:tt)*))*) => {
-        match $arm {
-            $(Arm::$name => Whole(chain!($($row)*)).number($question, $buf),)*
+            $(Arm::$name => T::of(&Whole(chain!($($row)*)), $question, $buf),)*
         }
     };
 }
@@ -231,13 +223,12 @@ pub fn candidates_at(arm: Arm) -> &'static [usize]
     with_candidates!(list_at arm)
 }
 
-/// The number of the first candidate of an arm that accepts `buf`, of those that are asked for, and [`NO_ROW`] if none
-/// does.
+/// What is told of the first candidate of an arm that accepts `buf`, of those that are asked for.
 #[inline(always)]
-fn first_number<Q: Question>(arm: Arm, question: &Q, buf: &[u8]) -> u32
-    ensures { IsFirstAmong (RowHas (Takes (Q.wanted question.now) buf.now)) (rows_of arm) (row_numbered result) }
+fn tell_first<T: Told, Q: Question>(arm: Arm, question: &Q, buf: &[u8]) -> T
+    ensures { IsFirstAmong (RowHas (Takes (Q.wanted question.now) buf.now)) (rows_of arm) (T.told result) }
 {
-    with_candidates!(number_at arm question buf)
+    with_candidates!(told_at arm question buf)
 }
 
 /// The first candidate of an arm that accepts `buf`, of those that are asked for.
@@ -245,7 +236,7 @@ fn first_number<Q: Question>(arm: Arm, question: &Q, buf: &[u8]) -> u32
 pub fn first_of<Q: Question>(arm: Arm, question: &Q, buf: &[u8]) -> Option<usize>
     ensures { IsFirstAmong (RowHas (Takes (Q.wanted question.now) buf.now)) (rows_of arm) result }
 {
-    match first_number(arm, question, buf) {
+    match tell_first::<u32, Q>(arm, question, buf) {
         NO_ROW => None,
         number => Some(number as usize),
     }
@@ -256,5 +247,5 @@ pub fn first_of<Q: Question>(arm: Arm, question: &Q, buf: &[u8]) -> Option<usize
 pub fn first_of_class<Q: Question>(arm: Arm, question: &Q, buf: &[u8]) -> Option<usize>
     ensures { IsFirstAmong (RowHas (Takes (Q.wanted question.now) buf.now)) (rows_of arm) result }
 {
-    with_candidates!(first_at arm question buf)
+    tell_first::<Option<usize>, Q>(arm, question, buf)
 }
