@@ -179,15 +179,12 @@ def vectors() -> list[Vector]:
     return [Vector(name, None if row == "-" else named[row], decode(data)) for name, _, row, data in _lines_of("vectors.tsv")]
 
 
-def further_rows() -> list[Row]:
-    """The further rows by their test data."""
-    return [Row(*words[:3]) for words in _lines_of("further/rows.tsv")]
-
-
-def further_vectors() -> list[tuple[str, bytes, int | None, str]]:
-    """Buffers: the name, the bytes, the number of the further row that is the wider answer or None, and what the wider
-    answer shows, its MIME type and its extension or "unknown"."""
-    return [(name, decode(data), None if row == "-" else int(row), shown) for name, data, row, shown in _lines_of("further/vectors.tsv")]
+def further_vectors() -> list[tuple[str, bytes, Row | None, str]]:
+    """Buffers: the name, the bytes, the further row that is the wider answer or None, and what the wider answer shows,
+    its MIME type and its extension or "unknown"."""
+    below = {parent: "" if parent == "none" else f" below {parent}" for *_, parent, _ in _lines_of("further/rows.tsv")}
+    named = {f"{words[0]}/{words[2]}{below[words[3]]}": Row(*words[:3]) for words in _lines_of("further/rows.tsv")}
+    return [(name, decode(data), None if row == "-" else named[row], shown) for name, data, row, shown in _lines_of("further/vectors.tsv")]
 
 
 def command_in(readme: str, begins: str) -> str:

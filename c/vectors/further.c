@@ -44,12 +44,29 @@ static void compare_rows(const struct table *table, int32_t *parents) {
     }
 }
 
+/* Whether the further row at this place has a name of so many bytes: its class and extension, and its parent if it has
+ * one, as `Archive/jar below zip`. */
+static bool is_named(const struct table *told, size_t place, const char *name, size_t len) {
+    char own[4 * INFER_TEXT_SIZE], **fields = told->lines[place].fields;
+    bool is_below = strcmp(fields[3], "none") != 0;
+    int size = snprintf(own, sizeof own, "%s/%s%s%s", fields[0], fields[2], is_below ? " below " : "", is_below ? fields[3] : "");
+    return size >= 0 && (size_t)size == len && memcmp(own, name, len) == 0;
+}
+
+/* The further row whose name stands before the comma, or is all. */
+static int32_t further_named(const struct table *told, const char *name) {
+    size_t place = 0, len = strcspn(name, ",");
+    while (place < told->count && !is_named(told, place, name, len))
+        place++;
+    if (place == told->count) refuse(name, "no such further row");
+    return further(place);
+}
+
 /* Whether a line of this name has the sample of its row: the shortest buffer of the first alternative, or of the only
  * one. */
 static bool has_sample(const char *name) {
-    const char *end;
-    number_at(name, &end);
-    return strcmp(end, ", shortest") == 0 || strcmp(end, ", shortest of alternative 1") == 0;
+    const char *how = name + strcspn(name, ",");
+    return strcmp(how, ", shortest") == 0 || strcmp(how, ", shortest of alternative 1") == 0;
 }
 
 static bool is_sample(int32_t row, const struct buffer *it) {
@@ -75,24 +92,21 @@ static const char *shown_of(int32_t row) {
 }
 
 /* Whether the wider answer is that further row, or the built-in answer for `-`, and shows that. */
-static bool is_wider(const struct buffer *it, const char *number, const char *shown) {
-    const char *end = "";
-    bool is_built_in = strcmp(number, "-") == 0;
-    int32_t row = is_built_in ? infer_position(it->bytes, it->len) : further(number_at(number, &end));
-    return !*end && infer_more_position(it->bytes, it->len) == row && infer_accepts(it->bytes, it->len, row) == (row >= 0)
+static bool is_wider(const struct buffer *it, const struct table *told, const char *name, const char *shown) {
+    int32_t row = strcmp(name, "-") == 0 ? infer_position(it->bytes, it->len) : further_named(told, name);
+    return infer_more_position(it->bytes, it->len) == row && infer_accepts(it->bytes, it->len, row) == (row >= 0)
         && strcmp(shown_of(row), shown) == 0;
 }
 
-static void compare_buffers(const struct table *table) {
+static void compare_buffers(const struct table *table, const struct table *told) {
     static struct buffer buf;
     size_t sampled = 0;
     for (size_t i = 0; i < table->count; i++) {
         char **fields = table->lines[i].fields;
-        const char *end;
         decode(&buf, fields[1]);
-        WANTS(&answers, is_wider(&buf, fields[2], fields[3]), "%s", fields[0]);
+        WANTS(&answers, is_wider(&buf, told, fields[2], fields[3]), "%s", fields[0]);
         if (!has_sample(fields[0])) continue;
-        WANTS(&samples, is_sample(further(number_at(fields[0], &end)), &buf), "%s", fields[0]);
+        WANTS(&samples, is_sample(further_named(told, fields[0]), &buf), "%s", fields[0]);
         sampled++;
     }
     WANTS(&samples, sampled == count_samples(), "%zu lines for %zu samples", sampled, count_samples());
@@ -106,7 +120,7 @@ int main(int argc, char **argv) {
     vectors = read_table(argv[2], 4);
     parents = resized(NULL, told.count, sizeof *parents);
     compare_rows(&told, parents);
-    compare_buffers(&vectors);
+    compare_buffers(&vectors, &told);
     if (rows.differing == 0) ask_around_samples(&around, parents);
     const struct tally tallies[] = {rows, parents_of_samples, samples, answers, around};
     return report(tallies, sizeof tallies / sizeof *tallies) != 0;

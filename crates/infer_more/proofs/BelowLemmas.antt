@@ -13,8 +13,8 @@ use Rattle.infer.proofs.TableLemmas.{length-table}
 use Rattle.infer_more.specs.Laws.{AllAreBelow, built_in_by}
 use Rattle.infer_more.specs.Row.{Further}
 use Rattle.infer_more.specs.Table.{further}
-use Rattle.infer_more.specs.Wider.{IsWider, Widens, parent_at, wider}
-use Rattle.infer_more.specs.declared.table.names.TheConstants.{FURTHER_COUNT}
+use Rattle.infer_more.specs.Wider.{IsWidened, IsWider, Widens, parent_at, wider}
+use Rattle.infer_more.specs.declared.index.lists.TheConstants.{FURTHER_COUNT}
 use Rattle.infer_more.proofs.TableLemmas.{length-further}
 
 not_less : (m n : ℕ) → n ≤ m → nat_lt m n ≡ false
@@ -48,8 +48,7 @@ told b parent (Some j) answers widens =
 
 -- the wider answer by the first further row that widens the built-in one
 module _ (b : List ℕ) (parent o : Option ℕ) where
-  pub is_wider : IsFirstOf (Accepts b) built_in.table parent → (found : Option ℕ) × IsFirstOf (Widens parent b) further found × (o ≡ wider parent found)
-      → IsWider b o
+  pub is_wider : IsFirstOf (Accepts b) built_in.table parent → IsWidened parent b o → IsWider b o
   is_wider answers (found, widens, is) = record { parent = parent; found = found; answers = answers; widens = widens; is = is }
 
   within_of : (p found : Option ℕ) → IfSome p (λ i. i < ROW_COUNT) → IsFirstOf (Widens p b) further found
@@ -62,8 +61,7 @@ module _ (b : List ℕ) (parent o : Option ℕ) where
       omega arith
 
   -- it is a row's number
-  pub wider_within : IfSome parent (λ i. i < ROW_COUNT) → (found : Option ℕ) × IsFirstOf (Widens parent b) further found × (o ≡ wider parent found)
-      → IfSome o (λ i. i < ROW_COUNT + FURTHER_COUNT)
+  pub wider_within : IfSome parent (λ i. i < ROW_COUNT) → IsWidened parent b o → IfSome o (λ i. i < ROW_COUNT + FURTHER_COUNT)
   wider_within bound (found, first, is) = subst (λ p. IfSome p (λ i. i < ROW_COUNT + FURTHER_COUNT)) (sym is) (within_of parent found bound first)
 
 pub all_below : AllAreBelow

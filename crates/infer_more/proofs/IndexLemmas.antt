@@ -1,19 +1,25 @@
 -- A row that widens an answer is asked.
-use Rattle.std.proofs.Common.{◌≡◌, ◌↔◌, ℕ, zero, suc, ◌+◌, ◌-◌, ◌<◌, ◌≤◌, ◌==◌, ◌⊎◌, inl, inr, Bool, true, false, IsTrue, List, [], ◌∷◌, ◌++◌, Option, None, Some, map, length, slice_get, ap, sym, ◌∙◌, subst, arith, refl, nat_le, nat_lt}
+use Rattle.std.proofs.Common.{◌≡◌, ◌↔◌, ℕ, zero, suc, ◌+◌, ◌-◌, ◌<◌, ◌≤◌, ◌==◌, ◌⊎◌, inl, inr, Bool, true, false, IsTrue, List, [], ◌∷◌, ◌++◌, Option, None, Some, length, ap, sym, ◌∙◌, subst, arith, refl, nat_le, nat_lt}
 use Rattle.std.specs.Prelude.{◌&&◌, ◌||◌, if◌then◌else◌, slice_index}
 use Rattle.std.specs.List.{list_all, list_any, range_with_len}
 use Rattle.std.specs.Option.{option_map_or}
-use Rattle.std.proofs.lemmas.Bool.{cases_lt, eqb-true, leb-true, lt-ltb, ltb-true}
+use Rattle.std.proofs.lemmas.Bool.{cases_lt, eq-eqb, eqb-true, leb-true, lt-ltb, ltb-true}
 use Rattle.std.proofs.lemmas.Option.{get_or_from_slice_get, slice_get_cases}
 use Rattle.infer_sig.specs.Signature.{Alternative, at_least, Bytes, any_of, between, all_but, Part, text, any_text, byte, accepts, fits, has_part, stands}
 use Rattle.infer_sig.specs.Places.{StandsByPlace}
 use Rattle.infer.specs.Walks.{is_listed}
-use Rattle.infer_more.specs.Index.{AllAreAsked, are_asked, asked, begun, guarded, is_asked, is_guard_of, is_guarded, is_settled, is_tested, number_of, numbers_at}
+use Rattle.infer.proofs.TestLemmas.{NoneRefused, passed}
+use Rattle.infer_more.specs.Index.{AllAreAsked, EachIsAsked, asked, begun, behind, candidate, candidates, entries_at, gated, guarded, has_byte, has_entry, has_guard, is_asked, is_covered, is_gated, is_guarded, is_met, is_row_asked, is_settled, is_tested}
 use Rattle.infer_more.specs.Row.{Further}
 use Rattle.infer_more.specs.Table.{further}
 use Rattle.infer_more.specs.Wider.{Widens}
+use Rattle.infer_more.specs.declared.index.Entry.{Entry}
+use Rattle.infer_more.specs.declared.index.Gate.{Gate}
 use Rattle.infer_more.specs.declared.index.Guard.{Guard}
 use Rattle.infer_more.specs.declared.index.RowIndex.{RowIndex}
+use Rattle.infer_more.specs.declared.index.lists.TheConstants.{FURTHER_COUNT}
+use Rattle.infer_more.proofs.NamedLemmas.{both}
+use Rattle.infer_more.proofs.TableLemmas.{length-further}
 
 -- both of two tests pass, or one of them
 pub both_left : (a b : Bool) → IsTrue (a && b) → IsTrue a
@@ -24,19 +30,15 @@ pub both_right : (a b : Bool) → IsTrue (a && b) → IsTrue b
 both_right true b h = h
 both_right false b h = absurd (cc)
 
-both : (a b : Bool) → IsTrue a → IsTrue b → IsTrue (a && b)
-both true b h k = k
-both false b h k = absurd (cc)
-
 pub either : (a b : Bool) → IsTrue (a || b) → IsTrue a ⊎ IsTrue b
 either true b h = inl refl
 either false b h = inr h
 
-from_left : (a b : Bool) → IsTrue a → IsTrue (a || b)
+pub from_left : (a b : Bool) → IsTrue a → IsTrue (a || b)
 from_left true b h = refl
 from_left false b h = absurd (cc)
 
-from_right : (a b : Bool) → IsTrue b → IsTrue (a || b)
+pub from_right : (a b : Bool) → IsTrue b → IsTrue (a || b)
 from_right true b h = refl
 from_right false b h = h
 
@@ -121,30 +123,101 @@ module _ (by_place : (place : ℕ) (t buf : List ℕ) → IsTrue (stands place t
   passes : (a : Alternative) → IsTrue (is_tested test place a) → IsTrue (fits b a) → Passes
   passes (at_least n parts) h k = passes_parts parts h (both_right (nat_le n (length b)) _ k)
 
-begun_here : (index : RowIndex) (i : ℕ) (b : List ℕ) → 0 < length b → IsTrue (is_listed (numbers_at index.first.now (slice_index b 0)) i)
-    → IsTrue (is_listed (begun index b) i)
-begun_here index i [] lt h = absurd (omega arith)
-begun_here index i (x ∷ rest) lt h = h
+-- a row with an entry for the byte that stands at a place is a candidate
+candidate_here : (b : List ℕ) (i place x : ℕ) (e : Entry) → place < length b → slice_index b place ≡ x → IsTrue (e.row == i && (e.place == place && e.byte == x))
+    → IsTrue (is_listed (candidate b e) i)
+candidate_here b i place x e lt at h =
+    let same_row : e.row ≡ i = eqb-true e.row i (both_left (e.row == i) _ h) in
+    let rest = both_right (e.row == i) (e.place == place && e.byte == x) h in
+    let same_place : e.place ≡ place = eqb-true e.place place (both_left (e.place == place) _ rest) in
+    let same_byte : e.byte ≡ x = eqb-true e.byte x (both_right (e.place == place) _ rest) in
+    let there : nat_lt e.place (length b) ≡ true = lt-ltb e.place (length b) (omega arith) in
+    let here : slice_index b e.place ≡ e.byte = ap (slice_index b) same_place ∙ (at ∙ sym same_byte) in
+    let on : has_byte b e.place e.byte ≡ true = both (nat_lt e.place (length b)) _ there (eq-eqb (slice_index b e.place) e.byte here) in
+    subst (λ t. IsTrue (is_listed (if t then e.row ∷ [] else []) i)) (sym on) (from_left (e.row == i) false (eq-eqb e.row i same_row))
 
-module _ (by_place : (place : ℕ) (t buf : List ℕ) → IsTrue (stands place t buf) ↔ StandsByPlace place t buf) (index : RowIndex) (b : List ℕ) (i : ℕ) where
-  guarded_here : (a : Alternative) → IsTrue (fits b a) → (guards : List Guard) → IsTrue (list_any (is_guard_of i a) guards) → IsTrue (is_listed (guarded b guards) i)
-  guarded_here a k [] h = absurd (cc)
-  guarded_here a k (g ∷ guards) h = elim (either (is_guard_of i a g) _ h) [
-    | inl e ↦
-        let here = passes by_place (λ x. x == g.byte) g.place b a (both_right (is_listed (map number_of g.rows.now) i) _ e) k in
-        let there : nat_lt g.place (length b) ≡ true = lt-ltb g.place (length b) here.0 in
-        let on : is_guarded b g ≡ true = both (nat_lt g.place (length b)) _ there here.1 in
-        listed_left _ (guarded b guards) i (subst (λ t. IsTrue (is_listed (if t then map number_of g.rows.now else []) i)) (sym on) (both_left (is_listed (map number_of g.rows.now) i) _ e))
-    | inr e ↦ listed_right (if is_guarded b g then map number_of g.rows.now else []) (guarded b guards) i (guarded_here a k guards e)
+candidates_here : (b : List ℕ) (i place x : ℕ) (entries : List Entry) → place < length b → slice_index b place ≡ x → IsTrue (has_entry i entries place x)
+    → IsTrue (is_listed (candidates b entries) i)
+candidates_here b i place x [] lt at h = absurd (cc)
+candidates_here b i place x (e ∷ entries) lt at h = elim (either (e.row == i && (e.place == place && e.byte == x)) _ h) [
+  | inl here ↦ listed_left (candidate b e) (candidates b entries) i (candidate_here b i place x e lt at here)
+  | inr later ↦ listed_right (candidate b e) (candidates b entries) i (candidates_here b i place x entries lt at later)
+]
+
+module _ (by_place : (place : ℕ) (t buf : List ℕ) → IsTrue (stands place t buf) ↔ StandsByPlace place t buf) (b : List ℕ) (i : ℕ) where
+  covered_in : (a : Alternative) (all some : List Entry) → IsTrue (list_any (λ e. is_tested (has_entry i all e.place) e.place a) some) → IsTrue (fits b a)
+      → IsTrue (is_listed (candidates b all) i)
+  covered_in a all [] h k = absurd (cc)
+  covered_in a all (e ∷ some) h k = elim (either (is_tested (has_entry i all e.place) e.place a) _ h) [
+    | inl here ↦ let at = passes by_place (has_entry i all e.place) e.place b a here k in candidates_here b i e.place (slice_index b e.place) all at.0 refl at.1
+    | inr later ↦ covered_in a all some later k
   ]
 
-  asked_here : (parent : Option ℕ) (a : Alternative) → IsTrue (is_asked index parent i a) → IsTrue (fits b a) → IsTrue (is_listed (asked index parent b) i)
-  asked_here (Some parent) a h k = h
-  asked_here None a h k = elim (either (is_tested (λ x. is_listed (numbers_at index.first.now x) i) 0 a) _ h) [
+  covered_here : (a : Alternative) (entries : List Entry) → IsTrue (is_covered i a entries) → IsTrue (fits b a) → IsTrue (is_listed (candidates b entries) i)
+  covered_here a entries h k = covered_in a entries entries h k
+
+  -- the entries have the row where the byte stands
+  met_here : (a : Alternative) (entries : List Entry) (place x : ℕ) → IsTrue (fits b a) → place < length b → slice_index b place ≡ x
+      → IsTrue (is_met i a entries place x) → IsTrue (is_listed (candidates b entries) i)
+  met_here a entries place x k lt at h = elim (either (has_entry i entries place x) _ h) [
+    | inl e ↦ candidates_here b i place x entries lt at e
+    | inr e ↦ covered_here a entries e k
+  ]
+
+  -- and a guard too
+  guard_here : (a : Alternative) (guards : List Guard) (place x : ℕ) → IsTrue (fits b a) → place < length b → slice_index b place ≡ x
+      → IsTrue (has_guard i a guards place x) → IsTrue (is_listed (guarded b guards) i)
+  guard_here a [] place x k lt at h = absurd (cc)
+  guard_here a (g ∷ guards) place x k lt at h = elim (either (g.place == place && (g.byte == x && is_met i a g.entries.now place x)) _ h) [
     | inl e ↦
-        let here = passes by_place (λ x. is_listed (numbers_at index.first.now x) i) 0 b a e k in
-        listed_left (begun index b) (guarded b index.guards.now) i (begun_here index i b here.0 here.1)
-    | inr e ↦ listed_right (begun index b) (guarded b index.guards.now) i (guarded_here a k index.guards.now e)
+        let rest = both_right (g.place == place) (g.byte == x && is_met i a g.entries.now place x) e in
+        let same_place : g.place ≡ place = eqb-true g.place place (both_left (g.place == place) _ e) in
+        let same_byte : g.byte ≡ x = eqb-true g.byte x (both_left (g.byte == x) _ rest) in
+        let there : nat_lt g.place (length b) ≡ true = lt-ltb g.place (length b) (omega arith) in
+        let here : slice_index b g.place ≡ g.byte = ap (slice_index b) same_place ∙ (at ∙ sym same_byte) in
+        let on : has_byte b g.place g.byte ≡ true = both (nat_lt g.place (length b)) _ there (eq-eqb (slice_index b g.place) g.byte here) in
+        listed_left (behind b g) (guarded b guards) i (subst (λ t. IsTrue (is_listed (if t then candidates b g.entries.now else []) i)) (sym on) (met_here a g.entries.now place x k lt at (both_right (g.byte == x) _ rest)))
+    | inr e ↦ listed_right (behind b g) (guarded b guards) i (guard_here a guards place x k lt at e)
+  ]
+
+  guarded_in : (a : Alternative) (all some : List Guard) → IsTrue (list_any (λ g. is_tested (has_guard i a all g.place) g.place a) some) → IsTrue (fits b a)
+      → IsTrue (is_listed (guarded b all) i)
+  guarded_in a all [] h k = absurd (cc)
+  guarded_in a all (g ∷ some) h k = elim (either (is_tested (has_guard i a all g.place) g.place a) _ h) [
+    | inl here ↦ let at = passes by_place (has_guard i a all g.place) g.place b a here k in guard_here a all g.place (slice_index b g.place) k at.0 refl at.1
+    | inr later ↦ guarded_in a all some later k
+  ]
+
+  guarded_here : (a : Alternative) (guards : List Guard) → IsTrue (is_guarded i a guards) → IsTrue (fits b a) → IsTrue (is_listed (guarded b guards) i)
+  guarded_here a guards h k = guarded_in a guards guards h k
+
+  gated_here : (a : Alternative) (g : Gate) → IsTrue (is_gated i a g) → IsTrue (fits b a) → IsTrue (is_listed (gated b g) i)
+  gated_here a g h k =
+      let here = passes by_place (λ x. x == g.byte) g.place b a (both_left (is_tested (λ x. x == g.byte) g.place a) _ h) k in
+      let on : has_byte b g.place g.byte ≡ true = both (nat_lt g.place (length b)) _ (lt-ltb g.place (length b) here.0) here.1 in
+      subst (λ t. IsTrue (is_listed (if t then guarded b g.guards.now else []) i)) (sym on) (guarded_here a g.guards.now (both_right (is_tested (λ x. x == g.byte) g.place a) _ h) k)
+
+begun_by : (index : RowIndex) (b : List ℕ) → 0 < length b → begun index b ≡ entries_at index.first.now (slice_index b 0)
+begun_by index [] lt = absurd (omega arith)
+begun_by index (x ∷ rest) lt = refl
+
+module _ (by_place : (place : ℕ) (t buf : List ℕ) → IsTrue (stands place t buf) ↔ StandsByPlace place t buf) (index : RowIndex) (b : List ℕ) (i : ℕ) where
+  begun_here : (a : Alternative) → IsTrue (is_tested (λ x. is_met i a (entries_at index.first.now x) 0 x) 0 a) → IsTrue (fits b a)
+      → IsTrue (is_listed (candidates b (begun index b)) i)
+  begun_here a h k =
+      let here = passes by_place (λ x. is_met i a (entries_at index.first.now x) 0 x) 0 b a h k in
+      let entries = entries_at index.first.now (slice_index b 0) in
+      subst (λ (l : List Entry). IsTrue (is_listed (candidates b l) i)) (sym (begun_by index b here.0))
+      (met_here by_place b i a entries 0 (slice_index b 0) k here.0 refl here.1)
+
+  asked_here : (parent : Option ℕ) (a : Alternative) → IsTrue (is_asked index parent i a) → IsTrue (fits b a) → IsTrue (is_listed (asked index parent b) i)
+  asked_here (Some parent) a h k = covered_here by_place b i a (entries_at index.below.now parent) h k
+  asked_here None a h k = elim (either (is_tested (λ x. is_met i a (entries_at index.first.now x) 0 x) 0 a) _ h) [
+    | inl e ↦ listed_left (candidates b (begun index b)) (guarded b index.guards.now ++ gated b index.gate) i (begun_here a e k)
+    | inr e ↦ listed_right (candidates b (begun index b)) (guarded b index.guards.now ++ gated b index.gate) i (elim (either (is_guarded i a index.guards.now) _ e) [
+      | inl beside ↦ listed_left (guarded b index.guards.now) (gated b index.gate) i (guarded_here by_place b i a index.guards.now beside k)
+      | inr inside ↦ listed_right (guarded b index.guards.now) (gated b index.gate) i (gated_here by_place b i a index.gate inside k)
+    ])
   ]
 
   asked_of : (parent : Option ℕ) (signature : List Alternative) → IsTrue (list_all (is_asked index parent i) signature) → IsTrue (accepts signature b)
@@ -155,27 +228,19 @@ module _ (by_place : (place : ℕ) (t buf : List ℕ) → IsTrue (stands place t
     | inr e ↦ asked_of parent signature (both_right (is_asked index parent i a) _ h) e
   ]
 
-row_asked : (index : RowIndex) (i k : ℕ) (rows : List Further) (r : Further) → IsTrue (are_asked index i rows) → slice_get rows k ≡ Some r
-    → IsTrue (list_all (is_asked index r.parent (i + k)) r.signature)
-row_asked index i k [] r h e = absurd (cc)
-row_asked index i zero (x ∷ rows) r h e =
-    let same : x ≡ r = cc in
-    let here : i ≡ i + 0 = omega arith in
-    subst (λ n. IsTrue (list_all (is_asked index r.parent n) r.signature)) here
-    (subst (λ y. IsTrue (list_all (is_asked index y.parent i) y.signature)) same (both_left (list_all (is_asked index x.parent i) x.signature) _ h))
-row_asked index i (suc k) (x ∷ rows) r h e =
-    let later : suc i + k ≡ i + suc k = omega arith in
-    subst (λ n. IsTrue (list_all (is_asked index r.parent n) r.signature)) later
-    (row_asked index (suc i) k rows r (both_right (list_all (is_asked index x.parent i) x.signature) _ h) e)
+-- as computed of sixteen rows a step, with room for more of them: a refusal shows the numbers of the rows that are not asked
+pub each_asked : (index : RowIndex) → NoneRefused (is_row_asked index) FURTHER_COUNT 0 16 → EachIsAsked index
+each_asked index none = record {
+  is_asked = λ i lt. let many = length-further in passed (is_row_asked index) FURTHER_COUNT 16 none (omega arith) i (omega arith);
+}
 
--- as computed over all rows, every row that widens an answer is asked
-pub all_asked : ((place : ℕ) (t buf : List ℕ) → IsTrue (stands place t buf) ↔ StandsByPlace place t buf) → (index : RowIndex)
-    → IsTrue (are_asked index 0 further) → AllAreAsked index
-all_asked by_place index computed parent b i (lt, at) = elim (slice_get_cases further i).1 [
+-- then every row that widens an answer is asked
+pub all_asked : ((place : ℕ) (t buf : List ℕ) → IsTrue (stands place t buf) ↔ StandsByPlace place t buf) → (index : RowIndex) → EachIsAsked index → AllAreAsked index
+all_asked by_place index each parent b i (lt, at) = elim (slice_get_cases further i).1 [
   | inl (r, within, found, same) ↦
       let holds : Widens parent b r = subst (Widens parent b) same (at r) in
-      let numbered : 0 + i ≡ i = omega arith in
-      let asks = subst (λ n. IsTrue (list_all (is_asked index r.parent n) r.signature)) numbered (row_asked index 0 i further r computed found) in
+      let asks : IsTrue (list_all (is_asked index r.parent i) r.signature)
+      = subst (λ o. IsTrue (option_map_or (λ (x : Further). list_all (is_asked index x.parent i) x.signature) o true)) found (each.is_asked i lt) in
       subst (λ p. IsTrue (is_listed (asked index p b) i)) holds.0 (asked_of by_place index b i r.parent r.signature asks holds.1)
   | inr (past, none) ↦ absurd (omega arith)
 ]

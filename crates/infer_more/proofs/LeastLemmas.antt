@@ -1,109 +1,203 @@
--- The least of some rows that widens an answer.
-use Rattle.std.proofs.Common.{◌≡◌, ℕ, zero, suc, ◌+◌, ◌<◌, ◌≤◌, Bool, true, false, IsTrue, List, [], ◌∷◌, ◌++◌, Option, None, Some, map, length, take, get_or, ap, sym, ◌∙◌, subst, arith, refl, append_assoc}
-use Rattle.std.specs.Prelude.{◌&&◌, if◌then◌else◌, nat_lt, slice_index}
-use Rattle.std.proofs.lemmas.Bool.{eq-eqb, ltb-true}
+-- The next row that is asked, and that the first of them to widen an answer is the first of all.
+use Rattle.std.proofs.Common.{◌≡◌, ℕ, zero, suc, ◌+◌, ◌<◌, ◌≤◌, Bool, true, false, IsTrue, List, [], ◌∷◌, ◌++◌, Option, None, Some, length, take, get_or, ◌⊎◌, inl, inr, ap, sym, ◌∙◌, subst, arith, refl, append_assoc}
+use Rattle.std.specs.Prelude.{◌==◌, ◌||◌, if◌then◌else◌, min, nat_le}
+use Rattle.std.specs.List.{list_all, list_any}
+use Rattle.std.proofs.Math.Nat.{le-min, min-le_left, min-le_right}
+use Rattle.std.proofs.lemmas.Bool.{cases_lt, eqb-true, le-leb, leb-true}
 use Rattle.std.proofs.lemmas.List.{append-nil, get_or_default, take_all}
+use denote.Ref.{Bor}
 use Rattle.infer.specs.First.{IsFirstOf}
-use Rattle.infer_more.specs.Index.{AllAreAsked, IsLeastOf, KeepsLeast, asked, guarded, is_guarded, number_of, numbers_at}
+use Rattle.infer.specs.Walks.{is_listed}
+use Rattle.infer_more.specs.Index.{AllAreAsked, IsNext, NoneBetween, all_of, ascends, asked, begun, behind, candidate, candidates, entries_at, has_byte, is_candidate}
 use Rattle.infer_more.specs.Row.{Further}
 use Rattle.infer_more.specs.Table.{further}
 use Rattle.infer_more.specs.Wider.{Widens, WidensAt}
+use Rattle.infer_more.specs.declared.index.Entry.{Entry}
 use Rattle.infer_more.specs.declared.index.Guard.{Guard}
 use Rattle.infer_more.specs.declared.index.RowIndex.{RowIndex}
-use Rattle.infer_more.specs.declared.table.names.RowName.{RowName}
+use Rattle.infer_more.proofs.NamedLemmas.{both}
+use Rattle.infer_more.proofs.IndexLemmas.{both_left, both_right, either, from_left, from_right}
+
+pub next_none : (from before : ℕ) → IsNext [] from before before
+next_none from before = record { kept = λ h. h; below = omega arith; least = λ i listed le. absurd (cc) }
+
+neither_left : (x y : Bool) → (x || y) ≡ false → x ≡ false
+neither_left false y e = refl
+neither_left true y e = absurd (cc)
+
+neither_right : (x y : Bool) → (x || y) ≡ false → y ≡ false
+neither_right false y e = e
+neither_right true y e = absurd (cc)
+
+-- of the numbers of two lists, one after the other
+in_either : (xs ys : List ℕ) (i : ℕ) → IsTrue (is_listed (xs ++ ys) i) → IsTrue (is_listed xs i) ⊎ IsTrue (is_listed ys i)
+in_either [] ys i h = inr h
+in_either (x ∷ xs) ys i h = elim (either (x == i) (is_listed (xs ++ ys) i) h) [
+  | inl e ↦ inl (from_left (x == i) (is_listed xs i) e)
+  | inr e ↦ elim (in_either xs ys i e) [
+    | inl l ↦ inl (from_right (x == i) (is_listed xs i) l)
+    | inr l ↦ inr l
+  ]
+]
+
+pub next_more : (xs ys : List ℕ) (from o p q : ℕ) → IsNext xs from o p → IsNext ys from p q → IsNext (xs ++ ys) from o q
+next_more xs ys from o p q h k = record {
+  kept = λ le. k.kept (h.kept le);
+  below = let first : p ≤ o = h.below in let second : q ≤ p = k.below in omega arith;
+  least = λ i listed le. elim (in_either xs ys i listed) [
+    | inl l ↦ let first : p ≤ i = h.least i l le in let second : q ≤ p = k.below in omega arith
+    | inr l ↦ k.least i l le
+  ];
+}
+
+-- what a candidate's entry has
+candidate_of : (on : Bool) (row i : ℕ) → IsTrue (is_listed (if on then row ∷ [] else []) i) → IsTrue on × (row ≡ i)
+candidate_of true row i h = elim (either (row == i) (is_listed [] i) h) [
+  | inl e ↦ (refl, eqb-true row i e)
+  | inr e ↦ absurd (cc)
+]
+candidate_of false row i h = absurd (cc)
+
+-- no row after one in an ascending list is before it
+not_before : (b : List ℕ) (row i : ℕ) (entries : List Entry) → IsTrue (list_all (λ f. nat_le row f.row) entries) → IsTrue (is_listed (candidates b entries) i) → row ≤ i
+not_before b row i [] all listed = absurd (cc)
+not_before b row i (e ∷ entries) all listed = elim (in_either (candidate b e) (candidates b entries) i listed) [
+  | inl l ↦
+      let same : e.row ≡ i = (candidate_of (has_byte b e.place e.byte) e.row i l).1 in
+      let le : row ≤ e.row = leb-true row e.row (both_left (nat_le row e.row) _ all) in
+      omega arith
+  | inr l ↦ not_before b row i entries (both_right (nat_le row e.row) _ all) l
+]
+
+-- a row that is listed and not before `from` has an entry that says so
+is_no_candidate : (b : List ℕ) (from i : ℕ) (e : Entry) → is_candidate b from e ≡ false → IsTrue (is_listed (candidate b e) i) → from ≤ i → ⊥
+is_no_candidate b from i e none listed le =
+    let has = candidate_of (has_byte b e.place e.byte) e.row i listed in
+    let same : e.row ≡ i = has.1 in
+    let here : IsTrue (is_candidate b from e) = both (has_byte b e.place e.byte) (nat_le from e.row) has.0 (le-leb from e.row (omega arith)) in
+    cc
+
+none_in : (b : List ℕ) (from i : ℕ) (entries : List Entry) → list_any (is_candidate b from) entries ≡ false → IsTrue (is_listed (candidates b entries) i) → from ≤ i → ⊥
+none_in b from i [] none listed le = cc
+none_in b from i (e ∷ entries) none listed le = elim (in_either (candidate b e) (candidates b entries) i listed) [
+  | inl l ↦ is_no_candidate b from i e (neither_left (is_candidate b from e) _ none) l le
+  | inr l ↦ none_in b from i entries (neither_right (is_candidate b from e) _ none) l le
+]
+
+-- the first candidate of an ascending list is the least
+least_at : (b : List ℕ) (from i : ℕ) (entries : List Entry) (k : ℕ) (d : Entry) → k < length entries → IsTrue (ascends entries)
+    → list_any (is_candidate b from) (take k entries) ≡ false → IsTrue (is_listed (candidates b entries) i) → from ≤ i → (get_or entries k d).row ≤ i
+least_at b from i [] k d lt all none listed le = absurd (omega arith)
+least_at b from i (e ∷ entries) zero d lt all none listed le = elim (in_either (candidate b e) (candidates b entries) i listed) [
+  | inl l ↦ let same : e.row ≡ i = (candidate_of (has_byte b e.place e.byte) e.row i l).1 in omega arith
+  | inr l ↦ not_before b e.row i entries (both_left (list_all (λ f. nat_le e.row f.row) entries) _ all) l
+]
+least_at b from i (e ∷ entries) (suc k) d lt all none listed le = elim (in_either (candidate b e) (candidates b entries) i listed) [
+  | inl l ↦ absurd (is_no_candidate b from i e (neither_left (is_candidate b from e) _ none) l le)
+  | inr l ↦ least_at b from i entries k d (omega arith) (both_right (list_all (λ f. nat_le e.row f.row) entries) _ all) (neither_right (is_candidate b from e) _ none) l le
+]
+
+pub next_at : (b : List ℕ) (from before : ℕ) (entries : List Entry) (k : ℕ) (d : Entry) → k < length entries → IsTrue (ascends entries)
+    → list_any (is_candidate b from) (take k entries) ≡ false → IsTrue (is_candidate b from (get_or entries k d))
+    → IsNext (candidates b entries) from before (min before (get_or entries k d).row)
+next_at b from before entries k d lt all none is =
+    let row = (get_or entries k d).row in
+    let past : from ≤ row = leb-true from row (both_right (has_byte b (get_or entries k d).place (get_or entries k d).byte) _ is) in record {
+      kept = λ le. le-min le past;
+      below = min-le_left before row;
+      least = λ i listed le.
+          let first : row ≤ i = least_at b from i entries k d lt all none listed le in
+          let second : min before row ≤ row = min-le_right before row in
+          omega arith;
+    }
+
+pub next_past : (b : List ℕ) (from before : ℕ) (entries : List Entry) → list_any (is_candidate b from) entries ≡ false → IsNext (candidates b entries) from before before
+next_past b from before entries none = record { kept = λ h. h; below = omega arith; least = λ i listed le. absurd (none_in b from i entries none listed le) }
+
+pub next_behind : (b : List ℕ) (g : Guard) (from before after : ℕ) → has_byte b g.place g.byte ≡ true → IsNext (candidates b g.entries.now) from before after
+    → IsNext (behind b g) from before after
+next_behind b g from before after on h = subst (λ t. IsNext (if t then candidates b g.entries.now else []) from before after) (sym on) h
+
+pub next_unguarded : (b : List ℕ) (g : Guard) (from before : ℕ) → has_byte b g.place g.byte ≡ false → IsNext (behind b g) from before before
+next_unguarded b g from before off = subst (λ t. IsNext (if t then candidates b g.entries.now else []) from before before) (sym off) (next_none from before)
+
+-- one more element
+module _ {A : Type 0} (f : A → List ℕ) where
+  all_more : (xs : List A) (k : ℕ) (d : A) → k < length xs → all_of f (take k xs) ++ f (get_or xs k d) ≡ all_of f (take (k + 1) xs)
+  all_more [] k d lt = absurd (omega arith)
+  all_more (x ∷ xs) zero d lt = sym (append-nil (f x))
+  all_more (x ∷ xs) (suc k) d lt =
+      let e : suc k + 1 ≡ suc (k + 1) = omega arith in
+      rw e (append_assoc (f x) (all_of f (take k xs)) (f (get_or xs k d)) ∙ ap (λ l. f x ++ l) (all_more xs k d (omega arith)))
+
+  pub next_one_more : (xs : List A) (k : ℕ) (d : A) (from o p q : ℕ) → k < length xs → IsNext (all_of f (take k xs)) from o p
+      → IsNext (f (get_or xs k d)) from p q → IsNext (all_of f (take (k + 1) xs)) from o q
+  next_one_more xs k d from o p q lt h j = subst (λ l. IsNext l from o q) (all_more xs k d lt) (next_more _ _ from o p q h j)
+
+  pub next_of_all : (xs : List A) (n from o p : ℕ) → length xs ≤ n → IsNext (all_of f (take n xs)) from o p → IsNext (all_of f xs) from o p
+  next_of_all xs n from o p le h = subst (λ l. IsNext (all_of f l) from o p) (take_all n xs le) h
+
+-- a test that all elements pass
+module _ {A : Type 0} (test : A → Bool) where
+  pub passed_at : (xs : List A) (k : ℕ) (d : A) → k < length xs → IsTrue (list_all test xs) → IsTrue (test (get_or xs k d))
+  passed_at [] k d lt all = absurd (omega arith)
+  passed_at (x ∷ xs) zero d lt all = both_left (test x) _ all
+  passed_at (x ∷ xs) (suc k) d lt all = passed_at xs k d (omega arith) (both_right (test x) _ all)
+
+pub ascends_at : (lists : List (Bor (List Entry))) (i : ℕ) → IsTrue (list_all (λ entries. ascends entries.now) lists) → IsTrue (ascends (entries_at lists i))
+ascends_at [] i all = refl
+ascends_at (l ∷ lists) zero all = both_left (ascends l.now) _ all
+ascends_at (l ∷ lists) (suc i) all = ascends_at lists i (both_right (ascends l.now) _ all)
+
+pub ascends_begun : (index : RowIndex) (b : List ℕ) → IsTrue (list_all (λ entries. ascends entries.now) index.first.now) → IsTrue (ascends (begun index b))
+ascends_begun index [] all = refl
+ascends_begun index (x ∷ rest) all = ascends_at index.first.now x all
+
+-- no row before the next one that is asked widens the answer
+pub none_to_next : (parent : Option ℕ) (b : List ℕ) (index : RowIndex) (from before next : ℕ) → AllAreAsked index
+    → IsNext (asked index parent b) from before next → NoneBetween parent b from next
+none_to_next parent b index from before next all h = λ k le lt. λ w.
+    let least : next ≤ k = h.least k (all parent b k w) le in
+    absurd (omega arith)
+
+-- nor does one before a later number, if none does from there on
+pub none_joined : (parent : Option ℕ) (b : List ℕ) (from next later : ℕ) → NoneBetween parent b from next → NoneBetween parent b next later → NoneBetween parent b from later
+none_joined parent b from next later before after = λ k le lt. elim (cases_lt k next) [
+  | inl less ↦ before k le less
+  | inr more ↦ after k more lt
+]
+
+-- nor does one up to a row that does not, nor one from there to the next
+pub none_past : (parent : Option ℕ) (b : List ℕ) (from next later : ℕ) → NoneBetween parent b from next → ¬ WidensAt parent b next
+    → NoneBetween parent b (next + 1) later → NoneBetween parent b from later
+none_past parent b from next later before here after = λ k le lt. elim (cases_lt k next) [
+  | inl less ↦ before k le less
+  | inr more ↦ elim (cases_lt next k) [
+    | inl past ↦ after k (omega arith) lt
+    | inr same ↦ let e : next ≡ k = omega arith in subst (λ n. ¬ WidensAt parent b n) e here
+  ]
+]
 
 module _ (parent : Option ℕ) (b : List ℕ) where
-  pub keeps_none : (o : Option ℕ) → KeepsLeast parent b [] o o
-  keeps_none o numbers h = rw append-nil h
-
-  -- as no row does
-  pub keeps_no_row : (rows : List RowName) (numbers : List ℕ) (o : Option ℕ) → map number_of rows ≡ numbers → length rows ≡ 0 → KeepsLeast parent b numbers o o
-  keeps_no_row [] numbers o e none = subst (λ l. KeepsLeast parent b l o o) e (keeps_none o)
-  keeps_no_row (r ∷ rows) numbers o e none = absurd (omega arith)
-
-  pub keeps_more : (xs ys : List ℕ) (o p q : Option ℕ) → KeepsLeast parent b xs o p → KeepsLeast parent b ys p q → KeepsLeast parent b (xs ++ ys) o q
-  keeps_more xs ys o p q h k numbers least =
-      subst (λ l. IsLeastOf parent b l q) (append_assoc numbers xs ys) (k (numbers ++ xs) (h numbers least))
-
   read_at : (k : ℕ) (d : Further) → k < length further → Widens parent b (get_or further k d) → WidensAt parent b k
   read_at k d lt w = (lt, λ e. subst (Widens parent b) (get_or_default further k d e lt) w)
 
-  first_of : (index : RowIndex) (o : Option ℕ) → AllAreAsked index → IsLeastOf parent b (asked index parent b) o → IsFirstOf (Widens parent b) further o
-  first_of index None all h = λ k d a lt. λ w. h.least k (all parent b k (read_at k d lt w)) (read_at k d lt w)
-  first_of index (Some i) all h = record {
-    within = h.widens.0;
-    here = h.widens.1;
-    before = λ k d a lt. λ w.
-        let within : i < length further = h.widens.0 in
-        let here : WidensAt parent b k = read_at k d (omega arith) w in
-        let le : i ≤ k = h.least k (all parent b k here) here in
-        absurd (omega arith);
+  -- the first row is found, or there is none
+  pub first_found : (i : ℕ) → NoneBetween parent b 0 i → WidensAt parent b i → IsFirstOf (Widens parent b) further (Some i)
+  first_found i none here = record {
+    within = here.0;
+    here = here.1;
+    before = λ k d a lt. λ w. let within : i < length further = here.0 in none k (omega arith) (omega arith) (read_at k d (omega arith) w);
   }
 
-  -- the least of the rows that are asked is the first of all
-  pub first_of_least : (index : RowIndex) (o : Option ℕ) → AllAreAsked index → KeepsLeast parent b (asked index parent b) None o
-      → IsFirstOf (Widens parent b) further o
-  first_of_least index o all keeps = first_of index o all (keeps [] (record { widens = tt; least = λ i listed w. absurd (cc) }))
+  pub none_found : (n : ℕ) → length further ≤ n → NoneBetween parent b 0 n → IsFirstOf (Widens parent b) further None
+  none_found n le none = λ k d a lt. λ w. none k (omega arith) (omega arith) (read_at k d lt w)
 
 -- no row widens an answer below which none is asked
-pub widest : (index : RowIndex) (row : ℕ) (rows : List RowName) → AllAreAsked index → map number_of rows ≡ numbers_at index.below.now row
-    → length rows ≡ 0 → (b : List ℕ) → IsFirstOf (Widens (Some row) b) further None
-widest index row rows all e none b =
-    first_of_least (Some row) b index None all (keeps_no_row (Some row) b rows (numbers_at index.below.now row) None e none)
-
--- one more row, and one more guard
-numbers_more : (rows : List RowName) (k : ℕ) (d : RowName) → k < length rows
-    → map number_of (take k rows) ++ number_of (get_or rows k d) ∷ [] ≡ map number_of (take (k + 1) rows)
-numbers_more [] k d lt = absurd (omega arith)
-numbers_more (r ∷ rows) zero d lt = refl
-numbers_more (r ∷ rows) (suc k) d lt =
-    let e : suc k + 1 ≡ suc (k + 1) = omega arith in
-    rw e (ap (λ l. number_of r ∷ l) (numbers_more rows k d (omega arith)))
-
-guarded_more : (b : List ℕ) (guards : List Guard) (k : ℕ) (d : Guard) → k < length guards
-    → guarded b (take k guards) ++ guarded b (get_or guards k d ∷ []) ≡ guarded b (take (k + 1) guards)
-guarded_more b [] k d lt = absurd (omega arith)
-guarded_more b (g ∷ guards) zero d lt = refl
-guarded_more b (g ∷ guards) (suc k) d lt =
-    let e : suc k + 1 ≡ suc (k + 1) = omega arith in
-    let here : List ℕ = if is_guarded b g then map number_of g.rows.now else [] in
-    rw e (append_assoc here (guarded b (take k guards)) (guarded b (get_or guards k d ∷ [])) ∙ ap (λ l. here ++ l) (guarded_more b guards k d (omega arith)))
-
-module _ (parent : Option ℕ) (b : List ℕ) where
-  pub keeps_row : (rows : List RowName) (k : ℕ) (d : RowName) (o p q : Option ℕ) → k < length rows
-      → KeepsLeast parent b (map number_of (take k rows)) o p → KeepsLeast parent b (number_of (get_or rows k d) ∷ []) p q
-      → KeepsLeast parent b (map number_of (take (k + 1) rows)) o q
-  keeps_row rows k d o p q lt h j =
-      subst (λ l. KeepsLeast parent b l o q) (numbers_more rows k d lt) (keeps_more parent b _ _ o p q h j)
-
-  pub keeps_guard : (guards : List Guard) (k : ℕ) (d : Guard) (o p q : Option ℕ) → k < length guards
-      → KeepsLeast parent b (guarded b (take k guards)) o p → KeepsLeast parent b (guarded b (get_or guards k d ∷ [])) p q
-      → KeepsLeast parent b (guarded b (take (k + 1) guards)) o q
-  keeps_guard guards k d o p q lt h j =
-      subst (λ l. KeepsLeast parent b l o q) (guarded_more b guards k d lt) (keeps_more parent b _ _ o p q h j)
-
-  pub keeps_all_rows : (rows : List RowName) (n : ℕ) (o p : Option ℕ) → length rows ≤ n → KeepsLeast parent b (map number_of (take n rows)) o p
-      → KeepsLeast parent b (map number_of rows) o p
-  keeps_all_rows rows n o p le h = subst (λ l. KeepsLeast parent b (map number_of l) o p) (take_all n rows le) h
-
-  pub keeps_all_guards : (guards : List Guard) (n : ℕ) (o p : Option ℕ) → length guards ≤ n → KeepsLeast parent b (guarded b (take n guards)) o p
-      → KeepsLeast parent b (guarded b guards) o p
-  keeps_all_guards guards n o p le h = subst (λ l. KeepsLeast parent b (guarded b l) o p) (take_all n guards le) h
-
-  -- what the rows of a guard keep is kept if the buffer has its byte
-  pub keeps_behind : (g : Guard) (o p : Option ℕ) → is_guarded b g ≡ true → KeepsLeast parent b (map number_of g.rows.now) o p
-      → KeepsLeast parent b (guarded b (g ∷ [])) o p
-  keeps_behind g o p on h =
-      subst (λ t. KeepsLeast parent b ((if t then map number_of g.rows.now else []) ++ []) o p) (sym on)
-      (subst (λ l. KeepsLeast parent b l o p) (sym (append-nil (map number_of g.rows.now))) h)
-
-both : (x y : Bool) → IsTrue x → IsTrue y → IsTrue (x && y)
-both true y h k = k
-both false y h k = absurd (cc)
-
--- a byte that was read at the guard's place and is the guard's
-pub guarded_by : (b : List ℕ) (g : Guard) (x : ℕ) → true ≡ nat_lt g.place (length b) → x ≡ get_or b g.place x → x ≡ g.byte → is_guarded b g ≡ true
-guarded_by b g x there read same =
-    let lt : g.place < length b = ltb-true g.place (length b) (sym there) in
-    let here : slice_index b g.place ≡ g.byte = get_or_default b g.place 0 x lt ∙ (sym read ∙ same) in
-    both (nat_lt g.place (length b)) _ (sym there) (eq-eqb (slice_index b g.place) g.byte here)
+pub widest : (index : RowIndex) (row : ℕ) (entries : List Entry) → AllAreAsked index → entries ≡ entries_at index.below.now row
+    → length entries ≡ 0 → (b : List ℕ) → IsFirstOf (Widens (Some row) b) further None
+widest index row [] all e none b =
+    none_found (Some row) b (length further) (omega arith) (λ k le lt. λ w.
+    let listed = subst (λ (l : List Entry). IsTrue (is_listed (candidates b l) k)) (sym e) (all (Some row) b k w) in
+    absurd (cc))
+widest index row (x ∷ entries) all e none b = absurd (omega arith)

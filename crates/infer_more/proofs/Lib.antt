@@ -1,6 +1,8 @@
 pub mod ListLemmas
 pub mod JoinedLemmas
+pub mod NamedLemmas
 pub mod IndexLemmas
+pub mod PieceLemmas
 pub mod LeastLemmas
 pub mod TableLemmas
 pub mod ShownLemmas
@@ -11,3 +13,4 @@ pub mod RefusalLemmas
 pub mod SampleLemmas
 pub mod WrittenLemmas
 pub mod AddedLemmas
+pub mod SizeLemmas

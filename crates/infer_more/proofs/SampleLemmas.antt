@@ -19,7 +19,7 @@ use Rattle.infer_more.specs.Row.{Further}
 use Rattle.infer_more.specs.Samples.{Reaches, further_sample}
 use Rattle.infer_more.specs.Table.{archives, code, further, headers, images, late, markup, media, packages, records}
 use Rattle.infer_more.specs.Wider.{IsWider, Widens}
-use Rattle.infer_more.specs.declared.table.names.TheConstants.{FURTHER_COUNT}
+use Rattle.infer_more.specs.declared.index.lists.TheConstants.{FURTHER_COUNT}
 use Rattle.infer_more.proofs.RefusalLemmas.{none_accepts}
 use Rattle.infer_more.proofs.TableLemmas.{length-further}
 
@@ -66,11 +66,12 @@ module _ (by_place : ByPlace) (exclude : Deep.Apart) (leads : (s : BuiltIn) → 
   abbrev reaches : (i : ℕ) → Known (Reaches i (get_or further i d))
   reaches i = reached (get_or further i d).parent i (further_sample (get_or further i d))
 
-  all_reach : NoneRefused (λ i. is_proved (reaches i)) FURTHER_COUNT 0 9
+  -- sixteen rows a step, with room for more of them
+  all_reach : NoneRefused (λ i. is_proved (reaches i)) FURTHER_COUNT 0 16
   unfolding further archives code headers images late markup media packages records built_in.table stands le16 le32 be32 tags_with
-  all_reach = (refl, (refl, (refl, (refl, (refl, (refl, (refl, (refl, (refl, tt)))))))))
+  all_reach = (refl, (refl, (refl, (refl, (refl, (refl, (refl, (refl, (refl, (refl, (refl, (refl, (refl, (refl, (refl, (refl, tt))))))))))))))))
 
   pub row_reaches : (i : ℕ) → i < length further → Reaches i (get_or further i d)
   row_reaches i lt =
       let many = length-further in
-      proof_of (reaches i) (passed (λ j. is_proved (reaches j)) FURTHER_COUNT 9 all_reach (omega arith) i (omega arith))
+      proof_of (reaches i) (passed (λ j. is_proved (reaches j)) FURTHER_COUNT 16 all_reach (omega arith) i (omega arith))

@@ -10,7 +10,7 @@ use Rattle.infer.specs.declared.table.rows.TheConstants.{ROW_COUNT}
 use Rattle.infer_more.specs.Row.{Further}
 use Rattle.infer_more.specs.Table.{further}
 use Rattle.infer_more.specs.Wider.{shown}
-use Rattle.infer_more.specs.declared.table.names.TheConstants.{FURTHER_COUNT}
+use Rattle.infer_more.specs.declared.index.lists.TheConstants.{FURTHER_COUNT}
 use Rattle.infer_more.proofs.JoinedLemmas.{slice_get_front, slice_get_rest}
 use Rattle.infer_more.proofs.TableLemmas.{length-further}
 

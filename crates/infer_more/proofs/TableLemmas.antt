@@ -1,8 +1,15 @@
--- The table's length.
-use Rattle.std.proofs.Common.{◌≡◌, length, refl}
+-- The table's length, and that no row asks for more than its least length.
+use Rattle.std.proofs.Common.{◌≡◌, IsTrue, length, refl}
+use Rattle.std.specs.List.{list_all}
+use Rattle.infer_more.specs.Row.{is_row_closed}
 use Rattle.infer_more.specs.Table.{archives, code, further, headers, images, late, markup, media, packages, records}
-use Rattle.infer_more.specs.declared.table.names.TheConstants.{FURTHER_COUNT}
+use Rattle.infer_more.specs.declared.index.lists.TheConstants.{FURTHER_COUNT}
+use Rattle.infer_more.proofs.NamedLemmas.{all_pass}
 
 pub length-further : length further ≡ FURTHER_COUNT
 unfolding further archives code headers images late markup media packages records
 length-further = refl
+
+pub all_closed : IsTrue (list_all is_row_closed further)
+unfolding further archives code headers images late markup media packages records
+all_closed = all_pass is_row_closed 0 further refl

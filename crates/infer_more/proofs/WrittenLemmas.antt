@@ -1,5 +1,5 @@
 -- What is written of the sample of a row, and which rows have none.
-use Rattle.std.proofs.Common.{zero, suc, ◌↔◌, nat_lt, IfSome, MatchBool, MatchOption, is_some, option_and_then, ◌≡◌, ◌≢◌, ◌⊎◌, ◌≤◌, ◌<◌, ◌+◌, ◌-◌, ℕ, Bool, true, false, IsTrue, inl, inr, List, [], ◌∷◌, ◌++◌, Option, None, Some, ap, drop, length, length-append, length-drop, map, max, option_map, slice_get, subst, sym, take, unwrap_or, ◌∙◌, arith, refl, nat_le}
+use Rattle.std.proofs.Common.{◌↔◌, nat_lt, IfSome, MatchBool, MatchOption, is_some, option_and_then, ◌≡◌, ◌≢◌, ◌⊎◌, ◌≤◌, ◌<◌, ◌+◌, ◌-◌, ℕ, Bool, true, false, IsTrue, inl, inr, List, [], ◌∷◌, ◌++◌, Option, None, Some, ap, drop, length, length-append, length-drop, map, max, option_map, slice_get, subst, sym, take, unwrap_or, ◌∙◌, arith, refl, nat_le}
 use Rattle.std.specs.Prelude.{◌==◌, ◌||◌, if◌then◌else◌}
 use Rattle.std.specs.List.{HoldsAt, list_all}
 use Rattle.std.proofs.Math.Seq.{drop-append-add, take-append-add}
@@ -18,10 +18,10 @@ use Rattle.infer.specs.declared.table.rows.TheConstants.{DLL, EPUB_ARCHIVE, ROW_
 use Rattle.infer.proofs.CandidateLemmas.{read_has}
 use Rattle.infer.proofs.TableLemmas.{length-table}
 use Rattle.infer_more.specs.Listed.{part_listed, row_listed, signature_listed}
-use Rattle.infer_more.specs.Row.{Further}
+use Rattle.infer_more.specs.Row.{Further, is_inside}
 use Rattle.infer_more.specs.Table.{further}
 use Rattle.infer_more.specs.Wider.{AcceptsAt, IsWider, Widens, wider}
-use Rattle.infer_more.specs.Samples.{AllReach, Reaches, built_in_sample, further_sample, has_room, has_room_after, is_inside, joined_sample, parent_sample, written}
+use Rattle.infer_more.specs.Samples.{AllReach, Reaches, built_in_sample, further_sample, has_room, has_room_after, joined_sample, parent_sample, written}
 use Rattle.infer_more.specs.declared.samples.TheConstants.{SAMPLE_SIZE}
 use Rattle.infer_more.specs.declared.signature.Alternative as Listed
 use Rattle.infer_more.specs.declared.table.FurtherRow.{FurtherRow}
@@ -149,11 +149,6 @@ holds_written P None result old new h counted done = subst (λ r. IfSome r (λ n
 holds_written P (Some s) result old new h counted done =
     subst (λ r. IfSome r (λ n. P (take n new))) (sym counted)
     (subst P (sym (ap (take (length s)) done ∙ take_at s (zeros (SAMPLE_SIZE - length s)) (length s) refl)) h)
-
-pub row_room : (rows : List Further) (i : ℕ) (r : Further) → IsTrue (list_all has_room rows) → Some r ≡ slice_get rows i → IsTrue (has_room r)
-row_room [] i r h e = absurd (cc)
-row_room (x ∷ rows) zero r h e = let same : x ≡ r = cc in subst (λ y. IsTrue (has_room y)) same (both_left (has_room x) _ h)
-row_room (x ∷ rows) (suc i) r h e = row_room rows i r (both_right (has_room x) _ h) e
 
 -- the sample of a row that is read is answered by the row
 pub row_answered : AllReach → (i : ℕ) (r : Further) → Some r ≡ slice_get further i → Reaches i r

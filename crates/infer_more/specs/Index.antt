@@ -1,45 +1,71 @@
 -- Which further rows are asked, and why no other can widen an answer.
-use Rattle.std.specs.Prelude.{◌-◌, ◌≤◌, ◌==◌, ◌&&◌, ◌||◌, ℕ, suc, Bool, true, false, IfSome, IsTrue, List, [], ◌∷◌, ◌++◌, Option, None, Some, if◌then◌else◌, length, map, nat_le, nat_lt, slice_get, slice_index}
+use Rattle.std.specs.Prelude.{◌-◌, ◌<◌, ◌≤◌, ◌==◌, ◌&&◌, ◌||◌, ℕ, suc, Bool, true, false, IsTrue, List, [], ◌∷◌, ◌++◌, Option, None, Some, if◌then◌else◌, length, nat_le, nat_lt, slice_get, slice_index}
 use Rattle.std.specs.List.{list_all, list_any, range_with_len}
 use Rattle.std.specs.Option.{option_map_or}
-use denote.Enum.Declared.{tag_of}
 use denote.Ref.{Bor}
 use Rattle.infer_sig.specs.Signature.{Alternative, at_least, any_of, between, all_but, Part, text, any_text, byte}
 use Rattle.infer.specs.Walks.{is_listed}
-use Rattle.infer_more.specs.Row.{Further}
+use Rattle.infer_more.specs.Table.{further}
 use Rattle.infer_more.specs.Wider.{WidensAt}
-use Rattle.infer_more.specs.contracts.table.names.RowName as row_name
+use Rattle.infer_more.specs.declared.index.Entry.{Entry}
+use Rattle.infer_more.specs.declared.index.Gate.{Gate}
 use Rattle.infer_more.specs.declared.index.Guard.{Guard}
 use Rattle.infer_more.specs.declared.index.RowIndex.{RowIndex}
-use Rattle.infer_more.specs.declared.table.names.RowName.{RowName}
 
--- the number of the further row with that name: its place among the names
-abbrev pub number_of : RowName → ℕ
-number_of name = tag_of row_name.the_type name
+-- the buffer has the byte at the place
+abbrev pub has_byte : List ℕ → ℕ → ℕ → Bool
+has_byte b place x = nat_lt place (length b) && slice_index b place == x
 
--- the numbers of the rows that the code lists at i
-abbrev pub numbers_at : List (Bor (List RowName)) → ℕ → List ℕ
-numbers_at lists i = option_map_or (λ rows. map number_of rows.now) (slice_get lists i) []
+-- what a function gives for each element, one after the other
+abbrev pub all_of : {A : Type 0} → (A → List ℕ) → List A → List ℕ
+all_of f [] = []
+all_of f (x ∷ xs) = f x ++ all_of f xs
 
--- the buffer has the guard's byte at its place
-abbrev pub is_guarded : List ℕ → Guard → Bool
-is_guarded b g = nat_lt g.place (length b) && slice_index b g.place == g.byte
+-- the entry's row, if the buffer has its byte
+abbrev pub candidate : List ℕ → Entry → List ℕ
+candidate b e = if has_byte b e.place e.byte then e.row ∷ [] else []
 
--- the rows of the guards whose byte the buffer has
+abbrev pub candidates : List ℕ → List Entry → List ℕ
+candidates b entries = all_of (candidate b) entries
+
+-- the rows of a guard's entries, if the buffer has its byte
+abbrev pub behind : List ℕ → Guard → List ℕ
+behind b g = if has_byte b g.place g.byte then candidates b g.entries.now else []
+
 abbrev pub guarded : List ℕ → List Guard → List ℕ
-guarded b [] = []
-guarded b (g ∷ guards) = (if is_guarded b g then map number_of g.rows.now else []) ++ guarded b guards
+guarded b guards = all_of (behind b) guards
+
+-- the rows of a gate's guards, if the buffer has its byte
+abbrev pub gated : List ℕ → Gate → List ℕ
+gated b g = if has_byte b g.place g.byte then guarded b g.guards.now else []
+
+-- the buffer has the entry's byte, and its row is not before `from`
+abbrev pub is_candidate : List ℕ → ℕ → Entry → Bool
+is_candidate b from e = has_byte b e.place e.byte && nat_le from e.row
+
+-- the rows of the entries ascend
+abbrev pub ascends : List Entry → Bool
+ascends [] = true
+ascends (e ∷ entries) = list_all (λ f. nat_le e.row f.row) entries && ascends entries
+
+-- behind every guard
+abbrev pub all_guarded_ascend : List Guard → Bool
+all_guarded_ascend guards = list_all (λ g. ascends g.entries.now) guards
+
+-- the entries that the code lists at i
+abbrev pub entries_at : List (Bor (List Entry)) → ℕ → List Entry
+entries_at lists i = option_map_or (λ entries. entries.now) (slice_get lists i) []
 
 module _ (index : RowIndex) where
-  -- the rows that are listed by the first byte
-  abbrev pub begun : List ℕ → List ℕ
+  -- the entries that are listed by the first byte
+  abbrev pub begun : List ℕ → List Entry
   begun [] = []
-  begun (x ∷ rest) = numbers_at index.first.now x
+  begun (x ∷ rest) = entries_at index.first.now x
 
   -- the rows that are asked of a buffer with this built-in answer
   abbrev pub asked : Option ℕ → List ℕ → List ℕ
-  asked (Some parent) b = numbers_at index.below.now parent
-  asked None b = begun b ++ guarded b index.guards.now
+  asked (Some parent) b = candidates b (entries_at index.below.now parent)
+  asked None b = candidates b (begun b) ++ (guarded b index.guards.now ++ gated b index.gate)
 
 -- the part settles the place, and allows there only bytes that pass the test
 abbrev pub is_settled : (ℕ → Bool) → ℕ → Part → Bool
@@ -53,37 +79,62 @@ is_settled test place (byte p (all_but x)) = false
 abbrev pub is_tested : (ℕ → Bool) → ℕ → Alternative → Bool
 is_tested test place (at_least n parts) = list_any (is_settled test place) parts
 
--- row i is one of the guard's, and the alternative allows only the guard's byte at its place
-abbrev pub is_guard_of : ℕ → Alternative → Guard → Bool
-is_guard_of i a g = is_listed (map number_of g.rows.now) i && is_tested (λ x. x == g.byte) g.place a
+module _ (index : RowIndex) where
+  -- in every list, and behind every guard
+  abbrev pub all_ascend : Bool
+  all_ascend =
+      list_all (λ entries. ascends entries.now) index.below.now
+      && (list_all (λ entries. ascends entries.now) index.first.now && (all_guarded_ascend index.guards.now && all_guarded_ascend index.gate.guards.now))
+
+-- row i has an entry with that byte at the place
+abbrev pub has_entry : ℕ → List Entry → ℕ → ℕ → Bool
+has_entry i entries place x = list_any (λ e. e.row == i && (e.place == place && e.byte == x)) entries
+
+-- at some place of the entries the alternative allows only bytes that row i has an entry for
+abbrev pub is_covered : ℕ → Alternative → List Entry → Bool
+is_covered i a entries = list_any (λ e. is_tested (has_entry i entries e.place) e.place a) entries
+
+-- with that byte at the place the entries have row i
+abbrev pub is_met : ℕ → Alternative → List Entry → ℕ → ℕ → Bool
+is_met i a entries place x = has_entry i entries place x || is_covered i a entries
+
+-- some guard has that byte at the place, and its entries have row i then
+abbrev pub has_guard : ℕ → Alternative → List Guard → ℕ → ℕ → Bool
+has_guard i a guards place x = list_any (λ g. g.place == place && (g.byte == x && is_met i a g.entries.now place x)) guards
+
+-- at some place of the guards the alternative allows only bytes that row i has a guard for
+abbrev pub is_guarded : ℕ → Alternative → List Guard → Bool
+is_guarded i a guards = list_any (λ g. is_tested (has_guard i a guards g.place) g.place a) guards
+
+-- the alternative allows only the gate's byte at its place, and the guards behind it have row i
+abbrev pub is_gated : ℕ → Alternative → Gate → Bool
+is_gated i a g = is_tested (λ x. x == g.byte) g.place a && is_guarded i a g.guards.now
 
 module _ (index : RowIndex) where
   -- each buffer that fits the alternative has row i among the rows that are asked of it
   abbrev pub is_asked : Option ℕ → ℕ → Alternative → Bool
-  is_asked (Some parent) i a = is_listed (numbers_at index.below.now parent) i
+  is_asked (Some parent) i a = is_covered i a (entries_at index.below.now parent)
   is_asked None i a =
-      is_tested (λ x. is_listed (numbers_at index.first.now x) i) 0 a || list_any (is_guard_of i a) index.guards.now
+      is_tested (λ x. is_met i a (entries_at index.first.now x) 0 x) 0 a || (is_guarded i a index.guards.now || is_gated i a index.gate)
 
-  -- so it is with each alternative of each row, the first of which has number i
-  abbrev pub are_asked : ℕ → List Further → Bool
-  are_asked i [] = true
-  are_asked i (r ∷ rows) = list_all (is_asked r.parent i) r.signature && are_asked (suc i) rows
+  -- row i is asked of each buffer that its signature accepts, if there is such a row
+  abbrev pub is_row_asked : ℕ → Bool
+  is_row_asked i = option_map_or (λ r. list_all (is_asked r.parent i) r.signature) (slice_get further i) true
 
   -- every row that widens an answer is asked
   abbrev pub AllAreAsked : Type 0
   AllAreAsked = (parent : Option ℕ) (b : List ℕ) (i : ℕ) → WidensAt parent b i → IsTrue (is_listed (asked index parent b) i)
 
--- the number is not above the row's, as none is above no number
-abbrev pub IsAtMost : Option ℕ → ℕ → Type 0
-IsAtMost None i = ⊥
-IsAtMost (Some least) i = least ≤ i
+-- and so is each further row
+pub record EachIsAsked (index : RowIndex) : Type 0 where
+  pub is_asked : (i : ℕ) → i < length further → IsTrue (is_row_asked index i)
 
--- o is the least of the numbers that widen the answer, and none if no number does
-pub record IsLeastOf (parent : Option ℕ) (b : List ℕ) (numbers : List ℕ) (o : Option ℕ) : Type 0 where
-  pub widens : IfSome o (WidensAt parent b)
-  pub least : (i : ℕ) → IsTrue (is_listed numbers i) → WidensAt parent b i → IsAtMost o i
+-- `after` is not above `before` nor above any of the numbers that is at least `from`, and itself at least that if `before` is
+pub record IsNext (numbers : List ℕ) (from before after : ℕ) : Type 0 where
+  pub kept : from ≤ before → from ≤ after
+  pub below : after ≤ before
+  pub least : (i : ℕ) → IsTrue (is_listed numbers i) → from ≤ i → after ≤ i
 
--- of these numbers too, if it was so of some others
-abbrev pub KeepsLeast : Option ℕ → List ℕ → List ℕ → Option ℕ → Option ℕ → Type 0
-KeepsLeast parent b more before after =
-    (numbers : List ℕ) → IsLeastOf parent b numbers before → IsLeastOf parent b (numbers ++ more) after
+-- no further row from the first number on and before the second one widens the answer
+abbrev pub NoneBetween : Option ℕ → List ℕ → ℕ → ℕ → Type 0
+NoneBetween parent b from to = (k : ℕ) → from ≤ k → k < to → ¬ WidensAt parent b k

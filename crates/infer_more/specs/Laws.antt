@@ -1,5 +1,5 @@
 -- Laws of further rows and of the wider answer.
-use Rattle.std.specs.Prelude.{◌≡◌, ◌<◌, ℕ, Bool, IsTrue, List, ◌++◌, Option, None, Some, All, if◌then◌else◌, nat_lt, not, option_map, slice_get}
+use Rattle.std.specs.Prelude.{◌≡◌, ◌<◌, ◌≤◌, ℕ, Bool, IfSome, IsTrue, List, ◌++◌, Option, None, Some, All, if◌then◌else◌, length, nat_lt, not, option_map, slice_get}
 use Rattle.std.specs.List.{list_all, list_any}
 use Rattle.infer_sig.specs.Laws.{Lasts}
 use Rattle.infer_sig.specs.Signature.{Alternative, at_least, Part, text, any_text, byte, accepts}
@@ -53,3 +53,7 @@ built_in_by (Some i) = if nat_lt i ROW_COUNT then Some i else parent_at i
 -- the wider answer alone tells the built-in one
 abbrev pub AllAreBelow : Type 0
 AllAreBelow = (b : List ℕ) (o : Option ℕ) → IsWider b o → IsFirstOf (Accepts b) built_in.table (built_in_by o)
+
+-- the MIME type and the extension of every row, built-in or further, have at most n bytes
+abbrev pub TextsFit : ℕ → Type 0
+TextsFit n = (i : ℕ) → IfSome (slice_get shown i) (λ t. (length t.mime_type ≤ n) × (length t.extension ≤ n))

@@ -1,5 +1,5 @@
 -- The further rows as the code lists them.
-use Rattle.std.specs.Prelude.{◌≡◌, List, [], ◌∷◌, ◌++◌, map}
+use Rattle.std.specs.Prelude.{◌≡◌, ◌==◌, List, [], ◌∷◌, ◌++◌, if◌then◌else◌, map}
 use denote.Ref.{Bor}
 use Rattle.infer_sig.specs.Signature as signature
 use Rattle.infer_sig.specs.Signature.{Part, at_least, text, byte, any_of, between}
@@ -11,10 +11,11 @@ use Rattle.infer_more.specs.declared.signature.Alternative.{Alternative}
 use Rattle.infer_more.specs.declared.signature.Piece.{Piece}
 use Rattle.infer_more.specs.declared.signature.Piece.TheVariants.{At, OneOf, Between}
 
+-- what a piece asks: a range of one byte is a text of that byte
 abbrev pub part_listed : Piece → Part
 part_listed (At place t) = text place t.now
 part_listed (OneOf place bytes) = byte place (any_of bytes.now)
-part_listed (Between place low high) = byte place (between low high)
+part_listed (Between place low high) = if low == high then text place (low ∷ []) else byte place (between low high)
 
 abbrev pub alternative_listed : Alternative → signature.Alternative
 alternative_listed a = at_least a.least (map part_listed a.pieces.now)

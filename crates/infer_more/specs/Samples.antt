@@ -1,13 +1,13 @@
 -- A sample of each row: a short buffer that has it as its answer.
-use Rattle.std.specs.Prelude.{◌+◌, ◌-◌, ◌<◌, ◌==◌, ◌&&◌, ◌||◌, ℕ, Bool, true, false, IfSome, List, [], ◌∷◌, ◌++◌, MatchBool, Option, None, Some, if◌then◌else◌, length, max, nat_le, nat_lt, option_and_then, option_map, slice_get, unwrap_or}
+use Rattle.std.specs.Prelude.{◌+◌, ◌-◌, ◌<◌, ◌==◌, ◌&&◌, ◌||◌, ℕ, Bool, true, IfSome, List, [], ◌∷◌, ◌++◌, MatchBool, Option, None, Some, if◌then◌else◌, length, max, nat_le, nat_lt, option_and_then, option_map, slice_get, unwrap_or}
 use Rattle.std.specs.List.{HoldsAt, list_all}
-use Rattle.infer_sig.specs.Signature.{Alternative, at_least, Part, text, any_text, byte}
+use Rattle.infer_sig.specs.Signature.{Alternative, at_least}
 use Rattle.infer.specs.First.{IsFirst}
 use Rattle.infer.specs.Row.{Accepts}
 use Rattle.infer.specs.Samples.{sample_of, with_parts, zeros}
 use Rattle.infer.specs.Table as built_in
 use Rattle.infer.specs.declared.table.rows.TheConstants.{DLL, EPUB_ARCHIVE, ROW_COUNT}
-use Rattle.infer_more.specs.Row.{Further}
+use Rattle.infer_more.specs.Row.{Further, is_inside}
 use Rattle.infer_more.specs.Table.{further}
 use Rattle.infer_more.specs.Wider.{IsWider}
 use Rattle.infer_more.specs.declared.samples.TheConstants.{SAMPLE_SIZE}
@@ -42,12 +42,6 @@ written (Some s) old = s ++ zeros (SAMPLE_SIZE - length s)
 -- the buffer has row i as its answer, and for a further row as its wider answer
 abbrev pub HasAnswer : ℕ → List ℕ → Type 0
 HasAnswer i b = MatchBool (nat_lt i ROW_COUNT) (IsFirst (Accepts b) built_in.table i) (IsWider b (Some i))
-
--- what the part asks is in the first n bytes
-abbrev pub is_inside : ℕ → Part → Bool
-is_inside n (text place t) = nat_le (place + length t) n
-is_inside n (any_text place ts) = false
-is_inside n (byte place set) = nat_le (place + 1) n
 
 -- what the first alternative asks is inside the sample, and this is not too long
 abbrev pub has_room_after : ℕ → List Alternative → Bool

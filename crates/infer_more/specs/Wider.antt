@@ -30,6 +30,10 @@ abbrev pub wider : Option ℕ → Option ℕ → Option ℕ
 wider parent None = parent
 wider parent (Some i) = Some (ROW_COUNT + i)
 
+-- the number of the wider answer of a buffer whose built-in answer is the parent
+abbrev pub IsWidened : Option ℕ → List ℕ → Option ℕ → Type 0
+IsWidened parent b o = (found : Option ℕ) × IsFirstOf (Widens parent b) further found × (o ≡ wider parent found)
+
 -- Let p be the built-in answer of the buffer, or none. The wider answer is the first further row, in order, whose parent
 -- is p and whose signature accepts the buffer. If there is none, it is p.
 pub record IsWider (b : List ℕ) (o : Option ℕ) : Type 0 where

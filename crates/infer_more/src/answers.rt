@@ -5,15 +5,15 @@ ghost use Rattle.infer.specs.First.{IsFirstOf, SomeHas};
 ghost use Rattle.infer.specs.Triple.{triple_of};
 ghost use Rattle.infer.specs.declared.table.rows.TheConstants.{ROW_COUNT};
 ghost use Rattle.infer_more.specs.Ended.{ended_listed, ended_shown};
-ghost use Rattle.infer_more.specs.Index.{KeepsLeast, asked, begun, guarded, number_of, numbers_at};
+ghost use Rattle.infer_more.specs.Index.{IsNext, NoneBetween, all_ascend, all_guarded_ascend, ascends, asked, begun, behind, candidates, entries_at, gated, guarded, has_byte, is_candidate};
 ghost use Rattle.infer_more.specs.Table.{further};
-ghost use Rattle.infer_more.specs.Wider.{AcceptsAt, IsWider, IsWiderAnswer, IsWidest, Widens, WidensAt, parent_at, shown, wider};
+ghost use Rattle.infer_more.specs.Wider.{AcceptsAt, IsWidened, IsWider, IsWiderAnswer, IsWidest, Widens, WidensAt, parent_at, shown};
 ghost use Rattle.infer_more.specs.Listed.{row_listed};
-ghost use Rattle.infer_more.specs.declared.table.names.TheConstants.{FURTHER_COUNT};
+ghost use Rattle.infer_more.specs.declared.index.lists.TheConstants.{FURTHER_COUNT};
 
-use crate::index::{Guard, RowIndex, asked, index};
+use crate::index::{Entry, FURTHER_COUNT, Gate, Guard, RowIndex, asked, index};
 use crate::signature;
-use crate::table::{EndedTexts, FURTHER_COUNT, FurtherRow, RowName, row_at};
+use crate::table::{EndedTexts, FurtherRow, row_at};
 use infer::rows::{ROW_COUNT, numbers};
 use infer::{Ask, Asker, Type};
 
@@ -28,95 +28,148 @@ fn widens(i: usize, parent: Option<usize>, buf: &[u8]) -> bool
     }
 }
 
-/// The lesser of the two numbers, if further row `i` has this parent and accepts the buffer.
+/// Whether the buffer has the byte at the place.
 #[inline(always)]
-fn lesser(i: usize, parent: Option<usize>, buf: &[u8], least: Option<usize>) -> Option<usize>
-    ensures { KeepsLeast parent buf.now (i ∷ []) least result }
+fn has_byte(buf: &[u8], place: u32, byte: u8) -> bool
+    ensures { result ≡ has_byte buf.now place byte }
 {
-    match least {
-        Some(found) if found <= i => least,
-        _ if widens(i, parent, buf) => Some(i),
-        _ => least,
+    match buf.get(place as usize) {
+        Some(found) => *found == byte,
+        None => false,
     }
 }
 
-/// The least of these rows, and of those before them, that has this parent and accepts the buffer.
+/// Whether the buffer has the entry's byte and the row is not before `from`.
 #[inline(always)]
-fn least_of(
-    rows: &[RowName],
-    parent: Option<usize>,
-    buf: &[u8],
-    before: Option<usize>,
-) -> Option<usize>
-    ensures { KeepsLeast parent buf.now (map number_of rows.now) before result }
+fn is_candidate(entry: &Entry, from: usize, buf: &[u8]) -> bool
+    ensures { result ≡ is_candidate buf.now from entry.now }
 {
-    let mut least = before;
-    for row in rows {
-        least = lesser(*row as usize, parent, buf, least);
-    }
-    least
+    has_byte(buf, entry.place, entry.byte) && from <= usize::from(entry.row)
 }
 
-/// The same without a parent. A function of its own, so that what asks the guards stays short.
+/// The least of the rows of these entries from `from` on, and of the number before.
 #[inline(never)]
-fn least_alone(rows: &[RowName], buf: &[u8], before: Option<usize>) -> Option<usize>
-    ensures { KeepsLeast None buf.now (map number_of rows.now) before result }
+fn next_of(entries: &[Entry], from: usize, buf: &[u8], before: usize) -> usize
+    ensures { IsTrue (ascends entries.now) → IsNext (candidates buf.now entries.now) from before result }
 {
-    least_of(rows, None, buf, before)
-}
-
-/// The same of a guard's rows, if the buffer has its byte.
-#[inline(always)]
-fn least_behind(guard: &Guard, buf: &[u8], before: Option<usize>) -> Option<usize>
-    ensures { KeepsLeast None buf.now (guarded buf.now (guard.now ∷ [])) before result }
-{
-    match buf.get(guard.place) {
-        Some(byte) if *byte == guard.byte => least_alone(guard.rows, buf, before),
-        _ => before,
+    for entry in entries {
+        if is_candidate(entry, from, buf) {
+            return before.min(usize::from(entry.row));
+        }
     }
+    before
 }
 
-/// The same of the rows of all guards.
-fn least_guarded(guards: &[Guard], buf: &[u8], before: Option<usize>) -> Option<usize>
-    ensures { KeepsLeast None buf.now (guarded buf.now guards.now) before result }
+/// The least of the rows behind a guard from `from` on, and of the number before: that number if the buffer lacks the
+/// guard's byte.
+#[inline(always)]
+fn next_behind(guard: &Guard, from: usize, buf: &[u8], before: usize) -> usize
+    ensures { IsTrue (ascends guard.now.entries.now) → IsNext (behind buf.now guard.now) from before result }
+{
+    if !has_byte(buf, guard.place, guard.byte) {
+        return before;
+    }
+    next_of(guard.entries, from, buf, before)
+}
+
+/// The least of the rows behind all guards from `from` on, and of the number before.
+#[inline(always)]
+fn next_guarded(guards: &[Guard], from: usize, buf: &[u8], before: usize) -> usize
+    ensures { IsTrue (all_guarded_ascend guards.now) → IsNext (guarded buf.now guards.now) from before result }
 {
     let mut least = before;
     for guard in guards {
-        least = least_behind(guard, buf, least);
+        least = next_behind(guard, from, buf, least);
     }
     least
 }
 
-/// The rows at that place of the lists, and none past the last.
+/// The least of the rows behind the gate's guards from `from` on, and of the number before. A function of its own, since
+/// few buffers have the gate's byte.
+#[inline(never)]
+fn next_opened(gate: &Gate, from: usize, buf: &[u8], before: usize) -> usize
+    ensures { IsTrue (all_guarded_ascend gate.now.guards.now) → IsNext (guarded buf.now gate.now.guards.now) from before result }
+{
+    next_guarded(gate.guards, from, buf, before)
+}
+
+/// The least of the rows behind the gate from `from` on, and of the number before: that number if the buffer lacks the
+/// gate's byte.
 #[inline(always)]
-fn rows_at(lists: &'static [&'static [RowName]], i: usize) -> &'static [RowName]
-    ensures { map number_of result.now ≡ numbers_at lists.now i }
+fn next_gated(gate: &Gate, from: usize, buf: &[u8], before: usize) -> usize
+    ensures { IsTrue (all_guarded_ascend gate.now.guards.now) → IsNext (gated buf.now gate.now) from before result }
+{
+    if !has_byte(buf, gate.place, gate.byte) {
+        return before;
+    }
+    next_opened(gate, from, buf, before)
+}
+
+/// The entries at that place of the lists, and none past the last.
+#[inline(always)]
+fn entries_at(lists: &'static [&'static [Entry]], i: usize) -> &'static [Entry]
+    ensures { result.now ≡ entries_at lists.now i }
 {
     match lists.get(i) {
-        Some(rows) => rows,
+        Some(entries) => entries,
         None => &[],
     }
 }
 
-/// The rows that are listed by the buffer's first byte.
+/// The entries that are listed by the buffer's first byte.
 #[inline(always)]
-fn rows_begun(index: &RowIndex, buf: &[u8]) -> &'static [RowName]
-    ensures { map number_of result.now ≡ begun index.now buf.now }
+fn entries_begun(index: &RowIndex, buf: &[u8]) -> &'static [Entry]
+    ensures { result.now ≡ begun index.now buf.now }
 {
     match buf.first() {
-        Some(byte) => rows_at(index.first, usize::from(*byte)),
+        Some(byte) => entries_at(index.first, usize::from(*byte)),
         None => &[],
     }
 }
 
-/// The least further row without a parent that accepts the buffer. A function of its own, whose guards are then tested
-/// in straight code.
+/// The least row from `from` on that is asked of a buffer without a built-in answer. A function of its own, whose guards
+/// are then tested in straight code.
 #[inline(never)]
-fn least_unknown(index: &RowIndex, buf: &[u8]) -> Option<usize>
-    ensures { KeepsLeast None buf.now (asked index.now None buf.now) None result }
+fn next_unknown(index: &RowIndex, from: usize, buf: &[u8]) -> usize
+    ensures { IsTrue (all_ascend index.now) → IsNext (asked index.now None buf.now) from FURTHER_COUNT result }
 {
-    let least = least_alone(rows_begun(index, buf), buf, None);
-    least_guarded(index.guards, buf, least)
+    let begun = next_of(entries_begun(index, buf), from, buf, FURTHER_COUNT);
+    let least = next_guarded(index.guards, from, buf, begun);
+    next_gated(&index.gate, from, buf, least)
+}
+
+/// The least row from `from` on that is asked of a buffer with this built-in answer, or their count.
+#[inline(always)]
+fn next_asked(from: usize, parent: Option<usize>, buf: &[u8]) -> usize
+    ensures kept { from ≤ FURTHER_COUNT → from ≤ result }
+    ensures none { NoneBetween parent buf.now from result }
+{
+    let index = index();
+    asked(index);
+    match parent {
+        Some(row) => next_of(entries_at(index.below, row), from, buf, FURTHER_COUNT),
+        None => next_unknown(index, from, buf),
+    }
+}
+
+/// The first further row that widens the answer, if none before `first` does.
+#[inline(always)]
+fn first_from(first: usize, parent: Option<usize>, buf: &[u8]) -> Option<usize>
+    requires { NoneBetween parent buf.now 0 first }
+    ensures { IsFirstOf (Widens parent buf.now) further result }
+{
+    let mut next = first;
+    for tried in 0..FURTHER_COUNT {
+        let _ = tried;
+        if next >= FURTHER_COUNT {
+            return None;
+        }
+        if widens(next, parent, buf) {
+            return Some(next);
+        }
+        next = next_asked(next + 1, parent, buf);
+    }
+    None
 }
 
 /// The first further row below this built-in row that accepts the buffer.
@@ -124,19 +177,8 @@ fn least_unknown(index: &RowIndex, buf: &[u8]) -> Option<usize>
 fn first_below(row: usize, buf: &[u8]) -> Option<usize>
     ensures { IsFirstOf (Widens (Some row) buf.now) further result }
 {
-    let index = index();
-    asked(index);
-    least_of(rows_at(index.below, row), Some(row), buf, None)
-}
-
-/// The first further row without a parent that accepts the buffer.
-#[inline(always)]
-fn first_unknown(buf: &[u8]) -> Option<usize>
-    ensures { IsFirstOf (Widens None buf.now) further result }
-{
-    let index = index();
-    asked(index);
-    least_unknown(index, buf)
+    let parent = Some(row);
+    first_from(next_asked(0, parent, buf), parent, buf)
 }
 
 /// Whether no further row is asked below this built-in row, so that none widens it.
@@ -146,14 +188,14 @@ fn is_widest(row: usize) -> bool
 {
     let index = index();
     asked(index);
-    rows_at(index.below, row).is_empty()
+    entries_at(index.below, row).is_empty()
 }
 
 /// The number of the wider answer of a buffer whose built-in answer is this row. A function of its own, so that a row that
 /// none widens takes nothing of what this one needs.
 #[inline(never)]
 fn asked_below(row: usize, buf: &[u8]) -> Option<usize>
-    ensures { (found : Option ℕ) × IsFirstOf (Widens (Some row) buf.now) further found × (result ≡ wider (Some row) found) }
+    ensures { IsWidened (Some row) buf.now result }
 {
     match first_below(row, buf) {
         Some(i) => Some(ROW_COUNT + i),
@@ -161,10 +203,10 @@ fn asked_below(row: usize, buf: &[u8]) -> Option<usize>
     }
 }
 
-/// The same, at once if no row is asked.
+/// The number of the wider answer of a buffer whose built-in answer is this row, at once if no further row is asked.
 #[inline(always)]
 fn widened(row: usize, buf: &[u8]) -> Option<usize>
-    ensures { (found : Option ℕ) × IsFirstOf (Widens (Some row) buf.now) further found × (result ≡ wider (Some row) found) }
+    ensures { IsWidened (Some row) buf.now result }
 {
     if is_widest(row) {
         return Some(row);
@@ -172,15 +214,45 @@ fn widened(row: usize, buf: &[u8]) -> Option<usize>
     asked_below(row, buf)
 }
 
-/// The number of the wider answer of a buffer that no built-in row accepts.
-#[inline(always)]
-fn widened_unknown(buf: &[u8]) -> Option<usize>
-    ensures { (found : Option ℕ) × IsFirstOf (Widens None buf.now) further found × (result ≡ wider None found) }
+/// The number of the wider answer of a buffer that no built-in row accepts, if no row up to `refused` widens it.
+#[inline(never)]
+fn unknown_after(refused: usize, buf: &[u8]) -> Option<usize>
+    requires none { NoneBetween None buf.now 0 (refused + 1) }
+    requires within { refused < FURTHER_COUNT }
+    ensures { IsWidened None buf.now result }
 {
-    match first_unknown(buf) {
+    let next = next_asked(refused + 1, None, buf);
+    match first_from(next, None, buf) {
         Some(found) => Some(ROW_COUNT + found),
         None => None,
     }
+}
+
+/// The same if no row before `first` does. This row is tried in no loop, so that what is told at the first try saves hardly
+/// a register.
+#[inline(never)]
+fn unknown_from(first: usize, buf: &[u8]) -> Option<usize>
+    requires none { NoneBetween None buf.now 0 first }
+    requires within { first < FURTHER_COUNT }
+    ensures { IsWidened None buf.now result }
+{
+    if widens(first, None, buf) {
+        return Some(ROW_COUNT + first);
+    }
+    unknown_after(first, buf)
+}
+
+/// The number of the wider answer of a buffer that no built-in row accepts. A buffer of which no row is asked takes nothing
+/// of what a try needs.
+#[inline(always)]
+fn widened_unknown(buf: &[u8]) -> Option<usize>
+    ensures { IsWidened None buf.now result }
+{
+    let first = next_asked(0, None, buf);
+    if first >= FURTHER_COUNT {
+        return None;
+    }
+    unknown_from(first, buf)
 }
 
 /// The number of the wider answer.

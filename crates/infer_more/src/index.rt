@@ -1,115 +1,90 @@
-//! Which further rows are asked of a buffer, so that few are.
+//! Which further rows are asked of a buffer, so that few are. An entry names a row and a byte that it asks, so that a row
+//! is tried whole only where the buffer has that byte too.
 ghost use Rattle.std.specs.Prelude.{IsTrue};
-ghost use Rattle.infer_more.specs.Index.{AllAreAsked, are_asked};
-ghost use Rattle.infer_more.specs.Table.{further};
+ghost use Rattle.infer_more.specs.Index.{AllAreAsked, EachIsAsked, all_ascend};
 
-use crate::table::RowName;
-
-/// Rows that are asked only if a buffer has the byte at the place.
-pub(crate) struct Guard {
-    pub place: usize,
+/// A row, by its number among the further rows, that is asked only if a buffer has the byte at the place.
+pub(crate) struct Entry {
+    pub place: u32,
+    pub row: u16,
     pub byte: u8,
-    pub rows: &'static [RowName],
 }
 
-/// The rows that are asked: those below each built-in row, and those without a parent by their first byte. Guards have
-/// the rows without a parent that leave the first byte free, or share it with the zeros of many files.
-pub(crate) struct RowIndex {
-    pub below: &'static [&'static [RowName]],
-    pub first: &'static [&'static [RowName]],
+/// Entries that are looked at only if a buffer has the byte at the place.
+pub(crate) struct Guard {
+    pub place: u32,
+    pub byte: u8,
+    pub entries: &'static [Entry],
+}
+
+/// Guards that are looked at only if a buffer has the byte at the place.
+pub(crate) struct Gate {
+    pub place: u32,
+    pub byte: u8,
     pub guards: &'static [Guard],
 }
 
+/// The rows that are asked, ascending in each list: those below each built-in row, and those without a parent by their
+/// first byte. Guards have the rows without a parent that leave the first byte free, or share it with the zeros of many
+/// files. Of these the rows that share another byte stand behind the gate, so that a buffer without it is told by one look.
+pub(crate) struct RowIndex {
+    pub below: &'static [&'static [Entry]],
+    pub first: &'static [&'static [Entry]],
+    pub guards: &'static [Guard],
+    pub gate: Gate,
+}
+
 macro_rules! lists {
-    ($(($($row:ident)*))*) => {
-        &[$(&[$(RowName::$row),*]),*]
+    ($(($($place:literal $byte:literal $row:literal),*))*) => {
+        &[$(&[$(Entry {
+            place: $place,
+            row: $row,
+            byte: $byte,
+        }),*]),*]
     };
 }
 
 macro_rules! guards {
-    ($($place:literal $byte:literal ($($row:ident)*);)*) => {
+    ($($place:literal $byte:literal ($($at:literal $also:literal $row:literal),*);)*) => {
         &[$(Guard {
             place: $place,
             byte: $byte,
-            rows: &[$(RowName::$row),*],
+            entries: &[$(Entry {
+                place: $at,
+                row: $row,
+                byte: $also,
+            }),*],
         }),*]
     };
 }
 
-/// The rows below each built-in row fourteen a line, and those by the first byte eight a line.
-static INDEX: RowIndex = RowIndex {
-    below: lists![
-        () (Object Core AppImage) () () () () () () () (P12 P7b) () (Pgp Asc Sig Openssh Key) () ()
-        () () (Jpx) () () () () () () () () () (Heic) ()
-        () () () () () () () () () () () () () ()
-        () () () (Ogv Oga) () () () () () () () () () ()
-        () () () () () () () (Ott) (Ots) (Otp) () (Odg Odf Kra) () ()
-        () () () () () () () () () () (EpsText) (Gpkg) () ()
-        () () () () () () () () () () () () () ()
-    ],
-    first: lists![
-        () () (Lz4) () () () () ()
-        () () (Pcapng) () () () () ()
-        () () () (Gdbm) () () () ()
-        () () (Terminfo) (Luac) () () (Terminfo) ()
-        () (Pst) () (M3u8) () () () ()
-        () () () () () () (Au) (Xpm)
-        (Cpio) () () () () () () ()
-        () () () () (Php) () () ()
-        () (Arrow) (Blend Ics Vcf) (Voc) () (Evtx) (Beam Raf Aifc) (Gguf Ts)
-        () (Rw2 Chm) (Jmod) (Vmdk) (Luks Journal Lnk) (Pcap Wim Mpc) () (Avro)
-        (Ppu Parquet Pnm) () (Ani) (Fits) (Tzif) () () (Warc Vtt)
-        (Xcursor) () () () () (Lzma) () ()
-        (Arj) (Age) (Bplist) (Vhd) (Torrent) () () (Xcf Glb)
-        (Squashfs) (Icns) () () () () () ()
-        () () () (Squashfs) (Ttc) () (Vhdx) (Wv)
-        (Xar) () () () () () () ()
-        () () () () () () () ()
-        () (Hdf5) () () () () () ()
-        () () () (Npy) (Gpg) (Mo Gpg) () ()
-        (Gpg) (Gpg) () () () () () ()
-        () (Pcap) () () () () () ()
-        () () () () () () () ()
-        () () () () () () () ()
-        () () () () () () () ()
-        () () () () () (Gpg EpsBinary) (Gpg) ()
-        () () () () () (Gdbm) (Gdbm) (Gdbm)
-        () () () () (Pcap) () () ()
-        () () () () () () (Mo) ()
-        () () () () () () () ()
-        () () () () () () () (M3u8 Ics Vcf Vtt)
-        () () () () () () () ()
-        () () () () () () () (Sz)
-    ],
-    guards: guards![
-        2 0x2D (Lzh);
-        2 0x0D (Pyc);
-        2 0x27 (Shx Shp);
-        4 0x66 (ThreeGp ThreeGp2 F4v M4b Cr3 Heics Heif);
-        4 0x53 (Mdb Accdb);
-        4 0x47 (Ts);
-        8 0x7B (Safetensors);
-        12 0x61 (Bdb);
-        12 0x62 (Bdb);
-        13 0x05 (Bdb);
-        13 0x06 (Bdb);
-        64 0x7F (Vdi);
-        512 0x89 (Hdf5);
-        1080 0x53 (Ext2);
-    ],
-};
+macro_rules! gate {
+    ($place:literal $byte:literal $($guards:tt)*) => {
+        Gate {
+            place: $place,
+            byte: $byte,
+            guards: guards![$($guards)*],
+        }
+    };
+}
+
+mod lists;
+
+pub use lists::FURTHER_COUNT;
+use lists::INDEX;
 
 /// The index.
 #[inline(always)]
 pub(crate) fn index() -> &'static RowIndex
-    ensures { IsTrue (are_asked result.now 0 further) }
+    ensures asked { EachIsAsked result.now }
+    ensures ascend { IsTrue (all_ascend result.now) }
 {
     &INDEX
 }
 
 /// Every further row that can widen an answer is asked by such an index.
 pub(crate) fn asked(index: &RowIndex)
-    requires { IsTrue (are_asked index.now 0 further) }
+    requires { EachIsAsked index.now }
     ensures { AllAreAsked index.now }
 {
     let _ = index;

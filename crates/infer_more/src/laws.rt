@@ -3,11 +3,11 @@
 ghost use Rattle.std.specs.Prelude.{◌≡◌, ◌+◌, IsTrue, length};
 ghost use Rattle.std.specs.List.{list_all};
 ghost use Rattle.infer.specs.declared.table.rows.TheConstants.{ROW_COUNT};
-ghost use Rattle.infer_more.specs.Laws.{AllAreBelow, AllLast, IsSteady, NoneIsBlank, ShowsBuiltIn};
+ghost use Rattle.infer_more.specs.Laws.{AllAreBelow, AllLast, IsSteady, NoneIsBlank, ShowsBuiltIn, TextsFit};
 ghost use Rattle.infer_more.specs.Samples.{AllReach, has_room};
 ghost use Rattle.infer_more.specs.Table.{further};
 ghost use Rattle.infer_more.specs.Wider.{shown};
-ghost use Rattle.infer_more.specs.declared.table.names.TheConstants.{FURTHER_COUNT};
+ghost use Rattle.infer_more.specs.declared.index.lists.TheConstants.{FURTHER_COUNT};
 
 /// A yes stays a yes: what the signature of a further row accepts, it accepts however the buffer goes on.
 pub fn lasting()
@@ -57,3 +57,8 @@ pub fn numbers()
 {
     infer::rows::numbers();
 }
+
+/// No MIME type and no extension of a row, built-in or further, has more than 73 bytes.
+pub fn sizes()
+    ensures { TextsFit 73 }
+{}

@@ -21,7 +21,7 @@ ghost use Rattle.infer_more.specs.Added.{IsAnswerWith};
 ghost use Rattle.infer_more.specs.Ended.{ended_listed, ended_shown};
 ghost use Rattle.infer_more.specs.Reading.{AnswersReader, AnswersSome};
 ghost use Rattle.infer_more.specs.Wider.{AcceptsAt, IsWider, IsWiderAnswer, ShowsExtension, ShowsMimeType, parent_at, shown};
-ghost use Rattle.infer_more.specs.declared.table.names.TheConstants.{FURTHER_COUNT};
+ghost use Rattle.infer_more.specs.declared.index.lists.TheConstants.{FURTHER_COUNT};
 
 mod added;
 mod answers;
@@ -32,12 +32,13 @@ mod samples;
 mod signature;
 mod table;
 
+pub use index::FURTHER_COUNT;
 use infer::{FRONT, Fault, Infer, Type, Watched};
 pub use samples::{SAMPLE_SIZE, sample};
 use std::alloc::Allocator;
 use std::io::Read;
 use std::rt::Files;
-pub use table::{EndedTexts, FURTHER_COUNT};
+pub use table::EndedTexts;
 
 /// The type of the wider answer of `buf`, and `None` exactly if no row accepts it.
 pub fn get(buf: &[u8]) -> Option<Type>

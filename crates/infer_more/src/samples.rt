@@ -6,7 +6,8 @@ ghost use Rattle.infer.specs.Row.{Accepts};
 ghost use Rattle.infer.specs.Samples.{put, with_part, with_parts, zeros};
 ghost use Rattle.infer.specs.Table as built_in;
 ghost use Rattle.infer_more.specs.Listed.{part_listed, row_listed};
-ghost use Rattle.infer_more.specs.Samples.{HasAnswer, built_in_sample, further_sample, has_room, is_inside, parent_sample, sample_at, written};
+ghost use Rattle.infer_more.specs.Row.{is_inside};
+ghost use Rattle.infer_more.specs.Samples.{HasAnswer, built_in_sample, further_sample, has_room, parent_sample, sample_at, written};
 ghost use Rattle.infer_more.specs.Table.{further};
 ghost use Rattle.infer_more.specs.Wider.{AcceptsAt, IsWider};
 

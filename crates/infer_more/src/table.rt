@@ -1,7 +1,8 @@
 //! The further rows, in the order in which they are asked.
-ghost use Rattle.std.specs.Prelude.{◌≡◌, All, IfSome, option_map, slice_get};
+ghost use Rattle.std.specs.Prelude.{◌≡◌, All, IfSome, IsTrue, option_map, slice_get};
 ghost use Rattle.infer_more.specs.Ended.{ended_listed, ended_shown};
 ghost use Rattle.infer_more.specs.Listed.{AreEnded, joined, row_listed};
+ghost use Rattle.infer_more.specs.Row.{is_row_closed};
 ghost use Rattle.infer_more.specs.Table.{further};
 
 use crate::signature::Alternative;
@@ -28,7 +29,7 @@ pub(crate) struct FurtherRow {
 // and its pieces.
 macro_rules! rows {
     ($($class:ident $mime_type:literal $extension:literal: $($parent:ident)? => $([$least:literal, $($piece:expr),*])*;)*) => {
-        [$(FurtherRow {
+        &[$(FurtherRow {
             matcher_type: MatcherType::$class,
             mime_type: $mime_type,
             extension: $extension,
@@ -54,6 +55,14 @@ macro_rules! parent {
     };
 }
 
+// At the place this byte: a range of one. No kind of piece of its own, since of three kinds the compiler tests each in turn,
+// and for a fourth it would make a table of jumps.
+macro_rules! is {
+    ($place:literal, $byte:literal) => {
+        Between($place, $byte, $byte)
+    };
+}
+
 mod archives;
 mod code;
 mod headers;
@@ -61,11 +70,8 @@ mod images;
 mod late;
 mod markup;
 mod media;
-mod names;
 mod packages;
 mod records;
-
-pub use names::{FURTHER_COUNT, RowName};
 
 /// The rows, list by list.
 #[inline(always)]
@@ -90,6 +96,7 @@ pub(crate) fn lists() -> [&'static [FurtherRow]; 9]
 pub(crate) fn row_at(i: usize) -> Option<&'static FurtherRow>
     ensures listed { option_map (λ row. row_listed row.now) result ≡ slice_get further i }
     ensures ended { IfSome result (λ row. ended_listed row.now.ended ≡ ended_shown (row_listed row.now).shows) }
+    ensures closed { IfSome result (λ row. IsTrue (is_row_closed (row_listed row.now))) }
 {
     let mut left = i;
     for rows in lists() {

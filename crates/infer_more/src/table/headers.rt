@@ -9,7 +9,7 @@ use crate::table::{EndedTexts, FurtherRow};
 use infer::MatcherType;
 use infer::rows::{DER, HEIF, JPEG2000, MSI, OGG, PEM, PNG, PS, SQLITE, TIFF};
 
-static ROWS: [FurtherRow; 19] = rows![
+static ROWS: &[FurtherRow] = rows![
     App "application/x-msi" "msi": MSI =>;
     Doc "application/vnd.ms-outlook" "msg": MSI =>;
     Doc "application/vnd.ms-publisher" "pub": MSI =>;
@@ -36,5 +36,5 @@ pub(super) fn rows() -> &'static [FurtherRow]
     ensures listed { map row_listed result.now ≡ headers }
     ensures ended { AreEnded result.now }
 {
-    &ROWS
+    ROWS
 }

@@ -8,8 +8,8 @@ use crate::signature::Piece::{At, Between, OneOf};
 use crate::table::{EndedTexts, FurtherRow};
 use infer::MatcherType;
 
-static ROWS: [FurtherRow; 19] = rows![
-    Archive "application/x-lzh-compressed" "lzh": => [7, At(2, b"-lh"), Between(5, 0x30, 0x37), At(6, b"-")] [7, At(2, b"-lh"), OneOf(5, b"dx"), At(6, b"-")] [7, At(2, b"-lz"), OneOf(5, b"45s"), At(6, b"-")] [7, At(2, b"-pm"), Between(5, 0x30, 0x32), At(6, b"-")];
+static ROWS: &[FurtherRow] = rows![
+    Archive "application/x-lzh-compressed" "lzh": => [7, At(2, b"-lh"), Between(5, 0x30, 0x37), is!(6, b'-')] [7, At(2, b"-lh"), OneOf(5, b"dx"), is!(6, b'-')] [7, At(2, b"-lz"), OneOf(5, b"45s"), is!(6, b'-')] [7, At(2, b"-pm"), Between(5, 0x30, 0x32), is!(6, b'-')];
     Video "video/3gpp" "3gp": => [11, At(4, b"ftyp3g"), OneOf(10, b"egprs")];
     Video "video/3gpp2" "3g2": => [11, At(4, b"ftyp3g2")];
     Video "video/x-f4v" "f4v": => [12, At(4, b"ftypf4v ")];
@@ -22,8 +22,8 @@ static ROWS: [FurtherRow; 19] = rows![
     App "application/x-dbm" "bdb": => [16, At(12, b"b1\x05\0")] [16, At(12, b"\0\x051b")] [16, At(12, b"a\x15\x06\0")] [16, At(12, b"\0\x06\x15a")];
     App "application/x-vdi-disk" "vdi": => [68, At(64, b"\x7F\x10\xDA\xBE")];
     App "application/vnd.dbf" "dbf": =>;
-    Archive "application/x-ext-filesystem" "ext2": => [1086, At(1080, b"S\xEF"), Between(1082, 0x00, 0x07), At(1083, b"\0"), Between(1084, 0x01, 0x03), At(1085, b"\0")];
-    Video "video/mp2t" "ts": => [753, At(0, b"G"), At(188, b"G"), At(376, b"G"), At(564, b"G"), At(752, b"G")] [773, At(4, b"G"), At(196, b"G"), At(388, b"G"), At(580, b"G"), At(772, b"G")];
+    Archive "application/x-ext-filesystem" "ext2": => [1086, At(1080, b"S\xEF"), Between(1082, 0x00, 0x07), is!(1083, 0x00), Between(1084, 0x01, 0x03), is!(1085, 0x00)];
+    Video "video/mp2t" "ts": => [753, is!(0, b'G'), is!(188, b'G'), is!(376, b'G'), is!(564, b'G'), is!(752, b'G')] [773, is!(4, b'G'), is!(196, b'G'), is!(388, b'G'), is!(580, b'G'), is!(772, b'G')];
     Archive "application/x-tar" "tar": =>;
     Text "application/x-ndjson" "ndjson": =>;
     Text "application/json" "json": =>;
@@ -35,5 +35,5 @@ pub(super) fn rows() -> &'static [FurtherRow]
     ensures listed { map row_listed result.now ≡ late }
     ensures ended { AreEnded result.now }
 {
-    &ROWS
+    ROWS
 }

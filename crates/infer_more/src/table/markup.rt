@@ -8,7 +8,7 @@ use crate::table::{EndedTexts, FurtherRow};
 use infer::MatcherType;
 use infer::rows::{HTML, SHELLSCRIPT, XML};
 
-static ROWS: [FurtherRow; 17] = rows![
+static ROWS: &[FurtherRow] = rows![
     Text "text/x-python" "py": SHELLSCRIPT =>;
     Text "text/x-perl" "pl": SHELLSCRIPT =>;
     Text "text/x-ruby" "rb": SHELLSCRIPT =>;
@@ -33,5 +33,5 @@ pub(super) fn rows() -> &'static [FurtherRow]
     ensures listed { map row_listed result.now ≡ markup }
     ensures ended { AreEnded result.now }
 {
-    &ROWS
+    ROWS
 }

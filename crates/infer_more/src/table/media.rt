@@ -4,14 +4,14 @@ ghost use Rattle.infer_more.specs.Listed.{AreEnded, row_listed};
 ghost use Rattle.infer_more.specs.Table.{media};
 
 use crate::signature::Alternative;
-use crate::signature::Piece::{At, OneOf};
+use crate::signature::Piece::{At, Between, OneOf};
 use crate::table::{EndedTexts, FurtherRow};
 use infer::MatcherType;
 
-static ROWS: [FurtherRow; 13] = rows![
+static ROWS: &[FurtherRow] = rows![
     Audio "audio/basic" "au": => [6, At(0, b".snd\0\0")];
     Audio "audio/x-aifc" "aifc": => [12, At(0, b"FORM"), At(8, b"AIFC")];
-    Audio "audio/x-wavpack" "wv": => [10, At(0, b"wvpk"), At(9, b"\x04")];
+    Audio "audio/x-wavpack" "wv": => [10, At(0, b"wvpk"), is!(9, 0x04)];
     Audio "audio/x-musepack" "mpc": => [4, At(0, b"MPCK")] [4, At(0, b"MP+"), OneOf(3, b"\x07\x17")];
     Audio "audio/x-voc" "voc": => [20, At(0, b"Creative Voice File\x1A")];
     Audio "application/vnd.apple.mpegurl" "m3u8": => [8, At(0, b"#EXTM3U"), OneOf(7, b"\t\n\r ")] [11, At(0, b"\xEF\xBB\xBF#EXTM3U"), OneOf(10, b"\t\n\r ")];
@@ -29,5 +29,5 @@ pub(super) fn rows() -> &'static [FurtherRow]
     ensures listed { map row_listed result.now ≡ media }
     ensures ended { AreEnded result.now }
 {
-    &ROWS
+    ROWS
 }

@@ -4,14 +4,14 @@ ghost use Rattle.infer_more.specs.Listed.{AreEnded, row_listed};
 ghost use Rattle.infer_more.specs.Table.{packages};
 
 use crate::signature::Alternative;
-use crate::signature::Piece::{At, OneOf};
+use crate::signature::Piece::{At, Between, OneOf};
 use crate::table::{EndedTexts, FurtherRow};
 use infer::MatcherType;
 use infer::rows::{ELF, ODP, ODS, ODT, ZIP};
 
-static ROWS: [FurtherRow; 18] = rows![
-    App "application/x-object" "o": ELF => [18, At(5, b"\x01"), At(16, b"\x01\0")] [18, At(5, b"\x02"), At(16, b"\0\x01")];
-    App "application/x-core" "core": ELF => [18, At(5, b"\x01"), At(16, b"\x04\0")] [18, At(5, b"\x02"), At(16, b"\0\x04")];
+static ROWS: &[FurtherRow] = rows![
+    App "application/x-object" "o": ELF => [18, is!(5, 0x01), At(16, b"\x01\0")] [18, is!(5, 0x02), At(16, b"\0\x01")];
+    App "application/x-core" "core": ELF => [18, is!(5, 0x01), At(16, b"\x04\0")] [18, is!(5, 0x02), At(16, b"\0\x04")];
     App "application/vnd.appimage" "appimage": ELF => [11, At(8, b"AI"), OneOf(10, b"\x01\x02")];
     App "application/x-sharedlib" "so": ELF =>;
     App "application/vnd.android.package-archive" "apk": ZIP =>;
@@ -35,5 +35,5 @@ pub(super) fn rows() -> &'static [FurtherRow]
     ensures listed { map row_listed result.now ≡ packages }
     ensures ended { AreEnded result.now }
 {
-    &ROWS
+    ROWS
 }

@@ -5,6 +5,6 @@ use Rattle.infer_more.proofs.answers.is_widest.Goals as goal
 
 pub returns : goal.returns
 returns c = λ none.
-    let rows = c.rows_at.result.now in
-    let empty = eqb-true (length rows) 0 (sym c.is_empty.ensures ∙ none) in
-    widest c.index-index.result.now c.args.row rows c.asked.ensures c.rows_at.ensures empty
+    let entries = c.entries_at.result.now in
+    let empty = eqb-true (length entries) 0 (sym c.is_empty.ensures ∙ none) in
+    widest c.index-index.result.now c.args.row entries c.asked.ensures c.entries_at.ensures empty

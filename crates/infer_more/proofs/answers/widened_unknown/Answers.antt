@@ -1,17 +1,11 @@
-use Rattle.std.proofs.Common.{◌<◌, None, Some, length, arith, refl}
+use Rattle.std.proofs.Common.{◌≤◌, None, length, arith, refl}
 use Rattle.infer_more.specs.Table.{further}
+use Rattle.infer_more.proofs.LeastLemmas.{none_found}
 use Rattle.infer_more.proofs.TableLemmas.{length-further}
 use Rattle.infer_more.proofs.answers.widened_unknown.Goals as goal
 
-pub overflow_add-result : goal.overflow_add-result
-overflow_add-result c =
-    let first = c.in-Some.ensures in
-    let lt : c.in-Some.found < length further = first.within in
+pub returns-then-first-ge-FURTHER_COUNT : goal.returns-then-first-ge-FURTHER_COUNT
+returns-then-first-ge-FURTHER_COUNT c =
     let many = length-further in
-    omega arith
-
-pub returns-in-Some : goal.returns-in-Some
-returns-in-Some c = (Some c.in-Some.found, c.in-Some.ensures, refl)
-
-pub returns-in-None : goal.returns-in-None
-returns-in-None c = (None, c.in-None.ensures, refl)
+    let le : length further ≤ c.next_asked-first.result = omega arith in
+    (None, none_found None c.args.buf.now c.next_asked-first.result le c.next_asked-first.ensures.none, refl)

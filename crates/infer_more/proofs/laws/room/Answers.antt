@@ -1,8 +1,10 @@
 use Rattle.std.proofs.Common.{refl}
 use Rattle.infer.specs.Table as built_in
 use Rattle.infer_more.specs.Table.{archives, code, further, headers, images, late, markup, media, packages, records}
+use Rattle.infer_more.specs.Samples.{has_room}
+use Rattle.infer_more.proofs.NamedLemmas.{all_pass}
 use Rattle.infer_more.proofs.laws.room.Goals as goal
 
 pub returns : goal.returns
 unfolding further archives code headers images late markup media packages records built_in.table
-returns c = refl
+returns c = all_pass has_room 0 further refl

@@ -1,14 +1,15 @@
 use Rattle.std.proofs.Common.{Some, ◌+◌}
 use Rattle.infer.specs.declared.table.rows.TheConstants.{ROW_COUNT}
 use Rattle.infer_more.specs.Listed.{row_listed}
-use Rattle.infer_more.specs.Samples.{further_sample}
+use Rattle.infer_more.specs.Samples.{further_sample, has_room}
 use Rattle.infer_more.specs.Table.{further}
 use Rattle.infer_more.specs.Wider.{IsWider}
-use Rattle.infer_more.proofs.WrittenLemmas.{holds_written, row_answered, row_room}
+use Rattle.infer_more.proofs.NamedLemmas.{row_passes}
+use Rattle.infer_more.proofs.WrittenLemmas.{holds_written, row_answered}
 use Rattle.infer_more.proofs.samples.further.Goals as goal
 
 pub of_row-requires : goal.of_row-requires
-of_row-requires c = row_room further c.args.i (row_listed c.in_ok-row_at.field-0.now) c.room.ensures c.in_ok-row_at.ensures.listed
+of_row-requires c = row_passes has_room further c.args.i (row_listed c.in_ok-row_at.field-0.now) c.room.ensures c.in_ok-row_at.ensures.listed
 
 pub returns-clause-answers : goal.returns-clause-answers
 returns-clause-answers c =

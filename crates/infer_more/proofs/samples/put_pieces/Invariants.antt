@@ -3,7 +3,7 @@ use Rattle.std.proofs.Common.{◌≡◌, IsTrue, drop, length, map}
 use Rattle.std.specs.List.{list_all}
 use Rattle.infer.specs.Samples.{with_parts}
 use Rattle.infer_more.specs.Listed.{part_listed}
-use Rattle.infer_more.specs.Samples.{is_inside}
+use Rattle.infer_more.specs.Row.{is_inside}
 use Rattle.infer_more.proofs.samples.put_pieces.Given as goal
 
 abbrev pub invariant-loop-piece : goal.invariant-loop-piece

@@ -1,0 +1,30 @@
+-- Tests of all rows, whose refusal shows the numbers of the rows that fail.
+use Rattle.std.proofs.Common.{◌≡◌, ℕ, zero, suc, Bool, true, false, IsTrue, List, [], ◌∷◌, Some, slice_get, subst, refl}
+use Rattle.std.proofs.lemmas.Bool.{and_parts}
+use Rattle.std.specs.Prelude.{◌&&◌, if◌then◌else◌}
+use Rattle.std.specs.List.{list_all}
+use Rattle.infer_more.specs.Row.{Further}
+
+pub both : (a b : Bool) → IsTrue a → IsTrue b → IsTrue (a && b)
+both true b h k = k
+both false b h k = absurd (cc)
+
+pub none_failed : (t : Bool) (i : ℕ) (rest : List ℕ) → (if t then rest else i ∷ rest) ≡ [] → IsTrue t × (rest ≡ [])
+none_failed true i rest e = (refl, e)
+none_failed false i rest e = absurd (cc)
+
+-- the numbers of the rows that fail the test, the first of which has number i
+abbrev pub failing : (Further → Bool) → ℕ → List Further → List ℕ
+failing test i [] = []
+failing test i (r ∷ rows) = if test r then failing test (suc i) rows else i ∷ failing test (suc i) rows
+
+pub all_pass : (test : Further → Bool) (i : ℕ) (rows : List Further) → failing test i rows ≡ [] → IsTrue (list_all test rows)
+all_pass test i [] e = refl
+all_pass test i (r ∷ rows) e =
+    let here = none_failed (test r) i (failing test (suc i) rows) e in both (test r) _ here.0 (all_pass test (suc i) rows here.1)
+
+-- a test that all rows pass is passed by the row that is read
+pub row_passes : (test : Further → Bool) (rows : List Further) (i : ℕ) (r : Further) → IsTrue (list_all test rows) → Some r ≡ slice_get rows i → IsTrue (test r)
+row_passes test [] i r h e = absurd (cc)
+row_passes test (x ∷ rows) zero r h e = let same : x ≡ r = cc in subst (λ y. IsTrue (test y)) same (and_parts (test x) _ h).0
+row_passes test (x ∷ rows) (suc i) r h e = row_passes test rows i r (and_parts (test x) _ h).1 e

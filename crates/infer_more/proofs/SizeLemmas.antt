@@ -1,0 +1,30 @@
+-- No MIME type and no extension of a row, built-in or further, is longer than 73 bytes.
+use Rattle.std.proofs.Common.{◌≤◌, ◌&&◌, ℕ, Bool, List, [], ◌∷◌, zero, suc, IfSome, leb, length, IsTrue, refl, arith}
+use Rattle.std.specs.List.{list_all, slice_get}
+use Rattle.std.proofs.lemmas.Bool.{and_parts}
+use Rattle.std.proofs.lemmas.Bool.Decides.{nat_tests}
+use Rattle.infer.specs.Table as built_in
+use Rattle.infer.specs.Triple.{Triple}
+use Rattle.infer_more.specs.Laws.{TextsFit}
+use Rattle.infer_more.specs.Table.{archives, code, further, headers, images, late, markup, media, packages, records}
+use Rattle.infer_more.specs.Wider.{shown}
+
+abbrev fits : Triple → Bool
+fits t = leb (length t.mime_type) 73 && leb (length t.extension) 73
+
+all_fit : IsTrue (list_all fits shown)
+unfolding shown built_in.table further archives code headers images late markup media packages records
+all_fit = refl
+
+fit_at : (all : List Triple) → IsTrue (list_all fits all) → (i : ℕ)
+    → IfSome (slice_get all i) (λ t. (length t.mime_type ≤ 73) × (length t.extension ≤ 73))
+fit_at [] fit i = tt
+fit_at (t ∷ all) fit zero =
+    let both = and_parts (leb (length t.mime_type) 73) _ (and_parts (fits t) _ fit).0 in
+    let mime_type = both.0 in
+    let extension = both.1 in
+    (grind (arith, nat_tests), grind (arith, nat_tests))
+fit_at (t ∷ all) fit (suc i) = fit_at all (and_parts (fits t) _ fit).1 i
+
+pub texts_fit : TextsFit 73
+texts_fit = fit_at shown all_fit

@@ -1,0 +1,205 @@
+"""Makes the index of the further rows from their signatures: which rows are asked below each built-in row, by the first
+byte, and behind a guard, a byte elsewhere in the buffer. One gate, a byte too, has guards of its own. An entry names a row
+and one more byte that it asks, so that few rows are tried whole. The check refuses an index that leaves a row out; here only
+what is cheap is chosen."""
+import ast
+import re
+from typing import NamedTuple
+
+# A set of more bytes is no entry, but is left to the signature.
+MOST_BYTES = 5
+MOST_GUARDS = 15
+HEAD = """//! The lists of the index, which `docs/tables` makes from the rows: a place, a byte there, and a row. Those below each
+//! built-in row stand eight a line, and so do those by the first byte.
+use crate::index::{{Entry, Gate, Guard, RowIndex}};
+
+/// How many further rows there are.
+pub const FURTHER_COUNT: usize = {};
+
+pub(super) static INDEX: RowIndex = RowIndex {{
+"""
+# A text or a character in the code.
+TEXT = r"""(?:"(?:[^"\\]|\\.)*"|'(?:[^'\\]|\\.)*')"""
+COMMON = set(b" etaoinshrdlu\n\x00\x01\xFF")
+
+
+class Further(NamedTuple):
+    """A further row: the constant of its parent or "", and what each alternative asks, the bytes allowed by place."""
+
+    parent: str
+    alternatives: list[dict[int, set[int]]]
+
+
+def bytes_of(text):
+    """The bytes of a literal of Rust, in which \\0 ends before a digit."""
+    return ast.literal_eval(re.sub(r"\\(.)", lambda it: r"\x00" if it[1] == "0" else it[0], text))
+
+
+def byte_of(text):
+    """The byte of a literal of Rust, a number or a character."""
+    return bytes_of(text)[0] if text.startswith("b") else int(text, 0)
+
+
+def asked(pieces):
+    """The bytes that these pieces allow, by place."""
+    allowed = {}
+    for kind, place, rest in re.findall(rf"(At|OneOf|Between|is!)\((\d+), ((?:{TEXT}|[^()\"'])*)\)", pieces):
+        if kind == "is!":
+            allowed[int(place)] = {byte_of(rest)}
+        elif kind == "At":
+            allowed.update((int(place) + k, {byte}) for k, byte in enumerate(bytes_of(rest)))
+        elif kind == "OneOf":
+            allowed[int(place)] = set(bytes_of(rest))
+        else:
+            low, high = (byte_of(it) for it in rest.split(", "))
+            allowed[int(place)] = set(range(low, high + 1))
+    return allowed
+
+
+def rows_in(code):
+    """The rows of a list, each a line."""
+    for parent, signature in re.findall(r'^    \w+ ".*?" ".*?":(?: (\w+))? =>(.*);$', code, re.M):
+        pieces = re.findall(rf"\[\d+, ((?:{TEXT}|[^\]\"'])*)\]", signature)
+        yield Further(parent, [asked(it) for it in pieces])
+
+
+def hits(alternative, place, byte):
+    """How likely a buffer of that alternative has the byte at the place, in hundredths."""
+    return (100 if byte in alternative[place] else 0) if place in alternative else 10
+
+
+def covers(pairs, alternative, known):
+    """Whether every buffer of the alternative has one of the pairs."""
+    places = {place for place, _ in pairs if place in alternative}
+    return known in pairs or any(all((place, byte) in pairs for byte in alternative[place]) for place in places)
+
+
+def rank(pairs, chosen, left, later, known):
+    """What it costs to list a row so, for each alternative that it lists: each entry, and each later row that is found
+    only after this one was tried. At one price what stands later tells more: the bytes of the parent come first."""
+    new = pairs - chosen
+    price = 8 * len(new) + sum(hits(it, *pair) for it in later for pair in new) + sum(4 for _, byte in new if byte in COMMON)
+    count = sum(covers(pairs, it, known) for it in left)
+    return (price + 30 * (known in pairs)) / count, sorted((-place, byte) for place, byte in pairs)
+
+
+def entries(rows, known=None, beside=()):
+    """The entries of these rows, pairs of a number and its alternatives: for each alternative a place, and an entry for
+    each byte that it allows there, or one with the pair that every such buffer has. Rows beside them are listed elsewhere."""
+    for number, alternatives in rows:
+        later = [it for other, its in [*rows, *beside] if other > number for it in its]
+        chosen, left = set(), alternatives
+        while left:
+            ways = {frozenset((place, byte) for byte in allowed) for it in left for place, allowed in it.items() if len(allowed) <= MOST_BYTES}
+            ways = {it for it in ways if known not in it} | ({frozenset([known])} if known else set())
+            chosen |= min(ways, key=lambda it: rank(it, chosen, left, later, known))
+            left = [it for it in left if not covers(chosen, it, known)]
+        yield from ((place, byte, number) for place, byte in sorted(chosen))
+
+
+def is_led(alternative):
+    """Whether the first byte tells enough: it is not free, nor the zero of many files."""
+    return 0 in alternative and 0 not in alternative[0]
+
+
+def ways_of(alternative, known=None):
+    """The sets of bytes, one at each place, one of which every buffer of it has: few bytes, and not the zero of many files
+    alone. What is known tells nothing more."""
+    sets = (frozenset((place, byte) for byte in allowed) for place, allowed in alternative.items() if len(allowed) <= MOST_BYTES and allowed != {0})
+    return [it for it in sets if known not in it]
+
+
+def weigh(free, chosen, gates=(), price=1):
+    """What these guards of rows cost a buffer, beside gates: each place, each byte there, and at the price each further row
+    that may pass the same guard. More than the most guards are a loop that the compiler does not write out."""
+    pairs = set().union(*chosen)
+    passing = [len({number for number, it in free if byte in it.get(place, ())}) for place, byte in pairs]
+    looked_at = pairs.union(gates)
+    beyond = 100 * max(0, len(pairs) - MOST_GUARDS) + sum(3 for _, byte in looked_at if byte in COMMON)
+    return 3 * len({place for place, _ in looked_at}) + sum(4 + price * (it * it - 1) for it in passing) + beyond
+
+
+def choose(free, gates=(), known=None, price=1):
+    """For each of these alternatives, each with its number, the bytes that leave least to compare."""
+    ways = [ways_of(it, known) for _, it in free]
+    # Each at first as if it stood alone: from one guard for all no single move leads to a guard for each.
+    chosen, before = [min(it, key=lambda way: (weigh(free, [way], gates, price), sorted(way))) for it in ways], None
+    while chosen != before:
+        before = chosen
+        moves = [[way if way in some else old for old, some in zip(chosen, ways)] for way in sorted(set().union(*ways), key=sorted)]
+        moves += [chosen[:k] + [it] + chosen[k + 1 :] for k, some in enumerate(ways) for it in some]
+        chosen = min([chosen, *moves], key=lambda it: weigh(free, it, gates, price))
+    return chosen
+
+
+def guards(free, chosen):
+    """The guards that are chosen for these alternatives, each with the entries behind it."""
+    for pair in sorted(set().union(*chosen)):
+        behind = {}
+        for (number, alternative), own in zip(free, chosen):
+            if pair in own:
+                behind.setdefault(number, []).append(alternative)
+        beside = [(number, [it]) for number, it in free if number not in behind and pair[1] in it.get(pair[0], ())]
+        yield pair, list(entries(list(behind.items()), pair, beside))
+
+
+def gates(free):
+    """The bytes that some rows share, each of which asks for more than that."""
+    for gate in sorted({pair for _, it in free for way in ways_of(it) if len(way) == 1 for pair in way}):
+        inside = [(number, it) for number, it in free if frozenset([gate]) in ways_of(it)]
+        if len({number for number, _ in inside}) > 1 and all(ways_of(it, gate) for _, it in inside):
+            yield gate, inside
+
+
+def gated(rows):
+    """The gate, the guards beside it and those behind it, for the rows of no parent whose first byte tells too little. Every
+    buffer without an answer is asked for the guards and for the gate's byte, and few for the guards behind the gate."""
+    free = [(number, it) for number, row in enumerate(rows) if not row.parent for it in row.alternatives if not is_led(it)]
+    every = choose(free)
+    ways = [(weigh(free, every), (0, 0), list(guards(free, every)), [])]
+    for gate, inside in gates(free):
+        outside = [it for it in free if it not in inside]
+        # Behind the gate a row that passes the guard of another costs more than a guard, since as few buffers come to both.
+        outer, inner = choose(outside, [gate]), choose(inside, (), gate, 10)
+        # A byte that is common in texts opens the gate to more of them.
+        cost = weigh(outside, outer, [gate]) + weigh(inside, inner, (), 10) / (4 if gate[1] in COMMON else 16)
+        ways.append((cost, gate, list(guards(outside, outer)), list(guards(inside, inner))))
+    return min(ways)[1:]
+
+
+def listed(some):
+    return "(" + ", ".join(f"{place} 0x{byte:02X} {number}" for place, byte, number in some) + ")"
+
+
+def in_lines(lists):
+    words = [listed(it) for it in lists]
+    yield from ("        " + " ".join(words[at : at + 8]) for at in range(0, len(words), 8))
+
+
+def in_guards(guards):
+    yield from (f"        {place} 0x{byte:02X} {listed(some)};" for (place, byte), some in guards)
+
+
+def lists(rows, parents):
+    """The lists of the index, of rows whose parents stand among the constants of the built-in rows."""
+    numbered = list(enumerate(rows))
+    yield "    below: lists!["
+    yield from in_lines(entries([(k, row.alternatives) for k, row in numbered if row.parent == it]) for it in parents)
+    yield "    ],"
+    yield "    first: lists!["
+    led = [[(k, [it for it in row.alternatives if is_led(it) and byte in it[0]]) for k, row in numbered if not row.parent] for byte in range(256)]
+    yield from in_lines(entries([it for it in some if it[1]], (0, byte)) for byte, some in enumerate(led))
+    yield "    ],"
+    (place, byte), outside, inside = gated(rows)
+    yield "    guards: guards!["
+    yield from in_guards(outside)
+    yield "    ],"
+    yield "    gate: gate!["
+    yield f"        {place} 0x{byte:02X}"
+    yield from in_guards(inside)
+    yield "    ],"
+
+
+def text(rows, parents):
+    """The file of the index."""
+    return HEAD.format(len(rows)) + "\n".join(lists(rows, parents)) + "\n};\n"
