@@ -1,5 +1,5 @@
 //! Rows by number.
-ghost use Rattle.std.specs.Prelude.{◌≡◌, ◌≤◌, List, ℕ, Option, [], length, option_map};
+ghost use Rattle.std.specs.Prelude.{◌≡◌, ◌≤◌, List, ℕ, IfSome, Option, [], length, option_map};
 ghost use Rattle.std.specs.Option.{option_map_or};
 ghost use Rattle.infer.specs.Triple.{triple_of};
 ghost use Rattle.infer_c.specs.Codes.{IsSample, triple_at};
@@ -7,15 +7,17 @@ ghost use Rattle.infer_c.specs.Written.{WritesWhole};
 
 use crate::written::write_whole;
 use infer::Type;
-use infer_more::SAMPLE_SIZE;
+use infer_more::{SAMPLE_SIZE, laws};
 
 /// The type of the row with this number.
 pub fn of(row: i32) -> Option<Type>
-    ensures { option_map triple_of result ≡ triple_at row }
+    ensures shows { option_map triple_of result ≡ triple_at row }
+    ensures short { IfSome result (λ t. (length t.mime_type.now ≤ 73) × (length t.extension.now ≤ 73)) }
 {
     if row < 0 {
         return None;
     }
+    laws::sizes();
     infer_more::row(row as usize)
 }
 

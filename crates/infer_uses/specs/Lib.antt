@@ -1,5 +1,6 @@
 pub mod Answers
 pub mod Choices
 pub mod Counts
+pub mod Fields
 pub mod Labels
 pub mod Relays
