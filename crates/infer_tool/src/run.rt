@@ -132,7 +132,7 @@ pub fn run_watched<R: Files, A: Allocator + Copy, I: Read, W: Write, E: Write>(
 }
 
 /// Whether the first word is this option.
-fn asks(words: &[String], option: &str) -> bool
+pub fn asks(words: &[String], option: &str) -> bool
     ensures { IsTrue result ↔ Asks option.now (map string_bytes words.now) }
 {
     match words.first() {

@@ -15,6 +15,8 @@ use std::rt::Files;
 use std::test::Fail;
 use test_streams::{PieceReader, PieceWriter};
 
+mod definitions;
+
 const JPEG: [u8; 4] = [0xFF, 0xD8, 0xFF, 0xAA];
 
 /// Writers of a run, each with what it took.

@@ -1,1 +1,3 @@
 pub mod BufferLemmas
+pub mod GrowingLemmas
+pub mod OneLemmas

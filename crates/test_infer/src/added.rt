@@ -9,7 +9,7 @@ ghost use Rattle.infer.specs.declared.table.file_type.MatcherType.TheVariants.{C
 use infer::{Infer, Matcher, Type};
 use std::alloc::{AllocError, Global};
 
-fn begins_10_11_12(buf: &[u8]) -> bool
+pub fn begins_10_11_12(buf: &[u8]) -> bool
     ensures { IsTrue result ↔ IsTrue (starts_with nat_eq buf.now (0x10 ∷ 0x11 ∷ 0x12 ∷ [])) }
 {
     buf.starts_with(&[0x10, 0x11, 0x12])

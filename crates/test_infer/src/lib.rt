@@ -5,6 +5,7 @@
 pub mod added;
 pub mod asked;
 pub mod definitions;
+pub mod growing;
 pub mod laws;
 pub mod streams;
 #[cfg(test)]

@@ -5,6 +5,7 @@ mod decisions;
 mod definitions;
 mod input;
 mod laws;
+mod pieces;
 mod positions;
 mod streams;
 mod types;

@@ -2,8 +2,6 @@
 #![tactic(auto)]
 
 mod reader;
-#[cfg(test)]
-mod tests;
 mod writer;
 
 pub use reader::PieceReader;

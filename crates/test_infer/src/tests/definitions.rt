@@ -1,9 +1,16 @@
 //! One buffer that has each property which the page of definitions shows, and one that has not, told by the call whose
 //! contract names the property.
 
+use crate::added::begins_10_11_12;
 use crate::definitions::{
-    has_ftyp_at_4, is_accepted_by_exe, is_changeable, is_exe_by_extension, is_settled,
-    may_become_wasm,
+    has_folder_at_30, has_ftyp_at_4, has_major_heic, has_no_answer_with, has_no_row,
+    has_no_wider_answer, is_accepted_by_exe, is_accepted_by_object, is_boxed, is_changeable,
+    is_exe_by_extension, is_first_exe, is_frame, is_labelled_png, is_mark, is_object,
+    is_sample_of_png, is_settled, is_space, is_unknown_so_far, may_become_wasm, shows_extension,
+    shows_mime_type,
+};
+use crate::growing::{
+    begins_white_alone, breaks_at_1, is_kept_open_by_white, is_one_short, stays_unknown,
 };
 use crate::laws::{may_answer_first, sample_within};
 use infer::archive::{is_lz4, is_pdf, is_zst};
@@ -12,17 +19,26 @@ use infer::beginnings::{
 };
 use infer::doc::{is_doc, is_docx, is_ppt, is_pptx, is_xls, is_xlsx};
 use infer::image::{is_avif, is_heif, is_png, may_become_png};
-use infer::is_decided;
 use infer::rows::{DOC, DOCX, MKV, PPT, PPTX, WEBM, XLS, XLSX};
 use infer::text::{is_html, is_xml, may_become_html};
+use infer::texts::{is_mime_supported, is_supported};
 use infer::video::{is_mkv, is_webm};
+use infer::{Infer, is_decided};
 use infer_deep::doc::has_office_name;
 use infer_uses::gate::admits;
+use std::alloc::AllocError;
 
 // Each line stands on the page too: the property, the call, a buffer that has it and one that has not.
 macro_rules! told {
     ($($name:literal $call:path, $has:expr, $lacks:expr;)*) => {
         [$(($name, $call($has), $call($lacks))),*]
+    };
+}
+
+// The same of a call that is told the added rows too.
+macro_rules! told_with {
+    ($infer:expr; $($name:literal $call:path, $has:expr, $lacks:expr;)*) => {
+        [$(($name, $call($infer, $has), $call($infer, $lacks))),*]
     };
 }
 
@@ -45,11 +61,17 @@ fn signatures(rt: HostRuntime) {
         "IsPdf" is_pdf, b"\n%PDF", b"%PD";
         "IsZst" is_zst, b"P*M\x18\0\0\0\0(\xB5/\xFD", b"P*M\x18\0\0\0\0";
         "IsLz4" is_lz4, b"\x04\"M\x18", b"P*M\x18\0\0\0\0(\xB5/\xFD";
+        "IsFrame" is_frame, b"P*M\x18\x01\0\0\0.", b"P*M\x18\x01\0\0\0";
         "IsHeif" is_heif, b"\0\0\0\x10ftypheic\0\0\0\0", b"\0\0\0\x11ftypheic\0\0\0\0";
         "IsAvif" is_avif, b"\0\0\0\x10ftypavif\0\0\0\0", b"\0\0\0\x10ftypheic\0\0\0\0";
+        "IsBoxed" is_boxed, b"\0\0\0\x10ftyp\0\0\0\0\0\0\0\0", b"\0\0\0\x11ftyp\0\0\0\0\0\0\0\0";
+        "HasMajor" has_major_heic, b"\0\0\0\0\0\0\0\0heic", b"heic";
         "HasOfficeName" has_office_name, b"..............................docProps", b".............................docProps";
+        "HasFolder" has_folder_at_30, b"..............................xl/", b"xl/";
         "IsHtml" is_html, b" <p>", b"<p";
         "IsXml" is_xml, b" \xEF\xBB\xBF<?XML", b"\xEF\xBB\xBF <?xml";
+        "IsSpace" is_space, b" ", b"  ";
+        "IsMark" is_mark, b"\xFE\xFF", b"\xFE";
         "Reachable IsHtml" may_become_html, b" <", b"x";
     };
     for (name, has, lacks) in told {
@@ -76,13 +98,59 @@ fn beginnings(rt: HostRuntime) {
 fn answers(rt: HostRuntime) {
     let told = told! {
         "RowHas (Accepts buf.now) EXE" is_accepted_by_exe, b"MZ", b"M";
+        "IsFirst (Accepts buf.now) table EXE" is_first_exe, b"MZ", b"M";
+        "IsFirstOf (Accepts buf.now) table None" has_no_row, b"M", b"MZ";
+        "IsAnswer (Accepts buf.now) table None" has_no_row, b"M", b"MZ";
         "SomeBoth" is_exe_by_extension, b"MZ", b"M";
+        "SomeHas (HasExtension extension.now) table" is_supported, b"exe", b"EXE";
+        "SomeHas (HasMimeType mime_type.now) table" is_mime_supported, b"image/png", b"image/PNG";
         "RowHas (MayAccept buf.now) WASM" may_become_wasm, b"\0as", b"as";
         "MayAnswer buf.now WASM" may_answer_first, b"\0as", b"as";
         "IsChangeable" is_changeable, b"M", b"MZ";
         "IsDecided" is_decided, b"MZ", b"M";
         "IsSettled" is_settled, &[0; 1024], &[0; 1023];
+        "IsTypeOf buf.now None" has_no_row, b"M", b"MZ";
+        "IsVerdict buf.now (SoFar None)" is_unknown_so_far, b"M", b"MZ";
+        "AcceptsAt buf.now ROW_COUNT" is_accepted_by_object, b"\x7FELF\0\x01\0\0\0\0\0\0\0\0\0\0\x01\0", b"\x7FELF\0\x01\0\0\0\0\0\0\0\0\0\0\x02\0";
+        "IsWider buf.now (Some ROW_COUNT)" is_object, b"\x7FELF\0\x01\0\0\0\0\0\0\0\0\0\0\x01\0\0\0\0\0\0\0\0\0\0\0\0\0\0\0\0\0\0\0\0\0\0\0\0\0\0\0\0\0\0\0\0\0\0\0\0", b"\x7FELF\0\x01\0\0\0\0\0\0\0\0\0\0\x01\0";
+        "HasAnswer ROW_COUNT buf.now" is_object, b"\x7FELF\0\x01\0\0\0\0\0\0\0\0\0\0\x01\0\0\0\0\0\0\0\0\0\0\0\0\0\0\0\0\0\0\0\0\0\0\0\0\0\0\0\0\0\0\0\0\0\0\0\0", b"\x7FELF\0\x01\0\0\0\0\0\0\0\0\0\0\x01\0";
+        "IsWiderAnswer buf.now None" has_no_wider_answer, b"M", b"\n\r\r\n\0\0\0\0M<+\x1A";
+        "ShowsExtension" shows_extension, "appimage", "APPIMAGE";
+        "ShowsMimeType" shows_mime_type, "application/vnd.appimage", "application/appimage";
+        "IsAgreed" is_exe_by_extension, b"MZ", b"M";
+        "IsChoice" has_no_row, b"M", b"MZ";
         "IsOfClass MatcherType.Image" admits, b"GIF", b"MZ";
+        "IsLabel" is_labelled_png, b"\x89PNG", b"\x89PN";
+        "HoldsSample" is_sample_of_png, b"\x89PNG", b"\x89PN";
+    };
+    for (name, has, lacks) in told {
+        assert!(rt; has && !lacks, "{name}");
+    }
+}
+
+#[test]
+fn added(rt: HostRuntime) -> Result<(), AllocError> {
+    let mut infer = Infer::new();
+    infer.add(rt.alloc(), "custom/foo", "foo", begins_10_11_12)?;
+    let told = told_with! {
+        &infer;
+        "IsAnswerWith" has_no_answer_with, b"M", b"\x10\x11\x12";
+    };
+    for (name, has, lacks) in told {
+        assert!(rt; has && !lacks, "{name}");
+    }
+    Ok(())
+}
+
+#[test]
+fn growing(rt: HostRuntime) {
+    let told = told! {
+        "BeginsAlone white" begins_white_alone, b" ", b" \0\0\0ftyp";
+        "Breaks 1 EXE" breaks_at_1, b"MZ", b"M";
+        "RowStaysFinal buf.now None" stays_unknown, &[0; 1024], &[0x20; 1024];
+        "StaysFinal buf.now (Final None)" stays_unknown, &[0; 1024], &[0x20; 1024];
+        "KeepsOpen" is_kept_open_by_white, &[0x20; 1024], &[0; 1024];
+        "IsOneShort" is_one_short, b"%PD", b"%PE";
     };
     for (name, has, lacks) in told {
         assert!(rt; has && !lacks, "{name}");

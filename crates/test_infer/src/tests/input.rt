@@ -230,6 +230,11 @@ fn paths_without_a_file(rt: HostRuntime) {
     ];
     for (path, fault) in paths {
         assert_eq!(rt; get_from_path(&rt, rt.alloc(), path), Err(fault), "{path}");
+        assert_eq!(rt;
+            infer_more::get_from_path(&rt, rt.alloc(), path),
+            Err(fault),
+            "{path}"
+        );
     }
 }
 

@@ -15,3 +15,9 @@ returns-clause-limit g c = λ asks n limit two fine.
     let (outcome, is, (answer, answers, (same, lines, faults))) = c.run_watched.ensures.limit asks n limit two in
     let not_failed : has_failed c.run_watched.new.out ≡ false = unfailed _ _ outcome fine is in
     (told answer, rw (← c.new.ensures.reader) answers.found, (sym (unfailed_outcome _ _ outcome fine is) ∙ same, search rules, search rules))
+
+pub returns-clause-line : goal.returns-clause-line
+returns-clause-line g c = λ empty fine.
+    let (outcome, is, (answer, answers, (same, lines, faults))) = c.run_watched.ensures.line empty in
+    let not_failed : has_failed c.run_watched.new.out ≡ false = unfailed _ _ outcome fine is in
+    (told answer, rw (← c.new.ensures.reader) answers.found, (sym (unfailed_outcome _ _ outcome fine is) ∙ same, search rules, search rules))
