@@ -85,7 +85,7 @@ fn some_of_extension(extension: &[u8], buf: &[u8]) -> bool
     some_listed(OfExtension(extension), buf)
 }
 
-/// The same of a MIME type.
+/// Whether some row with this MIME type accepts `buf`. A function of its own, so that class tests stay small.
 #[inline(never)]
 fn some_of_mime_type(mime_type: &[u8], buf: &[u8]) -> bool
     ensures { IsTrue result ↔ SomeBoth (HasMimeType mime_type.now) (Accepts buf.now) table }
@@ -105,7 +105,7 @@ pub fn some_listed<Q: Listed>(question: Q, buf: &[u8]) -> bool
     some_among(rows, question, buf)
 }
 
-/// The same of these rows, as a function of its own: most slots have one row.
+/// Whether one of these rows is asked for and accepts `buf`. A function of its own, since most slots have one row.
 #[inline(never)]
 fn some_among<Q: Listed>(rows: &[RowName], question: Q, buf: &[u8]) -> bool
     ensures { IsTrue result ↔ SomeHas (RowHas (Takes (Q.wanted question) buf.now)) (map number_of rows.now) }
@@ -136,7 +136,7 @@ pub fn has_listed<Q: Listed>(question: Q) -> bool
     has_among(rows, question)
 }
 
-/// The same of these rows.
+/// Whether one of these rows is asked for. A function of its own, since most slots have one row.
 #[inline(never)]
 fn has_among<Q: Listed>(rows: &[RowName], question: Q) -> bool
     ensures { IsTrue result ↔ SomeHas (RowHas (IsWanted (Q.wanted question))) (map number_of rows.now) }

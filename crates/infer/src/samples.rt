@@ -10,7 +10,7 @@ ghost use Rattle.infer.specs.Table.{table};
 use crate::laws;
 use crate::table::rows::{DLL, EPUB_ARCHIVE, Pieces, ROW_COUNT, samples};
 
-/// That of row `i`.
+/// The sample of row `i`, in pieces.
 fn of_row(i: usize) -> &'static Pieces
     requires { i < ROW_COUNT }
     ensures holds { HoldsAt (HoldsSample result.now.len (buffer_listed result.now)) table i }

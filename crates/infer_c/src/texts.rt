@@ -19,7 +19,7 @@ macro_rules! pairs {
     };
 }
 
-/// Those of the built-in rows, in order. The check compares them with the table.
+/// The texts of the built-in rows, in order. The check compares them with the table.
 static PAIRS: [EndedTexts; ROW_COUNT] = pairs! {
     "application/wasm" "wasm";
     "application/x-executable" "elf";
@@ -133,7 +133,7 @@ fn pairs() -> &'static [EndedTexts]
     &PAIRS
 }
 
-/// Those of built-in row `i`.
+/// The texts of built-in row `i`.
 fn at(i: usize) -> &'static EndedTexts
     requires { i < ROW_COUNT }
     ensures { option_map ended_shown (slice_get shown i) ≡ Some (ended_listed result.now) }
@@ -142,7 +142,7 @@ fn at(i: usize) -> &'static EndedTexts
     &pairs()[i]
 }
 
-/// Those of the row with this number, which are empty if there is no such row.
+/// The texts of the row with this number, which are empty if there is no such row.
 pub fn of(row: i32) -> &'static EndedTexts
     ensures mime_type { result.now.mime_type.now ≡ ended (option_map_or (λ t. t.mime_type) (triple_at row) []) }
     ensures extension { result.now.extension.now ≡ ended (option_map_or (λ t. t.extension) (triple_at row) []) }

@@ -138,7 +138,7 @@ fn after_empty_frame(buf: &[u8]) -> Option<&[u8]>
     Some(&buf[8..])
 }
 
-/// The same of frames of any length, each of which takes at least 8 bytes away.
+/// What follows the skippable frames at the front of `buf`. Each turn takes a frame away, which has at least 8 bytes.
 #[tactic(auto, using(crate::proofs::JoinedLemmas::leads_past))]
 #[inline(always)]
 fn after_any_frames(mut buf: &[u8]) -> &[u8]

@@ -114,7 +114,8 @@ fn has_compatible(buf: &[u8], one: &[u8; 4], other: &[u8; 4]) -> bool
     is_listed(buf, one, other)
 }
 
-/// The same in a long box. No brand ends the loop early, so that it compares many at a time.
+/// Whether one of the two is a compatible brand in a long box. No brand ends the loop early, so that it compares many
+/// at a time.
 #[inline(never)]
 fn has_compatible_in_long(buf: &[u8], one: &[u8; 4], other: &[u8; 4]) -> bool
     requires { 16 ≤ length buf.now }

@@ -21,7 +21,7 @@ pub fn stands_at(buf: &[u8], text: &[u8], place: usize) -> bool
     place <= buf.len() && buf[place..].starts_with(text)
 }
 
-/// The same for a text of a stated length, which the compiler compares by words.
+/// Whether `text`, whose length is stated, stands in `buf` from `place` on. The compiler compares it by words.
 #[inline(always)]
 pub(crate) fn has_at<const N: usize>(buf: &[u8], text: &[u8; N], place: usize) -> bool
     ensures { IsTrue result ↔ OccursAt buf.now text.now place }
@@ -29,7 +29,7 @@ pub(crate) fn has_at<const N: usize>(buf: &[u8], text: &[u8; N], place: usize) -
     place <= buf.len() && N <= buf.len() - place && same_at(buf, text, place)
 }
 
-/// The same if `text` ends in `buf`.
+/// Whether `text`, whose length is stated, stands in `buf` from `place` on, where `buf` has room for it.
 #[inline]
 pub fn same_at<const N: usize>(buf: &[u8], text: &[u8; N], place: usize) -> bool
     requires { place + N ≤ length buf.now }
@@ -38,7 +38,7 @@ pub fn same_at<const N: usize>(buf: &[u8], text: &[u8; N], place: usize) -> bool
     same_text(buf, text, place)
 }
 
-/// The same for a text of any length.
+/// Whether `text`, of any length, stands in `buf` from `place` on, where `buf` has room for it.
 ///
 /// What is compared are words: the compiler makes them of single bytes only if no other comparison reads these.
 #[inline(always)]
@@ -52,7 +52,7 @@ pub fn same_text(buf: &[u8], text: &[u8], place: usize) -> bool
     same_words(buf, text, place)
 }
 
-/// The same for a text of less than a word, by halves of one that overlap if they must.
+/// [`same_text`] for a text of less than a word, by halves of one that overlap if they must.
 #[inline(always)]
 fn same_short(buf: &[u8], text: &[u8], place: usize) -> bool
     requires short { length text.now < 4 }
@@ -67,7 +67,7 @@ fn same_short(buf: &[u8], text: &[u8], place: usize) -> bool
     }
 }
 
-/// The same for a text of a word or more.
+/// [`same_text`] for a text of a word or more.
 #[inline(always)]
 fn same_words(buf: &[u8], text: &[u8], place: usize) -> bool
     requires long { 4 ≤ length text.now }
@@ -118,7 +118,7 @@ pub(crate) fn agrees_at<const N: usize>(buf: &[u8], text: &[u8; N], place: usize
     agrees_at_end(buf, text, place)
 }
 
-/// The same for a text that `buf` ends before or in.
+/// [`agrees_at`] for a text that `buf` ends before or in.
 #[tactic(auto, using(crate::proofs::OpenLemmas::agrees_from_end, crate::proofs::OpenLemmas::end_from_agrees))]
 #[inline(never)]
 fn agrees_at_end(buf: &[u8], text: &[u8], place: usize) -> bool
@@ -230,7 +230,7 @@ fn search_on<const N: usize>(
     search(buf, text, rare, start, end)
 }
 
-/// The same by the first place of the byte of `text` at `rare`, at which the whole of it mostly stands.
+/// [`find`] by the first place of the byte of `text` at `rare`, at which the whole of it mostly stands.
 #[inline(always)]
 pub(crate) fn search<const N: usize>(
     buf: &[u8],
@@ -261,7 +261,7 @@ pub(crate) fn search<const N: usize>(
 /// the two begins anew then, which takes as long as some fifteen bytes.
 const NEAR_MISSES: usize = 8;
 
-/// The same by two bytes of `text`: if they stand, the whole of it is compared.
+/// [`find`] by two bytes of `text`: if they stand, the whole of it is compared.
 #[tactic(auto, using(crate::proofs::SearchLemmas::first_at_pair, crate::proofs::SearchLemmas::none_past_pair, crate::proofs::SearchLemmas::none_without_pair))]
 #[inline(never)]
 fn search_pairs(buf: &[u8], text: &[u8], start: usize, end: usize) -> Option<usize>
@@ -285,7 +285,7 @@ fn search_pairs(buf: &[u8], text: &[u8], start: usize, end: usize) -> Option<usi
     search_bytes(buf, text, from, end)
 }
 
-/// The same byte by byte, whatever the bytes are.
+/// [`find`] byte by byte, whatever the bytes are.
 #[inline(never)]
 fn search_bytes(buf: &[u8], text: &[u8], start: usize, end: usize) -> Option<usize>
     ensures { IsFirstWithin buf.now text.now start end result }
@@ -316,7 +316,8 @@ fn byte_free(hay: &[u8], first: u8, second: u8) -> usize
     memchr(first, hay).unwrap_or(hay.len())
 }
 
-/// The same in whole blocks. A block with the pair ends the count.
+/// How many places at the front of `hay` surely begin no such pair of bytes, in whole blocks. A block with the pair
+/// ends the count.
 #[inline(always)]
 fn places_free(hay: &[u8], first: u8, second: u8) -> usize
     ensures within { result ≤ length hay.now }
@@ -384,7 +385,7 @@ fn has_byte(block: &[u8], byte: u8) -> bool
     any
 }
 
-/// The same by both bytes at each place.
+/// [`has_pair`] by both bytes at each place.
 #[inline(always)]
 fn stand_together(block: &[u8], first: u8, second: u8) -> bool
     requires { 129 ≤ length block.now }

@@ -228,8 +228,8 @@ fn unknown_after(refused: usize, buf: &[u8]) -> Option<usize>
     }
 }
 
-/// The same if no row before `first` does. This row is tried in no loop, so that what is told at the first try saves hardly
-/// a register.
+/// The number of the wider answer of a buffer that no built-in row accepts, if no row before `first` widens it. This
+/// row is tried in no loop, so that what is told at the first try saves hardly a register.
 #[inline(never)]
 fn unknown_from(first: usize, buf: &[u8]) -> Option<usize>
     requires none { NoneBetween None buf.now 0 first }

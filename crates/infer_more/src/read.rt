@@ -36,7 +36,7 @@ pub fn get_from_reader_within<A: Allocator, R: Read>(
     Ok(get(bytes.as_slice()))
 }
 
-/// The same of a file.
+/// The type of the wider answer of the first `n` bytes of a file, or all if it has fewer.
 pub fn get_from_path_within<R: Files, A: Allocator>(
     rt: &R,
     alloc: A,

@@ -15,7 +15,7 @@ pub fn stands_at<const N: usize>(buf: &[u8], text: &[u8; N], place: usize) -> bo
     same_at(buf, text, place)
 }
 
-/// Whether one of the texts does.
+/// Whether one of the texts stands in `buf` from `place` on.
 #[inline(always)]
 pub fn any_stands_at<const N: usize>(buf: &[u8], texts: &[[u8; N]], place: usize) -> bool
     requires { place + N ≤ length buf.now }
@@ -41,7 +41,7 @@ pub fn agrees_at<const N: usize>(buf: &[u8], text: &[u8; N], place: usize) -> bo
     begins_at(buf, text, place)
 }
 
-/// Whether one of the texts does.
+/// Whether as much of one of the texts as `buf` has room for from `place` on stands there.
 #[inline(always)]
 pub fn any_agrees_at<const N: usize>(buf: &[u8], texts: &[[u8; N]], place: usize) -> bool
     ensures { result ≡ list_any (λ t. agrees place t buf.now) texts.now }
@@ -52,7 +52,7 @@ pub fn any_agrees_at<const N: usize>(buf: &[u8], texts: &[[u8; N]], place: usize
     texts.iter().any(agrees)
 }
 
-/// Whether a text does of which `buf` has no more than a part: a function of its own, since most have room.
+/// [`agrees_at`] for a text of which `buf` has no more than a part: a function of its own, since most have room.
 #[tactic(auto, unfolding(crate::specs::Open::agrees, crate::specs::Signature::stands))]
 #[inline(never)]
 fn begins_at(buf: &[u8], text: &[u8], place: usize) -> bool

@@ -32,7 +32,7 @@ impl Outcome {
             self
         }
     }
-    /// The same, but `Failed` if a write failed.
+    /// `Failed` if a write failed, and else this outcome.
     pub fn failed_if(self, has_failed: bool) -> Outcome
         ensures { result ≡ outcome_after has_failed self }
     {

@@ -32,7 +32,7 @@ pub fn pass<A: Allocator, R: Read, W: Write>(
     Ok(sniffer.verdict().found())
 }
 
-/// The same with the turns counted: each passes a byte on or is the last, so 8192 turns see 8192 bytes.
+/// [`pass`] in a loop that counts its turns: each passes a byte on or is the last, so 8192 turns see 8192 bytes.
 pub fn pass_by_turns<A: Allocator, R: Read, W: Write>(
     alloc: A,
     from: &mut R,

@@ -81,7 +81,7 @@ pub fn get_both<A: Allocator>(
     (infer.get(short), infer.get(long))
 }
 
-/// The same after a row was added, whose function keeps its answer with more bytes.
+/// What `get` answers of 00 and of 00 00 once a row was added whose function keeps its yes with more bytes.
 pub fn get_both_after_addition(alloc: Global) -> Result<(Option<Type>, Option<Type>), AllocError>
     ensures { IfOk result (λ both. IsNone both.1 → IsNone both.0) }
 {

@@ -40,7 +40,7 @@ impl Default for Infer {
 }
 
 impl<A: Allocator> Infer<A> {
-    /// The same, whose list is made in another allocator than the default.
+    /// An `Infer` without rows of a caller, whose list is made in another allocator than the default.
     pub fn new_in() -> Infer<A>
         ensures { custom_rows result ≡ [] }
     {
@@ -192,7 +192,7 @@ impl<A: Allocator> Infer<A> {
         self.custom_some(wanted, buf) || answers::some(wanted, buf)
     }
 
-    /// The same of the added rows alone.
+    /// Whether some added row that is wanted accepts the buffer.
     fn custom_some(&self, wanted: Wanted, buf: &[u8]) -> bool
         ensures { IsTrue result ↔ SomeBoth (IsWanted wanted.entry) (AnyAccepts buf.now) (custom_rows self.now) }
     {
@@ -209,7 +209,7 @@ impl<A: Allocator> Infer<A> {
         self.custom_has(wanted) || answers::has(wanted)
     }
 
-    /// The same of the added rows alone.
+    /// Whether some added row is wanted.
     fn custom_has(&self, wanted: Wanted) -> bool
         ensures { IsTrue result ↔ SomeHas (IsWanted wanted.entry) (custom_rows self.now) }
     {

@@ -93,7 +93,7 @@ pub fn walk<A: Ask>(asker: &mut A, wanted: Option<&str>) -> Option<usize>
     }
 }
 
-/// The same of every row.
+/// The first candidate that accepts the asker's buffer.
 #[inline(always)]
 fn walk_every<A: Ask>(asker: &mut A) -> Option<usize>
     requires { A.has_asked asker.old [] }
@@ -110,7 +110,8 @@ fn walk_every<A: Ask>(asker: &mut A) -> Option<usize>
     None
 }
 
-/// The same of the rows with this extension, which its slot lists. The text is compared with these alone.
+/// The first candidate with this extension that accepts the asker's buffer. Only the rows in the text's slot are
+/// compared with it.
 fn walk_extension<A: Ask>(asker: &mut A, extension: &str) -> Option<usize>
     requires { A.has_asked asker.old [] }
     ensures first { IsFirstAmong (RowHas (Takes (Extension extension.entry) (A.buffer asker.old))) (candidates_of (A.buffer asker.old)) result }

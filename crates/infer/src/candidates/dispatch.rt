@@ -242,7 +242,7 @@ pub fn first_of<Q: Question>(arm: Arm, question: &Q, buf: &[u8]) -> Option<usize
     }
 }
 
-/// The same as a function of its own, for class tests. A test that has it inside can take longer to begin than to
+/// [`first_of`] for class tests, as a function of its own. A test that has it inside can take longer to begin than to
 /// answer, so the compiler chooses.
 pub fn first_of_class<Q: Question>(arm: Arm, question: &Q, buf: &[u8]) -> Option<usize>
     ensures { IsFirstAmong (RowHas (Takes (Q.wanted question.now) buf.now)) (rows_of arm) result }

@@ -35,7 +35,7 @@ macro_rules! told {
     };
 }
 
-// The same of a call that is told the added rows too.
+// Such lines for a call that is told the added rows too.
 macro_rules! told_with {
     ($infer:expr; $($name:literal $call:path, $has:expr, $lacks:expr;)*) => {
         [$(($name, $call($infer, $has), $call($infer, $lacks))),*]
