@@ -1,9 +1,9 @@
 #!/usr/bin/env python3
 """Prints what more bytes can change of some thousand buffers, by the model of `decided.py`.
 
-usage: table.py [samples]
+usage: table.py [samples | count]
 
-With `samples` it prints the lines of the rows' samples alone, which are the first."""
+With `samples` it prints the lines of the rows' samples alone, which are the first, and with `count` how many lines there are."""
 from __future__ import annotations
 
 import itertools
@@ -221,6 +221,13 @@ def buffers() -> Iterator[tuple[str, str]]:
             yield f"{name}-{counts[name]:03}", encode([(buf, 1)])
 
 
-if __name__ == "__main__":
-    for name, tokens in samples() if sys.argv[1:] == ["samples"] else buffers():
+def main(words: list[str]) -> None:
+    if words == ["count"]:
+        print(sum(1 for _ in buffers()))
+        return
+    for name, tokens in samples() if words == ["samples"] else buffers():
         print(line_of(name, tokens))
+
+
+if __name__ == "__main__":
+    main(sys.argv[1:])
