@@ -538,6 +538,8 @@ def fields_of(name: str) -> list[list[str]]:
 ROW_NAMES = [f"{group}/{extension}" for group, _, extension, _ in fields_of("rows.tsv")]
 EXTENSIONS = [extension for _, _, extension, _ in fields_of("rows.tsv")]
 SAMPLES = [None if sample == "none" else decode(sample) for _, _, _, sample in fields_of("rows.tsv")]
+if without := [name for name, extension in zip(ROW_NAMES, EXTENSIONS) if extension not in KINDS]:
+    sys.exit(f"vectors/model/decided.py: no signature for {', '.join(without)} of vectors/rows.tsv")
 
 
 def accepts(row: int, buf) -> bool:

@@ -1,9 +1,11 @@
 #!/usr/bin/env python3
 """Prints what more bytes can change of some thousand buffers, by the model of `decided.py`.
 
-usage: table.py [samples | count]
+usage: table.py [samples | count | first | late]
 
-With `samples` it prints the lines of the rows' samples alone, which are the first, and with `count` how many lines there are."""
+With `samples` it prints the lines of the rows' samples alone, which are the first, and with `count` how many lines there
+are. With `first` it prints for each first byte the numbers of the rows that allow it, and with `late` those of the rows
+that more than 1024 bytes can decide."""
 from __future__ import annotations
 
 import itertools
@@ -12,8 +14,9 @@ from collections.abc import Callable, Iterator
 
 from attack import IDS, Attack, texts_of
 from decided import (
-    ALTERNATIVES, COMPOUND, EBML, EXTENSIONS, FOLDERS, FRAMED, LONGEST, MARKS, MATROSKA, NAMES, ROW_NAMES, SAMPLES,
-    SKIPPABLE, TAGS, VERSIONS, ZIP, Runs, decode, earlier_rows, encode, fields_of, may_become, position, witness,
+    ALTERNATIVES, COMPOUND, EBML, EXTENSIONS, FOLDERS, FRAMED, KINDS, LONGEST, MARKS, MATROSKA, NAMES, ROW_NAMES,
+    SAMPLES, SKIPPABLE, TAGS, VERSIONS, ZIP, Runs, decode, earlier_rows, encode, fields_of, is_fixed, is_matroska, is_pdf,
+    may_become, position, witness,
 )
 
 ROWS = range(len(EXTENSIONS))
@@ -221,13 +224,19 @@ def buffers() -> Iterator[tuple[str, str]]:
             yield f"{name}-{counts[name]:03}", encode([(buf, 1)])
 
 
-def main(words: list[str]) -> None:
-    if words == ["count"]:
-        print(sum(1 for _ in buffers()))
-        return
-    for name, tokens in samples() if words == ["samples"] else buffers():
-        print(line_of(name, tokens))
+def lines(word: str) -> Iterator[str]:
+    if word == "count":
+        yield str(sum(1 for _ in buffers()))
+    elif word == "first":
+        for byte in range(256):
+            yield " ".join(str(row) for row in ROWS if may_become(row, bytes([byte])))
+    elif word == "late":
+        near = (is_fixed, is_matroska, is_pdf)
+        yield " ".join(str(row) for row in ROWS if KINDS[EXTENSIONS[row]][0] not in near)
+    else:
+        yield from (line_of(*it) for it in (samples() if word == "samples" else buffers()))
 
 
 if __name__ == "__main__":
-    main(sys.argv[1:])
+    for line in lines(*sys.argv[1:] or [""]):
+        print(line)
