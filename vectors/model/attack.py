@@ -9,6 +9,7 @@ next: since a buffer that has a no is not accepted either, a no that always stay
 from __future__ import annotations
 
 import collections
+import itertools
 import random
 import sys
 import time
@@ -23,6 +24,8 @@ from decided import (
 ROWS = range(len(EXTENSIONS))
 VECTORS = [buf for _, _, _, tokens in fields_of("vectors.tsv") if len(buf := decode(tokens)) < 20_000]
 IDS = [class_id for ids in CLASS_IDS.values() for class_id in ids]
+# So far samples have zeros after them, past all that decides one.
+PADDED = max(1100, *(len(sample) + 4 for sample in SAMPLES if sample))
 RELATIONS = [*MATROSKA, *FRAMED, *BRANDS, *FOLDERS, *CLASS_IDS, "pdf", "html", "xml"]
 
 
@@ -30,7 +33,7 @@ def texts_of(asked: dict[int, bytes]) -> Iterator[tuple[int, bytes]]:
     """The texts that an alternative asks, each with its place; of a set of bytes one."""
     places = sorted(asked)
     for start in (place for place in places if place - 1 not in asked):
-        end = next(place for place in range(start, 1000) if place not in asked)
+        end = next(place for place in itertools.count(start) if place not in asked)
         yield start, b"".join(asked[place][:1] for place in range(start, end))
 
 
@@ -336,12 +339,12 @@ def is_asked(row: int, buf: bytes) -> bool:
 def main(seconds: float, seed: int) -> int:
     attack = Attack(seed)
     for sample in filter(None, SAMPLES):
-        attack.try_cuts(sample.ljust(1100, b"\0"))
+        attack.try_cuts(sample.ljust(PADDED, b"\0"))
     for short in [b"", *(bytes([byte]) for byte in range(256))]:
         attack.try_buffer(short, 200, True)
     for buf in VECTORS:
         attack.try_buffer(buf, 200, len(buf) < 3000)
-        if len(buf) <= 1100:
+        if len(buf) <= PADDED:
             attack.try_cuts(buf)
     end = time.monotonic() + seconds
     while time.monotonic() < end and attack.faults < 20:

@@ -12,7 +12,7 @@ import itertools
 import sys
 from collections.abc import Callable, Iterator
 
-from attack import IDS, Attack, texts_of
+from attack import IDS, PADDED, Attack, texts_of
 from decided import (
     ALTERNATIVES, COMPOUND, EBML, EXTENSIONS, FOLDERS, FRAMED, KINDS, LONGEST, MARKS, MATROSKA, NAMES, ROW_NAMES,
     SAMPLES, SKIPPABLE, TAGS, VERSIONS, ZIP, Runs, decode, earlier_rows, encode, fields_of, is_fixed, is_matroska, is_pdf,
@@ -21,7 +21,6 @@ from decided import (
 
 ROWS = range(len(EXTENSIONS))
 RANDOM_BUFFERS = 300
-PADDED = 1100
 
 
 def least_that(holds: Callable[[int], bool], length: int) -> int | None:
