@@ -1,10 +1,10 @@
 #!/usr/bin/env python3
 """Prints what more bytes can change of some thousand buffers, by the model of `decided.py`.
 
-usage: table.py [samples | count | first | late]
+usage: table.py [samples | count | first | far]
 
 With `samples` it prints the lines of the rows' samples alone, which are the first, and with `count` how many lines there
-are. With `first` it prints for each first byte the numbers of the rows that allow it, and with `late` those of the rows
+are. With `first` it prints for each first byte the numbers of the rows that allow it, and with `far` those of the rows
 that more than 1024 bytes can decide."""
 from __future__ import annotations
 
@@ -229,7 +229,7 @@ def lines(word: str) -> Iterator[str]:
     elif word == "first":
         for byte in range(256):
             yield " ".join(str(row) for row in ROWS if may_become(row, bytes([byte])))
-    elif word == "late":
+    elif word == "far":
         near = (is_fixed, is_matroska, is_pdf)
         yield " ".join(str(row) for row in ROWS if KINDS[EXTENSIONS[row]][0] not in near)
     else:
