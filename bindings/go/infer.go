@@ -216,6 +216,6 @@ func Sample(number int) []byte {
 	if number < 0 || number >= len(types) {
 		return nil
 	}
-	out := make([]byte, 640)
-	return out[:C.sample(C.int32_t(number), first(out), 640)]
+	out := make([]byte, C.INFER_SAMPLE_SIZE)
+	return out[:C.sample(C.int32_t(number), first(out), C.INFER_SAMPLE_SIZE)]
 }

@@ -4,6 +4,7 @@ use infer::{Matcher, MatcherType, Type};
 use std::ffi::{c_char, c_void};
 use std::fs;
 use std::path::Path;
+use std::ptr;
 
 unsafe extern "C" {
     fn infer_sample(row: i32, out: *mut c_void, size: usize) -> usize;
@@ -46,10 +47,11 @@ fn decode(tokens: &str) -> Vec<u8> {
 }
 
 fn sample(row: usize) -> Vec<u8> {
-    let mut out = vec![0_u8; 640];
+    // SAFETY: nothing is written to no bytes.
+    let size = unsafe { infer_sample(row as i32, ptr::null_mut(), 0) };
+    let mut out = vec![0_u8; size];
     // SAFETY: `out` has as many bytes as it says.
-    let size = unsafe { infer_sample(row as i32, out.as_mut_ptr().cast(), out.len()) };
-    out.truncate(size);
+    unsafe { infer_sample(row as i32, out.as_mut_ptr().cast(), out.len()) };
     out
 }
 
