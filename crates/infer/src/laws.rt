@@ -68,8 +68,8 @@ pub fn growth()
     infer_deep::laws::growth();
 }
 
-/// The first 1024 bytes decide: every matcher but those of twelve rows answers on a buffer of at least 1024 bytes
-/// as on its first 1024. The twelve are those that have neither a list of bytes at fixed places nor a window, and these
+/// The first 1024 bytes decide: every matcher but those of the far rows answers on a buffer of at least 1024 bytes
+/// as on its first 1024. Far rows are those that have neither a list of bytes at fixed places nor a window, and these
 /// are their numbers.
 pub fn near()
     ensures others { OthersAreNear signatures }
@@ -184,8 +184,8 @@ pub fn index<A: Allocator>(infer: &Infer<A>)
     growth();
 }
 
-/// The first 1024 bytes decide, but for twelve rows: if the answer of the built-in rows is none or another row,
-/// it is that of the first 1024 bytes. And after these an answer stays, or gives way to one of the twelve.
+/// The first 1024 bytes decide, but for the far rows: if the answer of the built-in rows is none or another row,
+/// it is that of the first 1024 bytes. And after these an answer stays, or gives way to a far row.
 pub fn front()
     ensures decides { FrontDecides }
     ensures follow { OnlyTheTwelveFollow }
@@ -194,7 +194,7 @@ pub fn front()
     near();
 }
 
-/// Two buffers with the same first 1024 bytes have the same answer, unless the answer of one of them is one of the twelve.
+/// Two buffers with the same first 1024 bytes have the same answer, unless the answer of one of them is a far row.
 pub fn locality()
     ensures { AnswersAreLocal }
 {
@@ -217,7 +217,7 @@ pub fn reach()
     infer_deep::laws::apart();
 }
 
-/// Each of the twelve rows is the first of some buffer whose first 1024 bytes have another answer. So is, for each
+/// Each far row is the first of some buffer whose first 1024 bytes have another answer. So is, for each
 /// beginning, the last row that is awaited after it, of a buffer whose first 1024 bytes begin so alone. And 1023 bytes
 /// that begin in none of these ways can get another answer by one byte more.
 pub fn breaks()

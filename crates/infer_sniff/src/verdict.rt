@@ -8,7 +8,7 @@ ghost use Rattle.infer_sniff.specs.Verdicts.{StaysFinalFromBeginning, IsFinal, I
 use crate::case::Case;
 use infer::{Type, laws, position, row, rows};
 
-/// So many bytes decide every row but twelve.
+/// So many bytes decide every row that is not far.
 const LEAST: usize = 1024;
 
 /// What the bytes so far tell: the type that [`infer::get`] answers for them, and whether that is certain to stay.
