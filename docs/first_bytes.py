@@ -1,5 +1,5 @@
-"""Makes the lists of the dispatch: first bytes with the same candidates are an arm, which is named by the least of them. The
-check refuses a list that is not the one which follows from the signatures; here the model tells it."""
+"""Makes the lists of the dispatch: first bytes with the same candidates are an arm, which is named by the least of them.
+The check refuses a list that is not the one which follows from the signatures; here the model tells it."""
 import re
 
 # These share work, and a link of a chain asks them together.
@@ -10,8 +10,8 @@ EVERY = "Other"
 
 
 def arms(allowed):
-    """The arm of each first byte, and the candidates of each arm, of the rows that are allowed by each byte. Bytes that no
-    signature asks for have as candidates the rows that are free to begin with any."""
+    """The arm of each first byte, and the candidates of each arm, of the rows that are allowed by each byte. Bytes that
+    no signature asks for have as candidates the rows that are free to begin with any."""
     free = min(allowed, key=len)
     names = {}
     for byte, rows in enumerate(allowed):

@@ -3,9 +3,9 @@
 
 usage: table.py [samples | count | first | far]
 
-With `samples` it prints the lines of the rows' samples alone, which are the first, and with `count` how many lines there
-are. With `first` it prints for each first byte the numbers of the rows that allow it, and with `far` those of the rows
-that more than 1024 bytes can decide."""
+With `samples` it prints the lines of the rows' samples alone, which are the first, and with `count` how many lines
+there are. With `first` it prints for each first byte the numbers of the rows that allow it, and with `far` those of the
+rows that more than 1024 bytes can decide."""
 from __future__ import annotations
 
 import itertools
@@ -15,8 +15,8 @@ from collections.abc import Callable, Iterator
 from attack import IDS, PADDED, Attack, texts_of
 from decided import (
     ALTERNATIVES, COMPOUND, EBML, EXTENSIONS, FOLDERS, FRAMED, KINDS, LONGEST, MARKS, MATROSKA, NAMES, ROW_NAMES,
-    SAMPLES, SKIPPABLE, TAGS, VERSIONS, ZIP, Runs, decode, earlier_rows, encode, fields_of, is_fixed, is_matroska, is_pdf,
-    may_become, position, witness,
+    SAMPLES, SKIPPABLE, TAGS, VERSIONS, ZIP, Runs, decode, earlier_rows, encode, fields_of, is_fixed, is_matroska,
+    is_pdf, may_become, position, witness,
 )
 
 ROWS = range(len(EXTENSIONS))
@@ -223,6 +223,14 @@ def buffers() -> Iterator[tuple[str, str]]:
             yield f"{name}-{counts[name]:03}", encode([(buf, 1)])
 
 
+def is_near(extension: str) -> bool:
+    """Whether the first 1024 bytes decide the row: it is a window, or asks for no later byte."""
+    accepts = KINDS[extension][0]
+    if accepts != is_fixed:
+        return accepts in (is_matroska, is_pdf)
+    return all(max(least, *(place + 1 for place in asked)) <= 1024 for least, asked in ALTERNATIVES[extension])
+
+
 def lines(word: str) -> Iterator[str]:
     if word == "count":
         yield str(sum(1 for _ in buffers()))
@@ -230,8 +238,7 @@ def lines(word: str) -> Iterator[str]:
         for byte in range(256):
             yield " ".join(str(row) for row in ROWS if may_become(row, bytes([byte])))
     elif word == "far":
-        near = (is_fixed, is_matroska, is_pdf)
-        yield " ".join(str(row) for row in ROWS if KINDS[EXTENSIONS[row]][0] not in near)
+        yield " ".join(str(row) for row in ROWS if not is_near(EXTENSIONS[row]))
     else:
         yield from (line_of(*it) for it in (samples() if word == "samples" else buffers()))
 
