@@ -9,6 +9,8 @@ from typing import NamedTuple
 # A set of more bytes is no entry, but is left to the signature.
 MOST_BYTES = 5
 MOST_GUARDS = 15
+# Behind the gate, what a row costs that passes the guard of another.
+BEHIND = 12
 HEAD = """//! The lists of the index, which `docs/tables` makes from the rows: a place, a byte there, and a row. Those below each
 //! built-in row stand eight a line, and so do those by the first byte.
 use crate::index::{{Entry, Gate, Guard, RowIndex}};
@@ -159,10 +161,10 @@ def gated(rows):
     ways = [(weigh(free, every), (0, 0), list(guards(free, every)), [])]
     for gate, inside in gates(free):
         outside = [it for it in free if it not in inside]
-        # Behind the gate a row that passes the guard of another costs more than a guard, since as few buffers come to both.
-        outer, inner = choose(outside, [gate]), choose(inside, (), gate, 10)
+        # As few buffers come to a guard behind the gate as to the entries behind that guard.
+        outer, inner = choose(outside, [gate]), choose(inside, (), gate, BEHIND)
         # A byte that is common in texts opens the gate to more of them.
-        cost = weigh(outside, outer, [gate]) + weigh(inside, inner, (), 10) / (4 if gate[1] in COMMON else 16)
+        cost = weigh(outside, outer, [gate]) + weigh(inside, inner, (), BEHIND) / (4 if gate[1] in COMMON else 16)
         ways.append((cost, gate, list(guards(outside, outer)), list(guards(inside, inner))))
     return min(ways)[1:]
 

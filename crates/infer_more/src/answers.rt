@@ -127,13 +127,26 @@ fn entries_begun(index: &RowIndex, buf: &[u8]) -> &'static [Entry]
     }
 }
 
+/// The least row from `from` on that is listed by the first byte, or their count. Most first bytes list none, and cost no
+/// call.
+#[inline(always)]
+fn next_begun(index: &RowIndex, from: usize, buf: &[u8]) -> usize
+    ensures { IsTrue (ascends (begun index.now buf.now)) → IsNext (candidates buf.now (begun index.now buf.now)) from FURTHER_COUNT result }
+{
+    let entries = entries_begun(index, buf);
+    if entries.is_empty() {
+        return FURTHER_COUNT;
+    }
+    next_of(entries, from, buf, FURTHER_COUNT)
+}
+
 /// The least row from `from` on that is asked of a buffer without a built-in answer. A function of its own, whose guards
 /// are then tested in straight code.
 #[inline(never)]
 fn next_unknown(index: &RowIndex, from: usize, buf: &[u8]) -> usize
     ensures { IsTrue (all_ascend index.now) → IsNext (asked index.now None buf.now) from FURTHER_COUNT result }
 {
-    let begun = next_of(entries_begun(index, buf), from, buf, FURTHER_COUNT);
+    let begun = next_begun(index, from, buf);
     let least = next_guarded(index.guards, from, buf, begun);
     next_gated(&index.gate, from, buf, least)
 }

@@ -10,10 +10,9 @@ pub returns : goal.returns
 returns c = λ all.
     let b = c.args.buf.now in
     let from = c.args.from in
-    let least = c.next_of-begun.result in
+    let least = c.next_begun-begun.result in
     let lists = both_right _ _ all in
     let behind = both_right _ _ lists in
-    let entries = subst (λ (l : List Entry). IsTrue (ascends l)) (sym c.entries_begun.ensures) (ascends_begun c.args.index.now b (both_left _ _ lists)) in
-    let begun = subst (λ (l : List Entry). IsNext (candidates b l) from FURTHER_COUNT least) c.entries_begun.ensures (c.next_of-begun.ensures entries) in
+    let begun = c.next_begun-begun.ensures (ascends_begun c.args.index.now b (both_left _ _ lists)) in
     let guarded = c.next_guarded-least.ensures (both_left _ _ behind) in
     next_more _ _ from FURTHER_COUNT least _ begun (next_more _ _ from least _ _ guarded (c.next_gated.ensures (both_right _ _ behind)))
