@@ -1,0 +1,3 @@
+pub mod PartLemmas
+pub mod TextLemmas
+pub mod Utf8Lemmas

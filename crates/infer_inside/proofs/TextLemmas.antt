@@ -1,0 +1,29 @@
+-- Bytes of binary data, block by block, and the rest.
+use Rattle.std.proofs.Common.{◌≡◌, ℕ, ◌+◌, ◌-◌, ◌≤◌, ◌↔◌, List, length, get_or, take, drop, sym, subst, ap, ◌∙◌, arith, length-drop}
+use Rattle.std.proofs.lemmas.List.{get_or-drop, take_rest}
+use Rattle.infer_deep.specs.Blocks.{AllBelow}
+use Rattle.infer_inside.specs.Text.{IsBinary, IsDataByte, IsPlainByte}
+use Rattle.infer_inside.proofs.PartLemmas.{part_reads}
+
+-- one more block without them
+pub plain_more : (b : List ℕ) (n m : ℕ) → m ≡ n + 64 → AllBelow IsPlainByte b n → AllBelow IsPlainByte (take (n + 64 - n) (drop n b)) 64
+    → AllBelow IsPlainByte b m
+plain_more b n m e before block k lt is =
+    let early = before k in
+    let late = λ (far : n ≤ k).
+    let same : n + (k - n) ≡ k = omega arith in
+    let read = part_reads b n (n + 64) (k - n) (omega arith) ∙ ap (λ i. get_or b i 0) same in
+    block (k - n) (omega arith) (subst IsDataByte (sym read) is) in
+    grind arith
+
+-- what comes after them decides
+pub binary_rest : (b : List ℕ) (n : ℕ) → n ≤ length b → AllBelow IsPlainByte b n → IsBinary (take (length b - n) (drop n b)) ↔ IsBinary b
+binary_rest b n le plain = (
+  λ binary. let (k, lt, is) = subst IsBinary (take_rest b n) binary in
+      (n + k, omega (arith, lt, length-drop n b), subst IsDataByte (get_or-drop n b k 0) is),
+  λ (k, lt, is).
+      let far : n ≤ k = grind (arith, plain k) in
+      let same : n + (k - n) ≡ k = omega arith in
+      subst IsBinary (sym (take_rest b n))
+      (k - n, omega (arith, lt, length-drop n b), subst IsDataByte (sym (get_or-drop n b (k - n) 0 ∙ ap (λ i. get_or b i 0) same)) is),
+)

@@ -1,0 +1,4 @@
+//! Relations that look inside containers, documents and texts.
+#![tactic(auto)]
+
+pub mod text;
