@@ -1,3 +1,4 @@
 pub mod PartLemmas
 pub mod TextLemmas
+pub mod ZipLemmas
 pub mod Utf8Lemmas

@@ -1,0 +1,49 @@
+-- The first entry with a property, by the first byte of its header.
+use Rattle.std.proofs.Common.{◌≡◌, ◌↔◌, ℕ, ◌+◌, ◌-◌, ◌<◌, ◌≤◌, List, length, get_or, take, drop, add-zero, ap, subst, ◌∙◌, arith, eq-eqb, length-drop}
+use Rattle.std.proofs.lemmas.List.{take_rest}
+use Rattle.memchr.specs.Find.{OccursAt, Nowhere, Passes, is_byte}
+use Rattle.infer_deep.specs.Office.{zip_header}
+use Rattle.infer_inside.specs.Zip.{IsFirstFolder}
+use Rattle.infer_inside.proofs.PartLemmas.{part_reads}
+
+-- a place with the property is one of a header, so it is none that the search for its first byte passed over
+module _ (b : List ℕ) (E : ℕ → Type 0) (headed : (p : ℕ) → E p → OccursAt b zip_header p) (from : ℕ)
+    (none : (p : ℕ) → p < from → ¬ E p) where
+  pub none_to : (k : ℕ) → Nowhere (Passes (is_byte 0x50) (take (length b - from) (drop from b))) 0 k → (p : ℕ) → p < from + k → ¬ E p
+  none_to k lacks p lt is =
+      let early = none p in
+      let o = headed p is in
+      let late = λ (far : from ≤ p).
+      let same : from + (p - from) ≡ p = omega arith in
+      let fits = o.fits in
+      let first : get_or b p 0 ≡ 0x50 = rw add-zero at (o.reads 0 (omega arith)) in
+      let read = part_reads b from (length b) (p - from) (omega arith) ∙ ap (λ i. get_or b i 0) same ∙ first in
+      lacks (p - from) (omega arith) (omega arith) (eq-eqb _ 0x50 read) in
+      grind arith
+
+  pub none_past : (k : ℕ) → Nowhere (Passes (is_byte 0x50) (take (length b - from) (drop from b))) 0 k → ¬ E (from + k)
+      → (p : ℕ) → p < from + (k + 1) → ¬ E p
+  none_past k lacks absent p lt is =
+      let before = none_to k lacks p in
+      let here = λ (e : p ≡ from + k). absent (subst E e is) in
+      grind arith
+
+  pub none_left : Nowhere (Passes (is_byte 0x50) (take (length b - from) (drop from b))) 0 (length (take (length b - from) (drop from b)))
+      → from ≤ length b → (p : ℕ) → ¬ E p
+  none_left lacks le p is =
+      let o = headed p is in
+      let fits = o.fits in
+      let long = ap length (take_rest b from) in
+      none_to _ lacks p (omega (arith, length-drop from b)) is
+
+-- what stands in the first folder decides
+pub folder_decides : (b text : List ℕ) (q : ℕ) → IsFirstFolder b q
+    → OccursAt b text (q + 30) ↔ ((p : ℕ) × IsFirstFolder b p × OccursAt b text (p + 30))
+folder_decides b text q first = (
+  λ o. (q, first, o),
+  λ (p, other, o).
+      let not_before = first.1 p in
+      let not_after = other.1 q in
+      let same : p ≡ q = grind (arith, other.0, first.0) in
+      subst (λ x. OccursAt b text (x + 30)) same o,
+)

@@ -1,0 +1,59 @@
+-- ZIP archives, by the names of their entries. A local header has 30 bytes, and then the entry's name.
+use Rattle.std.specs.Prelude.{◌≡◌, ℕ, ◌+◌, ◌-◌, ◌<◌, ◌≤◌, ◌⊎◌, ◌↔◌, List, Option, Bool, IsTrue, MatchOption, length, codes}
+use Rattle.memchr.specs.Find.{OccursAt}
+use Rattle.infer_deep.specs.Numbers.{le16}
+use Rattle.infer_deep.specs.Office.{zip_header}
+
+-- b begins with an entry, whose name, of the length that the two bytes at 26 say, lies in b
+pub record HasFirstName (b : List ℕ) : Type 0 where
+  pub long : 30 ≤ length b
+  pub header : OccursAt b zip_header 0
+  pub whole : 30 + le16 b 26 ≤ length b
+
+-- the name is exactly the text
+abbrev pub FirstEntryIs : List ℕ → List ℕ → Type 0
+FirstEntryIs name b = HasFirstName b × (le16 b 26 ≡ length name) × OccursAt b name 30
+
+-- the text is the end of the name, or all of it
+abbrev pub FirstEntryEndsIn : List ℕ → List ℕ → Type 0
+FirstEntryEndsIn text b = HasFirstName b × (length text ≤ le16 b 26) × OccursAt b text (30 + le16 b 26 - length text)
+
+-- the text stands behind the name, and the two bytes at 28 say that the extra field is as long or longer
+abbrev pub FirstEntryHasExtra : List ℕ → List ℕ → Type 0
+FirstEntryHasExtra text b = HasFirstName b × (length text ≤ le16 b 28) × OccursAt b text (30 + le16 b 26)
+
+-- an entry stands at p whose name begins as that of a part which each package has
+abbrev pub IsPartEntry : List ℕ → ℕ → Type 0
+IsPartEntry b p =
+    OccursAt b zip_header p × (OccursAt b (codes "[Content_Types].xml") (p + 30) ⊎ OccursAt b (codes "_rels/") (p + 30))
+
+-- an entry stands at q whose name begins with the folder of an application
+abbrev pub IsFolderEntry : List ℕ → ℕ → Type 0
+IsFolderEntry b q =
+    OccursAt b zip_header q
+    × (OccursAt b (codes "word/") (q + 30) ⊎ OccursAt b (codes "xl/") (q + 30) ⊎ OccursAt b (codes "ppt/") (q + 30)
+    ⊎ OccursAt b (codes "visio/") (q + 30) ⊎ OccursAt b (codes "3D/") (q + 30))
+
+-- q is the least such place
+abbrev pub IsFirstFolder : List ℕ → ℕ → Type 0
+IsFirstFolder b q = IsFolderEntry b q × ((k : ℕ) → k < q → ¬ IsFolderEntry b k)
+
+-- b begins with an entry that a package may have first
+abbrev pub MayBeginPackage : List ℕ → List ℕ → Type 0
+MayBeginPackage folder b =
+    OccursAt b zip_header 0
+    × (OccursAt b (codes "[Content_Types].xml") 30 ⊎ OccursAt b (codes "_rels/") 30 ⊎ OccursAt b (codes "docProps/") 30
+    ⊎ OccursAt b folder 30)
+
+-- b begins so, has a part of each package somewhere, and its first folder of an application is this one
+abbrev pub IsPackageWith : List ℕ → List ℕ → Type 0
+IsPackageWith folder b =
+    MayBeginPackage folder b × ((p : ℕ) × IsPartEntry b p) × ((q : ℕ) × IsFirstFolder b q × OccursAt b folder (q + 30))
+
+-- r is whether there is such a part
+abbrev pub FindsPart : List ℕ → Bool → Type 0
+FindsPart b r = IsTrue r ↔ ((p : ℕ) × IsPartEntry b p)
+
+-- r is the least place of a folder, and none only if there is none
+abbrev pub FindsFolder : List ℕ → Option ℕ → Type 0
+FindsFolder b r = MatchOption r ((q : ℕ) → ¬ IsFolderEntry b q) (λ q. IsFirstFolder b q)

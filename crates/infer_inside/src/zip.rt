@@ -1,0 +1,125 @@
+//! ZIP archives, by the names of their entries.
+ghost use Rattle.std.specs.Prelude.{◌≡◌, ◌↔◌, ◌+◌, ◌≤◌, length, IsTrue};
+ghost use Rattle.infer_deep.specs.Numbers.{le16};
+ghost use Rattle.infer_deep.specs.Places.{FindsPlace};
+ghost use Rattle.infer_inside.specs.Zip.{FindsFolder, FindsPart, FirstEntryEndsIn, FirstEntryHasExtra, FirstEntryIs, HasFirstName, IsFolderEntry, IsPackageWith, IsPartEntry, MayBeginPackage};
+
+use infer_deep::numbers::le16;
+use infer_deep::places::stands_at;
+use memchr::memchr;
+
+/// The first entry has this name.
+pub fn first_entry_is(buf: &[u8], name: &[u8]) -> bool
+    ensures { IsTrue result ↔ FirstEntryIs name.now buf.now }
+{
+    match first_name_end(buf) {
+        Some(end) => end - 30 == name.len() && stands_at(buf, name, 30),
+        None => false,
+    }
+}
+
+/// The first entry has a name that ends in this text, or is it.
+pub fn first_entry_ends_in(buf: &[u8], text: &[u8]) -> bool
+    ensures { IsTrue result ↔ FirstEntryEndsIn text.now buf.now }
+{
+    match first_name_end(buf) {
+        Some(end) => text.len() <= end - 30 && stands_at(buf, text, end - text.len()),
+        None => false,
+    }
+}
+
+/// The first entry has an extra field that begins with this text.
+pub fn first_entry_has_extra(buf: &[u8], text: &[u8]) -> bool
+    ensures { IsTrue result ↔ FirstEntryHasExtra text.now buf.now }
+{
+    match first_name_end(buf) {
+        Some(end) => text.len() <= le16(buf, 28) as usize && stands_at(buf, text, end),
+        None => false,
+    }
+}
+
+/// Where the name of the first entry ends, if `buf` has it whole.
+fn first_name_end(buf: &[u8]) -> Option<usize>
+    ensures { FindsPlace (λ end. HasFirstName buf.now × (end ≡ 30 + le16 buf.now 26)) result }
+{
+    if buf.len() < 30 || !stands_at(buf, b"PK\x03\x04", 0) {
+        return None;
+    }
+    let end = 30 + le16(buf, 26) as usize;
+    if end > buf.len() {
+        return None;
+    }
+    Some(end)
+}
+
+/// A package of the Open Packaging Conventions whose first folder of an application, by place, is this one.
+pub fn is_package_with(buf: &[u8], folder: &[u8]) -> bool
+    ensures { IsTrue result ↔ IsPackageWith folder.now buf.now }
+{
+    if !may_begin_package(buf, folder) || !has_part(buf) {
+        return false;
+    }
+    match first_folder(buf) {
+        Some(place) => stands_at(buf, folder, place + 30),
+        None => false,
+    }
+}
+
+fn may_begin_package(buf: &[u8], folder: &[u8]) -> bool
+    ensures { IsTrue result ↔ MayBeginPackage folder.now buf.now }
+{
+    stands_at(buf, b"PK\x03\x04", 0)
+        && (stands_at(buf, b"[Content_Types].xml", 30)
+            || stands_at(buf, b"_rels/", 30)
+            || stands_at(buf, b"docProps/", 30)
+            || stands_at(buf, folder, 30))
+}
+
+/// Whether some entry is a part that each package has.
+fn has_part(buf: &[u8]) -> bool
+    ensures { FindsPart buf.now result }
+{
+    let mut from = 0;
+    while let Some(step) = memchr(b'P', &buf[from..]) {
+        if is_part_entry(buf, from + step) {
+            return true;
+        }
+        from += step + 1;
+    }
+    false
+}
+
+/// The place of the first entry in a folder of an application.
+fn first_folder(buf: &[u8]) -> Option<usize>
+    ensures { FindsFolder buf.now result }
+{
+    let mut from = 0;
+    while let Some(step) = memchr(b'P', &buf[from..]) {
+        if is_folder_entry(buf, from + step) {
+            return Some(from + step);
+        }
+        from += step + 1;
+    }
+    None
+}
+
+fn is_part_entry(buf: &[u8], place: usize) -> bool
+    requires { place ≤ length buf.now }
+    ensures { IsTrue result ↔ IsPartEntry buf.now place }
+{
+    stands_at(buf, b"PK\x03\x04", place)
+        && (stands_at(buf, b"[Content_Types].xml", place + 30)
+            || stands_at(buf, b"_rels/", place + 30))
+}
+
+fn is_folder_entry(buf: &[u8], place: usize) -> bool
+    requires { place ≤ length buf.now }
+    ensures { IsTrue result ↔ IsFolderEntry buf.now place }
+{
+    stands_at(buf, b"PK\x03\x04", place)
+        && (stands_at(buf, b"word/", place + 30)
+            || stands_at(buf, b"xl/", place + 30)
+            || stands_at(buf, b"ppt/", place + 30)
+            || stands_at(buf, b"visio/", place + 30)
+            || stands_at(buf, b"3D/", place + 30))
+}
