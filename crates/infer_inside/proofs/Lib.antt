@@ -1,4 +1,5 @@
 pub mod PartLemmas
+pub mod PngLemmas
 pub mod TextLemmas
 pub mod ZipLemmas
 pub mod Utf8Lemmas

@@ -2,5 +2,10 @@
 #![tactic(auto)]
 
 pub mod compound;
+pub mod dbase;
+pub mod elf;
+mod numbers;
+pub mod png;
 pub mod text;
+pub mod tiff;
 pub mod zip;

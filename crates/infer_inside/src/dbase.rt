@@ -1,0 +1,92 @@
+//! dBASE tables, by their header.
+ghost use Rattle.std.specs.Prelude.{◌≡◌, ◌↔◌, ◌≤◌, ℕ, length, slice_index, codes, IsTrue};
+ghost use Rattle.infer_deep.specs.Numbers.{le16};
+ghost use Rattle.infer_inside.specs.Dbase.{BeginsName, EndsFields, HasField, IsDated, IsDbase, IsOneOf, behind, versions};
+
+use infer_deep::numbers::le16;
+
+/// The header of a dBASE table.
+pub fn is_dbase(buf: &[u8]) -> bool
+    ensures { IsTrue result ↔ IsDbase buf.now }
+{
+    if buf.len() < 65 || !is_dated(buf) || !has_field(buf) || le16(buf, 10) < 2 {
+        return false;
+    }
+    ends_fields(buf)
+}
+
+fn is_dated(buf: &[u8]) -> bool
+    requires { 65 ≤ length buf.now }
+    ensures { IsTrue result ↔ IsDated buf.now }
+{
+    is_version(buf[0]) && is_within(buf[2], 0x0C) && is_within(buf[3], 0x1F) && has_zeros(buf)
+}
+
+fn has_zeros(buf: &[u8]) -> bool
+    requires { 65 ≤ length buf.now }
+    ensures { IsTrue result ↔ ((slice_index buf.now 12 ≡ 0) × (slice_index buf.now 13 ≡ 0)) }
+{
+    buf[12] == 0 && buf[13] == 0
+}
+
+fn has_field(buf: &[u8]) -> bool
+    requires { 65 ≤ length buf.now }
+    ensures { IsTrue result ↔ HasField buf.now }
+{
+    begins_name(buf[32]) && is_kind(buf[43])
+}
+
+fn is_version(byte: u8) -> bool
+    ensures { IsTrue result ↔ IsOneOf versions byte }
+{
+    matches!(
+        byte,
+        0x02 | 0x03 | 0x30 | 0x31 | 0x32 | 0x43 | 0x63 | 0x83 | 0x8B | 0xCB | 0xF5
+    )
+}
+
+/// Whether a month or a day, which begin at 1, is in its range.
+fn is_within(byte: u8, last: u8) -> bool
+    ensures { IsTrue result ↔ ((1 ≤ byte) × (byte ≤ last)) }
+{
+    byte >= 1 && byte <= last
+}
+
+fn begins_name(byte: u8) -> bool
+    ensures { IsTrue result ↔ BeginsName byte }
+{
+    matches!(byte, b'A'..=b'Z' | b'a'..=b'z' | b'_')
+}
+
+fn is_kind(byte: u8) -> bool
+    ensures { IsTrue result ↔ IsOneOf (codes "+@BCDFGILMNOPTVXY") byte }
+{
+    b"+@BCDFGILMNOPTVXY".contains(&byte)
+}
+
+/// How many bytes of the header stand from the end of the fields on.
+fn behind(version: u8) -> usize
+    ensures is { result ≡ behind version }
+    ensures some { 1 ≤ result }
+    ensures few { result ≤ 264 }
+{
+    if version >= 0x30 && version <= 0x32 {
+        264
+    } else {
+        1
+    }
+}
+
+/// Whether whole fields of 32 bytes end where the header says.
+fn ends_fields(buf: &[u8]) -> bool
+    requires { 65 ≤ length buf.now }
+    ensures { IsTrue result ↔ ((e : ℕ) × EndsFields buf.now e) }
+{
+    let length = le16(buf, 8) as usize;
+    let behind = behind(buf[0]);
+    if length < behind + 64 || length - behind >= buf.len() {
+        return false;
+    }
+    let end = length - behind;
+    end % 32 == 0 && buf[end] == 0x0D
+}

@@ -1,0 +1,93 @@
+//! ELF files, by their program headers.
+ghost use Rattle.std.specs.Prelude.{◌≡◌, ◌↔◌, ◌+◌, ◌*◌, ◌<◌, ◌≤◌, ℕ, length, IsTrue};
+ghost use Rattle.infer_inside.specs.Elf.{AsksAt, HasOwnTable, IsSharedObject, counted_length, entry_count, entry_size, known_size, table_place};
+
+use crate::numbers::{number16, number32, number64};
+
+/// A shared object: of its program headers, which lie in the buffer, none asks for an interpreter.
+pub fn is_shared_object(buf: &[u8]) -> bool
+    ensures { IsTrue result ↔ IsSharedObject buf.now }
+{
+    if buf.len() < 46 {
+        return false;
+    }
+    match (buf[4], buf[5]) {
+        (1, 1) => has_own_table(buf, false, false),
+        (1, 2) => has_own_table(buf, false, true),
+        (2, 1) => has_own_table(buf, true, false),
+        (2, 2) => has_own_table(buf, true, true),
+        _ => false,
+    }
+}
+
+fn has_own_table(buf: &[u8], wide: bool, big: bool) -> bool
+    ensures { IsTrue result ↔ HasOwnTable wide big buf.now }
+{
+    if buf.len() < counted_length(wide) {
+        return false;
+    }
+    let size = known_size(wide);
+    let count = entry_count(buf, wide, big);
+    if number16(buf, 16, big) != 3 || entry_size(buf, wide, big) != size || count == 0 {
+        return false;
+    }
+    let start = table_place(buf, wide, big);
+    if start > buf.len() || count * size > buf.len() - start {
+        return false;
+    }
+    none_asks(buf, start, count, size, big)
+}
+
+/// Whether none of the entries asks for an interpreter.
+fn none_asks(buf: &[u8], start: usize, count: usize, size: usize, big: bool) -> bool
+    requires large { 32 ≤ size }
+    requires fits { start + count * size ≤ length buf.now }
+    ensures { IsTrue result ↔ ((i : ℕ) → i < count → ¬ AsksAt big buf.now (start + i * size)) }
+{
+    for i in 0..count {
+        if number32(buf, start + i * size, big) == 3 {
+            return false;
+        }
+    }
+    true
+}
+
+fn counted_length(wide: bool) -> usize
+    ensures { result ≡ counted_length wide }
+{
+    if wide { 58 } else { 46 }
+}
+
+fn known_size(wide: bool) -> usize
+    ensures is { result ≡ known_size wide }
+    ensures large { 32 ≤ result }
+    ensures small { result ≤ 56 }
+{
+    if wide { 56 } else { 32 }
+}
+
+fn table_place(buf: &[u8], wide: bool, big: bool) -> usize
+    requires { counted_length wide ≤ length buf.now }
+    ensures { result ≡ table_place wide big buf.now }
+{
+    if wide {
+        number64(buf, 32, big) as usize
+    } else {
+        number32(buf, 28, big) as usize
+    }
+}
+
+fn entry_size(buf: &[u8], wide: bool, big: bool) -> usize
+    requires { counted_length wide ≤ length buf.now }
+    ensures { result ≡ entry_size wide big buf.now }
+{
+    number16(buf, if wide { 54 } else { 42 }, big) as usize
+}
+
+fn entry_count(buf: &[u8], wide: bool, big: bool) -> usize
+    requires { counted_length wide ≤ length buf.now }
+    ensures is { result ≡ entry_count wide big buf.now }
+    ensures small { result ≤ 65535 }
+{
+    number16(buf, if wide { 56 } else { 44 }, big) as usize
+}

@@ -1,0 +1,36 @@
+//! TIFF files, by the tags of their first directory.
+ghost use Rattle.std.specs.Prelude.{◌≡◌, ◌↔◌, ◌+◌, ◌≤◌, ℕ, length, IsTrue};
+ghost use Rattle.infer_inside.specs.Numbers.{number32};
+ghost use Rattle.infer_inside.specs.Tiff.{BeginsTiff, HasTag, IsTagEntry};
+
+use crate::numbers::{number16, number32};
+use infer_deep::places::stands_at;
+
+/// The first directory of a TIFF file has an entry with this tag.
+pub fn first_directory_has_tag(buf: &[u8], tag: u16) -> bool
+    ensures { IsTrue result ↔ HasTag tag buf.now }
+{
+    if stands_at(buf, b"II\x2A\x00", 0) {
+        return directory_has_tag(buf, tag, false);
+    }
+    stands_at(buf, b"MM\x00\x2A", 0) && directory_has_tag(buf, tag, true)
+}
+
+fn directory_has_tag(buf: &[u8], tag: u16, big: bool) -> bool
+    ensures { IsTrue result ↔ ((i : ℕ) × IsTagEntry big tag buf.now (number32 big buf.now 4) i) }
+{
+    if buf.len() < 14 {
+        return false;
+    }
+    let start = number32(buf, 4, big) as usize;
+    if start > buf.len() - 14 {
+        return false;
+    }
+    let count = (number16(buf, start, big) as usize).min((buf.len() - start - 2) / 12);
+    for i in 0..count {
+        if number16(buf, start + 2 + 12 * i, big) == tag {
+            return true;
+        }
+    }
+    false
+}
