@@ -1,5 +1,6 @@
 pub mod PartLemmas
 pub mod PngLemmas
+pub mod SubtitlesLemmas
 pub mod TextLemmas
 pub mod ZipLemmas
 pub mod Utf8Lemmas

@@ -5,3 +5,4 @@ pub mod Tiff
 pub mod Png
 pub mod Dbase
 pub mod Elf
+pub mod Subtitles

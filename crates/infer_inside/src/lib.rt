@@ -6,6 +6,7 @@ pub mod dbase;
 pub mod elf;
 mod numbers;
 pub mod png;
+pub mod subtitles;
 pub mod text;
 pub mod tiff;
 pub mod zip;
