@@ -7,6 +7,8 @@ pub mod elf;
 mod numbers;
 pub mod png;
 pub mod subtitles;
+#[cfg(test)]
+mod tests;
 pub mod text;
 pub mod tiff;
 pub mod zip;
