@@ -108,6 +108,11 @@ size_t infer_mime_type(int32_t row, char *out, size_t size);
 size_t infer_extension(int32_t row, char *out, size_t size);
 size_t infer_class_name(int32_t class_code, char *out, size_t size);
 
+/* How the text in the buffer is encoded, by its IANA name: us-ascii, utf-8, utf-16le or utf-16be. It is the empty text if
+ * the buffer is no text, which has a byte order mark first or none of the bytes 00 to 08, 0B, 0E to 1A and 1C to 1F, or if
+ * its encoding is not known. A character that is cut at the end makes no difference. */
+size_t infer_encoding(const void *buf, size_t len, char *out, size_t size);
+
 /* What the calls that end in _text ask, for languages that cannot: `out` gets where the text stands, and its size with
  * the zero. It must have a text before too, such as {"", 1}. */
 struct infer_text {

@@ -98,6 +98,23 @@ static void class_names(void) {
     text("name of the least number", infer_class_name, INT32_MIN, "");
 }
 
+static void encoded(const char *name, const char *buf, size_t len) {
+    char out[INFER_TEXT_SIZE];
+    same(name, (long)infer_encoding(buf, len, out, sizeof out), (long)strlen(name));
+    same(name, strcmp(out, name), 0);
+}
+
+static void encodings(void) {
+    encoded("us-ascii", "plain\n", 6);
+    encoded("utf-8", "caf\xC3\xA9", 5);
+    encoded("utf-8", "caf\xC3", 4);
+    encoded("utf-16le", "\xFF\xFE" "a", 4);
+    encoded("utf-16be", "\xFE\xFF\0a", 4);
+    encoded("", "caf\xE9 ", 5);
+    encoded("", "a\0b", 3);
+    encoded("", NULL, 0);
+}
+
 /* The class of the row that answers for the buffer, and its extension. */
 static void typed(const char *extension, int32_t code, const char *buf, size_t len) {
     char out[16];
@@ -285,6 +302,7 @@ int main(void) {
     texts();
     own_texts();
     class_names();
+    encodings();
     classes();
     samples();
     questions();

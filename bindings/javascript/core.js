@@ -6,7 +6,7 @@ const FRONT = 8192;
 /** Most files are told by so many bytes, and of a Blob no more are read then. */
 const FIRST = 1024;
 const PAGE = 65536;
-const TEXT = 128n;
+const TEXT = 128;
 /** The smallest module with a 64-bit memory. */
 const WIDE = new Uint8Array([0, 97, 115, 109, 1, 0, 0, 0, 5, 3, 1, 4, 1]);
 const NO_WIDE_MEMORY =
@@ -30,9 +30,10 @@ const grow = (memory, pages) => {
     }
 };
 
-const textOf = (write, row) => {
-    const length = Number(write(row, place, TEXT));
-    return new TextDecoder().decode(room.slice(0, length));
+/** The text that the module writes behind the bytes that it is asked about. */
+const textOf = (write, ...asked) => {
+    const length = Number(write(...asked, place + BigInt(FRONT), BigInt(TEXT)));
+    return new TextDecoder().decode(room.slice(FRONT, FRONT + length));
 };
 
 /** Makes the package ready. `read` gives the bytes of infer.wasm, or a promise of them. */
@@ -47,9 +48,9 @@ export const connect = async (read) => {
     infer = (await WebAssembly.instantiate(bytes, {})).instance.exports;
     place = infer.__heap_base.value;
     const start = Number(place);
-    const missing = start + FRONT - infer.memory.buffer.byteLength;
+    const missing = start + FRONT + TEXT - infer.memory.buffer.byteLength;
     if (missing > 0) grow(infer.memory, Math.ceil(missing / PAGE));
-    room = new Uint8Array(infer.memory.buffer, start, FRONT);
+    room = new Uint8Array(infer.memory.buffer, start, FRONT + TEXT);
     const [builtIn, all] = [Number(infer.infer_row_count()), Number(infer.infer_more_row_count())];
     for (let row = 0; row < all; row += 1) {
         rows.push({ ext: textOf(infer.infer_extension, row), mime: textOf(infer.infer_mime_type, row) });
@@ -59,17 +60,19 @@ export const connect = async (read) => {
     }
 };
 
-/** Copies the first bytes to where the module sees them, and asks it. */
-const ask = (question, input) => {
+/** Copies the first bytes to where the module sees them, and tells how many they are. */
+const hand = (input) => {
     const front = frontOf(input, FRONT);
     room.set(front);
-    return question(place, BigInt(front.length));
+    return BigInt(front.length);
 };
+const ask = (question, input) => question(place, hand(input));
 
 const answerOf = (row) => (row < 0 ? undefined : { ...rows[row] });
 const typeOf = (input) => answerOf(ask(infer.infer_position, input));
 
 export const wider = (input) => answerOf(ask(infer.infer_more_position, input));
+export const encoding = (input) => textOf(infer.infer_encoding, place, hand(input)) || undefined;
 export const isDecided = (input) => ask(infer.infer_is_decided, input) !== 0;
 export const fileTypeFromBuffer = async (input) => typeOf(input);
 

@@ -23,6 +23,12 @@ export function fileTypeStream<Piece extends Bytes>(stream: ReadableStream<Piece
 /** The wider answer by the first 8192 bytes: that of fileTypeFromBuffer, or a further type that is more exact. */
 export function wider(bytes: Bytes): FileTypeResult | undefined;
 
+/**
+ * How a text is encoded by its first 8192 bytes, by its IANA name, and undefined if they are no text or of another
+ * encoding. A character that is cut at the end makes no difference.
+ */
+export function encoding(bytes: Bytes): "us-ascii" | "utf-8" | "utf-16le" | "utf-16be" | undefined;
+
 /** Whether no bytes that may follow can change the answer of fileTypeFromBuffer. */
 export function isDecided(bytes: Bytes): boolean;
 

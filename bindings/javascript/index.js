@@ -9,6 +9,7 @@ await connect(async () => {
 });
 
 export {
+    encoding,
     fileTypeFromBlob,
     fileTypeFromBuffer,
     fileTypeFromStream,

@@ -36,6 +36,25 @@ test("each vector of the further rows has its wider answer", () => {
     }
 });
 
+test("an encoding is that of the standard decoder", () => {
+    const below = generator(9);
+    for (let round = 0; round < 20_000; round += 1) {
+        const data = new TextEncoder().encode(Array.from({ length: below(30) }, () => "a\né€𐍈"[below(5)]).join(""));
+        if (data.length > 0 && below(2) === 0) data[below(data.length)] = 128 + below(128);
+        const cut = data.subarray(0, below(data.length + 1));
+        let wanted = cut.length === 0 ? undefined : cut.every((byte) => byte < 128) ? "us-ascii" : "utf-8";
+        if (cut.length > 1 && cut[0] + cut[1] === 0xFF + 0xFE) wanted = cut[0] === 0xFF ? "utf-16le" : "utf-16be";
+        try {
+            if (wanted === "utf-8") new TextDecoder("utf-8", { fatal: true }).decode(cut, { stream: true });
+        } catch {
+            wanted = undefined;
+        }
+        assert.equal(infer.encoding(cut), wanted, [...cut].join(" "));
+    }
+    assert.equal(infer.encoding(Uint8Array.of(0xFF, 0xFE, 0x61, 0)), "utf-16le");
+    assert.equal(infer.encoding(Uint8Array.of(0x61, 0, 0x62)), undefined);
+});
+
 test("what is decided stays the answer, whatever follows", async () => {
     const below = generator(7);
     for (const { sample, type } of samples) {

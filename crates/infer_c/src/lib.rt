@@ -16,6 +16,8 @@ ghost use Rattle.infer.specs.declared.ask.question.Wanted.TheVariants.{Every};
 ghost use Rattle.infer.specs.declared.table.rows.TheConstants.{MOST_CANDIDATES};
 ghost use Rattle.infer_sniff.specs.Verdicts.{IsSettled, RowStaysFinal};
 ghost use Rattle.infer_c.specs.Codes.{AcceptsAt, IsClassOf, IsSampleOf, MayAcceptAt, class_code, class_name, row_code, triple_at};
+ghost use Rattle.infer_inside.specs.Text.{IsEncodingOf, encoding_name};
+ghost use Rattle.infer_inside.specs.declared.text.Encoding.{Encoding};
 ghost use Rattle.infer_more.specs.Ended.{ended};
 ghost use Rattle.infer_more.specs.Wider.{IsWider, shown};
 ghost use Rattle.infer_c.specs.Written.{WritesText, WritesWhole};
@@ -201,6 +203,21 @@ pub extern "C" fn infer_find_class_name(class: i32, out: &mut &'static [u8])
         Some(found) => class::ended_name(found).as_bytes(),
         None => b"\0",
     };
+}
+
+/// The length of the IANA name of the encoding of the text `buf`, which is written to `out`, and 0 if `buf` is no text or
+/// its encoding is not known. It is at most 73.
+#[unsafe(no_mangle)]
+pub extern "C" fn infer_encoding(buf: &[u8], out: &mut [u8]) -> usize
+    ensures text { (found : Option Encoding) × IsEncodingOf buf.now found
+        × (result ≡ option_map_or (λ e. length (encoding_name e)) found 0)
+        × WritesText (option_map_or encoding_name found []) out.old out.new }
+    ensures few { result ≤ 73 }
+{
+    match infer_more::encoding(buf) {
+        Some(found) => written::write_text(found.name(), out),
+        None => written::write_text("", out),
+    }
 }
 
 /// The length of the row's sample, which is written to `out` if it fits, and 0 if the row has none. It is at most 1088.

@@ -1,5 +1,5 @@
 -- Plain text and its encoding.
-use Rattle.std.specs.Prelude.{◌≡◌, ℕ, ◌-◌, ◌<◌, ◌≤◌, ◌⊎◌, ⊤, List, [], ◌∷◌, ◌++◌, length, codes, slice_index}
+use Rattle.std.specs.Prelude.{◌≡◌, ℕ, ◌-◌, ◌<◌, ◌≤◌, ◌⊎◌, ⊤, List, [], ◌∷◌, ◌++◌, length, codes, slice_index, Option, None, Some}
 use Rattle.simdutf8.specs.Steps.{IsContinuation, least_after, most_after}
 use Rattle.std.specs.Str.{IsAscii, IsUtf8}
 use Rattle.memchr.specs.Find.{OccursAt}
@@ -40,6 +40,11 @@ HasEncoding b Utf16Le = BeginsLittle b
 HasEncoding b Utf16Be = BeginsBig b
 HasEncoding b UsAscii = IsText b × (¬ BeginsLittle b) × (¬ BeginsBig b) × IsAscii b
 HasEncoding b Utf8 = IsText b × (¬ BeginsLittle b) × (¬ BeginsBig b) × (¬ IsAscii b) × BeginsUtf8 b
+
+-- the encoding of b, and none if b is no text or its encoding is unknown
+abbrev pub IsEncodingOf : List ℕ → Option Encoding → Type 0
+IsEncodingOf b (Some e) = HasEncoding b e
+IsEncodingOf b None = (e : Encoding) → ¬ HasEncoding b e
 
 -- its name with IANA
 abbrev pub encoding_name : Encoding → List ℕ

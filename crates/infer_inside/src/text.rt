@@ -1,11 +1,11 @@
 //! Plain text, and how it is encoded.
-ghost use Rattle.std.specs.Prelude.{◌≡◌, ◌↔◌, ◌<◌, ◌≤◌, ℕ, length, take, drop, Some, IsTrue, MatchOption};
+ghost use Rattle.std.specs.Prelude.{◌≡◌, ◌↔◌, ◌<◌, ◌≤◌, ℕ, length, take, drop, Some, IsTrue};
 ghost use Rattle.std.specs.Bool.{OnTrue};
 ghost use Rattle.std.specs.Str.{IsAscii};
 ghost use Rattle.infer_deep.specs.Blocks.{AllBelow};
 ghost use Rattle.infer_deep.specs.Text.{BeginsMarked};
 ghost use Rattle.simdutf8.specs.Steps.{IsContinuation, least_after, most_after};
-ghost use Rattle.infer_inside.specs.Text.{IsCutLen, MayBeginChar, BeginsUtf8, HasEncoding, IsBinary, IsDataByte, IsPlainByte, IsText, encoding_name};
+ghost use Rattle.infer_inside.specs.Text.{IsCutLen, MayBeginChar, BeginsUtf8, IsBinary, IsDataByte, IsEncodingOf, IsPlainByte, IsText, encoding_name};
 
 use infer_deep::places::stands_at;
 use simdutf8::is_utf8;
@@ -28,11 +28,20 @@ impl fmt::Display for Encoding {
     ghost output = { λ e. Some (encoding_name e) };
 
     fn fmt<W: fmt::Write>(&self, f: &mut fmt::Formatter<W>) -> fmt::Result {
+        f.write_str(self.name())
+    }
+}
+
+impl Encoding {
+    /// Its name with IANA.
+    pub fn name(self) -> &'static str
+        ensures { result.now ≡ encoding_name self }
+    {
         match self {
-            Encoding::UsAscii => f.write_str("us-ascii"),
-            Encoding::Utf8 => f.write_str("utf-8"),
-            Encoding::Utf16Le => f.write_str("utf-16le"),
-            Encoding::Utf16Be => f.write_str("utf-16be"),
+            Encoding::UsAscii => "us-ascii",
+            Encoding::Utf8 => "utf-8",
+            Encoding::Utf16Le => "utf-16le",
+            Encoding::Utf16Be => "utf-16be",
         }
     }
 }
@@ -133,7 +142,7 @@ fn is_plain_byte(byte: u8) -> bool
 /// A byte order mark of UTF-16 says so. Bytes below 80 alone are US-ASCII. Else it is UTF-8 if some bytes can follow so
 /// that the whole is well formed: a character that is cut at the end makes no difference.
 pub fn encoding_of(buf: &[u8]) -> Option<Encoding>
-    ensures { MatchOption result ((e : Encoding) → ¬ HasEncoding buf.now e) (λ e. HasEncoding buf.now e) }
+    ensures { IsEncodingOf buf.now result }
 {
     if stands_at(buf, b"\xFF\xFE", 0) {
         return Some(Encoding::Utf16Le);

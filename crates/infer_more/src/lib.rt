@@ -17,6 +17,7 @@ ghost use Rattle.infer.specs.Rows.{custom_rows};
 ghost use Rattle.infer.specs.Triple.{triple_of};
 ghost use Rattle.infer.specs.Watched.{fault_of};
 ghost use Rattle.infer.specs.declared.table.rows.TheConstants.{ROW_COUNT};
+ghost use Rattle.infer_inside.specs.Text.{IsEncodingOf, IsText};
 ghost use Rattle.infer_more.specs.Added.{IsAnswerWith};
 ghost use Rattle.infer_more.specs.Ended.{ended_listed, ended_shown};
 ghost use Rattle.infer_more.specs.Reading.{AnswersReader, AnswersSome};
@@ -34,6 +35,7 @@ mod table;
 
 pub use index::FURTHER_COUNT;
 use infer::{FRONT, Fault, Infer, Type, Watched};
+pub use infer_inside::text;
 pub use samples::{SAMPLE_SIZE, sample};
 use std::alloc::Allocator;
 use std::io::Read;
@@ -104,6 +106,22 @@ pub fn is_mime_supported(mime_type: &str) -> bool
     ensures { IsTrue result ↔ ShowsMimeType mime_type.now }
 {
     infer::is_mime_supported(mime_type) || answers::has_mime_type(mime_type)
+}
+
+/// Whether `buf` is text: a byte order mark first, or at least one byte and none of 00 to 08, 0B, 0E to 1A and 1C to 1F.
+pub fn is_text(buf: &[u8]) -> bool
+    ensures { IsTrue result ↔ IsText buf.now }
+{
+    text::is_text(buf)
+}
+
+/// How the text `buf` is encoded, and `None` if it is no text or its encoding is not known. A byte order mark tells UTF-16,
+/// bytes below 80 alone are US-ASCII, and it is UTF-8 if some bytes can follow so that the whole is: a character that is
+/// cut at the end makes no difference.
+pub fn encoding(buf: &[u8]) -> Option<text::Encoding>
+    ensures { IsEncodingOf buf.now result }
+{
+    text::encoding_of(buf)
 }
 
 /// The type of the wider answer of the first 8192 bytes of a reader, or all if it has fewer. It reads and refuses as

@@ -18,7 +18,7 @@ from ._source import FRONT, Readable, Source, get_bytes
 
 __all__ = [
     "FRONT", "Readable", "Source", "TYPES", "Type", "add_type", "application_match", "application_matchers", "archive_match",
-    "archive_matchers", "audio_match", "audio_matchers", "document_match", "document_matchers", "font_match", "font_matchers",
+    "archive_matchers", "audio_match", "audio_matchers", "document_match", "document_matchers", "encoding", "font_match", "font_matchers",
     "get_bytes", "get_signature_bytes", "get_type", "guess", "guess_extension", "guess_mime", "image_match", "image_matchers",
     "is_app", "is_archive", "is_audio", "is_book", "is_document", "is_extension", "is_extension_supported", "is_font",
     "is_image", "is_mime", "is_mime_supported", "is_video", "match", "signature", "types", "verdict", "version", "video_match",
@@ -153,6 +153,12 @@ def guess_extension(obj: Source, more: bool = False) -> str | None:
     """The usual extension of what `guess` answers, or None."""
     kind = guess(obj, more)
     return kind.extension if kind else None
+
+
+def encoding(obj: Source) -> str | None:
+    """How the text is encoded, by its IANA name: us-ascii, utf-8, utf-16le or utf-16be. It is None if the first bytes are
+    no text, or text of another encoding. A character that is cut at the end makes no difference."""
+    return _library.encoding(get_bytes(obj)) or None
 
 
 def verdict(obj: Source) -> tuple[Type | None, bool]:

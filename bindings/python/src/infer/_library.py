@@ -45,6 +45,16 @@ of_class: dict[str, _Ask] = {
 _verdict: Callable[..., int] = _declare("infer_verdict", _ROW, _BUFFER, _SIZE, ctypes.POINTER(ctypes.c_bool))
 
 
+_encoding: Callable[..., int] = _declare("infer_encoding", _SIZE, _BUFFER, _SIZE, ctypes.c_char_p, _SIZE)
+
+
+def encoding(front: bytes) -> str:
+    """The IANA name of the text's encoding, or the empty text."""
+    out = ctypes.create_string_buffer(16)
+    size = _encoding(front, len(front), out, len(out))
+    return out.raw[:size].decode("ascii")
+
+
 def verdict(front: bytes) -> tuple[int, bool]:
     """The number of the answer's row or -1, and whether it is final."""
     is_final = ctypes.c_bool()
