@@ -15,6 +15,7 @@ ghost use Rattle.infer.specs.Samples.{HoldsSample, zeros};
 ghost use Rattle.infer.specs.Table.{table};
 ghost use Rattle.infer.specs.Walks.{RowHas};
 ghost use Rattle.infer.specs.declared.table.rows.TheConstants.{PNG, ROW_COUNT};
+ghost use Rattle.infer_inside.specs.Text.{IsEncodingOf};
 ghost use Rattle.infer_more.specs.Added.{IsAnswerWith};
 ghost use Rattle.infer_more.specs.Samples.{HasAnswer};
 ghost use Rattle.infer_more.specs.Wider.{AcceptsAt, IsWider, IsWiderAnswer, ShowsExtension, ShowsMimeType};
@@ -157,6 +158,15 @@ pub fn has_no_wider_answer(buf: &[u8]) -> bool
     ensures { IsTrue result ↔ IsWiderAnswer buf.now None }
 {
     infer_more::get(buf).is_none()
+}
+
+pub fn has_no_encoding(buf: &[u8]) -> bool
+    ensures { IsTrue result ↔ IsEncodingOf buf.now None }
+{
+    match infer_more::encoding(buf) {
+        Some(_) => false,
+        None => true,
+    }
 }
 
 pub fn shows_extension(extension: &str) -> bool

@@ -3,11 +3,11 @@
 
 use crate::added::begins_10_11_12;
 use crate::definitions::{
-    has_folder_at_30, has_ftyp_at_4, has_major_heic, has_no_answer_with, has_no_row,
-    has_no_wider_answer, is_accepted_by_exe, is_accepted_by_object, is_boxed, is_changeable,
-    is_exe_by_extension, is_first_exe, is_frame, is_labelled_png, is_mark, is_object,
-    is_sample_of_png, is_settled, is_space, is_unknown_so_far, may_become_wasm, shows_extension,
-    shows_mime_type,
+    has_folder_at_30, has_ftyp_at_4, has_major_heic, has_no_answer_with, has_no_encoding,
+    has_no_row, has_no_wider_answer, is_accepted_by_exe, is_accepted_by_object, is_boxed,
+    is_changeable, is_exe_by_extension, is_first_exe, is_frame, is_labelled_png, is_mark,
+    is_object, is_sample_of_png, is_settled, is_space, is_unknown_so_far, may_become_wasm,
+    shows_extension, shows_mime_type,
 };
 use crate::growing::{
     begins_white_alone, breaks_at_1, is_kept_open_by_white, is_one_short, stays_unknown,
@@ -25,6 +25,7 @@ use infer::texts::{is_mime_supported, is_supported};
 use infer::video::{is_mkv, is_webm};
 use infer::{Infer, is_decided};
 use infer_deep::doc::has_office_name;
+use infer_more::is_text;
 use infer_uses::gate::admits;
 use std::alloc::AllocError;
 
@@ -115,6 +116,8 @@ fn answers(rt: HostRuntime) {
         "IsWider buf.now (Some ROW_COUNT)" is_object, b"\x7FELF\0\x01\0\0\0\0\0\0\0\0\0\0\x01\0\0\0\0\0\0\0\0\0\0\0\0\0\0\0\0\0\0\0\0\0\0\0\0\0\0\0\0\0\0\0\0\0\0\0\0", b"\x7FELF\0\x01\0\0\0\0\0\0\0\0\0\0\x01\0";
         "HasAnswer ROW_COUNT buf.now" is_object, b"\x7FELF\0\x01\0\0\0\0\0\0\0\0\0\0\x01\0\0\0\0\0\0\0\0\0\0\0\0\0\0\0\0\0\0\0\0\0\0\0\0\0\0\0\0\0\0\0\0\0\0\0\0", b"\x7FELF\0\x01\0\0\0\0\0\0\0\0\0\0\x01\0";
         "IsWiderAnswer buf.now None" has_no_wider_answer, b"M", b"\n\r\r\n\0\0\0\0M<+\x1A";
+        "IsText" is_text, b"a\tb\n", b"a\0";
+        "IsEncodingOf buf.now None" has_no_encoding, b"caf\xE9 ", b"caf\xC3";
         "ShowsExtension" shows_extension, "appimage", "APPIMAGE";
         "ShowsMimeType" shows_mime_type, "application/vnd.appimage", "application/appimage";
         "IsAgreed" is_exe_by_extension, b"MZ", b"M";
