@@ -6,3 +6,4 @@ pub mod Png
 pub mod Dbase
 pub mod Elf
 pub mod Subtitles
+pub mod Tar

@@ -7,6 +7,7 @@ pub mod elf;
 mod numbers;
 pub mod png;
 pub mod subtitles;
+pub mod tar;
 #[cfg(test)]
 mod tests;
 pub mod text;
