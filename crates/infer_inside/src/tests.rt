@@ -4,7 +4,7 @@ use crate::dbase::is_dbase;
 use crate::elf::is_shared_object;
 use crate::png::is_animated;
 use crate::subtitles::is_subrip;
-use crate::text::is_text;
+use crate::text::{Encoding, encoding_of, is_text};
 use crate::tiff::first_directory_has_tag;
 use crate::zip::{first_entry_ends_in, first_entry_has_extra, first_entry_is, is_package_with};
 
@@ -641,4 +641,20 @@ fn models(rt: HostRuntime) {
     for (buf, expected) in cases {
         assert_eq!(rt; is_package_with(buf, b"3D/"), expected);
     }
+}
+
+#[test]
+fn encodings(rt: HostRuntime) {
+    assert_eq!(rt; encoding_of(b"plain\n"), Some(Encoding::UsAscii));
+    assert_eq!(rt; encoding_of(b"caf\xC3\xA9"), Some(Encoding::Utf8));
+    assert_eq!(rt; encoding_of(b"caf\xC3"), Some(Encoding::Utf8));
+    assert_eq!(rt; encoding_of(b"\xF0\x9F\x98"), Some(Encoding::Utf8));
+    assert_eq!(rt; encoding_of(b"\xEF\xBB\xBFab"), Some(Encoding::Utf8));
+    assert_eq!(rt; encoding_of(b"\xFF\xFEa\0"), Some(Encoding::Utf16Le));
+    assert_eq!(rt; encoding_of(b"\xFE\xFF\0a"), Some(Encoding::Utf16Be));
+    assert_eq!(rt; encoding_of(b"caf\xE9 au"), None);
+    assert_eq!(rt; encoding_of(b"caf\xC0"), None);
+    assert_eq!(rt; encoding_of(b"\xED\xA0"), None);
+    assert_eq!(rt; encoding_of(b"a\0"), None);
+    assert_eq!(rt; encoding_of(b""), None);
 }
