@@ -19,14 +19,14 @@ abbrev pub octal : List ℕ → ℕ → ℕ → ℕ
 octal b p zero = 0
 octal b p (suc n) = 8 * octal b p n + (slice_index b (p + n) - 0x30)
 
--- the checksum is d digits from p on, behind spaces, and its end stands in its eight bytes
+-- the checksum is d digits from p on, behind spaces, up to the end of its eight bytes, a 00 or a 20
 pub record IsField (b : List ℕ) (p d : ℕ) : Type 0 where
   pub low : 148 ≤ p
   pub spaces : (k : ℕ) → 148 ≤ k → k < p → slice_index b k ≡ 0x20
   pub some : 1 ≤ d
-  pub high : p + d < 156
+  pub high : p + d ≤ 156
   pub digits : (k : ℕ) → k < d → IsOctal (slice_index b (p + k))
-  pub end : (slice_index b (p + d) ≡ 0x00) ⊎ (slice_index b (p + d) ≡ 0x20)
+  pub end : (p + d ≡ 156) ⊎ (slice_index b (p + d) ≡ 0x00) ⊎ (slice_index b (p + d) ≡ 0x20)
 
 -- a whole first header that does not begin with 00, and whose checksum is its sum
 abbrev pub HasTarChecksum : List ℕ → Type 0

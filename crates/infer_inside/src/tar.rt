@@ -19,15 +19,15 @@ fn is_field(buf: &[u8], place: usize, count: usize) -> bool
     requires long { 512 ≤ length buf.now }
     requires few { count ≤ 8 }
     requires low { 148 ≤ place }
-    requires high { place ≤ 156 }
+    requires high { place + count ≤ 156 }
     requires spaces { (k : ℕ) → 148 ≤ k → k < place → slice_index buf.now k ≡ 0x20 }
     requires digits { (k : ℕ) → k < count → IsOctal (slice_index buf.now (place + k)) }
     ensures { IsTrue result ↔ IsField buf.now place count }
 {
-    if count == 0 || place + count > 155 {
+    if count == 0 {
         return false;
     }
-    ends_field(buf[place + count])
+    place + count == 156 || ends_field(buf[place + count])
 }
 
 /// Where the spaces of the checksum end.
@@ -46,20 +46,22 @@ fn spaces_end(buf: &[u8]) -> usize
     156
 }
 
-/// How many octal digits stand there, up to eight.
+/// How many octal digits stand there, up to the end of the checksum's eight bytes.
 fn digit_count(buf: &[u8], place: usize) -> usize
     requires long { 512 ≤ length buf.now }
+    requires low { 148 ≤ place }
     requires high { place ≤ 156 }
     ensures few { result ≤ 8 }
+    ensures high { place + result ≤ 156 }
     ensures digits { (k : ℕ) → k < result → IsOctal (slice_index buf.now (place + k)) }
-    ensures ends { result < 8 → ¬ IsOctal (slice_index buf.now (place + result)) }
+    ensures ends { place + result < 156 → ¬ IsOctal (slice_index buf.now (place + result)) }
 {
-    for n in 0..8 {
+    for n in 0..156 - place {
         if !is_octal(buf[place + n]) {
             return n;
         }
     }
-    8
+    156 - place
 }
 
 fn is_octal(byte: u8) -> bool

@@ -19,7 +19,7 @@ returns-then-is_field c =
         ),
       ),
       λ (long, some, (p, d, f, value)).
-          let l = located c.args.buf.now _ _ _ s.low s.spaces s.ends n.digits n.ends p d f value in
+          let l = located c.args.buf.now _ _ _ s.low n.high s.spaces s.ends n.digits n.ends p d f value in
           eq-eqb _ _ (c.octal.ensures ∙ l.1 ∙ sym c.header_sum.ensures),
     )
 
@@ -29,6 +29,6 @@ returns-else-is_field c =
     let n = c.digit_count-count.ensures in (
       λ is. absurd (cc),
       λ (long, some, (p, d, f, value)).
-          let l = located c.args.buf.now _ _ _ s.low s.spaces s.ends n.digits n.ends p d f value in
+          let l = located c.args.buf.now _ _ _ s.low n.high s.spaces s.ends n.digits n.ends p d f value in
           c.is_field.ensures.1 l.0,
     )
