@@ -1,12 +1,15 @@
 //! What an upload gate lets pass.
-ghost use Rattle.std.specs.Prelude.{◌↔◌, IsTrue, Option};
-ghost use Rattle.infer.specs.First.{IsAnswer};
+ghost use Rattle.std.specs.Prelude.{◌≡◌, ◌↔◌, ◌<◌, ℕ, IfSome, IsTrue, None, Option};
+ghost use Rattle.std.specs.Bool.{OnFalse, OnTrue};
+ghost use Rattle.infer.specs.Decided.{MayAccept, MayAnswer};
+ghost use Rattle.infer.specs.First.{IsAnswer, IsFirst};
 ghost use Rattle.infer.specs.Row.{Accepts};
 ghost use Rattle.infer.specs.Table.{table};
 ghost use Rattle.infer.specs.Triple.{Triple};
+ghost use Rattle.infer.specs.Walks.{RowHas};
 ghost use Rattle.infer_uses.specs.Answers.{IsOfClass};
 
-use infer::MatcherType;
+use infer::{MatcherType, laws, may_become, position};
 
 /// Whether the answer for the first bytes of an upload is an image.
 ///
@@ -27,4 +30,50 @@ pub fn is_of_class(front: &[u8], class: MatcherType) -> bool
         Some(found) => found.matcher_type() == class,
         None => false,
     }
+}
+
+/// Whether an upload that begins so can still get the row as its answer: by some bytes after these, or by none.
+///
+/// It is told of the first row that may still accept the upload and of those before it, and of the answer so far and
+/// of those after it. Of the others it is told if they can accept no more; if they can, earlier rows could be in their
+/// way whatever follows, and it is `None`.
+pub fn may_answer(front: &[u8], row: usize) -> Option<bool>
+    ensures told { IfSome result (λ yes. IsTrue yes ↔ MayAnswer front.now row) }
+    ensures before { result ≡ None → (k : ℕ) → IsFirst (Accepts front.now) table k → row < k }
+    ensures after { result ≡ None → RowHas (MayAccept front.now) row × ((i : ℕ) × (i < row) × RowHas (MayAccept front.now) i) }
+{
+    laws::later();
+    match position(front) {
+        Some(found) if found == row => Some(true),
+        Some(found) if found < row => Some(false),
+        _ => may_answer_before(front, row),
+    }
+}
+
+/// The same of a row before the answer so far, or of any if there is none.
+fn may_answer_before(front: &[u8], row: usize) -> Option<bool>
+    ensures told { IfSome result (λ yes. IsTrue yes ↔ MayAnswer front.now row) }
+    ensures after { result ≡ None → RowHas (MayAccept front.now) row × ((i : ℕ) × (i < row) × RowHas (MayAccept front.now) i) }
+{
+    laws::later();
+    if !may_become(front, row) {
+        return Some(false);
+    }
+    if none_before_may_accept(front, row) {
+        return Some(true);
+    }
+    None
+}
+
+/// Whether no row before this one may accept the upload.
+fn none_before_may_accept(front: &[u8], row: usize) -> bool
+    ensures yes { OnTrue result ((i : ℕ) → i < row → ¬ RowHas (MayAccept front.now) i) }
+    ensures no { OnFalse result ((i : ℕ) × (i < row) × RowHas (MayAccept front.now) i) }
+{
+    for i in 0..row {
+        if may_become(front, i) {
+            return false;
+        }
+    }
+    true
 }

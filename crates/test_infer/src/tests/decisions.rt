@@ -1,8 +1,8 @@
 //! Each decision on a few buffers.
-use infer::MatcherType;
+use infer::{MatcherType, rows};
 use infer_sniff::Sniffer;
 use infer_uses::count::count;
-use infer_uses::gate::admits;
+use infer_uses::gate::{admits, may_answer};
 use infer_uses::label::label;
 use infer_uses::name::{Choice, choose};
 use std::test::Fail;
@@ -16,6 +16,15 @@ fn images_alone_pass(rt: HostRuntime) -> Result<(), Fail> {
     assert!(rt; !admits(b"MZ"));
     assert!(rt; !admits(b""));
     Ok(())
+}
+
+#[test]
+fn what_an_upload_can_still_be(rt: HostRuntime) {
+    assert_eq!(rt; may_answer(b"", rows::WASM), Some(true));
+    assert_eq!(rt; may_answer(b"GIF", rows::GIF), Some(true));
+    assert_eq!(rt; may_answer(b"GIF", rows::WASM), Some(false));
+    assert_eq!(rt; may_answer(b"GIF", rows::PDF), Some(false));
+    assert_eq!(rt; may_answer(b"\xCA\xFE\xBA\xBE\0\0\0", rows::PDF), None);
 }
 
 #[test]
