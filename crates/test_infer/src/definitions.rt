@@ -1,12 +1,16 @@
 //! Properties of a buffer that the page of definitions shows and no call tells by itself, as functions that tell them.
-ghost use Rattle.std.specs.Prelude.{◌≡◌, ◌↔◌, ◌-◌, ◌++◌, IsTrue, None, Some, codes, length};
+ghost use Rattle.std.specs.Prelude.{◌≡◌, ◌↔◌, ◌≤◌, ◌-◌, ◌++◌, IsTrue, None, Some, codes, length};
 ghost use Rattle.std.specs.List.{HoldsAt};
 ghost use Rattle.infer.specs.Brands.{HasMajor, IsBoxed};
+ghost use Rattle.infer.specs.Buffer.{head};
+ghost use Rattle.infer.specs.BuiltIn.{IsAccepted, fixed};
 ghost use Rattle.infer.specs.Decided.{IsChangeable, MayAccept};
 ghost use Rattle.infer.specs.Find.{OccursAt};
 ghost use Rattle.infer.specs.First.{IsAnswer, IsFirst, IsFirstOf};
 ghost use Rattle.infer.specs.Frames.{IsFrame};
+ghost use Rattle.infer.specs.Image.{png};
 ghost use Rattle.infer.specs.MarkupText.{IsMark, IsSpace};
+ghost use Rattle.infer.specs.Numbers.{be32, le16, le32};
 ghost use Rattle.infer.specs.Office.{HasFolder};
 ghost use Rattle.infer.specs.Questions.{HasExtension, SomeBoth};
 ghost use Rattle.infer.specs.Row.{Accepts};
@@ -19,16 +23,19 @@ ghost use Rattle.infer_inside.specs.Text.{IsEncodingOf};
 ghost use Rattle.infer_more.specs.Added.{IsAnswerWith};
 ghost use Rattle.infer_more.specs.Samples.{HasAnswer};
 ghost use Rattle.infer_more.specs.Wider.{AcceptsAt, IsWider, IsWiderAnswer, ShowsExtension, ShowsMimeType};
+ghost use Rattle.infer_sniff.specs.Cases.{Holds};
 ghost use Rattle.infer_sniff.specs.Verdicts.{IsSettled, IsTypeOf, IsVerdict};
+ghost use Rattle.infer_sniff.specs.declared.case.Case.TheVariants.{Space};
 ghost use Rattle.infer_sniff.specs.declared.verdict.Verdict.TheVariants.{SoFar};
 ghost use Rattle.infer_uses.specs.Choices.{IsAgreed, IsChoice};
 ghost use Rattle.infer_uses.specs.Labels.{IsLabel};
 ghost use Rattle.infer_uses.specs.declared.name.Choice.TheVariants.{NameAlone};
 
 use infer::beginnings::{begins_frame, begins_white};
+use infer::image::is_png;
 use infer::rows::{EXE, PNG, ROW_COUNT, WASM};
 use infer::{Ask, Asker, Infer, get, is, is_decided, may_become, position, sample};
-use infer_deep::numbers::{be32, le32};
+use infer_deep::numbers::{be32, le16, le32};
 use infer_deep::places::stands_at;
 use infer_sniff::position_settled;
 use std::alloc::Allocator;
@@ -37,6 +44,42 @@ pub fn has_ftyp_at_4(buf: &[u8]) -> bool
     ensures { IsTrue result ↔ OccursAt buf.now (codes "ftyp") 4 }
 {
     stands_at(buf, b"ftyp", 4)
+}
+
+pub fn has_head_mz(buf: &[u8]) -> bool
+    ensures { IsTrue result ↔ (head 2 buf.now ≡ codes "MZ") }
+{
+    are_equal(&buf[..buf.len().min(2)], b"MZ")
+}
+
+pub fn is_one_by_be32(buf: &[u8]) -> bool
+    ensures { IsTrue result ↔ ((4 ≤ length buf.now) × (be32 buf.now 0 ≡ 1)) }
+{
+    buf.len() >= 4 && be32(buf, 0) == 1
+}
+
+pub fn is_one_by_le32(buf: &[u8]) -> bool
+    ensures { IsTrue result ↔ ((4 ≤ length buf.now) × (le32 buf.now 0 ≡ 1)) }
+{
+    buf.len() >= 4 && le32(buf, 0) == 1
+}
+
+pub fn is_one_by_le16(buf: &[u8]) -> bool
+    ensures { IsTrue result ↔ ((2 ≤ length buf.now) × (le16 buf.now 0 ≡ 1)) }
+{
+    buf.len() >= 2 && le16(buf, 0) == 1
+}
+
+pub fn is_accepted_by_png(buf: &[u8]) -> bool
+    ensures { IsTrue result ↔ IsAccepted (fixed png) buf.now }
+{
+    is_png(buf)
+}
+
+pub fn is_held_by_space(buf: &[u8]) -> bool
+    ensures { IsTrue result ↔ Holds Space buf.now }
+{
+    begins_white(buf)
 }
 
 pub fn is_accepted_by_exe(buf: &[u8]) -> bool

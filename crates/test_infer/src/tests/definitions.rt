@@ -3,10 +3,11 @@
 
 use crate::added::begins_10_11_12;
 use crate::definitions::{
-    has_folder_at_30, has_ftyp_at_4, has_major_heic, has_no_answer_with, has_no_encoding,
-    has_no_row, has_no_wider_answer, is_accepted_by_exe, is_accepted_by_object, is_boxed,
-    is_changeable, is_exe_by_extension, is_first_exe, is_frame, is_labelled_png, is_mark,
-    is_object, is_sample_of_png, is_settled, is_space, is_unknown_so_far, may_become_wasm,
+    has_folder_at_30, has_ftyp_at_4, has_head_mz, has_major_heic, has_no_answer_with,
+    has_no_encoding, has_no_row, has_no_wider_answer, is_accepted_by_exe, is_accepted_by_object,
+    is_accepted_by_png, is_boxed, is_changeable, is_exe_by_extension, is_first_exe, is_frame,
+    is_held_by_space, is_labelled_png, is_mark, is_object, is_one_by_be32, is_one_by_le16,
+    is_one_by_le32, is_sample_of_png, is_settled, is_space, is_unknown_so_far, may_become_wasm,
     shows_extension, shows_mime_type,
 };
 use crate::growing::{
@@ -23,7 +24,7 @@ use infer::rows::{DOC, DOCX, MKV, PPT, PPTX, WEBM, XLS, XLSX};
 use infer::text::{is_html, is_xml, may_become_html};
 use infer::texts::{is_mime_supported, is_supported};
 use infer::video::{is_mkv, is_webm};
-use infer::{Infer, is_decided};
+use infer::{Infer, is_decided, is_image};
 use infer_deep::doc::has_office_name;
 use infer_more::is_text;
 use infer_uses::gate::admits;
@@ -57,8 +58,13 @@ fn sample_and_less(row: usize, call: fn(&[u8]) -> bool) -> (bool, bool) {
 fn signatures(rt: HostRuntime) {
     let told = told! {
         "OccursAt" has_ftyp_at_4, b"\0\0\0\0ftyp", b"ftyp";
+        "head 2 buf.now" has_head_mz, b"MZP", b"M";
         "accepts png" is_png, b"\x89PNG", b"\x89PN";
         "may_accept png" may_become_png, b"\x89PN", b"PN";
+        "IsAccepted (fixed png)" is_accepted_by_png, b"\x89PNG", b"\x89PN";
+        "le16 buf.now 0" is_one_by_le16, b"\x01\0", b"\0\x01";
+        "le32 buf.now 0" is_one_by_le32, b"\x01\0\0\0", b"\0\0\0\x01";
+        "be32 buf.now 0" is_one_by_be32, b"\0\0\0\x01", b"\x01\0\0\0";
         "IsPdf" is_pdf, b"\n%PDF", b"%PD";
         "IsZst" is_zst, b"P*M\x18\0\0\0\0(\xB5/\xFD", b"P*M\x18\0\0\0\0";
         "IsLz4" is_lz4, b"\x04\"M\x18", b"P*M\x18\0\0\0\0(\xB5/\xFD";
@@ -102,6 +108,7 @@ fn answers(rt: HostRuntime) {
         "IsFirst (Accepts buf.now) table EXE" is_first_exe, b"MZ", b"M";
         "IsFirstOf (Accepts buf.now) table None" has_no_row, b"M", b"MZ";
         "IsAnswer (Accepts buf.now) table None" has_no_row, b"M", b"MZ";
+        "SomeBoth (HasClass MatcherType.Image)" is_image, b"GIF", b"MZ";
         "SomeBoth" is_exe_by_extension, b"MZ", b"M";
         "SomeHas (HasExtension extension.now) table" is_supported, b"exe", b"EXE";
         "SomeHas (HasMimeType mime_type.now) table" is_mime_supported, b"image/png", b"image/PNG";
@@ -109,6 +116,7 @@ fn answers(rt: HostRuntime) {
         "MayAnswer buf.now WASM" may_answer_first, b"\0as", b"as";
         "IsChangeable" is_changeable, b"M", b"MZ";
         "IsDecided" is_decided, b"MZ", b"M";
+        "Holds Space" is_held_by_space, b" ", b"x";
         "IsSettled" is_settled, &[0; 1024], &[0; 1023];
         "IsTypeOf buf.now None" has_no_row, b"M", b"MZ";
         "IsVerdict buf.now (SoFar None)" is_unknown_so_far, b"M", b"MZ";
