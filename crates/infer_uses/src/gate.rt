@@ -50,7 +50,7 @@ pub fn may_answer(front: &[u8], row: usize) -> Option<bool>
     }
 }
 
-/// The same of a row before the answer so far, or of any if there is none.
+/// What [`may_answer`] tells of a row before the answer so far, or of any row if there is none.
 fn may_answer_before(front: &[u8], row: usize) -> Option<bool>
     ensures told { IfSome result (λ yes. IsTrue yes ↔ MayAnswer front.now row) }
     ensures after { result ≡ None → RowHas (MayAccept front.now) row × ((i : ℕ) × (i < row) × RowHas (MayAccept front.now) i) }
