@@ -44,7 +44,7 @@ extern "C" {
 #define INFER_VERSION_MINOR 1
 #define INFER_VERSION_PATCH 0
 
-/* The class of a row. These numbers stay. INFER_CUSTOM is the class of no row here. */
+/* The class of a row. These numbers stay. No row has the class INFER_CUSTOM. */
 enum infer_class_code {
     INFER_NO_ROW = -1,
     INFER_APP = 0,
@@ -123,9 +123,9 @@ void infer_find_mime_type(int32_t row, struct infer_text *out);
 void infer_find_extension(int32_t row, struct infer_text *out);
 void infer_find_class_name(int32_t class_code, struct infer_text *out);
 
-/* The length of a short buffer of which the row is the answer, or a further row the wider answer, and 0 if it is never
- * that or there is no such row. The buffer is written to `out`, with no zero after it, if `size` bytes are room for all
- * of it, and otherwise nothing is written. INFER_SAMPLE_SIZE bytes are always enough, and with `size` 0 `out` may be
+/* The length of the row's sample, a short buffer whose answer is this row, or whose wider answer is if it is a further
+ * one. It is 0 if the row has none or there is no such row. The sample is written to `out`, with no zero after it, if
+ * `size` bytes are room for all of it, and otherwise nothing is written. INFER_SAMPLE_SIZE bytes are always enough, and with `size` 0 `out` may be
  * null. */
 #define INFER_SAMPLE_SIZE 1088
 size_t infer_sample(int32_t row, void *out, size_t size);
