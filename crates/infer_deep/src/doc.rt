@@ -112,7 +112,10 @@ fn may_have_root(buf: &[u8], format: &[u8; 6], sector_size: usize, id: &[u8; 16]
         && agrees_at(buf, id, root + 80)
 }
 
-fn has_class_id(buf: &[u8], id: &[u8; 16]) -> bool
+/// A compound file of MS-CFB whose root entry has this class id.
+///
+/// Only its header and the 128 bytes of its root entry are looked at.
+pub fn has_class_id(buf: &[u8], id: &[u8; 16]) -> bool
     ensures { IsTrue result ↔ HasClassId id.now buf.now }
 {
     match root_entry(buf) {

@@ -1,7 +1,6 @@
 //! Relations that look inside containers, documents and texts.
 #![tactic(auto)]
 
-pub mod compound;
 pub mod dbase;
 pub mod elf;
 mod numbers;
