@@ -13,6 +13,15 @@ static int64_t verdict(const uint8_t *buf, size_t len) {
 	int32_t row = infer_verdict(buf, len, &is_final);
 	return (int64_t)row * 2 + is_final;
 }
+struct name {
+	char text[INFER_TEXT_SIZE];
+	size_t size;
+};
+static struct name encoding(const uint8_t *buf, size_t len) {
+	struct name found;
+	found.size = infer_encoding(buf, len, found.text, sizeof found.text);
+	return found;
+}
 static bool is(const uint8_t *buf, size_t len, _GoString_ text) { return infer_is(buf, len, _GoStringPtr(text), _GoStringLen(text)); }
 static bool is_mime(const uint8_t *buf, size_t len, _GoString_ text) { return infer_is_mime(buf, len, _GoStringPtr(text), _GoStringLen(text)); }
 static bool is_supported(_GoString_ text) { return infer_is_supported(_GoStringPtr(text), _GoStringLen(text)); }
@@ -110,6 +119,27 @@ func Detect(b []byte) (Type, bool) {
 // accepts the bytes, and that answer if there is none.
 func DetectMore(b []byte) (Type, bool) {
 	return typeOf(int(C.more_position(first(b), C.size_t(len(b)))))
+}
+
+// The names that Encoding gives. Those that are listed cost it no allocation.
+const (
+	ASCII   = "us-ascii"
+	UTF8    = "utf-8"
+	UTF16LE = "utf-16le"
+	UTF16BE = "utf-16be"
+)
+
+// Encoding tells how a text is encoded, by its IANA name, and false if the bytes are no text or of another encoding. A
+// character that is cut at the end makes no difference.
+func Encoding(b []byte) (name string, ok bool) {
+	found := C.encoding(first(b), C.size_t(len(b)))
+	told := unsafe.Slice((*byte)(unsafe.Pointer(&found.text[0])), int(found.size))
+	for _, known := range [...]string{ASCII, UTF8, UTF16LE, UTF16BE} {
+		if string(told) == known {
+			return known, true
+		}
+	}
+	return string(told), len(told) > 0
 }
 
 // Verdict tells what Detect does, and whether it is final: no bytes that may follow can change it then.

@@ -6,6 +6,7 @@ import (
 	"encoding/hex"
 	"errors"
 	"io"
+	"math/rand"
 	"os"
 	"path/filepath"
 	"runtime/debug"
@@ -14,6 +15,7 @@ import (
 	"sync"
 	"testing"
 	"testing/iotest"
+	"unicode/utf8"
 )
 
 var (
@@ -75,6 +77,41 @@ func TestWiderAnswers(t *testing.T) {
 			}
 		} else if other, known := Detect(data); got != other || ok != known {
 			t.Error(line[0], got, other)
+		}
+	}
+}
+
+func TestEncodings(t *testing.T) {
+	for _, it := range []struct{ data, want string }{
+		{"plain\ttext\r\n\x1B[0m", ASCII}, {"caf\xC3\xA9", UTF8}, {"caf\xC3", UTF8}, {"\xEF\xBB\xBF", UTF8}, {"\xF0\x9F\x93", UTF8},
+		{"\xFF\xFEa\x00", UTF16LE}, {"\xFE\xFF\x00a", UTF16BE}, {"\xFF\xFE", UTF16LE},
+		{"", ""}, {"caf\xE9 ", ""}, {"a\x00b", ""}, {"\xED\xA0\x80", ""}, {"\xC0\x80", ""}, {"\xF4\x90\x80\x80", ""}, {"\xEF\xBB\xBF\xFF", ""},
+	} {
+		if got, ok := Encoding([]byte(it.data)); got != it.want || ok != (it.want != "") {
+			t.Errorf("%q: %q %v", it.data, got, ok)
+		}
+	}
+	// What Go itself takes for UTF-8 is, if no byte of it is one that text has not.
+	chance := rand.New(rand.NewSource(1))
+	for round := 0; round < 100_000; round++ {
+		var data []byte
+		for count := chance.Intn(12); count > 0; count-- {
+			data = utf8.AppendRune(data, []rune{'a', 0x7F, 0x80, 0x7FF, 0x800, 0xD7FF, 0xE000, 0xFFFF, 0x10000, 0x10FFFF}[chance.Intn(10)])
+		}
+		if len(data) > 0 && chance.Intn(2) == 0 {
+			data[chance.Intn(len(data))] = 0x80 | byte(chance.Intn(0x80))
+		}
+		// A space ends what is cut, and no mark of UTF-16 can stand first.
+		data = append(append([]byte{' '}, data...), ' ')
+		want := ""
+		if utf8.Valid(data) {
+			want = UTF8
+		}
+		if len([]rune(string(data))) == len(data) && utf8.Valid(data) {
+			want = ASCII
+		}
+		if got, _ := Encoding(data); got != want {
+			t.Fatalf("%q: %q", data, got)
 		}
 	}
 }
@@ -244,13 +281,15 @@ func TestWholeReaders(t *testing.T) {
 // What the page says of allocations.
 func TestAllocations(t *testing.T) {
 	defer debug.SetGCPercent(debug.SetGCPercent(-1))
-	extension, reader := strings.Clone("jpg"), bytes.NewReader(jpeg)
+	extension, reader, text := strings.Clone("jpg"), bytes.NewReader(jpeg), []byte("plain text")
 	large := bufio.NewReaderSize(reader, Front)
 	calls := map[string]struct {
 		count float64
 		call  func()
 	}{
 		"Detect":              {0, func() { Detect(jpeg) }},
+		"DetectMore":          {0, func() { DetectMore(jpeg) }},
+		"Encoding":            {0, func() { Encoding(text) }},
 		"Verdict":             {0, func() { Verdict(jpeg) }},
 		"Is":                  {0, func() { Is(jpeg, extension) }},
 		"IsMIMEType":          {0, func() { IsMIMEType(jpeg, extension) }},

@@ -21,6 +21,7 @@ mod c {
         pub fn infer_mime_type(row: i32, out: *mut c_char, size: usize) -> usize;
         pub fn infer_extension(row: i32, out: *mut c_char, size: usize) -> usize;
         pub fn infer_class(row: i32) -> i32;
+        pub fn infer_encoding(buf: *const c_void, len: usize, out: *mut c_char, size: usize) -> usize;
         pub fn infer_is(buf: *const c_void, len: usize, extension: *const c_char, extension_len: usize) -> bool;
         pub fn infer_is_mime(buf: *const c_void, len: usize, mime_type: *const c_char, mime_type_len: usize) -> bool;
         pub fn infer_is_supported(extension: *const c_char, extension_len: usize) -> bool;
@@ -72,6 +73,16 @@ pub fn position(buf: &[u8]) -> Option<usize> {
 pub fn more_position(buf: &[u8]) -> Option<usize> {
     // SAFETY: as above.
     usize::try_from(unsafe { c::infer_more_position(buf.as_ptr().cast(), buf.len()) }).ok()
+}
+
+/// Room for each text of the library, `INFER_TEXT_SIZE` of `infer.h`.
+pub const TEXT_SIZE: usize = 74;
+
+/// The name of the encoding, or nothing. It is written to `out`.
+pub fn encoding<'out>(buf: &[u8], out: &'out mut [u8; TEXT_SIZE]) -> &'out [u8] {
+    // SAFETY: as above, and `out` has room for as many bytes as it says.
+    let size = unsafe { c::infer_encoding(buf.as_ptr().cast(), buf.len(), out.as_mut_ptr().cast(), out.len()) };
+    &out[..size]
 }
 
 pub fn is(buf: &[u8], extension: &str) -> bool {

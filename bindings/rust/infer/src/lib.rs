@@ -8,6 +8,7 @@ extern crate alloc;
 use alloc::vec::Vec;
 
 pub mod aliases;
+mod encoding;
 mod ffi;
 mod file_type;
 mod matchers;
@@ -15,6 +16,7 @@ pub mod more;
 #[cfg(feature = "std")]
 mod path;
 
+pub use encoding::{encoding, Encoding};
 pub use file_type::{Matcher, MatcherType, Type};
 pub use matchers::{app, archive, audio, book, doc, font, image, odf, text, video};
 #[cfg(feature = "std")]

@@ -69,6 +69,54 @@ fn a_type_shows_its_values() {
 }
 
 #[test]
+fn encodings_are_told_of_texts() {
+    use infer::Encoding::{self, UsAscii, Utf16Be, Utf16Le, Utf8};
+    let told: [(&[u8], Option<Encoding>); 14] = [
+        (b"plain\ttext\r\n\x1B[0m", Some(UsAscii)),
+        ("café".as_bytes(), Some(Utf8)),
+        (b"caf\xC3", Some(Utf8)),
+        (b"\xF0\x9F\x93", Some(Utf8)),
+        (b"\xEF\xBB\xBF", Some(Utf8)),
+        (b"\xFF\xFEa\0", Some(Utf16Le)),
+        (b"\xFE\xFF\0a", Some(Utf16Be)),
+        (b"", None),
+        (b"a\0b", None),
+        (b"caf\xE9 ", None),
+        (b"\xC0\x80", None),
+        (b"\xED\xA0\x80", None),
+        (b"\xF4\x90\x80\x80", None),
+        (b"\xEF\xBB\xBF\xFF", None),
+    ];
+    for (buf, wanted) in told {
+        assert_eq!(infer::encoding(buf), wanted, "{buf:?}");
+    }
+    let names = [UsAscii, Utf8, Utf16Le, Utf16Be].map(|it| (it.name(), format!("{it:>9}")));
+    assert_eq!(names, ["us-ascii", "utf-8", "utf-16le", "utf-16be"].map(|name| (name, format!("{name:>9}"))));
+}
+
+/// What the standard library takes for UTF-8 is, if no byte of it is one that text has not.
+#[test]
+fn encodings_are_those_of_the_standard_decoder() {
+    let mut state = 1_u64;
+    let mut below = move |limit: usize| {
+        state = state.wrapping_mul(6_364_136_223_846_793_005).wrapping_add(1);
+        (state >> 33) as usize % limit
+    };
+    for _ in 0..100_000 {
+        let count = below(12);
+        let text: String = (0..count).map(|_| ['a', '\x7F', '\u{80}', '\u{7FF}', '\u{800}', '\u{FFFF}', '\u{10FFFF}'][below(7)]).collect();
+        // A space ends what is cut, and no mark of UTF-16 can stand first.
+        let mut buf = format!(" {text} ").into_bytes();
+        if below(2) == 0 && buf.len() > 2 {
+            let at = 1 + below(buf.len() - 2);
+            buf[at] = 0x80 | below(0x80) as u8;
+        }
+        let wanted = if buf.is_ascii() { infer::Encoding::UsAscii } else { infer::Encoding::Utf8 };
+        assert_eq!(infer::encoding(&buf), std::str::from_utf8(&buf).is_ok().then_some(wanted), "{buf:?}");
+    }
+}
+
+#[test]
 fn questions_are_exact() {
     assert_eq!(infer::get(b""), None);
     assert!(infer::is(JPEG, "jpg") && !infer::is(JPEG, "JPG") && !infer::is(JPEG, "png") && !infer::is(b"", ""));
