@@ -32,7 +32,8 @@ static const char help[] =
     "\n"
     "  -j          write JSON, an object on each line\n"
     "  -r          walk the folders: no link is followed, only files are opened\n"
-    "  --more      give the wider answer, which knows further types\n"
+    "  --more      give the wider answer, which knows further types, and how a text\n"
+    "              is encoded, before the name\n"
     "  --summary   write a table instead: files and bytes by type\n"
     "  --disagree  write only the files whose name says another type than their\n"
     "              bytes, with the type by the name before the name\n"
@@ -53,7 +54,8 @@ struct name {
 struct finding {
     int32_t row, claimed; /* the answer; the row of the name if that is another type, and otherwise -1 */
     uintmax_t bytes;
-    const char *fault; /* why there is no answer, or a null pointer */
+    char encoding[INFER_TEXT_SIZE]; /* of a text, and otherwise empty */
+    const char *fault;              /* why there is no answer, or a null pointer */
 };
 
 /* The files of a type. */
@@ -162,8 +164,10 @@ static int look_wider(const struct report *report, int fd, struct finding *found
     ssize_t size = read_front(fd, front);
     if (size < 0)
         return -1;
-    if (report->options.is_more)
+    if (report->options.is_more) {
         found->row = infer_more_position(front, (size_t)size);
+        infer_encoding(front, (size_t)size, found->encoding, sizeof found->encoding);
+    }
     if (report->options.is_disagree)
         found->claimed = claimed_row(report, front, (size_t)size, found->bytes);
     return 0;
@@ -268,6 +272,8 @@ static void put_json_line(const struct name *name, const struct finding *found) 
     } else {
         put_json_type(found->row);
     }
+    if (*found->encoding)
+        printf(",\"encoding\":\"%s\"", found->encoding);
     if (found->claimed >= 0)
         printf(",\"name_mime_type\":\"%s\",\"name_extension\":\"%s\"", infer_mime_type_text(found->claimed), infer_extension_text(found->claimed));
     fputs("}\n", stdout);
@@ -281,6 +287,8 @@ static void put_line(const struct report *report, const struct finding *found) {
         printf("%s\t%s\t%s\t", infer_mime_type_text(found->row), infer_extension_text(found->row), class_of(found->row));
     else
         fputs("unknown\t-\t-\t", stdout);
+    if (report->options.is_more)
+        printf("%s\t", *found->encoding ? found->encoding : "-");
     if (report->options.is_disagree && found->claimed >= 0)
         printf("%s\t%s\t", infer_mime_type_text(found->claimed), infer_extension_text(found->claimed));
     else if (report->options.is_disagree)
