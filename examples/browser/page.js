@@ -92,7 +92,7 @@ const judge = async ({ name, open }) => {
     }
     const [type, wider] = [await infer.fileTypeFromBuffer(front), infer.wider(front)];
     const types = [type, wider].filter(Boolean);
-    return { name, type, wider, size, after: decidedAfter(front), agreement: agreement(name, types), shown: front.slice(0, SHOWN_BYTES), places: decidingPlaces(front, wider) };
+    return { name, type, wider, size, encoding: infer.encoding(front), after: decidedAfter(front), agreement: agreement(name, types), shown: front.slice(0, SHOWN_BYTES), places: decidingPlaces(front, wider) };
 };
 
 /** A long MIME type is broken where it has a mark. */
@@ -136,11 +136,11 @@ const rowOf = (result) => {
     name.scope = "row";
     if (result.fault !== undefined) {
         const cell = element("td", "differs", `could not be read: ${result.fault}`);
-        cell.colSpan = 4;
+        cell.colSpan = 5;
         return element("tr", "", name, cell);
     }
     const [className, words] = result.agreement;
-    return element("tr", "", name, typeCell(result), element("td", className, words), element("td", "", afterText(result)), bytesCell(result));
+    return element("tr", "", name, typeCell(result), element("td", "", result.encoding ?? "none"), element("td", className, words), element("td", "", afterText(result)), bytesCell(result));
 };
 
 const results = [];

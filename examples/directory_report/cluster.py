@@ -111,20 +111,20 @@ def read_front(folder: int, path: bytes) -> tuple[bytes, int]:
         return front, about.st_size
 
 
-def disagreement(name: bytes, front: bytes, kind: infer.Type) -> str:
-    """The extension of the type that the name says, if it is another than that of the bytes; otherwise nothing."""
+def disagreement(name: bytes, front: bytes, kind: infer.Type) -> infer.Type | None:
+    """The type that the name says, if it is another than that of the bytes; otherwise None."""
     import infer
     from infer.aliases import BUILT_ON, EXTENSION
     stem, _, last = os.path.basename(name).rpartition(b".")
     word = os.fsdecode(last.lower()) if stem else ""
     if word in ("", kind.extension):
-        return ""
-    claimed = infer.get_type(ext=EXTENSION.get(word, word)) or infer.get_type(ext=BUILT_ON.get(word, word))
+        return None
+    claimed = infer.get_type(ext=EXTENSION.get(word, word), more=True) or infer.get_type(ext=BUILT_ON.get(word, word), more=True)
     if not claimed:
-        return ""
+        return None
     right = {claimed.extension, BUILT_ON.get(word, claimed.extension)}
-    fits = any(it.extension in right or it.mime == claimed.mime for it in (kind, infer.guess(front, more=True)) if it)
-    return "" if fits else claimed.extension
+    fits = any(it.extension in right or it.mime == claimed.mime for it in (kind, infer.guess(front)) if it)
+    return None if fits else claimed
 
 
 def named(name: bytes) -> dict[str, str]:
@@ -143,12 +143,16 @@ def answer(entry: Entry, folder: int, sums: Counter[str]) -> dict[str, str | Non
         front, size = read_front(folder, os.path.basename(entry.below))
     except OSError as fault:
         return named(entry.name()) | {"fault": reason(fault)}
-    kind = infer.guess(front)
+    kind = infer.guess(front, more=True)
+    line = named(entry.name()) | (dict(zip(["mime_type", "extension", "class"], kind)) if kind else {"mime_type": None})
+    if encoding := infer.encoding(front):
+        line["encoding"] = encoding
     key = "\t".join(kind) if kind else "unknown"
     sums.update({f"files\t{key}": 1, f"bytes\t{key}": size})
     if kind and (claimed := disagreement(entry.name(), front, kind)):
-        sums[f"disagree\t{claimed}\t{kind.extension}"] += 1
-    return named(entry.name()) | (dict(zip(["mime_type", "extension", "class"], kind)) if kind else {"mime_type": None})
+        sums[f"disagree\t{claimed.extension}\t{kind.extension}"] += 1
+        line |= {"name_mime_type": claimed.mime, "name_extension": claimed.extension}
+    return line
 
 
 def lines_of(part: list[Entry], sums: Counter[str]) -> Iterator[dict[str, str | None]]:
@@ -265,17 +269,26 @@ def summary(total: Counter[str]) -> dict[str, object]:
 
 
 def draw(told: dict, path: str) -> None:
-    """A picture of the most frequent types, if matplotlib is there."""
+    """A picture of the most frequent types and of what names say, if matplotlib is there."""
     try:
         import matplotlib
     except ImportError:
         return
     matplotlib.use("Agg")
     from matplotlib import pyplot
-    bars = [(it["extension"], it["files"]) for it in told["types"][:15]] + [("unknown", told["unknown"]["files"]), ("faults", told["faults"])]
-    figure, axes = pyplot.subplots(figsize=(6, 4))
-    axes.barh([name for name, _ in bars][::-1], [files for _, files in bars][::-1], color="#36648b")
-    axes.set_xlabel("files")
+    types = [(it["extension"], it) for it in told["types"][:15]] + [("unknown", told["unknown"])]
+    wrong = sorted(((f"{it['name_extension']} is {it['extension']}", it["files"]) for it in told["disagree"]), key=lambda bar: -bar[1])
+    panels = {
+        "files": [(name, it["files"]) for name, it in types] + [("faults", told["faults"])],
+        "bytes": [(name, it["bytes"]) for name, it in types],
+        "files whose name says another type": wrong[:17],
+    }
+    figure, places = pyplot.subplots(1, 3, figsize=(12, 4))
+    for axes, (title, bars) in zip(places, panels.items()):
+        # Two types can have the same extension, so a bar has its place by its number.
+        axes.barh(range(len(bars)), [count for _, count in bars], color="#36648b", tick_label=[name for name, _ in bars])
+        axes.invert_yaxis()
+        axes.set_xlabel(title)
     figure.tight_layout()
     figure.savefig(path, dpi=80)
 

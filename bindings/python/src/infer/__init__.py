@@ -170,9 +170,10 @@ def verdict(obj: Source) -> tuple[Type | None, bool]:
     return _rows[row] if row >= 0 else None, is_final
 
 
-def get_type(mime: str | None = None, ext: str | None = None) -> Type | None:
-    """The first type with this MIME type or this extension, or None."""
-    return next((kind for kind in types if kind.mime == mime or kind.extension == ext), None)
+def get_type(mime: str | None = None, ext: str | None = None, more: bool = False) -> Type | None:
+    """The first type with this MIME type or this extension, or None. With `more` it can be a type beyond `types`."""
+    further = _all_rows[_built_in:] if more else ()
+    return next((kind for kind in (*types, *further) if kind.mime == mime or kind.extension == ext), None)
 
 
 def _encoded(text: str) -> bytes:
