@@ -5,3 +5,5 @@ pub mod TarLemmas
 pub mod TextLemmas
 pub mod ZipLemmas
 pub mod Utf8Lemmas
+pub mod RunLemmas
+pub mod ScriptLemmas

@@ -7,3 +7,5 @@ pub mod Dbase
 pub mod Elf
 pub mod Subtitles
 pub mod Tar
+pub mod Runs
+pub mod Script

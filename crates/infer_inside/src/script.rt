@@ -1,0 +1,172 @@
+//! Scripts, by the program that their first line names.
+ghost use Rattle.std.specs.Prelude.{◌≡◌, ◌↔◌, ◌+◌, ◌<◌, ◌≤◌, ◌⊎◌, ℕ, List, length, slice_index, IsTrue, IfSome, MatchOption};
+ghost use Rattle.infer_inside.specs.Runs.{IsRun};
+ghost use Rattle.infer_inside.specs.Script.{EndsBare, IsBlank, IsEnv, IsLineEnd, IsNameOf, IsNextWord, IsProgram, IsSetting, IsVersionByte, IsWord, IsWordByte, NamesProgram};
+
+use infer_deep::places::stands_at;
+use memchr::{memchr, memrchr};
+
+/// Where a word of the first line begins and ends.
+#[derive(Clone, Copy)]
+struct Word {
+    from: usize,
+    to: usize,
+}
+
+/// The name of the program that runs a script, as "python" of `#!/usr/bin/env -S A=1 python3.11`.
+///
+/// The line behind "#!" ends by 0A or 0D, and spaces and tabs part its words. A word that the buffer ends in does not
+/// count, since it may go on. A word's name is what follows its last "/". Where the name of the first word is "env", the
+/// next word without "=" that does not begin with "-" names the program. Digits and dots at the end of a name are its
+/// version, and left out, so that nothing may be left of it.
+pub fn program(buf: &[u8]) -> Option<&[u8]>
+    ensures found { MatchOption result ((n : List ℕ) → ¬ IsProgram n buf.now) (λ name. IsProgram name.now buf.now) }
+    ensures only { IfSome result (λ name. (n : List ℕ) → IsProgram n buf.now → n ≡ name.now) }
+{
+    if !stands_at(buf, b"#!", 0) {
+        return None;
+    }
+    let word = program_word(buf)?;
+    let at = name_start(buf, word);
+    Some(&buf[at..bare_end(buf, at, word.to)])
+}
+
+/// The word whose name is that of the program.
+fn program_word(buf: &[u8]) -> Option<Word>
+    requires { 2 ≤ length buf.now }
+    ensures { MatchOption result ((p q : ℕ) → ¬ NamesProgram buf.now p q) (λ w. NamesProgram buf.now w.from w.to) }
+{
+    let first = next_word(buf, 2)?;
+    if is_env(buf, first) {
+        return next_program(buf, first.to);
+    }
+    Some(first)
+}
+
+/// The first word from that place on, a place where the line or another word's bytes end, that `env` does not take for
+/// itself.
+fn next_program(buf: &[u8], place: usize) -> Option<Word>
+    requires low { 2 ≤ place }
+    requires line { (k : ℕ) → 2 ≤ k → k < place → ¬ IsLineEnd (slice_index buf.now k) }
+    requires whole { place < length buf.now }
+    requires ends { ¬ IsWordByte (slice_index buf.now place) }
+    ensures { MatchOption result ((p q : ℕ) → place ≤ p → IsWord buf.now p q → IsSetting buf.now p q)
+        (λ w. IsNextWord buf.now (λ p q. ¬ IsSetting buf.now p q) place w.from w.to) }
+{
+    let mut from = place;
+    while let Some(word) = next_word(buf, from) {
+        if !is_setting(buf, word) {
+            return Some(word);
+        }
+        from = word.to;
+    }
+    None
+}
+
+/// The first word from that place on, where the line or a word begins or a word has ended.
+fn next_word(buf: &[u8], place: usize) -> Option<Word>
+    requires low { 2 ≤ place }
+    requires line { (k : ℕ) → 2 ≤ k → k < place → ¬ IsLineEnd (slice_index buf.now k) }
+    requires within { place ≤ length buf.now }
+    requires ends { (place ≡ 2) ⊎ (¬ IsWordByte (slice_index buf.now place)) }
+    ensures { MatchOption result ((p q : ℕ) → place ≤ p → ¬ IsWord buf.now p q)
+        (λ w. IsNextWord buf.now (λ p q. Unit {0}) place w.from w.to) }
+{
+    let from = blanks_end(buf, place);
+    let to = word_end(buf, from)?;
+    if from == to {
+        return None;
+    }
+    Some(Word { from, to })
+}
+
+/// Where the spaces and tabs from that place on end.
+fn blanks_end(buf: &[u8], place: usize) -> usize
+    requires { place ≤ length buf.now }
+    ensures low { place ≤ result }
+    ensures high { result ≤ length buf.now }
+    ensures blanks { (k : ℕ) → place ≤ k → k < result → IsBlank (slice_index buf.now k) }
+    ensures ends { result < length buf.now → ¬ IsBlank (slice_index buf.now result) }
+{
+    for at in place..buf.len() {
+        if !is_blank(buf[at]) {
+            return at;
+        }
+    }
+    buf.len()
+}
+
+/// Where the bytes of a word that stand there end, if the buffer goes on.
+fn word_end(buf: &[u8], from: usize) -> Option<usize>
+    requires { from ≤ length buf.now }
+    ensures { MatchOption result ((k : ℕ) → from ≤ k → k < length buf.now → IsWordByte (slice_index buf.now k))
+        (λ to. IsRun IsWordByte buf.now from to) }
+{
+    for to in from..buf.len() {
+        if !is_word_byte(buf[to]) {
+            return Some(to);
+        }
+    }
+    None
+}
+
+fn is_blank(byte: u8) -> bool
+    ensures { IsTrue result ↔ IsBlank byte }
+{
+    byte == b' ' || byte == b'\t'
+}
+
+fn is_word_byte(byte: u8) -> bool
+    ensures { IsTrue result ↔ IsWordByte byte }
+{
+    !matches!(byte, b' ' | b'\t' | b'\n' | b'\r')
+}
+
+fn is_env(buf: &[u8], word: Word) -> bool
+    requires order { word.from ≤ word.to }
+    requires within { word.to ≤ length buf.now }
+    ensures { IsTrue result ↔ IsEnv buf.now word.from word.to }
+{
+    let at = name_start(buf, word);
+    word.to - at == 3 && stands_at(buf, b"env", at)
+}
+
+/// Whether `env` takes the word for itself, as an option or the value of a variable.
+fn is_setting(buf: &[u8], word: Word) -> bool
+    requires some { word.from < word.to }
+    requires within { word.to ≤ length buf.now }
+    ensures { IsTrue result ↔ IsSetting buf.now word.from word.to }
+{
+    buf[word.from] == b'-' || memchr(b'=', &buf[word.from..word.to]).is_some()
+}
+
+/// Where the name of the word begins: behind its last slash, if it has one.
+fn name_start(buf: &[u8], word: Word) -> usize
+    requires order { word.from ≤ word.to }
+    requires within { word.to ≤ length buf.now }
+    ensures { IsNameOf buf.now word.from word.to result }
+{
+    match memrchr(b'/', &buf[word.from..word.to]) {
+        Some(slash) => word.from + slash + 1,
+        None => word.from,
+    }
+}
+
+/// Where the name ends without the digits and dots at its end.
+fn bare_end(buf: &[u8], at: usize, to: usize) -> usize
+    requires order { at ≤ to }
+    requires within { to ≤ length buf.now }
+    ensures { EndsBare buf.now at to result }
+{
+    let mut end = to;
+    while end > at && is_version_byte(buf[end - 1]) {
+        end -= 1;
+    }
+    end
+}
+
+fn is_version_byte(byte: u8) -> bool
+    ensures { IsTrue result ↔ IsVersionByte byte }
+{
+    byte >= b'0' && byte <= b'9' || byte == b'.'
+}
