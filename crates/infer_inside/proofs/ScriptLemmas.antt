@@ -2,7 +2,7 @@
 use Rattle.std.proofs.Common.{◌≡◌, ℕ, ◌-◌, ◌<◌, ◌≤◌, inl, inr, List, Option, None, Some, length, get_or, sym, subst, MatchOption, arith}
 use Rattle.infer_inside.specs.Script.{EndsBare, IsEnv, IsFirstWord, IsNameOf, IsNextWord, IsProgram, IsSetting, IsWord, IsWordByte, NamesProgram}
 use Rattle.infer_inside.specs.declared.script.Word.{Word}
-use Rattle.infer_inside.proofs.RunLemmas.{one_run_end}
+use Rattle.infer_inside.proofs.RunLemmas.{one_after_last, one_run_end}
 
 -- words that overlap are one
 pub one_word : (b : List ℕ) (from to p q : ℕ) → IsWord b from to → IsWord b p q → from ≤ p → p < to → (p ≡ from) × (q ≡ to)
@@ -80,14 +80,7 @@ one_program_word b from to p q (inr (f, t, first, env, next)) (inr (g, u, is_fir
     let same = one_next_word b (λ i j. Unit {0}) 2 f t g u first is_first in
     one_next_word b (λ i j. ¬ IsSetting b i j) t from to p q next (subst (λ x. IsNextWord b (λ i j. ¬ IsSetting b i j) x p q) same.1 is_next)
 
--- which has one name
-pub one_name : (b : List ℕ) (from to at other : ℕ) → IsNameOf b from to at → IsNameOf b from to other → at ≡ other
-one_name b from to at other n m =
-    let early = λ (lt : at < other). n.last (other - 1) (omega arith) (omega arith) (m.begins (omega arith)) in
-    let late = λ (lt : other < at). m.last (at - 1) (omega arith) (omega arith) (n.begins (omega arith)) in
-    grind arith
-
--- and one end without a version
+-- whose name has one end without a version
 pub one_bare_end : (b : List ℕ) (at to end other : ℕ) → EndsBare b at to end → EndsBare b at to other → end ≡ other
 one_bare_end b at to end other n m =
     let early = λ (lt : end < other). m.kept (omega arith) (n.dropped (other - 1) (omega arith) (omega arith)) in
@@ -98,7 +91,7 @@ pub one_program : (b n m : List ℕ) → IsProgram n b → IsProgram m b → n �
 one_program b n m (begins, (at, end, p, is)) (again, (other, stop, q, same)) =
     let word = one_program_word b p.from p.to q.from q.to p.word q.word in
     let moved = subst (λ x. IsNameOf b x p.to other) word.0 (subst (λ y. IsNameOf b q.from y other) word.1 q.name) in
-    let name = one_name b p.from p.to other at moved p.name in
+    let name = one_after_last 0x2F b p.from p.to other at moved p.name in
     let bare = subst (λ x. EndsBare b x p.to stop) name (subst (λ y. EndsBare b other y stop) word.1 q.bare) in
     let last = one_bare_end b at p.to stop end bare p.bare in
     cc

@@ -2,7 +2,7 @@
 -- is this one, or `env`, which finds the program that a later word names.
 use Rattle.std.specs.Prelude.{◌≡◌, ◌≢◌, ℕ, ◌+◌, ◌-◌, ◌<◌, ◌≤◌, ◌⊎◌, List, codes, slice_index, slice_range}
 use Rattle.memchr.specs.Find.{OccursAt}
-use Rattle.infer_inside.specs.Runs.{IsRun}
+use Rattle.infer_inside.specs.Runs.{IsAfterLast, IsRun}
 
 -- a space or a tab stands between words
 abbrev pub IsBlank : ℕ → Type 0
@@ -32,11 +32,8 @@ pub record IsNextWord (b : List ℕ) (Has : ℕ → ℕ → Type 0) (place from 
   pub before : (p q : ℕ) → place ≤ p → p < from → IsWord b p q → ¬ Has p q
 
 -- its name stands from `at` on, which is what follows its last "/", or all of it
-pub record IsNameOf (b : List ℕ) (from to at : ℕ) : Type 0 where
-  pub low : from ≤ at
-  pub high : at ≤ to
-  pub begins : from < at → slice_index b (at - 1) ≡ 0x2F
-  pub last : (k : ℕ) → at ≤ k → k < to → slice_index b k ≢ 0x2F
+abbrev pub IsNameOf : List ℕ → ℕ → ℕ → ℕ → Type 0
+IsNameOf b from to at = IsAfterLast 0x2F b from to at
 
 -- its name is "env"
 abbrev pub IsEnv : List ℕ → ℕ → ℕ → Type 0

@@ -5,6 +5,7 @@ pub mod dbase;
 pub mod elf;
 mod numbers;
 pub mod png;
+mod runs;
 pub mod script;
 pub mod subtitles;
 pub mod tar;

@@ -3,8 +3,9 @@ ghost use Rattle.std.specs.Prelude.{◌≡◌, ◌↔◌, ◌+◌, ◌<◌, ◌�
 ghost use Rattle.infer_inside.specs.Runs.{IsRun};
 ghost use Rattle.infer_inside.specs.Script.{EndsBare, IsBlank, IsEnv, IsLineEnd, IsNameOf, IsNextWord, IsProgram, IsSetting, IsVersionByte, IsWord, IsWordByte, NamesProgram};
 
+use crate::runs::after_last;
 use infer_deep::places::stands_at;
-use memchr::{memchr, memrchr};
+use memchr::memchr;
 
 /// Where a word of the first line begins and ends.
 #[derive(Clone, Copy)]
@@ -140,16 +141,13 @@ fn is_setting(buf: &[u8], word: Word) -> bool
     buf[word.from] == b'-' || memchr(b'=', &buf[word.from..word.to]).is_some()
 }
 
-/// Where the name of the word begins: behind its last slash, if it has one.
+/// Where the name of the word begins.
 fn name_start(buf: &[u8], word: Word) -> usize
     requires order { word.from ≤ word.to }
     requires within { word.to ≤ length buf.now }
     ensures { IsNameOf buf.now word.from word.to result }
 {
-    match memrchr(b'/', &buf[word.from..word.to]) {
-        Some(slash) => word.from + slash + 1,
-        None => word.from,
-    }
+    after_last(b'/', buf, word.from, word.to)
 }
 
 /// Where the name ends without the digits and dots at its end.
