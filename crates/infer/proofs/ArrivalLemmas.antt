@@ -21,7 +21,7 @@ in_range : (P : ℕ → Type 0) (s n : ℕ) → AllWithin P (range_with_len s n)
 in_range P s n all k low high =
     subst P (get_or-range_with_len s n (k - s) 0 (omega arith) ∙ (omega arith)) (all (k - s) 0 zero-le (omega arith))
 
-module _ (fixed_near : (n : ℕ) (s : List Alternative) → IsTrue (Fixed.is_within n s) → Fixed.IsNear n s) (deep_near : Deep.Near)
+module _ (fixed_near : (n : ℕ) (s : List Alternative) → IsTrue (Fixed.is_within n s) → Fixed.DependsOnFront n s) (deep_near : Deep.Near)
     (arrivals : Deep.Arrivals) (exclude : Deep.Apart) (b more : List ℕ) (long : 1024 ≤ length b) where
   before : (s : BuiltIn) → IsNear s → IsAccepted s (b ++ more) → IsAccepted s b
   before s near h =

@@ -1,4 +1,4 @@
--- For each of the twelve rows, and for each beginning, a buffer that has the row as its first, and whose first 1024 bytes
+-- For each far row, and for each beginning, a buffer that has the row as its first, and whose first 1024 bytes
 -- have another answer.
 use Rattle.std.proofs.Common.{◌≡◌, ◌⊎◌, ◌≢◌, ◌+◌, ◌<◌, ◌∷◌, ◌++◌, le_refl, zero-le, suc, ℕ, not, List, [], Option, None, Some, length, get_or, take, IsTrue, refl, codes, inl, inr, arith}
 use Rattle.std.proofs.lemmas.Option.{none-some, same_Some, slice_get_past}
@@ -12,7 +12,7 @@ use Rattle.infer_sig.specs.Signature.{stands}
 use Rattle.infer.specs.Arrivals.{Beginning, open_box, compound, archive, frame, white, mark, Begins, BeginsAlone, last_after}
 use Rattle.infer.specs.BuiltIn.{BuiltIn, framed, heif, avif, office, doc, xls, ppt, html, xml}
 use Rattle.infer.specs.Laws.{Breaks}
-use Rattle.infer.specs.Matchers.{is_of_the_twelve}
+use Rattle.infer.specs.Matchers.{is_far_row}
 use Rattle.infer.specs.Samples.{put, sample_of, zeros}
 use Rattle.infer.specs.Table.{signature_of, table}
 use Rattle.infer.specs.declared.table.rows.TheConstants.{MSI, PDF, ROW_COUNT, ZIP}
@@ -70,21 +70,21 @@ module _ (by_place : ByPlace) (exclude : Deep.Apart) where
     other ← takes (differs i o)
     proved (record { bytes = λ k d lt. bytes k d zero-le lt; long = long; first = first; front = o; front_first = front_first; other = other })
 
-  -- the row is not one of the twelve, or its late buffer breaks
-  abbrev breaks : (i : ℕ) → Known (IsTrue (not (is_of_the_twelve i)) ⊎ Breaks 1024 i (late (signature_of i)).0)
-  breaks i = either (is (not (is_of_the_twelve i))) (breaks_with 1024 i (late (signature_of i)).1 (late (signature_of i)).0)
+  -- the row is not far, or its late buffer breaks
+  abbrev breaks : (i : ℕ) → Known (IsTrue (not (is_far_row i)) ⊎ Breaks 1024 i (late (signature_of i)).0)
+  breaks i = either (is (not (is_far_row i))) (breaks_with 1024 i (late (signature_of i)).1 (late (signature_of i)).0)
 
   all_break : NoneRefused (λ i. is_proved (breaks i)) ROW_COUNT 0 8
-  unfolding table is_of_the_twelve signature_of stands le16 le32 be32
+  unfolding table is_far_row signature_of stands le16 le32 be32
   all_break = (refl, (refl, (refl, (refl, (refl, (refl, (refl, (refl, tt))))))))
 
-  twelve_within : (i : ℕ) → IsTrue (is_of_the_twelve i) → i < ROW_COUNT
-  unfolding is_of_the_twelve signature_of
-  twelve_within i e = grind (arith, slice_get_past table i, length-table)
+  far_within : (i : ℕ) → IsTrue (is_far_row i) → i < ROW_COUNT
+  unfolding is_far_row signature_of
+  far_within i e = grind (arith, slice_get_past table i, length-table)
 
-  pub broken : (i : ℕ) → IsTrue (is_of_the_twelve i) → (buf : List ℕ) × Breaks 1024 i buf
-  broken i e = elim (proof_of (breaks i) (passed (λ j. is_proved (breaks j)) ROW_COUNT 8 all_break (omega arith) i (twelve_within i e))) [
-    | inl other ↦ absurd (not_both (is_of_the_twelve i) e other)
+  pub broken : (i : ℕ) → IsTrue (is_far_row i) → (buf : List ℕ) × Breaks 1024 i buf
+  broken i e = elim (proof_of (breaks i) (passed (λ j. is_proved (breaks j)) ROW_COUNT 8 all_break (omega arith) i (far_within i e))) [
+    | inl other ↦ absurd (not_both (is_far_row i) e other)
     | inr h ↦ ((late (signature_of i)).0, h)
   ]
 

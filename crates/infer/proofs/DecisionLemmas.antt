@@ -1,9 +1,9 @@
 -- What a computation says of a built-in signature and a buffer.
-use Rattle.std.proofs.Common.{◌≡◌, ◌≤◌, ◌⊎◌, inl, inr, ℕ, suc, ◌+◌, ◌-◌, ◌*◌, ◌/◌, List, [], ◌∷◌, ◌++◌, map, length, get_or, replicate, take, eqb, IsTrue, refl, ap, subst, ◌∙◌, codes, arith, lit≤, append_assoc, Bool}
+use Rattle.std.proofs.Common.{◌≡◌, ◌≤◌, ◌⊎◌, inl, inr, ℕ, suc, ◌+◌, ◌-◌, ◌*◌, ◌/◌, List, [], ◌∷◌, ◌++◌, map, length, get_or, replicate, take, eqb, IsTrue, refl, sym, ap, subst, ◌∙◌, codes, arith, lit≤, append_assoc, Bool}
 use Rattle.std.specs.Char.{to_ascii_lowercase}
 use Rattle.std.specs.List.{list_any, AllByRecursion, concat}
 use Rattle.std.proofs.lemmas.Bool.{eqb-true, eq-eqb, or_left, or_right}
-use Rattle.std.proofs.lemmas.List.{take_at}
+use Rattle.std.proofs.lemmas.List.{append-nil, take_at}
 use Rattle.std.proofs.lemmas.List.Elements.{All-replicate, recursion_from_All}
 use Rattle.std.proofs.lemmas.List.Folds.{list_any-append}
 use Rattle.std.proofs.lemmas.List.Prefix.{front_fits, front_reads}
@@ -17,6 +17,7 @@ use Rattle.infer_deep.specs.Numbers.{le16, le32, be32}
 use Rattle.infer_deep.specs.Office.{zip_header, HasFolder, IsDecidingHeader, IsHeaderFrom, IsThirdHeader, IsOffice}
 use Rattle.infer_deep.specs.Text.{BeginsWithTag, IsHtml, IsMark, IsSpace, IsXml, tags}
 use Rattle.infer_deep.specs.Windows.{StandsBy}
+use Rattle.infer_deep.proofs.PlaceLemmas.{OccursAt-begins, begins-from_OccursAt}
 use Rattle.infer_sig.specs.Signature.{accepts, stands}
 use Rattle.infer.specs.BuiltIn.{BuiltIn, fixed, avif, doc, framed, heif, html, matroska, office, pdf, ppt, xls, xml, IsAccepted}
 use Rattle.infer.proofs.KnownLemmas.{Known, proved, refuted, unknown, is, same, at_most, same_text, refuted_if, both, either, needs, takes, ◌>>=◌, ◌>>◌}
@@ -55,12 +56,13 @@ spaced_html n b e =
 pub spaced_xml : (n : ℕ) (b : List ℕ) → b ≡ behind n space (codes "<?xml") → IsXml b
 spaced_xml n b e =
     let unmarked : SkipsTo IsMark (codes "<?xml") (codes "<?xml") = record { words = []; each = tt; whole = refl } in
-    (codes "<?xml", codes "<?xml", spaced n (codes "<?xml") b e, unmarked, record { word = codes "<?xml"; rest = []; same = refl; whole = refl })
+    (codes "<?xml", spaced n (codes "<?xml") b e, (codes "<?xml", unmarked, record { word = codes "<?xml"; rest = []; same = refl; whole = refl }))
 
 pub marked_xml : (n : ℕ) (b : List ℕ) → b ≡ behind n wide_mark (codes "<?xml") → IsXml b
 marked_xml n b e =
     let unspaced : SkipsTo IsSpace b b = record { words = []; each = tt; whole = refl } in
-    (b, codes "<?xml", unspaced, skips IsMark n wide_mark (codes "<?xml") b (inr (inl refl)) e, record { word = codes "<?xml"; rest = []; same = refl; whole = refl })
+    let marked = skips IsMark n wide_mark (codes "<?xml") b (inr (inl refl)) e in
+    (b, unspaced, (codes "<?xml", marked, record { word = codes "<?xml"; rest = []; same = refl; whole = refl }))
 
 -- a byte that is "<" in some case
 abbrev is_opening : ℕ → Bool
@@ -83,20 +85,24 @@ html_opens b (text, skips, (k, tag, l, e, h)) =
     opens (concat skips.words) h.word (h.end ∷ h.rest) b (cc) (ap (λ u. get_or u 0 0) h.same ∙ first)
 
 pub xml_opens : (b : List ℕ) → IsXml b → IsTrue (list_any is_opening b)
-xml_opens b (marked, text, spaces, marks, h) =
+xml_opens b (marked, spaces, (text, marks, h)) =
     let joined = append_assoc (concat spaces.words) (concat marks.words) (h.word ++ h.rest) in
     opens (concat spaces.words ++ concat marks.words) h.word h.rest b (cc) (ap (λ u. get_or u 0 0) h.same)
 
 -- ---- frames
 
-pub framed_behind : ByPlace → (n : ℕ) (magic b : List ℕ) → b ≡ behind n long_frame (magic ++ []) → IsFramed magic b
+pub stands_whole : (text : List ℕ) → OccursAt text text 0
+stands_whole text = OccursAt-begins text text [] (sym (append-nil text))
+
+pub framed_behind : ByPlace → (n : ℕ) (magic b : List ℕ) → b ≡ behind n long_frame magic → IsFramed magic b
 unfolding le32 stands
 framed_behind by_place n magic b e = (
-  [],
-  skips IsFrame n long_frame (magic ++ []) b (record {
+  magic,
+  skips IsFrame n long_frame magic b (record {
     begins = record { low = lit≤ tt; high = lit≤ tt; mark = Place.found by_place (0x2A ∷ 0x4D ∷ 0x18 ∷ []) long_frame 1 refl };
     sized = refl;
   }) e,
+  stands_whole magic,
 )
 
 le32-front : (b front rest : List ℕ) → b ≡ front ++ rest → 8 ≤ length front → le32 b 4 ≡ le32 front 4
@@ -146,22 +152,29 @@ module _ (by_place : ByPlace) (b : List ℕ) where
   pub root_fits : (id : List ℕ) → HasClassId id b → root + 128 ≤ length b
   root_fits id (place, r, o) = let whole = r.whole in let begins = r.begins in grind arith
 
-  abbrev known_class : (id : List ℕ) → Known (HasClassId id b)
+  -- and if the version says so
+  pub stands_at_root : (id : List ℕ) → le16 b 26 ≡ 3 → HasClassId id b → OccursAt b id (root + 80)
+  stands_at_root id version (place, r, o) = elim r.begins [
+    | inl (v, s, at) ↦ subst (λ p. OccursAt b id (p + 80)) at o
+    | inr (v, s, at) ↦ absurd (omega arith)
+  ]
+
+  abbrev pub known_class : (id : List ℕ) → Known (HasClassId id b)
   known_class id = do
     header ← needs (occurs 0 compound_header) (λ h. h.1.header)
     whole ← needs (at_most (root + 128) (length b)) (root_fits id)
-    order ← takes (occurs 28 (0xFE ∷ 0xFF ∷ []))
     version ← takes (same (le16 b 26) 3)
+    here ← needs (occurs (root + 80) id) (stands_at_root id version)
+    order ← takes (occurs 28 (0xFE ∷ 0xFF ∷ []))
     shift ← takes (same (le16 b 30) 9)
     kind ← takes (same (get_or b (root + 66) 0) 5)
-    here ← takes (occurs (root + 80) id)
     let found : IsRoot b root = record { header = header; byte_order = order; begins = inl (version, shift, refl); whole = whole; kind = kind }
     proved (root, found, here)
 
   abbrev folder_at : (p : ℕ) → Known (HasFolder b p)
   folder_at p = either (occurs p (codes "word/")) (either (occurs p (codes "ppt/")) (occurs p (codes "xl/")))
 
-  abbrev header_from : (s p : ℕ) → Known (IsHeaderFrom b s p)
+  abbrev header_from : (s p : ℕ) → Known (IsHeaderFrom OccursAt b s p)
   header_from s p = do
     stands ← takes (occurs p zip_header)
     low ← takes (at_most s p)
@@ -190,7 +203,7 @@ module _ (by_place : ByPlace) (b : List ℕ) where
     third_found ← takes (header_from (second + 30) third)
     some ← takes (folder_at (third + 30))
     here ← takes (occurs (third + 30) folder)
-    let found : IsThirdHeader b third = record { second = second; start_fits = fits; second_found = second_found; third_found = third_found }
+    let found : IsThirdHeader OccursAt b third = record { second = second; start_fits = fits; second_found = second_found; third_found = third_found }
     let header : IsDecidingHeader b third = record { third = third; third_found = found; decides = inl (some, refl) }
     proved (third + 30, (zip, inr (none, inl name, (third, header, refl))), here)
 
@@ -206,8 +219,8 @@ module _ (by_place : ByPlace) (b : List ℕ) where
     proved (long, begins, there)
   known (framed magic) = do
     begins ← needs (either (same_text (take (length magic) b) magic) (at_most (8 + le32 b 4) (length b)))
-        (λ (rest, s). begins_framed magic b s.words rest s.each s.whole)
-    equal ← takes (same_text b (behind (length b / 1028) long_frame (magic ++ [])))
+        (λ (rest, s, o). begins_framed magic b s.words _ s.each (s.whole ∙ ap (λ u. concat s.words ++ u) (begins-from_OccursAt rest magic o)))
+    equal ← takes (same_text b (behind (length b / 1028) long_frame magic))
     proved (framed_behind by_place (length b / 1028) magic b equal)
   known heif =
       both boxed (either (occurs 8 (codes "heic")) (either (occurs 8 (codes "heix"))

@@ -1,13 +1,12 @@
 -- With each byte that a row allows first begins a buffer that it accepts.
-use Rattle.std.proofs.Common.{◌≡◌, ◌≤◌, ◌<◌, ◌+◌, ◌*◌, ◌⊎◌, inl, inr, ℕ, List, [], ◌∷◌, ◌++◌, length, drop, ltb, IsTrue, Option, None, Some, MatchOption, refl, ap, sym, subst, codes, arith, rules, length-append}
+use Rattle.std.proofs.Common.{◌≡◌, ◌≤◌, ◌<◌, ◌+◌, ◌*◌, ◌⊎◌, inl, inr, ℕ, List, [], ◌∷◌, ◌++◌, length, drop, IsTrue, Option, None, Some, MatchOption, refl, ap, sym, subst, codes, arith, rules, length-append}
 use Rattle.std.specs.Prelude.{All, replicate}
 use Rattle.std.specs.List.{slice_get}
 use Rattle.std.specs.Option.{option_map_or}
-use Rattle.std.proofs.lemmas.Bool.{eqb-true, ltb-true}
+use Rattle.std.proofs.lemmas.Bool.{eqb-true}
 use Rattle.std.proofs.lemmas.Bool.Decides.{nat_tests}
 use Rattle.std.proofs.lemmas.List.{length-replicate}
 use Rattle.std.proofs.lemmas.List.Elements.{All-append, All-replicate}
-use Rattle.std.proofs.lemmas.List.Sums.{AllPass-from_list_all}
 use Rattle.infer_deep.specs.Brands.{IsBoxed}
 use Rattle.infer_deep.specs.Find.{OccursAt}
 use Rattle.infer_deep.specs.Frames.{IsFrame, IsFramed}
@@ -16,6 +15,7 @@ use Rattle.infer_deep.specs.Numbers.{le16, le32, be32}
 use Rattle.infer_deep.specs.Open.{are_bytes}
 use Rattle.infer_deep.specs.Signatures.{Reachable}
 use Rattle.infer_deep.specs.Text.{IsHtml, IsMark, IsSpace, IsWhite, IsXml}
+use Rattle.infer_deep.proofs.OpenLemmas.{bytes_from_test}
 use Rattle.infer_sig.specs.Open.{is_sound}
 use Rattle.infer_sig.specs.Open as Fixed
 use Rattle.infer_sig.specs.Signature.{Alternative, stands}
@@ -27,7 +27,7 @@ use Rattle.infer.specs.Samples.{sample_of}
 use Rattle.infer.specs.Table.{signature_of, table}
 use Rattle.infer.specs.declared.table.rows.TheConstants.{ROW_COUNT}
 use Rattle.infer.proofs.CandidateLemmas.{read_has}
-use Rattle.infer.proofs.DecisionLemmas.{known, spaced_html, spaced_xml}
+use Rattle.infer.proofs.DecisionLemmas.{known, spaced_html, spaced_xml, stands_whole}
 use Rattle.infer.proofs.KnownLemmas.{Known, proved, unknown, is, is_proved, proof_of, proved_if, takes, ◌>>=◌}
 use Rattle.infer.proofs.PlaceLemmas.{ByPlace}
 use Rattle.infer.proofs.PlaceLemmas as Place
@@ -37,14 +37,11 @@ use Rattle.infer.proofs.TestLemmas.{NoneRefused, passed}
 abbrev Begins : BuiltIn → Type 0
 Begins s = (f : ℕ) → f < 256 → IsTrue (allows_first s f) → Reachable (IsAccepted s) (f ∷ [])
 
-bytes_of : (t : List ℕ) → IsTrue (are_bytes t) → All (λ x. x < 256) t
-bytes_of t h = λ k d lt. ltb-true _ 256 (AllPass-from_list_all (λ x. ltb x 256) t h k d lt)
-
 -- where one byte alone is allowed, by a buffer that begins with it
 by_sample : (s : BuiltIn) (first : ℕ) (rest : List ℕ) → IsTrue (are_bytes rest) → IsAccepted s (first ∷ rest)
     → ((f : ℕ) → IsTrue (allows_first s f) → f ≡ first) → Begins s
 by_sample s first rest bytes accepted only f lt h =
-    (rest, bytes_of rest bytes, subst (λ x. IsAccepted s (x ∷ rest)) (sym (only f h)) accepted)
+    (rest, bytes_from_test rest bytes, subst (λ x. IsAccepted s (x ∷ rest)) (sym (only f h)) accepted)
 
 -- ---- a word before a buffer
 
@@ -59,37 +56,37 @@ html_before : (f : ℕ) (b : List ℕ) → IsWhite f → IsHtml b → IsHtml (f 
 html_before f b white (text, skips, tag) = (text, spaced_before f b text white skips, tag)
 
 xml_before : (f : ℕ) (b : List ℕ) → IsWhite f → IsXml b → IsXml (f ∷ b)
-xml_before f b white (marked, text, spaces, marks, h) = (marked, text, spaced_before f b marked white spaces, marks, h)
+xml_before f b white (marked, spaces, text) = (marked, spaced_before f b marked white spaces, text)
 
 marked_before : (mark : List ℕ) → IsMark mark → IsXml (mark ++ codes "<?xml")
 marked_before mark kind =
     let unspaced : SkipsTo IsSpace (mark ++ codes "<?xml") (mark ++ codes "<?xml") = record { words = []; each = tt; whole = refl } in
     let marks : SkipsTo IsMark (mark ++ codes "<?xml") (codes "<?xml") = record { words = mark ∷ []; each = (kind, tt); whole = search rules } in
-    (mark ++ codes "<?xml", codes "<?xml", unspaced, marks, record { word = codes "<?xml"; rest = []; same = refl; whole = refl })
+    (mark ++ codes "<?xml", unspaced, (codes "<?xml", marks, record { word = codes "<?xml"; rest = []; same = refl; whole = refl }))
 
 html_begins : Begins html
 html_begins f lt h =
     let byte : IsWhite f ⊎ (f ≡ 0x3C) = grind (arith, nat_tests) in
     elim byte [
-      | inl white ↦ (codes "<P>", bytes_of (codes "<P>") refl, html_before f (codes "<P>") white (spaced_html 0 (codes "<P>") refl))
-      | inr e ↦ (codes "P>", bytes_of (codes "P>") refl, subst (λ x. IsHtml (x ∷ codes "P>")) (sym e) (spaced_html 0 (codes "<P>") refl))
+      | inl white ↦ (codes "<P>", bytes_from_test (codes "<P>") refl, html_before f (codes "<P>") white (spaced_html 0 (codes "<P>") refl))
+      | inr e ↦ (codes "P>", bytes_from_test (codes "P>") refl, subst (λ x. IsHtml (x ∷ codes "P>")) (sym e) (spaced_html 0 (codes "<P>") refl))
     ]
 
 xml_begins : Begins xml
 xml_begins f lt h =
     let byte : IsWhite f ⊎ (f ≡ 0x3C) ⊎ (f ≡ 0xEF) ⊎ (f ≡ 0xFE) ⊎ (f ≡ 0xFF) = grind (arith, nat_tests) in
     elim byte [
-      | inl white ↦ (codes "<?xml", bytes_of (codes "<?xml") refl, xml_before f (codes "<?xml") white (spaced_xml 0 (codes "<?xml") refl))
-      | inr (inl e) ↦ (codes "?xml", bytes_of (codes "?xml") refl, subst (λ x. IsXml (x ∷ codes "?xml")) (sym e) (spaced_xml 0 (codes "<?xml") refl))
+      | inl white ↦ (codes "<?xml", bytes_from_test (codes "<?xml") refl, xml_before f (codes "<?xml") white (spaced_xml 0 (codes "<?xml") refl))
+      | inr (inl e) ↦ (codes "?xml", bytes_from_test (codes "?xml") refl, subst (λ x. IsXml (x ∷ codes "?xml")) (sym e) (spaced_xml 0 (codes "<?xml") refl))
       | inr (inr (inl e)) ↦
           let rest : List ℕ = 0xBB ∷ 0xBF ∷ codes "<?xml" in
-          (rest, bytes_of rest refl, subst (λ x. IsXml (x ∷ rest)) (sym e) (marked_before (0xEF ∷ 0xBB ∷ 0xBF ∷ []) (inl refl)))
+          (rest, bytes_from_test rest refl, subst (λ x. IsXml (x ∷ rest)) (sym e) (marked_before (0xEF ∷ 0xBB ∷ 0xBF ∷ []) (inl refl)))
       | inr (inr (inr (inl e))) ↦
           let rest : List ℕ = 0xFF ∷ codes "<?xml" in
-          (rest, bytes_of rest refl, subst (λ x. IsXml (x ∷ rest)) (sym e) (marked_before (0xFE ∷ 0xFF ∷ []) (inr (inl refl))))
+          (rest, bytes_from_test rest refl, subst (λ x. IsXml (x ∷ rest)) (sym e) (marked_before (0xFE ∷ 0xFF ∷ []) (inr (inl refl))))
       | inr (inr (inr (inr e))) ↦
           let rest : List ℕ = 0xFE ∷ codes "<?xml" in
-          (rest, bytes_of rest refl, subst (λ x. IsXml (x ∷ rest)) (sym e) (marked_before (0xFF ∷ 0xFE ∷ []) (inr (inr refl))))
+          (rest, bytes_from_test rest refl, subst (λ x. IsXml (x ∷ rest)) (sym e) (marked_before (0xFF ∷ 0xFE ∷ []) (inr (inr refl))))
     ]
 
 module _ (by_place : ByPlace) where
@@ -97,7 +94,7 @@ module _ (by_place : ByPlace) where
   unfolding stands
   pdf_begins f lt h =
       let b : List ℕ = f ∷ codes "%PDF" in
-      (codes "%PDF", bytes_of (codes "%PDF") refl, (1, record { stands = Place.found by_place (codes "%PDF") b 1 refl; low = omega arith; high = omega arith }))
+      (codes "%PDF", bytes_from_test (codes "%PDF") refl, (1, record { stands = Place.found by_place (codes "%PDF") b 1 refl; low = omega arith; high = omega arith }))
 
   framed_begins : (x : ℕ) (magic : List ℕ) → IsTrue (are_bytes magic) → IsTrue (are_bytes (x ∷ magic)) → Begins (framed (x ∷ magic))
   unfolding stands le32
@@ -105,8 +102,8 @@ module _ (by_place : ByPlace) where
       let byte : (f ≡ x) ⊎ ((0x50 ≤ f) × (f ≤ 0x5F)) = grind (arith, nat_tests) in
       elim byte [
         | inl e ↦
-            let skips : SkipsTo IsFrame (x ∷ magic) ((x ∷ magic) ++ []) = record { words = []; each = tt; whole = search rules } in
-            (magic, bytes_of magic bytes, subst (λ y. IsFramed (x ∷ magic) (y ∷ magic)) (sym e) ([], skips))
+            let skips : SkipsTo IsFrame (x ∷ magic) (x ∷ magic) = record { words = []; each = tt; whole = refl } in
+            (magic, bytes_from_test magic bytes, subst (λ y. IsFramed (x ∷ magic) (y ∷ magic)) (sym e) (x ∷ magic, skips, stands_whole (x ∷ magic)))
         | inr range ↦
             let frame : List ℕ = f ∷ 0x2A ∷ 0x4D ∷ 0x18 ∷ 0x00 ∷ 0x00 ∷ 0x00 ∷ 0x00 ∷ [] in
             let is_frame : IsFrame frame = record {
@@ -114,7 +111,7 @@ module _ (by_place : ByPlace) where
               sized = refl;
             } in
             let rest : List ℕ = drop 1 frame ++ (x ∷ magic) in
-            (rest, bytes_of rest all, ([], record { words = frame ∷ []; each = (is_frame, tt); whole = search rules }))
+            (rest, bytes_from_test rest all, (x ∷ magic, record { words = frame ∷ []; each = (is_frame, tt); whole = refl }, stands_whole (x ∷ magic)))
       ]
 
   -- a box whose stated length begins with the byte
@@ -151,7 +148,7 @@ module _ (by_place : ByPlace) where
     unfolding rest_of_box
     box_bytes h =
         All-append (λ x. x < 256) (0x00 ∷ 0x00 ∷ 0x10 ∷ codes "ftyp" ++ brand) (replicate (4 + 16777216 * f) 0x00)
-        (bytes_of (0x00 ∷ 0x00 ∷ 0x10 ∷ codes "ftyp" ++ brand) h) (All-replicate (λ x. x < 256) (4 + 16777216 * f) 0x00 (omega arith))
+        (bytes_from_test (0x00 ∷ 0x00 ∷ 0x10 ∷ codes "ftyp" ++ brand) h) (All-replicate (λ x. x < 256) (4 + 16777216 * f) 0x00 (omega arith))
 
   heif_begins : Begins heif
   unfolding rest_of_box stands

@@ -7,7 +7,7 @@ use Rattle.std.proofs.lemmas.List.Elements.{All-append, All-map}
 use Rattle.infer.specs.BuiltIn.{BuiltIn, IsAccepted}
 use Rattle.infer.specs.Caller.{Contracts}
 use Rattle.infer.specs.First.{IsFirstOf}
-use Rattle.infer.specs.Laws.{AnswersAreLocal, AnyLasts, IsSteady, answers_twelve, FrontDecides, OnlyTheTwelveFollow}
+use Rattle.infer.specs.Laws.{AnswersAreLocal, AnyLasts, IsSteady, answers_far, FrontDecides, OnlyFarRowsFollow}
 use Rattle.infer.specs.Matchers.{signatures, Lasts, IsNear, OthersAreNear}
 use Rattle.infer.specs.Row.{Row, Accepts}
 use Rattle.infer.specs.Rows.{Signature, AnyAccepts, kept_row}
@@ -58,7 +58,7 @@ module _ (growth : All Lasts signatures) (short more : List ℕ) where
   }
 
 module _ (near : OthersAreNear signatures) (buf : List ℕ) (long : 1024 ≤ length buf) where
-  front_answered : (o : Option ℕ) → IsTrue (not (answers_twelve o)) → IsFirstOf (Accepts buf) table o → Answered (take 1024 buf) o
+  front_answered : (o : Option ℕ) → IsTrue (not (answers_far o)) → IsFirstOf (Accepts buf) table o → Answered (take 1024 buf) o
   front_answered None out none = tt
   front_answered (Some i) out first =
       λ d. (row_signature IsNear i d first.within (near i (omega (arith, first.within, length-table, length-signatures)) out) buf long).0 (first.here d)
@@ -81,24 +81,24 @@ module _ (growth : All Lasts signatures) (near : OthersAreNear signatures) where
       subst (IsAccepted (get_or table i d).signature) (take-append-drop 1024 short)
       (row_lasts growth i d first.within (take 1024 short) (drop 1024 short) cut)
 
-  pub only_the_twelve_follow : OnlyTheTwelveFollow
-  only_the_twelve_follow short more before after long first then = elim (cases_Bool (answers_twelve after)) [
+  pub only_far_rows_follow : OnlyFarRowsFollow
+  only_far_rows_follow short more before after long first then = elim (cases_Bool (answers_far after)) [
     | inl one ↦ inr one
     | inr other ↦
-        let out : IsTrue (not (answers_twelve after)) = rw other refl in
+        let out : IsTrue (not (answers_far after)) = rw other refl in
         let longer : 1024 ≤ length (short ++ more) = omega (arith, length-append short more) in
         let here = lengthened short more after long then (front_answered near (short ++ more) longer after out then) in
         inl (IsFirstOf-same (Accepts short) table after before (shortened growth short more after then here) first)
   ]
 
 pub answers_local : FrontDecides → AnswersAreLocal
-answers_local decides a b o p same first then = elim (cases_Bool (answers_twelve o)) [
+answers_local decides a b o p same first then = elim (cases_Bool (answers_far o)) [
   | inl one ↦ inr (inl one)
-  | inr other ↦ elim (cases_Bool (answers_twelve p)) [
+  | inr other ↦ elim (cases_Bool (answers_far p)) [
     | inl one ↦ inr (inr one)
     | inr neither ↦
-        let out : IsTrue (not (answers_twelve o)) = rw other refl in
-        let beyond : IsTrue (not (answers_twelve p)) = rw neither refl in
+        let out : IsTrue (not (answers_far o)) = rw other refl in
+        let beyond : IsTrue (not (answers_far p)) = rw neither refl in
         let front = subst (λ (l : List ℕ). IsFirstOf (Accepts l) table o) same (decides a o first out) in
         inl (IsFirstOf-same (Accepts (take 1024 b)) table o p front (decides b p then beyond))
   ]

@@ -4,7 +4,7 @@ use Rattle.infer_sig.specs.Signature.{Alternative}
 use Rattle.infer_sig.specs.Laws as Fixed
 use Rattle.infer_deep.specs.Laws as Deep
 use Rattle.infer.specs.BuiltIn.{BuiltIn, fixed, avif, doc, framed, heif, html, matroska, office, pdf, ppt, xls, xml}
-use Rattle.infer.specs.Matchers.{signatures, is_of_the_twelve, Lasts, IsNear, OthersAreNear}
+use Rattle.infer.specs.Matchers.{signatures, is_far_row, Lasts, IsNear, OthersAreNear}
 use Rattle.infer.specs.Table.{signature_of, table}
 use Rattle.infer.proofs.KnownLemmas.{Known, proved, unknown, is, either, is_proved, proof_of, proved_if}
 use Rattle.infer.proofs.TestLemmas.{NoneRefused, passed}
@@ -28,7 +28,7 @@ every_lasts fixed_last deep_last ppt = deep_last.ppt
 every_lasts fixed_last deep_last html = deep_last.html
 every_lasts fixed_last deep_last xml = deep_last.xml
 
-module _ (fixed_near : (n : ℕ) (s : List Alternative) → IsTrue (Fixed.is_within n s) → Fixed.IsNear n s) (deep_near : Deep.Near) where
+module _ (fixed_near : (n : ℕ) (s : List Alternative) → IsTrue (Fixed.is_within n s) → Fixed.DependsOnFront n s) (deep_near : Deep.Near) where
   -- whether the first 1024 bytes decide
   abbrev pub known_near : (s : BuiltIn) → Known (IsNear s)
   known_near (fixed alternatives) = proved_if (Fixed.is_within 1024 alternatives) (λ within buf long.
@@ -37,12 +37,12 @@ module _ (fixed_near : (n : ℕ) (s : List Alternative) → IsTrue (Fixed.is_wit
   known_near (matroska doc_type) = proved (deep_near.matroska doc_type)
   known_near s = unknown
 
-  -- matcher m is one of the twelve, or they do
-  abbrev is_decided : (d : BuiltIn) (m : ℕ) → Known (IsTrue (is_of_the_twelve m) ⊎ IsNear (get_or signatures m d))
-  is_decided d m = either (is (is_of_the_twelve m)) (known_near (get_or signatures m d))
+  -- matcher m is that of a far row, or they do
+  abbrev is_decided : (d : BuiltIn) (m : ℕ) → Known (IsTrue (is_far_row m) ⊎ IsNear (get_or signatures m d))
+  is_decided d m = either (is (is_far_row m)) (known_near (get_or signatures m d))
 
   all_decided : (d : BuiltIn) → NoneRefused (λ m. is_proved (is_decided d m)) MATCHER_COUNT 0 8
-  unfolding signatures table is_of_the_twelve signature_of
+  unfolding signatures table is_far_row signature_of
   all_decided d = (refl, (refl, (refl, (refl, (refl, (refl, (refl, (refl, tt))))))))
 
   pub others_near : OthersAreNear signatures

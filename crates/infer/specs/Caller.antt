@@ -22,5 +22,5 @@ pub record Allows (post : Contract) (b : List ℕ) (answer : Bool) : Type 0 wher
   pub says : post shown answer
 
 -- the contract fixes one answer for each buffer
-abbrev pub IsSettled : Contract → Type 0
-IsSettled post = (b : List ℕ) → IsBuffer b → Allows post b true → Allows post b false → ⊥
+abbrev pub FixesAnswers : Contract → Type 0
+FixesAnswers post = (b : List ℕ) → IsBuffer b → Allows post b true → Allows post b false → ⊥

@@ -3,7 +3,7 @@ use Rattle.std.specs.Prelude.{◌≡◌, ◌≢◌, ◌<◌, ◌≤◌, ◌⊎�
 use Rattle.infer.specs.Buffer.{IsBuffer, head}
 use Rattle.infer.specs.Caller.{Contracts}
 use Rattle.infer.specs.First.{IsAnswer, IsFirst, IsFirstOf}
-use Rattle.infer.specs.Matchers.{is_of_the_twelve}
+use Rattle.infer.specs.Matchers.{is_far_row}
 use Rattle.infer.specs.Questions.{HasExtension, HasMimeType, SomeBoth}
 use Rattle.infer.specs.Reading.{AnswersFront, AnswersSome}
 use Rattle.infer.specs.Row.{Row, Accepts}
@@ -50,29 +50,29 @@ module _ {X : Type 0} {g : Contracts X} where
     pub front : (n : ℕ) (left : Option (List ℕ)) (result : Result (Option FileType) Fault)
         → AnswersFront n AnyAccepts all left result → AnswersFront n Accepts table left result
 
--- the answer is one of the twelve rows
-abbrev pub answers_twelve : Option ℕ → Bool
-answers_twelve None = false
-answers_twelve (Some i) = is_of_the_twelve i
+-- the answer is a far row
+abbrev pub answers_far : Option ℕ → Bool
+answers_far None = false
+answers_far (Some i) = is_far_row i
 
 -- every other answer is that of the first 1024 bytes
 abbrev pub FrontDecides : Type 0
 FrontDecides =
-    (buf : List ℕ) (o : Option ℕ) → IsFirstOf (Accepts buf) table o → IsTrue (not (answers_twelve o))
+    (buf : List ℕ) (o : Option ℕ) → IsFirstOf (Accepts buf) table o → IsTrue (not (answers_far o))
     → IsFirstOf (Accepts (take 1024 buf)) table o
 
--- two buffers with the same first 1024 bytes have the same answer, unless that of one of them is one of the twelve
+-- two buffers with the same first 1024 bytes have the same answer, unless that of one of them is a far row
 abbrev pub AnswersAreLocal : Type 0
 AnswersAreLocal =
     (a b : List ℕ) (o p : Option ℕ) → take 1024 a ≡ take 1024 b → IsFirstOf (Accepts a) table o → IsFirstOf (Accepts b) table p
-    → (o ≡ p) ⊎ IsTrue (answers_twelve o) ⊎ IsTrue (answers_twelve p)
+    → (o ≡ p) ⊎ IsTrue (answers_far o) ⊎ IsTrue (answers_far p)
 
--- after 1024 bytes an answer stays, or gives way to one of the twelve
-abbrev pub OnlyTheTwelveFollow : Type 0
-OnlyTheTwelveFollow =
+-- after 1024 bytes an answer stays, or gives way to a far row
+abbrev pub OnlyFarRowsFollow : Type 0
+OnlyFarRowsFollow =
     (short more : List ℕ) (before after : Option ℕ) → 1024 ≤ length short
     → IsFirstOf (Accepts short) table before → IsFirstOf (Accepts (short ++ more)) table after
-    → (after ≡ before) ⊎ IsTrue (answers_twelve after)
+    → (after ≡ before) ⊎ IsTrue (answers_far after)
 
 -- the buffer has row i as its first, and its first n bytes, which are not all, have another answer
 pub record Breaks (n i : ℕ) (buf : List ℕ) : Type 0 where

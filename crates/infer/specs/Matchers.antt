@@ -1,6 +1,7 @@
 -- The signatures of all matchers, and what holds of a signature as buffers grow.
-use Rattle.std.specs.Prelude.{◌≤◌, ◌<◌, ◌↔◌, ℕ, Bool, true, false, List, [], ◌∷◌, ◌++◌, length, map, not, take, IsTrue}
+use Rattle.std.specs.Prelude.{◌<◌, ℕ, Bool, true, false, List, [], ◌∷◌, ◌++◌, length, map, not, IsTrue}
 use Rattle.std.specs.List.{HoldsAt}
+use Rattle.infer_deep.specs.Signatures as Property
 use Rattle.infer_sig.specs.App.{coff_i386, coff_x64, coff_ia64}
 use Rattle.infer.specs.BuiltIn.{BuiltIn, fixed, matroska, pdf, IsAccepted}
 use Rattle.infer.specs.Table.{signature_of, table}
@@ -10,24 +11,24 @@ unfoldable pub signatures : List BuiltIn
 signatures = map (λ r. r.signature) table ++ fixed coff_i386 ∷ fixed coff_x64 ∷ fixed coff_ia64 ∷ []
 
 -- more than the first 1024 bytes can decide about it: it is neither a fixed signature nor a window
-abbrev pub is_deep : BuiltIn → Bool
-is_deep (fixed alternatives) = false
-is_deep pdf = false
-is_deep (matroska doc_type) = false
-is_deep _ = true
+abbrev pub is_far : BuiltIn → Bool
+is_far (fixed alternatives) = false
+is_far pdf = false
+is_far (matroska doc_type) = false
+is_far _ = true
 
--- row m is one of those, which are twelve
-unfoldable pub is_of_the_twelve : ℕ → Bool
-is_of_the_twelve m = is_deep (signature_of m)
+-- so the row with the number m is
+unfoldable pub is_far_row : ℕ → Bool
+is_far_row m = is_far (signature_of m)
 
 -- what the signature accepts, it accepts in everything that grows it
 abbrev pub Lasts : BuiltIn → Type 0
-Lasts s = (short more : List ℕ) → IsAccepted s short → IsAccepted s (short ++ more)
+Lasts s = Property.Lasts (IsAccepted s)
 
 -- on every buffer of at least 1024 bytes it answers as on the first 1024
 abbrev pub IsNear : BuiltIn → Type 0
-IsNear s = (buf : List ℕ) → 1024 ≤ length buf → IsAccepted s buf ↔ IsAccepted s (take 1024 buf)
+IsNear s = Property.IsNear (IsAccepted s)
 
--- every matcher outside the twelve does
+-- every matcher that is not of a far row does
 abbrev pub OthersAreNear : List BuiltIn → Type 0
-OthersAreNear ss = (m : ℕ) → m < length ss → IsTrue (not (is_of_the_twelve m)) → HoldsAt IsNear ss m
+OthersAreNear ss = (m : ℕ) → m < length ss → IsTrue (not (is_far_row m)) → HoldsAt IsNear ss m

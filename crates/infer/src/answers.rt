@@ -108,10 +108,12 @@ pub fn some_listed<Q: Listed>(question: Q, buf: &[u8]) -> bool
 /// Whether one of these rows is asked for and accepts `buf`. A function of its own, since most slots have one row.
 #[inline(never)]
 fn some_among<Q: Listed>(rows: &[RowName], question: Q, buf: &[u8]) -> bool
-    ensures { IsTrue result ↔ SomeHas (RowHas (Takes (Q.wanted question) buf.now)) (map number_of rows.now) }
+    ensures { IsTrue result
+        ↔ SomeHas (RowHas (Takes (Q.wanted question) buf.now)) (map number_of rows.now) }
 {
     let takes = |row: &RowName| -> bool
-        ensures { IsTrue result ↔ RowHas (Takes (Q.wanted question) buf.entry.now) (number_of row.now) }
+        ensures { IsTrue result
+            ↔ RowHas (Takes (Q.wanted question) buf.entry.now) (number_of row.now) }
     { takes_named(*row, &question, buf) };
     rows.iter().any(takes)
 }
@@ -139,7 +141,8 @@ pub fn has_listed<Q: Listed>(question: Q) -> bool
 /// Whether one of these rows is asked for. A function of its own, since most slots have one row.
 #[inline(never)]
 fn has_among<Q: Listed>(rows: &[RowName], question: Q) -> bool
-    ensures { IsTrue result ↔ SomeHas (RowHas (IsWanted (Q.wanted question))) (map number_of rows.now) }
+    ensures { IsTrue result
+        ↔ SomeHas (RowHas (IsWanted (Q.wanted question))) (map number_of rows.now) }
 {
     let asks = |row: &RowName| -> bool
         ensures { IsTrue result ↔ RowHas (IsWanted (Q.wanted question)) (number_of row.now) }

@@ -9,8 +9,8 @@ ghost use Rattle.infer.specs.Arrivals.{Beginning, Begins, BeginsAlone, Newcomers
 ghost use Rattle.infer.specs.BuiltIn.{BuiltIn};
 ghost use Rattle.infer.specs.Decided.{AllowsExactly, AnswersAreOpen, DecidedByRows, DecidedLasts, FirstOpenComes, IsToldExactly, ReachNarrows};
 ghost use Rattle.infer.specs.First.{IsFirst, IsFirstOf};
-ghost use Rattle.infer.specs.Laws.{AnswersAreLocal, AnswersAreNamed, AnswersAsBuiltIn, AnyLasts, Breaks, FrontDecides, IsSteady, OnlyTheTwelveFollow, ReadersAreAlike};
-ghost use Rattle.infer.specs.Matchers.{Lasts, OthersAreNear, is_of_the_twelve, signatures};
+ghost use Rattle.infer.specs.Laws.{AnswersAreLocal, AnswersAreNamed, AnswersAsBuiltIn, AnyLasts, Breaks, FrontDecides, IsSteady, OnlyFarRowsFollow, ReadersAreAlike};
+ghost use Rattle.infer.specs.Matchers.{Lasts, OthersAreNear, is_far_row, signatures};
 ghost use Rattle.infer.specs.Row.{Accepts, shows};
 ghost use Rattle.infer.specs.Rows.{custom_rows, rows};
 ghost use Rattle.infer.specs.Samples.{sample_of};
@@ -73,7 +73,7 @@ pub fn growth()
 /// are their numbers.
 pub fn near()
     ensures others { OthersAreNear signatures }
-    ensures twelve { filter is_of_the_twelve (range_with_len 0 ROW_COUNT) ≡ 26 ∷ 27 ∷ 57 ∷ 58 ∷ 59 ∷ 60 ∷ 61 ∷ 62 ∷ 91 ∷ 92 ∷ 95 ∷ 96 ∷ [] }
+    ensures twelve { filter is_far_row (range_with_len 0 ROW_COUNT) ≡ 26 ∷ 27 ∷ 57 ∷ 58 ∷ 59 ∷ 60 ∷ 61 ∷ 62 ∷ 91 ∷ 92 ∷ 95 ∷ 96 ∷ [] }
 {
     infer_sig::laws::near();
     infer_deep::laws::near();
@@ -82,7 +82,8 @@ pub fn near()
 /// The row of dynamic libraries, [`DLL`], and the second row of EPUB, [`EPUB_ARCHIVE`], are first for no buffer: an
 /// earlier row has the same signature.
 pub fn never()
-    ensures { (buf : List ℕ) (i : ℕ) → IsFirst (Accepts buf) table i → (i ≢ DLL) × (i ≢ EPUB_ARCHIVE) }
+    ensures { (buf : List ℕ) (i : ℕ) → IsFirst (Accepts buf) table i → (i ≢ DLL)
+        × (i ≢ EPUB_ARCHIVE) }
 {}
 
 /// What no buffer is at once: a Java class and a Mach-O program, and the types that exclude each other by their
@@ -110,7 +111,8 @@ pub fn arrival()
 
 /// A buffer has one answer: two numbers that are its first row are the same.
 pub fn single()
-    ensures { (buf : List ℕ) (o p : Option ℕ) → IsFirstOf (Accepts buf) table o → IsFirstOf (Accepts buf) table p → o ≡ p }
+    ensures { (buf : List ℕ) (o p : Option ℕ) → IsFirstOf (Accepts buf) table o
+        → IsFirstOf (Accepts buf) table p → o ≡ p }
 {}
 
 /// No bytes after a buffer change its answer exactly if none of the rows before the answer, of all rows if there is
@@ -188,7 +190,7 @@ pub fn index<A: Allocator>(infer: &Infer<A>)
 /// it is that of the first 1024 bytes. And after these an answer stays, or gives way to a far row.
 pub fn front()
     ensures decides { FrontDecides }
-    ensures follow { OnlyTheTwelveFollow }
+    ensures follow { OnlyFarRowsFollow }
 {
     growth();
     near();
@@ -211,7 +213,8 @@ pub fn readers<A: Allocator>(infer: &Infer<A>)
 
 /// Every built-in row but [`DLL`] and [`EPUB_ARCHIVE`] is first for some buffer: for its sample.
 pub fn reach()
-    ensures { (i : ℕ) → i < ROW_COUNT → i ≢ DLL → i ≢ EPUB_ARCHIVE → HoldsAt (λ r. IsFirst (Accepts (sample_of r.signature)) table i) table i }
+    ensures { (i : ℕ) → i < ROW_COUNT → i ≢ DLL → i ≢ EPUB_ARCHIVE
+        → HoldsAt (λ r. IsFirst (Accepts (sample_of r.signature)) table i) table i }
 {
     infer_sig::laws::by_place();
     infer_deep::laws::apart();
@@ -221,9 +224,11 @@ pub fn reach()
 /// beginning, the last row that is awaited after it, of a buffer whose first 1024 bytes begin so alone. And 1023 bytes
 /// that begin in none of these ways can get another answer by one byte more.
 pub fn breaks()
-    ensures rows { (i : ℕ) → IsTrue (is_of_the_twelve i) → (buf : List ℕ) × Breaks 1024 i buf }
-    ensures beginnings { (how : Beginning) → (buf : List ℕ) × Breaks 1024 (last_after how) buf × BeginsAlone how (take 1024 buf) }
-    ensures least { (i : ℕ) × (buf : List ℕ) × (length buf ≡ 1024) × Breaks 1023 i buf × ((how : Beginning) → ¬ Begins how (take 1023 buf)) }
+    ensures rows { (i : ℕ) → IsTrue (is_far_row i) → (buf : List ℕ) × Breaks 1024 i buf }
+    ensures beginnings { (how : Beginning) → (buf : List ℕ) × Breaks 1024 (last_after how) buf
+        × BeginsAlone how (take 1024 buf) }
+    ensures least { (i : ℕ) × (buf : List ℕ) × (length buf ≡ 1024) × Breaks 1023 i buf
+        × ((how : Beginning) → ¬ Begins how (take 1023 buf)) }
 {
     infer_sig::laws::by_place();
     infer_deep::laws::apart();

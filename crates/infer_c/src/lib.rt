@@ -34,7 +34,8 @@ const VERSION: &str = "0.1.0";
 /// The number of the first row that accepts `buf`, or -1.
 #[unsafe(no_mangle)]
 pub extern "C" fn infer_position(buf: &[u8]) -> i32
-    ensures { (first : Option ℕ) × IsFirstOf (Accepts buf.now) table first × (result ≡ row_code first) }
+    ensures { (first : Option ℕ) × IsFirstOf (Accepts buf.now) table first
+        × (result ≡ row_code first) }
 {
     match infer::position(buf) {
         Some(i) => i as i32,
@@ -46,7 +47,8 @@ pub extern "C" fn infer_position(buf: &[u8]) -> i32
 /// change it.
 #[unsafe(no_mangle)]
 pub extern "C" fn infer_verdict(buf: &[u8], is_final: &mut bool) -> i32
-    ensures first { (first : Option ℕ) × IsFirstOf (Accepts buf.now) table first × (result ≡ row_code first)
+    ensures first { (first : Option ℕ) × IsFirstOf (Accepts buf.now) table first
+        × (result ≡ row_code first)
         × (IsTrue is_final.new → RowStaysFinal buf.now first) }
     ensures settled { IsTrue is_final.new ↔ IsSettled buf.now }
 {
@@ -61,7 +63,8 @@ pub extern "C" fn infer_verdict(buf: &[u8], is_final: &mut bool) -> i32
 /// The number of the first row that accepts `buf`, or -1, and how many rows were asked for it.
 #[unsafe(no_mangle)]
 pub extern "C" fn infer_position_counted(buf: &[u8], asked: &mut u32) -> i32
-    ensures first { (first : Option ℕ) × IsFirstOf (Accepts buf.now) table first × (result ≡ row_code first)
+    ensures first { (first : Option ℕ) × IsFirstOf (Accepts buf.now) table first
+        × (result ≡ row_code first)
         × (asked.new ≡ count_asked Every buf.now first) }
     ensures few { asked.new ≤ MOST_CANDIDATES }
 {

@@ -12,7 +12,8 @@ use infer_more::{SAMPLE_SIZE, laws};
 /// The type of the row with this number.
 pub fn of(row: i32) -> Option<Type>
     ensures shows { option_map triple_of result ≡ triple_at row }
-    ensures short { IfSome result (λ t. (length t.mime_type.now ≤ 73) × (length t.extension.now ≤ 73)) }
+    ensures short { IfSome result (λ t. (length t.mime_type.now ≤ 73)
+        × (length t.extension.now ≤ 73)) }
 {
     if row < 0 {
         return None;

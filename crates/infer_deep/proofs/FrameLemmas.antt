@@ -8,8 +8,8 @@ use Rattle.infer_deep.specs.Open.{are_bytes, AgreesAt}
 use Rattle.infer_deep.specs.Signatures.{Lasts, ComesWith, AreApart, IsEarly, Reachable}
 use Rattle.infer_deep.proofs.OpenLemmas.{Reachable-grown, agrees_none, agrees_past, agrees_where_stands, fills_parts, fills_text, grown_agrees, reaches_text}
 use Rattle.std.proofs.lemmas.Bool.Decides.{nat_tests}
-use Rattle.infer_deep.specs.Joined.{Behind, SkipsTo, NoneBegins, BeginsWith}
-use Rattle.infer_deep.proofs.PlaceLemmas.{byte_stands, OccursAt-append, OccursAt-agree, OccursAt-first, OccursAt-front, OccursAt-begins, begins-from_OccursAt}
+use Rattle.infer_deep.specs.Joined.{SkipsTo, NoneBegins, BeginsWith}
+use Rattle.infer_deep.proofs.PlaceLemmas.{byte_stands, OccursAt-append, OccursAt-agree, OccursAt-first, OccursAt-front}
 use Rattle.infer_deep.proofs.NumberLemmas.{le32-append}
 use Rattle.infer_deep.proofs.JoinedLemmas.{IsPrefixFree, Stops, WordsBegin, NoneBegins-first, Behind-lead, Behind-lasts, Behind-comes, Behind-left, Behind-trimmed, Behind-apart, Behind-open}
 use Rattle.infer_deep.specs.Frames.{BeginsFrame, IsFrame, IsFramed}
@@ -96,25 +96,19 @@ IsFrame-begin frame f = (omega arith, (f.begins.low, f.begins.high))
 abbrev Stands : List ℕ → List ℕ → Type 0
 Stands magic b = OccursAt b magic 0
 
-Stands-framed : (magic b : List ℕ) → Behind IsFrame (Stands magic) b ↔ IsFramed magic b
-Stands-framed magic b = (
-  λ (left, s, o). (_, subst (SkipsTo IsFrame b) (begins-from_OccursAt left magic o) s),
-  λ (rest, s). (magic ++ rest, s, OccursAt-begins (magic ++ rest) magic rest refl),
-)
-
 module _ (magic : List ℕ) where
   pub IsFramed-lasts : Lasts (IsFramed magic)
-  IsFramed-lasts = Behind-lasts IsFrame (Stands magic) (IsFramed magic) (Stands-framed magic) (λ u x. OccursAt-append u x magic 0)
+  IsFramed-lasts = Behind-lasts IsFrame (Stands magic) (λ u x. OccursAt-append u x magic 0)
 
   pub IsFramed-comes : length magic ≤ 4 → ComesWith (IsFramed magic) BeginsFrame
-  IsFramed-comes short = Behind-comes IsFrame (Stands magic) (IsFramed magic) (Stands-framed magic) BeginsFrame
+  IsFramed-comes short = Behind-comes IsFrame (Stands magic) BeginsFrame
       (λ u x rest l w. BeginsFrame-early u x l (IsFrame-begins (u ++ x) rest w)) (λ u x l o. inl (OccursAt-front u x magic 0 (omega arith) o))
 
 -- the first byte is the magic's, or a frame's
 pub IsFramed-lead : (x : ℕ) (magic b : List ℕ) → IsFramed (x ∷ magic) b → (get_or b 0 0 ≡ x) ⊎ IsFrameByte (get_or b 0 0)
 IsFramed-lead x magic b h =
     let stands = x ∷ magic in
-    let lead = Behind-lead IsFrame (Stands stands) (IsFramed stands) (Stands-framed stands) IsFrameByte (λ y. y ≡ x) IsFrame-begin in
+    let lead = Behind-lead IsFrame (Stands stands) IsFrameByte (λ y. y ≡ x) IsFrame-begin in
     elim (lead (λ u o. OccursAt-first u stands 0 (omega arith) o) b h) [ inl f ↦ inr f | inr e ↦ inl e ]
 
 -- a magic number whose first byte is below 50 begins with no frame
@@ -124,15 +118,15 @@ module _ (magic : List ℕ) (some : 0 < length magic) (low : get_or magic 0 0 < 
       NoneBegins-first IsFrame IsFrameByte IsFrame-begin b (λ f. let first = OccursAt-first b magic 0 some o in omega arith)
 
   pub IsFramed-left : (b left : List ℕ) → SkipsTo IsFrame b left → NoneBegins IsFrame left → Stands magic left ↔ IsFramed magic b
-  IsFramed-left = Behind-left IsFrame (Stands magic) (IsFramed magic) (Stands-framed magic) IsFrame-prefix_free stands_stops
+  IsFramed-left = Behind-left IsFrame (Stands magic) IsFrame-prefix_free stands_stops
 
   pub IsFramed-trimmed : (b left : List ℕ) → SkipsTo IsFrame b left → NoneBegins IsFrame left → IsFramed magic left ↔ IsFramed magic b
-  IsFramed-trimmed = Behind-trimmed IsFrame (Stands magic) (IsFramed magic) (Stands-framed magic) IsFrame-prefix_free stands_stops
+  IsFramed-trimmed = Behind-trimmed IsFrame (Stands magic) IsFrame-prefix_free stands_stops
 
   pub is_framed_open : IsTrue (are_bytes magic) → (b left : List ℕ) → SkipsTo IsFrame b left → NoneBegins IsFrame left
       → (AgreesAt left magic 0 ⊎ Reachable IsFrame left) ↔ Reachable (IsFramed magic) b
   is_framed_open bytes b left skips none =
-      let reached = Behind-open IsFrame (Stands magic) (IsFramed magic) (Stands-framed magic) IsFrame-prefix_free stands_stops
+      let reached = Behind-open IsFrame (Stands magic) IsFrame-prefix_free stands_stops
       ((reaches_text [] magic 0 bytes).0 (record { reads = λ k l m. absurd (omega arith) })) b left skips none in
       let text = reaches_text left magic 0 bytes in (
         λ h. reached.0 (elim h [ inl a ↦ inl (text.0 a) | inr f ↦ inr f ]),
@@ -143,8 +137,8 @@ module _ (magic : List ℕ) (some : 0 < length magic) (low : get_or magic 0 0 < 
 pub IsFramed-apart : (v w : List ℕ)
     → BeginApart v w → get_or v 0 0 < 0x50 → get_or w 0 0 < 0x50 → AreApart (IsFramed v) (IsFramed w)
 IsFramed-apart v w (some_v, some_w, differ) low_v low_w b f =
-    Behind-apart IsFrame (Stands w) (IsFramed w) (Stands-framed w) IsFrame-prefix_free (stands_stops w some_w low_w) (Stands v) (stands_stops v some_v low_v)
-    (λ u o k. differ (OccursAt-agree u v w 0 0 o k some_v some_w)) b ((Stands-framed v b).1 f)
+    Behind-apart IsFrame (Stands w) IsFrame-prefix_free (stands_stops w some_w low_w) (Stands v) (stands_stops v some_v low_v)
+    (λ u o k. differ (OccursAt-agree u v w 0 0 o k some_v some_w)) b f
 
 -- what more bytes can make a frame agrees with its magic number
 abbrev mark : List ℕ

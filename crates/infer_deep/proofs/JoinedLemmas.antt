@@ -112,69 +112,63 @@ module _ (P : List ℕ → Type 0) (Q : ℕ → Type 0) (begin : WordsBegin P Q)
   pub NoneBegins-first : (b : List ℕ) → (¬ Q (get_or b 0 0)) → NoneBegins P b
   NoneBegins-first b not word rest is e = not (begun-first b rest (record { word = word; kind = is; whole = e }))
 
--- what T is of is what S is of after words of the kind P
-module _ (P S T : List ℕ → Type 0) (is : (b : List ℕ) → Behind P S b ↔ T b) where
+-- words of the kind P, and then what has the property S
+module _ (P S : List ℕ → Type 0) where
   -- the first byte is one of the kind Q, or what S wants
   pub Behind-lead : (Q R : ℕ → Type 0) → WordsBegin P Q → ((rest : List ℕ) → S rest → R (get_or rest 0 0))
-      → (b : List ℕ) → T b → Q (get_or b 0 0) ⊎ R (get_or b 0 0)
-  Behind-lead Q R begin first b t =
-      let (rest, s, h) = (is b).1 t in
+      → (b : List ℕ) → Behind P S b → Q (get_or b 0 0) ⊎ R (get_or b 0 0)
+  Behind-lead Q R begin first b (rest, s, h) =
       elim (SkipsTo-begin P b rest s.words s.each s.whole) [
         | inl e ↦ inr (subst (λ u. R (get_or u 0 0)) (sym e) (first rest h))
         | inr (x, w) ↦ inl (begun-first P Q begin b x w)
       ]
 
-  pub Behind-lasts : Lasts S → Lasts T
-  Behind-lasts lasts b more t =
-      let (rest, s, h) = (is b).1 t in
-      (is (b ++ more)).0 (rest ++ more, SkipsTo-append P b rest more s, lasts rest more h)
+  pub Behind-lasts : Lasts S → Lasts (Behind P S)
+  Behind-lasts lasts b more (rest, s, h) = (rest ++ more, SkipsTo-append P b rest more s, lasts rest more h)
 
   -- what more bytes bring, a word in front brings or what brings S
   pub Behind-comes : (U : List ℕ → Type 0) → ((b more rest : List ℕ) → 1024 ≤ length b → BeginsWith P (b ++ more) rest → U b)
-      → ComesWith S U → ComesWith T U
-  Behind-comes U begun comes b more long t =
-      let (rest, s, h) = (is (b ++ more)).1 t in
+      → ComesWith S U → ComesWith (Behind P S) U
+  Behind-comes U begun comes b more long (rest, s, h) =
       elim (SkipsTo-begin P (b ++ more) rest s.words s.each s.whole) [
-        | inl e ↦ elim (comes b more long (subst S (sym e) h)) [ inl k ↦ inl ((is b).0 (b, SkipsTo-none P b, k)) | inr u ↦ inr u ]
+        | inl e ↦ elim (comes b more long (subst S (sym e) h)) [ inl k ↦ inl (b, SkipsTo-none P b, k) | inr u ↦ inr u ]
         | inr (x, w) ↦ inr (begun b more x long w)
       ]
 
-  -- what is left after the words is S exactly if the buffer is T
+  -- what is left after the words has the property exactly if the buffer is so
   module _ (free : IsPrefixFree P) (stops : Stops S P) where
-    pub Behind-left : (b left : List ℕ) → SkipsTo P b left → NoneBegins P left → S left ↔ T b
+    pub Behind-left : (b left : List ℕ) → SkipsTo P b left → NoneBegins P left → S left ↔ Behind P S b
     Behind-left b left skips none = (
-      λ h. (is b).0 (left, skips, h),
-      λ t.
-          let (rest, s, h) = (is b).1 t in
-          subst S (same_rests P free b rest left s (stops rest h) skips none) h,
+      λ h. (left, skips, h),
+      λ (rest, s, h). subst S (same_rests P free b rest left s (stops rest h) skips none) h,
     )
 
-    pub Behind-trimmed : (b left : List ℕ) → SkipsTo P b left → NoneBegins P left → T left ↔ T b
+    pub Behind-trimmed : (b left : List ℕ) → SkipsTo P b left → NoneBegins P left → Behind P S left ↔ Behind P S b
     Behind-trimmed b left skips none =
         let here = Behind-left left left (SkipsTo-none P left) none in
         let there = Behind-left b left skips none in
         (λ t. there.0 (here.1 t), λ t. here.0 (there.1 t))
 
-    -- what excludes S after them excludes T
-    pub Behind-apart : (R : List ℕ → Type 0) → Stops R P → AreApart R S → AreApart (Behind P R) T
+    -- what excludes S after the words excludes such a buffer
+    pub Behind-apart : (R : List ℕ → Type 0) → Stops R P → AreApart R S → AreApart (Behind P R) (Behind P S)
     Behind-apart R stops_r apart b (rest, s, h) t = apart rest h ((Behind-left b rest s (stops_r rest h)).1 t)
 
-    -- what is left can become S or another word just if the buffer can become T, provided that something is S
-    pub Behind-open : Reachable S [] → (b left : List ℕ) → SkipsTo P b left → NoneBegins P left → (Reachable S left ⊎ Reachable P left) ↔ Reachable T b
+    -- what is left can become S or another word just if the buffer can become so, provided that something is S
+    pub Behind-open : Reachable S [] → (b left : List ℕ) → SkipsTo P b left → NoneBegins P left
+        → (Reachable S left ⊎ Reachable P left) ↔ Reachable (Behind P S) b
     Behind-open (some, some_bytes, is_some) b left skips none = (
       λ reach. elim reach [
-        | inl (more, bytes, h) ↦ (more, bytes, (is (b ++ more)).0 (left ++ more, SkipsTo-append P b left more skips, h))
+        | inl (more, bytes, h) ↦ (more, bytes, (left ++ more, SkipsTo-append P b left more skips, h))
         | inr (more, bytes, word) ↦
             let one = SkipsTo-cons P (left ++ (more ++ some)) some some
             (record { word = left ++ more; kind = word; whole = sym (append_assoc left more some) }) (SkipsTo-none P some) in
             let grown = SkipsTo-append P b left (more ++ some) skips in (
               more ++ some,
               All-append (λ x. x < 256) more some bytes some_bytes,
-              (is (b ++ (more ++ some))).0 (some, SkipsTo-join P grown.words _ _ some grown.each grown.whole one, is_some),
+              (some, SkipsTo-join P grown.words _ _ some grown.each grown.whole one, is_some),
             )
       ],
-      λ (more, bytes, t).
-          let (rest, s, h) = (is (b ++ more)).1 t in
+      λ (more, bytes, (rest, s, h)).
           let u = through P free skips.words s.words (left ++ more) rest skips.each s.each (stops rest h)
           (sym (append_assoc (concat skips.words) left more) ∙ ap (λ u. u ++ more) (sym skips.whole) ∙ s.whole) in
           elim (SkipsTo-begin P (left ++ more) rest u.words u.each u.whole) [

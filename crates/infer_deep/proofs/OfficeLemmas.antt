@@ -9,46 +9,47 @@ use Rattle.infer_deep.proofs.NumberLemmas.{le32-append}
 use Rattle.infer_deep.proofs.PlaceLemmas.{Carries, IsUnique, IsFirstPlace-same, IsFirstPlace-append, OccursAt-append, OccursAt-front, OccursAt-part, stands_at_one}
 use Rattle.infer_deep.specs.Office.{zip_header, HasFolder, HasOfficeName, BeginsOffice, IsHeaderFrom, IsThirdHeader, DecidesBehind, IsDecidingHeader, IsDecidingPlace, IsOffice}
 
-IsThirdHeader-one : (b : List ℕ) → IsUnique (IsThirdHeader b)
-IsThirdHeader-one b p q t u =
-    let same = IsFirstPlace-same b zip_header _ _ t.second u.second t.second_found u.second_found in
-    grind (arith, IsFirstPlace-same b zip_header (u.second + 30) (u.second + 30 + 6000) p q, t.third_found, u.third_found)
+pub IsThirdHeader-one : (At : List ℕ → List ℕ → ℕ → Type 0) (b : List ℕ) → IsUnique (IsThirdHeader At b)
+IsThirdHeader-one At b p q t u =
+    let same = IsFirstPlace-same At b zip_header _ _ t.second u.second t.second_found u.second_found in
+    IsFirstPlace-same At b zip_header (u.second + 30) (u.second + 30 + 6000) p q
+    (subst (λ (s : ℕ). IsHeaderFrom At b (s + 30) p) same t.third_found) u.third_found
 
 -- what the searches for the second and the third header tell of the third
 module _ (b : List ℕ) (start : ℕ) (is : start ≡ le32 b 18 + 49) where
-  pub no_second : (r : Option ℕ) → r ≡ None → ((p : ℕ) → ¬ IsWithin b zip_header start (start + 6000) p) → FindsPlace (IsThirdHeader b) r
-  no_second r e none = subst (FindsPlace (IsThirdHeader b)) (sym e)
-      (λ p t. none t.second (subst (λ (s : ℕ). IsWithin b zip_header s (s + 6000) t.second) (sym is) t.second_found.here))
+  pub no_second : (r : Option ℕ) → r ≡ None → ((p : ℕ) → ¬ IsWithin OccursAt b zip_header start (start + 6000) p) → FindsPlace (IsThirdHeader OccursAt b) r
+  no_second r e none = subst (FindsPlace (IsThirdHeader OccursAt b)) (sym e)
+      (λ p t. none t.second (subst (λ (s : ℕ). IsWithin OccursAt b zip_header s (s + 6000) t.second) (sym is) t.second_found.here))
 
-  pub third_from_search : (second : ℕ) → IsHeaderFrom b start second → start ≤ 0xFFFFFFFF → (r : Option ℕ)
-      → IsFirstWithin b zip_header (second + 30) (second + 30 + 6000) r → FindsPlace (IsThirdHeader b) r
+  pub third_from_search : (second : ℕ) → IsHeaderFrom OccursAt b start second → start ≤ 0xFFFFFFFF → (r : Option ℕ)
+      → IsFirstWithin OccursAt b zip_header (second + 30) (second + 30 + 6000) r → FindsPlace (IsThirdHeader OccursAt b) r
   third_from_search second found fits None none = λ p t.
-      let same = IsFirstPlace-same b zip_header _ _ t.second second (subst (λ (s : ℕ). IsHeaderFrom b s t.second) (sym is) t.second_found) found in
-      none p (subst (λ (s : ℕ). IsWithin b zip_header (s + 30) (s + 30 + 6000) p) same t.third_found.here)
+      let same = IsFirstPlace-same OccursAt b zip_header _ _ t.second second (subst (λ (s : ℕ). IsHeaderFrom OccursAt b s t.second) (sym is) t.second_found) found in
+      none p (subst (λ (s : ℕ). IsWithin OccursAt b zip_header (s + 30) (s + 30 + 6000) p) same t.third_found.here)
   third_from_search second found fits (Some p) there = record {
     second = second;
     start_fits = omega arith;
-    second_found = subst (λ (s : ℕ). IsHeaderFrom b s second) is found;
+    second_found = subst (λ (s : ℕ). IsHeaderFrom OccursAt b s second) is found;
     third_found = there;
   }
 
 -- if no header is the third, none decides
-pub no_third : (b : List ℕ) (r : Option ℕ) → r ≡ None → ((p : ℕ) → ¬ IsThirdHeader b p) → FindsPlace (IsDecidingHeader b) r
+pub no_third : (b : List ℕ) (r : Option ℕ) → r ≡ None → ((p : ℕ) → ¬ IsThirdHeader OccursAt b p) → FindsPlace (IsDecidingHeader b) r
 no_third b r e none = subst (FindsPlace (IsDecidingHeader b)) (sym e) (λ p d. none d.third d.third_found)
 
 -- what the search for the fourth header says, if no folder of Office stands at the third
-pub fourth_from_search : (b : List ℕ) (third : ℕ) → IsThirdHeader b third → (¬ HasFolder b (third + 30)) → (r : Option ℕ)
-    → IsFirstWithin b zip_header (third + 56) (third + 56 + 6000) r → FindsPlace (IsDecidingHeader b) r
+pub fourth_from_search : (b : List ℕ) (third : ℕ) → IsThirdHeader OccursAt b third → (¬ HasFolder b (third + 30)) → (r : Option ℕ)
+    → IsFirstWithin OccursAt b zip_header (third + 56) (third + 56 + 6000) r → FindsPlace (IsDecidingHeader b) r
 fourth_from_search b third t free None none = λ p d.
-    let decides = subst (λ x. DecidesBehind b x p) (IsThirdHeader-one b d.third third d.third_found t) d.decides in
+    let decides = subst (λ x. DecidesBehind b x p) (IsThirdHeader-one OccursAt b d.third third d.third_found t) d.decides in
     grind (arith, none p)
 fourth_from_search b third t free (Some p) there = record { third = third; third_found = t; decides = inr (free, there) }
 
 IsDecidingHeader-one : (b : List ℕ) → IsUnique (IsDecidingHeader b)
 IsDecidingHeader-one b p q d e =
-    let same = IsThirdHeader-one b d.third e.third d.third_found e.third_found in
+    let same = IsThirdHeader-one OccursAt b d.third e.third d.third_found e.third_found in
     let here = subst (λ x. DecidesBehind b x p) same d.decides in
-    grind (arith, IsFirstPlace-same b zip_header (e.third + 56) (e.third + 56 + 6000) p q)
+    grind (arith, IsFirstPlace-same OccursAt b zip_header (e.third + 56) (e.third + 56 + 6000) p q)
 
 pub IsDecidingPlace-one : (b : List ℕ) → IsUnique (IsDecidingPlace b)
 IsDecidingPlace-one b p q (_, inl h) (_, inl k) = h.1 ∙ sym k.1
@@ -64,7 +65,7 @@ no_deciding b r e free none = subst (FindsPlace (IsDecidingPlace b)) (sym e)
     (λ p (_, d). elim d [ inl h ↦ free h.0 | inr (_, _, (header, here, _)) ↦ none header here ])
 
 pub header_decides : (b : List ℕ) (header : ℕ) → IsDecidingHeader b header → OccursAt b zip_header 0
-    → (¬ HasFolder b 30) → HasOfficeName b → IsDecidingPlace b (header + 30)
+    → (¬ HasFolder b 30) → HasOfficeName OccursAt b → IsDecidingPlace b (header + 30)
 header_decides b header d zip free name = (zip, inr (free, name, (header, d, refl)))
 
 pub IsOffice-at : (b folder : List ℕ) (p : ℕ) → IsDecidingPlace b p → OccursAt b folder p ↔ IsOffice folder b
@@ -89,12 +90,12 @@ module _ (b c : List ℕ) (n : ℕ) (carries : Carries n b c) where
   HasFolder-carried : (p : ℕ) → p + 5 ≤ n → HasFolder b p → HasFolder c p
   HasFolder-carried p l h = grind (arith, carries (codes "word/") p, carries (codes "ppt/") p, carries (codes "xl/") p)
 
-  pub HasOfficeName-carried : 49 ≤ n → HasOfficeName b → HasOfficeName c
+  pub HasOfficeName-carried : 49 ≤ n → HasOfficeName OccursAt b → HasOfficeName OccursAt c
   HasOfficeName-carried l h =
       grind (arith, carries (codes "[Content_Types].xml") 30, carries (codes "_rels/.rels") 30, carries (codes "docProps") 30)
 
 -- if a name of Office stands there, a folder has room there too
-pub name_long : (b : List ℕ) → HasOfficeName b → 35 ≤ length b
+pub name_long : (b : List ℕ) → HasOfficeName OccursAt b → 35 ≤ length b
 name_long b name = grind arith
 
 -- in a buffer that grows
@@ -108,13 +109,13 @@ module _ (b more : List ℕ) where
   pub no_folder-append : (p : ℕ) → p + 5 ≤ length b → (¬ HasFolder b p) → ¬ HasFolder (b ++ more) p
   no_folder-append p long free h = free (HasFolder-carried (b ++ more) b (length b) (OccursAt-front b more) p long h)
 
-  pub IsThirdHeader-append : (third : ℕ) → IsThirdHeader b third → IsThirdHeader (b ++ more) third
+  pub IsThirdHeader-append : (third : ℕ) → IsThirdHeader OccursAt b third → IsThirdHeader OccursAt (b ++ more) third
   IsThirdHeader-append third t =
       let same = le32-append b more 18 (omega arith) in
       record {
         second = t.second;
         start_fits = omega arith;
-        second_found = subst (λ (n : ℕ). IsHeaderFrom (b ++ more) (n + 49) t.second) (sym same) (IsFirstPlace-append b more zip_header _ _ t.second t.second_found);
+        second_found = subst (λ (n : ℕ). IsHeaderFrom OccursAt (b ++ more) (n + 49) t.second) (sym same) (IsFirstPlace-append b more zip_header _ _ t.second t.second_found);
         third_found = IsFirstPlace-append b more zip_header _ _ third t.third_found;
       }
 

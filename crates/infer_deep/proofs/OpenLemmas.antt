@@ -13,9 +13,9 @@ use Rattle.std.specs.List.{starts_with}
 use Rattle.std.specs.Prelude.{All, nat_eq, nat_lt, replicate}
 use Rattle.memchr.specs.Find.{OccursAt}
 use Rattle.infer_deep.specs.Places.{IsWithin, IsFirstPlace}
-use Rattle.infer_deep.specs.Open.{are_bytes, AgreesAt, MayStandWithin, IsFirstOpen}
+use Rattle.infer_deep.specs.Open.{are_bytes, AgreesAt}
 use Rattle.infer_deep.specs.Signatures.{Reachable}
-use Rattle.infer_deep.proofs.PlaceLemmas.{IsUnique, OccursAt-append}
+use Rattle.infer_deep.proofs.PlaceLemmas.{OccursAt-append}
 
 abbrev pub IsBytes : List ℕ → Type 0
 IsBytes b = All (λ x. x < 256) b
@@ -65,14 +65,14 @@ AgreesAt-later b more text n p short late a = record {
 }
 
 -- the bytes of a text at a place that a buffer of n bytes lacks
-missing : ℕ → List ℕ → ℕ → List ℕ
+pub missing : ℕ → List ℕ → ℕ → List ℕ
 missing place t n = replicate (place - n) 0 ++ drop (n - place) t
 
-length-missing : (place : ℕ) (t : List ℕ) (n : ℕ) → length (missing place t n) ≡ (place - n) + (length t - (n - place))
+pub length-missing : (place : ℕ) (t : List ℕ) (n : ℕ) → length (missing place t n) ≡ (place - n) + (length t - (n - place))
 unfolding missing
 length-missing place t n = simp (length-append, length-replicate, length-drop) refl
 
-read_missing : (place : ℕ) (t : List ℕ) (n k : ℕ) → n ≤ place + k → get_or (missing place t n) (place + k - n) 0 ≡ get_or t k 0
+pub read_missing : (place : ℕ) (t : List ℕ) (n k : ℕ) → n ≤ place + k → get_or (missing place t n) (place + k - n) 0 ≡ get_or t k 0
 unfolding missing
 read_missing place t n k l =
     let zeros : length (replicate {A = ℕ} (place - n) 0) ≡ place - n = length-replicate {A = ℕ} (place - n) 0 in
@@ -80,7 +80,7 @@ read_missing place t n k l =
     ∙ get_or-drop (n - place) t (place + k - n - length (replicate {A = ℕ} (place - n) 0)) 0
     ∙ ap (λ i. get_or t i 0) (omega arith)
 
-bytes-missing : (place : ℕ) (t : List ℕ) (n : ℕ) → IsBytes t → IsBytes (missing place t n)
+pub bytes-missing : (place : ℕ) (t : List ℕ) (n : ℕ) → IsBytes t → IsBytes (missing place t n)
 unfolding missing
 bytes-missing place t n h =
     All-append (λ x. x < 256) (replicate (place - n) 0) (drop (n - place) t)
@@ -192,59 +192,53 @@ module _ (b text : List ℕ) (p : ℕ) (r : Bool) (e : r ≡ starts_with nat_eq 
       (λ k in_end. sym (get_or-drop p b k 0 ∙ a.reads k (omega (arith, length-drop p b)) (omega (arith, length-drop p b)))))
 
 -- a least place at which a text stands is the least at which it may
-pub first_open_from_first : (b text : List ℕ) (start end p : ℕ) → IsFirstPlace b text start end p → IsFirstOpen b text start end p
+pub first_open_from_first : (b text : List ℕ) (start end p : ℕ) → IsFirstPlace OccursAt b text start end p → IsFirstPlace AgreesAt b text start end p
 first_open_from_first b text start end p f = record {
-  here = record { agrees = agrees_where_stands b text p f.here.stands; low = f.here.low; high = f.here.high };
+  here = record { stands = agrees_where_stands b text p f.here.stands; low = f.here.low; high = f.here.high };
   before = λ q lt m. f.before q lt
-      (record { stands = stands_where_whole b text q (let fits = f.here.stands.fits in omega arith) m.agrees; low = m.low; high = m.high });
+      (record { stands = stands_where_whole b text q (let fits = f.here.stands.fits in omega arith) m.stands; low = m.low; high = m.high });
 }
 
 -- if it stands nowhere, it may stand only from `first` on, since before that it would be whole; at `last`, where the
 -- buffer ends or no later place is left, there is nothing more to try
-module _ (b text : List ℕ) (start end first last : ℕ) (none : (q : ℕ) → ¬ IsWithin b text start end q) (some : 0 < length text)
+module _ (b text : List ℕ) (start end first last : ℕ) (none : (q : ℕ) → ¬ IsWithin OccursAt b text start end q) (some : 0 < length text)
     (room : start + length text ≤ end) (is_first : first ≡ max start (length b + 1 - length text))
     (is_last : last ≡ min (max start (length b)) (end - length text)) where
-  before_first : (q : ℕ) → q < first → ¬ MayStandWithin b text start end q
+  before_first : (q : ℕ) → q < first → ¬ IsWithin AgreesAt b text start end q
   before_first q lt m =
-      none q (record { stands = stands_where_whole b text q (let low = m.low in omega arith) m.agrees; low = m.low; high = m.high })
+      none q (record { stands = stands_where_whole b text q (let low = m.low in omega arith) m.stands; low = m.low; high = m.high })
 
   pub first_open_found : (n : ℕ) → first ≤ n → n ≤ last → ((k : ℕ) → first ≤ k → k < n → ¬ AgreesAt b text k)
-      → AgreesAt b text n → IsFirstOpen b text start end n
+      → AgreesAt b text n → IsFirstPlace AgreesAt b text start end n
   first_open_found n low high passed a = record {
-    here = record { agrees = a; low = omega arith; high = omega arith };
-    before = λ q lt m. grind (arith, before_first q, passed q, m.agrees);
+    here = record { stands = a; low = omega arith; high = omega arith };
+    before = λ q lt m. grind (arith, before_first q, passed q, m.stands);
   }
 
-  pub none_open_found : ((k : ℕ) → first ≤ k → k < last + 1 → ¬ AgreesAt b text k) → (p : ℕ) → ¬ MayStandWithin b text start end p
-  none_open_found passed p m = grind (arith, before_first p, passed p, passed last, agrees_past b text last, m.agrees)
+  pub none_open_found : ((k : ℕ) → first ≤ k → k < last + 1 → ¬ AgreesAt b text k) → (p : ℕ) → ¬ IsWithin AgreesAt b text start end p
+  none_open_found passed p m = grind (arith, before_first p, passed p, passed last, agrees_past b text last, m.stands)
 
 -- ---- least places
 
--- the least place is one, and stays it under bytes that do not reach past the start
-pub IsFirstOpen-same : (b text : List ℕ) (start end : ℕ) → IsUnique (IsFirstOpen b text start end)
-IsFirstOpen-same b text start end p q f g =
-    let not_before = g.before p in
-    let not_after = f.before q in
-    grind (arith, f.here, g.here)
-
+-- the least place stays it under bytes that do not reach past the start
 pub IsFirstOpen-later : (b more text : List ℕ) (start end n p : ℕ) → length (b ++ more) ≤ max (length b) n → n ≤ start
-    → IsFirstOpen b text start end p → IsFirstOpen (b ++ more) text start end p
+    → IsFirstPlace AgreesAt b text start end p → IsFirstPlace AgreesAt (b ++ more) text start end p
 IsFirstOpen-later b more text start end n p short late f = record {
-  here = record { agrees = AgreesAt-later b more text n p short (omega (arith, f.here.low)) f.here.agrees; low = f.here.low; high = f.here.high };
-  before = λ q lt m. f.before q lt (record { agrees = AgreesAt-front b more text q m.agrees; low = m.low; high = m.high });
+  here = record { stands = AgreesAt-later b more text n p short (omega (arith, f.here.low)) f.here.stands; low = f.here.low; high = f.here.high };
+  before = λ q lt m. f.before q lt (record { stands = AgreesAt-front b more text q m.stands; low = m.low; high = m.high });
 }
 
 -- put at the least place at which it may stand, a text stands there first
-pub fills_first : (b text : List ℕ) (start end p : ℕ) → IsTrue (are_bytes text) → IsFirstOpen b text start end p
-    → Fills (λ c. IsFirstPlace c text start end p) b (p + length text)
+pub fills_first : (b text : List ℕ) (start end p : ℕ) → IsTrue (are_bytes text) → IsFirstPlace AgreesAt b text start end p
+    → Fills (λ c. IsFirstPlace OccursAt c text start end p) b (p + length text)
 fills_first b text start end p bytes first =
-    let f = fills_text b text p bytes first.here.agrees in
+    let f = fills_text b text p bytes first.here.stands in
     record {
       more = f.more;
       bytes = f.bytes;
       holds = record {
         here = record { stands = f.holds; low = first.here.low; high = first.here.high };
-        before = λ q lt w. first.before q lt (record { agrees = grown_agrees b f.more text q w.stands; low = w.low; high = w.high });
+        before = λ q lt w. first.before q lt (record { stands = grown_agrees b f.more text q w.stands; low = w.low; high = w.high });
       };
       long = f.long;
       short = f.short;
@@ -252,11 +246,11 @@ fills_first b text start end p bytes first =
 
 -- if it is whole there, it stands there first whatever follows
 pub first_where_whole : (b more text : List ℕ) (start end p q : ℕ) → p + length text ≤ length b
-    → IsFirstOpen b text start end p → IsFirstPlace (b ++ more) text start end q → q ≡ p
+    → IsFirstPlace AgreesAt b text start end p → IsFirstPlace OccursAt (b ++ more) text start end q → q ≡ p
 first_where_whole b more text start end p q whole f g =
     let agrees = grown_agrees b more text q g.here.stands in
-    let stands = OccursAt-append b more text p (stands_where_whole b text p whole f.here.agrees) in
-    let not_before = λ (l : q < p). f.before q l (record { agrees = agrees; low = g.here.low; high = g.here.high }) in
+    let stands = OccursAt-append b more text p (stands_where_whole b text p whole f.here.stands) in
+    let not_before = λ (l : q < p). f.before q l (record { stands = agrees; low = g.here.low; high = g.here.high }) in
     let not_after = λ (l : p < q). g.before p l (record { stands = stands; low = f.here.low; high = f.here.high }) in
     omega arith
 
@@ -280,7 +274,7 @@ module _ (b text : List ℕ) where
         ]
       ]
 
-  first_to : (start end n : ℕ) → ((q : ℕ) → q < n → ¬ MayStandWithin b text start end q) ⊎ ((p : ℕ) × IsFirstOpen b text start end p)
+  first_to : (start end n : ℕ) → ((q : ℕ) → q < n → ¬ IsWithin AgreesAt b text start end q) ⊎ ((p : ℕ) × IsFirstPlace AgreesAt b text start end p)
   unfolding agrees_to
   first_to start end zero = inl (λ q l m. omega arith)
   first_to start end (suc n) =
@@ -289,17 +283,17 @@ module _ (b text : List ℕ) where
         | inl none ↦ elim (decide_to n (length text)) [
           | inr differs ↦ inl (λ q l m. elim (cases_lt q n) [
             | inl before ↦ none q before m
-            | inr at ↦ let here : q ≡ n = omega arith in differs (λ k in_text in_b. (subst (AgreesAt b text) here m.agrees).reads k in_text in_b)
+            | inr at ↦ let here : q ≡ n = omega arith in differs (λ k in_text in_b. (subst (AgreesAt b text) here m.stands).reads k in_text in_b)
           ])
           | inl agrees ↦ elim (cases_lt n start) [
             | inl low ↦ inl (λ q l m. none q (let from = m.low in omega arith) m)
             | inr low ↦ elim (cases_lt end (n + length text)) [
               | inl high ↦ inl (λ q l m. none q (let to = m.high in omega arith) m)
-              | inr high ↦ inr (n, record { here = record { agrees = record { reads = agrees }; low = low; high = high }; before = none })
+              | inr high ↦ inr (n, record { here = record { stands = record { reads = agrees }; low = low; high = high }; before = none })
             ]
           ]
         ]
       ]
 
-  pub first_open : (start end q : ℕ) → MayStandWithin b text start end q → (p : ℕ) × IsFirstOpen b text start end p
+  pub first_open : (start end q : ℕ) → IsWithin AgreesAt b text start end q → (p : ℕ) × IsFirstPlace AgreesAt b text start end p
   first_open start end q m = elim (first_to start end (q + 1)) [ inl none ↦ absurd (none q (omega arith) m) | inr found ↦ found ]

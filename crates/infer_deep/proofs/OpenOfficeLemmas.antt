@@ -9,11 +9,11 @@ use Rattle.memchr.specs.Find.{OccursAt}
 use Rattle.infer_deep.specs.Numbers.{le32}
 use Rattle.infer_deep.specs.Open.{are_bytes, AgreesAt}
 use Rattle.infer_deep.specs.Signatures.{Reachable}
-use Rattle.infer_deep.specs.Office.{zip_header, IsFolder, HasFolder, HasOfficeName, MayHaveOfficeName, IsHeaderFrom, IsOpenHeaderFrom, IsThirdHeader, IsOpenThird, DecidesBehind, MayDecideBehind, MayDecide, IsDecidingHeader, IsOffice}
+use Rattle.infer_deep.specs.Office.{zip_header, IsFolder, HasFolder, HasOfficeName, IsHeaderFrom, IsThirdHeader, DecidesBehind, MayDecideBehind, MayDecide, IsDecidingHeader, IsOffice}
 use Rattle.infer_deep.proofs.NumberLemmas.{le32-append}
-use Rattle.infer_deep.proofs.PlaceLemmas.{IsUnique, IsFirstPlace-append, OccursAt-append, OccursAt-first, OccursAt-front}
-use Rattle.infer_deep.proofs.OfficeLemmas.{HasFolder-append, HasOfficeName-carried, IsThirdHeader-append, grows, name_long, no_folder-append}
-use Rattle.infer_deep.proofs.OpenLemmas.{Fills, Reachable-grown, AgreesAt-later, IsFirstOpen-later, IsFirstOpen-same, agrees_past, fills_first, fills_parts, fills_text, first_open, first_where_whole, grown_agrees, stands_where_whole}
+use Rattle.infer_deep.proofs.PlaceLemmas.{IsFirstPlace-append, OccursAt-append, OccursAt-first, OccursAt-front}
+use Rattle.infer_deep.proofs.OfficeLemmas.{HasFolder-append, HasOfficeName-carried, IsThirdHeader-append, IsThirdHeader-one, grows, name_long, no_folder-append}
+use Rattle.infer_deep.proofs.OpenLemmas.{Fills, Reachable-grown, AgreesAt-later, IsFirstOpen-later, agrees_past, fills_first, fills_parts, fills_text, first_open, first_where_whole, grown_agrees, stands_where_whole}
 
 -- ---- folders and names
 
@@ -24,7 +24,7 @@ folder_bytes : (f : List ℕ) → IsFolder f → IsTrue (are_bytes f)
 folder_bytes f is = grind arith
 
 -- a name excludes a folder
-no_folder_at_name : (b : List ℕ) → HasOfficeName b → ¬ HasFolder b 30
+no_folder_at_name : (b : List ℕ) → HasOfficeName OccursAt b → ¬ HasFolder b 30
 no_folder_at_name b name folder =
     grind (
       arith,
@@ -59,8 +59,8 @@ module _ (b more : List ℕ) (n : ℕ) (short : length (b ++ more) ≤ max (leng
 -- ---- from the third header on
 record Known (c : List ℕ) (third : ℕ) : Type 0 where
   pub zip : OccursAt c zip_header 0
-  pub name : HasOfficeName c
-  pub found : IsThirdHeader c third
+  pub name : HasOfficeName OccursAt c
+  pub found : IsThirdHeader OccursAt c third
 
 Known-append : (c more : List ℕ) (third : ℕ) → Known c third → Known (c ++ more) third
 Known-append c more third k = record {
@@ -127,15 +127,15 @@ module _ (f : List ℕ) (is : IsFolder f) where
       ))
 
   -- the second and the third header are put where they may come to stand
-  headers_reach : (c : List ℕ) → OccursAt c zip_header 0 → HasOfficeName c → MayDecide f c → Reachable (IsOffice f) c
+  headers_reach : (c : List ℕ) → OccursAt c zip_header 0 → HasOfficeName OccursAt c → MayDecide f c → Reachable (IsOffice f) c
   headers_reach c zip name (third, t, behind) =
       let s = le32 c 18 + 49 in
       let second = t.second in
-      let x = fills_first c zip_header s (s + 6000) second refl t.second_open in
+      let x = fills_first c zip_header s (s + 6000) second refl t.second_found in
       let d : List ℕ = c ++ x.more in
-      let low = t.third_open.here.low in
+      let low = t.third_found.here.low in
       let y = fills_first d zip_header (second + 30) (second + 30 + 6000) third refl
-      (IsFirstOpen-later c x.more zip_header (second + 30) (second + 30 + 6000) (second + 4) third x.short (omega arith) t.third_open) in
+      (IsFirstOpen-later c x.more zip_header (second + 30) (second + 30 + 6000) (second + 4) third x.short (omega arith) t.third_found) in
       let e : List ℕ = d ++ y.more in
       let behind_e = behind_later d y.more (third + 4) y.short f third (omega arith)
       (behind_later c x.more (second + 4) x.short f third (omega arith) behind) in
@@ -148,7 +148,7 @@ module _ (f : List ℕ) (is : IsFolder f) where
         found = record {
           second = second;
           start_fits = omega (arith, t.start_fits);
-          second_found = subst (λ (n : ℕ). IsHeaderFrom e (n + 49) second) (sym same)
+          second_found = subst (λ (n : ℕ). IsHeaderFrom OccursAt e (n + 49) second) (sym same)
               (IsFirstPlace-append d y.more zip_header s (s + 6000) second x.holds);
           third_found = y.holds;
         };
@@ -162,7 +162,7 @@ module _ (f : List ℕ) (is : IsFolder f) where
       (x.more, x.bytes, (30, (x.holds.0, inl (folder_stands (b ++ x.more) f 30 is x.holds.1.0, refl)), x.holds.1.0))
 
   -- a name is put where it agrees
-  fills_name : (b : List ℕ) → MayHaveOfficeName b → Fills HasOfficeName b 49
+  fills_name : (b : List ℕ) → HasOfficeName AgreesAt b → Fills (HasOfficeName OccursAt) b 49
   fills_name b (inl a) =
       let x = fills_parts (record { place = 30; text = codes "[Content_Types].xml" } ∷ []) b 0 49 (omega arith, refl, omega arith) (a, tt) in
       record { more = x.more; bytes = x.bytes; holds = inl x.holds.0; long = x.long; short = x.short }
@@ -173,7 +173,7 @@ module _ (f : List ℕ) (is : IsFolder f) where
       let x = fills_parts (record { place = 30; text = codes "docProps" } ∷ []) b 0 49 (omega arith, refl, omega arith) (a, tt) in
       record { more = x.more; bytes = x.bytes; holds = inr (inr x.holds.0); long = x.long; short = x.short }
 
-  pub office_reached : (b : List ℕ) → AgreesAt b zip_header 0 → AgreesAt b f 30 ⊎ (MayHaveOfficeName b × MayDecide f b) → Reachable (IsOffice f) b
+  pub office_reached : (b : List ℕ) → AgreesAt b zip_header 0 → AgreesAt b f 30 ⊎ (HasOfficeName AgreesAt b × MayDecide f b) → Reachable (IsOffice f) b
   office_reached b zip (inl a) = folder_reaches b zip a
   office_reached b zip (inr (name, (third, t, behind))) =
       elim (cases_lt 30 (length b)) [
@@ -182,14 +182,14 @@ module _ (f : List ℕ) (is : IsFolder f) where
             let x = fills_name b name in
             let c : List ℕ = b ++ x.more in
             let same : le32 c 18 ≡ le32 b 18 = le32-append b x.more 18 (omega arith) in
-            let low = t.second_open.here.low in
-            let later = t.third_open.here.low in
-            let t_c : IsOpenThird c third = record {
+            let low = t.second_found.here.low in
+            let later = t.third_found.here.low in
+            let t_c : IsThirdHeader AgreesAt c third = record {
               second = t.second;
               start_fits = omega (arith, t.start_fits);
-              second_open = subst (λ (n : ℕ). IsOpenHeaderFrom c (n + 49) t.second) (sym same)
-                  (IsFirstOpen-later b x.more zip_header (le32 b 18 + 49) (le32 b 18 + 49 + 6000) 49 t.second x.short (omega arith) t.second_open);
-              third_open = IsFirstOpen-later b x.more zip_header (t.second + 30) (t.second + 30 + 6000) 49 third x.short (omega arith) t.third_open;
+              second_found = subst (λ (n : ℕ). IsHeaderFrom AgreesAt c (n + 49) t.second) (sym same)
+                  (IsFirstOpen-later b x.more zip_header (le32 b 18 + 49) (le32 b 18 + 49 + 6000) 49 t.second x.short (omega arith) t.second_found);
+              third_found = IsFirstOpen-later b x.more zip_header (t.second + 30) (t.second + 30 + 6000) 49 third x.short (omega arith) t.third_found;
             } in
             Reachable-grown (IsOffice f) b x.more x.bytes
             (headers_reach c (OccursAt-append b x.more zip_header 0 (stands_where_whole b zip_header 0 (omega arith) zip)) x.holds
@@ -199,9 +199,9 @@ module _ (f : List ℕ) (is : IsFolder f) where
 -- ---- what more bytes make a document of Office agrees with one
 
 -- a header found after more bytes is the least that may come to stand, if that is whole
-open_header : (b more : List ℕ) (s q : ℕ) → IsHeaderFrom (b ++ more) s q → (p : ℕ) × IsOpenHeaderFrom b s p
+open_header : (b more : List ℕ) (s q : ℕ) → IsHeaderFrom OccursAt (b ++ more) s q → (p : ℕ) × IsHeaderFrom AgreesAt b s p
 open_header b more s q h = first_open b zip_header s (s + 6000) q
-    (record { agrees = grown_agrees b more zip_header q h.here.stands; low = h.here.low; high = h.here.high })
+    (record { stands = grown_agrees b more zip_header q h.here.stands; low = h.here.low; high = h.here.high })
 
 behind_known : (b more f : List ℕ) (third header : ℕ) → DecidesBehind (b ++ more) third header → OccursAt (b ++ more) f (header + 30) → MayDecideBehind f b third
 behind_known b more f third header (inl h) o =
@@ -221,21 +221,21 @@ decide_known b more f header long d o =
     let t = d.third_found in
     let same : le32 (b ++ more) 18 ≡ le32 b 18 = le32-append b more 18 (omega arith) in
     let fits : le32 b 18 + 49 ≤ 0xFFFFFFFF = omega (arith, t.start_fits) in
-    let second_found = subst (λ (n : ℕ). IsHeaderFrom (b ++ more) (n + 49) t.second) same t.second_found in
+    let second_found = subst (λ (n : ℕ). IsHeaderFrom OccursAt (b ++ more) (n + 49) t.second) same t.second_found in
     let (second, first) = open_header b more (le32 b 18 + 49) t.second second_found in
     elim (cases_lt (length b) (second + 4)) [
       | inl cut ↦
           let (third, found) = first_open b zip_header (second + 30) (second + 30 + 6000) (second + 30)
-          (record { agrees = agrees_past b zip_header (second + 30) (omega arith); low = omega arith; high = omega arith }) in (
+          (record { stands = agrees_past b zip_header (second + 30) (omega arith); low = omega arith; high = omega arith }) in (
             third,
-            record { second = second; start_fits = fits; second_open = first; third_open = found },
+            record { second = second; start_fits = fits; second_found = first; third_found = found },
             inl (agrees_past b f (third + 30) (let low = found.here.low in omega arith)),
           )
       | inr whole ↦
           let is_second = first_where_whole b more zip_header (le32 b 18 + 49) (le32 b 18 + 49 + 6000) second t.second whole first second_found in
-          let third_found = subst (λ (u : ℕ). IsHeaderFrom (b ++ more) (u + 30) d.third) is_second t.third_found in
+          let third_found = subst (λ (u : ℕ). IsHeaderFrom OccursAt (b ++ more) (u + 30) d.third) is_second t.third_found in
           let (third, found) = open_header b more (second + 30) d.third third_found in
-          let known : IsOpenThird b third = record { second = second; start_fits = fits; second_open = first; third_open = found } in
+          let known : IsThirdHeader AgreesAt b third = record { second = second; start_fits = fits; second_found = first; third_found = found } in
           elim (cases_lt (length b) (third + 4)) [
             | inl cut ↦ (third, known, inl (agrees_past b f (third + 30) (omega arith)))
             | inr there ↦
@@ -244,11 +244,11 @@ decide_known b more f header long d o =
           ]
     ]
 
-name_known : (b more : List ℕ) → HasOfficeName (b ++ more) → MayHaveOfficeName b
+name_known : (b more : List ℕ) → HasOfficeName OccursAt (b ++ more) → HasOfficeName AgreesAt b
 name_known b more name =
     grind (arith, grown_agrees b more (codes "[Content_Types].xml") 30, grown_agrees b more (codes "_rels/.rels") 30, grown_agrees b more (codes "docProps") 30)
 
-pub office_known : (f b : List ℕ) → Reachable (IsOffice f) b → AgreesAt b zip_header 0 × (AgreesAt b f 30 ⊎ (MayHaveOfficeName b × MayDecide f b))
+pub office_known : (f b : List ℕ) → Reachable (IsOffice f) b → AgreesAt b zip_header 0 × (AgreesAt b f 30 ⊎ (HasOfficeName AgreesAt b × MayDecide f b))
 office_known f b (more, bytes, (p, (zip, inl (folder, e)), o)) =
     (grown_agrees b more zip_header 0 zip, inl (subst (AgreesAt b f) e (grown_agrees b more f p o)))
 office_known f b (more, bytes, (p, (zip, inr (free, name, (header, d, e))), o)) = (
@@ -259,13 +259,7 @@ office_known f b (more, bytes, (p, (zip, inr (free, name, (header, d, e))), o)) 
   ],
 )
 
--- ---- the open third header is one place
-IsOpenThird-one : (b : List ℕ) → IsUnique (IsOpenThird b)
-IsOpenThird-one b p q t u =
-    let same = IsFirstOpen-same b zip_header _ _ t.second u.second t.second_open u.second_open in
-    IsFirstOpen-same b zip_header (u.second + 30) (u.second + 30 + 6000) p q
-    (subst (λ (s : ℕ). IsOpenHeaderFrom b (s + 30) p) same t.third_open) u.third_open
-
-pub decide_at : (f b : List ℕ) (third : ℕ) → IsOpenThird b third → MayDecideBehind f b third ↔ MayDecide f b
+-- the open third header is one place
+pub decide_at : (f b : List ℕ) (third : ℕ) → IsThirdHeader AgreesAt b third → MayDecideBehind f b third ↔ MayDecide f b
 decide_at f b third t =
-    (λ h. (third, t, h), λ (p, u, h). subst (MayDecideBehind f b) (IsOpenThird-one b p third u t) h)
+    (λ h. (third, t, h), λ (p, u, h). subst (MayDecideBehind f b) (IsThirdHeader-one AgreesAt b p third u t) h)

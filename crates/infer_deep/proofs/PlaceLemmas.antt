@@ -78,14 +78,14 @@ module _ (P : ℕ → Type 0) (one : IsUnique P) (b : List ℕ) (at : ℕ → �
       differ (OccursAt-agree b v w (at p) i o ((stands_at_one w p here).1 there) in_v in_w)
 
 -- a least place is one place, and stays it in a buffer that grows
-pub IsFirstPlace-same : (b text : List ℕ) (start end : ℕ) → IsUnique (IsFirstPlace b text start end)
-IsFirstPlace-same b text start end p q f g =
+pub IsFirstPlace-same : (At : List ℕ → List ℕ → ℕ → Type 0) (b text : List ℕ) (start end : ℕ) → IsUnique (IsFirstPlace At b text start end)
+IsFirstPlace-same At b text start end p q f g =
     let not_before = g.before p in
     let not_after = f.before q in
     grind (arith, f.here, g.here)
 
 pub IsFirstPlace-append : (b more text : List ℕ) (start end p : ℕ)
-    → IsFirstPlace b text start end p → IsFirstPlace (b ++ more) text start end p
+    → IsFirstPlace OccursAt b text start end p → IsFirstPlace OccursAt (b ++ more) text start end p
 IsFirstPlace-append b more text start end p f = record {
   here = record { stands = OccursAt-append b more text p f.here.stands; low = f.here.low; high = f.here.high };
   before = λ q lt w.

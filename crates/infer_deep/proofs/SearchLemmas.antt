@@ -32,11 +32,11 @@ module _ (b text : List ℕ) (p : ℕ) (r : Bool) (e : r ≡ starts_with nat_eq 
       (starts_is Decides-eqb (drop p b) text r tested).1 _ (at_from_reads 0 b text p o.fits o.reads)
 
 -- a search may begin later if nothing stands before
-module _ (b text : List ℕ) (start later end : ℕ) (le : start ≤ later) (none : (q : ℕ) → q < later → ¬ IsWithin b text start end q) where
-  from_later : (q : ℕ) → later ≤ q → IsWithin b text start end q → IsWithin b text later end q
+module _ (b text : List ℕ) (start later end : ℕ) (le : start ≤ later) (none : (q : ℕ) → q < later → ¬ IsWithin OccursAt b text start end q) where
+  from_later : (q : ℕ) → later ≤ q → IsWithin OccursAt b text start end q → IsWithin OccursAt b text later end q
   from_later q low w = record { stands = w.stands; low = low; high = w.high }
 
-  pub IsFirstWithin-skip : (r : Option ℕ) → IsFirstWithin b text later end r → IsFirstWithin b text start end r
+  pub IsFirstWithin-skip : (r : Option ℕ) → IsFirstWithin OccursAt b text later end r → IsFirstWithin OccursAt b text start end r
   IsFirstWithin-skip None h = λ q w. grind (arith, none q, h q, from_later q)
   IsFirstWithin-skip (Some p) h = record {
     here = record { stands = h.here.stands; low = omega arith; high = h.here.high };
@@ -61,42 +61,42 @@ lacks_more b x y n at m le reach before lacks p lt pair =
 -- a search may begin after n places that lack the two bytes of the text from `rare` on
 module _ (b text : List ℕ) (rare start end m n : ℕ) (two : rare + 2 ≤ length text) (is : m ≡ min end (length b))
     (lacks : LacksPair (get_or text rare 0) (get_or text (rare + 1) 0) (take (m - (start + rare)) (drop (start + rare) b)) n) where
-  none_before : (q : ℕ) → q < start + n → ¬ IsWithin b text start end q
+  none_before : (q : ℕ) → q < start + n → ¬ IsWithin OccursAt b text start end q
   none_before q lt w =
       let next : q + rare + 1 ≡ q + (rare + 1) = omega arith in
       let second = ap (λ i. get_or b i 0) next ∙ w.stands.reads (rare + 1) (omega arith) in
       lacks (q + rare - (start + rare)) (omega arith)
       (pair_in_part b _ _ (start + rare) m (q + rare) (omega arith) (omega arith) (w.stands.reads rare (omega arith), second))
 
-  pub first_later : (r : Option ℕ) → IsFirstWithin b text (start + n) end r → IsFirstWithin b text start end r
+  pub first_later : (r : Option ℕ) → IsFirstWithin OccursAt b text (start + n) end r → IsFirstWithin OccursAt b text start end r
   first_later r h = IsFirstWithin-skip b text start (start + n) end (omega arith) none_before r h
 
   -- it does not fit there, or stands there, or the search may begin after that place too
-  pub none_fits : (m - start - n < length text) → IsFirstWithin b text start end None
+  pub none_fits : (m - start - n < length text) → IsFirstWithin OccursAt b text start end None
   none_fits short = first_later None (λ p w. omega arith)
 
-  pub first_here : (start + n + length text ≤ m) → OccursAt b text (start + n) → IsFirstWithin b text start end (Some (start + n))
+  pub first_here : (start + n + length text ≤ m) → OccursAt b text (start + n) → IsFirstWithin OccursAt b text start end (Some (start + n))
   first_here fits o = first_later (Some (start + n))
       (record { here = record { stands = o; low = omega arith; high = omega arith }; before = λ q lt w. omega arith })
 
   pub first_past : (r : Option ℕ) → ¬ OccursAt b text (start + n)
-      → IsFirstWithin b text (start + n + 1) end r → IsFirstWithin b text start end r
+      → IsFirstWithin OccursAt b text (start + n + 1) end r → IsFirstWithin OccursAt b text start end r
   first_past r absent h =
       first_later r (IsFirstWithin-skip b text (start + n) (start + n + 1) end (omega arith) (λ q lt w. grind (arith, w.stands)) r h)
 
 -- what a search of the rest says
 module _ (b text : List ℕ) (start end m : ℕ) (is : m ≡ min end (length b)) (l : start ≤ m) where
-  in_rest : (q : ℕ) → IsWithin b text start end q → OccursAt (take (m - start) (drop start b)) text (q - start)
+  in_rest : (q : ℕ) → IsWithin OccursAt b text start end q → OccursAt (take (m - start) (drop start b)) text (q - start)
   in_rest q w =
       let same : q ≡ start + (q - start) = omega (arith, w.low) in
       (OccursAt-part b text start m (q - start) l (omega arith)).1 (subst (OccursAt b text) same w.stands, omega (arith, w.low, w.high, w.stands.fits))
 
   pub none_in_rest : Nowhere (OccursAt (take (m - start) (drop start b)) text) 0 (length (take (m - start) (drop start b)) + 1)
-      → (p : ℕ) → ¬ IsWithin b text start end p
+      → (p : ℕ) → ¬ IsWithin OccursAt b text start end p
   none_in_rest none p w = let o = in_rest p w in none (p - start) (omega arith) (omega (arith, o.fits)) o
 
   pub first_in_rest : (k n : ℕ) → NoneBefore (OccursAt (take (m - start) (drop start b)) text) 0 n k
-      → OccursAt (take (m - start) (drop start b)) text k → IsFirstPlace b text start end (start + k)
+      → OccursAt (take (m - start) (drop start b)) text k → IsFirstPlace OccursAt b text start end (start + k)
   first_in_rest k n h o =
       let there = (OccursAt-part b text start m k l (omega arith)).0 o in record {
         here = record { stands = there.0; low = omega arith; high = omega (arith, there.1) };
@@ -105,13 +105,13 @@ module _ (b text : List ℕ) (start end m : ℕ) (is : m ≡ min end (length b))
 
 -- what a search for a pair of bytes of the text in the part from `from` on says, if the text stands nowhere before
 module _ (b text : List ℕ) (start from end m : ℕ) (is : m ≡ min end (length b)) (l : from ≤ m) (low : start ≤ from)
-    (none : (q : ℕ) → q < from → ¬ IsWithin b text start end q) (f : Finder) (of : IsPairFinderOf f text) where
-  in_part : (q : ℕ) → from ≤ q → IsWithin b text start end q → OccursAt (take (m - from) (drop from b)) text (q - from)
+    (none : (q : ℕ) → q < from → ¬ IsWithin OccursAt b text start end q) (f : Finder) (of : IsPairFinderOf f text) where
+  in_part : (q : ℕ) → from ≤ q → IsWithin OccursAt b text start end q → OccursAt (take (m - from) (drop from b)) text (q - from)
   in_part q begun w =
       let same : q ≡ from + (q - from) = omega arith in
       (OccursAt-part b text from m (q - from) l (omega arith)).1 (subst (OccursAt b text) same w.stands, omega arith)
 
-  none_to : (k : ℕ) → Nowhere (HasPair f (take (m - from) (drop from b))) 0 k → (q : ℕ) → q < from + k → ¬ IsWithin b text start end q
+  none_to : (k : ℕ) → Nowhere (HasPair f (take (m - from) (drop from b))) 0 k → (q : ℕ) → q < from + k → ¬ IsWithin OccursAt b text start end q
   none_to k lacks q lt w =
       let early = none q in
       let pair = λ (begun : from ≤ q).
@@ -122,14 +122,14 @@ module _ (b text : List ℕ) (start from end m : ℕ) (is : m ≡ min end (lengt
 
   -- if there is no pair the text does not stand
   pub none_without_pair : (r : Option ℕ) → r ≡ None
-      → Nowhere (HasPair f (take (m - from) (drop from b))) 0 (length (take (m - from) (drop from b)) - reach_of f) → IsFirstWithin b text start end r
-  none_without_pair r e lacks = subst (IsFirstWithin b text start end) (sym e) (λ q w.
+      → Nowhere (HasPair f (take (m - from) (drop from b))) 0 (length (take (m - from) (drop from b)) - reach_of f) → IsFirstWithin OccursAt b text start end r
+  none_without_pair r e lacks = subst (IsFirstWithin OccursAt b text start end) (sym e) (λ q w.
       let part = in_part q in
       grind (arith, none q, none_to _ lacks q, of.pair))
 
   -- a text that stands at the first pair is the first
   pub first_at_pair : (k n : ℕ) → NoneBefore (HasPair f (take (m - from) (drop from b))) 0 n k
-      → OccursAt b text (from + k) × (from + k + length text ≤ m) → IsFirstPlace b text start end (from + k)
+      → OccursAt b text (from + k) × (from + k + length text ≤ m) → IsFirstPlace OccursAt b text start end (from + k)
   first_at_pair k n h o = record {
     here = record { stands = o.0; low = omega arith; high = omega arith };
     before = none_to k h.before;
@@ -137,7 +137,7 @@ module _ (b text : List ℕ) (start from end m : ℕ) (is : m ≡ min end (lengt
 
   -- and if none does, it does not stand there either
   pub none_past_pair : (k n : ℕ) → NoneBefore (HasPair f (take (m - from) (drop from b))) 0 n k
-      → ¬ (OccursAt b text (from + k) × (from + k + length text ≤ m)) → (q : ℕ) → q < from + k + 1 → ¬ IsWithin b text start end q
+      → ¬ (OccursAt b text (from + k) × (from + k + length text ≤ m)) → (q : ℕ) → q < from + k + 1 → ¬ IsWithin OccursAt b text start end q
   none_past_pair k n h absent q lt w =
       let before = none_to k h.before q in
       grind (arith, w.stands)

@@ -236,57 +236,51 @@ NoneBegins-mark b first = NoneBegins-first IsMark IsMarkByte IsMark-begin b (λ 
 abbrev IsMarkedXml : List ℕ → Type 0
 IsMarkedXml = Behind IsMark HasXml
 
-itself : (P S : List ℕ → Type 0) (b : List ℕ) → Behind P S b ↔ Behind P S b
-itself P S b = (λ h. h, λ h. h)
-
-IsXml-nested : (b : List ℕ) → Behind IsSpace IsMarkedXml b ↔ IsXml b
-IsXml-nested b = (λ (marked, s, (text, m, h)). (marked, text, s, m, h), λ (marked, text, s, m, h). (marked, s, (text, m, h)))
-
 IsMarkedXml-lead : (b : List ℕ) → IsMarkedXml b → IsMarkByte (get_or b 0 0) ⊎ (get_or b 0 0 ≡ 0x3C)
-IsMarkedXml-lead = Behind-lead IsMark HasXml IsMarkedXml (itself IsMark HasXml) IsMarkByte (λ x. x ≡ 0x3C) IsMark-begin HasXml-open
+IsMarkedXml-lead = Behind-lead IsMark HasXml IsMarkByte (λ x. x ≡ 0x3C) IsMark-begin HasXml-open
 
 IsMarkedXml-stops : Stops IsMarkedXml IsSpace
 IsMarkedXml-stops b h =
     let first = IsMarkedXml-lead b h in NoneBegins-first IsSpace IsWhite IsSpace-begin b (λ white. absurd (omega arith))
 
 IsMarkedXml-left : (b left : List ℕ) → SkipsTo IsMark b left → NoneBegins IsMark left → HasXml left ↔ IsMarkedXml b
-IsMarkedXml-left = Behind-left IsMark HasXml IsMarkedXml (itself IsMark HasXml) IsMark-prefix_free (λ b h. NoneBegins-mark b (HasXml-open b h))
+IsMarkedXml-left = Behind-left IsMark HasXml IsMark-prefix_free (λ b h. NoneBegins-mark b (HasXml-open b h))
 
 -- what is left after white space, and after marks
 module _ (b text : List ℕ) (skips : SkipsTo IsSpace b text) (none : NoneBegins IsSpace text) where
   pub IsHtml-left : HasTag text ↔ IsHtml b
-  IsHtml-left = Behind-left IsSpace HasTag IsHtml (itself IsSpace HasTag) IsSpace-prefix_free HasTag-stops b text skips none
+  IsHtml-left = Behind-left IsSpace HasTag IsSpace-prefix_free HasTag-stops b text skips none
 
   pub IsHtml-trimmed : IsHtml text ↔ IsHtml b
-  IsHtml-trimmed = Behind-trimmed IsSpace HasTag IsHtml (itself IsSpace HasTag) IsSpace-prefix_free HasTag-stops b text skips none
+  IsHtml-trimmed = Behind-trimmed IsSpace HasTag IsSpace-prefix_free HasTag-stops b text skips none
 
   pub IsXml-left : (left : List ℕ) → SkipsTo IsMark text left → NoneBegins IsMark left → HasXml left ↔ IsXml b
   IsXml-left left marks ends =
       let unmarked = IsMarkedXml-left text left marks ends in
-      let unspaced = Behind-left IsSpace IsMarkedXml IsXml IsXml-nested IsSpace-prefix_free IsMarkedXml-stops b text skips none in
+      let unspaced = Behind-left IsSpace IsMarkedXml IsSpace-prefix_free IsMarkedXml-stops b text skips none in
       (λ h. unspaced.0 (unmarked.0 h), λ x. unmarked.1 (unspaced.1 x))
 
   pub IsXml-trimmed : IsXml text ↔ IsXml b
-  IsXml-trimmed = Behind-trimmed IsSpace IsMarkedXml IsXml IsXml-nested IsSpace-prefix_free IsMarkedXml-stops b text skips none
+  IsXml-trimmed = Behind-trimmed IsSpace IsMarkedXml IsSpace-prefix_free IsMarkedXml-stops b text skips none
 
 pub IsHtml-apart_IsXml : AreApart IsHtml IsXml
-IsHtml-apart_IsXml = Behind-apart IsSpace IsMarkedXml IsXml IsXml-nested IsSpace-prefix_free IsMarkedXml-stops HasTag HasTag-stops
+IsHtml-apart_IsXml = Behind-apart IsSpace IsMarkedXml IsSpace-prefix_free IsMarkedXml-stops HasTag HasTag-stops
     (λ u tag x. HasTag-apart_xml u tag ((IsMarkedXml-left u u (SkipsTo-none IsMark u) (NoneBegins-mark u (HasTag-open u tag))).1 x))
 
 -- in a buffer that grows
 pub IsHtml-lasts : Lasts IsHtml
-IsHtml-lasts = Behind-lasts IsSpace HasTag IsHtml (itself IsSpace HasTag) HasTag-lasts
+IsHtml-lasts = Behind-lasts IsSpace HasTag HasTag-lasts
 
 pub IsXml-lasts : Lasts IsXml
-IsXml-lasts = Behind-lasts IsSpace IsMarkedXml IsXml IsXml-nested
-    (Behind-lasts IsMark HasXml IsMarkedXml (itself IsMark HasXml) (BeginsInAnyCase-lasts _))
+IsXml-lasts = Behind-lasts IsSpace IsMarkedXml
+    (Behind-lasts IsMark HasXml (BeginsInAnyCase-lasts _))
 
 -- the first byte
 pub IsHtml-lead : (b : List ℕ) → IsHtml b → IsWhite (get_or b 0 0) ⊎ (get_or b 0 0 ≡ 0x3C)
-IsHtml-lead = Behind-lead IsSpace HasTag IsHtml (itself IsSpace HasTag) IsWhite (λ x. x ≡ 0x3C) IsSpace-begin HasTag-open
+IsHtml-lead = Behind-lead IsSpace HasTag IsWhite (λ x. x ≡ 0x3C) IsSpace-begin HasTag-open
 
 pub IsXml-lead : (b : List ℕ) → IsXml b → IsWhite (get_or b 0 0) ⊎ (get_or b 0 0 ≡ 0x3C) ⊎ IsMarkByte (get_or b 0 0)
-IsXml-lead = Behind-lead IsSpace IsMarkedXml IsXml IsXml-nested IsWhite (λ y. (y ≡ 0x3C) ⊎ IsMarkByte y) IsSpace-begin
+IsXml-lead = Behind-lead IsSpace IsMarkedXml IsWhite (λ y. (y ≡ 0x3C) ⊎ IsMarkByte y) IsSpace-begin
     (λ u h. elim (IsMarkedXml-lead u h) [ inl m ↦ inr m | inr e ↦ inl e ])
 
 -- what more bytes bring
@@ -302,12 +296,12 @@ white_begins : (b more rest : List ℕ) → 1024 ≤ length b → BeginsWith IsS
 white_begins b more rest long w = BeginsWhite-early b more long (begun-first IsSpace IsWhite IsSpace-begin (b ++ more) rest w)
 
 pub IsHtml-comes : ComesWith IsHtml BeginsWhite
-IsHtml-comes = Behind-comes IsSpace HasTag IsHtml (itself IsSpace HasTag) BeginsWhite white_begins
+IsHtml-comes = Behind-comes IsSpace HasTag BeginsWhite white_begins
     (λ b more long h. inl (HasTag-early b more long h))
 
 pub IsXml-comes : ComesWith IsXml (λ b. BeginsWhite b ⊎ BeginsMarked b)
-IsXml-comes = Behind-comes IsSpace IsMarkedXml IsXml IsXml-nested (λ u. BeginsWhite u ⊎ BeginsMarked u) (λ u y rest l w. inl (white_begins u y rest l w))
-    (Behind-comes IsMark HasXml IsMarkedXml (itself IsMark HasXml) (λ u. BeginsWhite u ⊎ BeginsMarked u)
+IsXml-comes = Behind-comes IsSpace IsMarkedXml (λ u. BeginsWhite u ⊎ BeginsMarked u) (λ u y rest l w. inl (white_begins u y rest l w))
+    (Behind-comes IsMark HasXml (λ u. BeginsWhite u ⊎ BeginsMarked u)
     (λ u y rest l w. inr (BeginsMarked-early u y l (w.word, w.kind, OccursAt-begins (u ++ y) w.word rest w.whole)))
     (λ u y l h. inl (BeginsInAnyCase-front u y _ (omega arith) h)))
 
@@ -411,10 +405,10 @@ no_space_comes (y ∷ ys) none (more, bytes, (x, white, e)) =
     absurd (none (y ∷ []) ys (x, white, let first : y ≡ x = (cc) in ap (λ u. u ∷ []) first) refl)
 
 -- and what can follow white space can come to it
-space_open : (S T : List ℕ → Type 0) → ((b : List ℕ) → Behind IsSpace S b ↔ T b) → Stops S IsSpace → Reachable S []
-    → (b text : List ℕ) → SkipsTo IsSpace b text → NoneBegins IsSpace text → Reachable S text ↔ Reachable T b
-space_open S T is stops some b text skips none =
-    let both = Behind-open IsSpace S T is IsSpace-prefix_free stops some b text skips none in (
+space_open : (S : List ℕ → Type 0) → Stops S IsSpace → Reachable S []
+    → (b text : List ℕ) → SkipsTo IsSpace b text → NoneBegins IsSpace text → Reachable S text ↔ Reachable (Behind IsSpace S) b
+space_open S stops some b text skips none =
+    let both = Behind-open IsSpace S IsSpace-prefix_free stops some b text skips none in (
       λ h. both.0 (inl h),
       λ h. elim (both.1 h) [ inl s ↦ s | inr w ↦ subst (Reachable S) (sym (no_space_comes text none w)) some ],
     )
@@ -437,18 +431,18 @@ HasTag-begun (x ∷ y ∷ b) l h = absurd (omega (arith, l))
 
 IsMarkedXml-open : (text left : List ℕ) → SkipsTo IsMark text left → NoneBegins IsMark left
     → (Reachable HasXml left ⊎ Reachable IsMark left) ↔ Reachable IsMarkedXml text
-IsMarkedXml-open = Behind-open IsMark HasXml IsMarkedXml (itself IsMark HasXml) IsMark-prefix_free (λ b h. NoneBegins-mark b (HasXml-open b h)) HasXml-some
+IsMarkedXml-open = Behind-open IsMark HasXml IsMark-prefix_free (λ b h. NoneBegins-mark b (HasXml-open b h)) HasXml-some
 
 module _ (b text : List ℕ) (skips : SkipsTo IsSpace b text) (none : NoneBegins IsSpace text) where
   pub is_html_open : Reachable HasTag text ↔ Reachable IsHtml b
-  is_html_open = space_open HasTag IsHtml (itself IsSpace HasTag) HasTag-stops HasTag-some b text skips none
+  is_html_open = space_open HasTag HasTag-stops HasTag-some b text skips none
 
   pub is_xml_open : (left : List ℕ) → SkipsTo IsMark text left → NoneBegins IsMark left
       → (Reachable HasXml left ⊎ Reachable IsMark left) ↔ Reachable IsXml b
   is_xml_open left marks ends =
       let unmarked = IsMarkedXml-open text left marks ends in
       let some = (IsMarkedXml-open [] [] (SkipsTo-none IsMark []) (NoneBegins-first IsMark IsMarkByte IsMark-begin [] (λ mark. omega arith))).0 (inl HasXml-some) in
-      let unspaced = space_open IsMarkedXml IsXml IsXml-nested IsMarkedXml-stops some b text skips none in
+      let unspaced = space_open IsMarkedXml IsMarkedXml-stops some b text skips none in
       (λ h. unspaced.0 (unmarked.0 h), λ x. unmarked.1 (unspaced.1 x))
 
 -- a mark that the end of the buffer cuts

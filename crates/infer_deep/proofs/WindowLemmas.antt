@@ -3,8 +3,9 @@ use Rattle.std.proofs.Common.{IsTrue, ◌≡◌, ◌↔◌, ℕ, ◌+◌, ◌≤
 use Rattle.std.proofs.lemmas.List.{take-append-drop, length-take-le}
 use Rattle.std.proofs.lemmas.Bool.{cases_lt, false≢true}
 use Rattle.std.specs.Option.{is_some}
+use Rattle.memchr.specs.Find.{OccursAt}
 use Rattle.infer_deep.specs.Places.{IsFirstWithin}
-use Rattle.infer_deep.specs.Open.{are_bytes, AgreesAt, IsFirstOpenWithin}
+use Rattle.infer_deep.specs.Open.{are_bytes, AgreesAt}
 use Rattle.infer_deep.specs.Signatures.{Lasts, IsNear, Reachable}
 use Rattle.infer_deep.proofs.PlaceLemmas.{OccursAt-append, OccursAt-front}
 use Rattle.infer_deep.proofs.OpenLemmas.{agrees_past, grown_agrees, stands_where_whole, fills_text, fills_parts}
@@ -35,7 +36,7 @@ near_from_growth S lasts front b l =
 
 -- whether there is a least place says whether there is one
 pub found_stands : (b text : List ℕ) (end : ℕ) (r : Option ℕ)
-    → IsFirstWithin b text 0 end r → is_some r ≡ true ↔ StandsBy text end b
+    → IsFirstWithin OccursAt b text 0 end r → is_some r ≡ true ↔ StandsBy text end b
 found_stands b text end None h = (λ is. absurd (false≢true is), λ (p, w). absurd (h p w))
 found_stands b text end (Some p) h = (λ is. (p, h.here), λ is. refl)
 
@@ -48,12 +49,12 @@ pub room_reaches : (b text : List ℕ) (end : ℕ) → IsTrue (are_bytes text) �
 room_reaches b text end bytes room = reach_window text end b (length b) bytes room (agrees_past b text (length b) (omega arith))
 
 pub found_reaches : (b text : List ℕ) (end : ℕ) (r : Option ℕ) → IsTrue (are_bytes text)
-    → IsFirstOpenWithin b text 0 end r → is_some r ≡ true ↔ Reachable (StandsBy text end) b
+    → IsFirstWithin AgreesAt b text 0 end r → is_some r ≡ true ↔ Reachable (StandsBy text end) b
 found_reaches b text end None bytes none = (
   λ is. absurd (false≢true is),
-  λ (more, all, (p, w)). absurd (none p (record { agrees = grown_agrees b more text p w.stands; low = w.low; high = w.high })),
+  λ (more, all, (p, w)). absurd (none p (record { stands = grown_agrees b more text p w.stands; low = w.low; high = w.high })),
 )
-found_reaches b text end (Some p) bytes first = (λ is. reach_window text end b p bytes first.here.high first.here.agrees, λ h. refl)
+found_reaches b text end (Some p) bytes first = (λ is. reach_window text end b p bytes first.here.high first.here.stands, λ h. refl)
 
 -- the header of EBML and a document type can come to stand together
 abbrev ebml : List ℕ

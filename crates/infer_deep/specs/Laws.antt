@@ -17,6 +17,7 @@ pub record Growth : Type 0 where
   pub heif : Lasts IsHeif
   pub avif : Lasts IsAvif
   pub office : (folder : List ℕ) → Lasts (IsOffice folder)
+  pub class_id : (id : List ℕ) → Lasts (HasClassId id)
   pub doc : Lasts IsDoc
   pub xls : Lasts IsXls
   pub ppt : Lasts IsPpt

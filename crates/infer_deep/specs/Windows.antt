@@ -5,7 +5,7 @@ use Rattle.infer_deep.specs.Places.{IsWithin}
 
 -- the text stands in b at some place, and ends by `end`
 abbrev pub StandsBy : List ℕ → ℕ → List ℕ → Type 0
-StandsBy text end b = (p : ℕ) × IsWithin b text 0 end p
+StandsBy text end b = (p : ℕ) × IsWithin OccursAt b text 0 end p
 
 -- "%PDF" stands in the first 1024 bytes
 abbrev pub IsPdf : List ℕ → Type 0

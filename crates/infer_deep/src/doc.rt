@@ -2,11 +2,11 @@
 ghost use Rattle.std.specs.Prelude.{◌≡◌, ◌↔◌, ◌+◌, ◌*◌, ◌<◌, ◌≤◌, codes, length, IsTrue};
 ghost use Rattle.infer_deep.specs.Numbers.{le32};
 ghost use Rattle.memchr.specs.Find.{OccursAt};
-ghost use Rattle.infer_deep.specs.Open.{IsFirstOpenWithin};
+ghost use Rattle.infer_deep.specs.Open.{AgreesAt};
 ghost use Rattle.infer_deep.specs.Signatures.{Reachable};
 ghost use Rattle.infer_deep.specs.Places.{FindsPlace, IsFirstWithin};
 ghost use Rattle.infer_deep.specs.ClassId.{HasClassId, IsDoc, IsPpt, IsRoot, IsXls, MayHaveRoot};
-ghost use Rattle.infer_deep.specs.Office.{HasFolder, HasOfficeName, IsDecidingHeader, IsDecidingPlace, IsDocx, IsFolder, IsOffice, IsOpenThird, IsPptx, IsThirdHeader, IsXlsx, MayDecide, MayHaveOfficeName, zip_header};
+ghost use Rattle.infer_deep.specs.Office.{HasFolder, HasOfficeName, IsDecidingHeader, IsDecidingPlace, IsDocx, IsFolder, IsOffice, IsThirdHeader, IsPptx, IsXlsx, MayDecide, zip_header};
 
 use crate::numbers::{le16, le32};
 use crate::places::{agrees_at, find, find_open, has_at};
@@ -229,7 +229,7 @@ fn may_decide<const N: usize>(buf: &[u8], folder: &[u8; N]) -> bool
 /// Where the third header stands or may come to stand, if anywhere.
 fn open_third(buf: &[u8]) -> Option<usize>
     requires { 30 < length buf.now }
-    ensures { FindsPlace (IsOpenThird buf.now) result }
+    ensures { FindsPlace (IsThirdHeader AgreesAt buf.now) result }
 {
     let start = second_start(buf)?;
     let second = open_header_from(buf, start)?;
@@ -239,7 +239,7 @@ fn open_third(buf: &[u8]) -> Option<usize>
 /// The least place from `start` on at which a header stands or may come to stand that ends in the next 6000 bytes.
 fn open_header_from(buf: &[u8], start: usize) -> Option<usize>
     requires { start ≤ 0x100010000 }
-    ensures { IsFirstOpenWithin buf.now zip_header start (start + 6000) result }
+    ensures { IsFirstWithin AgreesAt buf.now zip_header start (start + 6000) result }
 {
     find_open(buf, b"PK\x03\x04", 0, start, start + 6000)
 }
@@ -292,7 +292,7 @@ fn deciding_header(buf: &[u8]) -> Option<usize>
 #[tactic(auto, using(crate::proofs::OfficeLemmas::no_second, crate::proofs::OfficeLemmas::third_from_search))]
 fn third_header(buf: &[u8]) -> Option<usize>
     requires { 22 ≤ length buf.now }
-    ensures { FindsPlace (IsThirdHeader buf.now) result }
+    ensures { FindsPlace (IsThirdHeader OccursAt buf.now) result }
 {
     let start = second_start(buf)?;
     let second = header_from(buf, start)?;
@@ -311,7 +311,7 @@ fn second_start(buf: &[u8]) -> Option<usize>
 
 /// The least place from `start` on at which a header stands that ends in the next 6000 bytes.
 fn header_from(buf: &[u8], start: usize) -> Option<usize>
-    ensures { IsFirstWithin buf.now zip_header start (start + 6000) result }
+    ensures { IsFirstWithin OccursAt buf.now zip_header start (start + 6000) result }
 {
     if start > buf.len() {
         return None;
@@ -328,7 +328,7 @@ fn has_folder(buf: &[u8], place: usize) -> bool
 /// Whether the first entry of a ZIP archive has a name that Office gives it: "[Content_Types].xml", "_rels/.rels" or
 /// one that begins with "docProps".
 pub fn has_office_name(buf: &[u8]) -> bool
-    ensures { IsTrue result ↔ HasOfficeName buf.now }
+    ensures { IsTrue result ↔ HasOfficeName OccursAt buf.now }
 {
     has_at(buf, b"[Content_Types].xml", 30)
         || has_at(buf, b"_rels/.rels", 30)
@@ -336,7 +336,7 @@ pub fn has_office_name(buf: &[u8]) -> bool
 }
 
 fn may_have_office_name(buf: &[u8]) -> bool
-    ensures { IsTrue result ↔ MayHaveOfficeName buf.now }
+    ensures { IsTrue result ↔ HasOfficeName AgreesAt buf.now }
 {
     agrees_at(buf, b"[Content_Types].xml", 30)
         || agrees_at(buf, b"_rels/.rels", 30)

@@ -139,7 +139,9 @@ fn is_listed(buf: &[u8], one: &[u8; 4], other: &[u8; 4]) -> bool
     let count = brand_count(buf).min((buf.len() - 16) / 4);
     let is_brand = |k: usize| -> bool
         requires { 20 + 4 * k ≤ length buf.now }
-        ensures { IsTrue result ↔ (OccursAt buf.entry.now one.entry.now (16 + 4 * k) ⊎ OccursAt buf.entry.now other.entry.now (16 + 4 * k)) }
+        ensures { IsTrue result
+            ↔ (OccursAt buf.entry.now one.entry.now (16 + 4 * k)
+            ⊎ OccursAt buf.entry.now other.entry.now (16 + 4 * k)) }
     { same_at(buf, one, 16 + 4 * k) || same_at(buf, other, 16 + 4 * k) };
     (0..count).any(is_brand)
 }

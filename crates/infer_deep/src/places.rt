@@ -3,7 +3,7 @@ ghost use Rattle.std.specs.Prelude.{◌≡◌, ◌↔◌, ◌+◌, ◌<◌, ◌�
 ghost use Rattle.std.specs.Bool.{OnFalse};
 ghost use Rattle.memchr.specs.Find.{OccursAt};
 ghost use Rattle.infer_deep.specs.Blocks.{LacksPair};
-ghost use Rattle.infer_deep.specs.Open.{AgreesAt, IsFirstOpenWithin, are_bytes};
+ghost use Rattle.infer_deep.specs.Open.{AgreesAt, are_bytes};
 ghost use Rattle.infer_deep.specs.Places.{IsFirstWithin};
 ghost use Rattle.infer_deep.specs.Signatures.{Reachable};
 ghost use Rattle.infer_deep.specs.Windows.{StandsBy};
@@ -91,7 +91,8 @@ fn same_words(buf: &[u8], text: &[u8], place: usize) -> bool
 fn same_half(buf: &[u8], place: usize, text: &[u8], i: usize) -> bool
     requires in_buf { place + 2 ≤ length buf.now }
     requires in_text { i + 2 ≤ length text.now }
-    ensures { IsTrue result ↔ ((k : ℕ) → k < 2 → slice_index buf.now (place + k) ≡ slice_index text.now (i + k)) }
+    ensures { IsTrue result
+        ↔ ((k : ℕ) → k < 2 → slice_index buf.now (place + k) ≡ slice_index text.now (i + k)) }
 {
     le16(buf, place) == le16(text, i)
 }
@@ -101,7 +102,8 @@ fn same_half(buf: &[u8], place: usize, text: &[u8], i: usize) -> bool
 fn same_word(buf: &[u8], place: usize, text: &[u8], i: usize) -> bool
     requires in_buf { place + 4 ≤ length buf.now }
     requires in_text { i + 4 ≤ length text.now }
-    ensures { IsTrue result ↔ ((k : ℕ) → k < 4 → slice_index buf.now (place + k) ≡ slice_index text.now (i + k)) }
+    ensures { IsTrue result
+        ↔ ((k : ℕ) → k < 4 → slice_index buf.now (place + k) ≡ slice_index text.now (i + k)) }
 {
     le32(buf, place) == le32(text, i)
 }
@@ -156,7 +158,7 @@ pub(crate) fn find<const N: usize>(
 ) -> Option<usize>
     requires long { 4 ≤ N }
     requires pair { rare + 2 ≤ N }
-    ensures { IsFirstWithin buf.now text.now start end result }
+    ensures { IsFirstWithin OccursAt buf.now text.now start end result }
 {
     let stop = end.min(buf.len());
     if start > stop || stop - start < N {
@@ -181,7 +183,7 @@ pub(crate) fn find_open<const N: usize>(
     requires long { 4 ≤ N }
     requires pair { rare + 2 ≤ N }
     requires room { start + N ≤ end }
-    ensures { IsFirstOpenWithin buf.now text.now start end result }
+    ensures { IsFirstWithin AgreesAt buf.now text.now start end result }
 {
     if let Some(place) = find(buf, text, rare, start, end) {
         return Some(place);
@@ -225,7 +227,7 @@ fn search_on<const N: usize>(
 ) -> Option<usize>
     requires long { 4 ≤ N }
     requires pair { rare + 2 ≤ N }
-    ensures { IsFirstWithin buf.now text.now start end result }
+    ensures { IsFirstWithin OccursAt buf.now text.now start end result }
 {
     search(buf, text, rare, start, end)
 }
@@ -241,7 +243,7 @@ pub(crate) fn search<const N: usize>(
 ) -> Option<usize>
     requires long { 4 ≤ N }
     requires pair { rare + 2 ≤ N }
-    ensures { IsFirstWithin buf.now text.now start end result }
+    ensures { IsFirstWithin OccursAt buf.now text.now start end result }
 {
     let stop = end.min(buf.len());
     if start > stop || stop - start < N {
@@ -266,7 +268,7 @@ const NEAR_MISSES: usize = 8;
 #[inline(never)]
 fn search_pairs(buf: &[u8], text: &[u8], start: usize, end: usize) -> Option<usize>
     requires { 4 ≤ length text.now }
-    ensures { IsFirstWithin buf.now text.now start end result }
+    ensures { IsFirstWithin OccursAt buf.now text.now start end result }
 {
     let stop = end.min(buf.len());
     if start > stop {
@@ -288,7 +290,7 @@ fn search_pairs(buf: &[u8], text: &[u8], start: usize, end: usize) -> Option<usi
 /// [`find`] byte by byte, whatever the bytes are.
 #[inline(never)]
 fn search_bytes(buf: &[u8], text: &[u8], start: usize, end: usize) -> Option<usize>
-    ensures { IsFirstWithin buf.now text.now start end result }
+    ensures { IsFirstWithin OccursAt buf.now text.now start end result }
 {
     let stop = end.min(buf.len());
     if start > stop {

@@ -294,7 +294,8 @@ fn begins_in_any_case(buf: &[u8], text: &[u8]) -> bool
 }
 
 fn may_begin_some_tag(buf: &[u8], tags: &[&[u8]]) -> bool
-    ensures { IsTrue result ↔ Any (λ tag. Reachable (BeginsWithTag tag) buf.now) (map (λ t. t.now) tags.now) }
+    ensures { IsTrue result
+        ↔ Any (λ tag. Reachable (BeginsWithTag tag) buf.now) (map (λ t. t.now) tags.now) }
 {
     tags.iter().any(|tag| may_begin_tag(buf, tag))
 }

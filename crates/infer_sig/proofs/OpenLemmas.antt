@@ -1,24 +1,21 @@
 -- What a buffer leaves open of a signature: the bytes that are missing, put after it part by part.
-use Rattle.std.proofs.Common.{◌≡◌, ℕ, zero, suc, ◌+◌, ◌-◌, ◌<◌, ◌≤◌, ◌⊎◌, inl, inr, not, List, [], ◌∷◌, ◌++◌, length, get_or, take, take_all, drop, refl, sym, ap, subst, ◌∙◌, arith, rules, eqb, ltb, leb, IsTrue, length-append, length-drop, length-take, get_or-drop, get_or-take}
+use Rattle.std.proofs.Common.{◌≡◌, ℕ, zero, suc, ◌+◌, ◌-◌, ◌<◌, ◌≤◌, ◌⊎◌, inl, inr, not, List, [], ◌∷◌, ◌++◌, length, take, take_all, refl, sym, ap, subst, ◌∙◌, arith, rules, eqb, ltb, leb, IsTrue, length-append, length-take, get_or-take}
 use Rattle.std.proofs.Math.Seq.{get_or-append_right}
 use Rattle.std.proofs.lemmas.Bool.{and_parts, and_from, or_cases, or_left, or_right, ltb-true, le-leb, eq-eqb, ne_eqb, leb-true, cases_lt}
 use Rattle.std.proofs.lemmas.Bool.Decides.{nat_tests}
 use Rattle.std.proofs.lemmas.List.{append_assoc, get_or_append_left, length-replicate}
-use Rattle.std.proofs.lemmas.List.Elements.{All-append, All-cons, All-drop, All-nil, All-replicate}
-use Rattle.std.proofs.lemmas.List.Sums.{AllPass-from_list_all}
-use Rattle.std.specs.Prelude.{All, replicate}
+use Rattle.std.proofs.lemmas.List.Elements.{All-append, All-cons, All-nil, All-replicate}
+use Rattle.std.specs.Prelude.{replicate}
 use Rattle.std.specs.List.{list_any, list_all}
 use Rattle.infer_deep.specs.Open.{are_bytes}
 use Rattle.infer_deep.specs.Signatures.{Reachable}
+use Rattle.infer_deep.proofs.OpenLemmas.{IsBytes, missing, length-missing, read_missing, bytes-missing, bytes_from_test}
 use Rattle.infer_sig.proofs.ListLemmas.{list_any_among, list_any_passes, list_all_joined, list_all_passes}
 use Rattle.infer_sig.proofs.PlaceLemmas.{stands_by_place}
 use Rattle.infer_sig.proofs.SignatureLemmas.{part_lasts}
 use Rattle.infer_sig.specs.Laws.{is_part_within, text_lead, part_lead, alternative_lead}
 use Rattle.infer_sig.specs.Open.{agrees, may_have, may_fit, may_accept, has_byte, is_possible, place_of, are_apart, is_alternative_sound, is_sound, IsOpen, Begins}
 use Rattle.infer_sig.specs.Signature.{Alternative, at_least, Bytes, any_of, between, all_but, Part, text, any_text, byte, allows, has_part, fits, stands, accepts}
-
-abbrev IsBytes : List ℕ → Type 0
-IsBytes b = All (λ x. x < 256) b
 
 -- ---- a front of a buffer that is accepted
 
@@ -58,9 +55,6 @@ record Filling (buf : List ℕ) (part : Part) : Type 0 where
   pub fills : (more : List ℕ) → IsTrue (stands (place_of part) filling (buf ++ more)) → IsTrue (has_part (buf ++ more) part)
   pub ends : (n : ℕ) → IsTrue (is_part_within n part) → place_of part + length filling ≤ n
 
-all_bytes : (t : List ℕ) → IsTrue (are_bytes t) → IsBytes t
-all_bytes t h = λ k d lt. ltb-true _ 256 (AllPass-from_list_all (λ x. ltb x 256) t h k d lt)
-
 -- a buffer that ends before the place agrees with any text there
 agrees_past : (place : ℕ) (t buf : List ℕ) → length buf ≤ place → IsTrue (agrees place t buf)
 unfolding agrees
@@ -81,7 +75,7 @@ filled_any_text buf place (t ∷ ts) possible h =
     elim (or_cases (agrees place t buf) _ h) [
       | inl here ↦ record {
         filling = t;
-        bytes = all_bytes t each.0;
+        bytes = bytes_from_test t each.0;
         stays = here;
         fills = λ more stood. grind (arith, nat_tests);
         ends = λ n within. grind (arith, nat_tests);
@@ -140,7 +134,7 @@ filled_byte buf place set possible h =
 filled : (buf : List ℕ) (part : Part) → IsTrue (is_possible part) → IsTrue (may_have buf part) → Filling buf part
 filled buf (text place t) possible h = record {
   filling = t;
-  bytes = all_bytes t possible;
+  bytes = bytes_from_test t possible;
   stays = h;
   fills = λ more stood. stood;
   ends = λ n within. leb-true (place + length t) n within;
@@ -148,32 +142,6 @@ filled buf (text place t) possible h = record {
 filled buf (any_text place []) possible h = absurd (cc)
 filled buf (any_text place (t ∷ ts)) possible h = filled_any_text buf place (t ∷ ts) possible h
 filled buf (byte place set) possible h = filled_byte buf place set possible h
-
--- the bytes after n that reach the place, and the rest of the text
-missing : ℕ → List ℕ → ℕ → List ℕ
-missing place t n = replicate (place - n) 0 ++ drop (n - place) t
-
-abbrev MissingLength : ℕ → List ℕ → ℕ → Type 0
-MissingLength place t n = length (missing place t n) ≡ (place - n) + (length t - (n - place))
-
-length-missing : (place : ℕ) (t : List ℕ) (n : ℕ) → MissingLength place t n
-unfolding missing
-length-missing place t n = simp (length-append, length-replicate, length-drop) refl
-
-read_missing : (place : ℕ) (t : List ℕ) (n k : ℕ) → n ≤ place + k → get_or (missing place t n) (place + k - n) 0 ≡ get_or t k 0
-unfolding missing
-read_missing place t n k l =
-    let front : List ℕ = replicate (place - n) 0 in
-    let zeros : length front ≡ place - n = length-replicate {A = ℕ} (place - n) 0 in
-    get_or-append_right front (drop (n - place) t) (place + k - n) 0 (omega arith)
-    ∙ get_or-drop (n - place) t (place + k - n - length front) 0
-    ∙ ap (λ i. get_or t i 0) (omega (arith, zeros))
-
-bytes-missing : (place : ℕ) (t : List ℕ) (n : ℕ) → IsBytes t → IsBytes (missing place t n)
-unfolding missing
-bytes-missing place t n h =
-    All-append (λ x. x < 256) (replicate (place - n) 0) (drop (n - place) t)
-    (All-replicate (λ x. x < 256) (place - n) 0 (omega arith)) (All-drop (λ x. x < 256) (n - place) t h)
 
 stands-missing : (place : ℕ) (t buf : List ℕ) → IsTrue (agrees place t buf) → IsTrue (stands place t (buf ++ missing place t (length buf)))
 unfolding agrees

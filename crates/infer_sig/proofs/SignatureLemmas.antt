@@ -7,7 +7,7 @@ use Rattle.std.proofs.lemmas.List.{get_or_append_left}
 use Rattle.infer_sig.proofs.ListLemmas.{list_any_passes, list_all_passes, list_any_same, list_all_same}
 use Rattle.infer_sig.proofs.PlaceLemmas.{stands_lasts, stands-take}
 use Rattle.infer_sig.specs.Signature.{Alternative, at_least, Part, text, byte, any_text, allows, has_part, fits, stands}
-use Rattle.infer_sig.specs.Laws.{Lasts, IsNear, Leads, is_part_within, is_alternative_within, is_within, text_lead, part_lead, alternative_lead}
+use Rattle.infer_sig.specs.Laws.{Lasts, DependsOnFront, Leads, is_part_within, is_alternative_within, is_within, text_lead, part_lead, alternative_lead}
 
 -- ---- a buffer that goes on
 
@@ -55,7 +55,7 @@ alternative_near n buf (at_least least parts) h =
     let same = list_all_same (has_part (take n buf)) (has_part buf) (is_part_within n) (part_near n buf) parts both.1 in
     cc
 
-pub signature_near : (n : ℕ) (s : List Alternative) → IsTrue (is_within n s) → IsNear n s
+pub signature_near : (n : ℕ) (s : List Alternative) → IsTrue (is_within n s) → DependsOnFront n s
 signature_near n s h buf = list_any_same _ _ (is_alternative_within n) (alternative_near n buf) s h
 
 -- ---- the first byte

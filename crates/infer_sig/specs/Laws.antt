@@ -1,15 +1,16 @@
 -- What holds of every fixed signature.
-use Rattle.std.specs.Prelude.{◌≡◌, ℕ, zero, suc, ◌+◌, Bool, true, List, [], ◌∷◌, ◌++◌, take, length, ◌&&◌, nat_le, nat_lt, ◌==◌, IsTrue}
+use Rattle.std.specs.Prelude.{◌≡◌, ℕ, zero, suc, ◌+◌, Bool, true, List, [], ◌∷◌, take, length, ◌&&◌, nat_le, nat_lt, ◌==◌, IsTrue}
 use Rattle.std.specs.List.{list_any, list_all}
+use Rattle.infer_deep.specs.Signatures as Property
 use Rattle.infer_sig.specs.Signature.{Alternative, at_least, Part, text, byte, any_text, allows, accepts}
 
 -- what the signature accepts, it accepts however the buffer goes on
 abbrev pub Lasts : List Alternative → Type 0
-Lasts signature = (buf more : List ℕ) → IsTrue (accepts signature buf) → IsTrue (accepts signature (buf ++ more))
+Lasts signature = Property.Lasts (λ buf. IsTrue (accepts signature buf))
 
 -- the first n bytes of a buffer of any length decide
-abbrev pub IsNear : ℕ → List Alternative → Type 0
-IsNear n signature = (buf : List ℕ) → accepts signature (take n buf) ≡ accepts signature buf
+abbrev pub DependsOnFront : ℕ → List Alternative → Type 0
+DependsOnFront n signature = (buf : List ℕ) → accepts signature (take n buf) ≡ accepts signature buf
 
 -- the part asks nothing past the first n bytes
 abbrev pub is_part_within : ℕ → Part → Bool

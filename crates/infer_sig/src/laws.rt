@@ -2,13 +2,14 @@
 ghost use Rattle.std.specs.Prelude.{◌↔◌, ℕ, List, IsTrue};
 ghost use Rattle.infer_sig.specs.Signature.{Alternative, stands};
 ghost use Rattle.infer_sig.specs.Places.{StandsByPlace};
-ghost use Rattle.infer_sig.specs.Laws.{IsNear, Lasts, Leads, is_within};
+ghost use Rattle.infer_sig.specs.Laws.{DependsOnFront, Lasts, Leads, is_within};
 ghost use Rattle.infer_sig.specs.Open.{Begins, IsOpen, is_sound};
 
 /// A text stands at a place exactly if each place from there on is in the buffer and holds the text's byte.
 #[tactic(auto, using(crate::proofs::PlaceLemmas::stands_by_place))]
 pub fn by_place()
-    ensures { (place : ℕ) (t buf : List ℕ) → IsTrue (stands place t buf) ↔ StandsByPlace place t buf }
+    ensures { (place : ℕ) (t buf : List ℕ) → IsTrue (stands place t buf)
+        ↔ StandsByPlace place t buf }
 {}
 
 /// What a signature accepts, it accepts however the buffer goes on.
@@ -19,7 +20,8 @@ pub fn growth()
 /// If no part and no least length of a signature reaches past the first n bytes, these decide, however long
 /// the buffer is.
 pub fn near()
-    ensures { (n : ℕ) (signature : List Alternative) → IsTrue (is_within n signature) → IsNear n signature }
+    ensures { (n : ℕ) (signature : List Alternative) → IsTrue (is_within n signature)
+        → DependsOnFront n signature }
 {}
 
 /// A buffer that a signature accepts begins with a byte that the signature allows there.

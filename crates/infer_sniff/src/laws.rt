@@ -11,8 +11,10 @@ use infer::{FRONT, laws, rows};
 /// Pieces may be cut in any way: what is kept after two pushes is what is kept after one of both pieces joined, and
 /// one buffer has one verdict.
 pub fn cuts()
-    ensures joined { (kept a b : List ℕ) → head FRONT (head FRONT (kept ++ a) ++ b) ≡ head FRONT (kept ++ (a ++ b)) }
-    ensures one_verdict { (b : List ℕ) (v w : Verdict) → IsVerdict b v → IsVerdict b w → AreAlike v w }
+    ensures joined { (kept a b : List ℕ)
+        → head FRONT (head FRONT (kept ++ a) ++ b) ≡ head FRONT (kept ++ (a ++ b)) }
+    ensures one_verdict { (b : List ℕ) (v w : Verdict) → IsVerdict b v → IsVerdict b w
+        → AreAlike v w }
 {}
 
 /// A final verdict is of a decided buffer: no bytes after a settled one change its first row.

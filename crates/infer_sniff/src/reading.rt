@@ -37,10 +37,12 @@ pub fn label<A: Allocator, R: Read>(
 ) -> Result<Option<Type>, Fault>
     requires { fault_of reader.old ≡ None }
     ensures answer { IfOk result (λ found. IfSome (R.remaining (inner reader.old)) (λ s. IsTypeOf (head FRONT s) found)) }
-    ensures some_bytes { IfOk result (λ found. (b : List ℕ) × IsBuffer b × (length b ≤ FRONT) × IsTypeOf b found) }
+    ensures some_bytes { IfOk result (λ found. (b : List ℕ) × IsBuffer b × (length b ≤ FRONT)
+        × IsTypeOf b found) }
 
     // After a final verdict nothing is read: what was lost but for the last piece had none.
-    ensures no_further { OnOk result ((b : List ℕ) × Consumes (R.remaining (inner reader.old)) (R.remaining (inner reader.new)) b
+    ensures no_further { OnOk result ((b : List ℕ)
+        × Consumes (R.remaining (inner reader.old)) (R.remaining (inner reader.new)) b
         × IsDue PIECE IsSettled b) }
     ensures fault { fault_of reader.new ≡ read_fault result }
     ensures memory { IsErrOf result Fault.Memory → reader.new ≡ reader.old }

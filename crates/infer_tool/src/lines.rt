@@ -37,9 +37,11 @@ pub fn run_lines<R: Files, A: Allocator + Copy, I: Read, W: Write + Drop, E: Wri
 ) -> io::Result<(Outcome, (Option<W>, Option<E>))>
     requires { fault_of input.old ≡ None }
     ensures refused { OnErr result (input.new ≡ input.old) }
-    ensures line { words.now ≡ [] → IfOk result (λ done. SaysThrough W.contents E.contents out err done
+    ensures line { words.now ≡ []
+        → IfOk result (λ done. SaysThrough W.contents E.contents out err done
         (ReportsReader I.remaining FRONT LosesUntilFinal input.old input.new (codes "-"))) }
-    ensures each { words.now ≢ [] → ¬ Asks sample_option (map string_bytes words.now) → ¬ Asks front_option (map string_bytes words.now)
+    ensures each { words.now ≢ [] → ¬ Asks sample_option (map string_bytes words.now)
+        → ¬ Asks front_option (map string_bytes words.now)
         → IfOk result (λ done. SaysThrough W.contents E.contents out err done (ReportsEach FRONT (map string_bytes words.now))) }
 
     // After `--sample`.
@@ -48,21 +50,26 @@ pub fn run_lines<R: Files, A: Allocator + Copy, I: Read, W: Write + Drop, E: Wri
         → IfOk result (λ done. SaysThrough W.contents E.contents out err done (WritesSample i)) }
     ensures usage { Asks sample_option (map string_bytes words.now) → length words.now ≢ 2
         → IfOk result (λ done. SaysThrough W.contents E.contents out err done (Refuses usage_line)) }
-    ensures no_sample { Asks sample_option (map string_bytes words.now) → ((i : ℕ) → ¬ HasSample (second (map string_bytes words.now)) i)
+    ensures no_sample { Asks sample_option (map string_bytes words.now)
+        → ((i : ℕ) → ¬ HasSample (second (map string_bytes words.now)) i)
         → length words.now ≡ 2
         → IfOk result (λ done. SaysThrough W.contents E.contents out err done (Refuses (no_sample_line (second (map string_bytes words.now))))) }
 
     // After `--front`.
-    ensures limit { Asks front_option (map string_bytes words.now) → (n : ℕ) → IsLimit (second (map string_bytes words.now)) n
+    ensures limit { Asks front_option (map string_bytes words.now) → (n : ℕ)
+        → IsLimit (second (map string_bytes words.now)) n
         → length words.now ≡ 2 → IfOk result (λ done. SaysThrough W.contents E.contents out err done
         (ReportsReader I.remaining n (LosesFront n) input.old input.new (codes "-"))) }
-    ensures limit_each { Asks front_option (map string_bytes words.now) → (n : ℕ) → IsLimit (second (map string_bytes words.now)) n
+    ensures limit_each { Asks front_option (map string_bytes words.now) → (n : ℕ)
+        → IsLimit (second (map string_bytes words.now)) n
         → length words.now ≢ 2
         → IfOk result (λ done. SaysThrough W.contents E.contents out err done (ReportsEach n (drop 2 (map string_bytes words.now)))) }
-    ensures no_second { Asks front_option (map string_bytes words.now) → ((n : ℕ) → ¬ IsLimit (second (map string_bytes words.now)) n)
+    ensures no_second { Asks front_option (map string_bytes words.now)
+        → ((n : ℕ) → ¬ IsLimit (second (map string_bytes words.now)) n)
         → length words.now < 2
         → IfOk result (λ done. SaysThrough W.contents E.contents out err done (Refuses usage_line)) }
-    ensures no_limit { Asks front_option (map string_bytes words.now) → ((n : ℕ) → ¬ IsLimit (second (map string_bytes words.now)) n)
+    ensures no_limit { Asks front_option (map string_bytes words.now)
+        → ((n : ℕ) → ¬ IsLimit (second (map string_bytes words.now)) n)
         → 2 ≤ length words.now
         → IfOk result (λ done. SaysThrough W.contents E.contents out err done (Refuses limits_line)) }
 {

@@ -50,10 +50,13 @@ fn words_of<R: Env + AllocGlobal>(rt: &R) -> io::Result<Vec<String>> {
 
 /// Runs over the system's streams, through buffers for lines, or without them if their memory is refused.
 fn run_words(rt: &HostRuntime, words: &[String]) -> Outcome
-    ensures usage { Asks sample_option (map string_bytes words.now) → length words.now ≢ 2 → result ≡ Outcome.Failed }
-    ensures no_sample { Asks sample_option (map string_bytes words.now) → ((i : ℕ) → ¬ HasSample (second (map string_bytes words.now)) i)
+    ensures usage { Asks sample_option (map string_bytes words.now) → length words.now ≢ 2
         → result ≡ Outcome.Failed }
-    ensures no_limit { Asks front_option (map string_bytes words.now) → ((n : ℕ) → ¬ IsLimit (second (map string_bytes words.now)) n)
+    ensures no_sample { Asks sample_option (map string_bytes words.now)
+        → ((i : ℕ) → ¬ HasSample (second (map string_bytes words.now)) i)
+        → result ≡ Outcome.Failed }
+    ensures no_limit { Asks front_option (map string_bytes words.now)
+        → ((n : ℕ) → ¬ IsLimit (second (map string_bytes words.now)) n)
         → result ≡ Outcome.Failed }
 {
     let block = if rt.stdout().is_terminal() { 0 } else { BLOCK };

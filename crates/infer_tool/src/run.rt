@@ -40,9 +40,11 @@ pub fn run<R: Files, A: Allocator + Copy, I: Read + Drop, W: Write, E: Write>(
     out: &mut W,
     err: &mut E,
 ) -> Outcome
-    ensures line { words.now ≡ [] → result ≢ Outcome.Failed → ReportsInput FRONT (I.remaining input) (codes "-") result
+    ensures line { words.now ≡ [] → result ≢ Outcome.Failed
+        → ReportsInput FRONT (I.remaining input) (codes "-") result
         (W.contents out.old) (W.contents out.new) (E.contents err.old) (E.contents err.new) }
-    ensures each { words.now ≢ [] → ¬ Asks sample_option (map string_bytes words.now) → ¬ Asks front_option (map string_bytes words.now)
+    ensures each { words.now ≢ [] → ¬ Asks sample_option (map string_bytes words.now)
+        → ¬ Asks front_option (map string_bytes words.now)
         → result ≢ Outcome.Failed → ReportsEach FRONT (map string_bytes words.now) result
         (W.contents out.old) (W.contents out.new) (E.contents err.old) (E.contents err.new) }
 
@@ -52,17 +54,21 @@ pub fn run<R: Files, A: Allocator + Copy, I: Read + Drop, W: Write, E: Write>(
         (W.contents out.old) (W.contents out.new) (E.contents err.old) (E.contents err.new) }
     ensures usage { Asks sample_option (map string_bytes words.now) → length words.now ≢ 2
         → (result ≡ Outcome.Failed) × (out.new ≡ out.old) }
-    ensures no_sample { Asks sample_option (map string_bytes words.now) → ((i : ℕ) → ¬ HasSample (second (map string_bytes words.now)) i)
+    ensures no_sample { Asks sample_option (map string_bytes words.now)
+        → ((i : ℕ) → ¬ HasSample (second (map string_bytes words.now)) i)
         → (result ≡ Outcome.Failed) × (out.new ≡ out.old) }
 
     // After `--front`.
-    ensures limit { Asks front_option (map string_bytes words.now) → (n : ℕ) → IsLimit (second (map string_bytes words.now)) n
+    ensures limit { Asks front_option (map string_bytes words.now) → (n : ℕ)
+        → IsLimit (second (map string_bytes words.now)) n
         → length words.now ≡ 2 → result ≢ Outcome.Failed → ReportsInput n (I.remaining input) (codes "-") result
         (W.contents out.old) (W.contents out.new) (E.contents err.old) (E.contents err.new) }
-    ensures limit_each { Asks front_option (map string_bytes words.now) → (n : ℕ) → IsLimit (second (map string_bytes words.now)) n
+    ensures limit_each { Asks front_option (map string_bytes words.now) → (n : ℕ)
+        → IsLimit (second (map string_bytes words.now)) n
         → length words.now ≢ 2 → result ≢ Outcome.Failed → ReportsEach n (drop 2 (map string_bytes words.now)) result
         (W.contents out.old) (W.contents out.new) (E.contents err.old) (E.contents err.new) }
-    ensures no_limit { Asks front_option (map string_bytes words.now) → ((n : ℕ) → ¬ IsLimit (second (map string_bytes words.now)) n)
+    ensures no_limit { Asks front_option (map string_bytes words.now)
+        → ((n : ℕ) → ¬ IsLimit (second (map string_bytes words.now)) n)
         → (result ≡ Outcome.Failed) × (out.new ≡ out.old) }
     ensures silent { result ≢ Outcome.Failed → err.new ≡ err.old }
 {
@@ -88,30 +94,38 @@ pub fn run_watched<R: Files, A: Allocator + Copy, I: Read, W: Write, E: Write>(
     err: &mut WatchedWriter<'_, E>,
 ) -> Outcome
     requires { fault_of input.old ≡ None }
-    ensures line { words.now ≡ [] → Says W.contents E.contents out.old out.new err.old err.new result
+    ensures line { words.now ≡ []
+        → Says W.contents E.contents out.old out.new err.old err.new result
         (ReportsReader I.remaining FRONT LosesUntilFinal input.old input.new (codes "-")) }
-    ensures each { words.now ≢ [] → ¬ Asks sample_option (map string_bytes words.now) → ¬ Asks front_option (map string_bytes words.now)
+    ensures each { words.now ≢ [] → ¬ Asks sample_option (map string_bytes words.now)
+        → ¬ Asks front_option (map string_bytes words.now)
         → Says W.contents E.contents out.old out.new err.old err.new result (ReportsEach FRONT (map string_bytes words.now)) }
-    ensures unread { words.now ≢ [] → ¬ Asks front_option (map string_bytes words.now) → input.new ≡ input.old }
+    ensures unread { words.now ≢ [] → ¬ Asks front_option (map string_bytes words.now)
+        → input.new ≡ input.old }
 
     // After `--sample`.
     ensures sample { Asks sample_option (map string_bytes words.now) → length words.now ≡ 2
         → (i : ℕ) → HasSample (second (map string_bytes words.now)) i
         → Says W.contents E.contents out.old out.new err.old err.new result (WritesSample i) }
-    ensures usage { Asks sample_option (map string_bytes words.now) → length words.now ≢ 2 → (result ≡ Outcome.Failed) × (out.new ≡ out.old)
+    ensures usage { Asks sample_option (map string_bytes words.now) → length words.now ≢ 2
+        → (result ≡ Outcome.Failed) × (out.new ≡ out.old)
         × Tells (has_failed err.new) (E.contents (inner err.old)) (E.contents (inner err.new)) usage_line }
-    ensures no_sample { Asks sample_option (map string_bytes words.now) → ((i : ℕ) → ¬ HasSample (second (map string_bytes words.now)) i)
+    ensures no_sample { Asks sample_option (map string_bytes words.now)
+        → ((i : ℕ) → ¬ HasSample (second (map string_bytes words.now)) i)
         → (result ≡ Outcome.Failed) × (out.new ≡ out.old)
         × (length words.now ≡ 2 → Tells (has_failed err.new) (E.contents (inner err.old)) (E.contents (inner err.new)) (no_sample_line (second (map string_bytes words.now)))) }
 
     // After `--front`.
-    ensures limit { Asks front_option (map string_bytes words.now) → (n : ℕ) → IsLimit (second (map string_bytes words.now)) n
+    ensures limit { Asks front_option (map string_bytes words.now) → (n : ℕ)
+        → IsLimit (second (map string_bytes words.now)) n
         → length words.now ≡ 2 → Says W.contents E.contents out.old out.new err.old err.new result
         (ReportsReader I.remaining n (LosesFront n) input.old input.new (codes "-")) }
-    ensures limit_each { Asks front_option (map string_bytes words.now) → (n : ℕ) → IsLimit (second (map string_bytes words.now)) n
+    ensures limit_each { Asks front_option (map string_bytes words.now) → (n : ℕ)
+        → IsLimit (second (map string_bytes words.now)) n
         → length words.now ≢ 2 → (input.new ≡ input.old)
         × Says W.contents E.contents out.old out.new err.old err.new result (ReportsEach n (drop 2 (map string_bytes words.now))) }
-    ensures no_limit { Asks front_option (map string_bytes words.now) → ((n : ℕ) → ¬ IsLimit (second (map string_bytes words.now)) n)
+    ensures no_limit { Asks front_option (map string_bytes words.now)
+        → ((n : ℕ) → ¬ IsLimit (second (map string_bytes words.now)) n)
         → (result ≡ Outcome.Failed) × (out.new ≡ out.old) × (input.new ≡ input.old)
         × (length words.now < 2 → Tells (has_failed err.new) (E.contents (inner err.old)) (E.contents (inner err.new)) usage_line)
         × (2 ≤ length words.now → Tells (has_failed err.new) (E.contents (inner err.old)) (E.contents (inner err.new)) limits_line) }
@@ -153,11 +167,13 @@ fn run_asked<W: Write, E: Write>(
     out: &mut WatchedWriter<'_, W>,
     err: &mut WatchedWriter<'_, E>,
 ) -> Outcome
-    ensures sample { length words.now ≡ 2 → (i : ℕ) → HasSample (second (map string_bytes words.now)) i
+    ensures sample { length words.now ≡ 2 → (i : ℕ)
+        → HasSample (second (map string_bytes words.now)) i
         → Says W.contents E.contents out.old out.new err.old err.new result (WritesSample i) }
     ensures usage { length words.now ≢ 2 → (result ≡ Outcome.Failed) × (out.new ≡ out.old)
         × Tells (has_failed err.new) (E.contents (inner err.old)) (E.contents (inner err.new)) usage_line }
-    ensures no_sample { ((i : ℕ) → ¬ HasSample (second (map string_bytes words.now)) i) → (result ≡ Outcome.Failed) × (out.new ≡ out.old)
+    ensures no_sample { ((i : ℕ) → ¬ HasSample (second (map string_bytes words.now)) i)
+        → (result ≡ Outcome.Failed) × (out.new ≡ out.old)
         × (length words.now ≡ 2 → Tells (has_failed err.new) (E.contents (inner err.old)) (E.contents (inner err.new)) (no_sample_line (second (map string_bytes words.now)))) }
     ensures later { IsLater out.old out.new }
     ensures err_later { IsLater err.old err.new }
@@ -219,7 +235,8 @@ fn run_within<R: Files, A: Allocator + Copy, I: Read, W: Write, E: Write>(
     requires fault { fault_of input.old ≡ None }
     requires least { 1 ≤ n }
     requires most { n ≤ 65536 }
-    ensures limit { length words.now ≡ 2 → Says W.contents E.contents out.old out.new err.old err.new result
+    ensures limit { length words.now ≡ 2
+        → Says W.contents E.contents out.old out.new err.old err.new result
         (ReportsReader I.remaining n (LosesFront n) input.old input.new (codes "-")) }
     ensures limit_each { length words.now ≢ 2 → (input.new ≡ input.old)
         × Says W.contents E.contents out.old out.new err.old err.new result (ReportsEach n (drop 2 (map string_bytes words.now))) }

@@ -26,7 +26,8 @@ pub fn run_sample<W: Write, E: Write>(
 ) -> Outcome
     ensures sample { (i : ℕ) → HasSample extension.now i
         → Says W.contents E.contents out.old out.new err.old err.new result (WritesSample i) }
-    ensures none { ((i : ℕ) → ¬ HasSample extension.now i) → (result ≡ Outcome.Failed) × (out.new ≡ out.old)
+    ensures none { ((i : ℕ) → ¬ HasSample extension.now i) → (result ≡ Outcome.Failed)
+        × (out.new ≡ out.old)
         × Tells (has_failed err.new) (E.contents (inner err.old)) (E.contents (inner err.new)) (no_sample_line extension.now) }
     ensures later { IsLater out.old out.new }
     ensures err_later { IsLater err.old err.new }

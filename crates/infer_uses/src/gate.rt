@@ -40,7 +40,8 @@ pub fn is_of_class(front: &[u8], class: MatcherType) -> bool
 pub fn may_answer(front: &[u8], row: usize) -> Option<bool>
     ensures told { IfSome result (λ yes. IsTrue yes ↔ MayAnswer front.now row) }
     ensures before { result ≡ None → (k : ℕ) → IsFirst (Accepts front.now) table k → row < k }
-    ensures after { result ≡ None → RowHas (MayAccept front.now) row × ((i : ℕ) × (i < row) × RowHas (MayAccept front.now) i) }
+    ensures after { result ≡ None → RowHas (MayAccept front.now) row
+        × ((i : ℕ) × (i < row) × RowHas (MayAccept front.now) i) }
 {
     laws::later();
     match position(front) {
@@ -53,7 +54,8 @@ pub fn may_answer(front: &[u8], row: usize) -> Option<bool>
 /// What [`may_answer`] tells of a row before the answer so far, or of any row if there is none.
 fn may_answer_before(front: &[u8], row: usize) -> Option<bool>
     ensures told { IfSome result (λ yes. IsTrue yes ↔ MayAnswer front.now row) }
-    ensures after { result ≡ None → RowHas (MayAccept front.now) row × ((i : ℕ) × (i < row) × RowHas (MayAccept front.now) i) }
+    ensures after { result ≡ None → RowHas (MayAccept front.now) row
+        × ((i : ℕ) × (i < row) × RowHas (MayAccept front.now) i) }
 {
     laws::later();
     if !may_become(front, row) {

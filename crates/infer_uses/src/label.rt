@@ -18,7 +18,8 @@ pub fn label<A: Allocator>(
 ) -> Option<&'static str>
     ensures kept { sniffer.new ≡ head 8192 (sniffer.old ++ piece.now) }
     ensures at_once { IsSettled sniffer.new → IsSome result }
-    ensures certain { IsFalse is_end → IfSome result (λ text. (more : List ℕ) → IsLabel (sniffer.new ++ more) text.now) }
+    ensures certain { IsFalse is_end
+        → IfSome result (λ text. (more : List ℕ) → IsLabel (sniffer.new ++ more) text.now) }
     ensures end { IsTrue is_end → IsSome result }
     ensures last { IfSome result (λ text. IsLabel sniffer.new text.now) }
 {

@@ -1,7 +1,7 @@
 //! The answer where a caller has added a row, as its contract tells.
 ghost use Rattle.std.specs.Prelude.{◌≡◌, ◌↔◌, [], ◌∷◌, IfOk, IsTrue, Some, codes, nat_eq, option_map};
 ghost use Rattle.std.specs.List.{starts_with};
-ghost use Rattle.infer.specs.Caller.{IsSettled};
+ghost use Rattle.infer.specs.Caller.{FixesAnswers};
 ghost use Rattle.infer.specs.Rows.{custom_rows, given};
 ghost use Rattle.infer.specs.Triple.{triple, triple_of};
 ghost use Rattle.infer.specs.declared.table.file_type.MatcherType.TheVariants.{Custom};
@@ -18,7 +18,7 @@ pub fn begins_10_11_12(buf: &[u8]) -> bool
 /// An `Infer` with one row, whose function is the caller's.
 fn with_row(alloc: Global, m: Matcher) -> Result<Infer, AllocError>
     requires callable { IsAlwaysCallable m }
-    requires settled { IsSettled (post m) }
+    requires settled { FixesAnswers (post m) }
     ensures { IfOk result (λ infer. custom_rows infer ≡ record { shows = triple Custom (codes "custom/foo") (codes "foo"); signature = given m } ∷ []) }
 {
     let mut infer = Infer::new();

@@ -25,7 +25,8 @@ impl<'a> Noting<'a> {
 
     /// The rows that were asked, in order.
     fn rows(&self) -> &[usize]
-        ensures { (rows : List ℕ) → length rows ≤ ROW_COUNT → ⟦<Noting<'a> as Ask>⟧.has_asked self.now rows → result.now ≡ rows }
+        ensures { (rows : List ℕ) → length rows ≤ ROW_COUNT
+            → ⟦<Noting<'a> as Ask>⟧.has_asked self.now rows → result.now ≡ rows }
     {
         let count = self.inner.asked() as usize;
         &self.rows[..count.min(ROW_COUNT)]

@@ -89,7 +89,8 @@ pub fn is_accepted_by_exe(buf: &[u8]) -> bool
 }
 
 pub fn is_exe_by_extension(buf: &[u8]) -> bool
-    ensures accepted { IsTrue result ↔ SomeBoth (HasExtension (codes "exe")) (Accepts buf.now) table }
+    ensures accepted { IsTrue result
+        ↔ SomeBoth (HasExtension (codes "exe")) (Accepts buf.now) table }
     ensures agreed { IsTrue result ↔ IsAgreed (codes "exe") buf.now }
 {
     is(buf, "exe")
@@ -248,7 +249,8 @@ pub fn is_labelled_png(buf: &[u8]) -> bool
 
 /// Whether it is the sample of PNG, as 640 bytes that begin with it and then have zeros hold it.
 pub fn is_sample_of_png(front: &[u8]) -> bool
-    ensures { IsTrue result ↔ HoldsAt (HoldsSample (length front.now) (front.now ++ zeros (640 - length front.now))) table PNG }
+    ensures { IsTrue result
+        ↔ HoldsAt (HoldsSample (length front.now) (front.now ++ zeros (640 - length front.now))) table PNG }
 {
     let mut out = [0; 640];
     match sample(PNG, &mut out) {

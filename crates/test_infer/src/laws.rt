@@ -7,7 +7,7 @@ ghost use Rattle.infer.specs.Buffer.{IsBuffer, head};
 ghost use Rattle.infer.specs.Decided.{IsDecided, MayAnswer};
 ghost use Rattle.infer.specs.BuiltIn.{IsAccepted, matroska};
 ghost use Rattle.infer.specs.First.{IsFirst};
-ghost use Rattle.infer.specs.Laws.{AnyLasts, answers_twelve};
+ghost use Rattle.infer.specs.Laws.{AnyLasts, answers_far};
 ghost use Rattle.infer.specs.Row.{Accepts};
 ghost use Rattle.infer.specs.Rows.{custom_rows};
 ghost use Rattle.infer.specs.Signature.{accepts};
@@ -93,7 +93,7 @@ pub fn get_both_after_addition(alloc: Global) -> Result<(Option<Type>, Option<Ty
 /// The positions of a buffer and of its first 1024 bytes.
 pub fn position_and_front(buf: &[u8], front: &[u8]) -> (Option<usize>, Option<usize>)
     requires { front.now ≡ take 1024 buf.now }
-    ensures { IsTrue (not (answers_twelve result.0)) → result.1 ≡ result.0 }
+    ensures { IsTrue (not (answers_far result.0)) → result.1 ≡ result.0 }
 {
     laws::front();
     laws::single();
@@ -102,7 +102,8 @@ pub fn position_and_front(buf: &[u8], front: &[u8]) -> (Option<usize>, Option<us
 
 /// A first row of some buffer is not that of its first 1024 bytes.
 pub fn document_breaks()
-    ensures { (buf : List ℕ) × IsFirst (Accepts buf) table DOC × ¬ IsFirst (Accepts (take 1024 buf)) table DOC }
+    ensures { (buf : List ℕ) × IsFirst (Accepts buf) table DOC
+        × ¬ IsFirst (Accepts (take 1024 buf)) table DOC }
 {
     laws::breaks();
     laws::single();
@@ -117,7 +118,8 @@ pub fn script_is_reached()
 
 /// The sample of a row, for which the 640 bytes of `out` are enough, and no bytes if it has none.
 pub fn sample_within(row: usize, out: &mut [u8; 640]) -> &[u8]
-    ensures { row < ROW_COUNT → row ≢ DLL → row ≢ EPUB_ARCHIVE → IsFirst (Accepts result.now) table row }
+    ensures { row < ROW_COUNT → row ≢ DLL → row ≢ EPUB_ARCHIVE
+        → IsFirst (Accepts result.now) table row }
 {
     match sample(row, out) {
         Some(count) => &out[..count],
@@ -146,7 +148,8 @@ pub fn both_may_become(short: &[u8], long: &[u8], row: usize) -> (bool, bool)
 /// Some bytes after a buffer that is not empty decide it, whatever follows these.
 pub fn can_stay_decided(buf: &[u8]) -> bool
     requires { 0 < length buf.now }
-    ensures { (more : List ℕ) × ((rest : List ℕ) → IsBuffer rest → IsDecided ((buf.now ++ more) ++ rest)) }
+    ensures { (more : List ℕ)
+        × ((rest : List ℕ) → IsBuffer rest → IsDecided ((buf.now ++ more) ++ rest)) }
 {
     laws::later();
     is_decided(buf)
@@ -194,7 +197,8 @@ pub fn position_and_walk(buf: &[u8]) -> (Option<usize>, Option<usize>)
 /// The positions of two buffers with the same first 1024 bytes.
 pub fn positions_of_both(a: &[u8], b: &[u8]) -> (Option<usize>, Option<usize>)
     requires { take 1024 a.now ≡ take 1024 b.now }
-    ensures { IsTrue (not (answers_twelve result.0)) → IsTrue (not (answers_twelve result.1)) → result.0 ≡ result.1 }
+    ensures { IsTrue (not (answers_far result.0)) → IsTrue (not (answers_far result.1))
+        → result.0 ≡ result.1 }
 {
     laws::locality();
     (position(a), position(b))

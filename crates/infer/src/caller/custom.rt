@@ -1,7 +1,7 @@
 //! A row that a caller added.
 ghost use Rattle.std.specs.Prelude.{◌≡◌, ◌↔◌, IsTrue};
 ghost use Rattle.std.specs.Bool.{OnFalse, OnTrue};
-ghost use Rattle.infer.specs.Caller.{IsSettled};
+ghost use Rattle.infer.specs.Caller.{FixesAnswers};
 
 use crate::ask::question::Wanted;
 use crate::table::file_type::{FileType, Matcher, MatcherType};
@@ -13,7 +13,7 @@ pub struct CustomRow {
     pub extension: &'static str,
     pub matcher: Matcher,
     pub ghost callable: { IsAlwaysCallable matcher },
-    pub ghost settled: { IsSettled (post matcher) },
+    pub ghost settled: { FixesAnswers (post matcher) },
 }
 
 impl CustomRow {

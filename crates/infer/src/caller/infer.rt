@@ -1,6 +1,6 @@
 //! The list of rows that is asked.
 ghost use Rattle.std.specs.Prelude.{◌≡◌, ◌↔◌, None, Some, [], ◌∷◌, ◌++◌, IsTrue, OnErr, OnOk, map, option_map};
-ghost use Rattle.infer.specs.Caller.{IsSettled};
+ghost use Rattle.infer.specs.Caller.{FixesAnswers};
 ghost use Rattle.infer.specs.First.{IsAnswer, SomeHas};
 ghost use Rattle.infer.specs.Questions.{HasClass, HasExtension, HasMimeType, IsWanted, SomeBoth};
 ghost use Rattle.infer.specs.Rows.{AnyAccepts, custom_row, custom_rows, given, rows};
@@ -63,7 +63,7 @@ impl<A: Allocator> Infer<A> {
         m: Matcher,
     ) -> Result<(), AllocError>
         requires callable { IsAlwaysCallable m }
-        requires settled { IsSettled (post m) }
+        requires settled { FixesAnswers (post m) }
         ensures added { OnOk result (custom_rows self.new ≡ custom_rows self.old
             ++ record { shows = triple Custom mime_type.now extension.now; signature = given m } ∷ []) }
         ensures refused { OnErr result (custom_rows self.new ≡ custom_rows self.old) }
@@ -96,14 +96,16 @@ impl<A: Allocator> Infer<A> {
 
     /// Whether some row with this extension accepts `buf`. Upper and lower case are apart.
     pub fn is(&self, buf: &[u8], extension: &str) -> bool
-        ensures { IsTrue result ↔ SomeBoth (HasExtension extension.now) (AnyAccepts buf.now) (rows self.now) }
+        ensures { IsTrue result
+            ↔ SomeBoth (HasExtension extension.now) (AnyAccepts buf.now) (rows self.now) }
     {
         self.some(Wanted::Extension(extension), buf)
     }
 
     /// Whether some row with this MIME type accepts `buf`. Upper and lower case are apart.
     pub fn is_mime(&self, buf: &[u8], mime_type: &str) -> bool
-        ensures { IsTrue result ↔ SomeBoth (HasMimeType mime_type.now) (AnyAccepts buf.now) (rows self.now) }
+        ensures { IsTrue result
+            ↔ SomeBoth (HasMimeType mime_type.now) (AnyAccepts buf.now) (rows self.now) }
     {
         self.some(Wanted::MimeType(mime_type), buf)
     }
@@ -124,80 +126,93 @@ impl<A: Allocator> Infer<A> {
 
     /// Whether some row of the class `App` accepts `buf`.
     pub fn is_app(&self, buf: &[u8]) -> bool
-        ensures { IsTrue result ↔ SomeBoth (HasClass MatcherType.App) (AnyAccepts buf.now) (rows self.now) }
+        ensures { IsTrue result
+            ↔ SomeBoth (HasClass MatcherType.App) (AnyAccepts buf.now) (rows self.now) }
     {
         self.some(Wanted::Class(MatcherType::App), buf)
     }
 
     /// Whether some row of the class `Archive` accepts `buf`.
     pub fn is_archive(&self, buf: &[u8]) -> bool
-        ensures { IsTrue result ↔ SomeBoth (HasClass MatcherType.Archive) (AnyAccepts buf.now) (rows self.now) }
+        ensures { IsTrue result
+            ↔ SomeBoth (HasClass MatcherType.Archive) (AnyAccepts buf.now) (rows self.now) }
     {
         self.some(Wanted::Class(MatcherType::Archive), buf)
     }
 
     /// Whether some row of the class `Audio` accepts `buf`.
     pub fn is_audio(&self, buf: &[u8]) -> bool
-        ensures { IsTrue result ↔ SomeBoth (HasClass MatcherType.Audio) (AnyAccepts buf.now) (rows self.now) }
+        ensures { IsTrue result
+            ↔ SomeBoth (HasClass MatcherType.Audio) (AnyAccepts buf.now) (rows self.now) }
     {
         self.some(Wanted::Class(MatcherType::Audio), buf)
     }
 
     /// Whether some row of the class `Book` accepts `buf`.
     pub fn is_book(&self, buf: &[u8]) -> bool
-        ensures { IsTrue result ↔ SomeBoth (HasClass MatcherType.Book) (AnyAccepts buf.now) (rows self.now) }
+        ensures { IsTrue result
+            ↔ SomeBoth (HasClass MatcherType.Book) (AnyAccepts buf.now) (rows self.now) }
     {
         self.some(Wanted::Class(MatcherType::Book), buf)
     }
 
     /// Whether some row of the class `Doc` accepts `buf`.
     pub fn is_document(&self, buf: &[u8]) -> bool
-        ensures { IsTrue result ↔ SomeBoth (HasClass MatcherType.Doc) (AnyAccepts buf.now) (rows self.now) }
+        ensures { IsTrue result
+            ↔ SomeBoth (HasClass MatcherType.Doc) (AnyAccepts buf.now) (rows self.now) }
     {
         self.some(Wanted::Class(MatcherType::Doc), buf)
     }
 
     /// Whether some row of the class `Font` accepts `buf`.
     pub fn is_font(&self, buf: &[u8]) -> bool
-        ensures { IsTrue result ↔ SomeBoth (HasClass MatcherType.Font) (AnyAccepts buf.now) (rows self.now) }
+        ensures { IsTrue result
+            ↔ SomeBoth (HasClass MatcherType.Font) (AnyAccepts buf.now) (rows self.now) }
     {
         self.some(Wanted::Class(MatcherType::Font), buf)
     }
 
     /// Whether some row of the class `Image` accepts `buf`.
     pub fn is_image(&self, buf: &[u8]) -> bool
-        ensures { IsTrue result ↔ SomeBoth (HasClass MatcherType.Image) (AnyAccepts buf.now) (rows self.now) }
+        ensures { IsTrue result
+            ↔ SomeBoth (HasClass MatcherType.Image) (AnyAccepts buf.now) (rows self.now) }
     {
         self.some(Wanted::Class(MatcherType::Image), buf)
     }
 
     /// Whether some row of the class `Video` accepts `buf`.
     pub fn is_video(&self, buf: &[u8]) -> bool
-        ensures { IsTrue result ↔ SomeBoth (HasClass MatcherType.Video) (AnyAccepts buf.now) (rows self.now) }
+        ensures { IsTrue result
+            ↔ SomeBoth (HasClass MatcherType.Video) (AnyAccepts buf.now) (rows self.now) }
     {
         self.some(Wanted::Class(MatcherType::Video), buf)
     }
 
     /// Whether some row of the class `Custom` accepts `buf`.
     pub fn is_custom(&self, buf: &[u8]) -> bool
-        ensures { IsTrue result ↔ SomeBoth (HasClass MatcherType.Custom) (AnyAccepts buf.now) (rows self.now) }
+        ensures { IsTrue result
+            ↔ SomeBoth (HasClass MatcherType.Custom) (AnyAccepts buf.now) (rows self.now) }
     {
         self.some(Wanted::Class(MatcherType::Custom), buf)
     }
 
     /// Whether some row that is wanted accepts the buffer.
     fn some(&self, wanted: Wanted, buf: &[u8]) -> bool
-        ensures { IsTrue result ↔ SomeBoth (IsWanted wanted.entry) (AnyAccepts buf.now) (rows self.now) }
+        ensures { IsTrue result
+            ↔ SomeBoth (IsWanted wanted.entry) (AnyAccepts buf.now) (rows self.now) }
     {
         self.custom_some(wanted, buf) || answers::some(wanted, buf)
     }
 
     /// Whether some added row that is wanted accepts the buffer.
     fn custom_some(&self, wanted: Wanted, buf: &[u8]) -> bool
-        ensures { IsTrue result ↔ SomeBoth (IsWanted wanted.entry) (AnyAccepts buf.now) (custom_rows self.now) }
+        ensures { IsTrue result
+            ↔ SomeBoth (IsWanted wanted.entry) (AnyAccepts buf.now) (custom_rows self.now) }
     {
         let takes = |row: &CustomRow| -> bool
-            ensures { IsTrue result ↔ (IsWanted wanted.entry (custom_row row.now) × AnyAccepts buf.entry.now (custom_row row.now)) }
+            ensures { IsTrue result
+                ↔ (IsWanted wanted.entry (custom_row row.now)
+                × AnyAccepts buf.entry.now (custom_row row.now)) }
         { row.fits(wanted) && row.accepts(buf) };
         self.custom().iter().any(takes)
     }

@@ -30,10 +30,12 @@ pub trait Ask {
     /// Whether the built-in row `i` accepts the buffer. It is the last that was asked.
     fn ask(&mut self, i: usize) -> bool
         requires row { i < ROW_COUNT }
-        requires room { (before : List ℕ) × has_asked self.old before × (length before < ROW_COUNT) }
+        requires room { (before : List ℕ) × has_asked self.old before
+            × (length before < ROW_COUNT) }
         ensures answer { IsTrue result ↔ RowHas (Accepts (buffer self.old)) i }
         ensures kept { buffer self.new ≡ buffer self.old }
-        ensures asked { (before : List ℕ) → has_asked self.old before → has_asked self.new (before ++ i ∷ []) };
+        ensures asked { (before : List ℕ) → has_asked self.old before
+            → has_asked self.new (before ++ i ∷ []) };
 }
 
 /// Asks the matchers, and counts. Of the rows that were asked it knows their number alone.
@@ -54,7 +56,8 @@ impl<'a> Asker<'a> {
 
     /// How many rows were asked.
     pub fn asked(&self) -> u32
-        ensures { (rows : List ℕ) → ⟦<Asker<'a> as Ask>⟧.has_asked self.now rows → result ≡ length rows }
+        ensures { (rows : List ℕ) → ⟦<Asker<'a> as Ask>⟧.has_asked self.now rows
+            → result ≡ length rows }
     {
         self.count
     }
@@ -135,7 +138,8 @@ fn walk_extension<A: Ask>(asker: &mut A, extension: &str) -> Option<usize>
 fn ask_named<A: Ask>(asker: &mut A, row: RowName, extension: &str, candidates: &[usize]) -> bool
     requires all { candidates.now ≡ candidates_of (A.buffer asker.old) }
     requires room { (before : List ℕ) × A.has_asked asker.old before × (length before < ROW_COUNT) }
-    ensures answer { IsTrue result ↔ RowHas (Takes (Extension extension.entry) (A.buffer asker.old)) (number_of row) }
+    ensures answer { IsTrue result
+        ↔ RowHas (Takes (Extension extension.entry) (A.buffer asker.old)) (number_of row) }
     ensures asked { (before : List ℕ) → A.has_asked asker.old before
         → A.has_asked asker.new (before ++ filter (λ i. is_wanted (Extension extension.entry) i && is_listed candidates.now i) (number_of row ∷ [])) }
     ensures kept { A.buffer asker.new ≡ A.buffer asker.old }
@@ -187,7 +191,8 @@ pub fn position_counted(buf: &[u8]) -> (Option<usize>, u32)
 /// Whether some built-in row with this extension accepts `buf`, as [`is`](crate::is) answers, and how many rows a
 /// [`walk`] asks for it: the candidates with the extension up to the first that accepts `buf`.
 pub fn is_counted(buf: &[u8], extension: &str) -> (bool, u32)
-    ensures found { IsTrue result.0 ↔ SomeBoth (HasExtension extension.now) (Accepts buf.now) table }
+    ensures found { IsTrue result.0
+        ↔ SomeBoth (HasExtension extension.now) (Accepts buf.now) table }
     ensures counted { (answer : Option ℕ)
         × IsFirstAmong (RowHas (Takes (Extension extension.entry) buf.now)) (candidates_of buf.now) answer × (result.0 ≡ is_some answer)
         × (result.1 ≡ count_asked (Extension extension.entry) buf.now answer) }

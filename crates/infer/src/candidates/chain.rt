@@ -232,7 +232,8 @@ fn office_row<Q: Question>(question: &Q, buf: &[u8]) -> Option<usize>
 /// Whether row `i` is asked for, and the folder has that name.
 #[inline(always)]
 fn is_folder_of<Q: Question>(i: usize, question: &Q, folder: &[u8], name: &[u8]) -> bool
-    ensures { IsTrue result ↔ RowHas (IsWanted (Q.wanted question.now)) i × OccursAt folder.now name.now 0 }
+    ensures { IsTrue result ↔ RowHas (IsWanted (Q.wanted question.now)) i
+        × OccursAt folder.now name.now 0 }
 {
     is_wanted(i, question) && stands_at(folder, name, 0)
 }

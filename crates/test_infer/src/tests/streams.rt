@@ -142,7 +142,7 @@ macro_rules! office {
 }
 
 #[test]
-fn the_twelve_come_late(rt: HostRuntime) -> Result<(), Fail> {
+fn far_rows_come_late(rt: HostRuntime) -> Result<(), Fail> {
     let cases: [Late; 12] = [
         (
             0,

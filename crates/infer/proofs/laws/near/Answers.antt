@@ -1,5 +1,5 @@
 use Rattle.std.proofs.Common.{refl}
-use Rattle.infer.specs.Matchers.{is_of_the_twelve}
+use Rattle.infer.specs.Matchers.{is_far_row}
 use Rattle.infer.specs.Table.{signature_of, table}
 use Rattle.infer.proofs.LawLemmas.{others_near}
 use Rattle.infer.proofs.laws.near.Goals as goal
@@ -8,5 +8,5 @@ pub returns-clause-others : goal.returns-clause-others
 returns-clause-others c = others_near c.near.ensures c.near-2.ensures
 
 pub returns-clause-twelve : goal.returns-clause-twelve
-unfolding is_of_the_twelve signature_of table
+unfolding is_far_row signature_of table
 returns-clause-twelve c = refl

@@ -18,6 +18,7 @@ returns c = record {
   heif = boxed-lasts IsHeif (λ b h. h.0) IsHeif-carried;
   avif = boxed-lasts IsAvif (λ b h. h.0) IsAvif-carried;
   office = λ folder b more (p, d, o). (p, IsDecidingPlace-append b more p d, OccursAt-append b more folder p o);
+  class_id = HasClassId-lasts;
   doc = HasClassId-lasts word_id;
   xls = λ b more h. grind (arith, HasClassId-lasts);
   ppt = HasClassId-lasts powerpoint_id;

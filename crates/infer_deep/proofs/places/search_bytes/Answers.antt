@@ -1,11 +1,12 @@
 use Rattle.std.proofs.Common.{arith, subst, sym}
+use Rattle.memchr.specs.Find.{OccursAt}
 use Rattle.infer_deep.specs.Places.{IsFirstWithin}
 use Rattle.infer_deep.proofs.SearchLemmas.{first_in_rest, none_in_rest}
 use Rattle.infer_deep.proofs.places.search_bytes.Goals as goal
 
 pub returns-in_err-at : goal.returns-in_err-at
 returns-in_err-at c =
-    subst (IsFirstWithin c.args.buf.now c.args.text.now c.args.start c.args.end) (sym c.from_residual.ensures)
+    subst (IsFirstWithin OccursAt c.args.buf.now c.args.text.now c.args.start c.args.end) (sym c.from_residual.ensures)
     (none_in_rest _ _ _ _ _ c.min-stop.ensures (omega arith) c.in_err-at.ensures)
 
 pub returns : goal.returns

@@ -1,11 +1,11 @@
 use Rattle.std.proofs.Common.{Some, take, refl}
-use Rattle.infer.specs.Matchers.{is_of_the_twelve}
+use Rattle.infer.specs.Matchers.{is_far_row}
 use Rattle.infer.specs.Table.{signature_of, table}
 use Rattle.infer.specs.declared.table.rows.TheConstants.{DOC}
 use Rattle.test_infer.proofs.laws.document_breaks.Goals as goal
 
 pub returns : goal.returns
-unfolding is_of_the_twelve signature_of table
+unfolding is_far_row signature_of table
 returns c =
     let found = c.breaks.ensures.rows DOC refl in (
       found.0,

@@ -3,7 +3,7 @@ use Rattle.std.specs.Bool.{OnFalse}
 use Rattle.std.proofs.lemmas.Grind.{get_or_default_zero}
 use denote.Ref.{Bor}
 use Rattle.infer.specs.Buffer.{IsBuffer}
-use Rattle.infer.specs.Caller.{Contract, Allows, IsSettled}
+use Rattle.infer.specs.Caller.{Contract, Allows, FixesAnswers}
 use Rattle.infer.proofs.caller.custom.CustomRow.accepts.Goals as goal
 
 -- a slice of bytes is a buffer
@@ -11,7 +11,7 @@ IsBuffer-bytes : (b : List ℕ) → ((i : ℕ) → get_or b i 0 < 256) → IsBuf
 IsBuffer-bytes b h k d lt = rw (get_or_default_zero b k d lt) (h k)
 
 -- a call that answered false is one whose contract does not allow true
-settled_no : (post : Contract) (buf : Bor (List ℕ)) (answer : Bool) → ((i : ℕ) → get_or buf.now i 0 < 256) → IsSettled post
+settled_no : (post : Contract) (buf : Bor (List ℕ)) (answer : Bool) → ((i : ℕ) → get_or buf.now i 0 < 256) → FixesAnswers post
     → post buf answer → OnFalse answer (¬ Allows post buf.now true)
 settled_no post buf answer bytes settled says = grind (arith, IsBuffer-bytes buf.now bytes)
 
