@@ -1,3 +1,4 @@
+pub mod GrowthLemmas
 pub mod PartLemmas
 pub mod PngLemmas
 pub mod SubtitlesLemmas

@@ -9,3 +9,4 @@ pub mod Subtitles
 pub mod Tar
 pub mod Runs
 pub mod Script
+pub mod Laws

@@ -3,6 +3,7 @@
 
 pub mod dbase;
 pub mod elf;
+pub mod laws;
 mod numbers;
 pub mod png;
 mod runs;
