@@ -13,16 +13,31 @@ MOST_GUARDS = 15
 BEHIND = 12
 HEAD = """//! The lists of the index, which `docs/tables` makes from the rows: a place, a byte there, and a row. Those below each
 //! built-in row stand eight a line, and so do those by the first byte.
-use crate::index::{{Entry, Gate, Guard, RowIndex}};
+use crate::index::{{Entry, Gate, Guard, Parentless, Range}};
 
 /// How many further rows there are.
 pub const FURTHER_COUNT: usize = {};
 
-pub(super) static INDEX: RowIndex = RowIndex {{
 """
 # A text or a character in the code.
 TEXT = r"""(?:"(?:[^"\\]|\\.)*"|'(?:[^'\\]|\\.)*')"""
 COMMON = set(b" etaoinshrdlu\n\x00\x01\xFF")
+# What every buffer has that fits an alternative which looks inside: as specs/Outline.antt says.
+ZIP = {0: {0x50}, 1: {0x4B}, 2: {0x03}, 3: {0x04}}
+OUTLINES = {
+    "SharedObject": [{16: {3}, 17: {0}}, {16: {0}, 17: {3}}],
+    "FirstEntryIs": [ZIP],
+    "FirstEntryEndsIn": [ZIP],
+    "FirstEntryHasExtra": [ZIP],
+    "PackageWith": [ZIP],
+    "ClassId": [{0: {0xD0}, 1: {0xCF}, 2: {0x11}, 3: {0xE0}}],
+    "DirectoryTag": [{0: {0x49}, 1: {0x49}}, {0: {0x4D}, 1: {0x4D}}],
+    "Animated": [{0: {0x89}, 1: {0x50}, 2: {0x4E}, 3: {0x47}}],
+    "SubRip": [{0: set(range(0x30, 0x3A))}, {0: {0xEF}, 1: {0xBB}, 2: {0xBF}}],
+    "Dbase": [{0: {0x02, 0x03, 0x30, 0x31, 0x32, 0x43, 0x63, 0x83, 0x8B, 0xCB, 0xF5}, 12: {0}, 13: {0}}],
+    "TarChecksum": [{148: set(range(0x20, 0x38))}],
+    "PlainText": [{0: set(range(0x09, 0x100))}],
+}
 
 
 class Further(NamedTuple):
@@ -60,9 +75,25 @@ def asked(pieces):
 
 def rows_in(code):
     """The rows of a list, each a line."""
-    for parent, signature in re.findall(r'^    \w+ ".*?" ".*?":(?: (\w+))? =>(.*);$', code, re.M):
-        pieces = re.findall(rf"\[\d+, ((?:{TEXT}|[^\]\"'])*)\]", signature)
-        yield Further(parent, [asked(it) for it in pieces])
+    for parent, signature in re.findall(r'^    \w+ ".*?" ".*?":(?: (\w+))? => ?(.*);$', code, re.M):
+        yield Further(parent, list(outline(signature)))
+
+
+def outline(signature):
+    """What each alternative of a signature asks at fixed places: its pieces, or what its name stands for."""
+    for least, inside in re.findall(rf"\[(\d+, )?((?:{TEXT}|[^\]\"'])*)\]", signature):
+        yield from [asked(inside)] if least else OUTLINES.get(inside.partition("(")[0], [asked(inside)])
+
+
+def is_wide(alternative):
+    """Whether it allows many bytes wherever it asks: one range is told whole then."""
+    return not is_led(alternative) and all(len(allowed) > MOST_BYTES for allowed in alternative.values())
+
+
+def wide(number, alternative):
+    """The range by which an alternative is told that allows many bytes."""
+    place, allowed = min(alternative.items())
+    return f"        {place} 0x{min(allowed):02X} 0x{max(allowed):02X} {number};"
 
 
 def hits(alternative, place, byte):
@@ -100,8 +131,8 @@ def entries(rows, known=None, beside=()):
 
 
 def is_led(alternative):
-    """Whether the first byte tells enough: it is not free, nor the zero of many files."""
-    return 0 in alternative and 0 not in alternative[0]
+    """Whether the first byte tells enough: it is not nearly free, nor the zero of many files."""
+    return 0 in alternative and 0 not in alternative[0] and len(alternative[0]) < 32
 
 
 def ways_of(alternative, known=None):
@@ -156,7 +187,7 @@ def gates(free):
 def gated(rows):
     """The gate, the guards beside it and those behind it, for the rows of no parent whose first byte tells too little. Every
     buffer without an answer is asked for the guards and for the gate's byte, and few for the guards behind the gate."""
-    free = [(number, it) for number, row in enumerate(rows) if not row.parent for it in row.alternatives if not is_led(it)]
+    free = [(number, it) for number, row in enumerate(rows) if not row.parent for it in row.alternatives if not is_led(it) and not is_wide(it)]
     every = choose(free)
     ways = [(weigh(free, every), (0, 0), list(guards(free, every)), [])]
     for gate, inside in gates(free):
@@ -185,9 +216,10 @@ def in_guards(guards):
 def lists(rows, parents):
     """The lists of the index, of rows whose parents stand among the constants of the built-in rows."""
     numbered = list(enumerate(rows))
-    yield "    below: lists!["
+    yield "pub(super) static BELOW: &[&[Entry]] = lists!["
     yield from in_lines(entries([(k, row.alternatives) for k, row in numbered if row.parent == it]) for it in parents)
-    yield "    ],"
+    yield "];\n"
+    yield "pub(super) static PARENTLESS: Parentless = Parentless {"
     yield "    first: lists!["
     led = [[(k, [it for it in row.alternatives if is_led(it) and byte in it[0]]) for k, row in numbered if not row.parent] for byte in range(256)]
     yield from in_lines(entries([it for it in some if it[1]], (0, byte)) for byte, some in enumerate(led))
@@ -200,8 +232,12 @@ def lists(rows, parents):
     yield f"        {place} 0x{byte:02X}"
     yield from in_guards(inside)
     yield "    ],"
+    yield "    ranges: ranges!["
+    yield from (wide(number, it) for number, row in numbered if not row.parent for it in row.alternatives if is_wide(it))
+    yield "    ],"
+    yield "};"
 
 
 def text(rows, parents):
     """The file of the index."""
-    return HEAD.format(len(rows)) + "\n".join(lists(rows, parents)) + "\n};\n"
+    return HEAD.format(len(rows)) + "\n".join(lists(rows, parents)) + "\n"

@@ -5,17 +5,20 @@ use Rattle.std.specs.List.{list_all, list_any, range_with_len}
 use Rattle.std.specs.Option.{option_map_or}
 use Rattle.std.proofs.lemmas.Bool.{cases_lt, eq-eqb, eqb-true, leb-true, lt-ltb, ltb-true}
 use Rattle.std.proofs.lemmas.Option.{get_or_from_slice_get, slice_get_cases}
-use Rattle.infer_sig.specs.Signature.{Alternative, at_least, Bytes, any_of, between, all_but, Part, text, any_text, byte, accepts, fits, has_part, stands}
+use denote.Ref.{Bor}
+use Rattle.infer_sig.specs.Signature.{Alternative, at_least, Bytes, any_of, between, all_but, Part, text, any_text, byte, accepts, allows, fits, has_part, stands}
 use Rattle.infer_sig.specs.Places.{StandsByPlace}
 use Rattle.infer.specs.Walks.{is_listed}
 use Rattle.infer.proofs.TestLemmas.{NoneRefused, passed}
-use Rattle.infer_more.specs.Index.{AllAreAsked, EachIsAsked, asked, begun, behind, candidate, candidates, entries_at, gated, guarded, has_byte, has_entry, has_guard, is_asked, is_covered, is_gated, is_guarded, is_met, is_row_asked, is_settled, is_tested}
+use Rattle.infer_more.specs.Index.{EachBelowIsAsked, EachParentlessIsAsked, asked, asked_parentless, begun, behind, candidate, candidates, entries_at, gated, guarded, has_between, has_byte, has_entry, has_guard, is_asked, is_asked_parentless, is_covered, is_gated, is_guarded, is_met, is_row_below_asked, is_row_free_asked, is_settled, is_tested, is_ranged, is_within, ranged, within}
 use Rattle.infer_more.specs.Row.{Further}
 use Rattle.infer_more.specs.Table.{further}
 use Rattle.infer_more.specs.Wider.{Widens}
 use Rattle.infer_more.specs.declared.index.Entry.{Entry}
 use Rattle.infer_more.specs.declared.index.Gate.{Gate}
 use Rattle.infer_more.specs.declared.index.Guard.{Guard}
+use Rattle.infer_more.specs.declared.index.Parentless.{Parentless}
+use Rattle.infer_more.specs.declared.index.Range.{Range}
 use Rattle.infer_more.specs.declared.index.RowIndex.{RowIndex}
 use Rattle.infer_more.specs.declared.index.lists.TheConstants.{FURTHER_COUNT}
 use Rattle.infer_more.proofs.NamedLemmas.{both}
@@ -197,11 +200,24 @@ module _ (by_place : (place : ℕ) (t buf : List ℕ) → IsTrue (stands place t
       let on : has_byte b g.place g.byte ≡ true = both (nat_lt g.place (length b)) _ (lt-ltb g.place (length b) here.0) here.1 in
       subst (λ t. IsTrue (is_listed (if t then guarded b g.guards.now else []) i)) (sym on) (guarded_here a g.guards.now (both_right (is_tested (λ x. x == g.byte) g.place a) _ h) k)
 
-begun_by : (index : RowIndex) (b : List ℕ) → 0 < length b → begun index b ≡ entries_at index.first.now (slice_index b 0)
+  range_here : (a : Alternative) (r : Range) → IsTrue (is_within i a r) → IsTrue (fits b a) → IsTrue (is_listed (within b r) i)
+  range_here a r h k =
+      let here = passes by_place (allows (between r.low r.high)) r.place b a (both_right (r.row == i) _ h) k in
+      let on : has_between b r.place r.low r.high ≡ true = both (nat_lt r.place (length b)) _ (lt-ltb r.place (length b) here.0) here.1 in
+      subst (λ t. IsTrue (is_listed (if t then r.row ∷ [] else []) i)) (sym on) (from_left (r.row == i) false (both_left (r.row == i) _ h))
+
+  ranged_here : (a : Alternative) (ranges : List Range) → IsTrue (is_ranged i a ranges) → IsTrue (fits b a) → IsTrue (is_listed (ranged b ranges) i)
+  ranged_here a [] h k = absurd (cc)
+  ranged_here a (r ∷ ranges) h k = elim (either (is_within i a r) _ h) [
+    | inl e ↦ listed_left (within b r) (ranged b ranges) i (range_here a r e k)
+    | inr e ↦ listed_right (within b r) (ranged b ranges) i (ranged_here a ranges e k)
+  ]
+
+begun_by : (index : Parentless) (b : List ℕ) → 0 < length b → begun index b ≡ entries_at index.first.now (slice_index b 0)
 begun_by index [] lt = absurd (omega arith)
 begun_by index (x ∷ rest) lt = refl
 
-module _ (by_place : (place : ℕ) (t buf : List ℕ) → IsTrue (stands place t buf) ↔ StandsByPlace place t buf) (index : RowIndex) (b : List ℕ) (i : ℕ) where
+module _ (by_place : (place : ℕ) (t buf : List ℕ) → IsTrue (stands place t buf) ↔ StandsByPlace place t buf) (index : Parentless) (b : List ℕ) (i : ℕ) where
   begun_here : (a : Alternative) → IsTrue (is_tested (λ x. is_met i a (entries_at index.first.now x) 0 x) 0 a) → IsTrue (fits b a)
       → IsTrue (is_listed (candidates b (begun index b)) i)
   begun_here a h k =
@@ -210,17 +226,24 @@ module _ (by_place : (place : ℕ) (t buf : List ℕ) → IsTrue (stands place t
       subst (λ (l : List Entry). IsTrue (is_listed (candidates b l) i)) (sym (begun_by index b here.0))
       (met_here by_place b i a entries 0 (slice_index b 0) k here.0 refl here.1)
 
-  asked_here : (parent : Option ℕ) (a : Alternative) → IsTrue (is_asked index parent i a) → IsTrue (fits b a) → IsTrue (is_listed (asked index parent b) i)
-  asked_here (Some parent) a h k = covered_here by_place b i a (entries_at index.below.now parent) h k
-  asked_here None a h k = elim (either (is_tested (λ x. is_met i a (entries_at index.first.now x) 0 x) 0 a) _ h) [
-    | inl e ↦ listed_left (candidates b (begun index b)) (guarded b index.guards.now ++ gated b index.gate) i (begun_here a e k)
-    | inr e ↦ listed_right (candidates b (begun index b)) (guarded b index.guards.now ++ gated b index.gate) i (elim (either (is_guarded i a index.guards.now) _ e) [
-      | inl beside ↦ listed_left (guarded b index.guards.now) (gated b index.gate) i (guarded_here by_place b i a index.guards.now beside k)
-      | inr inside ↦ listed_right (guarded b index.guards.now) (gated b index.gate) i (gated_here by_place b i a index.gate inside k)
+  parentless_here : (a : Alternative) → IsTrue (is_asked_parentless index i a) → IsTrue (fits b a) → IsTrue (is_listed (asked_parentless index b) i)
+  parentless_here a h k = elim (either (is_tested (λ x. is_met i a (entries_at index.first.now x) 0 x) 0 a) _ h) [
+    | inl e ↦ listed_left (candidates b (begun index b)) _ i (begun_here a e k)
+    | inr e ↦ listed_right (candidates b (begun index b)) _ i (elim (either (is_guarded i a index.guards.now) _ e) [
+      | inl beside ↦ listed_left (guarded b index.guards.now) _ i (guarded_here by_place b i a index.guards.now beside k)
+      | inr other ↦ listed_right (guarded b index.guards.now) _ i (elim (either (is_gated i a index.gate) _ other) [
+        | inl inside ↦ listed_left (gated b index.gate) _ i (gated_here by_place b i a index.gate inside k)
+        | inr wide ↦ listed_right (gated b index.gate) _ i (ranged_here by_place b i a index.ranges.now wide k)
+      ])
     ])
   ]
 
-  asked_of : (parent : Option ℕ) (signature : List Alternative) → IsTrue (list_all (is_asked index parent i) signature) → IsTrue (accepts signature b)
+module _ (by_place : (place : ℕ) (t buf : List ℕ) → IsTrue (stands place t buf) ↔ StandsByPlace place t buf) (index : RowIndex) (b : List ℕ) (i : ℕ) where
+  asked_here : (parent : Option ℕ) (a : Alternative) → IsTrue (is_asked index parent i a) → IsTrue (fits b a) → IsTrue (is_listed (asked index parent b) i)
+  asked_here (Some parent) a h k = covered_here by_place b i a (entries_at index.below.now parent) h k
+  asked_here None a h k = parentless_here by_place index.parentless.now b i a h k
+
+  pub asked_of : (parent : Option ℕ) (signature : List Alternative) → IsTrue (list_all (is_asked index parent i) signature) → IsTrue (accepts signature b)
       → IsTrue (is_listed (asked index parent b) i)
   asked_of parent [] h k = absurd (cc)
   asked_of parent (a ∷ signature) h k = elim (either (fits b a) _ k) [
@@ -229,18 +252,12 @@ module _ (by_place : (place : ℕ) (t buf : List ℕ) → IsTrue (stands place t
   ]
 
 -- as computed of sixteen rows a step, with room for more of them: a refusal shows the numbers of the rows that are not asked
-pub each_asked : (index : RowIndex) → NoneRefused (is_row_asked index) FURTHER_COUNT 0 16 → EachIsAsked index
-each_asked index none = record {
-  is_asked = λ i lt. let many = length-further in passed (is_row_asked index) FURTHER_COUNT 16 none (omega arith) i (omega arith);
+pub each_below_asked : (below : List (Bor (List Entry))) → NoneRefused (is_row_below_asked below) FURTHER_COUNT 0 16 → EachBelowIsAsked below
+each_below_asked below none = record {
+  is_asked = λ i lt. let many = length-further in passed (is_row_below_asked below) FURTHER_COUNT 16 none (omega arith) i (omega arith);
 }
 
--- then every row that widens an answer is asked
-pub all_asked : ((place : ℕ) (t buf : List ℕ) → IsTrue (stands place t buf) ↔ StandsByPlace place t buf) → (index : RowIndex) → EachIsAsked index → AllAreAsked index
-all_asked by_place index each parent b i (lt, at) = elim (slice_get_cases further i).1 [
-  | inl (r, within, found, same) ↦
-      let holds : Widens parent b r = subst (Widens parent b) same (at r) in
-      let asks : IsTrue (list_all (is_asked index r.parent i) r.signature)
-      = subst (λ o. IsTrue (option_map_or (λ (x : Further). list_all (is_asked index x.parent i) x.signature) o true)) found (each.is_asked i lt) in
-      subst (λ p. IsTrue (is_listed (asked index p b) i)) holds.0 (asked_of by_place index b i r.parent r.signature asks holds.1)
-  | inr (past, none) ↦ absurd (omega arith)
-]
+pub each_parentless_asked : (index : Parentless) → NoneRefused (is_row_free_asked index) FURTHER_COUNT 0 16 → EachParentlessIsAsked index
+each_parentless_asked index none = record {
+  is_asked = λ i lt. let many = length-further in passed (is_row_free_asked index) FURTHER_COUNT 16 none (omega arith) i (omega arith);
+}

@@ -1,54 +1,128 @@
 -- Laws of further rows.
-use Rattle.std.proofs.Common.{◌↔◌, ℕ, ◌<◌, inl, inr, Bool, true, false, IsTrue, List, [], ◌∷◌, ◌++◌, Option, None, Some, All, length, get_or, arith, nat_le, zero, suc}
-use Rattle.std.specs.Prelude.{not, slice_index}
+use Rattle.std.proofs.Common.{◌↔◌, ℕ, ◌<◌, ◌≤◌, inl, inr, Bool, true, false, IsTrue, List, [], ◌∷◌, ◌++◌, Option, None, Some, All, length, get_or, arith, nat_le, refl, subst, sym, ◌≡◌, slice_get, zero, suc, codes, ◌⊎◌, le_refl}
+use Rattle.std.specs.Prelude.{◌||◌, not, slice_index}
 use Rattle.std.specs.List.{HoldsAt, list_all, list_any}
-use Rattle.std.proofs.lemmas.Bool.{cases_lt}
+use Rattle.std.proofs.lemmas.Bool.{cases_lt, leb-true}
 use Rattle.std.proofs.lemmas.List.Elements.{AllWithin-from_all}
-use Rattle.std.proofs.lemmas.Option.{slice_get_cases}
+use Rattle.std.proofs.lemmas.Bool.Decides.{nat_tests}
+use Rattle.std.proofs.lemmas.Option.{get_or_from_slice_get, slice_get_cases}
+use Rattle.infer_deep.specs.Find.{OccursAt}
+use Rattle.infer_deep.specs.Laws as Deep
+use Rattle.infer_deep.specs.Text.{BeginsMarked}
+use Rattle.infer_deep.proofs.PlaceLemmas.{OccursAt-append}
+use Rattle.infer_inside.specs.Laws as Inside
+use Rattle.infer_inside.specs.Text.{IsBinary, IsText}
+use Rattle.infer_sig.specs.Laws.{Lasts}
 use Rattle.infer_sig.specs.Places.{StandsByPlace}
-use Rattle.infer_sig.specs.Signature.{Alternative, at_least, Part, text, any_text, byte, accepts, fits, has_part, stands}
-use Rattle.infer.specs.First.{IsFirstOf}
+use Rattle.infer_sig.specs.Signature as fixed
+use Rattle.infer_sig.specs.Signature.{at_least, Part, text, any_text, byte, accepts, fits, has_part, stands}
+use Rattle.infer.specs.First.{IsFirstOf, NoneHas}
 use Rattle.infer.specs.Laws.{IsNotLater}
 use Rattle.infer.specs.Leads.{is_white}
 use Rattle.infer_more.specs.Index.{is_settled}
-use Rattle.infer_more.specs.Laws.{AllLast, IsSteady, NoneIsBlank, is_dark, is_dark_alternative, is_dark_part}
+use Rattle.infer_more.specs.Laws.{AllLast, IsLost, IsSteady, MayBeLost, NoneIsBlank, is_dark, is_dark_alternative, is_dark_part, is_filled, is_lasting, is_plain, is_some_alternative, lasts}
+use Rattle.infer_more.specs.Outline.{lines, outline}
 use Rattle.infer_more.specs.Row.{Further}
+use Rattle.infer_more.specs.Signature.{Accepted, Alternative, Fits, animated, binary_bytes, bytes, class_id, dbase, directory_tag, first_entry_ends_in, first_entry_has_extra, first_entry_is, package_with, plain_text, png_header, shared_object, subrip, tar_checksum}
 use Rattle.infer_more.specs.Table.{further}
 use Rattle.infer_more.specs.Wider.{Widens}
-use Rattle.infer_more.proofs.IndexLemmas.{both_left, both_right, either, passes_part}
+use Rattle.infer_more.proofs.IndexLemmas.{both_left, both_right, either, from_left, passes_part}
+use Rattle.infer_more.proofs.OutlineLemmas.{has_outline, past}
 
 clash : (x : Bool) → IsTrue x → IsTrue (not x) → ⊥
 clash true h k = cc
 clash false h k = cc
 
--- bytes after a buffer keep what widens its answer
-module _ (lasts : AllLast) (parent : Option ℕ) (short more : List ℕ) where
-  stays : (i : ℕ) (r : Further) → HoldsAt (Widens parent short) further i → Widens parent (short ++ more) (get_or further i r)
-  stays i r h = let w = h r in (w.0, lasts (get_or further i r) short more w.1)
+-- ---- growing buffers
+
+module _ (deep : Deep.Growth) (inside : Inside.Growth) (fixed_lasts : (signature : List fixed.Alternative) → Lasts signature) (b more : List ℕ) where
+  bytes_last : (a : fixed.Alternative) → IsTrue (fits b a) → IsTrue (fits (b ++ more) a)
+  bytes_last a h = elim (either (fits (b ++ more) a) false (fixed_lasts (a ∷ []) b more (from_left (fits b a) false h))) [ inl e ↦ e | inr e ↦ absurd (cc) ]
+
+  fits_last : (a : Alternative) → IsTrue (is_lasting a) → Fits a b → Fits a (b ++ more)
+  fits_last (bytes a) l h = bytes_last a h
+  fits_last (binary_bytes a) l h = (bytes_last a h.0, inside.binary b more h.1)
+  fits_last shared_object l h = inside.shared_object b more h
+  fits_last (first_entry_is name) l h = inside.first_entry_is name b more h
+  fits_last (first_entry_ends_in t) l h = inside.first_entry_ends_in t b more h
+  fits_last (first_entry_has_extra t) l h = inside.first_entry_has_extra t b more h
+  fits_last (package_with folder) l h = inside.package_with folder b more h
+  fits_last (class_id id) l h = deep.class_id id b more h
+  fits_last (directory_tag tag) l h = inside.tag tag b more h
+  fits_last animated l h = (OccursAt-append b more png_header 0 h.0, inside.animated b more h.1)
+  fits_last subrip l h = inside.subrip b more h
+  fits_last dbase l h = inside.dbase b more h
+  fits_last tar_checksum l h = inside.tar_checksum b more h
+  fits_last plain_text l h = absurd (cc)
+
+  accepted_last : (signature : List Alternative) → IsTrue (lasts signature) → Accepted signature b → Accepted signature (b ++ more)
+  accepted_last [] l h = h
+  accepted_last (a ∷ others) l (inl h) = inl (fits_last a (both_left (is_lasting a) _ l) h)
+  accepted_last (a ∷ others) l (inr h) = inr (accepted_last others (both_right (is_lasting a) _ l) h)
+
+pub all_last : Deep.Growth → Inside.Growth → ((signature : List fixed.Alternative) → Lasts signature) → AllLast
+all_last deep inside fixed_lasts signature l b more h = accepted_last deep inside fixed_lasts b more signature l h
+
+-- a letter is plain text, and with 00 after it binary data
+pub text_lost : IsLost plain_text
+text_lost = (codes "a", 0 ∷ [], inr (omega arith, λ (k, lt, is). let first : slice_index (codes "a") 0 ≡ 0x61 = refl in letter k lt is), λ h. elim h [
+  | inl (mark, is, o) ↦ unmarked mark is o
+  | inr (some, plain) ↦ plain (1, omega arith, inl (omega arith))
+])
+  where
+    letter : (k : ℕ) → k < 1 → ((slice_index (codes "a") k ≤ 0x08) ⊎ (slice_index (codes "a") k ≡ 0x0B) ⊎ ((0x0E ≤ slice_index (codes "a") k) × (slice_index (codes "a") k ≤ 0x1A)) ⊎ ((0x1C ≤ slice_index (codes "a") k) × (slice_index (codes "a") k ≤ 0x1F))) → ⊥
+    letter zero lt is = grind arith
+    letter (suc k) lt is = absurd (omega arith)
+
+    unmarked : (mark : List ℕ) → (mark ≡ 0xEF ∷ 0xBB ∷ 0xBF ∷ []) ⊎ (mark ≡ 0xFE ∷ 0xFF ∷ []) ⊎ (mark ≡ 0xFF ∷ 0xFE ∷ []) → OccursAt (codes "a" ++ 0 ∷ []) mark 0 → ⊥
+    unmarked mark (inl e) o = let other : OccursAt (codes "a" ++ 0 ∷ []) (0xEF ∷ 0xBB ∷ 0xBF ∷ []) 0 = subst (λ m. OccursAt (codes "a" ++ 0 ∷ []) m 0) e o in let first = other.reads 0 (omega arith) in absurd (omega arith)
+    unmarked mark (inr (inl e)) o = let other : OccursAt (codes "a" ++ 0 ∷ []) (0xFE ∷ 0xFF ∷ []) 0 = subst (λ m. OccursAt (codes "a" ++ 0 ∷ []) m 0) e o in let first = other.reads 0 (omega arith) in absurd (omega arith)
+    unmarked mark (inr (inr e)) o = let other : OccursAt (codes "a" ++ 0 ∷ []) (0xFF ∷ 0xFE ∷ []) 0 = subst (λ m. OccursAt (codes "a" ++ 0 ∷ []) m 0) e o in let first = other.reads 0 (omega arith) in absurd (omega arith)
+
+-- bytes after a buffer keep what widens its answer, unless they take it away
+module _ (all_lasts : AllLast) (parent : Option ℕ) (short more : List ℕ) where
+  stays : (i : ℕ) (r : Further) → IsTrue (lasts (get_or further i r).signature) → HoldsAt (Widens parent short) further i → Widens parent (short ++ more) (get_or further i r)
+  stays i r l h = let w = h r in (w.0, all_lasts (get_or further i r).signature l short more w.1)
+
+  same_row : (i : ℕ) (r : Further) → slice_get further i ≡ Some r → get_or further i r ≡ r
+  same_row i r found = get_or_from_slice_get further i r r found
+
+  tested : (x : Bool) → IsTrue x ⊎ IsTrue (not x)
+  tested true = inl refl
+  tested false = inr refl
+
+  lost : (i : ℕ) (r : Further) → Some r ≡ slice_get further i → IsTrue (not (lasts r.signature)) → HoldsAt (λ s. IsTrue (not (lasts s.signature))) further i
+  lost i r e h d = subst (λ s. IsTrue (not (lasts s.signature))) (sym (get_or_from_slice_get further i r d (sym e))) h
 
   steady_at : (before after : Option ℕ) → IsFirstOf (Widens parent short) further before → IsFirstOf (Widens parent (short ++ more)) further after
-      → IsNotLater after before
-  steady_at None None h k = tt
-  steady_at None (Some j) h k = tt
+      → IsNotLater after before ⊎ MayBeLost before
+  steady_at None None h k = inl tt
+  steady_at None (Some j) h k = inl tt
   steady_at (Some i) None h k = let within : i < length further = h.within in elim (slice_get_cases further i).1 [
-    | inl (r, lt, found, same) ↦ absurd (k i r (omega arith) lt (stays i r h.here))
+    | inl (r, lt, found, same) ↦ elim (tested (lasts r.signature)) [
+      | inl l ↦ absurd (k i r (omega arith) lt (stays i r (subst (λ s. IsTrue (lasts s.signature)) (sym (same_row i r found)) l) h.here))
+      | inr l ↦ inr (lost i r (sym found) l)
+    ]
     | inr (past, none) ↦ absurd (omega arith)
   ]
   steady_at (Some i) (Some j) h k = let within : i < length further = h.within in elim (cases_lt i j) [
     | inl lt ↦ elim (slice_get_cases further i).1 [
-      | inl (r, inside, found, same) ↦ absurd (k.before i r (omega arith) lt (stays i r h.here))
+      | inl (r, inside, found, same) ↦ elim (tested (lasts r.signature)) [
+        | inl l ↦ absurd (k.before i r (omega arith) lt (stays i r (subst (λ s. IsTrue (lasts s.signature)) (sym (same_row i r found)) l) h.here))
+        | inr l ↦ inr (lost i r (sym found) l)
+      ]
       | inr (past, none) ↦ absurd (omega arith)
     ]
-    | inr le ↦ le
+    | inr le ↦ inl le
   ]
 
 pub steady : AllLast → IsSteady
-steady lasts parent short more before after = steady_at lasts parent short more before after
+steady all_lasts parent short more before after = steady_at all_lasts parent short more before after
 
-dark_at : (rows : List Further) (k : ℕ) (d : Further) → IsTrue (list_all is_dark rows) → k < length rows → IsTrue (is_dark (get_or rows k d))
-dark_at [] k d h lt = absurd (omega arith)
-dark_at (r ∷ rows) zero d h lt = both_left (is_dark r) _ h
-dark_at (r ∷ rows) (suc k) d h lt = dark_at rows k d (both_right (is_dark r) _ h) (omega arith)
+passes_at : (test : Further → Bool) (rows : List Further) (k : ℕ) (d : Further) → IsTrue (list_all test rows) → k < length rows → IsTrue (test (get_or rows k d))
+passes_at test [] k d h lt = absurd (omega arith)
+passes_at test (r ∷ rows) zero d h lt = both_left (test r) _ h
+passes_at test (r ∷ rows) (suc k) d h lt = passes_at test rows k d (both_right (test r) _ h) (omega arith)
 
 module _ (by_place : (place : ℕ) (t buf : List ℕ) → IsTrue (stands place t buf) ↔ StandsByPlace place t buf) (b : List ℕ) (white : All (λ x. IsTrue (is_white x)) b) where
   refused_at : (p : ℕ) (part : Part) → IsTrue (is_settled (λ x. not (is_white x)) p part) → IsTrue (has_part b part) → ⊥
@@ -68,12 +142,39 @@ module _ (by_place : (place : ℕ) (t buf : List ℕ) → IsTrue (stands place t
     | inr e ↦ refused_parts parts e (both_right (has_part b part) _ k)
   ]
 
-  refused : (signature : List Alternative) → IsTrue (list_all is_dark_alternative signature) → IsTrue (accepts signature b) → ⊥
+  refused : (signature : List fixed.Alternative) → IsTrue (list_all is_dark_alternative signature) → IsTrue (accepts signature b) → ⊥
   refused [] h k = cc
   refused (at_least n parts ∷ signature) h k = elim (either (fits b (at_least n parts)) _ k) [
     | inl e ↦ refused_parts parts (both_left (list_any is_dark_part parts) _ h) (both_right (nat_le n (length b)) _ e)
     | inr e ↦ refused signature (both_right (list_any is_dark_part parts) _ h) e
   ]
 
-pub none_is_blank : ((place : ℕ) (t buf : List ℕ) → IsTrue (stands place t buf) ↔ StandsByPlace place t buf) → IsTrue (list_all is_dark further) → NoneIsBlank
-none_is_blank by_place computed b white = λ k d le lt. λ h. refused by_place b white (get_or further k d).signature (dark_at further k d computed lt) h
+unfilled : (signature : List fixed.Alternative) → IsTrue (list_all is_some_alternative signature) → IsTrue (accepts signature []) → ⊥
+unfilled [] h k = cc
+unfilled (at_least n parts ∷ signature) h k = elim (either (fits [] (at_least n parts)) _ k) [
+  | inl e ↦
+      let some = leb-true 1 n (both_left (nat_le 1 n) _ h) in
+      let short = leb-true n 0 (both_left (nat_le n 0) _ e) in
+      absurd (omega arith)
+  | inr e ↦ unfilled signature (both_right (nat_le 1 n) _ h) e
+]
+
+module _ (by_place : (place : ℕ) (t buf : List ℕ) → IsTrue (stands place t buf) ↔ StandsByPlace place t buf) where
+  small_white : (b : List ℕ) → All (λ x. IsTrue (is_white x)) b → (i : ℕ) → slice_index b i < 256
+  small_white b white i = elim (cases_lt i (length b)) [
+    | inl lt ↦ let is = AllWithin-from_all (λ x. IsTrue (is_white x)) b white i 0 (omega arith) lt in grind (arith, nat_tests)
+    | inr le ↦ past b i le
+  ]
+
+  pub none_is_blank : IsTrue (list_all is_dark further) → IsTrue (list_all is_filled further) → NoneIsBlank
+  none_is_blank dark filled = record {
+    white = λ b white k d le lt (h, other).
+        let r = get_or further k d in
+        elim (either (list_any is_plain r.signature) _ (passes_at is_dark further k d dark lt)) [
+          | inl plain ↦ clash _ plain other
+          | inr outlined ↦ refused by_place b white (outline r.signature) outlined (has_outline by_place b (small_white b white) r.signature h)
+        ];
+    empty = λ k d le lt h.
+        let r = get_or further k d in
+        unfilled (outline r.signature) (passes_at is_filled further k d filled lt) (has_outline by_place [] (λ i. past [] i (omega arith)) r.signature h);
+  }

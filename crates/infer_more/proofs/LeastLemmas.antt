@@ -6,6 +6,7 @@ use Rattle.std.proofs.Math.Nat.{le-min, min-le_left, min-le_right}
 use Rattle.std.proofs.lemmas.Bool.{cases_lt, eqb-true, le-leb, leb-true}
 use Rattle.std.proofs.lemmas.List.{append-nil, get_or_default, take_all}
 use denote.Ref.{Bor}
+use Rattle.infer.specs.Buffer.{IsBuffer}
 use Rattle.infer.specs.First.{IsFirstOf}
 use Rattle.infer.specs.Walks.{is_listed}
 use Rattle.infer_more.specs.Index.{AllAreAsked, IsNext, NoneBetween, all_of, ascends, asked, begun, behind, candidate, candidates, entries_at, has_byte, is_candidate}
@@ -14,6 +15,7 @@ use Rattle.infer_more.specs.Table.{further}
 use Rattle.infer_more.specs.Wider.{Widens, WidensAt}
 use Rattle.infer_more.specs.declared.index.Entry.{Entry}
 use Rattle.infer_more.specs.declared.index.Guard.{Guard}
+use Rattle.infer_more.specs.declared.index.Parentless.{Parentless}
 use Rattle.infer_more.specs.declared.index.RowIndex.{RowIndex}
 use Rattle.infer_more.proofs.NamedLemmas.{both}
 use Rattle.infer_more.proofs.IndexLemmas.{both_left, both_right, either, from_left, from_right}
@@ -149,15 +151,15 @@ ascends_at [] i all = refl
 ascends_at (l ∷ lists) zero all = both_left (ascends l.now) _ all
 ascends_at (l ∷ lists) (suc i) all = ascends_at lists i (both_right (ascends l.now) _ all)
 
-pub ascends_begun : (index : RowIndex) (b : List ℕ) → IsTrue (list_all (λ entries. ascends entries.now) index.first.now) → IsTrue (ascends (begun index b))
+pub ascends_begun : (index : Parentless) (b : List ℕ) → IsTrue (list_all (λ entries. ascends entries.now) index.first.now) → IsTrue (ascends (begun index b))
 ascends_begun index [] all = refl
 ascends_begun index (x ∷ rest) all = ascends_at index.first.now x all
 
 -- no row before the next one that is asked widens the answer
-pub none_to_next : (parent : Option ℕ) (b : List ℕ) (index : RowIndex) (from before next : ℕ) → AllAreAsked index
+pub none_to_next : (parent : Option ℕ) (b : List ℕ) (index : RowIndex) (from before next : ℕ) → AllAreAsked index → IsBuffer b
     → IsNext (asked index parent b) from before next → NoneBetween parent b from next
-none_to_next parent b index from before next all h = λ k le lt. λ w.
-    let least : next ≤ k = h.least k (all parent b k w) le in
+none_to_next parent b index from before next all bytes h = λ k le lt. λ w.
+    let least : next ≤ k = h.least k (all parent b k bytes w) le in
     absurd (omega arith)
 
 -- nor does one before a later number, if none does from there on
@@ -195,9 +197,9 @@ module _ (parent : Option ℕ) (b : List ℕ) where
 
 -- no row widens an answer below which none is asked
 pub widest : (index : RowIndex) (row : ℕ) (entries : List Entry) → AllAreAsked index → entries ≡ entries_at index.below.now row
-    → length entries ≡ 0 → (b : List ℕ) → IsFirstOf (Widens (Some row) b) further None
-widest index row [] all e none b =
+    → length entries ≡ 0 → (b : List ℕ) → IsBuffer b → IsFirstOf (Widens (Some row) b) further None
+widest index row [] all e none b bytes =
     none_found (Some row) b (length further) (omega arith) (λ k le lt. λ w.
-    let listed = subst (λ (l : List Entry). IsTrue (is_listed (candidates b l) k)) (sym e) (all (Some row) b k w) in
+    let listed = subst (λ (l : List Entry). IsTrue (is_listed (candidates b l) k)) (sym e) (all (Some row) b k bytes w) in
     absurd (cc))
-widest index row (x ∷ entries) all e none b = absurd (omega arith)
+widest index row (x ∷ entries) all e none b bytes = absurd (omega arith)

@@ -1,7 +1,10 @@
 pub mod ListLemmas
+pub mod AcceptedLemmas
 pub mod JoinedLemmas
 pub mod NamedLemmas
 pub mod IndexLemmas
+pub mod FitLemmas
+pub mod OutlineLemmas
 pub mod PieceLemmas
 pub mod LeastLemmas
 pub mod TableLemmas

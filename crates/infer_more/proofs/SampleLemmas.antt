@@ -4,7 +4,9 @@ use Rattle.std.proofs.lemmas.List.{get_or_default}
 use Rattle.infer_deep.specs.Laws as Deep
 use Rattle.infer_deep.specs.Numbers.{le16, le32, be32}
 use Rattle.infer_deep.specs.Text.{tags_with}
-use Rattle.infer_sig.specs.Signature.{accepts, stands}
+use Rattle.infer_inside.specs.Numbers.{be16}
+use Rattle.infer_inside.specs.Tar.{header_sum}
+use Rattle.infer_sig.specs.Signature.{stands}
 use Rattle.infer.specs.BuiltIn.{BuiltIn}
 use Rattle.infer.specs.First.{IsFirst, IsFirstOf}
 use Rattle.infer.specs.Leads.{Leads}
@@ -20,6 +22,7 @@ use Rattle.infer_more.specs.Samples.{Reaches, further_sample}
 use Rattle.infer_more.specs.Table.{archives, code, further, headers, images, late, markup, media, packages, records}
 use Rattle.infer_more.specs.Wider.{IsWider, Widens}
 use Rattle.infer_more.specs.declared.index.lists.TheConstants.{FURTHER_COUNT}
+use Rattle.infer_more.proofs.FitLemmas.{known_accepted}
 use Rattle.infer_more.proofs.RefusalLemmas.{none_accepts}
 use Rattle.infer_more.proofs.TableLemmas.{length-further}
 
@@ -41,14 +44,14 @@ same_parent None (Some j) = refuted (none_differs j)
 same_parent (Some i) None = refuted (λ e. none_differs i (sym e))
 
 -- what a computation says of a row, and of the first row
-abbrev widens : (parent : Option ℕ) (b : List ℕ) (r : Further) → Known (Widens parent b r)
-widens parent b r = both (same_parent r.parent parent) (is (accepts r.signature b))
+abbrev widens : ByPlace → (parent : Option ℕ) (b : List ℕ) (r : Further) → Known (Widens parent b r)
+widens by_place parent b r = both (same_parent r.parent parent) (known_accepted by_place b r.signature)
 
-abbrev first_widening : (d : Further) (parent : Option ℕ) (b : List ℕ) (i : ℕ) → Known (IsFirst (Widens parent b) further i)
-first_widening d parent b i = do
+abbrev first_widening : ByPlace → (d : Further) (parent : Option ℕ) (b : List ℕ) (i : ℕ) → Known (IsFirst (Widens parent b) further i)
+first_widening by_place d parent b i = do
   within ← takes (at_most (suc i) (length further))
-  here ← takes (widens parent b (get_or further i d))
-  before ← takes (each_before (λ r. negated (widens parent b r)) further i (omega arith))
+  here ← takes (widens by_place parent b (get_or further i d))
+  before ← takes (each_before (λ r. negated (widens by_place parent b r)) further i (omega arith))
   proved (record { within = within; here = λ c. subst (Widens parent b) (get_or_default further i d c within) here; before = before })
 
 module _ (by_place : ByPlace) (exclude : Deep.Apart) (leads : (s : BuiltIn) → Leads s) (d : Further) where
@@ -60,7 +63,7 @@ module _ (by_place : ByPlace) (exclude : Deep.Apart) (leads : (s : BuiltIn) → 
   reached parent i None = proved tt
   reached parent i (Some s) = do
     answers ← takes (first_built_in s parent)
-    first ← takes (first_widening d parent s i)
+    first ← takes (first_widening by_place d parent s i)
     proved (record { parent = parent; found = Some i; answers = answers; widens = first; is = refl })
 
   abbrev reaches : (i : ℕ) → Known (Reaches i (get_or further i d))
@@ -68,7 +71,7 @@ module _ (by_place : ByPlace) (exclude : Deep.Apart) (leads : (s : BuiltIn) → 
 
   -- sixteen rows a step, with room for more of them
   all_reach : NoneRefused (λ i. is_proved (reaches i)) FURTHER_COUNT 0 16
-  unfolding further archives code headers images late markup media packages records built_in.table stands le16 le32 be32 tags_with
+  unfolding further archives code headers images late markup media packages records built_in.table stands le16 le32 be16 be32 header_sum tags_with
   all_reach = (refl, (refl, (refl, (refl, (refl, (refl, (refl, (refl, (refl, (refl, (refl, (refl, (refl, (refl, (refl, (refl, tt))))))))))))))))
 
   pub row_reaches : (i : ℕ) → i < length further → Reaches i (get_or further i d)

@@ -2,12 +2,13 @@
 use Rattle.std.proofs.Common.{◌↔◌, nat_lt, IfSome, MatchBool, MatchOption, is_some, option_and_then, ◌≡◌, ◌≢◌, ◌⊎◌, ◌≤◌, ◌<◌, ◌+◌, ◌-◌, ℕ, Bool, true, false, IsTrue, inl, inr, List, [], ◌∷◌, ◌++◌, Option, None, Some, ap, drop, length, length-append, length-drop, map, max, option_map, slice_get, subst, sym, take, unwrap_or, ◌∙◌, arith, refl, nat_le}
 use Rattle.std.specs.Prelude.{◌==◌, ◌||◌, if◌then◌else◌}
 use Rattle.std.specs.List.{HoldsAt, list_all}
+use Rattle.std.specs.Option.{option_map_or}
 use Rattle.std.proofs.Math.Seq.{drop-append-add, take-append-add}
 use Rattle.std.proofs.lemmas.Bool.{leb-true, lt-ltb, ltb-true}
 use Rattle.std.proofs.lemmas.Bool.Decides.{nat_tests}
 use Rattle.std.proofs.lemmas.List.{drop-replicate, length-replicate, length-take-le, take-replicate, take_at}
-use Rattle.std.proofs.lemmas.Option.{get_or_from_slice_get, slice_get_cases, slice_get_past, slice_get_within}
-use Rattle.infer_sig.specs.Signature.{Alternative, at_least, Part, text, any_text, byte, accepts}
+use Rattle.std.proofs.lemmas.Option.{get_or_from_slice_get, slice_get-map, slice_get_cases, slice_get_past, slice_get_within}
+use Rattle.infer_sig.specs.Signature.{Alternative, at_least, Part, text, any_text, byte}
 use Rattle.infer.specs.BuiltIn.{BuiltIn}
 use Rattle.infer.specs.First.{IsFirst, IsFirstOf}
 use Rattle.infer.specs.Row.{Accepts, Row}
@@ -17,11 +18,13 @@ use Rattle.infer.specs.Walks.{RowHas}
 use Rattle.infer.specs.declared.table.rows.TheConstants.{DLL, EPUB_ARCHIVE, ROW_COUNT}
 use Rattle.infer.proofs.CandidateLemmas.{read_has}
 use Rattle.infer.proofs.TableLemmas.{length-table}
-use Rattle.infer_more.specs.Listed.{part_listed, row_listed, signature_listed}
+use Rattle.infer_more.specs.Listed.{alternative_listed, row_listed, signature_listed}
 use Rattle.infer_more.specs.Row.{Further, is_inside}
 use Rattle.infer_more.specs.Table.{further}
 use Rattle.infer_more.specs.Wider.{AcceptsAt, IsWider, Widens, wider}
-use Rattle.infer_more.specs.Samples.{AllReach, Reaches, built_in_sample, further_sample, has_room, has_room_after, joined_sample, parent_sample, written}
+use Rattle.infer_more.specs.Signature as Signature
+use Rattle.infer_more.specs.Signature.{Accepted}
+use Rattle.infer_more.specs.Samples.{AllReach, Reaches, built_in_sample, further_sample, has_room, has_room_after, joined_sample, least_of, model, parent_sample, parts_of, signature_model, written}
 use Rattle.infer_more.specs.declared.samples.TheConstants.{SAMPLE_SIZE}
 use Rattle.infer_more.specs.declared.signature.Alternative as Listed
 use Rattle.infer_more.specs.declared.table.FurtherRow.{FurtherRow}
@@ -69,13 +72,14 @@ counted_parent (Some s) = refl
 
 -- ---- further rows
 
--- the pieces of the first alternative
-joined_first : (front : List ℕ) (alternatives : List Listed.Alternative) (a : Listed.Alternative) → Some a ≡ slice_get alternatives 0
-    → joined_sample front (signature_listed alternatives) ≡ Some (with_parts (map part_listed a.pieces.now) (front ++ zeros (a.least - length front)))
-joined_first front [] a e = absurd (cc)
-joined_first front (x ∷ alternatives) a e =
-    let same : x ≡ a = cc in
-    ap (λ (y : Listed.Alternative). Some (with_parts (map part_listed y.pieces.now) (front ++ zeros (y.least - length front)))) same
+-- the model of the first alternative
+abbrev model_of : Listed.Alternative → Alternative
+model_of a = model (alternative_listed a)
+
+first_model : (alternatives : List Listed.Alternative) (a : Listed.Alternative) → Some a ≡ slice_get alternatives 0
+    → signature_model (signature_listed alternatives) ≡ Some (model_of a)
+first_model alternatives a e =
+    ap (option_map model) (slice_get-map alternative_listed alternatives 0 ∙ ap (option_map alternative_listed) (sym e))
 
 -- each part is written over a place that is there
 length-put : (place : ℕ) (t b : List ℕ) → place + length t ≤ length b → length (put place t b) ≡ length b
@@ -92,14 +96,13 @@ length-parts n (part ∷ parts) b e h =
     length-parts n parts (with_part part b) (length-part n part b e (both_left (is_inside n part) _ h)) (both_right (is_inside n part) _ h)
 
 room_for : (front n : ℕ) (alternatives : List Listed.Alternative) (a : Listed.Alternative) → Some a ≡ slice_get alternatives 0
-    → IsTrue (has_room_after front (signature_listed alternatives)) → n ≡ max front a.least
-    → (n ≤ SAMPLE_SIZE) × IsTrue (list_all (is_inside n) (map part_listed a.pieces.now))
-room_for front n [] a e h m = absurd (cc)
-room_for front n (x ∷ alternatives) a e h m =
-    let same : x ≡ a = cc in
-    subst (λ k. (k ≤ SAMPLE_SIZE) × IsTrue (list_all (is_inside k) (map part_listed a.pieces.now))) (sym m)
-    (subst (λ (y : Listed.Alternative). (max front y.least ≤ SAMPLE_SIZE) × IsTrue (list_all (is_inside (max front y.least)) (map part_listed y.pieces.now))) same
-    (leb-true _ _ (both_left (nat_le (max front x.least) SAMPLE_SIZE) _ h), both_right (nat_le (max front x.least) SAMPLE_SIZE) _ h))
+    → IsTrue (option_map_or (has_room_after front) (signature_model (signature_listed alternatives)) true) → n ≡ max front (least_of (model_of a))
+    → (n ≤ SAMPLE_SIZE) × IsTrue (list_all (is_inside n) (parts_of (model_of a)))
+room_for front n alternatives a e h m =
+    let room : IsTrue (has_room_after front (model_of a)) = subst (λ o. IsTrue (option_map_or (has_room_after front) o true)) (first_model alternatives a e) h in
+    let most = max front (least_of (model_of a)) in
+    subst (λ k. (k ≤ SAMPLE_SIZE) × IsTrue (list_all (is_inside k) (parts_of (model_of a)))) (sym m)
+    (leb-true _ _ (both_left (nat_le most SAMPLE_SIZE) _ room), both_right (nat_le most SAMPLE_SIZE) _ room)
 
 -- the sample's zeros are the first of those that were written
 front_zeros : (p : List ℕ) (n least : ℕ) → n ≡ max (length p) least → n ≤ SAMPLE_SIZE → take n (p ++ zeros (SAMPLE_SIZE - length p)) ≡ p ++ zeros (least - length p)
@@ -115,24 +118,24 @@ rest_zeros p n low le =
     ∙ drop-replicate (n - length p) (SAMPLE_SIZE - length p) 0 ∙ ap zeros left
 
 module _ (row : FurtherRow) (a : Listed.Alternative) (n : ℕ) (out new : List ℕ) (first : Some a ≡ slice_get row.signature.now 0)
-    (room : IsTrue (has_room (row_listed row))) (many : n ≡ max (length (parent_sample row.parent)) a.least)
+    (room : IsTrue (has_room (row_listed row))) (many : n ≡ max (length (parent_sample row.parent)) (least_of (model_of a)))
     (fronted : out ≡ parent_sample row.parent ++ zeros (SAMPLE_SIZE - length (parent_sample row.parent)))
-    (done : new ≡ with_parts (map part_listed a.pieces.now) (take n out)) where
+    (done : new ≡ with_parts (parts_of (model_of a)) (take n out)) where
   abbrev p : List ℕ
   p = parent_sample row.parent
 
-  roomy : (n ≤ SAMPLE_SIZE) × IsTrue (list_all (is_inside n) (map part_listed a.pieces.now))
+  pub roomy : (n ≤ SAMPLE_SIZE) × IsTrue (list_all (is_inside n) (parts_of (model_of a)))
   roomy = room_for (length p) n row.signature.now a first room many
 
   sample_done : further_sample (row_listed row) ≡ Some new
   sample_done =
-      joined_first p row.signature.now a first
-      ∙ ap Some (ap (with_parts (map part_listed a.pieces.now)) (sym (ap (take n) fronted ∙ front_zeros p n a.least many roomy.0)) ∙ sym done)
+      ap (option_map (joined_sample p)) (first_model row.signature.now a first)
+      ∙ ap Some (ap (with_parts (parts_of (model_of a))) (sym (ap (take n) fronted ∙ front_zeros p n (least_of (model_of a)) many roomy.0)) ∙ sym done)
 
   long : length new ≡ n
   long =
       let here : length (take n out) ≡ n = length-take-le n out (omega (arith, roomy.0, ap length fronted, length-append p (zeros (SAMPLE_SIZE - length p)), length-replicate {A = ℕ} (SAMPLE_SIZE - length p) 0)) in
-      ap length done ∙ length-parts n (map part_listed a.pieces.now) (take n out) here roomy.1
+      ap length done ∙ length-parts n (parts_of (model_of a)) (take n out) here roomy.1
 
   pub counted_further : Some n ≡ option_map length (further_sample (row_listed row))
   counted_further = ap Some (sym long) ∙ sym (ap (option_map length) sample_done)
@@ -176,20 +179,20 @@ wider_parts b i w = parts w.parent w.found w.answers w.widens w.is
         let same : j ≡ i = omega arith in
         (parent, answers, subst (IsFirst (Widens parent b) further) same widens)
 
-pub wider_accepts : (b : List ℕ) (i : ℕ) → IsWider b (Some (ROW_COUNT + i)) → MatchOption (slice_get further i) ⊥ (λ r. IsTrue (accepts r.signature b))
+pub wider_accepts : (b : List ℕ) (i : ℕ) → IsWider b (Some (ROW_COUNT + i)) → MatchOption (slice_get further i) ⊥ (λ r. Accepted r.signature b)
 wider_accepts b i w =
     let h = wider_parts b i w in
-    (read_has (λ (r : Further). IsTrue (accepts r.signature b)) further i).1 (h.2.within, λ d. (h.2.here d).1)
+    (read_has (λ (r : Further). Accepted r.signature b) further i).1 (h.2.within, λ d. (h.2.here d).1)
 
 -- no sample: the row is not there, or accepts nothing
 pub nothing_accepted : (b : List ℕ) (o : Option Further) → is_some (option_map length (option_and_then further_sample o)) ≡ false
-    → ¬ MatchOption o ⊥ (λ r. IsTrue (accepts r.signature b))
+    → ¬ MatchOption o ⊥ (λ r. Accepted r.signature b)
 nothing_accepted b None e h = h
-nothing_accepted b (Some r) e h = none (parent_sample r.parent) r.signature e h
+nothing_accepted b (Some r) e h = none r.signature e h
   where
-    none : (front : List ℕ) (signature : List Alternative) → is_some (option_map length (joined_sample front signature)) ≡ false → ¬ IsTrue (accepts signature b)
-    none front [] e h = absurd (cc)
-    none front (at_least least parts ∷ others) e h = absurd (cc)
+    none : (signature : List Signature.Alternative) → is_some (option_map length (option_map (joined_sample (parent_sample r.parent)) (signature_model signature))) ≡ false → ¬ Accepted signature b
+    none [] e h = h
+    none (a ∷ others) e h = absurd (cc)
 
 -- a test that fails leaves the second
 second_of : (t : Bool) (X Y : Type 0) → (t ≡ true → ⊥) → MatchBool t X Y ↔ Y
@@ -220,7 +223,7 @@ module _ (i : ℕ) (result : Option ℕ) (new : List ℕ) where
       accepted None h = tt
       accepted (Some n) h =
           let b = take n new in
-          subst (λ t. MatchBool t (RowHas (Accepts b) i) (MatchOption (slice_get further (i - ROW_COUNT)) ⊥ (λ r. IsTrue (accepts r.signature b))))
+          subst (λ t. MatchBool t (RowHas (Accepts b) i) (MatchOption (slice_get further (i - ROW_COUNT)) ⊥ (λ r. Accepted r.signature b)))
           (sym (lt-ltb i ROW_COUNT lt)) (accepts_at b i h)
 
   pub none_above : ROW_COUNT ≤ i → result ≡ option_map length (option_and_then further_sample (slice_get further (i - ROW_COUNT)))
@@ -234,7 +237,7 @@ module _ (i : ℕ) (result : Option ℕ) (new : List ℕ) where
     ],
   )
     where
-      above : (b : List ℕ) → AcceptsAt b i ↔ MatchOption (slice_get further (i - ROW_COUNT)) ⊥ (λ r. IsTrue (accepts r.signature b))
+      above : (b : List ℕ) → AcceptsAt b i ↔ MatchOption (slice_get further (i - ROW_COUNT)) ⊥ (λ r. Accepted r.signature b)
       above b = second_of (nat_lt i ROW_COUNT) _ _ (λ e. let lt : i < ROW_COUNT = ltb-true i ROW_COUNT e in absurd (omega arith))
 
       accepted : (o : Option ℕ) → IfSome o (λ n. IsWider (take n new) (Some (ROW_COUNT + (i - ROW_COUNT)))) → IfSome o (λ n. AcceptsAt (take n new) i)

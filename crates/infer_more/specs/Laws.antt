@@ -1,8 +1,8 @@
 -- Laws of further rows and of the wider answer.
-use Rattle.std.specs.Prelude.{◌≡◌, ◌<◌, ◌≤◌, ℕ, Bool, IfSome, IsTrue, List, ◌++◌, Option, None, Some, All, if◌then◌else◌, length, nat_lt, not, option_map, slice_get}
-use Rattle.std.specs.List.{list_all, list_any}
-use Rattle.infer_sig.specs.Laws.{Lasts}
-use Rattle.infer_sig.specs.Signature.{Alternative, at_least, Part, text, any_text, byte, accepts}
+use Rattle.std.specs.Prelude.{◌≡◌, ◌<◌, ◌≤◌, ◌⊎◌, ◌||◌, ℕ, Bool, true, false, IfSome, IsTrue, List, [], ◌++◌, Option, None, Some, All, MatchOption, if◌then◌else◌, length, nat_le, nat_lt, not, option_map, slice_get}
+use Rattle.std.specs.List.{HoldsAt, list_all, list_any}
+use Rattle.infer_sig.specs.Signature as fixed
+use Rattle.infer_sig.specs.Signature.{at_least, Part, text, any_text, byte}
 use Rattle.infer.specs.First.{IsFirstOf, NoneHas}
 use Rattle.infer.specs.Laws.{IsNotLater}
 use Rattle.infer.specs.Leads.{is_white}
@@ -10,23 +10,49 @@ use Rattle.infer.specs.Row.{Accepts, shows}
 use Rattle.infer.specs.Table as built_in
 use Rattle.infer.specs.declared.table.rows.TheConstants.{ROW_COUNT}
 use Rattle.infer_more.specs.Index.{is_settled}
+use Rattle.infer_more.specs.Outline.{outline}
 use Rattle.infer_more.specs.Row.{Further}
+use Rattle.infer_more.specs.Signature.{Accepted, Alternative, Fits, plain_text}
 use Rattle.infer_more.specs.Table.{further}
 use Rattle.infer_more.specs.Wider.{IsWider, Widens, parent_at, shown}
 
--- what the signature of a further row accepts, it accepts however the buffer goes on
-abbrev pub AllLast : Type 0
-AllLast = (r : Further) → Lasts r.signature
+-- the alternative is plain text
+abbrev pub is_plain : Alternative → Bool
+is_plain plain_text = true
+is_plain other = false
 
--- as long as the built-in answer stays, bytes after a buffer never make its first further row a later one
+-- more bytes never take back that a buffer fits the alternative: it is none of the texts
+abbrev pub is_lasting : Alternative → Bool
+is_lasting plain_text = false
+is_lasting other = true
+
+-- and so each of a signature
+abbrev pub lasts : List Alternative → Bool
+lasts signature = list_all is_lasting signature
+
+-- what such a signature accepts, it accepts however the buffer goes on
+abbrev pub AllLast : Type 0
+AllLast = (signature : List Alternative) → IsTrue (lasts signature) → (b more : List ℕ) → Accepted signature b → Accepted signature (b ++ more)
+
+-- a buffer fits the alternative, and with more bytes after it no longer
+abbrev pub IsLost : Alternative → Type 0
+IsLost a = (b more : List ℕ) × Fits a b × (¬ Fits a (b ++ more))
+
+-- the signature of the first row that widens an answer does not last
+abbrev pub MayBeLost : Option ℕ → Type 0
+MayBeLost found = MatchOption found ⊥ (λ i. HoldsAt (λ r. IsTrue (not (lasts r.signature))) further i)
+
+-- as long as the built-in answer stays, bytes after a buffer never make its first further row a later one, unless that
+-- is one of the texts
 abbrev pub IsSteady : Type 0
 IsSteady =
     (parent : Option ℕ) (short more : List ℕ) (before after : Option ℕ) → IsFirstOf (Widens parent short) further before
-    → IsFirstOf (Widens parent (short ++ more)) further after → IsNotLater after before
+    → IsFirstOf (Widens parent (short ++ more)) further after → IsNotLater after before ⊎ MayBeLost before
 
--- no further row accepts a buffer of white space, also an empty one
-abbrev pub NoneIsBlank : Type 0
-NoneIsBlank = (b : List ℕ) → All (λ x. IsTrue (is_white x)) b → NoneHas (λ r. IsTrue (accepts r.signature b)) further
+-- no further row but that of plain text accepts a buffer of white space, and none the empty one
+pub record NoneIsBlank : Type 0 where
+  pub white : (b : List ℕ) → All (λ x. IsTrue (is_white x)) b → NoneHas (λ r. Accepted r.signature b × IsTrue (not (list_any is_plain r.signature))) further
+  pub empty : NoneHas (λ r. Accepted r.signature []) further
 
 -- the part asks first for a byte that is no white space
 abbrev pub is_dark_part : Part → Bool
@@ -35,11 +61,19 @@ is_dark_part (any_text p ts) = is_settled (λ x. not (is_white x)) p (any_text p
 is_dark_part (byte p set) = is_settled (λ x. not (is_white x)) p (byte p set)
 
 -- some part of each alternative does
-abbrev pub is_dark_alternative : Alternative → Bool
+abbrev pub is_dark_alternative : fixed.Alternative → Bool
 is_dark_alternative (at_least n parts) = list_any is_dark_part parts
 
+-- the signature is one of plain text, or its outline does not
 abbrev pub is_dark : Further → Bool
-is_dark r = list_all is_dark_alternative r.signature
+is_dark r = list_any is_plain r.signature || list_all is_dark_alternative (outline r.signature)
+
+-- and each asks for a byte or more
+abbrev pub is_some_alternative : fixed.Alternative → Bool
+is_some_alternative (at_least n parts) = nat_le 1 n
+
+abbrev pub is_filled : Further → Bool
+is_filled r = list_all is_some_alternative (outline r.signature)
 
 -- what a built-in row shows is what the row of that number shows among all
 abbrev pub ShowsBuiltIn : Type 0

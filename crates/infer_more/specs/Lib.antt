@@ -1,9 +1,11 @@
+pub mod Signature
 pub mod Row
 pub mod Table
 pub mod Ended
 pub mod Listed
 pub mod Wider
 pub mod Added
+pub mod Outline
 pub mod Index
 pub mod Reading
 pub mod Laws

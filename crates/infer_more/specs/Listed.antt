@@ -1,24 +1,44 @@
 -- The further rows as the code lists them.
 use Rattle.std.specs.Prelude.{◌≡◌, ◌==◌, List, [], ◌∷◌, ◌++◌, if◌then◌else◌, map}
 use denote.Ref.{Bor}
-use Rattle.infer_sig.specs.Signature as signature
+use Rattle.infer_sig.specs.Signature as fixed
 use Rattle.infer_sig.specs.Signature.{Part, at_least, text, byte, any_of, between}
 use Rattle.infer.specs.Triple.{triple}
 use Rattle.infer_more.specs.Ended.{ended_listed, ended_shown}
 use Rattle.infer_more.specs.Row.{Further}
+use Rattle.infer_more.specs.Signature as signature
+use Rattle.infer_more.specs.Signature.{bytes, binary_bytes, shared_object, first_entry_is, first_entry_ends_in, first_entry_has_extra, package_with, class_id, directory_tag, animated, subrip, dbase, tar_checksum, plain_text}
 use Rattle.infer_more.specs.declared.table.FurtherRow.{FurtherRow}
 use Rattle.infer_more.specs.declared.signature.Alternative.{Alternative}
+use Rattle.infer_more.specs.declared.signature.Alternative.TheVariants.{Animated, BinaryBytes, Bytes, ClassId, Dbase, DirectoryTag, FirstEntryEndsIn, FirstEntryHasExtra, FirstEntryIs, PackageWith, PlainText, SharedObject, SubRip, TarChecksum}
+use Rattle.infer_more.specs.declared.signature.Bytes as listed
 use Rattle.infer_more.specs.declared.signature.Piece.{Piece}
 use Rattle.infer_more.specs.declared.signature.Piece.TheVariants.{At, OneOf, Between}
 
 -- what a piece asks: a range of one byte is a text of that byte
 abbrev pub part_listed : Piece → Part
 part_listed (At place t) = text place t.now
-part_listed (OneOf place bytes) = byte place (any_of bytes.now)
+part_listed (OneOf place set) = byte place (any_of set.now)
 part_listed (Between place low high) = if low == high then text place (low ∷ []) else byte place (between low high)
 
+abbrev pub bytes_listed : listed.Bytes → fixed.Alternative
+bytes_listed a = at_least a.least (map part_listed a.pieces.now)
+
 abbrev pub alternative_listed : Alternative → signature.Alternative
-alternative_listed a = at_least a.least (map part_listed a.pieces.now)
+alternative_listed (Bytes a) = bytes (bytes_listed a)
+alternative_listed (BinaryBytes a) = binary_bytes (bytes_listed a)
+alternative_listed SharedObject = shared_object
+alternative_listed (FirstEntryIs name) = first_entry_is name.now
+alternative_listed (FirstEntryEndsIn end) = first_entry_ends_in end.now
+alternative_listed (FirstEntryHasExtra extra) = first_entry_has_extra extra.now
+alternative_listed (PackageWith folder) = package_with folder.now
+alternative_listed (ClassId id) = class_id id.now
+alternative_listed (DirectoryTag tag) = directory_tag tag
+alternative_listed Animated = animated
+alternative_listed SubRip = subrip
+alternative_listed Dbase = dbase
+alternative_listed TarChecksum = tar_checksum
+alternative_listed PlainText = plain_text
 
 abbrev pub signature_listed : List Alternative → List signature.Alternative
 signature_listed alternatives = map alternative_listed alternatives

@@ -1,8 +1,8 @@
 -- The wider answer of a buffer.
-use Rattle.std.specs.Prelude.{◌≡◌, ◌+◌, ◌-◌, ◌<◌, ◌⊎◌, ℕ, List, ◌++◌, Option, None, Some, IsTrue, MatchBool, MatchOption, if◌then◌else◌, length, map, nat_lt, slice_get}
+use Rattle.std.specs.Prelude.{◌≡◌, ◌+◌, ◌-◌, ◌<◌, ◌⊎◌, ℕ, List, ◌++◌, Option, None, Some, MatchBool, MatchOption, if◌then◌else◌, length, map, nat_lt, slice_get}
 use Rattle.std.specs.Option.{option_map_or}
 use Rattle.std.specs.List.{HoldsAt}
-use Rattle.infer_sig.specs.Signature.{accepts}
+use Rattle.infer.specs.Buffer.{IsBuffer}
 use Rattle.infer.specs.First.{IsFirstOf, SomeHas}
 use Rattle.infer.specs.Questions.{HasExtension, HasMimeType}
 use Rattle.infer.specs.Row.{Accepts}
@@ -11,15 +11,16 @@ use Rattle.infer.specs.Triple.{Triple}
 use Rattle.infer.specs.Walks.{RowHas}
 use Rattle.infer.specs.declared.table.rows.TheConstants.{ROW_COUNT}
 use Rattle.infer_more.specs.Row.{Further}
+use Rattle.infer_more.specs.Signature.{Accepted}
 use Rattle.infer_more.specs.Table.{further}
 
 -- the further row has this parent, and its signature accepts the buffer
 abbrev pub Widens : Option ℕ → List ℕ → Further → Type 0
-Widens parent b r = (r.parent ≡ parent) × IsTrue (accepts r.signature b)
+Widens parent b r = (r.parent ≡ parent) × Accepted r.signature b
 
 -- no further row does, whatever the buffer is
 abbrev pub IsWidest : Option ℕ → Type 0
-IsWidest parent = (b : List ℕ) → IsFirstOf (Widens parent b) further None
+IsWidest parent = (b : List ℕ) → IsBuffer b → IsFirstOf (Widens parent b) further None
 
 -- the further row of that number, counted among the further ones, does so
 abbrev pub WidensAt : Option ℕ → List ℕ → ℕ → Type 0
@@ -65,7 +66,7 @@ parent_at i = if nat_lt i ROW_COUNT then None else option_map_or (λ r. r.parent
 -- the signature of row i accepts the buffer, whatever its parent does
 abbrev pub AcceptsAt : List ℕ → ℕ → Type 0
 AcceptsAt b i =
-    MatchBool (nat_lt i ROW_COUNT) (RowHas (Accepts b) i) (MatchOption (slice_get further (i - ROW_COUNT)) ⊥ (λ r. IsTrue (accepts r.signature b)))
+    MatchBool (nat_lt i ROW_COUNT) (RowHas (Accepts b) i) (MatchOption (slice_get further (i - ROW_COUNT)) ⊥ (λ r. Accepted r.signature b))
 
 -- some row, built-in or further, shows this extension, or this MIME type
 abbrev pub ShowsExtension : List ℕ → Type 0

@@ -5,13 +5,13 @@ ghost use Rattle.infer.specs.First.{IsFirstOf, SomeHas};
 ghost use Rattle.infer.specs.Triple.{triple_of};
 ghost use Rattle.infer.specs.declared.table.rows.TheConstants.{ROW_COUNT};
 ghost use Rattle.infer_more.specs.Ended.{ended_listed, ended_shown};
-ghost use Rattle.infer_more.specs.Index.{IsNext, NoneBetween, all_ascend, all_guarded_ascend, ascends, asked, begun, behind, candidates, entries_at, gated, guarded, has_byte, is_candidate};
+ghost use Rattle.infer_more.specs.Index.{IsNext, NoneBetween, all_guarded_ascend, all_parentless_ascend, ascends, asked_parentless, begun, behind, candidates, entries_at, gated, guarded, has_between, has_byte, is_candidate, ranged, within};
 ghost use Rattle.infer_more.specs.Table.{further};
 ghost use Rattle.infer_more.specs.Wider.{AcceptsAt, IsWidened, IsWider, IsWiderAnswer, IsWidest, Widens, WidensAt, parent_at, shown};
 ghost use Rattle.infer_more.specs.Listed.{row_listed};
 ghost use Rattle.infer_more.specs.declared.index.lists.TheConstants.{FURTHER_COUNT};
 
-use crate::index::{Entry, FURTHER_COUNT, Gate, Guard, RowIndex, asked, index};
+use crate::index::{Entry, FURTHER_COUNT, Gate, Guard, Parentless, Range, asked, index};
 use crate::signature;
 use crate::table::{EndedTexts, FurtherRow, row_at};
 use infer::rows::{ROW_COUNT, numbers};
@@ -35,6 +35,17 @@ fn has_byte(buf: &[u8], place: u32, byte: u8) -> bool
 {
     match buf.get(place as usize) {
         Some(found) => *found == byte,
+        None => false,
+    }
+}
+
+/// Whether the buffer has at the place a byte from the first to the second.
+#[inline(always)]
+fn has_between(buf: &[u8], place: u32, low: u8, high: u8) -> bool
+    ensures { result ≡ has_between buf.now place low high }
+{
+    match buf.get(place as usize) {
+        Some(found) => low <= *found && *found <= high,
         None => false,
     }
 }
@@ -105,6 +116,30 @@ fn next_gated(gate: &Gate, from: usize, buf: &[u8], before: usize) -> usize
     next_opened(gate, from, buf, before)
 }
 
+/// The range's row, or the number before if that is less, the row before `from`, or the buffer lacks such a byte.
+#[inline(always)]
+fn next_within(range: &Range, from: usize, buf: &[u8], before: usize) -> usize
+    ensures { IsNext (within buf.now range.now) from before result }
+{
+    let row = usize::from(range.row);
+    if !has_between(buf, range.place, range.low, range.high) || row < from {
+        return before;
+    }
+    before.min(row)
+}
+
+/// The least of the rows of all ranges from `from` on, and of the number before.
+#[inline(always)]
+fn next_ranged(ranges: &[Range], from: usize, buf: &[u8], before: usize) -> usize
+    ensures { IsNext (ranged buf.now ranges.now) from before result }
+{
+    let mut least = before;
+    for range in ranges {
+        least = next_within(range, from, buf, least);
+    }
+    least
+}
+
 /// The entries at that place of the lists, and none past the last.
 #[inline(always)]
 fn entries_at(lists: &'static [&'static [Entry]], i: usize) -> &'static [Entry]
@@ -118,7 +153,7 @@ fn entries_at(lists: &'static [&'static [Entry]], i: usize) -> &'static [Entry]
 
 /// The entries that are listed by the buffer's first byte.
 #[inline(always)]
-fn entries_begun(index: &RowIndex, buf: &[u8]) -> &'static [Entry]
+fn entries_begun(index: &Parentless, buf: &[u8]) -> &'static [Entry]
     ensures { result.now ≡ begun index.now buf.now }
 {
     match buf.first() {
@@ -130,7 +165,7 @@ fn entries_begun(index: &RowIndex, buf: &[u8]) -> &'static [Entry]
 /// The least row from `from` on that is listed by the first byte, or their count. Most first bytes list none, and cost no
 /// call.
 #[inline(always)]
-fn next_begun(index: &RowIndex, from: usize, buf: &[u8]) -> usize
+fn next_begun(index: &Parentless, from: usize, buf: &[u8]) -> usize
     ensures { IsTrue (ascends (begun index.now buf.now)) → IsNext (candidates buf.now (begun index.now buf.now)) from FURTHER_COUNT result }
 {
     let entries = entries_begun(index, buf);
@@ -143,12 +178,13 @@ fn next_begun(index: &RowIndex, from: usize, buf: &[u8]) -> usize
 /// The least row from `from` on that is asked of a buffer without a built-in answer. A function of its own, whose guards
 /// are then tested in straight code.
 #[inline(never)]
-fn next_unknown(index: &RowIndex, from: usize, buf: &[u8]) -> usize
-    ensures { IsTrue (all_ascend index.now) → IsNext (asked index.now None buf.now) from FURTHER_COUNT result }
+fn next_unknown(index: &Parentless, from: usize, buf: &[u8]) -> usize
+    ensures { IsTrue (all_parentless_ascend index.now) → IsNext (asked_parentless index.now buf.now) from FURTHER_COUNT result }
 {
     let begun = next_begun(index, from, buf);
     let least = next_guarded(index.guards, from, buf, begun);
-    next_gated(&index.gate, from, buf, least)
+    let open = next_gated(&index.gate, from, buf, least);
+    next_ranged(index.ranges, from, buf, open)
 }
 
 /// The least row from `from` on that is asked of a buffer with this built-in answer, or their count.
@@ -158,10 +194,10 @@ fn next_asked(from: usize, parent: Option<usize>, buf: &[u8]) -> usize
     ensures none { NoneBetween parent buf.now from result }
 {
     let index = index();
-    asked(index);
+    asked(&index);
     match parent {
         Some(row) => next_of(entries_at(index.below, row), from, buf, FURTHER_COUNT),
-        None => next_unknown(index, from, buf),
+        None => next_unknown(index.parentless, from, buf),
     }
 }
 
@@ -200,7 +236,7 @@ fn is_widest(row: usize) -> bool
     ensures { IsTrue result → IsWidest (Some row) }
 {
     let index = index();
-    asked(index);
+    asked(&index);
     entries_at(index.below, row).is_empty()
 }
 

@@ -1,7 +1,7 @@
 //! Which further rows are asked of a buffer, so that few are. An entry names a row and a byte that it asks, so that a row
 //! is tried whole only where the buffer has that byte too.
 ghost use Rattle.std.specs.Prelude.{IsTrue};
-ghost use Rattle.infer_more.specs.Index.{AllAreAsked, EachIsAsked, all_ascend};
+ghost use Rattle.infer_more.specs.Index.{AllAreAsked, EachBelowIsAsked, EachIsAsked, EachParentlessIsAsked, all_ascend, all_below_ascend, all_parentless_ascend};
 
 /// A row, by its number among the further rows, that is asked only if a buffer has the byte at the place.
 pub(crate) struct Entry {
@@ -24,14 +24,30 @@ pub(crate) struct Gate {
     pub guards: &'static [Guard],
 }
 
-/// The rows that are asked, ascending in each list: those below each built-in row, and those without a parent by their
-/// first byte. Guards have the rows without a parent that leave the first byte free, or share it with the zeros of many
-/// files. Of these the rows that share another byte stand behind the gate, so that a buffer without it is told by one look.
-pub(crate) struct RowIndex {
-    pub below: &'static [&'static [Entry]],
+/// A row, by its number among the further rows, that is asked if a buffer has a byte from the first to the second at the
+/// place.
+pub(crate) struct Range {
+    pub place: u32,
+    pub row: u16,
+    pub low: u8,
+    pub high: u8,
+}
+
+/// The rows without a parent that are asked, ascending in each list: by their first byte, and behind guards those that
+/// leave the first byte free, or share it with the zeros of many files. Of these the rows that share another byte stand
+/// behind the gate, so that a buffer without it is told by one look. Ranges have the rows that allow many bytes.
+pub(crate) struct Parentless {
     pub first: &'static [&'static [Entry]],
     pub guards: &'static [Guard],
     pub gate: Gate,
+    pub ranges: &'static [Range],
+}
+
+/// The rows that are asked: those below each built-in row, ascending in each list, and those without a parent.
+#[derive(Drop)]
+pub(crate) struct RowIndex {
+    pub below: &'static [&'static [Entry]],
+    pub parentless: &'static Parentless,
 }
 
 macro_rules! lists {
@@ -68,18 +84,50 @@ macro_rules! gate {
     };
 }
 
+macro_rules! ranges {
+    ($($place:literal $low:literal $high:literal $row:literal;)*) => {
+        &[$(Range {
+            place: $place,
+            row: $row,
+            low: $low,
+            high: $high,
+        }),*]
+    };
+}
+
 mod lists;
 
 pub use lists::FURTHER_COUNT;
-use lists::INDEX;
+use lists::{BELOW, PARENTLESS};
+
+/// The rows below each built-in row.
+#[inline(always)]
+fn below_rows() -> &'static [&'static [Entry]]
+    ensures asked { EachBelowIsAsked result.now }
+    ensures ascend { IsTrue (all_below_ascend result.now) }
+{
+    BELOW
+}
+
+/// The rows without a parent.
+#[inline(always)]
+fn without_parent() -> &'static Parentless
+    ensures asked { EachParentlessIsAsked result.now }
+    ensures ascend { IsTrue (all_parentless_ascend result.now) }
+{
+    &PARENTLESS
+}
 
 /// The index.
 #[inline(always)]
-pub(crate) fn index() -> &'static RowIndex
-    ensures asked { EachIsAsked result.now }
-    ensures ascend { IsTrue (all_ascend result.now) }
+pub(crate) fn index() -> RowIndex
+    ensures asked { EachIsAsked result }
+    ensures ascend { IsTrue (all_ascend result) }
 {
-    &INDEX
+    RowIndex {
+        below: below_rows(),
+        parentless: without_parent(),
+    }
 }
 
 /// Every further row that can widen an answer is asked by such an index.

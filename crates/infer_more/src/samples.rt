@@ -5,14 +5,17 @@ ghost use Rattle.infer.specs.First.{IsFirst};
 ghost use Rattle.infer.specs.Row.{Accepts};
 ghost use Rattle.infer.specs.Samples.{put, with_part, with_parts, zeros};
 ghost use Rattle.infer.specs.Table as built_in;
-ghost use Rattle.infer_more.specs.Listed.{part_listed, row_listed};
+ghost use Rattle.infer_more.specs.Listed.{alternative_listed, part_listed, row_listed};
 ghost use Rattle.infer_more.specs.Row.{is_inside};
-ghost use Rattle.infer_more.specs.Samples.{HasAnswer, built_in_sample, further_sample, has_room, parent_sample, sample_at, written};
+ghost use Rattle.infer_more.specs.Samples.{HasAnswer, built_in_sample, further_sample, has_room, least_of, model, model_entry, parent_sample, parts_of, sample_at, written};
+ghost use Rattle.infer_more.specs.Signature.{class_id};
 ghost use Rattle.infer_more.specs.Table.{further};
 ghost use Rattle.infer_more.specs.Wider.{AcceptsAt, IsWider};
+ghost use Rattle.infer_more.specs.declared.samples.TheConstants.{SAMPLE_SIZE};
 
 use crate::laws;
-use crate::signature::Piece;
+use crate::signature::Piece::At;
+use crate::signature::{Alternative, Piece};
 use crate::table::{FurtherRow, row_at};
 use infer::rows::{DLL, EPUB_ARCHIVE, ROW_COUNT};
 
@@ -52,6 +55,93 @@ fn put_pieces(pieces: &[Piece], out: &mut [u8])
     }
 }
 
+/// Writes the first entry of a ZIP archive with the text behind its header, and its length at the place.
+fn put_entry(place: usize, text: &[u8], out: &mut [u8])
+    requires count { place < 30 }
+    requires room { 30 + length text.now ≤ length out.old }
+    ensures { out.new ≡ with_parts (parts_of (model_entry place text.now)) out.old }
+{
+    put(0, b"PK\x03\x04", out);
+    put(place, &[(text.len() % 256) as u8], out);
+    put(30, text, out);
+}
+
+/// Writes the class id of a root entry behind the header of a compound file.
+fn put_class_id(id: &[u8], out: &mut [u8])
+    requires room { 592 + length id.now ≤ length out.old }
+    requires whole { 592 ≤ length out.old }
+    ensures { out.new ≡ with_parts (parts_of (model (class_id id.now))) out.old }
+{
+    put(0, b"\xD0\xCF\x11\xE0\xA1\xB1\x1A\xE1", out);
+    put(26, b"\x03\0\xFE\xFF\x09", out);
+    put(578, b"\x05", out);
+    put(592, id, out);
+}
+
+/// Writes a sample of the alternative over what is there.
+fn put_model(alternative: &Alternative, out: &mut [u8])
+    requires { IsTrue (list_all (is_inside (length out.old)) (parts_of (model (alternative_listed alternative.now)))) }
+    ensures { out.new ≡ with_parts (parts_of (model (alternative_listed alternative.now))) out.old }
+{
+    match alternative {
+        Alternative::Bytes(bytes) => put_pieces(bytes.pieces, out),
+        Alternative::BinaryBytes(bytes) => put_pieces(bytes.pieces, out),
+        Alternative::SharedObject => put_pieces(
+            &[At(4, b"\x01\x01"), At(16, b"\x03"), At(42, b"\x20\0\x01")],
+            out,
+        ),
+        Alternative::FirstEntryIs(name) => put_entry(26, name, out),
+        Alternative::FirstEntryEndsIn(name) => put_entry(26, name, out),
+        Alternative::FirstEntryHasExtra(extra) => put_entry(28, extra, out),
+        Alternative::PackageWith(folder) => put_pieces(
+            &[At(0, b"PK\x03\x04"), At(6, b"PK\x03\x04"), At(30, b"_rels/"), At(36, folder)],
+            out,
+        ),
+        Alternative::ClassId(id) => put_class_id(*id, out),
+        Alternative::DirectoryTag(tag) => {
+            put(0, b"MM\0*\0\0\0\x06", out);
+            put(8, &tag.to_be_bytes(), out);
+        }
+        Alternative::Animated => put_pieces(&[At(0, b"\x89PNG"), At(12, b"acTL")], out),
+        Alternative::SubRip => put(0, b"0\n00:00:00,000 --> 00:00:00,000", out),
+        Alternative::Dbase => put_pieces(
+            &[
+                At(0, b"\x02\0\x01\x01"),
+                At(8, b"\x41\0\x02"),
+                At(32, b"A"),
+                At(43, b"+"),
+                At(64, b"\r"),
+            ],
+            out,
+        ),
+        Alternative::TarChecksum => put_pieces(&[At(0, b"\x01"), At(148, b"401")], out),
+        Alternative::PlainText => put(0, b" ", out),
+    }
+}
+
+/// The length of that sample.
+fn model_length(alternative: &Alternative) -> usize
+    requires { least_of (model (alternative_listed alternative.now)) ≤ SAMPLE_SIZE }
+    ensures { result ≡ least_of (model (alternative_listed alternative.now)) }
+{
+    match alternative {
+        Alternative::Bytes(bytes) => bytes.least,
+        Alternative::BinaryBytes(bytes) => bytes.least,
+        Alternative::SharedObject => 46,
+        Alternative::FirstEntryIs(name) => 30 + name.len(),
+        Alternative::FirstEntryEndsIn(name) => 30 + name.len(),
+        Alternative::FirstEntryHasExtra(extra) => 30 + extra.len(),
+        Alternative::PackageWith(folder) => 36 + folder.len(),
+        Alternative::ClassId(_) => 640,
+        Alternative::DirectoryTag(_) => 20,
+        Alternative::Animated => 16,
+        Alternative::SubRip => 31,
+        Alternative::Dbase => 65,
+        Alternative::TarChecksum => 512,
+        Alternative::PlainText => 1,
+    }
+}
+
 /// Writes the sample of built-in row `i`.
 fn built_in(i: usize, out: &mut [u8; SAMPLE_SIZE]) -> Option<usize>
     ensures none { IsNone result ↔ ((i ≡ DLL) ⊎ (i ≡ EPUB_ARCHIVE) ⊎ (ROW_COUNT ≤ i)) }
@@ -88,8 +178,8 @@ fn of_row(row: &FurtherRow, out: &mut [u8; SAMPLE_SIZE]) -> Option<usize>
     ensures fits { IfSome result (λ n. n ≤ SAMPLE_SIZE) }
 {
     let alternative = row.signature.first()?;
-    let n = parent(row.parent, out).max(alternative.least);
-    put_pieces(alternative.pieces, &mut out[..n]);
+    let n = parent(row.parent, out).max(model_length(alternative));
+    put_model(alternative, &mut out[..n]);
     Some(n)
 }
 

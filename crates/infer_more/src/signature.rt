@@ -1,13 +1,26 @@
 //! Signatures as data, and one function that decides them all.
-ghost use Rattle.std.specs.Prelude.{◌≡◌, IsTrue, length, map};
-ghost use Rattle.std.specs.List.{list_all, list_any};
-ghost use Rattle.infer_sig.specs.Signature.{accepts, allows, any_of, between, fits, has_part};
-ghost use Rattle.infer_more.specs.Listed.{alternative_listed, part_listed, signature_listed};
-ghost use Rattle.infer_more.specs.Row.{is_closed, is_inside};
+ghost use Rattle.std.specs.Prelude.{◌≡◌, ◌↔◌, IsTrue, length, map};
+ghost use Rattle.std.specs.List.{list_all};
+ghost use Rattle.infer_sig.specs.Signature.{allows, any_of, between, fits, has_part};
+ghost use Rattle.infer_more.specs.Listed.{alternative_listed, bytes_listed, part_listed, signature_listed};
+ghost use Rattle.infer_more.specs.Row.{is_closed, is_closed_alternative, is_inside};
+ghost use Rattle.infer_more.specs.Signature.{Accepted, Fits};
 
-use infer_deep::places::same_text;
+use infer_deep::doc::has_class_id;
+use infer_deep::places::{same_text, stands_at};
+use infer_inside::dbase::is_dbase;
+use infer_inside::elf::is_shared_object;
+use infer_inside::png::is_animated;
+use infer_inside::subtitles::is_subrip;
+use infer_inside::tar::has_tar_checksum;
+use infer_inside::text::{is_binary, is_text};
+use infer_inside::tiff::first_directory_has_tag;
+use infer_inside::zip::{
+    first_entry_ends_in, first_entry_has_extra, first_entry_is, is_package_with,
+};
 
 /// What a signature asks of places.
+#[derive(Drop)]
 pub(crate) enum Piece {
     /// At the place one of these bytes.
     OneOf(usize, &'static [u8]),
@@ -18,26 +31,34 @@ pub(crate) enum Piece {
 }
 
 /// A least length, and pieces.
-pub(crate) struct Alternative {
+pub(crate) struct Bytes {
     pub least: usize,
     pub pieces: &'static [Piece],
 }
 
-/// Whether the buffer has the least length and every piece of one of the alternatives.
-#[inline(always)]
-#[tactic(auto, using(crate::proofs::ListLemmas::list_any_map))]
-pub(crate) fn accepts(signature: &[Alternative], buf: &[u8]) -> bool
-    requires { IsTrue (list_all is_closed (signature_listed signature.now)) }
-    ensures { result ≡ accepts (signature_listed signature.now) buf.now }
-{
-    fits_any(signature, buf)
+/// One of the alternatives of a signature: bytes at fixed places, these and a byte of binary data, or a look inside.
+pub(crate) enum Alternative {
+    Bytes(Bytes),
+    BinaryBytes(Bytes),
+    SharedObject,
+    FirstEntryIs(&'static [u8]),
+    FirstEntryEndsIn(&'static [u8]),
+    FirstEntryHasExtra(&'static [u8]),
+    PackageWith(&'static [u8]),
+    ClassId(&'static [u8; 16]),
+    DirectoryTag(u16),
+    Animated,
+    SubRip,
+    Dbase,
+    TarChecksum,
+    PlainText,
 }
 
-/// Whether one of the alternatives fits the buffer.
+/// Whether the buffer has what one of the alternatives asks.
 #[inline(always)]
-fn fits_any(signature: &[Alternative], buf: &[u8]) -> bool
-    requires { IsTrue (list_all is_closed (signature_listed signature.now)) }
-    ensures { result ≡ list_any (λ alternative. fits buf.now (alternative_listed alternative)) signature.now }
+pub(crate) fn accepts(signature: &[Alternative], buf: &[u8]) -> bool
+    requires { IsTrue (list_all is_closed_alternative (signature_listed signature.now)) }
+    ensures { IsTrue result ↔ Accepted (signature_listed signature.now) buf.now }
 {
     for alternative in signature {
         if fits(alternative, buf) {
@@ -47,14 +68,51 @@ fn fits_any(signature: &[Alternative], buf: &[u8]) -> bool
     false
 }
 
-/// Whether the buffer has the least length and every piece of this one.
+/// Whether the buffer has what this one asks.
+#[inline(always)]
+fn fits(alternative: &Alternative, buf: &[u8]) -> bool
+    requires { IsTrue (is_closed_alternative (alternative_listed alternative.now)) }
+    ensures { IsTrue result ↔ Fits (alternative_listed alternative.now) buf.now }
+{
+    match alternative {
+        Alternative::Bytes(bytes) => has_bytes(bytes, buf),
+        other => fits_inside(other, buf),
+    }
+}
+
+/// Whether the buffer has what this one asks, which is seldom bytes alone. A function of its own, so that those take
+/// nothing of what the others need.
+#[inline(never)]
+fn fits_inside(alternative: &Alternative, buf: &[u8]) -> bool
+    requires { IsTrue (is_closed_alternative (alternative_listed alternative.now)) }
+    ensures { IsTrue result ↔ Fits (alternative_listed alternative.now) buf.now }
+{
+    match alternative {
+        Alternative::Bytes(bytes) => has_bytes(bytes, buf),
+        Alternative::BinaryBytes(bytes) => has_bytes(bytes, buf) && is_binary(buf),
+        Alternative::SharedObject => is_shared_object(buf),
+        Alternative::FirstEntryIs(name) => first_entry_is(buf, name),
+        Alternative::FirstEntryEndsIn(end) => first_entry_ends_in(buf, end),
+        Alternative::FirstEntryHasExtra(extra) => first_entry_has_extra(buf, extra),
+        Alternative::PackageWith(folder) => is_package_with(buf, folder),
+        Alternative::ClassId(id) => has_class_id(buf, id),
+        Alternative::DirectoryTag(tag) => first_directory_has_tag(buf, *tag),
+        Alternative::Animated => stands_at(buf, b"\x89PNG", 0) && is_animated(buf),
+        Alternative::SubRip => is_subrip(buf),
+        Alternative::Dbase => is_dbase(buf),
+        Alternative::TarChecksum => has_tar_checksum(buf),
+        Alternative::PlainText => is_text(buf),
+    }
+}
+
+/// Whether the buffer has the least length and every piece.
 #[inline(always)]
 #[tactic(auto, using(crate::proofs::ListLemmas::list_all_map))]
-fn fits(alternative: &Alternative, buf: &[u8]) -> bool
-    requires { IsTrue (is_closed (alternative_listed alternative.now)) }
-    ensures { result ≡ fits buf.now (alternative_listed alternative.now) }
+fn has_bytes(bytes: &Bytes, buf: &[u8]) -> bool
+    requires { IsTrue (is_closed (bytes_listed bytes.now)) }
+    ensures { result ≡ fits buf.now (bytes_listed bytes.now) }
 {
-    alternative.least <= buf.len() && has_every(alternative.pieces, buf)
+    bytes.least <= buf.len() && has_every(bytes.pieces, buf)
 }
 
 /// Whether it has what each piece asks, all of it within the buffer.

@@ -26,9 +26,9 @@ pub(crate) struct FurtherRow {
 }
 
 // A row a line: what it shows, its parent after a colon, and the alternatives of its signature, each as its least length
-// and its pieces.
+// and its pieces, or as what it is called.
 macro_rules! rows {
-    ($($class:ident $mime_type:literal $extension:literal: $($parent:ident)? => $([$least:literal, $($piece:expr),*])*;)*) => {
+    ($($class:ident $mime_type:literal $extension:literal: $($parent:ident)? => $([$($alternative:tt)*])*;)*) => {
         &[$(FurtherRow {
             matcher_type: MatcherType::$class,
             mime_type: $mime_type,
@@ -38,11 +38,26 @@ macro_rules! rows {
                 extension: concat!($extension, "\0"),
             },
             parent: parent!($($parent)?),
-            signature: &[$(Alternative {
-                least: $least,
-                pieces: &[$($piece),*],
-            }),*],
+            signature: &[$(alternative!($($alternative)*)),*],
         }),*]
+    };
+}
+
+macro_rules! alternative {
+    ($least:literal, $($piece:expr),*) => {
+        Alternative::Bytes(bytes!($least, $($piece),*))
+    };
+    ($looks_inside:expr) => {
+        $looks_inside
+    };
+}
+
+macro_rules! bytes {
+    ($least:literal, $($piece:expr),*) => {
+        Bytes {
+            least: $least,
+            pieces: &[$($piece),*],
+        }
     };
 }
 

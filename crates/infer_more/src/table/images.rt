@@ -3,8 +3,8 @@ ghost use Rattle.std.specs.Prelude.{◌≡◌, map};
 ghost use Rattle.infer_more.specs.Listed.{AreEnded, row_listed};
 ghost use Rattle.infer_more.specs.Table.{images};
 
-use crate::signature::Alternative;
 use crate::signature::Piece::{At, Between, OneOf};
+use crate::signature::{Alternative, Bytes};
 use crate::table::{EndedTexts, FurtherRow};
 use infer::MatcherType;
 

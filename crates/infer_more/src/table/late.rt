@@ -3,8 +3,9 @@ ghost use Rattle.std.specs.Prelude.{◌≡◌, map};
 ghost use Rattle.infer_more.specs.Listed.{AreEnded, row_listed};
 ghost use Rattle.infer_more.specs.Table.{late};
 
-use crate::signature::Alternative;
+use crate::signature::Alternative::{Dbase, PlainText, TarChecksum};
 use crate::signature::Piece::{At, Between, OneOf};
+use crate::signature::{Alternative, Bytes};
 use crate::table::{EndedTexts, FurtherRow};
 use infer::MatcherType;
 
@@ -21,13 +22,13 @@ static ROWS: &[FurtherRow] = rows![
     App "application/x-hdf5" "hdf5": => [8, At(0, b"\x89HDF\r\n\x1A\n")] [520, At(512, b"\x89HDF\r\n\x1A\n")];
     App "application/x-dbm" "bdb": => [16, At(12, b"b1\x05\0")] [16, At(12, b"\0\x051b")] [16, At(12, b"a\x15\x06\0")] [16, At(12, b"\0\x06\x15a")];
     App "application/x-vdi-disk" "vdi": => [68, At(64, b"\x7F\x10\xDA\xBE")];
-    App "application/vnd.dbf" "dbf": =>;
+    App "application/vnd.dbf" "dbf": => [Dbase];
     Archive "application/x-ext-filesystem" "ext2": => [1086, At(1080, b"S\xEF"), Between(1082, 0x00, 0x07), is!(1083, 0x00), Between(1084, 0x01, 0x03), is!(1085, 0x00)];
     Video "video/mp2t" "ts": => [753, is!(0, b'G'), is!(188, b'G'), is!(376, b'G'), is!(564, b'G'), is!(752, b'G')] [773, is!(4, b'G'), is!(196, b'G'), is!(388, b'G'), is!(580, b'G'), is!(772, b'G')];
-    Archive "application/x-tar" "tar": =>;
+    Archive "application/x-tar" "tar": => [TarChecksum];
     Text "application/x-ndjson" "ndjson": =>;
     Text "application/json" "json": =>;
-    Text "text/plain" "txt": =>;
+    Text "text/plain" "txt": => [PlainText];
 ];
 
 #[inline(always)]

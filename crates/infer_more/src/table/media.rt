@@ -3,8 +3,9 @@ ghost use Rattle.std.specs.Prelude.{◌≡◌, map};
 ghost use Rattle.infer_more.specs.Listed.{AreEnded, row_listed};
 ghost use Rattle.infer_more.specs.Table.{media};
 
-use crate::signature::Alternative;
+use crate::signature::Alternative::SubRip;
 use crate::signature::Piece::{At, Between, OneOf};
+use crate::signature::{Alternative, Bytes};
 use crate::table::{EndedTexts, FurtherRow};
 use infer::MatcherType;
 
@@ -21,7 +22,7 @@ static ROWS: &[FurtherRow] = rows![
     Text "text/vcard" "vcf": => [12, At(0, b"BEGIN:VCARD"), OneOf(11, b"\n\r")] [15, At(0, b"\xEF\xBB\xBFBEGIN:VCARD"), OneOf(14, b"\n\r")];
     Text "text/vtt" "vtt": => [7, At(0, b"WEBVTT"), OneOf(6, b"\t\n\r ")] [10, At(0, b"\xEF\xBB\xBFWEBVTT"), OneOf(9, b"\t\n\r ")];
     Text "text/x-php" "php": => [6, At(0, b"<?php"), OneOf(5, b"\t\n\r ")];
-    Text "application/x-subrip" "srt": =>;
+    Text "application/x-subrip" "srt": => [SubRip];
 ];
 
 #[inline(always)]

@@ -3,8 +3,9 @@ ghost use Rattle.std.specs.Prelude.{◌≡◌, map};
 ghost use Rattle.infer_more.specs.Listed.{AreEnded, row_listed};
 ghost use Rattle.infer_more.specs.Table.{records};
 
-use crate::signature::Alternative;
+use crate::signature::Alternative::BinaryBytes;
 use crate::signature::Piece::{At, Between, OneOf};
+use crate::signature::{Alternative, Bytes};
 use crate::table::{EndedTexts, FurtherRow};
 use infer::MatcherType;
 
@@ -17,7 +18,7 @@ static ROWS: &[FurtherRow] = rows![
     App "application/x-npy" "npy": => [8, At(0, b"\x93NUMPY"), Between(6, 0x01, 0x03), is!(7, 0x00)];
     App "application/vnd.apache.parquet" "parquet": => [4, At(0, b"PAR1")];
     App "application/x-avro" "avro": => [4, At(0, b"Obj\x01")];
-    App "application/x-orc" "orc": =>;
+    App "application/x-orc" "orc": => [BinaryBytes(bytes!(4, At(0, b"ORC")))];
     App "application/vnd.apache.arrow.file" "arrow": => [8, At(0, b"ARROW1\0\0")];
     App "application/x-gguf" "gguf": => [8, At(0, b"GGUF"), Between(4, 0x01, 0x03), At(5, b"\0\0\0")] [8, At(0, b"GGUF\0\0\0"), Between(7, 0x01, 0x03)];
     App "application/x-msaccess" "mdb": => [19, At(0, b"\0\x01\0\0Standard Jet DB")];

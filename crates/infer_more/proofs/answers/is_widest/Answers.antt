@@ -7,4 +7,4 @@ pub returns : goal.returns
 returns c = λ none.
     let entries = c.entries_at.result.now in
     let empty = eqb-true (length entries) 0 (sym c.is_empty.ensures ∙ none) in
-    widest c.index-index.result.now c.args.row entries c.asked.ensures c.entries_at.ensures empty
+    widest c.index-index.result c.args.row entries c.asked.ensures c.entries_at.ensures empty

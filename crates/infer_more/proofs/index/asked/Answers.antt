@@ -1,4 +1,4 @@
-use Rattle.infer_more.proofs.IndexLemmas.{all_asked}
+use Rattle.infer_more.proofs.OutlineLemmas.{all_asked}
 use Rattle.infer_more.proofs.index.asked.Goals as goal
 
 pub returns : goal.returns

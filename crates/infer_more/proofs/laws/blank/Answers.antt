@@ -1,10 +1,10 @@
 use Rattle.std.proofs.Common.{refl}
 use Rattle.infer_more.specs.Table.{archives, code, further, headers, images, late, markup, media, packages, records}
-use Rattle.infer_more.specs.Laws.{is_dark}
+use Rattle.infer_more.specs.Laws.{is_dark, is_filled}
 use Rattle.infer_more.proofs.NamedLemmas.{all_pass}
 use Rattle.infer_more.proofs.LawLemmas.{none_is_blank}
 use Rattle.infer_more.proofs.laws.blank.Goals as goal
 
 pub returns : goal.returns
 unfolding further archives code headers images late markup media packages records
-returns c = none_is_blank c.by_place.ensures (all_pass is_dark 0 further refl)
+returns c = none_is_blank c.by_place.ensures (all_pass is_dark 0 further refl) (all_pass is_filled 0 further refl)
