@@ -90,7 +90,7 @@ module _ (b more : List ℕ) where
             (subst (λ n. table_place wide big b + n * known_size wide ≤ length b) (sym count) t.whole));
         alone = λ i lt asks. t.alone i (subst (λ n. i < n) count lt)
             (sym (number32-append big (table_place wide big b + i * known_size wide)
-              (entry_inside wide (table_place wide big b) (entry_count wide big b) i t.whole (subst (λ n. i < n) count lt)))
+            (entry_inside wide (table_place wide big b) (entry_count wide big b) i t.whole (subst (λ n. i < n) count lt)))
             ∙ subst (λ at. number32 big (b ++ more) (at + i * known_size wide) ≡ 3) place asks);
       }
 
@@ -115,14 +115,18 @@ module _ (b more : List ℕ) where
   first_entry_is-lasts name (h, long, o) = (first_name h, name_length h ∙ long, stays name 30 o)
 
   pub first_entry_ends_in-lasts : (text : List ℕ) → FirstEntryEndsIn text b → FirstEntryEndsIn text (b ++ more)
-  first_entry_ends_in-lasts text (h, long, o) =
-      (first_name h, subst (λ n. length text ≤ n) (sym (name_length h)) long,
-       subst (λ n. OccursAt (b ++ more) text (30 + n - length text)) (sym (name_length h)) (stays text _ o))
+  first_entry_ends_in-lasts text (h, long, o) = (
+    first_name h,
+    subst (λ n. length text ≤ n) (sym (name_length h)) long,
+    subst (λ n. OccursAt (b ++ more) text (30 + n - length text)) (sym (name_length h)) (stays text _ o),
+  )
 
   pub first_entry_has_extra-lasts : (text : List ℕ) → FirstEntryHasExtra text b → FirstEntryHasExtra text (b ++ more)
-  first_entry_has_extra-lasts text (h, long, o) =
-      (first_name h, subst (λ n. length text ≤ n) (sym (le16-append b more 28 (let l = h.long in omega arith))) long,
-       subst (λ n. OccursAt (b ++ more) text (30 + n)) (sym (name_length h)) (stays text _ o))
+  first_entry_has_extra-lasts text (h, long, o) = (
+    first_name h,
+    subst (λ n. length text ≤ n) (sym (le16-append b more 28 (let l = h.long in omega arith))) long,
+    subst (λ n. OccursAt (b ++ more) text (30 + n)) (sym (name_length h)) (stays text _ o),
+  )
 
   part_entry : (p : ℕ) → IsPartEntry b p → IsPartEntry (b ++ more) p
   part_entry p (o, inl t) = (stays zip_header p o, inl (stays _ (p + 30) t))
@@ -144,27 +148,40 @@ module _ (b more : List ℕ) where
   folder_inside q (o, inr (inr (inr (inr t)))) = let f = t.fits in omega arith
 
   folder_front : (k : ℕ) → k + 36 ≤ length b → IsFolderEntry (b ++ more) k → IsFolderEntry b k
-  folder_front k le (o, h) = (OccursAt-front b more zip_header k (omega arith) o, elim h [
-    | inl t ↦ inl (OccursAt-front b more _ (k + 30) (omega arith) t)
-    | inr (inl t) ↦ inr (inl (OccursAt-front b more _ (k + 30) (omega arith) t))
-    | inr (inr (inl t)) ↦ inr (inr (inl (OccursAt-front b more _ (k + 30) (omega arith) t)))
-    | inr (inr (inr (inl t))) ↦ inr (inr (inr (inl (OccursAt-front b more _ (k + 30) (omega arith) t))))
-    | inr (inr (inr (inr t))) ↦ inr (inr (inr (inr (OccursAt-front b more _ (k + 30) (omega arith) t))))
-  ])
+  folder_front k le (o, h) = (
+    OccursAt-front b more zip_header k (omega arith) o,
+    elim h [
+      | inl t ↦ inl (OccursAt-front b more _ (k + 30) (omega arith) t)
+      | inr (inl t) ↦ inr (inl (OccursAt-front b more _ (k + 30) (omega arith) t))
+      | inr (inr (inl t)) ↦ inr (inr (inl (OccursAt-front b more _ (k + 30) (omega arith) t)))
+      | inr (inr (inr (inl t))) ↦ inr (inr (inr (inl (OccursAt-front b more _ (k + 30) (omega arith) t))))
+      | inr (inr (inr (inr t))) ↦ inr (inr (inr (inr (OccursAt-front b more _ (k + 30) (omega arith) t))))
+    ],
+  )
 
   pub package_with-lasts : (folder : List ℕ) → IsPackageWith folder b → IsPackageWith folder (b ++ more)
   package_with-lasts folder ((o, begins), (p, part), (q, (is, before), f)) = (
-    (stays zip_header 0 o, elim begins [
-      | inl t ↦ inl (stays _ 30 t)
-      | inr (inl t) ↦ inr (inl (stays _ 30 t))
-      | inr (inr (inl t)) ↦ inr (inr (inl (stays _ 30 t)))
-      | inr (inr (inr t)) ↦ inr (inr (inr (stays _ 30 t)))
-    ]),
+    (
+      stays zip_header 0 o,
+      elim begins [
+        | inl t ↦ inl (stays _ 30 t)
+        | inr (inl t) ↦ inr (inl (stays _ 30 t))
+        | inr (inr (inl t)) ↦ inr (inr (inl (stays _ 30 t)))
+        | inr (inr (inr t)) ↦ inr (inr (inr (stays _ 30 t)))
+      ],
+    ),
     (p, part_entry p part),
-    (q, (folder_entry q is, λ k lt e.
-      let far : k + 4 ≤ q = apart (b ++ more) k q lt e.0 (stays zip_header q is.0) in
-      let inside = folder_inside q is in
-      before k lt (folder_front k (omega arith) e)), stays folder (q + 30) f),
+    (
+      q,
+      (
+        folder_entry q is,
+        λ k lt e.
+            let far : k + 4 ≤ q = apart (b ++ more) k q lt e.0 (stays zip_header q is.0) in
+            let inside = folder_inside q is in
+            before k lt (folder_front k (omega arith) e),
+      ),
+      stays folder (q + 30) f,
+    ),
   )
     where
       -- headers do not overlap
@@ -176,7 +193,7 @@ module _ (b more : List ℕ) where
             let first : slice_index c (q + 0) ≡ 0x50 = h.reads 0 (omega arith) in
             let read : slice_index c (k + (q - k)) ≡ slice_index zip_header (q - k) = o.reads (q - k) (omega arith) in
             absurd (other (q - k) (omega arith) (omega arith)
-                (sym read ∙ ap (slice_index c) (omega arith) ∙ first))
+            (sym read ∙ ap (slice_index c) (omega arith) ∙ first))
       ]
         where
           other : (j : ℕ) → 0 < j → j < 4 → slice_index zip_header j ≡ 0x50 → ⊥
@@ -194,12 +211,18 @@ module _ (b more : List ℕ) where
 
   pub tag-lasts : (tag : ℕ) → HasTag tag b → HasTag tag (b ++ more)
   tag-lasts tag (big, begins, (i, (lt, whole, is))) =
-      let start = number32 big b 4 in
-      (big, begins_tiff big begins, (i, subst (λ s. IsTagEntry big tag (b ++ more) s i) (sym (number32-append big 4 (omega arith))) (
-        subst (λ n. i < n) (sym (number16-append big start (omega arith))) lt,
-        longer _ whole,
-        number16-append big (start + 2 + 12 * i) (omega arith) ∙ is,
-      )))
+      let start = number32 big b 4 in (
+        big,
+        begins_tiff big begins,
+        (
+          i,
+          subst (λ s. IsTagEntry big tag (b ++ more) s i) (sym (number32-append big 4 (omega arith))) (
+            subst (λ n. i < n) (sym (number16-append big start (omega arith))) lt,
+            longer _ whole,
+            number16-append big (start + 2 + 12 * i) (omega arith) ∙ is,
+          ),
+        ),
+      )
 
   pub chunk : (c : ℕ) → IsAnimatedFrom b c → IsAnimatedFrom (b ++ more) c
   chunk c (here _ o) = here c (stays _ (c + 4) o)
@@ -248,23 +271,26 @@ module _ (b more : List ℕ) where
 
   pub dbase-lasts : IsDbase b → IsDbase (b ++ more)
   dbase-lasts (long, (version, month, day, zeros), (name, kind), many, (e, (sum, low, whole, inside, end))) = (
-        longer 65 long,
-        (
-          carried (IsOneOf versions) 0 (omega arith) version,
-          carried (λ x. (0x01 ≤ x) × (x ≤ 0x0C)) 2 (omega arith) month,
-          carried (λ x. (0x01 ≤ x) × (x ≤ 0x1F)) 3 (omega arith) day,
-          (kept 12 (omega arith) ∙ zeros.0, kept 13 (omega arith) ∙ zeros.1),
-        ),
-        (carried BeginsName 32 (omega arith) name, carried (IsOneOf (codes "+@BCDFGILMNOPTVXY")) 43 (omega arith) kind),
-        subst (λ n. 2 ≤ n) (sym (le16-append b more 10 (omega arith))) many,
-        (e, (
-          ap (λ x. e + behind x) (kept 0 (omega arith)) ∙ sum ∙ sym (le16-append b more 8 (omega arith)),
-          low,
-          whole,
-          longer _ inside,
-          kept e (omega arith) ∙ end,
-        )),
-      )
+    longer 65 long,
+    (
+      carried (IsOneOf versions) 0 (omega arith) version,
+      carried (λ x. (0x01 ≤ x) × (x ≤ 0x0C)) 2 (omega arith) month,
+      carried (λ x. (0x01 ≤ x) × (x ≤ 0x1F)) 3 (omega arith) day,
+      (kept 12 (omega arith) ∙ zeros.0, kept 13 (omega arith) ∙ zeros.1),
+    ),
+    (carried BeginsName 32 (omega arith) name, carried (IsOneOf (codes "+@BCDFGILMNOPTVXY")) 43 (omega arith) kind),
+    subst (λ n. 2 ≤ n) (sym (le16-append b more 10 (omega arith))) many,
+    (
+      e,
+      (
+        ap (λ x. e + behind x) (kept 0 (omega arith)) ∙ sum ∙ sym (le16-append b more 8 (omega arith)),
+        low,
+        whole,
+        longer _ inside,
+        kept e (omega arith) ∙ end,
+      ),
+    ),
+  )
 
   -- ---- tar archives
 

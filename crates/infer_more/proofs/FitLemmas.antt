@@ -119,14 +119,20 @@ module _ (by_place : ByPlace) (b : List ℕ) where
     one ← takes (same (le16 b 44) 1)
     whole ← takes (at_most (le32 b 28 + le16 b 44 * 32) (length b))
     alone ← takes (negated (same (le32 b (le32 b 28 + 0 * 32)) 3))
-    proved (false, false, class, order, record {
-      long = long;
-      kind = kind;
-      size = size;
-      some = omega arith;
-      whole = whole;
-      alone = λ i lt. only_first (λ i. ¬ (le32 b (le32 b 28 + i * 32) ≡ 3)) alone i (omega arith);
-    })
+    proved (
+      false,
+      false,
+      class,
+      order,
+      record {
+        long = long;
+        kind = kind;
+        size = size;
+        some = omega arith;
+        whole = whole;
+        alone = λ i lt. only_first (λ i. ¬ (le32 b (le32 b 28 + i * 32) ≡ 3)) alone i (omega arith);
+      },
+    )
 
   -- the first entry of a directory whose highest byte comes first
   abbrev tagged : (tag : ℕ) → Known (HasTag tag b)
@@ -195,14 +201,23 @@ module _ (by_place : ByPlace) (b : List ℕ) where
     third ← takes (both (at_most 0x30 (slice_index b 150)) (at_most (slice_index b 150) 0x37))
     end ← takes (same (slice_index b 151) 0x00)
     sums ← takes (same (octal b 148 3) (header_sum b))
-    proved (long, some, (148, 3, record {
-      low = omega arith;
-      spaces = λ k low lt. absurd (omega arith);
-      some = omega arith;
-      high = omega arith;
-      digits = digits_of first second third;
-      end = inr (inl end);
-    }, sums))
+    proved (
+      long,
+      some,
+      (
+        148,
+        3,
+        record {
+          low = omega arith;
+          spaces = λ k low lt. absurd (omega arith);
+          some = omega arith;
+          high = omega arith;
+          digits = digits_of first second third;
+          end = inr (inl end);
+        },
+        sums,
+      ),
+    )
 
   abbrev plain : Known (IsText b)
   plain = do

@@ -65,10 +65,15 @@ all_last deep inside fixed_lasts signature l b more h = accepted_last deep insid
 
 -- a letter is plain text, and with 00 after it binary data
 pub text_lost : IsLost plain_text
-text_lost = (codes "a", 0 ∷ [], inr (omega arith, λ (k, lt, is). let first : slice_index (codes "a") 0 ≡ 0x61 = refl in letter k lt is), λ h. elim h [
-  | inl (mark, is, o) ↦ unmarked mark is o
-  | inr (some, plain) ↦ plain (1, omega arith, inl (omega arith))
-])
+text_lost = (
+  codes "a",
+  0 ∷ [],
+  inr (omega arith, λ (k, lt, is). let first : slice_index (codes "a") 0 ≡ 0x61 = refl in letter k lt is),
+  λ h. elim h [
+    | inl (mark, is, o) ↦ unmarked mark is o
+    | inr (some, plain) ↦ plain (1, omega arith, inl (omega arith))
+  ],
+)
   where
     letter : (k : ℕ) → k < 1 → ((slice_index (codes "a") k ≤ 0x08) ⊎ (slice_index (codes "a") k ≡ 0x0B) ⊎ ((0x0E ≤ slice_index (codes "a") k) × (slice_index (codes "a") k ≤ 0x1A)) ⊎ ((0x1C ≤ slice_index (codes "a") k) × (slice_index (codes "a") k ≤ 0x1F))) → ⊥
     letter zero lt is = grind arith

@@ -144,9 +144,9 @@ module _ (by_place : (place : ℕ) (t buf : List ℕ) → IsTrue (stands place t
       let place : 148 + (p - 148) ≡ p = omega arith in
       let digit = subst (λ k. IsOctal (slice_index b k)) (let e : p + 0 ≡ 148 + (p - 148) = omega arith in e) (f.digits 0 (omega arith)) in
       let behind : IsTrue (fits b (digit_behind (p - 148))) =
-          both (nat_le 512 (length b)) _ (le-leb 512 (length b) long)
-          (both _ _ (occurs 148 _ (spaces_at (p - 148) (omega arith) (λ k from to. f.spaces k from (omega arith))))
-          (both _ true (in_range (148 + (p - 148)) 0x30 0x37 (omega arith) digit.0 digit.1) refl)) in
+      both (nat_le 512 (length b)) _ (le-leb 512 (length b) long)
+      (both _ _ (occurs 148 _ (spaces_at (p - 148) (omega arith) (λ k from to. f.spaces k from (omega arith))))
+      (both _ true (in_range (148 + (p - 148)) 0x30 0x37 (omega arith) digit.0 digit.1) refl)) in
       let e : p - 148 ≡ 0 + (p - 148) = omega arith in
       digit_lines 0 8 (p - 148) (omega arith) (subst (λ n. IsTrue (fits b (digit_behind n))) e behind)
 
@@ -176,10 +176,13 @@ module _ (by_place : (place : ℕ) (t buf : List ℕ) → IsTrue (stands place t
       leads (inl (mark, inl e, o)) = marked mark 0xEF (rw e (omega arith)) o (rw e refl) (omega arith)
       leads (inl (mark, inr (inl e), o)) = marked mark 0xFE (rw e (omega arith)) o (rw e refl) (omega arith)
       leads (inl (mark, inr (inr e), o)) = marked mark 0xFF (rw e (omega arith)) o (rw e refl) (omega arith)
-      leads (inr (le, none)) = (omega arith, elim (cases_lt (slice_index b 0) 9) [
-        | inl l ↦ absurd (none (0, omega arith, inl (omega arith)))
-        | inr l ↦ l
-      ])
+      leads (inr (le, none)) = (
+        omega arith,
+        elim (cases_lt (slice_index b 0) 9) [
+          | inl l ↦ absurd (none (0, omega arith, inl (omega arith)))
+          | inr l ↦ l
+        ],
+      )
 
   pub has_lines : (a : Alternative) → (IsTrue (is_plain a) → Small) → Fits a b → IsTrue (accepts (lines a) b)
   has_lines (bytes a) small h = from_left (fits b a) false h

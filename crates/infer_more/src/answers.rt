@@ -175,10 +175,9 @@ fn next_begun(index: &Parentless, from: usize, buf: &[u8]) -> usize
     next_of(entries, from, buf, FURTHER_COUNT)
 }
 
-/// The least row from `from` on that is asked of a buffer without a built-in answer. A function of its own, whose guards
-/// are then tested in straight code.
-#[inline(never)]
-fn next_unknown(index: &Parentless, from: usize, buf: &[u8]) -> usize
+/// The least row from `from` on that such an index asks of a buffer without a built-in answer.
+#[inline(always)]
+fn next_parentless(index: &Parentless, from: usize, buf: &[u8]) -> usize
     ensures { IsTrue (all_parentless_ascend index.now) → IsNext (asked_parentless index.now buf.now) from FURTHER_COUNT result }
 {
     let begun = next_begun(index, from, buf);
@@ -187,17 +186,38 @@ fn next_unknown(index: &Parentless, from: usize, buf: &[u8]) -> usize
     next_ranged(index.ranges, from, buf, open)
 }
 
+/// The least row from `from` on that is asked of a buffer without a built-in answer, or their count. A function of its
+/// own, that names the index itself: so its guards are tested in straight code.
+#[inline(never)]
+fn next_unknown(from: usize, buf: &[u8]) -> usize
+    ensures kept { from ≤ FURTHER_COUNT → from ≤ result }
+    ensures none { NoneBetween None buf.now from result }
+{
+    let index = index();
+    asked(&index);
+    next_parentless(index.parentless, from, buf)
+}
+
 /// The least row from `from` on that is asked of a buffer with this built-in answer, or their count.
+#[inline(always)]
+fn next_below(row: usize, from: usize, buf: &[u8]) -> usize
+    ensures kept { from ≤ FURTHER_COUNT → from ≤ result }
+    ensures none { NoneBetween (Some row) buf.now from result }
+{
+    let index = index();
+    asked(&index);
+    next_of(entries_at(index.below, row), from, buf, FURTHER_COUNT)
+}
+
+/// One of the two.
 #[inline(always)]
 fn next_asked(from: usize, parent: Option<usize>, buf: &[u8]) -> usize
     ensures kept { from ≤ FURTHER_COUNT → from ≤ result }
     ensures none { NoneBetween parent buf.now from result }
 {
-    let index = index();
-    asked(&index);
     match parent {
-        Some(row) => next_of(entries_at(index.below, row), from, buf, FURTHER_COUNT),
-        None => next_unknown(index.parentless, from, buf),
+        Some(row) => next_below(row, from, buf),
+        None => next_unknown(from, buf),
     }
 }
 
@@ -227,7 +247,7 @@ fn first_below(row: usize, buf: &[u8]) -> Option<usize>
     ensures { IsFirstOf (Widens (Some row) buf.now) further result }
 {
     let parent = Some(row);
-    first_from(next_asked(0, parent, buf), parent, buf)
+    first_from(next_below(row, 0, buf), parent, buf)
 }
 
 /// Whether no further row is asked below this built-in row, so that none widens it.
@@ -270,7 +290,10 @@ fn unknown_after(refused: usize, buf: &[u8]) -> Option<usize>
     requires within { refused < FURTHER_COUNT }
     ensures { IsWidened None buf.now result }
 {
-    let next = next_asked(refused + 1, None, buf);
+    if refused + 1 == FURTHER_COUNT {
+        return None;
+    }
+    let next = next_unknown(refused + 1, buf);
     match first_from(next, None, buf) {
         Some(found) => Some(ROW_COUNT + found),
         None => None,
@@ -297,7 +320,7 @@ fn unknown_from(first: usize, buf: &[u8]) -> Option<usize>
 fn widened_unknown(buf: &[u8]) -> Option<usize>
     ensures { IsWidened None buf.now result }
 {
-    let first = next_asked(0, None, buf);
+    let first = next_unknown(0, buf);
     if first >= FURTHER_COUNT {
         return None;
     }

@@ -94,7 +94,12 @@ fn put_model(alternative: &Alternative, out: &mut [u8])
         Alternative::FirstEntryEndsIn(name) => put_entry(26, name, out),
         Alternative::FirstEntryHasExtra(extra) => put_entry(28, extra, out),
         Alternative::PackageWith(folder) => put_pieces(
-            &[At(0, b"PK\x03\x04"), At(6, b"PK\x03\x04"), At(30, b"_rels/"), At(36, folder)],
+            &[
+                At(0, b"PK\x03\x04"),
+                At(6, b"PK\x03\x04"),
+                At(30, b"_rels/"),
+                At(36, folder),
+            ],
             out,
         ),
         Alternative::ClassId(id) => put_class_id(*id, out),

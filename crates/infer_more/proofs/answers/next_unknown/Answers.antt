@@ -1,19 +1,15 @@
-use Rattle.std.proofs.Common.{List, sym, subst, IsTrue}
-use Rattle.std.specs.List.{list_all}
-use denote.Ref.{Bor}
-use Rattle.infer_more.specs.Index.{IsNext, ascends, candidates}
-use Rattle.infer_more.specs.declared.index.Entry.{Entry}
+use Rattle.std.proofs.Common.{None, arith}
 use Rattle.infer_more.specs.declared.index.lists.TheConstants.{FURTHER_COUNT}
-use Rattle.infer_more.proofs.IndexLemmas.{both_left, both_right}
-use Rattle.infer_more.proofs.LeastLemmas.{ascends_begun, next_more}
+use Rattle.infer_more.proofs.IndexLemmas.{both_right}
+use Rattle.infer_more.proofs.LeastLemmas.{none_to_next}
+use Rattle.infer_more.proofs.OutlineLemmas.{buffer_of}
 use Rattle.infer_more.proofs.answers.next_unknown.Goals as goal
 
-pub returns : goal.returns
-returns c = λ all.
+pub returns-clause-kept : goal.returns-clause-kept
+returns-clause-kept c = (c.next_parentless.ensures (both_right _ _ c.index-index.ensures.ascend)).kept
+
+pub returns-clause-none : goal.returns-clause-none
+returns-clause-none c =
     let b = c.args.buf.now in
-    let from = c.args.from in
-    let behind = both_right (list_all (λ (entries : Bor (List Entry)). ascends entries.now) c.args.index.now.first.now) _ all in
-    let begun = c.next_begun-begun.ensures (ascends_begun c.args.index.now b (both_left _ _ all)) in
-    let guarded = c.next_guarded-least.ensures (both_left _ _ behind) in
-    let gated = c.next_gated-open.ensures (both_right _ _ behind) in
-    next_more _ _ from FURTHER_COUNT _ _ begun (next_more _ _ from _ _ _ guarded (next_more _ _ from _ _ _ gated c.next_ranged.ensures))
+    none_to_next None b c.index-index.result c.args.from FURTHER_COUNT c.next_parentless.result c.asked.ensures
+    (buffer_of b (λ i. omega (arith, c.type_inv.buf i))) (c.next_parentless.ensures (both_right _ _ c.index-index.ensures.ascend))
