@@ -15,9 +15,13 @@ IsDataByte x = (x ≤ 0x08) ⊎ (x ≡ 0x0B) ⊎ ((0x0E ≤ x) × (x ≤ 0x1A)) 
 abbrev pub IsPlainByte : ℕ → Type 0
 IsPlainByte x = ¬ IsDataByte x
 
+-- one of the first n bytes of b has the property
+abbrev pub SomeBelow : (ℕ → Type 0) → List ℕ → ℕ → Type 0
+SomeBelow P b n = (k : ℕ) × (k < n) × P (slice_index b k)
+
 -- some byte of b is one of binary data
 abbrev pub IsBinary : List ℕ → Type 0
-IsBinary b = (k : ℕ) × (k < length b) × IsDataByte (slice_index b k)
+IsBinary b = SomeBelow IsDataByte b (length b)
 
 -- a byte order mark stands at 0, or b has a byte and none of binary data
 abbrev pub IsText : List ℕ → Type 0

@@ -1,11 +1,11 @@
 //! Plain text, and how it is encoded.
-ghost use Rattle.std.specs.Prelude.{◌≡◌, ◌↔◌, ◌<◌, ◌≤◌, ℕ, length, take, drop, Some, IsTrue};
+ghost use Rattle.std.specs.Prelude.{◌≡◌, ◌↔◌, ◌<◌, ◌≤◌, ℕ, length, take, drop, Some, IsTrue, not};
 ghost use Rattle.std.specs.Bool.{OnTrue};
 ghost use Rattle.std.specs.Str.{IsAscii};
 ghost use Rattle.infer_deep.specs.Blocks.{AllBelow};
 ghost use Rattle.infer_deep.specs.Text.{BeginsMarked};
 ghost use Rattle.simdutf8.specs.Steps.{IsContinuation, least_after, most_after};
-ghost use Rattle.infer_inside.specs.Text.{IsCutLen, MayBeginChar, BeginsUtf8, IsBinary, IsDataByte, IsEncodingOf, IsPlainByte, IsText, encoding_name};
+ghost use Rattle.infer_inside.specs.Text.{IsCutLen, SomeBelow, MayBeginChar, BeginsUtf8, IsBinary, IsDataByte, IsEncodingOf, IsPlainByte, IsText, encoding_name};
 
 use infer_deep::places::stands_at;
 use simdutf8::is_utf8;
@@ -57,7 +57,11 @@ pub fn is_text(buf: &[u8]) -> bool
 pub fn is_binary(buf: &[u8]) -> bool
     ensures { IsTrue result ↔ IsBinary buf.now }
 {
-    has_data(&buf[data_free(buf)..])
+    if shows_data(buf) {
+        return true;
+    }
+    let rest = &buf[printed_front(buf)..];
+    has_data(&rest[plain_front(rest)..])
 }
 
 fn is_marked(buf: &[u8]) -> bool
@@ -81,50 +85,68 @@ fn is_data_byte(byte: u8) -> bool
     matches!(byte, 0x00..=0x08 | 0x0B | 0x0E..=0x1A | 0x1C..=0x1F)
 }
 
-/// How many bytes at the front of `buf` surely are none of binary data, in whole blocks.
-fn data_free(buf: &[u8]) -> usize
+/// Whether one of the first 16 bytes is one of binary data. Most binary data has one there.
+fn shows_data(buf: &[u8]) -> bool
+    ensures { OnTrue result (IsBinary buf.now) }
+{
+    buf.len() >= 16 && !is_plain_piece(&buf[..16])
+}
+
+/// How many bytes at the front of `buf` surely are none of binary data, in blocks of 256.
+fn printed_front(buf: &[u8]) -> usize
     ensures within { result ≤ length buf.now }
     ensures free { AllBelow IsPlainByte buf.now result }
 {
-    let count = buf.len() / 64;
+    let count = buf.len() / 256;
     for k in 0..count {
-        if !is_plain_block(&buf[64 * k..64 * k + 64]) {
-            return 64 * k;
+        if !is_printed_block(&buf[256 * k..256 * k + 256]) {
+            return 256 * k;
         }
     }
-    64 * count
+    256 * count
 }
 
-/// Whether each of the first 64 bytes is one that text has. Mostly they are letters and line ends, which is told sooner.
-#[inline(always)]
-fn is_plain_block(block: &[u8]) -> bool
-    requires { 64 ≤ length block.now }
-    ensures { OnTrue result (AllBelow IsPlainByte block.now 64) }
+/// The same in pieces of 16, of any plain bytes.
+fn plain_front(buf: &[u8]) -> usize
+    ensures within { result ≤ length buf.now }
+    ensures free { AllBelow IsPlainByte buf.now result }
 {
-    all_printed(block) || all_plain(block)
+    let count = buf.len() / 16;
+    for k in 0..count {
+        if !is_plain_piece(&buf[16 * k..16 * k + 16]) {
+            return 16 * k;
+        }
+    }
+    16 * count
 }
 
+/// Whether the first 256 bytes are 20 or more, 0A or 09, as of most texts.
 #[inline(always)]
-fn all_printed(block: &[u8]) -> bool
-    requires { 64 ≤ length block.now }
-    ensures { OnTrue result (AllBelow IsPlainByte block.now 64) }
+fn is_printed_block(block: &[u8]) -> bool
+    requires { 256 ≤ length block.now }
+    ensures { OnTrue result (AllBelow IsPlainByte block.now 256) }
+{
+    // Only sums of what is least, so that the compiler makes vectors: past 0B, 0A and 09 are the greatest bytes.
+    let mut least = 0xFF;
+    let mut least_past = 0xFF;
+    for i in 0..256 {
+        least = block[i].min(least);
+        least_past = block[i].wrapping_sub(0x0B).min(least_past);
+    }
+    least >= 0x09 && least_past >= 0x15
+}
+
+/// Whether none of the first 16 bytes is one of binary data.
+#[inline(always)]
+fn is_plain_piece(piece: &[u8]) -> bool
+    requires { 16 ≤ length piece.now }
+    ensures plain { OnTrue result (AllBelow IsPlainByte piece.now 16) }
+    ensures data { OnTrue (not result) (SomeBelow IsDataByte piece.now 16) }
 {
     // No early exit: of a loop whose length is known the compiler makes vectors.
     let mut all = true;
-    for i in 0..64 {
-        all &= (block[i] >= b' ') | (block[i] == b'\n');
-    }
-    all
-}
-
-#[inline(always)]
-fn all_plain(block: &[u8]) -> bool
-    requires { 64 ≤ length block.now }
-    ensures { OnTrue result (AllBelow IsPlainByte block.now 64) }
-{
-    let mut all = true;
-    for i in 0..64 {
-        all &= is_plain_byte(block[i]);
+    for i in 0..16 {
+        all &= is_plain_byte(piece[i]);
     }
     all
 }

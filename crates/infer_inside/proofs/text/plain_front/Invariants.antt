@@ -2,7 +2,7 @@
 use Rattle.std.proofs.Common.{◌*◌}
 use Rattle.infer_deep.specs.Blocks.{AllBelow}
 use Rattle.infer_inside.specs.Text.{IsPlainByte}
-use Rattle.infer_inside.proofs.text.data_free.Given as goal
+use Rattle.infer_inside.proofs.text.plain_front.Given as goal
 
 abbrev pub invariant-loop-k : goal.invariant-loop-k
-invariant-loop-k l = AllBelow IsPlainByte l.buf (64 * l.k)
+invariant-loop-k l = AllBelow IsPlainByte l.buf (16 * l.k)
