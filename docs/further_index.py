@@ -24,12 +24,27 @@ TEXT = r"""(?:"(?:[^"\\]|\\.)*"|'(?:[^'\\]|\\.)*')"""
 COMMON = set(b" etaoinshrdlu\n\x00\x01\xFF")
 # What every buffer has that fits an alternative which looks inside: as specs/Outline.antt says.
 ZIP = {0: {0x50}, 1: {0x4B}, 2: {0x03}, 3: {0x04}}
+NOT_ZERO = set(range(1, 0x100))
+
+
+def named(name):
+    """A ZIP archive whose first entry has a name that begins so."""
+    return ZIP | {30 + k: {byte} for k, byte in enumerate(name)}
+
+
+def counted(place):
+    """One whose number in the two bytes at the place is not 0."""
+    return [ZIP | {place: NOT_ZERO}, ZIP | {place + 1: NOT_ZERO}]
+
+
+NAMED = {
+    "FirstEntryIs": lambda name: [named(name)],
+    "FirstEntryEndsIn": lambda name: counted(26),
+    "FirstEntryHasExtra": lambda extra: counted(28),
+    "PackageWith": lambda folder: [named(it) for it in (b"[Content_Types].xml", b"_rels/", b"docProps/", folder)],
+}
 OUTLINES = {
     "SharedObject": [{16: {3}, 17: {0}}, {16: {0}, 17: {3}}],
-    "FirstEntryIs": [ZIP],
-    "FirstEntryEndsIn": [ZIP],
-    "FirstEntryHasExtra": [ZIP],
-    "PackageWith": [ZIP],
     "ClassId": [{0: {0xD0}, 1: {0xCF}, 2: {0x11}, 3: {0xE0}}],
     "DirectoryTag": [{0: {0x49}, 1: {0x49}}, {0: {0x4D}, 1: {0x4D}}],
     "Animated": [{0: {0x89}, 1: {0x50}, 2: {0x4E}, 3: {0x47}}],
@@ -82,7 +97,13 @@ def rows_in(code):
 def outline(signature):
     """What each alternative of a signature asks at fixed places: its pieces, or what its name stands for."""
     for least, inside in re.findall(rf"\[(\d+, )?((?:{TEXT}|[^\]\"'])*)\]", signature):
-        yield from [asked(inside)] if least else OUTLINES.get(inside.partition("(")[0], [asked(inside)])
+        name, _, text = inside.partition("(")
+        if least:
+            yield asked(inside)
+        elif name in NAMED:
+            yield from NAMED[name](bytes_of(text.removesuffix(")")))
+        else:
+            yield from OUTLINES.get(name, [asked(inside)])
 
 
 def is_wide(alternative):
