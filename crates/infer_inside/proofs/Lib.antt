@@ -1,6 +1,9 @@
 pub mod GrowthLemmas
+pub mod CompleteLemmas
+pub mod JsonLemmas
 pub mod PartLemmas
 pub mod PngLemmas
+pub mod ReaderLemmas
 pub mod SubtitlesLemmas
 pub mod TarLemmas
 pub mod TextLemmas

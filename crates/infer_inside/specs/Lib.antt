@@ -10,3 +10,5 @@ pub mod Tar
 pub mod Runs
 pub mod Script
 pub mod Laws
+pub mod Json
+pub mod JsonStates

@@ -4,6 +4,7 @@
 pub mod dbase;
 pub mod elf;
 pub mod laws;
+pub mod json;
 mod numbers;
 pub mod png;
 mod runs;

@@ -1,0 +1,149 @@
+-- What is left of a text where its reader stands. Only private contracts cite it.
+use Rattle.std.specs.Prelude.{◌≡◌, ◌↔◌, ℕ, zero, suc, ◌+◌, ◌-◌, ◌/◌, ◌%◌, ◌<◌, ◌≤◌, ◌^◌, ◌⊎◌, Bool, true, false, Option, Some, None, MatchOption, List, [], length, take, ◌∷◌, ◌++◌, codes}
+use Rattle.infer_inside.specs.Json.{Symbol, range, blanks, value, items, more_items, members, member, more_members, chars, escape, hex, whole, fraction, exponent, power, digits, byte, exact, digit, later, Stands}
+use Rattle.infer_inside.specs.declared.json.Token.{Token}
+use Rattle.infer_inside.specs.declared.json.Token.TheVariants.{Chars, Escape, Hex4, Hex3, Hex2, Hex1, Char1, Char2, Char3, CharE0, CharEd, CharF0, CharF4, T, Tr, Tru, F, Fa, Fal, Fals, N, Nu, Nul, Minus, Zero, Whole, Point, Fraction, Exponent, Sign, Power}
+use Rattle.infer_inside.specs.declared.json.Step.{Step}
+use Rattle.infer_inside.specs.declared.json.Step.TheVariants.{Inside, Ended, EndedBefore, Wrong}
+use Rattle.infer_inside.specs.declared.json.Due.{Due}
+use Rattle.infer_inside.specs.declared.json.Due.TheVariants.{First, Value, Key, Colon, After}
+use Rattle.infer_inside.specs.declared.json.Next.{Next}
+use Rattle.infer_inside.specs.declared.json.Next.TheVariants.{Between, InKey, InValue}
+use Rattle.infer_inside.specs.declared.json.Reader.{Reader}
+use Rattle.infer_inside.specs.declared.json.Reading as read
+use Rattle.infer_inside.specs.declared.json.Reading.TheVariants as Reading
+
+-- what is left of a token
+abbrev pub left : Token → List Symbol
+left Chars = chars ∷ []
+left Escape = escape ∷ chars ∷ []
+left Hex4 = hex ∷ hex ∷ hex ∷ hex ∷ chars ∷ []
+left Hex3 = hex ∷ hex ∷ hex ∷ chars ∷ []
+left Hex2 = hex ∷ hex ∷ chars ∷ []
+left Hex1 = hex ∷ chars ∷ []
+left Char1 = later ∷ chars ∷ []
+left Char2 = later ∷ later ∷ chars ∷ []
+left Char3 = later ∷ later ∷ later ∷ chars ∷ []
+left CharE0 = range 0xA0 0xBF ∷ later ∷ chars ∷ []
+left CharEd = range 0x80 0x9F ∷ later ∷ chars ∷ []
+left CharF0 = range 0x90 0xBF ∷ later ∷ later ∷ chars ∷ []
+left CharF4 = range 0x80 0x8F ∷ later ∷ later ∷ chars ∷ []
+left T = exact (codes "rue")
+left Tr = exact (codes "ue")
+left Tru = exact (codes "e")
+left F = exact (codes "alse")
+left Fa = exact (codes "lse")
+left Fal = exact (codes "se")
+left Fals = exact (codes "e")
+left N = exact (codes "ull")
+left Nu = exact (codes "ll")
+left Nul = exact (codes "l")
+left Minus = whole ∷ fraction ∷ exponent ∷ []
+left Zero = fraction ∷ exponent ∷ []
+left Whole = digits ∷ fraction ∷ exponent ∷ []
+left Point = digit ∷ digits ∷ exponent ∷ []
+left Fraction = digits ∷ exponent ∷ []
+left Exponent = power ∷ []
+left Sign = digit ∷ digits ∷ []
+left Power = digits ∷ []
+
+-- a byte that may go on with a number
+abbrev pub MayGoOn : ℕ → Type 0
+MayGoOn x = ((0x30 ≤ x) × (x ≤ 0x39)) ⊎ (x ≡ 0x2E) ⊎ (x ≡ 0x45) ⊎ (x ≡ 0x65)
+
+-- ss can come behind a number: they stand for nothing that begins so
+abbrev pub EndsNumber : List Symbol → Type 0
+EndsNumber ss = (x : ℕ) (v : List ℕ) → MayGoOn x → ¬ Stands ss (x ∷ v)
+
+-- the step tells what ss and then others stand for, behind the byte x
+abbrev pub Follows : List Symbol → ℕ → Step → Type 0
+Follows ss x (Inside t) = (others : List Symbol) → EndsNumber others → (v : List ℕ) → Stands (ss ++ others) (x ∷ v) ↔ Stands (left t ++ others) v
+Follows ss x Ended = (others : List Symbol) (v : List ℕ) → Stands (ss ++ others) (x ∷ v) ↔ Stands others v
+Follows ss x EndedBefore = (others : List Symbol) (v : List ℕ) → Stands (ss ++ others) (x ∷ v) ↔ Stands others (x ∷ v)
+Follows ss x Wrong = (others : List Symbol) (v : List ℕ) → ¬ Stands (ss ++ others) (x ∷ v)
+
+-- what is first in a bracket of this kind, and what comes behind a value there: 0 for an array, 1 for an object
+abbrev pub first_in : ℕ → ℕ → Symbol
+first_in zero n = items n
+first_in (suc k) n = members n
+
+abbrev pub more_in : ℕ → ℕ → Symbol
+more_in zero n = more_items n
+more_in (suc k) n = more_members n
+
+-- what is left of `depth` open brackets behind a value in the innermost, and then ss
+unfoldable pub frames : ℕ → ℕ → List Symbol → List Symbol
+frames zero kinds ss = ss
+frames (suc d) kinds ss = blanks ∷ more_in (kinds % 2) (128 - suc d) ∷ frames d (kinds / 2) ss
+
+-- what is left where this is due, behind white space
+abbrev pub due_left : Due → ℕ → ℕ → List Symbol → List Symbol
+due_left First depth kinds ss = first_in (kinds % 2) (128 - depth) ∷ frames (depth - 1) (kinds / 2) ss
+due_left Value depth kinds ss = value (128 - depth) ∷ frames depth kinds ss
+due_left Key depth kinds ss = member (128 - depth) ∷ frames depth kinds ss
+due_left Colon depth kinds ss = byte 0x3A ∷ blanks ∷ value (128 - depth) ∷ frames depth kinds ss
+due_left After depth kinds ss = more_in (kinds % 2) (128 - depth) ∷ frames (depth - 1) (kinds / 2) ss
+
+abbrev pub next_left : Next → ℕ → ℕ → List Symbol → List Symbol
+next_left (Between First) depth kinds ss = blanks ∷ due_left First depth kinds ss
+next_left (Between Value) depth kinds ss = blanks ∷ due_left Value depth kinds ss
+next_left (Between Key) depth kinds ss = blanks ∷ due_left Key depth kinds ss
+next_left (Between Colon) depth kinds ss = blanks ∷ due_left Colon depth kinds ss
+next_left (Between After) depth kinds ss = frames depth kinds ss
+next_left (InKey t) depth kinds ss = left t ++ blanks ∷ due_left Colon depth kinds ss
+next_left (InValue t) depth kinds ss = left t ++ frames depth kinds ss
+
+-- what is left of a text where the reader stands, and then ss
+abbrev pub stack : Reader → List Symbol → List Symbol
+stack r ss = next_left r.next r.depth r.kinds ss
+
+-- brackets are open, 128 at most, and each has its bit
+abbrev pub IsSound : Reader → Type 0
+IsSound r = (r.depth ≤ 128) × (r.kinds < 2 ^ r.depth)
+
+abbrev pub IsOpen : Reader → Type 0
+IsOpen r = (1 ≤ r.depth) × IsSound r
+
+-- where `before` was left, the reader r tells what is left behind the byte x, if it can be
+abbrev pub Reads : (List Symbol → List Symbol) → ℕ → Reader → Bool → Type 0
+Reads before x r true = IsSound r × (r.depth ≡ 0 → r.next ≡ Between After) × ((ss : List Symbol) (v : List ℕ) → Stands (before ss) (x ∷ v) ↔ Stands (stack r ss) v)
+Reads before x r false = (ss : List Symbol) (v : List ℕ) → ¬ Stands (before ss) (x ∷ v)
+
+-- the first bracket of a text was read
+abbrev pub Begun : ℕ → Option Reader → Type 0
+Begun x (Some r) = (((x ≡ 0x5B) ⊎ (x ≡ 0x7B)) × (r.depth ≡ 1)) × Reads (λ ss. value 128 ∷ ss) x r true
+Begun x None = (¬ (x ≡ 0x5B)) × (¬ (x ≡ 0x7B))
+
+-- the innermost bracket is closed
+abbrev pub IsClosedTo : Reader → Reader → Type 0
+IsClosedTo old new = (new.next ≡ Between After) × (new.depth ≡ old.depth - 1) × (new.kinds ≡ old.kinds / 2) × (new.kinds < 2 ^ new.depth)
+
+-- the bracket that opens one of this kind, and that closes it
+abbrev pub opening : ℕ → ℕ
+opening zero = 0x5B
+opening (suc k) = 0x7B
+
+abbrev pub closing : ℕ → ℕ
+closing zero = 0x5D
+closing (suc k) = 0x7D
+
+-- a value that begins with x is this token; or it's no token
+abbrev pub Starts : ℕ → Token → Type 0
+Starts x t = (n : ℕ) (ss : List Symbol) (v : List ℕ) → Stands (value n ∷ ss) (x ∷ v) ↔ Stands (left t ++ ss) v
+
+abbrev pub NoToken : ℕ → Type 0
+NoToken x = (n : ℕ) (ss : List Symbol) (v : List ℕ) → ¬ (x ≡ 0x5B) → ¬ (x ≡ 0x7B) → ¬ Stands (value n ∷ ss) (x ∷ v)
+
+-- a bracket that opens
+abbrev pub IsBracket : ℕ → Type 0
+IsBracket x = (x ≡ 0x5B) ⊎ (x ≡ 0x7B)
+
+-- x, and these bytes behind it, leave just `left_of ss` of a value and then ss
+abbrev pub Leaves : ℕ → List ℕ → (List Symbol → List Symbol) → Type 0
+Leaves x read left_of = (ss : List Symbol) (v : List ℕ) → Stands (value 128 ∷ ss) (x ∷ read ++ v) ↔ Stands (left_of ss) v
+
+-- what x and the bytes behind it have of a value
+abbrev pub Tells : ℕ → List ℕ → read.Reading → Type 0
+Tells x rest (Reading.Whole n) = (n ≤ length rest) × Leaves x (take n rest) (λ ss. ss)
+Tells x rest Reading.Cut = (r : Reader) × IsOpen r × Leaves x rest (stack r)
+Tells x rest Reading.Wrong = (ss : List Symbol) (v : List ℕ) → ¬ Stands (value 128 ∷ ss) (x ∷ rest ++ v)

@@ -1,0 +1,521 @@
+//! JSON texts, of which a buffer may have the beginning only.
+ghost use Rattle.std.specs.Prelude.{◌≡◌, ◌↔◌, ◌≤◌, ◌%◌, ◌∷◌, [], ◌++◌, IsTrue, MatchOption};
+ghost use Rattle.infer_inside.specs.Json.{blanks, hex, IsBlank, range};
+ghost use Rattle.infer_inside.specs.JsonStates.{Begun, closing, due_left, Follows, IsBracket, IsClosedTo, IsOpen, left, NoToken, opening, Reads, stack, Starts, Tells};
+ghost use Rattle.infer_inside.specs.declared.json.Token.TheVariants.{Chars, Escape, Minus, Zero, Whole, Fraction, Exponent, Power};
+ghost use Rattle.infer_inside.specs.declared.json.Due.TheVariants.{After, Colon, First, Key, Value};
+
+/// How deep brackets may be nested.
+const MOST_DEPTH: u32 = 128;
+
+/// Where in a token the next byte stands.
+#[derive(Clone, Copy)]
+enum Token {
+    /// In a string, behind a whole character or none.
+    Chars,
+    /// Behind a backslash.
+    Escape,
+    /// Behind `\u`, where four, three, two and one digits are due.
+    Hex4,
+    Hex3,
+    Hex2,
+    Hex1,
+    /// In a character of which one, two or three bytes are due, the next of them any or as its first byte asks.
+    Char1,
+    Char2,
+    Char3,
+    CharE0,
+    CharEd,
+    CharF0,
+    CharF4,
+    /// In a name, by what was read of it.
+    T,
+    Tr,
+    Tru,
+    F,
+    Fa,
+    Fal,
+    Fals,
+    N,
+    Nu,
+    Nul,
+    /// Behind the sign of a number, its zero, and the digits before its point.
+    Minus,
+    Zero,
+    Whole,
+    /// Behind the point of a number, and the digits there.
+    Point,
+    Fraction,
+    /// Behind the E of a number, its sign, and the digits there.
+    Exponent,
+    Sign,
+    Power,
+}
+
+/// What a byte makes of a token.
+enum Step {
+    /// The token goes on.
+    Inside(Token),
+    /// The byte is its last.
+    Ended,
+    /// It ended before the byte.
+    EndedBefore,
+    /// No token goes on so.
+    Wrong,
+}
+
+impl Token {
+    #[inline(always)]
+    fn after(self, byte: u8) -> Step
+        ensures { Follows (left self) byte result }
+    {
+        match self {
+            Token::Chars => after_char(byte),
+            Token::Escape => after_escape(byte),
+            Token::Hex4 => after_hex(byte, Token::Hex3),
+            Token::Hex3 => after_hex(byte, Token::Hex2),
+            Token::Hex2 => after_hex(byte, Token::Hex1),
+            Token::Hex1 => after_hex(byte, Token::Chars),
+            Token::Char1 => within(byte, 0x80, 0xBF, Token::Chars),
+            Token::Char2 => within(byte, 0x80, 0xBF, Token::Char1),
+            Token::Char3 => within(byte, 0x80, 0xBF, Token::Char2),
+            Token::CharE0 => within(byte, 0xA0, 0xBF, Token::Char1),
+            Token::CharEd => within(byte, 0x80, 0x9F, Token::Char1),
+            Token::CharF0 => within(byte, 0x90, 0xBF, Token::Char2),
+            Token::CharF4 => within(byte, 0x80, 0x8F, Token::Char2),
+            Token::T => within(byte, b'r', b'r', Token::Tr),
+            Token::Tr => within(byte, b'u', b'u', Token::Tru),
+            Token::Tru => last(byte, b'e'),
+            Token::F => within(byte, b'a', b'a', Token::Fa),
+            Token::Fa => within(byte, b'l', b'l', Token::Fal),
+            Token::Fal => within(byte, b's', b's', Token::Fals),
+            Token::Fals => last(byte, b'e'),
+            Token::N => within(byte, b'u', b'u', Token::Nu),
+            Token::Nu => within(byte, b'l', b'l', Token::Nul),
+            Token::Nul => last(byte, b'l'),
+            Token::Minus => after_minus(byte),
+            Token::Zero => after_zero(byte),
+            Token::Whole => after_whole(byte),
+            Token::Point => within(byte, b'0', b'9', Token::Fraction),
+            Token::Fraction => after_fraction(byte),
+            Token::Exponent => after_exponent(byte),
+            Token::Sign => within(byte, b'0', b'9', Token::Power),
+            Token::Power => after_power(byte),
+        }
+    }
+}
+
+#[tactic(auto, using(crate::proofs::JsonLemmas::range_begins))]
+#[inline(always)]
+fn within(byte: u8, least: u8, most: u8, next: Token) -> Step
+    ensures { Follows (range least most ∷ left next) byte result }
+{
+    if byte >= least && byte <= most {
+        Step::Inside(next)
+    } else {
+        Step::Wrong
+    }
+}
+
+#[tactic(auto, using(crate::proofs::JsonLemmas::range_begins))]
+#[inline(always)]
+fn last(byte: u8, letter: u8) -> Step
+    ensures { Follows (range letter letter ∷ []) byte result }
+{
+    if byte == letter {
+        Step::Ended
+    } else {
+        Step::Wrong
+    }
+}
+
+#[tactic(auto, using(crate::proofs::JsonLemmas::chars_begin))]
+#[inline(always)]
+fn after_char(byte: u8) -> Step
+    ensures { Follows (left Chars) byte result }
+{
+    match byte {
+        b'"' => Step::Ended,
+        b'\\' => Step::Inside(Token::Escape),
+        0x20..=0x7F => Step::Inside(Token::Chars),
+        0xC2..=0xDF => Step::Inside(Token::Char1),
+        0xE0 => Step::Inside(Token::CharE0),
+        0xED => Step::Inside(Token::CharEd),
+        0xE1..=0xEF => Step::Inside(Token::Char2),
+        0xF0 => Step::Inside(Token::CharF0),
+        0xF1..=0xF3 => Step::Inside(Token::Char3),
+        0xF4 => Step::Inside(Token::CharF4),
+        _ => Step::Wrong,
+    }
+}
+
+#[tactic(auto, using(crate::proofs::JsonLemmas::escape_begins))]
+fn after_escape(byte: u8) -> Step
+    ensures { Follows (left Escape) byte result }
+{
+    match byte {
+        b'"' | b'\\' | b'/' | b'b' | b'f' | b'n' | b'r' | b't' => Step::Inside(Token::Chars),
+        b'u' => Step::Inside(Token::Hex4),
+        _ => Step::Wrong,
+    }
+}
+
+#[tactic(auto, using(crate::proofs::JsonLemmas::hex_begins))]
+fn after_hex(byte: u8, next: Token) -> Step
+    ensures { Follows (hex ∷ left next) byte result }
+{
+    match byte {
+        b'0'..=b'9' | b'A'..=b'F' | b'a'..=b'f' => Step::Inside(next),
+        _ => Step::Wrong,
+    }
+}
+
+#[tactic(auto, using(crate::proofs::JsonLemmas::whole_begins))]
+fn after_minus(byte: u8) -> Step
+    ensures { Follows (left Minus) byte result }
+{
+    match byte {
+        b'0' => Step::Inside(Token::Zero),
+        b'1'..=b'9' => Step::Inside(Token::Whole),
+        _ => Step::Wrong,
+    }
+}
+
+#[tactic(auto, using(crate::proofs::JsonLemmas::fraction_begins, crate::proofs::JsonLemmas::exponent_begins, crate::proofs::JsonLemmas::range_begins))]
+#[inline(always)]
+fn after_zero(byte: u8) -> Step
+    ensures { Follows (left Zero) byte result }
+{
+    match byte {
+        b'.' => Step::Inside(Token::Point),
+        b'e' | b'E' => Step::Inside(Token::Exponent),
+        _ => Step::EndedBefore,
+    }
+}
+
+#[tactic(auto, using(crate::proofs::JsonLemmas::digits_begin, crate::proofs::JsonLemmas::fraction_begins, crate::proofs::JsonLemmas::exponent_begins, crate::proofs::JsonLemmas::range_begins))]
+#[inline(always)]
+fn after_whole(byte: u8) -> Step
+    ensures { Follows (left Whole) byte result }
+{
+    match byte {
+        b'0'..=b'9' => Step::Inside(Token::Whole),
+        b'.' => Step::Inside(Token::Point),
+        b'e' | b'E' => Step::Inside(Token::Exponent),
+        _ => Step::EndedBefore,
+    }
+}
+
+#[tactic(auto, using(crate::proofs::JsonLemmas::digits_begin, crate::proofs::JsonLemmas::exponent_begins, crate::proofs::JsonLemmas::range_begins))]
+#[inline(always)]
+fn after_fraction(byte: u8) -> Step
+    ensures { Follows (left Fraction) byte result }
+{
+    match byte {
+        b'0'..=b'9' => Step::Inside(Token::Fraction),
+        b'e' | b'E' => Step::Inside(Token::Exponent),
+        _ => Step::EndedBefore,
+    }
+}
+
+#[tactic(auto, using(crate::proofs::JsonLemmas::power_begins))]
+fn after_exponent(byte: u8) -> Step
+    ensures { Follows (left Exponent) byte result }
+{
+    match byte {
+        b'+' | b'-' => Step::Inside(Token::Sign),
+        b'0'..=b'9' => Step::Inside(Token::Power),
+        _ => Step::Wrong,
+    }
+}
+
+#[tactic(auto, using(crate::proofs::JsonLemmas::digits_begin, crate::proofs::JsonLemmas::range_begins))]
+fn after_power(byte: u8) -> Step
+    ensures { Follows (left Power) byte result }
+{
+    match byte {
+        b'0'..=b'9' => Step::Inside(Token::Power),
+        _ => Step::EndedBefore,
+    }
+}
+
+/// What may come behind white space.
+#[derive(Clone, Copy)]
+enum Due {
+    /// What stands first behind a bracket.
+    First,
+    Value,
+    Key,
+    Colon,
+    /// What stands behind a value.
+    After,
+}
+
+/// Where the next byte stands.
+#[derive(Clone, Copy)]
+enum Next {
+    Between(Due),
+    InKey(Token),
+    InValue(Token),
+}
+
+/// Where a reader of a text stands.
+#[derive(Drop)]
+struct Reader {
+    next: Next,
+    /// How many brackets are open.
+    depth: u32,
+    /// A bit for each of them, the innermost lowest: 1 for an object, 0 for an array.
+    kinds: u128,
+}
+
+impl Reader {
+    /// Behind the first bracket of a text, if the byte is one.
+    fn begin(byte: u8) -> Option<Reader>
+        ensures { Begun byte result }
+    {
+        match byte {
+            b'[' => Some(Reader {
+                next: Next::Between(Due::First),
+                depth: 1,
+                kinds: 0,
+            }),
+            b'{' => Some(Reader {
+                next: Next::Between(Due::First),
+                depth: 1,
+                kinds: 1,
+            }),
+            _ => None,
+        }
+    }
+
+    /// Reads a byte, and answers whether a text may go on so.
+    #[inline(always)]
+    fn read(&mut self, byte: u8) -> bool
+        requires { IsOpen self.old }
+        ensures { Reads (stack self.old) byte self.new result }
+    {
+        match self.next {
+            Next::Between(due) => self.read_between(due, byte),
+            Next::InKey(token) => self.read_in_key(token, byte),
+            Next::InValue(token) => self.read_in_value(token, byte),
+        }
+    }
+
+    fn read_in_key(&mut self, token: Token, byte: u8) -> bool
+        requires { IsOpen self.old }
+        ensures { Reads (λ ss. left token ++ blanks ∷ due_left Colon self.old.depth self.old.kinds ss) byte self.new result }
+    {
+        match token.after(byte) {
+            Step::Inside(token) => {
+                self.next = Next::InKey(token);
+                true
+            }
+            Step::Ended => {
+                self.next = Next::Between(Due::Colon);
+                true
+            }
+            Step::EndedBefore => self.read_between(Due::Colon, byte),
+            Step::Wrong => false,
+        }
+    }
+
+    fn read_in_value(&mut self, token: Token, byte: u8) -> bool
+        requires { IsOpen self.old }
+        ensures { Reads (λ ss. left token ++ blanks ∷ due_left After self.old.depth self.old.kinds ss) byte self.new result }
+    {
+        match token.after(byte) {
+            Step::Inside(token) => {
+                self.next = Next::InValue(token);
+                true
+            }
+            Step::Ended => {
+                self.next = Next::Between(Due::After);
+                true
+            }
+            Step::EndedBefore => self.read_between(Due::After, byte),
+            Step::Wrong => false,
+        }
+    }
+
+    fn read_between(&mut self, due: Due, byte: u8) -> bool
+        requires { IsOpen self.old }
+        ensures { Reads (λ ss. blanks ∷ due_left due self.old.depth self.old.kinds ss) byte self.new result }
+    {
+        if is_blank(byte) {
+            self.next = Next::Between(due);
+            return true;
+        }
+        match due {
+            Due::First => self.read_first(byte),
+            Due::Value => self.read_value(byte),
+            Due::Key => self.read_key(byte),
+            Due::Colon => self.read_colon(byte),
+            Due::After => self.read_after(byte),
+        }
+    }
+
+    fn read_first(&mut self, byte: u8) -> bool
+        requires { IsOpen self.old }
+        ensures { Reads (due_left First self.old.depth self.old.kinds) byte self.new result }
+    {
+        if byte == self.closing() {
+            self.close();
+            return true;
+        }
+        if self.is_in_object() {
+            self.read_key(byte)
+        } else {
+            self.read_value(byte)
+        }
+    }
+
+    fn read_value(&mut self, byte: u8) -> bool
+        requires { IsOpen self.old }
+        ensures { Reads (due_left Value self.old.depth self.old.kinds) byte self.new result }
+    {
+        match value_token(byte) {
+            Some(token) => {
+                self.next = Next::InValue(token);
+                true
+            }
+            None if byte == b'[' => self.open(0),
+            None if byte == b'{' => self.open(1),
+            None => false,
+        }
+    }
+
+    fn read_key(&mut self, byte: u8) -> bool
+        requires { IsOpen self.old }
+        ensures { Reads (due_left Key self.old.depth self.old.kinds) byte self.new result }
+    {
+        if byte != b'"' {
+            return false;
+        }
+        self.next = Next::InKey(Token::Chars);
+        true
+    }
+
+    fn read_colon(&mut self, byte: u8) -> bool
+        requires { IsOpen self.old }
+        ensures { Reads (due_left Colon self.old.depth self.old.kinds) byte self.new result }
+    {
+        if byte != b':' {
+            return false;
+        }
+        self.next = Next::Between(Due::Value);
+        true
+    }
+
+    fn read_after(&mut self, byte: u8) -> bool
+        requires { IsOpen self.old }
+        ensures { Reads (due_left After self.old.depth self.old.kinds) byte self.new result }
+    {
+        if byte == self.closing() {
+            self.close();
+            return true;
+        }
+        if byte != b',' {
+            return false;
+        }
+        if self.is_in_object() {
+            self.next = Next::Between(Due::Key);
+        } else {
+            self.next = Next::Between(Due::Value);
+        }
+        true
+    }
+
+    /// Whether the innermost bracket is that of an object.
+    fn is_in_object(&self) -> bool
+        ensures { IsTrue result ↔ (self.now.kinds % 2 ≡ 1) }
+    {
+        self.kinds % 2 == 1
+    }
+
+    /// The bracket that closes the innermost.
+    fn closing(&self) -> u8
+        ensures { result ≡ closing (self.now.kinds % 2) }
+    {
+        if self.is_in_object() { b'}' } else { b']' }
+    }
+
+    /// Closes the innermost bracket.
+    fn close(&mut self)
+        requires { IsOpen self.old }
+        ensures { IsClosedTo self.old self.new }
+    {
+        self.next = Next::Between(Due::After);
+        self.depth -= 1;
+        self.kinds /= 2;
+    }
+
+    /// Reads a bracket that opens: 0 for that of an array, 1 for that of an object.
+    fn open(&mut self, kind: u128) -> bool
+        requires opened { IsOpen self.old }
+        requires kind { kind ≤ 1 }
+        ensures { Reads (due_left Value self.old.depth self.old.kinds) (opening kind) self.new result }
+    {
+        if self.depth == MOST_DEPTH {
+            return false;
+        }
+        self.next = Next::Between(Due::First);
+        self.depth += 1;
+        self.kinds = 2 * self.kinds + kind;
+        true
+    }
+}
+
+/// The token of a value that begins with this byte, if it's no bracket.
+#[tactic(auto, using(crate::proofs::JsonLemmas::value_begins))]
+#[inline(always)]
+fn value_token(byte: u8) -> Option<Token>
+    ensures { MatchOption result (NoToken byte) (Starts byte) }
+{
+    match byte {
+        b'"' => Some(Token::Chars),
+        b'-' => Some(Token::Minus),
+        b'0' => Some(Token::Zero),
+        b'1'..=b'9' => Some(Token::Whole),
+        b't' => Some(Token::T),
+        b'f' => Some(Token::F),
+        b'n' => Some(Token::N),
+        _ => None,
+    }
+}
+
+#[inline(always)]
+fn is_blank(byte: u8) -> bool
+    ensures { IsTrue result ↔ IsBlank byte }
+{
+    matches!(byte, b' ' | b'\t' | b'\n' | b'\r')
+}
+
+/// What a buffer has of a text.
+enum Reading {
+    /// All of it, in the first so many bytes.
+    Whole(usize),
+    /// Its beginning: some bytes can follow.
+    Cut,
+    /// None goes on so.
+    Wrong,
+}
+
+/// Reads an array or an object that begins with `first`.
+fn read_text(first: u8, rest: &[u8]) -> Reading
+    requires { IsBracket first }
+    ensures { Tells first rest.now result }
+{
+    let Some(mut reader) = Reader::begin(first) else {
+        return Reading::Wrong;
+    };
+    for i in 0..rest.len() {
+        if !reader.read(rest[i]) {
+            return Reading::Wrong;
+        }
+        if reader.depth == 0 {
+            return Reading::Whole(i + 1);
+        }
+    }
+    Reading::Cut
+}
