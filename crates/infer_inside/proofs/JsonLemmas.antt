@@ -1,6 +1,6 @@
 -- The grammar, byte by byte.
-use Rattle.std.proofs.Common.{◌≡◌, ℕ, zero, suc, ◌≤◌, ◌<◌, ◌⊎◌, inl, inr, ◌↔◌, codes, List, [], ◌∷◌, ◌++◌, refl, sym, subst, ap, ◌∙◌, arith}
-use Rattle.infer_inside.specs.Json.{Symbol, range, blanks, value, items, more_items, members, member, more_members, chars, char, escape, hex, number, whole, fraction, exponent, power, digits, exact, IsBlank, rules, IsAmong, Stands, nothing, one, by_rule}
+use Rattle.std.proofs.Common.{◌≡◌, ℕ, zero, suc, ◌≤◌, ◌⊎◌, inl, inr, ◌↔◌, codes, List, [], ◌∷◌, ◌++◌, refl, subst, arith}
+use Rattle.infer_inside.specs.Json.{Symbol, range, blanks, value, items, members, chars, escape, hex, whole, fraction, exponent, power, digits, exact, rules, IsAmong, Stands, one, by_rule}
 
 abbrev AnyOf : (List Symbol → Type 0) → List (List Symbol) → Type 0
 AnyOf P [] = ⊥

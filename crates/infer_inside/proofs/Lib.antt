@@ -1,12 +1,14 @@
 pub mod GrowthLemmas
 pub mod CompleteLemmas
 pub mod JsonLemmas
+pub mod LineLemmas
 pub mod PartLemmas
 pub mod PngLemmas
 pub mod ReaderLemmas
 pub mod SubtitlesLemmas
 pub mod TarLemmas
 pub mod TextLemmas
+pub mod TokenLemmas
 pub mod ZipLemmas
 pub mod Utf8Lemmas
 pub mod RunLemmas

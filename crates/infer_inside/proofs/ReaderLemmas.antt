@@ -3,14 +3,14 @@ use Rattle.std.proofs.Common.{◌≡◌, ℕ, zero, suc, ◌+◌, ◌-◌, ◌*�
 use Rattle.std.proofs.Math.Nat.{pow-le-pow_right}
 use Rattle.std.proofs.lemmas.Grind.{pow_more}
 use Rattle.std.proofs.lemmas.List.{drop_more, take_more}
-use Rattle.infer_inside.specs.Json.{Symbol, range, blanks, value, items, more_items, members, member, more_members, chars, byte, IsBlank, Stands}
-use Rattle.infer_inside.specs.JsonStates.{Follows, Leaves, first_in, more_in, opening, closing, left, next_left, IsOpen, IsClosedTo, Begun, frames, due_left, stack, MayGoOn, EndsNumber, IsSound, Reads}
+use Rattle.infer_inside.specs.Json.{Symbol, blanks, value, items, more_items, members, member, more_members, chars, text, byte, IsBlank, Stands}
+use Rattle.infer_inside.specs.JsonStates.{Leaves, first_in, more_in, opening, closing, next_left, IsOpen, IsClosedTo, frames, due_left, stack, MayGoOn, EndsNumber, Reads}
 use Rattle.infer_inside.specs.declared.json.Due.{Due}
 use Rattle.infer_inside.specs.declared.json.Due.TheVariants.{First, Value, Key, Colon, After}
 use Rattle.infer_inside.specs.declared.json.Next.{Next}
-use Rattle.infer_inside.specs.declared.json.Next.TheVariants.{Between, InKey, InValue}
+use Rattle.infer_inside.specs.declared.json.Next.TheVariants.{Between}
 use Rattle.infer_inside.specs.declared.json.Reader.{Reader}
-use Rattle.infer_inside.proofs.JsonLemmas.{begins, range_begins, blanks_begin, value_begins, array_begins, object_begins, none_nested}
+use Rattle.infer_inside.proofs.JsonLemmas.{begins, range_begins, value_begins, array_begins, object_begins, none_nested}
 
 pub frames_none : (k : ℕ) (ss : List Symbol) → frames 0 k ss ≡ ss
 unfolding frames
@@ -210,12 +210,16 @@ opens_more d k b ss v l g =
     subst (λ i. Stands (value (128 - d) ∷ frames d k ss) (opening b ∷ v) ↔ Stands (blanks ∷ first_in ((2 * k + b) % 2) (128 - (d + 1)) ∷ frames i ((2 * k + b) / 2) ss) v) outer third
 
 -- the first bracket of a text
-pub begun : (b : ℕ) (ss : List Symbol) (v : List ℕ) → b ≤ 1 → Stands (value 128 ∷ ss) (opening b ∷ v) ↔ Stands (blanks ∷ due_left First 1 b ss) v
+opens_text : (b : ℕ) (ss : List Symbol) (v : List ℕ) → Stands (text ∷ ss) (opening b ∷ v) ↔ Stands (blanks ∷ first_in b 127 ∷ ss) v
+opens_text zero ss v = let b = begins 2 0x5B v (text ∷ ss) in (λ d. let e = b.0 d in grind arith, λ d. b.1 (grind arith))
+opens_text (suc k) ss v = let b = begins 2 0x7B v (text ∷ ss) in (λ d. let e = b.0 d in grind arith, λ d. b.1 (grind arith))
+
+pub begun : (b : ℕ) (ss : List Symbol) (v : List ℕ) → b ≤ 1 → Stands (text ∷ ss) (opening b ∷ v) ↔ Stands (blanks ∷ due_left First 1 b ss) v
 begun b ss v g =
-    let base = opens_more 0 0 b ss v (omega arith) g in
-    let P : ℕ → List Symbol → Type 0 = λ i rest. Stands (value 128 ∷ rest) (opening b ∷ v) ↔ Stands (blanks ∷ due_left First 1 i ss) v in
-    let e : 2 * 0 + b ≡ b = omega arith in
-    subst (λ i. P i ss) e (subst (λ rest. P (2 * 0 + b) rest) (frames_none 0 ss) base)
+    let kind : b ≡ b % 2 = omega arith in
+    let outer : 0 ≡ b / 2 = omega arith in
+    let P : ℕ → List Symbol → Type 0 = λ c rest. Stands (text ∷ ss) (opening b ∷ v) ↔ Stands (blanks ∷ first_in c 127 ∷ rest) v in
+    subst (λ c. P c (frames 0 (b / 2) ss)) kind (subst (λ k. P b (frames 0 k ss)) outer (subst (P b) (sym (frames_none 0 ss)) (opens_text b ss v)))
 
 -- the rules of `read_after`, whatever the byte
 pub after_closes : (d k x : ℕ) (ss : List Symbol) (v : List ℕ) → x ≡ closing (k % 2)
@@ -273,12 +277,12 @@ ended_value ts d k x ss v l h =
 
 -- a byte that no text has there, and one that ends the text
 pub none_on : (x i : ℕ) (rest : List ℕ) (old new : Reader) → i < length rest → Leaves x (take i rest) (stack old)
-    → Reads (stack old) (get_or rest i 0) new false → (ss : List Symbol) (v : List ℕ) → ¬ Stands (value 128 ∷ ss) (x ∷ rest ++ v)
+    → Reads (stack old) (get_or rest i 0) new false → (ss : List Symbol) (v : List ℕ) → ¬ Stands (text ∷ ss) (x ∷ rest ++ v)
 none_on x i rest old new l left_so reads ss v d =
     let y = get_or rest i 0 in
     let cut : rest ≡ take i rest ++ y ∷ drop (i + 1) rest = sym (take-append-drop i rest) ∙ ap (λ t. take i rest ++ t) (drop_more rest i 0 l) in
     let e : rest ++ v ≡ take i rest ++ (y ∷ drop (i + 1) rest ++ v) = ap (λ t. t ++ v) cut ∙ append_assoc (take i rest) (y ∷ drop (i + 1) rest) v in
-    reads ss (drop (i + 1) rest ++ v) ((left_so ss (y ∷ drop (i + 1) rest ++ v)).0 (subst (λ t. Stands (value 128 ∷ ss) (x ∷ t)) e d))
+    reads ss (drop (i + 1) rest ++ v) ((left_so ss (y ∷ drop (i + 1) rest ++ v)).0 (subst (λ t. Stands (text ∷ ss) (x ∷ t)) e d))
 
 pub ends_here : (x i : ℕ) (rest : List ℕ) (old new : Reader) → i < length rest → Leaves x (take i rest) (stack old)
     → Reads (stack old) (get_or rest i 0) new true → new.depth ≡ 0 → Leaves x (take (i + 1) rest) (λ ss. ss)
@@ -289,6 +293,6 @@ ends_here x i rest old new l left_so reads none ss v =
     let done : stack new ss ≡ ss = ap (λ n. G n new.depth) (reads.1 none) ∙ ap (λ d. frames d new.kinds ss) none ∙ frames_none new.kinds ss in
     let a = left_so ss (y ∷ v) in
     let b = reads.2 ss v in (
-      λ d. subst (λ t. Stands t v) done (b.0 (a.0 (subst (λ t. Stands (value 128 ∷ ss) (x ∷ t)) e d))),
-      λ d. subst (λ t. Stands (value 128 ∷ ss) (x ∷ t)) (sym e) (a.1 (b.1 (subst (λ t. Stands t v) (sym done) d))),
+      λ d. subst (λ t. Stands t v) done (b.0 (a.0 (subst (λ t. Stands (text ∷ ss) (x ∷ t)) e d))),
+      λ d. subst (λ t. Stands (text ∷ ss) (x ∷ t)) (sym e) (a.1 (b.1 (subst (λ t. Stands t v) (sym done) d))),
     )

@@ -26,6 +26,9 @@ pub data Symbol : Type 0 where
   exponent : Symbol
   power : Symbol
   digits : Symbol
+  text : Symbol
+  same_line : Symbol
+  next_line : Symbol
 
 -- just this byte; these bytes; any digit; a later byte of a character
 abbrev pub byte : ℕ → Symbol
@@ -74,6 +77,14 @@ rules fraction = [] ∷ (byte 0x2E ∷ digit ∷ digits ∷ []) ∷ []
 rules exponent = [] ∷ (byte 0x65 ∷ power ∷ []) ∷ (byte 0x45 ∷ power ∷ []) ∷ []
 rules power = (digit ∷ digits ∷ []) ∷ (byte 0x2B ∷ digit ∷ digits ∷ []) ∷ (byte 0x2D ∷ digit ∷ digits ∷ []) ∷ []
 rules digits = [] ∷ (digit ∷ digits ∷ []) ∷ []
+-- a text is an array or an object; what follows one stands on its line, and after a line end the next text may come
+rules text = nested 128
+rules same_line =
+    [] ∷ (byte 0x20 ∷ same_line ∷ []) ∷ (byte 0x09 ∷ same_line ∷ []) ∷ (byte 0x0D ∷ same_line ∷ [])
+    ∷ (byte 0x0A ∷ next_line ∷ []) ∷ []
+rules next_line =
+    [] ∷ (byte 0x20 ∷ next_line ∷ []) ∷ (byte 0x09 ∷ next_line ∷ []) ∷ (byte 0x0A ∷ next_line ∷ [])
+    ∷ (byte 0x0D ∷ next_line ∷ []) ∷ (text ∷ same_line ∷ []) ∷ []
 
 -- r is one of the lists
 abbrev pub IsAmong : List Symbol → List (List Symbol) → Type 0
@@ -86,39 +97,55 @@ pub data Stands : List Symbol → List ℕ → Type 0 where
   one : {low high x : ℕ} {ss : List Symbol} {xs : List ℕ} → low ≤ x → x ≤ high → Stands ss xs → Stands (range low high ∷ ss) (x ∷ xs)
   by_rule : {a : Symbol} {ss : List Symbol} {xs : List ℕ} (r : List Symbol) → IsAmong r (rules a) → Stands (r ++ ss) xs → Stands (a ∷ ss) xs
 
+-- some bytes can follow s so that the symbols stand for the whole
+abbrev pub CanBe : List Symbol → List ℕ → Type 0
+CanBe ss s = (v : List ℕ) × Stands ss (s ++ v)
+
+-- the symbols stand for nothing that goes on from t to the next byte, or, if none is left, to any byte
+abbrev pub NoneGoesOn : List Symbol → List ℕ → List ℕ → Type 0
+NoneGoesOn ss t [] = (x : ℕ) (v : List ℕ) → ¬ Stands ss (t ++ x ∷ v)
+NoneGoesOn ss t (x ∷ more) = (v : List ℕ) → ¬ Stands ss (t ++ x ∷ v)
+
+-- s begins with what the symbols stand for, and tells where it ends
+abbrev pub BeginsWhole : List Symbol → List ℕ → Type 0
+BeginsWhole ss s = (t more : List ℕ) × (s ≡ t ++ more) × Stands ss t × NoneGoesOn ss t more
+
+-- one of [ ] { } : ,
+abbrev pub IsMark : ℕ → Type 0
+IsMark x = (x ≡ 0x5B) ⊎ (x ≡ 0x5D) ⊎ (x ≡ 0x7B) ⊎ (x ≡ 0x7D) ⊎ (x ≡ 0x3A) ⊎ (x ≡ 0x2C)
+
+-- s begins with a mark, or with a whole string, name or number (the values without brackets)
+abbrev pub BeginsToken : List ℕ → Type 0
+BeginsToken [] = ⊥
+BeginsToken (x ∷ s) = IsMark x ⊎ BeginsWhole (value 0 ∷ []) (x ∷ s)
+
 -- P holds behind some white space at the front
 abbrev pub BehindBlanks : (List ℕ → Type 0) → List ℕ → Type 0
 BehindBlanks P [] = P []
 BehindBlanks P (x ∷ s) = P (x ∷ s) ⊎ (IsBlank x × BehindBlanks P s)
 
--- s begins with what the symbols stand for
-abbrev pub HasWhole : List Symbol → List ℕ → Type 0
-HasWhole ss s = (t more : List ℕ) × (s ≡ t ++ more) × Stands ss t
-
--- s begins with a number and a byte that no number goes on with
-abbrev pub HasNumber : List ℕ → Type 0
-HasNumber s =
-    (t more : List ℕ) × (x : ℕ) × (s ≡ t ++ x ∷ more) × Stands (number ∷ []) t
-    × ((v : List ℕ) → ¬ Stands (number ∷ []) (t ++ x ∷ v))
-
--- s begins with a whole token: a mark, a string, a name, or a number with a byte behind it
-abbrev pub BeginsToken : List ℕ → Type 0
-BeginsToken s =
-    HasWhole (byte 0x5B ∷ []) s ⊎ HasWhole (byte 0x5D ∷ []) s ⊎ HasWhole (byte 0x7B ∷ []) s ⊎ HasWhole (byte 0x7D ∷ []) s
-    ⊎ HasWhole (byte 0x3A ∷ []) s ⊎ HasWhole (byte 0x2C ∷ []) s ⊎ HasWhole (byte 0x22 ∷ chars ∷ []) s
-    ⊎ HasWhole (exact (codes "true")) s ⊎ HasWhole (exact (codes "false")) s ⊎ HasWhole (exact (codes "null")) s
-    ⊎ HasNumber s
-
--- the first byte that isn't white space opens an array or an object, and a whole token comes behind it
+-- the first byte opens an array or an object, and a whole token comes behind it
 abbrev pub OpensWithToken : List ℕ → Type 0
 OpensWithToken [] = ⊥
 OpensWithToken (x ∷ s) = ((x ≡ 0x5B) ⊎ (x ≡ 0x7B)) × BehindBlanks BeginsToken s
 
--- w begins so, and some bytes can follow so that the whole is one text, nested at most 128 deep
+-- w has a whole token behind its first bracket, and some bytes can follow so that the whole is one text
 abbrev pub BeginsText : List ℕ → Type 0
-BeginsText w =
-    BehindBlanks OpensWithToken w × ((v : List ℕ) × Stands (blanks ∷ value 128 ∷ blanks ∷ []) (w ++ v))
+BeginsText w = BehindBlanks OpensWithToken w × CanBe (blanks ∷ text ∷ blanks ∷ []) w
 
--- the same behind a byte order mark, or without one
+-- some bytes can follow w so that the whole is texts, each behind the first on a new line, and none so that it is one text:
+-- the second has begun
+abbrev pub BeginsLines : List ℕ → Type 0
+BeginsLines w = CanBe (blanks ∷ text ∷ same_line ∷ []) w × (¬ CanBe (blanks ∷ text ∷ blanks ∷ []) w)
+
+-- P holds behind a byte order mark, or of a buffer without one
+abbrev pub UpToMark : (List ℕ → Type 0) → List ℕ → Type 0
+UpToMark P b = P b ⊎ ((w : List ℕ) × (b ≡ 0xEF ∷ 0xBB ∷ 0xBF ∷ w) × P w)
+
+-- one text
 abbrev pub IsJson : List ℕ → Type 0
-IsJson b = BeginsText b ⊎ ((w : List ℕ) × (b ≡ 0xEF ∷ 0xBB ∷ 0xBF ∷ w) × BeginsText w)
+IsJson = UpToMark BeginsText
+
+-- texts, each on a line of its own
+abbrev pub IsJsonLines : List ℕ → Type 0
+IsJsonLines = UpToMark BeginsLines

@@ -1,6 +1,6 @@
 -- What is left of a text where its reader stands. Only private contracts cite it.
-use Rattle.std.specs.Prelude.{◌≡◌, ◌↔◌, ℕ, zero, suc, ◌+◌, ◌-◌, ◌/◌, ◌%◌, ◌<◌, ◌≤◌, ◌^◌, ◌⊎◌, Bool, true, false, Option, Some, None, MatchOption, List, [], length, take, ◌∷◌, ◌++◌, codes}
-use Rattle.infer_inside.specs.Json.{Symbol, range, blanks, value, items, more_items, members, member, more_members, chars, escape, hex, whole, fraction, exponent, power, digits, byte, exact, digit, later, Stands}
+use Rattle.std.specs.Prelude.{◌≡◌, ◌↔◌, ℕ, zero, suc, ◌-◌, ◌/◌, ◌%◌, ◌<◌, ◌≤◌, ◌^◌, ◌⊎◌, Bool, true, false, Option, Some, None, List, [], length, take, ◌∷◌, ◌++◌, codes}
+use Rattle.infer_inside.specs.Json.{Symbol, range, blanks, value, items, more_items, members, member, more_members, chars, escape, hex, whole, fraction, exponent, power, digits, text, same_line, next_line, byte, exact, digit, later, CanBe, IsBlank, Stands}
 use Rattle.infer_inside.specs.declared.json.Token.{Token}
 use Rattle.infer_inside.specs.declared.json.Token.TheVariants.{Chars, Escape, Hex4, Hex3, Hex2, Hex1, Char1, Char2, Char3, CharE0, CharEd, CharF0, CharF4, T, Tr, Tru, F, Fa, Fal, Fals, N, Nu, Nul, Minus, Zero, Whole, Point, Fraction, Exponent, Sign, Power}
 use Rattle.infer_inside.specs.declared.json.Step.{Step}
@@ -10,6 +10,8 @@ use Rattle.infer_inside.specs.declared.json.Due.TheVariants.{First, Value, Key, 
 use Rattle.infer_inside.specs.declared.json.Next.{Next}
 use Rattle.infer_inside.specs.declared.json.Next.TheVariants.{Between, InKey, InValue}
 use Rattle.infer_inside.specs.declared.json.Reader.{Reader}
+use Rattle.infer_inside.specs.declared.json.Line as line
+use Rattle.infer_inside.specs.declared.json.Line.TheVariants as Line
 use Rattle.infer_inside.specs.declared.json.Reading as read
 use Rattle.infer_inside.specs.declared.json.Reading.TheVariants as Reading
 
@@ -111,7 +113,7 @@ Reads before x r false = (ss : List Symbol) (v : List ℕ) → ¬ Stands (before
 
 -- the first bracket of a text was read
 abbrev pub Begun : ℕ → Option Reader → Type 0
-Begun x (Some r) = (((x ≡ 0x5B) ⊎ (x ≡ 0x7B)) × (r.depth ≡ 1)) × Reads (λ ss. value 128 ∷ ss) x r true
+Begun x (Some r) = (((x ≡ 0x5B) ⊎ (x ≡ 0x7B)) × (r.depth ≡ 1)) × Reads (λ ss. text ∷ ss) x r true
 Begun x None = (¬ (x ≡ 0x5B)) × (¬ (x ≡ 0x7B))
 
 -- the innermost bracket is closed
@@ -138,12 +140,39 @@ NoToken x = (n : ℕ) (ss : List Symbol) (v : List ℕ) → ¬ (x ≡ 0x5B) → 
 abbrev pub IsBracket : ℕ → Type 0
 IsBracket x = (x ≡ 0x5B) ⊎ (x ≡ 0x7B)
 
--- x, and these bytes behind it, leave just `left_of ss` of a value and then ss
+-- x, and these bytes behind it, leave just `left_of ss` of a text and then ss
 abbrev pub Leaves : ℕ → List ℕ → (List Symbol → List Symbol) → Type 0
-Leaves x read left_of = (ss : List Symbol) (v : List ℕ) → Stands (value 128 ∷ ss) (x ∷ read ++ v) ↔ Stands (left_of ss) v
+Leaves x read left_of = (ss : List Symbol) (v : List ℕ) → Stands (text ∷ ss) (x ∷ read ++ v) ↔ Stands (left_of ss) v
 
--- what x and the bytes behind it have of a value
+-- what x and the bytes behind it have of a text
 abbrev pub Tells : ℕ → List ℕ → read.Reading → Type 0
 Tells x rest (Reading.Whole n) = (n ≤ length rest) × Leaves x (take n rest) (λ ss. ss)
 Tells x rest Reading.Cut = (r : Reader) × IsOpen r × Leaves x rest (stack r)
-Tells x rest Reading.Wrong = (ss : List Symbol) (v : List ℕ) → ¬ Stands (value 128 ∷ ss) (x ∷ rest ++ v)
+Tells x rest Reading.Wrong = (ss : List Symbol) (v : List ℕ) → ¬ Stands (text ∷ ss) (x ∷ rest ++ v)
+
+-- w is b without a byte order mark at its front
+abbrev pub IsPastMark : List ℕ → List ℕ → Type 0
+IsPastMark b w = (b ≡ 0xEF ∷ 0xBB ∷ 0xBF ∷ w) ⊎ ((b ≡ w) × ((u : List ℕ) → ¬ (b ≡ 0xEF ∷ 0xBB ∷ 0xBF ∷ u)))
+
+-- t is s without the white space at its front
+abbrev pub IsPast : List ℕ → List ℕ → Type 0
+IsPast [] t = t ≡ []
+IsPast (x ∷ s) t = (IsBlank x × IsPast s t) ⊎ ((¬ IsBlank x) × (t ≡ x ∷ s))
+
+-- no white space stands first in s
+abbrev pub StartsLine : List ℕ → Type 0
+StartsLine [] = Unit {0}
+StartsLine (x ∷ s) = ¬ IsBlank x
+
+-- s has white space with a line end in it and then t, or is white space, and t nothing
+abbrev pub IsNextLine : List ℕ → List ℕ → Type 0
+IsNextLine s t =
+    (CanBe (same_line ∷ []) s ↔ CanBe (next_line ∷ []) t) × (CanBe (blanks ∷ []) s ↔ (t ≡ [])) × StartsLine t × (length t ≤ length s)
+
+-- what s has of a text that only the line's end can follow
+abbrev pub LineTells : List ℕ → line.Line → Type 0
+LineTells s (Line.Whole t) =
+    (CanBe (text ∷ same_line ∷ []) s ↔ CanBe (next_line ∷ []) t.now) × (CanBe (text ∷ blanks ∷ []) s ↔ (t.now ≡ []))
+    × StartsLine t.now × (length t.now < length s)
+LineTells s Line.Cut = CanBe (text ∷ same_line ∷ []) s × CanBe (text ∷ blanks ∷ []) s
+LineTells s Line.Wrong = ¬ CanBe (text ∷ same_line ∷ []) s

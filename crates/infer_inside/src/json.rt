@@ -1,9 +1,190 @@
 //! JSON texts, of which a buffer may have the beginning only.
 ghost use Rattle.std.specs.Prelude.{◌≡◌, ◌↔◌, ◌≤◌, ◌%◌, ◌∷◌, [], ◌++◌, IsTrue, MatchOption};
-ghost use Rattle.infer_inside.specs.Json.{blanks, hex, IsBlank, range};
-ghost use Rattle.infer_inside.specs.JsonStates.{Begun, closing, due_left, Follows, IsBracket, IsClosedTo, IsOpen, left, NoToken, opening, Reads, stack, Starts, Tells};
+ghost use Rattle.infer_inside.specs.Json.{BeginsLines, BeginsText, BeginsToken, BeginsWhole, BehindBlanks, blanks, CanBe, hex, IsBlank, IsJson, IsJsonLines, IsMark, next_line, range, same_line, text};
+ghost use Rattle.infer_inside.specs.JsonStates.{Begun, closing, due_left, Follows, IsBracket, IsClosedTo, IsNextLine, IsOpen, IsPast, IsPastMark, left, LineTells, NoToken, opening, Reads, stack, StartsLine, Starts, Tells};
 ghost use Rattle.infer_inside.specs.declared.json.Token.TheVariants.{Chars, Escape, Minus, Zero, Whole, Fraction, Exponent, Power};
 ghost use Rattle.infer_inside.specs.declared.json.Due.TheVariants.{After, Colon, First, Key, Value};
+
+/// JSON, or its beginning: an array or an object, with only white space around it.
+///
+/// Some bytes can follow `buf`, or none need to, so that the whole is one text, whose brackets are nested at most 128
+/// deep and whose strings are UTF-8. A number, a name, an escape or a character may be cut at the end. But behind the
+/// first bracket at least one token is whole: a bracket, a colon, a comma, a string, a name, or a number with a byte after
+/// it. A byte order mark (EF BB BF) may stand first.
+pub fn is_json(buf: &[u8]) -> bool
+    ensures { IsTrue result ↔ IsJson buf.now }
+{
+    begins_text(past_mark(buf))
+}
+
+/// JSON lines, or their beginning: arrays and objects as in [`is_json`], of which the second has begun, with white space
+/// and at least one line end (0A) between any two.
+pub fn is_json_lines(buf: &[u8]) -> bool
+    ensures { IsTrue result ↔ IsJsonLines buf.now }
+{
+    begins_lines(past_mark(buf))
+}
+
+/// What stands behind the byte order mark, if there is one.
+fn past_mark(buf: &[u8]) -> &[u8]
+    ensures { IsPastMark buf.now result.now }
+{
+    match buf.strip_prefix(b"\xEF\xBB\xBF") {
+        Some(rest) => rest,
+        None => buf,
+    }
+}
+
+/// [`is_json`] of what stands behind a mark.
+fn begins_text(buf: &[u8]) -> bool
+    ensures { IsTrue result ↔ BeginsText buf.now }
+{
+    match past_blanks(buf) {
+        [first, rest @ ..] if is_bracket(*first) => has_token(rest) && begins_one(*first, rest),
+        _ => false,
+    }
+}
+
+/// [`is_json_lines`] of what stands behind a mark.
+fn begins_lines(buf: &[u8]) -> bool
+    ensures { IsTrue result ↔ BeginsLines buf.now }
+{
+    match read_line(past_blanks(buf)) {
+        Line::Whole(next) => !next.is_empty() && begins_line(next),
+        Line::Cut | Line::Wrong => false,
+    }
+}
+
+/// Whether a text begins with this bracket and these bytes, with only white space behind it.
+fn begins_one(first: u8, rest: &[u8]) -> bool
+    requires { IsBracket first }
+    ensures { IsTrue result ↔ CanBe (text ∷ blanks ∷ []) (first ∷ rest.now) }
+{
+    match read_text(first, rest) {
+        Reading::Whole(n) => past_blanks(&rest[n..]).is_empty(),
+        Reading::Cut => true,
+        Reading::Wrong => false,
+    }
+}
+
+/// Whether texts begin with these bytes, each on a new line.
+fn begins_line(buf: &[u8]) -> bool
+    requires { StartsLine buf.now }
+    ensures { IsTrue result ↔ CanBe (next_line ∷ []) buf.now }
+{
+    let mut rest = buf;
+    while !rest.is_empty() {
+        match read_line(rest) {
+            Line::Whole(next) => rest = next,
+            Line::Cut => return true,
+            Line::Wrong => return false,
+        }
+    }
+    true
+}
+
+/// What a buffer has of a text, behind which only the line may end.
+enum Line<'a> {
+    /// All of it, and what stands on the next lines behind white space.
+    Whole(&'a [u8]),
+    /// Its beginning: some bytes can follow.
+    Cut,
+    /// None goes on so.
+    Wrong,
+}
+
+/// Reads the text that `buf` begins with, to the next.
+fn read_line(buf: &[u8]) -> Line<'_>
+    ensures { LineTells buf.now result }
+{
+    match buf {
+        [first, rest @ ..] if is_bracket(*first) => match read_text(*first, rest) {
+            Reading::Whole(n) => match next_line(&rest[n..]) {
+                Some(next) => Line::Whole(next),
+                None => Line::Wrong,
+            },
+            Reading::Cut => Line::Cut,
+            Reading::Wrong => Line::Wrong,
+        },
+        [] => Line::Cut,
+        _ => Line::Wrong,
+    }
+}
+
+/// What stands behind white space that ends the line, or nothing if the buffer ends in white space.
+fn next_line(buf: &[u8]) -> Option<&[u8]>
+    ensures { MatchOption result (¬ CanBe (same_line ∷ []) buf.now) (λ next. IsNextLine buf.now next.now) }
+{
+    for at in 0..buf.len() {
+        match buf[at] {
+            b'\n' => return Some(past_blanks(&buf[at + 1..])),
+            b' ' | b'\t' | b'\r' => {}
+            _ => return None,
+        }
+    }
+    Some(&[])
+}
+
+/// What stands behind the white space at the front.
+fn past_blanks(buf: &[u8]) -> &[u8]
+    ensures { IsPast buf.now result.now }
+{
+    for at in 0..buf.len() {
+        if !is_blank(buf[at]) {
+            return &buf[at..];
+        }
+    }
+    &[]
+}
+
+/// Whether a whole token comes behind white space.
+fn has_token(buf: &[u8]) -> bool
+    ensures { IsTrue result ↔ BehindBlanks BeginsToken buf.now }
+{
+    match past_blanks(buf) {
+        [first, rest @ ..] => begins_token(*first, rest),
+        [] => false,
+    }
+}
+
+fn begins_token(first: u8, rest: &[u8]) -> bool
+    ensures { IsTrue result ↔ BeginsToken (first ∷ rest.now) }
+{
+    if is_mark(first) {
+        return true;
+    }
+    match value_token(first) {
+        Some(token) => begins_whole(token, rest),
+        None => false,
+    }
+}
+
+/// Whether the token ends in these bytes.
+fn begins_whole(token: Token, buf: &[u8]) -> bool
+    ensures { IsTrue result ↔ BeginsWhole (left token) buf.now }
+{
+    let mut token = token;
+    for i in 0..buf.len() {
+        match token.after(buf[i]) {
+            Step::Inside(next) => token = next,
+            Step::Ended | Step::EndedBefore => return true,
+            Step::Wrong => return false,
+        }
+    }
+    false
+}
+
+fn is_bracket(byte: u8) -> bool
+    ensures { IsTrue result ↔ IsBracket byte }
+{
+    matches!(byte, b'[' | b'{')
+}
+
+fn is_mark(byte: u8) -> bool
+    ensures { IsTrue result ↔ IsMark byte }
+{
+    matches!(byte, b'[' | b']' | b'{' | b'}' | b':' | b',')
+}
 
 /// How deep brackets may be nested.
 const MOST_DEPTH: u32 = 128;

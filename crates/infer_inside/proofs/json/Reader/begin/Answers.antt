@@ -1,5 +1,5 @@
 use Rattle.std.proofs.Common.{arith, inl, inr, refl, subst, sym, ◌∷◌, ◌↔◌}
-use Rattle.infer_inside.specs.Json.{blanks, items, members, Stands, value}
+use Rattle.infer_inside.specs.Json.{blanks, items, members, Stands, text}
 use Rattle.infer_inside.specs.JsonStates.{frames}
 use Rattle.infer_inside.proofs.ReaderLemmas.{begun}
 use Rattle.infer_inside.proofs.json.Reader.begin.Goals as goal
@@ -10,7 +10,7 @@ returns-in-91 c = (
   (
     (omega arith, omega arith),
     λ e. absurd (omega arith),
-    λ ss v. subst (λ x. Stands (value 128 ∷ ss) (x ∷ v) ↔ Stands (blanks ∷ items 127 ∷ frames 0 0 ss) v) (sym c.in-91.is) (begun 0 ss v (omega arith)),
+    λ ss v. subst (λ x. Stands (text ∷ ss) (x ∷ v) ↔ Stands (blanks ∷ items 127 ∷ frames 0 0 ss) v) (sym c.in-91.is) (begun 0 ss v (omega arith)),
   ),
 )
 
@@ -20,6 +20,6 @@ returns-in-123 c = (
   (
     (omega arith, omega arith),
     λ e. absurd (omega arith),
-    λ ss v. subst (λ x. Stands (value 128 ∷ ss) (x ∷ v) ↔ Stands (blanks ∷ members 127 ∷ frames 0 0 ss) v) (sym c.in-123.is) (begun 1 ss v (omega arith)),
+    λ ss v. subst (λ x. Stands (text ∷ ss) (x ∷ v) ↔ Stands (blanks ∷ members 127 ∷ frames 0 0 ss) v) (sym c.in-123.is) (begun 1 ss v (omega arith)),
   ),
 )

@@ -1,4 +1,4 @@
-use Rattle.std.proofs.Common.{◌≡◌, ◌%◌, ◌∙◌, sym, arith}
+use Rattle.std.proofs.Common.{◌≡◌, ◌%◌, ◌∙◌, sym}
 use Rattle.infer_inside.specs.JsonStates.{due_left}
 use Rattle.infer_inside.specs.declared.json.Due.TheVariants.{Key, Value}
 use Rattle.infer_inside.proofs.ReaderLemmas.{reads_closed, first_closed, opened_key, opened_value, reads_same}

@@ -1,0 +1,8 @@
+-- the token ends where what is left of it does
+use Rattle.std.proofs.Common.{drop, ◌↔◌}
+use Rattle.infer_inside.specs.Json.{BeginsWhole}
+use Rattle.infer_inside.specs.JsonStates.{left}
+use Rattle.infer_inside.proofs.json.begins_whole.Given as goal
+
+abbrev pub invariant-loop-i : goal.invariant-loop-i
+invariant-loop-i l = BeginsWhole (left l.initial.token) l.buf ↔ BeginsWhole (left l.token) (drop l.i l.buf)
