@@ -13,3 +13,4 @@ pub mod ZipLemmas
 pub mod Utf8Lemmas
 pub mod RunLemmas
 pub mod ScriptLemmas
+pub mod MarkupLemmas

@@ -12,3 +12,4 @@ pub mod Script
 pub mod Laws
 pub mod Json
 pub mod JsonStates
+pub mod Markup

@@ -5,10 +5,12 @@ pub mod dbase;
 pub mod elf;
 pub mod laws;
 pub mod json;
+pub mod markup;
 mod numbers;
 pub mod png;
 mod runs;
 pub mod script;
+mod search;
 pub mod subtitles;
 pub mod tar;
 #[cfg(test)]

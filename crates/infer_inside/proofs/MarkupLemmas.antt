@@ -1,0 +1,177 @@
+-- The parts of a prolog, the tag that they lead to, and the name of the document type.
+use Rattle.std.proofs.Common.{◌≡◌, ◌↔◌, ℕ, ◌+◌, ◌-◌, ◌<◌, ◌≤◌, ◌⊎◌, inl, inr, List, Option, None, Some, length, codes, get_or, add-zero, sym, subst, ap, ◌∙◌, arith}
+use Rattle.std.proofs.lemmas.List.{ext_get_or}
+use Rattle.std.specs.Prelude.{slice_range}
+use Rattle.memchr.specs.Find.{OccursAt}
+use Rattle.infer_deep.proofs.PlaceLemmas.{IsFirstPlace-same}
+use Rattle.infer_inside.specs.Markup.{AgreesWithDoctype, BeginsAt, IsDoctype, IsEnclosed, IsMisc, IsNameByte, IsPart, IsSpace, IsTypeByte, IsXmlSpace, LeadsToTag, OpensTag, here, later}
+use Rattle.infer_inside.specs.Runs.{IsAfterLast, IsRun}
+use Rattle.infer_inside.proofs.PartLemmas.{part_length, part_reads}
+use Rattle.infer_inside.proofs.RunLemmas.{one_after_last, one_run_end}
+
+-- what the first bytes of a part are
+space_first : (b : List ℕ) (p q : ℕ) → IsSpace b p q → IsXmlSpace (get_or b p 0)
+space_first b p q (some, run) = run.bytes p (omega arith) some
+
+instruction_first : (b : List ℕ) (p q : ℕ) → IsEnclosed b (codes "<?") (codes "?>") p q → (get_or b p 0 ≡ 0x3C) × (get_or b (p + 1) 0 ≡ 0x3F)
+instruction_first b p q (o, end) = (rw add-zero at (o.reads 0 (omega arith)), o.reads 1 (omega arith))
+
+comment_first : (b : List ℕ) (p q : ℕ) → IsEnclosed b (codes "<!--") (codes "-->") p q
+    → (get_or b p 0 ≡ 0x3C) × (get_or b (p + 1) 0 ≡ 0x21) × (get_or b (p + 2) 0 ≡ 0x2D)
+comment_first b p q (o, end) = (rw add-zero at (o.reads 0 (omega arith)), o.reads 1 (omega arith), o.reads 2 (omega arith))
+
+doctype_first : (b : List ℕ) (p name close : ℕ) → IsDoctype b p name close
+    → (get_or b p 0 ≡ 0x3C) × (get_or b (p + 1) 0 ≡ 0x21) × (get_or b (p + 2) 0 ≡ 0x44)
+doctype_first b p name close d =
+    let o = d.opens in (rw add-zero at (o.reads 0 (omega arith)), o.reads 1 (omega arith), o.reads 2 (omega arith))
+
+-- "<" is no white space
+not_space : (x : ℕ) → x ≡ 0x3C → ¬ IsXmlSpace x
+not_space x is (inl e) = omega arith
+not_space x is (inr (inl e)) = omega arith
+not_space x is (inr (inr (inl e))) = omega arith
+not_space x is (inr (inr (inr e))) = omega arith
+
+-- so one part stands at a place
+one_enclosed : (b opening closing : List ℕ) (p q r : ℕ) → IsEnclosed b opening closing p q → IsEnclosed b opening closing p r → q ≡ r
+one_enclosed b opening closing p q r (o, (e, first, is)) (_, (f, other, same)) =
+    let one = IsFirstPlace-same OccursAt b closing (p + length opening) (length b) e f first other in omega arith
+
+one_misc : (b : List ℕ) (p q r : ℕ) → IsMisc b p q → IsMisc b p r → q ≡ r
+one_misc b p q r (inl s) (inl t) = one_run_end IsXmlSpace b p q r s.1 t.1
+one_misc b p q r (inr (inl i)) (inr (inl j)) = one_enclosed b (codes "<?") (codes "?>") p q r i j
+one_misc b p q r (inr (inr c)) (inr (inr e)) = one_enclosed b (codes "<!--") (codes "-->") p q r c e
+one_misc b p q r (inl s) (inr (inl i)) = absurd (not_space _ (instruction_first b p r i).0 (space_first b p q s))
+one_misc b p q r (inl s) (inr (inr c)) = absurd (not_space _ (comment_first b p r c).0 (space_first b p q s))
+one_misc b p q r (inr (inl i)) (inl s) = absurd (not_space _ (instruction_first b p q i).0 (space_first b p r s))
+one_misc b p q r (inr (inr c)) (inl s) = absurd (not_space _ (comment_first b p q c).0 (space_first b p r s))
+one_misc b p q r (inr (inl i)) (inr (inr c)) = absurd (let x = instruction_first b p q i in let y = comment_first b p r c in omega arith)
+one_misc b p q r (inr (inr c)) (inr (inl i)) = absurd (let x = instruction_first b p r i in let y = comment_first b p q c in omega arith)
+
+no_misc_doctype : (b : List ℕ) (p q name close : ℕ) → IsMisc b p q → ¬ IsDoctype b p name close
+no_misc_doctype b p q name close (inl s) d = not_space _ (doctype_first b p name close d).0 (space_first b p q s)
+no_misc_doctype b p q name close (inr (inl i)) d = let x = instruction_first b p q i in let y = doctype_first b p name close d in omega arith
+no_misc_doctype b p q name close (inr (inr c)) d = let x = comment_first b p q c in let y = doctype_first b p name close d in omega arith
+
+one_doctype : (b : List ℕ) (p name close other end : ℕ) → IsDoctype b p name close → IsDoctype b p other end → (name ≡ other) × (close ≡ end)
+one_doctype b p name close other end d e =
+    let same = one_run_end IsXmlSpace b (p + 9) name other d.space.1 e.space.1 in
+    (same, one_run_end (λ x. (x ≡ 0x3E → ⊥) × (x ≡ 0x5B → ⊥)) b other close end (subst (λ n. IsRun (λ x. (x ≡ 0x3E → ⊥) × (x ≡ 0x5B → ⊥)) b n close) same d.closes.0) e.closes.0)
+
+one_part : (b : List ℕ) (p : ℕ) (d : Option ℕ) (q : ℕ) (e : Option ℕ) (r : ℕ) (f : Option ℕ)
+    → IsPart b p d q e → IsPart b p d r f → (q ≡ r) × (e ≡ f)
+one_part b p d q e r f (inl (m, is)) (inl (n, same)) = (one_misc b p q r m n, is ∙ sym same)
+one_part b p d q e r f (inl (m, is)) (inr (name, close, doctype, none, ends, same)) = absurd (no_misc_doctype b p q name close m doctype)
+one_part b p d q e r f (inr (name, close, doctype, none, ends, same)) (inl (m, is)) = absurd (no_misc_doctype b p r name close m doctype)
+one_part b p d q e r f (inr (name, close, doctype, none, ends, is)) (inr (other, end, again, _, stops, same)) =
+    let one = one_doctype b p name close other end doctype again in (omega arith, is ∙ ap Some one.0 ∙ sym same)
+
+-- and it is within the buffer, and no tag of an element
+pub part_within : (b : List ℕ) (p : ℕ) (d : Option ℕ) (q : ℕ) (e : Option ℕ) → IsPart b p d q e → (p < q) × (q ≤ length b)
+part_within b p d q e (inl (inl (some, run), is)) = (some, let w = run.whole in omega arith)
+part_within b p d q e (inl (inr (inl (o, (end, first, same))), is)) = let w = first.here in (omega arith, omega arith)
+part_within b p d q e (inl (inr (inr (o, (end, first, same))), is)) = let w = first.here in (omega arith, omega arith)
+part_within b p d q e (inr (name, close, doctype, none, ends, is)) =
+    let space = doctype.space in let run = doctype.closes.0 in (omega (arith, run.order, space.0), let w = run.whole in omega arith)
+
+no_tag : (b : List ℕ) (at to p : ℕ) (d : Option ℕ) (q : ℕ) (e : Option ℕ) → IsPart b p d q e → ¬ OpensTag b at to p d
+no_tag b at to p d q e (inl (inl s, is)) tag = not_space _ tag.opens (space_first b p q s)
+no_tag b at to p d q e (inl (inr (inl i), is)) tag = tag.begins.1 (instruction_first b p q i).1
+no_tag b at to p d q e (inl (inr (inr c), is)) tag = tag.begins.0 (comment_first b p q c).1
+no_tag b at to p d q e (inr (name, close, doctype, none, ends, is)) tag = tag.begins.0 (doctype_first b p name close doctype).1
+
+-- the ways to a tag
+ways : (b : List ℕ) (at to p : ℕ) (d : Option ℕ) → LeadsToTag b at to p d
+    → OpensTag b at to p d ⊎ ((q : ℕ) × ((e : Option ℕ) × IsPart b p d q e × LeadsToTag b at to q e))
+ways b at to p d (here _ _ tag) = inl tag
+ways b at to p d (later _ _ q e is rest) = inr (q, (e, is, rest))
+
+-- one leads past a part that stands there
+pub past_part : (b : List ℕ) (at to p : ℕ) (d : Option ℕ) (q : ℕ) (e : Option ℕ) → IsPart b p d q e → LeadsToTag b at to p d ↔ LeadsToTag b at to q e
+past_part b at to p d q e is = (
+  λ leads. elim (ways b at to p d leads) [
+    | inl tag ↦ absurd (no_tag b at to p d q e is tag)
+    | inr (r, (f, other, rest)) ↦
+        let same = one_part b p d r f q e other is in
+        subst (λ x. LeadsToTag b at to x e) same.0 (subst (λ y. LeadsToTag b at to r y) same.1 rest)
+  ],
+  λ rest. later p d q e is rest,
+)
+
+-- where no part stands, the tag opens
+pub past_none : (b : List ℕ) (at to p : ℕ) (d : Option ℕ) → ((q : ℕ) (e : Option ℕ) → ¬ IsPart b p d q e)
+    → LeadsToTag b at to p d ↔ OpensTag b at to p d
+past_none b at to p d none = (
+  λ leads. elim (ways b at to p d leads) [ inl tag ↦ tag | inr (q, (e, is, rest)) ↦ absurd (none q e is) ],
+  λ tag. here p d tag,
+)
+
+-- one tag opens at a place
+pub one_tag : (b : List ℕ) (at to from end p : ℕ) (d : Option ℕ) → OpensTag b at to p d → OpensTag b from end p d → (at ≡ from) × (to ≡ end)
+one_tag b at to from end p d t u =
+    let same = one_run_end IsNameByte b (p + 1) to end t.name u.name in
+    (one_after_last 0x3A b (p + 1) end at from (subst (λ x. IsAfterLast 0x3A b (p + 1) x at) same t.local) u.local, same)
+
+-- an element's name is that of the document type if it stands there, and no byte of such a name follows
+pub is_declared : (b : List ℕ) (name p q : ℕ) → IsRun IsNameByte b p q
+    → (OccursAt b (slice_range b p q) name × (name + (q - p) < length b) × (¬ IsTypeByte (get_or b (name + (q - p)) 0)))
+    ↔ AgreesWithDoctype b (Some name) p q
+is_declared b name p q run =
+    let order = run.order in
+    let whole = run.whole in
+    let long = part_length b p q order (omega arith) in (
+      λ (o, fits, ends).
+          let end = name + (q - p) in
+          let fill = part_length b name end (omega arith) (omega arith) in
+          let reads : (k : ℕ) → k < q - p → get_or b (name + k) 0 ≡ get_or b (p + k) 0 =
+          λ k lt. o.reads k (omega arith) ∙ part_reads b p q k (omega arith) in
+          let bytes : (k : ℕ) → name ≤ k → k < end → IsTypeByte (get_or b k 0) =
+          λ k low high.
+          let same : name + (k - name) ≡ k = omega arith in
+          subst (λ i. IsTypeByte (get_or b i 0)) same
+          (subst IsTypeByte (sym (reads (k - name) (omega arith))) (run.bytes (p + (k - name)) (omega arith) (omega arith)).0) in (
+            end,
+            record { order = omega arith; bytes = bytes; whole = fits; ends = ends },
+            ext_get_or 0 _ _ (omega arith)
+                (λ k lt. part_reads b name end k (omega arith) ∙ reads k (omega arith) ∙ sym (part_reads b p q k (omega arith))),
+          ),
+      λ (end, is, same).
+          let fill = part_length b name end is.order (let w = is.whole in omega arith) in
+          let equal = ap length same in
+          let low = is.order in
+          let there : end ≡ name + (q - p) = omega arith in (
+            record {
+              fits = let w = is.whole in omega arith;
+              reads = λ k lt. sym (part_reads b name end k (omega arith)) ∙ ap (λ xs. get_or xs k 0) same;
+            },
+            let w = is.whole in omega arith,
+            subst (λ x. ¬ IsTypeByte (get_or b x 0)) there is.ends,
+          ),
+    )
+
+-- where no white space, instruction, comment or first declaration stands, no part does
+pub no_part : (b : List ℕ) (p : ℕ) (d : Option ℕ) → ((q : ℕ) → ¬ IsMisc b p q)
+    → (d ≡ None → (name close : ℕ) → ¬ IsDoctype b p name close) → (q : ℕ) (e : Option ℕ) → ¬ IsPart b p d q e
+no_part b p d no_misc no_doctype q e (inl (m, is)) = no_misc q m
+no_part b p d no_misc no_doctype q e (inr (name, close, doctype, none, ends, is)) = no_doctype none name close doctype
+
+-- no tag opens where the name, or what follows its last ":", is no name of an element
+module _ (b : List ℕ) (p to : ℕ) (d : Option ℕ) (run : IsRun IsNameByte b (p + 1) to) where
+  same_end : (at end : ℕ) → OpensTag b at end p d → end ≡ to
+  same_end at end tag = one_run_end IsNameByte b (p + 1) end to tag.name run
+
+  pub undeclared : (¬ AgreesWithDoctype b d (p + 1) to) → (at end : ℕ) → ¬ OpensTag b at end p d
+  undeclared other at end tag = other (subst (AgreesWithDoctype b d (p + 1)) (same_end at end tag) tag.agrees)
+
+  pub unnamed : IsAfterLast 0x3A b (p + 1) to to → (at end : ℕ) → ¬ OpensTag b at end p d
+  unnamed none at end tag =
+      let same = same_end at end tag in
+      let empty = one_after_last 0x3A b (p + 1) to at to (subst (λ x. IsAfterLast 0x3A b (p + 1) x at) same tag.local) none in
+      let some = tag.some in omega arith
+
+-- a prolog begins at one place
+pub one_begin : (b : List ℕ) (p q : ℕ) → BeginsAt b p → BeginsAt b q → p ≡ q
+one_begin b p q (inl (mark, is)) (inl (_, same)) = is ∙ sym same
+one_begin b p q (inl (mark, is)) (inr (none, same)) = absurd (none mark)
+one_begin b p q (inr (none, is)) (inl (mark, same)) = absurd (none mark)
+one_begin b p q (inr (none, is)) (inr (_, same)) = is ∙ sym same

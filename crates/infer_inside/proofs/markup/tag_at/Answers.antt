@@ -1,0 +1,14 @@
+use Rattle.std.proofs.Common.{subst}
+use Rattle.infer_inside.specs.Runs.{IsAfterLast}
+use Rattle.infer_inside.proofs.MarkupLemmas.{undeclared, unnamed}
+use Rattle.infer_inside.proofs.markup.tag_at.Goals as goal
+
+pub returns-then-not-is_declared : goal.returns-then-not-is_declared
+returns-then-not-is_declared c =
+    undeclared c.args.buf.now c.args.reached.place c.in_ok-to.to c.args.reached.doctype c.in_ok-to.ensures
+    (λ agrees. let is = c.is_declared.ensures.1 agrees in let not = c.if-not-is_declared.true in absurd (cc))
+
+pub returns-then-at-to : goal.returns-then-at-to
+returns-then-at-to c =
+    unnamed c.args.buf.now c.args.reached.place c.in_ok-to.to c.args.reached.doctype c.in_ok-to.ensures
+    (subst (IsAfterLast 0x3A c.args.buf.now _ _) c.if-at-to.true c.after_last-at.ensures)

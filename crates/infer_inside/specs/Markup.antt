@@ -1,0 +1,99 @@
+-- Markup, by its root element: the first element, behind a prolog of white space, processing instructions, comments and
+-- at most one document type declaration.
+use Rattle.std.specs.Prelude.{◌≡◌, ◌≢◌, ℕ, ◌+◌, ◌<◌, ◌⊎◌, List, [], ◌∷◌, length, codes, drop, slice_index, slice_range, Option, None, Some}
+use Rattle.memchr.specs.Find.{OccursAt}
+use Rattle.infer_deep.specs.Places.{IsFirstPlace}
+use Rattle.infer_inside.specs.Runs.{IsAfterLast, IsRun}
+
+-- white space, of which XML has no 0C
+abbrev pub IsXmlSpace : ℕ → Type 0
+IsXmlSpace x = (x ≡ 0x09) ⊎ (x ≡ 0x0A) ⊎ (x ≡ 0x0D) ⊎ (x ≡ 0x20)
+
+-- what is neither white space nor ">" is a byte of a document type's name
+abbrev pub IsTypeByte : ℕ → Type 0
+IsTypeByte x = (¬ IsXmlSpace x) × (x ≢ 0x3E)
+
+-- and what isn't "/" either is one of an element's name
+abbrev pub IsNameByte : ℕ → Type 0
+IsNameByte x = IsTypeByte x × (x ≢ 0x2F)
+
+-- from p up to q stands white space, at least a byte of it, and all that stands there
+abbrev pub IsSpace : List ℕ → ℕ → ℕ → Type 0
+IsSpace b p q = (p < q) × IsRun IsXmlSpace b p q
+
+-- from p up to q stands `opening`, then all before the first `closing` that comes after it, and that
+abbrev pub IsEnclosed : List ℕ → List ℕ → List ℕ → ℕ → ℕ → Type 0
+IsEnclosed b opening closing p q =
+    OccursAt b opening p
+    × ((e : ℕ) × IsFirstPlace OccursAt b closing (p + length opening) (length b) e × (q ≡ e + length closing))
+
+-- from p up to q stands white space, a processing instruction or a comment
+abbrev pub IsMisc : List ℕ → ℕ → ℕ → Type 0
+IsMisc b p q = IsSpace b p q ⊎ IsEnclosed b (codes "<?") (codes "?>") p q ⊎ IsEnclosed b (codes "<!--") (codes "-->") p q
+
+-- the first ">" from `from` on is at `close`, and no "[" stands before it
+abbrev pub ClosesDeclaration : List ℕ → ℕ → ℕ → Type 0
+ClosesDeclaration b from close = IsRun (λ x. (x ≢ 0x3E) × (x ≢ 0x5B)) b from close × (slice_index b close ≡ 0x3E)
+
+-- a document type declaration stands at p: "<!DOCTYPE", white space, a name that begins at `name`, and all up to the
+-- first ">" behind the white space, which is at `close`, without a "["
+pub record IsDoctype (b : List ℕ) (p name close : ℕ) : Type 0 where
+  pub opens : OccursAt b (codes "<!DOCTYPE") p
+  pub space : IsSpace b (p + 9) name
+  pub closes : ClosesDeclaration b name close
+
+-- a part of the prolog stands from p up to q. d is the place of the document type's name if one was declared before p,
+-- e the same of q; a second is no part
+abbrev pub IsPart : List ℕ → ℕ → Option ℕ → ℕ → Option ℕ → Type 0
+IsPart b p d q e =
+    (IsMisc b p q × (e ≡ d))
+    ⊎ ((name close : ℕ) × IsDoctype b p name close × (d ≡ None) × (q ≡ close + 1) × (e ≡ Some name))
+
+-- the text from p up to q is the whole name of the document type, if one was declared
+abbrev pub AgreesWithDoctype : List ℕ → Option ℕ → ℕ → ℕ → Type 0
+AgreesWithDoctype b None p q = Unit {0}
+AgreesWithDoctype b (Some name) p q = (end : ℕ) × IsRun IsTypeByte b name end × (slice_range b name end ≡ slice_range b p q)
+
+-- "!" and "?" begin no element's name
+abbrev pub BeginsName : ℕ → Type 0
+BeginsName x = (x ≢ 0x21) × (x ≢ 0x3F)
+
+-- the tag of an element opens at p, and its name ends at `to`, within b. What follows the name's last ":", or all of
+-- it, begins at `at` and isn't empty
+pub record OpensTag (b : List ℕ) (at to p : ℕ) (d : Option ℕ) : Type 0 where
+  pub opens : slice_index b p ≡ 0x3C
+  pub name : IsRun IsNameByte b (p + 1) to
+  pub begins : BeginsName (slice_index b (p + 1))
+  pub local : IsAfterLast 0x3A b (p + 1) to at
+  pub some : at < to
+  pub agrees : AgreesWithDoctype b d (p + 1) to
+
+-- from p on the first thing that is no part of the prolog is that tag: it opens at p, or behind a part that stands there
+pub data LeadsToTag (b : List ℕ) (at to : ℕ) : ℕ → Option ℕ → Type 0 where
+  here : (p : ℕ) (d : Option ℕ) → OpensTag b at to p d → LeadsToTag b at to p d
+  later : (p : ℕ) (d : Option ℕ) (q : ℕ) (e : Option ℕ) → IsPart b p d q e → LeadsToTag b at to q e → LeadsToTag b at to p d
+
+-- the byte order mark of UTF-8
+abbrev pub utf8_mark : List ℕ
+utf8_mark = 0xEF ∷ 0xBB ∷ 0xBF ∷ []
+
+-- the prolog begins at p: at 0, or behind a byte order mark if there is one
+abbrev pub BeginsAt : List ℕ → ℕ → Type 0
+BeginsAt b p = (OccursAt b utf8_mark 0 × (p ≡ 3)) ⊎ ((¬ OccursAt b utf8_mark 0) × (p ≡ 0))
+
+-- the root element has this local name, and `rest` is what comes after it in b
+abbrev pub IsRoot : List ℕ → List ℕ → List ℕ → Type 0
+IsRoot name rest b =
+    (p at to : ℕ) × BeginsAt b p × LeadsToTag b at to p None × (name ≡ slice_range b at to) × (rest ≡ drop to b)
+
+-- the text stands in `rest` before its first ">", or anywhere if it has none
+abbrev pub HasInTag : List ℕ → List ℕ → Type 0
+HasInTag text rest = (p : ℕ) × OccursAt rest text p × ((k : ℕ) → k < p + length text → slice_index rest k ≢ 0x3E)
+
+-- the root element has this local name
+abbrev pub HasRoot : List ℕ → List ℕ → Type 0
+HasRoot name b = (rest : List ℕ) × IsRoot name rest b
+
+-- and the text in its tag behind the name
+abbrev pub HasRootWith : List ℕ → List ℕ → List ℕ → Type 0
+HasRootWith name text b = (rest : List ℕ) × IsRoot name rest b × HasInTag text rest
