@@ -12,5 +12,6 @@ pub mod TokenLemmas
 pub mod ZipLemmas
 pub mod Utf8Lemmas
 pub mod RunLemmas
+pub mod FrontLemmas
 pub mod ScriptLemmas
 pub mod MarkupLemmas

@@ -1,11 +1,13 @@
 -- The parts of a prolog, the tag that they lead to, and the name of the document type.
-use Rattle.std.proofs.Common.{◌≡◌, ◌↔◌, ℕ, ◌+◌, ◌-◌, ◌<◌, ◌≤◌, ◌⊎◌, inl, inr, List, Option, None, Some, length, codes, get_or, add-zero, sym, subst, ap, ◌∙◌, arith}
-use Rattle.std.proofs.lemmas.List.{ext_get_or}
+use Rattle.std.proofs.Common.{◌≡◌, ◌↔◌, ℕ, ◌+◌, ◌-◌, ◌<◌, ◌≤◌, ◌⊎◌, inl, inr, List, ◌++◌, Option, None, Some, length, codes, get_or, add-zero, sym, subst, ap, ◌∙◌, arith}
+use Rattle.std.proofs.lemmas.List.{drop-append-le, ext_get_or}
 use Rattle.std.specs.Prelude.{slice_range}
 use Rattle.memchr.specs.Find.{OccursAt}
 use Rattle.infer_deep.proofs.PlaceLemmas.{IsFirstPlace-same}
-use Rattle.infer_inside.specs.Markup.{AgreesWithDoctype, BeginsAt, IsDoctype, IsEnclosed, IsMisc, IsNameByte, IsPart, IsSpace, IsTypeByte, IsXmlSpace, LeadsToTag, OpensTag, here, later}
+use Rattle.infer_deep.specs.Signatures.{Lasts}
+use Rattle.infer_inside.specs.Markup.{AgreesWithDoctype, BeginsAt, BeginsName, HasRoot, HasRootWith, IsDoctype, IsEnclosed, IsMisc, IsNameByte, IsPart, IsRoot, IsSpace, IsTypeByte, IsXmlSpace, LeadsToTag, OpensTag, here, later, utf8_mark}
 use Rattle.infer_inside.specs.Runs.{IsAfterLast, IsRun}
+use Rattle.infer_inside.proofs.FrontLemmas.{SharesFront, after_last_shared, byte_shared, byte_shared_back, front_grows, front_swaps, range_shared, run_shared, text_shared}
 use Rattle.infer_inside.proofs.PartLemmas.{part_length, part_reads}
 use Rattle.infer_inside.proofs.RunLemmas.{one_after_last, one_run_end}
 
@@ -175,3 +177,115 @@ one_begin b p q (inl (mark, is)) (inl (_, same)) = is ∙ sym same
 one_begin b p q (inl (mark, is)) (inr (none, same)) = absurd (none mark)
 one_begin b p q (inr (none, is)) (inl (mark, same)) = absurd (none mark)
 one_begin b p q (inr (none, is)) (inr (_, same)) = is ∙ sym same
+
+-- what stands in b stands in what begins as b does
+module _ (b c : List ℕ) (s : SharesFront (length b) b c) where
+  space_lasts : (p q : ℕ) → IsSpace b p q → IsSpace c p q
+  space_lasts p q (some, run) = (some, run_shared (length b) b c s IsXmlSpace p q run.whole run)
+
+  enclosed_lasts : (opening closing : List ℕ) (p q : ℕ) → IsEnclosed b opening closing p q → IsEnclosed c opening closing p q
+  enclosed_lasts opening closing p q (o, (e, first, is)) =
+      let here = first.here in
+      let fits = here.high in
+      let back = front_swaps (length b) b c s in (
+        text_shared (length b) b c s opening p o.fits o,
+        (
+          e,
+          record {
+            here = record {
+              stands = text_shared (length b) b c s closing e fits here.stands;
+              low = here.low;
+              high = let long = s.second in omega arith;
+            };
+            before = λ k lt w.
+                first.before k lt (record { stands = text_shared (length b) c b back closing k (omega arith) w.stands; low = w.low; high = omega arith });
+          },
+          is,
+        ),
+      )
+
+  part_lasts : (p : ℕ) (d : Option ℕ) (q : ℕ) (e : Option ℕ) → IsPart b p d q e → IsPart c p d q e
+  part_lasts p d q e (inl (inl space, is)) = inl (inl (space_lasts p q space), is)
+  part_lasts p d q e (inl (inr (inl i), is)) = inl (inr (inl (enclosed_lasts (codes "<?") (codes "?>") p q i)), is)
+  part_lasts p d q e (inl (inr (inr i), is)) = inl (inr (inr (enclosed_lasts (codes "<!--") (codes "-->") p q i)), is)
+  part_lasts p d q e (inr (name, close, doctype, none, ends, is)) =
+      let (run, bracket) = doctype.closes in
+      inr (
+        name,
+        close,
+        record {
+          opens = text_shared (length b) b c s (codes "<!DOCTYPE") p doctype.opens.fits doctype.opens;
+          space = space_lasts (p + 9) name doctype.space;
+          closes = (
+            run_shared (length b) b c s (λ x. (x ≡ 0x3E → ⊥) × (x ≡ 0x5B → ⊥)) name close run.whole run,
+            byte_shared (length b) b c s (λ x. x ≡ 0x3E) close run.whole bracket,
+          );
+        },
+        none,
+        ends,
+        is,
+      )
+
+  name_lasts : (d : Option ℕ) (p q : ℕ) → p ≤ q → q ≤ length b → AgreesWithDoctype b d p q → AgreesWithDoctype c d p q
+  name_lasts None p q order high is = is
+  name_lasts (Some name) p q order high (end, run, is) = (
+    end,
+    run_shared (length b) b c s IsTypeByte name end run.whole run,
+    sym (range_shared (length b) b c s name end run.order (let w = run.whole in omega arith)) ∙ is ∙ range_shared (length b) b c s p q order high,
+  )
+
+  tag_lasts : (at to p : ℕ) (d : Option ℕ) → OpensTag b at to p d → OpensTag c at to p d
+  tag_lasts at to p d t =
+      let order = t.name.order in
+      let whole = t.name.whole in record {
+        opens = byte_shared (length b) b c s (λ x. x ≡ 0x3C) p (omega arith) t.opens;
+        name = run_shared (length b) b c s IsNameByte (p + 1) to whole t.name;
+        begins = byte_shared (length b) b c s BeginsName (p + 1) (omega arith) t.begins;
+        local = after_last_shared (length b) b c s 0x3A (p + 1) to at (omega arith) t.local;
+        some = t.some;
+        agrees = name_lasts d (p + 1) to order (omega arith) t.agrees;
+      }
+
+  leads_lasts : (at to p : ℕ) (d : Option ℕ) → LeadsToTag b at to p d → LeadsToTag c at to p d
+  leads_lasts at to p d (here _ _ tag) = here p d (tag_lasts at to p d tag)
+  leads_lasts at to p d (later _ _ q e is rest) = later p d q e (part_lasts p d q e is) (leads_lasts at to q e rest)
+
+-- the tag is within the buffer
+tag_within : (b : List ℕ) (at to p : ℕ) (d : Option ℕ) → LeadsToTag b at to p d → (p + 1 ≤ at) × (at < to) × (to < length b)
+tag_within b at to p d (here _ _ tag) = (tag.local.low, tag.some, tag.name.whole)
+tag_within b at to p d (later _ _ q e is rest) =
+    let past = part_within b p d q e is in let within = tag_within b at to q e rest in (omega arith, within.1, within.2)
+
+begin_lasts : (b c : List ℕ) (p : ℕ) → SharesFront (length b) b c → 3 ≤ length b → BeginsAt b p → BeginsAt c p
+begin_lasts b c p s long (inl (mark, is)) = inl (text_shared (length b) b c s utf8_mark 0 mark.fits mark, is)
+begin_lasts b c p s long (inr (none, is)) =
+    inr (λ mark. none (text_shared (length b) c b (front_swaps (length b) b c s) utf8_mark 0 (omega arith) mark), is)
+
+root_lasts : (name rest b more : List ℕ) → IsRoot name rest b → IsRoot name (rest ++ more) (b ++ more)
+root_lasts name rest b more (p, at, to, begins, leads, is_name, is_rest) =
+    let s = front_grows b more in
+    let (low, some, whole) = tag_within b at to p None leads in (
+      p,
+      at,
+      to,
+      begin_lasts b (b ++ more) p s (omega arith) begins,
+      leads_lasts b (b ++ more) s at to p None leads,
+      is_name ∙ range_shared (length b) b (b ++ more) s at to (omega arith) (omega arith),
+      ap (λ r. r ++ more) is_rest ∙ sym (drop-append-le to b more (omega arith)),
+    )
+
+pub HasRoot-lasts : (name : List ℕ) → Lasts (HasRoot name)
+HasRoot-lasts name b more (rest, is) = (rest ++ more, root_lasts name rest b more is)
+
+pub HasRootWith-lasts : (name text : List ℕ) → Lasts (HasRootWith name text)
+HasRootWith-lasts name text b more (rest, is, (p, o, none)) =
+    let s = front_grows rest more in
+    let fits = o.fits in (
+      rest ++ more,
+      root_lasts name rest b more is,
+      (
+        p,
+        text_shared (length rest) rest (rest ++ more) s text p fits o,
+        λ k lt closes. none k lt (byte_shared_back (length rest) rest (rest ++ more) s (λ x. x ≡ 0x3E) k (omega arith) closes),
+      ),
+    )

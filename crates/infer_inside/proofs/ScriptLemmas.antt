@@ -1,7 +1,9 @@
 -- The words of a first line, and the one that names the program.
-use Rattle.std.proofs.Common.{◌≡◌, ℕ, ◌-◌, ◌<◌, ◌≤◌, inl, inr, List, Option, None, Some, length, get_or, sym, subst, MatchOption, arith}
-use Rattle.infer_inside.specs.Script.{EndsBare, IsEnv, IsFirstWord, IsNameOf, IsNextWord, IsProgram, IsSetting, IsWord, IsWordByte, NamesProgram}
+use Rattle.std.proofs.Common.{◌≡◌, ℕ, ◌-◌, ◌<◌, ◌≤◌, inl, inr, List, ◌++◌, Option, None, Some, length, codes, get_or, sym, subst, ◌∙◌, MatchOption, arith}
+use Rattle.infer_deep.specs.Signatures.{Lasts}
+use Rattle.infer_inside.specs.Script.{EndsBare, IsBlank, IsEnv, IsFirstWord, IsLineEnd, IsNameOf, IsNextWord, IsProgram, IsSetting, IsVersionByte, IsWord, IsWordByte, NamesProgram}
 use Rattle.infer_inside.specs.declared.script.Word.{Word}
+use Rattle.infer_inside.proofs.FrontLemmas.{SharesFront, after_last_shared, byte_shared, byte_shared_back, front_grows, front_swaps, range_shared, run_shared, text_shared}
 use Rattle.infer_inside.proofs.RunLemmas.{one_after_last, one_run_end}
 
 -- words that overlap are one
@@ -95,3 +97,100 @@ one_program b n m (begins, (at, end, p, is)) (again, (other, stop, q, same)) =
     let bare = subst (λ x. EndsBare b x p.to stop) name (subst (λ y. EndsBare b other y stop) word.1 q.bare) in
     let last = one_bare_end b at p.to stop end bare p.bare in
     cc
+
+-- what stands in b stands in what begins as b does
+module _ (n : ℕ) (b c : List ℕ) (s : SharesFront n b c) where
+  word_shared : (p q : ℕ) → q < n → IsWord b p q → IsWord c p q
+  word_shared p q high w =
+      let some = w.some in record {
+        low = w.low;
+        line = λ k low lt is. w.line k low lt (byte_shared_back n b c s IsLineEnd k (omega arith) is);
+        begins = λ lt. byte_shared n b c s IsBlank (p - 1) (omega arith) (w.begins lt);
+        some = some;
+        run = run_shared n b c s IsWordByte p q high w.run;
+      }
+
+  setting_shared : (p q : ℕ) → p < q → q < n → IsSetting b p q → IsSetting c p q
+  setting_shared p q some high (inl is) = inl (byte_shared n b c s (λ x. x ≡ 0x2D) p (omega arith) is)
+  setting_shared p q some high (inr (k, low, lt, is)) = inr (k, low, lt, byte_shared n b c s (λ x. x ≡ 0x3D) k (omega arith) is)
+
+  env_shared : (p q : ℕ) → q < n → IsEnv b p q → IsEnv c p q
+  env_shared p q high (at, name, o, ends) =
+      (at, after_last_shared n b c s 0x2F p q at (omega arith) name, text_shared n b c s (codes "env") at (omega arith) o, ends)
+
+  bare_shared : (at to end : ℕ) → to ≤ n → EndsBare b at to end → EndsBare c at to end
+  bare_shared at to end high e = record {
+    low = e.low;
+    high = e.high;
+    dropped = λ k low lt. byte_shared n b c s IsVersionByte k (omega arith) (e.dropped k low lt);
+    kept = λ lt is. let h = e.high in e.kept lt (byte_shared_back n b c s IsVersionByte (end - 1) (omega arith) is);
+  }
+
+module _ (b c : List ℕ) (s : SharesFront (length b) b c) where
+  -- a word before one of b ends before it begins
+  ends_before : (from to p q : ℕ) → IsWord b from to → p < from → IsWord c p q → q < from
+  ends_before from to p q w lt v =
+      let low = v.low in
+      let some = w.some in
+      let whole = w.run.whole in
+      let blank = byte_shared (length b) b c s IsBlank (from - 1) (omega arith) (w.begins (omega arith)) in
+      let inside = v.run.bytes (from - 1) (omega arith) in
+      grind arith
+
+  next_lasts : (Has Had : ℕ → ℕ → Type 0) → ((p q : ℕ) → p < q → q < length b → Has p q → Had p q)
+      → ((p q : ℕ) → p < q → q < length b → Had p q → Has p q)
+      → (place from to : ℕ) → IsNextWord b Has place from to → IsNextWord c Had place from to
+  next_lasts Has Had keeps was place from to w =
+      let some = w.word.some in
+      let whole = w.word.run.whole in record {
+        word = word_shared (length b) b c s from to whole w.word;
+        low = w.low;
+        has = keeps from to some whole w.has;
+        before = λ p q low lt v had.
+            let ends = ends_before from to p q w.word lt v in
+            let fits : q < length b = omega arith in
+            w.before p q low lt (word_shared (length b) c b (front_swaps (length b) b c s) p q fits v) (was p q v.some fits had);
+      }
+
+  first_lasts : (p q : ℕ) → IsFirstWord b p q → IsFirstWord c p q
+  first_lasts = next_lasts (λ p q. Unit {0}) (λ p q. Unit {0}) (λ p q some high is. tt) (λ p q some high is. tt) 2
+
+  names_lasts : (p q : ℕ) → NamesProgram b p q → NamesProgram c p q
+  names_lasts p q (inl (first, other)) =
+      inl (first_lasts p q first, λ env. other (env_shared (length b) c b (front_swaps (length b) b c s) p q first.word.run.whole env))
+  names_lasts p q (inr (from, to, first, env, next)) =
+      inr (
+        from,
+        to,
+        first_lasts from to first,
+        env_shared (length b) b c s from to first.word.run.whole env,
+        next_lasts (λ i j. ¬ IsSetting b i j) (λ i j. ¬ IsSetting c i j)
+            (λ i j some high other is. other (setting_shared (length b) c b (front_swaps (length b) b c s) i j some high is))
+            (λ i j some high other is. other (setting_shared (length b) b c s i j some high is)) to p q next,
+      )
+
+  named_within : (p q : ℕ) → NamesProgram b p q → q < length b
+  named_within p q (inl (first, other)) = first.word.run.whole
+  named_within p q (inr (from, to, first, env, next)) = next.word.run.whole
+
+pub IsProgram-lasts : (name : List ℕ) → Lasts (IsProgram name)
+IsProgram-lasts name b more (begins, (at, end, p, is)) =
+    let s = front_grows b more in
+    let c = b ++ more in
+    let whole = named_within b c s p.from p.to p.word in
+    let low = p.bare.low in
+    let high = p.bare.high in (
+      text_shared (length b) b c s (codes "#!") 0 begins.fits begins,
+      (
+        at,
+        end,
+        record {
+          from = p.from;
+          to = p.to;
+          word = names_lasts b c s p.from p.to p.word;
+          name = after_last_shared (length b) b c s 0x2F p.from p.to at (omega arith) p.name;
+          bare = bare_shared (length b) b c s at p.to end (omega arith) p.bare;
+        },
+        is ∙ range_shared (length b) b c s at end low (omega arith),
+      ),
+    )

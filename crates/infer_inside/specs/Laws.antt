@@ -23,3 +23,9 @@ pub record Growth : Type 0 where
   pub dbase : Lasts IsDbase
   pub tar_checksum : Lasts HasTarChecksum
   pub binary : Lasts IsBinary
+use Rattle.infer_inside.specs.Markup.{HasRoot, HasRootWith}
+use Rattle.infer_inside.specs.Script.{IsProgram}
+-- what is told of a buffer stays so in one that grows
+  pub program : (name : List ℕ) → Lasts (IsProgram name)
+  pub root : (name : List ℕ) → Lasts (HasRoot name)
+  pub root_with : (name text : List ℕ) → Lasts (HasRootWith name text)

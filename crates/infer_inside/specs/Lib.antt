@@ -13,3 +13,4 @@ pub mod Laws
 pub mod Json
 pub mod JsonStates
 pub mod Markup
+pub mod Laws

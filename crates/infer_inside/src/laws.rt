@@ -2,6 +2,7 @@
 ghost use Rattle.infer_inside.specs.Laws.{Growth};
 
 /// What a buffer has it has with any bytes after it too: all that is told here but that it is text.
+/// The program of a script and the root of markup stay, whatever bytes come after them.
 pub fn growth()
     ensures { Growth }
 {}

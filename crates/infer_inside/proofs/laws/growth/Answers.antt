@@ -15,3 +15,6 @@ returns c = record {
   tar_checksum = tar_checksum-lasts;
   binary = binary-lasts;
 }
+use Rattle.infer_inside.proofs.MarkupLemmas.{HasRoot-lasts, HasRootWith-lasts}
+use Rattle.infer_inside.proofs.ScriptLemmas.{IsProgram-lasts}
+returns c = record { program = IsProgram-lasts; root = HasRoot-lasts; root_with = HasRootWith-lasts }
