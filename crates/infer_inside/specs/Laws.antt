@@ -3,7 +3,9 @@ use Rattle.std.specs.Prelude.{ℕ, List}
 use Rattle.infer_deep.specs.Signatures.{Lasts}
 use Rattle.infer_inside.specs.Dbase.{IsDbase}
 use Rattle.infer_inside.specs.Elf.{IsSharedObject}
+use Rattle.infer_inside.specs.Markup.{HasRoot, HasRootWith}
 use Rattle.infer_inside.specs.Png.{IsAnimated}
+use Rattle.infer_inside.specs.Script.{IsProgram}
 use Rattle.infer_inside.specs.Subtitles.{IsSubRip}
 use Rattle.infer_inside.specs.Tar.{HasTarChecksum}
 use Rattle.infer_inside.specs.Text.{IsBinary}
@@ -23,9 +25,6 @@ pub record Growth : Type 0 where
   pub dbase : Lasts IsDbase
   pub tar_checksum : Lasts HasTarChecksum
   pub binary : Lasts IsBinary
-use Rattle.infer_inside.specs.Markup.{HasRoot, HasRootWith}
-use Rattle.infer_inside.specs.Script.{IsProgram}
--- what is told of a buffer stays so in one that grows
   pub program : (name : List ℕ) → Lasts (IsProgram name)
   pub root : (name : List ℕ) → Lasts (HasRoot name)
   pub root_with : (name text : List ℕ) → Lasts (HasRootWith name text)

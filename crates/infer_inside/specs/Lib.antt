@@ -9,7 +9,6 @@ pub mod Subtitles
 pub mod Tar
 pub mod Runs
 pub mod Script
-pub mod Laws
 pub mod Json
 pub mod JsonStates
 pub mod Markup

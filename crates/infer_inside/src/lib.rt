@@ -3,8 +3,8 @@
 
 pub mod dbase;
 pub mod elf;
-pub mod laws;
 pub mod json;
+pub mod laws;
 pub mod markup;
 mod numbers;
 pub mod png;

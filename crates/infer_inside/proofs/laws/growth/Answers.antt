@@ -1,4 +1,6 @@
 use Rattle.infer_inside.proofs.GrowthLemmas.{binary-lasts, chunk, dbase-lasts, first_entry_ends_in-lasts, first_entry_has_extra-lasts, first_entry_is-lasts, package_with-lasts, shared_object-lasts, subrip-lasts, tag-lasts, tar_checksum-lasts}
+use Rattle.infer_inside.proofs.MarkupLemmas.{HasRoot-lasts, HasRootWith-lasts}
+use Rattle.infer_inside.proofs.ScriptLemmas.{IsProgram-lasts}
 use Rattle.infer_inside.proofs.laws.growth.Goals as goal
 
 pub returns : goal.returns
@@ -14,7 +16,7 @@ returns c = record {
   dbase = dbase-lasts;
   tar_checksum = tar_checksum-lasts;
   binary = binary-lasts;
+  program = IsProgram-lasts;
+  root = HasRoot-lasts;
+  root_with = HasRootWith-lasts;
 }
-use Rattle.infer_inside.proofs.MarkupLemmas.{HasRoot-lasts, HasRootWith-lasts}
-use Rattle.infer_inside.proofs.ScriptLemmas.{IsProgram-lasts}
-returns c = record { program = IsProgram-lasts; root = HasRoot-lasts; root_with = HasRootWith-lasts }
