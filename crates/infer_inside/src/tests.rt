@@ -852,6 +852,21 @@ fn json_cut(rt: HostRuntime) {
     for (buf, text, lines) in cases {
         assert_eq!(rt; is_json(buf), text);
         assert_eq!(rt; is_json_lines(buf), lines);
+    }
+}
+
+#[test]
+fn json_nesting(rt: HostRuntime) {
+    let open = [b'['; 129];
+    let mut closed = [b']'; 256];
+    closed[..128].copy_from_slice(&open[..128]);
+    assert!(rt; is_json(&open[..128]));
+    assert!(rt; !is_json(&open));
+    assert!(rt; is_json(&closed));
+    assert!(rt; !is_json(&closed[1..]));
+}
+
+#[test]
 fn roots(rt: HostRuntime) {
     let cases: [(&[u8], &[u8], bool); 27] = [
         (b"<?xml?><svg>", b"svg", true),
@@ -889,20 +904,13 @@ fn roots(rt: HostRuntime) {
             b"plist",
             true,
         ),
+    ];
     for (buf, name, expected) in cases {
         assert_eq!(rt; has_root(buf, name), expected);
     }
 }
 
 #[test]
-fn json_nesting(rt: HostRuntime) {
-    let open = [b'['; 129];
-    let mut closed = [b']'; 256];
-    closed[..128].copy_from_slice(&open[..128]);
-    assert!(rt; is_json(&open[..128]));
-    assert!(rt; !is_json(&open));
-    assert!(rt; is_json(&closed));
-    assert!(rt; !is_json(&closed[1..]));
 fn roots_with_a_text(rt: HostRuntime) {
     let cases: [(&[u8], bool); 19] = [
         (b"<?xml?><feed http://www.w3.org/2005/Atom", true),
