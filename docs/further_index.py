@@ -43,6 +43,7 @@ NAMED = {
     "FirstEntryHasExtra": lambda extra: counted(28),
     "PackageWith": lambda folder: [named(it) for it in (b"[Content_Types].xml", b"_rels/", b"docProps/", folder)],
 }
+MARKUP = [{0: set(b"\t\n\r <")}, {0: {0xEF}, 1: {0xBB}, 2: {0xBF}}]
 OUTLINES = {
     "SharedObject": [{16: {3}, 17: {0}}, {16: {0}, 17: {3}}],
     "ClassId": [{0: {0xD0}, 1: {0xCF}, 2: {0x11}, 3: {0xE0}}],
@@ -51,6 +52,9 @@ OUTLINES = {
     "SubRip": [{0: set(range(0x30, 0x3A))}, {0: {0xEF}, 1: {0xBB}, 2: {0xBF}}],
     "Dbase": [{0: {0x02, 0x03, 0x30, 0x31, 0x32, 0x43, 0x63, 0x83, 0x8B, 0xCB, 0xF5}, 12: {0}, 13: {0}}],
     "TarChecksum": [{148: set(range(0x20, 0x38))}],
+    "Program": [{0: {0x23}, 1: {0x21}}],
+    "Root": MARKUP,
+    "RootWith": MARKUP,
     "PlainText": [{0: set(range(0x09, 0x100))}],
 }
 
@@ -96,7 +100,7 @@ def rows_in(code):
 
 def outline(signature):
     """What each alternative of a signature asks at fixed places: its pieces, or what its name stands for."""
-    for least, inside in re.findall(rf"\[(\d+, )?((?:{TEXT}|[^\]\"'])*)\]", signature):
+    for least, inside in re.findall(rf"\[(\d+, )?((?:{TEXT}|&\[[^\]]*\]|[^\]\"'])*)\]", signature):
         name, _, text = inside.partition("(")
         if least:
             yield asked(inside)

@@ -1,9 +1,10 @@
 -- Laws of the relations.
-use Rattle.std.specs.Prelude.{ℕ, List}
+use Rattle.std.specs.Prelude.{◌≡◌, ◌⊎◌, ℕ, ◌+◌, ◌<◌, ◌≤◌, List, slice_index}
+use Rattle.memchr.specs.Find.{OccursAt}
 use Rattle.infer_deep.specs.Signatures.{Lasts}
 use Rattle.infer_inside.specs.Dbase.{IsDbase}
 use Rattle.infer_inside.specs.Elf.{IsSharedObject}
-use Rattle.infer_inside.specs.Markup.{HasRoot, HasRootWith}
+use Rattle.infer_inside.specs.Markup.{BeginsName, HasRoot, HasRootWith, IsXmlSpace, utf8_mark}
 use Rattle.infer_inside.specs.Png.{IsAnimated}
 use Rattle.infer_inside.specs.Script.{IsProgram}
 use Rattle.infer_inside.specs.Subtitles.{IsSubRip}
@@ -28,3 +29,21 @@ pub record Growth : Type 0 where
   pub program : (name : List ℕ) → Lasts (IsProgram name)
   pub root : (name : List ℕ) → Lasts (HasRoot name)
   pub root_with : (name text : List ℕ) → Lasts (HasRootWith name text)
+
+-- from p on stands white space, perhaps none, and then "<"
+abbrev pub OpensBehindSpace : List ℕ → ℕ → Type 0
+OpensBehindSpace b p = (k : ℕ) × (p ≤ k) × ((j : ℕ) → p ≤ j → j < k → IsXmlSpace (slice_index b j)) × (slice_index b k ≡ 0x3C)
+
+-- b begins with a byte order mark, or with white space, perhaps none, and then "<"
+abbrev pub BeginsMarkup : List ℕ → Type 0
+BeginsMarkup b = OccursAt b utf8_mark 0 ⊎ OpensBehindSpace b 0
+
+-- "<" stands in b, and neither "!" nor "?" behind it
+abbrev pub OpensElement : List ℕ → Type 0
+OpensElement b = (k : ℕ) × (slice_index b k ≡ 0x3C) × BeginsName (slice_index b (k + 1))
+
+-- with what a buffer begins that has a root, and that an element opens in it; one with a text in the tag has the root
+pub record Leads : Type 0 where
+  pub root : (name b : List ℕ) → HasRoot name b → BeginsMarkup b
+  pub element : (name b : List ℕ) → HasRoot name b → OpensElement b
+  pub root_with : (name text b : List ℕ) → HasRootWith name text b → HasRoot name b

@@ -1,7 +1,12 @@
 //! Facts about the definitions, each the contract of a function that does nothing.
-ghost use Rattle.infer_inside.specs.Laws.{Growth};
+ghost use Rattle.infer_inside.specs.Laws.{Growth, Leads};
 
 /// What a buffer has it has with any bytes after it too: all that is told here but that it is text, or JSON.
 pub fn growth()
     ensures { Growth }
+{}
+
+/// With what a buffer begins that has a root element, and that an element opens in it.
+pub fn leads()
+    ensures { Leads }
 {}

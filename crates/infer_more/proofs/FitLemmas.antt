@@ -1,6 +1,6 @@
 -- What a computation says of whether a buffer fits an alternative: that it does, as the sample of one does, by places that
 -- are tried; or that it does not, by its outline.
-use Rattle.std.proofs.Common.{◌≡◌, ◌⊎◌, inl, inr, ℕ, zero, suc, ◌+◌, ◌-◌, ◌*◌, ◌<◌, ◌≤◌, Bool, true, false, IsTrue, List, [], ◌∷◌, codes, length, nat_le, refl, subst, arith}
+use Rattle.std.proofs.Common.{◌≡◌, ◌≢◌, ◌⊎◌, inl, inr, ℕ, zero, suc, ◌+◌, ◌-◌, ◌*◌, ◌<◌, ◌≤◌, Bool, true, false, IsTrue, List, [], ◌∷◌, codes, length, nat_le, refl, subst, arith}
 use Rattle.std.specs.Prelude.{◌&&◌, ◌||◌, ◌==◌, ◌%◌, not, slice_index}
 use Rattle.std.specs.List.{list_any}
 use Rattle.std.proofs.lemmas.Bool.{cases_lt}
@@ -8,8 +8,11 @@ use Rattle.std.proofs.lemmas.Bool.Decides.{nat_tests}
 use Rattle.infer_deep.specs.Find.{OccursAt}
 use Rattle.infer_deep.specs.Numbers.{be32, le16, le32}
 use Rattle.infer_deep.specs.Office.{zip_header}
-use Rattle.infer_inside.specs.Dbase.{BeginsName, EndsFields, HasField, IsDated, IsDbase, IsOneOf, behind, versions}
+use Rattle.infer_inside.specs.Dbase.{EndsFields, HasField, IsDated, IsDbase, IsOneOf, behind, versions}
 use Rattle.infer_inside.specs.Elf.{IsSharedObject}
+use Rattle.infer_inside.specs.Laws as Inside
+use Rattle.infer_inside.specs.Laws.{OpensElement}
+use Rattle.infer_inside.specs.Markup.{BeginsName, HasRoot, IsXmlSpace}
 use Rattle.infer_inside.specs.Numbers.{be16}
 use Rattle.infer_inside.specs.Png.{IsAnimated, here}
 use Rattle.infer_inside.specs.Subtitles.{IsDigit, IsPairAt, IsSubRip, IsTime}
@@ -23,7 +26,7 @@ use Rattle.infer.proofs.DecisionLemmas.{known_class}
 use Rattle.infer.proofs.PlaceLemmas.{ByPlace, occurs}
 use Rattle.infer_more.specs.Laws.{is_plain}
 use Rattle.infer_more.specs.Outline.{lines}
-use Rattle.infer_more.specs.Signature.{Accepted, Alternative, Fits, animated, binary_bytes, bytes, class_id, dbase, directory_tag, first_entry_ends_in, first_entry_has_extra, first_entry_is, package_with, plain_text, png_header, shared_object, subrip, tar_checksum}
+use Rattle.infer_more.specs.Signature.{Accepted, Alternative, Fits, animated, binary_bytes, bytes, class_id, dbase, directory_tag, first_entry_ends_in, first_entry_has_extra, first_entry_is, package_with, plain_text, png_header, shared_object, subrip, tar_checksum, program, root, root_with}
 use Rattle.infer_more.proofs.IndexLemmas as test
 use Rattle.infer_more.proofs.OutlineLemmas.{has_lines}
 use Rattle.infer_more.proofs.RefusalLemmas.{clash}
@@ -55,9 +58,50 @@ lacks_data [] h (k, lt, is) = omega arith
 lacks_data (x ∷ b) h (zero, lt, is) = no_data_byte x (neither (is_data x) (list_any is_data b) h).0 is
 lacks_data (x ∷ b) h (suc k, lt, is) = lacks_data b (neither (is_data x) (list_any is_data b) h).1 (k, omega arith, is)
 
+-- ---- markup
+
+abbrev next : List ℕ → ℕ
+next [] = 0
+next (x ∷ b) = x
+
+abbrev opens_none : List ℕ → Bool
+opens_none [] = true
+opens_none (x ∷ b) = not (x == 0x3C && not (next b == 0x21 || next b == 0x3F)) && opens_none b
+
+next_read : (b : List ℕ) → next b ≡ slice_index b 0
+next_read [] = refl
+next_read (x ∷ b) = refl
+
+pub no_element : (b : List ℕ) → IsTrue (opens_none b) → ¬ OpensElement b
+no_element [] h (k, e, begins) = omega arith
+no_element (x ∷ b) h (zero, e, begins) = let same = next_read b in let none = test.both_left (not (x == 0x3C && not (next b == 0x21 || next b == 0x3F))) _ h in grind (arith, nat_tests)
+no_element (x ∷ b) h (suc k, e, begins) = no_element b (test.both_right (not (x == 0x3C && not (next b == 0x21 || next b == 0x3F))) _ h) (k, e, (let same : suc k + 1 ≡ suc (k + 1) = omega arith in subst (λ i. BeginsName (slice_index (x ∷ b) i)) same begins))
+
+abbrev has_mark : List ℕ → Bool
+has_mark b = next b == 0xEF
+
+no_mark : (b : List ℕ) → IsTrue (not (has_mark b)) → slice_index b (0 + 0) ≢ 0xEF
+no_mark b h e = let same = next_read b in grind (arith, nat_tests)
+
+abbrev is_space : ℕ → Bool
+is_space x = x == 0x09 || (x == 0x0A || (x == 0x0D || x == 0x20))
+
+-- the first byte that is no white space is not "<"
+abbrev opens_other : List ℕ → Bool
+opens_other [] = true
+opens_other (x ∷ b) = not (x == 0x3C) && (not (is_space x) || opens_other b)
+
+not_behind_space : (b : List ℕ) → IsTrue (opens_other b) → (k : ℕ) → ((j : ℕ) → j < k → IsXmlSpace (slice_index b j)) → slice_index b k ≢ 0x3C
+not_behind_space [] h k spaces e = omega arith
+not_behind_space (x ∷ b) h zero spaces e = let none = test.both_left (not (x == 0x3C)) _ h in grind (arith, nat_tests)
+not_behind_space (x ∷ b) h (suc k) spaces e = elim (test.either (not (is_space x)) _ (test.both_right (not (x == 0x3C)) _ h)) [
+  | inl dark ↦ let space = spaces 0 (omega arith) in grind (arith, nat_tests)
+  | inr rest ↦ not_behind_space b rest k (λ j lt. spaces (suc j) (omega arith)) e
+]
+
 -- ---- at the places of a sample
 
-module _ (by_place : ByPlace) (b : List ℕ) where
+module _ (by_place : ByPlace) (inside : Inside.Leads) (b : List ℕ) where
   abbrev first_name : Known (HasFirstName b)
   first_name = do
     long ← takes (at_most 30 (length b))
@@ -225,6 +269,15 @@ module _ (by_place : ByPlace) (b : List ℕ) where
     none ← takes (proved_if (not (list_any is_data b)) (lacks_data b))
     proved (inr (some, none))
 
+  pub no_root : (name : List ℕ) → IsTrue (opens_none b || (opens_other b && not (has_mark b))) → ¬ HasRoot name b
+  no_root name h is = elim (test.either (opens_none b) _ h) [
+    | inl none ↦ no_element b none (inside.element name b is)
+    | inr other ↦ elim (inside.root name b is) [
+      | inl mark ↦ let first = mark.reads 0 (omega arith) in no_mark b (test.both_right (opens_other b) _ other) first
+      | inr (k, low, spaces, opens) ↦ not_behind_space b (test.both_left (opens_other b) _ other) k (λ j lt. spaces j (omega arith) lt) opens
+    ]
+  ]
+
   abbrev fitting : (a : Alternative) → Known (Fits a b)
   fitting (bytes a) = is (fits b a)
   fitting (binary_bytes a) = both (is (fits b a)) (proved_if (list_any is_data b) (has_data b))
@@ -253,13 +306,16 @@ module _ (by_place : ByPlace) (b : List ℕ) where
   fitting subrip = cue
   fitting dbase = table_known
   fitting tar_checksum = checksum
+  fitting (program names) = unknown
+  fitting (root name) = refuted_if (opens_none b || (opens_other b && not (has_mark b))) (no_root name)
+  fitting (root_with name t) = refuted_if (opens_none b || (opens_other b && not (has_mark b))) (λ none h. no_root name none (inside.root_with name t b h))
   fitting plain_text = plain
 
   -- it lacks the bytes of the outline
   pub outside : (a : Alternative) → IsTrue (not (is_plain a) && not (accepts (lines a) b)) → ¬ Fits a b
   outside a e h =
       let lasting = test.both_left (not (is_plain a)) _ e in
-      clash _ (has_lines by_place b a (λ plain. absurd (clash (is_plain a) plain lasting)) h) (test.both_right (not (is_plain a)) _ e)
+      clash _ (has_lines by_place inside b a (λ plain. absurd (clash (is_plain a) plain lasting)) h) (test.both_right (not (is_plain a)) _ e)
 
   abbrev pub known_fit : (a : Alternative) → Known (Fits a b)
   known_fit a = do

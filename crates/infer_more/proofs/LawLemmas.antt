@@ -11,6 +11,8 @@ use Rattle.infer_deep.specs.Laws as Deep
 use Rattle.infer_deep.specs.Text.{BeginsMarked}
 use Rattle.infer_deep.proofs.PlaceLemmas.{OccursAt-append}
 use Rattle.infer_inside.specs.Laws as Inside
+use Rattle.infer_inside.specs.Markup.{HasRoot}
+use Rattle.infer_inside.proofs.GrowthLemmas.{there}
 use Rattle.infer_inside.specs.Text.{IsBinary, IsText}
 use Rattle.infer_sig.specs.Laws.{Lasts}
 use Rattle.infer_sig.specs.Places.{StandsByPlace}
@@ -20,14 +22,14 @@ use Rattle.infer.specs.First.{IsFirstOf, NoneHas}
 use Rattle.infer.specs.Laws.{IsNotLater}
 use Rattle.infer.specs.Leads.{is_white}
 use Rattle.infer_more.specs.Index.{is_settled}
-use Rattle.infer_more.specs.Laws.{AllLast, IsLost, IsSteady, MayBeLost, NoneIsBlank, is_dark, is_dark_alternative, is_dark_part, is_filled, is_lasting, is_plain, is_some_alternative, lasts}
+use Rattle.infer_more.specs.Laws.{AllLast, IsLost, IsSteady, MayBeLost, NoneIsBlank, is_dark, is_dark_alternative, is_dark_part, is_dark_relation, is_filled, is_lasting, is_plain, is_some_alternative, lasts}
 use Rattle.infer_more.specs.Outline.{lines, outline}
 use Rattle.infer_more.specs.Row.{Further}
-use Rattle.infer_more.specs.Signature.{Accepted, Alternative, Fits, animated, binary_bytes, bytes, class_id, dbase, directory_tag, first_entry_ends_in, first_entry_has_extra, first_entry_is, package_with, plain_text, png_header, shared_object, subrip, tar_checksum}
+use Rattle.infer_more.specs.Signature.{Accepted, Alternative, Fits, IsProgramAmong, animated, binary_bytes, bytes, class_id, dbase, directory_tag, first_entry_ends_in, first_entry_has_extra, first_entry_is, package_with, plain_text, png_header, shared_object, subrip, tar_checksum, program, root, root_with}
 use Rattle.infer_more.specs.Table.{further}
 use Rattle.infer_more.specs.Wider.{Widens}
 use Rattle.infer_more.proofs.IndexLemmas.{both_left, both_right, either, from_left, passes_part}
-use Rattle.infer_more.proofs.OutlineLemmas.{has_outline, past}
+use Rattle.infer_more.proofs.OutlineLemmas.{has_lines, has_outline, past}
 
 clash : (x : Bool) → IsTrue x → IsTrue (not x) → ⊥
 clash true h k = cc
@@ -38,6 +40,11 @@ clash false h k = cc
 module _ (deep : Deep.Growth) (inside : Inside.Growth) (fixed_lasts : (signature : List fixed.Alternative) → Lasts signature) (b more : List ℕ) where
   bytes_last : (a : fixed.Alternative) → IsTrue (fits b a) → IsTrue (fits (b ++ more) a)
   bytes_last a h = elim (either (fits (b ++ more) a) false (fixed_lasts (a ∷ []) b more (from_left (fits b a) false h))) [ inl e ↦ e | inr e ↦ absurd (cc) ]
+
+  program_lasts : (names : List (List ℕ)) → IsProgramAmong names b → IsProgramAmong names (b ++ more)
+  program_lasts [] h = h
+  program_lasts (name ∷ names) (inl h) = inl (inside.program name b more h)
+  program_lasts (name ∷ names) (inr h) = inr (program_lasts names h)
 
   fits_last : (a : Alternative) → IsTrue (is_lasting a) → Fits a b → Fits a (b ++ more)
   fits_last (bytes a) l h = bytes_last a h
@@ -53,6 +60,9 @@ module _ (deep : Deep.Growth) (inside : Inside.Growth) (fixed_lasts : (signature
   fits_last subrip l h = inside.subrip b more h
   fits_last dbase l h = inside.dbase b more h
   fits_last tar_checksum l h = inside.tar_checksum b more h
+  fits_last (program names) l h = program_lasts names h
+  fits_last (root name) l h = inside.root name b more h
+  fits_last (root_with name t) l h = inside.root_with name t b more h
   fits_last plain_text l h = absurd (cc)
 
   accepted_last : (signature : List Alternative) → IsTrue (lasts signature) → Accepted signature b → Accepted signature (b ++ more)
@@ -164,12 +174,47 @@ unfilled (at_least n parts ∷ signature) h k = elim (either (fits [] (at_least 
   | inr e ↦ unfilled signature (both_right (nat_le 1 n) _ h) e
 ]
 
-module _ (by_place : (place : ℕ) (t buf : List ℕ) → IsTrue (stands place t buf) ↔ StandsByPlace place t buf) where
+module _ (by_place : (place : ℕ) (t buf : List ℕ) → IsTrue (stands place t buf) ↔ StandsByPlace place t buf) (leads : Inside.Leads) where
   small_white : (b : List ℕ) → All (λ x. IsTrue (is_white x)) b → (i : ℕ) → slice_index b i < 256
   small_white b white i = elim (cases_lt i (length b)) [
     | inl lt ↦ let is = AllWithin-from_all (λ x. IsTrue (is_white x)) b white i 0 (omega arith) lt in grind (arith, nat_tests)
     | inr le ↦ past b i le
   ]
+
+  by_outline : (b : List ℕ) → All (λ x. IsTrue (is_white x)) b → (a : Alternative) → IsTrue (list_all is_dark_alternative (lines a)) → ¬ Fits a b
+  by_outline b white a dark h = refused by_place b white (lines a) dark (has_lines by_place leads b a (λ plain. small_white b white) h)
+
+  -- no markup is white space: an element opens in it
+  no_markup : (b : List ℕ) → All (λ x. IsTrue (is_white x)) b → (name : List ℕ) → ¬ HasRoot name b
+  no_markup b white name h =
+      let (k, e, other) = leads.element name b h in
+      let lt : k < length b = there b k (omega arith) in
+      let is = AllWithin-from_all (λ x. IsTrue (is_white x)) b white k 0 (omega arith) lt in
+      grind (arith, nat_tests)
+
+  refused_alternative : (b : List ℕ) → All (λ x. IsTrue (is_white x)) b → (a : Alternative) → IsTrue (is_dark_relation a) → ¬ Fits a b
+  refused_alternative b white (root name) dark h = no_markup b white name h
+  refused_alternative b white (root_with name t) dark h = no_markup b white name (leads.root_with name t b h)
+  refused_alternative b white (bytes a) dark h = by_outline b white (bytes a) dark h
+  refused_alternative b white (binary_bytes a) dark h = by_outline b white (binary_bytes a) dark h
+  refused_alternative b white shared_object dark h = by_outline b white shared_object dark h
+  refused_alternative b white (first_entry_is name) dark h = by_outline b white (first_entry_is name) dark h
+  refused_alternative b white (first_entry_ends_in t) dark h = by_outline b white (first_entry_ends_in t) dark h
+  refused_alternative b white (first_entry_has_extra t) dark h = by_outline b white (first_entry_has_extra t) dark h
+  refused_alternative b white (package_with folder) dark h = by_outline b white (package_with folder) dark h
+  refused_alternative b white (class_id id) dark h = by_outline b white (class_id id) dark h
+  refused_alternative b white (directory_tag tag) dark h = by_outline b white (directory_tag tag) dark h
+  refused_alternative b white animated dark h = by_outline b white animated dark h
+  refused_alternative b white subrip dark h = by_outline b white subrip dark h
+  refused_alternative b white dbase dark h = by_outline b white dbase dark h
+  refused_alternative b white tar_checksum dark h = by_outline b white tar_checksum dark h
+  refused_alternative b white (program names) dark h = by_outline b white (program names) dark h
+  refused_alternative b white plain_text dark h = absurd (cc)
+
+  refused_signature : (b : List ℕ) → All (λ x. IsTrue (is_white x)) b → (signature : List Alternative) → IsTrue (list_all is_dark_relation signature) → ¬ Accepted signature b
+  refused_signature b white [] dark h = h
+  refused_signature b white (a ∷ others) dark (inl h) = refused_alternative b white a (both_left (is_dark_relation a) _ dark) h
+  refused_signature b white (a ∷ others) dark (inr h) = refused_signature b white others (both_right (is_dark_relation a) _ dark) h
 
   pub none_is_blank : IsTrue (list_all is_dark further) → IsTrue (list_all is_filled further) → NoneIsBlank
   none_is_blank dark filled = record {
@@ -177,9 +222,9 @@ module _ (by_place : (place : ℕ) (t buf : List ℕ) → IsTrue (stands place t
         let r = get_or further k d in
         elim (either (list_any is_plain r.signature) _ (passes_at is_dark further k d dark lt)) [
           | inl plain ↦ clash _ plain other
-          | inr outlined ↦ refused by_place b white (outline r.signature) outlined (has_outline by_place b (small_white b white) r.signature h)
+          | inr relations ↦ refused_signature b white r.signature relations h
         ];
     empty = λ k d le lt h.
         let r = get_or further k d in
-        unfilled (outline r.signature) (passes_at is_filled further k d filled lt) (has_outline by_place [] (λ i. past [] i (omega arith)) r.signature h);
+        unfilled (outline r.signature) (passes_at is_filled further k d filled lt) (has_outline by_place leads [] (λ i. past [] i (omega arith)) r.signature h);
   }

@@ -20,14 +20,15 @@ use Rattle.infer_inside.specs.Tiff.{BeginsTiff}
 use Rattle.infer_inside.specs.Zip.{HasFirstName, MayBeginPackage}
 use Rattle.infer_inside.proofs.GrowthLemmas.{there}
 use Rattle.infer_sig.specs.Signature as fixed
-use Rattle.infer_sig.specs.Signature.{at_least, Part, text, byte, all_but, any_of, between, accepts, fits, has_part, stands}
+use Rattle.infer_sig.specs.Signature.{at_least, Part, text, byte, all_but, any_of, between, accepts, allows, fits, has_part, stands}
 use Rattle.infer_sig.specs.Places.{StandsByPlace}
 use Rattle.infer.specs.Buffer.{IsBuffer}
 use Rattle.infer.specs.Walks.{is_listed}
 use Rattle.infer_more.specs.Index.{AllAreAsked, EachIsAsked, asked, is_asked, is_below_asked, is_free_asked}
-use Rattle.infer_more.specs.Outline.{counted, counted_for, digit_behind, digits_behind, lines, named, outline}
+use Rattle.infer_more.specs.Outline.{counted, counted_for, digit_behind, digits_behind, lines, markup_lines, named, outline}
 use Rattle.infer_more.specs.Row.{Further}
-use Rattle.infer_more.specs.Signature.{Accepted, Alternative, Fits, animated, binary_bytes, bytes, class_id, dbase, directory_tag, first_entry_ends_in, first_entry_has_extra, first_entry_is, package_with, plain_text, png_header, shared_object, subrip, tar_checksum}
+use Rattle.infer_more.specs.Signature.{Accepted, Alternative, Fits, IsProgramAmong, animated, binary_bytes, bytes, class_id, dbase, directory_tag, first_entry_ends_in, first_entry_has_extra, first_entry_is, package_with, plain_text, png_header, shared_object, subrip, tar_checksum, program, root, root_with}
+use Rattle.infer_inside.specs.Laws.{BeginsMarkup, Leads}
 use Rattle.infer_more.specs.Laws.{is_plain}
 use Rattle.infer_more.specs.Table.{further}
 use Rattle.infer_more.specs.Wider.{Widens}
@@ -35,7 +36,7 @@ use Rattle.infer_more.specs.declared.index.RowIndex.{RowIndex}
 use Rattle.infer_more.proofs.NamedLemmas.{both}
 use Rattle.infer_more.proofs.IndexLemmas.{asked_of, both_left, both_right, either, from_left, from_right}
 
-module _ (by_place : (place : ℕ) (t buf : List ℕ) → IsTrue (stands place t buf) ↔ StandsByPlace place t buf) (b : List ℕ) where
+module _ (by_place : (place : ℕ) (t buf : List ℕ) → IsTrue (stands place t buf) ↔ StandsByPlace place t buf) (leads : Leads) (b : List ℕ) where
   occurs : (p : ℕ) (t : List ℕ) → OccursAt b t p → IsTrue (has_part b (text p t))
   occurs p t o = (by_place p t b).1 (λ k l. (let fits = o.fits in omega arith, o.reads k l))
 
@@ -161,22 +162,48 @@ module _ (by_place : (place : ℕ) (t buf : List ℕ) → IsTrue (stands place t
       one 1 (byte 0 (between 0x30 0x39)) (marked_line ∷ []) (omega arith) (in_range 0 0x30 0x39 lt digit.0 digit.1)
   subrip_lines (inr (o, cue)) = let le = o.fits in other (at_least 1 (byte 0 (between 0x30 0x39) ∷ [])) (marked_line ∷ []) (begins 3 (0xEF ∷ 0xBB ∷ 0xBF ∷ []) (omega arith) o)
 
+  program_lines : (names : List (List ℕ)) → IsProgramAmong names b → IsTrue (accepts (lines (program names)) b)
+  program_lines [] h = absurd (h)
+  program_lines (name ∷ names) (inl (o, _)) = begins 2 (codes "#!") (let le = o.fits in omega arith) o
+  program_lines (name ∷ names) (inr h) = program_lines names h
+
+  abbrev markup_line : fixed.Alternative
+  markup_line = at_least 1 (byte 0 (any_of (0x09 ∷ 0x0A ∷ 0x0D ∷ 0x20 ∷ 0x3C ∷ [])) ∷ [])
+
+  -- a byte that is one of these
+  begins_line : (1 ≤ slice_index b 0) → IsTrue (allows (any_of (0x09 ∷ 0x0A ∷ 0x0D ∷ 0x20 ∷ 0x3C ∷ [])) (slice_index b 0)) → IsTrue (accepts markup_lines b)
+  begins_line some is =
+      let lt : 0 < length b = there b 0 some in
+      one 1 (byte 0 (any_of (0x09 ∷ 0x0A ∷ 0x0D ∷ 0x20 ∷ 0x3C ∷ []))) (marked_line ∷ []) (omega arith) (both (nat_lt 0 (length b)) _ (lt-ltb 0 (length b) lt) is)
+
+  markup_begins : BeginsMarkup b → IsTrue (accepts markup_lines b)
+  markup_begins (inl o) = let le = o.fits in other markup_line (marked_line ∷ []) (begins 3 (0xEF ∷ 0xBB ∷ 0xBF ∷ []) (omega arith) o)
+  markup_begins (inr (k, low, spaces, opens)) = elim (cases_lt 0 k) [
+    | inl lt ↦ elim (spaces 0 (omega arith) lt) [
+      | inl e ↦ begins_line (omega arith) (rw e refl)
+      | inr (inl e) ↦ begins_line (omega arith) (rw e refl)
+      | inr (inr (inl e)) ↦ begins_line (omega arith) (rw e refl)
+      | inr (inr (inr e)) ↦ begins_line (omega arith) (rw e refl)
+    ]
+    | inr le ↦ let e : slice_index b 0 ≡ 0x3C = subst (λ i. slice_index b i ≡ 0x3C) (omega arith) opens in begins_line (omega arith) (rw e refl)
+  ]
+
   -- no byte of a buffer is 256 or more
   abbrev Small : Type 0
   Small = (i : ℕ) → slice_index b i < 256
 
   text_lines : Small → IsText b → IsTrue (accepts (lines plain_text) b)
   text_lines small h =
-      let (lt, low) = leads h in one 1 (byte 0 (between 0x09 0xFF)) [] (omega arith) (in_range 0 0x09 0xFF lt low (let s = small 0 in omega arith))
+      let (lt, low) = begun h in one 1 (byte 0 (between 0x09 0xFF)) [] (omega arith) (in_range 0 0x09 0xFF lt low (let s = small 0 in omega arith))
     where
       marked : (mark : List ℕ) (x : ℕ) → 0 < length mark → OccursAt b mark 0 → slice_index mark 0 ≡ x → 9 ≤ x → (0 < length b) × (9 ≤ slice_index b 0)
       marked mark x lt o e le = let fits = o.fits in let same = o.reads 0 lt in (omega arith, omega arith)
 
-      leads : IsText b → (0 < length b) × (9 ≤ slice_index b 0)
-      leads (inl (mark, inl e, o)) = marked mark 0xEF (rw e (omega arith)) o (rw e refl) (omega arith)
-      leads (inl (mark, inr (inl e), o)) = marked mark 0xFE (rw e (omega arith)) o (rw e refl) (omega arith)
-      leads (inl (mark, inr (inr e), o)) = marked mark 0xFF (rw e (omega arith)) o (rw e refl) (omega arith)
-      leads (inr (le, none)) = (
+      begun : IsText b → (0 < length b) × (9 ≤ slice_index b 0)
+      begun (inl (mark, inl e, o)) = marked mark 0xEF (rw e (omega arith)) o (rw e refl) (omega arith)
+      begun (inl (mark, inr (inl e), o)) = marked mark 0xFE (rw e (omega arith)) o (rw e refl) (omega arith)
+      begun (inl (mark, inr (inr e), o)) = marked mark 0xFF (rw e (omega arith)) o (rw e refl) (omega arith)
+      begun (inr (le, none)) = (
         omega arith,
         elim (cases_lt (slice_index b 0) 9) [
           | inl l ↦ absurd (none (0, omega arith, inl (omega arith)))
@@ -192,7 +219,7 @@ module _ (by_place : (place : ℕ) (t buf : List ℕ) → IsTrue (stands place t
   has_lines (first_entry_ends_in name) small h = counted_for_lines name 26 h.0 (omega arith) h.1
   has_lines (first_entry_has_extra extra) small h = counted_for_lines extra 28 h.0 (omega arith) h.1
   has_lines (package_with folder) small h = package_lines folder h.0
-  has_lines (class_id id) small (root, r, o) = let le = r.header.fits in begins 8 _ (omega arith) r.header
+  has_lines (class_id id) small (place, r, o) = let le = r.header.fits in begins 8 _ (omega arith) r.header
   has_lines (directory_tag tag) small (big, b, e) = tag_lines tag big b
   has_lines animated small (o, a) = let le = o.fits in begins 4 png_header (omega arith) o
   has_lines subrip small h = subrip_lines h
@@ -201,6 +228,9 @@ module _ (by_place : (place : ℕ) (t buf : List ℕ) → IsTrue (stands place t
       (both _ _ (both (nat_lt 0 (length b)) _ (lt-ltb 0 (length b) (omega arith)) dated.0)
       (both _ true (pair 12 0x00 0x00 (omega arith) dated.3.0 dated.3.1) refl)))
   has_lines tar_checksum small (long, some, (p, d, f, sums)) = field_lines p d long f
+  has_lines (program names) small h = program_lines names h
+  has_lines (root name) small h = markup_begins (leads.root name b h)
+  has_lines (root_with name t) small h = markup_begins (leads.root name b (leads.root_with name t b h))
   has_lines plain_text small h = text_lines (small refl) h
 
   module _ (small : Small) where
@@ -247,11 +277,11 @@ module _ (index : RowIndex) (each : EachIsAsked index) (i : ℕ) (r : Further) (
   asks = asks_by r.parent asks_below asks_free
 
 -- every row that widens an answer is asked
-pub all_asked : ((place : ℕ) (t buf : List ℕ) → IsTrue (stands place t buf) ↔ StandsByPlace place t buf) → (index : RowIndex) → EachIsAsked index → AllAreAsked index
-all_asked by_place index each parent b i all (lt, at) = elim (slice_get_cases further i).1 [
+pub all_asked : ((place : ℕ) (t buf : List ℕ) → IsTrue (stands place t buf) ↔ StandsByPlace place t buf) → Leads → (index : RowIndex) → EachIsAsked index → AllAreAsked index
+all_asked by_place leads index each parent b i all (lt, at) = elim (slice_get_cases further i).1 [
   | inl (r, within, found, same) ↦
       let holds : Widens parent b r = subst (Widens parent b) same (at r) in
       subst (λ p. IsTrue (is_listed (asked index p b) i)) holds.0
-      (asked_of by_place index b i r.parent (outline r.signature) (asks index each i r found lt) (has_outline by_place b (small_bytes b all) r.signature holds.1))
+      (asked_of by_place index b i r.parent (outline r.signature) (asks index each i r found lt) (has_outline by_place leads b (small_bytes b all) r.signature holds.1))
   | inr (past, none) ↦ absurd (omega arith)
 ]

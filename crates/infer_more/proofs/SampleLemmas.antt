@@ -4,6 +4,7 @@ use Rattle.std.proofs.lemmas.List.{get_or_default}
 use Rattle.infer_deep.specs.Laws as Deep
 use Rattle.infer_deep.specs.Numbers.{le16, le32, be32}
 use Rattle.infer_deep.specs.Text.{tags_with}
+use Rattle.infer_inside.specs.Laws as Inside
 use Rattle.infer_inside.specs.Numbers.{be16}
 use Rattle.infer_inside.specs.Tar.{header_sum}
 use Rattle.infer_sig.specs.Signature.{stands}
@@ -44,17 +45,17 @@ same_parent None (Some j) = refuted (none_differs j)
 same_parent (Some i) None = refuted (λ e. none_differs i (sym e))
 
 -- what a computation says of a row, and of the first row
-abbrev widens : ByPlace → (parent : Option ℕ) (b : List ℕ) (r : Further) → Known (Widens parent b r)
-widens by_place parent b r = both (same_parent r.parent parent) (known_accepted by_place b r.signature)
+abbrev widens : ByPlace → Inside.Leads → (parent : Option ℕ) (b : List ℕ) (r : Further) → Known (Widens parent b r)
+widens by_place inside parent b r = both (same_parent r.parent parent) (known_accepted by_place inside b r.signature)
 
-abbrev first_widening : ByPlace → (d : Further) (parent : Option ℕ) (b : List ℕ) (i : ℕ) → Known (IsFirst (Widens parent b) further i)
-first_widening by_place d parent b i = do
+abbrev first_widening : ByPlace → Inside.Leads → (d : Further) (parent : Option ℕ) (b : List ℕ) (i : ℕ) → Known (IsFirst (Widens parent b) further i)
+first_widening by_place inside d parent b i = do
   within ← takes (at_most (suc i) (length further))
-  here ← takes (widens by_place parent b (get_or further i d))
-  before ← takes (each_before (λ r. negated (widens by_place parent b r)) further i (omega arith))
+  here ← takes (widens by_place inside parent b (get_or further i d))
+  before ← takes (each_before (λ r. negated (widens by_place inside parent b r)) further i (omega arith))
   proved (record { within = within; here = λ c. subst (Widens parent b) (get_or_default further i d c within) here; before = before })
 
-module _ (by_place : ByPlace) (exclude : Deep.Apart) (leads : (s : BuiltIn) → Leads s) (d : Further) where
+module _ (by_place : ByPlace) (exclude : Deep.Apart) (leads : (s : BuiltIn) → Leads s) (inside : Inside.Leads) (d : Further) where
   abbrev first_built_in : (b : List ℕ) (parent : Option ℕ) → Known (IsFirstOf (Accepts b) built_in.table parent)
   first_built_in b None = none_accepts by_place leads b
   first_built_in b parent = known_first by_place exclude some_row parent b
@@ -63,7 +64,7 @@ module _ (by_place : ByPlace) (exclude : Deep.Apart) (leads : (s : BuiltIn) → 
   reached parent i None = proved tt
   reached parent i (Some s) = do
     answers ← takes (first_built_in s parent)
-    first ← takes (first_widening by_place d parent s i)
+    first ← takes (first_widening by_place inside d parent s i)
     proved (record { parent = parent; found = Some i; answers = answers; widens = first; is = refl })
 
   abbrev reaches : (i : ℕ) → Known (Reaches i (get_or further i d))

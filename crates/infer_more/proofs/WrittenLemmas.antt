@@ -8,7 +8,7 @@ use Rattle.std.proofs.lemmas.Bool.{leb-true, lt-ltb, ltb-true}
 use Rattle.std.proofs.lemmas.Bool.Decides.{nat_tests}
 use Rattle.std.proofs.lemmas.List.{drop-replicate, length-replicate, length-take-le, take-replicate, take_at}
 use Rattle.std.proofs.lemmas.Option.{get_or_from_slice_get, slice_get-map, slice_get_cases, slice_get_past, slice_get_within}
-use Rattle.infer_sig.specs.Signature.{Alternative, at_least, Part, text, any_text, byte}
+use Rattle.infer_sig.specs.Signature.{Part, text, any_text, byte}
 use Rattle.infer.specs.BuiltIn.{BuiltIn}
 use Rattle.infer.specs.First.{IsFirst, IsFirstOf}
 use Rattle.infer.specs.Row.{Accepts, Row}
@@ -22,8 +22,7 @@ use Rattle.infer_more.specs.Listed.{alternative_listed, row_listed, signature_li
 use Rattle.infer_more.specs.Row.{Further, is_inside}
 use Rattle.infer_more.specs.Table.{further}
 use Rattle.infer_more.specs.Wider.{AcceptsAt, IsWider, Widens, wider}
-use Rattle.infer_more.specs.Signature as Signature
-use Rattle.infer_more.specs.Signature.{Accepted}
+use Rattle.infer_sig.specs.Signature as fixed
 use Rattle.infer_more.specs.Samples.{AllReach, Reaches, built_in_sample, further_sample, has_room, has_room_after, joined_sample, least_of, model, parent_sample, parts_of, signature_model, written}
 use Rattle.infer_more.specs.declared.samples.TheConstants.{SAMPLE_SIZE}
 use Rattle.infer_more.specs.declared.signature.Alternative as Listed
@@ -73,13 +72,15 @@ counted_parent (Some s) = refl
 -- ---- further rows
 
 -- the model of the first alternative
-abbrev model_of : Listed.Alternative → Alternative
-model_of a = model (alternative_listed a)
-
 first_model : (alternatives : List Listed.Alternative) (a : Listed.Alternative) → Some a ≡ slice_get alternatives 0
-    → signature_model (signature_listed alternatives) ≡ Some (model_of a)
+    → signature_model (signature_listed alternatives) ≡ model (alternative_listed a)
 first_model alternatives a e =
-    ap (option_map model) (slice_get-map alternative_listed alternatives 0 ∙ ap (option_map alternative_listed) (sym e))
+    ap (λ o. option_and_then model o) (slice_get-map alternative_listed alternatives 0 ∙ ap (option_map alternative_listed) (sym e))
+
+-- no model, no sample
+pub unmodelled : (row : FurtherRow) (a : Listed.Alternative) → Some a ≡ slice_get row.signature.now 0 → model (alternative_listed a) ≡ None
+    → further_sample (row_listed row) ≡ None
+unmodelled row a first none = ap (option_map (joined_sample (parent_sample row.parent))) (first_model row.signature.now a first ∙ none)
 
 -- each part is written over a place that is there
 length-put : (place : ℕ) (t b : List ℕ) → place + length t ≤ length b → length (put place t b) ≡ length b
@@ -95,14 +96,22 @@ length-parts n [] b e h = e
 length-parts n (part ∷ parts) b e h =
     length-parts n parts (with_part part b) (length-part n part b e (both_left (is_inside n part) _ h)) (both_right (is_inside n part) _ h)
 
-room_for : (front n : ℕ) (alternatives : List Listed.Alternative) (a : Listed.Alternative) → Some a ≡ slice_get alternatives 0
-    → IsTrue (option_map_or (has_room_after front) (signature_model (signature_listed alternatives)) true) → n ≡ max front (least_of (model_of a))
-    → (n ≤ SAMPLE_SIZE) × IsTrue (list_all (is_inside n) (parts_of (model_of a)))
-room_for front n alternatives a e h m =
-    let room : IsTrue (has_room_after front (model_of a)) = subst (λ o. IsTrue (option_map_or (has_room_after front) o true)) (first_model alternatives a e) h in
-    let most = max front (least_of (model_of a)) in
-    subst (λ k. (k ≤ SAMPLE_SIZE) × IsTrue (list_all (is_inside k) (parts_of (model_of a)))) (sym m)
-    (leb-true _ _ (both_left (nat_le most SAMPLE_SIZE) _ room), both_right (nat_le most SAMPLE_SIZE) _ room)
+abbrev Fixed : Type 0
+Fixed = fixed.Alternative
+
+module _ (row : FurtherRow) (a : Listed.Alternative) (m : Fixed) (first : Some a ≡ slice_get row.signature.now 0) (modelled : model (alternative_listed a) ≡ Some m)
+    (room : IsTrue (has_room (row_listed row))) where
+  pub room_for : IsTrue (has_room_after (length (parent_sample row.parent)) m)
+  room_for = subst (λ o. IsTrue (option_map_or (has_room_after (length (parent_sample row.parent))) o true)) (first_model row.signature.now a first ∙ modelled) room
+
+  pub least_fits : least_of m ≤ SAMPLE_SIZE
+  least_fits = let le = leb-true _ _ (both_left (nat_le (max (length (parent_sample row.parent)) (least_of m)) SAMPLE_SIZE) _ room_for) in omega arith
+
+-- whatever the model is
+pub least_within : (row : FurtherRow) (a : Listed.Alternative) (o : Option Fixed) → Some a ≡ slice_get row.signature.now 0 → model (alternative_listed a) ≡ o
+    → IsTrue (has_room (row_listed row)) → IfSome o (λ m. least_of m ≤ SAMPLE_SIZE)
+least_within row a None first is room = tt
+least_within row a (Some m) first is room = least_fits row a m first is room
 
 -- the sample's zeros are the first of those that were written
 front_zeros : (p : List ℕ) (n least : ℕ) → n ≡ max (length p) least → n ≤ SAMPLE_SIZE → take n (p ++ zeros (SAMPLE_SIZE - length p)) ≡ p ++ zeros (least - length p)
@@ -117,33 +126,59 @@ rest_zeros p n low le =
     ap (λ k. drop k (p ++ zeros (SAMPLE_SIZE - length p))) parted ∙ drop-append-add p (zeros (SAMPLE_SIZE - length p)) (n - length p)
     ∙ drop-replicate (n - length p) (SAMPLE_SIZE - length p) 0 ∙ ap zeros left
 
-module _ (row : FurtherRow) (a : Listed.Alternative) (n : ℕ) (out new : List ℕ) (first : Some a ≡ slice_get row.signature.now 0)
-    (room : IsTrue (has_room (row_listed row))) (many : n ≡ max (length (parent_sample row.parent)) (least_of (model_of a)))
-    (fronted : out ≡ parent_sample row.parent ++ zeros (SAMPLE_SIZE - length (parent_sample row.parent)))
-    (done : new ≡ with_parts (parts_of (model_of a)) (take n out)) where
+module _ (row : FurtherRow) (a : Listed.Alternative) (m : Fixed) (n : ℕ) (out new : List ℕ) (first : Some a ≡ slice_get row.signature.now 0)
+    (modelled : model (alternative_listed a) ≡ Some m)
+    (room : IsTrue (has_room (row_listed row))) (many : n ≡ max (length (parent_sample row.parent)) (least_of m))
+    (fronted : out ≡ parent_sample row.parent ++ zeros (SAMPLE_SIZE - length (parent_sample row.parent))) where
   abbrev p : List ℕ
   p = parent_sample row.parent
 
-  pub roomy : (n ≤ SAMPLE_SIZE) × IsTrue (list_all (is_inside n) (parts_of (model_of a)))
-  roomy = room_for (length p) n row.signature.now a first room many
+  pub roomy : (n ≤ SAMPLE_SIZE) × IsTrue (list_all (is_inside n) (parts_of m))
+  roomy =
+      let most = max (length p) (least_of m) in
+      let h = room_for row a m first modelled room in
+      subst (λ k. (k ≤ SAMPLE_SIZE) × IsTrue (list_all (is_inside k) (parts_of m))) (sym many)
+      (leb-true _ _ (both_left (nat_le most SAMPLE_SIZE) _ h), both_right (nat_le most SAMPLE_SIZE) _ h)
 
-  sample_done : further_sample (row_listed row) ≡ Some new
-  sample_done =
-      ap (option_map (joined_sample p)) (first_model row.signature.now a first)
-      ∙ ap Some (ap (with_parts (parts_of (model_of a))) (sym (ap (take n) fronted ∙ front_zeros p n (least_of (model_of a)) many roomy.0)) ∙ sym done)
+  module _ (done : new ≡ with_parts (parts_of m) (take n out)) where
+    sample_done : further_sample (row_listed row) ≡ Some new
+    sample_done =
+        ap (option_map (joined_sample p)) (first_model row.signature.now a first ∙ modelled)
+        ∙ ap Some (ap (with_parts (parts_of m)) (sym (ap (take n) fronted ∙ front_zeros p n (least_of m) many roomy.0)) ∙ sym done)
 
-  long : length new ≡ n
-  long =
-      let here : length (take n out) ≡ n = length-take-le n out (omega (arith, roomy.0, ap length fronted, length-append p (zeros (SAMPLE_SIZE - length p)), length-replicate {A = ℕ} (SAMPLE_SIZE - length p) 0)) in
-      ap length done ∙ length-parts n (parts_of (model_of a)) (take n out) here roomy.1
+    long : length new ≡ n
+    long =
+        let here : length (take n out) ≡ n = length-take-le n out (omega (arith, roomy.0, ap length fronted, length-append p (zeros (SAMPLE_SIZE - length p)), length-replicate {A = ℕ} (SAMPLE_SIZE - length p) 0)) in
+        ap length done ∙ length-parts n (parts_of m) (take n out) here roomy.1
 
-  pub counted_further : Some n ≡ option_map length (further_sample (row_listed row))
-  counted_further = ap Some (sym long) ∙ sym (ap (option_map length) sample_done)
+    pub counted_further : Some n ≡ option_map length (further_sample (row_listed row))
+    counted_further = ap Some (sym long) ∙ sym (ap (option_map length) sample_done)
 
-  pub written_further : (old : List ℕ) → new ++ drop n out ≡ written (further_sample (row_listed row)) old
-  written_further old =
-      ap (λ l. new ++ l) (ap (drop n) fronted ∙ rest_zeros p n (omega arith) roomy.0 ∙ ap (λ k. zeros (SAMPLE_SIZE - k)) (sym long))
-      ∙ ap (λ o. written o old) (sym sample_done)
+    pub written_further : (old : List ℕ) → new ++ drop n out ≡ written (further_sample (row_listed row)) old
+    written_further old =
+        ap (λ l. new ++ l) (ap (drop n) fronted ∙ rest_zeros p n (omega arith) roomy.0 ∙ ap (λ k. zeros (SAMPLE_SIZE - k)) (sym long))
+        ∙ ap (λ o. written o old) (sym sample_done)
+
+-- whatever the model is
+module _ (row : FurtherRow) (a : Listed.Alternative) (least n : ℕ) (out : List ℕ) (first : Some a ≡ slice_get row.signature.now 0)
+    (room : IsTrue (has_room (row_listed row))) (many : n ≡ max (length (parent_sample row.parent)) least)
+    (fronted : out ≡ parent_sample row.parent ++ zeros (SAMPLE_SIZE - length (parent_sample row.parent))) where
+  counts : (m : Fixed) → Some least ≡ Some (least_of m) → n ≡ max (length (parent_sample row.parent)) (least_of m)
+  counts m e = let same : least ≡ least_of m = cc in many ∙ ap (max (length (parent_sample row.parent))) same
+
+  pub model_roomy : (o : Option Fixed) → model (alternative_listed a) ≡ o → Some least ≡ option_map least_of o
+      → (n ≤ SAMPLE_SIZE) × IfSome o (λ m. IsTrue (list_all (is_inside n) (parts_of m)))
+  model_roomy None is e = absurd (cc)
+  model_roomy (Some m) is e = roomy row a m n out [] first is room (counts m e) fronted
+
+  pub model_written : (o : Option Fixed) (new : List ℕ) → model (alternative_listed a) ≡ o → Some least ≡ option_map least_of o
+      → IfSome o (λ m. new ≡ with_parts (parts_of m) (take n out))
+      → (Some n ≡ option_map length (further_sample (row_listed row))) × ((old : List ℕ) → new ++ drop n out ≡ written (further_sample (row_listed row)) old)
+  model_written None new is e h = absurd (cc)
+  model_written (Some m) new is e h = (
+    counted_further row a m n out new first is room (counts m e) fronted h,
+    written_further row a m n out new first is room (counts m e) fronted h,
+  )
 
 -- what holds of a sample holds of what is written
 pub holds_written : (P : List ℕ → Type 0) (o : Option (List ℕ)) (result : Option ℕ) (old new : List ℕ) → IfSome o P
@@ -159,87 +194,27 @@ row_answered all i r e = subst (Reaches i) (get_or_from_slice_get further i r r 
 
 -- ---- which rows have none
 
-pub accepts_at : (b : List ℕ) (i : ℕ) → IsFirst (Accepts b) built_in.table i → RowHas (Accepts b) i
-accepts_at b i h = (read_has (Accepts b) built_in.table i).1 (h.within, h.here)
+module _ (i : ℕ) where
+  abbrev HasNone : Type 0
+  HasNone = (i ≡ DLL) ⊎ (i ≡ EPUB_ARCHIVE) ⊎ ((ROW_COUNT ≤ i) × (option_and_then further_sample (slice_get further (i - ROW_COUNT)) ≡ None))
 
--- what a further row's number as the wider answer says
-pub wider_parts : (b : List ℕ) (i : ℕ) → IsWider b (Some (ROW_COUNT + i)) → (p : Option ℕ) × IsFirstOf (Accepts b) built_in.table p × IsFirst (Widens p b) further i
-wider_parts b i w = parts w.parent w.found w.answers w.widens w.is
-  where
-    parts : (parent found : Option ℕ) → IsFirstOf (Accepts b) built_in.table parent → IsFirstOf (Widens parent b) further found
-        → Some (ROW_COUNT + i) ≡ wider parent found → (p : Option ℕ) × IsFirstOf (Accepts b) built_in.table p × IsFirst (Widens p b) further i
-    parts None None answers widens e = absurd (cc)
-    parts (Some j) None answers widens e =
-        let same : ROW_COUNT + i ≡ j = cc in
-        let within : j < length built_in.table = answers.within in
-        let many = length-table in
-        absurd (omega arith)
-    parts parent (Some j) answers widens e =
-        let sums : ROW_COUNT + i ≡ ROW_COUNT + j = cc in
-        let same : j ≡ i = omega arith in
-        (parent, answers, subst (IsFirst (Widens parent b) further) same widens)
-
-pub wider_accepts : (b : List ℕ) (i : ℕ) → IsWider b (Some (ROW_COUNT + i)) → MatchOption (slice_get further i) ⊥ (λ r. Accepted r.signature b)
-wider_accepts b i w =
-    let h = wider_parts b i w in
-    (read_has (λ (r : Further). Accepted r.signature b) further i).1 (h.2.within, λ d. (h.2.here d).1)
-
--- no sample: the row is not there, or accepts nothing
-pub nothing_accepted : (b : List ℕ) (o : Option Further) → is_some (option_map length (option_and_then further_sample o)) ≡ false
-    → ¬ MatchOption o ⊥ (λ r. Accepted r.signature b)
-nothing_accepted b None e h = h
-nothing_accepted b (Some r) e h = none r.signature e h
-  where
-    none : (signature : List Signature.Alternative) → is_some (option_map length (option_map (joined_sample (parent_sample r.parent)) (signature_model signature))) ≡ false → ¬ Accepted signature b
-    none [] e h = h
-    none (a ∷ others) e h = absurd (cc)
-
--- a test that fails leaves the second
-second_of : (t : Bool) (X Y : Type 0) → (t ≡ true → ⊥) → MatchBool t X Y ↔ Y
-second_of true X Y fails = absurd (fails refl)
-second_of false X Y fails = (λ h. h, λ h. h)
-
--- the row is one of the two that are first for no buffer, or accepts none
-abbrev HasNone : ℕ → Type 0
-HasNone i = (i ≡ DLL) ⊎ (i ≡ EPUB_ARCHIVE) ⊎ ((b : List ℕ) → ¬ AcceptsAt b i)
-
-module _ (i : ℕ) (result : Option ℕ) (new : List ℕ) where
-  unanswered : (o : Option ℕ) → IfSome o (λ n. AcceptsAt (take n new) i) → ((b : List ℕ) → ¬ AcceptsAt b i) → is_some o ≡ false
-  unanswered None h never = refl
-  unanswered (Some n) h never = absurd (never (take n new) h)
-
-  pub none_below : i < ROW_COUNT → is_some result ≡ false ↔ ((i ≡ DLL) ⊎ (i ≡ EPUB_ARCHIVE) ⊎ (ROW_COUNT ≤ i))
-      → IfSome result (λ n. IsFirst (Accepts (take n new)) built_in.table i) → is_some result ≡ false ↔ HasNone i
-  none_below lt none first = (
+  pub none_below : (result : Option ℕ) → i < ROW_COUNT → is_some result ≡ false ↔ ((i ≡ DLL) ⊎ (i ≡ EPUB_ARCHIVE) ⊎ (ROW_COUNT ≤ i)) → is_some result ≡ false ↔ HasNone
+  none_below result lt none = (
     λ e. elim (none.0 e) [ inl d ↦ inl d | inr (inl p) ↦ inr (inl p) | inr (inr le) ↦ absurd (omega arith) ],
-    λ h. elim h [
-      | inl d ↦ none.1 (inl d)
-      | inr (inl p) ↦ none.1 (inr (inl p))
-      | inr (inr never) ↦ unanswered result (accepted result first) never
-    ],
+    λ h. elim h [ inl d ↦ none.1 (inl d) | inr (inl p) ↦ none.1 (inr (inl p)) | inr (inr (le, e)) ↦ absurd (omega arith) ],
   )
-    where
-      accepted : (o : Option ℕ) → IfSome o (λ n. IsFirst (Accepts (take n new)) built_in.table i) → IfSome o (λ n. AcceptsAt (take n new) i)
-      accepted None h = tt
-      accepted (Some n) h =
-          let b = take n new in
-          subst (λ t. MatchBool t (RowHas (Accepts b) i) (MatchOption (slice_get further (i - ROW_COUNT)) ⊥ (λ r. Accepted r.signature b)))
-          (sym (lt-ltb i ROW_COUNT lt)) (accepts_at b i h)
 
-  pub none_above : ROW_COUNT ≤ i → result ≡ option_map length (option_and_then further_sample (slice_get further (i - ROW_COUNT)))
-      → IfSome result (λ n. IsWider (take n new) (Some (ROW_COUNT + (i - ROW_COUNT)))) → is_some result ≡ false ↔ HasNone i
-  none_above le counted answers = (
-    λ e. inr (inr (λ b h. nothing_accepted b (slice_get further (i - ROW_COUNT)) (ap is_some (sym counted) ∙ e) ((above b).0 h))),
+  none_of : (o : Option (List ℕ)) → is_some (option_map length o) ≡ false ↔ (o ≡ None)
+  none_of None = (λ e. refl, λ e. refl)
+  none_of (Some s) = (λ e. absurd (cc), λ e. absurd (cc))
+
+  pub none_above : (result : Option ℕ) → ROW_COUNT ≤ i → result ≡ option_map length (option_and_then further_sample (slice_get further (i - ROW_COUNT)))
+      → is_some result ≡ false ↔ HasNone
+  none_above result le counted = (
+    λ e. inr (inr (le, (none_of _).0 (ap is_some (sym counted) ∙ e))),
     λ h. elim h [
       | inl d ↦ absurd (omega arith)
       | inr (inl p) ↦ absurd (omega arith)
-      | inr (inr never) ↦ unanswered result (accepted result answers) never
+      | inr (inr (_, e)) ↦ ap is_some counted ∙ (none_of _).1 e
     ],
   )
-    where
-      above : (b : List ℕ) → AcceptsAt b i ↔ MatchOption (slice_get further (i - ROW_COUNT)) ⊥ (λ r. Accepted r.signature b)
-      above b = second_of (nat_lt i ROW_COUNT) _ _ (λ e. let lt : i < ROW_COUNT = ltb-true i ROW_COUNT e in absurd (omega arith))
-
-      accepted : (o : Option ℕ) → IfSome o (λ n. IsWider (take n new) (Some (ROW_COUNT + (i - ROW_COUNT)))) → IfSome o (λ n. AcceptsAt (take n new) i)
-      accepted None h = tt
-      accepted (Some n) h = (above (take n new)).1 (wider_accepts (take n new) (i - ROW_COUNT) h)

@@ -10,9 +10,9 @@ use Rattle.infer.specs.Row.{Accepts, shows}
 use Rattle.infer.specs.Table as built_in
 use Rattle.infer.specs.declared.table.rows.TheConstants.{ROW_COUNT}
 use Rattle.infer_more.specs.Index.{is_settled}
-use Rattle.infer_more.specs.Outline.{outline}
+use Rattle.infer_more.specs.Outline.{lines, outline}
 use Rattle.infer_more.specs.Row.{Further}
-use Rattle.infer_more.specs.Signature.{Accepted, Alternative, Fits, plain_text}
+use Rattle.infer_more.specs.Signature.{Accepted, Alternative, Fits, plain_text, root, root_with}
 use Rattle.infer_more.specs.Table.{further}
 use Rattle.infer_more.specs.Wider.{IsWider, Widens, parent_at, shown}
 
@@ -64,9 +64,15 @@ is_dark_part (byte p set) = is_settled (λ x. not (is_white x)) p (byte p set)
 abbrev pub is_dark_alternative : fixed.Alternative → Bool
 is_dark_alternative (at_least n parts) = list_any is_dark_part parts
 
--- the signature is one of plain text, or its outline does not
+-- it has a byte that is no white space, since it asks for one, or as the root of markup
+abbrev pub is_dark_relation : Alternative → Bool
+is_dark_relation (root name) = true
+is_dark_relation (root_with name t) = true
+is_dark_relation a = list_all is_dark_alternative (lines a)
+
+-- the signature is one of plain text, or each of its alternatives has
 abbrev pub is_dark : Further → Bool
-is_dark r = list_any is_plain r.signature || list_all is_dark_alternative (outline r.signature)
+is_dark r = list_any is_plain r.signature || list_all is_dark_relation r.signature
 
 -- and each asks for a byte or more
 abbrev pub is_some_alternative : fixed.Alternative → Bool

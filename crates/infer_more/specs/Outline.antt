@@ -5,7 +5,7 @@ use Rattle.infer_deep.specs.Office.{zip_header}
 use Rattle.infer_inside.specs.Dbase.{versions}
 use Rattle.infer_sig.specs.Signature as fixed
 use Rattle.infer_sig.specs.Signature.{at_least, text, byte, all_but, any_of, between}
-use Rattle.infer_more.specs.Signature.{Alternative, bytes, binary_bytes, shared_object, first_entry_is, first_entry_ends_in, first_entry_has_extra, package_with, class_id, directory_tag, animated, png_header, subrip, dbase, tar_checksum, plain_text}
+use Rattle.infer_more.specs.Signature.{Alternative, bytes, binary_bytes, shared_object, first_entry_is, first_entry_ends_in, first_entry_has_extra, package_with, class_id, directory_tag, animated, png_header, subrip, dbase, tar_checksum, plain_text, program, root, root_with}
 
 -- a ZIP archive whose first entry has a name that begins with the text
 abbrev pub named : List ℕ → fixed.Alternative
@@ -29,6 +29,11 @@ abbrev pub digits_behind : ℕ → ℕ → List fixed.Alternative
 digits_behind n zero = []
 digits_behind n (suc m) = digit_behind n ∷ digits_behind (suc n) m
 
+-- a byte order mark, white space or "<" first
+abbrev pub markup_lines : List fixed.Alternative
+markup_lines =
+    at_least 1 (byte 0 (any_of (0x09 ∷ 0x0A ∷ 0x0D ∷ 0x20 ∷ 0x3C ∷ [])) ∷ []) ∷ at_least 3 (text 0 (0xEF ∷ 0xBB ∷ 0xBF ∷ []) ∷ []) ∷ []
+
 -- for each alternative, bytes of which such a buffer has one list
 abbrev pub lines : Alternative → List fixed.Alternative
 lines (bytes a) = a ∷ []
@@ -44,6 +49,9 @@ lines animated = at_least 4 (text 0 png_header ∷ []) ∷ []
 lines subrip = at_least 1 (byte 0 (between 0x30 0x39) ∷ []) ∷ at_least 3 (text 0 (0xEF ∷ 0xBB ∷ 0xBF ∷ []) ∷ []) ∷ []
 lines dbase = at_least 14 (byte 0 (any_of versions) ∷ text 12 (0x00 ∷ 0x00 ∷ []) ∷ []) ∷ []
 lines tar_checksum = digits_behind 0 8
+lines (program names) = at_least 2 (text 0 (codes "#!") ∷ []) ∷ []
+lines (root name) = markup_lines
+lines (root_with name t) = markup_lines
 lines plain_text = at_least 1 (byte 0 (between 0x09 0xFF) ∷ []) ∷ []
 
 -- those of all alternatives of a signature

@@ -12,7 +12,7 @@ use Rattle.infer.specs.Samples.{sample_of, with_parts, zeros}
 use Rattle.infer.specs.Table as built_in
 use Rattle.infer.specs.declared.table.rows.TheConstants.{DLL, EPUB_ARCHIVE, ROW_COUNT}
 use Rattle.infer_more.specs.Row.{Further, is_inside}
-use Rattle.infer_more.specs.Signature.{Alternative, animated, binary_bytes, bytes, class_id, dbase, directory_tag, first_entry_ends_in, first_entry_has_extra, first_entry_is, package_with, plain_text, png_header, shared_object, subrip, tar_checksum}
+use Rattle.infer_more.specs.Signature.{Alternative, animated, binary_bytes, bytes, class_id, dbase, directory_tag, first_entry_ends_in, first_entry_has_extra, first_entry_is, package_with, plain_text, png_header, shared_object, subrip, tar_checksum, program, root, root_with}
 use Rattle.infer_more.specs.Table.{further}
 use Rattle.infer_more.specs.Wider.{IsWider}
 use Rattle.infer_more.specs.declared.samples.TheConstants.{SAMPLE_SIZE}
@@ -30,26 +30,30 @@ parent_sample (Some parent) = unwrap_or (built_in_sample parent) []
 abbrev pub model_entry : ℕ → List ℕ → fixed.Alternative
 model_entry place t = at_least (30 + length t) (text 0 zip_header ∷ text place (length t % 256 ∷ []) ∷ text 30 t ∷ [])
 
--- a short buffer that fits the alternative, as bytes at fixed places with zeros between them
-abbrev pub model : Alternative → fixed.Alternative
-model (bytes a) = a
-model (binary_bytes a) = a
-model shared_object = at_least 46 (text 4 (0x01 ∷ 0x01 ∷ []) ∷ text 16 (0x03 ∷ []) ∷ text 42 (0x20 ∷ 0x00 ∷ 0x01 ∷ []) ∷ [])
-model (first_entry_is name) = model_entry 26 name
-model (first_entry_ends_in name) = model_entry 26 name
-model (first_entry_has_extra extra) = model_entry 28 extra
+-- a short buffer that fits the alternative, as bytes at fixed places with zeros between them; none yet for the name of a
+-- program or of a root
+abbrev pub model : Alternative → Option fixed.Alternative
+model (bytes a) = Some a
+model (binary_bytes a) = Some a
+model shared_object = Some (at_least 46 (text 4 (0x01 ∷ 0x01 ∷ []) ∷ text 16 (0x03 ∷ []) ∷ text 42 (0x20 ∷ 0x00 ∷ 0x01 ∷ []) ∷ []))
+model (first_entry_is name) = Some (model_entry 26 name)
+model (first_entry_ends_in name) = Some (model_entry 26 name)
+model (first_entry_has_extra extra) = Some (model_entry 28 extra)
 model (package_with folder) =
-    at_least (36 + length folder) (text 0 zip_header ∷ text 6 zip_header ∷ text 30 (codes "_rels/") ∷ text 36 folder ∷ [])
+    Some (at_least (36 + length folder) (text 0 zip_header ∷ text 6 zip_header ∷ text 30 (codes "_rels/") ∷ text 36 folder ∷ []))
 model (class_id id) =
-    at_least 640 (text 0 compound_header ∷ text 26 (0x03 ∷ 0x00 ∷ 0xFE ∷ 0xFF ∷ 0x09 ∷ []) ∷ text 578 (0x05 ∷ []) ∷ text 592 id ∷ [])
+    Some (at_least 640 (text 0 compound_header ∷ text 26 (0x03 ∷ 0x00 ∷ 0xFE ∷ 0xFF ∷ 0x09 ∷ []) ∷ text 578 (0x05 ∷ []) ∷ text 592 id ∷ []))
 model (directory_tag tag) =
-    at_least 20 (text 0 (0x4D ∷ 0x4D ∷ 0x00 ∷ 0x2A ∷ 0x00 ∷ 0x00 ∷ 0x00 ∷ 0x06 ∷ []) ∷ text 8 (tag / 256 ∷ tag % 256 ∷ []) ∷ [])
-model animated = at_least 16 (text 0 png_header ∷ text 12 (codes "acTL") ∷ [])
-model subrip = at_least 31 (text 0 (codes "0\n00:00:00,000 --> 00:00:00,000") ∷ [])
+    Some (at_least 20 (text 0 (0x4D ∷ 0x4D ∷ 0x00 ∷ 0x2A ∷ 0x00 ∷ 0x00 ∷ 0x00 ∷ 0x06 ∷ []) ∷ text 8 (tag / 256 ∷ tag % 256 ∷ []) ∷ []))
+model animated = Some (at_least 16 (text 0 png_header ∷ text 12 (codes "acTL") ∷ []))
+model subrip = Some (at_least 31 (text 0 (codes "0\n00:00:00,000 --> 00:00:00,000") ∷ []))
 model dbase =
-    at_least 65 (text 0 (0x02 ∷ 0x00 ∷ 0x01 ∷ 0x01 ∷ []) ∷ text 8 (0x41 ∷ 0x00 ∷ 0x02 ∷ []) ∷ text 32 (codes "A") ∷ text 43 (codes "+") ∷ text 64 (0x0D ∷ []) ∷ [])
-model tar_checksum = at_least 512 (text 0 (0x01 ∷ []) ∷ text 148 (codes "401") ∷ [])
-model plain_text = at_least 1 (text 0 (codes " ") ∷ [])
+    Some (at_least 65 (text 0 (0x02 ∷ 0x00 ∷ 0x01 ∷ 0x01 ∷ []) ∷ text 8 (0x41 ∷ 0x00 ∷ 0x02 ∷ []) ∷ text 32 (codes "A") ∷ text 43 (codes "+") ∷ text 64 (0x0D ∷ []) ∷ []))
+model tar_checksum = Some (at_least 512 (text 0 (0x01 ∷ []) ∷ text 148 (codes "401") ∷ []))
+model plain_text = Some (at_least 1 (text 0 (codes " ") ∷ []))
+model (program names) = None
+model (root name) = None
+model (root_with name t) = None
 
 -- its least length and its parts
 abbrev pub least_of : fixed.Alternative → ℕ
@@ -60,7 +64,7 @@ parts_of (at_least least parts) = parts
 
 -- of a signature, that of its first alternative
 abbrev pub signature_model : List Alternative → Option fixed.Alternative
-signature_model signature = option_map model (slice_get signature 0)
+signature_model signature = option_and_then model (slice_get signature 0)
 
 -- the buffer with zeros after it up to the least length, and over these what the parts ask
 abbrev pub joined_sample : List ℕ → fixed.Alternative → List ℕ

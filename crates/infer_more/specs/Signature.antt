@@ -1,10 +1,12 @@
 -- Signatures of further rows: alternatives, each of which asks for fixed bytes or looks inside.
-use Rattle.std.specs.Prelude.{◌⊎◌, ℕ, IsTrue, List, [], ◌∷◌}
+use Rattle.std.specs.Prelude.{◌≡◌, ◌⊎◌, ℕ, IsTrue, List, [], ◌∷◌}
 use Rattle.infer_deep.specs.ClassId.{HasClassId}
 use Rattle.infer_deep.specs.Find.{OccursAt}
 use Rattle.infer_inside.specs.Dbase.{IsDbase}
 use Rattle.infer_inside.specs.Elf.{IsSharedObject}
+use Rattle.infer_inside.specs.Markup.{HasRoot, HasRootWith}
 use Rattle.infer_inside.specs.Png.{IsAnimated}
+use Rattle.infer_inside.specs.Script.{IsProgram}
 use Rattle.infer_inside.specs.Subtitles.{IsSubRip}
 use Rattle.infer_inside.specs.Tar.{HasTarChecksum}
 use Rattle.infer_inside.specs.Text.{IsBinary, IsText}
@@ -32,11 +34,24 @@ pub data Alternative : Type 0 where
   subrip : Alternative
   dbase : Alternative
   tar_checksum : Alternative
+  program : List (List ℕ) → Alternative
+  root : List ℕ → Alternative
+  root_with : List ℕ → List ℕ → Alternative
   plain_text : Alternative
 
 -- bytes at fixed places, in a buffer of at least that length
 abbrev pub at_least : ℕ → List Part → Alternative
 at_least n parts = bytes (fixed.at_least n parts)
+
+-- the name is one of these
+abbrev pub IsAmong : List ℕ → List (List ℕ) → Type 0
+IsAmong name [] = ⊥
+IsAmong name (other ∷ names) = (name ≡ other) ⊎ IsAmong name names
+
+-- one of the names is that of the program
+abbrev pub IsProgramAmong : List (List ℕ) → List ℕ → Type 0
+IsProgramAmong [] b = ⊥
+IsProgramAmong (name ∷ names) b = IsProgram name b ⊎ IsProgramAmong names b
 
 -- the buffer has what the alternative asks
 abbrev pub Fits : Alternative → List ℕ → Type 0
@@ -53,6 +68,9 @@ Fits animated b = OccursAt b png_header 0 × IsAnimated b
 Fits subrip b = IsSubRip b
 Fits dbase b = IsDbase b
 Fits tar_checksum b = HasTarChecksum b
+Fits (program names) b = IsProgramAmong names b
+Fits (root name) b = HasRoot name b
+Fits (root_with name t) b = HasRootWith name t b
 Fits plain_text b = IsText b
 
 -- it fits one of the alternatives

@@ -7,7 +7,7 @@ use Rattle.infer.specs.declared.table.file_type.MatcherType.{MatcherType}
 use Rattle.infer.specs.declared.table.file_type.MatcherType.TheVariants.{App, Archive, Audio, Doc, Font, Image, Text, Video}
 use Rattle.infer.specs.declared.table.rows.TheConstants.{DER, ELF, HEIF, HTML, JPEG2000, MSI, ODP, ODS, ODT, OGG, PEM, PNG, PS, SHELLSCRIPT, SQLITE, TIFF, XML, ZIP}
 use Rattle.infer_more.specs.Row.{Further}
-use Rattle.infer_more.specs.Signature.{Alternative, animated, at_least, binary_bytes, class_id, dbase, directory_tag, first_entry_ends_in, first_entry_has_extra, first_entry_is, package_with, plain_text, shared_object, subrip, tar_checksum}
+use Rattle.infer_more.specs.Signature.{Alternative, animated, at_least, binary_bytes, class_id, dbase, directory_tag, first_entry_ends_in, first_entry_has_extra, first_entry_is, package_with, plain_text, shared_object, subrip, tar_checksum, program, root, root_with}
 
 abbrev pub row : MatcherType → List ℕ → List ℕ → Option ℕ → List Alternative → Further
 row class mime_type extension parent signature = record { shows = triple class mime_type extension; parent = parent; signature = signature }
@@ -62,23 +62,23 @@ headers =
 -- programs that name their interpreter, and kinds of XML and HTML
 unfoldable pub markup : List Further
 markup =
-    row Text (codes "text/x-python") (codes "py") (Some SHELLSCRIPT) []
-    ∷ row Text (codes "text/x-perl") (codes "pl") (Some SHELLSCRIPT) []
-    ∷ row Text (codes "text/x-ruby") (codes "rb") (Some SHELLSCRIPT) []
-    ∷ row Text (codes "text/javascript") (codes "js") (Some SHELLSCRIPT) []
-    ∷ row Text (codes "text/x-php") (codes "php") (Some SHELLSCRIPT) []
-    ∷ row Text (codes "text/x-lua") (codes "lua") (Some SHELLSCRIPT) []
-    ∷ row Text (codes "text/x-awk") (codes "awk") (Some SHELLSCRIPT) []
-    ∷ row Text (codes "text/x-tcl") (codes "tcl") (Some SHELLSCRIPT) []
-    ∷ row Image (codes "image/svg+xml") (codes "svg") (Some XML) []
-    ∷ row Text (codes "application/rss+xml") (codes "rss") (Some XML) []
-    ∷ row Text (codes "application/atom+xml") (codes "atom") (Some XML) []
-    ∷ row Text (codes "application/vnd.google-earth.kml+xml") (codes "kml") (Some XML) []
-    ∷ row Text (codes "application/gpx+xml") (codes "gpx") (Some XML) []
-    ∷ row Text (codes "application/xhtml+xml") (codes "xhtml") (Some XML) []
-    ∷ row Text (codes "application/x-plist") (codes "plist") (Some XML) []
-    ∷ row Image (codes "image/svg+xml") (codes "svg") (Some HTML) []
-    ∷ row Image (codes "image/svg+xml") (codes "svg") None []
+    row Text (codes "text/x-python") (codes "py") (Some SHELLSCRIPT) (program (codes "python" ∷ codes "pypy" ∷ []) ∷ [])
+    ∷ row Text (codes "text/x-perl") (codes "pl") (Some SHELLSCRIPT) (program (codes "perl" ∷ []) ∷ [])
+    ∷ row Text (codes "text/x-ruby") (codes "rb") (Some SHELLSCRIPT) (program (codes "ruby" ∷ codes "jruby" ∷ []) ∷ [])
+    ∷ row Text (codes "text/javascript") (codes "js") (Some SHELLSCRIPT) (program (codes "node" ∷ codes "nodejs" ∷ codes "bun" ∷ codes "deno" ∷ []) ∷ [])
+    ∷ row Text (codes "text/x-php") (codes "php") (Some SHELLSCRIPT) (program (codes "php" ∷ []) ∷ [])
+    ∷ row Text (codes "text/x-lua") (codes "lua") (Some SHELLSCRIPT) (program (codes "lua" ∷ codes "luajit" ∷ []) ∷ [])
+    ∷ row Text (codes "text/x-awk") (codes "awk") (Some SHELLSCRIPT) (program (codes "awk" ∷ codes "gawk" ∷ codes "mawk" ∷ codes "nawk" ∷ []) ∷ [])
+    ∷ row Text (codes "text/x-tcl") (codes "tcl") (Some SHELLSCRIPT) (program (codes "tclsh" ∷ codes "wish" ∷ codes "expect" ∷ []) ∷ [])
+    ∷ row Image (codes "image/svg+xml") (codes "svg") (Some XML) (root (codes "svg") ∷ [])
+    ∷ row Text (codes "application/rss+xml") (codes "rss") (Some XML) (root (codes "rss") ∷ root_with (codes "RDF") (codes "http://purl.org/rss/1.0/") ∷ [])
+    ∷ row Text (codes "application/atom+xml") (codes "atom") (Some XML) (root_with (codes "feed") (codes "http://www.w3.org/2005/Atom") ∷ [])
+    ∷ row Text (codes "application/vnd.google-earth.kml+xml") (codes "kml") (Some XML) (root (codes "kml") ∷ [])
+    ∷ row Text (codes "application/gpx+xml") (codes "gpx") (Some XML) (root (codes "gpx") ∷ [])
+    ∷ row Text (codes "application/xhtml+xml") (codes "xhtml") (Some XML) (root_with (codes "html") (codes "http://www.w3.org/1999/xhtml") ∷ [])
+    ∷ row Text (codes "application/x-plist") (codes "plist") (Some XML) (root (codes "plist") ∷ [])
+    ∷ row Image (codes "image/svg+xml") (codes "svg") (Some HTML) (root (codes "svg") ∷ [])
+    ∷ row Image (codes "image/svg+xml") (codes "svg") None (root (codes "svg") ∷ [])
     ∷ []
 
 -- bytecode, translations, time zones, keys and disks

@@ -136,5 +136,6 @@ pub(crate) fn asked(index: &RowIndex)
     ensures { AllAreAsked index.now }
 {
     let _ = index;
+    infer_inside::laws::leads();
     infer_sig::laws::by_place();
 }

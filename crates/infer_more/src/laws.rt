@@ -33,6 +33,7 @@ pub fn index()
 pub fn blank()
     ensures { NoneIsBlank }
 {
+    infer_inside::laws::leads();
     infer_sig::laws::by_place();
 }
 
@@ -49,6 +50,7 @@ pub fn reach()
     infer::laws::leads();
     infer_sig::laws::by_place();
     infer_deep::laws::apart();
+    infer_inside::laws::leads();
 }
 
 /// Every sample of a further row has room for what it holds.

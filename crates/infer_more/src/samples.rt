@@ -70,7 +70,7 @@ fn put_entry(place: usize, text: &[u8], out: &mut [u8])
 fn put_class_id(id: &[u8], out: &mut [u8])
     requires room { 592 + length id.now ≤ length out.old }
     requires whole { 592 ≤ length out.old }
-    ensures { out.new ≡ with_parts (parts_of (model (class_id id.now))) out.old }
+    ensures { IfSome (model (class_id id.now)) (λ m. out.new ≡ with_parts (parts_of m) out.old) }
 {
     put(0, b"\xD0\xCF\x11\xE0\xA1\xB1\x1A\xE1", out);
     put(26, b"\x03\0\xFE\xFF\x09", out);
@@ -80,8 +80,8 @@ fn put_class_id(id: &[u8], out: &mut [u8])
 
 /// Writes a sample of the alternative over what is there.
 fn put_model(alternative: &Alternative, out: &mut [u8])
-    requires { IsTrue (list_all (is_inside (length out.old)) (parts_of (model (alternative_listed alternative.now)))) }
-    ensures { out.new ≡ with_parts (parts_of (model (alternative_listed alternative.now))) out.old }
+    requires { IfSome (model (alternative_listed alternative.now)) (λ m. IsTrue (list_all (is_inside (length out.old)) (parts_of m))) }
+    ensures { IfSome (model (alternative_listed alternative.now)) (λ m. out.new ≡ with_parts (parts_of m) out.old) }
 {
     match alternative {
         Alternative::Bytes(bytes) => put_pieces(bytes.pieces, out),
@@ -120,16 +120,19 @@ fn put_model(alternative: &Alternative, out: &mut [u8])
             out,
         ),
         Alternative::TarChecksum => put_pieces(&[At(0, b"\x01"), At(148, b"401")], out),
+        Alternative::Program(_) => {}
+        Alternative::Root(_) => {}
+        Alternative::RootWith(_, _) => {}
         Alternative::PlainText => put(0, b" ", out),
     }
 }
 
-/// The length of that sample.
-fn model_length(alternative: &Alternative) -> usize
-    requires { least_of (model (alternative_listed alternative.now)) ≤ SAMPLE_SIZE }
-    ensures { result ≡ least_of (model (alternative_listed alternative.now)) }
+/// The length of that sample, if there is one.
+fn model_length(alternative: &Alternative) -> Option<usize>
+    requires { IfSome (model (alternative_listed alternative.now)) (λ m. least_of m ≤ SAMPLE_SIZE) }
+    ensures { result ≡ option_map least_of (model (alternative_listed alternative.now)) }
 {
-    match alternative {
+    let length = match alternative {
         Alternative::Bytes(bytes) => bytes.least,
         Alternative::BinaryBytes(bytes) => bytes.least,
         Alternative::SharedObject => 46,
@@ -143,8 +146,12 @@ fn model_length(alternative: &Alternative) -> usize
         Alternative::SubRip => 31,
         Alternative::Dbase => 65,
         Alternative::TarChecksum => 512,
+        Alternative::Program(_) => return None,
+        Alternative::Root(_) => return None,
+        Alternative::RootWith(_, _) => return None,
         Alternative::PlainText => 1,
-    }
+    };
+    Some(length)
 }
 
 /// Writes the sample of built-in row `i`.
@@ -183,7 +190,8 @@ fn of_row(row: &FurtherRow, out: &mut [u8; SAMPLE_SIZE]) -> Option<usize>
     ensures fits { IfSome result (λ n. n ≤ SAMPLE_SIZE) }
 {
     let alternative = row.signature.first()?;
-    let n = parent(row.parent, out).max(model_length(alternative));
+    let least = model_length(alternative)?;
+    let n = parent(row.parent, out).max(least);
     put_model(alternative, &mut out[..n]);
     Some(n)
 }
@@ -203,10 +211,10 @@ fn further(i: usize, out: &mut [u8; SAMPLE_SIZE]) -> Option<usize>
 /// Writes the sample of row `i`, built-in or further, to the front of `out`, and zeros after it, and gives its length.
 ///
 /// A built-in row is the first that accepts its sample, and a further row is the wider answer of its own. Rows [`DLL`]
-/// and [`EPUB_ARCHIVE`], and the rows that accept nothing, have none: for these, and where there is no row, the answer is
-/// `None`, and `out` stays as it was.
+/// and [`EPUB_ARCHIVE`], and the rows that the program of a script, a root element or JSON tells, have none: for these, and
+/// where there is no row, the answer is `None`, and `out` stays as it was.
 pub fn sample(i: usize, out: &mut [u8; SAMPLE_SIZE]) -> Option<usize>
-    ensures none { IsNone result ↔ ((i ≡ DLL) ⊎ (i ≡ EPUB_ARCHIVE) ⊎ ((b : List ℕ) → ¬ AcceptsAt b i)) }
+    ensures none { IsNone result ↔ ((i ≡ DLL) ⊎ (i ≡ EPUB_ARCHIVE) ⊎ ((ROW_COUNT ≤ i) × (option_and_then further_sample (slice_get further (i - ROW_COUNT)) ≡ None))) }
     ensures counted { result ≡ option_map length (sample_at i) }
     ensures written { out.new ≡ written (sample_at i) out.old }
     ensures fits { IfSome result (λ n. n ≤ SAMPLE_SIZE) }

@@ -4,13 +4,15 @@ ghost use Rattle.std.specs.List.{list_all};
 ghost use Rattle.infer_sig.specs.Signature.{allows, any_of, between, fits, has_part};
 ghost use Rattle.infer_more.specs.Listed.{alternative_listed, bytes_listed, part_listed, signature_listed};
 ghost use Rattle.infer_more.specs.Row.{is_closed, is_closed_alternative, is_inside};
-ghost use Rattle.infer_more.specs.Signature.{Accepted, Fits};
+ghost use Rattle.infer_more.specs.Signature.{Accepted, Fits, IsAmong, IsProgramAmong};
 
 use infer_deep::doc::has_class_id;
 use infer_deep::places::{same_text, stands_at};
 use infer_inside::dbase::is_dbase;
 use infer_inside::elf::is_shared_object;
+use infer_inside::markup::{has_root, has_root_with};
 use infer_inside::png::is_animated;
+use infer_inside::script::program;
 use infer_inside::subtitles::is_subrip;
 use infer_inside::tar::has_tar_checksum;
 use infer_inside::text::{is_binary, is_text};
@@ -51,6 +53,9 @@ pub(crate) enum Alternative {
     SubRip,
     Dbase,
     TarChecksum,
+    Program(&'static [&'static [u8]]),
+    Root(&'static [u8]),
+    RootWith(&'static [u8], &'static [u8]),
     PlainText,
 }
 
@@ -101,8 +106,33 @@ fn fits_inside(alternative: &Alternative, buf: &[u8]) -> bool
         Alternative::SubRip => is_subrip(buf),
         Alternative::Dbase => is_dbase(buf),
         Alternative::TarChecksum => has_tar_checksum(buf),
+        Alternative::Program(names) => has_program(buf, names),
+        Alternative::Root(name) => has_root(buf, name),
+        Alternative::RootWith(name, text) => has_root_with(buf, name, text),
         Alternative::PlainText => is_text(buf),
     }
+}
+
+/// Whether one of the names is that of the program.
+fn has_program(buf: &[u8], names: &[&[u8]]) -> bool
+    ensures { IsTrue result ↔ IsProgramAmong (map (λ name. name.now) names.now) buf.now }
+{
+    match program(buf) {
+        Some(name) => is_listed(name, names),
+        None => false,
+    }
+}
+
+/// Whether the name is one of these.
+fn is_listed(name: &[u8], names: &[&[u8]]) -> bool
+    ensures { IsTrue result ↔ IsAmong name.now (map (λ other. other.now) names.now) }
+{
+    for other in names {
+        if name == *other {
+            return true;
+        }
+    }
+    false
 }
 
 /// Whether the buffer has the least length and every piece.

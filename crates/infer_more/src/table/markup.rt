@@ -3,29 +3,30 @@ ghost use Rattle.std.specs.Prelude.{◌≡◌, map};
 ghost use Rattle.infer_more.specs.Listed.{AreEnded, row_listed};
 ghost use Rattle.infer_more.specs.Table.{markup};
 
+use crate::signature::Alternative::{Program, Root, RootWith};
 use crate::signature::{Alternative, Bytes};
 use crate::table::{EndedTexts, FurtherRow};
 use infer::MatcherType;
 use infer::rows::{HTML, SHELLSCRIPT, XML};
 
 static ROWS: &[FurtherRow] = rows![
-    Text "text/x-python" "py": SHELLSCRIPT =>;
-    Text "text/x-perl" "pl": SHELLSCRIPT =>;
-    Text "text/x-ruby" "rb": SHELLSCRIPT =>;
-    Text "text/javascript" "js": SHELLSCRIPT =>;
-    Text "text/x-php" "php": SHELLSCRIPT =>;
-    Text "text/x-lua" "lua": SHELLSCRIPT =>;
-    Text "text/x-awk" "awk": SHELLSCRIPT =>;
-    Text "text/x-tcl" "tcl": SHELLSCRIPT =>;
-    Image "image/svg+xml" "svg": XML =>;
-    Text "application/rss+xml" "rss": XML =>;
-    Text "application/atom+xml" "atom": XML =>;
-    Text "application/vnd.google-earth.kml+xml" "kml": XML =>;
-    Text "application/gpx+xml" "gpx": XML =>;
-    Text "application/xhtml+xml" "xhtml": XML =>;
-    Text "application/x-plist" "plist": XML =>;
-    Image "image/svg+xml" "svg": HTML =>;
-    Image "image/svg+xml" "svg": =>;
+    Text "text/x-python" "py": SHELLSCRIPT => [Program(&[b"python", b"pypy"])];
+    Text "text/x-perl" "pl": SHELLSCRIPT => [Program(&[b"perl"])];
+    Text "text/x-ruby" "rb": SHELLSCRIPT => [Program(&[b"ruby", b"jruby"])];
+    Text "text/javascript" "js": SHELLSCRIPT => [Program(&[b"node", b"nodejs", b"bun", b"deno"])];
+    Text "text/x-php" "php": SHELLSCRIPT => [Program(&[b"php"])];
+    Text "text/x-lua" "lua": SHELLSCRIPT => [Program(&[b"lua", b"luajit"])];
+    Text "text/x-awk" "awk": SHELLSCRIPT => [Program(&[b"awk", b"gawk", b"mawk", b"nawk"])];
+    Text "text/x-tcl" "tcl": SHELLSCRIPT => [Program(&[b"tclsh", b"wish", b"expect"])];
+    Image "image/svg+xml" "svg": XML => [Root(b"svg")];
+    Text "application/rss+xml" "rss": XML => [Root(b"rss")] [RootWith(b"RDF", b"http://purl.org/rss/1.0/")];
+    Text "application/atom+xml" "atom": XML => [RootWith(b"feed", b"http://www.w3.org/2005/Atom")];
+    Text "application/vnd.google-earth.kml+xml" "kml": XML => [Root(b"kml")];
+    Text "application/gpx+xml" "gpx": XML => [Root(b"gpx")];
+    Text "application/xhtml+xml" "xhtml": XML => [RootWith(b"html", b"http://www.w3.org/1999/xhtml")];
+    Text "application/x-plist" "plist": XML => [Root(b"plist")];
+    Image "image/svg+xml" "svg": HTML => [Root(b"svg")];
+    Image "image/svg+xml" "svg": => [Root(b"svg")];
 ];
 
 #[inline(always)]

@@ -7,4 +7,4 @@ use Rattle.infer_more.proofs.laws.blank.Goals as goal
 
 pub returns : goal.returns
 unfolding further archives code headers images late markup media packages records
-returns c = none_is_blank c.by_place.ensures (all_pass is_dark 0 further refl) (all_pass is_filled 0 further refl)
+returns c = none_is_blank c.by_place.ensures c.leads.ensures (all_pass is_dark 0 further refl) (all_pass is_filled 0 further refl)
