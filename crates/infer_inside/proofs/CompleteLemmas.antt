@@ -1,13 +1,12 @@
 -- Whatever symbols are left, some bytes complete them.
 use Rattle.std.proofs.Common.{ℕ, zero, suc, ◌≤◌, inl, inr, List, [], ◌∷◌, ◌++◌, ◌-◌, ◌/◌, ◌%◌, refl, arith}
 use Rattle.infer_inside.specs.Json.{Symbol, range, blanks, value, items, more_items, members, member, more_members, chars, char, escape, hex, number, whole, fraction, exponent, power, digits, text, same_line, next_line, byte, digit, Stands, nothing, one, by_rule}
-use Rattle.infer_inside.specs.JsonStates.{first_in, frames, left, more_in, next_left, stack}
+use Rattle.infer_inside.specs.JsonStates.{first_in, frames, left, more_in, next_left}
 use Rattle.infer_inside.specs.declared.json.Token.{Token}
 use Rattle.infer_inside.specs.declared.json.Token.TheVariants.{Chars, Escape, Hex4, Hex3, Hex2, Hex1, Char1, Char2, Char3, CharE0, CharEd, CharF0, CharF4, T, Tr, Tru, F, Fa, Fal, Fals, N, Nu, Nul, Minus, Zero, Whole, Point, Fraction, Exponent, Sign, Power}
 use Rattle.infer_inside.specs.declared.json.Due.TheVariants.{First, Value, Key, Colon, After}
 use Rattle.infer_inside.specs.declared.json.Next.{Next}
-use Rattle.infer_inside.specs.declared.json.Next.TheVariants.{Between, InKey, InValue}
-use Rattle.infer_inside.specs.declared.json.Reader.{Reader}
+use Rattle.infer_inside.specs.declared.json.Next.TheVariants.{Closed, Between, InKey, InValue}
 use Rattle.infer_inside.proofs.JsonLemmas.{value_begins}
 
 abbrev pub Completes : List Symbol → Type 0
@@ -131,7 +130,8 @@ unfolding frames
 frames_hold zero k ss h = h
 frames_hold (suc d) k ss h = more_holds (k % 2) (128 - suc d) (frames d (k / 2) ss) (frames_hold d (k / 2) ss h)
 
-next_holds : (n : Next) (d k : ℕ) (ss : List Symbol) → AllHold ss → AllHold (next_left n d k ss)
+pub next_holds : (n : Next) (d k : ℕ) (ss : List Symbol) → AllHold ss → AllHold (next_left n d k ss)
+next_holds Closed d k ss h = frames_hold d k ss h
 next_holds (Between First) d k ss h = first_holds (k % 2) (128 - d) (frames (d - 1) (k / 2) ss) (frames_hold (d - 1) (k / 2) ss h)
 next_holds (Between Value) d k ss h = frames_hold d k ss h
 next_holds (Between Key) d k ss h = frames_hold d k ss h
@@ -139,6 +139,3 @@ next_holds (Between Colon) d k ss h = (omega arith, frames_hold d k ss h)
 next_holds (Between After) d k ss h = frames_hold d k ss h
 next_holds (InKey t) d k ss h = token_holds t (blanks ∷ byte 0x3A ∷ blanks ∷ value (128 - d) ∷ frames d k ss) (omega arith, frames_hold d k ss h)
 next_holds (InValue t) d k ss h = token_holds t (frames d k ss) (frames_hold d k ss h)
-
-pub stack_holds : (r : Reader) (ss : List Symbol) → AllHold ss → AllHold (stack r ss)
-stack_holds r ss h = next_holds r.next r.depth r.kinds ss h

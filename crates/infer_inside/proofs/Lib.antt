@@ -3,6 +3,7 @@ pub mod CompleteLemmas
 pub mod JsonLemmas
 pub mod LeadLemmas
 pub mod LineLemmas
+pub mod OnwardLemmas
 pub mod PartLemmas
 pub mod PngLemmas
 pub mod ReaderLemmas

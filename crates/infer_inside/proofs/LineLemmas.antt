@@ -1,14 +1,14 @@
 -- White space and the lines that texts stand on.
-use Rattle.std.proofs.Common.{◌≡◌, ℕ, ◌+◌, ◌-◌, ◌≤◌, ◌<◌, ◌⊎◌, inl, inr, ◌↔◌, Bool, false, IsTrue, nat_eq, rules, List, [], ◌∷◌, ◌++◌, length, take, drop, get_or, take-append-drop, append_assoc, length-drop, refl, sym, subst, ap, ◌∙◌, arith}
+use Rattle.std.proofs.Common.{◌≡◌, ℕ, ◌+◌, ◌-◌, ◌≤◌, ◌<◌, ◌⊎◌, inl, inr, ◌↔◌, Bool, false, IsTrue, nat_eq, rules, List, [], ◌∷◌, ◌++◌, length, take, drop, get_or, length-drop, refl, sym, subst, ap, ◌∙◌, arith}
 use Rattle.std.proofs.lemmas.List.{drop_more, take_rest}
 use Rattle.infer_inside.specs.Json.{Symbol, blanks, text, same_line, next_line, BeginsLines, BeginsText, CanBe, UpToMark, IsBlank, Stands}
-use Rattle.infer_inside.specs.JsonStates.{IsBracket, IsNextLine, IsPast, IsPastMark, Leaves, LineTells, StartsLine, stack}
+use Rattle.infer_inside.specs.JsonStates.{IsBracket, IsNextLine, IsPast, IsPastMark, Leaves, LineTells, StartsLine, next_left}
 use Rattle.infer_inside.specs.declared.json.Line as line
 use Rattle.infer_inside.specs.declared.json.Line.TheVariants as Line
-use Rattle.infer_inside.specs.declared.json.Reader.{Reader}
+use Rattle.infer_inside.specs.declared.json.Next.{Next}
 use Rattle.infer_inside.proofs.JsonLemmas.{begins, range_begins}
 use Rattle.infer_inside.proofs.ReaderLemmas.{blank_read, blank_skip}
-use Rattle.infer_inside.proofs.CompleteLemmas.{AllHold, completes, stack_holds}
+use Rattle.infer_inside.proofs.CompleteLemmas.{AllHold, completes, next_holds}
 
 -- what stands the same behind s and t
 pub can_same : (ss us : List Symbol) (s t : List ℕ) → ((v : List ℕ) → Stands ss (s ++ v) ↔ Stands us (t ++ v)) → CanBe ss s ↔ CanBe us t
@@ -73,7 +73,7 @@ text_no_blank ss x v h = text_opens x ss v (λ o. grind arith)
 pub none_no_blank : NoBlank []
 none_no_blank x v h d = elim d [ ]
 
-past_read : (ss : List Symbol) (s t : List ℕ) → NoBlank ss → IsPast s t → (v : List ℕ) → Stands (blanks ∷ ss) (s ++ v) ↔ Stands (blanks ∷ ss) (t ++ v)
+pub past_read : (ss : List Symbol) (s t : List ℕ) → NoBlank ss → IsPast s t → (v : List ℕ) → Stands (blanks ∷ ss) (s ++ v) ↔ Stands (blanks ∷ ss) (t ++ v)
 past_read ss [] t n e v = subst (λ u. Stands (blanks ∷ ss) v ↔ Stands (blanks ∷ ss) (u ++ v)) (sym e) (λ d. d, λ d. d)
 past_read ss (x ∷ s) t n (inl (b, p)) v =
     let first = blank_read x ss (s ++ v) b (n x (s ++ v) b) in
@@ -166,17 +166,11 @@ next_at_end s h = (
 )
 
 -- behind a whole text, and in one
-pub can_behind : (ss : List Symbol) (x n : ℕ) (rest : List ℕ) → Leaves x (take n rest) (λ us. us) → CanBe (text ∷ ss) (x ∷ rest) ↔ CanBe ss (drop n rest)
-can_behind ss x n rest left_so =
-    let cut = take-append-drop n rest in
-    subst (λ u. CanBe (text ∷ ss) (x ∷ u) ↔ CanBe ss (drop n rest)) cut
-    (can_same (text ∷ ss) ss (x ∷ take n rest ++ drop n rest) (drop n rest) (λ v.
-    let e : x ∷ (take n rest ++ drop n rest) ++ v ≡ x ∷ take n rest ++ (drop n rest ++ v) = ap (λ t. x ∷ t) (append_assoc (take n rest) (drop n rest) v) in
-    let h = left_so ss (drop n rest ++ v) in
-    (λ d. h.0 (subst (Stands (text ∷ ss)) e d), λ d. subst (Stands (text ∷ ss)) (sym e) (h.1 d))))
+pub can_behind : (ss : List Symbol) (x n : ℕ) (rest : List ℕ) → Leaves x rest (λ us. us) (drop n rest) → CanBe (text ∷ ss) (x ∷ rest) ↔ CanBe ss (drop n rest)
+can_behind ss x n rest left_so = can_same (text ∷ ss) ss (x ∷ rest) (drop n rest) (left_so ss)
 
-pub can_complete : (ss : List Symbol) (x : ℕ) (rest : List ℕ) (r : Reader) → AllHold ss → Leaves x rest (stack r) → CanBe (text ∷ ss) (x ∷ rest)
-can_complete ss x rest r a left_so = let c = completes (stack r ss) (stack_holds r ss a) in (c.0, (left_so ss c.0).1 c.1)
+pub can_complete : (ss : List Symbol) (x : ℕ) (rest : List ℕ) (n : Next) (d k : ℕ) → AllHold ss → Leaves x rest (next_left n d k) [] → CanBe (text ∷ ss) (x ∷ rest)
+can_complete ss x rest n d k a left_so = let c = completes (next_left n d k ss) (next_holds n d k ss a) in (c.0, (left_so ss c.0).1 c.1)
 
 -- lines by the first of them
 pub lines_then : (b s t : List ℕ) → (CanBe (next_line ∷ []) b ↔ CanBe (next_line ∷ []) s) × StartsLine s → 1 ≤ length s
@@ -202,7 +196,7 @@ WholeLine s t =
     (CanBe (text ∷ same_line ∷ []) s ↔ CanBe (next_line ∷ []) t) × (CanBe (text ∷ blanks ∷ []) s ↔ (t ≡ []))
     × StartsLine t × (length t < length s)
 
-pub line_whole : (x n : ℕ) (s rest t : List ℕ) → s ≡ x ∷ rest → Leaves x (take n rest) (λ us. us)
+pub line_whole : (x n : ℕ) (s rest t : List ℕ) → s ≡ x ∷ rest → Leaves x rest (λ us. us) (drop n rest)
     → IsNextLine (take (length rest - n) (drop n rest)) t → WholeLine s t
 line_whole x n s rest t e left_so next =
     let h = subst (λ u. IsNextLine u t) (take_rest rest n) next in
@@ -218,7 +212,7 @@ line_whole x n s rest t e left_so next =
     ) in
     subst (λ u. WholeLine u t) (sym e) is
 
-pub line_wrong : (x n : ℕ) (s rest : List ℕ) → s ≡ x ∷ rest → Leaves x (take n rest) (λ us. us)
+pub line_wrong : (x n : ℕ) (s rest : List ℕ) → s ≡ x ∷ rest → Leaves x rest (λ us. us) (drop n rest)
     → ¬ CanBe (same_line ∷ []) (take (length rest - n) (drop n rest)) → ¬ CanBe (text ∷ same_line ∷ []) s
 line_wrong x n s rest e left_so none can =
     let behind = (can_behind (same_line ∷ []) x n rest left_so).0 (subst (CanBe (text ∷ same_line ∷ [])) e can) in
@@ -227,9 +221,9 @@ line_wrong x n s rest e left_so none can =
 abbrev pub CutLine : List ℕ → Type 0
 CutLine s = CanBe (text ∷ same_line ∷ []) s × CanBe (text ∷ blanks ∷ []) s
 
-pub line_cut : (x : ℕ) (s rest : List ℕ) (r : Reader) → s ≡ x ∷ rest → Leaves x rest (stack r) → CutLine s
-line_cut x s rest r e left_so =
-    subst CutLine (sym e) (can_complete (same_line ∷ []) x rest r tt left_so, can_complete (blanks ∷ []) x rest r tt left_so)
+pub line_cut : (x : ℕ) (s rest : List ℕ) (n : Next) (d k : ℕ) → s ≡ x ∷ rest → Leaves x rest (next_left n d k) [] → CutLine s
+line_cut x s rest n d k e left_so =
+    subst CutLine (sym e) (can_complete (same_line ∷ []) x rest n d k tt left_so, can_complete (blanks ∷ []) x rest n d k tt left_so)
 
 pub none_left : (s : List ℕ) → length s < 1 → CutLine s
 none_left [] l = (completes (text ∷ same_line ∷ []) tt, completes (text ∷ blanks ∷ []) tt)

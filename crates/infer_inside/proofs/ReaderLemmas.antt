@@ -1,14 +1,13 @@
 -- What is left of a text, byte by byte.
-use Rattle.std.proofs.Common.{◌≡◌, ℕ, zero, suc, ◌+◌, ◌-◌, ◌*◌, ◌/◌, ◌%◌, ◌^◌, ◌≤◌, ◌<◌, ◌⊎◌, inl, inr, ◌↔◌, Bool, true, false, List, [], ◌∷◌, ◌++◌, length, take, drop, get_or, take-append-drop, append_assoc, refl, sym, subst, ap, ◌∙◌, arith}
+use Rattle.std.proofs.Common.{◌≡◌, ℕ, zero, suc, ◌+◌, ◌-◌, ◌*◌, ◌/◌, ◌%◌, ◌^◌, ◌≤◌, ◌<◌, ◌⊎◌, inl, inr, ◌↔◌, Bool, true, false, List, ◌∷◌, refl, sym, subst, ap, ◌∙◌, arith}
 use Rattle.std.proofs.Math.Nat.{pow-le-pow_right}
 use Rattle.std.proofs.lemmas.Grind.{pow_more}
-use Rattle.std.proofs.lemmas.List.{drop_more, take_more}
 use Rattle.infer_inside.specs.Json.{Symbol, blanks, value, items, more_items, members, member, more_members, chars, text, byte, IsBlank, Stands}
-use Rattle.infer_inside.specs.JsonStates.{Leaves, first_in, more_in, opening, closing, next_left, IsOpen, IsClosedTo, frames, due_left, stack, MayGoOn, EndsNumber, Reads}
+use Rattle.infer_inside.specs.JsonStates.{first_in, more_in, opening, closing, next_left, IsOpen, IsClosedTo, frames, due_left, MayGoOn, EndsNumber, Reads}
 use Rattle.infer_inside.specs.declared.json.Due.{Due}
 use Rattle.infer_inside.specs.declared.json.Due.TheVariants.{First, Value, Key, Colon, After}
 use Rattle.infer_inside.specs.declared.json.Next.{Next}
-use Rattle.infer_inside.specs.declared.json.Next.TheVariants.{Between}
+use Rattle.infer_inside.specs.declared.json.Next.TheVariants.{Closed, Between}
 use Rattle.infer_inside.specs.declared.json.Reader.{Reader}
 use Rattle.infer_inside.proofs.JsonLemmas.{begins, range_begins, value_begins, array_begins, object_begins, none_nested}
 
@@ -171,7 +170,7 @@ reads_closed before x old new opened closed h =
     let same = λ (ss : List Symbol).
     let F : Next → ℕ → ℕ → List Symbol = λ n d k. next_left n d k ss in
     let P : List Symbol → Type 0 = λ rest. (v : List ℕ) → Stands (before ss) (x ∷ v) ↔ Stands rest v in
-    let e : F new.next new.depth new.kinds ≡ F (Between After) (old.depth - 1) (old.kinds / 2) = cc in
+    let e : F new.next new.depth new.kinds ≡ F Closed (old.depth - 1) (old.kinds / 2) = cc in
     subst P (sym e) (h ss) in
     ((omega arith, closed.3), λ e. closed.0, same)
 
@@ -259,40 +258,3 @@ pub reads_between : (due is : Due) (d k x : ℕ) (r : Reader) (ok : Bool) → du
 reads_between due is d k x r ok e p h =
     subst (λ (other : Due). Reads (λ ss. blanks ∷ due_left other d k ss) x r ok) (sym e)
     (reads_same (λ ss. blanks ∷ due_left is d k ss) (due_left is d k) x r ok (λ ss v. blank_skip x (due_left is d k ss) v p) h)
-
--- inside a token of a value, and behind its last byte
-pub inside_value : (ts : List Symbol) (u : List Symbol) (d k x : ℕ) (ss : List Symbol) (v : List ℕ) → 1 ≤ d
-    → ((others : List Symbol) → EndsNumber others → (w : List ℕ) → Stands (ts ++ others) (x ∷ w) ↔ Stands (u ++ others) w)
-    → Stands (ts ++ blanks ∷ due_left After d k ss) (x ∷ v) ↔ Stands (u ++ frames d k ss) v
-inside_value ts u d k x ss v l h =
-    subst (λ rest. Stands (ts ++ blanks ∷ due_left After d k ss) (x ∷ v) ↔ Stands (u ++ rest) v) (sym (frames_open d k ss l))
-    (h (blanks ∷ due_left After d k ss) (after_ends d k ss) v)
-
-pub ended_value : (ts : List Symbol) (d k x : ℕ) (ss : List Symbol) (v : List ℕ) → 1 ≤ d
-    → ((others : List Symbol) (w : List ℕ) → Stands (ts ++ others) (x ∷ w) ↔ Stands others w)
-    → Stands (ts ++ blanks ∷ due_left After d k ss) (x ∷ v) ↔ Stands (frames d k ss) v
-ended_value ts d k x ss v l h =
-    subst (λ rest. Stands (ts ++ blanks ∷ due_left After d k ss) (x ∷ v) ↔ Stands rest v) (sym (frames_open d k ss l))
-    (h (blanks ∷ due_left After d k ss) v)
-
--- a byte that no text has there, and one that ends the text
-pub none_on : (x i : ℕ) (rest : List ℕ) (old new : Reader) → i < length rest → Leaves x (take i rest) (stack old)
-    → Reads (stack old) (get_or rest i 0) new false → (ss : List Symbol) (v : List ℕ) → ¬ Stands (text ∷ ss) (x ∷ rest ++ v)
-none_on x i rest old new l left_so reads ss v d =
-    let y = get_or rest i 0 in
-    let cut : rest ≡ take i rest ++ y ∷ drop (i + 1) rest = sym (take-append-drop i rest) ∙ ap (λ t. take i rest ++ t) (drop_more rest i 0 l) in
-    let e : rest ++ v ≡ take i rest ++ (y ∷ drop (i + 1) rest ++ v) = ap (λ t. t ++ v) cut ∙ append_assoc (take i rest) (y ∷ drop (i + 1) rest) v in
-    reads ss (drop (i + 1) rest ++ v) ((left_so ss (y ∷ drop (i + 1) rest ++ v)).0 (subst (λ t. Stands (text ∷ ss) (x ∷ t)) e d))
-
-pub ends_here : (x i : ℕ) (rest : List ℕ) (old new : Reader) → i < length rest → Leaves x (take i rest) (stack old)
-    → Reads (stack old) (get_or rest i 0) new true → new.depth ≡ 0 → Leaves x (take (i + 1) rest) (λ ss. ss)
-ends_here x i rest old new l left_so reads none ss v =
-    let y = get_or rest i 0 in
-    let e : take (i + 1) rest ++ v ≡ take i rest ++ (y ∷ v) = ap (λ t. t ++ v) (take_more rest i 0 l) ∙ append_assoc (take i rest) (y ∷ []) v in
-    let G : Next → ℕ → List Symbol = λ n d. next_left n d new.kinds ss in
-    let done : stack new ss ≡ ss = ap (λ n. G n new.depth) (reads.1 none) ∙ ap (λ d. frames d new.kinds ss) none ∙ frames_none new.kinds ss in
-    let a = left_so ss (y ∷ v) in
-    let b = reads.2 ss v in (
-      λ d. subst (λ t. Stands t v) done (b.0 (a.0 (subst (λ t. Stands (text ∷ ss) (x ∷ t)) e d))),
-      λ d. subst (λ t. Stands (text ∷ ss) (x ∷ t)) (sym e) (a.1 (b.1 (subst (λ t. Stands t v) (sym done) d))),
-    )

@@ -1,5 +1,5 @@
 -- What is left of a text where its reader stands. Only private contracts cite it.
-use Rattle.std.specs.Prelude.{◌≡◌, ◌↔◌, ℕ, zero, suc, ◌-◌, ◌/◌, ◌%◌, ◌<◌, ◌≤◌, ◌^◌, ◌⊎◌, Bool, true, false, Option, Some, None, List, [], length, take, ◌∷◌, ◌++◌, codes}
+use Rattle.std.specs.Prelude.{◌≡◌, ◌↔◌, ℕ, zero, suc, ◌-◌, ◌/◌, ◌%◌, ◌<◌, ◌≤◌, ◌^◌, ◌⊎◌, Bool, true, false, List, [], length, drop, ◌∷◌, ◌++◌, codes}
 use Rattle.infer_inside.specs.Json.{Symbol, range, blanks, value, items, more_items, members, member, more_members, chars, escape, hex, whole, fraction, exponent, power, digits, text, same_line, next_line, byte, exact, digit, later, CanBe, IsBlank, Stands}
 use Rattle.infer_inside.specs.declared.json.Token.{Token}
 use Rattle.infer_inside.specs.declared.json.Token.TheVariants.{Chars, Escape, Hex4, Hex3, Hex2, Hex1, Char1, Char2, Char3, CharE0, CharEd, CharF0, CharF4, T, Tr, Tru, F, Fa, Fal, Fals, N, Nu, Nul, Minus, Zero, Whole, Point, Fraction, Exponent, Sign, Power}
@@ -8,7 +8,11 @@ use Rattle.infer_inside.specs.declared.json.Step.TheVariants.{Inside, Ended, End
 use Rattle.infer_inside.specs.declared.json.Due.{Due}
 use Rattle.infer_inside.specs.declared.json.Due.TheVariants.{First, Value, Key, Colon, After}
 use Rattle.infer_inside.specs.declared.json.Next.{Next}
-use Rattle.infer_inside.specs.declared.json.Next.TheVariants.{Between, InKey, InValue}
+use Rattle.infer_inside.specs.declared.json.Next.TheVariants.{Closed, Between, InKey, InValue}
+use Rattle.infer_inside.specs.declared.json.End as end
+use Rattle.infer_inside.specs.declared.json.End.TheVariants as End
+use Rattle.infer_inside.specs.declared.json.Place as place
+use Rattle.infer_inside.specs.declared.json.Place.TheVariants as Place
 use Rattle.infer_inside.specs.declared.json.Reader.{Reader}
 use Rattle.infer_inside.specs.declared.json.Line as line
 use Rattle.infer_inside.specs.declared.json.Line.TheVariants as Line
@@ -87,6 +91,7 @@ due_left Colon depth kinds ss = byte 0x3A ∷ blanks ∷ value (128 - depth) ∷
 due_left After depth kinds ss = more_in (kinds % 2) (128 - depth) ∷ frames (depth - 1) (kinds / 2) ss
 
 abbrev pub next_left : Next → ℕ → ℕ → List Symbol → List Symbol
+next_left Closed depth kinds ss = frames depth kinds ss
 next_left (Between First) depth kinds ss = blanks ∷ due_left First depth kinds ss
 next_left (Between Value) depth kinds ss = blanks ∷ due_left Value depth kinds ss
 next_left (Between Key) depth kinds ss = blanks ∷ due_left Key depth kinds ss
@@ -108,17 +113,16 @@ IsOpen r = (1 ≤ r.depth) × IsSound r
 
 -- where `before` was left, the reader r tells what is left behind the byte x, if it can be
 abbrev pub Reads : (List Symbol → List Symbol) → ℕ → Reader → Bool → Type 0
-Reads before x r true = IsSound r × (r.depth ≡ 0 → r.next ≡ Between After) × ((ss : List Symbol) (v : List ℕ) → Stands (before ss) (x ∷ v) ↔ Stands (stack r ss) v)
+Reads before x r true = IsSound r × (r.depth ≡ 0 → r.next ≡ Closed) × ((ss : List Symbol) (v : List ℕ) → Stands (before ss) (x ∷ v) ↔ Stands (stack r ss) v)
 Reads before x r false = (ss : List Symbol) (v : List ℕ) → ¬ Stands (before ss) (x ∷ v)
 
 -- the first bracket of a text was read
-abbrev pub Begun : ℕ → Option Reader → Type 0
-Begun x (Some r) = (((x ≡ 0x5B) ⊎ (x ≡ 0x7B)) × (r.depth ≡ 1)) × Reads (λ ss. text ∷ ss) x r true
-Begun x None = (¬ (x ≡ 0x5B)) × (¬ (x ≡ 0x7B))
+abbrev pub Begun : ℕ → Reader → Type 0
+Begun x r = (r.next ≡ Between First) × (1 ≤ r.depth) × Reads (λ ss. text ∷ ss) x r true
 
 -- the innermost bracket is closed
 abbrev pub IsClosedTo : Reader → Reader → Type 0
-IsClosedTo old new = (new.next ≡ Between After) × (new.depth ≡ old.depth - 1) × (new.kinds ≡ old.kinds / 2) × (new.kinds < 2 ^ new.depth)
+IsClosedTo old new = (new.next ≡ Closed) × (new.depth ≡ old.depth - 1) × (new.kinds ≡ old.kinds / 2) × (new.kinds < 2 ^ new.depth)
 
 -- the bracket that opens one of this kind, and that closes it
 abbrev pub opening : ℕ → ℕ
@@ -140,14 +144,33 @@ NoToken x = (n : ℕ) (ss : List Symbol) (v : List ℕ) → ¬ (x ≡ 0x5B) → 
 abbrev pub IsBracket : ℕ → Type 0
 IsBracket x = (x ≡ 0x5B) ⊎ (x ≡ 0x7B)
 
--- x, and these bytes behind it, leave just `left_of ss` of a text and then ss
-abbrev pub Leaves : ℕ → List ℕ → (List Symbol → List Symbol) → Type 0
-Leaves x read left_of = (ss : List Symbol) (v : List ℕ) → Stands (text ∷ ss) (x ∷ read ++ v) ↔ Stands (left_of ss) v
+-- where ss were left before s, us are left before t
+abbrev pub Onward : List Symbol → List ℕ → List Symbol → List ℕ → Type 0
+Onward ss s us t = (others : List Symbol) → EndsNumber others → (v : List ℕ) → Stands (ss ++ others) (s ++ v) ↔ Stands (us ++ others) (t ++ v)
+
+-- where a token ends, of which t is left at this place
+abbrev pub EndTells : Token → List ℕ → ℕ → end.End → Type 0
+EndTells t b at (End.Whole e) = (at ≤ e) × (e ≤ length b) × Onward (left t) (drop at b) [] (drop e b)
+EndTells t b at End.Cut = (u : Token) × Onward (left t) (drop at b) (left u) []
+EndTells t b at End.Wrong = (others : List Symbol) → EndsNumber others → (v : List ℕ) → ¬ Stands (left t ++ others) (drop at b ++ v)
+
+-- what is due behind the token that n may stand in, in d brackets of the kinds k
+abbrev pub PlaceTells : Next → ℕ → ℕ → List ℕ → ℕ → place.Place → Type 0
+PlaceTells n d k b at (Place.At p due) =
+    (at ≤ p) × (p ≤ length b)
+    × ((ss : List Symbol) (v : List ℕ) → Stands (next_left n d k ss) (drop at b ++ v) ↔ Stands (blanks ∷ due_left due d k ss) (drop p b ++ v))
+PlaceTells n d k b at Place.Cut =
+    (m : Next) × ((ss : List Symbol) (v : List ℕ) → Stands (next_left n d k ss) (drop at b ++ v) ↔ Stands (next_left m d k ss) v)
+PlaceTells n d k b at Place.Wrong = (ss : List Symbol) (v : List ℕ) → ¬ Stands (next_left n d k ss) (drop at b ++ v)
+
+-- x and the bytes behind it leave just `left_of ss` of a text and then ss, before t
+abbrev pub Leaves : ℕ → List ℕ → (List Symbol → List Symbol) → List ℕ → Type 0
+Leaves x rest left_of t = (ss : List Symbol) (v : List ℕ) → Stands (text ∷ ss) (x ∷ rest ++ v) ↔ Stands (left_of ss) (t ++ v)
 
 -- what x and the bytes behind it have of a text
 abbrev pub Tells : ℕ → List ℕ → read.Reading → Type 0
-Tells x rest (Reading.Whole n) = (n ≤ length rest) × Leaves x (take n rest) (λ ss. ss)
-Tells x rest Reading.Cut = (r : Reader) × IsOpen r × Leaves x rest (stack r)
+Tells x rest (Reading.Whole n) = (n ≤ length rest) × Leaves x rest (λ ss. ss) (drop n rest)
+Tells x rest Reading.Cut = (n : Next) × (d k : ℕ) × Leaves x rest (next_left n d k) []
 Tells x rest Reading.Wrong = (ss : List Symbol) (v : List ℕ) → ¬ Stands (text ∷ ss) (x ∷ rest ++ v)
 
 -- w is b without a byte order mark at its front

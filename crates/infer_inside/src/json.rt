@@ -1,9 +1,10 @@
 //! JSON texts, of which a buffer may have the beginning only.
-ghost use Rattle.std.specs.Prelude.{◌≡◌, ◌↔◌, ◌≤◌, ◌%◌, ◌∷◌, [], ◌++◌, IsTrue, MatchOption};
+ghost use Rattle.std.specs.Prelude.{◌≡◌, ◌↔◌, ◌≤◌, ◌%◌, ◌∷◌, [], ◌++◌, ℕ, drop, length, IsTrue, MatchOption};
 ghost use Rattle.infer_inside.specs.Json.{BeginsLines, BeginsText, BeginsToken, BeginsWhole, BehindBlanks, blanks, CanBe, hex, IsBlank, IsJson, IsJsonLines, IsMark, next_line, range, same_line, text};
-ghost use Rattle.infer_inside.specs.JsonStates.{Begun, closing, due_left, Follows, IsBracket, IsClosedTo, IsNextLine, IsOpen, IsPast, IsPastMark, left, LineTells, NoToken, opening, Reads, stack, StartsLine, Starts, Tells};
+ghost use Rattle.infer_inside.specs.JsonStates.{Begun, closing, due_left, EndTells, Follows, IsBracket, IsClosedTo, IsNextLine, IsOpen, IsPast, IsPastMark, left, LineTells, NoToken, opening, PlaceTells, Reads, StartsLine, Starts, Tells};
 ghost use Rattle.infer_inside.specs.declared.json.Token.TheVariants.{Chars, Escape, Minus, Zero, Whole, Fraction, Exponent, Power};
 ghost use Rattle.infer_inside.specs.declared.json.Due.TheVariants.{After, Colon, First, Key, Value};
+ghost use Rattle.infer_inside.specs.declared.json.Next.TheVariants.{Closed};
 
 /// JSON, or its beginning: an array or an object, with only white space around it.
 ///
@@ -129,12 +130,23 @@ fn next_line(buf: &[u8]) -> Option<&[u8]>
 fn past_blanks(buf: &[u8]) -> &[u8]
     ensures { IsPast buf.now result.now }
 {
-    for at in 0..buf.len() {
-        if !is_blank(buf[at]) {
-            return &buf[at..];
+    &buf[blanks_end(buf, 0)..]
+}
+
+/// Where the white space from that place on ends.
+#[inline(always)]
+fn blanks_end(buf: &[u8], at: usize) -> usize
+    requires { at ≤ length buf.now }
+    ensures low { at ≤ result }
+    ensures high { result ≤ length buf.now }
+    ensures past { IsPast (drop at buf.now) (drop result buf.now) }
+{
+    for i in at..buf.len() {
+        if !is_blank(buf[i]) {
+            return i;
         }
     }
-    &[]
+    buf.len()
 }
 
 /// Whether a whole token comes behind white space.
@@ -234,6 +246,7 @@ enum Token {
 }
 
 /// What a byte makes of a token.
+#[derive(Clone, Copy)]
 enum Step {
     /// The token goes on.
     Inside(Token),
@@ -315,8 +328,14 @@ fn last(byte: u8, letter: u8) -> Step
 fn after_char(byte: u8) -> Step
     ensures { Follows (left Chars) byte result }
 {
+    // Most bytes first.
+    if byte > b'\\' && byte < 0x80 {
+        return Step::Inside(Token::Chars);
+    }
+    if byte == b'"' {
+        return Step::Ended;
+    }
     match byte {
-        b'"' => Step::Ended,
         b'\\' => Step::Inside(Token::Escape),
         0x20..=0x7F => Step::Inside(Token::Chars),
         0xC2..=0xDF => Step::Inside(Token::Char1),
@@ -435,6 +454,8 @@ enum Due {
 /// Where the next byte stands.
 #[derive(Clone, Copy)]
 enum Next {
+    /// Behind a bracket that closes.
+    Closed,
     Between(Due),
     InKey(Token),
     InValue(Token),
@@ -451,82 +472,42 @@ struct Reader {
 }
 
 impl Reader {
-    /// Behind the first bracket of a text, if the byte is one.
-    fn begin(byte: u8) -> Option<Reader>
-        ensures { Begun byte result }
+    /// Behind the first bracket of a text.
+    fn begin(bracket: u8) -> Reader
+        requires { IsBracket bracket }
+        ensures { Begun bracket result }
     {
-        match byte {
-            b'[' => Some(Reader {
-                next: Next::Between(Due::First),
-                depth: 1,
-                kinds: 0,
-            }),
-            b'{' => Some(Reader {
-                next: Next::Between(Due::First),
+        let next = Next::Between(Due::First);
+        match bracket {
+            b'{' => Reader {
+                next,
                 depth: 1,
                 kinds: 1,
-            }),
-            _ => None,
+            },
+            _ => Reader {
+                next,
+                depth: 1,
+                kinds: 0,
+            },
         }
     }
 
-    /// Reads a byte, and answers whether a text may go on so.
+    /// Whether the text is whole.
     #[inline(always)]
-    fn read(&mut self, byte: u8) -> bool
-        requires { IsOpen self.old }
-        ensures { Reads (stack self.old) byte self.new result }
+    fn is_done(&self) -> bool
+        requires { self.now.depth ≡ 0 → self.now.next ≡ Closed }
+        ensures { IsTrue result ↔ (self.now.depth ≡ 0) }
     {
-        match self.next {
-            Next::Between(due) => self.read_between(due, byte),
-            Next::InKey(token) => self.read_in_key(token, byte),
-            Next::InValue(token) => self.read_in_value(token, byte),
-        }
+        matches!(self.next, Next::Closed) && self.depth == 0
     }
 
-    fn read_in_key(&mut self, token: Token, byte: u8) -> bool
-        requires { IsOpen self.old }
-        ensures { Reads (λ ss. left token ++ blanks ∷ due_left Colon self.old.depth self.old.kinds ss) byte self.new result }
-    {
-        match token.after(byte) {
-            Step::Inside(token) => {
-                self.next = Next::InKey(token);
-                true
-            }
-            Step::Ended => {
-                self.next = Next::Between(Due::Colon);
-                true
-            }
-            Step::EndedBefore => self.read_between(Due::Colon, byte),
-            Step::Wrong => false,
-        }
-    }
-
-    fn read_in_value(&mut self, token: Token, byte: u8) -> bool
-        requires { IsOpen self.old }
-        ensures { Reads (λ ss. left token ++ blanks ∷ due_left After self.old.depth self.old.kinds ss) byte self.new result }
-    {
-        match token.after(byte) {
-            Step::Inside(token) => {
-                self.next = Next::InValue(token);
-                true
-            }
-            Step::Ended => {
-                self.next = Next::Between(Due::After);
-                true
-            }
-            Step::EndedBefore => self.read_between(Due::After, byte),
-            Step::Wrong => false,
-        }
-    }
-
-    fn read_between(&mut self, due: Due, byte: u8) -> bool
-        requires { IsOpen self.old }
+    /// Reads a byte behind white space, and answers whether a text may go on so.
+    #[inline(always)]
+    fn read(&mut self, due: Due, byte: u8) -> bool
+        requires opened { IsOpen self.old }
+        requires black { ¬ IsBlank byte }
         ensures { Reads (λ ss. blanks ∷ due_left due self.old.depth self.old.kinds ss) byte self.new result }
     {
-        if is_blank(byte) {
-            self.next = Next::Between(due);
-            return true;
-        }
         match due {
             Due::First => self.read_first(byte),
             Due::Value => self.read_value(byte),
@@ -592,19 +573,19 @@ impl Reader {
         requires { IsOpen self.old }
         ensures { Reads (due_left After self.old.depth self.old.kinds) byte self.new result }
     {
+        if byte == b',' {
+            if self.is_in_object() {
+                self.next = Next::Between(Due::Key);
+            } else {
+                self.next = Next::Between(Due::Value);
+            }
+            return true;
+        }
         if byte == self.closing() {
             self.close();
             return true;
         }
-        if byte != b',' {
-            return false;
-        }
-        if self.is_in_object() {
-            self.next = Next::Between(Due::Key);
-        } else {
-            self.next = Next::Between(Due::Value);
-        }
-        true
+        false
     }
 
     /// Whether the innermost bracket is that of an object.
@@ -626,7 +607,7 @@ impl Reader {
         requires { IsOpen self.old }
         ensures { IsClosedTo self.old self.new }
     {
-        self.next = Next::Between(Due::After);
+        self.next = Next::Closed;
         self.depth -= 1;
         self.kinds /= 2;
     }
@@ -682,20 +663,136 @@ enum Reading {
     Wrong,
 }
 
+/// Where a token ends.
+enum End {
+    /// Before this place.
+    Whole(usize),
+    /// Nowhere: some bytes can follow.
+    Cut,
+    /// Nowhere, since none goes on so.
+    Wrong,
+}
+
+/// Reads what is left of a token at that place.
+#[inline(always)]
+fn token_end(token: Token, buf: &[u8], at: usize) -> End
+    requires { at ≤ length buf.now }
+    ensures { EndTells token buf.now at result }
+{
+    match token {
+        Token::Chars => string_end(buf, at),
+        Token::Whole => number_end(buf, at),
+        _ => end_of(token, buf, at),
+    }
+}
+
+/// [`end_of`] a string, in a loop that most are read by.
+#[inline(always)]
+fn string_end(buf: &[u8], at: usize) -> End
+    requires { at ≤ length buf.now }
+    ensures { EndTells Chars buf.now at result }
+{
+    for i in at..buf.len() {
+        match after_char(buf[i]) {
+            Step::Inside(Token::Chars) => {}
+            Step::Ended => return End::Whole(i + 1),
+            _ => return end_of(Token::Chars, buf, i),
+        }
+    }
+    End::Cut
+}
+
+/// [`end_of`] a number, in a loop that most are read by.
+#[inline(always)]
+fn number_end(buf: &[u8], at: usize) -> End
+    requires { at ≤ length buf.now }
+    ensures { EndTells Whole buf.now at result }
+{
+    for i in at..buf.len() {
+        match after_whole(buf[i]) {
+            Step::Inside(Token::Whole) => {}
+            Step::EndedBefore => return End::Whole(i),
+            _ => return end_of(Token::Whole, buf, i),
+        }
+    }
+    End::Cut
+}
+
+/// Where the token ends of which this is left at that place.
+#[inline(never)]
+fn end_of(token: Token, buf: &[u8], at: usize) -> End
+    requires { at ≤ length buf.now }
+    ensures { EndTells token buf.now at result }
+{
+    let mut token = token;
+    for i in at..buf.len() {
+        match token.after(buf[i]) {
+            Step::Inside(next) => token = next,
+            Step::Ended => return End::Whole(i + 1),
+            Step::EndedBefore => return End::Whole(i),
+            Step::Wrong => return End::Wrong,
+        }
+    }
+    End::Cut
+}
+
+/// Where the next byte behind white space stands, and what is due there.
+enum Place {
+    At(usize, Due),
+    /// In a token that is cut.
+    Cut,
+    /// Nowhere: no token goes on so.
+    Wrong,
+}
+
+/// Reads to the end of a token, if one has begun before that place.
+#[inline(always)]
+fn read_on(next: Next, buf: &[u8], at: usize) -> Place
+    requires { at ≤ length buf.now }
+    ensures { (d k : ℕ) → 1 ≤ d → PlaceTells next d k buf.now at result }
+{
+    match next {
+        Next::Closed => Place::At(at, Due::After),
+        Next::Between(due) => Place::At(at, due),
+        Next::InKey(token) => match token_end(token, buf, at) {
+            End::Whole(end) => Place::At(end, Due::Colon),
+            End::Cut => Place::Cut,
+            End::Wrong => Place::Wrong,
+        },
+        Next::InValue(token) => match token_end(token, buf, at) {
+            End::Whole(end) => Place::At(end, Due::After),
+            End::Cut => Place::Cut,
+            End::Wrong => Place::Wrong,
+        },
+    }
+}
+
 /// Reads an array or an object that begins with `first`.
 fn read_text(first: u8, rest: &[u8]) -> Reading
     requires { IsBracket first }
     ensures { Tells first rest.now result }
 {
-    let Some(mut reader) = Reader::begin(first) else {
-        return Reading::Wrong;
-    };
-    for i in 0..rest.len() {
-        if !reader.read(rest[i]) {
+    let mut reader = Reader::begin(first);
+    let mut due = Due::First;
+    let mut at = 0;
+    while at < rest.len() {
+        if is_blank(rest[at]) {
+            at = blanks_end(rest, at + 1);
+            continue;
+        }
+        if !reader.read(due, rest[at]) {
             return Reading::Wrong;
         }
-        if reader.depth == 0 {
-            return Reading::Whole(i + 1);
+        if reader.is_done() {
+            return Reading::Whole(at + 1);
+        }
+        match read_on(reader.next, rest, at + 1) {
+            Place::At(place, next) => {
+                at = place;
+                due = next;
+            }
+            Place::Cut => return Reading::Cut,
+            Place::Wrong => return Reading::Wrong,
         }
     }
     Reading::Cut

@@ -17,5 +17,5 @@ returns-in-Whole c =
 
 pub returns-in-Cut : goal.returns-in-Cut
 returns-in-Cut c =
-    let (r, opened, left_so) = c.in-Cut.ensures in
-    (λ is. can_complete (blanks ∷ []) c.args.first c.args.rest.now r tt left_so, λ can. refl)
+    let (n, d, k, left_so) = c.in-Cut.ensures in
+    (λ is. can_complete (blanks ∷ []) c.args.first c.args.rest.now n d k tt left_so, λ can. refl)

@@ -11,4 +11,6 @@ pub returns-in-None : goal.returns-in-None
 returns-in-None c = line_wrong _ c.in-Whole.n c.args.buf.now _ (by_first c.args.buf.now c.in-len1-up.len_at_least) c.in-Whole.ensures.1 c.in-None.ensures
 
 pub returns-in-Cut : goal.returns-in-Cut
-returns-in-Cut c = let (r, opened, left_so) = c.in-Cut.ensures in line_cut _ c.args.buf.now _ r (by_first c.args.buf.now c.in-len1-up.len_at_least) left_so
+returns-in-Cut c =
+    let (n, d, k, left_so) = c.in-Cut.ensures in
+    line_cut _ c.args.buf.now _ n d k (by_first c.args.buf.now c.in-len1-up.len_at_least) left_so

@@ -1,7 +1,11 @@
--- what is left behind the bytes so far
-use Rattle.std.proofs.Common.{take}
-use Rattle.infer_inside.specs.JsonStates.{IsOpen, Leaves, stack}
+-- what is due at the place
+use Rattle.std.proofs.Common.{◌-◌, ◌≤◌, length}
+use Rattle.infer_inside.specs.JsonStates.{IsOpen}
+use Rattle.infer_inside.proofs.OnwardLemmas.{DueAt}
 use Rattle.infer_inside.proofs.json.read_text.Given as goal
 
-abbrev pub invariant-loop-i : goal.invariant-loop-i
-invariant-loop-i l = IsOpen l.reader × Leaves l.first (take l.i l.rest) (stack l.reader)
+abbrev pub invariant-loop-at : goal.invariant-loop-at
+invariant-loop-at l = IsOpen l.reader × (l.at ≤ length l.rest) × DueAt l.first l.rest l.due l.reader.depth l.reader.kinds l.at
+
+abbrev pub decreases-loop-at : goal.decreases-loop-at
+decreases-loop-at l = length l.rest - l.at
