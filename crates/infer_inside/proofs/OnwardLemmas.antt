@@ -1,12 +1,12 @@
 -- What is left behind a token, and behind each byte of a text.
-use Rattle.std.proofs.Common.{◌≡◌, ℕ, ◌+◌, ◌≤◌, ◌<◌, inl, ◌↔◌, true, false, List, [], ◌∷◌, ◌++◌, length, drop, get_or, sym, subst, ap, ◌∙◌, arith}
+use Rattle.std.proofs.Common.{◌≡◌, ℕ, ◌+◌, ◌≤◌, ◌<◌, inl, ◌↔◌, true, false, List, [], ◌∷◌, ◌++◌, length, drop, get_or, refl, sym, subst, ap, ◌∙◌, arith}
 use Rattle.std.proofs.lemmas.List.{drop_all, drop_more}
 use Rattle.infer_inside.specs.Json.{Symbol, blanks, text, IsBlank, Stands}
-use Rattle.infer_inside.specs.JsonStates.{EndTells, EndsNumber, Follows, IsPast, Leaves, Onward, Reads, due_left, frames, left, next_left}
+use Rattle.infer_inside.specs.JsonStates.{PlaceTells, EndTells, EndsNumber, Follows, IsPast, Leaves, Onward, Reads, due_left, frames, left, next_left}
 use Rattle.infer_inside.specs.declared.json.Token.{Token}
 use Rattle.infer_inside.specs.declared.json.Step.TheVariants.{Inside, Ended, EndedBefore, Wrong}
-use Rattle.infer_inside.specs.declared.json.End as end
-use Rattle.infer_inside.specs.declared.json.End.TheVariants as End
+use Rattle.infer_inside.specs.declared.json.Place as place
+use Rattle.infer_inside.specs.declared.json.Place.TheVariants as Place
 use Rattle.infer_inside.specs.declared.json.Due.{Due}
 use Rattle.infer_inside.specs.declared.json.Due.TheVariants.{First, Colon, After}
 use Rattle.infer_inside.specs.declared.json.Next.{Next}
@@ -50,44 +50,48 @@ onward_wrong t u s b i l before f others m v d =
 pub onward_cut : (t u : Token) (s b : List ℕ) (i : ℕ) → length b ≤ i → Onward (left t) s (left u) (drop i b) → Onward (left t) s (left u) []
 onward_cut t u s b i l before = subst (Onward (left t) s (left u)) (drop_all i b l) before
 
--- what a later place tells
-pub ends_onward : (t u : Token) (b : List ℕ) (at i : ℕ) (e : end.End) → at ≤ i → Onward (left t) (drop at b) (left u) (drop i b) → EndTells u b i e → EndTells t b at e
-ends_onward t u b at i (End.Whole p) l before h = (
-  omega (arith, h.0),
-  h.1,
-  λ others m v. (λ d. (h.2 others m v).0 ((before others m v).0 d), λ d. (before others m v).1 ((h.2 others m v).1 d)),
-)
-ends_onward t u b at i End.Cut l before h = (
-  h.0,
-  λ others m v. (λ d. (h.1 others m v).0 ((before others m v).0 d), λ d. (before others m v).1 ((h.1 others m v).1 d)),
-)
-ends_onward t u b at i End.Wrong l before h = λ others m v d. h others m v ((before others m v).0 d)
-
 -- to the place behind a token
-abbrev pub Then : Next → Token → Due → ℕ → ℕ → Type 0
+abbrev Then : Next → Token → Due → ℕ → ℕ → Type 0
 Then n t due d k = ((ss : List Symbol) → next_left n d k ss ≡ left t ++ blanks ∷ due_left due d k ss) × ((ss : List Symbol) → EndsNumber (blanks ∷ due_left due d k ss))
 
-pub then_colon : (n : Next) (t : Token) (d k : ℕ) → n ≡ InKey t → Then n t Colon d k
+then_colon : (n : Next) (t : Token) (d k : ℕ) → n ≡ InKey t → Then n t Colon d k
 then_colon n t d k e = (λ ss. ap (λ m. next_left m d k ss) e, λ ss. colon_ends 0 _)
 
-pub then_after : (n : Next) (t : Token) (d k : ℕ) → 1 ≤ d → n ≡ InValue t → Then n t After d k
+then_after : (n : Next) (t : Token) (d k : ℕ) → 1 ≤ d → n ≡ InValue t → Then n t After d k
 then_after n t d k l e =
     (λ ss. ap (λ m. next_left m d k ss) e ∙ ap (λ rest. left t ++ rest) (frames_open d k ss l), λ ss. after_ends d k ss)
 
-pub place_whole : (n : Next) (t : Token) (due : Due) (d k : ℕ) (s u : List ℕ) → Then n t due d k → Onward (left t) s [] u
+place_whole : (n : Next) (t : Token) (due : Due) (d k : ℕ) (s u : List ℕ) → Then n t due d k → Onward (left t) s [] u
     → (ss : List Symbol) (v : List ℕ) → Stands (next_left n d k ss) (s ++ v) ↔ Stands (blanks ∷ due_left due d k ss) (u ++ v)
 place_whole n t due d k s u h o ss v =
     subst (λ q. Stands q (s ++ v) ↔ Stands (blanks ∷ due_left due d k ss) (u ++ v)) (sym (h.0 ss)) (o (blanks ∷ due_left due d k ss) (h.1 ss) v)
 
-pub place_cut : (n m : Next) (t u : Token) (due : Due) (d k : ℕ) (s : List ℕ) → Then n t due d k → Then m u due d k → Onward (left t) s (left u) []
+place_cut : (n m : Next) (t u : Token) (due : Due) (d k : ℕ) (s : List ℕ) → Then n t due d k → Then m u due d k → Onward (left t) s (left u) []
     → (ss : List Symbol) (v : List ℕ) → Stands (next_left n d k ss) (s ++ v) ↔ Stands (next_left m d k ss) v
 place_cut n m t u due d k s h g o ss v =
     subst (λ q. Stands q (s ++ v) ↔ Stands (next_left m d k ss) v) (sym (h.0 ss))
     (subst (λ q. Stands (left t ++ blanks ∷ due_left due d k ss) (s ++ v) ↔ Stands q v) (sym (g.0 ss)) (o (blanks ∷ due_left due d k ss) (h.1 ss) v))
 
-pub place_wrong : (n : Next) (t : Token) (due : Due) (d k : ℕ) (s : List ℕ) → Then n t due d k
+place_wrong : (n : Next) (t : Token) (due : Due) (d k : ℕ) (s : List ℕ) → Then n t due d k
     → ((others : List Symbol) → EndsNumber others → (v : List ℕ) → ¬ Stands (left t ++ others) (s ++ v)) → (ss : List Symbol) (v : List ℕ) → ¬ Stands (next_left n d k ss) (s ++ v)
 place_wrong n t due d k s h o ss v x = o (blanks ∷ due_left due d k ss) (h.1 ss) v (subst (λ q. Stands q (s ++ v)) (h.0 ss) x)
+
+place_told : (n : Next) (t : Token) (due : Due) (d k : ℕ) (b : List ℕ) (at : ℕ) (p : place.Place) → Then n t due d k → ((u : Token) → (m : Next) × Then m u due d k)
+    → EndTells t b at due p → PlaceTells n d k b at p
+place_told n t due d k b at (Place.At p next) h others (same, low, high, o) = (
+  low,
+  high,
+  subst (λ q. (ss : List Symbol) (v : List ℕ) → Stands (next_left n d k ss) (drop at b ++ v) ↔ Stands (blanks ∷ due_left q d k ss) (drop p b ++ v)) (sym same)
+      (place_whole n t due d k (drop at b) (drop p b) h o),
+)
+place_told n t due d k b at Place.Cut h others (u, o) = let (m, g) = others u in (m, place_cut n m t u due d k (drop at b) h g o)
+place_told n t due d k b at Place.Wrong h others o = place_wrong n t due d k (drop at b) h o
+
+pub place_key : (n : Next) (t : Token) (d k : ℕ) (b : List ℕ) (at : ℕ) (p : place.Place) → n ≡ InKey t → EndTells t b at Colon p → PlaceTells n d k b at p
+place_key n t d k b at p e h = place_told n t Colon d k b at p (then_colon n t d k e) (λ u. (InKey u, then_colon (InKey u) u d k refl)) h
+
+pub place_value : (n : Next) (t : Token) (d k : ℕ) (b : List ℕ) (at : ℕ) (p : place.Place) → 1 ≤ d → n ≡ InValue t → EndTells t b at After p → PlaceTells n d k b at p
+place_value n t d k b at p l e h = place_told n t After d k b at p (then_after n t d k l e) (λ u. (InValue u, then_after (InValue u) u d k l refl)) h
 
 pub place_between : (n : Next) (due : Due) (d k : ℕ) (s : List ℕ) → 1 ≤ d → n ≡ Between due
     → (ss : List Symbol) (v : List ℕ) → Stands (next_left n d k ss) (s ++ v) ↔ Stands (blanks ∷ due_left due d k ss) (s ++ v)

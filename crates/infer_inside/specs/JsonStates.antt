@@ -9,8 +9,6 @@ use Rattle.infer_inside.specs.declared.json.Due.{Due}
 use Rattle.infer_inside.specs.declared.json.Due.TheVariants.{First, Value, Key, Colon, After}
 use Rattle.infer_inside.specs.declared.json.Next.{Next}
 use Rattle.infer_inside.specs.declared.json.Next.TheVariants.{Closed, Between, InKey, InValue}
-use Rattle.infer_inside.specs.declared.json.End as end
-use Rattle.infer_inside.specs.declared.json.End.TheVariants as End
 use Rattle.infer_inside.specs.declared.json.Place as place
 use Rattle.infer_inside.specs.declared.json.Place.TheVariants as Place
 use Rattle.infer_inside.specs.declared.json.Reader.{Reader}
@@ -148,11 +146,11 @@ IsBracket x = (x ≡ 0x5B) ⊎ (x ≡ 0x7B)
 abbrev pub Onward : List Symbol → List ℕ → List Symbol → List ℕ → Type 0
 Onward ss s us t = (others : List Symbol) → EndsNumber others → (v : List ℕ) → Stands (ss ++ others) (s ++ v) ↔ Stands (us ++ others) (t ++ v)
 
--- where a token ends, of which t is left at this place
-abbrev pub EndTells : Token → List ℕ → ℕ → end.End → Type 0
-EndTells t b at (End.Whole e) = (at ≤ e) × (e ≤ length b) × Onward (left t) (drop at b) [] (drop e b)
-EndTells t b at End.Cut = (u : Token) × Onward (left t) (drop at b) (left u) []
-EndTells t b at End.Wrong = (others : List Symbol) → EndsNumber others → (v : List ℕ) → ¬ Stands (left t ++ others) (drop at b ++ v)
+-- where a token ends, of which t is left at this place and behind which this is due
+abbrev pub EndTells : Token → List ℕ → ℕ → Due → place.Place → Type 0
+EndTells t b at due (Place.At p next) = (next ≡ due) × (at ≤ p) × (p ≤ length b) × Onward (left t) (drop at b) [] (drop p b)
+EndTells t b at due Place.Cut = (u : Token) × Onward (left t) (drop at b) (left u) []
+EndTells t b at due Place.Wrong = (others : List Symbol) → EndsNumber others → (v : List ℕ) → ¬ Stands (left t ++ others) (drop at b ++ v)
 
 -- what is due behind the token that n may stand in, in d brackets of the kinds k
 abbrev pub PlaceTells : Next → ℕ → ℕ → List ℕ → ℕ → place.Place → Type 0

@@ -650,7 +650,8 @@ fn value_token(byte: u8) -> Option<Token>
 fn is_blank(byte: u8) -> bool
     ensures { IsTrue result ↔ IsBlank byte }
 {
-    matches!(byte, b' ' | b'\t' | b'\n' | b'\r')
+    // Most bytes are told by the first test.
+    byte <= b' ' && matches!(byte, b' ' | b'\t' | b'\n' | b'\r')
 }
 
 /// What a buffer has of a text.
@@ -663,86 +664,76 @@ enum Reading {
     Wrong,
 }
 
-/// Where a token ends.
-enum End {
-    /// Before this place.
-    Whole(usize),
-    /// Nowhere: some bytes can follow.
+/// Where the next byte behind white space stands, and what is due there.
+enum Place {
+    At(usize, Due),
+    /// In a token that is cut: some bytes can follow.
     Cut,
-    /// Nowhere, since none goes on so.
+    /// Nowhere: no token goes on so.
     Wrong,
 }
 
-/// Reads what is left of a token at that place.
+/// Reads what is left of a token at that place, behind which this is due.
 #[inline(always)]
-fn token_end(token: Token, buf: &[u8], at: usize) -> End
+fn token_end(token: Token, buf: &[u8], at: usize, due: Due) -> Place
     requires { at ≤ length buf.now }
-    ensures { EndTells token buf.now at result }
+    ensures { EndTells token buf.now at due result }
 {
     match token {
-        Token::Chars => string_end(buf, at),
-        Token::Whole => number_end(buf, at),
-        _ => end_of(token, buf, at),
+        Token::Chars => string_end(buf, at, due),
+        Token::Whole => number_end(buf, at, due),
+        _ => end_of(token, buf, at, due),
     }
 }
 
-/// [`end_of`] a string, in a loop that most are read by.
+/// [`token_end`] of a string, in a loop that most are read by.
 #[inline(always)]
-fn string_end(buf: &[u8], at: usize) -> End
+fn string_end(buf: &[u8], at: usize, due: Due) -> Place
     requires { at ≤ length buf.now }
-    ensures { EndTells Chars buf.now at result }
+    ensures { EndTells Chars buf.now at due result }
 {
     for i in at..buf.len() {
         match after_char(buf[i]) {
             Step::Inside(Token::Chars) => {}
-            Step::Ended => return End::Whole(i + 1),
-            _ => return end_of(Token::Chars, buf, i),
+            Step::Ended => return Place::At(i + 1, due),
+            _ => return end_of(Token::Chars, buf, i, due),
         }
     }
-    End::Cut
+    Place::Cut
 }
 
-/// [`end_of`] a number, in a loop that most are read by.
+/// [`token_end`] of a number, in a loop that most are read by.
 #[inline(always)]
-fn number_end(buf: &[u8], at: usize) -> End
+fn number_end(buf: &[u8], at: usize, due: Due) -> Place
     requires { at ≤ length buf.now }
-    ensures { EndTells Whole buf.now at result }
+    ensures { EndTells Whole buf.now at due result }
 {
     for i in at..buf.len() {
         match after_whole(buf[i]) {
             Step::Inside(Token::Whole) => {}
-            Step::EndedBefore => return End::Whole(i),
-            _ => return end_of(Token::Whole, buf, i),
+            Step::EndedBefore => return Place::At(i, due),
+            _ => return end_of(Token::Whole, buf, i, due),
         }
     }
-    End::Cut
+    Place::Cut
 }
 
-/// Where the token ends of which this is left at that place.
+/// [`token_end`] of any token.
 #[inline(never)]
-fn end_of(token: Token, buf: &[u8], at: usize) -> End
+fn end_of(token: Token, buf: &[u8], at: usize, due: Due) -> Place
     requires { at ≤ length buf.now }
-    ensures { EndTells token buf.now at result }
+    ensures { EndTells token buf.now at due result }
 {
     let mut token = token;
     for i in at..buf.len() {
         match token.after(buf[i]) {
             Step::Inside(next) => token = next,
-            Step::Ended => return End::Whole(i + 1),
-            Step::EndedBefore => return End::Whole(i),
-            Step::Wrong => return End::Wrong,
+            Step::Ended => return Place::At(i + 1, due),
+            Step::EndedBefore => return Place::At(i, due),
+            Step::Wrong => return Place::Wrong,
         }
     }
-    End::Cut
-}
-
-/// Where the next byte behind white space stands, and what is due there.
-enum Place {
-    At(usize, Due),
-    /// In a token that is cut.
-    Cut,
-    /// Nowhere: no token goes on so.
-    Wrong,
+    Place::Cut
 }
 
 /// Reads to the end of a token, if one has begun before that place.
@@ -754,16 +745,8 @@ fn read_on(next: Next, buf: &[u8], at: usize) -> Place
     match next {
         Next::Closed => Place::At(at, Due::After),
         Next::Between(due) => Place::At(at, due),
-        Next::InKey(token) => match token_end(token, buf, at) {
-            End::Whole(end) => Place::At(end, Due::Colon),
-            End::Cut => Place::Cut,
-            End::Wrong => Place::Wrong,
-        },
-        Next::InValue(token) => match token_end(token, buf, at) {
-            End::Whole(end) => Place::At(end, Due::After),
-            End::Cut => Place::Cut,
-            End::Wrong => Place::Wrong,
-        },
+        Next::InKey(token) => token_end(token, buf, at, Due::Colon),
+        Next::InValue(token) => token_end(token, buf, at, Due::After),
     }
 }
 

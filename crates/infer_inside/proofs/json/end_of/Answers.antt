@@ -1,4 +1,4 @@
-use Rattle.std.proofs.Common.{drop, arith}
+use Rattle.std.proofs.Common.{drop, refl, arith}
 use Rattle.infer_inside.specs.JsonStates.{left}
 use Rattle.infer_inside.proofs.OnwardLemmas.{onward_before, onward_cut, onward_ended, onward_here, onward_more, onward_wrong}
 use Rattle.infer_inside.proofs.json.end_of.Goals as goal
@@ -12,11 +12,11 @@ loop-i-preserved c =
 
 pub returns-in-Ended : goal.returns-in-Ended
 returns-in-Ended c =
-    (omega arith, omega arith, onward_ended c.args.token c.loop-i.token (drop c.args.at c.args.buf.now) c.args.buf.now c.loop-i.i (omega arith) c.loop-i.invariant c.in-Ended.ensures)
+    (refl, omega arith, omega arith, onward_ended c.args.token c.loop-i.token (drop c.args.at c.args.buf.now) c.args.buf.now c.loop-i.i (omega arith) c.loop-i.invariant c.in-Ended.ensures)
 
 pub returns-in-EndedBefore : goal.returns-in-EndedBefore
 returns-in-EndedBefore c =
-    (omega arith, omega arith, onward_before c.args.token c.loop-i.token (drop c.args.at c.args.buf.now) c.args.buf.now c.loop-i.i (omega arith) c.loop-i.invariant c.in-EndedBefore.ensures)
+    (refl, omega arith, omega arith, onward_before c.args.token c.loop-i.token (drop c.args.at c.args.buf.now) c.args.buf.now c.loop-i.i (omega arith) c.loop-i.invariant c.in-EndedBefore.ensures)
 
 pub returns-in-Wrong : goal.returns-in-Wrong
 returns-in-Wrong c =
