@@ -23,7 +23,7 @@ pub fn stands_at(buf: &[u8], text: &[u8], place: usize) -> bool
 
 /// Whether `text`, whose length is stated, stands in `buf` from `place` on. The compiler compares it by words.
 #[inline(always)]
-pub(crate) fn has_at<const N: usize>(buf: &[u8], text: &[u8; N], place: usize) -> bool
+pub fn has_at<const N: usize>(buf: &[u8], text: &[u8; N], place: usize) -> bool
     ensures { IsTrue result ↔ OccursAt buf.now text.now place }
 {
     place <= buf.len() && N <= buf.len() - place && same_at(buf, text, place)

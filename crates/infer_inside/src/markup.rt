@@ -1,12 +1,12 @@
 //! Markup, by its root element.
-ghost use Rattle.std.specs.Prelude.{◌≡◌, ◌↔◌, Some, ◌+◌, ◌<◌, ◌≤◌, ℕ, List, Option, None, length, slice_index, IsTrue, IfSome, MatchOption};
+ghost use Rattle.std.specs.Prelude.{◌≡◌, ◌↔◌, Some, ◌<◌, ◌≤◌, ℕ, List, Option, None, length, IsTrue, IfSome, MatchOption};
 ghost use Rattle.infer_deep.specs.Places.{FindsPlace};
 ghost use Rattle.infer_inside.specs.Runs.{IsRun};
 ghost use Rattle.infer_inside.specs.Markup.{AgreesWithDoctype, BeginsAt, BeginsName, ClosesDeclaration, HasInTag, HasRoot, HasRootWith, IsDoctype, IsEnclosed, IsMisc, IsNameByte, IsPart, IsRoot, IsSpace, IsTypeByte, IsXmlSpace, LeadsToTag, OpensTag};
 
 use crate::runs::after_last;
-use crate::search::find_from;
-use infer_deep::places::stands_at;
+use crate::search::{find_closing, find_from};
+use infer_deep::places::{has_at, stands_at};
 use memchr::{memchr, memchr2};
 
 /// The root element of markup.
@@ -94,7 +94,7 @@ fn prolog_start(buf: &[u8]) -> usize
     ensures begins { BeginsAt buf.now result }
     ensures within { result ≤ length buf.now }
 {
-    if stands_at(buf, b"\xEF\xBB\xBF", 0) {
+    if has_at(buf, b"\xEF\xBB\xBF", 0) {
         3
     } else {
         0
@@ -167,15 +167,21 @@ fn space_end(buf: &[u8], place: usize) -> Option<usize>
 }
 
 /// Where what stands there in `opening` and `closing` ends.
-fn enclosed_end(buf: &[u8], opening: &[u8], closing: &[u8], place: usize) -> Option<usize>
-    requires { place ≤ length buf.now }
+fn enclosed_end<const N: usize, const M: usize>(
+    buf: &[u8],
+    opening: &[u8; N],
+    closing: &[u8; M],
+    place: usize,
+) -> Option<usize>
+    requires some { 0 < M }
+    requires within { place ≤ length buf.now }
     ensures { FindsPlace (IsEnclosed buf.now opening.now closing.now place) result }
 {
-    if !stands_at(buf, opening, place) {
+    if !has_at(buf, opening, place) {
         return None;
     }
-    let end = find_from(buf, closing, place + opening.len())?;
-    Some(end + closing.len())
+    let end = find_closing(buf, closing, place + N)?;
+    Some(end + M)
 }
 
 /// The document type declaration that stands there.
@@ -184,7 +190,7 @@ fn doctype_at(buf: &[u8], place: usize) -> Option<Doctype>
     ensures { MatchOption result ((name close : ℕ) → ¬ IsDoctype buf.now place name close)
         (λ d. IsDoctype buf.now place d.name d.close) }
 {
-    if !stands_at(buf, b"<!DOCTYPE", place) {
+    if !has_at(buf, b"<!DOCTYPE", place) {
         return None;
     }
     let name = space_end(buf, place + 9)?;
@@ -210,14 +216,17 @@ fn tag_at(buf: &[u8], reached: Reached) -> Option<Tag>
     ensures { MatchOption result ((at to : ℕ) → ¬ OpensTag buf.now at to reached.place reached.doctype)
         (λ t. OpensTag buf.now t.at t.to reached.place reached.doctype) }
 {
-    if !stands_at(buf, b"<", reached.place) {
+    if !has_at(buf, b"<", reached.place) {
         return None;
     }
     let from = reached.place + 1;
-    let to = name_end(buf, from)?;
+    if from == buf.len() {
+        return None;
+    }
     if !begins_name(buf[from]) {
         return None;
     }
+    let to = name_end(buf, from)?;
     if !is_declared(buf, reached.doctype, from, to) {
         return None;
     }

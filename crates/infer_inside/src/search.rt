@@ -1,15 +1,38 @@
 //! Where a text stands first in what is left of a buffer.
-ghost use Rattle.std.specs.Prelude.{◌≤◌, length};
+ghost use Rattle.std.specs.Prelude.{◌<◌, ◌≤◌, length};
 ghost use Rattle.memchr.specs.Find.{OccursAt};
 ghost use Rattle.memchr.specs.Pairs.{IsPairFinderOf};
 ghost use Rattle.infer_deep.specs.Places.{IsFirstWithin};
 
-use infer_deep::places::stands_at;
+use infer_deep::places::{same_at, stands_at};
 use memchr::arch::all::packedpair::Pair;
 use memchr::arch::all::{packedpair, rabinkarp};
+use memchr::memchr;
 
 /// How often two bytes of a text may stand without the whole of it, before it is searched for byte by byte.
 const NEAR_MISSES: usize = 8;
+
+/// The first place from `start` on at which `text` stands, by the first place of its last byte, at which it mostly does.
+#[inline(always)]
+pub(crate) fn find_closing<const N: usize>(
+    buf: &[u8],
+    text: &[u8; N],
+    start: usize,
+) -> Option<usize>
+    requires some { 0 < N }
+    requires within { start ≤ length buf.now }
+    ensures { IsFirstWithin OccursAt buf.now text.now start (length buf.now) result }
+{
+    if buf.len() - start < N {
+        return None;
+    }
+    let last = N - 1;
+    let place = start + memchr(text[last], &buf[start + last..])?;
+    if same_at(buf, text, place) {
+        return Some(place);
+    }
+    find_from(buf, text, place + 1)
+}
 
 /// The first place from `start` on at which `text` stands.
 pub(crate) fn find_from(buf: &[u8], text: &[u8], start: usize) -> Option<usize>
@@ -23,7 +46,7 @@ pub(crate) fn find_from(buf: &[u8], text: &[u8], start: usize) -> Option<usize>
     }
 }
 
-/// [`find_from`] by two bytes of the text: if they stand, the whole of it is compared.
+/// [`find_from`] by this pair of bytes of the text: if they stand, the whole of it is compared.
 fn find_by(pair: packedpair::Finder, buf: &[u8], text: &[u8], start: usize) -> Option<usize>
     requires pair { IsPairFinderOf pair text.now }
     requires within { start ≤ length buf.now }
