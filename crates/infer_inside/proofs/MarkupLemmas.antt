@@ -5,22 +5,24 @@ use Rattle.std.specs.Prelude.{slice_range}
 use Rattle.memchr.specs.Find.{OccursAt}
 use Rattle.infer_deep.proofs.PlaceLemmas.{IsFirstPlace-same}
 use Rattle.infer_deep.specs.Signatures.{Lasts}
-use Rattle.infer_inside.specs.Markup.{AgreesWithDoctype, BeginsAt, BeginsName, HasRoot, HasRootWith, IsDoctype, IsEnclosed, IsMisc, IsNameByte, IsPart, IsRoot, IsSpace, IsTypeByte, IsXmlSpace, LeadsToTag, OpensTag, here, later, utf8_mark}
+use Rattle.infer_inside.specs.Markup.{AgreesWithDoctype, BeginsAt, BeginsElement, ClosesDeclaration, HasRoot, HasRootWith, IsDoctype, IsEnclosed, IsMisc, IsNameByte, IsPart, IsRootElement, IsSpaceRun, IsTypeByte, IsXmlSpace, LeadsToTag, OpensTag, here, later, utf8_mark}
 use Rattle.infer_inside.specs.Runs.{IsAfterLast, IsRun}
 use Rattle.infer_inside.proofs.FrontLemmas.{SharesFront, after_last_shared, byte_shared, byte_shared_back, front_grows, front_swaps, range_shared, run_shared, text_shared}
 use Rattle.infer_inside.proofs.PartLemmas.{part_length, part_reads}
 use Rattle.infer_inside.proofs.RunLemmas.{one_after_last, one_run_end}
 
 -- what the first bytes of a part are
-space_first : (b : List ℕ) (p q : ℕ) → IsSpace b p q → IsXmlSpace (get_or b p 0)
+space_first : (b : List ℕ) (p q : ℕ) → IsSpaceRun b p q → IsXmlSpace (get_or b p 0)
 space_first b p q (some, run) = run.bytes p (omega arith) some
 
-instruction_first : (b : List ℕ) (p q : ℕ) → IsEnclosed b (codes "<?") (codes "?>") p q → (get_or b p 0 ≡ 0x3C) × (get_or b (p + 1) 0 ≡ 0x3F)
+instruction_first : (b : List ℕ) (p q : ℕ) → IsEnclosed b (codes "<?") (codes "?>") p q
+    → (get_or b p 0 ≡ 0x3C) × (get_or b (p + 1) 0 ≡ 0x3F)
 instruction_first b p q (o, end) = (rw add-zero at (o.reads 0 (omega arith)), o.reads 1 (omega arith))
 
 comment_first : (b : List ℕ) (p q : ℕ) → IsEnclosed b (codes "<!--") (codes "-->") p q
     → (get_or b p 0 ≡ 0x3C) × (get_or b (p + 1) 0 ≡ 0x21) × (get_or b (p + 2) 0 ≡ 0x2D)
-comment_first b p q (o, end) = (rw add-zero at (o.reads 0 (omega arith)), o.reads 1 (omega arith), o.reads 2 (omega arith))
+comment_first b p q (o, end) =
+    (rw add-zero at (o.reads 0 (omega arith)), o.reads 1 (omega arith), o.reads 2 (omega arith))
 
 doctype_first : (b : List ℕ) (p name close : ℕ) → IsDoctype b p name close
     → (get_or b p 0 ≡ 0x3C) × (get_or b (p + 1) 0 ≡ 0x21) × (get_or b (p + 2) 0 ≡ 0x44)
@@ -35,7 +37,8 @@ not_space x is (inr (inr (inl e))) = omega arith
 not_space x is (inr (inr (inr e))) = omega arith
 
 -- so one part stands at a place
-one_enclosed : (b opening closing : List ℕ) (p q r : ℕ) → IsEnclosed b opening closing p q → IsEnclosed b opening closing p r → q ≡ r
+one_enclosed : (b opening closing : List ℕ) (p q r : ℕ) → IsEnclosed b opening closing p q
+    → IsEnclosed b opening closing p r → q ≡ r
 one_enclosed b opening closing p q r (o, (e, first, is)) (_, (f, other, same)) =
     let one = IsFirstPlace-same OccursAt b closing (p + length opening) (length b) e f first other in omega arith
 
@@ -47,40 +50,52 @@ one_misc b p q r (inl s) (inr (inl i)) = absurd (not_space _ (instruction_first 
 one_misc b p q r (inl s) (inr (inr c)) = absurd (not_space _ (comment_first b p r c).0 (space_first b p q s))
 one_misc b p q r (inr (inl i)) (inl s) = absurd (not_space _ (instruction_first b p q i).0 (space_first b p r s))
 one_misc b p q r (inr (inr c)) (inl s) = absurd (not_space _ (comment_first b p q c).0 (space_first b p r s))
-one_misc b p q r (inr (inl i)) (inr (inr c)) = absurd (let x = instruction_first b p q i in let y = comment_first b p r c in omega arith)
-one_misc b p q r (inr (inr c)) (inr (inl i)) = absurd (let x = instruction_first b p r i in let y = comment_first b p q c in omega arith)
+one_misc b p q r (inr (inl i)) (inr (inr c)) =
+    absurd (let x = instruction_first b p q i in let y = comment_first b p r c in omega arith)
+one_misc b p q r (inr (inr c)) (inr (inl i)) =
+    absurd (let x = instruction_first b p r i in let y = comment_first b p q c in omega arith)
 
 no_misc_doctype : (b : List ℕ) (p q name close : ℕ) → IsMisc b p q → ¬ IsDoctype b p name close
 no_misc_doctype b p q name close (inl s) d = not_space _ (doctype_first b p name close d).0 (space_first b p q s)
-no_misc_doctype b p q name close (inr (inl i)) d = let x = instruction_first b p q i in let y = doctype_first b p name close d in omega arith
-no_misc_doctype b p q name close (inr (inr c)) d = let x = comment_first b p q c in let y = doctype_first b p name close d in omega arith
+no_misc_doctype b p q name close (inr (inl i)) d =
+    let x = instruction_first b p q i in let y = doctype_first b p name close d in omega arith
+no_misc_doctype b p q name close (inr (inr c)) d =
+    let x = comment_first b p q c in let y = doctype_first b p name close d in omega arith
 
-one_doctype : (b : List ℕ) (p name close other end : ℕ) → IsDoctype b p name close → IsDoctype b p other end → (name ≡ other) × (close ≡ end)
+one_doctype : (b : List ℕ) (p name close other end : ℕ) → IsDoctype b p name close → IsDoctype b p other end
+    → (name ≡ other) × (close ≡ end)
 one_doctype b p name close other end d e =
     let same = one_run_end IsXmlSpace b (p + 9) name other d.space.1 e.space.1 in
-    (same, one_run_end (λ x. (x ≡ 0x3E → ⊥) × (x ≡ 0x5B → ⊥)) b other close end (subst (λ n. IsRun (λ x. (x ≡ 0x3E → ⊥) × (x ≡ 0x5B → ⊥)) b n close) same d.closes.0) e.closes.0)
+    let moved = subst (λ n. ClosesDeclaration b n close) same d.closes in
+    (same, one_run_end (λ x. (x ≡ 0x3E → ⊥) × (x ≡ 0x5B → ⊥)) b other close end moved.0 e.closes.0)
 
 one_part : (b : List ℕ) (p : ℕ) (d : Option ℕ) (q : ℕ) (e : Option ℕ) (r : ℕ) (f : Option ℕ)
     → IsPart b p d q e → IsPart b p d r f → (q ≡ r) × (e ≡ f)
 one_part b p d q e r f (inl (m, is)) (inl (n, same)) = (one_misc b p q r m n, is ∙ sym same)
-one_part b p d q e r f (inl (m, is)) (inr (name, close, doctype, none, ends, same)) = absurd (no_misc_doctype b p q name close m doctype)
-one_part b p d q e r f (inr (name, close, doctype, none, ends, same)) (inl (m, is)) = absurd (no_misc_doctype b p r name close m doctype)
+one_part b p d q e r f (inl (m, is)) (inr (name, close, doctype, none, ends, same)) =
+    absurd (no_misc_doctype b p q name close m doctype)
+one_part b p d q e r f (inr (name, close, doctype, none, ends, same)) (inl (m, is)) =
+    absurd (no_misc_doctype b p r name close m doctype)
 one_part b p d q e r f (inr (name, close, doctype, none, ends, is)) (inr (other, end, again, _, stops, same)) =
     let one = one_doctype b p name close other end doctype again in (omega arith, is ∙ ap Some one.0 ∙ sym same)
 
 -- and it is within the buffer, and no tag of an element
-pub part_within : (b : List ℕ) (p : ℕ) (d : Option ℕ) (q : ℕ) (e : Option ℕ) → IsPart b p d q e → (p < q) × (q ≤ length b)
+pub part_within : (b : List ℕ) (p : ℕ) (d : Option ℕ) (q : ℕ) (e : Option ℕ) → IsPart b p d q e
+    → (p < q) × (q ≤ length b)
 part_within b p d q e (inl (inl (some, run), is)) = (some, let w = run.whole in omega arith)
 part_within b p d q e (inl (inr (inl (o, (end, first, same))), is)) = let w = first.here in (omega arith, omega arith)
 part_within b p d q e (inl (inr (inr (o, (end, first, same))), is)) = let w = first.here in (omega arith, omega arith)
 part_within b p d q e (inr (name, close, doctype, none, ends, is)) =
-    let space = doctype.space in let run = doctype.closes.0 in (omega (arith, run.order, space.0), let w = run.whole in omega arith)
+    let space = doctype.space in
+    let order = doctype.closes.0.order in
+    let whole = doctype.closes.0.whole in (omega (arith, space.0), omega arith)
 
 no_tag : (b : List ℕ) (at to p : ℕ) (d : Option ℕ) (q : ℕ) (e : Option ℕ) → IsPart b p d q e → ¬ OpensTag b at to p d
 no_tag b at to p d q e (inl (inl s, is)) tag = not_space _ tag.opens (space_first b p q s)
 no_tag b at to p d q e (inl (inr (inl i), is)) tag = tag.begins.1 (instruction_first b p q i).1
 no_tag b at to p d q e (inl (inr (inr c), is)) tag = tag.begins.0 (comment_first b p q c).1
-no_tag b at to p d q e (inr (name, close, doctype, none, ends, is)) tag = tag.begins.0 (doctype_first b p name close doctype).1
+no_tag b at to p d q e (inr (name, close, doctype, none, ends, is)) tag =
+    tag.begins.0 (doctype_first b p name close doctype).1
 
 -- the ways to a tag
 ways : (b : List ℕ) (at to p : ℕ) (d : Option ℕ) → LeadsToTag b at to p d
@@ -89,7 +104,8 @@ ways b at to p d (here _ _ tag) = inl tag
 ways b at to p d (later _ _ q e is rest) = inr (q, (e, is, rest))
 
 -- one leads past a part that stands there
-pub past_part : (b : List ℕ) (at to p : ℕ) (d : Option ℕ) (q : ℕ) (e : Option ℕ) → IsPart b p d q e → LeadsToTag b at to p d ↔ LeadsToTag b at to q e
+pub past_part : (b : List ℕ) (at to p : ℕ) (d : Option ℕ) (q : ℕ) (e : Option ℕ) → IsPart b p d q e
+    → LeadsToTag b at to p d ↔ LeadsToTag b at to q e
 past_part b at to p d q e is = (
   λ leads. elim (ways b at to p d leads) [
     | inl tag ↦ absurd (no_tag b at to p d q e is tag)
@@ -109,10 +125,12 @@ past_none b at to p d none = (
 )
 
 -- one tag opens at a place
-pub one_tag : (b : List ℕ) (at to from end p : ℕ) (d : Option ℕ) → OpensTag b at to p d → OpensTag b from end p d → (at ≡ from) × (to ≡ end)
+pub one_tag : (b : List ℕ) (at to from end p : ℕ) (d : Option ℕ) → OpensTag b at to p d
+    → OpensTag b from end p d → (at ≡ from) × (to ≡ end)
 one_tag b at to from end p d t u =
     let same = one_run_end IsNameByte b (p + 1) to end t.name u.name in
-    (one_after_last 0x3A b (p + 1) end at from (subst (λ x. IsAfterLast 0x3A b (p + 1) x at) same t.local) u.local, same)
+    let moved = subst (λ x. IsAfterLast 0x3A b (p + 1) x at) same t.local in
+    (one_after_last 0x3A b (p + 1) end at from moved u.local, same)
 
 -- an element's name is that of the document type if it stands there, and no byte of such a name follows
 pub is_declared : (b : List ℕ) (name p q : ℕ) → IsRun IsNameByte b p q
@@ -130,12 +148,13 @@ is_declared b name p q run =
           let bytes : (k : ℕ) → name ≤ k → k < end → IsTypeByte (get_or b k 0) =
           λ k low high.
           let same : name + (k - name) ≡ k = omega arith in
-          subst (λ i. IsTypeByte (get_or b i 0)) same
-          (subst IsTypeByte (sym (reads (k - name) (omega arith))) (run.bytes (p + (k - name)) (omega arith) (omega arith)).0) in (
+          let kind = run.bytes (p + (k - name)) (omega arith) (omega arith) in
+          subst (λ i. IsTypeByte (get_or b i 0)) same (subst IsTypeByte (sym (reads (k - name) (omega arith))) kind.0) in (
             end,
             record { order = omega arith; bytes = bytes; whole = fits; ends = ends },
             ext_get_or 0 _ _ (omega arith)
-                (λ k lt. part_reads b name end k (omega arith) ∙ reads k (omega arith) ∙ sym (part_reads b p q k (omega arith))),
+                (λ k lt.
+                part_reads b name end k (omega arith) ∙ reads k (omega arith) ∙ sym (part_reads b p q k (omega arith))),
           ),
       λ (end, is, same).
           let fill = part_length b name end is.order (let w = is.whole in omega arith) in
@@ -168,7 +187,8 @@ module _ (b : List ℕ) (p to : ℕ) (d : Option ℕ) (run : IsRun IsNameByte b 
   pub unnamed : IsAfterLast 0x3A b (p + 1) to to → (at end : ℕ) → ¬ OpensTag b at end p d
   unnamed none at end tag =
       let same = same_end at end tag in
-      let empty = one_after_last 0x3A b (p + 1) to at to (subst (λ x. IsAfterLast 0x3A b (p + 1) x at) same tag.local) none in
+      let moved = subst (λ x. IsAfterLast 0x3A b (p + 1) x at) same tag.local in
+      let empty = one_after_last 0x3A b (p + 1) to at to moved none in
       let some = tag.some in omega arith
 
 -- a prolog begins at one place
@@ -180,10 +200,11 @@ one_begin b p q (inr (none, is)) (inr (_, same)) = is ∙ sym same
 
 -- what stands in b stands in what begins as b does
 module _ (b c : List ℕ) (s : SharesFront (length b) b c) where
-  space_lasts : (p q : ℕ) → IsSpace b p q → IsSpace c p q
+  space_lasts : (p q : ℕ) → IsSpaceRun b p q → IsSpaceRun c p q
   space_lasts p q (some, run) = (some, run_shared (length b) b c s IsXmlSpace p q run.whole run)
 
-  enclosed_lasts : (opening closing : List ℕ) (p q : ℕ) → IsEnclosed b opening closing p q → IsEnclosed c opening closing p q
+  enclosed_lasts : (opening closing : List ℕ) (p q : ℕ) → IsEnclosed b opening closing p q
+      → IsEnclosed c opening closing p q
   enclosed_lasts opening closing p q (o, (e, first, is)) =
       let here = first.here in
       let fits = here.high in
@@ -198,7 +219,8 @@ module _ (b c : List ℕ) (s : SharesFront (length b) b c) where
               high = let long = s.second in omega arith;
             };
             before = λ k lt w.
-                first.before k lt (record { stands = text_shared (length b) c b back closing k (omega arith) w.stands; low = w.low; high = omega arith });
+                let stands = text_shared (length b) c b back closing k (omega arith) w.stands in
+                first.before k lt (record { stands = stands; low = w.low; high = omega arith });
           },
           is,
         ),
@@ -228,11 +250,13 @@ module _ (b c : List ℕ) (s : SharesFront (length b) b c) where
 
   name_lasts : (d : Option ℕ) (p q : ℕ) → p ≤ q → q ≤ length b → AgreesWithDoctype b d p q → AgreesWithDoctype c d p q
   name_lasts None p q order high is = is
-  name_lasts (Some name) p q order high (end, run, is) = (
-    end,
-    run_shared (length b) b c s IsTypeByte name end run.whole run,
-    sym (range_shared (length b) b c s name end run.order (let w = run.whole in omega arith)) ∙ is ∙ range_shared (length b) b c s p q order high,
-  )
+  name_lasts (Some name) p q order high (end, run, is) =
+      let whole = run.whole in
+      let declared = range_shared (length b) b c s name end run.order (omega arith) in (
+        end,
+        run_shared (length b) b c s IsTypeByte name end whole run,
+        sym declared ∙ is ∙ range_shared (length b) b c s p q order high,
+      )
 
   tag_lasts : (at to p : ℕ) (d : Option ℕ) → OpensTag b at to p d → OpensTag c at to p d
   tag_lasts at to p d t =
@@ -240,7 +264,7 @@ module _ (b c : List ℕ) (s : SharesFront (length b) b c) where
       let whole = t.name.whole in record {
         opens = byte_shared (length b) b c s (λ x. x ≡ 0x3C) p (omega arith) t.opens;
         name = run_shared (length b) b c s IsNameByte (p + 1) to whole t.name;
-        begins = byte_shared (length b) b c s BeginsName (p + 1) (omega arith) t.begins;
+        begins = byte_shared (length b) b c s BeginsElement (p + 1) (omega arith) t.begins;
         local = after_last_shared (length b) b c s 0x3A (p + 1) to at (omega arith) t.local;
         some = t.some;
         agrees = name_lasts d (p + 1) to order (omega arith) t.agrees;
@@ -251,7 +275,8 @@ module _ (b c : List ℕ) (s : SharesFront (length b) b c) where
   leads_lasts at to p d (later _ _ q e is rest) = later p d q e (part_lasts p d q e is) (leads_lasts at to q e rest)
 
 -- the tag is within the buffer
-tag_within : (b : List ℕ) (at to p : ℕ) (d : Option ℕ) → LeadsToTag b at to p d → (p + 1 ≤ at) × (at < to) × (to < length b)
+tag_within : (b : List ℕ) (at to p : ℕ) (d : Option ℕ) → LeadsToTag b at to p d
+    → (p + 1 ≤ at) × (at < to) × (to < length b)
 tag_within b at to p d (here _ _ tag) = (tag.local.low, tag.some, tag.name.whole)
 tag_within b at to p d (later _ _ q e is rest) =
     let past = part_within b p d q e is in let within = tag_within b at to q e rest in (omega arith, within.1, within.2)
@@ -261,7 +286,7 @@ begin_lasts b c p s long (inl (mark, is)) = inl (text_shared (length b) b c s ut
 begin_lasts b c p s long (inr (none, is)) =
     inr (λ mark. none (text_shared (length b) c b (front_swaps (length b) b c s) utf8_mark 0 (omega arith) mark), is)
 
-root_lasts : (name rest b more : List ℕ) → IsRoot name rest b → IsRoot name (rest ++ more) (b ++ more)
+root_lasts : (name rest b more : List ℕ) → IsRootElement name rest b → IsRootElement name (rest ++ more) (b ++ more)
 root_lasts name rest b more (p, at, to, begins, leads, is_name, is_rest) =
     let s = front_grows b more in
     let (low, some, whole) = tag_within b at to p None leads in (
@@ -280,12 +305,13 @@ HasRoot-lasts name b more (rest, is) = (rest ++ more, root_lasts name rest b mor
 pub HasRootWith-lasts : (name text : List ℕ) → Lasts (HasRootWith name text)
 HasRootWith-lasts name text b more (rest, is, (p, o, none)) =
     let s = front_grows rest more in
+    let back = byte_shared_back (length rest) rest (rest ++ more) s (λ x. x ≡ 0x3E) in
     let fits = o.fits in (
       rest ++ more,
       root_lasts name rest b more is,
       (
         p,
         text_shared (length rest) rest (rest ++ more) s text p fits o,
-        λ k lt closes. none k lt (byte_shared_back (length rest) rest (rest ++ more) s (λ x. x ≡ 0x3E) k (omega arith) closes),
+        λ k lt closes. none k lt (back k (omega arith) closes),
       ),
     )

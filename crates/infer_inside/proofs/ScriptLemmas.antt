@@ -112,11 +112,13 @@ module _ (n : ℕ) (b c : List ℕ) (s : SharesFront n b c) where
 
   setting_shared : (p q : ℕ) → p < q → q < n → IsSetting b p q → IsSetting c p q
   setting_shared p q some high (inl is) = inl (byte_shared n b c s (λ x. x ≡ 0x2D) p (omega arith) is)
-  setting_shared p q some high (inr (k, low, lt, is)) = inr (k, low, lt, byte_shared n b c s (λ x. x ≡ 0x3D) k (omega arith) is)
+  setting_shared p q some high (inr (k, low, lt, is)) =
+      inr (k, low, lt, byte_shared n b c s (λ x. x ≡ 0x3D) k (omega arith) is)
 
   env_shared : (p q : ℕ) → q < n → IsEnv b p q → IsEnv c p q
   env_shared p q high (at, name, o, ends) =
-      (at, after_last_shared n b c s 0x2F p q at (omega arith) name, text_shared n b c s (codes "env") at (omega arith) o, ends)
+      let name_shared = after_last_shared n b c s 0x2F p q at (omega arith) name in
+      (at, name_shared, text_shared n b c s (codes "env") at (omega arith) o, ends)
 
   bare_shared : (at to end : ℕ) → to ≤ n → EndsBare b at to end → EndsBare c at to end
   bare_shared at to end high e = record {
@@ -149,7 +151,8 @@ module _ (b c : List ℕ) (s : SharesFront (length b) b c) where
         before = λ p q low lt v had.
             let ends = ends_before from to p q w.word lt v in
             let fits : q < length b = omega arith in
-            w.before p q low lt (word_shared (length b) c b (front_swaps (length b) b c s) p q fits v) (was p q v.some fits had);
+            let word = word_shared (length b) c b (front_swaps (length b) b c s) p q fits v in
+            w.before p q low lt word (was p q v.some fits had);
       }
 
   first_lasts : (p q : ℕ) → IsFirstWord b p q → IsFirstWord c p q
@@ -157,15 +160,17 @@ module _ (b c : List ℕ) (s : SharesFront (length b) b c) where
 
   names_lasts : (p q : ℕ) → NamesProgram b p q → NamesProgram c p q
   names_lasts p q (inl (first, other)) =
-      inl (first_lasts p q first, λ env. other (env_shared (length b) c b (front_swaps (length b) b c s) p q first.word.run.whole env))
+      let back = front_swaps (length b) b c s in
+      inl (first_lasts p q first, λ env. other (env_shared (length b) c b back p q first.word.run.whole env))
   names_lasts p q (inr (from, to, first, env, next)) =
+      let back = front_swaps (length b) b c s in
       inr (
         from,
         to,
         first_lasts from to first,
         env_shared (length b) b c s from to first.word.run.whole env,
         next_lasts (λ i j. ¬ IsSetting b i j) (λ i j. ¬ IsSetting c i j)
-            (λ i j some high other is. other (setting_shared (length b) c b (front_swaps (length b) b c s) i j some high is))
+            (λ i j some high other is. other (setting_shared (length b) c b back i j some high is))
             (λ i j some high other is. other (setting_shared (length b) b c s i j some high is)) to p q next,
       )
 

@@ -13,13 +13,13 @@ IsXmlSpace x = (x ≡ 0x09) ⊎ (x ≡ 0x0A) ⊎ (x ≡ 0x0D) ⊎ (x ≡ 0x20)
 abbrev pub IsTypeByte : ℕ → Type 0
 IsTypeByte x = (¬ IsXmlSpace x) × (x ≢ 0x3E)
 
--- and what isn't "/" either is one of an element's name
+-- what is not "/" either is one of an element's name
 abbrev pub IsNameByte : ℕ → Type 0
 IsNameByte x = IsTypeByte x × (x ≢ 0x2F)
 
 -- from p up to q stands white space, at least a byte of it, and all that stands there
-abbrev pub IsSpace : List ℕ → ℕ → ℕ → Type 0
-IsSpace b p q = (p < q) × IsRun IsXmlSpace b p q
+abbrev pub IsSpaceRun : List ℕ → ℕ → ℕ → Type 0
+IsSpaceRun b p q = (p < q) × IsRun IsXmlSpace b p q
 
 -- from p up to q stands `opening`, then all before the first `closing` that comes after it, and that
 abbrev pub IsEnclosed : List ℕ → List ℕ → List ℕ → ℕ → ℕ → Type 0
@@ -29,7 +29,8 @@ IsEnclosed b opening closing p q =
 
 -- from p up to q stands white space, a processing instruction or a comment
 abbrev pub IsMisc : List ℕ → ℕ → ℕ → Type 0
-IsMisc b p q = IsSpace b p q ⊎ IsEnclosed b (codes "<?") (codes "?>") p q ⊎ IsEnclosed b (codes "<!--") (codes "-->") p q
+IsMisc b p q =
+    IsSpaceRun b p q ⊎ IsEnclosed b (codes "<?") (codes "?>") p q ⊎ IsEnclosed b (codes "<!--") (codes "-->") p q
 
 -- the first ">" from `from` on is at `close`, and no "[" stands before it
 abbrev pub ClosesDeclaration : List ℕ → ℕ → ℕ → Type 0
@@ -39,11 +40,11 @@ ClosesDeclaration b from close = IsRun (λ x. (x ≢ 0x3E) × (x ≢ 0x5B)) b fr
 -- first ">" behind the white space, which is at `close`, without a "["
 pub record IsDoctype (b : List ℕ) (p name close : ℕ) : Type 0 where
   pub opens : OccursAt b (codes "<!DOCTYPE") p
-  pub space : IsSpace b (p + 9) name
+  pub space : IsSpaceRun b (p + 9) name
   pub closes : ClosesDeclaration b name close
 
--- a part of the prolog stands from p up to q. d is the place of the document type's name if one was declared before p,
--- e the same of q; a second is no part
+-- a part of the prolog stands from p up to q. d is where the document type's name begins if one was declared before p,
+-- and e the same before q. A second declaration is no part
 abbrev pub IsPart : List ℕ → ℕ → Option ℕ → ℕ → Option ℕ → Type 0
 IsPart b p d q e =
     (IsMisc b p q × (e ≡ d))
@@ -52,26 +53,29 @@ IsPart b p d q e =
 -- the text from p up to q is the whole name of the document type, if one was declared
 abbrev pub AgreesWithDoctype : List ℕ → Option ℕ → ℕ → ℕ → Type 0
 AgreesWithDoctype b None p q = Unit {0}
-AgreesWithDoctype b (Some name) p q = (end : ℕ) × IsRun IsTypeByte b name end × (slice_range b name end ≡ slice_range b p q)
+AgreesWithDoctype b (Some name) p q =
+    (end : ℕ) × IsRun IsTypeByte b name end × (slice_range b name end ≡ slice_range b p q)
 
 -- "!" and "?" begin no element's name
-abbrev pub BeginsName : ℕ → Type 0
-BeginsName x = (x ≢ 0x21) × (x ≢ 0x3F)
+abbrev pub BeginsElement : ℕ → Type 0
+BeginsElement x = (x ≢ 0x21) × (x ≢ 0x3F)
 
--- the tag of an element opens at p, and its name ends at `to`, within b. What follows the name's last ":", or all of
--- it, begins at `at` and isn't empty
+-- the tag of an element opens at p: "<", and a name that ends at `to`, within b, and is that of the document type d.
+-- What follows the name's last ":", or all of it, begins at `at` and is not empty
 pub record OpensTag (b : List ℕ) (at to p : ℕ) (d : Option ℕ) : Type 0 where
   pub opens : slice_index b p ≡ 0x3C
   pub name : IsRun IsNameByte b (p + 1) to
-  pub begins : BeginsName (slice_index b (p + 1))
+  pub begins : BeginsElement (slice_index b (p + 1))
   pub local : IsAfterLast 0x3A b (p + 1) to at
   pub some : at < to
   pub agrees : AgreesWithDoctype b d (p + 1) to
 
--- from p on the first thing that is no part of the prolog is that tag: it opens at p, or behind a part that stands there
+-- the first thing from p on that is no part of the prolog is that tag: it opens at p, or follows on a part that stands
+-- there
 pub data LeadsToTag (b : List ℕ) (at to : ℕ) : ℕ → Option ℕ → Type 0 where
   here : (p : ℕ) (d : Option ℕ) → OpensTag b at to p d → LeadsToTag b at to p d
-  later : (p : ℕ) (d : Option ℕ) (q : ℕ) (e : Option ℕ) → IsPart b p d q e → LeadsToTag b at to q e → LeadsToTag b at to p d
+  later : (p : ℕ) (d : Option ℕ) (q : ℕ) (e : Option ℕ)
+      → IsPart b p d q e → LeadsToTag b at to q e → LeadsToTag b at to p d
 
 -- the byte order mark of UTF-8
 abbrev pub utf8_mark : List ℕ
@@ -82,8 +86,8 @@ abbrev pub BeginsAt : List ℕ → ℕ → Type 0
 BeginsAt b p = (OccursAt b utf8_mark 0 × (p ≡ 3)) ⊎ ((¬ OccursAt b utf8_mark 0) × (p ≡ 0))
 
 -- the root element has this local name, and `rest` is what comes after it in b
-abbrev pub IsRoot : List ℕ → List ℕ → List ℕ → Type 0
-IsRoot name rest b =
+abbrev pub IsRootElement : List ℕ → List ℕ → List ℕ → Type 0
+IsRootElement name rest b =
     (p at to : ℕ) × BeginsAt b p × LeadsToTag b at to p None × (name ≡ slice_range b at to) × (rest ≡ drop to b)
 
 -- the text stands in `rest` before its first ">", or anywhere if it has none
@@ -92,8 +96,8 @@ HasInTag text rest = (p : ℕ) × OccursAt rest text p × ((k : ℕ) → k < p +
 
 -- the root element has this local name
 abbrev pub HasRoot : List ℕ → List ℕ → Type 0
-HasRoot name b = (rest : List ℕ) × IsRoot name rest b
+HasRoot name b = (rest : List ℕ) × IsRootElement name rest b
 
 -- and the text in its tag behind the name
 abbrev pub HasRootWith : List ℕ → List ℕ → List ℕ → Type 0
-HasRootWith name text b = (rest : List ℕ) × IsRoot name rest b × HasInTag text rest
+HasRootWith name text b = (rest : List ℕ) × IsRootElement name rest b × HasInTag text rest

@@ -2,7 +2,7 @@
 ghost use Rattle.std.specs.Prelude.{◌≡◌, ◌↔◌, Some, ◌<◌, ◌≤◌, ℕ, List, Option, None, length, IsTrue, IfSome, MatchOption};
 ghost use Rattle.infer_deep.specs.Places.{FindsPlace};
 ghost use Rattle.infer_inside.specs.Runs.{IsRun};
-ghost use Rattle.infer_inside.specs.Markup.{AgreesWithDoctype, BeginsAt, BeginsName, ClosesDeclaration, HasInTag, HasRoot, HasRootWith, IsDoctype, IsEnclosed, IsMisc, IsNameByte, IsPart, IsRoot, IsSpace, IsTypeByte, IsXmlSpace, LeadsToTag, OpensTag};
+ghost use Rattle.infer_inside.specs.Markup.{AgreesWithDoctype, BeginsAt, BeginsElement, ClosesDeclaration, HasInTag, HasRoot, HasRootWith, IsDoctype, IsEnclosed, IsMisc, IsNameByte, IsPart, IsRootElement, IsSpaceRun, IsTypeByte, IsXmlSpace, LeadsToTag, OpensTag};
 
 use crate::runs::after_last;
 use crate::search::{find_closing, find_from};
@@ -77,10 +77,10 @@ pub fn has_root_with(buf: &[u8], name: &[u8], text: &[u8]) -> bool
 /// root element's tag follows: "<" and its name, which goes up to white space, "/" or ">", begins with neither "!" nor
 /// "?", and ends within the buffer. If a document type was declared, its name is the same.
 pub fn root_of(buf: &[u8]) -> Option<Root<'_>>
-    ensures found { MatchOption result ((name rest : List ℕ) → ¬ IsRoot name rest buf.now)
-        (λ r. IsRoot r.name.now r.rest.now buf.now) }
+    ensures found { MatchOption result ((name rest : List ℕ) → ¬ IsRootElement name rest buf.now)
+        (λ r. IsRootElement r.name.now r.rest.now buf.now) }
     ensures only { IfSome result
-        (λ r. (name rest : List ℕ) → IsRoot name rest buf.now → (name ≡ r.name.now) × (rest ≡ r.rest.now)) }
+        (λ r. (name rest : List ℕ) → IsRootElement name rest buf.now → (name ≡ r.name.now) × (rest ≡ r.rest.now)) }
 {
     let tag = tag_at(buf, prolog_end(buf, prolog_start(buf)))?;
     Some(Root {
@@ -156,7 +156,7 @@ fn misc_end(buf: &[u8], place: usize) -> Option<usize>
 /// Where the white space that stands there ends, if the buffer goes on.
 fn space_end(buf: &[u8], place: usize) -> Option<usize>
     requires { place ≤ length buf.now }
-    ensures { FindsPlace (IsSpace buf.now place) result }
+    ensures { FindsPlace (IsSpaceRun buf.now place) result }
 {
     for end in place..buf.len() {
         if !is_xml_space(buf[end]) {
@@ -223,7 +223,7 @@ fn tag_at(buf: &[u8], reached: Reached) -> Option<Tag>
     if from == buf.len() {
         return None;
     }
-    if !begins_name(buf[from]) {
+    if !begins_element(buf[from]) {
         return None;
     }
     let to = name_end(buf, from)?;
@@ -273,8 +273,8 @@ fn is_doctype(buf: &[u8], name: usize, from: usize, to: usize) -> bool
     end < buf.len() && !is_type_byte(buf[end])
 }
 
-fn begins_name(byte: u8) -> bool
-    ensures { IsTrue result ↔ BeginsName byte }
+fn begins_element(byte: u8) -> bool
+    ensures { IsTrue result ↔ BeginsElement byte }
 {
     byte != b'!' && byte != b'?'
 }

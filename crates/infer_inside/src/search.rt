@@ -12,7 +12,7 @@ use memchr::memchr;
 /// How often two bytes of a text may stand without the whole of it, before it is searched for byte by byte.
 const NEAR_MISSES: usize = 8;
 
-/// The first place from `start` on at which `text` stands, by the first place of its last byte, at which it mostly does.
+/// The first place from `start` on at which `text` stands: mostly the first one of its last byte.
 #[inline(always)]
 pub(crate) fn find_closing<const N: usize>(
     buf: &[u8],

@@ -1,7 +1,7 @@
 use Rattle.std.proofs.Common.{subst, sym}
 use Rattle.std.proofs.lemmas.Bool.Decides.{Decides-eqb}
 use Rattle.std.proofs.lemmas.Slice.Eq.{slice_eq-Decides}
-use Rattle.infer_inside.specs.Markup.{IsRoot}
+use Rattle.infer_inside.specs.Markup.{IsRootElement}
 use Rattle.infer_inside.proofs.markup.has_root.Goals as goal
 
 pub returns-in-Some : goal.returns-in-Some
@@ -9,7 +9,7 @@ returns-in-Some c =
     let b = c.args.buf.now in
     let root = c.in-Some.root in
     let same = slice_eq-Decides Decides-eqb _ _ _ c.eq.ensures in (
-      λ is. (root.rest.now, subst (λ n. IsRoot n root.rest.now b) (same.0 is) c.in-Some.ensures.found),
+      λ is. (root.rest.now, subst (λ n. IsRootElement n root.rest.now b) (same.0 is) c.in-Some.ensures.found),
       λ (rest, is). same.1 (sym (c.in-Some.ensures.only c.args.name.now rest is).0),
     )
 

@@ -1,7 +1,7 @@
 use Rattle.std.proofs.Common.{subst, sym}
 use Rattle.std.proofs.lemmas.Bool.Decides.{Decides-eqb}
 use Rattle.std.proofs.lemmas.Slice.Eq.{slice_eq-Decides}
-use Rattle.infer_inside.specs.Markup.{HasInTag, IsRoot}
+use Rattle.infer_inside.specs.Markup.{HasInTag, IsRootElement}
 use Rattle.infer_inside.proofs.markup.has_root_with.Goals as goal
 
 pub returns-then-eq : goal.returns-then-eq
@@ -9,7 +9,7 @@ returns-then-eq c =
     let b = c.args.buf.now in
     let root = c.in-Some.root in
     let same = (slice_eq-Decides Decides-eqb _ _ _ c.eq.ensures).0 c.if-eq.true in (
-      λ has. (root.rest.now, subst (λ n. IsRoot n root.rest.now b) same c.in-Some.ensures.found, c.has_in_tag.ensures.0 has),
+      λ has. (root.rest.now, subst (λ n. IsRootElement n root.rest.now b) same c.in-Some.ensures.found, c.has_in_tag.ensures.0 has),
       λ (rest, is, has).
           c.has_in_tag.ensures.1 (subst (HasInTag c.args.text.now) (c.in-Some.ensures.only c.args.name.now rest is).1 has),
     )

@@ -1,9 +1,9 @@
 use Rattle.std.proofs.Common.{ℕ, List, Option, None, Some, inl, inr, codes}
 use Rattle.infer_deep.specs.Places.{FindsPlace}
-use Rattle.infer_inside.specs.Markup.{IsEnclosed, IsMisc, IsSpace}
+use Rattle.infer_inside.specs.Markup.{IsEnclosed, IsMisc, IsSpaceRun}
 use Rattle.infer_inside.proofs.markup.misc_end.Goals as goal
 
-comment_at_last : (b : List ℕ) (p : ℕ) (r : Option ℕ) → ((q : ℕ) → ¬ IsSpace b p q)
+comment_at_last : (b : List ℕ) (p : ℕ) (r : Option ℕ) → ((q : ℕ) → ¬ IsSpaceRun b p q)
     → ((q : ℕ) → ¬ IsEnclosed b (codes "<?") (codes "?>") p q) → FindsPlace (IsEnclosed b (codes "<!--") (codes "-->") p) r
     → FindsPlace (IsMisc b p) r
 comment_at_last b p (Some q) no_space no_instruction comment = inr (inr comment)

@@ -1,14 +1,14 @@
 use Rattle.std.proofs.Common.{ℕ, List, None, MatchOption, drop, ap, subst, sym, ◌∙◌}
 use Rattle.std.specs.Prelude.{slice_range}
 use Rattle.std.proofs.lemmas.List.{take_rest}
-use Rattle.infer_inside.specs.Markup.{IsRoot, LeadsToTag}
+use Rattle.infer_inside.specs.Markup.{IsRootElement, LeadsToTag}
 use Rattle.infer_inside.proofs.MarkupLemmas.{one_begin, one_tag}
 use Rattle.infer_inside.proofs.markup.root_of.Goals as goal
 
 pub returns-in_err-tag-clause-found : goal.returns-in_err-tag-clause-found
 returns-in_err-tag-clause-found c =
     let b = c.args.buf.now in
-    subst (λ r. MatchOption r ((name rest : List ℕ) → ¬ IsRoot name rest b) (λ r. IsRoot r.name.now r.rest.now b)) (sym c.from_residual.ensures)
+    subst (λ r. MatchOption r ((name rest : List ℕ) → ¬ IsRootElement name rest b) (λ r. IsRootElement r.name.now r.rest.now b)) (sym c.from_residual.ensures)
     (λ name rest (p, at, to, begins, leads, is_name, is_rest).
     let start = one_begin b p c.prolog_start.result begins c.prolog_start.ensures.begins in
     c.in_err-tag.ensures at to ((c.prolog_end.ensures at to).0 (subst (λ x. LeadsToTag b at to x None) start leads)))
