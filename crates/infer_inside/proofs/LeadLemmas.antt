@@ -5,7 +5,7 @@ use Rattle.std.proofs.lemmas.Bool.{cases_lt}
 use Rattle.memchr.specs.Find.{OccursAt}
 use Rattle.infer_deep.proofs.PlaceLemmas.{OccursAt-first}
 use Rattle.infer_inside.specs.Laws.{BeginsMarkup, OpensBehindSpace, OpensElement}
-use Rattle.infer_inside.specs.Markup.{IsEnclosed, IsMisc, IsPart, IsRoot, IsXmlSpace, LeadsToTag, here, later}
+use Rattle.infer_inside.specs.Markup.{IsEnclosed, IsMisc, IsPart, IsRootElement, IsXmlSpace, LeadsToTag, here, later}
 
 module _ (b : List ℕ) where
   opened : (t : List ℕ) → 0 < length t → slice_index t 0 ≡ 0x3C → (p : ℕ) → OccursAt b t p → slice_index b p ≡ 0x3C
@@ -27,11 +27,11 @@ module _ (b : List ℕ) where
   tag_stands at to p d (here _ _ tag) = (p, tag.opens, tag.begins)
   tag_stands at to p d (later _ _ q e part rest) = tag_stands at to q e rest
 
-  pub begins_markup : (name rest : List ℕ) → IsRoot name rest b → BeginsMarkup b
+  pub begins_markup : (name rest : List ℕ) → IsRootElement name rest b → BeginsMarkup b
   begins_markup name rest (p, at, to, begins, leads, _, _) = elim begins [
     | inl (mark, _) ↦ inl mark
     | inr (_, e) ↦ inr (subst (OpensBehindSpace b) e (tag_leads at to p None leads))
   ]
 
-  pub opens_element : (name rest : List ℕ) → IsRoot name rest b → OpensElement b
+  pub opens_element : (name rest : List ℕ) → IsRootElement name rest b → OpensElement b
   opens_element name rest (p, at, to, begins, leads, _, _) = tag_stands at to p None leads

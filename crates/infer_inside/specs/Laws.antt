@@ -4,7 +4,7 @@ use Rattle.memchr.specs.Find.{OccursAt}
 use Rattle.infer_deep.specs.Signatures.{Lasts}
 use Rattle.infer_inside.specs.Dbase.{IsDbase}
 use Rattle.infer_inside.specs.Elf.{IsSharedObject}
-use Rattle.infer_inside.specs.Markup.{BeginsName, HasRoot, HasRootWith, IsXmlSpace, utf8_mark}
+use Rattle.infer_inside.specs.Markup.{BeginsElement, HasRoot, HasRootWith, IsXmlSpace, utf8_mark}
 use Rattle.infer_inside.specs.Png.{IsAnimated}
 use Rattle.infer_inside.specs.Script.{IsProgram}
 use Rattle.infer_inside.specs.Subtitles.{IsSubRip}
@@ -40,7 +40,7 @@ BeginsMarkup b = OccursAt b utf8_mark 0 ⊎ OpensBehindSpace b 0
 
 -- "<" stands in b, and neither "!" nor "?" behind it
 abbrev pub OpensElement : List ℕ → Type 0
-OpensElement b = (k : ℕ) × (slice_index b k ≡ 0x3C) × BeginsName (slice_index b (k + 1))
+OpensElement b = (k : ℕ) × (slice_index b k ≡ 0x3C) × BeginsElement (slice_index b (k + 1))
 
 -- with what a buffer begins that has a root, and that an element opens in it; one with a text in the tag has the root
 pub record Leads : Type 0 where

@@ -12,7 +12,7 @@ use Rattle.infer_inside.specs.Dbase.{EndsFields, HasField, IsDated, IsDbase, IsO
 use Rattle.infer_inside.specs.Elf.{IsSharedObject}
 use Rattle.infer_inside.specs.Laws as Inside
 use Rattle.infer_inside.specs.Laws.{OpensElement}
-use Rattle.infer_inside.specs.Markup.{BeginsName, HasRoot, IsXmlSpace}
+use Rattle.infer_inside.specs.Markup.{BeginsElement, HasRoot, IsXmlSpace}
 use Rattle.infer_inside.specs.Numbers.{be16}
 use Rattle.infer_inside.specs.Png.{IsAnimated, here}
 use Rattle.infer_inside.specs.Subtitles.{IsDigit, IsPairAt, IsSubRip, IsTime}
@@ -75,7 +75,7 @@ next_read (x ∷ b) = refl
 pub no_element : (b : List ℕ) → IsTrue (opens_none b) → ¬ OpensElement b
 no_element [] h (k, e, begins) = omega arith
 no_element (x ∷ b) h (zero, e, begins) = let same = next_read b in let none = test.both_left (not (x == 0x3C && not (next b == 0x21 || next b == 0x3F))) _ h in grind (arith, nat_tests)
-no_element (x ∷ b) h (suc k, e, begins) = no_element b (test.both_right (not (x == 0x3C && not (next b == 0x21 || next b == 0x3F))) _ h) (k, e, (let same : suc k + 1 ≡ suc (k + 1) = omega arith in subst (λ i. BeginsName (slice_index (x ∷ b) i)) same begins))
+no_element (x ∷ b) h (suc k, e, begins) = no_element b (test.both_right (not (x == 0x3C && not (next b == 0x21 || next b == 0x3F))) _ h) (k, e, (let same : suc k + 1 ≡ suc (k + 1) = omega arith in subst (λ i. BeginsElement (slice_index (x ∷ b) i)) same begins))
 
 abbrev has_mark : List ℕ → Bool
 has_mark b = next b == 0xEF
