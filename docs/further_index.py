@@ -44,6 +44,7 @@ NAMED = {
     "PackageWith": lambda folder: [named(it) for it in (b"[Content_Types].xml", b"_rels/", b"docProps/", folder)],
 }
 MARKUP = [{0: set(b"\t\n\r <")}, {0: {0xEF}, 1: {0xBB}, 2: {0xBF}}]
+JSON = [{0: set(b"\t\n\r [{")}, {0: {0xEF}, 1: {0xBB}, 2: {0xBF}}]
 OUTLINES = {
     "SharedObject": [{16: {3}, 17: {0}}, {16: {0}, 17: {3}}],
     "ClassId": [{0: {0xD0}, 1: {0xCF}, 2: {0x11}, 3: {0xE0}}],
@@ -55,6 +56,8 @@ OUTLINES = {
     "Program": [{0: {0x23}, 1: {0x21}}],
     "Root": MARKUP,
     "RootWith": MARKUP,
+    "JsonLines": JSON,
+    "JsonText": JSON,
     "PlainText": [{0: set(range(0x09, 0x100))}],
 }
 

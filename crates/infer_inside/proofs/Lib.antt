@@ -1,6 +1,7 @@
 pub mod GrowthLemmas
 pub mod CompleteLemmas
 pub mod JsonLemmas
+pub mod JsonLeadLemmas
 pub mod LeadLemmas
 pub mod LineLemmas
 pub mod OnwardLemmas

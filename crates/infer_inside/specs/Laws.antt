@@ -4,6 +4,8 @@ use Rattle.memchr.specs.Find.{OccursAt}
 use Rattle.infer_deep.specs.Signatures.{Lasts}
 use Rattle.infer_inside.specs.Dbase.{IsDbase}
 use Rattle.infer_inside.specs.Elf.{IsSharedObject}
+use Rattle.infer_inside.specs.Json.{IsBlank, IsJson, IsJsonLines}
+use Rattle.infer_inside.specs.JsonStates.{IsBracket}
 use Rattle.infer_inside.specs.Markup.{BeginsElement, HasRoot, HasRootWith, IsXmlSpace, utf8_mark}
 use Rattle.infer_inside.specs.Png.{IsAnimated}
 use Rattle.infer_inside.specs.Script.{IsProgram}
@@ -42,8 +44,23 @@ BeginsMarkup b = OccursAt b utf8_mark 0 ⊎ OpensBehindSpace b 0
 abbrev pub OpensElement : List ℕ → Type 0
 OpensElement b = (k : ℕ) × (slice_index b k ≡ 0x3C) × BeginsElement (slice_index b (k + 1))
 
--- with what a buffer begins that has a root, and that an element opens in it; one with a text in the tag has the root
+-- white space stands first, perhaps none, and then the bracket of an array or of an object
+abbrev pub OpensBehindBlanks : List ℕ → Type 0
+OpensBehindBlanks b = (k : ℕ) × ((j : ℕ) → j < k → IsBlank (slice_index b j)) × IsBracket (slice_index b k)
+
+-- b begins with a byte order mark, or so
+abbrev pub BeginsJson : List ℕ → Type 0
+BeginsJson b = OccursAt b utf8_mark 0 ⊎ OpensBehindBlanks b
+
+-- such a bracket stands in b
+abbrev pub HasBracket : List ℕ → Type 0
+HasBracket b = (k : ℕ) × IsBracket (slice_index b k)
+
+-- with what a buffer begins that has a root, and that an element opens in it; one with a text in the tag has the root;
+-- and with what JSON begins, and that it has a bracket
 pub record Leads : Type 0 where
   pub root : (name b : List ℕ) → HasRoot name b → BeginsMarkup b
   pub element : (name b : List ℕ) → HasRoot name b → OpensElement b
+  pub json : (b : List ℕ) → IsJson b → BeginsJson b × HasBracket b
+  pub json_lines : (b : List ℕ) → IsJsonLines b → BeginsJson b × HasBracket b
   pub root_with : (name text b : List ℕ) → HasRootWith name text b → HasRoot name b

@@ -6,7 +6,7 @@ pub fn growth()
     ensures { Growth }
 {}
 
-/// With what a buffer begins that has a root element, and that an element opens in it.
+/// With what a buffer begins that has a root element, and that an element opens in it; and the same of JSON and a bracket.
 pub fn leads()
     ensures { Leads }
 {}

@@ -11,7 +11,7 @@ use Rattle.infer_deep.specs.Office.{zip_header}
 use Rattle.infer_inside.specs.Dbase.{EndsFields, HasField, IsDated, IsDbase, IsOneOf, behind, versions}
 use Rattle.infer_inside.specs.Elf.{IsSharedObject}
 use Rattle.infer_inside.specs.Laws as Inside
-use Rattle.infer_inside.specs.Laws.{OpensElement}
+use Rattle.infer_inside.specs.Laws.{HasBracket, OpensElement}
 use Rattle.infer_inside.specs.Markup.{BeginsElement, HasRoot, IsXmlSpace}
 use Rattle.infer_inside.specs.Numbers.{be16}
 use Rattle.infer_inside.specs.Png.{IsAnimated, here}
@@ -26,7 +26,7 @@ use Rattle.infer.proofs.DecisionLemmas.{known_class}
 use Rattle.infer.proofs.PlaceLemmas.{ByPlace, occurs}
 use Rattle.infer_more.specs.Laws.{is_plain}
 use Rattle.infer_more.specs.Outline.{lines}
-use Rattle.infer_more.specs.Signature.{Accepted, Alternative, Fits, animated, binary_bytes, bytes, class_id, dbase, directory_tag, first_entry_ends_in, first_entry_has_extra, first_entry_is, package_with, plain_text, png_header, shared_object, subrip, tar_checksum, program, root, root_with}
+use Rattle.infer_more.specs.Signature.{Accepted, Alternative, Fits, animated, binary_bytes, bytes, class_id, dbase, directory_tag, first_entry_ends_in, first_entry_has_extra, first_entry_is, package_with, plain_text, png_header, shared_object, subrip, tar_checksum, program, root, root_with, json_lines, json_text}
 use Rattle.infer_more.proofs.IndexLemmas as test
 use Rattle.infer_more.proofs.OutlineLemmas.{has_lines}
 use Rattle.infer_more.proofs.RefusalLemmas.{clash}
@@ -98,6 +98,16 @@ not_behind_space (x ∷ b) h (suc k) spaces e = elim (test.either (not (is_space
   | inl dark ↦ let space = spaces 0 (omega arith) in grind (arith, nat_tests)
   | inr rest ↦ not_behind_space b rest k (λ j lt. spaces (suc j) (omega arith)) e
 ]
+
+-- ---- JSON
+
+abbrev is_bracket : ℕ → Bool
+is_bracket x = x == 0x5B || x == 0x7B
+
+pub no_bracket : (b : List ℕ) → IsTrue (not (list_any is_bracket b)) → ¬ HasBracket b
+no_bracket [] h (k, is) = grind arith
+no_bracket (x ∷ b) h (zero, is) = let none = (neither (is_bracket x) (list_any is_bracket b) h).0 in grind (arith, nat_tests)
+no_bracket (x ∷ b) h (suc k, is) = no_bracket b (neither (is_bracket x) (list_any is_bracket b) h).1 (k, is)
 
 -- ---- at the places of a sample
 
@@ -309,6 +319,8 @@ module _ (by_place : ByPlace) (inside : Inside.Leads) (b : List ℕ) where
   fitting (program names) = unknown
   fitting (root name) = refuted_if (opens_none b || (opens_other b && not (has_mark b))) (no_root name)
   fitting (root_with name t) = refuted_if (opens_none b || (opens_other b && not (has_mark b))) (λ none h. no_root name none (inside.root_with name t b h))
+  fitting json_lines = refuted_if (not (list_any is_bracket b)) (λ none h. no_bracket b none (inside.json_lines b h).1)
+  fitting json_text = refuted_if (not (list_any is_bracket b)) (λ none h. no_bracket b none (inside.json b h).1)
   fitting plain_text = plain
 
   -- it lacks the bytes of the outline

@@ -11,6 +11,7 @@ use Rattle.infer_deep.specs.Laws as Deep
 use Rattle.infer_deep.specs.Text.{BeginsMarked}
 use Rattle.infer_deep.proofs.PlaceLemmas.{OccursAt-append}
 use Rattle.infer_inside.specs.Laws as Inside
+use Rattle.infer_inside.specs.Laws.{HasBracket}
 use Rattle.infer_inside.specs.Markup.{HasRoot}
 use Rattle.infer_inside.proofs.GrowthLemmas.{there}
 use Rattle.infer_inside.specs.Text.{IsBinary, IsText}
@@ -25,7 +26,7 @@ use Rattle.infer_more.specs.Index.{is_settled}
 use Rattle.infer_more.specs.Laws.{AllLast, IsLost, IsSteady, MayBeLost, NoneIsBlank, is_dark, is_dark_alternative, is_dark_part, is_dark_relation, is_filled, is_lasting, is_plain, is_some_alternative, lasts}
 use Rattle.infer_more.specs.Outline.{lines, outline}
 use Rattle.infer_more.specs.Row.{Further}
-use Rattle.infer_more.specs.Signature.{Accepted, Alternative, Fits, IsProgramAmong, animated, binary_bytes, bytes, class_id, dbase, directory_tag, first_entry_ends_in, first_entry_has_extra, first_entry_is, package_with, plain_text, png_header, shared_object, subrip, tar_checksum, program, root, root_with}
+use Rattle.infer_more.specs.Signature.{Accepted, Alternative, Fits, IsProgramAmong, animated, binary_bytes, bytes, class_id, dbase, directory_tag, first_entry_ends_in, first_entry_has_extra, first_entry_is, package_with, plain_text, png_header, shared_object, subrip, tar_checksum, program, root, root_with, json_lines, json_text}
 use Rattle.infer_more.specs.Table.{further}
 use Rattle.infer_more.specs.Wider.{Widens}
 use Rattle.infer_more.proofs.IndexLemmas.{both_left, both_right, either, from_left, passes_part}
@@ -63,6 +64,8 @@ module _ (deep : Deep.Growth) (inside : Inside.Growth) (fixed_lasts : (signature
   fits_last (program names) l h = program_lasts names h
   fits_last (root name) l h = inside.root name b more h
   fits_last (root_with name t) l h = inside.root_with name t b more h
+  fits_last json_lines l h = absurd (cc)
+  fits_last json_text l h = absurd (cc)
   fits_last plain_text l h = absurd (cc)
 
   accepted_last : (signature : List Alternative) → IsTrue (lasts signature) → Accepted signature b → Accepted signature (b ++ more)
@@ -192,9 +195,18 @@ module _ (by_place : (place : ℕ) (t buf : List ℕ) → IsTrue (stands place t
       let is = AllWithin-from_all (λ x. IsTrue (is_white x)) b white k 0 (omega arith) lt in
       grind (arith, nat_tests)
 
+  -- nor is JSON: it has a bracket
+  no_json : (b : List ℕ) → All (λ x. IsTrue (is_white x)) b → ¬ HasBracket b
+  no_json b white (k, is) =
+      let lt : k < length b = there b k (grind arith) in
+      let at = AllWithin-from_all (λ x. IsTrue (is_white x)) b white k 0 (omega arith) lt in
+      grind (arith, nat_tests)
+
   refused_alternative : (b : List ℕ) → All (λ x. IsTrue (is_white x)) b → (a : Alternative) → IsTrue (is_dark_relation a) → ¬ Fits a b
   refused_alternative b white (root name) dark h = no_markup b white name h
   refused_alternative b white (root_with name t) dark h = no_markup b white name (leads.root_with name t b h)
+  refused_alternative b white json_lines dark h = no_json b white (leads.json_lines b h).1
+  refused_alternative b white json_text dark h = no_json b white (leads.json b h).1
   refused_alternative b white (bytes a) dark h = by_outline b white (bytes a) dark h
   refused_alternative b white (binary_bytes a) dark h = by_outline b white (binary_bytes a) dark h
   refused_alternative b white shared_object dark h = by_outline b white shared_object dark h

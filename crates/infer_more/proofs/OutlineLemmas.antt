@@ -25,10 +25,11 @@ use Rattle.infer_sig.specs.Places.{StandsByPlace}
 use Rattle.infer.specs.Buffer.{IsBuffer}
 use Rattle.infer.specs.Walks.{is_listed}
 use Rattle.infer_more.specs.Index.{AllAreAsked, EachIsAsked, asked, is_asked, is_below_asked, is_free_asked}
-use Rattle.infer_more.specs.Outline.{counted, counted_for, digit_behind, digits_behind, lines, markup_lines, named, outline}
+use Rattle.infer_more.specs.Outline.{counted, counted_for, digit_behind, digits_behind, json_outline, lines, markup_lines, named, outline}
 use Rattle.infer_more.specs.Row.{Further}
-use Rattle.infer_more.specs.Signature.{Accepted, Alternative, Fits, IsProgramAmong, animated, binary_bytes, bytes, class_id, dbase, directory_tag, first_entry_ends_in, first_entry_has_extra, first_entry_is, package_with, plain_text, png_header, shared_object, subrip, tar_checksum, program, root, root_with}
-use Rattle.infer_inside.specs.Laws.{BeginsMarkup, Leads}
+use Rattle.infer_more.specs.Signature.{Accepted, Alternative, Fits, IsProgramAmong, animated, binary_bytes, bytes, class_id, dbase, directory_tag, first_entry_ends_in, first_entry_has_extra, first_entry_is, package_with, plain_text, png_header, shared_object, subrip, tar_checksum, program, root, root_with, json_lines, json_text}
+use Rattle.infer_inside.specs.JsonStates.{IsBracket}
+use Rattle.infer_inside.specs.Laws.{BeginsJson, BeginsMarkup, Leads}
 use Rattle.infer_more.specs.Laws.{is_plain}
 use Rattle.infer_more.specs.Table.{further}
 use Rattle.infer_more.specs.Wider.{Widens}
@@ -188,6 +189,29 @@ module _ (by_place : (place : ℕ) (t buf : List ℕ) → IsTrue (stands place t
     | inr le ↦ let e : slice_index b 0 ≡ 0x3C = subst (λ i. slice_index b i ≡ 0x3C) (omega arith) opens in begins_line (omega arith) (rw e refl)
   ]
 
+  abbrev json_line : fixed.Alternative
+  json_line = at_least 1 (byte 0 (any_of (0x09 ∷ 0x0A ∷ 0x0D ∷ 0x20 ∷ 0x5B ∷ 0x7B ∷ [])) ∷ [])
+
+  begins_json_line : (1 ≤ slice_index b 0) → IsTrue (allows (any_of (0x09 ∷ 0x0A ∷ 0x0D ∷ 0x20 ∷ 0x5B ∷ 0x7B ∷ [])) (slice_index b 0)) → IsTrue (accepts json_outline b)
+  begins_json_line some is =
+      let lt : 0 < length b = there b 0 some in
+      one 1 (byte 0 (any_of (0x09 ∷ 0x0A ∷ 0x0D ∷ 0x20 ∷ 0x5B ∷ 0x7B ∷ []))) (marked_line ∷ []) (omega arith) (both (nat_lt 0 (length b)) _ (lt-ltb 0 (length b) lt) is)
+
+  json_begins : BeginsJson b → IsTrue (accepts json_outline b)
+  json_begins (inl o) = let le = o.fits in other json_line (marked_line ∷ []) (begins 3 (0xEF ∷ 0xBB ∷ 0xBF ∷ []) (omega arith) o)
+  json_begins (inr (k, spaces, opens)) = elim (cases_lt 0 k) [
+    | inl lt ↦ elim (spaces 0 lt) [
+      | inl e ↦ begins_json_line (omega arith) (rw e refl)
+      | inr (inl e) ↦ begins_json_line (omega arith) (rw e refl)
+      | inr (inr (inl e)) ↦ begins_json_line (omega arith) (rw e refl)
+      | inr (inr (inr e)) ↦ begins_json_line (omega arith) (rw e refl)
+    ]
+    | inr le ↦ elim (let same : k ≡ 0 = omega arith in subst (λ i. IsBracket (slice_index b i)) same opens) [
+      | inl e ↦ begins_json_line (omega arith) (rw e refl)
+      | inr e ↦ begins_json_line (omega arith) (rw e refl)
+    ]
+  ]
+
   -- no byte of a buffer is 256 or more
   abbrev Small : Type 0
   Small = (i : ℕ) → slice_index b i < 256
@@ -231,6 +255,8 @@ module _ (by_place : (place : ℕ) (t buf : List ℕ) → IsTrue (stands place t
   has_lines (program names) small h = program_lines names h
   has_lines (root name) small h = markup_begins (leads.root name b h)
   has_lines (root_with name t) small h = markup_begins (leads.root name b (leads.root_with name t b h))
+  has_lines json_lines small h = json_begins (leads.json_lines b h).0
+  has_lines json_text small h = json_begins (leads.json b h).0
   has_lines plain_text small h = text_lines (small refl) h
 
   module _ (small : Small) where

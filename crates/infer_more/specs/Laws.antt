@@ -12,7 +12,7 @@ use Rattle.infer.specs.declared.table.rows.TheConstants.{ROW_COUNT}
 use Rattle.infer_more.specs.Index.{is_settled}
 use Rattle.infer_more.specs.Outline.{lines, outline}
 use Rattle.infer_more.specs.Row.{Further}
-use Rattle.infer_more.specs.Signature.{Accepted, Alternative, Fits, plain_text, root, root_with}
+use Rattle.infer_more.specs.Signature.{Accepted, Alternative, Fits, json_lines, json_text, plain_text, root, root_with}
 use Rattle.infer_more.specs.Table.{further}
 use Rattle.infer_more.specs.Wider.{IsWider, Widens, parent_at, shown}
 
@@ -23,6 +23,8 @@ is_plain other = false
 
 -- more bytes never take back that a buffer fits the alternative: it is none of the texts
 abbrev pub is_lasting : Alternative → Bool
+is_lasting json_lines = false
+is_lasting json_text = false
 is_lasting plain_text = false
 is_lasting other = true
 
@@ -64,8 +66,10 @@ is_dark_part (byte p set) = is_settled (λ x. not (is_white x)) p (byte p set)
 abbrev pub is_dark_alternative : fixed.Alternative → Bool
 is_dark_alternative (at_least n parts) = list_any is_dark_part parts
 
--- it has a byte that is no white space, since it asks for one, or as the root of markup
+-- it has a byte that is no white space, since it asks for one, or as JSON and the root of markup
 abbrev pub is_dark_relation : Alternative → Bool
+is_dark_relation json_lines = true
+is_dark_relation json_text = true
 is_dark_relation (root name) = true
 is_dark_relation (root_with name t) = true
 is_dark_relation a = list_all is_dark_alternative (lines a)

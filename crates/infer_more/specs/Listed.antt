@@ -7,10 +7,10 @@ use Rattle.infer.specs.Triple.{triple}
 use Rattle.infer_more.specs.Ended.{ended_listed, ended_shown}
 use Rattle.infer_more.specs.Row.{Further}
 use Rattle.infer_more.specs.Signature as signature
-use Rattle.infer_more.specs.Signature.{bytes, binary_bytes, shared_object, first_entry_is, first_entry_ends_in, first_entry_has_extra, package_with, class_id, directory_tag, animated, subrip, dbase, tar_checksum, plain_text, program, root, root_with}
+use Rattle.infer_more.specs.Signature.{bytes, binary_bytes, shared_object, first_entry_is, first_entry_ends_in, first_entry_has_extra, package_with, class_id, directory_tag, animated, subrip, dbase, tar_checksum, plain_text, program, root, root_with, json_lines, json_text}
 use Rattle.infer_more.specs.declared.table.FurtherRow.{FurtherRow}
 use Rattle.infer_more.specs.declared.signature.Alternative.{Alternative}
-use Rattle.infer_more.specs.declared.signature.Alternative.TheVariants.{Animated, BinaryBytes, Bytes, ClassId, Dbase, DirectoryTag, FirstEntryEndsIn, FirstEntryHasExtra, FirstEntryIs, PackageWith, PlainText, Program, Root, RootWith, SharedObject, SubRip, TarChecksum}
+use Rattle.infer_more.specs.declared.signature.Alternative.TheVariants.{Animated, BinaryBytes, Bytes, ClassId, Dbase, DirectoryTag, FirstEntryEndsIn, FirstEntryHasExtra, FirstEntryIs, JsonLines, JsonText, PackageWith, PlainText, Program, Root, RootWith, SharedObject, SubRip, TarChecksum}
 use Rattle.infer_more.specs.declared.signature.Bytes as listed
 use Rattle.infer_more.specs.declared.signature.Piece.{Piece}
 use Rattle.infer_more.specs.declared.signature.Piece.TheVariants.{At, OneOf, Between}
@@ -41,6 +41,8 @@ alternative_listed TarChecksum = tar_checksum
 alternative_listed (Program names) = program (map (λ name. name.now) names.now)
 alternative_listed (Root name) = root name.now
 alternative_listed (RootWith name t) = root_with name.now t.now
+alternative_listed JsonLines = json_lines
+alternative_listed JsonText = json_text
 alternative_listed PlainText = plain_text
 
 abbrev pub signature_listed : List Alternative → List signature.Alternative

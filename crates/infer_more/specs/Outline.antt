@@ -5,7 +5,7 @@ use Rattle.infer_deep.specs.Office.{zip_header}
 use Rattle.infer_inside.specs.Dbase.{versions}
 use Rattle.infer_sig.specs.Signature as fixed
 use Rattle.infer_sig.specs.Signature.{at_least, text, byte, all_but, any_of, between}
-use Rattle.infer_more.specs.Signature.{Alternative, bytes, binary_bytes, shared_object, first_entry_is, first_entry_ends_in, first_entry_has_extra, package_with, class_id, directory_tag, animated, png_header, subrip, dbase, tar_checksum, plain_text, program, root, root_with}
+use Rattle.infer_more.specs.Signature.{Alternative, bytes, binary_bytes, shared_object, first_entry_is, first_entry_ends_in, first_entry_has_extra, package_with, class_id, directory_tag, animated, png_header, subrip, dbase, tar_checksum, plain_text, program, root, root_with, json_lines, json_text}
 
 -- a ZIP archive whose first entry has a name that begins with the text
 abbrev pub named : List ℕ → fixed.Alternative
@@ -34,6 +34,11 @@ abbrev pub markup_lines : List fixed.Alternative
 markup_lines =
     at_least 1 (byte 0 (any_of (0x09 ∷ 0x0A ∷ 0x0D ∷ 0x20 ∷ 0x3C ∷ [])) ∷ []) ∷ at_least 3 (text 0 (0xEF ∷ 0xBB ∷ 0xBF ∷ []) ∷ []) ∷ []
 
+-- a byte order mark, white space or a bracket first
+abbrev pub json_outline : List fixed.Alternative
+json_outline =
+    at_least 1 (byte 0 (any_of (0x09 ∷ 0x0A ∷ 0x0D ∷ 0x20 ∷ 0x5B ∷ 0x7B ∷ [])) ∷ []) ∷ at_least 3 (text 0 (0xEF ∷ 0xBB ∷ 0xBF ∷ []) ∷ []) ∷ []
+
 -- for each alternative, bytes of which such a buffer has one list
 abbrev pub lines : Alternative → List fixed.Alternative
 lines (bytes a) = a ∷ []
@@ -52,6 +57,8 @@ lines tar_checksum = digits_behind 0 8
 lines (program names) = at_least 2 (text 0 (codes "#!") ∷ []) ∷ []
 lines (root name) = markup_lines
 lines (root_with name t) = markup_lines
+lines json_lines = json_outline
+lines json_text = json_outline
 lines plain_text = at_least 1 (byte 0 (between 0x09 0xFF) ∷ []) ∷ []
 
 -- those of all alternatives of a signature

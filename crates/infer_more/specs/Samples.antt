@@ -12,7 +12,7 @@ use Rattle.infer.specs.Samples.{sample_of, with_parts, zeros}
 use Rattle.infer.specs.Table as built_in
 use Rattle.infer.specs.declared.table.rows.TheConstants.{DLL, EPUB_ARCHIVE, ROW_COUNT}
 use Rattle.infer_more.specs.Row.{Further, is_inside}
-use Rattle.infer_more.specs.Signature.{Alternative, animated, binary_bytes, bytes, class_id, dbase, directory_tag, first_entry_ends_in, first_entry_has_extra, first_entry_is, package_with, plain_text, png_header, shared_object, subrip, tar_checksum, program, root, root_with}
+use Rattle.infer_more.specs.Signature.{Alternative, animated, binary_bytes, bytes, class_id, dbase, directory_tag, first_entry_ends_in, first_entry_has_extra, first_entry_is, package_with, plain_text, png_header, shared_object, subrip, tar_checksum, program, root, root_with, json_lines, json_text}
 use Rattle.infer_more.specs.Table.{further}
 use Rattle.infer_more.specs.Wider.{IsWider}
 use Rattle.infer_more.specs.declared.samples.TheConstants.{SAMPLE_SIZE}
@@ -30,8 +30,8 @@ parent_sample (Some parent) = unwrap_or (built_in_sample parent) []
 abbrev pub model_entry : ℕ → List ℕ → fixed.Alternative
 model_entry place t = at_least (30 + length t) (text 0 zip_header ∷ text place (length t % 256 ∷ []) ∷ text 30 t ∷ [])
 
--- a short buffer that fits the alternative, as bytes at fixed places with zeros between them; none yet for the name of a
--- program or of a root
+-- a short buffer that fits the alternative, as bytes at fixed places with zeros between them; none yet for JSON, and
+-- for the name of a program or of a root
 abbrev pub model : Alternative → Option fixed.Alternative
 model (bytes a) = Some a
 model (binary_bytes a) = Some a
@@ -54,6 +54,8 @@ model plain_text = Some (at_least 1 (text 0 (codes " ") ∷ []))
 model (program names) = None
 model (root name) = None
 model (root_with name t) = None
+model json_lines = None
+model json_text = None
 
 -- its least length and its parts
 abbrev pub least_of : fixed.Alternative → ℕ

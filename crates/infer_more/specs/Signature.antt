@@ -4,6 +4,7 @@ use Rattle.infer_deep.specs.ClassId.{HasClassId}
 use Rattle.infer_deep.specs.Find.{OccursAt}
 use Rattle.infer_inside.specs.Dbase.{IsDbase}
 use Rattle.infer_inside.specs.Elf.{IsSharedObject}
+use Rattle.infer_inside.specs.Json.{IsJson, IsJsonLines}
 use Rattle.infer_inside.specs.Markup.{HasRoot, HasRootWith}
 use Rattle.infer_inside.specs.Png.{IsAnimated}
 use Rattle.infer_inside.specs.Script.{IsProgram}
@@ -37,6 +38,8 @@ pub data Alternative : Type 0 where
   program : List (List ℕ) → Alternative
   root : List ℕ → Alternative
   root_with : List ℕ → List ℕ → Alternative
+  json_lines : Alternative
+  json_text : Alternative
   plain_text : Alternative
 
 -- bytes at fixed places, in a buffer of at least that length
@@ -71,6 +74,8 @@ Fits tar_checksum b = HasTarChecksum b
 Fits (program names) b = IsProgramAmong names b
 Fits (root name) b = HasRoot name b
 Fits (root_with name t) b = HasRootWith name t b
+Fits json_lines b = IsJsonLines b
+Fits json_text b = IsJson b
 Fits plain_text b = IsText b
 
 -- it fits one of the alternatives

@@ -7,7 +7,7 @@ use Rattle.infer.specs.declared.table.file_type.MatcherType.{MatcherType}
 use Rattle.infer.specs.declared.table.file_type.MatcherType.TheVariants.{App, Archive, Audio, Doc, Font, Image, Text, Video}
 use Rattle.infer.specs.declared.table.rows.TheConstants.{DER, ELF, HEIF, HTML, JPEG2000, MSI, ODP, ODS, ODT, OGG, PEM, PNG, PS, SHELLSCRIPT, SQLITE, TIFF, XML, ZIP}
 use Rattle.infer_more.specs.Row.{Further}
-use Rattle.infer_more.specs.Signature.{Alternative, animated, at_least, binary_bytes, class_id, dbase, directory_tag, first_entry_ends_in, first_entry_has_extra, first_entry_is, package_with, plain_text, shared_object, subrip, tar_checksum, program, root, root_with}
+use Rattle.infer_more.specs.Signature.{Alternative, animated, at_least, binary_bytes, class_id, dbase, directory_tag, first_entry_ends_in, first_entry_has_extra, first_entry_is, package_with, plain_text, shared_object, subrip, tar_checksum, program, root, root_with, json_lines, json_text}
 
 abbrev pub row : MatcherType → List ℕ → List ℕ → Option ℕ → List Alternative → Further
 row class mime_type extension parent signature = record { shows = triple class mime_type extension; parent = parent; signature = signature }
@@ -192,8 +192,8 @@ late =
     ∷ row Archive (codes "application/x-ext-filesystem") (codes "ext2") None (at_least 1086 (text 1080 (0x53 ∷ 0xEF ∷ []) ∷ byte 1082 (between 0x00 0x07) ∷ text 1083 (0x00 ∷ []) ∷ byte 1084 (between 0x01 0x03) ∷ text 1085 (0x00 ∷ []) ∷ []) ∷ [])
     ∷ row Video (codes "video/mp2t") (codes "ts") None (at_least 753 (text 0 (codes "G") ∷ text 188 (codes "G") ∷ text 376 (codes "G") ∷ text 564 (codes "G") ∷ text 752 (codes "G") ∷ []) ∷ at_least 773 (text 4 (codes "G") ∷ text 196 (codes "G") ∷ text 388 (codes "G") ∷ text 580 (codes "G") ∷ text 772 (codes "G") ∷ []) ∷ [])
     ∷ row Archive (codes "application/x-tar") (codes "tar") None (tar_checksum ∷ [])
-    ∷ row Text (codes "application/x-ndjson") (codes "ndjson") None []
-    ∷ row Text (codes "application/json") (codes "json") None []
+    ∷ row Text (codes "application/x-ndjson") (codes "ndjson") None (json_lines ∷ [])
+    ∷ row Text (codes "application/json") (codes "json") None (json_text ∷ [])
     ∷ row Text (codes "text/plain") (codes "txt") None (plain_text ∷ [])
     ∷ []
 

@@ -123,6 +123,8 @@ fn put_model(alternative: &Alternative, out: &mut [u8])
         Alternative::Program(_) => {}
         Alternative::Root(_) => {}
         Alternative::RootWith(_, _) => {}
+        Alternative::JsonLines => {}
+        Alternative::JsonText => {}
         Alternative::PlainText => put(0, b" ", out),
     }
 }
@@ -149,6 +151,8 @@ fn model_length(alternative: &Alternative) -> Option<usize>
         Alternative::Program(_) => return None,
         Alternative::Root(_) => return None,
         Alternative::RootWith(_, _) => return None,
+        Alternative::JsonLines => return None,
+        Alternative::JsonText => return None,
         Alternative::PlainText => 1,
     };
     Some(length)

@@ -10,6 +10,7 @@ use infer_deep::doc::has_class_id;
 use infer_deep::places::{same_text, stands_at};
 use infer_inside::dbase::is_dbase;
 use infer_inside::elf::is_shared_object;
+use infer_inside::json::{is_json, is_json_lines};
 use infer_inside::markup::{has_root, has_root_with};
 use infer_inside::png::is_animated;
 use infer_inside::script::program;
@@ -56,6 +57,8 @@ pub(crate) enum Alternative {
     Program(&'static [&'static [u8]]),
     Root(&'static [u8]),
     RootWith(&'static [u8], &'static [u8]),
+    JsonLines,
+    JsonText,
     PlainText,
 }
 
@@ -109,6 +112,8 @@ fn fits_inside(alternative: &Alternative, buf: &[u8]) -> bool
         Alternative::Program(names) => has_program(buf, names),
         Alternative::Root(name) => has_root(buf, name),
         Alternative::RootWith(name, text) => has_root_with(buf, name, text),
+        Alternative::JsonLines => is_json_lines(buf),
+        Alternative::JsonText => is_json(buf),
         Alternative::PlainText => is_text(buf),
     }
 }

@@ -3,7 +3,7 @@ ghost use Rattle.std.specs.Prelude.{◌≡◌, map};
 ghost use Rattle.infer_more.specs.Listed.{AreEnded, row_listed};
 ghost use Rattle.infer_more.specs.Table.{late};
 
-use crate::signature::Alternative::{Dbase, PlainText, TarChecksum};
+use crate::signature::Alternative::{Dbase, JsonLines, JsonText, PlainText, TarChecksum};
 use crate::signature::Piece::{At, Between, OneOf};
 use crate::signature::{Alternative, Bytes};
 use crate::table::{EndedTexts, FurtherRow};
@@ -26,8 +26,8 @@ static ROWS: &[FurtherRow] = rows![
     Archive "application/x-ext-filesystem" "ext2": => [1086, At(1080, b"S\xEF"), Between(1082, 0x00, 0x07), is!(1083, 0x00), Between(1084, 0x01, 0x03), is!(1085, 0x00)];
     Video "video/mp2t" "ts": => [753, is!(0, b'G'), is!(188, b'G'), is!(376, b'G'), is!(564, b'G'), is!(752, b'G')] [773, is!(4, b'G'), is!(196, b'G'), is!(388, b'G'), is!(580, b'G'), is!(772, b'G')];
     Archive "application/x-tar" "tar": => [TarChecksum];
-    Text "application/x-ndjson" "ndjson": =>;
-    Text "application/json" "json": =>;
+    Text "application/x-ndjson" "ndjson": => [JsonLines];
+    Text "application/json" "json": => [JsonText];
     Text "text/plain" "txt": => [PlainText];
 ];
 

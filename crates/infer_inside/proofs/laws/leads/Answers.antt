@@ -1,9 +1,12 @@
 use Rattle.infer_inside.proofs.LeadLemmas.{begins_markup, opens_element}
+use Rattle.infer_inside.proofs.JsonLeadLemmas.{lines_lead, text_leads}
 use Rattle.infer_inside.proofs.laws.leads.Goals as goal
 
 pub returns : goal.returns
 returns c = record {
   root = λ name b h. begins_markup b name h.0 h.1;
   element = λ name b h. opens_element b name h.0 h.1;
+  json = text_leads;
+  json_lines = lines_lead;
   root_with = λ name text b h. (h.0, h.1);
 }
