@@ -26,8 +26,11 @@ by_chars ss (v, d) = (0x22 ∷ v, by_rule (byte 0x22 ∷ []) (inl refl) (one (om
 
 by_value : (n : ℕ) (ss : List Symbol) → Completes ss → Completes (value n ∷ ss)
 unfolding by_chars
-by_value n ss (v, d) =
-    (0x22 ∷ 0x22 ∷ v, (value_begins n 0x22 ss (0x22 ∷ v) (λ e. omega arith) (λ e. omega arith)).1 (inr (inr (inr (inl (refl, (by_chars ss (v, d)).1))))))
+by_value n ss (v, d) = (
+  0x22 ∷ 0x22 ∷ v,
+  (value_begins n 0x22 ss (0x22 ∷ v) (λ e. omega arith) (λ e. omega arith)).1
+      (inr (inr (inr (inl (refl, (by_chars ss (v, d)).1))))),
+)
 
 by_blanks : (ss : List Symbol) → Completes ss → Completes (blanks ∷ ss)
 by_blanks ss (v, d) = (v, by_rule [] (inl refl) d)
@@ -52,25 +55,33 @@ fill (range low high) ss l h = by_one low high ss l.0 h
 fill blanks ss l h = by_blanks ss h
 fill (value n) ss l h = by_value n ss h
 fill (items n) ss l h = let b = by_one 0x5D 0x5D ss (omega arith) h in (b.0, by_rule (byte 0x5D ∷ []) (inl refl) b.1)
-fill (more_items n) ss l h = let b = by_one 0x5D 0x5D ss (omega arith) h in (b.0, by_rule (byte 0x5D ∷ []) (inl refl) b.1)
-fill (members n) ss l h = let b = by_one 0x7D 0x7D ss (omega arith) h in (b.0, by_rule (byte 0x7D ∷ []) (inl refl) b.1)
+fill (more_items n) ss l h =
+    let b = by_one 0x5D 0x5D ss (omega arith) h in (b.0, by_rule (byte 0x5D ∷ []) (inl refl) b.1)
+fill (members n) ss l h =
+    let b = by_one 0x7D 0x7D ss (omega arith) h in (b.0, by_rule (byte 0x7D ∷ []) (inl refl) b.1)
 fill (member n) ss l h = by_member n ss h
-fill (more_members n) ss l h = let b = by_one 0x7D 0x7D ss (omega arith) h in (b.0, by_rule (byte 0x7D ∷ []) (inl refl) b.1)
+fill (more_members n) ss l h =
+    let b = by_one 0x7D 0x7D ss (omega arith) h in (b.0, by_rule (byte 0x7D ∷ []) (inl refl) b.1)
 fill chars ss l h = by_chars ss h
 fill char ss l h = let b = by_one 0x20 0x21 ss (omega arith) h in (b.0, by_rule (range 0x20 0x21 ∷ []) (inl refl) b.1)
 fill escape ss l h = let b = by_one 0x22 0x22 ss (omega arith) h in (b.0, by_rule (byte 0x22 ∷ []) (inl refl) b.1)
 fill hex ss l h = let b = by_one 0x30 0x39 ss (omega arith) h in (b.0, by_rule (digit ∷ []) (inl refl) b.1)
 fill number ss l h =
-    let b = by_one 0x30 0x30 (fraction ∷ exponent ∷ ss) (omega arith) (by_fraction (exponent ∷ ss) (by_exponent ss h)) in
+    let b =
+    by_one 0x30 0x30 (fraction ∷ exponent ∷ ss) (omega arith) (by_fraction (exponent ∷ ss) (by_exponent ss h)) in
     (b.0, by_rule (whole ∷ fraction ∷ exponent ∷ []) (inl refl) (by_rule (byte 0x30 ∷ []) (inl refl) b.1))
 fill whole ss l h = let b = by_one 0x30 0x30 ss (omega arith) h in (b.0, by_rule (byte 0x30 ∷ []) (inl refl) b.1)
 fill fraction ss l h = by_fraction ss h
 fill exponent ss l h = by_exponent ss h
-fill power ss l h = let b = by_one 0x30 0x39 (digits ∷ ss) (omega arith) (by_digits ss h) in (b.0, by_rule (digit ∷ digits ∷ []) (inl refl) b.1)
+fill power ss l h =
+    let b = by_one 0x30 0x39 (digits ∷ ss) (omega arith)
+    (by_digits ss h) in (b.0, by_rule (digit ∷ digits ∷ []) (inl refl) b.1)
 fill digits ss l h = by_digits ss h
 fill text ss l h =
     let close = by_one 0x5D 0x5D ss (omega arith) h in
-    let b = by_one 0x5B 0x5B (blanks ∷ items 127 ∷ ss) (omega arith) (by_blanks (items 127 ∷ ss) (close.0, by_rule (byte 0x5D ∷ []) (inl refl) close.1)) in
+    let b =
+    by_one 0x5B 0x5B (blanks ∷ items 127 ∷ ss) (omega arith)
+    (by_blanks (items 127 ∷ ss) (close.0, by_rule (byte 0x5D ∷ []) (inl refl) close.1)) in
     (b.0, by_rule (byte 0x5B ∷ blanks ∷ items 127 ∷ []) (inl refl) b.1)
 fill same_line ss l (v, d) = (v, by_rule [] (inl refl) d)
 fill next_line ss l (v, d) = (v, by_rule [] (inl refl) d)
@@ -132,10 +143,12 @@ frames_hold (suc d) k ss h = more_holds (k % 2) (128 - suc d) (frames d (k / 2) 
 
 pub next_holds : (n : Next) (d k : ℕ) (ss : List Symbol) → AllHold ss → AllHold (next_left n d k ss)
 next_holds Closed d k ss h = frames_hold d k ss h
-next_holds (Between First) d k ss h = first_holds (k % 2) (128 - d) (frames (d - 1) (k / 2) ss) (frames_hold (d - 1) (k / 2) ss h)
+next_holds (Between First) d k ss h =
+    first_holds (k % 2) (128 - d) (frames (d - 1) (k / 2) ss) (frames_hold (d - 1) (k / 2) ss h)
 next_holds (Between Value) d k ss h = frames_hold d k ss h
 next_holds (Between Key) d k ss h = frames_hold d k ss h
 next_holds (Between Colon) d k ss h = (omega arith, frames_hold d k ss h)
 next_holds (Between After) d k ss h = frames_hold d k ss h
-next_holds (InKey t) d k ss h = token_holds t (blanks ∷ byte 0x3A ∷ blanks ∷ value (128 - d) ∷ frames d k ss) (omega arith, frames_hold d k ss h)
+next_holds (InKey t) d k ss h =
+    token_holds t (blanks ∷ byte 0x3A ∷ blanks ∷ value (128 - d) ∷ frames d k ss) (omega arith, frames_hold d k ss h)
 next_holds (InValue t) d k ss h = token_holds t (frames d k ss) (frames_hold d k ss h)

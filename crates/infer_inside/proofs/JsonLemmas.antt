@@ -27,7 +27,8 @@ among_any P [] h = elim h [ ]
 among_any P (r ∷ rs) (inl p) = (r, inl refl, p)
 among_any P (r ∷ rs) (inr h) = let f = among_any P rs h in (f.0, inr f.1, f.2)
 
-any_map : (P Q : List Symbol → Type 0) (rs : List (List Symbol)) → ((r : List Symbol) → P r → Q r) → AnyOf P rs → AnyOf Q rs
+any_map : (P Q : List Symbol → Type 0) (rs : List (List Symbol)) → ((r : List Symbol) → P r → Q r) → AnyOf P rs
+    → AnyOf Q rs
 any_map P Q [] f h = h
 any_map P Q (r ∷ rs) f (inl p) = inl (f r p)
 any_map P Q (r ∷ rs) f (inr h) = inr (any_map P Q rs f h)
@@ -47,22 +48,26 @@ begins (suc k) x v [] = (λ d. elim d [ ], λ d. elim d [ ])
 begins (suc k) x v (a ∷ ss) = (
   λ d. elim (opens d) [
     | inl b ↦ inl b
-    | inr h ↦ inr (any_map (λ r. Stands (r ++ ss) (x ∷ v)) (λ r. Begins k x v (r ++ ss)) (rules a) (λ r p. (begins k x v (r ++ ss)).0 p) h)
+    | inr h ↦ inr (any_map (λ r. Stands (r ++ ss) (x ∷ v)) (λ r. Begins k x v (r ++ ss)) (rules a)
+        (λ r p. (begins k x v (r ++ ss)).0 p) h)
   ],
   λ d. elim d [
     | inl b ↦ by_byte a ss x v b
-    | inr h ↦ let f = among_any (λ r. Begins k x v (r ++ ss)) (rules a) h in by_rule f.0 f.1 ((begins k x v (f.0 ++ ss)).1 f.2)
+    | inr h ↦ let f =
+        among_any (λ r. Begins k x v (r ++ ss)) (rules a) h in by_rule f.0 f.1 ((begins k x v (f.0 ++ ss)).1 f.2)
   ],
 )
 
 -- of each token's first symbol
-pub range_begins : (low high x : ℕ) (ss : List Symbol) (v : List ℕ) → Stands (range low high ∷ ss) (x ∷ v) ↔ Begins 1 x v (range low high ∷ ss)
+pub range_begins : (low high x : ℕ) (ss : List Symbol) (v : List ℕ) → Stands (range low high ∷ ss) (x ∷ v)
+    ↔ Begins 1 x v (range low high ∷ ss)
 range_begins low high x ss v = begins 1 x v (range low high ∷ ss)
 
 pub chars_begin : (x : ℕ) (ss : List Symbol) (v : List ℕ) → Stands (chars ∷ ss) (x ∷ v) ↔ Begins 3 x v (chars ∷ ss)
 chars_begin x ss v = begins 3 x v (chars ∷ ss)
 
-pub escape_begins : (x : ℕ) (ss : List Symbol) (v : List ℕ) → Stands (escape ∷ ss) (x ∷ v) ↔ Begins 2 x v (escape ∷ ss)
+pub escape_begins : (x : ℕ) (ss : List Symbol) (v : List ℕ) → Stands (escape ∷ ss) (x ∷ v)
+    ↔ Begins 2 x v (escape ∷ ss)
 escape_begins x ss v = begins 2 x v (escape ∷ ss)
 
 pub hex_begins : (x : ℕ) (ss : List Symbol) (v : List ℕ) → Stands (hex ∷ ss) (x ∷ v) ↔ Begins 2 x v (hex ∷ ss)
@@ -75,10 +80,12 @@ pub power_begins : (x : ℕ) (ss : List Symbol) (v : List ℕ) → Stands (power
 power_begins x ss v = begins 2 x v (power ∷ ss)
 
 -- of those that may stand for nothing
-pub fraction_begins : (x : ℕ) (ss : List Symbol) (v : List ℕ) → Stands (fraction ∷ ss) (x ∷ v) ↔ Begins 1 x v (fraction ∷ ss)
+pub fraction_begins : (x : ℕ) (ss : List Symbol) (v : List ℕ) → Stands (fraction ∷ ss) (x ∷ v)
+    ↔ Begins 1 x v (fraction ∷ ss)
 fraction_begins x ss v = begins 1 x v (fraction ∷ ss)
 
-pub exponent_begins : (x : ℕ) (ss : List Symbol) (v : List ℕ) → Stands (exponent ∷ ss) (x ∷ v) ↔ Begins 1 x v (exponent ∷ ss)
+pub exponent_begins : (x : ℕ) (ss : List Symbol) (v : List ℕ) → Stands (exponent ∷ ss) (x ∷ v)
+    ↔ Begins 1 x v (exponent ∷ ss)
 exponent_begins x ss v = begins 1 x v (exponent ∷ ss)
 
 pub digits_begin : (x : ℕ) (ss : List Symbol) (v : List ℕ) → Stands (digits ∷ ss) (x ∷ v) ↔ Begins 1 x v (digits ∷ ss)
@@ -95,15 +102,22 @@ ValueBegins x v ss =
     ⊎ ((x ≡ 0x2D) × Stands (whole ∷ fraction ∷ exponent ∷ ss) v) ⊎ ((x ≡ 0x30) × Stands (fraction ∷ exponent ∷ ss) v)
     ⊎ ((0x31 ≤ x) × (x ≤ 0x39) × Stands (digits ∷ fraction ∷ exponent ∷ ss) v)
 
-pub value_begins : (n x : ℕ) (ss : List Symbol) (v : List ℕ) → ¬ (x ≡ 0x5B) → ¬ (x ≡ 0x7B) → Stands (value n ∷ ss) (x ∷ v) ↔ ValueBegins x v ss
-value_begins zero x ss v p q = let b = begins 4 x v (value 0 ∷ ss) in (λ d. let e = b.0 d in grind arith, λ d. b.1 (grind arith))
-value_begins (suc n) x ss v p q = let b = begins 4 x v (value (suc n) ∷ ss) in (λ d. let e = b.0 d in grind arith, λ d. b.1 (grind arith))
+pub value_begins : (n x : ℕ) (ss : List Symbol) (v : List ℕ) → ¬ (x ≡ 0x5B) → ¬ (x ≡ 0x7B)
+    → Stands (value n ∷ ss) (x ∷ v) ↔ ValueBegins x v ss
+value_begins zero x ss v p q =
+    let b = begins 4 x v (value 0 ∷ ss) in (λ d. let e = b.0 d in grind arith, λ d. b.1 (grind arith))
+value_begins (suc n) x ss v p q =
+    let b = begins 4 x v (value (suc n) ∷ ss) in (λ d. let e = b.0 d in grind arith, λ d. b.1 (grind arith))
 
-pub array_begins : (n : ℕ) (ss : List Symbol) (v : List ℕ) → Stands (value (suc n) ∷ ss) (0x5B ∷ v) ↔ Stands (blanks ∷ items n ∷ ss) v
-array_begins n ss v = let b = begins 4 0x5B v (value (suc n) ∷ ss) in (λ d. let e = b.0 d in grind arith, λ d. b.1 (grind arith))
+pub array_begins : (n : ℕ) (ss : List Symbol) (v : List ℕ) → Stands (value (suc n) ∷ ss) (0x5B ∷ v)
+    ↔ Stands (blanks ∷ items n ∷ ss) v
+array_begins n ss v =
+    let b = begins 4 0x5B v (value (suc n) ∷ ss) in (λ d. let e = b.0 d in grind arith, λ d. b.1 (grind arith))
 
-pub object_begins : (n : ℕ) (ss : List Symbol) (v : List ℕ) → Stands (value (suc n) ∷ ss) (0x7B ∷ v) ↔ Stands (blanks ∷ members n ∷ ss) v
-object_begins n ss v = let b = begins 4 0x7B v (value (suc n) ∷ ss) in (λ d. let e = b.0 d in grind arith, λ d. b.1 (grind arith))
+pub object_begins : (n : ℕ) (ss : List Symbol) (v : List ℕ) → Stands (value (suc n) ∷ ss) (0x7B ∷ v)
+    ↔ Stands (blanks ∷ members n ∷ ss) v
+object_begins n ss v =
+    let b = begins 4 0x7B v (value (suc n) ∷ ss) in (λ d. let e = b.0 d in grind arith, λ d. b.1 (grind arith))
 
 pub none_nested : (x : ℕ) (ss : List Symbol) (v : List ℕ) → (x ≡ 0x5B) ⊎ (x ≡ 0x7B) → ¬ Stands (value 0 ∷ ss) (x ∷ v)
 none_nested x ss v h d = let e = (begins 4 x v (value 0 ∷ ss)).0 d in grind arith

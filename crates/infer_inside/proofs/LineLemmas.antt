@@ -11,7 +11,8 @@ use Rattle.infer_inside.proofs.ReaderLemmas.{blank_read, blank_skip}
 use Rattle.infer_inside.proofs.CompleteLemmas.{AllHold, completes, next_holds}
 
 -- what stands the same behind s and t
-pub can_same : (ss us : List Symbol) (s t : List ℕ) → ((v : List ℕ) → Stands ss (s ++ v) ↔ Stands us (t ++ v)) → CanBe ss s ↔ CanBe us t
+pub can_same : (ss us : List Symbol) (s t : List ℕ) → ((v : List ℕ) → Stands ss (s ++ v) ↔ Stands us (t ++ v))
+    → CanBe ss s ↔ CanBe us t
 can_same ss us s t h = (λ (v, d). (v, (h v).0 d), λ (v, d). (v, (h v).1 d))
 
 -- nothing is left
@@ -27,8 +28,10 @@ some_left (x ∷ s) r e f = omega arith
 pub text_opens : (x : ℕ) (ss : List Symbol) (v : List ℕ) → ¬ IsBracket x → ¬ Stands (text ∷ ss) (x ∷ v)
 text_opens x ss v p d = let f = (begins 2 x v (text ∷ ss)).0 d in grind arith
 
-line_goes_on : (x : ℕ) (v : List ℕ) → IsBlank x → ¬ (x ≡ 0x0A) → Stands (same_line ∷ []) (x ∷ v) ↔ Stands (same_line ∷ []) v
-line_goes_on x v h p = let b = begins 2 x v (same_line ∷ []) in (λ d. let f = b.0 d in grind arith, λ d. b.1 (grind arith))
+line_goes_on : (x : ℕ) (v : List ℕ) → IsBlank x → ¬ (x ≡ 0x0A) → Stands (same_line ∷ []) (x ∷ v)
+    ↔ Stands (same_line ∷ []) v
+line_goes_on x v h p =
+    let b = begins 2 x v (same_line ∷ []) in (λ d. let f = b.0 d in grind arith, λ d. b.1 (grind arith))
 
 line_ends : (x : ℕ) (v : List ℕ) → x ≡ 0x0A → Stands (same_line ∷ []) (x ∷ v) ↔ Stands (next_line ∷ []) v
 line_ends x v e = let b = begins 2 x v (same_line ∷ []) in (λ d. let f = b.0 d in grind arith, λ d. b.1 (grind arith))
@@ -43,7 +46,8 @@ next_blank x v h =
     let c = begins 1 x v (text ∷ same_line ∷ []) in
     (λ d. let f = b.0 d in grind arith, λ d. b.1 (grind arith))
 
-next_text : (x : ℕ) (v : List ℕ) → ¬ IsBlank x → Stands (next_line ∷ []) (x ∷ v) ↔ Stands (text ∷ same_line ∷ []) (x ∷ v)
+next_text : (x : ℕ) (v : List ℕ) → ¬ IsBlank x → Stands (next_line ∷ []) (x ∷ v)
+    ↔ Stands (text ∷ same_line ∷ []) (x ∷ v)
 next_text x v h =
     let b = begins 1 x v (next_line ∷ []) in
     (λ d. let f = b.0 d in grind (arith, range_begins), λ d. b.1 (inr (inr (inr (inr (inr (inr (inl d))))))))
@@ -73,19 +77,22 @@ text_no_blank ss x v h = text_opens x ss v (λ o. grind arith)
 pub none_no_blank : NoBlank []
 none_no_blank x v h d = elim d [ ]
 
-pub past_read : (ss : List Symbol) (s t : List ℕ) → NoBlank ss → IsPast s t → (v : List ℕ) → Stands (blanks ∷ ss) (s ++ v) ↔ Stands (blanks ∷ ss) (t ++ v)
+pub past_read : (ss : List Symbol) (s t : List ℕ) → NoBlank ss → IsPast s t → (v : List ℕ)
+    → Stands (blanks ∷ ss) (s ++ v) ↔ Stands (blanks ∷ ss) (t ++ v)
 past_read ss [] t n e v = subst (λ u. Stands (blanks ∷ ss) v ↔ Stands (blanks ∷ ss) (u ++ v)) (sym e) (λ d. d, λ d. d)
 past_read ss (x ∷ s) t n (inl (b, p)) v =
     let first = blank_read x ss (s ++ v) b (n x (s ++ v) b) in
     let rest = past_read ss s t n p v in
     (λ d. rest.0 (first.0 d), λ d. first.1 (rest.1 d))
-past_read ss (x ∷ s) t n (inr (m, e)) v = subst (λ u. Stands (blanks ∷ ss) (x ∷ s ++ v) ↔ Stands (blanks ∷ ss) (u ++ v)) (sym e) (λ d. d, λ d. d)
+past_read ss (x ∷ s) t n (inr (m, e)) v =
+    subst (λ u. Stands (blanks ∷ ss) (x ∷ s ++ v) ↔ Stands (blanks ∷ ss) (u ++ v)) (sym e) (λ d. d, λ d. d)
 
 starts_read : (ss : List Symbol) (t : List ℕ) → AllHold ss → StartsLine t → CanBe (blanks ∷ ss) t ↔ CanBe ss t
 starts_read ss [] a h = let c = completes ss a in (λ d. c, λ d. completes (blanks ∷ ss) a)
 starts_read ss (x ∷ t) a h = can_same (blanks ∷ ss) ss (x ∷ t) (x ∷ t) (λ v. blank_skip x ss (t ++ v) h)
 
-pub past_can : (ss : List Symbol) (s t : List ℕ) → AllHold ss → NoBlank ss → IsPast s t → CanBe (blanks ∷ ss) s ↔ CanBe ss t
+pub past_can : (ss : List Symbol) (s t : List ℕ) → AllHold ss → NoBlank ss → IsPast s t → CanBe (blanks ∷ ss) s
+    ↔ CanBe ss t
 past_can ss s t a n p =
     let same = can_same (blanks ∷ ss) (blanks ∷ ss) s t (past_read ss s t n p) in
     let first = starts_read ss t a (past_starts s t p) in
@@ -101,39 +108,47 @@ past_all s t p =
     let b = can_none t in
     (λ d. b.0 (a.0 d), λ e. a.1 (b.1 e))
 
-next_past : (s t : List ℕ) → IsPast s t → (v : List ℕ) → Stands (next_line ∷ []) (s ++ v) ↔ Stands (next_line ∷ []) (t ++ v)
-next_past [] t e v = subst (λ u. Stands (next_line ∷ []) v ↔ Stands (next_line ∷ []) (u ++ v)) (sym e) (λ d. d, λ d. d)
+next_past : (s t : List ℕ) → IsPast s t → (v : List ℕ) → Stands (next_line ∷ []) (s ++ v)
+    ↔ Stands (next_line ∷ []) (t ++ v)
+next_past [] t e v =
+    subst (λ u. Stands (next_line ∷ []) v ↔ Stands (next_line ∷ []) (u ++ v)) (sym e) (λ d. d, λ d. d)
 next_past (x ∷ s) t (inl (b, p)) v =
     let first = next_blank x (s ++ v) b in
     let rest = next_past s t p v in
     (λ d. rest.0 (first.0 d), λ d. first.1 (rest.1 d))
-next_past (x ∷ s) t (inr (m, e)) v = subst (λ u. Stands (next_line ∷ []) (x ∷ s ++ v) ↔ Stands (next_line ∷ []) (u ++ v)) (sym e) (λ d. d, λ d. d)
+next_past (x ∷ s) t (inr (m, e)) v =
+    subst (λ u. Stands (next_line ∷ []) (x ∷ s ++ v) ↔ Stands (next_line ∷ []) (u ++ v)) (sym e) (λ d. d, λ d. d)
 
 -- where no white space stands, a next line is a text, or none is left
 next_is_text : (s : List ℕ) → StartsLine s → 1 ≤ length s → CanBe (next_line ∷ []) s ↔ CanBe (text ∷ same_line ∷ []) s
 next_is_text [] h l = absurd (omega arith)
-next_is_text (x ∷ s) h l = can_same (next_line ∷ []) (text ∷ same_line ∷ []) (x ∷ s) (x ∷ s) (λ v. next_text x (s ++ v) h)
+next_is_text (x ∷ s) h l =
+    can_same (next_line ∷ []) (text ∷ same_line ∷ []) (x ∷ s) (x ∷ s) (λ v. next_text x (s ++ v) h)
 
 -- the next line
 abbrev pub SameLine : List ℕ → List ℕ → Type 0
 SameLine s t = (CanBe (same_line ∷ []) s ↔ CanBe (same_line ∷ []) t) × (CanBe (blanks ∷ []) s ↔ CanBe (blanks ∷ []) t)
 
-blank_more : (s : List ℕ) (i : ℕ) → i < length s → IsBlank (get_or s i 0) → CanBe (blanks ∷ []) (drop i s) ↔ CanBe (blanks ∷ []) (drop (i + 1) s)
+blank_more : (s : List ℕ) (i : ℕ) → i < length s → IsBlank (get_or s i 0) → CanBe (blanks ∷ []) (drop i s)
+    ↔ CanBe (blanks ∷ []) (drop (i + 1) s)
 blank_more s i l b =
     subst (λ u. CanBe (blanks ∷ []) u ↔ CanBe (blanks ∷ []) (drop (i + 1) s)) (sym (drop_more s i 0 l))
     (can_same (blanks ∷ []) (blanks ∷ []) (get_or s i 0 ∷ drop (i + 1) s) (drop (i + 1) s)
     (λ v. blank_read (get_or s i 0) [] (drop (i + 1) s ++ v) b (λ d. elim d [ ])))
 
-pub same_more : (s : List ℕ) (i : ℕ) → i < length s → IsBlank (get_or s i 0) → ¬ (get_or s i 0 ≡ 0x0A) → SameLine s (drop i s) → SameLine s (drop (i + 1) s)
+pub same_more : (s : List ℕ) (i : ℕ) → i < length s → IsBlank (get_or s i 0) → ¬ (get_or s i 0 ≡ 0x0A)
+    → SameLine s (drop i s) → SameLine s (drop (i + 1) s)
 same_more s i l b p h =
     let x = get_or s i 0 in
     let line : CanBe (same_line ∷ []) (drop i s) ↔ CanBe (same_line ∷ []) (drop (i + 1) s) =
     subst (λ u. CanBe (same_line ∷ []) u ↔ CanBe (same_line ∷ []) (drop (i + 1) s)) (sym (drop_more s i 0 l))
-    (can_same (same_line ∷ []) (same_line ∷ []) (x ∷ drop (i + 1) s) (drop (i + 1) s) (λ v. line_goes_on x (drop (i + 1) s ++ v) b p)) in
+    (can_same (same_line ∷ []) (same_line ∷ []) (x ∷ drop (i + 1) s) (drop (i + 1) s)
+    (λ v. line_goes_on x (drop (i + 1) s ++ v) b p)) in
     let blank = blank_more s i l b in
     ((λ d. line.0 (h.0.0 d), λ d. h.0.1 (line.1 d)), (λ d. blank.0 (h.1.0 d), λ d. h.1.1 (blank.1 d)))
 
-pub next_found : (s : List ℕ) (i : ℕ) (t : List ℕ) → i < length s → get_or s i 0 ≡ 0x0A → SameLine s (drop i s) → IsPast (drop (i + 1) s) t → IsNextLine s t
+pub next_found : (s : List ℕ) (i : ℕ) (t : List ℕ) → i < length s → get_or s i 0 ≡ 0x0A → SameLine s (drop i s)
+    → IsPast (drop (i + 1) s) t → IsNextLine s t
 next_found s i t l e h p =
     let x = get_or s i 0 in
     let line : CanBe (same_line ∷ []) (drop i s) ↔ CanBe (next_line ∷ []) t =
@@ -152,7 +167,8 @@ next_found s i t l e h p =
       omega arith,
     )
 
-pub none_next : (s : List ℕ) (i : ℕ) → i < length s → ¬ IsBlank (get_or s i 0) → SameLine s (drop i s) → ¬ CanBe (same_line ∷ []) s
+pub none_next : (s : List ℕ) (i : ℕ) → i < length s → ¬ IsBlank (get_or s i 0) → SameLine s (drop i s)
+    → ¬ CanBe (same_line ∷ []) s
 none_next s i l n h d =
     let f = subst (CanBe (same_line ∷ [])) (drop_more s i 0 l) (h.0.0 d) in
     line_stops (get_or s i 0) (drop (i + 1) s ++ f.0) n f.1
@@ -166,15 +182,20 @@ next_at_end s h = (
 )
 
 -- behind a whole text, and in one
-pub can_behind : (ss : List Symbol) (x n : ℕ) (rest : List ℕ) → Leaves x rest (λ us. us) (drop n rest) → CanBe (text ∷ ss) (x ∷ rest) ↔ CanBe ss (drop n rest)
+pub can_behind : (ss : List Symbol) (x n : ℕ) (rest : List ℕ) → Leaves x rest (λ us. us) (drop n rest)
+    → CanBe (text ∷ ss) (x ∷ rest) ↔ CanBe ss (drop n rest)
 can_behind ss x n rest left_so = can_same (text ∷ ss) ss (x ∷ rest) (drop n rest) (left_so ss)
 
-pub can_complete : (ss : List Symbol) (x : ℕ) (rest : List ℕ) (n : Next) (d k : ℕ) → AllHold ss → Leaves x rest (next_left n d k) [] → CanBe (text ∷ ss) (x ∷ rest)
-can_complete ss x rest n d k a left_so = let c = completes (next_left n d k ss) (next_holds n d k ss a) in (c.0, (left_so ss c.0).1 c.1)
+pub can_complete : (ss : List Symbol) (x : ℕ) (rest : List ℕ) (n : Next) (d k : ℕ) → AllHold ss
+    → Leaves x rest (next_left n d k) [] → CanBe (text ∷ ss) (x ∷ rest)
+can_complete ss x rest n d k a left_so =
+    let c = completes (next_left n d k ss) (next_holds n d k ss a) in (c.0, (left_so ss c.0).1 c.1)
 
 -- lines by the first of them
-pub lines_then : (b s t : List ℕ) → (CanBe (next_line ∷ []) b ↔ CanBe (next_line ∷ []) s) × StartsLine s → 1 ≤ length s
-    → (CanBe (text ∷ same_line ∷ []) s ↔ CanBe (next_line ∷ []) t) → CanBe (next_line ∷ []) b ↔ CanBe (next_line ∷ []) t
+pub lines_then : (b s t : List ℕ) → (CanBe (next_line ∷ []) b ↔ CanBe (next_line ∷ []) s) × StartsLine s
+    → 1 ≤ length s
+    → (CanBe (text ∷ same_line ∷ []) s ↔ CanBe (next_line ∷ []) t) → CanBe (next_line ∷ []) b
+    ↔ CanBe (next_line ∷ []) t
 lines_then b s t before l h =
     let is = next_is_text s before.1 l in
     (λ d. h.0 (is.0 (before.0.0 d)), λ d. before.0.1 (is.1 (h.1 d)))
@@ -187,7 +208,8 @@ pub lines_wrong : (b s : List ℕ) → (CanBe (next_line ∷ []) b ↔ CanBe (ne
     → ¬ CanBe (text ∷ same_line ∷ []) s → ¬ CanBe (next_line ∷ []) b
 lines_wrong b s before l h d = h ((next_is_text s before.1 l).0 (before.0.0 d))
 
-pub lines_end : (b s : List ℕ) → (CanBe (next_line ∷ []) b ↔ CanBe (next_line ∷ []) s) × StartsLine s → s ≡ [] → CanBe (next_line ∷ []) b
+pub lines_end : (b s : List ℕ) → (CanBe (next_line ∷ []) b ↔ CanBe (next_line ∷ []) s) × StartsLine s → s ≡ []
+    → CanBe (next_line ∷ []) b
 lines_end b s before e = before.0.1 (subst (CanBe (next_line ∷ [])) (sym e) (completes (next_line ∷ []) tt))
 
 -- a buffer by its first byte
@@ -221,9 +243,14 @@ line_wrong x n s rest e left_so none can =
 abbrev pub CutLine : List ℕ → Type 0
 CutLine s = CanBe (text ∷ same_line ∷ []) s × CanBe (text ∷ blanks ∷ []) s
 
-pub line_cut : (x : ℕ) (s rest : List ℕ) (n : Next) (d k : ℕ) → s ≡ x ∷ rest → Leaves x rest (next_left n d k) [] → CutLine s
+pub line_cut : (x : ℕ) (s rest : List ℕ) (n : Next) (d k : ℕ) → s ≡ x ∷ rest → Leaves x rest (next_left n d k) []
+    → CutLine s
 line_cut x s rest n d k e left_so =
-    subst CutLine (sym e) (can_complete (same_line ∷ []) x rest n d k tt left_so, can_complete (blanks ∷ []) x rest n d k tt left_so)
+    subst CutLine (sym e) (
+      can_complete (same_line ∷ []) x rest n d k tt left_so,
+      can_complete
+          (blanks ∷ []) x rest n d k tt left_so,
+    )
 
 pub none_left : (s : List ℕ) → length s < 1 → CutLine s
 none_left [] l = (completes (text ∷ same_line ∷ []) tt, completes (text ∷ blanks ∷ []) tt)
@@ -234,7 +261,8 @@ pub by_first : (s : List ℕ) → 1 ≤ length s → s ≡ get_or s 0 0 ∷ take
 by_first s l = drop_more s 0 0 l ∙ ap (λ t. get_or s 0 0 ∷ t) (sym (take_rest s 1))
 
 -- past white space
-lines_past : (b s : List ℕ) → IsPast b s → BeginsLines b ↔ (CanBe (text ∷ same_line ∷ []) s × (¬ CanBe (text ∷ blanks ∷ []) s))
+lines_past : (b s : List ℕ) → IsPast b s → BeginsLines b
+    ↔ (CanBe (text ∷ same_line ∷ []) s × (¬ CanBe (text ∷ blanks ∷ []) s))
 lines_past b s p =
     let lines = past_can (text ∷ same_line ∷ []) b s tt (text_no_blank (same_line ∷ [])) p in
     let single = past_can (text ∷ blanks ∷ []) b s tt (text_no_blank (blanks ∷ [])) p in
@@ -248,7 +276,8 @@ lines_so b s t p whole some =
 pub lines_single : (b s t : List ℕ) → IsPast b s → WholeLine s t → t ≡ [] → ¬ BeginsLines b
 lines_single b s t p whole none d = ((lines_past b s p).0 d).1 (whole.1.1 none)
 
-pub lines_none : (b s : List ℕ) (r : line.Line) → IsPast b s → LineTells s r → (r ≡ Line.Cut) ⊎ (r ≡ Line.Wrong) → ¬ BeginsLines b
+pub lines_none : (b s : List ℕ) (r : line.Line) → IsPast b s → LineTells s r → (r ≡ Line.Cut) ⊎ (r ≡ Line.Wrong)
+    → ¬ BeginsLines b
 lines_none b s (Line.Whole t) p h is d = elim is [ inl e ↦ absurd (cc) | inr e ↦ absurd (cc) ]
 lines_none b s Line.Cut p h is d = ((lines_past b s p).0 d).1 h.1
 lines_none b s Line.Wrong p h is d = h ((lines_past b s p).0 d).0
@@ -259,12 +288,14 @@ mark_stops ss v d =
     text_opens 0xEF ss v (λ o. elim o [ inl e ↦ omega arith | inr e ↦ omega arith ])
     ((blank_skip 0xEF (text ∷ ss) v (λ b. grind arith)).0 d)
 
-past_mark : (P : List ℕ → Type 0) (b w : List ℕ) → ((u : List ℕ) → ¬ P (0xEF ∷ u)) → IsPastMark b w → P w ↔ UpToMark P b
+past_mark : (P : List ℕ → Type 0) (b w : List ℕ) → ((u : List ℕ) → ¬ P (0xEF ∷ u)) → IsPastMark b w → P w
+    ↔ UpToMark P b
 past_mark P b w none (inl e) = (
   λ p. inr (w, e, p),
   λ d. elim d [
     | inl p ↦ absurd (none (0xBB ∷ 0xBF ∷ w) (subst P e p))
-    | inr (u, f, p) ↦ let same : 0xEF ∷ 0xBB ∷ 0xBF ∷ u ≡ 0xEF ∷ 0xBB ∷ 0xBF ∷ w = sym f ∙ e in subst P (ap (drop 3) same) p
+    | inr (u, f, p) ↦ let same : 0xEF ∷ 0xBB ∷ 0xBF ∷ u ≡ 0xEF ∷ 0xBB ∷ 0xBF ∷ w = sym f
+        ∙ e in subst P (ap (drop 3) same) p
   ],
 )
 past_mark P b w none (inr (e, lacks)) = (

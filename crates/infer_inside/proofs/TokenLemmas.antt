@@ -12,10 +12,12 @@ use Rattle.infer_inside.proofs.LineLemmas.{past_can, text_no_blank}
 use Rattle.infer_inside.proofs.CompleteLemmas.{AllHold, Completes, completes, token_holds}
 
 -- one after the other, and apart
-both : {us : List Symbol} {xs : List ℕ} (bs : List Symbol) (ys : List ℕ) → Stands us xs → Stands bs ys → Stands (us ++ bs) (xs ++ ys)
+both : {us : List Symbol} {xs : List ℕ} (bs : List Symbol) (ys : List ℕ) → Stands us xs → Stands bs ys
+    → Stands (us ++ bs) (xs ++ ys)
 both bs ys nothing e = e
 both bs ys (one l h d) e = one l h (both bs ys d e)
-both {us} {xs} bs ys (by_rule {ss = ss} r m d) e = by_rule r m (subst (λ ws. Stands ws (xs ++ ys)) (append_assoc r ss bs) (both bs ys d e))
+both {us} {xs} bs ys (by_rule {ss = ss} r m d) e = by_rule r m
+    (subst (λ ws. Stands ws (xs ++ ys)) (append_assoc r ss bs) (both bs ys d e))
 
 abbrev Parted : List Symbol → List Symbol → List ℕ → Type 0
 Parted us bs xs = (ys zs : List ℕ) × (xs ≡ ys ++ zs) × Stands us ys × Stands bs zs
@@ -60,7 +62,8 @@ none_back : (ss us : List Symbol) (x : ℕ) (t more : List ℕ) → ((v : List �
 none_back ss us x t [] h none = λ y v d. none y v ((h (t ++ y ∷ v)).0 d)
 none_back ss us x t (y ∷ more) h none = λ v d. none v ((h (t ++ y ∷ v)).0 d)
 
-whole_there : (ss us : List Symbol) (x : ℕ) (s t more : List ℕ) → Completes us → ((v : List ℕ) → Stands ss (x ∷ v) ↔ Stands us v)
+whole_there : (ss us : List Symbol) (x : ℕ) (s t more : List ℕ) → Completes us
+    → ((v : List ℕ) → Stands ss (x ∷ v) ↔ Stands us v)
     → x ∷ s ≡ t ++ more → Stands ss t → NoneGoesOn ss t more → BeginsWhole us s
 whole_there ss us x s [] more c h e d none = absurd (subst (NoneGoesOn ss []) (sym e) none c.0 ((h c.0).1 c.1))
 whole_there ss us x s (y ∷ t) more c h e d none =
@@ -69,7 +72,8 @@ whole_there ss us x s (y ∷ t) more c h e d none =
     let n = subst (λ z. NoneGoesOn ss (z ∷ t) more) same none in
     (t, more, rest, (h t).0 (subst (λ z. Stands ss (z ∷ t)) same d), none_there ss us x t more h n)
 
-whole_step : (ss us : List Symbol) (x : ℕ) (s : List ℕ) → Completes us → ((v : List ℕ) → Stands ss (x ∷ v) ↔ Stands us v)
+whole_step : (ss us : List Symbol) (x : ℕ) (s : List ℕ) → Completes us
+    → ((v : List ℕ) → Stands ss (x ∷ v) ↔ Stands us v)
     → BeginsWhole ss (x ∷ s) ↔ BeginsWhole us s
 whole_step ss us x s c h = (
   λ (t, more, e, d, none). whole_there ss us x s t more c h e d none,
@@ -77,9 +81,11 @@ whole_step ss us x s c h = (
 )
 
 -- what begins with no byte x
-never_whole : (ss : List Symbol) (x : ℕ) (s : List ℕ) → ((v : List ℕ) → ¬ Stands ss (x ∷ v)) → ¬ Stands (ss ++ byte x ∷ []) (x ∷ []) → ¬ BeginsWhole ss (x ∷ s)
+never_whole : (ss : List Symbol) (x : ℕ) (s : List ℕ) → ((v : List ℕ) → ¬ Stands ss (x ∷ v))
+    → ¬ Stands (ss ++ byte x ∷ []) (x ∷ []) → ¬ BeginsWhole ss (x ∷ s)
 never_whole ss x s h n ([], more, e, d, none) = n (both (byte x ∷ []) (x ∷ []) d (by_itself x))
-never_whole ss x s h n (y ∷ t, more, e, d, none) = let same : y ≡ x = cc in h t (subst (λ z. Stands ss (z ∷ t)) same d)
+never_whole ss x s h n (y ∷ t, more, e, d, none) =
+    let same : y ≡ x = cc in h t (subst (λ z. Stands ss (z ∷ t)) same d)
 
 -- of tokens
 no_others : EndsNumber []
@@ -88,24 +94,35 @@ no_others x v m d = elim d [ ]
 token_completes : (t : Token) → Completes (left t)
 token_completes t = completes (left t) (subst AllHold (append-nil (left t)) (token_holds t [] tt))
 
-alone : (ss us : List Symbol) (x : ℕ) → ((v : List ℕ) → Stands (ss ++ []) (x ∷ v) ↔ Stands (us ++ []) v) → (v : List ℕ) → Stands ss (x ∷ v) ↔ Stands us v
-alone ss us x h = subst (λ q. (v : List ℕ) → Stands q (x ∷ v) ↔ Stands us v) (append-nil ss) (subst (λ q. (v : List ℕ) → Stands (ss ++ []) (x ∷ v) ↔ Stands q v) (append-nil us) h)
+alone : (ss us : List Symbol) (x : ℕ) → ((v : List ℕ) → Stands (ss ++ []) (x ∷ v) ↔ Stands (us ++ []) v)
+    → (v : List ℕ) → Stands ss (x ∷ v) ↔ Stands us v
+alone ss us x h =
+    subst (λ q. (v : List ℕ) → Stands q (x ∷ v) ↔ Stands us v) (append-nil ss)
+    (subst (λ q. (v : List ℕ) → Stands (ss ++ []) (x ∷ v) ↔ Stands q v) (append-nil us) h)
 
-pub whole_inside : (t u : Token) (x : ℕ) (s : List ℕ) → Follows (left t) x (Inside u) → BeginsWhole (left t) (x ∷ s) ↔ BeginsWhole (left u) s
-whole_inside t u x s f = whole_step (left t) (left u) x s (token_completes u) (alone (left t) (left u) x (f [] no_others))
+pub whole_inside : (t u : Token) (x : ℕ) (s : List ℕ) → Follows (left t) x (Inside u) → BeginsWhole (left t) (x ∷ s)
+    ↔ BeginsWhole (left u) s
+whole_inside t u x s f =
+    whole_step (left t) (left u) x s (token_completes u) (alone (left t) (left u) x (f [] no_others))
 
 pub whole_ended : (t : Token) (x : ℕ) (s : List ℕ) → Follows (left t) x Ended → BeginsWhole (left t) (x ∷ s)
-whole_ended t x [] f = let h = alone (left t) [] x (f []) in (x ∷ [], [], refl, (h []).1 nothing, λ y v d. elim ((h (y ∷ v)).0 d) [ ])
-whole_ended t x (y ∷ s) f = let h = alone (left t) [] x (f []) in (x ∷ [], y ∷ s, refl, (h []).1 nothing, λ v d. elim ((h (y ∷ v)).0 d) [ ])
+whole_ended t x [] f =
+    let h = alone (left t) [] x (f []) in (x ∷ [], [], refl, (h []).1 nothing, λ y v d. elim ((h (y ∷ v)).0 d) [ ])
+whole_ended t x (y ∷ s) f =
+    let h = alone (left t) [] x (f []) in (x ∷ [], y ∷ s, refl, (h []).1 nothing, λ v d. elim ((h (y ∷ v)).0 d) [ ])
 
 none_after : (t : Token) (x : ℕ) → Follows (left t) x EndedBefore → (v : List ℕ) → ¬ Stands (left t) (x ∷ v)
-none_after t x f v d = let e : Stands [] (x ∷ v) = (f [] v).0 (subst (λ q. Stands q (x ∷ v)) (sym (append-nil (left t))) d) in elim e [ ]
+none_after t x f v d =
+    let e : Stands [] (x ∷ v) = (f [] v).0 (subst (λ q. Stands q (x ∷ v)) (sym (append-nil (left t))) d) in elim e [ ]
 
 pub whole_before : (t : Token) (x : ℕ) (s : List ℕ) → Follows (left t) x EndedBefore → BeginsWhole (left t) (x ∷ s)
-whole_before t x s f = ([], x ∷ s, refl, before_byte (left t) x ((f (byte x ∷ []) []).1 (by_itself x)), none_after t x f)
+whole_before t x s f =
+    ([], x ∷ s, refl, before_byte (left t) x ((f (byte x ∷ []) []).1 (by_itself x)), none_after t x f)
 
 pub whole_wrong : (t : Token) (x : ℕ) (s : List ℕ) → Follows (left t) x Wrong → ¬ BeginsWhole (left t) (x ∷ s)
-whole_wrong t x s f = never_whole (left t) x s (λ v d. f [] v (subst (λ q. Stands q (x ∷ v)) (sym (append-nil (left t))) d)) (f (byte x ∷ []) [])
+whole_wrong t x s f =
+    never_whole (left t) x s (λ v d. f [] v (subst (λ q. Stands q (x ∷ v)) (sym (append-nil (left t))) d))
+    (f (byte x ∷ []) [])
 
 -- each token can go on
 abbrev GoesOn : List Symbol → Type 0
@@ -124,40 +141,66 @@ goes_hex : (ss : List Symbol) → AllHold ss → GoesOn (hex ∷ ss)
 goes_hex ss h = goes_by (digit ∷ []) hex ss (inl refl) (goes_range 0x30 0x39 ss (omega arith) (completes ss h))
 
 goes_digits : (ss : List Symbol) → AllHold ss → GoesOn (digits ∷ ss)
-goes_digits ss h = goes_by (digit ∷ digits ∷ []) digits ss (inr (inl refl)) (goes_range 0x30 0x39 (digits ∷ ss) (omega arith) (completes (digits ∷ ss) h))
+goes_digits ss h =
+    goes_by (digit ∷ digits ∷ []) digits ss (inr (inl refl))
+    (goes_range 0x30 0x39 (digits ∷ ss) (omega arith) (completes (digits ∷ ss) h))
 
 goes_on : (t : Token) → GoesOn (left t)
 goes_on Chars = goes_chars
-goes_on Escape = goes_by (byte 0x22 ∷ []) escape (chars ∷ []) (inl refl) (goes_range 0x22 0x22 (chars ∷ []) (omega arith) (completes (chars ∷ []) tt))
+goes_on Escape =
+    goes_by (byte 0x22 ∷ []) escape (chars ∷ []) (inl refl)
+    (goes_range 0x22 0x22 (chars ∷ []) (omega arith) (completes (chars ∷ []) tt))
 goes_on Hex4 = goes_hex (hex ∷ hex ∷ hex ∷ chars ∷ []) tt
 goes_on Hex3 = goes_hex (hex ∷ hex ∷ chars ∷ []) tt
 goes_on Hex2 = goes_hex (hex ∷ chars ∷ []) tt
 goes_on Hex1 = goes_hex (chars ∷ []) tt
 goes_on Char1 = goes_range 0x80 0xBF (chars ∷ []) (omega arith) (completes (chars ∷ []) tt)
-goes_on Char2 = goes_range 0x80 0xBF (later ∷ chars ∷ []) (omega arith) (completes (later ∷ chars ∷ []) (omega arith, tt))
-goes_on Char3 = goes_range 0x80 0xBF (later ∷ later ∷ chars ∷ []) (omega arith) (completes (later ∷ later ∷ chars ∷ []) (omega arith, (omega arith, tt)))
-goes_on CharE0 = goes_range 0xA0 0xBF (later ∷ chars ∷ []) (omega arith) (completes (later ∷ chars ∷ []) (omega arith, tt))
-goes_on CharEd = goes_range 0x80 0x9F (later ∷ chars ∷ []) (omega arith) (completes (later ∷ chars ∷ []) (omega arith, tt))
-goes_on CharF0 = goes_range 0x90 0xBF (later ∷ later ∷ chars ∷ []) (omega arith) (completes (later ∷ later ∷ chars ∷ []) (omega arith, (omega arith, tt)))
-goes_on CharF4 = goes_range 0x80 0x8F (later ∷ later ∷ chars ∷ []) (omega arith) (completes (later ∷ later ∷ chars ∷ []) (omega arith, (omega arith, tt)))
-goes_on T = goes_range 0x72 0x72 (exact (codes "ue")) (omega arith) (completes (exact (codes "ue")) (omega arith, (omega arith, tt)))
+goes_on Char2 =
+    goes_range 0x80 0xBF (later ∷ chars ∷ []) (omega arith) (completes (later ∷ chars ∷ []) (omega arith, tt))
+goes_on Char3 =
+    goes_range 0x80 0xBF (later ∷ later ∷ chars ∷ []) (omega arith)
+    (completes (later ∷ later ∷ chars ∷ []) (omega arith, (omega arith, tt)))
+goes_on CharE0 =
+    goes_range 0xA0 0xBF (later ∷ chars ∷ []) (omega arith) (completes (later ∷ chars ∷ []) (omega arith, tt))
+goes_on CharEd =
+    goes_range 0x80 0x9F (later ∷ chars ∷ []) (omega arith) (completes (later ∷ chars ∷ []) (omega arith, tt))
+goes_on CharF0 =
+    goes_range 0x90 0xBF (later ∷ later ∷ chars ∷ []) (omega arith)
+    (completes (later ∷ later ∷ chars ∷ []) (omega arith, (omega arith, tt)))
+goes_on CharF4 =
+    goes_range 0x80 0x8F (later ∷ later ∷ chars ∷ []) (omega arith)
+    (completes (later ∷ later ∷ chars ∷ []) (omega arith, (omega arith, tt)))
+goes_on T =
+    goes_range 0x72 0x72 (exact (codes "ue")) (omega arith)
+    (completes (exact (codes "ue")) (omega arith, (omega arith, tt)))
 goes_on Tr = goes_range 0x75 0x75 (exact (codes "e")) (omega arith) (completes (exact (codes "e")) (omega arith, tt))
 goes_on Tru = goes_range 0x65 0x65 [] (omega arith) (completes [] tt)
-goes_on F = goes_range 0x61 0x61 (exact (codes "lse")) (omega arith) (completes (exact (codes "lse")) (omega arith, (omega arith, (omega arith, tt))))
-goes_on Fa = goes_range 0x6C 0x6C (exact (codes "se")) (omega arith) (completes (exact (codes "se")) (omega arith, (omega arith, tt)))
+goes_on F =
+    goes_range 0x61 0x61 (exact (codes "lse")) (omega arith)
+    (completes (exact (codes "lse")) (omega arith, (omega arith, (omega arith, tt))))
+goes_on Fa =
+    goes_range 0x6C 0x6C (exact (codes "se")) (omega arith)
+    (completes (exact (codes "se")) (omega arith, (omega arith, tt)))
 goes_on Fal = goes_range 0x73 0x73 (exact (codes "e")) (omega arith) (completes (exact (codes "e")) (omega arith, tt))
 goes_on Fals = goes_range 0x65 0x65 [] (omega arith) (completes [] tt)
-goes_on N = goes_range 0x75 0x75 (exact (codes "ll")) (omega arith) (completes (exact (codes "ll")) (omega arith, (omega arith, tt)))
+goes_on N =
+    goes_range 0x75 0x75 (exact (codes "ll")) (omega arith)
+    (completes (exact (codes "ll")) (omega arith, (omega arith, tt)))
 goes_on Nu = goes_range 0x6C 0x6C (exact (codes "l")) (omega arith) (completes (exact (codes "l")) (omega arith, tt))
 goes_on Nul = goes_range 0x6C 0x6C [] (omega arith) (completes [] tt)
-goes_on Minus = goes_by (byte 0x30 ∷ []) whole (fraction ∷ exponent ∷ []) (inl refl) (goes_range 0x30 0x30 (fraction ∷ exponent ∷ []) (omega arith) (completes (fraction ∷ exponent ∷ []) tt))
+goes_on Minus =
+    goes_by (byte 0x30 ∷ []) whole (fraction ∷ exponent ∷ []) (inl refl)
+    (goes_range 0x30 0x30 (fraction ∷ exponent ∷ []) (omega arith) (completes (fraction ∷ exponent ∷ []) tt))
 goes_on Zero =
     goes_by (byte 0x2E ∷ digit ∷ digits ∷ []) fraction (exponent ∷ []) (inr (inl refl))
-    (goes_range 0x2E 0x2E (digit ∷ digits ∷ exponent ∷ []) (omega arith) (completes (digit ∷ digits ∷ exponent ∷ []) (omega arith, tt)))
+    (goes_range 0x2E 0x2E (digit ∷ digits ∷ exponent ∷ []) (omega arith)
+    (completes (digit ∷ digits ∷ exponent ∷ []) (omega arith, tt)))
 goes_on Whole = goes_digits (fraction ∷ exponent ∷ []) tt
 goes_on Point = goes_range 0x30 0x39 (digits ∷ exponent ∷ []) (omega arith) (completes (digits ∷ exponent ∷ []) tt)
 goes_on Fraction = goes_digits (exponent ∷ []) tt
-goes_on Exponent = goes_by (digit ∷ digits ∷ []) power [] (inl refl) (goes_range 0x30 0x39 (digits ∷ []) (omega arith) (completes (digits ∷ []) tt))
+goes_on Exponent =
+    goes_by (digit ∷ digits ∷ []) power [] (inl refl)
+    (goes_range 0x30 0x39 (digits ∷ []) (omega arith) (completes (digits ∷ []) tt))
 goes_on Sign = goes_range 0x30 0x39 (digits ∷ []) (omega arith) (completes (digits ∷ []) tt)
 goes_on Power = goes_digits [] tt
 
@@ -167,23 +210,32 @@ none_ends t ([], y ∷ more, e, d, none) = absurd (cc)
 none_ends t (y ∷ s, more, e, d, none) = absurd (cc)
 
 -- in a buffer, from the place i on
-pub whole_more : (t u : Token) (s : List ℕ) (i : ℕ) → i < length s → Follows (left t) (get_or s i 0) (Inside u) → BeginsWhole (left t) (drop i s) ↔ BeginsWhole (left u) (drop (i + 1) s)
+pub whole_more : (t u : Token) (s : List ℕ) (i : ℕ) → i < length s → Follows (left t) (get_or s i 0) (Inside u)
+    → BeginsWhole (left t) (drop i s) ↔ BeginsWhole (left u) (drop (i + 1) s)
 whole_more t u s i l f =
-    subst (λ q. BeginsWhole (left t) q ↔ BeginsWhole (left u) (drop (i + 1) s)) (sym (drop_more s i 0 l)) (whole_inside t u (get_or s i 0) (drop (i + 1) s) f)
+    subst (λ q. BeginsWhole (left t) q ↔ BeginsWhole (left u) (drop (i + 1) s)) (sym (drop_more s i 0 l))
+    (whole_inside t u (get_or s i 0) (drop (i + 1) s) f)
 
-pub ends_at : (t : Token) (s : List ℕ) (i : ℕ) (step : Step) → i < length s → Follows (left t) (get_or s i 0) step → (step ≡ Ended) ⊎ (step ≡ EndedBefore)
+pub ends_at : (t : Token) (s : List ℕ) (i : ℕ) (step : Step) → i < length s → Follows (left t) (get_or s i 0) step
+    → (step ≡ Ended) ⊎ (step ≡ EndedBefore)
     → BeginsWhole (left t) (drop i s)
 ends_at t s i step l f (inl e) =
-    subst (BeginsWhole (left t)) (sym (drop_more s i 0 l)) (whole_ended t (get_or s i 0) (drop (i + 1) s) (subst (Follows (left t) (get_or s i 0)) e f))
+    subst (BeginsWhole (left t)) (sym (drop_more s i 0 l))
+    (whole_ended t (get_or s i 0) (drop (i + 1) s) (subst (Follows (left t) (get_or s i 0)) e f))
 ends_at t s i step l f (inr e) =
-    subst (BeginsWhole (left t)) (sym (drop_more s i 0 l)) (whole_before t (get_or s i 0) (drop (i + 1) s) (subst (Follows (left t) (get_or s i 0)) e f))
+    subst (BeginsWhole (left t)) (sym (drop_more s i 0 l))
+    (whole_before t (get_or s i 0) (drop (i + 1) s) (subst (Follows (left t) (get_or s i 0)) e f))
 
-pub stops_at : (t : Token) (s : List ℕ) (i : ℕ) → i < length s → Follows (left t) (get_or s i 0) Wrong → ¬ BeginsWhole (left t) (drop i s)
-stops_at t s i l f b = whole_wrong t (get_or s i 0) (drop (i + 1) s) f (subst (BeginsWhole (left t)) (drop_more s i 0 l) b)
+pub stops_at : (t : Token) (s : List ℕ) (i : ℕ) → i < length s → Follows (left t) (get_or s i 0) Wrong
+    → ¬ BeginsWhole (left t) (drop i s)
+stops_at t s i l f b =
+    whole_wrong t (get_or s i 0) (drop (i + 1) s) f (subst (BeginsWhole (left t)) (drop_more s i 0 l) b)
 
 -- a token by its first byte
-pub token_starts : (x : ℕ) (t : Token) (s : List ℕ) → Starts x t → BeginsWhole (value 0 ∷ []) (x ∷ s) ↔ BeginsWhole (left t) s
-token_starts x t s st = whole_step (value 0 ∷ []) (left t) x s (token_completes t) (alone (value 0 ∷ []) (left t) x (st 0 []))
+pub token_starts : (x : ℕ) (t : Token) (s : List ℕ) → Starts x t → BeginsWhole (value 0 ∷ []) (x ∷ s)
+    ↔ BeginsWhole (left t) s
+token_starts x t s st =
+    whole_step (value 0 ∷ []) (left t) x s (token_completes t) (alone (value 0 ∷ []) (left t) x (st 0 []))
 
 pub none_starts : (x : ℕ) (s : List ℕ) → NoToken x → ¬ IsMark x → ¬ BeginsWhole (value 0 ∷ []) (x ∷ s)
 none_starts x s n m =
@@ -192,12 +244,14 @@ none_starts x s n m =
     never_whole (value 0 ∷ []) x s (λ v. n 0 [] v p q) (n 0 (byte x ∷ []) [] p q)
 
 -- behind white space
-behind_past : (P : List ℕ → Type 0) (s t : List ℕ) → ((x : ℕ) (u : List ℕ) → IsBlank x → ¬ P (x ∷ u)) → IsPast s t → BehindBlanks P s ↔ P t
+behind_past : (P : List ℕ → Type 0) (s t : List ℕ) → ((x : ℕ) (u : List ℕ) → IsBlank x → ¬ P (x ∷ u)) → IsPast s t
+    → BehindBlanks P s ↔ P t
 behind_past P [] t n e = (λ p. subst P (sym e) p, λ p. subst P e p)
 behind_past P (x ∷ s) t n (inl (b, p)) =
     let h = behind_past P s t n p in
     (λ d. elim d [ inl q ↦ absurd (n x s b q) | inr q ↦ h.0 q.1 ], λ q. inr (b, h.1 q))
-behind_past P (x ∷ s) t n (inr (m, e)) = (λ d. elim d [ inl q ↦ subst P (sym e) q | inr q ↦ absurd (m q.0) ], λ q. inl (subst P e q))
+behind_past P (x ∷ s) t n (inr (m, e)) =
+    (λ d. elim d [ inl q ↦ subst P (sym e) q | inr q ↦ absurd (m q.0) ], λ q. inl (subst P e q))
 
 blank_no_token : (x : ℕ) → IsBlank x → NoToken x
 blank_no_token x b n ss v p q d = let f = (value_begins n x ss v p q).0 d in grind arith
@@ -215,7 +269,8 @@ opens_past : (s t : List ℕ) → IsPast s t → BehindBlanks OpensWithToken s �
 opens_past s t p = behind_past OpensWithToken s t (λ x u b d. (let o = d.0 in grind arith)) p
 
 -- of a buffer by its first byte
-pub tokens_past : (b s rest : List ℕ) (x : ℕ) → IsPast b s → s ≡ x ∷ rest → BehindBlanks BeginsToken b ↔ BeginsToken (x ∷ rest)
+pub tokens_past : (b s rest : List ℕ) (x : ℕ) → IsPast b s → s ≡ x ∷ rest → BehindBlanks BeginsToken b
+    ↔ BeginsToken (x ∷ rest)
 tokens_past b s rest x p e = subst (λ u. BehindBlanks BeginsToken b ↔ BeginsToken u) e (token_past b s p)
 
 pub no_token : (b s : List ℕ) → IsPast b s → length s < 1 → ¬ BehindBlanks BeginsToken b

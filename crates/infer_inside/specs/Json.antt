@@ -52,9 +52,11 @@ nested (suc n) = (byte 0x5B ∷ blanks ∷ items n ∷ []) ∷ (byte 0x7B ∷ bl
 abbrev pub rules : Symbol → List (List Symbol)
 rules (range low high) = []
 rules blanks =
-    [] ∷ (byte 0x20 ∷ blanks ∷ []) ∷ (byte 0x09 ∷ blanks ∷ []) ∷ (byte 0x0A ∷ blanks ∷ []) ∷ (byte 0x0D ∷ blanks ∷ []) ∷ []
+    [] ∷ (byte 0x20 ∷ blanks ∷ []) ∷ (byte 0x09 ∷ blanks ∷ []) ∷ (byte 0x0A ∷ blanks ∷ []) ∷ (byte
+    0x0D ∷ blanks ∷ []) ∷ []
 rules (value n) =
-    exact (codes "true") ∷ exact (codes "false") ∷ exact (codes "null") ∷ (byte 0x22 ∷ chars ∷ []) ∷ (number ∷ []) ∷ nested n
+    exact (codes "true") ∷ exact (codes "false") ∷ exact
+    (codes "null") ∷ (byte 0x22 ∷ chars ∷ []) ∷ (number ∷ []) ∷ nested n
 rules (items n) = (byte 0x5D ∷ []) ∷ (value n ∷ blanks ∷ more_items n ∷ []) ∷ []
 rules (more_items n) = (byte 0x5D ∷ []) ∷ (byte 0x2C ∷ blanks ∷ value n ∷ blanks ∷ more_items n ∷ []) ∷ []
 rules (members n) = (byte 0x7D ∷ []) ∷ (member n ∷ blanks ∷ more_members n ∷ []) ∷ []
@@ -63,7 +65,8 @@ rules (more_members n) = (byte 0x7D ∷ []) ∷ (byte 0x2C ∷ blanks ∷ member
 rules chars = (byte 0x22 ∷ []) ∷ (char ∷ chars ∷ []) ∷ []
 rules char =
     (range 0x20 0x21 ∷ []) ∷ (range 0x23 0x5B ∷ []) ∷ (range 0x5D 0x7F ∷ []) ∷ (byte 0x5C ∷ escape ∷ [])
-    ∷ (range 0xC2 0xDF ∷ later ∷ []) ∷ (byte 0xE0 ∷ range 0xA0 0xBF ∷ later ∷ []) ∷ (range 0xE1 0xEC ∷ later ∷ later ∷ [])
+    ∷ (range 0xC2 0xDF ∷ later ∷ []) ∷ (byte 0xE0 ∷ range 0xA0 0xBF ∷ later ∷ []) ∷ (range 0xE1
+    0xEC ∷ later ∷ later ∷ [])
     ∷ (byte 0xED ∷ range 0x80 0x9F ∷ later ∷ []) ∷ (range 0xEE 0xEF ∷ later ∷ later ∷ [])
     ∷ (byte 0xF0 ∷ range 0x90 0xBF ∷ later ∷ later ∷ []) ∷ (range 0xF1 0xF3 ∷ later ∷ later ∷ later ∷ [])
     ∷ (byte 0xF4 ∷ range 0x80 0x8F ∷ later ∷ later ∷ []) ∷ []
@@ -94,8 +97,10 @@ IsAmong r (s ∷ ss) = (r ≡ s) ⊎ IsAmong r ss
 -- the symbols, one after the other, stand for the bytes
 pub data Stands : List Symbol → List ℕ → Type 0 where
   nothing : Stands [] []
-  one : {low high x : ℕ} {ss : List Symbol} {xs : List ℕ} → low ≤ x → x ≤ high → Stands ss xs → Stands (range low high ∷ ss) (x ∷ xs)
-  by_rule : {a : Symbol} {ss : List Symbol} {xs : List ℕ} (r : List Symbol) → IsAmong r (rules a) → Stands (r ++ ss) xs → Stands (a ∷ ss) xs
+  one : {low high x : ℕ} {ss : List Symbol} {xs : List ℕ} → low ≤ x → x ≤ high → Stands ss xs
+      → Stands (range low high ∷ ss) (x ∷ xs)
+  by_rule : {a : Symbol} {ss : List Symbol} {xs : List ℕ} (r : List Symbol) → IsAmong r (rules a)
+      → Stands (r ++ ss) xs → Stands (a ∷ ss) xs
 
 -- some bytes can follow s so that the symbols stand for the whole
 abbrev pub CanBe : List Symbol → List ℕ → Type 0

@@ -61,7 +61,9 @@ EndsNumber ss = (x : ℕ) (v : List ℕ) → MayGoOn x → ¬ Stands ss (x ∷ v
 
 -- the step tells what ss and then others stand for, behind the byte x
 abbrev pub Follows : List Symbol → ℕ → Step → Type 0
-Follows ss x (Inside t) = (others : List Symbol) → EndsNumber others → (v : List ℕ) → Stands (ss ++ others) (x ∷ v) ↔ Stands (left t ++ others) v
+Follows ss x (Inside t) =
+    (others : List Symbol) → EndsNumber others → (v : List ℕ) → Stands (ss ++ others) (x ∷ v)
+    ↔ Stands (left t ++ others) v
 Follows ss x Ended = (others : List Symbol) (v : List ℕ) → Stands (ss ++ others) (x ∷ v) ↔ Stands others v
 Follows ss x EndedBefore = (others : List Symbol) (v : List ℕ) → Stands (ss ++ others) (x ∷ v) ↔ Stands others (x ∷ v)
 Follows ss x Wrong = (others : List Symbol) (v : List ℕ) → ¬ Stands (ss ++ others) (x ∷ v)
@@ -111,7 +113,9 @@ IsOpen r = (1 ≤ r.depth) × IsSound r
 
 -- where `before` was left, the reader r tells what is left behind the byte x, if it can be
 abbrev pub Reads : (List Symbol → List Symbol) → ℕ → Reader → Bool → Type 0
-Reads before x r true = IsSound r × (r.depth ≡ 0 → r.next ≡ Closed) × ((ss : List Symbol) (v : List ℕ) → Stands (before ss) (x ∷ v) ↔ Stands (stack r ss) v)
+Reads before x r true =
+    IsSound r × (r.depth ≡ 0 → r.next ≡ Closed)
+    × ((ss : List Symbol) (v : List ℕ) → Stands (before ss) (x ∷ v) ↔ Stands (stack r ss) v)
 Reads before x r false = (ss : List Symbol) (v : List ℕ) → ¬ Stands (before ss) (x ∷ v)
 
 -- the first bracket of a text was read
@@ -120,7 +124,8 @@ Begun x r = (r.next ≡ Between First) × (1 ≤ r.depth) × Reads (λ ss. text 
 
 -- the innermost bracket is closed
 abbrev pub IsClosedTo : Reader → Reader → Type 0
-IsClosedTo old new = (new.next ≡ Closed) × (new.depth ≡ old.depth - 1) × (new.kinds ≡ old.kinds / 2) × (new.kinds < 2 ^ new.depth)
+IsClosedTo old new =
+    (new.next ≡ Closed) × (new.depth ≡ old.depth - 1) × (new.kinds ≡ old.kinds / 2) × (new.kinds < 2 ^ new.depth)
 
 -- the bracket that opens one of this kind, and that closes it
 abbrev pub opening : ℕ → ℕ
@@ -144,26 +149,33 @@ IsBracket x = (x ≡ 0x5B) ⊎ (x ≡ 0x7B)
 
 -- where ss were left before s, us are left before t
 abbrev pub Onward : List Symbol → List ℕ → List Symbol → List ℕ → Type 0
-Onward ss s us t = (others : List Symbol) → EndsNumber others → (v : List ℕ) → Stands (ss ++ others) (s ++ v) ↔ Stands (us ++ others) (t ++ v)
+Onward ss s us t =
+    (others : List Symbol) → EndsNumber others → (v : List ℕ) → Stands (ss ++ others) (s ++ v)
+    ↔ Stands (us ++ others) (t ++ v)
 
 -- where a token ends, of which t is left at this place and behind which this is due
 abbrev pub EndTells : Token → List ℕ → ℕ → Due → place.Place → Type 0
-EndTells t b at due (Place.At p next) = (next ≡ due) × (at ≤ p) × (p ≤ length b) × Onward (left t) (drop at b) [] (drop p b)
+EndTells t b at due (Place.At p next) =
+    (next ≡ due) × (at ≤ p) × (p ≤ length b) × Onward (left t) (drop at b) [] (drop p b)
 EndTells t b at due Place.Cut = (u : Token) × Onward (left t) (drop at b) (left u) []
-EndTells t b at due Place.Wrong = (others : List Symbol) → EndsNumber others → (v : List ℕ) → ¬ Stands (left t ++ others) (drop at b ++ v)
+EndTells t b at due Place.Wrong =
+    (others : List Symbol) → EndsNumber others → (v : List ℕ) → ¬ Stands (left t ++ others) (drop at b ++ v)
 
 -- what is due behind the token that n may stand in, in d brackets of the kinds k
 abbrev pub PlaceTells : Next → ℕ → ℕ → List ℕ → ℕ → place.Place → Type 0
 PlaceTells n d k b at (Place.At p due) =
     (at ≤ p) × (p ≤ length b)
-    × ((ss : List Symbol) (v : List ℕ) → Stands (next_left n d k ss) (drop at b ++ v) ↔ Stands (blanks ∷ due_left due d k ss) (drop p b ++ v))
+    × ((ss : List Symbol) (v : List ℕ) → Stands (next_left n d k ss) (drop at b ++ v)
+    ↔ Stands (blanks ∷ due_left due d k ss) (drop p b ++ v))
 PlaceTells n d k b at Place.Cut =
-    (m : Next) × ((ss : List Symbol) (v : List ℕ) → Stands (next_left n d k ss) (drop at b ++ v) ↔ Stands (next_left m d k ss) v)
+    (m : Next) × ((ss : List Symbol) (v : List ℕ) → Stands (next_left n d k ss) (drop at b ++ v)
+    ↔ Stands (next_left m d k ss) v)
 PlaceTells n d k b at Place.Wrong = (ss : List Symbol) (v : List ℕ) → ¬ Stands (next_left n d k ss) (drop at b ++ v)
 
 -- x and the bytes behind it leave just `left_of ss` of a text and then ss, before t
 abbrev pub Leaves : ℕ → List ℕ → (List Symbol → List Symbol) → List ℕ → Type 0
-Leaves x rest left_of t = (ss : List Symbol) (v : List ℕ) → Stands (text ∷ ss) (x ∷ rest ++ v) ↔ Stands (left_of ss) (t ++ v)
+Leaves x rest left_of t =
+    (ss : List Symbol) (v : List ℕ) → Stands (text ∷ ss) (x ∷ rest ++ v) ↔ Stands (left_of ss) (t ++ v)
 
 -- what x and the bytes behind it have of a text
 abbrev pub Tells : ℕ → List ℕ → read.Reading → Type 0
@@ -188,7 +200,8 @@ StartsLine (x ∷ s) = ¬ IsBlank x
 -- s has white space with a line end in it and then t, or is white space, and t nothing
 abbrev pub IsNextLine : List ℕ → List ℕ → Type 0
 IsNextLine s t =
-    (CanBe (same_line ∷ []) s ↔ CanBe (next_line ∷ []) t) × (CanBe (blanks ∷ []) s ↔ (t ≡ [])) × StartsLine t × (length t ≤ length s)
+    (CanBe (same_line ∷ []) s ↔ CanBe (next_line ∷ []) t) × (CanBe (blanks ∷ []) s ↔ (t ≡ [])) × StartsLine t
+    × (length t ≤ length s)
 
 -- what s has of a text that only the line's end can follow
 abbrev pub LineTells : List ℕ → line.Line → Type 0

@@ -40,10 +40,13 @@ fn past_mark(buf: &[u8]) -> &[u8]
 fn begins_text(buf: &[u8]) -> bool
     ensures { IsTrue result ↔ BeginsText buf.now }
 {
-    match past_blanks(buf) {
-        [first, rest @ ..] if is_bracket(*first) => has_token(rest) && begins_one(*first, rest),
-        _ => false,
+    let [first, rest @ ..] = past_blanks(buf) else {
+        return false;
+    };
+    if !is_bracket(*first) {
+        return false;
     }
+    has_token(rest) && begins_one(*first, rest)
 }
 
 /// [`is_json_lines`] of what stands behind a mark.

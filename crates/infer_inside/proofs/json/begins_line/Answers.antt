@@ -5,8 +5,10 @@ use Rattle.infer_inside.proofs.json.begins_line.Goals as goal
 pub loop-rest-preserved : goal.loop-rest-preserved
 loop-rest-preserved c =
     let s = c.loop-rest.rest.now in
-    let some = some_left s c.is_empty.result c.is_empty.ensures c.loop-rest-test.true in
-    (lines_then c.args.buf.now s c.in-Whole.next.now c.loop-rest.invariant some c.in-Whole.ensures.0, c.in-Whole.ensures.2)
+    let some = some_left s c.is_empty.result c.is_empty.ensures c.loop-rest-test.true in (
+      lines_then c.args.buf.now s c.in-Whole.next.now c.loop-rest.invariant some c.in-Whole.ensures.0,
+      c.in-Whole.ensures.2,
+    )
 
 pub returns-in-Cut : goal.returns-in-Cut
 returns-in-Cut c =
@@ -17,10 +19,16 @@ returns-in-Cut c =
 pub returns-in-Wrong : goal.returns-in-Wrong
 returns-in-Wrong c =
     let s = c.loop-rest.rest.now in
-    let some = some_left s c.is_empty.result c.is_empty.ensures c.loop-rest-test.true in
-    (λ is. absurd (cc), λ can. absurd (lines_wrong c.args.buf.now s c.loop-rest.invariant some c.in-Wrong.ensures can))
+    let some = some_left s c.is_empty.result c.is_empty.ensures c.loop-rest-test.true in (
+      λ is. absurd (cc),
+      λ can. absurd
+          (lines_wrong c.args.buf.now s c.loop-rest.invariant some c.in-Wrong.ensures can),
+    )
 
 pub returns : goal.returns
 returns c =
-    let s = c.loop-rest.rest.now in
-    (λ is. lines_end c.args.buf.now s c.loop-rest.invariant ((empty_read s c.is_empty.result c.is_empty.ensures).0 c.loop-rest-test.false), λ can. refl)
+    let s = c.loop-rest.rest.now in (
+      λ is. lines_end c.args.buf.now s c.loop-rest.invariant
+          ((empty_read s c.is_empty.result c.is_empty.ensures).0 c.loop-rest-test.false),
+      λ can. refl,
+    )

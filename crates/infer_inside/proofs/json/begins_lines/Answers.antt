@@ -15,9 +15,17 @@ pub returns-else-not-is_empty : goal.returns-else-not-is_empty
 returns-else-not-is_empty c =
     let b = c.args.buf.now in
     let t = c.in-Whole.next.now in
-    let empty = empty_read t c.is_empty.result c.is_empty.ensures in
-    (λ is. absurd (cc), λ d. absurd (lines_single b c.past_blanks.result.now t c.past_blanks.ensures c.in-Whole.ensures (empty.0 (search rules)) d))
+    let empty = empty_read t c.is_empty.result c.is_empty.ensures in (
+      λ is. absurd (cc),
+      λ d. absurd
+          (lines_single b c.past_blanks.result.now t c.past_blanks.ensures c.in-Whole.ensures
+          (empty.0 (search rules)) d),
+    )
 
 pub returns-in-Cut : goal.returns-in-Cut
-returns-in-Cut c =
-    (λ is. absurd (cc), λ d. absurd (lines_none c.args.buf.now c.past_blanks.result.now _ c.past_blanks.ensures c.read_line.ensures c.in-Cut.is d))
+returns-in-Cut c = (
+  λ is. absurd (cc),
+  λ d. absurd
+      (lines_none c.args.buf.now c.past_blanks.result.now _ c.past_blanks.ensures c.read_line.ensures c.in-Cut.is
+      d),
+)

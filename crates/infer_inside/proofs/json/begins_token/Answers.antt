@@ -14,7 +14,9 @@ returns-in-Some c =
 
 pub returns-in-None : goal.returns-in-None
 returns-in-None c =
-    let none = none_starts c.args.first c.args.rest.now c.in-None.ensures (λ mark. (let is = c.is_mark.ensures.1 mark in absurd (cc))) in (
+    let none =
+    none_starts c.args.first c.args.rest.now c.in-None.ensures
+    (λ mark. (let is = c.is_mark.ensures.1 mark in absurd (cc))) in (
       λ is. absurd (cc),
       λ d. elim d [
         | inl mark ↦ (let is = c.is_mark.ensures.1 mark in absurd (cc))

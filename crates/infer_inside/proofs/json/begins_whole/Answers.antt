@@ -7,7 +7,8 @@ use Rattle.infer_inside.proofs.json.begins_whole.Goals as goal
 
 pub returns-in-Ended : goal.returns-in-Ended
 returns-in-Ended c =
-    let ends = ends_at c.loop-i.token c.args.buf.now c.loop-i.i c.after.result (omega arith) c.after.ensures c.in-Ended.is in
+    let ends =
+    ends_at c.loop-i.token c.args.buf.now c.loop-i.i c.after.result (omega arith) c.after.ensures c.in-Ended.is in
     (λ is. c.loop-i.invariant.1 ends, λ d. refl)
 
 pub returns-in-Wrong : goal.returns-in-Wrong
@@ -17,7 +18,8 @@ returns-in-Wrong c =
 
 pub loop-i-preserved : goal.loop-i-preserved
 loop-i-preserved c =
-    let more = whole_more c.loop-i.token c.in-Inside.next c.args.buf.now c.loop-i.i (omega arith) c.in-Inside.ensures in
+    let more =
+    whole_more c.loop-i.token c.in-Inside.next c.args.buf.now c.loop-i.i (omega arith) c.in-Inside.ensures in
     (λ d. more.0 (c.loop-i.invariant.0 d), λ d. c.loop-i.invariant.1 (more.1 d))
 
 pub returns : goal.returns

@@ -3,7 +3,11 @@ use Rattle.infer_inside.proofs.TokenLemmas.{no_token, tokens_past}
 use Rattle.infer_inside.proofs.json.has_token.Goals as goal
 
 pub returns-in-empty : goal.returns-in-empty
-returns-in-empty c = (λ is. absurd (cc), λ d. absurd (no_token c.args.buf.now c.past_blanks.result.now c.past_blanks.ensures c.in-empty.len_below d))
+returns-in-empty c = (
+  λ is. absurd (cc),
+  λ d. absurd
+      (no_token c.args.buf.now c.past_blanks.result.now c.past_blanks.ensures c.in-empty.len_below d),
+)
 
 pub returns-in-len1-up : goal.returns-in-len1-up
 returns-in-len1-up c =

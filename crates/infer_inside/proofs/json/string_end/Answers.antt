@@ -4,4 +4,8 @@ use Rattle.infer_inside.proofs.OnwardLemmas.{onward_cut}
 use Rattle.infer_inside.proofs.json.string_end.Goals as goal
 
 pub returns : goal.returns
-returns c = (Chars, onward_cut Chars Chars (drop c.args.at c.args.buf.now) c.args.buf.now c.loop-i.i (omega arith) c.loop-i.invariant)
+returns c = (
+  Chars,
+  onward_cut Chars Chars (drop c.args.at c.args.buf.now) c.args.buf.now c.loop-i.i
+      (omega arith) c.loop-i.invariant,
+)

@@ -11,7 +11,8 @@ returns-in-123 c = (
   (
     (omega arith, omega arith),
     λ e. absurd (omega arith),
-    λ ss v. subst (λ x. Stands (text ∷ ss) (x ∷ v) ↔ Stands (blanks ∷ members 127 ∷ frames 0 0 ss) v) (sym c.in-123.is) (begun 1 ss v (omega arith)),
+    λ ss v. subst (λ x. Stands (text ∷ ss) (x ∷ v) ↔ Stands (blanks ∷ members 127 ∷ frames 0 0 ss) v)
+        (sym c.in-123.is) (begun 1 ss v (omega arith)),
   ),
 )
 
@@ -23,6 +24,7 @@ returns-in_default c =
       (
         (omega arith, omega arith),
         λ e. absurd (omega arith),
-        λ ss v. subst (λ x. Stands (text ∷ ss) (x ∷ v) ↔ Stands (blanks ∷ items 127 ∷ frames 0 0 ss) v) (sym is) (begun 0 ss v (omega arith)),
+        λ ss v. subst (λ x. Stands (text ∷ ss) (x ∷ v) ↔ Stands (blanks ∷ items 127 ∷ frames 0 0 ss) v) (sym is)
+            (begun 0 ss v (omega arith)),
       ),
     )
