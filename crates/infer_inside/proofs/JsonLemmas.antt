@@ -91,9 +91,6 @@ exponent_begins x ss v = begins 1 x v (exponent ∷ ss)
 pub digits_begin : (x : ℕ) (ss : List Symbol) (v : List ℕ) → Stands (digits ∷ ss) (x ∷ v) ↔ Begins 1 x v (digits ∷ ss)
 digits_begin x ss v = begins 1 x v (digits ∷ ss)
 
-pub blanks_begin : (x : ℕ) (ss : List Symbol) (v : List ℕ) → Stands (blanks ∷ ss) (x ∷ v) ↔ Begins 1 x v (blanks ∷ ss)
-blanks_begin x ss v = begins 1 x v (blanks ∷ ss)
-
 -- of values
 abbrev pub ValueBegins : ℕ → List ℕ → List Symbol → Type 0
 ValueBegins x v ss =

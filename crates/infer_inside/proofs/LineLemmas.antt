@@ -11,7 +11,7 @@ use Rattle.infer_inside.proofs.ReaderLemmas.{blank_read, blank_skip}
 use Rattle.infer_inside.proofs.CompleteLemmas.{AllHold, completes, next_holds}
 
 -- what stands the same behind s and t
-pub can_same : (ss us : List Symbol) (s t : List ℕ) → ((v : List ℕ) → Stands ss (s ++ v) ↔ Stands us (t ++ v))
+can_same : (ss us : List Symbol) (s t : List ℕ) → ((v : List ℕ) → Stands ss (s ++ v) ↔ Stands us (t ++ v))
     → CanBe ss s ↔ CanBe us t
 can_same ss us s t h = (λ (v, d). (v, (h v).0 d), λ (v, d). (v, (h v).1 d))
 
@@ -25,7 +25,7 @@ some_left [] r e f = absurd (grind arith)
 some_left (x ∷ s) r e f = omega arith
 
 -- by their first byte
-pub text_opens : (x : ℕ) (ss : List Symbol) (v : List ℕ) → ¬ IsBracket x → ¬ Stands (text ∷ ss) (x ∷ v)
+text_opens : (x : ℕ) (ss : List Symbol) (v : List ℕ) → ¬ IsBracket x → ¬ Stands (text ∷ ss) (x ∷ v)
 text_opens x ss v p d = let f = (begins 2 x v (text ∷ ss)).0 d in grind arith
 
 line_goes_on : (x : ℕ) (v : List ℕ) → IsBlank x → ¬ (x ≡ 0x0A) → Stands (same_line ∷ []) (x ∷ v)
@@ -53,19 +53,15 @@ next_text x v h =
     (λ d. let f = b.0 d in grind (arith, range_begins), λ d. b.1 (inr (inr (inr (inr (inr (inr (inl d))))))))
 
 -- past white space
-pub past_starts : (s t : List ℕ) → IsPast s t → StartsLine t
+past_starts : (s t : List ℕ) → IsPast s t → StartsLine t
 past_starts [] t e = subst StartsLine (sym e) tt
 past_starts (x ∷ s) t (inl (b, p)) = past_starts s t p
 past_starts (x ∷ s) t (inr (n, e)) = subst StartsLine (sym e) n
 
-pub past_length : (s t : List ℕ) → IsPast s t → length t ≤ length s
+past_length : (s t : List ℕ) → IsPast s t → length t ≤ length s
 past_length [] t e = subst (λ u. length u ≤ 0) (sym e) (omega arith)
 past_length (x ∷ s) t (inl (b, p)) = let h = past_length s t p in omega arith
 past_length (x ∷ s) t (inr (n, e)) = subst (λ u. length u ≤ length (x ∷ s)) (sym e) (omega arith)
-
-pub past_here : (s : List ℕ) → StartsLine s → IsPast s s
-past_here [] h = refl
-past_here (x ∷ s) h = inr (h, refl)
 
 -- no white space begins what the symbols stand for
 abbrev pub NoBlank : List Symbol → Type 0
@@ -74,7 +70,7 @@ NoBlank ss = (x : ℕ) (v : List ℕ) → IsBlank x → ¬ Stands ss (x ∷ v)
 pub text_no_blank : (ss : List Symbol) → NoBlank (text ∷ ss)
 text_no_blank ss x v h = text_opens x ss v (λ o. grind arith)
 
-pub none_no_blank : NoBlank []
+none_no_blank : NoBlank []
 none_no_blank x v h d = elim d [ ]
 
 pub past_read : (ss : List Symbol) (s t : List ℕ) → NoBlank ss → IsPast s t → (v : List ℕ)

@@ -1,5 +1,5 @@
 -- What is left behind a token, and behind each byte of a text.
-use Rattle.std.proofs.Common.{◌≡◌, ℕ, ◌+◌, ◌≤◌, ◌<◌, inl, ◌↔◌, true, false, List, [], ◌∷◌, ◌++◌, length, drop, get_or, refl, sym, subst, ap, ◌∙◌}
+use Rattle.std.proofs.Common.{◌≡◌, ℕ, ◌+◌, ◌≤◌, ◌<◌, inl, ◌↔◌, true, List, [], ◌∷◌, ◌++◌, length, drop, get_or, refl, sym, subst, ap, ◌∙◌}
 use Rattle.std.proofs.lemmas.List.{drop_all, drop_more}
 use Rattle.infer_inside.specs.Json.{Symbol, blanks, text, IsBlank, Stands}
 use Rattle.infer_inside.specs.JsonStates.{PlaceTells, EndTells, EndsNumber, Follows, IsPast, Leaves, Onward, Reads, due_left, frames, left, next_left}
@@ -8,7 +8,7 @@ use Rattle.infer_inside.specs.declared.json.Step.TheVariants.{Inside, Ended, End
 use Rattle.infer_inside.specs.declared.json.Place as place
 use Rattle.infer_inside.specs.declared.json.Place.TheVariants as Place
 use Rattle.infer_inside.specs.declared.json.Due.{Due}
-use Rattle.infer_inside.specs.declared.json.Due.TheVariants.{First, Colon, After}
+use Rattle.infer_inside.specs.declared.json.Due.TheVariants.{Colon, After}
 use Rattle.infer_inside.specs.declared.json.Next.{Next}
 use Rattle.infer_inside.specs.declared.json.Next.TheVariants.{Closed, Between, InKey, InValue}
 use Rattle.infer_inside.specs.declared.json.Reader.{Reader}
@@ -145,13 +145,6 @@ DueAt x rest due d k at = Leaves x rest (λ ss. blanks ∷ due_left due d k ss) 
 abbrev pub NextAt : ℕ → List ℕ → Next → ℕ → ℕ → ℕ → Type 0
 NextAt x rest n d k at = Leaves x rest (next_left n d k) (drop at rest)
 
-pub due_first : (x : ℕ) (rest : List ℕ) (r : Reader) → r.next ≡ Between First → 1 ≤ r.depth
-    → Reads (λ ss. text ∷ ss) x r true → DueAt x rest First r.depth r.kinds 0
-due_first x rest r e l reads ss v =
-    subst (λ q. Stands (text ∷ ss) (x ∷ rest ++ v) ↔ Stands q (rest ++ v))
-    (ap (λ m. next_left m r.depth r.kinds ss) e ∙ between_left First r.depth r.kinds ss l)
-    (reads.2 ss (rest ++ v))
-
 pub due_blanks : (x : ℕ) (rest : List ℕ) (due : Due) (d k at to : ℕ) → at < length rest → IsBlank (get_or rest at 0)
     → IsPast (drop (at + 1) rest) (drop to rest)
     → DueAt x rest due d k at → DueAt x rest due d k to
@@ -173,15 +166,6 @@ due_read x rest due d k at r l reads before ss v =
     (drop_more rest at 0 l) (before ss v) in
     let g = reads.2 ss (drop (at + 1) rest ++ v) in
     (λ s. g.0 (h.0 s), λ s. h.1 (g.1 s))
-
-pub due_refused : (x : ℕ) (rest : List ℕ) (due : Due) (d k at : ℕ) (r : Reader) → at < length rest
-    → Reads (λ ss. blanks ∷ due_left due d k ss) (get_or rest at 0) r false → DueAt x rest due d k at
-    → (ss : List Symbol) (v : List ℕ) → ¬ Stands (text ∷ ss) (x ∷ rest ++ v)
-due_refused x rest due d k at r l reads before ss v s =
-    let h =
-    subst (λ q. Stands (text ∷ ss) (x ∷ rest ++ v) ↔ Stands (blanks ∷ due_left due d k ss) (q ++ v))
-    (drop_more rest at 0 l) (before ss v) in
-    reads ss (drop (at + 1) rest ++ v) (h.0 s)
 
 pub next_done : (x : ℕ) (rest : List ℕ) (n : Next) (d k at : ℕ) → d ≡ 0 → n ≡ Closed → NextAt x rest n d k at
     → Leaves x rest (λ ss. ss) (drop at rest)

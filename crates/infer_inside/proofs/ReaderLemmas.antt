@@ -45,34 +45,29 @@ more_member zero n ss v e = absurd (omega arith)
 more_member (suc k) n ss v e =
     let b = begins 2 0x2C v (more_members n ∷ ss) in (λ d. let f = b.0 d in grind arith, λ d. b.1 (grind arith))
 
-pub item_read : (d k : ℕ) (ss : List Symbol) (v : List ℕ) → 1 ≤ d → k % 2 ≡ 0
+item_read : (d k : ℕ) (ss : List Symbol) (v : List ℕ) → 1 ≤ d → k % 2 ≡ 0
     → Stands (due_left After d k ss) (0x2C ∷ v) ↔ Stands (blanks ∷ due_left Value d k ss) v
 item_read d k ss v l e =
     subst (λ rest. Stands (due_left After d k ss) (0x2C ∷ v) ↔ Stands (blanks ∷ value (128 - d) ∷ rest) v)
     (sym (frames_open d k ss l))
     (more_item (k % 2) (128 - d) (frames (d - 1) (k / 2) ss) v e)
 
-pub member_read : (d k : ℕ) (ss : List Symbol) (v : List ℕ) → 1 ≤ d → k % 2 ≡ 1
+member_read : (d k : ℕ) (ss : List Symbol) (v : List ℕ) → 1 ≤ d → k % 2 ≡ 1
     → Stands (due_left After d k ss) (0x2C ∷ v) ↔ Stands (blanks ∷ due_left Key d k ss) v
 member_read d k ss v l e =
     subst (λ rest. Stands (due_left After d k ss) (0x2C ∷ v) ↔ Stands (blanks ∷ member (128 - d) ∷ rest) v)
     (sym (frames_open d k ss l))
     (more_member (k % 2) (128 - d) (frames (d - 1) (k / 2) ss) v e)
 
--- the bracket of this kind closes, and nothing else comes
-pub more_closes : (kind n x : ℕ) (ss : List Symbol) (v : List ℕ) → x ≡ closing kind
+-- the bracket of this kind closes
+more_closes : (kind n x : ℕ) (ss : List Symbol) (v : List ℕ) → x ≡ closing kind
     → Stands (more_in kind n ∷ ss) (x ∷ v) ↔ Stands ss v
 more_closes zero n x ss v e =
     let b = begins 2 x v (more_items n ∷ ss) in (λ d. let f = b.0 d in grind arith, λ d. b.1 (grind arith))
 more_closes (suc k) n x ss v e =
     let b = begins 2 x v (more_members n ∷ ss) in (λ d. let f = b.0 d in grind arith, λ d. b.1 (grind arith))
 
-pub more_stops : (kind n x : ℕ) (ss : List Symbol) (v : List ℕ) → ¬ (x ≡ closing kind) → ¬ (x ≡ 0x2C)
-    → ¬ Stands (more_in kind n ∷ ss) (x ∷ v)
-more_stops zero n x ss v p q d = let f = (begins 2 x v (more_items n ∷ ss)).0 d in grind arith
-more_stops (suc k) n x ss v p q d = let f = (begins 2 x v (more_members n ∷ ss)).0 d in grind arith
-
-pub first_closes : (kind n x : ℕ) (ss : List Symbol) (v : List ℕ) → x ≡ closing kind
+first_closes : (kind n x : ℕ) (ss : List Symbol) (v : List ℕ) → x ≡ closing kind
     → Stands (first_in kind n ∷ ss) (x ∷ v) ↔ Stands ss v
 first_closes zero n x ss v e =
     let b = begins 1 x v (items n ∷ ss) in
@@ -83,7 +78,7 @@ first_closes (suc k) n x ss v e =
     let b = begins 3 x v (members n ∷ ss) in (λ d. let f = b.0 d in grind arith, λ d. b.1 (grind arith))
 
 -- where it does not close, a value or a member comes
-pub first_item : (kind n x : ℕ) (ss : List Symbol) (v : List ℕ) → kind ≡ 0 → ¬ (x ≡ 0x5D)
+first_item : (kind n x : ℕ) (ss : List Symbol) (v : List ℕ) → kind ≡ 0 → ¬ (x ≡ 0x5D)
     → Stands (first_in kind n ∷ ss) (x ∷ v) ↔ Stands (value n ∷ blanks ∷ more_in kind n ∷ ss) (x ∷ v)
 first_item zero n x ss v e p =
     let b = begins 1 x v (items n ∷ ss) in
@@ -91,7 +86,7 @@ first_item zero n x ss v e p =
     (λ s. let f = b.0 s in grind arith, λ s. b.1 (inr (inr (inl s))))
 first_item (suc k) n x ss v e p = absurd (omega arith)
 
-pub first_member : (kind n x : ℕ) (ss : List Symbol) (v : List ℕ) → kind ≡ 1 → ¬ (x ≡ 0x7D)
+first_member : (kind n x : ℕ) (ss : List Symbol) (v : List ℕ) → kind ≡ 1 → ¬ (x ≡ 0x7D)
     → Stands (first_in kind n ∷ ss) (x ∷ v) ↔ Stands (member n ∷ blanks ∷ more_in kind n ∷ ss) (x ∷ v)
 first_member zero n x ss v e p = absurd (omega arith)
 first_member (suc k) n x ss v e p =
@@ -99,14 +94,14 @@ first_member (suc k) n x ss v e p =
     let c = range_begins 0x7D 0x7D x ss v in
     (λ s. let f = b.0 s in grind arith, λ s. b.1 (inr (inr (inl s))))
 
-pub first_is_value : (d k x : ℕ) (ss : List Symbol) (v : List ℕ) → 1 ≤ d → k % 2 ≡ 0 → ¬ (x ≡ 0x5D)
+first_is_value : (d k x : ℕ) (ss : List Symbol) (v : List ℕ) → 1 ≤ d → k % 2 ≡ 0 → ¬ (x ≡ 0x5D)
     → Stands (due_left First d k ss) (x ∷ v) ↔ Stands (due_left Value d k ss) (x ∷ v)
 first_is_value d k x ss v l e p =
     subst (λ rest. Stands (due_left First d k ss) (x ∷ v) ↔ Stands (value (128 - d) ∷ rest) (x ∷ v))
     (sym (frames_open d k ss l))
     (first_item (k % 2) (128 - d) x (frames (d - 1) (k / 2) ss) v e p)
 
-pub first_is_key : (d k x : ℕ) (ss : List Symbol) (v : List ℕ) → 1 ≤ d → k % 2 ≡ 1 → ¬ (x ≡ 0x7D)
+first_is_key : (d k x : ℕ) (ss : List Symbol) (v : List ℕ) → 1 ≤ d → k % 2 ≡ 1 → ¬ (x ≡ 0x7D)
     → Stands (due_left First d k ss) (x ∷ v) ↔ Stands (due_left Key d k ss) (x ∷ v)
 first_is_key d k x ss v l e p =
     subst (λ rest. Stands (due_left First d k ss) (x ∷ v) ↔ Stands (member (128 - d) ∷ rest) (x ∷ v))
@@ -172,14 +167,6 @@ pub after_ends : (d k : ℕ) (ss : List Symbol) → EndsNumber (blanks ∷ due_l
 after_ends d k ss x v h s =
     more_end (k % 2) (128 - d) x (frames (d - 1) (k / 2) ss) v h
     ((blank_skip x (due_left After d k ss) v (λ b. grind arith)).0 s)
-
-equal_stands : (before other : List Symbol) (xs : List ℕ) → before ≡ other → Stands before xs ↔ Stands other xs
-equal_stands before other xs e = (λ d. subst (λ ss. Stands ss xs) e d, λ d. subst (λ ss. Stands ss xs) (sym e) d)
-
-pub reads_equal : (before other : List Symbol → List Symbol) (x : ℕ) (r : Reader) (ok : Bool)
-    → ((ss : List Symbol) → before ss ≡ other ss) → Reads other x r ok → Reads before x r ok
-reads_equal before other x r ok e h =
-    reads_same before other x r ok (λ ss v. equal_stands (before ss) (other ss) (x ∷ v) (e ss)) h
 
 -- what is left, where brackets are open
 pub between_left : (due : Due) (d k : ℕ) (ss : List Symbol) → 1 ≤ d

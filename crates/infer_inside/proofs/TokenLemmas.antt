@@ -100,12 +100,12 @@ alone ss us x h =
     subst (λ q. (v : List ℕ) → Stands q (x ∷ v) ↔ Stands us v) (append-nil ss)
     (subst (λ q. (v : List ℕ) → Stands (ss ++ []) (x ∷ v) ↔ Stands q v) (append-nil us) h)
 
-pub whole_inside : (t u : Token) (x : ℕ) (s : List ℕ) → Follows (left t) x (Inside u) → BeginsWhole (left t) (x ∷ s)
+whole_inside : (t u : Token) (x : ℕ) (s : List ℕ) → Follows (left t) x (Inside u) → BeginsWhole (left t) (x ∷ s)
     ↔ BeginsWhole (left u) s
 whole_inside t u x s f =
     whole_step (left t) (left u) x s (token_completes u) (alone (left t) (left u) x (f [] no_others))
 
-pub whole_ended : (t : Token) (x : ℕ) (s : List ℕ) → Follows (left t) x Ended → BeginsWhole (left t) (x ∷ s)
+whole_ended : (t : Token) (x : ℕ) (s : List ℕ) → Follows (left t) x Ended → BeginsWhole (left t) (x ∷ s)
 whole_ended t x [] f =
     let h = alone (left t) [] x (f []) in (x ∷ [], [], refl, (h []).1 nothing, λ y v d. elim ((h (y ∷ v)).0 d) [ ])
 whole_ended t x (y ∷ s) f =
@@ -115,11 +115,11 @@ none_after : (t : Token) (x : ℕ) → Follows (left t) x EndedBefore → (v : L
 none_after t x f v d =
     let e : Stands [] (x ∷ v) = (f [] v).0 (subst (λ q. Stands q (x ∷ v)) (sym (append-nil (left t))) d) in elim e [ ]
 
-pub whole_before : (t : Token) (x : ℕ) (s : List ℕ) → Follows (left t) x EndedBefore → BeginsWhole (left t) (x ∷ s)
+whole_before : (t : Token) (x : ℕ) (s : List ℕ) → Follows (left t) x EndedBefore → BeginsWhole (left t) (x ∷ s)
 whole_before t x s f =
     ([], x ∷ s, refl, before_byte (left t) x ((f (byte x ∷ []) []).1 (by_itself x)), none_after t x f)
 
-pub whole_wrong : (t : Token) (x : ℕ) (s : List ℕ) → Follows (left t) x Wrong → ¬ BeginsWhole (left t) (x ∷ s)
+whole_wrong : (t : Token) (x : ℕ) (s : List ℕ) → Follows (left t) x Wrong → ¬ BeginsWhole (left t) (x ∷ s)
 whole_wrong t x s f =
     never_whole (left t) x s (λ v d. f [] v (subst (λ q. Stands q (x ∷ v)) (sym (append-nil (left t))) d))
     (f (byte x ∷ []) [])
