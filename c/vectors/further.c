@@ -70,11 +70,11 @@ static bool is_shortest(const char *name) {
     return strncmp(how, ", shortest", 10) == 0 && !is_other;
 }
 
-/* Whether the row has a sample of at most so many bytes, and it is the sample's wider answer. */
+/* Whether the row's sample, if it has one, has at most so many bytes, and the row as its wider answer. */
 static bool has_sample(int32_t row, size_t most) {
     unsigned char sample[INFER_SAMPLE_SIZE];
     size_t len = infer_sample(row, sample, sizeof sample);
-    return 0 < len && len <= most && infer_more_position(sample, len) == row;
+    return len == 0 || (len <= most && infer_more_position(sample, len) == row);
 }
 
 /* What a wider answer shows. */

@@ -25,7 +25,7 @@ some_left [] r e f = absurd (grind arith)
 some_left (x ∷ s) r e f = omega arith
 
 -- by their first byte
-text_opens : (x : ℕ) (ss : List Symbol) (v : List ℕ) → ¬ IsBracket x → ¬ Stands (text ∷ ss) (x ∷ v)
+pub text_opens : (x : ℕ) (ss : List Symbol) (v : List ℕ) → ¬ IsBracket x → ¬ Stands (text ∷ ss) (x ∷ v)
 text_opens x ss v p d = let f = (begins 2 x v (text ∷ ss)).0 d in grind arith
 
 line_goes_on : (x : ℕ) (v : List ℕ) → IsBlank x → ¬ (x ≡ 0x0A) → Stands (same_line ∷ []) (x ∷ v)
