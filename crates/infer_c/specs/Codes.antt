@@ -6,8 +6,7 @@ use Rattle.infer.specs.Triple.{Triple}
 use Rattle.infer.specs.Walks.{RowHas}
 use Rattle.infer.specs.declared.table.file_type.MatcherType.{MatcherType}
 use Rattle.infer.specs.declared.table.file_type.MatcherType.TheVariants.{App, Archive, Audio, Book, Doc, Font, Image, Text, Video, Custom}
-use Rattle.infer.specs.declared.table.rows.TheConstants.{DLL, EPUB_ARCHIVE}
-use Rattle.infer_more.specs.Samples.{HasAnswer, sample_at}
+use Rattle.infer_more.specs.Samples.{HasAnswer, HasNoSample, sample_at}
 use Rattle.infer_more.specs.Wider as wider
 use Rattle.infer_more.specs.Wider.{shown}
 
@@ -31,10 +30,10 @@ abbrev pub MayAcceptAt : List ℕ → ℤ → Type 0
 MayAcceptAt b (pos i) = RowHas (MayAccept b) i
 MayAcceptAt b (negsuc i) = ⊥
 
--- the sample of row i, built-in or further, and none if it is no answer of any buffer
+-- the sample of row i, built-in or further, and none if it has none
 abbrev pub IsSample : ℕ → Option (List ℕ) → Type 0
 IsSample i (Some sample) = (sample_at i ≡ Some sample) × HasAnswer i sample
-IsSample i None = (i ≡ DLL) ⊎ (i ≡ EPUB_ARCHIVE) ⊎ ((b : List ℕ) → ¬ wider.AcceptsAt b i)
+IsSample i None = HasNoSample i
 
 -- the sample of the row with this number, and none if it is no number of a row
 abbrev pub IsSampleOf : ℤ → Option (List ℕ) → Type 0

@@ -23,7 +23,7 @@ use Rattle.infer_more.specs.Row.{Further, is_inside}
 use Rattle.infer_more.specs.Table.{further}
 use Rattle.infer_more.specs.Wider.{AcceptsAt, IsWider, Widens, wider}
 use Rattle.infer_sig.specs.Signature as fixed
-use Rattle.infer_more.specs.Samples.{AllReach, Reaches, built_in_sample, further_sample, has_room, has_room_after, joined_sample, least_of, model, parent_sample, parts_of, signature_model, written}
+use Rattle.infer_more.specs.Samples.{AllReach, HasNoSample, Reaches, built_in_sample, further_sample, has_room, has_room_after, joined_sample, least_of, model, parent_sample, parts_of, signature_model, written}
 use Rattle.infer_more.specs.declared.samples.TheConstants.{SAMPLE_SIZE}
 use Rattle.infer_more.specs.declared.signature.Alternative as Listed
 use Rattle.infer_more.specs.declared.table.FurtherRow.{FurtherRow}
@@ -195,10 +195,7 @@ row_answered all i r e = subst (Reaches i) (get_or_from_slice_get further i r r 
 -- ---- which rows have none
 
 module _ (i : ℕ) where
-  abbrev HasNone : Type 0
-  HasNone = (i ≡ DLL) ⊎ (i ≡ EPUB_ARCHIVE) ⊎ ((ROW_COUNT ≤ i) × (option_and_then further_sample (slice_get further (i - ROW_COUNT)) ≡ None))
-
-  pub none_below : (result : Option ℕ) → i < ROW_COUNT → is_some result ≡ false ↔ ((i ≡ DLL) ⊎ (i ≡ EPUB_ARCHIVE) ⊎ (ROW_COUNT ≤ i)) → is_some result ≡ false ↔ HasNone
+  pub none_below : (result : Option ℕ) → i < ROW_COUNT → is_some result ≡ false ↔ ((i ≡ DLL) ⊎ (i ≡ EPUB_ARCHIVE) ⊎ (ROW_COUNT ≤ i)) → is_some result ≡ false ↔ HasNoSample i
   none_below result lt none = (
     λ e. elim (none.0 e) [ inl d ↦ inl d | inr (inl p) ↦ inr (inl p) | inr (inr le) ↦ absurd (omega arith) ],
     λ h. elim h [ inl d ↦ none.1 (inl d) | inr (inl p) ↦ none.1 (inr (inl p)) | inr (inr (le, e)) ↦ absurd (omega arith) ],
@@ -209,7 +206,7 @@ module _ (i : ℕ) where
   none_of (Some s) = (λ e. absurd (cc), λ e. absurd (cc))
 
   pub none_above : (result : Option ℕ) → ROW_COUNT ≤ i → result ≡ option_map length (option_and_then further_sample (slice_get further (i - ROW_COUNT)))
-      → is_some result ≡ false ↔ HasNone
+      → is_some result ≡ false ↔ HasNoSample i
   none_above result le counted = (
     λ e. inr (inr (le, (none_of _).0 (ap is_some (sym counted) ∙ e))),
     λ h. elim h [

@@ -1,5 +1,5 @@
 -- A sample of each row: a short buffer that has it as its answer.
-use Rattle.std.specs.Prelude.{◌+◌, ◌-◌, ◌/◌, ◌%◌, ◌<◌, ◌==◌, ◌&&◌, ◌||◌, ℕ, Bool, true, IfSome, List, [], ◌∷◌, ◌++◌, MatchBool, Option, None, Some, codes, if◌then◌else◌, length, max, nat_le, nat_lt, option_and_then, option_map, slice_get, unwrap_or}
+use Rattle.std.specs.Prelude.{◌≡◌, ◌+◌, ◌-◌, ◌/◌, ◌%◌, ◌<◌, ◌≤◌, ◌⊎◌, ◌==◌, ◌&&◌, ◌||◌, ℕ, Bool, true, IfSome, List, [], ◌∷◌, ◌++◌, MatchBool, Option, None, Some, codes, if◌then◌else◌, length, max, nat_le, nat_lt, option_and_then, option_map, slice_get, unwrap_or}
 use Rattle.std.specs.List.{HoldsAt, list_all}
 use Rattle.std.specs.Option.{option_map_or}
 use Rattle.infer_deep.specs.ClassId.{compound_header}
@@ -79,6 +79,10 @@ further_sample r = option_map (joined_sample (parent_sample r.parent)) (signatur
 -- the sample of row i, built-in or further
 abbrev pub sample_at : ℕ → Option (List ℕ)
 sample_at i = if nat_lt i ROW_COUNT then built_in_sample i else option_and_then further_sample (slice_get further (i - ROW_COUNT))
+
+-- row i has none: it is one of two that are first for no buffer, or no built-in row, and no further one with a sample
+abbrev pub HasNoSample : ℕ → Type 0
+HasNoSample i = (i ≡ DLL) ⊎ (i ≡ EPUB_ARCHIVE) ⊎ ((ROW_COUNT ≤ i) × (option_and_then further_sample (slice_get further (i - ROW_COUNT)) ≡ None))
 
 -- the sample with zeros after it, and what was there before if there is no sample
 abbrev pub written : Option (List ℕ) → List ℕ → List ℕ

@@ -7,7 +7,7 @@ ghost use Rattle.infer.specs.Samples.{put, with_part, with_parts, zeros};
 ghost use Rattle.infer.specs.Table as built_in;
 ghost use Rattle.infer_more.specs.Listed.{alternative_listed, part_listed, row_listed};
 ghost use Rattle.infer_more.specs.Row.{is_inside};
-ghost use Rattle.infer_more.specs.Samples.{HasAnswer, built_in_sample, further_sample, has_room, least_of, model, model_entry, parent_sample, parts_of, sample_at, written};
+ghost use Rattle.infer_more.specs.Samples.{HasAnswer, HasNoSample, built_in_sample, further_sample, has_room, least_of, model, model_entry, parent_sample, parts_of, sample_at, written};
 ghost use Rattle.infer_more.specs.Signature.{class_id};
 ghost use Rattle.infer_more.specs.Table.{further};
 ghost use Rattle.infer_more.specs.Wider.{AcceptsAt, IsWider};
@@ -218,7 +218,7 @@ fn further(i: usize, out: &mut [u8; SAMPLE_SIZE]) -> Option<usize>
 /// and [`EPUB_ARCHIVE`], and the rows that the program of a script, a root element or JSON tells, have none: for these, and
 /// where there is no row, the answer is `None`, and `out` stays as it was.
 pub fn sample(i: usize, out: &mut [u8; SAMPLE_SIZE]) -> Option<usize>
-    ensures none { IsNone result ↔ ((i ≡ DLL) ⊎ (i ≡ EPUB_ARCHIVE) ⊎ ((ROW_COUNT ≤ i) × (option_and_then further_sample (slice_get further (i - ROW_COUNT)) ≡ None))) }
+    ensures none { IsNone result ↔ HasNoSample i }
     ensures counted { result ≡ option_map length (sample_at i) }
     ensures written { out.new ≡ written (sample_at i) out.old }
     ensures fits { IfSome result (λ n. n ≤ SAMPLE_SIZE) }
