@@ -123,7 +123,7 @@ fn answers(rt: HostRuntime) {
         "AcceptsAt buf.now ROW_COUNT" is_accepted_by_object, b"\x7FELF\0\x01\0\0\0\0\0\0\0\0\0\0\x01\0", b"\x7FELF\0\x01\0\0\0\0\0\0\0\0\0\0\x02\0";
         "IsWider buf.now (Some ROW_COUNT)" is_object, b"\x7FELF\0\x01\0\0\0\0\0\0\0\0\0\0\x01\0\0\0\0\0\0\0\0\0\0\0\0\0\0\0\0\0\0\0\0\0\0\0\0\0\0\0\0\0\0\0\0\0\0\0\0", b"\x7FELF\0\x01\0\0\0\0\0\0\0\0\0\0\x01\0";
         "HasAnswer ROW_COUNT buf.now" is_object, b"\x7FELF\0\x01\0\0\0\0\0\0\0\0\0\0\x01\0\0\0\0\0\0\0\0\0\0\0\0\0\0\0\0\0\0\0\0\0\0\0\0\0\0\0\0\0\0\0\0\0\0\0\0", b"\x7FELF\0\x01\0\0\0\0\0\0\0\0\0\0\x01\0";
-        "IsWiderAnswer buf.now None" has_no_wider_answer, b"M", b"\n\r\r\n\0\0\0\0M<+\x1A";
+        "IsWiderAnswer buf.now None" has_no_wider_answer, b"\0", b"\n\r\r\n\0\0\0\0M<+\x1A";
         "IsText" is_text, b"a\tb\n", b"a\0";
         "IsEncodingOf buf.now None" has_no_encoding, b"caf\xE9 ", b"caf\xC3";
         "ShowsExtension" shows_extension, "appimage", "APPIMAGE";
@@ -145,7 +145,7 @@ fn added(rt: HostRuntime) -> Result<(), AllocError> {
     infer.add(rt.alloc(), "custom/foo", "foo", begins_10_11_12)?;
     let told = told_with! {
         &infer;
-        "IsAnswerWith" has_no_answer_with, b"M", b"\x10\x11\x12";
+        "IsAnswerWith" has_no_answer_with, b"\0", b"\x10\x11\x12";
     };
     for (name, has, lacks) in told {
         assert!(rt; has && !lacks, "{name}");
