@@ -31,10 +31,7 @@ use Rattle.infer_more.specs.Table.{further}
 use Rattle.infer_more.specs.Wider.{Widens}
 use Rattle.infer_more.proofs.IndexLemmas.{both_left, both_right, either, from_left, passes_part}
 use Rattle.infer_more.proofs.OutlineLemmas.{has_lines, has_outline, past}
-
-clash : (x : Bool) → IsTrue x → IsTrue (not x) → ⊥
-clash true h k = cc
-clash false h k = cc
+use Rattle.infer_more.proofs.RefusalLemmas.{clash}
 
 -- ---- growing buffers
 
