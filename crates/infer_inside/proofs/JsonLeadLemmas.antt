@@ -1,9 +1,9 @@
 -- With which byte JSON begins, and that it has a bracket.
-use Rattle.std.proofs.Common.{◌≡◌, ◌↔◌, ◌⊎◌, inl, inr, ℕ, zero, suc, ◌<◌, Bool, true, false, IsTrue, List, [], ◌∷◌, ◌++◌, refl, sym, subst, arith}
-use Rattle.std.specs.Prelude.{◌||◌, ◌==◌, not, slice_index}
+use Rattle.std.proofs.Common.{◌≡◌, ◌⊎◌, inl, inr, ℕ, zero, suc, ◌<◌, Bool, true, false, List, [], ◌∷◌, ◌++◌, refl, sym, subst, arith}
+use Rattle.std.specs.Prelude.{◌||◌, ◌==◌, slice_index}
 use Rattle.std.proofs.lemmas.Bool.Decides.{nat_tests}
 use Rattle.infer_deep.proofs.PlaceLemmas.{OccursAt-begins}
-use Rattle.infer_inside.specs.Json.{BehindBlanks, BeginsLines, BeginsText, CanBe, IsBlank, IsJson, IsJsonLines, OpensWithToken, UpToMark, blanks, same_line, text}
+use Rattle.infer_inside.specs.Json.{BehindBlanks, BeginsLines, BeginsText, IsBlank, IsJson, IsJsonLines, OpensWithToken, UpToMark, blanks, same_line, text}
 use Rattle.infer_inside.specs.JsonStates.{IsBracket, IsPast}
 use Rattle.infer_inside.specs.Laws.{BeginsJson, HasBracket, OpensBehindBlanks}
 use Rattle.infer_inside.specs.Markup.{utf8_mark}

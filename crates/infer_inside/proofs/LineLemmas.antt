@@ -1,8 +1,10 @@
 -- White space and the lines that texts stand on.
-use Rattle.std.proofs.Common.{◌≡◌, ℕ, ◌+◌, ◌-◌, ◌≤◌, ◌<◌, ◌⊎◌, inl, inr, ◌↔◌, Bool, false, IsTrue, nat_eq, rules, List, [], ◌∷◌, ◌++◌, length, take, drop, get_or, length-drop, refl, sym, subst, ap, ◌∙◌, arith}
+use Rattle.std.proofs.Common.{◌≡◌, ℕ, ◌+◌, ◌-◌, ◌≤◌, ◌<◌, ◌⊎◌, inl, inr, ◌↔◌, Bool, false, IsTrue, nat_eq, rules, List, [], ◌∷◌, ◌++◌, Option, None, Some, length, take, drop, get_or, length-drop, refl, sym, subst, ap, ◌∙◌, arith}
 use Rattle.std.proofs.lemmas.List.{drop_more, take_rest}
-use Rattle.infer_inside.specs.Json.{Symbol, blanks, text, same_line, next_line, BeginsLines, BeginsText, CanBe, UpToMark, IsBlank, Stands}
-use Rattle.infer_inside.specs.JsonStates.{IsBracket, IsNextLine, IsPast, IsPastMark, Leaves, LineTells, StartsLine, next_left}
+use Rattle.infer_inside.specs.Json.{Symbol, blanks, text, same_line, next_line, BeginsLines, BeginsText, CanBe, UpToMark, IsBlank, IsKind, Stands}
+use Rattle.infer_inside.specs.JsonStates.{IsBracket, IsNextLine, IsKindPastMark, IsPast, IsPastMark, Leaves, LineTells, StartsLine, next_left}
+use Rattle.infer_inside.specs.declared.json.Kind.{Kind}
+use Rattle.infer_inside.specs.declared.json.Kind.TheVariants.{Lines, Text}
 use Rattle.infer_inside.specs.declared.json.Line as line
 use Rattle.infer_inside.specs.declared.json.Line.TheVariants as Line
 use Rattle.infer_inside.specs.declared.json.Next.{Next}
@@ -164,10 +166,16 @@ next_found s i t l e h p =
     )
 
 pub none_next : (s : List ℕ) (i : ℕ) → i < length s → ¬ IsBlank (get_or s i 0) → SameLine s (drop i s)
-    → ¬ CanBe (same_line ∷ []) s
-none_next s i l n h d =
-    let f = subst (CanBe (same_line ∷ [])) (drop_more s i 0 l) (h.0.0 d) in
-    line_stops (get_or s i 0) (drop (i + 1) s ++ f.0) n f.1
+    → (¬ CanBe (same_line ∷ []) s) × (¬ CanBe (blanks ∷ []) s)
+none_next s i l n h =
+    let x = get_or s i 0 in (
+      λ d.
+          let f = subst (CanBe (same_line ∷ [])) (drop_more s i 0 l) (h.0.0 d) in
+          line_stops x (drop (i + 1) s ++ f.0) n f.1,
+      λ d.
+          let f = subst (CanBe (blanks ∷ [])) (drop_more s i 0 l) (h.1.0 d) in
+          elim ((blank_skip x [] (drop (i + 1) s ++ f.0) n).0 f.1) [ ],
+    )
 
 pub next_at_end : (s : List ℕ) → SameLine s [] → IsNextLine s []
 next_at_end s h = (
@@ -230,11 +238,16 @@ line_whole x n s rest t e left_so next =
     ) in
     subst (λ u. WholeLine u t) (sym e) is
 
+abbrev pub WrongLine : List ℕ → Type 0
+WrongLine s = (¬ CanBe (text ∷ same_line ∷ []) s) × (¬ CanBe (text ∷ blanks ∷ []) s)
+
 pub line_wrong : (x n : ℕ) (s rest : List ℕ) → s ≡ x ∷ rest → Leaves x rest (λ us. us) (drop n rest)
-    → ¬ CanBe (same_line ∷ []) (take (length rest - n) (drop n rest)) → ¬ CanBe (text ∷ same_line ∷ []) s
-line_wrong x n s rest e left_so none can =
-    let behind = (can_behind (same_line ∷ []) x n rest left_so).0 (subst (CanBe (text ∷ same_line ∷ [])) e can) in
-    none (subst (CanBe (same_line ∷ [])) (sym (take_rest rest n)) behind)
+    → (¬ CanBe (same_line ∷ []) (take (length rest - n) (drop n rest))) × (¬ CanBe (blanks ∷ []) (take (length rest - n) (drop n rest)))
+    → WrongLine s
+line_wrong x n s rest e left_so none =
+    let behind = λ (a : Symbol) (never : ¬ CanBe (a ∷ []) (take (length rest - n) (drop n rest))) (can : CanBe (text ∷ a ∷ []) s).
+    never (subst (CanBe (a ∷ [])) (sym (take_rest rest n)) ((can_behind (a ∷ []) x n rest left_so).0 (subst (CanBe (text ∷ a ∷ [])) e can))) in
+    (behind same_line none.0, behind blanks none.1)
 
 abbrev pub CutLine : List ℕ → Type 0
 CutLine s = CanBe (text ∷ same_line ∷ []) s × CanBe (text ∷ blanks ∷ []) s
@@ -276,7 +289,12 @@ pub lines_none : (b s : List ℕ) (r : line.Line) → IsPast b s → LineTells s
     → ¬ BeginsLines b
 lines_none b s (Line.Whole t) p h is d = elim is [ inl e ↦ absurd (cc) | inr e ↦ absurd (cc) ]
 lines_none b s Line.Cut p h is d = ((lines_past b s p).0 d).1 h.1
-lines_none b s Line.Wrong p h is d = h ((lines_past b s p).0 d).0
+lines_none b s Line.Wrong p h is d = h.0 ((lines_past b s p).0 d).0
+
+-- lines open with a bracket
+pub lines_open : (b s rest : List ℕ) (x : ℕ) → IsPast b s → s ≡ x ∷ rest → ¬ IsBracket x → ¬ BeginsLines b
+lines_open b s rest x p e never d =
+    let (v, stands) = subst (CanBe (text ∷ same_line ∷ [])) e ((lines_past b s p).0 d).0 in text_opens x (same_line ∷ []) (rest ++ v) never stands
 
 -- past a mark
 mark_stops : (ss : List Symbol) (v : List ℕ) → ¬ Stands (blanks ∷ text ∷ ss) (0xEF ∷ v)
@@ -302,8 +320,13 @@ past_mark P b w none (inr (e, lacks)) = (
   ],
 )
 
-pub text_past_mark : (b w : List ℕ) → IsPastMark b w → BeginsText w ↔ UpToMark BeginsText b
+text_past_mark : (b w : List ℕ) → IsPastMark b w → BeginsText w ↔ UpToMark BeginsText b
 text_past_mark b w h = past_mark BeginsText b w (λ u d. mark_stops (blanks ∷ []) (u ++ d.1.0) d.1.1) h
 
-pub lines_past_mark : (b w : List ℕ) → IsPastMark b w → BeginsLines w ↔ UpToMark BeginsLines b
+lines_past_mark : (b w : List ℕ) → IsPastMark b w → BeginsLines w ↔ UpToMark BeginsLines b
 lines_past_mark b w h = past_mark BeginsLines b w (λ u d. mark_stops (same_line ∷ []) (u ++ d.0.0) d.0.1) h
+
+pub kind_past : (b w : List ℕ) (k : Option Kind) → IsPastMark b w → IsKindPastMark w k → IsKind b k
+kind_past b w None p (t, l) = (λ d. t ((text_past_mark b w p).1 d), λ d. l ((lines_past_mark b w p).1 d))
+kind_past b w (Some Text) p (t, l) = ((text_past_mark b w p).0 t, λ d. l ((lines_past_mark b w p).1 d))
+kind_past b w (Some Lines) p (l, t) = ((lines_past_mark b w p).0 l, λ d. t ((text_past_mark b w p).1 d))

@@ -1,18 +1,18 @@
 -- What is left behind a token, and behind each byte of a text.
-use Rattle.std.proofs.Common.{◌≡◌, ℕ, ◌+◌, ◌≤◌, ◌<◌, inl, ◌↔◌, true, List, [], ◌∷◌, ◌++◌, length, drop, get_or, refl, sym, subst, ap, ◌∙◌}
+use Rattle.std.proofs.Common.{◌≡◌, ℕ, ◌+◌, ◌≤◌, ◌<◌, inl, ◌↔◌, true, List, [], ◌∷◌, ◌++◌, length, drop, get_or, refl, sym, subst, ap, ◌∙◌, arith}
 use Rattle.std.proofs.lemmas.List.{drop_all, drop_more}
 use Rattle.infer_inside.specs.Json.{Symbol, blanks, text, IsBlank, Stands}
-use Rattle.infer_inside.specs.JsonStates.{PlaceTells, EndTells, EndsNumber, Follows, IsPast, Leaves, Onward, Reads, due_left, frames, left, next_left}
+use Rattle.infer_inside.specs.JsonStates.{TellsAsMuch, PlaceTells, EndTells, EndsNumber, Follows, IsPast, Leaves, Onward, Reads, due_left, frames, left, next_left}
 use Rattle.infer_inside.specs.declared.json.Token.{Token}
 use Rattle.infer_inside.specs.declared.json.Step.TheVariants.{Inside, Ended, EndedBefore, Wrong}
 use Rattle.infer_inside.specs.declared.json.Place as place
 use Rattle.infer_inside.specs.declared.json.Place.TheVariants as Place
 use Rattle.infer_inside.specs.declared.json.Due.{Due}
-use Rattle.infer_inside.specs.declared.json.Due.TheVariants.{Colon, After}
+use Rattle.infer_inside.specs.declared.json.Due.TheVariants.{Colon, After, Value}
 use Rattle.infer_inside.specs.declared.json.Next.{Next}
 use Rattle.infer_inside.specs.declared.json.Next.TheVariants.{Closed, Between, InKey, InValue}
 use Rattle.infer_inside.specs.declared.json.Reader.{Reader}
-use Rattle.infer_inside.proofs.ReaderLemmas.{after_ends, between_left, colon_ends, due_not_blank, frames_none, frames_open}
+use Rattle.infer_inside.proofs.ReaderLemmas.{after_ends, between_left, blank_skip, colon_ends, colon_read, due_not_blank, frames_none, frames_open}
 use Rattle.infer_inside.proofs.LineLemmas.{past_read}
 
 -- one byte on
@@ -191,3 +191,21 @@ due_cut x rest due d k at l past before ss v =
     subst (λ q. Stands (text ∷ ss) (x ∷ rest ++ v) ↔ Stands (blanks ∷ due_left due d k ss) (q ++ v))
     (drop_all at rest past) (before ss v) in
     subst (λ q. Stands (text ∷ ss) (x ∷ rest ++ v) ↔ Stands q v) (sym (between_left due d k ss l)) h
+
+-- a colon that stands where it is due leaves a value
+pub colon_past : (b : List ℕ) (p : ℕ) → p < length b → get_or b p 0 ≡ 0x3A → TellsAsMuch b (Place.At p Colon) (Place.At (p + 1) Value)
+colon_past b p lt e n d k at (low, high, h) = (
+  omega arith,
+  omega arith,
+  λ ss v.
+      let x = get_or b p 0 in
+      let skip = blank_skip x (due_left Colon d k ss) (drop (p + 1) b ++ v) (λ blank. grind arith) in
+      let colon = colon_read x (blanks ∷ due_left Value d k ss) (drop (p + 1) b ++ v) e in
+      let reads : Stands (blanks ∷ due_left Colon d k ss) (drop p b ++ v) ↔ Stands (blanks ∷ due_left Value d k ss) (drop (p + 1) b ++ v) =
+      subst (λ u. Stands (blanks ∷ due_left Colon d k ss) (u ++ v) ↔ Stands (blanks ∷ due_left Value d k ss) (drop (p + 1) b ++ v)) (sym (drop_more b p 0 lt))
+      (λ s. colon.0 (skip.0 s), λ s. skip.1 (colon.1 s)) in
+      (λ s. reads.0 ((h ss v).0 s), λ s. (h ss v).1 (reads.1 s)),
+)
+
+pub colon_at : (b : List ℕ) (p : ℕ) → TellsAsMuch b (Place.At p Colon) (Place.At p Colon)
+colon_at b p n d k at h = h

@@ -1,14 +1,19 @@
 -- Where tokens end.
-use Rattle.std.proofs.Common.{◌≡◌, ℕ, ◌+◌, ◌≤◌, ◌<◌, ◌⊎◌, inl, inr, ◌↔◌, codes, List, [], ◌∷◌, ◌++◌, length, drop, get_or, append_assoc, append-nil, refl, sym, subst, ap, ◌∙◌, arith}
+use Rattle.std.proofs.Common.{◌≡◌, ℕ, ◌+◌, ◌≤◌, ◌<◌, ◌⊎◌, inl, inr, ◌↔◌, codes, Bool, true, false, IsTrue, List, [], ◌∷◌, ◌++◌, Option, None, Some, length, drop, get_or, append_assoc, append-nil, refl, sym, subst, ap, ◌∙◌, arith}
+use Rattle.std.specs.Bool.{OnTrue}
+use Rattle.std.specs.Prelude.{not}
 use Rattle.std.proofs.lemmas.List.{drop_more}
-use Rattle.infer_inside.specs.Json.{Symbol, range, blanks, value, chars, escape, hex, whole, fraction, exponent, power, digits, byte, digit, later, exact, rules, BeginsToken, BeginsWhole, BehindBlanks, text, BeginsText, CanBe, IsAmong, IsBlank, IsMark, NoneGoesOn, OpensWithToken, Stands, nothing, one, by_rule}
-use Rattle.infer_inside.specs.JsonStates.{EndsNumber, Follows, IsBracket, IsPast, left, NoToken, Starts}
+use Rattle.infer_inside.specs.Json.{Symbol, range, blanks, value, chars, escape, hex, whole, fraction, exponent, power, digits, byte, digit, later, exact, rules, BeginsToken, BeginsWhole, BehindBlanks, text, BeginsText, CanBe, IsAmong, IsBlank, IsKind, IsMark, NoneGoesOn, OpensWithToken, Stands, nothing, one, by_rule}
+use Rattle.infer_inside.specs.JsonStates.{EndsNumber, Follows, IsBracket, IsKindBefore, IsKindPastMark, IsPast, IsPastMark, left, NoToken, Starts}
+use Rattle.infer_inside.specs.declared.json.Kind.{Kind}
+use Rattle.infer_inside.specs.declared.json.Kind.TheVariants.{Lines, Text}
+use Rattle.infer_inside.specs.declared.json.Line.TheVariants as Line
 use Rattle.infer_inside.specs.declared.json.Token.{Token}
 use Rattle.infer_inside.specs.declared.json.Token.TheVariants.{Chars, Escape, Hex4, Hex3, Hex2, Hex1, Char1, Char2, Char3, CharE0, CharEd, CharF0, CharF4, T, Tr, Tru, F, Fa, Fal, Fals, N, Nu, Nul, Minus, Zero, Whole, Point, Fraction, Exponent, Sign, Power}
 use Rattle.infer_inside.specs.declared.json.Step.{Step}
 use Rattle.infer_inside.specs.declared.json.Step.TheVariants.{Inside, Ended, EndedBefore, Wrong}
 use Rattle.infer_inside.proofs.JsonLemmas.{value_begins}
-use Rattle.infer_inside.proofs.LineLemmas.{past_can, text_no_blank}
+use Rattle.infer_inside.proofs.LineLemmas.{CutLine, WholeLine, WrongLine, lines_none, lines_open, lines_single, lines_so, none_left, kind_past, past_can, text_no_blank}
 use Rattle.infer_inside.proofs.CompleteLemmas.{AllHold, Completes, completes, token_holds}
 
 -- one after the other, and apart
@@ -288,3 +293,53 @@ text_past b s rest x p e =
 pub no_text : (b s : List ℕ) → IsPast b s → length s < 1 → ¬ BeginsText b
 no_text b [] p l d = (opens_past b [] p).0 d.0
 no_text b (x ∷ s) p l d = absurd (omega arith)
+
+-- which kind of JSON it is, by its first line and what stands behind the bracket of its first text
+module _ (b s rest : List ℕ) (x : ℕ) (p : IsPast b s) (e : s ≡ x ∷ rest) where
+  single : BeginsText b → BehindBlanks BeginsToken rest × CanBe (text ∷ blanks ∷ []) s
+  single d = let (o, can) = (text_past b s rest x p e).0 d in (o.1, subst (CanBe (text ∷ blanks ∷ [])) (sym e) can)
+
+  is_single : IsBracket x → BehindBlanks BeginsToken rest → CanBe (text ∷ blanks ∷ []) s → BeginsText b
+  is_single o t can = (text_past b s rest x p e).1 ((o, t), subst (CanBe (text ∷ blanks ∷ [])) e can)
+
+  pub kind_whole : (t : List ℕ) (k : Option Kind) → IsBracket x → WholeLine s t → IsKindBefore rest t k → IsKindPastMark b k
+  kind_whole t None o line_whole (inl (none, never)) = (λ d. never (single d).0, lines_single b s t p line_whole none)
+  kind_whole t None o line_whole (inr (some, never)) = (λ d. some (line_whole.1.0 (single d).1), λ d. never ((lines_so b s t p line_whole some).0 d))
+  kind_whole t (Some Text) o line_whole (none, token) = (is_single o token (line_whole.1.1 none), lines_single b s t p line_whole none)
+  kind_whole t (Some Lines) o line_whole (some, can) = ((lines_so b s t p line_whole some).1 can, λ d. some (line_whole.1.0 (single d).1))
+
+  pub kind_cut : (k : Option Kind) → IsBracket x → CutLine s → IsKindBefore rest [] k → IsKindPastMark b k
+  kind_cut None o cut (inl (none, never)) = (λ d. never (single d).0, lines_none b s Line.Cut p cut (inl refl))
+  kind_cut None o cut (inr (some, never)) = absurd (some refl)
+  kind_cut (Some Text) o cut (none, token) = (is_single o token cut.1, lines_none b s Line.Cut p cut (inl refl))
+  kind_cut (Some Lines) o cut (some, can) = absurd (some refl)
+
+  pub kind_wrong : WrongLine s → IsKindPastMark b None
+  kind_wrong wrong = (λ d. wrong.1 (single d).1, lines_none b s Line.Wrong p wrong (inr refl))
+
+  pub kind_unopened : ¬ IsBracket x → IsKindPastMark b None
+  kind_unopened never = (λ d. never ((text_past b s rest x p e).0 d).0.0, lines_open b s rest x p e never)
+
+pub kind_empty : (b s : List ℕ) → IsPast b s → length s < 1 → IsKindPastMark b None
+kind_empty b s p l = (no_text b s p l, lines_none b s Line.Cut p (none_left s l) (inl refl))
+
+kind_shut : (w : List ℕ) (x : ℕ) → 1 ≤ length w → get_or w 0 0 ≡ x → ¬ IsBlank x → ¬ IsBracket x → IsKindPastMark w None
+kind_shut [] x l e never none = absurd (omega arith)
+kind_shut (y ∷ w) x l e never none =
+    let nb = subst (λ z. ¬ IsBlank z) (sym e) never in
+    kind_unopened (y ∷ w) (y ∷ w) w y (inr (nb, refl)) refl (subst (λ z. ¬ IsBracket z) (sym e) none)
+
+pub kind_nothing : (w : List ℕ) → length w ≡ 0 → IsKind w None
+kind_nothing [] e = kind_past [] [] None (inr (refl, λ u same. absurd (cc))) (kind_empty [] [] refl (omega arith))
+kind_nothing (x ∷ w) e = absurd (omega arith)
+
+-- what begins with no mark is its own rest
+unmarked : (w : List ℕ) → ¬ (get_or w 0 0 ≡ 0xEF) → IsPastMark w w
+unmarked w never = inr (refl, λ u e. never (subst (λ l. get_or l 0 0 ≡ 0xEF) (sym e) refl))
+
+pub on_shut : (w : List ℕ) (r : Bool) → 1 ≤ length w → (IsBlank (get_or w 0 0) ⊎ IsBracket (get_or w 0 0) ⊎ (get_or w 0 0 ≡ 0xEF) → IsTrue r)
+    → OnTrue (not r) (IsKind w None)
+on_shut w true l opens = tt
+on_shut w false l opens =
+    kind_past w w None (unmarked w (λ mark. let e = opens (inr (inr mark)) in absurd (cc)))
+    (kind_shut w (get_or w 0 0) l refl (λ blank. let e = opens (inl blank) in absurd (cc)) (λ bracket. let e = opens (inr (inl bracket)) in absurd (cc)))

@@ -1,9 +1,9 @@
 -- The first entry with a property, by the first byte of its header.
-use Rattle.std.proofs.Common.{◌≡◌, ◌↔◌, ℕ, ◌+◌, ◌-◌, ◌<◌, ◌≤◌, List, length, get_or, take, drop, add-zero, ap, subst, ◌∙◌, arith, eq-eqb, length-drop}
+use Rattle.std.proofs.Common.{◌≡◌, ◌↔◌, ℕ, ◌+◌, ◌-◌, ◌<◌, ◌≤◌, inl, inr, List, length, get_or, take, drop, add-zero, ap, subst, ◌∙◌, arith, eq-eqb, length-drop}
 use Rattle.std.proofs.lemmas.List.{take_rest}
 use Rattle.memchr.specs.Find.{OccursAt, Nowhere, Passes, is_byte}
 use Rattle.infer_deep.specs.Office.{zip_header}
-use Rattle.infer_inside.specs.Zip.{IsFirstFolder}
+use Rattle.infer_inside.specs.Zip.{IsFirstFolder, IsFolderEntry, IsOneOf, IsPackageWith, IsPartEntry, MayBeginAny, MayBeginPackage, applications}
 use Rattle.infer_inside.proofs.PartLemmas.{part_reads}
 
 -- a place with the property is one of a header, so it is none that the search for its first byte passed over
@@ -47,3 +47,50 @@ folder_decides b text q first = (
       let same : p ≡ q = grind (arith, other.0, first.0) in
       subst (λ x. OccursAt b text (x + 30)) same o,
 )
+
+-- a package with the folder of an application may begin as any, and one that does so has its first folder there or later
+module _ (b folder : List ℕ) (application : IsOneOf folder applications) where
+  folder_entry : (p : ℕ) → OccursAt b zip_header p → OccursAt b folder (p + 30) → IsFolderEntry b p
+  folder_entry p h o = (
+    h,
+    elim application [
+      | inl e ↦ inl (subst (λ f. OccursAt b f (p + 30)) e o)
+      | inr other ↦ inr (elim other [
+        | inl e ↦ inl (subst (λ f. OccursAt b f (p + 30)) e o)
+        | inr other ↦ inr (elim other [
+          | inl e ↦ inl (subst (λ f. OccursAt b f (p + 30)) e o)
+          | inr other ↦ inr (elim other [
+            | inl e ↦ inl (subst (λ f. OccursAt b f (p + 30)) e o)
+            | inr other ↦ inr (elim other [
+              | inl e ↦ subst (λ f. OccursAt b f (p + 30)) e o
+              | inr none ↦ absurd (none)
+            ])
+          ])
+        ])
+      ])
+    ],
+  )
+
+  begins_any : MayBeginPackage folder b → MayBeginAny b
+  begins_any (h, inl o) = (h, inl o)
+  begins_any (h, inr (inl o)) = (h, inr (inl o))
+  begins_any (h, inr (inr (inl o))) = (h, inr (inr (inl o)))
+  begins_any (h, inr (inr (inr o))) = (h, inr (inr (inr (folder_entry 0 h o))))
+
+  begins_with : (q : ℕ) → IsFirstFolder b q → OccursAt b folder (q + 30) → MayBeginAny b → MayBeginPackage folder b
+  begins_with q first o (h, inl t) = (h, inl t)
+  begins_with q first o (h, inr (inl t)) = (h, inr (inl t))
+  begins_with q first o (h, inr (inr (inl t))) = (h, inr (inr (inl t)))
+  begins_with q first o (h, inr (inr (inr entry))) =
+      let not_before = first.1 0 in
+      let same : q ≡ 0 = grind (arith, entry) in
+      (h, inr (inr (inr (subst (λ p. OccursAt b folder (p + 30)) same o))))
+
+  pub none_begins : ¬ MayBeginAny b → ¬ IsPackageWith folder b
+  none_begins none (may, part, first) = none (begins_any may)
+
+  pub folder_tells : (q : ℕ) → MayBeginAny b → ((p : ℕ) × IsPartEntry b p) → IsFirstFolder b q
+      → OccursAt b folder (q + 30) ↔ IsPackageWith folder b
+  folder_tells q may part first =
+      let decides = folder_decides b folder q first in
+      (λ o. (begins_with q first o may, part, decides.0 o), λ (begins, any, there). decides.1 there)

@@ -1,5 +1,7 @@
 -- JSON, by the grammar of RFC 8259 (white space is written before each token), and of RFC 3629 for its characters.
-use Rattle.std.specs.Prelude.{◌≡◌, ℕ, zero, suc, ◌≤◌, ◌⊎◌, List, [], ◌∷◌, ◌++◌, map, codes}
+use Rattle.std.specs.Prelude.{◌≡◌, ℕ, zero, suc, ◌≤◌, ◌⊎◌, List, [], ◌∷◌, ◌++◌, Option, None, Some, map, codes}
+use Rattle.infer_inside.specs.declared.json.Kind.{Kind}
+use Rattle.infer_inside.specs.declared.json.Kind.TheVariants.{Lines, Text}
 
 -- white space
 abbrev pub IsBlank : ℕ → Type 0
@@ -154,3 +156,9 @@ IsJson = UpToMark BeginsText
 -- texts, each on a line of its own
 abbrev pub IsJsonLines : List ℕ → Type 0
 IsJsonLines = UpToMark BeginsLines
+
+-- k is which of the two b is, and none if neither; it is never both
+abbrev pub IsKind : List ℕ → Option Kind → Type 0
+IsKind b None = (¬ IsJson b) × (¬ IsJsonLines b)
+IsKind b (Some Text) = IsJson b × (¬ IsJsonLines b)
+IsKind b (Some Lines) = IsJsonLines b × (¬ IsJson b)

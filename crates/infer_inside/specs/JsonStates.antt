@@ -1,6 +1,8 @@
 -- What is left of a text where its reader stands. Only private contracts cite it.
-use Rattle.std.specs.Prelude.{◌≡◌, ◌↔◌, ℕ, zero, suc, ◌-◌, ◌/◌, ◌%◌, ◌<◌, ◌≤◌, ◌^◌, ◌⊎◌, Bool, true, false, List, [], length, drop, ◌∷◌, ◌++◌, codes}
-use Rattle.infer_inside.specs.Json.{Symbol, range, blanks, value, items, more_items, members, member, more_members, chars, escape, hex, whole, fraction, exponent, power, digits, text, same_line, next_line, byte, exact, digit, later, CanBe, IsBlank, Stands}
+use Rattle.std.specs.Prelude.{◌≡◌, ◌↔◌, ℕ, zero, suc, ◌-◌, ◌/◌, ◌%◌, ◌<◌, ◌≤◌, ◌^◌, ◌⊎◌, Bool, true, false, List, [], Option, None, Some, length, drop, ◌∷◌, ◌++◌, codes}
+use Rattle.infer_inside.specs.Json.{Symbol, range, blanks, value, items, more_items, members, member, more_members, chars, escape, hex, whole, fraction, exponent, power, digits, text, same_line, next_line, byte, exact, digit, later, BeginsLines, BeginsText, BeginsToken, BehindBlanks, CanBe, IsBlank, Stands}
+use Rattle.infer_inside.specs.declared.json.Kind.{Kind}
+use Rattle.infer_inside.specs.declared.json.Kind.TheVariants.{Lines, Text}
 use Rattle.infer_inside.specs.declared.json.Token.{Token}
 use Rattle.infer_inside.specs.declared.json.Token.TheVariants.{Chars, Escape, Hex4, Hex3, Hex2, Hex1, Char1, Char2, Char3, CharE0, CharEd, CharF0, CharF4, T, Tr, Tru, F, Fa, Fal, Fals, N, Nu, Nul, Minus, Zero, Whole, Point, Fraction, Exponent, Sign, Power}
 use Rattle.infer_inside.specs.declared.json.Step.{Step}
@@ -172,6 +174,10 @@ PlaceTells n d k b at Place.Cut =
     ↔ Stands (next_left m d k ss) v)
 PlaceTells n d k b at Place.Wrong = (ss : List Symbol) (v : List ℕ) → ¬ Stands (next_left n d k ss) (drop at b ++ v)
 
+-- the place q tells what is due wherever p does
+abbrev pub TellsAsMuch : List ℕ → place.Place → place.Place → Type 0
+TellsAsMuch b p q = (n : Next) (d k at : ℕ) → PlaceTells n d k b at p → PlaceTells n d k b at q
+
 -- x and the bytes behind it leave just `left_of ss` of a text and then ss, before t
 abbrev pub Leaves : ℕ → List ℕ → (List Symbol → List Symbol) → List ℕ → Type 0
 Leaves x rest left_of t =
@@ -209,4 +215,16 @@ LineTells s (Line.Whole t) =
     (CanBe (text ∷ same_line ∷ []) s ↔ CanBe (next_line ∷ []) t.now) × (CanBe (text ∷ blanks ∷ []) s ↔ (t.now ≡ []))
     × StartsLine t.now × (length t.now < length s)
 LineTells s Line.Cut = CanBe (text ∷ same_line ∷ []) s × CanBe (text ∷ blanks ∷ []) s
-LineTells s Line.Wrong = ¬ CanBe (text ∷ same_line ∷ []) s
+LineTells s Line.Wrong = (¬ CanBe (text ∷ same_line ∷ []) s) × (¬ CanBe (text ∷ blanks ∷ []) s)
+
+-- k is which kind of JSON w is, which has no byte order mark
+abbrev pub IsKindPastMark : List ℕ → Option Kind → Type 0
+IsKindPastMark w None = (¬ BeginsText w) × (¬ BeginsLines w)
+IsKindPastMark w (Some Text) = BeginsText w × (¬ BeginsLines w)
+IsKindPastMark w (Some Lines) = BeginsLines w × (¬ BeginsText w)
+
+-- k is which kind a whole text begins, with `rest` behind its bracket and t on the next lines
+abbrev pub IsKindBefore : List ℕ → List ℕ → Option Kind → Type 0
+IsKindBefore rest t None = ((t ≡ []) × (¬ BehindBlanks BeginsToken rest)) ⊎ ((¬ (t ≡ [])) × (¬ CanBe (next_line ∷ []) t))
+IsKindBefore rest t (Some Text) = (t ≡ []) × BehindBlanks BeginsToken rest
+IsKindBefore rest t (Some Lines) = (¬ (t ≡ [])) × CanBe (next_line ∷ []) t

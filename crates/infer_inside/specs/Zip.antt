@@ -1,5 +1,5 @@
 -- ZIP archives, by the names of their entries. A local header has 30 bytes, and then the entry's name.
-use Rattle.std.specs.Prelude.{◌≡◌, ℕ, ◌+◌, ◌-◌, ◌<◌, ◌≤◌, ◌⊎◌, ◌↔◌, List, Option, Bool, IsTrue, MatchOption, length, codes}
+use Rattle.std.specs.Prelude.{◌≡◌, ℕ, ◌+◌, ◌-◌, ◌<◌, ◌≤◌, ◌⊎◌, ◌↔◌, List, [], ◌∷◌, Option, Bool, IsTrue, MatchOption, length, codes}
 use Rattle.memchr.specs.Find.{OccursAt}
 use Rattle.infer_deep.specs.Numbers.{le16}
 use Rattle.infer_deep.specs.Office.{zip_header}
@@ -57,3 +57,25 @@ FindsPart b r = IsTrue r ↔ ((p : ℕ) × IsPartEntry b p)
 -- r is the least place of a folder, and none only if there is none
 abbrev pub FindsFolder : List ℕ → Option ℕ → Type 0
 FindsFolder b r = MatchOption r ((q : ℕ) → ¬ IsFolderEntry b q) (λ q. IsFirstFolder b q)
+
+-- the text is one of these
+abbrev pub IsOneOf : List ℕ → List (List ℕ) → Type 0
+IsOneOf t [] = ⊥
+IsOneOf t (s ∷ others) = (t ≡ s) ⊎ IsOneOf t others
+
+-- the folders of applications
+abbrev pub applications : List (List ℕ)
+applications = codes "word/" ∷ codes "xl/" ∷ codes "ppt/" ∷ codes "visio/" ∷ codes "3D/" ∷ []
+
+-- b begins with an entry that a package may have first, whichever its application is
+abbrev pub MayBeginAny : List ℕ → Type 0
+MayBeginAny b =
+    OccursAt b zip_header 0
+    × (OccursAt b (codes "[Content_Types].xml") 30 ⊎ OccursAt b (codes "_rels/") 30 ⊎ OccursAt b (codes "docProps/") 30
+    ⊎ IsFolderEntry b 0)
+
+-- the folder of an application stands at r exactly if b is a package with that folder, and r is none if b is none with any
+abbrev pub FindsPackage : List ℕ → Option ℕ → Type 0
+FindsPackage b r =
+    (folder : List ℕ) → IsOneOf folder applications
+    → MatchOption r (¬ IsPackageWith folder b) (λ place. OccursAt b folder place ↔ IsPackageWith folder b)

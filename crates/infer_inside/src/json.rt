@@ -1,10 +1,21 @@
 //! JSON texts, of which a buffer may have the beginning only.
-ghost use Rattle.std.specs.Prelude.{◌≡◌, ◌↔◌, ◌≤◌, ◌%◌, ◌∷◌, [], ◌++◌, ℕ, drop, length, IsTrue, MatchOption};
-ghost use Rattle.infer_inside.specs.Json.{BeginsLines, BeginsText, BeginsToken, BeginsWhole, BehindBlanks, blanks, CanBe, hex, IsBlank, IsJson, IsJsonLines, IsMark, next_line, range, same_line, text};
-ghost use Rattle.infer_inside.specs.JsonStates.{Begun, closing, due_left, EndTells, Follows, IsBracket, IsClosedTo, IsNextLine, IsOpen, IsPast, IsPastMark, left, LineTells, NoToken, opening, PlaceTells, Reads, StartsLine, Starts, Tells};
+ghost use Rattle.std.specs.Prelude.{◌≡◌, ◌⊎◌, ◌↔◌, ◌≤◌, ◌%◌, ◌∷◌, [], ◌++◌, ℕ, None, drop, length, IsTrue, MatchOption, not};
+ghost use Rattle.std.specs.Bool.{OnTrue};
+ghost use Rattle.infer_inside.specs.Json.{BeginsToken, BeginsWhole, BehindBlanks, blanks, CanBe, hex, IsBlank, IsJson, IsJsonLines, IsKind, IsMark, next_line, range, same_line};
+ghost use Rattle.infer_inside.specs.JsonStates.{Begun, closing, due_left, EndTells, Follows, IsBracket, IsClosedTo, IsKindBefore, IsKindPastMark, IsNextLine, IsOpen, IsPast, IsPastMark, left, LineTells, NoToken, opening, PlaceTells, Reads, TellsAsMuch, StartsLine, Starts, Tells};
 ghost use Rattle.infer_inside.specs.declared.json.Token.TheVariants.{Chars, Escape, Minus, Zero, Whole, Fraction, Exponent, Power};
 ghost use Rattle.infer_inside.specs.declared.json.Due.TheVariants.{After, Colon, First, Key, Value};
 ghost use Rattle.infer_inside.specs.declared.json.Next.TheVariants.{Closed};
+ghost use Rattle.infer_inside.specs.declared.json.Place.TheVariants.{At};
+
+/// What JSON a buffer is.
+#[derive(Clone, Copy, Debug, PartialEq, Eq)]
+pub enum Kind {
+    /// One text.
+    Text,
+    /// JSON lines.
+    Lines,
+}
 
 /// JSON, or its beginning: an array or an object, with only white space around it.
 ///
@@ -15,7 +26,10 @@ ghost use Rattle.infer_inside.specs.declared.json.Next.TheVariants.{Closed};
 pub fn is_json(buf: &[u8]) -> bool
     ensures { IsTrue result ↔ IsJson buf.now }
 {
-    begins_text(past_mark(buf))
+    match kind_of(buf) {
+        Some(Kind::Text) => true,
+        Some(Kind::Lines) | None => false,
+    }
 }
 
 /// JSON lines, or their beginning: arrays and objects as in [`is_json`], of which the second has begun, with white space
@@ -23,10 +37,47 @@ pub fn is_json(buf: &[u8]) -> bool
 pub fn is_json_lines(buf: &[u8]) -> bool
     ensures { IsTrue result ↔ IsJsonLines buf.now }
 {
-    begins_lines(past_mark(buf))
+    match kind_of(buf) {
+        Some(Kind::Lines) => true,
+        Some(Kind::Text) | None => false,
+    }
+}
+
+/// Which of the two a buffer is, and `None` if neither: it is never both. It is read once.
+#[inline(always)]
+pub fn kind_of(buf: &[u8]) -> Option<Kind>
+    ensures { IsKind buf.now result }
+{
+    if may_open(buf) { kind_begun(buf) } else { None }
+}
+
+/// Whether white space, a bracket or the first byte of a mark stands first. Most of what is no JSON costs no call.
+#[inline(always)]
+fn may_open(buf: &[u8]) -> bool
+    ensures { OnTrue (not result) (IsKind buf.now None) }
+{
+    if buf.is_empty() {
+        return false;
+    }
+    opens(buf[0])
+}
+
+fn opens(byte: u8) -> bool
+    ensures { IsTrue result ↔ (IsBlank byte ⊎ IsBracket byte ⊎ (byte ≡ 0xEF)) }
+{
+    matches!(byte, b'\t' | b'\n' | b'\r' | b' ' | b'[' | b'{' | 0xEF)
+}
+
+/// [`kind_of`] what may be JSON.
+#[inline(never)]
+fn kind_begun(buf: &[u8]) -> Option<Kind>
+    ensures { IsKind buf.now result }
+{
+    kind_past_mark(past_mark(buf))
 }
 
 /// What stands behind the byte order mark, if there is one.
+#[inline(always)]
 fn past_mark(buf: &[u8]) -> &[u8]
     ensures { IsPastMark buf.now result.now }
 {
@@ -36,38 +87,47 @@ fn past_mark(buf: &[u8]) -> &[u8]
     }
 }
 
-/// [`is_json`] of what stands behind a mark.
-fn begins_text(buf: &[u8]) -> bool
-    ensures { IsTrue result ↔ BeginsText buf.now }
+/// [`kind_of`] of what stands behind a mark.
+fn kind_past_mark(buf: &[u8]) -> Option<Kind>
+    ensures { IsKindPastMark buf.now result }
 {
-    let [first, rest @ ..] = past_blanks(buf) else {
-        return false;
+    let text = past_blanks(buf);
+    let [first, rest @ ..] = text else {
+        return None;
     };
     if !is_bracket(*first) {
-        return false;
+        return None;
     }
-    has_token(rest) && begins_one(*first, rest)
-}
-
-/// [`is_json_lines`] of what stands behind a mark.
-fn begins_lines(buf: &[u8]) -> bool
-    ensures { IsTrue result ↔ BeginsLines buf.now }
-{
-    match read_line(past_blanks(buf)) {
-        Line::Whole(next) => !next.is_empty() && begins_line(next),
-        Line::Cut | Line::Wrong => false,
+    match read_line(text) {
+        Line::Whole(next) => kind_before(rest, next),
+        Line::Cut => kind_behind(rest),
+        Line::Wrong => None,
     }
 }
 
-/// Whether a text begins with this bracket and these bytes, with only white space behind it.
-fn begins_one(first: u8, rest: &[u8]) -> bool
-    requires { IsBracket first }
-    ensures { IsTrue result ↔ CanBe (text ∷ blanks ∷ []) (first ∷ rest.now) }
+/// What JSON a buffer is whose first text is whole, by what stands behind its bracket and on the next lines.
+fn kind_before(rest: &[u8], next: &[u8]) -> Option<Kind>
+    requires { StartsLine next.now }
+    ensures { IsKindBefore rest.now next.now result }
 {
-    match read_text(first, rest) {
-        Reading::Whole(n) => past_blanks(&rest[n..]).is_empty(),
-        Reading::Cut => true,
-        Reading::Wrong => false,
+    if next.is_empty() {
+        return kind_behind(rest);
+    }
+    if begins_line(next) {
+        Some(Kind::Lines)
+    } else {
+        None
+    }
+}
+
+/// One text, if a token is whole behind its bracket.
+fn kind_behind(rest: &[u8]) -> Option<Kind>
+    ensures { IsKindBefore rest.now [] result }
+{
+    if has_token(rest) {
+        Some(Kind::Text)
+    } else {
+        None
     }
 }
 
@@ -117,7 +177,7 @@ fn read_line(buf: &[u8]) -> Line<'_>
 
 /// What stands behind white space that ends the line, or nothing if the buffer ends in white space.
 fn next_line(buf: &[u8]) -> Option<&[u8]>
-    ensures { MatchOption result (¬ CanBe (same_line ∷ []) buf.now) (λ next. IsNextLine buf.now next.now) }
+    ensures { MatchOption result ((¬ CanBe (same_line ∷ []) buf.now) × (¬ CanBe (blanks ∷ []) buf.now)) (λ next. IsNextLine buf.now next.now) }
 {
     for at in 0..buf.len() {
         match buf[at] {
@@ -653,8 +713,8 @@ fn value_token(byte: u8) -> Option<Token>
 fn is_blank(byte: u8) -> bool
     ensures { IsTrue result ↔ IsBlank byte }
 {
-    // Most bytes are told by the first test.
-    byte <= b' ' && matches!(byte, b' ' | b'\t' | b'\n' | b'\r')
+    // Most bytes are told by the first test or the second.
+    byte == b' ' || byte < b' ' && matches!(byte, b'\t' | b'\n' | b'\r')
 }
 
 /// What a buffer has of a text.
@@ -722,7 +782,7 @@ fn number_end(buf: &[u8], at: usize, due: Due) -> Place
 }
 
 /// [`token_end`] of any token.
-#[inline(never)]
+#[inline(always)]
 fn end_of(token: Token, buf: &[u8], at: usize, due: Due) -> Place
     requires { at ≤ length buf.now }
     ensures { EndTells token buf.now at due result }
@@ -739,6 +799,19 @@ fn end_of(token: Token, buf: &[u8], at: usize, due: Due) -> Place
     Place::Cut
 }
 
+/// Reads the colon that is due behind a key, if it stands right there, as it mostly does.
+#[inline(always)]
+fn past_colon(buf: &[u8], at: usize) -> Place
+    requires { at ≤ length buf.now }
+    ensures { TellsAsMuch buf.now (At at Colon) result }
+{
+    if at < buf.len() && buf[at] == b':' {
+        Place::At(at + 1, Due::Value)
+    } else {
+        Place::At(at, Due::Colon)
+    }
+}
+
 /// Reads to the end of a token, if one has begun before that place.
 #[inline(always)]
 fn read_on(next: Next, buf: &[u8], at: usize) -> Place
@@ -748,7 +821,11 @@ fn read_on(next: Next, buf: &[u8], at: usize) -> Place
     match next {
         Next::Closed => Place::At(at, Due::After),
         Next::Between(due) => Place::At(at, due),
-        Next::InKey(token) => token_end(token, buf, at, Due::Colon),
+        Next::InKey(token) => match token_end(token, buf, at, Due::Colon) {
+            Place::At(end, _) => past_colon(buf, end),
+            Place::Cut => Place::Cut,
+            Place::Wrong => Place::Wrong,
+        },
         Next::InValue(token) => token_end(token, buf, at, Due::After),
     }
 }

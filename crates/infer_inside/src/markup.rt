@@ -282,7 +282,8 @@ fn begins_element(byte: u8) -> bool
 fn is_xml_space(byte: u8) -> bool
     ensures { IsTrue result ↔ IsXmlSpace byte }
 {
-    matches!(byte, b'\t' | b'\n' | b'\r' | b' ')
+    // Most bytes are told by the first test.
+    byte <= b' ' && matches!(byte, b'\t' | b'\n' | b'\r' | b' ')
 }
 
 fn is_type_byte(byte: u8) -> bool

@@ -5,7 +5,6 @@ ghost use Rattle.infer_inside.specs.Script.{EndsBare, IsBlank, IsEnv, IsLineEnd,
 
 use crate::runs::after_last;
 use infer_deep::places::stands_at;
-use memchr::memchr;
 
 /// Where a word of the first line begins and ends.
 #[derive(Clone, Copy)]
@@ -120,7 +119,8 @@ fn is_blank(byte: u8) -> bool
 fn is_word_byte(byte: u8) -> bool
     ensures { IsTrue result ↔ IsWordByte byte }
 {
-    !matches!(byte, b' ' | b'\t' | b'\n' | b'\r')
+    // Most bytes are told by the first test.
+    byte > b' ' || !matches!(byte, b' ' | b'\t' | b'\n' | b'\r')
 }
 
 fn is_env(buf: &[u8], word: Word) -> bool
@@ -138,7 +138,21 @@ fn is_setting(buf: &[u8], word: Word) -> bool
     requires within { word.to ≤ length buf.now }
     ensures { IsTrue result ↔ IsSetting buf.now word.from word.to }
 {
-    buf[word.from] == b'-' || memchr(b'=', &buf[word.from..word.to]).is_some()
+    buf[word.from] == b'-' || has_equals(buf, word.from, word.to)
+}
+
+/// Whether "=" stands from one place up to another.
+#[inline(always)]
+fn has_equals(buf: &[u8], from: usize, to: usize) -> bool
+    requires { to ≤ length buf.now }
+    ensures { IsTrue result ↔ ((k : ℕ) × (from ≤ k) × (k < to) × (slice_index buf.now k ≡ 0x3D)) }
+{
+    for at in from..to {
+        if buf[at] == b'=' {
+            return true;
+        }
+    }
+    false
 }
 
 /// Where the name of the word begins.

@@ -47,10 +47,18 @@ impl Encoding {
 }
 
 /// Text: a byte order mark (FE FF, FF FE or EF BB BF) first, or at least one byte and none that only binary data has.
+#[inline(always)]
 pub fn is_text(buf: &[u8]) -> bool
     ensures { IsTrue result ↔ IsText buf.now }
 {
-    is_marked(buf) || !buf.is_empty() && !is_binary(buf)
+    if buf.is_empty() {
+        return false;
+    }
+    // Most binary data costs no call, and most texts no look for a mark.
+    if buf[0] < b'\t' {
+        return false;
+    }
+    buf[0] >= 0xEF && is_marked(buf) || !is_binary(buf)
 }
 
 /// Binary data: one of the bytes 00 to 08, 0B, 0E to 1A and 1C to 1F occurs.

@@ -2,7 +2,7 @@
 ghost use Rattle.std.specs.Prelude.{◌≡◌, ◌↔◌, ◌+◌, ◌≤◌, length, IsTrue};
 ghost use Rattle.infer_deep.specs.Numbers.{le16};
 ghost use Rattle.infer_deep.specs.Places.{FindsPlace};
-ghost use Rattle.infer_inside.specs.Zip.{FindsFolder, FindsPart, FirstEntryEndsIn, FirstEntryHasExtra, FirstEntryIs, HasFirstName, IsFolderEntry, IsPackageWith, IsPartEntry, MayBeginPackage};
+ghost use Rattle.infer_inside.specs.Zip.{FindsFolder, FindsPackage, FindsPart, FirstEntryEndsIn, FirstEntryHasExtra, FirstEntryIs, HasFirstName, IsFolderEntry, IsPackageWith, IsPartEntry, MayBeginAny, MayBeginPackage};
 
 use infer_deep::numbers::le16;
 use infer_deep::places::stands_at;
@@ -63,6 +63,35 @@ pub fn is_package_with(buf: &[u8], folder: &[u8]) -> bool
         Some(place) => stands_at(buf, folder, place + 30),
         None => false,
     }
+}
+
+/// Where the name of the first folder of an application, by place, stands in a package of the Open Packaging Conventions.
+pub fn package_folder(buf: &[u8]) -> Option<usize>
+    ensures { FindsPackage buf.now result }
+{
+    if !may_begin_any_package(buf) {
+        return None;
+    }
+    if !has_part(buf) {
+        return None;
+    }
+    match first_folder(buf) {
+        Some(place) => Some(place + 30),
+        None => None,
+    }
+}
+
+/// Whether `buf` begins with an entry that some package may have first.
+fn may_begin_any_package(buf: &[u8]) -> bool
+    ensures { IsTrue result ↔ MayBeginAny buf.now }
+{
+    if !stands_at(buf, b"PK\x03\x04", 0) {
+        return false;
+    }
+    stands_at(buf, b"[Content_Types].xml", 30)
+        || stands_at(buf, b"_rels/", 30)
+        || stands_at(buf, b"docProps/", 30)
+        || is_folder_entry(buf, 0)
 }
 
 fn may_begin_package(buf: &[u8], folder: &[u8]) -> bool

@@ -22,7 +22,7 @@ returns-in-Wrong c =
     let some = some_left s c.is_empty.result c.is_empty.ensures c.loop-rest-test.true in (
       λ is. absurd (cc),
       λ can. absurd
-          (lines_wrong c.args.buf.now s c.loop-rest.invariant some c.in-Wrong.ensures can),
+          (lines_wrong c.args.buf.now s c.loop-rest.invariant some c.in-Wrong.ensures.0 can),
     )
 
 pub returns : goal.returns

@@ -1,5 +1,3 @@
-use Rattle.std.proofs.Common.{true, not, ◌≡◌, subst, arith}
-use Rattle.std.specs.Bool.{OnTrue}
 use Rattle.infer_inside.proofs.TextLemmas.{binary_front}
 use Rattle.infer_inside.proofs.text.shows_data.Goals as goal
 
