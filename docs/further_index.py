@@ -1,7 +1,7 @@
-"""Makes the index of the further rows from their signatures: which rows are asked below each built-in row, by the first
+"""Makes the index of the further rows from their signatures: which rows are tried below each built-in row, by the first
 byte, and behind a guard, a byte elsewhere in the buffer. One gate, a byte too, has guards of its own. An entry names a row
-and one more byte that it asks, so that few rows are tried whole. The check refuses an index that leaves a row out; here only
-what is cheap is chosen."""
+and one more byte that it asks, so that few rows are tried whole. Rows that ask for a program, a root or a package are told
+by a name, and the texts last. The check refuses an index that leaves a row out; here only what is cheap is chosen."""
 import ast
 import re
 from typing import NamedTuple
@@ -11,9 +11,10 @@ MOST_BYTES = 5
 MOST_GUARDS = 15
 # Behind the gate, what a row costs that passes the guard of another.
 BEHIND = 12
-HEAD = """//! The lists of the index, which `docs/tables` makes from the rows: a place, a byte there, and a row. Those below each
-//! built-in row stand eight a line, and so do those by the first byte.
-use crate::index::{{Entry, Gate, Guard, Parentless, Range}};
+HEAD = """//! The lists of the index, which `docs/tables` makes from the rows: a place, a byte there, and a row, or a name and a row.
+//! Those below each built-in row stand in its order, and those by the first byte eight a line.
+use crate::index::Below::{{Entries, Nothing, Packages, Programs, Roots}};
+use crate::index::{{Below, Entry, Gate, Guard, Named, Parentless, Range, Rooted, Texts}};
 
 /// How many further rows there are.
 pub const FURTHER_COUNT: usize = {};
@@ -21,6 +22,11 @@ pub const FURTHER_COUNT: usize = {};
 """
 # A text or a character in the code.
 TEXT = r"""(?:"(?:[^"\\]|\\.)*"|'(?:[^'\\]|\\.)*')"""
+TEXT_OF_BYTES = rf"b{TEXT}"
+# The longest line of code.
+WIDTH = 100
+# What is told last, without being tried.
+TEXTS = {"JsonLines", "JsonText", "PlainText"}
 COMMON = set(b" etaoinshrdlu\n\x00\x01\xFF")
 # What every buffer has that fits an alternative which looks inside: as specs/Outline.antt says.
 ZIP = {0: {0x50}, 1: {0x4B}, 2: {0x03}, 3: {0x04}}
@@ -62,11 +68,23 @@ OUTLINES = {
 }
 
 
+class Alternative(NamedTuple):
+    """One of a signature: what it is called, or "", what it takes, and the bytes that each of its outlines allows by place."""
+
+    name: str
+    takes: str
+    outlines: list[dict[int, set[int]]]
+
+
 class Further(NamedTuple):
-    """A further row: the constant of its parent or "", and what each alternative asks, the bytes allowed by place."""
+    """A further row: the constant of its parent or "", and its alternatives."""
 
     parent: str
-    alternatives: list[dict[int, set[int]]]
+    signature: list[Alternative]
+
+    def outlines(self, told=()):
+        """What all of them ask at fixed places, but those that are told in another way."""
+        return [asked for it in self.signature if it.name not in told for asked in it.outlines]
 
 
 def bytes_of(text):
@@ -98,19 +116,19 @@ def asked(pieces):
 def rows_in(code):
     """The rows of a list, each a line."""
     for parent, signature in re.findall(r'^    \w+ ".*?" ".*?":(?: (\w+))? => ?(.*);$', code, re.M):
-        yield Further(parent, list(outline(signature)))
+        yield Further(parent, list(alternatives(signature)))
 
 
-def outline(signature):
-    """What each alternative of a signature asks at fixed places: its pieces, or what its name stands for."""
+def alternatives(signature):
+    """The alternatives of a signature: pieces, or what a name stands for."""
     for least, inside in re.findall(rf"\[(\d+, )?((?:{TEXT}|&\[[^\]]*\]|[^\]\"'])*)\]", signature):
-        name, _, text = inside.partition("(")
+        name, _, takes = inside.removesuffix(")").partition("(")
         if least:
-            yield asked(inside)
+            yield Alternative("", "", [asked(inside)])
         elif name in NAMED:
-            yield from NAMED[name](bytes_of(text.removesuffix(")")))
+            yield Alternative(name, takes, NAMED[name](bytes_of(takes)))
         else:
-            yield from OUTLINES.get(name, [asked(inside)])
+            yield Alternative(name, takes, OUTLINES.get(name, [asked(inside)]))
 
 
 def is_wide(alternative):
@@ -215,7 +233,7 @@ def gates(free):
 def gated(rows):
     """The gate, the guards beside it and those behind it, for the rows of no parent whose first byte tells too little. Every
     buffer without an answer is asked for the guards and for the gate's byte, and few for the guards behind the gate."""
-    free = [(number, it) for number, row in enumerate(rows) if not row.parent for it in row.alternatives if not is_led(it) and not is_wide(it)]
+    free = [(number, it) for number, row in enumerate(rows) if not row.parent for it in row.outlines(TEXTS) if not is_led(it) and not is_wide(it)]
     every = choose(free)
     ways = [(weigh(free, every), (0, 0), list(guards(free, every)), [])]
     for gate, inside in gates(free):
@@ -229,7 +247,7 @@ def gated(rows):
 
 
 def listed(some):
-    return "(" + ", ".join(f"{place} 0x{byte:02X} {number}" for place, byte, number in some) + ")"
+    return "(" + ", ".join(" ".join(in_words(it)) for it in some) + ")"
 
 
 def in_lines(lists):
@@ -241,15 +259,64 @@ def in_guards(guards):
     yield from (f"        {place} 0x{byte:02X} {listed(some)};" for (place, byte), some in guards)
 
 
+def names(rows, name):
+    """The texts that the alternatives of that name take, each with the number of its row."""
+    for number, row in rows:
+        yield from ((re.findall(TEXT_OF_BYTES, it.takes), number) for it in row.signature if it.name == name)
+
+
+def below(rows):
+    """How the rows below a built-in row are told, each with its number: what it is called, and what it takes."""
+    kinds = {it.name for _, row in rows for it in row.signature}
+    if not rows:
+        return "Nothing", []
+    if kinds == {"Program"}:
+        return "Programs", [f"named!{bracketed(f'{it} {k}' for some, k in names(rows, 'Program') for it in some)}"]
+    if kinds <= {"Root", "RootWith"}:
+        both = sorted([*names(rows, "Root"), *names(rows, "RootWith")], key=lambda it: it[1])
+        return "Roots", [f"rooted!{bracketed(f'{some[0]} ({chr(32).join(some[1:])}) {k}' for some, k in both)}"]
+    told = {"PackageWith"} & kinds
+    tried = entries([(k, row.outlines(told)) for k, row in rows if row.outlines(told)])
+    takes = [f"entries!{bracketed(' '.join(words) for words in map(in_words, tried))}"]
+    if not told:
+        return "Entries", takes
+    return "Packages", [*takes, f"named!{bracketed(f'{some[0]} {k}' for some, k in names(rows, 'PackageWith'))}"]
+
+
+def in_lines_of_code(name, takes):
+    """A value as `rt fmt` lays it out."""
+    line = f"    {name}({', '.join(takes)})," if takes else f"    {name},"
+    if len(line) <= WIDTH:
+        return [line]
+    return [f"    {name}(", *(f"        {it}," for it in takes), "    ),"]
+
+
+def in_words(entry):
+    place, byte, number = entry
+    return str(place), f"0x{byte:02X}", str(number)
+
+
+def bracketed(words):
+    return "[" + ", ".join(words) + "]"
+
+
+def last(rows):
+    """The rows of the texts."""
+    for field, name in (("lines", "JsonLines"), ("json", "JsonText"), ("plain", "PlainText")):
+        [(_, number)] = names(enumerate(rows), name)
+        yield f"        {field}: {number},"
+
+
 def lists(rows, parents):
     """The lists of the index, of rows whose parents stand among the constants of the built-in rows."""
     numbered = list(enumerate(rows))
-    yield "pub(super) static BELOW: &[&[Entry]] = lists!["
-    yield from in_lines(entries([(k, row.alternatives) for k, row in numbered if row.parent == it]) for it in parents)
+    yield "pub(super) static BELOW: &[Below] = &["
+    for parent in parents:
+        yield from in_lines_of_code(*below([(k, row) for k, row in numbered if row.parent == parent]))
     yield "];\n"
     yield "pub(super) static PARENTLESS: Parentless = Parentless {"
     yield "    first: lists!["
-    led = [[(k, [it for it in row.alternatives if is_led(it) and byte in it[0]]) for k, row in numbered if not row.parent] for byte in range(256)]
+    led = [[(k, [it for it in row.outlines(TEXTS) if is_led(it) and byte in it[0]]) for k, row in numbered if not row.parent] for byte in range(256)]
     yield from in_lines(entries([it for it in some if it[1]], (0, byte)) for byte, some in enumerate(led))
     yield "    ],"
     (place, byte), outside, inside = gated(rows)
@@ -261,8 +328,11 @@ def lists(rows, parents):
     yield from in_guards(inside)
     yield "    ],"
     yield "    ranges: ranges!["
-    yield from (wide(number, it) for number, row in numbered if not row.parent for it in row.alternatives if is_wide(it))
+    yield from (wide(number, it) for number, row in numbered if not row.parent for it in row.outlines(TEXTS) if is_wide(it))
     yield "    ],"
+    yield "    texts: Texts {"
+    yield from last(rows)
+    yield "    },"
     yield "};"
 
 

@@ -1,30 +1,30 @@
 -- What a computation says of whether a buffer fits an alternative: that it does, as the sample of one does, by places that
 -- are tried; or that it does not, by its outline.
-use Rattle.std.proofs.Common.{◌≡◌, ◌≢◌, ◌⊎◌, inl, inr, ℕ, zero, suc, ◌+◌, ◌-◌, ◌*◌, ◌<◌, ◌≤◌, Bool, true, false, IsTrue, List, [], ◌∷◌, codes, length, nat_le, refl, subst, arith}
-use Rattle.std.specs.Prelude.{◌&&◌, ◌||◌, ◌==◌, ◌%◌, not, slice_index}
+use Rattle.std.proofs.Common.{◌≡◌, ◌≢◌, inl, inr, ℕ, zero, suc, ◌+◌, ◌-◌, ◌*◌, ◌<◌, Bool, true, false, IsTrue, List, [], ◌∷◌, codes, length, nat_le, refl, subst, arith}
+use Rattle.std.specs.Prelude.{◌&&◌, ◌||◌, ◌==◌, not, slice_index}
 use Rattle.std.specs.List.{list_any}
 use Rattle.std.proofs.lemmas.Bool.{cases_lt}
 use Rattle.std.proofs.lemmas.Bool.Decides.{nat_tests}
 use Rattle.infer_deep.specs.Find.{OccursAt}
 use Rattle.infer_deep.specs.Numbers.{be32, le16, le32}
 use Rattle.infer_deep.specs.Office.{zip_header}
-use Rattle.infer_inside.specs.Dbase.{EndsFields, HasField, IsDated, IsDbase, IsOneOf, behind, versions}
+use Rattle.infer_inside.specs.Dbase.{IsDbase, behind, versions}
 use Rattle.infer_inside.specs.Elf.{IsSharedObject}
 use Rattle.infer_inside.specs.Laws as Inside
 use Rattle.infer_inside.specs.Laws.{HasBracket, OpensElement}
 use Rattle.infer_inside.specs.Markup.{BeginsElement, HasRoot, IsXmlSpace}
 use Rattle.infer_inside.specs.Numbers.{be16}
-use Rattle.infer_inside.specs.Png.{IsAnimated, here}
+use Rattle.infer_inside.specs.Png.{here}
 use Rattle.infer_inside.specs.Subtitles.{IsDigit, IsPairAt, IsSubRip, IsTime}
 use Rattle.infer_inside.specs.Tar.{HasTarChecksum, IsOctal, header_sum, octal}
 use Rattle.infer_inside.specs.Text.{IsBinary, IsDataByte, IsText}
 use Rattle.infer_inside.specs.Tiff.{HasTag}
-use Rattle.infer_inside.specs.Zip.{FirstEntryEndsIn, FirstEntryHasExtra, FirstEntryIs, HasFirstName, IsFolderEntry, IsPackageWith}
+use Rattle.infer_inside.specs.Zip.{HasFirstName, IsFolderEntry, IsPackageWith}
 use Rattle.infer_sig.specs.Signature.{accepts, fits}
 use Rattle.infer.proofs.KnownLemmas.{Known, proved, refuted, unknown, at_most, both, either, is, negated, proved_if, refuted_if, needs, same, takes, ◌>>=◌, ◌>>◌}
 use Rattle.infer.proofs.DecisionLemmas.{known_class}
 use Rattle.infer.proofs.PlaceLemmas.{ByPlace, occurs}
-use Rattle.infer_more.specs.Laws.{is_plain}
+use Rattle.infer_more.specs.Index.{is_plain}
 use Rattle.infer_more.specs.Outline.{lines}
 use Rattle.infer_more.specs.Signature.{Accepted, Alternative, Fits, animated, binary_bytes, bytes, class_id, dbase, directory_tag, first_entry_ends_in, first_entry_has_extra, first_entry_is, package_with, plain_text, png_header, shared_object, subrip, tar_checksum, program, root, root_with, json_lines, json_text}
 use Rattle.infer_more.proofs.IndexLemmas as test

@@ -1,28 +1,20 @@
--- A row that widens an answer is asked.
-use Rattle.std.proofs.Common.{◌≡◌, ◌↔◌, ℕ, zero, suc, ◌+◌, ◌-◌, ◌<◌, ◌≤◌, ◌==◌, ◌⊎◌, inl, inr, Bool, true, false, IsTrue, List, [], ◌∷◌, ◌++◌, Option, None, Some, length, ap, sym, ◌∙◌, subst, arith, refl, nat_le, nat_lt}
+-- A row of which a buffer has the bytes is tried.
+use Rattle.std.proofs.Common.{◌≡◌, ◌↔◌, ℕ, zero, suc, ◌+◌, ◌-◌, ◌<◌, ◌≤◌, ◌==◌, ◌⊎◌, inl, inr, Bool, true, false, IsTrue, List, [], ◌∷◌, ◌++◌, length, ap, sym, ◌∙◌, subst, arith, refl, nat_le, nat_lt}
 use Rattle.std.specs.Prelude.{◌&&◌, ◌||◌, if◌then◌else◌, slice_index}
 use Rattle.std.specs.List.{list_all, list_any, range_with_len}
 use Rattle.std.specs.Option.{option_map_or}
 use Rattle.std.proofs.lemmas.Bool.{cases_lt, eq-eqb, eqb-true, leb-true, lt-ltb, ltb-true}
 use Rattle.std.proofs.lemmas.Option.{get_or_from_slice_get, slice_get_cases}
-use denote.Ref.{Bor}
-use Rattle.infer_sig.specs.Signature.{Alternative, at_least, Bytes, any_of, between, all_but, Part, text, any_text, byte, accepts, allows, fits, has_part, stands}
+use Rattle.infer_sig.specs.Signature.{Alternative, at_least, Bytes, any_of, between, all_but, Part, text, any_text, byte, allows, fits, has_part, stands}
 use Rattle.infer_sig.specs.Places.{StandsByPlace}
 use Rattle.infer.specs.Walks.{is_listed}
-use Rattle.infer.proofs.TestLemmas.{NoneRefused, passed}
-use Rattle.infer_more.specs.Index.{EachBelowIsAsked, EachParentlessIsAsked, asked, asked_parentless, begun, behind, candidate, candidates, entries_at, gated, guarded, has_between, has_byte, has_entry, has_guard, is_asked, is_asked_parentless, is_covered, is_gated, is_guarded, is_met, is_row_below_asked, is_row_free_asked, is_settled, is_tested, is_ranged, is_within, ranged, within}
-use Rattle.infer_more.specs.Row.{Further}
-use Rattle.infer_more.specs.Table.{further}
-use Rattle.infer_more.specs.Wider.{Widens}
+use Rattle.infer_more.specs.Index.{tried_parentless, begun, behind, candidate, candidates, entries_at, gated, guarded, has_between, has_byte, has_entry, has_guard, is_tried_parentless, is_covered, is_gated, is_guarded, is_met, is_settled, is_tested, is_ranged, is_within, ranged, within}
 use Rattle.infer_more.specs.declared.index.Entry.{Entry}
 use Rattle.infer_more.specs.declared.index.Gate.{Gate}
 use Rattle.infer_more.specs.declared.index.Guard.{Guard}
 use Rattle.infer_more.specs.declared.index.Parentless.{Parentless}
 use Rattle.infer_more.specs.declared.index.Range.{Range}
-use Rattle.infer_more.specs.declared.index.RowIndex.{RowIndex}
-use Rattle.infer_more.specs.declared.index.lists.TheConstants.{FURTHER_COUNT}
 use Rattle.infer_more.proofs.NamedLemmas.{both}
-use Rattle.infer_more.proofs.TableLemmas.{length-further}
 
 -- both of two tests pass, or one of them
 pub both_left : (a b : Bool) → IsTrue (a && b) → IsTrue a
@@ -46,14 +38,14 @@ from_right true b h = refl
 from_right false b h = h
 
 -- a number among the first or the second of two lists is among both
-listed_left : (xs ys : List ℕ) (i : ℕ) → IsTrue (is_listed xs i) → IsTrue (is_listed (xs ++ ys) i)
+pub listed_left : (xs ys : List ℕ) (i : ℕ) → IsTrue (is_listed xs i) → IsTrue (is_listed (xs ++ ys) i)
 listed_left [] ys i h = absurd (cc)
 listed_left (x ∷ xs) ys i h = elim (either (x == i) (is_listed xs i) h) [
   | inl e ↦ from_left (x == i) (is_listed (xs ++ ys) i) e
   | inr e ↦ from_right (x == i) (is_listed (xs ++ ys) i) (listed_left xs ys i e)
 ]
 
-listed_right : (xs ys : List ℕ) (i : ℕ) → IsTrue (is_listed ys i) → IsTrue (is_listed (xs ++ ys) i)
+pub listed_right : (xs ys : List ℕ) (i : ℕ) → IsTrue (is_listed ys i) → IsTrue (is_listed (xs ++ ys) i)
 listed_right [] ys i h = h
 listed_right (x ∷ xs) ys i h = from_right (x == i) (is_listed (xs ++ ys) i) (listed_right xs ys i h)
 
@@ -156,7 +148,7 @@ module _ (by_place : (place : ℕ) (t buf : List ℕ) → IsTrue (stands place t
     | inr later ↦ covered_in a all some later k
   ]
 
-  covered_here : (a : Alternative) (entries : List Entry) → IsTrue (is_covered i a entries) → IsTrue (fits b a) → IsTrue (is_listed (candidates b entries) i)
+  pub covered_here : (a : Alternative) (entries : List Entry) → IsTrue (is_covered i a entries) → IsTrue (fits b a) → IsTrue (is_listed (candidates b entries) i)
   covered_here a entries h k = covered_in a entries entries h k
 
   -- the entries have the row where the byte stands
@@ -226,7 +218,7 @@ module _ (by_place : (place : ℕ) (t buf : List ℕ) → IsTrue (stands place t
       subst (λ (l : List Entry). IsTrue (is_listed (candidates b l) i)) (sym (begun_by index b here.0))
       (met_here by_place b i a entries 0 (slice_index b 0) k here.0 refl here.1)
 
-  parentless_here : (a : Alternative) → IsTrue (is_asked_parentless index i a) → IsTrue (fits b a) → IsTrue (is_listed (asked_parentless index b) i)
+  pub parentless_here : (a : Alternative) → IsTrue (is_tried_parentless index i a) → IsTrue (fits b a) → IsTrue (is_listed (tried_parentless index b) i)
   parentless_here a h k = elim (either (is_tested (λ x. is_met i a (entries_at index.first.now x) 0 x) 0 a) _ h) [
     | inl e ↦ listed_left (candidates b (begun index b)) _ i (begun_here a e k)
     | inr e ↦ listed_right (candidates b (begun index b)) _ i (elim (either (is_guarded i a index.guards.now) _ e) [
@@ -237,27 +229,3 @@ module _ (by_place : (place : ℕ) (t buf : List ℕ) → IsTrue (stands place t
       ])
     ])
   ]
-
-module _ (by_place : (place : ℕ) (t buf : List ℕ) → IsTrue (stands place t buf) ↔ StandsByPlace place t buf) (index : RowIndex) (b : List ℕ) (i : ℕ) where
-  asked_here : (parent : Option ℕ) (a : Alternative) → IsTrue (is_asked index parent i a) → IsTrue (fits b a) → IsTrue (is_listed (asked index parent b) i)
-  asked_here (Some parent) a h k = covered_here by_place b i a (entries_at index.below.now parent) h k
-  asked_here None a h k = parentless_here by_place index.parentless.now b i a h k
-
-  pub asked_of : (parent : Option ℕ) (signature : List Alternative) → IsTrue (list_all (is_asked index parent i) signature) → IsTrue (accepts signature b)
-      → IsTrue (is_listed (asked index parent b) i)
-  asked_of parent [] h k = absurd (cc)
-  asked_of parent (a ∷ signature) h k = elim (either (fits b a) _ k) [
-    | inl e ↦ asked_here parent a (both_left (is_asked index parent i a) _ h) e
-    | inr e ↦ asked_of parent signature (both_right (is_asked index parent i a) _ h) e
-  ]
-
--- as computed of sixteen rows a step, with room for more of them: a refusal shows the numbers of the rows that are not asked
-pub each_below_asked : (below : List (Bor (List Entry))) → NoneRefused (is_row_below_asked below) FURTHER_COUNT 0 16 → EachBelowIsAsked below
-each_below_asked below none = record {
-  is_asked = λ i lt. let many = length-further in passed (is_row_below_asked below) FURTHER_COUNT 16 none (omega arith) i (omega arith);
-}
-
-pub each_parentless_asked : (index : Parentless) → NoneRefused (is_row_free_asked index) FURTHER_COUNT 0 16 → EachParentlessIsAsked index
-each_parentless_asked index none = record {
-  is_asked = λ i lt. let many = length-further in passed (is_row_free_asked index) FURTHER_COUNT 16 none (omega arith) i (omega arith);
-}

@@ -1,6 +1,6 @@
 -- Laws of further rows.
-use Rattle.std.proofs.Common.{◌↔◌, ℕ, ◌<◌, ◌≤◌, inl, inr, Bool, true, false, IsTrue, List, [], ◌∷◌, ◌++◌, Option, None, Some, All, length, get_or, arith, nat_le, refl, subst, sym, ◌≡◌, slice_get, zero, suc, codes, ◌⊎◌, le_refl}
-use Rattle.std.specs.Prelude.{◌||◌, not, slice_index}
+use Rattle.std.proofs.Common.{◌↔◌, ℕ, ◌<◌, ◌≤◌, inl, inr, Bool, true, false, IsTrue, List, [], ◌∷◌, ◌++◌, Option, None, Some, All, length, get_or, arith, nat_le, refl, subst, sym, ◌≡◌, slice_get, zero, suc, codes, ◌⊎◌}
+use Rattle.std.specs.Prelude.{not, slice_index}
 use Rattle.std.specs.List.{HoldsAt, list_all, list_any}
 use Rattle.std.proofs.lemmas.Bool.{cases_lt, leb-true}
 use Rattle.std.proofs.lemmas.List.Elements.{AllWithin-from_all}
@@ -8,22 +8,21 @@ use Rattle.std.proofs.lemmas.Bool.Decides.{nat_tests}
 use Rattle.std.proofs.lemmas.Option.{get_or_from_slice_get, slice_get_cases}
 use Rattle.infer_deep.specs.Find.{OccursAt}
 use Rattle.infer_deep.specs.Laws as Deep
-use Rattle.infer_deep.specs.Text.{BeginsMarked}
 use Rattle.infer_deep.proofs.PlaceLemmas.{OccursAt-append}
 use Rattle.infer_inside.specs.Laws as Inside
 use Rattle.infer_inside.specs.Laws.{HasBracket}
 use Rattle.infer_inside.specs.Markup.{HasRoot}
 use Rattle.infer_inside.proofs.GrowthLemmas.{there}
-use Rattle.infer_inside.specs.Text.{IsBinary, IsText}
 use Rattle.infer_sig.specs.Laws.{Lasts}
 use Rattle.infer_sig.specs.Places.{StandsByPlace}
 use Rattle.infer_sig.specs.Signature as fixed
 use Rattle.infer_sig.specs.Signature.{at_least, Part, text, any_text, byte, accepts, fits, has_part, stands}
-use Rattle.infer.specs.First.{IsFirstOf, NoneHas}
+use Rattle.infer.specs.First.{IsFirstOf}
 use Rattle.infer.specs.Laws.{IsNotLater}
 use Rattle.infer.specs.Leads.{is_white}
 use Rattle.infer_more.specs.Index.{is_settled}
-use Rattle.infer_more.specs.Laws.{AllLast, IsLost, IsSteady, MayBeLost, NoneIsBlank, is_dark, is_dark_alternative, is_dark_part, is_dark_relation, is_filled, is_lasting, is_plain, is_some_alternative, lasts}
+use Rattle.infer_more.specs.Laws.{AllLast, IsLost, IsSteady, MayBeLost, NoneIsBlank, is_dark, is_dark_alternative, is_dark_part, is_dark_relation, is_filled, is_lasting, is_some_alternative, lasts}
+use Rattle.infer_more.specs.Index.{is_plain}
 use Rattle.infer_more.specs.Outline.{lines, outline}
 use Rattle.infer_more.specs.Row.{Further}
 use Rattle.infer_more.specs.Signature.{Accepted, Alternative, Fits, IsProgramAmong, animated, binary_bytes, bytes, class_id, dbase, directory_tag, first_entry_ends_in, first_entry_has_extra, first_entry_is, package_with, plain_text, png_header, shared_object, subrip, tar_checksum, program, root, root_with, json_lines, json_text}

@@ -1,35 +1,57 @@
--- The next row that is asked, and that the first of them to widen an answer is the first of all.
+-- The least of the rows that are found.
 use Rattle.std.proofs.Common.{◌≡◌, ℕ, zero, suc, ◌+◌, ◌<◌, ◌≤◌, Bool, true, false, IsTrue, List, [], ◌∷◌, ◌++◌, Option, None, Some, length, take, get_or, ◌⊎◌, inl, inr, ap, sym, ◌∙◌, subst, arith, refl, append_assoc}
-use Rattle.std.specs.Prelude.{◌==◌, ◌||◌, if◌then◌else◌, min, nat_le}
-use Rattle.std.specs.List.{list_all, list_any}
-use Rattle.std.proofs.Math.Nat.{le-min, min-le_left, min-le_right}
-use Rattle.std.proofs.lemmas.Bool.{cases_lt, eqb-true, le-leb, leb-true}
+use Rattle.std.specs.Prelude.{◌==◌, if◌then◌else◌, min}
+use Rattle.std.proofs.Math.Nat.{min-le_left, min-le_right}
+use Rattle.std.proofs.lemmas.Bool.{cases_lt, eqb-true, leb-true}
 use Rattle.std.proofs.lemmas.List.{append-nil, get_or_default, take_all}
-use denote.Ref.{Bor}
-use Rattle.infer.specs.Buffer.{IsBuffer}
+use Rattle.std.specs.List.{list_all}
+use Rattle.std.specs.Prelude.{nat_le}
 use Rattle.infer.specs.First.{IsFirstOf}
 use Rattle.infer.specs.Walks.{is_listed}
-use Rattle.infer_more.specs.Index.{AllAreAsked, IsNext, NoneBetween, all_of, ascends, asked, begun, behind, candidate, candidates, entries_at, has_byte, is_candidate}
+use Rattle.infer_more.specs.Index.{IsLeast, IsRowOf, IsTried, all_of, ascends}
 use Rattle.infer_more.specs.Row.{Further}
 use Rattle.infer_more.specs.Table.{further}
 use Rattle.infer_more.specs.Wider.{Widens, WidensAt}
-use Rattle.infer_more.specs.declared.index.Entry.{Entry}
-use Rattle.infer_more.specs.declared.index.Guard.{Guard}
-use Rattle.infer_more.specs.declared.index.Parentless.{Parentless}
-use Rattle.infer_more.specs.declared.index.RowIndex.{RowIndex}
-use Rattle.infer_more.proofs.NamedLemmas.{both}
-use Rattle.infer_more.proofs.IndexLemmas.{both_left, both_right, either, from_left, from_right}
+use Rattle.infer_more.specs.declared.index.lists.TheConstants.{FURTHER_COUNT}
+use Rattle.infer_more.proofs.IndexLemmas.{both_left, both_right, either, from_left, from_right, listed_left, listed_right}
+use Rattle.infer_more.proofs.TableLemmas.{length-further}
 
-pub next_none : (from before : ℕ) → IsNext [] from before before
-next_none from before = record { kept = λ h. h; below = omega arith; least = λ i listed le. absurd (cc) }
+-- of no number, of one, and of the numbers of two
+pub least_none : (P : ℕ → Type 0) (before : ℕ) → ((i : ℕ) → ¬ P i) → IsLeast P before before
+least_none P before none = record { below = omega arith; is = λ lt. absurd (omega arith); least = λ i p. absurd (none i p) }
 
-neither_left : (x y : Bool) → (x || y) ≡ false → x ≡ false
-neither_left false y e = refl
-neither_left true y e = absurd (cc)
+pub least_late : (P : ℕ → Type 0) (before : ℕ) → ((i : ℕ) → P i → before ≤ i) → IsLeast P before before
+least_late P before late = record { below = omega arith; is = λ lt. absurd (omega arith); least = late }
 
-neither_right : (x y : Bool) → (x || y) ≡ false → y ≡ false
-neither_right false y e = e
-neither_right true y e = absurd (cc)
+pub least_one : (P : ℕ → Type 0) (before row : ℕ) → P row → ((i : ℕ) → P i → row ≡ i) → IsLeast P before (min before row)
+least_one P before row here only =
+    let low = min-le_left before row in
+    let high = min-le_right before row in record {
+      below = low;
+      is = λ lt. let e : row ≡ min before row = by_min before row lt in subst P e here;
+      least = λ i p. let e = only i p in omega arith;
+    }
+  where
+    by_min : (m n : ℕ) → min m n < m → n ≡ min m n
+    by_min m n lt = grind arith
+
+pub least_both : (P Q : ℕ → Type 0) (o p q : ℕ) → IsLeast P o p → IsLeast Q p q → IsLeast (λ i. P i ⊎ Q i) o q
+least_both P Q o p q h k =
+    let first : p ≤ o = h.below in
+    let second : q ≤ p = k.below in record {
+      below = omega arith;
+      is = λ lt. elim (cases_lt q p) [
+        | inl less ↦ inr (k.is less)
+        | inr more ↦ let e : p ≡ q = omega arith in inl (subst P e (h.is (omega arith)))
+      ];
+      least = λ i is. elim is [
+        | inl l ↦ let le : p ≤ i = h.least i l in omega arith
+        | inr r ↦ k.least i r
+      ];
+    }
+
+pub least_same : (P Q : ℕ → Type 0) (o p : ℕ) → ((i : ℕ) → P i → Q i) → ((i : ℕ) → Q i → P i) → IsLeast P o p → IsLeast Q o p
+least_same P Q o p to from h = record { below = h.below; is = λ lt. to p (h.is lt); least = λ i q. h.least i (from i q) }
 
 -- of the numbers of two lists, one after the other
 in_either : (xs ys : List ℕ) (i : ℕ) → IsTrue (is_listed (xs ++ ys) i) → IsTrue (is_listed xs i) ⊎ IsTrue (is_listed ys i)
@@ -42,164 +64,163 @@ in_either (x ∷ xs) ys i h = elim (either (x == i) (is_listed (xs ++ ys) i) h) 
   ]
 ]
 
-pub next_more : (xs ys : List ℕ) (from o p q : ℕ) → IsNext xs from o p → IsNext ys from p q → IsNext (xs ++ ys) from o q
-next_more xs ys from o p q h k = record {
-  kept = λ le. k.kept (h.kept le);
-  below = let first : p ≤ o = h.below in let second : q ≤ p = k.below in omega arith;
-  least = λ i listed le. elim (in_either xs ys i listed) [
-    | inl l ↦ let first : p ≤ i = h.least i l le in let second : q ≤ p = k.below in omega arith
-    | inr l ↦ k.least i l le
-  ];
-}
-
--- what a candidate's entry has
-candidate_of : (on : Bool) (row i : ℕ) → IsTrue (is_listed (if on then row ∷ [] else []) i) → IsTrue on × (row ≡ i)
-candidate_of true row i h = elim (either (row == i) (is_listed [] i) h) [
-  | inl e ↦ (refl, eqb-true row i e)
-  | inr e ↦ absurd (cc)
-]
-candidate_of false row i h = absurd (cc)
-
--- no row after one in an ascending list is before it
-not_before : (b : List ℕ) (row i : ℕ) (entries : List Entry) → IsTrue (list_all (λ f. nat_le row f.row) entries) → IsTrue (is_listed (candidates b entries) i) → row ≤ i
-not_before b row i [] all listed = absurd (cc)
-not_before b row i (e ∷ entries) all listed = elim (in_either (candidate b e) (candidates b entries) i listed) [
-  | inl l ↦
-      let same : e.row ≡ i = (candidate_of (has_byte b e.place e.byte) e.row i l).1 in
-      let le : row ≤ e.row = leb-true row e.row (both_left (nat_le row e.row) _ all) in
-      omega arith
-  | inr l ↦ not_before b row i entries (both_right (nat_le row e.row) _ all) l
-]
-
--- a row that is listed and not before `from` has an entry that says so
-is_no_candidate : (b : List ℕ) (from i : ℕ) (e : Entry) → is_candidate b from e ≡ false → IsTrue (is_listed (candidate b e) i) → from ≤ i → ⊥
-is_no_candidate b from i e none listed le =
-    let has = candidate_of (has_byte b e.place e.byte) e.row i listed in
-    let same : e.row ≡ i = has.1 in
-    let here : IsTrue (is_candidate b from e) = both (has_byte b e.place e.byte) (nat_le from e.row) has.0 (le-leb from e.row (omega arith)) in
-    cc
-
-none_in : (b : List ℕ) (from i : ℕ) (entries : List Entry) → list_any (is_candidate b from) entries ≡ false → IsTrue (is_listed (candidates b entries) i) → from ≤ i → ⊥
-none_in b from i [] none listed le = cc
-none_in b from i (e ∷ entries) none listed le = elim (in_either (candidate b e) (candidates b entries) i listed) [
-  | inl l ↦ is_no_candidate b from i e (neither_left (is_candidate b from e) _ none) l le
-  | inr l ↦ none_in b from i entries (neither_right (is_candidate b from e) _ none) l le
-]
-
--- the first candidate of an ascending list is the least
-least_at : (b : List ℕ) (from i : ℕ) (entries : List Entry) (k : ℕ) (d : Entry) → k < length entries → IsTrue (ascends entries)
-    → list_any (is_candidate b from) (take k entries) ≡ false → IsTrue (is_listed (candidates b entries) i) → from ≤ i → (get_or entries k d).row ≤ i
-least_at b from i [] k d lt all none listed le = absurd (omega arith)
-least_at b from i (e ∷ entries) zero d lt all none listed le = elim (in_either (candidate b e) (candidates b entries) i listed) [
-  | inl l ↦ let same : e.row ≡ i = (candidate_of (has_byte b e.place e.byte) e.row i l).1 in omega arith
-  | inr l ↦ not_before b e.row i entries (both_left (list_all (λ f. nat_le e.row f.row) entries) _ all) l
-]
-least_at b from i (e ∷ entries) (suc k) d lt all none listed le = elim (in_either (candidate b e) (candidates b entries) i listed) [
-  | inl l ↦ absurd (is_no_candidate b from i e (neither_left (is_candidate b from e) _ none) l le)
-  | inr l ↦ least_at b from i entries k d (omega arith) (both_right (list_all (λ f. nat_le e.row f.row) entries) _ all) (neither_right (is_candidate b from e) _ none) l le
-]
-
-pub next_at : (b : List ℕ) (from before : ℕ) (entries : List Entry) (k : ℕ) (d : Entry) → k < length entries → IsTrue (ascends entries)
-    → list_any (is_candidate b from) (take k entries) ≡ false → IsTrue (is_candidate b from (get_or entries k d))
-    → IsNext (candidates b entries) from before (min before (get_or entries k d).row)
-next_at b from before entries k d lt all none is =
-    let row = (get_or entries k d).row in
-    let past : from ≤ row = leb-true from row (both_right (has_byte b (get_or entries k d).place (get_or entries k d).byte) _ is) in record {
-      kept = λ le. le-min le past;
-      below = min-le_left before row;
-      least = λ i listed le.
-          let first : row ≤ i = least_at b from i entries k d lt all none listed le in
-          let second : min before row ≤ row = min-le_right before row in
-          omega arith;
-    }
-
-pub next_past : (b : List ℕ) (from before : ℕ) (entries : List Entry) → list_any (is_candidate b from) entries ≡ false → IsNext (candidates b entries) from before before
-next_past b from before entries none = record { kept = λ h. h; below = omega arith; least = λ i listed le. absurd (none_in b from i entries none listed le) }
-
-pub next_behind : (b : List ℕ) (g : Guard) (from before after : ℕ) → has_byte b g.place g.byte ≡ true → IsNext (candidates b g.entries.now) from before after
-    → IsNext (behind b g) from before after
-next_behind b g from before after on h = subst (λ t. IsNext (if t then candidates b g.entries.now else []) from before after) (sym on) h
-
-pub next_unguarded : (b : List ℕ) (g : Guard) (from before : ℕ) → has_byte b g.place g.byte ≡ false → IsNext (behind b g) from before before
-next_unguarded b g from before off = subst (λ t. IsNext (if t then candidates b g.entries.now else []) from before before) (sym off) (next_none from before)
-
--- one more element
-module _ {A : Type 0} (f : A → List ℕ) where
-  all_more : (xs : List A) (k : ℕ) (d : A) → k < length xs → all_of f (take k xs) ++ f (get_or xs k d) ≡ all_of f (take (k + 1) xs)
-  all_more [] k d lt = absurd (omega arith)
-  all_more (x ∷ xs) zero d lt = sym (append-nil (f x))
-  all_more (x ∷ xs) (suc k) d lt =
-      let e : suc k + 1 ≡ suc (k + 1) = omega arith in
-      rw e (append_assoc (f x) (all_of f (take k xs)) (f (get_or xs k d)) ∙ ap (λ l. f x ++ l) (all_more xs k d (omega arith)))
-
-  pub next_one_more : (xs : List A) (k : ℕ) (d : A) (from o p q : ℕ) → k < length xs → IsNext (all_of f (take k xs)) from o p
-      → IsNext (f (get_or xs k d)) from p q → IsNext (all_of f (take (k + 1) xs)) from o q
-  next_one_more xs k d from o p q lt h j = subst (λ l. IsNext l from o q) (all_more xs k d lt) (next_more _ _ from o p q h j)
-
-  pub next_of_all : (xs : List A) (n from o p : ℕ) → length xs ≤ n → IsNext (all_of f (take n xs)) from o p → IsNext (all_of f xs) from o p
-  next_of_all xs n from o p le h = subst (λ l. IsNext (all_of f l) from o p) (take_all n xs le) h
-
--- a test that all elements pass
-module _ {A : Type 0} (test : A → Bool) where
-  pub passed_at : (xs : List A) (k : ℕ) (d : A) → k < length xs → IsTrue (list_all test xs) → IsTrue (test (get_or xs k d))
-  passed_at [] k d lt all = absurd (omega arith)
-  passed_at (x ∷ xs) zero d lt all = both_left (test x) _ all
-  passed_at (x ∷ xs) (suc k) d lt all = passed_at xs k d (omega arith) (both_right (test x) _ all)
-
-pub ascends_at : (lists : List (Bor (List Entry))) (i : ℕ) → IsTrue (list_all (λ entries. ascends entries.now) lists) → IsTrue (ascends (entries_at lists i))
-ascends_at [] i all = refl
-ascends_at (l ∷ lists) zero all = both_left (ascends l.now) _ all
-ascends_at (l ∷ lists) (suc i) all = ascends_at lists i (both_right (ascends l.now) _ all)
-
-pub ascends_begun : (index : Parentless) (b : List ℕ) → IsTrue (list_all (λ entries. ascends entries.now) index.first.now) → IsTrue (ascends (begun index b))
-ascends_begun index [] all = refl
-ascends_begun index (x ∷ rest) all = ascends_at index.first.now x all
-
--- no row before the next one that is asked widens the answer
-pub none_to_next : (parent : Option ℕ) (b : List ℕ) (index : RowIndex) (from before next : ℕ) → AllAreAsked index → IsBuffer b
-    → IsNext (asked index parent b) from before next → NoneBetween parent b from next
-none_to_next parent b index from before next all bytes h = λ k le lt. λ w.
-    let least : next ≤ k = h.least k (all parent b k bytes w) le in
-    absurd (omega arith)
-
--- nor does one before a later number, if none does from there on
-pub none_joined : (parent : Option ℕ) (b : List ℕ) (from next later : ℕ) → NoneBetween parent b from next → NoneBetween parent b next later → NoneBetween parent b from later
-none_joined parent b from next later before after = λ k le lt. elim (cases_lt k next) [
-  | inl less ↦ before k le less
-  | inr more ↦ after k more lt
-]
-
--- nor does one up to a row that does not, nor one from there to the next
-pub none_past : (parent : Option ℕ) (b : List ℕ) (from next later : ℕ) → NoneBetween parent b from next → ¬ WidensAt parent b next
-    → NoneBetween parent b (next + 1) later → NoneBetween parent b from later
-none_past parent b from next later before here after = λ k le lt. elim (cases_lt k next) [
-  | inl less ↦ before k le less
-  | inr more ↦ elim (cases_lt next k) [
-    | inl past ↦ after k (omega arith) lt
-    | inr same ↦ let e : next ≡ k = omega arith in subst (λ n. ¬ WidensAt parent b n) e here
-  ]
-]
-
 module _ (parent : Option ℕ) (b : List ℕ) where
+  pub tried_none : (before : ℕ) → IsLeast (IsTried parent b []) before before
+  tried_none before = least_none (IsTried parent b []) before (λ i (listed, w). absurd (cc))
+
+  pub tried_more : (xs ys : List ℕ) (o p q : ℕ) → IsLeast (IsTried parent b xs) o p → IsLeast (IsTried parent b ys) p q → IsLeast (IsTried parent b (xs ++ ys)) o q
+  tried_more xs ys o p q h k =
+      least_same (λ i. IsTried parent b xs i ⊎ IsTried parent b ys i) (IsTried parent b (xs ++ ys)) o q
+      (λ i is. elim is [
+        | inl l ↦ (listed_left xs ys i l.0, l.1)
+        | inr r ↦ (listed_right xs ys i r.0, r.1)
+      ])
+      (λ i (listed, w). elim (in_either xs ys i listed) [ inl l ↦ inl (l, w) | inr r ↦ inr (r, w) ])
+      (least_both _ _ o p q h k)
+
+  -- of one row, if it is tried
+  only_row : (on : Bool) (row i : ℕ) → IsTried parent b (if on then row ∷ [] else []) i → IsTrue on × (row ≡ i)
+  only_row true row i (listed, w) = elim (either (row == i) (is_listed [] i) listed) [
+    | inl e ↦ (refl, eqb-true row i e)
+    | inr e ↦ absurd (cc)
+  ]
+  only_row false row i (listed, w) = absurd (cc)
+
+  pub row_untried : (on : Bool) (row before : ℕ) → on ≡ false → IsLeast (IsTried parent b (if on then row ∷ [] else [])) before before
+  row_untried on row before off = least_none _ before (λ i is. let (holds, e) = only_row on row i is in absurd (cc))
+
+  pub row_late : (on : Bool) (row before : ℕ) → before ≤ row → IsLeast (IsTried parent b (if on then row ∷ [] else [])) before before
+  row_late on row before le = least_late _ before (λ i is. let (holds, e) = only_row on row i is in omega arith)
+
+  pub row_refused : (on : Bool) (row before : ℕ) → ¬ WidensAt parent b row → IsLeast (IsTried parent b (if on then row ∷ [] else [])) before before
+  row_refused on row before no_row = least_none _ before (λ i is. let (holds, e) = only_row on row i is in no_row (subst (WidensAt parent b) (sym e) is.1))
+
+  pub row_found : (on : Bool) (row before : ℕ) → on ≡ true → row < before → WidensAt parent b row → IsLeast (IsTried parent b (if on then row ∷ [] else [])) before row
+  row_found on row before holds lt w = record {
+    below = omega arith;
+    is = λ less. (subst (λ t. IsTrue (is_listed (if t then row ∷ [] else []) row)) (sym holds) (from_left (row == row) false (same_number row)), w);
+    least = λ i is. let (on_it, e) = only_row on row i is in omega arith;
+  }
+    where
+      same_number : (n : ℕ) → IsTrue (n == n)
+      same_number n = grind (arith, eqb-true)
+
+  -- behind a byte that the buffer has or lacks
+  pub tried_behind : (on : Bool) (rows : List ℕ) (before after : ℕ) → on ≡ true → IsLeast (IsTried parent b rows) before after
+      → IsLeast (IsTried parent b (if on then rows else [])) before after
+  tried_behind on rows before after holds h = subst (λ t. IsLeast (IsTried parent b (if t then rows else [])) before after) (sym holds) h
+
+  pub tried_shut : (on : Bool) (rows : List ℕ) (before : ℕ) → on ≡ false → IsLeast (IsTried parent b (if on then rows else [])) before before
+  tried_shut on rows before off = subst (λ t. IsLeast (IsTried parent b (if t then rows else [])) before before) (sym off) (tried_none before)
+
+  -- one more element
+  module _ {A : Type 0} (f : A → List ℕ) where
+    all_more : (xs : List A) (k : ℕ) (d : A) → k < length xs → all_of f (take k xs) ++ f (get_or xs k d) ≡ all_of f (take (k + 1) xs)
+    all_more [] k d lt = absurd (omega arith)
+    all_more (x ∷ xs) zero d lt = sym (append-nil (f x))
+    all_more (x ∷ xs) (suc k) d lt =
+        let e : suc k + 1 ≡ suc (k + 1) = omega arith in
+        rw e (append_assoc (f x) (all_of f (take k xs)) (f (get_or xs k d)) ∙ ap (λ l. f x ++ l) (all_more xs k d (omega arith)))
+
+    pub tried_one_more : (xs : List A) (k : ℕ) (d : A) (o p q : ℕ) → k < length xs → IsLeast (IsTried parent b (all_of f (take k xs))) o p
+        → IsLeast (IsTried parent b (f (get_or xs k d))) p q → IsLeast (IsTried parent b (all_of f (take (k + 1) xs))) o q
+    tried_one_more xs k d o p q lt h j = subst (λ l. IsLeast (IsTried parent b l) o q) (all_more xs k d lt) (tried_more _ _ o p q h j)
+
+    pub tried_all : (xs : List A) (n o p : ℕ) → length xs ≤ n → IsLeast (IsTried parent b (all_of f (take n xs))) o p → IsLeast (IsTried parent b (all_of f xs)) o p
+    tried_all xs n o p le h = subst (λ l. IsLeast (IsTried parent b (all_of f l)) o p) (take_all n xs le) h
+
+  -- the first row is found, or there is none
   read_at : (k : ℕ) (d : Further) → k < length further → Widens parent b (get_or further k d) → WidensAt parent b k
   read_at k d lt w = (lt, λ e. subst (Widens parent b) (get_or_default further k d e lt) w)
 
-  -- the first row is found, or there is none
-  pub first_found : (i : ℕ) → NoneBetween parent b 0 i → WidensAt parent b i → IsFirstOf (Widens parent b) further (Some i)
-  first_found i none here = record {
-    within = here.0;
-    here = here.1;
-    before = λ k d a lt. λ w. let within : i < length further = here.0 in none k (omega arith) (omega arith) (read_at k d (omega arith) w);
+  pub first_found : (i : ℕ) → IsLeast (WidensAt parent b) FURTHER_COUNT i → i < FURTHER_COUNT → IsFirstOf (Widens parent b) further (Some i)
+  first_found i h lt = record {
+    within = (h.is lt).0;
+    here = (h.is lt).1;
+    before = λ k d a less. λ w.
+        let within : i < length further = (h.is lt).0 in
+        let le : i ≤ k = h.least k (read_at k d (omega arith) w) in
+        omega arith;
   }
 
-  pub none_found : (n : ℕ) → length further ≤ n → NoneBetween parent b 0 n → IsFirstOf (Widens parent b) further None
-  none_found n le none = λ k d a lt. λ w. none k (omega arith) (omega arith) (read_at k d lt w)
+  pub none_found : (i : ℕ) → IsLeast (WidensAt parent b) FURTHER_COUNT i → FURTHER_COUNT ≤ i → IsFirstOf (Widens parent b) further None
+  none_found i h past = λ k d a lt. λ w.
+      let many = length-further in
+      let le : i ≤ k = h.least k (read_at k d lt w) in
+      omega arith
 
--- no row widens an answer below which none is asked
-pub widest : (index : RowIndex) (row : ℕ) (entries : List Entry) → AllAreAsked index → entries ≡ entries_at index.below.now row
-    → length entries ≡ 0 → (b : List ℕ) → IsBuffer b → IsFirstOf (Widens (Some row) b) further None
-widest index row [] all e none b bytes =
-    none_found (Some row) b (length further) (omega arith) (λ k le lt. λ w.
-    let listed = subst (λ (l : List Entry). IsTrue (is_listed (candidates b l) k)) (sym e) (all (Some row) b k bytes w) in
-    absurd (cc))
-widest index row (x ∷ entries) all e none b bytes = absurd (omega arith)
+-- the first of entries whose rows ascend that has Q
+module _ {A : Type 0} (row : A → ℕ) (Q : A → Type 0) where
+  not_earlier : (low i : ℕ) (xs : List A) → IsTrue (list_all (λ f. nat_le low (row f)) xs) → IsRowOf row Q xs i → low ≤ i
+  not_earlier low i [] all is = absurd (is)
+  not_earlier low i (x ∷ xs) all (inl is) = let le : low ≤ row x = leb-true low (row x) (both_left (nat_le low (row x)) _ all) in omega (arith, is.0)
+  not_earlier low i (x ∷ xs) all (inr is) = not_earlier low i xs (both_right (nat_le low (row x)) _ all) is
+
+  -- none of the first k has Q, but the next
+  pub rows_first : (xs : List A) (k : ℕ) (d : A) (before : ℕ) → k < length xs → IsTrue (ascends row xs) → ((j : ℕ) → j < k → ¬ Q (get_or xs j d)) → Q (get_or xs k d)
+      → IsLeast (IsRowOf row Q xs) before (min before (row (get_or xs k d)))
+  rows_first xs k d before lt up none here =
+      let low = min-le_left before (row (get_or xs k d)) in
+      let high = min-le_right before (row (get_or xs k d)) in record {
+        below = low;
+        is = λ less. let e : row (get_or xs k d) ≡ min before (row (get_or xs k d)) = by_min before (row (get_or xs k d)) less in subst (IsRowOf row Q xs) e (is_listed_at xs k d lt here);
+        least = λ i is. let le = least_listed xs k d i lt up none is in omega arith;
+      }
+    where
+      by_min : (m n : ℕ) → min m n < m → n ≡ min m n
+      by_min m n less = grind arith
+
+      is_listed_at : (ys : List A) (j : ℕ) (e : A) → j < length ys → Q (get_or ys j e) → IsRowOf row Q ys (row (get_or ys j e))
+      is_listed_at [] j e l q = absurd (omega arith)
+      is_listed_at (y ∷ ys) zero e l q = inl (refl, q)
+      is_listed_at (y ∷ ys) (suc j) e l q = inr (is_listed_at ys j e (omega arith) q)
+
+      least_listed : (ys : List A) (j : ℕ) (e : A) (i : ℕ) → j < length ys → IsTrue (ascends row ys) → ((m : ℕ) → m < j → ¬ Q (get_or ys m e)) → IsRowOf row Q ys i
+          → row (get_or ys j e) ≤ i
+      least_listed [] j e i l all no_earlier is = absurd (omega arith)
+      least_listed (y ∷ ys) zero e i l all no_earlier (inl is) = omega (arith, is.0)
+      least_listed (y ∷ ys) zero e i l all no_earlier (inr is) = not_earlier (row y) i ys (both_left (list_all (λ f. nat_le (row y) (row f)) ys) _ all) is
+      least_listed (y ∷ ys) (suc j) e i l all no_earlier (inl is) = absurd (no_earlier 0 (omega arith) is.1)
+      least_listed (y ∷ ys) (suc j) e i l all no_earlier (inr is) =
+          least_listed ys j e i (omega arith) (both_right (list_all (λ f. nat_le (row y) (row f)) ys) _ all) (λ m less. no_earlier (suc m) (omega arith)) is
+
+  pub none_more : (xs : List A) (k : ℕ) (e : A) → k < length xs → ((j : ℕ) (d : A) → j < k → ¬ Q (get_or xs j d)) → ¬ Q (get_or xs k e)
+      → (j : ℕ) (d : A) → j < k + 1 → ¬ Q (get_or xs j d)
+  none_more xs k e lt before here j d less = elim (cases_lt j k) [
+    | inl l ↦ before j d l
+    | inr l ↦
+        let same : k ≡ j = omega arith in
+        subst (λ n. ¬ Q (get_or xs n d)) same (subst (λ x. ¬ Q x) (get_or_default xs k e d lt) here)
+  ]
+
+  -- or none at all
+  pub rows_past : (xs : List A) (d : A) (before : ℕ) → ((j : ℕ) → j < length xs → ¬ Q (get_or xs j d)) → IsLeast (IsRowOf row Q xs) before before
+  rows_past xs d before none = least_none (IsRowOf row Q xs) before (nowhere xs d none)
+    where
+      nowhere : (ys : List A) (e : A) → ((j : ℕ) → j < length ys → ¬ Q (get_or ys j e)) → (i : ℕ) → ¬ IsRowOf row Q ys i
+      nowhere [] e no_one i is = is
+      nowhere (y ∷ ys) e no_one i (inl is) = no_one 0 (omega arith) is.1
+      nowhere (y ∷ ys) e no_one i (inr is) = nowhere ys e (λ j less. no_one (suc j) (omega arith)) i is
+
+-- entries with what is the same
+pub rows_same : {A : Type 0} (row : A → ℕ) (P Q : A → Type 0) → ((e : A) → P e → Q e) → (xs : List A) (i : ℕ) → IsRowOf row P xs i → IsRowOf row Q xs i
+rows_same row P Q to [] i h = h
+rows_same row P Q to (x ∷ xs) i (inl h) = inl (h.0, to x h.1)
+rows_same row P Q to (x ∷ xs) i (inr h) = inr (rows_same row P Q to xs i h)
+
+pub no_rows : {A : Type 0} (row : A → ℕ) (Q : A → Type 0) → ((e : A) → ¬ Q e) → (xs : List A) (i : ℕ) → ¬ IsRowOf row Q xs i
+no_rows row Q none [] i h = h
+no_rows row Q none (x ∷ xs) i (inl h) = none x h.1
+no_rows row Q none (x ∷ xs) i (inr h) = no_rows row Q none xs i h
+
+-- by what is known of each entry in its place
+pub same_listed_rows : {A : Type 0} (row : A → ℕ) (P Q : A → Type 0) (xs : List A) → ((k : ℕ) (d : A) → k < length xs → P (get_or xs k d) → Q (get_or xs k d)) → (i : ℕ)
+    → IsRowOf row P xs i → IsRowOf row Q xs i
+same_listed_rows row P Q [] to i h = h
+same_listed_rows row P Q (x ∷ xs) to i (inl h) = inl (h.0, to 0 x (omega arith) h.1)
+same_listed_rows row P Q (x ∷ xs) to i (inr h) = inr (same_listed_rows row P Q xs (λ k d lt. to (suc k) d (omega arith)) i h)
+
+pub no_listed_rows : {A : Type 0} (row : A → ℕ) (Q : A → Type 0) (xs : List A) → ((k : ℕ) (d : A) → k < length xs → ¬ Q (get_or xs k d)) → (i : ℕ) → ¬ IsRowOf row Q xs i
+no_listed_rows row Q [] none i h = h
+no_listed_rows row Q (x ∷ xs) none i (inl h) = none 0 x (omega arith) h.1
+no_listed_rows row Q (x ∷ xs) none i (inr h) = no_listed_rows row Q xs (λ k d lt. none (suc k) d (omega arith)) i h

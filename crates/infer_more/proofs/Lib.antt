@@ -7,6 +7,7 @@ pub mod FitLemmas
 pub mod OutlineLemmas
 pub mod PieceLemmas
 pub mod LeastLemmas
+pub mod FoundLemmas
 pub mod TableLemmas
 pub mod ShownLemmas
 pub mod RowLemmas

@@ -1,21 +1,18 @@
--- What fits an alternative has one of its lines, so that a row which widens an answer is asked.
-use Rattle.std.proofs.Common.{◌≡◌, ◌↔◌, ℕ, zero, suc, ◌+◌, ◌<◌, ◌≤◌, ◌⊎◌, inl, inr, Bool, true, false, IsTrue, List, [], ◌∷◌, ◌++◌, Option, None, Some, length, sym, ◌∙◌, subst, arith, refl, nat_le, nat_lt, codes}
-use Rattle.std.specs.Prelude.{◌-◌, ◌&&◌, ◌||◌, replicate, slice_get, slice_index}
-use Rattle.std.specs.List.{list_all, list_any}
-use Rattle.std.specs.Option.{option_map_or}
+-- What fits an alternative has one of its lines.
+use Rattle.std.proofs.Common.{◌≡◌, ◌↔◌, ℕ, zero, suc, ◌+◌, ◌<◌, ◌≤◌, inl, inr, Bool, true, false, IsTrue, List, [], ◌∷◌, ◌++◌, length, sym, ◌∙◌, subst, arith, refl, nat_le, nat_lt, codes}
+use Rattle.std.specs.Prelude.{◌-◌, replicate, slice_index}
 use Rattle.std.proofs.lemmas.Bool.{cases_lt, le-leb, lt-ltb}
 use Rattle.std.proofs.lemmas.Bool.Decides.{nat_tests}
 use Rattle.std.proofs.lemmas.List.{get_or-replicate, length-replicate}
 use Rattle.std.proofs.lemmas.Grind.{get_or_default_zero}
-use Rattle.std.proofs.lemmas.Option.{slice_get_cases}
 use Rattle.infer_deep.specs.Find.{OccursAt}
 use Rattle.infer_deep.specs.Office.{zip_header}
-use Rattle.infer_inside.specs.Elf.{HasOwnTable, IsSharedObject}
+use Rattle.infer_inside.specs.Elf.{HasOwnTable}
 use Rattle.infer_deep.specs.Numbers.{le16}
 use Rattle.infer_inside.specs.Numbers.{be16}
 use Rattle.infer_inside.specs.Subtitles.{IsDigit, IsSubRip}
 use Rattle.infer_inside.specs.Tar.{IsField, IsOctal}
-use Rattle.infer_inside.specs.Text.{IsBinary, IsText}
+use Rattle.infer_inside.specs.Text.{IsText}
 use Rattle.infer_inside.specs.Tiff.{BeginsTiff}
 use Rattle.infer_inside.specs.Zip.{HasFirstName, MayBeginPackage}
 use Rattle.infer_inside.proofs.GrowthLemmas.{there}
@@ -23,19 +20,13 @@ use Rattle.infer_sig.specs.Signature as fixed
 use Rattle.infer_sig.specs.Signature.{at_least, Part, text, byte, all_but, any_of, between, accepts, allows, fits, has_part, stands}
 use Rattle.infer_sig.specs.Places.{StandsByPlace}
 use Rattle.infer.specs.Buffer.{IsBuffer}
-use Rattle.infer.specs.Walks.{is_listed}
-use Rattle.infer_more.specs.Index.{AllAreAsked, EachIsAsked, asked, is_asked, is_below_asked, is_free_asked}
 use Rattle.infer_more.specs.Outline.{counted, counted_for, digit_behind, digits_behind, json_outline, lines, markup_lines, named, outline}
-use Rattle.infer_more.specs.Row.{Further}
 use Rattle.infer_more.specs.Signature.{Accepted, Alternative, Fits, IsProgramAmong, animated, binary_bytes, bytes, class_id, dbase, directory_tag, first_entry_ends_in, first_entry_has_extra, first_entry_is, package_with, plain_text, png_header, shared_object, subrip, tar_checksum, program, root, root_with, json_lines, json_text}
 use Rattle.infer_inside.specs.JsonStates.{IsBracket}
 use Rattle.infer_inside.specs.Laws.{BeginsJson, BeginsMarkup, Leads}
-use Rattle.infer_more.specs.Laws.{is_plain}
-use Rattle.infer_more.specs.Table.{further}
-use Rattle.infer_more.specs.Wider.{Widens}
-use Rattle.infer_more.specs.declared.index.RowIndex.{RowIndex}
+use Rattle.infer_more.specs.Index.{is_plain}
 use Rattle.infer_more.proofs.NamedLemmas.{both}
-use Rattle.infer_more.proofs.IndexLemmas.{asked_of, both_left, both_right, either, from_left, from_right}
+use Rattle.infer_more.proofs.IndexLemmas.{either, from_left, from_right}
 
 module _ (by_place : (place : ℕ) (t buf : List ℕ) → IsTrue (stands place t buf) ↔ StandsByPlace place t buf) (leads : Leads) (b : List ℕ) where
   occurs : (p : ℕ) (t : List ℕ) → OccursAt b t p → IsTrue (has_part b (text p t))
@@ -281,33 +272,8 @@ past [] i le = omega arith
 past (x ∷ b) zero le = absurd (omega arith)
 past (x ∷ b) (suc i) le = past b i (omega arith)
 
-small_bytes : (b : List ℕ) → IsBuffer b → (i : ℕ) → slice_index b i < 256
+pub small_bytes : (b : List ℕ) → IsBuffer b → (i : ℕ) → slice_index b i < 256
 small_bytes b all i = elim (cases_lt i (length b)) [ inl lt ↦ all i 0 lt | inr le ↦ past b i le ]
 
 pub buffer_of : (b : List ℕ) → ((i : ℕ) → slice_index b i < 256) → IsBuffer b
 buffer_of b h k d lt = rw (get_or_default_zero b k d lt) (h k)
-
--- a row is asked by its parent, or without one
-module _ (index : RowIndex) (each : EachIsAsked index) (i : ℕ) (r : Further) (found : slice_get further i ≡ Some r) (lt : i < length further) where
-  asks_below : IsTrue (is_below_asked index.below.now i r.parent r)
-  asks_below = subst (λ o. IsTrue (option_map_or (λ (x : Further). is_below_asked index.below.now i x.parent x) o true)) found (each.below.is_asked i lt)
-
-  asks_free : IsTrue (is_free_asked index.parentless.now i r.parent r)
-  asks_free = subst (λ o. IsTrue (option_map_or (λ (x : Further). is_free_asked index.parentless.now i x.parent x) o true)) found (each.parentless.is_asked i lt)
-
-  asks_by : (p : Option ℕ) → IsTrue (is_below_asked index.below.now i p r) → IsTrue (is_free_asked index.parentless.now i p r) → IsTrue (list_all (is_asked index p i) (outline r.signature))
-  asks_by None below free = free
-  asks_by (Some parent) below free = below
-
-  asks : IsTrue (list_all (is_asked index r.parent i) (outline r.signature))
-  asks = asks_by r.parent asks_below asks_free
-
--- every row that widens an answer is asked
-pub all_asked : ((place : ℕ) (t buf : List ℕ) → IsTrue (stands place t buf) ↔ StandsByPlace place t buf) → Leads → (index : RowIndex) → EachIsAsked index → AllAreAsked index
-all_asked by_place leads index each parent b i all (lt, at) = elim (slice_get_cases further i).1 [
-  | inl (r, within, found, same) ↦
-      let holds : Widens parent b r = subst (Widens parent b) same (at r) in
-      subst (λ p. IsTrue (is_listed (asked index p b) i)) holds.0
-      (asked_of by_place index b i r.parent (outline r.signature) (asks index each i r found lt) (has_outline by_place leads b (small_bytes b all) r.signature holds.1))
-  | inr (past, none) ↦ absurd (omega arith)
-]

@@ -14,7 +14,7 @@ use Rattle.infer.specs.Leads.{Leads}
 use Rattle.infer.specs.Row.{Accepts}
 use Rattle.infer.specs.Table as built_in
 use Rattle.infer.specs.declared.table.rows.TheConstants.{ROW_COUNT}
-use Rattle.infer.proofs.KnownLemmas.{Known, proved, refuted, unknown, at_most, both, each_before, is, is_proved, negated, proof_of, same, takes, ◌>>=◌}
+use Rattle.infer.proofs.KnownLemmas.{Known, proved, refuted, unknown, at_most, both, each_before, is_proved, negated, proof_of, same, takes, ◌>>=◌}
 use Rattle.infer.proofs.OrderLemmas.{known_first, some_row}
 use Rattle.infer.proofs.PlaceLemmas.{ByPlace}
 use Rattle.infer.proofs.TestLemmas.{NoneRefused, passed}

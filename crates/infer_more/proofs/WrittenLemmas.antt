@@ -1,27 +1,23 @@
 -- What is written of the sample of a row, and which rows have none.
-use Rattle.std.proofs.Common.{◌↔◌, nat_lt, IfSome, MatchBool, MatchOption, is_some, option_and_then, ◌≡◌, ◌≢◌, ◌⊎◌, ◌≤◌, ◌<◌, ◌+◌, ◌-◌, ℕ, Bool, true, false, IsTrue, inl, inr, List, [], ◌∷◌, ◌++◌, Option, None, Some, ap, drop, length, length-append, length-drop, map, max, option_map, slice_get, subst, sym, take, unwrap_or, ◌∙◌, arith, refl, nat_le}
+use Rattle.std.proofs.Common.{◌↔◌, IfSome, is_some, option_and_then, ◌≡◌, ◌≢◌, ◌⊎◌, ◌≤◌, ◌<◌, ◌+◌, ◌-◌, ℕ, Bool, true, false, IsTrue, inl, inr, List, [], ◌∷◌, ◌++◌, Option, None, Some, ap, drop, length, length-append, length-drop, max, option_map, slice_get, subst, sym, take, unwrap_or, ◌∙◌, arith, refl, nat_le}
 use Rattle.std.specs.Prelude.{◌==◌, ◌||◌, if◌then◌else◌}
 use Rattle.std.specs.List.{HoldsAt, list_all}
 use Rattle.std.specs.Option.{option_map_or}
 use Rattle.std.proofs.Math.Seq.{drop-append-add, take-append-add}
-use Rattle.std.proofs.lemmas.Bool.{leb-true, lt-ltb, ltb-true}
+use Rattle.std.proofs.lemmas.Bool.{leb-true}
 use Rattle.std.proofs.lemmas.Bool.Decides.{nat_tests}
 use Rattle.std.proofs.lemmas.List.{drop-replicate, length-replicate, length-take-le, take-replicate, take_at}
 use Rattle.std.proofs.lemmas.Option.{get_or_from_slice_get, slice_get-map, slice_get_cases, slice_get_past, slice_get_within}
 use Rattle.infer_sig.specs.Signature.{Part, text, any_text, byte}
 use Rattle.infer.specs.BuiltIn.{BuiltIn}
-use Rattle.infer.specs.First.{IsFirst, IsFirstOf}
-use Rattle.infer.specs.Row.{Accepts, Row}
+use Rattle.infer.specs.Row.{Row}
 use Rattle.infer.specs.Samples.{HoldsSample, chosen, put, sample_of, with_part, with_parts, zeros}
 use Rattle.infer.specs.Table as built_in
-use Rattle.infer.specs.Walks.{RowHas}
 use Rattle.infer.specs.declared.table.rows.TheConstants.{DLL, EPUB_ARCHIVE, ROW_COUNT}
-use Rattle.infer.proofs.CandidateLemmas.{read_has}
 use Rattle.infer.proofs.TableLemmas.{length-table}
 use Rattle.infer_more.specs.Listed.{alternative_listed, row_listed, signature_listed}
 use Rattle.infer_more.specs.Row.{Further, is_inside}
 use Rattle.infer_more.specs.Table.{further}
-use Rattle.infer_more.specs.Wider.{AcceptsAt, IsWider, Widens, wider}
 use Rattle.infer_sig.specs.Signature as fixed
 use Rattle.infer_more.specs.Samples.{AllReach, HasNoSample, Reaches, built_in_sample, further_sample, has_room, has_room_after, joined_sample, least_of, model, parent_sample, parts_of, signature_model, written}
 use Rattle.infer_more.specs.declared.samples.TheConstants.{SAMPLE_SIZE}

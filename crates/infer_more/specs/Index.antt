@@ -1,21 +1,33 @@
--- Which further rows are asked, and why no other can widen an answer.
-use Rattle.std.specs.Prelude.{◌-◌, ◌<◌, ◌≤◌, ◌==◌, ◌&&◌, ◌||◌, ℕ, suc, Bool, true, false, IsTrue, List, [], ◌∷◌, ◌++◌, Option, None, Some, if◌then◌else◌, length, nat_le, nat_lt, slice_get, slice_index}
+-- Which further rows are tried or told, and that they are all which can widen an answer.
+use Rattle.std.specs.Prelude.{◌≡◌, ◌⊎◌, ◌↔◌, ◌-◌, ◌<◌, ◌≤◌, ◌==◌, ◌&&◌, ◌||◌, ℕ, suc, Bool, true, false, All, IsTrue, List, [], ◌∷◌, ◌++◌, Option, None, Some, if◌then◌else◌, length, nat_le, nat_lt, slice_get, slice_index}
 use Rattle.std.specs.List.{list_all, list_any, range_with_len}
 use Rattle.std.specs.Option.{option_map_or}
 use denote.Ref.{Bor}
-use Rattle.infer_sig.specs.Signature.{Alternative, at_least, any_of, between, all_but, Part, text, any_text, byte, allows}
+use Rattle.infer_inside.specs.Json.{IsJson, IsJsonLines}
+use Rattle.infer_inside.specs.Markup.{HasInTag, IsRootElement}
+use Rattle.infer_inside.specs.Script.{IsProgram}
+use Rattle.infer_inside.specs.Text.{IsText}
+use Rattle.infer_inside.specs.Zip.{IsPackageWith, applications, IsOneOf}
+use Rattle.infer_sig.specs.Signature as fixed
+use Rattle.infer_sig.specs.Signature.{at_least, any_of, between, all_but, Part, text, any_text, byte, allows}
 use Rattle.infer.specs.Buffer.{IsBuffer}
 use Rattle.infer.specs.Walks.{is_listed}
-use Rattle.infer_more.specs.Outline.{outline}
+use Rattle.infer_more.specs.Outline.{lines}
 use Rattle.infer_more.specs.Row.{Further}
+use Rattle.infer_more.specs.Signature.{Alternative, json_lines, json_text, package_with, plain_text, program, root, root_with}
 use Rattle.infer_more.specs.Table.{further}
 use Rattle.infer_more.specs.Wider.{WidensAt}
+use Rattle.infer_more.specs.declared.index.Below as below
+use Rattle.infer_more.specs.declared.index.Below.TheVariants.{Entries, Nothing, Packages, Programs, Roots}
 use Rattle.infer_more.specs.declared.index.Entry.{Entry}
 use Rattle.infer_more.specs.declared.index.Gate.{Gate}
 use Rattle.infer_more.specs.declared.index.Guard.{Guard}
+use Rattle.infer_more.specs.declared.index.Named.{Named}
 use Rattle.infer_more.specs.declared.index.Parentless.{Parentless}
 use Rattle.infer_more.specs.declared.index.Range.{Range}
+use Rattle.infer_more.specs.declared.index.Rooted.{Rooted}
 use Rattle.infer_more.specs.declared.index.RowIndex.{RowIndex}
+use Rattle.infer_more.specs.declared.index.Texts.{Texts}
 
 -- the buffer has the byte at the place
 abbrev pub has_byte : List ℕ → ℕ → ℕ → Bool
@@ -55,22 +67,13 @@ within b r = if has_between b r.place r.low r.high then r.row ∷ [] else []
 abbrev pub ranged : List ℕ → List Range → List ℕ
 ranged b ranges = all_of (within b) ranges
 
--- the buffer has the entry's byte, and its row is not before `from`
-abbrev pub is_candidate : List ℕ → ℕ → Entry → Bool
-is_candidate b from e = has_byte b e.place e.byte && nat_le from e.row
-
--- the rows of the entries ascend
-abbrev pub ascends : List Entry → Bool
-ascends [] = true
-ascends (e ∷ entries) = list_all (λ f. nat_le e.row f.row) entries && ascends entries
-
--- behind every guard
-abbrev pub all_guarded_ascend : List Guard → Bool
-all_guarded_ascend guards = list_all (λ g. ascends g.entries.now) guards
-
 -- the entries that the code lists at i
 abbrev pub entries_at : List (Bor (List Entry)) → ℕ → List Entry
 entries_at lists i = option_map_or (λ entries. entries.now) (slice_get lists i) []
+
+-- how the rows below built-in row i are told
+abbrev pub below_at : List below.Below → ℕ → below.Below
+below_at ways i = option_map_or (λ way. way) (slice_get ways i) Nothing
 
 module _ (index : Parentless) where
   -- the entries that are listed by the first byte
@@ -78,14 +81,69 @@ module _ (index : Parentless) where
   begun [] = []
   begun (x ∷ rest) = entries_at index.first.now x
 
-  -- the rows that are asked of a buffer without a built-in answer
-  abbrev pub asked_parentless : List ℕ → List ℕ
-  asked_parentless b = candidates b (begun b) ++ (guarded b index.guards.now ++ (gated b index.gate ++ ranged b index.ranges.now))
+  -- the rows that are tried of a buffer without a built-in answer
+  abbrev pub tried_parentless : List ℕ → List ℕ
+  tried_parentless b = candidates b (begun b) ++ (guarded b index.guards.now ++ (gated b index.gate ++ ranged b index.ranges.now))
 
--- the rows that are asked of a buffer with this built-in answer
-abbrev pub asked : RowIndex → Option ℕ → List ℕ → List ℕ
-asked index (Some parent) b = candidates b (entries_at index.below.now parent)
-asked index None b = asked_parentless index.parentless.now b
+-- `after` is the least of `before` and of the numbers that have P
+pub record IsLeast (P : ℕ → Type 0) (before after : ℕ) : Type 0 where
+  pub below : after ≤ before
+  pub is : after < before → P after
+  pub least : (i : ℕ) → P i → after ≤ i
+
+-- row i is one of those that are tried, and widens the answer
+abbrev pub IsTried : Option ℕ → List ℕ → List ℕ → ℕ → Type 0
+IsTried parent b rows i = IsTrue (is_listed rows i) × WidensAt parent b i
+
+-- row i is that of an entry that has Q
+abbrev pub IsRowOf : {A : Type 0} → (A → ℕ) → (A → Type 0) → List A → ℕ → Type 0
+IsRowOf row Q [] i = ⊥
+IsRowOf row Q (e ∷ entries) i = ((row e ≡ i) × Q e) ⊎ IsRowOf row Q entries i
+
+-- the rows of the entries ascend
+abbrev pub ascends : {A : Type 0} → (A → ℕ) → List A → Bool
+ascends row [] = true
+ascends row (e ∷ entries) = list_all (λ f. nat_le (row e) (row f)) entries && ascends row entries
+
+abbrev pub named_row : Named → ℕ
+named_row e = e.row
+
+abbrev pub rooted_row : Rooted → ℕ
+rooted_row e = e.row
+
+-- row i is listed with a name that has P
+abbrev pub IsNamed : (List ℕ → Type 0) → List Named → ℕ → Type 0
+IsNamed P names i = IsRowOf named_row (λ e. P e.name.now) names i
+
+-- the text, if there is one, stands in a tag of which this is the rest
+abbrev pub HasTagText : List ℕ → Option (Bor (List ℕ)) → Type 0
+HasTagText rest None = Unit {0}
+HasTagText rest (Some t) = HasInTag t.now rest
+
+-- row i is listed with the name of that root element and a text in its tag
+abbrev pub IsRootedBy : List ℕ → List ℕ → List Rooted → ℕ → Type 0
+IsRootedBy name rest roots i = IsRowOf rooted_row (λ e. (e.name.now ≡ name) × HasTagText rest e.text) roots i
+
+-- row i is listed with the root element of the buffer
+abbrev pub IsRooted : List ℕ → List Rooted → ℕ → Type 0
+IsRooted b roots i = (name rest : List ℕ) × IsRootElement name rest b × IsRootedBy name rest roots i
+
+-- row i is found below the built-in row: it is tried and widens the answer, or told by a name
+abbrev pub IsFoundBelow : below.Below → ℕ → List ℕ → ℕ → Type 0
+IsFoundBelow Nothing parent b i = ⊥
+IsFoundBelow (Entries entries) parent b i = IsTried (Some parent) b (candidates b entries.now) i
+IsFoundBelow (Programs names) parent b i = IsNamed (λ name. IsProgram name b) names.now i
+IsFoundBelow (Roots roots) parent b i = IsRooted b roots.now i
+IsFoundBelow (Packages entries folders) parent b i =
+    IsTried (Some parent) b (candidates b entries.now) i ⊎ IsNamed (λ folder. IsPackageWith folder b) folders.now i
+
+-- row i is that of the text that the buffer is
+abbrev pub IsTextRow : Texts → List ℕ → ℕ → Type 0
+IsTextRow t b i = ((t.lines ≡ i) × IsJsonLines b) ⊎ ((t.json ≡ i) × IsJson b) ⊎ ((t.plain ≡ i) × IsText b)
+
+-- row i is found without a built-in answer
+abbrev pub IsFoundFree : Parentless → List ℕ → ℕ → Type 0
+IsFoundFree index b i = IsTried None b (tried_parentless index b) i ⊎ IsTextRow index.texts b i
 
 -- the part settles the place, and allows there only bytes that pass the test
 abbrev pub is_settled : (ℕ → Bool) → ℕ → Part → Bool
@@ -96,100 +154,200 @@ is_settled test place (byte p (between low high)) = p == place && list_all test 
 is_settled test place (byte p (all_but x)) = false
 
 -- some part of the alternative does
-abbrev pub is_tested : (ℕ → Bool) → ℕ → Alternative → Bool
+abbrev pub is_tested : (ℕ → Bool) → ℕ → fixed.Alternative → Bool
 is_tested test place (at_least n parts) = list_any (is_settled test place) parts
-
--- in every list, and behind every guard
-abbrev pub all_below_ascend : List (Bor (List Entry)) → Bool
-all_below_ascend below = list_all (λ entries. ascends entries.now) below
-
-abbrev pub all_parentless_ascend : Parentless → Bool
-all_parentless_ascend index =
-    list_all (λ entries. ascends entries.now) index.first.now && (all_guarded_ascend index.guards.now && all_guarded_ascend index.gate.guards.now)
-
-abbrev pub all_ascend : RowIndex → Bool
-all_ascend index = all_below_ascend index.below.now && all_parentless_ascend index.parentless.now
 
 -- row i has an entry with that byte at the place
 abbrev pub has_entry : ℕ → List Entry → ℕ → ℕ → Bool
 has_entry i entries place x = list_any (λ e. e.row == i && (e.place == place && e.byte == x)) entries
 
 -- at some place of the entries the alternative allows only bytes that row i has an entry for
-abbrev pub is_covered : ℕ → Alternative → List Entry → Bool
+abbrev pub is_covered : ℕ → fixed.Alternative → List Entry → Bool
 is_covered i a entries = list_any (λ e. is_tested (has_entry i entries e.place) e.place a) entries
 
 -- with that byte at the place the entries have row i
-abbrev pub is_met : ℕ → Alternative → List Entry → ℕ → ℕ → Bool
+abbrev pub is_met : ℕ → fixed.Alternative → List Entry → ℕ → ℕ → Bool
 is_met i a entries place x = has_entry i entries place x || is_covered i a entries
 
 -- some guard has that byte at the place, and its entries have row i then
-abbrev pub has_guard : ℕ → Alternative → List Guard → ℕ → ℕ → Bool
+abbrev pub has_guard : ℕ → fixed.Alternative → List Guard → ℕ → ℕ → Bool
 has_guard i a guards place x = list_any (λ g. g.place == place && (g.byte == x && is_met i a g.entries.now place x)) guards
 
 -- at some place of the guards the alternative allows only bytes that row i has a guard for
-abbrev pub is_guarded : ℕ → Alternative → List Guard → Bool
+abbrev pub is_guarded : ℕ → fixed.Alternative → List Guard → Bool
 is_guarded i a guards = list_any (λ g. is_tested (has_guard i a guards g.place) g.place a) guards
 
 -- the alternative allows only the gate's byte at its place, and the guards behind it have row i
-abbrev pub is_gated : ℕ → Alternative → Gate → Bool
+abbrev pub is_gated : ℕ → fixed.Alternative → Gate → Bool
 is_gated i a g = is_tested (λ x. x == g.byte) g.place a && is_guarded i a g.guards.now
 
 -- the range of row i has all bytes that the alternative allows at its place
-abbrev pub is_within : ℕ → Alternative → Range → Bool
+abbrev pub is_within : ℕ → fixed.Alternative → Range → Bool
 is_within i a r = r.row == i && is_tested (allows (between r.low r.high)) r.place a
 
-abbrev pub is_ranged : ℕ → Alternative → List Range → Bool
+abbrev pub is_ranged : ℕ → fixed.Alternative → List Range → Bool
 is_ranged i a ranges = list_any (is_within i a) ranges
 
--- each buffer without a built-in answer that fits the alternative has row i among the rows that are asked of it
-abbrev pub is_asked_parentless : Parentless → ℕ → Alternative → Bool
-is_asked_parentless index i a =
+-- each buffer without a built-in answer that has such bytes has row i among the rows that are tried of it
+abbrev pub is_tried_parentless : Parentless → ℕ → fixed.Alternative → Bool
+is_tried_parentless index i a =
     is_tested (λ x. is_met i a (entries_at index.first.now x) 0 x) 0 a
     || (is_guarded i a index.guards.now || (is_gated i a index.gate || is_ranged i a index.ranges.now))
 
--- and each with this answer
-abbrev pub is_asked : RowIndex → Option ℕ → ℕ → Alternative → Bool
-is_asked index (Some parent) i a = is_covered i a (entries_at index.below.now parent)
-is_asked index None i a = is_asked_parentless index.parentless.now i a
+-- the same bytes
+abbrev pub same : List ℕ → List ℕ → Bool
+same [] [] = true
+same [] (y ∷ ys) = false
+same (x ∷ xs) [] = false
+same (x ∷ xs) (y ∷ ys) = x == y && same xs ys
 
--- a row with this parent, if it has one, is asked of each buffer that its signature accepts
-abbrev pub is_below_asked : List (Bor (List Entry)) → ℕ → Option ℕ → Further → Bool
-is_below_asked below i None r = true
-is_below_asked below i (Some parent) r = list_all (λ a. is_covered i a (entries_at below parent)) (outline r.signature)
+-- row i is listed with the name, or with the root
+abbrev pub has_named : ℕ → List Named → List ℕ → Bool
+has_named i names name = list_any (λ e. e.row == i && same e.name.now name) names
+
+abbrev pub same_text : Option (Bor (List ℕ)) → Option (List ℕ) → Bool
+same_text None None = true
+same_text None (Some t) = false
+same_text (Some s) None = false
+same_text (Some s) (Some t) = same s.now t
+
+abbrev pub has_rooted : ℕ → List Rooted → List ℕ → Option (List ℕ) → Bool
+has_rooted i roots name t = list_any (λ e. e.row == i && (same e.name.now name && same_text e.text t)) roots
+
+-- each buffer that fits the alternative has row i among those that the entries try
+abbrev pub is_tried_below : ℕ → List Entry → Alternative → Bool
+is_tried_below i entries a = list_all (λ l. is_covered i l entries) (lines a)
+
+-- or is told row i by a name
+abbrev pub is_in_programs : ℕ → List Named → Alternative → Bool
+is_in_programs i names (program others) = list_all (has_named i names) others
+is_in_programs i names other = false
+
+abbrev pub is_in_roots : ℕ → List Rooted → Alternative → Bool
+is_in_roots i roots (root name) = has_rooted i roots name None
+is_in_roots i roots (root_with name t) = has_rooted i roots name (Some t)
+is_in_roots i roots other = false
+
+abbrev pub is_in_folders : ℕ → List Named → Alternative → Bool
+is_in_folders i folders (package_with folder) = has_named i folders folder
+is_in_folders i folders other = false
+
+abbrev pub is_found_below : below.Below → ℕ → Alternative → Bool
+is_found_below Nothing i a = false
+is_found_below (Entries entries) i a = is_tried_below i entries.now a
+is_found_below (Programs names) i a = is_in_programs i names.now a
+is_found_below (Roots roots) i a = is_in_roots i roots.now a
+is_found_below (Packages entries folders) i a = is_in_folders i folders.now a || is_tried_below i entries.now a
+
+-- row i is that of the text
+abbrev pub is_text_row : Texts → ℕ → Alternative → Bool
+is_text_row t i json_lines = t.lines == i
+is_text_row t i json_text = t.json == i
+is_text_row t i plain_text = t.plain == i
+is_text_row t i other = false
+
+-- or it is tried
+abbrev pub is_found_free : Parentless → ℕ → Alternative → Bool
+is_found_free index i a = is_text_row index.texts i a || list_all (is_tried_parentless index i) (lines a)
+
+-- a row with a parent, if it has one, is found of each buffer that its signature accepts
+abbrev pub is_row_below : List below.Below → ℕ → Option ℕ → Further → Bool
+is_row_below ways i None r = true
+is_row_below ways i (Some parent) r = list_all (is_found_below (below_at ways parent) i) r.signature
 
 -- and so is one without
-abbrev pub is_free_asked : Parentless → ℕ → Option ℕ → Further → Bool
-is_free_asked index i None r = list_all (is_asked_parentless index i) (outline r.signature)
-is_free_asked index i (Some parent) r = true
+abbrev pub is_row_free : Parentless → ℕ → Option ℕ → Further → Bool
+is_row_free index i None r = list_all (is_found_free index i) r.signature
+is_row_free index i (Some parent) r = true
 
 -- row i is so, if there is such a row
-abbrev pub is_row_below_asked : List (Bor (List Entry)) → ℕ → Bool
-is_row_below_asked below i = option_map_or (λ r. is_below_asked below i r.parent r) (slice_get further i) true
+abbrev pub is_row_below_found : List below.Below → ℕ → Bool
+is_row_below_found ways i = option_map_or (λ r. is_row_below ways i r.parent r) (slice_get further i) true
 
-abbrev pub is_row_free_asked : Parentless → ℕ → Bool
-is_row_free_asked index i = option_map_or (λ r. is_free_asked index i r.parent r) (slice_get further i) true
+abbrev pub is_row_free_found : Parentless → ℕ → Bool
+is_row_free_found index i = option_map_or (λ r. is_row_free index i r.parent r) (slice_get further i) true
 
--- and so is each further row
-pub record EachBelowIsAsked (below : List (Bor (List Entry))) : Type 0 where
-  pub is_asked : (i : ℕ) → i < length further → IsTrue (is_row_below_asked below i)
+-- row i has that parent, and an alternative that passes the test
+abbrev pub is_child : Option ℕ → Option ℕ → Bool
+is_child None None = true
+is_child None (Some other) = false
+is_child (Some parent) None = false
+is_child (Some parent) (Some other) = parent == other
 
-pub record EachParentlessIsAsked (index : Parentless) : Type 0 where
-  pub is_asked : (i : ℕ) → i < length further → IsTrue (is_row_free_asked index i)
+abbrev pub is_row_with : Option ℕ → (Alternative → Bool) → ℕ → Bool
+is_row_with parent test i = option_map_or (λ r. is_child parent r.parent && list_any test r.signature) (slice_get further i) false
 
-pub record EachIsAsked (index : RowIndex) : Type 0 where
-  pub below : EachBelowIsAsked index.below.now
-  pub parentless : EachParentlessIsAsked index.parentless.now
+-- the alternative asks for the program, the root, the folder
+abbrev pub asks_program : List ℕ → Alternative → Bool
+asks_program name (program names) = list_any (same name) names
+asks_program name other = false
 
--- every row that widens an answer is asked
-abbrev pub AllAreAsked : RowIndex → Type 0
-AllAreAsked index = (parent : Option ℕ) (b : List ℕ) (i : ℕ) → IsBuffer b → WidensAt parent b i → IsTrue (is_listed (asked index parent b) i)
+abbrev pub asks_root : List ℕ → Option (Bor (List ℕ)) → Alternative → Bool
+asks_root name t (root own) = same name own && same_text t None
+asks_root name t (root_with own u) = same name own && same_text t (Some u)
+asks_root name t other = false
 
--- `after` is not above `before` nor above any of the numbers that is at least `from`, and itself at least that if `before` is
-pub record IsNext (numbers : List ℕ) (from before after : ℕ) : Type 0 where
-  pub kept : from ≤ before → from ≤ after
-  pub below : after ≤ before
-  pub least : (i : ℕ) → IsTrue (is_listed numbers i) → from ≤ i → after ≤ i
+abbrev pub asks_folder : List ℕ → Alternative → Bool
+asks_folder folder (package_with own) = same folder own
+asks_folder folder other = false
 
--- no further row from the first number on and before the second one widens the answer
-abbrev pub NoneBetween : Option ℕ → List ℕ → ℕ → ℕ → Type 0
-NoneBetween parent b from to = (k : ℕ) → from ≤ k → k < to → ¬ WidensAt parent b k
+-- it asks for JSON lines, for JSON, for plain text
+abbrev pub is_lines : Alternative → Bool
+is_lines json_lines = true
+is_lines other = false
+
+abbrev pub is_json : Alternative → Bool
+is_json json_text = true
+is_json other = false
+
+abbrev pub is_plain : Alternative → Bool
+is_plain plain_text = true
+is_plain other = false
+
+-- the folder is one of an application
+abbrev pub is_application : List ℕ → Bool
+is_application folder = list_any (same folder) applications
+
+-- each of the folders is
+abbrev pub AllApplications : List Named → Type 0
+AllApplications folders = All (λ (e : Named). IsOneOf e.name.now applications) folders
+
+-- each name below that row is one that the row which is told by it asks for, and the rows ascend
+abbrev pub is_true_below : ℕ → below.Below → Bool
+is_true_below parent (Programs names) =
+    ascends named_row names.now && list_all (λ e. is_row_with (Some parent) (asks_program e.name.now) e.row) names.now
+is_true_below parent (Roots roots) =
+    ascends rooted_row roots.now && list_all (λ e. is_row_with (Some parent) (asks_root e.name.now e.text) e.row) roots.now
+is_true_below parent (Packages entries folders) =
+    ascends named_row folders.now
+    && list_all (λ e. is_application e.name.now && is_row_with (Some parent) (asks_folder e.name.now) e.row) folders.now
+is_true_below parent other = true
+
+-- and so below each row from that one on
+abbrev pub are_true : ℕ → List below.Below → Bool
+are_true parent [] = true
+are_true parent (way ∷ ways) = is_true_below parent way && are_true (suc parent) ways
+
+-- the rows of texts are such rows, and ascend
+abbrev pub are_texts : Texts → Bool
+are_texts t =
+    (is_row_with None is_lines t.lines && (is_row_with None is_json t.json && is_row_with None is_plain t.plain))
+    && (nat_le t.lines t.json && nat_le t.json t.plain)
+
+-- each further row with a parent is found, and none other
+pub record EachBelowIsFound (ways : List below.Below) : Type 0 where
+  pub found : (i : ℕ) → i < length further → IsTrue (is_row_below_found ways i)
+  pub told : IsTrue (are_true 0 ways)
+
+pub record EachFreeIsFound (index : Parentless) : Type 0 where
+  pub found : (i : ℕ) → i < length further → IsTrue (is_row_free_found index i)
+  pub told : IsTrue (are_texts index.texts)
+
+pub record EachIsFound (index : RowIndex) : Type 0 where
+  pub below : EachBelowIsFound index.below.now
+  pub free : EachFreeIsFound index.parentless.now
+
+-- just the rows that widen an answer are found
+pub record FindsAll (index : RowIndex) : Type 0 where
+  pub below : (b : List ℕ) → IsBuffer b → (parent i : ℕ) → IsFoundBelow (below_at index.below.now parent) parent b i ↔ WidensAt (Some parent) b i
+  pub free : (b : List ℕ) → IsBuffer b → (i : ℕ) → IsFoundFree index.parentless.now b i ↔ WidensAt None b i

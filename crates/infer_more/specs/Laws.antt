@@ -9,17 +9,12 @@ use Rattle.infer.specs.Leads.{is_white}
 use Rattle.infer.specs.Row.{Accepts, shows}
 use Rattle.infer.specs.Table as built_in
 use Rattle.infer.specs.declared.table.rows.TheConstants.{ROW_COUNT}
-use Rattle.infer_more.specs.Index.{is_settled}
+use Rattle.infer_more.specs.Index.{is_plain, is_settled}
 use Rattle.infer_more.specs.Outline.{lines, outline}
 use Rattle.infer_more.specs.Row.{Further}
 use Rattle.infer_more.specs.Signature.{Accepted, Alternative, Fits, json_lines, json_text, plain_text, root, root_with}
 use Rattle.infer_more.specs.Table.{further}
 use Rattle.infer_more.specs.Wider.{IsWider, Widens, parent_at, shown}
-
--- the alternative is plain text
-abbrev pub is_plain : Alternative → Bool
-is_plain plain_text = true
-is_plain other = false
 
 -- more bytes never take back that a buffer fits the alternative: it is none of the texts
 abbrev pub is_lasting : Alternative → Bool

@@ -5,17 +5,32 @@ ghost use Rattle.infer.specs.First.{IsFirstOf, SomeHas};
 ghost use Rattle.infer.specs.Triple.{triple_of};
 ghost use Rattle.infer.specs.declared.table.rows.TheConstants.{ROW_COUNT};
 ghost use Rattle.infer_more.specs.Ended.{ended_listed, ended_shown};
-ghost use Rattle.infer_more.specs.Index.{IsNext, NoneBetween, all_guarded_ascend, all_parentless_ascend, ascends, asked_parentless, begun, behind, candidates, entries_at, gated, guarded, has_between, has_byte, is_candidate, ranged, within};
+ghost use Rattle.infer_deep.specs.Find.{OccursAt};
+ghost use Rattle.infer_inside.specs.Json.{IsJson, IsJsonLines};
+ghost use Rattle.infer_inside.specs.Script.{IsProgram};
+ghost use Rattle.infer_inside.specs.Zip.{IsPackageWith};
+ghost use Rattle.infer_more.specs.Index.{AllApplications, HasTagText, IsFoundBelow, IsLeast, IsNamed, IsRooted, IsRootedBy, IsTextRow, IsTried, are_texts, ascends, begun, behind, below_at, candidate, candidates, entries_at, gated, guarded, has_between, has_byte, is_true_below, named_row, ranged, rooted_row, tried_parentless, within};
 ghost use Rattle.infer_more.specs.Table.{further};
 ghost use Rattle.infer_more.specs.Wider.{AcceptsAt, IsWidened, IsWider, IsWiderAnswer, IsWidest, Widens, WidensAt, parent_at, shown};
 ghost use Rattle.infer_more.specs.Listed.{row_listed};
 ghost use Rattle.infer_more.specs.declared.index.lists.TheConstants.{FURTHER_COUNT};
 
-use crate::index::{Entry, FURTHER_COUNT, Gate, Guard, Parentless, Range, asked, index};
+use crate::index::{
+    Below, Entry, FURTHER_COUNT, Gate, Guard, Named, Parentless, Range, Rooted, Texts, finds, index,
+};
 use crate::signature;
 use crate::table::{EndedTexts, FurtherRow, row_at};
 use infer::rows::{ROW_COUNT, numbers};
 use infer::{Ask, Asker, Type};
+use infer_deep::places::stands_at;
+use infer_inside::json::{Kind, kind_of};
+use infer_inside::markup::{Root, root_of};
+use infer_inside::script::program;
+use infer_inside::text::is_text;
+use infer_inside::zip::package_folder;
+
+/// How rows past the last are told.
+static NOTHING: Below = Below::Nothing;
 
 /// Whether further row `i` has this parent and accepts the buffer.
 #[inline(always)]
@@ -50,105 +65,98 @@ fn has_between(buf: &[u8], place: u32, low: u8, high: u8) -> bool
     }
 }
 
-/// Whether the buffer has the entry's byte and the row is not before `from`.
+/// The entry's row if it is before that number, is tried and widens the answer; that number otherwise.
 #[inline(always)]
-fn is_candidate(entry: &Entry, from: usize, buf: &[u8]) -> bool
-    ensures { result ≡ is_candidate buf.now from entry.now }
+fn least_at(entry: &Entry, parent: Option<usize>, buf: &[u8], before: usize) -> usize
+    ensures { IsLeast (IsTried parent buf.now (candidate buf.now entry.now)) before result }
 {
-    has_byte(buf, entry.place, entry.byte) && from <= usize::from(entry.row)
-}
-
-/// The least of the rows of these entries from `from` on, and of the number before.
-#[inline(never)]
-fn next_of(entries: &[Entry], from: usize, buf: &[u8], before: usize) -> usize
-    ensures { IsTrue (ascends entries.now) → IsNext (candidates buf.now entries.now) from before result }
-{
-    for entry in entries {
-        if is_candidate(entry, from, buf) {
-            return before.min(usize::from(entry.row));
-        }
+    let row = usize::from(entry.row);
+    if !has_byte(buf, entry.place, entry.byte) {
+        return before;
     }
-    before
+    if row >= before {
+        return before;
+    }
+    if !widens(row, parent, buf) {
+        return before;
+    }
+    row
 }
 
-/// The least of the rows behind a guard from `from` on, and of the number before: that number if the buffer lacks the
-/// guard's byte.
+/// The least of the number before and of the rows of these entries that widen the answer.
+#[inline(never)]
+fn least_of(entries: &[Entry], parent: Option<usize>, buf: &[u8], before: usize) -> usize
+    ensures { IsLeast (IsTried parent buf.now (candidates buf.now entries.now)) before result }
+{
+    let mut least = before;
+    for entry in entries {
+        least = least_at(entry, parent, buf, least);
+    }
+    least
+}
+
+/// [`least_of`] the entries behind a guard: the number before if the buffer lacks the guard's byte.
 #[inline(always)]
-fn next_behind(guard: &Guard, from: usize, buf: &[u8], before: usize) -> usize
-    ensures { IsTrue (ascends guard.now.entries.now) → IsNext (behind buf.now guard.now) from before result }
+fn least_behind(guard: &Guard, buf: &[u8], before: usize) -> usize
+    ensures { IsLeast (IsTried None buf.now (behind buf.now guard.now)) before result }
 {
     if !has_byte(buf, guard.place, guard.byte) {
         return before;
     }
-    next_of(guard.entries, from, buf, before)
+    least_of(guard.entries, None, buf, before)
 }
 
-/// The least of the rows behind all guards from `from` on, and of the number before.
+/// [`least_of`] the entries behind all guards.
 #[inline(always)]
-fn next_guarded(guards: &[Guard], from: usize, buf: &[u8], before: usize) -> usize
-    ensures { IsTrue (all_guarded_ascend guards.now) → IsNext (guarded buf.now guards.now) from before result }
+fn least_guarded(guards: &[Guard], buf: &[u8], before: usize) -> usize
+    ensures { IsLeast (IsTried None buf.now (guarded buf.now guards.now)) before result }
 {
     let mut least = before;
     for guard in guards {
-        least = next_behind(guard, from, buf, least);
+        least = least_behind(guard, buf, least);
     }
     least
 }
 
-/// The least of the rows behind the gate's guards from `from` on, and of the number before. A function of its own, since
-/// few buffers have the gate's byte.
-#[inline(never)]
-fn next_opened(gate: &Gate, from: usize, buf: &[u8], before: usize) -> usize
-    ensures { IsTrue (all_guarded_ascend gate.now.guards.now) → IsNext (guarded buf.now gate.now.guards.now) from before result }
-{
-    next_guarded(gate.guards, from, buf, before)
-}
-
-/// The least of the rows behind the gate from `from` on, and of the number before: that number if the buffer lacks the
-/// gate's byte.
+/// [`least_guarded`] behind the gate: the number before if the buffer lacks the gate's byte.
 #[inline(always)]
-fn next_gated(gate: &Gate, from: usize, buf: &[u8], before: usize) -> usize
-    ensures { IsTrue (all_guarded_ascend gate.now.guards.now) → IsNext (gated buf.now gate.now) from before result }
+fn least_gated(gate: &Gate, buf: &[u8], before: usize) -> usize
+    ensures { IsLeast (IsTried None buf.now (gated buf.now gate.now)) before result }
 {
     if !has_byte(buf, gate.place, gate.byte) {
         return before;
     }
-    next_opened(gate, from, buf, before)
+    least_guarded(gate.guards, buf, before)
 }
 
-/// The range's row, or the number before if that is less, the row before `from`, or the buffer lacks such a byte.
+/// The range's row if it is before that number, is tried and widens the answer; that number otherwise.
 #[inline(always)]
-fn next_within(range: &Range, from: usize, buf: &[u8], before: usize) -> usize
-    ensures { IsNext (within buf.now range.now) from before result }
+fn least_within(range: &Range, buf: &[u8], before: usize) -> usize
+    ensures { IsLeast (IsTried None buf.now (within buf.now range.now)) before result }
 {
     let row = usize::from(range.row);
-    if !has_between(buf, range.place, range.low, range.high) || row < from {
+    if !has_between(buf, range.place, range.low, range.high) {
         return before;
     }
-    before.min(row)
+    if row >= before {
+        return before;
+    }
+    if !widens(row, None, buf) {
+        return before;
+    }
+    row
 }
 
-/// The least of the rows of all ranges from `from` on, and of the number before.
+/// The least of the number before and of the rows of all ranges that widen the answer.
 #[inline(always)]
-fn next_ranged(ranges: &[Range], from: usize, buf: &[u8], before: usize) -> usize
-    ensures { IsNext (ranged buf.now ranges.now) from before result }
+fn least_ranged(ranges: &[Range], buf: &[u8], before: usize) -> usize
+    ensures { IsLeast (IsTried None buf.now (ranged buf.now ranges.now)) before result }
 {
     let mut least = before;
     for range in ranges {
-        least = next_within(range, from, buf, least);
+        least = least_within(range, buf, least);
     }
     least
-}
-
-/// The entries at that place of the lists, and none past the last.
-#[inline(always)]
-fn entries_at(lists: &'static [&'static [Entry]], i: usize) -> &'static [Entry]
-    ensures { result.now ≡ entries_at lists.now i }
-{
-    match lists.get(i) {
-        Some(entries) => entries,
-        None => &[],
-    }
 }
 
 /// The entries that are listed by the buffer's first byte.
@@ -162,117 +170,236 @@ fn entries_begun(index: &Parentless, buf: &[u8]) -> &'static [Entry]
     }
 }
 
-/// The least row from `from` on that is listed by the first byte, or their count. Most first bytes list none, and cost no
-/// call.
+/// The entries at that place of the lists, and none past the last.
 #[inline(always)]
-fn next_begun(index: &Parentless, from: usize, buf: &[u8]) -> usize
-    ensures { IsTrue (ascends (begun index.now buf.now)) → IsNext (candidates buf.now (begun index.now buf.now)) from FURTHER_COUNT result }
+fn entries_at(lists: &'static [&'static [Entry]], i: usize) -> &'static [Entry]
+    ensures { result.now ≡ entries_at lists.now i }
+{
+    match lists.get(i) {
+        Some(entries) => entries,
+        None => &[],
+    }
+}
+
+/// The least of the rows that are listed by the first byte and widen the answer, or their count. Most first bytes list
+/// none, and cost no call.
+#[inline(always)]
+fn least_begun(index: &Parentless, buf: &[u8]) -> usize
+    ensures { IsLeast (IsTried None buf.now (candidates buf.now (begun index.now buf.now))) FURTHER_COUNT result }
 {
     let entries = entries_begun(index, buf);
     if entries.is_empty() {
         return FURTHER_COUNT;
     }
-    next_of(entries, from, buf, FURTHER_COUNT)
+    least_of(entries, None, buf, FURTHER_COUNT)
 }
 
-/// The least row from `from` on that such an index asks of a buffer without a built-in answer.
+/// The least of the rows that such an index tries and that widen the answer, or their count.
 #[inline(always)]
-fn next_parentless(index: &Parentless, from: usize, buf: &[u8]) -> usize
-    ensures { IsTrue (all_parentless_ascend index.now) → IsNext (asked_parentless index.now buf.now) from FURTHER_COUNT result }
+fn least_tried(index: &Parentless, buf: &[u8]) -> usize
+    ensures { IsLeast (IsTried None buf.now (tried_parentless index.now buf.now)) FURTHER_COUNT result }
 {
-    let begun = next_begun(index, from, buf);
-    let least = next_guarded(index.guards, from, buf, begun);
-    let open = next_gated(&index.gate, from, buf, least);
-    next_ranged(index.ranges, from, buf, open)
+    let begun = least_begun(index, buf);
+    let least = least_guarded(index.guards, buf, begun);
+    let opened = least_gated(&index.gate, buf, least);
+    least_ranged(index.ranges, buf, opened)
 }
 
-/// The least row from `from` on that is asked of a buffer without a built-in answer, or their count. A function of its
-/// own, that names the index itself: so its guards are tested in straight code.
+/// The row of the text that the buffer is, or the number before if that is less or it is none.
+#[inline(always)]
+fn least_text(texts: &Texts, buf: &[u8], before: usize) -> usize
+    requires { IsTrue (are_texts texts.now) }
+    ensures { IsLeast (IsTextRow texts.now buf.now) before result }
+{
+    match kind_of(buf) {
+        Some(Kind::Lines) => before.min(usize::from(texts.lines)),
+        Some(Kind::Text) => before.min(usize::from(texts.json)),
+        None => least_plain(texts, buf, before),
+    }
+}
+
+/// The row of plain text if the buffer is that, or the number before if that is less or it is none.
+#[inline(always)]
+fn least_plain(texts: &Texts, buf: &[u8], before: usize) -> usize
+    requires json { ¬ IsJson buf.now }
+    requires lines { ¬ IsJsonLines buf.now }
+    ensures { IsLeast (IsTextRow texts.now buf.now) before result }
+{
+    if is_text(buf) {
+        before.min(usize::from(texts.plain))
+    } else {
+        before
+    }
+}
+
+/// The least row that widens an answer below which there is none, or their count. A function of its own, that names the
+/// index itself: so its guards are tested in straight code.
 #[inline(never)]
-fn next_unknown(from: usize, buf: &[u8]) -> usize
-    ensures kept { from ≤ FURTHER_COUNT → from ≤ result }
-    ensures none { NoneBetween None buf.now from result }
+fn least_free(buf: &[u8]) -> usize
+    ensures { IsLeast (WidensAt None buf.now) FURTHER_COUNT result }
 {
     let index = index();
-    asked(&index);
-    next_parentless(index.parentless, from, buf)
+    finds(&index);
+    let tried = least_tried(index.parentless, buf);
+    let texts = &index.parentless.texts;
+    if tried <= usize::from(texts.lines) {
+        return tried;
+    }
+    least_text(texts, buf, tried)
 }
 
-/// The least row from `from` on that is asked of a buffer with this built-in answer, or their count.
-#[inline(always)]
-fn next_below(row: usize, from: usize, buf: &[u8]) -> usize
-    ensures kept { from ≤ FURTHER_COUNT → from ≤ result }
-    ensures none { NoneBetween (Some row) buf.now from result }
+fn is_named(named: &Named, name: &[u8]) -> bool
+    ensures { IsTrue result ↔ (named.now.name.now ≡ name.now) }
 {
-    let index = index();
-    asked(&index);
-    next_of(entries_at(index.below, row), from, buf, FURTHER_COUNT)
+    named.name == name
 }
 
-/// One of the two.
-#[inline(always)]
-fn next_asked(from: usize, parent: Option<usize>, buf: &[u8]) -> usize
-    ensures kept { from ≤ FURTHER_COUNT → from ≤ result }
-    ensures none { NoneBetween parent buf.now from result }
+/// The least of the number before and of the rows with this name, which is that of the first.
+fn least_named(names: &[Named], name: &[u8], before: usize) -> usize
+    requires { IsTrue (ascends named_row names.now) }
+    ensures { IsLeast (IsNamed (λ other. other ≡ name.now) names.now) before result }
 {
-    match parent {
-        Some(row) => next_below(row, from, buf),
-        None => next_unknown(from, buf),
+    for named in names {
+        if is_named(named, name) {
+            return before.min(usize::from(named.row));
+        }
+    }
+    before
+}
+
+/// The least of the rows with the name of the script's program, or their count.
+fn least_program(names: &[Named], buf: &[u8]) -> usize
+    requires { IsTrue (ascends named_row names.now) }
+    ensures { IsLeast (IsNamed (λ name. IsProgram name buf.now) names.now) FURTHER_COUNT result }
+{
+    match program(buf) {
+        Some(name) => least_named(names, name, FURTHER_COUNT),
+        None => FURTHER_COUNT,
     }
 }
 
-/// The first further row that widens the answer, if none before `first` does.
-#[inline(always)]
-fn first_from(first: usize, parent: Option<usize>, buf: &[u8]) -> Option<usize>
-    requires { NoneBetween parent buf.now 0 first }
-    ensures { IsFirstOf (Widens parent buf.now) further result }
+/// The least of the number before and of the rows whose folder stands at the place, which is that of the first.
+fn least_folder_at(folders: &[Named], buf: &[u8], place: usize, before: usize) -> usize
+    requires { IsTrue (ascends named_row folders.now) }
+    ensures { IsLeast (IsNamed (λ folder. OccursAt buf.now folder place) folders.now) before result }
 {
-    let mut next = first;
-    for tried in 0..FURTHER_COUNT {
-        let _ = tried;
-        if next >= FURTHER_COUNT {
-            return None;
+    for named in folders {
+        if stands_at(buf, named.name, place) {
+            return before.min(usize::from(named.row));
         }
-        if widens(next, parent, buf) {
-            return Some(next);
-        }
-        next = next_asked(next + 1, parent, buf);
     }
-    None
+    before
 }
 
-/// The first further row below this built-in row that accepts the buffer.
-#[inline(always)]
-fn first_below(row: usize, buf: &[u8]) -> Option<usize>
-    ensures { IsFirstOf (Widens (Some row) buf.now) further result }
+/// The least of the number before and of the rows whose folder of an application the package has.
+fn least_folder(folders: &[Named], buf: &[u8], before: usize) -> usize
+    requires application { AllApplications folders.now }
+    requires ascend { IsTrue (ascends named_row folders.now) }
+    ensures { IsLeast (IsNamed (λ folder. IsPackageWith folder buf.now) folders.now) before result }
 {
-    let parent = Some(row);
-    first_from(next_below(row, 0, buf), parent, buf)
+    match package_folder(buf) {
+        Some(place) => least_folder_at(folders, buf, place, before),
+        None => before,
+    }
 }
 
-/// Whether no further row is asked below this built-in row, so that none widens it.
+/// Whether the root element has the row's name, and its text in the tag.
+#[inline(always)]
+fn is_rooted(rooted: &Rooted, root: &Root<'_>) -> bool
+    ensures { IsTrue result ↔ (rooted.now.name.now ≡ root.now.name.now) × HasTagText root.now.rest.now rooted.now.text }
+{
+    if root.name != rooted.name {
+        return false;
+    }
+    match rooted.text {
+        Some(text) => root.has_in_tag(text),
+        None => true,
+    }
+}
+
+/// The least of the number before and of the rows with this root, which is that of the first.
+fn least_rooted(roots: &[Rooted], root: &Root<'_>, before: usize) -> usize
+    requires { IsTrue (ascends rooted_row roots.now) }
+    ensures { IsLeast (IsRootedBy root.now.name.now root.now.rest.now roots.now) before result }
+{
+    for rooted in roots {
+        if is_rooted(rooted, root) {
+            return before.min(usize::from(rooted.row));
+        }
+    }
+    before
+}
+
+/// The least of the rows with the buffer's root, or their count.
+fn least_root(roots: &[Rooted], buf: &[u8]) -> usize
+    requires { IsTrue (ascends rooted_row roots.now) }
+    ensures { IsLeast (IsRooted buf.now roots.now) FURTHER_COUNT result }
+{
+    match root_of(buf) {
+        Some(root) => least_rooted(roots, &root, FURTHER_COUNT),
+        None => FURTHER_COUNT,
+    }
+}
+
+/// The least row that is found below a built-in row in this way, or their count.
+#[inline(always)]
+fn least_found(below: &Below, row: usize, buf: &[u8]) -> usize
+    requires { IsTrue (is_true_below row below.now) }
+    ensures { IsLeast (IsFoundBelow below.now row buf.now) FURTHER_COUNT result }
+{
+    match below {
+        Below::Nothing => FURTHER_COUNT,
+        Below::Entries(entries) => least_of(entries, Some(row), buf, FURTHER_COUNT),
+        Below::Programs(names) => least_program(names, buf),
+        Below::Roots(roots) => least_root(roots, buf),
+        Below::Packages(entries, folders) => {
+            let tried = least_of(entries, Some(row), buf, FURTHER_COUNT);
+            least_folder(folders, buf, tried)
+        }
+    }
+}
+
+/// How the rows below this built-in row are told.
+#[inline(always)]
+fn below_at(ways: &'static [Below], i: usize) -> &'static Below
+    ensures { result.now ≡ below_at ways.now i }
+{
+    match ways.get(i) {
+        Some(below) => below,
+        None => &NOTHING,
+    }
+}
+
+/// Whether there are no rows below a built-in row, so that none widens it.
 #[inline(always)]
 fn is_widest(row: usize) -> bool
     ensures { IsTrue result → IsWidest (Some row) }
 {
     let index = index();
-    asked(&index);
-    entries_at(index.below, row).is_empty()
+    finds(&index);
+    match below_at(index.below, row) {
+        Below::Nothing => true,
+        _ => false,
+    }
 }
 
 /// The number of the wider answer of a buffer whose built-in answer is this row. A function of its own, so that a row that
 /// none widens takes nothing of what this one needs.
 #[inline(never)]
-fn asked_below(row: usize, buf: &[u8]) -> Option<usize>
+fn found_below(row: usize, buf: &[u8]) -> Option<usize>
     ensures { IsWidened (Some row) buf.now result }
 {
-    match first_below(row, buf) {
-        Some(i) => Some(ROW_COUNT + i),
-        None => Some(row),
+    let index = index();
+    finds(&index);
+    let least = least_found(below_at(index.below, row), row, buf);
+    if least < FURTHER_COUNT {
+        Some(ROW_COUNT + least)
+    } else {
+        Some(row)
     }
 }
 
-/// The number of the wider answer of a buffer whose built-in answer is this row, at once if no further row is asked.
+/// The number of the wider answer of a buffer whose built-in answer is this row, at once if none is below it.
 #[inline(always)]
 fn widened(row: usize, buf: &[u8]) -> Option<usize>
     ensures { IsWidened (Some row) buf.now result }
@@ -280,51 +407,20 @@ fn widened(row: usize, buf: &[u8]) -> Option<usize>
     if is_widest(row) {
         return Some(row);
     }
-    asked_below(row, buf)
+    found_below(row, buf)
 }
 
-/// The number of the wider answer of a buffer that no built-in row accepts, if no row up to `refused` widens it.
-#[inline(never)]
-fn unknown_after(refused: usize, buf: &[u8]) -> Option<usize>
-    requires none { NoneBetween None buf.now 0 (refused + 1) }
-    requires within { refused < FURTHER_COUNT }
-    ensures { IsWidened None buf.now result }
-{
-    if refused + 1 == FURTHER_COUNT {
-        return None;
-    }
-    let next = next_unknown(refused + 1, buf);
-    match first_from(next, None, buf) {
-        Some(found) => Some(ROW_COUNT + found),
-        None => None,
-    }
-}
-
-/// The number of the wider answer of a buffer that no built-in row accepts, if no row before `first` widens it. This
-/// row is tried in no loop, so that what is told at the first try saves hardly a register.
-#[inline(never)]
-fn unknown_from(first: usize, buf: &[u8]) -> Option<usize>
-    requires none { NoneBetween None buf.now 0 first }
-    requires within { first < FURTHER_COUNT }
-    ensures { IsWidened None buf.now result }
-{
-    if widens(first, None, buf) {
-        return Some(ROW_COUNT + first);
-    }
-    unknown_after(first, buf)
-}
-
-/// The number of the wider answer of a buffer that no built-in row accepts. A buffer of which no row is asked takes nothing
-/// of what a try needs.
+/// The number of the wider answer of a buffer that no built-in row accepts.
 #[inline(always)]
 fn widened_unknown(buf: &[u8]) -> Option<usize>
     ensures { IsWidened None buf.now result }
 {
-    let first = next_unknown(0, buf);
-    if first >= FURTHER_COUNT {
-        return None;
+    let least = least_free(buf);
+    if least < FURTHER_COUNT {
+        Some(ROW_COUNT + least)
+    } else {
+        None
     }
-    unknown_from(first, buf)
 }
 
 /// The number of the wider answer.

@@ -1,9 +1,9 @@
-//! Which further rows are asked of a buffer, so that few are. An entry names a row and a byte that it asks, so that a row
-//! is tried whole only where the buffer has that byte too.
-ghost use Rattle.std.specs.Prelude.{IsTrue};
-ghost use Rattle.infer_more.specs.Index.{AllAreAsked, EachBelowIsAsked, EachIsAsked, EachParentlessIsAsked, all_ascend, all_below_ascend, all_parentless_ascend};
+//! Which further rows are tried of a buffer, so that few are. An entry names a row and a byte that it asks, so that a row
+//! is tried whole only where the buffer has that byte too. Rows that ask for a name are told by it, which is read once for
+//! all of them.
+ghost use Rattle.infer_more.specs.Index.{EachBelowIsFound, EachFreeIsFound, EachIsFound, FindsAll};
 
-/// A row, by its number among the further rows, that is asked only if a buffer has the byte at the place.
+/// A row, by its number among the further rows, that is tried only if a buffer has the byte at the place.
 pub(crate) struct Entry {
     pub place: u32,
     pub row: u16,
@@ -24,7 +24,7 @@ pub(crate) struct Gate {
     pub guards: &'static [Guard],
 }
 
-/// A row, by its number among the further rows, that is asked if a buffer has a byte from the first to the second at the
+/// A row, by its number among the further rows, that is tried if a buffer has a byte from the first to the second at the
 /// place.
 pub(crate) struct Range {
     pub place: u32,
@@ -33,21 +33,94 @@ pub(crate) struct Range {
     pub high: u8,
 }
 
-/// The rows without a parent that are asked, ascending in each list: by their first byte, and behind guards those that
-/// leave the first byte free, or share it with the zeros of many files. Of these the rows that share another byte stand
-/// behind the gate, so that a buffer without it is told by one look. Ranges have the rows that allow many bytes.
+/// A row, by its number among the further rows, that is told by a name.
+pub(crate) struct Named {
+    pub row: u16,
+    pub name: &'static [u8],
+}
+
+/// A row that is told by the name of a root element, and by a text in its tag if there is one.
+pub(crate) struct Rooted {
+    pub row: u16,
+    pub name: &'static [u8],
+    pub text: Option<&'static [u8]>,
+}
+
+/// How the rows below a built-in row are told.
+pub(crate) enum Below {
+    /// There are none.
+    Nothing,
+    /// By trying those of which a buffer has the byte.
+    Entries(&'static [Entry]),
+    /// By the program of a script.
+    Programs(&'static [Named]),
+    /// By the root element.
+    Roots(&'static [Rooted]),
+    /// By trying some, and by the folder of an application in a package.
+    Packages(&'static [Entry], &'static [Named]),
+}
+
+/// The rows of JSON lines, of JSON and of plain text, the last. A buffer is read once for the first two.
+pub(crate) struct Texts {
+    pub lines: u16,
+    pub json: u16,
+    pub plain: u16,
+}
+
+/// The rows without a parent that are tried: by their first byte, and behind guards those that leave the first byte free,
+/// or share it with the zeros of many files. Of these the rows that share another byte stand behind the gate, so that a
+/// buffer without it is told by one look. Ranges have the rows that allow many bytes. The texts come last.
 pub(crate) struct Parentless {
     pub first: &'static [&'static [Entry]],
     pub guards: &'static [Guard],
     pub gate: Gate,
     pub ranges: &'static [Range],
+    pub texts: Texts,
 }
 
-/// The rows that are asked: those below each built-in row, ascending in each list, and those without a parent.
+/// How the rows below each built-in row are told, and those without a parent.
 #[derive(Drop)]
 pub(crate) struct RowIndex {
-    pub below: &'static [&'static [Entry]],
+    pub below: &'static [Below],
     pub parentless: &'static Parentless,
+}
+
+macro_rules! entries {
+    ($($place:literal $byte:literal $row:literal),*) => {
+        &[$(Entry {
+            place: $place,
+            row: $row,
+            byte: $byte,
+        }),*]
+    };
+}
+
+macro_rules! named {
+    ($($name:literal $row:literal),*) => {
+        &[$(Named {
+            row: $row,
+            name: $name,
+        }),*]
+    };
+}
+
+macro_rules! rooted {
+    ($($name:literal ($($text:literal)?) $row:literal),*) => {
+        &[$(Rooted {
+            row: $row,
+            name: $name,
+            text: text!($($text)?),
+        }),*]
+    };
+}
+
+macro_rules! text {
+    () => {
+        None
+    };
+    ($text:literal) => {
+        Some($text)
+    };
 }
 
 macro_rules! lists {
@@ -100,11 +173,10 @@ mod lists;
 pub use lists::FURTHER_COUNT;
 use lists::{BELOW, PARENTLESS};
 
-/// The rows below each built-in row.
+/// How the rows below each built-in row are told.
 #[inline(always)]
-fn below_rows() -> &'static [&'static [Entry]]
-    ensures asked { EachBelowIsAsked result.now }
-    ensures ascend { IsTrue (all_below_ascend result.now) }
+fn below_rows() -> &'static [Below]
+    ensures { EachBelowIsFound result.now }
 {
     BELOW
 }
@@ -112,8 +184,7 @@ fn below_rows() -> &'static [&'static [Entry]]
 /// The rows without a parent.
 #[inline(always)]
 fn without_parent() -> &'static Parentless
-    ensures asked { EachParentlessIsAsked result.now }
-    ensures ascend { IsTrue (all_parentless_ascend result.now) }
+    ensures { EachFreeIsFound result.now }
 {
     &PARENTLESS
 }
@@ -121,8 +192,7 @@ fn without_parent() -> &'static Parentless
 /// The index.
 #[inline(always)]
 pub(crate) fn index() -> RowIndex
-    ensures asked { EachIsAsked result }
-    ensures ascend { IsTrue (all_ascend result) }
+    ensures { EachIsFound result }
 {
     RowIndex {
         below: below_rows(),
@@ -130,10 +200,10 @@ pub(crate) fn index() -> RowIndex
     }
 }
 
-/// Every further row that can widen an answer is asked by such an index.
-pub(crate) fn asked(index: &RowIndex)
-    requires { EachIsAsked index.now }
-    ensures { AllAreAsked index.now }
+/// By such an index just those further rows are found that widen an answer.
+pub(crate) fn finds(index: &RowIndex)
+    requires { EachIsFound index.now }
+    ensures { FindsAll index.now }
 {
     let _ = index;
     infer_inside::laws::leads();

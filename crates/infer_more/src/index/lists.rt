@@ -1,44 +1,137 @@
-//! The lists of the index, which `docs/tables` makes from the rows: a place, a byte there, and a row. Those below each
-//! built-in row stand eight a line, and so do those by the first byte.
-use crate::index::{Entry, Gate, Guard, Parentless, Range};
+//! The lists of the index, which `docs/tables` makes from the rows: a place, a byte there, and a row, or a name and a row.
+//! Those below each built-in row stand in its order, and those by the first byte eight a line.
+use crate::index::Below::{Entries, Nothing, Packages, Programs, Roots};
+use crate::index::{Below, Entry, Gate, Guard, Named, Parentless, Range, Rooted, Texts};
 
 /// How many further rows there are.
 pub const FURTHER_COUNT: usize = 140;
 
-pub(super) static BELOW: &[&[Entry]] = lists![
-        () (16 0x01 0, 17 0x01 0, 16 0x04 1, 17 0x04 1, 9 0x49 2, 16 0x03 3, 17 0x03 3) () () () () () ()
-        () (7 0x30 27, 14 0x02 28) () (20 0x47 22, 26 0x42 23, 28 0x4C 23, 21 0x55 24, 25 0x45 25, 9 0x4E 26) () () () ()
-        (22 0x78 33) (3 0x47 31) () () () (1 0x49 30, 1 0x4D 30) () ()
-        () () (10 0x69 32) () () () () ()
-        () () () () () () () ()
-        () () () () () (28 0x80 35, 32 0x43 36) () ()
-        () () () () () () () ()
-        () () () () () () () (81 0x70 15)
-        (88 0x70 16) (89 0x70 17) () (30 0x41 4, 42 0x2F 4, 3 0x04 5, 3 0x04 6, 32 0x54 6, 30 0x5F 7, 30 0x77 7, 31 0x43 7, 32 0x63 7, 30 0x5F 8, 30 0x78 8, 31 0x43 8, 32 0x63 8, 30 0x5F 9, 31 0x43 9, 31 0x70 9, 32 0x63 9, 30 0x5F 10, 30 0x76 10, 31 0x43 10, 32 0x63 10, 32 0x2F 11, 35 0x2F 11, 38 0x2F 11, 47 0x6D 11, 81 0x50 12, 53 0x2E 13, 52 0x6B 14) () () () ()
-        () () () () () () () ()
-        (19 0x2D 34) (69 0x50 29) () () () () () ()
-        () () () () () (3 0xE0 18, 3 0xE0 19, 3 0xE0 20, 3 0xE0 21) () (0 0x09 52, 0 0x0A 52, 0 0x0D 52, 0 0x20 52, 0 0x3C 52, 2 0xBF 52)
-        (0 0x09 45, 0 0x0A 45, 0 0x0D 45, 0 0x20 45, 0 0x3C 45, 0 0xEF 45, 0 0x09 46, 0 0x0A 46, 0 0x0D 46, 0 0x20 46, 0 0x3C 46, 0 0xEF 46, 0 0x09 47, 0 0x0A 47, 0 0x0D 47, 0 0x20 47, 0 0x3C 47, 0 0xEF 47, 0 0x09 48, 0 0x0A 48, 0 0x0D 48, 0 0x20 48, 0 0x3C 48, 0 0xEF 48, 0 0x09 49, 0 0x0A 49, 0 0x0D 49, 0 0x20 49, 0 0x3C 49, 0 0xEF 49, 0 0x09 50, 0 0x0A 50, 0 0x0D 50, 0 0x20 50, 0 0x3C 50, 0 0xEF 50, 0 0x09 51, 0 0x0A 51, 0 0x0D 51, 0 0x20 51, 0 0x3C 51, 2 0xBF 51) (1 0x21 37, 1 0x21 38, 1 0x21 39, 1 0x21 40, 1 0x21 41, 1 0x21 42, 1 0x21 43, 1 0x21 44)
+pub(super) static BELOW: &[Below] = &[
+    Nothing,
+    Entries(entries![16 0x01 0, 17 0x01 0, 16 0x04 1, 17 0x04 1, 9 0x49 2, 16 0x03 3, 17 0x03 3]),
+    Nothing,
+    Nothing,
+    Nothing,
+    Nothing,
+    Nothing,
+    Nothing,
+    Nothing,
+    Entries(entries![7 0x30 27, 14 0x02 28]),
+    Nothing,
+    Entries(entries![20 0x47 22, 26 0x42 23, 28 0x4C 23, 21 0x55 24, 25 0x45 25, 9 0x4E 26]),
+    Nothing,
+    Nothing,
+    Nothing,
+    Nothing,
+    Entries(entries![22 0x78 33]),
+    Entries(entries![3 0x47 31]),
+    Nothing,
+    Nothing,
+    Nothing,
+    Entries(entries![1 0x49 30, 1 0x4D 30]),
+    Nothing,
+    Nothing,
+    Nothing,
+    Nothing,
+    Entries(entries![10 0x69 32]),
+    Nothing,
+    Nothing,
+    Nothing,
+    Nothing,
+    Nothing,
+    Nothing,
+    Nothing,
+    Nothing,
+    Nothing,
+    Nothing,
+    Nothing,
+    Nothing,
+    Nothing,
+    Nothing,
+    Nothing,
+    Nothing,
+    Nothing,
+    Nothing,
+    Entries(entries![28 0x80 35, 32 0x43 36]),
+    Nothing,
+    Nothing,
+    Nothing,
+    Nothing,
+    Nothing,
+    Nothing,
+    Nothing,
+    Nothing,
+    Nothing,
+    Nothing,
+    Nothing,
+    Nothing,
+    Nothing,
+    Nothing,
+    Nothing,
+    Nothing,
+    Nothing,
+    Entries(entries![81 0x70 15]),
+    Entries(entries![88 0x70 16]),
+    Entries(entries![89 0x70 17]),
+    Nothing,
+    Packages(
+        entries![37 0x4D 4, 42 0x2F 4, 3 0x04 5, 3 0x04 6, 38 0x2F 6, 81 0x50 12, 53 0x2E 13, 52 0x6B 14],
+        named![b"word/" 7, b"xl/" 8, b"ppt/" 9, b"visio/" 10, b"3D/" 11],
+    ),
+    Nothing,
+    Nothing,
+    Nothing,
+    Nothing,
+    Nothing,
+    Nothing,
+    Nothing,
+    Nothing,
+    Nothing,
+    Nothing,
+    Nothing,
+    Nothing,
+    Entries(entries![19 0x2D 34]),
+    Entries(entries![69 0x50 29]),
+    Nothing,
+    Nothing,
+    Nothing,
+    Nothing,
+    Nothing,
+    Nothing,
+    Nothing,
+    Nothing,
+    Nothing,
+    Nothing,
+    Nothing,
+    Entries(entries![3 0xE0 18, 3 0xE0 19, 3 0xE0 20, 3 0xE0 21]),
+    Nothing,
+    Roots(rooted![b"svg" () 52]),
+    Roots(
+        rooted![b"svg" () 45, b"rss" () 46, b"RDF" (b"http://purl.org/rss/1.0/") 46, b"feed" (b"http://www.w3.org/2005/Atom") 47, b"kml" () 48, b"gpx" () 49, b"html" (b"http://www.w3.org/1999/xhtml") 50, b"plist" () 51],
+    ),
+    Programs(
+        named![b"python" 37, b"pypy" 37, b"perl" 38, b"ruby" 39, b"jruby" 39, b"node" 40, b"nodejs" 40, b"bun" 40, b"deno" 40, b"php" 41, b"lua" 42, b"luajit" 42, b"awk" 43, b"gawk" 43, b"mawk" 43, b"nawk" 43, b"tclsh" 44, b"wish" 44, b"expect" 44],
+    ),
 ];
 
 pub(super) static PARENTLESS: Parentless = Parentless {
     first: lists![
         () () (3 0x18 90, 13 0x00 133) (13 0x00 133) () () () ()
-        () (0 0x09 53, 0 0x09 137, 0 0x09 138) (0 0x0A 53, 2 0x0D 54, 0 0x0A 137, 0 0x0A 138) () () (0 0x0D 53, 0 0x0D 137, 0 0x0D 138) () ()
+        () (0 0x09 53) (0 0x0A 53, 2 0x0D 54) () () (0 0x0D 53) () ()
         () () () (2 0x9A 83) () () () ()
         () () (7 0x00 56) (1 0x4C 60) () () (1 0x02 56) ()
-        (0 0x20 53, 0 0x20 137, 0 0x20 138) (9 0x4D 73) () (6 0x55 113) () () () ()
+        (0 0x20 53) (9 0x4D 73) () (6 0x55 113) () () () ()
         () () () () () () (5 0x00 108) (8 0x2F 104)
         (4 0x30 93, 0 0x30 120, 13 0x00 133) (0 0x31 120, 13 0x00 133) (0 0x32 120, 13 0x00 133) (0 0x33 120) (0 0x34 120) (0 0x35 120) (0 0x36 120) (0 0x37 120)
         (0 0x38 120) (0 0x39 120) () () (0 0x3C 53, 4 0x70 119) () () ()
         () (5 0x31 79) (6 0x52 107, 11 0x4E 116, 10 0x44 117) (12 0x63 112, 13 0x00 133) () (3 0x46 71) (11 0x4D 61, 11 0x2D 98, 11 0x43 109) (3 0x46 80, 752 0x47 135)
         () (2 0x55 99, 3 0x46 114) (7 0x04 59) (3 0x56 66) (5 0xBE 63, 7 0x48 69, 19 0x46 72) (3 0xA1 70, 3 0x49 87, 1 0x50 111) () (2 0x6A 77, 2 0x43 78)
         (2 0x55 62, 2 0x52 76, 0 0x50 103, 3 0x23 103) () (11 0x4E 102) (29 0x54 97) (3 0x66 58) () () (6 0x2E 94, 5 0x54 118)
-        (4 0x10 95) () () (0 0x5B 137, 0 0x5B 138) () (2 0x00 92) () ()
+        (4 0x10 95) () () () () (2 0x00 92) () ()
         (10 0x02 89) (20 0x31 64) (7 0x30 100) (7 0x78 67, 13 0x00 133) (2 0x3A 74, 3 0x3A 74) () () (7 0x66 96, 3 0x46 106)
         (2 0x71 86) (1 0x63 101) () () () () () ()
         () () () (1 0x71 86) (3 0x66 115) () (4 0x66 68) (9 0x04 110)
-        (3 0x21 88) () () (0 0x7B 137, 0 0x7B 138) () () () ()
+        (3 0x21 88) () () () () () () ()
         () () () (13 0x00 133) () () () ()
         () (6 0x1A 130) () (13 0x00 133) () () () ()
         () () () (5 0x59 75) (2 0x04 65) (3 0xDE 57, 3 0x04 65) () ()
@@ -52,7 +145,7 @@ pub(super) static PARENTLESS: Parentless = Parentless {
         () () () () (4 0x02 70) () () ()
         () () () () () () (3 0x95 57) ()
         () () () () () () () ()
-        () () () () () () () (2 0xBF 53, 9 0x55 113, 14 0x4E 116, 9 0x56 117, 8 0x54 118, 2 0xBF 120, 2 0xBF 137, 2 0xBF 138)
+        () () () () () () () (2 0xBF 53, 9 0x55 113, 14 0x4E 116, 9 0x56 117, 8 0x54 118, 2 0xBF 120)
         () () () () () (13 0x00 133) () ()
         () () () () () () () (9 0x59 91)
     ],
@@ -87,6 +180,10 @@ pub(super) static PARENTLESS: Parentless = Parentless {
     ],
     ranges: ranges![
         148 0x20 0x37 136;
-        0 0x09 0xFF 139;
     ],
+    texts: Texts {
+        lines: 137,
+        json: 138,
+        plain: 139,
+    },
 };

@@ -1,4 +1,4 @@
-use Rattle.std.proofs.Common.{IfSome, IsTrue, length, sym, subst, refl, take, ◌++◌, ◌-◌, ◌∙◌, ap, max, arith}
+use Rattle.std.proofs.Common.{IfSome, IsTrue, sym, subst, refl, ◌++◌, ◌-◌, ◌∙◌, ap, max, arith}
 use Rattle.std.specs.List.{list_all}
 use Rattle.std.proofs.lemmas.List.{length-take-le}
 use Rattle.infer.specs.Samples.{zeros}

@@ -1,7 +1,7 @@
 use Rattle.std.proofs.Common.{◌<◌, length, refl, sym, ◌∙◌, arith}
 use Rattle.std.proofs.lemmas.Bool.{false≢true}
 use Rattle.std.proofs.lemmas.Slice.Eq.{bytes_eq-Decides}
-use Rattle.infer_more.proofs.AcceptedLemmas.{among_at, no_name, no_name_more}
+use Rattle.infer_more.proofs.AcceptedLemmas.{among_at, no_name_more}
 use Rattle.infer_more.proofs.signature.is_listed.Goals as goal
 
 pub returns-then-eq : goal.returns-then-eq

@@ -1,0 +1,382 @@
+-- By the index just those rows are found that widen an answer.
+use Rattle.std.proofs.Common.{◌≡◌, ◌↔◌, ℕ, zero, suc, ◌+◌, ◌<◌, ◌≤◌, ◌==◌, inl, inr, Bool, true, false, IsTrue, List, [], ◌∷◌, Option, None, Some, length, get_or, ap, sym, ◌∙◌, subst, arith, refl}
+use Rattle.std.specs.Prelude.{◌&&◌, slice_get, slice_index}
+use Rattle.std.specs.Prelude.{nat_le}
+use Rattle.std.specs.List.{list_all, list_any}
+use Rattle.std.specs.Option.{option_map_or}
+use Rattle.std.proofs.lemmas.Bool.{eqb-true, leb-true}
+use Rattle.std.proofs.lemmas.List.{get_or_default}
+use Rattle.std.proofs.lemmas.Option.{slice_get_cases}
+use denote.Ref.{Bor}
+use Rattle.infer_inside.specs.Json.{IsJson, IsJsonLines}
+use Rattle.infer_inside.specs.Laws.{Leads}
+use Rattle.infer_inside.specs.Markup.{HasInTag, IsRootElement}
+use Rattle.infer_inside.specs.Script.{IsProgram}
+use Rattle.infer_inside.specs.Zip.{IsOneOf, IsPackageWith, applications}
+use Rattle.infer_sig.specs.Signature as fixed
+use Rattle.infer_sig.specs.Signature.{accepts, fits, stands}
+use Rattle.infer_sig.specs.Places.{StandsByPlace}
+use Rattle.infer.specs.Buffer.{IsBuffer}
+use Rattle.infer.specs.First.{IsFirstOf}
+use Rattle.infer.specs.Walks.{is_listed}
+use Rattle.infer.proofs.TestLemmas.{NoneRefused, passed}
+use Rattle.infer_more.specs.Index.{AllApplications, EachBelowIsFound, EachFreeIsFound, EachIsFound, FindsAll, HasTagText, IsFoundBelow, IsFoundFree, IsLeast, IsNamed, IsRootedBy, IsRooted, IsRowOf, IsTextRow, IsTried, are_texts, are_true, ascends, asks_folder, asks_program, asks_root, below_at, candidates, has_named, has_rooted, is_application, is_child, is_covered, is_found_below, is_found_free, is_in_folders, is_in_programs, is_in_roots, is_json, is_lines, is_plain, is_row_below, is_row_below_found, is_row_free, is_row_free_found, is_row_with, is_text_row, is_tried_below, is_tried_parentless, is_true_below, named_row, rooted_row, same, same_text, tried_parentless}
+use Rattle.infer_more.specs.Outline.{lines}
+use Rattle.infer_more.specs.Row.{Further}
+use Rattle.infer_more.specs.Signature.{Accepted, Alternative, Fits, IsProgramAmong, json_lines, json_text, package_with, plain_text, program, root, root_with}
+use Rattle.infer_more.specs.Table.{further}
+use Rattle.infer_more.specs.Wider.{Widens, WidensAt}
+use Rattle.infer_more.specs.declared.index.Below as below
+use Rattle.infer_more.specs.declared.index.Below.TheVariants.{Entries, Nothing, Packages, Programs, Roots}
+use Rattle.infer_more.specs.declared.index.Entry.{Entry}
+use Rattle.infer_more.specs.declared.index.Named.{Named}
+use Rattle.infer_more.specs.declared.index.Parentless.{Parentless}
+use Rattle.infer_more.specs.declared.index.Rooted.{Rooted}
+use Rattle.infer_more.specs.declared.index.RowIndex.{RowIndex}
+use Rattle.infer_more.specs.declared.index.Texts.{Texts}
+use Rattle.infer_more.specs.declared.index.lists.TheConstants.{FURTHER_COUNT}
+use Rattle.infer_more.proofs.IndexLemmas.{both_left, both_right, covered_here, either, parentless_here}
+use Rattle.infer_more.proofs.LeastLemmas.{least_both, least_late, least_none, least_same, none_found}
+use Rattle.infer_more.proofs.OutlineLemmas.{has_lines, small_bytes}
+use Rattle.infer_more.proofs.TableLemmas.{length-further}
+
+-- what is computed to be the same is the same
+same_true : (xs ys : List ℕ) → IsTrue (same xs ys) → xs ≡ ys
+same_true [] [] h = refl
+same_true [] (y ∷ ys) h = absurd (cc)
+same_true (x ∷ xs) [] h = absurd (cc)
+same_true (x ∷ xs) (y ∷ ys) h =
+    let first : x ≡ y = eqb-true x y (both_left (x == y) _ h) in
+    let rest = same_true xs ys (both_right (x == y) _ h) in
+    subst (λ z. x ∷ xs ≡ z ∷ ys) first (ap (λ l. x ∷ l) rest)
+
+-- a name that is listed has its row
+listed_name : (P : List ℕ → Type 0) (i : ℕ) (names : List Named) (name : List ℕ) → IsTrue (has_named i names name) → P name → IsNamed P names i
+listed_name P i [] name h p = absurd (cc)
+listed_name P i (e ∷ names) name h p = elim (either (e.row == i && same e.name.now name) _ h) [
+  | inl here ↦ inl (eqb-true e.row i (both_left (e.row == i) _ here), subst P (sym (same_true e.name.now name (both_right (e.row == i) _ here))) p)
+  | inr later ↦ inr (listed_name P i names name later p)
+]
+
+listed_program : (b : List ℕ) (i : ℕ) (names : List Named) (others : List (List ℕ)) → IsTrue (list_all (has_named i names) others) → IsProgramAmong others b
+    → IsNamed (λ name. IsProgram name b) names i
+listed_program b i names [] h p = absurd (p)
+listed_program b i names (name ∷ others) h (inl p) = listed_name (λ n. IsProgram n b) i names name (both_left (has_named i names name) _ h) p
+listed_program b i names (name ∷ others) h (inr p) = listed_program b i names others (both_right (has_named i names name) _ h) p
+
+-- the text, if there is one, stands in a tag of which this is the rest
+abbrev OwnText : List ℕ → Option (List ℕ) → Type 0
+OwnText rest None = Unit {0}
+OwnText rest (Some u) = HasInTag u rest
+
+tag_text : (rest : List ℕ) (t : Option (Bor (List ℕ))) (u : Option (List ℕ)) → IsTrue (same_text t u) → OwnText rest u → HasTagText rest t
+tag_text rest None None h p = tt
+tag_text rest None (Some u) h p = absurd (cc)
+tag_text rest (Some t) None h p = absurd (cc)
+tag_text rest (Some t) (Some u) h p = subst (λ own. HasInTag own rest) (sym (same_true t.now u h)) p
+
+listed_root : (rest : List ℕ) (i : ℕ) (roots : List Rooted) (name : List ℕ) (u : Option (List ℕ)) → IsTrue (has_rooted i roots name u)
+    → OwnText rest u → IsRootedBy name rest roots i
+listed_root rest i [] name u h p = absurd (cc)
+listed_root rest i (e ∷ roots) name u h p = elim (either (e.row == i && (same e.name.now name && same_text e.text u)) _ h) [
+  | inl here ↦
+      let both = both_right (e.row == i) (same e.name.now name && same_text e.text u) here in
+      inl (eqb-true e.row i (both_left (e.row == i) _ here), (same_true e.name.now name (both_left (same e.name.now name) _ both), tag_text rest e.text u (both_right (same e.name.now name) _ both) p))
+  | inr later ↦ inr (listed_root rest i roots name u later p)
+]
+
+-- what fits an alternative is found
+module _ (by_place : (place : ℕ) (t buf : List ℕ) → IsTrue (stands place t buf) ↔ StandsByPlace place t buf) (leads : Leads) (b : List ℕ) (small : (k : ℕ) → slice_index b k < 256) (i : ℕ) where
+  line_tried : (entries : List Entry) (some : List fixed.Alternative) → IsTrue (list_all (λ l. is_covered i l entries) some) → IsTrue (accepts some b)
+      → IsTrue (is_listed (candidates b entries) i)
+  line_tried entries [] h k = absurd (cc)
+  line_tried entries (l ∷ some) h k = elim (either (fits b l) _ k) [
+    | inl e ↦ covered_here by_place b i l entries (both_left (is_covered i l entries) _ h) e
+    | inr e ↦ line_tried entries some (both_right (is_covered i l entries) _ h) e
+  ]
+
+  line_tried_free : (index : Parentless) (some : List fixed.Alternative) → IsTrue (list_all (is_tried_parentless index i) some) → IsTrue (accepts some b)
+      → IsTrue (is_listed (tried_parentless index b) i)
+  line_tried_free index [] h k = absurd (cc)
+  line_tried_free index (l ∷ some) h k = elim (either (fits b l) _ k) [
+    | inl e ↦ parentless_here by_place index b i l (both_left (is_tried_parentless index i l) _ h) e
+    | inr e ↦ line_tried_free index some (both_right (is_tried_parentless index i l) _ h) e
+  ]
+
+  tried : (entries : List Entry) (a : Alternative) → IsTrue (is_tried_below i entries a) → Fits a b → IsTrue (is_listed (candidates b entries) i)
+  tried entries a h k = line_tried entries (lines a) h (has_lines by_place leads b a (λ plain. small) k)
+
+  in_programs : (names : List Named) (a : Alternative) → IsTrue (is_in_programs i names a) → Fits a b → IsNamed (λ name. IsProgram name b) names i
+  in_programs names (program others) h k = listed_program b i names others h k
+  in_programs names other h k = absurd (cc)
+
+  in_roots : (roots : List Rooted) (a : Alternative) → IsTrue (is_in_roots i roots a) → Fits a b → IsRooted b roots i
+  in_roots roots (root name) h (rest, element) = (name, rest, element, listed_root rest i roots name None h tt)
+  in_roots roots (root_with name t) h (rest, element, there) = (name, rest, element, listed_root rest i roots name (Some t) h there)
+  in_roots roots other h k = absurd (cc)
+
+  in_folders : (folders : List Named) (a : Alternative) → IsTrue (is_in_folders i folders a) → Fits a b → IsNamed (λ folder. IsPackageWith folder b) folders i
+  in_folders folders (package_with folder) h k = listed_name (λ f. IsPackageWith f b) i folders folder h k
+  in_folders folders other h k = absurd (cc)
+
+  in_texts : (t : Texts) (a : Alternative) → IsTrue (is_text_row t i a) → Fits a b → IsTextRow t b i
+  in_texts t json_lines h k = inl (eqb-true t.lines i h, k)
+  in_texts t json_text h k = inr (inl (eqb-true t.json i h, k))
+  in_texts t plain_text h k = inr (inr (eqb-true t.plain i h, k))
+  in_texts t other h k = absurd (cc)
+
+  module _ (parent : ℕ) (w : WidensAt (Some parent) b i) where
+    found_by : (way : below.Below) (a : Alternative) → IsTrue (is_found_below way i a) → Fits a b → IsFoundBelow way parent b i
+    found_by Nothing a h k = absurd (cc)
+    found_by (Entries entries) a h k = (tried entries.now a h k, w)
+    found_by (Programs names) a h k = in_programs names.now a h k
+    found_by (Roots roots) a h k = in_roots roots.now a h k
+    found_by (Packages entries folders) a h k = elim (either (is_in_folders i folders.now a) _ h) [
+      | inl e ↦ inr (in_folders folders.now a e k)
+      | inr e ↦ inl (tried entries.now a e k, w)
+    ]
+
+    found_below : (way : below.Below) (signature : List Alternative) → IsTrue (list_all (is_found_below way i) signature) → Accepted signature b
+        → IsFoundBelow way parent b i
+    found_below way [] h k = absurd (k)
+    found_below way (a ∷ signature) h (inl k) = found_by way a (both_left (is_found_below way i a) _ h) k
+    found_below way (a ∷ signature) h (inr k) = found_below way signature (both_right (is_found_below way i a) _ h) k
+
+  found_free : (index : Parentless) → WidensAt None b i → (signature : List Alternative) → IsTrue (list_all (is_found_free index i) signature)
+      → Accepted signature b → IsFoundFree index b i
+  found_free index w [] h k = absurd (k)
+  found_free index w (a ∷ signature) h (inl k) = elim (either (is_text_row index.texts i a) _ (both_left (is_found_free index i a) _ h)) [
+    | inl e ↦ inr (in_texts index.texts a e k)
+    | inr e ↦ inl (line_tried_free index (lines a) e (has_lines by_place leads b a (λ plain. small) k), w)
+  ]
+  found_free index w (a ∷ signature) h (inr k) = found_free index w signature (both_right (is_found_free index i a) _ h) k
+
+-- a row that is told by a name widens the answer
+any_of : (test : Alternative → Bool) (b : List ℕ) → ((a : Alternative) → IsTrue (test a) → Fits a b) → (signature : List Alternative) → IsTrue (list_any test signature)
+    → Accepted signature b
+any_of test b sound [] h = absurd (cc)
+any_of test b sound (a ∷ signature) h = elim (either (test a) _ h) [
+  | inl e ↦ inl (sound a e)
+  | inr e ↦ inr (any_of test b sound signature e)
+]
+
+child : (parent own : Option ℕ) → IsTrue (is_child parent own) → own ≡ parent
+child None None h = refl
+child None (Some other) h = absurd (cc)
+child (Some parent) None h = absurd (cc)
+child (Some parent) (Some other) h = ap Some (sym (eqb-true parent other h))
+
+row_widens : (parent : Option ℕ) (test : Alternative → Bool) (b : List ℕ) → ((a : Alternative) → IsTrue (test a) → Fits a b) → (i : ℕ)
+    → IsTrue (is_row_with parent test i) → WidensAt parent b i
+row_widens parent test b sound i h = elim (slice_get_cases further i).1 [
+  | inl (r, lt, found, same_row) ↦
+      let has : IsTrue (is_child parent r.parent && list_any test r.signature) = subst (λ o. IsTrue (option_map_or (λ (x : Further). is_child parent x.parent && list_any test x.signature) o false)) found h in
+      let widens : Widens parent b r = (child parent r.parent (both_left (is_child parent r.parent) _ has), any_of test b sound r.signature (both_right (is_child parent r.parent) _ has)) in
+      (lt, λ d. subst (Widens parent b) (get_or_default further i r d lt) (subst (Widens parent b) (sym same_row) widens))
+  | inr (past, none) ↦ absurd (let no_row : false ≡ true = subst (λ o. IsTrue (option_map_or (λ (x : Further). is_child parent x.parent && list_any test x.signature) o false)) none h in cc)
+]
+
+rows_widen : {A : Type 0} (row : A → ℕ) (Q : A → Type 0) (test : A → Alternative → Bool) (parent : Option ℕ) (b : List ℕ)
+    → ((e : A) → Q e → (a : Alternative) → IsTrue (test e a) → Fits a b) → (xs : List A) (i : ℕ)
+    → IsTrue (list_all (λ e. is_row_with parent (test e) (row e)) xs) → IsRowOf row Q xs i → WidensAt parent b i
+rows_widen row Q test parent b sound [] i h is = absurd (is)
+rows_widen row Q test parent b sound (x ∷ xs) i h (inl is) =
+    subst (WidensAt parent b) is.0 (row_widens parent (test x) b (sound x is.1) (row x) (both_left (is_row_with parent (test x) (row x)) _ h))
+rows_widen row Q test parent b sound (x ∷ xs) i h (inr is) = rows_widen row Q test parent b sound xs i (both_right (is_row_with parent (test x) (row x)) _ h) is
+
+module _ (b : List ℕ) where
+  program_among : (name : List ℕ) (names : List (List ℕ)) → IsTrue (list_any (same name) names) → IsProgram name b → IsProgramAmong names b
+  program_among name [] h p = absurd (cc)
+  program_among name (other ∷ names) h p = elim (either (same name other) _ h) [
+    | inl e ↦ inl (subst (λ n. IsProgram n b) (same_true name other e) p)
+    | inr e ↦ inr (program_among name names e p)
+  ]
+
+  fits_program : (name : List ℕ) → IsProgram name b → (a : Alternative) → IsTrue (asks_program name a) → Fits a b
+  fits_program name p (program names) h = program_among name names h p
+  fits_program name p other h = absurd (cc)
+
+  in_tag : (rest : List ℕ) (t : Option (Bor (List ℕ))) (u : List ℕ) → IsTrue (same_text t (Some u)) → HasTagText rest t → HasInTag u rest
+  in_tag rest None u h p = absurd (cc)
+  in_tag rest (Some t) u h p = subst (λ own. HasInTag own rest) (same_true t.now u h) p
+
+  module _ (name rest : List ℕ) (element : IsRootElement name rest b) where
+    fits_root : (own : List ℕ) (t : Option (Bor (List ℕ))) → (own ≡ name) × HasTagText rest t → (a : Alternative) → IsTrue (asks_root own t a) → Fits a b
+    fits_root own t p (root other) h =
+        (rest, subst (λ n. IsRootElement n rest b) (sym p.0 ∙ same_true own other (both_left (same own other) _ h)) element)
+    fits_root own t p (root_with other u) h = (
+      rest,
+      subst (λ n. IsRootElement n rest b) (sym p.0 ∙ same_true own other (both_left (same own other) _ h)) element,
+      in_tag rest t u (both_right (same own other) _ h) p.1,
+    )
+    fits_root own t p other h = absurd (cc)
+
+  fits_folder : (folder : List ℕ) → IsPackageWith folder b → (a : Alternative) → IsTrue (asks_folder folder a) → Fits a b
+  fits_folder folder p (package_with other) h = subst (λ f. IsPackageWith f b) (same_true folder other h) p
+  fits_folder folder p other h = absurd (cc)
+
+  fits_lines : IsJsonLines b → (a : Alternative) → IsTrue (is_lines a) → Fits a b
+  fits_lines p json_lines h = p
+  fits_lines p other h = absurd (cc)
+
+  fits_json : IsJson b → (a : Alternative) → IsTrue (is_json a) → Fits a b
+  fits_json p json_text h = p
+  fits_json p other h = absurd (cc)
+
+  fits_plain : Fits plain_text b → (a : Alternative) → IsTrue (is_plain a) → Fits a b
+  fits_plain p plain_text h = p
+  fits_plain p other h = absurd (cc)
+
+  folder_rows : (parent : ℕ) (folders : List Named) → IsTrue (list_all (λ e. is_application e.name.now && is_row_with (Some parent) (asks_folder e.name.now) e.row) folders)
+      → IsTrue (list_all (λ e. is_row_with (Some parent) (asks_folder e.name.now) e.row) folders)
+  folder_rows parent [] h = refl
+  folder_rows parent (e ∷ folders) h =
+      let both = both_left (is_application e.name.now && is_row_with (Some parent) (asks_folder e.name.now) e.row) _ h in
+      pair _ _ (both_right (is_application e.name.now) _ both) (folder_rows parent folders (both_right (is_application e.name.now && is_row_with (Some parent) (asks_folder e.name.now) e.row) _ h))
+    where
+      pair : (x y : Bool) → IsTrue x → IsTrue y → IsTrue (x && y)
+      pair true y p q = q
+      pair false y p q = absurd (cc)
+
+  widens_below : (parent : ℕ) (way : below.Below) (i : ℕ) → IsTrue (is_true_below parent way) → IsFoundBelow way parent b i → WidensAt (Some parent) b i
+  widens_below parent Nothing i h is = absurd (is)
+  widens_below parent (Entries entries) i h is = is.1
+  widens_below parent (Programs names) i h is =
+      rows_widen named_row (λ e. IsProgram e.name.now b) (λ e. asks_program e.name.now) (Some parent) b (λ e p. fits_program e.name.now p) names.now i (both_right (ascends named_row names.now) _ h) is
+  widens_below parent (Roots roots) i h (name, rest, element, is) =
+      rows_widen rooted_row (λ e. (e.name.now ≡ name) × HasTagText rest e.text) (λ e. asks_root e.name.now e.text) (Some parent) b
+      (λ e p. fits_root name rest element e.name.now e.text p) roots.now i (both_right (ascends rooted_row roots.now) _ h) is
+  widens_below parent (Packages entries folders) i h (inl is) = is.1
+  widens_below parent (Packages entries folders) i h (inr is) =
+      rows_widen named_row (λ e. IsPackageWith e.name.now b) (λ e. asks_folder e.name.now) (Some parent) b (λ e p. fits_folder e.name.now p) folders.now i
+      (folder_rows parent folders.now (both_right (ascends named_row folders.now) _ h)) is
+
+  widens_text : (t : Texts) (i : ℕ) → IsTrue (are_texts t) → IsTextRow t b i → WidensAt None b i
+  widens_text t i h is =
+      let rows = both_left (is_row_with None is_lines t.lines && (is_row_with None is_json t.json && is_row_with None is_plain t.plain)) _ h in
+      let later = both_right (is_row_with None is_lines t.lines) _ rows in
+      elim is [
+        | inl (e, p) ↦ subst (WidensAt None b) e (row_widens None is_lines b (fits_lines p) t.lines (both_left (is_row_with None is_lines t.lines) _ rows))
+        | inr (inl (e, p)) ↦ subst (WidensAt None b) e (row_widens None is_json b (fits_json p) t.json (both_left (is_row_with None is_json t.json) _ later))
+        | inr (inr (e, p)) ↦ subst (WidensAt None b) e (row_widens None is_plain b (fits_plain p) t.plain (both_right (is_row_with None is_json t.json) _ later))
+      ]
+
+-- of each way below a row
+true_at : (ways : List below.Below) (n i : ℕ) → IsTrue (are_true n ways) → IsTrue (is_true_below (n + i) (below_at ways i))
+true_at [] n i h = refl
+true_at (way ∷ ways) n zero h = let e : n + 0 ≡ n = omega arith in rw e (both_left (is_true_below n way) _ h)
+true_at (way ∷ ways) n (suc i) h = let e : n + suc i ≡ suc n + i = omega arith in rw e (true_at ways (suc n) i (both_right (is_true_below n way) _ h))
+
+pub true_below : (ways : List below.Below) (parent : ℕ) → EachBelowIsFound ways → IsTrue (is_true_below parent (below_at ways parent))
+true_below ways parent each = let e : 0 + parent ≡ parent = omega arith in subst (λ n. IsTrue (is_true_below n (below_at ways parent))) e (true_at ways 0 parent each.told)
+
+-- each folder of a package is that of an application
+one_of : (t : List ℕ) (others : List (List ℕ)) → IsTrue (list_any (same t) others) → IsOneOf t others
+one_of t [] h = absurd (cc)
+one_of t (other ∷ others) h = elim (either (same t other) _ h) [
+  | inl e ↦ inl (same_true t other e)
+  | inr e ↦ inr (one_of t others e)
+]
+
+module _ (parent : ℕ) where
+  abbrev is_told : Named → Bool
+  is_told e = is_application e.name.now && is_row_with (Some parent) (asks_folder e.name.now) e.row
+
+  each_application : (folders : List Named) → IsTrue (list_all is_told folders) → (k : ℕ) (d : Named) → k < length folders → IsOneOf (get_or folders k d).name.now applications
+  each_application [] h k d lt = absurd (omega arith)
+  each_application (e ∷ folders) h zero d lt = one_of e.name.now applications (both_left (is_application e.name.now) _ (both_left (is_told e) _ h))
+  each_application (e ∷ folders) h (suc k) d lt = each_application folders (both_right (is_told e) _ h) k d (omega arith)
+
+  pub all_applications : (entries : Bor (List Entry)) (folders : Bor (List Named)) → IsTrue (is_true_below parent (Packages entries folders)) → AllApplications folders.now
+  all_applications entries folders h = λ k d lt. each_application folders.now (both_right (ascends named_row folders.now) _ h) k d lt
+
+-- a row is found by its parent, or without one
+module _ (index : RowIndex) (each : EachIsFound index) (i : ℕ) (r : Further) (found : slice_get further i ≡ Some r) (lt : i < length further) where
+  asks_below : IsTrue (is_row_below index.below.now i r.parent r)
+  asks_below = subst (λ o. IsTrue (option_map_or (λ (x : Further). is_row_below index.below.now i x.parent x) o true)) found (each.below.found i lt)
+
+  asks_free : IsTrue (is_row_free index.parentless.now i r.parent r)
+  asks_free = subst (λ o. IsTrue (option_map_or (λ (x : Further). is_row_free index.parentless.now i x.parent x) o true)) found (each.free.found i lt)
+
+  below_by : (parent : ℕ) → r.parent ≡ Some parent → IsTrue (list_all (is_found_below (below_at index.below.now parent) i) r.signature)
+  below_by parent e = subst (λ p. IsTrue (is_row_below index.below.now i p r)) e asks_below
+
+  free_by : r.parent ≡ None → IsTrue (list_all (is_found_free index.parentless.now i) r.signature)
+  free_by e = subst (λ p. IsTrue (is_row_free index.parentless.now i p r)) e asks_free
+
+module _ (by_place : (place : ℕ) (t buf : List ℕ) → IsTrue (stands place t buf) ↔ StandsByPlace place t buf) (leads : Leads) (index : RowIndex) (each : EachIsFound index) (b : List ℕ) (all : IsBuffer b) where
+  finds_below : (parent i : ℕ) → WidensAt (Some parent) b i → IsFoundBelow (below_at index.below.now parent) parent b i
+  finds_below parent i w = elim (slice_get_cases further i).1 [
+    | inl (r, within, found, same_row) ↦
+        let holds : Widens (Some parent) b r = subst (Widens (Some parent) b) same_row (w.1 r) in
+        found_below by_place leads b (small_bytes b all) i parent w (below_at index.below.now parent) r.signature (below_by index each i r found within parent holds.0) holds.1
+    | inr (past, none) ↦ absurd (let lt = w.0 in omega arith)
+  ]
+
+  finds_free : (i : ℕ) → WidensAt None b i → IsFoundFree index.parentless.now b i
+  finds_free i w = elim (slice_get_cases further i).1 [
+    | inl (r, within, found, same_row) ↦
+        let holds : Widens None b r = subst (Widens None b) same_row (w.1 r) in
+        found_free by_place leads b (small_bytes b all) i index.parentless.now w r.signature (free_by index each i r found within holds.0) holds.1
+    | inr (past, none) ↦ absurd (let lt = w.0 in omega arith)
+  ]
+
+pub all_found : ((place : ℕ) (t buf : List ℕ) → IsTrue (stands place t buf) ↔ StandsByPlace place t buf) → Leads → (index : RowIndex) → EachIsFound index → FindsAll index
+all_found by_place leads index each = record {
+  below = λ b all parent i. (widens_below b parent (below_at index.below.now parent) i (true_below index.below.now parent each.below), finds_below by_place leads index each b all parent i);
+  free = λ b all i. (
+    λ is. elim is [ inl tried_row ↦ tried_row.1 | inr t ↦ widens_text b index.parentless.now.texts i each.free.told t ],
+    finds_free by_place leads index each b all i,
+  );
+}
+
+pub texts_ascend : (t : Texts) → IsTrue (are_texts t) → (t.lines ≤ t.json) × (t.json ≤ t.plain)
+texts_ascend t h =
+    let up = both_right (is_row_with None is_lines t.lines && (is_row_with None is_json t.json && is_row_with None is_plain t.plain)) _ h in
+    (leb-true t.lines t.json (both_left (nat_le t.lines t.json) _ up), leb-true t.json t.plain (both_right (nat_le t.lines t.json) _ up))
+
+-- the least that is found is the least that widens the answer
+module _ (index : RowIndex) (all : FindsAll index) (b : List ℕ) (bytes : IsBuffer b) where
+  pub least_below : (parent least : ℕ) (way : below.Below) → way ≡ below_at index.below.now parent → IsLeast (IsFoundBelow way parent b) FURTHER_COUNT least
+      → IsLeast (WidensAt (Some parent) b) FURTHER_COUNT least
+  least_below parent least way e h =
+      least_same _ _ FURTHER_COUNT least (λ i. (all.below b bytes parent i).0) (λ i. (all.below b bytes parent i).1)
+      (subst (λ (w : below.Below). IsLeast (IsFoundBelow w parent b) FURTHER_COUNT least) e h)
+
+  pub least_with_texts : (tried_least least : ℕ) → IsLeast (IsTried None b (tried_parentless index.parentless.now b)) FURTHER_COUNT tried_least
+      → IsLeast (IsTextRow index.parentless.now.texts b) tried_least least → IsLeast (WidensAt None b) FURTHER_COUNT least
+  least_with_texts tried_least least h k =
+      least_same _ _ FURTHER_COUNT least (λ i. (all.free b bytes i).0) (λ i. (all.free b bytes i).1) (least_both _ _ FURTHER_COUNT tried_least least h k)
+
+  pub least_before_texts : (least : ℕ) → IsTrue (are_texts index.parentless.now.texts) → least ≤ index.parentless.now.texts.lines
+      → IsLeast (IsTried None b (tried_parentless index.parentless.now b)) FURTHER_COUNT least → IsLeast (WidensAt None b) FURTHER_COUNT least
+  least_before_texts least texts later h =
+      let (json_later, plain_later) = texts_ascend index.parentless.now.texts texts in
+      least_with_texts least least h (least_late _ least (λ i is. elim is [
+        | inl (e, p) ↦ omega arith
+        | inr (inl (e, p)) ↦ omega arith
+        | inr (inr (e, p)) ↦ omega arith
+      ]))
+
+-- no row widens an answer below which there is none
+pub none_below : (index : RowIndex) → FindsAll index → (row : ℕ) → below_at index.below.now row ≡ Nothing → (b : List ℕ) → IsBuffer b
+    → IsFirstOf (Widens (Some row) b) further None
+none_below index all row e b bytes =
+    none_found (Some row) b FURTHER_COUNT
+    (least_none (WidensAt (Some row) b) FURTHER_COUNT (λ i w.
+    let found = (all.below b bytes row i).1 w in
+    absurd (subst (λ (way : below.Below). IsFoundBelow way row b i) e found)))
+    (omega arith)
+
+-- as computed of sixteen rows a step, with room for more of them: a refusal shows the numbers of the rows that are not found
+pub each_below : (ways : List below.Below) → NoneRefused (is_row_below_found ways) FURTHER_COUNT 0 16 → IsTrue (are_true 0 ways) → EachBelowIsFound ways
+each_below ways none told = record {
+  found = λ i lt. let many = length-further in passed (is_row_below_found ways) FURTHER_COUNT 16 none (omega arith) i (omega arith);
+  told = told;
+}
+
+pub each_free : (index : Parentless) → NoneRefused (is_row_free_found index) FURTHER_COUNT 0 16 → IsTrue (are_texts index.texts) → EachFreeIsFound index
+each_free index none told = record {
+  found = λ i lt. let many = length-further in passed (is_row_free_found index) FURTHER_COUNT 16 none (omega arith) i (omega arith);
+  told = told;
+}

@@ -1,0 +1,31 @@
+use Rattle.std.proofs.Common.{◌≡◌, true, subst, sym}
+use Rattle.infer_more.specs.Index.{IsFoundBelow, IsLeast, is_true_below}
+use Rattle.infer_more.specs.declared.index.Below.{Below}
+use Rattle.infer_more.specs.declared.index.lists.TheConstants.{FURTHER_COUNT}
+use Rattle.infer_more.proofs.FoundLemmas.{all_applications}
+use Rattle.infer_more.proofs.IndexLemmas.{both_left}
+use Rattle.infer_more.proofs.LeastLemmas.{least_both}
+use Rattle.infer_more.proofs.answers.least_found.Goals as goal
+
+pub least_program-requires : goal.least_program-requires
+least_program-requires c = both_left _ _ (subst (λ (way : Below). is_true_below c.args.row way ≡ true) c.in-Programs.is c.requires)
+
+pub least_root-requires : goal.least_root-requires
+least_root-requires c = both_left _ _ (subst (λ (way : Below). is_true_below c.args.row way ≡ true) c.in-Roots.is c.requires)
+
+pub least_folder-requires-clause-ascend : goal.least_folder-requires-clause-ascend
+least_folder-requires-clause-ascend c = both_left _ _ (subst (λ (way : Below). is_true_below c.args.row way ≡ true) c.in-Packages.is c.requires)
+
+pub least_folder-requires-clause-application : goal.least_folder-requires-clause-application
+least_folder-requires-clause-application c = all_applications c.args.row c.in-Packages.entries c.in-Packages.folders (subst (λ (way : Below). is_true_below c.args.row way ≡ true) c.in-Packages.is c.requires)
+
+pub returns-in-Programs : goal.returns-in-Programs
+returns-in-Programs c = subst (λ (way : Below). IsLeast (IsFoundBelow way c.args.row c.args.buf.now) FURTHER_COUNT c.least_program.result) (sym c.in-Programs.is) c.least_program.ensures
+
+pub returns-in-Roots : goal.returns-in-Roots
+returns-in-Roots c = subst (λ (way : Below). IsLeast (IsFoundBelow way c.args.row c.args.buf.now) FURTHER_COUNT c.least_root.result) (sym c.in-Roots.is) c.least_root.ensures
+
+pub returns-in-Packages : goal.returns-in-Packages
+returns-in-Packages c =
+    subst (λ (way : Below). IsLeast (IsFoundBelow way c.args.row c.args.buf.now) FURTHER_COUNT c.least_folder.result) (sym c.in-Packages.is)
+    (least_both _ _ FURTHER_COUNT _ _ c.least_of-tried.ensures c.least_folder.ensures)

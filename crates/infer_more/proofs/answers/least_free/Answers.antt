@@ -1,0 +1,17 @@
+use Rattle.std.proofs.Common.{arith}
+use Rattle.infer_more.proofs.FoundLemmas.{least_before_texts, least_with_texts}
+use Rattle.infer_more.proofs.OutlineLemmas.{buffer_of}
+use Rattle.infer_more.proofs.answers.least_free.Goals as goal
+
+pub least_text-requires : goal.least_text-requires
+least_text-requires c = c.index-index.ensures.free.told
+
+pub returns-then-tried-from : goal.returns-then-tried-from
+returns-then-tried-from c =
+    let b = c.args.buf.now in
+    least_before_texts c.index-index.result c.finds.ensures b (buffer_of b (λ i. omega (arith, c.type_inv.buf i))) _ c.index-index.ensures.free.told (omega (arith, c.from.ensures)) c.least_tried-tried.ensures
+
+pub returns : goal.returns
+returns c =
+    let b = c.args.buf.now in
+    least_with_texts c.index-index.result c.finds.ensures b (buffer_of b (λ i. omega (arith, c.type_inv.buf i))) _ _ c.least_tried-tried.ensures c.least_text.ensures

@@ -1,0 +1,7 @@
+-- none so far is the one
+use Rattle.std.proofs.Common.{◌≡◌, ℕ, ◌<◌, get_or}
+use Rattle.infer_more.specs.declared.index.Named.{Named}
+use Rattle.infer_more.proofs.answers.least_named.Given as goal
+
+abbrev pub invariant-loop-named : goal.invariant-loop-named
+invariant-loop-named l = (j : ℕ) (d : Named) → j < l.named-index → ¬ ((get_or l.names j d).name.now ≡ l.name)

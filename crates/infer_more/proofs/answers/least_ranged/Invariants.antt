@@ -1,0 +1,7 @@
+-- the least of the rows so far
+use Rattle.std.proofs.Common.{None, take}
+use Rattle.infer_more.specs.Index.{IsLeast, IsTried, ranged}
+use Rattle.infer_more.proofs.answers.least_ranged.Given as goal
+
+abbrev pub invariant-loop-range : goal.invariant-loop-range
+invariant-loop-range l = IsLeast (IsTried None l.buf (ranged l.buf (take l.range-index l.ranges))) l.fn.before l.least

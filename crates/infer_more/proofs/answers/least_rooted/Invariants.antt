@@ -1,0 +1,8 @@
+-- none so far is the one
+use Rattle.std.proofs.Common.{◌≡◌, ℕ, ◌<◌, get_or}
+use Rattle.infer_more.specs.Index.{HasTagText}
+use Rattle.infer_more.specs.declared.index.Rooted.{Rooted}
+use Rattle.infer_more.proofs.answers.least_rooted.Given as goal
+
+abbrev pub invariant-loop-rooted : goal.invariant-loop-rooted
+invariant-loop-rooted l = (j : ℕ) (d : Rooted) → j < l.rooted-index → ¬ (((get_or l.roots j d).name.now ≡ l.root.name.now) × HasTagText l.root.rest.now (get_or l.roots j d).text)
