@@ -89,8 +89,9 @@ pub fn may_become_ppt(buf: &[u8]) -> bool
     may_have_class_id(buf, &POWERPOINT_ID)
 }
 
+/// Whether some bytes after `buf` make it a compound file whose root entry has this class id.
 #[tactic(auto, using(crate::proofs::OpenLemmas::test_from_reads, crate::proofs::ClassIdLemmas::class_id_reached))]
-fn may_have_class_id(buf: &[u8], id: &[u8; 16]) -> bool
+pub fn may_have_class_id(buf: &[u8], id: &[u8; 16]) -> bool
     ensures { IsTrue result ↔ Reachable (HasClassId id.now) buf.now }
 {
     agrees_at(buf, b"\xD0\xCF\x11\xE0\xA1\xB1\x1A\xE1", 0)

@@ -120,6 +120,18 @@ pub(crate) fn agrees_at<const N: usize>(buf: &[u8], text: &[u8; N], place: usize
     agrees_at_end(buf, text, place)
 }
 
+/// Whether `buf` and `text`, of any length, agree from `place` on, as far as both go: more bytes may make `text` stand
+/// there.
+#[tactic(auto, using(crate::proofs::OpenLemmas::stands_where_whole, crate::proofs::OpenLemmas::agrees_where_stands))]
+pub fn may_stand_at(buf: &[u8], text: &[u8], place: usize) -> bool
+    ensures { IsTrue result ↔ AgreesAt buf.now text.now place }
+{
+    if place <= buf.len() && text.len() <= buf.len() - place {
+        return stands_at(buf, text, place);
+    }
+    agrees_at_end(buf, text, place)
+}
+
 /// [`agrees_at`] for a text that `buf` ends before or in.
 #[tactic(auto, using(crate::proofs::OpenLemmas::agrees_from_end, crate::proofs::OpenLemmas::end_from_agrees))]
 #[inline(never)]

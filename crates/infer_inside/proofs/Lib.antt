@@ -18,3 +18,5 @@ pub mod RunLemmas
 pub mod FrontLemmas
 pub mod ScriptLemmas
 pub mod MarkupLemmas
+pub mod OpenLemmas
+pub mod OpenDbaseLemmas

@@ -1,7 +1,8 @@
 -- dBASE tables, by their header.
-use Rattle.std.specs.Prelude.{◌≡◌, ◌==◌, ℕ, ◌+◌, ◌%◌, ◌≤◌, ◌⊎◌, ◌&&◌, nat_le, if◌then◌else◌, IsTrue, List, [], ◌∷◌, length, codes, slice_index}
+use Rattle.std.specs.Prelude.{◌≡◌, ◌==◌, ℕ, ◌+◌, ◌%◌, ◌<◌, ◌≤◌, ◌⊎◌, ◌&&◌, nat_le, if◌then◌else◌, IsTrue, List, [], ◌∷◌, length, codes, slice_index}
 use Rattle.std.specs.List.{list_any}
 use Rattle.infer_deep.specs.Numbers.{le16}
+use Rattle.infer_deep.specs.Open.{AgreesAt}
 
 -- the byte is one of these
 abbrev pub IsOneOf : List ℕ → ℕ → Type 0
@@ -37,3 +38,30 @@ HasField b = BeginsName (slice_index b 32) × IsOneOf (codes "+@BCDFGILMNOPTVXY"
 -- the header of a table, whose records have two bytes or more
 abbrev pub IsDbase : List ℕ → Type 0
 IsDbase b = (65 ≤ length b) × IsDated b × HasField b × (2 ≤ le16 b 10) × ((e : ℕ) × EndsFields b e)
+
+-- the byte at p, if b has it, is of the kind
+abbrev pub MayBe : (ℕ → Type 0) → List ℕ → ℕ → Type 0
+MayBe Kind b p = p < length b → Kind (slice_index b p)
+
+-- what b has of these bytes is dated, or is of the first field
+abbrev pub MayBeDated : List ℕ → Type 0
+MayBeDated b =
+    MayBe (IsOneOf versions) b 0 × MayBe (λ x. (0x01 ≤ x) × (x ≤ 0x0C)) b 2 × MayBe (λ x. (0x01 ≤ x) × (x ≤ 0x1F)) b 3
+    × MayBe (λ x. x ≡ 0) b 12 × MayBe (λ x. x ≡ 0) b 13
+
+abbrev pub MayHaveField : List ℕ → Type 0
+MayHaveField b = MayBe BeginsName b 32 × MayBe (IsOneOf (codes "+@BCDFGILMNOPTVXY")) b 43
+
+-- whole fields may end where the header says, as far as b has the two bytes at 8, and the fields
+abbrev pub MayEndFields : List ℕ → Type 0
+MayEndFields b =
+    (length b ≤ 8) ⊎ ((length b ≡ 9) × (slice_index b 8 % 32 ≡ behind (slice_index b 0) % 32))
+    ⊎ ((10 ≤ length b)
+    × ((e : ℕ) × (e + behind (slice_index b 0) ≡ le16 b 8) × (64 ≤ e) × (e % 32 ≡ 0) × AgreesAt b (0x0D ∷ []) e))
+
+-- what b has of the header is one of a table
+pub record MayBeDbase (b : List ℕ) : Type 0 where
+  pub dated : MayBeDated b
+  pub field : MayHaveField b
+  pub many : 12 ≤ length b → 2 ≤ le16 b 10
+  pub ends : MayEndFields b

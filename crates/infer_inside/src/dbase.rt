@@ -1,9 +1,11 @@
 //! dBASE tables, by their header.
-ghost use Rattle.std.specs.Prelude.{◌≡◌, ◌↔◌, ◌≤◌, ℕ, length, slice_index, codes, IsTrue};
+ghost use Rattle.std.specs.Prelude.{◌≡◌, ◌↔◌, ◌≤◌, ℕ, length, slice_index, slice_index_or, codes, IsTrue};
 ghost use Rattle.infer_deep.specs.Numbers.{le16};
-ghost use Rattle.infer_inside.specs.Dbase.{BeginsName, EndsFields, HasField, IsDated, IsDbase, IsOneOf, behind, versions};
+ghost use Rattle.infer_inside.specs.Dbase.{BeginsName, EndsFields, HasField, IsDated, IsDbase, IsOneOf, MayBeDated, MayBeDbase, MayEndFields, MayHaveField, behind, versions};
+ghost use Rattle.infer_deep.specs.Signatures.{Reachable};
 
 use infer_deep::numbers::le16;
+use infer_deep::places::may_stand_at;
 
 /// The header of a dBASE table.
 pub fn is_dbase(buf: &[u8]) -> bool
@@ -13,6 +15,66 @@ pub fn is_dbase(buf: &[u8]) -> bool
         return false;
     }
     ends_fields(buf)
+}
+
+/// Whether some bytes after `buf`, or none, make it the header of a dBASE table.
+#[tactic(auto, using(crate::proofs::OpenDbaseLemmas::dbase_reached, crate::proofs::OpenDbaseLemmas::dbase_known))]
+pub fn may_become_dbase(buf: &[u8]) -> bool
+    ensures { IsTrue result ↔ Reachable IsDbase buf.now }
+{
+    may_be_dbase(buf)
+}
+
+/// Whether what `buf` has of the header is one of a dBASE table.
+fn may_be_dbase(buf: &[u8]) -> bool
+    ensures { IsTrue result ↔ MayBeDbase buf.now }
+{
+    if buf.len() >= 12 && le16(buf, 10) < 2 {
+        return false;
+    }
+    may_be_dated(buf) && may_have_field(buf) && may_end_fields(buf)
+}
+
+fn may_be_dated(buf: &[u8]) -> bool
+    ensures { IsTrue result ↔ MayBeDated buf.now }
+{
+    is_version(byte_or(buf, 0, 0x03))
+        && is_within(byte_or(buf, 2, 1), 0x0C)
+        && is_within(byte_or(buf, 3, 1), 0x1F)
+        && byte_or(buf, 12, 0) == 0
+        && byte_or(buf, 13, 0) == 0
+}
+
+fn may_have_field(buf: &[u8]) -> bool
+    ensures { IsTrue result ↔ MayHaveField buf.now }
+{
+    begins_name(byte_or(buf, 32, b'A')) && is_kind(byte_or(buf, 43, b'C'))
+}
+
+/// The byte at `place`, or the other one where `buf` ends before it.
+fn byte_or(buf: &[u8], place: usize, other: u8) -> u8
+    ensures { result ≡ slice_index_or buf.now place other }
+{
+    if place < buf.len() { buf[place] } else { other }
+}
+
+/// Whether whole fields may end where the header says, as far as `buf` goes.
+fn may_end_fields(buf: &[u8]) -> bool
+    ensures { IsTrue result ↔ MayEndFields buf.now }
+{
+    if buf.len() < 9 {
+        return true;
+    }
+    let behind = behind(buf[0]);
+    if buf.len() < 10 {
+        return buf[8] as usize % 32 == behind % 32;
+    }
+    let length = le16(buf, 8) as usize;
+    if length < behind + 64 {
+        return false;
+    }
+    let end = length - behind;
+    end % 32 == 0 && may_stand_at(buf, b"\x0D", end)
 }
 
 fn is_dated(buf: &[u8]) -> bool
