@@ -20,3 +20,4 @@ pub mod ScriptLemmas
 pub mod MarkupLemmas
 pub mod OpenLemmas
 pub mod OpenDbaseLemmas
+pub mod OpenZipLemmas

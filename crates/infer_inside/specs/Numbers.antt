@@ -1,5 +1,5 @@
 -- Numbers in the bytes of a buffer, in either order.
-use Rattle.std.specs.Prelude.{ℕ, ◌+◌, ◌*◌, Bool, List, slice_index, if◌then◌else◌}
+use Rattle.std.specs.Prelude.{ℕ, ◌+◌, ◌*◌, ◌/◌, ◌%◌, Bool, List, [], ◌∷◌, slice_index, slice_index_or, if◌then◌else◌}
 use Rattle.infer_deep.specs.Numbers.{le16, le32, be32}
 
 -- the number in the two bytes at p, the highest first
@@ -15,3 +15,11 @@ number32 big b p = if big then be32 b p else le32 b p
 
 abbrev pub number64 : Bool → List ℕ → ℕ → ℕ
 number64 big b p = if big then 0x100000000 * be32 b p + be32 b (p + 4) else le32 b p + 0x100000000 * le32 b (p + 4)
+
+-- the two bytes of a number, the lowest first
+abbrev pub low_bytes : ℕ → List ℕ
+low_bytes n = n % 256 ∷ n / 256 ∷ []
+
+-- the greatest number that the two bytes at p may come to write, the lowest first
+abbrev pub most16 : List ℕ → ℕ → ℕ
+most16 b p = slice_index_or b p 0xFF + 256 * slice_index_or b (p + 1) 0xFF

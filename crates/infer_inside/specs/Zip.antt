@@ -3,6 +3,8 @@ use Rattle.std.specs.Prelude.{◌≡◌, ℕ, ◌+◌, ◌-◌, ◌<◌, ◌≤�
 use Rattle.memchr.specs.Find.{OccursAt}
 use Rattle.infer_deep.specs.Numbers.{le16}
 use Rattle.infer_deep.specs.Office.{zip_header}
+use Rattle.infer_deep.specs.Open.{AgreesAt}
+use Rattle.infer_inside.specs.Numbers.{low_bytes, most16}
 
 -- b begins with an entry, whose name, of the length that the two bytes at 26 say, lies in b
 pub record HasFirstName (b : List ℕ) : Type 0 where
@@ -79,3 +81,22 @@ abbrev pub FindsPackage : List ℕ → Option ℕ → Type 0
 FindsPackage b r =
     (folder : List ℕ) → IsOneOf folder applications
     → MatchOption r (¬ IsPackageWith folder b) (λ place. OccursAt b folder place ↔ IsPackageWith folder b)
+
+-- as far as b goes, the first entry may have the name
+pub record MayHaveFirstName (name b : List ℕ) : Type 0 where
+  pub short : length name ≤ 0xFFFF
+  pub header : AgreesAt b zip_header 0
+  pub sized : AgreesAt b (low_bytes (length name)) 26
+  pub tells : AgreesAt b name 30
+
+-- or one that ends in the text: of a length that b does not say, the greatest is taken
+pub record MayHaveFirstEnding (text b : List ℕ) : Type 0 where
+  pub short : length text ≤ most16 b 26
+  pub header : AgreesAt b zip_header 0
+  pub tells : AgreesAt b text (30 + most16 b 26 - length text)
+
+-- or the text behind its name
+pub record MayHaveFirstField (text b : List ℕ) : Type 0 where
+  pub short : length text ≤ most16 b 28
+  pub header : AgreesAt b zip_header 0
+  pub tells : AgreesAt b text (30 + most16 b 26)

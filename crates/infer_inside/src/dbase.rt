@@ -1,9 +1,10 @@
 //! dBASE tables, by their header.
-ghost use Rattle.std.specs.Prelude.{◌≡◌, ◌↔◌, ◌≤◌, ℕ, length, slice_index, slice_index_or, codes, IsTrue};
+ghost use Rattle.std.specs.Prelude.{◌≡◌, ◌↔◌, ◌≤◌, ℕ, length, slice_index, codes, IsTrue};
 ghost use Rattle.infer_deep.specs.Numbers.{le16};
 ghost use Rattle.infer_inside.specs.Dbase.{BeginsName, EndsFields, HasField, IsDated, IsDbase, IsOneOf, MayBeDated, MayBeDbase, MayEndFields, MayHaveField, behind, versions};
 ghost use Rattle.infer_deep.specs.Signatures.{Reachable};
 
+use crate::numbers::byte_or;
 use infer_deep::numbers::le16;
 use infer_deep::places::may_stand_at;
 
@@ -49,13 +50,6 @@ fn may_have_field(buf: &[u8]) -> bool
     ensures { IsTrue result ↔ MayHaveField buf.now }
 {
     begins_name(byte_or(buf, 32, b'A')) && is_kind(byte_or(buf, 43, b'C'))
-}
-
-/// The byte at `place`, or the other one where `buf` ends before it.
-fn byte_or(buf: &[u8], place: usize, other: u8) -> u8
-    ensures { result ≡ slice_index_or buf.now place other }
-{
-    if place < buf.len() { buf[place] } else { other }
 }
 
 /// Whether whole fields may end where the header says, as far as `buf` goes.

@@ -2,10 +2,12 @@
 ghost use Rattle.std.specs.Prelude.{◌≡◌, ◌↔◌, ◌+◌, ◌≤◌, length, IsTrue};
 ghost use Rattle.infer_deep.specs.Numbers.{le16};
 ghost use Rattle.infer_deep.specs.Places.{FindsPlace};
-ghost use Rattle.infer_inside.specs.Zip.{FindsFolder, FindsPackage, FindsPart, FirstEntryEndsIn, FirstEntryHasExtra, FirstEntryIs, HasFirstName, IsFolderEntry, IsPackageWith, IsPartEntry, MayBeginAny, MayBeginPackage};
+ghost use Rattle.infer_inside.specs.Zip.{FindsFolder, FindsPackage, FindsPart, FirstEntryEndsIn, FirstEntryHasExtra, FirstEntryIs, HasFirstName, IsFolderEntry, IsPackageWith, IsPartEntry, MayBeginAny, MayBeginPackage, MayHaveFirstEnding, MayHaveFirstField, MayHaveFirstName};
+ghost use Rattle.infer_deep.specs.Signatures.{Reachable};
 
+use crate::numbers::most16;
 use infer_deep::numbers::le16;
-use infer_deep::places::stands_at;
+use infer_deep::places::{may_stand_at, stands_at};
 use memchr::memchr;
 
 /// The first entry has this name.
@@ -50,6 +52,59 @@ fn first_name_end(buf: &[u8]) -> Option<usize>
         return None;
     }
     Some(end)
+}
+
+/// Whether some bytes after `buf`, or none, give the first entry this name.
+#[tactic(auto, using(infer_deep::proofs::OpenLemmas::test_from_reads, crate::proofs::OpenZipLemmas::name_reached, crate::proofs::OpenZipLemmas::name_known))]
+pub fn may_have_first_entry(buf: &[u8], name: &[u8]) -> bool
+    ensures { IsTrue result ↔ Reachable (FirstEntryIs name.now) buf.now }
+{
+    may_have_first_name(buf, name)
+}
+
+fn may_have_first_name(buf: &[u8], name: &[u8]) -> bool
+    ensures { IsTrue result ↔ MayHaveFirstName name.now buf.now }
+{
+    let length = name.len();
+    if length > 0xFFFF {
+        return false;
+    }
+    may_stand_at(buf, b"PK\x03\x04", 0)
+        && may_stand_at(buf, &[(length % 256) as u8, (length / 256) as u8], 26)
+        && may_stand_at(buf, name, 30)
+}
+
+/// Whether some bytes after `buf`, or none, give the first entry a name that ends in this text, or is it.
+#[tactic(auto, using(infer_deep::proofs::OpenLemmas::test_from_reads, crate::proofs::OpenZipLemmas::ending_reached, crate::proofs::OpenZipLemmas::ending_known))]
+pub fn may_have_first_entry_ending(buf: &[u8], text: &[u8]) -> bool
+    ensures { IsTrue result ↔ Reachable (FirstEntryEndsIn text.now) buf.now }
+{
+    may_have_first_ending(buf, text)
+}
+
+fn may_have_first_ending(buf: &[u8], text: &[u8]) -> bool
+    ensures { IsTrue result ↔ MayHaveFirstEnding text.now buf.now }
+{
+    let length = most16(buf, 26);
+    text.len() <= length
+        && may_stand_at(buf, b"PK\x03\x04", 0)
+        && may_stand_at(buf, text, 30 + length - text.len())
+}
+
+/// Whether some bytes after `buf`, or none, give the first entry an extra field that begins with this text.
+#[tactic(auto, using(infer_deep::proofs::OpenLemmas::test_from_reads, crate::proofs::OpenZipLemmas::extra_reached, crate::proofs::OpenZipLemmas::extra_known))]
+pub fn may_have_first_extra(buf: &[u8], text: &[u8]) -> bool
+    ensures { IsTrue result ↔ Reachable (FirstEntryHasExtra text.now) buf.now }
+{
+    may_have_first_field(buf, text)
+}
+
+fn may_have_first_field(buf: &[u8], text: &[u8]) -> bool
+    ensures { IsTrue result ↔ MayHaveFirstField text.now buf.now }
+{
+    text.len() <= most16(buf, 28)
+        && may_stand_at(buf, b"PK\x03\x04", 0)
+        && may_stand_at(buf, text, 30 + most16(buf, 26))
 }
 
 /// A package of the Open Packaging Conventions whose first folder of an application, by place, is this one.
