@@ -40,16 +40,16 @@ module _ (b more : List ℕ) where
 
   -- ---- numbers
 
-  number16-append : (big : Bool) (p : ℕ) → p + 2 ≤ length b → number16 big (b ++ more) p ≡ number16 big b p
+  pub number16-append : (big : Bool) (p : ℕ) → p + 2 ≤ length b → number16 big (b ++ more) p ≡ number16 big b p
   unfolding be16
   number16-append true p le = omega (arith, kept p (omega arith), kept (p + 1) (omega arith))
   number16-append false p le = le16-append b more p le
 
-  number32-append : (big : Bool) (p : ℕ) → p + 4 ≤ length b → number32 big (b ++ more) p ≡ number32 big b p
+  pub number32-append : (big : Bool) (p : ℕ) → p + 4 ≤ length b → number32 big (b ++ more) p ≡ number32 big b p
   number32-append true p le = be32-append b more p le
   number32-append false p le = le32-append b more p le
 
-  number64-append : (big : Bool) (p : ℕ) → p + 8 ≤ length b → number64 big (b ++ more) p ≡ number64 big b p
+  pub number64-append : (big : Bool) (p : ℕ) → p + 8 ≤ length b → number64 big (b ++ more) p ≡ number64 big b p
   number64-append true p le = omega (arith, be32-append b more p (omega arith), be32-append b more (p + 4) (omega arith))
   number64-append false p le = omega (arith, le32-append b more p (omega arith), le32-append b more (p + 4) (omega arith))
 

@@ -21,3 +21,4 @@ pub mod MarkupLemmas
 pub mod OpenLemmas
 pub mod OpenDbaseLemmas
 pub mod OpenZipLemmas
+pub mod OpenTiffLemmas

@@ -1,5 +1,5 @@
 -- Bytes after a buffer, chosen by their places.
-use Rattle.std.proofs.Common.{IsTrue, ◌≡◌, inl, inr, ℕ, ◌+◌, ◌-◌, ◌<◌, ◌≤◌, List, ◌++◌, length, get_or, max, map, refl, ap, sym, subst, ◌∙◌, arith, length-append}
+use Rattle.std.proofs.Common.{IsTrue, ◌≡◌, Bool, true, false, add-zero, inl, inr, ℕ, zero, suc, ◌+◌, ◌-◌, ◌/◌, ◌%◌, ◌<◌, ◌≤◌, List, ◌++◌, length, get_or, max, map, refl, ap, sym, subst, ◌∙◌, arith, length-append}
 use Rattle.std.proofs.Math.Seq.{get_or-append_right}
 use Rattle.std.proofs.lemmas.List.{get_or_append_left}
 use Rattle.std.proofs.lemmas.Grind.{get_or_default_zero}
@@ -9,9 +9,11 @@ use Rattle.std.specs.List.{range_with_len}
 use Rattle.std.proofs.lemmas.Bool.{cases_lt}
 use Rattle.std.proofs.Math.ListN.{get_or-eq_default}
 use Rattle.infer_deep.specs.Numbers.{le16}
+use Rattle.memchr.specs.Find.{OccursAt}
+use Rattle.infer_deep.proofs.PlaceLemmas.{OccursAt-first}
 use Rattle.infer_deep.specs.Open.{are_bytes}
-use Rattle.infer_inside.specs.Numbers.{most16}
-use Rattle.infer_deep.proofs.OpenLemmas.{IsBytes, bytes_from_test}
+use Rattle.infer_inside.specs.Numbers.{be16, bytes16, most16, number16}
+use Rattle.infer_deep.proofs.OpenLemmas.{IsBytes, bytes_from_test, test_from_reads}
 
 -- b, and then the byte f k at each place k up to n
 pub record Filled (f : ℕ → ℕ) (b : List ℕ) (n : ℕ) : Type 0 where
@@ -95,3 +97,53 @@ unfolding le16
 most16_known b more p le =
     let x = get_or_append_left b more 0 p (omega arith) in let y = get_or_append_left b more 0 (p + 1) (omega arith) in
     let v = get_or_default_zero b p 255 (omega arith) in let w = get_or_default_zero b (p + 1) 255 (omega arith) in omega arith
+
+-- ---- numbers as texts
+
+pub number16_stands : (c : List ℕ) (big : Bool) (p n : ℕ) → ((k : ℕ) → get_or c k 0 < 256) → p + 2 ≤ length c → number16 big c p ≡ n → OccursAt c (bytes16 big n) p
+unfolding be16 le16
+number16_stands c true p n small le is = record { fits = le; reads = go }
+  where
+    go : (k : ℕ) → k < 2 → get_or c (p + k) 0 ≡ get_or (bytes16 true n) k 0
+    go zero l = let x = small (p + 1) in let e : get_or c p 0 ≡ n / 256 = omega arith in rw add-zero e
+    go (suc zero) l = let x = small (p + 1) in let e : get_or c (p + 1) 0 ≡ n % 256 = omega arith in e
+    go (suc (suc k)) l = absurd (omega arith)
+number16_stands c false p n small le is = record { fits = le; reads = go }
+  where
+    go : (k : ℕ) → k < 2 → get_or c (p + k) 0 ≡ get_or (bytes16 false n) k 0
+    go zero l = let x = small p in let e : get_or c p 0 ≡ n % 256 = omega arith in rw add-zero e
+    go (suc zero) l = let x = small p in let e : get_or c (p + 1) 0 ≡ n / 256 = omega arith in e
+    go (suc (suc k)) l = absurd (omega arith)
+
+pub number16_reads : (c : List ℕ) (big : Bool) (p n : ℕ) → OccursAt c (bytes16 big n) p → number16 big c p ≡ n
+unfolding be16 le16
+number16_reads c true p n o =
+    let x : get_or c p 0 ≡ n / 256 = OccursAt-first c (bytes16 true n) p (omega arith) o in
+    let y : get_or c (p + 1) 0 ≡ n % 256 = o.reads 1 (omega arith) in
+    omega arith
+number16_reads c false p n o =
+    let x : get_or c p 0 ≡ n % 256 = OccursAt-first c (bytes16 false n) p (omega arith) o in
+    let y : get_or c (p + 1) 0 ≡ n / 256 = o.reads 1 (omega arith) in
+    omega arith
+
+pub bytes16_bytes : (big : Bool) (n : ℕ) → n < 65536 → IsTrue (are_bytes (bytes16 big n))
+bytes16_bytes true n le = test_from_reads (bytes16 true n) go
+  where
+    go : (i : ℕ) → get_or (bytes16 true n) i 0 < 256
+    go zero = let x : n / 256 < 256 = omega arith in x
+    go (suc zero) = let x : n % 256 < 256 = omega arith in x
+    go (suc (suc i)) = let x : 0 < 256 = omega arith in x
+bytes16_bytes false n le = test_from_reads (bytes16 false n) go
+  where
+    go : (i : ℕ) → get_or (bytes16 false n) i 0 < 256
+    go zero = let x : n % 256 < 256 = omega arith in x
+    go (suc zero) = let x : n / 256 < 256 = omega arith in x
+    go (suc (suc i)) = let x : 0 < 256 = omega arith in x
+
+pub length-bytes16 : (big : Bool) (n : ℕ) → length (bytes16 big n) ≡ 2
+length-bytes16 true n = refl
+length-bytes16 false n = refl
+
+-- bytes FF up to n
+pub fills_most : (b : List ℕ) (n : ℕ) → Filled (λ k. 255) b n
+fills_most b n = fills (λ k. 255) (λ k. omega arith) b n

@@ -2,7 +2,7 @@
 #![tactic(auto, unfolding(crate::specs::Numbers::be16))]
 
 ghost use Rattle.std.specs.Prelude.{◌≡◌, ◌+◌, ◌≤◌, length, slice_index_or};
-ghost use Rattle.infer_inside.specs.Numbers.{be16, most16, number16, number32, number64};
+ghost use Rattle.infer_inside.specs.Numbers.{be16, bytes16, most16, number16, number32, number64};
 
 use infer_deep::numbers::{be32, le16, le32};
 
@@ -64,4 +64,12 @@ pub(crate) fn byte_or(buf: &[u8], place: usize, other: u8) -> u8
     ensures { result ≡ slice_index_or buf.now place other }
 {
     if place < buf.len() { buf[place] } else { other }
+}
+
+/// The two bytes of a number, the highest first if `big`, and else the lowest.
+pub(crate) fn bytes16(number: u16, big: bool) -> [u8; 2]
+    ensures { result ≡ bytes16 big number }
+{
+    let (high, low) = ((number / 256) as u8, (number % 256) as u8);
+    if big { [high, low] } else { [low, high] }
 }
