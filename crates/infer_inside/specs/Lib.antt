@@ -12,4 +12,5 @@ pub mod Script
 pub mod Json
 pub mod JsonStates
 pub mod Markup
+pub mod Open
 pub mod Laws

@@ -1,5 +1,7 @@
 //! PNG images, by their chunks.
 ghost use Rattle.std.specs.Prelude.{◌↔◌, IsTrue};
+ghost use Rattle.infer_deep.specs.Signatures.{Reachable};
+ghost use Rattle.infer_inside.specs.Open.{Tells};
 ghost use Rattle.infer_inside.specs.Png.{IsAnimated};
 
 use infer_deep::numbers::be32;
@@ -9,19 +11,34 @@ use infer_deep::places::stands_at;
 pub fn is_animated(buf: &[u8]) -> bool
     ensures { IsTrue result ↔ IsAnimated buf.now }
 {
+    animation(buf) == Some(true)
+}
+
+/// Whether some bytes after `buf`, or none, make it an animated image.
+pub fn may_become_animated(buf: &[u8]) -> bool
+    ensures { IsTrue result ↔ Reachable IsAnimated buf.now }
+{
+    animation(buf) != Some(false)
+}
+
+/// Whether the chunks are those of an animated image, and none if they go on past the end of `buf`.
+#[inline(always)]
+fn animation(buf: &[u8]) -> Option<bool>
+    ensures { Tells IsAnimated buf.now result }
+{
     let mut chunk = 8;
     while chunk < buf.len() && buf.len() - chunk >= 8 {
         if stands_at(buf, b"acTL", chunk + 4) {
-            return true;
+            return Some(true);
         }
         if stands_at(buf, b"IDAT", chunk + 4) {
-            return false;
+            return Some(false);
         }
         let length = be32(buf, chunk) as usize;
         if length > buf.len() {
-            return false;
+            return None;
         }
         chunk += 12 + length;
     }
-    false
+    None
 }

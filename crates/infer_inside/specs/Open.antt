@@ -1,0 +1,7 @@
+-- What is told of a relation in one pass: whether it holds, and whether bytes after the buffer may bring it.
+use Rattle.std.specs.Prelude.{ℕ, ◌↔◌, Bool, IsTrue, List, Option, MatchOption}
+use Rattle.infer_deep.specs.Signatures.{Reachable}
+
+-- r is whether b has S, which no bytes after it change; and none only if b has it not, but some bytes bring it
+abbrev pub Tells : (List ℕ → Type 0) → List ℕ → Option Bool → Type 0
+Tells S b r = MatchOption r ((¬ S b) × Reachable S b) (λ yes. (IsTrue yes ↔ S b) × (IsTrue yes ↔ Reachable S b))
