@@ -55,15 +55,15 @@ module _ (b more : List ℕ) where
 
   -- ---- ELF files
 
-  table_place-append : (wide big : Bool) → counted_length wide ≤ length b → table_place wide big (b ++ more) ≡ table_place wide big b
+  pub table_place-append : (wide big : Bool) → counted_length wide ≤ length b → table_place wide big (b ++ more) ≡ table_place wide big b
   table_place-append true big le = number64-append big 32 (omega arith)
   table_place-append false big le = number32-append big 28 (omega arith)
 
-  entry_size-append : (wide big : Bool) → counted_length wide ≤ length b → entry_size wide big (b ++ more) ≡ entry_size wide big b
+  pub entry_size-append : (wide big : Bool) → counted_length wide ≤ length b → entry_size wide big (b ++ more) ≡ entry_size wide big b
   entry_size-append true big le = number16-append big 54 (omega arith)
   entry_size-append false big le = number16-append big 42 (omega arith)
 
-  entry_count-append : (wide big : Bool) → counted_length wide ≤ length b → entry_count wide big (b ++ more) ≡ entry_count wide big b
+  pub entry_count-append : (wide big : Bool) → counted_length wide ≤ length b → entry_count wide big (b ++ more) ≡ entry_count wide big b
   entry_count-append true big le = number16-append big 56 (omega arith)
   entry_count-append false big le = number16-append big 44 (omega arith)
 

@@ -22,3 +22,4 @@ pub mod OpenLemmas
 pub mod OpenDbaseLemmas
 pub mod OpenZipLemmas
 pub mod OpenTiffLemmas
+pub mod OpenElfLemmas

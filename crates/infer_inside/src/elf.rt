@@ -1,8 +1,10 @@
 //! ELF files, by their program headers.
 ghost use Rattle.std.specs.Prelude.{◌≡◌, ◌↔◌, ◌+◌, ◌*◌, ◌<◌, ◌≤◌, ℕ, length, IsTrue};
-ghost use Rattle.infer_inside.specs.Elf.{AsksAt, HasOwnTable, IsSharedObject, counted_length, entry_count, entry_size, known_size, table_place};
+ghost use Rattle.infer_inside.specs.Elf.{AsksAt, HasOwnTable, IsLeastCount, IsSharedObject, MayBeSharedObject, MayHaveOwnTable, NoneKnownAsks, counted_length, entry_count, entry_size, known_size, place_end, size_at, table_place};
+ghost use Rattle.infer_deep.specs.Signatures.{Reachable};
 
-use crate::numbers::{number16, number32, number64};
+use crate::numbers::{byte_or, bytes16, number16, number32, number64};
+use infer_deep::places::may_stand_at;
 
 /// A shared object: of its program headers, which lie in the buffer, none asks for an interpreter.
 pub fn is_shared_object(buf: &[u8]) -> bool
@@ -18,6 +20,96 @@ pub fn is_shared_object(buf: &[u8]) -> bool
         (2, 2) => has_own_table(buf, true, true),
         _ => false,
     }
+}
+
+/// Whether some bytes after `buf`, or none, make it a shared object.
+pub fn may_become_shared_object(buf: &[u8]) -> bool
+    ensures { IsTrue result ↔ Reachable IsSharedObject buf.now }
+{
+    may_be_shared_object(buf)
+}
+
+fn may_be_shared_object(buf: &[u8]) -> bool
+    ensures { IsTrue result ↔ MayBeSharedObject buf.now }
+{
+    match (byte_or(buf, 4, 1), byte_or(buf, 5, 1)) {
+        (1, 1) => may_have_own_table(buf, false, false),
+        (1, 2) => may_have_own_table(buf, false, true),
+        (2, 1) => may_have_own_table(buf, true, false),
+        (2, 2) => may_have_own_table(buf, true, true),
+        _ => false,
+    }
+}
+
+fn may_have_own_table(buf: &[u8], wide: bool, big: bool) -> bool
+    ensures { IsTrue result ↔ MayHaveOwnTable wide big buf.now }
+{
+    let size = known_size(wide);
+    let place = size_at(wide);
+    if !may_stand_at(buf, &bytes16(3, big), 16)
+        || !may_stand_at(buf, &bytes16(size as u16, big), place)
+    {
+        return false;
+    }
+    let count = match least_count(buf, place + 2, big) {
+        Some(count) => count,
+        None => return false,
+    };
+    buf.len() < place_end(wide)
+        || none_known_asks(buf, table_place(buf, wide, big), count, size, big)
+}
+
+/// The least count that the two bytes at `place` may come to write.
+fn least_count(buf: &[u8], place: usize, big: bool) -> Option<usize>
+    requires { place ≤ 56 }
+    ensures { IsLeastCount big buf.now place result }
+{
+    if buf.len() <= place {
+        return Some(1);
+    }
+    if buf.len() == place + 1 {
+        let first = buf[place] as usize;
+        return Some(if big {
+            (256 * first).max(1)
+        } else if first == 0 {
+            256
+        } else {
+            first
+        });
+    }
+    let count = number16(buf, place, big) as usize;
+    if count == 0 { None } else { Some(count) }
+}
+
+/// Whether none of the entries whose kind `buf` has asks for an interpreter.
+fn none_known_asks(buf: &[u8], start: usize, count: usize, size: usize, big: bool) -> bool
+    requires large { 32 ≤ size }
+    requires small { size ≤ 56 }
+    ensures { IsTrue result ↔ NoneKnownAsks big buf.now start count size }
+{
+    if buf.len() < 4 || buf.len() - 4 < start {
+        return true;
+    }
+    let known = count.min((buf.len() - 4 - start) / size + 1);
+    for i in 0..known {
+        if number32(buf, start + i * size, big) == 3 {
+            return false;
+        }
+    }
+    true
+}
+
+fn size_at(wide: bool) -> usize
+    ensures is { result ≡ size_at wide }
+    ensures small { result ≤ 54 }
+{
+    if wide { 54 } else { 42 }
+}
+
+fn place_end(wide: bool) -> usize
+    ensures { result ≡ place_end wide }
+{
+    if wide { 40 } else { 32 }
 }
 
 fn has_own_table(buf: &[u8], wide: bool, big: bool) -> bool
@@ -67,7 +159,7 @@ fn known_size(wide: bool) -> usize
 }
 
 fn table_place(buf: &[u8], wide: bool, big: bool) -> usize
-    requires { counted_length wide ≤ length buf.now }
+    requires { place_end wide ≤ length buf.now }
     ensures { result ≡ table_place wide big buf.now }
 {
     if wide {
