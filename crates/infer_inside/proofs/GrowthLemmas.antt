@@ -231,7 +231,7 @@ module _ (b more : List ℕ) where
 
   -- ---- subtitles
 
-  digit : (p : ℕ) → IsDigit (slice_index b p) → IsDigit (slice_index (b ++ more) p)
+  pub digit : (p : ℕ) → IsDigit (slice_index b p) → IsDigit (slice_index (b ++ more) p)
   digit p d = carried IsDigit p (there b p (let low = d.0 in omega arith)) d
 
   is_byte : (x p : ℕ) → 1 ≤ x → slice_index b p ≡ x → slice_index (b ++ more) p ≡ x
@@ -240,7 +240,7 @@ module _ (b more : List ℕ) where
   pair : (p : ℕ) → IsPairAt b p → IsPairAt (b ++ more) p
   pair p (d, e) = (digit p d, digit (p + 1) e)
 
-  time : (t : ℕ) → IsTime b t → IsTime (b ++ more) t
+  pub time : (t : ℕ) → IsTime b t → IsTime (b ++ more) t
   time t h = record {
     hours = pair t h.hours;
     to_minutes = is_byte 0x3A (t + 2) (omega arith) h.to_minutes;
@@ -254,7 +254,7 @@ module _ (b more : List ℕ) where
     thousandths = (pair (t + 9) h.thousandths.0, digit (t + 11) h.thousandths.1);
   }
 
-  line_end : (e t : ℕ) → EndsLine b e t → EndsLine (b ++ more) e t
+  pub line_end : (e t : ℕ) → EndsLine b e t → EndsLine (b ++ more) e t
   line_end e t (inl (x, s)) = inl (is_byte 0x0A e (omega arith) x, s)
   line_end e t (inr (x, y, s)) = inr (is_byte 0x0D e (omega arith) x, is_byte 0x0A (e + 1) (omega arith) y, s)
 

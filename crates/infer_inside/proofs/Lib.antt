@@ -23,3 +23,4 @@ pub mod OpenDbaseLemmas
 pub mod OpenZipLemmas
 pub mod OpenTiffLemmas
 pub mod OpenElfLemmas
+pub mod OpenSubtitlesLemmas

@@ -7,8 +7,9 @@ use Rattle.infer_deep.specs.Numbers.{le16}
 use Rattle.infer_deep.specs.Open.{AgreesAt, are_bytes}
 use Rattle.infer_deep.specs.Signatures.{Reachable}
 use Rattle.infer_deep.proofs.OpenLemmas.{agrees_past}
-use Rattle.infer_inside.specs.Dbase.{BeginsName, EndsFields, HasField, IsDated, IsDbase, IsOneOf, MayBe, MayBeDated, MayBeDbase, MayEndFields, MayHaveField, behind, versions}
+use Rattle.infer_inside.specs.Dbase.{BeginsName, EndsFields, HasField, IsDated, IsDbase, IsOneOf, MayBeDated, MayBeDbase, MayEndFields, MayHaveField, behind, versions}
 use Rattle.std.proofs.Math.ListN.{get_or-eq_default}
+use Rattle.infer_inside.specs.Open.{MayBe}
 use Rattle.infer_inside.proofs.OpenLemmas.{Filled, either, fills_list}
 
 behind_cases : (x : ℕ) → (behind x ≡ 1) ⊎ (behind x ≡ 264)

@@ -3,6 +3,7 @@ use Rattle.std.specs.Prelude.{◌≡◌, ◌==◌, ℕ, ◌+◌, ◌%◌, ◌<�
 use Rattle.std.specs.List.{list_any}
 use Rattle.infer_deep.specs.Numbers.{le16}
 use Rattle.infer_deep.specs.Open.{AgreesAt}
+use Rattle.infer_inside.specs.Open.{MayBe}
 
 -- the byte is one of these
 abbrev pub IsOneOf : List ℕ → ℕ → Type 0
@@ -38,10 +39,6 @@ HasField b = BeginsName (slice_index b 32) × IsOneOf (codes "+@BCDFGILMNOPTVXY"
 -- the header of a table, whose records have two bytes or more
 abbrev pub IsDbase : List ℕ → Type 0
 IsDbase b = (65 ≤ length b) × IsDated b × HasField b × (2 ≤ le16 b 10) × ((e : ℕ) × EndsFields b e)
-
--- the byte at p, if b has it, is of the kind
-abbrev pub MayBe : (ℕ → Type 0) → List ℕ → ℕ → Type 0
-MayBe Kind b p = p < length b → Kind (slice_index b p)
 
 -- what b has of these bytes is dated, or is of the first field
 abbrev pub MayBeDated : List ℕ → Type 0
