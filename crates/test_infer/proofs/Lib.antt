@@ -1,3 +1,6 @@
 pub mod BufferLemmas
 pub mod GrowingLemmas
 pub mod OneLemmas
+pub mod SignaturePairs
+pub mod AnswerPairs
+pub mod WiderPairs

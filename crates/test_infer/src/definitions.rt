@@ -1,9 +1,10 @@
 //! Properties of a buffer that the page of definitions shows and no call tells by itself, as functions that tell them.
-ghost use Rattle.std.specs.Prelude.{◌≡◌, ◌↔◌, ◌≤◌, ◌-◌, ◌++◌, IsTrue, None, Some, codes, length};
+ghost use Rattle.std.specs.Prelude.{◌≡◌, ◌↔◌, ◌≤◌, ◌-◌, ◌++◌, ℕ, List, IsTrue, None, Some, codes, length};
 ghost use Rattle.std.specs.List.{HoldsAt};
 ghost use Rattle.infer.specs.Brands.{HasMajor, IsBoxed};
 ghost use Rattle.infer.specs.Buffer.{head};
 ghost use Rattle.infer.specs.BuiltIn.{IsAccepted, fixed};
+ghost use Rattle.infer.specs.ClassId.{HasClassId, word_id};
 ghost use Rattle.infer.specs.Decided.{IsChangeable, MayAccept};
 ghost use Rattle.infer.specs.Find.{OccursAt};
 ghost use Rattle.infer.specs.First.{IsAnswer, IsFirst, IsFirstOf};
@@ -19,6 +20,8 @@ ghost use Rattle.infer.specs.Samples.{HoldsSample, zeros};
 ghost use Rattle.infer.specs.Table.{table};
 ghost use Rattle.infer.specs.Walks.{RowHas};
 ghost use Rattle.infer.specs.declared.table.rows.TheConstants.{PNG, ROW_COUNT};
+ghost use Rattle.infer_inside.specs.Markup.{IsRootElement};
+ghost use Rattle.infer_inside.specs.Script.{IsProgram};
 ghost use Rattle.infer_inside.specs.Text.{IsEncodingOf};
 ghost use Rattle.infer_more.specs.Added.{IsAnswerWith};
 ghost use Rattle.infer_more.specs.Samples.{HasAnswer};
@@ -35,8 +38,11 @@ use infer::beginnings::{begins_frame, begins_white};
 use infer::image::is_png;
 use infer::rows::{EXE, PNG, ROW_COUNT, WASM};
 use infer::{Ask, Asker, Infer, get, is, is_decided, may_become, position, sample};
+use infer_deep::doc::has_class_id;
 use infer_deep::numbers::{be32, le16, le32};
 use infer_deep::places::stands_at;
+use infer_inside::markup::root_of;
+use infer_inside::script::program;
 use infer_sniff::position_settled;
 use std::alloc::Allocator;
 
@@ -140,6 +146,18 @@ pub fn has_folder_at_30(buf: &[u8]) -> bool
     stands_at(buf, b"word/", 30) || stands_at(buf, b"ppt/", 30) || stands_at(buf, b"xl/", 30)
 }
 
+pub fn has_word_id(buf: &[u8]) -> bool
+    ensures { IsTrue result ↔ HasClassId word_id buf.now }
+{
+    has_class_id(
+        buf,
+        &[
+            0x06, 0x09, 0x02, 0x00, 0x00, 0x00, 0x00, 0x00, 0xC0, 0x00, 0x00, 0x00, 0x00, 0x00,
+            0x00, 0x46,
+        ],
+    )
+}
+
 pub fn is_frame(buf: &[u8]) -> bool
     ensures { IsTrue result ↔ IsFrame buf.now }
 {
@@ -210,6 +228,24 @@ pub fn has_no_encoding(buf: &[u8]) -> bool
     match infer_more::encoding(buf) {
         Some(_) => false,
         None => true,
+    }
+}
+
+pub fn is_program_sh(buf: &[u8]) -> bool
+    ensures { IsTrue result ↔ IsProgram (codes "sh") buf.now }
+{
+    match program(buf) {
+        Some(name) => are_equal(name, b"sh"),
+        None => false,
+    }
+}
+
+pub fn is_root_svg(buf: &[u8]) -> bool
+    ensures { IsTrue result ↔ ((rest : List ℕ) × IsRootElement (codes "svg") rest buf.now) }
+{
+    match root_of(buf) {
+        Some(root) => are_equal(root.name, b"svg"),
+        None => false,
     }
 }
 

@@ -4,11 +4,11 @@
 use crate::added::begins_10_11_12;
 use crate::definitions::{
     has_folder_at_30, has_ftyp_at_4, has_head_mz, has_major_heic, has_no_answer_with,
-    has_no_encoding, has_no_row, has_no_wider_answer, is_accepted_by_exe, is_accepted_by_object,
-    is_accepted_by_png, is_boxed, is_changeable, is_exe_by_extension, is_first_exe, is_frame,
-    is_held_by_space, is_labelled_png, is_mark, is_object, is_one_by_be32, is_one_by_le16,
-    is_one_by_le32, is_sample_of_png, is_settled, is_space, is_unknown_so_far, may_become_wasm,
-    shows_extension, shows_mime_type,
+    has_no_encoding, has_no_row, has_no_wider_answer, has_word_id, is_accepted_by_exe,
+    is_accepted_by_object, is_accepted_by_png, is_boxed, is_changeable, is_exe_by_extension,
+    is_first_exe, is_frame, is_held_by_space, is_labelled_png, is_mark, is_object, is_one_by_be32,
+    is_one_by_le16, is_one_by_le32, is_program_sh, is_root_svg, is_sample_of_png, is_settled,
+    is_space, is_unknown_so_far, may_become_wasm, shows_extension, shows_mime_type,
 };
 use crate::growing::{
     begins_white_alone, breaks_at_1, is_kept_open_by_white, is_one_short, stays_unknown,
@@ -26,6 +26,18 @@ use infer::texts::{is_mime_supported, is_supported};
 use infer::video::{is_mkv, is_webm};
 use infer::{Infer, is_decided, is_image};
 use infer_deep::doc::has_office_name;
+use infer_inside::dbase::is_dbase;
+use infer_inside::elf::is_shared_object;
+use infer_inside::json::{is_json, is_json_lines};
+use infer_inside::markup::{has_root, has_root_with};
+use infer_inside::png::is_animated;
+use infer_inside::subtitles::is_subrip;
+use infer_inside::tar::has_tar_checksum;
+use infer_inside::text::is_binary;
+use infer_inside::tiff::first_directory_has_tag;
+use infer_inside::zip::{
+    first_entry_ends_in, first_entry_has_extra, first_entry_is, is_package_with,
+};
 use infer_more::is_text;
 use infer_uses::gate::admits;
 use std::alloc::AllocError;
@@ -37,11 +49,27 @@ macro_rules! told {
     };
 }
 
+// Such lines for a call that is told more than the buffer.
+macro_rules! told_of {
+    ($($name:literal $call:ident($($with:expr),+), $has:expr, $lacks:expr;)*) => {
+        [$(($name, $call($has, $($with),+), $call($lacks, $($with),+))),*]
+    };
+}
+
 // Such lines for a call that is told the added rows too.
 macro_rules! told_with {
     ($infer:expr; $($name:literal $call:path, $has:expr, $lacks:expr;)*) => {
         [$(($name, $call($infer, $has), $call($infer, $lacks))),*]
     };
+}
+
+/// So many zeros, with the texts at their places.
+fn zeros_but<const N: usize>(texts: &[(usize, &[u8])]) -> [u8; N] {
+    let mut buf = [0; N];
+    for (place, text) in texts {
+        buf[*place..*place + text.len()].copy_from_slice(text);
+    }
+    buf
 }
 
 /// What the call answers of the sample of a row, and of the sample without its last byte.
@@ -140,6 +168,37 @@ fn answers(rt: HostRuntime) {
 }
 
 #[test]
+fn inside(rt: HostRuntime) {
+    let told = told! {
+        "IsBinary" is_binary, b"a\0", b"a";
+        "IsJson" is_json, b"[1,", b"[1";
+        "IsJsonLines" is_json_lines, b"[1]\n[", b"[1]\n";
+        "IsProgram" is_program_sh, b"#!/bin/sh -e\n", b"#!/bin/sh";
+        "IsRootElement" is_root_svg, b"<!-- --><s:svg>", b"<svg";
+        "IsSubRip" is_subrip, b"1\n00:00:00,000 --> 00:00:01,000", b"1\n00:00:00,000 -> 00:00:01,000";
+        "IsAnimated" is_animated, b"\x89PNG\r\n\x1A\n\0\0\0\0acTL", b"\x89PNG\r\n\x1A\n\0\0\0\0IDAT";
+        "IsSharedObject" is_shared_object, &zeros_but::<46>(&[(4, b"\x01\x01"), (16, b"\x03"), (42, b" \0\x01")]), &zeros_but::<46>(&[(4, b"\x01\x01"), (16, b"\x02"), (42, b" \0\x01")]);
+        "IsDbase" is_dbase, &zeros_but::<65>(&[(0, b"\x02\0\x01\x01"), (8, b"A\0\x02"), (32, b"A"), (43, b"+"), (64, b"\r")]), &zeros_but::<65>(&[(0, b"\x02\0\x01\x01"), (8, b"A\0\x02"), (32, b"A"), (43, b"+")]);
+        "HasTarChecksum" has_tar_checksum, &zeros_but::<512>(&[(0, b"\x01"), (148, b"401")]), &zeros_but::<512>(&[(0, b"\x01"), (148, b"400")]);
+    };
+    for (name, has, lacks) in told {
+        assert!(rt; has && !lacks, "{name}");
+    }
+    let told = told_of! {
+        "HasRoot" has_root(b"svg"), b"<svg>", b"<svg";
+        "HasRootWith" has_root_with(b"a", b"b"), b"<a b>", b"<a>b";
+        "HasTag" first_directory_has_tag(0xC612), b"MM\0*\0\0\0\x06\xC6\x12\0\0\0\0\0\0\0\0\0\0", b"MM\0*\0\0\0\x06\xC6\x12";
+        "FirstEntryIs" first_entry_is(b"a"), &zeros_but::<31>(&[(0, b"PK\x03\x04"), (26, b"\x01"), (30, b"a")]), &zeros_but::<31>(&[(0, b"PK\x03\x04"), (26, b"\x01"), (30, b"b")]);
+        "FirstEntryEndsIn" first_entry_ends_in(b"b"), &zeros_but::<32>(&[(0, b"PK\x03\x04"), (26, b"\x02"), (30, b"ab")]), &zeros_but::<32>(&[(0, b"PK\x03\x04"), (26, b"\x02"), (30, b"ba")]);
+        "FirstEntryHasExtra" first_entry_has_extra(b"b"), &zeros_but::<32>(&[(0, b"PK\x03\x04"), (26, b"\x01"), (28, b"\x01"), (30, b"ab")]), &zeros_but::<32>(&[(0, b"PK\x03\x04"), (26, b"\x02"), (30, b"ab")]);
+        "IsPackageWith" is_package_with(b"word/"), &zeros_but::<41>(&[(0, b"PK\x03\x04"), (6, b"PK\x03\x04"), (30, b"_rels/word/")]), &zeros_but::<41>(&[(0, b"PK\x03\x04"), (6, b"PK\x03\x04"), (30, b"_rels/xl/")]);
+    };
+    for (name, has, lacks) in told {
+        assert!(rt; has && !lacks, "{name}");
+    }
+}
+
+#[test]
 fn added(rt: HostRuntime) -> Result<(), AllocError> {
     let mut infer = Infer::new();
     infer.add(rt.alloc(), "custom/foo", "foo", begins_10_11_12)?;
@@ -174,6 +233,7 @@ fn samples(rt: HostRuntime) {
         ("IsMkv", sample_and_less(MKV, is_mkv)),
         ("IsWebm", sample_and_less(WEBM, is_webm)),
         ("IsDoc", sample_and_less(DOC, is_doc)),
+        ("HasClassId", sample_and_less(DOC, has_word_id)),
         ("IsXls", sample_and_less(XLS, is_xls)),
         ("IsPpt", sample_and_less(PPT, is_ppt)),
         ("IsDocx", sample_and_less(DOCX, is_docx)),

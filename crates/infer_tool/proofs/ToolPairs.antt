@@ -1,0 +1,60 @@
+-- What has a property of what the program says, and what has not: each pair computed.
+use Rattle.std.proofs.Common.{◌≡◌, ℕ, Bool, true, false, [], ◌∷◌, Option, None, Some, Result, Ok, Err, IsTrue, length, refl, ap, codes, arith}
+use Rattle.std.specs.Io.KnownBytes.{Appends}
+use Rattle.infer.specs.Triple.{Triple}
+use Rattle.infer.specs.declared.read.fault.Fault.{Fault}
+use Rattle.infer.specs.declared.read.fault.Fault.TheVariants.{Memory, Open, Read}
+use Rattle.infer_tool.specs.Report.{Reports, ReportsInput, fault_written, outcome_of, told, unless_failed, written}
+use Rattle.infer_tool.specs.Words.{front_option, sample_option, second}
+use Rattle.infer_tool.specs.Writer.{has_failed, inner}
+use Rattle.infer_tool.specs.declared.writer.WatchedWriter.{WatchedWriter}
+use Rattle.infer_tool.specs.declared.outcome.Outcome.TheVariants.{Failed, Unknown}
+
+-- a watched writer, a number in place of the writer, and whether it has failed
+abbrev writer : ℕ → Bool → WatchedWriter ℕ
+writer n failed = record { writer = record { ref_ptr = (0, 0); ghost_name = 0; now = n }; has_failed = failed }
+
+pub told_pair : (told (Ok None) ≡ Ok None) × (¬ (told (Err Memory) ≡ Ok None))
+told_pair = (refl, λ e. absurd (cc))
+
+pub outcome_of_pair : (outcome_of (Ok None) ≡ Unknown) × (¬ (outcome_of (Err Memory) ≡ Unknown))
+outcome_of_pair = (refl, λ e. absurd (cc))
+
+pub written_pair : (written (codes "a") (Ok None) ≡ codes "a: unknown\n") × (¬ (written (codes "a") (Err Memory) ≡ codes "a: unknown\n"))
+written_pair = (refl, λ e. omega (arith, ap length e))
+
+pub fault_written_pair : (fault_written (codes "a") (Err Memory) ≡ codes "a: no memory\n") × (¬ (fault_written (codes "a") (Ok None) ≡ codes "a: no memory\n"))
+fault_written_pair = (refl, λ e. omega (arith, ap length e))
+
+pub unless_failed_pair : (unless_failed true (Some []) ≡ None) × (¬ (unless_failed false (Some []) ≡ None))
+unless_failed_pair = (refl, λ e. absurd (cc))
+
+pub front_option_pair : (front_option ≡ codes "--front") × (¬ (front_option ≡ codes "-front"))
+front_option_pair = (refl, λ e. omega (arith, ap length e))
+
+pub sample_option_pair : (sample_option ≡ codes "--sample") × (¬ (sample_option ≡ codes "-sample"))
+sample_option_pair = (refl, λ e. omega (arith, ap length e))
+
+pub second_pair : (second (codes "a" ∷ codes "b" ∷ []) ≡ codes "b") × (¬ (second (codes "b" ∷ []) ≡ codes "b"))
+second_pair = (refl, λ e. omega (arith, ap length e))
+
+pub has_failed_pair : IsTrue (has_failed (writer 0 true)) × (¬ IsTrue (has_failed (writer 0 false)))
+has_failed_pair = (refl, λ t. absurd (cc))
+
+pub inner_pair : (inner (writer 1 true) ≡ 1) × (¬ (inner (writer 0 true) ≡ 1))
+inner_pair = (refl, λ e. omega (arith, e))
+
+pub Reports_pair : Reports (codes "a") (Ok None) Unknown (Some []) (Some (codes "a: unknown\n")) (Some []) (Some [])
+    × (¬ Reports (codes "a") (Ok None) Unknown (Some []) (Some (codes "a: unknown")) (Some []) (Some []))
+Reports_pair = ((refl, refl, refl), λ h. omega (arith, ap length h.1))
+
+-- a run that failed told a fault
+told_fault : (answer : Result (Option Triple) Fault) → Failed ≡ outcome_of answer → Appends (Some []) (Some []) (fault_written [] answer) → ⊥
+told_fault (Ok None) e bytes = absurd (cc)
+told_fault (Ok (Some t)) e bytes = absurd (cc)
+told_fault (Err (Open kind)) e bytes = omega (arith, ap length bytes)
+told_fault (Err (Read kind)) e bytes = omega (arith, ap length bytes)
+told_fault (Err Memory) e bytes = omega (arith, ap length bytes)
+
+pub ReportsInput_pair : ReportsInput 0 None [] Failed None None (Some []) (Some (codes ": no memory\n")) × (¬ ReportsInput 0 None [] Failed None None (Some []) (Some []))
+ReportsInput_pair = ((Err Memory, tt, (refl, tt, refl)), λ h. told_fault h.0 h.2.0 h.2.2)

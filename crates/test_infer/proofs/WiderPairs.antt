@@ -1,0 +1,190 @@
+-- What has a property of further rows, of verdicts and of what users do, and what has not: each pair computed, or proved by a law.
+use Rattle.std.proofs.Common.{◌≡◌, ◌≤◌, ◌++◌, ℕ, true, false, List, [], ◌∷◌, None, Some, IsTrue, length, length-append, get_or, slice_index, refl, ap, subst, ⊎_elim, codes, arith, inl, inr}
+use Rattle.std.proofs.lemmas.Bool.Decides.{nat_tests}
+use denote.Ref.{Bor}
+use Rattle.infer_sig.specs.Signature.{text}
+use Rattle.infer.specs.Samples.{zeros}
+use Rattle.infer.specs.Triple.{triple}
+use Rattle.infer.specs.Table.{table}
+use Rattle.infer.specs.declared.table.file_type.FileType.{FileType}
+use Rattle.infer.specs.declared.table.file_type.MatcherType.TheVariants.{App}
+use Rattle.infer.specs.declared.table.rows.TheConstants.{DLL, ELF, EXE, PDF, ROW_COUNT, XML}
+use Rattle.infer_inside.specs.Markup.{HasInTag}
+use Rattle.infer_inside.specs.Numbers.{be16, number16, number32, number64}
+use Rattle.infer_inside.specs.Runs.{IsAfterLast}
+use Rattle.infer_deep.specs.Numbers.{be32, le16, le32}
+use Rattle.infer_more.specs.Ended.{ended, ended_listed, ended_shown}
+use Rattle.infer_more.specs.Index.{all_ascend}
+use Rattle.infer_more.specs.Laws.{IsLost, TextsFit, is_plain}
+use Rattle.infer_more.specs.Listed.{AreEnded, joined, row_listed, signature_listed}
+use Rattle.infer_more.specs.Row.{Further, is_closed_alternative, is_row_closed}
+use Rattle.infer_more.specs.Samples.{HasNoSample, has_room, sample_at, written}
+use Rattle.infer_more.specs.Signature.{Accepted, Alternative, at_least, json_text, plain_text}
+use Rattle.infer_more.specs.Table.{further, packages}
+use Rattle.infer_more.specs.Wider.{parent_at, shown}
+use Rattle.infer_sig.proofs.PlaceLemmas.{stands_by_place}
+use Rattle.infer_sig.specs.Signature.{stands}
+use Rattle.infer.proofs.KnownLemmas.{proof_of}
+use Rattle.infer.proofs.OrderLemmas.{none_accepts}
+use Rattle.infer_more.proofs.SizeLemmas.{texts_fit}
+use Rattle.infer_more.proofs.LawLemmas.{text_lost}
+use Rattle.test_infer.proofs.SignaturePairs.{occurs}
+use Rattle.infer_sniff.specs.Cases.{bound}
+use Rattle.infer_sniff.specs.Verdicts.{AreAlike, IsFinal, StaysFinalFromBeginning, found_of}
+use Rattle.infer_sniff.specs.declared.case.Case.TheVariants.{Frame, Space}
+use Rattle.infer_sniff.specs.declared.verdict.Verdict.TheVariants.{Final, SoFar}
+use Rattle.infer_uses.specs.Counts.{Counts, counted, no_buffer, passed}
+use Rattle.infer_uses.specs.Fields.{filled, mime_type_at}
+use Rattle.infer_uses.specs.Relays.{IsLabelled, IsPassed}
+
+-- a text that is lent
+abbrev lent : List ℕ → Bor (List ℕ)
+lent t = record { ref_ptr = (0, 0); now = t }
+
+abbrev lent_list : {A : Type 0} → A → Bor A
+lent_list xs = record { ref_ptr = (0, 0); now = xs }
+
+-- a further row without a parent, by its signature
+abbrev further_row : List Alternative → Further
+further_row signature = record { shows = triple App [] (codes "a"); parent = None; signature = signature }
+
+pub be16_pair : (be16 (1 ∷ 2 ∷ []) 0 ≡ 258) × (¬ (be16 (2 ∷ 1 ∷ []) 0 ≡ 258))
+unfolding be16
+be16_pair = (refl, λ e. omega (arith, e))
+
+pub number16_pair : (number16 true (1 ∷ 2 ∷ []) 0 ≡ 258) × (¬ (number16 false (1 ∷ 2 ∷ []) 0 ≡ 258))
+unfolding be16 le16
+number16_pair = (refl, λ e. omega (arith, e))
+
+pub number32_pair : (number32 true (0 ∷ 0 ∷ 0 ∷ 1 ∷ []) 0 ≡ 1) × (¬ (number32 false (0 ∷ 0 ∷ 0 ∷ 1 ∷ []) 0 ≡ 1))
+unfolding be32 le32
+number32_pair = (refl, λ e. omega (arith, e))
+
+pub number64_pair : (number64 true (0 ∷ 0 ∷ 0 ∷ 0 ∷ 0 ∷ 0 ∷ 0 ∷ 1 ∷ []) 0 ≡ 1) × (¬ (number64 false (0 ∷ 0 ∷ 0 ∷ 0 ∷ 0 ∷ 0 ∷ 0 ∷ 1 ∷ []) 0 ≡ 1))
+unfolding be32 le32
+number64_pair = (refl, λ e. omega (arith, e))
+
+pub IsAfterLast_pair : IsAfterLast 0x2F (codes "/b") 0 2 1 × (¬ IsAfterLast 0x2F (codes "/b") 0 2 0)
+IsAfterLast_pair = (
+  record { low = omega arith; high = omega arith; begins = λ l. refl; last = λ k low high e. let z : k ≡ 1 = omega (arith, low, high) in omega (arith, subst (λ j. slice_index (codes "/b") j ≡ 0x2F) z e) },
+  λ h. h.last 0 (omega arith) (omega arith) refl,
+)
+
+pub HasInTag_pair : HasInTag (codes "b") (codes "b>") × (¬ HasInTag (codes "b") (codes ">b"))
+unfolding stands
+HasInTag_pair = (
+  (0, occurs 0 (codes "b") (codes "b>") (omega arith) refl, λ k l e. let z : k ≡ 0 = omega (arith, l) in omega (arith, subst (λ j. slice_index (codes "b>") j ≡ 0x3E) z e)),
+  λ h. h.2 0 (omega arith) refl,
+)
+
+pub ended_pair : (ended (codes "a") ≡ 0x61 ∷ 0 ∷ []) × (¬ (ended [] ≡ 0x61 ∷ 0 ∷ []))
+ended_pair = (refl, λ e. omega (arith, ap length e))
+
+pub ended_listed_pair : ((ended_listed (record { mime_type = lent []; extension = lent (ended (codes "a")) })).extension ≡ ended (codes "a"))
+    × (¬ ((ended_listed (record { mime_type = lent []; extension = lent (codes "a") })).extension ≡ ended (codes "a")))
+ended_listed_pair = (refl, λ e. omega (arith, ap length e))
+
+pub ended_shown_pair : ((ended_shown (triple App [] (codes "a"))).extension ≡ ended (codes "a")) × (¬ ((ended_shown (triple App (codes "a") [])).extension ≡ ended (codes "a")))
+ended_shown_pair = (refl, λ e. omega (arith, ap length e))
+
+pub AreEnded_pair : AreEnded (record { matcher_type = App; mime_type = lent []; extension = lent (codes "a"); ended = record { mime_type = lent (0 ∷ []); extension = lent (ended (codes "a")) }; parent = None; signature = lent_list [] } ∷ [])
+    × (¬ AreEnded (record { matcher_type = App; mime_type = lent []; extension = lent (codes "a"); ended = record { mime_type = lent (0 ∷ []); extension = lent (codes "a") }; parent = None; signature = lent_list [] } ∷ []))
+AreEnded_pair = (refl, λ e. absurd (let f = ap (λ l. length (get_or l 0 (ended_shown (triple App [] []))).extension) e in omega (arith, f)))
+
+pub signature_listed_pair : (signature_listed [] ≡ []) × (¬ (signature_listed [] ≡ plain_text ∷ []))
+signature_listed_pair = (refl, λ e. omega (arith, ap length e))
+
+pub row_listed_pair : (row_listed record { matcher_type = App; mime_type = lent []; extension = lent (codes "a"); ended = record { mime_type = lent (0 ∷ []); extension = lent [] }; parent = None; signature = lent_list [] } ≡ further_row []) × (¬ (row_listed record { matcher_type = App; mime_type = lent []; extension = lent (codes "a"); ended = record { mime_type = lent (0 ∷ []); extension = lent [] }; parent = None; signature = lent_list [] } ≡ further_row (plain_text ∷ [])))
+row_listed_pair = (refl, λ e. omega (arith, ap (λ r. length r.signature) e))
+
+pub joined_pair : (length (joined (lent_list (record { matcher_type = App; mime_type = lent []; extension = lent (codes "a"); ended = record { mime_type = lent (0 ∷ []); extension = lent [] }; parent = None; signature = lent_list [] } ∷ []) ∷ [])) ≡ 1) × (¬ (length (joined (lent_list [] ∷ [])) ≡ 1))
+joined_pair = (refl, λ e. omega (arith, e))
+
+pub is_closed_alternative_pair : IsTrue (is_closed_alternative (at_least 3 (text 1 (codes "ab") ∷ []))) × (¬ IsTrue (is_closed_alternative (at_least 2 (text 1 (codes "ab") ∷ []))))
+is_closed_alternative_pair = (refl, λ t. absurd (cc))
+
+pub is_row_closed_pair : IsTrue (is_row_closed (further_row (at_least 2 (text 0 (codes "ab") ∷ []) ∷ []))) × (¬ IsTrue (is_row_closed (further_row (at_least 1 (text 0 (codes "ab") ∷ []) ∷ []))))
+is_row_closed_pair = (refl, λ t. absurd (cc))
+
+pub Accepted_pair : Accepted (at_least 3 [] ∷ at_least 1 [] ∷ []) (codes "M") × (¬ Accepted (at_least 3 [] ∷ at_least 1 [] ∷ []) [])
+Accepted_pair = (inr (inl refl), λ h. absurd (⊎_elim (λ t. cc) (λ m. ⊎_elim (λ t. cc) (λ n. n) m) h))
+
+pub plain_text_pair : IsTrue (is_plain plain_text) × (¬ IsTrue (is_plain json_text))
+plain_text_pair = (refl, λ t. absurd (cc))
+
+pub IsLost_pair : IsLost plain_text × (¬ IsLost (at_least 0 []))
+IsLost_pair = (text_lost, λ h. h.3 (grind (arith, nat_tests)))
+
+pub TextsFit_pair : TextsFit 73 × (¬ TextsFit 0)
+unfolding shown table further
+TextsFit_pair = (texts_fit, λ h. omega (arith, (h 0).0))
+
+pub parent_at_pair : (parent_at ROW_COUNT ≡ Some ELF) × (¬ (parent_at EXE ≡ Some ELF))
+unfolding further packages
+parent_at_pair = (refl, λ e. absurd (cc))
+
+pub shown_pair : ((get_or shown EXE (triple App [] [])).extension ≡ codes "exe") × (¬ ((get_or shown ELF (triple App [] [])).extension ≡ codes "exe"))
+unfolding shown table further
+shown_pair = (refl, λ e. omega (arith, ap (λ t. get_or t 1 0) e))
+
+pub further_pair : ((get_or further 0 (further_row [])).parent ≡ Some ELF) × (¬ ((get_or further 0 (further_row [])).parent ≡ None))
+unfolding further packages
+further_pair = (refl, λ e. absurd (cc))
+
+pub has_room_pair : IsTrue (has_room (further_row (at_least 1 [] ∷ []))) × (¬ IsTrue (has_room (further_row (at_least 5000 [] ∷ []))))
+has_room_pair = (refl, λ t. absurd (cc))
+
+pub sample_at_pair : (sample_at PDF ≡ Some (codes "%PDF")) × (¬ (sample_at DLL ≡ Some (codes "%PDF")))
+unfolding table
+sample_at_pair = (refl, λ e. absurd (cc))
+
+pub HasNoSample_pair : HasNoSample DLL × (¬ HasNoSample PDF)
+HasNoSample_pair = (inl refl, λ h. ⊎_elim (λ e. omega (arith, e)) (λ i. ⊎_elim (λ e. omega (arith, e)) (λ j. omega (arith, j.0)) i) h)
+
+pub written_pair : (written None (codes "a") ≡ codes "a") × (¬ (written (Some []) (codes "a") ≡ codes "a"))
+written_pair = (refl, λ e. omega (arith, ap (λ b. get_or b 0 0) e))
+
+pub all_ascend_pair : IsTrue (all_ascend (record { below = lent_list (lent_list (record { place = 1; row = 2; byte = 0 } ∷ record { place = 1; row = 3; byte = 0 } ∷ []) ∷ []); parentless = lent_list (record { first = lent_list []; guards = lent_list []; gate = record { place = 1; byte = 0; guards = lent_list [] }; ranges = lent_list [] }) }))
+    × (¬ IsTrue (all_ascend (record { below = lent_list (lent_list (record { place = 1; row = 3; byte = 0 } ∷ record { place = 1; row = 2; byte = 0 } ∷ []) ∷ []); parentless = lent_list (record { first = lent_list []; guards = lent_list []; gate = record { place = 1; byte = 0; guards = lent_list [] }; ranges = lent_list [] }) })))
+all_ascend_pair = (refl, λ t. absurd (cc))
+
+pub bound_pair : (bound Space ≡ XML) × (¬ (bound Frame ≡ XML))
+bound_pair = (refl, λ e. omega (arith, e))
+
+pub IsFinal_pair : IsFinal (Final None) × (¬ IsFinal (SoFar None))
+IsFinal_pair = (tt, λ h. h)
+
+pub found_of_pair : (type : FileType) → (found_of (Final None) ≡ None) × (¬ (found_of (Final (Some type)) ≡ None))
+found_of_pair type = (refl, λ e. absurd (cc))
+
+pub AreAlike_pair : AreAlike (Final None) (Final None) × (¬ AreAlike (Final None) (SoFar None))
+AreAlike_pair = (((λ h. h, λ h. h), refl), λ h. h.0.0 tt)
+
+pub StaysFinalFromBeginning_pair : StaysFinalFromBeginning (SoFar None) [] × (¬ StaysFinalFromBeginning (Final None) [])
+StaysFinalFromBeginning_pair = (
+  ([], [], refl, tt),
+  λ h. omega (arith, (h.3 h.1).1.0.long, ap length h.2),
+)
+
+counts_most : {bs : List (List ℕ)} {n : ℕ} → Counts App bs n → n ≤ length bs
+counts_most no_buffer = omega arith
+counts_most (counted bs b n answer counts has is) = let l = counts_most counts in omega (arith, l, length-append bs (b ∷ []))
+counts_most (passed bs b n answer counts has is) = let l = counts_most counts in omega (arith, l, length-append bs (b ∷ []))
+
+pub Counts_pair : Counts App [] 0 × (¬ Counts App [] 1)
+Counts_pair = (no_buffer, λ h. omega (arith, counts_most h))
+
+pub filled_pair : (filled (codes "a") ≡ codes "a" ++ zeros 72) × (¬ (filled [] ≡ codes "a" ++ zeros 72))
+filled_pair = (refl, λ e. omega (arith, ap (λ b. get_or b 0 0) e))
+
+pub mime_type_at_pair : (mime_type_at PDF ≡ codes "application/pdf") × (¬ (mime_type_at EXE ≡ codes "application/pdf"))
+unfolding shown table further
+mime_type_at_pair = (refl, λ e. omega (arith, ap length e))
+
+pub IsPassed_pair : IsPassed (Some (codes "ab")) (Some (codes "b")) (Some []) (Some (codes "a")) (codes "a")
+    × (¬ IsPassed (Some (codes "ab")) (Some (codes "b")) (Some []) (Some []) (codes "a"))
+IsPassed_pair = (record { taken = refl; written = refl }, λ h. omega (arith, ap length h.written))
+
+pub IsLabelled_pair : IsLabelled (Some []) [] None × (¬ IsLabelled (Some (codes "a")) [] None)
+unfolding table stands le16 le32 be32
+IsLabelled_pair = (record { tells = proof_of (none_accepts stands_by_place []) refl; enough = inl refl }, λ h. ⊎_elim (λ e. omega (arith, ap length e)) (λ i. ⊎_elim (λ l. omega (arith, l)) (λ s. omega (arith, s.long)) i) h.enough)
