@@ -184,6 +184,16 @@ fn faults_over_plain_writers(rt: HostRuntime) -> Result<(), Fail> {
     Ok(())
 }
 
+/// Over a reader that is not watched, no clause says how often it is read: the read after a final verdict would fail.
+#[test]
+fn a_plain_reader_is_read_no_further(rt: HostRuntime) {
+    let (mut out, mut err) = (PieceWriter::new(512), PieceWriter::new(512));
+    let reader = PieceReader::failing(&[0; 2048], 1024, 1, ErrorKind::Other);
+    let outcome = run_reader(rt.alloc(), "-", reader, &mut out, &mut err);
+    assert_eq!(rt; outcome.status(), 1);
+    assert_eq!(rt; out.taken(), b"-: unknown\n".as_slice());
+}
+
 /// A reader of which the first read fails.
 fn failing() -> PieceReader<'static> {
     PieceReader::failing(&JPEG, 4, 0, ErrorKind::Other)
