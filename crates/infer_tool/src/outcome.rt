@@ -5,8 +5,11 @@ ghost use Rattle.infer_tool.specs.Outcome.{outcome_after, status_of, worse_of};
 /// How a report ended: with a type, without one, or with a fault or a failed write.
 #[derive(Clone, Copy, Debug)]
 pub enum Outcome {
+    /// Every type is known.
     Known,
+    /// Some input is of no known type, and nothing failed.
     Unknown,
+    /// Some input could not be opened or read, memory was refused, a write failed, or the arguments are wrong.
     Failed,
 }
 

@@ -1,0 +1,400 @@
+"""What pages repeat of the sources: names, paths, commands, lines of the program, statuses, contracts, versions.
+
+Each function named `check_` yields what it compared: whether both agree, and what to say if they do not. It compares with
+the code, a header, a contract, a script or a text that the program prints, and never with another page."""
+import functools
+import os
+import re
+import shlex
+import shutil
+import subprocess
+
+# What is made, and what is no source: the pages' own checks, and edits that are wrong by intent.
+PRUNED = {"out", ".git", ".ci", "target", "node_modules", "__pycache__", "dist", "must-fail"}
+OWN = {"docs/told.py", "docs/figures.py"}
+# Names of other programs and languages that no source here has.
+FOREIGN = """auditwheel ldconfig memmove Send Sync must_use TLS allocate structures GLIBC_2 flif recend sshlogin basefile nonall
+spark gp mpa tex v3 dac8208d650f15bf manylinux_2_17_x86_64 manylinux2014_x86_64 linux_x86_64""".split()
+# Texts in which the pages speak of all names of a kind.
+PATTERNS = {"may_become_NAME", "is_NAME", "_within", "LIST", "NAME"}
+
+
+@functools.cache
+def text_of(path):
+    with open(path, encoding="utf-8") as it:
+        return it.read()
+
+
+@functools.cache
+def sources():
+    """The paths of all texts but the pages."""
+    found = []
+    for at, folders, files in os.walk("."):
+        folders[:] = sorted(it for it in folders if it not in PRUNED)
+        found += (os.path.normpath(f"{at}/{it}") for it in sorted(files) if not it.endswith((".md", ".png", ".svg", ".jpg")))
+    return [it for it in found if it not in OWN and it != "crates/infer_tool/stdin"]
+
+
+@functools.cache
+def joined():
+    return "\n".join(text_of(it) for it in sources())
+
+
+@functools.cache
+def words():
+    """Every word of the sources and of the paths of all files."""
+    known = set(re.findall(r"\w+", joined())) | {*FOREIGN, *PATTERNS}
+    for at, folders, files in os.walk("."):
+        folders[:] = [it for it in folders if it not in PRUNED - {".ci", "out", "must-fail"}]
+        known.update(it for name in [*folders, *files] for it in re.findall(r"\w+", name))
+    return known
+
+
+def without_blocks(page):
+    """The text of a page without its blocks."""
+    text = re.sub(r"^```.*?^```", "", text_of(page), flags=re.M | re.S)
+    return re.sub(r"^    .*$", "", text, flags=re.M)
+
+
+def blocks_of(page):
+    """The lines of all blocks of a page, without their indentation."""
+    text = text_of(page)
+    fenced = "\n".join(re.findall(r"^```\w*\n(.*?)^```", text, re.M | re.S))
+    return [*fenced.split("\n"), *re.findall(r"^    (.*)$", re.sub(r"^```.*?^```", "", text, flags=re.M | re.S), re.M)]
+
+
+def spans(page):
+    """What stands between backticks."""
+    return re.findall(r"`([^`]+)`", re.sub(r"(?<=\w)\n(?=\w)", " ", without_blocks(page)))
+
+
+def check_words(page):
+    """Each word between backticks stands in a source, so a name that is misspelt is told."""
+    for span in spans(page):
+        unknown = [it for it in re.findall(r"[A-Za-z_]\w+", span) if it not in words() and not re.fullmatch(r"[\dA-F]+", it)]
+        yield not unknown, f"{page}: `{span}`: no source has {', '.join(unknown)}"
+
+
+def is_there(path, page):
+    """Whether a path that a page names is there, from the top, from its own folder or from that of the crates."""
+    folders = [".", os.path.dirname(page) or ".", "crates"]
+    return any(os.path.exists(f"{it}/{path}") for it in folders)
+
+
+def is_made(path):
+    """Whether a build makes it: by a name that the scripts of c/ have."""
+    name = os.path.basename(path)
+    return "/out/" in f"/{path}/" and (name in ("out", "example") or re.search(rf"\b{re.escape(name)}\b", text_of("c/build") + text_of("c/install") + text_of("crates.txt")) is not None)
+
+
+def check_paths(page):
+    """Each path of the repository between backticks leads somewhere."""
+    tops = {it for it in os.listdir(".") if os.path.isdir(it) and it not in PRUNED - {".ci"}}
+    for span in spans(page):
+        if re.fullmatch(r"[\w.-]+(?:/[\w.-]+)+/?", span) and span.split("/")[0] in tops:
+            yield is_there(span, page) or is_made(span), f"{page}: there is no {span}"
+
+
+@functools.cache
+def rows():
+    """The MIME type, extension and class of each row."""
+    lines = [it.split("\t") for path in ("vectors/rows.tsv", "vectors/further/rows.tsv") for it in text_of(path).splitlines()]
+    return {(mime, extension, group.lower()) for group, mime, extension, *_ in lines}
+
+
+TYPE = r"\b(?:application|audio|chemical|custom|font|image|message|model|text|video)/[\w.+-]*\w"
+
+
+@functools.cache
+def mime_types():
+    return set(re.findall(TYPE, joined()))
+
+
+def check_types(page):
+    """Each MIME type of a page stands in a source, and an extension or a class beside it is of the same row."""
+    for mime in set(re.findall(TYPE, re.sub(r"\]\([^)]*\)", "", text_of(page)))):
+        yield mime in mime_types() or is_there(mime, page), f"{page}: no source has the MIME type {mime}"
+    pairs = re.findall(rf"({TYPE}) ([a-z0-9]+)(?: ([a-z]+))?$", "\n".join(blocks_of(page)), re.M)
+    pairs += [it for span in spans(page) for it in re.findall(rf"^(?:\S+: )?({TYPE}) ([a-z0-9]+)(?: ([a-z]+))?$", span)]
+    pairs += re.findall(rf"""mime(?:_type)?['"]?[:=] ?['"]({TYPE})['"], ?"?ext(?:ension)?['"]?[:=] ?['"](\w+)(?:['"], ?"?(?:class|group)['"]?[:=] ?['"](\w+))?""", text_of(page))
+    pairs += [(mime, extension, "") for extension, mime in re.findall(rf"ext: '(\w+)', mime: '({TYPE})'", text_of(page))]
+    for mime, extension, group in pairs:
+        fits = any(it[:2] == (mime, extension) and group in ("", it[2]) for it in rows())
+        # A question's answer may stand beside a type.
+        yield fits or mime.startswith("custom/") or extension == "true", f"{page}: no row is {mime} {extension} {group}".rstrip()
+
+
+@functools.cache
+def subcommands():
+    """What `rt` can be told to do, by its own help."""
+    if not shutil.which("rt"):
+        return None
+    run = subprocess.run(["rt", "--help"], stdout=subprocess.PIPE, stderr=subprocess.STDOUT, text=True, check=False)
+    told = re.findall(r"^ +(?:usage: )?rt ([a-z|-]+)", run.stdout, re.M) + re.findall(r"^usage: rt ([a-z|-]+)", run.stdout, re.M)
+    return {it for some in told for it in some.split("|")}
+
+
+def simple_commands(line):
+    """The commands of a line of a shell, each as its words."""
+    try:
+        tokens = [*shlex.shlex(line, posix=True, punctuation_chars="|&;<>()")]
+    except ValueError:
+        return
+    command = []
+    for token in [*tokens, ";"]:
+        if re.fullmatch(r"[|&;<>()]+", token):
+            if command:
+                yield command
+            command = [] if token not in ("<", ">") else ["<"]
+        else:
+            command.append(token)
+
+
+def check_command(page, command):
+    """A command names a folder, a script, a source or an option that is there."""
+    command = [*command]
+    while command and re.fullmatch(r"\w+=.*", command[0]):
+        command.pop(0)
+    if not command:
+        return
+    head, rest = command[0], command[1:]
+    if head == "cd":
+        yield os.path.isdir(rest[0]), f"{page}: there is no folder {rest[0]} to `cd` to"
+    if head == "rt" and subcommands():
+        yield rest[:1] != [] and rest[0] in subcommands(), f"{page}: `rt` has no {' '.join(rest[:1])}"
+    if head == "cc":
+        yield from check_compiling(page, rest)
+    program = {"infer_tool": "crates/infer_tool/src/run.rt", "./infer_tool": "crates/infer_tool/src/run.rt", "./directory_report": "examples/directory_report/directory_report.c"}.get(head, head)
+    if os.path.isfile(program):
+        told = text_of(program)
+        for option in (it for it in rest if re.fullmatch(r"--\w[\w-]*", it)):
+            yield option in told, f"{page}: {head} has no option {option}"
+    tops = [it for it in os.listdir(".") if os.path.isdir(it)]
+    for word in command:
+        if word.split("/")[0] in tops and "/" in word:
+            yield is_there(word, page) or is_made(word), f"{page}: there is no {word}"
+
+
+def check_compiling(page, rest):
+    """A call of the C compiler finds the headers that its sources include, and has what they call."""
+    includes = [("c" if folder == "c/out" else folder) for it, folder in zip(rest, rest[1:]) if it == "-I"]
+    parts = [it for it in rest if it.endswith((".c", ".a")) and "/" in it]
+    for source in (it for it in parts if it.endswith(".c")):
+        if not os.path.isfile(source):
+            yield False, f"{page}: there is no {source} to compile"
+            continue
+        for header in re.findall(r'^#include "(.*)"', text_of(source), re.M):
+            found = any(os.path.isfile(f"{it}/{header}") for it in [*includes, os.path.dirname(source)])
+            yield found, f"{page}: {source} does not find {header}"
+        called = set(re.findall(r"\binfer_\w+(?=\()", text_of(source)))
+        yield not called or "c/out/libinfer.a" in parts, f"{page}: {source} is compiled without c/out/libinfer.a"
+    known = ("-I", "-o", "-O2", "-L", "-l", "-std=c11")
+    for option in (it for it in rest if it.startswith("-")):
+        yield option.startswith(known), f"{page}: `cc` is given {option}"
+    yield not parts or "-o" in rest, f"{page}: `cc` is not told what to write"
+
+
+def check_commands(page):
+    lines = [it for it in blocks_of(page)] + [it for it in spans(page) if " " in it or "/" in it]
+    heads = ("cd ", "rt ", "cc ", "c/", "docs/", "bench/", ".ci/", "bindings/", "examples/", "infer_tool ", "./infer_tool ", "./directory_report ", "PYTHONPATH=", "export ", "find ")
+    for line in lines:
+        if line.startswith(heads):
+            for command in simple_commands(line):
+                yield from check_command(page, command)
+
+
+@functools.cache
+def fault_texts():
+    return set(re.findall(r'Fault::\w+(?:\(_\))? => "(.*)"', text_of("crates/infer_tool/src/report.rt")))
+
+
+@functools.cache
+def said():
+    """What the program says of an input, after its name, but for types."""
+    written = re.findall(r'writeln!\(\w+, "\{\w+\}: ([a-z ]+)"\)', text_of("crates/infer_tool/src/report.rt") + text_of("crates/infer_tool/src/sample.rt"))
+    return fault_texts() | set(written)
+
+
+def check_lines(page):
+    """What a page shows as a line of the program is one."""
+    for line in [*spans(page), *blocks_of(page)]:
+        found = re.fullmatch(r"(?:[\w.-]*/)*(?:[\w-]+\.\w+|-|folder|dll): (\S.*)", line)
+        if found:
+            is_type = re.fullmatch(rf"({TYPE}) (\w+)", found[1])
+            fits = any(it[:2] == is_type.groups() for it in rows()) if is_type else found[1] in said()
+            yield fits, f"{page}: the program prints no line such as '{line}'"
+    texts = re.findall(r'&\[u8\] = b"(.*)\\n"', text_of("crates/infer_tool/src/run.rt"))
+    for line in spans(page):
+        for text in texts:
+            begin = text.split(" ")[0]
+            if line.startswith(f"{begin} ") and page in ("README.md", "docs/PROGRAM.md"):
+                yield line in texts, f"{page}: the program prints no line such as '{line}'"
+
+
+@functools.cache
+def tested_statuses():
+    """The statuses that the tests of the program want, by what it prints, after the name."""
+    tests = text_of("crates/infer_tool/process-tests")
+    run = text_of("crates/infer_tool/src/run.rt")
+    texts = {*said(), *re.findall(r'&\[u8\] = b"(.*)\\n"', run), "image/jpeg jpg", "this machine lacks a feature of x86-64-v2"}
+    values = dict(re.findall(r"^(\w+)=\$'(.*)'$", tests, re.M))
+    values |= {name: text for name, text in re.findall(r"""^(\w+)="\$\(printf '(.*?)' .*\)\"\$'\\n'$""", tests, re.M)}
+    found = {"": set()}
+    # The status of a job, or of several runs, is not that of the program.
+    for name, status, printed in re.findall(r"""^ *wants (['"](?!a job|four runs).*?['"]) (\d+) (.*)$""", tests, re.M):
+        printed = re.sub(r"\$(\w+)", lambda it: values.get(it[1], ""), printed)
+        in_it = [it for it in texts if it in printed]
+        if len(in_it) == 1:
+            found.setdefault(in_it[0], set()).add(int(status))
+        if printed == "'' ''" and re.search("full|closed|gone", name):
+            found[""].add(int(status))
+    return found
+
+
+def check_statuses():
+    """Each status of docs/PROGRAM.md is that which the tests want of what is printed then."""
+    tested = tested_statuses()
+    lines = re.findall(r"^\| (.*?) \| (.*) \| (\d+)(?:, .*?)? \|$", text_of("docs/PROGRAM.md"), re.M)
+    yield len(lines) >= 10, "docs/PROGRAM.md has no table of statuses"
+    for what, printed, status in lines:
+        wanted = [it for text, it in tested.items() if text and text in printed]
+        if not wanted and "usage line" in printed:
+            wanted = [it for text, it in tested.items() if text.startswith("usage")]
+        if not wanted and printed.startswith("nothing"):
+            wanted = [tested[""]]
+        if not wanted:
+            # Nothing of the program was run.
+            wanted = [it for text, it in tested.items() if text.startswith("this machine")]
+        # A failed write makes a status worse.
+        yield [int(status)] == [*{min(it) for it in wanted}], f"docs/PROGRAM.md: the tests want other statuses than {status} if {what}"
+    outcomes = text_of("crates/infer_tool/src/outcome.rt")
+    numbers = dict(re.findall(r"Outcome::(\w+) => (\d),", outcomes))
+    told = {numbers[name]: text for text, name in re.findall(r"^    /// (.*)\.\n    (\w+),$", outcomes, re.M)}
+    listed = dict(re.findall(r"^\| (\d) \| (.*) \|$", text_of("README.md"), re.M))
+    yield {it: text[0].upper() + text[1:] for it, text in listed.items()} == told, f"README.md tells of the statuses otherwise than crates/infer_tool/src/outcome.rt: {told}"
+    listed = re.findall(r"^\.It (\d+)$", text_of("man/infer_tool.1"), re.M)
+    yield listed == [*numbers.values(), "127"], f"man/infer_tool.1 has the statuses {listed}"
+
+
+@functools.cache
+def contracts():
+    """What stands between the name of each function and its body, by the name."""
+    found = {}
+    for path in (it for it in sources() if re.match(r"crates/\w+/src/.*\.rt$", it)):
+        for name, contract in re.findall(r"^ *(?:pub(?:\(crate\))? )?(?:extern \S+ )?fn (\w+)\b(.*?)^ *\{\}?$", text_of(path), re.M | re.S):
+            found.setdefault(name, []).append(" ".join(contract.split()))
+    return found
+
+
+def check_clauses(page):
+    """A clause that stands after the name of its function stands in its contract."""
+    text = re.sub(r"(?<=\S)\n(?=\S)", " ", without_blocks(page))
+    for name, clause in re.findall(r"`((?:\w+::)*\w+)`: `([^`]*(?:[≡↔]|\w [\w.]*\b(?:now|result)\b)[^`]*)`", text):
+        parts = [" ".join(it.split()) for it in clause.split(" ..")]
+        of_name = contracts().get(name.split("::")[-1], [])
+        found = any(all(it in contract for it in parts) for contract in of_name)
+        yield found, f"{page}: no contract of {name} has the clause `{clause}`"
+
+
+# The crates that a crate's names may come from.
+BELOW = {
+    "infer": ["infer", "infer_sig", "infer_deep"], "infer_more": ["infer_more", "infer_inside"], "infer_sniff": ["infer_sniff"],
+    "infer_uses": ["infer_uses"], "infer_sig": ["infer_sig", "infer_deep"], "infer_deep": ["infer_deep"], "infer_inside": ["infer_inside"],
+}
+
+
+@functools.cache
+def declared_in(crate):
+    """The names that a crate declares or passes on, with those of its modules."""
+    paths = [it for it in sources() if it.startswith(tuple(f"crates/{below}/src/" for below in BELOW[crate])) and "/tests" not in it]
+    text = "".join(map(text_of, paths))
+    passed_on = " ".join(re.findall(r"^ *pub use (.*?);", text, re.M | re.S))
+    found = re.findall(r"\b(?:fn|struct|enum|const|static|mod|trait|type) (\w+)", text) + re.findall(r"\w+", passed_on)
+    # A macro writes the names of some functions.
+    return {*found, *re.findall(r"\b(?:is|may_become)_\w+", text), *(os.path.basename(it)[:-3] for it in paths)}
+
+
+def check_qualified(page):
+    """A name behind that of its crate is one of that crate."""
+    # The binding for Rust has names of its own, and CMake its targets.
+    if page.startswith("bindings/") or page == "docs/C_LIBRARY.md":
+        return
+    for span in spans(page):
+        for path in re.findall(r"(?<![\w:])(?:infer\w*)(?:::\w+)+", span):
+            crate, *names = path.split("::")
+            if crate in BELOW:
+                missing = [it for it in names if it not in declared_in(crate)]
+                yield not missing, f"{page}: the crate {crate} has no {'::'.join(names)}"
+
+
+def declared(header):
+    """The functions that a header declares, each with its parameters."""
+    found = re.findall(r"^(?:static inline )?[a-z][\w ]*?[ *]+(infer_\w+)\((.*?)\);$", text_of(header), re.M)
+    return {name: parameters.split(", ") for name, parameters in found}
+
+
+def check_header():
+    """The man pages have the functions of the headers, with their parameters, and so do the pages."""
+    for header, page in (("c/infer.h", "man/infer.3"), ("c/infer_file.h", "man/infer_path.3")):
+        functions, text = declared(header), text_of(page)
+        shown = {name: re.findall(r'"(.*?)"', rest) or rest.split() for name, rest in re.findall(r"^\.Fn (infer_\w+) (\S.*)$", text.partition(".Sh DESCRIPTION")[0], re.M)}
+        yield shown == functions, f"{page} has other functions than {header}: {sorted({*shown} ^ {*functions}) or [it for it in shown if shown[it] != functions[it]]}"
+        named = set(re.findall(r"^\.Nm (infer_\w+)", text, re.M))
+        yield named == {*functions}, f"{page} names other functions than {header}: {sorted(named ^ {*functions})}"
+    for line in re.findall(r"^    ([a-z][\w ]* \*?infer_\w+\(.*\);)$", text_of("docs/C_LIBRARY.md"), re.M):
+        yield f"\n{line}\n" in text_of("c/infer_file.h") + text_of("c/infer.h"), f"docs/C_LIBRARY.md: no header declares `{line}`"
+
+
+def check_classes():
+    """Pages that list the classes or the faults list those of the code."""
+    codes = re.findall(r"^    INFER_([A-Z]+) = \d", text_of("c/infer.h"), re.M)
+    classes = sorted(it.lower() for it in codes if it != "CUSTOM")
+    told = re.search(r"classes \(([\w, ]+)\)", text_of("examples/upload_gate/README.md"))
+    yield told is not None and told[1].split(", ") == classes, f"examples/upload_gate/README.md lists other classes than {classes}"
+    faults = re.findall(r"^    (\w+)(?:\(ErrorKind\))?,$", text_of("crates/infer/src/read/fault.rt"), re.M)
+    listed = re.findall(r"^\| `Fault::(\w+)", text_of("docs/LIBRARY.md"), re.M)
+    yield listed == faults, f"docs/LIBRARY.md lists the faults {listed}, and the code has {faults}"
+    last = re.findall(r"Case::.*=> (\w+),", text_of("crates/infer_sniff/src/case.rt"))
+    count = len(re.findall(r"^    [A-Z]\w+,$", text_of("crates/infer_sniff/src/case.rt"), re.M))
+    bounds = re.findall(r"^\| .* \| [\w, ]+? (?:in (?:compound files|ZIP archives) )?\| (\w+) \|$", text_of("docs/STREAMS.md"), re.M)
+    titles = {"PPT": "PowerPoint", "PPTX": "PowerPoint"}
+    wanted = [titles.get(it, it) for it in last] + [last[-1]] * (count - len(last))
+    yield [it.replace("Zstandard", "ZST") for it in bounds] == wanted, f"docs/STREAMS.md has cases whose last rows are {bounds}, and the code {wanted}"
+
+
+NUMBERS = ["no", "one", "two", "three", "four", "five", "six", "seven", "eight", "nine", "ten"]
+
+
+def check_counts(pages):
+    """What is counted in words or figures is what the code has."""
+    uses = len([it for it in os.listdir("crates/infer_uses/src") if it != "lib.rt"])
+    cases = len(re.findall(r"^    [A-Z]\w+,$", text_of("crates/infer_sniff/src/case.rt"), re.M))
+    tags = len(re.findall(r'codes "', re.search(r"^tags = .*?(?=\n\n|\Z)", text_of("crates/infer_deep/specs/Text.antt"), re.M | re.S)[0])) if re.search(r"^tags = ", text_of("crates/infer_deep/specs/Text.antt"), re.M) else None
+    front = re.search(r"const FRONT: usize = (\d+);", text_of("crates/infer/src/read/head.rt"))[1]
+    most = re.search(r"front must be 1 to (\d+)", text_of("crates/infer_tool/src/run.rt"))[1]
+    steps = re.findall(r"In `([^`]+)`", re.sub(r"\n(?=\S)", " ", text_of("docs/ADDING_A_TYPE.md").partition("\n## A type whose")[0]))
+    files = len({it for it in steps if os.path.isfile(it)})
+    for page in pages:
+        text = re.sub(r"\n(?=\S)", " ", text_of(page))
+        told = [(it, uses) for it in re.findall(r"has (\w+) such callers", text)]
+        told += [(it, cases) for it in re.findall(r"these (\w+) cases", text)]
+        told += [(it, files) for it in re.findall(r"in (\w+) files and some \d+ lines|in (?=seven)(\w+) files\.", text) for it in it if it]
+        for word, count in told:
+            yield word in NUMBERS and NUMBERS.index(word) == count, f"{page} counts {word}, and there are {count}"
+        if tags:
+            yield all(int(it) == tags for it in re.findall(r"The (\d+) tags of", text)), f"{page} counts other tags than {tags}"
+        # A definition has numbers of its own.
+        fronts = [] if page in ("docs/DEFINITIONS.md", "docs/PROMISES.md") else re.findall(r"first (\d{3,5}) bytes", text)
+        for count in fronts:
+            yield count in (front, "1024", "256", most), f"{page} speaks of the first {count} bytes, and {front} are read"
+        for count in re.findall(r"\b1 to (\d+)", text):
+            yield count == most, f"{page} speaks of 1 to {count}, and the program takes {most}"
+    real = [sorted(counted_files(it)) for it in ("c/infer.h", "docs/HOSTILE_INPUT.md")]
+    yield real[0] == real[1] and len(real[0]) == 2, f"docs/HOSTILE_INPUT.md counts real files otherwise than c/infer.h: {real}"
+
+
+def counted_files(path):
+    """The numbers of real files that a text tells of."""
+    text = " ".join(re.sub(r"^ \* ", "", text_of(path), flags=re.M).split())
+    some = re.findall(r"of ([\d,]+) real files (\d+)", text, re.I)
+    return some + re.findall(r"of (\d+) real ones (\d+)\D+8192 bytes, (\d+) at 65536 and (\d+) whole", text)
