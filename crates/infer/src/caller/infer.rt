@@ -94,7 +94,8 @@ impl<A: Allocator> Infer<A> {
         }
     }
 
-    /// Whether some row with this extension accepts `buf`. Upper and lower case are apart.
+    /// Whether some row with this extension accepts `buf`, which need not be the answer: allow by [`Infer::get`].
+    /// Upper and lower case are apart.
     pub fn is(&self, buf: &[u8], extension: &str) -> bool
         ensures { IsTrue result
             ↔ SomeBoth (HasExtension extension.now) (AnyAccepts buf.now) (rows self.now) }
@@ -102,7 +103,8 @@ impl<A: Allocator> Infer<A> {
         self.some(Wanted::Extension(extension), buf)
     }
 
-    /// Whether some row with this MIME type accepts `buf`. Upper and lower case are apart.
+    /// Whether some row with this MIME type accepts `buf`, which need not be the answer: allow by [`Infer::get`].
+    /// Upper and lower case are apart.
     pub fn is_mime(&self, buf: &[u8], mime_type: &str) -> bool
         ensures { IsTrue result
             ↔ SomeBoth (HasMimeType mime_type.now) (AnyAccepts buf.now) (rows self.now) }
@@ -124,7 +126,7 @@ impl<A: Allocator> Infer<A> {
         self.has(Wanted::MimeType(mime_type))
     }
 
-    /// Whether some row of the class `App` accepts `buf`.
+    /// Whether some row of the class `App` accepts `buf`, which need not be the answer: allow by [`Infer::get`].
     pub fn is_app(&self, buf: &[u8]) -> bool
         ensures { IsTrue result
             ↔ SomeBoth (HasClass MatcherType.App) (AnyAccepts buf.now) (rows self.now) }
@@ -132,7 +134,7 @@ impl<A: Allocator> Infer<A> {
         self.some(Wanted::Class(MatcherType::App), buf)
     }
 
-    /// Whether some row of the class `Archive` accepts `buf`.
+    /// Whether some row of the class `Archive` accepts `buf`, which need not be the answer: allow by [`Infer::get`].
     pub fn is_archive(&self, buf: &[u8]) -> bool
         ensures { IsTrue result
             ↔ SomeBoth (HasClass MatcherType.Archive) (AnyAccepts buf.now) (rows self.now) }
@@ -140,7 +142,7 @@ impl<A: Allocator> Infer<A> {
         self.some(Wanted::Class(MatcherType::Archive), buf)
     }
 
-    /// Whether some row of the class `Audio` accepts `buf`.
+    /// Whether some row of the class `Audio` accepts `buf`, which need not be the answer: allow by [`Infer::get`].
     pub fn is_audio(&self, buf: &[u8]) -> bool
         ensures { IsTrue result
             ↔ SomeBoth (HasClass MatcherType.Audio) (AnyAccepts buf.now) (rows self.now) }
@@ -148,7 +150,7 @@ impl<A: Allocator> Infer<A> {
         self.some(Wanted::Class(MatcherType::Audio), buf)
     }
 
-    /// Whether some row of the class `Book` accepts `buf`.
+    /// Whether some row of the class `Book` accepts `buf`, which need not be the answer: allow by [`Infer::get`].
     pub fn is_book(&self, buf: &[u8]) -> bool
         ensures { IsTrue result
             ↔ SomeBoth (HasClass MatcherType.Book) (AnyAccepts buf.now) (rows self.now) }
@@ -156,7 +158,7 @@ impl<A: Allocator> Infer<A> {
         self.some(Wanted::Class(MatcherType::Book), buf)
     }
 
-    /// Whether some row of the class `Doc` accepts `buf`.
+    /// Whether some row of the class `Doc` accepts `buf`, which need not be the answer: allow by [`Infer::get`].
     pub fn is_document(&self, buf: &[u8]) -> bool
         ensures { IsTrue result
             ↔ SomeBoth (HasClass MatcherType.Doc) (AnyAccepts buf.now) (rows self.now) }
@@ -164,7 +166,7 @@ impl<A: Allocator> Infer<A> {
         self.some(Wanted::Class(MatcherType::Doc), buf)
     }
 
-    /// Whether some row of the class `Font` accepts `buf`.
+    /// Whether some row of the class `Font` accepts `buf`, which need not be the answer: allow by [`Infer::get`].
     pub fn is_font(&self, buf: &[u8]) -> bool
         ensures { IsTrue result
             ↔ SomeBoth (HasClass MatcherType.Font) (AnyAccepts buf.now) (rows self.now) }
@@ -172,7 +174,7 @@ impl<A: Allocator> Infer<A> {
         self.some(Wanted::Class(MatcherType::Font), buf)
     }
 
-    /// Whether some row of the class `Image` accepts `buf`.
+    /// Whether some row of the class `Image` accepts `buf`, which need not be the answer: allow by [`Infer::get`].
     pub fn is_image(&self, buf: &[u8]) -> bool
         ensures { IsTrue result
             ↔ SomeBoth (HasClass MatcherType.Image) (AnyAccepts buf.now) (rows self.now) }
@@ -180,7 +182,7 @@ impl<A: Allocator> Infer<A> {
         self.some(Wanted::Class(MatcherType::Image), buf)
     }
 
-    /// Whether some row of the class `Video` accepts `buf`.
+    /// Whether some row of the class `Video` accepts `buf`, which need not be the answer: allow by [`Infer::get`].
     pub fn is_video(&self, buf: &[u8]) -> bool
         ensures { IsTrue result
             ↔ SomeBoth (HasClass MatcherType.Video) (AnyAccepts buf.now) (rows self.now) }
@@ -188,7 +190,7 @@ impl<A: Allocator> Infer<A> {
         self.some(Wanted::Class(MatcherType::Video), buf)
     }
 
-    /// Whether some row of the class `Custom` accepts `buf`.
+    /// Whether some row of the class `Custom` accepts `buf`, which need not be the answer: allow by [`Infer::get`].
     pub fn is_custom(&self, buf: &[u8]) -> bool
         ensures { IsTrue result
             ↔ SomeBoth (HasClass MatcherType.Custom) (AnyAccepts buf.now) (rows self.now) }
