@@ -56,6 +56,19 @@ def check_performance():
         yield both in ([], [f"{ours} / {crate}"]), f"{PERFORMANCE}: the Rust crate takes {crate} of {label}"
 
 
+def numbers_of(path):
+    """Each line of the tables of a page as its numbers."""
+    return [re.findall(r"\d[\d,.]*", " ".join(row[1:])) for _, _, rows in tables(path) for row in rows]
+
+
+def check_compared(page):
+    """What a page tells of two libraries stands in the tables of the page that it leads to, which a script printed."""
+    for ours, theirs, link in re.findall(r"^\|.*\| ([\d.,]+) / ([\d.,]+) \w+ \| \[.*?\]\((.*?)(?:#.*?)?\)", text_of(page), re.M):
+        rows = numbers_of(os.path.normpath(os.path.join(os.path.dirname(page), link)))
+        is_pair = any((ours, theirs) in zip(row, row[1:]) for row in rows)
+        yield is_pair or all(any(number in row[:1] for row in rows) for number in (ours, theirs)), f"{page}: {link} has not {ours} and {theirs}"
+
+
 @functools.cache
 def known_figures():
     """The numbers of the page of figures, and those with a digit after the point less."""
@@ -82,6 +95,7 @@ def check_repeated(page):
             pairs = [row[1:3] for row in rows] if len(head) > 2 else [[row[1] for row in rows]]
             for pair in (it for it in pairs if len(it) == 2 and all(re.fullmatch(FIGURE, number) for number in it)):
                 yield f"| {' / '.join(pair)} |" in text_of(PERFORMANCE), f"{page}: {PERFORMANCE} has not {' / '.join(pair)}"
+    yield from check_compared(page)
     medians = {call.strip("`"): value for (call, buffer), value in cells() if buffer == "samples, median"}
     for call, value in re.findall(rf"`(\w+)` takes ({FIGURE}) instructions at the median of the samples", text):
         yield medians.get(call) == value, f"{page}: {PERFORMANCE} has not {value} for {call}"

@@ -379,6 +379,9 @@ def check_counts(pages):
         told = [(it, uses) for it in re.findall(r"has (\w+) such callers", text)]
         told += [(it, cases) for it in re.findall(r"these (\w+) cases", text)]
         told += [(it, files) for it in re.findall(r"in (\w+) files and some \d+ lines|in (?=seven)(\w+) files\.", text) for it in it if it]
+        for built_in, more in re.findall(r"(\d+) built-in and (\d+) further types", text):
+            counted = [len(text_of(f"vectors/{it}").splitlines()) for it in ("rows.tsv", "further/rows.tsv")]
+            yield [int(built_in), int(more)] == counted, f"{page} counts {built_in} and {more} types, and there are {counted}"
         for word, count in told:
             yield word in NUMBERS and NUMBERS.index(word) == count, f"{page} counts {word}, and there are {count}"
         if tags:
