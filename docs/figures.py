@@ -12,6 +12,7 @@ import subprocess
 from told import text_of
 
 PERFORMANCE = "docs/PERFORMANCE.md"
+FIGURE = r"\d[\d,]*(?:\.\d+)?(?: million)?"
 
 
 def tables(page):
@@ -72,11 +73,8 @@ def check_compared(page):
 @functools.cache
 def known_figures():
     """The numbers of the page of figures, and those with a digit after the point less."""
-    found = re.findall(r"\d[\d,]*(?:\.\d+)?(?: million)?", text_of(PERFORMANCE))
+    found = re.findall(FIGURE, " ".join(text_of(PERFORMANCE).split()))
     return {*found} | {f"{float(it):.1f}" for it in found if re.fullmatch(r"\d+\.\d+", it)}
-
-
-FIGURE = r"\d[\d,]*(?:\.\d+)?(?: million)?"
 
 
 def check_repeated(page):
