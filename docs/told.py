@@ -14,9 +14,10 @@ PRUNED = {"out", ".git", ".ci", "target", "node_modules", "__pycache__", "dist",
 OWN = {"docs/told.py", "docs/figures.py"}
 # Names of other programs and languages that no source here has.
 FOREIGN = """auditwheel ldconfig memmove Send Sync must_use TLS allocate structures GLIBC_2 flif recend sshlogin basefile nonall
-spark gp mpa tex v3 dac8208d650f15bf manylinux_2_17_x86_64 manylinux2014_x86_64 linux_x86_64""".split()
+spark gp mpa tex v3 dac8208d650f15bf manylinux_2_17_x86_64 manylinux2014_x86_64 linux_x86_64 curl checkCode
+createWriteStream pipeline graph BT LR Println rn tcp temp_dir x89 e2fff2e706466 Foo FOO""".split()
 # Texts in which the pages speak of all names of a kind.
-PATTERNS = {"may_become_NAME", "is_NAME", "_within", "LIST", "NAME"}
+PATTERNS = {"may_become_NAME", "is_NAME", "_within", "LIST", "NAME", "_sig", "_deep", "_sniff", "_more"}
 
 
 @functools.cache
@@ -69,8 +70,8 @@ def spans(page):
 
 
 def check_words(page):
-    """Each word between backticks stands in a source, so a name that is misspelt is told."""
-    for span in spans(page):
+    """Each word of code stands in a source, so a name that is misspelt is told."""
+    for span in [*spans(page), *blocks_of(page)]:
         unknown = [it for it in re.findall(r"[A-Za-z_]\w+", span) if it not in words() and not re.fullmatch(r"[\dA-F]+", it)]
         yield not unknown, f"{page}: `{span}`: no source has {', '.join(unknown)}"
 
