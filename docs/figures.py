@@ -87,12 +87,6 @@ def check_repeated(page):
             told += [it for row in rows for cell in row[1:] for pair in re.findall(rf"^({FIGURE})(?:,|$)|(\d+,\d+) (?:in all|of 8192)", cell) for it in pair if it]
     for it in told:
         yield it in known_figures(), f"{page}: {PERFORMANCE} has no figure {it}"
-    # Figures of the Rust crate stand beside the library's, or in the line below.
-    for _, head, rows in tables(page):
-        if any("Rust crate" in it for it in [*head, *(row[0] for row in rows)]) and told:
-            pairs = [row[1:3] for row in rows] if len(head) > 2 else [[row[1] for row in rows]]
-            for pair in (it for it in pairs if len(it) == 2 and all(re.fullmatch(FIGURE, number) for number in it)):
-                yield f"| {' / '.join(pair)} |" in text_of(PERFORMANCE), f"{page}: {PERFORMANCE} has not {' / '.join(pair)}"
     yield from check_compared(page)
     medians = {call.strip("`"): value for (call, buffer), value in cells() if buffer == "samples, median"}
     for call, value in re.findall(rf"`(\w+)` takes ({FIGURE}) instructions at the median of the samples", text):
