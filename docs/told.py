@@ -130,7 +130,7 @@ def subcommands():
     """What `rt` can be told to do, by its own help."""
     if not shutil.which("rt"):
         return None
-    run = subprocess.run(["rt", "--help"], stdout=subprocess.PIPE, stderr=subprocess.STDOUT, text=True, check=False)
+    run = subprocess.run(["rt", "--help"], cwd="/", stdout=subprocess.PIPE, stderr=subprocess.STDOUT, text=True, check=False)
     told = re.findall(r"^ +(?:usage: )?rt ([a-z|-]+)", run.stdout, re.M) + re.findall(r"^usage: rt ([a-z|-]+)", run.stdout, re.M)
     return {it for some in told for it in some.split("|")}
 
