@@ -72,7 +72,7 @@ def spans(page):
 def check_words(page):
     """Each word of code stands in a source, so a name that is misspelt is told."""
     for span in [*spans(page), *blocks_of(page)]:
-        unknown = [it for it in re.findall(r"[A-Za-z_]\w+", span) if it not in words() and not re.fullmatch(r"[\dA-F]+", it)]
+        unknown = [it for it in re.findall(r"(?<![\w])[A-Za-z_]\w+", span) if it not in words() and not re.fullmatch(r"[\dA-F]+", it)]
         yield not unknown, f"{page}: `{span}`: no source has {', '.join(unknown)}"
 
 

@@ -4,6 +4,7 @@ use Rattle.std.specs.Io.KnownBytes.{Appends}
 use Rattle.infer.specs.Triple.{Triple}
 use Rattle.infer.specs.declared.read.fault.Fault.{Fault}
 use Rattle.infer.specs.declared.read.fault.Fault.TheVariants.{Memory, Open, Read}
+use Rattle.infer_tool.specs.Line.{fault_line, fault_text, line}
 use Rattle.infer_tool.specs.Report.{Reports, ReportsInput, fault_written, outcome_of, told, unless_failed, written}
 use Rattle.infer_tool.specs.Words.{front_option, sample_option, second}
 use Rattle.infer_tool.specs.Writer.{has_failed, inner}
@@ -58,3 +59,12 @@ told_fault (Err Memory) e bytes = omega (arith, ap length bytes)
 
 pub ReportsInput_pair : ReportsInput 0 None [] Failed None None (Some []) (Some (codes ": no memory\n")) × (¬ ReportsInput 0 None [] Failed None None (Some []) (Some []))
 ReportsInput_pair = ((Err Memory, tt, (refl, tt, refl)), λ h. told_fault h.0 h.2.0 h.2.2)
+
+pub line_pair : (line (codes "a") None ≡ codes "a: unknown\n") × (¬ (line (codes "a") None ≡ codes "a: unknown"))
+line_pair = (refl, λ e. omega (arith, ap length e))
+
+pub fault_text_pair : (fault_text Memory ≡ codes "no memory") × (¬ (fault_text Memory ≡ codes "memory"))
+fault_text_pair = (refl, λ e. omega (arith, ap length e))
+
+pub fault_line_pair : (fault_line (codes "a") Memory ≡ codes "a: no memory\n") × (¬ (fault_line (codes "a") Memory ≡ codes "a: no memory"))
+fault_line_pair = (refl, λ e. omega (arith, ap length e))

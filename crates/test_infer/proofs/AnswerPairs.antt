@@ -1,5 +1,5 @@
 -- What has a property of rows, answers and readers, and what has not: each pair computed, or proved by a law.
-use Rattle.std.proofs.Common.{◌≡◌, ◌<◌, ◌≤◌, ◌++◌, ◌∙◌, ℕ, true, List, [], ◌∷◌, Option, None, Some, Ok, Err, IsTrue, length, length-append, replicate, get_or, take, refl, sym, ap, subst, unwrap_or, ⊎_elim, codes, arith, inl, inr}
+use Rattle.std.proofs.Common.{◌≡◌, ◌<◌, ◌≤◌, ◌++◌, ◌∙◌, ℕ, Bool, false, true, List, [], ◌∷◌, Option, None, Some, Ok, Err, IsTrue, length, length-append, replicate, get_or, take, refl, sym, ap, subst, unwrap_or, ⊎_elim, codes, arith, inl, inr}
 use Rattle.std.proofs.lemmas.Bool.Decides.{nat_tests}
 use Rattle.std.proofs.lemmas.List.Elements.{All-cons, All-nil}
 use Rattle.std.specs.declared.io.ErrorKind.{ErrorKind}
@@ -9,26 +9,26 @@ use Rattle.infer_sig.specs.App.{exe}
 use Rattle.infer_sig.specs.Image.{png}
 use Rattle.infer_sig.specs.Signature.{Alternative, accepts, stands, any_of, at_least, byte}
 use Rattle.infer.specs.Arms.{rows_of}
-use Rattle.infer.specs.Arrivals.{frame, last_after, white}
+use Rattle.infer.specs.Arrivals.{IsAwaited, frame, last_after, white}
 use Rattle.infer.specs.Buffer.{IsBuffer}
 use Rattle.infer.specs.BuiltIn.{BuiltIn, fixed, html, pdf}
-use Rattle.infer.specs.Caller.{Contract, Contracts, FixesAnswers}
+use Rattle.infer.specs.Caller.{Allows, Contract, Contracts, FixesAnswers}
 use Rattle.infer.specs.Decided.{IsToldExactly}
 use Rattle.infer.specs.Fault.{OpensNothing, read_fault}
 use Rattle.infer.specs.First.{NoneHas}
-use Rattle.infer.specs.Laws.{AnswersAsBuiltIn, AnyLasts, IsSteady}
-use Rattle.infer.specs.Leads.{allows_first, candidates, candidates_of}
+use Rattle.infer.specs.Laws.{AnswersAsBuiltIn, AnyLasts, IsNotLater, IsSteady}
+use Rattle.infer.specs.Leads.{allows_first, candidates, candidates_of, places_from}
 use Rattle.infer.specs.Listed.{buffer_listed, is_inside, number_of, row_listed}
 use Rattle.infer.specs.Matchers.{OthersAreNear, is_far, is_far_row, signatures}
-use Rattle.infer.specs.Questions.{Fits, IsWanted, fits}
-use Rattle.infer.specs.Reading.{AnswersReader, AnswersSome}
+use Rattle.infer.specs.Questions.{Fits, IsWanted, class_at, fits}
+use Rattle.infer.specs.Reading.{AnswersFront, AnswersReader, AnswersSome}
 use Rattle.infer.specs.Row.{Row, shows}
 use Rattle.infer.specs.Rows.{AnyAccepts, IsAcceptedBy, Signature, custom_row, custom_rows, given, rows}
 use Rattle.infer.specs.Samples.{padded, sample_of, zeros}
-use Rattle.infer.specs.Slots.{extension_of, mime_type_of}
+use Rattle.infer.specs.Slots.{HasWanted, extension_of, mime_type_of, rows_in, slot_of}
 use Rattle.infer.specs.Table.{row, signature_of, table}
 use Rattle.infer.specs.Triple.{triple, triple_of}
-use Rattle.infer.specs.Walks.{IsFirstAmong, Takes, asked_rows, count_asked, is_listed, named, row_numbered}
+use Rattle.infer.specs.Walks.{IsFirstAmong, Takes, asked_rows, count_asked, is_listed, is_wanted, named, row_numbered}
 use Rattle.infer.specs.Watched.{IsDue, Loses, fault_of, inner}
 use Rattle.infer.specs.declared.ask.question.Wanted.TheVariants.{Class, Every}
 use Rattle.infer.specs.declared.caller.custom.CustomRow.{CustomRow}
@@ -38,7 +38,7 @@ use Rattle.infer.specs.declared.read.fault.Fault.TheVariants.{Memory, Open, Read
 use Rattle.infer.specs.declared.read.watched.Watched.{Watched}
 use Rattle.infer.specs.declared.table.file_type.FileType.{FileType}
 use Rattle.infer.specs.declared.table.file_type.MatcherType.TheVariants.{App, Custom, Image}
-use Rattle.infer.specs.declared.table.rows.TheConstants.{AVIF, EXE, XML}
+use Rattle.infer.specs.declared.table.rows.TheConstants.{AVIF, EXE, PNG, XML}
 use Rattle.infer.specs.declared.table.rows.RowName.TheVariants.{Exe, Avif}
 use Rattle.infer.proofs.BuiltInLemmas.{answers_as_built_in}
 use Rattle.infer.proofs.IndexLemmas.{steady}
@@ -277,3 +277,37 @@ AnswersAsBuiltIn_pair = (
   answers_as_built_in none_added refl,
   λ h. h.answer (codes "MZ") None (λ k d low high. absurd (omega (arith, high))) EXE (row_with []) (omega arith) (omega arith) refl,
 )
+
+pub Allows_pair : Allows of_nothing [] true × (¬ Allows of_nothing [] false)
+Allows_pair = (record { shown = lent []; shows = refl; says = (refl, refl) }, λ h. absurd (let e = h.says.0 in cc))
+
+pub IsNotLater_pair : IsNotLater (Some 1) None × (¬ IsNotLater None (Some 1))
+IsNotLater_pair = (tt, λ h. h)
+
+pub IsAwaited_pair : IsAwaited html (codes " ") × (¬ IsAwaited html (codes "x"))
+IsAwaited_pair = (inr (inr (inr (inr refl))), λ white. absurd (grind arith))
+
+pub AnswersFront_pair : AnswersFront {S = BuiltIn} 1 (λ b r. ⊥) (row_with [] ∷ []) (Some []) (Ok None) × (¬ AnswersFront {S = BuiltIn} 1 (λ b r. Unit {0}) (row_with [] ∷ []) (Some []) (Ok None))
+AnswersFront_pair = (λ k d low high h. h, λ h. h 0 (row_with []) (omega arith) (omega arith) tt)
+
+pub class_at_pair : (class_at 6 ≡ Image) × (¬ (class_at 9 ≡ Image))
+class_at_pair = (refl, λ e. absurd (cc))
+
+pub is_wanted_pair : IsTrue (is_wanted (Class Image) PNG) × (¬ IsTrue (is_wanted (Class Image) EXE))
+unfolding table
+is_wanted_pair = (refl, λ t. absurd (cc))
+
+pub slot_of_pair : (slot_of (codes "exe") ≡ slot_of (codes "exe")) × (¬ (slot_of (codes "png") ≡ slot_of (codes "exe")))
+slot_of_pair = (refl, λ e. omega (arith, e))
+
+pub rows_in_pair : IsTrue (is_listed (rows_in extension_of (slot_of (codes "exe"))) EXE) × (¬ IsTrue (is_listed (rows_in extension_of (slot_of (codes "exe"))) PNG))
+unfolding rows_in table
+rows_in_pair = (refl, λ t. absurd (cc))
+
+some_place : (test : Row BuiltIn → Bool) → ((r : Row BuiltIn) → IsTrue (test r)) → (rs : List (Row BuiltIn)) → 0 < length rs → ¬ ([] ≡ places_from test 0 rs)
+some_place test all [] some e = omega (arith, some)
+some_place test all (r ∷ rs) some e = let f : [] ≡ 0 ∷ places_from test 1 rs = rw (all r) at e in omega (arith, ap length f)
+
+pub HasWanted_pair : HasWanted Every (places_from (λ r. true) 0 table) × (¬ HasWanted Every [])
+unfolding HasWanted table
+HasWanted_pair = (((λ r. true), refl, λ r w. refl), λ h. some_place h.0 (λ r. h.2 r tt) table (omega arith) h.1)

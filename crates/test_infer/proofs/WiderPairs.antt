@@ -2,6 +2,7 @@
 use Rattle.std.proofs.Common.{◌≡◌, ◌≤◌, ◌++◌, ℕ, true, false, List, [], ◌∷◌, None, Some, IsTrue, length, length-append, get_or, slice_index, refl, ap, subst, ⊎_elim, codes, arith, inl, inr}
 use Rattle.std.proofs.lemmas.Bool.Decides.{nat_tests}
 use denote.Ref.{Bor}
+use Rattle.infer_sig.specs.Signature as fixed
 use Rattle.infer_sig.specs.Signature.{text}
 use Rattle.infer.specs.Samples.{zeros}
 use Rattle.infer.specs.Triple.{triple}
@@ -10,18 +11,23 @@ use Rattle.infer.specs.declared.table.file_type.FileType.{FileType}
 use Rattle.infer.specs.declared.table.file_type.MatcherType.TheVariants.{App}
 use Rattle.infer.specs.declared.table.rows.TheConstants.{DLL, ELF, EXE, PDF, ROW_COUNT, XML}
 use Rattle.infer_inside.specs.Markup.{HasInTag}
-use Rattle.infer_inside.specs.Numbers.{be16, number16, number32, number64}
+use Rattle.infer_inside.specs.Text.{IsDataByte, encoding_name}
+use Rattle.infer_inside.specs.Zip.{HasFirstName}
+use Rattle.infer_inside.specs.declared.text.Encoding.TheVariants.{UsAscii, Utf8}
+use Rattle.infer_inside.specs.Numbers.{bytes16, most16, be16, number16, number32, number64}
 use Rattle.infer_inside.specs.Runs.{IsAfterLast}
 use Rattle.infer_deep.specs.Numbers.{be32, le16, le32}
 use Rattle.infer_more.specs.Ended.{ended, ended_listed, ended_shown}
-use Rattle.infer_more.specs.Index.{all_ascend}
-use Rattle.infer_more.specs.Laws.{IsLost, TextsFit, is_plain}
+use Rattle.infer_more.specs.Index.{is_plain}
+use Rattle.infer_deep.specs.Office.{zip_header}
+use Rattle.infer_more.specs.Outline.{lines, outline}
+use Rattle.infer_more.specs.Laws.{IsLost, TextsFit}
 use Rattle.infer_more.specs.Listed.{AreEnded, joined, row_listed, signature_listed}
-use Rattle.infer_more.specs.Row.{Further, is_closed_alternative, is_row_closed}
-use Rattle.infer_more.specs.Samples.{HasNoSample, has_room, sample_at, written}
-use Rattle.infer_more.specs.Signature.{Accepted, Alternative, at_least, json_text, plain_text}
+use Rattle.infer_more.specs.Row.{Further, is_closed, is_closed_alternative, is_row_closed}
+use Rattle.infer_more.specs.Samples.{HasNoSample, further_sample, has_room, least_of, model, model_entry, parts_of, sample_at, written}
+use Rattle.infer_more.specs.Signature.{Accepted, Alternative, at_least, binary_bytes, bytes, json_text, plain_text}
 use Rattle.infer_more.specs.Table.{further, packages}
-use Rattle.infer_more.specs.Wider.{parent_at, shown}
+use Rattle.infer_more.specs.Wider.{Widens, parent_at, shown, wider}
 use Rattle.infer_sig.proofs.PlaceLemmas.{stands_by_place}
 use Rattle.infer_sig.specs.Signature.{stands}
 use Rattle.infer.proofs.KnownLemmas.{proof_of}
@@ -29,6 +35,7 @@ use Rattle.infer.proofs.OrderLemmas.{none_accepts}
 use Rattle.infer_more.proofs.SizeLemmas.{texts_fit}
 use Rattle.infer_more.proofs.LawLemmas.{text_lost}
 use Rattle.test_infer.proofs.SignaturePairs.{occurs}
+use Rattle.infer_sniff.specs.Sniffers.{IsSniffer}
 use Rattle.infer_sniff.specs.Cases.{bound}
 use Rattle.infer_sniff.specs.Verdicts.{AreAlike, IsFinal, StaysFinalFromBeginning, found_of}
 use Rattle.infer_sniff.specs.declared.case.Case.TheVariants.{Frame, Space}
@@ -63,6 +70,12 @@ number32_pair = (refl, λ e. omega (arith, e))
 pub number64_pair : (number64 true (0 ∷ 0 ∷ 0 ∷ 0 ∷ 0 ∷ 0 ∷ 0 ∷ 1 ∷ []) 0 ≡ 1) × (¬ (number64 false (0 ∷ 0 ∷ 0 ∷ 0 ∷ 0 ∷ 0 ∷ 0 ∷ 1 ∷ []) 0 ≡ 1))
 unfolding be32 le32
 number64_pair = (refl, λ e. omega (arith, e))
+
+pub most16_pair : (most16 [] 0 ≡ 65535) × (¬ (most16 (codes "ab") 0 ≡ 65535))
+most16_pair = (refl, λ e. omega (arith, e))
+
+pub bytes16_pair : (bytes16 true 1 ≡ 0 ∷ 1 ∷ []) × (¬ (bytes16 false 1 ≡ 0 ∷ 1 ∷ []))
+bytes16_pair = (refl, λ e. absurd (cc))
 
 pub IsAfterLast_pair : IsAfterLast 0x2F (codes "/b") 0 2 1 × (¬ IsAfterLast 0x2F (codes "/b") 0 2 0)
 IsAfterLast_pair = (
@@ -144,10 +157,6 @@ HasNoSample_pair = (inl refl, λ h. ⊎_elim (λ e. omega (arith, e)) (λ i. ⊎
 pub written_pair : (written None (codes "a") ≡ codes "a") × (¬ (written (Some []) (codes "a") ≡ codes "a"))
 written_pair = (refl, λ e. omega (arith, ap (λ b. get_or b 0 0) e))
 
-pub all_ascend_pair : IsTrue (all_ascend (record { below = lent_list (lent_list (record { place = 1; row = 2; byte = 0 } ∷ record { place = 1; row = 3; byte = 0 } ∷ []) ∷ []); parentless = lent_list (record { first = lent_list []; guards = lent_list []; gate = record { place = 1; byte = 0; guards = lent_list [] }; ranges = lent_list [] }) }))
-    × (¬ IsTrue (all_ascend (record { below = lent_list (lent_list (record { place = 1; row = 3; byte = 0 } ∷ record { place = 1; row = 2; byte = 0 } ∷ []) ∷ []); parentless = lent_list (record { first = lent_list []; guards = lent_list []; gate = record { place = 1; byte = 0; guards = lent_list [] }; ranges = lent_list [] }) })))
-all_ascend_pair = (refl, λ t. absurd (cc))
-
 pub bound_pair : (bound Space ≡ XML) × (¬ (bound Frame ≡ XML))
 bound_pair = (refl, λ e. omega (arith, e))
 
@@ -188,3 +197,53 @@ IsPassed_pair = (record { taken = refl; written = refl }, λ h. omega (arith, ap
 pub IsLabelled_pair : IsLabelled (Some []) [] None × (¬ IsLabelled (Some (codes "a")) [] None)
 unfolding table stands le16 le32 be32
 IsLabelled_pair = (record { tells = proof_of (none_accepts stands_by_place []) refl; enough = inl refl }, λ h. ⊎_elim (λ e. omega (arith, ap length e)) (λ i. ⊎_elim (λ l. omega (arith, l)) (λ s. omega (arith, s.long)) i) h.enough)
+
+pub IsDataByte_pair : IsDataByte 0x0B × (¬ IsDataByte 0x0A)
+IsDataByte_pair = (inr (inl refl), λ h. absurd (grind arith))
+
+pub encoding_name_pair : (encoding_name Utf8 ≡ codes "utf-8") × (¬ (encoding_name UsAscii ≡ codes "utf-8"))
+encoding_name_pair = (refl, λ e. omega (arith, ap length e))
+
+pub HasFirstName_pair : HasFirstName (zip_header ++ zeros 26) × (¬ HasFirstName (zip_header ++ zeros 25))
+unfolding stands le16
+HasFirstName_pair = (
+  record { long = omega arith; header = occurs 0 zip_header (zip_header ++ zeros 26) (omega arith) refl; whole = omega arith },
+  λ h. omega (arith, h.long),
+)
+
+pub is_closed_pair : IsTrue (is_closed (fixed.at_least 3 (text 1 (codes "ab") ∷ []))) × (¬ IsTrue (is_closed (fixed.at_least 2 (text 1 (codes "ab") ∷ []))))
+is_closed_pair = (refl, λ t. absurd (cc))
+
+pub Widens_pair : Widens None (codes "M") (further_row (at_least 1 [] ∷ [])) × (¬ Widens None [] (further_row (at_least 1 [] ∷ [])))
+Widens_pair = ((refl, inl refl), λ h. absurd (⊎_elim (λ t. cc) (λ n. n) h.1))
+
+pub wider_pair : (wider None (Some 0) ≡ Some ROW_COUNT) × (¬ (wider None None ≡ Some ROW_COUNT))
+wider_pair = (refl, λ e. absurd (cc))
+
+pub lines_pair : (lines (bytes (fixed.at_least 3 [])) ≡ fixed.at_least 3 [] ∷ []) × (¬ (lines json_text ≡ fixed.at_least 3 [] ∷ []))
+lines_pair = (refl, λ e. omega (arith, ap length e))
+
+pub outline_pair : (length (outline (bytes (fixed.at_least 3 []) ∷ json_text ∷ [])) ≡ 3) × (¬ (length (outline (json_text ∷ [])) ≡ 3))
+outline_pair = (refl, λ e. omega (arith, e))
+
+pub least_of_pair : (least_of (fixed.at_least 3 []) ≡ 3) × (¬ (least_of (fixed.at_least 2 []) ≡ 3))
+least_of_pair = (refl, λ e. omega (arith, e))
+
+pub parts_of_pair : (length (parts_of (fixed.at_least 3 [])) ≡ 0) × (¬ (length (parts_of (fixed.at_least 3 (text 0 (codes "a") ∷ []))) ≡ 0))
+parts_of_pair = (refl, λ e. omega (arith, e))
+
+pub model_pair : (model (binary_bytes (fixed.at_least 3 [])) ≡ Some (fixed.at_least 3 [])) × (¬ (model json_text ≡ Some (fixed.at_least 3 [])))
+model_pair = (refl, λ e. absurd (cc))
+
+pub model_entry_pair : (least_of (model_entry 26 (codes "ab")) ≡ 32) × (¬ (least_of (model_entry 26 []) ≡ 32))
+model_entry_pair = (refl, λ e. omega (arith, e))
+
+pub further_sample_pair : (further_sample (further_row (at_least 1 [] ∷ [])) ≡ Some (0 ∷ [])) × (¬ (further_sample (further_row []) ≡ Some (0 ∷ [])))
+further_sample_pair = (refl, λ e. absurd (cc))
+
+pub IsSniffer_pair : IsSniffer 8192 [] (SoFar None) × (¬ IsSniffer 8191 [] (SoFar None))
+unfolding table stands le16 le32 be32
+IsSniffer_pair = (
+  record { reserved = omega arith; few = omega arith; judged = (λ s. omega (arith, s.long), proof_of (none_accepts stands_by_place []) refl); lasts = tt },
+  λ h. omega (arith, h.reserved),
+)
