@@ -13,6 +13,7 @@ ghost use Rattle.infer_more.specs.Index.{AllApplications, HasTagText, IsFoundBel
 ghost use Rattle.infer_more.specs.Table.{further};
 ghost use Rattle.infer_more.specs.Wider.{AcceptsAt, IsWidened, IsWider, IsWiderAnswer, IsWidest, Widens, WidensAt, parent_at, shown};
 ghost use Rattle.infer_more.specs.Listed.{row_listed};
+ghost use Rattle.infer_more.specs.declared.index.Below.TheVariants.{Nothing};
 ghost use Rattle.infer_more.specs.declared.index.lists.TheConstants.{FURTHER_COUNT};
 
 use crate::index::{
@@ -377,7 +378,17 @@ fn is_widest(row: usize) -> bool
 {
     let index = index();
     finds(&index);
-    match below_at(index.below, row) {
+    match index.below.get(row) {
+        Some(below) => is_nothing(below),
+        None => true,
+    }
+}
+
+#[inline(always)]
+fn is_nothing(below: &Below) -> bool
+    ensures { IsTrue result → (below.now ≡ Nothing) }
+{
+    match below {
         Below::Nothing => true,
         _ => false,
     }

@@ -1,6 +1,18 @@
-use Rattle.std.proofs.Common.{sym, ◌∙◌}
+use Rattle.std.proofs.Common.{◌≡◌, Option, ap, refl, ◌∙◌}
+use Rattle.std.specs.Option.{option_map_or}
+use Rattle.std.proofs.lemmas.Option.{slice_get_past, slice_get_read}
+use Rattle.infer_more.specs.declared.index.Below.{Below}
+use Rattle.infer_more.specs.declared.index.Below.TheVariants.{Nothing}
 use Rattle.infer_more.proofs.FoundLemmas.{none_below}
 use Rattle.infer_more.proofs.answers.is_widest.Goals as goal
 
-pub returns-in-Nothing : goal.returns-in-Nothing
-returns-in-Nothing c = λ is. none_below c.index-index.result c.finds.ensures c.args.row (sym c.below_at.ensures ∙ c.in-Nothing.is)
+pub returns-in-Some : goal.returns-in-Some
+returns-in-Some c = λ is.
+    let h = c.in-Some.ensures.lookup in
+    none_below c.index-index.result c.finds.ensures c.args.row
+    (ap (λ (o : Option Below). option_map_or (λ way. way) o Nothing) (slice_get_read _ _ _ _ refl h.3.0 h.1) ∙ c.is_nothing.ensures is)
+
+pub returns-in-None : goal.returns-in-None
+returns-in-None c = λ is.
+    let h = c.in-None.ensures.lookup in
+    none_below c.index-index.result c.finds.ensures c.args.row (ap (λ (o : Option Below). option_map_or (λ way. way) o Nothing) (slice_get_past _ _ h.3))
