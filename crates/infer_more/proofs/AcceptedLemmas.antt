@@ -4,7 +4,8 @@ use Rattle.std.proofs.lemmas.List.{take_all}
 use denote.Ref.{Bor}
 use Rattle.infer_inside.specs.Script.{IsProgram}
 use Rattle.infer_more.specs.Listed.{alternative_listed, signature_listed}
-use Rattle.infer_more.specs.Signature.{Accepted, Fits, IsAmong, IsProgramAmong}
+use Rattle.infer_more.specs.Signature.{Accepted, Fits, IsProgramAmong}
+use Rattle.infer_inside.specs.Zip.{IsOneOf}
 use Rattle.infer_more.specs.declared.signature.Alternative.{Alternative}
 
 module _ (b : List ℕ) where
@@ -31,7 +32,7 @@ module _ (b : List ℕ) where
 -- the same of names
 module _ (name : List ℕ) where
   abbrev Among : List (Bor (List ℕ)) → Type 0
-  Among xs = IsAmong name (map (λ x. x.now) xs)
+  Among xs = IsOneOf name (map (λ x. x.now) xs)
 
   pub among_at : (xs : List (Bor (List ℕ))) (k : ℕ) (d : Bor (List ℕ)) → k < length xs → name ≡ (get_or xs k d).now → Among xs
   among_at [] k d lt e = absurd (omega arith)
@@ -55,7 +56,7 @@ module _ (name : List ℕ) where
 -- the program's name is one of the names
 module _ (b : List ℕ) where
   pub among_programs : (name : List ℕ) → IsProgram name b → ((n : List ℕ) → IsProgram n b → n ≡ name) → (ns : List (List ℕ))
-      → IsAmong name ns ↔ IsProgramAmong ns b
+      → IsOneOf name ns ↔ IsProgramAmong ns b
   among_programs name is only [] = (λ h. h, λ h. h)
   among_programs name is only (n ∷ ns) =
       let rest = among_programs name is only ns in (

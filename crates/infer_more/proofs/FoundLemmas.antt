@@ -37,6 +37,7 @@ use Rattle.infer_more.specs.declared.index.Texts.{Texts}
 use Rattle.infer_more.specs.declared.index.lists.TheConstants.{FURTHER_COUNT}
 use Rattle.infer_more.proofs.IndexLemmas.{both_left, both_right, covered_here, either, parentless_here}
 use Rattle.infer_more.proofs.LeastLemmas.{least_both, least_late, least_none, least_same, none_found}
+use Rattle.infer_more.proofs.NamedLemmas.{both}
 use Rattle.infer_more.proofs.OutlineLemmas.{has_lines, small_bytes}
 use Rattle.infer_more.proofs.TableLemmas.{length-further}
 
@@ -231,12 +232,8 @@ module _ (b : List ℕ) where
       → IsTrue (list_all (λ e. is_row_with (Some parent) (asks_folder e.name.now) e.row) folders)
   folder_rows parent [] h = refl
   folder_rows parent (e ∷ folders) h =
-      let both = both_left (is_application e.name.now && is_row_with (Some parent) (asks_folder e.name.now) e.row) _ h in
-      pair _ _ (both_right (is_application e.name.now) _ both) (folder_rows parent folders (both_right (is_application e.name.now && is_row_with (Some parent) (asks_folder e.name.now) e.row) _ h))
-    where
-      pair : (x y : Bool) → IsTrue x → IsTrue y → IsTrue (x && y)
-      pair true y p q = q
-      pair false y p q = absurd (cc)
+      let told = both_left (is_application e.name.now && is_row_with (Some parent) (asks_folder e.name.now) e.row) _ h in
+      both _ _ (both_right (is_application e.name.now) _ told) (folder_rows parent folders (both_right (is_application e.name.now && is_row_with (Some parent) (asks_folder e.name.now) e.row) _ h))
 
   widens_below : (parent : ℕ) (way : below.Below) (i : ℕ) → IsTrue (is_true_below parent way) → IsFoundBelow way parent b i → WidensAt (Some parent) b i
   widens_below parent Nothing i h is = absurd (is)

@@ -202,25 +202,14 @@ module _ {A : Type 0} (row : A → ℕ) (Q : A → Type 0) where
       nowhere (y ∷ ys) e no_one i (inl is) = no_one 0 (omega arith) is.1
       nowhere (y ∷ ys) e no_one i (inr is) = nowhere ys e (λ j less. no_one (suc j) (omega arith)) i is
 
--- entries with what is the same
-pub rows_same : {A : Type 0} (row : A → ℕ) (P Q : A → Type 0) → ((e : A) → P e → Q e) → (xs : List A) (i : ℕ) → IsRowOf row P xs i → IsRowOf row Q xs i
-rows_same row P Q to [] i h = h
-rows_same row P Q to (x ∷ xs) i (inl h) = inl (h.0, to x h.1)
-rows_same row P Q to (x ∷ xs) i (inr h) = inr (rows_same row P Q to xs i h)
-
-pub no_rows : {A : Type 0} (row : A → ℕ) (Q : A → Type 0) → ((e : A) → ¬ Q e) → (xs : List A) (i : ℕ) → ¬ IsRowOf row Q xs i
-no_rows row Q none [] i h = h
-no_rows row Q none (x ∷ xs) i (inl h) = none x h.1
-no_rows row Q none (x ∷ xs) i (inr h) = no_rows row Q none xs i h
-
 -- by what is known of each entry in its place
-pub same_listed_rows : {A : Type 0} (row : A → ℕ) (P Q : A → Type 0) (xs : List A) → ((k : ℕ) (d : A) → k < length xs → P (get_or xs k d) → Q (get_or xs k d)) → (i : ℕ)
+pub rows_same : {A : Type 0} (row : A → ℕ) (P Q : A → Type 0) (xs : List A) → ((k : ℕ) (d : A) → k < length xs → P (get_or xs k d) → Q (get_or xs k d)) → (i : ℕ)
     → IsRowOf row P xs i → IsRowOf row Q xs i
-same_listed_rows row P Q [] to i h = h
-same_listed_rows row P Q (x ∷ xs) to i (inl h) = inl (h.0, to 0 x (omega arith) h.1)
-same_listed_rows row P Q (x ∷ xs) to i (inr h) = inr (same_listed_rows row P Q xs (λ k d lt. to (suc k) d (omega arith)) i h)
+rows_same row P Q [] to i h = h
+rows_same row P Q (x ∷ xs) to i (inl h) = inl (h.0, to 0 x (omega arith) h.1)
+rows_same row P Q (x ∷ xs) to i (inr h) = inr (rows_same row P Q xs (λ k d lt. to (suc k) d (omega arith)) i h)
 
-pub no_listed_rows : {A : Type 0} (row : A → ℕ) (Q : A → Type 0) (xs : List A) → ((k : ℕ) (d : A) → k < length xs → ¬ Q (get_or xs k d)) → (i : ℕ) → ¬ IsRowOf row Q xs i
-no_listed_rows row Q [] none i h = h
-no_listed_rows row Q (x ∷ xs) none i (inl h) = none 0 x (omega arith) h.1
-no_listed_rows row Q (x ∷ xs) none i (inr h) = no_listed_rows row Q xs (λ k d lt. none (suc k) d (omega arith)) i h
+pub no_rows : {A : Type 0} (row : A → ℕ) (Q : A → Type 0) (xs : List A) → ((k : ℕ) (d : A) → k < length xs → ¬ Q (get_or xs k d)) → (i : ℕ) → ¬ IsRowOf row Q xs i
+no_rows row Q [] none i h = h
+no_rows row Q (x ∷ xs) none i (inl h) = none 0 x (omega arith) h.1
+no_rows row Q (x ∷ xs) none i (inr h) = no_rows row Q xs (λ k d lt. none (suc k) d (omega arith)) i h

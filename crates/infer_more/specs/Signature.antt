@@ -46,11 +46,6 @@ pub data Alternative : Type 0 where
 abbrev pub at_least : ℕ → List Part → Alternative
 at_least n parts = bytes (fixed.at_least n parts)
 
--- the name is one of these
-abbrev pub IsAmong : List ℕ → List (List ℕ) → Type 0
-IsAmong name [] = ⊥
-IsAmong name (other ∷ names) = (name ≡ other) ⊎ IsAmong name names
-
 -- one of the names is that of the program
 abbrev pub IsProgramAmong : List (List ℕ) → List ℕ → Type 0
 IsProgramAmong [] b = ⊥

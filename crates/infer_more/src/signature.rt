@@ -4,7 +4,8 @@ ghost use Rattle.std.specs.List.{list_all};
 ghost use Rattle.infer_sig.specs.Signature.{allows, any_of, between, fits, has_part};
 ghost use Rattle.infer_more.specs.Listed.{alternative_listed, bytes_listed, part_listed, signature_listed};
 ghost use Rattle.infer_more.specs.Row.{is_closed, is_closed_alternative, is_inside};
-ghost use Rattle.infer_more.specs.Signature.{Accepted, Fits, IsAmong, IsProgramAmong};
+ghost use Rattle.infer_inside.specs.Zip.{IsOneOf};
+ghost use Rattle.infer_more.specs.Signature.{Accepted, Fits, IsProgramAmong};
 
 use infer_deep::doc::has_class_id;
 use infer_deep::places::{same_text, stands_at};
@@ -130,7 +131,7 @@ fn has_program(buf: &[u8], names: &[&[u8]]) -> bool
 
 /// Whether the name is one of these.
 fn is_listed(name: &[u8], names: &[&[u8]]) -> bool
-    ensures { IsTrue result ↔ IsAmong name.now (map (λ other. other.now) names.now) }
+    ensures { IsTrue result ↔ IsOneOf name.now (map (λ other. other.now) names.now) }
 {
     for other in names {
         if name == *other {

@@ -11,10 +11,10 @@ returns-in-Some c =
     let names = c.args.names.now in
     let name = c.in-Some.name.now in
     least_same (IsNamed (λ other. other ≡ name) names) (IsNamed (λ other. IsProgram other b) names) FURTHER_COUNT _
-    (λ i. rows_same named_row _ _ (λ e same. subst (λ n. IsProgram n b) (sym same) c.in-Some.ensures.found) names i)
-    (λ i. rows_same named_row _ _ (λ e is. c.in-Some.ensures.only e.name.now is) names i)
+    (λ i. rows_same named_row _ _ names (λ k d lt same. subst (λ n. IsProgram n b) (sym same) c.in-Some.ensures.found) i)
+    (λ i. rows_same named_row _ _ names (λ k d lt is. c.in-Some.ensures.only _ is) i)
     c.least_named.ensures
 
 pub returns-in-None : goal.returns-in-None
 returns-in-None c =
-    least_none _ FURTHER_COUNT (no_rows named_row (λ e. IsProgram e.name.now c.args.buf.now) (λ e. c.in-None.ensures.found e.name.now) c.args.names.now)
+    least_none _ FURTHER_COUNT (no_rows named_row (λ e. IsProgram e.name.now c.args.buf.now) c.args.names.now (λ k d lt. c.in-None.ensures.found _))

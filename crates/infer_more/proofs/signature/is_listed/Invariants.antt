@@ -1,7 +1,7 @@
 -- the name is none of those so far
 use Rattle.std.proofs.Common.{map, take}
-use Rattle.infer_more.specs.Signature.{IsAmong}
+use Rattle.infer_inside.specs.Zip.{IsOneOf}
 use Rattle.infer_more.proofs.signature.is_listed.Given as goal
 
 abbrev pub invariant-loop-other : goal.invariant-loop-other
-invariant-loop-other l = ¬ IsAmong l.name (map (λ x. x.now) (take l.other-index l.names))
+invariant-loop-other l = ¬ IsOneOf l.name (map (λ x. x.now) (take l.other-index l.names))
