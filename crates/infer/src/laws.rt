@@ -31,11 +31,11 @@ pub fn equal(a: &FileType, b: &FileType) -> bool
     a == b
 }
 
-/// `a == b` of two classes.
-pub fn equal_classes(a: &MatcherType, b: &MatcherType) -> bool
-    ensures { IsTrue result ↔ (a.now ≡ b.now) }
+/// `class == other`.
+pub fn equal_classes(class: &MatcherType, other: &MatcherType) -> bool
+    ensures { IsTrue result ↔ (class.now ≡ other.now) }
 {
-    a == b
+    class == other
 }
 
 /// `t.clone()`, which has the three values of the type.
