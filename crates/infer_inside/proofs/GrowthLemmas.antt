@@ -16,7 +16,7 @@ use Rattle.infer_inside.specs.Subtitles.{EndsLine, IsCue, IsDigit, IsPairAt, IsS
 use Rattle.infer_inside.specs.Tar.{HasTarChecksum, IsField, IsOctal, header_sum, octal, sum_from}
 use Rattle.infer_inside.specs.Text.{IsBinary, IsDataByte}
 use Rattle.infer_inside.specs.Tiff.{BeginsTiff, HasTag, IsTagEntry}
-use Rattle.infer_inside.specs.Zip.{FirstEntryEndsIn, FirstEntryHasExtra, FirstEntryIs, HasFirstName, IsFolderEntry, IsPackageWith, IsPartEntry}
+use Rattle.infer_inside.specs.Zip.{FirstEntryEndsIn, FirstEntryHasExtra, FirstEntryIs, HasFirstName, IsFirstFolder, IsFolderEntry, IsPackageWith, IsPartEntry, MayBeginPackage}
 
 -- a byte that is not zero is in the buffer
 pub there : (b : List ℕ) (p : ℕ) → 1 ≤ slice_index b p → p < length b
@@ -158,32 +158,27 @@ module _ (b more : List ℕ) where
     ],
   )
 
-  pub package_with-lasts : (folder : List ℕ) → IsPackageWith folder b → IsPackageWith folder (b ++ more)
-  package_with-lasts folder ((o, begins), (p, part), (q, (is, before), f)) = (
-    (
-      stays zip_header 0 o,
-      elim begins [
-        | inl t ↦ inl (stays _ 30 t)
-        | inr (inl t) ↦ inr (inl (stays _ 30 t))
-        | inr (inr (inl t)) ↦ inr (inr (inl (stays _ 30 t)))
-        | inr (inr (inr t)) ↦ inr (inr (inr (stays _ 30 t)))
-      ],
-    ),
-    (p, part_entry p part),
-    (
-      q,
-      (
-        folder_entry q is,
-        λ k lt e.
-            let far : k + 4 ≤ q = apart (b ++ more) k q lt e.0 (stays zip_header q is.0) in
-            let inside = folder_inside q is in
-            before k lt (folder_front k (omega arith) e),
-      ),
-      stays folder (q + 30) f,
-    ),
+  pub begins_package : (folder : List ℕ) → MayBeginPackage folder b → MayBeginPackage folder (b ++ more)
+  begins_package folder (o, begins) = (
+    stays zip_header 0 o,
+    elim begins [
+      | inl t ↦ inl (stays _ 30 t)
+      | inr (inl t) ↦ inr (inl (stays _ 30 t))
+      | inr (inr (inl t)) ↦ inr (inr (inl (stays _ 30 t)))
+      | inr (inr (inr t)) ↦ inr (inr (inr (stays _ 30 t)))
+    ],
+  )
+
+  -- the first stays the first, since headers do not overlap
+  pub first_folder-lasts : (q : ℕ) → IsFirstFolder b q → IsFirstFolder (b ++ more) q
+  first_folder-lasts q (is, before) = (
+    folder_entry q is,
+    λ k lt e.
+        let far : k + 4 ≤ q = apart (b ++ more) k q lt e.0 (stays zip_header q is.0) in
+        let inside = folder_inside q is in
+        before k lt (folder_front k (omega arith) e),
   )
     where
-      -- headers do not overlap
       apart : (c : List ℕ) (k q : ℕ) → k < q → OccursAt c zip_header k → OccursAt c zip_header q → k + 4 ≤ q
       apart c k q lt o h = elim (cases_lt q (k + 4)) [
         | inr le ↦ le
@@ -201,6 +196,10 @@ module _ (b more : List ℕ) where
           other (suc (suc zero)) low high e = absurd (omega arith)
           other (suc (suc (suc zero))) low high e = absurd (omega arith)
           other (suc (suc (suc (suc j)))) low high e = absurd (omega arith)
+
+  pub package_with-lasts : (folder : List ℕ) → IsPackageWith folder b → IsPackageWith folder (b ++ more)
+  package_with-lasts folder (begins, (p, part), (q, first, f)) =
+      (begins_package folder begins, (p, part_entry p part), (q, first_folder-lasts q first, stays folder (q + 30) f))
 
   -- ---- TIFF files and PNG images
 

@@ -21,6 +21,7 @@ pub mod MarkupLemmas
 pub mod OpenLemmas
 pub mod OpenDbaseLemmas
 pub mod OpenZipLemmas
+pub mod OpenPackageLemmas
 pub mod OpenTiffLemmas
 pub mod OpenElfLemmas
 pub mod OpenSubtitlesLemmas

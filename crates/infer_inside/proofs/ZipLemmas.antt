@@ -1,5 +1,5 @@
 -- The first entry with a property, by the first byte of its header.
-use Rattle.std.proofs.Common.{◌≡◌, ◌↔◌, ℕ, ◌+◌, ◌-◌, ◌<◌, ◌≤◌, inl, inr, List, length, get_or, take, drop, add-zero, ap, subst, ◌∙◌, arith, eq-eqb, length-drop}
+use Rattle.std.proofs.Common.{◌≡◌, ◌↔◌, ℕ, ◌+◌, ◌-◌, ◌<◌, ◌≤◌, inl, inr, List, length, codes, get_or, take, drop, add-zero, ap, refl, subst, ◌∙◌, arith, eq-eqb, length-drop}
 use Rattle.std.proofs.lemmas.List.{take_rest}
 use Rattle.memchr.specs.Find.{OccursAt, Nowhere, Passes, is_byte}
 use Rattle.infer_deep.specs.Office.{zip_header}
@@ -36,21 +36,29 @@ module _ (b : List ℕ) (E : ℕ → Type 0) (headed : (p : ℕ) → E p → Occ
       let long = ap length (take_rest b from) in
       none_to _ lacks p (omega (arith, length-drop from b)) is
 
--- what stands in the first folder decides
+-- there is one first folder, and what stands in it decides
+pub one_folder : (b : List ℕ) (p q : ℕ) → IsFirstFolder b p → IsFirstFolder b q → p ≡ q
+one_folder b p q first other =
+    let not_before = first.1 q in let not_after = other.1 p in grind (arith, other.0, first.0)
+
 pub folder_decides : (b text : List ℕ) (q : ℕ) → IsFirstFolder b q
     → OccursAt b text (q + 30) ↔ ((p : ℕ) × IsFirstFolder b p × OccursAt b text (p + 30))
 folder_decides b text q first = (
   λ o. (q, first, o),
-  λ (p, other, o).
-      let not_before = first.1 p in
-      let not_after = other.1 q in
-      let same : p ≡ q = grind (arith, other.0, first.0) in
-      subst (λ x. OccursAt b text (x + 30)) same o,
+  λ (p, other, o). subst (λ x. OccursAt b text (x + 30)) (one_folder b p q other first) o,
 )
+
+-- the folder that stands in an entry
+pub entry_of : (b : List ℕ) (p : ℕ) → IsFolderEntry b p → (g : List ℕ) × IsOneOf g applications × OccursAt b g (p + 30)
+entry_of b p (h, inl o) = (codes "word/", inl refl, o)
+entry_of b p (h, inr (inl o)) = (codes "xl/", inr (inl refl), o)
+entry_of b p (h, inr (inr (inl o))) = (codes "ppt/", inr (inr (inl refl)), o)
+entry_of b p (h, inr (inr (inr (inl o)))) = (codes "visio/", inr (inr (inr (inl refl))), o)
+entry_of b p (h, inr (inr (inr (inr o)))) = (codes "3D/", inr (inr (inr (inr (inl refl)))), o)
 
 -- a package with the folder of an application may begin as any, and one that does so has its first folder there or later
 module _ (b folder : List ℕ) (application : IsOneOf folder applications) where
-  folder_entry : (p : ℕ) → OccursAt b zip_header p → OccursAt b folder (p + 30) → IsFolderEntry b p
+  pub folder_entry : (p : ℕ) → OccursAt b zip_header p → OccursAt b folder (p + 30) → IsFolderEntry b p
   folder_entry p h o = (
     h,
     elim application [

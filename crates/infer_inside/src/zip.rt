@@ -2,7 +2,7 @@
 ghost use Rattle.std.specs.Prelude.{◌≡◌, ◌↔◌, ◌+◌, ◌≤◌, length, IsTrue};
 ghost use Rattle.infer_deep.specs.Numbers.{le16};
 ghost use Rattle.infer_deep.specs.Places.{FindsPlace};
-ghost use Rattle.infer_inside.specs.Zip.{FindsFolder, FindsPackage, FindsPart, FirstEntryEndsIn, FirstEntryHasExtra, FirstEntryIs, HasFirstName, IsFolderEntry, IsPackageWith, IsPartEntry, MayBeginAny, MayBeginPackage, MayHaveFirstEnding, MayHaveFirstField, MayHaveFirstName};
+ghost use Rattle.infer_inside.specs.Zip.{FindsFolder, FindsPackage, FindsPart, FirstEntryEndsIn, FirstEntryHasExtra, FirstEntryIs, HasFirstName, IsFolderEntry, IsOneOf, IsPackageWith, IsPartEntry, MayBeginAny, MayBeginPackage, MayHaveFirstEnding, MayHaveFirstField, MayHaveFirstName, MayOpenPackage, applications};
 ghost use Rattle.infer_deep.specs.Signatures.{Reachable};
 
 use crate::numbers::most16;
@@ -134,6 +134,32 @@ pub fn package_folder(buf: &[u8]) -> Option<usize>
         Some(place) => Some(place + 30),
         None => None,
     }
+}
+
+/// Whether some bytes after `buf`, or none, make it a package of the Open Packaging Conventions whose first folder of an
+/// application, by place, is this one.
+#[tactic(auto, using(crate::proofs::OpenPackageLemmas::opened, crate::proofs::OpenPackageLemmas::none_yet))]
+pub fn may_become_package_with(buf: &[u8], folder: &[u8]) -> bool
+    requires { IsOneOf folder.now applications }
+    ensures { IsTrue result ↔ Reachable (IsPackageWith folder.now) buf.now }
+{
+    if !may_open_package(buf, folder) {
+        return false;
+    }
+    match first_folder(buf) {
+        Some(place) => stands_at(buf, folder, place + 30),
+        None => true,
+    }
+}
+
+fn may_open_package(buf: &[u8], folder: &[u8]) -> bool
+    ensures { IsTrue result ↔ MayOpenPackage folder.now buf.now }
+{
+    may_stand_at(buf, b"PK\x03\x04", 0)
+        && (may_stand_at(buf, b"[Content_Types].xml", 30)
+            || may_stand_at(buf, b"_rels/", 30)
+            || may_stand_at(buf, b"docProps/", 30)
+            || may_stand_at(buf, folder, 30))
 }
 
 /// Whether `buf` begins with an entry that some package may have first.

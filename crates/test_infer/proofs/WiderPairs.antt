@@ -1,6 +1,7 @@
 -- What has a property of further rows, of verdicts and of what users do, and what has not: each pair computed, or proved by a law.
 use Rattle.std.proofs.Common.{◌≡◌, ◌≤◌, ◌++◌, ℕ, true, false, List, [], ◌∷◌, None, Some, IsTrue, length, length-append, get_or, slice_index, refl, ap, subst, ⊎_elim, codes, arith, inl, inr}
 use Rattle.std.proofs.lemmas.Bool.Decides.{nat_tests}
+use Rattle.std.specs.Prelude.{slice_index_or}
 use denote.Ref.{Bor}
 use Rattle.infer_sig.specs.Signature as fixed
 use Rattle.infer_sig.specs.Signature.{text}
@@ -12,7 +13,7 @@ use Rattle.infer.specs.declared.table.file_type.MatcherType.TheVariants.{App}
 use Rattle.infer.specs.declared.table.rows.TheConstants.{DLL, ELF, EXE, PDF, ROW_COUNT, XML}
 use Rattle.infer_inside.specs.Markup.{HasInTag}
 use Rattle.infer_inside.specs.Text.{IsDataByte, encoding_name}
-use Rattle.infer_inside.specs.Zip.{HasFirstName}
+use Rattle.infer_inside.specs.Zip.{HasFirstName, IsOneOf, applications}
 use Rattle.infer_inside.specs.declared.text.Encoding.TheVariants.{UsAscii, Utf8}
 use Rattle.infer_inside.specs.Numbers.{bytes16, most16, be16, number16, number32, number64}
 use Rattle.infer_inside.specs.Runs.{IsAfterLast}
@@ -203,6 +204,12 @@ IsDataByte_pair = (inr (inl refl), λ h. absurd (grind arith))
 
 pub encoding_name_pair : (encoding_name Utf8 ≡ codes "utf-8") × (¬ (encoding_name UsAscii ≡ codes "utf-8"))
 encoding_name_pair = (refl, λ e. omega (arith, ap length e))
+
+pub IsOneOf_pair : IsOneOf (codes "b") (codes "a" ∷ codes "b" ∷ []) × (¬ IsOneOf (codes "c") (codes "a" ∷ codes "b" ∷ []))
+IsOneOf_pair = (inr (inl refl), λ h. elim h [ inl e ↦ absurd (cc) | inr (inl e) ↦ absurd (cc) | inr (inr none) ↦ none ])
+
+pub applications_pair : (slice_index_or applications 1 [] ≡ codes "xl/") × (¬ (slice_index_or applications 5 [] ≡ codes "xl/"))
+applications_pair = (refl, λ e. absurd (cc))
 
 pub HasFirstName_pair : HasFirstName (zip_header ++ zeros 26) × (¬ HasFirstName (zip_header ++ zeros 25))
 unfolding stands le16
