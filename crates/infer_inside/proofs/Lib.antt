@@ -22,6 +22,7 @@ pub mod OpenLemmas
 pub mod OpenDbaseLemmas
 pub mod OpenZipLemmas
 pub mod OpenPackageLemmas
+pub mod OpenScriptLemmas
 pub mod OpenTiffLemmas
 pub mod OpenElfLemmas
 pub mod OpenSubtitlesLemmas

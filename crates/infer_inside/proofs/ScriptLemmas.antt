@@ -82,6 +82,11 @@ one_program_word b from to p q (inr (f, t, first, env, next)) (inr (g, u, is_fir
     let same = one_next_word b (λ i j. Unit {0}) 2 f t g u first is_first in
     one_next_word b (λ i j. ¬ IsSetting b i j) t from to p q next (subst (λ x. IsNextWord b (λ i j. ¬ IsSetting b i j) x p q) same.1 is_next)
 
+-- which is one of the line
+pub named_word : (b : List ℕ) (p q : ℕ) → NamesProgram b p q → IsWord b p q
+named_word b p q (inl (first, other)) = first.word
+named_word b p q (inr (from, to, first, env, next)) = next.word
+
 -- whose name has one end without a version
 pub one_bare_end : (b : List ℕ) (at to end other : ℕ) → EndsBare b at to end → EndsBare b at to other → end ≡ other
 one_bare_end b at to end other n m =
@@ -100,7 +105,7 @@ one_program b n m (begins, (at, end, p, is)) (again, (other, stop, q, same)) =
 
 -- what stands in b stands in what begins as b does
 module _ (n : ℕ) (b c : List ℕ) (s : SharesFront n b c) where
-  word_shared : (p q : ℕ) → q < n → IsWord b p q → IsWord c p q
+  pub word_shared : (p q : ℕ) → q < n → IsWord b p q → IsWord c p q
   word_shared p q high w =
       let some = w.some in record {
         low = w.low;
@@ -110,12 +115,12 @@ module _ (n : ℕ) (b c : List ℕ) (s : SharesFront n b c) where
         run = run_shared n b c s IsWordByte p q high w.run;
       }
 
-  setting_shared : (p q : ℕ) → p < q → q < n → IsSetting b p q → IsSetting c p q
+  pub setting_shared : (p q : ℕ) → p < q → q < n → IsSetting b p q → IsSetting c p q
   setting_shared p q some high (inl is) = inl (byte_shared n b c s (λ x. x ≡ 0x2D) p (omega arith) is)
   setting_shared p q some high (inr (k, low, lt, is)) =
       inr (k, low, lt, byte_shared n b c s (λ x. x ≡ 0x3D) k (omega arith) is)
 
-  env_shared : (p q : ℕ) → q < n → IsEnv b p q → IsEnv c p q
+  pub env_shared : (p q : ℕ) → q < n → IsEnv b p q → IsEnv c p q
   env_shared p q high (at, name, o, ends) =
       let name_shared = after_last_shared n b c s 0x2F p q at (omega arith) name in
       (at, name_shared, text_shared n b c s (codes "env") at (omega arith) o, ends)
@@ -130,7 +135,7 @@ module _ (n : ℕ) (b c : List ℕ) (s : SharesFront n b c) where
 
 module _ (b c : List ℕ) (s : SharesFront (length b) b c) where
   -- a word before one of b ends before it begins
-  ends_before : (from to p q : ℕ) → IsWord b from to → p < from → IsWord c p q → q < from
+  pub ends_before : (from to p q : ℕ) → IsWord b from to → p < from → IsWord c p q → q < from
   ends_before from to p q w lt v =
       let low = v.low in
       let some = w.some in
@@ -155,7 +160,7 @@ module _ (b c : List ℕ) (s : SharesFront (length b) b c) where
             w.before p q low lt word (was p q v.some fits had);
       }
 
-  first_lasts : (p q : ℕ) → IsFirstWord b p q → IsFirstWord c p q
+  pub first_lasts : (p q : ℕ) → IsFirstWord b p q → IsFirstWord c p q
   first_lasts = next_lasts (λ p q. Unit {0}) (λ p q. Unit {0}) (λ p q some high is. tt) (λ p q some high is. tt) 2
 
   names_lasts : (p q : ℕ) → NamesProgram b p q → NamesProgram c p q
@@ -174,15 +179,11 @@ module _ (b c : List ℕ) (s : SharesFront (length b) b c) where
             (λ i j some high other is. other (setting_shared (length b) b c s i j some high is)) to p q next,
       )
 
-  named_within : (p q : ℕ) → NamesProgram b p q → q < length b
-  named_within p q (inl (first, other)) = first.word.run.whole
-  named_within p q (inr (from, to, first, env, next)) = next.word.run.whole
-
 pub IsProgram-lasts : (name : List ℕ) → Lasts (IsProgram name)
 IsProgram-lasts name b more (begins, (at, end, p, is)) =
     let s = front_grows b more in
     let c = b ++ more in
-    let whole = named_within b c s p.from p.to p.word in
+    let whole = (named_word b p.from p.to p.word).run.whole in
     let low = p.bare.low in
     let high = p.bare.high in (
       text_shared (length b) b c s (codes "#!") 0 begins.fits begins,

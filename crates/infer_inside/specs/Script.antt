@@ -1,6 +1,6 @@
 -- Scripts, by the program that their first line names: "#!" and words, of which the first is the path of a program. It
 -- is this one, or `env`, which finds the program that a later word names.
-use Rattle.std.specs.Prelude.{◌≡◌, ◌≢◌, ℕ, ◌+◌, ◌-◌, ◌<◌, ◌≤◌, ◌⊎◌, List, codes, slice_index, slice_range}
+use Rattle.std.specs.Prelude.{◌≡◌, ◌≢◌, ℕ, ◌+◌, ◌-◌, ◌<◌, ◌≤◌, ◌⊎◌, List, length, codes, slice_index, slice_range}
 use Rattle.memchr.specs.Find.{OccursAt}
 use Rattle.infer_inside.specs.Runs.{IsAfterLast, IsRun}
 
@@ -75,3 +75,12 @@ pub record IsProgramAt (b : List ℕ) (at end : ℕ) : Type 0 where
 -- b begins with "#!", and its first line names this program
 abbrev pub IsProgram : List ℕ → List ℕ → Type 0
 IsProgram name b = OccursAt b (codes "#!") 0 × ((at end : ℕ) × IsProgramAt b at end × (name ≡ slice_range b at end))
+
+-- a byte of a program's name is one of a word, and no "/"
+abbrev pub IsNameByte : ℕ → Type 0
+IsNameByte x = IsWordByte x × (x ≢ 0x2F)
+
+-- a script can have a program of this name: its bytes are such, and the last is none of a version
+pub record IsBareName (name : List ℕ) : Type 0 where
+  pub bytes : (k : ℕ) → k < length name → IsNameByte (slice_index name k)
+  pub bare : 0 < length name → ¬ IsVersionByte (slice_index name (length name - 1))

@@ -1,10 +1,13 @@
 //! Scripts, by the program that their first line names.
-ghost use Rattle.std.specs.Prelude.{◌≡◌, ◌↔◌, ◌+◌, ◌<◌, ◌≤◌, ◌⊎◌, ℕ, List, length, slice_index, IsTrue, IfSome, MatchOption};
+ghost use Rattle.std.specs.Prelude.{◌≡◌, ◌↔◌, ◌+◌, ◌<◌, ◌≤◌, ◌⊎◌, ℕ, List, length, codes, slice_index, IsTrue, IfSome, MatchOption};
+ghost use Rattle.memchr.specs.Find.{OccursAt};
+ghost use Rattle.infer_deep.specs.Open.{AgreesAt};
+ghost use Rattle.infer_deep.specs.Signatures.{Reachable};
 ghost use Rattle.infer_inside.specs.Runs.{IsRun};
-ghost use Rattle.infer_inside.specs.Script.{EndsBare, IsBlank, IsEnv, IsLineEnd, IsNameOf, IsNextWord, IsProgram, IsSetting, IsVersionByte, IsWord, IsWordByte, NamesProgram};
+ghost use Rattle.infer_inside.specs.Script.{EndsBare, IsBareName, IsBlank, IsEnv, IsLineEnd, IsNameByte, IsNameOf, IsNextWord, IsProgram, IsSetting, IsVersionByte, IsWord, IsWordByte, NamesProgram};
 
 use crate::runs::after_last;
-use infer_deep::places::stands_at;
+use infer_deep::places::{may_stand_at, stands_at};
 
 /// Where a word of the first line begins and ends.
 #[derive(Clone, Copy)]
@@ -26,9 +29,93 @@ pub fn program(buf: &[u8]) -> Option<&[u8]>
     if !stands_at(buf, b"#!", 0) {
         return None;
     }
-    let word = program_word(buf)?;
+    Some(bare_name(buf, program_word(buf)?))
+}
+
+/// The name of the program, which the word names.
+fn bare_name(buf: &[u8], word: Word) -> &[u8]
+    requires opens { OccursAt buf.now (codes "#!") 0 }
+    requires names { NamesProgram buf.now word.from word.to }
+    ensures { IsProgram result.now buf.now }
+{
     let at = name_start(buf, word);
-    Some(&buf[at..bare_end(buf, at, word.to)])
+    &buf[at..bare_end(buf, at, word.to)]
+}
+
+/// Whether some bytes after `buf`, or none, make it a script of the program with this name.
+#[tactic(auto, using(crate::proofs::OpenScriptLemmas::opened_so, crate::proofs::OpenScriptLemmas::none_in_short))]
+pub fn may_become_program(buf: &[u8], name: &[u8]) -> bool
+    ensures { IsTrue result ↔ Reachable (IsProgram name.now) buf.now }
+{
+    if !may_stand_at(buf, b"#!", 0) {
+        return false;
+    }
+    if buf.len() < 2 {
+        return may_name(buf, name);
+    }
+    match program_word(buf) {
+        Some(word) => is_same(bare_name(buf, word), name),
+        None => may_name(buf, name),
+    }
+}
+
+#[inline(always)]
+fn is_same(name: &[u8], other: &[u8]) -> bool
+    ensures { IsTrue result ↔ (name.now ≡ other.now) }
+{
+    name == other
+}
+
+/// The same of a line that names no program yet.
+fn may_name(buf: &[u8], name: &[u8]) -> bool
+    requires opens { AgreesAt buf.now (codes "#!") 0 }
+    requires none { (p q : ℕ) → ¬ NamesProgram buf.now p q }
+    ensures { IsTrue result ↔ Reachable (IsProgram name.now) buf.now }
+{
+    if !is_bare(name) {
+        return false;
+    }
+    if buf.len() < 2 {
+        return true;
+    }
+    if has_line_end(buf) {
+        return false;
+    }
+    match next_word(buf, 2) {
+        // It is `env`, which takes a word with "=" for itself.
+        Some(word) => is_env(buf, word) && !has_equals(name, 0, name.len()),
+        None => true,
+    }
+}
+
+/// Whether a script can have a program with this name.
+fn is_bare(name: &[u8]) -> bool
+    ensures { IsTrue result ↔ IsBareName name.now }
+{
+    has_name_bytes(name) && !matches!(name.last(), Some(last) if is_version_byte(*last))
+}
+
+fn has_name_bytes(name: &[u8]) -> bool
+    ensures { IsTrue result ↔ ((k : ℕ) → k < length name.now → IsNameByte (slice_index name.now k)) }
+{
+    for at in 0..name.len() {
+        if !is_word_byte(name[at]) || name[at] == b'/' {
+            return false;
+        }
+    }
+    true
+}
+
+/// Whether the first line ends in `buf`, behind its first two bytes.
+fn has_line_end(buf: &[u8]) -> bool
+    ensures { IsTrue result ↔ ((k : ℕ) × (2 ≤ k) × (k < length buf.now) × IsLineEnd (slice_index buf.now k)) }
+{
+    for at in 2..buf.len() {
+        if buf[at] == b'\n' || buf[at] == b'\r' {
+            return true;
+        }
+    }
+    false
 }
 
 /// The word whose name is that of the program.
