@@ -2,14 +2,13 @@
 
 The figures of docs/PERFORMANCE.md are those of the picture that `bench/run --plot` draws, and agree with one another; the
 other pages have figures of its. The version is that of c/infer.h."""
-import functools
 import json
 import os
 import re
 import shutil
 import subprocess
 
-from told import text_of
+from texts import kept, text_of
 
 PERFORMANCE = "docs/PERFORMANCE.md"
 FIGURE = r"\d[\d,]*(?:\.\d+)?(?: million)?"
@@ -70,7 +69,7 @@ def check_compared(page):
         yield is_pair or all(any(number in row[:1] for row in rows) for number in (ours, theirs)), f"{page}: {link} has not {ours} and {theirs}"
 
 
-@functools.cache
+@kept
 def known_figures():
     """The numbers of the page of figures, and those with a digit after the point less."""
     found = re.findall(FIGURE, " ".join(text_of(PERFORMANCE).split()))
@@ -113,6 +112,12 @@ def versions():
     yield "bindings/javascript/package.json", json.loads(text_of("bindings/javascript/package.json"))["version"]
 
 
+@kept
+def toolchain():
+    """What `rt version` prints, and nothing without an `rt`."""
+    return shutil.which("rt") and subprocess.run(["rt", "version"], cwd="/", capture_output=True, text=True, check=False).stdout.strip()
+
+
 def check_versions(pages):
     """The version stands in one place, and those of other things are told as they are asked for."""
     version = re.search(r'^#define INFER_VERSION "(.*)"$', text_of("c/infer.h"), re.M)[1]
@@ -135,7 +140,7 @@ def check_versions(pages):
     ]:
         source = os.path.dirname(page) + {"Python": "/pyproject.toml", "Go": "/go.mod", "Rust": "/Cargo.toml", "Node": "/package.json"}[name]
         yield f"{name} {asked} or later" in text_of(page).replace("\n", " "), f"{page} does not ask for {name} {asked} or later, as {source} does"
-    kit = shutil.which("rt") and subprocess.run(["rt", "version"], cwd="/", capture_output=True, text=True, check=False).stdout.strip()
+    kit = toolchain()
     # Kits of one number differ by a letter. What they prove by is told by the logic's own number.
     named = set(re.findall(r"rattle-kit-\d+\b|\blogic \w+", text_of("README.md")))
     wanted = set(re.findall(r"rattle-kit-\d+|logic \w+", kit or ""))

@@ -188,26 +188,34 @@ def ways_of(alternative, known=None):
     return [it for it in sets if known not in it]
 
 
-def weigh(free, chosen, gates=(), price=1):
+def passing(free):
+    """How many rows may pass each guard that one of these alternatives allows."""
+    rows = {}
+    for number, alternative in free:
+        for pair in ((place, byte) for place, allowed in alternative.items() for byte in allowed):
+            rows.setdefault(pair, set()).add(number)
+    return {pair: len(some) for pair, some in rows.items()}
+
+
+def weigh(counts, chosen, gates=(), price=1):
     """What these guards of rows cost a buffer, beside gates: each place, each byte there, and at the price each further row
-    that may pass the same guard. More than the most guards are a loop that the compiler does not write out."""
+    that may pass the same guard, by these counts. More than the most guards are a loop that the compiler does not write out."""
     pairs = set().union(*chosen)
-    passing = [len({number for number, it in free if byte in it.get(place, ())}) for place, byte in pairs]
     looked_at = pairs.union(gates)
     beyond = 100 * max(0, len(pairs) - MOST_GUARDS) + sum(3 for _, byte in looked_at if byte in COMMON)
-    return 3 * len({place for place, _ in looked_at}) + sum(4 + price * (it * it - 1) for it in passing) + beyond
+    return 3 * len({place for place, _ in looked_at}) + sum(4 + price * (counts[it] ** 2 - 1) for it in pairs) + beyond
 
 
 def choose(free, gates=(), known=None, price=1):
     """For each of these alternatives, each with its number, the bytes that leave least to compare."""
-    ways = [ways_of(it, known) for _, it in free]
+    counts, ways = passing(free), [ways_of(it, known) for _, it in free]
     # Each at first as if it stood alone: from one guard for all no single move leads to a guard for each.
-    chosen, before = [min(it, key=lambda way: (weigh(free, [way], gates, price), sorted(way))) for it in ways], None
+    chosen, before = [min(it, key=lambda way: (weigh(counts, [way], gates, price), sorted(way))) for it in ways], None
     while chosen != before:
         before = chosen
         moves = [[way if way in some else old for old, some in zip(chosen, ways)] for way in sorted(set().union(*ways), key=sorted)]
         moves += [chosen[:k] + [it] + chosen[k + 1 :] for k, some in enumerate(ways) for it in some]
-        chosen = min([chosen, *moves], key=lambda it: weigh(free, it, gates, price))
+        chosen = min([chosen, *moves], key=lambda it: weigh(counts, it, gates, price))
     return chosen
 
 
@@ -235,13 +243,13 @@ def gated(rows):
     buffer without an answer is asked for the guards and for the gate's byte, and few for the guards behind the gate."""
     free = [(number, it) for number, row in enumerate(rows) if not row.parent for it in row.outlines(TEXTS) if not is_led(it) and not is_wide(it)]
     every = choose(free)
-    ways = [(weigh(free, every), (0, 0), list(guards(free, every)), [])]
+    ways = [(weigh(passing(free), every), (0, 0), list(guards(free, every)), [])]
     for gate, inside in gates(free):
         outside = [it for it in free if it not in inside]
         # As few buffers come to a guard behind the gate as to the entries behind that guard.
         outer, inner = choose(outside, [gate]), choose(inside, (), gate, BEHIND)
         # A byte that is common in texts opens the gate to more of them.
-        cost = weigh(outside, outer, [gate]) + weigh(inside, inner, (), BEHIND) / (4 if gate[1] in COMMON else 16)
+        cost = weigh(passing(outside), outer, [gate]) + weigh(passing(inside), inner, (), BEHIND) / (4 if gate[1] in COMMON else 16)
         ways.append((cost, gate, list(guards(outside, outer)), list(guards(inside, inner))))
     return min(ways)[1:]
 

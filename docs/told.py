@@ -2,16 +2,17 @@
 
 Each function named `check_` yields what it compared: whether both agree, and what to say if they do not. It compares with
 the code, a header, a contract, a script or a text that the program prints, and never with another page."""
-import functools
 import os
 import re
 import shlex
 import shutil
 import subprocess
 
+from texts import kept, text_of
+
 # What is made, and what is no source: the pages' own checks, and edits that are wrong by intent.
 PRUNED = {"out", ".git", ".ci", "target", "node_modules", "__pycache__", "dist", "must-fail"}
-OWN = {"docs/told.py", "docs/figures.py"}
+OWN = {"docs/told.py", "docs/figures.py", "docs/texts.py"}
 # Names of other programs and languages that no source here has.
 FOREIGN = """auditwheel ldconfig memmove Send Sync must_use TLS allocate structures GLIBC_2 flif recend sshlogin basefile nonall
 spark gp mpa tex v3 dac8208d650f15bf manylinux_2_17_x86_64 manylinux2014_x86_64 linux_x86_64 curl checkCode
@@ -20,13 +21,7 @@ createWriteStream pipeline graph BT LR Println rn tcp temp_dir x89 e2fff2e706466
 PATTERNS = {"may_become_NAME", "is_NAME", "_within", "LIST", "NAME", "_sig", "_deep", "_sniff", "_more"}
 
 
-@functools.cache
-def text_of(path):
-    with open(path, encoding="utf-8") as it:
-        return it.read()
-
-
-@functools.cache
+@kept
 def sources():
     """The paths of all texts but the pages."""
     found = []
@@ -36,15 +31,15 @@ def sources():
     return [it for it in found if it not in OWN and it != "crates/infer_tool/stdin"]
 
 
-@functools.cache
-def joined():
-    return "\n".join(text_of(it) for it in sources())
+@kept
+def words_of(path):
+    return set(re.findall(r"\w+", text_of(path)))
 
 
-@functools.cache
+@kept
 def words():
     """Every word of the sources and of the paths of all files."""
-    known = set(re.findall(r"\w+", joined())) | {*FOREIGN, *PATTERNS}
+    known = {*FOREIGN, *PATTERNS}.union(*map(words_of, sources()))
     for at, folders, files in os.walk("."):
         folders[:] = [it for it in folders if it not in PRUNED - {".ci", "out", "must-fail"}]
         known.update(it for name in [*folders, *files] for it in re.findall(r"\w+", name))
@@ -96,7 +91,7 @@ def check_paths(page):
             yield is_there(span, page) or is_made(span), f"{page}: there is no {span}"
 
 
-@functools.cache
+@kept
 def rows():
     """The MIME type, extension and class of each row."""
     lines = [it.split("\t") for path in ("vectors/rows.tsv", "vectors/further/rows.tsv") for it in text_of(path).splitlines()]
@@ -106,9 +101,14 @@ def rows():
 TYPE = r"\b(?:application|audio|chemical|custom|font|image|message|model|text|video)/[\w.+-]*\w"
 
 
-@functools.cache
+@kept
+def mime_types_of(path):
+    return set(re.findall(TYPE, text_of(path)))
+
+
+@kept
 def mime_types():
-    return set(re.findall(TYPE, joined()))
+    return set().union(*map(mime_types_of, sources()))
 
 
 def check_types(page):
@@ -125,7 +125,7 @@ def check_types(page):
         yield fits or mime.startswith("custom/") or extension == "true", f"{page}: no row is {mime} {extension} {group}".rstrip()
 
 
-@functools.cache
+@kept
 def subcommands():
     """What `rt` can be told to do, by its own help."""
     if not shutil.which("rt"):
@@ -204,12 +204,12 @@ def check_commands(page):
                 yield from check_command(page, command)
 
 
-@functools.cache
+@kept
 def fault_texts():
     return set(re.findall(r'Fault::\w+(?:\(_\))? => "(.*)"', text_of("crates/infer_tool/src/report.rt")))
 
 
-@functools.cache
+@kept
 def said():
     """What the program says of an input, after its name, but for types."""
     written = re.findall(r'writeln!\(\w+, "\{\w+\}: ([a-z ]+)"\)', text_of("crates/infer_tool/src/report.rt") + text_of("crates/infer_tool/src/sample.rt"))
@@ -232,7 +232,7 @@ def check_lines(page):
                 yield line in texts, f"{page}: the program prints no line such as '{line}'"
 
 
-@functools.cache
+@kept
 def tested_statuses():
     """The statuses that the tests of the program want, by what it prints, after the name."""
     tests = text_of("crates/infer_tool/process-tests")
@@ -277,13 +277,20 @@ def check_statuses():
     yield listed == [*numbers.values(), "127"], f"man/infer_tool.1 has the statuses {listed}"
 
 
-@functools.cache
+@kept
+def contracts_in(path):
+    """What stands between the name of each function of the file and its body, with the name."""
+    found = re.findall(r"^ *(?:pub(?:\(crate\))? )?(?:extern \S+ )?fn (\w+)\b(.*?)^ *\{\}?$", text_of(path), re.M | re.S)
+    return [(name, " ".join(contract.split())) for name, contract in found]
+
+
+@kept
 def contracts():
     """What stands between the name of each function and its body, by the name."""
     found = {}
     for path in (it for it in sources() if re.match(r"crates/\w+/src/.*\.rt$", it)):
-        for name, contract in re.findall(r"^ *(?:pub(?:\(crate\))? )?(?:extern \S+ )?fn (\w+)\b(.*?)^ *\{\}?$", text_of(path), re.M | re.S):
-            found.setdefault(name, []).append(" ".join(contract.split()))
+        for name, contract in contracts_in(path):
+            found.setdefault(name, []).append(contract)
     return found
 
 
@@ -304,7 +311,7 @@ BELOW = {
 }
 
 
-@functools.cache
+@kept
 def declared_in(crate):
     """The names that a crate declares or passes on, with those of its modules."""
     paths = [it for it in sources() if it.startswith(tuple(f"crates/{below}/src/" for below in BELOW[crate])) and "/tests" not in it]

@@ -556,9 +556,15 @@ def may_become(row: int, buf: bytes) -> bool:
     return needs(row, buf) is not None
 
 
+@functools.cache
+def led_rows(first: bytes) -> list[int]:
+    """The rows but those whose signature asks for another first byte."""
+    return [row for row, extension in enumerate(EXTENSIONS) if extension not in ALTERNATIVES or led_by(extension, first)]
+
+
 def position(buf) -> int | None:
     """The first row that accepts."""
-    return next((row for row in range(len(EXTENSIONS)) if accepts(row, buf)), None)
+    return next((row for row in led_rows(buf[:1]) if accepts(row, buf)), None)
 
 
 def earlier_rows(buf: bytes) -> range:

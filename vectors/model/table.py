@@ -1,13 +1,14 @@
 #!/usr/bin/env python3
 """Prints what more bytes can change of some thousand buffers, by the model of `decided.py`.
 
-usage: table.py [samples | count | first | far]
+usage: table.py [samples | count | first | far]..
 
 With `samples` it prints the lines of the rows' samples alone, which are the first, and with `count` how many lines
 there are. With `first` it prints for each first byte the numbers of the rows that allow it, and with `far` those of the
-rows that more than 1024 bytes can decide."""
+rows that more than 1024 bytes can decide. A blank line stands between what several words print."""
 from __future__ import annotations
 
+import functools
 import itertools
 import sys
 from collections.abc import Callable, Iterator
@@ -34,9 +35,18 @@ def least_that(holds: Callable[[int], bool], length: int) -> int | None:
     return high
 
 
-def out_of_reach(row: int, buf: bytes) -> int | None:
-    """The least number of the buffer's bytes after which no bytes bring the row."""
-    return least_that(lambda length: not may_become(row, buf[:length]), len(buf))
+@functools.cache
+def allowed_by(begun: bytes) -> set[int]:
+    """The rows that a buffer which begins so can still become."""
+    return {row for row in ROWS if may_become(row, begun)}
+
+
+def outs_of_reach(buf: bytes) -> Iterator[int | None]:
+    """For each row the least number of the buffer's bytes after which no bytes bring it."""
+    for row in ROWS:
+        # Most rows end at the first byte or the second.
+        begun = next((length for length in range(min(3, len(buf) + 1)) if row not in allowed_by(buf[:length])), None)
+        yield begun if begun is not None else least_that(lambda length: not may_become(row, buf[:length]), len(buf))
 
 
 def change_of(buf: bytes) -> str:
@@ -53,7 +63,7 @@ def joined(numbers: list[str]) -> str:
 
 def line_of(name: str, tokens: str) -> str:
     buf = decode(tokens)
-    outs = [out_of_reach(row, buf) for row in ROWS]
+    outs = [*outs_of_reach(buf)]
 
     def is_decided_after(length: int) -> bool:
         found = position(buf[:length])
@@ -236,7 +246,7 @@ def lines(word: str) -> Iterator[str]:
         yield str(sum(1 for _ in buffers()))
     elif word == "first":
         for byte in range(256):
-            yield " ".join(str(row) for row in ROWS if may_become(row, bytes([byte])))
+            yield " ".join(map(str, sorted(allowed_by(bytes([byte])))))
     elif word == "far":
         yield " ".join(str(row) for row in ROWS if not is_near(EXTENSIONS[row]))
     else:
@@ -244,5 +254,4 @@ def lines(word: str) -> Iterator[str]:
 
 
 if __name__ == "__main__":
-    for line in lines(*sys.argv[1:] or [""]):
-        print(line)
+    print("\n\n".join("\n".join(lines(word)) for word in sys.argv[1:] or [""]))
