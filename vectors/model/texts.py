@@ -43,7 +43,8 @@ NUMBERS = ["0", "-0", "12", "-3.5", "1e9", "1E+5", "2.5e-3", "10", "7"]
 JSON_BYTES = list(b'[]{}:,"\\ \n0123456789.eE+-tfnrualse/bx') + [0, 0x1F, 0x7F, 0x80, 0x9F, 0xA0, 0xBF, 0xC0, 0xC2, 0xE0, 0xED, 0xEF, 0xF0, 0xF4, 0xFF]
 FIRST_STRING = re.compile(rb'"(?:[^"\\\x00-\x1f]|\\["\\/bfnrt]|\\u[0-9a-fA-F]{4})*"')
 ESCAPES = [b"", b"n", b"u0000", b"0", b"00", b"000", b"0000"]
-ENDS = [b"", *(it + other + b'"' for it in CHARACTERS for other in ESCAPES), b"0", b"+0", b"rue", b"ue", b"e", b"alse", b"lse", b"se", b"ull", b"ll", b"l"]
+STRING_ENDS = [it + b'"' for it in ESCAPES]
+WORD_ENDS = [b"", b"0", b"+0", b"rue", b"ue", b"e", b"alse", b"lse", b"se", b"ull", b"ll", b"l"]
 VALUES = [b"", b":0", b"0", b'"":0']
 
 
@@ -93,8 +94,25 @@ def is_whole(buf):
     return True
 
 
+# Python's json looks no further than this beyond the place that it names, but for the end of a string.
+LOOKED_AT = 12
+
+
+def is_lost(buf):
+    """A fault stands before its end, so that no bytes behind it mend it."""
+    try:
+        json.loads(buf.decode(), parse_constant=refuse)
+    except UnicodeDecodeError as fault:
+        return fault.start + 4 <= len(buf)
+    except json.JSONDecodeError as fault:
+        return fault.pos + LOOKED_AT < len(fault.doc) and not fault.msg.startswith("Unterminated string")
+    except ValueError:
+        pass
+    return False
+
+
 def closing(buf):
-    """The brackets that are open at its end, closed."""
+    """The brackets that are open at its end, closed, and whether it ends in a string."""
     opened, in_string, escaped = [], False, False
     for byte in buf:
         if in_string:
@@ -106,13 +124,16 @@ def closing(buf):
             opened.append(byte)
         elif byte in b"]}" and opened:
             opened.pop()
-    return bytes(byte + 2 for byte in reversed(opened))
+    return bytes(byte + 2 for byte in reversed(opened)), in_string
 
 
 def can_be(buf):
     """Some bytes can follow so that the whole is one text."""
-    closed = closing(buf)
-    return any(is_whole(buf + end + rest + closed) for end in ENDS for rest in VALUES)
+    if is_lost(buf):
+        return False
+    closed, in_string = closing(buf)
+    ends = [it + end for it in CHARACTERS if is_utf8(buf + it) for end in STRING_ENDS] if in_string else WORD_ENDS
+    return any(is_whole(buf + end + rest + closed) for end in ends for rest in VALUES)
 
 
 def has_token(buf):
@@ -133,7 +154,7 @@ def is_json(buf):
 def text_end(buf):
     """Where the first text ends, as its brackets say, or None."""
     for end in (it.end() for it in re.finditer(rb"[]}]", buf)):
-        if not closing(buf[:end]) and FIRST_STRING.sub(b"", buf[:end]).count(b'"') == 0:
+        if not closing(buf[:end])[0] and FIRST_STRING.sub(b"", buf[:end]).count(b'"') == 0:
             return end
     return None
 
