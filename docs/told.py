@@ -18,7 +18,7 @@ FOREIGN = """auditwheel ldconfig memmove Send Sync must_use TLS allocate structu
 spark gp mpa tex v3 dac8208d650f15bf manylinux_2_17_x86_64 manylinux2014_x86_64 linux_x86_64 curl checkCode
 createWriteStream pipeline graph BT LR Println rn tcp temp_dir x89 e2fff2e706466 Foo FOO""".split()
 # Texts in which the pages speak of all names of a kind.
-PATTERNS = {"may_become_NAME", "is_NAME", "_within", "LIST", "NAME", "_sig", "_deep", "_sniff", "_more"}
+PATTERNS = {"may_become_NAME", "is_NAME", "_within", "LIST", "NAME", "_sig", "_deep", "_inside", "_sniff", "_more"}
 
 
 @kept
@@ -166,7 +166,8 @@ def check_command(page, command):
     if head == "cc":
         yield from check_compiling(page, rest)
     program = {"infer_tool": "crates/infer_tool/src/run.rt", "./infer_tool": "crates/infer_tool/src/run.rt", "./directory_report": "examples/directory_report/directory_report.c"}.get(head, head)
-    if os.path.isfile(program):
+    # (what was built is no text)
+    if os.path.isfile(program) and "/out/" not in program:
         told = text_of(program)
         for option in (it for it in rest if re.fullmatch(r"--\w[\w-]*", it)):
             yield option in told, f"{page}: {head} has no option {option}"
@@ -368,6 +369,17 @@ def check_classes():
     titles = {"PPT": "PowerPoint", "PPTX": "PowerPoint"}
     wanted = [titles.get(it, it) for it in last] + [last[-1]] * (count - len(last))
     yield [it.replace("Zstandard", "ZST") for it in bounds] == wanted, f"docs/STREAMS.md has cases whose last rows are {bounds}, and the code {wanted}"
+
+
+def check_copied():
+    """A project that copies crates copies what they stand on, and their lines."""
+    page = text_of("docs/CALLING.md")
+    copied = set(re.search(r"^    for crate in (.*); do$", page, re.M)[1].split())
+    lines = text_of("crates.txt").splitlines()
+    lacking = {it for line in lines if line.split(":")[0] in copied for it in line.split(":")[1].split() if it.startswith("infer")} - copied
+    yield not lacking, f"docs/CALLING.md copies crates without {sorted(lacking)}, on which they stand"
+    pattern = re.search(r"grep -E '(.*)' \$from", page)[1]
+    yield {line.split(":")[0] for line in lines if re.search(pattern, line)} == copied, f"docs/CALLING.md takes other lines of crates.txt than of {sorted(copied)}"
 
 
 NUMBERS = ["no", "one", "two", "three", "four", "five", "six", "seven", "eight", "nine", "ten"]
