@@ -302,7 +302,7 @@ module _ (b more : List ℕ) where
   octal-append p (suc n) le =
       let before = octal-append p n (omega arith) in let last = kept (p + n) (omega arith) in omega arith
 
-  header_sum-append : 512 ≤ length b → header_sum (b ++ more) ≡ header_sum b
+  pub header_sum-append : 512 ≤ length b → header_sum (b ++ more) ≡ header_sum b
   unfolding header_sum
   header_sum-append le = summed _ _ _ _ (sum_from-append 0 148 (omega arith)) (sum_from-append 156 356 (omega arith))
     where

@@ -23,6 +23,7 @@ pub mod OpenDbaseLemmas
 pub mod OpenZipLemmas
 pub mod OpenPackageLemmas
 pub mod OpenScriptLemmas
+pub mod OpenTarLemmas
 pub mod OpenTiffLemmas
 pub mod OpenElfLemmas
 pub mod OpenSubtitlesLemmas

@@ -1,6 +1,7 @@
 //! Tar archives without a magic text, by the checksum of their first header.
 ghost use Rattle.std.specs.Prelude.{◌≡◌, ◌↔◌, ◌+◌, ◌*◌, ◌<◌, ◌≤◌, ℕ, length, slice_index, IsTrue, ◌⊎◌};
-ghost use Rattle.infer_inside.specs.Tar.{HasTarChecksum, IsField, IsOctal, header_sum, octal, sum_from};
+ghost use Rattle.infer_deep.specs.Signatures.{Reachable};
+ghost use Rattle.infer_inside.specs.Tar.{HasTarChecksum, IsField, IsOctal, MayWrite, header_sum, octal, sum_from};
 
 /// A first header whose checksum, in octal digits, is the sum of its bytes.
 pub fn has_tar_checksum(buf: &[u8]) -> bool
@@ -9,17 +10,80 @@ pub fn has_tar_checksum(buf: &[u8]) -> bool
     if buf.len() < 512 || buf[0] == 0 {
         return false;
     }
-    let place = spaces_end(buf);
-    let count = digit_count(buf, place);
+    let place = spaces_end(buf, 156);
+    let count = digit_count(buf, place, 156);
     is_field(buf, place, count) && octal(buf, place, count) == header_sum(buf)
+}
+
+/// Whether some bytes after `buf`, or none, make it begin with a header whose checksum is the sum of its bytes.
+pub fn may_have_tar_checksum(buf: &[u8]) -> bool
+    ensures { IsTrue result ↔ Reachable HasTarChecksum buf.now }
+{
+    if buf.len() >= 512 {
+        return has_tar_checksum(buf);
+    }
+    if begins_zero(buf) {
+        return false;
+    }
+    // Digits can follow that write any sum.
+    if buf.len() < 148 {
+        return true;
+    }
+    may_have_sum(buf)
+}
+
+/// The same of a buffer that ends in the header, behind the checksum's place or at it.
+fn may_have_sum(buf: &[u8]) -> bool
+    requires low { 148 ≤ length buf.now }
+    requires high { length buf.now < 512 }
+    requires first { 1 ≤ slice_index buf.now 0 }
+    ensures { IsTrue result ↔ Reachable HasTarChecksum buf.now }
+{
+    let end = buf.len().min(156);
+    let place = spaces_end(buf, end);
+    let count = digit_count(buf, place, end);
+    let least = least_sum(buf);
+    // Each byte that the header lacks can add as much.
+    let most = least + 255 * (512 - buf.len().max(156)) as u32;
+    if end == 156 {
+        return is_sum(buf, place, count, least, most);
+    }
+    if place + count < end {
+        return is_sum(buf, place, count, least, most);
+    }
+    may_write(octal(buf, place, count), 156 - end, least, most)
+}
+
+fn begins_zero(buf: &[u8]) -> bool
+    ensures { IsTrue result ↔ (0 < length buf.now) × (slice_index buf.now 0 ≡ 0) }
+{
+    !buf.is_empty() && buf[0] == 0
+}
+
+/// Whether the digits that stand there are a whole checksum, and write a number from `least` to `most`.
+fn is_sum(buf: &[u8], place: usize, count: usize, least: u32, most: u32) -> bool
+    requires few { count ≤ 8 }
+    requires low { 148 ≤ place }
+    requires high { place + count ≤ 156 }
+    requires fits { place + count ≤ length buf.now }
+    requires inside { place + count < 156 → place + count < length buf.now }
+    requires spaces { (k : ℕ) → 148 ≤ k → k < place → slice_index buf.now k ≡ 0x20 }
+    requires digits { (k : ℕ) → k < count → IsOctal (slice_index buf.now (place + k)) }
+    ensures { IsTrue result ↔ IsField buf.now place count × (least ≤ octal buf.now place count) × (octal buf.now place count ≤ most) }
+{
+    if !is_field(buf, place, count) {
+        return false;
+    }
+    let value = octal(buf, place, count);
+    least <= value && value <= most
 }
 
 /// Whether the digits that stand there are a whole checksum.
 fn is_field(buf: &[u8], place: usize, count: usize) -> bool
-    requires long { 512 ≤ length buf.now }
     requires few { count ≤ 8 }
     requires low { 148 ≤ place }
     requires high { place + count ≤ 156 }
+    requires inside { place + count < 156 → place + count < length buf.now }
     requires spaces { (k : ℕ) → 148 ≤ k → k < place → slice_index buf.now k ≡ 0x20 }
     requires digits { (k : ℕ) → k < count → IsOctal (slice_index buf.now (place + k)) }
     ensures { IsTrue result ↔ IsField buf.now place count }
@@ -30,38 +94,65 @@ fn is_field(buf: &[u8], place: usize, count: usize) -> bool
     place + count == 156 || ends_field(buf[place + count])
 }
 
-/// Where the spaces of the checksum end.
-fn spaces_end(buf: &[u8]) -> usize
-    requires { 512 ≤ length buf.now }
+/// Where the spaces of the checksum end, or that place.
+fn spaces_end(buf: &[u8], end: usize) -> usize
+    requires low { 148 ≤ end }
+    requires high { end ≤ 156 }
+    requires inside { end ≤ length buf.now }
     ensures low { 148 ≤ result }
-    ensures high { result ≤ 156 }
+    ensures high { result ≤ end }
     ensures spaces { (k : ℕ) → 148 ≤ k → k < result → slice_index buf.now k ≡ 0x20 }
-    ensures ends { result < 156 → ¬ (slice_index buf.now result ≡ 0x20) }
+    ensures ends { result < end → ¬ (slice_index buf.now result ≡ 0x20) }
 {
-    for place in 148..156 {
+    for place in 148..end {
         if buf[place] != b' ' {
             return place;
         }
     }
-    156
+    end
 }
 
-/// How many octal digits stand there, up to the end of the checksum's eight bytes.
-fn digit_count(buf: &[u8], place: usize) -> usize
-    requires long { 512 ≤ length buf.now }
+/// How many octal digits stand there, up to that place.
+fn digit_count(buf: &[u8], place: usize, end: usize) -> usize
     requires low { 148 ≤ place }
-    requires high { place ≤ 156 }
+    requires order { place ≤ end }
+    requires high { end ≤ 156 }
+    requires inside { end ≤ length buf.now }
     ensures few { result ≤ 8 }
-    ensures high { place + result ≤ 156 }
+    ensures high { place + result ≤ end }
     ensures digits { (k : ℕ) → k < result → IsOctal (slice_index buf.now (place + k)) }
-    ensures ends { place + result < 156 → ¬ IsOctal (slice_index buf.now (place + result)) }
+    ensures ends { place + result < end → ¬ IsOctal (slice_index buf.now (place + result)) }
 {
-    for n in 0..156 - place {
+    for n in 0..end - place {
         if !is_octal(buf[place + n]) {
             return n;
         }
     }
-    156 - place
+    end - place
+}
+
+/// Whether a number that begins with the digits of `value`, and has so many more at most, is from `least` to `most`.
+fn may_write(value: u32, room: usize, least: u32, most: u32) -> bool
+    requires value { value < 16777216 }
+    requires room { room ≤ 8 }
+    requires least { least < 16777216 }
+    requires order { least ≤ most }
+    ensures { IsTrue result ↔ MayWrite value room least most }
+{
+    let mut low = value;
+    let mut next = value + 1;
+    for _digits in 0..room {
+        // With more digits the numbers are greater.
+        if least < next {
+            return low <= most;
+        }
+        low *= 8;
+        next *= 8;
+    }
+    if least < next {
+        return low <= most;
+    }
+    false
 }
 
 fn is_octal(byte: u8) -> bool
@@ -109,4 +200,18 @@ fn sum_from(buf: &[u8], place: usize, count: usize) -> u32
         total += u32::from(buf[place + n]);
     }
     total
+}
+
+/// The sum of the bytes that the header has, but for the checksum.
+fn least_sum(buf: &[u8]) -> u32
+    requires low { 148 ≤ length buf.now }
+    requires high { length buf.now < 512 }
+    ensures is { result ≡ header_sum buf.now }
+    ensures small { result < 16777216 }
+{
+    let front = sum_from(buf, 0, 148) + 256;
+    if buf.len() <= 156 {
+        return front;
+    }
+    front + sum_from(buf, 156, buf.len() - 156)
 }
