@@ -1,0 +1,159 @@
+/* Hands the wider answer what is meant to lead it astray inside containers and texts: brackets and comments without end,
+ * and lengths, counts and offsets of every size. Each buffer ends at a page that may not be touched, and each answer is
+ * the one that the definition says by hand. One that takes more than a minute ends the program by a signal. */
+#define _DEFAULT_SOURCE
+#include "infer.h"
+#include <stdio.h>
+#include <string.h>
+#include <sys/mman.h>
+#include <unistd.h>
+
+enum { MILLION = 1000000, ROOM = 10 * MILLION + 4096 };
+static unsigned char *end; /* of the room, right before the page that may not be touched */
+static long asked, wrong;
+
+/* The buffer of that length that ends with the room, zeros. */
+static unsigned char *zeros(size_t len) { return memset(end - len, 0, len); }
+
+static void wants(const char *what, const unsigned char *buf, size_t len, const char *extension) {
+    alarm(60);
+    const char *found = infer_extension_text(infer_more_position(buf, len));
+    char name[16];
+    asked++;
+    if (strcmp(found, extension) == 0 && infer_encoding(buf, len, name, sizeof name) == strlen(name)) return;
+    wrong++;
+    printf("inside: %s of %zu bytes is '%s', and not '%s'\n", what, len, extension, found);
+}
+
+/* A text so many times, between a front and an end. */
+static void repeated(const char *front, const char *text, size_t times, const char *last, const char *extension) {
+    size_t len = strlen(front) + times * strlen(text) + strlen(last);
+    unsigned char *buf = end - len, *to = buf;
+    memcpy(to, front, strlen(front));
+    to += strlen(front);
+    for (size_t i = 0; i < times; i++, to += strlen(text))
+        memcpy(to, text, strlen(text));
+    memcpy(to, last, strlen(last));
+    wants(text, buf, len, extension);
+}
+
+static void texts(void) {
+    /* Brackets may be nested 128 deep. */
+    repeated("", "[", 128, "", "json");
+    repeated("", "[", 129, "", "txt");
+    repeated("", "[", 10 * MILLION, "", "txt");
+    repeated("", "[{\"a\":", 64, "", "json");
+    repeated("", "{\"a\":", 2 * MILLION, "", "txt");
+    repeated("", "[]\n", 3 * MILLION, "", "ndjson");
+    /* A string that does not close is no whole token. */
+    repeated("[\"", "a", MILLION, "", "txt");
+    repeated("[\"", "a", MILLION, "\"", "json");
+    repeated("[\"", "\\\\", MILLION, "\"]", "json");
+    repeated("[", "1", MILLION, " ", "json");
+    repeated("[", " ", MILLION, "]", "json");
+    /* What the prolog of markup does not close has no root. */
+    repeated("", "<?", 8192, "", "txt");
+    repeated("", "<?\?>", 2 * MILLION, "", "txt");
+    repeated("", "<?\?>", 2 * MILLION, "<svg>", "svg");
+    repeated("", "<!---->", MILLION, "", "txt");
+    repeated("", "<!---->", MILLION, "<svg ", "svg");
+    repeated("<!--", "-", MILLION, "", "txt");
+    repeated("<!--", "-", MILLION, "><svg>", "svg");
+    repeated("<!DOCTYPE ", "s", MILLION, "", "txt");
+    repeated("<", "a", MILLION, "", "txt");
+    repeated("<", "a:", MILLION, "svg>", "svg");
+    repeated("", " ", MILLION, "<svg>", "svg");
+    /* A first line that never names a program is a shell's. */
+    repeated("#!", " ", MILLION, "", "sh");
+    repeated("#!/usr/bin/env", " A=1", MILLION, " python3\n", "py");
+    repeated("#!", "/", MILLION, "perl5.36\n", "pl");
+    repeated("#!perl", "5.", MILLION, "\n", "pl");
+}
+
+static void little(unsigned char *to, uint64_t number, size_t bytes) {
+    for (size_t i = 0; i < bytes; i++)
+        to[i] = (unsigned char)(number >> 8 * i);
+}
+
+static void big(unsigned char *to, uint64_t number, size_t bytes) {
+    for (size_t i = 0; i < bytes; i++)
+        to[bytes - 1 - i] = (unsigned char)(number >> 8 * i);
+}
+
+/* ZIP archives whose first name and extra field are said to be of any length. */
+static void archives(void) {
+    for (unsigned length = 0; length <= 0xFFFF; length = 2 * length + 1)
+        for (unsigned extra = 0; extra <= 0xFFFF; extra = 2 * extra + 1)
+            for (size_t len = 30; len <= 30 + 0xFFFF + 4; len = 2 * len + 5) {
+                unsigned char *buf = zeros(len);
+                memcpy(buf, "PK\3\4", 4);
+                little(buf + 26, length, 2);
+                little(buf + 28, extra, 2);
+                bool is_jar = extra >= 2 && 30 + length + 2 <= len;
+                if (is_jar) memcpy(buf + 30 + length, "\xFE\xCA", 2);
+                wants("an archive with an extra field", buf, len, is_jar ? "jar" : "zip");
+                bool is_kmz = length >= 4 && 30 + length <= len;
+                if (is_kmz) memcpy(buf + 26 + length, ".kml", 4);
+                wants("an archive with a name", buf, len, is_kmz ? "kmz" : is_jar ? "jar" : "zip");
+            }
+}
+
+/* Programs and images whose tables are at any place. */
+static void tables(void) {
+    static const uint64_t counts[] = {0, 1, 2, 0x7FFF, 0xFFFF};
+    for (int power = 0; power <= 64; power++)
+        for (int less = -1; less <= 1; less++)
+            for (size_t i = 0; i < sizeof counts / sizeof *counts; i++) {
+                const size_t len = 4096;
+                const uint64_t at = (power < 64 ? (uint64_t)1 << power : 0) + (uint64_t)(int64_t)less, count = counts[i];
+                unsigned char *buf = zeros(len);
+                memcpy(buf, "\x7F" "ELF\2\1", 6);
+                little(buf + 16, 3, 2);
+                little(buf + 32, at, 8);
+                little(buf + 54, 56, 2);
+                little(buf + 56, count, 2);
+                bool is_whole = count >= 1 && at <= len && count * 56 <= len - at;
+                /* A table over the header may say anything, and is left out. */
+                if (!is_whole || at >= 64) wants("a program", buf, len, is_whole ? "so" : "elf");
+                buf = zeros(len);
+                memcpy(buf, "II*\0", 4);
+                little(buf + 4, at, 4);
+                const uint64_t place = at & 0xFFFFFFFF;
+                bool is_raw = place >= 8 && count >= 1 && place + 14 <= len;
+                if (is_raw) {
+                    little(buf + place, count, 2);
+                    little(buf + place + 2, 0xC612, 2);
+                }
+                wants("an image", buf, len, is_raw ? "dng" : "tif");
+            }
+}
+
+/* Chunks of PNG that say any length. What comes after one is the next only if all of it is there. */
+static void chunks(void) {
+    for (int power = 0; power <= 32; power++)
+        for (int less = -13; less <= 1; less++) {
+            const size_t len = 5000;
+            const uint32_t length = (uint32_t)((power < 32 ? (uint64_t)1 << power : 0) + (uint64_t)(int64_t)less);
+            unsigned char *buf = zeros(len);
+            memcpy(buf, "\x89PNG\r\n\x1A\n", 8);
+            big(buf + 8, length, 4);
+            memcpy(buf + 12, "IHDR", 4);
+            uint64_t after = (uint64_t)20 + length;
+            bool is_animated = after + 8 <= len;
+            if (is_animated) memcpy(buf + after + 4, "acTL", 4);
+            wants("an image of chunks", buf, len, is_animated ? "apng" : "png");
+        }
+}
+
+int main(void) {
+    size_t page = (size_t)sysconf(_SC_PAGESIZE), room = (ROOM + page - 1) / page * page;
+    unsigned char *at = mmap(NULL, room + page, PROT_READ | PROT_WRITE, MAP_PRIVATE | MAP_ANONYMOUS, -1, 0);
+    if (at == MAP_FAILED || mprotect(at + room, page, PROT_NONE) != 0) return perror("inside"), 2;
+    end = at + room;
+    texts();
+    archives();
+    tables();
+    chunks();
+    printf("%ld buffers with something inside, %ld answers wrong\n", asked, wrong);
+    return wrong != 0;
+}
