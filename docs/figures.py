@@ -1,8 +1,9 @@
 """What pages repeat of measurements and of versions.
 
-The figures of docs/PERFORMANCE.md are those of the picture that `bench/run --plot` draws, and agree with one another; the
-other pages have figures of its. The version is that of c/infer.h."""
+`bench/run --pages` writes the tables of docs/PERFORMANCE.md, each between marks that name it, the picture, and the figures
+of those tables that other pages repeat; here both are read. The version is that of c/infer.h."""
 import json
+import math
 import os
 import re
 import shutil
@@ -12,84 +13,128 @@ from texts import kept, text_of
 
 PERFORMANCE = "docs/PERFORMANCE.md"
 FIGURE = r"\d[\d,]*(?:\.\d+)?(?: million)?"
+MEDIAN = "samples, median"
+
+
+def as_it_is(cell):
+    return cell
+
+
+def in_millions(cell):
+    return str(round(int(cell.replace(",", "")) / 1_000_000))
+
+
+def at_most(cell):
+    """With one digit, rounded up."""
+    return f"{math.ceil(float(cell) * 10) / 10:.1f}"
+
+
+# Where another page repeats a figure, its group, and the table, the row and the column in which it stands.
+REPEATED = [
+    ("README.md", r"\| Rust crate `infer` [\d.]+ \| ([\d,]+) / [\d,]+ instructions", "answer", MEDIAN, "`position`", as_it_is),
+    ("README.md", r"\| Rust crate `infer` [\d.]+ \| [\d,]+ / ([\d,]+) instructions", "answer", MEDIAN, "`get` there", as_it_is),
+    ("CHANGELOG.md", r"`position` takes ([\d,]+) instructions at the median", "answer", MEDIAN, "`position`", as_it_is),
+    ("docs/HOSTILE_INPUT.md", r"\| white space, .*\| ([\d.]+) \|", "dearest", "white space", "a byte of 8 KB", at_most),
+    ("docs/HOSTILE_INPUT.md", r"\| byte order marks, .*\| ([\d.]+)[ ,]", "dearest", "byte order marks", "a byte of 8 KB", at_most),
+    ("docs/HOSTILE_INPUT.md", r"\| skippable frames .*\| ([\d.]+)[ ,]", "dearest", "skippable frames", "a byte of 8 KB", at_most),
+    ("docs/HOSTILE_INPUT.md", r"bounded: ([\d,]+) in all and [\d,]+ of 8192 bytes", "dearest", "near misses of a header of Office", "64 KB, in all", as_it_is),
+    ("docs/HOSTILE_INPUT.md", r"bounded: [\d,]+ in all and ([\d,]+) of 8192 bytes", "dearest", "near misses of a header of Office", "8 KB, in all", as_it_is),
+    ("docs/HOSTILE_INPUT.md", r"for \"%PDF\" \| bounded: ([\d,]+) in all", "dearest", "near misses of \"%PDF\"", "64 KB, in all", as_it_is),
+    ("docs/HOSTILE_INPUT.md", r"\| a box \"ftyp\" .*\| ([\d.]+) \|", "dearest", "a whole box \"ftyp\"", "a byte of 8 KB", at_most),
+    ("docs/HOSTILE_INPUT.md", r"(\d+)\s+million\s+instructions\s+for\s+a\s+ZIP", "bytewise", "an archive of Office, with near misses of its headers", "instructions", in_millions),
+    ("docs/HOSTILE_INPUT.md", r"(\d+)\s+million\s+for\s+byte\s+order\s+marks", "bytewise", "marks FF FE, each sixteenth FE FF", "instructions", in_millions),
+]
+
+
+def marked(name):
+    """A table of the page of figures, with the marks around it."""
+    return re.compile(rf"(<!-- {re.escape(name)} -->\n)(.*?)(<!-- end -->\n)", re.S)
+
+
+def with_table(page, name, text):
+    page, found = marked(name).subn(lambda it: f"{it[1]}{text}\n{it[3]}", page)
+    if found != 1:
+        raise SystemExit(f"{PERFORMANCE} has the table {name} {found} times")
+    return page
+
+
+def table_of(page, name):
+    """The rows of a table of the page of figures, by their labels, each with its cells by their columns."""
+    found = marked(name).search(page)
+    lines = [[cell.strip() for cell in line[1:-1].split("|")] for line in found[2].splitlines()] if found else [[]]
+    return {label: dict(zip(lines[0][1:], cells)) for label, *cells in lines[2:]}
+
+
+def repeated(page):
+    """Each other page with the figures that it repeats of that text of the page of figures: of two builds the first."""
+    texts = {}
+    for path, pattern, table, label, column, how in REPEATED:
+        text = texts.get(path) or text_of(path)
+        cell = table_of(page, table).get(label, {}).get(column, "").partition(" / ")[0]
+        place = re.search(pattern, text)
+        if not cell or not place:
+            raise SystemExit(f"{path} repeats a figure of {PERFORMANCE}: {label}, {column}, in {table}, and one of them is not there")
+        at, end = place.span(1)
+        texts[path] = text[:at] + how(cell) + text[end:]
+    return [*texts.items()]
 
 
 def tables(page):
-    """The tables of a page, each with the text before it, its columns, and its rows by their labels."""
-    at = 0
+    """The tables of a page, each with its columns, and its rows by their labels."""
     for it in re.finditer(r"((?:^\|.*\n)+)", text_of(page), re.M):
         lines = [[cell.strip() for cell in line[1:-1].split("|")] for line in it[1].splitlines()]
-        yield text_of(page)[at : it.start()], lines[0], lines[2:]
-        at = it.end()
+        yield lines[0], lines[2:]
 
 
-def cells():
-    """Each figure of the library on the page of figures: the call and the buffer, and the figure."""
-    for before, head, rows in tables(PERFORMANCE):
-        grown = re.search(r"(`\w+`) as a buffer grows", before)
-        for label, *values in rows:
-            for column, value in zip(head[1:], values):
-                call, buffer = {"x86-64-v2": "`position`"}.get(column, column), label
-                if column == "instructions" and label.startswith("`"):
-                    call, _, buffer = label.partition(", ")
-                if grown:
-                    call, buffer = grown[1], f"{label}, {column}"
-                yield (call, buffer), value.partition(" / ")[0]
+def numbers_in(cell):
+    return [float(it.replace(",", "")) for it in cell.split(" / ")]
 
 
 def check_performance():
-    """A figure that stands twice is the same, one a byte is that of its row, and those of the picture are there."""
-    known = {}
-    for key, value in cells():
-        yield known.setdefault(key, value) == value, f"{PERFORMANCE} has {value} and {known[key]} for {key[0]} of {key[1]}"
-    for _, head, rows in tables(PERFORMANCE):
+    """Other pages repeat what the tables have, one a byte is that of its row, and the picture shows those of the library."""
+    page = text_of(PERFORMANCE)
+    try:
+        yield from [(text == text_of(path), f"{path} repeats other figures than {PERFORMANCE} has") for path, text in repeated(page)]
+    except SystemExit as fault:
+        yield False, str(fault)
+    for head, rows in tables(PERFORMANCE):
         for row in rows if head[-1] == "a byte of 1 MB" else []:
-            yield abs(int(row[-2].replace(",", "")) / (1 << 20) - float(row[-1])) < 0.006, f"{PERFORMANCE}: {row[-1]} a byte is not {row[-2]} of 1 MB"
-    theirs = dict(re.findall(r'"([^"]+)": (\d+)', re.search(r"^RUST_CRATE = (.*)$", text_of("bench/run"), re.M)[1]))
+            pairs = zip(numbers_in(row[-2]), numbers_in(row[-1]) * 2)
+            yield all(abs(all_of_it / (1 << 20) - a_byte) < 0.006 for all_of_it, a_byte in pairs), f"{PERFORMANCE}: {row[-1]} a byte is not {row[-2]} of 1 MB"
+    answer = table_of(page, "answer")
     shown = re.findall(r'text-anchor="end">(.*?)</text>\n.*\n.*>([\d,]+) here</text>\n.*\n.*>([\d,]+) Rust crate</text>', text_of("docs/speed.svg"))
-    yield len(shown) == len(theirs), "docs/speed.svg has other kinds of buffers than bench/run"
+    yield len(shown) == 5, "docs/speed.svg has not five kinds of buffers"
     for kind, ours, crate in shown:
-        label = "samples, median" if kind == "samples" else kind
-        yield known.get(("`position`", label)) == ours, f"{PERFORMANCE}: `position` of {label} is not {ours}, as docs/speed.svg has it"
-        yield f"{int(theirs[kind]):,}" == crate, f"docs/speed.svg has {crate} for the Rust crate, and bench/run {theirs[kind]}"
-        both = [values[0] for _, head, rows in tables(PERFORMANCE) for it, *values in rows if it == label and head[1] == "`position`" and "/" in values[0]]
-        yield both in ([], [f"{ours} / {crate}"]), f"{PERFORMANCE}: the Rust crate takes {crate} of {label}"
+        cells = answer.get(kind, {})
+        yield cells.get("`position`", "").partition(" / ")[0] == ours, f"{PERFORMANCE}: `position` of {kind} is not {ours}, as docs/speed.svg has it"
+        yield cells.get("`get` there") == crate, f"{PERFORMANCE}: the Rust crate takes {crate} of {kind}, as docs/speed.svg has it"
 
 
 def numbers_of(path):
     """Each line of the tables of a page as its numbers."""
-    return [re.findall(r"\d[\d,.]*", " ".join(row[1:])) for _, _, rows in tables(path) for row in rows]
+    return [re.findall(r"\d[\d,.]*", " ".join(row[1:])) for _, rows in tables(path) for row in rows]
 
 
 def check_compared(page):
     """What a page tells of two libraries stands in the tables of the page that it leads to, which a script printed."""
     for ours, theirs, link in re.findall(r"^\|.*\| ([\d.,]+) / ([\d.,]+) \w+ \| \[.*?\]\((.*?)(?:#.*?)?\)", text_of(page), re.M):
-        rows = numbers_of(os.path.normpath(os.path.join(os.path.dirname(page), link)))
+        leads_to = os.path.normpath(os.path.join(os.path.dirname(page), link))
+        if leads_to == PERFORMANCE:
+            continue
+        rows = numbers_of(leads_to)
         is_pair = any((ours, theirs) in zip(row, row[1:]) for row in rows)
         yield is_pair or all(any(number in row[:1] for row in rows) for number in (ours, theirs)), f"{page}: {link} has not {ours} and {theirs}"
 
 
-@kept
-def known_figures():
-    """The numbers of the page of figures, and those with a digit after the point less."""
-    found = re.findall(FIGURE, " ".join(text_of(PERFORMANCE).split()))
-    return {*found} | {f"{float(it):.1f}" for it in found if re.fullmatch(r"\d+\.\d+", it)}
-
-
 def check_repeated(page):
-    """The instructions that another page tells of are figures of the page of figures."""
+    """A page that tells of instructions repeats a figure of the page of figures, in a place that is known."""
     text = re.sub(r"\n(?=\S)", " ", text_of(page))
-    told = re.findall(rf"({FIGURE}) instructions", text)
-    told += [it for pair in re.findall(rf"in place of ({FIGURE})|takes ({FIGURE})[ ,.]", text) for it in pair if it and page == "CHANGELOG.md"]
-    for _, head, rows in tables(page):
-        if any("instructions" in it.lower() for it in head):
-            told += [it for row in rows for cell in row[1:] for pair in re.findall(rf"^({FIGURE})(?:,|$)|(\d+,\d+) (?:in all|of 8192)", cell) for it in pair if it]
-    for it in told:
-        yield it in known_figures(), f"{page}: {PERFORMANCE} has no figure {it}"
+    known = [re.search(pattern, text) for path, pattern, *_ in REPEATED if path == page]
+    places = [it.span(1) for it in known if it]
+    for it in re.finditer(rf"({FIGURE}) instructions", text):
+        is_written = any(at < it.end(1) and it.start(1) < end for at, end in places)
+        yield is_written, f"{page}: {it[0]} stand in no place that bench/run --pages writes"
     yield from check_compared(page)
-    medians = {call.strip("`"): value for (call, buffer), value in cells() if buffer == "samples, median"}
-    for call, value in re.findall(rf"`(\w+)` takes ({FIGURE}) instructions at the median of the samples", text):
-        yield medians.get(call) == value, f"{page}: {PERFORMANCE} has not {value} for {call}"
 
 
 def versions():
