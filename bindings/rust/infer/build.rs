@@ -1,5 +1,5 @@
 //! Writes the table of the aliases, and links with the library for C, from the folder that `INFER_LIB_DIR` names, or from
-//! `c/out` of the repository. Without the library all goes but linking.
+//! this one if it is here, or from `c/out` of the repository. Without the library all goes but linking.
 
 use std::path::{Path, PathBuf};
 use std::{env, fs};
@@ -13,7 +13,8 @@ fn main() {
     println!("cargo:rerun-if-changed={}", lines.display());
     let text = fs::read_to_string(&lines).expect("aliases.def is part of the package");
     fs::write(Path::new(&variable("OUT_DIR")).join("aliases.rs"), table(&text)).expect("Cargo's folder can be written to");
-    link(env::var_os("INFER_LIB_DIR").map_or(here.join("../../../c/out"), PathBuf::from));
+    let beside = if here.join("libinfer.a").exists() { here } else { here.join("../../../c/out") };
+    link(env::var_os("INFER_LIB_DIR").map_or(beside, PathBuf::from));
 }
 
 fn variable(name: &str) -> String {
