@@ -344,6 +344,11 @@ def lists(rows, parents):
     yield "};"
 
 
+def numbers(count):
+    """The numbers of so many rows, twenty-four a line."""
+    yield from ("        " + " ".join(map(str, range(at, min(at + 24, count)))) for at in range(0, count, 24))
+
+
 def text(rows, parents):
     """The file of the index."""
     return HEAD.format(len(rows)) + "\n".join(lists(rows, parents)) + "\n"

@@ -7,7 +7,7 @@ ghost use Rattle.infer_deep.specs.Signatures.{Reachable};
 
 use crate::numbers::most16;
 use infer_deep::numbers::le16;
-use infer_deep::places::{may_stand_at, stands_at};
+use infer_deep::places::{has_at, may_stand_at, stands_at};
 use memchr::memchr;
 
 /// The first entry has this name.
@@ -166,12 +166,12 @@ fn may_open_package(buf: &[u8], folder: &[u8]) -> bool
 fn may_begin_any_package(buf: &[u8]) -> bool
     ensures { IsTrue result ↔ MayBeginAny buf.now }
 {
-    if !stands_at(buf, b"PK\x03\x04", 0) {
+    if !has_at(buf, b"PK\x03\x04", 0) {
         return false;
     }
-    stands_at(buf, b"[Content_Types].xml", 30)
-        || stands_at(buf, b"_rels/", 30)
-        || stands_at(buf, b"docProps/", 30)
+    has_at(buf, b"[Content_Types].xml", 30)
+        || has_at(buf, b"_rels/", 30)
+        || has_at(buf, b"docProps/", 30)
         || is_folder_entry(buf, 0)
 }
 
@@ -217,19 +217,19 @@ fn is_part_entry(buf: &[u8], place: usize) -> bool
     requires { place ≤ length buf.now }
     ensures { IsTrue result ↔ IsPartEntry buf.now place }
 {
-    stands_at(buf, b"PK\x03\x04", place)
-        && (stands_at(buf, b"[Content_Types].xml", place + 30)
-            || stands_at(buf, b"_rels/", place + 30))
+    has_at(buf, b"PK\x03\x04", place)
+        && (has_at(buf, b"[Content_Types].xml", place + 30)
+            || has_at(buf, b"_rels/", place + 30))
 }
 
 fn is_folder_entry(buf: &[u8], place: usize) -> bool
     requires { place ≤ length buf.now }
     ensures { IsTrue result ↔ IsFolderEntry buf.now place }
 {
-    stands_at(buf, b"PK\x03\x04", place)
-        && (stands_at(buf, b"word/", place + 30)
-            || stands_at(buf, b"xl/", place + 30)
-            || stands_at(buf, b"ppt/", place + 30)
-            || stands_at(buf, b"visio/", place + 30)
-            || stands_at(buf, b"3D/", place + 30))
+    has_at(buf, b"PK\x03\x04", place)
+        && (has_at(buf, b"word/", place + 30)
+            || has_at(buf, b"xl/", place + 30)
+            || has_at(buf, b"ppt/", place + 30)
+            || has_at(buf, b"visio/", place + 30)
+            || has_at(buf, b"3D/", place + 30))
 }

@@ -1,33 +1,57 @@
 -- What an alternative accepts, its signature does.
-use Rattle.std.proofs.Common.{◌≡◌, ℕ, zero, suc, ◌+◌, ◌<◌, ◌≤◌, inl, inr, List, [], ◌∷◌, length, get_or, map, take, subst, sym, arith, ◌≢◌, ◌↔◌}
+use Rattle.std.proofs.Common.{◌≡◌, ℕ, zero, suc, ◌+◌, ◌<◌, ◌≤◌, ◌⊎◌, inl, inr, List, [], ◌∷◌, length, get_or, map, take, subst, sym, arith, ◌≢◌, ◌↔◌}
 use Rattle.std.proofs.lemmas.List.{take_all}
+use Rattle.std.proofs.lemmas.Bool.{cases_lt}
 use denote.Ref.{Bor}
 use Rattle.infer_inside.specs.Script.{IsProgram}
-use Rattle.infer_more.specs.Listed.{alternative_listed, signature_listed}
-use Rattle.infer_more.specs.Signature.{Accepted, Fits, IsProgramAmong}
+use Rattle.infer_more.specs.Listed.{FitsAt, signature_listed}
+use Rattle.infer_more.specs.Signature.{Accepted, IsProgramAmong}
 use Rattle.infer_inside.specs.Zip.{IsOneOf}
 use Rattle.infer_more.specs.declared.signature.Alternative.{Alternative}
 
 module _ (b : List ℕ) where
-  pub accepted_at : (xs : List Alternative) (k : ℕ) (d : Alternative) → k < length xs → Fits (alternative_listed (get_or xs k d)) b → Accepted (signature_listed xs) b
-  accepted_at [] k d lt h = absurd (omega arith)
-  accepted_at (x ∷ xs) zero d lt h = inl h
-  accepted_at (x ∷ xs) (suc k) d lt h = inr (accepted_at xs k d (omega arith) h)
+  -- an alternative past the last fits nothing, and one that fits makes the buffer accepted
+  pub fits_past : (xs : List Alternative) (k : ℕ) → length xs ≤ k → ¬ FitsAt xs k b
+  fits_past [] k le h = h
+  fits_past (x ∷ xs) zero le h = absurd (omega arith)
+  fits_past (x ∷ xs) (suc k) le h = fits_past xs k (omega arith) h
 
-  -- one more that the buffer does not fit, and all of them
-  pub none_more : (xs : List Alternative) (k : ℕ) (d : Alternative) → k < length xs → ¬ Accepted (signature_listed (take k xs)) b
-      → ¬ Fits (alternative_listed (get_or xs k d)) b → ¬ Accepted (signature_listed (take (k + 1) xs)) b
-  none_more [] k d lt before here = absurd (omega arith)
-  none_more (x ∷ xs) zero d lt before here = λ h. elim h [ inl f ↦ here f | inr f ↦ f ]
-  none_more (x ∷ xs) (suc k) d lt before here =
-      let e : suc k + 1 ≡ suc (k + 1) = omega arith in
-      rw e (λ h. elim h [
-        | inl f ↦ before (inl f)
-        | inr f ↦ none_more xs k d (omega arith) (λ a. before (inr a)) here f
-      ])
+  pub accepted_at : (xs : List Alternative) (k : ℕ) → FitsAt xs k b → Accepted (signature_listed xs) b
+  accepted_at [] k h = absurd (h)
+  accepted_at (x ∷ xs) zero h = inl h
+  accepted_at (x ∷ xs) (suc k) h = inr (accepted_at xs k h)
 
-  pub none_accepted : (xs : List Alternative) (n : ℕ) → length xs ≤ n → ¬ Accepted (signature_listed (take n xs)) b → ¬ Accepted (signature_listed xs) b
-  none_accepted xs n le h = subst (λ l. ¬ Accepted (signature_listed l) b) (take_all n xs le) h
+  abbrev Later : List Alternative → ℕ → Type 0
+  Later xs from = (k : ℕ) × (from ≤ k) × FitsAt xs k b
+
+  some_later : (xs : List Alternative) → Accepted (signature_listed xs) b → Later xs 0
+  some_later [] h = absurd (h)
+  some_later (x ∷ xs) (inl h) = (0, omega arith, h)
+  some_later (x ∷ xs) (inr h) = let (k, from, f) = some_later xs h in (suc k, omega arith, f)
+
+  -- the next, or a later one
+  next : (xs : List Alternative) (from : ℕ) → Later xs from → FitsAt xs from b ⊎ Later xs (from + 1)
+  next xs from (k, le, h) = elim (cases_lt from k) [
+    | inl lt ↦ inr (k, omega arith, h)
+    | inr more ↦ let e : k ≡ from = omega arith in inl (subst (λ n. FitsAt xs n b) e h)
+  ]
+
+  -- one of the first four, or a later one
+  pub of_four : (xs : List Alternative) → Accepted (signature_listed xs) b
+      → FitsAt xs 0 b ⊎ FitsAt xs 1 b ⊎ FitsAt xs 2 b ⊎ FitsAt xs 3 b ⊎ ((k : ℕ) × (4 ≤ k) × FitsAt xs k b)
+  of_four xs h = elim (next xs 0 (some_later xs h)) [
+    | inl f ↦ inl f
+    | inr l ↦ elim (next xs 1 l) [
+      | inl f ↦ inr (inl f)
+      | inr m ↦ elim (next xs 2 m) [
+        | inl f ↦ inr (inr (inl f))
+        | inr n ↦ elim (next xs 3 n) [
+          | inl f ↦ inr (inr (inr (inl f)))
+          | inr o ↦ inr (inr (inr (inr o)))
+        ]
+      ]
+    ]
+  ]
 
 -- the same of names
 module _ (name : List ℕ) where

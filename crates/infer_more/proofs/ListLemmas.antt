@@ -1,9 +1,10 @@
 -- Tests of the images of a list.
-use Rattle.std.proofs.Common.{◌≡◌, ℕ, zero, suc, Bool, true, false, IsTrue, List, [], ◌∷◌, ◌+◌, ◌<◌, ◌≤◌, length, get_or, map, take, refl, ap, subst, ◌∙◌, arith}
+use Rattle.std.proofs.Common.{◌≡◌, ℕ, zero, suc, Bool, true, false, IsTrue, List, [], ◌∷◌, ◌+◌, ◌<◌, ◌≤◌, Some, slice_get, length, get_or, map, take, refl, ap, subst, ◌∙◌, arith}
 use Rattle.std.proofs.lemmas.Bool.{and_parts}
 use Rattle.std.proofs.lemmas.List.{take_all}
+use Rattle.std.proofs.lemmas.Option.{get_or_from_slice_get, slice_get_within}
 use Rattle.std.proofs.lemmas.List.Folds.{list_all_more, list_any_more}
-use Rattle.std.specs.Prelude.{◌&&◌, ◌||◌}
+use Rattle.std.specs.Prelude.{◌&&◌, ◌||◌, not}
 use Rattle.std.specs.List.{list_any, list_all}
 
 module _ {A B : Type 0} (p : B → Bool) (f : A → B) where
@@ -20,6 +21,9 @@ module _ {A B : Type 0} (p : B → Bool) (f : A → B) where
   passed_by [] k d lt all = absurd (omega arith)
   passed_by (x ∷ xs) zero d lt all = (and_parts (p (f x)) _ all).0
   passed_by (x ∷ xs) (suc k) d lt all = passed_by xs k d (omega arith) (and_parts (p (f x)) _ all).1
+
+  pub passed_read : (xs : List A) (k : ℕ) (x : A) → slice_get xs k ≡ Some x → IsTrue (list_all p (map f xs)) → IsTrue (p (f x))
+  passed_read xs k x e all = subst (λ y. IsTrue (p (f y))) (get_or_from_slice_get xs k x x e) (passed_by xs k x (slice_get_within xs k x e) all)
 
 -- one more element, and all of them
 module _ {A : Type 0} (p : A → Bool) where
@@ -42,3 +46,16 @@ module _ {A : Type 0} (p : A → Bool) where
 
   pub all_of_all : (xs : List A) (n : ℕ) → length xs ≤ n → list_all p (take n xs) ≡ true → list_all p xs ≡ true
   all_of_all xs n le h = subst (λ l. list_all p l ≡ true) (take_all n xs le) h
+
+-- what all elements pass, those pass that are of one kind and those that are not
+one_of_two : (kind test a b c : Bool) → (a && b) ≡ c → ((not kind || test) && a) && ((kind || test) && b) ≡ test && c
+one_of_two true true a b c e = e
+one_of_two true false a b c e = refl
+one_of_two false true a b c e = e
+one_of_two false false true b c e = refl
+one_of_two false false false b c e = refl
+
+pub split_all : {A : Type 0} (kind test : A → Bool) (xs : List A)
+    → (list_all (λ x. not (kind x) || test x) xs && list_all (λ x. kind x || test x) xs) ≡ list_all test xs
+split_all kind test [] = refl
+split_all kind test (x ∷ xs) = one_of_two (kind x) (test x) _ _ _ (split_all kind test xs)

@@ -1,5 +1,5 @@
 -- The further rows as the code lists them.
-use Rattle.std.specs.Prelude.{◌≡◌, ◌==◌, List, [], ◌∷◌, ◌++◌, if◌then◌else◌, map}
+use Rattle.std.specs.Prelude.{◌≡◌, ◌==◌, ℕ, Bool, true, false, List, [], ◌∷◌, ◌++◌, MatchOption, if◌then◌else◌, map, slice_get}
 use denote.Ref.{Bor}
 use Rattle.infer_sig.specs.Signature as fixed
 use Rattle.infer_sig.specs.Signature.{Part, at_least, text, byte, any_of, between}
@@ -20,6 +20,12 @@ abbrev pub part_listed : Piece → Part
 part_listed (At place t) = text place t.now
 part_listed (OneOf place set) = byte place (any_of set.now)
 part_listed (Between place low high) = if low == high then text place (low ∷ []) else byte place (between low high)
+
+-- the piece asks a text, and no single byte
+abbrev pub is_text : Piece → Bool
+is_text (At place t) = true
+is_text (OneOf place set) = false
+is_text (Between place low high) = false
 
 abbrev pub bytes_listed : listed.Bytes → fixed.Alternative
 bytes_listed a = at_least a.least (map part_listed a.pieces.now)
@@ -47,6 +53,10 @@ alternative_listed PlainText = plain_text
 
 abbrev pub signature_listed : List Alternative → List signature.Alternative
 signature_listed alternatives = map alternative_listed alternatives
+
+-- the buffer fits alternative k, if there is one
+abbrev pub FitsAt : List Alternative → ℕ → List ℕ → Type 0
+FitsAt alternatives k b = MatchOption (slice_get alternatives k) ⊥ (λ a. signature.Fits (alternative_listed a) b)
 
 abbrev pub row_listed : FurtherRow → Further
 row_listed r = record {

@@ -1,5 +1,5 @@
 -- Signatures of further rows: alternatives, each of which asks for fixed bytes or looks inside.
-use Rattle.std.specs.Prelude.{◌≡◌, ◌⊎◌, ℕ, IsTrue, List, [], ◌∷◌}
+use Rattle.std.specs.Prelude.{◌⊎◌, ℕ, IsTrue, List, [], ◌∷◌}
 use Rattle.infer_deep.specs.ClassId.{HasClassId}
 use Rattle.infer_deep.specs.Find.{OccursAt}
 use Rattle.infer_inside.specs.Dbase.{IsDbase}

@@ -21,6 +21,7 @@ use crate::index::{
 };
 use crate::signature;
 use crate::table::{EndedTexts, FurtherRow, row_at};
+use crate::tried::widens;
 use infer::rows::{ROW_COUNT, numbers};
 use infer::{Ask, Asker, Type};
 use infer_deep::places::stands_at;
@@ -32,17 +33,6 @@ use infer_inside::zip::package_folder;
 
 /// How rows past the last are told.
 static NOTHING: Below = Below::Nothing;
-
-/// Whether further row `i` has this parent and accepts the buffer.
-#[inline(always)]
-fn widens(i: usize, parent: Option<usize>, buf: &[u8]) -> bool
-    ensures { IsTrue result ↔ WidensAt parent buf.now i }
-{
-    match row_at(i) {
-        Some(row) => row.parent == parent && signature::accepts(row.signature, buf),
-        None => false,
-    }
-}
 
 /// Whether the buffer has the byte at the place.
 #[inline(always)]
@@ -342,9 +332,22 @@ fn least_root(roots: &[Rooted], buf: &[u8]) -> usize
     }
 }
 
-/// The least row that is found below a built-in row in this way, or their count.
+/// The least row that is found below a built-in row in this way, or their count. What is told by a name has a function of
+/// its own, so that entries take nothing of what it needs.
 #[inline(always)]
 fn least_found(below: &Below, row: usize, buf: &[u8]) -> usize
+    requires { IsTrue (is_true_below row below.now) }
+    ensures { IsLeast (IsFoundBelow below.now row buf.now) FURTHER_COUNT result }
+{
+    match below {
+        Below::Entries(entries) => least_of(entries, Some(row), buf, FURTHER_COUNT),
+        other => least_told(other, row, buf),
+    }
+}
+
+/// [`least_found`] in any way.
+#[inline(never)]
+fn least_told(below: &Below, row: usize, buf: &[u8]) -> usize
     requires { IsTrue (is_true_below row below.now) }
     ensures { IsLeast (IsFoundBelow below.now row buf.now) FURTHER_COUNT result }
 {

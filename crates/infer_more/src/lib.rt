@@ -32,6 +32,7 @@ mod read;
 mod samples;
 mod signature;
 mod table;
+mod tried;
 
 pub use index::FURTHER_COUNT;
 use infer::{FRONT, Fault, Infer, Type, Watched};

@@ -1,8 +1,8 @@
 //! Signatures as data, and one function that decides them all.
-ghost use Rattle.std.specs.Prelude.{◌≡◌, ◌↔◌, IsTrue, length, map};
+ghost use Rattle.std.specs.Prelude.{◌≡◌, ◌↔◌, ◌≤◌, ◌||◌, ℕ, IsTrue, length, map, not};
 ghost use Rattle.std.specs.List.{list_all};
 ghost use Rattle.infer_sig.specs.Signature.{allows, any_of, between, fits, has_part};
-ghost use Rattle.infer_more.specs.Listed.{alternative_listed, bytes_listed, part_listed, signature_listed};
+ghost use Rattle.infer_more.specs.Listed.{FitsAt, alternative_listed, bytes_listed, is_text, part_listed, signature_listed};
 ghost use Rattle.infer_more.specs.Row.{is_closed, is_closed_alternative, is_inside};
 ghost use Rattle.infer_inside.specs.Zip.{IsOneOf};
 ghost use Rattle.infer_more.specs.Signature.{Accepted, Fits, IsProgramAmong};
@@ -63,14 +63,48 @@ pub(crate) enum Alternative {
     PlainText,
 }
 
-/// Whether the buffer has what one of the alternatives asks.
+/// Whether the buffer has what one of the alternatives asks. Four are written out: the compiler makes comparisons with
+/// constants of an alternative that it knows, and leaves out what is not there.
 #[inline(always)]
 pub(crate) fn accepts(signature: &[Alternative], buf: &[u8]) -> bool
     requires { IsTrue (list_all is_closed_alternative (signature_listed signature.now)) }
     ensures { IsTrue result ↔ Accepted (signature_listed signature.now) buf.now }
 {
-    for alternative in signature {
-        if fits(alternative, buf) {
+    if fits_nth(signature, 0, buf) {
+        return true;
+    }
+    if fits_nth(signature, 1, buf) {
+        return true;
+    }
+    if fits_nth(signature, 2, buf) {
+        return true;
+    }
+    if fits_nth(signature, 3, buf) {
+        return true;
+    }
+    fits_later(signature, 4, buf)
+}
+
+/// Whether the buffer has what alternative `k` asks, if there is one.
+#[inline(always)]
+fn fits_nth(signature: &[Alternative], k: usize, buf: &[u8]) -> bool
+    requires { IsTrue (list_all is_closed_alternative (signature_listed signature.now)) }
+    ensures { IsTrue result ↔ FitsAt signature.now k buf.now }
+{
+    match signature.get(k) {
+        Some(alternative) => fits(alternative, buf),
+        None => false,
+    }
+}
+
+/// Whether it has what an alternative from that one on asks.
+#[inline(always)]
+fn fits_later(signature: &[Alternative], from: usize, buf: &[u8]) -> bool
+    requires { IsTrue (list_all is_closed_alternative (signature_listed signature.now)) }
+    ensures { IsTrue result ↔ ((k : ℕ) × (from ≤ k) × FitsAt signature.now k buf.now) }
+{
+    for k in from..signature.len() {
+        if fits_nth(signature, k, buf) {
             return true;
         }
     }
@@ -80,19 +114,6 @@ pub(crate) fn accepts(signature: &[Alternative], buf: &[u8]) -> bool
 /// Whether the buffer has what this one asks.
 #[inline(always)]
 fn fits(alternative: &Alternative, buf: &[u8]) -> bool
-    requires { IsTrue (is_closed_alternative (alternative_listed alternative.now)) }
-    ensures { IsTrue result ↔ Fits (alternative_listed alternative.now) buf.now }
-{
-    match alternative {
-        Alternative::Bytes(bytes) => has_bytes(bytes, buf),
-        other => fits_inside(other, buf),
-    }
-}
-
-/// Whether the buffer has what this one asks, which is seldom bytes alone. A function of its own, so that those take
-/// nothing of what the others need.
-#[inline(never)]
-fn fits_inside(alternative: &Alternative, buf: &[u8]) -> bool
     requires { IsTrue (is_closed_alternative (alternative_listed alternative.now)) }
     ensures { IsTrue result ↔ Fits (alternative_listed alternative.now) buf.now }
 {
@@ -151,29 +172,66 @@ fn has_bytes(bytes: &Bytes, buf: &[u8]) -> bool
     bytes.least <= buf.len() && has_every(bytes.pieces, buf)
 }
 
-/// Whether it has what each piece asks, all of it within the buffer.
+/// Whether it has what each piece asks, all of it within the buffer. The texts have a loop of their own, so that the
+/// compiler unrolls either.
 #[inline(always)]
+#[tactic(auto, using(crate::proofs::ListLemmas::split_all))]
 fn has_every(pieces: &[Piece], buf: &[u8]) -> bool
     requires { IsTrue (list_all (is_inside (length buf.now)) (map part_listed pieces.now)) }
     ensures { result ≡ list_all (λ piece. has_part buf.now (part_listed piece)) pieces.now }
 {
+    has_texts(pieces, buf) && has_singles(pieces, buf)
+}
+
+/// Whether it has what each piece asks that is a text.
+#[inline(always)]
+fn has_texts(pieces: &[Piece], buf: &[u8]) -> bool
+    requires { IsTrue (list_all (is_inside (length buf.now)) (map part_listed pieces.now)) }
+    ensures { result ≡ list_all (λ piece. not (is_text piece) || has_part buf.now (part_listed piece)) pieces.now }
+{
     for piece in pieces {
-        if !has_piece(piece, buf) {
+        if !has_text(piece, buf) {
             return false;
         }
     }
     true
 }
 
-/// Whether it has what the piece asks, which is within the buffer.
+/// Whether it has what each piece asks that is a single byte.
 #[inline(always)]
-fn has_piece(piece: &Piece, buf: &[u8]) -> bool
+fn has_singles(pieces: &[Piece], buf: &[u8]) -> bool
+    requires { IsTrue (list_all (is_inside (length buf.now)) (map part_listed pieces.now)) }
+    ensures { result ≡ list_all (λ piece. is_text piece || has_part buf.now (part_listed piece)) pieces.now }
+{
+    for piece in pieces {
+        if !has_single(piece, buf) {
+            return false;
+        }
+    }
+    true
+}
+
+/// Whether the piece asks no text, or the buffer has it.
+#[inline(always)]
+fn has_text(piece: &Piece, buf: &[u8]) -> bool
     requires { IsTrue (is_inside (length buf.now) (part_listed piece.now)) }
-    ensures { result ≡ has_part buf.now (part_listed piece.now) }
+    ensures { result ≡ (not (is_text piece.now) || has_part buf.now (part_listed piece.now)) }
+{
+    match piece {
+        Piece::At(place, text) => same_text(buf, text, *place),
+        _ => true,
+    }
+}
+
+/// Whether the piece asks a text, or the buffer has the byte that it asks.
+#[inline(always)]
+fn has_single(piece: &Piece, buf: &[u8]) -> bool
+    requires { IsTrue (is_inside (length buf.now) (part_listed piece.now)) }
+    ensures { result ≡ (is_text piece.now || has_part buf.now (part_listed piece.now)) }
 {
     match piece {
         Piece::OneOf(place, bytes) => is_among(buf[*place], bytes),
-        Piece::At(place, text) => same_text(buf, text, *place),
+        Piece::At(_, _) => true,
         Piece::Between(place, low, high) => is_between(buf[*place], *low, *high),
     }
 }

@@ -1,30 +1,28 @@
-use Rattle.std.proofs.Common.{◌<◌, ◌≤◌, length, arith, refl}
+use Rattle.std.proofs.Common.{inl, inr, refl}
 use Rattle.std.proofs.lemmas.Bool.{false≢true}
-use Rattle.infer_more.specs.Listed.{alternative_listed}
-use Rattle.infer_more.specs.Row.{is_closed_alternative}
-use Rattle.infer_more.proofs.ListLemmas.{passed_by}
-use Rattle.infer_more.proofs.AcceptedLemmas.{accepted_at, none_accepted, none_more}
+use Rattle.infer_more.proofs.AcceptedLemmas.{accepted_at, of_four}
 use Rattle.infer_more.proofs.signature.accepts.Goals as goal
 
-pub fits-requires : goal.fits-requires
-fits-requires c =
-    let lt : c.loop-alternative.alternative-index < length c.args.signature.now = omega arith in
-    passed_by is_closed_alternative alternative_listed c.args.signature.now c.loop-alternative.alternative-index _ lt c.requires
+pub returns-then-fits_nth : goal.returns-then-fits_nth
+returns-then-fits_nth c = (λ e. accepted_at c.args.buf.now c.args.signature.now 0 (c.if-fits_nth.ensures.0 refl), λ h. refl)
 
-pub loop-alternative-init : goal.loop-alternative-init
-loop-alternative-init c = λ h. h
+pub returns-then-fits_nth-2 : goal.returns-then-fits_nth-2
+returns-then-fits_nth-2 c = (λ e. accepted_at c.args.buf.now c.args.signature.now 1 (c.if-fits_nth-2.ensures.0 refl), λ h. refl)
 
-pub loop-alternative-preserved : goal.loop-alternative-preserved
-loop-alternative-preserved c =
-    let lt : c.loop-alternative.alternative-index < length c.args.signature.now = omega arith in
-    none_more c.args.buf.now c.args.signature.now c.loop-alternative.alternative-index _ lt c.loop-alternative.invariant (λ h. false≢true (c.if-fits.ensures.1 h))
+pub returns-then-fits_nth-3 : goal.returns-then-fits_nth-3
+returns-then-fits_nth-3 c = (λ e. accepted_at c.args.buf.now c.args.signature.now 2 (c.if-fits_nth-3.ensures.0 refl), λ h. refl)
 
-pub returns-then-fits : goal.returns-then-fits
-returns-then-fits c =
-    let lt : c.loop-alternative.alternative-index < length c.args.signature.now = omega arith in
-    (λ e. accepted_at c.args.buf.now c.args.signature.now c.loop-alternative.alternative-index _ lt (c.if-fits.ensures.0 refl), λ h. refl)
+pub returns-then-fits_nth-4 : goal.returns-then-fits_nth-4
+returns-then-fits_nth-4 c = (λ e. accepted_at c.args.buf.now c.args.signature.now 3 (c.if-fits_nth-4.ensures.0 refl), λ h. refl)
 
 pub returns : goal.returns
-returns c =
-    let le : length c.args.signature.now ≤ c.loop-alternative.alternative-index = omega arith in
-    (λ e. absurd (cc), λ h. absurd (none_accepted c.args.buf.now c.args.signature.now c.loop-alternative.alternative-index le c.loop-alternative.invariant h))
+returns c = (
+  λ e. let (k, le, f) = c.fits_later.ensures.0 e in accepted_at c.args.buf.now c.args.signature.now k f,
+  λ h. elim (of_four c.args.buf.now c.args.signature.now h) [
+    | inl f ↦ absurd (false≢true (c.if-fits_nth.ensures.1 f))
+    | inr (inl f) ↦ absurd (false≢true (c.if-fits_nth-2.ensures.1 f))
+    | inr (inr (inl f)) ↦ absurd (false≢true (c.if-fits_nth-3.ensures.1 f))
+    | inr (inr (inr (inl f))) ↦ absurd (false≢true (c.if-fits_nth-4.ensures.1 f))
+    | inr (inr (inr (inr later))) ↦ c.fits_later.ensures.1 later
+  ],
+)

@@ -1,29 +1,20 @@
-use Rattle.std.proofs.Common.{◌<◌, ◌≤◌, length, arith, sym, ◌∙◌}
-use Rattle.std.proofs.lemmas.List.Folds.{list_all_at}
+use Rattle.std.proofs.Common.{ap, sym, ◌∙◌}
+use Rattle.std.specs.Prelude.{◌&&◌, ◌||◌}
+use Rattle.std.specs.List.{list_all}
 use Rattle.infer_sig.specs.Signature.{has_part}
-use Rattle.infer_more.specs.Listed.{part_listed}
+use Rattle.infer_more.specs.Listed.{is_text, part_listed}
 use Rattle.infer_more.specs.declared.signature.Piece.{Piece}
-use Rattle.infer_more.specs.Row.{is_inside}
-use Rattle.infer_more.proofs.ListLemmas.{all_of_all, one_more, passed_by}
+use Rattle.infer_more.proofs.ListLemmas.{split_all}
 use Rattle.infer_more.proofs.signature.has_every.Goals as goal
 
-pub has_piece-requires : goal.has_piece-requires
-has_piece-requires c =
-    let lt : c.loop-piece.piece-index < length c.args.pieces.now = omega arith in
-    passed_by (is_inside (length c.args.buf.now)) part_listed c.args.pieces.now c.loop-piece.piece-index _ lt c.requires
+pub returns-then-has_texts : goal.returns-then-has_texts
+returns-then-has_texts c =
+    c.has_singles.ensures
+    ∙ ap (λ t. t && list_all (λ p. is_text p || has_part c.args.buf.now (part_listed p)) c.args.pieces.now) (sym (sym c.has_texts.ensures ∙ c.if-has_texts.true))
+    ∙ split_all is_text (λ (p : Piece). has_part c.args.buf.now (part_listed p)) c.args.pieces.now
 
-pub loop-piece-preserved : goal.loop-piece-preserved
-loop-piece-preserved c =
-    let lt : c.loop-piece.piece-index < length c.args.pieces.now = omega arith in
-    one_more (λ (p : Piece). has_part c.args.buf.now (part_listed p)) c.args.pieces.now c.loop-piece.piece-index _ lt
-    c.loop-piece.invariant (sym c.has_piece.ensures ∙ c.if-not-has_piece.false)
-
-pub returns-then-not-has_piece : goal.returns-then-not-has_piece
-returns-then-not-has_piece c =
-    let lt : c.loop-piece.piece-index < length c.args.pieces.now = omega arith in
-    sym (list_all_at (λ (p : Piece). has_part c.args.buf.now (part_listed p)) c.args.pieces.now c.loop-piece.piece-index _ lt (sym c.has_piece.ensures ∙ c.if-not-has_piece.true))
-
-pub returns : goal.returns
-returns c =
-    let le : length c.args.pieces.now ≤ c.loop-piece.piece-index = omega arith in
-    sym (all_of_all (λ (p : Piece). has_part c.args.buf.now (part_listed p)) c.args.pieces.now _ le c.loop-piece.invariant)
+pub returns-else-has_texts : goal.returns-else-has_texts
+returns-else-has_texts c =
+    c.if-has_texts.false
+    ∙ ap (λ t. t && list_all (λ p. is_text p || has_part c.args.buf.now (part_listed p)) c.args.pieces.now) (sym (sym c.has_texts.ensures ∙ c.if-has_texts.false))
+    ∙ split_all is_text (λ (p : Piece). has_part c.args.buf.now (part_listed p)) c.args.pieces.now

@@ -5,7 +5,7 @@ use Rattle.infer_more.specs.declared.index.lists.TheConstants.{FURTHER_COUNT}
 use Rattle.infer_more.proofs.FoundLemmas.{all_applications}
 use Rattle.infer_more.proofs.IndexLemmas.{both_left}
 use Rattle.infer_more.proofs.LeastLemmas.{least_both}
-use Rattle.infer_more.proofs.answers.least_found.Goals as goal
+use Rattle.infer_more.proofs.answers.least_told.Goals as goal
 
 pub least_program-requires : goal.least_program-requires
 least_program-requires c = both_left _ _ (subst (λ (way : Below). is_true_below c.args.row way ≡ true) c.in-Programs.is c.requires)

@@ -1,9 +1,0 @@
--- the buffer has what each piece so far asks
-use Rattle.std.proofs.Common.{◌≡◌, true, take}
-use Rattle.std.specs.List.{list_all}
-use Rattle.infer_sig.specs.Signature.{has_part}
-use Rattle.infer_more.specs.Listed.{part_listed}
-use Rattle.infer_more.proofs.signature.has_every.Given as goal
-
-abbrev pub invariant-loop-piece : goal.invariant-loop-piece
-invariant-loop-piece l = list_all (λ piece. has_part l.buf (part_listed piece)) (take l.piece-index l.pieces) ≡ true

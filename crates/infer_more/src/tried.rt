@@ -1,0 +1,74 @@
+//! Whether one further row widens an answer, with code for each row, which the compiler makes of the evaluator.
+ghost use Rattle.std.specs.Prelude.{◌≡◌, ◌↔◌, IfSome, IsTrue, option_map, slice_get};
+ghost use Rattle.infer_more.specs.Listed.{row_listed};
+ghost use Rattle.infer_more.specs.Row.{is_row_closed};
+ghost use Rattle.infer_more.specs.Table.{further};
+ghost use Rattle.infer_more.specs.Wider.{Widens, WidensAt};
+
+use crate::signature;
+use crate::table::{FurtherRow, row_at};
+
+/// Row `I`, whose place the compiler computes: a function of its own, so that it does so before the row is read.
+fn row_of<const I: usize>() -> Option<&'static FurtherRow>
+    ensures listed { option_map (λ row. row_listed row.now) result ≡ slice_get further I }
+    ensures closed { IfSome result (λ row. IsTrue (is_row_closed (row_listed row.now))) }
+{
+    row_at(I)
+}
+
+/// Whether the row has this parent and accepts the buffer.
+#[inline(always)]
+fn row_widens(row: &FurtherRow, parent: Option<usize>, buf: &[u8]) -> bool
+    requires { IsTrue (is_row_closed (row_listed row.now)) }
+    ensures { IsTrue result ↔ Widens parent buf.now (row_listed row.now) }
+{
+    row.parent == parent && signature::accepts(row.signature, buf)
+}
+
+/// [`widens`] of row `I`. The compiler makes it before it inlines it, so that of the signature nothing is left but
+/// comparisons with constants.
+fn widens_row<const I: usize>(parent: Option<usize>, buf: &[u8]) -> bool
+    ensures { IsTrue result ↔ WidensAt parent buf.now I }
+{
+    match row_of::<I>() {
+        Some(row) => row_widens(row, parent, buf),
+        None => false,
+    }
+}
+
+/// [`widens`] of any row, by the evaluator itself.
+#[inline(never)]
+fn widens_any(i: usize, parent: Option<usize>, buf: &[u8]) -> bool
+    ensures { IsTrue result ↔ WidensAt parent buf.now i }
+{
+    match row_at(i) {
+        Some(row) => row_widens(row, parent, buf),
+        None => false,
+    }
+}
+
+macro_rules! by_row {
+    ($i:ident $parent:ident $buf:ident: $($row:literal)*) => {
+        match $i {
+            $($row => widens_row::<$row>($parent, $buf),)*
+            _ => widens_any($i, $parent, $buf),
+        }
+    };
+}
+
+/// Whether further row `i` has this parent and accepts the buffer. `docs/tables` writes the rows that have code of their
+/// own.
+#[inline(never)]
+pub(crate) fn widens(i: usize, parent: Option<usize>, buf: &[u8]) -> bool
+    ensures { IsTrue result ↔ WidensAt parent buf.now i }
+{
+    by_row![
+        i parent buf:
+        0 1 2 3 4 5 6 7 8 9 10 11 12 13 14 15 16 17 18 19 20 21 22 23
+        24 25 26 27 28 29 30 31 32 33 34 35 36 37 38 39 40 41 42 43 44 45 46 47
+        48 49 50 51 52 53 54 55 56 57 58 59 60 61 62 63 64 65 66 67 68 69 70 71
+        72 73 74 75 76 77 78 79 80 81 82 83 84 85 86 87 88 89 90 91 92 93 94 95
+        96 97 98 99 100 101 102 103 104 105 106 107 108 109 110 111 112 113 114 115 116 117 118 119
+        120 121 122 123 124 125 126 127 128 129 130 131 132 133 134 135 136 137 138 139
+    ]
+}
