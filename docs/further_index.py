@@ -14,7 +14,7 @@ BEHIND = 12
 HEAD = """//! The lists of the index, which `docs/tables` makes from the rows: a place, a byte there, and a row, or a name and a row.
 //! Those below each built-in row stand in its order, and those by the first byte eight a line.
 use crate::index::Below::{{Entries, Nothing, Packages, Programs, Roots}};
-use crate::index::{{Below, Entry, Gate, Guard, Named, Parentless, Range, Rooted, Texts}};
+use crate::index::{{Below, Entry, Except, Gate, Guard, Named, Parentless, Range, Rooted, Texts}};
 
 /// How many further rows there are.
 pub const FURTHER_COUNT: usize = {};
@@ -30,7 +30,8 @@ TEXTS = {"JsonLines", "JsonText", "PlainText"}
 COMMON = set(b" etaoinshrdlu\n\x00\x01\xFF")
 # What every buffer has that fits an alternative which looks inside: as specs/Outline.antt says.
 ZIP = {0: {0x50}, 1: {0x4B}, 2: {0x03}, 3: {0x04}}
-NOT_ZERO = set(range(1, 0x100))
+ALL = set(range(0x100))
+NOT_ZERO = ALL - {0x00}
 
 
 def named(name):
@@ -267,6 +268,11 @@ def in_guards(guards):
     yield from (f"        {place} 0x{byte:02X} {listed(some)};" for (place, byte), some in guards)
 
 
+def exception(outline):
+    """The place at which an outline allows all bytes but one, and that byte."""
+    return next(((place, *ALL - allowed) for place, allowed in outline.items() if len(allowed) == 255), None)
+
+
 def names(rows, name):
     """The texts that the alternatives of that name take, each with the number of its row."""
     for number, row in rows:
@@ -284,11 +290,13 @@ def below(rows):
         both = sorted([*names(rows, "Root"), *names(rows, "RootWith")], key=lambda it: it[1])
         return "Roots", [f"rooted!{bracketed(f'{some[0]} ({chr(32).join(some[1:])}) {k}' for some, k in both)}"]
     told = {"PackageWith"} & kinds
-    tried = entries([(k, row.outlines(told)) for k, row in rows if row.outlines(told)])
-    takes = [f"entries!{bracketed(' '.join(words) for words in map(in_words, tried))}"]
     if not told:
-        return "Entries", takes
-    return "Packages", [*takes, f"named!{bracketed(f'{some[0]} {k}' for some, k in names(rows, 'PackageWith'))}"]
+        return "Entries", [f"entries!{in_list(entries([(k, row.outlines()) for k, row in rows]))}"]
+    outlines = [(k, it) for k, row in rows for it in row.outlines(told)]
+    tried = entries([(k, [it for of, it in outlines if of == k and not exception(it)]) for k, _ in rows])
+    excepts = [(*exception(it), k) for k, it in outlines if exception(it)]
+    folders = bracketed(f"{some[0]} {k}" for some, k in names(rows, "PackageWith"))
+    return "Packages", [f"entries!{in_list(tried)}", f"excepts!{in_list(excepts)}", f"named!{folders}"]
 
 
 def in_lines_of_code(name, takes):
@@ -306,6 +314,10 @@ def in_words(entry):
 
 def bracketed(words):
     return "[" + ", ".join(words) + "]"
+
+
+def in_list(some):
+    return bracketed(" ".join(in_words(it)) for it in some)
 
 
 def last(rows):
@@ -344,9 +356,14 @@ def lists(rows, parents):
     yield "};"
 
 
-def numbers(count):
-    """The numbers of so many rows, twenty-four a line."""
-    yield from ("        " + " ".join(map(str, range(at, min(at + 24, count)))) for at in range(0, count, 24))
+def with_rows_below(rows, parents):
+    """The numbers of the built-in rows that are parents."""
+    return [k for k, parent in enumerate(parents) if any(row.parent == parent for row in rows)]
+
+
+def in_numbers(some):
+    """These numbers, twenty-four a line."""
+    yield from ("        " + " ".join(map(str, some[at : at + 24])) for at in range(0, len(some), 24))
 
 
 def text(rows, parents):

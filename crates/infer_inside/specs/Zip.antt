@@ -29,12 +29,14 @@ abbrev pub IsPartEntry : List ℕ → ℕ → Type 0
 IsPartEntry b p =
     OccursAt b zip_header p × (OccursAt b (codes "[Content_Types].xml") (p + 30) ⊎ OccursAt b (codes "_rels/") (p + 30))
 
--- an entry stands at q whose name begins with the folder of an application
+-- the folder of an application stands at p
+abbrev pub IsFolder : List ℕ → ℕ → Type 0
+IsFolder b p =
+    OccursAt b (codes "word/") p ⊎ OccursAt b (codes "xl/") p ⊎ OccursAt b (codes "ppt/") p ⊎ OccursAt b (codes "visio/") p ⊎ OccursAt b (codes "3D/") p
+
+-- an entry stands at q whose name begins with one
 abbrev pub IsFolderEntry : List ℕ → ℕ → Type 0
-IsFolderEntry b q =
-    OccursAt b zip_header q
-    × (OccursAt b (codes "word/") (q + 30) ⊎ OccursAt b (codes "xl/") (q + 30) ⊎ OccursAt b (codes "ppt/") (q + 30)
-    ⊎ OccursAt b (codes "visio/") (q + 30) ⊎ OccursAt b (codes "3D/") (q + 30))
+IsFolderEntry b q = OccursAt b zip_header q × IsFolder b (q + 30)
 
 -- q is the least such place
 abbrev pub IsFirstFolder : List ℕ → ℕ → Type 0

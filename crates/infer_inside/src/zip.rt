@@ -2,7 +2,7 @@
 ghost use Rattle.std.specs.Prelude.{◌≡◌, ◌↔◌, ◌+◌, ◌≤◌, length, IsTrue};
 ghost use Rattle.infer_deep.specs.Numbers.{le16};
 ghost use Rattle.infer_deep.specs.Places.{FindsPlace};
-ghost use Rattle.infer_inside.specs.Zip.{FindsFolder, FindsPackage, FindsPart, FirstEntryEndsIn, FirstEntryHasExtra, FirstEntryIs, HasFirstName, IsFolderEntry, IsOneOf, IsPackageWith, IsPartEntry, MayBeginAny, MayBeginPackage, MayHaveFirstEnding, MayHaveFirstField, MayHaveFirstName, MayOpenPackage, applications};
+ghost use Rattle.infer_inside.specs.Zip.{FindsFolder, FindsPackage, FindsPart, FirstEntryEndsIn, FirstEntryHasExtra, FirstEntryIs, HasFirstName, IsFolder, IsFolderEntry, IsOneOf, IsPackageWith, IsPartEntry, MayBeginAny, MayBeginPackage, MayHaveFirstEnding, MayHaveFirstField, MayHaveFirstName, MayOpenPackage, applications};
 ghost use Rattle.infer_deep.specs.Signatures.{Reachable};
 
 use crate::numbers::most16;
@@ -172,7 +172,7 @@ fn may_begin_any_package(buf: &[u8]) -> bool
     has_at(buf, b"[Content_Types].xml", 30)
         || has_at(buf, b"_rels/", 30)
         || has_at(buf, b"docProps/", 30)
-        || is_folder_entry(buf, 0)
+        || is_folder(buf, 30)
 }
 
 fn may_begin_package(buf: &[u8], folder: &[u8]) -> bool
@@ -218,18 +218,24 @@ fn is_part_entry(buf: &[u8], place: usize) -> bool
     ensures { IsTrue result ↔ IsPartEntry buf.now place }
 {
     has_at(buf, b"PK\x03\x04", place)
-        && (has_at(buf, b"[Content_Types].xml", place + 30)
-            || has_at(buf, b"_rels/", place + 30))
+        && (has_at(buf, b"[Content_Types].xml", place + 30) || has_at(buf, b"_rels/", place + 30))
 }
 
 fn is_folder_entry(buf: &[u8], place: usize) -> bool
     requires { place ≤ length buf.now }
     ensures { IsTrue result ↔ IsFolderEntry buf.now place }
 {
-    has_at(buf, b"PK\x03\x04", place)
-        && (has_at(buf, b"word/", place + 30)
-            || has_at(buf, b"xl/", place + 30)
-            || has_at(buf, b"ppt/", place + 30)
-            || has_at(buf, b"visio/", place + 30)
-            || has_at(buf, b"3D/", place + 30))
+    has_at(buf, b"PK\x03\x04", place) && is_folder(buf, place + 30)
+}
+
+/// Whether the folder of an application stands at the place.
+#[inline(always)]
+fn is_folder(buf: &[u8], place: usize) -> bool
+    ensures { IsTrue result ↔ IsFolder buf.now place }
+{
+    has_at(buf, b"word/", place)
+        || has_at(buf, b"xl/", place)
+        || has_at(buf, b"ppt/", place)
+        || has_at(buf, b"visio/", place)
+        || has_at(buf, b"3D/", place)
 }

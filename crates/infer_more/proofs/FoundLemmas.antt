@@ -1,6 +1,6 @@
 -- By the index just those rows are found that widen an answer.
 use Rattle.std.proofs.Common.{◌≡◌, ◌↔◌, ℕ, zero, suc, ◌+◌, ◌<◌, ◌≤◌, ◌==◌, inl, inr, Bool, true, false, IsTrue, List, [], ◌∷◌, Option, None, Some, length, get_or, ap, sym, ◌∙◌, subst, arith, refl}
-use Rattle.std.specs.Prelude.{◌&&◌, slice_get, slice_index}
+use Rattle.std.specs.Prelude.{◌&&◌, ◌||◌, ◌++◌, slice_get, slice_index}
 use Rattle.std.specs.Prelude.{nat_le}
 use Rattle.std.specs.List.{list_all, list_any}
 use Rattle.std.specs.Option.{option_map_or}
@@ -20,7 +20,7 @@ use Rattle.infer.specs.Buffer.{IsBuffer}
 use Rattle.infer.specs.First.{IsFirstOf}
 use Rattle.infer.specs.Walks.{is_listed}
 use Rattle.infer.proofs.TestLemmas.{NoneRefused, passed}
-use Rattle.infer_more.specs.Index.{AllApplications, EachBelowIsFound, EachFreeIsFound, EachIsFound, FindsAll, HasTagText, IsFoundBelow, IsFoundFree, IsLeast, IsNamed, IsRootedBy, IsRooted, IsRowOf, IsTextRow, IsTried, are_texts, are_true, ascends, asks_folder, asks_program, asks_root, below_at, candidates, has_named, has_rooted, is_application, is_child, is_covered, is_found_below, is_found_free, is_in_folders, is_in_programs, is_in_roots, is_json, is_lines, is_plain, is_row_below, is_row_below_found, is_row_free, is_row_free_found, is_row_with, is_text_row, is_tried_below, is_tried_parentless, is_true_below, named_row, rooted_row, same, same_text, tried_parentless}
+use Rattle.infer_more.specs.Index.{AllApplications, EachBelowIsFound, EachFreeIsFound, EachIsFound, FindsAll, HasTagText, IsFoundBelow, IsFoundFree, IsLeast, IsNamed, IsRootedBy, IsRooted, IsRowOf, IsTextRow, IsTried, are_texts, are_true, ascends, asks_folder, asks_program, asks_root, below_at, candidates, excepted, has_named, has_rooted, is_application, is_child, is_covered, is_excepted, is_found_below, is_found_free, is_in_folders, is_in_programs, is_in_roots, is_json, is_lines, is_plain, is_row_below, is_row_below_found, is_row_free, is_row_free_found, is_row_with, is_text_row, is_tried_below, is_tried_in, is_tried_parentless, is_true_below, named_row, rooted_row, same, same_text, tried_parentless}
 use Rattle.infer_more.specs.Outline.{lines}
 use Rattle.infer_more.specs.Row.{Further}
 use Rattle.infer_more.specs.Signature.{Accepted, Alternative, Fits, IsProgramAmong, json_lines, json_text, package_with, plain_text, program, root, root_with}
@@ -29,13 +29,14 @@ use Rattle.infer_more.specs.Wider.{Widens, WidensAt}
 use Rattle.infer_more.specs.declared.index.Below as below
 use Rattle.infer_more.specs.declared.index.Below.TheVariants.{Entries, Nothing, Packages, Programs, Roots}
 use Rattle.infer_more.specs.declared.index.Entry.{Entry}
+use Rattle.infer_more.specs.declared.index.Except.{Except}
 use Rattle.infer_more.specs.declared.index.Named.{Named}
 use Rattle.infer_more.specs.declared.index.Parentless.{Parentless}
 use Rattle.infer_more.specs.declared.index.Rooted.{Rooted}
 use Rattle.infer_more.specs.declared.index.RowIndex.{RowIndex}
 use Rattle.infer_more.specs.declared.index.Texts.{Texts}
 use Rattle.infer_more.specs.declared.index.lists.TheConstants.{FURTHER_COUNT}
-use Rattle.infer_more.proofs.IndexLemmas.{both_left, both_right, covered_here, either, parentless_here}
+use Rattle.infer_more.proofs.IndexLemmas.{both_left, both_right, covered_here, either, excepted_here, listed_left, listed_right, parentless_here}
 use Rattle.infer_more.proofs.LeastLemmas.{least_both, least_late, least_none, least_same, none_found}
 use Rattle.infer_more.proofs.NamedLemmas.{both}
 use Rattle.infer_more.proofs.OutlineLemmas.{has_lines, small_bytes}
@@ -107,6 +108,22 @@ module _ (by_place : (place : ℕ) (t buf : List ℕ) → IsTrue (stands place t
   tried : (entries : List Entry) (a : Alternative) → IsTrue (is_tried_below i entries a) → Fits a b → IsTrue (is_listed (candidates b entries) i)
   tried entries a h k = line_tried entries (lines a) h (has_lines by_place leads b a (λ plain. small) k)
 
+  line_excepted : (entries : List Entry) (excepts : List Except) (some : List fixed.Alternative)
+      → IsTrue (list_all (λ l. is_covered i l entries || is_excepted i l excepts) some) → IsTrue (accepts some b)
+      → IsTrue (is_listed (candidates b entries ++ excepted b excepts) i)
+  line_excepted entries excepts [] h k = absurd (cc)
+  line_excepted entries excepts (l ∷ some) h k = elim (either (fits b l) _ k) [
+    | inl e ↦ elim (either (is_covered i l entries) _ (both_left (is_covered i l entries || is_excepted i l excepts) _ h)) [
+      | inl covered ↦ listed_left (candidates b entries) _ i (covered_here by_place b i l entries covered e)
+      | inr but ↦ listed_right (candidates b entries) _ i (excepted_here b i l excepts but e)
+    ]
+    | inr e ↦ line_excepted entries excepts some (both_right (is_covered i l entries || is_excepted i l excepts) _ h) e
+  ]
+
+  tried_in : (entries : List Entry) (excepts : List Except) (a : Alternative) → IsTrue (is_tried_in i entries excepts a) → Fits a b
+      → IsTrue (is_listed (candidates b entries ++ excepted b excepts) i)
+  tried_in entries excepts a h k = line_excepted entries excepts (lines a) h (has_lines by_place leads b a (λ plain. small) k)
+
   in_programs : (names : List Named) (a : Alternative) → IsTrue (is_in_programs i names a) → Fits a b → IsNamed (λ name. IsProgram name b) names i
   in_programs names (program others) h k = listed_program b i names others h k
   in_programs names other h k = absurd (cc)
@@ -132,9 +149,9 @@ module _ (by_place : (place : ℕ) (t buf : List ℕ) → IsTrue (stands place t
     found_by (Entries entries) a h k = (tried entries.now a h k, w)
     found_by (Programs names) a h k = in_programs names.now a h k
     found_by (Roots roots) a h k = in_roots roots.now a h k
-    found_by (Packages entries folders) a h k = elim (either (is_in_folders i folders.now a) _ h) [
+    found_by (Packages entries excepts folders) a h k = elim (either (is_in_folders i folders.now a) _ h) [
       | inl e ↦ inr (in_folders folders.now a e k)
-      | inr e ↦ inl (tried entries.now a e k, w)
+      | inr e ↦ inl (tried_in entries.now excepts.now a e k, w)
     ]
 
     found_below : (way : below.Below) (signature : List Alternative) → IsTrue (list_all (is_found_below way i) signature) → Accepted signature b
@@ -243,8 +260,8 @@ module _ (b : List ℕ) where
   widens_below parent (Roots roots) i h (name, rest, element, is) =
       rows_widen rooted_row (λ e. (e.name.now ≡ name) × HasTagText rest e.text) (λ e. asks_root e.name.now e.text) (Some parent) b
       (λ e p. fits_root name rest element e.name.now e.text p) roots.now i (both_right (ascends rooted_row roots.now) _ h) is
-  widens_below parent (Packages entries folders) i h (inl is) = is.1
-  widens_below parent (Packages entries folders) i h (inr is) =
+  widens_below parent (Packages entries excepts folders) i h (inl is) = is.1
+  widens_below parent (Packages entries excepts folders) i h (inr is) =
       rows_widen named_row (λ e. IsPackageWith e.name.now b) (λ e. asks_folder e.name.now) (Some parent) b (λ e p. fits_folder e.name.now p) folders.now i
       (folder_rows parent folders.now (both_right (ascends named_row folders.now) _ h)) is
 
@@ -284,8 +301,8 @@ module _ (parent : ℕ) where
   each_application (e ∷ folders) h zero d lt = one_of e.name.now applications (both_left (is_application e.name.now) _ (both_left (is_told e) _ h))
   each_application (e ∷ folders) h (suc k) d lt = each_application folders (both_right (is_told e) _ h) k d (omega arith)
 
-  pub all_applications : (entries : Bor (List Entry)) (folders : Bor (List Named)) → IsTrue (is_true_below parent (Packages entries folders)) → AllApplications folders.now
-  all_applications entries folders h = λ k d lt. each_application folders.now (both_right (ascends named_row folders.now) _ h) k d lt
+  pub all_applications : (entries : Bor (List Entry)) (excepts : Bor (List Except)) (folders : Bor (List Named)) → IsTrue (is_true_below parent (Packages entries excepts folders)) → AllApplications folders.now
+  all_applications entries excepts folders h = λ k d lt. each_application folders.now (both_right (ascends named_row folders.now) _ h) k d lt
 
 -- a row is found by its parent, or without one
 module _ (index : RowIndex) (each : EachIsFound index) (i : ℕ) (r : Further) (found : slice_get further i ≡ Some r) (lt : i < length further) where

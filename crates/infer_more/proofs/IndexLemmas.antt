@@ -8,8 +8,9 @@ use Rattle.std.proofs.lemmas.Option.{get_or_from_slice_get, slice_get_cases}
 use Rattle.infer_sig.specs.Signature.{Alternative, at_least, Bytes, any_of, between, all_but, Part, text, any_text, byte, allows, fits, has_part, stands}
 use Rattle.infer_sig.specs.Places.{StandsByPlace}
 use Rattle.infer.specs.Walks.{is_listed}
-use Rattle.infer_more.specs.Index.{tried_parentless, begun, behind, candidate, candidates, entries_at, gated, guarded, has_between, has_byte, has_entry, has_guard, is_tried_parentless, is_covered, is_gated, is_guarded, is_met, is_settled, is_tested, is_ranged, is_within, ranged, within}
+use Rattle.infer_more.specs.Index.{tried_parentless, begun, behind, candidate, candidates, entries_at, excepted, gated, guarded, has_between, has_byte, has_entry, has_guard, has_other, is_but, is_excepted, is_other, is_tried_parentless, is_covered, is_gated, is_guarded, is_met, is_settled, is_tested, is_ranged, is_within, ranged, unless, within}
 use Rattle.infer_more.specs.declared.index.Entry.{Entry}
+use Rattle.infer_more.specs.declared.index.Except.{Except}
 use Rattle.infer_more.specs.declared.index.Gate.{Gate}
 use Rattle.infer_more.specs.declared.index.Guard.{Guard}
 use Rattle.infer_more.specs.declared.index.Parentless.{Parentless}
@@ -204,6 +205,38 @@ module _ (by_place : (place : ℕ) (t buf : List ℕ) → IsTrue (stands place t
     | inl e ↦ listed_left (within b r) (ranged b ranges) i (range_here a r e k)
     | inr e ↦ listed_right (within b r) (ranged b ranges) i (ranged_here a ranges e k)
   ]
+
+-- a row with an exception for a byte that the alternative does not allow
+other_part : (b : List ℕ) (place x : ℕ) (part : Part) → IsTrue (is_other place x part) → IsTrue (has_part b part) → IsTrue (has_other b place x)
+other_part b place x (text p t) h k = absurd (cc)
+other_part b place x (any_text p ts) h k = absurd (cc)
+other_part b place x (byte p (any_of xs)) h k = absurd (cc)
+other_part b place x (byte p (between low high)) h k = absurd (cc)
+other_part b place x (byte p (all_but y)) h k =
+    let same_place : p ≡ place = eqb-true p place (both_left (p == place) _ h) in
+    let same_byte : y ≡ x = eqb-true y x (both_right (p == place) _ h) in
+    subst (λ q. IsTrue (has_other b q x)) same_place (subst (λ z. IsTrue (has_other b p z)) same_byte k)
+
+other_parts : (b : List ℕ) (place x : ℕ) (parts : List Part) → IsTrue (list_any (is_other place x) parts) → IsTrue (list_all (has_part b) parts)
+    → IsTrue (has_other b place x)
+other_parts b place x [] h k = absurd (cc)
+other_parts b place x (part ∷ parts) h k = elim (either (is_other place x part) _ h) [
+  | inl e ↦ other_part b place x part e (both_left (has_part b part) _ k)
+  | inr e ↦ other_parts b place x parts e (both_right (has_part b part) _ k)
+]
+
+unless_here : (b : List ℕ) (i : ℕ) (a : Alternative) (e : Except) → IsTrue (is_but i a e) → IsTrue (fits b a) → IsTrue (is_listed (unless b e) i)
+unless_here b i (at_least n parts) e h k =
+    let on : has_other b e.place e.byte ≡ true = other_parts b e.place e.byte parts (both_right (e.row == i) _ h) (both_right (nat_le n (length b)) _ k) in
+    subst (λ t. IsTrue (is_listed (if t then e.row ∷ [] else []) i)) (sym on) (from_left (e.row == i) false (both_left (e.row == i) _ h))
+
+pub excepted_here : (b : List ℕ) (i : ℕ) (a : Alternative) (excepts : List Except) → IsTrue (is_excepted i a excepts) → IsTrue (fits b a)
+    → IsTrue (is_listed (excepted b excepts) i)
+excepted_here b i a [] h k = absurd (cc)
+excepted_here b i a (e ∷ excepts) h k = elim (either (is_but i a e) _ h) [
+  | inl here ↦ listed_left (unless b e) (excepted b excepts) i (unless_here b i a e here k)
+  | inr later ↦ listed_right (unless b e) (excepted b excepts) i (excepted_here b i a excepts later k)
+]
 
 begun_by : (index : Parentless) (b : List ℕ) → 0 < length b → begun index b ≡ entries_at index.first.now (slice_index b 0)
 begun_by index [] lt = absurd (omega arith)

@@ -20,6 +20,7 @@ use Rattle.infer_more.specs.Wider.{WidensAt}
 use Rattle.infer_more.specs.declared.index.Below as below
 use Rattle.infer_more.specs.declared.index.Below.TheVariants.{Entries, Nothing, Packages, Programs, Roots}
 use Rattle.infer_more.specs.declared.index.Entry.{Entry}
+use Rattle.infer_more.specs.declared.index.Except.{Except}
 use Rattle.infer_more.specs.declared.index.Gate.{Gate}
 use Rattle.infer_more.specs.declared.index.Guard.{Guard}
 use Rattle.infer_more.specs.declared.index.Named.{Named}
@@ -36,6 +37,10 @@ has_byte b place x = nat_lt place (length b) && slice_index b place == x
 -- or one from the first to the second
 abbrev pub has_between : List ℕ → ℕ → ℕ → ℕ → Bool
 has_between b place low high = nat_lt place (length b) && allows (between low high) (slice_index b place)
+
+-- or another byte
+abbrev pub has_other : List ℕ → ℕ → ℕ → Bool
+has_other b place x = nat_lt place (length b) && allows (all_but x) (slice_index b place)
 
 -- what a function gives for each element, one after the other
 abbrev pub all_of : {A : Type 0} → (A → List ℕ) → List A → List ℕ
@@ -66,6 +71,13 @@ within b r = if has_between b r.place r.low r.high then r.row ∷ [] else []
 
 abbrev pub ranged : List ℕ → List Range → List ℕ
 ranged b ranges = all_of (within b) ranges
+
+-- the row of an exception, if the buffer has another byte
+abbrev pub unless : List ℕ → Except → List ℕ
+unless b e = if has_other b e.place e.byte then e.row ∷ [] else []
+
+abbrev pub excepted : List ℕ → List Except → List ℕ
+excepted b excepts = all_of (unless b) excepts
 
 -- the entries that the code lists at i
 abbrev pub entries_at : List (Bor (List Entry)) → ℕ → List Entry
@@ -134,8 +146,8 @@ IsFoundBelow Nothing parent b i = ⊥
 IsFoundBelow (Entries entries) parent b i = IsTried (Some parent) b (candidates b entries.now) i
 IsFoundBelow (Programs names) parent b i = IsNamed (λ name. IsProgram name b) names.now i
 IsFoundBelow (Roots roots) parent b i = IsRooted b roots.now i
-IsFoundBelow (Packages entries folders) parent b i =
-    IsTried (Some parent) b (candidates b entries.now) i ⊎ IsNamed (λ folder. IsPackageWith folder b) folders.now i
+IsFoundBelow (Packages entries excepts folders) parent b i =
+    IsTried (Some parent) b (candidates b entries.now ++ excepted b excepts.now) i ⊎ IsNamed (λ folder. IsPackageWith folder b) folders.now i
 
 -- row i is that of the text that the buffer is
 abbrev pub IsTextRow : Texts → List ℕ → ℕ → Type 0
@@ -188,6 +200,21 @@ is_within i a r = r.row == i && is_tested (allows (between r.low r.high)) r.plac
 abbrev pub is_ranged : ℕ → fixed.Alternative → List Range → Bool
 is_ranged i a ranges = list_any (is_within i a) ranges
 
+-- the part asks for another byte than that at the place
+abbrev pub is_other : ℕ → ℕ → Part → Bool
+is_other place x (text p t) = false
+is_other place x (any_text p ts) = false
+is_other place x (byte p (any_of xs)) = false
+is_other place x (byte p (between low high)) = false
+is_other place x (byte p (all_but y)) = p == place && y == x
+
+-- some part of the alternative does, and row i has an exception for it
+abbrev pub is_but : ℕ → fixed.Alternative → Except → Bool
+is_but i (at_least n parts) e = e.row == i && list_any (is_other e.place e.byte) parts
+
+abbrev pub is_excepted : ℕ → fixed.Alternative → List Except → Bool
+is_excepted i a excepts = list_any (is_but i a) excepts
+
 -- each buffer without a built-in answer that has such bytes has row i among the rows that are tried of it
 abbrev pub is_tried_parentless : Parentless → ℕ → fixed.Alternative → Bool
 is_tried_parentless index i a =
@@ -218,6 +245,10 @@ has_rooted i roots name t = list_any (λ e. e.row == i && (same e.name.now name 
 abbrev pub is_tried_below : ℕ → List Entry → Alternative → Bool
 is_tried_below i entries a = list_all (λ l. is_covered i l entries) (lines a)
 
+-- or the exceptions
+abbrev pub is_tried_in : ℕ → List Entry → List Except → Alternative → Bool
+is_tried_in i entries excepts a = list_all (λ l. is_covered i l entries || is_excepted i l excepts) (lines a)
+
 -- or is told row i by a name
 abbrev pub is_in_programs : ℕ → List Named → Alternative → Bool
 is_in_programs i names (program others) = list_all (has_named i names) others
@@ -237,7 +268,7 @@ is_found_below Nothing i a = false
 is_found_below (Entries entries) i a = is_tried_below i entries.now a
 is_found_below (Programs names) i a = is_in_programs i names.now a
 is_found_below (Roots roots) i a = is_in_roots i roots.now a
-is_found_below (Packages entries folders) i a = is_in_folders i folders.now a || is_tried_below i entries.now a
+is_found_below (Packages entries excepts folders) i a = is_in_folders i folders.now a || is_tried_in i entries.now excepts.now a
 
 -- row i is that of the text
 abbrev pub is_text_row : Texts → ℕ → Alternative → Bool
@@ -318,7 +349,7 @@ is_true_below parent (Programs names) =
     ascends named_row names.now && list_all (λ e. is_row_with (Some parent) (asks_program e.name.now) e.row) names.now
 is_true_below parent (Roots roots) =
     ascends rooted_row roots.now && list_all (λ e. is_row_with (Some parent) (asks_root e.name.now e.text) e.row) roots.now
-is_true_below parent (Packages entries folders) =
+is_true_below parent (Packages entries excepts folders) =
     ascends named_row folders.now
     && list_all (λ e. is_application e.name.now && is_row_with (Some parent) (asks_folder e.name.now) e.row) folders.now
 is_true_below parent other = true

@@ -9,7 +9,7 @@ ghost use Rattle.infer_deep.specs.Find.{OccursAt};
 ghost use Rattle.infer_inside.specs.Json.{IsJson, IsJsonLines};
 ghost use Rattle.infer_inside.specs.Script.{IsProgram};
 ghost use Rattle.infer_inside.specs.Zip.{IsPackageWith};
-ghost use Rattle.infer_more.specs.Index.{AllApplications, HasTagText, IsFoundBelow, IsLeast, IsNamed, IsRooted, IsRootedBy, IsTextRow, IsTried, are_texts, ascends, begun, behind, below_at, candidate, candidates, entries_at, gated, guarded, has_between, has_byte, is_true_below, named_row, ranged, rooted_row, tried_parentless, within};
+ghost use Rattle.infer_more.specs.Index.{AllApplications, HasTagText, IsFoundBelow, IsLeast, IsNamed, IsRooted, IsRootedBy, IsTextRow, IsTried, are_texts, ascends, begun, behind, below_at, candidate, candidates, entries_at, excepted, gated, guarded, has_between, has_byte, has_other, is_true_below, named_row, ranged, rooted_row, tried_parentless, unless, within};
 ghost use Rattle.infer_more.specs.Table.{further};
 ghost use Rattle.infer_more.specs.Wider.{AcceptsAt, IsWidened, IsWider, IsWiderAnswer, IsWidest, Widens, WidensAt, parent_at, shown};
 ghost use Rattle.infer_more.specs.Listed.{row_listed};
@@ -17,7 +17,8 @@ ghost use Rattle.infer_more.specs.declared.index.Below.TheVariants.{Nothing};
 ghost use Rattle.infer_more.specs.declared.index.lists.TheConstants.{FURTHER_COUNT};
 
 use crate::index::{
-    Below, Entry, FURTHER_COUNT, Gate, Guard, Named, Parentless, Range, Rooted, Texts, finds, index,
+    Below, Entry, Except, FURTHER_COUNT, Gate, Guard, Named, Parentless, Range, Rooted, Texts,
+    finds, index,
 };
 use crate::signature;
 use crate::table::{EndedTexts, FurtherRow, row_at};
@@ -41,6 +42,17 @@ fn has_byte(buf: &[u8], place: u32, byte: u8) -> bool
 {
     match buf.get(place as usize) {
         Some(found) => *found == byte,
+        None => false,
+    }
+}
+
+/// Whether the buffer has another byte at the place.
+#[inline(always)]
+fn has_other(buf: &[u8], place: u32, byte: u8) -> bool
+    ensures { result ≡ has_other buf.now place byte }
+{
+    match buf.get(place as usize) {
+        Some(found) => *found != byte,
         None => false,
     }
 }
@@ -75,8 +87,8 @@ fn least_at(entry: &Entry, parent: Option<usize>, buf: &[u8], before: usize) -> 
 }
 
 /// The least of the number before and of the rows of these entries that widen the answer.
-#[inline(never)]
-fn least_of(entries: &[Entry], parent: Option<usize>, buf: &[u8], before: usize) -> usize
+#[inline(always)]
+fn least_among(entries: &[Entry], parent: Option<usize>, buf: &[u8], before: usize) -> usize
     ensures { IsLeast (IsTried parent buf.now (candidates buf.now entries.now)) before result }
 {
     let mut least = before;
@@ -84,6 +96,14 @@ fn least_of(entries: &[Entry], parent: Option<usize>, buf: &[u8], before: usize)
         least = least_at(entry, parent, buf, least);
     }
     least
+}
+
+/// [`least_among`] entries that the compiler does not know.
+#[inline(never)]
+fn least_of(entries: &[Entry], parent: Option<usize>, buf: &[u8], before: usize) -> usize
+    ensures { IsLeast (IsTried parent buf.now (candidates buf.now entries.now)) before result }
+{
+    least_among(entries, parent, buf, before)
 }
 
 /// [`least_of`] the entries behind a guard: the number before if the buffer lacks the guard's byte.
@@ -146,6 +166,36 @@ fn least_ranged(ranges: &[Range], buf: &[u8], before: usize) -> usize
     let mut least = before;
     for range in ranges {
         least = least_within(range, buf, least);
+    }
+    least
+}
+
+/// The row if it is before that number, is tried and widens the answer; that number otherwise.
+#[inline(always)]
+fn least_but(except: &Except, parent: Option<usize>, buf: &[u8], before: usize) -> usize
+    ensures { IsLeast (IsTried parent buf.now (unless buf.now except.now)) before result }
+{
+    let row = usize::from(except.row);
+    if !has_other(buf, except.place, except.byte) {
+        return before;
+    }
+    if row >= before {
+        return before;
+    }
+    if !widens(row, parent, buf) {
+        return before;
+    }
+    row
+}
+
+/// The least of the number before and of those of these rows that widen the answer.
+#[inline(always)]
+fn least_excepted(excepts: &[Except], parent: Option<usize>, buf: &[u8], before: usize) -> usize
+    ensures { IsLeast (IsTried parent buf.now (excepted buf.now excepts.now)) before result }
+{
+    let mut least = before;
+    for except in excepts {
+        least = least_but(except, parent, buf, least);
     }
     least
 }
@@ -332,33 +382,21 @@ fn least_root(roots: &[Rooted], buf: &[u8]) -> usize
     }
 }
 
-/// The least row that is found below a built-in row in this way, or their count. What is told by a name has a function of
-/// its own, so that entries take nothing of what it needs.
+/// The least row that is found below a built-in row in this way, or their count.
 #[inline(always)]
 fn least_found(below: &Below, row: usize, buf: &[u8]) -> usize
     requires { IsTrue (is_true_below row below.now) }
     ensures { IsLeast (IsFoundBelow below.now row buf.now) FURTHER_COUNT result }
 {
     match below {
-        Below::Entries(entries) => least_of(entries, Some(row), buf, FURTHER_COUNT),
-        other => least_told(other, row, buf),
-    }
-}
-
-/// [`least_found`] in any way.
-#[inline(never)]
-fn least_told(below: &Below, row: usize, buf: &[u8]) -> usize
-    requires { IsTrue (is_true_below row below.now) }
-    ensures { IsLeast (IsFoundBelow below.now row buf.now) FURTHER_COUNT result }
-{
-    match below {
         Below::Nothing => FURTHER_COUNT,
-        Below::Entries(entries) => least_of(entries, Some(row), buf, FURTHER_COUNT),
+        Below::Entries(entries) => least_among(entries, Some(row), buf, FURTHER_COUNT),
         Below::Programs(names) => least_program(names, buf),
         Below::Roots(roots) => least_root(roots, buf),
-        Below::Packages(entries, folders) => {
-            let tried = least_of(entries, Some(row), buf, FURTHER_COUNT);
-            least_folder(folders, buf, tried)
+        Below::Packages(entries, excepts, folders) => {
+            let tried = least_among(entries, Some(row), buf, FURTHER_COUNT);
+            let least = least_excepted(excepts, Some(row), buf, tried);
+            least_folder(folders, buf, least)
         }
     }
 }
@@ -397,10 +435,9 @@ fn is_nothing(below: &Below) -> bool
     }
 }
 
-/// The number of the wider answer of a buffer whose built-in answer is this row. A function of its own, so that a row that
-/// none widens takes nothing of what this one needs.
-#[inline(never)]
-fn found_below(row: usize, buf: &[u8]) -> Option<usize>
+/// The number of the wider answer of a buffer whose built-in answer is this row.
+#[inline(always)]
+fn found(row: usize, buf: &[u8]) -> Option<usize>
     ensures { IsWidened (Some row) buf.now result }
 {
     let index = index();
@@ -411,6 +448,42 @@ fn found_below(row: usize, buf: &[u8]) -> Option<usize>
     } else {
         Some(row)
     }
+}
+
+/// [`found`] below row `ROW`, with code of its own: the compiler knows how its rows are told.
+fn found_row<const ROW: usize>(buf: &[u8]) -> Option<usize>
+    ensures { IsWidened (Some ROW) buf.now result }
+{
+    found(ROW, buf)
+}
+
+/// [`found`] below any row.
+#[inline(never)]
+fn found_any(row: usize, buf: &[u8]) -> Option<usize>
+    ensures { IsWidened (Some row) buf.now result }
+{
+    found(row, buf)
+}
+
+macro_rules! by_parent {
+    ($row:ident $buf:ident: $($parent:literal)*) => {
+        match $row {
+            $($parent => found_row::<$parent>($buf),)*
+            _ => found_any($row, $buf),
+        }
+    };
+}
+
+/// [`found`] below a row, of which `docs/tables` writes those that have code of their own. A function of its own, so that a
+/// row that none widens takes nothing of what this one needs.
+#[inline(never)]
+fn found_below(row: usize, buf: &[u8]) -> Option<usize>
+    ensures { IsWidened (Some row) buf.now result }
+{
+    by_parent![
+        row buf:
+        1 9 11 16 17 21 26 45 63 64 65 67 80 81 93 95 96 97
+    ]
 }
 
 /// The number of the wider answer of a buffer whose built-in answer is this row, at once if none is below it.

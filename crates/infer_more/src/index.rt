@@ -33,6 +33,13 @@ pub(crate) struct Range {
     pub high: u8,
 }
 
+/// A row, by its number among the further rows, that is tried only if a buffer has another byte at the place.
+pub(crate) struct Except {
+    pub place: u32,
+    pub row: u16,
+    pub byte: u8,
+}
+
 /// A row, by its number among the further rows, that is told by a name.
 pub(crate) struct Named {
     pub row: u16,
@@ -57,7 +64,7 @@ pub(crate) enum Below {
     /// By the root element.
     Roots(&'static [Rooted]),
     /// By trying some, and by the folder of an application in a package.
-    Packages(&'static [Entry], &'static [Named]),
+    Packages(&'static [Entry], &'static [Except], &'static [Named]),
 }
 
 /// The rows of JSON lines, of JSON and of plain text, the last. A buffer is read once for the first two.
@@ -88,6 +95,16 @@ pub(crate) struct RowIndex {
 macro_rules! entries {
     ($($place:literal $byte:literal $row:literal),*) => {
         &[$(Entry {
+            place: $place,
+            row: $row,
+            byte: $byte,
+        }),*]
+    };
+}
+
+macro_rules! excepts {
+    ($($place:literal $byte:literal $row:literal),*) => {
+        &[$(Except {
             place: $place,
             row: $row,
             byte: $byte,

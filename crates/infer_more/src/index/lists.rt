@@ -1,7 +1,7 @@
 //! The lists of the index, which `docs/tables` makes from the rows: a place, a byte there, and a row, or a name and a row.
 //! Those below each built-in row stand in its order, and those by the first byte eight a line.
 use crate::index::Below::{Entries, Nothing, Packages, Programs, Roots};
-use crate::index::{Below, Entry, Gate, Guard, Named, Parentless, Range, Rooted, Texts};
+use crate::index::{Below, Entry, Except, Gate, Guard, Named, Parentless, Range, Rooted, Texts};
 
 /// How many further rows there are.
 pub const FURTHER_COUNT: usize = 140;
@@ -75,7 +75,8 @@ pub(super) static BELOW: &[Below] = &[
     Entries(entries![89 0x70 17]),
     Nothing,
     Packages(
-        entries![37 0x4D 4, 42 0x2F 4, 3 0x04 5, 3 0x04 6, 38 0x2F 6, 81 0x50 12, 53 0x2E 13, 52 0x6B 14],
+        entries![37 0x4D 4, 42 0x2F 4, 38 0x2F 6, 81 0x50 12, 53 0x2E 13, 52 0x6B 14],
+        excepts![26 0x00 5, 27 0x00 5, 28 0x00 6, 29 0x00 6],
         named![b"word/" 7, b"xl/" 8, b"ppt/" 9, b"visio/" 10, b"3D/" 11],
     ),
     Nothing,

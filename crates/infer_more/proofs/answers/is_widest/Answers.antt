@@ -1,4 +1,4 @@
-use Rattle.std.proofs.Common.{◌≡◌, Option, ap, refl, ◌∙◌}
+use Rattle.std.proofs.Common.{Option, ap, refl, ◌∙◌}
 use Rattle.std.specs.Option.{option_map_or}
 use Rattle.std.proofs.lemmas.Option.{slice_get_past, slice_get_read}
 use Rattle.infer_more.specs.declared.index.Below.{Below}

@@ -1,7 +1,7 @@
 use Rattle.std.proofs.Common.{◌<◌, ◌≤◌, length, arith}
 use Rattle.infer_more.specs.Index.{candidate}
 use Rattle.infer_more.proofs.LeastLemmas.{tried_all, tried_none, tried_one_more}
-use Rattle.infer_more.proofs.answers.least_of.Goals as goal
+use Rattle.infer_more.proofs.answers.least_among.Goals as goal
 
 pub loop-entry-init : goal.loop-entry-init
 loop-entry-init c = tried_none c.args.parent c.args.buf.now c.args.before

@@ -4,7 +4,7 @@ use Rattle.infer_more.specs.declared.index.Below.{Below}
 use Rattle.infer_more.proofs.FoundLemmas.{least_below, true_below}
 use Rattle.infer_more.proofs.LeastLemmas.{first_found, none_found}
 use Rattle.infer_more.proofs.OutlineLemmas.{buffer_of}
-use Rattle.infer_more.proofs.answers.found_below.Goals as goal
+use Rattle.infer_more.proofs.answers.found.Goals as goal
 
 pub least_found-least-requires : goal.least_found-least-requires
 least_found-least-requires c =

@@ -1,11 +1,11 @@
-use Rattle.std.proofs.Common.{◌≡◌, true, subst, sym}
+use Rattle.std.proofs.Common.{◌≡◌, Some, true, subst, sym}
 use Rattle.infer_more.specs.Index.{IsFoundBelow, IsLeast, is_true_below}
 use Rattle.infer_more.specs.declared.index.Below.{Below}
 use Rattle.infer_more.specs.declared.index.lists.TheConstants.{FURTHER_COUNT}
 use Rattle.infer_more.proofs.FoundLemmas.{all_applications}
 use Rattle.infer_more.proofs.IndexLemmas.{both_left}
-use Rattle.infer_more.proofs.LeastLemmas.{least_both}
-use Rattle.infer_more.proofs.answers.least_told.Goals as goal
+use Rattle.infer_more.proofs.LeastLemmas.{least_both, tried_more}
+use Rattle.infer_more.proofs.answers.least_found.Goals as goal
 
 pub least_program-requires : goal.least_program-requires
 least_program-requires c = both_left _ _ (subst (λ (way : Below). is_true_below c.args.row way ≡ true) c.in-Programs.is c.requires)
@@ -17,7 +17,7 @@ pub least_folder-requires-clause-ascend : goal.least_folder-requires-clause-asce
 least_folder-requires-clause-ascend c = both_left _ _ (subst (λ (way : Below). is_true_below c.args.row way ≡ true) c.in-Packages.is c.requires)
 
 pub least_folder-requires-clause-application : goal.least_folder-requires-clause-application
-least_folder-requires-clause-application c = all_applications c.args.row c.in-Packages.entries c.in-Packages.folders (subst (λ (way : Below). is_true_below c.args.row way ≡ true) c.in-Packages.is c.requires)
+least_folder-requires-clause-application c = all_applications c.args.row c.in-Packages.entries c.in-Packages.excepts c.in-Packages.folders (subst (λ (way : Below). is_true_below c.args.row way ≡ true) c.in-Packages.is c.requires)
 
 pub returns-in-Programs : goal.returns-in-Programs
 returns-in-Programs c = subst (λ (way : Below). IsLeast (IsFoundBelow way c.args.row c.args.buf.now) FURTHER_COUNT c.least_program.result) (sym c.in-Programs.is) c.least_program.ensures
@@ -28,4 +28,4 @@ returns-in-Roots c = subst (λ (way : Below). IsLeast (IsFoundBelow way c.args.r
 pub returns-in-Packages : goal.returns-in-Packages
 returns-in-Packages c =
     subst (λ (way : Below). IsLeast (IsFoundBelow way c.args.row c.args.buf.now) FURTHER_COUNT c.least_folder.result) (sym c.in-Packages.is)
-    (least_both _ _ FURTHER_COUNT _ _ c.least_of-tried.ensures c.least_folder.ensures)
+    (least_both _ _ FURTHER_COUNT _ _ (tried_more (Some c.args.row) c.args.buf.now _ _ _ _ _ c.least_among-tried.ensures c.least_excepted-least.ensures) c.least_folder.ensures)
