@@ -27,6 +27,8 @@ TEXT_OF_BYTES = rf"b{TEXT}"
 WIDTH = 100
 # What is told last, without being tried.
 TEXTS = {"JsonLines", "JsonText", "PlainText"}
+# What is told without a parent and not tried.
+TOLD = TEXTS | {"Root", "RootWith"}
 COMMON = set(b" etaoinshrdlu\n\x00\x01\xFF")
 # What every buffer has that fits an alternative which looks inside: as specs/Outline.antt says.
 ZIP = {0: {0x50}, 1: {0x4B}, 2: {0x03}, 3: {0x04}}
@@ -242,7 +244,7 @@ def gates(free):
 def gated(rows):
     """The gate, the guards beside it and those behind it, for the rows of no parent whose first byte tells too little. Every
     buffer without an answer is asked for the guards and for the gate's byte, and few for the guards behind the gate."""
-    free = [(number, it) for number, row in enumerate(rows) if not row.parent for it in row.outlines(TEXTS) if not is_led(it) and not is_wide(it)]
+    free = [(number, it) for number, row in enumerate(rows) if not row.parent for it in row.outlines(TOLD) if not is_led(it) and not is_wide(it)]
     every = choose(free)
     ways = [(weigh(passing(free), every), (0, 0), list(guards(free, every)), [])]
     for gate, inside in gates(free):
@@ -279,6 +281,12 @@ def names(rows, name):
         yield from ((re.findall(TEXT_OF_BYTES, it.takes), number) for it in row.signature if it.name == name)
 
 
+def rooted(rows):
+    """The rows, each with its number, that ask for a root."""
+    both = sorted([*names(rows, "Root"), *names(rows, "RootWith")], key=lambda it: it[1])
+    return f"rooted!{bracketed(f'{some[0]} ({chr(32).join(some[1:])}) {k}' for some, k in both)}"
+
+
 def below(rows):
     """How the rows below a built-in row are told, each with its number: what it is called, and what it takes."""
     kinds = {it.name for _, row in rows for it in row.signature}
@@ -287,8 +295,7 @@ def below(rows):
     if kinds == {"Program"}:
         return "Programs", [f"named!{bracketed(f'{it} {k}' for some, k in names(rows, 'Program') for it in some)}"]
     if kinds <= {"Root", "RootWith"}:
-        both = sorted([*names(rows, "Root"), *names(rows, "RootWith")], key=lambda it: it[1])
-        return "Roots", [f"rooted!{bracketed(f'{some[0]} ({chr(32).join(some[1:])}) {k}' for some, k in both)}"]
+        return "Roots", [rooted(rows)]
     told = {"PackageWith"} & kinds
     if not told:
         return "Entries", [f"entries!{in_list(entries([(k, row.outlines()) for k, row in rows]))}"]
@@ -336,7 +343,7 @@ def lists(rows, parents):
     yield "];\n"
     yield "pub(super) static PARENTLESS: Parentless = Parentless {"
     yield "    first: lists!["
-    led = [[(k, [it for it in row.outlines(TEXTS) if is_led(it) and byte in it[0]]) for k, row in numbered if not row.parent] for byte in range(256)]
+    led = [[(k, [it for it in row.outlines(TOLD) if is_led(it) and byte in it[0]]) for k, row in numbered if not row.parent] for byte in range(256)]
     yield from in_lines(entries([it for it in some if it[1]], (0, byte)) for byte, some in enumerate(led))
     yield "    ],"
     (place, byte), outside, inside = gated(rows)
@@ -348,8 +355,9 @@ def lists(rows, parents):
     yield from in_guards(inside)
     yield "    ],"
     yield "    ranges: ranges!["
-    yield from (wide(number, it) for number, row in numbered if not row.parent for it in row.outlines(TEXTS) if is_wide(it))
+    yield from (wide(number, it) for number, row in numbered if not row.parent for it in row.outlines(TOLD) if is_wide(it))
     yield "    ],"
+    yield f"    roots: {rooted([(k, row) for k, row in numbered if not row.parent])},"
     yield "    texts: Texts {"
     yield from last(rows)
     yield "    },"

@@ -4,13 +4,14 @@ use Rattle.std.specs.Prelude.{◌&&◌, ◌||◌, ◌++◌, slice_get, slice_ind
 use Rattle.std.specs.Prelude.{nat_le}
 use Rattle.std.specs.List.{list_all, list_any}
 use Rattle.std.specs.Option.{option_map_or}
-use Rattle.std.proofs.lemmas.Bool.{eqb-true, leb-true}
+use Rattle.std.proofs.lemmas.Bool.{cases_lt, eqb-true, leb-true}
 use Rattle.std.proofs.lemmas.List.{get_or_default}
 use Rattle.std.proofs.lemmas.Option.{slice_get_cases}
 use denote.Ref.{Bor}
 use Rattle.infer_inside.specs.Json.{IsJson, IsJsonLines}
 use Rattle.infer_inside.specs.Laws.{Leads}
-use Rattle.infer_inside.specs.Markup.{HasInTag, IsRootElement}
+use Rattle.infer_inside.specs.Markup.{HasInTag, IsRootElement, IsXmlSpace}
+use Rattle.infer_inside.proofs.GrowthLemmas.{there}
 use Rattle.infer_inside.specs.Script.{IsProgram}
 use Rattle.infer_inside.specs.Zip.{IsOneOf, IsPackageWith, applications}
 use Rattle.infer_sig.specs.Signature as fixed
@@ -20,7 +21,7 @@ use Rattle.infer.specs.Buffer.{IsBuffer}
 use Rattle.infer.specs.First.{IsFirstOf}
 use Rattle.infer.specs.Walks.{is_listed}
 use Rattle.infer.proofs.TestLemmas.{NoneRefused, passed}
-use Rattle.infer_more.specs.Index.{AllApplications, EachBelowIsFound, EachFreeIsFound, EachIsFound, FindsAll, HasTagText, IsFoundBelow, IsFoundFree, IsLeast, IsNamed, IsRootedBy, IsRooted, IsRowOf, IsTextRow, IsTried, are_texts, are_true, ascends, asks_folder, asks_program, asks_root, below_at, candidates, excepted, has_named, has_rooted, is_application, is_child, is_covered, is_excepted, is_found_below, is_found_free, is_in_folders, is_in_programs, is_in_roots, is_json, is_lines, is_plain, is_row_below, is_row_below_found, is_row_free, is_row_free_found, is_row_with, is_text_row, is_tried_below, is_tried_in, is_tried_parentless, is_true_below, named_row, rooted_row, same, same_text, tried_parentless}
+use Rattle.infer_more.specs.Index.{AllApplications, EachBelowIsFound, EachFreeIsFound, EachIsFound, FindsAll, HasTagText, IsFoundBelow, IsFoundFree, IsLeast, IsNamed, IsRootedBy, IsRooted, IsRowOf, IsTextRow, IsTried, MayOpenMarkup, are_rooted, are_texts, are_true, ascends, asks_folder, asks_program, asks_root, below_at, candidates, excepted, has_named, has_rooted, is_application, is_child, is_covered, is_excepted, is_found_below, is_found_free, is_in_folders, is_in_programs, is_in_roots, is_json, is_lines, is_plain, is_row_below, is_row_below_found, is_row_free, is_row_free_found, is_row_with, is_text_row, is_tried_below, is_tried_in, is_tried_parentless, is_true_below, named_row, rooted_row, same, same_text, tried_parentless}
 use Rattle.infer_more.specs.Outline.{lines}
 use Rattle.infer_more.specs.Row.{Further}
 use Rattle.infer_more.specs.Signature.{Accepted, Alternative, Fits, IsProgramAmong, json_lines, json_text, package_with, plain_text, program, root, root_with}
@@ -164,8 +165,11 @@ module _ (by_place : (place : ℕ) (t buf : List ℕ) → IsTrue (stands place t
       → Accepted signature b → IsFoundFree index b i
   found_free index w [] h k = absurd (k)
   found_free index w (a ∷ signature) h (inl k) = elim (either (is_text_row index.texts i a) _ (both_left (is_found_free index i a) _ h)) [
-    | inl e ↦ inr (in_texts index.texts a e k)
-    | inr e ↦ inl (line_tried_free index (lines a) e (has_lines by_place leads b a (λ plain. small) k), w)
+    | inl e ↦ inr (inr (in_texts index.texts a e k))
+    | inr e ↦ elim (either (is_in_roots i index.roots.now a) _ e) [
+      | inl r ↦ inr (inl (in_roots index.roots.now a r k))
+      | inr t ↦ inl (line_tried_free index (lines a) t (has_lines by_place leads b a (λ plain. small) k), w)
+    ]
   ]
   found_free index w (a ∷ signature) h (inr k) = found_free index w signature (both_right (is_found_free index i a) _ h) k
 
@@ -252,14 +256,18 @@ module _ (b : List ℕ) where
       let told = both_left (is_application e.name.now && is_row_with (Some parent) (asks_folder e.name.now) e.row) _ h in
       both _ _ (both_right (is_application e.name.now) _ told) (folder_rows parent folders (both_right (is_application e.name.now && is_row_with (Some parent) (asks_folder e.name.now) e.row) _ h))
 
+  widens_root : (parent : Option ℕ) (roots : List Rooted) (i : ℕ) → IsTrue (list_all (λ e. is_row_with parent (asks_root e.name.now e.text) e.row) roots)
+      → IsRooted b roots i → WidensAt parent b i
+  widens_root parent roots i h (name, rest, element, is) =
+      rows_widen rooted_row (λ e. (e.name.now ≡ name) × HasTagText rest e.text) (λ e. asks_root e.name.now e.text) parent b
+      (λ e p. fits_root name rest element e.name.now e.text p) roots i h is
+
   widens_below : (parent : ℕ) (way : below.Below) (i : ℕ) → IsTrue (is_true_below parent way) → IsFoundBelow way parent b i → WidensAt (Some parent) b i
   widens_below parent Nothing i h is = absurd (is)
   widens_below parent (Entries entries) i h is = is.1
   widens_below parent (Programs names) i h is =
       rows_widen named_row (λ e. IsProgram e.name.now b) (λ e. asks_program e.name.now) (Some parent) b (λ e p. fits_program e.name.now p) names.now i (both_right (ascends named_row names.now) _ h) is
-  widens_below parent (Roots roots) i h (name, rest, element, is) =
-      rows_widen rooted_row (λ e. (e.name.now ≡ name) × HasTagText rest e.text) (λ e. asks_root e.name.now e.text) (Some parent) b
-      (λ e p. fits_root name rest element e.name.now e.text p) roots.now i (both_right (ascends rooted_row roots.now) _ h) is
+  widens_below parent (Roots roots) i h is = widens_root (Some parent) roots.now i (both_right (ascends rooted_row roots.now) _ h) is
   widens_below parent (Packages entries excepts folders) i h (inl is) = is.1
   widens_below parent (Packages entries excepts folders) i h (inr is) =
       rows_widen named_row (λ e. IsPackageWith e.name.now b) (λ e. asks_folder e.name.now) (Some parent) b (λ e p. fits_folder e.name.now p) folders.now i
@@ -339,7 +347,11 @@ pub all_found : ((place : ℕ) (t buf : List ℕ) → IsTrue (stands place t buf
 all_found by_place leads index each = record {
   below = λ b all parent i. (widens_below b parent (below_at index.below.now parent) i (true_below index.below.now parent each.below), finds_below by_place leads index each b all parent i);
   free = λ b all i. (
-    λ is. elim is [ inl tried_row ↦ tried_row.1 | inr t ↦ widens_text b index.parentless.now.texts i each.free.told t ],
+    λ is. elim is [
+      | inl tried_row ↦ tried_row.1
+      | inr (inl r) ↦ widens_root b None index.parentless.now.roots.now i (both_right (ascends rooted_row index.parentless.now.roots.now) _ each.free.roots) r
+      | inr (inr t) ↦ widens_text b index.parentless.now.texts i each.free.texts t
+    ],
     finds_free by_place leads index each b all i,
   );
 }
@@ -357,16 +369,19 @@ module _ (index : RowIndex) (all : FindsAll index) (b : List ℕ) (bytes : IsBuf
       least_same _ _ FURTHER_COUNT least (λ i. (all.below b bytes parent i).0) (λ i. (all.below b bytes parent i).1)
       (subst (λ (w : below.Below). IsLeast (IsFoundBelow w parent b) FURTHER_COUNT least) e h)
 
-  pub least_with_texts : (tried_least least : ℕ) → IsLeast (IsTried None b (tried_parentless index.parentless.now b)) FURTHER_COUNT tried_least
-      → IsLeast (IsTextRow index.parentless.now.texts b) tried_least least → IsLeast (WidensAt None b) FURTHER_COUNT least
-  least_with_texts tried_least least h k =
-      least_same _ _ FURTHER_COUNT least (λ i. (all.free b bytes i).0) (λ i. (all.free b bytes i).1) (least_both _ _ FURTHER_COUNT tried_least least h k)
+  pub least_with_texts : (tried_least rooted least : ℕ) → IsLeast (IsTried None b (tried_parentless index.parentless.now b)) FURTHER_COUNT tried_least
+      → IsLeast (IsRooted b index.parentless.now.roots.now) tried_least rooted → IsLeast (IsTextRow index.parentless.now.texts b) rooted least
+      → IsLeast (WidensAt None b) FURTHER_COUNT least
+  least_with_texts tried_least rooted least h r k =
+      least_same _ _ FURTHER_COUNT least (λ i. (all.free b bytes i).0) (λ i. (all.free b bytes i).1)
+      (least_both _ _ FURTHER_COUNT tried_least least h (least_both _ _ tried_least rooted least r k))
 
-  pub least_before_texts : (least : ℕ) → IsTrue (are_texts index.parentless.now.texts) → least ≤ index.parentless.now.texts.lines
-      → IsLeast (IsTried None b (tried_parentless index.parentless.now b)) FURTHER_COUNT least → IsLeast (WidensAt None b) FURTHER_COUNT least
-  least_before_texts least texts later h =
+  pub least_before_texts : (tried_least least : ℕ) → IsTrue (are_texts index.parentless.now.texts) → least ≤ index.parentless.now.texts.lines
+      → IsLeast (IsTried None b (tried_parentless index.parentless.now b)) FURTHER_COUNT tried_least
+      → IsLeast (IsRooted b index.parentless.now.roots.now) tried_least least → IsLeast (WidensAt None b) FURTHER_COUNT least
+  least_before_texts tried_least least texts later h r =
       let (json_later, plain_later) = texts_ascend index.parentless.now.texts texts in
-      least_with_texts least least h (least_late _ least (λ i is. elim is [
+      least_with_texts tried_least least least h r (least_late _ least (λ i is. elim is [
         | inl (e, p) ↦ omega arith
         | inr (inl (e, p)) ↦ omega arith
         | inr (inr (e, p)) ↦ omega arith
@@ -389,8 +404,26 @@ each_below ways none told = record {
   told = told;
 }
 
-pub each_free : (index : Parentless) → NoneRefused (is_row_free_found index) FURTHER_COUNT 0 16 → IsTrue (are_texts index.texts) → EachFreeIsFound index
-each_free index none told = record {
+pub each_free : (index : Parentless) → NoneRefused (is_row_free_found index) FURTHER_COUNT 0 16 → IsTrue (are_texts index.texts)
+    → IsTrue (are_rooted index.roots.now) → EachFreeIsFound index
+each_free index none texts roots = record {
   found = λ i lt. let many = length-further in passed (is_row_free_found index) FURTHER_COUNT 16 none (omega arith) i (omega arith);
-  told = told;
+  texts = texts;
+  roots = roots;
 }
+
+-- a root is that of markup, which begins with white space, "<" or a byte order mark
+pub root_opens : (b : List ℕ) → Leads → (name rest : List ℕ) → IsRootElement name rest b → MayOpenMarkup b
+root_opens b leads name rest element = elim (leads.root name b (rest, element)) [
+  | inl o ↦ let fits = o.fits in (omega arith, inr (inr (o.reads 0 (omega arith))))
+  | inr (k, low, spaces, opens) ↦ elim (cases_lt 0 k) [
+    | inl lt ↦ let space = spaces 0 (omega arith) lt in (there b 0 (by_space space), inl space)
+    | inr le ↦ let e : slice_index b 0 ≡ 0x3C = subst (λ i. slice_index b i ≡ 0x3C) (omega arith) opens in (there b 0 (omega arith), inr (inl e))
+  ]
+]
+  where
+    by_space : IsXmlSpace (slice_index b 0) → 1 ≤ slice_index b 0
+    by_space (inl e) = omega arith
+    by_space (inr (inl e)) = omega arith
+    by_space (inr (inr (inl e))) = omega arith
+    by_space (inr (inr (inr e))) = omega arith

@@ -4,7 +4,7 @@ use Rattle.std.specs.List.{list_all, list_any, range_with_len}
 use Rattle.std.specs.Option.{option_map_or}
 use denote.Ref.{Bor}
 use Rattle.infer_inside.specs.Json.{IsJson, IsJsonLines}
-use Rattle.infer_inside.specs.Markup.{HasInTag, IsRootElement}
+use Rattle.infer_inside.specs.Markup.{HasInTag, IsRootElement, IsXmlSpace}
 use Rattle.infer_inside.specs.Script.{IsProgram}
 use Rattle.infer_inside.specs.Text.{IsText}
 use Rattle.infer_inside.specs.Zip.{IsPackageWith, applications, IsOneOf}
@@ -153,9 +153,13 @@ IsFoundBelow (Packages entries excepts folders) parent b i =
 abbrev pub IsTextRow : Texts → List ℕ → ℕ → Type 0
 IsTextRow t b i = ((t.lines ≡ i) × IsJsonLines b) ⊎ ((t.json ≡ i) × IsJson b) ⊎ ((t.plain ≡ i) × IsText b)
 
+-- the first byte is white space, "<" or the first of a byte order mark
+abbrev pub MayOpenMarkup : List ℕ → Type 0
+MayOpenMarkup b = (0 < length b) × (IsXmlSpace (slice_index b 0) ⊎ (slice_index b 0 ≡ 0x3C) ⊎ (slice_index b 0 ≡ 0xEF))
+
 -- row i is found without a built-in answer
 abbrev pub IsFoundFree : Parentless → List ℕ → ℕ → Type 0
-IsFoundFree index b i = IsTried None b (tried_parentless index b) i ⊎ IsTextRow index.texts b i
+IsFoundFree index b i = IsTried None b (tried_parentless index b) i ⊎ IsRooted b index.roots.now i ⊎ IsTextRow index.texts b i
 
 -- the part settles the place, and allows there only bytes that pass the test
 abbrev pub is_settled : (ℕ → Bool) → ℕ → Part → Bool
@@ -277,9 +281,9 @@ is_text_row t i json_text = t.json == i
 is_text_row t i plain_text = t.plain == i
 is_text_row t i other = false
 
--- or it is tried
+-- or of the root, or it is tried
 abbrev pub is_found_free : Parentless → ℕ → Alternative → Bool
-is_found_free index i a = is_text_row index.texts i a || list_all (is_tried_parentless index i) (lines a)
+is_found_free index i a = is_text_row index.texts i a || (is_in_roots i index.roots.now a || list_all (is_tried_parentless index i) (lines a))
 
 -- a row with a parent, if it has one, is found of each buffer that its signature accepts
 abbrev pub is_row_below : List below.Below → ℕ → Option ℕ → Further → Bool
@@ -365,6 +369,10 @@ are_texts t =
     (is_row_with None is_lines t.lines && (is_row_with None is_json t.json && is_row_with None is_plain t.plain))
     && (nat_le t.lines t.json && nat_le t.json t.plain)
 
+-- the rows of roots are such rows, and ascend
+abbrev pub are_rooted : List Rooted → Bool
+are_rooted roots = ascends rooted_row roots && list_all (λ e. is_row_with None (asks_root e.name.now e.text) e.row) roots
+
 -- each further row with a parent is found, and none other
 pub record EachBelowIsFound (ways : List below.Below) : Type 0 where
   pub found : (i : ℕ) → i < length further → IsTrue (is_row_below_found ways i)
@@ -372,7 +380,8 @@ pub record EachBelowIsFound (ways : List below.Below) : Type 0 where
 
 pub record EachFreeIsFound (index : Parentless) : Type 0 where
   pub found : (i : ℕ) → i < length further → IsTrue (is_row_free_found index i)
-  pub told : IsTrue (are_texts index.texts)
+  pub texts : IsTrue (are_texts index.texts)
+  pub roots : IsTrue (are_rooted index.roots.now)
 
 pub record EachIsFound (index : RowIndex) : Type 0 where
   pub below : EachBelowIsFound index.below.now

@@ -9,7 +9,7 @@ ghost use Rattle.infer_deep.specs.Find.{OccursAt};
 ghost use Rattle.infer_inside.specs.Json.{IsJson, IsJsonLines};
 ghost use Rattle.infer_inside.specs.Script.{IsProgram};
 ghost use Rattle.infer_inside.specs.Zip.{IsPackageWith};
-ghost use Rattle.infer_more.specs.Index.{AllApplications, HasTagText, IsFoundBelow, IsLeast, IsNamed, IsRooted, IsRootedBy, IsTextRow, IsTried, are_texts, ascends, begun, behind, below_at, candidate, candidates, entries_at, excepted, gated, guarded, has_between, has_byte, has_other, is_true_below, named_row, ranged, rooted_row, tried_parentless, unless, within};
+ghost use Rattle.infer_more.specs.Index.{AllApplications, HasTagText, IsFoundBelow, IsLeast, IsNamed, IsRooted, IsRootedBy, IsTextRow, IsTried, MayOpenMarkup, are_texts, ascends, begun, behind, below_at, candidate, candidates, entries_at, excepted, gated, guarded, has_between, has_byte, has_other, is_true_below, named_row, ranged, rooted_row, tried_parentless, unless, within};
 ghost use Rattle.infer_more.specs.Table.{further};
 ghost use Rattle.infer_more.specs.Wider.{AcceptsAt, IsWidened, IsWider, IsWiderAnswer, IsWidest, Widens, WidensAt, parent_at, shown};
 ghost use Rattle.infer_more.specs.Listed.{row_listed};
@@ -21,6 +21,7 @@ use crate::index::{
     finds, index,
 };
 use crate::signature;
+use crate::signature::ANY;
 use crate::table::{EndedTexts, FurtherRow, row_at};
 use crate::tried::widens;
 use infer::rows::{ROW_COUNT, numbers};
@@ -273,6 +274,30 @@ fn least_plain(texts: &Texts, buf: &[u8], before: usize) -> usize
     }
 }
 
+/// Whether the first byte is one with which markup may begin.
+#[inline(always)]
+fn may_open_markup(buf: &[u8]) -> bool
+    ensures { IsTrue result ↔ MayOpenMarkup buf.now }
+{
+    match buf.first() {
+        Some(byte) => matches!(*byte, b'\t' | b'\n' | b'\r' | b' ' | b'<' | 0xEF),
+        None => false,
+    }
+}
+
+/// [`least_root`] of a buffer that need not be markup.
+#[inline(always)]
+fn least_markup(roots: &[Rooted], buf: &[u8], before: usize) -> usize
+    requires { IsTrue (ascends rooted_row roots.now) }
+    ensures { IsLeast (IsRooted buf.now roots.now) before result }
+{
+    infer_inside::laws::leads();
+    if !may_open_markup(buf) {
+        return before;
+    }
+    least_root(roots, buf, before)
+}
+
 /// The least row that widens an answer below which there is none, or their count. A function of its own, that names the
 /// index itself: so its guards are tested in straight code.
 #[inline(never)]
@@ -282,11 +307,12 @@ fn least_free(buf: &[u8]) -> usize
     let index = index();
     finds(&index);
     let tried = least_tried(index.parentless, buf);
+    let rooted = least_markup(index.parentless.roots, buf, tried);
     let texts = &index.parentless.texts;
-    if tried <= usize::from(texts.lines) {
-        return tried;
+    if rooted <= usize::from(texts.lines) {
+        return rooted;
     }
-    least_text(texts, buf, tried)
+    least_text(texts, buf, rooted)
 }
 
 fn is_named(named: &Named, name: &[u8]) -> bool
@@ -371,14 +397,14 @@ fn least_rooted(roots: &[Rooted], root: &Root<'_>, before: usize) -> usize
     before
 }
 
-/// The least of the rows with the buffer's root, or their count.
-fn least_root(roots: &[Rooted], buf: &[u8]) -> usize
+/// The least of the number before and of the rows with the buffer's root.
+fn least_root(roots: &[Rooted], buf: &[u8], before: usize) -> usize
     requires { IsTrue (ascends rooted_row roots.now) }
-    ensures { IsLeast (IsRooted buf.now roots.now) FURTHER_COUNT result }
+    ensures { IsLeast (IsRooted buf.now roots.now) before result }
 {
     match root_of(buf) {
-        Some(root) => least_rooted(roots, &root, FURTHER_COUNT),
-        None => FURTHER_COUNT,
+        Some(root) => least_rooted(roots, &root, before),
+        None => before,
     }
 }
 
@@ -392,7 +418,7 @@ fn least_found(below: &Below, row: usize, buf: &[u8]) -> usize
         Below::Nothing => FURTHER_COUNT,
         Below::Entries(entries) => least_among(entries, Some(row), buf, FURTHER_COUNT),
         Below::Programs(names) => least_program(names, buf),
-        Below::Roots(roots) => least_root(roots, buf),
+        Below::Roots(roots) => least_root(roots, buf, FURTHER_COUNT),
         Below::Packages(entries, excepts, folders) => {
             let tried = least_among(entries, Some(row), buf, FURTHER_COUNT);
             let least = least_excepted(excepts, Some(row), buf, tried);
@@ -601,7 +627,7 @@ pub fn accepts(buf: &[u8], i: usize) -> bool
         return Asker::new(buf).ask(i);
     }
     match row_at(i - ROW_COUNT) {
-        Some(row) => signature::accepts(row.signature, buf),
+        Some(row) => signature::accepts::<ANY>(row.signature, buf),
         None => false,
     }
 }

@@ -76,12 +76,14 @@ pub(crate) struct Texts {
 
 /// The rows without a parent that are tried: by their first byte, and behind guards those that leave the first byte free,
 /// or share it with the zeros of many files. Of these the rows that share another byte stand behind the gate, so that a
-/// buffer without it is told by one look. Ranges have the rows that allow many bytes. The texts come last.
+/// buffer without it is told by one look. Ranges have the rows that allow many bytes. The root of markup is looked for once
+/// for all rows that ask for one. The texts come last.
 pub(crate) struct Parentless {
     pub first: &'static [&'static [Entry]],
     pub guards: &'static [Guard],
     pub gate: Gate,
     pub ranges: &'static [Range],
+    pub roots: &'static [Rooted],
     pub texts: Texts,
 }
 

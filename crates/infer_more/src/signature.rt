@@ -63,10 +63,14 @@ pub(crate) enum Alternative {
     PlainText,
 }
 
-/// Whether the buffer has what one of the alternatives asks. Four are written out: the compiler makes comparisons with
-/// constants of an alternative that it knows, and leaves out what is not there.
-#[inline(always)]
-pub(crate) fn accepts(signature: &[Alternative], buf: &[u8]) -> bool
+/// In the place of a row's number, where the row is not known.
+pub(crate) const ANY: usize = usize::MAX;
+
+/// Whether the buffer has what one of the alternatives asks. `ROW` is the number of the row that asks: so the compiler makes
+/// this function for each row, and of a signature that it knows leaves comparisons with constants. Four alternatives are
+/// written out for the same reason.
+#[inline]
+pub(crate) fn accepts<const ROW: usize>(signature: &[Alternative], buf: &[u8]) -> bool
     requires { IsTrue (list_all is_closed_alternative (signature_listed signature.now)) }
     ensures { IsTrue result ↔ Accepted (signature_listed signature.now) buf.now }
 {

@@ -6,32 +6,32 @@ ghost use Rattle.infer_more.specs.Table.{further};
 ghost use Rattle.infer_more.specs.Wider.{Widens, WidensAt};
 
 use crate::signature;
+use crate::signature::ANY;
 use crate::table::{FurtherRow, row_at};
 
-/// Row `I`, whose place the compiler computes: a function of its own, so that it does so before the row is read.
-fn row_of<const I: usize>() -> Option<&'static FurtherRow>
-    ensures listed { option_map (λ row. row_listed row.now) result ≡ slice_get further I }
+/// Row `ROW`, whose place the compiler computes: a function of its own, so that it does so before the row is read.
+fn row_of<const ROW: usize>() -> Option<&'static FurtherRow>
+    ensures listed { option_map (λ row. row_listed row.now) result ≡ slice_get further ROW }
     ensures closed { IfSome result (λ row. IsTrue (is_row_closed (row_listed row.now))) }
 {
-    row_at(I)
+    row_at(ROW)
 }
 
 /// Whether the row has this parent and accepts the buffer.
 #[inline(always)]
-fn row_widens(row: &FurtherRow, parent: Option<usize>, buf: &[u8]) -> bool
+fn row_widens<const ROW: usize>(row: &FurtherRow, parent: Option<usize>, buf: &[u8]) -> bool
     requires { IsTrue (is_row_closed (row_listed row.now)) }
     ensures { IsTrue result ↔ Widens parent buf.now (row_listed row.now) }
 {
-    row.parent == parent && signature::accepts(row.signature, buf)
+    row.parent == parent && signature::accepts::<ROW>(row.signature, buf)
 }
 
-/// [`widens`] of row `I`. The compiler makes it before it inlines it, so that of the signature nothing is left but
-/// comparisons with constants.
-fn widens_row<const I: usize>(parent: Option<usize>, buf: &[u8]) -> bool
-    ensures { IsTrue result ↔ WidensAt parent buf.now I }
+/// [`widens`] of row `ROW`. It is no part of [`widens`] from the start, so that the compiler makes it by itself first.
+fn widens_row<const ROW: usize>(parent: Option<usize>, buf: &[u8]) -> bool
+    ensures { IsTrue result ↔ WidensAt parent buf.now ROW }
 {
-    match row_of::<I>() {
-        Some(row) => row_widens(row, parent, buf),
+    match row_of::<ROW>() {
+        Some(row) => row_widens::<ROW>(row, parent, buf),
         None => false,
     }
 }
@@ -42,7 +42,7 @@ fn widens_any(i: usize, parent: Option<usize>, buf: &[u8]) -> bool
     ensures { IsTrue result ↔ WidensAt parent buf.now i }
 {
     match row_at(i) {
-        Some(row) => row_widens(row, parent, buf),
+        Some(row) => row_widens::<ANY>(row, parent, buf),
         None => false,
     }
 }

@@ -1,6 +1,5 @@
 use Rattle.std.proofs.Common.{subst}
 use Rattle.infer_more.specs.Index.{IsRooted, IsRootedBy}
-use Rattle.infer_more.specs.declared.index.lists.TheConstants.{FURTHER_COUNT}
 use Rattle.infer_more.proofs.LeastLemmas.{least_none, least_same}
 use Rattle.infer_more.proofs.answers.least_root.Goals as goal
 
@@ -10,7 +9,7 @@ returns-in-Some c =
     let roots = c.args.roots.now in
     let name = c.in-Some.root.name.now in
     let rest = c.in-Some.root.rest.now in
-    least_same (IsRootedBy name rest roots) (IsRooted b roots) FURTHER_COUNT _
+    least_same (IsRootedBy name rest roots) (IsRooted b roots) c.args.before _
     (λ i is. (name, rest, c.in-Some.ensures.found, is))
     (λ i (other, after, element, is).
     let same = c.in-Some.ensures.only other after element in
@@ -18,4 +17,4 @@ returns-in-Some c =
     c.least_rooted.ensures
 
 pub returns-in-None : goal.returns-in-None
-returns-in-None c = least_none (IsRooted c.args.buf.now c.args.roots.now) FURTHER_COUNT (λ i (name, rest, element, is). c.in-None.ensures.found name rest element)
+returns-in-None c = least_none (IsRooted c.args.buf.now c.args.roots.now) c.args.before (λ i (name, rest, element, is). c.in-None.ensures.found name rest element)

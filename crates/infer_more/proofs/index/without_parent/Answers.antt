@@ -6,4 +6,4 @@ use Rattle.infer_more.proofs.index.without_parent.Goals as goal
 pub returns : goal.returns
 unfolding further archives code headers images late markup media packages records
 returns c =
-    each_free _ (refl, (refl, (refl, (refl, (refl, (refl, (refl, (refl, (refl, (refl, (refl, (refl, (refl, (refl, (refl, (refl, tt)))))))))))))))) refl
+    each_free _ (refl, (refl, (refl, (refl, (refl, (refl, (refl, (refl, (refl, (refl, (refl, (refl, (refl, (refl, (refl, (refl, tt)))))))))))))))) refl refl
