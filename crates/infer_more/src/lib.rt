@@ -7,9 +7,9 @@
 //!
 //! The numbers of the further rows go on from the built-in ones: the first has the number `ROW_COUNT`.
 //!
-//! Each module uses only those before it: `signature`, one function that decides any signature; `table`, the rows;
-//! `index`, which rows are asked; `answers`, what they answer; `added`, the rows of a caller; `read`, the front of a file or of a reader; `laws`,
-//! facts about all of these; `samples`.
+//! Each module uses only those before it: `signature`, one function that decides any signature; `table`, the rows; `tried`,
+//! that function for each of them; `index`, which rows are asked; `answers`, what they answer; `added`, the rows of a caller;
+//! `read`, the front of a file or of a reader; `laws`, facts about all of these; `samples`.
 #![tactic(auto)]
 
 ghost use Rattle.std.specs.Prelude.{◌≡◌, ◌+◌, ◌<◌, ◌≤◌, ◌↔◌, IfSome, IsTrue, None, option_map, slice_get};

@@ -124,6 +124,19 @@ fn fits(alternative: &Alternative, buf: &[u8]) -> bool
     match alternative {
         Alternative::Bytes(bytes) => has_bytes(bytes, buf),
         Alternative::BinaryBytes(bytes) => has_bytes(bytes, buf) && is_binary(buf),
+        other => fits_inside(other, buf),
+    }
+}
+
+/// Whether the buffer has what this one asks, which is seldom bytes. A function of its own, so that no row has a copy of it.
+#[inline(never)]
+fn fits_inside(alternative: &Alternative, buf: &[u8]) -> bool
+    requires { IsTrue (is_closed_alternative (alternative_listed alternative.now)) }
+    ensures { IsTrue result ↔ Fits (alternative_listed alternative.now) buf.now }
+{
+    match alternative {
+        Alternative::Bytes(bytes) => has_bytes(bytes, buf),
+        Alternative::BinaryBytes(bytes) => has_bytes(bytes, buf) && is_binary(buf),
         Alternative::SharedObject => is_shared_object(buf),
         Alternative::FirstEntryIs(name) => first_entry_is(buf, name),
         Alternative::FirstEntryEndsIn(end) => first_entry_ends_in(buf, end),
