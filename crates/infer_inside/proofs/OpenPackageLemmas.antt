@@ -41,15 +41,15 @@ abbrev opens : ℕ → Bool
 opens x = nat_eq x 0x77 || nat_eq x 0x78 || nat_eq x 0x70 || nat_eq x 0x76 || nat_eq x 0x33
 
 -- they are of three bytes or more, none of which is zero, and begin so
-record IsFolder (f : List ℕ) : Type 0 where
+record FolderText (f : List ℕ) : Type 0 where
   long : 3 ≤ length f
   some : IsTrue (list_all (λ x. nat_lt 0 x) f)
   bytes : IsTrue (are_bytes f)
   first : IsTrue (opens (get_or f 0 0))
   pair : IsTrue (opens_with (get_or f 0 0) (get_or f 1 0))
 
-is_folder : (f : List ℕ) → IsOneOf f applications → IsFolder f
-is_folder = of_each IsFolder
+is_folder : (f : List ℕ) → IsOneOf f applications → FolderText f
+is_folder = of_each FolderText
     (record { long = omega arith; some = refl; bytes = refl; first = refl; pair = refl })
     (record { long = omega arith; some = refl; bytes = refl; first = refl; pair = refl })
     (record { long = omega arith; some = refl; bytes = refl; first = refl; pair = refl })
