@@ -24,6 +24,7 @@ pub mod OpenZipLemmas
 pub mod OpenPackageLemmas
 pub mod OpenScriptLemmas
 pub mod OpenTarLemmas
+pub mod OpenMarkupLemmas
 pub mod OpenTiffLemmas
 pub mod OpenElfLemmas
 pub mod OpenSubtitlesLemmas

@@ -90,6 +90,17 @@ part_within b p d q e (inr (name, close, doctype, none, ends, is)) =
     let order = doctype.closes.0.order in
     let whole = doctype.closes.0.whole in (omega (arith, space.0), omega arith)
 
+-- a document type that was declared before it, or in it, is closed
+pub closed_part : (b : List ℕ) (p : ℕ) (d : Option ℕ) (q : ℕ) (e : Option ℕ) → IsPart b p d q e
+    → ((name : ℕ) → d ≡ Some name → (close : ℕ) × (name ≤ close) × (close < length b) × (get_or b close 0 ≡ 0x3E))
+    → (name : ℕ) → e ≡ Some name → (close : ℕ) × (name ≤ close) × (close < length b) × (get_or b close 0 ≡ 0x3E)
+closed_part b p d q e (inl (m, is)) before name same = before name (sym is ∙ same)
+closed_part b p d q e (inr (from, close, doctype, none, ends, is)) before name same =
+    let (run, last) = doctype.closes in
+    let order = run.order in
+    let one : from ≡ name = (let both = sym is ∙ same in cc) in
+    (close, omega arith, run.whole, last)
+
 no_tag : (b : List ℕ) (at to p : ℕ) (d : Option ℕ) (q : ℕ) (e : Option ℕ) → IsPart b p d q e → ¬ OpensTag b at to p d
 no_tag b at to p d q e (inl (inl s, is)) tag = not_space _ tag.opens (space_first b p q s)
 no_tag b at to p d q e (inl (inr (inl i), is)) tag = tag.begins.1 (instruction_first b p q i).1
@@ -98,7 +109,7 @@ no_tag b at to p d q e (inr (name, close, doctype, none, ends, is)) tag =
     tag.begins.0 (doctype_first b p name close doctype).1
 
 -- the ways to a tag
-ways : (b : List ℕ) (at to p : ℕ) (d : Option ℕ) → LeadsToTag b at to p d
+pub ways : (b : List ℕ) (at to p : ℕ) (d : Option ℕ) → LeadsToTag b at to p d
     → OpensTag b at to p d ⊎ ((q : ℕ) × ((e : Option ℕ) × IsPart b p d q e × LeadsToTag b at to q e))
 ways b at to p d (here _ _ tag) = inl tag
 ways b at to p d (later _ _ q e is rest) = inr (q, (e, is, rest))
@@ -131,6 +142,16 @@ one_tag b at to from end p d t u =
     let same = one_run_end IsNameByte b (p + 1) to end t.name u.name in
     let moved = subst (λ x. IsAfterLast 0x3A b (p + 1) x at) same t.local in
     (one_after_last 0x3A b (p + 1) end at from moved u.local, same)
+
+-- so a place leads to one
+pub one_lead : (b : List ℕ) (at to from end p : ℕ) (d : Option ℕ) → LeadsToTag b at to p d → LeadsToTag b from end p d
+    → (at ≡ from) × (to ≡ end)
+one_lead b at to from end p d (here _ _ t) other = elim (ways b from end p d other) [
+  | inl u ↦ one_tag b at to from end p d t u
+  | inr (q, (e, part, rest)) ↦ absurd (no_tag b at to p d q e part t)
+]
+one_lead b at to from end p d (later _ _ q e part rest) other =
+    one_lead b at to from end q e rest ((past_part b from end p d q e part).0 other)
 
 -- an element's name is that of the document type if it stands there, and no byte of such a name follows
 pub is_declared : (b : List ℕ) (name p q : ℕ) → IsRun IsNameByte b p q
@@ -203,7 +224,7 @@ module _ (b c : List ℕ) (s : SharesFront (length b) b c) where
   space_lasts : (p q : ℕ) → IsSpaceRun b p q → IsSpaceRun c p q
   space_lasts p q (some, run) = (some, run_shared (length b) b c s IsXmlSpace p q run.whole run)
 
-  enclosed_lasts : (opening closing : List ℕ) (p q : ℕ) → IsEnclosed b opening closing p q
+  pub enclosed_lasts : (opening closing : List ℕ) (p q : ℕ) → IsEnclosed b opening closing p q
       → IsEnclosed c opening closing p q
   enclosed_lasts opening closing p q (o, (e, first, is)) =
       let here = first.here in
@@ -226,7 +247,7 @@ module _ (b c : List ℕ) (s : SharesFront (length b) b c) where
         ),
       )
 
-  part_lasts : (p : ℕ) (d : Option ℕ) (q : ℕ) (e : Option ℕ) → IsPart b p d q e → IsPart c p d q e
+  pub part_lasts : (p : ℕ) (d : Option ℕ) (q : ℕ) (e : Option ℕ) → IsPart b p d q e → IsPart c p d q e
   part_lasts p d q e (inl (inl space, is)) = inl (inl (space_lasts p q space), is)
   part_lasts p d q e (inl (inr (inl i), is)) = inl (inr (inl (enclosed_lasts (codes "<?") (codes "?>") p q i)), is)
   part_lasts p d q e (inl (inr (inr i), is)) = inl (inr (inr (enclosed_lasts (codes "<!--") (codes "-->") p q i)), is)
@@ -248,7 +269,7 @@ module _ (b c : List ℕ) (s : SharesFront (length b) b c) where
         is,
       )
 
-  name_lasts : (d : Option ℕ) (p q : ℕ) → p ≤ q → q ≤ length b → AgreesWithDoctype b d p q → AgreesWithDoctype c d p q
+  pub name_lasts : (d : Option ℕ) (p q : ℕ) → p ≤ q → q ≤ length b → AgreesWithDoctype b d p q → AgreesWithDoctype c d p q
   name_lasts None p q order high is = is
   name_lasts (Some name) p q order high (end, run, is) =
       let whole = run.whole in
@@ -258,7 +279,7 @@ module _ (b c : List ℕ) (s : SharesFront (length b) b c) where
         sym declared ∙ is ∙ range_shared (length b) b c s p q order high,
       )
 
-  tag_lasts : (at to p : ℕ) (d : Option ℕ) → OpensTag b at to p d → OpensTag c at to p d
+  pub tag_lasts : (at to p : ℕ) (d : Option ℕ) → OpensTag b at to p d → OpensTag c at to p d
   tag_lasts at to p d t =
       let order = t.name.order in
       let whole = t.name.whole in record {
@@ -281,12 +302,12 @@ tag_within b at to p d (here _ _ tag) = (tag.local.low, tag.some, tag.name.whole
 tag_within b at to p d (later _ _ q e is rest) =
     let past = part_within b p d q e is in let within = tag_within b at to q e rest in (omega arith, within.1, within.2)
 
-begin_lasts : (b c : List ℕ) (p : ℕ) → SharesFront (length b) b c → 3 ≤ length b → BeginsAt b p → BeginsAt c p
+pub begin_lasts : (b c : List ℕ) (p : ℕ) → SharesFront (length b) b c → 3 ≤ length b → BeginsAt b p → BeginsAt c p
 begin_lasts b c p s long (inl (mark, is)) = inl (text_shared (length b) b c s utf8_mark 0 mark.fits mark, is)
 begin_lasts b c p s long (inr (none, is)) =
     inr (λ mark. none (text_shared (length b) c b (front_swaps (length b) b c s) utf8_mark 0 (omega arith) mark), is)
 
-root_lasts : (name rest b more : List ℕ) → IsRootElement name rest b → IsRootElement name (rest ++ more) (b ++ more)
+pub root_lasts : (name rest b more : List ℕ) → IsRootElement name rest b → IsRootElement name (rest ++ more) (b ++ more)
 root_lasts name rest b more (p, at, to, begins, leads, is_name, is_rest) =
     let s = front_grows b more in
     let (low, some, whole) = tag_within b at to p None leads in (
