@@ -103,6 +103,16 @@ HasRoot name b = (rest : List ℕ) × IsRootElement name rest b
 abbrev pub HasRootWith : List ℕ → List ℕ → List ℕ → Type 0
 HasRootWith name text b = (rest : List ℕ) × IsRootElement name rest b × HasInTag text rest
 
+-- behind a "<" the name of an element stands at p, or another "<" there or behind
+abbrev pub MayOpen : List ℕ → ℕ → Type 0
+MayOpen b p = BeginsElement (slice_index b p) ⊎ ((j : ℕ) × (p ≤ j) × (slice_index b j ≡ 0x3C))
+
+-- b begins with a byte order mark, or with white space, perhaps none, and such a "<"
+abbrev pub MayBeRooted : List ℕ → Type 0
+MayBeRooted b =
+    OccursAt b utf8_mark 0
+    ⊎ ((k : ℕ) × ((j : ℕ) → j < k → IsXmlSpace (slice_index b j)) × (slice_index b k ≡ 0x3C) × MayOpen b (k + 1))
+
 -- a root element can have this local name: it has a byte, and all are those of an element's name, but ":"
 pub record IsLocalName (name : List ℕ) : Type 0 where
   pub some : 0 < length name

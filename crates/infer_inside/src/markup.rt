@@ -4,7 +4,7 @@ ghost use Rattle.infer_deep.specs.Open.{AgreesAt};
 ghost use Rattle.infer_deep.specs.Signatures.{Reachable};
 ghost use Rattle.infer_deep.specs.Places.{FindsPlace};
 ghost use Rattle.infer_inside.specs.Runs.{IsRun};
-ghost use Rattle.infer_inside.specs.Markup.{AgreesWithDoctype, BeginsAt, BeginsElement, ClosesDeclaration, EndsName, HasInTag, HasNoBracket, HasRoot, HasRootWith, IsDoctype, IsEnclosed, IsFullName, IsLocalName, IsMisc, IsNameByte, IsPart, IsRootElement, IsSpaceRun, IsTypeByte, IsXmlSpace, LeadsToTag, MayDeclare, MayGoOn, MayNameRoot, MayOpenAs, MayOpenTag, OpensTag, utf8_mark};
+ghost use Rattle.infer_inside.specs.Markup.{AgreesWithDoctype, BeginsAt, BeginsElement, ClosesDeclaration, EndsName, HasInTag, HasNoBracket, HasRoot, HasRootWith, IsDoctype, IsEnclosed, IsFullName, IsLocalName, IsMisc, IsNameByte, IsPart, IsRootElement, IsSpaceRun, IsTypeByte, IsXmlSpace, LeadsToTag, MayBeRooted, MayDeclare, MayGoOn, MayNameRoot, MayOpen, MayOpenAs, MayOpenTag, OpensTag, utf8_mark};
 
 use crate::runs::after_last;
 use crate::search::{find_closing, find_from};
@@ -89,6 +89,45 @@ pub fn root_of(buf: &[u8]) -> Option<Root<'_>>
         name: &buf[tag.at..tag.to],
         rest: &buf[tag.to..],
     })
+}
+
+/// Whether the buffer may have a root element, by its first tag: a byte order mark stands first, or white space, perhaps none,
+/// and "<", and behind that the name of an element or another "<". That takes less than to look for the root, and little
+/// that is no markup passes.
+pub fn may_be_rooted(buf: &[u8]) -> bool
+    ensures { IsTrue result ↔ MayBeRooted buf.now }
+{
+    if has_at(buf, b"\xEF\xBB\xBF", 0) {
+        return true;
+    }
+    for place in 0..buf.len() {
+        if !is_xml_space(buf[place]) {
+            return opens_at(buf, place);
+        }
+    }
+    false
+}
+
+/// Whether "<" stands there, and behind it the name of an element or another "<".
+fn opens_at(buf: &[u8], place: usize) -> bool
+    requires { place < length buf.now }
+    ensures { IsTrue result ↔ (slice_index buf.now place ≡ 0x3C) × MayOpen buf.now (place + 1) }
+{
+    buf[place] == b'<' && may_open(buf, place + 1)
+}
+
+/// Whether the name of an element stands there, or "<" there or behind.
+fn may_open(buf: &[u8], from: usize) -> bool
+    requires { from ≤ length buf.now }
+    ensures { IsTrue result ↔ MayOpen buf.now from }
+{
+    if from == buf.len() {
+        return true;
+    }
+    if begins_element(buf[from]) {
+        return true;
+    }
+    memchr(b'<', &buf[from..]).is_some()
 }
 
 /// Where the prolog begins: behind a byte order mark, if there is one.

@@ -10,7 +10,7 @@ use Rattle.std.proofs.lemmas.Option.{slice_get_cases}
 use denote.Ref.{Bor}
 use Rattle.infer_inside.specs.Json.{IsJson, IsJsonLines}
 use Rattle.infer_inside.specs.Laws.{Leads}
-use Rattle.infer_inside.specs.Markup.{HasInTag, IsRootElement, IsXmlSpace}
+use Rattle.infer_inside.specs.Markup.{BeginsElement, HasInTag, IsRootElement, IsXmlSpace, MayBeRooted}
 use Rattle.infer_inside.proofs.GrowthLemmas.{there}
 use Rattle.infer_inside.specs.Script.{IsProgram}
 use Rattle.infer_inside.specs.Zip.{IsOneOf, IsPackageWith, applications}
@@ -427,3 +427,29 @@ root_opens b leads name rest element = elim (leads.root name b (rest, element)) 
     by_space (inr (inl e)) = omega arith
     by_space (inr (inr (inl e))) = omega arith
     by_space (inr (inr (inr e))) = omega arith
+
+-- and behind its first "<" stands an element or another "<"
+pub root_may : (b : List ℕ) → Leads → (name rest : List ℕ) → IsRootElement name rest b → MayBeRooted b
+root_may b leads name rest element = elim (leads.root name b (rest, element)) [
+  | inl o ↦ inl o
+  | inr (k, low, spaces, opens) ↦
+      let (j, tag, begins) = leads.element name b (rest, element) in
+      inr (
+        k,
+        λ i lt. spaces i (omega arith) lt,
+        opens,
+        elim (cases_lt k j) [
+          | inl less ↦ inr (j, omega arith, tag)
+          | inr more ↦ elim (cases_lt j k) [
+            | inl less ↦ absurd (no_space (slice_index b j) tag (spaces j (omega arith) less))
+            | inr same ↦ let e : j ≡ k = omega arith in inl (subst (λ i. BeginsElement (slice_index b (i + 1))) e begins)
+          ]
+        ],
+      )
+]
+  where
+    no_space : (x : ℕ) → x ≡ 0x3C → ¬ IsXmlSpace x
+    no_space x e (inl s) = absurd (omega arith)
+    no_space x e (inr (inl s)) = absurd (omega arith)
+    no_space x e (inr (inr (inl s))) = absurd (omega arith)
+    no_space x e (inr (inr (inr s))) = absurd (omega arith)

@@ -28,7 +28,7 @@ use infer::rows::{ROW_COUNT, numbers};
 use infer::{Ask, Asker, Type};
 use infer_deep::places::stands_at;
 use infer_inside::json::{Kind, kind_of};
-use infer_inside::markup::{Root, root_of};
+use infer_inside::markup::{Root, may_be_rooted, root_of};
 use infer_inside::script::program;
 use infer_inside::text::is_text;
 use infer_inside::zip::package_folder;
@@ -293,6 +293,19 @@ fn least_markup(roots: &[Rooted], buf: &[u8], before: usize) -> usize
 {
     infer_inside::laws::leads();
     if !may_open_markup(buf) {
+        return before;
+    }
+    least_opened(roots, buf, before)
+}
+
+/// [`least_root`] of a buffer whose first tag may be no tag. A function of its own, so that few buffers take what it needs.
+#[inline(never)]
+fn least_opened(roots: &[Rooted], buf: &[u8], before: usize) -> usize
+    requires { IsTrue (ascends rooted_row roots.now) }
+    ensures { IsLeast (IsRooted buf.now roots.now) before result }
+{
+    infer_inside::laws::leads();
+    if !may_be_rooted(buf) {
         return before;
     }
     least_root(roots, buf, before)

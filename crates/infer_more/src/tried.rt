@@ -59,7 +59,7 @@ macro_rules! by_row {
 /// Whether further row `i` has this parent and accepts the buffer. `docs/tables` writes the rows that have code of their
 /// own.
 #[inline(never)]
-pub(crate) fn widens(i: usize, parent: Option<usize>, buf: &[u8]) -> bool
+pub(super) fn widens(i: usize, parent: Option<usize>, buf: &[u8]) -> bool
     ensures { IsTrue result ↔ WidensAt parent buf.now i }
 {
     by_row![

@@ -29,7 +29,7 @@ use infer_deep::doc::has_office_name;
 use infer_inside::dbase::is_dbase;
 use infer_inside::elf::is_shared_object;
 use infer_inside::json::{is_json, is_json_lines};
-use infer_inside::markup::{has_root, has_root_with};
+use infer_inside::markup::{has_root, has_root_with, may_be_rooted};
 use infer_inside::png::is_animated;
 use infer_inside::subtitles::is_subrip;
 use infer_inside::tar::has_tar_checksum;
@@ -175,6 +175,7 @@ fn inside(rt: HostRuntime) {
         "IsJsonLines" is_json_lines, b"[1]\n[", b"[1]\n";
         "IsProgram" is_program_sh, b"#!/bin/sh -e\n", b"#!/bin/sh";
         "IsRootElement" is_root_svg, b"<!-- --><s:svg>", b"<svg";
+        "MayBeRooted" may_be_rooted, b"<?php <", b"<?php ";
         "IsSubRip" is_subrip, b"1\n00:00:00,000 --> 00:00:01,000", b"1\n00:00:00,000 -> 00:00:01,000";
         "IsAnimated" is_animated, b"\x89PNG\r\n\x1A\n\0\0\0\0acTL", b"\x89PNG\r\n\x1A\n\0\0\0\0IDAT";
         "IsSharedObject" is_shared_object, &zeros_but::<46>(&[(4, b"\x01\x01"), (16, b"\x03"), (42, b" \0\x01")]), &zeros_but::<46>(&[(4, b"\x01\x01"), (16, b"\x02"), (42, b" \0\x01")]);

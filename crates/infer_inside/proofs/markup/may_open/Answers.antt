@@ -1,0 +1,20 @@
+use Rattle.std.proofs.Common.{◌≡◌, ℕ, ◌<◌, ◌≤◌, length, inl, inr, arith, refl, subst, sym, ap, ◌∙◌, IsTrue, is_some}
+use Rattle.std.specs.Prelude.{slice_index}
+use Rattle.std.proofs.lemmas.Bool.{false≢true}
+use Rattle.std.proofs.lemmas.List.{get_or_past}
+use Rattle.infer_inside.specs.Markup.{BeginsElement}
+use Rattle.infer_inside.proofs.GrowthLemmas.{there}
+use Rattle.infer_inside.proofs.PartLemmas.{part_search}
+use Rattle.infer_inside.proofs.markup.may_open.Goals as goal
+
+pub returns : goal.returns
+returns c =
+    let b = c.args.buf.now in
+    let found = part_search b c.args.from (length b) 0x3C c.memchr.result c.requires (omega arith) c.memchr.ensures in
+    let same = c.is_some.ensures in (
+      λ is. let (j, low, high, opens) = found.0 (subst IsTrue same is) in inr (j, low, opens),
+      λ m. elim m [
+        | inl begins ↦ absurd (false≢true (c.if-begins_element.ensures.1 begins))
+        | inr (j, low, opens) ↦ subst IsTrue (sym same) (found.1 (j, low, there b j (omega arith), opens))
+      ],
+    )
