@@ -1,0 +1,4 @@
+pub mod HexLemmas
+pub mod FixedLemmas
+pub mod SignatureLemmas
+pub mod GrammarLemmas

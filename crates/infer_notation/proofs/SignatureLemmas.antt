@@ -1,0 +1,96 @@
+-- A signature that is read token by token.
+use Rattle.std.proofs.Common.{◌≡◌, ◌+◌, ◌&&◌, ◌||◌, ℕ, zero, suc, Bool, true, false, List, [], ◌∷◌, Option, None, Some, length, drop, option_map, nat_le, inl, inr, refl, sym, ap, ◌∙◌, ◌<◌, arith, get_or}
+use Rattle.std.specs.List.{list_all, list_any}
+use Rattle.std.proofs.lemmas.Bool.{cases_Bool}
+use Rattle.infer_sig.specs.Signature as signature
+use Rattle.infer_sig.specs.Signature.{at_least, fits, has_part}
+use Rattle.infer_notation.specs.Fixed.{Effect, Rest, alternatives_of, effect_seen, given, joined, nothing, opens, part, rest_at, rest_seen, state_taken, step, step_seen, ended, start, state}
+use Rattle.infer_notation.specs.Tokens.{Token, token_at}
+use Rattle.infer_notation.specs.Words.{behind_blanks, is_blank}
+use Rattle.infer_notation.specs.declared.fixed.Cursor.{Cursor}
+use Rattle.infer_notation.specs.declared.fixed.Effect as declared
+use Rattle.infer_notation.specs.declared.fixed.Effect.TheVariants as effects
+use Rattle.infer_notation.specs.declared.fixed.Wanted.TheVariants.{More}
+use Rattle.infer_notation.specs.declared.signature.State.{State}
+use Rattle.infer_notation.proofs.HexLemmas.{and_assoc, and_true, or_assoc}
+
+-- bytes of a token that was read count no more
+pub past_read : (c : Cursor) (n : ℕ) (xs : List ℕ) → rest_at c n xs ≡ rest_at c 0 (drop n xs)
+past_read c zero [] = refl
+past_read c zero (x ∷ xs) = refl
+past_read c (suc n) [] = refl
+past_read c (suc n) (x ∷ xs) = past_read c n xs
+
+-- nor do blanks
+pub past_blanks : (c : Cursor) (xs : List ℕ) → rest_at c 0 (behind_blanks xs) ≡ rest_at c 0 xs
+past_blanks c [] = refl
+past_blanks c (x ∷ xs) = elim (cases_Bool (is_blank x)) [
+  | inl blank ↦ rw blank (past_blanks c xs)
+  | inr other ↦ (let whole : behind_blanks (x ∷ xs) ≡ x ∷ xs = rw other refl in ap (rest_at c 0) whole)
+]
+
+pub past_token : (c d : Cursor) (x : ℕ) (xs : List ℕ) (t : Token) (n : ℕ) (e : Effect) → is_blank x ≡ false → token_at (x ∷ xs) ≡ Some (t, n) → step c t ≡ Some (d, e)
+    → rest_at c 0 (x ∷ xs) ≡ option_map (joined e) (rest_at d 0 (drop n xs))
+past_token c d x xs t n e dark is-t is-s = rw (dark, is-t, is-s) (ap (option_map (joined e)) (past_read d n xs))
+
+opened : (a l o p r : Bool) → ((a || (l && true)) || ((o && p) || r)) ≡ (((a || l) || (o && p)) || r)
+opened a l o p r = ap (λ t. (a || t) || ((o && p) || r)) (and_true l) ∙ or_assoc (a || l) (o && p) r
+
+-- the state with what a token adds makes of the rest what the one before makes of both
+map_joined : (buf : List ℕ) (s : State) (d : Cursor) (e : Effect) (r : Option Rest)
+    → option_map (rest_seen buf s.any s.last) (option_map (joined e) r) ≡ option_map (rest_seen buf (state_taken s d (effect_seen buf e)).any (state_taken s d (effect_seen buf e)).last) r
+map_joined buf s d e None = refl
+map_joined buf s d nothing (Some r) = refl
+map_joined buf s d (part p) (Some r) =
+    ap (λ (t : Bool). Some ((s.any || t) || list_any (fits buf) r.alternatives)) (and_assoc s.last (has_part buf p) (list_all (has_part buf) r.parts))
+map_joined buf s d (opens n) (Some r) =
+    ap (λ (t : Bool). Some t) (opened s.any s.last (nat_le n (length buf)) (list_all (has_part buf) r.parts) (list_any (fits buf) r.alternatives))
+
+cursor_taken : (s : State) (d : Cursor) (f : declared.Effect) → (state_taken s d f).cursor ≡ d
+cursor_taken s d effects.Nothing = refl
+cursor_taken s d (effects.Has has) = refl
+cursor_taken s d (effects.Opens long) = refl
+
+-- a step that was taken
+step_was : (buf : List ℕ) (d : Cursor) (f : declared.Effect) (r : Option (Cursor × Effect)) → Some (d, f) ≡ option_map (step_seen buf) r
+    → (e : Effect) × (r ≡ Some (d, e)) × (effect_seen buf e ≡ f)
+step_was buf d f None is = absurd cc
+step_was buf d f (Some (d', e)) is =
+    let same : (d, f) ≡ (d', effect_seen buf e) = cc in
+    (e, ap (λ (k : Cursor). Some (k, e)) (sym (ap (λ (p : Cursor × declared.Effect). p.0) same)), sym (ap (λ (p : Cursor × declared.Effect). p.1) same))
+
+-- what is given behind the token at the front
+pub given_next : (buf : List ℕ) (s : State) (d : Cursor) (xs : List ℕ) (t : Token) (n : ℕ) (f : declared.Effect) → 0 < length xs → is_blank (get_or xs 0 0) ≡ false
+    → Some (t, n) ≡ token_at xs → Some (d, f) ≡ option_map (step_seen buf) (step s.cursor t)
+    → given buf s 0 xs ≡ given buf (state_taken s d f) 0 (drop (1 + n) xs)
+given_next buf s d [] t n f some dark is-t is-s = absurd (omega arith)
+given_next buf s d (x ∷ xs) t n f some dark is-t is-s =
+    let was = step_was buf d f (step s.cursor t) is-s in
+    let one : 1 + n ≡ suc n = omega arith in
+    let first = ap (option_map (rest_seen buf s.any s.last)) (past_token s.cursor d x xs t n was.0 dark (sym is-t) was.1) in
+    let last = map_joined buf s d was.0 (rest_at d 0 (drop n xs)) in
+    let same = ap (λ k. option_map (rest_seen buf (state_taken s d k).any (state_taken s d k).last) (rest_at d 0 (drop n xs))) was.2 in
+    let here = ap (λ k. option_map (rest_seen buf (state_taken s d f).any (state_taken s d f).last) (rest_at k 0 (drop n xs))) (sym (cursor_taken s d f)) in
+    let there = ap (λ k. given buf (state_taken s d f) 0 (drop k (x ∷ xs))) (sym one) in
+    first ∙ last ∙ same ∙ here ∙ there
+
+-- and in the end
+pub given_ended : (buf : List ℕ) (s : State) → s.cursor.wanted ≡ More → given buf s 0 [] ≡ Some (s.any || s.last)
+given_ended buf s is = ap (λ w. option_map (rest_seen buf s.any s.last) (ended w)) is ∙ ap (λ (b : Bool). Some b) (no_more s.any s.last)
+  where
+    no_more : (a l : Bool) → ((a || (l && true)) || false) ≡ (a || l)
+    no_more true l = refl
+    no_more false true = refl
+    no_more false false = refl
+
+-- a signature that begins here
+pub given_start : (buf xs : List ℕ) → given buf (state start false false) 0 (behind_blanks xs) ≡ option_map (λ alternatives. signature.accepts alternatives buf) (alternatives_of xs)
+given_start buf xs = ap (option_map (rest_seen buf false false)) (past_blanks start xs) ∙ whole (rest_at start 0 xs)
+  where
+    whole : (r : Option Rest) → option_map (rest_seen buf false false) r ≡ option_map (λ alternatives. signature.accepts alternatives buf) (option_map (λ rest. rest.alternatives) r)
+    whole None = refl
+    whole (Some r) = refl
+
+-- blanks behind a token
+pub given_blanks : (buf : List ℕ) (s : State) (xs : List ℕ) → given buf s 0 (behind_blanks xs) ≡ given buf s 0 xs
+given_blanks buf s xs = ap (option_map (rest_seen buf s.any s.last)) (past_blanks s.cursor xs)

@@ -1,0 +1,27 @@
+use Rattle.std.proofs.Common.{option_map, drop, length, ap, sym, ◌∙◌}
+use Rattle.std.proofs.lemmas.Result.{err_from_is_err_and}
+use Rattle.infer_sig.specs.Signature.{text}
+use Rattle.infer_notation.specs.Fixed.{step_seen, within, word_part}
+use Rattle.infer_notation.specs.Words.{bytes_of, hex_seen}
+use Rattle.infer_notation.proofs.FixedLemmas.{none_read, text_is}
+use Rattle.infer_notation.proofs.fixed.word_part.Goals as goal
+
+pub returns-in_err-read-in-None : goal.returns-in_err-read-in-None
+returns-in_err-read-in-None c =
+    let at = c.args.cursor in
+    let w = c.args.word.now in
+    let p = err_from_is_err_and c.from_residual.result c.from_residual.ensures.1 in
+    let no_range = sym c.range.ensures ∙ c.in-None.is in
+    let none = ap (λ b. option_map (hex_seen b) (bytes_of w)) (sym c.from.ensures) ∙ sym c.in_err-read-in-None.ensures in
+    rw (p.1) (sym (ap (λ r. option_map (step_seen c.args.buf.now) (word_part at.least at.place w r)) no_range
+    ∙ none_read (hex_seen (drop at.place c.args.buf.now)) (λ xs. within at.least at.place (length xs) (text at.place xs)) (step_seen c.args.buf.now) (bytes_of w) none))
+
+pub returns-in_ok-read-in-None : goal.returns-in_ok-read-in-None
+returns-in_ok-read-in-None c =
+    let at = c.args.cursor in
+    let w = c.args.word.now in
+    let no_range = sym c.range.ensures ∙ c.in-None.is in
+    let some = ap (λ b. option_map (hex_seen b) (bytes_of w)) (sym c.from.ensures) ∙ sym c.in_ok-read-in-None.ensures in
+    c.within-in-None.ensures
+    ∙ sym (ap (λ r. option_map (step_seen c.args.buf.now) (word_part at.least at.place w r)) no_range
+    ∙ text_is at.least at.place c.args.buf.now c.in_ok-read-in-None.read (bytes_of w) some)

@@ -1,0 +1,54 @@
+-- The grammar of fixed signatures, over their tokens.
+use Rattle.std.specs.Prelude.{◌≡◌, ◌+◌, ◌≤◌, ℕ, zero, suc, List, [], ◌∷◌, ◌++◌, Option, None, Some, codes, length, option_map, if◌then◌else◌}
+use Rattle.infer_sig.specs.Signature.{Alternative, Part, all_but, any_of, at_least, between, byte, text}
+use Rattle.infer_notation.specs.Fixed.{range_of}
+use Rattle.infer_notation.specs.Tokens.{Token, bare, mark, quoted, set, token_at}
+use Rattle.infer_notation.specs.Words.{◌>>=◌, byte_of, bytes_of, is_blank, number_of}
+
+-- the tokens of a text, after some bytes of one that was read already
+abbrev pub tokens_at : ℕ → List ℕ → Option (List Token)
+tokens_at read [] = Some []
+tokens_at (suc read) (x ∷ xs) = tokens_at read xs
+tokens_at zero (x ∷ xs) =
+    if is_blank x then tokens_at zero xs else (token_at (x ∷ xs) >>= λ t. option_map (λ ts. t.0 ∷ ts) (tokens_at t.1 xs))
+
+-- blanks may stand before each, and each is as long as it can be
+abbrev pub tokens_of : List ℕ → Option (List Token)
+tokens_of t = tokens_at 0 t
+
+-- what is asked of the bytes from a place on: the part, how many bytes it takes, and the tokens that say so
+pub data IsPiece : ℕ → List Token → Part → ℕ → Type 0 where
+  a_text : (p : ℕ) (xs : List ℕ) → IsPiece p (quoted xs ∷ []) (text p xs) (length xs)
+  some_bytes : (p : ℕ) (w xs : List ℕ) → range_of w ≡ None → bytes_of w ≡ Some xs → IsPiece p (bare w ∷ []) (text p xs) (length xs)
+  a_range : (p : ℕ) (w : List ℕ) (low high : ℕ) → range_of w ≡ Some (low, high) → low ≤ high → IsPiece p (bare w ∷ []) (byte p (between low high)) 1
+  a_set : (p : ℕ) (digits : List ℕ) (x : ℕ) (xs : List ℕ) → bytes_of digits ≡ Some (x ∷ xs) → IsPiece p (set digits ∷ []) (byte p (any_of (x ∷ xs))) 1
+  another : (p : ℕ) (w : List ℕ) (x : ℕ) → byte_of w ≡ Some x → IsPiece p (bare (codes "not") ∷ bare w ∷ []) (byte p (all_but x)) 1
+
+-- what a signature is made of: alternatives; parts, pieces and what follows a piece, in an alternative of a least length
+-- from a place on
+pub data Symbol : Type 0 where
+  signature : Symbol
+  parts : ℕ → ℕ → Symbol
+  pieces : ℕ → ℕ → Symbol
+  rest : ℕ → ℕ → Symbol
+
+-- The tokens are one of that symbol, which adds these parts to the alternative that is open, and these alternatives.
+--     signature  is  NUMBER ":" parts
+--     parts      is  "@" NUMBER pieces, from no place before the end of the part before it
+--     pieces     is  a piece within the least length, and a rest
+--     rest       is  nothing, or pieces, or "," parts, or "or" signature
+pub data Derives : Symbol → List Token → List Part → List Alternative → Type 0 where
+  opened : (w : List ℕ) (n : ℕ) (ts : List Token) (ps : List Part) (ys : List Alternative) → number_of w ≡ Some n → Derives (parts n 0) ts ps ys
+      → Derives signature (bare w ∷ mark 0x3A ∷ ts) [] (at_least n ps ∷ ys)
+  placed : (n p : ℕ) (w : List ℕ) (q : ℕ) (ts : List Token) (ps : List Part) (ys : List Alternative) → number_of w ≡ Some q → p ≤ q → Derives (pieces n q) ts ps ys
+      → Derives (parts n p) (mark 0x40 ∷ bare w ∷ ts) ps ys
+  asked : (n p : ℕ) (written : List Token) (part : Part) (size : ℕ) (ts : List Token) (ps : List Part) (ys : List Alternative) → IsPiece p written part size → p + size ≤ n
+      → Derives (rest n (p + size)) ts ps ys → Derives (pieces n p) (written ++ ts) (part ∷ ps) ys
+  ended : (n p : ℕ) → Derives (rest n p) [] [] []
+  more : (n p : ℕ) (ts : List Token) (ps : List Part) (ys : List Alternative) → Derives (pieces n p) ts ps ys → Derives (rest n p) ts ps ys
+  comma : (n p : ℕ) (ts : List Token) (ps : List Part) (ys : List Alternative) → Derives (parts n p) ts ps ys → Derives (rest n p) (mark 0x2C ∷ ts) ps ys
+  other : (n p : ℕ) (ts : List Token) (ys : List Alternative) → Derives signature ts [] ys → Derives (rest n p) (bare (codes "or") ∷ ts) [] ys
+
+-- the text describes the alternatives
+abbrev pub IsSignature : List ℕ → List Alternative → Type 0
+IsSignature t ys = (ts : List Token) × (tokens_of t ≡ Some ts) × Derives signature ts [] ys

@@ -1,0 +1,67 @@
+-- The tokens of a signature's text.
+use Rattle.std.specs.Prelude.{◌+◌, ◌-◌, ◌==◌, ◌&&◌, ◌||◌, ℕ, Bool, not, List, [], ◌∷◌, Option, None, Some, nat_lt, slice_index, take, if◌then◌else◌}
+use Rattle.std.specs.Int.{is_in_range}
+use Rattle.std.specs.List.{prefix_len}
+use Rattle.infer_notation.specs.declared.tokens.Run.{Run}
+use Rattle.infer_notation.specs.declared.tokens.Run.TheVariants.{Bare, Quoted, Set}
+use Rattle.infer_notation.specs.declared.tokens.Token as tokens
+use Rattle.infer_notation.specs.declared.tokens.Token.TheVariants as listed
+
+-- the bytes between quotes or braces, a mark, or a bare word
+pub data Token : Type 0 where
+  quoted : List ℕ → Token
+  set : List ℕ → Token
+  mark : ℕ → Token
+  bare : List ℕ → Token
+
+abbrev pub token_listed : tokens.Token → Token
+token_listed (listed.Quoted text) = quoted text.now
+token_listed (listed.Set digits) = set digits.now
+token_listed (listed.Mark byte) = mark byte
+token_listed (listed.Word word) = bare word.now
+
+-- commas, colons and "@"
+abbrev pub is_mark : ℕ → Bool
+is_mark x = x == 0x2C || x == 0x3A || x == 0x40
+
+-- printable ASCII
+abbrev pub is_printable : ℕ → Bool
+is_printable x = is_in_range 0x20 0x7E x
+
+-- what a bare word is made of, a quoted text, and what stands between braces
+abbrev pub is_of : Run → ℕ → Bool
+is_of Bare x = is_in_range 0x21 0x7E x && not (x == 0x22 || x == 0x7B || x == 0x7D || is_mark x)
+is_of Quoted x = is_printable x && not (x == 0x22)
+is_of Set x = not (x == 0x7D)
+
+-- a quoted text behind its first quote, and how many bytes it takes there
+abbrev pub quoted_at : List ℕ → Option (Token × ℕ)
+quoted_at xs =
+    let n = prefix_len (is_of Quoted) xs in
+    if nat_lt 0 n && slice_index xs n == 0x22 then Some (quoted (take n xs), n + 1) else None
+
+-- a set behind its brace
+abbrev pub set_at : List ℕ → Option (Token × ℕ)
+set_at xs =
+    let n = prefix_len (is_of Set) xs in
+    if slice_index xs n == 0x7D then Some (set (take n xs), n + 1) else None
+
+-- a bare word, and how many bytes it takes behind its first
+abbrev pub bare_at : List ℕ → Option (Token × ℕ)
+bare_at xs =
+    let n = prefix_len (is_of Bare) xs in
+    if nat_lt 0 n then Some (bare (take n xs), n - 1) else None
+
+-- the token at the front, and how many bytes it takes behind its first
+abbrev pub token_from : ℕ → List ℕ → Option (Token × ℕ)
+token_from x xs =
+    if x == 0x22 then quoted_at xs
+    else (if x == 0x7B then set_at xs
+    else (if is_mark x then Some (mark x, 0) else bare_at (x ∷ xs)))
+
+unfoldable pub token_at : List ℕ → Option (Token × ℕ)
+token_at [] = None
+token_at (x ∷ xs) = token_from x xs
+
+abbrev pub pair_listed : tokens.Token × ℕ → Token × ℕ
+pair_listed t = (token_listed t.0, t.1)

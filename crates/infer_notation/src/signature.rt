@@ -1,0 +1,88 @@
+//! Signatures as a text writes them, asked of a buffer while they are read.
+ghost use Rattle.std.specs.Prelude.{◌≡◌, ◌+◌, ◌<◌, IfErr, IfOk, None, drop, false, length, option_map, slice_index};
+ghost use Rattle.infer_sig.specs.Signature as signature;
+ghost use Rattle.infer_notation.specs.Fixed.{alternatives_of, given, state_taken};
+ghost use Rattle.infer_notation.specs.Words.{found_by, is_blank};
+
+use crate::fixed::{Cursor, Effect, Wanted, step};
+use crate::reason::{Flaw, Reason};
+use crate::tokens::token_at;
+use crate::words::{behind_first, from, skip_blanks};
+
+/// How far a signature was read, whether the buffer fits an alternative before the last one, and whether it has what was
+/// read of the last one.
+#[derive(Clone, Copy)]
+struct State {
+    cursor: Cursor,
+    any: bool,
+    last: bool,
+}
+
+/// Whether the buffer fits an alternative of the signature that the text describes.
+pub fn accepts(text: &[u8], buf: &[u8]) -> Result<bool, Flaw>
+    ensures { found_by result ≡ option_map (λ alternatives. signature.accepts alternatives buf.now) (alternatives_of text.now) }
+{
+    let mut state = State {
+        cursor: Cursor {
+            wanted: Wanted::Length,
+            least: 0,
+            place: 0,
+        },
+        any: false,
+        last: false,
+    };
+    let mut rest = skip_blanks(text);
+    while !rest.is_empty() {
+        match next(state, rest, buf) {
+            Ok((more, count)) => {
+                state = more;
+                rest = skip_blanks(from(behind_first(rest), count));
+            }
+            Err(reason) => {
+                return Err(Flaw {
+                    reason,
+                    left: rest.len(),
+                });
+            }
+        }
+    }
+    match state.cursor.wanted {
+        Wanted::More => Ok(state.any || state.last),
+        _ => Err(Flaw {
+            reason: Reason::End,
+            left: 0,
+        }),
+    }
+}
+
+/// The state behind the token at the front, and how many bytes it takes behind its first.
+fn next(state: State, text: &[u8], buf: &[u8]) -> Result<(State, usize), Reason>
+    requires some { 0 < length text.now }
+    requires no_blank { is_blank (slice_index text.now 0) ≡ false }
+    ensures found { IfOk result (λ n. given buf.now state 0 text.now ≡ given buf.now n.0 0 (drop (1 + n.1) text.now)) }
+    ensures bound { IfOk result (λ n. n.1 < length text.now) }
+    ensures none { IfErr result (λ e. given buf.now state 0 text.now ≡ None) }
+{
+    let (token, count) = token_at(text)?;
+    let (cursor, effect) = step(state.cursor, token, buf)?;
+    Ok((taken(state, cursor, effect), count))
+}
+
+/// The state with what a token adds.
+fn taken(state: State, cursor: Cursor, effect: Effect) -> State
+    ensures { result ≡ state_taken state cursor effect }
+{
+    match effect {
+        Effect::Nothing => State { cursor, ..state },
+        Effect::Has(has) => State {
+            cursor,
+            any: state.any,
+            last: state.last && has,
+        },
+        Effect::Opens(opens) => State {
+            cursor,
+            any: state.any || state.last,
+            last: opens,
+        },
+    }
+}

@@ -1,0 +1,114 @@
+//! The tokens of a signature's text.
+ghost use Rattle.std.specs.Prelude.{◌≡◌, ◌<◌, ◌≤◌, ◌+◌, ◌-◌, ◌∷◌, IfOk, drop, length, option_map};
+ghost use Rattle.std.specs.List.{prefix_len};
+ghost use Rattle.infer_notation.specs.Tokens.{bare_at, is_mark, is_of, pair_listed, quoted_at, set_at, token_at};
+ghost use Rattle.infer_notation.specs.Words.{found_by};
+
+use crate::reason::Reason;
+
+/// What stands between quotes or braces, a mark, or a bare word.
+#[derive(Clone, Copy)]
+pub enum Token<'a> {
+    Quoted(&'a [u8]),
+    Set(&'a [u8]),
+    Mark(u8),
+    Word(&'a [u8]),
+}
+
+/// What a run of bytes is of.
+#[derive(Clone, Copy)]
+enum Run {
+    Bare,
+    Quoted,
+    Set,
+}
+
+/// The token at the front of a text, and how many bytes it takes behind its first.
+#[tactic(auto, unfolding(crate::specs::Tokens::token_at))]
+pub fn token_at(text: &[u8]) -> Result<(Token<'_>, usize), Reason>
+    ensures value { option_map pair_listed (found_by result) ≡ token_at text.now }
+    ensures bound { IfOk result (λ t. t.1 < length text.now) }
+{
+    match text {
+        [] => Err(Reason::End),
+        [b'"', behind @ ..] => quoted_at(behind),
+        [b'{', behind @ ..] => set_at(behind),
+        [mark, ..] if is_mark(*mark) => Ok((Token::Mark(*mark), 0)),
+        _ => bare_at(text),
+    }
+}
+
+/// A quoted text behind its first quote, and how many bytes it takes there.
+fn quoted_at(text: &[u8]) -> Result<(Token<'_>, usize), Reason>
+    ensures value { option_map pair_listed (found_by result) ≡ quoted_at text.now }
+    ensures bound { IfOk result (λ t. t.1 ≤ length text.now) }
+{
+    let n = run_len(Run::Quoted, text);
+    if n == text.len() {
+        return Err(Reason::OpenQuote);
+    }
+    if text[n] != b'"' {
+        return Err(Reason::Byte);
+    }
+    if n == 0 {
+        return Err(Reason::Empty);
+    }
+    Ok((Token::Quoted(&text[..n]), n + 1))
+}
+
+/// A set behind its brace, and how many bytes it takes there.
+fn set_at(text: &[u8]) -> Result<(Token<'_>, usize), Reason>
+    ensures value { option_map pair_listed (found_by result) ≡ set_at text.now }
+    ensures bound { IfOk result (λ t. t.1 ≤ length text.now) }
+{
+    let n = run_len(Run::Set, text);
+    if n == text.len() || text[n] != b'}' {
+        return Err(Reason::OpenSet);
+    }
+    Ok((Token::Set(&text[..n]), n + 1))
+}
+
+/// A bare word, and how many bytes it takes behind its first.
+fn bare_at(text: &[u8]) -> Result<(Token<'_>, usize), Reason>
+    ensures value { option_map pair_listed (found_by result) ≡ bare_at text.now }
+    ensures bound { IfOk result (λ t. t.1 < length text.now) }
+{
+    let n = run_len(Run::Bare, text);
+    if n == 0 {
+        return Err(Reason::Byte);
+    }
+    Ok((Token::Word(&text[..n]), n - 1))
+}
+
+/// How many bytes at the front of the text are of the run.
+fn run_len(run: Run, text: &[u8]) -> usize
+    ensures value { result ≡ prefix_len (is_of run) text.now }
+    ensures bound { result ≤ length text.now }
+{
+    for at in 0..text.len() {
+        if !is_of(run, text[at]) {
+            return at;
+        }
+    }
+    text.len()
+}
+
+fn is_of(run: Run, byte: u8) -> bool
+    ensures { result ≡ is_of run byte }
+{
+    match run {
+        Run::Bare => {
+            byte > b' '
+                && byte < 0x7F
+                && !(byte == b'"' || byte == b'{' || byte == b'}' || is_mark(byte))
+        }
+        Run::Quoted => byte >= b' ' && byte < 0x7F && byte != b'"',
+        Run::Set => byte != b'}',
+    }
+}
+
+fn is_mark(byte: u8) -> bool
+    ensures { result ≡ is_mark byte }
+{
+    byte == b',' || byte == b':' || byte == b'@'
+}
