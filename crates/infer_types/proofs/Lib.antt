@@ -1,0 +1,4 @@
+pub mod LineLemmas
+pub mod RowLemmas
+pub mod FieldLemmas
+pub mod NameLemmas

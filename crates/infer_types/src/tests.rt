@@ -1,0 +1,112 @@
+use super::*;
+use std::test::*;
+
+const TEXT: &[u8] = b"# extension MIME type class parent signature\r
+qoi   image/qoi          image - 14: @0 \"qoif\"\r
+\t
+myapp application/x-my   app zip 42: @30 \"manifest.my\" or 4: @2 03 04
+both  image/x-both       image - 8: @0 {01 02} 10..1F, @4 not 00";
+
+fn mime<'a>(types: &Types<'a>, buf: &[u8]) -> &'a str {
+    match types.get(buf) {
+        Some(found) => found.mime_type(),
+        None => "-",
+    }
+}
+
+#[test]
+fn answers(rt: HostRuntime) -> Result<(), Fail> {
+    let types = Types::new(TEXT).ok().ok_or("it describes types")?;
+    for (buf, wanted) in [
+        (b"qoif\0\0\0\0\0\0\0\0\0\0".as_slice(), "image/qoi"),
+        (b"qoif\0\0\0\0\0\0\0\0\0".as_slice(), "-"),
+        (b"PK\x03\x04".as_slice(), "application/x-my"),
+        (b"\x01\x10\0\0\x01\0\0\0".as_slice(), "image/x-both"),
+        (b"\x03\x10\0\0\x01\0\0\0".as_slice(), "-"),
+        (b"\x02\x20\0\0\x01\0\0\0".as_slice(), "-"),
+        (b"\x02\x1F\0\0\0\0\0\0".as_slice(), "-"),
+        (b"{\"a\": 1}".as_slice(), "application/json"),
+    ] {
+        assert_eq!(rt; mime(&types, buf), wanted);
+    }
+    Ok(())
+}
+
+#[test]
+fn mistakes(rt: HostRuntime) {
+    for (text, reason, line, column) in [
+        (b"a b".as_slice(), Reason::MimeType, 1, 3),
+        (b"\na".as_slice(), Reason::Fields, 2, 2),
+        (
+            b"a b/c image - 1: @0 \"x".as_slice(),
+            Reason::OpenQuote,
+            1,
+            21,
+        ),
+        (b"a b/c imago - 1: @0 00".as_slice(), Reason::Class, 1, 7),
+        (
+            b"a b/c image nope 1: @0 00".as_slice(),
+            Reason::Parent,
+            1,
+            13,
+        ),
+        (b"a b/c image - 1: @1 00".as_slice(), Reason::Past, 1, 21),
+        (
+            b"a b/c image - 9: @1 00 00, @2 00".as_slice(),
+            Reason::Overlap,
+            1,
+            29,
+        ),
+        (
+            b"a b/c image - 99999999999999999999: @0 00".as_slice(),
+            Reason::Length,
+            1,
+            15,
+        ),
+        (b"a b/c image - 9: @0".as_slice(), Reason::End, 1, 20),
+        (
+            b"\xEF\xBB\xBFa b/c image - 1: @0 00".as_slice(),
+            Reason::Extension,
+            1,
+            1,
+        ),
+        (b"a b/c image - 1: @0 00\0".as_slice(), Reason::Byte, 1, 23),
+        (
+            b"a b/c image - 1: @0 {00".as_slice(),
+            Reason::OpenSet,
+            1,
+            21,
+        ),
+        (
+            b"a b/c image - 1: @0 1F..10".as_slice(),
+            Reason::Range,
+            1,
+            21,
+        ),
+        (
+            b"a b/c image - 1: @0 not 0".as_slice(),
+            Reason::Digits,
+            1,
+            25,
+        ),
+    ] {
+        match Types::new(text) {
+            Ok(_) => assert!(rt; false),
+            Err(mistake) => {
+                assert_eq!(rt; mistake.reason, reason);
+                assert_eq!(rt; (mistake.line, mistake.column), (line, column));
+            }
+        }
+    }
+}
+
+#[test]
+fn rows(rt: HostRuntime) -> Result<(), Fail> {
+    let mut rows = Types::new(TEXT).ok().ok_or("it describes types")?.rows();
+    for wanted in ["qoi", "myapp", "both"] {
+        let found = rows.next_row().ok_or("there is a row")?;
+        assert_eq!(rt; found.extension(), wanted);
+    }
+    assert!(rt; rows.next_row().is_none());
+    Ok(())
+}

@@ -1,0 +1,187 @@
+//! Types that a text describes.
+ghost use Rattle.std.specs.Prelude.{◌≡◌, ◌+◌, IfErr, IfOk, IsTrue, List, Some, is_ok, is_some, option_map};
+ghost use Rattle.infer_more.specs.Wider.{IsWiderAnswer};
+ghost use Rattle.infer_types.specs.Line.{Row};
+ghost use Rattle.infer_types.specs.Text.{Answers, IsFirstShown, IsNextRow, IsTypesAnswer, found_shows, lines_before_mistake, lines_of, rows_left, rows_of};
+
+use crate::line::{answer_of, check, row_shown};
+use crate::lines::next_line;
+use infer::MatcherType;
+use infer_notation::{Flaw, Reason};
+
+/// A type that was found: a class, a MIME type and an extension.
+#[derive(Clone, Copy)]
+pub struct Found<'a> {
+    pub(crate) matcher_type: MatcherType,
+    pub(crate) mime_type: &'a str,
+    pub(crate) extension: &'a str,
+}
+
+/// What is wrong with a text, and where: the line and the column, both from 1. A column counts bytes.
+#[derive(Clone, Copy, Debug)]
+pub struct Mistake {
+    pub reason: Reason,
+    pub line: usize,
+    pub column: usize,
+}
+
+/// Types that a text describes.
+#[derive(Clone, Copy)]
+pub struct Types<'a> {
+    text: &'a [u8],
+    ghost described: { IsTrue (is_some (rows_of text.now)) },
+}
+
+impl<'a> Found<'a> {
+    pub fn matcher_type(&self) -> MatcherType
+        ensures { result ≡ (found_shows self.now).class }
+    {
+        self.matcher_type
+    }
+
+    pub fn mime_type(&self) -> &'a str
+        ensures { result.now ≡ (found_shows self.now).mime_type }
+    {
+        self.mime_type
+    }
+
+    /// The extension, without a dot.
+    pub fn extension(&self) -> &'a str
+        ensures { result.now ≡ (found_shows self.now).extension }
+    {
+        self.extension
+    }
+}
+
+impl<'a> Types<'a> {
+    /// The types that the text describes, and the first mistake exactly if it describes none.
+    pub fn new(text: &'a [u8]) -> Result<Types<'a>, Mistake>
+        ensures described { is_ok result ≡ is_some (rows_of text.now) }
+        ensures text { IfOk result (λ types. types.text.now ≡ text.now) }
+        // The mistake is in the first line that describes neither a type nor none.
+        ensures line { IfErr result (λ mistake. mistake.line ≡ lines_before_mistake (lines_of text.now) + 1) }
+    {
+        check_lines(text)?;
+        Ok(Types { text })
+    }
+
+    /// The rows of the text, from the first on.
+    pub fn rows(&self) -> Rows<'a>
+        ensures { option_map (λ text. text.now) result.rest ≡ Some self.now.text.now }
+    {
+        Rows {
+            rest: Some(self.text),
+        }
+    }
+
+    /// What the first row shows that is asked below the built-in answer of the buffer and accepts it, and the wider
+    /// answer if there is none.
+    pub fn get(&self, buf: &[u8]) -> Option<Found<'a>>
+        ensures { (rows : List Row) → rows_of self.now.text.now ≡ Some rows
+            → IsTypesAnswer rows buf.now (option_map found_shows result) }
+    {
+        get(self.text, buf)
+    }
+}
+
+/// The rows that are left of a text, each as what it shows.
+#[derive(Clone, Copy)]
+pub struct Rows<'a> {
+    rest: Option<&'a [u8]>,
+}
+
+impl<'a> Rows<'a> {
+    /// What the next row shows, and `None` if none is left.
+    pub fn next_row(&mut self) -> Option<Found<'a>>
+        ensures { (rows : List Row) → rows_left (option_map (λ text. text.now) self.old.rest) ≡ Some rows
+            → IsNextRow rows (option_map found_shows result) (rows_left (option_map (λ text. text.now) self.new.rest)) }
+    {
+        while let Some(text) = self.rest {
+            let (line, behind) = next_line(text);
+            self.rest = behind;
+            if let Some(found) = row_shown(line) {
+                return Some(found);
+            }
+        }
+        None
+    }
+}
+
+/// What the first row of the text shows that is asked below the built-in answer of the buffer and accepts it, and the
+/// wider answer if there is none.
+pub fn get<'a>(text: &'a [u8], buf: &[u8]) -> Option<Found<'a>>
+    ensures { (rows : List Row) → rows_of text.now ≡ Some rows → IsTypesAnswer rows buf.now (option_map found_shows result) }
+{
+    let parent = infer::get(buf);
+    let extension = match parent {
+        Some(parent) => Some(parent.extension().as_bytes()),
+        None => None,
+    };
+    match find(text, extension, buf) {
+        Some(found) => Some(found),
+        None => wider(buf),
+    }
+}
+
+/// The wider answer.
+fn wider<'a>(buf: &[u8]) -> Option<Found<'a>>
+    ensures { IsWiderAnswer buf.now (option_map found_shows result) }
+{
+    match infer_more::get(buf) {
+        Some(found) => Some(Found {
+            matcher_type: found.matcher_type(),
+            mime_type: found.mime_type(),
+            extension: found.extension(),
+        }),
+        None => None,
+    }
+}
+
+/// What the first row of the text shows that is asked below the built-in answer with this extension, or none, and accepts
+/// the buffer.
+fn find<'a>(text: &'a [u8], extension: Option<&[u8]>, buf: &[u8]) -> Option<Found<'a>>
+    ensures { (rows : List Row) → rows_of text.now ≡ Some rows
+        → IsFirstShown (Answers (option_map (λ e. e.now) extension.entry) buf.now) rows (option_map found_shows result) }
+{
+    let mut rest = text;
+    loop {
+        let (line, behind) = next_line(rest);
+        if let Some(found) = answer_of(line, extension, buf) {
+            return Some(found);
+        }
+        match behind {
+            Some(more) => rest = more,
+            None => return None,
+        }
+    }
+}
+
+/// Whether each line of the text describes a type or none, and else the first mistake.
+fn check_lines(text: &[u8]) -> Result<(), Mistake>
+    ensures described { is_ok result ≡ is_some (rows_of text.now) }
+    ensures line { IfErr result (λ mistake. mistake.line ≡ lines_before_mistake (lines_of text.now) + 1) }
+{
+    let mut rest = text;
+    let mut number = 1;
+    loop {
+        let (line, behind) = next_line(rest);
+        if let Err(flaw) = check(line) {
+            return Err(placed(line, number, flaw));
+        }
+        match behind {
+            Some(more) => rest = more,
+            None => return Ok(()),
+        }
+        number += 1;
+    }
+}
+
+fn placed(line: &[u8], number: usize, flaw: Flaw) -> Mistake
+    ensures { result.line ≡ number }
+{
+    Mistake {
+        reason: flaw.reason,
+        line: number,
+        column: line.len() - flaw.left.min(line.len()) + 1,
+    }
+}
