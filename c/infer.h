@@ -130,6 +130,22 @@ void infer_find_class_name(int32_t class_code, struct infer_text *out);
 #define INFER_SAMPLE_SIZE 1088
 size_t infer_sample(int32_t row, void *out, size_t size);
 
+/* TYPES OF YOUR OWN, in a text: a line a type, as in
+ *     qoi  image/qoi  image  -  14: @0 "qoif"
+ * docs/NOTATION.md has the notation. Neither call allocates or keeps the text.
+ *
+ * 0 if the text describes types, and else the length of the reason why not, at most 73, which is written to `reason` as
+ * infer_mime_type writes its text. `line` and `column`, both from 1, tell where, and are 0 if it does. A column counts
+ * bytes. Neither may be null. */
+size_t infer_types_check(const void *text, size_t text_len, size_t *line, size_t *column, char *reason, size_t size);
+
+/* The class of the buffer's type, one of `enum infer_class_code`, and INFER_NO_ROW if it has none. The type is that of the
+ * first line whose parent is the built-in answer and whose signature accepts the buffer, and the wider answer if there is
+ * none. Its MIME type and extension are written as infer_mime_type writes them: 256 bytes are room for the one, and 128
+ * for the other. The text has to be one for which infer_types_check gives 0: of any other the call is safe, and its answer
+ * means nothing. */
+int32_t infer_types_get(const void *text, size_t text_len, const void *buf, size_t len, char *mime_type, size_t mime_type_size, char *extension, size_t extension_size);
+
 /* Whether some built-in row with this extension or MIME type accepts the buffer. It need not be the answer. */
 bool infer_is(const void *buf, size_t len, const char *extension, size_t extension_len);
 bool infer_is_mime(const void *buf, size_t len, const char *mime_type, size_t mime_type_len);

@@ -247,6 +247,30 @@ static void samples(void) {
     same("sample of no row", (long)infer_sample(last_of_all() + 1, out, sizeof out), 0);
 }
 
+/* Types that a text describes. */
+static void types(void) {
+    static const char text[] = "# mine\r\nqoi image/qoi image - 14: @0 \"qoif\"\r\nmyapp application/x-my app zip 42: @30 \"manifest.my\"";
+    char buf[42] = "qoif", reason[80], mime_type[256], extension[128];
+    size_t line = 9, column = 9;
+    same("a text of types", (long)infer_types_check(text, sizeof text - 1, &line, &column, reason, sizeof reason), 0);
+    same("its line", (long)line, 0);
+    same("its column", (long)column, 0);
+    same("class", infer_types_get(text, sizeof text - 1, buf, 14, mime_type, sizeof mime_type, extension, sizeof extension), INFER_IMAGE);
+    same("MIME type", strcmp(mime_type, "image/qoi"), 0);
+    same("extension", strcmp(extension, "qoi"), 0);
+    same("too short", infer_types_get(text, sizeof text - 1, buf, 13, mime_type, sizeof mime_type, extension, sizeof extension), INFER_NO_ROW);
+    memcpy(buf, "PK\3\4", 4);
+    memcpy(buf + 30, "manifest.my", 11);
+    same("below zip", infer_types_get(text, sizeof text - 1, buf, 42, mime_type, 5, NULL, 0), INFER_APP);
+    same("cut", strcmp(mime_type, "appl"), 0);
+    same("no text", infer_types_get(NULL, 0, "\377\330\377", 3, mime_type, sizeof mime_type, extension, sizeof extension), INFER_IMAGE);
+    static const char open[] = "\nqoi image/qoi image - 14: @0 \"qoif";
+    same("a mistake", (long)infer_types_check(open, sizeof open - 1, &line, &column, reason, sizeof reason), 19);
+    same("its reason", strcmp(reason, "quotes do not close"), 0);
+    same("its line", (long)line, 2);
+    same("its column", (long)column, 30);
+}
+
 static void questions(void) {
     same("is jpg", infer_is(JPEG, "jpg", 3), true);
     same("is JPG", infer_is(JPEG, "JPG", 3), false);
@@ -305,6 +329,7 @@ int main(void) {
     encodings();
     classes();
     samples();
+    types();
     questions();
     tests();
     warnings();

@@ -2,7 +2,7 @@
 //! them. A text from C is bytes: one that is not UTF-8 is no row's text.
 #![tactic(auto)]
 
-ghost use Rattle.std.specs.Prelude.{◌≡◌, ◌↔◌, ◌≤◌, ℕ, List, Option, None, [], IsTrue, codes, length, negsuc};
+ghost use Rattle.std.specs.Prelude.{◌≡◌, ◌↔◌, ◌+◌, ◌≤◌, ℕ, List, Option, None, Some, [], IsTrue, codes, is_some, length, negsuc};
 ghost use Rattle.std.specs.Option.{option_map_or};
 ghost use Rattle.infer.specs.App.{coff_i386, coff_ia64, coff_x64};
 ghost use Rattle.infer.specs.Signature.{accepts};
@@ -20,6 +20,9 @@ ghost use Rattle.infer_inside.specs.Text.{IsEncodingOf, encoding_name};
 ghost use Rattle.infer_inside.specs.declared.text.Encoding.{Encoding};
 ghost use Rattle.infer_more.specs.Ended.{ended};
 ghost use Rattle.infer_more.specs.Wider.{IsWider, shown};
+ghost use Rattle.infer.specs.Triple.{Triple};
+ghost use Rattle.infer_types.specs.Line.{Row};
+ghost use Rattle.infer_types.specs.Text.{IsTypesAnswer, lines_before_mistake, lines_of, rows_of};
 ghost use Rattle.infer_c.specs.Written.{WritesText, WritesWhole};
 
 mod class;
@@ -244,6 +247,64 @@ pub extern "C" fn infer_version(out: &mut [u8]) -> usize
     ensures written { WritesText (codes "0.1.0") out.old out.new }
 {
     written::write_text(VERSION, out)
+}
+
+/// Whether `text` describes types, as 0, and else the length of the reason, which is written to `reason`. `line` and
+/// `column`, from 1, tell where, and are 0 if it does.
+#[unsafe(no_mangle)]
+pub extern "C" fn infer_types_check(
+    text: &[u8],
+    line: &mut usize,
+    column: &mut usize,
+    reason: &mut [u8],
+) -> usize
+    ensures described { IsTrue (is_some (rows_of text.now)) ↔ (result ≡ 0) }
+    ensures line { ¬ (result ≡ 0) → line.new ≡ lines_before_mistake (lines_of text.now) + 1 }
+    ensures written { (words : List ℕ) × (result ≡ length words) × WritesText words reason.old reason.new }
+    ensures few { result ≤ 73 }
+{
+    match infer_types::Types::new(text) {
+        Ok(_) => {
+            *line = 0;
+            *column = 0;
+            written::write_text("", reason)
+        }
+        Err(mistake) => {
+            *line = mistake.line;
+            *column = mistake.column;
+            written::write_text(mistake.reason.text(), reason)
+        }
+    }
+}
+
+/// The number of the class of what the first row of `text` shows that is asked below the built-in answer of `buf` and
+/// accepts it, and that of the wider answer if there is none, and -1 if that is none too. The MIME type and the extension
+/// are written. Nothing is said if `text` describes no types.
+#[unsafe(no_mangle)]
+pub extern "C" fn infer_types_get(
+    text: &[u8],
+    buf: &[u8],
+    mime_type: &mut [u8],
+    extension: &mut [u8],
+) -> i32
+    ensures { (rows : List Row) → rows_of text.now ≡ Some rows
+        → (t : Option Triple) × IsTypesAnswer rows buf.now t
+        × (result ≡ option_map_or (λ t. class_code t.class) t (negsuc 0))
+        × WritesText (option_map_or (λ t. t.mime_type) t []) mime_type.old mime_type.new
+        × WritesText (option_map_or (λ t. t.extension) t []) extension.old extension.new }
+{
+    match infer_types::get(text, buf) {
+        Some(found) => {
+            written::write_text(found.mime_type(), mime_type);
+            written::write_text(found.extension(), extension);
+            class::code(found.matcher_type())
+        }
+        None => {
+            written::write_text("", mime_type);
+            written::write_text("", extension);
+            -1
+        }
+    }
 }
 
 /// Whether some row with this extension accepts `buf`.

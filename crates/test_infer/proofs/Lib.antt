@@ -4,3 +4,4 @@ pub mod OneLemmas
 pub mod SignaturePairs
 pub mod AnswerPairs
 pub mod WiderPairs
+pub mod TypesLemmas

@@ -1,5 +1,5 @@
 //! Properties of a buffer that the page of definitions shows and no call tells by itself, as functions that tell them.
-ghost use Rattle.std.specs.Prelude.{◌≡◌, ◌↔◌, ◌≤◌, ◌-◌, ◌++◌, ℕ, List, IsTrue, None, Some, codes, length};
+ghost use Rattle.std.specs.Prelude.{◌≡◌, ◌↔◌, [], ◌≤◌, ◌-◌, ◌++◌, ℕ, List, IsTrue, None, Some, codes, length};
 ghost use Rattle.std.specs.List.{HoldsAt};
 ghost use Rattle.infer.specs.Brands.{HasMajor, IsBoxed};
 ghost use Rattle.infer.specs.Buffer.{head};
@@ -30,6 +30,7 @@ ghost use Rattle.infer_sniff.specs.Cases.{Holds};
 ghost use Rattle.infer_sniff.specs.Verdicts.{IsSettled, IsTypeOf, IsVerdict};
 ghost use Rattle.infer_sniff.specs.declared.case.Case.TheVariants.{Space};
 ghost use Rattle.infer_sniff.specs.declared.verdict.Verdict.TheVariants.{SoFar};
+ghost use Rattle.infer_types.specs.Text.{IsTypesAnswer};
 ghost use Rattle.infer_uses.specs.Choices.{IsAgreed, IsChoice};
 ghost use Rattle.infer_uses.specs.Labels.{IsLabel};
 ghost use Rattle.infer_uses.specs.declared.name.Choice.TheVariants.{NameAlone};
@@ -220,6 +221,12 @@ pub fn has_no_wider_answer(buf: &[u8]) -> bool
     ensures { IsTrue result ↔ IsWiderAnswer buf.now None }
 {
     infer_more::get(buf).is_none()
+}
+
+pub fn has_no_answer_of_types(buf: &[u8]) -> bool
+    ensures { IsTrue result ↔ IsTypesAnswer [] buf.now None }
+{
+    infer_types::get(b"", buf).is_none()
 }
 
 pub fn has_no_encoding(buf: &[u8]) -> bool

@@ -4,7 +4,7 @@
 use crate::added::begins_10_11_12;
 use crate::definitions::{
     has_folder_at_30, has_ftyp_at_4, has_head_mz, has_major_heic, has_no_answer_with,
-    has_no_encoding, has_no_row, has_no_wider_answer, has_word_id, is_accepted_by_exe,
+    has_no_answer_of_types, has_no_encoding, has_no_row, has_no_wider_answer, has_word_id, is_accepted_by_exe,
     is_accepted_by_object, is_accepted_by_png, is_boxed, is_changeable, is_exe_by_extension,
     is_first_exe, is_frame, is_held_by_space, is_labelled_png, is_mark, is_object, is_one_by_be32,
     is_one_by_le16, is_one_by_le32, is_program_sh, is_root_svg, is_sample_of_png, is_settled,
@@ -152,6 +152,7 @@ fn answers(rt: HostRuntime) {
         "IsWider buf.now (Some ROW_COUNT)" is_object, b"\x7FELF\0\x01\0\0\0\0\0\0\0\0\0\0\x01\0\0\0\0\0\0\0\0\0\0\0\0\0\0\0\0\0\0\0\0\0\0\0\0\0\0\0\0\0\0\0\0\0\0\0\0", b"\x7FELF\0\x01\0\0\0\0\0\0\0\0\0\0\x01\0";
         "HasAnswer ROW_COUNT buf.now" is_object, b"\x7FELF\0\x01\0\0\0\0\0\0\0\0\0\0\x01\0\0\0\0\0\0\0\0\0\0\0\0\0\0\0\0\0\0\0\0\0\0\0\0\0\0\0\0\0\0\0\0\0\0\0\0", b"\x7FELF\0\x01\0\0\0\0\0\0\0\0\0\0\x01\0";
         "IsWiderAnswer buf.now None" has_no_wider_answer, b"\0", b"\n\r\r\n\0\0\0\0M<+\x1A";
+        "IsTypesAnswer [] buf.now None" has_no_answer_of_types, b"\0", b"\n\r\r\n\0\0\0\0M<+\x1A";
         "IsText" is_text, b"a\tb\n", b"a\0";
         "IsEncodingOf buf.now None" has_no_encoding, b"caf\xE9 ", b"caf\xC3";
         "ShowsExtension" shows_extension, "appimage", "APPIMAGE";
