@@ -27,6 +27,23 @@ static test_of *const tests[] = {
     infer_is_video, infer_is_coff_i386, infer_is_coff_x64, infer_is_coff_ia64,
 };
 
+/* The buffer as a text of types, and asked of the text itself and of one whose only type asks for its first byte. */
+static void ask_types(const void *buf, size_t len) {
+    static const char one[] = "own x/own app - 1: @0 ";
+    char reason[INFER_TEXT_SIZE], mime_type[INFER_TYPES_TEXT_SIZE], extension[INFER_TYPES_TEXT_SIZE], text[sizeof one + 2];
+    size_t line, column, size = infer_types_check(buf, len, &line, &column, reason, sizeof reason);
+    wants(size == strlen(reason) && (size == 0) == (line == 0) && (size == 0) == (column == 0));
+    wants(line <= len + 1 && column <= len + 1);
+    infer_types_get(buf, len, buf, len, mime_type, sizeof mime_type, extension, sizeof extension);
+    int32_t row = infer_position(buf, len), wider = infer_more_position(buf, len);
+    wants(infer_types_get(NULL, 0, buf, len, NULL, 0, extension, sizeof extension) == infer_class(wider));
+    wants(strcmp(extension, infer_extension_text(wider)) == 0);
+    if (len == 0) return;
+    snprintf(text, sizeof text, "%s%02x", one, *(const unsigned char *)buf);
+    wants(infer_types_check(text, strlen(text), &line, &column, NULL, 0) == 0);
+    wants(infer_types_get(text, strlen(text), buf, len, NULL, 0, NULL, 0) == (row < 0 ? INFER_APP : infer_class(wider)));
+}
+
 /* What the calls say of one buffer must agree. */
 static void ask(const void *buf, size_t len) {
     bool is_final;
@@ -53,6 +70,7 @@ static void ask(const void *buf, size_t len) {
     char name[16];
     wants(infer_encoding(buf, len, name, sizeof name) == strlen(name));
     wants(infer_encoding(buf, len, NULL, 0) == strlen(name));
+    ask_types(buf, len);
     infer_is(buf, len, buf, len);
     infer_is_mime(buf, len, buf, len);
     infer_is_supported(buf, len);

@@ -141,9 +141,10 @@ size_t infer_types_check(const void *text, size_t text_len, size_t *line, size_t
 
 /* The class of the buffer's type, one of `enum infer_class_code`, and INFER_NO_ROW if it has none. The type is that of the
  * first line whose parent is the built-in answer and whose signature accepts the buffer, and the wider answer if there is
- * none. Its MIME type and extension are written as infer_mime_type writes them: 256 bytes are room for the one, and 128
- * for the other. The text has to be one for which infer_types_check gives 0: of any other the call is safe, and its answer
- * means nothing. */
+ * none. Its MIME type and extension are written as infer_mime_type writes them: INFER_TYPES_TEXT_SIZE bytes are room for
+ * each. The text has to be one for which infer_types_check gives 0: of any other the call is safe, and its answer means
+ * nothing. */
+#define INFER_TYPES_TEXT_SIZE 256
 int32_t infer_types_get(const void *text, size_t text_len, const void *buf, size_t len, char *mime_type, size_t mime_type_size, char *extension, size_t extension_size);
 
 /* Whether some built-in row with this extension or MIME type accepts the buffer. It need not be the answer. */
