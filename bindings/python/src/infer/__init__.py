@@ -17,7 +17,7 @@ from . import _library
 from ._source import FRONT, Readable, Source, get_bytes
 
 __all__ = [
-    "FRONT", "Readable", "Source", "TYPES", "Type", "add_type", "application_match", "application_matchers", "archive_match",
+    "FRONT", "Readable", "Source", "TYPES", "Type", "Types", "TypesError", "add_type", "application_match", "application_matchers", "archive_match",
     "archive_matchers", "audio_match", "audio_matchers", "document_match", "document_matchers", "encoding", "font_match", "font_matchers",
     "get_bytes", "get_signature_bytes", "get_type", "guess", "guess_extension", "guess_mime", "image_match", "image_matchers",
     "is_app", "is_archive", "is_audio", "is_book", "is_document", "is_extension", "is_extension_supported", "is_font",
@@ -293,3 +293,58 @@ def is_image(obj: Source) -> bool:
 def is_video(obj: Source) -> bool:
     """Whether some film's type accepts the first bytes."""
     return _is_of_class("video", obj)
+
+
+class TypesError(ValueError):
+    """A text that describes no types: `line` and `column`, both from 1, say where its first mistake is, `reason` says what
+    it is, and `path` of which file, if it was loaded."""
+
+    def __init__(self, line: int, column: int, reason: str, path: str | None = None) -> None:
+        super().__init__(line, column, reason, path)
+        self.line, self.column, self.reason, self.path = line, column, reason, path
+
+    def __str__(self) -> str:
+        place = f"line {self.line}, column {self.column}" if self.path is None else f"{self.path}:{self.line}:{self.column}"
+        return f"{place}: {self.reason}"
+
+
+class Types:
+    """Types that a text describes, one a line, in the notation of docs/NOTATION.md:
+
+    >>> types = Types('qoi image/qoi image - 14: @0 "qoif"')
+
+    They are asked before the further types of the library, and those that `add_type` took are not asked."""
+
+    def __init__(self, text: Union[str, bytes]) -> None:
+        if not isinstance(text, (str, bytes)):
+            raise TypeError(f"hand over the text as str or bytes, and not {type(text).__name__}")
+        # A text that is not Unicode can be a remark.
+        self._text = text.encode("utf-8", "surrogatepass") if isinstance(text, str) else text
+        if mistake := _library.types_mistake(self._text):
+            raise TypesError(*mistake)
+
+    @classmethod
+    def load(cls, path: Union[str, os.PathLike[str]]) -> Types:
+        """Those of the text in that file."""
+        with open(path, "rb") as file:
+            text = file.read()
+        try:
+            return cls(text)
+        except TypesError as mistake:
+            raise TypesError(mistake.line, mistake.column, mistake.reason, os.fspath(path)) from None
+
+    def guess(self, obj: Source) -> Type | None:
+        """The first of these types that stands below the built-in answer and accepts the first bytes, the wider answer if
+        there is none, or None."""
+        found = _library.types_get(self._text, get_bytes(obj))
+        return Type(*found) if found else None
+
+    def guess_mime(self, obj: Source) -> str | None:
+        """The MIME type of what `guess` answers, or None."""
+        kind = self.guess(obj)
+        return kind.mime if kind else None
+
+    def guess_extension(self, obj: Source) -> str | None:
+        """The extension of what `guess` answers, or None."""
+        kind = self.guess(obj)
+        return kind.extension if kind else None

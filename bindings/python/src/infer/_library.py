@@ -61,12 +61,33 @@ def verdict(front: bytes) -> tuple[int, bool]:
     return _verdict(front, len(front), ctypes.byref(is_final)), is_final.value
 
 
+_types_check: Callable[..., int] = _declare("infer_types_check", _SIZE, _BUFFER, _SIZE, *[ctypes.POINTER(_SIZE)] * 2, ctypes.c_char_p, _SIZE)
+_types_get: Callable[..., int] = _declare("infer_types_get", _ROW, _BUFFER, _SIZE, _BUFFER, _SIZE, ctypes.c_char_p, _SIZE, ctypes.c_char_p, _SIZE)
+_class_name: Callable[..., int] = _declare("infer_class_name", _SIZE, ctypes.c_int32, ctypes.c_char_p, _SIZE)
+
+
+def types_mistake(text: bytes) -> tuple[int, int, str] | None:
+    """The line and the column of the first mistake, and what it is, or None if the text describes types."""
+    line, column, reason = _SIZE(), _SIZE(), ctypes.create_string_buffer(256)
+    if not _types_check(text, len(text), ctypes.byref(line), ctypes.byref(column), reason, len(reason)):
+        return None
+    return line.value, column.value, reason.value.decode("ascii")
+
+
+def types_get(text: bytes, front: bytes) -> tuple[str, str, str] | None:
+    """The MIME type, the extension and the class of what the types of the text say, or None."""
+    mime_type, extension, name = (ctypes.create_string_buffer(256) for _ in range(3))
+    class_code = _types_get(text, len(text), front, len(front), mime_type, len(mime_type), extension, len(extension))
+    if class_code < 0:
+        return None
+    _class_name(class_code, name, len(name))
+    return mime_type.value.decode("ascii"), extension.value.decode("ascii"), name.value.decode("ascii")
+
+
 def texts() -> tuple[list[tuple[str, str, str]], int, str]:
     """The MIME type, the extension and the class of each row, how many of the rows are built-in, and the version."""
     out = ctypes.create_string_buffer(256)
-    mime_type, extension, class_name = (
-        _declare(name, _SIZE, _ROW, ctypes.c_char_p, _SIZE) for name in ["infer_mime_type", "infer_extension", "infer_class_name"]
-    )
+    mime_type, extension = (_declare(name, _SIZE, _ROW, ctypes.c_char_p, _SIZE) for name in ["infer_mime_type", "infer_extension"])
     class_code = _declare("infer_class", ctypes.c_int32, _ROW)
     built_in, count = _declare("infer_row_count", _SIZE)(), _declare("infer_more_row_count", _SIZE)()
 
@@ -75,5 +96,5 @@ def texts() -> tuple[list[tuple[str, str, str]], int, str]:
         assert size < len(out)
         return out.raw[:size].decode("ascii")
 
-    rows = [(text(mime_type, row), text(extension, row), text(class_name, class_code(row))) for row in range(count)]
+    rows = [(text(mime_type, row), text(extension, row), text(_class_name, class_code(row))) for row in range(count)]
     return rows, built_in, text(_declare("infer_version", _SIZE, ctypes.c_char_p, _SIZE))
