@@ -22,6 +22,24 @@ mod c {
         pub fn infer_extension(row: i32, out: *mut c_char, size: usize) -> usize;
         pub fn infer_class(row: i32) -> i32;
         pub fn infer_encoding(buf: *const c_void, len: usize, out: *mut c_char, size: usize) -> usize;
+        pub fn infer_types_check(
+            text: *const c_void,
+            text_len: usize,
+            line: *mut usize,
+            column: *mut usize,
+            reason: *mut c_char,
+            size: usize,
+        ) -> usize;
+        pub fn infer_types_get(
+            text: *const c_void,
+            text_len: usize,
+            buf: *const c_void,
+            len: usize,
+            mime_type: *mut c_char,
+            mime_type_size: usize,
+            extension: *mut c_char,
+            extension_size: usize,
+        ) -> i32;
         pub fn infer_is(buf: *const c_void, len: usize, extension: *const c_char, extension_len: usize) -> bool;
         pub fn infer_is_mime(buf: *const c_void, len: usize, mime_type: *const c_char, mime_type_len: usize) -> bool;
         pub fn infer_is_supported(extension: *const c_char, extension_len: usize) -> bool;
@@ -83,6 +101,49 @@ pub fn encoding<'out>(buf: &[u8], out: &'out mut [u8; TEXT_SIZE]) -> &'out [u8] 
     // SAFETY: as above, and `out` has room for as many bytes as it says.
     let size = unsafe { c::infer_encoding(buf.as_ptr().cast(), buf.len(), out.as_mut_ptr().cast(), out.len()) };
     &out[..size]
+}
+
+/// A text that the library wrote, and a zero behind it. The room is `INFER_TYPES_TEXT_SIZE` of `infer.h`.
+#[derive(Copy, Clone, Eq, PartialEq)]
+pub struct Text {
+    bytes: [u8; 256],
+}
+
+impl Text {
+    const EMPTY: Text = Text { bytes: [0; 256] };
+
+    pub fn as_str(&self) -> &str {
+        let len = self.bytes.iter().position(|byte| *byte == 0).unwrap_or(self.bytes.len());
+        core::str::from_utf8(&self.bytes[..len]).unwrap_or_default()
+    }
+}
+
+/// The line and the column of the first mistake, and what it is, unless the text describes types.
+pub fn types_mistake(text: &[u8]) -> Option<(usize, usize, Text)> {
+    let (mut line, mut column, mut reason) = (0, 0, Text::EMPTY);
+    let (out, size) = (reason.bytes.as_mut_ptr().cast(), reason.bytes.len());
+    // SAFETY: as above; the two numbers are written, and `reason` has room for as many bytes as it says.
+    let wrong = unsafe { c::infer_types_check(text.as_ptr().cast(), text.len(), &mut line, &mut column, out, size) };
+    (wrong > 0).then_some((line, column, reason))
+}
+
+/// The class, the MIME type and the extension of what the types of the text say.
+pub fn types_get(text: &[u8], buf: &[u8]) -> Option<(MatcherType, Text, Text)> {
+    let (mut mime_type, mut extension) = (Text::EMPTY, Text::EMPTY);
+    // SAFETY: as above, with room for both texts.
+    let code = unsafe {
+        c::infer_types_get(
+            text.as_ptr().cast(),
+            text.len(),
+            buf.as_ptr().cast(),
+            buf.len(),
+            mime_type.bytes.as_mut_ptr().cast(),
+            mime_type.bytes.len(),
+            extension.bytes.as_mut_ptr().cast(),
+            extension.bytes.len(),
+        )
+    };
+    (code >= 0).then_some((class_of(code), mime_type, extension))
 }
 
 pub fn is(buf: &[u8], extension: &str) -> bool {
@@ -177,7 +238,11 @@ fn text(read: unsafe extern "C" fn(i32, *mut c_char, usize) -> usize, row: i32) 
 
 fn class(row: i32) -> MatcherType {
     // SAFETY: any row may be asked for.
-    match unsafe { c::infer_class(row) } {
+    class_of(unsafe { c::infer_class(row) })
+}
+
+fn class_of(code: i32) -> MatcherType {
+    match code {
         0 => MatcherType::App,
         1 => MatcherType::Archive,
         2 => MatcherType::Audio,

@@ -15,12 +15,14 @@ mod matchers;
 pub mod more;
 #[cfg(feature = "std")]
 mod path;
+mod types;
 
 pub use encoding::{encoding, Encoding};
 pub use file_type::{Matcher, MatcherType, Type};
 pub use matchers::{app, archive, audio, book, doc, font, image, odf, text, video};
 #[cfg(feature = "std")]
 pub use path::get_from_path;
+pub use types::{Found, Mistake, Types};
 
 /// The built-in types, and those that the caller added, which are asked first.
 #[derive(Default)]

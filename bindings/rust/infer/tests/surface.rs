@@ -172,3 +172,54 @@ fn the_first_bytes_of_a_file_are_looked_at() {
     assert_eq!(infer::get_from_path("/no/such").unwrap_err().kind(), ErrorKind::NotFound);
     assert!(infer.get_from_path(env!("CARGO_TARGET_TMPDIR")).is_err());
 }
+
+const OWN_TYPES: &str = "# extension MIME type class parent signature
+qoi   image/qoi        image -   14: @0 \"qoif\"
+myapp application/x-my app   zip 42: @30 \"manifest.my\"
+";
+
+#[test]
+fn types_of_a_text_answer() {
+    use infer::Types;
+    let own = Types::new(OWN_TYPES).unwrap();
+    let found = own.get(&placed(14, &[(0, b"qoif")])).unwrap();
+    assert_eq!((found.matcher_type(), found.mime_type(), found.extension()), (MatcherType::Image, "image/qoi", "qoi"));
+    assert_eq!(format!("{found} [{found:>10}]"), "image/qoi [ image/qoi]");
+    assert_eq!(format!("{found:?}"), "Found { matcher_type: Image, mime_type: \"image/qoi\", extension: \"qoi\" }");
+    assert_eq!(own.get(&entry(30, b"manifest.my?")).unwrap().extension(), "myapp");
+    assert_eq!(own.get(b"").is_none(), own.get(&placed(13, &[(0, b"qoif")])).is_none());
+    // What they do not know, the wider answer may.
+    for types in [own, Types::new("").unwrap(), Types::new(OWN_TYPES.as_bytes()).unwrap()] {
+        for buf in [JPEG, b"MZ", b"-----BEGIN PGP SIGNATURE-----", b"plain text", b"", b"\0"] {
+            let (found, wider) = (types.get(buf), infer::more::get(buf));
+            assert_eq!(found.is_some(), wider.is_some(), "{buf:?}");
+            if let (Some(found), Some(wider)) = (found, wider) {
+                let shown = (found.matcher_type(), found.mime_type(), found.extension());
+                assert_eq!(shown, (wider.matcher_type(), wider.mime_type(), wider.extension()));
+            }
+        }
+    }
+    let name = "x".repeat(127);
+    let text = format!("{name} {name}/{name} doc - 1: @0 00");
+    let found = Types::new(&text).unwrap().get(b"\0").unwrap();
+    assert_eq!((found.mime_type(), found.extension()), (format!("{name}/{name}").as_str(), name.as_str()));
+}
+
+#[test]
+fn mistakes_have_a_place_and_a_reason() {
+    use infer::Types;
+    let told: [(&[u8], usize, usize, &str); 5] = [
+        (b"qoi image/qoi picture - 14: @0 00", 1, 15, "unknown class"),
+        (b"\n\nqoi image/qoi image - 14: @0 \"qoif\n", 3, 30, "quotes do not close"),
+        (b"# one\r\na", 2, 2, "a type has an extension, a MIME type, a class, a parent and a signature"),
+        (b"\xEF\xBB\xBFa b/c app - 1: @0 00", 1, 1, "no extension"),
+        (b"a b/c app - 1: @0 00 00", 1, 22, "place past the length"),
+    ];
+    for (text, line, column, reason) in told {
+        let mistake = Types::new(text).unwrap_err();
+        assert_eq!((mistake.line(), mistake.column(), mistake.reason()), (line, column, reason), "{text:?}");
+        assert_eq!(mistake.to_string(), format!("line {line}, column {column}: {reason}"));
+        let error: Box<dyn std::error::Error + Send + Sync> = mistake.into();
+        assert!(format!("{error:?}").starts_with("Mistake { line: "));
+    }
+}
