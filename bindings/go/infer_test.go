@@ -217,6 +217,72 @@ func TestQuestions(t *testing.T) {
 	}
 }
 
+const ownTypes = "# extension MIME type class parent signature\n" +
+	"qoi   image/qoi        image -   14: @0 \"qoif\"\n" +
+	"myapp application/x-my app   zip 42: @30 \"manifest.my\"\n"
+
+func TestOwnTypes(t *testing.T) {
+	own, err := NewTypes([]byte(ownTypes))
+	none, fault := NewTypes(nil)
+	if err != nil || fault != nil {
+		t.Fatal(err, fault)
+	}
+	zip := append(append([]byte("PK\x03\x04"), make([]byte, 26)...), "manifest.my?"...)
+	for _, it := range []struct {
+		data []byte
+		want Type
+	}{{append([]byte("qoif"), make([]byte, 10)...), Type{"image/qoi", "qoi", Image}}, {zip, Type{"application/x-my", "myapp", App}}, {jpeg, want}} {
+		if got, ok := own.Detect(it.data); got != it.want || !ok {
+			t.Error(got, it.want)
+		}
+	}
+	// What they do not know, the wider answer may.
+	for _, line := range lines(t, "further/vectors.tsv") {
+		data := decode(t, line[1])
+		wider, known := DetectMore(data)
+		for _, types := range []*OwnTypes{own, none} {
+			if got, ok := types.Detect(data); got != wider || ok != known {
+				t.Error(line[0], got, wider)
+			}
+		}
+	}
+	path := filepath.Join(t.TempDir(), "types")
+	if err := os.WriteFile(path, []byte(ownTypes), 0o600); err != nil {
+		t.Fatal(err)
+	}
+	if loaded, err := LoadTypes(path); err != nil || !bytes.Equal(loaded.text, own.text) {
+		t.Error(err)
+	}
+	if _, err := LoadTypes(path + "-not"); !errors.Is(err, os.ErrNotExist) {
+		t.Error(err)
+	}
+}
+
+func TestMistakes(t *testing.T) {
+	path := filepath.Join(t.TempDir(), "types")
+	for _, it := range []struct {
+		text string
+		want TypesError
+	}{
+		{"qoi image/qoi picture - 14: @0 00", TypesError{1, 15, "unknown class"}},
+		{"\n\nqoi image/qoi image - 14: @0 \"qoif\n", TypesError{3, 30, "quotes do not close"}},
+		{"\xEF\xBB\xBFa b/c app - 1: @0 00", TypesError{1, 1, "no extension"}},
+		{"a b/c app - 1: @0 00 00", TypesError{1, 22, "place past the length"}},
+		{ownTypes + "a", TypesError{4, 2, "a type has an extension, a MIME type, a class, a parent and a signature"}},
+	} {
+		var got *TypesError
+		if own, err := NewTypes([]byte(it.text)); own != nil || !errors.As(err, &got) || *got != it.want {
+			t.Errorf("%q: %v", it.text, err)
+		}
+		if err := os.WriteFile(path, []byte(it.text), 0o600); err != nil {
+			t.Fatal(err)
+		}
+		if _, err := LoadTypes(path); !errors.As(err, &got) || err.Error() != path+": "+it.want.Error() {
+			t.Error(err)
+		}
+	}
+}
+
 func TestReaders(t *testing.T) {
 	late := append(bytes.Repeat([]byte(" "), 8190), "<p>"...)
 	reader := bytes.NewReader(late)
@@ -283,6 +349,7 @@ func TestAllocations(t *testing.T) {
 	defer debug.SetGCPercent(debug.SetGCPercent(-1))
 	extension, reader, text := strings.Clone("jpg"), bytes.NewReader(jpeg), []byte("plain text")
 	large := bufio.NewReaderSize(reader, Front)
+	own, _ := NewTypes([]byte(ownTypes))
 	calls := map[string]struct {
 		count float64
 		call  func()
@@ -309,6 +376,7 @@ func TestAllocations(t *testing.T) {
 		"DetectWhole, large":  {0, func() { reader.Reset(jpeg); large.Reset(reader); DetectWhole(large) }},
 		"Types":               {1, func() { Types() }},
 		"Sample":              {1, func() { Sample(1) }},
+		"Detect of types":     {2, func() { own.Detect(jpeg) }},
 	}
 	for name, it := range calls {
 		// The race detector drops some of what a pool keeps.
