@@ -204,10 +204,47 @@ def wrong_examples(program):
     return len(wrong)
 
 
+def lines_of(name):
+    with open(os.path.join(HERE, "../further", name), encoding="utf-8") as file:
+        return file.read().splitlines()
+
+
+def decoded(tokens):
+    """The bytes of a buffer of the data: digits, and how often they stand."""
+    parts = (it.partition("*") for it in tokens.split() if it != "-")
+    return b"".join(bytes.fromhex(digits) * int(times or 1) for digits, _, times in parts)
+
+
+def wrong_further(program):
+    """How many buffers the text of the further rows answers otherwise than the rows do. Each type of the text has another
+    extension here, which tells its answers from those of the library's own rows. What the notation cannot write answers as
+    those."""
+    names, text = [], b""
+    for it in lines_of("types.txt"):
+        extension, _, class_name, parent = it.removeprefix("#?").split()[:4]
+        if not it.startswith("#"):
+            text += b"own-" + it.encode() + b"\n"
+        if not it.startswith("# "):
+            names.append((f"{class_name.capitalize()}/{extension}{'' if parent == '-' else f' below {parent}'}", it.startswith("#?")))
+    rows = ["{0}/{2}{3}".format(*it[:3], "" if it[3] == "none" else f" below {it[3]}") for it in (line.split("\t") for line in lines_of("rows.tsv"))]
+    wrong = [f"its rows are others than those of rows.tsv: {[*{*rows} ^ {name for name, _ in names}][:3]}"] * ([name for name, _ in names] != rows)
+    unread = {name for name, is_unread in names if is_unread}
+    vectors = [line.split("\t") for line in lines_of("vectors.tsv")]
+    for (how, _, row, shown), said in zip(vectors, asked(program, [(text, decoded(it[1])) for it in vectors])):
+        is_own = said[2:3] != said[6:7]
+        if row not in unread and (len(said) == 3 or is_own != (row != "-") or f"{said[1]} {said[2].removeprefix('own-')}".strip() != shown.replace("unknown", "")):
+            wrong.append(f"{how}: {said}, and not {shown}")
+    for it in wrong:
+        print(f"vectors/further/types.txt: {it}")
+    return len(wrong), len(vectors) - sum(row in unread for _, _, row, _ in vectors), len(unread)
+
+
 def main():
     count = int(sys.argv[2]) if len(sys.argv) > 2 else 5_000
     rng, counted, wrong, asks = random.Random(int(sys.argv[3]) if len(sys.argv) > 3 else SEED), collections.Counter(), 0, 0
     wrong += wrong_examples(sys.argv[1])
+    wrong_buffers, buffers, unread = wrong_further(sys.argv[1])
+    wrong += wrong_buffers
     for pairs in [[*large()], *([question(rng) for _ in range(min(10_000, count - at))] for at in range(0, count, 10_000))]:
         wrong += differing(sys.argv[1], pairs, 5, counted)
         asks += len(pairs)
@@ -215,6 +252,8 @@ def main():
     few = [it for it in [*reasons_of_the_code(), "own", "wider"] if counted[it] < asks // 2500]
     if few:
         print(f"typed.py: too few texts with: {few}")
+    left_out = f"; {unread} further rows left out, which the notation cannot write" if unread else ""
+    print(f"{buffers} buffers asked of the further rows as a text{left_out}")
     print(f"{asks} texts of types compared with the model, {wrong} differ")
     sys.exit(wrong + len(few) != 0)
 

@@ -1,0 +1,98 @@
+"""Writes the further rows as a text of types, in the notation of docs/NOTATION.md."""
+import re
+
+from further_index import TEXT, TEXT_OF_BYTES, byte_of, bytes_of
+
+HEAD = """# The further types of the library, as a text of types, in the order in which they are asked. docs/tables writes it from
+# the rows. A line that begins with "#?" is of a type whose signature cannot be written in the notation yet.
+"""
+# What each alternative that looks inside is called, and what it takes.
+NAMES = {
+    "SharedObject": lambda it: "shared object",
+    "FirstEntryIs": lambda it: f"first entry: is {quoted(it)}",
+    "FirstEntryEndsIn": lambda it: f"first entry: ends in {quoted(it)}",
+    "FirstEntryHasExtra": lambda it: f"first entry: has extra {spaced(it)}",
+    "PackageWith": lambda it: f"package with: {quoted(it)}",
+    "ClassId": lambda it: f"class id: {spaced(it)}",
+    "DirectoryTag": lambda it: f"first directory has tag {int(it, 0):04X}",
+    "Animated": lambda it: 'chunk "acTL" before "IDAT"',
+    "SubRip": lambda it: "first cue of SubRip",
+    "Dbase": lambda it: "dBASE header",
+    "TarChecksum": lambda it: "tar checksum",
+    "Program": lambda it: f"program: {' '.join(bytes_of(text).decode() for text in re.findall(TEXT_OF_BYTES, it))}",
+    "Root": lambda it: f"root: {bytes_of(it).decode()}",
+    "RootWith": lambda it: "root: {} with {}".format(bytes_of(texts(it)[0]).decode(), quoted(texts(it)[1])),
+    "JsonLines": lambda it: "JSON lines",
+    "JsonText": lambda it: "JSON",
+    "PlainText": lambda it: "text",
+}
+# What the notation does not have yet.
+UNREAD = {*NAMES, "BinaryBytes"}
+
+
+def texts(code):
+    return re.findall(TEXT_OF_BYTES, code)
+
+
+def spaced(literal):
+    return " ".join(f"{it:02X}" for it in bytes_of(literal))
+
+
+def quoted(literal):
+    return f'"{bytes_of(literal).decode("ascii")}"'
+
+
+def written(said):
+    """The bytes: a text, or its runs of three printable ones or more in quotes, and the others in digits."""
+    least = 1 if re.fullmatch(rb"[ !#-~]+", said) else 3
+    run = rb"[ !#-~]{%d,}" % least
+    runs = re.findall(rb"%s|(?:(?!%s).)+" % (run, run), said, re.DOTALL)
+    return " ".join(f'"{it.decode()}"' if re.fullmatch(run, it) else " ".join(f"{byte:02X}" for byte in it) for it in runs)
+
+
+def part(kind, place, rest):
+    if kind == "At":
+        said = written(bytes_of(rest))
+    elif kind == "is!":
+        said = f"{byte_of(rest):02X}"
+    elif kind == "OneOf":
+        said = "{" + spaced(rest) + "}"
+    else:
+        low, high = (byte_of(it) for it in rest.split(", "))
+        said = f"{low:02X}..{high:02X}"
+    return f"@{place} {said}"
+
+
+def fixed(code):
+    """Fixed bytes: a least length and pieces."""
+    least, pieces = re.fullmatch(r"(\d+), (.*)", code).groups()
+    found = re.findall(rf"(At|OneOf|Between|is!)\((\d+), ((?:{TEXT}|[^()\"'])*)\)", pieces)
+    return f"{least}: {', '.join(part(*it) for it in found)}"
+
+
+def alternative(inside):
+    """The name of an alternative, or "", and its text."""
+    if inside[0].isdigit():
+        return "", fixed(inside)
+    name, _, takes = inside.removesuffix(")").partition("(")
+    if name == "BinaryBytes":
+        return name, f"{fixed(takes.removeprefix('bytes!(').removesuffix(')'))} and binary"
+    return name, NAMES[name](takes)
+
+
+def line(code, parents):
+    """The line of a row."""
+    group, mime_type, extension, parent, signature = code
+    told = [alternative(it) for it in re.findall(rf"\[((?:{TEXT}|&\[[^\]]*\]|[^\]\"'])*)\]", signature)]
+    # What is said of one kind is said once: `root: rss or RDF with ..`.
+    said = " or ".join(text for _, text in told)
+    for name in ("first entry: ", "class id: ", "root: "):
+        said = said.replace(f" or {name}", " or ")
+    words = [f"{extension:<11}", f"{mime_type:<36}", f"{group.lower():<7}", f"{parents[parent] if parent else '-':<6}", said]
+    return ("#? " if any(name in UNREAD for name, _ in told) else "") + "  ".join(words) + "\n"
+
+
+def text(lists, parents):
+    """The text of the rows of these lists, by the extensions of the parents' constants."""
+    rows = [it for code in lists for it in re.findall(r'^    (\w+) "(.*?)" "(.*?)":(?: (\w+))? => ?(.*);$', code, re.M)]
+    return HEAD + "".join(line(it, parents) for it in rows)
