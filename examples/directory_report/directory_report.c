@@ -9,13 +9,14 @@
 #include <stdio.h>
 #include <stdlib.h>
 #include <string.h>
+#include <strings.h>
 #include <sys/stat.h>
 #include <time.h>
 #include <unistd.h>
 
 /* How deep folders are entered, each of which holds a descriptor; room for an extension; milliseconds between two
  * progress lines. */
-enum { DEEPEST = 512, EXTENSION = 16, PACE = 200 };
+enum { DEEPEST = 512, EXTENSION = 128, PACE = 200 };
 
 static const char help[] =
     "usage: directory_report [-j] [--more] [--summary | --disagree] < NAMES\n"
@@ -34,16 +35,32 @@ static const char help[] =
     "  -r          walk the folders: no link is followed, only files are opened\n"
     "  --more      give the wider answer, which knows further types, and how a text\n"
     "              is encoded, before the name\n"
+    "  --types TEXT  the same, and first ask the types that this file describes, each\n"
+    "              by a line such as: qoi image/qoi image - 14: @0 \"qoif\"\n"
     "  --summary   write a table instead: files and bytes by type\n"
     "  --disagree  write only the files whose name says another type than their\n"
     "              bytes, with the type by the name before the name\n"
     "\n"
     "The status is 0 if some file could be read, or if there was none; 1 if none\n"
-    "could; 2 if lines are missing or the arguments are wrong.\n";
+    "could; 2 if lines are missing, or the arguments or the types are wrong.\n";
 
 struct options {
     bool is_json, is_walk, is_more, is_summary, is_disagree, is_help;
+    const char *types; /* the name of the file that describes types, or a null pointer */
 };
+
+/* A type of the caller. */
+struct own_type {
+    char *mime_type, *extension;
+    int32_t class_code;
+};
+
+/* The text that describes them, and what they show. Their numbers follow those of all rows. */
+static struct {
+    char *text, *words;
+    size_t size, count;
+    struct own_type *all;
+} own;
 
 struct name {
     char text[PATH_MAX + 1];
@@ -68,7 +85,7 @@ struct report {
     struct options options;
     struct name name;
     uintmax_t names, faults; /* how many names were read, and of how many the file could not be */
-    struct total *totals;    /* of each row, and then of no row */
+    struct total *totals;    /* of each row, of each type of the caller, and then of no row */
     bool is_shown;           /* the progress line */
     long long shown, input;  /* when it was written last; the size of the list of names, or 0 */
 };
@@ -97,13 +114,103 @@ static bool read_name(struct name *name) {
     return true;
 }
 
-/* The row with this extension, of those that are asked, or -1. */
+/* The type of the caller with this number, or a null pointer. */
+static const struct own_type *own_type_of(int32_t row) {
+    int32_t rows = (int32_t)infer_more_row_count();
+    return row < rows ? NULL : &own.all[row - rows];
+}
+
+static const char *mime_type_of(int32_t row) { return own_type_of(row) ? own_type_of(row)->mime_type : infer_mime_type_text(row); }
+static const char *extension_of(int32_t row) { return own_type_of(row) ? own_type_of(row)->extension : infer_extension_text(row); }
+static int32_t class_code_of(int32_t row) { return own_type_of(row) ? own_type_of(row)->class_code : infer_class(row); }
+static const char *class_of(int32_t row) { return infer_class_name_text(class_code_of(row)); }
+static size_t type_count(void) { return infer_more_row_count() + own.count; }
+
+/* The row or the type with this extension, of those that are asked, or -1. */
 static int32_t row_of(const struct report *report, const char *extension) {
-    int32_t count = (int32_t)(report->options.is_more ? infer_more_row_count() : infer_row_count());
+    int32_t count = (int32_t)(report->options.is_more ? type_count() : infer_row_count());
     for (int32_t row = 0; row < count; row++)
-        if (strcmp(infer_extension_text(row), extension) == 0)
+        if (strcasecmp(extension_of(row), extension) == 0)
             return row;
     return -1;
+}
+
+static int32_t class_named(const char *name) {
+    int32_t code = INFER_APP;
+    while (code < INFER_CUSTOM && strcmp(infer_class_name_text(code), name) != 0)
+        code++;
+    return code;
+}
+
+/* Reads the file that describes types, with a zero after it. */
+static bool read_types(const char *path) {
+    FILE *file = fopen(path, "rb");
+    size_t room = 0, got = 1;
+    while (file && got > 0) {
+        if (own.size + 1 >= room) {
+            char *more = realloc(own.text, room = 2 * room + 4096);
+            if (!more)
+                break;
+            own.text = more;
+        }
+        own.size += got = fread(own.text + own.size, 1, room - own.size - 1, file);
+    }
+    bool is_read = file && got == 0 && !ferror(file);
+    int fault = errno;
+    if (file)
+        fclose(file);
+    errno = fault;
+    return is_read;
+}
+
+/* Lists what the types show, by the first three words of each line that is no remark. */
+static bool list_types(void) {
+    size_t lines = 1;
+    for (size_t i = 0; i < own.size; i++)
+        lines += own.text[i] == '\n';
+    own.words = malloc(own.size + 1);
+    own.all = calloc(lines, sizeof *own.all);
+    if (!own.words || !own.all)
+        return false;
+    memcpy(own.words, own.text, own.size);
+    own.words[own.size] = 0;
+    for (char *line = own.words, *end; line; line = end) {
+        end = memchr(line, '\n', own.size - (size_t)(line - own.words));
+        if (end)
+            *end++ = 0;
+        char *rest, *extension = strtok_r(line, " \t\r", &rest);
+        if (!extension || *extension == '#')
+            continue;
+        char *mime_type = strtok_r(NULL, " \t\r", &rest), *class_name = strtok_r(NULL, " \t\r", &rest);
+        own.all[own.count++] = (struct own_type){mime_type, extension, class_named(class_name)};
+    }
+    return true;
+}
+
+/* Takes the types of the file, or says why not. */
+static bool take_types(const char *path) {
+    size_t line, column;
+    char reason[INFER_TEXT_SIZE];
+    if (!read_types(path))
+        fprintf(stderr, "directory_report: %s: %s\n", path, strerror(errno));
+    else if (infer_types_check(own.text, own.size, &line, &column, reason, sizeof reason))
+        fprintf(stderr, "directory_report: %s:%zu:%zu: %s\n", path, line, column, reason);
+    else if (!list_types())
+        fprintf(stderr, "directory_report: %s\n", strerror(ENOMEM));
+    else
+        return true;
+    return false;
+}
+
+/* The wider answer, before which the types of the caller are asked. */
+static int32_t answer_of(const unsigned char *front, size_t size) {
+    int32_t wider = infer_more_position(front, size);
+    char mime_type[INFER_TYPES_TEXT_SIZE], extension[INFER_TYPES_TEXT_SIZE];
+    int32_t code = own.text ? infer_types_get(own.text, own.size, front, size, mime_type, sizeof mime_type, extension, sizeof extension) : INFER_NO_ROW;
+    for (size_t i = 0; code != INFER_NO_ROW && i < own.count; i++)
+        if (own.all[i].class_code == code && strcmp(own.all[i].mime_type, mime_type) == 0 && strcmp(own.all[i].extension, extension) == 0)
+            return (int32_t)(infer_more_row_count() + i);
+    return wider;
 }
 
 /* The extension of a name in lower case. It is empty if the name has none, or one that is longer than any type's. */
@@ -120,9 +227,9 @@ static void put_extension(const struct name *name, char out[EXTENSION]) {
 
 /* Whether a file of that row may have the extension, which claims another row. */
 static bool fits(int32_t row, const char *extension, int32_t claimed) {
-    const char *own = infer_extension_text(row), *wider = infer_alias_target(INFER_ALIAS_BUILT_ON, extension);
-    bool is_same = strcmp(own, infer_extension_text(claimed)) == 0 || (wider && strcmp(own, wider) == 0);
-    return is_same || strcmp(infer_mime_type_text(row), infer_mime_type_text(claimed)) == 0;
+    const char *right = extension_of(row), *wider = infer_alias_target(INFER_ALIAS_BUILT_ON, extension);
+    bool is_same = strcasecmp(right, extension_of(claimed)) == 0 || (wider && strcmp(right, wider) == 0);
+    return is_same || strcmp(mime_type_of(row), mime_type_of(claimed)) == 0;
 }
 
 /* The number of bytes at the front of the file, or -1. */
@@ -152,7 +259,7 @@ static int32_t claimed_row(const struct report *report, const unsigned char *fro
         claimed = row_of(report, wider);
     if (!*extension || claimed < 0)
         return -1;
-    int32_t row = infer_position(front, size), more = infer_more_position(front, size);
+    int32_t row = infer_position(front, size), more = answer_of(front, size);
     bool is_known = (report->options.is_more ? more : row) >= 0;
     bool is_open = bytes > size && (row < 0 || claimed < row) && infer_may_become(front, size, claimed);
     return !is_known || is_open || fits(row, extension, claimed) || fits(more, extension, claimed) ? -1 : claimed;
@@ -165,7 +272,7 @@ static int look_wider(const struct report *report, int fd, struct finding *found
     if (size < 0)
         return -1;
     if (report->options.is_more) {
-        found->row = infer_more_position(front, (size_t)size);
+        found->row = answer_of(front, (size_t)size);
         infer_encoding(front, (size_t)size, found->encoding, sizeof found->encoding);
     }
     if (report->options.is_disagree)
@@ -252,14 +359,12 @@ static void put_json_name(const struct name *name) {
     putchar('"');
 }
 
-static const char *class_of(int32_t row) { return infer_class_name_text(infer_class(row)); }
-
 static void put_json_type(int32_t row) {
     if (row < 0) {
         fputs("\"mime_type\":null", stdout);
         return;
     }
-    printf("\"mime_type\":\"%s\",\"extension\":\"%s\"", infer_mime_type_text(row), infer_extension_text(row));
+    printf("\"mime_type\":\"%s\",\"extension\":\"%s\"", mime_type_of(row), extension_of(row));
     printf(",\"class\":\"%s\"", class_of(row));
 }
 
@@ -275,7 +380,7 @@ static void put_json_line(const struct name *name, const struct finding *found) 
     if (*found->encoding)
         printf(",\"encoding\":\"%s\"", found->encoding);
     if (found->claimed >= 0)
-        printf(",\"name_mime_type\":\"%s\",\"name_extension\":\"%s\"", infer_mime_type_text(found->claimed), infer_extension_text(found->claimed));
+        printf(",\"name_mime_type\":\"%s\",\"name_extension\":\"%s\"", mime_type_of(found->claimed), extension_of(found->claimed));
     fputs("}\n", stdout);
 }
 
@@ -284,13 +389,13 @@ static void put_line(const struct report *report, const struct finding *found) {
     if (found->fault)
         printf("fault\t%s\t-\t", found->fault);
     else if (found->row >= 0)
-        printf("%s\t%s\t%s\t", infer_mime_type_text(found->row), infer_extension_text(found->row), class_of(found->row));
+        printf("%s\t%s\t%s\t", mime_type_of(found->row), extension_of(found->row), class_of(found->row));
     else
         fputs("unknown\t-\t-\t", stdout);
     if (report->options.is_more)
         printf("%s\t", *found->encoding ? found->encoding : "-");
     if (report->options.is_disagree && found->claimed >= 0)
-        printf("%s\t%s\t", infer_mime_type_text(found->claimed), infer_extension_text(found->claimed));
+        printf("%s\t%s\t", mime_type_of(found->claimed), extension_of(found->claimed));
     else if (report->options.is_disagree)
         fputs("-\t-\t", stdout);
     fputs(report->name.text, stdout);
@@ -321,7 +426,7 @@ static void count(struct report *report, const struct finding *found) {
     report->faults += found->fault != NULL;
     if (found->fault)
         return;
-    struct total *total = &report->totals[found->row < 0 ? infer_more_row_count() : (size_t)found->row];
+    struct total *total = &report->totals[found->row < 0 ? type_count() : (size_t)found->row];
     total->files++;
     total->bytes += found->bytes;
 }
@@ -443,13 +548,13 @@ static int by_files(const void *left, const void *right) {
 
 /* Some rows show the same type: the first of them gets what all have. Then the most frequent come first. */
 static void sort_totals(struct total *totals) {
-    size_t rows = infer_more_row_count();
+    size_t rows = type_count();
     for (size_t i = 0; i < rows; i++) {
         size_t first = 0;
-        while (strcmp(infer_mime_type_text((int32_t)first), infer_mime_type_text((int32_t)i)) != 0 ||
-               strcmp(infer_extension_text((int32_t)first), infer_extension_text((int32_t)i)) != 0)
+        while (totals[i].files && (strcmp(mime_type_of((int32_t)first), mime_type_of((int32_t)i)) != 0 ||
+                                   strcmp(extension_of((int32_t)first), extension_of((int32_t)i)) != 0))
             first++;
-        if (first == i)
+        if (first == i || totals[i].files == 0)
             continue;
         totals[first].files += totals[i].files;
         totals[first].bytes += totals[i].bytes;
@@ -470,11 +575,11 @@ static void put_total(const struct report *report, const struct total *total) {
     if (total->row < 0)
         puts("unknown");
     else
-        printf("%s %s\n", infer_mime_type_text(total->row), infer_extension_text(total->row));
+        printf("%s %s\n", mime_type_of(total->row), extension_of(total->row));
 }
 
 static void put_summary(const struct report *report) {
-    size_t rows = infer_more_row_count();
+    size_t rows = type_count();
     uintmax_t bytes = 0;
     sort_totals(report->totals);
     if (!report->options.is_json)
@@ -526,9 +631,12 @@ static int parse(int argc, char **argv, struct options *options) {
             argv[folders++] = argv[i];
         else if ((flag = flag_of(options, argv[i])))
             *flag = true;
+        else if (strcmp(argv[i], "--types") == 0 && !options->types && i + 1 < argc)
+            options->types = argv[++i];
         else
             return -1;
     }
+    options->is_more = options->is_more || options->types;
     bool is_right = options->is_walk == (folders > 0) && !(options->is_summary && options->is_disagree);
     return is_right || options->is_help ? folders : -1;
 }
@@ -543,7 +651,7 @@ static void prepare_progress(struct report *report) {
 }
 
 static bool make_totals(struct report *report) {
-    size_t rows = infer_more_row_count();
+    size_t rows = type_count();
     report->totals = calloc(rows + 1, sizeof *report->totals);
     for (size_t i = 0; report->totals && i <= rows; i++)
         report->totals[i].row = i < rows ? (int32_t)i : -1;
@@ -575,6 +683,8 @@ int main(int argc, char **argv) {
     int folders = parse(argc, argv, &report.options);
     if (folders >= 0 && report.options.is_help)
         return fputs(help, stdout) < 0 || fflush(stdout) != 0 ? 2 : 0;
+    if (folders >= 0 && report.options.types && !take_types(report.options.types))
+        return 2;
     if (folders < 0 || !make_totals(&report)) {
         const char *why = folders < 0 ? "usage: directory_report [OPTION..] < NAMES, and directory_report --help says more" : strerror(ENOMEM);
         fprintf(stderr, "%s\n", why);
@@ -582,5 +692,8 @@ int main(int argc, char **argv) {
     }
     int status = run(&report, argv, folders);
     free(report.totals);
+    free(own.text);
+    free(own.words);
+    free(own.all);
     return status;
 }
