@@ -16,6 +16,7 @@
 #include <strings.h>
 #include <sys/mman.h>
 #include <sys/socket.h>
+#include <sys/stat.h>
 #include <sys/time.h>
 #include <sys/wait.h>
 #include <time.h>
@@ -23,9 +24,12 @@
 
 #define LETTERS_AND_DIGITS "0123456789ABCDEFGHIJKLMNOPQRSTUVWXYZabcdefghijklmnopqrstuvwxyz"
 
-enum { HEAD = 8192, LARGEST = 8 << 20, NAME = 100, CHILDREN = 16, LINGER = 2000, NOTICE = 100 };
+enum { HEAD = 8192, LARGEST = 8 << 20, NAME = 100, CHILDREN = 16, LINGER = 2000, NOTICE = 100, WHY = 512 };
 
 static bool *allowed;         /* of each row */
+static char *allowed_names;   /* the classes and MIME types as they were given, with a comma before and after each */
+static char *own_types;       /* a text that describes types, with a zero after it, or a null pointer */
+static size_t own_size;
 static long patience = 30000; /* milliseconds for a whole request */
 static int folder;
 static atomic_ulong *lost; /* lines that nobody read in time, counted by all processes */
@@ -113,7 +117,7 @@ static bool write_at_once(const char *text, size_t size) {
 
 /* Prints a line, and before it how many lines nobody had read in time. */
 static void tell(int status, const char *why) {
-    char text[512];
+    char text[2 * WHY];
     unsigned long before = atomic_exchange(lost, 0);
     int size = before > 0 ? snprintf(text, sizeof text, "%lu lines dropped\n", before) : 0;
     size += snprintf(text + size, sizeof text - (size_t)size, "%d %s\n", status, why);
@@ -122,7 +126,7 @@ static void tell(int status, const char *why) {
 }
 
 static void respond(int fd, int status, const char *why) {
-    char text[512];
+    char text[2 * WHY];
     int size = snprintf(text, sizeof text, "HTTP/1.1 %d %s\r\nContent-Type: text/plain\r\nContent-Length: %zu\r\n"
                         "X-Content-Type-Options: nosniff\r\nConnection: close\r\n\r\n%s\n", status, reason(status), strlen(why) + 1, why);
     write_all(fd, text, (size_t)size);
@@ -266,14 +270,14 @@ static int parse_head(char *head, struct request *it) {
 
 static bool is_named(const struct request *it, const char *extension) {
     const char *target = infer_alias_target(INFER_ALIAS_EXTENSION, it->extension);
-    return strcmp(target ? target : it->extension, extension) == 0;
+    return strcmp(target ? target : it->extension, extension) == 0 || strcasecmp(it->extension, extension) == 0;
 }
 
 static bool is_claimed(const struct request *it, const char *mime_type, const char *extension) {
     const char *target = infer_alias_target(INFER_ALIAS_MIME_TYPE, it->mime_type);
     if (!target)
         target = infer_alias_target(INFER_ALIAS_BROWSER, it->mime_type);
-    return target ? strcmp(target, extension) == 0 : strcmp(it->mime_type, mime_type) == 0;
+    return target ? strcmp(target, extension) == 0 : strcasecmp(it->mime_type, mime_type) == 0;
 }
 
 static bool is_row(int32_t row, const char *extension) {
@@ -313,9 +317,50 @@ static bool hides_archive(const uint8_t *bytes, size_t size) {
         || memmem(bytes, size, "7z\xbc\xaf\x27\x1c", 6);
 }
 
-/* Whether files of this row hold no archives as they are, so that one in them is hidden. */
-static bool holds_no_archives(int32_t row) {
-    switch (infer_class(row)) {
+static bool is_word(const char *wanted, const char *word) { return !wanted || strcasecmp(wanted, word) == 0; }
+
+/* Whether an own type shows these: they are the first three words of its line. A null pointer stands for any. */
+static bool is_among_own(const char *extension, const char *mime_type, const char *class_name) {
+    char *words = own_types ? strdup(own_types) : NULL, *lines = words, *line, *rest;
+    bool is_found = false;
+    while (words && !is_found && (line = strsep(&lines, "\n"))) {
+        char *first = strtok_r(line, " \t\r", &rest);
+        if (!first || *first == '#')
+            continue;
+        char *second = strtok_r(NULL, " \t\r", &rest), *third = strtok_r(NULL, " \t\r", &rest);
+        is_found = is_word(extension, first) && is_word(mime_type, second) && is_word(class_name, third);
+    }
+    free(words);
+    return is_found;
+}
+
+/* What the bytes are: a built-in row, or an own type with or without one. */
+struct answer {
+    int32_t row, class_code;
+    bool is_own;
+    char mime_type[INFER_TYPES_TEXT_SIZE], extension[INFER_TYPES_TEXT_SIZE];
+};
+
+/* An own type answers before the built-in row that it stands below. Of the library's further rows none is asked. */
+static struct answer answer_of(const uint8_t *bytes, size_t size) {
+    struct answer it = {.row = infer_position(bytes, size)};
+    if (own_types) {
+        it.class_code = infer_types_get(own_types, own_size, bytes, size, it.mime_type, sizeof it.mime_type, it.extension, sizeof it.extension);
+        it.is_own = it.class_code >= 0 && is_among_own(it.extension, it.mime_type, infer_class_name_text(it.class_code));
+    }
+    if (!it.is_own) {
+        it.class_code = infer_class(it.row);
+        infer_mime_type(it.row, it.mime_type, sizeof it.mime_type);
+        infer_extension(it.row, it.extension, sizeof it.extension);
+    }
+    return it;
+}
+
+/* Whether files of this type hold no archives as they are, so that one in them is hidden. An own type below another one
+ * can be built on an archive. */
+static bool holds_no_archives(const struct answer *it) {
+    int32_t row = it->is_own ? -1 : it->row;
+    switch (it->is_own && it->row >= 0 ? infer_class(it->row) : it->class_code) {
     case INFER_AUDIO:
     case INFER_FONT:
     case INFER_TEXT:
@@ -328,34 +373,47 @@ static bool holds_no_archives(int32_t row) {
     }
 }
 
+/* Whether the name stands among those that are allowed. */
+static bool is_among(const char *name) {
+    char wanted[INFER_TYPES_TEXT_SIZE + 2];
+    snprintf(wanted, sizeof wanted, ",%s,", name);
+    return strcasestr(allowed_names, wanted) != NULL;
+}
+
+static bool is_allowed(const struct answer *it) {
+    if (it->is_own)
+        return is_among(it->mime_type) || is_among(infer_class_name_text(it->class_code));
+    return allowed[it->row];
+}
+
 /* 0, or the status of a refusal, and in `why` the MIME type or the reason. */
-static int judge(const struct request *it, const uint8_t *bytes, size_t size, char why[256]) {
-    char mime_type[128], extension[32];
-    int32_t row = infer_position(bytes, size);
-    infer_mime_type(row, mime_type, sizeof mime_type);
-    infer_extension(row, extension, sizeof extension);
+static int judge(const struct request *it, const uint8_t *bytes, size_t size, char why[WHY]) {
+    struct answer answer = answer_of(bytes, size);
+    const char *mime_type = answer.mime_type, *extension = answer.extension;
+    int32_t row = answer.row;
     bool has_claim = *it->mime_type != 0 && strcmp(it->mime_type, "application/octet-stream") != 0;
-    if (row < 0)
-        return snprintf(why, 256, "these bytes are of no known type"), 415;
-    if (!allowed[row])
-        return snprintf(why, 256, "%s is not allowed", mime_type), 415;
+    if (row < 0 && !answer.is_own)
+        return snprintf(why, WHY, "these bytes are of no known type"), 415;
+    if (!is_allowed(&answer))
+        return snprintf(why, WHY, "%.200s is not allowed", mime_type), 415;
     if (*it->extension == 0 && !has_claim)
-        return snprintf(why, 256, "no extension and no Content-Type, but %s", mime_type), 422;
+        return snprintf(why, WHY, "no extension and no Content-Type, but %s", mime_type), 422;
     if (*it->extension != 0 && !is_named(it, extension))
-        return snprintf(why, 256, "named .%s, but %s", it->extension, mime_type), 422;
-    if (has_claim && !is_claimed(it, mime_type, extension))
-        return snprintf(why, 256, "claimed %.80s, but %s", it->mime_type, mime_type), 422;
+        return snprintf(why, WHY, "named .%s, but %s", it->extension, mime_type), 422;
+    bool is_right = answer.is_own ? strcasecmp(it->mime_type, mime_type) == 0 : is_claimed(it, mime_type, extension);
+    if (has_claim && !is_right)
+        return snprintf(why, WHY, "claimed %.80s, but %s", it->mime_type, mime_type), 422;
     if (is_double(bytes, size, row))
-        return snprintf(why, 256, "%s that fits another type too", mime_type), 422;
-    if (holds_no_archives(row) && hides_archive(bytes, size))
-        return snprintf(why, 256, "%s that holds an archive", mime_type), 422;
-    snprintf(why, 256, "%s", mime_type);
+        return snprintf(why, WHY, "%s that fits another type too", mime_type), 422;
+    if (holds_no_archives(&answer) && hides_archive(bytes, size))
+        return snprintf(why, WHY, "%s that holds an archive", mime_type), 422;
+    snprintf(why, WHY, "%s", mime_type);
     return 0;
 }
 
 /* Judges the whole file, which is mapped, so that only the pages that decide are read. It has no name, so that nobody
  * shortens it meanwhile. */
-static int judge_file(const struct request *it, int file, char why[256]) {
+static int judge_file(const struct request *it, int file, char why[WHY]) {
     void *bytes = it->length > 0 ? mmap(NULL, it->length, PROT_READ, MAP_PRIVATE, file, 0) : "";
     return bytes == MAP_FAILED ? 500 : judge(it, bytes, it->length, why);
 }
@@ -397,7 +455,7 @@ static int keep(int file, const char *name) {
 }
 
 /* Takes the body, of which the head's last read brought `count` bytes. */
-static int store(int fd, const struct request *it, const char *early, size_t count, long long deadline, char why[256]) {
+static int store(int fd, const struct request *it, const char *early, size_t count, long long deadline, char why[WHY]) {
     size_t size = count < it->length ? count : it->length;
     int file = open_file();
     if (file < 0)
@@ -408,7 +466,7 @@ static int store(int fd, const struct request *it, const char *early, size_t cou
     return status == 0 ? keep(file, it->name) : status;
 }
 
-static int take(int fd, char why[256]) {
+static int take(int fd, char why[WHY]) {
     static char head[HEAD + 1];
     struct request it = {0};
     long long deadline = now() + patience;
@@ -426,7 +484,7 @@ static int take(int fd, char why[256]) {
 }
 
 static void serve(int fd) {
-    char why[256] = "";
+    char why[WHY] = "";
     int status = take(fd, why);
     respond(fd, status, *why && (status == 201 || status == 415 || status == 422) ? why : reason(status));
     shutdown(fd, SHUT_WR);
@@ -441,9 +499,9 @@ static void serve(int fd) {
     }
 }
 
-/* Allows the rows of a class or of a MIME type, and answers whether there are any. */
+/* Allows the rows of a class or of a MIME type, and answers whether there are any, or an own type. */
 static bool allow_rows(const char *name) {
-    bool has_some = false;
+    bool has_some = is_among_own(NULL, name, NULL) || is_among_own(NULL, NULL, name);
     for (int32_t row = 0; row < (int32_t)infer_row_count(); row++) {
         char class[16], mime_type[128];
         infer_class_name(infer_class(row), class, sizeof class);
@@ -456,11 +514,32 @@ static bool allow_rows(const char *name) {
 
 static bool allow(char *names) {
     allowed = calloc(infer_row_count(), sizeof *allowed);
+    if (asprintf(&allowed_names, ",%s,", names) < 0)
+        return false;
     char *name = allowed ? strtok(names, ",") : NULL;
     bool are_known = name != NULL;
     for (; name && are_known; name = strtok(NULL, ","))
         are_known = allow_rows(name);
     return are_known;
+}
+
+/* Takes the types that a file describes, or says why not. */
+static bool take_types(const char *path) {
+    struct stat about;
+    size_t line, column;
+    char reason_text[INFER_TEXT_SIZE];
+    int fd = open(path, O_RDONLY | O_CLOEXEC);
+    bool is_read = fd >= 0 && fstat(fd, &about) == 0 && (own_types = calloc(1, (size_t)about.st_size + 1));
+    ssize_t got = is_read ? read(fd, own_types, (size_t)about.st_size) : -1;
+    if (got < 0)
+        perror(path);
+    close(fd);
+    own_size = got < 0 ? 0 : (size_t)got;
+    if (got >= 0 && infer_types_check(own_types, own_size, &line, &column, reason_text, sizeof reason_text) == 0)
+        return true;
+    if (got >= 0)
+        fprintf(stderr, "%s:%zu:%zu: %s\n", path, line, column, reason_text);
+    return false;
 }
 
 /* Whether the word is a port in digits. */
@@ -554,8 +633,14 @@ static bool set_up(void) {
 }
 
 int main(int argc, char **argv) {
+    if (argc > 2 && strcmp(argv[1], "--types") == 0) {
+        if (!take_types(argv[2]))
+            return 2;
+        argc -= 2;
+        argv += 2;
+    }
     if (argc < 4 || argc > 5 || !is_port(argv[1]) || !allow(argv[3]) || (argc == 5 && (patience = atol(argv[4]) * 1000) <= 0)) {
-        fputs("usage: upload_gate PORT FOLDER CLASS|MIME_TYPE,.. [SECONDS]\n", stderr);
+        fputs("usage: upload_gate [--types TEXT] PORT FOLDER CLASS|MIME_TYPE,.. [SECONDS]\n", stderr);
         return 2;
     }
     int listening = set_up() && open_folder(argv[2]) ? listen_at(argv[1]) : -1;
