@@ -6,7 +6,11 @@ const FRONT = 8192;
 /** Most files are told by so many bytes, and of a Blob no more are read then. */
 const FIRST = 1024;
 const PAGE = 65536;
-const TEXT = 128;
+/** Room for a text that the module writes, of which two stand behind the bytes that it is asked about. */
+const TEXT = 256;
+/** Then come two numbers, and a text of types. */
+const NUMBERS = FRONT + 2 * TEXT;
+const TYPES = NUMBERS + 16;
 /** The smallest module with a 64-bit memory. */
 const WIDE = new Uint8Array([0, 97, 115, 109, 1, 0, 0, 0, 5, 3, 1, 4, 1]);
 const NO_WIDE_MEMORY =
@@ -15,6 +19,8 @@ const NO_WIDE_MEMORY =
 let infer;
 let place;
 let room;
+/** The text of types that the module sees. */
+let held;
 const rows = [];
 
 export const supportedExtensions = new Set();
@@ -28,6 +34,13 @@ const grow = (memory, pages) => {
         if (!(fault instanceof TypeError)) throw fault;
         memory.grow(pages);
     }
+};
+
+/** Makes the room behind the module's own memory as large as that, with what stood there. */
+const makeRoom = (size) => {
+    const missing = Number(place) + size - infer.memory.buffer.byteLength;
+    if (missing > 0) grow(infer.memory, Math.ceil(missing / PAGE));
+    room = new Uint8Array(infer.memory.buffer, Number(place), size);
 };
 
 /** The text that the module writes behind the bytes that it is asked about. */
@@ -47,10 +60,7 @@ export const connect = async (read) => {
     }
     infer = (await WebAssembly.instantiate(bytes, {})).instance.exports;
     place = infer.__heap_base.value;
-    const start = Number(place);
-    const missing = start + FRONT + TEXT - infer.memory.buffer.byteLength;
-    if (missing > 0) grow(infer.memory, Math.ceil(missing / PAGE));
-    room = new Uint8Array(infer.memory.buffer, start, FRONT + TEXT);
+    makeRoom(TYPES);
     const [builtIn, all] = [Number(infer.infer_row_count()), Number(infer.infer_more_row_count())];
     for (let row = 0; row < all; row += 1) {
         rows.push({ ext: textOf(infer.infer_extension, row), mime: textOf(infer.infer_mime_type, row) });
@@ -75,6 +85,51 @@ export const wider = (input) => answerOf(ask(infer.infer_more_position, input));
 export const encoding = (input) => textOf(infer.infer_encoding, place, hand(input)) || undefined;
 export const isDecided = (input) => ask(infer.infer_is_decided, input) !== 0;
 export const fileTypeFromBuffer = async (input) => typeOf(input);
+
+/** The mistake of a text that describes no types. */
+export class TypesError extends SyntaxError {
+    constructor(line, column, reason) {
+        super(`line ${line}, column ${column}: ${reason}`);
+        Object.assign(this, { name: "TypesError", line, column, reason });
+    }
+}
+
+/** The place of what stands so far behind the bytes that the module is asked about. */
+const at = (distance) => place + BigInt(distance);
+
+/** The text up to its zero. */
+const written = (distance) => {
+    const text = room.slice(distance, distance + TEXT);
+    return new TextDecoder().decode(text.subarray(0, text.indexOf(0)));
+};
+
+/** Copies the text to where the module sees it, and gives where that is and its length. */
+const hold = (text) => {
+    if (held !== text) {
+        makeRoom(TYPES + text.length);
+        room.set(text, TYPES);
+        held = text;
+    }
+    return [at(TYPES), BigInt(text.length)];
+};
+
+export class Types {
+    #text;
+
+    constructor(text) {
+        this.#text = typeof text === "string" ? new TextEncoder().encode(text) : frontOf(text, Infinity).slice();
+        if (infer.infer_types_check(...hold(this.#text), at(NUMBERS), at(NUMBERS + 8), at(FRONT), BigInt(TEXT)) === 0n) return;
+        const numbers = new DataView(room.buffer, room.byteOffset + NUMBERS, 16);
+        throw new TypesError(Number(numbers.getBigUint64(0, true)), Number(numbers.getBigUint64(8, true)), written(FRONT));
+    }
+
+    wider(input) {
+        const text = hold(this.#text);
+        const size = BigInt(TEXT);
+        const group = infer.infer_types_get(...text, place, hand(input), at(FRONT), size, at(FRONT + TEXT), size);
+        return group < 0 ? undefined : { ext: written(FRONT + TEXT), mime: written(FRONT) };
+    }
+}
 
 export const fileTypeFromBlob = async (blob) => {
     if (typeof blob?.slice !== "function" || typeof blob.arrayBuffer !== "function") throw new TypeError("hand over a Blob or a File");

@@ -32,6 +32,26 @@ export function encoding(bytes: Bytes): "us-ascii" | "utf-8" | "utf-16le" | "utf
 /** Whether no bytes that may follow can change the answer of fileTypeFromBuffer. */
 export function isDecided(bytes: Bytes): boolean;
 
+/** What is wrong with a text that describes no types, and where: the line and the column, both from 1, a column by bytes. */
+export class TypesError extends SyntaxError {
+    private constructor();
+    readonly line: number;
+    readonly column: number;
+    readonly reason: string;
+}
+
+/** Types of your own, which a text describes, one a line, in the notation of docs/NOTATION.md. */
+export class Types {
+    /** Throws a TypesError if the text describes no types. */
+    constructor(text: string | Bytes);
+
+    /**
+     * The first of these types that stands below the answer of fileTypeFromBuffer and accepts the first 8192 bytes, and the
+     * answer of wider if there is none.
+     */
+    wider(bytes: Bytes): FileTypeResult | undefined;
+}
+
 /** The extensions that fileTypeFromBuffer knows. */
 export const supportedExtensions: ReadonlySet<string>;
 

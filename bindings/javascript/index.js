@@ -9,6 +9,8 @@ await connect(async () => {
 });
 
 export {
+    Types,
+    TypesError,
     encoding,
     fileTypeFromBlob,
     fileTypeFromBuffer,

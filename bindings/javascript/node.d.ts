@@ -4,7 +4,7 @@ import type { Readable } from "node:stream";
 import type { ReadableStream as NodeReadableStream } from "node:stream/web";
 import type { Bytes, FileTypeResult } from "./index.js";
 
-export { encoding, fileTypeFromBlob, fileTypeFromBuffer, isDecided, supportedExtensions, supportedMimeTypes, wider } from "./index.js";
+export { Types, TypesError, encoding, fileTypeFromBlob, fileTypeFromBuffer, isDecided, supportedExtensions, supportedMimeTypes, wider } from "./index.js";
 export type { Bytes, FileTypeResult } from "./index.js";
 
 /** The type of a file, of which 8192 bytes are read at most. */

@@ -36,6 +36,45 @@ test("each vector of the further rows has its wider answer", () => {
     }
 });
 
+const OWN_TYPES = `# extension MIME type class parent signature \u2014 mine
+qoi   image/qoi        image -   14: @0 "qoif"
+myapp application/x-my app   zip 42: @30 "manifest.my"
+`;
+
+test("types of a text answer before the further ones", () => {
+    const bytes = (text) => new TextEncoder().encode(text);
+    const own = new infer.Types(OWN_TYPES);
+    const none = new infer.Types("");
+    const large = new infer.Types(bytes("# a remark that is longer than a page of memory\n".repeat(5000) + OWN_TYPES));
+    for (const types of [own, large]) {
+        assert.deepEqual(types.wider(bytes("qoif0123456789")), { ext: "qoi", mime: "image/qoi" });
+        assert.deepEqual(types.wider(bytes(`PK\x03\x04${"0".repeat(26)}manifest.my?`)), { ext: "myapp", mime: "application/x-my" });
+        assert.equal(types.wider(new ArrayBuffer(0)), undefined);
+    }
+    for (const { name, data } of furtherVectors) {
+        for (const types of [own, none]) assert.deepEqual(types.wider(data), wider(data), name);
+    }
+    const name = "x".repeat(127);
+    assert.deepEqual(new infer.Types(`${name} ${name}/${name} doc - 1: @0 00`).wider(new Uint8Array(1)), { ext: name, mime: `${name}/${name}` });
+    assert.throws(() => own.wider("text"), TypeError);
+});
+
+test("a mistake in a text of types has a place and a reason", () => {
+    const told = [
+        ["qoi image/qoi picture - 14: @0 00", 1, 15, "unknown class"],
+        ['\n\nqoi image/qoi image - 14: @0 "qoif\n', 3, 30, "quotes do not close"],
+        ["\uFEFFa b/c app - 1: @0 00", 1, 1, "no extension"],
+        [`${OWN_TYPES}a`, 4, 2, "a type has an extension, a MIME type, a class, a parent and a signature"],
+        [Uint8Array.of(0), 1, 1, "no extension"],
+    ];
+    for (const [text, line, column, reason] of told) {
+        const message = `line ${line}, column ${column}: ${reason}`;
+        assert.throws(() => new infer.Types(text), { name: "TypesError", message, line, column, reason });
+        assert.throws(() => new infer.Types(text), (fault) => fault instanceof SyntaxError && fault instanceof infer.TypesError);
+    }
+    for (const other of [undefined, null, 1, ["qoi"], {}]) assert.throws(() => new infer.Types(other), TypeError);
+});
+
 test("an encoding is that of the standard decoder", () => {
     const below = generator(9);
     for (let round = 0; round < 20_000; round += 1) {

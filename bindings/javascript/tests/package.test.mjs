@@ -93,12 +93,14 @@ const found: types.FileTypeResult | undefined = await types.fileTypeFromBuffer(n
 const names: string[] = [found?.ext ?? "", found?.mime ?? "", extensions.get("jpeg") ?? "", ...types.supportedExtensions, ...types.supportedMimeTypes];
 const whole = await types.fileTypeStream(new Blob([]).stream());
 const more: types.FileTypeResult | undefined = whole.fileType ?? types.wider(new SharedArrayBuffer(4)) ?? (await types.fileTypeFromBlob(new Blob([])));
+const own: types.FileTypeResult | undefined = new types.Types("").wider(new Uint8Array(4)) ?? new types.Types(new ArrayBuffer(4)).wider(new ArrayBuffer(4));
+const place = (fault: types.TypesError): string => fault.reason + (fault.line + fault.column);
 const isDecided: boolean = types.isDecided(new DataView(new ArrayBuffer(4)));
 // @ts-expect-error
 await types.fileTypeFromBuffer("text");
 // @ts-expect-error
 found!.ext = "x";
-export { names, whole, more, isDecided };
+export { names, whole, more, own, place, isDecided };
 `;
 
 test("the declarations fit a program of a user's, by tsc", { skip: isThere("tsc") ? false : "no tsc that runs is here" }, () => {
