@@ -3,12 +3,13 @@
 
 use crate::added::begins_10_11_12;
 use crate::definitions::{
-    has_folder_at_30, has_ftyp_at_4, has_head_mz, has_major_heic, has_no_answer_with,
-    has_no_answer_of_types, has_no_encoding, has_no_row, has_no_wider_answer, has_word_id, is_accepted_by_exe,
-    is_accepted_by_object, is_accepted_by_png, is_boxed, is_changeable, is_exe_by_extension,
-    is_first_exe, is_frame, is_held_by_space, is_labelled_png, is_mark, is_object, is_one_by_be32,
-    is_one_by_le16, is_one_by_le32, is_program_sh, is_root_svg, is_sample_of_png, is_settled,
-    is_space, is_unknown_so_far, may_become_wasm, shows_extension, shows_mime_type,
+    has_folder_at_30, has_ftyp_at_4, has_head_mz, has_major_heic, has_no_answer_of_types,
+    has_no_answer_with, has_no_encoding, has_no_row, has_no_wider_answer, has_word_id,
+    is_accepted_by_exe, is_accepted_by_object, is_accepted_by_png, is_boxed, is_changeable,
+    is_exe_by_extension, is_first_exe, is_frame, is_held_by_space, is_labelled_png, is_mark,
+    is_object, is_one_by_be32, is_one_by_le16, is_one_by_le32, is_program_sh, is_root_svg,
+    is_sample_of_png, is_settled, is_space, is_unknown_so_far, may_become_wasm, shows_extension,
+    shows_mime_type,
 };
 use crate::growing::{
     begins_white_alone, breaks_at_1, is_kept_open_by_white, is_one_short, stays_unknown,
