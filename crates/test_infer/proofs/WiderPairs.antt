@@ -206,7 +206,7 @@ pub encoding_name_pair : (encoding_name Utf8 ≡ codes "utf-8") × (¬ (encoding
 encoding_name_pair = (refl, λ e. omega (arith, ap length e))
 
 pub IsOneOf_pair : IsOneOf (codes "b") (codes "a" ∷ codes "b" ∷ []) × (¬ IsOneOf (codes "c") (codes "a" ∷ codes "b" ∷ []))
-IsOneOf_pair = (inr (inl refl), λ h. elim h [ inl e ↦ absurd (cc) | inr (inl e) ↦ absurd (cc) | inr (inr none) ↦ none ])
+IsOneOf_pair = (inr (inl refl), λ h. elim h [ inl e ↦ omega (arith, ap (λ b. get_or b 0 0) e) | inr (inl e) ↦ omega (arith, ap (λ b. get_or b 0 0) e) | inr (inr none) ↦ none ])
 
 pub applications_pair : (slice_index_or applications 1 [] ≡ codes "xl/") × (¬ (slice_index_or applications 5 [] ≡ codes "xl/"))
 applications_pair = (refl, λ e. absurd (cc))
