@@ -4,4 +4,5 @@ pub mod OneLemmas
 pub mod SignaturePairs
 pub mod AnswerPairs
 pub mod WiderPairs
+pub mod InsidePairs
 pub mod TypesLemmas
