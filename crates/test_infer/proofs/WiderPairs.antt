@@ -1,7 +1,9 @@
 -- What has a property of further rows, of verdicts and of what users do, and what has not: each pair computed, or proved by a law.
-use Rattle.std.proofs.Common.{◌≡◌, ◌≤◌, ◌++◌, ℕ, true, false, List, [], ◌∷◌, None, Some, IsTrue, length, length-append, get_or, slice_index, refl, ap, subst, ⊎_elim, codes, arith, inl, inr}
+use Rattle.std.proofs.Common.{◌≡◌, ◌<◌, ◌≤◌, ◌++◌, ℕ, zero, suc, Bool, true, false, List, [], ◌∷◌, Option, None, Some, IsTrue, nat_eq, length, length-append, get_or, slice_index, refl, ap, subst, ⊎_elim, codes, arith, inl, inr}
+use Rattle.std.proofs.lemmas.Bool.{and_parts}
 use Rattle.std.proofs.lemmas.Bool.Decides.{nat_tests}
-use Rattle.std.specs.Prelude.{slice_index_or}
+use Rattle.std.specs.List.{list_all}
+use Rattle.std.specs.Prelude.{slice_index_or, if◌then◌else◌}
 use denote.Ref.{Bor}
 use Rattle.infer_sig.specs.Signature as fixed
 use Rattle.infer_sig.specs.Signature.{text}
@@ -10,7 +12,7 @@ use Rattle.infer.specs.Triple.{triple}
 use Rattle.infer.specs.Table.{table}
 use Rattle.infer.specs.declared.table.file_type.FileType.{FileType}
 use Rattle.infer.specs.declared.table.file_type.MatcherType.TheVariants.{App}
-use Rattle.infer.specs.declared.table.rows.TheConstants.{DLL, ELF, EXE, PDF, ROW_COUNT, XML}
+use Rattle.infer.specs.declared.table.rows.TheConstants.{DLL, ELF, EXE, GIF, PDF, ROW_COUNT, XML}
 use Rattle.infer_inside.specs.Markup.{HasInTag}
 use Rattle.infer_inside.specs.Text.{IsDataByte, encoding_name}
 use Rattle.infer_inside.specs.Zip.{HasFirstName, IsOneOf, applications}
@@ -27,8 +29,8 @@ use Rattle.infer_more.specs.Listed.{AreEnded, joined, row_listed, signature_list
 use Rattle.infer_more.specs.Row.{Further, is_closed, is_closed_alternative, is_row_closed}
 use Rattle.infer_more.specs.Samples.{HasNoSample, further_sample, has_room, least_of, model, model_entry, parts_of, sample_at, written}
 use Rattle.infer_more.specs.Signature.{Accepted, Alternative, at_least, binary_bytes, bytes, json_text, plain_text}
-use Rattle.infer_more.specs.Table.{further, packages}
-use Rattle.infer_more.specs.Wider.{Widens, parent_at, shown, wider}
+use Rattle.infer_more.specs.Table.{archives, code, further, headers, images, late, markup, media, packages, records}
+use Rattle.infer_more.specs.Wider.{IsWidened, Widens, parent_at, shown, wider}
 use Rattle.infer_sig.proofs.PlaceLemmas.{stands_by_place}
 use Rattle.infer_sig.specs.Signature.{stands}
 use Rattle.infer.proofs.KnownLemmas.{proof_of}
@@ -226,6 +228,31 @@ Widens_pair = ((refl, inl refl), λ h. absurd (⊎_elim (λ t. cc) (λ n. n) h.1
 
 pub wider_pair : (wider None (Some 0) ≡ Some ROW_COUNT) × (¬ (wider None None ≡ Some ROW_COUNT))
 wider_pair = (refl, λ e. absurd (cc))
+
+-- the parent is not the row of GIF images
+abbrev is_other : Option ℕ → Bool
+is_other None = true
+is_other (Some p) = if nat_eq p GIF then false else true
+
+each_passes : (test : Further → Bool) (rows : List Further) → IsTrue (list_all test rows) → (k : ℕ) (d : Further) → k < length rows
+    → IsTrue (test (slice_index_or rows k d))
+each_passes test [] t k d l = absurd (omega (arith, l))
+each_passes test (x ∷ rows) t zero d l = (and_parts (test x) _ t).0
+each_passes test (x ∷ rows) t (suc k) d l = each_passes test rows (and_parts (test x) _ t).1 k d (omega (arith, l))
+
+none_below : IsTrue (list_all (λ r. is_other r.parent) further)
+unfolding further archives code headers images late markup media packages records
+none_below = refl
+
+widens_all : (found : Option ℕ) → ¬ (None ≡ wider (Some GIF) found)
+widens_all None e = absurd (cc)
+widens_all (Some j) e = absurd (cc)
+
+pub IsWidened_pair : IsWidened (Some GIF) [] (Some GIF) × (¬ IsWidened (Some GIF) [] None)
+IsWidened_pair = (
+  (None, λ k d low high w. absurd (let t = subst (λ p. IsTrue (is_other p)) w.0 (each_passes (λ r. is_other r.parent) further none_below k d high) in cc), refl),
+  λ h. widens_all h.0 h.2,
+)
 
 pub lines_pair : (lines (bytes (fixed.at_least 3 [])) ≡ fixed.at_least 3 [] ∷ []) × (¬ (lines json_text ≡ fixed.at_least 3 [] ∷ []))
 lines_pair = (refl, λ e. omega (arith, ap length e))
