@@ -25,49 +25,56 @@ static void wants(const char *what, const unsigned char *buf, size_t len, const 
     printf("inside: %s of %zu bytes is '%s', and not '%s'\n", what, len, extension, found);
 }
 
-/* A text so many times, between a front and an end. */
-static void repeated(const char *front, const char *text, size_t times, const char *last, const char *extension) {
-    size_t len = strlen(front) + times * strlen(text) + strlen(last);
-    unsigned char *buf = end - len, *to = buf;
-    memcpy(to, front, strlen(front));
-    to += strlen(front);
-    for (size_t i = 0; i < times; i++, to += strlen(text))
-        memcpy(to, text, strlen(text));
-    memcpy(to, last, strlen(last));
-    wants(text, buf, len, extension);
-}
+/* A text so many times, between a front and an end, and the answer. */
+static const struct {
+    const char *front, *text;
+    size_t times;
+    const char *last, *extension;
+} repeated[] = {
+    /* Brackets may be nested 128 deep. */
+    {"", "[", 128, "", "json"},
+    {"", "[", 129, "", "txt"},
+    {"", "[", 10 * MILLION, "", "txt"},
+    {"", "[{\"a\":", 64, "", "json"},
+    {"", "{\"a\":", 2 * MILLION, "", "txt"},
+    {"", "[]\n", 3 * MILLION, "", "ndjson"},
+    /* A string that does not close is no whole token. */
+    {"[\"", "a", MILLION, "", "txt"},
+    {"[\"", "a", MILLION, "\"", "json"},
+    {"[\"", "\\\\", MILLION, "\"]", "json"},
+    {"[", "1", MILLION, " ", "json"},
+    {"[", " ", MILLION, "]", "json"},
+    /* What the prolog of markup does not close has no root. */
+    {"", "<?", 8192, "", "txt"},
+    {"", "<?\?>", 2 * MILLION, "", "txt"},
+    {"", "<?\?>", 2 * MILLION, "<svg>", "svg"},
+    {"", "<!---->", MILLION, "", "txt"},
+    {"", "<!---->", MILLION, "<svg ", "svg"},
+    {"<!--", "-", MILLION, "", "txt"},
+    {"<!--", "-", MILLION, "><svg>", "svg"},
+    {"<!DOCTYPE ", "s", MILLION, "", "txt"},
+    {"<", "a", MILLION, "", "txt"},
+    {"<", "a:", MILLION, "svg>", "svg"},
+    {"", " ", MILLION, "<svg>", "svg"},
+    /* A first line that never names a program is a shell's. */
+    {"#!", " ", MILLION, "", "sh"},
+    {"#!/usr/bin/env", " A=1", MILLION, " python3\n", "py"},
+    {"#!", "/", MILLION, "perl5.36\n", "pl"},
+    {"#!perl", "5.", MILLION, "\n", "pl"},
+};
 
 static void texts(void) {
-    /* Brackets may be nested 128 deep. */
-    repeated("", "[", 128, "", "json");
-    repeated("", "[", 129, "", "txt");
-    repeated("", "[", 10 * MILLION, "", "txt");
-    repeated("", "[{\"a\":", 64, "", "json");
-    repeated("", "{\"a\":", 2 * MILLION, "", "txt");
-    repeated("", "[]\n", 3 * MILLION, "", "ndjson");
-    /* A string that does not close is no whole token. */
-    repeated("[\"", "a", MILLION, "", "txt");
-    repeated("[\"", "a", MILLION, "\"", "json");
-    repeated("[\"", "\\\\", MILLION, "\"]", "json");
-    repeated("[", "1", MILLION, " ", "json");
-    repeated("[", " ", MILLION, "]", "json");
-    /* What the prolog of markup does not close has no root. */
-    repeated("", "<?", 8192, "", "txt");
-    repeated("", "<?\?>", 2 * MILLION, "", "txt");
-    repeated("", "<?\?>", 2 * MILLION, "<svg>", "svg");
-    repeated("", "<!---->", MILLION, "", "txt");
-    repeated("", "<!---->", MILLION, "<svg ", "svg");
-    repeated("<!--", "-", MILLION, "", "txt");
-    repeated("<!--", "-", MILLION, "><svg>", "svg");
-    repeated("<!DOCTYPE ", "s", MILLION, "", "txt");
-    repeated("<", "a", MILLION, "", "txt");
-    repeated("<", "a:", MILLION, "svg>", "svg");
-    repeated("", " ", MILLION, "<svg>", "svg");
-    /* A first line that never names a program is a shell's. */
-    repeated("#!", " ", MILLION, "", "sh");
-    repeated("#!/usr/bin/env", " A=1", MILLION, " python3\n", "py");
-    repeated("#!", "/", MILLION, "perl5.36\n", "pl");
-    repeated("#!perl", "5.", MILLION, "\n", "pl");
+    for (size_t row = 0; row < sizeof repeated / sizeof *repeated; row++) {
+        const char *front = repeated[row].front, *text = repeated[row].text, *last = repeated[row].last;
+        size_t times = repeated[row].times, len = strlen(front) + times * strlen(text) + strlen(last);
+        unsigned char *buf = end - len, *to = buf;
+        memcpy(to, front, strlen(front));
+        to += strlen(front);
+        for (size_t i = 0; i < times; i++, to += strlen(text))
+            memcpy(to, text, strlen(text));
+        memcpy(to, last, strlen(last));
+        wants(text, buf, len, repeated[row].extension);
+    }
 }
 
 static void little(unsigned char *to, uint64_t number, size_t bytes) {

@@ -1,7 +1,7 @@
 -- What has a property of further rows, of verdicts and of what users do, and what has not: each pair computed, or proved by a law.
-use Rattle.std.proofs.Common.{◌≡◌, ◌<◌, ◌≤◌, ◌++◌, ℕ, zero, suc, Bool, true, false, List, [], ◌∷◌, Option, None, Some, IsTrue, nat_eq, length, length-append, get_or, slice_index, refl, ap, subst, ⊎_elim, codes, arith, inl, inr}
-use Rattle.std.proofs.lemmas.Bool.{and_parts}
+use Rattle.std.proofs.Common.{◌≡◌, ◌≤◌, ◌++◌, ℕ, Bool, true, false, List, [], ◌∷◌, Option, None, Some, IsTrue, nat_eq, length, length-append, get_or, slice_index, refl, ap, subst, ⊎_elim, codes, arith, inl, inr}
 use Rattle.std.proofs.lemmas.Bool.Decides.{nat_tests}
+use Rattle.std.proofs.lemmas.List.Folds.{list_all_at}
 use Rattle.std.specs.List.{list_all}
 use Rattle.std.specs.Prelude.{slice_index_or, if◌then◌else◌}
 use denote.Ref.{Bor}
@@ -234,12 +234,6 @@ abbrev is_other : Option ℕ → Bool
 is_other None = true
 is_other (Some p) = if nat_eq p GIF then false else true
 
-each_passes : (test : Further → Bool) (rows : List Further) → IsTrue (list_all test rows) → (k : ℕ) (d : Further) → k < length rows
-    → IsTrue (test (slice_index_or rows k d))
-each_passes test [] t k d l = absurd (omega (arith, l))
-each_passes test (x ∷ rows) t zero d l = (and_parts (test x) _ t).0
-each_passes test (x ∷ rows) t (suc k) d l = each_passes test rows (and_parts (test x) _ t).1 k d (omega (arith, l))
-
 none_below : IsTrue (list_all (λ r. is_other r.parent) further)
 unfolding further archives code headers images late markup media packages records
 none_below = refl
@@ -250,7 +244,7 @@ widens_all (Some j) e = absurd (cc)
 
 pub IsWidened_pair : IsWidened (Some GIF) [] (Some GIF) × (¬ IsWidened (Some GIF) [] None)
 IsWidened_pair = (
-  (None, λ k d low high w. absurd (let t = subst (λ p. IsTrue (is_other p)) w.0 (each_passes (λ r. is_other r.parent) further none_below k d high) in cc), refl),
+  (None, λ k d low high w. absurd (let some = list_all_at (λ r. is_other r.parent) further k d high (ap is_other w.0) in let none = none_below in cc), refl),
   λ h. widens_all h.0 h.2,
 )
 
