@@ -410,7 +410,7 @@ def check_counts(pages):
         fronts = [] if page in ("docs/DEFINITIONS.md", "docs/PROMISES.md") else re.findall(r"first (\d{3,5}) bytes", text)
         for count in fronts:
             yield count in (front, "1024", "256", most), f"{page} speaks of the first {count} bytes, and {front} are read"
-        for count in re.findall(r"\b1 to (\d+)", text):
+        for count in [] if page in ("docs/DEFINITIONS.md", "docs/PROMISES.md") else re.findall(r"\b1 to (\d+)", text):
             yield count == most, f"{page} speaks of 1 to {count}, and the program takes {most}"
     real = [sorted(counted_files(it)) for it in ("c/infer.h", "docs/HOSTILE_INPUT.md")]
     yield real[0] == real[1] and len(real[0]) == 2, f"docs/HOSTILE_INPUT.md counts real files otherwise than c/infer.h: {real}"
