@@ -33,7 +33,7 @@ def at_most(cell):
 REPEATED = [
     ("README.md", r"\| Rust crate `infer` [\d.]+ \| ([\d,]+) / [\d,]+ instructions", "answer", MEDIAN, "`position`", as_it_is),
     ("README.md", r"\| Rust crate `infer` [\d.]+ \| [\d,]+ / ([\d,]+) instructions", "answer", MEDIAN, "`get` there", as_it_is),
-    ("CHANGELOG.md", r"`position` takes ([\d,]+) instructions at the median", "answer", MEDIAN, "`position`", as_it_is),
+    ("CHANGELOG.md", r"`position`\s+takes\s+([\d,]+)\s+instructions\s+at\s+the\s+median", "answer", MEDIAN, "`position`", as_it_is),
     ("docs/HOSTILE_INPUT.md", r"\| white space, .*\| ([\d.]+) \|", "dearest", "white space", "a byte of 8 KB", at_most),
     ("docs/HOSTILE_INPUT.md", r"\| byte order marks, .*\| ([\d.]+)[ ,]", "dearest", "byte order marks", "a byte of 8 KB", at_most),
     ("docs/HOSTILE_INPUT.md", r"\| skippable frames .*\| ([\d.]+)[ ,]", "dearest", "skippable frames", "a byte of 8 KB", at_most),
