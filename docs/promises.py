@@ -60,7 +60,7 @@ def functions_in(path):
             named = re.match(r' *(pub )?(?:extern "C" )?fn (\w+)', line)
             if named and (named[1] or is_shared):
                 end = next(i for i in range(at, len(lines)) if re.fullmatch(r" *\{\}?", lines[i]) or lines[i].endswith((";", "{")) and i > at or lines[i].endswith((" {", ";")) and i == at)
-                found.append((owner, Function(named[2], " ".join(doc), clauses_of("\n".join(lines[at : end + 1])))))
+                found.append((owner, Function(named[2], " ".join(" ".join(doc).split()), clauses_of("\n".join(lines[at : end + 1])))))
             doc = []
     return found
 
