@@ -56,6 +56,8 @@ def imported(path):
     text, found = text_of(path), {}
     for module, names in re.findall(r"^ *(?:ghost )?use (Rattle[\w.]*)\.\{([^}]*)\}", text, re.M):
         found.update((it.split(" as ")[-1].strip(), file_of(module)) for it in names.split(","))
+    # A module may stand before a name, by a name of its own.
+    found.update((f"{known}.", file_of(module)) for module, known in re.findall(r"^ *use (Rattle[\w.]*) as (\w+)$", text, re.M))
     return found
 
 
@@ -153,9 +155,10 @@ def files():
     return found
 
 
-def file_in(path, name):
-    """The file of a name that another file uses."""
-    return imported(path).get(name) or next(iter(files().get(name, [])), "")
+def file_in(path, name, said):
+    """The file of a name that another file uses, as it says there."""
+    before = re.search(rf"\b(\w+\.){re.escape(name)}\b", said)
+    return imported(path).get(before[1] if before else name) or imported(path).get(name) or next(iter(files().get(name, [])), "")
 
 
 @kept
@@ -181,7 +184,7 @@ def examples():
     for name, row, call in sampled():
         found.setdefault((file_told(call, name), name), []).append((name, f"the sample of `{row}`", "the same without its last byte"))
     for path, name, has, lacks in paired():
-        found.setdefault((file_in(path, name), name), []).append((name, f"`{has}`", f"`{lacks}`"))
+        found.setdefault((file_in(path, name, has), name), []).append((name, f"`{has}`", f"`{lacks}`"))
     for name, file, function, edit in laws():
         found.setdefault((file, name), []).append((name, f"`{function}` proves it", f"and refuses `{edit}`"))
     for name, other in ALSO.items():
