@@ -30,3 +30,12 @@ export const frontOf = (object, most) => {
     const { buffer, offset, length } = nameOfArray(object) === undefined ? ofView : ofArray;
     return new Uint8Array(buffer(object), offset(object), Math.min(length(object), most));
 };
+
+/** Copies the first bytes of what was handed over to the beginning of `room`, `most` at most, and tells how many they are. */
+export const copyFront = (object, most, room) => {
+    // To make a view takes as long as to copy, so there is none of what is copied whole.
+    const isWhole = nameOfArray(object) === "Uint8Array" && ofArray.length(object) <= most;
+    const front = isWhole ? object : frontOf(object, most);
+    room.set(front);
+    return isWhole ? ofArray.length(object) : front.length;
+};

@@ -1,5 +1,5 @@
 // All of the package but how the module is read, which differs between browsers and Node.
-import { frontOf } from "./bytes.js";
+import { copyFront, frontOf } from "./bytes.js";
 
 /** So many first bytes are looked at, at most. */
 const FRONT = 8192;
@@ -14,7 +14,7 @@ const TYPES = NUMBERS + 16;
 /** The smallest module with a 64-bit memory. */
 const WIDE = new Uint8Array([0, 97, 115, 109, 1, 0, 0, 0, 5, 3, 1, 4, 1]);
 const NO_WIDE_MEMORY =
-    "hoarvelt-infer needs 64-bit WebAssembly memories, which this JavaScript engine does not have: start Node 20 or 22 with --experimental-wasm-memory64, or take a current Chromium or Firefox";
+    "hoarvelt-infer needs 64-bit WebAssembly memories, which this JavaScript engine does not have: take Node 24, start Node 20 or 22 with --experimental-wasm-memory64, or take a current Chromium or Firefox";
 
 let infer;
 let place;
@@ -25,6 +25,8 @@ const rows = [];
 
 export const supportedExtensions = new Set();
 export const supportedMimeTypes = new Set();
+export const widerExtensions = new Set();
+export const widerMimeTypes = new Set();
 
 /** Older engines take the number of pages as a number, and later ones as a BigInt. */
 const grow = (memory, pages) => {
@@ -63,19 +65,18 @@ export const connect = async (read) => {
     makeRoom(TYPES);
     const [builtIn, all] = [Number(infer.infer_row_count()), Number(infer.infer_more_row_count())];
     for (let row = 0; row < all; row += 1) {
-        rows.push({ ext: textOf(infer.infer_extension, row), mime: textOf(infer.infer_mime_type, row) });
+        const [ext, mime] = [textOf(infer.infer_extension, row), textOf(infer.infer_mime_type, row)];
+        rows.push({ ext, mime });
+        widerExtensions.add(ext);
+        widerMimeTypes.add(mime);
         if (row >= builtIn) continue;
-        supportedExtensions.add(rows[row].ext);
-        supportedMimeTypes.add(rows[row].mime);
+        supportedExtensions.add(ext);
+        supportedMimeTypes.add(mime);
     }
 };
 
 /** Copies the first bytes to where the module sees them, and tells how many they are. */
-const hand = (input) => {
-    const front = frontOf(input, FRONT);
-    room.set(front);
-    return BigInt(front.length);
-};
+const hand = (input) => BigInt(copyFront(input, FRONT, room));
 const ask = (question, input) => question(place, hand(input));
 
 const answerOf = (row) => (row < 0 ? undefined : { ...rows[row] });

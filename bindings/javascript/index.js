@@ -20,4 +20,6 @@ export {
     supportedExtensions,
     supportedMimeTypes,
     wider,
+    widerExtensions,
+    widerMimeTypes,
 } from "./core.js";

@@ -2,10 +2,9 @@
 import type { PathLike } from "node:fs";
 import type { Readable } from "node:stream";
 import type { ReadableStream as NodeReadableStream } from "node:stream/web";
-import type { Bytes, FileTypeResult } from "./index.js";
+import type { Bytes, FileTypeResult } from "./core.js";
 
-export { Types, TypesError, encoding, fileTypeFromBlob, fileTypeFromBuffer, isDecided, supportedExtensions, supportedMimeTypes, wider } from "./index.js";
-export type { Bytes, FileTypeResult } from "./index.js";
+export * from "./core.js";
 
 /** The type of a file, of which 8192 bytes are read at most. */
 export function fileTypeFromFile(path: PathLike): Promise<FileTypeResult | undefined>;

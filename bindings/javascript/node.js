@@ -7,7 +7,19 @@ const FRONT = 8192;
 
 await core.connect(() => readFile(new URL("infer.wasm", import.meta.url)));
 
-export { Types, TypesError, encoding, fileTypeFromBlob, fileTypeFromBuffer, isDecided, supportedExtensions, supportedMimeTypes, wider } from "./core.js";
+export {
+    Types,
+    TypesError,
+    encoding,
+    fileTypeFromBlob,
+    fileTypeFromBuffer,
+    isDecided,
+    supportedExtensions,
+    supportedMimeTypes,
+    wider,
+    widerExtensions,
+    widerMimeTypes,
+} from "./core.js";
 
 export const fileTypeFromFile = async (path) => {
     const file = await open(path);

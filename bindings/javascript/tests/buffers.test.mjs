@@ -3,7 +3,7 @@ import assert from "node:assert/strict";
 import { test } from "node:test";
 import * as infer from "hoarvelt-infer";
 import * as aliases from "hoarvelt-infer/aliases";
-import { furtherVectors, generator, rows, samples, vectors } from "./support.mjs";
+import { furtherRows, furtherVectors, generator, rows, samples, vectors } from "./support.mjs";
 
 const { fileTypeFromBuffer, isDecided, wider } = infer;
 const JPEG = { ext: "jpg", mime: "image/jpeg" };
@@ -21,6 +21,9 @@ test("each sample has the type of its row", async () => {
 test("the sets have the extensions and MIME types of the rows", () => {
     assert.deepEqual([...infer.supportedExtensions], [...new Set(rows.map((row) => row.type.ext))]);
     assert.deepEqual([...infer.supportedMimeTypes], [...new Set(rows.map((row) => row.type.mime))]);
+    const known = [...rows, ...furtherRows];
+    assert.deepEqual(infer.widerExtensions, new Set(known.map((row) => row.type.ext)));
+    assert.deepEqual(infer.widerMimeTypes, new Set(known.map((row) => row.type.mime)));
 });
 
 test("each vector has its type", async () => {

@@ -1,7 +1,7 @@
 // The package as npm packs it, its faults before the first answer, its declarations, and the programs of its page.
 import assert from "node:assert/strict";
 import { spawnSync } from "node:child_process";
-import { cpSync, mkdirSync, mkdtempSync, readFileSync, readdirSync, rmSync, writeFileSync } from "node:fs";
+import { cpSync, existsSync, mkdirSync, mkdtempSync, readFileSync, readdirSync, rmSync, writeFileSync } from "node:fs";
 import { tmpdir } from "node:os";
 import { join } from "node:path";
 import { after, test } from "node:test";
@@ -70,7 +70,9 @@ test("a module that is not there is named in one sentence", () => {
 
 test("an engine without 64-bit memories is told in one sentence", () => {
     const folder = folderWith("without-memories");
-    const source = 'import v8 from "node:v8"; v8.setFlagsFromString("--no-experimental-wasm-memory64"); import("hoarvelt-infer").catch((fault) => console.log(fault.message))';
+    // Later versions of Node have them whatever is asked for, so there the question is answered for them.
+    const source = `if (WebAssembly.validate(new Uint8Array([0, 97, 115, 109, 1, 0, 0, 0, 5, 3, 1, 4, 1]))) WebAssembly.validate = () => false;
+        import("hoarvelt-infer").catch((fault) => console.log(fault.message));`;
     assert.match(run(folder, process.execPath, "--input-type=module", "-e", source).stdout, /^hoarvelt-infer needs 64-bit WebAssembly memories, .*\n$/);
 });
 
@@ -103,13 +105,45 @@ found!.ext = "x";
 export { names, whole, more, own, place, isDecided };
 `;
 
-test("the declarations fit a program of a user's, by tsc", { skip: isThere("tsc") ? false : "no tsc that runs is here" }, () => {
-    const folder = folderWith("typed");
-    writeFileSync(join(folder, "program.mts"), TYPED);
-    // With the conditions of a browser: the declarations for Node need those of Node.
-    const paths = { "hoarvelt-infer": ["./node_modules/hoarvelt-infer/index.d.ts"], "hoarvelt-infer/aliases": ["./node_modules/hoarvelt-infer/aliases.d.ts"] };
-    const options = { strict: true, noEmit: true, skipDefaultLibCheck: true, target: "es2022", module: "node16", moduleResolution: "node16", lib: ["es2022", "dom", "dom.iterable"], types: [], baseUrl: ".", paths };
-    writeFileSync(join(folder, "tsconfig.json"), JSON.stringify({ compilerOptions: options, files: ["program.mts"] }));
+const TYPED_FOR_NODE = `import { createReadStream } from "node:fs";
+import { Readable } from "node:stream";
+import { ReadableStream } from "node:stream/web";
+import * as types from "hoarvelt-infer";
+import { extensions } from "hoarvelt-infer/aliases";
+const file: types.FileTypeResult | undefined = await types.fileTypeFromFile(new URL("file:///photo.jpg"));
+const name: string = file?.ext ?? extensions.get("jpeg") ?? "";
+const whole = await types.fileTypeStream(createReadStream("photo.jpg"));
+whole.pipe(process.stdout);
+const ofWeb = await types.fileTypeStream(new ReadableStream<Uint8Array>());
+const found: types.FileTypeResult | undefined = whole.fileType ?? ofWeb.fileType ?? (await types.fileTypeFromStream(Readable.from([]))) ?? types.wider(Buffer.alloc(4));
+const own: types.FileTypeResult | undefined = new types.Types("").wider(new Uint8Array(4)) ?? (await types.fileTypeFromBlob(new Blob([])));
+// @ts-expect-error
+await types.fileTypeFromFile(4);
+// @ts-expect-error
+await types.fileTypeFromStream("photo.jpg");
+export { name, found, own };
+`;
+
+/** Compiles a program with the declarations of the package. */
+const compile = (name, program, options) => {
+    const folder = folderWith(name);
+    writeFileSync(join(folder, "program.mts"), program);
+    const common = { strict: true, noEmit: true, skipDefaultLibCheck: true, target: "es2022", module: "node16", moduleResolution: "node16" };
+    writeFileSync(join(folder, "tsconfig.json"), JSON.stringify({ compilerOptions: { ...common, ...options }, files: ["program.mts"] }));
     const ended = run(folder, "tsc", "-p", ".");
     assert.equal(ended.status, 0, ended.stdout);
+};
+const withoutTsc = isThere("tsc") ? false : "no tsc that runs is here";
+/** Where Debian's package node-types-node has the declarations of Node. */
+const NODE_TYPES = "/usr/share/nodejs/@types";
+const withoutNodeTypes = withoutTsc || (existsSync(join(NODE_TYPES, "node")) ? false : "no declarations of Node are here, as in Debian's node-types-node");
+
+test("the declarations fit a program for browsers, by tsc", { skip: withoutTsc }, () => {
+    // Where no condition is that of Node.
+    const paths = { "hoarvelt-infer": ["./node_modules/hoarvelt-infer/index.d.ts"], "hoarvelt-infer/aliases": ["./node_modules/hoarvelt-infer/aliases.d.ts"] };
+    compile("typed", TYPED, { lib: ["es2022", "dom", "dom.iterable"], types: [], baseUrl: ".", paths });
+});
+
+test("the declarations fit a program for Node, by tsc", { skip: withoutNodeTypes }, () => {
+    compile("typed-for-node", TYPED_FOR_NODE, { lib: ["es2022"], types: ["node"], typeRoots: [NODE_TYPES] });
 });

@@ -1,6 +1,6 @@
 // Streams, Blobs and files: the same answers, no byte read that is not needed, and no byte lost.
 import assert from "node:assert/strict";
-import { mkdtempSync, rmSync, writeFileSync } from "node:fs";
+import { existsSync, mkdtempSync, openAsBlob, readFileSync, rmSync, truncateSync, writeFileSync } from "node:fs";
 import { tmpdir } from "node:os";
 import { join } from "node:path";
 import { Readable } from "node:stream";
@@ -161,6 +161,28 @@ test("of a Blob of 5 GB the first bytes are read, and no more", async () => {
     const late = new Large(new TextEncoder().encode(`${" ".repeat(3000)}<p>`), 5e9);
     assert.equal((await fileTypeFromBlob(late)).ext, "html");
     assert.deepEqual(late.reads, [[0, 1024], [0, 8192]]);
+});
+
+/** How many bytes this process has read of files and the like. */
+const read = () => Number(/^rchar: (\d+)$/m.exec(readFileSync("/proc/self/io", "latin1"))[1]);
+const cannotCount = openAsBlob && existsSync("/proc/self/io") ? false : "this system does not tell how much was read";
+
+test("a file of 5 GB is told as a Blob, and is not read past what is needed", { skip: cannotCount }, async () => {
+    const folder = mkdtempSync(join(tmpdir(), "infer-test-"));
+    try {
+        const path = join(folder, "large");
+        for (const [front, type, needed] of [[jpeg, JPEG, 1024], [new TextEncoder().encode(`${" ".repeat(3000)}<p>`), { ext: "html", mime: "text/html" }, 1024 + 8192]]) {
+            writeFileSync(path, front);
+            truncateSync(path, 5e9);
+            const blob = await openAsBlob(path);
+            const before = read();
+            assert.deepEqual(await fileTypeFromBlob(blob), type);
+            // What /proc tells is read by this process too.
+            assert.ok(read() - before < needed + 1000, `${read() - before} bytes were read`);
+        }
+    } finally {
+        rmSync(folder, { recursive: true });
+    }
 });
 
 test("what is no Blob is refused, and so is one whose bytes are none", async () => {

@@ -24,6 +24,7 @@ export const samples = rows.filter((row) => row.sample !== undefined);
 
 const typeOfName = new Map(rows.map((row) => [row.name, row.type]));
 export const vectors = linesOf("vectors.tsv").map(([name, , row, data]) => ({ name, type: typeOfName.get(row), data: decode(data) }));
+export const furtherRows = linesOf("further/rows.tsv").map(([, mime, ext]) => ({ type: { ext, mime } }));
 /** The name, the bytes, and what the wider answer shows: a MIME type and an extension, or "unknown". */
 export const furtherVectors = linesOf("further/vectors.tsv").map(([name, data, , shown]) => ({ name, data: decode(data), shown }));
 

@@ -1,0 +1,59 @@
+/** The type of a file, from its first bytes. */
+export interface FileTypeResult {
+    /** The extension, without a dot. */
+    readonly ext: string;
+    readonly mime: string;
+}
+
+/** Bytes of any kind. */
+export type Bytes = ArrayBufferView | ArrayBufferLike;
+
+/** The type by the first 8192 bytes, or undefined if they are of no known type. */
+export function fileTypeFromBuffer(bytes: Bytes): Promise<FileTypeResult | undefined>;
+
+/** The type of a Blob or File, of which 8192 bytes are read at most. */
+export function fileTypeFromBlob(blob: Blob): Promise<FileTypeResult | undefined>;
+
+/** The wider answer by the first 8192 bytes: that of fileTypeFromBuffer, or a further type that is more exact. */
+export function wider(bytes: Bytes): FileTypeResult | undefined;
+
+/**
+ * How a text is encoded by its first 8192 bytes, by its IANA name, and undefined if they are no text or of another
+ * encoding. A character that is cut at the end makes no difference.
+ */
+export function encoding(bytes: Bytes): "us-ascii" | "utf-8" | "utf-16le" | "utf-16be" | undefined;
+
+/** Whether no bytes that may follow can change the answer of fileTypeFromBuffer. */
+export function isDecided(bytes: Bytes): boolean;
+
+/** What is wrong with a text that describes no types, and where: the line and the column, both from 1, a column by bytes. */
+export class TypesError extends SyntaxError {
+    private constructor();
+    readonly line: number;
+    readonly column: number;
+    readonly reason: string;
+}
+
+/** Types of your own, which a text describes, one a line, in the notation of docs/NOTATION.md. */
+export class Types {
+    /** Throws a TypesError if the text describes no types. */
+    constructor(text: string | Bytes);
+
+    /**
+     * The first of these types that stands below the answer of fileTypeFromBuffer and accepts the first 8192 bytes, and the
+     * answer of wider if there is none.
+     */
+    wider(bytes: Bytes): FileTypeResult | undefined;
+}
+
+/** The extensions that fileTypeFromBuffer knows. */
+export const supportedExtensions: ReadonlySet<string>;
+
+/** The MIME types that fileTypeFromBuffer knows. */
+export const supportedMimeTypes: ReadonlySet<string>;
+
+/** The extensions that wider knows: those of fileTypeFromBuffer and of the further types. */
+export const widerExtensions: ReadonlySet<string>;
+
+/** The MIME types that wider knows: those of fileTypeFromBuffer and of the further types. */
+export const widerMimeTypes: ReadonlySet<string>;
