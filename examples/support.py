@@ -179,6 +179,11 @@ def vectors() -> list[Vector]:
     return [Vector(name, None if row == "-" else named[row], decode(data)) for name, _, row, data in _lines_of("vectors.tsv")]
 
 
+def further_rows() -> list[Row]:
+    """The further rows by the test data."""
+    return [Row(*words[:3]) for words in _lines_of("further/rows.tsv")]
+
+
 def further_vectors() -> list[tuple[str, bytes, Row | None, str]]:
     """Buffers: the name, the bytes, the further row that is the wider answer or None, and what the wider answer shows,
     its MIME type and its extension or "unknown"."""
