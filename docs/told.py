@@ -23,11 +23,11 @@ PATTERNS = {"may_become_NAME", "is_NAME", "_within", "LIST", "NAME", "_sig", "_d
 
 @kept
 def sources():
-    """The paths of all texts but the pages."""
+    """The paths of all texts but the pages. What bindings copy to themselves is there once they were tested."""
     found = []
     for at, folders, files in os.walk("."):
         folders[:] = sorted(it for it in folders if it not in PRUNED)
-        found += (os.path.normpath(f"{at}/{it}") for it in sorted(files) if not it.endswith((".md", ".png", ".svg", ".jpg")))
+        found += (os.path.normpath(f"{at}/{it}") for it in sorted(files) if not it.endswith((".md", ".png", ".svg", ".jpg", ".wasm", ".a")))
     return [it for it in found if it not in OWN and it != "crates/infer_tool/stdin"]
 
 
