@@ -1,4 +1,4 @@
-"""A headless Chromium, driven by chromedriver over HTTP, and the page as examples/static_server serves it."""
+"""A headless Chromium, driven by chromedriver over HTTP."""
 from __future__ import annotations
 
 import base64
@@ -6,47 +6,23 @@ import contextlib
 import json
 import os
 import shutil
-import socket
 import subprocess
-import sys
+import unittest
 import urllib.error
 import urllib.request
 from collections.abc import Iterator
 from typing import Any
 
-HERE = os.path.dirname(os.path.abspath(__file__))
-sys.path.insert(0, os.path.dirname(HERE))
-import support
-
-MODULE = f"{support.ROOT}/c/out/wasm64-unknown-unknown/infer.wasm"
+from window import Window, free_port, support
 
 
 def missing() -> str:
-    """What is not here of what a test in a browser needs, or nothing."""
-    for name in ("chromium", "chromedriver"):
-        if not shutil.which(name):
-            return f"no {name} is here"
-    return "" if os.path.exists(MODULE) else "no c/out/wasm64-unknown-unknown/infer.wasm: c/build --target wasm64-unknown-unknown makes it"
+    """Which program is not here, or nothing."""
+    return next((f"no {name} is here" for name in ("chromium", "chromedriver") if not shutil.which(name)), "")
 
 
-def free_port() -> int:
-    with socket.socket() as it:
-        it.bind(("127.0.0.1", 0))
-        return it.getsockname()[1]
-
-
-@contextlib.contextmanager
-def served() -> Iterator[str]:
-    """The address of the page."""
-    folder = support.folder()
-    subprocess.run([f"{HERE}/fill", folder], check=True)
-    env = os.environ | {"PYTHONPATH": f"{support.ROOT}/bindings/python/src", "INFER_LIBRARY": support.shared_library()}
-    with support.running([sys.executable, f"{support.ROOT}/examples/static_server/static_server.py", "0", folder], env=env) as server:
-        yield f"http://127.0.0.1:{support.port_of(server)}/"
-
-
-class Browser:
-    """A session of chromedriver."""
+class Chromium(Window):
+    """A session of chromedriver. One that this machine cannot begin leaves the tests out."""
 
     def __init__(self, address: str) -> None:
         self.address = address
@@ -56,7 +32,11 @@ class Browser:
         options = {"args": words, "binary": shutil.which("chromium")}
         wanted = {"browserName": "chrome", "goog:chromeOptions": options, "goog:loggingPrefs": {"browser": "ALL"}}
         self.session = ""
-        self.session = "/session/" + self.ask("/session", {"capabilities": {"alwaysMatch": wanted}})["sessionId"]
+        try:
+            self.session = "/session/" + self.ask("/session", {"capabilities": {"alwaysMatch": wanted}})["sessionId"]
+        except AssertionError as fault:
+            why = json.loads(str(fault))["value"]["message"]
+            raise unittest.SkipTest(f"the chromium that is here cannot start: {why.splitlines()[0]}") from None
 
     def ask(self, command: str, body: dict[str, Any] | None = None, method: str = "POST") -> Any:
         data = None if method == "DELETE" else json.dumps(body or {}).encode()
@@ -70,16 +50,11 @@ class Browser:
     def devtools(self, name: str, **words: Any) -> Any:
         return self.ask("/goog/cdp/execute", {"cmd": name, "params": words})
 
-    def run(self, script: str, *words: Any) -> Any:
-        """What a script returns, of which `arguments` are the words. A promise is waited for."""
-        return self.ask("/execute/sync", {"script": script, "args": list(words)})
-
-    def open(self, address: str) -> None:
+    def go_to(self, address: str) -> None:
         self.ask("/url", {"url": address})
-        support.wait_until(lambda: self.status() != "The page is being made ready.")
 
-    def status(self) -> str:
-        return self.run('return document.getElementById("status").textContent')
+    def run(self, script: str, *words: Any) -> Any:
+        return self.ask("/execute/sync", {"script": script, "args": list(words)})
 
     def drop(self, *paths: str) -> None:
         """Drops files and folders on the page, as a user does, and waits until they were looked at."""
@@ -87,7 +62,10 @@ class Browser:
         data = {"items": [], "files": list(paths), "dragOperationsMask": 1}
         for kind in ("dragEnter", "dragOver", "drop"):
             self.devtools("Input.dispatchDragEvent", type=kind, x=200, y=200, data=data)
-        support.wait_until(lambda: self.status() != before and "Nothing was sent." in self.status())
+        self.wait_for_rows(before)
+
+    def resize(self, width: int, height: int) -> None:
+        self.devtools("Emulation.setDeviceMetricsOverride", width=width, height=height, deviceScaleFactor=1, mobile=False)
 
     def press(self, key: str) -> None:
         actions = [{"type": kind, "value": key} for kind in ("keyDown", "keyUp")]
@@ -98,11 +76,13 @@ class Browser:
 
 
 @contextlib.contextmanager
-def browser() -> Iterator[Browser]:
+def browser() -> Iterator[Chromium]:
     port = free_port()
-    with support.running(["chromedriver", f"--port={port}"], stderr=subprocess.DEVNULL):
-        support.wait_until(lambda: support.is_open(port))
-        it = Browser(f"http://127.0.0.1:{port}")
+    with support.running(["chromedriver", f"--port={port}"], stderr=subprocess.DEVNULL) as driver:
+        support.wait_until(lambda: support.is_open(port) or driver.poll() is not None)
+        if driver.poll() is not None:
+            raise unittest.SkipTest(f"the chromedriver that is here cannot start: status {driver.returncode}")
+        it = Chromium(f"http://127.0.0.1:{port}")
         try:
             yield it
         finally:

@@ -2,6 +2,7 @@
 
 const FRONT = 8192;
 const SHOWN_BYTES = 16;
+const BYTES_IN_A_LINE = 8;
 /** Among so many first bytes those that decide are looked for. */
 const SEARCHED = 1024;
 const ROWS_AT_ONCE = 500;
@@ -55,8 +56,8 @@ const decidingPlaces = (front, type) => {
     const asked = same(infer.wider(bytes), type) ? bytes : front.slice();
     for (let at = 0; at < Math.min(SEARCHED, asked.length); at += 1) {
         const kept = asked[at];
-        const isDeciding = [0xff, 0x01, 0x20, 0x80].some((change) => {
-            asked[at] = kept ^ change;
+        const isDeciding = [kept ^ 0xff, kept ^ 0x01, kept ^ 0x20, kept ^ 0x80, 0].some((change) => {
+            asked[at] = change;
             return !same(infer.wider(asked), type);
         });
         asked[at] = kept;
@@ -74,7 +75,7 @@ const agreement = (name, types) => {
     const extension = aliases.extensions.get(written) ?? written;
     const known = aliases.builtOn.get(extension) ?? SAME_SIGNATURE.get(extension) ?? extension;
     if (types.some((type) => type.ext === extension || type.ext === known)) return ["agrees", "agrees"];
-    if (!infer.supportedExtensions.has(known)) return ["none", `${written} is not known`];
+    if (!infer.widerExtensions.has(known)) return ["none", `${written} is not known`];
     if (types.length === 0) return ["none", `the bytes do not show ${written}`];
     return ["differs", `differs: the name says ${written}`];
 };
@@ -124,8 +125,9 @@ const spansOf = (places) => {
 const bytesCell = ({ shown, places }) => {
     const cell = element("td", "bytes");
     for (const [at, byte] of shown.entries()) {
+        if (at % BYTES_IN_A_LINE === 0) cell.append(element("span", "line"));
         const digits = byte.toString(16).padStart(2, "0").toUpperCase();
-        cell.append(places.includes(at) ? element("mark", "", digits) : digits, " ");
+        cell.lastChild.append(places.includes(at) ? element("mark", "", digits) : digits, " ");
     }
     if (places.length > 0) cell.append(element("span", "note", `decided by ${places.length === 1 ? "byte" : "bytes"} ${spansOf(places)}`));
     return cell;
