@@ -53,13 +53,13 @@ const textOf = (write, ...asked) => {
 
 /** Makes the package ready. `read` gives the bytes of infer.wasm, or a promise of them. */
 export const connect = async (read) => {
-    if (!WebAssembly.validate(WIDE)) throw new Error(NO_WIDE_MEMORY);
     let bytes;
     try {
         bytes = await read();
     } catch (fault) {
         throw new Error(`hoarvelt-infer has no module infer.wasm, which bindings/javascript/fill copies to it: ${fault.message}`, { cause: fault });
     }
+    if (!WebAssembly.validate(WIDE) && !WebAssembly.validate(bytes)) throw new Error(NO_WIDE_MEMORY);
     infer = (await WebAssembly.instantiate(bytes, {})).instance.exports;
     place = infer.__heap_base.value;
     makeRoom(TYPES);
