@@ -7,16 +7,18 @@ from __future__ import annotations
 import argparse
 import contextlib
 import errno
+import functools
 import glob
 import hashlib
 import json
+import logging
 import os
 import stat
 import sys
 import tempfile
 import zlib
 from collections import Counter
-from collections.abc import Iterable, Iterator
+from collections.abc import Callable, Iterable, Iterator
 from dataclasses import dataclass
 from typing import TYPE_CHECKING
 
@@ -28,6 +30,7 @@ sys.path.append(os.path.join(os.path.dirname(os.path.abspath(__file__)), "..", "
 
 OPEN = os.O_RDONLY | os.O_NONBLOCK | os.O_NOFOLLOW | os.O_NOCTTY | os.O_CLOEXEC
 FRONT, MOST, USUAL, AHEAD = 8192, 4000, 1000, 64  # bytes of a file; names of a partition; partitions under way
+CLEAR = "\r\033[K"  # takes a bar from a terminal
 
 
 @dataclass(frozen=True)
@@ -111,15 +114,22 @@ def read_front(folder: int, path: bytes) -> tuple[bytes, int]:
         return front, about.st_size
 
 
-def disagreement(name: bytes, front: bytes, kind: infer.Type) -> infer.Type | None:
-    """The type that the name says, if it is another than that of the bytes; otherwise None."""
+def type_of_extension(word: str) -> infer.Type | None:
+    """The type that an extension says."""
     import infer
     from infer.aliases import BUILT_ON, EXTENSION
+    return infer.get_type(ext=EXTENSION.get(word, word), more=True) or infer.get_type(ext=BUILT_ON.get(word, word), more=True)
+
+
+def disagreement(name: bytes, front: bytes, kind: infer.Type, type_of: Callable[[str], infer.Type | None]) -> infer.Type | None:
+    """The type that the name says, if it is another than that of the bytes; otherwise None."""
+    import infer
+    from infer.aliases import BUILT_ON
     stem, _, last = os.path.basename(name).rpartition(b".")
     word = os.fsdecode(last.lower()) if stem else ""
     if word in ("", kind.extension):
         return None
-    claimed = infer.get_type(ext=EXTENSION.get(word, word), more=True) or infer.get_type(ext=BUILT_ON.get(word, word), more=True)
+    claimed = type_of(word)
     if not claimed:
         return None
     right = {claimed.extension, BUILT_ON.get(word, claimed.extension)}
@@ -134,7 +144,7 @@ def named(name: bytes) -> dict[str, str]:
         return {"name_hex": name.hex()}
 
 
-def answer(entry: Entry, folder: int, sums: Counter[str]) -> dict[str, str | None]:
+def answer(entry: Entry, folder: int, sums: Counter[str], type_of: Callable[[str], infer.Type | None]) -> dict[str, str | None]:
     """The line of a file, which is counted in the sums."""
     import infer
     try:
@@ -149,7 +159,7 @@ def answer(entry: Entry, folder: int, sums: Counter[str]) -> dict[str, str | Non
         line["encoding"] = encoding
     key = "\t".join(kind) if kind else "unknown"
     sums.update({f"files\t{key}": 1, f"bytes\t{key}": size})
-    if kind and (claimed := disagreement(entry.name(), front, kind)):
+    if kind and (claimed := disagreement(entry.name(), front, kind, type_of)):
         sums[f"disagree\t{claimed.extension}\t{kind.extension}"] += 1
         line |= {"name_mime_type": claimed.mime, "name_extension": claimed.extension}
     return line
@@ -158,6 +168,8 @@ def answer(entry: Entry, folder: int, sums: Counter[str]) -> dict[str, str | Non
 def lines_of(part: list[Entry], sums: Counter[str]) -> Iterator[dict[str, str | None]]:
     """The lines of a partition. The folder of the last file stays open for the next."""
     last, folder = None, -1
+    # A type is looked for among all, and the names of a partition have few extensions.
+    type_of = functools.cache(type_of_extension)
     for entry in part:
         place = (entry.root, os.path.dirname(entry.below))
         if place != last and not entry.fault:
@@ -168,7 +180,7 @@ def lines_of(part: list[Entry], sums: Counter[str]) -> Iterator[dict[str, str | 
                 folder, last = open_folder(*place), place
             except OSError as fault:
                 entry = Entry(entry.root, entry.below, reason(fault))
-        line = answer(entry, folder, sums)
+        line = answer(entry, folder, sums, type_of)
         sums["faults"] += "fault" in line
         sums["names"] += 1
         yield line
@@ -294,7 +306,7 @@ def draw(told: dict, path: str) -> None:
 
 
 def refuse(why: str) -> None:
-    print(f"cluster.py: {why}", file=sys.stderr)
+    print(f"{CLEAR if sys.stderr.isatty() else ''}cluster.py: {why}", file=sys.stderr)
     sys.exit(2)
 
 
@@ -327,9 +339,11 @@ def connect(scheduler: str | None, stack: contextlib.ExitStack) -> distributed.C
 
 def result_of(future: distributed.Future) -> dict[str, int]:
     """The counts of a partition that was written. One on which worker after worker dies is a failure."""
-    from distributed import KilledWorker
+    from distributed import CancelledError, KilledWorker
     try:
         return future.result()
+    except CancelledError:
+        raise OSError("the scheduler has gone; the same words go on from what is written") from None
     except KilledWorker as fault:
         raise OSError(f"the workers died again and again: {fault}") from None
 
@@ -342,6 +356,8 @@ def main() -> int:
     given = words.parse_args()
     check_folders(given.out, given.folders)
     out = os.path.abspath(given.out)
+    # What goes wrong is told in one line, and not in the logs of Dask.
+    logging.disable()
     try:
         import infer  # noqa: F401
         os.makedirs(out, exist_ok=True)
@@ -354,7 +370,7 @@ def main() -> int:
     except (ImportError, OSError, ValueError) as fault:
         refuse((str(fault) or type(fault).__name__).splitlines()[0])
     if sys.stderr.isatty():
-        print("\r\033[K", end="", file=sys.stderr)
+        print(CLEAR, end="", file=sys.stderr)
     return 1 if total["names"] and total["faults"] == total["names"] else 0
 
 
