@@ -122,7 +122,7 @@ def outside(term):
     return term[1:-1]
 
 
-PAIRS = [("test_infer", it) for it in "Signature Answer Wider Inside".split()] + [("infer_tool", "Tool"), ("infer_c", "Code")]
+PAIRS = [("test_infer", it) for it in "Signature Answer Wider Inside".split()] + [("infer_more", "Piece"), ("infer_tool", "Tool"), ("infer_c", "Code")]
 
 
 def paired():

@@ -18,3 +18,4 @@ pub mod SampleLemmas
 pub mod WrittenLemmas
 pub mod AddedLemmas
 pub mod SizeLemmas
+mod PiecePairs
