@@ -19,6 +19,8 @@ pub mod FrontLemmas
 pub mod ScriptLemmas
 pub mod MarkupLemmas
 pub mod OpenLemmas
+pub mod OpenJsonLemmas
+pub mod OpenTextLemmas
 pub mod OpenDbaseLemmas
 pub mod OpenZipLemmas
 pub mod OpenPackageLemmas

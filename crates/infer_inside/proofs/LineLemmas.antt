@@ -297,7 +297,7 @@ lines_open b s rest x p e never d =
     let (v, stands) = subst (CanBe (text ∷ same_line ∷ [])) e ((lines_past b s p).0 d).0 in text_opens x (same_line ∷ []) (rest ++ v) never stands
 
 -- past a mark
-mark_stops : (ss : List Symbol) (v : List ℕ) → ¬ Stands (blanks ∷ text ∷ ss) (0xEF ∷ v)
+pub mark_stops : (ss : List Symbol) (v : List ℕ) → ¬ Stands (blanks ∷ text ∷ ss) (0xEF ∷ v)
 mark_stops ss v d =
     text_opens 0xEF ss v (λ o. elim o [ inl e ↦ omega arith | inr e ↦ omega arith ])
     ((blank_skip 0xEF (text ∷ ss) v (λ b. grind arith)).0 d)

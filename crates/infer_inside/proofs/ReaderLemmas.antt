@@ -159,7 +159,7 @@ colon_ends ss x v h d =
     let e = (range_begins 0x3A 0x3A x ss v).0 f in
     grind arith
 
-more_end : (kind n x : ℕ) (ss : List Symbol) (v : List ℕ) → MayGoOn x → ¬ Stands (more_in kind n ∷ ss) (x ∷ v)
+pub more_end : (kind n x : ℕ) (ss : List Symbol) (v : List ℕ) → MayGoOn x → ¬ Stands (more_in kind n ∷ ss) (x ∷ v)
 more_end zero n x ss v h d = let f = (begins 2 x v (more_items n ∷ ss)).0 d in grind arith
 more_end (suc k) n x ss v h d = let f = (begins 2 x v (more_members n ∷ ss)).0 d in grind arith
 

@@ -27,7 +27,7 @@ both {us} {xs} bs ys (by_rule {ss = ss} r m d) e = by_rule r m
 abbrev Parted : List Symbol → List Symbol → List ℕ → Type 0
 Parted us bs xs = (ys zs : List ℕ) × (xs ≡ ys ++ zs) × Stands us ys × Stands bs zs
 
-apart : {cs : List Symbol} {xs : List ℕ} → Stands cs xs → (us bs : List Symbol) → cs ≡ us ++ bs → Parted us bs xs
+pub apart : {cs : List Symbol} {xs : List ℕ} → Stands cs xs → (us bs : List Symbol) → cs ≡ us ++ bs → Parted us bs xs
 apart {cs} {xs} d [] bs e = ([], xs, refl, nothing, subst (λ ws. Stands ws xs) e d)
 apart nothing (a ∷ us) bs e = absurd (cc)
 apart (one {low} {high} {x} {ss} {xs} l h d) (a ∷ us) bs e =
@@ -105,12 +105,12 @@ alone ss us x h =
     subst (λ q. (v : List ℕ) → Stands q (x ∷ v) ↔ Stands us v) (append-nil ss)
     (subst (λ q. (v : List ℕ) → Stands (ss ++ []) (x ∷ v) ↔ Stands q v) (append-nil us) h)
 
-whole_inside : (t u : Token) (x : ℕ) (s : List ℕ) → Follows (left t) x (Inside u) → BeginsWhole (left t) (x ∷ s)
+pub whole_inside : (t u : Token) (x : ℕ) (s : List ℕ) → Follows (left t) x (Inside u) → BeginsWhole (left t) (x ∷ s)
     ↔ BeginsWhole (left u) s
 whole_inside t u x s f =
     whole_step (left t) (left u) x s (token_completes u) (alone (left t) (left u) x (f [] no_others))
 
-whole_ended : (t : Token) (x : ℕ) (s : List ℕ) → Follows (left t) x Ended → BeginsWhole (left t) (x ∷ s)
+pub whole_ended : (t : Token) (x : ℕ) (s : List ℕ) → Follows (left t) x Ended → BeginsWhole (left t) (x ∷ s)
 whole_ended t x [] f =
     let h = alone (left t) [] x (f []) in (x ∷ [], [], refl, (h []).1 nothing, λ y v d. elim ((h (y ∷ v)).0 d) [ ])
 whole_ended t x (y ∷ s) f =
@@ -120,7 +120,7 @@ none_after : (t : Token) (x : ℕ) → Follows (left t) x EndedBefore → (v : L
 none_after t x f v d =
     let e : Stands [] (x ∷ v) = (f [] v).0 (subst (λ q. Stands q (x ∷ v)) (sym (append-nil (left t))) d) in elim e [ ]
 
-whole_before : (t : Token) (x : ℕ) (s : List ℕ) → Follows (left t) x EndedBefore → BeginsWhole (left t) (x ∷ s)
+pub whole_before : (t : Token) (x : ℕ) (s : List ℕ) → Follows (left t) x EndedBefore → BeginsWhole (left t) (x ∷ s)
 whole_before t x s f =
     ([], x ∷ s, refl, before_byte (left t) x ((f (byte x ∷ []) []).1 (by_itself x)), none_after t x f)
 

@@ -1,12 +1,15 @@
 //! JSON texts, of which a buffer may have the beginning only.
 ghost use Rattle.std.specs.Prelude.{◌≡◌, ◌⊎◌, ◌↔◌, ◌≤◌, ◌%◌, ◌∷◌, [], ◌++◌, ℕ, None, drop, length, IsTrue, MatchOption, not};
 ghost use Rattle.std.specs.Bool.{OnTrue};
-ghost use Rattle.infer_inside.specs.Json.{BeginsToken, BeginsWhole, BehindBlanks, blanks, CanBe, hex, IsBlank, IsJson, IsJsonLines, IsKind, IsMark, next_line, range, same_line};
+ghost use Rattle.infer_deep.specs.Signatures.{Reachable};
+ghost use Rattle.infer_inside.specs.Json.{BeginsToken, BeginsWhole, BehindBlanks, blanks, CanBe, hex, IsBlank, IsJson, IsJsonLines, IsKind, IsMark, next_line, range, same_line, text};
 ghost use Rattle.infer_inside.specs.JsonStates.{Begun, closing, due_left, EndTells, Follows, IsBracket, IsClosedTo, IsKindBefore, IsKindPastMark, IsNextLine, IsOpen, IsPast, IsPastMark, left, LineTells, NoToken, opening, PlaceTells, Reads, TellsAsMuch, StartsLine, Starts, Tells};
 ghost use Rattle.infer_inside.specs.declared.json.Token.TheVariants.{Chars, Escape, Minus, Zero, Whole, Fraction, Exponent, Power};
 ghost use Rattle.infer_inside.specs.declared.json.Due.TheVariants.{After, Colon, First, Key, Value};
 ghost use Rattle.infer_inside.specs.declared.json.Next.TheVariants.{Closed};
 ghost use Rattle.infer_inside.specs.declared.json.Place.TheVariants.{At};
+
+use crate::markup::ends_in_mark;
 
 /// What JSON a buffer is.
 #[derive(Clone, Copy, Debug, PartialEq, Eq)]
@@ -40,6 +43,42 @@ pub fn is_json_lines(buf: &[u8]) -> bool
     match kind_of(buf) {
         Some(Kind::Lines) => true,
         Some(Kind::Text) | None => false,
+    }
+}
+
+/// Whether some bytes after `buf`, or none, make it JSON.
+pub fn may_become_json(buf: &[u8]) -> bool
+    ensures { IsTrue result ↔ Reachable IsJson buf.now }
+{
+    ends_in_mark(buf) || may_be_text(past_mark(buf))
+}
+
+/// Whether some bytes after `buf`, or none, make it JSON lines.
+pub fn may_become_json_lines(buf: &[u8]) -> bool
+    ensures { IsTrue result ↔ Reachable IsJsonLines buf.now }
+{
+    ends_in_mark(buf) || may_be_lines(past_mark(buf))
+}
+
+/// Whether some bytes can follow so that the whole is one text between white space.
+fn may_be_text(buf: &[u8]) -> bool
+    ensures { IsTrue result ↔ CanBe (blanks ∷ text ∷ blanks ∷ []) buf.now }
+{
+    match read_line(past_blanks(buf)) {
+        Line::Whole(next) => next.is_empty(),
+        Line::Cut => true,
+        Line::Wrong => false,
+    }
+}
+
+/// Whether some can follow so that it is texts, each behind the first on a new line.
+fn may_be_lines(buf: &[u8]) -> bool
+    ensures { IsTrue result ↔ CanBe (blanks ∷ text ∷ same_line ∷ []) buf.now }
+{
+    match read_line(past_blanks(buf)) {
+        Line::Whole(next) => begins_line(next),
+        Line::Cut => true,
+        Line::Wrong => false,
     }
 }
 

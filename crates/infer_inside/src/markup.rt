@@ -394,7 +394,7 @@ fn may_come_to_root(buf: &[u8], name: &[u8]) -> bool
 }
 
 /// Whether it ends before a byte order mark does.
-fn ends_in_mark(buf: &[u8]) -> bool
+pub(super) fn ends_in_mark(buf: &[u8]) -> bool
     ensures { IsTrue result ↔ (length buf.now < 3) × AgreesAt buf.now utf8_mark 0 }
 {
     buf.len() < 3 && may_stand_at(buf, b"\xEF\xBB\xBF", 0)

@@ -3,7 +3,9 @@ ghost use Rattle.std.specs.Prelude.{◌≡◌, ◌↔◌, ◌<◌, ◌≤◌, �
 ghost use Rattle.std.specs.Bool.{OnTrue};
 ghost use Rattle.std.specs.Str.{IsAscii};
 ghost use Rattle.infer_deep.specs.Blocks.{AllBelow};
+ghost use Rattle.infer_deep.specs.Signatures.{Reachable};
 ghost use Rattle.infer_deep.specs.Text.{BeginsMarked};
+ghost use Rattle.infer_inside.specs.Open.{Stays};
 ghost use Rattle.simdutf8.specs.Steps.{IsContinuation, least_after, most_after};
 ghost use Rattle.infer_inside.specs.Text.{IsCutLen, SomeBelow, MayBeginChar, BeginsUtf8, IsBinary, IsDataByte, IsEncodingOf, IsPlainByte, IsText, encoding_name};
 
@@ -70,6 +72,20 @@ pub fn is_binary(buf: &[u8]) -> bool
     }
     let rest = &buf[printed_front(buf)..];
     has_data(&rest[plain_front(rest)..])
+}
+
+/// Whether some bytes after `buf`, or none, make it text.
+pub fn may_become_text(buf: &[u8]) -> bool
+    ensures { IsTrue result ↔ Reachable IsText buf.now }
+{
+    buf.is_empty() || is_text(buf)
+}
+
+/// Whether `buf` is text whatever bytes follow: a byte order mark stands first.
+pub fn stays_text(buf: &[u8]) -> bool
+    ensures { IsTrue result ↔ Stays IsText buf.now }
+{
+    is_marked(buf)
 }
 
 fn is_marked(buf: &[u8]) -> bool
