@@ -293,7 +293,7 @@ pub true_below : (ways : List below.Below) (parent : ℕ) → EachBelowIsFound w
 true_below ways parent each = let e : 0 + parent ≡ parent = omega arith in subst (λ n. IsTrue (is_true_below n (below_at ways parent))) e (true_at ways 0 parent each.told)
 
 -- each folder of a package is that of an application
-one_of : (t : List ℕ) (others : List (List ℕ)) → IsTrue (list_any (same t) others) → IsOneOf t others
+pub one_of : (t : List ℕ) (others : List (List ℕ)) → IsTrue (list_any (same t) others) → IsOneOf t others
 one_of t [] h = absurd (cc)
 one_of t (other ∷ others) h = elim (either (same t other) _ h) [
   | inl e ↦ inl (same_true t other e)

@@ -19,3 +19,6 @@ pub mod WrittenLemmas
 pub mod AddedLemmas
 pub mod SizeLemmas
 mod PiecePairs
+pub mod OpenLemmas
+pub mod LostLemmas
+pub mod DecidedLemmas

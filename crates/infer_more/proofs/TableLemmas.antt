@@ -1,6 +1,7 @@
--- The table's length, and that no row asks for more than its least length.
+-- The table's length, that no row asks for more than its least length, and that it can be told what more bytes bring each.
 use Rattle.std.proofs.Common.{◌≡◌, IsTrue, length, refl}
 use Rattle.std.specs.List.{list_all}
+use Rattle.infer_more.specs.Open.{is_row_sound}
 use Rattle.infer_more.specs.Row.{is_row_closed}
 use Rattle.infer_more.specs.Table.{archives, code, further, headers, images, late, markup, media, packages, records}
 use Rattle.infer_more.specs.declared.index.lists.TheConstants.{FURTHER_COUNT}
@@ -13,3 +14,7 @@ length-further = refl
 pub all_closed : IsTrue (list_all is_row_closed further)
 unfolding further archives code headers images late markup media packages records
 all_closed = all_pass is_row_closed 0 further refl
+
+pub all_sound : IsTrue (list_all is_row_sound further)
+unfolding further archives code headers images late markup media packages records
+all_sound = all_pass is_row_sound 0 further refl

@@ -35,6 +35,10 @@ AllLast = (signature : List Alternative) → IsTrue (lasts signature) → (b mor
 abbrev pub IsLost : Alternative → Type 0
 IsLost a = (b more : List ℕ) × Fits a b × (¬ Fits a (b ++ more))
 
+-- so it is of each other alternative
+abbrev pub OthersAreLost : Type 0
+OthersAreLost = (a : Alternative) → IsTrue (not (is_lasting a)) → IsLost a
+
 -- the signature of the first row that widens an answer does not last
 abbrev pub MayBeLost : Option ℕ → Type 0
 MayBeLost found = MatchOption found ⊥ (λ i. HoldsAt (λ r. IsTrue (not (lasts r.signature))) further i)

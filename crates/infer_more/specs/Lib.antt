@@ -9,4 +9,6 @@ pub mod Outline
 pub mod Index
 pub mod Reading
 pub mod Laws
+pub mod Open
+pub mod Decided
 pub mod Samples

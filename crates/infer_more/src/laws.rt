@@ -3,26 +3,26 @@
 ghost use Rattle.std.specs.Prelude.{◌≡◌, ◌+◌, IsTrue, length};
 ghost use Rattle.std.specs.List.{list_all};
 ghost use Rattle.infer.specs.declared.table.rows.TheConstants.{ROW_COUNT};
-ghost use Rattle.infer_more.specs.Laws.{AllAreBelow, AllLast, IsLost, IsSteady, NoneIsBlank, ShowsBuiltIn, TextsFit};
+ghost use Rattle.infer_more.specs.Laws.{AllAreBelow, AllLast, IsSteady, NoneIsBlank, OthersAreLost, ShowsBuiltIn, TextsFit};
 ghost use Rattle.infer_more.specs.Samples.{AllReach, has_room};
-ghost use Rattle.infer_more.specs.Signature.{plain_text};
 ghost use Rattle.infer_more.specs.Table.{further};
 ghost use Rattle.infer_more.specs.Wider.{shown};
 ghost use Rattle.infer_more.specs.declared.index.lists.TheConstants.{FURTHER_COUNT};
 
-/// A yes stays a yes, but of plain text: what the signature of a further row accepts, it accepts however the buffer goes on.
-/// A text is lost to a byte of binary data.
+/// A yes stays a yes, but of JSON, JSON lines and plain text: what the signature of a further row accepts, it accepts however
+/// the buffer goes on. Of each of these three some buffer loses it.
 pub fn lasting()
     ensures lasting { AllLast }
-    ensures lost { IsLost plain_text }
+    ensures lost { OthersAreLost }
 {
     infer_deep::laws::growth();
     infer_inside::laws::growth();
     infer_sig::laws::growth();
+    infer_inside::laws::ends();
 }
 
 /// As long as the built-in answer stays, bytes after a buffer never make its first further row a later one, unless that is
-/// plain text.
+/// one of these three.
 pub fn index()
     ensures { IsSteady }
 {

@@ -9,16 +9,18 @@
 //!
 //! Each module uses only those before it: `signature`, one function that decides any signature; `table`, the rows; `tried`,
 //! that function for each of them; `index`, which rows are asked; `answers`, what they answer; `added`, the rows of a caller;
-//! `read`, the front of a file or of a reader; `laws`, facts about all of these; `samples`.
+//! `read`, the front of a file or of a reader; `laws`, facts about all of these; `samples`; `open`, what the bytes after a
+//! buffer can bring a signature; `decided`, what they can change of the answer.
 #![tactic(auto)]
 
-ghost use Rattle.std.specs.Prelude.{◌≡◌, ◌+◌, ◌<◌, ◌≤◌, ◌↔◌, IfSome, IsTrue, None, option_map, slice_get};
+ghost use Rattle.std.specs.Prelude.{◌≡◌, ◌+◌, ◌<◌, ◌≤◌, ◌↔◌, IfSome, IsFalse, IsTrue, None, option_map, slice_get};
 ghost use Rattle.infer.specs.Rows.{custom_rows};
 ghost use Rattle.infer.specs.Triple.{triple_of};
 ghost use Rattle.infer.specs.Watched.{fault_of};
 ghost use Rattle.infer.specs.declared.table.rows.TheConstants.{ROW_COUNT};
 ghost use Rattle.infer_inside.specs.Text.{IsEncodingOf, IsText};
 ghost use Rattle.infer_more.specs.Added.{IsAnswerWith};
+ghost use Rattle.infer_more.specs.Decided.{IsChangeable, IsDecided, MayAcceptAt};
 ghost use Rattle.infer_more.specs.Ended.{ended_listed, ended_shown};
 ghost use Rattle.infer_more.specs.Reading.{AnswersReader, AnswersSome};
 ghost use Rattle.infer_more.specs.Wider.{AcceptsAt, IsWider, IsWiderAnswer, ShowsExtension, ShowsMimeType, parent_at, shown};
@@ -26,8 +28,10 @@ ghost use Rattle.infer_more.specs.declared.index.lists.TheConstants.{FURTHER_COU
 
 mod added;
 mod answers;
+mod decided;
 mod index;
 pub mod laws;
+mod open;
 mod read;
 mod samples;
 mod signature;
@@ -93,6 +97,23 @@ pub fn accepts(buf: &[u8], i: usize) -> bool
     ensures { IsTrue result ↔ AcceptsAt buf.now i }
 {
     answers::accepts(buf, i)
+}
+
+/// Whether no bytes after `buf` change its wider answer, which is the number of the row or that there is none. If this is
+/// false, some bytes do.
+pub fn is_decided(buf: &[u8]) -> bool
+    ensures exact { IsTrue result ↔ IsDecided buf.now }
+    ensures open { IsFalse result → IsChangeable buf.now }
+{
+    decided::is_decided(buf)
+}
+
+/// Whether some bytes after `buf`, or none, make the signature of row `i`, built-in or further, accept it. A further row's
+/// parent is not asked.
+pub fn may_become(buf: &[u8], i: usize) -> bool
+    ensures { IsTrue result ↔ MayAcceptAt buf.now i }
+{
+    decided::may_become(buf, i)
 }
 
 /// Whether some row, built-in or further, has this extension.

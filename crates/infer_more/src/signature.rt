@@ -255,7 +255,7 @@ fn has_single(piece: &Piece, buf: &[u8]) -> bool
 
 /// Whether the byte is in the range.
 #[inline(always)]
-fn is_between(byte: u8, low: u8, high: u8) -> bool
+pub(super) fn is_between(byte: u8, low: u8, high: u8) -> bool
     ensures { result ≡ allows (between low high) byte }
 {
     low <= byte && byte <= high
@@ -263,7 +263,7 @@ fn is_between(byte: u8, low: u8, high: u8) -> bool
 
 /// Whether the byte is one of these.
 #[inline(always)]
-fn is_among(byte: u8, bytes: &[u8]) -> bool
+pub(super) fn is_among(byte: u8, bytes: &[u8]) -> bool
     ensures { result ≡ allows (any_of bytes.now) byte }
 {
     for other in bytes {

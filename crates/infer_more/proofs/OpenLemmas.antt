@@ -1,0 +1,246 @@
+-- What bytes after a buffer can bring an alternative and a signature, and what they can take from them.
+use Rattle.std.proofs.Common.{◌≡◌, ◌↔◌, ◌⊎◌, ◌+◌, ◌-◌, ◌<◌, ◌≤◌, inl, inr, ℕ, zero, suc, Bool, true, false, IsTrue, List, [], ◌∷◌, ◌++◌, append_assoc, append-nil, codes, get_or, length, length-append, map, nat_le, take, take_all, refl, sym, subst, ap, ◌∙◌, arith}
+use Rattle.std.specs.Prelude.{◌||◌, ◌==◌, if◌then◌else◌, slice_index}
+use Rattle.std.proofs.lemmas.Bool.{and_from, and_parts, cases_lt, eqb-true, le-leb, leb-true, or_left}
+use Rattle.std.proofs.lemmas.List.{get_or-take, length-take}
+use Rattle.std.proofs.lemmas.List.Elements.{All-append, All-cons, All-nil}
+use denote.Ref.{Bor}
+use Rattle.infer_deep.specs.Find.{OccursAt}
+use Rattle.infer_deep.specs.Open.{AgreesAt}
+use Rattle.infer_deep.specs.Signatures.{Reachable}
+use Rattle.infer_deep.proofs.OpenLemmas.{agrees_past, fills_parts, grown_agrees, stands_where_whole}
+use Rattle.infer_deep.proofs.PlaceLemmas.{OccursAt-append}
+use Rattle.infer_inside.specs.Open.{Stays}
+use Rattle.infer_inside.specs.Png.{IsAnimated, here}
+use Rattle.infer_inside.specs.Script.{IsProgram}
+use Rattle.infer_inside.specs.Text.{IsBinary}
+use Rattle.infer_sig.specs.Laws.{Lasts}
+use Rattle.infer_sig.specs.Open.{IsOpen, agrees, is_alternative_sound, is_sound, may_fit, may_have}
+use Rattle.infer_sig.specs.Signature as fixed
+use Rattle.infer_sig.specs.Signature.{Bytes, Part, text, byte, allows, between, fits, stands}
+use Rattle.infer_sig.proofs.PlaceLemmas.{stands_by_place}
+use Rattle.infer_more.specs.Laws.{AllLast, is_lasting}
+use Rattle.infer_more.specs.Listed.{alternative_listed, signature_listed}
+use Rattle.infer_more.specs.Signature.{Accepted, Fits, IsProgramAmong, png_header}
+use Rattle.infer_more.specs.declared.signature.Alternative.{Alternative}
+use Rattle.infer_more.specs.declared.signature.Alternative.TheVariants.{JsonLines, JsonText, PlainText}
+
+either_true : (p q : Bool) → IsTrue (p || q) → IsTrue p ⊎ IsTrue q
+either_true true q h = inl refl
+either_true false q h = inr h
+
+same_tests : (r s : Bool) → (IsTrue r → IsTrue s) → (IsTrue s → IsTrue r) → r ≡ s
+same_tests true s f g = sym (f refl)
+same_tests false true f g = g refl
+same_tests false false f g = refl
+
+-- ---- some element of a list
+
+module _ {A B : Type 0} (f : A → B) (P : B → Type 0) where
+  abbrev pub SomeOf : List A → Type 0
+  SomeOf [] = ⊥
+  SomeOf (x ∷ xs) = P (f x) ⊎ SomeOf xs
+
+  pub some_at : (xs : List A) (k : ℕ) (d : A) → k < length xs → P (f (get_or xs k d)) → SomeOf xs
+  some_at [] k d lt p = absurd (omega arith)
+  some_at (x ∷ xs) zero d lt p = inl p
+  some_at (x ∷ xs) (suc k) d lt p = inr (some_at xs k d (omega arith) p)
+
+  pub none_more : (xs : List A) (k : ℕ) (d : A) → k < length xs → ¬ SomeOf (take k xs) → ¬ P (f (get_or xs k d)) → ¬ SomeOf (take (k + 1) xs)
+  none_more [] k d lt before none = absurd (omega arith)
+  none_more (x ∷ xs) zero d lt before none = λ h. elim h [ inl p ↦ none p | inr q ↦ q ]
+  none_more (x ∷ xs) (suc k) d lt before none =
+      let e : suc k + 1 ≡ suc (k + 1) = omega arith in
+      rw e (λ h. elim h [
+        | inl p ↦ before (inl p)
+        | inr q ↦ none_more xs k d (omega arith) (λ s. before (inr s)) none q
+      ])
+
+  pub none_of : (xs : List A) (n : ℕ) → length xs ≤ n → ¬ SomeOf (take n xs) → ¬ SomeOf xs
+  none_of xs n le h = subst (λ l. ¬ SomeOf l) (take_all n xs le) h
+
+module _ (b : List ℕ) where
+  abbrev pub MayFit : List Alternative → Type 0
+  MayFit xs = SomeOf alternative_listed (λ a. Reachable (Fits a) b) xs
+
+  pub some_fits : (xs : List Alternative) → MayFit xs ↔ Reachable (Accepted (signature_listed xs)) b
+  some_fits [] = (λ h. absurd h, λ (more, bytes, h). h)
+  some_fits (x ∷ xs) = let rest = some_fits xs in (
+    λ h. elim h [
+      | inl (more, bytes, f) ↦ (more, bytes, inl f)
+      | inr r ↦ let (more, bytes, g) = rest.0 r in (more, bytes, inr g)
+    ],
+    λ (more, bytes, h). elim h [
+      | inl f ↦ inl (more, bytes, f)
+      | inr g ↦ inr (rest.1 (more, bytes, g))
+    ],
+  )
+
+  abbrev pub MayName : List (Bor (List ℕ)) → Type 0
+  MayName xs = SomeOf (λ (x : Bor (List ℕ)). x.now) (λ name. Reachable (IsProgram name) b) xs
+
+  pub some_named : (xs : List (Bor (List ℕ))) → MayName xs ↔ Reachable (IsProgramAmong (map (λ (x : Bor (List ℕ)). x.now) xs)) b
+  some_named [] = (λ h. absurd h, λ (more, bytes, h). h)
+  some_named (x ∷ xs) = let rest = some_named xs in (
+    λ h. elim h [
+      | inl (more, bytes, f) ↦ (more, bytes, inl f)
+      | inr r ↦ let (more, bytes, g) = rest.0 r in (more, bytes, inr g)
+    ],
+    λ (more, bytes, h). elim h [
+      | inl f ↦ inl (more, bytes, f)
+      | inr g ↦ inr (rest.1 (more, bytes, g))
+    ],
+  )
+
+-- ---- fixed bytes
+
+module _ (opens : (signature : List fixed.Alternative) → IsTrue (is_sound signature) → IsOpen signature) (a : fixed.Alternative) (sound : IsTrue (is_alternative_sound a)) (b : List ℕ) where
+  pub bytes_open : (r : Bool) → r ≡ may_fit b a → IsTrue r ↔ Reachable (λ c. IsTrue (fits c a)) b
+  bytes_open r e =
+      let open_it = opens (a ∷ []) (and_from (is_alternative_sound a) true sound refl) b in (
+        λ t.
+            let (more, bytes, h) = open_it.0 (or_left (may_fit b a) false (sym e ∙ t)) in
+            (more, bytes, only (fits (b ++ more) a) h),
+        λ (more, bytes, h). e ∙ only (may_fit b a) (open_it.1 (more, bytes, or_left (fits (b ++ more) a) false h)),
+      )
+    where
+      only : (p : Bool) → IsTrue (p || false) → IsTrue p
+      only true h = refl
+      only false h = h
+
+  -- a byte of binary data can always follow
+  pub binary_open : Lasts (a ∷ []) → (r : Bool) → r ≡ may_fit b a → IsTrue r ↔ Reachable (λ c. IsTrue (fits c a) × IsBinary c) b
+  binary_open lasts r e =
+      let plain = bytes_open r e in (
+        λ t. let (more, bytes, h) = plain.0 t in (
+          more ++ 0 ∷ [],
+          All-append (λ x. x < 256) more (0 ∷ []) bytes (All-cons (λ x. x < 256) 0 [] (omega arith) (All-nil (λ x. x < 256))),
+          subst (λ c. IsTrue (fits c a) × IsBinary c) (append_assoc b more (0 ∷ [])) (longer (b ++ more) h, ends (b ++ more)),
+        ),
+        λ (more, bytes, (h, binary)). plain.1 (more, bytes, h),
+      )
+    where
+      longer : (c : List ℕ) → IsTrue (fits c a) → IsTrue (fits (c ++ 0 ∷ []) a)
+      longer c h = elim (either_true (fits (c ++ 0 ∷ []) a) false (lasts c (0 ∷ []) (or_left (fits c a) false h))) [ inl f ↦ f | inr f ↦ absurd (cc) ]
+
+      last : (c : List ℕ) → slice_index (c ++ 0 ∷ []) (length c) ≡ zero
+      last [] = refl
+      last (x ∷ c) = last c
+
+      ends : (c : List ℕ) → IsBinary (c ++ 0 ∷ [])
+      ends c =
+          let more = length-append c (0 ∷ []) in
+          let low = last c in
+          (length c, omega arith, inl (omega arith))
+
+-- what a text asks, as far as the buffer goes
+module _ (place : ℕ) (t b : List ℕ) where
+  agrees_if : AgreesAt b t place → IsTrue (agrees place t b)
+  unfolding agrees
+  agrees_if h =
+      let room = length-take {A = ℕ} (length b - place) t in
+      (stands_by_place place (take (length b - place) t) b).1
+      (λ k l. (omega (arith, l, room), h.reads k (omega (arith, l, room)) (omega (arith, l, room)) ∙ sym (get_or-take (length b - place) t k 0 (omega (arith, l, room)))))
+
+  agrees_so : IsTrue (agrees place t b) → AgreesAt b t place
+  unfolding agrees
+  agrees_so h =
+      let room = length-take {A = ℕ} (length b - place) t in
+      record {
+        reads = λ k lt less.
+            ((stands_by_place place (take (length b - place) t) b).0 h k (omega (arith, lt, less, room))).1
+            ∙ get_or-take (length b - place) t k 0 (omega (arith, lt, less, room));
+      }
+
+  pub agrees_test : (r : Bool) → IsTrue r ↔ AgreesAt b t place → r ≡ agrees place t b
+  agrees_test r h = same_tests r (agrees place t b) (λ e. agrees_if (h.0 e)) (λ e. h.1 (agrees_so e))
+
+-- a byte past the end of the buffer is open, and one in it is as the set says
+module _ (place : ℕ) (b : List ℕ) where
+  pub open_past : (set : Bytes) → length b ≤ place → true ≡ may_have b (byte place set)
+  open_past set le = sym (or_left (nat_le (length b) place) _ (le-leb (length b) place le))
+
+  not_past : place < length b → (q : Bool) → q ≡ (nat_le (length b) place || q)
+  not_past lt q = same_tests q (nat_le (length b) place || q) (or_right_of (nat_le (length b) place)) back
+    where
+      or_right_of : (p : Bool) → IsTrue q → IsTrue (p || q)
+      or_right_of true h = refl
+      or_right_of false h = h
+
+      back : IsTrue (nat_le (length b) place || q) → IsTrue q
+      back h = elim (either_true (nat_le (length b) place) q h) [
+        | inl e ↦ let le = leb-true (length b) place e in absurd (omega arith)
+        | inr f ↦ f
+      ]
+
+  pub known_within : (set : Bytes) → place < length b → (r : Bool) → r ≡ allows set (slice_index b place) → r ≡ may_have b (byte place set)
+  known_within set lt r e = e ∙ not_past lt (allows set (slice_index b place))
+
+  -- of a range, which may be of one byte
+  module _ (low high : ℕ) where
+    abbrev Ranged : Bool → Part
+    Ranged t = if t then text place (low ∷ []) else byte place (between low high)
+
+    one_agrees : (length b ≤ place) ⊎ (slice_index b place ≡ low) → AgreesAt b (low ∷ []) place
+    one_agrees h = record { reads = go h }
+      where
+        go : (length b ≤ place) ⊎ (slice_index b place ≡ low) → (k : ℕ) → k < 1 → place + k < length b → slice_index b (place + k) ≡ slice_index (low ∷ []) k
+        go (inl le) zero lt less = absurd (omega arith)
+        go (inr e) zero lt less = let same : place + 0 ≡ place = omega arith in ap (slice_index b) same ∙ e
+        go g (suc k) lt less = absurd (omega arith)
+
+    past_ranged : length b ≤ place → (t : Bool) → true ≡ may_have b (Ranged t)
+    past_ranged le true = agrees_test place (low ∷ []) b true (λ e. one_agrees (inl le), λ h. refl)
+    past_ranged le false = open_past (between low high) le
+
+    pub range_past : length b ≤ place → true ≡ may_have b (Ranged (low == high))
+    range_past le = past_ranged le (low == high)
+
+    within_ranged : place < length b → (r : Bool) → r ≡ allows (between low high) (slice_index b place) → (t : Bool) → (low == high) ≡ t → r ≡ may_have b (Ranged t)
+    within_ranged lt r e true same =
+        let one : low ≡ high = eqb-true low high same in
+        agrees_test place (low ∷ []) b r (
+          λ is.
+              let both = and_parts (nat_le low (slice_index b place)) _ (sym e ∙ is) in
+              let least : low ≤ slice_index b place = leb-true _ _ both.0 in
+              let most : slice_index b place ≤ high = leb-true _ _ both.1 in
+              one_agrees (inr (omega arith)),
+          λ a.
+              let here : place + 0 ≡ place = omega arith in
+              let f : slice_index b place ≡ low = sym (ap (slice_index b) here) ∙ a.reads 0 (omega arith) (omega arith) in
+              e ∙ and_from (nat_le low (slice_index b place)) _ (le-leb low (slice_index b place) (omega arith)) (le-leb (slice_index b place) high (omega arith)),
+        )
+    within_ranged lt r e false same = known_within (between low high) lt r e
+
+    pub range_within : place < length b → (r : Bool) → r ≡ allows (between low high) (slice_index b place) → r ≡ may_have b (Ranged (low == high))
+    range_within lt r e = within_ranged lt r e (low == high) refl
+
+-- ---- an animated image
+
+pub animation_known : (b : List ℕ) → Reachable (λ c. OccursAt c png_header 0 × IsAnimated c) b → AgreesAt b png_header 0 × Reachable IsAnimated b
+animation_known b (more, bytes, (header, animated)) = (grown_agrees b more png_header 0 header, (more, bytes, animated))
+
+pub animation_comes : (b : List ℕ) → AgreesAt b png_header 0 → Reachable IsAnimated b → Reachable (λ c. OccursAt c png_header 0 × IsAnimated c) b
+animation_comes b agree (more, bytes, animated) = elim (cases_lt (length b) 4) [
+  | inl short ↦
+      let f = fills_parts (record { place = 0; text = png_header } ∷ record { place = 12; text = codes "acTL" } ∷ []) b 0 16
+      (omega arith, refl, (omega arith, refl, omega arith)) (agree, (agrees_past b (codes "acTL") 12 (omega arith), tt)) in
+      (f.more, f.bytes, (f.holds.0, here 8 f.holds.1.0))
+  | inr long ↦ (more, bytes, (OccursAt-append b more png_header 0 (stands_where_whole b png_header 0 (omega arith) agree), animated))
+]
+
+-- ---- what stays
+
+lasts_but : (a : Alternative) → (a ≡ JsonLines → ⊥) → (a ≡ JsonText → ⊥) → (a ≡ PlainText → ⊥) → IsTrue (is_lasting (alternative_listed a))
+lasts_but JsonLines n m p = absurd (n refl)
+lasts_but JsonText n m p = absurd (m refl)
+lasts_but PlainText n m p = absurd (p refl)
+lasts_but a n m p = refl
+
+pub fit_stays : AllLast → (a : Alternative) → (a ≡ JsonLines → ⊥) → (a ≡ JsonText → ⊥) → (a ≡ PlainText → ⊥) → (b : List ℕ) → Fits (alternative_listed a) b → Stays (Fits (alternative_listed a)) b
+fit_stays all_last a n m p b f more bytes =
+    elim (all_last (alternative_listed a ∷ []) (and_from (is_lasting (alternative_listed a)) true (lasts_but a n m p) refl) b more (inl f)) [ inl g ↦ g | inr g ↦ absurd g ]
+
+-- what some bytes after it do not make it, it is not
+pub not_yet : (S : List ℕ → Type 0) (b : List ℕ) → ¬ Reachable S b → ¬ S b
+not_yet S b none is = none ([], All-nil (λ x. x < 256), subst S (sym (append-nil b)) is)

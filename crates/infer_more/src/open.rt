@@ -1,0 +1,137 @@
+//! What the bytes after a buffer can bring a signature, and what they can take from it.
+ghost use Rattle.std.specs.Prelude.{◌≡◌, ◌↔◌, ◌∷◌, [], ◌++◌, IsFalse, IsTrue, map};
+ghost use Rattle.infer_deep.specs.Signatures.{Reachable};
+ghost use Rattle.infer_inside.specs.Open.{Stays};
+ghost use Rattle.infer_sig.specs.Open.{may_fit, may_have};
+ghost use Rattle.infer_more.specs.Listed.{alternative_listed, bytes_listed, part_listed, signature_listed};
+ghost use Rattle.infer_more.specs.Open.{are_sound, is_one_or_lasts, is_sound};
+ghost use Rattle.infer_more.specs.Signature.{Accepted, Fits, IsProgramAmong};
+
+use crate::laws::lasting;
+use crate::signature::{Alternative, Bytes, Piece, is_among, is_between};
+use infer_deep::doc::may_have_class_id;
+use infer_deep::places::may_stand_at;
+use infer_inside::dbase::may_become_dbase;
+use infer_inside::elf::may_become_shared_object;
+use infer_inside::json::{may_become_json, may_become_json_lines};
+use infer_inside::markup::{may_have_root, may_have_root_with};
+use infer_inside::png::may_become_animated;
+use infer_inside::script::may_become_program;
+use infer_inside::subtitles::may_become_subrip;
+use infer_inside::tar::may_have_tar_checksum;
+use infer_inside::text::{may_become_text, stays_text};
+use infer_inside::tiff::first_directory_may_have_tag;
+use infer_inside::zip::{
+    may_become_package_with, may_have_first_entry, may_have_first_entry_ending,
+    may_have_first_extra,
+};
+
+/// Whether some bytes after the buffer, or none, make the signature accept it.
+pub(super) fn may_accept(signature: &[Alternative], buf: &[u8]) -> bool
+    requires { IsTrue (are_sound (signature_listed signature.now)) }
+    ensures { IsTrue result ↔ Reachable (Accepted (signature_listed signature.now)) buf.now }
+{
+    for alternative in signature {
+        if may_fit(alternative, buf) {
+            return true;
+        }
+    }
+    false
+}
+
+/// Whether some make it have what this alternative asks.
+fn may_fit(alternative: &Alternative, buf: &[u8]) -> bool
+    requires { IsTrue (is_sound (alternative_listed alternative.now)) }
+    ensures { IsTrue result ↔ Reachable (Fits (alternative_listed alternative.now)) buf.now }
+{
+    infer_sig::laws::growth();
+    infer_sig::laws::open();
+    match alternative {
+        Alternative::Bytes(bytes) => may_have_bytes(bytes, buf),
+        Alternative::BinaryBytes(bytes) => may_have_bytes(bytes, buf),
+        Alternative::SharedObject => may_become_shared_object(buf),
+        Alternative::FirstEntryIs(name) => may_have_first_entry(buf, name),
+        Alternative::FirstEntryEndsIn(end) => may_have_first_entry_ending(buf, end),
+        Alternative::FirstEntryHasExtra(extra) => may_have_first_extra(buf, extra),
+        Alternative::PackageWith(folder) => may_become_package_with(buf, folder),
+        Alternative::ClassId(id) => may_have_class_id(buf, id),
+        Alternative::DirectoryTag(tag) => first_directory_may_have_tag(buf, *tag),
+        Alternative::Animated => may_stand_at(buf, b"\x89PNG", 0) && may_become_animated(buf),
+        Alternative::SubRip => may_become_subrip(buf),
+        Alternative::Dbase => may_become_dbase(buf),
+        Alternative::TarChecksum => may_have_tar_checksum(buf),
+        Alternative::Program(names) => may_become_program_among(buf, names),
+        Alternative::Root(name) => may_have_root(buf, name),
+        Alternative::RootWith(name, text) => may_have_root_with(buf, name, text),
+        Alternative::JsonLines => may_become_json_lines(buf),
+        Alternative::JsonText => may_become_json(buf),
+        Alternative::PlainText => may_become_text(buf),
+    }
+}
+
+/// Whether some make one of the names that of the program.
+fn may_become_program_among(buf: &[u8], names: &[&[u8]]) -> bool
+    ensures { IsTrue result ↔ Reachable (IsProgramAmong (map (λ name. name.now) names.now)) buf.now }
+{
+    for name in names {
+        if may_become_program(buf, name) {
+            return true;
+        }
+    }
+    false
+}
+
+/// Whether the buffer has every piece as far as it goes.
+fn may_have_bytes(bytes: &Bytes, buf: &[u8]) -> bool
+    ensures { result ≡ may_fit buf.now (bytes_listed bytes.now) }
+{
+    for piece in bytes.pieces {
+        if !may_have(piece, buf) {
+            return false;
+        }
+    }
+    true
+}
+
+/// Whether it has what the piece asks as far as it goes.
+fn may_have(piece: &Piece, buf: &[u8]) -> bool
+    ensures { result ≡ may_have buf.now (part_listed piece.now) }
+{
+    match piece {
+        Piece::OneOf(place, bytes) => buf.len() <= *place || is_among(buf[*place], bytes),
+        Piece::At(place, text) => may_stand_at(buf, text, *place),
+        Piece::Between(place, low, high) => {
+            buf.len() <= *place || is_between(buf[*place], *low, *high)
+        }
+    }
+}
+
+/// Whether the signature, which accepts the buffer, does so whatever bytes follow. If not, the byte 00 ends it.
+pub(super) fn stays_accepted(signature: &[Alternative], buf: &[u8]) -> bool
+    requires accepts { Accepted (signature_listed signature.now) buf.now }
+    requires known { IsTrue (is_one_or_lasts (signature_listed signature.now)) }
+    ensures yes { IsTrue result → Stays (Accepted (signature_listed signature.now)) buf.now }
+    ensures no { IsFalse result → ¬ Accepted (signature_listed signature.now) (buf.now ++ 0 ∷ []) }
+{
+    lasting();
+    match signature {
+        [alternative] => stays(alternative, buf),
+        _ => true,
+    }
+}
+
+/// Whether the buffer, which has what the alternative asks, has it whatever bytes follow. If not, the byte 00 ends it.
+fn stays(alternative: &Alternative, buf: &[u8]) -> bool
+    requires { Fits (alternative_listed alternative.now) buf.now }
+    ensures yes { IsTrue result → Stays (Fits (alternative_listed alternative.now)) buf.now }
+    ensures no { IsFalse result → ¬ Fits (alternative_listed alternative.now) (buf.now ++ 0 ∷ []) }
+{
+    lasting();
+    infer_inside::laws::ends();
+    match alternative {
+        Alternative::JsonLines => false,
+        Alternative::JsonText => false,
+        Alternative::PlainText => stays_text(buf),
+        _ => true,
+    }
+}
