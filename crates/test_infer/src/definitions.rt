@@ -24,6 +24,8 @@ ghost use Rattle.infer_inside.specs.Markup.{IsRootElement};
 ghost use Rattle.infer_inside.specs.Script.{IsProgram};
 ghost use Rattle.infer_inside.specs.Text.{IsEncodingOf};
 ghost use Rattle.infer_more.specs.Added.{IsAnswerWith};
+ghost use Rattle.infer_more.specs.Decided as wider;
+ghost use Rattle.infer_more.specs.Decided.{MayAcceptAt};
 ghost use Rattle.infer_more.specs.Samples.{HasAnswer};
 ghost use Rattle.infer_more.specs.Wider.{AcceptsAt, IsWider, IsWiderAnswer, ShowsExtension, ShowsMimeType};
 ghost use Rattle.infer_sniff.specs.Cases.{Holds};
@@ -114,6 +116,25 @@ pub fn is_changeable(buf: &[u8]) -> bool
 {
     let _answer = position(buf);
     !is_decided(buf)
+}
+
+pub fn is_wider_decided(buf: &[u8]) -> bool
+    ensures { IsTrue result ↔ wider.IsDecided buf.now }
+{
+    infer_more::is_decided(buf)
+}
+
+pub fn is_wider_changeable(buf: &[u8]) -> bool
+    ensures { IsTrue result ↔ wider.IsChangeable buf.now }
+{
+    let _answer = infer_more::position(buf);
+    !infer_more::is_decided(buf)
+}
+
+pub fn may_become_object(buf: &[u8]) -> bool
+    ensures { IsTrue result ↔ MayAcceptAt buf.now ROW_COUNT }
+{
+    infer_more::may_become(buf, ROW_COUNT)
 }
 
 pub fn is_settled(buf: &[u8]) -> bool

@@ -2,15 +2,7 @@
 //! contract names the property.
 
 use crate::added::begins_10_11_12;
-use crate::definitions::{
-    has_folder_at_30, has_ftyp_at_4, has_head_mz, has_major_heic, has_no_answer_of_types,
-    has_no_answer_with, has_no_encoding, has_no_row, has_no_wider_answer, has_word_id,
-    is_accepted_by_exe, is_accepted_by_object, is_accepted_by_png, is_boxed, is_changeable,
-    is_exe_by_extension, is_first_exe, is_frame, is_held_by_space, is_labelled_png, is_mark,
-    is_object, is_one_by_be32, is_one_by_le16, is_one_by_le32, is_program_sh, is_root_svg,
-    is_sample_of_png, is_settled, is_space, is_unknown_so_far, may_become_wasm, shows_extension,
-    shows_mime_type,
-};
+use crate::definitions::*;
 use crate::growing::{
     begins_white_alone, breaks_at_1, is_kept_open_by_white, is_one_short, stays_unknown,
 };
@@ -29,12 +21,12 @@ use infer::{Infer, is_decided, is_image};
 use infer_deep::doc::has_office_name;
 use infer_inside::dbase::is_dbase;
 use infer_inside::elf::is_shared_object;
-use infer_inside::json::{is_json, is_json_lines};
+use infer_inside::json::{is_json, is_json_lines, may_become_json, may_become_json_lines};
 use infer_inside::markup::{has_root, has_root_with, may_be_rooted};
 use infer_inside::png::is_animated;
 use infer_inside::subtitles::is_subrip;
 use infer_inside::tar::has_tar_checksum;
-use infer_inside::text::is_binary;
+use infer_inside::text::{is_binary, may_become_text, stays_text};
 use infer_inside::tiff::first_directory_has_tag;
 use infer_inside::zip::{
     first_entry_ends_in, first_entry_has_extra, first_entry_is, is_package_with,
@@ -145,6 +137,9 @@ fn answers(rt: HostRuntime) {
         "MayAnswer buf.now WASM" may_answer_first, b"\0as", b"as";
         "IsChangeable" is_changeable, b"M", b"MZ";
         "IsDecided" is_decided, b"MZ", b"M";
+        "IsDecided" is_wider_decided, &zeros_but::<53>(&[(0, b"\x7FELF")]), &zeros_but::<53>(&[(0, b"\x7FELF\x02\x01"), (16, b"\x03")]);
+        "IsChangeable" is_wider_changeable, &zeros_but::<53>(&[(0, b"\x7FELF\x02\x01"), (16, b"\x03")]), &zeros_but::<53>(&[(0, b"\x7FELF")]);
+        "MayAcceptAt buf.now ROW_COUNT" may_become_object, b"\0\0\0\0\0", b"\0\0\0\0\0\0";
         "Holds Space" is_held_by_space, b" ", b"x";
         "IsSettled" is_settled, &[0; 1024], &[0; 1023];
         "IsTypeOf buf.now None" has_no_row, b"M", b"MZ";
@@ -175,6 +170,10 @@ fn inside(rt: HostRuntime) {
         "IsBinary" is_binary, b"a\0", b"a";
         "IsJson" is_json, b"[1,", b"[1";
         "IsJsonLines" is_json_lines, b"[1]\n[", b"[1]\n";
+        "Reachable IsJson" may_become_json, b"[1", b"[1\0";
+        "Reachable IsJsonLines" may_become_json_lines, b"[1]", b"[1]x";
+        "Reachable IsText" may_become_text, b"", b"\0";
+        "Stays IsText" stays_text, b"\xFF\xFE", b"a";
         "IsProgram" is_program_sh, b"#!/bin/sh -e\n", b"#!/bin/sh";
         "IsRootElement" is_root_svg, b"<!-- --><s:svg>", b"<svg";
         "MayBeRooted" may_be_rooted, b"<?php <", b"<?php ";
