@@ -67,6 +67,8 @@ static void ask(const void *buf, size_t len) {
     wants(wider == row || (wider >= (int32_t)infer_row_count() && wider < (int32_t)infer_more_row_count()));
     wants(infer_accepts(buf, len, wider) == (wider >= 0));
     wants(infer_may_become(buf, len, wider) == (row >= 0 && wider == row));
+    wants(infer_more_may_become(buf, len, wider) == (wider >= 0));
+    wants(is_decided || !infer_more_is_decided(buf, len));
     char name[16];
     wants(infer_encoding(buf, len, name, sizeof name) == strlen(name));
     wants(infer_encoding(buf, len, NULL, 0) == strlen(name));

@@ -88,6 +88,12 @@ bool infer_is_decided(const void *buf, size_t len);
  * answer moves only to rows before that of infer_position, or to any row if that is -1. */
 bool infer_may_become(const void *buf, size_t len, int32_t row);
 
+/* The same of the wider answer, and of every row: whether no bytes that may follow can change what infer_more_position
+ * answers, and whether some that may follow make that row, built-in or further, accept the buffer. The row that a further
+ * row stands below is not asked. */
+bool infer_more_is_decided(const void *buf, size_t len);
+bool infer_more_may_become(const void *buf, size_t len, int32_t row);
+
 /* The number of built-in rows, and of all rows. The further rows have the numbers from the first of these on. */
 size_t infer_row_count(void);
 size_t infer_more_row_count(void);

@@ -216,6 +216,20 @@ static void widers(void) {
     wider("tzif", true, zone, sizeof zone);
     same("answer where there was none", infer_position(zone, sizeof zone), -1);
     same("accepts of another further row", infer_accepts(zone, sizeof zone, infer_more_position(zone, sizeof zone) + 1), false);
+    /* A program header may come that asks for no interpreter; with another type than 3 none makes it a shared object. */
+    static const char shared[53] = "\x7F" "ELF\2\1\1\0\0\0\0\0\0\0\0\0\3\0";
+    same("wider decided of nothing", infer_more_is_decided(NULL, 0), false);
+    same("wider decided of a program", infer_more_is_decided("MZ", 2), true);
+    same("decided of a front of a shared object", infer_is_decided(shared, sizeof shared), true);
+    same("wider decided of it", infer_more_is_decided(shared, sizeof shared), false);
+    same("wider decided of an object", infer_more_is_decided(object, sizeof object), true);
+    int32_t o = infer_more_position(object, sizeof object);
+    same("may become an object", infer_more_may_become(object, 16, o), true);
+    same("may become none", infer_more_may_become(shared, sizeof shared, o), false);
+    same("may become a built-in row", infer_more_may_become("\xFF\xD8", 2, jpeg()), true);
+    same("more may become row -1", infer_more_may_become(NULL, 0, -1), false);
+    same("more may become the last row", infer_more_may_become(NULL, 0, last_of_all()), true);
+    same("more may become no row", infer_more_may_become(NULL, 0, last_of_all() + 1), false);
 }
 
 /* The answer that the row is to be: that of the built-in rows, or the wider one. */

@@ -2,7 +2,7 @@
 //! them. A text from C is bytes: one that is not UTF-8 is no row's text.
 #![tactic(auto)]
 
-ghost use Rattle.std.specs.Prelude.{◌≡◌, ◌↔◌, ◌+◌, ◌≤◌, ℕ, List, Option, None, Some, [], IsTrue, codes, is_some, length, negsuc};
+ghost use Rattle.std.specs.Prelude.{◌≡◌, ◌↔◌, ◌+◌, ◌≤◌, ℕ, List, Option, None, Some, [], IsTrue, codes, is_some, length, negsuc, pos};
 ghost use Rattle.std.specs.Option.{option_map_or};
 ghost use Rattle.infer.specs.App.{coff_i386, coff_ia64, coff_x64};
 ghost use Rattle.infer.specs.Signature.{accepts};
@@ -18,6 +18,7 @@ ghost use Rattle.infer_sniff.specs.Verdicts.{IsSettled, RowStaysFinal};
 ghost use Rattle.infer_c.specs.Codes.{AcceptsAt, IsClassOf, IsSampleOf, MayAcceptAt, class_code, class_name, row_code, triple_at};
 ghost use Rattle.infer_inside.specs.Text.{IsEncodingOf, encoding_name};
 ghost use Rattle.infer_inside.specs.declared.text.Encoding.{Encoding};
+ghost use Rattle.infer_more.specs.Decided as wider;
 ghost use Rattle.infer_more.specs.Ended.{ended};
 ghost use Rattle.infer_more.specs.Wider.{IsWider, shown};
 ghost use Rattle.infer.specs.Triple.{Triple};
@@ -121,6 +122,23 @@ pub extern "C" fn infer_more_position(buf: &[u8]) -> i32
         Some(i) => i as i32,
         None => -1,
     }
+}
+
+/// Whether no bytes after `buf` change the number of its wider answer.
+#[unsafe(no_mangle)]
+pub extern "C" fn infer_more_is_decided(buf: &[u8]) -> bool
+    ensures { IsTrue result ↔ wider.IsDecided buf.now }
+{
+    infer_more::is_decided(buf)
+}
+
+/// Whether there is a row with this number, built-in or further, and some bytes after `buf`, or none, make its signature
+/// accept it.
+#[unsafe(no_mangle)]
+pub extern "C" fn infer_more_may_become(buf: &[u8], row: i32) -> bool
+    ensures { IsTrue result ↔ ((i : ℕ) × (row ≡ pos i) × wider.MayAcceptAt buf.now i) }
+{
+    row >= 0 && infer_more::may_become(buf, row as usize)
 }
 
 /// The number of rows, built-in and further.
