@@ -26,8 +26,6 @@ NAMES = {
     "JsonText": lambda it: "JSON",
     "PlainText": lambda it: "text",
 }
-# What the notation does not have yet.
-UNREAD = {*NAMES, "BinaryBytes"}
 
 
 def texts(code):
@@ -71,13 +69,13 @@ def fixed(code):
 
 
 def alternative(inside):
-    """The name of an alternative, or "", and its text."""
+    """The text of an alternative."""
     if inside[0].isdigit():
-        return "", fixed(inside)
+        return fixed(inside)
     name, _, takes = inside.removesuffix(")").partition("(")
     if name == "BinaryBytes":
-        return name, f"{fixed(takes.removeprefix('bytes!(').removesuffix(')'))} and binary"
-    return name, NAMES[name](takes)
+        return f"{fixed(takes.removeprefix('bytes!(').removesuffix(')'))} and binary"
+    return NAMES[name](takes)
 
 
 def line(code, parents):
@@ -85,11 +83,12 @@ def line(code, parents):
     group, mime_type, extension, parent, signature = code
     told = [alternative(it) for it in re.findall(rf"\[((?:{TEXT}|&\[[^\]]*\]|[^\]\"'])*)\]", signature)]
     # What is said of one kind is said once: `root: rss or RDF with ..`.
-    said = " or ".join(text for _, text in told)
+    said = " or ".join(told)
     for name in ("first entry: ", "class id: ", "root: "):
         said = said.replace(f" or {name}", " or ")
     words = [f"{extension:<11}", f"{mime_type:<36}", f"{group.lower():<7}", f"{parents[parent] if parent else '-':<6}", said]
-    return ("#? " if any(name in UNREAD for name, _ in told) else "") + "  ".join(words) + "\n"
+    # The notation cannot ask for binary data yet.
+    return ("#? " if said.endswith("and binary") else "") + "  ".join(words) + "\n"
 
 
 def text(lists, parents):

@@ -1,10 +1,10 @@
 -- What is read is derived by the grammar, and what is derived is read.
-use Rattle.std.proofs.Common.{◌≡◌, ◌+◌, ◌≤◌, ◌⊎◌, ◌==◌, ℕ, zero, suc, Bool, true, false, List, [], ◌∷◌, ◌++◌, Option, None, Some, codes, cond, length, nat_le, option_map, inl, inr, refl, sym, ap, subst, ◌∙◌}
+use Rattle.std.proofs.Common.{◌≡◌, ◌+◌, ◌≤◌, ◌==◌, ℕ, zero, suc, Bool, true, false, List, [], ◌∷◌, ◌++◌, Option, None, Some, codes, cond, length, nat_le, option_map, inl, inr, refl, sym, ap, subst, ◌∙◌}
 use Rattle.std.specs.Str.{bytes_eq}
 use Rattle.std.proofs.lemmas.Bool.{cases_Bool, eqb-true, le-leb, leb-true}
 use Rattle.std.proofs.lemmas.Option.{cond_some}
 use Rattle.std.proofs.lemmas.Slice.Eq.{bytes_eq-Decides}
-use Rattle.infer_sig.specs.Signature.{Alternative, Part, all_but, any_of, at_least, between, byte, text}
+use Rattle.infer_sig.specs.Signature.{Alternative, Part, all_but, any_of, between, byte, text}
 use Rattle.infer_notation.specs.Fixed as fixed
 use Rattle.infer_notation.specs.Fixed.{Effect, Rest, cursor, joined, nothing, opens, part, range_of, rest_at, start, step, within}
 use Rattle.infer_notation.specs.Grammar.{Derives, IsPiece, IsSignature, Symbol, a_range, a_set, a_text, another, asked, comma, ended, more, opened, other, parts, pieces, placed, rest, signature, some_bytes, tokens_at, tokens_of}

@@ -1,13 +1,17 @@
 //! The notation of signatures, as text that is read.
 #![tactic(auto)]
 
+mod described;
 mod fixed;
+mod items;
 pub mod laws;
+mod names;
 mod reason;
+mod relations;
 mod signature;
 mod tokens;
 mod words;
 
+pub use described::accepts;
 pub use reason::{Flaw, Reason};
-pub use signature::accepts;
 pub use words::{behind_first, from, skip_blanks, split_word};

@@ -21,7 +21,7 @@ pub enum Reason {
     Past,
     Range,
     Relation,
-    Word,
+    Item,
     End,
 }
 
@@ -57,7 +57,7 @@ impl Reason {
             Reason::Past => "place past the length",
             Reason::Range => "a range ends before it begins",
             Reason::Relation => "unknown relation",
-            Reason::Word => "unknown word",
+            Reason::Item => "the relation does not take this",
             Reason::End => "the signature ends too early",
         }
     }

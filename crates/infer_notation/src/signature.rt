@@ -1,4 +1,4 @@
-//! Signatures as a text writes them, asked of a buffer while they are read.
+//! Fixed signatures as a text writes them, asked of a buffer while they are read.
 ghost use Rattle.std.specs.Prelude.{◌≡◌, ◌+◌, ◌<◌, IfErr, IfOk, None, drop, false, length, option_map, slice_index};
 ghost use Rattle.infer_sig.specs.Signature as signature;
 ghost use Rattle.infer_notation.specs.Fixed.{alternatives_of, given, state_taken};
@@ -18,8 +18,8 @@ struct State {
     last: bool,
 }
 
-/// Whether the buffer fits an alternative of the signature that the text describes.
-pub fn accepts(text: &[u8], buf: &[u8]) -> Result<bool, Flaw>
+/// Whether the buffer fits an alternative of the fixed signature that the text describes.
+pub fn accepts_fixed(text: &[u8], buf: &[u8]) -> Result<bool, Flaw>
     ensures { found_by result ≡ option_map (λ alternatives. signature.accepts alternatives buf.now) (alternatives_of text.now) }
 {
     let mut state = State {

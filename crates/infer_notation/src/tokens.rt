@@ -1,10 +1,12 @@
 //! The tokens of a signature's text.
-ghost use Rattle.std.specs.Prelude.{◌≡◌, ◌<◌, ◌≤◌, ◌+◌, ◌-◌, ◌∷◌, IfOk, drop, length, option_map};
+ghost use Rattle.std.specs.Prelude.{◌≡◌, ◌<◌, ◌≤◌, ◌+◌, ◌-◌, ◌∷◌, [], IfErr, IfOk, MatchOption, None, Some, drop, length, option_map};
 ghost use Rattle.std.specs.List.{prefix_len};
-ghost use Rattle.infer_notation.specs.Tokens.{bare_at, is_mark, is_of, pair_listed, quoted_at, set_at, token_at};
+ghost use Rattle.infer_notation.specs.Grammar.{tokens_of};
+ghost use Rattle.infer_notation.specs.Tokens.{bare_at, is_mark, is_of, pair_listed, quoted_at, set_at, token_at, token_listed};
 ghost use Rattle.infer_notation.specs.Words.{found_by};
 
-use crate::reason::Reason;
+use crate::reason::{Flaw, Reason};
+use crate::words::{behind_first, from, skip_blanks};
 
 /// What stands between quotes or braces, a mark, or a bare word.
 #[derive(Clone, Copy)]
@@ -35,6 +37,25 @@ pub fn token_at(text: &[u8]) -> Result<(Token<'_>, usize), Reason>
         [b'{', behind @ ..] => set_at(behind),
         [mark, ..] if is_mark(*mark) => Ok((Token::Mark(*mark), 0)),
         _ => bare_at(text),
+    }
+}
+
+/// The next token, if there is one, and what follows it.
+pub fn next_token(text: &[u8]) -> Result<Option<(Token<'_>, &[u8])>, Flaw>
+    ensures found { IfOk result (λ found. MatchOption found (tokens_of text.now ≡ Some [])
+        (λ t. (tokens_of text.now ≡ option_map (λ ts. token_listed t.0 ∷ ts) (tokens_of t.1.now)) × (length t.1.now < length text.now))) }
+    ensures none { IfErr result (λ flaw. tokens_of text.now ≡ None) }
+{
+    let front = skip_blanks(text);
+    if front.is_empty() {
+        return Ok(None);
+    }
+    match token_at(front) {
+        Ok((token, count)) => Ok(Some((token, from(behind_first(front), count)))),
+        Err(reason) => Err(Flaw {
+            reason,
+            left: front.len(),
+        }),
     }
 }
 

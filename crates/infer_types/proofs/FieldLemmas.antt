@@ -1,12 +1,11 @@
 -- What the words of a row say.
-use Rattle.std.proofs.Common.{◌≡◌, ◌⊎◌, ◌↔◌, ℕ, Bool, true, false, List, [], ◌∷◌, Option, None, Some, IsTrue, cond, inl, inr, map, option_map, refl, sym, subst}
-use Rattle.std.proofs.lemmas.Bool.{false≢true}
-use Rattle.std.proofs.lemmas.Bool.Decides.{Decides-or}
+use Rattle.std.proofs.Common.{◌≡◌, ◌⊎◌, ◌↔◌, ℕ, Bool, true, false, List, Option, None, Some, IsTrue, cond, inl, inr, option_map, refl, sym, subst, ◌∙◌}
 use Rattle.infer.specs.declared.table.file_type.MatcherType.{MatcherType}
-use Rattle.infer_sig.specs.Signature as fixed
-use Rattle.infer_more.specs.Signature.{Accepted, Alternative, bytes}
+use Rattle.infer_more.specs.Signature.{Accepted, Alternative}
+use Rattle.infer_notation.specs.Relations.{IsSeen}
+use Rattle.infer_notation.specs.Signature.{signature_of}
 use Rattle.infer_notation.specs.Words.{◌>>=◌}
-use Rattle.infer_types.specs.Line.{Fields, Row, class_of, is_built_in, is_mime_type, is_name, is_none, parent_of, row, row_of, signature_of}
+use Rattle.infer_types.specs.Line.{Fields, Row, class_of, is_built_in, is_mime_type, is_name, is_none, parent_of, row, row_of}
 
 -- what each word of a row says
 pub record Says (f : Fields) (own : Row) : Type 0 where
@@ -55,21 +54,16 @@ parent_is w false false p extension is e = absurd cc
 pub parent_cases : (w : List ℕ) (p : Option (List ℕ)) → parent_of w ≡ Some p → ((p ≡ None) × (is_none w ≡ true)) ⊎ ((p ≡ Some w) × (is_none w ≡ false))
 parent_cases w p e = parent_is w (is_none w) (is_built_in w) p None refl e
 
--- fixed signatures as those of further rows
-pub accepted_is : (alternatives : List fixed.Alternative) (b : List ℕ) → IsTrue (fixed.accepts alternatives b) ↔ Accepted (map bytes alternatives) b
-accepted_is [] b = (false≢true, λ h. absurd h)
-accepted_is (a ∷ others) b = Decides-or (fixed.fits b a) (fixed.accepts others b) (λ h. h, λ h. h) (accepted_is others b)
-
 -- what a buffer was told of a signature
-pub signature_seen : (buf : List ℕ) (o : Option (List fixed.Alternative)) (s : List Alternative) (b : Bool)
-    → Some b ≡ option_map (λ alternatives. fixed.accepts alternatives buf) o → option_map (map bytes) o ≡ Some s → IsTrue b ↔ Accepted s buf
-signature_seen buf None s b is-b is-s = absurd cc
-signature_seen buf (Some a) s b is-b is-s =
-    let same : b ≡ fixed.accepts a buf = cc in
-    let all : map bytes a ≡ s = cc in
-    subst (λ x. IsTrue x ↔ Accepted s buf) (sym same) (subst (λ x. IsTrue (fixed.accepts a buf) ↔ Accepted x buf) all (accepted_is a buf))
+pub signature_seen : (buf : List ℕ) (o : Option (List Alternative)) (s : List Alternative) (x : Bool) → IsSeen o buf (Some x) → o ≡ Some s → IsTrue x ↔ Accepted s buf
+signature_seen buf o s x (alternatives, is, seen) is-s =
+    let same : Some alternatives ≡ Some s = sym is ∙ is-s in
+    let all : alternatives ≡ s = cc in
+    subst (λ a. IsTrue x ↔ Accepted a buf) all seen
 
-pub signature_unseen : (buf : List ℕ) (o : Option (List fixed.Alternative)) (s : List Alternative)
-    → None ≡ option_map (λ alternatives. fixed.accepts alternatives buf) o → option_map (map bytes) o ≡ Some s → ⊥
-signature_unseen buf None s is-b is-s = cc
-signature_unseen buf (Some a) s is-b is-s = cc
+pub signature_unseen : (buf : List ℕ) (o : Option (List Alternative)) (s : List Alternative) → IsSeen o buf None → o ≡ Some s → ⊥
+signature_unseen buf o s none is-s = let both : None ≡ Some s = sym none ∙ is-s in absurd cc
+
+-- it is one exactly if some alternatives are described
+pub signature_some : (buf : List ℕ) (o : Option (List Alternative)) (x : Bool) → IsSeen o buf (Some x) → (alternatives : List Alternative) × (o ≡ Some alternatives)
+signature_some buf o x (alternatives, is, seen) = (alternatives, is)

@@ -1,5 +1,5 @@
 -- A line of a text of types: a type of files in five words.
-use Rattle.std.specs.Prelude.{◌==◌, ◌&&◌, ◌||◌, ℕ, Bool, true, false, not, List, [], ◌∷◌, Option, None, Some, codes, drop, length, map, nat_le, option_map, take, if◌then◌else◌}
+use Rattle.std.specs.Prelude.{◌==◌, ◌&&◌, ◌||◌, ℕ, Bool, true, false, not, List, [], ◌∷◌, Option, None, Some, codes, drop, length, nat_le, option_map, take, if◌then◌else◌}
 use Rattle.std.specs.Int.{is_in_range}
 use Rattle.std.specs.List.{list_all, list_any, prefix_len}
 use Rattle.std.specs.Str.{bytes_eq}
@@ -7,8 +7,8 @@ use Rattle.infer.specs.Table as built_in
 use Rattle.infer.specs.Triple.{Triple, triple}
 use Rattle.infer.specs.declared.table.file_type.MatcherType.{MatcherType}
 use Rattle.infer.specs.declared.table.file_type.MatcherType.TheVariants.{App, Archive, Audio, Book, Doc, Font, Image, Text, Video}
-use Rattle.infer_more.specs.Signature.{Alternative, bytes}
-use Rattle.infer_notation.specs.Fixed.{alternatives_of}
+use Rattle.infer_more.specs.Signature.{Alternative}
+use Rattle.infer_notation.specs.Signature.{signature_of}
 use Rattle.infer_notation.specs.Words.{◌>>=◌, behind_blanks, behind_word, is_digit, word}
 use Rattle.infer_types.specs.declared.line.Fields as declared
 
@@ -63,10 +63,6 @@ is_none w = bytes_eq w (codes "-")
 
 abbrev pub parent_of : List ℕ → Option (Option (List ℕ))
 parent_of w = if is_none w then Some None else (if is_built_in w then Some (Some w) else None)
-
--- the alternatives that the text describes
-abbrev pub signature_of : List ℕ → Option (List Alternative)
-signature_of t = option_map (map bytes) (alternatives_of t)
 
 -- four words, and what follows them
 pub record Fields : Type 0 where

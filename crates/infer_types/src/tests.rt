@@ -32,6 +32,36 @@ fn answers(rt: HostRuntime) -> Result<(), Fail> {
     Ok(())
 }
 
+const RELATIONS: &[u8] = b"flow text/x-flow text xml root: flow or flows
+note text/x-note text xml root : note with \"urn:notes\"
+wdl  text/x-wdl  text sh  program: wdl miniwdl
+book app/x-book  book zip first entry: is \"book.toml\" or ends in \".book\" or has extra FE CB
+job  app/x-job   text -   JSON lines";
+
+#[test]
+fn relations(rt: HostRuntime) -> Result<(), Fail> {
+    let types = Types::new(RELATIONS).ok().ok_or("it describes types")?;
+    for (buf, wanted) in [
+        (b"<?xml version='1.0'?><flow>".as_slice(), "text/x-flow"),
+        (b"<?xml version='1.0'?><x:flows >".as_slice(), "text/x-flow"),
+        (
+            b"<?xml version='1.0'?><note xmlns='urn:notes'>".as_slice(),
+            "text/x-note",
+        ),
+        (b"<?xml version='1.0'?><note>".as_slice(), "text/xml"),
+        (b"#!/usr/bin/env miniwdl\n".as_slice(), "text/x-wdl"),
+        (b"#!/bin/python\n".as_slice(), "text/x-python"),
+        (
+            b"PK\x03\x04\0\0\0\0\0\0\0\0\0\0\0\0\0\0\0\0\0\0\0\0\0\0\x06\0\0\0a.book".as_slice(),
+            "app/x-book",
+        ),
+        (b"[1]\n[2]\n".as_slice(), "app/x-job"),
+    ] {
+        assert_eq!(rt; mime(&types, buf), wanted);
+    }
+    Ok(())
+}
+
 #[test]
 fn mistakes(rt: HostRuntime) {
     for (text, reason, line, column) in [
@@ -88,6 +118,25 @@ fn mistakes(rt: HostRuntime) {
             Reason::Digits,
             1,
             25,
+        ),
+        (
+            b"a b/c image - roots: x".as_slice(),
+            Reason::Relation,
+            1,
+            15,
+        ),
+        (
+            b"a b/c image - root: x or  y z".as_slice(),
+            Reason::Item,
+            1,
+            27,
+        ),
+        (b"a b/c image - root: x or".as_slice(), Reason::End, 1, 25),
+        (
+            b"a b/c image - root: \"x\" or \"".as_slice(),
+            Reason::Item,
+            1,
+            15,
         ),
     ] {
         match Types::new(text) {

@@ -2,7 +2,7 @@ use Rattle.std.proofs.Common.{◌≡◌, ◌<◌, false, get_or, length, option_
 use Rattle.infer_sig.specs.Signature as signature
 use Rattle.infer_notation.specs.Fixed.{alternatives_of, given}
 use Rattle.infer_notation.specs.Words.{is_blank}
-use Rattle.infer_notation.proofs.signature.accepts.Given as goal
+use Rattle.infer_notation.proofs.signature.accepts_fixed.Given as goal
 
 abbrev pub invariant-loop-rest : goal.invariant-loop-rest
 invariant-loop-rest l = record {

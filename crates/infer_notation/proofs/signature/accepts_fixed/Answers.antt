@@ -2,7 +2,7 @@ use Rattle.std.proofs.Common.{ap, drop, false, ◌∙◌, sym}
 use Rattle.std.proofs.lemmas.List.{drop-drop}
 use Rattle.infer_notation.specs.Fixed.{given, start, state}
 use Rattle.infer_notation.proofs.SignatureLemmas.{given_blanks, given_start}
-use Rattle.infer_notation.proofs.signature.accepts.Goals as goal
+use Rattle.infer_notation.proofs.signature.accepts_fixed.Goals as goal
 
 pub loop-rest-init : goal.loop-rest-init
 loop-rest-init c = record {

@@ -1,0 +1,163 @@
+-- What a buffer makes of alternatives that a text describes by a relation.
+use Rattle.std.proofs.Common.{◌≡◌, ◌+◌, ◌⊎◌, ◌↔◌, ◌||◌, ℕ, Bool, true, false, List, [], ◌∷◌, ◌++◌, Option, None, Some, IsTrue, drop, length, map, option_map, take, get_or, set, inl, inr, refl, sym, ap, subst, ◌∙◌, ◌<◌, append_assoc}
+use Rattle.std.proofs.lemmas.Bool.{false≢true}
+use Rattle.std.proofs.lemmas.Bool.Decides.{Decides-or}
+use Rattle.std.proofs.lemmas.Grind.{take-set_at}
+use Rattle.std.proofs.lemmas.List.{drop_more}
+use Rattle.infer_sig.specs.Signature as fixed
+use Rattle.infer_inside.specs.Script.{IsProgram}
+use Rattle.infer_inside.specs.Zip.{IsOneOf}
+use Rattle.infer_more.specs.Signature.{Accepted, Alternative, Fits, IsProgramAmong, bytes}
+use Rattle.infer_notation.specs.Relations.{IsItemSeen, IsSeen, bytes_in, groups_of, item_of, items_in, left_groups, named_in, names, related, relations_of, spelled, token_byte}
+use Rattle.infer_notation.specs.Tokens.{Token, token_listed}
+use Rattle.infer_notation.specs.Words.{◌>>=◌}
+use Rattle.infer_notation.specs.declared.names.Relation.{Relation}
+use Rattle.infer_notation.specs.declared.tokens.Token as declared
+
+-- ---- names of programs
+
+-- the program has one name, so it is one of these exactly if this name is
+pub among_programs : (b name : List ℕ) → IsProgram name b → ((n : List ℕ) → IsProgram n b → n ≡ name) → (ns : List (List ℕ)) → IsOneOf name ns ↔ IsProgramAmong ns b
+among_programs b name is only [] = (λ h. h, λ h. h)
+among_programs b name is only (n ∷ ns) =
+    let later = among_programs b name is only ns in (
+      λ h. elim h [ inl e ↦ inl (subst (λ m. IsProgram m b) e is) | inr more ↦ inr (later.0 more) ],
+      λ h. elim h [ inl p ↦ inl (sym (only n p)) | inr more ↦ inr (later.1 more) ],
+    )
+
+pub no_program : (b : List ℕ) → ((n : List ℕ) → ¬ IsProgram n b) → (ns : List (List ℕ)) → ¬ IsProgramAmong ns b
+no_program b none [] h = absurd h
+no_program b none (n ∷ ns) (inl p) = none n p
+no_program b none (n ∷ ns) (inr more) = no_program b none ns more
+
+-- ---- bytes
+
+pub bytes_next : (ts : List declared.Token) (i : ℕ) (t : declared.Token) (x : ℕ) (id : List ℕ) → i < length ts → i < length id → token_byte (token_listed (get_or ts i t)) ≡ Some x
+    → option_map (λ xs. take i id ++ xs) (bytes_in (map token_listed (drop i ts))) ≡ option_map (λ xs. take (i + 1) (set id i x) ++ xs) (bytes_in (map token_listed (drop (i + 1) ts)))
+bytes_next ts i t x id inside room is =
+    ap (λ r. option_map (λ xs. take i id ++ xs) (bytes_in (map token_listed r))) (drop_more ts i t inside)
+    ∙ ap (λ o. option_map (λ xs. take i id ++ xs) (o >>= λ x. option_map (λ xs. x ∷ xs) (bytes_in (map token_listed (drop (i + 1) ts))))) is
+    ∙ joined (bytes_in (map token_listed (drop (i + 1) ts)))
+    ∙ ap (λ (front : List ℕ). option_map (λ xs. front ++ xs) (bytes_in (map token_listed (drop (i + 1) ts)))) (sym (take-set_at id i (i + 1) x refl room))
+  where
+    joined : (o : Option (List ℕ)) → option_map (λ xs. take i id ++ xs) (option_map (λ xs. x ∷ xs) o) ≡ option_map (λ xs. (take i id ++ x ∷ []) ++ xs) o
+    joined None = refl
+    joined (Some xs) = ap (λ (ys : List ℕ). Some ys) (sym (append_assoc (take i id) (x ∷ []) xs))
+
+pub bytes_bad : (ts : List declared.Token) (i : ℕ) (t : declared.Token) (id : List ℕ) → i < length ts → token_byte (token_listed (get_or ts i t)) ≡ None
+    → option_map (λ xs. take i id ++ xs) (bytes_in (map token_listed (drop i ts))) ≡ None
+bytes_bad ts i t id inside is =
+    ap (λ r. option_map (λ xs. take i id ++ xs) (bytes_in (map token_listed r))) (drop_more ts i t inside)
+    ∙ ap (λ o. option_map (λ xs. take i id ++ xs) (o >>= λ x. option_map (λ xs. x ∷ xs) (bytes_in (map token_listed (drop (i + 1) ts))))) is
+
+-- ---- alternatives
+
+-- those to come, and one before them that the buffer may fit
+abbrev pub IsLeft : Bool → Option (List Alternative) → List ℕ → Option Bool → Type 0
+IsLeft any items b None = items ≡ None
+IsLeft any items b (Some x) = (alternatives : List Alternative) × (items ≡ Some alternatives) × (IsTrue x ↔ (IsTrue any ⊎ Accepted alternatives b))
+
+abbrev pub left_items : Relation → Option (List ℕ) → Option (List Alternative)
+left_items r rest = left_groups rest >>= items_in r
+
+-- the items of a group and of what follows it
+module _ (r : Relation) (g : List Token) (rest : Option (List ℕ)) where
+  items_next : (a : Alternative) → item_of r g ≡ Some a → (o : Option (List (List Token))) → (option_map (λ gs. g ∷ gs) o >>= items_in r) ≡ option_map (λ others. a ∷ others) (o >>= items_in r)
+  items_next a is None = refl
+  items_next a is (Some gs) = ap (λ i. i >>= λ a. option_map (λ others. a ∷ others) (items_in r gs)) is
+
+  items_none : item_of r g ≡ None → (o : Option (List (List Token))) → (option_map (λ gs. g ∷ gs) o >>= items_in r) ≡ None
+  items_none is None = refl
+  items_none is (Some gs) = ap (λ i. i >>= λ a. option_map (λ others. a ∷ others) (items_in r gs)) is
+
+-- one alternative less to come
+seen_more : (items others : Option (List Alternative)) (b : List ℕ) (any fits : Bool) (a : Alternative) → items ≡ option_map (λ more. a ∷ more) others → IsTrue fits ↔ Fits a b
+    → (x : Option Bool) → IsLeft (any || fits) others b x → IsLeft any items b x
+seen_more items others b any fits a is fit None left = is ∙ ap (option_map (λ more. a ∷ more)) left
+seen_more items others b any fits a is fit (Some x) (alternatives, are, seen) = (a ∷ alternatives, is ∙ ap (option_map (λ more. a ∷ more)) are, (λ t. there any fits fit.0 (seen.0 t), λ h. seen.1 (back any fits fit.1 h)))
+  where
+    there : (any fits : Bool) → (IsTrue fits → Fits a b) → IsTrue (any || fits) ⊎ Accepted alternatives b → IsTrue any ⊎ (Fits a b ⊎ Accepted alternatives b)
+    there true fits f h = inl refl
+    there false fits f (inl t) = inr (inl (f t))
+    there false fits f (inr more) = inr (inr more)
+
+    back : (any fits : Bool) → (Fits a b → IsTrue fits) → IsTrue any ⊎ (Fits a b ⊎ Accepted alternatives b) → IsTrue (any || fits) ⊎ Accepted alternatives b
+    back true fits f h = inl refl
+    back false fits f (inl t) = absurd (false≢true t)
+    back false fits f (inr (inl fit)) = inl (f fit)
+    back false fits f (inr (inr more)) = inr more
+
+-- the first alternative
+pub seen_first : (text b : List ℕ) (g : List Token) (rest : Option (List ℕ)) (r : Relation) (ts : List Token) (fits : Bool) → groups_of text ≡ option_map (λ gs. g ∷ gs) (left_groups rest)
+    → named_in names g ≡ Some (r, ts) → IsItemSeen (item_of r ts) b (Some fits) → (x : Option Bool) → IsLeft fits (left_items r rest) b x → IsSeen (relations_of text) b x
+seen_first text b g rest r ts fits whole named (a, is, fit) x left =
+    ended x (seen_more (relations_of text) (left_items r rest) b false fits a (ap (λ o. o >>= related) whole ∙ on_groups (left_groups rest)) fit x left)
+  where
+    on_groups : (o : Option (List (List Token))) → (option_map (λ gs. g ∷ gs) o >>= related) ≡ option_map (λ others. a ∷ others) (o >>= items_in r)
+    on_groups None = refl
+    on_groups (Some gs) = ap (λ n. n >>= λ n. items_in n.0 (n.1 ∷ gs)) named ∙ ap (λ i. i >>= λ a. option_map (λ others. a ∷ others) (items_in r gs)) is
+
+    ended : (x : Option Bool) → IsLeft false (relations_of text) b x → IsSeen (relations_of text) b x
+    ended None h = h
+    ended (Some x) (alternatives, are, seen) = (alternatives, are, (λ t. elim (seen.0 t) [ inl f ↦ absurd (false≢true f) | inr h ↦ h ], λ h. seen.1 (inr h)))
+
+-- a name that none has, or an alternative that takes something else
+pub unseen_first : (text : List ℕ) (g : List Token) (rest : Option (List ℕ)) → groups_of text ≡ option_map (λ gs. g ∷ gs) (left_groups rest) → named_in names g ≡ None → relations_of text ≡ None
+unseen_first text g rest whole named = ap (λ o. o >>= related) whole ∙ on_groups (left_groups rest)
+  where
+    on_groups : (o : Option (List (List Token))) → (option_map (λ gs. g ∷ gs) o >>= related) ≡ None
+    on_groups None = refl
+    on_groups (Some gs) = ap (λ n. n >>= λ n. items_in n.0 (n.1 ∷ gs)) named
+
+pub untaken_first : (text : List ℕ) (g : List Token) (rest : Option (List ℕ)) (r : Relation) (ts : List Token) → groups_of text ≡ option_map (λ gs. g ∷ gs) (left_groups rest)
+    → named_in names g ≡ Some (r, ts) → item_of r ts ≡ None → relations_of text ≡ None
+untaken_first text g rest r ts whole named is = ap (λ o. o >>= related) whole ∙ on_groups (left_groups rest)
+  where
+    on_groups : (o : Option (List (List Token))) → (option_map (λ gs. g ∷ gs) o >>= related) ≡ None
+    on_groups None = refl
+    on_groups (Some gs) = ap (λ n. n >>= λ n. items_in n.0 (n.1 ∷ gs)) named ∙ ap (λ i. i >>= λ a. option_map (λ others. a ∷ others) (items_in r gs)) is
+
+-- a further alternative
+pub seen_next : (more b : List ℕ) (g : List Token) (rest : Option (List ℕ)) (r : Relation) (any fits : Bool) → groups_of more ≡ option_map (λ gs. g ∷ gs) (left_groups rest)
+    → IsItemSeen (item_of r g) b (Some fits) → (x : Option Bool) → IsLeft (any || fits) (left_items r rest) b x → IsLeft any (left_items r (Some more)) b x
+seen_next more b g rest r any fits whole (a, is, fit) =
+    seen_more (left_items r (Some more)) (left_items r rest) b any fits a (ap (λ o. o >>= items_in r) whole ∙ items_next r g rest a is (left_groups rest)) fit
+
+pub unseen_next : (more b : List ℕ) (g : List Token) (rest : Option (List ℕ)) (r : Relation) (any : Bool) → groups_of more ≡ option_map (λ gs. g ∷ gs) (left_groups rest)
+    → item_of r g ≡ None → IsLeft any (left_items r (Some more)) b None
+unseen_next more b g rest r any whole is = ap (λ o. o >>= items_in r) whole ∙ items_none r g rest is (left_groups rest)
+
+-- none is to come
+pub seen_last : (b : List ℕ) (r : Relation) (any : Bool) → IsLeft any (left_items r None) b (Some any)
+seen_last b r any = ([], refl, (λ t. inl t, λ h. elim h [ inl t ↦ t | inr none ↦ absurd none ]))
+
+-- ---- one of the words
+
+module _ (name : List ℕ) (ws : List declared.Token) (i : ℕ) (w : declared.Token) (inside : i < length ws) where
+  abbrev Among : List declared.Token → Type 0
+  Among xs = IsOneOf name (map spelled (map token_listed xs))
+
+  -- it is this one
+  pub among_here : name ≡ spelled (token_listed (get_or ws i w)) → Among (drop i ws)
+  among_here is = subst Among (sym (drop_more ws i w inside)) (inl is)
+
+  -- or one of those behind it, and no other
+  pub among_later : Among (drop (i + 1) ws) → Among (drop i ws)
+  among_later h = subst Among (sym (drop_more ws i w inside)) (inr h)
+
+  pub among_not : (name ≡ spelled (token_listed (get_or ws i w)) → ⊥) → Among (drop i ws) → Among (drop (i + 1) ws)
+  among_not other h = elim (subst Among (drop_more ws i w inside) h) [ inl e ↦ absurd (other e) | inr more ↦ more ]
+
+-- ---- fixed signatures as those of further rows
+
+accepted_is : (alternatives : List fixed.Alternative) (b : List ℕ) → IsTrue (fixed.accepts alternatives b) ↔ Accepted (map bytes alternatives) b
+accepted_is [] b = (false≢true, λ h. absurd h)
+accepted_is (a ∷ others) b = Decides-or (fixed.fits b a) (fixed.accepts others b) (λ h. h, λ h. h) (accepted_is others b)
+
+pub seen_fixed : (o : Option (List fixed.Alternative)) (b : List ℕ) (x : Option Bool) → x ≡ option_map (λ alternatives. fixed.accepts alternatives b) o → IsSeen (option_map (map bytes) o) b x
+seen_fixed None b None e = refl
+seen_fixed None b (Some x) e = absurd cc
+seen_fixed (Some a) b None e = absurd cc
+seen_fixed (Some a) b (Some x) e =
+    let same : x ≡ fixed.accepts a b = cc in
+    (map bytes a, refl, subst (λ y. IsTrue y ↔ Accepted (map bytes a) b) (sym same) (accepted_is a b))

@@ -1,0 +1,13 @@
+use Rattle.std.proofs.Common.{◌≡◌, ◌<◌, ◌∷◌, List, None, [], arith, length, map, refl}
+use Rattle.infer_notation.specs.Relations.{marked_entry}
+use Rattle.infer_notation.specs.Tokens.{token_listed}
+use Rattle.infer_notation.specs.declared.tokens.Token.{Token}
+use Rattle.infer_notation.proofs.items.marked_entry.Goals as goal
+
+few : (ts : List Token) → length ts < 2 → None ≡ marked_entry (map token_listed ts)
+few [] less = refl
+few (t ∷ []) less = refl
+few (t ∷ u ∷ ts) less = absurd (omega arith)
+
+pub returns-in_default : goal.returns-in_default
+returns-in_default c = few c.args.tokens.now c.in_default.len_below

@@ -1,0 +1,25 @@
+use Rattle.std.proofs.Common.{◌<◌, ap, drop, length, option_map, sym, ◌∷◌, ◌∙◌, arith, rules}
+use Rattle.std.proofs.lemmas.List.{length-drop}
+use Rattle.infer_notation.specs.Grammar.{tokens_of}
+use Rattle.infer_notation.specs.Tokens.{token_listed}
+use Rattle.infer_notation.proofs.RelationLemmas.{bad_token, next_token, no_token}
+use Rattle.infer_notation.proofs.tokens.next_token.Goals as goal
+
+pub returns-then-is_empty-clause-found : goal.returns-then-is_empty-clause-found
+returns-then-is_empty-clause-found c = no_token c.args.text.now c.skip_blanks-front.result.now c.skip_blanks-front.ensures.value (search rules)
+
+pub returns-in-Ok-clause-found : goal.returns-in-Ok-clause-found
+returns-in-Ok-clause-found c =
+    let front = c.skip_blanks-front.result.now in
+    let some : 0 < length front = search rules in
+    let behind = c.from.ensures ∙ ap (drop c.in-Ok.count) c.behind_first.ensures in (
+      next_token c.args.text.now front (token_listed c.in-Ok.token) c.in-Ok.count c.skip_blanks-front.ensures.value some (c.skip_blanks-front.ensures.ends some) c.in-Ok.ensures.value
+          ∙ ap (λ r. option_map (λ ts. token_listed c.in-Ok.token ∷ ts) (tokens_of r)) (sym behind),
+      rw behind (let fits = c.skip_blanks-front.ensures.fits in omega (arith, length-drop 1 front, length-drop c.in-Ok.count (drop 1 front))),
+    )
+
+pub returns-in-Err-clause-none : goal.returns-in-Err-clause-none
+returns-in-Err-clause-none c =
+    let front = c.skip_blanks-front.result.now in
+    let some : 0 < length front = search rules in
+    bad_token c.args.text.now front c.skip_blanks-front.ensures.value some (c.skip_blanks-front.ensures.ends some) c.in-Err.ensures.value

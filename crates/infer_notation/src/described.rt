@@ -1,0 +1,30 @@
+//! Signatures as a text describes them: fixed bytes, or a relation.
+ghost use Rattle.std.specs.Prelude.{◌≡◌};
+ghost use Rattle.infer_notation.specs.Relations.{IsSeen};
+ghost use Rattle.infer_notation.specs.Signature.{begins_relation, signature_of};
+ghost use Rattle.infer_notation.specs.Words.{found_by};
+
+use crate::reason::Flaw;
+use crate::relations::is_related;
+use crate::signature::accepts_fixed;
+use crate::words::skip_blanks;
+
+/// Whether the buffer fits an alternative of the signature that the text describes.
+pub fn accepts(text: &[u8], buf: &[u8]) -> Result<bool, Flaw>
+    ensures { IsSeen (signature_of text.now) buf.now (found_by result) }
+{
+    if begins_relation(skip_blanks(text)) {
+        return is_related(text, buf);
+    }
+    accepts_fixed(text, buf)
+}
+
+/// Whether the text begins with a letter, as the name of each relation does.
+fn begins_relation(text: &[u8]) -> bool
+    ensures { result ≡ begins_relation text.now }
+{
+    match text {
+        [first, ..] => first.is_ascii_alphabetic(),
+        [] => false,
+    }
+}
