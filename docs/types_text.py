@@ -4,7 +4,7 @@ import re
 from further_index import TEXT, TEXT_OF_BYTES, byte_of, bytes_of
 
 HEAD = """# The further types of the library, as a text of types, in the order in which they are asked. docs/tables writes it from
-# the rows. A line that begins with "#?" is of a type whose signature cannot be written in the notation yet.
+# the rows.
 """
 # What each alternative that looks inside is called, and what it takes.
 NAMES = {
@@ -87,8 +87,7 @@ def line(code, parents):
     for name in ("first entry: ", "class id: ", "root: "):
         said = said.replace(f" or {name}", " or ")
     words = [f"{extension:<11}", f"{mime_type:<36}", f"{group.lower():<7}", f"{parents[parent] if parent else '-':<6}", said]
-    # The notation cannot ask for binary data yet.
-    return ("#? " if said.endswith("and binary") else "") + "  ".join(words) + "\n"
+    return "  ".join(words) + "\n"
 
 
 def text(lists, parents):

@@ -14,7 +14,7 @@ static const char *const reasons[] = {
     "a type has an extension, a MIME type, a class, a parent and a signature", "no extension", "no MIME type", "unknown class", "no such parent",
     "quotes do not close", "a quoted text is empty", "a set does not close", "a byte that is no printable ASCII, or stands where it cannot",
     "bytes are two hexadecimal digits each", "a length is wanted, as in 14:", "a place is wanted, as in @0", "bytes are wanted", "parts overlap",
-    "place past the length", "a range ends before it begins", "unknown relation", "the relation does not take this", "the signature ends too early",
+    "place past the length", "a range ends before it begins", "`and binary` is wanted, and `or` or the end behind it", "unknown relation", "the relation does not take this", "the signature ends too early",
 };
 static const char *const odd[] = {
     "\n", "\r\n", "\"", "{", "}", ",", ":", "@", " or ", " not ", "..", "9999999999", "00000000000000000007", "\xEF\xBB\xBF", "\x80", "#", "-", "/", " ", "\t",

@@ -1,13 +1,18 @@
 -- What a buffer makes of alternatives that a text describes by a relation.
-use Rattle.std.proofs.Common.{◌≡◌, ◌+◌, ◌⊎◌, ◌↔◌, ◌||◌, ℕ, Bool, true, false, List, [], ◌∷◌, ◌++◌, Option, None, Some, IsTrue, drop, length, map, option_map, take, get_or, set, inl, inr, refl, sym, ap, subst, ◌∙◌, ◌<◌, append_assoc}
-use Rattle.std.proofs.lemmas.Bool.{false≢true}
-use Rattle.std.proofs.lemmas.Bool.Decides.{Decides-or}
+use Rattle.std.proofs.Common.{◌≡◌, ◌+◌, ◌⊎◌, ◌↔◌, ◌||◌, ℕ, suc, slice_index, Bool, true, false, not, cond, ◌&&◌, List, [], ◌∷◌, ◌++◌, Option, None, Some, IsTrue, drop, length, map, option_map, take, get_or, set, inl, inr, refl, sym, ap, subst, ◌∙◌, ◌<◌, arith, append_assoc}
+use Rattle.std.proofs.lemmas.Bool.{and_parts, false≢true, or_cases}
+use Rattle.std.proofs.Math.Bool.{and-true}
+use Rattle.std.proofs.lemmas.Bool.Decides.{Decides-or, nat_tests}
+use Rattle.std.proofs.lemmas.List.Folds.{list_any_at}
 use Rattle.std.proofs.lemmas.Grind.{take-set_at}
 use Rattle.std.proofs.lemmas.List.{drop_more}
 use Rattle.infer_sig.specs.Signature as fixed
 use Rattle.infer_inside.specs.Script.{IsProgram}
 use Rattle.infer_inside.specs.Zip.{IsOneOf}
-use Rattle.infer_more.specs.Signature.{Accepted, Alternative, Fits, IsProgramAmong, bytes}
+use Rattle.infer_inside.specs.Text.{IsBinary, IsDataByte}
+use Rattle.infer_more.specs.Signature.{Accepted, Alternative, Fits, IsProgramAmong, binary_bytes, bytes}
+use Rattle.infer_notation.specs.Fixed.{Asked, accepts, fits_asked, has_data, is_data_byte}
+use Rattle.infer_notation.specs.Signature.{described}
 use Rattle.infer_notation.specs.Relations.{IsItemSeen, IsSeen, bytes_in, groups_of, item_of, items_in, left_groups, named_in, names, related, relations_of, spelled, token_byte}
 use Rattle.infer_notation.specs.Tokens.{Token, token_listed}
 use Rattle.infer_notation.specs.Words.{◌>>=◌}
@@ -150,14 +155,37 @@ module _ (name : List ℕ) (ws : List declared.Token) (i : ℕ) (w : declared.To
 
 -- ---- fixed signatures as those of further rows
 
-accepted_is : (alternatives : List fixed.Alternative) (b : List ℕ) → IsTrue (fixed.accepts alternatives b) ↔ Accepted (map bytes alternatives) b
-accepted_is [] b = (false≢true, λ h. absurd h)
-accepted_is (a ∷ others) b = Decides-or (fixed.fits b a) (fixed.accepts others b) (λ h. h, λ h. h) (accepted_is others b)
+byte_is : (x : ℕ) → IsTrue (is_data_byte x) ↔ IsDataByte x
+byte_is x = (λ t. grind (arith, nat_tests), λ h. grind (arith, nat_tests))
 
-pub seen_fixed : (o : Option (List fixed.Alternative)) (b : List ℕ) (x : Option Bool) → x ≡ option_map (λ alternatives. fixed.accepts alternatives b) o → IsSeen (option_map (map bytes) o) b x
+pub data_is : (b : List ℕ) → IsTrue (has_data b) ↔ IsBinary b
+data_is b = (some_data b, λ (k, less, d). list_any_at is_data_byte b k 0 less ((byte_is (slice_index b k)).1 d))
+  where
+    some_data : (b : List ℕ) → has_data b ≡ true → IsBinary b
+    some_data [] e = absurd (false≢true e)
+    some_data (x ∷ xs) e = elim (or_cases (is_data_byte x) (has_data xs) e) [
+      | inl here ↦ (0, omega arith, (byte_is x).0 here)
+      | inr more ↦ let (k, less, d) = some_data xs more in (suc k, omega arith, d)
+    ]
+
+fits_is : (a : Asked) (b : List ℕ) → IsTrue (fits_asked b a) ↔ Fits (described a) b
+fits_is a b = on_binary a.binary refl
+  where
+    both : IsTrue (fixed.fits b a.bytes && has_data b) ↔ (IsTrue (fixed.fits b a.bytes) × IsBinary b)
+    both = (λ t. let k = and_parts (fixed.fits b a.bytes) (has_data b) t in (k.0, (data_is b).0 k.1), λ (f, d). rw (f, (data_is b).1 d) refl)
+
+    on_binary : (c : Bool) → a.binary ≡ c → IsTrue (fixed.fits b a.bytes && (not c || has_data b)) ↔ Fits (cond c (binary_bytes a.bytes) (bytes a.bytes)) b
+    on_binary true is = both
+    on_binary false is = (λ t. sym (and-true (fixed.fits b a.bytes)) ∙ t, λ t. and-true (fixed.fits b a.bytes) ∙ t)
+
+accepted_is : (alternatives : List Asked) (b : List ℕ) → IsTrue (accepts alternatives b) ↔ Accepted (map described alternatives) b
+accepted_is [] b = (false≢true, λ h. absurd h)
+accepted_is (a ∷ others) b = Decides-or (fits_asked b a) (accepts others b) (fits_is a b) (accepted_is others b)
+
+pub seen_fixed : (o : Option (List Asked)) (b : List ℕ) (x : Option Bool) → x ≡ option_map (λ alternatives. accepts alternatives b) o → IsSeen (option_map (map described) o) b x
 seen_fixed None b None e = refl
 seen_fixed None b (Some x) e = absurd cc
 seen_fixed (Some a) b None e = absurd cc
 seen_fixed (Some a) b (Some x) e =
-    let same : x ≡ fixed.accepts a b = cc in
-    (map bytes a, refl, subst (λ y. IsTrue y ↔ Accepted (map bytes a) b) (sym same) (accepted_is a b))
+    let same : x ≡ accepts a b = cc in
+    (map described a, refl, subst (λ y. IsTrue y ↔ Accepted (map described a) b) (sym same) (accepted_is a b))

@@ -1,16 +1,15 @@
 -- A signature that is read token by token.
-use Rattle.std.proofs.Common.{◌≡◌, ◌+◌, ◌&&◌, ◌||◌, ℕ, zero, suc, Bool, true, false, List, [], ◌∷◌, Option, None, Some, length, drop, option_map, nat_le, inl, inr, refl, sym, ap, ◌∙◌, ◌<◌, arith, get_or}
-use Rattle.std.specs.List.{list_all, list_any}
+use Rattle.std.proofs.Common.{◌≡◌, ◌+◌, ◌&&◌, ◌||◌, ℕ, zero, suc, Bool, true, false, not, List, [], ◌∷◌, Option, None, Some, length, drop, option_map, nat_le, inl, inr, refl, sym, ap, ◌∙◌, ◌<◌, arith, get_or}
+use Rattle.std.specs.List.{list_all}
 use Rattle.std.proofs.lemmas.Bool.{cases_Bool}
-use Rattle.infer_sig.specs.Signature as signature
-use Rattle.infer_sig.specs.Signature.{at_least, fits, has_part}
-use Rattle.infer_notation.specs.Fixed.{Effect, Rest, alternatives_of, effect_seen, given, joined, nothing, opens, part, rest_at, rest_seen, state_taken, step, step_seen, ended, start, state}
+use Rattle.infer_sig.specs.Signature.{has_part}
+use Rattle.infer_notation.specs.Fixed.{Effect, Rest, accepts, alternatives_of, asks_binary, effect_seen, given, has_data, joined, nothing, opens, part, rest_at, rest_of, rest_seen, state_taken, step, step_seen, ended, start, state}
 use Rattle.infer_notation.specs.Tokens.{Token, token_at}
 use Rattle.infer_notation.specs.Words.{behind_blanks, is_blank}
 use Rattle.infer_notation.specs.declared.fixed.Cursor.{Cursor}
 use Rattle.infer_notation.specs.declared.fixed.Effect as declared
 use Rattle.infer_notation.specs.declared.fixed.Effect.TheVariants as effects
-use Rattle.infer_notation.specs.declared.fixed.Wanted.TheVariants.{More}
+use Rattle.infer_notation.specs.declared.fixed.Wanted.{Wanted}
 use Rattle.infer_notation.specs.declared.signature.State.{State}
 use Rattle.infer_notation.proofs.HexLemmas.{and_assoc, and_true, or_assoc}
 
@@ -33,8 +32,17 @@ pub past_token : (c d : Cursor) (x : ℕ) (xs : List ℕ) (t : Token) (n : ℕ) 
     → rest_at c 0 (x ∷ xs) ≡ option_map (joined e) (rest_at d 0 (drop n xs))
 past_token c d x xs t n e dark is-t is-s = rw (dark, is-t, is-s) (ap (option_map (joined e)) (past_read d n xs))
 
-opened : (a l o p r : Bool) → ((a || (l && true)) || ((o && p) || r)) ≡ (((a || l) || (o && p)) || r)
-opened a l o p r = ap (λ t. (a || t) || ((o && p) || r)) (and_true l) ∙ or_assoc (a || l) (o && p) r
+opened : (a l o p q r : Bool) → ((a || (l && (true && true))) || (((o && p) && q) || r)) ≡ (((a || l) || (o && (p && q))) || r)
+opened a l o p q r =
+    ap (λ t. (a || t) || (((o && p) && q) || r)) (and_true l) ∙ ap (λ t. (a || l) || (t || r)) (sym (and_assoc o p q)) ∙ or_assoc (a || l) (o && (p && q)) r
+
+with_data : (a l p b d r : Bool) → ((a || (l && (p && (not true || d)))) || r) ≡ ((a || ((l && d) && (p && (not b || d)))) || r)
+with_data a false p b d r = refl
+with_data a true false b true r = refl
+with_data a true true true true r = refl
+with_data a true true false true r = refl
+with_data a true false b false r = refl
+with_data a true true b false r = refl
 
 -- the state with what a token adds makes of the rest what the one before makes of both
 map_joined : (buf : List ℕ) (s : State) (d : Cursor) (e : Effect) (r : Option Rest)
@@ -42,9 +50,13 @@ map_joined : (buf : List ℕ) (s : State) (d : Cursor) (e : Effect) (r : Option 
 map_joined buf s d e None = refl
 map_joined buf s d nothing (Some r) = refl
 map_joined buf s d (part p) (Some r) =
-    ap (λ (t : Bool). Some ((s.any || t) || list_any (fits buf) r.alternatives)) (and_assoc s.last (has_part buf p) (list_all (has_part buf) r.parts))
+    let q = not r.binary || has_data buf in
+    ap (λ (t : Bool). Some ((s.any || t) || accepts r.alternatives buf))
+    (ap (λ t. s.last && t) (sym (and_assoc (has_part buf p) (list_all (has_part buf) r.parts) q)) ∙ and_assoc s.last (has_part buf p) (list_all (has_part buf) r.parts && q))
+map_joined buf s d asks_binary (Some r) =
+    ap (λ (t : Bool). Some t) (with_data s.any s.last (list_all (has_part buf) r.parts) r.binary (has_data buf) (accepts r.alternatives buf))
 map_joined buf s d (opens n) (Some r) =
-    ap (λ (t : Bool). Some t) (opened s.any s.last (nat_le n (length buf)) (list_all (has_part buf) r.parts) (list_any (fits buf) r.alternatives))
+    ap (λ (t : Bool). Some t) (opened s.any s.last (nat_le n (length buf)) (list_all (has_part buf) r.parts) (not r.binary || has_data buf) (accepts r.alternatives buf))
 
 cursor_taken : (s : State) (d : Cursor) (f : declared.Effect) → (state_taken s d f).cursor ≡ d
 cursor_taken s d effects.Nothing = refl
@@ -75,19 +87,19 @@ given_next buf s d (x ∷ xs) t n f some dark is-t is-s =
     first ∙ last ∙ same ∙ here ∙ there
 
 -- and in the end
-pub given_ended : (buf : List ℕ) (s : State) → s.cursor.wanted ≡ More → given buf s 0 [] ≡ Some (s.any || s.last)
-given_ended buf s is = ap (λ w. option_map (rest_seen buf s.any s.last) (ended w)) is ∙ ap (λ (b : Bool). Some b) (no_more s.any s.last)
-  where
-    no_more : (a l : Bool) → ((a || (l && true)) || false) ≡ (a || l)
-    no_more true l = refl
-    no_more false true = refl
-    no_more false false = refl
+no_more : (buf : List ℕ) (a l : Bool) → rest_seen buf a l (rest_of [] false []) ≡ (a || l)
+no_more buf true l = refl
+no_more buf false true = refl
+no_more buf false false = refl
+
+pub given_ended : (buf : List ℕ) (s : State) (w : Wanted) → s.cursor.wanted ≡ w → ended w ≡ Some (rest_of [] false []) → given buf s 0 [] ≡ Some (s.any || s.last)
+given_ended buf s w is ends = ap (λ w. option_map (rest_seen buf s.any s.last) (ended w)) is ∙ ap (option_map (rest_seen buf s.any s.last)) ends ∙ ap (λ (b : Bool). Some b) (no_more buf s.any s.last)
 
 -- a signature that begins here
-pub given_start : (buf xs : List ℕ) → given buf (state start false false) 0 (behind_blanks xs) ≡ option_map (λ alternatives. signature.accepts alternatives buf) (alternatives_of xs)
+pub given_start : (buf xs : List ℕ) → given buf (state start false false) 0 (behind_blanks xs) ≡ option_map (λ alternatives. accepts alternatives buf) (alternatives_of xs)
 given_start buf xs = ap (option_map (rest_seen buf false false)) (past_blanks start xs) ∙ whole (rest_at start 0 xs)
   where
-    whole : (r : Option Rest) → option_map (rest_seen buf false false) r ≡ option_map (λ alternatives. signature.accepts alternatives buf) (option_map (λ rest. rest.alternatives) r)
+    whole : (r : Option Rest) → option_map (rest_seen buf false false) r ≡ option_map (λ alternatives. accepts alternatives buf) (option_map (λ rest. rest.alternatives) r)
     whole None = refl
     whole (Some r) = refl
 

@@ -1,7 +1,7 @@
 -- The grammar of fixed signatures, over their tokens.
-use Rattle.std.specs.Prelude.{◌≡◌, ◌+◌, ◌≤◌, ℕ, zero, suc, List, [], ◌∷◌, ◌++◌, Option, None, Some, codes, length, option_map, if◌then◌else◌}
-use Rattle.infer_sig.specs.Signature.{Alternative, Part, all_but, any_of, at_least, between, byte, text}
-use Rattle.infer_notation.specs.Fixed.{range_of}
+use Rattle.std.specs.Prelude.{◌≡◌, ◌+◌, ◌≤◌, ℕ, zero, suc, true, false, List, [], ◌∷◌, ◌++◌, Option, None, Some, codes, length, option_map, if◌then◌else◌}
+use Rattle.infer_sig.specs.Signature.{Part, all_but, any_of, between, byte, text}
+use Rattle.infer_notation.specs.Fixed.{Asked, Rest, asked_of, range_of, rest_of}
 use Rattle.infer_notation.specs.Tokens.{Token, bare, mark, quoted, set, token_at}
 use Rattle.infer_notation.specs.Words.{◌>>=◌, byte_of, bytes_of, is_blank, number_of}
 
@@ -25,30 +25,36 @@ pub data IsPiece : ℕ → List Token → Part → ℕ → Type 0 where
   another : (p : ℕ) (w : List ℕ) (x : ℕ) → byte_of w ≡ Some x → IsPiece p (bare (codes "not") ∷ bare w ∷ []) (byte p (all_but x)) 1
 
 -- what a signature is made of: alternatives; parts, pieces and what follows a piece, in an alternative of a least length
--- from a place on
+-- from a place on; and what follows an alternative
 pub data Symbol : Type 0 where
   signature : Symbol
   parts : ℕ → ℕ → Symbol
   pieces : ℕ → ℕ → Symbol
   rest : ℕ → ℕ → Symbol
+  others : Symbol
 
--- The tokens are one of that symbol, which adds these parts to the alternative that is open, and these alternatives.
+-- The tokens are one of that symbol, which adds these parts to the alternative that is open, and binary data or not, and
+-- these alternatives.
 --     signature  is  NUMBER ":" parts
 --     parts      is  "@" NUMBER pieces, from no place before the end of the part before it
 --     pieces     is  a piece within the least length, and a rest
---     rest       is  nothing, or pieces, or "," parts, or "or" signature
-pub data Derives : Symbol → List Token → List Part → List Alternative → Type 0 where
-  opened : (w : List ℕ) (n : ℕ) (ts : List Token) (ps : List Part) (ys : List Alternative) → number_of w ≡ Some n → Derives (parts n 0) ts ps ys
-      → Derives signature (bare w ∷ mark 0x3A ∷ ts) [] (at_least n ps ∷ ys)
-  placed : (n p : ℕ) (w : List ℕ) (q : ℕ) (ts : List Token) (ps : List Part) (ys : List Alternative) → number_of w ≡ Some q → p ≤ q → Derives (pieces n q) ts ps ys
-      → Derives (parts n p) (mark 0x40 ∷ bare w ∷ ts) ps ys
-  asked : (n p : ℕ) (written : List Token) (part : Part) (size : ℕ) (ts : List Token) (ps : List Part) (ys : List Alternative) → IsPiece p written part size → p + size ≤ n
-      → Derives (rest n (p + size)) ts ps ys → Derives (pieces n p) (written ++ ts) (part ∷ ps) ys
-  ended : (n p : ℕ) → Derives (rest n p) [] [] []
-  more : (n p : ℕ) (ts : List Token) (ps : List Part) (ys : List Alternative) → Derives (pieces n p) ts ps ys → Derives (rest n p) ts ps ys
-  comma : (n p : ℕ) (ts : List Token) (ps : List Part) (ys : List Alternative) → Derives (parts n p) ts ps ys → Derives (rest n p) (mark 0x2C ∷ ts) ps ys
-  other : (n p : ℕ) (ts : List Token) (ys : List Alternative) → Derives signature ts [] ys → Derives (rest n p) (bare (codes "or") ∷ ts) [] ys
+--     rest       is  pieces, or "," parts, or "and" "binary" others, or others
+--     others     is  nothing, or "or" signature
+pub data Derives : Symbol → List Token → Rest → Type 0 where
+  opened : (w : List ℕ) (n : ℕ) (ts : List Token) (r : Rest) → number_of w ≡ Some n → Derives (parts n 0) ts r
+      → Derives signature (bare w ∷ mark 0x3A ∷ ts) (rest_of [] false (asked_of n r.parts r.binary ∷ r.alternatives))
+  placed : (n p : ℕ) (w : List ℕ) (q : ℕ) (ts : List Token) (r : Rest) → number_of w ≡ Some q → p ≤ q → Derives (pieces n q) ts r
+      → Derives (parts n p) (mark 0x40 ∷ bare w ∷ ts) r
+  asked : (n p : ℕ) (written : List Token) (part : Part) (size : ℕ) (ts : List Token) (r : Rest) → IsPiece p written part size → p + size ≤ n
+      → Derives (rest n (p + size)) ts r → Derives (pieces n p) (written ++ ts) (rest_of (part ∷ r.parts) r.binary r.alternatives)
+  more : (n p : ℕ) (ts : List Token) (r : Rest) → Derives (pieces n p) ts r → Derives (rest n p) ts r
+  comma : (n p : ℕ) (ts : List Token) (r : Rest) → Derives (parts n p) ts r → Derives (rest n p) (mark 0x2C ∷ ts) r
+  with_data : (n p : ℕ) (ts : List Token) (ys : List Asked) → Derives others ts (rest_of [] false ys)
+      → Derives (rest n p) (bare (codes "and") ∷ bare (codes "binary") ∷ ts) (rest_of [] true ys)
+  without : (n p : ℕ) (ts : List Token) (ys : List Asked) → Derives others ts (rest_of [] false ys) → Derives (rest n p) ts (rest_of [] false ys)
+  ended : Derives others [] (rest_of [] false [])
+  other : (ts : List Token) (ys : List Asked) → Derives signature ts (rest_of [] false ys) → Derives others (bare (codes "or") ∷ ts) (rest_of [] false ys)
 
 -- the text describes the alternatives
-abbrev pub IsSignature : List ℕ → List Alternative → Type 0
-IsSignature t ys = (ts : List Token) × (tokens_of t ≡ Some ts) × Derives signature ts [] ys
+abbrev pub IsSignature : List ℕ → List Asked → Type 0
+IsSignature t ys = (ts : List Token) × (tokens_of t ≡ Some ts) × Derives signature ts (rest_of [] false ys)

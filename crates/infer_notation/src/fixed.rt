@@ -1,15 +1,17 @@
 //! Fixed signatures as a text writes them, as in `14: @0 "qoif" or 8: @4 {01 02}, @6 00..1F`.
-ghost use Rattle.std.specs.Prelude.{◌≡◌, [], option_map};
+ghost use Rattle.std.specs.Prelude.{◌≡◌, [], codes, option_map};
 ghost use Rattle.std.specs.List.{starts_with};
 ghost use Rattle.infer_sig.specs.Signature as signature;
 ghost use Rattle.infer_sig.specs.Signature.{all_but, between, has_part};
-ghost use Rattle.infer_notation.specs.Fixed.{behind_mark, length_read, more_read, other_byte, piece, place_read, range_of, set_read, step, step_seen, within_seen, word_part};
+ghost use Rattle.infer_notation.specs.Fixed.{asks_binary, behind_mark, behind_word_of, cursor, has_data, length_read, more_read, nothing, other_byte, piece, place_read, range_of, set_read, step, step_seen, within_seen, word_part};
 ghost use Rattle.infer_notation.specs.Tokens.{token_listed};
+ghost use Rattle.infer_notation.specs.declared.fixed.Wanted.TheVariants.{Length, Or};
 ghost use Rattle.infer_notation.specs.Words.{found_by};
 
 use crate::reason::Reason;
 use crate::tokens::Token;
 use crate::words::{byte, byte_with, bytes, from, number};
+use infer_inside::text::is_binary;
 
 /// What has to come next.
 #[derive(Clone, Copy)]
@@ -28,6 +30,10 @@ pub enum Wanted {
     More,
     /// The byte behind "not".
     Byte,
+    /// "binary", behind "and".
+    Binary,
+    /// "or", or the end of the signature.
+    Or,
 }
 
 /// How far a signature was read: what has to come next, the least length of the alternative, and the place of the next
@@ -61,6 +67,49 @@ pub fn step(cursor: Cursor, token: Token<'_>, buf: &[u8]) -> Result<(Cursor, Eff
         Wanted::Bytes => piece(cursor, token, buf),
         Wanted::More => more_read(cursor, token, buf),
         Wanted::Byte => other_byte(cursor, token, buf),
+        Wanted::Binary => binary_read(token, buf),
+        Wanted::Or => or_read(token),
+    }
+}
+
+/// What follows on "binary".
+fn binary_read(token: Token<'_>, buf: &[u8]) -> Result<(Cursor, Effect), Reason>
+    ensures { found_by result ≡ option_map (step_seen buf.now) (behind_word_of (codes "binary") (cursor Or 0 0) asks_binary (token_listed token.entry)) }
+{
+    match token {
+        Token::Word(word) if word == b"binary".as_slice() => Ok((
+            Cursor {
+                wanted: Wanted::Or,
+                least: 0,
+                place: 0,
+            },
+            Effect::Has(has_data(buf)),
+        )),
+        _ => Err(Reason::Binary),
+    }
+}
+
+/// Whether a byte of the buffer is one of binary data.
+fn has_data(buf: &[u8]) -> bool
+    ensures { result ≡ has_data buf.now }
+{
+    is_binary(buf)
+}
+
+/// What follows on "or".
+fn or_read(token: Token<'_>) -> Result<(Cursor, Effect), Reason>
+    ensures { found_by result ≡ option_map (step_seen []) (behind_word_of (codes "or") (cursor Length 0 0) nothing (token_listed token.entry)) }
+{
+    match token {
+        Token::Word(word) if word == b"or".as_slice() => Ok((
+            Cursor {
+                wanted: Wanted::Length,
+                least: 0,
+                place: 0,
+            },
+            Effect::Nothing,
+        )),
+        _ => Err(Reason::Binary),
     }
 }
 
@@ -128,11 +177,11 @@ fn more_read(cursor: Cursor, token: Token<'_>, buf: &[u8]) -> Result<(Cursor, Ef
 {
     match token {
         Token::Mark(_) => behind_mark(b',', Wanted::At, cursor, token, Reason::Bytes),
-        Token::Word(word) if word == b"or".as_slice() => Ok((
+        Token::Word(word) if word == b"or".as_slice() => or_read(token),
+        Token::Word(word) if word == b"and".as_slice() => Ok((
             Cursor {
-                wanted: Wanted::Length,
-                least: 0,
-                place: 0,
+                wanted: Wanted::Binary,
+                ..cursor
             },
             Effect::Nothing,
         )),

@@ -1,7 +1,6 @@
 //! Fixed signatures as a text writes them, asked of a buffer while they are read.
 ghost use Rattle.std.specs.Prelude.{◌≡◌, ◌+◌, ◌<◌, IfErr, IfOk, None, drop, false, length, option_map, slice_index};
-ghost use Rattle.infer_sig.specs.Signature as signature;
-ghost use Rattle.infer_notation.specs.Fixed.{alternatives_of, given, state_taken};
+ghost use Rattle.infer_notation.specs.Fixed.{accepts, alternatives_of, given, state_taken};
 ghost use Rattle.infer_notation.specs.Words.{found_by, is_blank};
 
 use crate::fixed::{Cursor, Effect, Wanted, step};
@@ -20,7 +19,7 @@ struct State {
 
 /// Whether the buffer fits an alternative of the fixed signature that the text describes.
 pub fn accepts_fixed(text: &[u8], buf: &[u8]) -> Result<bool, Flaw>
-    ensures { found_by result ≡ option_map (λ alternatives. signature.accepts alternatives buf.now) (alternatives_of text.now) }
+    ensures { found_by result ≡ option_map (λ alternatives. accepts alternatives buf.now) (alternatives_of text.now) }
 {
     let mut state = State {
         cursor: Cursor {
@@ -47,7 +46,7 @@ pub fn accepts_fixed(text: &[u8], buf: &[u8]) -> Result<bool, Flaw>
         }
     }
     match state.cursor.wanted {
-        Wanted::More => Ok(state.any || state.last),
+        Wanted::More | Wanted::Or => Ok(state.any || state.last),
         _ => Err(Flaw {
             reason: Reason::End,
             left: 0,

@@ -1,8 +1,7 @@
 use Rattle.std.proofs.Common.{ap, cond, map, option_map, subst, sym, ◌∙◌}
-use Rattle.infer_more.specs.Signature.{bytes}
 use Rattle.infer_notation.specs.Fixed.{alternatives_of}
 use Rattle.infer_notation.specs.Relations.{IsSeen, relations_of}
-use Rattle.infer_notation.specs.Signature.{begins_relation, signature_of}
+use Rattle.infer_notation.specs.Signature.{begins_relation, described, signature_of}
 use Rattle.infer_notation.specs.Words.{found_by}
 use Rattle.infer_notation.proofs.SeenLemmas.{seen_fixed}
 use Rattle.infer_notation.proofs.described.accepts.Goals as goal
@@ -12,12 +11,12 @@ unfolding signature_of
 returns-then-begins_relation c =
     let is = sym (ap begins_relation c.skip_blanks.ensures.value) ∙ sym c.begins_relation.ensures ∙ c.if-begins_relation.true in
     let t = c.args.text.now in
-    subst (λ b. IsSeen (cond b (relations_of t) (option_map (map bytes) (alternatives_of t))) c.args.buf.now (found_by c.is_related.result)) (sym is) c.is_related.ensures
+    subst (λ b. IsSeen (cond b (relations_of t) (option_map (map described) (alternatives_of t))) c.args.buf.now (found_by c.is_related.result)) (sym is) c.is_related.ensures
 
 pub returns : goal.returns
 unfolding signature_of
 returns c =
     let is = sym (ap begins_relation c.skip_blanks.ensures.value) ∙ sym c.begins_relation.ensures ∙ c.if-begins_relation.false in
     let t = c.args.text.now in
-    subst (λ b. IsSeen (cond b (relations_of t) (option_map (map bytes) (alternatives_of t))) c.args.buf.now (found_by c.accepts_fixed.result)) (sym is)
+    subst (λ b. IsSeen (cond b (relations_of t) (option_map (map described) (alternatives_of t))) c.args.buf.now (found_by c.accepts_fixed.result)) (sym is)
     (seen_fixed (alternatives_of t) c.args.buf.now (found_by c.accepts_fixed.result) c.accepts_fixed.ensures)
