@@ -263,7 +263,8 @@ static void samples(void) {
 
 /* Types that a text describes. */
 static void types(void) {
-    static const char text[] = "# mine\r\nqoi image/qoi image - 14: @0 \"qoif\"\r\nmyapp application/x-my app zip 42: @30 \"manifest.my\"";
+    static const char text[] = "# mine\r\nqoi image/qoi image - 14: @0 \"qoif\"\r\nmyapp application/x-my app zip 42: @30 \"manifest.my\""
+                               "\nflow text/x-flow text xml root: flow or flows";
     char buf[42] = "qoif", reason[80], mime_type[256], extension[128];
     size_t line = 9, column = 9;
     same("a text of types", (long)infer_types_check(text, sizeof text - 1, &line, &column, reason, sizeof reason), 0);
@@ -277,6 +278,9 @@ static void types(void) {
     memcpy(buf + 30, "manifest.my", 11);
     same("below zip", infer_types_get(text, sizeof text - 1, buf, 42, mime_type, 5, NULL, 0), INFER_APP);
     same("cut", strcmp(mime_type, "appl"), 0);
+    static const char document[] = "<?xml version='1.0'?><flows>";
+    same("below xml", infer_types_get(text, sizeof text - 1, document, sizeof document - 1, mime_type, sizeof mime_type, extension, sizeof extension), INFER_TEXT);
+    same("its MIME type", strcmp(mime_type, "text/x-flow"), 0);
     same("no text", infer_types_get(NULL, 0, "\377\330\377", 3, mime_type, sizeof mime_type, extension, sizeof extension), INFER_IMAGE);
     static const char open[] = "\nqoi image/qoi image - 14: @0 \"qoif";
     same("a mistake", (long)infer_types_check(open, sizeof open - 1, &line, &column, reason, sizeof reason), 19);

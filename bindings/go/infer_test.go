@@ -219,7 +219,8 @@ func TestQuestions(t *testing.T) {
 
 const ownTypes = "# extension MIME type class parent signature\n" +
 	"qoi   image/qoi        image -   14: @0 \"qoif\"\n" +
-	"myapp application/x-my app   zip 42: @30 \"manifest.my\"\n"
+	"myapp application/x-my app   zip 42: @30 \"manifest.my\"\n" +
+	"flow  text/x-flow      text  xml root: flow or flows\n"
 
 func TestOwnTypes(t *testing.T) {
 	own, err := NewTypes([]byte(ownTypes))
@@ -231,7 +232,7 @@ func TestOwnTypes(t *testing.T) {
 	for _, it := range []struct {
 		data []byte
 		want Type
-	}{{append([]byte("qoif"), make([]byte, 10)...), Type{"image/qoi", "qoi", Image}}, {zip, Type{"application/x-my", "myapp", App}}, {jpeg, want}} {
+	}{{append([]byte("qoif"), make([]byte, 10)...), Type{"image/qoi", "qoi", Image}}, {zip, Type{"application/x-my", "myapp", App}}, {[]byte("<?xml version='1.0'?><flows>"), Type{"text/x-flow", "flow", Text}}, {jpeg, want}} {
 		if got, ok := own.Detect(it.data); got != it.want || !ok {
 			t.Error(got, it.want)
 		}

@@ -137,12 +137,12 @@ def part(reader, least, end):
         allowed += more
         reader.take()
         kind, said, _ = reader.peek()
-        if kind == "end" or (kind, said) == ("mark", b",") or (kind, said) == ("word", b"or"):
+        if kind == "end" or (kind, said) == ("mark", b",") or (kind, said) in (("word", b"or"), ("word", b"and")):
             return place, allowed
 
 
 def alternative(reader):
-    """The least length, and the parts."""
+    """The least length, the parts, and whether binary data is asked for."""
     least = reader.number("a length is wanted, as in 14:")
     reader.take()
     reader.mark(b":", "a length is wanted, as in 14:")
@@ -150,13 +150,145 @@ def alternative(reader):
     while True:
         parts.append(part(reader, least, end))
         end = parts[-1][0] + len(parts[-1][1])
+        if reader.peek()[:2] == ("word", b"and"):
+            reader.take()
+            wanted(reader, b"binary")
+            reader.take()
+            if reader.peek()[0] != "end":
+                wanted(reader, b"or")
+            return least, parts, True
         if reader.peek()[:2] != ("mark", b","):
-            return least, parts
+            return least, parts, False
         reader.take()
+
+
+def wanted(reader, word):
+    if reader.peek()[0] == "end":
+        raise reader.mistake("the signature ends too early")
+    if reader.peek()[:2] != ("word", word):
+        raise reader.mistake("`and binary` is wanted, and `or` or the end behind it")
+
+
+def is_fixed(one, buf):
+    least, parts, binary = one
+    has_bytes = len(buf) >= least and all(buf[place + at] in allowed for place, sets in parts for at, allowed in enumerate(sets))
+    return has_bytes and (not binary or re.search(rb"[\0-\x08\x0B\x0E-\x1A\x1C-\x1F]", buf) is not None)
+
+
+def first_name(buf):
+    """Where the name of the first entry of a ZIP archive ends, and the name."""
+    end = 30 + int.from_bytes(buf[26:28], "little")
+    return (end, buf[30:end]) if len(buf) >= 30 and buf[:4] == b"PK\3\4" and end <= len(buf) else (0, None)
+
+
+def has_extra(buf, two):
+    end, name = first_name(buf)
+    return name is not None and int.from_bytes(buf[28:30], "little") >= 2 and buf[end : end + 2] == two
+
+
+def program(buf):
+    """The name of the program of a script, without what tells its version."""
+    if buf[:2] != b"#!":
+        return None
+    line = re.match(rb"[^\n\r]*", buf[2:])[0]
+    # A word that reaches the end of the buffer may go on.
+    words = re.findall(rb"[^ \t]+", line if len(line) < len(buf) - 2 else line[: len(line) - len(re.search(rb"[^ \t]*\Z", line)[0])])
+    names = [it.rpartition(b"/")[2] for it in words]
+    if names[:1] == [b"env"]:
+        names = [name for word, name in zip(words[1:], names[1:]) if b"=" not in word and not word.startswith(b"-")]
+    return names[0].rstrip(b"0123456789.") if names else None
+
+
+def root(buf):
+    """The local name of the root element, and what its tag has behind that."""
+    at, declared = (3 if buf.startswith(b"\xef\xbb\xbf") else 0), None
+    while True:
+        if found := re.compile(rb"[\t\n\r ]+|<\?(?s:.*?)\?>|<!--(?s:.*?)-->").match(buf, at):
+            at = found.end()
+        elif declared is None and (found := re.compile(rb"<!DOCTYPE[\t\n\r ]+(?![\t\n\r ])(([^>\t\n\r ]*)[^>]*)>").match(buf, at)) and b"[" not in found[1]:
+            at, declared = found.end(), found[2]
+        else:
+            break
+    found = re.compile(rb"<([^\t\n\r />]+)(?=[\t\n\r />])").match(buf, at)
+    if not found or found[1][:1] in b"!?" or (declared is not None and declared != found[1]):
+        return None, b""
+    local = found[1].rpartition(b":")[2]
+    return (local or None), buf[found.end() :].partition(b">")[0]
+
+
+def is_text(buf):
+    return buf[:2] in (b"\xfe\xff", b"\xff\xfe") or buf[:3] == b"\xef\xbb\xbf" or (buf != b"" and not re.search(rb"[\0-\x08\x0B\x0E-\x1A\x1C-\x1F]", buf))
+
+
+# What each relation is called, what an alternative of it is, and whether a buffer fits one: by its words, of which quotes
+# are left, and None where this model does not say so.
+WORD, QUOTED = rb'[^\0"{},:@]+', rb'"[^"]*"'
+RELATIONS = [
+    ('shared object', rb"", None),
+    ('chunk "acTL" before "IDAT"', rb"", None),
+    ('first cue of SubRip', rb"", None),
+    ('dBASE header', rb"", None),
+    ('tar checksum', rb"", None),
+    ('JSON lines', rb"", None),
+    ('JSON', rb"", None),
+    ('text', rb"", lambda buf, words: is_text(buf)),
+    ('first directory has tag', HEX + HEX, None),
+    ('package with :', QUOTED, None),
+    ('program :', rb"%s(?:\0%s)*" % (WORD, WORD), lambda buf, words: program(buf) in words),
+    ('first entry :', rb"is\0" + QUOTED, lambda buf, words: first_name(buf)[1] == words[1][1:-1]),
+    ('first entry :', rb"ends\0in\0" + QUOTED, lambda buf, words: first_name(buf)[1] is not None and first_name(buf)[1].endswith(words[2][1:-1])),
+    ('first entry :', rb"has\0extra\0%s\0%s" % (HEX, HEX), lambda buf, words: has_extra(buf, bytes.fromhex((words[2] + words[3]).decode()))),
+    ('class id :', rb"(?:%s\0){15}%s" % (HEX, HEX), None),
+    ('root :', WORD, lambda buf, words: root(buf)[0] == words[0]),
+    ('root :', WORD + rb"\0with\0" + QUOTED, lambda buf, words: root(buf)[0] == words[0] and words[2][1:-1] in root(buf)[1]),
+]
+
+
+def group(reader):
+    """The tokens up to the next "or" or the end, where they begin, and whether "or" follows."""
+    begin, said = reader.mistake("the relation does not take this"), []
+    while True:
+        kind, text, _ = reader.peek()
+        if kind == "end" and not said:
+            raise reader.mistake("the signature ends too early")
+        if kind == "end" or (kind, text) == ("word", b"or"):
+            if kind != "end":
+                reader.take()
+            if not said:
+                raise begin
+            return said, begin, kind != "end"
+        if len(said) == 24:
+            raise reader.mistake("the relation does not take this")
+        said.append({"text": b'"%s"', "set": b"{%s}"}.get(kind, b"%s") % text)
+        reader.take()
+
+
+def related(line, place):
+    """The alternatives of a relation: each a test, if this model has one, and its words."""
+    reader = Reader(line, place)
+    first = reader.mistake("unknown relation")
+    said, begin, goes_on = group(reader)
+    name = next((it for it, _, _ in RELATIONS if said[: len(it.split())] == it.encode().split()), None)
+    if name is None:
+        raise first
+    said = said[len(name.split()) :]
+    found = []
+    while True:
+        for other, pattern, test in RELATIONS:
+            if other == name and re.fullmatch(pattern, b"\0".join(said)):
+                found.append((test, said))
+                break
+        else:
+            raise begin
+        if not goes_on:
+            return found
+        said, begin, goes_on = group(reader)
 
 
 def signature(line, place):
     reader = Reader(line, place)
+    if re.compile(rb"[A-Za-z]").match(line, reader.place):
+        return related(line, place)
     alternatives = []
     while True:
         alternatives.append(alternative(reader))
@@ -199,10 +331,7 @@ def rows(text):
 
 
 def accepts(one, buf):
-    return any(
-        len(buf) >= least and all(buf[place + at] in allowed for place, sets in parts for at, allowed in enumerate(sets))
-        for least, parts in one.alternatives
-    )
+    return any(is_fixed(it, buf) if len(it) == 3 else it[0] is not None and it[0](buf, it[1]) for it in one.alternatives)
 
 
 def answer(of, parent, buf):

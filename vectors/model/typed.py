@@ -19,7 +19,7 @@ PAGE = os.path.join(HERE, "../../docs/NOTATION.md")
 SEED = 20261126
 HEX = "0123456789abcdefABCDEF"
 BLANKS = [" ", " ", " ", "  ", "\t", "\r", " \t "]
-ODD = [b"\0", b'""', b" 05..04", b" not", b"\r\n", b"\n", b'"', b"{", b"}", b",", b":", b"@", b"or", b"not", b"..", b" ", b"0", b"9999999999", b"\xff", b"\xef\xbb\xbf", b"\x7f", b"#", b"-", b"/"]
+ODD = [b"\0", b'""', b" 05..04", b" not", b"\r\n", b"\n", b'"', b"{", b"}", b",", b":", b"@", b"or", b"not", b" and ", b" binary", b"root", b"..", b" ", b"0", b"9999999999", b"\xff", b"\xef\xbb\xbf", b"\x7f", b"#", b"-", b"/"]
 # What the built-in rows answer of these is below what a row can stand.
 STARTS = [(b"", "-"), (b"PK\x03\x04", "zip"), (b"GIF89a", "gif"), (b"%PDF", "pdf"), (b"#!", "sh"), (b"MZ", "exe"), (b"{", "-"), (b"\0", "-")]
 
@@ -71,7 +71,8 @@ def alternative(rng):
         parts.append(blank(rng).join(said))
     least = place + rng.choice([0, 0, 1, 5])
     buf = bytes(fits.get(at, rng.randrange(256)) for at in range(least))
-    return f"{least}{perhaps(rng)}:{perhaps(rng)}" + f"{perhaps(rng)},{perhaps(rng)}".join(parts), buf
+    binary = f"{blank(rng)}and{blank(rng)}binary" if rng.random() < 0.2 else ""
+    return f"{least}{perhaps(rng)}:{perhaps(rng)}" + f"{perhaps(rng)},{perhaps(rng)}".join(parts) + binary, buf
 
 
 def name(rng):
@@ -79,10 +80,55 @@ def name(rng):
     return rng.choice(first) + "".join(rng.choice(rest) for _ in range(rng.choice([0, 1, 3, 8, 125, 126, 127]) if rng.random() < 0.05 else rng.randrange(6)))
 
 
+def relation(rng):
+    """The words of a relation, a buffer that fits it, and the parent below which that is asked. Of what the model does not
+    decide the buffer is none that is asked."""
+    names, kind = [rng.choice(["flow", "flows", "svg", "or", "with", "x.y", "with3"]) for _ in range(rng.choice([1, 1, 2, 3]))], rng.randrange(5)
+    one = rng.choice(names).encode()
+    if kind == 0:
+        texts = [rng.choice([[], [], ["with", '"urn:a"'], ["with", '"b"']]) for _ in names]
+        said = [[name, *text] for name, text in zip(names, texts)]
+        mark = rng.choice([b"", b"", b"<!-- c -->", b"<!DOCTYPE %s>" % one, b"<!DOCTYPE other>"])
+        buf = rng.choice([b"", b"\xef\xbb\xbf"]) + b"<?xml version='1.0'?>" + mark + b"<" + rng.choice([b"", b"", b"p:"]) + one + rng.choice([b" x='urn:a'>", b">b", b"/>", b" b", b""])
+        return ["root", ":", *joined(said)], buf, "xml"
+    if kind == 1:
+        first = rng.choice([b"", b"/usr/bin/", b"/usr/bin/env ", b"/usr/bin/env -S A=b "]) + one + rng.choice([b"", b"3", b"3.11"])
+        return ["program", ":", *names], b"#!" + rng.choice([b"", b" "]) + first + rng.choice([b"\n", b"\r", b" -x\n", b""]), "sh"
+    if kind == 2:
+        said = [rng.choice([["is", f'"{name}"'], ["ends", "in", f'"{name}"'], ["has", "extra", "FE", "ca"]]) for name in names]
+        name = rng.choice([b"", b"", b"a/"]) + one
+        head = b"PK\3\4" + bytes(22) + len(name).to_bytes(2, "little") + rng.choice([b"\0\0", b"\2\0", b"\4\0"])
+        return ["first", "entry", ":", *joined(said)], head + name + rng.choice([b"", b"\xfe\xca", b"\xfe\xca\0\0"]), "zip"
+    if kind == 3:
+        return ["text"], rng.choice([b"abc", b"a\0", b"\xff\xfe\0", b"a\x0b", b"a\x1b"]), "-"
+    ids = [[pair(rng, rng.randrange(256)) for _ in range(16)] for _ in names]
+    said = [
+        "shared object", 'chunk "acTL" before "IDAT"', "first cue of SubRip", "dBASE header", "tar checksum", "JSON lines", "JSON",
+        "first directory has tag C612", 'package with : "word/"', "class id : " + " or ".join(" ".join(it) for it in ids),
+    ]
+    return rng.choice(said).split(), b"", "mp4"
+
+
+def joined(said):
+    """The words of alternatives, with "or" between them."""
+    return [word for at, words in enumerate(said) for word in ([*["or"] * (at > 0), *words])]
+
+
+def asking(rng, words):
+    """The text of the words, with as many blanks as it may have."""
+    text = words[0]
+    for before, word in zip(words, words[1:]):
+        text += (perhaps(rng) if ":" in (before, word) else blank(rng)) + word
+    return text
+
+
 def line(rng):
     """A line, and a buffer that its type accepts if there is one."""
     if rng.random() < 0.15:
         return rng.choice(["", " \t\r", "# a remark", "  #\tremark \xff\0", "\r"]), b""
+    if rng.random() < 0.3:
+        words, buf, parent = relation(rng)
+        return asking(rng, [name(rng), f"{name(rng)}/{name(rng)}", rng.choice(notation.CLASSES), parent, *words]) + perhaps(rng), buf
     told = [alternative(rng) for _ in range(rng.choice([1, 1, 1, 2, 3]))]
     start, parent = rng.choice(STARTS)
     said = f"{blank(rng)}or{blank(rng)}".join(text for text, _ in told)
@@ -183,10 +229,10 @@ def differing(program, pairs, told, counted):
 
 
 def reasons_of_the_code():
-    """The reasons as the code has them, but for those that no text has yet."""
+    """The reasons as the code has them."""
     (path,) = glob.glob(os.path.join(HERE, "../../crates/*/src/**/reason.rt"), recursive=True)
     with open(path, encoding="utf-8") as file:
-        return {*re.findall(r'Reason::\w+ =>\s*(?:\{\s*)?"(.*)"', file.read())} - {"unknown relation", "unknown word"}
+        return {*re.findall(r'Reason::\w+ =>\s*(?:\{\s*)?"(.*)"', file.read())}
 
 
 def wrong_examples(program):
@@ -217,33 +263,30 @@ def decoded(tokens):
 
 def wrong_further(program):
     """How many buffers the text of the further rows answers otherwise than the rows do. Each type of the text has another
-    extension here, which tells its answers from those of the library's own rows. What the notation cannot write answers as
-    those."""
+    extension here, which tells its answers from those of the library's own rows."""
     names, text = [], b""
     for it in lines_of("types.txt"):
-        extension, _, class_name, parent = it.removeprefix("#?").split()[:4]
         if not it.startswith("#"):
+            extension, _, class_name, parent = it.split()[:4]
             text += b"own-" + it.encode() + b"\n"
-        if not it.startswith("# "):
-            names.append((f"{class_name.capitalize()}/{extension}{'' if parent == '-' else f' below {parent}'}", it.startswith("#?")))
+            names.append(f"{class_name.capitalize()}/{extension}{'' if parent == '-' else f' below {parent}'}")
     rows = ["{0}/{2}{3}".format(*it[:3], "" if it[3] == "none" else f" below {it[3]}") for it in (line.split("\t") for line in lines_of("rows.tsv"))]
-    wrong = [f"its rows are others than those of rows.tsv: {[*{*rows} ^ {name for name, _ in names}][:3]}"] * ([name for name, _ in names] != rows)
-    unread = {name for name, is_unread in names if is_unread}
+    wrong = [f"its rows are others than those of rows.tsv: {[*{*rows} ^ {*names}][:3]}"] * (names != rows)
     vectors = [line.split("\t") for line in lines_of("vectors.tsv")]
     for (how, _, row, shown), said in zip(vectors, asked(program, [(text, decoded(it[1])) for it in vectors])):
         is_own = said[2:3] != said[6:7]
-        if row not in unread and (len(said) == 3 or is_own != (row != "-") or f"{said[1]} {said[2].removeprefix('own-')}".strip() != shown.replace("unknown", "")):
+        if len(said) == 3 or is_own != (row != "-") or f"{said[1]} {said[2].removeprefix('own-')}".strip() != shown.replace("unknown", ""):
             wrong.append(f"{how}: {said}, and not {shown}")
     for it in wrong:
         print(f"vectors/further/types.txt: {it}")
-    return len(wrong), len(vectors) - sum(row in unread for _, _, row, _ in vectors), len(unread)
+    return len(wrong), len(vectors)
 
 
 def main():
     count = int(sys.argv[2]) if len(sys.argv) > 2 else 5_000
     rng, counted, wrong, asks = random.Random(int(sys.argv[3]) if len(sys.argv) > 3 else SEED), collections.Counter(), 0, 0
     wrong += wrong_examples(sys.argv[1])
-    wrong_buffers, buffers, unread = wrong_further(sys.argv[1])
+    wrong_buffers, buffers = wrong_further(sys.argv[1])
     wrong += wrong_buffers
     for pairs in [[*large()], *([question(rng) for _ in range(min(10_000, count - at))] for at in range(0, count, 10_000))]:
         wrong += differing(sys.argv[1], pairs, 5, counted)
@@ -252,8 +295,7 @@ def main():
     few = [it for it in [*reasons_of_the_code(), "own", "wider"] if counted[it] < asks // 2500]
     if few:
         print(f"typed.py: too few texts with: {few}")
-    left_out = f"; {unread} further rows left out, which the notation cannot write" if unread else ""
-    print(f"{buffers} buffers asked of the further rows as a text{left_out}")
+    print(f"{buffers} buffers asked of the further rows as a text")
     print(f"{asks} texts of types compared with the model, {wrong} differ")
     sys.exit(wrong + len(few) != 0)
 

@@ -42,6 +42,7 @@ test("each vector of the further rows has its wider answer", () => {
 const OWN_TYPES = `# extension MIME type class parent signature \u2014 mine
 qoi   image/qoi        image -   14: @0 "qoif"
 myapp application/x-my app   zip 42: @30 "manifest.my"
+flow  text/x-flow      text  xml root: flow or flows
 `;
 
 test("types of a text answer before the further ones", () => {
@@ -52,6 +53,7 @@ test("types of a text answer before the further ones", () => {
     for (const types of [own, large]) {
         assert.deepEqual(types.wider(bytes("qoif0123456789")), { ext: "qoi", mime: "image/qoi" });
         assert.deepEqual(types.wider(bytes(`PK\x03\x04${"0".repeat(26)}manifest.my?`)), { ext: "myapp", mime: "application/x-my" });
+        assert.deepEqual(types.wider(bytes("<?xml version='1.0'?><flows>")), { ext: "flow", mime: "text/x-flow" });
         assert.equal(types.wider(new ArrayBuffer(0)), undefined);
     }
     for (const { name, data } of furtherVectors) {

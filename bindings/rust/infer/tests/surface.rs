@@ -176,6 +176,7 @@ fn the_first_bytes_of_a_file_are_looked_at() {
 const OWN_TYPES: &str = "# extension MIME type class parent signature
 qoi   image/qoi        image -   14: @0 \"qoif\"
 myapp application/x-my app   zip 42: @30 \"manifest.my\"
+flow  text/x-flow      text  xml root: flow or flows
 ";
 
 #[test]
@@ -187,6 +188,7 @@ fn types_of_a_text_answer() {
     assert_eq!(format!("{found} [{found:>10}]"), "image/qoi [ image/qoi]");
     assert_eq!(format!("{found:?}"), "Found { matcher_type: Image, mime_type: \"image/qoi\", extension: \"qoi\" }");
     assert_eq!(own.get(&entry(30, b"manifest.my?")).unwrap().extension(), "myapp");
+    assert_eq!(own.get(b"<?xml version='1.0'?><flows>").unwrap().mime_type(), "text/x-flow");
     assert_eq!(own.get(b"").is_none(), own.get(&placed(13, &[(0, b"qoif")])).is_none());
     // What they do not know, the wider answer may.
     for types in [own, Types::new("").unwrap(), Types::new(OWN_TYPES.as_bytes()).unwrap()] {
