@@ -52,8 +52,10 @@ export const supportedExtensions: ReadonlySet<string>;
 /** The MIME types that fileTypeFromBuffer knows. */
 export const supportedMimeTypes: ReadonlySet<string>;
 
-/** The extensions that wider knows: those of fileTypeFromBuffer and of the further types. */
-export const widerExtensions: ReadonlySet<string>;
+/** A type, with the name of its class, as "image". */
+export interface KnownType extends FileTypeResult {
+    readonly class: string;
+}
 
-/** The MIME types that wider knows: those of fileTypeFromBuffer and of the further types. */
-export const widerMimeTypes: ReadonlySet<string>;
+/** The types that wider knows, in the order in which they are asked: those of fileTypeFromBuffer and the further types. */
+export const knownTypes: readonly KnownType[];

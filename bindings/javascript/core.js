@@ -21,12 +21,11 @@ let place;
 let room;
 /** The text of types that the module sees. */
 let held;
-const rows = [];
 
 export const supportedExtensions = new Set();
 export const supportedMimeTypes = new Set();
-export const widerExtensions = new Set();
-export const widerMimeTypes = new Set();
+/** The types that wider knows, by their rows. */
+export let knownTypes = [];
 
 /** Older engines take the number of pages as a number, and later ones as a BigInt. */
 const grow = (memory, pages) => {
@@ -64,12 +63,10 @@ export const connect = async (read) => {
     place = infer.__heap_base.value;
     makeRoom(TYPES);
     const [builtIn, all] = [Number(infer.infer_row_count()), Number(infer.infer_more_row_count())];
-    for (let row = 0; row < all; row += 1) {
-        const [ext, mime] = [textOf(infer.infer_extension, row), textOf(infer.infer_mime_type, row)];
-        rows.push({ ext, mime });
-        widerExtensions.add(ext);
-        widerMimeTypes.add(mime);
-        if (row >= builtIn) continue;
+    const typeOfRow = (_, row) =>
+        Object.freeze({ ext: textOf(infer.infer_extension, row), mime: textOf(infer.infer_mime_type, row), class: textOf(infer.infer_class_name, infer.infer_class(row)) });
+    knownTypes = Object.freeze(Array.from({ length: all }, typeOfRow));
+    for (const { ext, mime } of knownTypes.slice(0, builtIn)) {
         supportedExtensions.add(ext);
         supportedMimeTypes.add(mime);
     }
@@ -79,7 +76,11 @@ export const connect = async (read) => {
 const hand = (input) => BigInt(copyFront(input, FRONT, room));
 const ask = (question, input) => question(place, hand(input));
 
-const answerOf = (row) => (row < 0 ? undefined : { ...rows[row] });
+const answerOf = (row) => {
+    if (row < 0) return undefined;
+    const { ext, mime } = knownTypes[row];
+    return { ext, mime };
+};
 const typeOf = (input) => answerOf(ask(infer.infer_position, input));
 
 export const wider = (input) => answerOf(ask(infer.infer_more_position, input));

@@ -17,9 +17,8 @@ export {
     fileTypeFromStream,
     fileTypeStream,
     isDecided,
+    knownTypes,
     supportedExtensions,
     supportedMimeTypes,
     wider,
-    widerExtensions,
-    widerMimeTypes,
 } from "./core.js";

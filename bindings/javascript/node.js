@@ -14,11 +14,10 @@ export {
     fileTypeFromBlob,
     fileTypeFromBuffer,
     isDecided,
+    knownTypes,
     supportedExtensions,
     supportedMimeTypes,
     wider,
-    widerExtensions,
-    widerMimeTypes,
 } from "./core.js";
 
 export const fileTypeFromFile = async (path) => {

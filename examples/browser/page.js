@@ -75,7 +75,9 @@ const agreement = (name, types) => {
     const extension = aliases.extensions.get(written) ?? written;
     const known = aliases.builtOn.get(extension) ?? SAME_SIGNATURE.get(extension) ?? extension;
     if (types.some((type) => type.ext === extension || type.ext === known)) return ["agrees", "agrees"];
-    if (!infer.widerExtensions.has(known)) return ["none", `${written} is not known`];
+    const claimed = [extension, known].map((it) => infer.knownTypes.find((type) => type.ext === it)).find(Boolean);
+    if (!claimed) return ["none", `${written} is not known`];
+    if (types.length === 1 && types[0].mime === "text/plain" && claimed.class === "text") return ["none", `text, as a ${written} is`];
     if (types.length === 0) return ["none", `the bytes do not show ${written}`];
     return ["differs", `differs: the name says ${written}`];
 };

@@ -130,7 +130,8 @@ def disagreement(name: bytes, front: bytes, kind: infer.Type, type_of: Callable[
     if word in ("", kind.extension):
         return None
     claimed = type_of(word)
-    if not claimed:
+    # A script need not begin with "#!", nor any text as its type's signature says.
+    if not claimed or (kind.mime == "text/plain" and claimed.group == "text"):
         return None
     right = {claimed.extension, BUILT_ON.get(word, claimed.extension)}
     fits = any(it.extension in right or it.mime == claimed.mime for it in (kind, infer.guess(front)) if it)

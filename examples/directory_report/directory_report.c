@@ -260,9 +260,11 @@ static int32_t claimed_row(const struct report *report, const unsigned char *fro
     if (!*extension || claimed < 0)
         return -1;
     int32_t row = infer_position(front, size), more = answer_of(front, size);
+    /* A script need not begin with "#!", nor any text as its type's signature says. */
+    bool is_plain = more >= 0 && strcmp(mime_type_of(more), "text/plain") == 0 && class_code_of(claimed) == INFER_TEXT;
     bool is_known = (report->options.is_more ? more : row) >= 0;
     bool is_open = bytes > size && (row < 0 || claimed < row) && infer_may_become(front, size, claimed);
-    return !is_known || is_open || fits(row, extension, claimed) || fits(more, extension, claimed) ? -1 : claimed;
+    return !is_known || is_plain || is_open || fits(row, extension, claimed) || fits(more, extension, claimed) ? -1 : claimed;
 }
 
 /* Looks at an open file once more, for what infer_fd does not tell. */

@@ -21,9 +21,8 @@ test("each sample has the type of its row", async () => {
 test("the sets have the extensions and MIME types of the rows", () => {
     assert.deepEqual([...infer.supportedExtensions], [...new Set(rows.map((row) => row.type.ext))]);
     assert.deepEqual([...infer.supportedMimeTypes], [...new Set(rows.map((row) => row.type.mime))]);
-    const known = [...rows, ...furtherRows];
-    assert.deepEqual(infer.widerExtensions, new Set(known.map((row) => row.type.ext)));
-    assert.deepEqual(infer.widerMimeTypes, new Set(known.map((row) => row.type.mime)));
+    assert.deepEqual(infer.knownTypes, [...rows, ...furtherRows].map((row) => ({ ...row.type, class: row.class })));
+    assert.ok(Object.isFrozen(infer.knownTypes) && Object.isFrozen(infer.knownTypes[0]));
 });
 
 test("each vector has its type", async () => {

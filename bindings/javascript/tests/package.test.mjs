@@ -93,7 +93,7 @@ test("the file for browsers has every name but that of files, and reads by fetch
 const TYPED = `import * as types from "hoarvelt-infer";
 import { extensions } from "hoarvelt-infer/aliases";
 const found: types.FileTypeResult | undefined = await types.fileTypeFromBuffer(new Uint8Array(4));
-const names: string[] = [found?.ext ?? "", found?.mime ?? "", extensions.get("jpeg") ?? "", ...types.supportedExtensions, ...types.supportedMimeTypes];
+const names: string[] = [found?.ext ?? "", found?.mime ?? "", extensions.get("jpeg") ?? "", ...types.supportedExtensions, ...types.supportedMimeTypes, ...types.knownTypes.map((type) => type.class)];
 const whole = await types.fileTypeStream(new Blob([]).stream());
 const more: types.FileTypeResult | undefined = whole.fileType ?? types.wider(new SharedArrayBuffer(4)) ?? (await types.fileTypeFromBlob(new Blob([])));
 const own: types.FileTypeResult | undefined = new types.Types("").wider(new Uint8Array(4)) ?? new types.Types(new ArrayBuffer(4)).wider(new ArrayBuffer(4));

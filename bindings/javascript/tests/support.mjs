@@ -18,13 +18,14 @@ const decode = (tokens) => {
 export const rows = linesOf("rows.tsv").map(([group, mime, ext, sample]) => ({
     name: `${group}/${ext}`,
     type: { ext, mime },
+    class: group.toLowerCase(),
     sample: sample === "none" ? undefined : decode(sample),
 }));
 export const samples = rows.filter((row) => row.sample !== undefined);
 
 const typeOfName = new Map(rows.map((row) => [row.name, row.type]));
 export const vectors = linesOf("vectors.tsv").map(([name, , row, data]) => ({ name, type: typeOfName.get(row), data: decode(data) }));
-export const furtherRows = linesOf("further/rows.tsv").map(([, mime, ext]) => ({ type: { ext, mime } }));
+export const furtherRows = linesOf("further/rows.tsv").map(([group, mime, ext]) => ({ type: { ext, mime }, class: group.toLowerCase() }));
 /** The name, the bytes, and what the wider answer shows: a MIME type and an extension, or "unknown". */
 export const furtherVectors = linesOf("further/vectors.tsv").map(([name, data, , shown]) => ({ name, data: decode(data), shown }));
 
