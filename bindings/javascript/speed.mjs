@@ -1,6 +1,7 @@
-// Times this package and a plain comparison with the magic of ten types, over the samples of all types, each filled up
-// to 8192 bytes, and prints a table. The script speed runs it.
+// Times this package, a plain comparison with the magic of ten types and, if it is named, npm's file-type, over the samples
+// of all types, each filled up to 8192 bytes, and prints a table. The script speed runs it.
 import { readFileSync } from "node:fs";
+import { pathToFileURL } from "node:url";
 
 const { fileTypeFromBuffer, isDecided, wider } = await import("hoarvelt-infer");
 
@@ -54,5 +55,6 @@ const calls = {
     "`isDecided`": isDecided,
     "ten magics compared in JavaScript": compare,
 };
+if (process.argv[2]) calls["`await fileTypeFromBuffer` of file-type"] = (await import(pathToFileURL(process.argv[2]))).fileTypeFromBuffer;
 console.log(`Files a second, Node ${process.version}\n\n| | files a second |\n|---|---|`);
 for (const [name, call] of Object.entries(calls)) console.log(`| ${name} | ${(await rateOf(call)).toLocaleString("en")} |`);
