@@ -57,6 +57,15 @@ def build(source: str, *flags: str, by: str = "") -> str:
     return program
 
 
+def old_rust() -> str:
+    """Why the compiler of Rust that is here cannot compile the binding, or nothing."""
+    with open(f"{ROOT}/bindings/rust/infer/Cargo.toml", encoding="utf-8") as manifest:
+        wanted = re.findall(r'^rust-version = "(\d+)\.(\d+)"', manifest.read(), re.MULTILINE)[0]
+    says = subprocess.run(["rustc", "--version"], text=True, capture_output=True, check=True).stdout.strip()
+    has = re.findall(r"(\d+)\.(\d+)", says)[0]
+    return f"{says} is older than {'.'.join(wanted)}" if tuple(map(int, has)) < tuple(map(int, wanted)) else ""
+
+
 def shared_library() -> str:
     """The path of the shared library: INFER_LIBRARY, or one that is installed into a folder of the test."""
     if "INFER_LIBRARY" not in os.environ:
