@@ -334,7 +334,9 @@ def connect(scheduler: str | None, stack: contextlib.ExitStack) -> distributed.C
     from distributed import Client, LocalCluster
     if not scheduler:
         place = stack.enter_context(tempfile.TemporaryDirectory())
-        scheduler = stack.enter_context(LocalCluster(threads_per_worker=1, dashboard_address=None, host="127.0.0.1", local_directory=place))
+        # Without an address for its pages Dask serves them on every one of the machine's.
+        own = {"host": "127.0.0.1", "dashboard_address": "127.0.0.1:0", "worker_dashboard_address": "127.0.0.1:0"}
+        scheduler = stack.enter_context(LocalCluster(threads_per_worker=1, local_directory=place, **own))
     return stack.enter_context(Client(scheduler, timeout=10))
 
 

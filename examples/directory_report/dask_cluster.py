@@ -39,7 +39,7 @@ def running(count: int) -> Iterator[Cluster]:
     """A cluster with so many workers of one thread, once all of them are there."""
     place = os.path.join(support.folder(), "scheduler")
     start = {"env": environment(), "stderr": subprocess.DEVNULL, "cwd": support.folder()}
-    common = ["--scheduler-file", place, "--no-dashboard", "--host", "127.0.0.1"]
+    common = ["--scheduler-file", place, "--host", "127.0.0.1", "--dashboard-address", "127.0.0.1:0"]
     with contextlib.ExitStack() as stack:
         words = [PYTHON, "-m", "distributed.cli.dask_scheduler", *common, "--port", "0"]
         scheduler = stack.enter_context(support.running(words, **start))
