@@ -8,10 +8,11 @@ use Rattle.std.specs.List.{list_all}
 use Rattle.std.specs.Prelude.{nat_le}
 use Rattle.infer.specs.First.{IsFirstOf}
 use Rattle.infer.specs.Walks.{is_listed}
-use Rattle.infer_more.specs.Index.{IsLeast, IsRowOf, IsTried, all_of, ascends}
+use Rattle.infer_more.specs.Index.{IsLeast, IsRowOf, IsTried, all_of, ascends, candidate, candidates, has_byte}
 use Rattle.infer_more.specs.Row.{Further}
 use Rattle.infer_more.specs.Table.{further}
 use Rattle.infer_more.specs.Wider.{Widens, WidensAt}
+use Rattle.infer_more.specs.declared.index.Entry.{Entry}
 use Rattle.infer_more.specs.declared.index.lists.TheConstants.{FURTHER_COUNT}
 use Rattle.infer_more.proofs.IndexLemmas.{both_left, both_right, either, from_left, from_right, listed_left, listed_right}
 use Rattle.infer_more.proofs.TableLemmas.{length-further}
@@ -104,6 +105,20 @@ module _ (parent : Option ℕ) (b : List ℕ) where
     where
       same_number : (n : ℕ) → IsTrue (n == n)
       same_number n = grind (arith, eqb-true)
+
+  -- of entries whose rows are none before that number
+  pub tried_late : (entries : List Entry) (before : ℕ) → IsTrue (list_all (λ e. nat_le before e.row) entries) → IsLeast (IsTried parent b (candidates b entries)) before before
+  tried_late entries before all = least_late _ before (late entries all)
+    where
+      late : (xs : List Entry) → IsTrue (list_all (λ e. nat_le before e.row) xs) → (i : ℕ) → IsTried parent b (candidates b xs) i → before ≤ i
+      late [] all i (listed, w) = absurd (cc)
+      late (x ∷ xs) all i (listed, w) = elim (in_either (candidate b x) (candidates b xs) i listed) [
+        | inl l ↦
+            let (on, e) = only_row (has_byte b x.place x.byte) x.row i (l, w) in
+            let le : before ≤ x.row = leb-true before x.row (both_left (nat_le before x.row) _ all) in
+            omega arith
+        | inr r ↦ late xs (both_right (nat_le before x.row) _ all) i (r, w)
+      ]
 
   -- behind a byte that the buffer has or lacks
   pub tried_behind : (on : Bool) (rows : List ℕ) (before after : ℕ) → on ≡ true → IsLeast (IsTried parent b rows) before after

@@ -1,6 +1,6 @@
 //! What the further rows answer.
-ghost use Rattle.std.specs.Prelude.{◌≡◌, ◌↔◌, ◌+◌, ◌<◌, ◌≤◌, ℕ, IfSome, IsTrue, None, Option, Some, [], ◌∷◌, length, map, option_map, slice_get};
-ghost use Rattle.std.specs.List.{HoldsAt};
+ghost use Rattle.std.specs.Prelude.{◌≡◌, ◌↔◌, ◌+◌, ◌<◌, ◌≤◌, ℕ, IfSome, IsTrue, None, Option, Some, [], ◌∷◌, length, map, nat_le, option_map, slice_get};
+ghost use Rattle.std.specs.List.{HoldsAt, list_all};
 ghost use Rattle.infer.specs.First.{IsFirstOf, SomeHas};
 ghost use Rattle.infer.specs.Triple.{triple_of};
 ghost use Rattle.infer.specs.declared.table.rows.TheConstants.{ROW_COUNT};
@@ -107,7 +107,30 @@ fn least_of(entries: &[Entry], parent: Option<usize>, buf: &[u8], before: usize)
     least_among(entries, parent, buf, before)
 }
 
-/// [`least_of`] the entries behind a guard: the number before if the buffer lacks the guard's byte.
+/// Whether this is one entry, whose row is not before that number: told without a loop, as most guards have one entry.
+#[inline(always)]
+fn is_late(entries: &[Entry], before: usize) -> bool
+    ensures { IsTrue result ↔ (length entries.now ≡ 1) × IsTrue (list_all (λ e. nat_le before e.row) entries.now) }
+{
+    match entries {
+        [only] => before <= usize::from(only.row),
+        _ => false,
+    }
+}
+
+/// [`least_of`], and the number before at once if there is one entry, of no earlier row. A function of its own, so that this
+/// takes nothing of what [`least_of`] needs.
+#[inline(never)]
+fn least_after(entries: &[Entry], parent: Option<usize>, buf: &[u8], before: usize) -> usize
+    ensures { IsLeast (IsTried parent buf.now (candidates buf.now entries.now)) before result }
+{
+    if is_late(entries, before) {
+        return before;
+    }
+    least_of(entries, parent, buf, before)
+}
+
+/// [`least_after`] that number, of the entries behind a guard: the number before if the buffer lacks the guard's byte.
 #[inline(always)]
 fn least_behind(guard: &Guard, buf: &[u8], before: usize) -> usize
     ensures { IsLeast (IsTried None buf.now (behind buf.now guard.now)) before result }
@@ -115,7 +138,7 @@ fn least_behind(guard: &Guard, buf: &[u8], before: usize) -> usize
     if !has_byte(buf, guard.place, guard.byte) {
         return before;
     }
-    least_of(guard.entries, None, buf, before)
+    least_after(guard.entries, None, buf, before)
 }
 
 /// [`least_of`] the entries behind all guards.

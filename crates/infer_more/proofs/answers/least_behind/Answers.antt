@@ -6,4 +6,4 @@ pub returns-then-not-has_byte : goal.returns-then-not-has_byte
 returns-then-not-has_byte c = tried_shut None c.args.buf.now _ _ c.args.before (sym c.has_byte.ensures ∙ c.if-not-has_byte.true)
 
 pub returns : goal.returns
-returns c = tried_behind None c.args.buf.now _ _ c.args.before _ (sym c.has_byte.ensures ∙ c.if-not-has_byte.false) c.least_of.ensures
+returns c = tried_behind None c.args.buf.now _ _ c.args.before _ (sym c.has_byte.ensures ∙ c.if-not-has_byte.false) c.least_after.ensures
