@@ -269,7 +269,7 @@ func TestMistakes(t *testing.T) {
 		{"\n\nqoi image/qoi image - 14: @0 \"qoif\n", TypesError{3, 30, "quotes do not close"}},
 		{"\xEF\xBB\xBFa b/c app - 1: @0 00", TypesError{1, 1, "no extension"}},
 		{"a b/c app - 1: @0 00 00", TypesError{1, 22, "place past the length"}},
-		{ownTypes + "a", TypesError{4, 2, "a type has an extension, a MIME type, a class, a parent and a signature"}},
+		{ownTypes + "a", TypesError{5, 2, "a type has an extension, a MIME type, a class, a parent and a signature"}},
 	} {
 		var got *TypesError
 		if own, err := NewTypes([]byte(it.text)); own != nil || !errors.As(err, &got) || *got != it.want {

@@ -68,7 +68,7 @@ test("a mistake in a text of types has a place and a reason", () => {
         ["qoi image/qoi picture - 14: @0 00", 1, 15, "unknown class"],
         ['\n\nqoi image/qoi image - 14: @0 "qoif\n', 3, 30, "quotes do not close"],
         ["\uFEFFa b/c app - 1: @0 00", 1, 1, "no extension"],
-        [`${OWN_TYPES}a`, 4, 2, "a type has an extension, a MIME type, a class, a parent and a signature"],
+        [`${OWN_TYPES}a`, 5, 2, "a type has an extension, a MIME type, a class, a parent and a signature"],
         [Uint8Array.of(0), 1, 1, "no extension"],
     ];
     for (const [text, line, column, reason] of told) {
