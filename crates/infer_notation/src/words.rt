@@ -18,7 +18,8 @@ pub struct Hex {
 pub fn is_blank(byte: u8) -> bool
     ensures { result ≡ is_blank byte }
 {
-    byte == b' ' || byte == b'\t' || byte == b'\r'
+    // Most bytes are told by one comparison.
+    byte <= b' ' && (byte == b' ' || byte == b'\t' || byte == b'\r')
 }
 
 /// What follows the blanks at the front.

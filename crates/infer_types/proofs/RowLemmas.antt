@@ -1,5 +1,6 @@
 -- Rows that lines describe, one after the other.
-use Rattle.std.proofs.Common.{◌≡◌, ℕ, true, false, List, [], ◌∷◌, Option, None, Some, inl, inr, is_some, option_map, refl, sym, ap, subst, ◌∙◌, ◌<◌, MatchOption, length}
+use Rattle.std.proofs.Common.{◌≡◌, ℕ, true, false, List, [], ◌∷◌, Option, None, Some, inl, inr, is_some, option_map, refl, sym, ap, subst, ◌∙◌, ◌<◌, ◌≤◌, ◌+◌, MatchOption, arith, length}
+use Rattle.std.specs.Option.{option_map_or}
 use denote.Ref.{Bor}
 use Rattle.infer.specs.Triple.{Triple}
 use Rattle.infer_notation.specs.Words.{◌>>=◌}
@@ -78,6 +79,12 @@ pub some_lines : (all : List (List ℕ)) (line : List ℕ) (o : Option (Bor (Lis
     → MatchOption o (all ≡ line ∷ []) (λ rest. (all ≡ line ∷ lines_of rest.now) × (length rest.now < n)) → (lines : List (List ℕ)) × (all ≡ line ∷ lines)
 some_lines all line None n h = ([], h)
 some_lines all line (Some rest) n h = (lines_of rest.now, h.0)
+
+-- what is left is less than the text
+pub line_less : (all : List (List ℕ)) (line : List ℕ) (o : Option (Bor (List ℕ))) (n : ℕ) → MatchOption o (all ≡ line ∷ []) (λ rest. (all ≡ line ∷ lines_of rest.now) × (length rest.now < n))
+    → option_map_or (λ text. length text.now + 1) o 0 ≤ n
+line_less all line None n h = omega arith
+line_less all line (Some rest) n h = let less = h.1 in omega arith
 
 -- the first line, and those that are left
 pub left_lines : (all : List (List ℕ)) (line : List ℕ) (o : Option (Bor (List ℕ))) (n : ℕ)

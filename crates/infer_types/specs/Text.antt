@@ -1,5 +1,6 @@
 -- A text of types: lines, each of which describes a type or none.
-use Rattle.std.specs.Prelude.{◌≡◌, ◌==◌, ◌⊎◌, ℕ, Bool, List, [], ◌∷◌, Option, None, Some, MatchOption, is_some, option_map}
+use Rattle.std.specs.Prelude.{◌≡◌, ◌==◌, ◌⊎◌, ℕ, Bool, List, [], ◌∷◌, Option, None, Some, MatchOption, is_some, length, option_map, ◌+◌}
+use Rattle.std.specs.Option.{option_map_or}
 use Rattle.std.specs.List.{prefix_len, slice_split}
 use Rattle.infer.specs.First.{IsAnswer}
 use Rattle.infer.specs.Row.{Accepts}
@@ -10,6 +11,7 @@ use Rattle.infer_more.specs.Wider.{IsWiderAnswer}
 use Rattle.infer_notation.specs.Words.{◌>>=◌}
 use Rattle.infer_types.specs.Line.{Row, line_of}
 use Rattle.infer_types.specs.declared.types.Found.{Found}
+use Rattle.infer_types.specs.declared.types.Rows.{Rows}
 
 -- 0A ends a line
 abbrev pub is_line_end : ℕ → Bool
@@ -46,6 +48,19 @@ abbrev pub IsNextRow : List Row → Option Triple → Option (List Row) → Type
 IsNextRow rows None left = rows ≡ []
 IsNextRow rows (Some t) left = (r : Row) × (more : List Row) × (rows ≡ r ∷ more) × (t ≡ r.shows) × (left ≡ Some more)
 
+-- what is shown of a type that was found
+abbrev pub found_shows : Found → Triple
+found_shows f = triple f.matcher_type f.mime_type.now f.extension.now
+
+-- what is left of a text, with an end of its last line
+abbrev pub left_size : Rows → ℕ
+left_size rows = option_map_or (λ text. length text.now + 1) rows.rest 0
+
+-- the same of what goes over the rows of a text, before and after
+abbrev pub NextShown : Rows → Option Found → Rows → Type 0
+NextShown before next after =
+    (rows : List Row) → rows_left (option_map (λ text. text.now) before.rest) ≡ Some rows → IsNextRow rows (option_map found_shows next) (rows_left (option_map (λ text. text.now) after.rest))
+
 -- the row is asked below the built-in answer with this extension, or none, and its signature accepts the buffer
 abbrev pub Answers : Option (List ℕ) → List ℕ → Row → Type 0
 Answers extension b r = (r.parent ≡ extension) × Accepted r.signature b
@@ -68,6 +83,3 @@ pub record IsTypesAnswer (rows : List Row) (b : List ℕ) (t : Option Triple) : 
   pub answers : IsAnswer (Accepts b) built_in.table parent
   pub first : IsFirstShown (Answers (option_map (λ p. p.extension) parent) b) rows own
   pub is : MatchOption own (IsWiderAnswer b t) (λ x. t ≡ Some x)
-
-abbrev pub found_shows : Found → Triple
-found_shows f = triple f.matcher_type f.mime_type.now f.extension.now

@@ -151,11 +151,13 @@ fn mistakes(rt: HostRuntime) {
 
 #[test]
 fn rows(rt: HostRuntime) -> Result<(), Fail> {
-    let mut rows = Types::new(TEXT).ok().ok_or("it describes types")?.rows();
+    let types = Types::new(TEXT).ok().ok_or("it describes types")?;
+    assert_eq!(rt; types.rows().count(), 3);
+    let mut rows = types.rows();
     for wanted in ["qoi", "myapp", "both"] {
-        let found = rows.next_row().ok_or("there is a row")?;
+        let found = rows.next().ok_or("there is a row")?;
         assert_eq!(rt; found.extension(), wanted);
     }
-    assert!(rt; rows.next_row().is_none());
+    assert!(rt; rows.next().is_none());
     Ok(())
 }

@@ -1,8 +1,9 @@
 //! Types that a text describes.
-ghost use Rattle.std.specs.Prelude.{◌≡◌, ◌+◌, IfErr, IfOk, IsTrue, List, Some, is_ok, is_some, option_map};
+ghost use Rattle.std.specs.Prelude.{◌≡◌, ◌+◌, ◌<◌, ◌≤◌, IfErr, IfOk, IsTrue, List, MatchOption, Some, is_ok, is_some, option_map};
+ghost use Rattle.std.specs.Iterator.{at_most};
 ghost use Rattle.infer_more.specs.Wider.{IsWiderAnswer};
 ghost use Rattle.infer_types.specs.Line.{Row};
-ghost use Rattle.infer_types.specs.Text.{Answers, IsFirstShown, IsNextRow, IsTypesAnswer, found_shows, lines_before_mistake, lines_of, rows_left, rows_of};
+ghost use Rattle.infer_types.specs.Text.{Answers, IsFirstShown, IsNextRow, IsTypesAnswer, NextShown, found_shows, left_size, lines_before_mistake, lines_of, rows_left, rows_of};
 
 use crate::line::{answer_of, check, row_shown};
 use crate::lines::next_line;
@@ -90,11 +91,26 @@ pub struct Rows<'a> {
     rest: Option<&'a [u8]>,
 }
 
-impl<'a> Rows<'a> {
+impl<'a> Iterator for Rows<'a> {
+    type Item = Found<'a>;
+
+    // A text that describes rows has that one next which its rows begin with.
+    ghost next_gives = { NextShown };
+
+    // Each takes a byte of the text at least, and the last what ends the text.
+    ghost remaining = { λ rows. at_most (left_size rows) };
+
     /// What the next row shows, and `None` if none is left.
-    pub fn next_row(&mut self) -> Option<Found<'a>>
-        ensures { (rows : List Row) → rows_left (option_map (λ text. text.now) self.old.rest) ≡ Some rows
+    fn next(&mut self) -> Option<Found<'a>> {
+        self.next_row()
+    }
+}
+
+impl<'a> Rows<'a> {
+    fn next_row(&mut self) -> Option<Found<'a>>
+        ensures next { (rows : List Row) → rows_left (option_map (λ text. text.now) self.old.rest) ≡ Some rows
             → IsNextRow rows (option_map found_shows result) (rows_left (option_map (λ text. text.now) self.new.rest)) }
+        ensures fewer { MatchOption result (left_size self.new ≤ left_size self.old) (λ found. left_size self.new < left_size self.old) }
     {
         while let Some(text) = self.rest {
             let (line, behind) = next_line(text);
