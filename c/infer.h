@@ -70,16 +70,16 @@ int32_t infer_verdict(const void *buf, size_t len, bool *is_final);
 /* The same as infer_position, and in `asked` how many rows were asked, at most 25. `asked` must not be null. */
 int32_t infer_position_counted(const void *buf, size_t len, uint32_t *asked);
 
-/* The wider answer: the number of the first further row that stands below the answer of infer_position and whose
+/* The wider answer: the number of the first further row whose parent is the answer of infer_position and whose
  * signature accepts the buffer, and that answer itself if there is none. So an ELF file may be an object file, and a
  * buffer that no built-in row accepts a time zone. */
 int32_t infer_more_position(const void *buf, size_t len);
 
 /* Whether the signature of that one row accepts the buffer; false if there is no such row. A buffer can fit several
- * rows: of 1,258 real files 82 did. The row that a further row stands below is not asked. */
+ * rows: of 1,258 real files 82 did. The parent of a further row is not asked. */
 bool infer_accepts(const void *buf, size_t len, int32_t row);
 
-/* Whether no bytes that may follow can change the answer, told exactly: if this is false, some do. It is true of
+/* Whether no bytes that may follow can change the answer, told exactly: false means that some change it. It is true of
  * most images from their 61st byte on, and never of the empty buffer. */
 bool infer_is_decided(const void *buf, size_t len);
 
@@ -89,8 +89,8 @@ bool infer_is_decided(const void *buf, size_t len);
 bool infer_may_become(const void *buf, size_t len, int32_t row);
 
 /* The same of the wider answer, and of every row: whether no bytes that may follow can change what infer_more_position
- * answers, and whether some that may follow make that row, built-in or further, accept the buffer. The row that a further
- * row stands below is not asked. */
+ * answers, and whether some that may follow make that row, built-in or further, accept the buffer. The parent of a
+ * further row is not asked. */
 bool infer_more_is_decided(const void *buf, size_t len);
 bool infer_more_may_become(const void *buf, size_t len, int32_t row);
 
