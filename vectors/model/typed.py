@@ -48,7 +48,9 @@ def piece(rng):
     if kind == 2:
         low = rng.randrange(256)
         high = rng.randrange(low, 256)
-        return f"{pair(rng, low)}..{pair(rng, high)}", [[*range(low, high + 1)]]
+        ends = [pair(rng, low), pair(rng, high)]
+        # Hardly a change of a text makes a range end before it begins.
+        return "..".join(ends if rng.random() < 0.97 else ends[::-1]), [[*range(low, high + 1)]]
     if kind == 3:
         value = rng.randrange(256)
         return f"not{blank(rng)}{pair(rng, value)}", [[it for it in range(256) if it != value]]
