@@ -1,9 +1,10 @@
 -- The parts of a prolog, the tag that they lead to, and the name of the document type.
 use Rattle.std.proofs.Common.{◌≡◌, ◌↔◌, ℕ, ◌+◌, ◌-◌, ◌<◌, ◌≤◌, ◌⊎◌, inl, inr, List, ◌++◌, Option, None, Some, length, codes, get_or, add-zero, sym, subst, ap, ◌∙◌, arith}
-use Rattle.std.proofs.lemmas.List.{drop-append-le, ext_get_or}
+use Rattle.std.proofs.lemmas.Bool.{cases_lt}
+use Rattle.std.proofs.lemmas.List.{drop-append-le, ext_get_or, get_or_past}
 use Rattle.std.specs.Prelude.{slice_range}
 use Rattle.memchr.specs.Find.{OccursAt}
-use Rattle.infer_deep.proofs.PlaceLemmas.{IsFirstPlace-same}
+use Rattle.infer_deep.proofs.PlaceLemmas.{IsFirstPlace-same, byte_stands}
 use Rattle.infer_deep.specs.Signatures.{Lasts}
 use Rattle.infer_inside.specs.Markup.{AgreesWithDoctype, BeginsAt, BeginsElement, ClosesDeclaration, HasRoot, HasRootWith, IsDoctype, IsEnclosed, IsMisc, IsNameByte, IsPart, IsRootElement, IsSpaceRun, IsTypeByte, IsXmlSpace, LeadsToTag, OpensTag, here, later, utf8_mark}
 use Rattle.infer_inside.specs.Runs.{IsAfterLast, IsRun}
@@ -12,14 +13,14 @@ use Rattle.infer_inside.proofs.PartLemmas.{part_length, part_reads}
 use Rattle.infer_inside.proofs.RunLemmas.{one_after_last, one_run_end}
 
 -- what the first bytes of a part are
-space_first : (b : List ℕ) (p q : ℕ) → IsSpaceRun b p q → IsXmlSpace (get_or b p 0)
+pub space_first : (b : List ℕ) (p q : ℕ) → IsSpaceRun b p q → IsXmlSpace (get_or b p 0)
 space_first b p q (some, run) = run.bytes p (omega arith) some
 
-instruction_first : (b : List ℕ) (p q : ℕ) → IsEnclosed b (codes "<?") (codes "?>") p q
+pub instruction_first : (b : List ℕ) (p q : ℕ) → IsEnclosed b (codes "<?") (codes "?>") p q
     → (get_or b p 0 ≡ 0x3C) × (get_or b (p + 1) 0 ≡ 0x3F)
 instruction_first b p q (o, end) = (rw add-zero at (o.reads 0 (omega arith)), o.reads 1 (omega arith))
 
-comment_first : (b : List ℕ) (p q : ℕ) → IsEnclosed b (codes "<!--") (codes "-->") p q
+pub comment_first : (b : List ℕ) (p q : ℕ) → IsEnclosed b (codes "<!--") (codes "-->") p q
     → (get_or b p 0 ≡ 0x3C) × (get_or b (p + 1) 0 ≡ 0x21) × (get_or b (p + 2) 0 ≡ 0x2D)
 comment_first b p q (o, end) =
     (rw add-zero at (o.reads 0 (omega arith)), o.reads 1 (omega arith), o.reads 2 (omega arith))
@@ -30,11 +31,18 @@ doctype_first b p name close d =
     let o = d.opens in (rw add-zero at (o.reads 0 (omega arith)), o.reads 1 (omega arith), o.reads 2 (omega arith))
 
 -- "<" is no white space
-not_space : (x : ℕ) → x ≡ 0x3C → ¬ IsXmlSpace x
+pub not_space : (x : ℕ) → x ≡ 0x3C → ¬ IsXmlSpace x
 not_space x is (inl e) = omega arith
 not_space x is (inr (inl e)) = omega arith
 not_space x is (inr (inr (inl e))) = omega arith
 not_space x is (inr (inr (inr e))) = omega arith
+
+-- and it is a text
+pub tag_stands : (b : List ℕ) (p : ℕ) → get_or b p 0 ≡ 0x3C → OccursAt b (codes "<") p
+tag_stands b p is = elim (cases_lt p (length b)) [
+  | inl lt ↦ byte_stands b 0x3C p lt is
+  | inr past ↦ absurd (let none = get_or_past b p 0 past in omega arith)
+]
 
 -- so one part stands at a place
 one_enclosed : (b opening closing : List ℕ) (p q r : ℕ) → IsEnclosed b opening closing p q

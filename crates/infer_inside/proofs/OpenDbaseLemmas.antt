@@ -1,5 +1,5 @@
 -- What bytes after a buffer can make a dBASE table.
-use Rattle.std.proofs.Common.{IsTrue, ◌≡◌, get_or, add-zero, ◌⊎◌, inl, inr, ℕ, zero, suc, ◌+◌, ◌-◌, ◌*◌, ◌%◌, ◌<◌, ◌≤◌, List, [], ◌∷◌, ◌++◌, length, codes, max, refl, sym, ap, subst, ◌∙◌, arith, length-append, true, false, Bool}
+use Rattle.std.proofs.Common.{IsTrue, ◌≡◌, get_or, add-zero, ◌⊎◌, inl, inr, ℕ, zero, suc, ◌+◌, ◌-◌, ◌%◌, ◌<◌, ◌≤◌, List, [], ◌∷◌, ◌++◌, length, codes, refl, sym, ap, subst, ◌∙◌, arith, true, false, Bool}
 use Rattle.std.specs.Prelude.{slice_index, nat_le, if◌then◌else◌, ◌&&◌}
 use Rattle.std.proofs.lemmas.Bool.{cases_lt}
 use Rattle.std.proofs.lemmas.List.{get_or_append_left}
@@ -7,7 +7,7 @@ use Rattle.infer_deep.specs.Numbers.{le16}
 use Rattle.infer_deep.specs.Open.{AgreesAt, are_bytes}
 use Rattle.infer_deep.specs.Signatures.{Reachable}
 use Rattle.infer_deep.proofs.OpenLemmas.{agrees_past}
-use Rattle.infer_inside.specs.Dbase.{BeginsName, EndsFields, HasField, IsDated, IsDbase, IsOneOf, MayBeDated, MayBeDbase, MayEndFields, MayHaveField, behind, versions}
+use Rattle.infer_inside.specs.Dbase.{BeginsName, EndsFields, IsDbase, IsOneOf, MayBeDated, MayBeDbase, MayEndFields, MayHaveField, behind, versions}
 use Rattle.std.proofs.Math.ListN.{get_or-eq_default}
 use Rattle.infer_inside.specs.Open.{MayBe}
 use Rattle.infer_inside.proofs.OpenLemmas.{Filled, either, fills_list}

@@ -1,17 +1,16 @@
 -- What bytes after a buffer can make a shared object.
-use Rattle.std.proofs.Common.{IsTrue, ◌≡◌, ◌⊎◌, inl, inr, ℕ, zero, suc, ◌+◌, ◌-◌, ◌*◌, ◌<◌, ◌≤◌, Bool, true, false, List, [], ◌∷◌, ◌++◌, length, get_or, max, refl, sym, ap, subst, ◌∙◌, arith, length-append}
+use Rattle.std.proofs.Common.{IsTrue, ◌≡◌, inl, inr, ℕ, zero, suc, ◌+◌, ◌-◌, ◌*◌, ◌<◌, ◌≤◌, Bool, true, false, List, [], ◌∷◌, ◌++◌, length, get_or, max, refl, sym, subst, ◌∙◌, arith, length-append}
 use Rattle.std.proofs.Math.ListN.{get_or-eq_default}
 use Rattle.std.proofs.lemmas.Bool.{cases_lt}
 use Rattle.std.proofs.lemmas.Grind.{get_or_default_zero}
 use Rattle.std.proofs.lemmas.List.{get_or_append_left}
 use Rattle.std.specs.Prelude.{if◌then◌else◌}
-use Rattle.memchr.specs.Find.{OccursAt}
 use Rattle.infer_deep.specs.Numbers.{be32, le16, le32}
 use Rattle.infer_deep.specs.Open.{AgreesAt, are_bytes}
 use Rattle.infer_deep.specs.Signatures.{Reachable}
 use Rattle.infer_deep.proofs.OpenLemmas.{AgreesAt-later, IsBytes, Reachable-grown, agrees_past, agrees_where_stands, fills_parts, grown_agrees, stands_where_whole, test_from_reads}
 use Rattle.infer_inside.specs.Elf.{AsksAt, HasOwnTable, IsSharedObject, MayBeSharedObject, MayCount, MayHaveOwnTable, NoneKnownAsks, counted_length, entry_count, entry_size, known_size, place_end, size_at, table_place}
-use Rattle.infer_inside.specs.Numbers.{be16, bytes16, number16, number32, number64}
+use Rattle.infer_inside.specs.Numbers.{be16, bytes16, number16}
 use Rattle.infer_inside.proofs.GrowthLemmas.{entry_count-append, entry_size-append, number16-append, number32-append, number64-append, table_place-append}
 use Rattle.infer_inside.proofs.OpenLemmas.{bytes16_bytes, fills_most, grown_byte, length-bytes16, number16_reads, number16_stands}
 

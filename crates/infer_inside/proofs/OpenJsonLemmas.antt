@@ -756,7 +756,7 @@ never_next (by_rule {a} {ss} {xs} r m d) t p y e =
     let tidy = and_parts (is_tidy a ss) _ t in
     never_next d (among_passes (λ s. are_tidy (s ++ ss)) r (rules a) (rules_tidy a ss tidy.0 tidy.1) m) p y e
 
-one_text : (w y : List ℕ) → ¬ CanBe (blanks ∷ text ∷ blanks ∷ []) (w ++ 0x5D ∷ 0x0A ∷ 0x5B ∷ y)
+pub one_text : (w y : List ℕ) → ¬ CanBe (blanks ∷ text ∷ blanks ∷ []) (w ++ 0x5D ∷ 0x0A ∷ 0x5B ∷ y)
 unfolding is_frame in_string is_tidy are_tidy
 one_text w y (v, d) = never_next d refl w (y ++ v) (append_assoc w (0x5D ∷ 0x0A ∷ 0x5B ∷ y) v)
 

@@ -1,21 +1,21 @@
 -- What bytes after a buffer can make the name of its root element.
-use Rattle.std.proofs.Common.{IsTrue, ◌≡◌, ◌⊎◌, ◌↔◌, inl, inr, ℕ, zero, suc, ◌+◌, ◌-◌, ◌<◌, ◌≤◌, List, [], ◌∷◌, ◌++◌, Option, None, Some, length, codes, get_or, take, drop, max, refl, sym, ap, subst, ◌∙◌, add-zero, arith, length-append, length-drop, append_assoc}
+use Rattle.std.proofs.Common.{IsTrue, ◌≡◌, ◌⊎◌, ◌↔◌, inl, inr, ℕ, zero, suc, ◌+◌, ◌-◌, ◌<◌, ◌≤◌, List, [], ◌∷◌, ◌++◌, Option, None, Some, length, codes, get_or, drop, refl, sym, ap, subst, ◌∙◌, add-zero, arith, length-append, length-drop, append_assoc}
 use Rattle.std.proofs.Math.ListN.{get_or-eq_default}
-use Rattle.std.proofs.Math.Seq.{drop-append_seam, get_or-append_right, take-append_seam}
+use Rattle.std.proofs.Math.Seq.{drop-append_seam, get_or-append_right}
 use Rattle.std.proofs.lemmas.Bool.{cases_lt, cases_order}
-use Rattle.std.proofs.lemmas.List.{append-nil, ext_get_or, get_or-drop, get_or_append_left}
+use Rattle.std.proofs.lemmas.List.{ext_get_or, get_or-drop, get_or_append_left}
 use Rattle.std.proofs.lemmas.List.Elements.{All-append, All-drop, All-take}
 use Rattle.std.specs.Prelude.{slice_range}
 use Rattle.memchr.specs.Find.{OccursAt}
 use Rattle.infer_deep.specs.Open.{AgreesAt, are_bytes}
-use Rattle.infer_deep.specs.Places.{IsFirstPlace, IsWithin}
+use Rattle.infer_deep.specs.Places.{IsWithin}
 use Rattle.infer_deep.specs.Signatures.{Reachable}
 use Rattle.infer_deep.proofs.OpenLemmas.{Fills, IsBytes, Reachable-grown, Reachable-here, bytes_from_test, fills_text, grown_agrees, test_from_reads}
 use Rattle.infer_deep.proofs.PlaceLemmas.{OccursAt-append, OccursAt-front}
 use Rattle.infer_inside.specs.Markup.{AgreesWithDoctype, BeginsAt, BeginsElement, ClosesDeclaration, EndsName, HasInTag, HasRoot, HasRootWith, HasNoBracket, IsDoctype, IsEnclosed, IsFullName, IsLocalName, IsMisc, MayDeclare, MayGoOn, MayNameRoot, MayOpenAs, MayOpenTag, IsNameByte, IsPart, IsRootElement, IsSpaceRun, IsTypeByte, IsXmlSpace, LeadsToTag, OpensTag, here, later, utf8_mark}
-use Rattle.infer_inside.specs.Runs.{IsAfterLast, IsRun}
-use Rattle.infer_inside.proofs.FrontLemmas.{SharesFront, byte_shared, byte_shared_back, front_grows, front_swaps, after_last_shared, range_shared, run_shared, text_shared}
-use Rattle.infer_inside.proofs.MarkupLemmas.{begin_lasts, one_begin, one_lead, part_lasts, past_part, root_lasts, ways}
+use Rattle.infer_inside.specs.Runs.{IsRun}
+use Rattle.infer_inside.proofs.FrontLemmas.{SharesFront, byte_shared, front_grows, front_swaps, after_last_shared, range_shared, run_shared, text_shared}
+use Rattle.infer_inside.proofs.MarkupLemmas.{begin_lasts, one_begin, one_lead, part_lasts, root_lasts, ways}
 use Rattle.infer_inside.proofs.PartLemmas.{part_length, part_reads}
 use Rattle.infer_inside.proofs.RunLemmas.{one_run_end}
 
@@ -1039,7 +1039,7 @@ root_local b name (more, bytes, (rest, (q, at, to, begin, leads, is, behind))) =
     subst IsLocalName (sym is) (local_named _ _ (tag_named (b ++ more) at to r.place r.type r.opens))
 
 -- there is one
-one_root : (c n rest m other : List ℕ) → IsRootElement n rest c → IsRootElement m other c → (n ≡ m) × (rest ≡ other)
+pub one_root : (c n rest m other : List ℕ) → IsRootElement n rest c → IsRootElement m other c → (n ≡ m) × (rest ≡ other)
 one_root c n rest m other (p, at, to, begins, leads, is, behind) (q, from, end, begin, lead, same, after) =
     let start = one_begin c q p begin begins in
     let both = one_lead c at to from end p None leads (subst (λ x. LeadsToTag c from end x None) start lead) in (

@@ -1,20 +1,19 @@
 -- What bytes after a buffer can make the name of its program.
-use Rattle.std.proofs.Common.{IsTrue, ◌≡◌, ◌⊎◌, ◌↔◌, inl, inr, ℕ, zero, suc, ◌+◌, ◌-◌, ◌<◌, ◌≤◌, List, [], ◌∷◌, ◌++◌, length, codes, get_or, take, drop, refl, sym, ap, subst, ◌∙◌, arith, length-append, append_assoc}
+use Rattle.std.proofs.Common.{IsTrue, ◌≡◌, ◌⊎◌, ◌↔◌, inl, inr, ℕ, zero, suc, ◌+◌, ◌-◌, ◌<◌, ◌≤◌, List, ◌++◌, length, codes, get_or, take, drop, refl, sym, ap, subst, ◌∙◌, arith, length-append, append_assoc}
 use Rattle.std.proofs.Math.Seq.{drop-append_seam, get_or-append_right, take-append_seam}
 use Rattle.std.proofs.lemmas.Bool.{cases_lt, cases_order}
 use Rattle.std.proofs.lemmas.List.{get_or_append_left}
-use Rattle.std.proofs.lemmas.List.Elements.{All-append, All-from_get_or}
+use Rattle.std.proofs.lemmas.List.Elements.{All-append}
 use Rattle.std.specs.Prelude.{slice_range}
 use Rattle.memchr.specs.Find.{OccursAt}
 use Rattle.infer_deep.specs.Open.{AgreesAt, are_bytes}
 use Rattle.infer_deep.specs.Signatures.{Reachable}
 use Rattle.infer_deep.proofs.OpenLemmas.{IsBytes, Reachable-grown, Reachable-here, bytes_from_test, fills_text, grown_agrees, stands_where_whole}
 use Rattle.infer_deep.proofs.PlaceLemmas.{OccursAt-append}
-use Rattle.infer_inside.specs.Runs.{IsAfterLast, IsRun}
-use Rattle.infer_inside.specs.Script.{EndsBare, IsBareName, IsBlank, IsEnv, IsFirstWord, IsLineEnd, IsNameByte, IsNameOf, IsNextWord, IsProgram, IsProgramAt, IsSetting, IsVersionByte, IsWord, IsWordByte, NamesProgram}
+use Rattle.infer_inside.specs.Script.{EndsBare, IsBareName, IsBlank, IsEnv, IsFirstWord, IsLineEnd, IsNameByte, IsNameOf, IsNextWord, IsProgram, IsSetting, IsVersionByte, IsWord, IsWordByte, NamesProgram}
 use Rattle.infer_inside.proofs.FrontLemmas.{SharesFront, byte_shared, byte_shared_back, front_grows, front_swaps}
 use Rattle.infer_inside.proofs.PartLemmas.{part_length, part_reads}
-use Rattle.infer_inside.proofs.ScriptLemmas.{IsProgram-lasts, ends_before, env_shared, first_lasts, named_word, one_next_word, one_program, setting_shared, word_shared}
+use Rattle.infer_inside.proofs.ScriptLemmas.{IsProgram-lasts, env_shared, first_lasts, named_word, one_next_word, one_program, setting_shared, word_shared}
 
 -- ---- names that no bytes bring
 

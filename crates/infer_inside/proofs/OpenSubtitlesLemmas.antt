@@ -1,19 +1,16 @@
 -- What bytes after a buffer can make subtitles of SubRip.
-use Rattle.std.proofs.Common.{IsTrue, ◌≡◌, ◌⊎◌, inl, inr, ℕ, zero, suc, ◌+◌, ◌-◌, ◌<◌, ◌≤◌, List, [], ◌∷◌, ◌++◌, length, get_or, codes, max, refl, sym, ap, subst, ◌∙◌, arith, length-append, append_assoc, add-zero}
+use Rattle.std.proofs.Common.{◌≡◌, ◌⊎◌, inl, inr, ℕ, ◌+◌, ◌-◌, ◌<◌, ◌≤◌, List, [], ◌∷◌, ◌++◌, length, get_or, codes, max, refl, sym, ap, subst, ◌∙◌, arith, length-append}
 use Rattle.std.proofs.Math.ListN.{get_or-eq_default}
 use Rattle.std.proofs.Math.Seq.{get_or-append_right}
 use Rattle.std.proofs.lemmas.Bool.{cases_lt}
 use Rattle.std.proofs.lemmas.Grind.{get_or_default_zero}
 use Rattle.std.proofs.lemmas.List.{get_or_append_left}
-use Rattle.std.proofs.lemmas.List.Elements.{All-append}
-use Rattle.memchr.specs.Find.{OccursAt}
-use Rattle.infer_deep.specs.Open.{AgreesAt}
 use Rattle.infer_deep.specs.Signatures.{Reachable}
-use Rattle.infer_deep.proofs.OpenLemmas.{AgreesAt-later, Fills, IsBytes, Reachable-grown, agrees_past, bytes_from_test, fills_text, grown_agrees, stands_where_whole}
+use Rattle.infer_deep.proofs.OpenLemmas.{AgreesAt-later, Fills, Reachable-grown, agrees_past, bytes_from_test, fills_text, grown_agrees, stands_where_whole}
 use Rattle.infer_deep.proofs.PlaceLemmas.{OccursAt-append}
-use Rattle.infer_inside.specs.Subtitles.{AreDigits, EndsInLineEnd, EndsInNumber, EndsLine, IsCue, IsDigit, IsPairAt, IsSpan, IsSubRip, IsTime, MayBeCue, MayBePair, MayBeSpan, MayBeSubRip, MayBeTime}
+use Rattle.infer_inside.specs.Subtitles.{AreDigits, EndsInNumber, EndsLine, IsCue, IsDigit, IsPairAt, IsSpan, IsSubRip, IsTime, MayBeCue, MayBePair, MayBeSpan, MayBeSubRip, MayBeTime}
 use Rattle.infer_inside.proofs.GrowthLemmas.{digit, line_end, time}
-use Rattle.infer_inside.proofs.OpenLemmas.{Filled, byte_small, either, fills}
+use Rattle.infer_inside.proofs.OpenLemmas.{byte_small, either, fills}
 use Rattle.infer_inside.proofs.SubtitlesLemmas.{cue_by_count}
 
 -- ---- what the count of the digits tells

@@ -1,10 +1,10 @@
 -- What bytes after a buffer can make a first header with its checksum.
-use Rattle.std.proofs.Common.{IsTrue, ◌≡◌, ◌⊎◌, ◌↔◌, inl, inr, ℕ, zero, suc, ◌+◌, ◌-◌, ◌*◌, ◌/◌, ◌%◌, ◌<◌, ◌≤◌, List, [], ◌∷◌, ◌++◌, length, get_or, max, min, refl, sym, ap, subst, ◌∙◌, arith, length-append, append_assoc}
+use Rattle.std.proofs.Common.{◌≡◌, ◌⊎◌, ◌↔◌, inl, inr, ℕ, zero, suc, ◌+◌, ◌-◌, ◌*◌, ◌/◌, ◌%◌, ◌<◌, ◌≤◌, List, [], ◌∷◌, ◌++◌, length, get_or, max, min, refl, sym, ap, subst, ◌∙◌, arith, length-append, append_assoc}
 use Rattle.std.proofs.Math.ListN.{get_or-eq_default}
 use Rattle.std.proofs.Math.Seq.{get_or-append_right}
 use Rattle.std.proofs.lemmas.Bool.{cases_lt}
 use Rattle.std.proofs.lemmas.List.{get_or_append_left}
-use Rattle.std.proofs.lemmas.List.Elements.{All-append, All-from_get_or, All-nil}
+use Rattle.std.proofs.lemmas.List.Elements.{All-append, All-from_get_or}
 use Rattle.infer_deep.specs.Signatures.{Reachable}
 use Rattle.infer_deep.proofs.OpenLemmas.{IsBytes, Reachable-grown, Reachable-here}
 use Rattle.infer_inside.specs.Tar.{HasTarChecksum, IsField, IsOctal, MayWrite, header_sum, octal, scaled, sum_from}

@@ -1,7 +1,12 @@
 -- The words of a first line, and the one that names the program.
-use Rattle.std.proofs.Common.{◌≡◌, ℕ, ◌-◌, ◌<◌, ◌≤◌, inl, inr, List, ◌++◌, Option, None, Some, length, codes, get_or, sym, subst, ◌∙◌, MatchOption, arith}
+use Rattle.std.proofs.Common.{◌≡◌, ◌==◌, ◌||◌, ℕ, zero, suc, ◌+◌, ◌-◌, ◌<◌, ◌≤◌, ◌⊎◌, inl, inr, ap, refl, Bool, true, false, not, List, ◌++◌, Option, None, Some, length, codes, get_or, sym, subst, ◌∙◌, MatchOption, arith}
+use Rattle.std.proofs.lemmas.Bool.{true≢false}
+use Rattle.std.proofs.lemmas.List.{get_or_append_left}
+use Rattle.std.proofs.lemmas.List.Sums.{AllPass-from_list_all}
+use Rattle.memchr.specs.Find.{OccursAt}
 use Rattle.infer_deep.specs.Signatures.{Lasts}
-use Rattle.infer_inside.specs.Script.{EndsBare, IsBlank, IsEnv, IsFirstWord, IsLineEnd, IsNameOf, IsNextWord, IsProgram, IsSetting, IsVersionByte, IsWord, IsWordByte, NamesProgram}
+use Rattle.infer_inside.specs.Script.{EndsBare, IsBlank, IsEnv, IsFirstWord, IsLineEnd, IsNameOf, IsNextWord, IsProgram, IsRead, IsSetting, IsVersionByte, IsWord, IsWordByte, NamesProgram}
+use Rattle.infer_inside.specs.Runs.{IsRun}
 use Rattle.infer_inside.specs.declared.script.Word.{Word}
 use Rattle.infer_inside.proofs.FrontLemmas.{SharesFront, after_last_shared, byte_shared, byte_shared_back, front_grows, front_swaps, range_shared, run_shared, text_shared}
 use Rattle.infer_inside.proofs.RunLemmas.{one_after_last, one_run_end}
@@ -33,6 +38,29 @@ no_word_to_end b place from blanks rest p q low w =
     let first = r.bytes p (omega arith) order in
     let far : from ≤ p = (let early = blanks p low in grind arith) in
     r.ends (rest q (omega arith) whole)
+
+-- past them the word that stands there is the next one
+pub next_read : (b : List ℕ) (place from : ℕ) → ((k : ℕ) → place ≤ k → k < from → IsBlank (get_or b k 0)) → 2 ≤ place
+    → ((k : ℕ) → 2 ≤ k → k < place → ¬ IsLineEnd (get_or b k 0)) → (place ≡ 2) ⊎ (¬ IsWordByte (get_or b place 0)) → place ≤ from → IsWordByte (get_or b from 0) → (r : Option Word)
+    → MatchOption r ((k : ℕ) → from ≤ k → k < length b → IsWordByte (get_or b k 0)) (λ w. (w.from ≡ from) × IsRun IsWordByte b from w.to × IsRead b w)
+    → MatchOption r ((p q : ℕ) → place ≤ p → ¬ IsWord b p q) (λ w. IsNextWord b (λ p q. Unit {0}) place w.from w.to)
+next_read b place from blanks least line ends low here None rest = no_word_to_end b place from (λ k le lt is. let blank = blanks k le lt in grind arith) rest
+next_read b place from blanks least line ends low here (Some w) (same, run, read) =
+    let parted : (k : ℕ) → place ≤ k → k < from → ¬ IsWordByte (get_or b k 0) = (λ k le lt is. let blank = blanks k le lt in grind arith) in
+    let order = run.order in
+    let end = run.ends in
+    subst (λ x. IsNextWord b (λ p q. Unit {0}) place x w.to) (sym same) (record {
+      word = record {
+        low = omega arith;
+        line = λ k le lt is. let early = line k le in let later = blanks k in grind arith;
+        begins = λ lt. let before = blanks (from - 1) in grind arith;
+        some = grind arith;
+        run = run;
+      };
+      low = low;
+      has = tt;
+      before = λ p q le lt v u. parted p le lt (v.run.bytes p (omega arith) v.some);
+    })
 
 -- the words that `env` has before the one from `from` on, and that one
 pub settings_more : (b : List ℕ) (place before from to : ℕ) → IsNextWord b (λ i j. Unit {0}) before from to
@@ -200,3 +228,65 @@ IsProgram-lasts name b more (begins, (at, end, p, is)) =
         is ∙ range_shared (length b) b c s at end low (omega arith),
       ),
     )
+
+-- ---- `env` as most scripts name it
+
+abbrev is_word_byte : ℕ → Bool
+is_word_byte x = not (x == 0x20 || x == 0x09 || x == 0x0A || x == 0x0D)
+
+word_byte : (x : ℕ) → is_word_byte x ≡ true → IsWordByte x
+word_byte x h = (λ e. no 0x20 e refl, λ e. no 0x09 e refl, λ e. no 0x0A e refl, λ e. no 0x0D e refl)
+  where
+    no : (y : ℕ) → x ≡ y → ¬ (is_word_byte y ≡ false)
+    no y e other = absurd (true≢false (sym h ∙ ap is_word_byte e ∙ other))
+
+module _ (b : List ℕ) (o : OccursAt b (codes "/usr/bin/env ") 2) where
+  pub path_byte : (k : ℕ) → 2 ≤ k → k < 14 → IsWordByte (get_or b k 0)
+  path_byte k low lt =
+      let here : 2 + (k - 2) ≡ k = omega arith in
+      let reads = subst (λ x. get_or b x 0 ≡ get_or (codes "/usr/bin/env ") (k - 2) 0) here (o.reads (k - 2) (omega arith)) in
+      let within : k - 2 < 12 = omega arith in
+      subst IsWordByte (sym reads) (word_byte _ (path_passes (k - 2) within))
+    where
+      path_passes : (i : ℕ) → i < 12 → is_word_byte (get_or (codes "/usr/bin/env ") i 0) ≡ true
+      path_passes i lt =
+          ap is_word_byte (get_or_append_left (codes "/usr/bin/env") (codes " ") 0 i lt)
+          ∙ AllPass-from_list_all is_word_byte (codes "/usr/bin/env") refl i 0 lt
+
+  pub env_first : IsFirstWord b 2 14
+  env_first = record {
+    word = record {
+      low = omega arith;
+      line = λ k low lt. absurd (omega arith);
+      begins = λ lt. absurd (omega arith);
+      some = omega arith;
+      run = record {
+        order = omega arith;
+        bytes = path_byte;
+        whole = (let fits = o.fits in omega arith);
+        ends = λ is. is.0 (o.reads 12 (omega arith));
+      };
+    };
+    low = omega arith;
+    has = tt;
+    before = λ p q low lt. absurd (omega arith);
+  }
+
+  pub env_named : IsEnv b 2 14
+  env_named = (
+    11,
+    record {
+      low = omega arith;
+      high = omega arith;
+      begins = λ lt. o.reads 8 (omega arith);
+      last = λ k low lt is. let e = o.reads 9 (omega arith) in let n = o.reads 10 (omega arith) in let v = o.reads 11 (omega arith) in grind arith;
+    },
+    record { fits = (let fits = o.fits in omega arith); reads = reads_env },
+    refl,
+  )
+    where
+      reads_env : (j : ℕ) → j < 3 → get_or b (11 + j) 0 ≡ get_or (codes "env") j 0
+      reads_env zero lt = o.reads 9 (omega arith)
+      reads_env (suc zero) lt = o.reads 10 (omega arith)
+      reads_env (suc (suc zero)) lt = o.reads 11 (omega arith)
+      reads_env (suc (suc (suc j))) lt = absurd (omega arith)

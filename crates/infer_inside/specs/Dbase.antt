@@ -1,5 +1,5 @@
 -- dBASE tables, by their header.
-use Rattle.std.specs.Prelude.{◌≡◌, ◌==◌, ℕ, ◌+◌, ◌%◌, ◌<◌, ◌≤◌, ◌⊎◌, ◌&&◌, nat_le, if◌then◌else◌, IsTrue, List, [], ◌∷◌, length, codes, slice_index}
+use Rattle.std.specs.Prelude.{◌≡◌, ◌==◌, ℕ, ◌+◌, ◌%◌, ◌≤◌, ◌⊎◌, ◌&&◌, nat_le, if◌then◌else◌, IsTrue, List, [], ◌∷◌, length, codes, slice_index}
 use Rattle.std.specs.List.{list_any}
 use Rattle.infer_deep.specs.Numbers.{le16}
 use Rattle.infer_deep.specs.Open.{AgreesAt}

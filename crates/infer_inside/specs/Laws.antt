@@ -4,9 +4,9 @@ use Rattle.memchr.specs.Find.{OccursAt}
 use Rattle.infer_deep.specs.Signatures.{Lasts, Reachable}
 use Rattle.infer_inside.specs.Dbase.{IsDbase}
 use Rattle.infer_inside.specs.Elf.{IsSharedObject}
-use Rattle.infer_inside.specs.Json.{IsBlank, IsJson, IsJsonLines}
+use Rattle.infer_inside.specs.Json.{CanBe, IsBlank, IsJson, IsJsonLines, blanks, text}
 use Rattle.infer_inside.specs.JsonStates.{IsBracket}
-use Rattle.infer_inside.specs.Markup.{BeginsElement, HasRoot, HasRootWith, IsXmlSpace, utf8_mark}
+use Rattle.infer_inside.specs.Markup.{BeginsElement, HasRoot, HasRootWith, IsRootElement, IsXmlSpace, utf8_mark}
 use Rattle.infer_inside.specs.Open.{Stays}
 use Rattle.infer_inside.specs.Png.{IsAnimated}
 use Rattle.infer_inside.specs.Script.{IsProgram}
@@ -71,3 +71,10 @@ pub record Ends : Type 0 where
   pub json : (b : List ℕ) → ¬ Reachable IsJson (b ++ 0 ∷ [])
   pub json_lines : (b : List ℕ) → ¬ Reachable IsJsonLines (b ++ 0 ∷ [])
   pub plain : (b : List ℕ) → IsText (b ++ 0 ∷ []) → Stays IsText b
+
+-- a script names one program, and markup has one root element; and no bytes make one text of JSON of what has "]", a line
+-- end and "[" in it
+pub record Single : Type 0 where
+  pub program : (b n m : List ℕ) → IsProgram n b → IsProgram m b → n ≡ m
+  pub root : (b n rest m other : List ℕ) → IsRootElement n rest b → IsRootElement m other b → (n ≡ m) × (rest ≡ other)
+  pub json : (front more : List ℕ) → ¬ CanBe (blanks ∷ text ∷ blanks ∷ []) (front ++ 0x5D ∷ 0x0A ∷ 0x5B ∷ more)

@@ -1,8 +1,9 @@
 -- Scripts, by the program that their first line names: "#!" and words, of which the first is the path of a program. It
 -- is this one, or `env`, which finds the program that a later word names.
-use Rattle.std.specs.Prelude.{◌≡◌, ◌≢◌, ℕ, ◌+◌, ◌-◌, ◌<◌, ◌≤◌, ◌⊎◌, List, length, codes, slice_index, slice_range}
+use Rattle.std.specs.Prelude.{◌≡◌, ◌≢◌, ℕ, ◌+◌, ◌-◌, ◌<◌, ◌≤◌, ◌⊎◌, List, length, codes, slice_index, slice_range, IsTrue, ◌↔◌}
 use Rattle.memchr.specs.Find.{OccursAt}
 use Rattle.infer_inside.specs.Runs.{IsAfterLast, IsRun}
+use Rattle.infer_inside.specs.declared.script.Word.{Word}
 
 -- a space or a tab stands between words
 abbrev pub IsBlank : ℕ → Type 0
@@ -39,9 +40,17 @@ IsNameOf b from to at = IsAfterLast 0x2F b from to at
 abbrev pub IsEnv : List ℕ → ℕ → ℕ → Type 0
 IsEnv b from to = (at : ℕ) × IsNameOf b from to at × OccursAt b (codes "env") at × (at + 3 ≡ to)
 
+-- "=" stands in it
+abbrev pub HasEquals : List ℕ → ℕ → ℕ → Type 0
+HasEquals b from to = (k : ℕ) × (from ≤ k) × (k < to) × (slice_index b k ≡ 0x3D)
+
+-- what is told of a word is true: where its name begins, and whether it has "="
+abbrev pub IsRead : List ℕ → Word → Type 0
+IsRead b w = IsNameOf b w.from w.to w.name × (IsTrue w.has_equals ↔ HasEquals b w.from w.to)
+
 -- `env` takes it for itself: it begins with "-", or has "="
 abbrev pub IsSetting : List ℕ → ℕ → ℕ → Type 0
-IsSetting b from to = (slice_index b from ≡ 0x2D) ⊎ ((k : ℕ) × (from ≤ k) × (k < to) × (slice_index b k ≡ 0x3D))
+IsSetting b from to = (slice_index b from ≡ 0x2D) ⊎ HasEquals b from to
 
 -- the first word of the line
 abbrev pub IsFirstWord : List ℕ → ℕ → ℕ → Type 0

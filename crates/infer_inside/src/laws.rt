@@ -1,5 +1,5 @@
 //! Facts about the definitions, each the contract of a function that does nothing.
-ghost use Rattle.infer_inside.specs.Laws.{Ends, Growth, Leads};
+ghost use Rattle.infer_inside.specs.Laws.{Ends, Growth, Leads, Single};
 
 /// What a buffer has it has with any bytes after it too: all that is told here but that it is text, or JSON.
 pub fn growth()
@@ -14,4 +14,10 @@ pub fn leads()
 /// What the byte 00 ends: a buffer with it becomes no JSON, whatever follows, and text only if it stays text whatever follows.
 pub fn ends()
     ensures { Ends }
+{}
+
+/// What there is one of: the program of a script, and the root element of markup. And what has `]`, a line end and `[` in
+/// it becomes no text of JSON alone: another text begins there.
+pub fn single()
+    ensures { Single }
 {}

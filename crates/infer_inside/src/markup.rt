@@ -191,8 +191,8 @@ fn misc_end(buf: &[u8], place: usize) -> Option<usize>
     requires { place ≤ length buf.now }
     ensures { FindsPlace (IsMisc buf.now place) result }
 {
-    if let Some(end) = space_end(buf, place) {
-        return Some(end);
+    if !has_at(buf, b"<", place) {
+        return space_end(buf, place);
     }
     if let Some(end) = enclosed_end(buf, b"<?", b"?>", place) {
         return Some(end);

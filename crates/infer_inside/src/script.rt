@@ -4,16 +4,17 @@ ghost use Rattle.memchr.specs.Find.{OccursAt};
 ghost use Rattle.infer_deep.specs.Open.{AgreesAt};
 ghost use Rattle.infer_deep.specs.Signatures.{Reachable};
 ghost use Rattle.infer_inside.specs.Runs.{IsRun};
-ghost use Rattle.infer_inside.specs.Script.{EndsBare, IsBareName, IsBlank, IsEnv, IsLineEnd, IsNameByte, IsNameOf, IsNextWord, IsProgram, IsSetting, IsVersionByte, IsWord, IsWordByte, NamesProgram};
+ghost use Rattle.infer_inside.specs.Script.{EndsBare, HasEquals, IsBareName, IsBlank, IsEnv, IsLineEnd, IsNameByte, IsNextWord, IsProgram, IsRead, IsSetting, IsVersionByte, IsWord, IsWordByte, NamesProgram};
 
-use crate::runs::after_last;
-use infer_deep::places::{may_stand_at, stands_at};
+use infer_deep::places::{has_at, may_stand_at, stands_at};
 
-/// Where a word of the first line begins and ends.
+/// A word of the first line: where it begins and ends, where its name begins, and whether it has "=".
 #[derive(Clone, Copy)]
 struct Word {
     from: usize,
     to: usize,
+    name: usize,
+    has_equals: bool,
 }
 
 /// The name of the program that runs a script, as "python" of `#!/usr/bin/env -S A=1 python3.11`.
@@ -36,10 +37,10 @@ pub fn program(buf: &[u8]) -> Option<&[u8]>
 fn bare_name(buf: &[u8], word: Word) -> &[u8]
     requires opens { OccursAt buf.now (codes "#!") 0 }
     requires names { NamesProgram buf.now word.from word.to }
+    requires read { IsRead buf.now word }
     ensures { IsProgram result.now buf.now }
 {
-    let at = name_start(buf, word);
-    &buf[at..bare_end(buf, at, word.to)]
+    &buf[word.name..bare_end(buf, word.name, word.to)]
 }
 
 /// Whether some bytes after `buf`, or none, make it a script of the program with this name.
@@ -66,7 +67,7 @@ fn is_same(name: &[u8], other: &[u8]) -> bool
     name == other
 }
 
-/// The same of a line that names no program yet.
+/// [`may_become_program`] of a line that names no program yet.
 fn may_name(buf: &[u8], name: &[u8]) -> bool
     requires opens { AgreesAt buf.now (codes "#!") 0 }
     requires none { (p q : ℕ) → ¬ NamesProgram buf.now p q }
@@ -83,7 +84,7 @@ fn may_name(buf: &[u8], name: &[u8]) -> bool
     }
     match next_word(buf, 2) {
         // It is `env`, which takes a word with "=" for itself.
-        Some(word) => is_env(buf, word) && !has_equals(name, 0, name.len()),
+        Some(word) => is_env(buf, word) && !has_equals(name),
         None => true,
     }
 }
@@ -121,8 +122,13 @@ fn has_line_end(buf: &[u8]) -> bool
 /// The word whose name is that of the program.
 fn program_word(buf: &[u8]) -> Option<Word>
     requires { 2 ≤ length buf.now }
-    ensures { MatchOption result ((p q : ℕ) → ¬ NamesProgram buf.now p q) (λ w. NamesProgram buf.now w.from w.to) }
+    ensures names { MatchOption result ((p q : ℕ) → ¬ NamesProgram buf.now p q) (λ w. NamesProgram buf.now w.from w.to) }
+    ensures read { IfSome result (λ w. IsRead buf.now w) }
 {
+    // Scripts that name `env` mostly begin so, and one comparison tells it.
+    if has_at(buf, b"/usr/bin/env ", 2) {
+        return next_program(buf, 14);
+    }
     let first = next_word(buf, 2)?;
     if is_env(buf, first) {
         return next_program(buf, first.to);
@@ -137,8 +143,9 @@ fn next_program(buf: &[u8], place: usize) -> Option<Word>
     requires line { (k : ℕ) → 2 ≤ k → k < place → ¬ IsLineEnd (slice_index buf.now k) }
     requires whole { place < length buf.now }
     requires ends { ¬ IsWordByte (slice_index buf.now place) }
-    ensures { MatchOption result ((p q : ℕ) → place ≤ p → IsWord buf.now p q → IsSetting buf.now p q)
+    ensures next { MatchOption result ((p q : ℕ) → place ≤ p → IsWord buf.now p q → IsSetting buf.now p q)
         (λ w. IsNextWord buf.now (λ p q. ¬ IsSetting buf.now p q) place w.from w.to) }
+    ensures read { IfSome result (λ w. IsRead buf.now w) }
 {
     let mut from = place;
     while let Some(word) = next_word(buf, from) {
@@ -156,15 +163,15 @@ fn next_word(buf: &[u8], place: usize) -> Option<Word>
     requires line { (k : ℕ) → 2 ≤ k → k < place → ¬ IsLineEnd (slice_index buf.now k) }
     requires within { place ≤ length buf.now }
     requires ends { (place ≡ 2) ⊎ (¬ IsWordByte (slice_index buf.now place)) }
-    ensures { MatchOption result ((p q : ℕ) → place ≤ p → ¬ IsWord buf.now p q)
+    ensures next { MatchOption result ((p q : ℕ) → place ≤ p → ¬ IsWord buf.now p q)
         (λ w. IsNextWord buf.now (λ p q. Unit {0}) place w.from w.to) }
+    ensures read { IfSome result (λ w. IsRead buf.now w) }
 {
     let from = blanks_end(buf, place);
-    let to = word_end(buf, from)?;
-    if from == to {
+    if from == buf.len() || !is_word_byte(buf[from]) {
         return None;
     }
-    Some(Word { from, to })
+    read_word(buf, from)
 }
 
 /// Where the spaces and tabs from that place on end.
@@ -183,15 +190,33 @@ fn blanks_end(buf: &[u8], place: usize) -> usize
     buf.len()
 }
 
-/// Where the bytes of a word that stand there end, if the buffer goes on.
-fn word_end(buf: &[u8], from: usize) -> Option<usize>
+/// The bytes of a word that stand there, perhaps none, if the buffer goes on behind them.
+#[inline(always)]
+fn read_word(buf: &[u8], from: usize) -> Option<Word>
     requires { from ≤ length buf.now }
     ensures { MatchOption result ((k : ℕ) → from ≤ k → k < length buf.now → IsWordByte (slice_index buf.now k))
-        (λ to. IsRun IsWordByte buf.now from to) }
+        (λ w. (w.from ≡ from) × IsRun IsWordByte buf.now from w.to × IsRead buf.now w) }
 {
+    let mut name = from;
+    let mut has_equals = false;
     for to in from..buf.len() {
-        if !is_word_byte(buf[to]) {
-            return Some(to);
+        let byte = buf[to];
+        // Most bytes are told by this test.
+        if byte > b'=' {
+            continue;
+        }
+        match byte {
+            b' ' | b'\t' | b'\n' | b'\r' => {
+                return Some(Word {
+                    from,
+                    to,
+                    name,
+                    has_equals,
+                });
+            }
+            b'/' => name = to + 1,
+            b'=' => has_equals = true,
+            _ => {}
         }
     }
     None
@@ -210,45 +235,33 @@ fn is_word_byte(byte: u8) -> bool
     byte > b' ' || !matches!(byte, b' ' | b'\t' | b'\n' | b'\r')
 }
 
+#[inline(always)]
 fn is_env(buf: &[u8], word: Word) -> bool
-    requires order { word.from ≤ word.to }
-    requires within { word.to ≤ length buf.now }
+    requires read { IsRead buf.now word }
     ensures { IsTrue result ↔ IsEnv buf.now word.from word.to }
 {
-    let at = name_start(buf, word);
-    word.to - at == 3 && stands_at(buf, b"env", at)
+    word.to - word.name == 3 && stands_at(buf, b"env", word.name)
 }
 
 /// Whether `env` takes the word for itself, as an option or the value of a variable.
 fn is_setting(buf: &[u8], word: Word) -> bool
-    requires some { word.from < word.to }
-    requires within { word.to ≤ length buf.now }
+    requires some { word.from < length buf.now }
+    requires read { IsRead buf.now word }
     ensures { IsTrue result ↔ IsSetting buf.now word.from word.to }
 {
-    buf[word.from] == b'-' || has_equals(buf, word.from, word.to)
+    buf[word.from] == b'-' || word.has_equals
 }
 
-/// Whether "=" stands from one place up to another.
-#[inline(always)]
-fn has_equals(buf: &[u8], from: usize, to: usize) -> bool
-    requires { to ≤ length buf.now }
-    ensures { IsTrue result ↔ ((k : ℕ) × (from ≤ k) × (k < to) × (slice_index buf.now k ≡ 0x3D)) }
+/// Whether "=" stands in the name.
+fn has_equals(name: &[u8]) -> bool
+    ensures { IsTrue result ↔ HasEquals name.now 0 (length name.now) }
 {
-    for at in from..to {
-        if buf[at] == b'=' {
+    for at in 0..name.len() {
+        if name[at] == b'=' {
             return true;
         }
     }
     false
-}
-
-/// Where the name of the word begins.
-fn name_start(buf: &[u8], word: Word) -> usize
-    requires order { word.from ≤ word.to }
-    requires within { word.to ≤ length buf.now }
-    ensures { IsNameOf buf.now word.from word.to result }
-{
-    after_last(b'/', buf, word.from, word.to)
 }
 
 /// Where the name ends without the digits and dots at its end.

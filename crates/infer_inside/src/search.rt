@@ -31,7 +31,16 @@ pub(crate) fn find_closing<const N: usize>(
     if same_at(buf, text, place) {
         return Some(place);
     }
-    find_from(buf, text, place + 1)
+    find_later(buf, text, place + 1)
+}
+
+/// [`find_from`], out of the way of what is mostly found at once.
+#[inline(never)]
+fn find_later(buf: &[u8], text: &[u8], start: usize) -> Option<usize>
+    requires { start ≤ length buf.now }
+    ensures { IsFirstWithin OccursAt buf.now text.now start (length buf.now) result }
+{
+    find_from(buf, text, start)
 }
 
 /// The first place from `start` on at which `text` stands.

@@ -32,7 +32,7 @@ pub fn may_have_tar_checksum(buf: &[u8]) -> bool
     may_have_sum(buf)
 }
 
-/// The same of a buffer that ends in the header, behind the checksum's place or at it.
+/// [`may_have_tar_checksum`] of a buffer that ends in the header, behind the checksum's place or at it.
 fn may_have_sum(buf: &[u8]) -> bool
     requires low { 148 ≤ length buf.now }
     requires high { length buf.now < 512 }

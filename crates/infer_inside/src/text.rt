@@ -130,7 +130,7 @@ fn printed_front(buf: &[u8]) -> usize
     256 * count
 }
 
-/// The same in pieces of 16, of any plain bytes.
+/// How many bytes at the front of `buf` surely are plain, in pieces of 16.
 fn plain_front(buf: &[u8]) -> usize
     ensures within { result ≤ length buf.now }
     ensures free { AllBelow IsPlainByte buf.now result }

@@ -1,4 +1,4 @@
-use Rattle.std.proofs.Common.{◌≡◌, ◌↔◌, ◌-◌, ◌+◌, ◌<◌, ℕ, length, List, Option, None, Some, ◌++◌, drop, refl, subst, arith}
+use Rattle.std.proofs.Common.{◌↔◌, ◌-◌, ◌<◌, ℕ, length, List, Option, None, Some, ◌++◌, drop, refl, subst, arith}
 use Rattle.std.specs.Prelude.{slice_range}
 use Rattle.infer_deep.specs.Open.{AgreesAt}
 use Rattle.infer_deep.proofs.OpenLemmas.{bytes_from_test, test_from_reads}

@@ -1,4 +1,4 @@
-use Rattle.std.proofs.Common.{ℕ, List, [], ◌∷◌, refl, arith}
+use Rattle.std.proofs.Common.{[], ◌∷◌, refl}
 use Rattle.infer_deep.proofs.OpenLemmas.{bytes_from_test}
 use Rattle.infer_inside.proofs.OpenMarkupLemmas.{closing, root_stays}
 use Rattle.infer_inside.proofs.markup.may_have_root.Goals as goal

@@ -1,8 +1,5 @@
-use Rattle.std.proofs.Common.{◌≡◌, ℕ, ◌<◌, ◌≤◌, length, inl, inr, arith, refl, subst, sym, ap, ◌∙◌, IsTrue, is_some}
-use Rattle.std.specs.Prelude.{slice_index}
+use Rattle.std.proofs.Common.{length, inl, inr, arith, subst, sym, IsTrue}
 use Rattle.std.proofs.lemmas.Bool.{false≢true}
-use Rattle.std.proofs.lemmas.List.{get_or_past}
-use Rattle.infer_inside.specs.Markup.{BeginsElement}
 use Rattle.infer_inside.proofs.GrowthLemmas.{there}
 use Rattle.infer_inside.proofs.PartLemmas.{part_search}
 use Rattle.infer_inside.proofs.markup.may_open.Goals as goal

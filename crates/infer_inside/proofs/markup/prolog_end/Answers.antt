@@ -1,4 +1,4 @@
-use Rattle.std.proofs.Common.{None, Some, List, [], ◌↔◌, ◌≡◌, ◌<◌, ◌≤◌, ◌++◌, inl, inr, length, get_or, sym, ◌∙◌, subst, ap, arith}
+use Rattle.std.proofs.Common.{None, [], ◌↔◌, ◌++◌, subst, arith}
 use Rattle.std.proofs.lemmas.List.{append-nil}
 use Rattle.infer_inside.specs.Markup.{LeadsToTag}
 use Rattle.infer_inside.proofs.FrontLemmas.{front_grows}

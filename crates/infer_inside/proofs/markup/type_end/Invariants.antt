@@ -1,5 +1,5 @@
 -- the bytes so far are those of the name
-use Rattle.std.proofs.Common.{ℕ, ◌≡◌, ◌<◌, ◌≤◌, get_or}
+use Rattle.std.proofs.Common.{ℕ, ◌<◌, ◌≤◌, get_or}
 use Rattle.infer_inside.specs.Markup.{IsTypeByte}
 use Rattle.infer_inside.proofs.markup.type_end.Given as goal
 

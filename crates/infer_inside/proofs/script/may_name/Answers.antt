@@ -30,7 +30,7 @@ returns-then-has_line_end c = (
 pub returns-then-is_env : goal.returns-then-is_env
 returns-then-is_env c =
     let env = c.is_env.ensures.0 c.if-is_env.true in
-    let first = c.in-Some.ensures in (
+    let first = c.in-Some.ensures.next in (
       λ unset.
           next_named c.args.buf.now c.args.name.now (c.is_bare.ensures.0 c.if-not-is_bare.false) (test_from_reads c.args.name.now (λ i. omega (arith, c.type_inv.name i)))
           (opened_whole c.args.buf.now c.requires.opens (omega (arith, c.if-buf-lt2.false)))
@@ -44,7 +44,7 @@ returns-then-is_env c =
 pub returns-else-is_env : goal.returns-else-is_env
 returns-else-is_env c = (
   λ t. absurd (cc),
-  λ reached. absurd (c.requires.none c.in-Some.word.from c.in-Some.word.to (inl (c.in-Some.ensures, λ env. let is = c.is_env.ensures.1 env in absurd (cc)))),
+  λ reached. absurd (c.requires.none c.in-Some.word.from c.in-Some.word.to (inl (c.in-Some.ensures.next, λ env. let is = c.is_env.ensures.1 env in absurd (cc)))),
 )
 
 pub returns-in-None : goal.returns-in-None
@@ -52,6 +52,6 @@ returns-in-None c = (
   λ t.
       first_named c.args.buf.now c.args.name.now (c.is_bare.ensures.0 c.if-not-is_bare.false) (test_from_reads c.args.name.now (λ i. omega (arith, c.type_inv.name i)))
       (opened_whole c.args.buf.now c.requires.opens (omega (arith, c.if-buf-lt2.false)))
-      (λ k low lt ends. let ended = c.has_line_end.ensures.1 (k, low, lt, ends) in absurd (cc)) c.in-None.ensures,
+      (λ k low lt ends. let ended = c.has_line_end.ensures.1 (k, low, lt, ends) in absurd (cc)) c.in-None.ensures.next,
   λ reached. refl,
 )

@@ -5,7 +5,7 @@ use Rattle.infer_inside.proofs.script.next_program.Goals as goal
 pub loop-word-preserved : goal.loop-word-preserved
 loop-word-preserved c =
     let i = c.loop-word.invariant in
-    let w = c.in-Some.ensures in
+    let w = c.in-Some.ensures.next in
     let some = w.word.some in
     let low = w.low in (
       omega arith,

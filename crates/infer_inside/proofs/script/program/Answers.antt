@@ -7,7 +7,7 @@ pub returns-in_err-program_word-clause-found : goal.returns-in_err-program_word-
 returns-in_err-program_word-clause-found c =
     let b = c.args.buf.now in
     subst (λ r. MatchOption r ((n : List ℕ) → ¬ IsProgram n b) (λ name. IsProgram name.now b)) (sym c.from_residual.ensures)
-    (λ name (begins, (at, end, p, is)). c.in_err-program_word.ensures p.from p.to p.word)
+    (λ name (begins, (at, end, p, is)). c.in_err-program_word.ensures.names p.from p.to p.word)
 
 pub returns-clause-only : goal.returns-clause-only
 returns-clause-only c = λ n is. one_program c.args.buf.now n _ is c.bare_name.ensures

@@ -58,4 +58,4 @@ returns g c =
       | inr late ↦
           let same : q ≡ start + k = omega arith in
           let is = c.same_at.ensures.1 (subst (OccursAt b text) same w.stands) in absurd (cc)
-    ]) _ c.find_from.ensures
+    ]) _ c.find_later.ensures

@@ -1,4 +1,4 @@
-use Rattle.std.proofs.Common.{◌≡◌, ◌<◌, ◌≤◌, get_or, length, refl, arith}
+use Rattle.std.proofs.Common.{◌≡◌, get_or, refl, arith}
 use Rattle.infer_inside.proofs.OpenTarLemmas.{short_reached, whole_reached, zero_never}
 use Rattle.infer_inside.proofs.tar.may_have_tar_checksum.Goals as goal
 
