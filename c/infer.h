@@ -2,7 +2,7 @@
  *
  * Hand over 8192 bytes, or all if there are fewer: that labels most files. More is never wrong: a call looks only at
  * bytes that decide, so a file that is mapped into memory may be handed over whole. Some old Office files are
- * recognised only so: of 14 real ones 5 at 8192 bytes, 11 at 65536 and 12 whole.
+ * recognised only so.
  *
  * Allow by the answer: by infer_position or infer_verdict, and then by the row's MIME type. infer_is, infer_is_mime
  * and the class tests ask whether SOME row accepts, which need not be the answer: infer_is(buf, len, "pdf", 3) is true
@@ -76,7 +76,7 @@ int32_t infer_position_counted(const void *buf, size_t len, uint32_t *asked);
 int32_t infer_more_position(const void *buf, size_t len);
 
 /* Whether the signature of that one row accepts the buffer; false if there is no such row. A buffer can fit several
- * rows: of 1,258 real files 82 did. The parent of a further row is not asked. */
+ * rows, and some real files do. The parent of a further row is not asked. */
 bool infer_accepts(const void *buf, size_t len, int32_t row);
 
 /* Whether no bytes that may follow can change the answer, told exactly: false means that some change it. It is true of
@@ -130,9 +130,9 @@ void infer_find_extension(int32_t row, struct infer_text *out);
 void infer_find_class_name(int32_t class_code, struct infer_text *out);
 
 /* The length of the row's sample, a short buffer whose answer is this row, or whose wider answer is if it is a further
- * one. It is 0 if the row has none or there is no such row. The sample is written to `out`, with no zero after it, if
- * `size` bytes are room for all of it, and otherwise nothing is written. INFER_SAMPLE_SIZE bytes are always enough, and with `size` 0 `out` may be
- * null. */
+ * one. It is 0 if the row is never the answer or there is no such row. The sample is written to `out`, with no zero after
+ * it, if `size` bytes are room for all of it, and otherwise nothing is written. INFER_SAMPLE_SIZE bytes are always enough,
+ * and with `size` 0 `out` may be null. */
 #define INFER_SAMPLE_SIZE 1088
 size_t infer_sample(int32_t row, void *out, size_t size);
 

@@ -243,7 +243,7 @@ static void samples(void) {
     for (int32_t row = 0; row <= last_of_all(); row++) {
         memset(out, '.', sizeof out);
         size_t len = infer_sample(row, out, INFER_SAMPLE_SIZE);
-        none += row <= last() && len == 0;
+        none += len == 0;
         wrong += len != 0 && answer(row, out, len) != row;
         wrong += out[len] != '.';
         if (len == 0) continue;
@@ -251,7 +251,7 @@ static void samples(void) {
         wrong += infer_sample(row, out, len - 1) != len || out[0] != '.';
         wrong += infer_sample(row, out, len) != len || answer(row, out, len) != row || out[len] != '.';
     }
-    same("built-in rows with no sample", none, 2);
+    same("rows with no sample", none, 2);
     same("samples of another row", wrong, 0);
     same("sample", (long)infer_sample(jpeg(), out, sizeof out), 3);
     same("its bytes", memcmp(out, "\xFF\xD8\xFF", 3), 0);

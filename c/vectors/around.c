@@ -84,6 +84,6 @@ void ask_around_samples(struct tally *tally, const int32_t *parents) {
     struct asker asker = {.tally = tally, .parents = parents};
     for (asker.row = (int32_t)infer_row_count(); asker.row < (int32_t)infer_more_row_count(); asker.row++) {
         asker.len = infer_sample(asker.row, asker.sample, sizeof asker.sample);
-        if (asker.len) ask_sample(&asker);
+        ask_sample(&asker);
     }
 }

@@ -27,11 +27,11 @@ static int32_t parent_named(const char *extension) {
     return row;
 }
 
-/* No call tells a row's parent: it is the answer of the row's sample, if it has one. */
+/* No call tells a row's parent: it is the answer of the row's sample. */
 static void compare_parent(int32_t row, int32_t parent, const char *extension) {
     unsigned char sample[INFER_SAMPLE_SIZE];
     size_t len = infer_sample(row, sample, sizeof sample);
-    if (len) WANTS(&parents_of_samples, infer_position(sample, len) == parent, "row %d, %s", (int)row, extension);
+    WANTS(&parents_of_samples, infer_position(sample, len) == parent, "row %d, %s", (int)row, extension);
 }
 
 static void compare_rows(const struct table *table, int32_t *parents) {
@@ -62,19 +62,14 @@ static int32_t further_named(const struct table *told, const char *name) {
     return further(place);
 }
 
-/* Whether a line of this name has a shortest buffer of its row's first alternative, or of the only one. */
-static bool is_shortest(const char *name) {
-    const char *how = name + strcspn(name, ",");
-    static const char of[] = ", shortest of alternative ";
-    bool is_other = strncmp(how, of, sizeof of - 1) == 0 && strcmp(how + sizeof of - 1, "1") != 0;
-    return strncmp(how, ", shortest", 10) == 0 && !is_other;
-}
+/* Whether a line of this name has a shortest buffer of one of its row's alternatives. */
+static bool is_shortest(const char *name) { return strncmp(name + strcspn(name, ","), ", shortest", 10) == 0; }
 
-/* Whether the row's sample, if it has one, has at most so many bytes, and the row as its wider answer. */
+/* Whether the row's sample has at most so many bytes, and the row as its wider answer. */
 static bool has_sample(int32_t row, size_t most) {
     unsigned char sample[INFER_SAMPLE_SIZE];
     size_t len = infer_sample(row, sample, sizeof sample);
-    return len == 0 || (len <= most && infer_more_position(sample, len) == row);
+    return len <= most && infer_more_position(sample, len) == row;
 }
 
 /* What a wider answer shows. */
@@ -94,12 +89,16 @@ static bool is_wider(const struct buffer *it, const struct table *told, const ch
 
 static void compare_buffers(const struct table *table, const struct table *told) {
     static struct buffer buf;
+    int32_t row = -1;
     for (size_t i = 0; i < table->count; i++) {
         char **fields = table->lines[i].fields;
         decode(&buf, fields[1]);
         WANTS(&answers, is_wider(&buf, told, fields[2], fields[3]), "%s", fields[0]);
         if (!is_shortest(fields[0]) || strcmp(fields[2], "-") == 0) continue;
-        WANTS(&samples, has_sample(further_named(told, fields[2]), buf.len), "%s", fields[0]);
+        int32_t of = further_named(told, fields[2]);
+        /* The first alternative stands first, and the sample is of that. */
+        if (of != row) WANTS(&samples, has_sample(of, buf.len), "%s", fields[0]);
+        row = of;
     }
 }
 

@@ -61,10 +61,14 @@ module _ (by_place : ByPlace) (exclude : Deep.Apart) where
     (do apart ← takes (exclusion exclude s r.signature); proved (apart b accepted))
     negated (known by_place b r.signature)
 
-  abbrev pub known_first : (d : Row BuiltIn) (o : Option ℕ) (b : List ℕ) → Known (IsFirstOf (Accepts b) table o)
-  known_first d None b = none_accepts by_place b
-  known_first d (Some i) b = do
+  -- row i is first, as is known of a row that accepts the buffer
+  abbrev pub known_at : (d : Row BuiltIn) (i : ℕ) (b : List ℕ) → Known (Accepts b (get_or table i d)) → Known (IsFirstOf (Accepts b) table (Some i))
+  known_at d i b accepts = do
     within ← takes (at_most (suc i) (length table))
-    accepted ← takes (known by_place b (get_or table i d).signature)
+    accepted ← takes accepts
     before ← takes (each_before (lacks_row (get_or table i d).signature b accepted) table i (omega arith))
     proved (record { within = within; here = λ c. subst (Accepts b) (get_or_default table i d c within) accepted; before = before })
+
+  abbrev pub known_first : (d : Row BuiltIn) (o : Option ℕ) (b : List ℕ) → Known (IsFirstOf (Accepts b) table o)
+  known_first d None b = none_accepts by_place b
+  known_first d (Some i) b = known_at d i b (known by_place b (get_or table i d).signature)

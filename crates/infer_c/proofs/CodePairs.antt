@@ -27,7 +27,7 @@ unfolding shown table further
 triple_at_pair = (refl, λ e. absurd (cc))
 
 pub IsSample_pair : IsSample DLL None × (¬ IsSample PDF None)
-IsSample_pair = (inl refl, λ h. ⊎_elim (λ e. omega (arith, e)) (λ i. ⊎_elim (λ e. omega (arith, e)) (λ j. omega (arith, j.0)) i) h)
+IsSample_pair = (inl refl, λ h. ⊎_elim (λ e. omega (arith, e)) (λ i. ⊎_elim (λ e. omega (arith, e)) (λ j. omega (arith, j)) i) h)
 
 pub IsSampleOf_pair : IsSampleOf (negsuc 0) None × (¬ IsSampleOf (negsuc 0) (Some []))
 IsSampleOf_pair = (refl, λ e. absurd (cc))

@@ -22,8 +22,8 @@ ghost use Rattle.infer_more.specs.Decided as wider;
 ghost use Rattle.infer_more.specs.Ended.{ended};
 ghost use Rattle.infer_more.specs.Wider.{IsWider, shown};
 ghost use Rattle.infer.specs.Triple.{Triple};
-ghost use Rattle.infer_types.specs.Line.{Row};
-ghost use Rattle.infer_types.specs.Text.{IsTypesAnswer, lines_before_mistake, lines_of, rows_of};
+ghost use Rattle.infer_more.specs.Line.{Row};
+ghost use Rattle.infer_more.specs.Text.{IsTypesAnswer, lines_before_mistake, lines_of, rows_of};
 ghost use Rattle.infer_c.specs.Written.{WritesText, WritesWhole};
 
 mod class;
@@ -244,7 +244,8 @@ pub extern "C" fn infer_encoding(buf: &[u8], out: &mut [u8]) -> usize
     }
 }
 
-/// The length of the row's sample, which is written to `out` if it fits, and 0 if the row has none. It is at most 1088.
+/// The length of the row's sample, which is written to `out` if it fits, and 0 if the row is never the answer or there is
+/// no such row. It is at most 1088.
 #[unsafe(no_mangle)]
 pub extern "C" fn infer_sample(row: i32, out: &mut [u8]) -> usize
     ensures sample { (sample : Option (List ℕ)) × IsSampleOf row sample
@@ -281,7 +282,7 @@ pub extern "C" fn infer_types_check(
     ensures written { (words : List ℕ) × (result ≡ length words) × WritesText words reason.old reason.new }
     ensures few { result ≤ 73 }
 {
-    match infer_types::Types::new(text) {
+    match infer_more::types::check(text) {
         Ok(_) => {
             *line = 0;
             *column = 0;
@@ -311,7 +312,7 @@ pub extern "C" fn infer_types_get(
         × WritesText (option_map_or (λ t. t.mime_type) t []) mime_type.old mime_type.new
         × WritesText (option_map_or (λ t. t.extension) t []) extension.old extension.new }
 {
-    match infer_types::get(text, buf) {
+    match infer_more::types::get(text, buf) {
         Some(found) => {
             written::write_text(found.mime_type(), mime_type);
             written::write_text(found.extension(), extension);

@@ -5,7 +5,7 @@ use Rattle.std.proofs.lemmas.Bool.{cases_lt}
 use denote.Ref.{Bor}
 use Rattle.infer_inside.specs.Script.{IsProgram}
 use Rattle.infer_more.specs.Listed.{FitsAt, signature_listed}
-use Rattle.infer_more.specs.Signature.{Accepted, IsProgramAmong}
+use Rattle.infer_notation.specs.Alternative.{Accepted, IsProgramAmong}
 use Rattle.infer_inside.specs.Zip.{IsOneOf}
 use Rattle.infer_more.specs.declared.signature.Alternative.{Alternative}
 

@@ -19,7 +19,7 @@ use Rattle.infer.proofs.TableLemmas.{length-table}
 use Rattle.infer_more.specs.Decided.{IsChangeable, IsDecided, IsUnstable, IsWidenedForGood, IsWideningOpen, MayWiden}
 use Rattle.infer_more.specs.Laws.{built_in_by}
 use Rattle.infer_more.specs.Row.{Further}
-use Rattle.infer_more.specs.Signature.{Accepted}
+use Rattle.infer_notation.specs.Alternative.{Accepted}
 use Rattle.infer_more.specs.Table.{further}
 use Rattle.infer_more.specs.Wider.{IsWider, Widens, wider}
 use Rattle.infer_more.proofs.BelowLemmas.{all_below}

@@ -1,7 +1,7 @@
 -- What a computation says of whether a buffer fits an alternative: that it does, as the sample of one does, by places that
 -- are tried; or that it does not, by its outline.
-use Rattle.std.proofs.Common.{◌≡◌, ◌≢◌, inl, inr, ℕ, zero, suc, ◌+◌, ◌-◌, ◌*◌, ◌<◌, Bool, true, false, IsTrue, List, [], ◌∷◌, codes, length, nat_le, refl, subst, arith}
-use Rattle.std.specs.Prelude.{◌&&◌, ◌||◌, ◌==◌, not, slice_index}
+use Rattle.std.proofs.Common.{◌≡◌, ◌≢◌, ◌⊎◌, ◌≤◌, inl, inr, ℕ, zero, suc, ◌+◌, ◌-◌, ◌*◌, ◌<◌, Bool, true, false, IsTrue, List, [], ◌∷◌, None, codes, drop, get_or-drop, length, nat_le, refl, subst, sym, arith}
+use Rattle.std.specs.Prelude.{◌&&◌, ◌||◌, ◌==◌, if◌then◌else◌, not, slice_index, slice_range}
 use Rattle.std.specs.List.{list_any}
 use Rattle.std.proofs.lemmas.Bool.{cases_lt}
 use Rattle.std.proofs.lemmas.Bool.Decides.{nat_tests}
@@ -12,21 +12,25 @@ use Rattle.infer_inside.specs.Dbase.{IsDbase, behind, versions}
 use Rattle.infer_inside.specs.Elf.{IsSharedObject}
 use Rattle.infer_inside.specs.Laws as Inside
 use Rattle.infer_inside.specs.Laws.{HasBracket, OpensElement}
-use Rattle.infer_inside.specs.Markup.{BeginsElement, HasRoot, IsXmlSpace}
+use Rattle.infer_inside.specs.Json as Json
+use Rattle.infer_inside.specs.Json.{CanBe, IsJson, IsJsonLines, Stands, Symbol}
+use Rattle.infer_inside.specs.Markup.{BeginsElement, HasRoot, HasRootWith, IsEnclosed, IsNameByte, IsRootElement, IsXmlSpace, LeadsToTag, OpensTag, later, utf8_mark}
+use Rattle.infer_inside.specs.Markup as Markup
 use Rattle.infer_inside.specs.Numbers.{be16}
 use Rattle.infer_inside.specs.Png.{here}
+use Rattle.infer_inside.specs.Script.{IsEnv, IsFirstWord, IsProgram, IsWord, IsWordByte}
 use Rattle.infer_inside.specs.Subtitles.{IsDigit, IsPairAt, IsSubRip, IsTime}
 use Rattle.infer_inside.specs.Tar.{HasTarChecksum, IsOctal, header_sum, octal}
 use Rattle.infer_inside.specs.Text.{IsBinary, IsDataByte, IsText}
 use Rattle.infer_inside.specs.Tiff.{HasTag}
 use Rattle.infer_inside.specs.Zip.{HasFirstName, IsFolderEntry, IsPackageWith}
 use Rattle.infer_sig.specs.Signature.{accepts, fits}
-use Rattle.infer.proofs.KnownLemmas.{Known, proved, refuted, unknown, at_most, both, either, is, negated, proved_if, refuted_if, needs, same, takes, ◌>>=◌, ◌>>◌}
+use Rattle.infer.proofs.KnownLemmas.{Known, proved, refuted, at_most, both, either, is, negated, proved_if, refuted_if, needs, same, same_text, takes, ◌>>=◌, ◌>>◌}
 use Rattle.infer.proofs.DecisionLemmas.{known_class}
-use Rattle.infer.proofs.PlaceLemmas.{ByPlace, occurs}
+use Rattle.infer.proofs.PlaceLemmas.{ByPlace, lacked, lacks, occurs}
 use Rattle.infer_more.specs.Index.{is_plain}
 use Rattle.infer_more.specs.Outline.{lines}
-use Rattle.infer_more.specs.Signature.{Accepted, Alternative, Fits, animated, binary_bytes, bytes, class_id, dbase, directory_tag, first_entry_ends_in, first_entry_has_extra, first_entry_is, package_with, plain_text, png_header, shared_object, subrip, tar_checksum, program, root, root_with, json_lines, json_text}
+use Rattle.infer_notation.specs.Alternative.{Accepted, Alternative, Fits, IsProgramAmong, animated, binary_bytes, bytes, class_id, dbase, directory_tag, first_entry_ends_in, first_entry_has_extra, first_entry_is, package_with, plain_text, png_header, shared_object, subrip, tar_checksum, program, root, root_with, json_lines, json_text}
 use Rattle.infer_more.proofs.IndexLemmas as test
 use Rattle.infer_more.proofs.OutlineLemmas.{has_lines}
 use Rattle.infer_more.proofs.RefusalLemmas.{clash}
@@ -109,9 +113,94 @@ no_bracket [] h (k, is) = grind arith
 no_bracket (x ∷ b) h (zero, is) = let none = (neither (is_bracket x) (list_any is_bracket b) h).0 in grind (arith, nat_tests)
 no_bracket (x ∷ b) h (suc k, is) = no_bracket b (neither (is_bracket x) (list_any is_bracket b) h).1 (k, is)
 
+-- an array, and one with the next on a new line, which has begun
+abbrev array : List ℕ
+array = 0x5B ∷ 0x5D ∷ []
+
+abbrev two_lines : List ℕ
+two_lines = 0x5B ∷ 0x5D ∷ 0x0A ∷ 0x5B ∷ []
+
+array_stands : {ss : List Symbol} {v : List ℕ} → Stands ss v → Stands (Json.text ∷ ss) (0x5B ∷ 0x5D ∷ v)
+array_stands rest =
+    Json.by_rule (Json.byte 0x5B ∷ Json.blanks ∷ Json.items 127 ∷ []) (inl refl)
+    (Json.one (omega arith) (omega arith)
+    (Json.by_rule [] (inl refl) (Json.by_rule (Json.byte 0x5D ∷ []) (inl refl) (Json.one (omega arith) (omega arith) rest))))
+
+array_can_be : CanBe (Json.blanks ∷ Json.text ∷ Json.blanks ∷ []) array
+array_can_be = ([], Json.by_rule [] (inl refl) (array_stands (Json.by_rule [] (inl refl) Json.nothing)))
+
+pub array_is_json : IsJson array
+array_is_json = inl (inl (inl refl, inl (inl (inr (inl refl)))), array_can_be)
+
+pub array_is_no_lines : ¬ IsJsonLines array
+array_is_no_lines (inl lines) = lines.1 array_can_be
+array_is_no_lines (inr (w, e, lines)) = absurd (cc)
+
+pub are_lines : Inside.Single → IsJsonLines two_lines
+are_lines single = inl (
+  (
+    codes "]",
+    Json.by_rule [] (inl refl)
+        (array_stands
+        (Json.by_rule (Json.byte 0x0A ∷ Json.next_line ∷ []) (inr (inr (inr (inr (inl refl)))))
+        (Json.one (omega arith) (omega arith)
+        (Json.by_rule (Json.text ∷ Json.same_line ∷ []) (inr (inr (inr (inr (inr (inl refl))))))
+        (array_stands (Json.by_rule [] (inl refl) Json.nothing)))))),
+  ),
+  single.json (0x5B ∷ []) [],
+)
+
+-- ---- letters
+
+abbrev is_letter : ℕ → Bool
+is_letter x = (nat_le 0x41 x && nat_le x 0x5A) || (nat_le 0x61 x && nat_le x 0x7A)
+
+-- how many stand first
+abbrev letters : List ℕ → ℕ
+letters [] = 0
+letters (x ∷ b) = if is_letter x then suc (letters b) else 0
+
+letter_first : (r : Bool) (x : ℕ) (b : List ℕ) (n k : ℕ) → is_letter x ≡ r → ((k : ℕ) → k < n → IsTrue (is_letter (slice_index b k))) → k < (if r then suc n else 0)
+    → IsTrue (is_letter (slice_index (x ∷ b) k))
+letter_first true x b n zero e rest lt = e
+letter_first true x b n (suc k) e rest lt = rest k (omega arith)
+letter_first false x b n k e rest lt = absurd (omega arith)
+
+letters_read : (b : List ℕ) (k : ℕ) → k < letters b → IsTrue (is_letter (slice_index b k))
+letters_read [] k lt = absurd (omega arith)
+letters_read (x ∷ b) k lt = letter_first (is_letter x) x b (letters b) k refl (letters_read b) lt
+
+-- letters stand from p up to q
+abbrev Letters : List ℕ → ℕ → ℕ → Type 0
+Letters b p q = (k : ℕ) → p ≤ k → k < q → IsTrue (is_letter (slice_index b k))
+
+pub letters_from : (b : List ℕ) (p : ℕ) → Letters b p (p + letters (drop p b))
+letters_from b p k low high =
+    let at : p + (k - p) ≡ k = omega arith in
+    subst (λ i. IsTrue (is_letter (slice_index b i))) at
+    (subst (λ x. IsTrue (is_letter x)) (get_or-drop p b (k - p) 0) (letters_read (drop p b) (k - p) (omega arith)))
+
+-- a word can have them, and an element's name
+word_letter : (x : ℕ) → IsTrue (is_letter x) → IsWordByte x
+word_letter x h = (λ e. grind (arith, nat_tests), λ e. grind (arith, nat_tests), λ e. grind (arith, nat_tests), λ e. grind (arith, nat_tests))
+
+name_letter : (x : ℕ) → IsTrue (is_letter x) → IsNameByte x
+name_letter x h = ((λ space. grind (arith, nat_tests), λ e. grind (arith, nat_tests)), λ e. grind (arith, nat_tests))
+
+-- no ">" stands there
+pub unclosed : (t : List ℕ) → IsTrue (not (list_any (λ x. x == 0x3E) t)) → (k : ℕ) → slice_index t k ≢ 0x3E
+unclosed [] h k e = omega arith
+unclosed (x ∷ t) h zero e = let none = (neither (x == 0x3E) (list_any (λ y. y == 0x3E) t) h).0 in grind (arith, nat_tests)
+unclosed (x ∷ t) h (suc k) e = unclosed t (neither (x == 0x3E) (list_any (λ y. y == 0x3E) t) h).1 k e
+
+-- where the first ">" ends
+abbrev closed : List ℕ → ℕ
+closed [] = 0
+closed (x ∷ b) = if x == 0x3E then 1 else suc (closed b)
+
 -- ---- at the places of a sample
 
-module _ (by_place : ByPlace) (inside : Inside.Leads) (b : List ℕ) where
+module _ (by_place : ByPlace) (inside : Inside.Leads) (single : Inside.Single) (b : List ℕ) where
   abbrev first_name : Known (HasFirstName b)
   first_name = do
     long ← takes (at_most 30 (length b))
@@ -288,6 +377,163 @@ module _ (by_place : ByPlace) (inside : Inside.Leads) (b : List ℕ) where
     ]
   ]
 
+  -- letters up to `to` name a program
+  pub is_program : (to : ℕ) → OccursAt b (codes "#!") 0 → Letters b 2 to → 2 < to → to < length b → slice_index b to ≡ 0x0A → ¬ OccursAt b (codes "env") 2
+      → IsProgram (slice_range b 2 to) b
+  is_program to opens letters some whole ends other =
+      let word : IsWord b 2 to = record {
+        low = omega arith;
+        line = λ k low lt is. omega arith;
+        begins = λ lt. absurd (omega arith);
+        some = some;
+        run = record {
+          order = omega arith;
+          bytes = λ k low high. word_letter (slice_index b k) (letters k low high);
+          whole = whole;
+          ends = λ is. is.2 ends;
+        };
+      } in
+      let no_slash : (k : ℕ) → 2 ≤ k → k < to → slice_index b k ≢ 0x2F = λ k low high e. (let letter = letters k low high in grind (arith, nat_tests)) in
+      let first : IsFirstWord b 2 to = record { word = word; low = omega arith; has = tt; before = λ p q low lt. absurd (omega arith) } in
+      let not_env : ¬ IsEnv b 2 to = λ (at, name, o, e). elim (cases_lt 2 at) [
+        | inl lt ↦ let high = name.high in no_slash (at - 1) (omega arith) (omega arith) (name.begins lt)
+        | inr le ↦ let low = name.low in let same : at ≡ 2 = omega arith in other (subst (OccursAt b (codes "env")) same o)
+      ] in (
+        opens,
+        (
+          2,
+          to,
+          record {
+            from = 2;
+            to = to;
+            word = inl (first, not_env);
+            name = record { low = omega arith; high = omega arith; begins = λ lt. absurd (omega arith); last = no_slash };
+            bare = record {
+              low = omega arith;
+              high = omega arith;
+              dropped = λ k low lt. absurd (omega arith);
+              kept = λ lt is. let letter = letters (to - 1) (omega arith) (omega arith) in grind (arith, nat_tests);
+            };
+          },
+          refl,
+        ),
+      )
+
+  -- the program of a line of "#!" and letters
+  abbrev line_end : ℕ
+  line_end = 2 + letters (drop 2 b)
+
+  abbrev own_program : Known (IsProgram (slice_range b 2 line_end) b)
+  own_program = do
+    opens ← takes (occurs by_place (codes "#!") b 0)
+    some ← takes (at_most 3 line_end)
+    whole ← takes (at_most (suc line_end) (length b))
+    ends ← takes (same (slice_index b line_end) 0x0A)
+    other ← takes (negated (occurs by_place (codes "env") b 2))
+    proved (is_program line_end opens (letters_from b 2) (omega arith) (omega arith) ends other)
+
+  abbrev named_so : (name : List ℕ) → Known (IsProgram name b)
+  named_so name = do
+    own ← takes own_program
+    equal ← needs (same_text name (slice_range b 2 line_end)) (λ is. single.program b name (slice_range b 2 line_end) is own)
+    proved (subst (λ n. IsProgram n b) (sym equal) own)
+
+  abbrev named : (names : List (List ℕ)) → Known (IsProgramAmong names b)
+  named [] = refuted (λ h. h)
+  named (name ∷ names) = either (named_so name) (named names)
+
+  -- an instruction or a comment stands first
+  abbrev enclosed : (opening closing : List ℕ) (q : ℕ) → Known (IsEnclosed b opening closing 0 q)
+  enclosed opening closing q = do
+    opens ← takes (occurs by_place opening b 0)
+    stands ← takes (occurs by_place closing b (q - length closing))
+    low ← takes (at_most (length opening) (q - length closing))
+    none ← takes (is (lacks (length opening) (q - length closing) closing b))
+    long ← takes (at_most (length closing) q)
+    proved (
+      opens,
+      (
+        q - length closing,
+        record {
+          here = record { stands = stands; low = omega arith; high = stands.fits };
+          before = λ r lt w. let from = w.low in lacked by_place closing b (length opening) (q - length closing) r (omega arith) lt none w.stands;
+        },
+        omega arith,
+      ),
+    )
+
+  abbrev prolog_to : (p : ℕ) → Known ((p ≡ 0) ⊎ (IsEnclosed b (codes "<?") (codes "?>") 0 p ⊎ IsEnclosed b (codes "<!--") (codes "-->") 0 p))
+  prolog_to p = either (same p 0) (either (enclosed (codes "<?") (codes "?>") p) (enclosed (codes "<!--") (codes "-->") p))
+
+  -- behind it letters name a root element
+  pub is_root : (p to : ℕ) → ¬ OccursAt b utf8_mark 0 → (p ≡ 0) ⊎ (IsEnclosed b (codes "<?") (codes "?>") 0 p ⊎ IsEnclosed b (codes "<!--") (codes "-->") 0 p)
+      → slice_index b p ≡ 0x3C → Letters b (p + 1) to → p + 1 < to → to < length b → (slice_index b to ≡ 0x3E) ⊎ (slice_index b to ≡ 0x20)
+      → IsRootElement (slice_range b (p + 1) to) (drop to b) b
+  is_root p to unmarked prolog opens letters some whole ends =
+      let first = letters (p + 1) (omega arith) some in
+      let tag : OpensTag b (p + 1) to p None = record {
+        opens = opens;
+        name = record {
+          order = omega arith;
+          bytes = λ k low high. name_letter (slice_index b k) (letters k low high);
+          whole = whole;
+          ends = λ is. elim ends [ inl e ↦ is.0.1 e | inr e ↦ is.0.0 (inr (inr (inr e))) ];
+        };
+        begins = (λ e. grind (arith, nat_tests), λ e. grind (arith, nat_tests));
+        local = record {
+          low = omega arith;
+          high = omega arith;
+          begins = λ lt. absurd (omega arith);
+          last = λ k low high e. let letter = letters k low high in grind (arith, nat_tests);
+        };
+        some = some;
+        agrees = tt;
+      } in
+      let leads : LeadsToTag b (p + 1) to 0 None = elim prolog [
+        | inl e ↦ subst (λ q. LeadsToTag b (p + 1) to q None) e (Markup.here p None tag)
+        | inr part ↦ later 0 None p None (inl (inr part, refl)) (Markup.here p None tag)
+      ] in
+      (0, p + 1, to, inr (unmarked, refl), leads, refl, refl)
+
+  -- where the root's tag opens: behind the ">" of an instruction or a comment, or at 0
+  abbrev opening : ℕ
+  opening = if slice_index b 1 == 0x21 || slice_index b 1 == 0x3F then closed b else 0
+
+  -- and where its name ends
+  abbrev name_end : ℕ
+  name_end = opening + 1 + letters (drop (opening + 1) b)
+
+  abbrev own_root : Known (IsRootElement (slice_range b (opening + 1) name_end) (drop name_end b) b)
+  own_root = do
+    unmarked ← takes (negated (occurs by_place utf8_mark b 0))
+    prolog ← takes (prolog_to opening)
+    opens ← takes (same (slice_index b opening) 0x3C)
+    some ← takes (at_most (opening + 2) name_end)
+    whole ← takes (at_most (suc name_end) (length b))
+    ends ← takes (either (same (slice_index b name_end) 0x3E) (same (slice_index b name_end) 0x20))
+    proved (is_root opening name_end unmarked prolog opens (letters_from b (opening + 1)) (omega arith) (omega arith) ends)
+
+  -- the same, by a name
+  abbrev rooted_so : (name : List ℕ) → Known (IsRootElement name (drop name_end b) b)
+  rooted_so name = do
+    own ← takes own_root
+    equal ← needs (same_text name (slice_range b (opening + 1) name_end)) (λ is. (single.root b name (drop name_end b) (slice_range b (opening + 1) name_end) (drop name_end b) is own).0)
+    proved (subst (λ n. IsRootElement n (drop name_end b) b) (sym equal) own)
+
+  abbrev root_named : (name : List ℕ) → Known (HasRoot name b)
+  root_named name = do
+    own ← takes own_root
+    named ← needs (rooted_so name) (λ h. let equal = single.root b name h.0 (slice_range b (opening + 1) name_end) (drop name_end b) h.1 own in subst (λ r. IsRootElement name r b) equal.1 h.1)
+    proved (drop name_end b, named)
+
+  abbrev root_named_with : (name t : List ℕ) → Known (HasRootWith name t b)
+  root_named_with name t = do
+    rooted ← needs (root_named name) (inside.root_with name t b)
+    own ← takes (rooted_so name)
+    stands ← takes (occurs by_place t (drop name_end b) 1)
+    clear ← takes (proved_if (not (list_any (λ x. x == 0x3E) (drop name_end b))) (unclosed (drop name_end b)))
+    proved (drop name_end b, own, (1, stands, λ k lt. clear k))
+
   abbrev fitting : (a : Alternative) → Known (Fits a b)
   fitting (bytes a) = is (fits b a)
   fitting (binary_bytes a) = both (is (fits b a)) (proved_if (list_any is_data b) (has_data b))
@@ -316,11 +562,20 @@ module _ (by_place : ByPlace) (inside : Inside.Leads) (b : List ℕ) where
   fitting subrip = cue
   fitting dbase = table_known
   fitting tar_checksum = checksum
-  fitting (program names) = unknown
-  fitting (root name) = refuted_if (opens_none b || (opens_other b && not (has_mark b))) (no_root name)
-  fitting (root_with name t) = refuted_if (opens_none b || (opens_other b && not (has_mark b))) (λ none h. no_root name none (inside.root_with name t b h))
-  fitting json_lines = refuted_if (not (list_any is_bracket b)) (λ none h. no_bracket b none (inside.json_lines b h).1)
-  fitting json_text = refuted_if (not (list_any is_bracket b)) (λ none h. no_bracket b none (inside.json b h).1)
+  fitting (program names) = named names
+  fitting (root name) = do
+    refuted_if (opens_none b || (opens_other b && not (has_mark b))) (no_root name)
+    root_named name
+  fitting (root_with name t) = do
+    refuted_if (opens_none b || (opens_other b && not (has_mark b))) (λ none h. no_root name none (inside.root_with name t b h))
+    root_named_with name t
+  fitting json_lines = do
+    refuted_if (not (list_any is_bracket b)) (λ none h. no_bracket b none (inside.json_lines b h).1)
+    (do equal ← takes (same_text b two_lines); proved (subst IsJsonLines (sym equal) (are_lines single)))
+    (do equal ← takes (same_text b array); refuted (subst (λ u. ¬ IsJsonLines u) (sym equal) array_is_no_lines))
+  fitting json_text = do
+    refuted_if (not (list_any is_bracket b)) (λ none h. no_bracket b none (inside.json b h).1)
+    (do equal ← takes (same_text b array); proved (subst IsJson (sym equal) array_is_json))
   fitting plain_text = plain
 
   -- it lacks the bytes of the outline

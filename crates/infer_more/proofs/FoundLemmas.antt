@@ -1,6 +1,6 @@
 -- By the index just those rows are found that widen an answer.
 use Rattle.std.proofs.Common.{◌≡◌, ◌↔◌, ℕ, zero, suc, ◌+◌, ◌<◌, ◌≤◌, ◌==◌, inl, inr, Bool, true, false, IsTrue, List, [], ◌∷◌, Option, None, Some, length, get_or, ap, sym, ◌∙◌, subst, arith, refl}
-use Rattle.std.specs.Prelude.{◌&&◌, ◌||◌, ◌++◌, slice_get, slice_index}
+use Rattle.std.specs.Prelude.{◌%◌, ◌&&◌, ◌||◌, ◌++◌, slice_get, slice_index}
 use Rattle.std.specs.Prelude.{nat_le}
 use Rattle.std.specs.List.{list_all, list_any}
 use Rattle.std.specs.Option.{option_map_or}
@@ -21,10 +21,10 @@ use Rattle.infer.specs.Buffer.{IsBuffer}
 use Rattle.infer.specs.First.{IsFirstOf}
 use Rattle.infer.specs.Walks.{is_listed}
 use Rattle.infer.proofs.TestLemmas.{NoneRefused, passed}
-use Rattle.infer_more.specs.Index.{AllApplications, EachBelowIsFound, EachFreeIsFound, EachIsFound, FindsAll, HasTagText, IsFoundBelow, IsFoundFree, IsLeast, IsNamed, IsRootedBy, IsRooted, IsRowOf, IsTextRow, IsTried, MayOpenMarkup, are_rooted, are_texts, are_true, ascends, asks_folder, asks_program, asks_root, below_at, candidates, excepted, has_named, has_rooted, is_application, is_child, is_covered, is_excepted, is_found_below, is_found_free, is_in_folders, is_in_programs, is_in_roots, is_json, is_lines, is_plain, is_row_below, is_row_below_found, is_row_free, is_row_free_found, is_row_with, is_text_row, is_tried_below, is_tried_in, is_tried_parentless, is_true_below, named_row, rooted_row, same, same_text, tried_parentless}
+use Rattle.infer_more.specs.Index.{AllApplications, EachBelowIsFound, EachFreeIsFound, EachIsFound, FindsAll, HasTagText, IsFoundBelow, IsFoundFree, IsLeast, IsNamed, IsOfProgram, IsRootedBy, IsRooted, IsRowOf, IsTextRow, IsTried, MayOpenMarkup, are_rooted, are_texts, are_true, ascends, asks_folder, asks_program, asks_root, below_at, candidates, excepted, has_named, has_rooted, is_application, is_child, is_covered, is_excepted, is_found_below, is_found_free, is_in_folders, is_in_programs, is_in_roots, is_json, is_lines, is_plain, is_row_below, is_row_below_found, is_row_free, is_row_free_found, is_row_with, is_text_row, is_tried_below, is_tried_in, is_tried_parentless, is_true_below, named_row, names_at, names_like, rooted_row, same, same_text, tried_parentless}
 use Rattle.infer_more.specs.Outline.{lines}
 use Rattle.infer_more.specs.Row.{Further}
-use Rattle.infer_more.specs.Signature.{Accepted, Alternative, Fits, IsProgramAmong, json_lines, json_text, package_with, plain_text, program, root, root_with}
+use Rattle.infer_notation.specs.Alternative.{Accepted, Alternative, Fits, IsProgramAmong, json_lines, json_text, package_with, plain_text, program, root, root_with}
 use Rattle.infer_more.specs.Table.{further}
 use Rattle.infer_more.specs.Wider.{Widens, WidensAt}
 use Rattle.infer_more.specs.declared.index.Below as below
@@ -61,11 +61,22 @@ listed_name P i (e ∷ names) name h p = elim (either (e.row == i && same e.name
   | inr later ↦ inr (listed_name P i names name later p)
 ]
 
-listed_program : (b : List ℕ) (i : ℕ) (names : List Named) (others : List (List ℕ)) → IsTrue (list_all (has_named i names) others) → IsProgramAmong others b
-    → IsNamed (λ name. IsProgram name b) names i
-listed_program b i names [] h p = absurd (p)
-listed_program b i names (name ∷ others) h (inl p) = listed_name (λ n. IsProgram n b) i names name (both_left (has_named i names name) _ h) p
-listed_program b i names (name ∷ others) h (inr p) = listed_program b i names others (both_right (has_named i names name) _ h) p
+listed_program : (b : List ℕ) (i : ℕ) (lists : List (Bor (List Named))) (names : List (List ℕ))
+    → IsTrue (list_all (λ name. has_named i (names_like lists name) name) names) → IsProgramAmong names b → IsOfProgram b lists i
+listed_program b i lists [] h p = absurd (p)
+listed_program b i lists (name ∷ names) h (inl p) =
+    (name, p, listed_name (λ n. n ≡ name) i (names_like lists name) name (both_left (has_named i (names_like lists name) name) _ h) refl)
+listed_program b i lists (name ∷ names) h (inr p) = listed_program b i lists names (both_right (has_named i (names_like lists name) name) _ h) p
+
+-- what each list has, that of a name has
+listed_at : (Q : List Named → Bool) → IsTrue (Q []) → (lists : List (Bor (List Named))) (i : ℕ) → IsTrue (list_all (λ names. Q names.now) lists) → IsTrue (Q (names_at lists i))
+listed_at Q none [] i h = none
+listed_at Q none (names ∷ lists) zero h = both_left (Q names.now) _ h
+listed_at Q none (names ∷ lists) (suc i) h = listed_at Q none lists i (both_right (Q names.now) _ h)
+
+pub listed_like : (Q : List Named → Bool) → IsTrue (Q []) → (lists : List (Bor (List Named))) (name : List ℕ) → IsTrue (list_all (λ names. Q names.now) lists) → IsTrue (Q (names_like lists name))
+listed_like Q none lists [] h = none
+listed_like Q none lists (x ∷ xs) h = listed_at Q none lists (x % 32) h
 
 -- the text, if there is one, stands in a tag of which this is the rest
 abbrev OwnText : List ℕ → Option (List ℕ) → Type 0
@@ -125,9 +136,9 @@ module _ (by_place : (place : ℕ) (t buf : List ℕ) → IsTrue (stands place t
       → IsTrue (is_listed (candidates b entries ++ excepted b excepts) i)
   tried_in entries excepts a h k = line_excepted entries excepts (lines a) h (has_lines by_place leads b a (λ plain. small) k)
 
-  in_programs : (names : List Named) (a : Alternative) → IsTrue (is_in_programs i names a) → Fits a b → IsNamed (λ name. IsProgram name b) names i
-  in_programs names (program others) h k = listed_program b i names others h k
-  in_programs names other h k = absurd (cc)
+  in_programs : (lists : List (Bor (List Named))) (a : Alternative) → IsTrue (is_in_programs i lists a) → Fits a b → IsOfProgram b lists i
+  in_programs lists (program names) h k = listed_program b i lists names h k
+  in_programs lists other h k = absurd (cc)
 
   in_roots : (roots : List Rooted) (a : Alternative) → IsTrue (is_in_roots i roots a) → Fits a b → IsRooted b roots i
   in_roots roots (root name) h (rest, element) = (name, rest, element, listed_root rest i roots name None h tt)
@@ -148,7 +159,7 @@ module _ (by_place : (place : ℕ) (t buf : List ℕ) → IsTrue (stands place t
     found_by : (way : below.Below) (a : Alternative) → IsTrue (is_found_below way i a) → Fits a b → IsFoundBelow way parent b i
     found_by Nothing a h k = absurd (cc)
     found_by (Entries entries) a h k = (tried entries.now a h k, w)
-    found_by (Programs names) a h k = in_programs names.now a h k
+    found_by (Programs lists) a h k = in_programs lists.now a h k
     found_by (Roots roots) a h k = in_roots roots.now a h k
     found_by (Packages entries excepts folders) a h k = elim (either (is_in_folders i folders.now a) _ h) [
       | inl e ↦ inr (in_folders folders.now a e k)
@@ -265,8 +276,10 @@ module _ (b : List ℕ) where
   widens_below : (parent : ℕ) (way : below.Below) (i : ℕ) → IsTrue (is_true_below parent way) → IsFoundBelow way parent b i → WidensAt (Some parent) b i
   widens_below parent Nothing i h is = absurd (is)
   widens_below parent (Entries entries) i h is = is.1
-  widens_below parent (Programs names) i h is =
-      rows_widen named_row (λ e. IsProgram e.name.now b) (λ e. asks_program e.name.now) (Some parent) b (λ e p. fits_program e.name.now p) names.now i (both_right (ascends named_row names.now) _ h) is
+  widens_below parent (Programs lists) i h (name, p, is) =
+      rows_widen named_row (λ e. e.name.now ≡ name) (λ e. asks_program e.name.now) (Some parent) b
+      (λ e same. fits_program e.name.now (subst (λ n. IsProgram n b) (sym same) p)) (names_like lists.now name) i
+      (listed_like (list_all (λ e. is_row_with (Some parent) (asks_program e.name.now) e.row)) refl lists.now name (both_right (list_all (λ names. ascends named_row names.now) lists.now) _ h)) is
   widens_below parent (Roots roots) i h is = widens_root (Some parent) roots.now i (both_right (ascends rooted_row roots.now) _ h) is
   widens_below parent (Packages entries excepts folders) i h (inl is) = is.1
   widens_below parent (Packages entries excepts folders) i h (inr is) =

@@ -25,7 +25,7 @@ use Rattle.infer_more.specs.Laws.{AllLast, IsLost, IsSteady, MayBeLost, NoneIsBl
 use Rattle.infer_more.specs.Index.{is_plain}
 use Rattle.infer_more.specs.Outline.{lines, outline}
 use Rattle.infer_more.specs.Row.{Further}
-use Rattle.infer_more.specs.Signature.{Accepted, Alternative, Fits, IsProgramAmong, animated, binary_bytes, bytes, class_id, dbase, directory_tag, first_entry_ends_in, first_entry_has_extra, first_entry_is, package_with, plain_text, png_header, shared_object, subrip, tar_checksum, program, root, root_with, json_lines, json_text}
+use Rattle.infer_notation.specs.Alternative.{Accepted, Alternative, Fits, IsProgramAmong, animated, binary_bytes, bytes, class_id, dbase, directory_tag, first_entry_ends_in, first_entry_has_extra, first_entry_is, package_with, plain_text, png_header, shared_object, subrip, tar_checksum, program, root, root_with, json_lines, json_text}
 use Rattle.infer_more.specs.Table.{further}
 use Rattle.infer_more.specs.Wider.{Widens}
 use Rattle.infer_more.proofs.IndexLemmas.{both_left, both_right, either, from_left, passes_part}

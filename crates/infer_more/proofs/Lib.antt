@@ -16,9 +16,15 @@ pub mod BelowLemmas
 pub mod RefusalLemmas
 pub mod SampleLemmas
 pub mod WrittenLemmas
+pub mod LineLemmas
+pub mod TextLemmas
+pub mod FieldLemmas
+pub mod NameLemmas
+pub mod EntryLemmas
 pub mod AddedLemmas
 pub mod SizeLemmas
 mod PiecePairs
 pub mod OpenLemmas
 pub mod LostLemmas
 pub mod DecidedLemmas
+pub mod DescribedLemmas

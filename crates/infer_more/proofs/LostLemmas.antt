@@ -5,7 +5,7 @@ use Rattle.infer_inside.specs.Laws.{Ends}
 use Rattle.infer_inside.proofs.CompleteLemmas.{completes}
 use Rattle.infer_inside.proofs.OpenJsonLemmas.{json_comes, lines_come}
 use Rattle.infer_more.specs.Laws.{IsLost, OthersAreLost}
-use Rattle.infer_more.specs.Signature.{json_lines, json_text, plain_text}
+use Rattle.infer_notation.specs.Alternative.{json_lines, json_text, plain_text}
 use Rattle.infer_more.proofs.LawLemmas.{text_lost}
 use Rattle.infer_more.proofs.OpenLemmas.{not_yet}
 

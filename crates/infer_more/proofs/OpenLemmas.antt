@@ -21,7 +21,7 @@ use Rattle.infer_sig.specs.Signature.{Bytes, Part, text, byte, allows, between, 
 use Rattle.infer_sig.proofs.PlaceLemmas.{stands_by_place}
 use Rattle.infer_more.specs.Laws.{AllLast, is_lasting}
 use Rattle.infer_more.specs.Listed.{alternative_listed, signature_listed}
-use Rattle.infer_more.specs.Signature.{Accepted, Fits, IsProgramAmong, png_header}
+use Rattle.infer_notation.specs.Alternative.{Accepted, Fits, IsProgramAmong, png_header}
 use Rattle.infer_more.specs.declared.signature.Alternative.{Alternative}
 use Rattle.infer_more.specs.declared.signature.Alternative.TheVariants.{JsonLines, JsonText, PlainText}
 

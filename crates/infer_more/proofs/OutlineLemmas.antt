@@ -21,7 +21,7 @@ use Rattle.infer_sig.specs.Signature.{at_least, Part, text, byte, all_but, any_o
 use Rattle.infer_sig.specs.Places.{StandsByPlace}
 use Rattle.infer.specs.Buffer.{IsBuffer}
 use Rattle.infer_more.specs.Outline.{counted, counted_for, digit_behind, digits_behind, json_outline, lines, markup_lines, named, outline}
-use Rattle.infer_more.specs.Signature.{Accepted, Alternative, Fits, IsProgramAmong, animated, binary_bytes, bytes, class_id, dbase, directory_tag, first_entry_ends_in, first_entry_has_extra, first_entry_is, package_with, plain_text, png_header, shared_object, subrip, tar_checksum, program, root, root_with, json_lines, json_text}
+use Rattle.infer_notation.specs.Alternative.{Accepted, Alternative, Fits, IsProgramAmong, animated, binary_bytes, bytes, class_id, dbase, directory_tag, first_entry_ends_in, first_entry_has_extra, first_entry_is, package_with, plain_text, png_header, shared_object, subrip, tar_checksum, program, root, root_with, json_lines, json_text}
 use Rattle.infer_inside.specs.JsonStates.{IsBracket}
 use Rattle.infer_inside.specs.Laws.{BeginsJson, BeginsMarkup, Leads}
 use Rattle.infer_more.specs.Index.{is_plain}

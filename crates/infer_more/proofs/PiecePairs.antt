@@ -1,5 +1,5 @@
 -- What a listed piece asks, and what it does not: computed here, since no other crate can name a piece.
-use Rattle.std.proofs.Common.{◌≡◌, List, [], ◌∷◌, refl, ap, arith}
+use Rattle.std.proofs.Common.{◌≡◌, [], ◌∷◌, refl}
 use Rattle.infer_sig.specs.Signature.{text}
 use Rattle.infer_more.specs.Listed.{part_listed}
 use Rattle.infer_more.specs.declared.signature.Piece.TheVariants.{Between}

@@ -1,25 +1,24 @@
--- What a computation says of buffers that a built-in signature refuses: by their first byte, their first white space, or
--- since they begin with no frame.
-use Rattle.std.proofs.Common.{◌≡◌, ◌≢◌, inl, inr, ℕ, suc, Bool, true, false, not, eqb, IsTrue, List, [], ◌∷◌, ◌++◌, get_or, length, le_refl, map, take, refl, ap, sym, subst, ◌∙◌, codes, arith}
+-- What a computation says of buffers that a built-in signature refuses: by their first byte, by what stands behind white
+-- space, or since they begin with no frame; and whether they are markup.
+use Rattle.std.proofs.Common.{◌≡◌, ◌⊎◌, ◌↔◌, inl, inr, ℕ, zero, suc, Bool, true, false, not, IsTrue, List, [], ◌∷◌, ◌++◌, get_or, length, le_refl, map, take, refl, ap, sym, subst, ◌∙◌, codes, arith}
 use Rattle.std.specs.Prelude.{Any, if◌then◌else◌}
 use Rattle.std.specs.Char.{to_ascii_lowercase}
-use Rattle.std.proofs.lemmas.Bool.{eq-eqb}
 use Rattle.std.proofs.lemmas.Bool.Decides.{nat_tests}
 use Rattle.infer_deep.specs.Find.{OccursAt}
 use Rattle.infer_deep.specs.Frames.{IsFrame}
 use Rattle.infer_deep.specs.Joined.{NoneBegins, SkipsTo}
-use Rattle.infer_deep.specs.Text.{IsHtml, IsMark, IsSpace, IsWhite, IsXml, tags_with}
+use Rattle.infer_deep.specs.Text.{BeginsInAnyCase, BeginsWithTag, IsHtml, IsMark, IsSpace, IsWhite, IsXml, tags}
 use Rattle.infer_deep.proofs.FrameLemmas.{IsFramed-left}
 use Rattle.infer_deep.proofs.JoinedLemmas.{SkipsTo-cons, SkipsTo-none}
 use Rattle.infer_deep.proofs.PlaceLemmas.{OccursAt-append}
-use Rattle.infer_deep.proofs.TextLemmas.{HasTag-open, HasTag-second, IsHtml-left, IsXml-lead, IsXml-left, IsXml-trimmed, front_in_any_case}
+use Rattle.infer_deep.proofs.TextLemmas.{IsHtml-left, IsXml-lead, IsXml-left, IsXml-trimmed, begins_in_any_case, front_in_any_case, tag_from_text, text_of_tag}
 use Rattle.infer.specs.BuiltIn.{BuiltIn, framed, html, xml, IsAccepted}
 use Rattle.infer.specs.First.{NoneHas}
 use Rattle.infer.specs.Leads.{Leads, allows_first, is_white}
 use Rattle.infer.specs.Row.{Accepts}
 use Rattle.infer.specs.Table.{table}
 use Rattle.infer.proofs.DecisionLemmas.{known}
-use Rattle.infer.proofs.KnownLemmas.{Known, proved, unknown, at_most, each_before, negated, proved_if, same, same_text, takes, ◌>>=◌, ◌>>◌}
+use Rattle.infer.proofs.KnownLemmas.{Known, proved, refuted, unknown, at_most, each_before, either, needs, negated, proved_if, refuted_if, same, same_text, takes, ◌>>=◌, ◌>>◌}
 use Rattle.infer.proofs.PlaceLemmas.{ByPlace, occurs}
 
 pub clash : (x : Bool) → IsTrue x → IsTrue (not x) → ⊥
@@ -42,7 +41,7 @@ skips_more : (x : ℕ) (b : List ℕ) (r : Bool) → is_white x ≡ r → SkipsT
 skips_more x b true e rest = SkipsTo-cons IsSpace (x ∷ b) b (past_white b) (record { word = x ∷ []; kind = (x, whites x e, refl); whole = refl }) rest
 skips_more x b false e rest = SkipsTo-none IsSpace (x ∷ b)
 
-white_skips : (b : List ℕ) → SkipsTo IsSpace b (past_white b)
+pub white_skips : (b : List ℕ) → SkipsTo IsSpace b (past_white b)
 white_skips [] = SkipsTo-none IsSpace []
 white_skips (x ∷ b) = skips_more x b (is_white x) refl (white_skips b)
 
@@ -53,44 +52,73 @@ none_more x b false e rest = λ word others (y, w, same_word) h.
     let is : is_white x ≡ true = white x (subst IsWhite (sym first) w) in
     cc
 
-none_white : (b : List ℕ) → NoneBegins IsSpace (past_white b)
+pub none_white : (b : List ℕ) → NoneBegins IsSpace (past_white b)
 none_white [] = λ word rest (y, w, e) h. cc
 none_white (x ∷ b) = none_more x b (is_white x) refl (none_white b)
 
+-- ---- markup
+
+-- one of a list has a property
+module _ {X : Type 0} {P : X → Type 0} where
+  pub any_from : (x : X) (xs : List X) → P x ⊎ Any P xs → Any P (x ∷ xs)
+  any_from x xs (inl p) = (0, x, omega arith, refl, p)
+  any_from x xs (inr (k, y, l, e, p)) = (suc k, y, omega (arith, l), e, p)
+
+  pub any_split : (x : X) (xs : List X) → Any P (x ∷ xs) → P x ⊎ Any P xs
+  any_split x xs (zero, y, l, e, p) = inl (subst P (sym e) p)
+  any_split x xs (suc k, y, l, e, p) = inr (k, y, omega (arith, l), e, p)
+
+  pub any_none : ¬ Any P []
+  any_none (k, x, l, e, p) = omega arith
+
+  abbrev known_any : (known : (x : X) → Known (P x)) (xs : List X) → Known (Any P xs)
+  known_any known [] = refuted any_none
+  known_any known (x ∷ xs) = do
+    some ← needs (either (known x) (known_any known xs)) (any_split x xs)
+    proved (any_from x xs some)
+
 module _ (b : List ℕ) where
-  pub no_tag_opens : get_or (past_white b) 0 0 ≢ 0x3C → ¬ IsHtml b
-  no_tag_opens differs h = differs (HasTag-open (past_white b) ((IsHtml-left b (past_white b) (white_skips b) (none_white b)).1 h))
+  abbrev left : List ℕ
+  left = past_white b
 
-  abbrev is_nil : List (List ℕ) → Bool
-  is_nil [] = true
-  is_nil (t ∷ ts) = false
+  abbrev begins_with : (t : List ℕ) → Known (map to_ascii_lowercase (take (length t) left) ≡ map to_ascii_lowercase t)
+  begins_with t = same_text (map to_ascii_lowercase (take (length t) left)) (map to_ascii_lowercase t)
 
-  no_element : (P : List ℕ → Type 0) (ts : List (List ℕ)) → IsTrue (is_nil ts) → ¬ Any P ts
-  no_element P [] e (k, t, l, same_text, h) = omega arith
-  no_element P (t ∷ ts) e h = absurd (cc)
+  abbrev has_tag : (tag : List ℕ) → Known (BeginsWithTag tag left)
+  has_tag tag = do
+    equal ← needs (begins_with tag) (λ h. front_in_any_case left tag (text_of_tag left tag h))
+    long ← takes (at_most (suc (length tag)) (length left))
+    closes ← takes (either (same (get_or left (length tag) 0) 0x20) (same (get_or left (length tag) 0) 0x3E))
+    proved (tag_from_text left tag long closes (begins_in_any_case left tag equal))
 
-  pub no_tag_goes_on : IsTrue (is_nil (tags_with (to_ascii_lowercase (get_or (past_white b) 1 0)))) → ¬ IsHtml b
-  no_tag_goes_on none h =
-      no_element _ _ none ((HasTag-second (past_white b)).1 ((IsHtml-left b (past_white b) (white_skips b) (none_white b)).1 h))
+  abbrev pub known_html : Known (IsHtml b)
+  known_html = do
+    tag ← needs (known_any has_tag tags) (IsHtml-left b left (white_skips b) (none_white b)).1
+    proved ((IsHtml-left b left (white_skips b) (none_white b)).0 tag)
 
-  pub no_xml_opens : IsTrue (not (allows_first xml (get_or (past_white b) 0 0))) → ¬ IsXml b
+  pub no_xml_opens : IsTrue (not (allows_first xml (get_or left 0 0))) → ¬ IsXml b
   no_xml_opens none h =
-      let byte = IsXml-lead (past_white b) ((IsXml-trimmed b (past_white b) (white_skips b) (none_white b)).1 h) in
-      let allowed : IsTrue (allows_first xml (get_or (past_white b) 0 0)) = grind (arith, nat_tests) in
+      let byte = IsXml-lead left ((IsXml-trimmed b left (white_skips b) (none_white b)).1 h) in
+      let allowed : IsTrue (allows_first xml (get_or left 0 0)) = grind (arith, nat_tests) in
       clash _ allowed none
 
-  no_mark : get_or (past_white b) 0 0 ≡ 0x3C → NoneBegins IsMark (past_white b)
+  no_mark : get_or left 0 0 ≡ 0x3C → NoneBegins IsMark left
   no_mark first word rest is e = elim is [
-    | inl w ↦ let byte : get_or (past_white b) 0 0 ≡ 0xEF = ap (λ u. get_or u 0 0) (e ∙ ap (λ u. u ++ rest) w) in absurd (omega arith)
-    | inr (inl w) ↦ let byte : get_or (past_white b) 0 0 ≡ 0xFE = ap (λ u. get_or u 0 0) (e ∙ ap (λ u. u ++ rest) w) in absurd (omega arith)
-    | inr (inr w) ↦ let byte : get_or (past_white b) 0 0 ≡ 0xFF = ap (λ u. get_or u 0 0) (e ∙ ap (λ u. u ++ rest) w) in absurd (omega arith)
+    | inl w ↦ let byte : get_or left 0 0 ≡ 0xEF = ap (λ u. get_or u 0 0) (e ∙ ap (λ u. u ++ rest) w) in absurd (omega arith)
+    | inr (inl w) ↦ let byte : get_or left 0 0 ≡ 0xFE = ap (λ u. get_or u 0 0) (e ∙ ap (λ u. u ++ rest) w) in absurd (omega arith)
+    | inr (inr w) ↦ let byte : get_or left 0 0 ≡ 0xFF = ap (λ u. get_or u 0 0) (e ∙ ap (λ u. u ++ rest) w) in absurd (omega arith)
   ]
 
-  pub no_xml_goes_on : get_or (past_white b) 0 0 ≡ 0x3C → map to_ascii_lowercase (take 5 (past_white b)) ≢ codes "<?xml" → ¬ IsXml b
-  no_xml_goes_on first differs h =
-      let p = past_white b in
-      let text = (IsXml-left b p (white_skips b) (none_white b) p (SkipsTo-none IsMark p) (no_mark first)).1 h in
-      differs (front_in_any_case p (codes "<?xml") text)
+  pub xml_left : get_or left 0 0 ≡ 0x3C → BeginsInAnyCase (codes "<?xml") left ↔ IsXml b
+  xml_left first = IsXml-left b left (white_skips b) (none_white b) left (SkipsTo-none IsMark left) (no_mark first)
+
+  abbrev pub known_xml : Known (IsXml b)
+  known_xml = do
+    refuted_if (not (allows_first xml (get_or left 0 0))) no_xml_opens
+    (do
+      first ← takes (same (get_or left 0 0) 0x3C)
+      text ← needs (begins_with (codes "<?xml")) (λ h. front_in_any_case left (codes "<?xml") ((xml_left first).1 h))
+      proved ((xml_left first).0 (begins_in_any_case left (codes "<?xml") text)))
 
 -- ---- frames
 
@@ -108,15 +136,8 @@ module _ (by_place : ByPlace) (leads : (s : BuiltIn) → Leads s) where
   refused_first s (f ∷ rest) = proved_if (not (allows_first s f)) (λ e h. clash _ (leads s f rest h) e)
 
   abbrev refused_text : (s : BuiltIn) (b : List ℕ) → Known (¬ IsAccepted s b)
-  refused_text html b = do
-    proved_if (not (eqb (get_or (past_white b) 0 0) 0x3C)) (λ e. no_tag_opens b (λ is. clash _ (eq-eqb _ _ is) e))
-    proved_if (is_nil b (tags_with (to_ascii_lowercase (get_or (past_white b) 1 0)))) (no_tag_goes_on b)
-  refused_text xml b = do
-    proved_if (not (allows_first xml (get_or (past_white b) 0 0))) (no_xml_opens b)
-    (do
-      first ← takes (same (get_or (past_white b) 0 0) 0x3C)
-      differs ← takes (negated (same_text (map to_ascii_lowercase (take 5 (past_white b))) (codes "<?xml")))
-      proved (no_xml_goes_on b first differs))
+  refused_text html b = negated (known_html b)
+  refused_text xml b = negated (known_xml b)
   refused_text (framed (x ∷ magic)) b = do
     low ← takes (at_most (suc x) 0x50)
     unmarked ← takes (negated (occurs by_place frame_mark b 1))
@@ -129,6 +150,12 @@ module _ (by_place : ByPlace) (leads : (s : BuiltIn) → Leads s) where
     refused_first s b
     refused_text s b
     negated (known by_place b s)
+
+  -- it is markup, or else by what is known of the signature
+  abbrev pub accepted : (b : List ℕ) (s : BuiltIn) → Known (IsAccepted s b)
+  accepted b html = known_html b
+  accepted b xml = known_xml b
+  accepted b s = known by_place b s
 
   -- no row accepts the buffer
   abbrev pub none_accepts : (b : List ℕ) → Known (NoneHas (Accepts b) table)

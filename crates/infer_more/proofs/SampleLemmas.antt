@@ -1,9 +1,8 @@
 -- Each further row is the wider answer of its sample.
-use Rattle.std.proofs.Common.{◌≡◌, ◌<◌, ◌+◌, suc, ℕ, List, Option, None, Some, IfSome, ap, get_or, length, refl, sym, ◌≢◌, subst, arith}
+use Rattle.std.proofs.Common.{◌≡◌, ◌<◌, ◌+◌, suc, ℕ, List, Option, None, Some, MatchOption, ap, get_or, length, refl, sym, ◌≢◌, subst, arith}
 use Rattle.std.proofs.lemmas.List.{get_or_default}
 use Rattle.infer_deep.specs.Laws as Deep
 use Rattle.infer_deep.specs.Numbers.{le16, le32, be32}
-use Rattle.infer_deep.specs.Text.{tags_with}
 use Rattle.infer_inside.specs.Laws as Inside
 use Rattle.infer_inside.specs.Numbers.{be16}
 use Rattle.infer_inside.specs.Tar.{header_sum}
@@ -15,7 +14,7 @@ use Rattle.infer.specs.Row.{Accepts}
 use Rattle.infer.specs.Table as built_in
 use Rattle.infer.specs.declared.table.rows.TheConstants.{ROW_COUNT}
 use Rattle.infer.proofs.KnownLemmas.{Known, proved, refuted, unknown, at_most, both, each_before, is_proved, negated, proof_of, same, takes, ◌>>=◌}
-use Rattle.infer.proofs.OrderLemmas.{known_first, some_row}
+use Rattle.infer.proofs.OrderLemmas.{known_at, some_row}
 use Rattle.infer.proofs.PlaceLemmas.{ByPlace}
 use Rattle.infer.proofs.TestLemmas.{NoneRefused, passed}
 use Rattle.infer_more.specs.Row.{Further}
@@ -24,7 +23,7 @@ use Rattle.infer_more.specs.Table.{archives, code, further, headers, images, lat
 use Rattle.infer_more.specs.Wider.{IsWider, Widens}
 use Rattle.infer_more.specs.declared.index.lists.TheConstants.{FURTHER_COUNT}
 use Rattle.infer_more.proofs.FitLemmas.{known_accepted}
-use Rattle.infer_more.proofs.RefusalLemmas.{none_accepts}
+use Rattle.infer_more.proofs.RefusalLemmas.{accepted, none_accepts}
 use Rattle.infer_more.proofs.TableLemmas.{length-further}
 
 pub others_differ : (i j : ℕ) → i ≢ j → Some i ≢ Some j
@@ -45,26 +44,26 @@ same_parent None (Some j) = refuted (none_differs j)
 same_parent (Some i) None = refuted (λ e. none_differs i (sym e))
 
 -- what a computation says of a row, and of the first row
-abbrev widens : ByPlace → Inside.Leads → (parent : Option ℕ) (b : List ℕ) (r : Further) → Known (Widens parent b r)
-widens by_place inside parent b r = both (same_parent r.parent parent) (known_accepted by_place inside b r.signature)
+abbrev widens : ByPlace → Inside.Leads → Inside.Single → (parent : Option ℕ) (b : List ℕ) (r : Further) → Known (Widens parent b r)
+widens by_place inside single parent b r = both (same_parent r.parent parent) (known_accepted by_place inside single b r.signature)
 
-abbrev first_widening : ByPlace → Inside.Leads → (d : Further) (parent : Option ℕ) (b : List ℕ) (i : ℕ) → Known (IsFirst (Widens parent b) further i)
-first_widening by_place inside d parent b i = do
+abbrev first_widening : ByPlace → Inside.Leads → Inside.Single → (d : Further) (parent : Option ℕ) (b : List ℕ) (i : ℕ) → Known (IsFirst (Widens parent b) further i)
+first_widening by_place inside single d parent b i = do
   within ← takes (at_most (suc i) (length further))
-  here ← takes (widens by_place inside parent b (get_or further i d))
-  before ← takes (each_before (λ r. negated (widens by_place inside parent b r)) further i (omega arith))
+  here ← takes (widens by_place inside single parent b (get_or further i d))
+  before ← takes (each_before (λ r. negated (widens by_place inside single parent b r)) further i (omega arith))
   proved (record { within = within; here = λ c. subst (Widens parent b) (get_or_default further i d c within) here; before = before })
 
-module _ (by_place : ByPlace) (exclude : Deep.Apart) (leads : (s : BuiltIn) → Leads s) (inside : Inside.Leads) (d : Further) where
+module _ (by_place : ByPlace) (exclude : Deep.Apart) (leads : (s : BuiltIn) → Leads s) (inside : Inside.Leads) (single : Inside.Single) (d : Further) where
   abbrev first_built_in : (b : List ℕ) (parent : Option ℕ) → Known (IsFirstOf (Accepts b) built_in.table parent)
   first_built_in b None = none_accepts by_place leads b
-  first_built_in b parent = known_first by_place exclude some_row parent b
+  first_built_in b (Some i) = known_at by_place exclude some_row i b (accepted by_place leads b (get_or built_in.table i some_row).signature)
 
-  abbrev reached : (parent : Option ℕ) (i : ℕ) (o : Option (List ℕ)) → Known (IfSome o (λ s. IsWider s (Some (ROW_COUNT + i))))
-  reached parent i None = proved tt
+  abbrev reached : (parent : Option ℕ) (i : ℕ) (o : Option (List ℕ)) → Known (MatchOption o ⊥ (λ s. IsWider s (Some (ROW_COUNT + i))))
+  reached parent i None = refuted (λ h. h)
   reached parent i (Some s) = do
     answers ← takes (first_built_in s parent)
-    first ← takes (first_widening by_place inside d parent s i)
+    first ← takes (first_widening by_place inside single d parent s i)
     proved (record { parent = parent; found = Some i; answers = answers; widens = first; is = refl })
 
   abbrev reaches : (i : ℕ) → Known (Reaches i (get_or further i d))
@@ -72,7 +71,7 @@ module _ (by_place : ByPlace) (exclude : Deep.Apart) (leads : (s : BuiltIn) → 
 
   -- sixteen rows a step, with room for more of them
   all_reach : NoneRefused (λ i. is_proved (reaches i)) FURTHER_COUNT 0 16
-  unfolding further archives code headers images late markup media packages records built_in.table stands le16 le32 be16 be32 header_sum tags_with
+  unfolding further archives code headers images late markup media packages records built_in.table stands le16 le32 be16 be32 header_sum
   all_reach = (refl, (refl, (refl, (refl, (refl, (refl, (refl, (refl, (refl, (refl, (refl, (refl, (refl, (refl, (refl, (refl, tt))))))))))))))))
 
   pub row_reaches : (i : ℕ) → i < length further → Reaches i (get_or further i d)

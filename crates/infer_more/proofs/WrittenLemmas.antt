@@ -1,12 +1,13 @@
 -- What is written of the sample of a row, and which rows have none.
-use Rattle.std.proofs.Common.{◌↔◌, IfSome, is_some, option_and_then, ◌≡◌, ◌≢◌, ◌⊎◌, ◌≤◌, ◌<◌, ◌+◌, ◌-◌, ℕ, Bool, true, false, IsTrue, inl, inr, List, [], ◌∷◌, ◌++◌, Option, None, Some, ap, drop, length, length-append, length-drop, max, option_map, slice_get, subst, sym, take, unwrap_or, ◌∙◌, arith, refl, nat_le}
+use Rattle.std.proofs.Common.{◌↔◌, IfSome, MatchOption, is_some, ◌≡◌, ◌≢◌, ◌⊎◌, ◌≤◌, ◌<◌, ◌+◌, ◌-◌, ℕ, Bool, true, false, IsTrue, inl, inr, List, [], ◌∷◌, ◌++◌, Option, None, Some, ap, drop, get_or, length, map, length-append, length-drop, max, option_map, slice_get, subst, append_assoc, sym, take, unwrap_or, ◌∙◌, arith, refl, nat_le}
 use Rattle.std.specs.Prelude.{◌==◌, ◌||◌, if◌then◌else◌}
-use Rattle.std.specs.List.{HoldsAt, list_all}
+use denote.Ref.{Bor}
+use Rattle.std.specs.List.{HoldsAt, concat, list_all}
 use Rattle.std.specs.Option.{option_map_or}
-use Rattle.std.proofs.Math.Seq.{drop-append-add, take-append-add}
+use Rattle.std.proofs.Math.Seq.{drop-append-add, take-append-add, take-append_seam}
 use Rattle.std.proofs.lemmas.Bool.{leb-true}
 use Rattle.std.proofs.lemmas.Bool.Decides.{nat_tests}
-use Rattle.std.proofs.lemmas.List.{drop-replicate, length-replicate, length-take-le, take-replicate, take_at}
+use Rattle.std.proofs.lemmas.List.{drop-drop, drop_more, drop-replicate, length-replicate, length-take-le, take-replicate, take_at}
 use Rattle.std.proofs.lemmas.Option.{get_or_from_slice_get, slice_get-map, slice_get_cases, slice_get_past, slice_get_within}
 use Rattle.infer_sig.specs.Signature.{Part, text, any_text, byte}
 use Rattle.infer.specs.BuiltIn.{BuiltIn}
@@ -15,11 +16,11 @@ use Rattle.infer.specs.Samples.{HoldsSample, chosen, put, sample_of, with_part, 
 use Rattle.infer.specs.Table as built_in
 use Rattle.infer.specs.declared.table.rows.TheConstants.{DLL, EPUB_ARCHIVE, ROW_COUNT}
 use Rattle.infer.proofs.TableLemmas.{length-table}
-use Rattle.infer_more.specs.Listed.{alternative_listed, row_listed, signature_listed}
+use Rattle.infer_more.specs.Listed.{alternative_listed, row_listed}
 use Rattle.infer_more.specs.Row.{Further, is_inside}
 use Rattle.infer_more.specs.Table.{further}
 use Rattle.infer_sig.specs.Signature as fixed
-use Rattle.infer_more.specs.Samples.{AllReach, HasNoSample, Reaches, built_in_sample, further_sample, has_room, has_room_after, joined_sample, least_of, model, parent_sample, parts_of, signature_model, written}
+use Rattle.infer_more.specs.Samples.{AllReach, HasNoSample, Reaches, built_in_sample, further_sample, has_room, has_room_after, joined_sample, least_of, model, parent_sample, parts_of, prolog, row_model, written}
 use Rattle.infer_more.specs.declared.samples.TheConstants.{SAMPLE_SIZE}
 use Rattle.infer_more.specs.declared.signature.Alternative as Listed
 use Rattle.infer_more.specs.declared.table.FurtherRow.{FurtherRow}
@@ -68,19 +69,51 @@ counted_parent (Some s) = refl
 -- ---- further rows
 
 -- the model of the first alternative
-first_model : (alternatives : List Listed.Alternative) (a : Listed.Alternative) → Some a ≡ slice_get alternatives 0
-    → signature_model (signature_listed alternatives) ≡ model (alternative_listed a)
-first_model alternatives a e =
-    ap (λ o. option_and_then model o) (slice_get-map alternative_listed alternatives 0 ∙ ap (option_map alternative_listed) (sym e))
+first_model : (row : FurtherRow) (a : Listed.Alternative) (before : List ℕ) → Some a ≡ slice_get row.signature.now 0 → before ≡ prolog row.parent
+    → row_model (row_listed row) ≡ Some (model before (alternative_listed a))
+first_model row a before first is =
+    ap (option_map (model (prolog row.parent))) (slice_get-map alternative_listed row.signature.now 0 ∙ ap (option_map alternative_listed) (sym first))
+    ∙ ap (λ v. Some (model v (alternative_listed a))) (sym is)
 
--- no model, no sample
-pub unmodelled : (row : FurtherRow) (a : Listed.Alternative) → Some a ≡ slice_get row.signature.now 0 → model (alternative_listed a) ≡ None
-    → further_sample (row_listed row) ≡ None
-unmodelled row a first none = ap (option_map (joined_sample (parent_sample row.parent))) (first_model row.signature.now a first ∙ none)
+-- a text that is written behind another is written with it
+pub put_behind : (place : ℕ) (t rest b : List ℕ) → place + length t ≤ length b → put (place + length t) rest (put place t b) ≡ put place (t ++ rest) b
+put_behind place t rest b le =
+    let front = take place b in
+    let back = drop (place + length t) b in
+    let at : length front ≡ place = length-take-le place b (omega arith) in
+    let taken : take (place + length t) (front ++ (t ++ back)) ≡ front ++ t =
+    ap (λ k. take (k + length t) (front ++ (t ++ back))) (sym at) ∙ take-append-add front (t ++ back) (length t) ∙ ap (λ l. front ++ l) (take-append_seam t back) in
+    let dropped : drop (place + length t + length rest) (front ++ (t ++ back)) ≡ drop (place + length (t ++ rest)) b =
+    (let more = length-append t rest in
+    let far : place + length t + length rest ≡ length front + (length t + length rest) = omega arith in
+    let behind : place + length t + length rest ≡ place + length (t ++ rest) = omega arith in
+    ap (λ k. drop k (front ++ (t ++ back))) far ∙ drop-append-add front (t ++ back) (length t + length rest)
+    ∙ drop-append-add t back (length rest) ∙ drop-drop (length rest) (place + length t) b ∙ ap (λ k. drop k b) behind) in
+    ap (λ l. l ++ (rest ++ drop (place + length t + length rest) (front ++ (t ++ back)))) taken
+    ∙ ap (λ l. (front ++ t) ++ (rest ++ l)) dropped
+    ∙ append_assoc front t (rest ++ drop (place + length (t ++ rest)) b)
+    ∙ ap (λ l. front ++ l) (sym (append_assoc t rest (drop (place + length (t ++ rest)) b)))
 
 -- each part is written over a place that is there
 length-put : (place : ℕ) (t b : List ℕ) → place + length t ≤ length b → length (put place t b) ≡ length b
 length-put place t b le = omega (arith, length-append (take place b) (t ++ drop (place + length t) b), length-append t (drop (place + length t) b), length-take-le place b (omega arith), length-drop (place + length t) b)
+
+-- the next of some texts is written, and the others behind it
+pub next_text : (ts : List (Bor (List ℕ))) (i place : ℕ) (d : Bor (List ℕ)) (old new all : List ℕ) → i < length ts
+    → put place (concat (map (λ t. t.now) (drop i ts))) old ≡ all → place + length (concat (map (λ t. t.now) (drop i ts))) ≤ length old
+    → new ≡ put place (get_or ts i d).now old
+    → (put (place + length (get_or ts i d).now) (concat (map (λ t. t.now) (drop (i + 1) ts))) new ≡ all)
+    × (place + length (get_or ts i d).now + length (concat (map (λ t. t.now) (drop (i + 1) ts))) ≤ length new)
+next_text ts i place d old new all lt whole fits done =
+    let t = (get_or ts i d).now in
+    let rest = concat (map (λ (u : Bor (List ℕ)). u.now) (drop (i + 1) ts)) in
+    let parted : concat (map (λ u. u.now) (drop i ts)) ≡ t ++ rest = ap (λ l. concat (map (λ (u : Bor (List ℕ)). u.now) l)) (drop_more ts i d lt) in
+    let long : length (concat (map (λ (u : Bor (List ℕ)). u.now) (drop i ts))) ≡ length t + length rest = ap length parted ∙ length-append t rest in
+    let le : place + length t ≤ length old = omega arith in
+    let same : length new ≡ length old = ap length done ∙ length-put place t old le in (
+      ap (put (place + length t) rest) done ∙ put_behind place t rest old le ∙ sym (ap (λ l. put place l old) parted) ∙ whole,
+      omega arith,
+    )
 
 length-part : (n : ℕ) (part : Part) (b : List ℕ) → length b ≡ n → IsTrue (is_inside n part) → length (with_part part b) ≡ n
 length-part n (text place t) b e h = length-put place t b (let le = leb-true _ _ h in omega arith) ∙ e
@@ -92,22 +125,15 @@ length-parts n [] b e h = e
 length-parts n (part ∷ parts) b e h =
     length-parts n parts (with_part part b) (length-part n part b e (both_left (is_inside n part) _ h)) (both_right (is_inside n part) _ h)
 
-abbrev Fixed : Type 0
-Fixed = fixed.Alternative
-
-module _ (row : FurtherRow) (a : Listed.Alternative) (m : Fixed) (first : Some a ≡ slice_get row.signature.now 0) (modelled : model (alternative_listed a) ≡ Some m)
+module _ (row : FurtherRow) (a : Listed.Alternative) (before : List ℕ) (first : Some a ≡ slice_get row.signature.now 0) (is : before ≡ prolog row.parent)
     (room : IsTrue (has_room (row_listed row))) where
-  pub room_for : IsTrue (has_room_after (length (parent_sample row.parent)) m)
-  room_for = subst (λ o. IsTrue (option_map_or (has_room_after (length (parent_sample row.parent))) o true)) (first_model row.signature.now a first ∙ modelled) room
+  room_for : IsTrue (has_room_after (length (parent_sample row.parent)) (model before (alternative_listed a)))
+  room_for = subst (λ o. IsTrue (option_map_or (has_room_after (length (parent_sample row.parent))) o false)) (first_model row a before first is) room
 
-  pub least_fits : least_of m ≤ SAMPLE_SIZE
-  least_fits = let le = leb-true _ _ (both_left (nat_le (max (length (parent_sample row.parent)) (least_of m)) SAMPLE_SIZE) _ room_for) in omega arith
-
--- whatever the model is
-pub least_within : (row : FurtherRow) (a : Listed.Alternative) (o : Option Fixed) → Some a ≡ slice_get row.signature.now 0 → model (alternative_listed a) ≡ o
-    → IsTrue (has_room (row_listed row)) → IfSome o (λ m. least_of m ≤ SAMPLE_SIZE)
-least_within row a None first is room = tt
-least_within row a (Some m) first is room = least_fits row a m first is room
+  pub least_fits : least_of (model before (alternative_listed a)) ≤ SAMPLE_SIZE
+  least_fits =
+      let most = max (length (parent_sample row.parent)) (least_of (model before (alternative_listed a))) in
+      let le = leb-true _ _ (both_left (nat_le most SAMPLE_SIZE) _ room_for) in omega arith
 
 -- the sample's zeros are the first of those that were written
 front_zeros : (p : List ℕ) (n least : ℕ) → n ≡ max (length p) least → n ≤ SAMPLE_SIZE → take n (p ++ zeros (SAMPLE_SIZE - length p)) ≡ p ++ zeros (least - length p)
@@ -122,30 +148,33 @@ rest_zeros p n low le =
     ap (λ k. drop k (p ++ zeros (SAMPLE_SIZE - length p))) parted ∙ drop-append-add p (zeros (SAMPLE_SIZE - length p)) (n - length p)
     ∙ drop-replicate (n - length p) (SAMPLE_SIZE - length p) 0 ∙ ap zeros left
 
-module _ (row : FurtherRow) (a : Listed.Alternative) (m : Fixed) (n : ℕ) (out new : List ℕ) (first : Some a ≡ slice_get row.signature.now 0)
-    (modelled : model (alternative_listed a) ≡ Some m)
-    (room : IsTrue (has_room (row_listed row))) (many : n ≡ max (length (parent_sample row.parent)) (least_of m))
+module _ (row : FurtherRow) (a : Listed.Alternative) (before : List ℕ) (n : ℕ) (out new : List ℕ) (first : Some a ≡ slice_get row.signature.now 0)
+    (is : before ≡ prolog row.parent) (room : IsTrue (has_room (row_listed row)))
+    (many : n ≡ max (length (parent_sample row.parent)) (least_of (model before (alternative_listed a))))
     (fronted : out ≡ parent_sample row.parent ++ zeros (SAMPLE_SIZE - length (parent_sample row.parent))) where
   abbrev p : List ℕ
   p = parent_sample row.parent
 
-  pub roomy : (n ≤ SAMPLE_SIZE) × IsTrue (list_all (is_inside n) (parts_of m))
+  abbrev over : fixed.Alternative
+  over = model before (alternative_listed a)
+
+  pub roomy : (n ≤ SAMPLE_SIZE) × IsTrue (list_all (is_inside n) (parts_of over))
   roomy =
-      let most = max (length p) (least_of m) in
-      let h = room_for row a m first modelled room in
-      subst (λ k. (k ≤ SAMPLE_SIZE) × IsTrue (list_all (is_inside k) (parts_of m))) (sym many)
+      let most = max (length p) (least_of over) in
+      let h = room_for row a before first is room in
+      subst (λ k. (k ≤ SAMPLE_SIZE) × IsTrue (list_all (is_inside k) (parts_of over))) (sym many)
       (leb-true _ _ (both_left (nat_le most SAMPLE_SIZE) _ h), both_right (nat_le most SAMPLE_SIZE) _ h)
 
-  module _ (done : new ≡ with_parts (parts_of m) (take n out)) where
+  module _ (done : new ≡ with_parts (parts_of over) (take n out)) where
     sample_done : further_sample (row_listed row) ≡ Some new
     sample_done =
-        ap (option_map (joined_sample p)) (first_model row.signature.now a first ∙ modelled)
-        ∙ ap Some (ap (with_parts (parts_of m)) (sym (ap (take n) fronted ∙ front_zeros p n (least_of m) many roomy.0)) ∙ sym done)
+        ap (option_map (joined_sample p)) (first_model row a before first is)
+        ∙ ap Some (ap (with_parts (parts_of over)) (sym (ap (take n) fronted ∙ front_zeros p n (least_of over) many roomy.0)) ∙ sym done)
 
     long : length new ≡ n
     long =
         let here : length (take n out) ≡ n = length-take-le n out (omega (arith, roomy.0, ap length fronted, length-append p (zeros (SAMPLE_SIZE - length p)), length-replicate {A = ℕ} (SAMPLE_SIZE - length p) 0)) in
-        ap length done ∙ length-parts n (parts_of m) (take n out) here roomy.1
+        ap length done ∙ length-parts n (parts_of over) (take n out) here roomy.1
 
     pub counted_further : Some n ≡ option_map length (further_sample (row_listed row))
     counted_further = ap Some (sym long) ∙ sym (ap (option_map length) sample_done)
@@ -155,31 +184,10 @@ module _ (row : FurtherRow) (a : Listed.Alternative) (m : Fixed) (n : ℕ) (out 
         ap (λ l. new ++ l) (ap (drop n) fronted ∙ rest_zeros p n (omega arith) roomy.0 ∙ ap (λ k. zeros (SAMPLE_SIZE - k)) (sym long))
         ∙ ap (λ o. written o old) (sym sample_done)
 
--- whatever the model is
-module _ (row : FurtherRow) (a : Listed.Alternative) (least n : ℕ) (out : List ℕ) (first : Some a ≡ slice_get row.signature.now 0)
-    (room : IsTrue (has_room (row_listed row))) (many : n ≡ max (length (parent_sample row.parent)) least)
-    (fronted : out ≡ parent_sample row.parent ++ zeros (SAMPLE_SIZE - length (parent_sample row.parent))) where
-  counts : (m : Fixed) → Some least ≡ Some (least_of m) → n ≡ max (length (parent_sample row.parent)) (least_of m)
-  counts m e = let same : least ≡ least_of m = cc in many ∙ ap (max (length (parent_sample row.parent))) same
-
-  pub model_roomy : (o : Option Fixed) → model (alternative_listed a) ≡ o → Some least ≡ option_map least_of o
-      → (n ≤ SAMPLE_SIZE) × IfSome o (λ m. IsTrue (list_all (is_inside n) (parts_of m)))
-  model_roomy None is e = absurd (cc)
-  model_roomy (Some m) is e = roomy row a m n out [] first is room (counts m e) fronted
-
-  pub model_written : (o : Option Fixed) (new : List ℕ) → model (alternative_listed a) ≡ o → Some least ≡ option_map least_of o
-      → IfSome o (λ m. new ≡ with_parts (parts_of m) (take n out))
-      → (Some n ≡ option_map length (further_sample (row_listed row))) × ((old : List ℕ) → new ++ drop n out ≡ written (further_sample (row_listed row)) old)
-  model_written None new is e h = absurd (cc)
-  model_written (Some m) new is e h = (
-    counted_further row a m n out new first is room (counts m e) fronted h,
-    written_further row a m n out new first is room (counts m e) fronted h,
-  )
-
 -- what holds of a sample holds of what is written
-pub holds_written : (P : List ℕ → Type 0) (o : Option (List ℕ)) (result : Option ℕ) (old new : List ℕ) → IfSome o P
+pub holds_written : (P : List ℕ → Type 0) (o : Option (List ℕ)) (result : Option ℕ) (old new : List ℕ) → MatchOption o ⊥ P
     → result ≡ option_map length o → new ≡ written o old → IfSome result (λ n. P (take n new))
-holds_written P None result old new h counted done = subst (λ r. IfSome r (λ n. P (take n new))) (sym counted) tt
+holds_written P None result old new h counted done = absurd h
 holds_written P (Some s) result old new h counted done =
     subst (λ r. IfSome r (λ n. P (take n new))) (sym counted)
     (subst P (sym (ap (take (length s)) done ∙ take_at s (zeros (SAMPLE_SIZE - length s)) (length s) refl)) h)
@@ -194,20 +202,15 @@ module _ (i : ℕ) where
   pub none_below : (result : Option ℕ) → i < ROW_COUNT → is_some result ≡ false ↔ ((i ≡ DLL) ⊎ (i ≡ EPUB_ARCHIVE) ⊎ (ROW_COUNT ≤ i)) → is_some result ≡ false ↔ HasNoSample i
   none_below result lt none = (
     λ e. elim (none.0 e) [ inl d ↦ inl d | inr (inl p) ↦ inr (inl p) | inr (inr le) ↦ absurd (omega arith) ],
-    λ h. elim h [ inl d ↦ none.1 (inl d) | inr (inl p) ↦ none.1 (inr (inl p)) | inr (inr (le, e)) ↦ absurd (omega arith) ],
+    λ h. elim h [ inl d ↦ none.1 (inl d) | inr (inl p) ↦ none.1 (inr (inl p)) | inr (inr le) ↦ absurd (omega arith) ],
   )
 
-  none_of : (o : Option (List ℕ)) → is_some (option_map length o) ≡ false ↔ (o ≡ None)
-  none_of None = (λ e. refl, λ e. refl)
-  none_of (Some s) = (λ e. absurd (cc), λ e. absurd (cc))
-
-  pub none_above : (result : Option ℕ) → ROW_COUNT ≤ i → result ≡ option_map length (option_and_then further_sample (slice_get further (i - ROW_COUNT)))
-      → is_some result ≡ false ↔ HasNoSample i
-  none_above result le counted = (
-    λ e. inr (inr (le, (none_of _).0 (ap is_some (sym counted) ∙ e))),
+  pub none_above : (result : Option ℕ) → ROW_COUNT ≤ i → is_some result ≡ false ↔ (length further ≤ i - ROW_COUNT) → is_some result ≡ false ↔ HasNoSample i
+  none_above result le none = (
+    λ e. let past = none.0 e in inr (inr (omega arith)),
     λ h. elim h [
       | inl d ↦ absurd (omega arith)
       | inr (inl p) ↦ absurd (omega arith)
-      | inr (inr (_, e)) ↦ ap is_some counted ∙ (none_of _).1 e
+      | inr (inr past) ↦ none.1 (omega arith)
     ],
   )

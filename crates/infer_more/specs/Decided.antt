@@ -4,7 +4,7 @@ use Rattle.infer_deep.specs.Signatures.{Reachable}
 use Rattle.infer.specs.Buffer.{IsBuffer}
 use Rattle.infer.specs.First.{IsFirstOf}
 use Rattle.infer_more.specs.Row.{Further}
-use Rattle.infer_more.specs.Signature.{Accepted, Alternative}
+use Rattle.infer_notation.specs.Alternative.{Accepted, Alternative}
 use Rattle.infer_more.specs.Table.{further}
 use Rattle.infer_more.specs.Wider.{AcceptsAt, IsWider, Widens}
 

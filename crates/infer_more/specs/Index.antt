@@ -1,5 +1,5 @@
--- Which further rows are tried or told, and that they are all which can widen an answer.
-use Rattle.std.specs.Prelude.{◌≡◌, ◌⊎◌, ◌↔◌, ◌-◌, ◌<◌, ◌≤◌, ◌==◌, ◌&&◌, ◌||◌, ℕ, suc, Bool, true, false, All, IsTrue, List, [], ◌∷◌, ◌++◌, Option, None, Some, if◌then◌else◌, length, nat_le, nat_lt, slice_get, slice_index}
+-- Which further rows are tried or told, and that these are all that can widen an answer.
+use Rattle.std.specs.Prelude.{◌≡◌, ◌⊎◌, ◌↔◌, ◌-◌, ◌%◌, ◌<◌, ◌≤◌, ◌==◌, ◌&&◌, ◌||◌, ℕ, suc, Bool, true, false, All, IsTrue, List, [], ◌∷◌, ◌++◌, Option, None, Some, if◌then◌else◌, length, nat_le, nat_lt, slice_get, slice_index}
 use Rattle.std.specs.List.{list_all, list_any, range_with_len}
 use Rattle.std.specs.Option.{option_map_or}
 use denote.Ref.{Bor}
@@ -14,7 +14,7 @@ use Rattle.infer.specs.Buffer.{IsBuffer}
 use Rattle.infer.specs.Walks.{is_listed}
 use Rattle.infer_more.specs.Outline.{lines}
 use Rattle.infer_more.specs.Row.{Further}
-use Rattle.infer_more.specs.Signature.{Alternative, json_lines, json_text, package_with, plain_text, program, root, root_with}
+use Rattle.infer_notation.specs.Alternative.{Alternative, json_lines, json_text, package_with, plain_text, program, root, root_with}
 use Rattle.infer_more.specs.Table.{further}
 use Rattle.infer_more.specs.Wider.{WidensAt}
 use Rattle.infer_more.specs.declared.index.Below as below
@@ -127,6 +127,19 @@ rooted_row e = e.row
 abbrev pub IsNamed : (List ℕ → Type 0) → List Named → ℕ → Type 0
 IsNamed P names i = IsRowOf named_row (λ e. P e.name.now) names i
 
+-- the names that the code lists at i
+abbrev pub names_at : List (Bor (List Named)) → ℕ → List Named
+names_at lists i = option_map_or (λ names. names.now) (slice_get lists i) []
+
+-- those among which a name is looked for: by the low five bits of its first byte
+abbrev pub names_like : List (Bor (List Named)) → List ℕ → List Named
+names_like lists [] = []
+names_like lists (x ∷ xs) = names_at lists (x % 32)
+
+-- row i is listed with the name of the script's program
+abbrev pub IsOfProgram : List ℕ → List (Bor (List Named)) → ℕ → Type 0
+IsOfProgram b lists i = (name : List ℕ) × IsProgram name b × IsNamed (λ other. other ≡ name) (names_like lists name) i
+
 -- the text, if there is one, stands in a tag of which this is the rest
 abbrev pub HasTagText : List ℕ → Option (Bor (List ℕ)) → Type 0
 HasTagText rest None = Unit {0}
@@ -144,7 +157,7 @@ IsRooted b roots i = (name rest : List ℕ) × IsRootElement name rest b × IsRo
 abbrev pub IsFoundBelow : below.Below → ℕ → List ℕ → ℕ → Type 0
 IsFoundBelow Nothing parent b i = ⊥
 IsFoundBelow (Entries entries) parent b i = IsTried (Some parent) b (candidates b entries.now) i
-IsFoundBelow (Programs names) parent b i = IsNamed (λ name. IsProgram name b) names.now i
+IsFoundBelow (Programs lists) parent b i = IsOfProgram b lists.now i
 IsFoundBelow (Roots roots) parent b i = IsRooted b roots.now i
 IsFoundBelow (Packages entries excepts folders) parent b i =
     IsTried (Some parent) b (candidates b entries.now ++ excepted b excepts.now) i ⊎ IsNamed (λ folder. IsPackageWith folder b) folders.now i
@@ -254,9 +267,9 @@ abbrev pub is_tried_in : ℕ → List Entry → List Except → Alternative → 
 is_tried_in i entries excepts a = list_all (λ l. is_covered i l entries || is_excepted i l excepts) (lines a)
 
 -- or is told row i by a name
-abbrev pub is_in_programs : ℕ → List Named → Alternative → Bool
-is_in_programs i names (program others) = list_all (has_named i names) others
-is_in_programs i names other = false
+abbrev pub is_in_programs : ℕ → List (Bor (List Named)) → Alternative → Bool
+is_in_programs i lists (program names) = list_all (λ name. has_named i (names_like lists name) name) names
+is_in_programs i lists other = false
 
 abbrev pub is_in_roots : ℕ → List Rooted → Alternative → Bool
 is_in_roots i roots (root name) = has_rooted i roots name None
@@ -270,7 +283,7 @@ is_in_folders i folders other = false
 abbrev pub is_found_below : below.Below → ℕ → Alternative → Bool
 is_found_below Nothing i a = false
 is_found_below (Entries entries) i a = is_tried_below i entries.now a
-is_found_below (Programs names) i a = is_in_programs i names.now a
+is_found_below (Programs lists) i a = is_in_programs i lists.now a
 is_found_below (Roots roots) i a = is_in_roots i roots.now a
 is_found_below (Packages entries excepts folders) i a = is_in_folders i folders.now a || is_tried_in i entries.now excepts.now a
 
@@ -349,8 +362,9 @@ AllApplications folders = All (λ (e : Named). IsOneOf e.name.now applications) 
 
 -- each name below that row is one that the row which is told by it asks for, and the rows ascend
 abbrev pub is_true_below : ℕ → below.Below → Bool
-is_true_below parent (Programs names) =
-    ascends named_row names.now && list_all (λ e. is_row_with (Some parent) (asks_program e.name.now) e.row) names.now
+is_true_below parent (Programs lists) =
+    list_all (λ names. ascends named_row names.now) lists.now
+    && list_all (λ names. list_all (λ e. is_row_with (Some parent) (asks_program e.name.now) e.row) names.now) lists.now
 is_true_below parent (Roots roots) =
     ascends rooted_row roots.now && list_all (λ e. is_row_with (Some parent) (asks_root e.name.now e.text) e.row) roots.now
 is_true_below parent (Packages entries excepts folders) =

@@ -12,7 +12,7 @@ use Rattle.infer.specs.declared.table.rows.TheConstants.{ROW_COUNT}
 use Rattle.infer_more.specs.Index.{is_plain, is_settled}
 use Rattle.infer_more.specs.Outline.{lines, outline}
 use Rattle.infer_more.specs.Row.{Further}
-use Rattle.infer_more.specs.Signature.{Accepted, Alternative, Fits, json_lines, json_text, plain_text, root, root_with}
+use Rattle.infer_notation.specs.Alternative.{Accepted, Alternative, Fits, json_lines, json_text, plain_text, root, root_with}
 use Rattle.infer_more.specs.Table.{further}
 use Rattle.infer_more.specs.Wider.{IsWider, Widens, parent_at, shown}
 

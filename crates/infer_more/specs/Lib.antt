@@ -1,9 +1,11 @@
-pub mod Signature
 pub mod Row
 pub mod Table
 pub mod Ended
 pub mod Listed
 pub mod Wider
+pub mod Line
+pub mod Text
+pub mod Entries
 pub mod Added
 pub mod Outline
 pub mod Index
@@ -12,3 +14,4 @@ pub mod Laws
 pub mod Open
 pub mod Decided
 pub mod Samples
+pub mod Described

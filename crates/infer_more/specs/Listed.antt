@@ -6,8 +6,8 @@ use Rattle.infer_sig.specs.Signature.{Part, at_least, text, byte, any_of, betwee
 use Rattle.infer.specs.Triple.{triple}
 use Rattle.infer_more.specs.Ended.{ended_listed, ended_shown}
 use Rattle.infer_more.specs.Row.{Further}
-use Rattle.infer_more.specs.Signature as signature
-use Rattle.infer_more.specs.Signature.{bytes, binary_bytes, shared_object, first_entry_is, first_entry_ends_in, first_entry_has_extra, package_with, class_id, directory_tag, animated, subrip, dbase, tar_checksum, plain_text, program, root, root_with, json_lines, json_text}
+use Rattle.infer_notation.specs.Alternative as signature
+use Rattle.infer_notation.specs.Alternative.{bytes, binary_bytes, shared_object, first_entry_is, first_entry_ends_in, first_entry_has_extra, package_with, class_id, directory_tag, animated, subrip, dbase, tar_checksum, plain_text, program, root, root_with, json_lines, json_text}
 use Rattle.infer_more.specs.declared.table.FurtherRow.{FurtherRow}
 use Rattle.infer_more.specs.declared.signature.Alternative.{Alternative}
 use Rattle.infer_more.specs.declared.signature.Alternative.TheVariants.{Animated, BinaryBytes, Bytes, ClassId, Dbase, DirectoryTag, FirstEntryEndsIn, FirstEntryHasExtra, FirstEntryIs, JsonLines, JsonText, PackageWith, PlainText, Program, Root, RootWith, SharedObject, SubRip, TarChecksum}

@@ -5,7 +5,7 @@ use Rattle.infer_sig.specs.Open.{is_alternative_sound}
 use Rattle.infer_more.specs.Index.{is_application}
 use Rattle.infer_more.specs.Laws.{lasts}
 use Rattle.infer_more.specs.Row.{Further}
-use Rattle.infer_more.specs.Signature.{Alternative, binary_bytes, bytes, package_with}
+use Rattle.infer_notation.specs.Alternative.{Alternative, binary_bytes, bytes, package_with}
 
 -- the parts of its bytes ascend, lie apart and are possible, and its folder is that of an application
 abbrev pub is_sound : Alternative → Bool

@@ -5,7 +5,7 @@ use Rattle.infer_deep.specs.Office.{zip_header}
 use Rattle.infer_inside.specs.Dbase.{versions}
 use Rattle.infer_sig.specs.Signature as fixed
 use Rattle.infer_sig.specs.Signature.{at_least, text, byte, all_but, any_of, between}
-use Rattle.infer_more.specs.Signature.{Alternative, bytes, binary_bytes, shared_object, first_entry_is, first_entry_ends_in, first_entry_has_extra, package_with, class_id, directory_tag, animated, png_header, subrip, dbase, tar_checksum, plain_text, program, root, root_with, json_lines, json_text}
+use Rattle.infer_notation.specs.Alternative.{Alternative, bytes, binary_bytes, shared_object, first_entry_is, first_entry_ends_in, first_entry_has_extra, package_with, class_id, directory_tag, animated, png_header, subrip, dbase, tar_checksum, plain_text, program, root, root_with, json_lines, json_text}
 
 -- a ZIP archive whose first entry has a name that begins with the text
 abbrev pub named : List ℕ → fixed.Alternative

@@ -4,7 +4,7 @@ use Rattle.std.specs.List.{list_all}
 use Rattle.infer_sig.specs.Signature as fixed
 use Rattle.infer_sig.specs.Signature.{at_least, Part, text, any_text, byte}
 use Rattle.infer.specs.Triple.{Triple}
-use Rattle.infer_more.specs.Signature.{Alternative, bytes, binary_bytes}
+use Rattle.infer_notation.specs.Alternative.{Alternative, bytes, binary_bytes}
 
 -- a triple, the number of its parent among the built-in rows, or none, and the signature that decides
 pub record Further : Type 0 where

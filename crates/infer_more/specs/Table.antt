@@ -7,7 +7,7 @@ use Rattle.infer.specs.declared.table.file_type.MatcherType.{MatcherType}
 use Rattle.infer.specs.declared.table.file_type.MatcherType.TheVariants.{App, Archive, Audio, Doc, Font, Image, Text, Video}
 use Rattle.infer.specs.declared.table.rows.TheConstants.{DER, ELF, HEIF, HTML, JPEG2000, MSI, ODP, ODS, ODT, OGG, PEM, PNG, PS, SHELLSCRIPT, SQLITE, TIFF, XML, ZIP}
 use Rattle.infer_more.specs.Row.{Further}
-use Rattle.infer_more.specs.Signature.{Alternative, animated, at_least, binary_bytes, class_id, dbase, directory_tag, first_entry_ends_in, first_entry_has_extra, first_entry_is, package_with, plain_text, shared_object, subrip, tar_checksum, program, root, root_with, json_lines, json_text}
+use Rattle.infer_notation.specs.Alternative.{Alternative, animated, at_least, binary_bytes, class_id, dbase, directory_tag, first_entry_ends_in, first_entry_has_extra, first_entry_is, package_with, plain_text, shared_object, subrip, tar_checksum, program, root, root_with, json_lines, json_text}
 
 abbrev pub row : MatcherType → List ℕ → List ℕ → Option ℕ → List Alternative → Further
 row class mime_type extension parent signature = record { shows = triple class mime_type extension; parent = parent; signature = signature }

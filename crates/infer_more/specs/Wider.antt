@@ -11,7 +11,7 @@ use Rattle.infer.specs.Triple.{Triple}
 use Rattle.infer.specs.Walks.{RowHas}
 use Rattle.infer.specs.declared.table.rows.TheConstants.{ROW_COUNT}
 use Rattle.infer_more.specs.Row.{Further}
-use Rattle.infer_more.specs.Signature.{Accepted}
+use Rattle.infer_notation.specs.Alternative.{Accepted}
 use Rattle.infer_more.specs.Table.{further}
 
 -- the further row has this parent, and its signature accepts the buffer

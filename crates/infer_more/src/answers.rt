@@ -9,7 +9,7 @@ ghost use Rattle.infer_deep.specs.Find.{OccursAt};
 ghost use Rattle.infer_inside.specs.Json.{IsJson, IsJsonLines};
 ghost use Rattle.infer_inside.specs.Script.{IsProgram};
 ghost use Rattle.infer_inside.specs.Zip.{IsPackageWith};
-ghost use Rattle.infer_more.specs.Index.{AllApplications, HasTagText, IsFoundBelow, IsLeast, IsNamed, IsRooted, IsRootedBy, IsTextRow, IsTried, MayOpenMarkup, are_texts, ascends, begun, behind, below_at, candidate, candidates, entries_at, excepted, gated, guarded, has_between, has_byte, has_other, is_true_below, named_row, ranged, rooted_row, tried_parentless, unless, within};
+ghost use Rattle.infer_more.specs.Index.{AllApplications, HasTagText, IsFoundBelow, IsLeast, IsNamed, IsOfProgram, IsRooted, IsRootedBy, IsTextRow, IsTried, MayOpenMarkup, are_texts, ascends, begun, behind, below_at, candidate, candidates, entries_at, excepted, gated, guarded, has_between, has_byte, has_other, is_true_below, named_row, names_at, names_like, ranged, rooted_row, tried_parentless, unless, within};
 ghost use Rattle.infer_more.specs.Table.{further};
 ghost use Rattle.infer_more.specs.Wider.{AcceptsAt, IsWidened, IsWider, IsWiderAnswer, IsWidest, Widens, WidensAt, parent_at, shown};
 ghost use Rattle.infer_more.specs.Listed.{row_listed};
@@ -370,13 +370,35 @@ fn least_named(names: &[Named], name: &[u8], before: usize) -> usize
     before
 }
 
+/// The list in which a name is, if it is in one.
+#[inline(always)]
+fn names_like(lists: &'static [&'static [Named]], name: &[u8]) -> &'static [Named]
+    ensures { result.now ≡ names_like lists.now name.now }
+{
+    match name.first() {
+        Some(first) => names_at(lists, usize::from(*first) % 32),
+        None => &[],
+    }
+}
+
+/// The names at that place of the lists, and none past the last.
+#[inline(always)]
+fn names_at(lists: &'static [&'static [Named]], i: usize) -> &'static [Named]
+    ensures { result.now ≡ names_at lists.now i }
+{
+    match lists.get(i) {
+        Some(names) => names,
+        None => &[],
+    }
+}
+
 /// The least of the rows with the name of the script's program, or their count.
-fn least_program(names: &[Named], buf: &[u8]) -> usize
-    requires { IsTrue (ascends named_row names.now) }
-    ensures { IsLeast (IsNamed (λ name. IsProgram name buf.now) names.now) FURTHER_COUNT result }
+fn least_program(lists: &'static [&'static [Named]], buf: &[u8]) -> usize
+    requires { IsTrue (list_all (λ names. ascends named_row names.now) lists.now) }
+    ensures { IsLeast (IsOfProgram buf.now lists.now) FURTHER_COUNT result }
 {
     match program(buf) {
-        Some(name) => least_named(names, name, FURTHER_COUNT),
+        Some(name) => least_named(names_like(lists, name), name, FURTHER_COUNT),
         None => FURTHER_COUNT,
     }
 }
@@ -453,7 +475,7 @@ fn least_found(below: &Below, row: usize, buf: &[u8]) -> usize
     match below {
         Below::Nothing => FURTHER_COUNT,
         Below::Entries(entries) => least_among(entries, Some(row), buf, FURTHER_COUNT),
-        Below::Programs(names) => least_program(names, buf),
+        Below::Programs(lists) => least_program(lists, buf),
         Below::Roots(roots) => least_root(roots, buf, FURTHER_COUNT),
         Below::Packages(entries, excepts, folders) => {
             let tried = least_among(entries, Some(row), buf, FURTHER_COUNT);

@@ -7,7 +7,7 @@ ghost use Rattle.infer_more.specs.Decided.{IsChangeable, IsDecided, IsUnstable, 
 ghost use Rattle.infer_more.specs.Listed.{row_listed};
 ghost use Rattle.infer_more.specs.Open.{is_row_sound};
 ghost use Rattle.infer_more.specs.Row.{is_row_closed};
-ghost use Rattle.infer_more.specs.Signature.{Accepted};
+ghost use Rattle.infer_notation.specs.Alternative.{Accepted};
 ghost use Rattle.infer_more.specs.Table.{further};
 
 use crate::index::FURTHER_COUNT;

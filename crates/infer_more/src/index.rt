@@ -59,8 +59,8 @@ pub(crate) enum Below {
     Nothing,
     /// By trying those of which a buffer has the byte.
     Entries(&'static [Entry]),
-    /// By the program of a script.
-    Programs(&'static [Named]),
+    /// By the program of a script. The names are listed by the low five bits of their first byte.
+    Programs(&'static [&'static [Named]]),
     /// By the root element.
     Roots(&'static [Rooted]),
     /// By trying some, and by the folder of an application in a package.
@@ -120,6 +120,12 @@ macro_rules! named {
             row: $row,
             name: $name,
         }),*]
+    };
+}
+
+macro_rules! by_first {
+    ($(($($name:literal $row:literal),*))*) => {
+        &[$(named![$($name $row),*]),*]
     };
 }
 

@@ -1,8 +1,11 @@
 //! Facts about the definitions, each the contract of a function that does nothing beside, but for calls of other laws. To
 //! use a law, call it.
-ghost use Rattle.std.specs.Prelude.{◌≡◌, ◌+◌, IsTrue, length};
+ghost use Rattle.std.specs.Prelude.{◌≡◌, ◌↔◌, ◌+◌, ℕ, IsTrue, List, Some, length};
 ghost use Rattle.std.specs.List.{list_all};
 ghost use Rattle.infer.specs.declared.table.rows.TheConstants.{ROW_COUNT};
+ghost use Rattle.infer_more.specs.Described.{DescribesRows};
+ghost use Rattle.infer_more.specs.Line.{Row};
+ghost use Rattle.infer_more.specs.Text.{rows_of};
 ghost use Rattle.infer_more.specs.Laws.{AllAreBelow, AllLast, IsSteady, NoneIsBlank, OthersAreLost, ShowsBuiltIn, TextsFit};
 ghost use Rattle.infer_more.specs.Samples.{AllReach, has_room};
 ghost use Rattle.infer_more.specs.Table.{further};
@@ -43,7 +46,7 @@ pub fn below()
     ensures { AllAreBelow }
 {}
 
-/// Every further row that accepts anything is the wider answer of some buffer: of its sample.
+/// Every further row is the wider answer of some buffer: of its sample.
 pub fn reach()
     ensures { AllReach }
 {
@@ -51,6 +54,7 @@ pub fn reach()
     infer_sig::laws::by_place();
     infer_deep::laws::apart();
     infer_inside::laws::leads();
+    infer_inside::laws::single();
 }
 
 /// Every sample of a further row has room for what it holds.
@@ -69,4 +73,9 @@ pub fn numbers()
 /// No MIME type and no extension of a row, built-in or further, has more than 73 bytes.
 pub fn sizes()
     ensures { TextsFit 73 }
+{}
+
+/// The rows that are read of a text of types are those that it describes.
+pub fn described()
+    ensures { (text : List ℕ) (rows : List Row) → rows_of text ≡ Some rows ↔ DescribesRows text rows }
 {}

@@ -8,9 +8,9 @@
 //! The numbers of the further rows go on from the built-in ones: the first has the number `ROW_COUNT`.
 //!
 //! Each module uses only those before it: `signature`, one function that decides any signature; `table`, the rows; `tried`,
-//! that function for each of them; `index`, which rows are asked; `answers`, what they answer; `added`, the rows of a caller;
-//! `read`, the front of a file or of a reader; `laws`, facts about all of these; `samples`; `open`, what the bytes after a
-//! buffer can bring a signature; `decided`, what they can change of the answer.
+//! that function for each of them; `index`, which rows are asked; `answers`, what they answer; `types`, those that a text
+//! describes; `added`, the rows of a caller; `read`, the front of a file or of a reader; `laws`, facts about all of these;
+//! `samples`; `open`, what the bytes after a buffer can bring a signature; `decided`, what they can change of the answer.
 #![tactic(auto)]
 
 ghost use Rattle.std.specs.Prelude.{◌≡◌, ◌+◌, ◌<◌, ◌≤◌, ◌↔◌, IfSome, IsFalse, IsTrue, None, option_map, slice_get};
@@ -37,15 +37,18 @@ mod samples;
 mod signature;
 mod table;
 mod tried;
+pub mod types;
 
 pub use index::FURTHER_COUNT;
 use infer::{FRONT, Fault, Infer, Type, Watched};
 pub use infer_inside::text;
+pub use infer_notation::Reason;
 pub use samples::{SAMPLE_SIZE, sample};
 use std::alloc::Allocator;
 use std::io::Read;
 use std::rt::Files;
 pub use table::EndedTexts;
+pub use types::{Mistake, Rows, Types};
 
 /// The type of the wider answer of `buf`, and `None` exactly if no row accepts it.
 pub fn get(buf: &[u8]) -> Option<Type>

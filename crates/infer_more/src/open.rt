@@ -5,7 +5,7 @@ ghost use Rattle.infer_inside.specs.Open.{Stays};
 ghost use Rattle.infer_sig.specs.Open.{may_fit, may_have};
 ghost use Rattle.infer_more.specs.Listed.{alternative_listed, bytes_listed, part_listed, signature_listed};
 ghost use Rattle.infer_more.specs.Open.{are_sound, is_one_or_lasts, is_sound};
-ghost use Rattle.infer_more.specs.Signature.{Accepted, Fits, IsProgramAmong};
+ghost use Rattle.infer_notation.specs.Alternative.{Accepted, Fits, IsProgramAmong};
 
 use crate::laws::lasting;
 use crate::signature::{Alternative, Bytes, Piece, is_among, is_between};

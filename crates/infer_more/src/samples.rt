@@ -1,14 +1,14 @@
 //! A sample of each row: a short buffer that has it as its answer.
-ghost use Rattle.std.specs.Prelude.{◌≡◌, ◌+◌, ◌-◌, ◌<◌, ◌≤◌, ◌⊎◌, ◌↔◌, ℕ, ◌++◌, IfSome, IsNone, IsTrue, List, length, map, option_and_then, option_map, slice_get, take};
-ghost use Rattle.std.specs.List.{list_all};
+ghost use Rattle.std.specs.Prelude.{◌≡◌, ◌+◌, ◌-◌, ◌<◌, ◌≤◌, ◌⊎◌, ◌↔◌, ℕ, [], ◌++◌, IfSome, IsNone, IsSome, IsTrue, List, length, map, option_and_then, option_map, slice_get, slice_index_or, take};
+ghost use Rattle.std.specs.List.{concat, list_all};
 ghost use Rattle.infer.specs.First.{IsFirst};
 ghost use Rattle.infer.specs.Row.{Accepts};
 ghost use Rattle.infer.specs.Samples.{put, with_part, with_parts, zeros};
 ghost use Rattle.infer.specs.Table as built_in;
 ghost use Rattle.infer_more.specs.Listed.{alternative_listed, part_listed, row_listed};
 ghost use Rattle.infer_more.specs.Row.{is_inside};
-ghost use Rattle.infer_more.specs.Samples.{HasAnswer, HasNoSample, built_in_sample, further_sample, has_room, least_of, model, model_entry, parent_sample, parts_of, sample_at, written};
-ghost use Rattle.infer_more.specs.Signature.{class_id};
+ghost use Rattle.infer_more.specs.Samples.{HasAnswer, HasNoSample, built_in_sample, further_sample, has_room, least_of, model, model_entry, parent_sample, parts_of, prolog, sample_at, written};
+ghost use Rattle.infer_notation.specs.Alternative.{class_id, dbase, package_with};
 ghost use Rattle.infer_more.specs.Table.{further};
 ghost use Rattle.infer_more.specs.Wider.{AcceptsAt, IsWider};
 ghost use Rattle.infer_more.specs.declared.samples.TheConstants.{SAMPLE_SIZE};
@@ -17,7 +17,7 @@ use crate::laws;
 use crate::signature::Piece::At;
 use crate::signature::{Alternative, Piece};
 use crate::table::{FurtherRow, row_at};
-use infer::rows::{DLL, EPUB_ARCHIVE, ROW_COUNT};
+use infer::rows::{DLL, EPUB_ARCHIVE, HTML, ROW_COUNT, XML};
 
 /// The most bytes that a sample has, with some to spare.
 pub const SAMPLE_SIZE: usize = 1088;
@@ -30,7 +30,7 @@ fn put(place: usize, text: &[u8], out: &mut [u8])
     out[place..place + text.len()].copy_from_slice(text);
 }
 
-/// Writes what the piece asks.
+/// Writes what the piece asks for.
 fn put_piece(piece: &Piece, out: &mut [u8])
     requires { IsTrue (is_inside (length out.old) (part_listed piece.now)) }
     ensures { out.new ≡ with_part (part_listed piece.now) out.old }
@@ -45,13 +45,25 @@ fn put_piece(piece: &Piece, out: &mut [u8])
     }
 }
 
-/// Writes what each piece asks.
+/// Writes what each piece asks for.
 fn put_pieces(pieces: &[Piece], out: &mut [u8])
     requires { IsTrue (list_all (is_inside (length out.old)) (map part_listed pieces.now)) }
     ensures { out.new ≡ with_parts (map part_listed pieces.now) out.old }
 {
     for piece in pieces {
         put_piece(piece, out);
+    }
+}
+
+/// Writes the texts, one after the other.
+fn put_texts(texts: &[&'static [u8]], out: &mut [u8])
+    requires { length (concat (map (λ t. t.now) texts.now)) ≤ length out.old }
+    ensures { out.new ≡ put 0 (concat (map (λ t. t.now) texts.now)) out.old }
+{
+    let mut place = 0;
+    for text in texts {
+        put(place, text, out);
+        place += text.len();
     }
 }
 
@@ -70,7 +82,7 @@ fn put_entry(place: usize, text: &[u8], out: &mut [u8])
 fn put_class_id(id: &[u8], out: &mut [u8])
     requires room { 592 + length id.now ≤ length out.old }
     requires whole { 592 ≤ length out.old }
-    ensures { IfSome (model (class_id id.now)) (λ m. out.new ≡ with_parts (parts_of m) out.old) }
+    ensures { out.new ≡ with_parts (parts_of (model [] (class_id id.now))) out.old }
 {
     put(0, b"\xD0\xCF\x11\xE0\xA1\xB1\x1A\xE1", out);
     put(26, b"\x03\0\xFE\xFF\x09", out);
@@ -78,10 +90,56 @@ fn put_class_id(id: &[u8], out: &mut [u8])
     put(592, id, out);
 }
 
-/// Writes a sample of the alternative over what is there.
-fn put_model(alternative: &Alternative, out: &mut [u8])
-    requires { IfSome (model (alternative_listed alternative.now)) (λ m. IsTrue (list_all (is_inside (length out.old)) (parts_of m))) }
-    ensures { IfSome (model (alternative_listed alternative.now)) (λ m. out.new ≡ with_parts (parts_of m) out.old) }
+/// Writes the header of an entry "_rels/", and inside it, at 6, that of an entry in the folder.
+fn put_package(folder: &'static [u8], out: &mut [u8])
+    requires { 36 + length folder.now ≤ length out.old }
+    ensures { out.new ≡ with_parts (parts_of (model [] (package_with folder.now))) out.old }
+{
+    put(0, b"PK\x03\x04", out);
+    put(6, b"PK\x03\x04", out);
+    put(30, b"_rels/", out);
+    put(36, folder, out);
+}
+
+/// Writes the header of a dBASE table with one field.
+fn put_dbase(out: &mut [u8])
+    requires { 65 ≤ length out.old }
+    ensures { out.new ≡ with_parts (parts_of (model [] dbase)) out.old }
+{
+    put(0, b"\x02\0\x01\x01", out);
+    put(8, b"\x41\0\x02", out);
+    put(32, b"A", out);
+    put(43, b"+", out);
+    put(64, b"\r", out);
+}
+
+/// What stands before the root element in a sample, so that it has this parent.
+fn prolog(parent: Option<usize>) -> &'static [u8]
+    ensures { result.now ≡ prolog parent }
+{
+    match parent {
+        Some(XML) => b"<?xml?>",
+        Some(HTML) => b"<!-- -->",
+        _ => b"",
+    }
+}
+
+/// The first of the names, and the empty one if there is none.
+fn first_of(names: &[&'static [u8]]) -> &'static [u8]
+    ensures { result.now ≡ slice_index_or (map (λ name. name.now) names.now) 0 [] }
+{
+    match names.first() {
+        Some(name) => *name,
+        None => b"",
+    }
+}
+
+/// Writes a sample of the alternative over what is there: the root element behind that prolog.
+fn put_model(prolog: &'static [u8], alternative: &Alternative, out: &mut [u8])
+    requires { IsTrue (list_all (is_inside (length out.old))
+        (parts_of (model prolog.now (alternative_listed alternative.now)))) }
+    ensures { out.new
+        ≡ with_parts (parts_of (model prolog.now (alternative_listed alternative.now))) out.old }
 {
     match alternative {
         Alternative::Bytes(bytes) => put_pieces(bytes.pieces, out),
@@ -93,48 +151,31 @@ fn put_model(alternative: &Alternative, out: &mut [u8])
         Alternative::FirstEntryIs(name) => put_entry(26, name, out),
         Alternative::FirstEntryEndsIn(name) => put_entry(26, name, out),
         Alternative::FirstEntryHasExtra(extra) => put_entry(28, extra, out),
-        Alternative::PackageWith(folder) => put_pieces(
-            &[
-                At(0, b"PK\x03\x04"),
-                At(6, b"PK\x03\x04"),
-                At(30, b"_rels/"),
-                At(36, folder),
-            ],
-            out,
-        ),
+        Alternative::PackageWith(folder) => put_package(folder, out),
         Alternative::ClassId(id) => put_class_id(*id, out),
         Alternative::DirectoryTag(tag) => {
             put(0, b"MM\0*\0\0\0\x06", out);
             put(8, &tag.to_be_bytes(), out);
         }
         Alternative::Animated => put_pieces(&[At(0, b"\x89PNG"), At(12, b"acTL")], out),
-        Alternative::SubRip => put(0, b"0\n00:00:00,000 --> 00:00:00,000", out),
-        Alternative::Dbase => put_pieces(
-            &[
-                At(0, b"\x02\0\x01\x01"),
-                At(8, b"\x41\0\x02"),
-                At(32, b"A"),
-                At(43, b"+"),
-                At(64, b"\r"),
-            ],
-            out,
-        ),
+        Alternative::SubRip => put_texts(&[b"0\n00:00:00,000 --> 00:00:00,000"], out),
+        Alternative::Dbase => put_dbase(out),
         Alternative::TarChecksum => put_pieces(&[At(0, b"\x01"), At(148, b"401")], out),
-        Alternative::Program(_) => {}
-        Alternative::Root(_) => {}
-        Alternative::RootWith(_, _) => {}
-        Alternative::JsonLines => {}
-        Alternative::JsonText => {}
-        Alternative::PlainText => put(0, b" ", out),
+        Alternative::Program(names) => put_texts(&[b"#!", first_of(names), b"\n"], out),
+        Alternative::Root(name) => put_texts(&[prolog, b"<", name, b">"], out),
+        Alternative::RootWith(name, text) => put_texts(&[prolog, b"<", name, b" ", text], out),
+        Alternative::JsonLines => put_texts(&[b"[]\n["], out),
+        Alternative::JsonText => put_texts(&[b"[]"], out),
+        Alternative::PlainText => put_texts(&[b" "], out),
     }
 }
 
-/// The length of that sample, if there is one.
-fn model_length(alternative: &Alternative) -> Option<usize>
-    requires { IfSome (model (alternative_listed alternative.now)) (λ m. least_of m ≤ SAMPLE_SIZE) }
-    ensures { result ≡ option_map least_of (model (alternative_listed alternative.now)) }
+/// The length of that sample.
+fn model_length(prolog: &[u8], alternative: &Alternative) -> usize
+    requires { least_of (model prolog.now (alternative_listed alternative.now)) ≤ SAMPLE_SIZE }
+    ensures { result ≡ least_of (model prolog.now (alternative_listed alternative.now)) }
 {
-    let length = match alternative {
+    match alternative {
         Alternative::Bytes(bytes) => bytes.least,
         Alternative::BinaryBytes(bytes) => bytes.least,
         Alternative::SharedObject => 46,
@@ -148,14 +189,13 @@ fn model_length(alternative: &Alternative) -> Option<usize>
         Alternative::SubRip => 31,
         Alternative::Dbase => 65,
         Alternative::TarChecksum => 512,
-        Alternative::Program(_) => return None,
-        Alternative::Root(_) => return None,
-        Alternative::RootWith(_, _) => return None,
-        Alternative::JsonLines => return None,
-        Alternative::JsonText => return None,
+        Alternative::Program(names) => 3 + first_of(names).len(),
+        Alternative::Root(name) => prolog.len() + 2 + name.len(),
+        Alternative::RootWith(name, text) => prolog.len() + 2 + name.len() + text.len(),
+        Alternative::JsonLines => 4,
+        Alternative::JsonText => 2,
         Alternative::PlainText => 1,
-    };
-    Some(length)
+    }
 }
 
 /// Writes the sample of built-in row `i`.
@@ -192,16 +232,18 @@ fn of_row(row: &FurtherRow, out: &mut [u8; SAMPLE_SIZE]) -> Option<usize>
     ensures counted { result ≡ option_map length (further_sample (row_listed row.now)) }
     ensures written { out.new ≡ written (further_sample (row_listed row.now)) out.old }
     ensures fits { IfSome result (λ n. n ≤ SAMPLE_SIZE) }
+    ensures some { IsSome result }
 {
     let alternative = row.signature.first()?;
-    let least = model_length(alternative)?;
-    let n = parent(row.parent, out).max(least);
-    put_model(alternative, &mut out[..n]);
+    let prolog = prolog(row.parent);
+    let n = parent(row.parent, out).max(model_length(prolog, alternative));
+    put_model(prolog, alternative, &mut out[..n]);
     Some(n)
 }
 
 /// Writes the sample of further row `i`, counted among these.
 fn further(i: usize, out: &mut [u8; SAMPLE_SIZE]) -> Option<usize>
+    ensures none { IsNone result ↔ (length further ≤ i) }
     ensures counted { result ≡ option_map length (option_and_then further_sample (slice_get further i)) }
     ensures written { out.new ≡ written (option_and_then further_sample (slice_get further i)) out.old }
     ensures fits { IfSome result (λ n. n ≤ SAMPLE_SIZE) }
@@ -215,8 +257,8 @@ fn further(i: usize, out: &mut [u8; SAMPLE_SIZE]) -> Option<usize>
 /// Writes the sample of row `i`, built-in or further, to the front of `out`, and zeros after it, and gives its length.
 ///
 /// A built-in row is the first that accepts its sample, and a further row is the wider answer of its own. Rows [`DLL`]
-/// and [`EPUB_ARCHIVE`], and the rows that the program of a script, a root element or JSON tells, have none: for these, and
-/// where there is no row, the answer is `None`, and `out` stays as it was.
+/// and [`EPUB_ARCHIVE`] are first for no buffer: for these, and where there is no row, the answer is `None`, and `out`
+/// stays as it was.
 pub fn sample(i: usize, out: &mut [u8; SAMPLE_SIZE]) -> Option<usize>
     ensures none { IsNone result ↔ HasNoSample i }
     ensures counted { result ≡ option_map length (sample_at i) }

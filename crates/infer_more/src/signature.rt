@@ -5,7 +5,7 @@ ghost use Rattle.infer_sig.specs.Signature.{allows, any_of, between, fits, has_p
 ghost use Rattle.infer_more.specs.Listed.{FitsAt, alternative_listed, bytes_listed, is_text, part_listed, signature_listed};
 ghost use Rattle.infer_more.specs.Row.{is_closed, is_closed_alternative, is_inside};
 ghost use Rattle.infer_inside.specs.Zip.{IsOneOf};
-ghost use Rattle.infer_more.specs.Signature.{Accepted, Fits, IsProgramAmong};
+ghost use Rattle.infer_notation.specs.Alternative.{Accepted, Fits, IsProgramAmong};
 
 use infer_deep::doc::has_class_id;
 use infer_deep::places::{same_text, stands_at};

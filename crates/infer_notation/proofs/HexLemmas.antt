@@ -26,7 +26,7 @@ or_false : (a : Bool) → (a || false) ≡ a
 or_false true = refl
 or_false false = refl
 
-same_test : (a b : ℕ) → (a == b) ≡ (b == a)
+pub same_test : (a b : ℕ) → (a == b) ≡ (b == a)
 same_test a b = grind (arith, nat_tests)
 
 has_next : (b : ℕ) (buf xs : List ℕ) → first_passes (allows (any_of (b ∷ xs))) buf ≡ (first_passes (λ x. b == x) buf || first_passes (allows (any_of xs)) buf)

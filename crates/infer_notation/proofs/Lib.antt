@@ -4,3 +4,7 @@ pub mod SignatureLemmas
 pub mod GrammarLemmas
 pub mod RelationLemmas
 pub mod SeenLemmas
+pub mod LeadLemmas
+pub mod RefusedLemmas
+pub mod MadeLemmas
+pub mod DescribedLemmas

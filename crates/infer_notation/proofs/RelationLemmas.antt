@@ -18,7 +18,7 @@ use Rattle.infer_notation.specs.declared.tokens.Token as declared
 use Rattle.infer_notation.specs.Words.{◌>>=◌, behind_blanks, is_blank}
 
 -- bytes of a token that was read count no more
-past_read : (n : ℕ) (xs : List ℕ) → tokens_at n xs ≡ tokens_at 0 (drop n xs)
+pub past_read : (n : ℕ) (xs : List ℕ) → tokens_at n xs ≡ tokens_at 0 (drop n xs)
 past_read zero [] = refl
 past_read zero (x ∷ xs) = refl
 past_read (suc n) [] = refl

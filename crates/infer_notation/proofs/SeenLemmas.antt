@@ -10,7 +10,7 @@ use Rattle.infer_sig.specs.Signature as fixed
 use Rattle.infer_inside.specs.Script.{IsProgram}
 use Rattle.infer_inside.specs.Zip.{IsOneOf}
 use Rattle.infer_inside.specs.Text.{IsBinary, IsDataByte}
-use Rattle.infer_more.specs.Signature.{Accepted, Alternative, Fits, IsProgramAmong, binary_bytes, bytes}
+use Rattle.infer_notation.specs.Alternative.{Accepted, Alternative, Fits, IsProgramAmong, binary_bytes, bytes}
 use Rattle.infer_notation.specs.Fixed.{Asked, accepts, fits_asked, has_data, is_data_byte}
 use Rattle.infer_notation.specs.Signature.{described}
 use Rattle.infer_notation.specs.Relations.{IsItemSeen, IsSeen, bytes_in, groups_of, item_of, items_in, left_groups, named_in, names, related, relations_of, spelled, token_byte}
@@ -189,3 +189,20 @@ seen_fixed (Some a) b None e = absurd cc
 seen_fixed (Some a) b (Some x) e =
     let same : x ≡ accepts a b = cc in
     (map described a, refl, subst (λ y. IsTrue y ↔ Accepted (map described a) b) (sym same) (accepted_is a b))
+
+-- ---- a signature that is known to be described
+
+pub known_related : (o : Option (List Alternative)) (b : List ℕ) (x : Bool) → IsSeen o b (Some x) → (alternatives : List Alternative) → o ≡ Some alternatives → IsTrue x ↔ Accepted alternatives b
+known_related o b x (all, is, seen) alternatives are =
+    let same : Some all ≡ Some alternatives = sym is ∙ are in
+    let each : all ≡ alternatives = cc in
+    subst (λ a. IsTrue x ↔ Accepted a b) each seen
+
+pub known_unseen : (o : Option (List Alternative)) (b : List ℕ) → IsSeen o b None → (alternatives : List Alternative) → o ≡ Some alternatives → ⊥
+known_unseen o b none alternatives are = let both : None ≡ Some alternatives = sym none ∙ are in absurd cc
+
+pub known_fixed : (o : Option (List Asked)) (b : List ℕ) (x : Bool) → ((asked : List Asked) → o ≡ Some asked → x ≡ accepts asked b)
+    → (alternatives : List Alternative) → option_map (map described) o ≡ Some alternatives → IsTrue x ↔ Accepted alternatives b
+known_fixed None b x h alternatives are = absurd cc
+known_fixed (Some asked) b x h alternatives are =
+    known_related (option_map (map described) (Some asked)) b x (seen_fixed (Some asked) b (Some x) (ap (λ (x : Bool). Some x) (h asked refl))) alternatives are

@@ -1,5 +1,5 @@
 -- A signature that is read token by token.
-use Rattle.std.proofs.Common.{◌≡◌, ◌+◌, ◌&&◌, ◌||◌, ℕ, zero, suc, Bool, true, false, not, List, [], ◌∷◌, Option, None, Some, length, drop, option_map, nat_le, inl, inr, refl, sym, ap, ◌∙◌, ◌<◌, arith, get_or}
+use Rattle.std.proofs.Common.{◌≡◌, ◌⊎◌, ◌+◌, ◌&&◌, ◌||◌, ℕ, zero, suc, Bool, true, false, not, List, [], ◌∷◌, Option, None, Some, length, drop, option_map, nat_le, inl, inr, refl, sym, ap, ◌∙◌, ◌<◌, arith, get_or}
 use Rattle.std.specs.List.{list_all}
 use Rattle.std.proofs.lemmas.Bool.{cases_Bool}
 use Rattle.infer_sig.specs.Signature.{has_part}
@@ -10,6 +10,7 @@ use Rattle.infer_notation.specs.declared.fixed.Cursor.{Cursor}
 use Rattle.infer_notation.specs.declared.fixed.Effect as declared
 use Rattle.infer_notation.specs.declared.fixed.Effect.TheVariants as effects
 use Rattle.infer_notation.specs.declared.fixed.Wanted.{Wanted}
+use Rattle.infer_notation.specs.declared.fixed.Wanted.TheVariants.{At, Binary, Byte, Bytes, Colon, Length, More, Or, Place}
 use Rattle.infer_notation.specs.declared.signature.State.{State}
 use Rattle.infer_notation.proofs.HexLemmas.{and_assoc, and_true, or_assoc}
 
@@ -58,13 +59,13 @@ map_joined buf s d asks_binary (Some r) =
 map_joined buf s d (opens n) (Some r) =
     ap (λ (t : Bool). Some t) (opened s.any s.last (nat_le n (length buf)) (list_all (has_part buf) r.parts) (not r.binary || has_data buf) (accepts r.alternatives buf))
 
-cursor_taken : (s : State) (d : Cursor) (f : declared.Effect) → (state_taken s d f).cursor ≡ d
+pub cursor_taken : (s : State) (d : Cursor) (f : declared.Effect) → (state_taken s d f).cursor ≡ d
 cursor_taken s d effects.Nothing = refl
 cursor_taken s d (effects.Has has) = refl
 cursor_taken s d (effects.Opens long) = refl
 
 -- a step that was taken
-step_was : (buf : List ℕ) (d : Cursor) (f : declared.Effect) (r : Option (Cursor × Effect)) → Some (d, f) ≡ option_map (step_seen buf) r
+pub step_was : (buf : List ℕ) (d : Cursor) (f : declared.Effect) (r : Option (Cursor × Effect)) → Some (d, f) ≡ option_map (step_seen buf) r
     → (e : Effect) × (r ≡ Some (d, e)) × (effect_seen buf e ≡ f)
 step_was buf d f None is = absurd cc
 step_was buf d f (Some (d', e)) is =
@@ -91,6 +92,18 @@ no_more : (buf : List ℕ) (a l : Bool) → rest_seen buf a l (rest_of [] false 
 no_more buf true l = refl
 no_more buf false true = refl
 no_more buf false false = refl
+
+-- a signature ends, or it does not
+pub ended_is : (w : Wanted) → (ended w ≡ None) ⊎ (ended w ≡ Some (rest_of [] false []))
+ended_is Length = inl refl
+ended_is Colon = inl refl
+ended_is At = inl refl
+ended_is Place = inl refl
+ended_is Bytes = inl refl
+ended_is More = inr refl
+ended_is Byte = inl refl
+ended_is Binary = inl refl
+ended_is Or = inr refl
 
 pub given_ended : (buf : List ℕ) (s : State) (w : Wanted) → s.cursor.wanted ≡ w → ended w ≡ Some (rest_of [] false []) → given buf s 0 [] ≡ Some (s.any || s.last)
 given_ended buf s w is ends = ap (λ w. option_map (rest_seen buf s.any s.last) (ended w)) is ∙ ap (option_map (rest_seen buf s.any s.last)) ends ∙ ap (λ (b : Bool). Some b) (no_more buf s.any s.last)

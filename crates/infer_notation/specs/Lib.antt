@@ -1,6 +1,9 @@
+pub mod Alternative
 pub mod Words
 pub mod Tokens
 pub mod Fixed
 pub mod Grammar
 pub mod Relations
 pub mod Signature
+pub mod Leads
+pub mod Described

@@ -3,7 +3,7 @@ use Rattle.std.specs.Prelude.{◌≡◌, ◌+◌, ◌*◌, ◌↔◌, ◌==◌, 
 use Rattle.std.specs.List.{list_all, slice_split}
 use Rattle.std.specs.Str.{bytes_eq}
 use denote.Ref.{Bor}
-use Rattle.infer_more.specs.Signature.{Accepted, Alternative, Fits, animated, class_id, dbase, directory_tag, first_entry_ends_in, first_entry_has_extra, first_entry_is, json_lines, json_text, package_with, plain_text, program, root, root_with, shared_object, subrip, tar_checksum}
+use Rattle.infer_notation.specs.Alternative.{Accepted, Alternative, Fits, animated, class_id, dbase, directory_tag, first_entry_ends_in, first_entry_has_extra, first_entry_is, json_lines, json_text, package_with, plain_text, program, root, root_with, shared_object, subrip, tar_checksum}
 use Rattle.infer_notation.specs.Grammar.{tokens_of}
 use Rattle.infer_notation.specs.Tokens.{Token, bare, mark, quoted, set, token_listed}
 use Rattle.infer_notation.specs.Words.{◌>>=◌, byte_of, byte_with}

@@ -1,7 +1,7 @@
 -- Signatures as a text describes them: fixed bytes, or a relation.
 use Rattle.std.specs.Prelude.{◌||◌, ℕ, Bool, false, List, [], ◌∷◌, Option, map, option_map, if◌then◌else◌}
 use Rattle.std.specs.Int.{is_in_range}
-use Rattle.infer_more.specs.Signature.{Alternative, binary_bytes, bytes}
+use Rattle.infer_notation.specs.Alternative.{Alternative, binary_bytes, bytes}
 use Rattle.infer_notation.specs.Fixed.{Asked, alternatives_of}
 use Rattle.infer_notation.specs.Relations.{relations_of}
 use Rattle.infer_notation.specs.Words.{behind_blanks}

@@ -55,6 +55,7 @@ pub enum Effect {
 }
 
 /// Where the reading goes on behind the token, and what it adds for the buffer.
+#[inline(always)]
 #[tactic(auto, unfolding(crate::specs::Fixed::step))]
 pub fn step(cursor: Cursor, token: Token<'_>, buf: &[u8]) -> Result<(Cursor, Effect), Reason>
     ensures { found_by result ≡ option_map (step_seen buf.now) (step cursor (token_listed token.entry)) }
@@ -113,6 +114,7 @@ fn or_read(token: Token<'_>) -> Result<(Cursor, Effect), Reason>
     }
 }
 
+#[inline(always)]
 fn length_read(token: Token<'_>, buf: &[u8]) -> Result<(Cursor, Effect), Reason>
     ensures { found_by result ≡ option_map (step_seen buf.now) (length_read (token_listed token.entry)) }
 {
@@ -133,6 +135,7 @@ fn length_read(token: Token<'_>, buf: &[u8]) -> Result<(Cursor, Effect), Reason>
 }
 
 /// What follows on a mark that is wanted.
+#[inline(always)]
 fn behind_mark(
     mark: u8,
     wanted: Wanted,
@@ -148,6 +151,7 @@ fn behind_mark(
     }
 }
 
+#[inline(always)]
 fn place_read(cursor: Cursor, token: Token<'_>) -> Result<(Cursor, Effect), Reason>
     ensures { found_by result ≡ option_map (step_seen []) (place_read cursor.least cursor.place (token_listed token.entry)) }
 {
@@ -172,6 +176,7 @@ fn place_read(cursor: Cursor, token: Token<'_>) -> Result<(Cursor, Effect), Reas
     }
 }
 
+#[inline(always)]
 fn more_read(cursor: Cursor, token: Token<'_>, buf: &[u8]) -> Result<(Cursor, Effect), Reason>
     ensures { found_by result ≡ option_map (step_seen buf.now) (more_read cursor.least cursor.place (token_listed token.entry)) }
 {
@@ -202,6 +207,7 @@ fn other_byte(cursor: Cursor, token: Token<'_>, buf: &[u8]) -> Result<(Cursor, E
 }
 
 /// What a token asks for at the place.
+#[inline(always)]
 fn piece(cursor: Cursor, token: Token<'_>, buf: &[u8]) -> Result<(Cursor, Effect), Reason>
     ensures { found_by result ≡ option_map (step_seen buf.now) (piece cursor.least cursor.place (token_listed token.entry)) }
 {
@@ -232,6 +238,7 @@ fn set_read(cursor: Cursor, digits: &[u8], buf: &[u8]) -> Result<(Cursor, Effect
 }
 
 /// The bytes that a bare word writes, or one of a range.
+#[inline(always)]
 fn word_part(cursor: Cursor, word: &[u8], buf: &[u8]) -> Result<(Cursor, Effect), Reason>
     ensures { found_by result ≡ option_map (step_seen buf.now) (word_part cursor.least cursor.place word.now (range_of word.now)) }
 {
@@ -250,7 +257,7 @@ fn word_part(cursor: Cursor, word: &[u8], buf: &[u8]) -> Result<(Cursor, Effect)
 }
 
 /// The bytes from the first one of two up to the second one.
-fn range(word: &[u8]) -> Option<(u8, u8)>
+pub fn range(word: &[u8]) -> Option<(u8, u8)>
     ensures { result ≡ range_of word.now }
 {
     match word {
@@ -264,6 +271,7 @@ fn range(word: &[u8]) -> Option<(u8, u8)>
 }
 
 /// A part of that many bytes, all of them within the least length.
+#[inline(always)]
 fn within(cursor: Cursor, size: usize, has: bool) -> Result<(Cursor, Effect), Reason>
     ensures { found_by result ≡ within_seen cursor.least cursor.place size has }
 {

@@ -5,6 +5,7 @@ mod described;
 mod fixed;
 mod items;
 pub mod laws;
+mod leads;
 mod names;
 mod reason;
 mod relations;
@@ -12,6 +13,7 @@ mod signature;
 mod tokens;
 mod words;
 
-pub use described::accepts;
+pub use described::{accepts, accepts_known};
+pub use leads::{Lead, lead_of};
 pub use reason::{Flaw, Reason};
 pub use words::{behind_first, from, skip_blanks, split_word};

@@ -1,7 +1,7 @@
 //! Relations as a text writes them, as in `root: rss or RDF with "http://purl.org/rss/1.0/"`.
 ghost use Rattle.std.specs.Prelude.{◌≡◌, ◌↔◌, ◌∷◌, ◌≤◌, ◌<◌, IfErr, IfOk, IsTrue, None, length, map, option_map};
 ghost use Rattle.infer_inside.specs.Zip.{IsOneOf};
-ghost use Rattle.infer_more.specs.Signature.{Fits, IsProgramAmong};
+ghost use Rattle.infer_notation.specs.Alternative.{Fits, IsProgramAmong};
 ghost use Rattle.infer_notation.specs.Relations.{IsItemSeen, IsSeen, group_listed, groups_of, item_listed, item_of, left_groups, left_length, relations_of, spelled};
 ghost use Rattle.infer_notation.specs.Tokens.{token_listed};
 ghost use Rattle.infer_notation.specs.Words.{found_by};
@@ -36,6 +36,7 @@ pub struct Group<'a> {
 }
 
 impl<'a> Group<'a> {
+    /// The tokens that were read.
     pub fn read(&self) -> &[Token<'a>]
         requires { self.now.count ≤ 24 }
         ensures { map token_listed result.now ≡ group_listed self.now }

@@ -1,12 +1,15 @@
 //! Fixed signatures as a text writes them, asked of a buffer while they are read.
-ghost use Rattle.std.specs.Prelude.{◌≡◌, ◌+◌, ◌<◌, IfErr, IfOk, None, drop, false, length, option_map, slice_index};
-ghost use Rattle.infer_notation.specs.Fixed.{accepts, alternatives_of, given, state_taken};
+ghost use Rattle.std.specs.Prelude.{◌≡◌, ◌↔◌, ◌+◌, ◌<◌, ◌==◌, IfErr, IfOk, IsTrue, List, None, Some, drop, false, length, option_map, slice_index};
+ghost use Rattle.std.specs.List.{list_any};
+ghost use Rattle.infer_notation.specs.Fixed.{Asked, accepts, alternatives_of, given, start, state, state_taken};
 ghost use Rattle.infer_notation.specs.Words.{found_by, is_blank};
+ghost use Rattle.infer_notation.specs.declared.fixed.Wanted.TheVariants.{Length};
 
 use crate::fixed::{Cursor, Effect, Wanted, step};
 use crate::reason::{Flaw, Reason};
 use crate::tokens::token_at;
 use crate::words::{behind_first, from, skip_blanks};
+use memchr::memchr;
 
 /// How far a signature was read, whether the buffer fits an alternative before the last one, and whether it has what was
 /// read of the last one.
@@ -21,15 +24,7 @@ struct State {
 pub fn accepts_fixed(text: &[u8], buf: &[u8]) -> Result<bool, Flaw>
     ensures { found_by result ≡ option_map (λ alternatives. accepts alternatives buf.now) (alternatives_of text.now) }
 {
-    let mut state = State {
-        cursor: Cursor {
-            wanted: Wanted::Length,
-            least: 0,
-            place: 0,
-        },
-        any: false,
-        last: false,
-    };
+    let mut state = start();
     let mut rest = skip_blanks(text);
     while !rest.is_empty() {
         match next(state, rest, buf) {
@@ -54,7 +49,78 @@ pub fn accepts_fixed(text: &[u8], buf: &[u8]) -> Result<bool, Flaw>
     }
 }
 
+/// Whether the buffer fits an alternative of the fixed signature that the text describes. It stops at a part that the
+/// buffer lacks, if no "o" stands behind it: then no "or" does.
+pub fn fits_fixed(text: &[u8], buf: &[u8]) -> bool
+    ensures { (alternatives : List Asked) → alternatives_of text.now ≡ Some alternatives → result ≡ accepts alternatives buf.now }
+{
+    let mut state = start();
+    let mut rest = skip_blanks(text);
+    while !rest.is_empty() {
+        match next(state, rest, buf) {
+            Ok((more, count)) => {
+                let behind = from(behind_first(rest), count);
+                if is_refused(state, more, behind) {
+                    return false;
+                }
+                state = more;
+                rest = skip_blanks(behind);
+            }
+            Err(_) => return false,
+        }
+    }
+    state.any || state.last
+}
+
+/// The state in which a signature begins.
+fn start() -> State
+    ensures { result ≡ state start false false }
+{
+    State {
+        cursor: Cursor {
+            wanted: Wanted::Length,
+            least: 0,
+            place: 0,
+        },
+        any: false,
+        last: false,
+    }
+}
+
+/// Whether the buffer lacks what was read last, and no "or" follows, since no "o" does. The text is looked through once an
+/// alternative.
+#[inline(always)]
+fn is_refused(before: State, after: State, text: &[u8]) -> bool
+    ensures any { IsTrue result → after.any ≡ false }
+    ensures last { IsTrue result → after.last ≡ false }
+    ensures wanted { IsTrue result → (after.cursor.wanted ≡ Length → ⊥) }
+    ensures none { IsTrue result → list_any (λ x. x == 0x6F) text.now ≡ false }
+{
+    if after.any || after.last || is_length(after.cursor.wanted) {
+        return false;
+    }
+    if !before.last && !is_length(before.cursor.wanted) {
+        return false;
+    }
+    match memchr(b'o', text) {
+        Some(_) => false,
+        None => true,
+    }
+}
+
+/// Whether an alternative is to begin.
+#[inline(always)]
+fn is_length(wanted: Wanted) -> bool
+    ensures { IsTrue result ↔ (wanted ≡ Length) }
+{
+    match wanted {
+        Wanted::Length => true,
+        _ => false,
+    }
+}
+
 /// The state behind the token at the front, and how many bytes it takes behind its first.
+#[inline(always)]
 fn next(state: State, text: &[u8], buf: &[u8]) -> Result<(State, usize), Reason>
     requires some { 0 < length text.now }
     requires no_blank { is_blank (slice_index text.now 0) ≡ false }
@@ -68,6 +134,7 @@ fn next(state: State, text: &[u8], buf: &[u8]) -> Result<(State, usize), Reason>
 }
 
 /// The state with what a token adds.
+#[inline(always)]
 fn taken(state: State, cursor: Cursor, effect: Effect) -> State
     ensures { result ≡ state_taken state cursor effect }
 {

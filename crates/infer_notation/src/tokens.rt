@@ -26,6 +26,7 @@ enum Run {
 }
 
 /// The token at the front of a text, and how many bytes it takes behind its first.
+#[inline(always)]
 #[tactic(auto, unfolding(crate::specs::Tokens::token_at))]
 pub fn token_at(text: &[u8]) -> Result<(Token<'_>, usize), Reason>
     ensures value { option_map pair_listed (found_by result) ≡ token_at text.now }
@@ -102,6 +103,7 @@ fn bare_at(text: &[u8]) -> Result<(Token<'_>, usize), Reason>
 }
 
 /// How many bytes at the front of the text are of the run.
+#[inline(always)]
 fn run_len(run: Run, text: &[u8]) -> usize
     ensures value { result ≡ prefix_len (is_of run) text.now }
     ensures bound { result ≤ length text.now }
@@ -114,6 +116,7 @@ fn run_len(run: Run, text: &[u8]) -> usize
     text.len()
 }
 
+#[inline(always)]
 fn is_of(run: Run, byte: u8) -> bool
     ensures { result ≡ is_of run byte }
 {
@@ -128,6 +131,7 @@ fn is_of(run: Run, byte: u8) -> bool
     }
 }
 
+#[inline(always)]
 fn is_mark(byte: u8) -> bool
     ensures { result ≡ is_mark byte }
 {

@@ -68,6 +68,7 @@ fn is_digit(byte: u8) -> bool
 }
 
 /// The number with these decimal digits.
+#[inline(always)]
 pub fn number(digits: &[u8]) -> Result<usize, Reason>
     ensures value { found_by result ≡ number_of digits.now }
     ensures bound { IfSome (found_by result) (λ n. n < 1_000_000_000) }

@@ -1,11 +1,11 @@
 -- Rows have one answer for a buffer.
-use Rattle.std.proofs.Common.{◌≡◌, ℕ, List, [], ◌∷◌, Option, None, Some, MatchOption, inl, inr, option_map, ap, subst, sym, ◌∙◌}
+use Rattle.std.proofs.Common.{◌≡◌, ℕ, List, [], ◌∷◌, Option, None, Some, MatchOption, inl, inr, option_map, subst, sym, ◌∙◌}
 use Rattle.infer.specs.Row.{Accepts}
 use Rattle.infer.specs.Table.{table}
 use Rattle.infer.specs.Triple.{Triple}
 use Rattle.infer_more.specs.Wider.{IsWiderAnswer}
-use Rattle.infer_types.specs.Line.{Row}
-use Rattle.infer_types.specs.Text.{Answers, IsFirstShown, IsTypesAnswer}
+use Rattle.infer_more.specs.Line.{Row}
+use Rattle.infer_more.specs.Text.{Answers, IsFirstShown, IsTypesAnswer}
 use Rattle.test_infer.proofs.OneLemmas.{IsAnswer-same, IsWiderAnswer-same}
 
 IsFirstShown-same : (P : Row → Type 0) (rows : List Row) (t u : Option Triple) → IsFirstShown P rows t → IsFirstShown P rows u → t ≡ u

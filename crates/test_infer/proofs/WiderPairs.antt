@@ -3,7 +3,7 @@ use Rattle.std.proofs.Common.{◌≡◌, ◌≤◌, ◌++◌, ℕ, Bool, true, f
 use Rattle.std.proofs.lemmas.Bool.Decides.{nat_tests}
 use Rattle.std.proofs.lemmas.List.Folds.{list_all_at}
 use Rattle.std.specs.List.{list_all}
-use Rattle.std.specs.Prelude.{slice_index_or, if◌then◌else◌}
+use Rattle.std.specs.Prelude.{slice_index_or, IsFalse, if◌then◌else◌}
 use denote.Ref.{Bor}
 use Rattle.infer_sig.specs.Signature as fixed
 use Rattle.infer_sig.specs.Signature.{text}
@@ -27,8 +27,14 @@ use Rattle.infer_more.specs.Outline.{lines, outline}
 use Rattle.infer_more.specs.Laws.{IsLost, TextsFit}
 use Rattle.infer_more.specs.Listed.{AreEnded, joined, row_listed, signature_listed}
 use Rattle.infer_more.specs.Row.{Further, is_closed, is_closed_alternative, is_row_closed}
-use Rattle.infer_more.specs.Samples.{HasNoSample, further_sample, has_room, least_of, model, model_entry, parts_of, sample_at, written}
-use Rattle.infer_more.specs.Signature.{Accepted, Alternative, at_least, binary_bytes, bytes, json_text, plain_text}
+use Rattle.infer_more.specs.Described.{DescribesRows, last_line, remark}
+use Rattle.infer_more.specs.Line.{is_mime_type, row_of}
+use Rattle.infer_more.specs.Text.{is_line_end}
+use Rattle.infer_notation.specs.Words.{behind_word, word}
+use Rattle.infer_more.proofs.DescribedLemmas.{described_rows}
+use Rattle.std.proofs.lemmas.List.Elements.{All-from_recursion}
+use Rattle.infer_more.specs.Samples.{HasNoSample, further_sample, has_room, least_of, model, model_entry, parts_of, prolog, row_model, sample_at, texts, written}
+use Rattle.infer_notation.specs.Alternative.{Accepted, Alternative, at_least, binary_bytes, bytes, json_text, plain_text}
 use Rattle.infer_more.specs.Table.{archives, code, further, headers, images, late, markup, media, packages, records}
 use Rattle.infer_more.specs.Wider.{IsWidened, Widens, parent_at, shown, wider}
 use Rattle.infer_sig.proofs.PlaceLemmas.{stands_by_place}
@@ -155,7 +161,7 @@ unfolding table
 sample_at_pair = (refl, λ e. absurd (cc))
 
 pub HasNoSample_pair : HasNoSample DLL × (¬ HasNoSample PDF)
-HasNoSample_pair = (inl refl, λ h. ⊎_elim (λ e. omega (arith, e)) (λ i. ⊎_elim (λ e. omega (arith, e)) (λ j. omega (arith, j.0)) i) h)
+HasNoSample_pair = (inl refl, λ h. ⊎_elim (λ e. omega (arith, e)) (λ i. ⊎_elim (λ e. omega (arith, e)) (λ j. omega (arith, j)) i) h)
 
 pub written_pair : (written None (codes "a") ≡ codes "a") × (¬ (written (Some []) (codes "a") ≡ codes "a"))
 written_pair = (refl, λ e. omega (arith, ap (λ b. get_or b 0 0) e))
@@ -260,8 +266,17 @@ least_of_pair = (refl, λ e. omega (arith, e))
 pub parts_of_pair : (length (parts_of (fixed.at_least 3 [])) ≡ 0) × (¬ (length (parts_of (fixed.at_least 3 (text 0 (codes "a") ∷ []))) ≡ 0))
 parts_of_pair = (refl, λ e. omega (arith, e))
 
-pub model_pair : (model (binary_bytes (fixed.at_least 3 [])) ≡ Some (fixed.at_least 3 [])) × (¬ (model json_text ≡ Some (fixed.at_least 3 [])))
-model_pair = (refl, λ e. absurd (cc))
+pub prolog_pair : (prolog (Some XML) ≡ codes "<?xml?>") × (¬ (prolog None ≡ codes "<?xml?>"))
+prolog_pair = (refl, λ e. omega (arith, ap length e))
+
+pub texts_pair : (least_of (texts (codes "a" ∷ codes "bc" ∷ [])) ≡ 3) × (¬ (least_of (texts (codes "a" ∷ [])) ≡ 3))
+texts_pair = (refl, λ e. omega (arith, e))
+
+pub model_pair : (model [] (binary_bytes (fixed.at_least 3 [])) ≡ fixed.at_least 3 []) × (¬ (model [] json_text ≡ fixed.at_least 3 []))
+model_pair = (refl, λ e. omega (arith, ap least_of e))
+
+pub row_model_pair : (row_model (further_row (at_least 3 [] ∷ [])) ≡ Some (fixed.at_least 3 [])) × (¬ (row_model (further_row []) ≡ Some (fixed.at_least 3 [])))
+row_model_pair = (refl, λ e. absurd (cc))
 
 pub model_entry_pair : (least_of (model_entry 26 (codes "ab")) ≡ 32) × (¬ (least_of (model_entry 26 []) ≡ 32))
 model_entry_pair = (refl, λ e. omega (arith, e))
@@ -274,4 +289,11 @@ unfolding table stands le16 le32 be32
 IsSniffer_pair = (
   record { reserved = omega arith; few = omega arith; judged = (λ s. omega (arith, s.long), proof_of (none_accepts stands_by_place []) refl); lasts = tt },
   λ h. omega (arith, h.reserved),
+)
+
+pub DescribesRows_pair : DescribesRows (codes "# a") [] × (¬ DescribesRows (codes "a") [])
+unfolding row_of is_mime_type word behind_word
+DescribesRows_pair = (
+  last_line (codes "# a") None (All-from_recursion (λ x. IsFalse (is_line_end x)) (codes "# a") (refl, (refl, (refl, tt)))) (remark [] (codes " a") refl),
+  λ d. let none : None ≡ Some [] = described_rows (codes "a") [] d in absurd (cc),
 )

@@ -32,7 +32,7 @@ ghost use Rattle.infer_sniff.specs.Cases.{Holds};
 ghost use Rattle.infer_sniff.specs.Verdicts.{IsSettled, IsTypeOf, IsVerdict};
 ghost use Rattle.infer_sniff.specs.declared.case.Case.TheVariants.{Space};
 ghost use Rattle.infer_sniff.specs.declared.verdict.Verdict.TheVariants.{SoFar};
-ghost use Rattle.infer_types.specs.Text.{IsTypesAnswer};
+ghost use Rattle.infer_more.specs.Text.{IsTypesAnswer};
 ghost use Rattle.infer_uses.specs.Choices.{IsAgreed, IsChoice};
 ghost use Rattle.infer_uses.specs.Labels.{IsLabel};
 ghost use Rattle.infer_uses.specs.declared.name.Choice.TheVariants.{NameAlone};
@@ -247,7 +247,7 @@ pub fn has_no_wider_answer(buf: &[u8]) -> bool
 pub fn has_no_answer_of_types(buf: &[u8]) -> bool
     ensures { IsTrue result ↔ IsTypesAnswer [] buf.now None }
 {
-    infer_types::get(b"", buf).is_none()
+    infer_more::types::get(b"", buf).is_none()
 }
 
 pub fn has_no_encoding(buf: &[u8]) -> bool

@@ -111,7 +111,7 @@ pub(super) static BELOW: &[Below] = &[
         rooted![b"svg" () 45, b"rss" () 46, b"RDF" (b"http://purl.org/rss/1.0/") 46, b"feed" (b"http://www.w3.org/2005/Atom") 47, b"kml" () 48, b"gpx" () 49, b"html" (b"http://www.w3.org/1999/xhtml") 50, b"plist" () 51],
     ),
     Programs(
-        named![b"python" 37, b"pypy" 37, b"perl" 38, b"ruby" 39, b"jruby" 39, b"node" 40, b"nodejs" 40, b"bun" 40, b"deno" 40, b"php" 41, b"lua" 42, b"luajit" 42, b"awk" 43, b"gawk" 43, b"mawk" 43, b"nawk" 43, b"tclsh" 44, b"wish" 44, b"expect" 44],
+        by_first![() (b"awk" 43) (b"bun" 40) () (b"deno" 40) (b"expect" 44) () (b"gawk" 43) () () (b"jruby" 39) () (b"lua" 42, b"luajit" 42) (b"mawk" 43) (b"node" 40, b"nodejs" 40, b"nawk" 43) () (b"python" 37, b"pypy" 37, b"perl" 38, b"php" 41) () (b"ruby" 39) () (b"tclsh" 44) () () (b"wish" 44) () () () () () () () ()],
     ),
 ];
 

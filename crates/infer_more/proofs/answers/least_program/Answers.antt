@@ -1,20 +1,24 @@
-use Rattle.std.proofs.Common.{◌≡◌, subst, sym}
-use Rattle.infer_inside.specs.Script.{IsProgram}
-use Rattle.infer_more.specs.Index.{IsNamed, named_row}
+use Rattle.std.proofs.Common.{◌≡◌, refl, subst, sym, true}
+use Rattle.infer_more.specs.Index.{IsNamed, IsOfProgram, ascends, named_row, names_like}
 use Rattle.infer_more.specs.declared.index.lists.TheConstants.{FURTHER_COUNT}
-use Rattle.infer_more.proofs.LeastLemmas.{least_none, least_same, no_rows, rows_same}
+use Rattle.infer_more.proofs.FoundLemmas.{listed_like}
+use Rattle.infer_more.proofs.LeastLemmas.{least_none, least_same}
 use Rattle.infer_more.proofs.answers.least_program.Goals as goal
+
+pub least_named-requires : goal.least_named-requires
+least_named-requires c = subst (λ n. ascends named_row n ≡ true) (sym c.names_like.ensures) (listed_like (ascends named_row) refl c.args.lists.now c.in-Some.name.now c.requires)
 
 pub returns-in-Some : goal.returns-in-Some
 returns-in-Some c =
     let b = c.args.buf.now in
-    let names = c.args.names.now in
     let name = c.in-Some.name.now in
-    least_same (IsNamed (λ other. other ≡ name) names) (IsNamed (λ other. IsProgram other b) names) FURTHER_COUNT _
-    (λ i. rows_same named_row _ _ names (λ k d lt same. subst (λ n. IsProgram n b) (sym same) c.in-Some.ensures.found) i)
-    (λ i. rows_same named_row _ _ names (λ k d lt is. c.in-Some.ensures.only _ is) i)
+    let lists = c.args.lists.now in
+    least_same (IsNamed (λ other. other ≡ name) c.names_like.result.now) (IsOfProgram b lists) FURTHER_COUNT _
+    (λ i is. (name, c.in-Some.ensures.found, subst (λ n. IsNamed (λ other. other ≡ name) n i) c.names_like.ensures is))
+    (λ i (other, p, is).
+    let same = c.in-Some.ensures.only other p in
+    subst (λ n. IsNamed (λ other. other ≡ name) n i) (sym c.names_like.ensures) (subst (λ n. IsNamed (λ other. other ≡ n) (names_like lists n) i) same is))
     c.least_named.ensures
 
 pub returns-in-None : goal.returns-in-None
-returns-in-None c =
-    least_none _ FURTHER_COUNT (no_rows named_row (λ e. IsProgram e.name.now c.args.buf.now) c.args.names.now (λ k d lt. c.in-None.ensures.found _))
+returns-in-None c = least_none (IsOfProgram c.args.buf.now c.args.lists.now) FURTHER_COUNT (λ i (name, p, is). c.in-None.ensures.found name p)

@@ -3,7 +3,7 @@ use Rattle.std.proofs.lemmas.Bool.{false≢true}
 use Rattle.infer_deep.specs.Signatures.{Reachable}
 use Rattle.infer_more.specs.Listed.{alternative_listed}
 use Rattle.infer_more.specs.Open.{is_sound}
-use Rattle.infer_more.specs.Signature.{Fits}
+use Rattle.infer_notation.specs.Alternative.{Fits}
 use Rattle.infer_more.proofs.ListLemmas.{passed_by}
 use Rattle.infer_more.proofs.OpenLemmas.{none_more, none_of, some_at, some_fits}
 use Rattle.infer_more.proofs.open.may_accept.Goals as goal

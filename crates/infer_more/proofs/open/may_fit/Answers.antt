@@ -4,7 +4,7 @@ use Rattle.infer_deep.specs.Signatures.{Reachable}
 use Rattle.infer_inside.specs.Zip.{applications}
 use Rattle.infer_more.specs.Listed.{alternative_listed, bytes_listed}
 use Rattle.infer_more.specs.Open.{is_sound}
-use Rattle.infer_more.specs.Signature.{Fits}
+use Rattle.infer_notation.specs.Alternative.{Fits}
 use Rattle.infer_more.specs.declared.signature.Alternative.{Alternative}
 use Rattle.infer_more.proofs.FoundLemmas.{one_of}
 use Rattle.infer_more.proofs.OpenLemmas.{animation_comes, animation_known, binary_open, bytes_open}

@@ -1,7 +1,7 @@
 use Rattle.std.proofs.Common.{[], ◌∷◌, ◌++◌, subst}
 use Rattle.infer_inside.specs.Json.{IsJson, IsJsonLines}
 use Rattle.infer_more.specs.Listed.{alternative_listed}
-use Rattle.infer_more.specs.Signature.{Fits}
+use Rattle.infer_notation.specs.Alternative.{Fits}
 use Rattle.infer_more.specs.declared.signature.Alternative.{Alternative}
 use Rattle.infer_more.proofs.OpenLemmas.{fit_stays, not_yet}
 use Rattle.infer_more.proofs.open.stays.Goals as goal

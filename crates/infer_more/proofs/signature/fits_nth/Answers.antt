@@ -3,7 +3,7 @@ use Rattle.std.specs.Prelude.{MatchOption}
 use Rattle.std.proofs.lemmas.Option.{slice_get_past, slice_get_read}
 use Rattle.infer_more.specs.Listed.{alternative_listed}
 use Rattle.infer_more.specs.Row.{is_closed_alternative}
-use Rattle.infer_more.specs.Signature.{Fits}
+use Rattle.infer_notation.specs.Alternative.{Fits}
 use Rattle.infer_more.specs.declared.signature.Alternative.{Alternative}
 use Rattle.infer_more.proofs.ListLemmas.{passed_read}
 use Rattle.infer_more.proofs.signature.fits_nth.Goals as goal

@@ -7,7 +7,7 @@ use Rattle.infer_notation.proofs.signature.accepts_fixed.Goals as goal
 pub loop-rest-init : goal.loop-rest-init
 loop-rest-init c = record {
   begins = c.skip_blanks-rest.ensures.ends;
-  same = ap (given c.args.buf.now (state start false false) 0) c.skip_blanks-rest.ensures.value ∙ given_start c.args.buf.now c.args.text.now;
+  same = ap (λ s. given c.args.buf.now s 0 c.skip_blanks-rest.result.now) c.start-state.ensures ∙ ap (given c.args.buf.now (state start false false) 0) c.skip_blanks-rest.ensures.value ∙ given_start c.args.buf.now c.args.text.now;
 }
 
 pub loop-rest-preserved : goal.loop-rest-preserved

@@ -1,5 +1,5 @@
 use Rattle.std.proofs.Common.{[], refl}
-use Rattle.infer_types.specs.Text.{IsTypesAnswer, found_shows}
+use Rattle.infer_more.specs.Text.{IsTypesAnswer, found_shows}
 use Rattle.test_infer.proofs.OneLemmas.{told_none}
 use Rattle.test_infer.proofs.TypesLemmas.{IsTypesAnswer-same}
 use Rattle.test_infer.proofs.definitions.has_no_answer_of_types.Goals as goal

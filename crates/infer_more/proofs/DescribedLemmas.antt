@@ -1,0 +1,283 @@
+-- The rows that are read of a text are those that it describes.
+use Rattle.std.proofs.Common.{◌≡◌, ◌<◌, ◌&&◌, ◌==◌, ℕ, Bool, true, false, not, List, [], ◌∷◌, ◌++◌, Option, None, Some, codes, drop, length, nat_le, option_map, take, inl, inr, refl, sym, ap, subst, ◌∙◌, arith}
+use Rattle.std.proofs.Math.Seq.{drop-append_seam, take-append_seam}
+use Rattle.std.proofs.lemmas.Bool.{cases_Bool, eqb-true}
+use Rattle.std.proofs.lemmas.List.{append-nil, take-append-drop}
+use Rattle.std.proofs.lemmas.List.Splits.{slice_split_at, slice_split_none}
+use Rattle.std.proofs.lemmas.Slice.Eq.{bytes_eq-Decides}
+use Rattle.std.specs.Prelude.{if◌then◌else◌}
+use Rattle.std.specs.List.{list_all, prefix_len}
+use Rattle.infer_notation.proofs.MadeLemmas.{both_true, front_length, fronts_pass, next_fails, not_same}
+use Rattle.infer_notation.proofs.DescribedLemmas.{IsSplit, cut, is_described, is_signature, is_split, whole}
+use Rattle.infer.specs.Table as built_in
+use Rattle.infer.specs.declared.table.file_type.MatcherType.{MatcherType}
+use Rattle.infer_notation.specs.Alternative.{Alternative}
+use Rattle.infer_notation.specs.Signature.{signature_of}
+use Rattle.infer_notation.specs.Words.{◌>>=◌, behind_blanks, behind_word, first_passes, is_blank, word, word_len}
+use Rattle.infer_more.specs.Described.{AreBlanks, BeginsWithWord, DescribesLine, DescribesRow, DescribesRows, NamesParent, a_row, blank_line, last_line, next_line, remark}
+use Rattle.infer_more.specs.Line.{Row, class_of, fields_of, is_alphanumeric, is_built_in, is_mime_type, is_name, is_name_byte, is_none, is_remark, line_of, parent_of, row, row_of}
+use Rattle.infer_more.specs.Text.{is_line_end, lines_of, rows_in, rows_of, with_row}
+
+abbrev is_dark : ℕ → Bool
+is_dark x = not (is_blank x)
+
+-- ---- blanks and words
+
+record Front (text : List ℕ) : Type 0 where
+  blanks : List ℕ
+  are : AreBlanks blanks
+  whole : text ≡ blanks ++ behind_blanks text
+  ends : first_passes is_blank (behind_blanks text) ≡ false
+
+front : (text : List ℕ) → Front text
+front [] = record { blanks = []; are = refl; whole = refl; ends = refl }
+front (x ∷ xs) = elim (cases_Bool (is_blank x)) [
+  | inl is ↦ let more = front xs in record {
+    blanks = x ∷ more.blanks;
+    are = rw is more.are;
+    whole = rw is (ap (λ u. x ∷ u) more.whole);
+    ends = rw is more.ends;
+  }
+  | inr dark ↦ record { blanks = []; are = refl; whole = rw dark refl; ends = rw dark dark }
+]
+
+past : (blanks rest : List ℕ) → AreBlanks blanks → first_passes is_blank rest ≡ false → behind_blanks (blanks ++ rest) ≡ rest
+past [] [] are ends = refl
+past [] (x ∷ xs) are ends = rw ends refl
+past (x ∷ blanks) rest are ends = let both = both_true (is_blank x) (list_all is_blank blanks) are in rw both.0 (past blanks rest both.1 ends)
+
+-- a word that is read, if another follows it
+pub word_read : (text : List ℕ) → 0 < length (word text) → 0 < length (behind_word text) → BeginsWithWord text (word text) (behind_word text)
+unfolding word behind_word
+word_read text some more =
+    let n = word_len text in
+    let left = front (drop n text) in record {
+      gap = left.blanks;
+      whole = sym (take-append-drop n text) ∙ ap (λ u. take n text ++ u) left.whole;
+      some = some;
+      dark = fronts_pass is_dark text;
+      blanks = left.are;
+      parted = gap_some left.blanks (drop n text) (behind_blanks (drop n text)) left.whole more left.ends (next_fails is_dark text);
+      behind = left.ends;
+    }
+  where
+    gap_some : (gap all rest : List ℕ) → all ≡ gap ++ rest → 0 < length rest → first_passes is_blank rest ≡ false → first_passes is_dark all ≡ false → 0 < length gap
+    gap_some (x ∷ gap) all rest is some ends fails = omega arith
+    gap_some [] all [] is some ends fails = absurd (omega arith)
+    gap_some [] all (y ∷ ys) is some ends fails = absurd (let none : true ≡ false = sym (ap not ends) ∙ ap (first_passes is_dark) (sym is) ∙ fails in cc)
+
+-- and what stands there is read
+pub read_word : (text w rest : List ℕ) → BeginsWithWord text w rest → (word text ≡ w) × (behind_word text ≡ rest)
+unfolding word behind_word
+read_word text w rest begins =
+    let behind = begins.gap ++ rest in
+    let fails = gap_fails begins.gap begins.parted begins.blanks in
+    let long = ap (prefix_len is_dark) begins.whole ∙ front_length is_dark w behind begins.dark fails in (
+      ap (λ n. take n text) long ∙ ap (take (length w)) begins.whole ∙ take-append_seam w behind,
+      ap behind_blanks (ap (λ n. drop n text) long ∙ ap (drop (length w)) begins.whole ∙ drop-append_seam w behind) ∙ past begins.gap rest begins.blanks begins.behind,
+    )
+  where
+    gap_fails : (gap : List ℕ) → 0 < length gap → AreBlanks gap → first_passes is_dark (gap ++ rest) ≡ false
+    gap_fails [] some are = absurd (omega arith)
+    gap_fails (x ∷ gap) some are = ap not (both_true (is_blank x) (list_all is_blank gap) are).0
+
+-- ---- a row
+
+word_inside : (text : List ℕ) → 0 < length (word text) → 0 < length text
+unfolding word
+word_inside [] some = absurd (omega arith)
+word_inside (x ∷ xs) some = omega arith
+
+name_some : (w : List ℕ) → is_name w ≡ true → 0 < length w
+name_some [] is = absurd cc
+name_some (x ∷ xs) is = omega arith
+
+mime_type_some : (w : List ℕ) → is_mime_type w ≡ true → 0 < length w
+unfolding is_mime_type
+mime_type_some [] is = absurd (let none : false ≡ true = is in cc)
+mime_type_some (x ∷ xs) is = omega arith
+
+class_some : (w : List ℕ) (c : MatcherType) → class_of w ≡ Some c → 0 < length w
+unfolding class_of
+class_some [] c is = absurd (let none : None ≡ Some c = is in cc)
+class_some (x ∷ xs) c is = omega arith
+
+parent_some : (w : List ℕ) (p : Option (List ℕ)) → parent_of w ≡ Some p → 0 < length w
+unfolding is_built_in built_in.table
+parent_some [] p is = absurd (let none : None ≡ Some p = is in cc)
+parent_some (x ∷ xs) p is = omega arith
+
+signature_some : (s : List ℕ) (alternatives : List Alternative) → signature_of s ≡ Some alternatives → 0 < length s
+unfolding signature_of
+signature_some [] alternatives is = absurd (let none : None ≡ Some alternatives = is in cc)
+signature_some (x ∷ xs) alternatives is = omega arith
+
+names_parent : (w : List ℕ) (p : Option (List ℕ)) → parent_of w ≡ Some p → NamesParent w p
+names_parent w p e = elim (cases_Bool (is_none w)) [
+  | inl is ↦ (let same : Some None ≡ Some p = rw is at e in let none : None ≡ p = cc in subst (NamesParent w) none ((bytes_eq-Decides w (codes "-")).0 is))
+  | inr other ↦ elim (cases_Bool (is_built_in w)) [
+    | inl is ↦ (let same : Some (Some w) ≡ Some p = rw (other, is) at e in let known : Some w ≡ p = cc in
+        subst (NamesParent w) known (refl, is, λ dash. let yes = (bytes_eq-Decides w (codes "-")).1 dash in absurd cc))
+    | inr not ↦ absurd (let none : None ≡ Some p = rw (other, not) at e in cc)
+  ]
+]
+
+parent_named : (w : List ℕ) (p : Option (List ℕ)) → NamesParent w p → parent_of w ≡ Some p
+parent_named w None is = rw ((bytes_eq-Decides w (codes "-")).1 is) refl
+parent_named w (Some e) (same, is, other) = elim (cases_Bool (is_none w)) [
+  | inl dash ↦ absurd (other ((bytes_eq-Decides w (codes "-")).0 dash))
+  | inr apart ↦ rw (apart, ap is_built_in same ∙ is) (ap (λ u. Some (Some u)) same)
+]
+
+module _ (text : List ℕ) where
+  abbrev second : List ℕ
+  second = behind_word text
+
+  abbrev third : List ℕ
+  third = behind_word second
+
+  abbrev fourth : List ℕ
+  fourth = behind_word third
+
+  row_built : (c : MatcherType) (p : Option (List ℕ)) (s : List Alternative) → is_name (word text) ≡ true → is_mime_type (word second) ≡ true → class_of (word third) ≡ Some c
+      → parent_of (word fourth) ≡ Some p → signature_of (behind_word fourth) ≡ Some s → DescribesRow text (row c (word second) (word text) p s)
+  row_built c p s is-name is-mime is-class is-parent is-signature =
+      let mime = mime_type_some (word second) is-mime in
+      let class = class_some (word third) c is-class in
+      let parent = parent_some (word fourth) p is-parent in record {
+        class = word third;
+        parent = word fourth;
+        signature = behind_word fourth;
+        second = second;
+        third = third;
+        fourth = fourth;
+        extension_first = word_read text (name_some (word text) is-name) (word_inside second mime);
+        mime_type_next = word_read second mime (word_inside third class);
+        class_next = word_read third class (word_inside fourth parent);
+        parent_next = word_read fourth parent (signature_some (behind_word fourth) s is-signature);
+        is_extension = is-name;
+        is_mime_type = is-mime;
+        is_class = is-class;
+        is_parent = names_parent (word fourth) p is-parent;
+        is_signature = is_described (behind_word fourth) s is-signature;
+      }
+
+  pub row_told : (r : Row) → row_of (fields_of text) ≡ Some r → DescribesRow text r
+  unfolding row_of
+  row_told r e = elim (cases_Bool (is_name (word text))) [
+    | inl name ↦ elim (cases_Bool (is_mime_type (word second))) [
+      | inl mime ↦ by_class name mime (class_of (word third)) refl (rw (name, mime) at e)
+      | inr not ↦ absurd (let none : None ≡ Some r = rw (name, not) at e in cc)
+    ]
+    | inr not ↦ absurd (let none : None ≡ Some r = rw not at e in cc)
+  ]
+    where
+      by_class : is_name (word text) ≡ true → is_mime_type (word second) ≡ true → (co : Option MatcherType) → class_of (word third) ≡ co
+          → (co >>= λ c. parent_of (word fourth) >>= λ p. option_map (λ s. row c (word second) (word text) p s) (signature_of (behind_word fourth))) ≡ Some r → DescribesRow text r
+      by_class name mime None is e = absurd cc
+      by_class name mime (Some c) is e = by_parent (parent_of (word fourth)) refl e
+        where
+          by_signature : (p : Option (List ℕ)) → parent_of (word fourth) ≡ Some p → (so : Option (List Alternative)) → signature_of (behind_word fourth) ≡ so
+              → option_map (λ s. row c (word second) (word text) p s) so ≡ Some r → DescribesRow text r
+          by_signature p is-p None is-s e = absurd cc
+          by_signature p is-p (Some s) is-s e = let same : row c (word second) (word text) p s ≡ r = cc in subst (DescribesRow text) same (row_built c p s name mime is is-p is-s)
+
+          by_parent : (po : Option (Option (List ℕ))) → parent_of (word fourth) ≡ po
+              → (po >>= λ p. option_map (λ s. row c (word second) (word text) p s) (signature_of (behind_word fourth))) ≡ Some r → DescribesRow text r
+          by_parent None is-p e = absurd cc
+          by_parent (Some p) is-p e = by_signature p is-p (signature_of (behind_word fourth)) refl e
+
+  pub row_read : (r : Row) → DescribesRow text r → row_of (fields_of text) ≡ Some r
+  unfolding row_of
+  row_read r d =
+      let one = read_word text r.shows.extension d.second d.extension_first in
+      let two = read_word d.second r.shows.mime_type d.third d.mime_type_next in
+      let three = read_word d.third d.class d.fourth d.class_next in
+      let four = read_word d.fourth d.parent d.signature d.parent_next in
+      let third_is = ap behind_word one.1 ∙ two.1 in
+      let fourth_is = ap behind_word third_is ∙ three.1 in
+      rw (
+        one.0,
+        ap word one.1 ∙ two.0,
+        ap word third_is ∙ three.0,
+        ap word fourth_is ∙ four.0,
+        ap behind_word fourth_is ∙ four.1,
+        d.is_extension,
+        d.is_mime_type,
+        d.is_class,
+        parent_named d.parent r.parent d.is_parent,
+        is_signature d.signature r.signature d.is_signature,
+      ) refl
+
+-- ---- a line
+
+abbrev row_behind : List ℕ → Option (Option Row)
+row_behind t = if is_remark t then Some None else option_map (λ r. Some r) (row_of (fields_of t))
+
+behind_told : (blanks t : List ℕ) (o : Option Row) → AreBlanks blanks → row_behind t ≡ Some o → DescribesLine (blanks ++ t) o
+behind_told blanks [] o are e =
+    let none : None ≡ o = cc in
+    subst (DescribesLine (blanks ++ [])) none (blank_line (blanks ++ []) (subst AreBlanks (sym (append-nil blanks)) are))
+behind_told blanks (x ∷ xs) o are e = elim (cases_Bool (x == 0x23)) [
+  | inl is ↦
+      let same : Some None ≡ Some o = rw is at e in
+      let none : None ≡ o = cc in
+      subst (λ y. DescribesLine (blanks ++ (y ∷ xs)) o) (sym (eqb-true x 0x23 is)) (subst (DescribesLine (blanks ++ (0x23 ∷ xs))) none (remark blanks xs are))
+  | inr apart ↦ a_row_told (row_of (fields_of (x ∷ xs))) refl (rw apart at e)
+]
+  where
+    a_row_told : (ro : Option Row) → row_of (fields_of (x ∷ xs)) ≡ ro → option_map (λ r. Some r) ro ≡ Some o → DescribesLine (blanks ++ (x ∷ xs)) o
+    a_row_told None is e = absurd cc
+    a_row_told (Some r) is e = let same : Some r ≡ o = cc in subst (DescribesLine (blanks ++ (x ∷ xs))) same (a_row blanks (x ∷ xs) r are (row_told (x ∷ xs) r is))
+
+line_told : (line : List ℕ) (o : Option Row) → line_of line ≡ Some o → DescribesLine line o
+line_told line o e = let f = front line in subst (λ l. DescribesLine l o) (sym f.whole) (behind_told f.blanks (behind_blanks line) o f.are e)
+
+not_true : (b : Bool) → not b ≡ true → b ≡ false
+not_true false is = refl
+not_true true is = absurd cc
+
+-- what a row's text begins with
+row_first : (text : List ℕ) (r : Row) → DescribesRow text r → (first_passes is_blank text ≡ false) × (is_remark text ≡ false)
+row_first text r d = first r.shows.extension d.is_extension d.extension_first
+  where
+    first : (w : List ℕ) → is_name w ≡ true → BeginsWithWord text w d.second → (first_passes is_blank text ≡ false) × (is_remark text ≡ false)
+    first [] is begins = absurd cc
+    first (x ∷ xs) is begins =
+        let front = both_true (is_alphanumeric x && nat_le (length xs) 126) (list_all is_name_byte xs) is in
+        let letter = both_true (is_alphanumeric x) (nat_le (length xs) 126) front.0 in
+        let dark = both_true (is_dark x) (list_all is_dark xs) begins.dark in
+        (ap (first_passes is_blank) begins.whole ∙ not_true (is_blank x) dark.0, ap is_remark begins.whole ∙ not_same is_alphanumeric x 0x23 letter.0 refl)
+
+line_read : (line : List ℕ) (o : Option Row) → DescribesLine line o → line_of line ≡ Some o
+line_read line o (blank_line _ are) = ap row_behind (ap behind_blanks (sym (append-nil line)) ∙ past line [] are refl)
+line_read line o (remark blanks rest are) = ap row_behind (past blanks (0x23 ∷ rest) are refl)
+line_read line o (a_row blanks text r are d) =
+    let f = row_first text r d in
+    ap row_behind (past blanks text are f.0) ∙ rw (f.1, row_read text r d) refl
+
+-- ---- a text
+
+rows_told : (text : List ℕ) (lines : List (List ℕ)) (rows : List Row) → IsSplit is_line_end text lines → rows_in lines ≡ Some rows → DescribesRows text rows
+rows_told text lines rows (whole g one) e = one_line (line_of g) refl e
+  where
+    one_line : (oo : Option (Option Row)) → line_of g ≡ oo → (oo >>= λ r. option_map (with_row r) (Some [])) ≡ Some rows → DescribesRows g rows
+    one_line None is e = absurd cc
+    one_line (Some o) is e = let same : with_row o [] ≡ rows = cc in subst (DescribesRows g) same (last_line g o one (line_told g o is))
+rows_told text lines rows (cut g us y ls one is_y split) e = more_lines (line_of g) refl (rows_in ls) refl e (λ rs. rows_told us ls rs split)
+  where
+    more_lines : (oo : Option (Option Row)) → line_of g ≡ oo → (ro : Option (List Row)) → rows_in ls ≡ ro → (oo >>= λ r. option_map (with_row r) ro) ≡ Some rows
+        → ((rs : List Row) → rows_in ls ≡ Some rs → DescribesRows us rs) → DescribesRows (g ++ (y ∷ us)) rows
+    more_lines None is ro are e more = absurd cc
+    more_lines (Some o) is None are e more = absurd cc
+    more_lines (Some o) is (Some rs) are e more =
+        let same : with_row o rs ≡ rows = cc in
+        subst (λ z. DescribesRows (g ++ (z ∷ us)) rows) (sym (eqb-true y 0x0A is_y)) (subst (DescribesRows (g ++ (0x0A ∷ us))) same (next_line g us o rs one (line_told g o is) (more rs are)))
+
+pub rows_described : (text : List ℕ) (rows : List Row) → rows_of text ≡ Some rows → DescribesRows text rows
+rows_described text rows e = rows_told text (lines_of text) rows (is_split is_line_end text) e
+
+pub described_rows : (text : List ℕ) (rows : List Row) → DescribesRows text rows → rows_of text ≡ Some rows
+described_rows text rows (last_line _ o one d) = ap rows_in (slice_split_none is_line_end text one) ∙ rw (line_read text o d) refl
+described_rows text rows (next_line line behind o others one d more) =
+    ap rows_in (slice_split_at is_line_end line 0x0A behind one refl) ∙ rw (line_read line o d) (ap (option_map (with_row o)) (described_rows behind others more))

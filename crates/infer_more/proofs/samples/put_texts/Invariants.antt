@@ -1,0 +1,10 @@
+-- the texts that are left, behind those so far, make all of them, and have room
+use Rattle.std.proofs.Common.{◌≡◌, ◌+◌, ◌≤◌, drop, length, map}
+use Rattle.std.specs.List.{concat}
+use Rattle.infer.specs.Samples.{put}
+use Rattle.infer_more.proofs.samples.put_texts.Given as goal
+
+abbrev pub invariant-loop-text : goal.invariant-loop-text
+invariant-loop-text l =
+    (put l.place (concat (map (λ t. t.now) (drop l.text-index l.texts))) l.out ≡ put 0 (concat (map (λ t. t.now) l.texts)) l.fn.out)
+    × (l.place + length (concat (map (λ t. t.now) (drop l.text-index l.texts))) ≤ length l.out)

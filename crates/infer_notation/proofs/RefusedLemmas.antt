@@ -1,0 +1,239 @@
+-- A signature whose last alternative a buffer does not fit, and which has no further one.
+use Rattle.std.proofs.Common.{◌≡◌, ◌+◌, ◌<◌, ◌==◌, ◌&&◌, ◌||◌, ℕ, zero, suc, Bool, true, false, codes, cond, List, [], ◌∷◌, Option, None, Some, get_or, length, nat_le, nat_lt, option_map, take, inl, inr, refl, sym, ap, subst, ◌∙◌, arith}
+use Rattle.std.specs.List.{list_any, prefix_len}
+use Rattle.std.specs.Str.{bytes_eq}
+use Rattle.std.proofs.lemmas.Bool.{false≢true}
+use Rattle.infer_sig.specs.Signature.{Part, all_but, between, byte, text}
+use Rattle.infer_notation.specs.Fixed as fixed
+use Rattle.infer_notation.specs.Fixed.{Asked, Effect, Rest, accepts, alternatives_of, asks_binary, behind_mark, behind_word_of, given, joined, more_read, nothing, part, piece, place_read, range_of, rest_at, rest_of, rest_seen, set_part, step, step_at, within, word_part}
+use Rattle.infer_notation.specs.Relations.{is_or}
+use Rattle.infer_notation.specs.Tokens.{Token, bare, bare_at, is_mark, is_of, mark, quoted, quoted_at, set, set_at, token_at}
+use Rattle.infer_notation.specs.Words.{◌>>=◌, byte_of, bytes_of, is_blank, number_of}
+use Rattle.infer_notation.specs.declared.fixed.Cursor.{Cursor}
+use Rattle.infer_notation.specs.declared.fixed.Wanted.{Wanted}
+use Rattle.infer_notation.specs.declared.fixed.Wanted.TheVariants.{At, Binary, Byte, Bytes, Colon, Length, More, Or, Place}
+use Rattle.infer_notation.specs.declared.signature.State.{State}
+use Rattle.infer_notation.specs.declared.tokens.Run.TheVariants as runs
+use Rattle.infer_notation.proofs.SignatureLemmas.{ended_is, given_ended}
+
+-- no byte is that with which "or" begins
+abbrev pub HasNoOr : List ℕ → Type 0
+HasNoOr xs = list_any (λ x. x == 0x6F) xs ≡ false
+
+or_parts : (a b : Bool) → (a || b) ≡ false → (a ≡ false) × (b ≡ false)
+or_parts true b e = absurd cc
+or_parts false b e = (refl, e)
+
+not_true : (b : Bool) → (b ≡ true → ⊥) → b ≡ false
+not_true true h = absurd (h refl)
+not_true false h = refl
+
+pub no_or : (xs : List ℕ) → ((k : ℕ) → k < length xs → (get_or xs k 0 == 0x6F) ≡ true → ⊥) → HasNoOr xs
+no_or [] h = refl
+no_or (x ∷ xs) h =
+    ap (λ t. t || list_any (λ x. x == 0x6F) xs) (not_true (x == 0x6F) (h 0 (omega arith)))
+    ∙ no_or xs (λ k lt. h (suc k) (omega arith))
+
+-- ---- steps
+
+-- the step opens no alternative, and wants none
+abbrev pub Keeps : Cursor → Effect → Type 0
+Keeps d e = (d.wanted ≡ Length → ⊥) × ((q : Rest) → (joined e q).alternatives ≡ q.alternatives)
+
+kept : (c d : Cursor) (f e : Effect) → Keeps c f → ◌≡◌ {A = Option (Cursor × Effect)} (Some (c, f)) (Some (d, e)) → Keeps d e
+kept c d f e keeps is = let same : (c, f) ≡ (d, e) = cc in subst (λ (p : Cursor × Effect). Keeps p.0 p.1) same keeps
+
+within_keeps : (least place size : ℕ) (p : Part) (d : Cursor) (e : Effect) → within least place size p ≡ Some (d, e) → Keeps d e
+within_keeps least place size p d e is = chosen (nat_le (place + size) least) is
+  where
+    chosen : (t : Bool) → cond {A = Option (Cursor × Effect)} t (Some (fixed.cursor More least (place + size), part p)) None ≡ Some (d, e) → Keeps d e
+    chosen true is = kept (fixed.cursor More least (place + size)) d (part p) e ((λ w. absurd cc), λ q. refl) is
+    chosen false is = absurd cc
+
+mark_keeps : (m : ℕ) (w : Wanted) (least place : ℕ) (t : Token) (d : Cursor) (e : Effect) → (w ≡ Length → ⊥) → behind_mark m w least place t ≡ Some (d, e) → Keeps d e
+mark_keeps m w least place (mark x) d e other is = chosen (x == m) is
+  where
+    chosen : (t : Bool) → cond {A = Option (Cursor × Effect)} t (Some (fixed.cursor w least place, nothing)) None ≡ Some (d, e) → Keeps d e
+    chosen true is = kept (fixed.cursor w least place) d nothing e (other, λ q. refl) is
+    chosen false is = absurd cc
+mark_keeps m w least place (quoted xs) d e other is = absurd cc
+mark_keeps m w least place (set xs) d e other is = absurd cc
+mark_keeps m w least place (bare v) d e other is = absurd cc
+
+set_keeps : (least place : ℕ) (o : Option (List ℕ)) (d : Cursor) (e : Effect) → (o >>= set_part least place) ≡ Some (d, e) → Keeps d e
+set_keeps least place None d e is = absurd cc
+set_keeps least place (Some []) d e is = absurd cc
+set_keeps least place (Some (x ∷ xs)) d e is = within_keeps least place 1 _ d e is
+
+text_keeps : (least place : ℕ) (o : Option (List ℕ)) (d : Cursor) (e : Effect) → (o >>= λ xs. within least place (length xs) (text place xs)) ≡ Some (d, e) → Keeps d e
+text_keeps least place None d e is = absurd cc
+text_keeps least place (Some xs) d e is = within_keeps least place (length xs) _ d e is
+
+byte_keeps : (least place : ℕ) (o : Option ℕ) (d : Cursor) (e : Effect) → (o >>= λ x. within least place 1 (byte place (all_but x))) ≡ Some (d, e) → Keeps d e
+byte_keeps least place None d e is = absurd cc
+byte_keeps least place (Some x) d e is = within_keeps least place 1 _ d e is
+
+word_keeps : (least place : ℕ) (w : List ℕ) (range : Option (ℕ × ℕ)) (d : Cursor) (e : Effect) → word_part least place w range ≡ Some (d, e) → Keeps d e
+word_keeps least place w None d e is = text_keeps least place (bytes_of w) d e is
+word_keeps least place w (Some (low, high)) d e is = chosen (nat_le low high) is
+  where
+    chosen : (t : Bool) → cond t (within least place 1 (byte place (between low high))) None ≡ Some (d, e) → Keeps d e
+    chosen true is = within_keeps least place 1 _ d e is
+    chosen false is = absurd cc
+
+piece_keeps : (least place : ℕ) (t : Token) (d : Cursor) (e : Effect) → piece least place t ≡ Some (d, e) → Keeps d e
+piece_keeps least place (quoted xs) d e is = within_keeps least place (length xs) _ d e is
+piece_keeps least place (set digits) d e is = set_keeps least place (bytes_of digits) d e is
+piece_keeps least place (mark m) d e is = absurd cc
+piece_keeps least place (bare w) d e is = chosen (bytes_eq w (codes "not")) is
+  where
+    chosen : (t : Bool) → cond {A = Option (Cursor × Effect)} t (Some (fixed.cursor Byte least place, nothing)) (word_part least place w (range_of w)) ≡ Some (d, e) → Keeps d e
+    chosen true is = kept (fixed.cursor Byte least place) d nothing e ((λ w. absurd cc), λ q. refl) is
+    chosen false is = word_keeps least place w (range_of w) d e is
+
+place_keeps : (least place : ℕ) (o : Option ℕ) (d : Cursor) (e : Effect)
+    → (o >>= λ p. cond {A = Option (Cursor × Effect)} (nat_le place p) (Some (fixed.cursor Bytes least p, nothing)) None) ≡ Some (d, e) → Keeps d e
+place_keeps least place None d e is = absurd cc
+place_keeps least place (Some p) d e is = chosen (nat_le place p) is
+  where
+    chosen : (t : Bool) → cond {A = Option (Cursor × Effect)} t (Some (fixed.cursor Bytes least p, nothing)) None ≡ Some (d, e) → Keeps d e
+    chosen true is = kept (fixed.cursor Bytes least p) d nothing e ((λ w. absurd cc), λ q. refl) is
+    chosen false is = absurd cc
+
+more_keeps : (least place : ℕ) (t : Token) (d : Cursor) (e : Effect) → is_or t ≡ false → more_read least place t ≡ Some (d, e) → Keeps d e
+more_keeps least place (quoted xs) d e nor is = piece_keeps least place (quoted xs) d e is
+more_keeps least place (set xs) d e nor is = piece_keeps least place (set xs) d e is
+more_keeps least place (mark m) d e nor is = mark_keeps 0x2C At least place (mark m) d e (λ w. absurd cc) is
+more_keeps least place (bare w) d e nor is = chosen (bytes_eq w (codes "or")) (bytes_eq w (codes "and")) nor is
+  where
+    chosen : (t u : Bool) → t ≡ false
+        → cond {A = Option (Cursor × Effect)} t (Some (fixed.cursor Length 0 0, nothing)) (cond {A = Option (Cursor × Effect)} u (Some (fixed.cursor Binary least place, nothing)) (piece least place (bare w))) ≡ Some (d, e)
+        → Keeps d e
+    chosen true u nor is = absurd (false≢true (sym nor))
+    chosen false true nor is = kept (fixed.cursor Binary least place) d nothing e ((λ w. absurd cc), λ q. refl) is
+    chosen false false nor is = piece_keeps least place (bare w) d e is
+
+binary_keeps : (t : Token) (d : Cursor) (e : Effect) → behind_word_of (codes "binary") (fixed.cursor Or 0 0) asks_binary t ≡ Some (d, e) → Keeps d e
+binary_keeps (quoted xs) d e is = absurd cc
+binary_keeps (set xs) d e is = absurd cc
+binary_keeps (mark m) d e is = absurd cc
+binary_keeps (bare v) d e is = chosen (bytes_eq v (codes "binary")) is
+  where
+    chosen : (t : Bool) → cond {A = Option (Cursor × Effect)} t (Some (fixed.cursor Or 0 0, asks_binary)) None ≡ Some (d, e) → Keeps d e
+    chosen true is = kept (fixed.cursor Or 0 0) d asks_binary e ((λ w. absurd cc), λ q. refl) is
+    chosen false is = absurd cc
+
+or_keeps : (t : Token) (d : Cursor) (e : Effect) → is_or t ≡ false → behind_word_of (codes "or") (fixed.cursor Length 0 0) nothing t ≡ Some (d, e) → Keeps d e
+or_keeps (quoted xs) d e nor is = absurd cc
+or_keeps (set xs) d e nor is = absurd cc
+or_keeps (mark m) d e nor is = absurd cc
+or_keeps (bare v) d e nor is = chosen (bytes_eq v (codes "or")) nor is
+  where
+    chosen : (t : Bool) → t ≡ false → cond {A = Option (Cursor × Effect)} t (Some (fixed.cursor Length 0 0, nothing)) None ≡ Some (d, e) → Keeps d e
+    chosen true nor is = absurd (false≢true (sym nor))
+    chosen false nor is = absurd cc
+
+step_keeps : (w : Wanted) (least place : ℕ) (t : Token) (d : Cursor) (e : Effect) → (w ≡ Length → ⊥) → is_or t ≡ false → step_at w least place t ≡ Some (d, e) → Keeps d e
+step_keeps Length least place t d e other nor is = absurd (other refl)
+step_keeps Colon least place t d e other nor is = mark_keeps 0x3A At least place t d e (λ w. absurd cc) is
+step_keeps At least place t d e other nor is = mark_keeps 0x40 Place least place t d e (λ w. absurd cc) is
+step_keeps Place least place (bare w) d e other nor is = place_keeps least place (number_of w) d e is
+step_keeps Place least place (quoted xs) d e other nor is = absurd cc
+step_keeps Place least place (set xs) d e other nor is = absurd cc
+step_keeps Place least place (mark m) d e other nor is = absurd cc
+step_keeps Bytes least place t d e other nor is = piece_keeps least place t d e is
+step_keeps More least place t d e other nor is = more_keeps least place t d e nor is
+step_keeps Byte least place (bare w) d e other nor is = byte_keeps least place (byte_of w) d e is
+step_keeps Byte least place (quoted xs) d e other nor is = absurd cc
+step_keeps Byte least place (set xs) d e other nor is = absurd cc
+step_keeps Byte least place (mark m) d e other nor is = absurd cc
+step_keeps Binary least place t d e other nor is = binary_keeps t d e is
+step_keeps Or least place t d e other nor is = or_keeps t d e nor is
+
+-- ---- tokens
+
+-- a bare word that begins with another byte is not "or"
+bare_other : (x : ℕ) (xs : List ℕ) (n : ℕ) → (x == 0x6F) ≡ false → nat_lt 0 n ≡ true → is_or (bare (take n (x ∷ xs))) ≡ false
+bare_other x xs zero nor some = absurd (false≢true some)
+bare_other x xs (suc n) nor some = ap (λ t. t && bytes_eq (take n xs) (codes "r")) nor
+
+token_other : (x : ℕ) (xs : List ℕ) (t : Token) (n : ℕ) → (x == 0x6F) ≡ false → token_at (x ∷ xs) ≡ Some (t, n) → is_or t ≡ false
+unfolding token_at
+token_other x xs t n nor is = chosen (x == 0x22) (x == 0x7B) (is_mark x) is
+  where
+    same_token : (u : Token) (m : ℕ) → is_or u ≡ false → ◌≡◌ {A = Option (Token × ℕ)} (Some (u, m)) (Some (t, n)) → is_or t ≡ false
+    same_token u m nor is = let same : (u, m) ≡ (t, n) = cc in subst (λ (p : Token × ℕ). is_or p.0 ≡ false) same nor
+
+    on_quoted : (b : Bool) (ys : List ℕ) (m : ℕ) → cond {A = Option (Token × ℕ)} b (Some (quoted ys, m)) None ≡ Some (t, n) → is_or t ≡ false
+    on_quoted true ys m is = same_token (quoted ys) m refl is
+    on_quoted false ys m is = absurd cc
+
+    on_set : (b : Bool) (ys : List ℕ) (m : ℕ) → cond {A = Option (Token × ℕ)} b (Some (set ys, m)) None ≡ Some (t, n) → is_or t ≡ false
+    on_set true ys m is = same_token (set ys) m refl is
+    on_set false ys m is = absurd cc
+
+    on_bare : (b : Bool) (k m : ℕ) → nat_lt 0 k ≡ b → cond {A = Option (Token × ℕ)} b (Some (bare (take k (x ∷ xs)), m)) None ≡ Some (t, n) → is_or t ≡ false
+    on_bare true k m some is = same_token (bare (take k (x ∷ xs))) m (bare_other x xs k nor some) is
+    on_bare false k m some is = absurd cc
+
+    chosen : (q s m : Bool) → cond q (quoted_at xs) (cond s (set_at xs) (cond {A = Option (Token × ℕ)} m (Some (mark x, 0)) (bare_at (x ∷ xs)))) ≡ Some (t, n) → is_or t ≡ false
+    chosen true s m is = on_quoted _ _ _ is
+    chosen false true m is = on_set _ _ _ is
+    chosen false false true is = same_token (mark x) 0 refl is
+    chosen false false false is = on_bare (nat_lt 0 (prefix_len (is_of runs.Bare) (x ∷ xs))) (prefix_len (is_of runs.Bare) (x ∷ xs)) _ refl is
+
+-- ---- what follows
+
+-- no further alternative, if there is none behind the token at the front
+next_others : (c : Cursor) (x : ℕ) (xs : List ℕ) (r : Rest) → (x == 0x6F) ≡ false → (c.wanted ≡ Length → ⊥)
+    → ((d : Cursor) (m : ℕ) → (d.wanted ≡ Length → ⊥) → (q : Rest) → rest_at d m xs ≡ Some q → q.alternatives ≡ []) → rest_at c zero (x ∷ xs) ≡ Some r → r.alternatives ≡ []
+unfolding step
+next_others c x xs r nor other later is = on_blank (is_blank x) is
+  where
+    on_rest : (d : Cursor) (e : Effect) (m : ℕ) → Keeps d e → (o : Option Rest) → rest_at d m xs ≡ o → option_map (joined e) o ≡ Some r → r.alternatives ≡ []
+    on_rest d e m keeps None are is = absurd cc
+    on_rest d e m keeps (Some q) are is =
+        let same : joined e q ≡ r = cc in
+        sym (ap (λ (r : Rest). r.alternatives) same) ∙ keeps.1 q ∙ later d m keeps.0 q are
+
+    on_step : (t : Token) (m : ℕ) → is_or t ≡ false → (o : Option (Cursor × Effect)) → step_at c.wanted c.least c.place t ≡ o → (o >>= λ s. option_map (joined s.1) (rest_at s.0 m xs)) ≡ Some r
+        → r.alternatives ≡ []
+    on_step t m nor None are is = absurd cc
+    on_step t m nor (Some (d, e)) are is = on_rest d e m (step_keeps c.wanted c.least c.place t d e other nor are) (rest_at d m xs) refl is
+
+    on_token : (o : Option (Token × ℕ)) → token_at (x ∷ xs) ≡ o → (o >>= λ t. step c t.0 >>= λ s. option_map (joined s.1) (rest_at s.0 t.1 xs)) ≡ Some r → r.alternatives ≡ []
+    on_token None are is = absurd cc
+    on_token (Some (t, m)) are is = on_step t m (token_other x xs t m nor are) (step_at c.wanted c.least c.place t) refl is
+
+    on_blank : (b : Bool) → cond b (rest_at c zero xs) (token_at (x ∷ xs) >>= λ t. step c t.0 >>= λ s. option_map (joined s.1) (rest_at s.0 t.1 xs)) ≡ Some r → r.alternatives ≡ []
+    on_blank true is = later c zero other r is
+    on_blank false is = on_token (token_at (x ∷ xs)) refl is
+
+pub no_others : (c : Cursor) (n : ℕ) (xs : List ℕ) → HasNoOr xs → (c.wanted ≡ Length → ⊥) → (r : Rest) → rest_at c n xs ≡ Some r → r.alternatives ≡ []
+no_others c n [] none other r is = elim (ended_is c.wanted) [
+  | inl not ↦ absurd (let both : None ≡ Some r = sym not ∙ is in cc)
+  | inr some ↦ (let same : Some (rest_of [] false []) ≡ Some r = sym some ∙ is in let all : rest_of [] false [] ≡ r = cc in sym (ap (λ (r : Rest). r.alternatives) all))
+]
+no_others c (suc n) (x ∷ xs) none other r is = no_others c n xs (or_parts (x == 0x6F) (list_any (λ x. x == 0x6F) xs) none).1 other r is
+no_others c zero (x ∷ xs) none other r is =
+    let parts = or_parts (x == 0x6F) (list_any (λ x. x == 0x6F) xs) none in
+    next_others c x xs r parts.0 other (λ d m keeps q are. no_others d m xs parts.1 keeps q are) is
+
+-- a buffer that has nothing of what was read is refused
+pub refused : (buf xs : List ℕ) (s : State) (answer : Bool) → s.any ≡ false → s.last ≡ false → (s.cursor.wanted ≡ Length → ⊥) → HasNoOr xs → given buf s 0 xs ≡ Some answer → false ≡ answer
+refused buf xs s answer any last other none is = on_rest (rest_at s.cursor 0 xs) refl is
+  where
+    on_rest : (o : Option Rest) → rest_at s.cursor 0 xs ≡ o → option_map (rest_seen buf s.any s.last) o ≡ Some answer → false ≡ answer
+    on_rest None are is = absurd cc
+    on_rest (Some r) are is =
+        let seen : rest_seen buf s.any s.last r ≡ answer = cc in
+        let not : rest_seen buf s.any s.last r ≡ rest_seen buf false false r = ap (λ a. rest_seen buf a s.last r) any ∙ ap (λ l. rest_seen buf false l r) last in
+        sym (not ∙ ap (λ all. accepts all buf) (no_others s.cursor 0 xs none other r are)) ∙ seen
+
+-- what is given in the end
+pub given_last : (buf xs : List ℕ) (s : State) (answer : Bool) → length xs ≡ 0 → given buf s 0 xs ≡ Some answer → (s.any || s.last) ≡ answer
+given_last buf (x ∷ xs) s answer none is = absurd (omega arith)
+given_last buf [] s answer none is = elim (ended_is s.cursor.wanted) [
+  | inl not ↦ absurd (let both : None ≡ Some answer = sym (ap (option_map (rest_seen buf s.any s.last)) not) ∙ is in cc)
+  | inr some ↦ (let same : Some (s.any || s.last) ≡ Some answer = sym (given_ended buf s s.cursor.wanted refl some) ∙ is in cc)
+]

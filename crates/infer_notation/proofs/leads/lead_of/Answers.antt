@@ -1,0 +1,13 @@
+use Rattle.std.proofs.Common.{◌≡◌, Some, ap, cond, map, option_map, subst, sym, ◌∙◌}
+use Rattle.infer_notation.specs.Fixed.{alternatives_of}
+use Rattle.infer_notation.specs.Relations.{relations_of}
+use Rattle.infer_notation.specs.Signature.{begins_relation, described, signature_of}
+use Rattle.infer_notation.proofs.LeadLemmas.{lead_fixed}
+use Rattle.infer_notation.proofs.leads.lead_of.Goals as goal
+
+pub returns : goal.returns
+unfolding signature_of
+returns c = λ alternatives e.
+    let t = c.args.text.now in
+    let is = sym (ap begins_relation c.skip_blanks.ensures.value) ∙ sym c.begins_relation.ensures ∙ c.if-begins_relation.false in
+    lead_fixed (alternatives_of t) c.fixed_lead.result c.fixed_lead.ensures alternatives (subst (λ b. cond b (relations_of t) (option_map (map described) (alternatives_of t)) ≡ Some alternatives) is e)

@@ -1,4 +1,0 @@
-pub mod LineLemmas
-pub mod RowLemmas
-pub mod FieldLemmas
-pub mod NameLemmas

@@ -1,6 +1,0 @@
-use Rattle.std.proofs.Common.{◌≡◌, ◌+◌, drop}
-use Rattle.infer_types.specs.Line.{slash_place}
-use Rattle.infer_types.proofs.names.slash_place.Given as goal
-
-abbrev pub invariant-loop-at : goal.invariant-loop-at
-invariant-loop-at l = l.at + slash_place (drop l.at l.text) ≡ slash_place l.text
