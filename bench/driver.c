@@ -25,7 +25,7 @@ static void call(const char *what, const void *buf, size_t len) {
     else exit(3);
 }
 
-/* Writes the sample of each further row that has one as a pack. */
+/* Writes the samples of the further rows as a pack. */
 static int write_samples(const char *path) {
     FILE *pack = fopen(path, "wb");
     if (!pack) return 2;
@@ -33,7 +33,6 @@ static int write_samples(const char *path) {
         uint8_t sample[INFER_SAMPLE_SIZE];
         size_t len = infer_sample((int32_t)row, sample, sizeof sample);
         uint8_t head[4] = {len & 255, len >> 8 & 255, len >> 16 & 255, len >> 24 & 255};
-        if (!len) continue;
         fwrite(head, 1, sizeof head, pack);
         fwrite(sample, 1, len, pack);
     }
