@@ -1,7 +1,9 @@
 """What pages repeat of measurements and of versions.
 
-`bench/run --pages` writes the tables of docs/PERFORMANCE.md, each between marks that name it, the picture, and the figures
-of those tables that other pages repeat; here both are read. The version is that of c/infer.h."""
+`bench/run --pages` writes the tables of docs/PERFORMANCE.md, each between marks that name it, the picture, and the
+figures of those tables that other pages repeat; here both are read. What a command takes stands in docs/seconds.tsv,
+where `bench/commands --pages` and `.ci/run --pages` write it, and `docs/tables` writes it into the pages. The version
+is that of c/infer.h."""
 import json
 import math
 import os
@@ -44,6 +46,43 @@ REPEATED = [
     ("docs/HOSTILE_INPUT.md", r"(\d+)\s+million\s+instructions\s+for\s+a\s+ZIP", "bytewise", "an archive of Office, with near misses of its headers", "instructions", in_millions),
     ("docs/HOSTILE_INPUT.md", r"(\d+)\s+million\s+for\s+byte\s+order\s+marks", "bytewise", "marks FF FE, each sixteenth FE FF", "instructions", in_millions),
 ]
+
+
+SECONDS = "docs/seconds.tsv"
+CORES = {"1": "one", "2": "two", "4": "four", "8": "eight"}
+# Where a page tells what a command takes, by the words before it.
+TIMED = [
+    ("README.md", r"jpg`\s+after", "rt try"),
+    ("README.md", r"before\s+it\s+builds\s+them:", "rt run"),
+    ("README.md", r"tests\s+everything,\s+in", ".ci/run"),
+]
+TIME = r"\d+\s+processor\s+(?:seconds|minutes),\s+\d+\s+(?:seconds|minutes)\s+on\s+\w+\s+cores"
+
+
+def span(seconds):
+    """A time as its number and its unit."""
+    return (seconds, "seconds") if seconds < 100 else (round(seconds / 60), "minutes")
+
+
+def seconds_of():
+    """What each command took: processor seconds, seconds, and on how many processors."""
+    return {command: its for command, *its in (line.split("\t") for line in text_of(SECONDS).splitlines())}
+
+
+def told_time(processor_seconds, seconds, cores):
+    processor_time, time = span(int(processor_seconds)), span(int(seconds))
+    return f"{processor_time[0]} processor {processor_time[1]}, {time[0]} {time[1]} on {CORES.get(cores, cores)} cores"
+
+
+def timed(path, text):
+    """The page with what each command takes, its lines broken as they are."""
+    known = seconds_of()
+    for before, command in [(before, command) for page, before, command in TIMED if page == path]:
+        words = iter(told_time(*known[command]).split())
+        text, found = re.subn(rf"({before}\s+)({TIME})", lambda it: it[1] + re.sub(r"\S+", lambda _: next(words), it[2]), text)
+        if found != 1:
+            raise SystemExit(f"{path} has no place for what {command} takes")
+    return text
 
 
 def marked(name):

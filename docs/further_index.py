@@ -25,6 +25,8 @@ TEXT = r"""(?:"(?:[^"\\]|\\.)*"|'(?:[^'\\]|\\.)*')"""
 TEXT_OF_BYTES = rf"b{TEXT}"
 # The longest line of code.
 WIDTH = 100
+# How many lists of programs there are.
+NAME_LISTS = 32
 # What is told last, without being tried.
 TEXTS = {"JsonLines", "JsonText", "PlainText"}
 # What is told without a parent and not tried.
@@ -293,7 +295,9 @@ def below(rows):
     if not rows:
         return "Nothing", []
     if kinds == {"Program"}:
-        return "Programs", [f"named!{bracketed(f'{it} {k}' for some, k in names(rows, 'Program') for it in some)}"]
+        listed = [(it, k) for some, k in names(rows, "Program") for it in some]
+        by_first = [[f"{it} {k}" for it, k in listed if ast.literal_eval(it)[0] % NAME_LISTS == n] for n in range(NAME_LISTS)]
+        return "Programs", [f"by_first![{' '.join(f'({chr(44).join(chr(32) + it for it in some)[1:]})' for some in by_first)}]"]
     if kinds <= {"Root", "RootWith"}:
         return "Roots", [rooted(rows)]
     told = {"PackageWith"} & kinds

@@ -88,6 +88,7 @@ def functions_of(crate, root):
     shown = own if root == "main" else re.findall(r"^pub mod (\w+);", text, re.M)
     listed = [(owner, it) for owner, it in found]
     named = [named_by("", owner, it) for owner, it in listed]
+    passed_on = {(module, name) for module, name, _ in used(text)}
     for module, name, known in used(text):
         if module.split("::")[0] in own:
             some = functions_in(file_of(crate, module))
@@ -96,7 +97,7 @@ def functions_of(crate, root):
     modules = [(it, it) for it in shown if it != "tests"] + [(path, known) for path, known in aliases if known.islower()]
     for path, known in modules:
         prefix = "" if root == "main" else f"{known}::"
-        named += [named_by(prefix, owner, it) for owner, it in functions_in(file_of(crate, path))]
+        named += [named_by(prefix, owner, it) for owner, it in functions_in(file_of(crate, path)) if (path, owner or it.name) not in passed_on]
     return [it for it in named if it.clauses or it.doc]
 
 

@@ -43,6 +43,12 @@ def kept(function):
     return answer
 
 
+def forget():
+    """All files are read again."""
+    texts.clear()
+    made.clear()
+
+
 @contextlib.contextmanager
 def changed(path, text):
     """Inside of it the file has that text."""
