@@ -1,14 +1,8 @@
 -- Brands of a boxed file: they last, and only to an open box do more bytes bring them.
-use Rattle.std.proofs.Common.{◌≡◌, ◌⊎◌, Bool, false, ◌||◌, ◌↔◌, ℕ, ◌+◌, ◌-◌, ◌*◌, ◌/◌, ◌<◌, ◌≤◌, max, min, List, [], ◌∷◌, ◌++◌, length, refl, ap, sym, subst, ◌∙◌, inl, inr, arith, codes, length-append, append_assoc, IsTrue}
-use Rattle.std.proofs.lemmas.List.Elements.{All-append}
-use Rattle.std.proofs.lemmas.Bool.{cases_lt, or_cases, or_left, or_right}
-use Rattle.memchr.specs.Find.{OccursAt}
-use Rattle.infer_deep.specs.Open.{are_bytes, AgreesAt}
-use Rattle.infer_deep.specs.Signatures.{Lasts, ComesWith, IsEarly, Reachable}
+use Rattle.infer_deep.proofs.Common.{◌≡◌, ◌⊎◌, Bool, false, ◌||◌, ◌↔◌, ℕ, ◌+◌, ◌-◌, ◌*◌, ◌/◌, ◌<◌, ◌≤◌, max, min, List, [], ◌∷◌, ◌++◌, length, refl, ap, sym, subst, ◌∙◌, inl, inr, arith, codes, length-append, append_assoc, IsTrue, All-append, cases_lt, or_cases, or_left, or_right, OccursAt, are_bytes, AgreesAt, Lasts, ComesWith, IsEarly, Reachable, box_length, IsBoxed, IsOpenBox, HasMajor, HasCompatible, MayHaveCompatible, IsHeif, IsAvif}
 use Rattle.infer_deep.proofs.OpenLemmas.{IsBytes, Part, LieApart, AllAgree, AllStand, AllStand-append, agrees_none, agrees_past, agrees_where_stands, fills_parts, fills_text, grown_agrees, stands_where_whole}
 use Rattle.infer_deep.proofs.PlaceLemmas.{Carries, OccursAt-append, OccursAt-front}
 use Rattle.infer_deep.proofs.NumberLemmas.{be32-append}
-use Rattle.infer_deep.specs.Brands.{box_length, IsBoxed, IsOpenBox, HasMajor, HasCompatible, MayHaveCompatible, IsHeif, IsAvif}
 
 -- the brand is one of the first n compatible ones
 abbrev pub StandsBelow : List ℕ → List ℕ → ℕ → Type 0

@@ -1,15 +1,8 @@
 -- The root entry of a compound file lasts.
-use Rattle.std.proofs.Common.{IsTrue, ◌≡◌, ◌↔◌, ◌⊎◌, inl, inr, ℕ, zero, suc, ◌+◌, ◌*◌, ◌<◌, ◌≤◌, List, [], ◌∷◌, ◌++◌, length, get_or, refl, sym, ap, subst, ◌∙◌, arith, length-append}
-use Rattle.std.proofs.lemmas.Bool.{cases_lt}
-use Rattle.memchr.specs.Find.{OccursAt}
-use Rattle.infer_deep.specs.Numbers.{le16, le32}
-use Rattle.infer_deep.specs.Open.{are_bytes, AgreesAt}
+use Rattle.infer_deep.proofs.Common.{IsTrue, ◌≡◌, ◌↔◌, ◌⊎◌, inl, inr, ℕ, zero, suc, ◌+◌, ◌*◌, ◌<◌, ◌≤◌, List, [], ◌∷◌, ◌++◌, length, get_or, refl, sym, ap, subst, ◌∙◌, arith, length-append, cases_lt, OccursAt, le16, le32, are_bytes, AgreesAt, get_or_append_left, Lasts, Reachable, BeginsRoot, IsRoot, HasClassId, MayHaveRoot, compound_header, format_3, format_4}
 use Rattle.infer_deep.proofs.OpenLemmas.{Reachable-grown, AgreesAt-later, agrees_past, bytes_from_test, fills_parts, grown_agrees}
-use Rattle.std.proofs.lemmas.List.{get_or_append_left}
-use Rattle.infer_deep.specs.Signatures.{Lasts, Reachable}
 use Rattle.infer_deep.proofs.NumberLemmas.{le16-append, le32-append}
 use Rattle.infer_deep.proofs.PlaceLemmas.{byte_stands, OccursAt-append, OccursAt-first}
-use Rattle.infer_deep.specs.ClassId.{BeginsRoot, IsRoot, HasClassId, MayHaveRoot, compound_header, format_3, format_4}
 
 IsRoot-append : (b more : List ℕ) (root : ℕ) → IsRoot b root → IsRoot (b ++ more) root
 IsRoot-append b more root r =

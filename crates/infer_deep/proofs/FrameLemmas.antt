@@ -1,19 +1,10 @@
 -- Skippable frames: where one stands at the front, and what is data after them.
-use Rattle.std.proofs.Common.{◌≡◌, ◌↔◌, ℕ, zero, suc, ◌+◌, ◌-◌, ◌<◌, ◌≤◌, ◌⊎◌, inl, inr, List, [], ◌∷◌, ◌++◌, length, get_or, take, drop, refl, sym, ap, subst, ◌∙◌, arith, length-append, IsTrue}
-use Rattle.std.proofs.lemmas.List.{take_at, take_rest, take-append-drop, length-take-le, get_or_append_left}
+use Rattle.infer_deep.proofs.Common.{◌≡◌, ◌↔◌, ℕ, zero, suc, ◌+◌, ◌-◌, ◌<◌, ◌≤◌, ◌⊎◌, inl, inr, List, [], ◌∷◌, ◌++◌, length, get_or, take, drop, refl, sym, ap, subst, ◌∙◌, arith, length-append, IsTrue, take_at, take_rest, take-append-drop, length-take-le, get_or_append_left, le32, cases_lt, are_bytes, AgreesAt, Lasts, ComesWith, AreApart, IsEarly, Reachable, nat_tests, SkipsTo, NoneBegins, BeginsWith, BeginsFrame, IsFrame, IsFramed, OccursAt}
 use Rattle.infer_deep.specs.Laws.{BeginApart}
-use Rattle.infer_deep.specs.Numbers.{le32}
-use Rattle.std.proofs.lemmas.Bool.{cases_lt}
-use Rattle.infer_deep.specs.Open.{are_bytes, AgreesAt}
-use Rattle.infer_deep.specs.Signatures.{Lasts, ComesWith, AreApart, IsEarly, Reachable}
 use Rattle.infer_deep.proofs.OpenLemmas.{Reachable-grown, agrees_none, agrees_past, agrees_where_stands, fills_parts, fills_text, grown_agrees, reaches_text}
-use Rattle.std.proofs.lemmas.Bool.Decides.{nat_tests}
-use Rattle.infer_deep.specs.Joined.{SkipsTo, NoneBegins, BeginsWith}
 use Rattle.infer_deep.proofs.PlaceLemmas.{byte_stands, OccursAt-append, OccursAt-agree, OccursAt-first, OccursAt-front}
 use Rattle.infer_deep.proofs.NumberLemmas.{le32-append}
 use Rattle.infer_deep.proofs.JoinedLemmas.{IsPrefixFree, Stops, WordsBegin, NoneBegins-first, Behind-lead, Behind-lasts, Behind-comes, Behind-left, Behind-trimmed, Behind-apart, Behind-open}
-use Rattle.infer_deep.specs.Frames.{BeginsFrame, IsFrame, IsFramed}
-use Rattle.memchr.specs.Find.{OccursAt}
 
 -- what begins as a frame does so in a part that has its first four bytes
 front_begins : (b more : List ℕ) → 4 ≤ length b → BeginsFrame (b ++ more) → BeginsFrame b

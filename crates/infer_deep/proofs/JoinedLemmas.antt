@@ -1,14 +1,5 @@
 -- Words joined: what is left after them is one, however it is found, and what holds of a buffer after them.
-use Rattle.std.proofs.Common.{◌≡◌, ◌↔◌, ℕ, zero, suc, ◌-◌, ◌<◌, ◌≤◌, ◌⊎◌, inl, inr, List, [], ◌∷◌, ◌++◌, length, get_or, take, drop, refl, sym, ap, subst, ◌∙◌, ◌+◌, arith}
-use Rattle.std.proofs.lemmas.List.{append_assoc, append_cancel_left, take-append-drop, take-append-le, take_at}
-use Rattle.std.proofs.Math.Seq.{take-append-add}
-use Rattle.std.proofs.lemmas.Bool.{cases_lt}
-use Rattle.std.proofs.lemmas.List.Elements.{All-append, All-take}
-use Rattle.std.proofs.lemmas.List.Prefix.{front_reads}
-use Rattle.std.specs.List.{AllByRecursion, concat, repeat}
-use Rattle.memchr.specs.Find.{OccursAt}
-use Rattle.infer_deep.specs.Joined.{SkipsTo, NoneBegins, BeginsWith, LeadsTo, Behind}
-use Rattle.infer_deep.specs.Signatures.{Lasts, ComesWith, AreApart, Reachable}
+use Rattle.infer_deep.proofs.Common.{◌≡◌, ◌↔◌, ℕ, zero, suc, ◌-◌, ◌<◌, ◌≤◌, ◌⊎◌, inl, inr, List, [], ◌∷◌, ◌++◌, length, get_or, take, drop, refl, sym, ap, subst, ◌∙◌, ◌+◌, arith, append_assoc, append_cancel_left, take-append-drop, take-append-le, take_at, take-append-add, cases_lt, All-append, All-take, front_reads, AllByRecursion, concat, repeat, OccursAt, SkipsTo, NoneBegins, BeginsWith, LeadsTo, Behind, Lasts, ComesWith, AreApart, Reachable}
 use Rattle.infer_deep.proofs.PlaceLemmas.{begins-from_OccursAt}
 use Rattle.infer_deep.proofs.OpenLemmas.{IsBytes}
 

@@ -1,3 +1,4 @@
+pub mod Common
 pub mod PlaceLemmas
 pub mod OpenLemmas
 pub mod SearchLemmas

@@ -1,7 +1,5 @@
 -- Numbers in a buffer: in one that grows they stay what they are, and they are the same if their bytes are.
-use Rattle.std.proofs.Common.{◌≡◌, ◌↔◌, ℕ, zero, suc, ◌+◌, ◌<◌, ◌≤◌, List, ◌++◌, length, get_or, add-zero, arith}
-use Rattle.std.proofs.lemmas.List.{get_or_append_left}
-use Rattle.infer_deep.specs.Numbers.{le16, le32, be32}
+use Rattle.infer_deep.proofs.Common.{◌≡◌, ◌↔◌, ℕ, zero, suc, ◌+◌, ◌<◌, ◌≤◌, List, ◌++◌, length, get_or, add-zero, arith, get_or_append_left, le16, le32, be32}
 
 module _ (b more : List ℕ) (p : ℕ) where
   pub le16-append : p + 2 ≤ length b → le16 (b ++ more) p ≡ le16 b p

@@ -1,13 +1,7 @@
 -- The headers of an Office document: each is one place, and stays it in a buffer that grows.
-use Rattle.std.proofs.Common.{◌≡◌, ℕ, ◌+◌, ◌<◌, ◌≤◌, List, ◌++◌, Option, Some, None, length, refl, sym, ap, subst, ◌∙◌, inl, inr, arith, codes, min, take, drop, ◌-◌, ◌↔◌}
-use Rattle.std.specs.Option.{unwrap_or}
-use Rattle.memchr.specs.Find.{OccursAt}
-use Rattle.infer_deep.specs.Numbers.{le32}
-use Rattle.infer_deep.specs.Places.{IsWithin, IsFirstWithin, FindsPlace}
-use Rattle.infer_deep.specs.Signatures.{IsEarly, ComesWith}
+use Rattle.infer_deep.proofs.Common.{◌≡◌, ℕ, ◌+◌, ◌<◌, ◌≤◌, List, ◌++◌, Option, Some, None, length, refl, sym, ap, subst, ◌∙◌, inl, inr, arith, codes, min, take, drop, ◌-◌, ◌↔◌, unwrap_or, OccursAt, le32, IsWithin, IsFirstWithin, FindsPlace, IsEarly, ComesWith, zip_header, HasFolder, HasOfficeName, BeginsOffice, IsHeaderFrom, IsThirdHeader, DecidesBehind, IsDecidingHeader, IsDecidingPlace, IsOffice}
 use Rattle.infer_deep.proofs.NumberLemmas.{le32-append}
 use Rattle.infer_deep.proofs.PlaceLemmas.{Carries, IsUnique, IsFirstPlace-same, IsFirstPlace-append, OccursAt-append, OccursAt-front, OccursAt-part, stands_at_one}
-use Rattle.infer_deep.specs.Office.{zip_header, HasFolder, HasOfficeName, BeginsOffice, IsHeaderFrom, IsThirdHeader, DecidesBehind, IsDecidingHeader, IsDecidingPlace, IsOffice}
 
 pub IsThirdHeader-one : (At : List ℕ → List ℕ → ℕ → Type 0) (b : List ℕ) → IsUnique (IsThirdHeader At b)
 IsThirdHeader-one At b p q t u =

@@ -1,20 +1,5 @@
 -- What bytes after a buffer can bring: texts that agree with it as far as it goes.
-use Rattle.std.proofs.Common.{IsTrue, ◌≡◌, ◌⊎◌, ◌↔◌, ℕ, zero, suc, ◌+◌, ◌-◌, ◌<◌, ◌≤◌, inl, inr, Bool, true, List, [], ◌∷◌, ◌++◌, length, get_or, take, drop, max, min, refl, sym, ap, subst, ◌∙◌, arith, length-append, length-drop, append_assoc}
-use Rattle.std.proofs.Math.Seq.{get_or-append_right}
-use Rattle.std.proofs.lemmas.Bool.{lt-ltb, cases_lt, cases_order, ltb-true}
-use Rattle.std.proofs.lemmas.List.{append-nil, get_or_append_left, get_or-drop, length-replicate}
-use Rattle.std.proofs.lemmas.List.Elements.{All-append, All-drop, All-from_get_or, All-nil, All-replicate}
-use Rattle.std.proofs.lemmas.List.{take_rest}
-use Rattle.std.proofs.lemmas.List.Prefix.{front_reads, front_from_reads}
-use Rattle.std.proofs.lemmas.Slice.Eq.{starts_is}
-use Rattle.std.proofs.lemmas.Bool.Decides.{Decides-eqb}
-use Rattle.std.proofs.lemmas.List.Sums.{AllPass-from_list_all, list_all-from_AllPass}
-use Rattle.std.specs.List.{starts_with}
-use Rattle.std.specs.Prelude.{All, nat_eq, nat_lt, replicate}
-use Rattle.memchr.specs.Find.{OccursAt}
-use Rattle.infer_deep.specs.Places.{IsWithin, IsFirstPlace}
-use Rattle.infer_deep.specs.Open.{are_bytes, AgreesAt}
-use Rattle.infer_deep.specs.Signatures.{Reachable}
+use Rattle.infer_deep.proofs.Common.{IsTrue, ◌≡◌, ◌⊎◌, ◌↔◌, ℕ, zero, suc, ◌+◌, ◌-◌, ◌<◌, ◌≤◌, inl, inr, Bool, true, List, [], ◌∷◌, ◌++◌, length, get_or, take, drop, max, min, refl, sym, ap, subst, ◌∙◌, arith, length-append, length-drop, append_assoc, get_or-append_right, lt-ltb, cases_lt, cases_order, ltb-true, append-nil, get_or_append_left, get_or-drop, length-replicate, All-append, All-drop, All-from_get_or, All-nil, All-replicate, take_rest, front_reads, front_from_reads, starts_is, Decides-eqb, AllPass-from_list_all, list_all-from_AllPass, starts_with, All, nat_eq, nat_lt, replicate, OccursAt, IsWithin, IsFirstPlace, are_bytes, AgreesAt, Reachable}
 use Rattle.infer_deep.proofs.PlaceLemmas.{OccursAt-append}
 
 abbrev pub IsBytes : List ℕ → Type 0

@@ -1,15 +1,5 @@
 -- Which documents of Office more bytes can make of a buffer.
-use Rattle.std.proofs.Common.{IsTrue, ◌≡◌, ◌↔◌, ◌⊎◌, inl, inr, ℕ, ◌+◌, ◌-◌, ◌<◌, ◌≤◌, List, [], ◌∷◌, ◌++◌, length, get_or, max, refl, sym, subst, ◌∙◌, arith, codes, length-append}
-use Rattle.std.proofs.Math.Seq.{get_or-append_right}
-use Rattle.std.proofs.lemmas.Bool.{cases_lt}
-use Rattle.std.proofs.lemmas.List.{length-replicate, get_or-replicate}
-use Rattle.std.proofs.lemmas.List.Elements.{All-replicate}
-use Rattle.std.specs.Prelude.{replicate}
-use Rattle.memchr.specs.Find.{OccursAt}
-use Rattle.infer_deep.specs.Numbers.{le32}
-use Rattle.infer_deep.specs.Open.{are_bytes, AgreesAt}
-use Rattle.infer_deep.specs.Signatures.{Reachable}
-use Rattle.infer_deep.specs.Office.{zip_header, IsFolder, HasFolder, HasOfficeName, IsHeaderFrom, IsThirdHeader, DecidesBehind, MayDecideBehind, MayDecide, IsDecidingHeader, IsOffice}
+use Rattle.infer_deep.proofs.Common.{IsTrue, ◌≡◌, ◌↔◌, ◌⊎◌, inl, inr, ℕ, ◌+◌, ◌-◌, ◌<◌, ◌≤◌, List, [], ◌∷◌, ◌++◌, length, get_or, max, refl, sym, subst, ◌∙◌, arith, codes, length-append, get_or-append_right, cases_lt, length-replicate, get_or-replicate, All-replicate, replicate, OccursAt, le32, are_bytes, AgreesAt, Reachable, zip_header, IsFolder, HasFolder, HasOfficeName, IsHeaderFrom, IsThirdHeader, DecidesBehind, MayDecideBehind, MayDecide, IsDecidingHeader, IsOffice}
 use Rattle.infer_deep.proofs.NumberLemmas.{le32-append}
 use Rattle.infer_deep.proofs.PlaceLemmas.{IsFirstPlace-append, OccursAt-append, OccursAt-first, OccursAt-front}
 use Rattle.infer_deep.proofs.OfficeLemmas.{HasFolder-append, HasOfficeName-carried, IsThirdHeader-append, IsThirdHeader-one, grows, name_long, no_folder-append}

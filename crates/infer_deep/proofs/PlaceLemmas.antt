@@ -1,9 +1,5 @@
 -- A text stands at a place of a buffer: in one that grows it, in a part of it, beside other texts.
-use Rattle.std.proofs.Common.{◌≡◌, ℕ, zero, suc, ◌+◌, ◌-◌, ◌<◌, ◌≤◌, List, [], ◌∷◌, ◌++◌, length, get_or, take, drop, sym, ap, subst, ◌∙◌, ◌↔◌, arith, add-zero, zero-add, length-append, length-drop, length-take}
-use Rattle.std.proofs.lemmas.List.{get_or_append_left, get_or-take, get_or-drop, take_rest}
-use Rattle.std.proofs.lemmas.List.Prefix.{front_fits, at_reads, at_from_reads}
-use Rattle.memchr.specs.Find.{OccursAt}
-use Rattle.infer_deep.specs.Places.{IsFirstPlace}
+use Rattle.infer_deep.proofs.Common.{◌≡◌, ℕ, zero, suc, ◌+◌, ◌-◌, ◌<◌, ◌≤◌, List, [], ◌∷◌, ◌++◌, length, get_or, take, drop, sym, ap, subst, ◌∙◌, ◌↔◌, arith, add-zero, zero-add, length-append, length-drop, length-take, get_or_append_left, get_or-take, get_or-drop, take_rest, front_fits, at_reads, at_from_reads, OccursAt, IsFirstPlace}
 
 -- it stands in each buffer that grows the buffer
 pub OccursAt-append : (b more text : List ℕ) (p : ℕ) → OccursAt b text p → OccursAt (b ++ more) text p

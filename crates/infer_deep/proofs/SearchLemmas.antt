@@ -1,16 +1,7 @@
 -- What a comparison, a search of a part and a look at blocks tell of a buffer.
-use Rattle.std.proofs.Common.{◌≡◌, ℕ, ◌+◌, ◌-◌, ◌<◌, ◌≤◌, Bool, true, List, Option, length, get_or, Some, None, take, drop, min, ap, subst, sym, ◌∙◌, arith, length-drop}
-use Rattle.std.proofs.lemmas.List.{take_rest}
-use Rattle.std.proofs.lemmas.List.Prefix.{at_reads, at_from_reads, front_fits}
-use Rattle.std.proofs.lemmas.Slice.Eq.{starts_is}
-use Rattle.std.proofs.lemmas.Bool.Decides.{Decides-eqb}
-use Rattle.std.specs.List.{starts_with}
-use Rattle.std.specs.Prelude.{nat_eq}
-use Rattle.memchr.specs.Find.{OccursAt, NoneBefore, Nowhere}
+use Rattle.infer_deep.proofs.Common.{◌≡◌, ℕ, ◌+◌, ◌-◌, ◌<◌, ◌≤◌, Bool, true, List, Option, length, get_or, Some, None, take, drop, min, ap, subst, sym, ◌∙◌, arith, length-drop, take_rest, at_reads, at_from_reads, front_fits, starts_is, Decides-eqb, starts_with, nat_eq, OccursAt, NoneBefore, Nowhere, IsPairAt, LacksPair, IsWithin, IsFirstPlace, IsFirstWithin}
 use Rattle.memchr.specs.Pairs.{HasPair, IsPairFinderOf, reach_of}
 use Rattle.memchr.specs.declared.arch.all.packedpair.Finder.{Finder}
-use Rattle.infer_deep.specs.Blocks.{IsPairAt, LacksPair}
-use Rattle.infer_deep.specs.Places.{IsWithin, IsFirstPlace, IsFirstWithin}
 use Rattle.infer_deep.proofs.PlaceLemmas.{OccursAt-part, part_reads}
 
 -- what `starts_with` says of the rest of a buffer

@@ -1,15 +1,7 @@
 -- Windows: they last, and the first 1024 bytes decide.
-use Rattle.std.proofs.Common.{IsTrue, ◌≡◌, ◌↔◌, ℕ, ◌+◌, ◌≤◌, List, [], ◌∷◌, ◌++◌, length, take, drop, max, refl, true, Option, Some, None, inl, inr, sym, subst, arith, length-append}
-use Rattle.std.proofs.lemmas.List.{take-append-drop, length-take-le}
-use Rattle.std.proofs.lemmas.Bool.{cases_lt, false≢true}
-use Rattle.std.specs.Option.{is_some}
-use Rattle.memchr.specs.Find.{OccursAt}
-use Rattle.infer_deep.specs.Places.{IsFirstWithin}
-use Rattle.infer_deep.specs.Open.{are_bytes, AgreesAt}
-use Rattle.infer_deep.specs.Signatures.{Lasts, IsNear, Reachable}
+use Rattle.infer_deep.proofs.Common.{IsTrue, ◌≡◌, ◌↔◌, ℕ, ◌+◌, ◌≤◌, List, [], ◌∷◌, ◌++◌, length, take, drop, max, refl, true, Option, Some, None, inl, inr, sym, subst, arith, length-append, take-append-drop, length-take-le, cases_lt, false≢true, is_some, OccursAt, IsFirstWithin, are_bytes, AgreesAt, Lasts, IsNear, Reachable, StandsBy, IsMatroska}
 use Rattle.infer_deep.proofs.PlaceLemmas.{OccursAt-append, OccursAt-front}
 use Rattle.infer_deep.proofs.OpenLemmas.{agrees_past, grown_agrees, stands_where_whole, fills_text, fills_parts}
-use Rattle.infer_deep.specs.Windows.{StandsBy, IsMatroska}
 
 pub StandsBy-lasts : (text : List ℕ) (end : ℕ) → Lasts (StandsBy text end)
 StandsBy-lasts text end b more (p, w) =

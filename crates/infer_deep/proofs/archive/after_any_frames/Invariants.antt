@@ -1,7 +1,5 @@
 -- what is left is after some frames
-use Rattle.std.proofs.Common.{length}
-use Rattle.infer_deep.specs.Joined.{LeadsTo}
-use Rattle.infer_deep.specs.Frames.{IsFrame}
+use Rattle.infer_deep.proofs.Common.{length, LeadsTo, IsFrame}
 use Rattle.infer_deep.proofs.archive.after_any_frames.Given as goal
 
 abbrev pub invariant-loop-rest : goal.invariant-loop-rest

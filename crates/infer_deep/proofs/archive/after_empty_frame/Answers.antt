@@ -1,4 +1,4 @@
-use Rattle.std.proofs.Common.{arith}
+use Rattle.infer_deep.proofs.Common.{arith}
 use Rattle.infer_deep.proofs.FrameLemmas.{frame_begins}
 use Rattle.infer_deep.proofs.archive.after_empty_frame.Goals as goal
 

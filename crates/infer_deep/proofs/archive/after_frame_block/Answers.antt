@@ -1,7 +1,4 @@
-use Rattle.std.proofs.Common.{List, ℕ, Option, None, Some, Bor}
-use Rattle.std.specs.Option.{IfSome}
-use Rattle.infer_deep.specs.Frames.{IsFrame}
-use Rattle.infer_deep.specs.Joined.{BeginsWith, LeadsTo}
+use Rattle.infer_deep.proofs.Common.{List, ℕ, Option, None, Some, Bor, IfSome, IsFrame, BeginsWith, LeadsTo}
 use Rattle.infer_deep.proofs.JoinedLemmas.{leads_past}
 use Rattle.infer_deep.proofs.archive.after_frame_block.Goals as goal
 

@@ -1,4 +1,4 @@
-use Rattle.std.proofs.Common.{rules}
+use Rattle.infer_deep.proofs.Common.{rules}
 use Rattle.infer_deep.proofs.FrameLemmas.{IsFramed-trimmed}
 use Rattle.infer_deep.proofs.archive.after_skippable_frames.Goals as goal
 

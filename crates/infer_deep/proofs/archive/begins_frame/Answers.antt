@@ -1,4 +1,4 @@
-use Rattle.std.proofs.Common.{arith, rules, tests}
+use Rattle.infer_deep.proofs.Common.{arith, rules, tests}
 use Rattle.infer_deep.proofs.FrameLemmas.{BeginsFrame-number}
 use Rattle.infer_deep.proofs.archive.begins_frame.Goals as goal
 

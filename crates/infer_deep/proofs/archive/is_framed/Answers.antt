@@ -1,4 +1,4 @@
-use Rattle.std.proofs.Common.{arith, rules}
+use Rattle.infer_deep.proofs.Common.{arith, rules}
 use Rattle.infer_deep.proofs.FrameLemmas.{IsFramed-left}
 use Rattle.infer_deep.proofs.archive.is_framed.Goals as goal
 

@@ -1,4 +1,4 @@
-use Rattle.std.proofs.Common.{inl, inr, arith}
+use Rattle.infer_deep.proofs.Common.{inl, inr, arith}
 use Rattle.infer_deep.proofs.OpenLemmas.{test_from_reads}
 use Rattle.infer_deep.proofs.FrameLemmas.{is_framed_open}
 use Rattle.infer_deep.proofs.archive.may_become_framed.Goals as goal

@@ -1,4 +1,4 @@
-use Rattle.std.proofs.Common.{arith, codes, ◌<◌, List, ℕ, ◌∙◌, ap, min, length}
+use Rattle.infer_deep.proofs.Common.{arith, codes, ◌<◌, List, ℕ, ◌∙◌, ap, min, length}
 use Rattle.infer_deep.proofs.OfficeLemmas.{folder_follows}
 use Rattle.infer_deep.proofs.doc.deciding_folder.Goals as goal
 

@@ -1,4 +1,4 @@
-use Rattle.std.proofs.Common.{rules}
+use Rattle.infer_deep.proofs.Common.{rules}
 use Rattle.infer_deep.proofs.OfficeLemmas.{IsOffice-at}
 use Rattle.infer_deep.proofs.doc.is_office.Goals as goal
 

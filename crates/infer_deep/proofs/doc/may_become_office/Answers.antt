@@ -1,5 +1,4 @@
-use Rattle.std.proofs.Common.{inl, inr}
-use Rattle.std.proofs.lemmas.Bool.{false≢true}
+use Rattle.infer_deep.proofs.Common.{inl, inr, false≢true}
 use Rattle.infer_deep.proofs.OpenOfficeLemmas.{office_reached, office_known}
 use Rattle.infer_deep.proofs.doc.may_become_office.Goals as goal
 

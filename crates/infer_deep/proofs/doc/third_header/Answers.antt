@@ -1,4 +1,4 @@
-use Rattle.std.proofs.Common.{arith}
+use Rattle.infer_deep.proofs.Common.{arith}
 use Rattle.infer_deep.proofs.OfficeLemmas.{no_second}
 use Rattle.infer_deep.proofs.doc.third_header.Goals as goal
 

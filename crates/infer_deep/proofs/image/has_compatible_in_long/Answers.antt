@@ -1,6 +1,4 @@
-use Rattle.std.proofs.Common.{◌≡◌, ◌∙◌, min, ◌-◌, ◌/◌, length, inl, inr, sym, arith}
-use Rattle.std.proofs.lemmas.Bool.{false≢true}
-use Rattle.infer_deep.specs.Brands.{box_length}
+use Rattle.infer_deep.proofs.Common.{◌≡◌, ◌∙◌, min, ◌-◌, ◌/◌, length, inl, inr, sym, arith, false≢true, box_length}
 use Rattle.infer_deep.proofs.BrandLemmas.{compatible_below, none_below, one_more_below}
 use Rattle.infer_deep.proofs.image.has_compatible_in_long.Goals as goal
 

@@ -1,5 +1,5 @@
 -- whether each brand is one of the first k
-use Rattle.std.proofs.Common.{◌↔◌, IsTrue}
+use Rattle.infer_deep.proofs.Common.{◌↔◌, IsTrue}
 use Rattle.infer_deep.proofs.BrandLemmas.{StandsBelow}
 use Rattle.infer_deep.proofs.image.has_compatible_in_long.Given as goal
 

@@ -1,5 +1,4 @@
-use Rattle.std.proofs.Common.{inl, inr}
-use Rattle.std.proofs.lemmas.Bool.{false≢true}
+use Rattle.infer_deep.proofs.Common.{inl, inr, false≢true}
 use Rattle.infer_deep.proofs.BrandLemmas.{avif_reached, avif_known}
 use Rattle.infer_deep.proofs.image.may_become_avif_box.Goals as goal
 

@@ -1,7 +1,4 @@
-use Rattle.std.proofs.Common.{◌+◌, ◌<◌, ◌≡◌, ℕ, List, get_or, length, arith, inl, inr}
-use Rattle.infer_deep.specs.ClassId.{HasClassId, IsRoot, compound_header, word_id, old_excel_id, excel_id, powerpoint_id}
-use Rattle.infer_deep.specs.Office.{IsDecidingPlace, zip_header}
-use Rattle.infer_deep.specs.Signatures.{AreApart}
+use Rattle.infer_deep.proofs.Common.{◌+◌, ◌<◌, ◌≡◌, ℕ, List, get_or, length, arith, inl, inr, HasClassId, IsRoot, compound_header, word_id, old_excel_id, excel_id, powerpoint_id, IsDecidingPlace, zip_header, AreApart}
 use Rattle.infer_deep.proofs.FrameLemmas.{IsFramed-apart}
 use Rattle.infer_deep.proofs.OfficeLemmas.{IsDecidingPlace-one}
 use Rattle.infer_deep.proofs.PlaceLemmas.{OccursAt-agree, apart_at_one}

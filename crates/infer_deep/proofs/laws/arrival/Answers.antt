@@ -1,10 +1,9 @@
-use Rattle.std.proofs.Common.{inr, arith}
+use Rattle.infer_deep.proofs.Common.{inr, arith, IsHeif, IsAvif}
 use Rattle.infer_deep.proofs.BrandLemmas.{boxed-comes, IsAvif-carried, IsHeif-carried, IsOpenBox-early}
 use Rattle.infer_deep.proofs.FrameLemmas.{BeginsFrame-early, IsFramed-comes}
 use Rattle.infer_deep.proofs.OfficeLemmas.{BeginsOffice-early, IsOffice-comes}
 use Rattle.infer_deep.proofs.PlaceLemmas.{OccursAt-front}
 use Rattle.infer_deep.proofs.TextLemmas.{BeginsMarked-early, BeginsWhite-early, IsHtml-comes, IsXml-comes}
-use Rattle.infer_deep.specs.Brands.{IsHeif, IsAvif}
 use Rattle.infer_deep.proofs.laws.arrival.Goals as goal
 
 pub returns-clause-comes : goal.returns-clause-comes

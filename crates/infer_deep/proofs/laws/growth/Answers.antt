@@ -1,4 +1,4 @@
-use Rattle.std.proofs.Common.{arith}
+use Rattle.infer_deep.proofs.Common.{arith, IsHeif, IsAvif, word_id, powerpoint_id}
 use Rattle.infer_deep.proofs.BrandLemmas.{boxed-lasts, IsHeif-carried, IsAvif-carried}
 use Rattle.infer_deep.proofs.ClassIdLemmas.{HasClassId-lasts}
 use Rattle.infer_deep.proofs.FrameLemmas.{IsFramed-lasts}
@@ -6,8 +6,6 @@ use Rattle.infer_deep.proofs.OfficeLemmas.{IsDecidingPlace-append}
 use Rattle.infer_deep.proofs.PlaceLemmas.{OccursAt-append}
 use Rattle.infer_deep.proofs.TextLemmas.{IsHtml-lasts, IsXml-lasts}
 use Rattle.infer_deep.proofs.WindowLemmas.{StandsBy-lasts, IsMatroska-lasts}
-use Rattle.infer_deep.specs.Brands.{IsHeif, IsAvif}
-use Rattle.infer_deep.specs.ClassId.{word_id, powerpoint_id}
 use Rattle.infer_deep.proofs.laws.growth.Goals as goal
 
 pub returns : goal.returns

@@ -1,4 +1,4 @@
-use Rattle.std.proofs.Common.{arith}
+use Rattle.infer_deep.proofs.Common.{arith}
 use Rattle.infer_deep.proofs.FrameLemmas.{IsFramed-lead}
 use Rattle.infer_deep.proofs.TextLemmas.{IsHtml-lead, IsXml-lead}
 use Rattle.infer_deep.proofs.laws.leads.Goals as goal

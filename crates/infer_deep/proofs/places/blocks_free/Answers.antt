@@ -1,5 +1,4 @@
-use Rattle.std.proofs.Common.{arith}
-use Rattle.std.proofs.lemmas.Bool.{OnFalse_at}
+use Rattle.infer_deep.proofs.Common.{arith, OnFalse_at}
 use Rattle.infer_deep.proofs.SearchLemmas.{lacks_more}
 use Rattle.infer_deep.proofs.places.blocks_free.Goals as goal
 

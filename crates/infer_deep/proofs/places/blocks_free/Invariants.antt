@@ -1,6 +1,5 @@
 -- the places before the blocks from here on lack the pair
-use Rattle.std.proofs.Common.{◌*◌}
-use Rattle.infer_deep.specs.Blocks.{LacksPair}
+use Rattle.infer_deep.proofs.Common.{◌*◌, LacksPair}
 use Rattle.infer_deep.proofs.places.blocks_free.Given as goal
 
 abbrev pub invariant-loop-k : goal.invariant-loop-k

@@ -1,4 +1,4 @@
-use Rattle.std.proofs.Common.{arith}
+use Rattle.infer_deep.proofs.Common.{arith}
 use Rattle.infer_deep.proofs.SearchLemmas.{none_fits, first_later}
 use Rattle.infer_deep.proofs.places.find.Goals as goal
 

@@ -1,4 +1,4 @@
-use Rattle.std.proofs.Common.{arith}
+use Rattle.infer_deep.proofs.Common.{arith}
 use Rattle.infer_deep.proofs.OpenLemmas.{first_open_from_first, first_open_found, none_open_found}
 use Rattle.infer_deep.proofs.places.find_open.Goals as goal
 

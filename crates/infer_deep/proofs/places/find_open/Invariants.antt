@@ -1,6 +1,5 @@
 -- it agrees at none of the places so far
-use Rattle.std.proofs.Common.{ℕ, ◌<◌, ◌≤◌}
-use Rattle.infer_deep.specs.Open.{AgreesAt}
+use Rattle.infer_deep.proofs.Common.{ℕ, ◌<◌, ◌≤◌, AgreesAt}
 use Rattle.infer_deep.proofs.places.find_open.Given as goal
 
 abbrev pub invariant-loop-place : goal.invariant-loop-place

@@ -1,6 +1,5 @@
 -- none of the bytes so far is it
-use Rattle.std.proofs.Common.{◌≡◌, ◌<◌, ℕ, get_or}
-use Rattle.std.specs.Bool.{OnFalse}
+use Rattle.infer_deep.proofs.Common.{◌≡◌, ◌<◌, ℕ, get_or, OnFalse}
 use Rattle.infer_deep.proofs.places.has_byte.Given as goal
 
 abbrev pub invariant-loop-i : goal.invariant-loop-i

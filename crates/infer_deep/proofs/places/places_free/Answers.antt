@@ -1,5 +1,4 @@
-use Rattle.std.proofs.Common.{subst}
-use Rattle.infer_deep.specs.Blocks.{LacksPair}
+use Rattle.infer_deep.proofs.Common.{subst, LacksPair}
 use Rattle.infer_deep.proofs.places.places_free.Goals as goal
 
 pub returns-in-Some-clause-lacks : goal.returns-in-Some-clause-lacks

@@ -1,4 +1,4 @@
-use Rattle.std.proofs.Common.{arith, rules}
+use Rattle.infer_deep.proofs.Common.{arith, rules}
 use Rattle.infer_deep.proofs.NumberLemmas.{le16-same}
 use Rattle.infer_deep.proofs.places.same_half.Goals as goal
 

@@ -1,4 +1,4 @@
-use Rattle.std.proofs.Common.{arith, rules}
+use Rattle.infer_deep.proofs.Common.{arith, rules}
 use Rattle.infer_deep.proofs.NumberLemmas.{le32-same}
 use Rattle.infer_deep.proofs.places.same_word.Goals as goal
 

@@ -1,5 +1,5 @@
 -- the words so far are those of the text
-use Rattle.std.proofs.Common.{◌≡◌, ◌+◌, ◌-◌, ◌<◌, ℕ, length, get_or}
+use Rattle.infer_deep.proofs.Common.{◌≡◌, ◌+◌, ◌-◌, ◌<◌, ℕ, length, get_or}
 use Rattle.infer_deep.proofs.places.same_words.Given as goal
 
 abbrev pub decreases-loop-i : goal.decreases-loop-i

@@ -1,4 +1,4 @@
-use Rattle.std.proofs.Common.{arith}
+use Rattle.infer_deep.proofs.Common.{arith}
 use Rattle.infer_deep.proofs.SearchLemmas.{IsFirstWithin-skip, first_at_pair, none_past_pair, none_without_pair}
 use Rattle.infer_deep.proofs.places.search_pairs.Goals as goal
 

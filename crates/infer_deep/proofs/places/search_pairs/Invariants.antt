@@ -1,7 +1,5 @@
 -- the text stands nowhere before
-use Rattle.std.proofs.Common.{ℕ, ◌<◌, ◌≤◌}
-use Rattle.memchr.specs.Find.{OccursAt}
-use Rattle.infer_deep.specs.Places.{IsWithin}
+use Rattle.infer_deep.proofs.Common.{ℕ, ◌<◌, ◌≤◌, OccursAt, IsWithin}
 use Rattle.infer_deep.proofs.places.search_pairs.Given as goal
 
 abbrev pub invariant-loop-turn : goal.invariant-loop-turn

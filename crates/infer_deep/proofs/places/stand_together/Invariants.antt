@@ -1,6 +1,5 @@
 -- the pair stands at none of the places so far
-use Rattle.std.specs.Bool.{OnFalse}
-use Rattle.infer_deep.specs.Blocks.{LacksPair}
+use Rattle.infer_deep.proofs.Common.{OnFalse, LacksPair}
 use Rattle.infer_deep.proofs.places.stand_together.Given as goal
 
 abbrev pub invariant-loop-i : goal.invariant-loop-i

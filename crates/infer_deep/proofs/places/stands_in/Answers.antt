@@ -1,6 +1,4 @@
-use Rattle.std.proofs.Common.{rules, tests, refl, arith}
-use Rattle.std.proofs.lemmas.Iterator.{YieldsList-from_range, cases_from_any}
-use Rattle.memchr.specs.Find.{OccursAt}
+use Rattle.infer_deep.proofs.Common.{rules, tests, refl, arith, YieldsList-from_range, cases_from_any, OccursAt}
 use Rattle.infer_deep.proofs.AnyLemmas.{any_below}
 use Rattle.infer_deep.proofs.places.stands_in.Goals as goal
 

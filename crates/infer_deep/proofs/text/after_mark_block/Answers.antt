@@ -1,5 +1,4 @@
-use Rattle.std.proofs.Common.{[], ◌∷◌, inl, inr, refl}
-use Rattle.infer_deep.specs.Text.{IsMark}
+use Rattle.infer_deep.proofs.Common.{[], ◌∷◌, inl, inr, refl, IsMark}
 use Rattle.infer_deep.proofs.JoinedLemmas.{leads_past_repeat}
 use Rattle.infer_deep.proofs.text.after_mark_block.Goals as goal
 

@@ -1,7 +1,5 @@
 -- what is left is after some marks
-use Rattle.std.proofs.Common.{length}
-use Rattle.infer_deep.specs.Joined.{LeadsTo}
-use Rattle.infer_deep.specs.Text.{IsMark}
+use Rattle.infer_deep.proofs.Common.{length, LeadsTo, IsMark}
 use Rattle.infer_deep.proofs.text.after_mark_blocks.Given as goal
 
 abbrev pub invariant-loop-rest : goal.invariant-loop-rest

@@ -1,5 +1,4 @@
-use Rattle.std.proofs.Common.{arith}
-use Rattle.std.proofs.lemmas.Bool.{OnTrue_at}
+use Rattle.infer_deep.proofs.Common.{arith, OnTrue_at}
 use Rattle.infer_deep.proofs.TextLemmas.{leads_past_block}
 use Rattle.infer_deep.proofs.text.after_white_blocks.Goals as goal
 

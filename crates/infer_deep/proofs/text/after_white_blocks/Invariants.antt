@@ -1,7 +1,5 @@
 -- what is left is after some white space
-use Rattle.std.proofs.Common.{length}
-use Rattle.infer_deep.specs.Joined.{LeadsTo}
-use Rattle.infer_deep.specs.Text.{IsSpace}
+use Rattle.infer_deep.proofs.Common.{length, LeadsTo, IsSpace}
 use Rattle.infer_deep.proofs.text.after_white_blocks.Given as goal
 
 abbrev pub invariant-loop-block : goal.invariant-loop-block

@@ -1,4 +1,4 @@
-use Rattle.std.proofs.Common.{rules}
+use Rattle.infer_deep.proofs.Common.{rules}
 use Rattle.infer_deep.proofs.TextLemmas.{IsHtml-trimmed, IsXml-trimmed}
 use Rattle.infer_deep.proofs.text.after_white_space.Goals as goal
 

@@ -1,7 +1,5 @@
 -- the bytes so far are white
-use Rattle.std.specs.Bool.{OnTrue}
-use Rattle.infer_deep.specs.Blocks.{AllBelow}
-use Rattle.infer_deep.specs.Text.{IsWhite}
+use Rattle.infer_deep.proofs.Common.{OnTrue, AllBelow, IsWhite}
 use Rattle.infer_deep.proofs.text.all_spaces.Given as goal
 
 abbrev pub invariant-loop-byte : goal.invariant-loop-byte

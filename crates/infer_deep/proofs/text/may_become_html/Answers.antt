@@ -1,8 +1,4 @@
-use Rattle.std.proofs.Common.{arith, subst, sym}
-use Rattle.std.proofs.lemmas.Bool.Decides.{nat_tests}
-use Rattle.std.specs.Prelude.{Any}
-use Rattle.infer_deep.specs.Signatures.{Reachable}
-use Rattle.infer_deep.specs.Text.{BeginsWithTag}
+use Rattle.infer_deep.proofs.Common.{arith, subst, sym, nat_tests, Any, Reachable, BeginsWithTag}
 use Rattle.infer_deep.proofs.TextLemmas.{HasTag-begun, reached_open, HasTag-reached_second, is_html_open}
 use Rattle.infer_deep.proofs.text.may_become_html.Goals as goal
 

@@ -1,4 +1,4 @@
-use Rattle.std.proofs.Common.{inl, inr}
+use Rattle.infer_deep.proofs.Common.{inl, inr}
 use Rattle.infer_deep.proofs.TextLemmas.{is_xml_open}
 use Rattle.infer_deep.proofs.text.may_become_xml.Goals as goal
 

@@ -1,7 +1,4 @@
-use Rattle.std.proofs.Common.{IsTrue, rules}
-use Rattle.std.specs.Prelude.{Any, ◌↔◌}
-use Rattle.infer_deep.specs.Signatures.{Reachable}
-use Rattle.infer_deep.specs.Text.{BeginsWithTag}
+use Rattle.infer_deep.proofs.Common.{IsTrue, rules, Any, ◌↔◌, Reachable, BeginsWithTag}
 use Rattle.infer_deep.proofs.AnyLemmas.{Any-map}
 use Rattle.infer_deep.proofs.text.may_begin_some_tag.Goals as goal
 
