@@ -1,7 +1,6 @@
 -- What `any` answers of numbers, and of a list that is mapped.
-use Rattle.infer_deep.proofs.Common.{List, map, ap, ◌≡◌, ◌↔◌, ◌<◌, Bool, true, false, IsTrue, MatchBool, ℕ, length, get_or, refl, sym, subst, ◌∙◌, arith, get_or_default, length-map, Any, AllWithin, HoldsAt, range_with_len}
+use Rattle.infer_deep.proofs.Common.{List, map, ap, ◌≡◌, ◌↔◌, ◌<◌, Bool, true, false, IsTrue, MatchBool, ℕ, length, get_or, refl, sym, subst, ◌∙◌, arith, get_or_default, length-map, Any, AllWithin, HoldsAt, range_with_len, get_or-range_with_len, length-range_with_len}
 use Rattle.std.proofs.lemmas.List.{get_or-map}
-use Rattle.std.proofs.lemmas.List.FromFn.{get_or-range_with_len, length-range_with_len}
 
 nth_below : (n k : ℕ) → k < n → get_or (range_with_len 0 n) k 0 ≡ k
 nth_below n k lt = get_or-range_with_len 0 n k 0 lt ∙ (omega arith)

@@ -1,7 +1,5 @@
 -- Two tests over one list.
-use Rattle.std.proofs.Common.{◌≡◌, Bool, List, [], ◌∷◌, refl, arith, IsTrue}
-use Rattle.std.proofs.lemmas.Bool.Decides.{nat_tests}
-use Rattle.std.specs.List.{list_any, list_all}
+use Rattle.infer_deep.proofs.Common.{◌≡◌, Bool, List, [], ◌∷◌, refl, arith, IsTrue, nat_tests, list_any, list_all}
 
 -- if the first test passes, so does the second
 pub list_any_passes : {X : Type 0} (p q : X → Bool) → ((x : X) → IsTrue (p x) → IsTrue (q x))

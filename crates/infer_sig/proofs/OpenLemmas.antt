@@ -1,14 +1,5 @@
 -- What a buffer leaves open of a signature: the bytes that are missing, put after it part by part.
-use Rattle.std.proofs.Common.{◌≡◌, ℕ, zero, suc, ◌+◌, ◌-◌, ◌<◌, ◌≤◌, ◌⊎◌, inl, inr, not, List, [], ◌∷◌, ◌++◌, length, take, take_all, refl, sym, ap, subst, ◌∙◌, arith, rules, eqb, ltb, leb, IsTrue, length-append, length-take, get_or-take}
-use Rattle.std.proofs.Math.Seq.{get_or-append_right}
-use Rattle.std.proofs.lemmas.Bool.{and_parts, and_from, or_cases, or_left, or_right, ltb-true, le-leb, eq-eqb, ne_eqb, leb-true, cases_lt}
-use Rattle.std.proofs.lemmas.Bool.Decides.{nat_tests}
-use Rattle.std.proofs.lemmas.List.{append_assoc, get_or_append_left, length-replicate}
-use Rattle.std.proofs.lemmas.List.Elements.{All-append, All-cons, All-nil, All-replicate}
-use Rattle.std.specs.Prelude.{replicate}
-use Rattle.std.specs.List.{list_any, list_all}
-use Rattle.infer_deep.specs.Open.{are_bytes}
-use Rattle.infer_deep.specs.Signatures.{Reachable}
+use Rattle.infer_deep.proofs.Common.{◌≡◌, ℕ, zero, suc, ◌+◌, ◌-◌, ◌<◌, ◌≤◌, ◌⊎◌, inl, inr, not, List, [], ◌∷◌, ◌++◌, length, take, take_all, refl, sym, ap, subst, ◌∙◌, arith, rules, eqb, ltb, leb, IsTrue, length-append, length-take, get_or-take, get_or-append_right, and_parts, and_from, or_cases, or_left, or_right, ltb-true, le-leb, eq-eqb, ne_eqb, leb-true, cases_lt, nat_tests, append_assoc, get_or_append_left, length-replicate, All-append, All-cons, All-nil, All-replicate, replicate, list_any, list_all, are_bytes, Reachable}
 use Rattle.infer_deep.proofs.OpenLemmas.{IsBytes, missing, length-missing, read_missing, bytes-missing, bytes_from_test}
 use Rattle.infer_sig.proofs.ListLemmas.{list_any_among, list_any_passes, list_all_joined, list_all_passes}
 use Rattle.infer_sig.proofs.PlaceLemmas.{stands_by_place}

@@ -1,13 +1,7 @@
 -- A text stands at a place exactly if each of its bytes does.
-use Rattle.std.proofs.Common.{◌≡◌, Bool, ℕ, suc, ◌+◌, ◌-◌, ◌<◌, ◌≤◌, ◌↔◌, List, [], ◌∷◌, ◌++◌, length, get_or, take, drop, refl, sym, ap, ◌∙◌, arith, eqb, nat_eq, IsTrue, length-append, length-drop, get_or-drop, take-take}
-use Rattle.std.proofs.lemmas.Bool.{and_from, eq-eqb}
-use Rattle.std.proofs.lemmas.List.{drop-take, get_or_append_left}
-use Rattle.std.proofs.lemmas.Bool.Decides.{Decides-eqb}
-use Rattle.std.proofs.lemmas.Slice.Eq.{starts_is}
+use Rattle.infer_deep.proofs.Common.{◌≡◌, Bool, ℕ, suc, ◌+◌, ◌-◌, ◌<◌, ◌≤◌, ◌↔◌, List, [], ◌∷◌, ◌++◌, length, get_or, take, drop, refl, sym, ap, ◌∙◌, arith, eqb, nat_eq, IsTrue, length-append, length-drop, get_or-drop, take-take, and_from, eq-eqb, drop-take, get_or_append_left, Decides-eqb, starts_is, OccursAt, starts_with}
 use Rattle.std.specs.Cmp.{both_ways}
 use Rattle.std.specs.Cmp.Lexicographic.{pointwise}
-use Rattle.infer_deep.specs.Find.{OccursAt}
-use Rattle.std.specs.List.{starts_with}
 use Rattle.infer_sig.specs.Signature.{stands}
 use Rattle.infer_sig.specs.Places.{StandsByPlace}
 

@@ -1,6 +1,5 @@
 -- whether one of the texts so far stands there
-use Rattle.std.proofs.Common.{◌≡◌, take}
-use Rattle.std.specs.List.{list_any}
+use Rattle.infer_deep.proofs.Common.{◌≡◌, take, list_any}
 use Rattle.infer_sig.specs.Signature.{stands}
 use Rattle.infer_sig.proofs.places.any_stands_at.Given as goal
 

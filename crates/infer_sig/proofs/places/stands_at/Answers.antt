@@ -1,4 +1,4 @@
-use Rattle.std.proofs.Common.{arith}
+use Rattle.infer_deep.proofs.Common.{arith}
 use Rattle.infer_sig.proofs.PlaceLemmas.{stands_from_occurs}
 use Rattle.infer_sig.proofs.places.stands_at.Goals as goal
 
