@@ -3,14 +3,9 @@ use Rattle.std.proofs.Common.{◌<◌, ◌≤◌, ◌+◌, ◌-◌, ◌⊎◌, �
 use Rattle.std.specs.List.{AllWithin, range_with_len}
 use Rattle.std.proofs.lemmas.List.{take-append-le}
 use Rattle.std.proofs.lemmas.List.FromFn.{get_or-range_with_len, length-range_with_len}
-use Rattle.infer_sig.specs.Signature.{Alternative}
+use Rattle.infer.proofs.Common.{Alternative, IsAwaited, last_awaited, Comes, BuiltIn, avif, doc, framed, heif, html, office, ppt, xls, xml, IsAccepted, IsNear, signature_of, table, ROW_COUNT}
 use Rattle.infer_sig.specs.Laws as Fixed
 use Rattle.infer_deep.specs.Laws as Deep
-use Rattle.infer.specs.Arrivals.{IsAwaited, last_awaited, Comes}
-use Rattle.infer.specs.BuiltIn.{BuiltIn, avif, doc, framed, heif, html, office, ppt, xls, xml, IsAccepted}
-use Rattle.infer.specs.Matchers.{IsNear}
-use Rattle.infer.specs.Table.{signature_of, table}
-use Rattle.infer.specs.declared.table.rows.TheConstants.{ROW_COUNT}
 use Rattle.infer.proofs.KnownLemmas.{Known, proved, is_proved, proof_of, each_before, at_most, takes, ◌>>=◌}
 use Rattle.infer.proofs.LawLemmas.{known_near}
 use Rattle.infer.proofs.OrderLemmas.{exclusion}

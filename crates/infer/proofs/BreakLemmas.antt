@@ -8,14 +8,7 @@ use Rattle.infer_deep.specs.Laws as Deep
 use Rattle.infer_deep.specs.Numbers.{le16, le32, be32}
 use Rattle.infer_deep.specs.Office.{zip_header}
 use Rattle.infer_deep.specs.Text.{BeginsMarked}
-use Rattle.infer_sig.specs.Signature.{stands}
-use Rattle.infer.specs.Arrivals.{Beginning, open_box, compound, archive, frame, white, mark, Begins, BeginsAlone, last_after}
-use Rattle.infer.specs.BuiltIn.{BuiltIn, framed, heif, avif, office, doc, xls, ppt, html, xml}
-use Rattle.infer.specs.Laws.{Breaks}
-use Rattle.infer.specs.Matchers.{is_far_row}
-use Rattle.infer.specs.Samples.{put, sample_of, zeros}
-use Rattle.infer.specs.Table.{signature_of, table}
-use Rattle.infer.specs.declared.table.rows.TheConstants.{MSI, PDF, ROW_COUNT, ZIP}
+use Rattle.infer.proofs.Common.{stands, Beginning, open_box, compound, archive, frame, white, mark, Begins, BeginsAlone, last_after, BuiltIn, framed, heif, avif, office, doc, xls, ppt, html, xml, Breaks, is_far_row, put, sample_of, zeros, signature_of, table, MSI, PDF, ROW_COUNT, ZIP}
 use Rattle.infer.proofs.DecisionLemmas.{behind, long_frame, space, wide_mark}
 use Rattle.infer.proofs.KnownLemmas.{Known, proved, is, is_proved, proof_of, same, at_most, negated, both, either, each_before, needs, takes, ◌>>=◌}
 use Rattle.infer.proofs.OrderLemmas.{known_first, some_row}

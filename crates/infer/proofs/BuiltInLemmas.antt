@@ -1,16 +1,7 @@
 -- The answers of an `Infer` without rows of a caller are those of the built-in rows.
 use Rattle.std.proofs.Common.{None, Some, ◌≡◌, ℕ, List, [], ◌++◌, Option, Result, Ok, Err, map, option_map, refl, subst}
-use Rattle.infer.specs.Buffer.{head}
-use Rattle.infer.specs.Caller.{Contracts}
-use Rattle.infer.specs.First.{IsAnswer}
-use Rattle.infer.specs.Laws.{AnswersAsBuiltIn}
+use Rattle.infer.proofs.Common.{head, Contracts, IsAnswer, AnswersAsBuiltIn, Accepts, AnyAccepts, custom_rows, kept_row, rows, table, Triple, triple_of, Fault, FileType}
 use Rattle.infer.specs.Reading.{AnswersFront, AnswersSome}
-use Rattle.infer.specs.Row.{Accepts}
-use Rattle.infer.specs.Rows.{AnyAccepts, custom_rows, kept_row, rows}
-use Rattle.infer.specs.Table.{table}
-use Rattle.infer.specs.Triple.{Triple, triple_of}
-use Rattle.infer.specs.declared.read.fault.Fault.{Fault}
-use Rattle.infer.specs.declared.table.file_type.FileType.{FileType}
 use Rattle.infer.specs.declared.caller.infer.Infer.{Infer}
 use Rattle.infer.proofs.RowLemmas.{IsAnswer-from_map}
 

@@ -7,18 +7,7 @@ use Rattle.std.proofs.lemmas.Bool.{and_parts, cases_Bool, cases_lt, cases_order}
 use Rattle.std.specs.List.{AllWithin, HoldsAt, list_all, slice_get}
 use Rattle.std.specs.Option.{option_map_or}
 use Rattle.infer_deep.specs.Signatures.{Reachable}
-use Rattle.infer_sig.specs.Open.{IsOpen, is_sound}
-use Rattle.infer_sig.specs.Signature.{Alternative, stands}
-use Rattle.infer.specs.BuiltIn.{BuiltIn, fixed, avif, doc, framed, heif, html, matroska, office, pdf, ppt, xls, xml, IsAccepted}
-use Rattle.infer.specs.Buffer.{IsBuffer}
-use Rattle.infer.specs.Decided.{AnswersAreOpen, CanBeDecided, DecidedByRows, DecidedLasts, FirstOpenComes, IsChangeable, IsDecided, IsToldExactly, MayAccept, ReachNarrows, Tells, rows_before}
-use Rattle.infer.specs.First.{IsFirst, IsFirstOf, NoneHas}
-use Rattle.infer.specs.Leads.{Leads, allows_first, candidates, candidates_of}
-use Rattle.infer.specs.Matchers.{Lasts, signatures}
-use Rattle.infer.specs.Row.{Row, Accepts}
-use Rattle.infer.specs.Table.{signature_of, table}
-use Rattle.infer.specs.Walks.{IsFirstAmong, RowHas}
-use Rattle.infer.specs.declared.table.rows.TheConstants.{EXE}
+use Rattle.infer.proofs.Common.{IsOpen, is_sound, Alternative, stands, BuiltIn, fixed, avif, doc, framed, heif, html, matroska, office, pdf, ppt, xls, xml, IsAccepted, IsBuffer, AnswersAreOpen, CanBeDecided, DecidedByRows, DecidedLasts, FirstOpenComes, IsChangeable, IsDecided, IsToldExactly, MayAccept, ReachNarrows, Tells, rows_before, IsFirst, IsFirstOf, NoneHas, Leads, allows_first, candidates, candidates_of, Lasts, signatures, Row, Accepts, signature_of, table, IsFirstAmong, RowHas, EXE}
 use Rattle.infer.proofs.CandidateLemmas.{first_listed, read_has}
 use Rattle.infer.proofs.FirstLemmas.{IsFirstOf-same}
 use Rattle.infer.proofs.ListLemmas.{HoldsAt-read}

@@ -18,8 +18,7 @@ use Rattle.infer_deep.specs.Office.{zip_header, HasFolder, IsDecidingHeader, IsH
 use Rattle.infer_deep.specs.Text.{BeginsWithTag, IsHtml, IsMark, IsSpace, IsXml, tags}
 use Rattle.infer_deep.specs.Windows.{StandsBy}
 use Rattle.infer_deep.proofs.PlaceLemmas.{OccursAt-begins, begins-from_OccursAt}
-use Rattle.infer_sig.specs.Signature.{accepts, stands}
-use Rattle.infer.specs.BuiltIn.{BuiltIn, fixed, avif, doc, framed, heif, html, matroska, office, pdf, ppt, xls, xml, IsAccepted}
+use Rattle.infer.proofs.Common.{accepts, stands, BuiltIn, fixed, avif, doc, framed, heif, html, matroska, office, pdf, ppt, xls, xml, IsAccepted}
 use Rattle.infer.proofs.KnownLemmas.{Known, proved, refuted, unknown, is, same, at_most, same_text, refuted_if, both, either, needs, takes, ◌>>=◌, ◌>>◌}
 use Rattle.infer.proofs.PlaceLemmas.{ByPlace, lacks, lacked, nowhere_from}
 use Rattle.infer.proofs.PlaceLemmas as Place

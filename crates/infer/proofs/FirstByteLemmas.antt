@@ -16,16 +16,8 @@ use Rattle.infer_deep.specs.Open.{are_bytes}
 use Rattle.infer_deep.specs.Signatures.{Reachable}
 use Rattle.infer_deep.specs.Text.{IsHtml, IsMark, IsSpace, IsWhite, IsXml}
 use Rattle.infer_deep.proofs.OpenLemmas.{bytes_from_test}
-use Rattle.infer_sig.specs.Open.{is_sound}
+use Rattle.infer.proofs.Common.{is_sound, Alternative, stands, BuiltIn, fixed, avif, doc, framed, heif, html, matroska, office, pdf, ppt, xls, xml, IsAccepted, AllowsExactly, MayAccept, Leads, allows_first, Row, sample_of, signature_of, table, ROW_COUNT}
 use Rattle.infer_sig.specs.Open as Fixed
-use Rattle.infer_sig.specs.Signature.{Alternative, stands}
-use Rattle.infer.specs.BuiltIn.{BuiltIn, fixed, avif, doc, framed, heif, html, matroska, office, pdf, ppt, xls, xml, IsAccepted}
-use Rattle.infer.specs.Decided.{AllowsExactly, MayAccept}
-use Rattle.infer.specs.Leads.{Leads, allows_first}
-use Rattle.infer.specs.Row.{Row}
-use Rattle.infer.specs.Samples.{sample_of}
-use Rattle.infer.specs.Table.{signature_of, table}
-use Rattle.infer.specs.declared.table.rows.TheConstants.{ROW_COUNT}
 use Rattle.infer.proofs.CandidateLemmas.{read_has}
 use Rattle.infer.proofs.DecisionLemmas.{known, spaced_html, spaced_xml, stands_whole}
 use Rattle.infer.proofs.KnownLemmas.{Known, proved, unknown, is, is_proved, proof_of, proved_if, takes, ◌>>=◌}

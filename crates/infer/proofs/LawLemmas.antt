@@ -1,14 +1,10 @@
 -- The laws of all matchers, from those of every signature.
 use Rattle.std.proofs.Common.{◌≡◌, ◌<◌, ℕ, List, length, get_or, refl, ◌⊎◌, sym, ◌∙◌, arith, IsTrue}
-use Rattle.infer_sig.specs.Signature.{Alternative}
+use Rattle.infer.proofs.Common.{Alternative, BuiltIn, fixed, avif, doc, framed, heif, html, matroska, office, pdf, ppt, xls, xml, signatures, is_far_row, Lasts, IsNear, OthersAreNear, signature_of, table, MATCHER_COUNT}
 use Rattle.infer_sig.specs.Laws as Fixed
 use Rattle.infer_deep.specs.Laws as Deep
-use Rattle.infer.specs.BuiltIn.{BuiltIn, fixed, avif, doc, framed, heif, html, matroska, office, pdf, ppt, xls, xml}
-use Rattle.infer.specs.Matchers.{signatures, is_far_row, Lasts, IsNear, OthersAreNear}
-use Rattle.infer.specs.Table.{signature_of, table}
 use Rattle.infer.proofs.KnownLemmas.{Known, proved, unknown, is, either, is_proved, proof_of, proved_if}
 use Rattle.infer.proofs.TestLemmas.{NoneRefused, passed}
-use Rattle.infer.specs.declared.table.rows.TheConstants.{MATCHER_COUNT}
 
 pub length-signatures : length signatures ≡ MATCHER_COUNT
 unfolding signatures table

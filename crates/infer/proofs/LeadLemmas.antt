@@ -2,12 +2,10 @@
 use Rattle.std.proofs.Common.{◌≡◌, ◌≤◌, ◌⊎◌, inl, inr, List, [], ◌∷◌, refl, arith, leb, ◌&&◌, true}
 use Rattle.std.proofs.lemmas.Bool.{eq-eqb, or_right}
 use Rattle.std.proofs.lemmas.Bool.Decides.{nat_tests}
-use Rattle.infer_sig.specs.Signature.{Alternative}
+use Rattle.infer.proofs.Common.{Alternative, BuiltIn, fixed, avif, doc, framed, heif, html, matroska, office, pdf, ppt, xls, xml, Leads}
 use Rattle.infer_sig.specs.Laws as Fixed
 use Rattle.infer_deep.specs.Laws as Deep
 use Rattle.infer_deep.specs.Text.{IsWhite}
-use Rattle.infer.specs.BuiltIn.{BuiltIn, fixed, avif, doc, framed, heif, html, matroska, office, pdf, ppt, xls, xml}
-use Rattle.infer.specs.Leads.{Leads}
 
 pub every_leads : ((s : List Alternative) → Fixed.Leads s) → Deep.Leads → (s : BuiltIn) → Leads s
 every_leads fixed_lead deep (fixed alternatives) f rest h = fixed_lead alternatives f rest h

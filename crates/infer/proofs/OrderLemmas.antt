@@ -5,11 +5,7 @@ use Rattle.infer_deep.specs.ClassId.{HasClassId, IsXls}
 use Rattle.infer_deep.specs.Laws as Deep
 use Rattle.infer_deep.specs.Office.{IsOffice}
 use Rattle.infer_deep.specs.Signatures.{AreApart}
-use Rattle.infer.specs.BuiltIn.{BuiltIn, framed, office, doc, xls, ppt, html, xml, IsAccepted}
-use Rattle.infer.specs.First.{IsFirstOf, NoneHas}
-use Rattle.infer.specs.Row.{Row, Accepts}
-use Rattle.infer.specs.Table.{table, row}
-use Rattle.infer.specs.declared.table.file_type.MatcherType.TheVariants.{Text}
+use Rattle.infer.proofs.Common.{BuiltIn, framed, office, doc, xls, ppt, html, xml, IsAccepted, IsFirstOf, NoneHas, Row, Accepts, table, row, Text}
 use Rattle.infer.proofs.DecisionLemmas.{known}
 use Rattle.infer.proofs.KnownLemmas.{Known, proved, unknown, same, negated, each_before, at_most, takes, ◌>>=◌, ◌>>◌}
 use Rattle.infer.proofs.PlaceLemmas.{ByPlace}

@@ -5,7 +5,7 @@ use Rattle.std.proofs.lemmas.List.{drop-drop}
 use Rattle.std.proofs.lemmas.Bool.{and_parts, and_from, leb-true, le-leb}
 use Rattle.infer_deep.specs.Find.{OccursAt}
 use Rattle.infer_sig.specs.Places.{StandsByPlace}
-use Rattle.infer_sig.specs.Signature.{stands}
+use Rattle.infer.proofs.Common.{stands}
 use Rattle.infer.proofs.KnownLemmas.{Known, decided}
 
 pub not_both : (a : Bool) → IsTrue a → ¬ IsTrue (not a)

@@ -2,9 +2,7 @@
 use Rattle.std.proofs.Common.{ap, subst, MatchOption, option_map, ◌≡◌, ◌+◌, ◌<◌, ℕ, List, ◌++◌, map, length, Option, None, Some, sym, ◌∙◌}
 use Rattle.std.specs.List.{AllWithin, HoldsAt}
 use denote.Ref.{Bor}
-use Rattle.infer.specs.First.{IsFirst, NoneHas, IsAnswer}
-use Rattle.infer.specs.Row.{Row}
-use Rattle.infer.specs.Triple.{Triple}
+use Rattle.infer.proofs.Common.{IsFirst, NoneHas, IsAnswer, Row, Triple}
 use Rattle.infer.proofs.ListLemmas.{HoldsAt-map, HoldsAt-from_map, HoldsAt-right, IsFirst-map, IsFirst-from_map, IsFirst-right, NoneHas-map, NoneHas-from_map, NoneHas-both}
 
 -- what `find` found of xs is the answer of the rows that it shows

@@ -4,15 +4,8 @@ use Rattle.std.specs.List.{HoldsAt}
 use Rattle.std.proofs.lemmas.List.{get_or-map, length-map, take_at}
 use Rattle.infer_deep.specs.Laws as Deep
 use Rattle.infer_deep.specs.Numbers.{le16, le32, be32}
-use Rattle.infer_sig.specs.Signature.{stands}
-use Rattle.infer.specs.BuiltIn.{BuiltIn}
-use Rattle.infer.specs.First.{IsFirst}
-use Rattle.infer.specs.Row.{Row, Accepts}
-use Rattle.infer.specs.Listed.{buffer_listed}
-use Rattle.infer.specs.Samples.{HoldsSample, padded, sample_of, zeros}
-use Rattle.infer.specs.Table.{table}
+use Rattle.infer.proofs.Common.{stands, BuiltIn, IsFirst, Row, Accepts, buffer_listed, HoldsSample, padded, sample_of, zeros, table, DLL, EPUB_ARCHIVE, ROW_COUNT}
 use Rattle.infer.specs.declared.table.rows.Pieces.{Pieces}
-use Rattle.infer.specs.declared.table.rows.TheConstants.{DLL, EPUB_ARCHIVE, ROW_COUNT}
 use Rattle.infer.proofs.KnownLemmas.{Known, same, either, is_proved, proof_of}
 use Rattle.infer.proofs.OrderLemmas.{known_first, some_row}
 use Rattle.infer.proofs.PlaceLemmas.{ByPlace}

@@ -8,19 +8,8 @@ use Rattle.std.proofs.lemmas.List.{get_or-map}
 use Rattle.std.proofs.lemmas.Slice.Eq.{bytes_eq-Decides}
 use Rattle.std.proofs.lemmas.List.Elements.{filter_more}
 use Rattle.std.proofs.lemmas.List.Folds.{none_from_all_within}
-use Rattle.infer.specs.BuiltIn.{BuiltIn, IsAccepted}
-use Rattle.infer.specs.First.{NoneHas, SomeHas}
-use Rattle.infer.specs.Leads.{Leads, candidates_of}
-use Rattle.infer.specs.Listed.{number_of}
-use Rattle.infer.specs.Questions.{IsWanted}
-use Rattle.infer.specs.Row.{Row, Accepts}
-use Rattle.infer.specs.Slots.{HasWanted, ListSlots, rows_in, slot_of}
-use Rattle.infer.specs.Table.{signature_of, table}
-use Rattle.infer.specs.Walks.{IsFirstAmong, RowHas, Takes, is_listed}
-use Rattle.infer.specs.declared.ask.question.Wanted.{Wanted}
-use Rattle.infer.specs.declared.ask.question.Wanted.TheVariants.{Extension}
+use Rattle.infer.proofs.Common.{BuiltIn, IsAccepted, NoneHas, SomeHas, Leads, candidates_of, number_of, IsWanted, Row, Accepts, HasWanted, ListSlots, rows_in, slot_of, signature_of, table, IsFirstAmong, RowHas, Takes, is_listed, Wanted, Extension, ROW_COUNT}
 use Rattle.infer.specs.declared.table.rows.RowName.{RowName}
-use Rattle.infer.specs.declared.table.rows.TheConstants.{ROW_COUNT}
 use Rattle.infer.proofs.AskLemmas.{asked_up_to, below_count, candidates_placed, filtered_alike, first_moved, listed_row, may_take, none_among, room_left}
 use Rattle.infer.proofs.CandidateLemmas.{first_listed, read_has}
 use Rattle.infer.proofs.ListLemmas.{HoldsAt-read, SomeHas-map, SomeHas-from_map}

@@ -1,7 +1,6 @@
 -- The table's length.
 use Rattle.std.proofs.Common.{◌≡◌, length, refl}
-use Rattle.infer.specs.Table.{table}
-use Rattle.infer.specs.declared.table.rows.TheConstants.{ROW_COUNT}
+use Rattle.infer.proofs.Common.{table, ROW_COUNT}
 
 pub length-table : length table ≡ ROW_COUNT
 unfolding table

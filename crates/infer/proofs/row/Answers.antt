@@ -1,6 +1,6 @@
 use Rattle.std.proofs.Common.{arith}
 use Rattle.std.proofs.lemmas.Option.{slice_get_cases, slice_get_past}
-use Rattle.infer.specs.Table.{table}
+use Rattle.infer.proofs.Common.{table}
 use Rattle.infer.proofs.TableLemmas.{length-table}
 use Rattle.infer.proofs.row.Goals as goal
 

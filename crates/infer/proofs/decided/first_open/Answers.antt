@@ -1,6 +1,5 @@
 use Rattle.std.proofs.Common.{arith, refl}
-use Rattle.infer.specs.Decided.{MayAccept}
-use Rattle.infer.specs.Walks.{RowHas}
+use Rattle.infer.proofs.Common.{MayAccept, RowHas}
 use Rattle.infer.proofs.AskLemmas.{found_among, none_among}
 use Rattle.infer.proofs.decided.first_open.Goals as goal
 

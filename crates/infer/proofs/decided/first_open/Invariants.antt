@@ -1,7 +1,6 @@
 -- none of the rows so far may accept
 use Rattle.std.specs.List.{AllWithin}
-use Rattle.infer.specs.Decided.{MayAccept}
-use Rattle.infer.specs.Walks.{RowHas}
+use Rattle.infer.proofs.Common.{MayAccept, RowHas}
 use Rattle.infer.proofs.decided.first_open.Given as goal
 
 abbrev pub invariant-loop-row : goal.invariant-loop-row

@@ -1,4 +1,4 @@
-use Rattle.infer.specs.Listed.{number_of}
+use Rattle.infer.proofs.Common.{number_of}
 use Rattle.infer.proofs.DecidedLemmas.{told_of_row}
 use Rattle.infer.proofs.decided.may_accept.Goals as goal
 

@@ -6,9 +6,7 @@ use Rattle.std.proofs.lemmas.Map.Made.{AllPairs-from_IsDistinct, IsDistinct-from
 use Rattle.std.proofs.lemmas.Slice.Eq.{bytes_eq-Decides}
 use denote.Enum.Declared.{tag_of}
 use Rattle.infer.specs.contracts.table.file_type.MatcherType as matcher_type
-use Rattle.infer.specs.Row.{shows}
-use Rattle.infer.specs.Table.{table}
-use Rattle.infer.specs.Triple.{Triple}
+use Rattle.infer.proofs.Common.{shows, table, Triple}
 use Rattle.infer.proofs.laws.distinct.Goals as goal
 
 -- a triple as one text

@@ -1,5 +1,5 @@
 use Rattle.std.proofs.Common.{get_or}
-use Rattle.infer.specs.Matchers.{signatures}
+use Rattle.infer.proofs.Common.{signatures}
 use Rattle.infer.proofs.LawLemmas.{length-signatures, every_lasts}
 use Rattle.infer.proofs.laws.growth.Goals as goal
 

@@ -1,4 +1,4 @@
-use Rattle.infer.specs.Rows.{custom_rows, rows}
+use Rattle.infer.proofs.Common.{custom_rows, rows}
 use Rattle.infer.proofs.IndexLemmas.{rows_keep, steady}
 use Rattle.infer.proofs.laws.index.Goals as goal
 

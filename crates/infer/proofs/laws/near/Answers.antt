@@ -1,6 +1,5 @@
 use Rattle.std.proofs.Common.{refl}
-use Rattle.infer.specs.Matchers.{is_far_row}
-use Rattle.infer.specs.Table.{signature_of, table}
+use Rattle.infer.proofs.Common.{is_far_row, signature_of, table}
 use Rattle.infer.proofs.LawLemmas.{others_near}
 use Rattle.infer.proofs.laws.near.Goals as goal
 

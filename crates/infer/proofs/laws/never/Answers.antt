@@ -1,7 +1,5 @@
 use Rattle.std.proofs.Common.{get_or, subst, arith}
-use Rattle.infer.specs.Row.{Accepts}
-use Rattle.infer.specs.Table.{table}
-use Rattle.infer.specs.declared.table.rows.TheConstants.{EPUB, EXE}
+use Rattle.infer.proofs.Common.{Accepts, table, EPUB, EXE}
 use Rattle.infer.proofs.OrderLemmas.{some_row}
 use Rattle.infer.proofs.laws.never.Goals as goal
 

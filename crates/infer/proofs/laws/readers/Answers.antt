@@ -1,4 +1,4 @@
-use Rattle.infer.specs.Rows.{rows}
+use Rattle.infer.proofs.Common.{rows}
 use Rattle.infer.proofs.FirstLemmas.{readers_alike}
 use Rattle.infer.proofs.laws.readers.Goals as goal
 

@@ -1,5 +1,4 @@
-use Rattle.infer.specs.Row.{Accepts}
-use Rattle.infer.specs.Table.{table}
+use Rattle.infer.proofs.Common.{Accepts, table}
 use Rattle.infer.proofs.FirstLemmas.{IsFirstOf-same}
 use Rattle.infer.proofs.laws.single.Goals as goal
 

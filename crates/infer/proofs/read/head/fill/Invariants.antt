@@ -1,7 +1,7 @@
 -- What was read so far stands at the front of the buffer.
 use Rattle.std.proofs.Common.{◌≡◌, ◌-◌, ◌≤◌, None, length, take}
 use Rattle.std.specs.Io.KnownBytes.{Consumes}
-use Rattle.infer.specs.Watched.{IsDue, fault_of, inner}
+use Rattle.infer.proofs.Common.{IsDue, fault_of, inner}
 use Rattle.infer.proofs.read.head.fill.Given as goal
 
 abbrev pub invariant-loop-filled : goal.invariant-loop-filled

@@ -1,7 +1,6 @@
 use Rattle.std.proofs.Common.{[], refl}
 use Rattle.infer_deep.specs.Numbers.{le16, le32, be32}
-use Rattle.infer_sig.specs.Signature.{stands}
-use Rattle.infer.specs.Table.{table}
+use Rattle.infer.proofs.Common.{stands, table}
 use Rattle.infer.proofs.KnownLemmas.{proof_of}
 use Rattle.infer.proofs.OrderLemmas.{none_accepts}
 use Rattle.infer.proofs.table.leads.blank.Goals as goal

@@ -1,6 +1,5 @@
 use Rattle.std.proofs.Common.{refl}
-use Rattle.infer.specs.Slots.{extension_of, rows_in}
-use Rattle.infer.specs.Table.{table}
+use Rattle.infer.proofs.Common.{extension_of, rows_in, table}
 use Rattle.infer.proofs.SlotLemmas.{slots_listed}
 use Rattle.infer.proofs.table.rows.extensions.Goals as goal
 

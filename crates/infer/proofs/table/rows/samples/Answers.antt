@@ -1,5 +1,5 @@
 use Rattle.std.proofs.Common.{refl}
-use Rattle.infer.specs.Table.{table}
+use Rattle.infer.proofs.Common.{table}
 use Rattle.infer.proofs.table.rows.samples.Goals as goal
 
 pub returns-clause-buffers : goal.returns-clause-buffers
