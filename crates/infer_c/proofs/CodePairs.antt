@@ -1,14 +1,11 @@
 -- What has a property of what crosses to C, and what has not: each pair computed.
-use Rattle.std.proofs.Common.{◌≡◌, ◌<◌, ◌++◌, zero, pos, negsuc, [], ◌∷◌, None, Some, length, get_or, refl, ap, codes, arith, inl, ⊎_elim}
-use Rattle.infer.specs.Table.{table}
+use Rattle.infer.proofs.Common.{◌≡◌, ◌<◌, ◌++◌, zero, pos, negsuc, [], ◌∷◌, None, Some, length, get_or, refl, ap, codes, arith, inl, ⊎_elim, table, stands, All-cons, All-nil}
 use Rattle.infer.specs.declared.table.file_type.MatcherType.TheVariants.{App, Image}
 use Rattle.infer.specs.declared.table.rows.TheConstants.{DLL, PDF, WASM}
 use Rattle.infer_c.specs.Codes.{IsClassOf, IsSample, IsSampleOf, MayAcceptAt, class_code, class_name, row_code, triple_at}
 use Rattle.infer_c.specs.Written.{WritesText, WritesWhole}
 use Rattle.infer_more.specs.Table.{further}
 use Rattle.infer_more.specs.Wider.{shown}
-use Rattle.infer.specs.Signature.{stands}
-use Rattle.std.proofs.lemmas.List.Elements.{All-cons, All-nil}
 
 pub row_code_pair : (row_code None ≡ negsuc 0) × (¬ (row_code (Some 0) ≡ negsuc 0))
 row_code_pair = (refl, λ e. absurd (cc))

@@ -1,28 +1,9 @@
 -- A final verdict stays final.
-use Rattle.std.proofs.Common.{◌≡◌, ◌↔◌, ℕ, ◌<◌, ◌≤◌, Bool, leb, List, [], ◌++◌, length, get_or, refl, sym, ap, subst, ◌∙◌, inl, inr, Option, None, Some, arith, IsTrue, length-append}
-use Rattle.std.proofs.lemmas.Bool.{cases_lt}
-use Rattle.std.proofs.lemmas.Bool.Decides.{nat_tests}
-use Rattle.std.proofs.lemmas.List.{append_assoc}
-use Rattle.std.proofs.lemmas.Option.{slice_get-get_or}
-use Rattle.std.specs.Option.{option_map}
-use Rattle.infer.specs.Arrivals.{IsAwaited, last_awaited, NewcomersAreAwaited}
-use Rattle.infer.specs.BuiltIn.{BuiltIn, fixed, avif, doc, framed, heif, html, matroska, office, pdf, ppt, xls, xml, IsAccepted}
+use Rattle.infer_sniff.proofs.Common.{◌≡◌, ◌↔◌, ℕ, ◌<◌, ◌≤◌, Bool, leb, List, [], ◌++◌, length, get_or, refl, sym, ap, subst, ◌∙◌, inl, inr, Option, None, Some, arith, IsTrue, length-append, cases_lt, nat_tests, append_assoc, slice_get-get_or, option_map, IsAwaited, last_awaited, NewcomersAreAwaited, BuiltIn, fixed, avif, doc, framed, heif, html, matroska, office, pdf, ppt, xls, xml, IsAccepted, IsAnswer, IsFirstOf, IsNotLater, Lasts, Row, Accepts, row, signature_of, table, Triple, triple_of, Holds, bound, Case, OpenBox, Compound, Office, Frame, Space, Mark, AreAlike, StaysFinalFromBeginning, IsTypeOf, IsSettled, IsVerdict, StaysFinal, RowStaysFinal, Verdict, SoFar, Final}
 use Rattle.infer.specs.DeepLaws.{Beginnings}
-use Rattle.infer.specs.First.{IsAnswer, IsFirstOf}
-use Rattle.infer.specs.Laws.{IsNotLater}
-use Rattle.infer.specs.Matchers.{Lasts}
-use Rattle.infer.specs.Row.{Row, Accepts}
-use Rattle.infer.specs.Table.{row, signature_of, table}
-use Rattle.infer.specs.Triple.{Triple, triple_of}
 use Rattle.infer.specs.declared.table.rows.TheConstants.{ROW_COUNT}
 use Rattle.infer.specs.declared.table.file_type.FileType.{FileType}
 use Rattle.infer.specs.declared.table.file_type.MatcherType.TheVariants.{Text}
-use Rattle.infer_sniff.specs.Cases.{Holds, bound}
-use Rattle.infer_sniff.specs.declared.case.Case.{Case}
-use Rattle.infer_sniff.specs.declared.case.Case.TheVariants.{OpenBox, Compound, Office, Frame, Space, Mark}
-use Rattle.infer_sniff.specs.Verdicts.{AreAlike, StaysFinalFromBeginning, IsTypeOf, IsSettled, IsVerdict, StaysFinal, RowStaysFinal}
-use Rattle.infer_sniff.specs.declared.verdict.Verdict.{Verdict}
-use Rattle.infer_sniff.specs.declared.verdict.Verdict.TheVariants.{SoFar, Final}
 
 -- any row
 some_row : Row BuiltIn

@@ -1,10 +1,6 @@
 -- The first bytes of pieces that come one after the other.
-use Rattle.std.proofs.Common.{◌≡◌, ℕ, ◌+◌, ◌-◌, ◌<◌, ◌≤◌, List, [], ◌∷◌, ◌++◌, length, get_or, map, take, min, sym, ap, ◌∙◌, arith, inl, inr, length-append, length-take}
-use Rattle.std.proofs.Math.Seq.{take-append-add}
-use Rattle.std.proofs.lemmas.Bool.{cases_lt}
-use Rattle.std.proofs.lemmas.List.{length-take-le, take-append-le, append_assoc, append-nil, map_more, take_all, take_min}
+use Rattle.infer_sniff.proofs.Common.{◌≡◌, ℕ, ◌+◌, ◌-◌, ◌<◌, ◌≤◌, List, [], ◌∷◌, ◌++◌, length, get_or, map, take, min, sym, ap, ◌∙◌, arith, inl, inr, length-append, length-take, take-append-add, cases_lt, length-take-le, take-append-le, append_assoc, append-nil, map_more, take_all, take_min, concat}
 use Rattle.std.proofs.lemmas.List.Folds.{concat-append}
-use Rattle.std.specs.List.{concat}
 use denote.Ref.{Bor}
 
 -- the front of some bytes and a piece, if there are no more of the bytes than it has

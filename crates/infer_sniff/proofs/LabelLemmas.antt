@@ -1,13 +1,6 @@
 -- What the bytes that were read tell of the front of all that there was to read.
-use Rattle.std.proofs.Common.{◌≡◌, ℕ, ◌+◌, ◌-◌, ◌<◌, ◌≤◌, ◌⊎◌, List, [], ◌++◌, Option, None, Some, IfSome, length, take, sym, ap, subst, ◌∙◌, arith, inl, inr}
-use Rattle.std.proofs.Math.Seq.{take-append-add}
-use Rattle.std.proofs.lemmas.Bool.{cases_lt}
-use Rattle.std.proofs.lemmas.List.{append-nil, take_all}
-use Rattle.std.specs.Io.KnownBytes.{Consumes, IsAtEnd}
+use Rattle.infer_sniff.proofs.Common.{◌≡◌, ℕ, ◌+◌, ◌-◌, ◌<◌, ◌≤◌, ◌⊎◌, List, [], ◌++◌, Option, None, Some, IfSome, length, take, sym, ap, subst, ◌∙◌, arith, inl, inr, take-append-add, cases_lt, append-nil, take_all, Consumes, IsAtEnd, IsSettled, IsTypeOf, IsVerdict, StaysFinal, found_of, Verdict, SoFar, Final}
 use Rattle.infer.specs.declared.table.file_type.FileType.{FileType}
-use Rattle.infer_sniff.specs.Verdicts.{IsSettled, IsTypeOf, IsVerdict, StaysFinal, found_of}
-use Rattle.infer_sniff.specs.declared.verdict.Verdict.{Verdict}
-use Rattle.infer_sniff.specs.declared.verdict.Verdict.TheVariants.{SoFar, Final}
 
 module _ (n : ℕ) (b : List ℕ) (few : length b ≤ n) where
   front_behind : (rest : List ℕ) → take n (b ++ rest) ≡ b ++ take (n - length b) rest

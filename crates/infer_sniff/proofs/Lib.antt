@@ -1,3 +1,4 @@
+pub mod Common
 pub mod KeptLemmas
 pub mod FinalLemmas
 pub mod LabelLemmas

@@ -1,15 +1,5 @@
 -- A buffer for each case that it alone keeps open, and one that is a byte too short.
-use Rattle.std.proofs.Common.{◌≡◌, ℕ, List, ◌++◌, length, take, drop, Option, Some, sym, subst, ap, ◌∙◌, arith, refl, length-append}
-use Rattle.std.proofs.lemmas.List.{length-take-le, take-append-drop}
-use Rattle.infer.specs.Arrivals.{Beginning, Begins, BeginsAlone, archive, compound, frame, mark, open_box, white}
-use Rattle.infer.specs.First.{IsFirst, IsFirstOf}
-use Rattle.infer.specs.Laws.{Breaks}
-use Rattle.infer.specs.Row.{Accepts}
-use Rattle.infer.specs.Table.{table}
-use Rattle.infer_sniff.specs.Cases.{beginning_of, bound}
-use Rattle.infer_sniff.specs.Verdicts.{IsOneShort, IsSettled, KeepsOpen, RowStaysFinal}
-use Rattle.infer_sniff.specs.declared.case.Case.{Case}
-use Rattle.infer_sniff.specs.declared.case.Case.TheVariants.{OpenBox, Compound, Office, Frame, Space, Mark}
+use Rattle.infer_sniff.proofs.Common.{◌≡◌, ℕ, List, ◌++◌, length, take, drop, Option, Some, sym, subst, ap, ◌∙◌, arith, refl, length-append, length-take-le, take-append-drop, Beginning, Begins, BeginsAlone, archive, compound, frame, mark, open_box, white, IsFirst, IsFirstOf, Breaks, Accepts, table, beginning_of, bound, IsOneShort, IsSettled, KeepsOpen, RowStaysFinal, Case, OpenBox, Compound, Office, Frame, Space, Mark}
 
 abbrev case_of : Beginning → Case
 case_of = elim [ open_box ↦ OpenBox | compound ↦ Compound | archive ↦ Office | frame ↦ Frame | white ↦ Space | mark ↦ Mark ]

@@ -1,3 +1,4 @@
+pub mod Common
 pub mod LinesLemmas
 pub mod RunLemmas
 pub mod SampleLemmas

@@ -1,14 +1,6 @@
 -- What is said of a buffer is said of the writer below it, which got the buffer's bytes.
-use Rattle.std.proofs.Common.{◌≡◌, ℕ, Bool, true, false, List, [], ◌++◌, ◌∷◌, Option, None, Some, IfSome, refl, sym, subst, ◌∙◌}
-use Rattle.std.specs.Option.{is_none, option_and_then}
-use Rattle.std.specs.Io.KnownBytes.{Appends, Keeps}
+use Rattle.infer_tool.proofs.Common.{◌≡◌, ℕ, Bool, true, false, List, [], ◌++◌, ◌∷◌, Option, None, Some, IfSome, refl, sym, subst, ◌∙◌, is_none, option_and_then, Appends, Keeps, outcome_after, ReportsReader, Refuses, Saying, SaysThrough, unless_failed, ReportsEach, no_input, one_more, WritesSample, Outcome}
 use Rattle.infer.specs.declared.read.watched.Watched.{Watched}
-use Rattle.infer_tool.specs.Outcome.{outcome_after}
-use Rattle.infer_tool.specs.Reader.{ReportsReader}
-use Rattle.infer_tool.specs.Report.{Refuses, Saying, SaysThrough, unless_failed}
-use Rattle.infer_tool.specs.Run.{ReportsEach, no_input, one_more}
-use Rattle.infer_tool.specs.Sample.{WritesSample}
-use Rattle.infer_tool.specs.declared.outcome.Outcome.{Outcome}
 use Rattle.infer_tool.proofs.RunLemmas.{forget_faults, forget_lines}
 
 appended-keeps : (old new later : Option (List ℕ)) (bs : List ℕ) → Keeps new later → Appends old new bs → Appends old later bs

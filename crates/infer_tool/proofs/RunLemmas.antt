@@ -1,12 +1,5 @@
 -- Reports of the inputs that words name, one word after the other.
-use Rattle.std.proofs.Common.{◌≡◌, ◌≢◌, ◌+◌, ◌<◌, ℕ, Bool, true, false, List, [], ◌∷◌, ◌++◌, Option, None, Some, IsTrue, length, map, take, get_or, ap, ap₂, refl, subst, sym, ◌∙◌}
-use Rattle.std.proofs.lemmas.List.{map_more}
-use Rattle.std.specs.Io.KnownBytes.{Keeps}
-use Rattle.infer_tool.specs.Outcome.{outcome_after, worse_of}
-use Rattle.infer_tool.specs.Report.{ReportsInput, unless_failed}
-use Rattle.infer_tool.specs.Run.{ReportsEach, no_input, one_more}
-use Rattle.infer_tool.specs.declared.outcome.Outcome.{Outcome}
-use Rattle.infer_tool.specs.declared.outcome.Outcome.TheVariants.{Failed}
+use Rattle.infer_tool.proofs.Common.{◌≡◌, ◌≢◌, ◌+◌, ◌<◌, ℕ, Bool, true, false, List, [], ◌∷◌, ◌++◌, Option, None, Some, IsTrue, length, map, take, get_or, ap, ap₂, refl, subst, sym, ◌∙◌, map_more, Keeps, outcome_after, worse_of, ReportsInput, unless_failed, ReportsEach, no_input, one_more, Outcome, Failed}
 
 pub keeps_itself : (bytes : Option (List ℕ)) → Keeps bytes bytes
 keeps_itself None = tt

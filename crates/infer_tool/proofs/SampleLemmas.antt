@@ -1,20 +1,8 @@
 -- A row that was read is the one at its number in the table, and what words ask for.
-use Rattle.std.proofs.Common.{MatchOption, None, ◌≡◌, ◌-◌, ◌<◌, ◌≤◌, ◌⊎◌, inl, inr, ℕ, Bool, true, false, List, [], Option, Some, take, length, map, get_or, sym, ap, ◌∙◌, refl, subst, arith}
-use Rattle.std.specs.Bool.{OnFalse}
-use Rattle.std.specs.List.{HoldsAt}
-use Rattle.std.proofs.lemmas.List.{get_or-map, take_at}
-use Rattle.std.specs.Io.KnownBytes.{Appends}
-use Rattle.infer.specs.BuiltIn.{BuiltIn}
-use Rattle.infer.specs.Row.{Row}
-use Rattle.infer.specs.BuiltIn.{html}
-use Rattle.infer.specs.First.{IsFirst, IsFirstOf}
-use Rattle.infer.specs.Questions.{HasExtension}
-use Rattle.infer.specs.Samples.{HoldsSample, sample_of, zeros}
-use Rattle.infer.specs.Table.{row, table}
+use Rattle.infer_tool.proofs.Common.{MatchOption, None, ◌≡◌, ◌-◌, ◌<◌, ◌≤◌, ◌⊎◌, inl, inr, ℕ, Bool, true, false, List, [], Option, Some, take, length, map, get_or, sym, ap, ◌∙◌, refl, subst, arith, OnFalse, HoldsAt, take_at, Appends, BuiltIn, Row, html, IsFirst, IsFirstOf, HasExtension, HoldsSample, sample_of, zeros, row, table, unless_failed, HasSample}
+use Rattle.std.proofs.lemmas.List.{get_or-map}
 use Rattle.infer.specs.declared.table.file_type.MatcherType.TheVariants.{Text}
 use Rattle.infer.specs.declared.table.rows.TheConstants.{DLL, EPUB_ARCHIVE, ROW_COUNT}
-use Rattle.infer_tool.specs.Report.{unless_failed}
-use Rattle.infer_tool.specs.Sample.{HasSample}
 
 -- any row
 pub some_row : Row BuiltIn

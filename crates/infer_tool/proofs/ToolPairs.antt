@@ -1,15 +1,10 @@
 -- What has a property of what the program says, and what has not: each pair computed.
-use Rattle.std.proofs.Common.{◌≡◌, ℕ, Bool, true, false, [], ◌∷◌, Option, None, Some, Result, Ok, Err, IsTrue, length, refl, ap, codes, arith}
-use Rattle.std.specs.Io.KnownBytes.{Appends}
-use Rattle.infer.specs.Triple.{Triple}
+use Rattle.infer_tool.proofs.Common.{◌≡◌, ℕ, Bool, true, false, [], ◌∷◌, Option, None, Some, Result, Ok, Err, IsTrue, length, refl, ap, codes, arith, Appends, Triple, Reports, ReportsInput, fault_written, outcome_of, told, unless_failed, written, has_failed, inner, Failed, Unknown}
 use Rattle.infer.specs.declared.read.fault.Fault.{Fault}
 use Rattle.infer.specs.declared.read.fault.Fault.TheVariants.{Memory, Open, Read}
 use Rattle.infer_tool.specs.Line.{fault_line, fault_text, line}
-use Rattle.infer_tool.specs.Report.{Reports, ReportsInput, fault_written, outcome_of, told, unless_failed, written}
 use Rattle.infer_tool.specs.Words.{front_option, sample_option, second}
-use Rattle.infer_tool.specs.Writer.{has_failed, inner}
 use Rattle.infer_tool.specs.declared.writer.WatchedWriter.{WatchedWriter}
-use Rattle.infer_tool.specs.declared.outcome.Outcome.TheVariants.{Failed, Unknown}
 
 -- a watched writer, a number in place of the writer, and whether it has failed
 abbrev writer : ℕ → Bool → WatchedWriter ℕ

@@ -1,10 +1,5 @@
 -- One buffer more is counted or passed.
-use Rattle.std.proofs.Common.{◌≡◌, ◌+◌, ◌<◌, ℕ, suc, List, [], ◌∷◌, ◌++◌, Option, length, map, take, get_or, add-one, ap, subst, sym, ◌∙◌}
-use Rattle.std.proofs.lemmas.List.{map_more}
-use Rattle.infer.specs.First.{IsAnswer}
-use Rattle.infer.specs.Row.{Accepts}
-use Rattle.infer.specs.Table.{table}
-use Rattle.infer.specs.Triple.{Triple}
+use Rattle.infer.proofs.Common.{◌≡◌, ◌+◌, ◌<◌, ℕ, suc, List, [], ◌∷◌, ◌++◌, Option, length, map, take, get_or, add-one, ap, subst, sym, ◌∙◌, map_more, IsAnswer, Accepts, table, Triple}
 use Rattle.infer.specs.declared.table.file_type.MatcherType.{MatcherType}
 use Rattle.infer_uses.specs.Answers.{IsOfClass}
 use Rattle.infer_uses.specs.Counts.{Counts, counted, passed}

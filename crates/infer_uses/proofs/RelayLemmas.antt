@@ -1,10 +1,6 @@
 -- One more piece passed on, and what a relay's last verdict tells.
-use Rattle.std.proofs.Common.{◌≡◌, ◌≢◌, ◌⊎◌, inl, inr, ◌∙◌, ◌<◌, ◌≤◌, ℕ, List, [], ◌++◌, Option, length, take, ap, sym, subst, arith, length-take}
-use Rattle.std.proofs.lemmas.Bool.{cases_lt}
-use Rattle.std.proofs.lemmas.List.{append-nil, length-take-le, take-append-le, take_all}
-use Rattle.std.proofs.KnownBytes.{Appends-nil, Appends-trans, Consumes-nil, Consumes-trans}
-use Rattle.std.specs.Io.KnownBytes.{Appends, Consumes, IsAtEnd}
-use Rattle.infer.specs.Buffer.{head}
+use Rattle.infer.proofs.Common.{◌≡◌, ◌≢◌, ◌⊎◌, inl, inr, ◌∙◌, ◌<◌, ◌≤◌, ℕ, List, [], ◌++◌, Option, length, take, ap, sym, subst, arith, length-take, cases_lt, append-nil, length-take-le, take-append-le, take_all, Consumes-trans, Appends, Consumes, IsAtEnd, head}
+use Rattle.std.proofs.KnownBytes.{Appends-nil, Appends-trans, Consumes-nil}
 use Rattle.infer.specs.declared.table.file_type.FileType.{FileType}
 use Rattle.infer_sniff.specs.Verdicts.{IsFinal, IsSettled, IsTypeOf, IsVerdict, found_of}
 use Rattle.infer_sniff.specs.declared.verdict.Verdict.{Verdict}

@@ -1,5 +1,4 @@
-use Rattle.std.proofs.Common.{◌≡◌, ◌≤◌, Option, None, Some, IfSome, length, option_map, subst, sym}
-use Rattle.infer.specs.Triple.{Triple, triple_of}
+use Rattle.infer.proofs.Common.{◌≡◌, ◌≤◌, Option, None, Some, IfSome, length, option_map, subst, sym, Triple, triple_of}
 use Rattle.infer.specs.declared.table.file_type.FileType.{FileType}
 use Rattle.infer_c.proofs.row.of.Goals as goal
 

@@ -1,6 +1,4 @@
-use Rattle.std.proofs.Common.{◌≡◌, ℕ, List, Option, None, Some, length, option_map, take, ◌++◌, ◌-◌, ap, sym, ◌∙◌}
-use Rattle.std.proofs.Math.Seq.{take-append_seam}
-use Rattle.infer.specs.Samples.{zeros}
+use Rattle.infer.proofs.Common.{◌≡◌, ℕ, List, Option, None, Some, length, option_map, take, ◌++◌, ◌-◌, ap, sym, ◌∙◌, take-append_seam, zeros}
 use Rattle.infer_more.specs.Samples.{written}
 use Rattle.infer_more.specs.declared.samples.TheConstants.{SAMPLE_SIZE}
 use Rattle.infer_c.proofs.row.write_sample.Goals as goal

@@ -1,10 +1,5 @@
-use Rattle.std.proofs.Common.{◌≡◌, ◌<◌, Option, None, Some, ap, length, refl, rules, sym, ◌∙◌}
-use Rattle.std.specs.List.{slice_get}
-use Rattle.std.specs.Option.{option_map}
-use Rattle.std.proofs.lemmas.Option.{slice_get-get_or, slice_get-map}
-use Rattle.infer.specs.BuiltIn.{BuiltIn}
-use Rattle.infer.specs.Row.{Row, shows}
-use Rattle.infer.specs.Table.{table}
+use Rattle.infer.proofs.Common.{◌≡◌, ◌<◌, Option, None, Some, ap, length, refl, rules, sym, ◌∙◌, slice_get, option_map, slice_get-get_or, BuiltIn, Row, shows, table}
+use Rattle.std.proofs.lemmas.Option.{slice_get-map}
 use Rattle.infer_more.specs.Ended.{ended_listed, ended_shown}
 use Rattle.infer_c.proofs.texts.at.Goals as goal
 

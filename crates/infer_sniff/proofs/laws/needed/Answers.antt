@@ -1,7 +1,6 @@
-use Rattle.std.proofs.Common.{take, drop}
+use Rattle.infer_sniff.proofs.Common.{take, drop, beginning_of}
 use Rattle.infer_sniff.proofs.FinalLemmas.{first-stays}
 use Rattle.infer_sniff.proofs.NeededLemmas.{kept_open, one_short}
-use Rattle.infer_sniff.specs.Cases.{beginning_of}
 use Rattle.infer_sniff.proofs.laws.needed.Goals as goal
 
 pub returns-clause-cases : goal.returns-clause-cases

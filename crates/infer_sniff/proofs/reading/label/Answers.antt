@@ -1,4 +1,4 @@
-use Rattle.std.proofs.Common.{ap, arith, length}
+use Rattle.infer_sniff.proofs.Common.{ap, arith, length}
 use Rattle.infer_sniff.proofs.LabelLemmas.{front-from_read}
 use Rattle.infer_sniff.proofs.reading.label.Goals as goal
 

@@ -1,5 +1,4 @@
-use Rattle.std.proofs.Common.{arith, rules, sym, ◌∙◌}
-use Rattle.std.proofs.lemmas.List.{append-nil}
+use Rattle.infer_sniff.proofs.Common.{arith, rules, sym, ◌∙◌, append-nil}
 use Rattle.infer_sniff.proofs.KeptLemmas.{front_of_both}
 use Rattle.infer_sniff.proofs.sniffer.keep.Goals as goal
 

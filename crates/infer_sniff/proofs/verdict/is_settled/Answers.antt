@@ -1,7 +1,4 @@
-use Rattle.std.proofs.Common.{ap, leb, subst}
-use Rattle.infer.specs.First.{IsFirstOf}
-use Rattle.infer.specs.Row.{Accepts}
-use Rattle.infer.specs.Table.{table}
+use Rattle.infer_sniff.proofs.Common.{ap, leb, subst, IsFirstOf, Accepts, table}
 use Rattle.infer_sniff.proofs.FinalLemmas.{open-from_none, settled-from_first}
 use Rattle.infer_sniff.proofs.verdict.is_settled.Goals as goal
 

@@ -1,9 +1,6 @@
-use Rattle.std.proofs.Common.{codes, rules, ◌∙◌}
+use Rattle.infer_tool.proofs.Common.{codes, rules, ◌∙◌, LosesFront, LosesUntilFinal, Says, SaysThrough, Saying, has_failed, inner}
 use Rattle.std.specs.Io.Buffered.{line_writer_contents, writer_contents}
 use Rattle.infer.specs.declared.read.head.TheConstants.{FRONT}
-use Rattle.infer_tool.specs.Reader.{LosesFront, LosesUntilFinal}
-use Rattle.infer_tool.specs.Report.{Says, SaysThrough, Saying}
-use Rattle.infer_tool.specs.Writer.{has_failed, inner}
 use Rattle.infer_tool.proofs.LinesLemmas.{Moves, each_moves, reader_moves, said_through, sample_moves}
 use Rattle.infer_tool.proofs.lines.run_lines.Given as given
 use Rattle.infer_tool.proofs.lines.run_lines.Goals as goal

@@ -1,6 +1,4 @@
-use Rattle.std.proofs.Common.{◌≡◌, false, rules, sym, ◌∙◌}
-use Rattle.infer_tool.specs.Report.{told}
-use Rattle.infer_tool.specs.Writer.{has_failed}
+use Rattle.infer_tool.proofs.Common.{◌≡◌, false, rules, sym, ◌∙◌, told, has_failed}
 use Rattle.infer_tool.proofs.RunLemmas.{unfailed, unfailed_outcome}
 use Rattle.infer_tool.proofs.run.run.Goals as goal
 

@@ -1,4 +1,4 @@
-use Rattle.std.proofs.Common.{arith, string_bytes, subst, sym}
+use Rattle.infer_tool.proofs.Common.{arith, string_bytes, subst, sym}
 use Rattle.infer_tool.specs.Limit.{IsLimit}
 use Rattle.infer_tool.proofs.SampleLemmas.{second_is}
 use Rattle.infer_tool.proofs.run.run_limited.Goals as goal

@@ -1,7 +1,4 @@
-use Rattle.std.proofs.Common.{◌∙◌, ap, refl, rules, string_bytes}
-use Rattle.infer_tool.specs.Run.{no_input}
-use Rattle.infer_tool.specs.Writer.{has_failed, inner}
-use Rattle.infer_tool.specs.declared.outcome.Outcome.TheVariants.{Known}
+use Rattle.infer_tool.proofs.Common.{◌∙◌, ap, refl, rules, string_bytes, no_input, has_failed, inner, Known}
 use Rattle.infer_tool.proofs.RunLemmas.{each-more, keeps_unless_failed, worse_unless_failed}
 use Rattle.infer_tool.proofs.run.run_paths.Goals as goal
 

@@ -1,10 +1,5 @@
 -- the words so far were reported, and no fault so far means that nothing was written of one
-use Rattle.std.proofs.Common.{◌≡◌, ◌≢◌, false, map, string_bytes, take}
-use Rattle.infer_tool.specs.Report.{unless_failed}
-use Rattle.infer_tool.specs.Run.{ReportsEach}
-use Rattle.infer_tool.specs.Writer.{IsLater, has_failed, inner}
-use Rattle.infer_tool.specs.declared.outcome.Outcome.{Outcome}
-use Rattle.infer_tool.specs.declared.outcome.Outcome.TheVariants.{Failed}
+use Rattle.infer_tool.proofs.Common.{◌≡◌, ◌≢◌, false, map, string_bytes, take, unless_failed, ReportsEach, IsLater, has_failed, inner, Outcome, Failed}
 use Rattle.infer_tool.proofs.run.run_paths.Given as goal
 
 abbrev pub invariant-loop-word : goal.invariant-loop-word

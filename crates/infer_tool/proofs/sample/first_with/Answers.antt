@@ -1,8 +1,4 @@
-use Rattle.std.proofs.Common.{rules, tests}
-use Rattle.std.specs.List.{HoldsAt}
-use Rattle.std.proofs.lemmas.Iterator.{first_from_Range}
-use Rattle.infer.specs.Questions.{HasExtension}
-use Rattle.infer.specs.Table.{table}
+use Rattle.infer_tool.proofs.Common.{rules, tests, HoldsAt, first_from_Range, HasExtension, table}
 use Rattle.infer_tool.proofs.SampleLemmas.{first_found}
 use Rattle.infer_tool.proofs.sample.first_with.Goals as goal
 

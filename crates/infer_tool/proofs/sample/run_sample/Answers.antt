@@ -1,7 +1,4 @@
-use Rattle.std.proofs.Common.{ap, arith, refl, ◌∙◌}
-use Rattle.infer_tool.specs.Outcome.{outcome_after}
-use Rattle.infer_tool.specs.Writer.{has_failed, inner}
-use Rattle.infer_tool.specs.declared.outcome.Outcome.TheVariants.{Known}
+use Rattle.infer_tool.proofs.Common.{ap, arith, refl, ◌∙◌, outcome_after, has_failed, inner, Known}
 use Rattle.infer_tool.proofs.RunLemmas.{keeps_unless_failed}
 use Rattle.infer_tool.proofs.SampleLemmas.{never_sampled, sample-written, sampled, some_row}
 use Rattle.infer_tool.proofs.sample.run_sample.Goals as goal

@@ -1,9 +1,4 @@
-use Rattle.std.proofs.Common.{◌≡◌, Some, false, nat_lt, ap, subst, sym, ◌∙◌, arith}
-use Rattle.std.specs.Prelude.{if◌then◌else◌}
-use Rattle.std.proofs.lemmas.Bool.Decides.{nat_tests}
-use Rattle.infer.specs.First.{IsFirstOf}
-use Rattle.infer.specs.Row.{Accepts}
-use Rattle.infer.specs.Table.{table}
+use Rattle.infer.proofs.Common.{◌≡◌, Some, false, nat_lt, ap, subst, sym, ◌∙◌, arith, if◌then◌else◌, nat_tests, IsFirstOf, Accepts, table}
 use Rattle.infer.specs.declared.table.rows.TheConstants.{ROW_COUNT}
 use Rattle.infer_more.specs.Wider.{IsWider, parent_at}
 use Rattle.infer_uses.proofs.catalogue.built_in.Goals as goal

@@ -1,7 +1,4 @@
-use Rattle.std.proofs.Common.{◌≡◌, ◌++◌, [], Option, Some, ap, drop, length, option_map, ◌∙◌}
-use Rattle.std.specs.Option.{option_map_or}
-use Rattle.std.proofs.lemmas.List.{drop-replicate}
-use Rattle.infer.specs.Triple.{Triple, triple_of}
+use Rattle.infer.proofs.Common.{◌≡◌, ◌++◌, [], Option, Some, ap, drop, length, option_map, ◌∙◌, option_map_or, drop-replicate, Triple, triple_of}
 use Rattle.infer.specs.declared.table.file_type.FileType.{FileType}
 use Rattle.infer_uses.specs.Fields.{filled}
 use Rattle.infer_uses.proofs.catalogue.write_mime_type.Goals as goal

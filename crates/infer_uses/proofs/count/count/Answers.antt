@@ -1,4 +1,4 @@
-use Rattle.std.proofs.Common.{arith}
+use Rattle.infer.proofs.Common.{arith}
 use Rattle.infer_uses.specs.Counts.{no_buffer}
 use Rattle.infer_uses.proofs.CountLemmas.{counted-more, passed-more}
 use Rattle.infer_uses.proofs.count.count.Goals as goal

@@ -1,5 +1,5 @@
 -- The buffers so far are counted, and the count is not above their number.
-use Rattle.std.proofs.Common.{◌≤◌, map, take}
+use Rattle.infer.proofs.Common.{◌≤◌, map, take}
 use Rattle.infer_uses.specs.Counts.{Counts}
 use Rattle.infer_uses.proofs.count.count.Given as goal
 

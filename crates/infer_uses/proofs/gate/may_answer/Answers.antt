@@ -1,6 +1,4 @@
-use Rattle.std.proofs.Common.{[], arith}
-use Rattle.infer.specs.BuiltIn.{html}
-use Rattle.infer.specs.Table.{row}
+use Rattle.infer.proofs.Common.{[], arith, html, row}
 use Rattle.infer.specs.declared.table.file_type.MatcherType.TheVariants.{Text}
 use Rattle.infer_uses.proofs.gate.may_answer.Goals as goal
 

@@ -1,5 +1,4 @@
-use Rattle.std.proofs.Common.{option_map, rules}
-use Rattle.infer.specs.Triple.{triple_of}
+use Rattle.infer.proofs.Common.{option_map, rules, triple_of}
 use Rattle.infer_uses.proofs.label.label.Goals as goal
 
 pub returns-in-Final-clause-certain : goal.returns-in-Final-clause-certain

@@ -1,4 +1,4 @@
-use Rattle.std.proofs.Common.{ap, arith, inl, inr, length, rules}
+use Rattle.infer.proofs.Common.{ap, arith, inl, inr, length, rules}
 use Rattle.infer_uses.proofs.RelayLemmas.{labelled, nothing_more, nothing_passed, one_more_passed, settled_if_final}
 use Rattle.infer_uses.proofs.relay.pass.Goals as goal
 use Rattle.infer_uses.proofs.relay.pass.Goals.{then-loop-sniffer-test+else-not-is_final, else-loop-sniffer-test, then-loop-sniffer-test+then-not-is_final+in_ok-count+then-count-eq0}

@@ -1,5 +1,5 @@
 -- The bytes so far were passed on, and the sniffer keeps the first 8192 of them.
-use Rattle.std.proofs.Common.{◌-◌, length}
+use Rattle.infer.proofs.Common.{◌-◌, length}
 use Rattle.infer_uses.proofs.RelayLemmas.{Relays}
 use Rattle.infer_uses.proofs.relay.pass.Given as goal
 

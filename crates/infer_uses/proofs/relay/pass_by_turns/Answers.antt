@@ -1,4 +1,4 @@
-use Rattle.std.proofs.Common.{arith, inl, inr, rules, subst}
+use Rattle.infer.proofs.Common.{arith, inl, inr, rules, subst}
 use Rattle.infer_sniff.specs.Verdicts.{IsVerdict}
 use Rattle.infer_uses.proofs.RelayLemmas.{labelled, nothing_passed, one_more_passed, settled_if_final}
 use Rattle.infer_uses.proofs.relay.pass_by_turns.Goals as goal

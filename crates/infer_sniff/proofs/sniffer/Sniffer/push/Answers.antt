@@ -1,5 +1,4 @@
-use Rattle.std.proofs.Common.{◌≡◌, take, ◌++◌, length, subst, ap, arith, length-take}
-use Rattle.infer_sniff.specs.Verdicts.{IsVerdict, StaysFinal}
+use Rattle.infer_sniff.proofs.Common.{◌≡◌, take, ◌++◌, length, subst, ap, arith, length-take, IsVerdict, StaysFinal}
 use Rattle.infer_sniff.proofs.KeptLemmas.{room_left}
 use Rattle.infer_sniff.proofs.sniffer.Sniffer.push.Goals as goal
 

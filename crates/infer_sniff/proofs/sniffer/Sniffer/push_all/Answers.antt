@@ -1,6 +1,4 @@
-use Rattle.std.proofs.Common.{◌≡◌, ◌++◌, List, ℕ, [], take, sym, subst}
-use Rattle.std.proofs.lemmas.List.{append-nil}
-use Rattle.infer_sniff.specs.Verdicts.{IsVerdict, StaysFinal}
+use Rattle.infer_sniff.proofs.Common.{◌≡◌, ◌++◌, List, ℕ, [], take, sym, subst, append-nil, IsVerdict, StaysFinal}
 use Rattle.infer_sniff.proofs.KeptLemmas.{front_alone, front_more, grown_more}
 use Rattle.infer_sniff.proofs.sniffer.Sniffer.push_all.Goals as goal
 

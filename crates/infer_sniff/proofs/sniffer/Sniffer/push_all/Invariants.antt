@@ -1,8 +1,5 @@
 -- what is kept is the front of the bytes before and the pieces so far, and grows the bytes before, and the verdict is that of what is kept
-use Rattle.std.proofs.Common.{◌≡◌, ◌++◌, ℕ, List, map, take}
-use Rattle.std.specs.List.{concat}
-use Rattle.infer.specs.Buffer.{head}
-use Rattle.infer_sniff.specs.Verdicts.{IsVerdict, StaysFinal}
+use Rattle.infer_sniff.proofs.Common.{◌≡◌, ◌++◌, ℕ, List, map, take, concat, head, IsVerdict, StaysFinal}
 use Rattle.infer_sniff.proofs.sniffer.Sniffer.push_all.Given as goal
 
 abbrev pub invariant-loop-piece : goal.invariant-loop-piece
