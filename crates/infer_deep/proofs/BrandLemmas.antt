@@ -13,16 +13,7 @@ none_below b brand = (λ t. absurd (cc), λ (j, lt, o). absurd (omega (arith, lt
 
 pub one_more_below : (b brand : List ℕ) (n : ℕ) (r s : Bool) → IsTrue r ↔ StandsBelow b brand n → IsTrue s ↔ OccursAt b brand (16 + 4 * n)
     → IsTrue (r || s) ↔ StandsBelow b brand (n + 1)
-one_more_below b brand n r s before here = (
-  λ t. elim (or_cases r s t) [
-    | inl x ↦ let (j, lt, o) = before.0 x in (j, omega (arith, lt), o)
-    | inr x ↦ (n, omega arith, here.0 x)
-  ],
-  λ (j, lt, o). elim (cases_lt j n) [
-    | inl l ↦ or_left r s (before.1 (j, l, o))
-    | inr l ↦ let last : j ≡ n = omega (arith, lt, l) in or_right r s (here.1 (subst (λ k. OccursAt b brand (16 + 4 * k)) last o))
-  ],
-)
+one_more_below b brand n r s before here = grind (arith, or_cases, or_left, or_right)
 
 -- those that the buffer has whole are all that are compatible
 pub compatible_below : (b brand : List ℕ) (n : ℕ) → length brand ≡ 4 → 16 ≤ length b → n ≡ min (box_length b / 4 - 4) ((length b - 16) / 4)
@@ -124,8 +115,7 @@ module _ (S : List ℕ → Type 0) (b : List ℕ) (kind : AgreesAt b ftyp 4) whe
 
 -- a brand that is compatible after more bytes may be one
 compatible_known : (b more brand : List ℕ) → 4 ≤ length b → HasCompatible brand (b ++ more) → MayHaveCompatible brand b
-compatible_known b more brand long (k, l, o) =
-    (k, subst (λ s. k < s / 4 - 4) (be32-append b more 0 long) l, grown_agrees b more brand (16 + 4 * k) o)
+compatible_known b more brand long h4 = grind (arith, be32-append, grown_agrees)
 
 -- a buffer that may be HEIF or AVIF, by what agrees; below four bytes everything does
 abbrev pub MayBeHeif : List ℕ → Type 0
@@ -197,22 +187,11 @@ avif_known b (more, bytes, (box, h)) = (
 -- of the fours only the last may be cut
 pub may_have_compatible_last : (b brand : List ℕ) → 0 < box_length b / 4 - 4
     → AgreesAt b brand (12 + 4 * (box_length b / 4 - 4)) → MayHaveCompatible brand b
-may_have_compatible_last b brand some a =
-    let last : 12 + 4 * (box_length b / 4 - 4) ≡ 16 + 4 * (box_length b / 4 - 4 - 1) = omega arith in
-    (box_length b / 4 - 4 - 1, omega arith, subst (AgreesAt b brand) last a)
+may_have_compatible_last b brand some a = grind (arith, box_length)
 
 pub has_compatible_may : (b brand : List ℕ) → HasCompatible brand b → MayHaveCompatible brand b
 has_compatible_may b brand (k, l, o) = (k, l, agrees_where_stands b brand (16 + 4 * k) o)
 
 pub last_or_whole : (b brand : List ℕ) → length brand ≡ 4 → MayHaveCompatible brand b
     → AgreesAt b brand (12 + 4 * (box_length b / 4 - 4)) ⊎ HasCompatible brand b
-last_or_whole b brand four (k, l, a) =
-    elim (cases_lt (k + 1) (box_length b / 4 - 4)) [
-      | inr at ↦
-          let last : 16 + 4 * k ≡ 12 + 4 * (box_length b / 4 - 4) = omega arith in
-          inl (subst (AgreesAt b brand) last a)
-      | inl before ↦ elim (cases_lt (length b) (16 + 4 * k + 4)) [
-        | inl cut ↦ inl (agrees_past b brand (12 + 4 * (box_length b / 4 - 4)) (omega arith))
-        | inr whole ↦ inr (k, l, stands_where_whole b brand (16 + 4 * k) (omega arith) a)
-      ]
-    ]
+last_or_whole b brand four h3 = grind (arith, box_length, agrees_past, stands_where_whole)

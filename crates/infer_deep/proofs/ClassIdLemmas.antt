@@ -1,22 +1,11 @@
 -- The root entry of a compound file lasts.
-use Rattle.infer_deep.proofs.Common.{IsTrue, ◌≡◌, ◌↔◌, ◌⊎◌, inl, inr, ℕ, zero, suc, ◌+◌, ◌*◌, ◌<◌, ◌≤◌, List, [], ◌∷◌, ◌++◌, length, get_or, refl, sym, ap, subst, ◌∙◌, arith, length-append, cases_lt, OccursAt, le16, le32, are_bytes, AgreesAt, get_or_append_left, Lasts, Reachable, BeginsRoot, IsRoot, HasClassId, MayHaveRoot, compound_header, format_3, format_4}
+use Rattle.infer_deep.proofs.Common.{IsTrue, ◌≡◌, ◌↔◌, ◌⊎◌, inl, inr, ℕ, ◌+◌, ◌*◌, ◌<◌, ◌≤◌, List, [], ◌∷◌, ◌++◌, length, refl, sym, ap, subst, ◌∙◌, arith, length-append, cases_lt, OccursAt, le16, le32, are_bytes, AgreesAt, get_or_append_left, Lasts, Reachable, BeginsRoot, IsRoot, HasClassId, MayHaveRoot, compound_header, format_3, format_4}
 use Rattle.infer_deep.proofs.OpenLemmas.{Reachable-grown, AgreesAt-later, agrees_past, bytes_from_test, fills_parts, grown_agrees}
 use Rattle.infer_deep.proofs.NumberLemmas.{le16-append, le32-append}
 use Rattle.infer_deep.proofs.PlaceLemmas.{byte_stands, OccursAt-append, OccursAt-first}
 
 IsRoot-append : (b more : List ℕ) (root : ℕ) → IsRoot b root → IsRoot (b ++ more) root
-IsRoot-append b more root r =
-    let far : 512 ≤ root = grind arith in
-    let version = le16-append b more 26 (omega arith) in
-    let shift = le16-append b more 30 (omega arith) in
-    let sector = le32-append b more 48 (omega arith) in
-    record {
-      header = OccursAt-append b more _ 0 r.header;
-      byte_order = OccursAt-append b more _ 28 r.byte_order;
-      begins = grind arith;
-      whole = omega (arith, length-append b more);
-      kind = get_or_append_left b more 0 (root + 66) (omega arith) ∙ r.kind;
-    }
+IsRoot-append b more root r = grind (arith, le16-append, le32-append, OccursAt-append, length-append, get_or_append_left)
 
 pub HasClassId-lasts : (id : List ℕ) → Lasts (HasClassId id)
 HasClassId-lasts id b more (root, r, o) = (root, IsRoot-append b more root r, OccursAt-append b more id (root + 80) o)
@@ -30,30 +19,12 @@ format_of version shift = version ∷ 0x00 ∷ 0xFE ∷ 0xFF ∷ shift ∷ 0x00 
 module _ (c : List ℕ) (version shift : ℕ) where
   numbers_of_format : OccursAt c (format_of version shift) 26 → (le16 c 26 ≡ version) × OccursAt c (0xFE ∷ 0xFF ∷ []) 28 × (le16 c 30 ≡ shift)
   unfolding le16
-  numbers_of_format o = (
-    omega (arith, o.reads 0, o.reads 1),
-    record { fits = let fits = o.fits in omega arith; reads = go },
-    omega (arith, o.reads 4, o.reads 5),
-  )
-    where
-      go : (k : ℕ) → k < 2 → get_or c (28 + k) 0 ≡ get_or (0xFE ∷ 0xFF ∷ []) k 0
-      go zero l = o.reads 2 (omega arith)
-      go (suc zero) l = o.reads 3 (omega arith)
-      go (suc (suc k)) l = absurd (omega arith)
+  numbers_of_format o = grind arith
 
   format_of_numbers : version < 256 → shift < 256 → 32 ≤ length c → le16 c 26 ≡ version → OccursAt c (0xFE ∷ 0xFF ∷ []) 28 → le16 c 30 ≡ shift
       → OccursAt c (format_of version shift) 26
   unfolding le16
-  format_of_numbers v s long at_26 order at_30 = record { fits = omega arith; reads = go }
-    where
-      go : (k : ℕ) → k < 6 → get_or c (26 + k) 0 ≡ get_or (format_of version shift) k 0
-      go zero l = omega arith
-      go (suc zero) l = omega arith
-      go (suc (suc zero)) l = order.reads 0 (omega arith)
-      go (suc (suc (suc zero))) l = order.reads 1 (omega arith)
-      go (suc (suc (suc (suc zero)))) l = omega arith
-      go (suc (suc (suc (suc (suc zero))))) l = omega arith
-      go (suc (suc (suc (suc (suc (suc k)))))) l = absurd (omega arith)
+  format_of_numbers v s long at_26 order at_30 = grind arith
 
 -- of a format and its sector size
 module _ (version shift size : ℕ) (format_bytes : IsTrue (are_bytes (format_of version shift))) (large : 512 ≤ size)

@@ -1,5 +1,5 @@
 -- Skippable frames: where one stands at the front, and what is data after them.
-use Rattle.infer_deep.proofs.Common.{◌≡◌, ◌↔◌, ℕ, zero, suc, ◌+◌, ◌-◌, ◌<◌, ◌≤◌, ◌⊎◌, inl, inr, List, [], ◌∷◌, ◌++◌, length, get_or, take, drop, refl, sym, ap, subst, ◌∙◌, arith, length-append, IsTrue, take_at, take_rest, take-append-drop, length-take-le, get_or_append_left, le32, cases_lt, are_bytes, AgreesAt, Lasts, ComesWith, AreApart, IsEarly, Reachable, nat_tests, SkipsTo, NoneBegins, BeginsWith, BeginsFrame, IsFrame, IsFramed, OccursAt}
+use Rattle.infer_deep.proofs.Common.{◌≡◌, ◌↔◌, ℕ, ◌+◌, ◌-◌, ◌<◌, ◌≤◌, ◌⊎◌, inl, inr, List, [], ◌∷◌, ◌++◌, length, get_or, take, drop, refl, sym, ap, subst, ◌∙◌, arith, length-append, IsTrue, take_at, take_rest, take-append-drop, length-take-le, get_or_append_left, le32, cases_lt, are_bytes, AgreesAt, Lasts, ComesWith, AreApart, IsEarly, Reachable, nat_tests, SkipsTo, NoneBegins, BeginsWith, BeginsFrame, IsFrame, IsFramed, OccursAt}
 use Rattle.infer_deep.specs.Laws.{BeginApart}
 use Rattle.infer_deep.proofs.OpenLemmas.{Reachable-grown, agrees_none, agrees_past, agrees_where_stands, fills_parts, fills_text, grown_agrees, reaches_text}
 use Rattle.infer_deep.proofs.PlaceLemmas.{byte_stands, OccursAt-append, OccursAt-agree, OccursAt-first, OccursAt-front}
@@ -16,28 +16,11 @@ BeginsFrame-early b more long f = front_begins b more (omega arith) f
 -- what begins as a frame does so by the number in its first four bytes
 module _ (b : List ℕ) (long : 4 ≤ length b) where
   mark_number : OccursAt b (0x2A ∷ 0x4D ∷ 0x18 ∷ []) 1 ↔ ((get_or b 1 0 ≡ 0x2A) × (get_or b 2 0 ≡ 0x4D) × (get_or b 3 0 ≡ 0x18))
-  mark_number = (
-    λ o. (o.reads 0 (omega arith), o.reads 1 (omega arith), o.reads 2 (omega arith)),
-    λ (x, y, z). record { fits = omega arith; reads = three x y z },
-  )
-    where
-      three : get_or b 1 0 ≡ 0x2A → get_or b 2 0 ≡ 0x4D → get_or b 3 0 ≡ 0x18
-          → (k : ℕ) → k < 3 → get_or b (1 + k) 0 ≡ get_or (0x2A ∷ 0x4D ∷ 0x18 ∷ []) k 0
-      three x y z zero l = x
-      three x y z (suc zero) l = y
-      three x y z (suc (suc zero)) l = z
-      three x y z (suc (suc (suc k))) l = absurd (omega (arith, l))
+  mark_number = grind (arith, nat_tests)
 
   pub BeginsFrame-number : ((i : ℕ) → get_or b i 0 < 256) → BeginsFrame b ↔ ((0x184D2A50 ≤ le32 b 0) × (le32 b 0 ≤ 0x184D2A5F))
   unfolding le32
-  BeginsFrame-number bytes = (
-    λ f. let m = mark_number.0 f.mark in (omega (arith, f.low, m.0, m.1, m.2), omega (arith, f.high, m.0, m.1, m.2)),
-    λ (low, high). record {
-      low = omega (arith, bytes, low, high);
-      high = omega (arith, bytes, low, high);
-      mark = mark_number.1 (omega (arith, bytes, low, high), omega (arith, bytes, low, high), omega (arith, bytes, low, high));
-    },
-  )
+  BeginsFrame-number bytes = grind (arith, nat_tests, mark_number)
 
 -- what a buffer says of the frame that begins it
 module _ (b word rest : List ℕ) (f : IsFrame word) (e : b ≡ word ++ rest) where

@@ -97,8 +97,7 @@ module _ (P : List ℕ → Type 0) where
 
 module _ (P : List ℕ → Type 0) (Q : ℕ → Type 0) (begin : WordsBegin P Q) where
   pub begun-first : (b rest : List ℕ) → BeginsWith P b rest → Q (get_or b 0 0)
-  begun-first b rest h =
-      let w = begin h.word h.kind in subst Q (sym (front_reads 0 b h.word rest h.whole 0 w.0)) w.1
+  begun-first b rest h = grind (arith, front_reads)
 
   pub NoneBegins-first : (b : List ℕ) → (¬ Q (get_or b 0 0)) → NoneBegins P b
   NoneBegins-first b not word rest is e = not (begun-first b rest (record { word = word; kind = is; whole = e }))

@@ -1,5 +1,5 @@
 -- Numbers in a buffer: in one that grows they stay what they are, and they are the same if their bytes are.
-use Rattle.infer_deep.proofs.Common.{◌≡◌, ◌↔◌, ℕ, zero, suc, ◌+◌, ◌<◌, ◌≤◌, List, ◌++◌, length, get_or, add-zero, arith, get_or_append_left, le16, le32, be32}
+use Rattle.infer_deep.proofs.Common.{◌≡◌, ◌↔◌, ℕ, ◌+◌, ◌<◌, ◌≤◌, List, ◌++◌, length, get_or, add-zero, arith, get_or_append_left, le16, le32, be32}
 
 module _ (b more : List ℕ) (p : ℕ) where
   pub le16-append : p + 2 ≤ length b → le16 (b ++ more) p ≡ le16 b p
@@ -20,28 +20,16 @@ AreBytes b = (i : ℕ) → get_or b i 0 < 256
 -- two numbers are the same just if their bytes are
 module _ (b c : List ℕ) (p q : ℕ) (b_bytes : AreBytes b) (c_bytes : AreBytes c) where
   two : get_or b p 0 ≡ get_or c q 0 → get_or b (p + 1) 0 ≡ get_or c (q + 1) 0 → (k : ℕ) → k < 2 → get_or b (p + k) 0 ≡ get_or c (q + k) 0
-  two h i zero m = simp add-zero h
-  two h i (suc zero) m = i
-  two h i (suc (suc k)) m = absurd (omega (arith, m))
+  two h i h2 m = grind (arith, add-zero)
 
   four : get_or b p 0 ≡ get_or c q 0 → get_or b (p + 1) 0 ≡ get_or c (q + 1) 0 → get_or b (p + 2) 0 ≡ get_or c (q + 2) 0
       → get_or b (p + 3) 0 ≡ get_or c (q + 3) 0 → (k : ℕ) → k < 4 → get_or b (p + k) 0 ≡ get_or c (q + k) 0
-  four h i j l zero m = simp add-zero h
-  four h i j l (suc zero) m = i
-  four h i j l (suc (suc zero)) m = j
-  four h i j l (suc (suc (suc zero))) m = l
-  four h i j l (suc (suc (suc (suc k)))) m = absurd (omega (arith, m))
+  four h i j l h4 m = grind (arith, add-zero)
 
   pub le16-same : (le16 b p ≡ le16 c q) ↔ ((k : ℕ) → k < 2 → get_or b (p + k) 0 ≡ get_or c (q + k) 0)
   unfolding le16
-  le16-same = (
-    λ e. two (omega (arith, e, b_bytes, c_bytes)) (omega (arith, e, b_bytes, c_bytes)),
-    λ h. omega (arith, simp add-zero at (h 0 (omega arith)), h 1 (omega arith)),
-  )
+  le16-same = grind (arith, add-zero)
 
   pub le32-same : (le32 b p ≡ le32 c q) ↔ ((k : ℕ) → k < 4 → get_or b (p + k) 0 ≡ get_or c (q + k) 0)
   unfolding le32
-  le32-same = (
-    λ e. four (omega (arith, e, b_bytes, c_bytes)) (omega (arith, e, b_bytes, c_bytes)) (omega (arith, e, b_bytes, c_bytes)) (omega (arith, e, b_bytes, c_bytes)),
-    λ h. omega (arith, simp add-zero at (h 0 (omega arith)), h 1 (omega arith), h 2 (omega arith), h 3 (omega arith)),
-  )
+  le32-same = grind (arith, add-zero)

@@ -4,10 +4,7 @@ use Rattle.infer_deep.proofs.NumberLemmas.{le32-append}
 use Rattle.infer_deep.proofs.PlaceLemmas.{Carries, IsUnique, IsFirstPlace-same, IsFirstPlace-append, OccursAt-append, OccursAt-front, OccursAt-part, stands_at_one}
 
 pub IsThirdHeader-one : (At : List ℕ → List ℕ → ℕ → Type 0) (b : List ℕ) → IsUnique (IsThirdHeader At b)
-IsThirdHeader-one At b p q t u =
-    let same = IsFirstPlace-same At b zip_header _ _ t.second u.second t.second_found u.second_found in
-    IsFirstPlace-same At b zip_header (u.second + 30) (u.second + 30 + 6000) p q
-    (subst (λ (s : ℕ). IsHeaderFrom At b (s + 30) p) same t.third_found) u.third_found
+IsThirdHeader-one At b p q t u = grind (arith, IsFirstPlace-same, zip_header)
 
 -- what the searches for the second and the third header tell of the third
 module _ (b : List ℕ) (start : ℕ) (is : start ≡ le32 b 18 + 49) where

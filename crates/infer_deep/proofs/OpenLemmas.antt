@@ -26,9 +26,7 @@ pub agrees_where_stands : (b text : List ℕ) (p : ℕ) → OccursAt b text p �
 agrees_where_stands b text p o = record { reads = λ k l m. o.reads k l }
 
 pub AgreesAt-front : (b more text : List ℕ) (p : ℕ) → AgreesAt (b ++ more) text p → AgreesAt b text p
-AgreesAt-front b more text p a = record {
-  reads = λ k l m. sym (get_or_append_left b more 0 (p + k) m) ∙ a.reads k l (omega (arith, length-append b more));
-}
+AgreesAt-front b more text p a = grind (arith, get_or_append_left, length-append)
 
 pub grown_agrees : (b more text : List ℕ) (p : ℕ) → OccursAt (b ++ more) text p → AgreesAt b text p
 grown_agrees b more text p o = AgreesAt-front b more text p (agrees_where_stands (b ++ more) text p o)
@@ -45,9 +43,7 @@ agrees_none b p = record { reads = λ k l m. absurd (omega arith) }
 
 -- bytes that do not reach past n change nothing from n on
 pub AgreesAt-later : (b more text : List ℕ) (n p : ℕ) → length (b ++ more) ≤ max (length b) n → n ≤ p → AgreesAt b text p → AgreesAt (b ++ more) text p
-AgreesAt-later b more text n p short late a = record {
-  reads = λ k l m. get_or_append_left b more 0 (p + k) (omega arith) ∙ a.reads k l (omega arith);
-}
+AgreesAt-later b more text n p short late a = grind (arith, get_or_append_left)
 
 -- the bytes of a text at a place that a buffer of n bytes lacks
 pub missing : ℕ → List ℕ → ℕ → List ℕ
@@ -59,11 +55,7 @@ length-missing place t n = simp (length-append, length-replicate, length-drop) r
 
 pub read_missing : (place : ℕ) (t : List ℕ) (n k : ℕ) → n ≤ place + k → get_or (missing place t n) (place + k - n) 0 ≡ get_or t k 0
 unfolding missing
-read_missing place t n k l =
-    let zeros : length (replicate {A = ℕ} (place - n) 0) ≡ place - n = length-replicate {A = ℕ} (place - n) 0 in
-    get_or-append_right (replicate (place - n) 0) (drop (n - place) t) (place + k - n) 0 (omega arith)
-    ∙ get_or-drop (n - place) t (place + k - n - length (replicate {A = ℕ} (place - n) 0)) 0
-    ∙ ap (λ i. get_or t i 0) (omega arith)
+read_missing place t n k l = grind (arith, length-replicate, get_or-append_right, get_or-drop)
 
 pub bytes-missing : (place : ℕ) (t : List ℕ) (n : ℕ) → IsBytes t → IsBytes (missing place t n)
 unfolding missing
@@ -72,13 +64,7 @@ bytes-missing place t n h =
     (All-replicate (λ x. x < 256) (place - n) 0 (omega arith)) (All-drop (λ x. x < 256) (n - place) t h)
 
 missing_stands : (b text : List ℕ) (p : ℕ) → AgreesAt b text p → OccursAt (b ++ missing p text (length b)) text p
-missing_stands b text p a = record {
-  fits = omega (arith, length-append b (missing p text (length b)), length-missing p text (length b));
-  reads = λ k l. elim (cases_lt (p + k) (length b)) [
-    | inl m ↦ get_or_append_left b (missing p text (length b)) 0 (p + k) m ∙ a.reads k l m
-    | inr m ↦ get_or-append_right b (missing p text (length b)) (p + k) 0 m ∙ read_missing p text (length b) k m
-  ];
-}
+missing_stands b text p a = grind (arith, length-append, length-missing, get_or_append_left, get_or-append_right, read_missing)
 
 -- bytes after b with which it is H, and reaches to `end` and not past it
 pub record Fills (H : List ℕ → Type 0) (b : List ℕ) (end : ℕ) : Type 0 where
@@ -195,10 +181,7 @@ module _ (b text : List ℕ) (start end first last : ℕ) (none : (q : ℕ) → 
 
   pub first_open_found : (n : ℕ) → first ≤ n → n ≤ last → ((k : ℕ) → first ≤ k → k < n → ¬ AgreesAt b text k)
       → AgreesAt b text n → IsFirstPlace AgreesAt b text start end n
-  first_open_found n low high passed a = record {
-    here = record { stands = a; low = omega arith; high = omega arith };
-    before = λ q lt m. grind (arith, before_first q, passed q, m.stands);
-  }
+  first_open_found n low high passed a = grind (arith, before_first)
 
   pub none_open_found : ((k : ℕ) → first ≤ k → k < last + 1 → ¬ AgreesAt b text k) → (p : ℕ) → ¬ IsWithin AgreesAt b text start end p
   none_open_found passed p m = grind (arith, before_first p, passed p, passed last, agrees_past b text last, m.stands)
@@ -208,10 +191,7 @@ module _ (b text : List ℕ) (start end first last : ℕ) (none : (q : ℕ) → 
 -- the least place stays it under bytes that do not reach past the start
 pub IsFirstOpen-later : (b more text : List ℕ) (start end n p : ℕ) → length (b ++ more) ≤ max (length b) n → n ≤ start
     → IsFirstPlace AgreesAt b text start end p → IsFirstPlace AgreesAt (b ++ more) text start end p
-IsFirstOpen-later b more text start end n p short late f = record {
-  here = record { stands = AgreesAt-later b more text n p short (omega (arith, f.here.low)) f.here.stands; low = f.here.low; high = f.here.high };
-  before = λ q lt m. f.before q lt (record { stands = AgreesAt-front b more text q m.stands; low = m.low; high = m.high });
-}
+IsFirstOpen-later b more text start end n p short late f = grind (arith, AgreesAt-later, AgreesAt-front)
 
 -- put at the least place at which it may stand, a text stands there first
 pub fills_first : (b text : List ℕ) (start end p : ℕ) → IsTrue (are_bytes text) → IsFirstPlace AgreesAt b text start end p

@@ -15,16 +15,7 @@ folder_bytes f is = grind arith
 
 -- a name excludes a folder
 no_folder_at_name : (b : List ℕ) → HasOfficeName OccursAt b → ¬ HasFolder b 30
-no_folder_at_name b name folder =
-    grind (
-      arith,
-      OccursAt-first b (codes "[Content_Types].xml") 30,
-      OccursAt-first b (codes "_rels/.rels") 30,
-      OccursAt-first b (codes "docProps") 30,
-      OccursAt-first b (codes "word/") 30,
-      OccursAt-first b (codes "ppt/") 30,
-      OccursAt-first b (codes "xl/") 30,
-    )
+no_folder_at_name b name folder = grind (arith, OccursAt-first)
 
 -- ---- bytes that do not reach past n
 module _ (b more : List ℕ) (n : ℕ) (short : length (b ++ more) ≤ max (length b) n) where
@@ -235,8 +226,7 @@ decide_known b more f header long d o =
     ]
 
 name_known : (b more : List ℕ) → HasOfficeName OccursAt (b ++ more) → HasOfficeName AgreesAt b
-name_known b more name =
-    grind (arith, grown_agrees b more (codes "[Content_Types].xml") 30, grown_agrees b more (codes "_rels/.rels") 30, grown_agrees b more (codes "docProps") 30)
+name_known b more name = grind (arith, grown_agrees)
 
 pub office_known : (f b : List ℕ) → Reachable (IsOffice f) b → AgreesAt b zip_header 0 × (AgreesAt b f 30 ⊎ (HasOfficeName AgreesAt b × MayDecide f b))
 office_known f b (more, bytes, (p, (zip, inl (folder, e)), o)) =

@@ -1,20 +1,14 @@
 -- A text stands at a place of a buffer: in one that grows it, in a part of it, beside other texts.
-use Rattle.infer_deep.proofs.Common.{◌≡◌, ℕ, zero, suc, ◌+◌, ◌-◌, ◌<◌, ◌≤◌, List, [], ◌∷◌, ◌++◌, length, get_or, take, drop, sym, ap, subst, ◌∙◌, ◌↔◌, arith, add-zero, zero-add, length-append, length-drop, length-take, get_or_append_left, get_or-take, get_or-drop, take_rest, front_fits, at_reads, at_from_reads, OccursAt, IsFirstPlace}
+use Rattle.infer_deep.proofs.Common.{◌≡◌, ℕ, ◌+◌, ◌-◌, ◌<◌, ◌≤◌, List, [], ◌∷◌, ◌++◌, length, get_or, take, drop, sym, ap, subst, ◌∙◌, ◌↔◌, arith, add-zero, zero-add, length-append, length-drop, length-take, get_or_append_left, get_or-take, get_or-drop, take_rest, front_fits, at_reads, at_from_reads, OccursAt, IsFirstPlace}
 
 -- it stands in each buffer that grows the buffer
 pub OccursAt-append : (b more text : List ℕ) (p : ℕ) → OccursAt b text p → OccursAt (b ++ more) text p
-OccursAt-append b more text p o = record {
-  fits = simp length-append (omega arith);
-  reads = λ j l. get_or_append_left b more 0 (p + j) (omega arith) ∙ o.reads j l;
-}
+OccursAt-append b more text p o = grind (arith, length-append, get_or_append_left)
 
 -- and if it ends in the buffer, it stands there
 pub OccursAt-front : (b more text : List ℕ) (p : ℕ)
     → p + length text ≤ length b → OccursAt (b ++ more) text p → OccursAt b text p
-OccursAt-front b more text p f o = record {
-  fits = f;
-  reads = λ j l. sym (get_or_append_left b more 0 (p + j) (omega arith)) ∙ o.reads j l;
-}
+OccursAt-front b more text p f o = grind (arith, get_or_append_left)
 
 -- what stands in b and ends by n stands in c
 abbrev pub Carries : ℕ → List ℕ → List ℕ → Type 0
@@ -26,11 +20,7 @@ OccursAt-first b text p l o = rw add-zero at (o.reads 0 l)
 
 -- and a byte is a text
 pub byte_stands : (b : List ℕ) (x p : ℕ) → p < length b → get_or b p 0 ≡ x → OccursAt b (x ∷ []) p
-byte_stands b x p l is = record { fits = omega arith; reads = go }
-  where
-    go : (k : ℕ) → k < 1 → get_or b (p + k) 0 ≡ get_or (x ∷ []) k 0
-    go zero h = rw add-zero is
-    go (suc k) h = absurd (omega arith)
+byte_stands b x p l is = grind (arith, add-zero)
 
 -- two texts at one place have the same bytes
 pub OccursAt-agree : (b v w : List ℕ) (p i : ℕ)
@@ -51,12 +41,7 @@ part_reads b s e i l = get_or-take (e - s) (drop s b) i 0 (omega arith) ∙ get_
 -- a text stands at a place of a part exactly if it stands there in the buffer and ends in the part
 pub OccursAt-part : (b text : List ℕ) (s e k : ℕ) → s ≤ e → e ≤ length b
     → OccursAt (take (e - s) (drop s b)) text k ↔ (OccursAt b text (s + k) × (s + k + length text ≤ e))
-OccursAt-part b text s e k l h =
-    let n : length (take (e - s) (drop s b)) ≡ e - s = simp (length-take, length-drop) (omega arith) in (
-      λ o.
-          (record { fits = omega arith; reads = λ j lt. let read = part_reads b s e (k + j) (omega arith) in let is = o.reads j lt in grind arith }, omega arith),
-      λ (o, ends). record { fits = omega arith; reads = λ j lt. let read = part_reads b s e (k + j) (omega arith) in let is = o.reads j lt in grind arith },
-    )
+OccursAt-part b text s e k l h = grind (arith, length-take, length-drop, part_reads)
 
 -- one place at most has the property
 abbrev pub IsUnique : (ℕ → Type 0) → Type 0
@@ -75,10 +60,7 @@ module _ (P : ℕ → Type 0) (one : IsUnique P) (b : List ℕ) (at : ℕ → �
 
 -- a least place is one place, and stays it in a buffer that grows
 pub IsFirstPlace-same : (At : List ℕ → List ℕ → ℕ → Type 0) (b text : List ℕ) (start end : ℕ) → IsUnique (IsFirstPlace At b text start end)
-IsFirstPlace-same At b text start end p q f g =
-    let not_before = g.before p in
-    let not_after = f.before q in
-    grind (arith, f.here, g.here)
+IsFirstPlace-same At b text start end p q f g = grind arith
 
 pub IsFirstPlace-append : (b more text : List ℕ) (start end p : ℕ)
     → IsFirstPlace OccursAt b text start end p → IsFirstPlace OccursAt (b ++ more) text start end p

@@ -36,10 +36,7 @@ module _ (b text : List ℕ) (start later end : ℕ) (le : start ≤ later) (non
 
 -- a pair that stands in a part of a buffer from s to e
 pair_in_part : (b : List ℕ) (x y s e p : ℕ) → s ≤ p → p + 1 < e → IsPairAt x y b p → IsPairAt x y (take (e - s) (drop s b)) (p - s)
-pair_in_part b x y s e p low high (first, second) =
-    let back = part_reads b s e (p - s) (omega arith) in
-    let next = part_reads b s e (p - s + 1) (omega arith) in
-    grind arith
+pair_in_part b x y s e p low high h8 = grind (arith, part_reads)
 
 -- one more block of 128 places that lack the pair, which may overlap those before
 pub lacks_more : (b : List ℕ) (x y n at m : ℕ) → at ≤ n → m ≤ at + 128
@@ -72,8 +69,7 @@ module _ (b text : List ℕ) (rare start end m n : ℕ) (two : rare + 2 ≤ leng
 
   pub first_past : (r : Option ℕ) → ¬ OccursAt b text (start + n)
       → IsFirstWithin OccursAt b text (start + n + 1) end r → IsFirstWithin OccursAt b text start end r
-  first_past r absent h =
-      first_later r (IsFirstWithin-skip b text (start + n) (start + n + 1) end (omega arith) (λ q lt w. grind (arith, w.stands)) r h)
+  first_past r absent h = grind (arith, first_later, IsFirstWithin-skip)
 
 -- what a search of the rest says
 module _ (b text : List ℕ) (start end m : ℕ) (is : m ≡ min end (length b)) (l : start ≤ m) where

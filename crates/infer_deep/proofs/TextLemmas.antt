@@ -1,5 +1,5 @@
 -- White space, marks and tags: what a buffer begins with, and what is markup after them.
-use Rattle.infer_deep.proofs.Common.{◌≡◌, ◌↔◌, ℕ, zero, suc, ◌+◌, ◌-◌, ◌<◌, ◌≤◌, ◌⊎◌, Bool, true, false, ◌&&◌, not, List, [], ◌∷◌, ◌++◌, length, get_or, take, drop, map, refl, sym, ap, subst, ◌∙◌, inl, inr, arith, eqb, ltb, length-append, min, IsTrue, take-append-drop, take_at, take_rest, get_or_append_left, get_or-take, get_or_at, take-append-le, drop_more, length-map, length-take-le, append_assoc, append-nil, map-append, take-map, take_all, All-append, All-drop, cases_lt, AllPass-from_list_all, eq-eqb, nat_tests, Any, codes, filter, OccursAt, AllBelow, are_bytes, AgreesAt, Lasts, AreApart, ComesWith, IsEarly, Reachable, Behind, SkipsTo, LeadsTo, NoneBegins, BeginsWith, IsWhite, IsSpace, IsMark, IsSameInAnyCase, BeginsInAnyCase, BeginsMarked, BeginsWhite, BeginsWithTag, IsHtml, IsXml, tags, tags_with}
+use Rattle.infer_deep.proofs.Common.{◌≡◌, ◌↔◌, ℕ, suc, ◌+◌, ◌-◌, ◌<◌, ◌≤◌, ◌⊎◌, Bool, true, false, ◌&&◌, not, List, [], ◌∷◌, ◌++◌, length, get_or, take, drop, map, refl, sym, ap, subst, ◌∙◌, inl, inr, arith, eqb, ltb, length-append, min, IsTrue, take-append-drop, take_at, take_rest, get_or_append_left, get_or-take, get_or_at, take-append-le, drop_more, length-map, length-take-le, append_assoc, append-nil, map-append, take-map, take_all, All-append, All-drop, cases_lt, AllPass-from_list_all, eq-eqb, nat_tests, Any, codes, filter, OccursAt, AllBelow, are_bytes, AgreesAt, Lasts, AreApart, ComesWith, IsEarly, Reachable, Behind, SkipsTo, LeadsTo, NoneBegins, BeginsWith, IsWhite, IsSpace, IsMark, IsSameInAnyCase, BeginsInAnyCase, BeginsMarked, BeginsWhite, BeginsWithTag, IsHtml, IsXml, tags, tags_with}
 use Rattle.std.proofs.Math.ListN.{get_or-map}
 use Rattle.std.specs.Char.{to_ascii_lowercase}
 use Rattle.infer_deep.proofs.OpenLemmas.{Reachable-here, bytes_from_test, fills_text, grown_agrees, stands_where_whole}
@@ -65,10 +65,7 @@ begins_in_any_case b text h =
     let n = length text in record { word = take n b; rest = drop n b; same = h; whole = sym (take-append-drop n b) }
 
 pub front_in_any_case : (b text : List ℕ) → BeginsInAnyCase text b → IsSameInAnyCase (take (length text) b) text
-front_in_any_case b text h =
-    let front : take (length text) b ≡ h.word
-    = ap (take (length text)) h.whole ∙ take_at h.word h.rest (length text) (same_length h.word text h.same) in
-    ap (map to_ascii_lowercase) front ∙ h.same
+front_in_any_case b text h = grind (arith, nat_tests, take_at, same_length)
 
 BeginsInAnyCase-byte : (b text : List ℕ) (i : ℕ)
     → i < length text → BeginsInAnyCase text b → to_ascii_lowercase (get_or b i 0) ≡ to_ascii_lowercase (get_or text i 0)
@@ -81,8 +78,7 @@ BeginsInAnyCase-lasts text b more h =
     record { word = h.word; rest = h.rest ++ more; same = h.same; whole = ap (λ u. u ++ more) h.whole ∙ append_assoc h.word h.rest more }
 
 BeginsInAnyCase-front : (b more text : List ℕ) → length text ≤ length b → BeginsInAnyCase text (b ++ more) → BeginsInAnyCase text b
-BeginsInAnyCase-front b more text l h =
-    begins_in_any_case b text (subst (λ u. IsSameInAnyCase u text) (take-append-le (length text) b more l) (front_in_any_case (b ++ more) text h))
+BeginsInAnyCase-front b more text l h = grind (arith, nat_tests, begins_in_any_case, take-append-le, front_in_any_case)
 
 -- a byte that is "<" in lower case is "<"
 BeginsInAnyCase-open : (b text : List ℕ) → 0 < length text → get_or text 0 0 ≡ 0x3C → BeginsInAnyCase text b → get_or b 0 0 ≡ 0x3C
@@ -120,9 +116,7 @@ opens tag = ltb (length tag) 1000 && (ltb 1 (length tag) && (eqb (get_or tag 0 0
 
 tag_opens : (k : ℕ) (tag : List ℕ) → k < length tags → get_or tags k tag ≡ tag
     → (length tag < 1000) × (1 < length tag) × (get_or tag 0 0 ≡ 0x3C) × (to_ascii_lowercase (get_or tag 1 0) ≡ 0x3F → ⊥)
-tag_opens k tag l e =
-    let test : opens tag ≡ true = subst (λ t. opens t ≡ true) e (AllPass-from_list_all opens tags refl k tag l) in
-    (grind (arith, nat_tests), grind (arith, nat_tests), grind (arith, nat_tests), λ is. grind (arith, nat_tests))
+tag_opens k tag l e = grind (arith, nat_tests, AllPass-from_list_all)
 
 pub HasTag-open : (b : List ℕ) → HasTag b → get_or b 0 0 ≡ 0x3C
 HasTag-open b (k, tag, l, e, h) =
@@ -135,8 +129,7 @@ module _ {X : Type 0} (P : X → Type 0) (x : X) (xs : List X) where
   Any-cons (inr (k, y, l, e, p)) = (suc k, y, omega (arith, l), e, p)
 
   cons-Any : Any P (x ∷ xs) → P x ⊎ Any P xs
-  cons-Any (zero, y, l, e, p) = inl (subst P (sym e) p)
-  cons-Any (suc k, y, l, e, p) = inr (k, y, omega (arith, l), e, p)
+  cons-Any h0 = grind (arith, nat_tests)
 
 -- and if it passes a test, one of those that pass
 module _ {X : Type 0} (P : X → Type 0) (test : X → Bool) where
@@ -199,11 +192,7 @@ HasTag-lasts b more (k, tag, l, e, h) =
 
 pub tag_end : (b more tag : List ℕ) → BeginsWithTag tag (b ++ more) → length tag < length b
     → (get_or b (length tag) 0 ≡ 0x20) ⊎ (get_or b (length tag) 0 ≡ 0x3E)
-tag_end b more tag h l =
-    let end : get_or b (length tag) 0 ≡ h.end
-    = sym (get_or_append_left b more 0 (length tag) l) ∙ ap (λ u. get_or u (length tag) 0) h.whole
-    ∙ get_or_at h.word h.end h.rest 0 (length tag) (same_length h.word tag h.same) in
-    subst (λ c. (c ≡ 0x20) ⊎ (c ≡ 0x3E)) (sym end) h.closes
+tag_end b more tag h l = grind (arith, nat_tests, get_or_append_left, get_or_at, same_length)
 
 HasTag-early : IsEarly HasTag
 HasTag-early b more long (k, tag, l, e, h) =
@@ -313,9 +302,7 @@ module _ (b text : List ℕ) (n : ℕ) (is : n ≡ min (length b) (length text))
       ap (map to_ascii_lowercase) front ∙ same_front h.word text n h.same
 
   whole_from_known : length text < length b → IsSameInAnyCase (take n b) (take n text) → BeginsInAnyCase text b
-  whole_from_known l h =
-      let long : n ≡ length text = omega arith in
-      begins_in_any_case b text (subst (λ k. IsSameInAnyCase (take k b) text) long (h ∙ ap (map to_ascii_lowercase) (take_all n text (omega arith))))
+  whole_from_known l h = grind (arith, nat_tests, begins_in_any_case, take_all)
 
   pub reached_from_known : IsTrue (are_bytes text) → IsSameInAnyCase (take n b) (take n text) → Reachable (BeginsInAnyCase text) b
   reached_from_known bytes h =
@@ -366,10 +353,7 @@ pub tag_closed : (b tag : List ℕ) → Reachable (BeginsWithTag tag) b → leng
 tag_closed b tag (more, bytes, h) = tag_end b more tag h
 
 pub has_tag_reached : (b : List ℕ) → Any (λ tag. Reachable (BeginsWithTag tag) b) tags ↔ Reachable HasTag b
-has_tag_reached b = (
-  λ (k, tag, l, e, (more, bytes, h)). (more, bytes, (k, tag, l, e, h)),
-  λ (more, bytes, (k, tag, l, e, h)). (k, tag, l, e, (more, bytes, h)),
-)
+has_tag_reached b = grind (arith, nat_tests)
 
 pub reached_open : (b : List ℕ) → 0 < length b → Reachable HasTag b → get_or b 0 0 ≡ 0x3C
 reached_open b some (more, bytes, h) = sym (get_or_append_left b more 0 0 some) ∙ HasTag-open (b ++ more) h
@@ -450,16 +434,4 @@ agrees_with_mark b mark (more, bytes, e) = grown_agrees b more mark 0 (OccursAt-
 
 pub reaches_mark : (b : List ℕ) → NoneBegins IsMark b
     → (AgreesAt b (0xEF ∷ 0xBB ∷ 0xBF ∷ []) 0 ⊎ AgreesAt b (0xFE ∷ 0xFF ∷ []) 0 ⊎ AgreesAt b (0xFF ∷ 0xFE ∷ []) 0) ↔ Reachable IsMark b
-reaches_mark b none = (
-  λ h. grind (
-    arith,
-    mark_reached b (0xEF ∷ 0xBB ∷ 0xBF ∷ []) refl (inl refl) none,
-    mark_reached b (0xFE ∷ 0xFF ∷ []) refl (inr (inl refl)) none,
-    mark_reached b (0xFF ∷ 0xFE ∷ []) refl (inr (inr refl)) none,
-  ),
-  λ (more, bytes, is). elim is [
-    | inl e ↦ inl (agrees_with_mark b _ (more, bytes, e))
-    | inr (inl e) ↦ inr (inl (agrees_with_mark b _ (more, bytes, e)))
-    | inr (inr e) ↦ inr (inr (agrees_with_mark b _ (more, bytes, e)))
-  ],
-)
+reaches_mark b none = grind (arith, nat_tests, mark_reached, agrees_with_mark)
