@@ -132,10 +132,6 @@ module _ (text : List ℕ) (named : Bor (List ℕ)) (e : named.now ≡ text) (ro
   pub slot_asked_all : filter (is_asked text b) rows ≡ filter (has_extension text) (candidates_of b)
   slot_asked_all = asked_alike (λ i. true)
 
-  pub slot_row : (k d : ℕ) → k < length rows → get_or rows k d < ROW_COUNT
-  unfolding HasWanted
-  slot_row = below_count has.0 rows has.1
-
   pub slot_room : (k : ℕ) → k < length rows → length (filter (is_asked text b) (take k rows)) < ROW_COUNT
   unfolding HasWanted
   slot_room = room_left has.0 rows has.1 (is_asked text b)

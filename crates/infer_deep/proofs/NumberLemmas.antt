@@ -19,13 +19,6 @@ AreBytes b = (i : ℕ) → get_or b i 0 < 256
 
 -- two numbers are the same just if their bytes are
 module _ (b c : List ℕ) (p q : ℕ) (b_bytes : AreBytes b) (c_bytes : AreBytes c) where
-  two : get_or b p 0 ≡ get_or c q 0 → get_or b (p + 1) 0 ≡ get_or c (q + 1) 0 → (k : ℕ) → k < 2 → get_or b (p + k) 0 ≡ get_or c (q + k) 0
-  two h i h2 m = grind (arith, add-zero)
-
-  four : get_or b p 0 ≡ get_or c q 0 → get_or b (p + 1) 0 ≡ get_or c (q + 1) 0 → get_or b (p + 2) 0 ≡ get_or c (q + 2) 0
-      → get_or b (p + 3) 0 ≡ get_or c (q + 3) 0 → (k : ℕ) → k < 4 → get_or b (p + k) 0 ≡ get_or c (q + k) 0
-  four h i j l h4 m = grind (arith, add-zero)
-
   pub le16-same : (le16 b p ≡ le16 c q) ↔ ((k : ℕ) → k < 2 → get_or b (p + k) 0 ≡ get_or c (q + k) 0)
   unfolding le16
   le16-same = grind (arith, add-zero)

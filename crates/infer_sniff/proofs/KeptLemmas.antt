@@ -13,7 +13,7 @@ front_of_both n m bytes piece fits is =
     ∙ ap (λ u. bytes ++ u) (take_min room piece) ∙ sym (take-append-add bytes piece room) ∙ ap (λ k. take k (bytes ++ piece)) whole
 
 -- the front of a front and what follows is that of the whole
-front_again : (n : ℕ) (bytes piece : List ℕ) → take n (take n bytes ++ piece) ≡ take n (bytes ++ piece)
+pub front_again : (n : ℕ) (bytes piece : List ℕ) → take n (take n bytes ++ piece) ≡ take n (bytes ++ piece)
 front_again n bytes piece = elim (cases_lt n (length bytes)) [
   | inl l ↦
       let long = length-take-le n bytes (omega arith) in

@@ -22,14 +22,6 @@ pub record Moves (Said : Saying) : Type 0 where
   pub err_keeps : (o : Outcome) (old new err_old err_new err_later : Option (List ℕ)) → Keeps err_new err_later → Said o old new err_old err_new → Said o old new err_old err_later
   pub err_forgets : (o : Outcome) (old new err_old err_new err_later : Option (List ℕ)) → Said o old new err_old err_new → Said o old new None err_later
 
-pub refusal_moves : (told_line : List ℕ) → Moves (Refuses told_line)
-refusal_moves told_line = record {
-  keeps = λ o old new later eo en k (is, lines, faults). (is, kept-keeps old new later k lines, faults);
-  forgets = λ o old new later eo en (is, lines, faults). (is, tt, faults);
-  err_keeps = λ o old new eo en later k (is, lines, faults). (is, lines, appended-keeps eo en later told_line k faults);
-  err_forgets = λ o old new eo en later (is, lines, faults). (is, lines, tt);
-}
-
 pub sample_moves : (i : ℕ) → Moves (WritesSample i)
 sample_moves i = record {
   keeps = λ o old new later eo en k (is, lines, faults). (is, λ d. appended-keeps old new later _ k (lines d), faults);

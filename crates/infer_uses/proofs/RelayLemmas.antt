@@ -2,19 +2,11 @@
 use Rattle.infer.proofs.Common.{◌≡◌, ◌≢◌, ◌⊎◌, inl, inr, ◌∙◌, ◌<◌, ◌≤◌, ℕ, List, [], ◌++◌, Option, length, take, ap, sym, subst, arith, length-take, cases_lt, append-nil, length-take-le, take-append-le, take_all, Consumes-trans, Appends, Consumes, IsAtEnd, head}
 use Rattle.std.proofs.KnownBytes.{Appends-nil, Appends-trans, Consumes-nil}
 use Rattle.infer.specs.declared.table.file_type.FileType.{FileType}
+use Rattle.infer_sniff.proofs.KeptLemmas.{front_again}
 use Rattle.infer_sniff.specs.Verdicts.{IsFinal, IsSettled, IsTypeOf, IsVerdict, found_of}
 use Rattle.infer_sniff.specs.declared.verdict.Verdict.{Verdict}
 use Rattle.infer_sniff.specs.declared.verdict.Verdict.TheVariants.{SoFar, Final}
 use Rattle.infer_uses.specs.Relays.{IsLabelled, IsPassed}
-
--- the front of a front and what follows is that of the whole
-front_again : (n : ℕ) (bytes piece : List ℕ) → take n (take n bytes ++ piece) ≡ take n (bytes ++ piece)
-front_again n bytes piece = elim (cases_lt n (length bytes)) [
-  | inl l ↦
-      let long = length-take-le n bytes (omega arith) in
-      take-append-le n (take n bytes) piece (omega arith) ∙ take_all n (take n bytes) (omega arith) ∙ sym (take-append-le n bytes piece (omega arith))
-  | inr l ↦ ap (λ u. take n (u ++ piece)) (take_all n bytes l)
-]
 
 length-head : (bytes : List ℕ) → length (head 8192 bytes) ≤ length bytes
 length-head bytes = omega (arith, length-take 8192 bytes)
