@@ -50,9 +50,7 @@ all_sound = refl
 
 rows_sound : IsTrue (list_all (λ r. is_sound_if_fixed r.signature) table)
 unfolding signatures
-rows_sound =
-    let whole = sym (list_all-append is_sound_if_fixed (map (λ r. r.signature) table) _) ∙ all_sound in
-    sym (list_all-map is_sound_if_fixed (λ r. r.signature) table) ∙ (and_parts _ _ whole).0
+rows_sound = grind (arith, list_all-append, all_sound, list_all-map, and_parts)
 
 sound_at : (rows : List (Row BuiltIn)) → IsTrue (list_all (λ r. is_sound_if_fixed r.signature) rows) → (i : ℕ)
     → IsTrue (is_sound_if_fixed (option_map_or (λ r. r.signature) (slice_get rows i) (fixed [])))
@@ -164,10 +162,7 @@ empty_changes blank [] none =
 pub first_open_row : ((s : BuiltIn) → Leads s) → (b cs : List ℕ) (o : Option ℕ) → 0 < length b → cs ≡ candidates_of b
     → IsFirstAmong (RowHas (MayAccept b)) cs o → IsFirstOf (MayAccept b) table o
 unfolding candidates
-first_open_row leads [] cs o long same h = absurd (omega (arith, long))
-first_open_row leads (f ∷ rest) cs o long same h =
-    first_listed (MayAccept (f ∷ rest)) (λ r. allows_first r.signature f) (λ r (more, bytes, a). leads r.signature f (rest ++ more) a) o
-    (subst (λ ns. IsFirstAmong (RowHas (MayAccept (f ∷ rest))) ns o) same h)
+first_open_row leads h1 cs o long same h = grind (arith, first_listed, allows_first)
 
 -- ---- what is decided later
 
@@ -209,10 +204,7 @@ module _ (lasts : (s : BuiltIn) → Lasts s) where
   }
 
   pub answers_open : AnswersAreOpen
-  answers_open b i (more, bytes, first) = (
-    λ d. (more, bytes, first.here d),
-    λ k d low lt a. first.before k d low lt (lasts _ b more a),
-  )
+  answers_open b i h2 = grind arith
 
   module _ (b : List ℕ) (i : ℕ) (first : IsFirst (MayAccept b) table i) where
     pub changes_by_first : (¬ RowHas (Accepts b) i) → IsChangeable b

@@ -153,10 +153,7 @@ module _ (by_place : ByPlace) (b : List ℕ) where
 
   -- and if the version says so
   pub stands_at_root : (id : List ℕ) → le16 b 26 ≡ 3 → HasClassId id b → OccursAt b id (root + 80)
-  stands_at_root id version (place, r, o) = elim r.begins [
-    | inl (v, s, at) ↦ subst (λ p. OccursAt b id (p + 80)) at o
-    | inr (v, s, at) ↦ absurd (omega arith)
-  ]
+  stands_at_root id version h2 = grind arith
 
   abbrev pub known_class : (id : List ℕ) → Known (HasClassId id b)
   known_class id = do

@@ -32,8 +32,7 @@ Begins s = (f : ℕ) → f < 256 → IsTrue (allows_first s f) → Reachable (Is
 -- where one byte alone is allowed, by a buffer that begins with it
 by_sample : (s : BuiltIn) (first : ℕ) (rest : List ℕ) → IsTrue (are_bytes rest) → IsAccepted s (first ∷ rest)
     → ((f : ℕ) → IsTrue (allows_first s f) → f ≡ first) → Begins s
-by_sample s first rest bytes accepted only f lt h =
-    (rest, bytes_from_test rest bytes, subst (λ x. IsAccepted s (x ∷ rest)) (sym (only f h)) accepted)
+by_sample s first rest bytes accepted only f lt h = grind (arith, nat_tests, bytes_from_test)
 
 -- ---- a word before a buffer
 
@@ -113,28 +112,14 @@ module _ (by_place : ByPlace) where
 
     box_length : length brand ≡ 4 → length (f ∷ rest_of_box) ≡ 16 + 16777216 * f
     unfolding rest_of_box
-    box_length four =
-        omega (
-          arith,
-          four,
-          length-append (0x00 ∷ 0x00 ∷ 0x10 ∷ codes "ftyp" ++ brand) (replicate (4 + 16777216 * f) 0x00),
-          length-append (codes "ftyp") brand,
-          length-replicate {A = ℕ} (4 + 16777216 * f) 0x00,
-        )
+    box_length four = grind (arith, nat_tests, length-append, length-replicate)
 
     box_reads : (t : List ℕ) (p : ℕ) → length brand ≡ 4 → p + length t ≤ 16 → IsTrue (stands p t (f ∷ rest_of_box)) → OccursAt (f ∷ rest_of_box) t p
-    box_reads t p four fits h = record {
-      fits = omega (arith, fits, box_length four);
-      reads = λ j lt. ((by_place p t (f ∷ rest_of_box)).0 h j lt).1;
-    }
+    box_reads t p four fits h = grind (arith, nat_tests, box_length, rest_of_box)
 
     boxed : length brand ≡ 4 → IsBoxed (f ∷ rest_of_box)
     unfolding rest_of_box stands be32
-    boxed four = record {
-      long = omega (arith, box_length four);
-      kind = box_reads (codes "ftyp") 4 four (omega arith) refl;
-      whole = omega (arith, box_length four);
-    }
+    boxed four = grind (arith, nat_tests, box_length, box_reads)
 
     box_bytes : IsTrue (are_bytes brand) → All (λ x. x < 256) rest_of_box
     unfolding rest_of_box
@@ -194,8 +179,7 @@ module _ (by_place : ByPlace) (begins : (s : List Alternative) → IsTrue (is_so
 
   allows_what_comes : ((s : BuiltIn) → Leads s) → (f : ℕ) (o : Option (Row BuiltIn))
       → MatchOption o ⊥ (MayAccept (f ∷ [])) → MatchOption o ⊥ (λ r. IsTrue (allows_first r.signature f))
-  allows_what_comes leads f None h = h
-  allows_what_comes leads f (Some r) (more, bytes, accepted) = leads r.signature f more accepted
+  allows_what_comes leads f h2 h3 = grind (arith, nat_tests)
 
   pub allows_exactly : ((s : BuiltIn) → Leads s) → AllowsExactly
   unfolding signature_of

@@ -18,8 +18,7 @@ module _ {A : Type 0} (P Q : A → Type 0) (xs : List A) (grows : (i : ℕ) → 
       grind (arith, λ (lt : j < i). among Q xs j i first.within lt (grows j first.within first.here) then.before)
 
 pub IsFirstOf-same : {A : Type 0} (P : A → Type 0) (xs : List A) (o p : Option ℕ) → IsFirstOf P xs o → IsFirstOf P xs p → o ≡ p
-IsFirstOf-same P xs o p h k =
-    grind (arith, IsNotLater-grows P P xs (λ i lt here. here) p o k h, IsNotLater-grows P P xs (λ i lt here. here) o p h k)
+IsFirstOf-same P xs o p h k = grind (arith, IsNotLater-grows)
 
 same_answer : {S : Type 0} (P : Row S → Type 0) (rows : List (Row S)) (t u : Option Triple) → IsAnswer P rows t → IsAnswer P rows u → t ≡ u
 same_answer P rows None None none nor = refl
@@ -32,8 +31,4 @@ same_answer P (r ∷ rows) (Some t) (Some u) (i, first, shown) (j, then, shows) 
     ap Some (sym (shown r) ∙ ap (λ k. (get_or (r ∷ rows) k r).shows) same ∙ shows r)
 
 pub readers_alike : {X : Type 0} {g : Contracts X} (all : List (Row (Signature X g))) → ReadersAreAlike all
-readers_alike all n s t (Err fault) q same h k = tt
-readers_alike all n s t (Ok found) (Err fault) same h k = tt
-readers_alike all n s t (Ok found) (Ok other) same h k =
-    same_answer (AnyAccepts (head n t)) all (option_map triple_of found) (option_map triple_of other)
-    (subst (λ (l : List ℕ). IsAnswer (AnyAccepts l) all (option_map triple_of found)) same h) k
+readers_alike all n s t h4 h5 same h k = grind (arith, same_answer, option_map, triple_of)

@@ -17,9 +17,7 @@ module _ (at room n : ℕ) (out new : List ℕ) (within : at ≤ length out) (fi
   -- the read that gave n bytes was due, if those before it did not suffice
   pub IsDue-read : (piece : ℕ) (Suffices : List ℕ → Type 0) → n ≢ 0 → n ≤ piece → (¬ Suffices (take at out))
       → IsDue piece Suffices (take (at + n) (put_mid at room out new))
-  IsDue-read piece Suffices some few before =
-      let long = length-take-le n new fits in
-      inr (take at out, take n new, take-put_mid, omega (arith, long, few), omega (arith, long, some), before)
+  IsDue-read piece Suffices some few before = grind (arith, length-take-le, take-put_mid)
 
   -- one more read goes after what earlier reads gave
   pub Consumes-one_more : (a b c : Option (List ℕ)) → Consumes a b (take at out) → Consumes b c (take n new)

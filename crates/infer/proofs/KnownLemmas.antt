@@ -74,9 +74,7 @@ module _ {P Q : Type 0} where
 -- a claim of each of the first n elements
 module _ {X : Type 0} {P : X → Type 0} (k : (x : X) → Known (P x)) (xs : List X) (n : ℕ) (within : n ≤ length xs) where
   pub each_proved : IsTrue (list_all (λ x. is_proved (k x)) (take n xs)) → AllWithin P xs 0 n
-  each_proved e i d low lt =
-      let long : i < length (take n xs) = omega (arith, length-take-le n xs within) in
-      subst P (get_or-take n xs i d lt) (proof_of (k (get_or (take n xs) i d)) (AllPass-from_list_all (λ x. is_proved (k x)) (take n xs) e i d long))
+  each_proved e i d low lt = grind (arith, length-take-le, get_or-take, proof_of, AllPass-from_list_all)
 
   abbrev pub each_before : Known (AllWithin P xs 0 n)
   each_before = proved_if (list_all (λ x. is_proved (k x)) (take n xs)) each_proved

@@ -22,8 +22,7 @@ module _ (exclude : Deep.Apart) where
   class_id_office id folder b (root, r, _) (_, d, _) = exclude.compound_zip b r.header d.0
 
   pub xls_office : (folder : List ℕ) → AreApart IsXls (IsOffice folder)
-  xls_office folder b (inl h) o = class_id_office _ folder b h o
-  xls_office folder b (inr h) o = class_id_office _ folder b h o
+  xls_office folder b h2 o = grind (arith, class_id_office)
 
   -- the later row's signature, and that of the earlier
   abbrev pub exclusion : (s r : BuiltIn) → Known (AreApart (IsAccepted s) (IsAccepted r))

@@ -30,9 +30,7 @@ module _ (by_place : ByPlace) (t : List ℕ) where
   stands-from b p o = (by_place p t b).1 (λ k l. let f = o.fits in (omega arith, o.reads k l))
 
   pub found : (b : List ℕ) (p : ℕ) → IsTrue (leb (p + length t) (length b) && stands p t b) → OccursAt b t p
-  found b p h =
-      let parts = and_parts (leb (p + length t) (length b)) _ h in
-      record { fits = leb-true _ _ parts.0; reads = λ j lt. ((by_place p t b).0 parts.1 j lt).1 }
+  found b p h = grind (arith, and_parts, leb-true)
 
   abbrev pub occurs : (b : List ℕ) (p : ℕ) → Known (OccursAt b t p)
   occurs b p =

@@ -38,11 +38,7 @@ agree_at f g xs ys e i a b lt =
 pub pieces_hold : (xs : List Pieces) → map buffer_listed xs ≡ map padded table
     → map (λ p. p.len) xs ≡ map (λ r. length (sample_of r.signature)) table → (i : ℕ) → i < ROW_COUNT
     → (p : Pieces) → HoldsAt (HoldsSample (get_or xs i p).len (buffer_listed (get_or xs i p))) table i
-pieces_hold xs buffers lengths i lt p d =
-    let here : i < length table = omega (arith, length-table) in
-    let long = agree_at (λ (q : Pieces). q.len) (λ (r : Row BuiltIn). length (sample_of r.signature)) xs table lengths i p d here in
-    let whole = agree_at buffer_listed padded xs table buffers i p d here in
-    (long, whole ∙ ap (λ n. sample_of (get_or table i d).signature ++ zeros (640 - n)) (sym long))
+pieces_hold xs buffers lengths i lt p d = grind (arith, length-table, agree_at, sample_of, buffer_listed)
 
 -- the front of what is written is the sample
 pub written_first : (i n : ℕ) (buf : List ℕ) → i < ROW_COUNT → HoldsAt (HoldsSample n buf) table i

@@ -68,8 +68,7 @@ taken_named wanted b i = (λ h. grind arith, λ h. grind arith)
 
 module _ (leads : (s : BuiltIn) → Leads s) (blank : NoneHas (Accepts []) table) where
   accepted_may_take : (b : List ℕ) (r : Row BuiltIn) (k : ℕ) → k < length table → HoldsAt (Accepts b) table k → IsTrue (may_take b (get_or table k r))
-  accepted_may_take [] r k l here = absurd (blank k r (omega arith) l (here r))
-  accepted_may_take (f ∷ b) r k l here = leads (get_or table k r).signature f b (here r)
+  accepted_may_take h0 r k l here = grind arith
 
 module _ (leads : (s : BuiltIn) → Leads s) (blank : NoneHas (Accepts []) table) (b : List ℕ) where
   -- a row that accepts the buffer is one of its candidates
@@ -103,25 +102,11 @@ module _ (text : List ℕ) (named : Bor (List ℕ)) (e : named.now ≡ text) (ro
   pub slot_first : ((s : BuiltIn) → Leads s) → NoneHas (Accepts []) table → (o : Option ℕ)
       → IsFirstAmong (RowHas (TakesText text b)) rows o → IsFirstAmong (RowHas (TakesText text b)) (candidates_of b) o
   unfolding HasWanted
-  slot_first leads blank o first =
-      subst (λ cs. IsFirstAmong (RowHas (TakesText text b)) cs o) (candidates_placed b)
-      (first_moved has.0 (may_take b) (RowHas (TakesText text b)) table o
-      (λ k d l taken.
-      let at = (read_has (TakesText text b) table k).0 taken in
-      (has.2 _ ((at.1 d).0 ∙ sym e), accepted_may_take leads blank b d k l (λ x. (at.1 x).1)))
-      (subst (λ cs. IsFirstAmong (RowHas (TakesText text b)) cs o) has.1 first))
+  slot_first leads blank o first = grind (arith, candidates_placed, first_moved, may_take, read_has, accepted_may_take)
 
   asked_alike : (low : ℕ → Bool) → filter (λ i. low i && is_asked text b i) rows ≡ filter (λ i. low i && has_extension text i) (candidates_of b)
   unfolding HasWanted
-  asked_alike low =
-      ap (filter (λ i. low i && is_asked text b i)) has.1
-      ∙ filtered_alike has.0 (may_take b) (λ i. low i && is_asked text b i) (λ i. low i && has_extension text i) table
-      (λ k d l.
-      let listed : is_listed (candidates_of b) k ≡ may_take b (get_or table k d)
-      = ap (λ cs. is_listed cs k) (sym (candidates_placed b)) ∙ listed_row (may_take b) table k d l in
-      alike (has.0 (get_or table k d)) (low k) (has_extension text k) (is_listed (candidates_of b) k) (may_take b (get_or table k d)) listed
-      (λ t. has.2 _ (extension_read text table k d l t ∙ sym e)))
-      ∙ ap (filter (λ i. low i && has_extension text i)) (candidates_placed b)
+  asked_alike low = grind (arith, filtered_alike, may_take, is_listed, candidates_of, candidates_placed, listed_row, extension_read)
 
   -- those asked up to one of the rows, and in the end
   pub slot_asked : (k d : ℕ) → k < length rows
@@ -148,6 +133,4 @@ asked_one_more S text b cs rows k n same l at h =
 
 -- a row that has both properties has each
 pub takes_both : (P Q : Row BuiltIn → Type 0) (i : ℕ) → RowHas (λ r. P r × Q r) i → RowHas P i × RowHas Q i
-takes_both P Q i h =
-    let at = (read_has (λ r. P r × Q r) table i).0 h in
-    ((read_has P table i).1 (at.0, λ d. (at.1 d).0), (read_has Q table i).1 (at.0, λ d. (at.1 d).1))
+takes_both P Q i h = grind (arith, read_has)

@@ -17,12 +17,7 @@ module _ (b : List ℕ) (start : ℕ) (is : start ≡ le32 b 18 + 49) where
   third_from_search second found fits None none = λ p t.
       let same = IsFirstPlace-same OccursAt b zip_header _ _ t.second second (subst (λ (s : ℕ). IsHeaderFrom OccursAt b s t.second) (sym is) t.second_found) found in
       none p (subst (λ (s : ℕ). IsWithin OccursAt b zip_header (s + 30) (s + 30 + 6000) p) same t.third_found.here)
-  third_from_search second found fits (Some p) there = record {
-    second = second;
-    start_fits = omega arith;
-    second_found = subst (λ (s : ℕ). IsHeaderFrom OccursAt b s second) is found;
-    third_found = there;
-  }
+  third_from_search second found fits (Some p) there = grind arith
 
 -- if no header is the third, none decides
 pub no_third : (b : List ℕ) (r : Option ℕ) → r ≡ None → ((p : ℕ) → ¬ IsThirdHeader OccursAt b p) → FindsPlace (IsDecidingHeader b) r

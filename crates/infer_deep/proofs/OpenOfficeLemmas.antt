@@ -185,8 +185,7 @@ open_header b more s q h = first_open b zip_header s (s + 6000) q
     (record { stands = grown_agrees b more zip_header q h.here.stands; low = h.here.low; high = h.here.high })
 
 behind_known : (b more f : List ℕ) (third header : ℕ) → DecidesBehind (b ++ more) third header → OccursAt (b ++ more) f (header + 30) → MayDecideBehind f b third
-behind_known b more f third header (inl h) o =
-    inl (subst (λ (u : ℕ). AgreesAt b f (u + 30)) h.1 (grown_agrees b more f (header + 30) o))
+behind_known b more f third header (inl h) o = grind (arith, grown_agrees)
 behind_known b more f third header (inr (free, h)) o =
     let (fourth, first) = open_header b more (third + 56) header h in
     let agrees : AgreesAt b f (fourth + 30) = elim (cases_lt (length b) (fourth + 4)) [
@@ -229,8 +228,7 @@ name_known : (b more : List ℕ) → HasOfficeName OccursAt (b ++ more) → HasO
 name_known b more name = grind (arith, grown_agrees)
 
 pub office_known : (f b : List ℕ) → Reachable (IsOffice f) b → AgreesAt b zip_header 0 × (AgreesAt b f 30 ⊎ (HasOfficeName AgreesAt b × MayDecide f b))
-office_known f b (more, bytes, (p, (zip, inl (folder, e)), o)) =
-    (grown_agrees b more zip_header 0 zip, inl (subst (AgreesAt b f) e (grown_agrees b more f p o)))
+office_known f b (more, bytes, (p, (zip, inl (folder, e)), o)) = grind (arith, grown_agrees, zip_header)
 office_known f b (more, bytes, (p, (zip, inr (free, name, (header, d, e))), o)) = (
   grown_agrees b more zip_header 0 zip,
   elim (cases_lt 30 (length b)) [

@@ -13,12 +13,7 @@ use Rattle.infer_sig.specs.Signature.{Alternative, at_least, Bytes, any_of, betw
 -- a text agrees with a buffer just if the buffer's bytes agree with it
 agrees_by_place : (place : ℕ) (t buf : List ℕ) → IsTrue (agrees place t buf) ↔ AgreesAt buf t place
 unfolding agrees
-agrees_by_place place t buf =
-    let by_place = stands_by_place place (take (length buf - place) t) buf in
-    let room = length-take {A = ℕ} (length buf - place) t in (
-      λ h. record { reads = λ k l m. (by_place.0 h k (omega arith)).1 ∙ get_or-take (length buf - place) t k 0 (omega arith) },
-      λ a. by_place.1 (λ k l. (omega arith, a.reads k (omega arith) (omega arith) ∙ sym (get_or-take (length buf - place) t k 0 (omega arith)))),
-    )
+agrees_by_place place t buf = grind (arith, nat_tests, stands_by_place, length-take, get_or-take)
 
 -- ---- a front of a buffer that is accepted
 
@@ -29,9 +24,7 @@ module _ (buf more : List ℕ) where
       (agrees_by_place place t buf).1 (AgreesAt-front buf more t place (record { reads = λ k l m. (by_place k l).1 }))
 
   part_front : (part : Part) → IsTrue (has_part (buf ++ more) part) → IsTrue (may_have buf part)
-  part_front (text place t) h = agrees_front place t h
-  part_front (any_text place ts) h = list_any_passes _ _ (agrees_front place) ts h
-  part_front (byte place set) h = grind (arith, nat_tests, get_or_append_left buf more 0 place)
+  part_front h0 h = grind (arith, nat_tests, agrees_front, list_any_passes, get_or_append_left)
 
   alternative_front : (a : Alternative) → IsTrue (fits (buf ++ more) a) → IsTrue (may_fit buf a)
   alternative_front (at_least n parts) h = list_all_passes _ _ part_front parts (and_parts (leb n (length (buf ++ more))) _ h).1
@@ -52,13 +45,7 @@ record Filling (buf : List ℕ) (part : Part) : Type 0 where
   pub ends : (n : ℕ) → IsTrue (is_part_within n part) → place_of part + length filling ≤ n
 
 filled_text : (buf : List ℕ) (place : ℕ) (t : List ℕ) → IsTrue (are_bytes t) → IsTrue (agrees place t buf) → Filling buf (text place t)
-filled_text buf place t bytes h = record {
-  filling = t;
-  bytes = bytes;
-  agrees = (agrees_by_place place t buf).0 h;
-  fills = λ more o. (stands_by_place place t (buf ++ more)).1 (λ k l. let fits = o.fits in (omega arith, o.reads k l));
-  ends = λ n within. leb-true (place + length t) n within;
-}
+filled_text buf place t bytes h = grind (arith, nat_tests, agrees_by_place, stands_by_place, leb-true)
 
 filled_any_text : (buf : List ℕ) (place : ℕ) (ts : List (List ℕ)) → IsTrue (list_all are_bytes ts)
     → IsTrue (may_have buf (any_text place ts)) → Filling buf (any_text place ts)
@@ -172,8 +159,7 @@ signature_open s sound buf = (
 
 text_opens : (f : ℕ) (t : List ℕ) → IsTrue (text_lead t f) → IsTrue (agrees 0 t (f ∷ []))
 unfolding agrees stands
-text_opens f [] h = refl
-text_opens f (c ∷ t) h = and_from (eqb c f) _ h refl
+text_opens f h1 h = grind (arith, nat_tests, and_from)
 
 past : (place : ℕ) (t : List ℕ) (f : ℕ) → IsTrue (agrees (suc place) t (f ∷ []))
 past place t f = (agrees_by_place (suc place) t (f ∷ [])).1 (agrees_past (f ∷ []) t (suc place) (omega arith))
@@ -188,8 +174,7 @@ part_opens f (any_text (suc place) (t ∷ ts)) possible h = or_left (agrees (suc
 part_opens f (byte (suc place) set) possible h = or_left (leb 1 (suc place)) _ (le-leb 1 (suc place) (omega arith))
 
 alternative_opens : (f : ℕ) (a : Alternative) → IsTrue (is_alternative_sound a) → IsTrue (alternative_lead a f) → IsTrue (may_fit (f ∷ []) a)
-alternative_opens f (at_least n parts) sound h =
-    list_all_joined is_possible (λ part. part_lead part f) (may_have (f ∷ [])) (part_opens f) parts (and_parts (are_apart parts) _ sound).1 h
+alternative_opens f h1 sound h = grind (arith, nat_tests, list_all_joined, part_opens, and_parts)
 
 pub signature_begins : (s : List Alternative) → IsTrue (is_sound s) → Begins s
 signature_begins s sound f h =

@@ -32,10 +32,7 @@ stands_by_place place t buf = (
 -- it stands there however the buffer goes on
 pub stands_lasts : (place : ℕ) (t buf more : List ℕ)
     → IsTrue (stands place t buf) → IsTrue (stands place t (buf ++ more))
-stands_lasts place t buf more h =
-    (stands_by_place place t (buf ++ more)).1
-    (λ k l. let here = (stands_by_place place t buf).0 h k l in
-    (omega (arith, here.0, length-append buf more), get_or_append_left buf more 0 (place + k) here.0 ∙ here.1))
+stands_lasts place t buf more h = grind (arith, stands_by_place, length-append, get_or_append_left)
 
 -- any front of the buffer that reaches the text's end tells
 pub stands-take : (place n : ℕ) (t buf : List ℕ) → place + length t ≤ n
@@ -49,7 +46,4 @@ stands-take place n t buf within =
 -- a test of whether it stands there is the signature's
 pub stands_from_occurs : (place : ℕ) (t buf : List ℕ) (r : Bool) → place + length t ≤ length buf
     → IsTrue r ↔ OccursAt buf t place → r ≡ stands place t buf
-stands_from_occurs place t buf r fits h =
-    both_ways r (stands place t buf)
-    (λ e. (stands_by_place place t buf).1 (λ k l. (omega arith, (h.0 e).reads k l)))
-    (λ e. h.1 (record { fits = fits; reads = λ k l. ((stands_by_place place t buf).0 e k l).1 }))
+stands_from_occurs place t buf r fits h = grind (arith, stands_by_place)

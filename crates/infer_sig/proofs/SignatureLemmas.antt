@@ -34,23 +34,11 @@ leb-take m n buf within = grind (arith, nat_tests, common_steps)
 
 part_near : (n : ℕ) (buf : List ℕ) (part : Part) → IsTrue (is_part_within n part)
     → has_part (take n buf) part ≡ has_part buf part
-part_near n buf (text place t) h = stands-take place n t buf (leb-true (place + length t) n h)
-part_near n buf (any_text place ts) h =
-    list_any_same _ _ (λ t. leb (place + length t) n)
-    (λ t within. stands-take place n t buf (leb-true (place + length t) n within)) ts h
-part_near n buf (byte place set) h =
-    let within = ltb-true place n h in
-    let same : get_or (take n buf) place 0 ≡ get_or buf place 0 = get_or-take n buf place 0 within in
-    let as_long : ltb place (length (take n buf)) ≡ ltb place (length buf) = leb-take (suc place) n buf (omega arith) in
-    cc
+part_near n buf h2 h = grind (arith, nat_tests, stands-take, leb-true, list_any_same, ltb-true, get_or-take, leb-take)
 
 alternative_near : (n : ℕ) (buf : List ℕ) (a : Alternative) → IsTrue (is_alternative_within n a)
     → fits (take n buf) a ≡ fits buf a
-alternative_near n buf (at_least least parts) h =
-    let both = and_parts (leb least n) _ h in
-    let as_long = leb-take least n buf (leb-true least n both.0) in
-    let same = list_all_same (has_part (take n buf)) (has_part buf) (is_part_within n) (part_near n buf) parts both.1 in
-    cc
+alternative_near n buf h2 h = grind (arith, nat_tests, and_parts, leb-take, leb-true, list_all_same, part_near)
 
 pub signature_near : (n : ℕ) (s : List Alternative) → IsTrue (is_within n s) → DependsOnFront n s
 signature_near n s h buf = list_any_same _ _ (is_alternative_within n) (alternative_near n buf) s h
@@ -59,21 +47,14 @@ signature_near n s h buf = list_any_same _ _ (is_alternative_within n) (alternat
 
 text_leads : (f : ℕ) (rest t : List ℕ) → IsTrue (stands 0 t (f ∷ rest)) → IsTrue (text_lead t f)
 unfolding stands
-text_leads f rest [] h = refl
-text_leads f rest (c ∷ t) h = (and_parts (eqb c f) _ h).0
+text_leads f rest h2 h = grind (arith, nat_tests, and_parts)
 
 part_leads : (f : ℕ) (rest : List ℕ) (part : Part) → IsTrue (has_part (f ∷ rest) part) → IsTrue (part_lead part f)
-part_leads f rest (text zero t) h = text_leads f rest t h
-part_leads f rest (any_text zero ts) h = list_any_passes _ _ (text_leads f rest) ts h
-part_leads f rest (byte zero set) h = (and_parts (ltb 0 (length (f ∷ rest))) _ h).1
-part_leads f rest (text (suc place) t) h = refl
-part_leads f rest (any_text (suc place) ts) h = refl
-part_leads f rest (byte (suc place) set) h = refl
+part_leads f rest h2 h = grind (arith, nat_tests, text_leads, list_any_passes, and_parts)
 
 alternative_leads : (f : ℕ) (rest : List ℕ) (a : Alternative) → IsTrue (fits (f ∷ rest) a)
     → IsTrue (alternative_lead a f)
-alternative_leads f rest (at_least least parts) h =
-    list_all_passes _ _ (part_leads f rest) parts (and_parts (leb least (length (f ∷ rest))) _ h).1
+alternative_leads f rest h2 h = grind (arith, nat_tests, list_all_passes, part_leads, and_parts)
 
 pub signature_leads : (s : List Alternative) → Leads s
 signature_leads s f rest h = list_any_passes _ _ (alternative_leads f rest) s h

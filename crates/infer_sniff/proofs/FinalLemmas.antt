@@ -40,26 +40,15 @@ same_answer buf (Some t) (Some u) (i, first, shown) (j, then, shows) =
 
 -- one buffer has one verdict
 pub alike : (b : List ℕ) (v w : Verdict) → IsVerdict b v → IsVerdict b w → AreAlike v w
-alike b (SoFar x) (SoFar y) h k = ((λ f. f, λ f. f), same_answer b _ _ h.1 k.1)
-alike b (Final x) (Final y) h k = ((λ f. f, λ f. f), same_answer b _ _ h.1 k.1)
-alike b (SoFar x) (Final y) h k = absurd (h.0 k.0)
-alike b (Final x) (SoFar y) h k = absurd (k.0 h.0)
+alike b h1 h2 h k = grind (arith, nat_tests, same_answer)
 
 later : (o p q : Option ℕ) → IsNotLater o p → IsNotLater p q → IsNotLater o q
-later o p None h k = tt
-later None None (Some n) h k = k
-later None (Some j) (Some n) h k = h
-later (Some i) None (Some n) h k = absurd k
-later (Some i) (Some j) (Some n) h k = omega arith
+later h0 h1 h2 h k = grind (arith, nat_tests)
 
 -- a buffer of at least 1024 bytes is settled by the case that holds and has the least bound
 module _ (b : List ℕ) (long : 1024 ≤ length b) (case : Case) (holds : Holds case b) (least : (other : Case) → Holds other b → bound case ≤ bound other) where
   settled_within : (o : Option ℕ) → IsFirstOf (Accepts b) table o → IsNotLater o (Some (bound case)) → IsSettled b
-  settled_within o first h = record {
-    long = long;
-    within = λ p then other held.
-        later p o (Some (bound other)) (same_first b p o then first) (later o (Some (bound case)) (Some (bound other)) h (least other held));
-  }
+  settled_within o first h = grind (arith, nat_tests, same_first)
 
   pub open-from_none : IsFirstOf (Accepts b) table None → ¬ IsSettled b
   open-from_none none settled = settled.within None none case holds
@@ -72,19 +61,7 @@ module _ (b : List ℕ) (long : 1024 ≤ length b) (case : Case) (holds : Holds 
 
 -- the case in which a signature is awaited
 in_case : (s : BuiltIn) (b : List ℕ) → IsAwaited s b → (case : Case) × Holds case b × (bound case ≡ last_awaited s)
-in_case (fixed alternatives) b h = absurd h
-in_case pdf b h = absurd h
-in_case (matroska doc_type) b h = absurd h
-in_case (framed magic) b h = (Frame, h, refl)
-in_case heif b h = (OpenBox, h, refl)
-in_case avif b h = (OpenBox, h, refl)
-in_case (office folder) b h = (Office, h, refl)
-in_case doc b h = (Compound, h, refl)
-in_case xls b h = (Compound, h, refl)
-in_case ppt b h = (Compound, h, refl)
-in_case html b h = (Space, h, refl)
-in_case xml b (inl h) = (Space, h, refl)
-in_case xml b (inr h) = (Mark, h, refl)
+in_case h0 b h2 = grind (arith, nat_tests)
 
 module _ (every : (s : BuiltIn) → Lasts s) (b more : List ℕ) where
   keeps : (i : ℕ) → i < length table → Accepts b (get_or table i some_row) → IsAccepted (signature_of i) (b ++ more)
@@ -152,14 +129,11 @@ module _ (many : length table ≡ ROW_COUNT) (every : (s : BuiltIn) → Lasts s)
 
 pub Final-stays : length table ≡ ROW_COUNT → ((s : BuiltIn) → Lasts s) → NewcomersAreAwaited → Beginnings → (b : List ℕ) (answer : Option FileType)
     → IsVerdict b (Final answer) → StaysFinal b (Final answer)
-Final-stays many every newcomers early b answer (settled, is) more =
-    let stays = answer_stays many every newcomers early b more settled (option_map triple_of answer) is in
-    (stays, (settled_stays many every newcomers early b more settled (option_map triple_of answer) is, stays))
+Final-stays many every newcomers early b answer h6 more = grind (arith, nat_tests, answer_stays, option_map, triple_of, settled_stays)
 
 pub first-stays : length table ≡ ROW_COUNT → ((s : BuiltIn) → Lasts s) → NewcomersAreAwaited → Beginnings → (b : List ℕ) (row : Option ℕ)
     → IsFirstOf (Accepts b) table row → IsSettled b → RowStaysFinal b row
-first-stays many every newcomers early b row first settled more =
-    (first_stays many every newcomers early b more settled row first, settled_by many every newcomers early b more settled row first)
+first-stays many every newcomers early b row first settled more = grind (arith, nat_tests, first_stays, settled_by)
 
 -- what stays final from a beginning on stays final
 pub Final-stays-on : (verdict : Verdict) (b : List ℕ) → StaysFinalFromBeginning verdict b → StaysFinal b verdict

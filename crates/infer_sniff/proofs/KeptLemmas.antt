@@ -14,12 +14,7 @@ front_of_both n m bytes piece fits is =
 
 -- the front of a front and what follows is that of the whole
 pub front_again : (n : ℕ) (bytes piece : List ℕ) → take n (take n bytes ++ piece) ≡ take n (bytes ++ piece)
-front_again n bytes piece = elim (cases_lt n (length bytes)) [
-  | inl l ↦
-      let long = length-take-le n bytes (omega arith) in
-      take-append-le n (take n bytes) piece (omega arith) ∙ take_all n (take n bytes) (omega arith) ∙ sym (take-append-le n bytes piece (omega arith))
-  | inr l ↦ ap (λ u. take n (u ++ piece)) (take_all n bytes l)
-]
+front_again n bytes piece = grind (arith, length-take-le, take-append-le, take_all)
 
 pub front_joined : (n : ℕ) (kept a b : List ℕ) → take n (take n (kept ++ a) ++ b) ≡ take n (kept ++ (a ++ b))
 front_joined n kept a b = front_again n (kept ++ a) b ∙ ap (take n) (append_assoc kept a b)
@@ -37,10 +32,7 @@ joined_more pieces i d lt =
 
 pub front_more : (n i : ℕ) (bytes kept new : List ℕ) (pieces : List (Bor (List ℕ))) (d : Bor (List ℕ)) → i < length pieces
     → kept ≡ take n (bytes ++ joined (take i pieces)) → new ≡ take n (kept ++ (get_or pieces i d).now) → new ≡ take n (bytes ++ joined (take (i + 1) pieces))
-front_more n i bytes kept new pieces d lt before now =
-    now ∙ ap (λ u. take n (u ++ (get_or pieces i d).now)) before
-    ∙ front_joined n bytes (joined (take i pieces)) (get_or pieces i d).now
-    ∙ ap (λ u. take n (bytes ++ u)) (sym (joined_more pieces i d lt))
+front_more n i bytes kept new pieces d lt before now = grind (arith, front_joined, joined_more)
 
 pub front_alone : (n : ℕ) (bytes : List ℕ) → length bytes ≤ n → bytes ≡ take n (bytes ++ [])
 front_alone n bytes few = sym (ap (take n) (append-nil bytes) ∙ take_all n bytes few)
