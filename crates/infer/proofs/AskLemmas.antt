@@ -1,7 +1,7 @@
 -- A walk over the candidates of a buffer: which numbers they are, where it ends, and which it asks.
-use Rattle.std.proofs.Common.{◌≡◌, ◌<◌, ◌≤◌, ◌+◌, ℕ, zero, suc, Bool, true, false, ◌&&◌, List, [], ◌∷◌, ◌++◌, length, get_or, take, sym, subst, ◌∙◌, ap, arith, refl, leb, Option, Some, None, inl, inr, cond, if◌then◌else◌, IsTrue, ◌↔◌, ◌==◌, ◌||◌, eq-eqb}
-use Rattle.std.specs.List.{All, AllPairs, AllWithin, filter, slice_get}
-use Rattle.std.specs.Option.{option_map_or}
+use Rattle.std.proofs.Common.{◌≡◌, ◌<◌, ◌≤◌, ◌+◌, ℕ, zero, suc, Bool, true, false, ◌&&◌, List, [], ◌∷◌, ◌++◌, length, get_or, take, sym, subst, ◌∙◌, ap, arith, refl, leb, Option, Some, None, inl, inr, cond, if◌then◌else◌, IsTrue, ◌↔◌, ◌==◌, ◌||◌, eq-eqb, MatchOption}
+use Rattle.std.specs.List.{All, AllPairs, AllWithin, HoldsAt, filter, slice_get}
+use Rattle.std.specs.Option.{option_copied, option_map_or}
 use Rattle.std.proofs.lemmas.Bool.{false≢true, ne_eqb}
 use Rattle.std.proofs.lemmas.Bool.Decides.{nat_tests}
 use Rattle.std.proofs.lemmas.List.{get_or_default, length-take-le}
@@ -13,9 +13,8 @@ use Rattle.infer.specs.Leads.{allows_first, candidates, candidates_of, places_fr
 use Rattle.infer.specs.Row.{Row}
 use Rattle.infer.specs.Table.{table}
 use Rattle.infer.specs.declared.table.rows.TheConstants.{MOST_CANDIDATES, ROW_COUNT}
-use Rattle.infer.specs.Walks.{IsFirstAmong, asked_rows, count_asked, is_listed, is_wanted, is_not_above}
-use Rattle.infer.specs.declared.ask.question.Wanted.{Wanted}
-use Rattle.infer.specs.declared.ask.question.Wanted.TheVariants.{Every}
+use denote.Ref.{Bor}
+use Rattle.infer.specs.Walks.{IsFirstAmong, asked_rows, count_asked, is_listed, is_asked, is_not_above}
 use Rattle.infer.proofs.TableLemmas.{length-table}
 
 -- ---- the numbers of the candidates
@@ -50,6 +49,15 @@ module _ (P : ℕ → Type 0) where
   found_among (c ∷ cs) zero d l h none = inl (h, refl)
   found_among (c ∷ cs) (suc k) d l h none =
       inr (none 0 0 (omega arith) (omega arith), found_among cs k d (omega arith) h (λ j e a b. none (suc j) e (omega arith) (omega arith)))
+
+  -- what `find` found of the numbers
+  pub among_of_find : (cs : List ℕ) (found : Option (Bor ℕ))
+      → MatchOption found (AllWithin (λ i. ¬ P i) cs 0 (length cs))
+      (λ x. P x.now × (k : ℕ) × (k < length cs) × HoldsAt (λ i. i ≡ x.now) cs k × AllWithin (λ i. ¬ P i) cs 0 k)
+      → IsFirstAmong P cs (option_copied found)
+  among_of_find cs None none = none_among cs none
+  among_of_find cs (Some x) (holds, k, lt, at, before) =
+      subst (λ i. IsFirstAmong P cs (Some i)) (at 0) (found_among cs k 0 lt (subst P (sym (at 0)) holds) before)
 
 -- what a call tells of the next number, in words of the buffer as it was
 module _ (S : List ℕ → ℕ → Type 0) (b c rs : List ℕ) (k n : ℕ) (r : Bool) (kept : c ≡ b) (answer : IsTrue r ↔ S c n)
@@ -210,8 +218,8 @@ module _ (test : Row BuiltIn → Bool) (rs : List ℕ) (same : rs ≡ places_fro
       sym (kept (λ j. leb j (get_or rs k d)) p d rs (k + 1)
       (λ j m a. grind (arith, nat_tests, places_rise.1 j k d)) (λ j m a. grind (arith, nat_tests, places_rise.1 k j d)))
 
-pub few_asked : (w : Wanted) (b : List ℕ) (o : Option ℕ) → length (candidates_of b) ≤ MOST_CANDIDATES → count_asked w b o ≤ MOST_CANDIDATES
-few_asked w b o few = no_more (λ i. is_not_above o i && is_wanted w i) (candidates_of b) MOST_CANDIDATES few
+pub few_asked : (w : Option (Bor (List ℕ))) (b : List ℕ) (o : Option ℕ) → length (candidates_of b) ≤ MOST_CANDIDATES → count_asked w b o ≤ MOST_CANDIDATES
+few_asked w b o few = no_more (λ i. is_not_above o i && is_asked w i) (candidates_of b) MOST_CANDIDATES few
 
 -- ---- a walk that asks every candidate
 
@@ -220,7 +228,7 @@ some_at [] i l = absurd (omega arith)
 some_at (r ∷ rows) zero l = refl
 some_at (r ∷ rows) (suc i) l = some_at rows i (omega arith)
 
-every_row : (i : ℕ) → i < ROW_COUNT → is_wanted Every i ≡ true
+every_row : (i : ℕ) → i < ROW_COUNT → is_asked None i ≡ true
 every_row i l = some_at table i (omega (arith, length-table))
 
 module _ (b rs : List ℕ) (same : rs ≡ candidates_of b) where
@@ -230,15 +238,15 @@ module _ (b rs : List ℕ) (same : rs ≡ candidates_of b) where
   pub candidate_row : (k d : ℕ) → k < length rs → get_or rs k d < ROW_COUNT
   candidate_row = below_count (may_take b) rs placed
 
-  pub candidate_room : (k : ℕ) → k < length rs → length (filter (is_wanted Every) (take k rs)) < ROW_COUNT
-  candidate_room = room_left (may_take b) rs placed (is_wanted Every)
+  pub candidate_room : (k : ℕ) → k < length rs → length (filter (is_asked None) (take k rs)) < ROW_COUNT
+  candidate_room = room_left (may_take b) rs placed (is_asked None)
 
-  pub candidate_asked : (k d : ℕ) → k < length rs → filter (is_wanted Every) (take k rs) ++ get_or rs k d ∷ [] ≡ filter (is_wanted Every) (take (k + 1) rs)
+  pub candidate_asked : (k d : ℕ) → k < length rs → filter (is_asked None) (take k rs) ++ get_or rs k d ∷ [] ≡ filter (is_asked None) (take (k + 1) rs)
   candidate_asked k d l =
-      ap (λ (xs : List ℕ). filter (is_wanted Every) (take k rs) ++ xs)
+      ap (λ (xs : List ℕ). filter (is_asked None) (take k rs) ++ xs)
       (let here = every_row (get_or rs k d) (candidate_row k d l) in sym (rw here refl))
-      ∙ sym (filter_more (is_wanted Every) rs k d l)
+      ∙ sym (filter_more (is_asked None) rs k d l)
 
-  pub candidates_asked : (k d : ℕ) → k < length rs → filter (is_wanted Every) (take (k + 1) rs) ≡ asked_rows Every b (Some (get_or rs k d))
+  pub candidates_asked : (k d : ℕ) → k < length rs → filter (is_asked None) (take (k + 1) rs) ≡ asked_rows None b (Some (get_or rs k d))
   candidates_asked k d l =
-      asked_up_to (may_take b) rs placed (is_wanted Every) k d l ∙ ap (filter (λ j. leb j (get_or rs k d) && is_wanted Every j)) same
+      asked_up_to (may_take b) rs placed (is_asked None) k d l ∙ ap (filter (λ j. leb j (get_or rs k d) && is_asked None j)) same

@@ -9,9 +9,8 @@ use Rattle.infer.specs.First.{IsFirst, IsFirstOf, NoneHas, SomeHas}
 use Rattle.infer.specs.Leads.{Leads, allows_first, candidates, candidates_of, places_from}
 use Rattle.infer.specs.Row.{Row, Accepts}
 use Rattle.infer.specs.Table.{table}
-use Rattle.infer.specs.Walks.{IsFirstAmong, RowHas, Takes, WalksFindFirst, row_numbered}
-use Rattle.infer.specs.declared.ask.question.Wanted.{Wanted}
-use Rattle.infer.specs.declared.ask.question.Wanted.TheVariants.{Every}
+use Rattle.infer.specs.Walks.{HasGiven, IsFirstAmong, RowHas, Takes, WalksFindFirst, row_numbered}
+use Rattle.infer.specs.Triple.{Triple}
 use Rattle.infer.specs.declared.table.rows.TheConstants.{ROW_COUNT}
 use Rattle.infer.proofs.ListLemmas.{HoldsAt-read}
 use Rattle.infer.proofs.TableLemmas.{length-table}
@@ -57,15 +56,15 @@ module _ (P : Row BuiltIn → Type 0) where
     first_listed o h = first_from table 0 o refl (AllWithin-none (λ r. ¬ P r) table 0) h
 
 -- the first of the candidates of a buffer that takes it is the first row of the table that does
-pub first_of_buffer : ((s : BuiltIn) → Leads s) → NoneHas (Accepts []) table → (wanted : Wanted) (b cs : List ℕ) (o : Option ℕ)
-    → cs ≡ candidates_of b → IsFirstAmong (RowHas (Takes wanted b)) cs o → IsFirstOf (Takes wanted b) table o
+pub first_of_buffer : ((s : BuiltIn) → Leads s) → NoneHas (Accepts []) table → (asked : Triple → Type 0) (b cs : List ℕ) (o : Option ℕ)
+    → cs ≡ candidates_of b → IsFirstAmong (RowHas (Takes asked b)) cs o → IsFirstOf (Takes asked b) table o
 unfolding IsFirstAmong candidates
-first_of_buffer leads blank wanted [] cs o same h =
-    let none : o ≡ None = subst (λ ns. IsFirstAmong (RowHas (Takes wanted [])) ns o) same h in
-    subst (IsFirstOf (Takes wanted []) table) (sym none) (λ k d a b t. blank k d a b t.1)
-first_of_buffer leads blank wanted (f ∷ b) cs o same h =
-    first_listed (Takes wanted (f ∷ b)) (λ r. allows_first r.signature f) (λ r t. leads r.signature f b t.1) o
-    (subst (λ ns. IsFirstAmong (RowHas (Takes wanted (f ∷ b))) ns o) same h)
+first_of_buffer leads blank asked [] cs o same h =
+    let none : o ≡ None = subst (λ ns. IsFirstAmong (RowHas (Takes asked [])) ns o) same h in
+    subst (IsFirstOf (Takes asked []) table) (sym none) (λ k d a b t. blank k d a b t.1)
+first_of_buffer leads blank asked (f ∷ b) cs o same h =
+    first_listed (Takes asked (f ∷ b)) (λ r. allows_first r.signature f) (λ r t. leads r.signature f b t.1) o
+    (subst (λ ns. IsFirstAmong (RowHas (Takes asked (f ∷ b))) ns o) same h)
 
 -- the other way round: the first row is the first of the candidates
 module _ (P : Row BuiltIn → Type 0) where
@@ -129,13 +128,13 @@ some_of_first P xs None r e none = (λ t. absurd (cc), λ some. absurd (none_fro
 some_of_first P xs (Some i) r e first = (λ t. (i, first.within, first.here), λ some. e)
 
 -- of every row, the first that takes the buffer is the first that accepts it
-pub first_of_every : (b : List ℕ) (rows : List (Row BuiltIn)) (o : Option ℕ) → IsFirstOf (Takes Every b) rows o → IsFirstOf (Accepts b) rows o
+pub first_of_every : (b : List ℕ) (rows : List (Row BuiltIn)) (o : Option ℕ) → IsFirstOf (Takes (HasGiven None) b) rows o → IsFirstOf (Accepts b) rows o
 first_of_every b rows o first = grind arith
 
-pub every_taken : (b : List ℕ) (i : ℕ) → RowHas (Accepts b) i ↔ RowHas (Takes Every b) i
+pub every_taken : (b : List ℕ) (i : ℕ) → RowHas (Accepts b) i ↔ RowHas (Takes (HasGiven None) b) i
 every_taken b i = (λ h. grind arith, λ h. grind arith)
 
-accepted_taken : (b : List ℕ) (o : Option ℕ) → IsFirstOf (Accepts b) table o → IsFirstOf (Takes Every b) table o
+accepted_taken : (b : List ℕ) (o : Option ℕ) → IsFirstOf (Accepts b) table o → IsFirstOf (Takes (HasGiven None) b) table o
 accepted_taken b None none = λ k d low lt t. none k d low lt t.1
 accepted_taken b (Some i) first = record {
   within = first.within;
@@ -144,15 +143,15 @@ accepted_taken b (Some i) first = record {
 }
 
 walk_of_first : ((s : BuiltIn) → Leads s) → NoneHas (Accepts []) table → (b : List ℕ) (o : Option ℕ) → IsFirstOf (Accepts b) table o
-    → IsFirstAmong (RowHas (Takes Every b)) (candidates_of b) o
+    → IsFirstAmong (RowHas (Takes (HasGiven None) b)) (candidates_of b) o
 unfolding IsFirstAmong candidates
 walk_of_first leads blank [] None none = refl
 walk_of_first leads blank [] (Some i) first = absurd (none_from_all_within (Accepts []) table blank (i, first.within, first.here))
 walk_of_first leads blank (f ∷ b) o first =
-    among_listed (Takes Every (f ∷ b)) (λ r. allows_first r.signature f) (λ r t. leads r.signature f b t.1) o (accepted_taken (f ∷ b) o first)
+    among_listed (Takes (HasGiven None) (f ∷ b)) (λ r. allows_first r.signature f) (λ r t. leads r.signature f b t.1) o (accepted_taken (f ∷ b) o first)
 
 pub walks_find_first : ((s : BuiltIn) → Leads s) → NoneHas (Accepts []) table → WalksFindFirst
 walks_find_first leads blank b o = (
-  λ among. first_of_every b table o (first_of_buffer leads blank Every b (candidates_of b) o refl among),
+  λ among. first_of_every b table o (first_of_buffer leads blank (HasGiven None) b (candidates_of b) o refl among),
   walk_of_first leads blank b o,
 )

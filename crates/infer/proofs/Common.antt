@@ -11,20 +11,18 @@ pub use Rattle.infer.specs.Leads.{candidates_of, Leads, allows_first, places_fro
 pub use Rattle.infer.specs.Listed.{number_of, buffer_listed, row_listed}
 unfoldable pub use Rattle.infer.specs.Matchers.{signatures, is_far_row}
 pub use Rattle.infer.specs.Matchers.{Lasts, IsNear, OthersAreNear}
-pub use Rattle.infer.specs.Questions.{IsWanted, HasExtension, SomeBoth, class_at}
+pub use Rattle.infer.specs.Questions.{HasExtension, IsAsked, SomeBoth}
 pub use Rattle.infer.specs.Row.{Accepts, Row, shows}
 pub use Rattle.infer.specs.Rows.{custom_rows, AnyAccepts, kept_row, rows, custom_row, Signature}
 pub use Rattle.infer.specs.Samples.{sample_of, zeros, HoldsSample, put, padded}
-unfoldable pub use Rattle.infer.specs.Slots.{rows_in, HasWanted, ListSlots}
+unfoldable pub use Rattle.infer.specs.Slots.{rows_in, HoldAsked, ListSlots}
 pub use Rattle.infer.specs.Slots.{slot_of, extension_of, mime_type_of}
 unfoldable pub use Rattle.infer.specs.Table.{table, signature_of}
 pub use Rattle.infer.specs.Table.{row}
 pub use Rattle.infer.specs.Triple.{Triple, triple_of}
 unfoldable pub use Rattle.infer.specs.Walks.{IsFirstAmong}
-pub use Rattle.infer.specs.Walks.{RowHas, Takes, is_listed, is_wanted, asked_rows, count_asked, is_not_above, WalksFindFirst, row_numbered, named}
+pub use Rattle.infer.specs.Walks.{RowHas, Takes, is_listed, is_asked, asked_rows, count_asked, is_not_above, WalksFindFirst, row_numbered, HasGiven}
 pub use Rattle.infer.specs.Watched.{IsDue, fault_of, inner}
-pub use Rattle.infer.specs.declared.ask.question.Wanted.{Wanted}
-pub use Rattle.infer.specs.declared.ask.question.Wanted.TheVariants.{Every, Extension, Class}
 pub use Rattle.infer.specs.declared.read.fault.Fault.{Fault}
 pub use Rattle.infer.specs.declared.table.file_type.FileType.{FileType}
 pub use Rattle.infer.specs.declared.table.file_type.MatcherType.TheVariants.{Text, App, Image}

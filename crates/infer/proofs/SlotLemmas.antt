@@ -8,7 +8,7 @@ use Rattle.std.proofs.lemmas.List.{get_or-map}
 use Rattle.std.proofs.lemmas.Slice.Eq.{bytes_eq-Decides}
 use Rattle.std.proofs.lemmas.List.Elements.{filter_more}
 use Rattle.std.proofs.lemmas.List.Folds.{none_from_all_within}
-use Rattle.infer.proofs.Common.{BuiltIn, IsAccepted, NoneHas, SomeHas, Leads, candidates_of, number_of, IsWanted, Row, Accepts, HasWanted, ListSlots, rows_in, slot_of, signature_of, table, IsFirstAmong, RowHas, Takes, is_listed, Wanted, Extension, ROW_COUNT}
+use Rattle.infer.proofs.Common.{BuiltIn, NoneHas, SomeHas, Leads, candidates_of, number_of, IsAsked, Row, Accepts, HoldAsked, ListSlots, rows_in, slot_of, table, IsFirstAmong, RowHas, is_listed, Triple, ROW_COUNT}
 use Rattle.infer.specs.declared.table.rows.RowName.{RowName}
 use Rattle.infer.proofs.AskLemmas.{asked_up_to, below_count, candidates_placed, filtered_alike, first_moved, listed_row, may_take, none_among, room_left}
 use Rattle.infer.proofs.CandidateLemmas.{first_listed, read_has}
@@ -28,16 +28,16 @@ slots_listed text_of lists many all s d lt =
     ∙ (bytes_eq-Decides _ _).0 (passed (of_slot text_of lists) 128 8 all (omega arith) s lt)
 
 -- the rows of a text's slot are those of the rows that are asked for, and more
-pub wanted_in_slot : (wanted : Wanted) (text_of : Row BuiltIn → List ℕ) (text : List ℕ) → ((r : Row BuiltIn) → IsWanted wanted r → text_of r ≡ text)
-    → (lists : List (Bor (List RowName))) (slot : ℕ) (d : Bor (List RowName)) → ListSlots text_of lists → slot ≡ slot_of text → slot < 128 → HasWanted wanted (map number_of (get_or lists slot d).now)
-unfolding HasWanted ListSlots rows_in
-wanted_in_slot wanted text_of text asks lists slot d listed e lt =
+pub asked_in_slot : (asked : Triple → Type 0) (text_of : Row BuiltIn → List ℕ) (text : List ℕ) → ((r : Row BuiltIn) → IsAsked asked r → text_of r ≡ text)
+    → (lists : List (Bor (List RowName))) (slot : ℕ) (d : Bor (List RowName)) → ListSlots text_of lists → slot ≡ slot_of text → slot < 128 → HoldAsked asked (map number_of (get_or lists slot d).now)
+unfolding HoldAsked ListSlots rows_in
+asked_in_slot asked text_of text asks lists slot d listed e lt =
     ((λ r. slot_of (text_of r) == slot_of text), listed slot d lt ∙ ap (rows_in text_of) e, λ r w. eq-eqb (slot_of (text_of r)) (slot_of text) (ap slot_of (asks r w)))
 
 -- if one of them has a property of rows that are asked for, so has one of the table
-module _ (P : Row BuiltIn → Type 0) (wanted : Wanted) (asks : (x : Row BuiltIn) → P x → IsWanted wanted x) where
-  pub some_listed : (rows : List ℕ) (r : Bool) → HasWanted wanted rows → IsTrue r ↔ SomeHas (RowHas P) rows → IsTrue r ↔ SomeHas P table
-  unfolding HasWanted
+module _ (P : Row BuiltIn → Type 0) (asked : Triple → Type 0) (asks : (x : Row BuiltIn) → P x → IsAsked asked x) where
+  pub some_listed : (rows : List ℕ) (r : Bool) → HoldAsked asked rows → IsTrue r ↔ SomeHas (RowHas P) rows → IsTrue r ↔ SomeHas P table
+  unfolding HoldAsked
   some_listed rows true h some =
       let (k, lt, at) = some.0 refl in
       let found = (read_has P table _).0 (at 0) in (λ _. (_, found.0, found.1), λ _. refl)
@@ -49,7 +49,7 @@ module _ (P : Row BuiltIn → Type 0) (wanted : Wanted) (asks : (x : Row BuiltIn
       )
 
   -- the same of a row that is alone
-  pub some_alone : (names : List RowName) (d : RowName) (r : Bool) → HasWanted wanted (map number_of names) → 1 ≤ length names → length names < 2
+  pub some_alone : (names : List RowName) (d : RowName) (r : Bool) → HoldAsked asked (map number_of names) → 1 ≤ length names → length names < 2
       → IsTrue r ↔ RowHas P (number_of (get_or names 0 d)) → IsTrue r ↔ SomeHas P table
   some_alone names d r h low high this = some_listed (map number_of names) r h (
     λ t. SomeHas-map number_of (RowHas P) names (0, low, HoldsAt-read (λ n. RowHas P (number_of n)) names 0 d low (this.0 t)),
@@ -58,11 +58,6 @@ module _ (P : Row BuiltIn → Type 0) (wanted : Wanted) (asks : (x : Row BuiltIn
         let only : k ≡ 0 = omega arith in
         this.1 (subst (λ i. RowHas P (number_of (get_or names i d))) only (at d)),
   )
-
--- a row takes a buffer if it is asked for and its signature accepts the buffer
-pub taken_named : (wanted : Wanted) (b : List ℕ) (i : ℕ) → RowHas (Takes wanted b) i ↔ (RowHas (IsWanted wanted) i × IsAccepted (signature_of i) b)
-unfolding signature_of
-taken_named wanted b i = (λ h. grind arith, λ h. grind arith)
 
 -- ---- a walk over the rows of a slot is one over the candidates
 
@@ -91,44 +86,44 @@ extension_read text (r ∷ rows) zero d l t = (bytes_eq-Decides _ _).0 t
 extension_read text (r ∷ rows) (suc k) d l t = extension_read text rows k d (omega arith) t
 
 -- whether a walk asks the row: if it has the extension and is a candidate
-abbrev pub is_asked : List ℕ → List ℕ → ℕ → Bool
-is_asked text b i = has_extension text i && is_listed (candidates_of b) i
+abbrev pub is_walked : List ℕ → List ℕ → ℕ → Bool
+is_walked text b i = has_extension text i && is_listed (candidates_of b) i
 
 -- the row has the extension and accepts the buffer
 abbrev pub TakesText : List ℕ → List ℕ → Row BuiltIn → Type 0
 TakesText text b r = (r.shows.extension ≡ text) × Accepts b r
 
-module _ (text : List ℕ) (named : Bor (List ℕ)) (e : named.now ≡ text) (rows : List ℕ) (has : HasWanted (Extension named) rows) (b : List ℕ) where
+module _ (text : List ℕ) (named : List ℕ) (e : named ≡ text) (rows : List ℕ) (has : HoldAsked (λ t. t.extension ≡ named) rows) (b : List ℕ) where
   pub slot_first : ((s : BuiltIn) → Leads s) → NoneHas (Accepts []) table → (o : Option ℕ)
       → IsFirstAmong (RowHas (TakesText text b)) rows o → IsFirstAmong (RowHas (TakesText text b)) (candidates_of b) o
-  unfolding HasWanted
+  unfolding HoldAsked
   slot_first leads blank o first = grind (arith, candidates_placed, first_moved, may_take, read_has, accepted_may_take)
 
-  asked_alike : (low : ℕ → Bool) → filter (λ i. low i && is_asked text b i) rows ≡ filter (λ i. low i && has_extension text i) (candidates_of b)
-  unfolding HasWanted
+  asked_alike : (low : ℕ → Bool) → filter (λ i. low i && is_walked text b i) rows ≡ filter (λ i. low i && has_extension text i) (candidates_of b)
+  unfolding HoldAsked
   asked_alike low = grind (arith, filtered_alike, may_take, is_listed, candidates_of, candidates_placed, listed_row, extension_read)
 
   -- those asked up to one of the rows, and in the end
   pub slot_asked : (k d : ℕ) → k < length rows
-      → filter (is_asked text b) (take (k + 1) rows) ≡ filter (λ i. leb i (get_or rows k d) && has_extension text i) (candidates_of b)
-  unfolding HasWanted
-  slot_asked k d l = asked_up_to has.0 rows has.1 (is_asked text b) k d l ∙ asked_alike (λ i. leb i (get_or rows k d))
+      → filter (is_walked text b) (take (k + 1) rows) ≡ filter (λ i. leb i (get_or rows k d) && has_extension text i) (candidates_of b)
+  unfolding HoldAsked
+  slot_asked k d l = asked_up_to has.0 rows has.1 (is_walked text b) k d l ∙ asked_alike (λ i. leb i (get_or rows k d))
 
-  pub slot_asked_all : filter (is_asked text b) rows ≡ filter (has_extension text) (candidates_of b)
+  pub slot_asked_all : filter (is_walked text b) rows ≡ filter (has_extension text) (candidates_of b)
   slot_asked_all = asked_alike (λ i. true)
 
-  pub slot_room : (k : ℕ) → k < length rows → length (filter (is_asked text b) (take k rows)) < ROW_COUNT
-  unfolding HasWanted
-  slot_room = room_left has.0 rows has.1 (is_asked text b)
+  pub slot_room : (k : ℕ) → k < length rows → length (filter (is_walked text b) (take k rows)) < ROW_COUNT
+  unfolding HoldAsked
+  slot_room = room_left has.0 rows has.1 (is_walked text b)
 
 -- one row more of which the walk knows whether it is asked
 pub asked_one_more : (S : List ℕ → Type 0) (text b cs rows : List ℕ) (k n : ℕ) → cs ≡ candidates_of b → k < length rows → get_or rows k 0 ≡ n
-    → S (filter (is_asked text b) (take k rows) ++ filter (λ i. has_extension text i && is_listed cs i) (n ∷ [])) → S (filter (is_asked text b) (take (k + 1) rows))
+    → S (filter (is_walked text b) (take k rows) ++ filter (λ i. has_extension text i && is_listed cs i) (n ∷ [])) → S (filter (is_walked text b) (take (k + 1) rows))
 asked_one_more S text b cs rows k n same l at h =
     subst S
-    (ap (λ (u : List ℕ). filter (is_asked text b) (take k rows) ++ filter (λ i. has_extension text i && is_listed u i) (n ∷ [])) same
-    ∙ ap (λ m. filter (is_asked text b) (take k rows) ++ filter (is_asked text b) (m ∷ [])) (sym at)
-    ∙ sym (filter_more (is_asked text b) rows k 0 l))
+    (ap (λ (u : List ℕ). filter (is_walked text b) (take k rows) ++ filter (λ i. has_extension text i && is_listed u i) (n ∷ [])) same
+    ∙ ap (λ m. filter (is_walked text b) (take k rows) ++ filter (is_walked text b) (m ∷ [])) (sym at)
+    ∙ sym (filter_more (is_walked text b) rows k 0 l))
     h
 
 -- a row that has both properties has each

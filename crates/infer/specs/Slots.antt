@@ -4,10 +4,10 @@ use denote.Ref.{Bor}
 use Rattle.infer.specs.BuiltIn.{BuiltIn}
 use Rattle.infer.specs.Leads.{places_from}
 use Rattle.infer.specs.Listed.{number_of}
-use Rattle.infer.specs.Questions.{IsWanted}
+use Rattle.infer.specs.Questions.{IsAsked}
 use Rattle.infer.specs.Row.{Row}
 use Rattle.infer.specs.Table.{table}
-use Rattle.infer.specs.declared.ask.question.Wanted.{Wanted}
+use Rattle.infer.specs.Triple.{Triple}
 use Rattle.infer.specs.declared.table.rows.RowName.{RowName}
 
 -- by the length, the first byte, the middle one and the last, and 0 for the empty text
@@ -31,5 +31,5 @@ unfoldable pub ListSlots : (Row BuiltIn → List ℕ) → List (Bor (List RowNam
 ListSlots text_of lists = (slot : ℕ) (d : Bor (List RowName)) → slot < 128 → map number_of (get_or lists slot d).now ≡ rows_in text_of slot
 
 -- the numbers of some rows, ascending, among which are all that are asked for
-unfoldable pub HasWanted : Wanted → List ℕ → Type 0
-HasWanted wanted rows = (test : Row BuiltIn → Bool) × (rows ≡ places_from test 0 table) × ((r : Row BuiltIn) → IsWanted wanted r → IsTrue (test r))
+unfoldable pub HoldAsked : (Triple → Type 0) → List ℕ → Type 0
+HoldAsked asked rows = (test : Row BuiltIn → Bool) × (rows ≡ places_from test 0 table) × ((r : Row BuiltIn) → IsAsked asked r → IsTrue (test r))

@@ -1,3 +1,4 @@
 //! A question, asked of one row.
+pub mod class;
 pub mod question;
 pub mod taken;

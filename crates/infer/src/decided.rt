@@ -4,7 +4,7 @@ ghost use Rattle.infer.specs.Decided.{CanBeDecided, IsChangeable, IsDecided, May
 ghost use Rattle.infer.specs.Listed.{row_listed};
 ghost use Rattle.infer.specs.Walks.{IsFirstAmong, RowHas};
 
-use crate::ask::taken::accepts_at;
+use crate::ask::taken::accepts;
 use crate::candidates::dispatch::{arm_of, candidates_at};
 use crate::table::leads::{blank, leads};
 use crate::table::rows::{BuiltInRow, may_become_named, rows};
@@ -27,7 +27,7 @@ pub fn is_decided(buf: &[u8]) -> bool
         return false;
     };
     match first_open(candidates_at(arm_of(*first)), buf) {
-        Some(row) => accepts_at(row, buf),
+        Some(row) => accepts(buf, row),
         None => true,
     }
 }
@@ -36,12 +36,10 @@ pub fn is_decided(buf: &[u8]) -> bool
 fn first_open(rows: &[usize], buf: &[u8]) -> Option<usize>
     ensures { IsFirstAmong (RowHas (MayAccept buf.now)) rows.now result }
 {
-    for row in rows {
-        if may_become(buf, *row) {
-            return Some(*row);
-        }
-    }
-    None
+    let may_accept = |row: &&usize| -> bool
+        ensures { IsTrue result ↔ RowHas (MayAccept buf.entry.now) row.now.now }
+    { may_become(buf, **row) };
+    rows.iter().find(may_accept).copied()
 }
 
 /// Whether some bytes after `buf` make row `row` accept it. From `ROW_COUNT` on there is no row, and no bytes do.

@@ -37,7 +37,8 @@ mod samples;
 mod table;
 pub mod texts;
 
-use ask::question::Wanted;
+use ask::class::{App, Archive, Audio, Book, Doc, Font, Image, Video};
+pub use ask::taken::accepts as accepts;
 pub use caller::infer::Infer;
 pub use candidates::asker::{Ask, Asker, is_counted, position_counted, walk};
 pub use decided::{is_decided, may_become};
@@ -127,54 +128,54 @@ pub fn is_mime_supported(mime_type: &str) -> bool
 pub fn is_app(buf: &[u8]) -> bool
     ensures { IsTrue result ↔ SomeBoth (HasClass MatcherType.App) (Accepts buf.now) table }
 {
-    answers::some(Wanted::Class(MatcherType::App), buf)
+    answers::some_of_class::<App>(buf)
 }
 
 /// Whether some built-in row of the class `Archive` accepts `buf`, which need not be the answer: allow by [`get`].
 pub fn is_archive(buf: &[u8]) -> bool
     ensures { IsTrue result ↔ SomeBoth (HasClass MatcherType.Archive) (Accepts buf.now) table }
 {
-    answers::some(Wanted::Class(MatcherType::Archive), buf)
+    answers::some_of_class::<Archive>(buf)
 }
 
 /// Whether some built-in row of the class `Audio` accepts `buf`, which need not be the answer: allow by [`get`].
 pub fn is_audio(buf: &[u8]) -> bool
     ensures { IsTrue result ↔ SomeBoth (HasClass MatcherType.Audio) (Accepts buf.now) table }
 {
-    answers::some(Wanted::Class(MatcherType::Audio), buf)
+    answers::some_of_class::<Audio>(buf)
 }
 
 /// Whether some built-in row of the class `Book` accepts `buf`, which need not be the answer: allow by [`get`].
 pub fn is_book(buf: &[u8]) -> bool
     ensures { IsTrue result ↔ SomeBoth (HasClass MatcherType.Book) (Accepts buf.now) table }
 {
-    answers::some(Wanted::Class(MatcherType::Book), buf)
+    answers::some_of_class::<Book>(buf)
 }
 
 /// Whether some built-in row of the class `Doc` accepts `buf`, which need not be the answer: allow by [`get`].
 pub fn is_document(buf: &[u8]) -> bool
     ensures { IsTrue result ↔ SomeBoth (HasClass MatcherType.Doc) (Accepts buf.now) table }
 {
-    answers::some(Wanted::Class(MatcherType::Doc), buf)
+    answers::some_of_class::<Doc>(buf)
 }
 
 /// Whether some built-in row of the class `Font` accepts `buf`, which need not be the answer: allow by [`get`].
 pub fn is_font(buf: &[u8]) -> bool
     ensures { IsTrue result ↔ SomeBoth (HasClass MatcherType.Font) (Accepts buf.now) table }
 {
-    answers::some(Wanted::Class(MatcherType::Font), buf)
+    answers::some_of_class::<Font>(buf)
 }
 
 /// Whether some built-in row of the class `Image` accepts `buf`, which need not be the answer: allow by [`get`].
 pub fn is_image(buf: &[u8]) -> bool
     ensures { IsTrue result ↔ SomeBoth (HasClass MatcherType.Image) (Accepts buf.now) table }
 {
-    answers::some(Wanted::Class(MatcherType::Image), buf)
+    answers::some_of_class::<Image>(buf)
 }
 
 /// Whether some built-in row of the class `Video` accepts `buf`, which need not be the answer: allow by [`get`].
 pub fn is_video(buf: &[u8]) -> bool
     ensures { IsTrue result ↔ SomeBoth (HasClass MatcherType.Video) (Accepts buf.now) table }
 {
-    answers::some(Wanted::Class(MatcherType::Video), buf)
+    answers::some_of_class::<Video>(buf)
 }

@@ -12,7 +12,6 @@ ghost use Rattle.infer.specs.Questions.{HasClass, HasExtension, HasMimeType, Som
 ghost use Rattle.infer.specs.Row.{Accepts};
 ghost use Rattle.infer.specs.Table.{table};
 ghost use Rattle.infer.specs.Walks.{count_asked};
-ghost use Rattle.infer.specs.declared.ask.question.Wanted.TheVariants.{Every};
 ghost use Rattle.infer.specs.declared.table.rows.TheConstants.{MOST_CANDIDATES};
 ghost use Rattle.infer_sniff.specs.Verdicts.{IsSettled, RowStaysFinal};
 ghost use Rattle.infer_c.specs.Codes.{AcceptsAt, IsClassOf, IsSampleOf, MayAcceptAt, class_code, class_name, row_code, triple_at};
@@ -69,7 +68,7 @@ pub extern "C" fn infer_verdict(buf: &[u8], is_final: &mut bool) -> i32
 pub extern "C" fn infer_position_counted(buf: &[u8], asked: &mut u32) -> i32
     ensures first { (first : Option ℕ) × IsFirstOf (Accepts buf.now) table first
         × (result ≡ row_code first)
-        × (asked.new ≡ count_asked Every buf.now first) }
+        × (asked.new ≡ count_asked None buf.now first) }
     ensures few { asked.new ≤ MOST_CANDIDATES }
 {
     let (found, count) = infer::position_counted(buf);

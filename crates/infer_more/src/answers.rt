@@ -682,7 +682,7 @@ pub fn accepts(buf: &[u8], i: usize) -> bool
     ensures { IsTrue result ↔ AcceptsAt buf.now i }
 {
     if i < ROW_COUNT {
-        return Asker::new(buf).ask(i);
+        return infer::accepts(buf, i);
     }
     match row_at(i - ROW_COUNT) {
         Some(row) => signature::accepts::<ANY>(row.signature, buf),

@@ -20,17 +20,16 @@ use Rattle.infer.specs.Laws.{AnswersAsBuiltIn, AnyLasts, IsNotLater, IsSteady}
 use Rattle.infer.specs.Leads.{allows_first, candidates, candidates_of, places_from}
 use Rattle.infer.specs.Listed.{buffer_listed, is_inside, number_of, row_listed}
 use Rattle.infer.specs.Matchers.{OthersAreNear, is_far, is_far_row, signatures}
-use Rattle.infer.specs.Questions.{Fits, IsWanted, class_at, fits}
+use Rattle.infer.specs.Questions.{IsAsked}
 use Rattle.infer.specs.Reading.{AnswersFront, AnswersReader, AnswersSome}
 use Rattle.infer.specs.Row.{Row, shows}
 use Rattle.infer.specs.Rows.{AnyAccepts, IsAcceptedBy, Signature, custom_row, custom_rows, given, rows}
 use Rattle.infer.specs.Samples.{padded, sample_of, zeros}
-use Rattle.infer.specs.Slots.{HasWanted, extension_of, mime_type_of, rows_in, slot_of}
+use Rattle.infer.specs.Slots.{HoldAsked, extension_of, mime_type_of, rows_in, slot_of}
 use Rattle.infer.specs.Table.{row, signature_of, table}
 use Rattle.infer.specs.Triple.{triple, triple_of}
-use Rattle.infer.specs.Walks.{IsFirstAmong, Takes, asked_rows, count_asked, is_listed, is_wanted, named, row_numbered}
+use Rattle.infer.specs.Walks.{HasGiven, IsFirstAmong, Takes, asked_rows, count_asked, has_given, is_asked, is_listed, row_numbered}
 use Rattle.infer.specs.Watched.{IsDue, Loses, fault_of, inner}
-use Rattle.infer.specs.declared.ask.question.Wanted.TheVariants.{Class, Every}
 use Rattle.infer.specs.declared.caller.custom.CustomRow.{CustomRow}
 use Rattle.infer.specs.declared.caller.infer.Infer.{Infer}
 use Rattle.infer.specs.declared.candidates.dispatch.Arm.TheVariants.{B4D, B4E}
@@ -176,21 +175,18 @@ OthersAreNear_pair = (
   λ h. absurd (let t = (h 0 (omega arith) refl pdf (replicate 1025 0) (omega arith)).0 refl in cc),
 )
 
-pub Fits_pair : Fits (Class Image) (triple Image [] []) × (¬ Fits (Class Image) (triple App [] []))
-Fits_pair = (refl, λ e. absurd (cc))
+pub IsAsked_pair : IsAsked (λ t. t.class ≡ App) (row_with []) × (¬ IsAsked (λ t. t.class ≡ Image) (row_with []))
+IsAsked_pair = (refl, λ e. absurd (cc))
 
-pub fits_pair : IsTrue (fits (Class Image) (triple Image [] [])) × (¬ IsTrue (fits (Class Image) (triple App [] [])))
-fits_pair = (refl, λ t. absurd (cc))
-
-pub IsWanted_pair : IsWanted (Class App) (row_with []) × (¬ IsWanted (Class Image) (row_with []))
-IsWanted_pair = (refl, λ e. absurd (cc))
-
-pub Takes_pair : Takes Every (codes "MZ") (row App [] [] (fixed exe)) × (¬ Takes Every (codes "M") (row App [] [] (fixed exe)))
+pub Takes_pair : Takes (HasGiven None) (codes "MZ") (row App [] [] (fixed exe)) × (¬ Takes (HasGiven None) (codes "M") (row App [] [] (fixed exe)))
 unfolding stands
 Takes_pair = ((tt, refl), λ h. absurd (let t = h.1 in cc))
 
-pub named_pair : (named None ≡ Every) × (¬ (named (Some (lent [])) ≡ Every))
-named_pair = (refl, λ e. absurd (cc))
+pub HasGiven_pair : HasGiven (Some (lent (codes "pdf"))) (triple App [] (codes "pdf")) × (¬ HasGiven (Some (lent (codes "pdf"))) (triple App [] []))
+HasGiven_pair = (refl, λ e. absurd (let f = ap length e in omega (arith, f)))
+
+pub has_given_pair : IsTrue (has_given (Some (lent (codes "pdf"))) (triple App [] (codes "pdf"))) × (¬ IsTrue (has_given (Some (lent (codes "pdf"))) (triple App [] [])))
+has_given_pair = (refl, λ t. absurd (cc))
 
 pub row_numbered_pair : (row_numbered 4294967295 ≡ None) × (¬ (row_numbered 1 ≡ None))
 row_numbered_pair = (refl, λ e. absurd (cc))
@@ -199,11 +195,11 @@ pub IsFirstAmong_pair : IsFirstAmong (λ i. 2 ≤ i) (1 ∷ 3 ∷ 2 ∷ []) (Som
 unfolding IsFirstAmong
 IsFirstAmong_pair = (inr (λ l. omega (arith, l), inl (omega arith, refl)), λ h. ⊎_elim (λ a. omega (arith, a.0)) (λ a. ⊎_elim (λ b. omega (arith, ap (λ o. unwrap_or o 0) b.1)) (λ b. b.0 (omega arith)) a.1) h)
 
-pub asked_rows_pair : (asked_rows Every (codes "MZ") (Some EXE) ≡ EXE ∷ []) × (¬ (asked_rows Every [] None ≡ EXE ∷ []))
+pub asked_rows_pair : (asked_rows None (codes "MZ") (Some EXE) ≡ EXE ∷ []) × (¬ (asked_rows None [] None ≡ EXE ∷ []))
 unfolding candidates table
 asked_rows_pair = (refl, λ e. absurd (cc))
 
-pub count_asked_pair : (count_asked Every (codes "MZ") (Some EXE) ≡ 1) × (¬ (count_asked Every [] None ≡ 1))
+pub count_asked_pair : (count_asked None (codes "MZ") (Some EXE) ≡ 1) × (¬ (count_asked None [] None ≡ 1))
 unfolding candidates table
 count_asked_pair = (refl, λ e. omega (arith, e))
 
@@ -293,9 +289,9 @@ AnswersFront_pair = (λ k d low high h. h, λ h. h 0 (row_with []) (omega arith)
 pub class_at_pair : (class_at 6 ≡ Image) × (¬ (class_at 9 ≡ Image))
 class_at_pair = (refl, λ e. absurd (cc))
 
-pub is_wanted_pair : IsTrue (is_wanted (Class Image) PNG) × (¬ IsTrue (is_wanted (Class Image) EXE))
+pub is_asked_pair : IsTrue (is_asked (Some (lent (codes "png"))) PNG) × (¬ IsTrue (is_asked (Some (lent (codes "png"))) EXE))
 unfolding table
-is_wanted_pair = (refl, λ t. absurd (cc))
+is_asked_pair = (refl, λ t. absurd (cc))
 
 pub slot_of_pair : (slot_of (codes "exe") ≡ slot_of (codes "exe")) × (¬ (slot_of (codes "png") ≡ slot_of (codes "exe")))
 slot_of_pair = (refl, λ e. omega (arith, e))
@@ -308,6 +304,6 @@ some_place : (test : Row BuiltIn → Bool) → ((r : Row BuiltIn) → IsTrue (te
 some_place test all [] some e = omega (arith, some)
 some_place test all (r ∷ rs) some e = let f : [] ≡ 0 ∷ places_from test 1 rs = rw (all r) at e in omega (arith, ap length f)
 
-pub HasWanted_pair : HasWanted Every (places_from (λ r. true) 0 table) × (¬ HasWanted Every [])
-unfolding HasWanted table
-HasWanted_pair = (((λ r. true), refl, λ r w. refl), λ h. some_place h.0 (λ r. h.2 r tt) table (omega arith) h.1)
+pub HoldAsked_pair : HoldAsked (HasGiven None) (places_from (λ r. true) 0 table) × (¬ HoldAsked (HasGiven None) [])
+unfolding HoldAsked table
+HoldAsked_pair = (((λ r. true), refl, λ r w. refl), λ h. some_place h.0 (λ r. h.2 r tt) table (omega arith) h.1)

@@ -1,6 +1,6 @@
 //! A walk that notes which built-in rows it asks.
 ghost use Rattle.std.specs.Prelude.{◌≡◌, ◌≤◌, ℕ, List, [], length, take};
-ghost use Rattle.infer.specs.Walks.{asked_rows, named};
+ghost use Rattle.infer.specs.Walks.{asked_rows};
 
 use infer::rows::ROW_COUNT;
 use infer::{Ask, Asker, walk};
@@ -55,7 +55,7 @@ pub fn walk_noting<'a, 'b>(
     wanted: Option<&str>,
 ) -> (Option<usize>, &'a [usize])
     requires { ⟦<Noting<'b> as Ask>⟧.has_asked noting.old [] }
-    ensures { result.1.now ≡ asked_rows (named wanted.entry) (⟦<Noting<'b> as Ask>⟧.buffer noting.old) result.0 }
+    ensures { result.1.now ≡ asked_rows wanted.entry (⟦<Noting<'b> as Ask>⟧.buffer noting.old) result.0 }
 {
     let found = walk(noting, wanted);
     (found, noting.rows())

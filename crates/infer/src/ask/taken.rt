@@ -1,11 +1,11 @@
 //! A built-in row, of which a question is asked.
-ghost use Rattle.std.specs.Prelude.{◌≡◌, ◌↔◌, ◌<◌, IsTrue};
-ghost use Rattle.infer.specs.Questions.{IsWanted};
+ghost use Rattle.std.specs.Prelude.{◌↔◌, IsTrue};
+ghost use Rattle.infer.specs.Questions.{IsAsked};
 ghost use Rattle.infer.specs.Row.{Accepts};
 ghost use Rattle.infer.specs.Walks.{RowHas, Takes};
 
-use crate::ask::question::{Question, Wanted};
-use crate::table::rows::{BuiltInRow, ROW_COUNT, accepts, row_at, rows};
+use crate::ask::question::Question;
+use crate::table::rows::{BuiltInRow, accepts_named, rows};
 
 impl BuiltInRow {
     ghost use Rattle.infer.specs.Listed.{row_listed};
@@ -14,33 +14,28 @@ impl BuiltInRow {
     pub fn accepts(&self, buf: &[u8]) -> bool
         ensures { IsTrue result ↔ Accepts buf.now (row_listed self.now) }
     {
-        accepts(self.row, buf)
-    }
-
-    #[inline(always)]
-    pub fn fits(&self, wanted: Wanted) -> bool
-        ensures { IsTrue result ↔ IsWanted wanted.entry (row_listed self.now) }
-    {
-        wanted.fits(&self.file_type)
+        accepts_named(self.row, buf)
     }
 }
 
-/// Whether row `i` accepts `buf`.
+/// Whether row `row` accepts `buf`. From `ROW_COUNT` on there is no row, and none accepts.
 #[inline(always)]
-pub fn accepts_at(i: usize, buf: &[u8]) -> bool
-    requires { i < ROW_COUNT }
-    ensures { IsTrue result ↔ RowHas (Accepts buf.now) i }
+pub fn accepts(buf: &[u8], row: usize) -> bool
+    ensures { IsTrue result ↔ RowHas (Accepts buf.now) row }
 {
-    row_at(i).accepts(buf)
+    match rows().get(row) {
+        Some(row) => row.accepts(buf),
+        None => false,
+    }
 }
 
 /// Whether row `i` is one that the question asks for.
 #[inline(always)]
-pub fn is_wanted<Q: Question>(i: usize, question: &Q) -> bool
-    ensures { IsTrue result ↔ RowHas (IsWanted (Q.wanted question.now)) i }
+pub fn is_asked<Q: Question>(i: usize, question: &Q) -> bool
+    ensures { IsTrue result ↔ RowHas (IsAsked (Q.asked question.now)) i }
 {
     match rows().get(i) {
-        Some(row) => question.fits(&row.file_type),
+        Some(row) => question.asks_for(&row.file_type),
         None => false,
     }
 }
@@ -48,10 +43,10 @@ pub fn is_wanted<Q: Question>(i: usize, question: &Q) -> bool
 /// Whether row `i` is one that the question asks for, and accepts `buf`.
 #[inline(always)]
 pub fn takes<Q: Question>(i: usize, question: &Q, buf: &[u8]) -> bool
-    ensures { IsTrue result ↔ RowHas (Takes (Q.wanted question.now) buf.now) i }
+    ensures { IsTrue result ↔ RowHas (Takes (Q.asked question.now) buf.now) i }
 {
     match rows().get(i) {
-        Some(row) => question.fits(&row.file_type) && row.accepts(buf),
+        Some(row) => question.asks_for(&row.file_type) && row.accepts(buf),
         None => false,
     }
 }

@@ -1,9 +1,8 @@
 //! A row that a caller added.
-ghost use Rattle.std.specs.Prelude.{◌≡◌, ◌↔◌, IsTrue};
+ghost use Rattle.std.specs.Prelude.{◌≡◌};
 ghost use Rattle.std.specs.Bool.{OnFalse, OnTrue};
 ghost use Rattle.infer.specs.Caller.{FixesAnswers};
 
-use crate::ask::question::Wanted;
 use crate::table::file_type::{FileType, Matcher, MatcherType};
 
 /// A row of a caller's. Its function may be called on every buffer, and its contract fixes one answer for each.
@@ -17,7 +16,6 @@ pub struct CustomRow {
 }
 
 impl CustomRow {
-    ghost use Rattle.infer.specs.Questions.{IsWanted};
     ghost use Rattle.infer.specs.Rows.{AnyAccepts, custom_row};
     ghost use Rattle.infer.specs.Triple.{triple_of};
 
@@ -29,12 +27,6 @@ impl CustomRow {
             mime_type: self.mime_type,
             extension: self.extension,
         }
-    }
-
-    pub fn fits(&self, wanted: Wanted) -> bool
-        ensures { IsTrue result ↔ IsWanted wanted.entry (custom_row self.now) }
-    {
-        wanted.fits(&self.file_type())
     }
 
     pub fn accepts(&self, buf: &[u8]) -> bool

@@ -2,16 +2,18 @@
 ghost use Rattle.std.specs.Prelude.{◌≡◌, ◌↔◌, None, Some, [], ◌∷◌, ◌++◌, IsTrue, OnErr, OnOk, map, option_map};
 ghost use Rattle.infer.specs.Caller.{FixesAnswers};
 ghost use Rattle.infer.specs.First.{IsAnswer, SomeHas};
-ghost use Rattle.infer.specs.Questions.{HasClass, HasExtension, HasMimeType, IsWanted, SomeBoth};
+ghost use Rattle.infer.specs.Questions.{HasClass, HasExtension, HasMimeType, IsAsked, SomeBoth};
 ghost use Rattle.infer.specs.Rows.{AnyAccepts, custom_row, custom_rows, given, rows};
 ghost use Rattle.infer.specs.Triple.{triple, triple_of};
-ghost use Rattle.infer.specs.declared.table.file_type.MatcherType.TheVariants.{Custom};
+ghost use Rattle.infer.specs.declared.table.file_type.MatcherType.{MatcherType};
 
-use crate::answers;
-use crate::ask::question::Wanted;
+use crate::ask::class::{App, Archive, Audio, Book, Class, Custom, Doc, Font, Image, Video};
+use crate::ask::question::{OfClass, Question, WithExtension, WithMimeType};
 use crate::caller::custom::CustomRow;
-use crate::table::file_type::{FileType, Matcher, MatcherType};
+use crate::table::file_type::{FileType, Matcher};
+use crate::{answers, texts};
 use std::alloc::{AllocError, Allocator, Global};
+use std::marker::PhantomData;
 
 /// Rows to ask: those that were added, in that order, and then the built-in ones.
 ///
@@ -65,7 +67,7 @@ impl<A: Allocator> Infer<A> {
         requires callable { IsAlwaysCallable m }
         requires settled { FixesAnswers (post m) }
         ensures added { OnOk result (custom_rows self.new ≡ custom_rows self.old
-            ++ record { shows = triple Custom mime_type.now extension.now; signature = given m } ∷ []) }
+            ++ record { shows = triple MatcherType.Custom mime_type.now extension.now; signature = given m } ∷ []) }
         ensures refused { OnErr result (custom_rows self.new ≡ custom_rows self.old) }
     {
         let row = CustomRow {
@@ -100,7 +102,8 @@ impl<A: Allocator> Infer<A> {
         ensures { IsTrue result
             ↔ SomeBoth (HasExtension extension.now) (AnyAccepts buf.now) (rows self.now) }
     {
-        self.some(Wanted::Extension(extension), buf)
+        let text = extension.as_bytes();
+        self.custom_some(&WithExtension(text), buf) || texts::is(buf, text)
     }
 
     /// Whether some row with this MIME type accepts `buf`, which need not be the answer: allow by [`Infer::get`].
@@ -109,21 +112,24 @@ impl<A: Allocator> Infer<A> {
         ensures { IsTrue result
             ↔ SomeBoth (HasMimeType mime_type.now) (AnyAccepts buf.now) (rows self.now) }
     {
-        self.some(Wanted::MimeType(mime_type), buf)
+        let text = mime_type.as_bytes();
+        self.custom_some(&WithMimeType(text), buf) || texts::is_mime(buf, text)
     }
 
     /// Whether some row has this extension.
     pub fn is_supported(&self, extension: &str) -> bool
         ensures { IsTrue result ↔ SomeHas (HasExtension extension.now) (rows self.now) }
     {
-        self.has(Wanted::Extension(extension))
+        let text = extension.as_bytes();
+        self.custom_has(&WithExtension(text)) || texts::is_supported(text)
     }
 
     /// Whether some row has this MIME type.
     pub fn is_mime_supported(&self, mime_type: &str) -> bool
         ensures { IsTrue result ↔ SomeHas (HasMimeType mime_type.now) (rows self.now) }
     {
-        self.has(Wanted::MimeType(mime_type))
+        let text = mime_type.as_bytes();
+        self.custom_has(&WithMimeType(text)) || texts::is_mime_supported(text)
     }
 
     /// Whether some row of the class `App` accepts `buf`, which need not be the answer: allow by [`Infer::get`].
@@ -131,7 +137,7 @@ impl<A: Allocator> Infer<A> {
         ensures { IsTrue result
             ↔ SomeBoth (HasClass MatcherType.App) (AnyAccepts buf.now) (rows self.now) }
     {
-        self.some(Wanted::Class(MatcherType::App), buf)
+        self.is_of::<App>(buf)
     }
 
     /// Whether some row of the class `Archive` accepts `buf`, which need not be the answer: allow by [`Infer::get`].
@@ -139,7 +145,7 @@ impl<A: Allocator> Infer<A> {
         ensures { IsTrue result
             ↔ SomeBoth (HasClass MatcherType.Archive) (AnyAccepts buf.now) (rows self.now) }
     {
-        self.some(Wanted::Class(MatcherType::Archive), buf)
+        self.is_of::<Archive>(buf)
     }
 
     /// Whether some row of the class `Audio` accepts `buf`, which need not be the answer: allow by [`Infer::get`].
@@ -147,7 +153,7 @@ impl<A: Allocator> Infer<A> {
         ensures { IsTrue result
             ↔ SomeBoth (HasClass MatcherType.Audio) (AnyAccepts buf.now) (rows self.now) }
     {
-        self.some(Wanted::Class(MatcherType::Audio), buf)
+        self.is_of::<Audio>(buf)
     }
 
     /// Whether some row of the class `Book` accepts `buf`, which need not be the answer: allow by [`Infer::get`].
@@ -155,7 +161,7 @@ impl<A: Allocator> Infer<A> {
         ensures { IsTrue result
             ↔ SomeBoth (HasClass MatcherType.Book) (AnyAccepts buf.now) (rows self.now) }
     {
-        self.some(Wanted::Class(MatcherType::Book), buf)
+        self.is_of::<Book>(buf)
     }
 
     /// Whether some row of the class `Doc` accepts `buf`, which need not be the answer: allow by [`Infer::get`].
@@ -163,7 +169,7 @@ impl<A: Allocator> Infer<A> {
         ensures { IsTrue result
             ↔ SomeBoth (HasClass MatcherType.Doc) (AnyAccepts buf.now) (rows self.now) }
     {
-        self.some(Wanted::Class(MatcherType::Doc), buf)
+        self.is_of::<Doc>(buf)
     }
 
     /// Whether some row of the class `Font` accepts `buf`, which need not be the answer: allow by [`Infer::get`].
@@ -171,7 +177,7 @@ impl<A: Allocator> Infer<A> {
         ensures { IsTrue result
             ↔ SomeBoth (HasClass MatcherType.Font) (AnyAccepts buf.now) (rows self.now) }
     {
-        self.some(Wanted::Class(MatcherType::Font), buf)
+        self.is_of::<Font>(buf)
     }
 
     /// Whether some row of the class `Image` accepts `buf`, which need not be the answer: allow by [`Infer::get`].
@@ -179,7 +185,7 @@ impl<A: Allocator> Infer<A> {
         ensures { IsTrue result
             ↔ SomeBoth (HasClass MatcherType.Image) (AnyAccepts buf.now) (rows self.now) }
     {
-        self.some(Wanted::Class(MatcherType::Image), buf)
+        self.is_of::<Image>(buf)
     }
 
     /// Whether some row of the class `Video` accepts `buf`, which need not be the answer: allow by [`Infer::get`].
@@ -187,7 +193,7 @@ impl<A: Allocator> Infer<A> {
         ensures { IsTrue result
             ↔ SomeBoth (HasClass MatcherType.Video) (AnyAccepts buf.now) (rows self.now) }
     {
-        self.some(Wanted::Class(MatcherType::Video), buf)
+        self.is_of::<Video>(buf)
     }
 
     /// Whether some row of the class `Custom` accepts `buf`, which need not be the answer: allow by [`Infer::get`].
@@ -195,45 +201,37 @@ impl<A: Allocator> Infer<A> {
         ensures { IsTrue result
             ↔ SomeBoth (HasClass MatcherType.Custom) (AnyAccepts buf.now) (rows self.now) }
     {
-        self.some(Wanted::Class(MatcherType::Custom), buf)
+        self.is_of::<Custom>(buf)
     }
 
-    /// Whether some row that is wanted accepts the buffer.
-    fn some(&self, wanted: Wanted, buf: &[u8]) -> bool
+    /// Whether some row of the class accepts the buffer.
+    fn is_of<C: Class>(&self, buf: &[u8]) -> bool
         ensures { IsTrue result
-            ↔ SomeBoth (IsWanted wanted.entry) (AnyAccepts buf.now) (rows self.now) }
+            ↔ SomeBoth (HasClass C.CLASS) (AnyAccepts buf.now) (rows self.now) }
     {
-        self.custom_some(wanted, buf) || answers::some(wanted, buf)
+        self.custom_some(&OfClass::<C>(PhantomData), buf) || answers::some_of_class::<C>(buf)
     }
 
-    /// Whether some added row that is wanted accepts the buffer.
-    fn custom_some(&self, wanted: Wanted, buf: &[u8]) -> bool
+    /// Whether some added row that is asked for accepts the buffer.
+    fn custom_some<Q: Question>(&self, question: &Q, buf: &[u8]) -> bool
         ensures { IsTrue result
-            ↔ SomeBoth (IsWanted wanted.entry) (AnyAccepts buf.now) (custom_rows self.now) }
+            ↔ SomeBoth (IsAsked (Q.asked question.now)) (AnyAccepts buf.now) (custom_rows self.now) }
     {
         let takes = |row: &CustomRow| -> bool
-            ensures { IsTrue result
-                ↔ (IsWanted wanted.entry (custom_row row.now)
+            ensures { IsTrue result ↔ (IsAsked (Q.asked question.entry.now) (custom_row row.now)
                 × AnyAccepts buf.entry.now (custom_row row.now)) }
-        { row.fits(wanted) && row.accepts(buf) };
+        { question.asks_for(&row.file_type()) && row.accepts(buf) };
         self.custom().iter().any(takes)
     }
 
-    /// Whether some row is wanted.
-    fn has(&self, wanted: Wanted) -> bool
-        ensures { IsTrue result ↔ SomeHas (IsWanted wanted.entry) (rows self.now) }
+    /// Whether some added row is asked for.
+    fn custom_has<Q: Question>(&self, question: &Q) -> bool
+        ensures { IsTrue result ↔ SomeHas (IsAsked (Q.asked question.now)) (custom_rows self.now) }
     {
-        self.custom_has(wanted) || answers::has(wanted)
-    }
-
-    /// Whether some added row is wanted.
-    fn custom_has(&self, wanted: Wanted) -> bool
-        ensures { IsTrue result ↔ SomeHas (IsWanted wanted.entry) (custom_rows self.now) }
-    {
-        let fits = |row: &CustomRow| -> bool
-            ensures { IsTrue result ↔ IsWanted wanted.entry (custom_row row.now) }
-        { row.fits(wanted) };
-        self.custom().iter().any(fits)
+        let asked = |row: &CustomRow| -> bool
+            ensures { IsTrue result ↔ IsAsked (Q.asked question.entry.now) (custom_row row.now) }
+        { question.asks_for(&row.file_type()) };
+        self.custom().iter().any(asked)
     }
 
     /// The answer of the added rows alone.

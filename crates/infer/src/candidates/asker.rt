@@ -1,5 +1,5 @@
 //! Rows are asked through an asker, which counts them.
-ghost use Rattle.std.specs.Prelude.{◌≡◌, ◌↔◌, ◌<◌, ◌≤◌, ◌++◌, ◌&&◌, ℕ, List, [], ◌∷◌, Option, IfSome, is_some, IsTrue, length, slice_get};
+ghost use Rattle.std.specs.Prelude.{◌≡◌, ◌↔◌, ◌<◌, ◌≤◌, ◌++◌, ◌&&◌, ℕ, List, [], ◌∷◌, Option, None, Some, IfSome, is_some, IsTrue, length, slice_get};
 ghost use Rattle.std.specs.List.{filter};
 ghost use Rattle.infer.specs.First.{IsFirstOf};
 ghost use Rattle.infer.specs.Leads.{candidates_of};
@@ -7,14 +7,14 @@ ghost use Rattle.infer.specs.Listed.{number_of};
 ghost use Rattle.infer.specs.Questions.{HasExtension, SomeBoth};
 ghost use Rattle.infer.specs.Row.{Accepts};
 ghost use Rattle.infer.specs.Table.{table};
-ghost use Rattle.infer.specs.Walks.{IsFirstAmong, RowHas, Takes, asked_rows, count_asked, is_listed, is_wanted, named};
-ghost use Rattle.infer.specs.declared.ask.question.Wanted.TheVariants.{Every, Extension};
+ghost use Rattle.infer.specs.Walks.{HasGiven, IsFirstAmong, RowHas, Takes, asked_rows, count_asked, is_asked, is_listed};
 
-use crate::ask::taken::accepts_at;
+use crate::ask::question::WithExtension;
+use crate::ask::taken::{accepts, is_asked};
 use crate::candidates::dispatch::{arm_of, candidates_at};
-use crate::candidates::slots::{Listed, OfExtension};
+use crate::candidates::slots::rows_for_extension;
 use crate::table::leads::{blank, leads};
-use crate::table::rows::{MOST_CANDIDATES, ROW_COUNT, RowName, has_extension};
+use crate::table::rows::{MOST_CANDIDATES, ROW_COUNT, RowName};
 
 /// Who asks the built-in rows about one buffer. A contract sees that buffer, and which rows were asked, in order.
 pub trait Ask {
@@ -74,7 +74,7 @@ impl Ask for Asker<'_> {
 
     fn ask(&mut self, i: usize) -> bool {
         self.count += 1;
-        accepts_at(i, self.buf)
+        accepts(self.buf, i)
     }
 }
 
@@ -85,9 +85,9 @@ impl Ask for Asker<'_> {
 /// asks them in ascending order up to the answer, which are at most [`MOST_CANDIDATES`], and no other.
 pub fn walk<A: Ask>(asker: &mut A, wanted: Option<&str>) -> Option<usize>
     requires { A.has_asked asker.old [] }
-    ensures first { IsFirstAmong (RowHas (Takes (named wanted.entry) (A.buffer asker.old))) (candidates_of (A.buffer asker.old)) result }
-    ensures asked { A.has_asked asker.new (asked_rows (named wanted.entry) (A.buffer asker.old) result) }
-    ensures few { count_asked (named wanted.entry) (A.buffer asker.old) result ≤ MOST_CANDIDATES }
+    ensures first { IsFirstAmong (RowHas (Takes (HasGiven wanted.entry) (A.buffer asker.old))) (candidates_of (A.buffer asker.old)) result }
+    ensures asked { A.has_asked asker.new (asked_rows wanted.entry (A.buffer asker.old) result) }
+    ensures few { count_asked wanted.entry (A.buffer asker.old) result ≤ MOST_CANDIDATES }
     ensures kept { A.buffer asker.new ≡ A.buffer asker.old }
 {
     match wanted {
@@ -100,9 +100,9 @@ pub fn walk<A: Ask>(asker: &mut A, wanted: Option<&str>) -> Option<usize>
 #[inline(always)]
 fn walk_every<A: Ask>(asker: &mut A) -> Option<usize>
     requires { A.has_asked asker.old [] }
-    ensures first { IsFirstAmong (RowHas (Takes Every (A.buffer asker.old))) (candidates_of (A.buffer asker.old)) result }
-    ensures asked { A.has_asked asker.new (asked_rows Every (A.buffer asker.old) result) }
-    ensures few { count_asked Every (A.buffer asker.old) result ≤ MOST_CANDIDATES }
+    ensures first { IsFirstAmong (RowHas (Takes (HasGiven None) (A.buffer asker.old))) (candidates_of (A.buffer asker.old)) result }
+    ensures asked { A.has_asked asker.new (asked_rows None (A.buffer asker.old) result) }
+    ensures few { count_asked None (A.buffer asker.old) result ≤ MOST_CANDIDATES }
     ensures kept { A.buffer asker.new ≡ A.buffer asker.old }
 {
     for row in candidates_of(asker) {
@@ -117,15 +117,15 @@ fn walk_every<A: Ask>(asker: &mut A) -> Option<usize>
 /// compared with it.
 fn walk_extension<A: Ask>(asker: &mut A, extension: &str) -> Option<usize>
     requires { A.has_asked asker.old [] }
-    ensures first { IsFirstAmong (RowHas (Takes (Extension extension.entry) (A.buffer asker.old))) (candidates_of (A.buffer asker.old)) result }
-    ensures asked { A.has_asked asker.new (asked_rows (Extension extension.entry) (A.buffer asker.old) result) }
-    ensures few { count_asked (Extension extension.entry) (A.buffer asker.old) result ≤ MOST_CANDIDATES }
+    ensures first { IsFirstAmong (RowHas (Takes (HasGiven (Some extension.entry)) (A.buffer asker.old))) (candidates_of (A.buffer asker.old)) result }
+    ensures asked { A.has_asked asker.new (asked_rows (Some extension.entry) (A.buffer asker.old) result) }
+    ensures few { count_asked (Some extension.entry) (A.buffer asker.old) result ≤ MOST_CANDIDATES }
     ensures kept { A.buffer asker.new ≡ A.buffer asker.old }
 {
     leads();
     blank();
     let candidates = candidates_of(asker);
-    for row in OfExtension(extension.as_bytes()).rows() {
+    for row in rows_for_extension(extension.as_bytes()) {
         if ask_named(asker, *row, extension, candidates) {
             return Some(*row as usize);
         }
@@ -139,15 +139,15 @@ fn ask_named<A: Ask>(asker: &mut A, row: RowName, extension: &str, candidates: &
     requires all { candidates.now ≡ candidates_of (A.buffer asker.old) }
     requires room { (before : List ℕ) × A.has_asked asker.old before × (length before < ROW_COUNT) }
     ensures answer { IsTrue result
-        ↔ RowHas (Takes (Extension extension.entry) (A.buffer asker.old)) (number_of row) }
+        ↔ RowHas (Takes (HasGiven (Some extension.entry)) (A.buffer asker.old)) (number_of row) }
     ensures asked { (before : List ℕ) → A.has_asked asker.old before
-        → A.has_asked asker.new (before ++ filter (λ i. is_wanted (Extension extension.entry) i && is_listed candidates.now i) (number_of row ∷ [])) }
+        → A.has_asked asker.new (before ++ filter (λ i. is_asked (Some extension.entry) i && is_listed candidates.now i) (number_of row ∷ [])) }
     ensures kept { A.buffer asker.new ≡ A.buffer asker.old }
 {
     leads();
     blank();
     let i = row as usize;
-    has_extension(row, extension.as_bytes()) && candidates.contains(&i) && asker.ask(i)
+    is_asked(i, &WithExtension(extension.as_bytes())) && candidates.contains(&i) && asker.ask(i)
 }
 
 /// The rows that can accept the asker's buffer, ascending.
@@ -165,9 +165,9 @@ fn candidates_of<A: Ask>(asker: &A) -> &'static [usize]
 /// What a [`walk`] about `buf` answers, and how many rows it asks.
 #[inline(always)]
 fn count(buf: &[u8], wanted: Option<&str>) -> (Option<usize>, u32)
-    ensures first { IsFirstOf (Takes (named wanted.entry) buf.now) table result.0 }
-    ensures among { IsFirstAmong (RowHas (Takes (named wanted.entry) buf.now)) (candidates_of buf.now) result.0 }
-    ensures counted { result.1 ≡ count_asked (named wanted.entry) buf.now result.0 }
+    ensures first { IsFirstOf (Takes (HasGiven wanted.entry) buf.now) table result.0 }
+    ensures among { IsFirstAmong (RowHas (Takes (HasGiven wanted.entry) buf.now)) (candidates_of buf.now) result.0 }
+    ensures counted { result.1 ≡ count_asked wanted.entry buf.now result.0 }
     ensures few { result.1 ≤ MOST_CANDIDATES }
 {
     leads();
@@ -182,7 +182,7 @@ fn count(buf: &[u8], wanted: Option<&str>) -> (Option<usize>, u32)
 pub fn position_counted(buf: &[u8]) -> (Option<usize>, u32)
     ensures first { IsFirstOf (Accepts buf.now) table result.0 }
     ensures bound { IfSome result.0 (λ i. i < ROW_COUNT) }
-    ensures counted { result.1 ≡ count_asked Every buf.now result.0 }
+    ensures counted { result.1 ≡ count_asked None buf.now result.0 }
     ensures few { result.1 ≤ MOST_CANDIDATES }
 {
     count(buf, None)
@@ -194,8 +194,8 @@ pub fn is_counted(buf: &[u8], extension: &str) -> (bool, u32)
     ensures found { IsTrue result.0
         ↔ SomeBoth (HasExtension extension.now) (Accepts buf.now) table }
     ensures counted { (answer : Option ℕ)
-        × IsFirstAmong (RowHas (Takes (Extension extension.entry) buf.now)) (candidates_of buf.now) answer × (result.0 ≡ is_some answer)
-        × (result.1 ≡ count_asked (Extension extension.entry) buf.now answer) }
+        × IsFirstAmong (RowHas (Takes (HasGiven (Some extension.entry)) buf.now)) (candidates_of buf.now) answer × (result.0 ≡ is_some answer)
+        × (result.1 ≡ count_asked (Some extension.entry) buf.now answer) }
     ensures few { result.1 ≤ MOST_CANDIDATES }
 {
     let (found, count) = count(buf, Some(extension));

@@ -3,12 +3,12 @@
 
 ghost use Rattle.std.specs.Prelude.{◌↔◌, [], ◌∷◌, ℕ, List, Option, IsTrue};
 ghost use Rattle.infer_deep.specs.Find.{OccursAt};
-ghost use Rattle.infer.specs.Questions.{IsWanted};
+ghost use Rattle.infer.specs.Questions.{IsAsked};
 ghost use Rattle.infer.specs.Row.{Accepts};
 ghost use Rattle.infer.specs.Walks.{IsFirstAmong, RowHas, Takes, row_numbered};
 
 use crate::ask::question::Question;
-use crate::ask::taken::{is_wanted, takes};
+use crate::ask::taken::{is_asked, takes};
 use crate::table::rows::{DOCX, HTML, LZ4, PPTX, XLSX, XML, ZST};
 use infer_deep::archive::after_skippable_frames;
 use infer_deep::doc::deciding_folder;
@@ -24,7 +24,7 @@ pub trait Chain {
 
     /// The first that accepts `buf`, of those that are asked for.
     fn first<Q: Question>(&self, question: &Q, buf: &[u8]) -> Option<usize>
-        ensures { IsFirstAmong (RowHas (Takes (Q.wanted question.now) buf.now)) (rows self.now) result };
+        ensures { IsFirstAmong (RowHas (Takes (Q.asked question.now) buf.now)) (rows self.now) result };
 }
 
 /// No row.
@@ -140,7 +140,7 @@ impl Shared<{ ZST }, { LZ4 }> for Frames {
     #[tactic(auto, unfolding(crate::specs::Table::table))]
     #[inline(always)]
     fn after<'a, Q: Question>(&self, question: &Q, buf: &'a [u8]) -> &'a [u8] {
-        if is_wanted(ZST, question) {
+        if is_asked(ZST, question) {
             after_skippable_frames(buf)
         } else {
             buf
@@ -152,7 +152,7 @@ impl Shared<{ HTML }, { XML }> for Markup {
     #[tactic(auto, unfolding(crate::specs::Table::table))]
     #[inline(always)]
     fn after<'a, Q: Question>(&self, question: &Q, buf: &'a [u8]) -> &'a [u8] {
-        if is_wanted(HTML, question) {
+        if is_asked(HTML, question) {
             after_white_space(buf)
         } else {
             buf
@@ -173,7 +173,7 @@ impl<C: Chain> Whole<C> {
     /// The number of the first row, as [`Chain::first`] answers, and [`NO_ROW`] for none. A number takes one register.
     #[inline(never)]
     pub fn number<Q: Question>(&self, question: &Q, buf: &[u8]) -> u32
-        ensures { IsFirstAmong (RowHas (Takes (Q.wanted question.now) buf.now)) (C.rows self.now.0) (row_numbered result) }
+        ensures { IsFirstAmong (RowHas (Takes (Q.asked question.now) buf.now)) (C.rows self.now.0) (row_numbered result) }
     {
         match self.0.first(question, buf) {
             Some(row) => row as u32,
@@ -187,7 +187,7 @@ pub trait Told {
     ghost told: { Self → Option ℕ };
 
     fn of<C: Chain, Q: Question>(chain: &Whole<C>, question: &Q, buf: &[u8]) -> Self
-        ensures { IsFirstAmong (RowHas (Takes (Q.wanted question.now) buf.now)) (C.rows chain.now.0) (told result) };
+        ensures { IsFirstAmong (RowHas (Takes (Q.asked question.now) buf.now)) (C.rows chain.now.0) (told result) };
 }
 
 impl Told for Option<usize> {
@@ -211,9 +211,9 @@ impl Told for u32 {
 
 /// The first row of Office in ZIP archives that accepts `buf`, of those that are asked for.
 fn office_row<Q: Question>(question: &Q, buf: &[u8]) -> Option<usize>
-    ensures { IsFirstAmong (RowHas (Takes (Q.wanted question.now) buf.now)) (DOCX ∷ XLSX ∷ PPTX ∷ []) result }
+    ensures { IsFirstAmong (RowHas (Takes (Q.asked question.now) buf.now)) (DOCX ∷ XLSX ∷ PPTX ∷ []) result }
 {
-    if !is_wanted(DOCX, question) && !is_wanted(XLSX, question) && !is_wanted(PPTX, question) {
+    if !is_asked(DOCX, question) && !is_asked(XLSX, question) && !is_asked(PPTX, question) {
         return None;
     }
     let folder = deciding_folder(buf);
@@ -232,8 +232,8 @@ fn office_row<Q: Question>(question: &Q, buf: &[u8]) -> Option<usize>
 /// Whether row `i` is asked for, and the folder has that name.
 #[inline(always)]
 fn is_folder_of<Q: Question>(i: usize, question: &Q, folder: &[u8], name: &[u8]) -> bool
-    ensures { IsTrue result ↔ RowHas (IsWanted (Q.wanted question.now)) i
+    ensures { IsTrue result ↔ RowHas (IsAsked (Q.asked question.now)) i
         × OccursAt folder.now name.now 0 }
 {
-    is_wanted(i, question) && stands_at(folder, name, 0)
+    is_asked(i, question) && stands_at(folder, name, 0)
 }

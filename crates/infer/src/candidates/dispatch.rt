@@ -226,7 +226,7 @@ pub fn candidates_at(arm: Arm) -> &'static [usize]
 /// What is told of the first candidate of an arm that accepts `buf`, of those that are asked for.
 #[inline(always)]
 fn tell_first<T: Told, Q: Question>(arm: Arm, question: &Q, buf: &[u8]) -> T
-    ensures { IsFirstAmong (RowHas (Takes (Q.wanted question.now) buf.now)) (rows_of arm) (T.told result) }
+    ensures { IsFirstAmong (RowHas (Takes (Q.asked question.now) buf.now)) (rows_of arm) (T.told result) }
 {
     with_candidates!(told_at arm question buf)
 }
@@ -234,7 +234,7 @@ fn tell_first<T: Told, Q: Question>(arm: Arm, question: &Q, buf: &[u8]) -> T
 /// The first candidate of an arm that accepts `buf`, of those that are asked for.
 #[inline(always)]
 pub fn first_of<Q: Question>(arm: Arm, question: &Q, buf: &[u8]) -> Option<usize>
-    ensures { IsFirstAmong (RowHas (Takes (Q.wanted question.now) buf.now)) (rows_of arm) result }
+    ensures { IsFirstAmong (RowHas (Takes (Q.asked question.now) buf.now)) (rows_of arm) result }
 {
     match tell_first::<u32, Q>(arm, question, buf) {
         NO_ROW => None,
@@ -245,7 +245,7 @@ pub fn first_of<Q: Question>(arm: Arm, question: &Q, buf: &[u8]) -> Option<usize
 /// [`first_of`] for class tests, as a function of its own. A test that has it inside can take longer to begin than to
 /// answer, so the compiler chooses.
 pub fn first_of_class<Q: Question>(arm: Arm, question: &Q, buf: &[u8]) -> Option<usize>
-    ensures { IsFirstAmong (RowHas (Takes (Q.wanted question.now) buf.now)) (rows_of arm) result }
+    ensures { IsFirstAmong (RowHas (Takes (Q.asked question.now) buf.now)) (rows_of arm) result }
 {
     tell_first::<Option<usize>, Q>(arm, question, buf)
 }

@@ -1,6 +1,5 @@
 //! What a file type is.
-ghost use Rattle.std.specs.Prelude.{◌≡◌, ◌↔◌, IsTrue, Some};
-ghost use Rattle.std.specs.Str.{bytes_eq};
+ghost use Rattle.std.specs.Prelude.{◌≡◌, Some};
 
 use std::fmt;
 
@@ -85,22 +84,4 @@ impl fmt::Debug for FileType {
             .field("extension", &self.extension)
             .finish_non_exhaustive()
     }
-}
-
-/// Whether two texts are the same. Most that are asked for differ in the first byte or the length.
-#[inline(always)]
-pub(crate) fn is_same(a: &str, b: &str) -> bool
-    ensures same { IsTrue result ↔ (a.now ≡ b.now) }
-    ensures test { result ≡ bytes_eq a.now b.now }
-{
-    a.len() == b.len() && a.as_bytes().first() == b.as_bytes().first() && is_equal(a, b)
-}
-
-/// A function of its own, so that a loop over texts does not prepare for a comparison that seldom comes.
-#[inline(never)]
-fn is_equal(a: &str, b: &str) -> bool
-    ensures same { IsTrue result ↔ (a.now ≡ b.now) }
-    ensures test { result ≡ bytes_eq a.now b.now }
-{
-    a == b
 }

@@ -4,11 +4,9 @@ ghost use Rattle.std.specs.List.{list_all};
 ghost use Rattle.infer.specs.BuiltIn.{IsAccepted};
 ghost use Rattle.infer.specs.Decided.{Tells};
 ghost use Rattle.infer.specs.Listed.{buffer_listed, is_inside, number_of, row_listed};
-ghost use Rattle.infer.specs.Questions.{HasExtension, HasMimeType};
 ghost use Rattle.infer.specs.Slots.{ListSlots, extension_of, mime_type_of};
 ghost use Rattle.infer.specs.Samples.{padded, sample_of};
 ghost use Rattle.infer.specs.Table.{signature_of, table};
-ghost use Rattle.infer.specs.Walks.{RowHas};
 
 use crate::table::file_type::{FileType, MatcherType};
 use infer_sig::{app, archive, audio, book, doc, font, image, odf, text, video};
@@ -539,7 +537,7 @@ pub(crate) fn samples() -> &'static [Pieces; ROW_COUNT]
 /// contract says.
 #[tactic(auto, unfolding(crate::specs::Table::signature_of, crate::specs::Table::table))]
 #[inline(always)]
-pub(crate) fn accepts(name: RowName, buf: &[u8]) -> bool
+pub(crate) fn accepts_named(name: RowName, buf: &[u8]) -> bool
     ensures { IsTrue result ↔ IsAccepted (signature_of (number_of name)) buf.now }
 {
     with_rows!(matchers name buf)
@@ -612,36 +610,4 @@ pub(crate) fn mime_types() -> &'static [&'static [RowName]; 128]
     ensures { ListSlots mime_type_of result.now }
 {
     &BY_MIME_TYPE
-}
-
-/// Whether the bytes are that text.
-#[inline(always)]
-fn is_text(bytes: &[u8], text: &str) -> bool
-    ensures { IsTrue result ↔ (text.now ≡ bytes.now) }
-{
-    text.as_bytes() == bytes
-}
-
-/// The row of that name.
-#[inline(always)]
-fn row_named(name: RowName) -> &'static BuiltInRow
-    ensures { slice_get table (number_of name) ≡ Some (row_listed result.now) }
-{
-    row_at(name as usize)
-}
-
-/// Whether the row has this extension.
-#[inline(always)]
-pub(crate) fn has_extension(name: RowName, text: &[u8]) -> bool
-    ensures { IsTrue result ↔ RowHas (HasExtension text.now) (number_of name) }
-{
-    is_text(text, row_named(name).file_type.extension)
-}
-
-/// Whether the row has this MIME type.
-#[inline(always)]
-pub(crate) fn has_mime_type(name: RowName, text: &[u8]) -> bool
-    ensures { IsTrue result ↔ RowHas (HasMimeType text.now) (number_of name) }
-{
-    is_text(text, row_named(name).file_type.mime_type)
 }

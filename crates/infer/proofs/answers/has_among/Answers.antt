@@ -1,14 +1,14 @@
 use Rattle.std.proofs.Common.{map, refl, rules, tests}
 use Rattle.std.proofs.lemmas.Iterator.{YieldsList-from_slice, cases_from_any}
 use Rattle.infer.specs.Listed.{number_of}
-use Rattle.infer.specs.Questions.{IsWanted}
+use Rattle.infer.specs.Questions.{IsAsked}
 use Rattle.infer.specs.Walks.{RowHas}
 use Rattle.infer.proofs.ListLemmas.{some_of_any}
 use Rattle.infer.proofs.answers.has_among.Goals as goal
 
 pub returns : goal.returns
 returns g c =
-    let P = IsWanted (g.Q.Listed.wanted c.args.question) in
+    let P = IsAsked (g.Q.Question.asked c.args.question.now) in
     some_of_any number_of (RowHas P) c.args.rows.now (map number_of c.args.rows.now) refl c.any.result
     (cases_from_any _ _ c.any.result (λ n. RowHas P (number_of n)) (λ n. ¬ RowHas P (number_of n)) c.any.ensures.ran
     (YieldsList-from_slice c.args.rows.now c.iter.ensures.rest) (λ x q k. search (rules, tests)) (λ x q k. search (rules, tests)))

@@ -1,10 +1,10 @@
-use Rattle.std.proofs.Common.{rules}
+use Rattle.std.proofs.Common.{rules, None}
 use Rattle.infer.specs.Table.{table}
-use Rattle.infer.specs.declared.ask.question.Wanted.TheVariants.{Every}
+use Rattle.infer.specs.Walks.{HasGiven}
 use Rattle.infer.proofs.CandidateLemmas.{first_of_buffer, first_of_every}
 use Rattle.infer.proofs.answers.position.Goals as goal
 
 pub returns : goal.returns
 returns c =
     first_of_every c.args.buf.now table c.first_of.result
-    (first_of_buffer c.leads.ensures c.blank.ensures Every c.args.buf.now _ c.first_of.result (search rules) c.first_of.ensures)
+    (first_of_buffer c.leads.ensures c.blank.ensures (HasGiven None) c.args.buf.now _ c.first_of.result (search rules) c.first_of.ensures)

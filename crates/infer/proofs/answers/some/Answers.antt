@@ -1,17 +1,16 @@
-use Rattle.std.proofs.Common.{◌↔◌, IsTrue, subst, sym}
-use Rattle.infer.specs.Questions.{IsWanted, SomeBoth}
-use Rattle.infer.specs.Row.{Accepts}
-use Rattle.infer.specs.Table.{table}
-use Rattle.infer.specs.declared.ask.question.Wanted.{Wanted}
-use Rattle.infer.specs.declared.ask.question.Wanted.TheVariants.{Every}
-use Rattle.infer.proofs.CandidateLemmas.{some_of_first}
+use Rattle.std.proofs.Common.{map}
+use Rattle.infer.specs.Listed.{number_of}
+use Rattle.infer.specs.Walks.{Takes}
+use Rattle.infer.proofs.SlotLemmas.{some_alone, some_listed}
 use Rattle.infer.proofs.answers.some.Goals as goal
 
-pub returns-in-Every : goal.returns-in-Every
-returns-in-Every c =
-    let some = some_of_first (Accepts c.args.buf.now) table c.position.result c.is_some.result c.is_some.ensures c.position.ensures in
-    let every : IsTrue c.is_some.result ↔ SomeBoth (IsWanted Every) (Accepts c.args.buf.now) table = (
-      λ t. let (k, lt, at) = some.0 t in (k, lt, λ d. (tt, at d)),
-      λ (k, lt, at). some.1 (k, lt, λ d. (at d).1),
-    ) in
-    subst (λ (w : Wanted). IsTrue c.is_some.result ↔ SomeBoth (IsWanted w) (Accepts c.args.buf.now) table) (sym c.in-Every.is) every
+pub returns-in-len1 : goal.returns-in-len1
+returns-in-len1 g c =
+    let asked = g.Q.Question.asked c.args.question.now in
+    some_alone (Takes asked c.args.buf.now) asked (λ x t. t.0) c.args.rows.now _ c.takes.result c.requires c.in-len1.len_at_least
+    c.in-len1.len_below c.takes.ensures
+
+pub returns : goal.returns
+returns g c =
+    let asked = g.Q.Question.asked c.args.question.now in
+    some_listed (Takes asked c.args.buf.now) asked (λ x t. t.0) (map number_of c.args.rows.now) c.some_among.result c.requires c.some_among.ensures

@@ -9,8 +9,8 @@ returns-in_default-clause-exact c =
     let empty : length c.args.buf.now ≡ 0 = grind (arith) in
     (λ t. absurd (cc), λ decided. absurd (empty_open c.blank.ensures c.args.buf.now empty decided))
 
-pub accepts_at-requires : goal.accepts_at-requires
-accepts_at-requires c =
+pub accepts-requires : goal.accepts-requires
+accepts-requires c =
     let long : 0 < length c.args.buf.now = grind (arith) in
     let first = first_open_row c.leads.ensures c.args.buf.now _ (Some c.in-Some-first_open.row) long (search rules) c.in-Some-first_open.ensures in
     omega (arith, first.within, length-table)
@@ -19,7 +19,7 @@ pub returns-in-Some-first_open-clause-exact : goal.returns-in-Some-first_open-cl
 returns-in-Some-first_open-clause-exact c =
     let long : 0 < length c.args.buf.now = grind (arith) in
     let first = first_open_row c.leads.ensures c.args.buf.now _ (Some c.in-Some-first_open.row) long (search rules) c.in-Some-first_open.ensures in
-    decided_by_first (every_lasts c.growth.ensures c.growth-2.ensures) c.args.buf.now c.in-Some-first_open.row first c.accepts_at.result c.accepts_at.ensures
+    decided_by_first (every_lasts c.growth.ensures c.growth-2.ensures) c.args.buf.now c.in-Some-first_open.row first c.accepts.result c.accepts.ensures
 
 pub returns-in-None-clause-exact : goal.returns-in-None-clause-exact
 returns-in-None-clause-exact c =
@@ -41,7 +41,7 @@ pub returns-in-Some-first_open-clause-open : goal.returns-in-Some-first_open-cla
 returns-in-Some-first_open-clause-open c =
     let long : 0 < length c.args.buf.now = grind (arith) in
     let first = first_open_row c.leads.ensures c.args.buf.now _ (Some c.in-Some-first_open.row) long (search rules) c.in-Some-first_open.ensures in
-    λ f. changes_by_first (every_lasts c.growth.ensures c.growth-2.ensures) c.args.buf.now c.in-Some-first_open.row first (λ has. absurd (let t = c.accepts_at.ensures.1 has in cc))
+    λ f. changes_by_first (every_lasts c.growth.ensures c.growth-2.ensures) c.args.buf.now c.in-Some-first_open.row first (λ has. absurd (let t = c.accepts.ensures.1 has in cc))
 
 pub returns-in-Some-first_open-clause-can_be : goal.returns-in-Some-first_open-clause-can_be
 returns-in-Some-first_open-clause-can_be c =

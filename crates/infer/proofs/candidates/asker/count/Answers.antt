@@ -1,10 +1,10 @@
 use Rattle.std.proofs.Common.{subst, refl, List, ℕ}
 use Rattle.infer.specs.Leads.{candidates_of}
-use Rattle.infer.specs.Walks.{IsFirstAmong, RowHas, Takes, named}
+use Rattle.infer.specs.Walks.{HasGiven, IsFirstAmong, RowHas, Takes}
 use Rattle.infer.proofs.CandidateLemmas.{first_of_buffer}
 use Rattle.infer.proofs.candidates.asker.count.Goals as goal
 
 pub returns-clause-first : goal.returns-clause-first
 returns-clause-first c =
-    first_of_buffer c.leads.ensures c.blank.ensures (named c.args.wanted) c.args.buf.now _ c.walk-found.result refl
-    (subst (λ (b : List ℕ). IsFirstAmong (RowHas (Takes (named c.args.wanted) b)) (candidates_of b) c.walk-found.result) c.new-asker.ensures.buffer c.walk-found.ensures.first)
+    first_of_buffer c.leads.ensures c.blank.ensures (HasGiven c.args.wanted) c.args.buf.now _ c.walk-found.result refl
+    (subst (λ (b : List ℕ). IsFirstAmong (RowHas (Takes (HasGiven c.args.wanted) b)) (candidates_of b) c.walk-found.result) c.new-asker.ensures.buffer c.walk-found.ensures.first)

@@ -1,7 +1,6 @@
 use Rattle.std.proofs.Common.{◌∙◌, arith, refl, filter, get_or, take, length, ◌≤◌, None, Some, subst, List, ℕ}
 use Rattle.infer.specs.Row.{Accepts}
-use Rattle.infer.specs.Walks.{IsFirstAmong, RowHas, Takes, is_wanted}
-use Rattle.infer.specs.declared.ask.question.Wanted.TheVariants.{Every}
+use Rattle.infer.specs.Walks.{HasGiven, IsFirstAmong, RowHas, Takes, is_asked}
 use Rattle.infer.specs.declared.table.rows.TheConstants.{MOST_CANDIDATES}
 use Rattle.infer.proofs.AskLemmas.{candidate_asked, candidate_room, candidate_row, candidates_asked, few_asked, found_among, none_among, refused_here}
 use Rattle.infer.proofs.CandidateLemmas.{every_taken}
@@ -15,7 +14,7 @@ ask-requires-clause-row g c =
 pub ask-requires-clause-room : goal.ask-requires-clause-room
 ask-requires-clause-room g c =
     let rs = c.candidates_of-row-items.result.now in (
-      filter (is_wanted Every) (take c.loop-row.row-index rs),
+      filter (is_asked None) (take c.loop-row.row-index rs),
       c.loop-row.invariant.asked,
       candidate_room (g.A.Ask.buffer c.args.asker.now) rs c.candidates_of-row-items.ensures.rows c.loop-row.row-index c.loop-row-test.true,
     )
@@ -38,8 +37,8 @@ returns-then-ask-clause-first g c =
     let b = g.A.Ask.buffer c.args.asker.now in
     let rs = c.candidates_of-row-items.result.now in
     let i = get_or rs c.loop-row.row-index 0 in
-    subst (λ (ns : List ℕ). IsFirstAmong (RowHas (Takes Every b)) ns (Some i)) c.candidates_of-row-items.ensures.rows
-    (found_among (RowHas (Takes Every b)) rs c.loop-row.row-index 0 c.loop-row-test.true
+    subst (λ (ns : List ℕ). IsFirstAmong (RowHas (Takes (HasGiven None) b)) ns (Some i)) c.candidates_of-row-items.ensures.rows
+    (found_among (RowHas (Takes (HasGiven None) b)) rs c.loop-row.row-index 0 c.loop-row-test.true
     ((every_taken b i).0 (subst (λ (x : List ℕ). RowHas (Accepts x) i) c.loop-row.invariant.kept (c.if-ask.ensures.answer.0 refl)))
     (λ k d low lt h. c.loop-row.invariant.refused k d low lt ((every_taken b (get_or rs k d)).1 h)))
 
@@ -55,17 +54,17 @@ returns-then-ask-clause-asked g c =
 pub returns-then-ask-clause-few : goal.returns-then-ask-clause-few
 returns-then-ask-clause-few g c =
     let rs = c.candidates_of-row-items.result.now in
-    few_asked Every (g.A.Ask.buffer c.args.asker.now) (Some (get_or rs c.loop-row.row-index 0))
+    few_asked None (g.A.Ask.buffer c.args.asker.now) (Some (get_or rs c.loop-row.row-index 0))
     (subst (λ (ns : List ℕ). length ns ≤ MOST_CANDIDATES) c.candidates_of-row-items.ensures.rows c.candidates_of-row-items.ensures.few)
 
 pub returns-clause-first : goal.returns-clause-first
 returns-clause-first g c =
     let b = g.A.Ask.buffer c.args.asker.now in
     let rs = c.candidates_of-row-items.result.now in
-    subst (λ (ns : List ℕ). IsFirstAmong (RowHas (Takes Every b)) ns None) c.candidates_of-row-items.ensures.rows
+    subst (λ (ns : List ℕ). IsFirstAmong (RowHas (Takes (HasGiven None) b)) ns None) c.candidates_of-row-items.ensures.rows
     (none_among _ rs (λ k d low lt h. c.loop-row.invariant.refused k d low (omega (arith, c.loop-row-test.false, lt)) ((every_taken b (get_or rs k d)).1 h)))
 
 pub returns-clause-few : goal.returns-clause-few
 returns-clause-few g c =
-    few_asked Every (g.A.Ask.buffer c.args.asker.now) None
+    few_asked None (g.A.Ask.buffer c.args.asker.now) None
     (subst (λ (ns : List ℕ). length ns ≤ MOST_CANDIDATES) c.candidates_of-row-items.ensures.rows c.candidates_of-row-items.ensures.few)

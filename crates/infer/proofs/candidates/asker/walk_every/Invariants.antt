@@ -1,14 +1,13 @@
 -- none of the rows so far accepts the buffer, and they were asked
-use Rattle.std.proofs.Common.{◌≡◌, take}
+use Rattle.std.proofs.Common.{◌≡◌, None, take}
 use Rattle.std.specs.List.{AllWithin, filter}
 use Rattle.infer.specs.Row.{Accepts}
-use Rattle.infer.specs.Walks.{RowHas, is_wanted}
-use Rattle.infer.specs.declared.ask.question.Wanted.TheVariants.{Every}
+use Rattle.infer.specs.Walks.{RowHas, is_asked}
 use Rattle.infer.proofs.candidates.asker.walk_every.Given as goal
 
 abbrev pub invariant-loop-row : goal.invariant-loop-row
 invariant-loop-row g l = record {
   kept : g.A.Ask.buffer l.asker ≡ g.A.Ask.buffer l.fn.asker;
   refused : AllWithin (λ i. ¬ RowHas (Accepts (g.A.Ask.buffer l.fn.asker)) i) l.row-items 0 l.row-index;
-  asked : g.A.Ask.has_asked l.asker (filter (is_wanted Every) (take l.row-index l.row-items));
+  asked : g.A.Ask.has_asked l.asker (filter (is_asked None) (take l.row-index l.row-items));
 }

@@ -1,14 +1,14 @@
 use Rattle.std.proofs.Common.{rules, tests}
 use Rattle.std.proofs.lemmas.Iterator.{YieldsList-from_slice, cases_from_any}
-use Rattle.infer.specs.Questions.{IsWanted}
+use Rattle.infer.specs.Questions.{IsAsked}
 use Rattle.infer.specs.Rows.{AnyAccepts, custom_row, custom_rows}
 use Rattle.infer.proofs.ListLemmas.{some_of_any}
 use Rattle.infer.proofs.caller.infer.Infer.custom_some.Goals as goal
 
 pub returns : goal.returns
 returns g c =
-    some_of_any custom_row (λ r. IsWanted c.args.wanted r × AnyAccepts c.args.buf.now r) c.custom.result.now (custom_rows c.args.self.now)
+    some_of_any custom_row (λ r. IsAsked (g.Q.Question.asked c.args.question.now) r × AnyAccepts c.args.buf.now r) c.custom.result.now (custom_rows c.args.self.now)
     c.custom.ensures c.any.result
-    (cases_from_any _ _ c.any.result (λ r. IsWanted c.args.wanted (custom_row r) × AnyAccepts c.args.buf.now (custom_row r))
-    (λ r. ¬ (IsWanted c.args.wanted (custom_row r) × AnyAccepts c.args.buf.now (custom_row r))) c.any.ensures.ran
+    (cases_from_any _ _ c.any.result (λ r. IsAsked (g.Q.Question.asked c.args.question.now) (custom_row r) × AnyAccepts c.args.buf.now (custom_row r))
+    (λ r. ¬ (IsAsked (g.Q.Question.asked c.args.question.now) (custom_row r) × AnyAccepts c.args.buf.now (custom_row r))) c.any.ensures.ran
     (YieldsList-from_slice c.custom.result.now c.iter.ensures.rest) (λ x q k. search (rules, tests)) (λ x q k. search (rules, tests)))

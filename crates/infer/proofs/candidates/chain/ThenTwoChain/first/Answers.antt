@@ -1,12 +1,12 @@
 use Rattle.std.proofs.Common.{List, ℕ, inl, inr, refl, arith}
 use Rattle.infer.specs.Row.{Accepts}
 use Rattle.infer.specs.Walks.{IsFirstAmong, RowHas, Takes}
-use Rattle.infer.specs.declared.ask.question.Wanted.{Wanted}
+use Rattle.infer.specs.Triple.{Triple}
 use Rattle.infer.proofs.candidates.chain.ThenTwoChain.first.Goals as goal
 
 -- a row that accepts two buffers alike takes them alike
-taken_alike : (wanted : Wanted) (s t : List ℕ) (i : ℕ) → (RowHas (Accepts s) i → RowHas (Accepts t) i) → RowHas (Takes wanted s) i → RowHas (Takes wanted t) i
-taken_alike wanted s t i same h = grind arith
+taken_alike : (asked : Triple → Type 0) (s t : List ℕ) (i : ℕ) → (RowHas (Accepts s) i → RowHas (Accepts t) i) → RowHas (Takes asked s) i → RowHas (Takes asked t) i
+taken_alike asked s t i same h = grind arith
 
 pub returns-then-takes-2 : goal.returns-then-takes-2
 unfolding IsFirstAmong
