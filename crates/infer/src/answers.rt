@@ -1,5 +1,5 @@
 //! What the built-in rows answer.
-ghost use Rattle.std.specs.Prelude.{◌≡◌, ◌↔◌, IsTrue, map, option_map, slice_get};
+ghost use Rattle.std.specs.Prelude.{◌≡◌, ◌↔◌, ◌<◌, ◌≤◌, IfSome, IsNone, IsTrue, map, option_map, slice_get};
 ghost use Rattle.infer.specs.First.{IsAnswer, IsFirstOf, SomeHas};
 ghost use Rattle.infer.specs.Listed.{number_of};
 ghost use Rattle.infer.specs.Questions.{HasClass, IsAsked, SomeBoth};
@@ -10,18 +10,18 @@ ghost use Rattle.infer.specs.Triple.{triple_of};
 ghost use Rattle.infer.specs.Walks.{RowHas, Takes};
 
 use crate::ask::class::Class;
-use crate::ask::question::{Every, OfClass, Question};
-use crate::ask::taken::{is_asked, takes};
-use crate::candidates::dispatch::{arm_of, first_of, first_of_class};
+use crate::ask::question::{Every, OfClass, Question, is_asked, takes};
+use crate::candidates::dispatch::{arm_of, blank, first_of, first_of_class, leads};
 use crate::table::file_type::FileType;
-use crate::table::leads::{blank, leads};
-use crate::table::rows::{RowName, rows};
+use crate::table::rows::{ROW_COUNT, RowName, rows};
 use std::marker::PhantomData;
 
-/// The number of the first row that accepts `buf`. Only the candidates of its first byte are asked.
+/// The number of the first built-in row that accepts `buf`, and `None` exactly if no row accepts it. Only the candidates
+/// of its first byte are asked.
 #[inline(always)]
 pub fn position(buf: &[u8]) -> Option<usize>
-    ensures { IsFirstOf (Accepts buf.now) table result }
+    ensures first { IsFirstOf (Accepts buf.now) table result }
+    ensures bound { IfSome result (λ i. i < ROW_COUNT) }
 {
     leads();
     blank();
@@ -29,14 +29,15 @@ pub fn position(buf: &[u8]) -> Option<usize>
     first_of(arm_of(*lead), &Every, buf)
 }
 
-/// The type of row `i`.
+/// The type of the built-in row `i`, and `None` exactly from [`ROW_COUNT`] on.
 pub fn row(i: usize) -> Option<FileType>
-    ensures { option_map triple_of result ≡ option_map shows (slice_get table i) }
+    ensures shows { option_map triple_of result ≡ option_map shows (slice_get table i) }
+    ensures none { IsNone result ↔ (ROW_COUNT ≤ i) }
 {
     rows().get(i).map(|row| row.file_type)
 }
 
-/// The type of the first row that accepts `buf`.
+/// The type of the first built-in row that accepts `buf`, and `None` exactly if no row accepts it.
 pub fn get(buf: &[u8]) -> Option<FileType>
     ensures { IsAnswer (Accepts buf.now) table (option_map triple_of result) }
 {

@@ -1,4 +1,3 @@
 //! A question, asked of one row.
 pub mod class;
 pub mod question;
-pub mod taken;

@@ -4,9 +4,8 @@ ghost use Rattle.infer.specs.Decided.{CanBeDecided, IsChangeable, IsDecided, May
 ghost use Rattle.infer.specs.Listed.{row_listed};
 ghost use Rattle.infer.specs.Walks.{IsFirstAmong, RowHas};
 
-use crate::ask::taken::accepts;
-use crate::candidates::dispatch::{arm_of, candidates_at};
-use crate::table::leads::{blank, leads};
+use crate::ask::question::accepts;
+use crate::candidates::dispatch::{arm_of, blank, candidates_at, leads};
 use crate::table::rows::{BuiltInRow, may_become_named, rows};
 
 /// Whether no bytes after `buf` change its answer. If this is false, some bytes do. The empty buffer is never decided, and

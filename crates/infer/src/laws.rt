@@ -19,8 +19,8 @@ ghost use Rattle.infer.specs.Triple.{triple_of};
 ghost use Rattle.infer.specs.Walks.{WalksFindFirst};
 
 use crate::caller::infer::Infer;
+pub use crate::candidates::dispatch::{blank, leads};
 use crate::table::file_type::{FileType, MatcherType};
-pub use crate::table::leads::{blank, leads};
 use crate::table::rows::{DLL, EPUB_ARCHIVE, MATCHER_COUNT, ROW_COUNT};
 use std::alloc::{AllocError, Allocator};
 

@@ -13,8 +13,8 @@
 //! Each module uses only those before it: `table`, the rows and their types; `ask`, a question and one row;
 //! `candidates`, the rows that a first byte allows, asked in order, and those that a text can name; `answers`, what the
 //! built-in rows answer; `texts`, questions with a text; `decided`, what more bytes can change; `beginnings`, after which
-//! they can change it from 1024 bytes on; `caller`, an [`Infer`] and its rows; `read`, the front of a file or of a reader;
-//! `laws`, facts about all of these; `samples`.
+//! they can change it from 1024 bytes on; `read`, the front of a reader; `caller`, an [`Infer`] and its rows; `laws`, facts
+//! about all of these; `samples`.
 #![tactic(auto)]
 
 ghost use Rattle.std.specs.Prelude.{◌≡◌, ◌↔◌, ◌<◌, ◌≤◌, IfSome, IsNone, IsTrue, option_map, slice_get};
@@ -37,8 +37,9 @@ mod samples;
 mod table;
 pub mod texts;
 
+pub use answers::{get, position, row};
 use ask::class::{App, Archive, Audio, Book, Doc, Font, Image, Video};
-pub use ask::taken::accepts as accepts;
+pub use ask::question::accepts as accepts;
 pub use caller::infer::Infer;
 pub use candidates::asker::{Ask, Asker, is_counted, position_counted, walk};
 pub use decided::{is_decided, may_become};
@@ -47,38 +48,13 @@ pub use infer_sig::{
     image as image, odf as odf, text as text, video as video,
 };
 pub use read::fault::Fault;
-pub use read::head::{Enough, FRONT, read_until};
-pub use read::watched::Watched;
+pub use read::watched::{Enough, FRONT, Watched, read_head, read_until};
 pub use samples::sample;
 use std::alloc::Allocator;
 use std::rt::Files;
 pub use table::file_type::{FileType as Type, Matcher, MatcherType};
 pub use table::rows as rows;
 use table::rows::ROW_COUNT;
-
-/// The type of the first built-in row that accepts `buf`, and `None` exactly if no row accepts it.
-pub fn get(buf: &[u8]) -> Option<Type>
-    ensures { IsAnswer (Accepts buf.now) table (option_map triple_of result) }
-{
-    answers::get(buf)
-}
-
-/// The number of the first built-in row that accepts `buf`, and `None` exactly if no row accepts it.
-#[inline(always)]
-pub fn position(buf: &[u8]) -> Option<usize>
-    ensures first { IsFirstOf (Accepts buf.now) table result }
-    ensures bound { IfSome result (λ i. i < ROW_COUNT) }
-{
-    answers::position(buf)
-}
-
-/// The type of the built-in row `i`, and `None` exactly from [`ROW_COUNT`] on.
-pub fn row(i: usize) -> Option<Type>
-    ensures shows { option_map triple_of result ≡ option_map shows (slice_get table i) }
-    ensures none { IsNone result ↔ (ROW_COUNT ≤ i) }
-{
-    answers::row(i)
-}
 
 /// The type of the first built-in row that accepts the first 8192 bytes of a file, or all if it has fewer, and
 /// `None` exactly if no row accepts them.

@@ -1,5 +1,3 @@
-//! The front of a file or of a reader.
+//! The front of a reader.
 pub mod fault;
-pub mod files;
-pub mod head;
 pub mod watched;

@@ -1,4 +1,3 @@
 //! The built-in rows: what is known of each, by its name.
 pub mod file_type;
-pub mod leads;
 pub mod rows;

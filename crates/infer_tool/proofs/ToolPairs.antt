@@ -1,5 +1,6 @@
 -- What has a property of what the program says, and what has not: each pair computed.
-use Rattle.infer_tool.proofs.Common.{◌≡◌, ℕ, Bool, true, false, [], ◌∷◌, Option, None, Some, Result, Ok, Err, IsTrue, length, refl, ap, codes, arith, Appends, Triple, Reports, ReportsInput, fault_written, outcome_of, told, unless_failed, written, has_failed, inner, Failed, Unknown}
+use Rattle.infer_tool.proofs.Common.{◌≡◌, ℕ, Bool, true, false, [], ◌∷◌, Option, None, Some, Result, Ok, Err, IsTrue, length, refl, ap, codes, arith, Appends, Triple, Reports, ReportsInput, fault_written, outcome_of, stream, told, unless_failed, written, has_failed, inner, Failed, Unknown}
+use Rattle.std.proofs.Common.{get_or, unwrap_or}
 use Rattle.infer.specs.declared.read.fault.Fault.{Fault}
 use Rattle.infer.specs.declared.read.fault.Fault.TheVariants.{Memory, Open, Read}
 use Rattle.infer_tool.specs.Line.{fault_line, fault_text, line}
@@ -36,6 +37,10 @@ second_pair = (refl, λ e. omega (arith, ap length e))
 
 pub has_failed_pair : IsTrue (has_failed (writer 0 true)) × (¬ IsTrue (has_failed (writer 0 false)))
 has_failed_pair = (refl, λ t. absurd (cc))
+
+pub stream_pair : ((stream (λ n. Some (n ∷ [])) (writer 0 false) (writer 1 true)).new ≡ Some (1 ∷ []))
+    × (¬ ((stream (λ n. Some (n ∷ [])) (writer 0 false) (writer 1 true)).old ≡ Some (1 ∷ [])))
+stream_pair = (refl, λ e. absurd (let f = ap (λ o. unwrap_or o []) e in omega (arith, ap (λ xs. get_or xs 0 0) f)))
 
 pub inner_pair : (inner (writer 1 true) ≡ 1) × (¬ (inner (writer 0 true) ≡ 1))
 inner_pair = (refl, λ e. omega (arith, e))

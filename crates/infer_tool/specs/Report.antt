@@ -43,9 +43,18 @@ abbrev pub unless_failed : Bool → Option (List ℕ) → Option (List ℕ)
 unless_failed true bytes = None
 unless_failed false bytes = bytes
 
+-- a watched writer before and after: whether it has failed by then, and what is known of its bytes
+pub record Stream : Type 0 where
+  pub failed : Bool
+  pub old : Option (List ℕ)
+  pub new : Option (List ℕ)
+
+abbrev pub stream : {W : Type 0} → (contents : W → Option (List ℕ)) → (old new : WatchedWriter W) → Stream
+stream contents old new = record { failed = has_failed new; old = contents (inner old); new = contents (inner new) }
+
 -- what is known of the bytes of a writer grew by exactly a line, unless the writer has failed
-abbrev pub Tells : Bool → (old new : Option (List ℕ)) → List ℕ → Type 0
-Tells failed old new told_line = OnFalse failed (Appends old new told_line)
+abbrev pub Tells : Stream → List ℕ → Type 0
+Tells w told_line = OnFalse w.failed (Appends w.old w.new told_line)
 
 -- what a run says: its outcome, and the bytes of the writers of lines and of faults, before and after
 abbrev pub Saying : Type 1
@@ -53,12 +62,10 @@ Saying = Outcome → (old new err_old err_new : Option (List ℕ)) → Type 0
 
 -- this is said through two watched writers. Of the bytes of one that has failed nothing is said; what is said of the
 -- other stands. The outcome is `Failed` if the writer of lines has failed.
-abbrev pub Says : {W E : Type 0} (contents : W → Option (List ℕ)) (err_contents : E → Option (List ℕ))
-    (old new : WatchedWriter W) (err_old err_new : WatchedWriter E) → Outcome → Saying → Type 0
-Says contents err_contents old new err_old err_new result Said =
-    (outcome : Outcome) × (result ≡ outcome_after (has_failed new) outcome)
-    × Said outcome (unless_failed (has_failed new) (contents (inner old))) (contents (inner new))
-    (unless_failed (has_failed err_new) (err_contents (inner err_old))) (err_contents (inner err_new))
+abbrev pub Says : (lines faults : Stream) → Outcome → Saying → Type 0
+Says lines faults result Said =
+    (outcome : Outcome) × (result ≡ outcome_after lines.failed outcome)
+    × Said outcome (unless_failed lines.failed lines.old) lines.new (unless_failed faults.failed faults.old) faults.new
 
 -- this was said through buffers, which gave their writers back, or none of one that has failed
 abbrev pub SaysThrough : {W E : Type 0} (contents : W → Option (List ℕ)) (err_contents : E → Option (List ℕ))

@@ -1,5 +1,5 @@
 -- What is written of a sample.
-use Rattle.std.specs.Prelude.{◌≡◌, ◌≢◌, ℕ, List, Option}
+use Rattle.std.specs.Prelude.{◌≡◌, ◌≢◌, ℕ, List}
 use Rattle.std.specs.Io.KnownBytes.{Appends, Keeps}
 use Rattle.std.specs.List.{HoldsAt}
 use Rattle.infer.specs.First.{IsFirst}
@@ -8,7 +8,6 @@ use Rattle.infer.specs.Samples.{sample_of}
 use Rattle.infer.specs.Table.{table}
 use Rattle.infer.specs.declared.table.rows.TheConstants.{DLL, EPUB_ARCHIVE}
 use Rattle.infer_tool.specs.Report.{Saying}
-use Rattle.infer_tool.specs.declared.outcome.Outcome.{Outcome}
 use Rattle.infer_tool.specs.declared.outcome.Outcome.TheVariants.{Known}
 
 -- row i is the first with the extension, and has a sample

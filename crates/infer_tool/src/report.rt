@@ -8,12 +8,12 @@ ghost use Rattle.infer.specs.Watched.{fault_of};
 ghost use Rattle.infer_tool.specs.Line.{fault_text};
 ghost use Rattle.infer_tool.specs.Outcome.{outcome_after};
 ghost use Rattle.infer_tool.specs.Reader.{LosesFront, LosesUntilFinal, ReportsReader};
-ghost use Rattle.infer_tool.specs.Report.{Reports, ReportsInput, Says, fault_written, outcome_of, told, unless_failed, written};
+ghost use Rattle.infer_tool.specs.Report.{Reports, ReportsInput, Says, fault_written, outcome_of, stream, told, unless_failed, written};
 ghost use Rattle.infer_tool.specs.Writer.{IsLater, has_failed, inner};
 
 use crate::outcome::Outcome;
 use crate::writer::WatchedWriter;
-use infer::{FRONT, Fault, Infer, Type, Watched, laws};
+use infer::{FRONT, Fault, Infer, Type, Watched, laws, read_head};
 use infer_sniff::label;
 use std::alloc::Allocator;
 use std::fs::File;
@@ -116,7 +116,7 @@ pub fn run_reader_watched<A: Allocator, R: Read, W: Write, E: Write>(
     err: &mut WatchedWriter<'_, E>,
 ) -> Outcome
     requires { fault_of reader.old ≡ None }
-    ensures line { Says W.contents E.contents out.old out.new err.old err.new result
+    ensures line { Says (stream W.contents out.old out.new) (stream E.contents err.old err.new) result
         (ReportsReader R.remaining FRONT LosesUntilFinal reader.old reader.new name.now) }
     ensures later { IsLater out.old out.new }
     ensures err_later { IsLater err.old err.new }
@@ -137,7 +137,7 @@ pub fn run_reader_within<A: Allocator, R: Read, W: Write, E: Write>(
     requires fault { fault_of reader.old ≡ None }
     requires least { 1 ≤ n }
     requires most { n ≤ 65536 }
-    ensures line { Says W.contents E.contents out.old out.new err.old err.new result
+    ensures line { Says (stream W.contents out.old out.new) (stream E.contents err.old err.new) result
         (ReportsReader R.remaining n (LosesFront n) reader.old reader.new name.now) }
     ensures later { IsLater out.old out.new }
     ensures err_later { IsLater err.old err.new }
@@ -186,7 +186,7 @@ pub fn run_path_within<R: Files, A: Allocator, W: Write, E: Write>(
     out: &mut WatchedWriter<'_, W>,
     err: &mut WatchedWriter<'_, E>,
 ) -> Outcome
-    ensures line { Says W.contents E.contents out.old out.new err.old err.new result (ReportsInput n None path.now) }
+    ensures line { Says (stream W.contents out.old out.new) (stream E.contents err.old err.new) result (ReportsInput n None path.now) }
     ensures later { IsLater out.old out.new }
     ensures err_later { IsLater err.old err.new }
     ensures silent { result ≢ Outcome.Failed → err.new ≡ err.old }
@@ -209,7 +209,7 @@ fn answer_about<R: Files, A: Allocator>(
 {
     let file = File::open(rt, path).map_err(|error| Fault::Open(error.kind()))?;
     room.resize(n, 0).map_err(|_| Fault::Memory)?;
-    let infer = Infer::new();
-    laws::built_in(&infer);
-    infer.get_from_reader_in(room.as_mut_slice(), &mut Watched::new(file))
+    let room = room.as_mut_slice();
+    let count = read_head(&mut Watched::new(file), room).map_err(Fault::Read)?;
+    Ok(infer::get(&room[..count]))
 }

@@ -4,7 +4,7 @@ ghost use Rattle.infer.specs.Watched.{fault_of};
 ghost use Rattle.infer_tool.specs.Limit.{IsLimit};
 ghost use Rattle.infer_tool.specs.Line.{limits_line, no_sample_line, usage_line};
 ghost use Rattle.infer_tool.specs.Reader.{LosesFront, LosesUntilFinal, ReportsReader};
-ghost use Rattle.infer_tool.specs.Report.{ReportsInput, Says, Tells};
+ghost use Rattle.infer_tool.specs.Report.{ReportsInput, Says, Tells, stream};
 ghost use Rattle.infer_tool.specs.Run.{ReportsEach};
 ghost use Rattle.infer_tool.specs.Sample.{HasSample, WritesSample};
 ghost use Rattle.infer_tool.specs.Words.{Asks, front_option, sample_option, second};
@@ -95,40 +95,40 @@ pub fn run_watched<R: Files, A: Allocator + Copy, I: Read, W: Write, E: Write>(
 ) -> Outcome
     requires { fault_of input.old ≡ None }
     ensures line { words.now ≡ []
-        → Says W.contents E.contents out.old out.new err.old err.new result
+        → Says (stream W.contents out.old out.new) (stream E.contents err.old err.new) result
         (ReportsReader I.remaining FRONT LosesUntilFinal input.old input.new (codes "-")) }
     ensures each { words.now ≢ [] → ¬ Asks sample_option (map string_bytes words.now)
         → ¬ Asks front_option (map string_bytes words.now)
-        → Says W.contents E.contents out.old out.new err.old err.new result (ReportsEach FRONT (map string_bytes words.now)) }
+        → Says (stream W.contents out.old out.new) (stream E.contents err.old err.new) result (ReportsEach FRONT (map string_bytes words.now)) }
     ensures unread { words.now ≢ [] → ¬ Asks front_option (map string_bytes words.now)
         → input.new ≡ input.old }
 
     // After `--sample`.
     ensures sample { Asks sample_option (map string_bytes words.now) → length words.now ≡ 2
         → (i : ℕ) → HasSample (second (map string_bytes words.now)) i
-        → Says W.contents E.contents out.old out.new err.old err.new result (WritesSample i) }
+        → Says (stream W.contents out.old out.new) (stream E.contents err.old err.new) result (WritesSample i) }
     ensures usage { Asks sample_option (map string_bytes words.now) → length words.now ≢ 2
         → (result ≡ Outcome.Failed) × (out.new ≡ out.old)
-        × Tells (has_failed err.new) (E.contents (inner err.old)) (E.contents (inner err.new)) usage_line }
+        × Tells (stream E.contents err.old err.new) usage_line }
     ensures no_sample { Asks sample_option (map string_bytes words.now)
         → ((i : ℕ) → ¬ HasSample (second (map string_bytes words.now)) i)
         → (result ≡ Outcome.Failed) × (out.new ≡ out.old)
-        × (length words.now ≡ 2 → Tells (has_failed err.new) (E.contents (inner err.old)) (E.contents (inner err.new)) (no_sample_line (second (map string_bytes words.now)))) }
+        × (length words.now ≡ 2 → Tells (stream E.contents err.old err.new) (no_sample_line (second (map string_bytes words.now)))) }
 
     // After `--front`.
     ensures limit { Asks front_option (map string_bytes words.now) → (n : ℕ)
         → IsLimit (second (map string_bytes words.now)) n
-        → length words.now ≡ 2 → Says W.contents E.contents out.old out.new err.old err.new result
+        → length words.now ≡ 2 → Says (stream W.contents out.old out.new) (stream E.contents err.old err.new) result
         (ReportsReader I.remaining n (LosesFront n) input.old input.new (codes "-")) }
     ensures limit_each { Asks front_option (map string_bytes words.now) → (n : ℕ)
         → IsLimit (second (map string_bytes words.now)) n
         → length words.now ≢ 2 → (input.new ≡ input.old)
-        × Says W.contents E.contents out.old out.new err.old err.new result (ReportsEach n (drop 2 (map string_bytes words.now))) }
+        × Says (stream W.contents out.old out.new) (stream E.contents err.old err.new) result (ReportsEach n (drop 2 (map string_bytes words.now))) }
     ensures no_limit { Asks front_option (map string_bytes words.now)
         → ((n : ℕ) → ¬ IsLimit (second (map string_bytes words.now)) n)
         → (result ≡ Outcome.Failed) × (out.new ≡ out.old) × (input.new ≡ input.old)
-        × (length words.now < 2 → Tells (has_failed err.new) (E.contents (inner err.old)) (E.contents (inner err.new)) usage_line)
-        × (2 ≤ length words.now → Tells (has_failed err.new) (E.contents (inner err.old)) (E.contents (inner err.new)) limits_line) }
+        × (length words.now < 2 → Tells (stream E.contents err.old err.new) usage_line)
+        × (2 ≤ length words.now → Tells (stream E.contents err.old err.new) limits_line) }
     ensures later { IsLater out.old out.new }
     ensures err_later { IsLater err.old err.new }
     ensures silent { result ≢ Outcome.Failed → err.new ≡ err.old }
@@ -169,12 +169,12 @@ fn run_asked<W: Write, E: Write>(
 ) -> Outcome
     ensures sample { length words.now ≡ 2 → (i : ℕ)
         → HasSample (second (map string_bytes words.now)) i
-        → Says W.contents E.contents out.old out.new err.old err.new result (WritesSample i) }
+        → Says (stream W.contents out.old out.new) (stream E.contents err.old err.new) result (WritesSample i) }
     ensures usage { length words.now ≢ 2 → (result ≡ Outcome.Failed) × (out.new ≡ out.old)
-        × Tells (has_failed err.new) (E.contents (inner err.old)) (E.contents (inner err.new)) usage_line }
+        × Tells (stream E.contents err.old err.new) usage_line }
     ensures no_sample { ((i : ℕ) → ¬ HasSample (second (map string_bytes words.now)) i)
         → (result ≡ Outcome.Failed) × (out.new ≡ out.old)
-        × (length words.now ≡ 2 → Tells (has_failed err.new) (E.contents (inner err.old)) (E.contents (inner err.new)) (no_sample_line (second (map string_bytes words.now)))) }
+        × (length words.now ≡ 2 → Tells (stream E.contents err.old err.new) (no_sample_line (second (map string_bytes words.now)))) }
     ensures later { IsLater out.old out.new }
     ensures err_later { IsLater err.old err.new }
     ensures silent { result ≢ Outcome.Failed → err.new ≡ err.old }
@@ -197,15 +197,15 @@ fn run_limited<R: Files, A: Allocator + Copy, I: Read, W: Write, E: Write>(
 ) -> Outcome
     requires { fault_of input.old ≡ None }
     ensures limit { (n : ℕ) → IsLimit (second (map string_bytes words.now)) n
-        → length words.now ≡ 2 → Says W.contents E.contents out.old out.new err.old err.new result
+        → length words.now ≡ 2 → Says (stream W.contents out.old out.new) (stream E.contents err.old err.new) result
         (ReportsReader I.remaining n (LosesFront n) input.old input.new (codes "-")) }
     ensures limit_each { (n : ℕ) → IsLimit (second (map string_bytes words.now)) n
         → length words.now ≢ 2 → (input.new ≡ input.old)
-        × Says W.contents E.contents out.old out.new err.old err.new result (ReportsEach n (drop 2 (map string_bytes words.now))) }
+        × Says (stream W.contents out.old out.new) (stream E.contents err.old err.new) result (ReportsEach n (drop 2 (map string_bytes words.now))) }
     ensures no_limit { ((n : ℕ) → ¬ IsLimit (second (map string_bytes words.now)) n)
         → (result ≡ Outcome.Failed) × (out.new ≡ out.old) × (input.new ≡ input.old)
-        × (length words.now < 2 → Tells (has_failed err.new) (E.contents (inner err.old)) (E.contents (inner err.new)) usage_line)
-        × (2 ≤ length words.now → Tells (has_failed err.new) (E.contents (inner err.old)) (E.contents (inner err.new)) limits_line) }
+        × (length words.now < 2 → Tells (stream E.contents err.old err.new) usage_line)
+        × (2 ≤ length words.now → Tells (stream E.contents err.old err.new) limits_line) }
     ensures later { IsLater out.old out.new }
     ensures err_later { IsLater err.old err.new }
     ensures silent { result ≢ Outcome.Failed → err.new ≡ err.old }
@@ -236,10 +236,10 @@ fn run_within<R: Files, A: Allocator + Copy, I: Read, W: Write, E: Write>(
     requires least { 1 ≤ n }
     requires most { n ≤ 65536 }
     ensures limit { length words.now ≡ 2
-        → Says W.contents E.contents out.old out.new err.old err.new result
+        → Says (stream W.contents out.old out.new) (stream E.contents err.old err.new) result
         (ReportsReader I.remaining n (LosesFront n) input.old input.new (codes "-")) }
     ensures limit_each { length words.now ≢ 2 → (input.new ≡ input.old)
-        × Says W.contents E.contents out.old out.new err.old err.new result (ReportsEach n (drop 2 (map string_bytes words.now))) }
+        × Says (stream W.contents out.old out.new) (stream E.contents err.old err.new) result (ReportsEach n (drop 2 (map string_bytes words.now))) }
     ensures later { IsLater out.old out.new }
     ensures err_later { IsLater err.old err.new }
     ensures silent { result ≢ Outcome.Failed → err.new ≡ err.old }
@@ -261,7 +261,7 @@ fn run_paths<R: Files, A: Allocator + Copy, W: Write, E: Write>(
 ) -> Outcome
     requires least { 1 ≤ n }
     requires most { n ≤ 65536 }
-    ensures each { Says W.contents E.contents out.old out.new err.old err.new result (ReportsEach n (map string_bytes words.now)) }
+    ensures each { Says (stream W.contents out.old out.new) (stream E.contents err.old err.new) result (ReportsEach n (map string_bytes words.now)) }
     ensures later { IsLater out.old out.new }
     ensures err_later { IsLater err.old err.new }
     ensures silent { result ≢ Outcome.Failed → err.new ≡ err.old }

@@ -7,7 +7,7 @@ ghost use Rattle.infer.specs.Questions.{HasExtension};
 ghost use Rattle.infer.specs.Table.{table};
 ghost use Rattle.infer.specs.Triple.{triple_of};
 ghost use Rattle.infer_tool.specs.Line.{no_sample_line};
-ghost use Rattle.infer_tool.specs.Report.{Says, Tells};
+ghost use Rattle.infer_tool.specs.Report.{Says, Tells, stream};
 ghost use Rattle.infer_tool.specs.Sample.{HasSample, WritesSample};
 ghost use Rattle.infer_tool.specs.Writer.{IsLater, has_failed, inner};
 
@@ -25,10 +25,10 @@ pub fn run_sample<W: Write, E: Write>(
     err: &mut WatchedWriter<'_, E>,
 ) -> Outcome
     ensures sample { (i : ℕ) → HasSample extension.now i
-        → Says W.contents E.contents out.old out.new err.old err.new result (WritesSample i) }
+        → Says (stream W.contents out.old out.new) (stream E.contents err.old err.new) result (WritesSample i) }
     ensures none { ((i : ℕ) → ¬ HasSample extension.now i) → (result ≡ Outcome.Failed)
         × (out.new ≡ out.old)
-        × Tells (has_failed err.new) (E.contents (inner err.old)) (E.contents (inner err.new)) (no_sample_line extension.now) }
+        × Tells (stream E.contents err.old err.new) (no_sample_line extension.now) }
     ensures later { IsLater out.old out.new }
     ensures err_later { IsLater err.old err.new }
     ensures silent { result ≢ Outcome.Failed → err.new ≡ err.old }
@@ -50,7 +50,7 @@ pub fn run_sample<W: Write, E: Write>(
 /// Tells that there is no sample.
 fn refuse<E: Write>(extension: &str, err: &mut WatchedWriter<'_, E>) -> Outcome
     ensures failed { result ≡ Outcome.Failed }
-    ensures told { Tells (has_failed err.new) (E.contents (inner err.old)) (E.contents (inner err.new)) (no_sample_line extension.now) }
+    ensures told { Tells (stream E.contents err.old err.new) (no_sample_line extension.now) }
     ensures later { IsLater err.old err.new }
 {
     writeln!(err, "{extension}: no sample");

@@ -1,9 +1,13 @@
-//! What is asked for: every row, or those with one extension, MIME type or class.
+//! What is asked for, and of one row: every row, or those with one extension, MIME type or class.
 ghost use Rattle.std.specs.Prelude.{◌≡◌, ◌↔◌, IsTrue};
+ghost use Rattle.infer.specs.Questions.{IsAsked};
+ghost use Rattle.infer.specs.Row.{Accepts};
 ghost use Rattle.infer.specs.Triple.{Triple, triple_of};
+ghost use Rattle.infer.specs.Walks.{RowHas, Takes};
 
 use crate::ask::class::Class;
 use crate::table::file_type::FileType;
+use crate::table::rows::rows;
 use std::marker::PhantomData;
 
 /// A question, which is known by its type, so that code is made for each.
@@ -65,5 +69,38 @@ impl<C: Class> Question for OfClass<C> {
     #[inline(always)]
     fn asks_for(&self, file_type: &FileType) -> bool {
         file_type.matcher_type == C::CLASS
+    }
+}
+
+/// Whether row `row` accepts `buf`. From `ROW_COUNT` on there is no row, and none accepts.
+#[inline(always)]
+pub fn accepts(buf: &[u8], row: usize) -> bool
+    ensures { IsTrue result ↔ RowHas (Accepts buf.now) row }
+{
+    match rows().get(row) {
+        Some(row) => row.accepts(buf),
+        None => false,
+    }
+}
+
+/// Whether row `i` is one that the question asks for.
+#[inline(always)]
+pub fn is_asked<Q: Question>(i: usize, question: &Q) -> bool
+    ensures { IsTrue result ↔ RowHas (IsAsked (Q.asked question.now)) i }
+{
+    match rows().get(i) {
+        Some(row) => question.asks_for(&row.file_type),
+        None => false,
+    }
+}
+
+/// Whether row `i` is one that the question asks for, and accepts `buf`.
+#[inline(always)]
+pub fn takes<Q: Question>(i: usize, question: &Q, buf: &[u8]) -> bool
+    ensures { IsTrue result ↔ RowHas (Takes (Q.asked question.now) buf.now) i }
+{
+    match rows().get(i) {
+        Some(row) => question.asks_for(&row.file_type) && row.accepts(buf),
+        None => false,
     }
 }

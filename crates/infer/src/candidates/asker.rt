@@ -9,11 +9,9 @@ ghost use Rattle.infer.specs.Row.{Accepts};
 ghost use Rattle.infer.specs.Table.{table};
 ghost use Rattle.infer.specs.Walks.{HasGiven, IsFirstAmong, RowHas, Takes, asked_rows, count_asked, is_asked, is_listed};
 
-use crate::ask::question::WithExtension;
-use crate::ask::taken::{accepts, is_asked};
-use crate::candidates::dispatch::{arm_of, candidates_at};
+use crate::ask::question::{WithExtension, accepts, is_asked};
+use crate::candidates::dispatch::{arm_of, blank, candidates_at, leads};
 use crate::candidates::slots::rows_for_extension;
-use crate::table::leads::{blank, leads};
 use crate::table::rows::{MOST_CANDIDATES, ROW_COUNT, RowName};
 
 /// Who asks the built-in rows about one buffer. A contract sees that buffer, and which rows were asked, in order.

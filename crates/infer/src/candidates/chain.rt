@@ -7,8 +7,7 @@ ghost use Rattle.infer.specs.Questions.{IsAsked};
 ghost use Rattle.infer.specs.Row.{Accepts};
 ghost use Rattle.infer.specs.Walks.{IsFirstAmong, RowHas, Takes, row_numbered};
 
-use crate::ask::question::Question;
-use crate::ask::taken::{is_asked, takes};
+use crate::ask::question::{Question, is_asked, takes};
 use crate::table::rows::{DOCX, HTML, LZ4, PPTX, XLSX, XML, ZST};
 use infer_deep::archive::after_skippable_frames;
 use infer_deep::doc::deciding_folder;

@@ -1,7 +1,11 @@
 //! The first byte of a buffer decides which rows are asked.
-ghost use Rattle.std.specs.Prelude.{◌≡◌, ◌≤◌, length};
+ghost use Rattle.std.specs.Prelude.{◌≡◌, ◌≤◌, length, []};
 ghost use Rattle.infer.specs.Arms.{rows_of};
-ghost use Rattle.infer.specs.Leads.{candidates};
+ghost use Rattle.infer.specs.BuiltIn.{BuiltIn};
+ghost use Rattle.infer.specs.First.{NoneHas};
+ghost use Rattle.infer.specs.Leads.{Leads, candidates};
+ghost use Rattle.infer.specs.Row.{Accepts};
+ghost use Rattle.infer.specs.Table.{table};
 ghost use Rattle.infer.specs.Walks.{IsFirstAmong, RowHas, Takes, row_numbered};
 
 use crate::ask::question::Question;
@@ -248,4 +252,19 @@ pub fn first_of_class<Q: Question>(arm: Arm, question: &Q, buf: &[u8]) -> Option
     ensures { IsFirstAmong (RowHas (Takes (Q.asked question.now) buf.now)) (rows_of arm) result }
 {
     tell_first::<Option<usize>, Q>(arm, question, buf)
+}
+
+/// A buffer that a built-in signature accepts begins with a byte that the signature allows there.
+pub fn leads()
+    ensures { (signature : BuiltIn) → Leads signature }
+{
+    infer_sig::laws::leads();
+    infer_deep::laws::leads();
+}
+
+/// No built-in row accepts the empty buffer.
+pub fn blank()
+    ensures { NoneHas (Accepts []) table }
+{
+    infer_sig::laws::by_place();
 }

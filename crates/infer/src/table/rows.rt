@@ -5,6 +5,7 @@ ghost use Rattle.infer.specs.BuiltIn.{IsAccepted};
 ghost use Rattle.infer.specs.Decided.{Tells};
 ghost use Rattle.infer.specs.Listed.{buffer_listed, is_inside, number_of, row_listed};
 ghost use Rattle.infer.specs.Slots.{ListSlots, extension_of, mime_type_of};
+ghost use Rattle.infer.specs.Row.{Accepts};
 ghost use Rattle.infer.specs.Samples.{padded, sample_of};
 ghost use Rattle.infer.specs.Table.{signature_of, table};
 
@@ -550,6 +551,15 @@ pub(crate) fn may_become_named(name: RowName, buf: &[u8]) -> bool
     ensures { Tells (signature_of (number_of name)) buf.now result }
 {
     with_rows!(may_become name buf)
+}
+
+impl BuiltInRow {
+    #[inline(always)]
+    pub fn accepts(&self, buf: &[u8]) -> bool
+        ensures { IsTrue result ↔ Accepts buf.now (row_listed self.now) }
+    {
+        accepts_named(self.row, buf)
+    }
 }
 
 macro_rules! slots {

@@ -1,10 +1,14 @@
-use Rattle.std.proofs.Common.{rules, None}
+use Rattle.std.proofs.Common.{arith, rules, None}
 use Rattle.infer.specs.Table.{table}
 use Rattle.infer.specs.Walks.{HasGiven}
 use Rattle.infer.proofs.CandidateLemmas.{first_of_buffer, first_of_every}
+use Rattle.infer.proofs.TableLemmas.{length-table}
 use Rattle.infer.proofs.answers.position.Goals as goal
 
-pub returns : goal.returns
-returns c =
+pub returns-clause-first : goal.returns-clause-first
+returns-clause-first c =
     first_of_every c.args.buf.now table c.first_of.result
     (first_of_buffer c.leads.ensures c.blank.ensures (HasGiven None) c.args.buf.now _ c.first_of.result (search rules) c.first_of.ensures)
+
+pub returns-clause-bound : goal.returns-clause-bound
+returns-clause-bound c = let first = returns-clause-first c in grind (arith, length-table)

@@ -1,14 +1,15 @@
-use Rattle.infer_tool.proofs.Common.{codes, rules, ◌∙◌, LosesFront, LosesUntilFinal, Says, SaysThrough, Saying, has_failed, inner}
+use Rattle.infer_tool.proofs.Common.{codes, rules, ◌∙◌, LosesFront, LosesUntilFinal, Says, SaysThrough, Saying, stream, has_failed, inner}
 use Rattle.std.specs.Io.Buffered.{line_writer_contents, writer_contents}
-use Rattle.infer.specs.declared.read.head.TheConstants.{FRONT}
+use Rattle.infer.specs.declared.read.watched.TheConstants.{FRONT}
 use Rattle.infer_tool.proofs.LinesLemmas.{Moves, each_moves, reader_moves, said_through, sample_moves}
 use Rattle.infer_tool.proofs.lines.run_lines.Given as given
 use Rattle.infer_tool.proofs.lines.run_lines.Goals as goal
 
 -- what was said of the buffers is said of the writers that they were made over
 through : (g : given.Over) (c : goal.After-failed_if g) (Said : Saying) → Moves Said
-    → Says (line_writer_contents (writer_contents g.W.Write.contents)) (line_writer_contents (writer_contents g.E.Write.contents))
-    c.new-out.result c.run_watched-outcome.new.out c.new-err.result c.run_watched-outcome.new.err c.run_watched-outcome.result Said
+    → Says (stream (line_writer_contents (writer_contents g.W.Write.contents)) c.new-out.result c.run_watched-outcome.new.out)
+    (stream (line_writer_contents (writer_contents g.E.Write.contents)) c.new-err.result c.run_watched-outcome.new.err)
+    c.run_watched-outcome.result Said
     → SaysThrough g.W.Write.contents g.E.Write.contents c.args.out c.args.err (c.failed_if.result, (c.writer_of.result, c.writer_of-2.result)) Said
 through g c Said moves said =
     let held = line_writer_contents (writer_contents g.W.Write.contents) in

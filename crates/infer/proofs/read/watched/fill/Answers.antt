@@ -2,7 +2,7 @@
 use Rattle.std.proofs.Common.{rules}
 use Rattle.std.proofs.lemmas.Bool.{false≢true}
 use Rattle.infer.proofs.HeadLemmas.{Consumes-one_more, IsDue-read}
-use Rattle.infer.proofs.read.head.fill.Goals as goal
+use Rattle.infer.proofs.read.watched.fill.Goals as goal
 
 pub loop-filled-preserved : goal.loop-filled-preserved
 loop-filled-preserved g c = record {

@@ -3,7 +3,7 @@ use Rattle.infer_deep.specs.Numbers.{le16, le32, be32}
 use Rattle.infer.proofs.Common.{stands, table}
 use Rattle.infer.proofs.KnownLemmas.{proof_of}
 use Rattle.infer.proofs.OrderLemmas.{none_accepts}
-use Rattle.infer.proofs.table.leads.blank.Goals as goal
+use Rattle.infer.proofs.candidates.dispatch.blank.Goals as goal
 
 pub returns : goal.returns
 unfolding table stands le16 le32 be32

@@ -2,7 +2,7 @@
 use Rattle.std.proofs.Common.{◌≡◌, ◌-◌, ◌≤◌, None, length, take}
 use Rattle.std.specs.Io.KnownBytes.{Consumes}
 use Rattle.infer.proofs.Common.{IsDue, fault_of, inner}
-use Rattle.infer.proofs.read.head.fill.Given as goal
+use Rattle.infer.proofs.read.watched.fill.Given as goal
 
 abbrev pub invariant-loop-filled : goal.invariant-loop-filled
 invariant-loop-filled g l = record {
