@@ -1,5 +1,5 @@
 -- A buffer is decided just if none of the rows before its answer may still accept it.
-use Rattle.std.proofs.Common.{◌≡◌, ◌↔◌, ◌<◌, ◌≤◌, inl, inr, le_refl, ◌∙◌, sym, refl, zero, suc, ℕ, Bool, true, List, [], ◌∷◌, ◌++◌, length, map, get_or, Option, None, Some, All, IsTrue, subst, append_assoc, append-nil, arith}
+use Rattle.std.proofs.Common.{◌≡◌, ◌↔◌, ◌<◌, ◌≤◌, inl, inr, le_refl, ◌∙◌, sym, refl, zero, suc, ℕ, Bool, true, List, [], ◌∷◌, ◌++◌, length, get_or, Option, None, Some, All, IsTrue, subst, append_assoc, append-nil, arith}
 use Rattle.std.proofs.lemmas.List.Folds.{list_all-append, list_all-map}
 use Rattle.std.proofs.lemmas.List.Sums.{AllPass-from_list_all}
 use Rattle.std.proofs.lemmas.List.Elements.{All-append, All-cons, All-nil, AllWithin-none}

@@ -1,7 +1,7 @@
 -- The first element with a property is one, and stands no later if more elements have it.
-use Rattle.std.proofs.Common.{◌≡◌, ◌∙◌, ◌<◌, ℕ, List, [], ◌∷◌, length, get_or, Option, None, Some, Ok, Err, ap, sym, refl, option_map, subst, arith}
+use Rattle.std.proofs.Common.{◌≡◌, ◌∙◌, ◌<◌, ℕ, List, [], ◌∷◌, length, get_or, Option, None, Some, ap, sym, refl, option_map, arith}
 use Rattle.std.specs.List.{HoldsAt, AllWithin}
-use Rattle.infer.proofs.Common.{head, Contracts, IsAnswer, IsFirstOf, IsNotLater, ReadersAreAlike, Row, AnyAccepts, Signature, Triple, triple_of}
+use Rattle.infer.proofs.Common.{Contracts, IsAnswer, IsFirstOf, IsNotLater, ReadersAreAlike, Row, Signature, Triple, triple_of}
 
 -- an element that has the property is not among those that lack it
 among : {A : Type 0} (P : A → Type 0) (xs : List A) (i n : ℕ) → i < length xs → i < n → HoldsAt P xs i → ¬ AllWithin (λ x. ¬ P x) xs 0 n

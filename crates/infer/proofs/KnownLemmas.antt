@@ -1,5 +1,5 @@
 -- What a computation says of a claim: a proof of it, a proof that it fails, or nothing.
-use Rattle.std.proofs.Common.{◌≡◌, ◌≤◌, ◌<◌, ◌⊎◌, inl, inr, ℕ, Bool, true, false, List, eqb, leb, IsTrue, refl, length, take, get_or, subst, arith}
+use Rattle.std.proofs.Common.{◌≡◌, ◌≤◌, ◌⊎◌, inl, inr, ℕ, Bool, true, false, List, eqb, leb, IsTrue, refl, length, take, arith}
 use Rattle.std.specs.Bool.{Decides}
 use Rattle.std.specs.List.{AllWithin, list_all}
 use Rattle.std.specs.Str.{bytes_eq}

@@ -1,5 +1,5 @@
 -- What a computation says of the first row that accepts a buffer.
-use Rattle.std.proofs.Common.{◌∷◌, le_refl, suc, ℕ, List, [], Option, None, Some, length, get_or, subst, arith, inl, inr}
+use Rattle.std.proofs.Common.{◌∷◌, le_refl, suc, ℕ, List, [], Option, None, Some, length, get_or, subst, arith}
 use Rattle.std.proofs.lemmas.List.{get_or_default}
 use Rattle.infer_deep.specs.ClassId.{HasClassId, IsXls}
 use Rattle.infer_deep.specs.Laws as Deep

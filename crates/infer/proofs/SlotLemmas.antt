@@ -10,7 +10,7 @@ use Rattle.std.proofs.lemmas.List.Elements.{filter_more}
 use Rattle.std.proofs.lemmas.List.Folds.{none_from_all_within}
 use Rattle.infer.proofs.Common.{BuiltIn, NoneHas, SomeHas, Leads, candidates_of, number_of, IsAsked, Row, Accepts, HoldAsked, ListSlots, rows_in, slot_of, table, IsFirstAmong, RowHas, is_listed, Triple, ROW_COUNT}
 use Rattle.infer.specs.declared.table.rows.RowName.{RowName}
-use Rattle.infer.proofs.AskLemmas.{asked_up_to, below_count, candidates_placed, filtered_alike, first_moved, listed_row, may_take, none_among, room_left}
+use Rattle.infer.proofs.AskLemmas.{asked_up_to, candidates_placed, filtered_alike, first_moved, listed_row, may_take, none_among, room_left}
 use Rattle.infer.proofs.CandidateLemmas.{first_listed, read_has}
 use Rattle.infer.proofs.ListLemmas.{HoldsAt-read, SomeHas-map, SomeHas-from_map}
 use Rattle.infer.proofs.OrderLemmas.{some_row}

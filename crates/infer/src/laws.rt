@@ -73,7 +73,8 @@ pub fn growth()
 /// are their numbers.
 pub fn near()
     ensures others { OthersAreNear signatures }
-    ensures twelve { filter is_far_row (range_with_len 0 ROW_COUNT) ≡ 26 ∷ 27 ∷ 57 ∷ 58 ∷ 59 ∷ 60 ∷ 61 ∷ 62 ∷ 91 ∷ 92 ∷ 95 ∷ 96 ∷ [] }
+    ensures twelve { filter is_far_row (range_with_len 0 ROW_COUNT)
+        ≡ 26 ∷ 27 ∷ 57 ∷ 58 ∷ 59 ∷ 60 ∷ 61 ∷ 62 ∷ 91 ∷ 92 ∷ 95 ∷ 96 ∷ [] }
 {
     infer_sig::laws::near();
     infer_deep::laws::near();

@@ -154,7 +154,8 @@ pub extern "C" fn infer_more_row_count() -> usize
 pub extern "C" fn infer_mime_type(row: i32, out: &mut [u8]) -> usize
     ensures length { result ≡ option_map_or (λ t. length t.mime_type) (triple_at row) 0 }
     ensures few { result ≤ 73 }
-    ensures written { WritesText (option_map_or (λ t. t.mime_type) (triple_at row) []) out.old out.new }
+    ensures written { WritesText (option_map_or (λ t. t.mime_type)
+        (triple_at row) []) out.old out.new }
 {
     match row::of(row) {
         Some(found) => written::write_text(found.mime_type(), out),
@@ -167,7 +168,8 @@ pub extern "C" fn infer_mime_type(row: i32, out: &mut [u8]) -> usize
 pub extern "C" fn infer_extension(row: i32, out: &mut [u8]) -> usize
     ensures length { result ≡ option_map_or (λ t. length t.extension) (triple_at row) 0 }
     ensures few { result ≤ 73 }
-    ensures written { WritesText (option_map_or (λ t. t.extension) (triple_at row) []) out.old out.new }
+    ensures written { WritesText (option_map_or (λ t. t.extension)
+        (triple_at row) []) out.old out.new }
 {
     match row::of(row) {
         Some(found) => written::write_text(found.extension(), out),
@@ -278,7 +280,8 @@ pub extern "C" fn infer_types_check(
 ) -> usize
     ensures described { IsTrue (is_some (rows_of text.now)) ↔ (result ≡ 0) }
     ensures line { ¬ (result ≡ 0) → line.new ≡ lines_before_mistake (lines_of text.now) + 1 }
-    ensures written { (words : List ℕ) × (result ≡ length words) × WritesText words reason.old reason.new }
+    ensures written { (words : List ℕ) × (result ≡ length words)
+        × WritesText words reason.old reason.new }
     ensures few { result ≤ 73 }
 {
     match infer_more::types::check(text) {

@@ -144,8 +144,10 @@ fn at(i: usize) -> &'static EndedTexts
 
 /// The texts of the row with this number, which are empty if there is no such row.
 pub fn of(row: i32) -> &'static EndedTexts
-    ensures mime_type { result.now.mime_type.now ≡ ended (option_map_or (λ t. t.mime_type) (triple_at row) []) }
-    ensures extension { result.now.extension.now ≡ ended (option_map_or (λ t. t.extension) (triple_at row) []) }
+    ensures mime_type { result.now.mime_type.now
+        ≡ ended (option_map_or (λ t. t.mime_type) (triple_at row) []) }
+    ensures extension { result.now.extension.now
+        ≡ ended (option_map_or (λ t. t.extension) (triple_at row) []) }
 {
     if row < 0 {
         return &NONE;

@@ -110,7 +110,8 @@ fn least_of(entries: &[Entry], parent: Option<usize>, buf: &[u8], before: usize)
 /// Whether this is one entry, whose row is not before that number: told without a loop, as most guards have one entry.
 #[inline(always)]
 fn is_late(entries: &[Entry], before: usize) -> bool
-    ensures { IsTrue result ↔ (length entries.now ≡ 1) × IsTrue (list_all (λ e. nat_le before e.row) entries.now) }
+    ensures { IsTrue result ↔ (length entries.now ≡ 1)
+        × IsTrue (list_all (λ e. nat_le before e.row) entries.now) }
 {
     match entries {
         [only] => before <= usize::from(only.row),
@@ -250,7 +251,8 @@ fn entries_at(lists: &'static [&'static [Entry]], i: usize) -> &'static [Entry]
 /// none, and cost no call.
 #[inline(always)]
 fn least_begun(index: &Parentless, buf: &[u8]) -> usize
-    ensures { IsLeast (IsTried None buf.now (candidates buf.now (begun index.now buf.now))) FURTHER_COUNT result }
+    ensures { IsLeast (IsTried None buf.now
+        (candidates buf.now (begun index.now buf.now))) FURTHER_COUNT result }
 {
     let entries = entries_begun(index, buf);
     if entries.is_empty() {
@@ -262,7 +264,8 @@ fn least_begun(index: &Parentless, buf: &[u8]) -> usize
 /// The least of the rows that such an index tries and that widen the answer, or their count.
 #[inline(always)]
 fn least_tried(index: &Parentless, buf: &[u8]) -> usize
-    ensures { IsLeast (IsTried None buf.now (tried_parentless index.now buf.now)) FURTHER_COUNT result }
+    ensures { IsLeast (IsTried None buf.now
+        (tried_parentless index.now buf.now)) FURTHER_COUNT result }
 {
     let begun = least_begun(index, buf);
     let least = least_guarded(index.guards, buf, begun);
@@ -406,7 +409,8 @@ fn least_program(lists: &'static [&'static [Named]], buf: &[u8]) -> usize
 /// The least of the number before and of the rows whose folder stands at the place, which is that of the first.
 fn least_folder_at(folders: &[Named], buf: &[u8], place: usize, before: usize) -> usize
     requires { IsTrue (ascends named_row folders.now) }
-    ensures { IsLeast (IsNamed (λ folder. OccursAt buf.now folder place) folders.now) before result }
+    ensures { IsLeast (IsNamed (λ folder. OccursAt buf.now folder place) folders.now) before
+        result }
 {
     for named in folders {
         if stands_at(buf, named.name, place) {
@@ -431,7 +435,8 @@ fn least_folder(folders: &[Named], buf: &[u8], before: usize) -> usize
 /// Whether the root element has the row's name, and its text in the tag.
 #[inline(always)]
 fn is_rooted(rooted: &Rooted, root: &Root<'_>) -> bool
-    ensures { IsTrue result ↔ (rooted.now.name.now ≡ root.now.name.now) × HasTagText root.now.rest.now rooted.now.text }
+    ensures { IsTrue result ↔ (rooted.now.name.now ≡ root.now.name.now)
+        × HasTagText root.now.rest.now rooted.now.text }
 {
     if root.name != rooted.name {
         return false;
@@ -652,7 +657,8 @@ pub fn row(i: usize) -> Option<Type>
 /// The texts of further row `i`, each with a zero after it.
 pub fn ended_texts(i: usize) -> Option<&'static EndedTexts>
     ensures built_in { i < ROW_COUNT → result ≡ None }
-    ensures further { ROW_COUNT ≤ i → option_map (λ texts. ended_listed texts.now) result ≡ option_map ended_shown (slice_get shown i) }
+    ensures further { ROW_COUNT ≤ i → option_map (λ texts. ended_listed texts.now) result
+        ≡ option_map ended_shown (slice_get shown i) }
 {
     numbers();
     if i < ROW_COUNT {
@@ -699,7 +705,8 @@ fn is_same(a: &str, b: &str) -> bool
 
 /// Whether further row `i` has this extension.
 fn shows_extension(i: usize, extension: &str) -> bool
-    ensures { IsTrue result ↔ ((i < length further) × HoldsAt (λ r. r.shows.extension ≡ extension.now) further i) }
+    ensures { IsTrue result ↔ ((i < length further)
+        × HoldsAt (λ r. r.shows.extension ≡ extension.now) further i) }
 {
     match row_at(i) {
         Some(row) => is_same(row.extension, extension),
@@ -721,7 +728,8 @@ pub fn has_extension(extension: &str) -> bool
 
 /// Whether further row `i` has this MIME type.
 fn shows_mime_type(i: usize, mime_type: &str) -> bool
-    ensures { IsTrue result ↔ ((i < length further) × HoldsAt (λ r. r.shows.mime_type ≡ mime_type.now) further i) }
+    ensures { IsTrue result ↔ ((i < length further)
+        × HoldsAt (λ r. r.shows.mime_type ≡ mime_type.now) further i) }
 {
     match row_at(i) {
         Some(row) => is_same(row.mime_type, mime_type),

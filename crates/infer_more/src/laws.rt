@@ -77,5 +77,6 @@ pub fn sizes()
 
 /// The rows that are read of a text of types are those that it describes.
 pub fn described()
-    ensures { (text : List ℕ) (rows : List Row) → rows_of text ≡ Some rows ↔ DescribesRows text rows }
+    ensures { (text : List ℕ) (rows : List Row) → rows_of text ≡ Some rows
+        ↔ DescribesRows text rows }
 {}

@@ -82,7 +82,8 @@ pub fn row(i: usize) -> Option<Type>
 /// The texts of further row `i`, each with a zero after it, and `None` of any other number.
 pub fn ended_texts(i: usize) -> Option<&'static EndedTexts>
     ensures built_in { i < ROW_COUNT → result ≡ None }
-    ensures further { ROW_COUNT ≤ i → option_map (λ texts. ended_listed texts.now) result ≡ option_map ended_shown (slice_get shown i) }
+    ensures further { ROW_COUNT ≤ i → option_map (λ texts. ended_listed texts.now) result
+        ≡ option_map ended_shown (slice_get shown i) }
 {
     answers::ended_texts(i)
 }

@@ -71,7 +71,8 @@ fn may_fit(alternative: &Alternative, buf: &[u8]) -> bool
 
 /// Whether some make one of the names that of the program.
 fn may_become_program_among(buf: &[u8], names: &[&[u8]]) -> bool
-    ensures { IsTrue result ↔ Reachable (IsProgramAmong (map (λ name. name.now) names.now)) buf.now }
+    ensures { IsTrue result ↔ Reachable (IsProgramAmong
+        (map (λ name. name.now) names.now)) buf.now }
 {
     for name in names {
         if may_become_program(buf, name) {

@@ -244,8 +244,10 @@ fn of_row(row: &FurtherRow, out: &mut [u8; SAMPLE_SIZE]) -> Option<usize>
 /// Writes the sample of further row `i`, counted among these.
 fn further(i: usize, out: &mut [u8; SAMPLE_SIZE]) -> Option<usize>
     ensures none { IsNone result ↔ (length further ≤ i) }
-    ensures counted { result ≡ option_map length (option_and_then further_sample (slice_get further i)) }
-    ensures written { out.new ≡ written (option_and_then further_sample (slice_get further i)) out.old }
+    ensures counted { result ≡ option_map length
+        (option_and_then further_sample (slice_get further i)) }
+    ensures written { out.new ≡ written (option_and_then further_sample
+        (slice_get further i)) out.old }
     ensures fits { IfSome result (λ n. n ≤ SAMPLE_SIZE) }
     ensures answers { IfSome result (λ n. IsWider (take n out.new) (Some (ROW_COUNT + i))) }
 {

@@ -204,7 +204,8 @@ fn has_every(pieces: &[Piece], buf: &[u8]) -> bool
 #[inline(always)]
 fn has_texts(pieces: &[Piece], buf: &[u8]) -> bool
     requires { IsTrue (list_all (is_inside (length buf.now)) (map part_listed pieces.now)) }
-    ensures { result ≡ list_all (λ piece. not (is_text piece) || has_part buf.now (part_listed piece)) pieces.now }
+    ensures { result ≡ list_all (λ piece. not (is_text piece) || has_part buf.now
+        (part_listed piece)) pieces.now }
 {
     for piece in pieces {
         if !has_text(piece, buf) {
@@ -218,7 +219,8 @@ fn has_texts(pieces: &[Piece], buf: &[u8]) -> bool
 #[inline(always)]
 fn has_singles(pieces: &[Piece], buf: &[u8]) -> bool
     requires { IsTrue (list_all (is_inside (length buf.now)) (map part_listed pieces.now)) }
-    ensures { result ≡ list_all (λ piece. is_text piece || has_part buf.now (part_listed piece)) pieces.now }
+    ensures { result ≡ list_all (λ piece. is_text piece || has_part buf.now
+        (part_listed piece)) pieces.now }
 {
     for piece in pieces {
         if !has_single(piece, buf) {

@@ -110,7 +110,8 @@ pub(crate) fn lists() -> [&'static [FurtherRow]; 9]
 /// Row `i`.
 pub(crate) fn row_at(i: usize) -> Option<&'static FurtherRow>
     ensures listed { option_map (λ row. row_listed row.now) result ≡ slice_get further i }
-    ensures ended { IfSome result (λ row. ended_listed row.now.ended ≡ ended_shown (row_listed row.now).shows) }
+    ensures ended { IfSome result (λ row. ended_listed row.now.ended
+        ≡ ended_shown (row_listed row.now).shows) }
     ensures closed { IfSome result (λ row. IsTrue (is_row_closed (row_listed row.now))) }
 {
     let mut left = i;

@@ -77,7 +77,8 @@ impl<'a> Types<'a> {
         ensures described { is_ok result ≡ is_some (rows_of text.now) }
         ensures text { IfOk result (λ types. types.text.now ≡ text.now) }
         // The mistake is in the first line that describes neither a type nor none.
-        ensures line { IfErr result (λ mistake. mistake.line ≡ lines_before_mistake (lines_of text.now) + 1) }
+        ensures line { IfErr result (λ mistake. mistake.line
+            ≡ lines_before_mistake (lines_of text.now) + 1) }
     {
         check(text)?;
         let entries = entries_of(text);
@@ -114,7 +115,8 @@ impl<'a> Types<'a> {
     /// buffer.
     fn find(&self, extension: Option<&[u8]>, buf: &[u8]) -> Option<Found<'a>>
         ensures { (rows : List Row) → rows_of self.now.text.now ≡ Some rows
-            → IsFirstShown (Answers (option_map (λ e. e.now) extension.entry) buf.now) rows (option_map found_shows result) }
+            → IsFirstShown (Answers (option_map (λ e. e.now) extension.entry) buf.now) rows
+            (option_map found_shows result) }
     {
         match self.entries.find(extension, buf) {
             Some(found) => Some(found),
@@ -146,9 +148,12 @@ impl<'a> Iterator for Rows<'a> {
 
 impl<'a> Rows<'a> {
     fn next_row(&mut self) -> Option<Found<'a>>
-        ensures next { (rows : List Row) → rows_left (option_map (λ text. text.now) self.old.rest) ≡ Some rows
-            → IsNextRow rows (option_map found_shows result) (rows_left (option_map (λ text. text.now) self.new.rest)) }
-        ensures fewer { MatchOption result (left_size self.new ≤ left_size self.old) (λ found. left_size self.new < left_size self.old) }
+        ensures next { (rows : List Row)
+            → rows_left (option_map (λ text. text.now) self.old.rest) ≡ Some rows
+            → IsNextRow rows (option_map found_shows result)
+            (rows_left (option_map (λ text. text.now) self.new.rest)) }
+        ensures fewer { MatchOption result (left_size self.new ≤ left_size self.old)
+            (λ found. left_size self.new < left_size self.old) }
     {
         while let Some(text) = self.rest {
             let (line, behind) = next_line(text);
@@ -164,7 +169,8 @@ impl<'a> Rows<'a> {
 /// What the first row of the text shows that is asked below the built-in answer of the buffer and accepts it, and the
 /// wider answer if there is none.
 pub fn get<'a>(text: &'a [u8], buf: &[u8]) -> Option<Found<'a>>
-    ensures { (rows : List Row) → rows_of text.now ≡ Some rows → IsTypesAnswer rows buf.now (option_map found_shows result) }
+    ensures { (rows : List Row) → rows_of text.now ≡ Some rows
+        → IsTypesAnswer rows buf.now (option_map found_shows result) }
 {
     let parent = infer::get(buf);
     let extension = match parent {
@@ -194,7 +200,8 @@ fn wider<'a>(buf: &[u8]) -> Option<Found<'a>>
 /// [`find`] in what is left of a text.
 fn find_left<'a>(left: Option<&'a [u8]>, extension: Option<&[u8]>, buf: &[u8]) -> Option<Found<'a>>
     ensures { (rows : List Row) → rows_left (option_map (λ text. text.now) left.entry) ≡ Some rows
-        → IsFirstShown (Answers (option_map (λ e. e.now) extension.entry) buf.now) rows (option_map found_shows result) }
+        → IsFirstShown (Answers (option_map (λ e. e.now) extension.entry) buf.now) rows
+        (option_map found_shows result) }
 {
     match left {
         Some(text) => find(text, extension, buf),
@@ -206,7 +213,8 @@ fn find_left<'a>(left: Option<&'a [u8]>, extension: Option<&[u8]>, buf: &[u8]) -
 /// the buffer.
 fn find<'a>(text: &'a [u8], extension: Option<&[u8]>, buf: &[u8]) -> Option<Found<'a>>
     ensures { (rows : List Row) → rows_of text.now ≡ Some rows
-        → IsFirstShown (Answers (option_map (λ e. e.now) extension.entry) buf.now) rows (option_map found_shows result) }
+        → IsFirstShown (Answers (option_map (λ e. e.now) extension.entry) buf.now) rows
+        (option_map found_shows result) }
 {
     let mut rest = text;
     loop {
@@ -224,7 +232,8 @@ fn find<'a>(text: &'a [u8], extension: Option<&[u8]>, buf: &[u8]) -> Option<Foun
 /// Whether each line of the text describes a type or none, and else the first mistake.
 pub fn check(text: &[u8]) -> Result<(), Mistake>
     ensures described { is_ok result ≡ is_some (rows_of text.now) }
-    ensures line { IfErr result (λ mistake. mistake.line ≡ lines_before_mistake (lines_of text.now) + 1) }
+    ensures line { IfErr result (λ mistake. mistake.line
+        ≡ lines_before_mistake (lines_of text.now) + 1) }
 {
     let mut rest = text;
     let mut number = 1;

@@ -22,7 +22,8 @@ pub fn accepts(text: &[u8], buf: &[u8]) -> Result<bool, Flaw>
 
 /// [`accepts`] of a text that is known to describe a signature. Of fixed bytes it may stop at what the buffer lacks.
 pub fn accepts_known(text: &[u8], buf: &[u8]) -> bool
-    ensures { (alternatives : List Alternative) → signature_of text.now ≡ Some alternatives → IsTrue result ↔ Accepted alternatives buf.now }
+    ensures { (alternatives : List Alternative) → signature_of text.now ≡ Some alternatives
+        → IsTrue result ↔ Accepted alternatives buf.now }
 {
     if begins_relation(skip_blanks(text)) {
         return match is_related(text, buf) {

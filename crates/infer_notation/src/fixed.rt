@@ -58,7 +58,8 @@ pub enum Effect {
 #[inline(always)]
 #[tactic(auto, unfolding(crate::specs::Fixed::step))]
 pub fn step(cursor: Cursor, token: Token<'_>, buf: &[u8]) -> Result<(Cursor, Effect), Reason>
-    ensures { found_by result ≡ option_map (step_seen buf.now) (step cursor (token_listed token.entry)) }
+    ensures { found_by result ≡ option_map (step_seen buf.now)
+        (step cursor (token_listed token.entry)) }
 {
     match cursor.wanted {
         Wanted::Length => length_read(token, buf),
@@ -75,7 +76,8 @@ pub fn step(cursor: Cursor, token: Token<'_>, buf: &[u8]) -> Result<(Cursor, Eff
 
 /// What follows on "binary".
 fn binary_read(token: Token<'_>, buf: &[u8]) -> Result<(Cursor, Effect), Reason>
-    ensures { found_by result ≡ option_map (step_seen buf.now) (behind_word_of (codes "binary") (cursor Or 0 0) asks_binary (token_listed token.entry)) }
+    ensures { found_by result ≡ option_map (step_seen buf.now)
+        (behind_word_of (codes "binary") (cursor Or 0 0) asks_binary (token_listed token.entry)) }
 {
     match token {
         Token::Word(word) if word == b"binary".as_slice() => Ok((
@@ -99,7 +101,8 @@ fn has_data(buf: &[u8]) -> bool
 
 /// What follows on "or".
 fn or_read(token: Token<'_>) -> Result<(Cursor, Effect), Reason>
-    ensures { found_by result ≡ option_map (step_seen []) (behind_word_of (codes "or") (cursor Length 0 0) nothing (token_listed token.entry)) }
+    ensures { found_by result ≡ option_map (step_seen [])
+        (behind_word_of (codes "or") (cursor Length 0 0) nothing (token_listed token.entry)) }
 {
     match token {
         Token::Word(word) if word == b"or".as_slice() => Ok((
@@ -116,7 +119,8 @@ fn or_read(token: Token<'_>) -> Result<(Cursor, Effect), Reason>
 
 #[inline(always)]
 fn length_read(token: Token<'_>, buf: &[u8]) -> Result<(Cursor, Effect), Reason>
-    ensures { found_by result ≡ option_map (step_seen buf.now) (length_read (token_listed token.entry)) }
+    ensures { found_by result ≡ option_map (step_seen buf.now)
+        (length_read (token_listed token.entry)) }
 {
     match token {
         Token::Word(word) => match number(word) {
@@ -143,7 +147,8 @@ fn behind_mark(
     token: Token<'_>,
     reason: Reason,
 ) -> Result<(Cursor, Effect), Reason>
-    ensures { found_by result ≡ option_map (step_seen []) (behind_mark mark wanted cursor.least cursor.place (token_listed token.entry)) }
+    ensures { found_by result ≡ option_map (step_seen [])
+        (behind_mark mark wanted cursor.least cursor.place (token_listed token.entry)) }
 {
     match token {
         Token::Mark(other) if other == mark => Ok((Cursor { wanted, ..cursor }, Effect::Nothing)),
@@ -153,7 +158,8 @@ fn behind_mark(
 
 #[inline(always)]
 fn place_read(cursor: Cursor, token: Token<'_>) -> Result<(Cursor, Effect), Reason>
-    ensures { found_by result ≡ option_map (step_seen []) (place_read cursor.least cursor.place (token_listed token.entry)) }
+    ensures { found_by result ≡ option_map (step_seen [])
+        (place_read cursor.least cursor.place (token_listed token.entry)) }
 {
     let Token::Word(word) = token else {
         return Err(Reason::Place);
@@ -178,7 +184,8 @@ fn place_read(cursor: Cursor, token: Token<'_>) -> Result<(Cursor, Effect), Reas
 
 #[inline(always)]
 fn more_read(cursor: Cursor, token: Token<'_>, buf: &[u8]) -> Result<(Cursor, Effect), Reason>
-    ensures { found_by result ≡ option_map (step_seen buf.now) (more_read cursor.least cursor.place (token_listed token.entry)) }
+    ensures { found_by result ≡ option_map (step_seen buf.now)
+        (more_read cursor.least cursor.place (token_listed token.entry)) }
 {
     match token {
         Token::Mark(_) => behind_mark(b',', Wanted::At, cursor, token, Reason::Bytes),
@@ -195,7 +202,8 @@ fn more_read(cursor: Cursor, token: Token<'_>, buf: &[u8]) -> Result<(Cursor, Ef
 }
 
 fn other_byte(cursor: Cursor, token: Token<'_>, buf: &[u8]) -> Result<(Cursor, Effect), Reason>
-    ensures { found_by result ≡ option_map (step_seen buf.now) (other_byte cursor.least cursor.place (token_listed token.entry)) }
+    ensures { found_by result ≡ option_map (step_seen buf.now)
+        (other_byte cursor.least cursor.place (token_listed token.entry)) }
 {
     let Token::Word(word) = token else {
         return Err(Reason::Bytes);
@@ -209,7 +217,8 @@ fn other_byte(cursor: Cursor, token: Token<'_>, buf: &[u8]) -> Result<(Cursor, E
 /// What a token asks for at the place.
 #[inline(always)]
 fn piece(cursor: Cursor, token: Token<'_>, buf: &[u8]) -> Result<(Cursor, Effect), Reason>
-    ensures { found_by result ≡ option_map (step_seen buf.now) (piece cursor.least cursor.place (token_listed token.entry)) }
+    ensures { found_by result ≡ option_map (step_seen buf.now)
+        (piece cursor.least cursor.place (token_listed token.entry)) }
 {
     match token {
         Token::Quoted(text) => within(cursor, text.len(), has_text(buf, cursor.place, text)),
@@ -228,7 +237,8 @@ fn piece(cursor: Cursor, token: Token<'_>, buf: &[u8]) -> Result<(Cursor, Effect
 
 /// One of the bytes of a set.
 fn set_read(cursor: Cursor, digits: &[u8], buf: &[u8]) -> Result<(Cursor, Effect), Reason>
-    ensures { found_by result ≡ option_map (step_seen buf.now) (set_read cursor.least cursor.place digits.now) }
+    ensures { found_by result ≡ option_map (step_seen buf.now)
+        (set_read cursor.least cursor.place digits.now) }
 {
     let read = bytes(digits, from(buf, cursor.place))?;
     if read.count == 0 {
@@ -240,7 +250,8 @@ fn set_read(cursor: Cursor, digits: &[u8], buf: &[u8]) -> Result<(Cursor, Effect
 /// The bytes that a bare word writes, or one of a range.
 #[inline(always)]
 fn word_part(cursor: Cursor, word: &[u8], buf: &[u8]) -> Result<(Cursor, Effect), Reason>
-    ensures { found_by result ≡ option_map (step_seen buf.now) (word_part cursor.least cursor.place word.now (range_of word.now)) }
+    ensures { found_by result ≡ option_map (step_seen buf.now)
+        (word_part cursor.least cursor.place word.now (range_of word.now)) }
 {
     match range(word) {
         Some((low, high)) => {

@@ -9,7 +9,8 @@ ghost use Rattle.infer_notation.specs.Tokens.{Token};
 
 /// The alternatives of a text are those that its tokens have by the grammar.
 pub fn grammar()
-    ensures { (t : List ℕ) (alternatives : List Asked) → alternatives_of t ≡ Some alternatives ↔ IsSignature t alternatives }
+    ensures { (t : List ℕ) (alternatives : List Asked) → alternatives_of t ≡ Some alternatives
+        ↔ IsSignature t alternatives }
 {}
 
 /// The tokens of a text are those that it is made of.
@@ -19,5 +20,6 @@ pub fn tokens()
 
 /// The alternatives that are read of a text are those that it describes, by fixed bytes or by a relation.
 pub fn described()
-    ensures { (t : List ℕ) (alternatives : List Alternative) → signature_of t ≡ Some alternatives ↔ Describes t alternatives }
+    ensures { (t : List ℕ) (alternatives : List Alternative) → signature_of t ≡ Some alternatives
+        ↔ Describes t alternatives }
 {}

@@ -69,7 +69,8 @@ fn is_among(byte: u8, bytes: [u8; 4]) -> bool
 /// One of at most four bytes at a place, which each buffer has that the described signature accepts. `None` says
 /// nothing.
 pub fn lead_of(text: &[u8]) -> Option<Lead>
-    ensures { (alternatives : List Alternative) → signature_of text.now ≡ Some alternatives → IsLead result alternatives }
+    ensures { (alternatives : List Alternative) → signature_of text.now ≡ Some alternatives
+        → IsLead result alternatives }
 {
     if begins_relation(skip_blanks(text)) {
         return None;
@@ -111,7 +112,8 @@ fn fixed_lead(text: &[u8]) -> Option<Lead>
 fn next(reading: Reading, text: &[u8]) -> Option<(Reading, usize)>
     requires some { 0 < length text.now }
     requires no_blank { is_blank (slice_index text.now 0) ≡ false }
-    ensures found { IfSome result (λ n. (whole : List ℕ) → IsRead reading whole text.now → IsRead n.0 whole (drop (1 + n.1) text.now)) }
+    ensures found { IfSome result (λ n. (whole : List ℕ) → IsRead reading whole text.now
+        → IsRead n.0 whole (drop (1 + n.1) text.now)) }
     ensures bound { IfSome result (λ n. n.1 < length text.now) }
 {
     let Ok((token, count)) = token_at(text) else {
@@ -129,9 +131,12 @@ fn next(reading: Reading, text: &[u8]) -> Option<(Reading, usize)>
 fn taken(reading: Reading, cursor: Cursor, effect: Effect, lead: Option<Lead>) -> Reading
     ensures cursor { result.cursor ≡ cursor }
     ensures known { (e : spec.Effect) (any last : List ℕ → Bool) → effect_seen [] e ≡ effect
-        → ((b : List ℕ) → effect_seen b e ≡ Has true → IsLed lead b) → IsKnown reading.any any → IsKnown reading.last last
-        → IsKnown result.any (λ b. (state_taken (state reading.cursor (any b) (last b)) cursor (effect_seen b e)).any)
-        × IsKnown result.last (λ b. (state_taken (state reading.cursor (any b) (last b)) cursor (effect_seen b e)).last) }
+        → ((b : List ℕ) → effect_seen b e ≡ Has true → IsLed lead b) → IsKnown reading.any any
+        → IsKnown reading.last last
+        → IsKnown result.any (λ b. (state_taken (state reading.cursor (any b) (last b)) cursor
+        (effect_seen b e)).any)
+        × IsKnown result.last (λ b. (state_taken (state reading.cursor (any b) (last b)) cursor
+        (effect_seen b e)).last) }
 {
     match effect {
         Effect::Nothing => Reading { cursor, ..reading },
@@ -150,7 +155,8 @@ fn taken(reading: Reading, cursor: Cursor, effect: Effect, lead: Option<Lead>) -
 
 /// What is known of the buffers that have both.
 fn both(last: Known, lead: Option<Lead>) -> Known
-    ensures { (f g : List ℕ → Bool) → IsKnown last f → ((b : List ℕ) → g b ≡ true → IsLed lead b) → IsKnown result (λ b. f b && g b) }
+    ensures { (f g : List ℕ → Bool) → IsKnown last f → ((b : List ℕ) → g b ≡ true → IsLed lead b)
+        → IsKnown result (λ b. f b && g b) }
 {
     match last {
         Known::Nothing => match lead {
@@ -163,7 +169,8 @@ fn both(last: Known, lead: Option<Lead>) -> Known
 
 /// What is known of the buffers of either kind.
 fn either(one: Known, other: Known) -> Known
-    ensures { (f g : List ℕ → Bool) → IsKnown one f → IsKnown other g → IsKnown result (λ b. f b || g b) }
+    ensures { (f g : List ℕ → Bool) → IsKnown one f → IsKnown other g
+        → IsKnown result (λ b. f b || g b) }
 {
     match one {
         Known::Never => other,
@@ -174,7 +181,8 @@ fn either(one: Known, other: Known) -> Known
 
 /// What is known of the buffers that have this lead, and of others.
 fn either_led(lead: Lead, other: Known) -> Known
-    ensures { (f g : List ℕ → Bool) → IsKnown (Led lead) f → IsKnown other g → IsKnown result (λ b. f b || g b) }
+    ensures { (f g : List ℕ → Bool) → IsKnown (Led lead) f → IsKnown other g
+        → IsKnown result (λ b. f b || g b) }
 {
     match other {
         Known::Never => Known::Led(lead),
@@ -188,7 +196,8 @@ fn either_led(lead: Lead, other: Known) -> Known
 
 /// What each buffer has that has one of the two.
 fn merged(one: Lead, other: Lead) -> Option<Lead>
-    ensures { (b : List ℕ) → IsTrue (has_part b (lead_part one) || has_part b (lead_part other)) → IsLed result b }
+    ensures { (b : List ℕ) → IsTrue (has_part b (lead_part one) || has_part b (lead_part other))
+        → IsLed result b }
 {
     if one.place != other.place {
         return None;
@@ -204,7 +213,9 @@ fn merged(one: Lead, other: Lead) -> Option<Lead>
 
 /// The bytes of both, if they are at most four.
 fn all(bytes: [u8; 4], others: [u8; 4]) -> Option<[u8; 4]>
-    ensures { IfSome result (λ more. (x : ℕ) → IsTrue (allows (any_of bytes) x || allows (any_of others) x) → IsTrue (allows (any_of more) x)) }
+    ensures { IfSome result (λ more. (x : ℕ)
+        → IsTrue (allows (any_of bytes) x || allows (any_of others) x)
+        → IsTrue (allows (any_of more) x)) }
 {
     let [a, b, c, d] = others;
     let one = with(bytes, a)?;
@@ -215,7 +226,8 @@ fn all(bytes: [u8; 4], others: [u8; 4]) -> Option<[u8; 4]>
 
 /// The bytes and this one, if they are at most four.
 fn with(bytes: [u8; 4], byte: u8) -> Option<[u8; 4]>
-    ensures { IfSome result (λ more. (x : ℕ) → IsTrue (allows (any_of bytes) x || x == byte) → IsTrue (allows (any_of more) x)) }
+    ensures { IfSome result (λ more. (x : ℕ) → IsTrue (allows (any_of bytes) x || x == byte)
+        → IsTrue (allows (any_of more) x)) }
 {
     let [a, b, c, d] = bytes;
     if byte == a || byte == b || byte == c || byte == d {
@@ -236,7 +248,8 @@ fn with(bytes: [u8; 4], byte: u8) -> Option<[u8; 4]>
 /// What each buffer has that has what the token asks for.
 #[tactic(auto, unfolding(crate::specs::Fixed::step))]
 fn asked(cursor: Cursor, token: Token<'_>) -> Option<Lead>
-    ensures { (b : List ℕ) (d : Cursor) (e : spec.Effect) → step cursor (token_listed token.entry) ≡ Some (d, e)
+    ensures { (b : List ℕ) (d : Cursor) (e : spec.Effect)
+        → step cursor (token_listed token.entry) ≡ Some (d, e)
         → effect_seen b e ≡ Has true → IsLed result b }
 {
     match cursor.wanted {
@@ -248,7 +261,8 @@ fn asked(cursor: Cursor, token: Token<'_>) -> Option<Lead>
 
 /// [`asked`] of a token that asks for bytes at this place.
 fn piece_lead(place: usize, token: Token<'_>) -> Option<Lead>
-    ensures { (b : List ℕ) (least : ℕ) (d : Cursor) (e : spec.Effect) → piece least place (token_listed token.entry) ≡ Some (d, e)
+    ensures { (b : List ℕ) (least : ℕ) (d : Cursor) (e : spec.Effect)
+        → piece least place (token_listed token.entry) ≡ Some (d, e)
         → effect_seen b e ≡ Has true → IsLed result b }
 {
     match token {
@@ -271,7 +285,8 @@ fn text_lead(place: usize, text: &[u8]) -> Option<Lead>
 
 /// What each buffer has that has a byte of the set at the place.
 fn set_lead(place: usize, digits: &[u8]) -> Option<Lead>
-    ensures { (b xs : List ℕ) → bytes_of digits.now ≡ Some xs → IsTrue (has_part b (signature.byte place (any_of xs))) → IsLed result b }
+    ensures { (b xs : List ℕ) → bytes_of digits.now ≡ Some xs
+        → IsTrue (has_part b (signature.byte place (any_of xs))) → IsLed result b }
 {
     match set_bytes(digits) {
         Some(bytes) => lead_at(place, bytes),
@@ -304,8 +319,10 @@ fn digit_read(
     first: Option<u8>,
     digit: u8,
 ) -> Option<(Option<[u8; 4]>, Option<u8>)>
-    ensures { IfSome result (λ n. (xs ys : List ℕ) → bytes_behind first (digit ∷ ys) ≡ Some xs → (zs : List ℕ) × (bytes_behind n.1 ys ≡ Some zs)
-        × ((x : ℕ) → IsTrue (is_found found x || allows (any_of xs) x) → IsTrue (is_found n.0 x || allows (any_of zs) x))) }
+    ensures { IfSome result (λ n. (xs ys : List ℕ) → bytes_behind first (digit ∷ ys) ≡ Some xs
+        → (zs : List ℕ) × (bytes_behind n.1 ys ≡ Some zs)
+        × ((x : ℕ) → IsTrue (is_found found x || allows (any_of xs) x)
+        → IsTrue (is_found n.0 x || allows (any_of zs) x))) }
 {
     let Some(other) = first else {
         return Some((found, half_of(digit)));
@@ -321,14 +338,16 @@ fn digit_read(
 
 /// The first digit of a byte, unless it is a blank.
 fn half_of(digit: u8) -> Option<u8>
-    ensures { (xs ys : List ℕ) → bytes_behind None (digit ∷ ys) ≡ Some xs → bytes_behind result ys ≡ Some xs }
+    ensures { (xs ys : List ℕ) → bytes_behind None (digit ∷ ys) ≡ Some xs
+        → bytes_behind result ys ≡ Some xs }
 {
     if is_blank(digit) { None } else { Some(digit) }
 }
 
 /// The bytes that were found, and this one, if they are at most four.
 fn added(found: Option<[u8; 4]>, byte: u8) -> Option<[u8; 4]>
-    ensures { IfSome result (λ more. (x : ℕ) → IsTrue (is_found found x || x == byte) → IsTrue (allows (any_of more) x)) }
+    ensures { IfSome result (λ more. (x : ℕ) → IsTrue (is_found found x || x == byte)
+        → IsTrue (allows (any_of more) x)) }
 {
     match found {
         Some(bytes) => with(bytes, byte),
@@ -338,7 +357,8 @@ fn added(found: Option<[u8; 4]>, byte: u8) -> Option<[u8; 4]>
 
 /// [`piece_lead`] of a bare word.
 fn word_lead(place: usize, word: &[u8]) -> Option<Lead>
-    ensures { (b : List ℕ) (least : ℕ) (d : Cursor) (e : spec.Effect) → word_part least place word.now (range_of word.now) ≡ Some (d, e)
+    ensures { (b : List ℕ) (least : ℕ) (d : Cursor) (e : spec.Effect)
+        → word_part least place word.now (range_of word.now) ≡ Some (d, e)
         → effect_seen b e ≡ Has true → IsLed result b }
 {
     match range(word) {
@@ -352,7 +372,8 @@ fn word_lead(place: usize, word: &[u8]) -> Option<Lead>
 
 /// What each buffer has that has a byte of the range at the place.
 fn range_lead(place: usize, low: u8, high: u8) -> Option<Lead>
-    ensures { (b : List ℕ) → IsTrue (has_part b (signature.byte place (between low high))) → IsLed result b }
+    ensures { (b : List ℕ) → IsTrue (has_part b (signature.byte place (between low high)))
+        → IsLed result b }
 {
     match all_between(low, high) {
         Some(bytes) => lead_at(place, bytes),
@@ -362,7 +383,8 @@ fn range_lead(place: usize, low: u8, high: u8) -> Option<Lead>
 
 /// The first of the bytes that the word writes.
 fn first_byte(word: &[u8]) -> Option<u8>
-    ensures { IfSome result (λ x. (bytes : List ℕ) → bytes_of word.now ≡ Some bytes → (more : List ℕ) × (bytes ≡ x ∷ more)) }
+    ensures { IfSome result (λ x. (bytes : List ℕ) → bytes_of word.now ≡ Some bytes
+        → (more : List ℕ) × (bytes ≡ x ∷ more)) }
 {
     match word {
         [a, b, ..] if !is_blank(*a) => byte_with(*a, *b),
@@ -372,7 +394,8 @@ fn first_byte(word: &[u8]) -> Option<u8>
 
 /// The bytes from the first to the second, if they are at most four.
 fn all_between(low: u8, high: u8) -> Option<[u8; 4]>
-    ensures { IfSome result (λ bytes. (x : ℕ) → IsTrue (allows (between low high) x) → IsTrue (allows (any_of bytes) x)) }
+    ensures { IfSome result (λ bytes. (x : ℕ) → IsTrue (allows (between low high) x)
+        → IsTrue (allows (any_of bytes) x)) }
 {
     if high < low || high - low > 3 {
         return None;

@@ -47,7 +47,8 @@ impl<'a> Group<'a> {
 
 /// The tokens up to the first "or", and what follows it, if there is one.
 pub fn read_group(text: &[u8]) -> Result<(Group<'_>, Option<&[u8]>), Flaw>
-    ensures found { IfOk result (λ r. groups_of text.now ≡ option_map (λ gs. group_listed r.0 ∷ gs) (left_groups (option_map (λ t. t.now) r.1))) }
+    ensures found { IfOk result (λ r. groups_of text.now
+        ≡ option_map (λ gs. group_listed r.0 ∷ gs) (left_groups (option_map (λ t. t.now) r.1))) }
     ensures bound { IfOk result (λ r. r.0.count ≤ 24) }
     ensures left { IfOk result (λ r. left_length (option_map (λ t. t.now) r.1) ≤ length text.now) }
     ensures none { IfErr result (λ flaw. groups_of text.now ≡ None) }
@@ -80,7 +81,8 @@ fn ended<'a>(
     text: &'a [u8],
     rest: Option<&'a [u8]>,
 ) -> Result<(Group<'a>, Option<&'a [u8]>), Flaw>
-    ensures found { IfOk result (λ r. (r.0 ≡ group.entry) × (r.1 ≡ rest.entry) × (0 < group.entry.count)) }
+    ensures found { IfOk result (λ r. (r.0 ≡ group.entry) × (r.1 ≡ rest.entry)
+        × (0 < group.entry.count)) }
     ensures none { IfErr result (λ flaw. group.entry.count ≡ 0) }
 {
     if group.count == 0 {
@@ -119,7 +121,8 @@ pub fn is_related(text: &[u8], buf: &[u8]) -> Result<bool, Flaw>
 
 /// Whether the buffer has what the tokens of an alternative ask by the relation. The text is that of the alternative.
 fn asked(relation: Relation, tokens: &[Token<'_>], text: &[u8], buf: &[u8]) -> Result<bool, Flaw>
-    ensures { IsItemSeen (item_of relation (map token_listed tokens.now)) buf.now (found_by result) }
+    ensures { IsItemSeen (item_of relation (map token_listed tokens.now)) buf.now
+        (found_by result) }
 {
     match read_item(relation, tokens) {
         Some(item) => Ok(fits(item, buf)),

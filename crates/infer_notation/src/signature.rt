@@ -22,7 +22,8 @@ struct State {
 
 /// Whether the buffer fits an alternative of the fixed signature that the text describes.
 pub fn accepts_fixed(text: &[u8], buf: &[u8]) -> Result<bool, Flaw>
-    ensures { found_by result ≡ option_map (λ alternatives. accepts alternatives buf.now) (alternatives_of text.now) }
+    ensures { found_by result ≡ option_map (λ alternatives. accepts alternatives buf.now)
+        (alternatives_of text.now) }
 {
     let mut state = start();
     let mut rest = skip_blanks(text);
@@ -52,7 +53,8 @@ pub fn accepts_fixed(text: &[u8], buf: &[u8]) -> Result<bool, Flaw>
 /// Whether the buffer fits an alternative of the fixed signature that the text describes. It stops at a part that the
 /// buffer lacks, if no "o" stands behind it: then no "or" does.
 pub fn fits_fixed(text: &[u8], buf: &[u8]) -> bool
-    ensures { (alternatives : List Asked) → alternatives_of text.now ≡ Some alternatives → result ≡ accepts alternatives buf.now }
+    ensures { (alternatives : List Asked) → alternatives_of text.now ≡ Some alternatives
+        → result ≡ accepts alternatives buf.now }
 {
     let mut state = start();
     let mut rest = skip_blanks(text);
@@ -124,7 +126,8 @@ fn is_length(wanted: Wanted) -> bool
 fn next(state: State, text: &[u8], buf: &[u8]) -> Result<(State, usize), Reason>
     requires some { 0 < length text.now }
     requires no_blank { is_blank (slice_index text.now 0) ≡ false }
-    ensures found { IfOk result (λ n. given buf.now state 0 text.now ≡ given buf.now n.0 0 (drop (1 + n.1) text.now)) }
+    ensures found { IfOk result (λ n. given buf.now state 0 text.now
+        ≡ given buf.now n.0 0 (drop (1 + n.1) text.now)) }
     ensures bound { IfOk result (λ n. n.1 < length text.now) }
     ensures none { IfErr result (λ e. given buf.now state 0 text.now ≡ None) }
 {

@@ -44,7 +44,8 @@ pub fn token_at(text: &[u8]) -> Result<(Token<'_>, usize), Reason>
 /// The next token, if there is one, and what follows it.
 pub fn next_token(text: &[u8]) -> Result<Option<(Token<'_>, &[u8])>, Flaw>
     ensures found { IfOk result (λ found. MatchOption found (tokens_of text.now ≡ Some [])
-        (λ t. (tokens_of text.now ≡ option_map (λ ts. token_listed t.0 ∷ ts) (tokens_of t.1.now)) × (length t.1.now < length text.now))) }
+        (λ t. (tokens_of text.now ≡ option_map (λ ts. token_listed t.0 ∷ ts) (tokens_of t.1.now))
+        × (length t.1.now < length text.now))) }
     ensures none { IfErr result (λ flaw. tokens_of text.now ≡ None) }
 {
     let front = skip_blanks(text);

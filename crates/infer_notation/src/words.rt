@@ -157,7 +157,8 @@ pub fn bytes(text: &[u8], buf: &[u8]) -> Result<Hex, Reason>
 fn with_byte(read: Hex, byte: u8, left: &[u8], buf: &[u8]) -> Hex
     requires { read.count < 2 ^ 64 - 1 }
     ensures count { result.count ≡ read.count + 1 }
-    ensures joined { (xs : List ℕ) → hex_joined result (drop 1 left.now) buf.now xs ≡ hex_joined read left.now buf.now (byte ∷ xs) }
+    ensures joined { (xs : List ℕ) → hex_joined result (drop 1 left.now) buf.now xs
+        ≡ hex_joined read left.now buf.now (byte ∷ xs) }
 {
     Hex {
         count: read.count + 1,

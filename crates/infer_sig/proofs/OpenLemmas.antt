@@ -1,5 +1,5 @@
 -- What a buffer leaves open of a signature: the bytes that are missing, put after it part by part.
-use Rattle.infer_deep.proofs.Common.{◌≡◌, ℕ, zero, suc, ◌+◌, ◌-◌, ◌≤◌, inl, inr, not, List, [], ◌∷◌, ◌++◌, length, take, take_all, refl, sym, ap, ◌∙◌, arith, eqb, ltb, leb, IsTrue, AgreesAt, OccursAt, ◌↔◌, length-append, length-take, get_or-take, and_parts, and_from, or_cases, or_left, or_right, le-leb, eq-eqb, ne_eqb, leb-true, cases_lt, nat_tests, get_or_append_left, list_any, list_all, are_bytes, Reachable}
+use Rattle.infer_deep.proofs.Common.{◌≡◌, ℕ, zero, suc, ◌+◌, ◌-◌, ◌≤◌, inl, inr, not, List, [], ◌∷◌, ◌++◌, length, take_all, refl, ap, arith, eqb, ltb, leb, IsTrue, AgreesAt, OccursAt, ◌↔◌, length-append, length-take, get_or-take, and_parts, and_from, or_cases, or_left, or_right, le-leb, eq-eqb, ne_eqb, leb-true, cases_lt, nat_tests, get_or_append_left, list_any, list_all, are_bytes, Reachable}
 use Rattle.infer_deep.proofs.OpenLemmas.{AgreesAt-front, AllAgree, AllStand, LieApart, Reachable-grown, agrees_none, agrees_past, fills_parts, fills_text}
 use Rattle.infer_deep.proofs.OpenLemmas as Deep
 use Rattle.infer_deep.proofs.PlaceLemmas.{OccursAt-first}

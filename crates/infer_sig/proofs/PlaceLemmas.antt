@@ -1,6 +1,5 @@
 -- A text stands at a place exactly if each of its bytes does.
 use Rattle.infer_deep.proofs.Common.{◌≡◌, Bool, ℕ, suc, ◌+◌, ◌-◌, ◌<◌, ◌≤◌, ◌↔◌, List, [], ◌∷◌, ◌++◌, length, get_or, take, drop, refl, sym, ap, ◌∙◌, arith, eqb, nat_eq, IsTrue, length-append, length-drop, get_or-drop, take-take, and_from, eq-eqb, drop-take, get_or_append_left, Decides-eqb, starts_is, OccursAt, starts_with}
-use Rattle.std.specs.Cmp.{both_ways}
 use Rattle.std.specs.Cmp.Lexicographic.{pointwise}
 use Rattle.infer_sig.specs.Signature.{stands}
 use Rattle.infer_sig.specs.Places.{StandsByPlace}

@@ -42,7 +42,8 @@ impl Case {
     /// Of the cases that hold of `buf` one whose bound is the least, and `None` if none holds.
     pub fn of(buf: &[u8]) -> Option<Case>
         ensures { MatchOption result ((case : Case) → ¬ Holds case buf.now)
-            (λ case. Holds case buf.now × ((other : Case) → Holds other buf.now → bound case ≤ bound other)) }
+            (λ case. Holds case buf.now × ((other : Case) → Holds other buf.now
+            → bound case ≤ bound other)) }
     {
         if is_open_box(buf) {
             Some(Case::OpenBox)

@@ -36,7 +36,8 @@ pub fn label<A: Allocator, R: Read>(
     reader: &mut Watched<R>,
 ) -> Result<Option<Type>, Fault>
     requires { fault_of reader.old ≡ None }
-    ensures answer { IfOk result (λ found. IfSome (R.remaining (inner reader.old)) (λ s. IsTypeOf (head FRONT s) found)) }
+    ensures answer { IfOk result (λ found. IfSome (R.remaining (inner reader.old))
+        (λ s. IsTypeOf (head FRONT s) found)) }
     ensures some_bytes { IfOk result (λ found. (b : List ℕ) × IsBuffer b × (length b ≤ FRONT)
         × IsTypeOf b found) }
 
@@ -47,7 +48,8 @@ pub fn label<A: Allocator, R: Read>(
     ensures fault { fault_of reader.new ≡ read_fault result }
     ensures memory { IsErrOf result Fault.Memory → reader.new ≡ reader.old }
     ensures opens_nothing { OpensNothing result }
-    ensures lost { OnErr result (Loses FRONT (R.remaining (inner reader.old)) (R.remaining (inner reader.new))) }
+    ensures lost { OnErr result (Loses FRONT (R.remaining (inner reader.old))
+        (R.remaining (inner reader.new))) }
 {
     let bytes = read_until(alloc, reader, FRONT, PIECE, &Settled)?;
     Ok(verdict_of(bytes.as_slice()).found())

@@ -61,7 +61,8 @@ impl<A: Allocator> Sniffer<A> {
 
     /// Pushes the pieces in order, and answers the last verdict, or the present one if there are none.
     pub fn push_all(&mut self, pieces: &[&[u8]]) -> Verdict
-        ensures kept { self.new ≡ head FRONT (self.old ++ concat (map (λ piece. piece.now) pieces.now)) }
+        ensures kept { self.new ≡ head FRONT
+            (self.old ++ concat (map (λ piece. piece.now) pieces.now)) }
         ensures grows { (added : List ℕ) × (self.new ≡ self.old ++ added) }
         ensures verdict { IsVerdict self.new result }
         ensures lasts { StaysFinal self.new result }

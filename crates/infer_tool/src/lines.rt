@@ -42,18 +42,21 @@ pub fn run_lines<R: Files, A: Allocator + Copy, I: Read, W: Write + Drop, E: Wri
         (ReportsReader I.remaining FRONT LosesUntilFinal input.old input.new (codes "-"))) }
     ensures each { words.now ≢ [] → ¬ Asks sample_option (map string_bytes words.now)
         → ¬ Asks front_option (map string_bytes words.now)
-        → IfOk result (λ done. SaysThrough W.contents E.contents out err done (ReportsEach FRONT (map string_bytes words.now))) }
+        → IfOk result (λ done. SaysThrough W.contents E.contents out err done
+        (ReportsEach FRONT (map string_bytes words.now))) }
 
     // After `--sample`.
     ensures sample { Asks sample_option (map string_bytes words.now) → length words.now ≡ 2
         → (i : ℕ) → HasSample (second (map string_bytes words.now)) i
         → IfOk result (λ done. SaysThrough W.contents E.contents out err done (WritesSample i)) }
     ensures usage { Asks sample_option (map string_bytes words.now) → length words.now ≢ 2
-        → IfOk result (λ done. SaysThrough W.contents E.contents out err done (Refuses usage_line)) }
+        → IfOk result (λ done. SaysThrough W.contents E.contents out err done
+        (Refuses usage_line)) }
     ensures no_sample { Asks sample_option (map string_bytes words.now)
         → ((i : ℕ) → ¬ HasSample (second (map string_bytes words.now)) i)
         → length words.now ≡ 2
-        → IfOk result (λ done. SaysThrough W.contents E.contents out err done (Refuses (no_sample_line (second (map string_bytes words.now))))) }
+        → IfOk result (λ done. SaysThrough W.contents E.contents out err done
+        (Refuses (no_sample_line (second (map string_bytes words.now))))) }
 
     // After `--front`.
     ensures limit { Asks front_option (map string_bytes words.now) → (n : ℕ)
@@ -63,15 +66,18 @@ pub fn run_lines<R: Files, A: Allocator + Copy, I: Read, W: Write + Drop, E: Wri
     ensures limit_each { Asks front_option (map string_bytes words.now) → (n : ℕ)
         → IsLimit (second (map string_bytes words.now)) n
         → length words.now ≢ 2
-        → IfOk result (λ done. SaysThrough W.contents E.contents out err done (ReportsEach n (drop 2 (map string_bytes words.now)))) }
+        → IfOk result (λ done. SaysThrough W.contents E.contents out err done
+        (ReportsEach n (drop 2 (map string_bytes words.now)))) }
     ensures no_second { Asks front_option (map string_bytes words.now)
         → ((n : ℕ) → ¬ IsLimit (second (map string_bytes words.now)) n)
         → length words.now < 2
-        → IfOk result (λ done. SaysThrough W.contents E.contents out err done (Refuses usage_line)) }
+        → IfOk result (λ done. SaysThrough W.contents E.contents out err done
+        (Refuses usage_line)) }
     ensures no_limit { Asks front_option (map string_bytes words.now)
         → ((n : ℕ) → ¬ IsLimit (second (map string_bytes words.now)) n)
         → 2 ≤ length words.now
-        → IfOk result (λ done. SaysThrough W.contents E.contents out err done (Refuses limits_line)) }
+        → IfOk result (λ done. SaysThrough W.contents E.contents out err done
+        (Refuses limits_line)) }
 {
     let mut lines = lines_over(alloc, block, out)?;
     let mut faults = lines_over(alloc, 0, err)?;
@@ -93,7 +99,8 @@ fn lines_over<A: Allocator + Copy, W: Write + Drop>(
 ) -> io::Result<LineWriter<BufWriter<W, A>, A>>
     ensures inner { IfOk result (λ lines. writer_inner (line_writer_inner lines) ≡ out) }
     ensures block { IfOk result (λ lines. writer_capacity (line_writer_inner lines) ≡ block) }
-    ensures bytes { IfOk result (λ lines. Keeps (W.contents out) (line_writer_contents (writer_contents W.contents) lines)) }
+    ensures bytes { IfOk result (λ lines. Keeps (W.contents out)
+        (line_writer_contents (writer_contents W.contents) lines)) }
 {
     LineWriter::with_capacity(
         alloc,
@@ -107,7 +114,8 @@ fn writer_of<A: Allocator, W: Write + Drop>(
     has_failed: bool,
     lines: LineWriter<BufWriter<W, A>, A>,
 ) -> Option<W>
-    ensures bytes { IfSome result (λ out. Keeps (line_writer_contents (writer_contents W.contents) lines) (W.contents out)) }
+    ensures bytes { IfSome result (λ out. Keeps
+        (line_writer_contents (writer_contents W.contents) lines) (W.contents out)) }
     ensures failed { has_failed ≡ true → result ≡ None }
 {
     let mut out = lines.into_inner().ok()?.into_inner().ok()?;

@@ -45,9 +45,11 @@ pub fn report_watched<W: Write, E: Write>(
     err: &mut WatchedWriter<'_, E>,
 ) -> Outcome
     ensures outcome { result ≡ outcome_after (has_failed out.new) (outcome_of (told answer)) }
-    ensures line { Appends (unless_failed (has_failed out.new) (W.contents (inner out.old))) (W.contents (inner out.new))
+    ensures line { Appends (unless_failed (has_failed out.new) (W.contents (inner out.old)))
+        (W.contents (inner out.new))
         (written name.now (told answer)) }
-    ensures err_line { Appends (unless_failed (has_failed err.new) (E.contents (inner err.old))) (E.contents (inner err.new))
+    ensures err_line { Appends (unless_failed (has_failed err.new) (E.contents (inner err.old)))
+        (E.contents (inner err.new))
         (fault_written name.now (told answer)) }
     ensures later { IsLater out.old out.new }
     ensures err_later { IsLater err.old err.new }
@@ -116,7 +118,8 @@ pub fn run_reader_watched<A: Allocator, R: Read, W: Write, E: Write>(
     err: &mut WatchedWriter<'_, E>,
 ) -> Outcome
     requires { fault_of reader.old ≡ None }
-    ensures line { Says (stream W.contents out.old out.new) (stream E.contents err.old err.new) result
+    ensures line { Says (stream W.contents out.old out.new)
+        (stream E.contents err.old err.new) result
         (ReportsReader R.remaining FRONT LosesUntilFinal reader.old reader.new name.now) }
     ensures later { IsLater out.old out.new }
     ensures err_later { IsLater err.old err.new }
@@ -137,7 +140,8 @@ pub fn run_reader_within<A: Allocator, R: Read, W: Write, E: Write>(
     requires fault { fault_of reader.old ≡ None }
     requires least { 1 ≤ n }
     requires most { n ≤ 65536 }
-    ensures line { Says (stream W.contents out.old out.new) (stream E.contents err.old err.new) result
+    ensures line { Says (stream W.contents out.old out.new)
+        (stream E.contents err.old err.new) result
         (ReportsReader R.remaining n (LosesFront n) reader.old reader.new name.now) }
     ensures later { IsLater out.old out.new }
     ensures err_later { IsLater err.old err.new }
@@ -186,7 +190,8 @@ pub fn run_path_within<R: Files, A: Allocator, W: Write, E: Write>(
     out: &mut WatchedWriter<'_, W>,
     err: &mut WatchedWriter<'_, E>,
 ) -> Outcome
-    ensures line { Says (stream W.contents out.old out.new) (stream E.contents err.old err.new) result (ReportsInput n None path.now) }
+    ensures line { Says (stream W.contents out.old out.new)
+        (stream E.contents err.old err.new) result (ReportsInput n None path.now) }
     ensures later { IsLater out.old out.new }
     ensures err_later { IsLater err.old err.new }
     ensures silent { result ≢ Outcome.Failed → err.new ≡ err.old }

@@ -50,7 +50,8 @@ pub fn run<R: Files, A: Allocator + Copy, I: Read + Drop, W: Write, E: Write>(
 
     // After `--sample`.
     ensures sample { Asks sample_option (map string_bytes words.now) → length words.now ≡ 2
-        → (i : ℕ) → HasSample (second (map string_bytes words.now)) i → result ≢ Outcome.Failed → WritesSample i result
+        → (i : ℕ) → HasSample (second (map string_bytes words.now)) i → result ≢ Outcome.Failed
+        → WritesSample i result
         (W.contents out.old) (W.contents out.new) (E.contents err.old) (E.contents err.new) }
     ensures usage { Asks sample_option (map string_bytes words.now) → length words.now ≢ 2
         → (result ≡ Outcome.Failed) × (out.new ≡ out.old) }
@@ -61,11 +62,13 @@ pub fn run<R: Files, A: Allocator + Copy, I: Read + Drop, W: Write, E: Write>(
     // After `--front`.
     ensures limit { Asks front_option (map string_bytes words.now) → (n : ℕ)
         → IsLimit (second (map string_bytes words.now)) n
-        → length words.now ≡ 2 → result ≢ Outcome.Failed → ReportsInput n (I.remaining input) (codes "-") result
+        → length words.now ≡ 2 → result ≢ Outcome.Failed
+        → ReportsInput n (I.remaining input) (codes "-") result
         (W.contents out.old) (W.contents out.new) (E.contents err.old) (E.contents err.new) }
     ensures limit_each { Asks front_option (map string_bytes words.now) → (n : ℕ)
         → IsLimit (second (map string_bytes words.now)) n
-        → length words.now ≢ 2 → result ≢ Outcome.Failed → ReportsEach n (drop 2 (map string_bytes words.now)) result
+        → length words.now ≢ 2 → result ≢ Outcome.Failed
+        → ReportsEach n (drop 2 (map string_bytes words.now)) result
         (W.contents out.old) (W.contents out.new) (E.contents err.old) (E.contents err.new) }
     ensures no_limit { Asks front_option (map string_bytes words.now)
         → ((n : ℕ) → ¬ IsLimit (second (map string_bytes words.now)) n)
@@ -99,31 +102,36 @@ pub fn run_watched<R: Files, A: Allocator + Copy, I: Read, W: Write, E: Write>(
         (ReportsReader I.remaining FRONT LosesUntilFinal input.old input.new (codes "-")) }
     ensures each { words.now ≢ [] → ¬ Asks sample_option (map string_bytes words.now)
         → ¬ Asks front_option (map string_bytes words.now)
-        → Says (stream W.contents out.old out.new) (stream E.contents err.old err.new) result (ReportsEach FRONT (map string_bytes words.now)) }
+        → Says (stream W.contents out.old out.new) (stream E.contents err.old err.new) result
+        (ReportsEach FRONT (map string_bytes words.now)) }
     ensures unread { words.now ≢ [] → ¬ Asks front_option (map string_bytes words.now)
         → input.new ≡ input.old }
 
     // After `--sample`.
     ensures sample { Asks sample_option (map string_bytes words.now) → length words.now ≡ 2
         → (i : ℕ) → HasSample (second (map string_bytes words.now)) i
-        → Says (stream W.contents out.old out.new) (stream E.contents err.old err.new) result (WritesSample i) }
+        → Says (stream W.contents out.old out.new) (stream E.contents err.old err.new) result
+        (WritesSample i) }
     ensures usage { Asks sample_option (map string_bytes words.now) → length words.now ≢ 2
         → (result ≡ Outcome.Failed) × (out.new ≡ out.old)
         × Tells (stream E.contents err.old err.new) usage_line }
     ensures no_sample { Asks sample_option (map string_bytes words.now)
         → ((i : ℕ) → ¬ HasSample (second (map string_bytes words.now)) i)
         → (result ≡ Outcome.Failed) × (out.new ≡ out.old)
-        × (length words.now ≡ 2 → Tells (stream E.contents err.old err.new) (no_sample_line (second (map string_bytes words.now)))) }
+        × (length words.now ≡ 2 → Tells (stream E.contents err.old err.new)
+        (no_sample_line (second (map string_bytes words.now)))) }
 
     // After `--front`.
     ensures limit { Asks front_option (map string_bytes words.now) → (n : ℕ)
         → IsLimit (second (map string_bytes words.now)) n
-        → length words.now ≡ 2 → Says (stream W.contents out.old out.new) (stream E.contents err.old err.new) result
+        → length words.now ≡ 2 → Says (stream W.contents out.old out.new)
+        (stream E.contents err.old err.new) result
         (ReportsReader I.remaining n (LosesFront n) input.old input.new (codes "-")) }
     ensures limit_each { Asks front_option (map string_bytes words.now) → (n : ℕ)
         → IsLimit (second (map string_bytes words.now)) n
         → length words.now ≢ 2 → (input.new ≡ input.old)
-        × Says (stream W.contents out.old out.new) (stream E.contents err.old err.new) result (ReportsEach n (drop 2 (map string_bytes words.now))) }
+        × Says (stream W.contents out.old out.new) (stream E.contents err.old err.new) result
+        (ReportsEach n (drop 2 (map string_bytes words.now))) }
     ensures no_limit { Asks front_option (map string_bytes words.now)
         → ((n : ℕ) → ¬ IsLimit (second (map string_bytes words.now)) n)
         → (result ≡ Outcome.Failed) × (out.new ≡ out.old) × (input.new ≡ input.old)
@@ -169,12 +177,14 @@ fn run_asked<W: Write, E: Write>(
 ) -> Outcome
     ensures sample { length words.now ≡ 2 → (i : ℕ)
         → HasSample (second (map string_bytes words.now)) i
-        → Says (stream W.contents out.old out.new) (stream E.contents err.old err.new) result (WritesSample i) }
+        → Says (stream W.contents out.old out.new) (stream E.contents err.old err.new) result
+        (WritesSample i) }
     ensures usage { length words.now ≢ 2 → (result ≡ Outcome.Failed) × (out.new ≡ out.old)
         × Tells (stream E.contents err.old err.new) usage_line }
     ensures no_sample { ((i : ℕ) → ¬ HasSample (second (map string_bytes words.now)) i)
         → (result ≡ Outcome.Failed) × (out.new ≡ out.old)
-        × (length words.now ≡ 2 → Tells (stream E.contents err.old err.new) (no_sample_line (second (map string_bytes words.now)))) }
+        × (length words.now ≡ 2 → Tells (stream E.contents err.old err.new)
+        (no_sample_line (second (map string_bytes words.now)))) }
     ensures later { IsLater out.old out.new }
     ensures err_later { IsLater err.old err.new }
     ensures silent { result ≢ Outcome.Failed → err.new ≡ err.old }
@@ -197,11 +207,13 @@ fn run_limited<R: Files, A: Allocator + Copy, I: Read, W: Write, E: Write>(
 ) -> Outcome
     requires { fault_of input.old ≡ None }
     ensures limit { (n : ℕ) → IsLimit (second (map string_bytes words.now)) n
-        → length words.now ≡ 2 → Says (stream W.contents out.old out.new) (stream E.contents err.old err.new) result
+        → length words.now ≡ 2 → Says (stream W.contents out.old out.new)
+        (stream E.contents err.old err.new) result
         (ReportsReader I.remaining n (LosesFront n) input.old input.new (codes "-")) }
     ensures limit_each { (n : ℕ) → IsLimit (second (map string_bytes words.now)) n
         → length words.now ≢ 2 → (input.new ≡ input.old)
-        × Says (stream W.contents out.old out.new) (stream E.contents err.old err.new) result (ReportsEach n (drop 2 (map string_bytes words.now))) }
+        × Says (stream W.contents out.old out.new) (stream E.contents err.old err.new) result
+        (ReportsEach n (drop 2 (map string_bytes words.now))) }
     ensures no_limit { ((n : ℕ) → ¬ IsLimit (second (map string_bytes words.now)) n)
         → (result ≡ Outcome.Failed) × (out.new ≡ out.old) × (input.new ≡ input.old)
         × (length words.now < 2 → Tells (stream E.contents err.old err.new) usage_line)
@@ -239,7 +251,8 @@ fn run_within<R: Files, A: Allocator + Copy, I: Read, W: Write, E: Write>(
         → Says (stream W.contents out.old out.new) (stream E.contents err.old err.new) result
         (ReportsReader I.remaining n (LosesFront n) input.old input.new (codes "-")) }
     ensures limit_each { length words.now ≢ 2 → (input.new ≡ input.old)
-        × Says (stream W.contents out.old out.new) (stream E.contents err.old err.new) result (ReportsEach n (drop 2 (map string_bytes words.now))) }
+        × Says (stream W.contents out.old out.new) (stream E.contents err.old err.new) result
+        (ReportsEach n (drop 2 (map string_bytes words.now))) }
     ensures later { IsLater out.old out.new }
     ensures err_later { IsLater err.old err.new }
     ensures silent { result ≢ Outcome.Failed → err.new ≡ err.old }
@@ -261,7 +274,8 @@ fn run_paths<R: Files, A: Allocator + Copy, W: Write, E: Write>(
 ) -> Outcome
     requires least { 1 ≤ n }
     requires most { n ≤ 65536 }
-    ensures each { Says (stream W.contents out.old out.new) (stream E.contents err.old err.new) result (ReportsEach n (map string_bytes words.now)) }
+    ensures each { Says (stream W.contents out.old out.new)
+        (stream E.contents err.old err.new) result (ReportsEach n (map string_bytes words.now)) }
     ensures later { IsLater out.old out.new }
     ensures err_later { IsLater err.old err.new }
     ensures silent { result ≢ Outcome.Failed → err.new ≡ err.old }

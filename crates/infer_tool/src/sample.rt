@@ -25,7 +25,8 @@ pub fn run_sample<W: Write, E: Write>(
     err: &mut WatchedWriter<'_, E>,
 ) -> Outcome
     ensures sample { (i : ℕ) → HasSample extension.now i
-        → Says (stream W.contents out.old out.new) (stream E.contents err.old err.new) result (WritesSample i) }
+        → Says (stream W.contents out.old out.new) (stream E.contents err.old err.new) result
+        (WritesSample i) }
     ensures none { ((i : ℕ) → ¬ HasSample extension.now i) → (result ≡ Outcome.Failed)
         × (out.new ≡ out.old)
         × Tells (stream E.contents err.old err.new) (no_sample_line extension.now) }
@@ -65,7 +66,8 @@ fn first_with(extension: &str) -> Option<usize>
     let has_it = |i: &usize| -> bool
         requires { i.now < ROW_COUNT }
         ensures yes { OnTrue result (HoldsAt (HasExtension extension.entry.now) table i.now) }
-        ensures no { OnFalse result (HoldsAt (λ r. ¬ HasExtension extension.entry.now r) table i.now) }
+        ensures no { OnFalse result (HoldsAt
+            (λ r. ¬ HasExtension extension.entry.now r) table i.now) }
     { has_extension(*i, extension) };
     (0..ROW_COUNT).find(has_it)
 }

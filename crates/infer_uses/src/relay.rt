@@ -16,7 +16,8 @@ pub fn pass<A: Allocator, R: Read, W: Write>(
     to: &mut W,
 ) -> io::Result<Option<Type>>
     ensures { IfOk result (λ found. (bytes : List ℕ)
-        × IsPassed (R.remaining from.old) (R.remaining from.new) (W.contents to.old) (W.contents to.new) bytes
+        × IsPassed (R.remaining from.old) (R.remaining from.new) (W.contents to.old)
+        (W.contents to.new) bytes
         × IsLabelled (R.remaining from.new) bytes found) }
 {
     let mut sniffer = Sniffer::new(alloc)?;
@@ -39,7 +40,8 @@ pub fn pass_by_turns<A: Allocator, R: Read, W: Write>(
     to: &mut W,
 ) -> io::Result<Option<Type>>
     ensures { IfOk result (λ found. (bytes : List ℕ)
-        × IsPassed (R.remaining from.old) (R.remaining from.new) (W.contents to.old) (W.contents to.new) bytes
+        × IsPassed (R.remaining from.old) (R.remaining from.new) (W.contents to.old)
+        (W.contents to.new) bytes
         × IsLabelled (R.remaining from.new) bytes found) }
 {
     let mut sniffer = Sniffer::new(alloc)?;

@@ -19,7 +19,11 @@ pub fn begins_10_11_12(buf: &[u8]) -> bool
 fn with_row(alloc: Global, m: Matcher) -> Result<Infer, AllocError>
     requires callable { IsAlwaysCallable m }
     requires settled { FixesAnswers (post m) }
-    ensures { IfOk result (λ infer. custom_rows infer ≡ record { shows = triple Custom (codes "custom/foo") (codes "foo"); signature = given m } ∷ []) }
+    ensures { IfOk result (λ infer. custom_rows infer
+        ≡ record {
+          shows = triple Custom (codes "custom/foo") (codes "foo");
+          signature = given m;
+        } ∷ []) }
 {
     let mut infer = Infer::new();
     infer.add(alloc, "custom/foo", "foo", m)?;

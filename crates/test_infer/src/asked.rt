@@ -55,7 +55,8 @@ pub fn walk_noting<'a, 'b>(
     wanted: Option<&str>,
 ) -> (Option<usize>, &'a [usize])
     requires { ⟦<Noting<'b> as Ask>⟧.has_asked noting.old [] }
-    ensures { result.1.now ≡ asked_rows wanted.entry (⟦<Noting<'b> as Ask>⟧.buffer noting.old) result.0 }
+    ensures { result.1.now ≡ asked_rows wanted.entry
+        (⟦<Noting<'b> as Ask>⟧.buffer noting.old) result.0 }
 {
     let found = walk(noting, wanted);
     (found, noting.rows())

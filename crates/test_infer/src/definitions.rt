@@ -314,7 +314,8 @@ pub fn is_labelled_png(buf: &[u8]) -> bool
 /// Whether it is the sample of PNG, as 640 bytes that begin with it and then have zeros hold it.
 pub fn is_sample_of_png(front: &[u8]) -> bool
     ensures { IsTrue result
-        ↔ HoldsAt (HoldsSample (length front.now) (front.now ++ zeros (640 - length front.now))) table PNG }
+        ↔ HoldsAt (HoldsSample (length front.now)
+        (front.now ++ zeros (640 - length front.now))) table PNG }
 {
     let mut out = [0; 640];
     match sample(PNG, &mut out) {

@@ -74,7 +74,10 @@ impl<A: Allocator> Infer<A> {
         requires callable { IsAlwaysCallable m }
         requires settled { FixesAnswers (post m) }
         ensures added { OnOk result (custom_rows self.new ≡ custom_rows self.old
-            ++ record { shows = triple MatcherType.Custom mime_type.now extension.now; signature = given m } ∷ []) }
+            ++ record {
+              shows = triple MatcherType.Custom mime_type.now extension.now;
+              signature = given m;
+            } ∷ []) }
         ensures refused { OnErr result (custom_rows self.new ≡ custom_rows self.old) }
     {
         let row = CustomRow {
@@ -161,7 +164,8 @@ impl<A: Allocator> Infer<A> {
         r: &mut Watched<R>,
     ) -> Result<Option<FileType>, Fault>
         requires { fault_of r.old ≡ None }
-        ensures answer { AnswersReader R.remaining (length room.new) AnyAccepts (rows self.now) r.old r.new result }
+        ensures answer { AnswersReader R.remaining (length room.new) AnyAccepts
+            (rows self.now) r.old r.new result }
         ensures no_memory { ¬ IsErrOf result Fault.Memory }
     {
         match read_head(r, room) {
@@ -307,7 +311,8 @@ impl<A: Allocator> Infer<A> {
     /// Whether some added row that is asked for accepts the buffer.
     fn custom_some<Q: Question>(&self, question: &Q, buf: &[u8]) -> bool
         ensures { IsTrue result
-            ↔ SomeBoth (IsAsked (Q.asked question.now)) (AnyAccepts buf.now) (custom_rows self.now) }
+            ↔ SomeBoth (IsAsked (Q.asked question.now)) (AnyAccepts buf.now)
+            (custom_rows self.now) }
     {
         let takes = |row: &CustomRow| -> bool
             ensures { IsTrue result ↔ (IsAsked (Q.asked question.entry.now) (custom_row row.now)
@@ -328,7 +333,8 @@ impl<A: Allocator> Infer<A> {
 
     /// The answer of the added rows alone.
     fn custom_get(&self, buf: &[u8]) -> Option<FileType>
-        ensures { IsAnswer (AnyAccepts buf.now) (custom_rows self.now) (option_map triple_of result) }
+        ensures { IsAnswer (AnyAccepts buf.now) (custom_rows self.now)
+            (option_map triple_of result) }
     {
         let accepts = |row: &&CustomRow| -> bool
             ensures { IsTrue result ↔ AnyAccepts buf.entry.now (custom_row row.now.now) }

@@ -83,7 +83,8 @@ impl Ask for Asker<'_> {
 /// asks them in ascending order up to the answer, which are at most [`MOST_CANDIDATES`], and no other.
 pub fn walk<A: Ask>(asker: &mut A, wanted: Option<&str>) -> Option<usize>
     requires { A.has_asked asker.old [] }
-    ensures first { IsFirstAmong (RowHas (Takes (HasGiven wanted.entry) (A.buffer asker.old))) (candidates_of (A.buffer asker.old)) result }
+    ensures first { IsFirstAmong (RowHas (Takes (HasGiven wanted.entry) (A.buffer asker.old)))
+        (candidates_of (A.buffer asker.old)) result }
     ensures asked { A.has_asked asker.new (asked_rows wanted.entry (A.buffer asker.old) result) }
     ensures few { count_asked wanted.entry (A.buffer asker.old) result ≤ MOST_CANDIDATES }
     ensures kept { A.buffer asker.new ≡ A.buffer asker.old }
@@ -98,7 +99,8 @@ pub fn walk<A: Ask>(asker: &mut A, wanted: Option<&str>) -> Option<usize>
 #[inline(always)]
 fn walk_every<A: Ask>(asker: &mut A) -> Option<usize>
     requires { A.has_asked asker.old [] }
-    ensures first { IsFirstAmong (RowHas (Takes (HasGiven None) (A.buffer asker.old))) (candidates_of (A.buffer asker.old)) result }
+    ensures first { IsFirstAmong (RowHas (Takes (HasGiven None) (A.buffer asker.old)))
+        (candidates_of (A.buffer asker.old)) result }
     ensures asked { A.has_asked asker.new (asked_rows None (A.buffer asker.old) result) }
     ensures few { count_asked None (A.buffer asker.old) result ≤ MOST_CANDIDATES }
     ensures kept { A.buffer asker.new ≡ A.buffer asker.old }
@@ -115,8 +117,11 @@ fn walk_every<A: Ask>(asker: &mut A) -> Option<usize>
 /// compared with it.
 fn walk_extension<A: Ask>(asker: &mut A, extension: &str) -> Option<usize>
     requires { A.has_asked asker.old [] }
-    ensures first { IsFirstAmong (RowHas (Takes (HasGiven (Some extension.entry)) (A.buffer asker.old))) (candidates_of (A.buffer asker.old)) result }
-    ensures asked { A.has_asked asker.new (asked_rows (Some extension.entry) (A.buffer asker.old) result) }
+    ensures first { IsFirstAmong (RowHas
+        (Takes (HasGiven (Some extension.entry)) (A.buffer asker.old)))
+        (candidates_of (A.buffer asker.old)) result }
+    ensures asked { A.has_asked asker.new
+        (asked_rows (Some extension.entry) (A.buffer asker.old) result) }
     ensures few { count_asked (Some extension.entry) (A.buffer asker.old) result ≤ MOST_CANDIDATES }
     ensures kept { A.buffer asker.new ≡ A.buffer asker.old }
 {
@@ -139,7 +144,9 @@ fn ask_named<A: Ask>(asker: &mut A, row: RowName, extension: &str, candidates: &
     ensures answer { IsTrue result
         ↔ RowHas (Takes (HasGiven (Some extension.entry)) (A.buffer asker.old)) (number_of row) }
     ensures asked { (before : List ℕ) → A.has_asked asker.old before
-        → A.has_asked asker.new (before ++ filter (λ i. is_asked (Some extension.entry) i && is_listed candidates.now i) (number_of row ∷ [])) }
+        → A.has_asked asker.new (before ++ filter
+        (λ i. is_asked (Some extension.entry) i && is_listed candidates.now i)
+        (number_of row ∷ [])) }
     ensures kept { A.buffer asker.new ≡ A.buffer asker.old }
 {
     leads();
@@ -164,7 +171,8 @@ fn candidates_of<A: Ask>(asker: &A) -> &'static [usize]
 #[inline(always)]
 fn count(buf: &[u8], wanted: Option<&str>) -> (Option<usize>, u32)
     ensures first { IsFirstOf (Takes (HasGiven wanted.entry) buf.now) table result.0 }
-    ensures among { IsFirstAmong (RowHas (Takes (HasGiven wanted.entry) buf.now)) (candidates_of buf.now) result.0 }
+    ensures among { IsFirstAmong (RowHas (Takes (HasGiven wanted.entry) buf.now))
+        (candidates_of buf.now) result.0 }
     ensures counted { result.1 ≡ count_asked wanted.entry buf.now result.0 }
     ensures few { result.1 ≤ MOST_CANDIDATES }
 {
@@ -192,7 +200,8 @@ pub fn is_counted(buf: &[u8], extension: &str) -> (bool, u32)
     ensures found { IsTrue result.0
         ↔ SomeBoth (HasExtension extension.now) (Accepts buf.now) table }
     ensures counted { (answer : Option ℕ)
-        × IsFirstAmong (RowHas (Takes (HasGiven (Some extension.entry)) buf.now)) (candidates_of buf.now) answer × (result.0 ≡ is_some answer)
+        × IsFirstAmong (RowHas (Takes (HasGiven (Some extension.entry)) buf.now))
+        (candidates_of buf.now) answer × (result.0 ≡ is_some answer)
         × (result.1 ≡ count_asked (Some extension.entry) buf.now answer) }
     ensures few { result.1 ≤ MOST_CANDIDATES }
 {

@@ -23,7 +23,8 @@ pub trait Chain {
 
     /// The first that accepts `buf`, of those that are asked for.
     fn first<Q: Question>(&self, question: &Q, buf: &[u8]) -> Option<usize>
-        ensures { IsFirstAmong (RowHas (Takes (Q.asked question.now) buf.now)) (rows self.now) result };
+        ensures { IsFirstAmong (RowHas (Takes (Q.asked question.now) buf.now))
+            (rows self.now) result };
 }
 
 /// No row.
@@ -172,7 +173,8 @@ impl<C: Chain> Whole<C> {
     /// The number of the first row, as [`Chain::first`] answers, and [`NO_ROW`] for none. A number takes one register.
     #[inline(never)]
     pub fn number<Q: Question>(&self, question: &Q, buf: &[u8]) -> u32
-        ensures { IsFirstAmong (RowHas (Takes (Q.asked question.now) buf.now)) (C.rows self.now.0) (row_numbered result) }
+        ensures { IsFirstAmong (RowHas (Takes (Q.asked question.now) buf.now)) (C.rows self.now.0)
+            (row_numbered result) }
     {
         match self.0.first(question, buf) {
             Some(row) => row as u32,
@@ -186,7 +188,8 @@ pub trait Told {
     ghost told: { Self → Option ℕ };
 
     fn of<C: Chain, Q: Question>(chain: &Whole<C>, question: &Q, buf: &[u8]) -> Self
-        ensures { IsFirstAmong (RowHas (Takes (Q.asked question.now) buf.now)) (C.rows chain.now.0) (told result) };
+        ensures { IsFirstAmong (RowHas (Takes (Q.asked question.now) buf.now)) (C.rows chain.now.0)
+            (told result) };
 }
 
 impl Told for Option<usize> {
@@ -210,7 +213,8 @@ impl Told for u32 {
 
 /// The first row of Office in ZIP archives that accepts `buf`, of those that are asked for.
 fn office_row<Q: Question>(question: &Q, buf: &[u8]) -> Option<usize>
-    ensures { IsFirstAmong (RowHas (Takes (Q.asked question.now) buf.now)) (DOCX ∷ XLSX ∷ PPTX ∷ []) result }
+    ensures { IsFirstAmong (RowHas (Takes (Q.asked question.now) buf.now))
+        (DOCX ∷ XLSX ∷ PPTX ∷ []) result }
 {
     if !is_asked(DOCX, question) && !is_asked(XLSX, question) && !is_asked(PPTX, question) {
         return None;

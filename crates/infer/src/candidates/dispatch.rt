@@ -1,5 +1,5 @@
 //! The first byte of a buffer decides which rows are asked.
-ghost use Rattle.std.specs.Prelude.{◌≡◌, ◌≤◌, length, []};
+ghost use Rattle.std.specs.Prelude.{◌≡◌, ◌≤◌, [], length};
 ghost use Rattle.infer.specs.Arms.{rows_of};
 ghost use Rattle.infer.specs.BuiltIn.{BuiltIn};
 ghost use Rattle.infer.specs.First.{NoneHas};
@@ -230,7 +230,8 @@ pub fn candidates_at(arm: Arm) -> &'static [usize]
 /// What is told of the first candidate of an arm that accepts `buf`, of those that are asked for.
 #[inline(always)]
 fn tell_first<T: Told, Q: Question>(arm: Arm, question: &Q, buf: &[u8]) -> T
-    ensures { IsFirstAmong (RowHas (Takes (Q.asked question.now) buf.now)) (rows_of arm) (T.told result) }
+    ensures { IsFirstAmong (RowHas (Takes (Q.asked question.now) buf.now)) (rows_of arm)
+        (T.told result) }
 {
     with_candidates!(told_at arm question buf)
 }

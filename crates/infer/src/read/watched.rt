@@ -39,7 +39,8 @@ impl<R: Read> Watched<R> {
     pub fn read(&mut self, out: &mut [u8]) -> Result<usize, ErrorKind>
         requires { fault_of self.old ≡ None }
         ensures bound { ReadsAtMost result out.new }
-        ensures bytes { ReadConsumes (R.remaining (inner self.old)) (R.remaining (inner self.new)) result out.new }
+        ensures bytes { ReadConsumes (R.remaining (inner self.old))
+            (R.remaining (inner self.new)) result out.new }
         ensures fault { fault_of self.new ≡ result_err result }
     {
         match self.reader.read(out) {
@@ -109,12 +110,14 @@ fn fill<R: Read, E: Enough>(
     requires no_fault { fault_of reader.old ≡ None }
     requires some { 1 ≤ piece }
     ensures bound { ReadsAtMost result out.new }
-    ensures bytes { IfOk result (λ n. Consumes (R.remaining (inner reader.old)) (R.remaining (inner reader.new)) (take n out.new)) }
+    ensures bytes { IfOk result (λ n. Consumes (R.remaining (inner reader.old))
+        (R.remaining (inner reader.new)) (take n out.new)) }
     ensures end { IfOk result (λ n. n < length out.new
         → IsAtEnd (R.remaining (inner reader.new)) ⊎ E.suffices enough.now (take n out.new)) }
     ensures due { IfOk result (λ n. IsDue piece (E.suffices enough.now) (take n out.new)) }
     ensures fault { fault_of reader.new ≡ result_err result }
-    ensures lost { OnErr result (Loses (length out.new) (R.remaining (inner reader.old)) (R.remaining (inner reader.new))) }
+    ensures lost { OnErr result (Loses (length out.new) (R.remaining (inner reader.old))
+        (R.remaining (inner reader.new))) }
 {
     let mut filled = 0;
     while filled < out.len() && !enough.is_enough(&out[..filled]) {
@@ -142,14 +145,16 @@ pub fn read_until<A: Allocator, R: Read, E: Enough>(
     requires some_a_read { 1 ≤ piece }
     ensures bytes { IfOk result (λ bytes. IsBuffer bytes.items) }
     ensures few { IfOk result (λ bytes. vec_len bytes ≤ limit) }
-    ensures taken { IfOk result (λ bytes. Consumes (R.remaining (inner reader.old)) (R.remaining (inner reader.new)) bytes.items) }
+    ensures taken { IfOk result (λ bytes. Consumes (R.remaining (inner reader.old))
+        (R.remaining (inner reader.new)) bytes.items) }
     ensures end { IfOk result (λ bytes. vec_len bytes < limit
         → IsAtEnd (R.remaining (inner reader.new)) ⊎ E.suffices enough.now bytes.items) }
     ensures due { IfOk result (λ bytes. IsDue piece (E.suffices enough.now) bytes.items) }
     ensures fault { fault_of reader.new ≡ read_fault result }
     ensures memory { IsErrOf result Fault.Memory → reader.new ≡ reader.old }
     ensures opens_nothing { OpensNothing result }
-    ensures lost { OnErr result (Loses limit (R.remaining (inner reader.old)) (R.remaining (inner reader.new))) }
+    ensures lost { OnErr result (Loses limit (R.remaining (inner reader.old))
+        (R.remaining (inner reader.new))) }
 {
     let mut bytes = make_room(alloc, limit)?;
     match fill(reader, bytes.as_mut_slice(), piece, enough) {
@@ -173,11 +178,13 @@ fn are_bytes(buf: &[u8])
 pub fn read_head<R: Read>(reader: &mut Watched<R>, room: &mut [u8]) -> Result<usize, ErrorKind>
     requires no_fault { fault_of reader.old ≡ None }
     ensures bound { ReadsAtMost result room.new }
-    ensures front { IfOk result (λ n. IfSome (R.remaining (inner reader.old)) (λ s. take n room.new ≡ head (length room.new) s)) }
+    ensures front { IfOk result (λ n. IfSome (R.remaining (inner reader.old))
+        (λ s. take n room.new ≡ head (length room.new) s)) }
     ensures rest { OnOk result (IfSome (R.remaining (inner reader.old))
         (λ s. R.remaining (inner reader.new) ≡ Some (drop (length room.new) s))) }
     ensures fault { fault_of reader.new ≡ result_err result }
-    ensures lost { OnErr result (Loses (length room.new) (R.remaining (inner reader.old)) (R.remaining (inner reader.new))) }
+    ensures lost { OnErr result (Loses (length room.new) (R.remaining (inner reader.old))
+        (R.remaining (inner reader.new))) }
 {
     fill(reader, room, usize::MAX, &Limit)
 }

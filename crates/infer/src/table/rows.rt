@@ -528,7 +528,8 @@ pub(crate) fn row_at(i: usize) -> &'static BuiltInRow
 /// The samples, in the order of the rows.
 pub(crate) fn samples() -> &'static [Pieces; ROW_COUNT]
     ensures buffers { map buffer_listed result.now ≡ map padded table }
-    ensures lengths { map (λ s. s.len) result.now ≡ map (λ r. length (sample_of r.signature)) table }
+    ensures lengths { map (λ s. s.len) result.now
+        ≡ map (λ r. length (sample_of r.signature)) table }
     ensures inside { IsTrue (list_all is_inside result.now) }
 {
     &SAMPLES

@@ -33,7 +33,8 @@ impl<'a> Entry<'a> {
     /// Whether the row may be asked below the answer with that mark and accept the buffer.
     #[inline(always)]
     fn may_answer(&self, mark: u32, buf: &[u8]) -> bool
-        ensures { (own : Row) (extension : Option (List ℕ)) → line_of self.now.line.now ≡ Some (Some own) → mark ≡ mark_of extension
+        ensures { (own : Row) (extension : Option (List ℕ))
+            → line_of self.now.line.now ≡ Some (Some own) → mark ≡ mark_of extension
             → Answers extension buf.now own → IsTrue result }
     {
         if self.mark != mark {
@@ -51,7 +52,8 @@ impl<'a> Entry<'a> {
     fn answer(&self, mark: u32, extension: Option<&[u8]>, buf: &[u8]) -> Option<Found<'a>>
         requires { mark ≡ mark_of (option_map (λ e. e.now) extension) }
         ensures { (r : Option Row) → line_of self.now.line.now ≡ Some r
-            → IsLineAnswer (Answers (option_map (λ e. e.now) extension.entry) buf.now) r (option_map found_shows result) }
+            → IsLineAnswer (Answers (option_map (λ e. e.now) extension.entry) buf.now) r
+            (option_map found_shows result) }
     {
         if !self.may_answer(mark, buf) {
             return None;
@@ -63,7 +65,8 @@ impl<'a> Entry<'a> {
 /// What is known of the first rows of the text.
 pub fn entries_of(text: &[u8]) -> Entries<'_>
     ensures { row_lines (lines_of text.now)
-        ≡ map (λ e. e.line.now) (take result.count result.items) ++ row_lines (left_lines (option_map (λ left. left.now) result.behind)) }
+        ≡ map (λ e. e.line.now) (take result.count result.items)
+        ++ row_lines (left_lines (option_map (λ left. left.now) result.behind)) }
 {
     let mut items = [nothing(); 160];
     let mut count = 0;
@@ -97,7 +100,8 @@ fn nothing<'a>() -> Entry<'a> {
 
 /// What is known of the line's row, unless it is blank or a remark.
 fn entry_of(line: &[u8]) -> Option<Entry<'_>>
-    ensures { MatchOption result (is_row_line line.now ≡ false) (λ e. (is_row_line line.now ≡ true) × (e.line.now ≡ line.now)) }
+    ensures { MatchOption result (is_row_line line.now ≡ false) (λ e. (is_row_line line.now ≡ true)
+        × (e.line.now ≡ line.now)) }
 {
     let text = skip_blanks(line);
     if is_remark(text) {
@@ -111,7 +115,8 @@ fn entry_of(line: &[u8]) -> Option<Entry<'_>>
 
 /// The extension that the word names, or none.
 fn parent_in(word: &[u8]) -> Option<&[u8]>
-    ensures { (parent : Option (List ℕ)) → parent_of word.now ≡ Some parent → option_map (λ e. e.now) result ≡ parent }
+    ensures { (parent : Option (List ℕ)) → parent_of word.now ≡ Some parent
+        → option_map (λ e. e.now) result ≡ parent }
 {
     if is_none(word) { None } else { Some(word) }
 }
@@ -144,11 +149,13 @@ fn byte_of(text: &[u8], place: usize) -> u32
 /// What the first of these rows shows that is asked below the built-in answer with this extension, or none, and accepts
 /// the buffer.
 fn first_of<'a>(entries: &[Entry<'a>], extension: Option<&[u8]>, buf: &[u8]) -> Option<Found<'a>>
-    ensures { (lines : List (List ℕ)) (rows : List Row) → rows_in (map (λ e. e.line.now) entries.now ++ lines) ≡ Some rows → MatchOption result
+    ensures { (lines : List (List ℕ)) (rows : List Row)
+        → rows_in (map (λ e. e.line.now) entries.now ++ lines) ≡ Some rows → MatchOption result
         ((more : List Row) × (rows_in lines ≡ Some more) × ((t : Option Triple)
         → IsFirstShown (Answers (option_map (λ e. e.now) extension.entry) buf.now) more t
         → IsFirstShown (Answers (option_map (λ e. e.now) extension.entry) buf.now) rows t))
-        (λ found. IsFirstShown (Answers (option_map (λ e. e.now) extension.entry) buf.now) rows (Some (found_shows found))) }
+        (λ found. IsFirstShown (Answers (option_map (λ e. e.now) extension.entry) buf.now) rows
+        (Some (found_shows found))) }
 {
     let mark = mark_of(extension);
     for entry in entries {
@@ -163,11 +170,13 @@ impl<'a> Entries<'a> {
     /// [`first_of`] all of these.
     pub fn find(&self, extension: Option<&[u8]>, buf: &[u8]) -> Option<Found<'a>>
         ensures { (lines : List (List ℕ)) (rows : List Row)
-            → rows_in (map (λ e. e.line.now) (take self.now.count self.now.items) ++ lines) ≡ Some rows → MatchOption result
+            → rows_in (map (λ e. e.line.now) (take self.now.count self.now.items) ++ lines)
+            ≡ Some rows → MatchOption result
             ((more : List Row) × (rows_in lines ≡ Some more) × ((t : Option Triple)
             → IsFirstShown (Answers (option_map (λ e. e.now) extension.entry) buf.now) more t
             → IsFirstShown (Answers (option_map (λ e. e.now) extension.entry) buf.now) rows t))
-            (λ found. IsFirstShown (Answers (option_map (λ e. e.now) extension.entry) buf.now) rows (Some (found_shows found))) }
+            (λ found. IsFirstShown (Answers (option_map (λ e. e.now) extension.entry) buf.now) rows
+            (Some (found_shows found))) }
     {
         first_of(&self.items[..self.count], extension, buf)
     }

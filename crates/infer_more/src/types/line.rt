@@ -107,7 +107,8 @@ pub fn is_none(word: &[u8]) -> bool
 /// buffer.
 pub fn answer_of<'a>(line: &'a [u8], extension: Option<&[u8]>, buf: &[u8]) -> Option<Found<'a>>
     ensures { (r : Option Row) → line_of line.now ≡ Some r
-        → IsLineAnswer (Answers (option_map (λ e. e.now) extension.entry) buf.now) r (option_map found_shows result) }
+        → IsLineAnswer (Answers (option_map (λ e. e.now) extension.entry) buf.now) r
+        (option_map found_shows result) }
 {
     let text = skip_blanks(line);
     if is_remark(text) {
@@ -122,7 +123,8 @@ pub fn answer_of<'a>(line: &'a [u8], extension: Option<&[u8]>, buf: &[u8]) -> Op
 
 /// What the line's row shows, if it has one.
 pub fn row_shown(line: &[u8]) -> Option<Found<'_>>
-    ensures { (r : Option Row) → line_of line.now ≡ Some r → option_map found_shows result ≡ option_map (λ own. own.shows) r }
+    ensures { (r : Option Row) → line_of line.now ≡ Some r
+        → option_map found_shows result ≡ option_map (λ own. own.shows) r }
 {
     let text = skip_blanks(line);
     if is_remark(text) {
@@ -155,7 +157,8 @@ fn is_below(word: &[u8], extension: Option<&[u8]>) -> bool
 
 /// What the row that the words describe shows.
 fn shown<'a>(fields: Fields<'a>) -> Option<Found<'a>>
-    ensures { (own : Row) → row_of (fields_listed fields.entry) ≡ Some own → option_map found_shows result ≡ Some own.shows }
+    ensures { (own : Row) → row_of (fields_listed fields.entry) ≡ Some own
+        → option_map found_shows result ≡ Some own.shows }
 {
     let matcher_type = class_of(fields.class)?;
     let mime_type = as_text(fields.mime_type)?;

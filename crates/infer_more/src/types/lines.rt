@@ -8,7 +8,8 @@ use memchr::memchr;
 /// The first line, and what follows its end, if it has one.
 pub fn next_line(text: &[u8]) -> (&[u8], Option<&[u8]>)
     ensures { MatchOption result.1 (lines_of text.now ≡ result.0.now ∷ [])
-        (λ rest. (lines_of text.now ≡ result.0.now ∷ lines_of rest.now) × (length rest.now < length text.now)) }
+        (λ rest. (lines_of text.now ≡ result.0.now ∷ lines_of rest.now)
+        × (length rest.now < length text.now)) }
 {
     match memchr(b'\n', text) {
         Some(end) => (&text[..end], Some(behind_first(from(text, end)))),
