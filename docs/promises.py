@@ -44,6 +44,12 @@ def owner_of(line):
     return found and (found[1] or found[2])
 
 
+def is_head(lines):
+    """Whether these are the lines of a function before its body: a contract can have records, whose lines end as it does."""
+    depth = sum(line.count("{") - line.count("}") for line in lines)
+    return re.fullmatch(r" *\{\}?", lines[-1]) or (lines[-1].endswith(";") and depth == 0) or (lines[-1].endswith("{") and depth == 1)
+
+
 @kept
 def functions_in(path):
     """The functions of a file that others can call: the type or trait that has each, its name, and what is told of it."""
@@ -59,7 +65,7 @@ def functions_in(path):
         elif not line.strip().startswith("#["):
             named = re.match(r' *(pub )?(?:extern "C" )?fn (\w+)', line)
             if named and (named[1] or is_shared):
-                end = next(i for i in range(at, len(lines)) if re.fullmatch(r" *\{\}?", lines[i]) or lines[i].endswith((";", "{")) and i > at or lines[i].endswith((" {", ";")) and i == at)
+                end = next(i for i in range(at, len(lines)) if is_head(lines[at : i + 1]))
                 found.append((owner, Function(named[2], " ".join(" ".join(doc).split()), clauses_of("\n".join(lines[at : end + 1])))))
             doc = []
     return found

@@ -39,7 +39,7 @@ pub mod texts;
 
 pub use answers::{get, position, row};
 use ask::class::{App, Archive, Audio, Book, Doc, Font, Image, Video};
-pub use ask::question::accepts as accepts;
+pub use ask::question::accepts;
 pub use caller::infer::Infer;
 pub use candidates::asker::{Ask, Asker, is_counted, position_counted, walk};
 pub use decided::{is_decided, may_become};

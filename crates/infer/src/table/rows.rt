@@ -556,7 +556,7 @@ pub(crate) fn may_become_named(name: RowName, buf: &[u8]) -> bool
 
 impl BuiltInRow {
     #[inline(always)]
-    pub fn accepts(&self, buf: &[u8]) -> bool
+    pub(crate) fn accepts(&self, buf: &[u8]) -> bool
         ensures { IsTrue result ↔ Accepts buf.now (row_listed self.now) }
     {
         accepts_named(self.row, buf)
