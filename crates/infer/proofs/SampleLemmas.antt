@@ -5,6 +5,7 @@ use Rattle.std.proofs.lemmas.List.{get_or-map, length-map, take_at}
 use Rattle.infer_deep.specs.Laws as Deep
 use Rattle.infer_deep.specs.Numbers.{le16, le32, be32}
 use Rattle.infer.proofs.Common.{stands, BuiltIn, IsFirst, Row, Accepts, buffer_listed, HoldsSample, padded, sample_of, zeros, table, DLL, EPUB_ARCHIVE, ROW_COUNT}
+use Rattle.infer.specs.declared.samples.TheConstants.{SAMPLE_SIZE}
 use Rattle.infer.specs.declared.table.rows.Pieces.{Pieces}
 use Rattle.infer.proofs.KnownLemmas.{Known, same, either, is_proved, proof_of}
 use Rattle.infer.proofs.OrderLemmas.{known_first, some_row}
@@ -46,5 +47,5 @@ pub written_first : (i n : ℕ) (buf : List ℕ) → i < ROW_COUNT → HoldsAt (
 written_first i n buf lt holds first =
     let h = holds some_row in
     let s = sample_of (get_or table i some_row).signature in
-    let front : take n buf ≡ s = ap (take n) h.1 ∙ take_at s (zeros (640 - n)) n (sym h.0) in
+    let front : take n buf ≡ s = ap (take n) h.1 ∙ take_at s (zeros (SAMPLE_SIZE - n)) n (sym h.0) in
     subst (λ b. IsFirst (Accepts b) table i) (sym front) (first some_row)

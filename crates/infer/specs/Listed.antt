@@ -10,6 +10,7 @@ use Rattle.infer.specs.contracts.table.rows.RowName as row_name
 use Rattle.infer.specs.declared.table.rows.BuiltInRow.{BuiltInRow}
 use Rattle.infer.specs.declared.table.rows.Pieces.{Pieces}
 use Rattle.infer.specs.declared.table.rows.RowName.{RowName}
+use Rattle.infer.specs.declared.samples.TheConstants.{SAMPLE_SIZE}
 
 -- the number of the row with that name: its place among the names
 abbrev pub number_of : RowName → ℕ
@@ -19,10 +20,10 @@ number_of name = tag_of row_name.the_type name
 abbrev pub row_listed : BuiltInRow → Row BuiltIn
 row_listed r = record { shows = triple_of r.file_type; signature = signature_of (number_of r.row) }
 
--- the sample as it is written over 640 zeros
+-- the sample as it is written over as many zeros as the longest sample has bytes
 abbrev pub buffer_listed : Pieces → List ℕ
-buffer_listed s = put s.place s.text.now (put 0 s.front.now (zeros 640))
+buffer_listed s = put s.place s.text.now (put 0 s.front.now (zeros SAMPLE_SIZE))
 
--- all of it is in the 640 bytes
+-- all of it is in these bytes
 abbrev pub is_inside : Pieces → Bool
-is_inside s = nat_le (length s.front.now) 640 && nat_le (s.place + length s.text.now) 640 && nat_le s.len 640
+is_inside s = nat_le (length s.front.now) SAMPLE_SIZE && nat_le (s.place + length s.text.now) SAMPLE_SIZE && nat_le s.len SAMPLE_SIZE

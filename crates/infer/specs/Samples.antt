@@ -5,6 +5,7 @@ use Rattle.infer_deep.specs.ClassId.{compound_header, word_id, old_excel_id, pow
 use Rattle.infer_deep.specs.Office.{zip_header}
 use Rattle.infer.specs.BuiltIn.{BuiltIn, fixed, avif, doc, framed, heif, html, matroska, office, pdf, ppt, xls, xml}
 use Rattle.infer.specs.Row.{Row}
+use Rattle.infer.specs.declared.samples.TheConstants.{SAMPLE_SIZE}
 
 -- a buffer of n zeros
 abbrev pub zeros : ℕ → List ℕ
@@ -61,10 +62,10 @@ sample_of ppt = class_sample powerpoint_id
 sample_of html = codes "<P>"
 sample_of xml = codes "<?xml"
 
--- the row's sample with zeros after it, 640 bytes in all
+-- the row's sample with zeros after it, as many bytes as the longest sample has
 abbrev pub padded : Row BuiltIn → List ℕ
-padded r = sample_of r.signature ++ zeros (640 - length (sample_of r.signature))
+padded r = sample_of r.signature ++ zeros (SAMPLE_SIZE - length (sample_of r.signature))
 
 -- the buffer begins with the n bytes of the row's sample, and has zeros after it
 abbrev pub HoldsSample : ℕ → List ℕ → Row BuiltIn → Type 0
-HoldsSample n buf r = (n ≡ length (sample_of r.signature)) × (buf ≡ sample_of r.signature ++ zeros (640 - n))
+HoldsSample n buf r = (n ≡ length (sample_of r.signature)) × (buf ≡ sample_of r.signature ++ zeros (SAMPLE_SIZE - n))

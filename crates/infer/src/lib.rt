@@ -49,7 +49,7 @@ pub use infer_sig::{
 };
 pub use read::fault::Fault;
 pub use read::watched::{Enough, FRONT, Watched, read_head, read_until};
-pub use samples::sample;
+pub use samples::{SAMPLE_SIZE, sample};
 use std::alloc::Allocator;
 use std::rt::Files;
 pub use table::file_type::{FileType as Type, Matcher, MatcherType};

@@ -6,9 +6,13 @@ ghost use Rattle.infer.specs.Row.{Accepts};
 ghost use Rattle.infer.specs.Listed.{buffer_listed, is_inside};
 ghost use Rattle.infer.specs.Samples.{HoldsSample, put};
 ghost use Rattle.infer.specs.Table.{table};
+ghost use Rattle.infer.specs.declared.samples.TheConstants.{SAMPLE_SIZE};
 
 use crate::laws;
 use crate::table::rows::{DLL, EPUB_ARCHIVE, Pieces, ROW_COUNT, samples};
+
+/// The length of the longest sample.
+pub const SAMPLE_SIZE: usize = 640;
 
 /// The sample of row `i`, in pieces.
 fn of_row(i: usize) -> &'static Pieces
@@ -28,11 +32,11 @@ fn put(place: usize, text: &[u8], out: &mut [u8])
 }
 
 /// Writes the texts over zeros.
-fn write(pieces: &Pieces, out: &mut [u8; 640])
+fn write(pieces: &Pieces, out: &mut [u8; SAMPLE_SIZE])
     requires { IsTrue (is_inside pieces.now) }
     ensures { out.new ≡ buffer_listed pieces.now }
 {
-    *out = [0; 640];
+    *out = [0; SAMPLE_SIZE];
     put(0, pieces.front, out);
     put(pieces.place, pieces.text, out);
 }
@@ -41,10 +45,10 @@ fn write(pieces: &Pieces, out: &mut [u8; 640])
 ///
 /// Row `i` is the first that accepts the sample. Rows [`DLL`] and [`EPUB_ARCHIVE`] are first for no buffer: for these,
 /// and from [`ROW_COUNT`] on, the answer is `None`, and `out` stays as it was.
-pub fn sample(i: usize, out: &mut [u8; 640]) -> Option<usize>
+pub fn sample(i: usize, out: &mut [u8; SAMPLE_SIZE]) -> Option<usize>
     ensures none { IsNone result ↔ ((i ≡ DLL) ⊎ (i ≡ EPUB_ARCHIVE) ⊎ (ROW_COUNT ≤ i)) }
     ensures unchanged { IfNone result (out.new ≡ out.old) }
-    ensures fits { IfSome result (λ n. n ≤ 640) }
+    ensures fits { IfSome result (λ n. n ≤ SAMPLE_SIZE) }
     ensures holds { IfSome result (λ n. HoldsAt (HoldsSample n out.new) table i) }
     ensures first { IfSome result (λ n. IsFirst (Accepts (take n out.new)) table i) }
 {

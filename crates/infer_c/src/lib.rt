@@ -17,6 +17,7 @@ ghost use Rattle.infer_sniff.specs.Verdicts.{IsSettled, RowStaysFinal};
 ghost use Rattle.infer_c.specs.Codes.{AcceptsAt, IsClassOf, IsSampleOf, MayAcceptAt, class_code, class_name, row_code, triple_at};
 ghost use Rattle.infer_inside.specs.Text.{IsEncodingOf, encoding_name};
 ghost use Rattle.infer_inside.specs.declared.text.Encoding.{Encoding};
+ghost use Rattle.infer_more.specs.declared.samples.TheConstants.{SAMPLE_SIZE};
 ghost use Rattle.infer_more.specs.Decided as wider;
 ghost use Rattle.infer_more.specs.Ended.{ended};
 ghost use Rattle.infer_more.specs.Wider.{IsWider, shown};
@@ -252,7 +253,7 @@ pub extern "C" fn infer_sample(row: i32, out: &mut [u8]) -> usize
     ensures sample { (sample : Option (List ℕ)) × IsSampleOf row sample
         × (result ≡ option_map_or (λ s. length s) sample 0)
         × WritesWhole (option_map_or (λ s. s) sample []) out.old out.new }
-    ensures few { result ≤ 1088 }
+    ensures few { result ≤ SAMPLE_SIZE }
 {
     if row < 0 {
         return 0;

@@ -27,7 +27,7 @@ pub fn write_sample(i: usize, out: &mut [u8]) -> usize
     ensures sample { (sample : Option (List ℕ)) × IsSample i sample
         × (result ≡ option_map_or (λ s. length s) sample 0)
         × WritesWhole (option_map_or (λ s. s) sample []) out.old out.new }
-    ensures few { result ≤ 1088 }
+    ensures few { result ≤ SAMPLE_SIZE }
 {
     let mut bytes = [0; SAMPLE_SIZE];
     match infer_more::sample(i, &mut bytes) {

@@ -21,6 +21,7 @@ use Rattle.infer_more.specs.Row.{Further, is_inside}
 use Rattle.infer_more.specs.Table.{further}
 use Rattle.infer_sig.specs.Signature as fixed
 use Rattle.infer_more.specs.Samples.{AllReach, HasNoSample, Reaches, built_in_sample, further_sample, has_room, has_room_after, joined_sample, least_of, model, parent_sample, parts_of, prolog, row_model, written}
+use Rattle.infer.specs.declared.samples.TheConstants as built_in_samples
 use Rattle.infer_more.specs.declared.samples.TheConstants.{SAMPLE_SIZE}
 use Rattle.infer_more.specs.declared.signature.Alternative as Listed
 use Rattle.infer_more.specs.declared.table.FurtherRow.{FurtherRow}
@@ -47,7 +48,7 @@ some_built_in i n bytes not_dll not_epub lt holds = elim (slice_get_cases built_
   | inl (r, within, found, same) ↦
       let h : HoldsSample n bytes r = subst (HoldsSample n bytes) same (holds r) in
       let tested : (i == DLL || i == EPUB_ARCHIVE) ≡ false = grind (arith, nat_tests) in
-      let front : take n bytes ≡ sample_of r.signature = ap (take n) h.1 ∙ take_at (sample_of r.signature) (zeros (640 - n)) n (sym h.0) in
+      let front : take n bytes ≡ sample_of r.signature = ap (take n) h.1 ∙ take_at (sample_of r.signature) (zeros (built_in_samples.SAMPLE_SIZE - n)) n (sym h.0) in
       let read : built_in_sample i ≡ Some (sample_of r.signature)
       = ap (λ t. sample_found t (slice_get built_in.table i)) tested ∙ ap (option_map (λ (row : Row BuiltIn). sample_of row.signature)) found in
       (read ∙ ap Some (sym front), ap length front ∙ sym h.0)

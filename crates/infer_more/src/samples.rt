@@ -11,6 +11,7 @@ ghost use Rattle.infer_more.specs.Samples.{HasAnswer, HasNoSample, built_in_samp
 ghost use Rattle.infer_notation.specs.Alternative.{class_id, dbase, package_with};
 ghost use Rattle.infer_more.specs.Table.{further};
 ghost use Rattle.infer_more.specs.Wider.{AcceptsAt, IsWider};
+ghost use Rattle.infer.specs.declared.samples.TheConstants as built_in_samples;
 ghost use Rattle.infer_more.specs.declared.samples.TheConstants.{SAMPLE_SIZE};
 
 use crate::laws;
@@ -203,10 +204,10 @@ fn built_in(i: usize, out: &mut [u8; SAMPLE_SIZE]) -> Option<usize>
     ensures none { IsNone result ↔ ((i ≡ DLL) ⊎ (i ≡ EPUB_ARCHIVE) ⊎ (ROW_COUNT ≤ i)) }
     ensures counted { result ≡ option_map length (built_in_sample i) }
     ensures written { out.new ≡ written (built_in_sample i) out.old }
-    ensures fits { IfSome result (λ n. n ≤ 640) }
+    ensures fits { IfSome result (λ n. n ≤ built_in_samples.SAMPLE_SIZE) }
     ensures first { IfSome result (λ n. IsFirst (Accepts (take n out.new)) built_in.table i) }
 {
-    let mut bytes = [0; 640];
+    let mut bytes = [0; infer::SAMPLE_SIZE];
     let n = infer::sample(i, &mut bytes)?;
     *out = [0; SAMPLE_SIZE];
     put(0, &bytes[..n], out);
@@ -216,7 +217,7 @@ fn built_in(i: usize, out: &mut [u8; SAMPLE_SIZE]) -> Option<usize>
 /// Writes the sample of the parent with zeros after it, and gives its length.
 fn parent(parent: Option<usize>, out: &mut [u8; SAMPLE_SIZE]) -> usize
     ensures counted { result ≡ length (parent_sample parent) }
-    ensures fits { result ≤ 640 }
+    ensures fits { result ≤ built_in_samples.SAMPLE_SIZE }
     ensures written { out.new ≡ parent_sample parent ++ zeros (SAMPLE_SIZE - result) }
 {
     *out = [0; SAMPLE_SIZE];

@@ -1,6 +1,7 @@
 -- A row that was read is the one at its number in the table, and what words ask for.
 use Rattle.infer_tool.proofs.Common.{MatchOption, None, ◌≡◌, ◌-◌, ◌<◌, ◌≤◌, ◌⊎◌, inl, inr, ℕ, Bool, true, false, List, [], Option, Some, take, length, map, get_or, sym, ap, ◌∙◌, refl, subst, arith, OnFalse, HoldsAt, take_at, Appends, BuiltIn, Row, html, IsFirst, IsFirstOf, HasExtension, HoldsSample, sample_of, zeros, row, table, unless_failed, HasSample}
 use Rattle.std.proofs.lemmas.List.{get_or-map}
+use Rattle.infer.specs.declared.samples.TheConstants.{SAMPLE_SIZE}
 use Rattle.infer.specs.declared.table.file_type.MatcherType.TheVariants.{Text}
 use Rattle.infer.specs.declared.table.rows.TheConstants.{DLL, EPUB_ARCHIVE, ROW_COUNT}
 
@@ -37,7 +38,7 @@ module _ (extension : List ℕ) where
   sample-written i j n buf false old new has first holds app =
       subst (λ k. HoldsAt (λ r. Appends old new (sample_of r.signature)) table k) (sym (same_row (HasExtension extension) i j has.0 first))
       (λ d. let h = holds d in
-      subst (Appends old new) (ap (take n) h.1 ∙ take_at (sample_of (get_or table j d).signature) (zeros (640 - n)) n (sym h.0)) app)
+      subst (Appends old new) (ap (take n) h.1 ∙ take_at (sample_of (get_or table j d).signature) (zeros (SAMPLE_SIZE - n)) n (sym h.0)) app)
 
 -- what `find` found of the numbers of the rows
 pub first_found : (P : Row BuiltIn → Type 0) (n : ℕ) → length table ≡ n → (found : Option ℕ)

@@ -13,7 +13,7 @@ ghost use Rattle.infer_tool.specs.Writer.{IsLater, has_failed, inner};
 
 use crate::outcome::Outcome;
 use crate::writer::WatchedWriter;
-use infer::Type;
+use infer::{SAMPLE_SIZE, Type};
 use infer::rows::{ROW_COUNT, numbers};
 use std::io::Write;
 
@@ -35,7 +35,7 @@ pub fn run_sample<W: Write, E: Write>(
     ensures silent { result ≢ Outcome.Failed → err.new ≡ err.old }
 {
     numbers();
-    let mut buf = [0u8; 640];
+    let mut buf = [0u8; SAMPLE_SIZE];
     let Some(row) = first_with(extension) else {
         return refuse(extension, err);
     };

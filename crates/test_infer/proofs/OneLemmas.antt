@@ -8,6 +8,7 @@ use Rattle.infer.specs.First.{IsAnswer, IsFirstOf}
 use Rattle.infer.specs.Row.{Accepts, Row}
 use Rattle.infer.specs.Rows.{AnyAccepts, Signature}
 use Rattle.infer.specs.Samples.{HoldsSample, sample_of, zeros}
+use Rattle.infer.specs.declared.samples.TheConstants.{SAMPLE_SIZE}
 use Rattle.infer.specs.Table.{table}
 use Rattle.infer.specs.Triple.{Triple}
 use Rattle.infer.proofs.FirstLemmas.{IsFirstOf-same}
@@ -79,13 +80,13 @@ told_label b text t has = (
 module _ (n : ℕ) (front out : List ℕ) (r : Row BuiltIn) (holds : HoldsSample n out r) where
   begins : take n out ≡ sample_of r.signature
   begins =
-      ap (take n) holds.1 ∙ ap (λ k. take k (sample_of r.signature ++ zeros (640 - n))) holds.0
-      ∙ take-append_seam (sample_of r.signature) (zeros (640 - n))
+      ap (take n) holds.1 ∙ ap (λ k. take k (sample_of r.signature ++ zeros (SAMPLE_SIZE - n))) holds.0
+      ∙ take-append_seam (sample_of r.signature) (zeros (SAMPLE_SIZE - n))
 
-  pub told_sample : (take n out ≡ front) ↔ HoldsSample (length front) (front ++ zeros (640 - length front)) r
+  pub told_sample : (take n out ≡ front) ↔ HoldsSample (length front) (front ++ zeros (SAMPLE_SIZE - length front)) r
   told_sample = (
-    λ e. let is : front ≡ sample_of r.signature = sym e ∙ begins in (ap length is, ap (λ u. u ++ zeros (640 - length front)) is),
-    λ h. begins ∙ sym (take-append_seam (sample_of r.signature) (zeros (640 - length front)))
-        ∙ ap (λ k. take k (sample_of r.signature ++ zeros (640 - length front))) (sym h.0) ∙ ap (take (length front)) (sym h.1)
-        ∙ take-append_seam front (zeros (640 - length front)),
+    λ e. let is : front ≡ sample_of r.signature = sym e ∙ begins in (ap length is, ap (λ u. u ++ zeros (SAMPLE_SIZE - length front)) is),
+    λ h. begins ∙ sym (take-append_seam (sample_of r.signature) (zeros (SAMPLE_SIZE - length front)))
+        ∙ ap (λ k. take k (sample_of r.signature ++ zeros (SAMPLE_SIZE - length front))) (sym h.0) ∙ ap (take (length front)) (sym h.1)
+        ∙ take-append_seam front (zeros (SAMPLE_SIZE - length front)),
   )

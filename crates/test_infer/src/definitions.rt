@@ -19,6 +19,7 @@ ghost use Rattle.infer.specs.Rows.{custom_rows};
 ghost use Rattle.infer.specs.Samples.{HoldsSample, zeros};
 ghost use Rattle.infer.specs.Table.{table};
 ghost use Rattle.infer.specs.Walks.{RowHas};
+ghost use Rattle.infer.specs.declared.samples.TheConstants.{SAMPLE_SIZE};
 ghost use Rattle.infer.specs.declared.table.rows.TheConstants.{PNG, ROW_COUNT};
 ghost use Rattle.infer_inside.specs.Markup.{IsRootElement};
 ghost use Rattle.infer_inside.specs.Script.{IsProgram};
@@ -40,7 +41,7 @@ ghost use Rattle.infer_uses.specs.declared.name.Choice.TheVariants.{NameAlone};
 use infer::beginnings::{begins_frame, begins_white};
 use infer::image::is_png;
 use infer::rows::{EXE, PNG, ROW_COUNT, WASM};
-use infer::{Ask, Asker, Infer, get, is, is_decided, may_become, position, sample};
+use infer::{Ask, Asker, Infer, SAMPLE_SIZE, get, is, is_decided, may_become, position, sample};
 use infer_deep::doc::has_class_id;
 use infer_deep::numbers::{be32, le16, le32};
 use infer_deep::places::stands_at;
@@ -311,13 +312,13 @@ pub fn is_labelled_png(buf: &[u8]) -> bool
     }
 }
 
-/// Whether it is the sample of PNG, as 640 bytes that begin with it and then have zeros hold it.
+/// Whether it is the sample of PNG, as `SAMPLE_SIZE` bytes that begin with it and then have zeros hold it.
 pub fn is_sample_of_png(front: &[u8]) -> bool
     ensures { IsTrue result
         ↔ HoldsAt (HoldsSample (length front.now)
-        (front.now ++ zeros (640 - length front.now))) table PNG }
+        (front.now ++ zeros (SAMPLE_SIZE - length front.now))) table PNG }
 {
-    let mut out = [0; 640];
+    let mut out = [0; SAMPLE_SIZE];
     match sample(PNG, &mut out) {
         Some(count) => are_equal(&out[..count], front),
         None => false,

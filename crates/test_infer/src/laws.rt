@@ -18,7 +18,7 @@ ghost use Rattle.infer.specs.Triple.{triple_of};
 use infer::app::{is_java, is_mach, may_become_coff_x64};
 use infer::rows::{DLL, DOC, EPUB_ARCHIVE, GIF, PDF, ROW_COUNT, SHELLSCRIPT, WASM};
 use infer::{
-    Asker, Fault, Infer, Type, Watched, is_decided, laws, may_become, position, sample, walk,
+    Asker, Fault, Infer, SAMPLE_SIZE, Type, Watched, is_decided, laws, may_become, position, sample, walk,
 };
 use std::alloc::{AllocError, Allocator, Global};
 
@@ -116,8 +116,8 @@ pub fn script_is_reached()
     laws::reach();
 }
 
-/// The sample of a row, for which the 640 bytes of `out` are enough, and no bytes if it has none.
-pub fn sample_within(row: usize, out: &mut [u8; 640]) -> &[u8]
+/// The sample of a row, for which `out` has room, and no bytes if it has none.
+pub fn sample_within(row: usize, out: &mut [u8; SAMPLE_SIZE]) -> &[u8]
     ensures { row < ROW_COUNT → row ≢ DLL → row ≢ EPUB_ARCHIVE
         → IsFirst (Accepts result.now) table row }
 {

@@ -67,7 +67,7 @@ fn zeros_but<const N: usize>(texts: &[(usize, &[u8])]) -> [u8; N] {
 
 /// What the call answers of the sample of a row, and of the sample without its last byte.
 fn sample_and_less(row: usize, call: fn(&[u8]) -> bool) -> (bool, bool) {
-    let mut out = [0; 640];
+    let mut out = [0; infer::SAMPLE_SIZE];
     let sample = sample_within(row, &mut out);
     (
         call(sample),

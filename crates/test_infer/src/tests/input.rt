@@ -194,7 +194,7 @@ fn files(rt: HostRuntime) -> Result<(), Fail> {
 #[test]
 fn samples_as_files(rt: HostRuntime) -> Result<(), Fail> {
     for i in 0..rows::ROW_COUNT {
-        let mut out = [0; 640];
+        let mut out = [0; infer::SAMPLE_SIZE];
         if let Some(n) = sample(i, &mut out) {
             fs::write(&rt, "sample.bin", &out[..n])?;
             assert_eq!(rt; get_from_path(&rt, rt.alloc(), "sample.bin"), Ok(row(i)));
