@@ -17,15 +17,15 @@ use Rattle.infer.proofs.OrderLemmas.{some_row}
 use Rattle.infer.proofs.TestLemmas.{NoneRefused, passed}
 
 -- the rows of a slot are those whose text has it
-abbrev of_slot : (Row BuiltIn → List ℕ) → List (Bor (List RowName)) → ℕ → Bool
-of_slot text_of lists s = bytes_eq (get_or (map (λ rows. map number_of rows.now) lists) s []) (rows_in text_of s)
+abbrev pub of_slot : (Row BuiltIn → List ℕ) → List (List ℕ) → ℕ → Bool
+of_slot text_of numbers s = bytes_eq (get_or numbers s []) (rows_in text_of s)
 
-pub slots_listed : (text_of : Row BuiltIn → List ℕ) (lists : List (Bor (List RowName))) → length lists ≡ 128
-    → NoneRefused (of_slot text_of lists) 128 0 8 → ListSlots text_of lists
+pub slots_listed : (text_of : Row BuiltIn → List ℕ) (lists : List (Bor (List RowName))) (numbers : List (List ℕ))
+    → map (λ rows. map number_of rows.now) lists ≡ numbers → length lists ≡ 128 → NoneRefused (of_slot text_of numbers) 128 0 8 → ListSlots text_of lists
 unfolding ListSlots
-slots_listed text_of lists many all s d lt =
-    sym (get_or-map (λ rows. map number_of rows.now) lists s d [] (omega arith))
-    ∙ (bytes_eq-Decides _ _).0 (passed (of_slot text_of lists) 128 8 all (omega arith) s lt)
+slots_listed text_of lists numbers same many all s d lt =
+    sym (get_or-map (λ rows. map number_of rows.now) lists s d [] (omega arith)) ∙ ap (λ ns. get_or ns s []) same
+    ∙ (bytes_eq-Decides _ _).0 (passed (of_slot text_of numbers) 128 8 all (omega arith) s lt)
 
 -- the rows of a text's slot are those of the rows that are asked for, and more
 pub asked_in_slot : (asked : Triple → Type 0) (text_of : Row BuiltIn → List ℕ) (text : List ℕ) → ((r : Row BuiltIn) → IsAsked asked r → text_of r ≡ text)

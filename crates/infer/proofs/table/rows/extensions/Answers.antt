@@ -1,8 +1,17 @@
-use Rattle.std.proofs.Common.{refl}
-use Rattle.infer.proofs.Common.{extension_of, rows_in, table}
-use Rattle.infer.proofs.SlotLemmas.{slots_listed}
+use Rattle.std.proofs.Common.{ℕ, List, map, refl}
+use Rattle.infer.proofs.Common.{extension_of, number_of, rows_in, table}
+use Rattle.infer.specs.declared.table.rows.TheConstants.{BY_EXTENSION}
+use Rattle.infer.proofs.SlotLemmas.{of_slot, slots_listed}
+use Rattle.infer.proofs.TestLemmas.{NoneRefused}
 use Rattle.infer.proofs.table.rows.extensions.Goals as goal
 
-pub returns : goal.returns
+abbrev numbers : List (List ℕ)
+numbers = map (λ rows. map number_of rows.now) BY_EXTENSION
+
+-- a check that fails shows the slots whose rows are others
+all_listed : NoneRefused (of_slot extension_of numbers) 128 0 8
 unfolding rows_in table
-returns c = slots_listed extension_of _ refl (refl, (refl, (refl, (refl, (refl, (refl, (refl, (refl, tt))))))))
+all_listed = (refl, (refl, (refl, (refl, (refl, (refl, (refl, (refl, tt))))))))
+
+pub returns : goal.returns
+returns c = slots_listed extension_of _ numbers refl refl all_listed

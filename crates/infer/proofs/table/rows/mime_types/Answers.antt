@@ -1,8 +1,17 @@
-use Rattle.std.proofs.Common.{refl}
-use Rattle.infer.proofs.Common.{mime_type_of, rows_in, table}
-use Rattle.infer.proofs.SlotLemmas.{slots_listed}
+use Rattle.std.proofs.Common.{ℕ, List, map, refl}
+use Rattle.infer.proofs.Common.{mime_type_of, number_of, rows_in, table}
+use Rattle.infer.specs.declared.table.rows.TheConstants.{BY_MIME_TYPE}
+use Rattle.infer.proofs.SlotLemmas.{of_slot, slots_listed}
+use Rattle.infer.proofs.TestLemmas.{NoneRefused}
 use Rattle.infer.proofs.table.rows.mime_types.Goals as goal
 
-pub returns : goal.returns
+abbrev numbers : List (List ℕ)
+numbers = map (λ rows. map number_of rows.now) BY_MIME_TYPE
+
+-- a check that fails shows the slots whose rows are others
+all_listed : NoneRefused (of_slot mime_type_of numbers) 128 0 8
 unfolding rows_in table
-returns c = slots_listed mime_type_of _ refl (refl, (refl, (refl, (refl, (refl, (refl, (refl, (refl, tt))))))))
+all_listed = (refl, (refl, (refl, (refl, (refl, (refl, (refl, (refl, tt))))))))
+
+pub returns : goal.returns
+returns c = slots_listed mime_type_of _ numbers refl refl all_listed
