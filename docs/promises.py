@@ -9,8 +9,8 @@ from texts import kept, text_of
 FAMILIES = [
     (r"result ≡ accepts \w+ buf\.now", "each matcher, as `image::is_png`", "Whether its signature accepts `buf`.", "result ≡ accepts png buf.now"),
     (
-        r"result ≡ may_accept \w+ buf\.now", "each second function, as `image::may_become_png`",
-        "Whether some bytes after `buf` make the matcher beside it accept.", "result ≡ may_accept png buf.now",
+        r"result ≡ may_become \w+ buf\.now", "each second function, as `image::may_become_png`",
+        "Whether some bytes after `buf` make the matcher beside it accept.", "result ≡ may_become png buf.now",
     ),
 ]
 

@@ -9,7 +9,7 @@ use Rattle.std.proofs.lemmas.List.Elements.{All-cons, AllWithin-more, filter_mor
 use Rattle.std.proofs.lemmas.List.Kept.{AllPairs-cons}
 use Rattle.std.proofs.lemmas.List.Sums.{count_by-le-length, length-filter}
 use Rattle.infer.specs.BuiltIn.{BuiltIn}
-use Rattle.infer.specs.Leads.{allows_first, candidates, candidates_of, places_from}
+use Rattle.infer.specs.Leads.{allows_first, candidates, candidates_of, numbers_from}
 use Rattle.infer.specs.Row.{Row}
 use Rattle.infer.specs.Table.{table}
 use Rattle.infer.specs.declared.table.rows.TheConstants.{MOST_CANDIDATES, ROW_COUNT}
@@ -30,7 +30,7 @@ rise_more true ps i n lt h = (
 )
 rise_more false ps i n lt h = (λ k d l. let at = h.0 k d l in (omega arith, at.1), h.1)
 
-rise : {A : Type 0} (test : A → Bool) (xs : List A) (i n : ℕ) → i + length xs ≡ n → Rise i n (places_from test i xs)
+rise : {A : Type 0} (test : A → Bool) (xs : List A) (i n : ℕ) → i + length xs ≡ n → Rise i n (numbers_from test i xs)
 rise test [] i n e = (λ k d l. absurd (omega arith), λ j k d lt l. absurd (omega arith))
 rise test (x ∷ xs) i n e = rise_more (test x) _ i n (omega arith) (rise test xs (suc i) n (omega arith))
 
@@ -108,22 +108,22 @@ past true = refl
 past false = refl
 
 -- the number of an element is listed exactly if the element passes
-listed_at : {A : Type 0} (test : A → Bool) (xs : List A) (i k : ℕ) (d : A) → k < length xs → is_listed (places_from test i xs) (i + k) ≡ test (get_or xs k d)
+listed_at : {A : Type 0} (test : A → Bool) (xs : List A) (i k : ℕ) (d : A) → k < length xs → is_listed (numbers_from test i xs) (i + k) ≡ test (get_or xs k d)
 listed_at test [] i k d l = absurd (omega arith)
 listed_at test (x ∷ xs) i zero d l =
     let above = rise test xs (suc i) (suc i + length xs) refl in
-    let none : is_listed (places_from test (suc i) xs) (i + 0) ≡ false
+    let none : is_listed (numbers_from test (suc i) xs) (i + 0) ≡ false
     = none_listed _ (i + 0) (λ k e m. let at = above.0 k e m in omega (arith, at.0)) in
     let here : (i == i + 0) ≡ true = eq-eqb i (i + 0) (omega arith) in
     listed_step (test x) i (i + 0) _ ∙ rw (none, here) (only (test x))
 listed_at test (x ∷ xs) i (suc k) d l =
     let apart : (i == i + suc k) ≡ false = ne_eqb i (i + suc k) (λ e. omega (arith, e)) in
-    let later : is_listed (places_from test (suc i) xs) (i + suc k) ≡ test (get_or xs k d)
-    = ap (is_listed (places_from test (suc i) xs)) (omega arith) ∙ listed_at test xs (suc i) k d (omega arith) in
+    let later : is_listed (numbers_from test (suc i) xs) (i + suc k) ≡ test (get_or xs k d)
+    = ap (is_listed (numbers_from test (suc i) xs)) (omega arith) ∙ listed_at test xs (suc i) k d (omega arith) in
     listed_step (test x) i (i + suc k) _ ∙ rw apart (past (test x)) ∙ later
 
-pub listed_row : {A : Type 0} (test : A → Bool) (xs : List A) (k : ℕ) (d : A) → k < length xs → is_listed (places_from test 0 xs) k ≡ test (get_or xs k d)
-listed_row test xs k d l = ap (is_listed (places_from test 0 xs)) (omega arith) ∙ listed_at test xs 0 k d l
+pub listed_row : {A : Type 0} (test : A → Bool) (xs : List A) (k : ℕ) (d : A) → k < length xs → is_listed (numbers_from test 0 xs) k ≡ test (get_or xs k d)
+listed_row test xs k d l = ap (is_listed (numbers_from test 0 xs)) (omega arith) ∙ listed_at test xs 0 k d l
 
 module _ {A : Type 0} (t u : A → Bool) where
   -- what has a property passes both: it is the first among both
@@ -140,14 +140,14 @@ module _ {A : Type 0} (t u : A → Bool) where
 
     first_moved_from : (xs : List A) (i : ℕ) (o : Option ℕ)
         → ((k : ℕ) (d : A) → k < length xs → P (i + k) → IsTrue (t (get_or xs k d)) × IsTrue (u (get_or xs k d)))
-        → IsFirstAmong P (places_from t i xs) o → IsFirstAmong P (places_from u i xs) o
+        → IsFirstAmong P (numbers_from t i xs) o → IsFirstAmong P (numbers_from u i xs) o
     first_moved_from [] i o has h = h
     first_moved_from (x ∷ xs) i o has h =
         moved_step (t x) (u x) i _ _ o (λ p. has 0 x (omega arith) (subst P (omega arith) p))
         (first_moved_from xs (suc i) o (λ k d l p. has (suc k) d (omega arith) (subst P (omega arith) p))) h
 
     pub first_moved : (xs : List A) (o : Option ℕ) → ((k : ℕ) (d : A) → k < length xs → P k → IsTrue (t (get_or xs k d)) × IsTrue (u (get_or xs k d)))
-        → IsFirstAmong P (places_from t 0 xs) o → IsFirstAmong P (places_from u 0 xs) o
+        → IsFirstAmong P (numbers_from t 0 xs) o → IsFirstAmong P (numbers_from u 0 xs) o
     first_moved xs o has = first_moved_from xs 0 o (λ k d l p. has k d l (subst P (omega arith) p))
 
   -- numbers that pass p, and of which the elements pass t, are those that pass q and u
@@ -158,7 +158,7 @@ module _ {A : Type 0} (t u : A → Bool) where
     filter_step p false i ps = refl
 
     filtered_from : (xs : List A) (i : ℕ) → ((k : ℕ) (d : A) → k < length xs → (t (get_or xs k d) && p (i + k)) ≡ (u (get_or xs k d) && q (i + k)))
-        → filter p (places_from t i xs) ≡ filter q (places_from u i xs)
+        → filter p (numbers_from t i xs) ≡ filter q (numbers_from u i xs)
     filtered_from [] i same = refl
     filtered_from (x ∷ xs) i same =
         let rest = filtered_from xs (suc i) (λ k d l. ap (λ n. t (get_or xs k d) && p n) (omega arith) ∙ same (suc k) d (omega arith)
@@ -168,7 +168,7 @@ module _ {A : Type 0} (t u : A → Bool) where
         filter_step p (t x) i _ ∙ rw (here, rest) refl ∙ sym (filter_step q (u x) i _)
 
     pub filtered_alike : (xs : List A) → ((k : ℕ) (d : A) → k < length xs → (t (get_or xs k d) && p k) ≡ (u (get_or xs k d) && q k))
-        → filter p (places_from t 0 xs) ≡ filter q (places_from u 0 xs)
+        → filter p (numbers_from t 0 xs) ≡ filter q (numbers_from u 0 xs)
     filtered_alike xs same = filtered_from xs 0 (λ k d l. rw (let zero_left : 0 + k ≡ k = omega arith in zero_left) (same k d l))
 
 -- ---- the candidates are places
@@ -178,14 +178,14 @@ abbrev pub may_take : List ℕ → Row BuiltIn → Bool
 may_take [] r = false
 may_take (f ∷ b) r = allows_first r.signature f
 
-no_places : {A : Type 0} (test : A → Bool) → ((x : A) → test x ≡ false) → (xs : List A) (i : ℕ) → places_from test i xs ≡ []
-no_places test none [] i = refl
-no_places test none (x ∷ xs) i = rw (none x) (no_places test none xs (suc i))
+no_numbers : {A : Type 0} (test : A → Bool) → ((x : A) → test x ≡ false) → (xs : List A) (i : ℕ) → numbers_from test i xs ≡ []
+no_numbers test none [] i = refl
+no_numbers test none (x ∷ xs) i = rw (none x) (no_numbers test none xs (suc i))
 
-pub candidates_placed : (b : List ℕ) → places_from (may_take b) 0 table ≡ candidates_of b
+pub candidates_numbered : (b : List ℕ) → numbers_from (may_take b) 0 table ≡ candidates_of b
 unfolding candidates
-candidates_placed [] = no_places (may_take []) (λ x. refl) table 0
-candidates_placed (f ∷ b) = refl
+candidates_numbered [] = no_numbers (may_take []) (λ x. refl) table 0
+candidates_numbered (f ∷ b) = refl
 
 -- ---- what a walk over places knows
 
@@ -193,30 +193,30 @@ few_step : (b : Bool) (i n : ℕ) (ps : List ℕ) → length ps ≤ n → length
 few_step true i n ps few = omega (arith, few)
 few_step false i n ps few = omega (arith, few)
 
-few_places : {A : Type 0} (test : A → Bool) (xs : List A) (i : ℕ) → length (places_from test i xs) ≤ length xs
-few_places test [] i = omega arith
-few_places test (x ∷ xs) i = few_step (test x) i (length xs) _ (few_places test xs (suc i))
+few_numbers : {A : Type 0} (test : A → Bool) (xs : List A) (i : ℕ) → length (numbers_from test i xs) ≤ length xs
+few_numbers test [] i = omega arith
+few_numbers test (x ∷ xs) i = few_step (test x) i (length xs) _ (few_numbers test xs (suc i))
 
 no_more : (test : ℕ → Bool) (xs : List ℕ) (n : ℕ) → length xs ≤ n → length (filter test xs) ≤ n
 no_more test xs n few = let count = length-filter test xs in let most = count_by-le-length test xs in omega (arith, count, most)
 
-module _ (test : Row BuiltIn → Bool) (rs : List ℕ) (same : rs ≡ places_from test 0 table) where
-  places_rise : Rise 0 ROW_COUNT rs
-  places_rise = subst (Rise 0 ROW_COUNT) (sym same) (rise test table 0 ROW_COUNT (omega (arith, length-table)))
+module _ (test : Row BuiltIn → Bool) (rs : List ℕ) (same : rs ≡ numbers_from test 0 table) where
+  numbers_rise : Rise 0 ROW_COUNT rs
+  numbers_rise = subst (Rise 0 ROW_COUNT) (sym same) (rise test table 0 ROW_COUNT (omega (arith, length-table)))
 
   pub below_count : (k d : ℕ) → k < length rs → get_or rs k d < ROW_COUNT
-  below_count k d l = (places_rise.0 k d l).1
+  below_count k d l = (numbers_rise.0 k d l).1
 
   pub room_left : (p : ℕ → Bool) (k : ℕ) → k < length rs → length (filter p (take k rs)) < ROW_COUNT
   room_left p k l =
-      let few = few_places test table 0 in
+      let few = few_numbers test table 0 in
       let most = no_more p (take k rs) k (let e = length-take-le k rs (omega arith) in omega (arith, e)) in
       omega (arith, most, few, ap length same, length-table)
 
   pub asked_up_to : (p : ℕ → Bool) (k d : ℕ) → k < length rs → filter p (take (k + 1) rs) ≡ filter (λ j. leb j (get_or rs k d) && p j) rs
   asked_up_to p k d l =
       sym (kept (λ j. leb j (get_or rs k d)) p d rs (k + 1)
-      (λ j m a. grind (arith, nat_tests, places_rise.1 j k d)) (λ j m a. grind (arith, nat_tests, places_rise.1 k j d)))
+      (λ j m a. grind (arith, nat_tests, numbers_rise.1 j k d)) (λ j m a. grind (arith, nat_tests, numbers_rise.1 k j d)))
 
 pub few_asked : (w : Option (Bor (List ℕ))) (b : List ℕ) (o : Option ℕ) → length (candidates_of b) ≤ MOST_CANDIDATES → count_asked w b o ≤ MOST_CANDIDATES
 few_asked w b o few = no_more (λ i. is_not_above o i && is_asked w i) (candidates_of b) MOST_CANDIDATES few
@@ -232,8 +232,8 @@ every_row : (i : ℕ) → i < ROW_COUNT → is_asked None i ≡ true
 every_row i l = some_at table i (omega (arith, length-table))
 
 module _ (b rs : List ℕ) (same : rs ≡ candidates_of b) where
-  placed : rs ≡ places_from (may_take b) 0 table
-  placed = same ∙ sym (candidates_placed b)
+  placed : rs ≡ numbers_from (may_take b) 0 table
+  placed = same ∙ sym (candidates_numbered b)
 
   pub candidate_row : (k d : ℕ) → k < length rs → get_or rs k d < ROW_COUNT
   candidate_row = below_count (may_take b) rs placed

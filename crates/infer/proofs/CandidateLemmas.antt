@@ -6,7 +6,7 @@ use Rattle.std.proofs.lemmas.List.Elements.{AllWithin-more, AllWithin-none, AllW
 use Rattle.std.proofs.lemmas.List.Folds.{none_from_all_within}
 use Rattle.infer.specs.BuiltIn.{BuiltIn}
 use Rattle.infer.specs.First.{IsFirst, IsFirstOf, NoneHas, SomeHas}
-use Rattle.infer.specs.Leads.{Leads, allows_first, candidates, candidates_of, places_from}
+use Rattle.infer.specs.Leads.{Leads, allows_first, candidates, candidates_of, numbers_from}
 use Rattle.infer.specs.Row.{Row, Accepts}
 use Rattle.infer.specs.Table.{table}
 use Rattle.infer.specs.Walks.{HasGiven, IsFirstAmong, RowHas, Takes, WalksFindFirst, row_numbered}
@@ -41,7 +41,7 @@ module _ (P : Row BuiltIn → Type 0) where
 
   module _ (test : Row BuiltIn → Bool) (only : (r : Row BuiltIn) → P r → IsTrue (test r)) where
     first_from : (xs : List (Row BuiltIn)) (i : ℕ) (o : Option ℕ) → drop i table ≡ xs → NoneBefore i
-        → IsFirstAmong (RowHas P) (places_from test i xs) o → IsFirstOf P table o
+        → IsFirstAmong (RowHas P) (numbers_from test i xs) o → IsFirstOf P table o
     unfolding IsFirstAmong
     first_from [] i o e none h =
         rw h (AllWithin-upto (λ r. ¬ P r) table 0 i (length table) (omega (arith, length-drop i table, ap length e)) none)
@@ -52,7 +52,7 @@ module _ (P : Row BuiltIn → Type 0) where
         (λ more. first_from xs (suc i) o (cc) (rw add-one at more)) h
 
     -- if only rows that pass a test have the property, they alone are looked at
-    pub first_listed : (o : Option ℕ) → IsFirstAmong (RowHas P) (places_from test 0 table) o → IsFirstOf P table o
+    pub first_listed : (o : Option ℕ) → IsFirstAmong (RowHas P) (numbers_from test 0 table) o → IsFirstOf P table o
     first_listed o h = first_from table 0 o refl (AllWithin-none (λ r. ¬ P r) table 0) h
 
 -- the first of the candidates of a buffer that takes it is the first row of the table that does
@@ -80,7 +80,7 @@ module _ (P : Row BuiltIn → Type 0) where
   found false i ns passes has = absurd (cc)
 
   module _ (test : Row BuiltIn → Bool) (only : (r : Row BuiltIn) → P r → IsTrue (test r)) where
-    none_listed : NoneHas P table → (xs : List (Row BuiltIn)) (i : ℕ) → drop i table ≡ xs → IsFirstAmong (RowHas P) (places_from test i xs) None
+    none_listed : NoneHas P table → (xs : List (Row BuiltIn)) (i : ℕ) → drop i table ≡ xs → IsFirstAmong (RowHas P) (numbers_from test i xs) None
     unfolding IsFirstAmong
     none_listed none [] i e = refl
     none_listed none (x ∷ xs) i e =
@@ -89,7 +89,7 @@ module _ (P : Row BuiltIn → Type 0) where
         passed_over (test x) i _ None (λ has. let at = (read_has P table i).0 has in none_from_all_within P table none (i, at.0, at.1)) (none_listed none xs (suc i) (cc))
 
     first_listed_from : (k : ℕ) → IsFirst P table k → (xs : List (Row BuiltIn)) (i : ℕ) → drop i table ≡ xs → i ≤ k
-        → IsFirstAmong (RowHas P) (places_from test i xs) (Some k)
+        → IsFirstAmong (RowHas P) (numbers_from test i xs) (Some k)
     first_listed_from k first [] i e le = absurd (let w = first.within in omega (arith, length-drop i table, ap length e))
     first_listed_from k first (x ∷ xs) i e le =
         let lt : i < length table = omega (arith, length-drop i table, ap length e) in
@@ -102,11 +102,11 @@ module _ (P : Row BuiltIn → Type 0) where
               let same : k ≡ i = omega arith in
               let has = (read_has P table k).1 (first.within, first.here) in
               let passes = only x (rw (let e : x ≡ get_or table i x = cc in e) (subst (λ j. P (get_or table j x)) same (first.here x))) in
-              subst (λ j. IsFirstAmong (RowHas P) (places_from test i (x ∷ xs)) (Some j)) (sym same)
+              subst (λ j. IsFirstAmong (RowHas P) (numbers_from test i (x ∷ xs)) (Some j)) (sym same)
               (found (test x) i _ passes (subst (RowHas P) same has))
         ]
 
-    pub among_listed : (o : Option ℕ) → IsFirstOf P table o → IsFirstAmong (RowHas P) (places_from test 0 table) o
+    pub among_listed : (o : Option ℕ) → IsFirstOf P table o → IsFirstAmong (RowHas P) (numbers_from test 0 table) o
     among_listed None none = none_listed none table 0 refl
     among_listed (Some k) first = first_listed_from k first table 0 refl (omega arith)
 

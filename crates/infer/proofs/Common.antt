@@ -3,11 +3,11 @@ pub use Rattle.infer.specs.Arrivals.{IsAwaited, last_awaited, Beginning, open_bo
 pub use Rattle.infer.specs.Buffer.{head, IsBuffer}
 pub use Rattle.infer.specs.BuiltIn.{BuiltIn, html, doc, framed, office, ppt, xls, xml, avif, heif, IsAccepted, fixed, matroska, pdf}
 pub use Rattle.infer.specs.Caller.{Contracts, Contract, Allows, FixesAnswers}
-pub use Rattle.infer.specs.Decided.{MayAccept, AnswersAreOpen, CanBeDecided, DecidedByRows, DecidedLasts, FirstOpenComes, IsChangeable, IsDecided, IsToldExactly, ReachNarrows, Tells, rows_before, AllowsExactly}
+pub use Rattle.infer.specs.Decided.{MayBecomeRow, AnswersAreOpen, CanBeDecided, DecidedByRows, DecidedLasts, FirstOpenComes, IsChangeable, IsDecided, IsToldExactly, ReachNarrows, TellsMayBecome, rows_before, AllowsExactly}
 pub use Rattle.infer.specs.First.{IsFirstOf, IsFirst, NoneHas, IsAnswer, SomeHas}
 pub use Rattle.infer.specs.Laws.{Breaks, IsNotLater, AnswersAsBuiltIn, ReadersAreAlike, AnswersAreLocal, AnyLasts, IsSteady, answers_far, FrontDecides, OnlyFarRowsFollow}
 unfoldable pub use Rattle.infer.specs.Leads.{candidates}
-pub use Rattle.infer.specs.Leads.{candidates_of, Leads, allows_first, places_from}
+pub use Rattle.infer.specs.Leads.{candidates_of, Leads, allows_first, numbers_from}
 pub use Rattle.infer.specs.Listed.{number_of, buffer_listed, row_listed}
 unfoldable pub use Rattle.infer.specs.Matchers.{signatures, is_far_row}
 pub use Rattle.infer.specs.Matchers.{Lasts, IsNear, OthersAreNear}
@@ -28,7 +28,7 @@ pub use Rattle.infer.specs.declared.table.file_type.FileType.{FileType}
 pub use Rattle.infer.specs.declared.table.file_type.MatcherType.TheVariants.{Text, App, Image}
 pub use Rattle.infer.specs.declared.table.rows.TheConstants.{ROW_COUNT, MOST_CANDIDATES, DLL, PDF, EXE, EPUB_ARCHIVE, MSI, ZIP, MATCHER_COUNT, EPUB, WASM}
 unfoldable pub use Rattle.infer_deep.proofs.Common.{le16, le32, be32}
-pub use Rattle.infer_deep.proofs.Common.{arith, ◌≡◌, refl, length, ℕ, List, subst, ◌∙◌, ap, sym, ◌<◌, [], ◌++◌, Some, get_or, take, ◌≤◌, Option, None, map, inl, inr, ◌∷◌, rules, IsTrue, ◌+◌, Bool, ◌⊎◌, true, ◌-◌, false, suc, AllWithin, option_map, HoldsAt, cases_lt, leb, ◌↔◌, ◌≢◌, length-append, zero, drop, append-nil, filter, tests, nat_tests, codes, length-take-le, slice_get, YieldsList-from_slice, length-map, take_all, option_map_or, cases_from_any, ◌&&◌, eq-eqb, not, MatchOption, All, append_assoc, IfSome, string_bytes, take-append-le, get_or_default, false≢true, OccursAt, Consumes, Appends, bytes_eq-Decides, if◌then◌else◌, le_refl, Ok, Err, ◌*◌, length-take, concat, take_at, map_more, cases_Bool, All-cons, All-append, AllPass-from_list_all, none_from_all_within, bytes_eq, zero-le, cond, ◌==◌, ◌||◌, Result, add-one, replicate, eqb, range_with_len, AllPairs, list_all, get_or_append_left, take-append-drop, get_or-range_with_len, length-range_with_len, ne_eqb, and_parts, eqb-true, or_right, leb-true, le-leb, AllWithin-more, filter_more, AllWithin-none, All-nil, All-replicate, slice_get_past, slice_get-get_or, compound_header, word_id, old_excel_id, powerpoint_id, HasClassId, zip_header, IsOffice, IsHtml, IsMark, IsSpace, IsXml, IsWhite, Reachable, IsBoxed, IsFrame, IsFramed, SkipsTo, IsAtEnd, Keeps, Consumes-trans, OnFalse, take-append-add, length-drop, drop-cons, is_some, ◌/◌, lit≤, MatchBool, nat_eq, Bor, min, ap₂, nat_lt, pos, negsuc, ⊎_elim, list_any, AllByRecursion, starts_with, length-replicate, get_or-take, get_or-append-add, get_or-append_right, drop-drop, take_min, drop-replicate, is_none, option_and_then, cases_order, or_left, and_from, Decides-eqb, not_from_Decides, AllWithin-upto, recursion_from_All, All-map, count_by-le-length, length-filter, IsRoot, excel_id, IsXls, HasFolder, IsDecidingHeader, IsHeaderFrom, IsThirdHeader, BeginsMarked, BeginsWithTag, tags, AreApart, front_fits, front_reads, HasCompatible, StandsBy, are_bytes, Decides, first_from_find, first_from_Range, take-append_seam}
-pub use Rattle.infer_sig.specs.Open.{is_sound, IsOpen}
+pub use Rattle.infer_deep.proofs.Common.{arith, ◌≡◌, refl, length, ℕ, List, subst, ◌∙◌, ap, sym, ◌<◌, [], ◌++◌, Some, get_or, take, ◌≤◌, Option, None, map, inl, inr, ◌∷◌, rules, IsTrue, ◌+◌, Bool, ◌⊎◌, true, ◌-◌, false, suc, AllWithin, option_map, HoldsAt, cases_lt, leb, ◌↔◌, ◌≢◌, length-append, zero, drop, append-nil, filter, tests, nat_tests, codes, length-take-le, slice_get, YieldsList-from_slice, length-map, take_all, option_map_or, cases_from_any, ◌&&◌, eq-eqb, not, MatchOption, All, append_assoc, IfSome, string_bytes, take-append-le, get_or_default, false≢true, OccursAt, Consumes, Appends, bytes_eq-Decides, if◌then◌else◌, le_refl, Ok, Err, ◌*◌, length-take, concat, take_at, map_more, cases_Bool, All-cons, All-append, AllPass-from_list_all, none_from_all_within, bytes_eq, zero-le, cond, ◌==◌, ◌||◌, Result, add-one, replicate, eqb, range_with_len, AllPairs, list_all, get_or_append_left, take-append-drop, get_or-range_with_len, length-range_with_len, ne_eqb, and_parts, eqb-true, or_right, leb-true, le-leb, AllWithin-more, filter_more, AllWithin-none, All-nil, All-replicate, slice_get_past, slice_get-get_or, compound_header, word_id, old_excel_id, powerpoint_id, HasClassId, zip_header, IsOffice, IsHtml, IsMark, IsSpace, IsXml, IsWhite, MayBecome, IsBoxed, IsFrame, IsFramed, SkipsTo, IsAtEnd, Keeps, Consumes-trans, OnFalse, take-append-add, length-drop, drop-cons, is_some, ◌/◌, lit≤, MatchBool, nat_eq, Bor, min, ap₂, nat_lt, pos, negsuc, ⊎_elim, list_any, AllByRecursion, starts_with, length-replicate, get_or-take, get_or-append-add, get_or-append_right, drop-drop, take_min, drop-replicate, is_none, option_and_then, cases_order, or_left, and_from, Decides-eqb, not_from_Decides, AllWithin-upto, recursion_from_All, All-map, count_by-le-length, length-filter, IsRoot, excel_id, IsXls, HasFolder, IsDecidingHeader, IsHeaderFrom, IsThirdHeader, BeginsMarked, BeginsWithTag, tags, AreApart, front_fits, front_reads, HasCompatible, StandsBy, are_bytes, Decides, first_from_find, first_from_Range, take-append_seam}
+pub use Rattle.infer_sig.specs.Open.{is_sound, MayBecomeIsExact}
 unfoldable pub use Rattle.infer_sig.specs.Signature.{stands}
 pub use Rattle.infer_sig.specs.Signature.{Alternative, accepts}

@@ -6,18 +6,18 @@ use Rattle.std.proofs.lemmas.List.Elements.{All-append, All-cons, All-nil, AllWi
 use Rattle.std.proofs.lemmas.Bool.{and_parts, cases_Bool, cases_lt, cases_order}
 use Rattle.std.specs.List.{AllWithin, HoldsAt, list_all, slice_get}
 use Rattle.std.specs.Option.{option_map_or}
-use Rattle.infer_deep.specs.Signatures.{Reachable}
-use Rattle.infer.proofs.Common.{IsOpen, is_sound, Alternative, stands, BuiltIn, fixed, avif, doc, framed, heif, html, matroska, office, pdf, ppt, xls, xml, IsAccepted, IsBuffer, AnswersAreOpen, CanBeDecided, DecidedByRows, DecidedLasts, FirstOpenComes, IsChangeable, IsDecided, IsToldExactly, MayAccept, ReachNarrows, Tells, rows_before, IsFirst, IsFirstOf, NoneHas, Leads, allows_first, candidates, candidates_of, Lasts, signatures, Row, Accepts, signature_of, table, IsFirstAmong, RowHas, EXE}
+use Rattle.infer_deep.specs.Signatures.{MayBecome}
+use Rattle.infer.proofs.Common.{MayBecomeIsExact, is_sound, Alternative, stands, BuiltIn, fixed, avif, doc, framed, heif, html, matroska, office, pdf, ppt, xls, xml, IsAccepted, IsBuffer, AnswersAreOpen, CanBeDecided, DecidedByRows, DecidedLasts, FirstOpenComes, IsChangeable, IsDecided, IsToldExactly, MayBecomeRow, ReachNarrows, TellsMayBecome, rows_before, IsFirst, IsFirstOf, NoneHas, Leads, allows_first, candidates, candidates_of, Lasts, signatures, Row, Accepts, signature_of, table, IsFirstAmong, RowHas, EXE}
 use Rattle.infer.proofs.CandidateLemmas.{first_listed, read_has}
 use Rattle.infer.proofs.FirstLemmas.{IsFirstOf-same}
 use Rattle.infer.proofs.ListLemmas.{HoldsAt-read}
 use Rattle.infer.proofs.OrderLemmas.{some_row}
 
 module _ (lasts : (s : BuiltIn) → Lasts s) where
-  may_accept_now : (b : List ℕ) (r : Row BuiltIn) → Accepts b r → MayAccept b r
+  may_accept_now : (b : List ℕ) (r : Row BuiltIn) → Accepts b r → MayBecomeRow b r
   may_accept_now b r a = ([], All-nil (λ x. x < 256), lasts r.signature b [] a)
 
-  stays : (b more : List ℕ) (o : Option ℕ) → IsBuffer more → AllWithin (λ r. ¬ MayAccept b r) table 0 (rows_before o)
+  stays : (b more : List ℕ) (o : Option ℕ) → IsBuffer more → AllWithin (λ r. ¬ MayBecomeRow b r) table 0 (rows_before o)
       → IsFirstOf (Accepts b) table o → IsFirstOf (Accepts (b ++ more)) table o
   stays b more None bytes none first = λ k d low lt a. none k d low lt (more, bytes, a)
   stays b more (Some i) bytes none first = record {
@@ -27,7 +27,7 @@ module _ (lasts : (s : BuiltIn) → Lasts s) where
   }
 
   none_comes : (b : List ℕ) (o : Option ℕ) → ((more : List ℕ) → IsBuffer more → IsFirstOf (Accepts (b ++ more)) table o)
-      → AllWithin (λ r. ¬ MayAccept b r) table 0 (rows_before o)
+      → AllWithin (λ r. ¬ MayBecomeRow b r) table 0 (rows_before o)
   none_comes b None still = λ k d low lt r. still r.0 r.1 k d low lt r.2
   none_comes b (Some i) still = λ k d low lt r. (still r.0 r.1).before k d low lt r.2
 
@@ -58,8 +58,8 @@ sound_at [] all i = refl
 sound_at (r ∷ rows) all zero = (and_parts (is_sound_if_fixed r.signature) _ all).0
 sound_at (r ∷ rows) all (suc i) = sound_at rows (and_parts (is_sound_if_fixed r.signature) _ all).1 i
 
-module _ (opens : (s : List Alternative) → IsTrue (is_sound s) → IsOpen s) (b : List ℕ) (r : Bool) where
-  told : (s : BuiltIn) → IsTrue (is_sound_if_fixed s) → Tells s b r → IsTrue r ↔ Reachable (IsAccepted s) b
+module _ (opens : (s : List Alternative) → IsTrue (is_sound s) → MayBecomeIsExact s) (b : List ℕ) (r : Bool) where
+  told : (s : BuiltIn) → IsTrue (is_sound_if_fixed s) → TellsMayBecome s b r → IsTrue r ↔ MayBecome (IsAccepted s) b
   told (fixed alternatives) sound same = let open_it = opens alternatives sound b in (λ t. open_it.0 (sym same ∙ t), λ h. same ∙ open_it.1 h)
   told pdf sound h = h
   told (matroska doc_type) sound h = h
@@ -73,11 +73,11 @@ module _ (opens : (s : List Alternative) → IsTrue (is_sound s) → IsOpen s) (
   told html sound h = h
   told xml sound h = h
 
-  pub told_of_row : (i : ℕ) → Tells (signature_of i) b r → IsTrue r ↔ Reachable (IsAccepted (signature_of i)) b
+  pub told_of_row : (i : ℕ) → TellsMayBecome (signature_of i) b r → IsTrue r ↔ MayBecome (IsAccepted (signature_of i)) b
   unfolding signature_of
   told_of_row i = told (signature_of i) (sound_at table rows_sound i)
 
-pub open_signatures : ((s : List Alternative) → IsTrue (is_sound s) → IsOpen s) → All IsToldExactly signatures
+pub open_signatures : ((s : List Alternative) → IsTrue (is_sound s) → MayBecomeIsExact s) → All IsToldExactly signatures
 open_signatures opens i d lt b r = told opens b r (get_or signatures i d) (AllPass-from_list_all is_sound_if_fixed signatures all_sound i d lt)
 
 -- ---- the first row that may accept
@@ -102,11 +102,11 @@ not_unanswered : {A : Type 0} (P : A → Type 0) (xs : List A) → ¬ ((o : Opti
 not_unanswered P xs none = none None (none_first P xs none (length xs) (le_refl (length xs)))
 
 module _ (lasts : (s : BuiltIn) → Lasts s) (b : List ℕ) where
-  pub decided_if_none : IsFirstOf (MayAccept b) table None → IsDecided b
+  pub decided_if_none : IsFirstOf (MayBecomeRow b) table None → IsDecided b
   decided_if_none none =
       (decided_by_rows lasts b None (λ k d low lt a. none k d low lt (may_accept_now lasts b (get_or table k d) a))).1 none
 
-  module _ (i : ℕ) (first : IsFirst (MayAccept b) table i) where
+  module _ (i : ℕ) (first : IsFirst (MayBecomeRow b) table i) where
     decided_if_accepted : RowHas (Accepts b) i → IsDecided b
     decided_if_accepted here =
         let now : IsFirst (Accepts b) table i = record {
@@ -160,7 +160,7 @@ empty_changes blank [] none =
 
 -- the first of the candidates that may accept the buffer is the first row of the table that may
 pub first_open_row : ((s : BuiltIn) → Leads s) → (b cs : List ℕ) (o : Option ℕ) → 0 < length b → cs ≡ candidates_of b
-    → IsFirstAmong (RowHas (MayAccept b)) cs o → IsFirstOf (MayAccept b) table o
+    → IsFirstAmong (RowHas (MayBecomeRow b)) cs o → IsFirstOf (MayBecomeRow b) table o
 unfolding candidates
 first_open_row leads h1 cs o long same h = grind (arith, first_listed, allows_first)
 
@@ -206,7 +206,7 @@ module _ (lasts : (s : BuiltIn) → Lasts s) where
   pub answers_open : AnswersAreOpen
   answers_open b i h2 = grind arith
 
-  module _ (b : List ℕ) (i : ℕ) (first : IsFirst (MayAccept b) table i) where
+  module _ (b : List ℕ) (i : ℕ) (first : IsFirst (MayBecomeRow b) table i) where
     pub changes_by_first : (¬ RowHas (Accepts b) i) → IsChangeable b
     changes_by_first not =
         let comes = first_open_comes b i first in (
@@ -221,7 +221,7 @@ module _ (lasts : (s : BuiltIn) → Lasts s) where
     pub decided_with_first : CanBeDecided b
     decided_with_first =
         let comes = first_open_comes b i first in
-        let none : AllWithin (λ r. ¬ MayAccept (b ++ comes.0) r) table 0 i = λ k d low lt may. first.before k d low lt (narrows b comes.0 (get_or table k d) comes.1 may) in
+        let none : AllWithin (λ r. ¬ MayBecomeRow (b ++ comes.0) r) table 0 i = λ k d low lt may. first.before k d low lt (narrows b comes.0 (get_or table k d) comes.1 may) in
         (comes.0, comes.1, (decided_by_rows lasts (b ++ comes.0) (Some i) comes.2).1 none)
 
 pub decided_itself : (b : List ℕ) → IsDecided b → CanBeDecided b

@@ -13,10 +13,10 @@ use Rattle.infer_deep.specs.Frames.{IsFrame, IsFramed}
 use Rattle.infer_deep.specs.Joined.{SkipsTo}
 use Rattle.infer_deep.specs.Numbers.{le16, le32, be32}
 use Rattle.infer_deep.specs.Open.{are_bytes}
-use Rattle.infer_deep.specs.Signatures.{Reachable}
+use Rattle.infer_deep.specs.Signatures.{MayBecome}
 use Rattle.infer_deep.specs.Text.{IsHtml, IsMark, IsSpace, IsWhite, IsXml}
 use Rattle.infer_deep.proofs.OpenLemmas.{bytes_from_test}
-use Rattle.infer.proofs.Common.{is_sound, Alternative, stands, BuiltIn, fixed, avif, doc, framed, heif, html, matroska, office, pdf, ppt, xls, xml, IsAccepted, AllowsExactly, MayAccept, Leads, allows_first, Row, sample_of, signature_of, table, ROW_COUNT}
+use Rattle.infer.proofs.Common.{is_sound, Alternative, stands, BuiltIn, fixed, avif, doc, framed, heif, html, matroska, office, pdf, ppt, xls, xml, IsAccepted, AllowsExactly, MayBecomeRow, Leads, allows_first, Row, sample_of, signature_of, table, ROW_COUNT}
 use Rattle.infer_sig.specs.Open as Fixed
 use Rattle.infer.proofs.CandidateLemmas.{read_has}
 use Rattle.infer.proofs.DecisionLemmas.{known, spaced_html, spaced_xml, stands_whole}
@@ -27,7 +27,7 @@ use Rattle.infer.proofs.TableLemmas.{length-table}
 use Rattle.infer.proofs.TestLemmas.{NoneRefused, passed}
 
 abbrev Begins : BuiltIn → Type 0
-Begins s = (f : ℕ) → f < 256 → IsTrue (allows_first s f) → Reachable (IsAccepted s) (f ∷ [])
+Begins s = (f : ℕ) → f < 256 → IsTrue (allows_first s f) → MayBecome (IsAccepted s) (f ∷ [])
 
 -- where one byte alone is allowed, by a buffer that begins with it
 by_sample : (s : BuiltIn) (first : ℕ) (rest : List ℕ) → IsTrue (are_bytes rest) → IsAccepted s (first ∷ rest)
@@ -173,12 +173,12 @@ module _ (by_place : ByPlace) (begins : (s : List Alternative) → IsTrue (is_so
   row_begins i lt = proof_of (known_begins (signature_of i)) (passed (λ j. is_proved (known_begins (signature_of j))) ROW_COUNT 8 all_begin (omega arith) i lt)
 
   may_accept_first : (f : ℕ) → f < 256 → (o : Option (Row BuiltIn)) → Begins (option_map_or (λ r. r.signature) o (fixed []))
-      → MatchOption o ⊥ (λ r. IsTrue (allows_first r.signature f)) → MatchOption o ⊥ (MayAccept (f ∷ []))
+      → MatchOption o ⊥ (λ r. IsTrue (allows_first r.signature f)) → MatchOption o ⊥ (MayBecomeRow (f ∷ []))
   may_accept_first f lt None begins_so h = h
   may_accept_first f lt (Some r) begins_so h = begins_so f lt h
 
   allows_what_comes : ((s : BuiltIn) → Leads s) → (f : ℕ) (o : Option (Row BuiltIn))
-      → MatchOption o ⊥ (MayAccept (f ∷ [])) → MatchOption o ⊥ (λ r. IsTrue (allows_first r.signature f))
+      → MatchOption o ⊥ (MayBecomeRow (f ∷ [])) → MatchOption o ⊥ (λ r. IsTrue (allows_first r.signature f))
   allows_what_comes leads f h2 h3 = grind (arith, nat_tests)
 
   pub allows_exactly : ((s : BuiltIn) → Leads s) → AllowsExactly

@@ -10,7 +10,7 @@ use Rattle.std.proofs.lemmas.List.Elements.{filter_more}
 use Rattle.std.proofs.lemmas.List.Folds.{none_from_all_within}
 use Rattle.infer.proofs.Common.{BuiltIn, NoneHas, SomeHas, Leads, candidates_of, number_of, IsAsked, Row, Accepts, HoldAsked, ListSlots, rows_in, slot_of, table, IsFirstAmong, RowHas, is_listed, Triple, ROW_COUNT}
 use Rattle.infer.specs.declared.table.rows.RowName.{RowName}
-use Rattle.infer.proofs.AskLemmas.{asked_up_to, candidates_placed, filtered_alike, first_moved, listed_row, may_take, none_among, room_left}
+use Rattle.infer.proofs.AskLemmas.{asked_up_to, candidates_numbered, filtered_alike, first_moved, listed_row, may_take, none_among, room_left}
 use Rattle.infer.proofs.CandidateLemmas.{first_listed, read_has}
 use Rattle.infer.proofs.ListLemmas.{HoldsAt-read, SomeHas-map, SomeHas-from_map}
 use Rattle.infer.proofs.OrderLemmas.{some_row}
@@ -70,7 +70,7 @@ module _ (leads : (s : BuiltIn) → Leads s) (blank : NoneHas (Accepts []) table
   pub accepted_listed : (i : ℕ) → RowHas (Accepts b) i → IsTrue (is_listed (candidates_of b) i)
   accepted_listed i h =
       let at = (read_has (Accepts b) table i).0 h in
-      ap (λ cs. is_listed cs i) (sym (candidates_placed b)) ∙ listed_row (may_take b) table i some_row at.0 ∙ accepted_may_take leads blank b some_row i at.0 at.1
+      ap (λ cs. is_listed cs i) (sym (candidates_numbered b)) ∙ listed_row (may_take b) table i some_row at.0 ∙ accepted_may_take leads blank b some_row i at.0 at.1
 
 alike : (t low w listed may : Bool) → listed ≡ may → (IsTrue w → IsTrue t) → (t && (low && (w && listed))) ≡ (may && (low && w))
 alike t low w listed may e h = grind (arith, cases_Bool t, cases_Bool low, cases_Bool w, cases_Bool may)
@@ -97,11 +97,11 @@ module _ (text : List ℕ) (named : List ℕ) (e : named ≡ text) (rows : List 
   pub slot_first : ((s : BuiltIn) → Leads s) → NoneHas (Accepts []) table → (o : Option ℕ)
       → IsFirstAmong (RowHas (TakesText text b)) rows o → IsFirstAmong (RowHas (TakesText text b)) (candidates_of b) o
   unfolding HoldAsked
-  slot_first leads blank o first = grind (arith, candidates_placed, first_moved, may_take, read_has, accepted_may_take)
+  slot_first leads blank o first = grind (arith, candidates_numbered, first_moved, may_take, read_has, accepted_may_take)
 
   asked_alike : (low : ℕ → Bool) → filter (λ i. low i && is_walked text b i) rows ≡ filter (λ i. low i && has_extension text i) (candidates_of b)
   unfolding HoldAsked
-  asked_alike low = grind (arith, filtered_alike, may_take, is_listed, candidates_of, candidates_placed, listed_row, extension_read)
+  asked_alike low = grind (arith, filtered_alike, may_take, is_listed, candidates_of, candidates_numbered, listed_row, extension_read)
 
   -- those asked up to one of the rows, and in the end
   pub slot_asked : (k d : ℕ) → k < length rows

@@ -29,13 +29,13 @@ abbrev pub Leads : BuiltIn → Type 0
 Leads s = (f : ℕ) (rest : List ℕ) → IsAccepted s (f ∷ rest) → IsTrue (allows_first s f)
 
 -- the indices from i on of the elements that pass the test, ascending
-abbrev pub places_from : {A : Type 0} → (A → Bool) → ℕ → List A → List ℕ
-places_from test i [] = []
-places_from test i (x ∷ xs) = if test x then i ∷ places_from test (suc i) xs else places_from test (suc i) xs
+abbrev pub numbers_from : {A : Type 0} → (A → Bool) → ℕ → List A → List ℕ
+numbers_from test i [] = []
+numbers_from test i (x ∷ xs) = if test x then i ∷ numbers_from test (suc i) xs else numbers_from test (suc i) xs
 
 -- the numbers of the rows whose signature allows the first byte f, ascending
 unfoldable pub candidates : ℕ → List ℕ
-candidates f = places_from (λ r. allows_first r.signature f) 0 table
+candidates f = numbers_from (λ r. allows_first r.signature f) 0 table
 
 -- the numbers of the rows that can accept the buffer: the candidates of its first byte, and none of the empty one
 abbrev pub candidates_of : List ℕ → List ℕ

@@ -2,7 +2,7 @@
 use Rattle.std.specs.Prelude.{◌≡◌, ◌<◌, ◌+◌, ◌*◌, ◌/◌, ◌%◌, ◌==◌, ℕ, Bool, IsTrue, List, [], ◌∷◌, get_or, length, map}
 use denote.Ref.{Bor}
 use Rattle.infer.specs.BuiltIn.{BuiltIn}
-use Rattle.infer.specs.Leads.{places_from}
+use Rattle.infer.specs.Leads.{numbers_from}
 use Rattle.infer.specs.Listed.{number_of}
 use Rattle.infer.specs.Questions.{IsAsked}
 use Rattle.infer.specs.Row.{Row}
@@ -24,7 +24,7 @@ mime_type_of r = r.shows.mime_type
 
 -- the numbers of the rows whose text has the slot, ascending
 unfoldable pub rows_in : (Row BuiltIn → List ℕ) → ℕ → List ℕ
-rows_in text_of slot = places_from (λ r. slot_of (text_of r) == slot) 0 table
+rows_in text_of slot = numbers_from (λ r. slot_of (text_of r) == slot) 0 table
 
 -- the lists of the rows, slot by slot
 unfoldable pub ListSlots : (Row BuiltIn → List ℕ) → List (Bor (List RowName)) → Type 0
@@ -32,4 +32,4 @@ ListSlots text_of lists = (slot : ℕ) (d : Bor (List RowName)) → slot < 128 �
 
 -- the numbers of some rows, ascending, among which are all that are asked for
 unfoldable pub HoldAsked : (Triple → Type 0) → List ℕ → Type 0
-HoldAsked asked rows = (test : Row BuiltIn → Bool) × (rows ≡ places_from test 0 table) × ((r : Row BuiltIn) → IsAsked asked r → IsTrue (test r))
+HoldAsked asked rows = (test : Row BuiltIn → Bool) × (rows ≡ numbers_from test 0 table) × ((r : Row BuiltIn) → IsAsked asked r → IsTrue (test r))

@@ -1,6 +1,6 @@
 //! What more bytes can change of an answer.
 ghost use Rattle.std.specs.Prelude.{◌↔◌, ◌<◌, IsFalse, IsTrue, length};
-ghost use Rattle.infer.specs.Decided.{CanBeDecided, IsChangeable, IsDecided, MayAccept};
+ghost use Rattle.infer.specs.Decided.{CanBeDecided, IsChangeable, IsDecided, MayBecomeRow};
 ghost use Rattle.infer.specs.Listed.{row_listed};
 ghost use Rattle.infer.specs.Walks.{IsFirstAmong, RowHas};
 
@@ -33,28 +33,28 @@ pub fn is_decided(buf: &[u8]) -> bool
 
 /// The first of the rows that may still accept `buf`.
 fn first_open(rows: &[usize], buf: &[u8]) -> Option<usize>
-    ensures { IsFirstAmong (RowHas (MayAccept buf.now)) rows.now result }
+    ensures { IsFirstAmong (RowHas (MayBecomeRow buf.now)) rows.now result }
 {
-    let may_accept = |row: &&usize| -> bool
-        ensures { IsTrue result ↔ RowHas (MayAccept buf.entry.now) row.now.now }
+    let may_become_row = |row: &&usize| -> bool
+        ensures { IsTrue result ↔ RowHas (MayBecomeRow buf.entry.now) row.now.now }
     { may_become(buf, **row) };
-    rows.iter().find(may_accept).copied()
+    rows.iter().find(may_become_row).copied()
 }
 
 /// Whether some bytes after `buf` make row `row` accept it. From `ROW_COUNT` on there is no row, and no bytes do.
 #[inline(always)]
 pub fn may_become(buf: &[u8], row: usize) -> bool
-    ensures { IsTrue result ↔ RowHas (MayAccept buf.now) row }
+    ensures { IsTrue result ↔ RowHas (MayBecomeRow buf.now) row }
 {
     match rows().get(row) {
-        Some(row) => may_accept(row, buf),
+        Some(row) => may_become_row(row, buf),
         None => false,
     }
 }
 
 #[inline(always)]
-fn may_accept(row: &BuiltInRow, buf: &[u8]) -> bool
-    ensures { IsTrue result ↔ MayAccept buf.now (row_listed row.now) }
+fn may_become_row(row: &BuiltInRow, buf: &[u8]) -> bool
+    ensures { IsTrue result ↔ MayBecomeRow buf.now (row_listed row.now) }
 {
     infer_sig::laws::open();
     may_become_named(row.row, buf)

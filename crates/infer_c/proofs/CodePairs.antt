@@ -2,7 +2,7 @@
 use Rattle.infer.proofs.Common.{◌≡◌, ◌<◌, ◌++◌, zero, pos, negsuc, [], ◌∷◌, None, Some, length, get_or, refl, ap, codes, arith, inl, ⊎_elim, table, stands, All-cons, All-nil}
 use Rattle.infer.specs.declared.table.file_type.MatcherType.TheVariants.{App, Image}
 use Rattle.infer.specs.declared.table.rows.TheConstants.{DLL, PDF, WASM}
-use Rattle.infer_c.specs.Codes.{IsClassOf, IsSample, IsSampleOf, MayAcceptAt, class_code, class_name, row_code, triple_at}
+use Rattle.infer_c.specs.Codes.{IsClassOf, IsSample, IsSampleOf, MayBecomeAt, class_code, class_name, row_code, triple_at}
 use Rattle.infer_c.specs.Written.{WritesText, WritesWhole}
 use Rattle.infer_more.specs.Table.{further}
 use Rattle.infer_more.specs.Wider.{shown}
@@ -29,9 +29,9 @@ IsSample_pair = (inl refl, λ h. ⊎_elim (λ e. omega (arith, e)) (λ i. ⊎_el
 pub IsSampleOf_pair : IsSampleOf (negsuc 0) None × (¬ IsSampleOf (negsuc 0) (Some []))
 IsSampleOf_pair = (refl, λ e. absurd (cc))
 
-pub MayAcceptAt_pair : MayAcceptAt (0x00 ∷ codes "asm" ++ 0x01 ∷ 0x00 ∷ 0x00 ∷ []) (pos WASM) × (¬ MayAcceptAt (0x00 ∷ codes "asm" ++ 0x01 ∷ 0x00 ∷ 0x00 ∷ []) (negsuc 0))
+pub MayBecomeAt_pair : MayBecomeAt (0x00 ∷ codes "asm" ++ 0x01 ∷ 0x00 ∷ 0x00 ∷ []) (pos WASM) × (¬ MayBecomeAt (0x00 ∷ codes "asm" ++ 0x01 ∷ 0x00 ∷ 0x00 ∷ []) (negsuc 0))
 unfolding table stands
-MayAcceptAt_pair = ((0x00 ∷ [], All-cons (λ x. x < 256) 0x00 [] (omega arith) (All-nil (λ x. x < 256)), refl), λ h. h)
+MayBecomeAt_pair = ((0x00 ∷ [], All-cons (λ x. x < 256) 0x00 [] (omega arith) (All-nil (λ x. x < 256)), refl), λ h. h)
 
 pub WritesWhole_pair : WritesWhole (codes "ab") (codes "xyz") (codes "abz") × (¬ WritesWhole (codes "ab") (codes "x") (codes "a"))
 WritesWhole_pair = (record { fits = λ l. refl; short = λ l. absurd (omega (arith, l)) }, λ h. omega (arith, ap (λ b. get_or b 0 0) (h.short (omega arith))))

@@ -1,7 +1,7 @@
 -- What crosses to C: rows and classes as numbers.
 use Rattle.std.specs.Prelude.{◌≡◌, ◌⊎◌, ℕ, ℤ, pos, negsuc, List, Option, None, Some, codes}
 use Rattle.std.specs.List.{slice_get}
-use Rattle.infer.specs.Decided.{MayAccept}
+use Rattle.infer.specs.Decided.{MayBecomeRow}
 use Rattle.infer.specs.Triple.{Triple}
 use Rattle.infer.specs.Walks.{RowHas}
 use Rattle.infer.specs.declared.table.file_type.MatcherType.{MatcherType}
@@ -26,9 +26,9 @@ AcceptsAt b (pos i) = wider.AcceptsAt b i
 AcceptsAt b (negsuc i) = ⊥
 
 -- there is a built-in row with this number, and some bytes after the buffer make it accept
-abbrev pub MayAcceptAt : List ℕ → ℤ → Type 0
-MayAcceptAt b (pos i) = RowHas (MayAccept b) i
-MayAcceptAt b (negsuc i) = ⊥
+abbrev pub MayBecomeAt : List ℕ → ℤ → Type 0
+MayBecomeAt b (pos i) = RowHas (MayBecomeRow b) i
+MayBecomeAt b (negsuc i) = ⊥
 
 -- the sample of row i, built-in or further, and none if it has none
 abbrev pub IsSample : ℕ → Option (List ℕ) → Type 0

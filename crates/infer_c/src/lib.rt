@@ -14,7 +14,7 @@ ghost use Rattle.infer.specs.Table.{table};
 ghost use Rattle.infer.specs.Walks.{count_asked};
 ghost use Rattle.infer.specs.declared.table.rows.TheConstants.{MOST_CANDIDATES};
 ghost use Rattle.infer_sniff.specs.Verdicts.{IsSettled, RowStaysFinal};
-ghost use Rattle.infer_c.specs.Codes.{AcceptsAt, IsClassOf, IsSampleOf, MayAcceptAt, class_code, class_name, row_code, triple_at};
+ghost use Rattle.infer_c.specs.Codes.{AcceptsAt, IsClassOf, IsSampleOf, MayBecomeAt, class_code, class_name, row_code, triple_at};
 ghost use Rattle.infer_inside.specs.Text.{IsEncodingOf, encoding_name};
 ghost use Rattle.infer_inside.specs.declared.text.Encoding.{Encoding};
 ghost use Rattle.infer_more.specs.declared.samples.TheConstants.{SAMPLE_SIZE};
@@ -99,7 +99,7 @@ pub extern "C" fn infer_is_decided(buf: &[u8]) -> bool
 /// Whether there is a built-in row with this number, and some bytes after `buf` make it accept.
 #[unsafe(no_mangle)]
 pub extern "C" fn infer_may_become(buf: &[u8], row: i32) -> bool
-    ensures { IsTrue result ↔ MayAcceptAt buf.now row }
+    ensures { IsTrue result ↔ MayBecomeAt buf.now row }
 {
     row >= 0 && infer::may_become(buf, row as usize)
 }
@@ -136,7 +136,7 @@ pub extern "C" fn infer_more_is_decided(buf: &[u8]) -> bool
 /// accept it.
 #[unsafe(no_mangle)]
 pub extern "C" fn infer_more_may_become(buf: &[u8], row: i32) -> bool
-    ensures { IsTrue result ↔ ((i : ℕ) × (row ≡ pos i) × wider.MayAcceptAt buf.now i) }
+    ensures { IsTrue result ↔ ((i : ℕ) × (row ≡ pos i) × wider.MayBecomeAt buf.now i) }
 {
     row >= 0 && infer_more::may_become(buf, row as usize)
 }

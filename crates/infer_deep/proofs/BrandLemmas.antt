@@ -1,5 +1,5 @@
 -- Brands of a boxed file: they last, and only to an open box do more bytes bring them.
-use Rattle.infer_deep.proofs.Common.{◌≡◌, ◌⊎◌, Bool, false, ◌||◌, ◌↔◌, ℕ, ◌+◌, ◌-◌, ◌*◌, ◌/◌, ◌<◌, ◌≤◌, max, min, List, [], ◌∷◌, ◌++◌, length, refl, ap, sym, subst, ◌∙◌, inl, inr, arith, codes, length-append, append_assoc, IsTrue, All-append, cases_lt, or_cases, or_left, or_right, OccursAt, are_bytes, AgreesAt, Lasts, ComesWith, IsEarly, Reachable, box_length, IsBoxed, IsOpenBox, HasMajor, HasCompatible, MayHaveCompatible, IsHeif, IsAvif}
+use Rattle.infer_deep.proofs.Common.{◌≡◌, ◌⊎◌, Bool, false, ◌||◌, ◌↔◌, ℕ, ◌+◌, ◌-◌, ◌*◌, ◌/◌, ◌<◌, ◌≤◌, max, min, List, [], ◌∷◌, ◌++◌, length, refl, ap, sym, subst, ◌∙◌, inl, inr, arith, codes, length-append, append_assoc, IsTrue, All-append, cases_lt, or_cases, or_left, or_right, OccursAt, are_bytes, AgreesAt, Lasts, ComesWith, IsEarly, MayBecome, box_length, IsBoxed, IsOpenBox, HasMajor, HasCompatible, MayHaveCompatible, IsHeif, IsAvif}
 use Rattle.infer_deep.proofs.OpenLemmas.{IsBytes, Part, LieApart, AllAgree, AllStand, AllStand-append, agrees_none, agrees_past, agrees_where_stands, fills_parts, fills_text, grown_agrees, stands_where_whole}
 use Rattle.infer_deep.proofs.PlaceLemmas.{Carries, OccursAt-append, OccursAt-front}
 use Rattle.infer_deep.proofs.NumberLemmas.{be32-append}
@@ -101,13 +101,13 @@ boxing b xs end kind apart agree =
     }
 
 module _ (S : List ℕ → Type 0) (b : List ℕ) (kind : AgreesAt b ftyp 4) where
-  by_major : (brand : List ℕ) → IsTrue (are_bytes brand) → AgreesAt b brand 8 → ((c : List ℕ) → IsBoxed c → HasMajor brand c → S c) → Reachable S b
+  by_major : (brand : List ℕ) → IsTrue (are_bytes brand) → AgreesAt b brand 8 → ((c : List ℕ) → IsBoxed c → HasMajor brand c → S c) → MayBecome S b
   by_major brand bytes a is =
       let x = boxing b (record { place = 8; text = brand } ∷ []) (8 + length brand) kind (omega arith, bytes, omega arith) (a, tt) in
       (x.more, x.bytes, is (b ++ x.more) x.box x.stand.0)
 
   by_compatible : (major brand : List ℕ) → IsTrue (are_bytes major) → length major ≤ 8 → AgreesAt b major 8 → IsTrue (are_bytes brand) → 4 ≤ length b
-      → MayHaveCompatible brand b → ((c : List ℕ) → IsBoxed c → HasMajor major c → HasCompatible brand c → S c) → Reachable S b
+      → MayHaveCompatible brand b → ((c : List ℕ) → IsBoxed c → HasMajor major c → HasCompatible brand c → S c) → MayBecome S b
   by_compatible major brand major_bytes short m bytes long (k, l, a) is =
       let x = boxing b (record { place = 8; text = major } ∷ record { place = 16 + 4 * k; text = brand } ∷ []) (16 + 4 * k + length brand) kind
       (omega arith, major_bytes, (omega arith, bytes, omega arith)) (m, (a, tt)) in
@@ -123,7 +123,7 @@ MayBeHeif b =
     AgreesAt b (codes "heic") 8 ⊎ AgreesAt b (codes "heix") 8
     ⊎ ((AgreesAt b (codes "mif1") 8 ⊎ AgreesAt b (codes "msf1") 8) × MayHaveCompatible (codes "heic") b)
 
-pub heif_reached : (b : List ℕ) → AgreesAt b ftyp 4 → MayBeHeif b → Reachable IsHeif b
+pub heif_reached : (b : List ℕ) → AgreesAt b ftyp 4 → MayBeHeif b → MayBecome IsHeif b
 heif_reached b kind (inl a) = by_major IsHeif b kind (codes "heic") refl a (λ c box m. (box, inl m))
 heif_reached b kind (inr (inl a)) = by_major IsHeif b kind (codes "heix") refl a (λ c box m. (box, inr (inl m)))
 heif_reached b kind (inr (inr (major, compatible))) =
@@ -137,7 +137,7 @@ heif_reached b kind (inr (inr (major, compatible))) =
       ]
     ]
 
-pub heif_known : (b : List ℕ) → Reachable IsHeif b → AgreesAt b ftyp 4 × MayBeHeif b
+pub heif_known : (b : List ℕ) → MayBecome IsHeif b → AgreesAt b ftyp 4 × MayBeHeif b
 heif_known b (more, bytes, (box, h)) = (
   grown_agrees b more ftyp 4 box.kind,
   grind (
@@ -156,7 +156,7 @@ MayBeAvif b =
     AgreesAt b (codes "avif") 8 ⊎ AgreesAt b (codes "avis") 8
     ⊎ MayHaveCompatible (codes "avif") b ⊎ MayHaveCompatible (codes "avis") b
 
-pub avif_reached : (b : List ℕ) → AgreesAt b ftyp 4 → MayBeAvif b → Reachable IsAvif b
+pub avif_reached : (b : List ℕ) → AgreesAt b ftyp 4 → MayBeAvif b → MayBecome IsAvif b
 avif_reached b kind h =
     elim (cases_lt (length b) 4) [
       | inl l ↦ by_major IsAvif b kind (codes "avif") refl (agrees_past b (codes "avif") 8 (omega arith)) (λ c box m. (box, inl m))
@@ -170,7 +170,7 @@ avif_reached b kind h =
       ]
     ]
 
-pub avif_known : (b : List ℕ) → Reachable IsAvif b → AgreesAt b ftyp 4 × MayBeAvif b
+pub avif_known : (b : List ℕ) → MayBecome IsAvif b → AgreesAt b ftyp 4 × MayBeAvif b
 avif_known b (more, bytes, (box, h)) = (
   grown_agrees b more ftyp 4 box.kind,
   elim (cases_lt (length b) 4) [

@@ -1,6 +1,6 @@
 -- The root entry of a compound file lasts.
-use Rattle.infer_deep.proofs.Common.{IsTrue, ◌≡◌, ◌↔◌, ◌⊎◌, inl, inr, ℕ, ◌+◌, ◌*◌, ◌<◌, ◌≤◌, List, [], ◌∷◌, ◌++◌, length, refl, sym, ap, subst, ◌∙◌, arith, length-append, cases_lt, OccursAt, le16, le32, are_bytes, AgreesAt, get_or_append_left, Lasts, Reachable, BeginsRoot, IsRoot, HasClassId, MayHaveRoot, compound_header, format_3, format_4}
-use Rattle.infer_deep.proofs.OpenLemmas.{Reachable-grown, AgreesAt-later, agrees_past, bytes_from_test, fills_parts, grown_agrees}
+use Rattle.infer_deep.proofs.Common.{IsTrue, ◌≡◌, ◌↔◌, ◌⊎◌, inl, inr, ℕ, ◌+◌, ◌*◌, ◌<◌, ◌≤◌, List, [], ◌∷◌, ◌++◌, length, refl, sym, ap, subst, ◌∙◌, arith, length-append, cases_lt, OccursAt, le16, le32, are_bytes, AgreesAt, get_or_append_left, Lasts, MayBecome, BeginsRoot, IsRoot, HasClassId, MayHaveRoot, compound_header, format_3, format_4}
+use Rattle.infer_deep.proofs.OpenLemmas.{MayBecome-grown, AgreesAt-later, agrees_past, bytes_from_test, fills_parts, grown_agrees}
 use Rattle.infer_deep.proofs.NumberLemmas.{le16-append, le32-append}
 use Rattle.infer_deep.proofs.PlaceLemmas.{byte_stands, OccursAt-append, OccursAt-first}
 
@@ -32,7 +32,7 @@ module _ (version shift size : ℕ) (format_bytes : IsTrue (are_bytes (format_of
   root_past : (n : ℕ) → 512 ≤ (n + 1) * size
   root_past n = grind arith
 
-  root_reached : (id b : List ℕ) → IsTrue (are_bytes id) → length id ≡ 16 → AgreesAt b compound_header 0 → MayHaveRoot (format_of version shift) size id b → Reachable (HasClassId id) b
+  root_reached : (id b : List ℕ) → IsTrue (are_bytes id) → length id ≡ 16 → AgreesAt b compound_header 0 → MayHaveRoot (format_of version shift) size id b → MayBecome (HasClassId id) b
   root_reached id b bytes long header r =
       let f = fills_parts (record { place = 0; text = compound_header } ∷ record { place = 26; text = format_of version shift } ∷ []) b 0 52
       (omega arith, refl, (omega arith, format_bytes, omega arith))
@@ -53,7 +53,7 @@ module _ (version shift size : ℕ) (format_bytes : IsTrue (are_bytes (format_of
       let d = c ++ g.more in
       let numbers = numbers_of_format c version shift f.holds.1.0 in
       let long_c = f.long in
-      Reachable-grown (HasClassId id) b f.more f.bytes (
+      MayBecome-grown (HasClassId id) b f.more f.bytes (
         g.more,
         g.bytes,
         (
@@ -90,7 +90,7 @@ module _ (version shift size : ℕ) (format_bytes : IsTrue (are_bytes (format_of
       }
 
 pub class_id_reached : (id b : List ℕ) → IsTrue (are_bytes id) → length id ≡ 16
-    → (AgreesAt b compound_header 0 × (MayHaveRoot format_3 512 id b ⊎ MayHaveRoot format_4 4096 id b)) ↔ Reachable (HasClassId id) b
+    → (AgreesAt b compound_header 0 × (MayHaveRoot format_3 512 id b ⊎ MayHaveRoot format_4 4096 id b)) ↔ MayBecome (HasClassId id) b
 class_id_reached id b bytes long = (
   λ (header, h). elim h [
     | inl r ↦ root_reached 3 9 512 refl (omega arith) (λ d root x y z. inl (x, y, z)) id b bytes long header r

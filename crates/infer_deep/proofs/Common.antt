@@ -29,7 +29,7 @@ unfoldable pub use Rattle.infer_deep.specs.Numbers.{be32, le16, le32}
 pub use Rattle.infer_deep.specs.Office.{zip_header, DecidesBehind, HasFolder, HasOfficeName, IsDecidingHeader, IsDecidingPlace, IsHeaderFrom, IsOffice, IsThirdHeader, BeginsOffice, IsFolder, MayDecide, MayDecideBehind}
 pub use Rattle.infer_deep.specs.Open.{AgreesAt, are_bytes}
 pub use Rattle.infer_deep.specs.Places.{IsFirstWithin, IsWithin, IsFirstPlace, FindsPlace}
-pub use Rattle.infer_deep.specs.Signatures.{Reachable, Lasts, ComesWith, AreApart, IsEarly, IsNear}
+pub use Rattle.infer_deep.specs.Signatures.{MayBecome, Lasts, ComesWith, AreApart, IsEarly, IsNear}
 unfoldable pub use Rattle.infer_deep.specs.Text.{tags_with}
 pub use Rattle.infer_deep.specs.Text.{BeginsWithTag, IsMark, IsSpace, IsWhite, BeginsInAnyCase, BeginsMarked, BeginsWhite, IsHtml, IsSameInAnyCase, IsXml, tags}
 pub use Rattle.infer_deep.specs.Windows.{IsMatroska, IsPdf, StandsBy}

@@ -1,7 +1,7 @@
 -- Skippable frames: where one stands at the front, and what is data after them.
-use Rattle.infer_deep.proofs.Common.{◌≡◌, ◌↔◌, ℕ, ◌+◌, ◌-◌, ◌<◌, ◌≤◌, ◌⊎◌, inl, inr, List, [], ◌∷◌, ◌++◌, length, get_or, take, drop, refl, sym, ap, subst, ◌∙◌, arith, length-append, IsTrue, take_at, take_rest, take-append-drop, length-take-le, get_or_append_left, le32, cases_lt, are_bytes, AgreesAt, Lasts, ComesWith, AreApart, IsEarly, Reachable, nat_tests, SkipsTo, NoneBegins, BeginsWith, BeginsFrame, IsFrame, IsFramed, OccursAt}
+use Rattle.infer_deep.proofs.Common.{◌≡◌, ◌↔◌, ℕ, ◌+◌, ◌-◌, ◌<◌, ◌≤◌, ◌⊎◌, inl, inr, List, [], ◌∷◌, ◌++◌, length, get_or, take, drop, refl, sym, ap, subst, ◌∙◌, arith, length-append, IsTrue, take_at, take_rest, take-append-drop, length-take-le, get_or_append_left, le32, cases_lt, are_bytes, AgreesAt, Lasts, ComesWith, AreApart, IsEarly, MayBecome, nat_tests, SkipsTo, NoneBegins, BeginsWith, BeginsFrame, IsFrame, IsFramed, OccursAt}
 use Rattle.infer_deep.specs.Laws.{BeginApart}
-use Rattle.infer_deep.proofs.OpenLemmas.{Reachable-grown, agrees_none, agrees_past, agrees_where_stands, fills_parts, fills_text, grown_agrees, reaches_text}
+use Rattle.infer_deep.proofs.OpenLemmas.{MayBecome-grown, agrees_none, agrees_past, agrees_where_stands, fills_parts, fills_text, grown_agrees, reaches_text}
 use Rattle.infer_deep.proofs.PlaceLemmas.{byte_stands, OccursAt-append, OccursAt-agree, OccursAt-first, OccursAt-front}
 use Rattle.infer_deep.proofs.NumberLemmas.{le32-append}
 use Rattle.infer_deep.proofs.JoinedLemmas.{IsPrefixFree, Stops, WordsBegin, NoneBegins-first, Behind-lead, Behind-lasts, Behind-comes, Behind-left, Behind-trimmed, Behind-apart, Behind-open}
@@ -98,7 +98,7 @@ module _ (magic : List ℕ) (some : 0 < length magic) (low : get_or magic 0 0 < 
   IsFramed-trimmed = Behind-trimmed IsFrame (Stands magic) IsFrame-prefix_free stands_stops
 
   pub is_framed_open : IsTrue (are_bytes magic) → (b left : List ℕ) → SkipsTo IsFrame b left → NoneBegins IsFrame left
-      → (AgreesAt left magic 0 ⊎ Reachable IsFrame left) ↔ Reachable (IsFramed magic) b
+      → (AgreesAt left magic 0 ⊎ MayBecome IsFrame left) ↔ MayBecome (IsFramed magic) b
   is_framed_open bytes b left skips none =
       let reached = Behind-open IsFrame (Stands magic) IsFrame-prefix_free stands_stops
       ((reaches_text [] magic 0 bytes).0 (record { reads = λ k l m. absurd (omega arith) })) b left skips none in
@@ -118,10 +118,10 @@ IsFramed-apart v w (some_v, some_w, differ) low_v low_w b f =
 abbrev mark : List ℕ
 mark = 0x2A ∷ 0x4D ∷ 0x18 ∷ []
 
-pub frame_first : (b : List ℕ) → Reachable IsFrame b → 0 < length b → IsFrameByte (get_or b 0 0)
+pub frame_first : (b : List ℕ) → MayBecome IsFrame b → 0 < length b → IsFrameByte (get_or b 0 0)
 frame_first b (more, bytes, f) some = let first = get_or_append_left b more 0 0 some in grind (arith, f.begins)
 
-pub frame_mark : (b : List ℕ) → Reachable IsFrame b → AgreesAt b mark 1
+pub frame_mark : (b : List ℕ) → MayBecome IsFrame b → AgreesAt b mark 1
 frame_mark b (more, bytes, f) = grown_agrees b more mark 1 f.begins.mark
 
 -- and what agrees with it, and begins with no whole frame, more bytes can make one
@@ -145,7 +145,7 @@ within_frame b none begins =
       | inr l ↦ let w = frame_begins b (8 + le32 b 4) refl begins l in absurd (none w.word _ w.kind w.whole)
     ]
 
-pub frame_reached : (b : List ℕ) → NoneBegins IsFrame b → (0 < length b → IsFrameByte (get_or b 0 0)) → AgreesAt b mark 1 → Reachable IsFrame b
+pub frame_reached : (b : List ℕ) → NoneBegins IsFrame b → (0 < length b → IsFrameByte (get_or b 0 0)) → AgreesAt b mark 1 → MayBecome IsFrame b
 frame_reached b none first agrees =
     let x = first_byte b first in
     let f = fills_parts (record { place = 0; text = x.byte ∷ [] } ∷ record { place = 1; text = mark } ∷ []) b 0 8
@@ -158,7 +158,7 @@ frame_reached b none first agrees =
       | inr l ↦ omega (arith, f.short, le32-append b f.more 4, within_frame b none (front_begins b f.more (omega arith) begins))
     ] in
     let g = fills_text c [] (8 + le32 c 4) refl (agrees_none c (8 + le32 c 4)) in
-    Reachable-grown IsFrame b f.more f.bytes (
+    MayBecome-grown IsFrame b f.more f.bytes (
       g.more,
       g.bytes,
       record {

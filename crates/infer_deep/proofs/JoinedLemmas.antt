@@ -1,5 +1,5 @@
 -- Words joined: what is left after them is one, however it is found, and what holds of a buffer after them.
-use Rattle.infer_deep.proofs.Common.{◌≡◌, ◌↔◌, ℕ, zero, suc, ◌-◌, ◌<◌, ◌≤◌, ◌⊎◌, inl, inr, List, [], ◌∷◌, ◌++◌, length, get_or, take, drop, refl, sym, ap, subst, ◌∙◌, ◌+◌, arith, append_assoc, append_cancel_left, take-append-drop, take-append-le, take_at, take-append-add, cases_lt, All-append, All-take, front_reads, AllByRecursion, concat, repeat, OccursAt, SkipsTo, NoneBegins, BeginsWith, LeadsTo, Behind, Lasts, ComesWith, AreApart, Reachable}
+use Rattle.infer_deep.proofs.Common.{◌≡◌, ◌↔◌, ℕ, zero, suc, ◌-◌, ◌<◌, ◌≤◌, ◌⊎◌, inl, inr, List, [], ◌∷◌, ◌++◌, length, get_or, take, drop, refl, sym, ap, subst, ◌∙◌, ◌+◌, arith, append_assoc, append_cancel_left, take-append-drop, take-append-le, take_at, take-append-add, cases_lt, All-append, All-take, front_reads, AllByRecursion, concat, repeat, OccursAt, SkipsTo, NoneBegins, BeginsWith, LeadsTo, Behind, Lasts, ComesWith, AreApart, MayBecome}
 use Rattle.infer_deep.proofs.PlaceLemmas.{begins-from_OccursAt}
 use Rattle.infer_deep.proofs.OpenLemmas.{IsBytes}
 
@@ -79,7 +79,7 @@ module _ (P : List ℕ → Type 0) where
       elim (SkipsTo-begin x y u.words u.each u.whole) [ inl e ↦ e | inr (r, w) ↦ absurd (n w.word r w.kind w.whole) ]
 
   -- a word that a buffer begins once it grows, and not before, is one that it can become
-  word_reached : (b more rest : List ℕ) → NoneBegins P b → IsBytes more → BeginsWith P (b ++ more) rest → Reachable P b
+  word_reached : (b more rest : List ℕ) → NoneBegins P b → IsBytes more → BeginsWith P (b ++ more) rest → MayBecome P b
   word_reached b more rest none bytes w =
       let n = length w.word in
       elim (cases_lt n (length b)) [
@@ -144,8 +144,8 @@ module _ (P S : List ℕ → Type 0) where
     Behind-apart R stops_r apart b (rest, s, h) t = apart rest h ((Behind-left b rest s (stops_r rest h)).1 t)
 
     -- what is left can become S or another word just if the buffer can become so, provided that something is S
-    pub Behind-open : Reachable S [] → (b left : List ℕ) → SkipsTo P b left → NoneBegins P left
-        → (Reachable S left ⊎ Reachable P left) ↔ Reachable (Behind P S) b
+    pub Behind-open : MayBecome S [] → (b left : List ℕ) → SkipsTo P b left → NoneBegins P left
+        → (MayBecome S left ⊎ MayBecome P left) ↔ MayBecome (Behind P S) b
     Behind-open (some, some_bytes, is_some) b left skips none = (
       λ reach. elim reach [
         | inl (more, bytes, h) ↦ (more, bytes, (left ++ more, SkipsTo-append P b left more skips, h))

@@ -1,5 +1,5 @@
 -- What bytes after a buffer can bring: texts that agree with it as far as it goes.
-use Rattle.infer_deep.proofs.Common.{IsTrue, ◌≡◌, ◌⊎◌, ◌↔◌, ℕ, zero, suc, ◌+◌, ◌-◌, ◌<◌, ◌≤◌, inl, inr, Bool, true, List, [], ◌∷◌, ◌++◌, length, get_or, take, drop, max, min, refl, sym, ap, subst, ◌∙◌, arith, length-append, length-drop, append_assoc, get_or-append_right, lt-ltb, cases_lt, cases_order, ltb-true, append-nil, get_or_append_left, get_or-drop, length-replicate, All-append, All-drop, All-from_get_or, All-nil, All-replicate, take_rest, front_reads, front_from_reads, starts_is, Decides-eqb, AllPass-from_list_all, list_all-from_AllPass, starts_with, All, nat_eq, nat_lt, replicate, OccursAt, IsWithin, IsFirstPlace, are_bytes, AgreesAt, Reachable}
+use Rattle.infer_deep.proofs.Common.{IsTrue, ◌≡◌, ◌⊎◌, ◌↔◌, ℕ, zero, suc, ◌+◌, ◌-◌, ◌<◌, ◌≤◌, inl, inr, Bool, true, List, [], ◌∷◌, ◌++◌, length, get_or, take, drop, max, min, refl, sym, ap, subst, ◌∙◌, arith, length-append, length-drop, append_assoc, get_or-append_right, lt-ltb, cases_lt, cases_order, ltb-true, append-nil, get_or_append_left, get_or-drop, length-replicate, All-append, All-drop, All-from_get_or, All-nil, All-replicate, take_rest, front_reads, front_from_reads, starts_is, Decides-eqb, AllPass-from_list_all, list_all-from_AllPass, starts_with, All, nat_eq, nat_lt, replicate, OccursAt, IsWithin, IsFirstPlace, are_bytes, AgreesAt, MayBecome}
 use Rattle.infer_deep.proofs.PlaceLemmas.{OccursAt-append}
 
 abbrev pub IsBytes : List ℕ → Type 0
@@ -13,13 +13,13 @@ test_from_reads text h =
     list_all-from_AllPass (λ x. nat_lt x 256) text (λ k d l. lt-ltb _ 256 (All-from_get_or (λ x. x < 256) text 0 (λ i m. h i) k d l))
 
 -- what can be reached after some more bytes can be reached
-pub Reachable-grown : (S : List ℕ → Type 0) (b more : List ℕ) → IsBytes more → Reachable S (b ++ more) → Reachable S b
-Reachable-grown S b more bytes (rest, all, h) =
+pub MayBecome-grown : (S : List ℕ → Type 0) (b more : List ℕ) → IsBytes more → MayBecome S (b ++ more) → MayBecome S b
+MayBecome-grown S b more bytes (rest, all, h) =
     (more ++ rest, All-append (λ x. x < 256) more rest bytes all, subst S (append_assoc b more rest) h)
 
 -- and what is there
-pub Reachable-here : (S : List ℕ → Type 0) (b : List ℕ) → S b → Reachable S b
-Reachable-here S b h = ([], All-nil (λ x. x < 256), subst S (sym (append-nil b)) h)
+pub MayBecome-here : (S : List ℕ → Type 0) (b : List ℕ) → S b → MayBecome S b
+MayBecome-here S b h = ([], All-nil (λ x. x < 256), subst S (sym (append-nil b)) h)
 
 -- a text agrees where it stands, also in what b grows to
 pub agrees_where_stands : (b text : List ℕ) (p : ℕ) → OccursAt b text p → AgreesAt b text p
@@ -83,7 +83,7 @@ fills_text b text p bytes a = record {
   short = omega (arith, length-append b (missing p text (length b)), length-missing p text (length b));
 }
 
-pub reaches_text : (b text : List ℕ) (p : ℕ) → IsTrue (are_bytes text) → AgreesAt b text p ↔ Reachable (λ c. OccursAt c text p) b
+pub reaches_text : (b text : List ℕ) (p : ℕ) → IsTrue (are_bytes text) → AgreesAt b text p ↔ MayBecome (λ c. OccursAt c text p) b
 reaches_text b text p bytes = (
   λ a. let f = fills_text b text p bytes a in (f.more, f.bytes, f.holds),
   λ (more, all, o). grown_agrees b more text p o,

@@ -1,9 +1,9 @@
 -- Which documents of Office more bytes can make of a buffer.
-use Rattle.infer_deep.proofs.Common.{IsTrue, ◌≡◌, ◌↔◌, ◌⊎◌, inl, inr, ℕ, ◌+◌, ◌-◌, ◌<◌, ◌≤◌, List, [], ◌∷◌, ◌++◌, length, get_or, max, refl, sym, subst, ◌∙◌, arith, codes, length-append, get_or-append_right, cases_lt, length-replicate, get_or-replicate, All-replicate, replicate, OccursAt, le32, are_bytes, AgreesAt, Reachable, zip_header, IsFolder, HasFolder, HasOfficeName, IsHeaderFrom, IsThirdHeader, DecidesBehind, MayDecideBehind, MayDecide, IsDecidingHeader, IsOffice}
+use Rattle.infer_deep.proofs.Common.{IsTrue, ◌≡◌, ◌↔◌, ◌⊎◌, inl, inr, ℕ, ◌+◌, ◌-◌, ◌<◌, ◌≤◌, List, [], ◌∷◌, ◌++◌, length, get_or, max, refl, sym, subst, ◌∙◌, arith, codes, length-append, get_or-append_right, cases_lt, length-replicate, get_or-replicate, All-replicate, replicate, OccursAt, le32, are_bytes, AgreesAt, MayBecome, zip_header, IsFolder, HasFolder, HasOfficeName, IsHeaderFrom, IsThirdHeader, DecidesBehind, MayDecideBehind, MayDecide, IsDecidingHeader, IsOffice}
 use Rattle.infer_deep.proofs.NumberLemmas.{le32-append}
 use Rattle.infer_deep.proofs.PlaceLemmas.{IsFirstPlace-append, OccursAt-append, OccursAt-first, OccursAt-front}
 use Rattle.infer_deep.proofs.OfficeLemmas.{HasFolder-append, HasOfficeName-carried, IsThirdHeader-append, IsThirdHeader-one, grows, name_long, no_folder-append}
-use Rattle.infer_deep.proofs.OpenLemmas.{Fills, Reachable-grown, AgreesAt-later, IsFirstOpen-later, agrees_past, fills_first, fills_parts, fills_text, first_open, first_where_whole, grown_agrees, stands_where_whole}
+use Rattle.infer_deep.proofs.OpenLemmas.{Fills, MayBecome-grown, AgreesAt-later, IsFirstOpen-later, agrees_past, fills_first, fills_parts, fills_text, first_open, first_where_whole, grown_agrees, stands_where_whole}
 
 -- ---- folders and names
 
@@ -70,7 +70,7 @@ zeros_end c w n p k is slash free o =
 
 module _ (f : List ℕ) (is : IsFolder f) where
   -- the third header decides, or the fourth
-  third_reaches : (c : List ℕ) (third : ℕ) → Known c third → MayDecideBehind f c third → Reachable (IsOffice f) c
+  third_reaches : (c : List ℕ) (third : ℕ) → Known c third → MayDecideBehind f c third → MayBecome (IsOffice f) c
   third_reaches c third k (inl a) =
       let x = fills_text c f (third + 30) (folder_bytes f is) a in (
         x.more,
@@ -99,8 +99,8 @@ module _ (f : List ℕ) (is : IsFolder f) where
       let y = fills_text e f (fourth + 30) (folder_bytes f is) agrees in
       let known = Known-append e y.more third (Known-append d x.more third (Known-append c zeros third k)) in
       let free_end = no_folder-append e y.more (third + 30) (omega (arith, length-append d x.more)) free_e in
-      Reachable-grown (IsOffice f) c zeros (All-replicate (λ u. u < 256) n 0 (omega arith))
-      (Reachable-grown (IsOffice f) d x.more x.bytes (
+      MayBecome-grown (IsOffice f) c zeros (All-replicate (λ u. u < 256) n 0 (omega arith))
+      (MayBecome-grown (IsOffice f) d x.more x.bytes (
         y.more,
         y.bytes,
         is_office (e ++ y.more) f third fourth known
@@ -108,7 +108,7 @@ module _ (f : List ℕ) (is : IsFolder f) where
       ))
 
   -- the second and the third header are put where they may come to stand
-  headers_reach : (c : List ℕ) → OccursAt c zip_header 0 → HasOfficeName OccursAt c → MayDecide f c → Reachable (IsOffice f) c
+  headers_reach : (c : List ℕ) → OccursAt c zip_header 0 → HasOfficeName OccursAt c → MayDecide f c → MayBecome (IsOffice f) c
   headers_reach c zip name (third, t, behind) =
       let s = le32 c 18 + 49 in
       let second = t.second in
@@ -134,9 +134,9 @@ module _ (f : List ℕ) (is : IsFolder f) where
           third_found = y.holds;
         };
       } in
-      Reachable-grown (IsOffice f) c x.more x.bytes (Reachable-grown (IsOffice f) d y.more y.bytes (third_reaches e third known behind_e))
+      MayBecome-grown (IsOffice f) c x.more x.bytes (MayBecome-grown (IsOffice f) d y.more y.bytes (third_reaches e third known behind_e))
 
-  folder_reaches : (b : List ℕ) → AgreesAt b zip_header 0 → AgreesAt b f 30 → Reachable (IsOffice f) b
+  folder_reaches : (b : List ℕ) → AgreesAt b zip_header 0 → AgreesAt b f 30 → MayBecome (IsOffice f) b
   folder_reaches b zip a =
       let x = fills_parts (record { place = 0; text = zip_header } ∷ record { place = 30; text = f } ∷ []) b 0 (30 + length f)
       (omega arith, refl, (omega arith, folder_bytes f is, omega arith)) (zip, (a, tt)) in
@@ -154,7 +154,7 @@ module _ (f : List ℕ) (is : IsFolder f) where
       let x = fills_parts (record { place = 30; text = codes "docProps" } ∷ []) b 0 49 (omega arith, refl, omega arith) (a, tt) in
       record { more = x.more; bytes = x.bytes; holds = inr (inr x.holds.0); long = x.long; short = x.short }
 
-  pub office_reached : (b : List ℕ) → AgreesAt b zip_header 0 → AgreesAt b f 30 ⊎ (HasOfficeName AgreesAt b × MayDecide f b) → Reachable (IsOffice f) b
+  pub office_reached : (b : List ℕ) → AgreesAt b zip_header 0 → AgreesAt b f 30 ⊎ (HasOfficeName AgreesAt b × MayDecide f b) → MayBecome (IsOffice f) b
   office_reached b zip (inl a) = folder_reaches b zip a
   office_reached b zip (inr (name, (third, t, behind))) =
       elim (cases_lt 30 (length b)) [
@@ -172,7 +172,7 @@ module _ (f : List ℕ) (is : IsFolder f) where
                   (IsFirstOpen-later b x.more zip_header (le32 b 18 + 49) (le32 b 18 + 49 + 6000) 49 t.second x.short (omega arith) t.second_found);
               third_found = IsFirstOpen-later b x.more zip_header (t.second + 30) (t.second + 30 + 6000) 49 third x.short (omega arith) t.third_found;
             } in
-            Reachable-grown (IsOffice f) b x.more x.bytes
+            MayBecome-grown (IsOffice f) b x.more x.bytes
             (headers_reach c (OccursAt-append b x.more zip_header 0 (stands_where_whole b zip_header 0 (omega arith) zip)) x.holds
             (third, t_c, behind_later b x.more 49 x.short f third (omega arith) behind))
       ]
@@ -227,7 +227,7 @@ decide_known b more f header long d o =
 name_known : (b more : List ℕ) → HasOfficeName OccursAt (b ++ more) → HasOfficeName AgreesAt b
 name_known b more name = grind (arith, grown_agrees)
 
-pub office_known : (f b : List ℕ) → Reachable (IsOffice f) b → AgreesAt b zip_header 0 × (AgreesAt b f 30 ⊎ (HasOfficeName AgreesAt b × MayDecide f b))
+pub office_known : (f b : List ℕ) → MayBecome (IsOffice f) b → AgreesAt b zip_header 0 × (AgreesAt b f 30 ⊎ (HasOfficeName AgreesAt b × MayDecide f b))
 office_known f b (more, bytes, (p, (zip, inl (folder, e)), o)) = grind (arith, grown_agrees, zip_header)
 office_known f b (more, bytes, (p, (zip, inr (free, name, (header, d, e))), o)) = (
   grown_agrees b more zip_header 0 zip,

@@ -1,8 +1,8 @@
 -- White space, marks and tags: what a buffer begins with, and what is markup after them.
-use Rattle.infer_deep.proofs.Common.{◌≡◌, ◌↔◌, ℕ, suc, ◌+◌, ◌-◌, ◌<◌, ◌≤◌, ◌⊎◌, Bool, true, false, ◌&&◌, not, List, [], ◌∷◌, ◌++◌, length, get_or, take, drop, map, refl, sym, ap, subst, ◌∙◌, inl, inr, arith, eqb, ltb, length-append, min, IsTrue, take-append-drop, take_at, take_rest, get_or_append_left, get_or-take, get_or_at, take-append-le, drop_more, length-map, length-take-le, append_assoc, append-nil, map-append, take-map, take_all, All-append, All-drop, cases_lt, AllPass-from_list_all, eq-eqb, nat_tests, Any, codes, filter, OccursAt, AllBelow, are_bytes, AgreesAt, Lasts, AreApart, ComesWith, IsEarly, Reachable, Behind, SkipsTo, LeadsTo, NoneBegins, BeginsWith, IsWhite, IsSpace, IsMark, IsSameInAnyCase, BeginsInAnyCase, BeginsMarked, BeginsWhite, BeginsWithTag, IsHtml, IsXml, tags, tags_with}
+use Rattle.infer_deep.proofs.Common.{◌≡◌, ◌↔◌, ℕ, suc, ◌+◌, ◌-◌, ◌<◌, ◌≤◌, ◌⊎◌, Bool, true, false, ◌&&◌, not, List, [], ◌∷◌, ◌++◌, length, get_or, take, drop, map, refl, sym, ap, subst, ◌∙◌, inl, inr, arith, eqb, ltb, length-append, min, IsTrue, take-append-drop, take_at, take_rest, get_or_append_left, get_or-take, get_or_at, take-append-le, drop_more, length-map, length-take-le, append_assoc, append-nil, map-append, take-map, take_all, All-append, All-drop, cases_lt, AllPass-from_list_all, eq-eqb, nat_tests, Any, codes, filter, OccursAt, AllBelow, are_bytes, AgreesAt, Lasts, AreApart, ComesWith, IsEarly, MayBecome, Behind, SkipsTo, LeadsTo, NoneBegins, BeginsWith, IsWhite, IsSpace, IsMark, IsSameInAnyCase, BeginsInAnyCase, BeginsMarked, BeginsWhite, BeginsWithTag, IsHtml, IsXml, tags, tags_with}
 use Rattle.std.proofs.Math.ListN.{get_or-map}
 use Rattle.std.specs.Char.{to_ascii_lowercase}
-use Rattle.infer_deep.proofs.OpenLemmas.{Reachable-here, bytes_from_test, fills_text, grown_agrees, stands_where_whole}
+use Rattle.infer_deep.proofs.OpenLemmas.{MayBecome-here, bytes_from_test, fills_text, grown_agrees, stands_where_whole}
 use Rattle.infer_deep.proofs.JoinedLemmas.{IsPrefixFree, Stops, WordsBegin, begun-first, SkipsTo-none, SkipsTo-cons, NoneBegins-first, Behind-lead, Behind-lasts, Behind-comes, Behind-left, Behind-trimmed, Behind-apart, Behind-open}
 use Rattle.infer_deep.proofs.PlaceLemmas.{begins-from_OccursAt, OccursAt-begins, OccursAt-front}
 
@@ -294,7 +294,7 @@ same_filled b text n l is h =
     ∙ ap (map to_ascii_lowercase) (take-append-drop n text)
 
 module _ (b text : List ℕ) (n : ℕ) (is : n ≡ min (length b) (length text)) where
-  pub known_from_reached : Reachable (BeginsInAnyCase text) b → IsSameInAnyCase (take n b) (take n text)
+  pub known_from_reached : MayBecome (BeginsInAnyCase text) b → IsSameInAnyCase (take n b) (take n text)
   known_from_reached (more, bytes, h) =
       let long = same_length h.word text h.same in
       let front : take n b ≡ take n h.word
@@ -304,10 +304,10 @@ module _ (b text : List ℕ) (n : ℕ) (is : n ≡ min (length b) (length text))
   whole_from_known : length text < length b → IsSameInAnyCase (take n b) (take n text) → BeginsInAnyCase text b
   whole_from_known l h = grind (arith, nat_tests, begins_in_any_case, take_all)
 
-  pub reached_from_known : IsTrue (are_bytes text) → IsSameInAnyCase (take n b) (take n text) → Reachable (BeginsInAnyCase text) b
+  pub reached_from_known : IsTrue (are_bytes text) → IsSameInAnyCase (take n b) (take n text) → MayBecome (BeginsInAnyCase text) b
   reached_from_known bytes h =
       elim (cases_lt (length text) (length b)) [
-        | inl l ↦ Reachable-here (BeginsInAnyCase text) b (whole_from_known l h)
+        | inl l ↦ MayBecome-here (BeginsInAnyCase text) b (whole_from_known l h)
         | inr l ↦ (
           drop n text,
           All-drop (λ x. x < 256) n text (bytes_from_test text bytes),
@@ -321,10 +321,10 @@ module _ (b text : List ℕ) (n : ℕ) (is : n ≡ min (length b) (length text))
       ]
 
   tag_filled : IsTrue (are_bytes text) → IsSameInAnyCase (take n b) (take n text)
-      → (length text < length b → (get_or b (length text) 0 ≡ 0x20) ⊎ (get_or b (length text) 0 ≡ 0x3E)) → Reachable (BeginsWithTag text) b
+      → (length text < length b → (get_or b (length text) 0 ≡ 0x20) ⊎ (get_or b (length text) 0 ≡ 0x3E)) → MayBecome (BeginsWithTag text) b
   tag_filled bytes h closes =
       elim (cases_lt (length text) (length b)) [
-        | inl l ↦ Reachable-here (BeginsWithTag text) b (tag_from_text b text l (closes l) (whole_from_known l h))
+        | inl l ↦ MayBecome-here (BeginsWithTag text) b (tag_from_text b text l (closes l) (whole_from_known l h))
         | inr l ↦ (
           drop n text ++ 0x3E ∷ [],
           All-append (λ x. x < 256) (drop n text) (0x3E ∷ []) (All-drop (λ x. x < 256) n text (bytes_from_test text bytes)) (bytes_from_test (0x3E ∷ []) refl),
@@ -340,28 +340,28 @@ module _ (b text : List ℕ) (n : ℕ) (is : n ≡ min (length b) (length text))
       ]
 
 -- a tag can come where its text can, unless another byte follows it
-pub tag_reached : (b tag : List ℕ) → IsTrue (are_bytes tag) → Reachable (BeginsInAnyCase tag) b
-    → (length tag < length b → (get_or b (length tag) 0 ≡ 0x20) ⊎ (get_or b (length tag) 0 ≡ 0x3E)) → Reachable (BeginsWithTag tag) b
+pub tag_reached : (b tag : List ℕ) → IsTrue (are_bytes tag) → MayBecome (BeginsInAnyCase tag) b
+    → (length tag < length b → (get_or b (length tag) 0 ≡ 0x20) ⊎ (get_or b (length tag) 0 ≡ 0x3E)) → MayBecome (BeginsWithTag tag) b
 tag_reached b tag bytes h closes =
     let n = min (length b) (length tag) in tag_filled b tag n refl bytes (known_from_reached b tag n refl h) closes
 
-pub text_reached : (b tag : List ℕ) → Reachable (BeginsWithTag tag) b → Reachable (BeginsInAnyCase tag) b
+pub text_reached : (b tag : List ℕ) → MayBecome (BeginsWithTag tag) b → MayBecome (BeginsInAnyCase tag) b
 text_reached b tag (more, bytes, h) = (more, bytes, text_of_tag (b ++ more) tag h)
 
-pub tag_closed : (b tag : List ℕ) → Reachable (BeginsWithTag tag) b → length tag < length b
+pub tag_closed : (b tag : List ℕ) → MayBecome (BeginsWithTag tag) b → length tag < length b
     → (get_or b (length tag) 0 ≡ 0x20) ⊎ (get_or b (length tag) 0 ≡ 0x3E)
 tag_closed b tag (more, bytes, h) = tag_end b more tag h
 
-pub has_tag_reached : (b : List ℕ) → Any (λ tag. Reachable (BeginsWithTag tag) b) tags ↔ Reachable HasTag b
+pub has_tag_reached : (b : List ℕ) → Any (λ tag. MayBecome (BeginsWithTag tag) b) tags ↔ MayBecome HasTag b
 has_tag_reached b = grind (arith, nat_tests)
 
-pub reached_open : (b : List ℕ) → 0 < length b → Reachable HasTag b → get_or b 0 0 ≡ 0x3C
+pub reached_open : (b : List ℕ) → 0 < length b → MayBecome HasTag b → get_or b 0 0 ≡ 0x3C
 reached_open b some (more, bytes, h) = sym (get_or_append_left b more 0 0 some) ∙ HasTag-open (b ++ more) h
 
 pub HasTag-reached_second : (b : List ℕ) → 1 < length b
-    → Any (λ tag. Reachable (BeginsWithTag tag) b) (tags_with (to_ascii_lowercase (get_or b 1 0))) ↔ Reachable HasTag b
+    → Any (λ tag. MayBecome (BeginsWithTag tag) b) (tags_with (to_ascii_lowercase (get_or b 1 0))) ↔ MayBecome HasTag b
 HasTag-reached_second b l =
-    let second = Any-second (λ tag. Reachable (BeginsWithTag tag) b) (to_ascii_lowercase (get_or b 1 0))
+    let second = Any-second (λ tag. MayBecome (BeginsWithTag tag) b) (to_ascii_lowercase (get_or b 1 0))
     (λ tag (more, bytes, h) long.
     sym (BeginsInAnyCase-byte (b ++ more) tag 1 long (text_of_tag (b ++ more) tag h))
     ∙ ap to_ascii_lowercase (get_or_append_left b more 0 1 l)) in
@@ -369,46 +369,46 @@ HasTag-reached_second b l =
     (λ h. reached.0 (second.0 h), λ h. second.1 (reached.1 h))
 
 -- no more white space comes but to an empty rest
-no_space_comes : (b : List ℕ) → NoneBegins IsSpace b → Reachable IsSpace b → b ≡ []
+no_space_comes : (b : List ℕ) → NoneBegins IsSpace b → MayBecome IsSpace b → b ≡ []
 no_space_comes [] none h = refl
 no_space_comes (y ∷ ys) none (more, bytes, (x, white, e)) =
     absurd (none (y ∷ []) ys (x, white, let first : y ≡ x = (cc) in ap (λ u. u ∷ []) first) refl)
 
 -- and what can follow white space can come to it
-space_open : (S : List ℕ → Type 0) → Stops S IsSpace → Reachable S []
-    → (b text : List ℕ) → SkipsTo IsSpace b text → NoneBegins IsSpace text → Reachable S text ↔ Reachable (Behind IsSpace S) b
+space_open : (S : List ℕ → Type 0) → Stops S IsSpace → MayBecome S []
+    → (b text : List ℕ) → SkipsTo IsSpace b text → NoneBegins IsSpace text → MayBecome S text ↔ MayBecome (Behind IsSpace S) b
 space_open S stops some b text skips none =
     let both = Behind-open IsSpace S IsSpace-prefix_free stops some b text skips none in (
       λ h. both.0 (inl h),
-      λ h. elim (both.1 h) [ inl s ↦ s | inr w ↦ subst (Reachable S) (sym (no_space_comes text none w)) some ],
+      λ h. elim (both.1 h) [ inl s ↦ s | inr w ↦ subst (MayBecome S) (sym (no_space_comes text none w)) some ],
     )
 
-HasXml-some : Reachable HasXml []
+HasXml-some : MayBecome HasXml []
 HasXml-some = reached_from_known [] (codes "<?xml") 0 refl refl refl
 
-HasTag-some : Reachable HasTag []
+HasTag-some : MayBecome HasTag []
 HasTag-some =
     (has_tag_reached []).0 (15, codes "<P", omega arith, refl, tag_filled [] (codes "<P") 0 refl refl refl (λ l. absurd (omega arith)))
 
 -- every tag can come to its first byte
-pub HasTag-begun : (b : List ℕ) → length b < 2 → (0 < length b → get_or b 0 0 ≡ 0x3C) → Reachable HasTag b
+pub HasTag-begun : (b : List ℕ) → length b < 2 → (0 < length b → get_or b 0 0 ≡ 0x3C) → MayBecome HasTag b
 HasTag-begun [] l h = HasTag-some
 HasTag-begun (x ∷ []) l h =
     let p = codes "<P" in
     let tag = tag_filled (0x3C ∷ []) p 1 refl refl refl (λ m. absurd (omega (arith, m))) in
-    subst (λ y. Reachable HasTag (y ∷ [])) (sym (h (omega arith))) ((has_tag_reached (0x3C ∷ [])).0 (15, p, omega arith, refl, tag))
+    subst (λ y. MayBecome HasTag (y ∷ [])) (sym (h (omega arith))) ((has_tag_reached (0x3C ∷ [])).0 (15, p, omega arith, refl, tag))
 HasTag-begun (x ∷ y ∷ b) l h = absurd (omega (arith, l))
 
 IsMarkedXml-open : (text left : List ℕ) → SkipsTo IsMark text left → NoneBegins IsMark left
-    → (Reachable HasXml left ⊎ Reachable IsMark left) ↔ Reachable IsMarkedXml text
+    → (MayBecome HasXml left ⊎ MayBecome IsMark left) ↔ MayBecome IsMarkedXml text
 IsMarkedXml-open = Behind-open IsMark HasXml IsMark-prefix_free (λ b h. NoneBegins-mark b (HasXml-open b h)) HasXml-some
 
 module _ (b text : List ℕ) (skips : SkipsTo IsSpace b text) (none : NoneBegins IsSpace text) where
-  pub is_html_open : Reachable HasTag text ↔ Reachable IsHtml b
+  pub is_html_open : MayBecome HasTag text ↔ MayBecome IsHtml b
   is_html_open = space_open HasTag HasTag-stops HasTag-some b text skips none
 
   pub is_xml_open : (left : List ℕ) → SkipsTo IsMark text left → NoneBegins IsMark left
-      → (Reachable HasXml left ⊎ Reachable IsMark left) ↔ Reachable IsXml b
+      → (MayBecome HasXml left ⊎ MayBecome IsMark left) ↔ MayBecome IsXml b
   is_xml_open left marks ends =
       let unmarked = IsMarkedXml-open text left marks ends in
       let some = (IsMarkedXml-open [] [] (SkipsTo-none IsMark []) (NoneBegins-first IsMark IsMarkByte IsMark-begin [] (λ mark. omega arith))).0 (inl HasXml-some) in
@@ -416,7 +416,7 @@ module _ (b text : List ℕ) (skips : SkipsTo IsSpace b text) (none : NoneBegins
       (λ h. unspaced.0 (unmarked.0 h), λ x. unmarked.1 (unspaced.1 x))
 
 -- a mark that the end of the buffer cuts
-mark_reached : (b mark : List ℕ) → IsTrue (are_bytes mark) → IsMark mark → NoneBegins IsMark b → AgreesAt b mark 0 → Reachable IsMark b
+mark_reached : (b mark : List ℕ) → IsTrue (are_bytes mark) → IsMark mark → NoneBegins IsMark b → AgreesAt b mark 0 → MayBecome IsMark b
 mark_reached b mark bytes is none a =
     let cut : length b < length mark = elim (cases_lt (length b) (length mark)) [
       | inl l ↦ l
@@ -429,9 +429,9 @@ mark_reached b mark bytes is none a =
     = begins-from_OccursAt c mark f.holds ∙ ap (λ k. mark ++ take k (drop (length mark) c)) exact ∙ append-nil mark in
     (f.more, f.bytes, subst IsMark (sym same) is)
 
-agrees_with_mark : (b mark : List ℕ) → (x : Reachable (λ c. c ≡ mark) b) → AgreesAt b mark 0
+agrees_with_mark : (b mark : List ℕ) → (x : MayBecome (λ c. c ≡ mark) b) → AgreesAt b mark 0
 agrees_with_mark b mark (more, bytes, e) = grown_agrees b more mark 0 (OccursAt-begins (b ++ more) mark [] (e ∙ sym (append-nil mark)))
 
 pub reaches_mark : (b : List ℕ) → NoneBegins IsMark b
-    → (AgreesAt b (0xEF ∷ 0xBB ∷ 0xBF ∷ []) 0 ⊎ AgreesAt b (0xFE ∷ 0xFF ∷ []) 0 ⊎ AgreesAt b (0xFF ∷ 0xFE ∷ []) 0) ↔ Reachable IsMark b
+    → (AgreesAt b (0xEF ∷ 0xBB ∷ 0xBF ∷ []) 0 ⊎ AgreesAt b (0xFE ∷ 0xFF ∷ []) 0 ⊎ AgreesAt b (0xFF ∷ 0xFE ∷ []) 0) ↔ MayBecome IsMark b
 reaches_mark b none = grind (arith, nat_tests, mark_reached, agrees_with_mark)

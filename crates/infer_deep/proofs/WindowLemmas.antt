@@ -1,5 +1,5 @@
 -- Windows: they last, and the first 1024 bytes decide.
-use Rattle.infer_deep.proofs.Common.{IsTrue, ◌≡◌, ◌↔◌, ℕ, ◌+◌, ◌≤◌, List, [], ◌∷◌, ◌++◌, length, take, drop, max, refl, true, Option, Some, None, inl, inr, sym, subst, arith, length-append, take-append-drop, length-take-le, cases_lt, false≢true, is_some, OccursAt, IsFirstWithin, are_bytes, AgreesAt, Lasts, IsNear, Reachable, StandsBy, IsMatroska}
+use Rattle.infer_deep.proofs.Common.{IsTrue, ◌≡◌, ◌↔◌, ℕ, ◌+◌, ◌≤◌, List, [], ◌∷◌, ◌++◌, length, take, drop, max, refl, true, Option, Some, None, inl, inr, sym, subst, arith, length-append, take-append-drop, length-take-le, cases_lt, false≢true, is_some, OccursAt, IsFirstWithin, are_bytes, AgreesAt, Lasts, IsNear, MayBecome, StandsBy, IsMatroska}
 use Rattle.infer_deep.proofs.PlaceLemmas.{OccursAt-append, OccursAt-front}
 use Rattle.infer_deep.proofs.OpenLemmas.{agrees_past, grown_agrees, stands_where_whole, fills_text, fills_parts}
 
@@ -33,15 +33,15 @@ found_stands b text end None h = (λ is. absurd (false≢true is), λ (p, w). ab
 found_stands b text end (Some p) h = (λ is. (p, h.here), λ is. refl)
 
 -- a text can come to stand where it agrees, so it can after a buffer that leaves room for it
-pub reach_window : (text : List ℕ) (end : ℕ) (b : List ℕ) (p : ℕ) → IsTrue (are_bytes text) → p + length text ≤ end → AgreesAt b text p → Reachable (StandsBy text end) b
+pub reach_window : (text : List ℕ) (end : ℕ) (b : List ℕ) (p : ℕ) → IsTrue (are_bytes text) → p + length text ≤ end → AgreesAt b text p → MayBecome (StandsBy text end) b
 reach_window text end b p bytes high a =
     let f = fills_text b text p bytes a in (f.more, f.bytes, (p, record { stands = f.holds; low = omega arith; high = high }))
 
-pub room_reaches : (b text : List ℕ) (end : ℕ) → IsTrue (are_bytes text) → length b + length text ≤ end → Reachable (StandsBy text end) b
+pub room_reaches : (b text : List ℕ) (end : ℕ) → IsTrue (are_bytes text) → length b + length text ≤ end → MayBecome (StandsBy text end) b
 room_reaches b text end bytes room = reach_window text end b (length b) bytes room (agrees_past b text (length b) (omega arith))
 
 pub found_reaches : (b text : List ℕ) (end : ℕ) (r : Option ℕ) → IsTrue (are_bytes text)
-    → IsFirstWithin AgreesAt b text 0 end r → is_some r ≡ true ↔ Reachable (StandsBy text end) b
+    → IsFirstWithin AgreesAt b text 0 end r → is_some r ≡ true ↔ MayBecome (StandsBy text end) b
 found_reaches b text end None bytes none = (
   λ is. absurd (false≢true is),
   λ (more, all, (p, w)). absurd (none p (record { stands = grown_agrees b more text p w.stands; low = w.low; high = w.high })),
@@ -53,7 +53,7 @@ abbrev ebml : List ℕ
 ebml = 0x1A ∷ 0x45 ∷ 0xDF ∷ 0xA3 ∷ []
 
 pub matroska_reaches : (doc_type b : List ℕ) → IsTrue (are_bytes doc_type) → length doc_type ≤ 252
-    → (AgreesAt b ebml 0 × Reachable (StandsBy doc_type 256) b) ↔ Reachable (IsMatroska doc_type) b
+    → (AgreesAt b ebml 0 × MayBecome (StandsBy doc_type 256) b) ↔ MayBecome (IsMatroska doc_type) b
 matroska_reaches doc_type b bytes short = (
   λ (header, (more, all, (p, w))). elim (cases_lt 256 (length b + length doc_type)) [
     | inl full ↦

@@ -22,5 +22,5 @@ abbrev pub AreApart : (List ℕ → Type 0) → (List ℕ → Type 0) → Type 0
 AreApart S T = (b : List ℕ) → S b → ¬ T b
 
 -- some bytes after b make the signature accept it
-abbrev pub Reachable : (List ℕ → Type 0) → List ℕ → Type 0
-Reachable S b = (more : List ℕ) × All (λ x. x < 256) more × S (b ++ more)
+abbrev pub MayBecome : (List ℕ → Type 0) → List ℕ → Type 0
+MayBecome S b = (more : List ℕ) × All (λ x. x < 256) more × S (b ++ more)

@@ -2,7 +2,7 @@
 ghost use Rattle.std.specs.Prelude.{◌↔◌, ◌<◌, ◌≤◌, length, slice_index, IfSome, IsTrue, MatchOption};
 ghost use Rattle.infer_deep.specs.Joined.{BeginsWith, LeadsTo, NoneBegins, SkipsTo};
 ghost use Rattle.infer_deep.specs.Frames.{BeginsFrame, IsFrame, IsFramed, IsLz4, IsZst};
-ghost use Rattle.infer_deep.specs.Signatures.{Reachable};
+ghost use Rattle.infer_deep.specs.Signatures.{MayBecome};
 ghost use Rattle.infer_deep.specs.Windows.{IsPdf};
 
 use crate::numbers::le32;
@@ -21,7 +21,7 @@ pub fn is_pdf(buf: &[u8]) -> bool
 
 /// Whether some bytes after `buf` make it a PDF document.
 pub fn may_become_pdf(buf: &[u8]) -> bool
-    ensures { IsTrue result ↔ Reachable IsPdf buf.now }
+    ensures { IsTrue result ↔ MayBecome IsPdf buf.now }
 {
     may_stand_by(buf, b"%PDF", 0, 1024)
 }
@@ -42,14 +42,14 @@ pub fn is_lz4(buf: &[u8]) -> bool
 
 /// Whether some bytes after `buf` make it Zstandard.
 pub fn may_become_zst(buf: &[u8]) -> bool
-    ensures { IsTrue result ↔ Reachable IsZst buf.now }
+    ensures { IsTrue result ↔ MayBecome IsZst buf.now }
 {
     may_become_framed(buf, b"\x28\xB5\x2F\xFD")
 }
 
 /// Whether some bytes after `buf` make it LZ4.
 pub fn may_become_lz4(buf: &[u8]) -> bool
-    ensures { IsTrue result ↔ Reachable IsLz4 buf.now }
+    ensures { IsTrue result ↔ MayBecome IsLz4 buf.now }
 {
     may_become_framed(buf, b"\x04\x22\x4D\x18")
 }
@@ -75,7 +75,7 @@ fn is_framed(buf: &[u8], magic: &[u8; 4]) -> bool
 
 fn may_become_framed(buf: &[u8], magic: &[u8; 4]) -> bool
     requires { slice_index magic.now 0 < 0x50 }
-    ensures { IsTrue result ↔ Reachable (IsFramed magic.now) buf.now }
+    ensures { IsTrue result ↔ MayBecome (IsFramed magic.now) buf.now }
 {
     let rest = after_frames(buf);
     agrees_at(rest, magic, 0) || may_become_frame(rest)
@@ -84,7 +84,7 @@ fn may_become_framed(buf: &[u8], magic: &[u8; 4]) -> bool
 #[tactic(auto, using(crate::proofs::FrameLemmas::frame_first, crate::proofs::FrameLemmas::frame_mark, crate::proofs::FrameLemmas::frame_reached))]
 fn may_become_frame(buf: &[u8]) -> bool
     requires { NoneBegins IsFrame buf.now }
-    ensures { IsTrue result ↔ Reachable IsFrame buf.now }
+    ensures { IsTrue result ↔ MayBecome IsFrame buf.now }
 {
     if !buf.is_empty() && !(0x50..=0x5F).contains(&buf[0]) {
         return false;

@@ -3,7 +3,7 @@ ghost use Rattle.std.specs.Prelude.{◌≡◌, ◌↔◌, ◌+◌, ◌*◌, ◌<
 ghost use Rattle.infer_deep.specs.Numbers.{le32};
 ghost use Rattle.memchr.specs.Find.{OccursAt};
 ghost use Rattle.infer_deep.specs.Open.{AgreesAt};
-ghost use Rattle.infer_deep.specs.Signatures.{Reachable};
+ghost use Rattle.infer_deep.specs.Signatures.{MayBecome};
 ghost use Rattle.infer_deep.specs.Places.{FindsPlace, IsFirstWithin};
 ghost use Rattle.infer_deep.specs.ClassId.{HasClassId, IsDoc, IsPpt, IsRoot, IsXls, MayHaveRoot};
 ghost use Rattle.infer_deep.specs.Office.{HasFolder, HasOfficeName, IsDecidingHeader, IsDecidingPlace, IsDocx, IsFolder, IsOffice, IsThirdHeader, IsPptx, IsXlsx, MayDecide, zip_header};
@@ -70,21 +70,21 @@ pub fn is_pptx(buf: &[u8]) -> bool
 
 /// Whether some bytes after `buf` make it Word's binary document.
 pub fn may_become_doc(buf: &[u8]) -> bool
-    ensures { IsTrue result ↔ Reachable IsDoc buf.now }
+    ensures { IsTrue result ↔ MayBecome IsDoc buf.now }
 {
     may_have_class_id(buf, &WORD_ID)
 }
 
 /// Whether some bytes after `buf` make it Excel's binary workbook.
 pub fn may_become_xls(buf: &[u8]) -> bool
-    ensures { IsTrue result ↔ Reachable IsXls buf.now }
+    ensures { IsTrue result ↔ MayBecome IsXls buf.now }
 {
     may_have_class_id(buf, &OLD_EXCEL_ID) || may_have_class_id(buf, &EXCEL_ID)
 }
 
 /// Whether some bytes after `buf` make it PowerPoint's binary presentation.
 pub fn may_become_ppt(buf: &[u8]) -> bool
-    ensures { IsTrue result ↔ Reachable IsPpt buf.now }
+    ensures { IsTrue result ↔ MayBecome IsPpt buf.now }
 {
     may_have_class_id(buf, &POWERPOINT_ID)
 }
@@ -92,7 +92,7 @@ pub fn may_become_ppt(buf: &[u8]) -> bool
 /// Whether some bytes after `buf` make it a compound file whose root entry has this class id.
 #[tactic(auto, using(crate::proofs::OpenLemmas::test_from_reads, crate::proofs::ClassIdLemmas::class_id_reached))]
 pub fn may_have_class_id(buf: &[u8], id: &[u8; 16]) -> bool
-    ensures { IsTrue result ↔ Reachable (HasClassId id.now) buf.now }
+    ensures { IsTrue result ↔ MayBecome (HasClassId id.now) buf.now }
 {
     agrees_at(buf, b"\xD0\xCF\x11\xE0\xA1\xB1\x1A\xE1", 0)
         && (may_have_root(buf, b"\x03\0\xFE\xFF\x09\0", 512, id)
@@ -169,21 +169,21 @@ fn is_office<const N: usize>(buf: &[u8], folder: &[u8; N]) -> bool
 
 /// Whether some bytes after `buf` make it Word's document in a ZIP archive.
 pub fn may_become_docx(buf: &[u8]) -> bool
-    ensures { IsTrue result ↔ Reachable IsDocx buf.now }
+    ensures { IsTrue result ↔ MayBecome IsDocx buf.now }
 {
     may_become_office(buf, b"word/")
 }
 
 /// Whether some bytes after `buf` make it Excel's workbook in a ZIP archive.
 pub fn may_become_xlsx(buf: &[u8]) -> bool
-    ensures { IsTrue result ↔ Reachable IsXlsx buf.now }
+    ensures { IsTrue result ↔ MayBecome IsXlsx buf.now }
 {
     may_become_office(buf, b"xl/")
 }
 
 /// Whether some bytes after `buf` make it PowerPoint's presentation in a ZIP archive.
 pub fn may_become_pptx(buf: &[u8]) -> bool
-    ensures { IsTrue result ↔ Reachable IsPptx buf.now }
+    ensures { IsTrue result ↔ MayBecome IsPptx buf.now }
 {
     may_become_office(buf, b"ppt/")
 }
@@ -192,7 +192,7 @@ pub fn may_become_pptx(buf: &[u8]) -> bool
 #[inline(always)]
 fn may_become_office<const N: usize>(buf: &[u8], folder: &[u8; N]) -> bool
     requires { IsFolder folder.now }
-    ensures { IsTrue result ↔ Reachable (IsOffice folder.now) buf.now }
+    ensures { IsTrue result ↔ MayBecome (IsOffice folder.now) buf.now }
 {
     if !agrees_at(buf, b"PK\x03\x04", 0) {
         return false;

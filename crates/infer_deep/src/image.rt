@@ -3,7 +3,7 @@ ghost use Rattle.std.specs.Prelude.{◌↔◌, ◌+◌, ◌*◌, ◌≤◌, ◌�
 ghost use Rattle.memchr.specs.Find.{OccursAt};
 ghost use Rattle.infer_deep.specs.Brands.{HasCompatible, IsAvif, IsBoxed, IsHeif, MayHaveCompatible, box_length};
 ghost use Rattle.infer_deep.specs.Open.{AgreesAt};
-ghost use Rattle.infer_deep.specs.Signatures.{Reachable};
+ghost use Rattle.infer_deep.specs.Signatures.{MayBecome};
 
 use crate::numbers::be32;
 use crate::places::{agrees_at, same_at};
@@ -49,7 +49,7 @@ fn is_avif_box(buf: &[u8]) -> bool
 /// Whether some bytes after `buf` make it HEIF.
 #[inline(always)]
 pub fn may_become_heif(buf: &[u8]) -> bool
-    ensures { IsTrue result ↔ Reachable IsHeif buf.now }
+    ensures { IsTrue result ↔ MayBecome IsHeif buf.now }
 {
     agrees_at(buf, b"ftyp", 4) && may_become_heif_box(buf)
 }
@@ -57,7 +57,7 @@ pub fn may_become_heif(buf: &[u8]) -> bool
 #[tactic(auto, using(crate::proofs::BrandLemmas::heif_reached, crate::proofs::BrandLemmas::heif_known))]
 fn may_become_heif_box(buf: &[u8]) -> bool
     requires { AgreesAt buf.now (codes "ftyp") 4 }
-    ensures { IsTrue result ↔ Reachable IsHeif buf.now }
+    ensures { IsTrue result ↔ MayBecome IsHeif buf.now }
 {
     if agrees_at(buf, b"heic", 8) || agrees_at(buf, b"heix", 8) {
         return true;
@@ -68,7 +68,7 @@ fn may_become_heif_box(buf: &[u8]) -> bool
 /// Whether some bytes after `buf` make it AVIF.
 #[inline(always)]
 pub fn may_become_avif(buf: &[u8]) -> bool
-    ensures { IsTrue result ↔ Reachable IsAvif buf.now }
+    ensures { IsTrue result ↔ MayBecome IsAvif buf.now }
 {
     agrees_at(buf, b"ftyp", 4) && may_become_avif_box(buf)
 }
@@ -76,7 +76,7 @@ pub fn may_become_avif(buf: &[u8]) -> bool
 #[tactic(auto, using(crate::proofs::BrandLemmas::avif_reached, crate::proofs::BrandLemmas::avif_known))]
 fn may_become_avif_box(buf: &[u8]) -> bool
     requires { AgreesAt buf.now (codes "ftyp") 4 }
-    ensures { IsTrue result ↔ Reachable IsAvif buf.now }
+    ensures { IsTrue result ↔ MayBecome IsAvif buf.now }
 {
     if agrees_at(buf, b"avif", 8) || agrees_at(buf, b"avis", 8) {
         return true;

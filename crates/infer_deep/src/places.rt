@@ -5,7 +5,7 @@ ghost use Rattle.memchr.specs.Find.{OccursAt};
 ghost use Rattle.infer_deep.specs.Blocks.{LacksPair};
 ghost use Rattle.infer_deep.specs.Open.{AgreesAt, are_bytes};
 ghost use Rattle.infer_deep.specs.Places.{IsFirstWithin};
-ghost use Rattle.infer_deep.specs.Signatures.{Reachable};
+ghost use Rattle.infer_deep.specs.Signatures.{MayBecome};
 ghost use Rattle.infer_deep.specs.Windows.{StandsBy};
 
 use crate::numbers::{le16, le32};
@@ -224,7 +224,7 @@ pub(crate) fn may_stand_by<const N: usize>(
     requires pair { rare + 2 ≤ N }
     requires room { N ≤ end }
     requires bytes { IsTrue (are_bytes text.now) }
-    ensures { IsTrue result ↔ Reachable (StandsBy text.now end) buf.now }
+    ensures { IsTrue result ↔ MayBecome (StandsBy text.now end) buf.now }
 {
     buf.len() <= end - N || find_open(buf, text, rare, 0, end).is_some()
 }

@@ -5,7 +5,7 @@ ghost use Rattle.std.specs.Char.{to_ascii_lowercase};
 ghost use Rattle.infer_deep.specs.Blocks.{AllBelow};
 ghost use Rattle.infer_deep.specs.Joined.{BeginsWith, LeadsTo, NoneBegins, SkipsTo};
 ghost use Rattle.infer_deep.specs.Text.{BeginsInAnyCase, BeginsWithTag, IsHtml, IsMark, IsSpace, IsWhite, IsXml, tags_with};
-ghost use Rattle.infer_deep.specs.Signatures.{Reachable};
+ghost use Rattle.infer_deep.specs.Signatures.{MayBecome};
 
 use crate::places::{agrees_at, has_at};
 
@@ -45,7 +45,7 @@ pub fn is_xml(buf: &[u8]) -> bool
 
 /// Whether some bytes after `buf` make it HTML.
 pub fn may_become_html(buf: &[u8]) -> bool
-    ensures { IsTrue result ↔ Reachable IsHtml buf.now }
+    ensures { IsTrue result ↔ MayBecome IsHtml buf.now }
 {
     let text = trim_start_whitespaces(buf);
     if text.len() < 2 {
@@ -56,7 +56,7 @@ pub fn may_become_html(buf: &[u8]) -> bool
 
 /// Whether some bytes after `buf` make it XML.
 pub fn may_become_xml(buf: &[u8]) -> bool
-    ensures { IsTrue result ↔ Reachable IsXml buf.now }
+    ensures { IsTrue result ↔ MayBecome IsXml buf.now }
 {
     let text = trim_start_byte_order_marks(trim_start_whitespaces(buf));
     may_begin_in_any_case(text, b"<?xml") || may_become_mark(text)
@@ -257,7 +257,7 @@ fn after_mark(buf: &[u8]) -> Option<&[u8]>
 #[tactic(auto, using(crate::proofs::TextLemmas::reaches_mark))]
 fn may_become_mark(buf: &[u8]) -> bool
     requires { NoneBegins IsMark buf.now }
-    ensures { IsTrue result ↔ Reachable IsMark buf.now }
+    ensures { IsTrue result ↔ MayBecome IsMark buf.now }
 {
     agrees_at(buf, b"\xEF\xBB\xBF", 0)
         || agrees_at(buf, b"\xFE\xFF", 0)
@@ -295,14 +295,14 @@ fn begins_in_any_case(buf: &[u8], text: &[u8]) -> bool
 
 fn may_begin_some_tag(buf: &[u8], tags: &[&[u8]]) -> bool
     ensures { IsTrue result
-        ↔ Any (λ tag. Reachable (BeginsWithTag tag) buf.now) (map (λ t. t.now) tags.now) }
+        ↔ Any (λ tag. MayBecome (BeginsWithTag tag) buf.now) (map (λ t. t.now) tags.now) }
 {
     tags.iter().any(|tag| may_begin_tag(buf, tag))
 }
 
 #[tactic(auto, using(crate::proofs::TextLemmas::tag_reached, crate::proofs::TextLemmas::text_reached, crate::proofs::TextLemmas::tag_closed, crate::proofs::OpenLemmas::test_from_reads))]
 fn may_begin_tag(buf: &[u8], tag: &[u8]) -> bool
-    ensures { IsTrue result ↔ Reachable (BeginsWithTag tag.now) buf.now }
+    ensures { IsTrue result ↔ MayBecome (BeginsWithTag tag.now) buf.now }
 {
     if buf.len() > tag.len() && !closes_tag(buf[tag.len()]) {
         return false;
@@ -312,7 +312,7 @@ fn may_begin_tag(buf: &[u8], tag: &[u8]) -> bool
 
 #[tactic(auto, using(crate::proofs::TextLemmas::known_from_reached, crate::proofs::TextLemmas::reached_from_known, crate::proofs::OpenLemmas::test_from_reads))]
 fn may_begin_in_any_case(buf: &[u8], text: &[u8]) -> bool
-    ensures { IsTrue result ↔ Reachable (BeginsInAnyCase text.now) buf.now }
+    ensures { IsTrue result ↔ MayBecome (BeginsInAnyCase text.now) buf.now }
 {
     let known = buf.len().min(text.len());
     buf[..known].eq_ignore_ascii_case(&text[..known])

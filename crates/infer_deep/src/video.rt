@@ -1,7 +1,7 @@
 //! Videos.
 ghost use Rattle.std.specs.Prelude.{◌↔◌, ◌≤◌, IsTrue};
 ghost use Rattle.infer_deep.specs.Open.{are_bytes};
-ghost use Rattle.infer_deep.specs.Signatures.{Reachable};
+ghost use Rattle.infer_deep.specs.Signatures.{MayBecome};
 ghost use Rattle.infer_deep.specs.Windows.{IsMatroska, IsMkv, IsWebm};
 
 use crate::places::{agrees_at, has_at, may_stand_by, search};
@@ -33,14 +33,14 @@ fn is_matroska<const N: usize>(buf: &[u8], doc_type: &[u8; N]) -> bool
 
 /// Whether some bytes after `buf` make it Matroska.
 pub fn may_become_mkv(buf: &[u8]) -> bool
-    ensures { IsTrue result ↔ Reachable IsMkv buf.now }
+    ensures { IsTrue result ↔ MayBecome IsMkv buf.now }
 {
     may_become_matroska(buf, b"\x42\x82\x88matroska")
 }
 
 /// Whether some bytes after `buf` make it WebM.
 pub fn may_become_webm(buf: &[u8]) -> bool
-    ensures { IsTrue result ↔ Reachable IsWebm buf.now }
+    ensures { IsTrue result ↔ MayBecome IsWebm buf.now }
 {
     may_become_matroska(buf, b"\x42\x82\x84webm")
 }
@@ -51,7 +51,7 @@ fn may_become_matroska<const N: usize>(buf: &[u8], doc_type: &[u8; N]) -> bool
     requires long { 4 ≤ N }
     requires short { N ≤ 252 }
     requires bytes { IsTrue (are_bytes doc_type.now) }
-    ensures { IsTrue result ↔ Reachable (IsMatroska doc_type.now) buf.now }
+    ensures { IsTrue result ↔ MayBecome (IsMatroska doc_type.now) buf.now }
 {
     agrees_at(buf, b"\x1A\x45\xDF\xA3", 0) && may_stand_by(buf, doc_type, 2, 256)
 }

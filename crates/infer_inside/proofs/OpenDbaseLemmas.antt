@@ -5,7 +5,7 @@ use Rattle.std.proofs.lemmas.Bool.{cases_lt}
 use Rattle.std.proofs.lemmas.List.{get_or_append_left}
 use Rattle.infer_deep.specs.Numbers.{le16}
 use Rattle.infer_deep.specs.Open.{AgreesAt, are_bytes}
-use Rattle.infer_deep.specs.Signatures.{Reachable}
+use Rattle.infer_deep.specs.Signatures.{MayBecome}
 use Rattle.infer_deep.proofs.OpenLemmas.{agrees_past}
 use Rattle.infer_inside.specs.Dbase.{BeginsName, EndsFields, IsDbase, IsOneOf, MayBeDated, MayBeDbase, MayEndFields, MayHaveField, behind, versions}
 use Rattle.std.proofs.Math.ListN.{get_or-eq_default}
@@ -47,7 +47,7 @@ module _ (b more : List ℕ) where
   unfolding le16
   known_many many long = omega (arith, get_or_append_left b more 0 10 (omega arith), get_or_append_left b more 0 11 (omega arith))
 
-pub dbase_known : (b : List ℕ) → Reachable IsDbase b → MayBeDbase b
+pub dbase_known : (b : List ℕ) → MayBecome IsDbase b → MayBeDbase b
 dbase_known b (more, bytes, (long, (version, month, day, zeros), (name, kind), many, (e, fields))) = record {
   dated = (
     front b more (IsOneOf versions) 0 version,
@@ -79,7 +79,7 @@ module _ (b : List ℕ) (x : ℕ) (bytes : IsTrue (are_bytes (some_header x))) (
     free : AgreesAt b (0x0D ∷ []) e
     sum : (c : Filled (head_of x) b (e + 1)) → e + behind (slice_index (b ++ c.more) 0) ≡ le16 (b ++ c.more) 8
 
-  reached : (e : ℕ) → EndsAt e → Reachable IsDbase b
+  reached : (e : ℕ) → EndsAt e → MayBecome IsDbase b
   unfolding le16
   reached e ends =
       let c = fills_list (some_header x) 0x0D bytes (omega arith) b (e + 1) in
@@ -124,7 +124,7 @@ past_end b e l = agrees_past b (0x0D ∷ []) e l
 
 -- the version of a header that has no length yet, with the low byte that it asks for and the end that this gives
 free_fields : (b : List ℕ) → MayBeDated b → MayHaveField b → length b ≤ 8 → (v : ℕ)
-    → ((x : ℕ) (e : ℕ) (c : Filled (head_of x) b (e + 1)) → slice_index (b ++ c.more) 0 ≡ v) → Reachable IsDbase b
+    → ((x : ℕ) (e : ℕ) (c : Filled (head_of x) b (e + 1)) → slice_index (b ++ c.more) 0 ≡ v) → MayBecome IsDbase b
 unfolding le16
 free_fields b dated field short v first = elim (behind_cases v) [
   | inl is ↦ reached b 1 refl dated field (λ l. absurd (omega arith)) 512 (record {
@@ -149,7 +149,7 @@ free_fields b dated field short v first = elim (behind_cases v) [
   })
 ]
 
-end_reached : (b : List ℕ) → MayBeDated b → MayHaveField b → (12 ≤ length b → 2 ≤ le16 b 10) → MayEndFields b → Reachable IsDbase b
+end_reached : (b : List ℕ) → MayBeDated b → MayHaveField b → (12 ≤ length b → 2 ≤ le16 b 10) → MayEndFields b → MayBecome IsDbase b
 unfolding le16
 end_reached b dated field many (inl short) = elim (cases_lt 0 (length b)) [
   | inl some ↦ free_fields b dated field short (slice_index b 0) (λ x e c. c.known 0 some)
@@ -178,5 +178,5 @@ end_reached b dated field many (inr (inr (long, (e, sum, low, whole, free)))) = 
       omega (arith, c.known 8 (omega arith), c.known 9 (omega arith));
 })
 
-pub dbase_reached : (b : List ℕ) → MayBeDbase b → Reachable IsDbase b
+pub dbase_reached : (b : List ℕ) → MayBeDbase b → MayBecome IsDbase b
 dbase_reached b h = end_reached b h.dated h.field h.many h.ends

@@ -7,8 +7,8 @@ use Rattle.std.proofs.lemmas.List.{get_or_append_left}
 use Rattle.std.specs.Prelude.{if◌then◌else◌}
 use Rattle.infer_deep.specs.Numbers.{be32, le16, le32}
 use Rattle.infer_deep.specs.Open.{AgreesAt, are_bytes}
-use Rattle.infer_deep.specs.Signatures.{Reachable}
-use Rattle.infer_deep.proofs.OpenLemmas.{AgreesAt-later, IsBytes, Reachable-grown, agrees_past, agrees_where_stands, fills_parts, grown_agrees, stands_where_whole, test_from_reads}
+use Rattle.infer_deep.specs.Signatures.{MayBecome}
+use Rattle.infer_deep.proofs.OpenLemmas.{AgreesAt-later, IsBytes, MayBecome-grown, agrees_past, agrees_where_stands, fills_parts, grown_agrees, stands_where_whole, test_from_reads}
 use Rattle.infer_inside.specs.Elf.{AsksAt, HasOwnTable, IsSharedObject, MayBeSharedObject, MayCount, MayHaveOwnTable, NoneKnownAsks, counted_length, entry_count, entry_size, known_size, place_end, size_at, table_place}
 use Rattle.infer_inside.specs.Numbers.{be16, bytes16, number16}
 use Rattle.infer_inside.proofs.GrowthLemmas.{entry_count-append, entry_size-append, number16-append, number32-append, number64-append, table_place-append}
@@ -83,7 +83,7 @@ table_short wide big b le =
       alone = λ placed. absurd (omega arith);
     }
 
-pub object_known : (b : List ℕ) → IsTrue (are_bytes b) → Reachable IsSharedObject b → MayBeSharedObject b
+pub object_known : (b : List ℕ) → IsTrue (are_bytes b) → MayBecome IsSharedObject b → MayBeSharedObject b
 object_known b b_bytes (more, bytes, (wide, big, class, order, t)) =
     elim (cases_lt 5 (length b)) [
       | inl l ↦ (
@@ -132,7 +132,7 @@ Begun-append wide big c more le h = record {
 
 module _ (wide big : Bool) where
   whole_reached : (c : List ℕ) → counted_length wide ≤ length c → Begun wide big c → entry_size wide big c ≡ known_size wide → 1 ≤ entry_count wide big c
-      → NoneKnownAsks big c (table_place wide big c) (entry_count wide big c) (known_size wide) → Reachable IsSharedObject c
+      → NoneKnownAsks big c (table_place wide big c) (entry_count wide big c) (known_size wide) → MayBecome IsSharedObject c
   whole_reached c long begun size some none =
       let (counts, low, high, end, far, large, most) = counted_at wide in
       let q = table_place wide big c in
@@ -201,7 +201,7 @@ module _ (wide big : Bool) where
 
   -- the size and the count are put behind a known place
   counted_reached : (c : List ℕ) → IsTrue (are_bytes c) → size_at wide ≤ length c → Begun wide big c → AgreesAt c (bytes16 big (known_size wide)) (size_at wide)
-      → (n : ℕ) → MayCount big c (size_at wide + 2) n → NoneKnownAsks big c (table_place wide big c) n (known_size wide) → Reachable IsSharedObject c
+      → (n : ℕ) → MayCount big c (size_at wide + 2) n → NoneKnownAsks big c (table_place wide big c) n (known_size wide) → MayBecome IsSharedObject c
   counted_reached c bytes long begun size n (some, few, counted) none =
       let (counts, low, high, end, far, large, most) = counted_at wide in
       let s = known_size wide in
@@ -220,7 +220,7 @@ module _ (wide big : Bool) where
         | inr le ↦ none i lt le (sym (number32-append c f.more big (q + i * s) le) ∙ asks)
         | inl l ↦ window_other big d p s (q + i * s) small is large most (omega arith) (omega (arith, f.short)) asks
       ] in
-      Reachable-grown IsSharedObject c f.more f.bytes
+      MayBecome-grown IsSharedObject c f.more f.bytes
       (whole_reached d (omega (arith, f.long)) (Begun-append wide big c f.more (omega arith) begun) (size_number wide big d ∙ is)
       (subst (λ k. 1 ≤ k) (sym many) some)
       (subst (λ k. NoneKnownAsks big d (table_place wide big d) k s) (sym many) (subst (λ k. NoneKnownAsks big d k n s) (sym place) free)))
@@ -235,7 +235,7 @@ module _ (wide big : Bool) where
   -- bytes FF are put up to the size: a place that is cut is far then
   placed_reached : (c : List ℕ) → IsTrue (are_bytes c) → 18 ≤ length c → Begun wide big c → AgreesAt c (bytes16 big (known_size wide)) (size_at wide)
       → (n : ℕ) → MayCount big c (size_at wide + 2) n → (place_end wide ≤ length c → NoneKnownAsks big c (table_place wide big c) n (known_size wide))
-      → Reachable IsSharedObject c
+      → MayBecome IsSharedObject c
   placed_reached c bytes long begun size n (some, few, counted) none =
       let (counts, low, high, end, far, large, most) = counted_at wide in
       let s = known_size wide in
@@ -258,7 +258,7 @@ module _ (wide big : Bool) where
               | inl m ↦ not_three d big w (f.filled (w + 3) (omega arith) (omega arith)) asks
             ])
       ] in
-      Reachable-grown IsSharedObject c f.more f.bytes
+      MayBecome-grown IsSharedObject c f.more f.bytes
       (counted_reached d (test_from_reads d (λ k. grown_byte c f.more k bytes f.bytes)) (omega arith) (Begun-append wide big c f.more long begun)
       (later (bytes16 big s) p (omega arith) size) n (some, few, later (bytes16 big n) (p + 2) (omega arith) counted) free)
 
@@ -272,7 +272,7 @@ module _ (wide big : Bool) where
       go false false = refl
 
   object_begun : (b : List ℕ) → IsTrue (are_bytes b) → AgreesAt b ((if wide then 2 else 1) ∷ (if big then 2 else 1) ∷ []) 4 → MayHaveOwnTable wide big b
-      → Reachable IsSharedObject b
+      → MayBecome IsSharedObject b
   object_begun b bytes class t =
       let (counts, low, high, end, far, large, most) = counted_at wide in
       let s = known_size wide in
@@ -284,7 +284,7 @@ module _ (wide big : Bool) where
       let later : (text : List ℕ) (k : ℕ) → 18 ≤ k → AgreesAt b text k → AgreesAt c text k
       = λ text k le a. AgreesAt-later b f.more text 18 k f.short le a in
       let (some, few, counted) = t.counted in
-      Reachable-grown IsSharedObject b f.more f.bytes
+      MayBecome-grown IsSharedObject b f.more f.bytes
       (placed_reached c (test_from_reads c (λ k. grown_byte b f.more k bytes f.bytes)) f.long (record {
         class = f.holds.0.reads 0 (omega arith);
         order = f.holds.0.reads 1 (omega arith);
@@ -296,7 +296,7 @@ module _ (wide big : Bool) where
       subst (λ k. NoneKnownAsks big c k t.count s) (sym place) (λ i lt fits asks.
       t.alone (omega arith) i lt (omega arith) (sym (number32-append b f.more big (table_place wide big b + i * s) (omega arith)) ∙ asks))))
 
-pub object_reached : (b : List ℕ) → IsTrue (are_bytes b) → MayBeSharedObject b → Reachable IsSharedObject b
+pub object_reached : (b : List ℕ) → IsTrue (are_bytes b) → MayBeSharedObject b → MayBecome IsSharedObject b
 object_reached b bytes (wide, big, class, order, t) = object_begun wide big b bytes (record { reads = go }) t
   where
     go : (k : ℕ) → k < 2 → 4 + k < length b → get_or b (4 + k) 0 ≡ get_or ((if wide then 2 else 1) ∷ (if big then 2 else 1) ∷ []) k 0

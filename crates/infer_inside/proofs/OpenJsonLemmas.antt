@@ -8,7 +8,7 @@ use Rattle.std.proofs.lemmas.Bool.Decides.{nat_tests}
 use Rattle.std.proofs.lemmas.List.{get_or_append_left}
 use Rattle.std.proofs.lemmas.List.Elements.{All-append, All-cons, All-nil}
 use Rattle.infer_deep.specs.Open.{AgreesAt}
-use Rattle.infer_deep.specs.Signatures.{Reachable}
+use Rattle.infer_deep.specs.Signatures.{MayBecome}
 use Rattle.infer_deep.proofs.OpenLemmas.{bytes_from_test}
 use Rattle.infer_inside.specs.Json.{Symbol, range, blanks, value, items, more_items, members, member, more_members, chars, char, escape, hex, number, whole, fraction, exponent, power, digits, text, same_line, next_line, byte, rules, BeginsLines, BeginsText, BeginsToken, BeginsWhole, BehindBlanks, CanBe, IsAmong, IsBlank, IsJson, IsJsonLines, OpensWithToken, Stands, UpToMark, nothing, one, by_rule}
 use Rattle.infer_inside.specs.JsonStates.{EndsNumber, Follows, IsPast, IsPastMark, Starts, left}
@@ -107,10 +107,10 @@ module _ (ss : List Symbol) (P : List ℕ → Type 0) (can : (w : List ℕ) → 
       let (v, d) = can w p in
       (more ++ v, inr (w ++ v, sym (append_assoc b more v) ∙ ap (λ t. t ++ v) e, d))
 
-pub json_may : (b : List ℕ) → Reachable IsJson b → MayBecomeJson b
+pub json_may : (b : List ℕ) → MayBecome IsJson b → MayBecomeJson b
 json_may b (more, bytes, is) = may_stand _ BeginsText (λ w p. p.1) b more is
 
-pub lines_may : (b : List ℕ) → Reachable IsJsonLines b → MayBecomeJsonLines b
+pub lines_may : (b : List ℕ) → MayBecome IsJsonLines b → MayBecomeJsonLines b
 lines_may b (more, bytes, is) = may_stand _ BeginsLines (λ w p. p.0) b more is
 
 -- each byte of JSON is one that a text has
@@ -139,11 +139,11 @@ zero_ends b h =
     zero_read : (n : ℕ) → get_or (0 ∷ []) (n - n) 0 ≡ zero
     zero_read n = let e : n - n ≡ 0 = omega arith in subst (λ k. get_or (0 ∷ []) k 0 ≡ zero) (sym e) refl
 
-pub json_ends : (b : List ℕ) → ¬ Reachable IsJson (b ++ 0 ∷ [])
+pub json_ends : (b : List ℕ) → ¬ MayBecome IsJson (b ++ 0 ∷ [])
 unfolding is_spelled
 json_ends b h = zero_ends b (may_spelled (blanks ∷ text ∷ blanks ∷ []) refl _ (json_may _ h))
 
-pub lines_end : (b : List ℕ) → ¬ Reachable IsJsonLines (b ++ 0 ∷ [])
+pub lines_end : (b : List ℕ) → ¬ MayBecome IsJsonLines (b ++ 0 ∷ [])
 unfolding is_spelled
 lines_end b h = zero_ends b (may_spelled (blanks ∷ text ∷ same_line ∷ []) refl _ (lines_may _ h))
 
@@ -639,7 +639,7 @@ bytes_behind b v w e h k d lt =
     let is = subst (All IsTextByte) (sym e) h (length b + k) d (omega arith) in
     subst (λ x. x < 256) (read ∙ ap (λ i. get_or v i d) same) is.1
 
-pub json_comes : (b : List ℕ) → MayBecomeJson b → Reachable IsJson b
+pub json_comes : (b : List ℕ) → MayBecomeJson b → MayBecome IsJson b
 unfolding is_spelled
 json_comes b (v, inl d) = (v, bytes_behind b v (b ++ v) refl (spelled d refl), inl (whole_text (b ++ v) d))
 json_comes b (v, inr (w, e, d)) = (v, bytes_behind b v _ e (marked_spelled w (spelled d refl)), inr (w, e, whole_text w d))
@@ -853,7 +853,7 @@ whole_lines w d = (
 next_bytes : All (λ x. x < 256) next_lines
 next_bytes = bytes_from_test next_lines refl
 
-pub lines_come : (b : List ℕ) → MayBecomeJsonLines b → Reachable IsJsonLines b
+pub lines_come : (b : List ℕ) → MayBecomeJsonLines b → MayBecome IsJsonLines b
 unfolding is_spelled
 lines_come b (v, inl d) = (
   v ++ next_lines,
@@ -877,11 +877,11 @@ by_line ss b s A r holds past line told =
 
 -- and what stands past a mark
 module _ (ss : List Symbol) (b : List ℕ) (holds : AllHold ss) where
-  pub in_mark : (S : List ℕ → Type 0) (r : Bool) → (MayStandFor (blanks ∷ text ∷ ss) b → Reachable S b) → r ≡ true → IsTrue r ↔ ((length b < 3) × AgreesAt b utf8_mark 0) → IsTrue r ↔ Reachable S b
+  pub in_mark : (S : List ℕ → Type 0) (r : Bool) → (MayStandFor (blanks ∷ text ∷ ss) b → MayBecome S b) → r ≡ true → IsTrue r ↔ ((length b < 3) × AgreesAt b utf8_mark 0) → IsTrue r ↔ MayBecome S b
   in_mark S r comes so begun = (λ e. let (l, a) = begun.0 e in comes (may_marked ss holds b l a), λ h. so)
 
-  pub behind_mark : (S : List ℕ → Type 0) (r begun : Bool) (w : List ℕ) → (MayStandFor (blanks ∷ text ∷ ss) b → Reachable S b) → (Reachable S b → MayStandFor (blanks ∷ text ∷ ss) b)
-      → begun ≡ false → IsTrue begun ↔ ((length b < 3) × AgreesAt b utf8_mark 0) → IsPastMark b w → IsTrue r ↔ CanBe (blanks ∷ text ∷ ss) w → IsTrue r ↔ Reachable S b
+  pub behind_mark : (S : List ℕ → Type 0) (r begun : Bool) (w : List ℕ) → (MayStandFor (blanks ∷ text ∷ ss) b → MayBecome S b) → (MayBecome S b → MayStandFor (blanks ∷ text ∷ ss) b)
+      → begun ≡ false → IsTrue begun ↔ ((length b < 3) × AgreesAt b utf8_mark 0) → IsPastMark b w → IsTrue r ↔ CanBe (blanks ∷ text ∷ ss) w → IsTrue r ↔ MayBecome S b
   behind_mark S r begun w comes may not_so told past can =
       let none : ¬ ((length b < 3) × AgreesAt b utf8_mark 0) = λ h. let e = told.1 h in absurd (cc) in
       let stands = may_past ss b w none past in

@@ -9,8 +9,8 @@ use Rattle.std.specs.Prelude.{slice_range}
 use Rattle.memchr.specs.Find.{OccursAt}
 use Rattle.infer_deep.specs.Open.{AgreesAt, are_bytes}
 use Rattle.infer_deep.specs.Places.{IsWithin}
-use Rattle.infer_deep.specs.Signatures.{Reachable}
-use Rattle.infer_deep.proofs.OpenLemmas.{Fills, IsBytes, Reachable-grown, Reachable-here, bytes_from_test, fills_text, grown_agrees, test_from_reads}
+use Rattle.infer_deep.specs.Signatures.{MayBecome}
+use Rattle.infer_deep.proofs.OpenLemmas.{Fills, IsBytes, MayBecome-grown, MayBecome-here, bytes_from_test, fills_text, grown_agrees, test_from_reads}
 use Rattle.infer_deep.proofs.PlaceLemmas.{OccursAt-append, OccursAt-front}
 use Rattle.infer_inside.specs.Markup.{AgreesWithDoctype, BeginsAt, BeginsElement, ClosesDeclaration, EndsName, HasInTag, HasRoot, HasRootWith, HasNoBracket, IsDoctype, IsEnclosed, IsFullName, IsLocalName, IsMisc, MayDeclare, MayGoOn, MayNameRoot, MayOpenAs, MayOpenTag, IsNameByte, IsPart, IsRootElement, IsSpaceRun, IsTypeByte, IsXmlSpace, LeadsToTag, OpensTag, here, later, utf8_mark}
 use Rattle.infer_inside.specs.Runs.{IsRun}
@@ -950,12 +950,12 @@ begin_stays b more start other begins = elim (cases_lt (length b) 3) [
 -- what is brought at the end of the prolog is a root
 pub brought : (b name rest : List ℕ) (start p : ℕ) (d : Option ℕ) → ¬ ((length b < 3) × AgreesAt b utf8_mark 0) → BeginsAt b start
     → ((more : List ℕ) (at to : ℕ) → LeadsToTag (b ++ more) at to start None ↔ LeadsToTag (b ++ more) at to p d) → Brings b name rest p d
-    → Reachable (IsRootElement name rest) b
+    → MayBecome (IsRootElement name rest) b
 brought b name rest start p d other begins grown (more, bytes, (at, to, leads, is, behind)) =
     (more, bytes, (start, at, to, begin_stays b more start other begins, (grown more at to).1 leads, is, sym behind))
 
 pub marked : (b name rest : List ℕ) → length b < 3 → AgreesAt b utf8_mark 0 → IsBytes name → IsLocalName name → EndsName rest → IsBytes rest
-    → Reachable (IsRootElement name rest) b
+    → MayBecome (IsRootElement name rest) b
 marked b name rest short agrees bytes local ends rest_bytes =
     let f = fills_text b utf8_mark 0 refl agrees in
     let c = b ++ f.more in
@@ -964,7 +964,7 @@ marked b name rest short agrees bytes local ends rest_bytes =
     let three : length c ≡ 3 = omega arith in
     let (more, more_bytes, (at, to, leads, is, behind)) =
     space_brings c name rest 3 None (omega arith) (λ k low lt. absurd (omega arith)) (names_any c name bytes local) ends rest_bytes in
-    Reachable-grown (IsRootElement name rest) b f.more f.bytes
+    MayBecome-grown (IsRootElement name rest) b f.more f.bytes
     (more, more_bytes, (3, at, to, inl (OccursAt-append c more utf8_mark 0 f.holds, refl), leads, is, sym behind))
 
 -- ---- and what is known of one that comes to a root
@@ -973,7 +973,7 @@ abbrev pub Comes : List ℕ → List ℕ → ℕ → Option ℕ → Type 0
 Comes b name p d = (more : List ℕ) × (at to : ℕ) × LeadsToTag (b ++ more) at to p d × (name ≡ slice_range (b ++ more) at to)
 
 pub come : (b name : List ℕ) (start p : ℕ) (d : Option ℕ) → ¬ ((length b < 3) × AgreesAt b utf8_mark 0) → BeginsAt b start
-    → ((more : List ℕ) (at to : ℕ) → LeadsToTag (b ++ more) at to start None ↔ LeadsToTag (b ++ more) at to p d) → Reachable (HasRoot name) b
+    → ((more : List ℕ) (at to : ℕ) → LeadsToTag (b ++ more) at to start None ↔ LeadsToTag (b ++ more) at to p d) → MayBecome (HasRoot name) b
     → Comes b name p d
 come b name start p d other begins grown (more, bytes, (rest, (q, at, to, begin, leads, is, behind))) =
     let same = one_begin (b ++ more) q start begin (begin_stays b more start other begins) in
@@ -1033,7 +1033,7 @@ run_to b from (suc n) close e lt ends = elim (is_type_or_not (get_or b from 0)) 
 ]
 
 -- a root names one, and its name is local
-pub root_local : (b name : List ℕ) → Reachable (HasRoot name) b → IsLocalName name
+pub root_local : (b name : List ℕ) → MayBecome (HasRoot name) b → IsLocalName name
 root_local b name (more, bytes, (rest, (q, at, to, begin, leads, is, behind))) =
     let r = ends_in (b ++ more) at to q None leads in
     subst IsLocalName (sym is) (local_named _ _ (tag_named (b ++ more) at to r.place r.type r.opens))
@@ -1047,9 +1047,9 @@ one_root c n rest m other (p, at, to, begins, leads, is, behind) (q, from, end, 
       behind ∙ ap (λ x. drop x c) both.1 ∙ sym after,
     )
 
-pub root_stays : (b n rest name : List ℕ) → IsRootElement n rest b → (n ≡ name) ↔ Reachable (HasRoot name) b
+pub root_stays : (b n rest name : List ℕ) → IsRootElement n rest b → (n ≡ name) ↔ MayBecome (HasRoot name) b
 root_stays b n rest name is = (
-  λ e. subst (λ m. Reachable (HasRoot m) b) e (Reachable-here (HasRoot n) b (rest, is)),
+  λ e. subst (λ m. MayBecome (HasRoot m) b) e (MayBecome-here (HasRoot n) b (rest, is)),
   λ (more, bytes, (other, root)). (one_root (b ++ more) n (rest ++ more) name other (root_lasts n rest b more is) root).0,
 )
 
@@ -1063,9 +1063,9 @@ abbrev pub HasClosing : List ℕ → Type 0
 HasClosing text = (k : ℕ) × (k < length text) × (get_or text k 0 ≡ 0x3E)
 
 -- a tag that has ended keeps what it has
-pub in_tag_ended : (text rest : List ℕ) → HasClosing rest → HasInTag text rest ↔ Reachable (HasInTag text) rest
+pub in_tag_ended : (text rest : List ℕ) → HasClosing rest → HasInTag text rest ↔ MayBecome (HasInTag text) rest
 in_tag_ended text rest (i, lt, closes) = (
-  Reachable-here (HasInTag text) rest,
+  MayBecome-here (HasInTag text) rest,
   λ (more, bytes, (p, o, none)).
       let early : p + length text ≤ i = elim (cases_lt i (p + length text)) [
         | inl l ↦ absurd (none i l (get_or_append_left rest more 0 i lt ∙ closes))
@@ -1078,7 +1078,7 @@ in_tag_ended text rest (i, lt, closes) = (
 text_closes : (text rest : List ℕ) → HasClosing text → ¬ HasInTag text rest
 text_closes text rest (k, lt, closes) (p, o, none) = none (p + k) (omega arith) (o.reads k lt ∙ closes)
 
-pub in_tag_open : (text rest : List ℕ) → IsBytes text → ¬ HasClosing rest → (¬ HasClosing text) ↔ Reachable (HasInTag text) rest
+pub in_tag_open : (text rest : List ℕ) → IsBytes text → ¬ HasClosing rest → (¬ HasClosing text) ↔ MayBecome (HasInTag text) rest
 in_tag_open text rest bytes unended = (
   λ plain.
       let n = length rest in
@@ -1102,7 +1102,7 @@ in_tag_open text rest bytes unended = (
 )
 
 pub root_stays_with : (b n rest name text : List ℕ) → IsRootElement n rest b
-    → ((n ≡ name) × Reachable (HasInTag text) rest) ↔ Reachable (HasRootWith name text) b
+    → ((n ≡ name) × MayBecome (HasInTag text) rest) ↔ MayBecome (HasRootWith name text) b
 root_stays_with b n rest name text is = (
   λ (e, (more, bytes, in_tag)). (more, bytes, (rest ++ more, subst (λ m. IsRootElement m (rest ++ more) (b ++ more)) e (root_lasts n rest b more is), in_tag)),
   λ (more, bytes, (other, root, in_tag)).
@@ -1112,7 +1112,7 @@ root_stays_with b n rest name text is = (
 
 -- a space and the text
 pub root_comes_with : (b name text : List ℕ) → IsBytes text → ¬ HasClosing text
-    → ((rest : List ℕ) → EndsName rest → IsBytes rest → Reachable (IsRootElement name rest) b) → Reachable (HasRootWith name text) b
+    → ((rest : List ℕ) → EndsName rest → IsBytes rest → MayBecome (IsRootElement name rest) b) → MayBecome (HasRootWith name text) b
 root_comes_with b name text bytes plain comes =
     let rest : List ℕ = 0x20 ∷ text in
     let (more, all, root) = comes rest (record { some = omega arith; ends = λ is. is.0.0 (inr (inr (inr refl))) })
@@ -1123,5 +1123,5 @@ root_comes_with b name text bytes plain comes =
     unclosed zero lt e = omega arith
     unclosed (suc k) lt e = plain (k, omega arith, e)
 
-pub root_known_with : (b name text : List ℕ) → Reachable (HasRootWith name text) b → (¬ HasClosing text) × Reachable (HasRoot name) b
+pub root_known_with : (b name text : List ℕ) → MayBecome (HasRootWith name text) b → (¬ HasClosing text) × MayBecome (HasRoot name) b
 root_known_with b name text (more, bytes, (rest, root, in_tag)) = (λ closing. text_closes text rest closing in_tag, (more, bytes, (rest, root)))

@@ -11,8 +11,8 @@ use Rattle.std.specs.Prelude.{◌&&◌, ◌||◌, if◌then◌else◌, nat_eq, n
 use Rattle.memchr.specs.Find.{OccursAt}
 use Rattle.infer_deep.specs.Office.{zip_header}
 use Rattle.infer_deep.specs.Open.{AgreesAt, are_bytes}
-use Rattle.infer_deep.specs.Signatures.{Reachable}
-use Rattle.infer_deep.proofs.OpenLemmas.{IsBytes, Reachable-grown, bytes_from_test, fills_parts, grown_agrees}
+use Rattle.infer_deep.specs.Signatures.{MayBecome}
+use Rattle.infer_deep.proofs.OpenLemmas.{IsBytes, MayBecome-grown, bytes_from_test, fills_parts, grown_agrees}
 use Rattle.infer_deep.proofs.PlaceLemmas.{OccursAt-append, OccursAt-first, OccursAt-front, part_reads}
 use Rattle.infer_inside.specs.Zip.{IsFirstFolder, IsFolderEntry, IsOneOf, IsPackageWith, IsPartEntry, MayBeginPackage, MayOpenPackage, applications}
 use Rattle.infer_inside.proofs.GrowthLemmas.{begins_package, first_folder-lasts}
@@ -222,27 +222,27 @@ module _ (folder : List ℕ) (application : IsOneOf folder applications) where
     )
 
     reached : (q : ℕ) → MayBeginPackage folder b → IsFirstFolder (b ++ tail) q → OccursAt (b ++ tail) folder (q + 30)
-        → Reachable (IsPackageWith folder) b
+        → MayBecome (IsPackageWith folder) b
     reached q begins is o = (tail, tail_bytes, (begins_package b tail folder begins, (length b + 1, part), (q, is, o)))
 
   module _ (b : List ℕ) (h : MayOpenPackage folder b) where
     -- a package is reached if no folder of an application stands in b
-    pub none_yet : ((q : ℕ) → ¬ IsFolderEntry b q) → Reachable (IsPackageWith folder) b
+    pub none_yet : ((q : ℕ) → ¬ IsFolderEntry b q) → MayBecome (IsPackageWith folder) b
     none_yet none =
         let g = begun folder b application h in
         let c = b ++ g.more in
-        Reachable-grown (IsPackageWith folder) b g.more g.bytes (elim (g.folders none) [
+        MayBecome-grown (IsPackageWith folder) b g.more g.bytes (elim (g.folders none) [
           | inl lacks ↦ reached c (length c + 37) g.begins (first c lacks) (folder_stands c)
           | inr (is, o) ↦ reached c 0 g.begins (first_folder-lasts c tail 0 is) (OccursAt-append c tail folder 30 o)
         ])
 
     -- and if this is the first
-    pub first_tells : (q : ℕ) → IsFirstFolder b q → OccursAt b folder (q + 30) ↔ Reachable (IsPackageWith folder) b
+    pub first_tells : (q : ℕ) → IsFirstFolder b q → OccursAt b folder (q + 30) ↔ MayBecome (IsPackageWith folder) b
     first_tells q is = (
       λ o.
           let g = begun folder b application h in
           let c = b ++ g.more in
-          Reachable-grown (IsPackageWith folder) b g.more g.bytes (reached c q g.begins (first_folder-lasts c tail q (first_folder-lasts b g.more q is))
+          MayBecome-grown (IsPackageWith folder) b g.more g.bytes (reached c q g.begins (first_folder-lasts c tail q (first_folder-lasts b g.more q is))
           (OccursAt-append c tail folder (q + 30) (OccursAt-append b g.more folder (q + 30) o))),
       λ (more, bytes, (begins, part, (p, other, o))).
           let c = b ++ more in
@@ -258,7 +258,7 @@ module _ (folder : List ℕ) (application : IsOneOf folder applications) where
     )
 
 -- none is reached if b cannot begin as one
-pub opened : (folder b : List ℕ) → Reachable (IsPackageWith folder) b → MayOpenPackage folder b
+pub opened : (folder b : List ℕ) → MayBecome (IsPackageWith folder) b → MayOpenPackage folder b
 opened folder b (more, bytes, ((o, may), parts, folders)) = (
   grown_agrees b more zip_header 0 o,
   elim may [

@@ -7,8 +7,8 @@ use Rattle.std.proofs.lemmas.List.Elements.{All-append}
 use Rattle.std.specs.Prelude.{slice_range}
 use Rattle.memchr.specs.Find.{OccursAt}
 use Rattle.infer_deep.specs.Open.{AgreesAt, are_bytes}
-use Rattle.infer_deep.specs.Signatures.{Reachable}
-use Rattle.infer_deep.proofs.OpenLemmas.{IsBytes, Reachable-grown, Reachable-here, bytes_from_test, fills_text, grown_agrees, stands_where_whole}
+use Rattle.infer_deep.specs.Signatures.{MayBecome}
+use Rattle.infer_deep.proofs.OpenLemmas.{IsBytes, MayBecome-grown, MayBecome-here, bytes_from_test, fills_text, grown_agrees, stands_where_whole}
 use Rattle.infer_deep.proofs.PlaceLemmas.{OccursAt-append}
 use Rattle.infer_inside.specs.Script.{EndsBare, IsBareName, IsBlank, IsEnv, IsFirstWord, IsLineEnd, IsNameByte, IsNameOf, IsNextWord, IsProgram, IsSetting, IsVersionByte, IsWord, IsWordByte, NamesProgram}
 use Rattle.infer_inside.proofs.FrontLemmas.{SharesFront, byte_shared, byte_shared_back, front_grows, front_swaps}
@@ -267,7 +267,7 @@ module _ (b name front : List ℕ) (bare : IsBareName name) (bytes : IsTrue (are
   abbrev grown : List ℕ
   grown = named (b ++ front) name
 
-  reached : IsProgram name grown → Reachable (IsProgram name) b
+  reached : IsProgram name grown → MayBecome (IsProgram name) b
   reached is = (front ++ (name ++ codes "0\n"), tail_bytes front name f_bytes bytes, subst (IsProgram name) (append_assoc b front (name ++ codes "0\n")) is)
 
   shared : SharesFront (length b) b grown
@@ -297,7 +297,7 @@ module _ (b name : List ℕ) (bare : IsBareName name) (bytes : IsTrue (are_bytes
   word_byte k low lt other = let on = goes_on k low lt in grind arith
 
   -- behind a first word that goes on
-  pub first_named : ((p q : ℕ) → 2 ≤ p → ¬ IsWord b p q) → Reachable (IsProgram name) b
+  pub first_named : ((p q : ℕ) → 2 ≤ p → ¬ IsWord b p q) → MayBecome (IsProgram name) b
   first_named none =
       let fits = opens.fits in
       let (from, low, high, begins, blanks) = last_word_up_to b 2 (length b - 2) (omega arith) in
@@ -339,7 +339,7 @@ module _ (b name : List ℕ) (bare : IsBareName name) (bytes : IsTrue (are_bytes
       record { word = w; low = low; has = other; before = λ i j at_least less v has. all_set n i j (omega arith) at_least v has },
     ))
 
-    pub next_named : ((i : ℕ) → i < length name → ¬ (get_or name i 0 ≡ 0x3D)) → Reachable (IsProgram name) b
+    pub next_named : ((i : ℕ) → i < length name → ¬ (get_or name i 0 ≡ 0x3D)) → MayBecome (IsProgram name) b
     next_named unset =
         let inside = first.word.run.whole in
         let some = first.word.some in
@@ -420,20 +420,20 @@ module _ (b name : List ℕ) (bare : IsBareName name) (bytes : IsTrue (are_bytes
 -- ---- of each buffer
 
 -- of one that names a program, it stays
-pub named_stays : (b n name : List ℕ) → IsProgram n b → (n ≡ name) ↔ Reachable (IsProgram name) b
+pub named_stays : (b n name : List ℕ) → IsProgram n b → (n ≡ name) ↔ MayBecome (IsProgram name) b
 named_stays b n name is = (
-  λ e. subst (λ m. Reachable (IsProgram m) b) e (Reachable-here (IsProgram n) b is),
+  λ e. subst (λ m. MayBecome (IsProgram m) b) e (MayBecome-here (IsProgram n) b is),
   λ (more, bytes, later). one_program (b ++ more) n name (IsProgram-lasts n b more is) later,
 )
 
 -- and of one that has not reached its first word
 pub opens_named : (b name : List ℕ) → AgreesAt b (codes "#!") 0 → length b < 2 → IsTrue (are_bytes name) → IsBareName name
-    → Reachable (IsProgram name) b
+    → MayBecome (IsProgram name) b
 opens_named b name agrees short bytes bare =
     let f = fills_text b (codes "#!") 0 refl agrees in
     let c = b ++ f.more in
     let long = f.short in
-    Reachable-grown (IsProgram name) b f.more f.bytes
+    MayBecome-grown (IsProgram name) b f.more f.bytes
     (first_named c name bare bytes f.holds (λ k low lt is. omega arith)
     (λ p q low w. let some = w.some in let whole = w.run.whole in omega arith))
 
@@ -449,5 +449,5 @@ none_in_short b short p q names =
 pub opened_whole : (b : List ℕ) → AgreesAt b (codes "#!") 0 → 2 ≤ length b → OccursAt b (codes "#!") 0
 opened_whole b agrees le = stands_where_whole b (codes "#!") 0 le agrees
 
-pub opened_so : (b name : List ℕ) → Reachable (IsProgram name) b → AgreesAt b (codes "#!") 0
+pub opened_so : (b name : List ℕ) → MayBecome (IsProgram name) b → AgreesAt b (codes "#!") 0
 opened_so b name (more, bytes, (o, rest)) = grown_agrees b more (codes "#!") 0 o

@@ -5,8 +5,8 @@ use Rattle.std.proofs.Math.Seq.{get_or-append_right}
 use Rattle.std.proofs.lemmas.Bool.{cases_lt}
 use Rattle.std.proofs.lemmas.Grind.{get_or_default_zero}
 use Rattle.std.proofs.lemmas.List.{get_or_append_left}
-use Rattle.infer_deep.specs.Signatures.{Reachable}
-use Rattle.infer_deep.proofs.OpenLemmas.{AgreesAt-later, Fills, Reachable-grown, agrees_past, bytes_from_test, fills_text, grown_agrees, stands_where_whole}
+use Rattle.infer_deep.specs.Signatures.{MayBecome}
+use Rattle.infer_deep.proofs.OpenLemmas.{AgreesAt-later, Fills, MayBecome-grown, agrees_past, bytes_from_test, fills_text, grown_agrees, stands_where_whole}
 use Rattle.infer_deep.proofs.PlaceLemmas.{OccursAt-append}
 use Rattle.infer_inside.specs.Subtitles.{AreDigits, EndsInNumber, EndsLine, IsCue, IsDigit, IsPairAt, IsSpan, IsSubRip, IsTime, MayBeCue, MayBePair, MayBeSpan, MayBeSubRip, MayBeTime}
 use Rattle.infer_inside.proofs.GrowthLemmas.{digit, line_end, time}
@@ -100,7 +100,7 @@ module _ (b more : List ℕ) where
         ]
   ]
 
-pub subrip_known : (b : List ℕ) → Reachable IsSubRip b → MayBeSubRip b
+pub subrip_known : (b : List ℕ) → MayBecome IsSubRip b → MayBeSubRip b
 subrip_known b (more, bytes, inl cue) = inl (known_cue b more 0 cue)
 subrip_known b (more, bytes, inr (mark, cue)) = inr (grown_agrees b more _ 0 mark, known_cue b more 3 cue)
 
@@ -164,7 +164,7 @@ module _ (b more : List ℕ) (s : ℕ) (short : length (b ++ more) ≤ max (leng
     thousandths = (later_pair (t + 9) (omega arith) h.thousandths.0, later_or IsDigit (t + 11) 0x30 (omega arith) h.thousandths.1);
   }
 
-span_reached : (b : List ℕ) (t : ℕ) → MayBeSpan b t → Reachable (λ c. IsSpan c t) b
+span_reached : (b : List ℕ) (t : ℕ) → MayBeSpan b t → MayBecome (λ c. IsSpan c t) b
 span_reached b t (from, arrow, to) =
     let S : List ℕ → Type 0 = λ c. IsSpan c t in
     let f = time_filled b t from in
@@ -173,13 +173,13 @@ span_reached b t (from, arrow, to) =
     let d = c ++ g.more in
     let h = time_filled d (t + 17) (later_time c g.more (t + 17) (omega (arith, g.short)) (t + 17) (omega arith)
     (later_time b f.more (t + 17) (omega (arith, f.short)) (t + 17) (omega arith) to)) in
-    Reachable-grown S b f.more f.bytes (Reachable-grown S c g.more g.bytes (
+    MayBecome-grown S b f.more f.bytes (MayBecome-grown S c g.more g.bytes (
       h.more,
       h.bytes,
       (time d h.more t (time c g.more t f.holds), OccursAt-append d h.more _ (t + 12) g.holds, h.holds),
     ))
 
-cue_reached : (b : List ℕ) (p n t : ℕ) → 1 ≤ n → n ≤ 9 → AreDigits b p n → EndsLine b (p + n) t → MayBeSpan b t → Reachable (λ c. IsCue c p) b
+cue_reached : (b : List ℕ) (p n t : ℕ) → 1 ≤ n → n ≤ 9 → AreDigits b p n → EndsLine b (p + n) t → MayBeSpan b t → MayBecome (λ c. IsCue c p) b
 cue_reached b p n t some few digits line may =
     let (more, bytes, span) = span_reached b t may in
     (more, bytes, (n, t, (some, few), λ k lt. digit b more (p + k) (digits k lt), line_end b more (p + n) t line, span))
@@ -203,7 +203,7 @@ span_past b t le = (time_past b t le, agrees_past b (codes " --> ") (t + 12) (om
 
 -- 0A is put behind a number, or behind 0D
 line_reached : (b : List ℕ) (p n : ℕ) → 1 ≤ n → n ≤ 9 → AreDigits b p n
-    → (length b ≡ p + n) ⊎ ((length b ≡ p + n + 1) × (get_or b (p + n) 0 ≡ 0x0D)) → Reachable (λ c. IsCue c p) b
+    → (length b ≡ p + n) ⊎ ((length b ≡ p + n + 1) × (get_or b (p + n) 0 ≡ 0x0D)) → MayBecome (λ c. IsCue c p) b
 line_reached b p n some few digits ends =
     let more : List ℕ = 0x0A ∷ [] in
     let c = b ++ more in
@@ -218,16 +218,16 @@ line_reached b p n some few digits ends =
         omega arith,
       )
     ] in
-    Reachable-grown (λ c. IsCue c p) b more (bytes_from_test more refl)
+    MayBecome-grown (λ c. IsCue c p) b more (bytes_from_test more refl)
     (cue_reached c p n (length b + 1) some few (λ k lt. digit b more (p + k) (digits k lt)) line (span_past c (length b + 1) (omega arith)))
 
-number_reached : (b : List ℕ) (p : ℕ) → EndsInNumber b p → Reachable (λ c. IsCue c p) b
+number_reached : (b : List ℕ) (p : ℕ) → EndsInNumber b p → MayBecome (λ c. IsCue c p) b
 number_reached b p (short, digits) =
     let f = fills (λ k. 0x30) (λ k. omega arith) b (p + 1) in
     let c = b ++ f.more in
     let n = length c - p in
     let long = f.long in
-    Reachable-grown (λ c. IsCue c p) b f.more f.bytes
+    MayBecome-grown (λ c. IsCue c p) b f.more f.bytes
     (line_reached c p n (omega arith) (omega arith)
     (λ k lt. elim (cases_lt (p + k) (length b)) [
       | inl l ↦ subst IsDigit (sym (f.known (p + k) l)) (digits (p + k) (omega arith) l)
@@ -235,12 +235,12 @@ number_reached b p (short, digits) =
     ])
     (inl (omega arith)))
 
-may_cue : (b : List ℕ) (p : ℕ) → MayBeCue b p → Reachable (λ c. IsCue c p) b
+may_cue : (b : List ℕ) (p : ℕ) → MayBeCue b p → MayBecome (λ c. IsCue c p) b
 may_cue b p (inl ends) = number_reached b p ends
 may_cue b p (inr (inl (n, (some, few), digits, cr, ends))) = line_reached b p n some few digits (inr (ends, cr))
 may_cue b p (inr (inr (n, t, (some, few), digits, line, span))) = cue_reached b p n t some few digits line span
 
-pub subrip_reached : (b : List ℕ) → MayBeSubRip b → Reachable IsSubRip b
+pub subrip_reached : (b : List ℕ) → MayBeSubRip b → MayBecome IsSubRip b
 subrip_reached b (inl may) = let (more, bytes, cue) = may_cue b 0 may in (more, bytes, inl cue)
 subrip_reached b (inr (mark, may)) =
     elim (cases_lt (length b) 3) [
@@ -251,6 +251,6 @@ subrip_reached b (inr (mark, may)) =
           let f = fills_text b (0xEF ∷ 0xBB ∷ 0xBF ∷ []) 0 refl mark in
           let c = b ++ f.more in
           let (more, bytes, cue) = may_cue c 3 (inl (omega (arith, f.short), λ k low lt. absurd (omega (arith, f.short)))) in
-          Reachable-grown IsSubRip b f.more f.bytes
+          MayBecome-grown IsSubRip b f.more f.bytes
           (more, bytes, inr (OccursAt-append c more (0xEF ∷ 0xBB ∷ 0xBF ∷ []) 0 f.holds, cue))
     ]

@@ -5,8 +5,8 @@ use Rattle.std.proofs.Math.Seq.{get_or-append_right}
 use Rattle.std.proofs.lemmas.Bool.{cases_lt}
 use Rattle.std.proofs.lemmas.List.{get_or_append_left}
 use Rattle.std.proofs.lemmas.List.Elements.{All-append, All-from_get_or}
-use Rattle.infer_deep.specs.Signatures.{Reachable}
-use Rattle.infer_deep.proofs.OpenLemmas.{IsBytes, Reachable-grown, Reachable-here}
+use Rattle.infer_deep.specs.Signatures.{MayBecome}
+use Rattle.infer_deep.proofs.OpenLemmas.{IsBytes, MayBecome-grown, MayBecome-here}
 use Rattle.infer_inside.specs.Tar.{HasTarChecksum, IsField, IsOctal, MayWrite, header_sum, octal, scaled, sum_from}
 use Rattle.infer_inside.proofs.GrowthLemmas.{header_sum-append}
 use Rattle.infer_inside.proofs.OpenLemmas.{Filled, fills}
@@ -297,7 +297,7 @@ module _ (b : List ℕ) (first : 1 ≤ get_or b 0 0) (long : 148 ≤ length b) (
         number ∙ ap header_sum (append_assoc b z.more s.more)
 
     pub whole_tells : (IsField b p k × (header_sum b ≤ octal b p k) × (octal b p k ≤ header_sum b + 255 * (512 - max 156 (length b))))
-        ↔ Reachable HasTarChecksum b
+        ↔ MayBecome HasTarChecksum b
     whole_tells = (
       λ (f, low, high).
           let z = fills (λ i. 0) (λ i. omega arith) b 156 in
@@ -449,16 +449,16 @@ module _ (b : List ℕ) (first : 1 ≤ get_or b 0 0) (long : 148 ≤ length b) (
     value : octal d p (k + j) ≡ n
     value = octal_same d (b ++ w) p (k + j) (λ i at_least lt. spaces.known i (omega (arith, w_long))) ∙ octal_written b p k ends j n low high
 
-    can_write : header_sum b ≤ n → n ≤ header_sum b + 255 * 356 → Reachable HasTarChecksum b
+    can_write : header_sum b ≤ n → n ≤ header_sum b + 255 * 356 → MayBecome HasTarChecksum b
     can_write below above =
         let sums = sum_padded d d_long (λ i lt. of_b i (omega arith)) in
         let begins_so = of_b 0 (omega arith) in
         let tells = whole_tells d (omega arith) (omega (arith, d_long)) p (k + j) reads (omega (arith, d_long)) (inr (omega (arith, d_long))) in
         let last : 255 * (512 - max 156 (length d)) ≡ 255 * 356 = omega (arith, d_long) in
-        Reachable-grown HasTarChecksum b w (written_bytes j n) (Reachable-grown HasTarChecksum (b ++ w) spaces.more spaces.bytes
+        MayBecome-grown HasTarChecksum b w (written_bytes j n) (MayBecome-grown HasTarChecksum (b ++ w) spaces.more spaces.bytes
         (tells.0 (field, omega (arith, value), omega (arith, value))))
 
-  pub open_tells : MayWrite (octal b p k) (156 - length b) (header_sum b) (header_sum b + 255 * 356) ↔ Reachable HasTarChecksum b
+  pub open_tells : MayWrite (octal b p k) (156 - length b) (header_sum b) (header_sum b + 255 * 356) ↔ MayBecome HasTarChecksum b
   open_tells = (
     λ (j, room, low, high).
         let n = max (header_sum b) (scaled (octal b p k) j) in
@@ -531,7 +531,7 @@ bounded d small = go _ _ (sum_small d small 0 148) (sum_small d small 156 356)
     go x y e f = omega arith
 
 -- any number can follow on a buffer that ends before the field
-pub short_reached : (b : List ℕ) → length b < 148 → (0 < length b → 1 ≤ get_or b 0 0) → ((i : ℕ) → get_or b i 0 < 256) → Reachable HasTarChecksum b
+pub short_reached : (b : List ℕ) → length b < 148 → (0 < length b → 1 ≤ get_or b 0 0) → ((i : ℕ) → get_or b i 0 < 256) → MayBecome HasTarChecksum b
 short_reached b short begins_so small =
     let z = fills (λ i. 1) (λ i. omega arith) b 148 in
     let d = b ++ z.more in
@@ -556,14 +556,14 @@ short_reached b short begins_so small =
         | inr m ↦ let past = get_or-eq_default d 0 {n = i} (omega arith) in omega arith
       ]
     ]) in
-    Reachable-grown HasTarChecksum b z.more z.bytes ((open_tells d first (omega arith) 148 0 r (omega arith) (omega arith)).0 (8, omega arith, omega arith, few))
+    MayBecome-grown HasTarChecksum b z.more z.bytes ((open_tells d first (omega arith) 148 0 r (omega arith) (omega arith)).0 (8, omega arith, omega arith, few))
 
-pub zero_never : (b : List ℕ) → 0 < length b → get_or b 0 0 ≡ 0 → ¬ Reachable HasTarChecksum b
+pub zero_never : (b : List ℕ) → 0 < length b → get_or b 0 0 ≡ 0 → ¬ MayBecome HasTarChecksum b
 zero_never b some zero_first (more, bytes, (size, first, rest)) = let kept = get_or_append_left b more 0 0 some in omega arith
 
-pub whole_reached : (b : List ℕ) → 512 ≤ length b → HasTarChecksum b ↔ Reachable HasTarChecksum b
+pub whole_reached : (b : List ℕ) → 512 ≤ length b → HasTarChecksum b ↔ MayBecome HasTarChecksum b
 whole_reached b long = (
-  Reachable-here HasTarChecksum b,
+  MayBecome-here HasTarChecksum b,
   λ (more, bytes, (size, first, (p, d, f, e))).
       let kept = λ (i : ℕ) (lt : i < 512). get_or_append_left b more 0 i (omega arith) in
       let high = f.high in (

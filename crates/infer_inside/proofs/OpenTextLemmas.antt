@@ -5,7 +5,7 @@ use Rattle.std.proofs.lemmas.Bool.{cases_lt}
 use Rattle.std.proofs.lemmas.List.{get_or_append_left}
 use Rattle.std.proofs.lemmas.List.Elements.{All-cons, All-nil}
 use Rattle.memchr.specs.Find.{OccursAt}
-use Rattle.infer_deep.specs.Signatures.{Reachable}
+use Rattle.infer_deep.specs.Signatures.{MayBecome}
 use Rattle.infer_deep.specs.Text.{BeginsMarked, IsMark}
 use Rattle.infer_deep.proofs.PlaceLemmas.{OccursAt-append, OccursAt-front}
 use Rattle.infer_inside.specs.Open.{Stays}
@@ -61,7 +61,7 @@ module _ (b more : List ℕ) where
   ]
   was_text x c e (inr (some, plain)) = inr (subst (λ t. 1 ≤ length t) (sym e) (omega arith), λ binary. plain (binary-lasts b more binary))
 
-pub text_may : (b : List ℕ) → Reachable IsText b → (length b ≡ 0) ⊎ IsText b
+pub text_may : (b : List ℕ) → MayBecome IsText b → (length b ≡ 0) ⊎ IsText b
 text_may [] h = inl refl
 text_may (x ∷ b) (more, bytes, is) = inr (was_text (x ∷ b) more x b refl is)
 
@@ -75,15 +75,15 @@ letter_plain (zero, lt, is) = letter is
     letter (inr (inr (inr h))) = absurd (omega arith)
 letter_plain (suc k, lt, is) = absurd (omega arith)
 
-pub text_comes : (b : List ℕ) → (length b ≡ 0) ⊎ IsText b → Reachable IsText b
+pub text_comes : (b : List ℕ) → (length b ≡ 0) ⊎ IsText b → MayBecome IsText b
 text_comes b (inr is) = ([], All-nil (λ x. x < 256), subst IsText (sym (append-nil b)) is)
 text_comes [] (inl e) = (0x61 ∷ [], All-cons (λ x. x < 256) 0x61 [] (omega arith) (All-nil (λ x. x < 256)), inr (omega arith, letter_plain))
 text_comes (x ∷ b) (inl e) = absurd (omega arith)
 
-pub empty_text : (b : List ℕ) (r : Bool) → r ≡ nat_eq (length b) 0 → r ≡ true → IsTrue r ↔ Reachable IsText b
+pub empty_text : (b : List ℕ) (r : Bool) → r ≡ nat_eq (length b) 0 → r ≡ true → IsTrue r ↔ MayBecome IsText b
 empty_text b r e so = (λ h. text_comes b (inl (grind arith)), λ h. so)
 
-pub some_text : (b : List ℕ) (r t : Bool) → r ≡ nat_eq (length b) 0 → r ≡ false → IsTrue t ↔ IsText b → IsTrue t ↔ Reachable IsText b
+pub some_text : (b : List ℕ) (r t : Bool) → r ≡ nat_eq (length b) 0 → r ≡ false → IsTrue t ↔ IsText b → IsTrue t ↔ MayBecome IsText b
 some_text b r t e not_so is = (
   λ h. text_comes b (inr (is.0 h)),
   λ h. elim (text_may b h) [

@@ -3,8 +3,8 @@ use Rattle.std.proofs.Common.{IsTrue, ◌≡◌, inl, inr, ℕ, ◌+◌, ◌-◌
 use Rattle.std.proofs.lemmas.Bool.{cases_lt}
 use Rattle.infer_deep.specs.Numbers.{be32, le16, le32}
 use Rattle.infer_deep.specs.Open.{AgreesAt, are_bytes}
-use Rattle.infer_deep.specs.Signatures.{Reachable}
-use Rattle.infer_deep.proofs.OpenLemmas.{Reachable-grown, agrees_past, fills_parts, fills_text, grown_agrees, stands_where_whole}
+use Rattle.infer_deep.specs.Signatures.{MayBecome}
+use Rattle.infer_deep.proofs.OpenLemmas.{MayBecome-grown, agrees_past, fills_parts, fills_text, grown_agrees, stands_where_whole}
 use Rattle.infer_deep.proofs.PlaceLemmas.{OccursAt-append}
 use Rattle.infer_inside.specs.Numbers.{be16, bytes16, number16, number32}
 use Rattle.infer_inside.specs.Tiff.{BeginsTiff, HasTag, IsTagEntry, MayBeginTiff, MayHaveEntry, MayHaveTag}
@@ -18,7 +18,7 @@ BeginsTiff-append false b more o = OccursAt-append b more _ 0 o
 module _ (big : Bool) (tag : ℕ) (small : tag < 65536) where
   -- the entry is put where its tag agrees
   entry_reached : (b : List ℕ) → BeginsTiff big b → 8 ≤ length b → number32 big b 4 + 2 ≤ length b → (i : ℕ) → i < number16 big b (number32 big b 4)
-      → AgreesAt b (bytes16 big tag) (number32 big b 4 + 2 + 12 * i) → Reachable (HasTag tag) b
+      → AgreesAt b (bytes16 big tag) (number32 big b 4 + 2 + 12 * i) → MayBecome (HasTag tag) b
   entry_reached b begins long listed i lt a =
       let s = number32 big b 4 in
       let p = s + 2 + 12 * i in
@@ -47,14 +47,14 @@ module _ (big : Bool) (tag : ℕ) (small : tag < 65536) where
   filled_count false c s e = omega arith
 
   -- of a directory whose number of entries is cut
-  cut_reached : (b : List ℕ) → BeginsTiff big b → 8 ≤ length b → length b < number32 big b 4 + 2 → Reachable (HasTag tag) b
+  cut_reached : (b : List ℕ) → BeginsTiff big b → 8 ≤ length b → length b < number32 big b 4 + 2 → MayBecome (HasTag tag) b
   cut_reached b begins long cut =
       let s = number32 big b 4 in
       let f = fills_most b (s + 2) in
       let c = b ++ f.more in
       let start : number32 big c 4 ≡ s = number32-append b f.more big 4 (omega arith) in
       let some = filled_count big c s (f.filled (s + 1) (omega arith) (omega arith)) in
-      Reachable-grown (HasTag tag) b f.more f.bytes
+      MayBecome-grown (HasTag tag) b f.more f.bytes
       (entry_reached c (BeginsTiff-append big b f.more begins) (omega (arith, f.long)) (omega (arith, f.long, start)) 0
       (subst (λ u. 0 < number16 big c u) (sym start) some) (agrees_past c (bytes16 big tag) (number32 big c 4 + 2 + 12 * 0) (omega (arith, f.long, start))))
 
@@ -64,15 +64,15 @@ module _ (big : Bool) (tag : ℕ) (small : tag < 65536) where
   filled_start false c e = omega arith
 
   -- of a header that is
-  start_reached : (b : List ℕ) → BeginsTiff big b → length b < 8 → Reachable (HasTag tag) b
+  start_reached : (b : List ℕ) → BeginsTiff big b → length b < 8 → MayBecome (HasTag tag) b
   start_reached b begins short =
       let f = fills_most b 8 in
       let c = b ++ f.more in
       let far = filled_start big c (f.filled 7 (omega arith) (omega arith)) in
-      Reachable-grown (HasTag tag) b f.more f.bytes
+      MayBecome-grown (HasTag tag) b f.more f.bytes
       (cut_reached c (BeginsTiff-append big b f.more begins) (omega (arith, f.long)) (omega (arith, f.long)))
 
-  begun_reached : (b : List ℕ) → BeginsTiff big b → MayHaveEntry big tag b → Reachable (HasTag tag) b
+  begun_reached : (b : List ℕ) → BeginsTiff big b → MayHaveEntry big tag b → MayBecome (HasTag tag) b
   begun_reached b begins h = elim (cases_lt (length b) 8) [
     | inl l ↦ start_reached b begins l
     | inr long ↦ elim (cases_lt (length b) (number32 big b 4 + 2)) [
@@ -86,17 +86,17 @@ module _ (big : Bool) (tag : ℕ) (small : tag < 65536) where
   ]
 
 -- its header is completed first
-pub tag_reached : (tag : ℕ) (b : List ℕ) → tag < 65536 → MayHaveTag tag b → Reachable (HasTag tag) b
+pub tag_reached : (tag : ℕ) (b : List ℕ) → tag < 65536 → MayHaveTag tag b → MayBecome (HasTag tag) b
 tag_reached tag b small (inr (a, h)) =
     let f = fills_text b (0x4D ∷ 0x4D ∷ 0x00 ∷ 0x2A ∷ []) 0 refl a in
     elim (cases_lt (length b) 8) [
-      | inl l ↦ Reachable-grown (HasTag tag) b f.more f.bytes (start_reached true tag small (b ++ f.more) f.holds (omega (arith, f.short)))
+      | inl l ↦ MayBecome-grown (HasTag tag) b f.more f.bytes (start_reached true tag small (b ++ f.more) f.holds (omega (arith, f.short)))
       | inr l ↦ begun_reached true tag small b (stands_where_whole b (0x4D ∷ 0x4D ∷ 0x00 ∷ 0x2A ∷ []) 0 (omega arith) a) h
     ]
 tag_reached tag b small (inl (a, h)) =
     let f = fills_text b (0x49 ∷ 0x49 ∷ 0x2A ∷ 0x00 ∷ []) 0 refl a in
     elim (cases_lt (length b) 8) [
-      | inl l ↦ Reachable-grown (HasTag tag) b f.more f.bytes (start_reached false tag small (b ++ f.more) f.holds (omega (arith, f.short)))
+      | inl l ↦ MayBecome-grown (HasTag tag) b f.more f.bytes (start_reached false tag small (b ++ f.more) f.holds (omega (arith, f.short)))
       | inr l ↦ begun_reached false tag small b (stands_where_whole b (0x49 ∷ 0x49 ∷ 0x2A ∷ 0x00 ∷ []) 0 (omega arith) a) h
     ]
 
@@ -121,7 +121,7 @@ known_entry big tag b more i small entry = elim (cases_lt (length b) 8) [
   ]
 ]
 
-pub tag_known : (tag : ℕ) (b : List ℕ) → IsTrue (are_bytes b) → Reachable (HasTag tag) b → MayHaveTag tag b
+pub tag_known : (tag : ℕ) (b : List ℕ) → IsTrue (are_bytes b) → MayBecome (HasTag tag) b → MayHaveTag tag b
 tag_known tag b b_bytes (more, bytes, (true, begins, (i, entry))) =
     inr (begins_known true b more begins, known_entry true tag b more i (λ k. grown_byte b more k b_bytes bytes) entry)
 tag_known tag b b_bytes (more, bytes, (false, begins, (i, entry))) =

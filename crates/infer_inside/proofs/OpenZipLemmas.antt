@@ -6,7 +6,7 @@ use Rattle.memchr.specs.Find.{OccursAt}
 use Rattle.infer_deep.specs.Numbers.{le16}
 use Rattle.infer_deep.specs.Office.{zip_header}
 use Rattle.infer_deep.specs.Open.{AgreesAt, are_bytes}
-use Rattle.infer_deep.specs.Signatures.{Reachable}
+use Rattle.infer_deep.specs.Signatures.{MayBecome}
 use Rattle.infer_deep.proofs.OpenLemmas.{IsBytes, agrees_past, fills_parts, grown_agrees, test_from_reads}
 use Rattle.infer_inside.specs.Numbers.{low_bytes, most16}
 use Rattle.infer_inside.specs.Zip.{FirstEntryEndsIn, FirstEntryHasExtra, FirstEntryIs, HasFirstName, MayHaveFirstEnding, MayHaveFirstField, MayHaveFirstName}
@@ -22,7 +22,7 @@ two_bytes n le = test_from_reads (low_bytes n) go
     go (suc zero) = let x : n / 256 < 256 = omega arith in x
     go (suc (suc i)) = let x : 0 < 256 = omega arith in x
 
-pub name_reached : (name b : List ℕ) → IsTrue (are_bytes name) → MayHaveFirstName name b → Reachable (FirstEntryIs name) b
+pub name_reached : (name b : List ℕ) → IsTrue (are_bytes name) → MayHaveFirstName name b → MayBecome (FirstEntryIs name) b
 unfolding le16
 name_reached name b bytes h =
     let n = length name in
@@ -35,7 +35,7 @@ name_reached name b bytes h =
     let is : le16 c 26 ≡ n = omega arith in
     (f.more, f.bytes, (record { long = omega (arith, f.long); header = f.holds.0; whole = omega (arith, f.long) }, is, f.holds.1.1.0))
 
-pub name_known : (name b : List ℕ) → IsTrue (are_bytes b) → Reachable (FirstEntryIs name) b → MayHaveFirstName name b
+pub name_known : (name b : List ℕ) → IsTrue (are_bytes b) → MayBecome (FirstEntryIs name) b → MayHaveFirstName name b
 unfolding le16
 name_known name b b_bytes (more, bytes, (h, is, o)) =
     let c = b ++ more in
@@ -110,7 +110,7 @@ written b text p end b_bytes bytes header tells low high far =
       stands = f.holds.1.1.0;
     }
 
-pub ending_reached : (text b : List ℕ) → IsTrue (are_bytes text) → IsTrue (are_bytes b) → MayHaveFirstEnding text b → Reachable (FirstEntryEndsIn text) b
+pub ending_reached : (text b : List ℕ) → IsTrue (are_bytes text) → IsTrue (are_bytes b) → MayHaveFirstEnding text b → MayBecome (FirstEntryEndsIn text) b
 ending_reached text b bytes b_bytes h =
     let n = most16 b 26 in
     let short = h.short in
@@ -120,7 +120,7 @@ ending_reached text b bytes b_bytes h =
       (w.name, omega (arith, w.first), subst (λ (m : ℕ). OccursAt (b ++ w.more) text (30 + m - length text)) (sym w.first) w.stands),
     )
 
-pub ending_known : (text b : List ℕ) → IsTrue (are_bytes b) → Reachable (FirstEntryEndsIn text) b → MayHaveFirstEnding text b
+pub ending_known : (text b : List ℕ) → IsTrue (are_bytes b) → MayBecome (FirstEntryEndsIn text) b → MayHaveFirstEnding text b
 ending_known text b b_bytes (more, bytes, (h, long, o)) =
     let most = most16_grown b more 26 b_bytes bytes in
     record {
@@ -132,7 +132,7 @@ ending_known text b b_bytes (more, bytes, (h, long, o)) =
       ];
     }
 
-pub extra_reached : (text b : List ℕ) → IsTrue (are_bytes text) → IsTrue (are_bytes b) → MayHaveFirstField text b → Reachable (FirstEntryHasExtra text) b
+pub extra_reached : (text b : List ℕ) → IsTrue (are_bytes text) → IsTrue (are_bytes b) → MayHaveFirstField text b → MayBecome (FirstEntryHasExtra text) b
 extra_reached text b bytes b_bytes h =
     let n = most16 b 26 in
     let short = h.short in
@@ -142,7 +142,7 @@ extra_reached text b bytes b_bytes h =
       (w.name, omega (arith, w.second), subst (λ (m : ℕ). OccursAt (b ++ w.more) text (30 + m)) (sym w.first) w.stands),
     )
 
-pub extra_known : (text b : List ℕ) → IsTrue (are_bytes b) → Reachable (FirstEntryHasExtra text) b → MayHaveFirstField text b
+pub extra_known : (text b : List ℕ) → IsTrue (are_bytes b) → MayBecome (FirstEntryHasExtra text) b → MayHaveFirstField text b
 extra_known text b b_bytes (more, bytes, (h, long, o)) =
     let most = most16_grown b more 28 b_bytes bytes in
     record {

@@ -3,9 +3,9 @@ use Rattle.std.proofs.Common.{◌≡◌, ◌↔◌, ◌⊎◌, inl, inr, ℕ, �
 use Rattle.memchr.specs.Find.{OccursAt}
 use Rattle.infer_deep.specs.Numbers.{be32}
 use Rattle.std.proofs.lemmas.List.{get_or_append_left}
-use Rattle.infer_deep.specs.Signatures.{Reachable}
+use Rattle.infer_deep.specs.Signatures.{MayBecome}
 use Rattle.infer_deep.proofs.NumberLemmas.{be32-append}
-use Rattle.infer_deep.proofs.OpenLemmas.{Reachable-grown, Reachable-here, agrees_past, fills_text}
+use Rattle.infer_deep.proofs.OpenLemmas.{MayBecome-grown, MayBecome-here, agrees_past, fills_text}
 use Rattle.infer_deep.proofs.PlaceLemmas.{OccursAt-append, OccursAt-front}
 use Rattle.infer_inside.specs.Png.{IsAnimated, IsAnimatedFrom, here, later}
 use Rattle.infer_inside.proofs.OpenLemmas.{fills_most}
@@ -36,7 +36,7 @@ next_chunk b c n e fits control picture =
 
 passes_chunk : (b : List ℕ) (c n : ℕ) → n ≡ be32 b c → c + 8 ≤ length b → (OccursAt b (codes "acTL") (c + 4) → ⊥)
     → (OccursAt b (codes "IDAT") (c + 4) → ⊥)
-    → Reachable (λ d. IsAnimatedFrom d c) b ↔ Reachable (λ d. IsAnimatedFrom d (c + (12 + n))) b
+    → MayBecome (λ d. IsAnimatedFrom d c) b ↔ MayBecome (λ d. IsAnimatedFrom d (c + (12 + n))) b
 passes_chunk b c n e fits control picture =
     let next : (more : List ℕ) → IsAnimatedFrom (b ++ more) c ↔ IsAnimatedFrom (b ++ more) (c + (12 + n))
     = λ more.
@@ -44,14 +44,14 @@ passes_chunk b c n e fits control picture =
     (λ o. control (OccursAt-front b more _ (c + 4) (omega arith) o)) (λ o. picture (OccursAt-front b more _ (c + 4) (omega arith) o)) in
     (λ (more, bytes, a). (more, bytes, (next more).0 a), λ (more, bytes, a). (more, bytes, (next more).1 a))
 
-pub reached_control : (b : List ℕ) (c : ℕ) → OccursAt b (codes "acTL") (c + 4) → Reachable (λ d. IsAnimatedFrom d c) b
-reached_control b c o = Reachable-here (λ d. IsAnimatedFrom d c) b (here c o)
+pub reached_control : (b : List ℕ) (c : ℕ) → OccursAt b (codes "acTL") (c + 4) → MayBecome (λ d. IsAnimatedFrom d c) b
+reached_control b c o = MayBecome-here (λ d. IsAnimatedFrom d c) b (here c o)
 
-pub unreached_data : (b : List ℕ) (c : ℕ) → OccursAt b (codes "IDAT") (c + 4) → ¬ Reachable (λ d. IsAnimatedFrom d c) b
+pub unreached_data : (b : List ℕ) (c : ℕ) → OccursAt b (codes "IDAT") (c + 4) → ¬ MayBecome (λ d. IsAnimatedFrom d c) b
 unreached_data b c o (more, bytes, a) = never_after_data (b ++ more) c (OccursAt-append b more _ (c + 4) o) a
 
 -- a chunk whose type is cut may have any, and "acTL" the next one
-reached_past : (b : List ℕ) (c : ℕ) → length b < c + 8 → Reachable (λ d. IsAnimatedFrom d c) b
+reached_past : (b : List ℕ) (c : ℕ) → length b < c + 8 → MayBecome (λ d. IsAnimatedFrom d c) b
 reached_past b c short =
     let f = fills_most b (c + 8) in
     let d = b ++ f.more in
@@ -66,7 +66,7 @@ reached_past b c short =
     let kept = get_or_append_left d g.more 0 (c + 7) (omega (arith, f.long)) in
     absurd (omega (arith, last, kept, subst (λ k. get_or e k 0 ≡ 0x54) place read)) in
     let at : c + 12 + be32 e c ≡ next = omega arith in
-    Reachable-grown (λ x. IsAnimatedFrom x c) b f.more f.bytes (
+    MayBecome-grown (λ x. IsAnimatedFrom x c) b f.more f.bytes (
       g.more,
       g.bytes,
       later c (omega (arith, f.long, length-append d g.more)) other (subst (IsAnimatedFrom e) (sym at) (here next g.holds)),
@@ -74,9 +74,9 @@ reached_past b c short =
 
 -- the chunk at c decides what the buffer is, and what it may become
 abbrev pub Decides : List ℕ → ℕ → Type 0
-Decides b c = (IsAnimated b ↔ IsAnimatedFrom b c) × (Reachable IsAnimated b ↔ Reachable (λ d. IsAnimatedFrom d c) b)
+Decides b c = (IsAnimated b ↔ IsAnimatedFrom b c) × (MayBecome IsAnimated b ↔ MayBecome (λ d. IsAnimatedFrom d c) b)
 
-pub open_at : (b : List ℕ) (c : ℕ) → length b < c + 8 → Decides b c → (¬ IsAnimated b) × Reachable IsAnimated b
+pub open_at : (b : List ℕ) (c : ℕ) → length b < c + 8 → Decides b c → (¬ IsAnimated b) × MayBecome IsAnimated b
 open_at b c short h = (λ a. let fits = fits_chunk b c (h.0.0 a) in omega arith, h.1.1 (reached_past b c short))
 
 pub next_decides : (b : List ℕ) (c n : ℕ) → n ≡ be32 b c → c + 8 ≤ length b → (OccursAt b (codes "acTL") (c + 4) → ⊥)

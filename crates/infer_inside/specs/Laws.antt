@@ -1,7 +1,7 @@
 -- Laws of the relations.
 use Rattle.std.specs.Prelude.{◌≡◌, ◌⊎◌, ℕ, ◌+◌, ◌<◌, ◌≤◌, List, [], ◌∷◌, ◌++◌, slice_index}
 use Rattle.memchr.specs.Find.{OccursAt}
-use Rattle.infer_deep.specs.Signatures.{Lasts, Reachable}
+use Rattle.infer_deep.specs.Signatures.{Lasts, MayBecome}
 use Rattle.infer_inside.specs.Dbase.{IsDbase}
 use Rattle.infer_inside.specs.Elf.{IsSharedObject}
 use Rattle.infer_inside.specs.Json.{CanBe, IsBlank, IsJson, IsJsonLines, blanks, text}
@@ -68,8 +68,8 @@ pub record Leads : Type 0 where
 
 -- no bytes after 00 make a buffer with it JSON; and what is text with 00 after it stays text
 pub record Ends : Type 0 where
-  pub json : (b : List ℕ) → ¬ Reachable IsJson (b ++ 0 ∷ [])
-  pub json_lines : (b : List ℕ) → ¬ Reachable IsJsonLines (b ++ 0 ∷ [])
+  pub json : (b : List ℕ) → ¬ MayBecome IsJson (b ++ 0 ∷ [])
+  pub json_lines : (b : List ℕ) → ¬ MayBecome IsJsonLines (b ++ 0 ∷ [])
   pub plain : (b : List ℕ) → IsText (b ++ 0 ∷ []) → Stays IsText b
 
 -- a script names one program, and markup has one root element; and no bytes make one text of JSON of what has "]", a line

@@ -1,15 +1,15 @@
 -- What more bytes leave open, byte by byte, and what is told of a relation in one pass: whether it holds, and whether bytes
 -- after the buffer may bring it.
 use Rattle.std.specs.Prelude.{ℕ, ◌↔◌, ◌<◌, All, Bool, IsTrue, List, ◌++◌, Option, MatchOption, length, slice_index}
-use Rattle.infer_deep.specs.Signatures.{Reachable}
+use Rattle.infer_deep.specs.Signatures.{MayBecome}
 
 -- the byte at p, if b has it, is of the kind
 abbrev pub MayBe : (ℕ → Type 0) → List ℕ → ℕ → Type 0
 MayBe Kind b p = p < length b → Kind (slice_index b p)
 
 -- r is whether b has S, which no bytes after it change; and none only if b has it not, but some bytes bring it
-abbrev pub Tells : (List ℕ → Type 0) → List ℕ → Option Bool → Type 0
-Tells S b r = MatchOption r ((¬ S b) × Reachable S b) (λ yes. (IsTrue yes ↔ S b) × (IsTrue yes ↔ Reachable S b))
+abbrev pub TellsMayBecome : (List ℕ → Type 0) → List ℕ → Option Bool → Type 0
+TellsMayBecome S b r = MatchOption r ((¬ S b) × MayBecome S b) (λ yes. (IsTrue yes ↔ S b) × (IsTrue yes ↔ MayBecome S b))
 
 -- b has S, whatever bytes follow
 abbrev pub Stays : (List ℕ → Type 0) → List ℕ → Type 0

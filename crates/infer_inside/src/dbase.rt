@@ -2,7 +2,7 @@
 ghost use Rattle.std.specs.Prelude.{◌≡◌, ◌↔◌, ◌≤◌, ℕ, length, slice_index, codes, IsTrue};
 ghost use Rattle.infer_deep.specs.Numbers.{le16};
 ghost use Rattle.infer_inside.specs.Dbase.{BeginsName, EndsFields, HasField, IsDated, IsDbase, IsOneOf, MayBeDated, MayBeDbase, MayEndFields, MayHaveField, behind, versions};
-ghost use Rattle.infer_deep.specs.Signatures.{Reachable};
+ghost use Rattle.infer_deep.specs.Signatures.{MayBecome};
 
 use crate::numbers::byte_or;
 use infer_deep::numbers::le16;
@@ -21,7 +21,7 @@ pub fn is_dbase(buf: &[u8]) -> bool
 /// Whether some bytes after `buf`, or none, make it the header of a dBASE table.
 #[tactic(auto, using(crate::proofs::OpenDbaseLemmas::dbase_reached, crate::proofs::OpenDbaseLemmas::dbase_known))]
 pub fn may_become_dbase(buf: &[u8]) -> bool
-    ensures { IsTrue result ↔ Reachable IsDbase buf.now }
+    ensures { IsTrue result ↔ MayBecome IsDbase buf.now }
 {
     may_be_dbase(buf)
 }

@@ -1,7 +1,7 @@
 //! ELF files, by their program headers.
 ghost use Rattle.std.specs.Prelude.{◌≡◌, ◌↔◌, ◌+◌, ◌*◌, ◌<◌, ◌≤◌, ℕ, length, IsTrue};
 ghost use Rattle.infer_inside.specs.Elf.{AsksAt, HasOwnTable, IsLeastCount, IsSharedObject, MayBeSharedObject, MayHaveOwnTable, NoneKnownAsks, counted_length, entry_count, entry_size, known_size, place_end, size_at, table_place};
-ghost use Rattle.infer_deep.specs.Signatures.{Reachable};
+ghost use Rattle.infer_deep.specs.Signatures.{MayBecome};
 
 use crate::numbers::{byte_or, bytes16, number16, number32, number64};
 use infer_deep::places::may_stand_at;
@@ -24,7 +24,7 @@ pub fn is_shared_object(buf: &[u8]) -> bool
 
 /// Whether some bytes after `buf`, or none, make it a shared object.
 pub fn may_become_shared_object(buf: &[u8]) -> bool
-    ensures { IsTrue result ↔ Reachable IsSharedObject buf.now }
+    ensures { IsTrue result ↔ MayBecome IsSharedObject buf.now }
 {
     may_be_shared_object(buf)
 }

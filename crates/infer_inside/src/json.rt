@@ -1,7 +1,7 @@
 //! JSON texts, of which a buffer may have the beginning only.
 ghost use Rattle.std.specs.Prelude.{◌≡◌, ◌⊎◌, ◌↔◌, ◌≤◌, ◌%◌, ◌∷◌, [], ◌++◌, ℕ, None, drop, length, IsTrue, MatchOption, not};
 ghost use Rattle.std.specs.Bool.{OnTrue};
-ghost use Rattle.infer_deep.specs.Signatures.{Reachable};
+ghost use Rattle.infer_deep.specs.Signatures.{MayBecome};
 ghost use Rattle.infer_inside.specs.Json.{BeginsToken, BeginsWhole, BehindBlanks, blanks, CanBe, hex, IsBlank, IsJson, IsJsonLines, IsKind, IsMark, next_line, range, same_line, text};
 ghost use Rattle.infer_inside.specs.JsonStates.{Begun, closing, due_left, EndTells, Follows, IsBracket, IsClosedTo, IsKindBefore, IsKindPastMark, IsNextLine, IsOpen, IsPast, IsPastMark, left, LineTells, NoToken, opening, PlaceTells, Reads, TellsAsMuch, StartsLine, Starts, Tells};
 ghost use Rattle.infer_inside.specs.declared.json.Token.TheVariants.{Chars, Escape, Minus, Zero, Whole, Fraction, Exponent, Power};
@@ -48,14 +48,14 @@ pub fn is_json_lines(buf: &[u8]) -> bool
 
 /// Whether some bytes after `buf`, or none, make it JSON.
 pub fn may_become_json(buf: &[u8]) -> bool
-    ensures { IsTrue result ↔ Reachable IsJson buf.now }
+    ensures { IsTrue result ↔ MayBecome IsJson buf.now }
 {
     ends_in_mark(buf) || may_be_text(past_mark(buf))
 }
 
 /// Whether some bytes after `buf`, or none, make it JSON lines.
 pub fn may_become_json_lines(buf: &[u8]) -> bool
-    ensures { IsTrue result ↔ Reachable IsJsonLines buf.now }
+    ensures { IsTrue result ↔ MayBecome IsJsonLines buf.now }
 {
     ends_in_mark(buf) || may_be_lines(past_mark(buf))
 }

@@ -1,7 +1,7 @@
 //! Markup, by its root element.
 ghost use Rattle.std.specs.Prelude.{◌≡◌, ◌≢◌, ◌↔◌, Some, ◌+◌, ◌++◌, ◌<◌, ◌≤◌, ◌⊎◌, ℕ, List, Option, None, All, length, slice_index, slice_range, IsTrue, IfSome, MatchOption};
 ghost use Rattle.infer_deep.specs.Open.{AgreesAt};
-ghost use Rattle.infer_deep.specs.Signatures.{Reachable};
+ghost use Rattle.infer_deep.specs.Signatures.{MayBecome};
 ghost use Rattle.infer_deep.specs.Places.{FindsPlace};
 ghost use Rattle.infer_inside.specs.Runs.{IsRun};
 ghost use Rattle.infer_inside.specs.Markup.{AgreesWithDoctype, BeginsAt, BeginsElement, ClosesDeclaration, EndsName, HasInTag, HasNoBracket, HasRoot, HasRootWith, IsDoctype, IsEnclosed, IsFullName, IsLocalName, IsMisc, IsNameByte, IsPart, IsRootElement, IsSpaceRun, IsTypeByte, IsXmlSpace, LeadsToTag, MayBeRooted, MayDeclare, MayGoOn, MayNameRoot, MayOpen, MayOpenAs, MayOpenTag, OpensTag, utf8_mark};
@@ -322,7 +322,7 @@ fn is_doctype(buf: &[u8], name: usize, from: usize, to: usize) -> bool
 
 /// Whether some bytes after `buf`, or none, give it a root element with this local name.
 pub fn may_have_root(buf: &[u8], name: &[u8]) -> bool
-    ensures { IsTrue result ↔ Reachable (HasRoot name.now) buf.now }
+    ensures { IsTrue result ↔ MayBecome (HasRoot name.now) buf.now }
 {
     match root_of(buf) {
         Some(root) => is_same(root.name, name),
@@ -333,7 +333,7 @@ pub fn may_have_root(buf: &[u8], name: &[u8]) -> bool
 /// Whether some bytes after `buf`, or none, give it a root element with this local name, and the text in its tag behind
 /// the name.
 pub fn may_have_root_with(buf: &[u8], name: &[u8], text: &[u8]) -> bool
-    ensures { IsTrue result ↔ Reachable (HasRootWith name.now text.now) buf.now }
+    ensures { IsTrue result ↔ MayBecome (HasRootWith name.now text.now) buf.now }
 {
     match root_of(buf) {
         Some(root) => is_same(root.name, name) && may_have_in_tag(&root, text),
@@ -344,7 +344,7 @@ pub fn may_have_root_with(buf: &[u8], name: &[u8], text: &[u8]) -> bool
 /// [`may_have_root_with`] of a buffer that has no root yet.
 fn may_come_to_root_with(buf: &[u8], name: &[u8], text: &[u8]) -> bool
     requires { (name rest : List ℕ) → ¬ IsRootElement name rest buf.now }
-    ensures { IsTrue result ↔ Reachable (HasRootWith name.now text.now) buf.now }
+    ensures { IsTrue result ↔ MayBecome (HasRootWith name.now text.now) buf.now }
 {
     if has_closing(text) {
         return false;
@@ -354,7 +354,7 @@ fn may_come_to_root_with(buf: &[u8], name: &[u8], text: &[u8]) -> bool
 
 /// Whether the text stands in the tag, or can come to if the tag goes on.
 fn may_have_in_tag(root: &Root<'_>, text: &[u8]) -> bool
-    ensures { IsTrue result ↔ Reachable (HasInTag text.now) root.now.rest.now }
+    ensures { IsTrue result ↔ MayBecome (HasInTag text.now) root.now.rest.now }
 {
     if has_closing(root.rest) {
         return root.has_in_tag(text);
@@ -376,8 +376,8 @@ fn has_closing(text: &[u8]) -> bool
 /// [`may_have_root`] of a buffer that has none yet. What ends its name can be anything that does.
 fn may_come_to_root(buf: &[u8], name: &[u8]) -> bool
     requires { (name rest : List ℕ) → ¬ IsRootElement name rest buf.now }
-    ensures comes { IsTrue result → (rest : List ℕ) → EndsName rest → All (λ x. x < 256) rest → Reachable (IsRootElement name.now rest) buf.now }
-    ensures known { Reachable (HasRoot name.now) buf.now → IsTrue result }
+    ensures comes { IsTrue result → (rest : List ℕ) → EndsName rest → All (λ x. x < 256) rest → MayBecome (IsRootElement name.now rest) buf.now }
+    ensures known { MayBecome (HasRoot name.now) buf.now → IsTrue result }
 {
     if !is_local_name(name) {
         return false;

@@ -1,7 +1,7 @@
 //! PNG images, by their chunks.
 ghost use Rattle.std.specs.Prelude.{◌↔◌, IsTrue};
-ghost use Rattle.infer_deep.specs.Signatures.{Reachable};
-ghost use Rattle.infer_inside.specs.Open.{Tells};
+ghost use Rattle.infer_deep.specs.Signatures.{MayBecome};
+ghost use Rattle.infer_inside.specs.Open.{TellsMayBecome};
 ghost use Rattle.infer_inside.specs.Png.{IsAnimated};
 
 use infer_deep::numbers::be32;
@@ -16,7 +16,7 @@ pub fn is_animated(buf: &[u8]) -> bool
 
 /// Whether some bytes after `buf`, or none, make it an animated image.
 pub fn may_become_animated(buf: &[u8]) -> bool
-    ensures { IsTrue result ↔ Reachable IsAnimated buf.now }
+    ensures { IsTrue result ↔ MayBecome IsAnimated buf.now }
 {
     animation(buf) != Some(false)
 }
@@ -24,7 +24,7 @@ pub fn may_become_animated(buf: &[u8]) -> bool
 /// Whether the chunks are those of an animated image, and none if they go on past the end of `buf`.
 #[inline(always)]
 fn animation(buf: &[u8]) -> Option<bool>
-    ensures { Tells IsAnimated buf.now result }
+    ensures { TellsMayBecome IsAnimated buf.now result }
 {
     let mut chunk = 8;
     while chunk < buf.len() && buf.len() - chunk >= 8 {

@@ -2,7 +2,7 @@
 ghost use Rattle.std.specs.Prelude.{◌≡◌, ◌↔◌, ◌+◌, ◌<◌, ◌≤◌, ◌⊎◌, ℕ, List, length, codes, slice_index, IsTrue, IfSome, MatchOption};
 ghost use Rattle.memchr.specs.Find.{OccursAt};
 ghost use Rattle.infer_deep.specs.Open.{AgreesAt};
-ghost use Rattle.infer_deep.specs.Signatures.{Reachable};
+ghost use Rattle.infer_deep.specs.Signatures.{MayBecome};
 ghost use Rattle.infer_inside.specs.Runs.{IsRun};
 ghost use Rattle.infer_inside.specs.Script.{EndsBare, HasEquals, IsBareName, IsBlank, IsEnv, IsLineEnd, IsNameByte, IsNextWord, IsProgram, IsRead, IsSetting, IsVersionByte, IsWord, IsWordByte, NamesProgram};
 
@@ -46,7 +46,7 @@ fn bare_name(buf: &[u8], word: Word) -> &[u8]
 /// Whether some bytes after `buf`, or none, make it a script of the program with this name.
 #[tactic(auto, using(crate::proofs::OpenScriptLemmas::opened_so, crate::proofs::OpenScriptLemmas::none_in_short))]
 pub fn may_become_program(buf: &[u8], name: &[u8]) -> bool
-    ensures { IsTrue result ↔ Reachable (IsProgram name.now) buf.now }
+    ensures { IsTrue result ↔ MayBecome (IsProgram name.now) buf.now }
 {
     if !may_stand_at(buf, b"#!", 0) {
         return false;
@@ -71,7 +71,7 @@ fn is_same(name: &[u8], other: &[u8]) -> bool
 fn may_name(buf: &[u8], name: &[u8]) -> bool
     requires opens { AgreesAt buf.now (codes "#!") 0 }
     requires none { (p q : ℕ) → ¬ NamesProgram buf.now p q }
-    ensures { IsTrue result ↔ Reachable (IsProgram name.now) buf.now }
+    ensures { IsTrue result ↔ MayBecome (IsProgram name.now) buf.now }
 {
     if !is_bare(name) {
         return false;

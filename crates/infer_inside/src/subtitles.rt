@@ -2,7 +2,7 @@
 ghost use Rattle.std.specs.Prelude.{◌≡◌, ◌↔◌, ◌+◌, ◌<◌, ◌≤◌, ℕ, slice_index, IsTrue};
 ghost use Rattle.infer_deep.specs.Places.{FindsPlace};
 ghost use Rattle.infer_inside.specs.Subtitles.{AreDigits, EndsLine, IsCue, IsDigit, IsPairAt, IsSpan, IsSubRip, IsTime, MayBeCue, MayBePair, MayBeSpan, MayBeSubRip, MayBeTime};
-ghost use Rattle.infer_deep.specs.Signatures.{Reachable};
+ghost use Rattle.infer_deep.specs.Signatures.{MayBecome};
 
 use crate::numbers::byte_or;
 use infer_deep::places::{may_stand_at, stands_at};
@@ -16,7 +16,7 @@ pub fn is_subrip(buf: &[u8]) -> bool
 
 /// Whether some bytes after `buf`, or none, make it subtitles of SubRip.
 pub fn may_become_subrip(buf: &[u8]) -> bool
-    ensures { IsTrue result ↔ Reachable IsSubRip buf.now }
+    ensures { IsTrue result ↔ MayBecome IsSubRip buf.now }
 {
     may_be_subrip(buf)
 }

@@ -1,6 +1,6 @@
 //! Tar archives without a magic text, by the checksum of their first header.
 ghost use Rattle.std.specs.Prelude.{◌≡◌, ◌↔◌, ◌+◌, ◌*◌, ◌<◌, ◌≤◌, ℕ, length, slice_index, IsTrue, ◌⊎◌};
-ghost use Rattle.infer_deep.specs.Signatures.{Reachable};
+ghost use Rattle.infer_deep.specs.Signatures.{MayBecome};
 ghost use Rattle.infer_inside.specs.Tar.{HasTarChecksum, IsField, IsOctal, MayWrite, header_sum, octal, sum_from};
 
 /// A first header whose checksum, in octal digits, is the sum of its bytes.
@@ -17,7 +17,7 @@ pub fn has_tar_checksum(buf: &[u8]) -> bool
 
 /// Whether some bytes after `buf`, or none, make it begin with a header whose checksum is the sum of its bytes.
 pub fn may_have_tar_checksum(buf: &[u8]) -> bool
-    ensures { IsTrue result ↔ Reachable HasTarChecksum buf.now }
+    ensures { IsTrue result ↔ MayBecome HasTarChecksum buf.now }
 {
     if buf.len() >= 512 {
         return has_tar_checksum(buf);
@@ -37,7 +37,7 @@ fn may_have_sum(buf: &[u8]) -> bool
     requires low { 148 ≤ length buf.now }
     requires high { length buf.now < 512 }
     requires first { 1 ≤ slice_index buf.now 0 }
-    ensures { IsTrue result ↔ Reachable HasTarChecksum buf.now }
+    ensures { IsTrue result ↔ MayBecome HasTarChecksum buf.now }
 {
     let end = buf.len().min(156);
     let place = spaces_end(buf, end);

@@ -3,7 +3,7 @@ ghost use Rattle.std.specs.Prelude.{◌≡◌, ◌↔◌, ◌<◌, ◌≤◌, �
 ghost use Rattle.std.specs.Bool.{OnTrue};
 ghost use Rattle.std.specs.Str.{IsAscii};
 ghost use Rattle.infer_deep.specs.Blocks.{AllBelow};
-ghost use Rattle.infer_deep.specs.Signatures.{Reachable};
+ghost use Rattle.infer_deep.specs.Signatures.{MayBecome};
 ghost use Rattle.infer_deep.specs.Text.{BeginsMarked};
 ghost use Rattle.infer_inside.specs.Open.{Stays};
 ghost use Rattle.simdutf8.specs.Steps.{IsContinuation, least_after, most_after};
@@ -76,7 +76,7 @@ pub fn is_binary(buf: &[u8]) -> bool
 
 /// Whether some bytes after `buf`, or none, make it text.
 pub fn may_become_text(buf: &[u8]) -> bool
-    ensures { IsTrue result ↔ Reachable IsText buf.now }
+    ensures { IsTrue result ↔ MayBecome IsText buf.now }
 {
     buf.is_empty() || is_text(buf)
 }

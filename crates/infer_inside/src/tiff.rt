@@ -2,7 +2,7 @@
 ghost use Rattle.std.specs.Prelude.{◌≡◌, ◌↔◌, ◌+◌, ◌≤◌, ℕ, length, IsTrue};
 ghost use Rattle.infer_inside.specs.Numbers.{number32};
 ghost use Rattle.infer_inside.specs.Tiff.{BeginsTiff, HasTag, IsTagEntry, MayHaveEntry, MayHaveTag};
-ghost use Rattle.infer_deep.specs.Signatures.{Reachable};
+ghost use Rattle.infer_deep.specs.Signatures.{MayBecome};
 
 use crate::numbers::{bytes16, number16, number32};
 use infer_deep::places::{may_stand_at, stands_at};
@@ -19,7 +19,7 @@ pub fn first_directory_has_tag(buf: &[u8], tag: u16) -> bool
 
 /// Whether some bytes after `buf`, or none, give the first directory of a TIFF file an entry with this tag.
 pub fn first_directory_may_have_tag(buf: &[u8], tag: u16) -> bool
-    ensures { IsTrue result ↔ Reachable (HasTag tag) buf.now }
+    ensures { IsTrue result ↔ MayBecome (HasTag tag) buf.now }
 {
     may_have_tag(buf, tag)
 }

@@ -3,7 +3,7 @@ ghost use Rattle.std.specs.Prelude.{◌≡◌, ◌↔◌, ◌+◌, ◌≤◌, le
 ghost use Rattle.infer_deep.specs.Numbers.{le16};
 ghost use Rattle.infer_deep.specs.Places.{FindsPlace};
 ghost use Rattle.infer_inside.specs.Zip.{FindsFolder, FindsPackage, FindsPart, FirstEntryEndsIn, FirstEntryHasExtra, FirstEntryIs, HasFirstName, IsFolder, IsFolderEntry, IsOneOf, IsPackageWith, IsPartEntry, MayBeginAny, MayBeginPackage, MayHaveFirstEnding, MayHaveFirstField, MayHaveFirstName, MayOpenPackage, applications};
-ghost use Rattle.infer_deep.specs.Signatures.{Reachable};
+ghost use Rattle.infer_deep.specs.Signatures.{MayBecome};
 
 use crate::numbers::most16;
 use infer_deep::numbers::le16;
@@ -57,7 +57,7 @@ fn first_name_end(buf: &[u8]) -> Option<usize>
 /// Whether some bytes after `buf`, or none, give the first entry this name.
 #[tactic(auto, using(infer_deep::proofs::OpenLemmas::test_from_reads, crate::proofs::OpenZipLemmas::name_reached, crate::proofs::OpenZipLemmas::name_known))]
 pub fn may_have_first_entry(buf: &[u8], name: &[u8]) -> bool
-    ensures { IsTrue result ↔ Reachable (FirstEntryIs name.now) buf.now }
+    ensures { IsTrue result ↔ MayBecome (FirstEntryIs name.now) buf.now }
 {
     may_have_first_name(buf, name)
 }
@@ -77,7 +77,7 @@ fn may_have_first_name(buf: &[u8], name: &[u8]) -> bool
 /// Whether some bytes after `buf`, or none, give the first entry a name that ends in this text, or is it.
 #[tactic(auto, using(infer_deep::proofs::OpenLemmas::test_from_reads, crate::proofs::OpenZipLemmas::ending_reached, crate::proofs::OpenZipLemmas::ending_known))]
 pub fn may_have_first_entry_ending(buf: &[u8], text: &[u8]) -> bool
-    ensures { IsTrue result ↔ Reachable (FirstEntryEndsIn text.now) buf.now }
+    ensures { IsTrue result ↔ MayBecome (FirstEntryEndsIn text.now) buf.now }
 {
     may_have_first_ending(buf, text)
 }
@@ -94,7 +94,7 @@ fn may_have_first_ending(buf: &[u8], text: &[u8]) -> bool
 /// Whether some bytes after `buf`, or none, give the first entry an extra field that begins with this text.
 #[tactic(auto, using(infer_deep::proofs::OpenLemmas::test_from_reads, crate::proofs::OpenZipLemmas::extra_reached, crate::proofs::OpenZipLemmas::extra_known))]
 pub fn may_have_first_extra(buf: &[u8], text: &[u8]) -> bool
-    ensures { IsTrue result ↔ Reachable (FirstEntryHasExtra text.now) buf.now }
+    ensures { IsTrue result ↔ MayBecome (FirstEntryHasExtra text.now) buf.now }
 {
     may_have_first_field(buf, text)
 }
@@ -141,7 +141,7 @@ pub fn package_folder(buf: &[u8]) -> Option<usize>
 #[tactic(auto, using(crate::proofs::OpenPackageLemmas::opened, crate::proofs::OpenPackageLemmas::none_yet))]
 pub fn may_become_package_with(buf: &[u8], folder: &[u8]) -> bool
     requires { IsOneOf folder.now applications }
-    ensures { IsTrue result ↔ Reachable (IsPackageWith folder.now) buf.now }
+    ensures { IsTrue result ↔ MayBecome (IsPackageWith folder.now) buf.now }
 {
     if !may_open_package(buf, folder) {
         return false;

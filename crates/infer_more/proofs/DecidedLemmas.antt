@@ -5,7 +5,7 @@ use Rattle.std.specs.List.{AllWithin, HoldsAt}
 use Rattle.std.proofs.lemmas.Bool.{cases_lt}
 use Rattle.std.proofs.lemmas.List.Elements.{All-cons, All-nil, AllWithin-none}
 use Rattle.std.proofs.lemmas.Option.{get_or_from_slice_get}
-use Rattle.infer_deep.specs.Signatures.{Reachable}
+use Rattle.infer_deep.specs.Signatures.{MayBecome}
 use Rattle.infer_inside.specs.Open.{Stays}
 use Rattle.infer.specs.Buffer.{IsBuffer}
 use Rattle.infer.specs.Decided as built_in_decided
@@ -190,6 +190,6 @@ module _ (P : Further → Type 0) where
 -- ---- the built-in rows and the further ones
 
 pub may_swap : {A : Type 0} (P : List ℕ → A → Type 0) (b : List ℕ) (o : Option A)
-    → MatchOption o ⊥ (λ r. Reachable (λ c. P c r) b) ↔ Reachable (λ c. MatchOption o ⊥ (P c)) b
+    → MatchOption o ⊥ (λ r. MayBecome (λ c. P c r) b) ↔ MayBecome (λ c. MatchOption o ⊥ (P c)) b
 may_swap P b None = (λ h. absurd h, λ (more, bytes, h). h)
 may_swap P b (Some r) = (λ h. h, λ h. h)

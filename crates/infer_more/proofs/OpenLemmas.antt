@@ -7,7 +7,7 @@ use Rattle.std.proofs.lemmas.List.Elements.{All-append, All-cons, All-nil}
 use denote.Ref.{Bor}
 use Rattle.infer_deep.specs.Find.{OccursAt}
 use Rattle.infer_deep.specs.Open.{AgreesAt}
-use Rattle.infer_deep.specs.Signatures.{Reachable}
+use Rattle.infer_deep.specs.Signatures.{MayBecome}
 use Rattle.infer_deep.proofs.OpenLemmas.{agrees_past, fills_parts, grown_agrees, stands_where_whole}
 use Rattle.infer_deep.proofs.PlaceLemmas.{OccursAt-append}
 use Rattle.infer_inside.specs.Open.{Stays}
@@ -15,7 +15,7 @@ use Rattle.infer_inside.specs.Png.{IsAnimated, here}
 use Rattle.infer_inside.specs.Script.{IsProgram}
 use Rattle.infer_inside.specs.Text.{IsBinary}
 use Rattle.infer_sig.specs.Laws.{Lasts}
-use Rattle.infer_sig.specs.Open.{IsOpen, agrees, is_alternative_sound, is_sound, may_fit, may_have}
+use Rattle.infer_sig.specs.Open.{MayBecomeIsExact, agrees, is_alternative_sound, is_sound, may_fit, may_have}
 use Rattle.infer_sig.specs.Signature as fixed
 use Rattle.infer_sig.specs.Signature.{Bytes, Part, text, byte, allows, between, fits, stands}
 use Rattle.infer_sig.proofs.PlaceLemmas.{stands_by_place}
@@ -61,9 +61,9 @@ module _ {A B : Type 0} (f : A → B) (P : B → Type 0) where
 
 module _ (b : List ℕ) where
   abbrev pub MayFit : List Alternative → Type 0
-  MayFit xs = SomeOf alternative_listed (λ a. Reachable (Fits a) b) xs
+  MayFit xs = SomeOf alternative_listed (λ a. MayBecome (Fits a) b) xs
 
-  pub some_fits : (xs : List Alternative) → MayFit xs ↔ Reachable (Accepted (signature_listed xs)) b
+  pub some_fits : (xs : List Alternative) → MayFit xs ↔ MayBecome (Accepted (signature_listed xs)) b
   some_fits [] = (λ h. absurd h, λ (more, bytes, h). h)
   some_fits (x ∷ xs) = let rest = some_fits xs in (
     λ h. elim h [
@@ -77,9 +77,9 @@ module _ (b : List ℕ) where
   )
 
   abbrev pub MayName : List (Bor (List ℕ)) → Type 0
-  MayName xs = SomeOf (λ (x : Bor (List ℕ)). x.now) (λ name. Reachable (IsProgram name) b) xs
+  MayName xs = SomeOf (λ (x : Bor (List ℕ)). x.now) (λ name. MayBecome (IsProgram name) b) xs
 
-  pub some_named : (xs : List (Bor (List ℕ))) → MayName xs ↔ Reachable (IsProgramAmong (map (λ (x : Bor (List ℕ)). x.now) xs)) b
+  pub some_named : (xs : List (Bor (List ℕ))) → MayName xs ↔ MayBecome (IsProgramAmong (map (λ (x : Bor (List ℕ)). x.now) xs)) b
   some_named [] = (λ h. absurd h, λ (more, bytes, h). h)
   some_named (x ∷ xs) = let rest = some_named xs in (
     λ h. elim h [
@@ -94,8 +94,8 @@ module _ (b : List ℕ) where
 
 -- ---- fixed bytes
 
-module _ (opens : (signature : List fixed.Alternative) → IsTrue (is_sound signature) → IsOpen signature) (a : fixed.Alternative) (sound : IsTrue (is_alternative_sound a)) (b : List ℕ) where
-  pub bytes_open : (r : Bool) → r ≡ may_fit b a → IsTrue r ↔ Reachable (λ c. IsTrue (fits c a)) b
+module _ (opens : (signature : List fixed.Alternative) → IsTrue (is_sound signature) → MayBecomeIsExact signature) (a : fixed.Alternative) (sound : IsTrue (is_alternative_sound a)) (b : List ℕ) where
+  pub bytes_open : (r : Bool) → r ≡ may_fit b a → IsTrue r ↔ MayBecome (λ c. IsTrue (fits c a)) b
   bytes_open r e =
       let open_it = opens (a ∷ []) (and_from (is_alternative_sound a) true sound refl) b in (
         λ t.
@@ -109,7 +109,7 @@ module _ (opens : (signature : List fixed.Alternative) → IsTrue (is_sound sign
       only false h = h
 
   -- a byte of binary data can always follow
-  pub binary_open : Lasts (a ∷ []) → (r : Bool) → r ≡ may_fit b a → IsTrue r ↔ Reachable (λ c. IsTrue (fits c a) × IsBinary c) b
+  pub binary_open : Lasts (a ∷ []) → (r : Bool) → r ≡ may_fit b a → IsTrue r ↔ MayBecome (λ c. IsTrue (fits c a) × IsBinary c) b
   binary_open lasts r e =
       let plain = bytes_open r e in (
         λ t. let (more, bytes, h) = plain.0 t in (
@@ -217,10 +217,10 @@ module _ (place : ℕ) (b : List ℕ) where
 
 -- ---- an animated image
 
-pub animation_known : (b : List ℕ) → Reachable (λ c. OccursAt c png_header 0 × IsAnimated c) b → AgreesAt b png_header 0 × Reachable IsAnimated b
+pub animation_known : (b : List ℕ) → MayBecome (λ c. OccursAt c png_header 0 × IsAnimated c) b → AgreesAt b png_header 0 × MayBecome IsAnimated b
 animation_known b (more, bytes, (header, animated)) = (grown_agrees b more png_header 0 header, (more, bytes, animated))
 
-pub animation_comes : (b : List ℕ) → AgreesAt b png_header 0 → Reachable IsAnimated b → Reachable (λ c. OccursAt c png_header 0 × IsAnimated c) b
+pub animation_comes : (b : List ℕ) → AgreesAt b png_header 0 → MayBecome IsAnimated b → MayBecome (λ c. OccursAt c png_header 0 × IsAnimated c) b
 animation_comes b agree (more, bytes, animated) = elim (cases_lt (length b) 4) [
   | inl short ↦
       let f = fills_parts (record { place = 0; text = png_header } ∷ record { place = 12; text = codes "acTL" } ∷ []) b 0 16
@@ -242,5 +242,5 @@ fit_stays all_last a n m p b f more bytes =
     elim (all_last (alternative_listed a ∷ []) (and_from (is_lasting (alternative_listed a)) true (lasts_but a n m p) refl) b more (inl f)) [ inl g ↦ g | inr g ↦ absurd g ]
 
 -- what some bytes after it do not make it, it is not
-pub not_yet : (S : List ℕ → Type 0) (b : List ℕ) → ¬ Reachable S b → ¬ S b
+pub not_yet : (S : List ℕ → Type 0) (b : List ℕ) → ¬ MayBecome S b → ¬ S b
 not_yet S b none is = none ([], All-nil (λ x. x < 256), subst S (sym (append-nil b)) is)

@@ -1,6 +1,6 @@
 -- What more bytes can change of a wider answer.
 use Rattle.std.specs.Prelude.{◌≡◌, ◌⊎◌, ℕ, List, [], ◌∷◌, ◌++◌, Option}
-use Rattle.infer_deep.specs.Signatures.{Reachable}
+use Rattle.infer_deep.specs.Signatures.{MayBecome}
 use Rattle.infer.specs.Buffer.{IsBuffer}
 use Rattle.infer.specs.First.{IsFirstOf}
 use Rattle.infer_more.specs.Row.{Further}
@@ -17,12 +17,12 @@ abbrev pub IsChangeable : List ℕ → Type 0
 IsChangeable b = (more : List ℕ) × IsBuffer more × ((o : Option ℕ) → IsWider b o → ¬ IsWider (b ++ more) o)
 
 -- some bytes after the buffer, or none, make the signature of row i, built-in or further, accept it
-abbrev pub MayAcceptAt : List ℕ → ℕ → Type 0
-MayAcceptAt b i = Reachable (λ c. AcceptsAt c i) b
+abbrev pub MayBecomeAt : List ℕ → ℕ → Type 0
+MayBecomeAt b i = MayBecome (λ c. AcceptsAt c i) b
 
 -- the further row has this parent, and some bytes after the buffer, or none, make its signature accept it
 abbrev pub MayWiden : Option ℕ → List ℕ → Further → Type 0
-MayWiden parent b r = (r.parent ≡ parent) × Reachable (Accepted r.signature) b
+MayWiden parent b r = (r.parent ≡ parent) × MayBecome (Accepted r.signature) b
 
 -- whatever bytes follow, the first further row that widens this answer, or that none does, stays
 abbrev pub IsWidenedForGood : Option ℕ → List ℕ → Type 0

@@ -3,7 +3,7 @@ ghost use Rattle.std.specs.Prelude.{◌↔◌, ◌<◌, IsFalse, IsTrue, length}
 ghost use Rattle.std.specs.List.{HoldsAt};
 ghost use Rattle.infer.specs.First.{IsFirst, IsFirstOf};
 ghost use Rattle.infer_inside.specs.Open.{Stays};
-ghost use Rattle.infer_more.specs.Decided.{IsChangeable, IsDecided, IsUnstable, IsWidenedForGood, IsWideningOpen, MayAcceptAt, MayWiden};
+ghost use Rattle.infer_more.specs.Decided.{IsChangeable, IsDecided, IsUnstable, IsWidenedForGood, IsWideningOpen, MayBecomeAt, MayWiden};
 ghost use Rattle.infer_more.specs.Listed.{row_listed};
 ghost use Rattle.infer_more.specs.Open.{is_row_sound};
 ghost use Rattle.infer_more.specs.Row.{is_row_closed};
@@ -11,7 +11,7 @@ ghost use Rattle.infer_notation.specs.Alternative.{Accepted};
 ghost use Rattle.infer_more.specs.Table.{further};
 
 use crate::index::FURTHER_COUNT;
-use crate::open::{may_accept, stays_accepted};
+use crate::open::{may_become_accepted, stays_accepted};
 use crate::signature;
 use crate::signature::ANY;
 use crate::table::{FurtherRow, row_at};
@@ -83,18 +83,18 @@ fn row_may_widen(row: &FurtherRow, parent: Option<usize>, buf: &[u8]) -> bool
     requires { IsTrue (is_row_sound (row_listed row.now)) }
     ensures { IsTrue result ↔ MayWiden parent buf.now (row_listed row.now) }
 {
-    row.parent == parent && may_accept(row.signature, buf)
+    row.parent == parent && may_become_accepted(row.signature, buf)
 }
 
 /// Whether some bytes after the buffer, or none, make row `i`, built-in or further, accept it.
 pub fn may_become(buf: &[u8], i: usize) -> bool
-    ensures { IsTrue result ↔ MayAcceptAt buf.now i }
+    ensures { IsTrue result ↔ MayBecomeAt buf.now i }
 {
     if i < ROW_COUNT {
         return infer::may_become(buf, i);
     }
     match row_at(i - ROW_COUNT) {
-        Some(row) => may_accept(row.signature, buf),
+        Some(row) => may_become_accepted(row.signature, buf),
         None => false,
     }
 }

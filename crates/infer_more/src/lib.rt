@@ -20,7 +20,7 @@ ghost use Rattle.infer.specs.Watched.{fault_of};
 ghost use Rattle.infer.specs.declared.table.rows.TheConstants.{ROW_COUNT};
 ghost use Rattle.infer_inside.specs.Text.{IsEncodingOf, IsText};
 ghost use Rattle.infer_more.specs.Added.{IsAnswerWith};
-ghost use Rattle.infer_more.specs.Decided.{IsChangeable, IsDecided, MayAcceptAt};
+ghost use Rattle.infer_more.specs.Decided.{IsChangeable, IsDecided, MayBecomeAt};
 ghost use Rattle.infer_more.specs.Ended.{ended_listed, ended_shown};
 ghost use Rattle.infer_more.specs.Reading.{AnswersReader, AnswersSome};
 ghost use Rattle.infer_more.specs.Wider.{AcceptsAt, IsWider, IsWiderAnswer, ShowsExtension, ShowsMimeType, parent_at, shown};
@@ -115,7 +115,7 @@ pub fn is_decided(buf: &[u8]) -> bool
 /// Whether some bytes after `buf`, or none, make the signature of row `i`, built-in or further, accept it. A further row's
 /// parent is not asked.
 pub fn may_become(buf: &[u8], i: usize) -> bool
-    ensures { IsTrue result ↔ MayAcceptAt buf.now i }
+    ensures { IsTrue result ↔ MayBecomeAt buf.now i }
 {
     decided::may_become(buf, i)
 }

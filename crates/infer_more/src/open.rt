@@ -1,6 +1,6 @@
 //! What the bytes after a buffer can bring a signature, and what they can take from it.
 ghost use Rattle.std.specs.Prelude.{◌≡◌, ◌↔◌, ◌∷◌, [], ◌++◌, IsFalse, IsTrue, map};
-ghost use Rattle.infer_deep.specs.Signatures.{Reachable};
+ghost use Rattle.infer_deep.specs.Signatures.{MayBecome};
 ghost use Rattle.infer_inside.specs.Open.{Stays};
 ghost use Rattle.infer_sig.specs.Open.{may_fit, may_have};
 ghost use Rattle.infer_more.specs.Listed.{alternative_listed, bytes_listed, part_listed, signature_listed};
@@ -27,9 +27,9 @@ use infer_inside::zip::{
 };
 
 /// Whether some bytes after the buffer, or none, make the signature accept it.
-pub(super) fn may_accept(signature: &[Alternative], buf: &[u8]) -> bool
+pub(super) fn may_become_accepted(signature: &[Alternative], buf: &[u8]) -> bool
     requires { IsTrue (are_sound (signature_listed signature.now)) }
-    ensures { IsTrue result ↔ Reachable (Accepted (signature_listed signature.now)) buf.now }
+    ensures { IsTrue result ↔ MayBecome (Accepted (signature_listed signature.now)) buf.now }
 {
     for alternative in signature {
         if may_fit(alternative, buf) {
@@ -42,7 +42,7 @@ pub(super) fn may_accept(signature: &[Alternative], buf: &[u8]) -> bool
 /// Whether some make it have what this alternative asks.
 fn may_fit(alternative: &Alternative, buf: &[u8]) -> bool
     requires { IsTrue (is_sound (alternative_listed alternative.now)) }
-    ensures { IsTrue result ↔ Reachable (Fits (alternative_listed alternative.now)) buf.now }
+    ensures { IsTrue result ↔ MayBecome (Fits (alternative_listed alternative.now)) buf.now }
 {
     infer_sig::laws::growth();
     infer_sig::laws::open();
@@ -71,7 +71,7 @@ fn may_fit(alternative: &Alternative, buf: &[u8]) -> bool
 
 /// Whether some make one of the names that of the program.
 fn may_become_program_among(buf: &[u8], names: &[&[u8]]) -> bool
-    ensures { IsTrue result ↔ Reachable (IsProgramAmong
+    ensures { IsTrue result ↔ MayBecome (IsProgramAmong
         (map (λ name. name.now) names.now)) buf.now }
 {
     for name in names {

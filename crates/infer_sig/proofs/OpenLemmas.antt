@@ -1,13 +1,13 @@
 -- What a buffer leaves open of a signature: the bytes that are missing, put after it part by part.
-use Rattle.infer_deep.proofs.Common.{◌≡◌, ℕ, zero, suc, ◌+◌, ◌-◌, ◌≤◌, inl, inr, not, List, [], ◌∷◌, ◌++◌, length, take_all, refl, ap, arith, eqb, ltb, leb, IsTrue, AgreesAt, OccursAt, ◌↔◌, length-append, length-take, get_or-take, and_parts, and_from, or_cases, or_left, or_right, le-leb, eq-eqb, ne_eqb, leb-true, cases_lt, nat_tests, get_or_append_left, list_any, list_all, are_bytes, Reachable}
-use Rattle.infer_deep.proofs.OpenLemmas.{AgreesAt-front, AllAgree, AllStand, LieApart, Reachable-grown, agrees_none, agrees_past, fills_parts, fills_text}
+use Rattle.infer_deep.proofs.Common.{◌≡◌, ℕ, zero, suc, ◌+◌, ◌-◌, ◌≤◌, inl, inr, not, List, [], ◌∷◌, ◌++◌, length, take_all, refl, ap, arith, eqb, ltb, leb, IsTrue, AgreesAt, OccursAt, ◌↔◌, length-append, length-take, get_or-take, and_parts, and_from, or_cases, or_left, or_right, le-leb, eq-eqb, ne_eqb, leb-true, cases_lt, nat_tests, get_or_append_left, list_any, list_all, are_bytes, MayBecome}
+use Rattle.infer_deep.proofs.OpenLemmas.{AgreesAt-front, AllAgree, AllStand, LieApart, MayBecome-grown, agrees_none, agrees_past, fills_parts, fills_text}
 use Rattle.infer_deep.proofs.OpenLemmas as Deep
 use Rattle.infer_deep.proofs.PlaceLemmas.{OccursAt-first}
 use Rattle.infer_sig.proofs.ListLemmas.{list_any_among, list_any_passes, list_all_joined, list_all_passes}
 use Rattle.infer_sig.proofs.PlaceLemmas.{stands_by_place}
 use Rattle.infer_sig.proofs.SignatureLemmas.{part_lasts}
 use Rattle.infer_sig.specs.Laws.{is_part_within, text_lead, part_lead, alternative_lead}
-use Rattle.infer_sig.specs.Open.{agrees, may_have, may_fit, may_accept, has_byte, is_possible, place_of, are_apart, is_alternative_sound, is_sound, IsOpen, Begins}
+use Rattle.infer_sig.specs.Open.{agrees, may_have, may_fit, may_become, has_byte, is_possible, place_of, are_apart, is_alternative_sound, is_sound, MayBecomeIsExact, Begins}
 use Rattle.infer_sig.specs.Signature.{Alternative, at_least, Bytes, any_of, between, all_but, Part, text, any_text, byte, allows, has_part, fits, stands, accepts}
 
 -- a text agrees with a buffer just if the buffer's bytes agree with it
@@ -129,17 +129,17 @@ fillings n (part ∷ parts) buf after apart possible h =
     }
 
 fitting : (n : ℕ) (parts : List Part) (buf : List ℕ) → IsTrue (are_apart parts) → IsTrue (list_all is_possible parts)
-    → IsTrue (list_all (may_have buf) parts) → Reachable (λ b. IsTrue (fits b (at_least n parts))) buf
+    → IsTrue (list_all (may_have buf) parts) → MayBecome (λ b. IsTrue (fits b (at_least n parts))) buf
 fitting n parts buf apart possible h =
     let f = fillings 0 parts buf (list_all_passes is_possible (λ q. leb 0 (place_of q)) (λ q s. le-leb 0 (place_of q) (omega arith)) parts possible) apart possible h in
     let x = fills_parts f.texts buf 0 f.end f.apart f.agree in
     let c = buf ++ x.more in
     let y = fills_text c [] n refl (agrees_none c n) in
     let has = list_all_passes _ _ (part_lasts c y.more) parts (f.fill x.more x.holds) in
-    Reachable-grown (λ b. IsTrue (fits b (at_least n parts))) buf x.more x.bytes
+    MayBecome-grown (λ b. IsTrue (fits b (at_least n parts))) buf x.more x.bytes
     (y.more, y.bytes, and_from (leb n (length (c ++ y.more))) _ (le-leb n (length (c ++ y.more)) (omega (arith, y.long))) has)
 
-reached : (s : List Alternative) (buf : List ℕ) → IsTrue (is_sound s) → IsTrue (may_accept s buf) → Reachable (λ b. IsTrue (accepts s b)) buf
+reached : (s : List Alternative) (buf : List ℕ) → IsTrue (is_sound s) → IsTrue (may_become s buf) → MayBecome (λ b. IsTrue (accepts s b)) buf
 reached [] buf sound h = absurd (cc)
 reached (at_least n parts ∷ s) buf sound h =
     let each = and_parts (is_alternative_sound (at_least n parts)) _ sound in
@@ -149,7 +149,7 @@ reached (at_least n parts ∷ s) buf sound h =
       | inr later ↦ let r = reached s buf each.1 later in (r.0, r.1, or_right (fits (buf ++ r.0) (at_least n parts)) _ r.2)
     ]
 
-pub signature_open : (s : List Alternative) → IsTrue (is_sound s) → IsOpen s
+pub signature_open : (s : List Alternative) → IsTrue (is_sound s) → MayBecomeIsExact s
 signature_open s sound buf = (
   λ h. reached s buf sound h,
   λ (more, bytes, h). list_any_passes _ _ (alternative_front buf more) s h,

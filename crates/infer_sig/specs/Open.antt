@@ -2,7 +2,7 @@
 use Rattle.std.specs.Prelude.{◌↔◌, ◌-◌, ℕ, Bool, true, false, List, [], ◌∷◌, length, take, slice_index, ◌&&◌, ◌||◌, nat_le, nat_lt, IsTrue}
 use Rattle.std.specs.List.{list_any, list_all}
 use Rattle.infer_deep.specs.Open.{are_bytes}
-use Rattle.infer_deep.specs.Signatures.{Reachable}
+use Rattle.infer_deep.specs.Signatures.{MayBecome}
 use Rattle.infer_sig.specs.Laws.{is_part_within, lead}
 use Rattle.infer_sig.specs.Signature.{Alternative, at_least, Bytes, any_of, between, all_but, Part, text, any_text, byte, allows, stands, accepts}
 
@@ -21,8 +21,8 @@ abbrev pub may_fit : List ℕ → Alternative → Bool
 may_fit buf (at_least n parts) = list_all (may_have buf) parts
 
 -- and this of some alternative of the signature
-abbrev pub may_accept : List Alternative → List ℕ → Bool
-may_accept signature buf = list_any (may_fit buf) signature
+abbrev pub may_become : List Alternative → List ℕ → Bool
+may_become signature buf = list_any (may_fit buf) signature
 
 -- some byte is in the set
 abbrev pub has_byte : Bytes → Bool
@@ -57,9 +57,9 @@ abbrev pub is_sound : List Alternative → Bool
 is_sound signature = list_all is_alternative_sound signature
 
 -- bytes after a buffer can make the signature accept it exactly if the buffer has it as far as it goes
-abbrev pub IsOpen : List Alternative → Type 0
-IsOpen signature = (buf : List ℕ) → IsTrue (may_accept signature buf) ↔ Reachable (λ b. IsTrue (accepts signature b)) buf
+abbrev pub MayBecomeIsExact : List Alternative → Type 0
+MayBecomeIsExact signature = (buf : List ℕ) → IsTrue (may_become signature buf) ↔ MayBecome (λ b. IsTrue (accepts signature b)) buf
 
 -- with each byte that the signature allows first begins a buffer that it accepts
 abbrev pub Begins : List Alternative → Type 0
-Begins signature = (f : ℕ) → IsTrue (lead signature f) → Reachable (λ b. IsTrue (accepts signature b)) (f ∷ [])
+Begins signature = (f : ℕ) → IsTrue (lead signature f) → MayBecome (λ b. IsTrue (accepts signature b)) (f ∷ [])

@@ -1,23 +1,23 @@
 //! Sound.
 ghost use Rattle.std.specs.Prelude.{◌≡◌};
-ghost use Rattle.infer_sig.specs.Open.{may_accept};
+ghost use Rattle.infer_sig.specs.Open.{may_become};
 ghost use Rattle.infer_sig.specs.Signature.{accepts};
 ghost use Rattle.infer_sig.specs.Audio.{aac, aiff, amr, ape, dsf, flac, m4a, midi, mp3, ogg, ogg_opus, wav};
 
-use crate::places::{agrees_at, stands_at};
+use crate::places::{matches_at, may_match_at};
 
 /// MIDI: at least 4 bytes, "MThd" first.
 pub fn is_midi(buf: &[u8]) -> bool
     ensures { result ≡ accepts midi buf.now }
 {
-    buf.len() >= 4 && stands_at(buf, b"MThd", 0)
+    buf.len() >= 4 && matches_at(buf, b"MThd", 0)
 }
 
 /// Whether some bytes after `buf` make it MIDI.
 pub fn may_become_midi(buf: &[u8]) -> bool
-    ensures { result ≡ may_accept midi buf.now }
+    ensures { result ≡ may_become midi buf.now }
 {
-    agrees_at(buf, b"MThd", 0)
+    may_match_at(buf, b"MThd", 0)
 }
 
 /// MP3: at least 3 bytes, "ID3" first, or a frame's FF and one of FB, F3 and F2.
@@ -25,14 +25,14 @@ pub fn is_mp3(buf: &[u8]) -> bool
     ensures { result ≡ accepts mp3 buf.now }
 {
     buf.len() >= 3
-        && (stands_at(buf, b"ID3", 0) || buf[0] == 0xFF && matches!(buf[1], 0xFB | 0xF3 | 0xF2))
+        && (matches_at(buf, b"ID3", 0) || buf[0] == 0xFF && matches!(buf[1], 0xFB | 0xF3 | 0xF2))
 }
 
 /// Whether some bytes after `buf` make it MP3.
 pub fn may_become_mp3(buf: &[u8]) -> bool
-    ensures { result ≡ may_accept mp3 buf.now }
+    ensures { result ≡ may_become mp3 buf.now }
 {
-    agrees_at(buf, b"ID3", 0)
+    may_match_at(buf, b"ID3", 0)
         || (buf.is_empty() || buf[0] == 0xFF)
             && (buf.len() <= 1 || matches!(buf[1], 0xFB | 0xF3 | 0xF2))
 }
@@ -42,84 +42,84 @@ pub fn may_become_mp3(buf: &[u8]) -> bool
 pub fn is_m4a(buf: &[u8]) -> bool
     ensures { result ≡ accepts m4a buf.now }
 {
-    buf.len() >= 11 && (stands_at(buf, b"ftypM4A", 4) || stands_at(buf, b"M4A ", 0))
+    buf.len() >= 11 && (matches_at(buf, b"ftypM4A", 4) || matches_at(buf, b"M4A ", 0))
 }
 
 /// Whether some bytes after `buf` make it M4A.
 pub fn may_become_m4a(buf: &[u8]) -> bool
-    ensures { result ≡ may_accept m4a buf.now }
+    ensures { result ≡ may_become m4a buf.now }
 {
-    agrees_at(buf, b"ftypM4A", 4) || agrees_at(buf, b"M4A ", 0)
+    may_match_at(buf, b"ftypM4A", 4) || may_match_at(buf, b"M4A ", 0)
 }
 
 /// Opus in Ogg: at least 36 bytes, "OggS" first, "OpusHead" at 28.
 pub fn is_ogg_opus(buf: &[u8]) -> bool
     ensures { result ≡ accepts ogg_opus buf.now }
 {
-    buf.len() >= 36 && stands_at(buf, b"OggS", 0) && stands_at(buf, b"OpusHead", 28)
+    buf.len() >= 36 && matches_at(buf, b"OggS", 0) && matches_at(buf, b"OpusHead", 28)
 }
 
 /// Whether some bytes after `buf` make it Opus in Ogg.
 pub fn may_become_ogg_opus(buf: &[u8]) -> bool
-    ensures { result ≡ may_accept ogg_opus buf.now }
+    ensures { result ≡ may_become ogg_opus buf.now }
 {
-    agrees_at(buf, b"OggS", 0) && agrees_at(buf, b"OpusHead", 28)
+    may_match_at(buf, b"OggS", 0) && may_match_at(buf, b"OpusHead", 28)
 }
 
 /// Ogg: at least 4 bytes, "OggS" first.
 pub fn is_ogg(buf: &[u8]) -> bool
     ensures { result ≡ accepts ogg buf.now }
 {
-    buf.len() >= 4 && stands_at(buf, b"OggS", 0)
+    buf.len() >= 4 && matches_at(buf, b"OggS", 0)
 }
 
 /// Whether some bytes after `buf` make it Ogg.
 pub fn may_become_ogg(buf: &[u8]) -> bool
-    ensures { result ≡ may_accept ogg buf.now }
+    ensures { result ≡ may_become ogg buf.now }
 {
-    agrees_at(buf, b"OggS", 0)
+    may_match_at(buf, b"OggS", 0)
 }
 
 /// FLAC: at least 4 bytes, "fLaC" first.
 pub fn is_flac(buf: &[u8]) -> bool
     ensures { result ≡ accepts flac buf.now }
 {
-    buf.len() >= 4 && stands_at(buf, b"fLaC", 0)
+    buf.len() >= 4 && matches_at(buf, b"fLaC", 0)
 }
 
 /// Whether some bytes after `buf` make it FLAC.
 pub fn may_become_flac(buf: &[u8]) -> bool
-    ensures { result ≡ may_accept flac buf.now }
+    ensures { result ≡ may_become flac buf.now }
 {
-    agrees_at(buf, b"fLaC", 0)
+    may_match_at(buf, b"fLaC", 0)
 }
 
 /// WAV: at least 12 bytes, "RIFF" first, "WAVE" at 8.
 pub fn is_wav(buf: &[u8]) -> bool
     ensures { result ≡ accepts wav buf.now }
 {
-    buf.len() >= 12 && stands_at(buf, b"RIFF", 0) && stands_at(buf, b"WAVE", 8)
+    buf.len() >= 12 && matches_at(buf, b"RIFF", 0) && matches_at(buf, b"WAVE", 8)
 }
 
 /// Whether some bytes after `buf` make it WAV.
 pub fn may_become_wav(buf: &[u8]) -> bool
-    ensures { result ≡ may_accept wav buf.now }
+    ensures { result ≡ may_become wav buf.now }
 {
-    agrees_at(buf, b"RIFF", 0) && agrees_at(buf, b"WAVE", 8)
+    may_match_at(buf, b"RIFF", 0) && may_match_at(buf, b"WAVE", 8)
 }
 
 /// AMR: at least 12 bytes, "#!AMR" 0A first.
 pub fn is_amr(buf: &[u8]) -> bool
     ensures { result ≡ accepts amr buf.now }
 {
-    buf.len() >= 12 && stands_at(buf, b"#!AMR\n", 0)
+    buf.len() >= 12 && matches_at(buf, b"#!AMR\n", 0)
 }
 
 /// Whether some bytes after `buf` make it AMR.
 pub fn may_become_amr(buf: &[u8]) -> bool
-    ensures { result ≡ may_accept amr buf.now }
+    ensures { result ≡ may_become amr buf.now }
 {
-    agrees_at(buf, b"#!AMR\n", 0)
+    may_match_at(buf, b"#!AMR\n", 0)
 }
 
 /// AAC: at least 2 bytes, a frame's FF and F1 or F9 first.
@@ -131,7 +131,7 @@ pub fn is_aac(buf: &[u8]) -> bool
 
 /// Whether some bytes after `buf` make it AAC.
 pub fn may_become_aac(buf: &[u8]) -> bool
-    ensures { result ≡ may_accept aac buf.now }
+    ensures { result ≡ may_become aac buf.now }
 {
     (buf.is_empty() || buf[0] == 0xFF) && (buf.len() <= 1 || matches!(buf[1], 0xF1 | 0xF9))
 }
@@ -140,40 +140,40 @@ pub fn may_become_aac(buf: &[u8]) -> bool
 pub fn is_aiff(buf: &[u8]) -> bool
     ensures { result ≡ accepts aiff buf.now }
 {
-    buf.len() >= 12 && stands_at(buf, b"FORM", 0) && stands_at(buf, b"AIFF", 8)
+    buf.len() >= 12 && matches_at(buf, b"FORM", 0) && matches_at(buf, b"AIFF", 8)
 }
 
 /// Whether some bytes after `buf` make it AIFF.
 pub fn may_become_aiff(buf: &[u8]) -> bool
-    ensures { result ≡ may_accept aiff buf.now }
+    ensures { result ≡ may_become aiff buf.now }
 {
-    agrees_at(buf, b"FORM", 0) && agrees_at(buf, b"AIFF", 8)
+    may_match_at(buf, b"FORM", 0) && may_match_at(buf, b"AIFF", 8)
 }
 
 /// DSD stream: at least 5 bytes, "DSD " first.
 pub fn is_dsf(buf: &[u8]) -> bool
     ensures { result ≡ accepts dsf buf.now }
 {
-    buf.len() >= 5 && stands_at(buf, b"DSD ", 0)
+    buf.len() >= 5 && matches_at(buf, b"DSD ", 0)
 }
 
 /// Whether some bytes after `buf` make it a DSD stream.
 pub fn may_become_dsf(buf: &[u8]) -> bool
-    ensures { result ≡ may_accept dsf buf.now }
+    ensures { result ≡ may_become dsf buf.now }
 {
-    agrees_at(buf, b"DSD ", 0)
+    may_match_at(buf, b"DSD ", 0)
 }
 
 /// Monkey's Audio: at least 5 bytes, "MAC " first.
 pub fn is_ape(buf: &[u8]) -> bool
     ensures { result ≡ accepts ape buf.now }
 {
-    buf.len() >= 5 && stands_at(buf, b"MAC ", 0)
+    buf.len() >= 5 && matches_at(buf, b"MAC ", 0)
 }
 
 /// Whether some bytes after `buf` make it Monkey's Audio.
 pub fn may_become_ape(buf: &[u8]) -> bool
-    ensures { result ≡ may_accept ape buf.now }
+    ensures { result ≡ may_become ape buf.now }
 {
-    agrees_at(buf, b"MAC ", 0)
+    may_match_at(buf, b"MAC ", 0)
 }

@@ -1,10 +1,10 @@
 //! Books.
 ghost use Rattle.std.specs.Prelude.{◌≡◌};
-ghost use Rattle.infer_sig.specs.Open.{may_accept};
+ghost use Rattle.infer_sig.specs.Open.{may_become};
 ghost use Rattle.infer_sig.specs.Signature.{accepts};
 ghost use Rattle.infer_sig.specs.Book.{epub, mobi};
 
-use crate::places::{agrees_at, stands_at};
+use crate::places::{matches_at, may_match_at};
 
 /// EPUB: at least 58 bytes, a ZIP header first, "mimetypeapplication/epub+zip" at 30.
 #[inline(always)]
@@ -12,15 +12,15 @@ pub fn is_epub(buf: &[u8]) -> bool
     ensures { result ≡ accepts epub buf.now }
 {
     buf.len() >= 58
-        && stands_at(buf, b"PK\x03\x04", 0)
-        && stands_at(buf, b"mimetypeapplication/epub+zip", 30)
+        && matches_at(buf, b"PK\x03\x04", 0)
+        && matches_at(buf, b"mimetypeapplication/epub+zip", 30)
 }
 
 /// Whether some bytes after `buf` make it an EPUB book.
 pub fn may_become_epub(buf: &[u8]) -> bool
-    ensures { result ≡ may_accept epub buf.now }
+    ensures { result ≡ may_become epub buf.now }
 {
-    agrees_at(buf, b"PK\x03\x04", 0) && agrees_at(buf, b"mimetypeapplication/epub+zip", 30)
+    may_match_at(buf, b"PK\x03\x04", 0) && may_match_at(buf, b"mimetypeapplication/epub+zip", 30)
 }
 
 /// Mobipocket: at least 68 bytes, "BOOKMOBI" at 60.
@@ -28,12 +28,12 @@ pub fn may_become_epub(buf: &[u8]) -> bool
 pub fn is_mobi(buf: &[u8]) -> bool
     ensures { result ≡ accepts mobi buf.now }
 {
-    buf.len() >= 68 && stands_at(buf, b"BOOKMOBI", 60)
+    buf.len() >= 68 && matches_at(buf, b"BOOKMOBI", 60)
 }
 
 /// Whether some bytes after `buf` make it a Mobipocket book.
 pub fn may_become_mobi(buf: &[u8]) -> bool
-    ensures { result ≡ may_accept mobi buf.now }
+    ensures { result ≡ may_become mobi buf.now }
 {
-    agrees_at(buf, b"BOOKMOBI", 60)
+    may_match_at(buf, b"BOOKMOBI", 60)
 }

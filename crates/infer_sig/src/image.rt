@@ -1,66 +1,66 @@
 //! Images.
 ghost use Rattle.std.specs.Prelude.{◌≡◌};
-ghost use Rattle.infer_sig.specs.Open.{may_accept};
+ghost use Rattle.infer_sig.specs.Open.{may_become};
 ghost use Rattle.infer_sig.specs.Signature.{accepts};
 ghost use Rattle.infer_sig.specs.Image.{bmp, cr2, djvu, dwg, gif, ico, jpeg, jpeg2000, jxl, jxr, ora, png, psd, tiff, webp};
 
-use crate::places::{agrees_at, any_agrees_at, any_stands_at, stands_at};
+use crate::places::{any_matches_at, any_may_match_at, matches_at, may_match_at};
 pub use infer_deep::image::{is_avif, is_heif, may_become_avif, may_become_heif};
 
 /// JPEG: at least 3 bytes, FF D8 FF first.
 pub fn is_jpeg(buf: &[u8]) -> bool
     ensures { result ≡ accepts jpeg buf.now }
 {
-    buf.len() >= 3 && stands_at(buf, b"\xFF\xD8\xFF", 0)
+    buf.len() >= 3 && matches_at(buf, b"\xFF\xD8\xFF", 0)
 }
 
 /// Whether some bytes after `buf` make it a JPEG image.
 pub fn may_become_jpeg(buf: &[u8]) -> bool
-    ensures { result ≡ may_accept jpeg buf.now }
+    ensures { result ≡ may_become jpeg buf.now }
 {
-    agrees_at(buf, b"\xFF\xD8\xFF", 0)
+    may_match_at(buf, b"\xFF\xD8\xFF", 0)
 }
 
 /// JPEG 2000: at least 13 bytes, the signature box 00 00 00 0C "jP  " 0D 0A 87 0A and 00 first.
 pub fn is_jpeg2000(buf: &[u8]) -> bool
     ensures { result ≡ accepts jpeg2000 buf.now }
 {
-    buf.len() >= 13 && stands_at(buf, b"\x00\x00\x00\x0CjP  \r\n\x87\n\x00", 0)
+    buf.len() >= 13 && matches_at(buf, b"\x00\x00\x00\x0CjP  \r\n\x87\n\x00", 0)
 }
 
 /// Whether some bytes after `buf` make it a JPEG 2000 image.
 pub fn may_become_jpeg2000(buf: &[u8]) -> bool
-    ensures { result ≡ may_accept jpeg2000 buf.now }
+    ensures { result ≡ may_become jpeg2000 buf.now }
 {
-    agrees_at(buf, b"\x00\x00\x00\x0CjP  \r\n\x87\n\x00", 0)
+    may_match_at(buf, b"\x00\x00\x00\x0CjP  \r\n\x87\n\x00", 0)
 }
 
 /// PNG: at least 4 bytes, 89 "PNG" first.
 pub fn is_png(buf: &[u8]) -> bool
     ensures { result ≡ accepts png buf.now }
 {
-    buf.len() >= 4 && stands_at(buf, b"\x89PNG", 0)
+    buf.len() >= 4 && matches_at(buf, b"\x89PNG", 0)
 }
 
 /// Whether some bytes after `buf` make it a PNG image.
 pub fn may_become_png(buf: &[u8]) -> bool
-    ensures { result ≡ may_accept png buf.now }
+    ensures { result ≡ may_become png buf.now }
 {
-    agrees_at(buf, b"\x89PNG", 0)
+    may_match_at(buf, b"\x89PNG", 0)
 }
 
 /// GIF: at least 3 bytes, "GIF" first.
 pub fn is_gif(buf: &[u8]) -> bool
     ensures { result ≡ accepts gif buf.now }
 {
-    buf.len() >= 3 && stands_at(buf, b"GIF", 0)
+    buf.len() >= 3 && matches_at(buf, b"GIF", 0)
 }
 
 /// Whether some bytes after `buf` make it a GIF image.
 pub fn may_become_gif(buf: &[u8]) -> bool
-    ensures { result ≡ may_accept gif buf.now }
+    ensures { result ≡ may_become gif buf.now }
 {
-    agrees_at(buf, b"GIF", 0)
+    may_match_at(buf, b"GIF", 0)
 }
 
 /// WebP: at least 12 bytes, "WEBP" at 8.
@@ -68,14 +68,14 @@ pub fn may_become_gif(buf: &[u8]) -> bool
 pub fn is_webp(buf: &[u8]) -> bool
     ensures { result ≡ accepts webp buf.now }
 {
-    buf.len() >= 12 && stands_at(buf, b"WEBP", 8)
+    buf.len() >= 12 && matches_at(buf, b"WEBP", 8)
 }
 
 /// Whether some bytes after `buf` make it a WebP image.
 pub fn may_become_webp(buf: &[u8]) -> bool
-    ensures { result ≡ may_accept webp buf.now }
+    ensures { result ≡ may_become webp buf.now }
 {
-    agrees_at(buf, b"WEBP", 8)
+    may_match_at(buf, b"WEBP", 8)
 }
 
 /// Canon's raw image CR2: at least 11 bytes, a TIFF header of either byte order first, "CR" 02 at 8.
@@ -83,15 +83,16 @@ pub fn is_cr2(buf: &[u8]) -> bool
     ensures { result ≡ accepts cr2 buf.now }
 {
     buf.len() >= 11
-        && (stands_at(buf, b"II*\x00", 0) || stands_at(buf, b"MM\x00*", 0))
-        && stands_at(buf, b"CR\x02", 8)
+        && (matches_at(buf, b"II*\x00", 0) || matches_at(buf, b"MM\x00*", 0))
+        && matches_at(buf, b"CR\x02", 8)
 }
 
 /// Whether some bytes after `buf` make it a CR2 image.
 pub fn may_become_cr2(buf: &[u8]) -> bool
-    ensures { result ≡ may_accept cr2 buf.now }
+    ensures { result ≡ may_become cr2 buf.now }
 {
-    (agrees_at(buf, b"II*\x00", 0) || agrees_at(buf, b"MM\x00*", 0)) && agrees_at(buf, b"CR\x02", 8)
+    (may_match_at(buf, b"II*\x00", 0) || may_match_at(buf, b"MM\x00*", 0))
+        && may_match_at(buf, b"CR\x02", 8)
 }
 
 /// TIFF: at least 10 bytes, a TIFF header of either byte order first, at 8 no "C" and at 9 no "R".
@@ -101,16 +102,16 @@ pub fn is_tiff(buf: &[u8]) -> bool
     ensures { result ≡ accepts tiff buf.now }
 {
     buf.len() >= 10
-        && (stands_at(buf, b"II*\x00", 0) || stands_at(buf, b"MM\x00*", 0))
+        && (matches_at(buf, b"II*\x00", 0) || matches_at(buf, b"MM\x00*", 0))
         && buf[8] != b'C'
         && buf[9] != b'R'
 }
 
 /// Whether some bytes after `buf` make it a TIFF image.
 pub fn may_become_tiff(buf: &[u8]) -> bool
-    ensures { result ≡ may_accept tiff buf.now }
+    ensures { result ≡ may_become tiff buf.now }
 {
-    (agrees_at(buf, b"II*\x00", 0) || agrees_at(buf, b"MM\x00*", 0))
+    (may_match_at(buf, b"II*\x00", 0) || may_match_at(buf, b"MM\x00*", 0))
         && (buf.len() <= 8 || buf[8] != b'C')
         && (buf.len() <= 9 || buf[9] != b'R')
 }
@@ -119,56 +120,56 @@ pub fn may_become_tiff(buf: &[u8]) -> bool
 pub fn is_bmp(buf: &[u8]) -> bool
     ensures { result ≡ accepts bmp buf.now }
 {
-    buf.len() >= 2 && stands_at(buf, b"BM", 0)
+    buf.len() >= 2 && matches_at(buf, b"BM", 0)
 }
 
 /// Whether some bytes after `buf` make it a BMP image.
 pub fn may_become_bmp(buf: &[u8]) -> bool
-    ensures { result ≡ may_accept bmp buf.now }
+    ensures { result ≡ may_become bmp buf.now }
 {
-    agrees_at(buf, b"BM", 0)
+    may_match_at(buf, b"BM", 0)
 }
 
 /// JPEG XR: at least 3 bytes, "II" BC first.
 pub fn is_jxr(buf: &[u8]) -> bool
     ensures { result ≡ accepts jxr buf.now }
 {
-    buf.len() >= 3 && stands_at(buf, b"II\xBC", 0)
+    buf.len() >= 3 && matches_at(buf, b"II\xBC", 0)
 }
 
 /// Whether some bytes after `buf` make it a JPEG XR image.
 pub fn may_become_jxr(buf: &[u8]) -> bool
-    ensures { result ≡ may_accept jxr buf.now }
+    ensures { result ≡ may_become jxr buf.now }
 {
-    agrees_at(buf, b"II\xBC", 0)
+    may_match_at(buf, b"II\xBC", 0)
 }
 
 /// Photoshop: at least 4 bytes, "8BPS" first.
 pub fn is_psd(buf: &[u8]) -> bool
     ensures { result ≡ accepts psd buf.now }
 {
-    buf.len() >= 4 && stands_at(buf, b"8BPS", 0)
+    buf.len() >= 4 && matches_at(buf, b"8BPS", 0)
 }
 
 /// Whether some bytes after `buf` make it a Photoshop image.
 pub fn may_become_psd(buf: &[u8]) -> bool
-    ensures { result ≡ may_accept psd buf.now }
+    ensures { result ≡ may_become psd buf.now }
 {
-    agrees_at(buf, b"8BPS", 0)
+    may_match_at(buf, b"8BPS", 0)
 }
 
 /// Windows icon: at least 4 bytes, 00 00 01 00 first.
 pub fn is_ico(buf: &[u8]) -> bool
     ensures { result ≡ accepts ico buf.now }
 {
-    buf.len() >= 4 && stands_at(buf, b"\x00\x00\x01\x00", 0)
+    buf.len() >= 4 && matches_at(buf, b"\x00\x00\x01\x00", 0)
 }
 
 /// Whether some bytes after `buf` make it a Windows icon.
 pub fn may_become_ico(buf: &[u8]) -> bool
-    ensures { result ≡ may_accept ico buf.now }
+    ensures { result ≡ may_become ico buf.now }
 {
-    agrees_at(buf, b"\x00\x00\x01\x00", 0)
+    may_match_at(buf, b"\x00\x00\x01\x00", 0)
 }
 
 /// JPEG XL: a codestream of at least 3 bytes, FF 0A first, or a container of at least 13 bytes, the signature
@@ -176,15 +177,15 @@ pub fn may_become_ico(buf: &[u8]) -> bool
 pub fn is_jxl(buf: &[u8]) -> bool
     ensures { result ≡ accepts jxl buf.now }
 {
-    buf.len() >= 3 && stands_at(buf, b"\xFF\n", 0)
-        || buf.len() >= 13 && stands_at(buf, b"\x00\x00\x00\x0CJXL \r\n\x87\n", 0)
+    buf.len() >= 3 && matches_at(buf, b"\xFF\n", 0)
+        || buf.len() >= 13 && matches_at(buf, b"\x00\x00\x00\x0CJXL \r\n\x87\n", 0)
 }
 
 /// Whether some bytes after `buf` make it a JPEG XL image.
 pub fn may_become_jxl(buf: &[u8]) -> bool
-    ensures { result ≡ may_accept jxl buf.now }
+    ensures { result ≡ may_become jxl buf.now }
 {
-    agrees_at(buf, b"\xFF\n", 0) || agrees_at(buf, b"\x00\x00\x00\x0CJXL \r\n\x87\n", 0)
+    may_match_at(buf, b"\xFF\n", 0) || may_match_at(buf, b"\x00\x00\x00\x0CJXL \r\n\x87\n", 0)
 }
 
 /// OpenRaster: at least 58 bytes, a ZIP header first, "mimetypeimage/openraster" at 30.
@@ -192,29 +193,29 @@ pub fn is_ora(buf: &[u8]) -> bool
     ensures { result ≡ accepts ora buf.now }
 {
     buf.len() >= 58
-        && stands_at(buf, b"PK\x03\x04", 0)
-        && stands_at(buf, b"mimetypeimage/openraster", 30)
+        && matches_at(buf, b"PK\x03\x04", 0)
+        && matches_at(buf, b"mimetypeimage/openraster", 30)
 }
 
 /// Whether some bytes after `buf` make it an OpenRaster image.
 pub fn may_become_ora(buf: &[u8]) -> bool
-    ensures { result ≡ may_accept ora buf.now }
+    ensures { result ≡ may_become ora buf.now }
 {
-    agrees_at(buf, b"PK\x03\x04", 0) && agrees_at(buf, b"mimetypeimage/openraster", 30)
+    may_match_at(buf, b"PK\x03\x04", 0) && may_match_at(buf, b"mimetypeimage/openraster", 30)
 }
 
 /// DjVu: at least 15 bytes, "AT&TFORM" first, "DJV" at 12.
 pub fn is_djvu(buf: &[u8]) -> bool
     ensures { result ≡ accepts djvu buf.now }
 {
-    buf.len() >= 15 && stands_at(buf, b"AT&TFORM", 0) && stands_at(buf, b"DJV", 12)
+    buf.len() >= 15 && matches_at(buf, b"AT&TFORM", 0) && matches_at(buf, b"DJV", 12)
 }
 
 /// Whether some bytes after `buf` make it a DjVu image.
 pub fn may_become_djvu(buf: &[u8]) -> bool
-    ensures { result ≡ may_accept djvu buf.now }
+    ensures { result ≡ may_become djvu buf.now }
 {
-    agrees_at(buf, b"AT&TFORM", 0) && agrees_at(buf, b"DJV", 12)
+    may_match_at(buf, b"AT&TFORM", 0) && may_match_at(buf, b"DJV", 12)
 }
 
 const DWG_VERSIONS: [[u8; 6]; 24] = [
@@ -248,12 +249,12 @@ const DWG_VERSIONS: [[u8; 6]; 24] = [
 pub fn is_dwg(buf: &[u8]) -> bool
     ensures { result ≡ accepts dwg buf.now }
 {
-    buf.len() >= 6 && any_stands_at(buf, &DWG_VERSIONS, 0)
+    buf.len() >= 6 && any_matches_at(buf, &DWG_VERSIONS, 0)
 }
 
 /// Whether some bytes after `buf` make it a DWG drawing.
 pub fn may_become_dwg(buf: &[u8]) -> bool
-    ensures { result ≡ may_accept dwg buf.now }
+    ensures { result ≡ may_become dwg buf.now }
 {
-    any_agrees_at(buf, &DWG_VERSIONS, 0)
+    any_may_match_at(buf, &DWG_VERSIONS, 0)
 }

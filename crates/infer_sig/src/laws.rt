@@ -3,7 +3,7 @@ ghost use Rattle.std.specs.Prelude.{◌↔◌, ℕ, List, IsTrue};
 ghost use Rattle.infer_sig.specs.Signature.{Alternative, stands};
 ghost use Rattle.infer_sig.specs.Places.{StandsByPlace};
 ghost use Rattle.infer_sig.specs.Laws.{DependsOnFront, Lasts, Leads, is_within};
-ghost use Rattle.infer_sig.specs.Open.{Begins, IsOpen, is_sound};
+ghost use Rattle.infer_sig.specs.Open.{Begins, MayBecomeIsExact, is_sound};
 
 /// A text stands at a place exactly if each place from there on is in the buffer and holds the text's byte.
 #[tactic(auto, using(crate::proofs::PlaceLemmas::stands_by_place))]
@@ -32,7 +32,7 @@ pub fn leads()
 /// If the parts of each alternative ascend, lie apart and are possible, bytes after a buffer can make the signature
 /// accept it exactly if the buffer has an alternative as far as it goes.
 pub fn open()
-    ensures { (signature : List Alternative) → IsTrue (is_sound signature) → IsOpen signature }
+    ensures { (signature : List Alternative) → IsTrue (is_sound signature) → MayBecomeIsExact signature }
 {}
 
 /// With each byte that such a signature allows first begins a buffer that it accepts.

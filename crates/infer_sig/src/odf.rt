@@ -1,10 +1,10 @@
 //! OpenDocument files.
 ghost use Rattle.std.specs.Prelude.{◌≡◌};
-ghost use Rattle.infer_sig.specs.Open.{may_accept};
+ghost use Rattle.infer_sig.specs.Open.{may_become};
 ghost use Rattle.infer_sig.specs.Signature.{accepts};
 ghost use Rattle.infer_sig.specs.Odf.{odp, ods, odt};
 
-use crate::places::{agrees_at, stands_at};
+use crate::places::{matches_at, may_match_at};
 
 /// OpenDocument text: at least 77 bytes, a ZIP header first, "mimetype" at 30, "vnd.oasis.opendocument.text" at 50.
 #[inline(always)]
@@ -12,18 +12,18 @@ pub fn is_odt(buf: &[u8]) -> bool
     ensures { result ≡ accepts odt buf.now }
 {
     buf.len() >= 77
-        && stands_at(buf, b"PK\x03\x04", 0)
-        && stands_at(buf, b"mimetype", 30)
-        && stands_at(buf, b"vnd.oasis.opendocument.text", 50)
+        && matches_at(buf, b"PK\x03\x04", 0)
+        && matches_at(buf, b"mimetype", 30)
+        && matches_at(buf, b"vnd.oasis.opendocument.text", 50)
 }
 
 /// Whether some bytes after `buf` make it an OpenDocument text.
 pub fn may_become_odt(buf: &[u8]) -> bool
-    ensures { result ≡ may_accept odt buf.now }
+    ensures { result ≡ may_become odt buf.now }
 {
-    agrees_at(buf, b"PK\x03\x04", 0)
-        && agrees_at(buf, b"mimetype", 30)
-        && agrees_at(buf, b"vnd.oasis.opendocument.text", 50)
+    may_match_at(buf, b"PK\x03\x04", 0)
+        && may_match_at(buf, b"mimetype", 30)
+        && may_match_at(buf, b"vnd.oasis.opendocument.text", 50)
 }
 
 /// OpenDocument spreadsheet: at least 84 bytes, a ZIP header first, "mimetype" at 30,
@@ -33,18 +33,18 @@ pub fn is_ods(buf: &[u8]) -> bool
     ensures { result ≡ accepts ods buf.now }
 {
     buf.len() >= 84
-        && stands_at(buf, b"PK\x03\x04", 0)
-        && stands_at(buf, b"mimetype", 30)
-        && stands_at(buf, b"vnd.oasis.opendocument.spreadsheet", 50)
+        && matches_at(buf, b"PK\x03\x04", 0)
+        && matches_at(buf, b"mimetype", 30)
+        && matches_at(buf, b"vnd.oasis.opendocument.spreadsheet", 50)
 }
 
 /// Whether some bytes after `buf` make it an OpenDocument spreadsheet.
 pub fn may_become_ods(buf: &[u8]) -> bool
-    ensures { result ≡ may_accept ods buf.now }
+    ensures { result ≡ may_become ods buf.now }
 {
-    agrees_at(buf, b"PK\x03\x04", 0)
-        && agrees_at(buf, b"mimetype", 30)
-        && agrees_at(buf, b"vnd.oasis.opendocument.spreadsheet", 50)
+    may_match_at(buf, b"PK\x03\x04", 0)
+        && may_match_at(buf, b"mimetype", 30)
+        && may_match_at(buf, b"vnd.oasis.opendocument.spreadsheet", 50)
 }
 
 /// OpenDocument presentation: at least 85 bytes, a ZIP header first, "mimetype" at 30,
@@ -54,16 +54,16 @@ pub fn is_odp(buf: &[u8]) -> bool
     ensures { result ≡ accepts odp buf.now }
 {
     buf.len() >= 85
-        && stands_at(buf, b"PK\x03\x04", 0)
-        && stands_at(buf, b"mimetype", 30)
-        && stands_at(buf, b"vnd.oasis.opendocument.presentation", 50)
+        && matches_at(buf, b"PK\x03\x04", 0)
+        && matches_at(buf, b"mimetype", 30)
+        && matches_at(buf, b"vnd.oasis.opendocument.presentation", 50)
 }
 
 /// Whether some bytes after `buf` make it an OpenDocument presentation.
 pub fn may_become_odp(buf: &[u8]) -> bool
-    ensures { result ≡ may_accept odp buf.now }
+    ensures { result ≡ may_become odp buf.now }
 {
-    agrees_at(buf, b"PK\x03\x04", 0)
-        && agrees_at(buf, b"mimetype", 30)
-        && agrees_at(buf, b"vnd.oasis.opendocument.presentation", 50)
+    may_match_at(buf, b"PK\x03\x04", 0)
+        && may_match_at(buf, b"mimetype", 30)
+        && may_match_at(buf, b"vnd.oasis.opendocument.presentation", 50)
 }

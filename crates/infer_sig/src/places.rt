@@ -8,7 +8,7 @@ use infer_deep::places::same_at;
 
 /// Whether `text` stands in `buf` from `place` on.
 #[inline(always)]
-pub fn stands_at<const N: usize>(buf: &[u8], text: &[u8; N], place: usize) -> bool
+pub fn matches_at<const N: usize>(buf: &[u8], text: &[u8; N], place: usize) -> bool
     requires { place + N ≤ length buf.now }
     ensures { result ≡ stands place text.now buf.now }
 {
@@ -17,14 +17,14 @@ pub fn stands_at<const N: usize>(buf: &[u8], text: &[u8; N], place: usize) -> bo
 
 /// Whether one of the texts stands in `buf` from `place` on.
 #[inline(always)]
-pub fn any_stands_at<const N: usize>(buf: &[u8], texts: &[[u8; N]], place: usize) -> bool
+pub fn any_matches_at<const N: usize>(buf: &[u8], texts: &[[u8; N]], place: usize) -> bool
     requires { place + N ≤ length buf.now }
     ensures { result ≡ list_any (λ t. stands place t buf.now) texts.now }
 {
     // No early exit: of texts whose number is known the compiler makes vectors.
     let mut any = false;
     for text in texts {
-        any |= stands_at(buf, text, place);
+        any |= matches_at(buf, text, place);
     }
     any
 }
@@ -32,27 +32,27 @@ pub fn any_stands_at<const N: usize>(buf: &[u8], texts: &[[u8; N]], place: usize
 /// Whether as much of `text` as `buf` has room for from `place` on stands there.
 #[tactic(auto, using(crate::proofs::OpenLemmas::agrees_whole))]
 #[inline(always)]
-pub fn agrees_at<const N: usize>(buf: &[u8], text: &[u8; N], place: usize) -> bool
+pub fn may_match_at<const N: usize>(buf: &[u8], text: &[u8; N], place: usize) -> bool
     ensures { result ≡ agrees place text.now buf.now }
 {
     if place <= buf.len() && N <= buf.len() - place {
-        return stands_at(buf, text, place);
+        return matches_at(buf, text, place);
     }
     begins_at(buf, text, place)
 }
 
 /// Whether as much of one of the texts as `buf` has room for from `place` on stands there.
 #[inline(always)]
-pub fn any_agrees_at<const N: usize>(buf: &[u8], texts: &[[u8; N]], place: usize) -> bool
+pub fn any_may_match_at<const N: usize>(buf: &[u8], texts: &[[u8; N]], place: usize) -> bool
     ensures { result ≡ list_any (λ t. agrees place t buf.now) texts.now }
 {
     let agrees = |text: &[u8; N]| -> bool
         ensures { result ≡ agrees place text.now buf.entry.now }
-    { agrees_at(buf, text, place) };
+    { may_match_at(buf, text, place) };
     texts.iter().any(agrees)
 }
 
-/// [`agrees_at`] for a text of which `buf` has no more than a part: a function of its own, since most have room.
+/// [`may_match_at`] for a text of which `buf` has no more than a part: a function of its own, since most have room.
 #[tactic(auto, unfolding(crate::specs::Open::agrees, crate::specs::Signature::stands))]
 #[inline(never)]
 fn begins_at(buf: &[u8], text: &[u8], place: usize) -> bool

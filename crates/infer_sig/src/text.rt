@@ -1,22 +1,22 @@
 //! Texts.
 ghost use Rattle.std.specs.Prelude.{◌≡◌};
-ghost use Rattle.infer_sig.specs.Open.{may_accept};
+ghost use Rattle.infer_sig.specs.Open.{may_become};
 ghost use Rattle.infer_sig.specs.Signature.{accepts};
 ghost use Rattle.infer_sig.specs.Text.{shellscript};
 
-use crate::places::{agrees_at, stands_at};
+use crate::places::{matches_at, may_match_at};
 pub use infer_deep::text::{is_html, is_xml, may_become_html, may_become_xml};
 
 /// Script that names its interpreter: at least 3 bytes, "#!" first.
 pub fn is_shellscript(buf: &[u8]) -> bool
     ensures { result ≡ accepts shellscript buf.now }
 {
-    buf.len() >= 3 && stands_at(buf, b"#!", 0)
+    buf.len() >= 3 && matches_at(buf, b"#!", 0)
 }
 
 /// Whether some bytes after `buf` make it a script that names its interpreter.
 pub fn may_become_shellscript(buf: &[u8]) -> bool
-    ensures { result ≡ may_accept shellscript buf.now }
+    ensures { result ≡ may_become shellscript buf.now }
 {
-    agrees_at(buf, b"#!", 0)
+    may_match_at(buf, b"#!", 0)
 }

@@ -1,7 +1,7 @@
 //! What an upload gate lets pass.
 ghost use Rattle.std.specs.Prelude.{◌≡◌, ◌↔◌, ◌<◌, ℕ, IfSome, IsTrue, None, Option};
 ghost use Rattle.std.specs.Bool.{OnFalse, OnTrue};
-ghost use Rattle.infer.specs.Decided.{MayAccept, MayAnswer};
+ghost use Rattle.infer.specs.Decided.{MayBecomeRow, MayAnswer};
 ghost use Rattle.infer.specs.First.{IsAnswer, IsFirst};
 ghost use Rattle.infer.specs.Row.{Accepts};
 ghost use Rattle.infer.specs.Table.{table};
@@ -40,8 +40,8 @@ pub fn is_of_class(front: &[u8], class: MatcherType) -> bool
 pub fn may_answer(front: &[u8], row: usize) -> Option<bool>
     ensures told { IfSome result (λ yes. IsTrue yes ↔ MayAnswer front.now row) }
     ensures before { result ≡ None → (k : ℕ) → IsFirst (Accepts front.now) table k → row < k }
-    ensures after { result ≡ None → RowHas (MayAccept front.now) row
-        × ((i : ℕ) × (i < row) × RowHas (MayAccept front.now) i) }
+    ensures after { result ≡ None → RowHas (MayBecomeRow front.now) row
+        × ((i : ℕ) × (i < row) × RowHas (MayBecomeRow front.now) i) }
 {
     laws::later();
     match position(front) {
@@ -54,23 +54,23 @@ pub fn may_answer(front: &[u8], row: usize) -> Option<bool>
 /// What [`may_answer`] tells of a row before the answer so far, or of any row if there is none.
 fn may_answer_before(front: &[u8], row: usize) -> Option<bool>
     ensures told { IfSome result (λ yes. IsTrue yes ↔ MayAnswer front.now row) }
-    ensures after { result ≡ None → RowHas (MayAccept front.now) row
-        × ((i : ℕ) × (i < row) × RowHas (MayAccept front.now) i) }
+    ensures after { result ≡ None → RowHas (MayBecomeRow front.now) row
+        × ((i : ℕ) × (i < row) × RowHas (MayBecomeRow front.now) i) }
 {
     laws::later();
     if !may_become(front, row) {
         return Some(false);
     }
-    if none_before_may_accept(front, row) {
+    if none_before_may_become(front, row) {
         return Some(true);
     }
     None
 }
 
 /// Whether no row before this one may accept the upload.
-fn none_before_may_accept(front: &[u8], row: usize) -> bool
-    ensures yes { OnTrue result ((i : ℕ) → i < row → ¬ RowHas (MayAccept front.now) i) }
-    ensures no { OnFalse result ((i : ℕ) × (i < row) × RowHas (MayAccept front.now) i) }
+fn none_before_may_become(front: &[u8], row: usize) -> bool
+    ensures yes { OnTrue result ((i : ℕ) → i < row → ¬ RowHas (MayBecomeRow front.now) i) }
+    ensures no { OnFalse result ((i : ℕ) × (i < row) × RowHas (MayBecomeRow front.now) i) }
 {
     for i in 0..row {
         if may_become(front, i) {

@@ -17,7 +17,7 @@ use Rattle.infer.specs.Decided.{IsToldExactly}
 use Rattle.infer.specs.Fault.{OpensNothing, read_fault}
 use Rattle.infer.specs.First.{NoneHas}
 use Rattle.infer.specs.Laws.{AnswersAsBuiltIn, AnyLasts, IsNotLater, IsSteady}
-use Rattle.infer.specs.Leads.{allows_first, candidates, candidates_of, places_from}
+use Rattle.infer.specs.Leads.{allows_first, candidates, candidates_of, numbers_from}
 use Rattle.infer.specs.Listed.{buffer_listed, is_inside, number_of, row_listed}
 use Rattle.infer.specs.Matchers.{OthersAreNear, is_far, is_far_row, signatures}
 use Rattle.infer.specs.Questions.{IsAsked}
@@ -300,10 +300,10 @@ pub rows_in_pair : IsTrue (is_listed (rows_in extension_of (slot_of (codes "exe"
 unfolding rows_in table
 rows_in_pair = (refl, λ t. absurd (cc))
 
-some_place : (test : Row BuiltIn → Bool) → ((r : Row BuiltIn) → IsTrue (test r)) → (rs : List (Row BuiltIn)) → 0 < length rs → ¬ ([] ≡ places_from test 0 rs)
+some_place : (test : Row BuiltIn → Bool) → ((r : Row BuiltIn) → IsTrue (test r)) → (rs : List (Row BuiltIn)) → 0 < length rs → ¬ ([] ≡ numbers_from test 0 rs)
 some_place test all [] some e = omega (arith, some)
-some_place test all (r ∷ rs) some e = let f : [] ≡ 0 ∷ places_from test 1 rs = rw (all r) at e in omega (arith, ap length f)
+some_place test all (r ∷ rs) some e = let f : [] ≡ 0 ∷ numbers_from test 1 rs = rw (all r) at e in omega (arith, ap length f)
 
-pub HoldAsked_pair : HoldAsked (HasGiven None) (places_from (λ r. true) 0 table) × (¬ HoldAsked (HasGiven None) [])
+pub HoldAsked_pair : HoldAsked (HasGiven None) (numbers_from (λ r. true) 0 table) × (¬ HoldAsked (HasGiven None) [])
 unfolding HoldAsked table
 HoldAsked_pair = (((λ r. true), refl, λ r w. refl), λ h. some_place h.0 (λ r. h.2 r tt) table (omega arith) h.1)

@@ -19,7 +19,7 @@ use Rattle.infer_deep.specs.Text.{BeginsInAnyCase, BeginsWithTag, IsSpace, IsWhi
 use Rattle.infer_deep.specs.Windows.{StandsBy}
 use Rattle.infer_sig.specs.Image.{png}
 use Rattle.infer_sig.specs.Laws.{DependsOnFront, is_within, lead}
-use Rattle.infer_sig.specs.Open.{Begins, IsOpen, agrees, is_sound, may_fit, may_have}
+use Rattle.infer_sig.specs.Open.{Begins, MayBecomeIsExact, agrees, is_sound, may_fit, may_have}
 use Rattle.infer_sig.specs.Places.{StandsByPlace}
 use Rattle.infer_sig.specs.Signature.{Alternative, allows, any_of, at_least, accepts, between, byte, fits, has_part, stands, text}
 use Rattle.infer_deep.proofs.OpenLemmas.{agrees_past, grown_agrees}
@@ -61,8 +61,8 @@ DependsOnFront_pair =
 pub is_sound_pair : IsTrue (is_sound png) × (¬ IsTrue (is_sound (impossible 0)))
 is_sound_pair = (refl, λ t. absurd (cc))
 
-pub IsOpen_pair : IsOpen png × (¬ IsOpen (impossible 0))
-IsOpen_pair = (signature_open png refl, λ h. absurd (let r = (h []).0 refl in never 0 r.0 r.2))
+pub MayBecomeIsExact_pair : MayBecomeIsExact png × (¬ MayBecomeIsExact (impossible 0))
+MayBecomeIsExact_pair = (signature_open png refl, λ h. absurd (let r = (h []).0 refl in never 0 r.0 r.2))
 
 pub Begins_pair : Begins png × (¬ Begins (impossible 1))
 Begins_pair = (signature_begins png refl, λ h. absurd (let r = h 0 refl in never 1 (0 ∷ r.0) r.2))

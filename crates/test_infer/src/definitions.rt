@@ -5,7 +5,7 @@ ghost use Rattle.infer.specs.Brands.{HasMajor, IsBoxed};
 ghost use Rattle.infer.specs.Buffer.{head};
 ghost use Rattle.infer.specs.BuiltIn.{IsAccepted, fixed};
 ghost use Rattle.infer.specs.ClassId.{HasClassId, word_id};
-ghost use Rattle.infer.specs.Decided.{IsChangeable, MayAccept};
+ghost use Rattle.infer.specs.Decided.{IsChangeable, MayBecomeRow};
 ghost use Rattle.infer.specs.Find.{OccursAt};
 ghost use Rattle.infer.specs.First.{IsAnswer, IsFirst, IsFirstOf};
 ghost use Rattle.infer.specs.Frames.{IsFrame};
@@ -26,7 +26,7 @@ ghost use Rattle.infer_inside.specs.Script.{IsProgram};
 ghost use Rattle.infer_inside.specs.Text.{IsEncodingOf};
 ghost use Rattle.infer_more.specs.Added.{IsAnswerWith};
 ghost use Rattle.infer_more.specs.Decided as wider;
-ghost use Rattle.infer_more.specs.Decided.{MayAcceptAt};
+ghost use Rattle.infer_more.specs.Decided.{MayBecomeAt};
 ghost use Rattle.infer_more.specs.Samples.{HasAnswer};
 ghost use Rattle.infer_more.specs.Wider.{AcceptsAt, IsWider, IsWiderAnswer, ShowsExtension, ShowsMimeType};
 ghost use Rattle.infer_sniff.specs.Cases.{Holds};
@@ -107,7 +107,7 @@ pub fn is_exe_by_extension(buf: &[u8]) -> bool
 }
 
 pub fn may_become_wasm(buf: &[u8]) -> bool
-    ensures { IsTrue result ↔ RowHas (MayAccept buf.now) WASM }
+    ensures { IsTrue result ↔ RowHas (MayBecomeRow buf.now) WASM }
 {
     may_become(buf, WASM)
 }
@@ -133,7 +133,7 @@ pub fn is_wider_changeable(buf: &[u8]) -> bool
 }
 
 pub fn may_become_object(buf: &[u8]) -> bool
-    ensures { IsTrue result ↔ MayAcceptAt buf.now ROW_COUNT }
+    ensures { IsTrue result ↔ MayBecomeAt buf.now ROW_COUNT }
 {
     infer_more::may_become(buf, ROW_COUNT)
 }

@@ -11,7 +11,7 @@ ghost use Rattle.infer.specs.Laws.{AnyLasts, answers_far};
 ghost use Rattle.infer.specs.Row.{Accepts};
 ghost use Rattle.infer.specs.Rows.{custom_rows};
 ghost use Rattle.infer.specs.Signature.{accepts};
-ghost use Rattle.infer.specs.Signatures.{Reachable};
+ghost use Rattle.infer.specs.Signatures.{MayBecome};
 ghost use Rattle.infer.specs.Table.{table};
 ghost use Rattle.infer.specs.Triple.{triple_of};
 
@@ -179,7 +179,7 @@ pub fn no_pdf_after_gif()
 
 /// Whether some bytes after the buffer make it a COFF object for x64, for which no row stands.
 pub fn may_become_x64(buf: &[u8]) -> bool
-    ensures { IsTrue result ↔ Reachable (λ b. IsTrue (accepts coff_x64 b)) buf.now }
+    ensures { IsTrue result ↔ MayBecome (λ b. IsTrue (accepts coff_x64 b)) buf.now }
 {
     laws::open();
     may_become_coff_x64(buf)

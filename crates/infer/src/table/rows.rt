@@ -2,7 +2,7 @@
 ghost use Rattle.std.specs.Prelude.{◌≡◌, ◌↔◌, ◌<◌, Some, IsTrue, length, map, slice_get};
 ghost use Rattle.std.specs.List.{list_all};
 ghost use Rattle.infer.specs.BuiltIn.{IsAccepted};
-ghost use Rattle.infer.specs.Decided.{Tells};
+ghost use Rattle.infer.specs.Decided.{TellsMayBecome};
 ghost use Rattle.infer.specs.Listed.{buffer_listed, is_inside, number_of, row_listed};
 ghost use Rattle.infer.specs.Slots.{ListSlots, extension_of, mime_type_of};
 ghost use Rattle.infer.specs.Row.{Accepts};
@@ -549,7 +549,7 @@ pub(crate) fn accepts_named(name: RowName, buf: &[u8]) -> bool
 #[tactic(auto, unfolding(crate::specs::Table::signature_of, crate::specs::Table::table))]
 #[inline(always)]
 pub(crate) fn may_become_named(name: RowName, buf: &[u8]) -> bool
-    ensures { Tells (signature_of (number_of name)) buf.now result }
+    ensures { TellsMayBecome (signature_of (number_of name)) buf.now result }
 {
     with_rows!(may_become name buf)
 }

@@ -81,7 +81,7 @@ fn signatures(rt: HostRuntime) {
         "OccursAt" has_ftyp_at_4, b"\0\0\0\0ftyp", b"ftyp";
         "head 2 buf.now" has_head_mz, b"MZP", b"M";
         "accepts png" is_png, b"\x89PNG", b"\x89PN";
-        "may_accept png" may_become_png, b"\x89PN", b"PN";
+        "may_become png" may_become_png, b"\x89PN", b"PN";
         "IsAccepted (fixed png)" is_accepted_by_png, b"\x89PNG", b"\x89PN";
         "le16 buf.now 0" is_one_by_le16, b"\x01\0", b"\0\x01";
         "le32 buf.now 0" is_one_by_le32, b"\x01\0\0\0", b"\0\0\0\x01";
@@ -100,7 +100,7 @@ fn signatures(rt: HostRuntime) {
         "IsXml" is_xml, b" \xEF\xBB\xBF<?XML", b"\xEF\xBB\xBF <?xml";
         "IsSpace" is_space, b" ", b"  ";
         "IsMark" is_mark, b"\xFE\xFF", b"\xFE";
-        "Reachable IsHtml" may_become_html, b" <", b"x";
+        "MayBecome IsHtml" may_become_html, b" <", b"x";
     };
     for (name, has, lacks) in told {
         assert!(rt; has && !lacks, "{name}");
@@ -133,13 +133,13 @@ fn answers(rt: HostRuntime) {
         "SomeBoth" is_exe_by_extension, b"MZ", b"M";
         "SomeHas (HasExtension extension.now) table" is_supported, b"exe", b"EXE";
         "SomeHas (HasMimeType mime_type.now) table" is_mime_supported, b"image/png", b"image/PNG";
-        "RowHas (MayAccept buf.now) WASM" may_become_wasm, b"\0as", b"as";
+        "RowHas (MayBecomeRow buf.now) WASM" may_become_wasm, b"\0as", b"as";
         "MayAnswer buf.now WASM" may_answer_first, b"\0as", b"as";
         "IsChangeable" is_changeable, b"M", b"MZ";
         "IsDecided" is_decided, b"MZ", b"M";
         "IsDecided" is_wider_decided, &zeros_but::<53>(&[(0, b"\x7FELF")]), &zeros_but::<53>(&[(0, b"\x7FELF\x02\x01"), (16, b"\x03")]);
         "IsChangeable" is_wider_changeable, &zeros_but::<53>(&[(0, b"\x7FELF\x02\x01"), (16, b"\x03")]), &zeros_but::<53>(&[(0, b"\x7FELF")]);
-        "MayAcceptAt buf.now ROW_COUNT" may_become_object, b"\0\0\0\0\0", b"\0\0\0\0\0\0";
+        "MayBecomeAt buf.now ROW_COUNT" may_become_object, b"\0\0\0\0\0", b"\0\0\0\0\0\0";
         "Holds Space" is_held_by_space, b" ", b"x";
         "IsSettled" is_settled, &[0; 1024], &[0; 1023];
         "IsTypeOf buf.now None" has_no_row, b"M", b"MZ";
@@ -170,9 +170,9 @@ fn inside(rt: HostRuntime) {
         "IsBinary" is_binary, b"a\0", b"a";
         "IsJson" is_json, b"[1,", b"[1";
         "IsJsonLines" is_json_lines, b"[1]\n[", b"[1]\n";
-        "Reachable IsJson" may_become_json, b"[1", b"[1\0";
-        "Reachable IsJsonLines" may_become_json_lines, b"[1]", b"[1]x";
-        "Reachable IsText" may_become_text, b"", b"\0";
+        "MayBecome IsJson" may_become_json, b"[1", b"[1\0";
+        "MayBecome IsJsonLines" may_become_json_lines, b"[1]", b"[1]x";
+        "MayBecome IsText" may_become_text, b"", b"\0";
         "Stays IsText" stays_text, b"\xFF\xFE", b"a";
         "IsProgram" is_program_sh, b"#!/bin/sh -e\n", b"#!/bin/sh";
         "IsRootElement" is_root_svg, b"<!-- --><s:svg>", b"<svg";

@@ -1,4 +1,4 @@
-use Rattle.infer_deep.proofs.Common.{arith, subst, sym, nat_tests, Any, Reachable, BeginsWithTag}
+use Rattle.infer_deep.proofs.Common.{arith, subst, sym, nat_tests, Any, MayBecome, BeginsWithTag}
 use Rattle.infer_deep.proofs.TextLemmas.{HasTag-begun, reached_open, HasTag-reached_second, is_html_open}
 use Rattle.infer_deep.proofs.text.may_become_html.Goals as goal
 
@@ -20,8 +20,8 @@ returns-then-text-eq60 c =
     let both = is_html_open _ _ c.trim_start_whitespaces-text.ensures.skips c.trim_start_whitespaces-text.ensures.stops in
     let second = HasTag-reached_second text (omega arith) in
     let same = c.tags_with.ensures in (
-      λ is. both.0 (second.0 (subst (λ tags. Any (λ tag. Reachable (BeginsWithTag tag) text) tags) same (c.may_begin_some_tag.ensures.0 is))),
-      λ h. c.may_begin_some_tag.ensures.1 (subst (λ tags. Any (λ tag. Reachable (BeginsWithTag tag) text) tags) (sym same) (second.1 (both.1 h))),
+      λ is. both.0 (second.0 (subst (λ tags. Any (λ tag. MayBecome (BeginsWithTag tag) text) tags) same (c.may_begin_some_tag.ensures.0 is))),
+      λ h. c.may_begin_some_tag.ensures.1 (subst (λ tags. Any (λ tag. MayBecome (BeginsWithTag tag) text) tags) (sym same) (second.1 (both.1 h))),
     )
 
 pub returns-else-text-eq60 : goal.returns-else-text-eq60

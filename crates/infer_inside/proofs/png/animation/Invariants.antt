@@ -1,13 +1,13 @@
 -- the chunks so far leave it open
 use Rattle.std.proofs.Common.{◌↔◌, ◌-◌, length}
-use Rattle.infer_deep.specs.Signatures.{Reachable}
+use Rattle.infer_deep.specs.Signatures.{MayBecome}
 use Rattle.infer_inside.specs.Png.{IsAnimated, IsAnimatedFrom}
 use Rattle.infer_inside.proofs.png.animation.Given as goal
 
 abbrev pub invariant-loop-chunk : goal.invariant-loop-chunk
 invariant-loop-chunk l =
     (IsAnimated l.buf ↔ IsAnimatedFrom l.buf l.chunk)
-    × (Reachable IsAnimated l.buf ↔ Reachable (λ c. IsAnimatedFrom c l.chunk) l.buf)
+    × (MayBecome IsAnimated l.buf ↔ MayBecome (λ c. IsAnimatedFrom c l.chunk) l.buf)
 
 abbrev pub decreases-loop-chunk : goal.decreases-loop-chunk
 decreases-loop-chunk l = length l.buf - l.chunk

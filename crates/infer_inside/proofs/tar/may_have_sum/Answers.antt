@@ -1,5 +1,5 @@
 use Rattle.std.proofs.Common.{◌≡◌, ◌<◌, ◌≤◌, ◌+◌, ◌-◌, ◌*◌, ℕ, List, IsTrue, ◌↔◌, ◌⊎◌, Bool, max, min, length, get_or, inl, inr, subst, sym, ap, ◌∙◌, arith}
-use Rattle.infer_deep.specs.Signatures.{Reachable}
+use Rattle.infer_deep.specs.Signatures.{MayBecome}
 use Rattle.infer_inside.specs.Tar.{HasTarChecksum, IsField, IsOctal, MayWrite, header_sum, octal}
 use Rattle.infer_inside.proofs.OpenTarLemmas.{Reads, open_tells, whole_tells}
 use Rattle.infer_inside.proofs.tar.may_have_sum.Goals as goal
@@ -24,7 +24,7 @@ moved v w m n l k h i a b c d =
 -- the whole checksum decides, by the sums that are told
 tells : (b : List ℕ) (p k least most : ℕ) (r : Bool) → 1 ≤ get_or b 0 0 → 148 ≤ length b → length b ≤ 512 → Reads b p k
     → (p + k < length b) ⊎ (156 ≤ length b) → least ≡ header_sum b → most ≡ least + 255 * (512 - max (length b) 156)
-    → IsTrue r ↔ (IsField b p k × (least ≤ octal b p k) × (octal b p k ≤ most)) → IsTrue r ↔ Reachable HasTarChecksum b
+    → IsTrue r ↔ (IsField b p k × (least ≤ octal b p k) × (octal b p k ≤ most)) → IsTrue r ↔ MayBecome HasTarChecksum b
 tells b p k least most r first long short reads whole sum rest is =
     let so = whole_tells b first long p k reads short whole in (
       λ t. let (f, low, high) = is.0 t in so.0 (f, omega arith, omega arith),

@@ -8,6 +8,6 @@ use Rattle.infer_more.proofs.NamedLemmas.{row_passes}
 use Rattle.infer_more.proofs.TableLemmas.{all_sound}
 use Rattle.infer_more.proofs.decided.may_become.Goals as goal
 
-pub may_accept-requires : goal.may_accept-requires
-may_accept-requires c =
+pub may_become_accepted-requires : goal.may_become_accepted-requires
+may_become_accepted-requires c =
     (and_parts (are_sound (signature_listed c.in-Some.row.now.signature.now)) _ (row_passes is_row_sound further (c.args.i - ROW_COUNT) _ all_sound c.in-Some.ensures.listed)).0

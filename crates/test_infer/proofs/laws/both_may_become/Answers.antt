@@ -2,7 +2,7 @@ use Rattle.std.proofs.Common.{List, ℕ, MatchOption, Option, None, Some, subst,
 use Rattle.std.specs.List.{slice_get}
 use Rattle.infer.specs.Buffer.{IsBuffer}
 use Rattle.infer.specs.BuiltIn.{BuiltIn}
-use Rattle.infer.specs.Decided.{MayAccept}
+use Rattle.infer.specs.Decided.{MayBecomeRow}
 use Rattle.infer.specs.Row.{Row}
 use Rattle.infer.specs.Table.{table}
 use Rattle.test_infer.proofs.BufferLemmas.{IsBuffer-bytes, IsBuffer-rest}
@@ -18,7 +18,7 @@ returns c = λ may.
     let more = c.requires.0 in
     let bytes : IsBuffer c.args.long.now = IsBuffer-bytes c.args.long.now (λ i. omega (arith, c.type_inv.long i)) in
     let rest = IsBuffer-rest short more (subst IsBuffer c.requires.1 bytes) in
-    let before : (r : Row BuiltIn) → MayAccept c.args.long.now r → MayAccept short r =
-    λ r h. c.later.ensures.narrows short more r rest (subst (λ (b : List ℕ). MayAccept b r) c.requires.1 h)
+    let before : (r : Row BuiltIn) → MayBecomeRow c.args.long.now r → MayBecomeRow short r =
+    λ r h. c.later.ensures.narrows short more r rest (subst (λ (b : List ℕ). MayBecomeRow b r) c.requires.1 h)
     in
-    c.may_become.ensures.1 (of_each (MayAccept c.args.long.now) (MayAccept short) (slice_get table c.args.row) before (c.may_become-2.ensures.0 may))
+    c.may_become.ensures.1 (of_each (MayBecomeRow c.args.long.now) (MayBecomeRow short) (slice_get table c.args.row) before (c.may_become-2.ensures.0 may))
