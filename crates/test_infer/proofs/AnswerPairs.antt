@@ -9,11 +9,12 @@ use Rattle.infer_sig.specs.App.{exe}
 use Rattle.infer_sig.specs.Image.{png}
 use Rattle.infer_sig.specs.Signature.{Alternative, accepts, stands, any_of, at_least, byte}
 use Rattle.infer.specs.Arms.{rows_of}
+use Rattle.infer_sig.specs.Open.{agrees}
 use Rattle.infer.specs.Arrivals.{IsAwaited, frame, last_after, white}
 use Rattle.infer.specs.Buffer.{IsBuffer}
 use Rattle.infer.specs.BuiltIn.{BuiltIn, fixed, html, pdf}
 use Rattle.infer.specs.Caller.{Allows, Contract, Contracts, FixesAnswers}
-use Rattle.infer.specs.Decided.{IsToldExactly}
+use Rattle.infer.specs.Decided.{IsToldExactly, TellsMayBecome}
 use Rattle.infer.specs.Fault.{OpensNothing, read_fault}
 use Rattle.infer.specs.First.{NoneHas}
 use Rattle.infer.specs.Laws.{AnswersAsBuiltIn, AnyLasts, IsNotLater, IsSteady}
@@ -245,6 +246,10 @@ fault_of_pair = (refl, λ e. absurd (cc))
 
 pub inner_pair : (inner (reader 1 None) ≡ 1) × (¬ (inner (reader 0 None) ≡ 1))
 inner_pair = (refl, λ e. omega (arith, e))
+
+pub TellsMayBecome_pair : TellsMayBecome (fixed exe) (codes "M") true × (¬ TellsMayBecome (fixed exe) (codes "N") true)
+unfolding stands agrees
+TellsMayBecome_pair = (refl, λ e. absurd (cc))
 
 pub IsToldExactly_pair : IsToldExactly pdf × (¬ IsToldExactly (fixed impossible))
 IsToldExactly_pair = (λ b r told. told, λ h. let r = (h [] true refl).0 refl in never r.0 r.2)
