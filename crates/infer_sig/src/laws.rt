@@ -32,7 +32,8 @@ pub fn leads()
 /// If the parts of each alternative ascend, lie apart and are possible, bytes after a buffer can make the signature
 /// accept it exactly if the buffer has an alternative as far as it goes.
 pub fn open()
-    ensures { (signature : List Alternative) → IsTrue (is_sound signature) → MayBecomeIsExact signature }
+    ensures { (signature : List Alternative) → IsTrue (is_sound signature)
+        → MayBecomeIsExact signature }
 {}
 
 /// With each byte that such a signature allows first begins a buffer that it accepts.
