@@ -1,11 +1,12 @@
 -- The words of a first line, and the one that names the program.
 use Rattle.std.proofs.Common.{◌≡◌, ◌==◌, ◌||◌, ℕ, zero, suc, ◌+◌, ◌-◌, ◌<◌, ◌≤◌, ◌⊎◌, inl, inr, ap, refl, Bool, true, false, not, List, ◌++◌, Option, None, Some, length, codes, get_or, sym, subst, ◌∙◌, MatchOption, arith}
+use Rattle.std.specs.List.{list_all}
 use Rattle.std.proofs.lemmas.Bool.{true≢false}
 use Rattle.std.proofs.lemmas.List.{get_or_append_left}
 use Rattle.std.proofs.lemmas.List.Sums.{AllPass-from_list_all}
 use Rattle.memchr.specs.Find.{OccursAt}
 use Rattle.infer_deep.specs.Signatures.{Lasts}
-use Rattle.infer_inside.specs.Script.{EndsBare, IsBlank, IsEnv, IsFirstWord, IsLineEnd, IsNameOf, IsNextWord, IsProgram, IsRead, IsSetting, IsVersionByte, IsWord, IsWordByte, NamesProgram}
+use Rattle.infer_inside.specs.Script.{EndsBare, IsBlank, IsEnv, IsFirstWord, IsFolder, IsLineEnd, IsNameOf, IsNextWord, IsProgram, IsRead, IsSetting, IsVersionByte, IsWord, IsWordByte, NamesProgram}
 use Rattle.infer_inside.specs.Runs.{IsRun}
 use Rattle.infer_inside.specs.declared.script.Word.{Word}
 use Rattle.infer_inside.proofs.FrontLemmas.{SharesFront, after_last_shared, byte_shared, byte_shared_back, front_grows, front_swaps, range_shared, run_shared, text_shared}
@@ -229,29 +230,46 @@ IsProgram-lasts name b more (begins, (at, end, p, is)) =
       ),
     )
 
--- ---- `env` as most scripts name it
+-- ---- paths as most scripts name them
 
-abbrev is_word_byte : ℕ → Bool
-is_word_byte x = not (x == 0x20 || x == 0x09 || x == 0x0A || x == 0x0D)
+abbrev is_path_byte : ℕ → Bool
+is_path_byte x = not (x == 0x20 || x == 0x09 || x == 0x0A || x == 0x0D || x == 0x3D)
 
-word_byte : (x : ℕ) → is_word_byte x ≡ true → IsWordByte x
-word_byte x h = (λ e. no 0x20 e refl, λ e. no 0x09 e refl, λ e. no 0x0A e refl, λ e. no 0x0D e refl)
+path_byte : (x : ℕ) → is_path_byte x ≡ true → IsWordByte x × (¬ (x ≡ 0x3D))
+path_byte x h = ((λ e. no 0x20 e refl, λ e. no 0x09 e refl, λ e. no 0x0A e refl, λ e. no 0x0D e refl), λ e. no 0x3D e refl)
   where
-    no : (y : ℕ) → x ≡ y → ¬ (is_word_byte y ≡ false)
-    no y e other = absurd (true≢false (sym h ∙ ap is_word_byte e ∙ other))
+    no : (y : ℕ) → x ≡ y → ¬ (is_path_byte y ≡ false)
+    no y e other = absurd (true≢false (sym h ∙ ap is_path_byte e ∙ other))
+
+path_reads : (b path : List ℕ) (p : ℕ) → list_all is_path_byte path ≡ true → OccursAt b path p
+    → (k : ℕ) → p ≤ k → k < p + length path → IsWordByte (get_or b k 0) × (¬ (get_or b k 0 ≡ 0x3D))
+path_reads b path p all o k low lt =
+    let same : p + (k - p) ≡ k = omega arith in
+    let within : k - p < length path = omega arith in
+    let reads = subst (λ x. get_or b x 0 ≡ get_or path (k - p) 0) same (o.reads (k - p) within) in
+    path_byte _ (ap is_path_byte reads ∙ AllPass-from_list_all is_path_byte path all (k - p) 0 within)
+
+-- a path that ends by "/" is a folder
+pub path_is_folder : (b path : List ℕ) (p : ℕ) → list_all is_path_byte path ≡ true → get_or path (length path - 1) 0 ≡ 0x2F
+    → OccursAt b path p → IsFolder b p (p + length path)
+path_is_folder b path p all last o = record {
+  low = omega arith;
+  high = o.fits;
+  bytes = path_reads b path p all o;
+  ends = λ lt.
+      let same : p + (length path - 1) ≡ p + length path - 1 = omega arith in
+      subst (λ x. get_or b x 0 ≡ 0x2F) same (o.reads (length path - 1) (omega arith) ∙ last);
+}
 
 module _ (b : List ℕ) (o : OccursAt b (codes "/usr/bin/env ") 2) where
-  pub path_byte : (k : ℕ) → 2 ≤ k → k < 14 → IsWordByte (get_or b k 0)
-  path_byte k low lt =
-      let here : 2 + (k - 2) ≡ k = omega arith in
-      let reads = subst (λ x. get_or b x 0 ≡ get_or (codes "/usr/bin/env ") (k - 2) 0) here (o.reads (k - 2) (omega arith)) in
-      let within : k - 2 < 12 = omega arith in
-      subst IsWordByte (sym reads) (word_byte _ (path_passes (k - 2) within))
-    where
-      path_passes : (i : ℕ) → i < 12 → is_word_byte (get_or (codes "/usr/bin/env ") i 0) ≡ true
-      path_passes i lt =
-          ap is_word_byte (get_or_append_left (codes "/usr/bin/env") (codes " ") 0 i lt)
-          ∙ AllPass-from_list_all is_word_byte (codes "/usr/bin/env") refl i 0 lt
+  path_stands : OccursAt b (codes "/usr/bin/env") 2
+  path_stands = record {
+    fits = (let fits = o.fits in omega arith);
+    reads = λ j lt. o.reads j (omega arith) ∙ get_or_append_left (codes "/usr/bin/env") (codes " ") 0 j lt;
+  }
+
+  pub env_byte : (k : ℕ) → 2 ≤ k → k < 14 → IsWordByte (get_or b k 0)
+  env_byte k low lt = (path_reads b (codes "/usr/bin/env") 2 refl path_stands k low lt).0
 
   pub env_first : IsFirstWord b 2 14
   env_first = record {
@@ -262,7 +280,7 @@ module _ (b : List ℕ) (o : OccursAt b (codes "/usr/bin/env ") 2) where
       some = omega arith;
       run = record {
         order = omega arith;
-        bytes = path_byte;
+        bytes = env_byte;
         whole = (let fits = o.fits in omega arith);
         ends = λ is. is.0 (o.reads 12 (omega arith));
       };

@@ -48,6 +48,13 @@ HasEquals b from to = (k : ℕ) × (from ≤ k) × (k < to) × (slice_index b k 
 abbrev pub IsRead : List ℕ → Word → Type 0
 IsRead b w = IsNameOf b w.from w.to w.name × (IsTrue w.has_equals ↔ HasEquals b w.from w.to)
 
+-- from `from` up to `at` stands a folder, or nothing: bytes of a word without "=", of which the last is "/"
+pub record IsFolder (b : List ℕ) (from at : ℕ) : Type 0 where
+  pub low : from ≤ at
+  pub high : at ≤ length b
+  pub bytes : (k : ℕ) → from ≤ k → k < at → IsWordByte (slice_index b k) × (slice_index b k ≢ 0x3D)
+  pub ends : from < at → slice_index b (at - 1) ≡ 0x2F
+
 -- `env` takes it for itself: it begins with "-", or has "="
 abbrev pub IsSetting : List ℕ → ℕ → ℕ → Type 0
 IsSetting b from to = (slice_index b from ≡ 0x2D) ⊎ HasEquals b from to

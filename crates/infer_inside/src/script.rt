@@ -4,9 +4,9 @@ ghost use Rattle.memchr.specs.Find.{OccursAt};
 ghost use Rattle.infer_deep.specs.Open.{AgreesAt};
 ghost use Rattle.infer_deep.specs.Signatures.{MayBecome};
 ghost use Rattle.infer_inside.specs.Runs.{IsRun};
-ghost use Rattle.infer_inside.specs.Script.{EndsBare, HasEquals, IsBareName, IsBlank, IsEnv, IsLineEnd, IsNameByte, IsNextWord, IsProgram, IsRead, IsSetting, IsVersionByte, IsWord, IsWordByte, NamesProgram};
+ghost use Rattle.infer_inside.specs.Script.{EndsBare, HasEquals, IsBareName, IsBlank, IsEnv, IsFolder, IsLineEnd, IsNameByte, IsNextWord, IsProgram, IsRead, IsSetting, IsVersionByte, IsWord, IsWordByte, NamesProgram};
 
-use infer_deep::places::{has_at, may_stand_at, stands_at};
+use infer_deep::places::{has_at, may_stand_at, same_at};
 
 /// A word of the first line: where it begins and ends, where its name begins, and whether it has "=".
 #[derive(Clone, Copy)]
@@ -23,11 +23,12 @@ struct Word {
 /// count, since it may go on. A word's name is what follows its last "/". Where the name of the first word is "env", the
 /// next word without "=" that does not begin with "-" names the program. Digits and dots at the end of a name are its
 /// version, and left out, so that nothing may be left of it.
+#[inline(never)]
 pub fn program(buf: &[u8]) -> Option<&[u8]>
     ensures found { MatchOption result ((n : List ℕ) → ¬ IsProgram n buf.now) (λ name. IsProgram name.now buf.now) }
     ensures only { IfSome result (λ name. (n : List ℕ) → IsProgram n buf.now → n ≡ name.now) }
 {
-    if !stands_at(buf, b"#!", 0) {
+    if !has_at(buf, b"#!", 0) {
         return None;
     }
     Some(bare_name(buf, program_word(buf)?))
@@ -82,7 +83,7 @@ fn may_name(buf: &[u8], name: &[u8]) -> bool
     if has_line_end(buf) {
         return false;
     }
-    match next_word(buf, 2) {
+    match first_word(buf) {
         // It is `env`, which takes a word with "=" for itself.
         Some(word) => is_env(buf, word) && !has_equals(name),
         None => true,
@@ -120,6 +121,7 @@ fn has_line_end(buf: &[u8]) -> bool
 }
 
 /// The word whose name is that of the program.
+#[inline(always)]
 fn program_word(buf: &[u8]) -> Option<Word>
     requires { 2 ≤ length buf.now }
     ensures names { MatchOption result ((p q : ℕ) → ¬ NamesProgram buf.now p q) (λ w. NamesProgram buf.now w.from w.to) }
@@ -129,7 +131,7 @@ fn program_word(buf: &[u8]) -> Option<Word>
     if has_at(buf, b"/usr/bin/env ", 2) {
         return next_program(buf, 14);
     }
-    let first = next_word(buf, 2)?;
+    let first = first_word(buf)?;
     if is_env(buf, first) {
         return next_program(buf, first.to);
     }
@@ -171,7 +173,41 @@ fn next_word(buf: &[u8], place: usize) -> Option<Word>
     if from == buf.len() || !is_word_byte(buf[from]) {
         return None;
     }
-    read_word(buf, from)
+    read_word(buf, from, from)
+}
+
+/// [`next_word`] where the line begins. Its folder is mostly one that is known.
+#[inline(always)]
+fn first_word(buf: &[u8]) -> Option<Word>
+    requires { 2 ≤ length buf.now }
+    ensures next { MatchOption result ((p q : ℕ) → 2 ≤ p → ¬ IsWord buf.now p q)
+        (λ w. IsNextWord buf.now (λ p q. Unit {0}) 2 w.from w.to) }
+    ensures read { IfSome result (λ w. IsRead buf.now w) }
+{
+    let from = blanks_end(buf, 2);
+    if from == buf.len() || !is_word_byte(buf[from]) {
+        return None;
+    }
+    read_word(buf, from, folder_end(buf, from))
+}
+
+/// Where the folder that stands there ends, if it is one of those in which most programs are: one comparison tells it.
+#[inline(always)]
+fn folder_end(buf: &[u8], from: usize) -> usize
+    requires { from ≤ length buf.now }
+    ensures { IsFolder buf.now from result }
+{
+    // Whether there is room is asked once for both: even a short script has so many bytes.
+    if buf.len() - from < 15 {
+        return from;
+    }
+    if same_at(buf, b"/usr/bin/", from) {
+        return from + 9;
+    }
+    if same_at(buf, b"/usr/local/bin/", from) {
+        return from + 15;
+    }
+    from
 }
 
 /// Where the spaces and tabs from that place on end.
@@ -190,33 +226,33 @@ fn blanks_end(buf: &[u8], place: usize) -> usize
     buf.len()
 }
 
-/// The bytes of a word that stand there, perhaps none, if the buffer goes on behind them.
+/// The bytes of a word that stand there, perhaps none, if the buffer goes on behind them. Its folder, which was read
+/// before, ends at `folder`.
 #[inline(always)]
-fn read_word(buf: &[u8], from: usize) -> Option<Word>
-    requires { from ≤ length buf.now }
+fn read_word(buf: &[u8], from: usize, folder: usize) -> Option<Word>
+    requires { IsFolder buf.now from folder }
     ensures { MatchOption result ((k : ℕ) → from ≤ k → k < length buf.now → IsWordByte (slice_index buf.now k))
         (λ w. (w.from ≡ from) × IsRun IsWordByte buf.now from w.to × IsRead buf.now w) }
 {
-    let mut name = from;
+    let mut name = folder;
     let mut has_equals = false;
-    for to in from..buf.len() {
+    for to in folder..buf.len() {
         let byte = buf[to];
         // Most bytes are told by this test.
         if byte > b'=' {
             continue;
         }
-        match byte {
-            b' ' | b'\t' | b'\n' | b'\r' => {
-                return Some(Word {
-                    from,
-                    to,
-                    name,
-                    has_equals,
-                });
-            }
-            b'/' => name = to + 1,
-            b'=' => has_equals = true,
-            _ => {}
+        if byte == b'/' {
+            name = to + 1;
+        } else if byte == b'=' {
+            has_equals = true;
+        } else if !is_word_byte(byte) {
+            return Some(Word {
+                from,
+                to,
+                name,
+                has_equals,
+            });
         }
     }
     None
@@ -237,10 +273,11 @@ fn is_word_byte(byte: u8) -> bool
 
 #[inline(always)]
 fn is_env(buf: &[u8], word: Word) -> bool
+    requires whole { word.to < length buf.now }
     requires read { IsRead buf.now word }
     ensures { IsTrue result ↔ IsEnv buf.now word.from word.to }
 {
-    word.to - word.name == 3 && stands_at(buf, b"env", word.name)
+    word.to - word.name == 3 && same_at(buf, b"env", word.name)
 }
 
 /// Whether `env` takes the word for itself, as an option or the value of a variable.
@@ -280,5 +317,6 @@ fn bare_end(buf: &[u8], at: usize, to: usize) -> usize
 fn is_version_byte(byte: u8) -> bool
     ensures { IsTrue result ↔ IsVersionByte byte }
 {
-    byte >= b'0' && byte <= b'9' || byte == b'.'
+    // Most bytes are told by the first test.
+    byte <= b'9' && (byte >= b'0' || byte == b'.')
 }

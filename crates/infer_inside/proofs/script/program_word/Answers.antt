@@ -1,10 +1,10 @@
 use Rattle.std.proofs.Common.{ℕ, sym, subst, MatchOption, arith}
 use Rattle.infer_inside.specs.Script.{NamesProgram}
-use Rattle.infer_inside.proofs.ScriptLemmas.{env_first, env_named, named_behind_env, no_first_word, path_byte}
+use Rattle.infer_inside.proofs.ScriptLemmas.{env_byte, env_first, env_named, named_behind_env, no_first_word}
 use Rattle.infer_inside.proofs.script.program_word.Goals as goal
 
 pub next_program-requires-clause-line : goal.next_program-requires-clause-line
-next_program-requires-clause-line c = λ k low lt is. let byte = path_byte c.args.buf.now (c.has_at.ensures.0 c.if-has_at.true) k low lt in grind arith
+next_program-requires-clause-line c = λ k low lt is. let byte = env_byte c.args.buf.now (c.has_at.ensures.0 c.if-has_at.true) k low lt in grind arith
 
 pub returns-then-has_at-clause-names : goal.returns-then-has_at-clause-names
 returns-then-has_at-clause-names c =
