@@ -18,6 +18,7 @@ pub mod RunLemmas
 pub mod FrontLemmas
 pub mod ScriptLemmas
 pub mod MarkupLemmas
+pub mod NearLemmas
 pub mod OpenLemmas
 pub mod OpenJsonLemmas
 pub mod OpenTextLemmas

@@ -1,12 +1,12 @@
 -- The parts of a prolog, the tag that they lead to, and the name of the document type.
-use Rattle.std.proofs.Common.{◌≡◌, ◌↔◌, ℕ, ◌+◌, ◌-◌, ◌<◌, ◌≤◌, ◌⊎◌, inl, inr, List, ◌++◌, Option, None, Some, length, codes, get_or, add-zero, sym, subst, ap, ◌∙◌, arith}
+use Rattle.std.proofs.Common.{◌≡◌, ◌↔◌, ℕ, ◌+◌, ◌-◌, ◌<◌, ◌≤◌, ◌⊎◌, inl, inr, List, ◌++◌, Option, None, Some, length, codes, get_or, add-zero, refl, sym, subst, ap, ◌∙◌, arith}
 use Rattle.std.proofs.lemmas.Bool.{cases_lt}
 use Rattle.std.proofs.lemmas.List.{drop-append-le, ext_get_or, get_or_past}
 use Rattle.std.specs.Prelude.{slice_range}
 use Rattle.memchr.specs.Find.{OccursAt}
 use Rattle.infer_deep.proofs.PlaceLemmas.{IsFirstPlace-same, byte_stands}
 use Rattle.infer_deep.specs.Signatures.{Lasts}
-use Rattle.infer_inside.specs.Markup.{AgreesWithDoctype, BeginsAt, BeginsElement, ClosesDeclaration, HasRoot, HasRootWith, IsDoctype, IsEnclosed, IsMisc, IsNameByte, IsPart, IsRootElement, IsSpaceRun, IsTypeByte, IsXmlSpace, LeadsToTag, OpensTag, here, later, utf8_mark}
+use Rattle.infer_inside.specs.Markup.{AgreesWithDoctype, BeginsAt, BeginsElement, ClosesDeclaration, HasRoot, HasRootWith, IsDoctype, IsEnclosed, IsMisc, IsNameByte, IsPart, IsRootElement, IsSpaceRun, IsTypeByte, IsXmlSpace, LeadsToTag, OpensElement, OpensTag, here, later, utf8_mark}
 use Rattle.infer_inside.specs.Runs.{IsAfterLast, IsRun}
 use Rattle.infer_inside.proofs.FrontLemmas.{SharesFront, after_last_shared, byte_shared, byte_shared_back, front_grows, front_swaps, range_shared, run_shared, text_shared}
 use Rattle.infer_inside.proofs.PartLemmas.{part_length, part_reads}
@@ -204,6 +204,87 @@ pub no_part : (b : List ℕ) (p : ℕ) (d : Option ℕ) → ((q : ℕ) → ¬ Is
     → (d ≡ None → (name close : ℕ) → ¬ IsDoctype b p name close) → (q : ℕ) (e : Option ℕ) → ¬ IsPart b p d q e
 no_part b p d no_misc no_doctype q e (inl (m, is)) = no_misc q m
 no_part b p d no_misc no_doctype q e (inr (name, close, doctype, none, ends, is)) = no_doctype none name close doctype
+
+-- where neither white space, an instruction nor a comment stands, none of them does
+pub no_misc : (b : List ℕ) (p : ℕ) → (¬ IsXmlSpace (get_or b p 0)) → ((q : ℕ) → ¬ IsEnclosed b (codes "<?") (codes "?>") p q)
+    → ((q : ℕ) → ¬ IsEnclosed b (codes "<!--") (codes "-->") p q) → (q : ℕ) → ¬ IsMisc b p q
+no_misc b p no_space no_instruction no_comment q (inl space) = no_space (space_first b p q space)
+no_misc b p no_space no_instruction no_comment q (inr (inl instruction)) = no_instruction q instruction
+no_misc b p no_space no_instruction no_comment q (inr (inr comment)) = no_comment q comment
+
+-- where the name of an element begins behind "<" none of them does
+pub no_misc_opened : (b : List ℕ) (p : ℕ) → OpensElement b p → (q : ℕ) → ¬ IsMisc b p q
+no_misc_opened b p (within, tag, (no_mark, no_question)) q (inl space) = not_space _ tag (space_first b p q space)
+no_misc_opened b p (within, tag, (no_mark, no_question)) q (inr (inl i)) = no_question (instruction_first b p q i).1
+no_misc_opened b p (within, tag, (no_mark, no_question)) q (inr (inr c)) = no_mark (comment_first b p q c).1
+
+-- nor any part, where no document type was declared
+pub opened_undeclared : (b : List ℕ) (p : ℕ) → OpensElement b p → (q : ℕ) (e : Option ℕ) → ¬ IsPart b p None q e
+opened_undeclared b p opens = no_part b p None (no_misc_opened b p opens)
+    (λ none name close doctype. let (within, tag, (no_mark, no_question)) = opens in no_mark (doctype_first b p name close doctype).1)
+
+-- a tag is led to from before white space as from behind it
+pub spaces_lead : (b : List ℕ) (at to p q : ℕ) (d : Option ℕ) → p ≤ q → ((k : ℕ) → p ≤ k → k < q → IsXmlSpace (get_or b k 0))
+    → LeadsToTag b at to p d ↔ LeadsToTag b at to q d
+spaces_lead b at to p q d order spaces = elim (cases_lt p q) [
+  | inr late ↦ let same : p ≡ q = omega arith in (λ l. subst (λ x. LeadsToTag b at to x d) same l, λ l. subst (λ x. LeadsToTag b at to x d) (sym same) l)
+  | inl less ↦
+      let space = spaces p (omega arith) less in
+      let to_there : (q < length b) → (¬ IsXmlSpace (get_or b q 0)) → LeadsToTag b at to q d → LeadsToTag b at to p d = λ whole ends leads.
+      later p d q d (inl (inl (less, record { order = order; bytes = spaces; whole = whole; ends = ends }), refl)) leads in (
+        λ leads. elim (ways b at to p d leads) [
+          | inl tag ↦ absurd (not_space _ tag.opens space)
+          | inr (r, (e, part, rest)) ↦ elim part [
+            | inl (inl (some, run), is) ↦
+                let far : q ≤ r = elim (cases_lt r q) [ inl early ↦ absurd (run.ends (spaces r (omega arith) early)) | inr le ↦ le ] in
+                elim (cases_lt q r) [
+                  | inl lt ↦
+                      later q d r e (inl (
+                        inl (
+                          lt,
+                          record {
+                            order = far;
+                            bytes = λ k low high. run.bytes k (omega arith) high;
+                            whole = run.whole;
+                            ends = run.ends;
+                          },
+                        ),
+                        is,
+                      )) rest
+                  | inr le ↦
+                      let here : r ≡ q = omega arith in subst (λ x. LeadsToTag b at to x d) here (subst (λ x. LeadsToTag b at to r x) is rest)
+                ]
+            | inl (inr (inl i), is) ↦ absurd (not_space _ (instruction_first b p r i).0 space)
+            | inl (inr (inr c), is) ↦ absurd (not_space _ (comment_first b p r c).0 space)
+            | inr (name, close, doctype, none, ends, is) ↦ absurd (not_space _ (doctype_first b p name close doctype).0 space)
+          ]
+        ],
+        λ leads. elim (ways b at to q d leads) [
+          | inl tag ↦ to_there (let order = tag.name.order in let whole = tag.name.whole in omega arith) (not_space _ tag.opens) leads
+          | inr (r, (e, part, rest)) ↦
+              let within = part_within b q d r e part in
+              let inside : q < length b = omega arith in
+              elim part [
+                | inl (inl (some, run), is) ↦
+                    later p d r e (inl (
+                      inl (
+                        omega arith,
+                        record {
+                          order = omega arith;
+                          bytes = λ k low high. elim (cases_lt k q) [ inl early ↦ spaces k low early | inr le ↦ run.bytes k le high ];
+                          whole = run.whole;
+                          ends = run.ends;
+                        },
+                      ),
+                      is,
+                    )) rest
+                | inl (inr (inl i), is) ↦ to_there inside (not_space _ (instruction_first b q r i).0) leads
+                | inl (inr (inr c), is) ↦ to_there inside (not_space _ (comment_first b q r c).0) leads
+                | inr (name, close, doctype, none, ends, is) ↦ to_there inside (not_space _ (doctype_first b q name close doctype).0) leads
+              ]
+        ],
+      )
+]
 
 -- no tag opens where the name, or what follows its last ":", is no name of an element
 module _ (b : List ℕ) (p to : ℕ) (d : Option ℕ) (run : IsRun IsNameByte b (p + 1) to) where

@@ -1,6 +1,6 @@
 -- Markup, by its root element: the first element, behind a prolog of white space, processing instructions, comments and
 -- at most one document type declaration.
-use Rattle.std.specs.Prelude.{◌≡◌, ◌≢◌, ℕ, ◌+◌, ◌<◌, ◌≤◌, ◌⊎◌, List, [], ◌∷◌, length, codes, drop, slice_index, slice_range, Option, None, Some}
+use Rattle.std.specs.Prelude.{◌≡◌, ◌≢◌, ◌↔◌, ℕ, ◌+◌, ◌<◌, ◌≤◌, ◌⊎◌, List, [], ◌∷◌, ◌++◌, length, codes, drop, slice_index, slice_range, Option, None, Some}
 use Rattle.memchr.specs.Find.{OccursAt}
 use Rattle.infer_deep.specs.Open.{AgreesAt}
 use Rattle.infer_deep.specs.Places.{IsFirstPlace}
@@ -61,6 +61,10 @@ AgreesWithDoctype b (Some name) p q =
 abbrev pub BeginsElement : ℕ → Type 0
 BeginsElement x = (x ≢ 0x21) × (x ≢ 0x3F)
 
+-- "<" stands at p, and behind it a byte that can begin an element's name
+abbrev pub OpensElement : List ℕ → ℕ → Type 0
+OpensElement b p = (p + 1 < length b) × (slice_index b p ≡ 0x3C) × BeginsElement (slice_index b (p + 1))
+
 -- the tag of an element opens at p: "<", and a name that ends at `to`, within b, and is that of the document type d.
 -- What follows the name's last ":", or all of it, begins at `at` and is not empty
 pub record OpensTag (b : List ℕ) (at to p : ℕ) (d : Option ℕ) : Type 0 where
@@ -77,6 +81,14 @@ pub data LeadsToTag (b : List ℕ) (at to : ℕ) : ℕ → Option ℕ → Type 0
   here : (p : ℕ) (d : Option ℕ) → OpensTag b at to p d → LeadsToTag b at to p d
   later : (p : ℕ) (d : Option ℕ) (q : ℕ) (e : Option ℕ)
       → IsPart b p d q e → LeadsToTag b at to q e → LeadsToTag b at to p d
+
+-- from `start` on a prolog ends at `place`, whatever bytes follow b: a tag that it leads to opens there. d is where the
+-- name of the document type begins, if one was declared, and its declaration is closed
+pub record EndsProlog (b : List ℕ) (start place : ℕ) (d : Option ℕ) : Type 0 where
+  pub within : place ≤ length b
+  pub leads : (more : List ℕ) (at to : ℕ) → LeadsToTag (b ++ more) at to start None ↔ LeadsToTag (b ++ more) at to place d
+  pub ends : (q : ℕ) (e : Option ℕ) → ¬ IsPart b place d q e
+  pub declared : (name : ℕ) → d ≡ Some name → (close : ℕ) × (name ≤ close) × (close < length b) × (slice_index b close ≡ 0x3E)
 
 -- the byte order mark of UTF-8
 abbrev pub utf8_mark : List ℕ

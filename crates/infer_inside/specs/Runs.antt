@@ -14,3 +14,10 @@ pub record IsAfterLast (x : ℕ) (b : List ℕ) (from to at : ℕ) : Type 0 wher
   pub high : at ≤ to
   pub begins : from < at → slice_index b (at - 1) ≡ x
   pub last : (k : ℕ) → at ≤ k → k < to → slice_index b k ≢ x
+
+-- the first x from `from` on is at `at`
+pub record IsNext (x : ℕ) (b : List ℕ) (from at : ℕ) : Type 0 where
+  pub low : from ≤ at
+  pub whole : at < length b
+  pub is : slice_index b at ≡ x
+  pub before : (k : ℕ) → from ≤ k → k < at → slice_index b k ≢ x

@@ -1,15 +1,15 @@
 //! Markup, by its root element.
-ghost use Rattle.std.specs.Prelude.{◌≡◌, ◌≢◌, ◌↔◌, Some, ◌+◌, ◌++◌, ◌<◌, ◌≤◌, ◌⊎◌, ℕ, List, Option, None, All, length, slice_index, slice_range, IsTrue, IfSome, MatchOption};
+ghost use Rattle.std.specs.Prelude.{◌≡◌, ◌≢◌, ◌↔◌, Some, ◌+◌, ◌++◌, ◌<◌, ◌≤◌, ◌⊎◌, ℕ, List, Option, None, All, length, codes, slice_index, slice_range, IsTrue, IfSome, MatchOption};
 ghost use Rattle.infer_deep.specs.Open.{AgreesAt};
 ghost use Rattle.infer_deep.specs.Signatures.{MayBecome};
 ghost use Rattle.infer_deep.specs.Places.{FindsPlace};
-ghost use Rattle.infer_inside.specs.Runs.{IsRun};
-ghost use Rattle.infer_inside.specs.Markup.{AgreesWithDoctype, BeginsAt, BeginsElement, ClosesDeclaration, EndsName, HasInTag, HasNoBracket, HasRoot, HasRootWith, IsDoctype, IsEnclosed, IsFullName, IsLocalName, IsMisc, IsNameByte, IsPart, IsRootElement, IsSpaceRun, IsTypeByte, IsXmlSpace, LeadsToTag, MayBeRooted, MayDeclare, MayGoOn, MayNameRoot, MayOpen, MayOpenAs, MayOpenTag, OpensTag, utf8_mark};
+ghost use Rattle.infer_inside.specs.Runs.{IsAfterLast, IsRun};
+ghost use Rattle.infer_inside.specs.Markup.{AgreesWithDoctype, BeginsAt, BeginsElement, ClosesDeclaration, EndsName, HasInTag, HasNoBracket, HasRoot, HasRootWith, EndsProlog, IsDoctype, IsEnclosed, IsFullName, IsLocalName, IsMisc, IsNameByte, IsPart, IsRootElement, IsSpaceRun, IsTypeByte, IsXmlSpace, LeadsToTag, MayBeRooted, MayDeclare, MayGoOn, MayNameRoot, MayOpen, MayOpenAs, MayOpenTag, OpensElement, OpensTag, utf8_mark};
 
 use crate::runs::after_last;
-use crate::search::{find_closing, find_from};
-use infer_deep::places::{has_at, may_stand_at, stands_at};
-use memchr::{memchr, memchr2};
+use crate::search::{find_closing, find_near, find_opening};
+use infer_deep::places::{has_at, may_stand_at, same_at, stands_at};
+use memchr::memchr;
 
 /// The root element of markup.
 #[derive(Clone, Copy, Debug)]
@@ -20,11 +20,20 @@ pub struct Root<'a> {
     pub rest: &'a [u8],
 }
 
-/// How far the prolog has been read, and where the name of the document type stands that it declares.
+/// How far the prolog has been read, whether the tag of an element opens there, and where the name of the document type
+/// stands that it declares.
 #[derive(Clone, Copy)]
 struct Reached {
     place: usize,
+    opens: bool,
     doctype: Option<usize>,
+}
+
+/// Where white space, instructions and comments end, and whether the tag of an element opens there.
+#[derive(Clone, Copy)]
+struct Stop {
+    place: usize,
+    opens: bool,
 }
 
 /// Where the name of a document type begins, and where the ">" at the end of its declaration is.
@@ -48,7 +57,7 @@ impl Root<'_> {
         ensures { IsTrue result ↔ HasInTag text.now self.now.rest.now }
     {
         let end = memchr(b'>', self.rest).unwrap_or(self.rest.len());
-        find_from(&self.rest[..end], text, 0).is_some()
+        find_opening(&self.rest[..end], text).is_some()
     }
 }
 
@@ -78,6 +87,7 @@ pub fn has_root_with(buf: &[u8], name: &[u8], text: &[u8]) -> bool
 /// "<?" up to "?>" and of "<!--" up to "-->", and once "<!DOCTYPE", white space and all up to ">", without a "[". The
 /// root element's tag follows: "<" and its name, which goes up to white space, "/" or ">", begins with neither "!" nor
 /// "?", and ends within the buffer. If a document type was declared, its name is the same.
+#[inline(never)]
 pub fn root_of(buf: &[u8]) -> Option<Root<'_>>
     ensures found { MatchOption result ((name rest : List ℕ) → ¬ IsRootElement name rest buf.now)
         (λ r. IsRootElement r.name.now r.rest.now buf.now) }
@@ -143,6 +153,7 @@ fn prolog_start(buf: &[u8]) -> usize
 }
 
 /// Where the prolog that begins at that place ends.
+#[inline(always)]
 fn prolog_end(buf: &[u8], start: usize) -> Reached
     requires { start ≤ length buf.now }
     ensures tag { (at to : ℕ) → LeadsToTag buf.now at to start None ↔ OpensTag buf.now at to result.place result.doctype }
@@ -150,54 +161,116 @@ fn prolog_end(buf: &[u8], start: usize) -> Reached
         → LeadsToTag (buf.now ++ more) at to start None ↔ LeadsToTag (buf.now ++ more) at to result.place result.doctype }
     ensures ends { (q : ℕ) (e : Option ℕ) → ¬ IsPart buf.now result.place result.doctype q e }
     ensures within { result.place ≤ length buf.now }
+    ensures opens { IsTrue result.opens ↔ OpensElement buf.now result.place }
     ensures declared { (name : ℕ) → result.doctype ≡ Some name
         → (close : ℕ) × (name ≤ close) × (close < length buf.now) × (slice_index buf.now close ≡ 0x3E) }
 {
-    let mut reached = Reached {
-        place: start,
-        doctype: None,
-    };
-    while let Some(next) = part_end(buf, reached) {
-        reached = next;
+    let stop = miscs_end(buf, start);
+    if stop.opens {
+        return Reached {
+            place: stop.place,
+            opens: true,
+            doctype: None,
+        };
     }
-    reached
+    past_doctype(buf, stop.place)
 }
 
-/// Where the part of a prolog that stands there ends.
-fn part_end(buf: &[u8], from: Reached) -> Option<Reached>
-    requires { from.place ≤ length buf.now }
-    ensures { MatchOption result
-        ((q : ℕ) (e : Option ℕ) → ¬ IsPart buf.now from.place from.doctype q e)
-        (λ to. IsPart buf.now from.place from.doctype to.place to.doctype) }
+/// [`prolog_end`] where no tag opens. A function of its own, so that most buffers take nothing of what it needs.
+#[inline(never)]
+fn past_doctype(buf: &[u8], place: usize) -> Reached
+    requires within { place ≤ length buf.now }
+    requires no_misc { (q : ℕ) → ¬ IsMisc buf.now place q }
+    requires no_tag { ¬ OpensElement buf.now place }
+    ensures ends { EndsProlog buf.now place result.place result.doctype }
+    ensures opens { IsTrue result.opens ↔ OpensElement buf.now result.place }
 {
-    if let Some(place) = misc_end(buf, from.place) {
-        return Some(Reached {
+    match doctype_at(buf, place) {
+        Some(doctype) => {
+            let stop = miscs_end(buf, doctype.close + 1);
+            Reached {
+                place: stop.place,
+                opens: stop.opens,
+                doctype: Some(doctype.name),
+            }
+        }
+        None => Reached {
             place,
-            doctype: from.doctype,
-        });
+            opens: false,
+            doctype: None,
+        },
     }
-    if from.doctype.is_some() {
-        return None;
-    }
-    let doctype = doctype_at(buf, from.place)?;
-    Some(Reached {
-        place: doctype.close + 1,
-        doctype: Some(doctype.name),
-    })
 }
 
-/// Where the white space, the processing instruction or the comment that stands there ends.
-fn misc_end(buf: &[u8], place: usize) -> Option<usize>
+/// Where the white space, the processing instructions and the comments that begin there end.
+#[inline(always)]
+fn miscs_end(buf: &[u8], start: usize) -> Stop
+    requires { start ≤ length buf.now }
+    ensures within { result.place ≤ length buf.now }
+    ensures leads { (d : Option ℕ) (more : List ℕ) (at to : ℕ)
+        → LeadsToTag (buf.now ++ more) at to start d ↔ LeadsToTag (buf.now ++ more) at to result.place d }
+    ensures ends { (q : ℕ) → ¬ IsMisc buf.now result.place q }
+    ensures opens { IsTrue result.opens ↔ OpensElement buf.now result.place }
+{
+    let mut place = spaces_end(buf, start);
+    while !opens_element(buf, place) {
+        match misc_end(buf, place) {
+            Some(next) => place = spaces_end(buf, next),
+            None => {
+                return Stop {
+                    place,
+                    opens: false,
+                };
+            }
+        }
+    }
+    Stop { place, opens: true }
+}
+
+/// Whether "<" stands there and a byte of an element's name behind it.
+#[inline(always)]
+fn opens_element(buf: &[u8], place: usize) -> bool
     requires { place ≤ length buf.now }
+    ensures { IsTrue result ↔ OpensElement buf.now place }
+{
+    let next = place + 1;
+    next < buf.len() && buf[place] == b'<' && begins_element(buf[next])
+}
+
+/// Where the white space that stands there ends, of which there may be none.
+#[inline(always)]
+fn spaces_end(buf: &[u8], place: usize) -> usize
+    requires { place ≤ length buf.now }
+    ensures low { place ≤ result }
+    ensures high { result ≤ length buf.now }
+    ensures spaces { (k : ℕ) → place ≤ k → k < result → IsXmlSpace (slice_index buf.now k) }
+    ensures ends { ¬ IsXmlSpace (slice_index buf.now result) }
+{
+    for end in place..buf.len() {
+        if !is_xml_space(buf[end]) {
+            return end;
+        }
+    }
+    buf.len()
+}
+
+/// Where the processing instruction or the comment ends that stands there, where no white space does. The byte behind
+/// its "<" tells which it is.
+#[inline(always)]
+fn misc_end(buf: &[u8], place: usize) -> Option<usize>
+    requires within { place ≤ length buf.now }
+    requires no_space { ¬ IsXmlSpace (slice_index buf.now place) }
     ensures { FindsPlace (IsMisc buf.now place) result }
 {
-    if !has_at(buf, b"<", place) {
-        return space_end(buf, place);
+    let next = place + 1;
+    if next >= buf.len() || buf[place] != b'<' {
+        return None;
     }
-    if let Some(end) = enclosed_end(buf, b"<?", b"?>", place) {
-        return Some(end);
+    match buf[next] {
+        b'?' => instruction_end(buf, place),
+        b'!' => enclosed_end(buf, b"<!--", b"-->", place),
+        _ => None,
     }
-    enclosed_end(buf, b"<!--", b"-->", place)
 }
 
 /// Where the white space that stands there ends, if the buffer goes on.
@@ -205,15 +278,27 @@ fn space_end(buf: &[u8], place: usize) -> Option<usize>
     requires { place ≤ length buf.now }
     ensures { FindsPlace (IsSpaceRun buf.now place) result }
 {
-    for end in place..buf.len() {
-        if !is_xml_space(buf[end]) {
-            return if place < end { Some(end) } else { None };
-        }
+    let end = spaces_end(buf, place);
+    if end == place || end == buf.len() {
+        return None;
     }
-    None
+    Some(end)
+}
+
+/// Where the processing instruction that begins there ends.
+#[inline(always)]
+fn instruction_end(buf: &[u8], place: usize) -> Option<usize>
+    requires whole { place + 1 < length buf.now }
+    requires opens { slice_index buf.now place ≡ 0x3C }
+    requires begins { slice_index buf.now (place + 1) ≡ 0x3F }
+    ensures { FindsPlace (IsEnclosed buf.now (codes "<?") (codes "?>") place) result }
+{
+    let end = find_closing(buf, b"?>", place + 2)?;
+    Some(end + 2)
 }
 
 /// Where what stands there in `opening` and `closing` ends.
+#[inline(always)]
 fn enclosed_end<const N: usize, const M: usize>(
     buf: &[u8],
     opening: &[u8; N],
@@ -224,7 +309,10 @@ fn enclosed_end<const N: usize, const M: usize>(
     requires within { place ≤ length buf.now }
     ensures { FindsPlace (IsEnclosed buf.now opening.now closing.now place) result }
 {
-    if !has_at(buf, opening, place) {
+    if buf.len() - place < N {
+        return None;
+    }
+    if !same_at(buf, opening, place) {
         return None;
     }
     let end = find_closing(buf, closing, place + N)?;
@@ -250,48 +338,52 @@ fn declaration_close(buf: &[u8], from: usize) -> Option<usize>
     requires { from ≤ length buf.now }
     ensures { FindsPlace (ClosesDeclaration buf.now from) result }
 {
-    let close = from + memchr2(b'>', b'[', &buf[from..])?;
-    if buf[close] == b'[' {
-        None
-    } else {
-        Some(close)
+    let close = find_near(buf, b'>', from)?;
+    if memchr(b'[', &buf[from..close]).is_some() {
+        return None;
     }
+    Some(close)
 }
 
 /// The tag of an element that opens where the prolog ends.
+#[inline(always)]
 fn tag_at(buf: &[u8], reached: Reached) -> Option<Tag>
+    requires { IsTrue reached.opens ↔ OpensElement buf.now reached.place }
     ensures { MatchOption result ((at to : ℕ) → ¬ OpensTag buf.now at to reached.place reached.doctype)
         (λ t. OpensTag buf.now t.at t.to reached.place reached.doctype) }
 {
-    if !has_at(buf, b"<", reached.place) {
+    if !reached.opens {
         return None;
     }
     let from = reached.place + 1;
-    if from == buf.len() {
+    let tag = read_name(buf, from)?;
+    if !is_declared(buf, reached.doctype, from, tag.to) {
         return None;
     }
-    if !begins_element(buf[from]) {
+    if tag.at == tag.to {
         return None;
     }
-    let to = name_end(buf, from)?;
-    if !is_declared(buf, reached.doctype, from, to) {
-        return None;
-    }
-    let at = after_last(b':', buf, from, to);
-    if at == to {
-        return None;
-    }
-    Some(Tag { at, to })
+    Some(tag)
 }
 
-/// Where the name of an element that stands there ends, if the buffer goes on.
-fn name_end(buf: &[u8], from: usize) -> Option<usize>
+/// The name of an element that stands there, if the buffer goes on.
+#[inline(always)]
+fn read_name(buf: &[u8], from: usize) -> Option<Tag>
     requires { from ≤ length buf.now }
-    ensures { FindsPlace (IsRun IsNameByte buf.now from) result }
+    ensures { MatchOption result ((to : ℕ) → ¬ IsRun IsNameByte buf.now from to)
+        (λ t. IsRun IsNameByte buf.now from t.to × IsAfterLast 0x3A buf.now from t.to t.at) }
 {
+    let mut at = from;
     for to in from..buf.len() {
-        if !is_name_byte(buf[to]) {
-            return Some(to);
+        let byte = buf[to];
+        // Most bytes are told by this test.
+        if byte > b'>' {
+            continue;
+        }
+        if byte == b':' {
+            at = to + 1;
+        } else if !is_name_byte(byte) {
+            return Some(Tag { at, to });
         }
     }
     None

@@ -18,7 +18,7 @@ use Rattle.infer_inside.specs.Text.{IsDataByte, encoding_name}
 use Rattle.infer_inside.specs.Zip.{HasFirstName, IsOneOf, applications}
 use Rattle.infer_inside.specs.declared.text.Encoding.TheVariants.{UsAscii, Utf8}
 use Rattle.infer_inside.specs.Numbers.{bytes16, most16, be16, number16, number32, number64}
-use Rattle.infer_inside.specs.Runs.{IsAfterLast}
+use Rattle.infer_inside.specs.Runs.{IsAfterLast, IsNext}
 use Rattle.infer_deep.specs.Numbers.{be32, le16, le32}
 use Rattle.infer_more.specs.Ended.{ended, ended_listed, ended_shown}
 use Rattle.infer_more.specs.Index.{is_plain}
@@ -90,6 +90,12 @@ pub IsAfterLast_pair : IsAfterLast 0x2F (codes "/b") 0 2 1 × (¬ IsAfterLast 0x
 IsAfterLast_pair = (
   record { low = omega arith; high = omega arith; begins = λ l. refl; last = λ k low high e. let z : k ≡ 1 = omega (arith, low, high) in omega (arith, subst (λ j. slice_index (codes "/b") j ≡ 0x2F) z e) },
   λ h. h.last 0 (omega arith) (omega arith) refl,
+)
+
+pub IsNext_pair : IsNext 0x2F (codes "a/") 0 1 × (¬ IsNext 0x2F (codes "//") 0 1)
+IsNext_pair = (
+  record { low = omega arith; whole = omega arith; is = refl; before = λ k low high e. let z : k ≡ 0 = omega (arith, low, high) in omega (arith, subst (λ j. slice_index (codes "a/") j ≡ 0x2F) z e) },
+  λ h. h.before 0 (omega arith) (omega arith) refl,
 )
 
 pub HasInTag_pair : HasInTag (codes "b") (codes "b>") × (¬ HasInTag (codes "b") (codes ">b"))

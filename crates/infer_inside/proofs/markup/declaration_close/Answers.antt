@@ -1,70 +1,50 @@
-use Rattle.std.proofs.Common.{◌≡◌, ℕ, ◌+◌, ◌-◌, ◌<◌, ◌≤◌, ◌⊎◌, inl, inr, true, List, length, get_or, take, drop, ap, sym, subst, ◌∙◌, arith, eq-eqb}
-use Rattle.std.proofs.lemmas.Bool.{eqb-true, or_cases, or_left, or_right}
-use Rattle.memchr.specs.Find.{Nowhere, Passes, is_byte2}
+use Rattle.std.proofs.Common.{◌≡◌, ℕ, ◌<◌, ◌≤◌, List, get_or, arith, subst, sym, ◌∙◌}
+use Rattle.std.proofs.lemmas.Bool.{false≢true}
 use Rattle.infer_deep.specs.Places.{FindsPlace}
 use Rattle.infer_inside.specs.Markup.{ClosesDeclaration}
-use Rattle.infer_inside.proofs.PartLemmas.{part_length, part_reads}
+use Rattle.infer_inside.specs.Runs.{IsNext}
+use Rattle.infer_inside.proofs.PartLemmas.{part_search}
 use Rattle.infer_inside.proofs.markup.declaration_close.Goals as goal
 
-module _ (b : List ℕ) (from : ℕ) (fits : from ≤ length b) where
-  passes : (x : ℕ) → (x ≡ 0x3E) ⊎ (x ≡ 0x5B) → is_byte2 0x3E 0x5B x ≡ true
-  passes x (inl is) = or_left _ _ (eq-eqb x 0x3E is)
-  passes x (inr is) = or_right _ _ (eq-eqb x 0x5B is)
-
-  -- the places that the search passed over have neither byte
-  lacks : (k : ℕ) → from + k ≤ length b → Nowhere (Passes (is_byte2 0x3E 0x5B) (take (length b - from) (drop from b))) 0 k
-      → (j : ℕ) → from ≤ j → j < from + k → ¬ ((get_or b j 0 ≡ 0x3E) ⊎ (get_or b j 0 ≡ 0x5B))
-  lacks k within nowhere j low high is =
-      let same : from + (j - from) ≡ j = omega arith in
-      let read = part_reads b from (length b) (j - from) (omega arith) ∙ ap (λ i. get_or b i 0) same in
-      nowhere (j - from) (omega arith) (omega arith) (ap (is_byte2 0x3E 0x5B) read ∙ passes (get_or b j 0) is)
-
-  -- and one that stands where it ended is the ">" or an earlier "["
-  module _ (k : ℕ) (within : from + k < length b) (before : Nowhere (Passes (is_byte2 0x3E 0x5B) (take (length b - from) (drop from b))) 0 k) where
-    no_close : get_or b (from + k) 0 ≡ 0x5B → (close : ℕ) → ¬ ClosesDeclaration b from close
-    no_close bracket close (run, is) =
-        let order = run.order in
-        let early = λ (lt : close < from + k). lacks k (omega arith) before close order lt (inl is) in
-        let late = λ (lt : from + k < close). (run.bytes (from + k) (omega arith) lt).1 bracket in
-        let here = λ (e : close ≡ from + k). ap (λ i. get_or b i 0) e in
-        grind arith
-
-    closes : Passes (is_byte2 0x3E 0x5B) (take (length b - from) (drop from b)) k → (¬ (get_or b (from + k) 0 ≡ 0x5B))
-        → ClosesDeclaration b from (from + k)
-    closes passed other =
-        let is : get_or b (from + k) 0 ≡ 0x3E = elim (or_cases _ _ passed) [
-          | inl e ↦ sym (part_reads b from (length b) k within) ∙ eqb-true _ 0x3E e
-          | inr e ↦ absurd (other (sym (part_reads b from (length b) k within) ∙ eqb-true _ 0x5B e))
-        ] in (
-          record {
-            order = omega arith;
-            bytes = λ j low lt. let none = lacks k (omega arith) before j low lt in (λ e. none (inl e), λ e. none (inr e));
-            whole = within;
-            ends = λ (first, second). first is;
-          },
-          is,
-        )
+-- a bracket before the first ">" leaves none that closes the declaration
+bracketed : (b : List ℕ) (from at k : ℕ) → IsNext 0x3E b from at → from ≤ k → k < at → get_or b k 0 ≡ 0x5B
+    → (close : ℕ) → ¬ ClosesDeclaration b from close
+bracketed b from at k next low lt bracket close (run, is) =
+    let early = λ (less : close < at). next.before close run.order less is in
+    let late = λ (less : at < close). (run.bytes at next.low less).0 next.is in
+    let here = λ (less : k < close). (run.bytes k low less).1 bracket in
+    grind arith
 
 pub returns-in_err-close : goal.returns-in_err-close
 returns-in_err-close c =
+    subst (FindsPlace (ClosesDeclaration c.args.buf.now c.args.from)) (sym c.from_residual.ensures)
+    (λ close (run, is). c.in_err-close.ensures close run.order run.whole is)
+
+pub returns-then-is_some : goal.returns-then-is_some
+returns-then-is_some c =
     let b = c.args.buf.now in
     let from = c.args.from in
-    let long = part_length b from (length b) c.requires (omega arith) in
-    subst (FindsPlace (ClosesDeclaration b from)) (sym c.from_residual.ensures)
-    (λ close (run, is).
-    let whole = run.whole in
-    lacks b from c.requires (length b - from) (omega arith) (λ j low lt. c.in_err-close.ensures j low (omega arith)) close run.order (omega arith) (inl is))
+    let next = c.in_ok-close.ensures in
+    let whole = next.whole in
+    let told = part_search b from c.in_ok-close.close 0x5B _ next.low (omega arith) c.memchr.ensures in
+    let (k, low, lt, bracket) = told.0 (sym c.is_some.ensures ∙ c.if-is_some.true) in
+    bracketed b from c.in_ok-close.close k next low lt bracket
 
-pub returns-then-buf-close-eq91 : goal.returns-then-buf-close-eq91
-returns-then-buf-close-eq91 c =
+pub returns : goal.returns
+returns c =
     let b = c.args.buf.now in
-    let found = c.in_ok-close.ensures.0 in
-    let long = part_length b c.args.from (length b) c.requires (omega arith) in
-    no_close b c.args.from c.requires c.in_ok-close.field-0 (let high = found.high in omega arith) found.before c.if-buf-close-eq91.true
-
-pub returns-else-buf-close-eq91 : goal.returns-else-buf-close-eq91
-returns-else-buf-close-eq91 c =
-    let b = c.args.buf.now in
-    let found = c.in_ok-close.ensures.0 in
-    let long = part_length b c.args.from (length b) c.requires (omega arith) in
-    closes b c.args.from c.requires c.in_ok-close.field-0 (let high = found.high in omega arith) found.before c.in_ok-close.ensures.1 c.if-buf-close-eq91.false
+    let from = c.args.from in
+    let next = c.in_ok-close.ensures in
+    let whole = next.whole in
+    let told = part_search b from c.in_ok-close.close 0x5B _ next.low (omega arith) c.memchr.ensures in (
+      record {
+        order = next.low;
+        bytes = λ k low lt. (
+          next.before k low lt,
+          λ bracket. false≢true (sym c.if-is_some.false ∙ c.is_some.ensures ∙ told.1 (k, low, lt, bracket)),
+        );
+        whole = whole;
+        ends = λ (no_close, no_bracket). no_close next.is;
+      },
+      next.is,
+    )

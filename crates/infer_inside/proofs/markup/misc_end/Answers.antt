@@ -1,33 +1,35 @@
-use Rattle.std.proofs.Common.{◌≡◌, ℕ, List, Option, None, Some, inl, inr, arith, codes, get_or}
+use Rattle.std.proofs.Common.{◌≡◌, ℕ, ◌+◌, List, Option, None, Some, inl, inr, arith, codes, get_or}
 use Rattle.infer_deep.specs.Places.{FindsPlace}
-use Rattle.infer_deep.proofs.PlaceLemmas.{OccursAt-first}
-use Rattle.infer_inside.specs.Markup.{IsEnclosed, IsMisc, IsSpaceRun}
-use Rattle.infer_inside.proofs.MarkupLemmas.{comment_first, instruction_first, not_space, space_first, tag_stands}
+use Rattle.infer_inside.specs.Markup.{BeginsElement, IsEnclosed, IsMisc, IsXmlSpace}
+use Rattle.infer_inside.proofs.MarkupLemmas.{comment_first, instruction_first, no_misc}
 use Rattle.infer_inside.proofs.markup.misc_end.Goals as goal
 
-space_at_most : (b : List ℕ) (p : ℕ) (r : Option ℕ) → ¬ (get_or b p 0 ≡ 0x3C) → FindsPlace (IsSpaceRun b p) r → FindsPlace (IsMisc b p) r
-space_at_most b p (Some q) no_tag space = inl space
-space_at_most b p None no_tag no_space = λ q m. elim m [
-  | inl space ↦ no_space q space
-  | inr (inl instruction) ↦ no_tag (instruction_first b p q instruction).0
-  | inr (inr comment) ↦ no_tag (comment_first b p q comment).0
-]
+module _ (b : List ℕ) (p : ℕ) (no_space : ¬ IsXmlSpace (get_or b p 0)) where
+  unmarked : BeginsElement (get_or b (p + 1) 0) → (q : ℕ) → ¬ IsMisc b p q
+  unmarked (no_mark, no_question) = no_misc b p no_space
+      (λ q i. no_question (instruction_first b p q i).1) (λ q c. no_mark (comment_first b p q c).1)
 
-comment_at_last : (b : List ℕ) (p : ℕ) (r : Option ℕ) → get_or b p 0 ≡ 0x3C
-    → ((q : ℕ) → ¬ IsEnclosed b (codes "<?") (codes "?>") p q) → FindsPlace (IsEnclosed b (codes "<!--") (codes "-->") p) r
-    → FindsPlace (IsMisc b p) r
-comment_at_last b p (Some q) tag no_instruction comment = inr (inr comment)
-comment_at_last b p None tag no_instruction no_comment = λ q m. elim m [
-  | inl space ↦ not_space _ tag (space_first b p q space)
-  | inr (inl instruction) ↦ no_instruction q instruction
-  | inr (inr comment) ↦ no_comment q comment
-]
+  unopened : (¬ (get_or b p 0 ≡ 0x3C)) → (q : ℕ) → ¬ IsMisc b p q
+  unopened other = no_misc b p no_space (λ q i. other (instruction_first b p q i).0) (λ q c. other (comment_first b p q c).0)
 
-pub returns-then-not-has_at : goal.returns-then-not-has_at
-returns-then-not-has_at c =
-    space_at_most c.args.buf.now c.args.place _ (λ tag. let stands = c.if-not-has_at.ensures.1 (tag_stands c.args.buf.now c.args.place tag) in absurd (cc)) c.space_end.ensures
+  instruction_at_most : get_or b (p + 1) 0 ≡ 0x3F → (r : Option ℕ) → FindsPlace (IsEnclosed b (codes "<?") (codes "?>") p) r
+      → FindsPlace (IsMisc b p) r
+  instruction_at_most is (Some q) instruction = inr (inl instruction)
+  instruction_at_most is None none =
+      no_misc b p no_space none (λ q c. let mark = (comment_first b p q c).1 in omega arith)
 
-pub returns : goal.returns
-returns c =
-    comment_at_last c.args.buf.now c.args.place _ (OccursAt-first c.args.buf.now (codes "<") c.args.place (omega arith) (c.has_at.ensures.0 c.if-not-has_at.false)) c.in_default.ensures
-    c.enclosed_end-2.ensures
+  comment_at_most : get_or b (p + 1) 0 ≡ 0x21 → (r : Option ℕ) → FindsPlace (IsEnclosed b (codes "<!--") (codes "-->") p) r
+      → FindsPlace (IsMisc b p) r
+  comment_at_most is (Some q) comment = inr (inr comment)
+  comment_at_most is None none =
+      no_misc b p no_space (λ q i. let question = (instruction_first b p q i).1 in omega arith) none
+
+pub returns-in-63 : goal.returns-in-63
+returns-in-63 c = instruction_at_most c.args.buf.now c.args.place c.requires.no_space c.in-63.is _ c.instruction_end.ensures
+
+pub returns-in-33 : goal.returns-in-33
+returns-in-33 c = comment_at_most c.args.buf.now c.args.place c.requires.no_space c.in-33.is _ c.enclosed_end.ensures
+
+pub returns-in_default : goal.returns-in_default
+returns-in_default c =
+    unmarked c.args.buf.now c.args.place c.requires.no_space (λ is. grind (arith, c.in_default), λ is. grind (arith, c.in_default))

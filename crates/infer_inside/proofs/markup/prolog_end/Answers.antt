@@ -1,29 +1,32 @@
-use Rattle.std.proofs.Common.{None, [], ◌↔◌, ◌++◌, subst, arith}
+use Rattle.std.proofs.Common.{ℕ, List, Option, None, [], ◌↔◌, ◌++◌, subst}
 use Rattle.std.proofs.lemmas.List.{append-nil}
-use Rattle.infer_inside.specs.Markup.{LeadsToTag}
-use Rattle.infer_inside.proofs.FrontLemmas.{front_grows}
-use Rattle.infer_inside.proofs.MarkupLemmas.{closed_part, part_lasts, part_within, past_none, past_part}
+use Rattle.infer_inside.specs.Markup.{IsPart, LeadsToTag, OpensTag}
+use Rattle.infer_inside.proofs.MarkupLemmas.{opened_undeclared, past_none}
 use Rattle.infer_inside.proofs.markup.prolog_end.Goals as goal
 
-pub loop-next-preserved : goal.loop-next-preserved
-loop-next-preserved c =
-    let b = c.args.buf.now in
-    let i = c.loop-next.invariant in
-    let next = c.in-Some.next in (
-      (part_within _ _ _ _ _ c.in-Some.ensures).1,
-      λ more at to.
-          let part = part_lasts b (b ++ more) (front_grows b more) _ _ next.place next.doctype c.in-Some.ensures in
-          let past = past_part (b ++ more) at to _ _ next.place next.doctype part in
-          (λ l. past.0 ((i.1 more at to).0 l), λ l. (i.1 more at to).1 (past.1 l)),
-      λ name is. closed_part b _ _ next.place next.doctype c.in-Some.ensures i.2 name is,
-    )
+-- where the parts end the tag opens
+opens : (b : List ℕ) (start place : ℕ) (d : Option ℕ)
+    → ((more : List ℕ) (at to : ℕ) → LeadsToTag (b ++ more) at to start None ↔ LeadsToTag (b ++ more) at to place d)
+    → ((q : ℕ) (e : Option ℕ) → ¬ IsPart b place d q e) → (at to : ℕ) → LeadsToTag b at to start None ↔ OpensTag b at to place d
+opens b start place d grown ends at to =
+    let leads = subst (λ u. LeadsToTag u at to start None ↔ LeadsToTag u at to place d) (append-nil b) (grown [] at to) in
+    let here = past_none b at to place d ends in
+    (λ l. here.0 (leads.0 l), λ tag. leads.1 (here.1 tag))
 
-pub loop-next-smaller : goal.loop-next-smaller
-loop-next-smaller c = let within = part_within _ _ _ _ _ c.in-Some.ensures in omega arith
+pub returns-then-stop-clause-tag : goal.returns-then-stop-clause-tag
+returns-then-stop-clause-tag c =
+    let end = c.miscs_end-stop.ensures in
+    opens c.args.buf.now c.args.start c.miscs_end-stop.result.place None (end.leads None)
+    (opened_undeclared c.args.buf.now c.miscs_end-stop.result.place (end.opens.0 c.if-stop.true))
+
+pub returns-then-stop-clause-ends : goal.returns-then-stop-clause-ends
+returns-then-stop-clause-ends c =
+    opened_undeclared c.args.buf.now c.miscs_end-stop.result.place (c.miscs_end-stop.ensures.opens.0 c.if-stop.true)
 
 pub returns-clause-tag : goal.returns-clause-tag
-returns-clause-tag c = λ at to.
-    let b = c.args.buf.now in
-    let leads = subst (λ u. LeadsToTag u at to c.args.start None ↔ LeadsToTag u at to c.loop-next.reached.place c.loop-next.reached.doctype) (append-nil b) (c.loop-next.invariant.1 [] at to) in
-    let opens = past_none b at to _ _ c.in_default.ensures in
-    (λ l. opens.0 (leads.0 l), λ tag. leads.1 (opens.1 tag))
+returns-clause-tag c =
+    let end = c.miscs_end-stop.ensures in
+    let past = c.past_doctype.ensures.ends in
+    opens c.args.buf.now c.args.start c.past_doctype.result.place c.past_doctype.result.doctype
+    (λ more at to. (λ l. (past.leads more at to).0 ((end.leads None more at to).0 l), λ l. (end.leads None more at to).1 ((past.leads more at to).1 l)))
+    past.ends

@@ -1,7 +1,7 @@
 -- the bytes so far are white space
 use Rattle.std.proofs.Common.{ℕ, ◌<◌, ◌≤◌, get_or}
 use Rattle.infer_inside.specs.Markup.{IsXmlSpace}
-use Rattle.infer_inside.proofs.markup.space_end.Given as goal
+use Rattle.infer_inside.proofs.markup.spaces_end.Given as goal
 
 abbrev pub invariant-loop-end : goal.invariant-loop-end
 invariant-loop-end l = (k : ℕ) → l.place ≤ k → k < l.end → IsXmlSpace (get_or l.buf k 0)

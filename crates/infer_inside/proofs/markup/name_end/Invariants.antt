@@ -1,7 +1,0 @@
--- the bytes so far are those of a name
-use Rattle.std.proofs.Common.{ℕ, ◌<◌, ◌≤◌, get_or}
-use Rattle.infer_inside.specs.Markup.{IsNameByte}
-use Rattle.infer_inside.proofs.markup.name_end.Given as goal
-
-abbrev pub invariant-loop-to : goal.invariant-loop-to
-invariant-loop-to l = (k : ℕ) → l.from ≤ k → k < l.to → IsNameByte (get_or l.buf k 0)
