@@ -291,9 +291,6 @@ IsAwaited_pair = (inr (inr (inr (inr refl))), λ white. absurd (grind arith))
 pub AnswersFront_pair : AnswersFront {S = BuiltIn} 1 (λ b r. ⊥) (row_with [] ∷ []) (Some []) (Ok None) × (¬ AnswersFront {S = BuiltIn} 1 (λ b r. Unit {0}) (row_with [] ∷ []) (Some []) (Ok None))
 AnswersFront_pair = (λ k d low high h. h, λ h. h 0 (row_with []) (omega arith) (omega arith) tt)
 
-pub class_at_pair : (class_at 6 ≡ Image) × (¬ (class_at 9 ≡ Image))
-class_at_pair = (refl, λ e. absurd (cc))
-
 pub is_asked_pair : IsTrue (is_asked (Some (lent (codes "png"))) PNG) × (¬ IsTrue (is_asked (Some (lent (codes "png"))) EXE))
 unfolding table
 is_asked_pair = (refl, λ t. absurd (cc))

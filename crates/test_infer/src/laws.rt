@@ -18,7 +18,8 @@ ghost use Rattle.infer.specs.Triple.{triple_of};
 use infer::app::{is_java, is_mach, may_become_coff_x64};
 use infer::rows::{DLL, DOC, EPUB_ARCHIVE, GIF, PDF, ROW_COUNT, SHELLSCRIPT, WASM};
 use infer::{
-    Asker, Fault, Infer, SAMPLE_SIZE, Type, Watched, is_decided, laws, may_become, position, sample, walk,
+    Asker, Fault, Infer, SAMPLE_SIZE, Type, Watched, is_decided, laws, may_become, position,
+    sample, walk,
 };
 use std::alloc::{AllocError, Allocator, Global};
 
