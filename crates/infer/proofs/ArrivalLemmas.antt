@@ -1,9 +1,5 @@
 -- What more bytes can bring to a buffer of at least 1024 bytes.
-use Rattle.std.proofs.Common.{◌<◌, ◌≤◌, ◌+◌, ◌-◌, ◌⊎◌, ◌∙◌, ◌++◌, zero-le, ℕ, suc, List, length, refl, subst, inl, inr, arith, IsTrue, length-append}
-use Rattle.std.specs.List.{AllWithin, range_with_len}
-use Rattle.std.proofs.lemmas.List.{take-append-le}
-use Rattle.std.proofs.lemmas.List.FromFn.{get_or-range_with_len, length-range_with_len}
-use Rattle.infer.proofs.Common.{Alternative, IsAwaited, last_awaited, Comes, BuiltIn, avif, doc, framed, heif, html, office, ppt, xls, xml, IsAccepted, IsNear, signature_of, table, ROW_COUNT}
+use Rattle.infer.proofs.Common.{◌<◌, ◌≤◌, ◌+◌, ◌-◌, ◌⊎◌, ◌++◌, zero-le, ℕ, suc, List, length, refl, inl, inr, arith, IsTrue, length-append, AllWithin, range_with_len, take-append-le, get_or-range_with_len, length-range_with_len, Alternative, IsAwaited, last_awaited, Comes, BuiltIn, avif, doc, framed, heif, html, office, ppt, xls, xml, IsAccepted, IsNear, signature_of, table, ROW_COUNT}
 use Rattle.infer_sig.specs.Laws as Fixed
 use Rattle.infer_deep.specs.Laws as Deep
 use Rattle.infer.proofs.KnownLemmas.{Known, proved, is_proved, proof_of, each_before, at_most, takes, ◌>>=◌}
@@ -13,15 +9,12 @@ use Rattle.infer.proofs.TestLemmas.{NoneRefused, passed}
 
 -- what holds of n numbers from s on holds of each
 in_range : (P : ℕ → Type 0) (s n : ℕ) → AllWithin P (range_with_len s n) 0 n → (k : ℕ) → s ≤ k → k < s + n → P k
-in_range P s n all k low high =
-    subst P (get_or-range_with_len s n (k - s) 0 (omega arith) ∙ (omega arith)) (all (k - s) 0 zero-le (omega arith))
+in_range P s n all k low high = grind (arith, get_or-range_with_len s n (k - s) 0, zero-le)
 
 module _ (fixed_near : (n : ℕ) (s : List Alternative) → IsTrue (Fixed.is_within n s) → Fixed.DependsOnFront n s) (deep_near : Deep.Near)
     (arrivals : Deep.Arrivals) (exclude : Deep.Apart) (b more : List ℕ) (long : 1024 ≤ length b) where
   before : (s : BuiltIn) → IsNear s → IsAccepted s (b ++ more) → IsAccepted s b
-  before s near h =
-      let front = (near (b ++ more) (omega (arith, length-append b more))).0 h in
-      (near b long).1 (subst (IsAccepted s) (take-append-le 1024 b more long) front)
+  before s near h = grind (arith, length-append b more, take-append-le 1024 b more long)
 
   either_id : IsAccepted xls (b ++ more) → IsAccepted xls b ⊎ IsAwaited xls b
   either_id (inl h) = elim (arrivals.class_id _ b more long h) [ inl here ↦ inl (inl here) | inr begins ↦ inr begins ]

@@ -1,20 +1,7 @@
 -- A walk over the candidates of a buffer: which numbers they are, where it ends, and which it asks.
-use Rattle.std.proofs.Common.{◌≡◌, ◌<◌, ◌≤◌, ◌+◌, ℕ, zero, suc, Bool, true, false, ◌&&◌, List, [], ◌∷◌, ◌++◌, length, get_or, take, sym, subst, ◌∙◌, ap, arith, refl, leb, Option, Some, None, inl, inr, cond, if◌then◌else◌, IsTrue, ◌↔◌, ◌==◌, ◌||◌, eq-eqb, MatchOption}
-use Rattle.std.specs.List.{All, AllPairs, AllWithin, HoldsAt, filter, slice_get}
-use Rattle.std.specs.Option.{option_copied, option_map_or}
-use Rattle.std.proofs.lemmas.Bool.{false≢true, ne_eqb}
-use Rattle.std.proofs.lemmas.Bool.Decides.{nat_tests}
-use Rattle.std.proofs.lemmas.List.{get_or_default, length-take-le}
-use Rattle.std.proofs.lemmas.List.Elements.{All-cons, AllWithin-more, filter_more}
+use Rattle.infer.proofs.Common.{◌≡◌, ◌<◌, ◌≤◌, ◌+◌, ℕ, zero, suc, Bool, true, false, ◌&&◌, List, [], ◌∷◌, ◌++◌, length, get_or, take, sym, subst, ◌∙◌, ap, arith, refl, leb, Option, Some, None, inl, inr, cond, if◌then◌else◌, IsTrue, ◌↔◌, ◌==◌, ◌||◌, eq-eqb, All, AllPairs, AllWithin, filter, slice_get, option_map_or, false≢true, ne_eqb, nat_tests, get_or_default, length-take-le, All-cons, AllWithin-more, filter_more, count_by-le-length, length-filter, BuiltIn, allows_first, candidates, candidates_of, numbers_from, Row, table, MOST_CANDIDATES, ROW_COUNT, IsFirstAmong, asked_rows, count_asked, is_listed, is_asked, is_not_above, MatchOption, HoldsAt, Bor}
 use Rattle.std.proofs.lemmas.List.Kept.{AllPairs-cons}
-use Rattle.std.proofs.lemmas.List.Sums.{count_by-le-length, length-filter}
-use Rattle.infer.specs.BuiltIn.{BuiltIn}
-use Rattle.infer.specs.Leads.{allows_first, candidates, candidates_of, numbers_from}
-use Rattle.infer.specs.Row.{Row}
-use Rattle.infer.specs.Table.{table}
-use Rattle.infer.specs.declared.table.rows.TheConstants.{MOST_CANDIDATES, ROW_COUNT}
-use denote.Ref.{Bor}
-use Rattle.infer.specs.Walks.{IsFirstAmong, asked_rows, count_asked, is_listed, is_asked, is_not_above}
+use Rattle.std.specs.Option.{option_copied}
 use Rattle.infer.proofs.TableLemmas.{length-table}
 
 -- ---- the numbers of the candidates

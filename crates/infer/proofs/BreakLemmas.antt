@@ -1,19 +1,12 @@
 -- For each far row, and for each beginning, a buffer that has the row as its first, and whose first 1024 bytes
 -- have another answer.
-use Rattle.std.proofs.Common.{◌≡◌, ◌⊎◌, ◌≢◌, ◌+◌, ◌<◌, ◌∷◌, ◌++◌, le_refl, zero-le, suc, ℕ, not, List, [], Option, None, Some, length, get_or, take, IsTrue, refl, codes, inl, inr, arith}
-use Rattle.std.proofs.lemmas.Option.{none-some, same_Some, slice_get_past}
-use Rattle.infer_deep.specs.ClassId.{compound_header, word_id, old_excel_id, powerpoint_id}
-use Rattle.infer_deep.specs.Find.{OccursAt}
+use Rattle.infer.proofs.Common.{◌≡◌, ◌⊎◌, ◌≢◌, ◌+◌, ◌<◌, ◌∷◌, ◌++◌, le_refl, zero-le, suc, ℕ, not, List, [], Option, None, Some, length, get_or, take, IsTrue, refl, codes, inl, inr, arith, slice_get_past, compound_header, word_id, old_excel_id, powerpoint_id, OccursAt, le16, le32, be32, zip_header, BeginsMarked, stands, Beginning, open_box, compound, archive, frame, white, mark, Begins, BeginsAlone, last_after, BuiltIn, framed, heif, avif, office, doc, xls, ppt, html, xml, Breaks, is_far_row, put, sample_of, zeros, signature_of, table, MSI, PDF, ROW_COUNT, ZIP}
+use Rattle.std.proofs.lemmas.Option.{none-some, same_Some}
 use Rattle.infer_deep.specs.Laws as Deep
-use Rattle.infer_deep.specs.Numbers.{le16, le32, be32}
-use Rattle.infer_deep.specs.Office.{zip_header}
-use Rattle.infer_deep.specs.Text.{BeginsMarked}
-use Rattle.infer.proofs.Common.{stands, Beginning, open_box, compound, archive, frame, white, mark, Begins, BeginsAlone, last_after, BuiltIn, framed, heif, avif, office, doc, xls, ppt, html, xml, Breaks, is_far_row, put, sample_of, zeros, signature_of, table, MSI, PDF, ROW_COUNT, ZIP}
-use Rattle.infer.proofs.DecisionLemmas.{behind, long_frame, space, wide_mark}
+use Rattle.infer.proofs.DecisionLemmas.{occurs, behind, long_frame, space, wide_mark}
 use Rattle.infer.proofs.KnownLemmas.{Known, proved, is, is_proved, proof_of, same, at_most, negated, both, either, each_before, needs, takes, ◌>>=◌}
 use Rattle.infer.proofs.OrderLemmas.{known_first, some_row}
 use Rattle.infer.proofs.PlaceLemmas.{ByPlace, not_both}
-use Rattle.infer.proofs.PlaceLemmas as Place
 use Rattle.infer.proofs.TableLemmas.{length-table}
 use Rattle.infer.proofs.TestLemmas.{NoneRefused, passed}
 
@@ -95,29 +88,26 @@ of_each k = do
   proved (elim [ open_box ↦ box | compound ↦ file | archive ↦ entry | frame ↦ skipped | white ↦ blank | mark ↦ marked ])
 
 module _ (by_place : ByPlace) (b : List ℕ) where
-  abbrev occurs : (p : ℕ) (t : List ℕ) → Known (OccursAt b t p)
-  occurs p t = Place.occurs by_place t b p
-
   marked_by : BeginsMarked b → OccursAt b (0xEF ∷ 0xBB ∷ 0xBF ∷ []) 0 ⊎ OccursAt b (0xFE ∷ 0xFF ∷ []) 0 ⊎ OccursAt b (0xFF ∷ 0xFE ∷ []) 0
   marked_by (m, is, o) = grind arith
 
   abbrev begins : (how : Beginning) → Known (Begins how b)
   begins open_box = do
-    kind ← needs (occurs 4 (codes "ftyp")) (λ h. h.kind)
+    kind ← needs (occurs by_place b 4 (codes "ftyp")) (λ h. h.kind)
     longer ← needs (at_most (suc (length b)) (be32 b 0)) (λ h. h.longer)
     proved (record { kind = kind; longer = longer })
-  begins compound = occurs 0 compound_header
+  begins compound = occurs by_place b 0 compound_header
   begins archive =
-      both (occurs 0 zip_header) (either (occurs 30 (codes "[Content_Types].xml")) (either (occurs 30 (codes "_rels/.rels")) (occurs 30 (codes "docProps"))))
+      both (occurs by_place b 0 zip_header) (either (occurs by_place b 30 (codes "[Content_Types].xml")) (either (occurs by_place b 30 (codes "_rels/.rels")) (occurs by_place b 30 (codes "docProps"))))
   begins frame = do
     low ← needs (at_most 0x50 (get_or b 0 0)) (λ h. h.low)
     high ← needs (at_most (get_or b 0 0) 0x5F) (λ h. h.high)
-    number ← needs (occurs 1 (0x2A ∷ 0x4D ∷ 0x18 ∷ [])) (λ h. h.mark)
+    number ← needs (occurs by_place b 1 (0x2A ∷ 0x4D ∷ 0x18 ∷ [])) (λ h. h.mark)
     proved (record { low = low; high = high; mark = number })
   begins white =
       let x = get_or b 0 0 in either (same x 0x09) (either (same x 0x0A) (either (same x 0x0C) (either (same x 0x0D) (same x 0x20))))
   begins mark = do
-    some ← needs (either (occurs 0 (0xEF ∷ 0xBB ∷ 0xBF ∷ [])) (either (occurs 0 (0xFE ∷ 0xFF ∷ [])) (occurs 0 (0xFF ∷ 0xFE ∷ [])))) marked_by
+    some ← needs (either (occurs by_place b 0 (0xEF ∷ 0xBB ∷ 0xBF ∷ [])) (either (occurs by_place b 0 (0xFE ∷ 0xFF ∷ [])) (occurs by_place b 0 (0xFF ∷ 0xFE ∷ [])))) marked_by
     proved (elim some [ inl o ↦ (_, inl refl, o) | inr (inl o) ↦ (_, inr (inl refl), o) | inr (inr o) ↦ (_, inr (inr refl), o) ])
 
   abbrev excluded : (how other : Beginning) → Known (Begins other b → other ≡ how)
@@ -149,8 +139,7 @@ module _ (by_place : ByPlace) (exclude : Deep.Apart) where
 
   pub brought_alone : (how : Beginning) → (buf : List ℕ) × Breaks 1024 (last_after how) buf × BeginsAlone how (take 1024 buf)
   unfolding table signature_of stands le16 le32 be32
-  brought_alone how =
-      let h = proof_of (of_each brought) refl how in ((late_after how).0, h.0, h.1)
+  brought_alone how = grind (arith, proof_of (of_each brought) refl how)
 
   pub by_one_byte : (i : ℕ) × (buf : List ℕ) × (length buf ≡ 1024) × Breaks 1023 i buf × ((how : Beginning) → ¬ Begins how (take 1023 buf))
   unfolding table signature_of stands le16 le32 be32

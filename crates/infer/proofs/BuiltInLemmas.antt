@@ -1,6 +1,5 @@
 -- The answers of an `Infer` without rows of a caller are those of the built-in rows.
-use Rattle.std.proofs.Common.{None, Some, ◌≡◌, ℕ, List, [], ◌++◌, Option, Result, Ok, Err, map, option_map, refl, subst}
-use Rattle.infer.proofs.Common.{head, Contracts, IsAnswer, AnswersAsBuiltIn, Accepts, AnyAccepts, custom_rows, kept_row, rows, table, Triple, triple_of, Fault, FileType}
+use Rattle.infer.proofs.Common.{None, Some, ◌≡◌, ℕ, List, [], ◌++◌, Option, Result, Ok, Err, map, option_map, refl, subst, head, Contracts, IsAnswer, AnswersAsBuiltIn, Accepts, AnyAccepts, custom_rows, kept_row, rows, table, Triple, triple_of, Fault, FileType}
 use Rattle.infer.specs.Reading.{AnswersFront, AnswersSome}
 use Rattle.infer.specs.declared.caller.infer.Infer.{Infer}
 use Rattle.infer.proofs.RowLemmas.{IsAnswer-from_map}

@@ -1,17 +1,5 @@
 -- The first of the candidates that has a property is the first row of the table that has it.
-use Rattle.std.proofs.Common.{◌≡◌, ◌<◌, ◌≤◌, ◌+◌, ℕ, zero, suc, Bool, true, false, List, [], ◌∷◌, get_or, length, drop, length-drop, drop-cons, add-one, sym, subst, ap, arith, IsTrue, refl, Option, Some, None, MatchOption, if◌then◌else◌, inl, inr, is_some, ◌↔◌}
-use Rattle.std.specs.List.{slice_get, AllWithin, HoldsAt}
-use Rattle.std.proofs.lemmas.Bool.{cases_lt, ne_eqb}
-use Rattle.std.proofs.lemmas.List.Elements.{AllWithin-more, AllWithin-none, AllWithin-upto}
-use Rattle.std.proofs.lemmas.List.Folds.{none_from_all_within}
-use Rattle.infer.specs.BuiltIn.{BuiltIn}
-use Rattle.infer.specs.First.{IsFirst, IsFirstOf, NoneHas, SomeHas}
-use Rattle.infer.specs.Leads.{Leads, allows_first, candidates, candidates_of, numbers_from}
-use Rattle.infer.specs.Row.{Row, Accepts}
-use Rattle.infer.specs.Table.{table}
-use Rattle.infer.specs.Walks.{HasGiven, IsFirstAmong, RowHas, Takes, WalksFindFirst, row_numbered}
-use Rattle.infer.specs.Triple.{Triple}
-use Rattle.infer.specs.declared.table.rows.TheConstants.{ROW_COUNT}
+use Rattle.infer.proofs.Common.{◌≡◌, ◌<◌, ◌≤◌, ◌+◌, ℕ, zero, suc, Bool, true, false, List, [], ◌∷◌, get_or, length, drop, length-drop, drop-cons, add-one, sym, subst, ap, arith, IsTrue, refl, Option, Some, None, MatchOption, if◌then◌else◌, inl, inr, is_some, ◌↔◌, slice_get, AllWithin, HoldsAt, cases_lt, ne_eqb, AllWithin-more, AllWithin-none, AllWithin-upto, none_from_all_within, BuiltIn, IsFirst, IsFirstOf, NoneHas, SomeHas, Leads, allows_first, candidates, candidates_of, numbers_from, Row, Accepts, table, IsFirstAmong, RowHas, Takes, WalksFindFirst, row_numbered, ROW_COUNT, HasGiven, Triple}
 use Rattle.infer.proofs.ListLemmas.{HoldsAt-read}
 use Rattle.infer.proofs.TableLemmas.{length-table}
 

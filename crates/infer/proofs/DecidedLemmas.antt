@@ -1,13 +1,7 @@
 -- A buffer is decided just if none of the rows before its answer may still accept it.
-use Rattle.std.proofs.Common.{◌≡◌, ◌↔◌, ◌<◌, ◌≤◌, inl, inr, le_refl, ◌∙◌, sym, refl, zero, suc, ℕ, Bool, true, List, [], ◌∷◌, ◌++◌, length, get_or, Option, None, Some, All, IsTrue, subst, append_assoc, append-nil, arith}
+use Rattle.infer.proofs.Common.{◌≡◌, ◌↔◌, ◌<◌, ◌≤◌, inl, inr, le_refl, ◌∙◌, sym, refl, zero, suc, ℕ, Bool, true, List, [], ◌∷◌, ◌++◌, length, get_or, Option, None, Some, All, IsTrue, subst, append_assoc, append-nil, arith, AllPass-from_list_all, All-append, All-nil, AllWithin-none, and_parts, cases_lt, cases_order, AllWithin, HoldsAt, list_all, slice_get, option_map_or, MayBecome, MayBecomeIsExact, is_sound, Alternative, stands, BuiltIn, fixed, IsAccepted, IsBuffer, AnswersAreOpen, CanBeDecided, DecidedByRows, DecidedLasts, FirstOpenComes, IsChangeable, IsDecided, IsToldExactly, MayBecomeRow, ReachNarrows, TellsMayBecome, rows_before, IsFirst, IsFirstOf, NoneHas, Leads, candidates, candidates_of, Lasts, signatures, Row, Accepts, signature_of, table, IsFirstAmong, RowHas, EXE}
 use Rattle.std.proofs.lemmas.List.Folds.{list_all-append, list_all-map}
-use Rattle.std.proofs.lemmas.List.Sums.{AllPass-from_list_all}
-use Rattle.std.proofs.lemmas.List.Elements.{All-append, All-cons, All-nil, AllWithin-none}
-use Rattle.std.proofs.lemmas.Bool.{and_parts, cases_Bool, cases_lt, cases_order}
-use Rattle.std.specs.List.{AllWithin, HoldsAt, list_all, slice_get}
-use Rattle.std.specs.Option.{option_map_or}
-use Rattle.infer_deep.specs.Signatures.{MayBecome}
-use Rattle.infer.proofs.Common.{MayBecomeIsExact, is_sound, Alternative, stands, BuiltIn, fixed, avif, doc, framed, heif, html, matroska, office, pdf, ppt, xls, xml, IsAccepted, IsBuffer, AnswersAreOpen, CanBeDecided, DecidedByRows, DecidedLasts, FirstOpenComes, IsChangeable, IsDecided, IsToldExactly, MayBecomeRow, ReachNarrows, TellsMayBecome, rows_before, IsFirst, IsFirstOf, NoneHas, Leads, allows_first, candidates, candidates_of, Lasts, signatures, Row, Accepts, signature_of, table, IsFirstAmong, RowHas, EXE}
+use Rattle.infer_deep.proofs.OpenLemmas.{bytes_from_test}
 use Rattle.infer.proofs.CandidateLemmas.{first_listed, read_has}
 use Rattle.infer.proofs.FirstLemmas.{IsFirstOf-same}
 use Rattle.infer.proofs.ListLemmas.{HoldsAt-read}
@@ -61,17 +55,7 @@ sound_at (r ∷ rows) all (suc i) = sound_at rows (and_parts (is_sound_if_fixed 
 module _ (opens : (s : List Alternative) → IsTrue (is_sound s) → MayBecomeIsExact s) (b : List ℕ) (r : Bool) where
   told : (s : BuiltIn) → IsTrue (is_sound_if_fixed s) → TellsMayBecome s b r → IsTrue r ↔ MayBecome (IsAccepted s) b
   told (fixed alternatives) sound same = let open_it = opens alternatives sound b in (λ t. open_it.0 (sym same ∙ t), λ h. same ∙ open_it.1 h)
-  told pdf sound h = h
-  told (matroska doc_type) sound h = h
-  told (framed magic) sound h = h
-  told heif sound h = h
-  told avif sound h = h
-  told (office folder) sound h = h
-  told doc sound h = h
-  told xls sound h = h
-  told ppt sound h = h
-  told html sound h = h
-  told xml sound h = h
+  told s sound h = h
 
   pub told_of_row : (i : ℕ) → TellsMayBecome (signature_of i) b r → IsTrue r ↔ MayBecome (IsAccepted (signature_of i)) b
   unfolding signature_of
@@ -127,42 +111,33 @@ module _ (lasts : (s : BuiltIn) → Lasts s) (b : List ℕ) where
     ]
 
     pub decided_by_first : (r : Bool) → IsTrue r ↔ RowHas (Accepts b) i → IsTrue r ↔ IsDecided b
-    decided_by_first r h = (
-      λ t. decided_if_accepted (h.0 t),
-      λ decided. elim (cases_Bool r) [
-        | inl t ↦ t
-        | inr f ↦ absurd (not_unanswered (Accepts b) table (no_answer decided (λ a. absurd (let t = h.1 a in cc))))
-      ],
-    )
+    decided_by_first r h = grind (arith, decided_if_accepted, not_unanswered (Accepts b) table, no_answer)
 
 -- the empty buffer, which no row accepts, can become a Windows program
-pub empty_open : NoneHas (Accepts []) table → (b : List ℕ) → length b ≡ 0 → ¬ IsDecided b
+abbrev program : List ℕ
+program = 0x4D ∷ 0x5A ∷ []
+
+some_accepts : ¬ NoneHas (Accepts program) table
 unfolding table stands
+some_accepts none = none EXE some_row (omega arith) (omega arith) refl
+
+pub empty_open : NoneHas (Accepts []) table → (b : List ℕ) → length b ≡ 0 → ¬ IsDecided b
 empty_open blank (x ∷ b) none decided = absurd (omega (arith, none))
-empty_open blank [] none decided =
-    let more : List ℕ = 0x4D ∷ 0x5A ∷ [] in
-    let bytes : IsBuffer more = All-cons (λ x. x < 256) 0x4D (0x5A ∷ []) (omega arith) (All-cons (λ x. x < 256) 0x5A [] (omega arith) (All-nil (λ x. x < 256))) in
-    decided more None bytes blank EXE some_row (omega arith) (omega arith) refl
+empty_open blank [] none decided = some_accepts (decided program None (bytes_from_test program refl) blank)
 
 pub empty_changes : NoneHas (Accepts []) table → (b : List ℕ) → length b ≡ 0 → IsChangeable b
-unfolding table stands
 empty_changes blank (x ∷ b) none = absurd (omega (arith, none))
-empty_changes blank [] none =
-    let more : List ℕ = 0x4D ∷ 0x5A ∷ [] in
-    let bytes : IsBuffer more = All-cons (λ x. x < 256) 0x4D (0x5A ∷ []) (omega arith) (All-cons (λ x. x < 256) 0x5A [] (omega arith) (All-nil (λ x. x < 256))) in (
-      more,
-      bytes,
-      λ o first then.
-          let same = IsFirstOf-same (Accepts []) table o None first blank in
-          let nothing : NoneHas (Accepts more) table = subst (IsFirstOf (Accepts more) table) same then in
-          nothing EXE some_row (omega arith) (omega arith) refl,
-    )
+empty_changes blank [] none = (
+  program,
+  bytes_from_test program refl,
+  λ o first then. some_accepts (subst (IsFirstOf (Accepts program) table) (IsFirstOf-same (Accepts []) table o None first blank) then),
+)
 
 -- the first of the candidates that may accept the buffer is the first row of the table that may
 pub first_open_row : ((s : BuiltIn) → Leads s) → (b cs : List ℕ) (o : Option ℕ) → 0 < length b → cs ≡ candidates_of b
     → IsFirstAmong (RowHas (MayBecomeRow b)) cs o → IsFirstOf (MayBecomeRow b) table o
 unfolding candidates
-first_open_row leads h1 cs o long same h = grind (arith, first_listed, allows_first)
+first_open_row leads h1 cs o long same h = grind (arith, first_listed)
 
 -- ---- what is decided later
 

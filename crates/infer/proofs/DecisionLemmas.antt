@@ -1,24 +1,8 @@
 -- What a computation says of a built-in signature and a buffer.
-use Rattle.std.proofs.Common.{◌≡◌, ◌≤◌, ◌⊎◌, inl, inr, ℕ, suc, ◌+◌, ◌-◌, ◌*◌, ◌/◌, List, [], ◌∷◌, ◌++◌, map, length, get_or, replicate, take, eqb, IsTrue, refl, sym, ap, subst, ◌∙◌, codes, arith, lit≤, append_assoc, Bool}
+use Rattle.infer.proofs.Common.{◌≡◌, ◌≤◌, ◌⊎◌, inl, inr, ℕ, suc, ◌+◌, ◌-◌, ◌*◌, ◌/◌, List, [], ◌∷◌, ◌++◌, map, length, get_or, replicate, take, eqb, IsTrue, refl, sym, ap, subst, ◌∙◌, codes, arith, lit≤, append_assoc, Bool, list_any, AllByRecursion, concat, eqb-true, eq-eqb, or_left, or_right, append-nil, take_at, All-replicate, recursion_from_All, front_fits, front_reads, AllPass-from_list_all, HasCompatible, IsBoxed, compound_header, HasClassId, IsRoot, word_id, old_excel_id, excel_id, powerpoint_id, OccursAt, IsFrame, IsFramed, SkipsTo, le16, le32, be32, zip_header, HasFolder, IsDecidingHeader, IsHeaderFrom, IsThirdHeader, IsOffice, BeginsWithTag, IsHtml, IsMark, IsSpace, IsXml, tags, StandsBy, accepts, stands, BuiltIn, fixed, avif, doc, framed, heif, html, matroska, office, pdf, ppt, xls, xml, IsAccepted}
 use Rattle.std.specs.Char.{to_ascii_lowercase}
-use Rattle.std.specs.List.{list_any, AllByRecursion, concat}
-use Rattle.std.proofs.lemmas.Bool.{eqb-true, eq-eqb, or_left, or_right}
-use Rattle.std.proofs.lemmas.List.{append-nil, take_at}
-use Rattle.std.proofs.lemmas.List.Elements.{All-replicate, recursion_from_All}
 use Rattle.std.proofs.lemmas.List.Folds.{list_any-append}
-use Rattle.std.proofs.lemmas.List.Prefix.{front_fits, front_reads}
-use Rattle.std.proofs.lemmas.List.Sums.{AllPass-from_list_all}
-use Rattle.infer_deep.specs.Brands.{HasCompatible, IsBoxed}
-use Rattle.infer_deep.specs.ClassId.{compound_header, HasClassId, IsRoot, word_id, old_excel_id, excel_id, powerpoint_id}
-use Rattle.infer_deep.specs.Find.{OccursAt}
-use Rattle.infer_deep.specs.Frames.{IsFrame, IsFramed}
-use Rattle.infer_deep.specs.Joined.{SkipsTo}
-use Rattle.infer_deep.specs.Numbers.{le16, le32, be32}
-use Rattle.infer_deep.specs.Office.{zip_header, HasFolder, IsDecidingHeader, IsHeaderFrom, IsThirdHeader, IsOffice}
-use Rattle.infer_deep.specs.Text.{BeginsWithTag, IsHtml, IsMark, IsSpace, IsXml, tags}
-use Rattle.infer_deep.specs.Windows.{StandsBy}
 use Rattle.infer_deep.proofs.PlaceLemmas.{OccursAt-begins, begins-from_OccursAt}
-use Rattle.infer.proofs.Common.{accepts, stands, BuiltIn, fixed, avif, doc, framed, heif, html, matroska, office, pdf, ppt, xls, xml, IsAccepted}
 use Rattle.infer.proofs.KnownLemmas.{Known, proved, refuted, unknown, is, same, at_most, same_text, refuted_if, both, either, needs, takes, ◌>>=◌, ◌>>◌}
 use Rattle.infer.proofs.PlaceLemmas.{ByPlace, lacks, lacked, nowhere_from}
 use Rattle.infer.proofs.PlaceLemmas as Place
@@ -71,9 +55,7 @@ is_opening x = eqb (to_ascii_lowercase x) 0x3C
 opens : (front word rest b : List ℕ) → b ≡ front ++ (word ++ rest) → get_or (map to_ascii_lowercase word) 0 0 ≡ 0x3C
     → IsTrue (list_any is_opening b)
 opens front [] rest b e first = absurd (cc)
-opens front (x ∷ word) rest b e first =
-    let here = or_left (is_opening x) (list_any is_opening (word ++ rest)) (eq-eqb (to_ascii_lowercase x) 0x3C first) in
-    rw e (rw (list_any-append is_opening front (x ∷ word ++ rest)) (or_right (list_any is_opening front) _ here))
+opens front (x ∷ word) rest b e first = grind (arith, or_left (is_opening x) (list_any is_opening (word ++ rest)) (eq-eqb (to_ascii_lowercase x) 0x3C first), eq-eqb (to_ascii_lowercase x) 0x3C first, list_any-append is_opening front (x ∷ word ++ rest), or_right (list_any is_opening front))
 
 abbrev is_tag : List ℕ → Bool
 is_tag t = eqb (get_or (map to_ascii_lowercase t) 0 0) 0x3C
@@ -120,7 +102,7 @@ begins_framed magic b (w ∷ words) rest each whole =
     inr (omega arith)
 
 module _ (by_place : ByPlace) (b : List ℕ) where
-  abbrev occurs : (p : ℕ) (t : List ℕ) → Known (OccursAt b t p)
+  abbrev pub occurs : (p : ℕ) (t : List ℕ) → Known (OccursAt b t p)
   occurs p t = Place.occurs by_place t b p
 
   -- it may stand at p

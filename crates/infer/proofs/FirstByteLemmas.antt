@@ -1,22 +1,6 @@
 -- With each byte that a row allows first begins a buffer that it accepts.
-use Rattle.std.proofs.Common.{◌≡◌, ◌≤◌, ◌<◌, ◌+◌, ◌*◌, ◌⊎◌, inl, inr, ℕ, List, [], ◌∷◌, ◌++◌, length, drop, IsTrue, Option, None, Some, MatchOption, refl, ap, sym, subst, codes, arith, rules, length-append}
-use Rattle.std.specs.Prelude.{All, replicate}
-use Rattle.std.specs.List.{slice_get}
-use Rattle.std.specs.Option.{option_map_or}
-use Rattle.std.proofs.lemmas.Bool.{eqb-true}
-use Rattle.std.proofs.lemmas.Bool.Decides.{nat_tests}
-use Rattle.std.proofs.lemmas.List.{length-replicate}
-use Rattle.std.proofs.lemmas.List.Elements.{All-append, All-replicate}
-use Rattle.infer_deep.specs.Brands.{IsBoxed}
-use Rattle.infer_deep.specs.Find.{OccursAt}
-use Rattle.infer_deep.specs.Frames.{IsFrame, IsFramed}
-use Rattle.infer_deep.specs.Joined.{SkipsTo}
-use Rattle.infer_deep.specs.Numbers.{le16, le32, be32}
-use Rattle.infer_deep.specs.Open.{are_bytes}
-use Rattle.infer_deep.specs.Signatures.{MayBecome}
-use Rattle.infer_deep.specs.Text.{IsHtml, IsMark, IsSpace, IsWhite, IsXml}
+use Rattle.infer.proofs.Common.{◌≡◌, ◌≤◌, ◌<◌, ◌+◌, ◌*◌, ◌⊎◌, inl, inr, ℕ, List, [], ◌∷◌, ◌++◌, length, drop, IsTrue, Option, None, Some, MatchOption, refl, ap, sym, subst, codes, arith, rules, length-append, All, replicate, slice_get, option_map_or, eqb-true, nat_tests, length-replicate, All-append, All-replicate, IsBoxed, OccursAt, IsFrame, IsFramed, SkipsTo, le16, le32, be32, are_bytes, MayBecome, IsHtml, IsMark, IsSpace, IsWhite, IsXml, is_sound, Alternative, stands, BuiltIn, fixed, avif, doc, framed, heif, html, matroska, office, pdf, ppt, xls, xml, IsAccepted, AllowsExactly, MayBecomeRow, Leads, allows_first, Row, sample_of, signature_of, table, ROW_COUNT}
 use Rattle.infer_deep.proofs.OpenLemmas.{bytes_from_test}
-use Rattle.infer.proofs.Common.{is_sound, Alternative, stands, BuiltIn, fixed, avif, doc, framed, heif, html, matroska, office, pdf, ppt, xls, xml, IsAccepted, AllowsExactly, MayBecomeRow, Leads, allows_first, Row, sample_of, signature_of, table, ROW_COUNT}
 use Rattle.infer_sig.specs.Open as Fixed
 use Rattle.infer.proofs.CandidateLemmas.{read_has}
 use Rattle.infer.proofs.DecisionLemmas.{known, spaced_html, spaced_xml, stands_whole}
@@ -56,29 +40,20 @@ marked_before mark kind =
     (mark ++ codes "<?xml", unspaced, (codes "<?xml", marks, record { word = codes "<?xml"; rest = []; same = refl; whole = refl }))
 
 html_begins : Begins html
-html_begins f lt h =
-    let byte : IsWhite f ⊎ (f ≡ 0x3C) = grind (arith, nat_tests) in
-    elim byte [
-      | inl white ↦ (codes "<P>", bytes_from_test (codes "<P>") refl, html_before f (codes "<P>") white (spaced_html 0 (codes "<P>") refl))
-      | inr e ↦ (codes "P>", bytes_from_test (codes "P>") refl, subst (λ x. IsHtml (x ∷ codes "P>")) (sym e) (spaced_html 0 (codes "<P>") refl))
-    ]
+html_begins f lt h = grind (arith, nat_tests, bytes_from_test (codes "<P>") refl, html_before f (codes "<P>"), spaced_html 0 (codes "<P>") refl, bytes_from_test (codes "P>") refl)
 
 xml_begins : Begins xml
 xml_begins f lt h =
-    let byte : IsWhite f ⊎ (f ≡ 0x3C) ⊎ (f ≡ 0xEF) ⊎ (f ≡ 0xFE) ⊎ (f ≡ 0xFF) = grind (arith, nat_tests) in
-    elim byte [
-      | inl white ↦ (codes "<?xml", bytes_from_test (codes "<?xml") refl, xml_before f (codes "<?xml") white (spaced_xml 0 (codes "<?xml") refl))
-      | inr (inl e) ↦ (codes "?xml", bytes_from_test (codes "?xml") refl, subst (λ x. IsXml (x ∷ codes "?xml")) (sym e) (spaced_xml 0 (codes "<?xml") refl))
-      | inr (inr (inl e)) ↦
-          let rest : List ℕ = 0xBB ∷ 0xBF ∷ codes "<?xml" in
-          (rest, bytes_from_test rest refl, subst (λ x. IsXml (x ∷ rest)) (sym e) (marked_before (0xEF ∷ 0xBB ∷ 0xBF ∷ []) (inl refl)))
-      | inr (inr (inr (inl e))) ↦
-          let rest : List ℕ = 0xFF ∷ codes "<?xml" in
-          (rest, bytes_from_test rest refl, subst (λ x. IsXml (x ∷ rest)) (sym e) (marked_before (0xFE ∷ 0xFF ∷ []) (inr (inl refl))))
-      | inr (inr (inr (inr e))) ↦
-          let rest : List ℕ = 0xFE ∷ codes "<?xml" in
-          (rest, bytes_from_test rest refl, subst (λ x. IsXml (x ∷ rest)) (sym e) (marked_before (0xFF ∷ 0xFE ∷ []) (inr (inr refl))))
-    ]
+    let mark : (m : List ℕ) → IsMark m → IsXml (m ++ codes "<?xml") = marked_before in
+    search (
+      rules,
+      bytes_from_test,
+      xml_before f (codes "<?xml"),
+      spaced_xml 0 (codes "<?xml") refl,
+      mark (0xEF ∷ 0xBB ∷ 0xBF ∷ []),
+      mark (0xFE ∷ 0xFF ∷ []),
+      mark (0xFF ∷ 0xFE ∷ []),
+    )
 
 module _ (by_place : ByPlace) where
   pdf_begins : Begins pdf
@@ -115,7 +90,7 @@ module _ (by_place : ByPlace) where
     box_length four = grind (arith, nat_tests, length-append, length-replicate)
 
     box_reads : (t : List ℕ) (p : ℕ) → length brand ≡ 4 → p + length t ≤ 16 → IsTrue (stands p t (f ∷ rest_of_box)) → OccursAt (f ∷ rest_of_box) t p
-    box_reads t p four fits h = grind (arith, nat_tests, box_length, rest_of_box)
+    box_reads t p four fits h = grind (arith, nat_tests, box_length)
 
     boxed : length brand ≡ 4 → IsBoxed (f ∷ rest_of_box)
     unfolding rest_of_box stands be32
@@ -123,9 +98,7 @@ module _ (by_place : ByPlace) where
 
     box_bytes : IsTrue (are_bytes brand) → All (λ x. x < 256) rest_of_box
     unfolding rest_of_box
-    box_bytes h =
-        All-append (λ x. x < 256) (0x00 ∷ 0x00 ∷ 0x10 ∷ codes "ftyp" ++ brand) (replicate (4 + 16777216 * f) 0x00)
-        (bytes_from_test (0x00 ∷ 0x00 ∷ 0x10 ∷ codes "ftyp" ++ brand) h) (All-replicate (λ x. x < 256) (4 + 16777216 * f) 0x00 (omega arith))
+    box_bytes h = search (rules, All-append, bytes_from_test (0x00 ∷ 0x00 ∷ 0x10 ∷ codes "ftyp" ++ brand) h, All-replicate)
 
   heif_begins : Begins heif
   unfolding rest_of_box stands

@@ -1,7 +1,5 @@
 -- The first element with a property is one, and stands no later if more elements have it.
-use Rattle.std.proofs.Common.{◌≡◌, ◌∙◌, ◌<◌, ℕ, List, [], ◌∷◌, length, get_or, Option, None, Some, ap, sym, refl, option_map, arith}
-use Rattle.std.specs.List.{HoldsAt, AllWithin}
-use Rattle.infer.proofs.Common.{Contracts, IsAnswer, IsFirstOf, IsNotLater, ReadersAreAlike, Row, Signature, Triple, triple_of}
+use Rattle.infer.proofs.Common.{◌≡◌, ◌∙◌, ◌<◌, ℕ, List, [], ◌∷◌, length, get_or, Option, None, Some, ap, sym, refl, arith, HoldsAt, AllWithin, Contracts, IsAnswer, IsFirstOf, IsNotLater, ReadersAreAlike, Row, Signature, Triple, triple_of, option_map}
 
 -- an element that has the property is not among those that lack it
 among : {A : Type 0} (P : A → Type 0) (xs : List A) (i n : ℕ) → i < length xs → i < n → HoldsAt P xs i → ¬ AllWithin (λ x. ¬ P x) xs 0 n
@@ -20,7 +18,7 @@ module _ {A : Type 0} (P Q : A → Type 0) (xs : List A) (grows : (i : ℕ) → 
 pub IsFirstOf-same : {A : Type 0} (P : A → Type 0) (xs : List A) (o p : Option ℕ) → IsFirstOf P xs o → IsFirstOf P xs p → o ≡ p
 IsFirstOf-same P xs o p h k = grind (arith, IsNotLater-grows)
 
-same_answer : {S : Type 0} (P : Row S → Type 0) (rows : List (Row S)) (t u : Option Triple) → IsAnswer P rows t → IsAnswer P rows u → t ≡ u
+pub same_answer : {S : Type 0} (P : Row S → Type 0) (rows : List (Row S)) (t u : Option Triple) → IsAnswer P rows t → IsAnswer P rows u → t ≡ u
 same_answer P rows None None none nor = refl
 same_answer P rows None (Some u) none (j, then, shows) = absurd (let same = IsFirstOf-same P rows None (Some j) none then in cc)
 same_answer P rows (Some t) None (i, first, shown) none = absurd (let same = IsFirstOf-same P rows (Some i) None first none in cc)
@@ -31,4 +29,4 @@ same_answer P (r ∷ rows) (Some t) (Some u) (i, first, shown) (j, then, shows) 
     ap Some (sym (shown r) ∙ ap (λ k. (get_or (r ∷ rows) k r).shows) same ∙ shows r)
 
 pub readers_alike : {X : Type 0} {g : Contracts X} (all : List (Row (Signature X g))) → ReadersAreAlike all
-readers_alike all n s t h4 h5 same h k = grind (arith, same_answer, option_map, triple_of)
+readers_alike all n s t h4 h5 same h k = grind (arith, same_answer)

@@ -1,8 +1,5 @@
 -- What reads into the parts of a buffer give together.
-use Rattle.std.proofs.Common.{◌≡◌, ◌≢◌, arith, ℕ, ◌+◌, ◌≤◌, List, ◌++◌, length, take, sym, ap, ◌∙◌, subst, length-take-le, Option}
-use Rattle.std.specs.Io.KnownBytes.{Consumes}
-use Rattle.std.proofs.KnownBytes.{Consumes-trans}
-use Rattle.infer.proofs.Common.{IsDue}
+use Rattle.infer.proofs.Common.{◌≡◌, ◌≢◌, arith, ℕ, ◌+◌, ◌≤◌, List, ◌++◌, length, take, sym, ap, ◌∙◌, subst, length-take-le, Option, Consumes, Consumes-trans, IsDue}
 use borrow.Rule.Slice.PartMut.{put_mid, post_of}
 use lib.Seq.{take-append-add, take-append-le}
 

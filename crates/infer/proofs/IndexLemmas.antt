@@ -1,17 +1,6 @@
 -- The first accepting row as a buffer goes on.
-use Rattle.std.proofs.Common.{◌<◌, ◌≤◌, ℕ, not, List, ◌++◌, map, length, get_or, take, drop, Option, None, Some, IfSome, sym, subst, ◌∙◌, inl, inr, All, IsTrue, refl, arith, length-append}
-use Rattle.std.specs.List.{HoldsAt}
-use Rattle.std.proofs.lemmas.Bool.{cases_lt, cases_Bool}
-use Rattle.std.proofs.lemmas.List.{get_or-map, get_or_append_left, length-map, take-append-drop, take-append-le, take_all}
-use Rattle.std.proofs.lemmas.List.Elements.{All-append, All-map}
-use Rattle.infer.specs.BuiltIn.{BuiltIn, IsAccepted}
-use Rattle.infer.specs.Caller.{Contracts}
-use Rattle.infer.specs.First.{IsFirstOf}
-use Rattle.infer.specs.Laws.{AnswersAreLocal, AnyLasts, IsSteady, answers_far, FrontDecides, OnlyFarRowsFollow}
-use Rattle.infer.specs.Matchers.{signatures, Lasts, IsNear, OthersAreNear}
-use Rattle.infer.specs.Row.{Row, Accepts}
-use Rattle.infer.specs.Rows.{Signature, AnyAccepts, kept_row}
-use Rattle.infer.specs.Table.{table}
+use Rattle.infer.proofs.Common.{◌<◌, ◌≤◌, ℕ, not, List, ◌++◌, map, length, get_or, take, drop, Option, None, Some, IfSome, sym, subst, ◌∙◌, inl, inr, All, IsTrue, refl, arith, length-append, HoldsAt, cases_lt, cases_Bool, get_or_append_left, length-map, take-append-drop, take-append-le, take_all, All-append, All-map, BuiltIn, IsAccepted, Contracts, IsFirstOf, AnswersAreLocal, AnyLasts, IsSteady, answers_far, FrontDecides, OnlyFarRowsFollow, signatures, Lasts, IsNear, OthersAreNear, Row, Accepts, Signature, AnyAccepts, kept_row, table}
+use Rattle.std.proofs.lemmas.List.{get_or-map}
 use Rattle.infer.proofs.FirstLemmas.{IsNotLater-grows, IsFirstOf-same}
 use Rattle.infer.proofs.LawLemmas.{length-signatures}
 use Rattle.infer.proofs.TableLemmas.{length-table}

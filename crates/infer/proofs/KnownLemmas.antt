@@ -1,13 +1,5 @@
 -- What a computation says of a claim: a proof of it, a proof that it fails, or nothing.
-use Rattle.std.proofs.Common.{◌≡◌, ◌≤◌, ◌⊎◌, inl, inr, ℕ, Bool, true, false, List, eqb, leb, IsTrue, refl, length, take, arith}
-use Rattle.std.specs.Bool.{Decides}
-use Rattle.std.specs.List.{AllWithin, list_all}
-use Rattle.std.specs.Str.{bytes_eq}
-use Rattle.std.proofs.lemmas.Bool.{leb-true, le-leb}
-use Rattle.std.proofs.lemmas.Bool.Decides.{Decides-eqb, not_from_Decides}
-use Rattle.std.proofs.lemmas.List.{get_or-take, length-take-le}
-use Rattle.std.proofs.lemmas.List.Sums.{AllPass-from_list_all}
-use Rattle.std.proofs.lemmas.Slice.Eq.{bytes_eq-Decides}
+use Rattle.infer.proofs.Common.{◌≡◌, ◌≤◌, ◌⊎◌, inl, inr, ℕ, Bool, true, false, List, eqb, leb, IsTrue, refl, length, take, arith, Decides, AllWithin, list_all, bytes_eq, leb-true, le-leb, Decides-eqb, not_from_Decides, get_or-take, length-take-le, AllPass-from_list_all, bytes_eq-Decides}
 
 pub data Known (P : Type 0) : Type 0 where
   proved : P → Known P

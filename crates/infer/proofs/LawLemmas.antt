@@ -1,6 +1,5 @@
 -- The laws of all matchers, from those of every signature.
-use Rattle.std.proofs.Common.{◌≡◌, ◌<◌, ℕ, List, length, get_or, refl, ◌⊎◌, sym, ◌∙◌, arith, IsTrue}
-use Rattle.infer.proofs.Common.{Alternative, BuiltIn, fixed, avif, doc, framed, heif, html, matroska, office, pdf, ppt, xls, xml, signatures, is_far_row, Lasts, IsNear, OthersAreNear, signature_of, table, MATCHER_COUNT}
+use Rattle.infer.proofs.Common.{◌≡◌, ◌<◌, ℕ, List, length, get_or, refl, ◌⊎◌, sym, ◌∙◌, arith, IsTrue, Alternative, BuiltIn, fixed, avif, doc, framed, heif, html, matroska, office, pdf, ppt, xls, xml, signatures, is_far_row, Lasts, IsNear, OthersAreNear, signature_of, table, MATCHER_COUNT}
 use Rattle.infer_sig.specs.Laws as Fixed
 use Rattle.infer_deep.specs.Laws as Deep
 use Rattle.infer.proofs.KnownLemmas.{Known, proved, unknown, is, either, is_proved, proof_of, proved_if}

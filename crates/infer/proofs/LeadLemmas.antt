@@ -1,11 +1,7 @@
 -- With which bytes a buffer begins that a built-in signature accepts.
-use Rattle.std.proofs.Common.{◌≡◌, ◌≤◌, ◌⊎◌, inl, inr, List, [], ◌∷◌, refl, arith, leb, ◌&&◌, true}
-use Rattle.std.proofs.lemmas.Bool.{eq-eqb, or_right}
-use Rattle.std.proofs.lemmas.Bool.Decides.{nat_tests}
-use Rattle.infer.proofs.Common.{Alternative, BuiltIn, fixed, avif, doc, framed, heif, html, matroska, office, pdf, ppt, xls, xml, Leads}
+use Rattle.infer.proofs.Common.{◌≡◌, ◌≤◌, ◌⊎◌, inl, inr, List, [], ◌∷◌, refl, arith, leb, ◌&&◌, true, eq-eqb, or_right, nat_tests, Alternative, BuiltIn, fixed, avif, doc, framed, heif, html, matroska, office, pdf, ppt, xls, xml, Leads, IsWhite}
 use Rattle.infer_sig.specs.Laws as Fixed
 use Rattle.infer_deep.specs.Laws as Deep
-use Rattle.infer_deep.specs.Text.{IsWhite}
 
 pub every_leads : ((s : List Alternative) → Fixed.Leads s) → Deep.Leads → (s : BuiltIn) → Leads s
 every_leads fixed_lead deep (fixed alternatives) f rest h = fixed_lead alternatives f rest h

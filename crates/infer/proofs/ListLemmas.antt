@@ -1,11 +1,8 @@
 -- The first and some element of a list with a property: of a list that was read, of the images of a list, and of
 -- two lists joined.
-use Rattle.std.proofs.Common.{◌≡◌, ◌↔◌, Bool, true, false, IsTrue, MatchBool, ◌+◌, ◌-◌, ◌<◌, ◌≤◌, ℕ, List, [], ◌∷◌, ◌++◌, ◌⊎◌, inl, inr, map, length, get_or, refl, subst, arith, length-append}
-use Rattle.std.specs.List.{HoldsAt, AllWithin}
-use Rattle.std.proofs.lemmas.Bool.{cases_lt, false≢true}
-use Rattle.std.proofs.lemmas.List.{get_or-map, get_or_default, get_or_append_left, get_or-append-add, get_or-append_right, length-map}
-use Rattle.std.proofs.lemmas.List.Folds.{none_from_all_within}
-use Rattle.infer.specs.First.{IsFirst, NoneHas, SomeHas}
+use Rattle.infer.proofs.Common.{◌≡◌, ◌↔◌, Bool, true, false, IsTrue, MatchBool, ◌+◌, ◌-◌, ◌<◌, ◌≤◌, ℕ, List, [], ◌∷◌, ◌++◌, ◌⊎◌, inl, inr, map, length, get_or, refl, subst, arith, length-append, HoldsAt, AllWithin, cases_lt, false≢true, get_or_default, get_or_append_left, get_or-append-add, length-map, none_from_all_within, IsFirst, NoneHas, SomeHas}
+use Rattle.std.proofs.lemmas.List.{get_or-append_right}
+use Rattle.std.proofs.lemmas.List.{get_or-map}
 
 -- what holds of an element that was read holds at its index
 pub HoldsAt-read : {A : Type 0} (P : A → Type 0) (xs : List A) (i : ℕ) (c : A) → i < length xs → P (get_or xs i c) → HoldsAt P xs i

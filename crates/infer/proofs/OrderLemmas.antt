@@ -1,11 +1,6 @@
 -- What a computation says of the first row that accepts a buffer.
-use Rattle.std.proofs.Common.{◌∷◌, le_refl, suc, ℕ, List, [], Option, None, Some, length, get_or, subst, arith}
-use Rattle.std.proofs.lemmas.List.{get_or_default}
-use Rattle.infer_deep.specs.ClassId.{HasClassId, IsXls}
+use Rattle.infer.proofs.Common.{◌∷◌, le_refl, suc, ℕ, List, [], Option, None, Some, length, get_or, subst, arith, get_or_default, HasClassId, IsXls, IsOffice, AreApart, BuiltIn, framed, office, doc, xls, ppt, html, xml, IsAccepted, IsFirstOf, NoneHas, Row, Accepts, table, row, Text}
 use Rattle.infer_deep.specs.Laws as Deep
-use Rattle.infer_deep.specs.Office.{IsOffice}
-use Rattle.infer_deep.specs.Signatures.{AreApart}
-use Rattle.infer.proofs.Common.{BuiltIn, framed, office, doc, xls, ppt, html, xml, IsAccepted, IsFirstOf, NoneHas, Row, Accepts, table, row, Text}
 use Rattle.infer.proofs.DecisionLemmas.{known}
 use Rattle.infer.proofs.KnownLemmas.{Known, proved, unknown, same, negated, each_before, at_most, takes, ◌>>=◌, ◌>>◌}
 use Rattle.infer.proofs.PlaceLemmas.{ByPlace}

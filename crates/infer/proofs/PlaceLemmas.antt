@@ -1,11 +1,6 @@
 -- What a computation says of a text in a buffer: that it stands at a place, or at none of some places.
-use Rattle.std.proofs.Common.{◌≡◌, ◌<◌, ◌≤◌, ℕ, zero, suc, ◌+◌, ◌-◌, Bool, true, ◌&&◌, not, ◌↔◌, List, [], ◌∷◌, length, drop, leb, IsTrue, ap, nat_eq, subst, ◌∙◌, arith}
-use Rattle.std.specs.List.{starts_with}
-use Rattle.std.proofs.lemmas.List.{drop-drop}
-use Rattle.std.proofs.lemmas.Bool.{and_parts, and_from, leb-true, le-leb}
-use Rattle.infer_deep.specs.Find.{OccursAt}
+use Rattle.infer.proofs.Common.{◌<◌, ◌≤◌, ℕ, zero, suc, ◌+◌, ◌-◌, Bool, true, ◌&&◌, not, ◌↔◌, List, [], ◌∷◌, length, drop, leb, IsTrue, arith, drop-drop, and_parts, and_from, leb-true, le-leb, OccursAt, stands}
 use Rattle.infer_sig.specs.Places.{StandsByPlace}
-use Rattle.infer.proofs.Common.{stands}
 use Rattle.infer.proofs.KnownLemmas.{Known, decided}
 
 pub not_both : (a : Bool) → IsTrue a → ¬ IsTrue (not a)
@@ -47,10 +42,7 @@ module _ (by_place : ByPlace) (t : List ℕ) where
 
   pub lacked : (b : List ℕ) (s e p : ℕ) → s ≤ p → p < e → IsTrue (lacks s e t b) → ¬ OccursAt b t p
   unfolding stands
-  lacked b s e p low high none o =
-      let at : drop (p - s) (drop s b) ≡ drop p b = drop-drop (p - s) s b ∙ ap (λ i. drop i b) (let r : s + (p - s) ≡ p = omega arith in r) in
-      let not_here = not_absent (e - s) (p - s) (drop s b) (omega arith) none in
-      not_both (stands p t b) (stands-from b p o) (subst (λ l. IsTrue (not (starts_with nat_eq l t))) at not_here)
+  lacked b s e p low high none o = grind (arith, drop-drop (p - s) s b, not_absent (e - s) (p - s) (drop s b), not_both (stands p t b) (stands-from b p o), stands-from b p o)
 
   pub nowhere_from : (b : List ℕ) (s p : ℕ) → s ≤ p → IsTrue (lacks s (suc (length b)) t b) → ¬ OccursAt b t p
   nowhere_from b s p low none o = let f = o.fits in lacked b s (suc (length b)) p low (omega arith) none o

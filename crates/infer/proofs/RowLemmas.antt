@@ -1,8 +1,6 @@
 -- Answers of a list of rows.
-use Rattle.std.proofs.Common.{ap, subst, MatchOption, option_map, ◌≡◌, ◌+◌, ◌<◌, ℕ, List, ◌++◌, map, length, Option, None, Some, sym, ◌∙◌}
-use Rattle.std.specs.List.{AllWithin, HoldsAt}
+use Rattle.infer.proofs.Common.{ap, subst, MatchOption, option_map, ◌≡◌, ◌<◌, ℕ, List, ◌++◌, map, length, Option, None, Some, sym, ◌∙◌, AllWithin, HoldsAt, IsFirst, NoneHas, IsAnswer, Row, Triple, rules}
 use denote.Ref.{Bor}
-use Rattle.infer.proofs.Common.{IsFirst, NoneHas, IsAnswer, Row, Triple}
 use Rattle.infer.proofs.ListLemmas.{HoldsAt-map, HoldsAt-from_map, HoldsAt-right, IsFirst-map, IsFirst-from_map, IsFirst-right, NoneHas-map, NoneHas-from_map, NoneHas-both}
 
 -- what `find` found of xs is the answer of the rows that it shows
@@ -38,5 +36,4 @@ module _ {S : Type 0} (P : Row S → Type 0) (xs ys : List (Row S)) where
   -- if the front has none, it is that of the rest
   pub IsAnswer-right : (o : Option Triple) → NoneHas P xs → IsAnswer P ys o → IsAnswer P (xs ++ ys) o
   IsAnswer-right None none h = NoneHas-both P xs ys none h
-  IsAnswer-right (Some t) none h =
-      (length xs + h.0, IsFirst-right P xs ys h.0 none h.1, HoldsAt-right (λ r. r.shows ≡ t) xs ys h.0 h.2)
+  IsAnswer-right (Some t) none h = search (rules, IsFirst-right P xs ys h.0 none h.1, HoldsAt-right)

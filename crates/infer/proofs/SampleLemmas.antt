@@ -1,11 +1,8 @@
 -- Each built-in row but two is first for its sample.
-use Rattle.std.proofs.Common.{◌≡◌, ◌≢◌, ◌<◌, ◌-◌, ◌⊎◌, ℕ, List, Some, map, get_or, length, sym, ap, take, refl, subst, ◌∙◌, arith}
-use Rattle.std.specs.List.{HoldsAt}
-use Rattle.std.proofs.lemmas.List.{get_or-map, length-map, take_at}
-use Rattle.infer_deep.specs.Laws as Deep
-use Rattle.infer_deep.specs.Numbers.{le16, le32, be32}
-use Rattle.infer.proofs.Common.{stands, BuiltIn, IsFirst, Row, Accepts, buffer_listed, HoldsSample, padded, sample_of, zeros, table, DLL, EPUB_ARCHIVE, ROW_COUNT}
+use Rattle.infer.proofs.Common.{◌≡◌, ◌≢◌, ◌<◌, ◌-◌, ◌⊎◌, ℕ, List, Some, map, get_or, length, sym, ap, take, refl, subst, ◌∙◌, arith, HoldsAt, length-map, take_at, le16, le32, be32, stands, BuiltIn, IsFirst, Row, Accepts, buffer_listed, HoldsSample, padded, sample_of, zeros, table, DLL, EPUB_ARCHIVE, ROW_COUNT}
+use Rattle.std.proofs.lemmas.List.{get_or-map}
 use Rattle.infer.specs.declared.samples.TheConstants.{SAMPLE_SIZE}
+use Rattle.infer_deep.specs.Laws as Deep
 use Rattle.infer.specs.declared.table.rows.Pieces.{Pieces}
 use Rattle.infer.proofs.KnownLemmas.{Known, same, either, is_proved, proof_of}
 use Rattle.infer.proofs.OrderLemmas.{known_first, some_row}
@@ -32,14 +29,12 @@ module _ (by_place : ByPlace) (exclude : Deep.Apart) (d : Row BuiltIn) where
 -- two lists that a function each maps to one have as many elements, and the functions agree at each place
 agree_at : {A B C : Type 0} (f : A → C) (g : B → C) (xs : List A) (ys : List B) → map f xs ≡ map g ys
     → (i : ℕ) (a : A) (b : B) → i < length ys → f (get_or xs i a) ≡ g (get_or ys i b)
-agree_at f g xs ys e i a b lt =
-    sym (get_or-map f xs i a (f a) (omega (arith, lt, ap length e, length-map xs f, length-map ys g))) ∙ ap (λ l. get_or l i (f a)) e
-    ∙ get_or-map g ys i b (f a) lt
+agree_at f g xs ys e i a b lt = grind (arith, get_or-map f xs i a (f a), length-map xs f, length-map ys g, get_or-map g ys i b (f a) lt)
 
 pub pieces_hold : (xs : List Pieces) → map buffer_listed xs ≡ map padded table
     → map (λ p. p.len) xs ≡ map (λ r. length (sample_of r.signature)) table → (i : ℕ) → i < ROW_COUNT
     → (p : Pieces) → HoldsAt (HoldsSample (get_or xs i p).len (buffer_listed (get_or xs i p))) table i
-pieces_hold xs buffers lengths i lt p d = grind (arith, length-table, agree_at, sample_of, buffer_listed)
+pieces_hold xs buffers lengths i lt p d = grind (arith, length-table, agree_at)
 
 -- the front of what is written is the sample
 pub written_first : (i n : ℕ) (buf : List ℕ) → i < ROW_COUNT → HoldsAt (HoldsSample n buf) table i

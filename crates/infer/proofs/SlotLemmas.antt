@@ -1,14 +1,7 @@
 -- Each slot lists the rows whose text has it.
-use Rattle.std.proofs.Common.{◌∷◌, ◌++◌, ◌&&◌, ◌+◌, leb, suc, zero, take, filter, Option, ◌≡◌, ◌<◌, ◌≤◌, ◌↔◌, ◌==◌, eq-eqb, ℕ, Bool, true, false, IsTrue, List, [], ◌∙◌, ap, sym, subst, get_or, map, length, refl, arith, Bor, None}
-use Rattle.std.specs.Str.{bytes_eq}
-use Rattle.std.specs.List.{HoldsAt, slice_get}
-use Rattle.std.specs.Option.{option_map_or}
-use Rattle.std.proofs.lemmas.Bool.{cases_Bool, false≢true}
+use Rattle.infer.proofs.Common.{◌∷◌, ◌++◌, ◌&&◌, ◌+◌, leb, suc, zero, take, filter, Option, ◌≡◌, ◌<◌, ◌≤◌, ◌↔◌, ◌==◌, eq-eqb, ℕ, Bool, true, false, IsTrue, List, [], ◌∙◌, ap, sym, subst, get_or, map, length, refl, arith, Bor, None, bytes_eq, HoldsAt, slice_get, option_map_or, false≢true, bytes_eq-Decides, filter_more, none_from_all_within, BuiltIn, IsAccepted, NoneHas, SomeHas, Leads, candidates_of, number_of, IsAsked, Row, Triple, Accepts, HoldAsked, ListSlots, rows_in, slot_of, signature_of, table, IsFirstAmong, RowHas, Takes, is_listed, ROW_COUNT}
 use Rattle.std.proofs.lemmas.List.{get_or-map}
-use Rattle.std.proofs.lemmas.Slice.Eq.{bytes_eq-Decides}
-use Rattle.std.proofs.lemmas.List.Elements.{filter_more}
-use Rattle.std.proofs.lemmas.List.Folds.{none_from_all_within}
-use Rattle.infer.proofs.Common.{BuiltIn, NoneHas, SomeHas, Leads, candidates_of, number_of, IsAsked, Row, Accepts, HoldAsked, ListSlots, rows_in, slot_of, table, IsFirstAmong, RowHas, is_listed, Triple, ROW_COUNT}
+use Rattle.infer.proofs.Common.{BuiltIn, NoneHas, SomeHas, Leads, candidates_of, number_of, IsAsked, Row, Accepts, HoldAsked, ListSlots, rows_in, slot_of, table, IsFirstAmong, RowHas, is_listed, Triple, ROW_COUNT, bytes_eq-Decides, filter_more, none_from_all_within}
 use Rattle.infer.specs.declared.table.rows.RowName.{RowName}
 use Rattle.infer.proofs.AskLemmas.{asked_up_to, candidates_numbered, filtered_alike, first_moved, listed_row, may_take, none_among, room_left}
 use Rattle.infer.proofs.CandidateLemmas.{first_listed, read_has}
@@ -72,9 +65,6 @@ module _ (leads : (s : BuiltIn) → Leads s) (blank : NoneHas (Accepts []) table
       let at = (read_has (Accepts b) table i).0 h in
       ap (λ cs. is_listed cs i) (sym (candidates_numbered b)) ∙ listed_row (may_take b) table i some_row at.0 ∙ accepted_may_take leads blank b some_row i at.0 at.1
 
-alike : (t low w listed may : Bool) → listed ≡ may → (IsTrue w → IsTrue t) → (t && (low && (w && listed))) ≡ (may && (low && w))
-alike t low w listed may e h = grind (arith, cases_Bool t, cases_Bool low, cases_Bool w, cases_Bool may)
-
 -- row i is there and has the extension
 abbrev has_extension : List ℕ → ℕ → Bool
 has_extension text i = option_map_or (λ r. bytes_eq r.shows.extension text) (slice_get table i) false
@@ -97,11 +87,11 @@ module _ (text : List ℕ) (named : List ℕ) (e : named ≡ text) (rows : List 
   pub slot_first : ((s : BuiltIn) → Leads s) → NoneHas (Accepts []) table → (o : Option ℕ)
       → IsFirstAmong (RowHas (TakesText text b)) rows o → IsFirstAmong (RowHas (TakesText text b)) (candidates_of b) o
   unfolding HoldAsked
-  slot_first leads blank o first = grind (arith, candidates_numbered, first_moved, may_take, read_has, accepted_may_take)
+  slot_first leads blank o first = grind (arith, candidates_numbered, first_moved, read_has, accepted_may_take)
 
   asked_alike : (low : ℕ → Bool) → filter (λ i. low i && is_walked text b i) rows ≡ filter (λ i. low i && has_extension text i) (candidates_of b)
   unfolding HoldAsked
-  asked_alike low = grind (arith, filtered_alike, may_take, is_listed, candidates_of, candidates_numbered, listed_row, extension_read)
+  asked_alike low = grind (arith, filtered_alike, candidates_numbered, listed_row, extension_read)
 
   -- those asked up to one of the rows, and in the end
   pub slot_asked : (k d : ℕ) → k < length rows
@@ -119,12 +109,7 @@ module _ (text : List ℕ) (named : List ℕ) (e : named ≡ text) (rows : List 
 -- one row more of which the walk knows whether it is asked
 pub asked_one_more : (S : List ℕ → Type 0) (text b cs rows : List ℕ) (k n : ℕ) → cs ≡ candidates_of b → k < length rows → get_or rows k 0 ≡ n
     → S (filter (is_walked text b) (take k rows) ++ filter (λ i. has_extension text i && is_listed cs i) (n ∷ [])) → S (filter (is_walked text b) (take (k + 1) rows))
-asked_one_more S text b cs rows k n same l at h =
-    subst S
-    (ap (λ (u : List ℕ). filter (is_walked text b) (take k rows) ++ filter (λ i. has_extension text i && is_listed u i) (n ∷ [])) same
-    ∙ ap (λ m. filter (is_walked text b) (take k rows) ++ filter (is_walked text b) (m ∷ [])) (sym at)
-    ∙ sym (filter_more (is_walked text b) rows k 0 l))
-    h
+asked_one_more S text b cs rows k n same l at h = grind (arith, filter_more (is_walked text b) rows k 0 l)
 
 -- a row that has both properties has each
 pub takes_both : (P Q : Row BuiltIn → Type 0) (i : ℕ) → RowHas (λ r. P r × Q r) i → RowHas P i × RowHas Q i

@@ -1,9 +1,5 @@
 -- A test of the numbers below n, in sixteens, so that the check of one which fails shows the numbers that it refuses.
-use Rattle.std.proofs.Common.{◌≡◌, ◌+◌, ◌-◌, ◌*◌, ◌<◌, ◌≤◌, ℕ, suc, zero, Bool, ◌||◌, not, cond, leb, List, [], ◌∷◌, ◌∙◌, get_or, length, subst, inl, inr, arith, IsTrue}
-use Rattle.std.specs.List.{filter, range_with_len}
-use Rattle.std.proofs.lemmas.Bool.{cases_lt}
-use Rattle.std.proofs.lemmas.Bool.Decides.{nat_tests}
-use Rattle.std.proofs.lemmas.List.FromFn.{get_or-range_with_len, length-range_with_len}
+use Rattle.infer.proofs.Common.{◌≡◌, ◌+◌, ◌-◌, ◌*◌, ◌<◌, ◌≤◌, ℕ, suc, zero, Bool, ◌||◌, not, cond, leb, List, [], ◌∷◌, get_or, length, arith, IsTrue, filter, range_with_len, nat_tests, get_or-range_with_len, length-range_with_len}
 
 module _ (test : ℕ → Bool) (n : ℕ) where
   abbrev pub passes : ℕ → Bool
@@ -29,12 +25,7 @@ module _ (test : ℕ → Bool) (n : ℕ) where
 
   passed_from : (s k : ℕ) → NoneRefused test n s k → (i : ℕ) → s ≤ i → i < s + 16 * k → IsTrue (passes test n i)
   passed_from s zero none i low lt = absurd (omega arith)
-  passed_from s (suc k) none i low lt = elim (cases_lt i (s + 16)) [
-    | inl here ↦
-        let at : get_or (range_with_len s 16) (i - s) 0 ≡ i = get_or-range_with_len s 16 (i - s) 0 (omega arith) ∙ (omega arith) in
-        subst (λ j. IsTrue (passes test n j)) at (all_pass (range_with_len s 16) none.0 (i - s) (omega (arith, length-range_with_len s 16)))
-    | inr later ↦ passed_from (s + 16) k none.1 i later (omega arith)
-  ]
+  passed_from s (suc k) none i low lt = grind (arith, nat_tests, get_or-range_with_len s 16 (i - s) 0, all_pass (range_with_len s 16) none.0 (i - s), length-range_with_len s 16, passed_from (s + 16) k none.1 i)
 
   pub passed : (k : ℕ) → NoneRefused test n 0 k → n ≤ 16 * k → (i : ℕ) → i < n → IsTrue (test i)
   passed k none enough i lt = grind (arith, nat_tests, passed_from 0 k none i)

@@ -1,5 +1,5 @@
 -- What `any` answers of numbers, and of a list that is mapped.
-use Rattle.infer_deep.proofs.Common.{List, map, ap, ◌≡◌, ◌↔◌, ◌<◌, Bool, true, false, IsTrue, MatchBool, ℕ, length, get_or, refl, sym, subst, ◌∙◌, arith, get_or_default, length-map, Any, AllWithin, HoldsAt, range_with_len, get_or-range_with_len, length-range_with_len}
+use Rattle.infer_deep.proofs.Common.{List, map, ap, ◌≡◌, ◌↔◌, ◌<◌, Bool, true, false, IsTrue, MatchBool, ℕ, length, get_or, sym, subst, ◌∙◌, arith, get_or_default, length-map, Any, AllWithin, HoldsAt, range_with_len, get_or-range_with_len, length-range_with_len}
 use Rattle.std.proofs.lemmas.List.{get_or-map}
 
 nth_below : (n k : ℕ) → k < n → get_or (range_with_len 0 n) k 0 ≡ k
@@ -10,9 +10,7 @@ pub any_below : (P : ℕ → Type 0) (n : ℕ) (r : Bool)
     → MatchBool r ((k : ℕ) × (k < length (range_with_len 0 n)) × HoldsAt P (range_with_len 0 n) k)
     (AllWithin (λ k. ¬ P k) (range_with_len 0 n) 0 (length (range_with_len 0 n)))
     → IsTrue r ↔ ((k : ℕ) × (k < n) × P k)
-any_below P n true (k, lt, at) =
-    let below : k < n = omega (arith, lt, length-range_with_len 0 n) in
-    (λ _. (k, below, subst P (nth_below n k below) (at 0)), λ _. refl)
+any_below P n true (k, lt, at) = grind (arith, length-range_with_len 0 n, nth_below n k)
 any_below P n false none = (
   λ e. absurd (cc),
   λ (k, lt, h). absurd (none k 0 (omega arith) (omega (arith, lt, length-range_with_len 0 n)) (subst P (sym (nth_below n k lt)) h)),

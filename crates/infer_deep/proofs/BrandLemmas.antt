@@ -126,30 +126,10 @@ MayBeHeif b =
 pub heif_reached : (b : List ℕ) → AgreesAt b ftyp 4 → MayBeHeif b → MayBecome IsHeif b
 heif_reached b kind (inl a) = by_major IsHeif b kind (codes "heic") refl a (λ c box m. (box, inl m))
 heif_reached b kind (inr (inl a)) = by_major IsHeif b kind (codes "heix") refl a (λ c box m. (box, inr (inl m)))
-heif_reached b kind (inr (inr (major, compatible))) =
-    elim (cases_lt (length b) 4) [
-      | inl l ↦ by_major IsHeif b kind (codes "heic") refl (agrees_past b (codes "heic") 8 (omega arith)) (λ c box m. (box, inl m))
-      | inr long ↦ elim major [
-        | inl m ↦ by_compatible IsHeif b kind (codes "mif1") (codes "heic") refl (omega arith) m refl long compatible
-            (λ c box h k. (box, inr (inr (inl h, k))))
-        | inr m ↦ by_compatible IsHeif b kind (codes "msf1") (codes "heic") refl (omega arith) m refl long compatible
-            (λ c box h k. (box, inr (inr (inr h, k))))
-      ]
-    ]
+heif_reached b kind (inr (inr (major, compatible))) = grind (arith, by_major IsHeif b kind (codes "heic") refl, agrees_past b (codes "heic") 8, by_compatible IsHeif b kind (codes "mif1") (codes "heic") refl, by_compatible IsHeif b kind (codes "msf1") (codes "heic") refl)
 
 pub heif_known : (b : List ℕ) → MayBecome IsHeif b → AgreesAt b ftyp 4 × MayBeHeif b
-heif_known b (more, bytes, (box, h)) = (
-  grown_agrees b more ftyp 4 box.kind,
-  grind (
-    arith,
-    agrees_past b (codes "heic") 8,
-    grown_agrees b more (codes "heic") 8,
-    grown_agrees b more (codes "heix") 8,
-    grown_agrees b more (codes "mif1") 8,
-    grown_agrees b more (codes "msf1") 8,
-    compatible_known b more (codes "heic"),
-  ),
-)
+heif_known b (more, bytes, (box, h)) = grind (arith, grown_agrees b more, agrees_past b (codes "heic") 8, compatible_known b more (codes "heic"), grown_agrees b more ftyp 4 box.kind)
 
 abbrev pub MayBeAvif : List ℕ → Type 0
 MayBeAvif b =

@@ -1,5 +1,5 @@
 -- Skippable frames: where one stands at the front, and what is data after them.
-use Rattle.infer_deep.proofs.Common.{◌≡◌, ◌↔◌, ℕ, ◌+◌, ◌-◌, ◌<◌, ◌≤◌, ◌⊎◌, inl, inr, List, [], ◌∷◌, ◌++◌, length, get_or, take, drop, refl, sym, ap, subst, ◌∙◌, arith, length-append, IsTrue, take_at, take_rest, take-append-drop, length-take-le, get_or_append_left, le32, cases_lt, are_bytes, AgreesAt, Lasts, ComesWith, AreApart, IsEarly, MayBecome, nat_tests, SkipsTo, NoneBegins, BeginsWith, BeginsFrame, IsFrame, IsFramed, OccursAt}
+use Rattle.infer_deep.proofs.Common.{◌≡◌, ◌↔◌, ℕ, ◌+◌, ◌-◌, ◌<◌, ◌≤◌, ◌⊎◌, inl, inr, List, [], ◌∷◌, ◌++◌, length, get_or, take, drop, refl, sym, ap, ◌∙◌, arith, length-append, IsTrue, take_at, take_rest, take-append-drop, length-take-le, get_or_append_left, le32, cases_lt, are_bytes, AgreesAt, Lasts, ComesWith, AreApart, IsEarly, MayBecome, nat_tests, SkipsTo, NoneBegins, BeginsWith, BeginsFrame, IsFrame, IsFramed, OccursAt}
 use Rattle.infer_deep.specs.Laws.{BeginApart}
 use Rattle.infer_deep.proofs.OpenLemmas.{MayBecome-grown, agrees_none, agrees_past, agrees_where_stands, fills_parts, fills_text, grown_agrees, reaches_text}
 use Rattle.infer_deep.proofs.PlaceLemmas.{byte_stands, OccursAt-append, OccursAt-agree, OccursAt-first, OccursAt-front}
@@ -32,15 +32,10 @@ module _ (b word rest : List ℕ) (f : IsFrame word) (e : b ≡ word ++ rest) wh
 
 -- and what a frame begins begins as one
 IsFrame-begins : (b rest : List ℕ) → BeginsWith IsFrame b rest → BeginsFrame b
-IsFrame-begins b rest w =
-    subst BeginsFrame (sym w.whole) (grind (arith, OccursAt-append w.word rest (0x2A ∷ 0x4D ∷ 0x18 ∷ []) 1, get_or_append_left w.word rest 0 0))
+IsFrame-begins b rest w = grind (arith, nat_tests, OccursAt-append w.word rest (0x2A ∷ 0x4D ∷ 0x18 ∷ []) 1, get_or_append_left w.word rest 0 0)
 
 IsFrame-prefix_free : IsPrefixFree IsFrame
-IsFrame-prefix_free v w x y f g e =
-    let m = begun-length (v ++ x) v x f refl in
-    let n = begun-length (v ++ x) w y g e in
-    let long : length w ≡ length v = omega arith in
-    sym (take_at v x (length v) refl) ∙ ap (take (length v)) e ∙ take_at w y (length v) long
+IsFrame-prefix_free v w x y f g e = grind (arith, nat_tests, begun-length (v ++ x) v x f refl, begun-length (v ++ x) w y g e, take_at v x (length v) refl, take_at w y (length v))
 
 -- a frame of n bytes stands at the front
 pub frame_begins : (b : List ℕ) (n : ℕ)
@@ -50,14 +45,7 @@ frame_begins b n is begins fits =
     let long : length (take n b) ≡ n = length-take-le n b fits in
     let number : le32 b 4 ≡ le32 (take n b) 4
     = ap (λ u. le32 u 4) (sym split) ∙ le32-append (take n b) (drop n b) 4 (omega arith) in
-    record {
-      word = take n b;
-      kind = record {
-        begins = front_begins (take n b) (drop n b) (omega arith) (subst BeginsFrame (sym split) begins);
-        sized = omega arith;
-      };
-      whole = sym split ∙ ap (λ u. take n b ++ u) (sym (take_rest b n));
-    }
+    grind (arith, nat_tests, take-append-drop, length-take-le, le32-append, front_begins, take_rest)
 
 -- the first byte of a frame
 abbrev IsFrameByte : ℕ → Type 0
@@ -88,8 +76,7 @@ IsFramed-lead x magic b h =
 -- a magic number whose first byte is below 50 begins with no frame
 module _ (magic : List ℕ) (some : 0 < length magic) (low : get_or magic 0 0 < 0x50) where
   stands_stops : Stops (Stands magic) IsFrame
-  stands_stops b o =
-      NoneBegins-first IsFrame IsFrameByte IsFrame-begin b (λ f. let first = OccursAt-first b magic 0 some o in omega arith)
+  stands_stops b o = grind (arith, nat_tests, NoneBegins-first IsFrame IsFrameByte IsFrame-begin b, IsFrame-begin b, OccursAt-first b magic 0 some o)
 
   pub IsFramed-left : (b left : List ℕ) → SkipsTo IsFrame b left → NoneBegins IsFrame left → Stands magic left ↔ IsFramed magic b
   IsFramed-left = Behind-left IsFrame (Stands magic) IsFrame-prefix_free stands_stops
@@ -102,10 +89,7 @@ module _ (magic : List ℕ) (some : 0 < length magic) (low : get_or magic 0 0 < 
   is_framed_open bytes b left skips none =
       let reached = Behind-open IsFrame (Stands magic) IsFrame-prefix_free stands_stops
       ((reaches_text [] magic 0 bytes).0 (record { reads = λ k l m. absurd (omega arith) })) b left skips none in
-      let text = reaches_text left magic 0 bytes in (
-        λ h. reached.0 (elim h [ inl a ↦ inl (text.0 a) | inr f ↦ inr f ]),
-        λ h. elim (reached.1 h) [ inl t ↦ inl (text.1 t) | inr f ↦ inr f ],
-      )
+      grind (arith, nat_tests, Behind-open, IsFrame-prefix_free, stands_stops, reaches_text)
 
 -- two that differ in the first byte exclude each other
 pub IsFramed-apart : (v w : List ℕ)
@@ -132,18 +116,10 @@ record FirstByte (b : List ℕ) : Type 0 where
 
 first_byte : (b : List ℕ) → (0 < length b → IsFrameByte (get_or b 0 0)) → FirstByte b
 first_byte [] h = record { byte = 0x50; is = (omega arith, omega arith); agrees = agrees_past [] (0x50 ∷ []) 0 (omega arith) }
-first_byte (x ∷ b) h = record {
-  byte = x;
-  is = h (omega arith);
-  agrees = agrees_where_stands (x ∷ b) (x ∷ []) 0 (byte_stands (x ∷ b) x 0 (omega arith) refl);
-}
+first_byte (x ∷ b) h = grind (arith, nat_tests, agrees_where_stands (x ∷ b) (x ∷ []) 0, byte_stands (x ∷ b) x 0)
 
 within_frame : (b : List ℕ) → NoneBegins IsFrame b → BeginsFrame b → length b ≤ 8 + le32 b 4
-within_frame b none begins =
-    elim (cases_lt (length b) (8 + le32 b 4)) [
-      | inl l ↦ omega arith
-      | inr l ↦ let w = frame_begins b (8 + le32 b 4) refl begins l in absurd (none w.word _ w.kind w.whole)
-    ]
+within_frame b none begins = grind (arith, nat_tests, frame_begins b (8 + le32 b 4) refl begins)
 
 pub frame_reached : (b : List ℕ) → NoneBegins IsFrame b → (0 < length b → IsFrameByte (get_or b 0 0)) → AgreesAt b mark 1 → MayBecome IsFrame b
 frame_reached b none first agrees =

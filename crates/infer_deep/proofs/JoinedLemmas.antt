@@ -47,15 +47,12 @@ module _ (P : List ℕ → Type 0) where
 
   pub leads_past_repeat : (b word : List ℕ) (n : ℕ) → P word
       → OccursAt b (repeat n word) 0 → LeadsTo P b (take (length b - length (repeat n word)) (drop (length (repeat n word)) b))
-  leads_past_repeat b word n is o more s =
-      subst (λ u. SkipsTo P u more) (sym (begins-from_OccursAt b _ o)) (LeadsTo-repeat n word _ is more s)
+  leads_past_repeat b word n is o more s = grind (arith, begins-from_OccursAt b, LeadsTo-repeat n word)
 
   -- words after words
   SkipsTo-join : (words : List (List ℕ)) (b x y : List ℕ) → AllByRecursion P words → b ≡ concat words ++ x → SkipsTo P x y → SkipsTo P b y
   SkipsTo-join [] b x y all e s = subst (λ u. SkipsTo P u y) (sym e) s
-  SkipsTo-join (word ∷ words) b x y all e s =
-      SkipsTo-cons b (concat words ++ x) y (record { word = word; kind = all.0; whole = e ∙ append_assoc word (concat words) x })
-      (SkipsTo-join words (concat words ++ x) x y all.1 refl s)
+  SkipsTo-join (word ∷ words) b x y all e s = grind (arith, SkipsTo-cons b (concat words ++ x) y (record { word = word; kind = all.0; whole = e ∙ append_assoc word (concat words) x }), SkipsTo-join words (concat words ++ x) x y all.1 refl s)
 
   -- in a buffer that grows
   SkipsTo-append : (b rest more : List ℕ) → SkipsTo P b rest → SkipsTo P (b ++ more) (rest ++ more)
@@ -134,10 +131,7 @@ module _ (P S : List ℕ → Type 0) where
     )
 
     pub Behind-trimmed : (b left : List ℕ) → SkipsTo P b left → NoneBegins P left → Behind P S left ↔ Behind P S b
-    Behind-trimmed b left skips none =
-        let here = Behind-left left left (SkipsTo-none P left) none in
-        let there = Behind-left b left skips none in
-        (λ t. there.0 (here.1 t), λ t. here.0 (there.1 t))
+    Behind-trimmed b left skips none = grind (arith, Behind-left left left (SkipsTo-none P left) none, SkipsTo-none P left, Behind-left b left skips none)
 
     -- what excludes S after the words excludes such a buffer
     pub Behind-apart : (R : List ℕ → Type 0) → Stops R P → AreApart R S → AreApart (Behind P R) (Behind P S)

@@ -1,10 +1,10 @@
 -- The headers of an Office document: each is one place, and stays it in a buffer that grows.
-use Rattle.infer_deep.proofs.Common.{◌≡◌, ℕ, ◌+◌, ◌<◌, ◌≤◌, List, ◌++◌, Option, Some, None, length, refl, sym, ap, subst, ◌∙◌, inl, inr, arith, codes, min, take, drop, ◌-◌, ◌↔◌, unwrap_or, OccursAt, le32, IsWithin, IsFirstWithin, FindsPlace, IsEarly, ComesWith, zip_header, HasFolder, HasOfficeName, BeginsOffice, IsHeaderFrom, IsThirdHeader, DecidesBehind, IsDecidingHeader, IsDecidingPlace, IsOffice}
+use Rattle.infer_deep.proofs.Common.{◌≡◌, ℕ, ◌+◌, ◌<◌, ◌≤◌, List, ◌++◌, Option, Some, None, length, refl, sym, subst, ◌∙◌, inl, inr, arith, codes, min, take, drop, ◌-◌, ◌↔◌, unwrap_or, OccursAt, le32, IsWithin, IsFirstWithin, FindsPlace, IsEarly, ComesWith, zip_header, HasFolder, HasOfficeName, BeginsOffice, IsHeaderFrom, IsThirdHeader, DecidesBehind, IsDecidingHeader, IsDecidingPlace, IsOffice}
 use Rattle.infer_deep.proofs.NumberLemmas.{le32-append}
 use Rattle.infer_deep.proofs.PlaceLemmas.{Carries, IsUnique, IsFirstPlace-same, IsFirstPlace-append, OccursAt-append, OccursAt-front, OccursAt-part, stands_at_one}
 
 pub IsThirdHeader-one : (At : List ℕ → List ℕ → ℕ → Type 0) (b : List ℕ) → IsUnique (IsThirdHeader At b)
-IsThirdHeader-one At b p q t u = grind (arith, IsFirstPlace-same, zip_header)
+IsThirdHeader-one At b p q t u = grind (arith, IsFirstPlace-same)
 
 -- what the searches for the second and the third header tell of the third
 module _ (b : List ℕ) (start : ℕ) (is : start ≡ le32 b 18 + 49) where
@@ -41,8 +41,7 @@ pub IsDecidingPlace-one : (b : List ℕ) → IsUnique (IsDecidingPlace b)
 IsDecidingPlace-one b p q (_, inl h) (_, inl k) = h.1 ∙ sym k.1
 IsDecidingPlace-one b p q (_, inl h) (_, inr k) = absurd (k.0 h.0)
 IsDecidingPlace-one b p q (_, inr h) (_, inl k) = absurd (h.0 k.0)
-IsDecidingPlace-one b p q (_, inr (_, _, (x, f, e))) (_, inr (_, _, (y, g, d))) =
-    e ∙ ap (λ u. u + 30) (IsDecidingHeader-one b x y f g) ∙ sym d
+IsDecidingPlace-one b p q (_, inr (_, _, (x, f, e))) (_, inr (_, _, (y, g, d))) = grind (arith, IsDecidingHeader-one b x y f g)
 
 -- if no folder stands at the first header, the place is that of the header that decides, if any
 pub no_deciding : (b : List ℕ) (r : Option ℕ) → r ≡ None
@@ -64,12 +63,7 @@ folder_follows b folder None n some none is = (
   λ o. absurd (let ends = ((OccursAt-part b folder n (length b) 0 (omega arith) (omega arith)).0 o).1 in omega arith),
   λ (p, d, o). absurd (none p d),
 )
-folder_follows b folder (Some p) n some d is =
-    let part = OccursAt-part b folder n (length b) 0 (omega arith) (omega arith) in
-    let there = IsOffice-at b folder p d in (
-      λ o. let here = part.0 o in grind (arith, there),
-      λ office. let o = there.1 office in grind (arith, part),
-    )
+folder_follows b folder (Some p) n some d is = grind (arith, OccursAt-part b folder n (length b) 0, IsOffice-at b folder p d)
 
 -- what stands in one buffer and another
 module _ (b c : List ℕ) (n : ℕ) (carries : Carries n b c) where

@@ -75,19 +75,10 @@ pub record Fills (H : List ℕ → Type 0) (b : List ℕ) (end : ℕ) : Type 0 w
   pub short : length (b ++ more) ≤ max (length b) end
 
 pub fills_text : (b text : List ℕ) (p : ℕ) → IsTrue (are_bytes text) → AgreesAt b text p → Fills (λ c. OccursAt c text p) b (p + length text)
-fills_text b text p bytes a = record {
-  more = missing p text (length b);
-  bytes = bytes-missing p text (length b) (bytes_from_test text bytes);
-  holds = missing_stands b text p a;
-  long = omega (arith, (missing_stands b text p a).fits);
-  short = omega (arith, length-append b (missing p text (length b)), length-missing p text (length b));
-}
+fills_text b text p bytes a = grind (arith, bytes-missing p text (length b) (bytes_from_test text bytes), bytes_from_test text bytes, missing_stands b text p a, length-append b (missing p text (length b)), length-missing p text (length b))
 
 pub reaches_text : (b text : List ℕ) (p : ℕ) → IsTrue (are_bytes text) → AgreesAt b text p ↔ MayBecome (λ c. OccursAt c text p) b
-reaches_text b text p bytes = (
-  λ a. let f = fills_text b text p bytes a in (f.more, f.bytes, f.holds),
-  λ (more, all, o). grown_agrees b more text p o,
-)
+reaches_text b text p bytes = grind (arith, fills_text b text p bytes, grown_agrees b)
 
 -- a text with its place
 pub record Part : Type 0 where
@@ -117,15 +108,11 @@ end_after (x ∷ xs) n end l = let rest = end_after xs (x.place + length x.text)
 
 AllAgree-later : (xs : List Part) (b more : List ℕ) (n end : ℕ) → length (b ++ more) ≤ max (length b) n → LieApart n xs end → AllAgree xs b → AllAgree xs (b ++ more)
 AllAgree-later [] b more n end short l a = tt
-AllAgree-later (x ∷ xs) b more n end short l a = (
-  AgreesAt-later b more x.text n x.place short l.0 a.0,
-  AllAgree-later xs b more (x.place + length x.text) end (omega (arith, l.0)) l.2 a.1,
-)
+AllAgree-later (x ∷ xs) b more n end short l a = grind (arith, AgreesAt-later b more x.text n x.place short l.0 a.0, AllAgree-later xs b more (x.place + length x.text) end)
 
 -- parts that agree can be made to stand
 pub fills_parts : (xs : List Part) (b : List ℕ) (n end : ℕ) → LieApart n xs end → AllAgree xs b → Fills (AllStand xs) b end
-fills_parts [] b n end l a = let f = fills_text b [] end refl (agrees_none b end) in
-    record { more = f.more; bytes = f.bytes; holds = tt; long = omega (arith, f.long); short = omega (arith, f.short) }
+fills_parts [] b n end l a = grind (arith, fills_text b [] end refl (agrees_none b end), agrees_none b end)
 fills_parts (x ∷ xs) b n end l a =
     let first = fills_text b x.text x.place l.1 a.0 in
     let rest = fills_parts xs (b ++ first.more) (x.place + length x.text) end l.2
@@ -152,10 +139,7 @@ module _ (b text : List ℕ) (p : ℕ) (r : Bool) (e : r ≡ starts_with nat_eq 
   pub agrees_from_end : r ≡ true → AgreesAt b text p
   agrees_from_end is =
       let split = (starts_is Decides-eqb text (drop p b) r end_tested).0 is in
-      record {
-        reads = λ k in_text in_b.
-            sym (front_reads 0 text (drop p b) _ split k (omega (arith, length-drop p b)) ∙ get_or-drop p b k 0);
-      }
+      grind (arith, starts_is, Decides-eqb, end_tested, front_reads, length-drop, get_or-drop)
 
   pub end_from_agrees : AgreesAt b text p → r ≡ true
   end_from_agrees a = (starts_is Decides-eqb text (drop p b) r end_tested).1 _

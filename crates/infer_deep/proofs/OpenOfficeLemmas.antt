@@ -23,8 +23,7 @@ module _ (b more : List ℕ) (n : ℕ) (short : length (b ++ more) ≤ max (leng
   text_earlier text p some late o = OccursAt-front b more text p (let fits = o.fits in omega arith) o
 
   folder_earlier : (p : ℕ) → n ≤ p → HasFolder (b ++ more) p → HasFolder b p
-  folder_earlier p late h =
-      grind (arith, text_earlier (codes "word/") p, text_earlier (codes "ppt/") p, text_earlier (codes "xl/") p)
+  folder_earlier p late h = grind (arith, text_earlier (codes "word/") p, text_earlier (codes "ppt/") p, text_earlier (codes "xl/") p)
 
   behind_later : (f : List ℕ) (third : ℕ) → n ≤ third + 30 → MayDecideBehind f b third → MayDecideBehind f (b ++ more) third
   behind_later f third late (inl a) = inl (AgreesAt-later b more f n (third + 30) short late a)
@@ -56,17 +55,7 @@ is_office c f third header k d o =
 
 -- zeros end each folder that does not stand
 zeros_end : (c w : List ℕ) (n p k : ℕ) → length w ≡ k + 1 → get_or w k 0 ≡ 47 → (¬ OccursAt c w p) → ¬ OccursAt (c ++ replicate n 0) w p
-zeros_end c w n p k is slash free o =
-    elim (cases_lt (p + k) (length c)) [
-      | inl l ↦ free (OccursAt-front c (replicate n 0) w p (omega arith) o)
-      | inr l ↦
-          let zeros : List ℕ = replicate {A = ℕ} n 0 in
-          let fits = o.fits in
-          let within : p + k - length c < n = omega (arith, length-append c zeros, length-replicate {A = ℕ} n 0) in
-          let read = get_or-append_right c zeros (p + k) 0 l in
-          let zero_there = get_or-replicate {A = ℕ} n (p + k - length c) 0 0 within in
-          omega (arith, o.reads k (omega arith))
-    ]
+zeros_end c w n p k is slash free o = grind (arith, OccursAt-front c (replicate n 0) w p, length-append c, length-replicate {A = ℕ} n 0, get_or-append_right c, get_or-replicate {A = ℕ} n (p + k - length c) 0 0)
 
 module _ (f : List ℕ) (is : IsFolder f) where
   -- the third header decides, or the fourth
@@ -137,22 +126,13 @@ module _ (f : List ℕ) (is : IsFolder f) where
       MayBecome-grown (IsOffice f) c x.more x.bytes (MayBecome-grown (IsOffice f) d y.more y.bytes (third_reaches e third known behind_e))
 
   folder_reaches : (b : List ℕ) → AgreesAt b zip_header 0 → AgreesAt b f 30 → MayBecome (IsOffice f) b
-  folder_reaches b zip a =
-      let x = fills_parts (record { place = 0; text = zip_header } ∷ record { place = 30; text = f } ∷ []) b 0 (30 + length f)
-      (omega arith, refl, (omega arith, folder_bytes f is, omega arith)) (zip, (a, tt)) in
-      (x.more, x.bytes, (30, (x.holds.0, inl (folder_stands (b ++ x.more) f 30 is x.holds.1.0, refl)), x.holds.1.0))
+  folder_reaches b zip a = grind (arith, fills_parts (record { place = 0; text = zip_header } ∷ record { place = 30; text = f } ∷ []) b 0 (30 + length f), folder_bytes f is, folder_stands)
 
   -- a name is put where it agrees
   fills_name : (b : List ℕ) → HasOfficeName AgreesAt b → Fills (HasOfficeName OccursAt) b 49
-  fills_name b (inl a) =
-      let x = fills_parts (record { place = 30; text = codes "[Content_Types].xml" } ∷ []) b 0 49 (omega arith, refl, omega arith) (a, tt) in
-      record { more = x.more; bytes = x.bytes; holds = inl x.holds.0; long = x.long; short = x.short }
-  fills_name b (inr (inl a)) =
-      let x = fills_parts (record { place = 30; text = codes "_rels/.rels" } ∷ []) b 0 49 (omega arith, refl, omega arith) (a, tt) in
-      record { more = x.more; bytes = x.bytes; holds = inr (inl x.holds.0); long = x.long; short = x.short }
-  fills_name b (inr (inr a)) =
-      let x = fills_parts (record { place = 30; text = codes "docProps" } ∷ []) b 0 49 (omega arith, refl, omega arith) (a, tt) in
-      record { more = x.more; bytes = x.bytes; holds = inr (inr x.holds.0); long = x.long; short = x.short }
+  fills_name b (inl a) = grind (arith, fills_parts (record { place = 30; text = codes "[Content_Types].xml" } ∷ []) b 0 49)
+  fills_name b (inr (inl a)) = grind (arith, fills_parts (record { place = 30; text = codes "_rels/.rels" } ∷ []) b 0 49)
+  fills_name b (inr (inr a)) = grind (arith, fills_parts (record { place = 30; text = codes "docProps" } ∷ []) b 0 49)
 
   pub office_reached : (b : List ℕ) → AgreesAt b zip_header 0 → AgreesAt b f 30 ⊎ (HasOfficeName AgreesAt b × MayDecide f b) → MayBecome (IsOffice f) b
   office_reached b zip (inl a) = folder_reaches b zip a
@@ -228,7 +208,7 @@ name_known : (b more : List ℕ) → HasOfficeName OccursAt (b ++ more) → HasO
 name_known b more name = grind (arith, grown_agrees)
 
 pub office_known : (f b : List ℕ) → MayBecome (IsOffice f) b → AgreesAt b zip_header 0 × (AgreesAt b f 30 ⊎ (HasOfficeName AgreesAt b × MayDecide f b))
-office_known f b (more, bytes, (p, (zip, inl (folder, e)), o)) = grind (arith, grown_agrees, zip_header)
+office_known f b (more, bytes, (p, (zip, inl (folder, e)), o)) = grind (arith, grown_agrees)
 office_known f b (more, bytes, (p, (zip, inr (free, name, (header, d, e))), o)) = (
   grown_agrees b more zip_header 0 zip,
   elim (cases_lt 30 (length b)) [

@@ -55,8 +55,7 @@ module _ (P : ℕ → Type 0) (one : IsUnique P) (b : List ℕ) (at : ℕ → �
   -- and two texts that differ in a byte do not both
   pub apart_at_one : (v w : List ℕ) (i : ℕ) → i < length v → i < length w → (get_or v i 0 ≡ get_or w i 0 → ⊥)
       → ((p : ℕ) × P p × OccursAt b v (at p)) → ¬ ((p : ℕ) × P p × OccursAt b w (at p))
-  apart_at_one v w i in_v in_w differ (p, here, o) there =
-      differ (OccursAt-agree b v w (at p) i o ((stands_at_one w p here).1 there) in_v in_w)
+  apart_at_one v w i in_v in_w differ (p, here, o) there = grind (arith, OccursAt-agree b v w (at p) i o ((stands_at_one w p here).1 there) in_v in_w, stands_at_one w p here)
 
 -- a least place is one place, and stays it in a buffer that grows
 pub IsFirstPlace-same : (At : List ℕ → List ℕ → ℕ → Type 0) (b text : List ℕ) (start end : ℕ) → IsUnique (IsFirstPlace At b text start end)

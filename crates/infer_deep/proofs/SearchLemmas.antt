@@ -13,10 +13,7 @@ module _ (b text : List ℕ) (p : ℕ) (r : Bool) (e : r ≡ starts_with nat_eq 
   occurs_from_starts l is =
       let split = (starts_is Decides-eqb (drop p b) text r tested).0 is in
       let n = front_fits (drop p b) text _ split in
-      record {
-        fits = omega (arith, length-drop p b);
-        reads = at_reads 0 b text p _ split;
-      }
+      grind (arith, starts_is, Decides-eqb, front_fits, length-drop, at_reads)
 
   pub starts_from_occurs : OccursAt b text p → r ≡ true
   starts_from_occurs o =
@@ -64,8 +61,7 @@ module _ (b text : List ℕ) (rare start end m n : ℕ) (two : rare + 2 ≤ leng
   none_fits short = first_later None (λ p w. omega arith)
 
   pub first_here : (start + n + length text ≤ m) → OccursAt b text (start + n) → IsFirstWithin OccursAt b text start end (Some (start + n))
-  first_here fits o = first_later (Some (start + n))
-      (record { here = record { stands = o; low = omega arith; high = omega arith }; before = λ q lt w. omega arith })
+  first_here fits o = grind (arith, first_later (Some (start + n)))
 
   pub first_past : (r : Option ℕ) → ¬ OccursAt b text (start + n)
       → IsFirstWithin OccursAt b text (start + n + 1) end r → IsFirstWithin OccursAt b text start end r
@@ -74,9 +70,7 @@ module _ (b text : List ℕ) (rare start end m n : ℕ) (two : rare + 2 ≤ leng
 -- what a search of the rest says
 module _ (b text : List ℕ) (start end m : ℕ) (is : m ≡ min end (length b)) (l : start ≤ m) where
   in_rest : (q : ℕ) → IsWithin OccursAt b text start end q → OccursAt (take (m - start) (drop start b)) text (q - start)
-  in_rest q w =
-      let same : q ≡ start + (q - start) = omega (arith, w.low) in
-      (OccursAt-part b text start m (q - start) l (omega arith)).1 (subst (OccursAt b text) same w.stands, omega (arith, w.low, w.high, w.stands.fits))
+  in_rest q w = grind (arith, OccursAt-part b text start m (q - start) l)
 
   pub none_in_rest : Nowhere (OccursAt (take (m - start) (drop start b)) text) 0 (length (take (m - start) (drop start b)) + 1)
       → (p : ℕ) → ¬ IsWithin OccursAt b text start end p
@@ -94,17 +88,13 @@ module _ (b text : List ℕ) (start end m : ℕ) (is : m ≡ min end (length b))
 module _ (b text : List ℕ) (start from end m : ℕ) (is : m ≡ min end (length b)) (l : from ≤ m) (low : start ≤ from)
     (none : (q : ℕ) → q < from → ¬ IsWithin OccursAt b text start end q) (f : Finder) (of : IsPairFinderOf f text) where
   in_part : (q : ℕ) → from ≤ q → IsWithin OccursAt b text start end q → OccursAt (take (m - from) (drop from b)) text (q - from)
-  in_part q begun w =
-      let same : q ≡ from + (q - from) = omega arith in
-      (OccursAt-part b text from m (q - from) l (omega arith)).1 (subst (OccursAt b text) same w.stands, omega arith)
+  in_part q begun w = grind (arith, OccursAt-part b text from m (q - from) l)
 
   none_to : (k : ℕ) → Nowhere (HasPair f (take (m - from) (drop from b))) 0 k → (q : ℕ) → q < from + k → ¬ IsWithin OccursAt b text start end q
   none_to k lacks q lt w =
       let early = none q in
-      let pair = λ (begun : from ≤ q).
-      let o = in_part q begun w in
-      lacks (q - from) (omega arith) (omega arith)
-      (record { first = o.reads f.pair.index1 of.pair.first ∙ sym of.byte1; second = o.reads f.pair.index2 of.pair.second ∙ sym of.byte2 }) in
+      let pair = λ (begun : from ≤ q). (let o = in_part q begun w in lacks (q - from) (omega arith) (omega arith)
+      (record { first = o.reads f.pair.index1 of.pair.first ∙ sym of.byte1; second = o.reads f.pair.index2 of.pair.second ∙ sym of.byte2 })) in
       grind arith
 
   -- if there is no pair the text does not stand
@@ -117,10 +107,7 @@ module _ (b text : List ℕ) (start from end m : ℕ) (is : m ≡ min end (lengt
   -- a text that stands at the first pair is the first
   pub first_at_pair : (k n : ℕ) → NoneBefore (HasPair f (take (m - from) (drop from b))) 0 n k
       → OccursAt b text (from + k) × (from + k + length text ≤ m) → IsFirstPlace OccursAt b text start end (from + k)
-  first_at_pair k n h o = record {
-    here = record { stands = o.0; low = omega arith; high = omega arith };
-    before = none_to k h.before;
-  }
+  first_at_pair k n h o = grind (arith, none_to k h.before)
 
   -- and if none does, it does not stand there either
   pub none_past_pair : (k n : ℕ) → NoneBefore (HasPair f (take (m - from) (drop from b))) 0 n k

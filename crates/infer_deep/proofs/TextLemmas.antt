@@ -1,5 +1,5 @@
 -- White space, marks and tags: what a buffer begins with, and what is markup after them.
-use Rattle.infer_deep.proofs.Common.{◌≡◌, ◌↔◌, ℕ, suc, ◌+◌, ◌-◌, ◌<◌, ◌≤◌, ◌⊎◌, Bool, true, false, ◌&&◌, not, List, [], ◌∷◌, ◌++◌, length, get_or, take, drop, map, refl, sym, ap, subst, ◌∙◌, inl, inr, arith, eqb, ltb, length-append, min, IsTrue, take-append-drop, take_at, take_rest, get_or_append_left, get_or-take, get_or_at, take-append-le, drop_more, length-map, length-take-le, append_assoc, append-nil, map-append, take-map, take_all, All-append, All-drop, cases_lt, AllPass-from_list_all, eq-eqb, nat_tests, Any, codes, filter, OccursAt, AllBelow, are_bytes, AgreesAt, Lasts, AreApart, ComesWith, IsEarly, MayBecome, Behind, SkipsTo, LeadsTo, NoneBegins, BeginsWith, IsWhite, IsSpace, IsMark, IsSameInAnyCase, BeginsInAnyCase, BeginsMarked, BeginsWhite, BeginsWithTag, IsHtml, IsXml, tags, tags_with}
+use Rattle.infer_deep.proofs.Common.{◌≡◌, ◌↔◌, ℕ, suc, ◌-◌, ◌<◌, ◌≤◌, ◌⊎◌, Bool, true, false, List, [], ◌∷◌, ◌++◌, length, get_or, take, drop, refl, sym, ap, subst, ◌∙◌, inl, inr, arith, eqb, length-append, min, IsTrue, take-append-drop, take_at, take_rest, get_or_append_left, get_or-take, get_or_at, take-append-le, drop_more, length-map, length-take-le, append_assoc, append-nil, map-append, take-map, take_all, All-append, All-drop, cases_lt, AllPass-from_list_all, eq-eqb, nat_tests, Any, codes, filter, OccursAt, AllBelow, are_bytes, AgreesAt, Lasts, AreApart, ComesWith, IsEarly, MayBecome, Behind, SkipsTo, LeadsTo, NoneBegins, BeginsWith, IsWhite, IsSpace, IsMark, IsSameInAnyCase, BeginsInAnyCase, BeginsMarked, BeginsWhite, BeginsWithTag, IsHtml, IsXml, tags, tags_with}
 use Rattle.std.proofs.Math.ListN.{get_or-map}
 use Rattle.std.specs.Char.{to_ascii_lowercase}
 use Rattle.infer_deep.proofs.OpenLemmas.{MayBecome-here, bytes_from_test, fills_text, grown_agrees, stands_where_whole}
@@ -34,10 +34,7 @@ LeadsTo-white (x ∷ block) b all rest s =
 
 pub leads_past_block : (b c block rest : List ℕ) (n : ℕ)
     → LeadsTo IsSpace b c → n ≤ length c → block ≡ take n c → rest ≡ drop n c → AllBelow IsWhite block n → LeadsTo IsSpace b rest
-leads_past_block b c block rest n leads l p q all more s =
-    let long : length block ≡ n = ap length p ∙ length-take-le n c l in
-    let whole : block ++ rest ≡ c = ap (λ u. u ++ rest) p ∙ ap (λ u. take n c ++ u) q ∙ take-append-drop n c in
-    leads more (subst (λ u. LeadsTo IsSpace u rest) whole (LeadsTo-white block rest (λ k lt. all k (omega arith))) more s)
+leads_past_block b c block rest n leads l p q all more s = grind (arith, nat_tests, length-take-le n c l, take-append-drop n c, LeadsTo-white block rest)
 
 IsSpace-prefix_free : IsPrefixFree IsSpace
 IsSpace-prefix_free v w x y (a, f, p) (b, g, q) e = cc
@@ -69,9 +66,7 @@ front_in_any_case b text h = grind (arith, nat_tests, take_at, same_length)
 
 BeginsInAnyCase-byte : (b text : List ℕ) (i : ℕ)
     → i < length text → BeginsInAnyCase text b → to_ascii_lowercase (get_or b i 0) ≡ to_ascii_lowercase (get_or text i 0)
-BeginsInAnyCase-byte b text i l h =
-    ap to_ascii_lowercase (sym (get_or-take (length text) b i 0 l)) ∙ sym (get_or-map to_ascii_lowercase (take (length text) b) i 0)
-    ∙ ap (λ u. get_or u i 0) (front_in_any_case b text h) ∙ get_or-map to_ascii_lowercase text i 0
+BeginsInAnyCase-byte b text i l h = grind (arith, nat_tests, get_or-take (length text) b i 0 l, get_or-map to_ascii_lowercase (take (length text) b) i 0, front_in_any_case b text h, get_or-map to_ascii_lowercase text i 0)
 
 BeginsInAnyCase-lasts : (text : List ℕ) → Lasts (BeginsInAnyCase text)
 BeginsInAnyCase-lasts text b more h =
@@ -82,23 +77,14 @@ BeginsInAnyCase-front b more text l h = grind (arith, nat_tests, begins_in_any_c
 
 -- a byte that is "<" in lower case is "<"
 BeginsInAnyCase-open : (b text : List ℕ) → 0 < length text → get_or text 0 0 ≡ 0x3C → BeginsInAnyCase text b → get_or b 0 0 ≡ 0x3C
-BeginsInAnyCase-open b text l first h =
-    let same : to_ascii_lowercase (get_or b 0 0) ≡ 0x3C = BeginsInAnyCase-byte b text 0 l h ∙ ap to_ascii_lowercase first in
-    grind (arith, nat_tests)
+BeginsInAnyCase-open b text l first h = grind (arith, nat_tests, BeginsInAnyCase-byte b text 0 l h)
 
 -- a tag, from its text and the byte after it
 pub tag_from_text : (b tag : List ℕ) → length tag < length b
     → (get_or b (length tag) 0 ≡ 0x20) ⊎ (get_or b (length tag) 0 ≡ 0x3E) → BeginsInAnyCase tag b → BeginsWithTag tag b
 tag_from_text b tag l closes h =
     let n = length tag in
-    record {
-      word = take n b;
-      end = get_or b n 0;
-      rest = drop (n + 1) b;
-      same = front_in_any_case b tag h;
-      closes = closes;
-      whole = sym (take-append-drop n b) ∙ ap (λ u. take n b ++ u) (drop_more b n 0 l);
-    }
+    grind (arith, nat_tests, front_in_any_case b tag h, take-append-drop n b, drop_more b n 0 l)
 
 pub text_of_tag : (b tag : List ℕ) → BeginsWithTag tag b → BeginsInAnyCase tag b
 text_of_tag b tag h = record { word = h.word; rest = h.end ∷ h.rest; same = h.same; whole = h.whole }
@@ -111,16 +97,12 @@ abbrev pub HasXml : List ℕ → Type 0
 HasXml b = BeginsInAnyCase (codes "<?xml") b
 
 -- each tag is short, and begins with "<" and then with no "?"
-abbrev opens : List ℕ → Bool
-opens tag = ltb (length tag) 1000 && (ltb 1 (length tag) && (eqb (get_or tag 0 0) 0x3C && not (eqb (to_ascii_lowercase (get_or tag 1 0)) 0x3F)))
-
 tag_opens : (k : ℕ) (tag : List ℕ) → k < length tags → get_or tags k tag ≡ tag
     → (length tag < 1000) × (1 < length tag) × (get_or tag 0 0 ≡ 0x3C) × (to_ascii_lowercase (get_or tag 1 0) ≡ 0x3F → ⊥)
 tag_opens k tag l e = grind (arith, nat_tests, AllPass-from_list_all)
 
 pub HasTag-open : (b : List ℕ) → HasTag b → get_or b 0 0 ≡ 0x3C
-HasTag-open b (k, tag, l, e, h) =
-    let o = tag_opens k tag l e in BeginsInAnyCase-open b tag (omega arith) o.2 (text_of_tag b tag h)
+HasTag-open b (k, tag, l, e, h) = grind (arith, nat_tests, tag_opens k tag l e, BeginsInAnyCase-open b tag, text_of_tag b tag h)
 
 -- some element of a list is the first or one of the rest
 module _ {X : Type 0} (P : X → Type 0) (x : X) (xs : List X) where
@@ -170,19 +152,14 @@ HasTag-second b =
     (λ tag h long. sym (BeginsInAnyCase-byte b tag 1 long (text_of_tag b tag h)))
 
 pub HasTag-long : (b : List ℕ) → HasTag b → 1 < length b
-HasTag-long b (k, tag, l, e, h) =
-    let o = tag_opens k tag l e in
-    let n = same_length h.word tag h.same in
-    omega (arith, o.1, n, ap length h.whole, length-append h.word (h.end ∷ h.rest))
+HasTag-long b (k, tag, l, e, h) = grind (arith, nat_tests, tag_opens k tag l e, same_length h.word tag h.same, length-append h.word (h.end ∷ h.rest))
 
 HasXml-open : (b : List ℕ) → HasXml b → get_or b 0 0 ≡ 0x3C
 HasXml-open b h = BeginsInAnyCase-open b (codes "<?xml") (omega arith) refl h
 
 -- a buffer begins in no two ways
 HasTag-apart_xml : AreApart HasTag HasXml
-HasTag-apart_xml b (k, tag, l, e, h) x =
-    let o = tag_opens k tag l e in
-    o.3 (sym (BeginsInAnyCase-byte b tag 1 o.1 (text_of_tag b tag h)) ∙ BeginsInAnyCase-byte b (codes "<?xml") 1 (omega arith) x)
+HasTag-apart_xml b (k, tag, l, e, h) x = grind (arith, nat_tests, tag_opens k tag l e, BeginsInAnyCase-byte b tag 1, text_of_tag b tag h, BeginsInAnyCase-byte b (codes "<?xml") 1)
 
 -- in a buffer that grows, and in its front
 HasTag-lasts : Lasts HasTag
@@ -215,8 +192,7 @@ IsMarkedXml-lead : (b : List ℕ) → IsMarkedXml b → IsMarkByte (get_or b 0 0
 IsMarkedXml-lead = Behind-lead IsMark HasXml IsMarkByte (λ x. x ≡ 0x3C) IsMark-begin HasXml-open
 
 IsMarkedXml-stops : Stops IsMarkedXml IsSpace
-IsMarkedXml-stops b h =
-    let first = IsMarkedXml-lead b h in NoneBegins-first IsSpace IsWhite IsSpace-begin b (λ white. absurd (omega arith))
+IsMarkedXml-stops b h = grind (arith, nat_tests, IsMarkedXml-lead b h, NoneBegins-first IsSpace IsWhite IsSpace-begin b, IsSpace-begin b)
 
 IsMarkedXml-left : (b left : List ℕ) → SkipsTo IsMark b left → NoneBegins IsMark left → HasXml left ↔ IsMarkedXml b
 IsMarkedXml-left = Behind-left IsMark HasXml IsMark-prefix_free (λ b h. NoneBegins-mark b (HasXml-open b h))
@@ -247,8 +223,7 @@ pub IsHtml-lasts : Lasts IsHtml
 IsHtml-lasts = Behind-lasts IsSpace HasTag HasTag-lasts
 
 pub IsXml-lasts : Lasts IsXml
-IsXml-lasts = Behind-lasts IsSpace IsMarkedXml
-    (Behind-lasts IsMark HasXml (BeginsInAnyCase-lasts _))
+IsXml-lasts = grind (arith, nat_tests, Behind-lasts IsSpace IsMarkedXml (Behind-lasts IsMark HasXml (BeginsInAnyCase-lasts _)), Behind-lasts IsMark HasXml (BeginsInAnyCase-lasts _), BeginsInAnyCase-lasts)
 
 -- the first byte
 pub IsHtml-lead : (b : List ℕ) → IsHtml b → IsWhite (get_or b 0 0) ⊎ (get_or b 0 0 ≡ 0x3C)
@@ -263,9 +238,7 @@ pub BeginsWhite-early : IsEarly BeginsWhite
 BeginsWhite-early b more long w = subst IsWhite (get_or_append_left b more 0 0 (omega arith)) w
 
 pub BeginsMarked-early : IsEarly BeginsMarked
-BeginsMarked-early b more long (mark, is, o) =
-    let short : length mark ≤ 3 = grind arith in
-    (mark, is, OccursAt-front b more mark 0 (omega arith) o)
+BeginsMarked-early b more long (mark, is, o) = grind (arith, nat_tests, OccursAt-front b more mark 0)
 
 white_begins : (b more rest : List ℕ) → 1024 ≤ length b → BeginsWith IsSpace (b ++ more) rest → BeginsWhite b
 white_begins b more rest long w = BeginsWhite-early b more long (begun-first IsSpace IsWhite IsSpace-begin (b ++ more) rest w)
@@ -286,39 +259,17 @@ same_front word text n h = sym (take-map to_ascii_lowercase n word) ∙ ap (take
 
 same_filled : (b text : List ℕ) (n : ℕ) → length b ≤ length text → n ≡ min (length b) (length text)
     → IsSameInAnyCase (take n b) (take n text) → IsSameInAnyCase (b ++ drop n text) text
-same_filled b text n l is h =
-    map-append to_ascii_lowercase b (drop n text)
-    ∙ ap (λ u. map to_ascii_lowercase u ++ map to_ascii_lowercase (drop n text)) (sym (take_all n b (omega arith)))
-    ∙ ap (λ u. u ++ map to_ascii_lowercase (drop n text)) h
-    ∙ sym (map-append to_ascii_lowercase (take n text) (drop n text))
-    ∙ ap (map to_ascii_lowercase) (take-append-drop n text)
+same_filled b text n l is h = grind (arith, nat_tests, map-append to_ascii_lowercase b (drop n text), take_all n b, map-append to_ascii_lowercase (take n text) (drop n text), take-append-drop n text)
+
+pub text_reached : (b tag : List ℕ) → MayBecome (BeginsWithTag tag) b → MayBecome (BeginsInAnyCase tag) b
+text_reached b tag (more, bytes, h) = (more, bytes, text_of_tag (b ++ more) tag h)
 
 module _ (b text : List ℕ) (n : ℕ) (is : n ≡ min (length b) (length text)) where
   pub known_from_reached : MayBecome (BeginsInAnyCase text) b → IsSameInAnyCase (take n b) (take n text)
-  known_from_reached (more, bytes, h) =
-      let long = same_length h.word text h.same in
-      let front : take n b ≡ take n h.word
-      = sym (take-append-le n b more (omega arith)) ∙ ap (take n) h.whole ∙ take-append-le n h.word h.rest (omega arith) in
-      ap (map to_ascii_lowercase) front ∙ same_front h.word text n h.same
+  known_from_reached (more, bytes, h) = grind (arith, nat_tests, same_length h.word text h.same, take-append-le n b more, take-append-le n h.word h.rest, same_front h.word text n h.same)
 
   whole_from_known : length text < length b → IsSameInAnyCase (take n b) (take n text) → BeginsInAnyCase text b
   whole_from_known l h = grind (arith, nat_tests, begins_in_any_case, take_all)
-
-  pub reached_from_known : IsTrue (are_bytes text) → IsSameInAnyCase (take n b) (take n text) → MayBecome (BeginsInAnyCase text) b
-  reached_from_known bytes h =
-      elim (cases_lt (length text) (length b)) [
-        | inl l ↦ MayBecome-here (BeginsInAnyCase text) b (whole_from_known l h)
-        | inr l ↦ (
-          drop n text,
-          All-drop (λ x. x < 256) n text (bytes_from_test text bytes),
-          record {
-            word = b ++ drop n text;
-            rest = [];
-            same = same_filled b text n l is h;
-            whole = sym (append-nil (b ++ drop n text));
-          },
-        )
-      ]
 
   tag_filled : IsTrue (are_bytes text) → IsSameInAnyCase (take n b) (take n text)
       → (length text < length b → (get_or b (length text) 0 ≡ 0x20) ⊎ (get_or b (length text) 0 ≡ 0x3E)) → MayBecome (BeginsWithTag text) b
@@ -339,14 +290,14 @@ module _ (b text : List ℕ) (n : ℕ) (is : n ≡ min (length b) (length text))
         )
       ]
 
+  pub reached_from_known : IsTrue (are_bytes text) → IsSameInAnyCase (take n b) (take n text) → MayBecome (BeginsInAnyCase text) b
+  reached_from_known bytes h = grind (arith, nat_tests, MayBecome-here (BeginsInAnyCase text) b, whole_from_known, text_reached b text, tag_filled bytes h)
+
 -- a tag can come where its text can, unless another byte follows it
 pub tag_reached : (b tag : List ℕ) → IsTrue (are_bytes tag) → MayBecome (BeginsInAnyCase tag) b
     → (length tag < length b → (get_or b (length tag) 0 ≡ 0x20) ⊎ (get_or b (length tag) 0 ≡ 0x3E)) → MayBecome (BeginsWithTag tag) b
 tag_reached b tag bytes h closes =
     let n = min (length b) (length tag) in tag_filled b tag n refl bytes (known_from_reached b tag n refl h) closes
-
-pub text_reached : (b tag : List ℕ) → MayBecome (BeginsWithTag tag) b → MayBecome (BeginsInAnyCase tag) b
-text_reached b tag (more, bytes, h) = (more, bytes, text_of_tag (b ++ more) tag h)
 
 pub tag_closed : (b tag : List ℕ) → MayBecome (BeginsWithTag tag) b → length tag < length b
     → (get_or b (length tag) 0 ≡ 0x20) ⊎ (get_or b (length tag) 0 ≡ 0x3E)

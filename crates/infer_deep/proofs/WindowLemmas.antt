@@ -1,17 +1,15 @@
 -- Windows: they last, and the first 1024 bytes decide.
-use Rattle.infer_deep.proofs.Common.{IsTrue, ◌≡◌, ◌↔◌, ℕ, ◌+◌, ◌≤◌, List, [], ◌∷◌, ◌++◌, length, take, drop, max, refl, true, Option, Some, None, inl, inr, sym, subst, arith, length-append, take-append-drop, length-take-le, cases_lt, false≢true, is_some, OccursAt, IsFirstWithin, are_bytes, AgreesAt, Lasts, IsNear, MayBecome, StandsBy, IsMatroska}
+use Rattle.infer_deep.proofs.Common.{IsTrue, ◌≡◌, ◌↔◌, ℕ, ◌+◌, ◌≤◌, List, [], ◌∷◌, ◌++◌, length, max, refl, true, Option, Some, None, inl, inr, arith, length-append, take-append-drop, length-take-le, cases_lt, false≢true, is_some, OccursAt, IsFirstWithin, are_bytes, AgreesAt, Lasts, IsNear, MayBecome, StandsBy, IsMatroska}
 use Rattle.infer_deep.proofs.PlaceLemmas.{OccursAt-append, OccursAt-front}
 use Rattle.infer_deep.proofs.OpenLemmas.{agrees_past, grown_agrees, stands_where_whole, fills_text, fills_parts}
 
 pub StandsBy-lasts : (text : List ℕ) (end : ℕ) → Lasts (StandsBy text end)
-StandsBy-lasts text end b more (p, w) =
-    (p, record { stands = OccursAt-append b more text p w.stands; low = w.low; high = w.high })
+StandsBy-lasts text end b more (p, w) = grind (arith, OccursAt-append b more text p w.stands)
 
 -- it stands in a front that reaches the end of the window
 pub StandsBy-front : (text : List ℕ) (end : ℕ) (b more : List ℕ)
     → end ≤ length b → StandsBy text end (b ++ more) → StandsBy text end b
-StandsBy-front text end b more l (p, w) =
-    (p, record { stands = OccursAt-front b more text p (omega arith) w.stands; low = w.low; high = w.high })
+StandsBy-front text end b more l (p, w) = grind (arith, OccursAt-front b more text p)
 
 pub IsMatroska-lasts : (doc_type : List ℕ) → Lasts (IsMatroska doc_type)
 IsMatroska-lasts doc_type b more h =
@@ -20,11 +18,7 @@ IsMatroska-lasts doc_type b more h =
 -- what lasts is near, if the first 1024 bytes of a yes say yes
 pub near_from_growth : (S : List ℕ → Type 0) → Lasts S
     → ((b more : List ℕ) → length b ≡ 1024 → S (b ++ more) → S b) → IsNear S
-near_from_growth S lasts front b l =
-    let split : take 1024 b ++ drop 1024 b ≡ b = take-append-drop 1024 b in (
-      λ h. front (take 1024 b) (drop 1024 b) (length-take-le 1024 b l) (subst S (sym split) h),
-      λ h. subst S split (lasts (take 1024 b) (drop 1024 b) h),
-    )
+near_from_growth S lasts front b l = grind (arith, take-append-drop 1024 b, length-take-le 1024 b l)
 
 -- whether there is a least place says whether there is one
 pub found_stands : (b text : List ℕ) (end : ℕ) (r : Option ℕ)
@@ -34,8 +28,7 @@ found_stands b text end (Some p) h = (λ is. (p, h.here), λ is. refl)
 
 -- a text can come to stand where it agrees, so it can after a buffer that leaves room for it
 pub reach_window : (text : List ℕ) (end : ℕ) (b : List ℕ) (p : ℕ) → IsTrue (are_bytes text) → p + length text ≤ end → AgreesAt b text p → MayBecome (StandsBy text end) b
-reach_window text end b p bytes high a =
-    let f = fills_text b text p bytes a in (f.more, f.bytes, (p, record { stands = f.holds; low = omega arith; high = high }))
+reach_window text end b p bytes high a = grind (arith, fills_text b text p bytes a)
 
 pub room_reaches : (b text : List ℕ) (end : ℕ) → IsTrue (are_bytes text) → length b + length text ≤ end → MayBecome (StandsBy text end) b
 room_reaches b text end bytes room = reach_window text end b (length b) bytes room (agrees_past b text (length b) (omega arith))

@@ -19,9 +19,7 @@ agrees_by_place place t buf = grind (arith, nat_tests, stands_by_place, length-t
 
 module _ (buf more : List ℕ) where
   agrees_front : (place : ℕ) (t : List ℕ) → IsTrue (stands place t (buf ++ more)) → IsTrue (agrees place t buf)
-  agrees_front place t h =
-      let by_place = (stands_by_place place t (buf ++ more)).0 h in
-      (agrees_by_place place t buf).1 (AgreesAt-front buf more t place (record { reads = λ k l m. (by_place k l).1 }))
+  agrees_front place t h = grind (arith, nat_tests, stands_by_place place t (buf ++ more), agrees_by_place place t buf, AgreesAt-front buf more t place)
 
   part_front : (part : Part) → IsTrue (has_part (buf ++ more) part) → IsTrue (may_have buf part)
   part_front h0 h = grind (arith, nat_tests, agrees_front, list_any_passes, get_or_append_left)
@@ -50,30 +48,15 @@ filled_text buf place t bytes h = grind (arith, nat_tests, agrees_by_place, stan
 filled_any_text : (buf : List ℕ) (place : ℕ) (ts : List (List ℕ)) → IsTrue (list_all are_bytes ts)
     → IsTrue (may_have buf (any_text place ts)) → Filling buf (any_text place ts)
 filled_any_text buf place [] possible h = absurd (cc)
-filled_any_text buf place (t ∷ ts) possible h =
-    let each = and_parts (are_bytes t) _ possible in
-    elim (or_cases (agrees place t buf) _ h) [
-      | inl here ↦
-          let f = filled_text buf place t each.0 here in
-          record { filling = f.filling; bytes = f.bytes; agrees = f.agrees; fills = λ more o. grind (arith, nat_tests, f.fills more); ends = λ n within. grind (arith, nat_tests, f.ends n) }
-      | inr later ↦
-          let f = filled_any_text buf place ts each.1 later in
-          record { filling = f.filling; bytes = f.bytes; agrees = f.agrees; fills = λ more o. grind (arith, nat_tests, f.fills more); ends = λ n within. grind (arith, nat_tests, f.ends n) }
-    ]
+filled_any_text buf place (t ∷ ts) possible h = grind (arith, nat_tests, and_parts (are_bytes t), or_cases (agrees place t buf), filled_text buf place t, filled_any_text buf place ts)
 
 some_listed : (xs : List ℕ) → IsTrue (list_any (λ x. ltb x 256) xs) → (x : ℕ) × IsTrue (ltb x 256) × IsTrue (list_any (λ y. eqb x y) xs)
 some_listed [] h = absurd (cc)
-some_listed (x ∷ xs) h =
-    elim (or_cases (ltb x 256) _ h) [
-      | inl here ↦ (x, here, or_left (eqb x x) _ (eq-eqb x x refl))
-      | inr later ↦ let s = some_listed xs later in (s.0, s.1, or_right (eqb s.0 x) _ s.2)
-    ]
+some_listed (x ∷ xs) h = grind (arith, nat_tests, or_cases (ltb x 256), or_left (eqb x x), eq-eqb x x refl, some_listed xs, or_right)
 
 some_byte : (set : Bytes) → IsTrue (has_byte set) → (x : ℕ) × IsTrue (ltb x 256) × IsTrue (allows set x)
 some_byte (any_of xs) h = some_listed xs h
-some_byte (between low high) h =
-    let both = and_parts (leb low high) _ h in
-    (low, both.1, and_from (leb low low) _ (le-leb low low (omega arith)) both.0)
+some_byte (between low high) h = grind (arith, nat_tests, and_parts (leb low high), and_from (leb low low), le-leb low low)
 some_byte (all_but zero) h = (1, refl, refl)
 some_byte (all_but (suc y)) h = (0, refl, ap not (ne_eqb 0 (suc y) (λ same. omega arith)))
 

@@ -21,12 +21,7 @@ front_made (c ∷ t) (x ∷ xs) h =
 
 pub stands_by_place : (place : ℕ) (t buf : List ℕ) → IsTrue (stands place t buf) ↔ StandsByPlace place t buf
 unfolding stands
-stands_by_place place t buf = (
-  λ h k l. let here = front_read t (drop place buf) h k l in
-      (omega (arith, here.0, length-drop place buf), sym (get_or-drop place buf k 0) ∙ here.1),
-  λ h. front_made t (drop place buf)
-      (λ k l. let here = h k l in (omega (arith, here.0, length-drop place buf), get_or-drop place buf k 0 ∙ here.1)),
-)
+stands_by_place place t buf = grind (arith, front_read t (drop place buf), length-drop place buf, get_or-drop place buf, front_made t (drop place buf))
 
 -- it stands there however the buffer goes on
 pub stands_lasts : (place : ℕ) (t buf more : List ℕ)

@@ -1,9 +1,9 @@
 -- The laws of a signature, from its parts up.
-use Rattle.infer_deep.proofs.Common.{◌≡◌, ℕ, ◌≤◌, List, ◌∷◌, ◌++◌, length, take, sym, subst, arith, ltb, leb, IsTrue, get_or-take, and_parts, and_from, leb-true, ltb-true, nat_tests, get_or_append_left}
+use Rattle.infer_deep.proofs.Common.{◌≡◌, ℕ, ◌≤◌, List, ◌∷◌, ◌++◌, length, take, arith, ltb, leb, IsTrue, get_or-take, and_parts, and_from, leb-true, ltb-true, nat_tests, get_or_append_left, sym, subst}
 use Rattle.std.proofs.lemmas.Grind.{common_steps}
 use Rattle.infer_sig.proofs.ListLemmas.{list_any_passes, list_all_passes, list_any_same, list_all_same}
 use Rattle.infer_sig.proofs.PlaceLemmas.{stands_lasts, stands-take}
-use Rattle.infer_sig.specs.Signature.{Alternative, at_least, Part, text, byte, any_text, allows, has_part, fits, stands}
+use Rattle.infer_sig.specs.Signature.{Alternative, at_least, Part, text, byte, any_text, has_part, fits, stands}
 use Rattle.infer_sig.specs.Laws.{Lasts, DependsOnFront, Leads, is_part_within, is_alternative_within, is_within, text_lead, part_lead, alternative_lead}
 
 -- ---- a buffer that goes on
@@ -11,18 +11,10 @@ use Rattle.infer_sig.specs.Laws.{Lasts, DependsOnFront, Leads, is_part_within, i
 pub part_lasts : (buf more : List ℕ) (part : Part) → IsTrue (has_part buf part) → IsTrue (has_part (buf ++ more) part)
 part_lasts buf more (text place t) h = stands_lasts place t buf more h
 part_lasts buf more (any_text place ts) h = list_any_passes _ _ (λ t. stands_lasts place t buf more) ts h
-part_lasts buf more (byte place set) h =
-    let parts = and_parts (ltb place (length buf)) _ h in
-    let in_front = ltb-true place (length buf) parts.0 in
-    let still : IsTrue (ltb place (length (buf ++ more))) = grind (arith, nat_tests, common_steps) in
-    let same = get_or_append_left buf more 0 place in_front in
-    and_from (ltb place (length (buf ++ more))) _ still (subst (λ x. IsTrue (allows set x)) (sym same) parts.1)
+part_lasts buf more (byte place set) h = grind (arith, nat_tests, and_parts (ltb place (length buf)), ltb-true place (length buf), common_steps, get_or_append_left buf more 0 place, and_from (ltb place (length (buf ++ more))))
 
 alternative_lasts : (buf more : List ℕ) (a : Alternative) → IsTrue (fits buf a) → IsTrue (fits (buf ++ more) a)
-alternative_lasts buf more (at_least least parts) h =
-    let both = and_parts (leb least (length buf)) _ h in
-    let still : IsTrue (leb least (length (buf ++ more))) = grind (arith, nat_tests, common_steps) in
-    and_from (leb least (length (buf ++ more))) _ still (list_all_passes _ _ (part_lasts buf more) parts both.1)
+alternative_lasts buf more (at_least least parts) h = grind (arith, nat_tests, and_parts (leb least (length buf)), common_steps, and_from (leb least (length (buf ++ more))), list_all_passes, part_lasts buf more)
 
 pub signature_lasts : (s : List Alternative) → Lasts s
 signature_lasts s buf more h = list_any_passes _ _ (alternative_lasts buf more) s h

@@ -1,13 +1,10 @@
 -- A final verdict stays final.
-use Rattle.infer_sniff.proofs.Common.{◌≡◌, ◌↔◌, ℕ, ◌<◌, ◌≤◌, Bool, leb, List, [], ◌++◌, length, get_or, refl, sym, ap, subst, ◌∙◌, inl, inr, Option, None, Some, arith, IsTrue, length-append, cases_lt, nat_tests, append_assoc, slice_get-get_or, option_map, IsAwaited, last_awaited, NewcomersAreAwaited, BuiltIn, fixed, avif, doc, framed, heif, html, matroska, office, pdf, ppt, xls, xml, IsAccepted, IsAnswer, IsFirstOf, IsNotLater, Lasts, Row, Accepts, row, signature_of, table, Triple, triple_of, Holds, bound, Case, OpenBox, Compound, Office, Frame, Space, Mark, AreAlike, StaysFinalFromBeginning, IsTypeOf, IsSettled, IsVerdict, StaysFinal, RowStaysFinal, Verdict, SoFar, Final}
+use Rattle.infer_sniff.proofs.Common.{◌≡◌, ◌↔◌, ℕ, ◌<◌, ◌≤◌, Bool, leb, List, ◌++◌, length, get_or, sym, ap, subst, ◌∙◌, inl, inr, Option, None, Some, arith, IsTrue, length-append, cases_lt, nat_tests, append_assoc, slice_get-get_or, IsAwaited, last_awaited, NewcomersAreAwaited, BuiltIn, IsAccepted, IsAnswer, IsFirstOf, IsNotLater, Lasts, Row, Accepts, row, signature_of, table, Triple, Holds, bound, Case, OpenBox, Compound, Office, Frame, Space, Mark, AreAlike, StaysFinalFromBeginning, IsTypeOf, IsSettled, IsVerdict, StaysFinal, RowStaysFinal, Verdict, SoFar, Final}
 use Rattle.infer.specs.DeepLaws.{Beginnings}
 use Rattle.infer.specs.declared.table.rows.TheConstants.{ROW_COUNT}
 use Rattle.infer.specs.declared.table.file_type.FileType.{FileType}
-use Rattle.infer.specs.declared.table.file_type.MatcherType.TheVariants.{Text}
-
--- any row
-some_row : Row BuiltIn
-some_row = row Text [] [] html
+use Rattle.infer.proofs.FirstLemmas.{IsFirstOf-same, same_answer}
+use Rattle.infer.proofs.OrderLemmas.{some_row}
 
 -- a row accepts a buffer whatever is read for a row that is not there
 module _ (buf : List ℕ) (i : ℕ) (lt : i < length table) where
@@ -25,22 +22,9 @@ first_by : (buf : List ℕ) (o : Option ℕ) (i : ℕ)
 first_by buf None i none lt h = none i some_row (omega arith) lt (accepts_from buf i lt some_row h)
 first_by buf (Some j) i first lt h = elim (cases_lt i j) [ inl l ↦ absurd (first.before i some_row (omega arith) l (accepts_from buf i lt some_row h)) | inr le ↦ le ]
 
--- two first rows of a buffer are the same
-same_first : (buf : List ℕ) (o p : Option ℕ) → IsFirstOf (Accepts buf) table o → IsFirstOf (Accepts buf) table p → IsNotLater o p
-same_first buf o None first then = tt
-same_first buf o (Some i) first then = first_by buf o i first then.within (accepts_at buf i then.within some_row (then.here some_row))
-
-same_answer : (buf : List ℕ) (o p : Option Triple) → IsAnswer (Accepts buf) table o → IsAnswer (Accepts buf) table p → o ≡ p
-same_answer buf None None h k = refl
-same_answer buf None (Some u) none (j, then, shows) = absurd (none j some_row (omega arith) then.within (then.here some_row))
-same_answer buf (Some t) None (i, first, shown) none = absurd (none i some_row (omega arith) first.within (first.here some_row))
-same_answer buf (Some t) (Some u) (i, first, shown) (j, then, shows) =
-    let same : i ≡ j = omega (arith, same_first buf (Some i) (Some j) first then, same_first buf (Some j) (Some i) then first) in
-    ap Some (sym (shown some_row) ∙ ap (λ k. (get_or table k some_row).shows) same ∙ shows some_row)
-
 -- one buffer has one verdict
 pub alike : (b : List ℕ) (v w : Verdict) → IsVerdict b v → IsVerdict b w → AreAlike v w
-alike b h1 h2 h k = grind (arith, nat_tests, same_answer)
+alike b h1 h2 h k = grind (arith, nat_tests, same_answer (Accepts b) table)
 
 later : (o p q : Option ℕ) → IsNotLater o p → IsNotLater p q → IsNotLater o q
 later h0 h1 h2 h k = grind (arith, nat_tests)
@@ -48,7 +32,7 @@ later h0 h1 h2 h k = grind (arith, nat_tests)
 -- a buffer of at least 1024 bytes is settled by the case that holds and has the least bound
 module _ (b : List ℕ) (long : 1024 ≤ length b) (case : Case) (holds : Holds case b) (least : (other : Case) → Holds other b → bound case ≤ bound other) where
   settled_within : (o : Option ℕ) → IsFirstOf (Accepts b) table o → IsNotLater o (Some (bound case)) → IsSettled b
-  settled_within o first h = grind (arith, nat_tests, same_first)
+  settled_within o first h = grind (arith, nat_tests, IsFirstOf-same (Accepts b) table o)
 
   pub open-from_none : IsFirstOf (Accepts b) table None → ¬ IsSettled b
   open-from_none none settled = settled.within None none case holds
@@ -80,29 +64,14 @@ module _ (many : length table ≡ ROW_COUNT) (every : (s : BuiltIn) → Lasts s)
   none_between : (o : Option ℕ) → IsFirstOf (Accepts b) table o → (i n : ℕ) → i < length table → (¬ IsNotLater o (Some i))
       → IsNotLater o (Some n) → ¬ ((k : ℕ) → i < k → k ≤ n → IsAccepted (signature_of k) b → ¬ IsAccepted (signature_of k) (b ++ more))
   none_between None first i n lt earlier within alone = within
-  none_between (Some f) first i n lt earlier within alone =
-      let here = first.here some_row in
-      elim (cases_lt i f) [
-        | inl low ↦ alone f low within (accepts_at b f first.within some_row here) (keeps every b more f first.within here)
-        | inr high ↦ earlier high
-      ]
+  none_between (Some f) first i n lt earlier within alone = grind (arith, nat_tests, some_row, accepts_at b f first.within some_row)
 
   none_before : (o : Option ℕ) → IsFirstOf (Accepts b) table o → (i : ℕ) → i < length table → (¬ IsNotLater o (Some i)) → ¬ IsAccepted (signature_of i) (b ++ more)
-  none_before o first i lt earlier h =
-      let comes = newcomers b more long i (omega (arith, lt, many)) h (λ k. earlier (first_by b o i first lt k)) in
-      let case = in_case (signature_of i) b comes.awaited in
-      none_between o first i (last_awaited (signature_of i)) lt earlier
-      (subst (λ n. IsNotLater o (Some n)) case.2 (settled.within o first case.0 case.1)) comes.alone
+  none_before o first i lt earlier h = grind (arith, nat_tests, first_by b o i first lt, in_case (signature_of i) b, none_between o first i (last_awaited (signature_of i)) lt earlier)
 
   first_stays : (o : Option ℕ) → IsFirstOf (Accepts b) table o → IsFirstOf (Accepts (b ++ more)) table o
   first_stays None none = λ i d low lt h. none_before None none i lt (λ k. k) (accepts_at (b ++ more) i lt d h)
-  first_stays (Some f) first = record {
-    within = first.within;
-    here = λ d. accepts_from (b ++ more) f first.within d (keeps every b more f first.within (first.here some_row));
-    before = λ i d low below h.
-        let lt : i < length table = (let w = first.within in omega arith) in
-        none_before (Some f) first i lt (λ le. omega arith) (accepts_at (b ++ more) i lt d h);
-  }
+  first_stays (Some f) first = grind (arith, nat_tests, accepts_from (b ++ more) f first.within, some_row, none_before (Some f) first, accepts_at (b ++ more))
 
   answer_stays : (t : Option Triple) → IsAnswer (Accepts b) table t → IsAnswer (Accepts (b ++ more)) table t
   answer_stays None none = first_stays None none
@@ -129,7 +98,7 @@ module _ (many : length table ≡ ROW_COUNT) (every : (s : BuiltIn) → Lasts s)
 
 pub Final-stays : length table ≡ ROW_COUNT → ((s : BuiltIn) → Lasts s) → NewcomersAreAwaited → Beginnings → (b : List ℕ) (answer : Option FileType)
     → IsVerdict b (Final answer) → StaysFinal b (Final answer)
-Final-stays many every newcomers early b answer h6 more = grind (arith, nat_tests, answer_stays, option_map, triple_of, settled_stays)
+Final-stays many every newcomers early b answer h6 more = grind (arith, nat_tests, answer_stays, settled_stays)
 
 pub first-stays : length table ≡ ROW_COUNT → ((s : BuiltIn) → Lasts s) → NewcomersAreAwaited → Beginnings → (b : List ℕ) (row : Option ℕ)
     → IsFirstOf (Accepts b) table row → IsSettled b → RowStaysFinal b row

@@ -1,5 +1,5 @@
 -- The first bytes of pieces that come one after the other.
-use Rattle.infer_sniff.proofs.Common.{◌≡◌, ℕ, ◌+◌, ◌-◌, ◌<◌, ◌≤◌, List, [], ◌∷◌, ◌++◌, length, get_or, map, take, min, sym, ap, ◌∙◌, arith, inl, inr, length-append, length-take, take-append-add, cases_lt, length-take-le, take-append-le, append_assoc, append-nil, map_more, take_all, take_min, concat}
+use Rattle.infer_sniff.proofs.Common.{◌≡◌, ℕ, ◌+◌, ◌-◌, ◌<◌, ◌≤◌, List, [], ◌∷◌, ◌++◌, length, get_or, map, take, min, sym, ap, ◌∙◌, arith, length-append, length-take, take-append-add, length-take-le, take-append-le, append_assoc, append-nil, map_more, take_all, take_min, concat}
 use Rattle.std.proofs.lemmas.List.Folds.{concat-append}
 use denote.Ref.{Bor}
 

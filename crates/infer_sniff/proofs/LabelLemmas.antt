@@ -1,11 +1,10 @@
 -- What the bytes that were read tell of the front of all that there was to read.
-use Rattle.infer_sniff.proofs.Common.{◌≡◌, ℕ, ◌+◌, ◌-◌, ◌<◌, ◌≤◌, ◌⊎◌, List, [], ◌++◌, Option, None, Some, IfSome, length, take, sym, ap, subst, ◌∙◌, arith, inl, inr, take-append-add, cases_lt, append-nil, take_all, Consumes, IsAtEnd, IsSettled, IsTypeOf, IsVerdict, StaysFinal, found_of, Verdict, SoFar, Final}
+use Rattle.infer_sniff.proofs.Common.{◌≡◌, ℕ, ◌-◌, ◌<◌, ◌≤◌, ◌⊎◌, List, [], ◌++◌, Option, None, Some, IfSome, length, take, sym, ap, subst, ◌∙◌, arith, inl, inr, take-append-add, cases_lt, append-nil, take_all, Consumes, IsAtEnd, IsSettled, IsTypeOf, IsVerdict, StaysFinal, found_of, Verdict, SoFar, Final}
 use Rattle.infer.specs.declared.table.file_type.FileType.{FileType}
 
 module _ (n : ℕ) (b : List ℕ) (few : length b ≤ n) where
   front_behind : (rest : List ℕ) → take n (b ++ rest) ≡ b ++ take (n - length b) rest
-  front_behind rest =
-      ap (λ k. take k (b ++ rest)) (let e : n ≡ length b + (n - length b) = omega arith in e) ∙ take-append-add b rest (n - length b)
+  front_behind rest = grind (arith, take-append-add b rest (n - length b))
 
   tells : (v : Verdict) (rest : List ℕ) → IsVerdict b v → StaysFinal b v → (length b < n → (rest ≡ []) ⊎ IsSettled b)
       → IsTypeOf (take n (b ++ rest)) (found_of v)
@@ -27,6 +26,4 @@ module _ (n : ℕ) (b : List ℕ) (few : length b ≤ n) where
 pub front-from_read : (n : ℕ) (read b : List ℕ) (v : Verdict) (found : Option FileType) (given left : Option (List ℕ)) → read ≡ b → found ≡ found_of v
     → length b ≤ n → IsVerdict read v → StaysFinal read v → Consumes given left b → (length b < n → IsAtEnd left ⊎ IsSettled b)
     → IfSome given (λ s. IsTypeOf (take n s) found)
-front-from_read n read b v found given left same shown few is stays h end =
-    subst (λ o. IfSome given (λ s. IsTypeOf (take n s) o)) (sym shown)
-    (of_front n b few v given left (subst (λ u. IsVerdict u v) same is) (subst (λ u. StaysFinal u v) same stays) h end)
+front-from_read n read b v found given left same shown few is stays h end = grind (arith, of_front n b few v given left)

@@ -1,5 +1,5 @@
 -- Reports of the inputs that words name, one word after the other.
-use Rattle.infer_tool.proofs.Common.{◌≡◌, ◌≢◌, ◌+◌, ◌<◌, ℕ, Bool, true, false, List, [], ◌∷◌, ◌++◌, Option, None, Some, IsTrue, length, map, take, get_or, ap, ap₂, refl, subst, sym, ◌∙◌, map_more, Keeps, outcome_after, worse_of, ReportsInput, unless_failed, ReportsEach, no_input, one_more, Outcome, Failed}
+use Rattle.infer_tool.proofs.Common.{◌≡◌, ◌≢◌, ◌+◌, ◌<◌, ℕ, Bool, true, false, List, [], ◌∷◌, ◌++◌, Option, None, Some, IsTrue, IfSome, Appends, Saying, length, map, take, get_or, ap, ap₂, refl, subst, sym, ◌∙◌, map_more, Keeps, outcome_after, worse_of, ReportsInput, unless_failed, ReportsEach, no_input, one_more, Outcome, Failed}
 
 pub keeps_itself : (bytes : Option (List ℕ)) → Keeps bytes bytes
 keeps_itself None = tt
@@ -9,35 +9,60 @@ pub keeps_unless_failed : (failed : Bool) (bytes : Option (List ℕ)) → Keeps 
 keeps_unless_failed true bytes = tt
 keeps_unless_failed false bytes = keeps_itself bytes
 
--- the same of a writer of whose bytes before nothing is known
-pub forget_lines : (n : ℕ) (names : List (List ℕ)) (outcome : Outcome) (old new later err_old err_new : Option (List ℕ))
-    → ReportsEach n names outcome old new err_old err_new → ReportsEach n names outcome None later err_old err_new
-forget_lines n _ _ _ _ later _ _ (no_input old new err_old err_new kept err_kept) = no_input None later err_old err_new tt err_kept
-forget_lines n _ _ _ _ later _ _ (one_more names name earlier outcome old between new err_old err_between err_new reports (answer, found, (is, grown, told))) =
-    one_more names name earlier outcome None None later err_old err_between err_new
-    (forget_lines n names earlier old between None err_old err_between reports) (answer, found, (is, tt, told))
+-- what is known of a writer's bytes before and after says no more of a second pair: nothing is known before, or the
+-- second pair begins with the same bytes and what came after them is kept
+abbrev pub Moved : (old new before after : Option (List ℕ)) → Type 0
+Moved old new before after = IfSome before (λ xs. (old ≡ Some xs) × Keeps new after)
 
-pub forget_faults : (n : ℕ) (names : List (List ℕ)) (outcome : Outcome) (old new err_old err_new err_later : Option (List ℕ))
-    → ReportsEach n names outcome old new err_old err_new → ReportsEach n names outcome old new None err_later
-forget_faults n _ _ _ _ _ _ later (no_input old new err_old err_new kept err_kept) = no_input old new None later kept tt
-forget_faults n _ _ _ _ _ _ later (one_more names name earlier outcome old between new err_old err_between err_new reports (answer, found, (is, grown, told))) =
-    one_more names name earlier outcome old between new None None later
-    (forget_faults n names earlier old between err_old err_between None reports) (answer, found, (is, grown, tt))
+pub moved_itself : (old new : Option (List ℕ)) → Moved old new old new
+moved_itself None new = tt
+moved_itself (Some xs) new = (refl, keeps_itself new)
 
-module _ (n : ℕ) (names : List (List ℕ)) (outcome : Outcome) (old new err_old err_new : Option (List ℕ)) where
-  later_lines : (before after : Bool) → (IsTrue before → IsTrue after)
-      → ReportsEach n names outcome (unless_failed before old) new err_old err_new
-      → ReportsEach n names outcome (unless_failed after old) (unless_failed after new) err_old err_new
-  later_lines before true remembers h = forget_lines n names outcome _ new None err_old err_new h
-  later_lines false false remembers h = h
-  later_lines true false remembers h = absurd (let e = remembers refl in cc)
+pub appends-moved : (old new before after : Option (List ℕ)) (bs : List ℕ) → Moved old new before after → Appends old new bs → Appends before after bs
+appends-moved old new None after bs moved grown = tt
+appends-moved old new (Some xs) after bs (same, kept) grown = appended new after (subst (λ o. Appends o new bs) same grown) kept
+  where
+    appended : (new after : Option (List ℕ)) → Appends (Some xs) new bs → Keeps new after → Appends (Some xs) after bs
+    appended None after grown kept = absurd grown
+    appended (Some ys) None grown kept = absurd kept
+    appended (Some ys) (Some zs) grown kept = kept ∙ grown
 
-  later_faults : (before after : Bool) → (IsTrue before → IsTrue after)
-      → ReportsEach n names outcome old new (unless_failed before err_old) err_new
-      → ReportsEach n names outcome old new (unless_failed after err_old) (unless_failed after err_new)
-  later_faults before true remembers h = forget_faults n names outcome old new _ err_new None h
-  later_faults false false remembers h = h
-  later_faults true false remembers h = absurd (let e = remembers refl in cc)
+pub keeps-moved : (old new before after : Option (List ℕ)) → Moved old new before after → Keeps old new → Keeps before after
+keeps-moved old new None after moved kept = tt
+keeps-moved old new (Some xs) after (same, later) kept = both new after (subst (λ o. Keeps o new) same kept) later
+  where
+    both : (new after : Option (List ℕ)) → Keeps (Some xs) new → Keeps new after → Keeps (Some xs) after
+    both None after kept later = absurd kept
+    both (Some ys) None kept later = absurd later
+    both (Some ys) (Some zs) kept later = later ∙ kept
+
+-- so it is in two steps
+in_two : (old between new before after : Option (List ℕ)) → Moved old new before after
+    → (middle : Option (List ℕ)) × Moved old between before middle × Moved between new middle after
+in_two old between new None after moved = (None, tt, tt)
+in_two old None new (Some xs) after (same, kept) = (None, (same, tt), tt)
+in_two old (Some ys) new (Some xs) after (same, kept) = (Some ys, (same, refl), (refl, kept))
+
+-- what is said of two writers is said of what is known of them less
+abbrev pub Moves : Saying → Type 0
+Moves Said = (o : Outcome) (old new eo en before after eb ea : Option (List ℕ)) → Moved old new before after → Moved eo en eb ea
+    → Said o old new eo en → Said o before after eb ea
+
+pub each_moves : (n : ℕ) (names : List (List ℕ)) → Moves (ReportsEach n names)
+each_moves n _ _ _ _ _ _ before after eb ea m e (no_input old new eo en kept err_kept) =
+    no_input before after eb ea (keeps-moved old new before after m kept) (keeps-moved eo en eb ea e err_kept)
+each_moves n _ _ _ _ _ _ before after eb ea m e (one_more names name earlier outcome old between new eo err_between en reports (answer, found, (is, grown, told))) =
+    let (middle, first, then) = in_two old between new before after m in
+    let (err_middle, err_first, err_then) = in_two eo err_between en eb ea e in
+    one_more names name earlier outcome before middle after eb err_middle ea
+    (each_moves n names earlier old between eo err_between before middle eb err_middle first err_first reports)
+    (answer, found, (is, appends-moved between new middle after _ then grown, appends-moved err_between en err_middle ea _ err_then told))
+
+later_moved : (failed fails : Bool) → (IsTrue failed → IsTrue fails) → (old new : Option (List ℕ))
+    → Moved (unless_failed failed old) new (unless_failed fails old) (unless_failed fails new)
+later_moved failed true remembers old new = tt
+later_moved false false remembers old new = moved_itself old new
+later_moved true false remembers old new = absurd (let e = remembers refl in cc)
 
 -- the worst so far is the outcome as long as the writer has not failed
 pub worse_unless_failed : (before after : Bool) → (IsTrue before → IsTrue after) → (so_far earlier result outcome : Outcome)
@@ -67,7 +92,7 @@ module _ {A : Type 0} (name_of : A → List ℕ) (n : ℕ) (words : List A) wher
       let names = map name_of (take i words) in
       let more : names ++ name ∷ [] ≡ map name_of (take (i + 1) words) =
       ap (λ l. names ++ l ∷ []) named ∙ sym (map_more name_of words i d lt) in
-      let so_far = later_faults n names earlier (unless_failed after old) (unless_failed after between) eo eb fb fa told
-      (later_lines n names earlier old between (unless_failed fb eo) eb before after remembers reports) in
+      let so_far = each_moves n names earlier (unless_failed before old) between (unless_failed fb eo) eb _ _ _ _ (later_moved before after remembers old between)
+      (later_moved fb fa told eo eb) reports in
       subst (λ l. ReportsEach n l (worse_of earlier outcome) (unless_failed after old) new (unless_failed fa eo) en) more
       (one_more names name earlier outcome _ _ new _ _ en so_far this)

@@ -1,23 +1,15 @@
 -- A row that was read is the one at its number in the table, and what words ask for.
-use Rattle.infer_tool.proofs.Common.{MatchOption, None, ◌≡◌, ◌-◌, ◌<◌, ◌≤◌, ◌⊎◌, inl, inr, ℕ, Bool, true, false, List, [], Option, Some, take, length, map, get_or, sym, ap, ◌∙◌, refl, subst, arith, OnFalse, HoldsAt, take_at, Appends, BuiltIn, Row, html, IsFirst, IsFirstOf, HasExtension, HoldsSample, sample_of, zeros, row, table, unless_failed, HasSample}
+use Rattle.infer_tool.proofs.Common.{MatchOption, None, ◌≡◌, ◌-◌, ◌<◌, ◌≤◌, ◌⊎◌, inl, inr, ℕ, Bool, true, false, List, [], Option, Some, take, length, map, get_or, sym, ap, ◌∙◌, subst, arith, OnFalse, HoldsAt, take_at, Appends, BuiltIn, Row, IsFirst, IsFirstOf, HasExtension, HoldsSample, sample_of, zeros, table, unless_failed, HasSample}
 use Rattle.std.proofs.lemmas.List.{get_or-map}
+use Rattle.infer.proofs.FirstLemmas.{IsFirstOf-same}
 use Rattle.infer.specs.declared.samples.TheConstants.{SAMPLE_SIZE}
 use Rattle.infer.specs.declared.table.file_type.MatcherType.TheVariants.{Text}
 use Rattle.infer.specs.declared.table.rows.TheConstants.{DLL, EPUB_ARCHIVE, ROW_COUNT}
-
--- any row
-pub some_row : Row BuiltIn
-some_row = row Text [] [] html
 
 -- the word at 1 names what stands after the option
 pub second_is : {A : Type 0} (name_of : A → List ℕ) (words : List A) (word : A) (name : List ℕ) → 1 < length words
     → word ≡ get_or words 1 word → name ≡ name_of word → name ≡ get_or (map name_of words) 1 []
 second_is name_of words word name lt at named = named ∙ ap name_of at ∙ sym (get_or-map name_of words 1 word [] lt)
-
--- one row is the first
-same_row : (P : Row BuiltIn → Type 0) (i j : ℕ) → IsFirst P table i → IsFirst P table j → i ≡ j
-same_row P i j first then =
-    grind (arith, first.before j some_row, first.here some_row, first.within, then.before i some_row, then.here some_row, then.within)
 
 module _ (extension : List ℕ) where
   -- a row of which a sample was given has one, and a row of which none was given has none
@@ -27,8 +19,7 @@ module _ (extension : List ℕ) where
   pub never_sampled : length table ≡ ROW_COUNT → (i j : ℕ) → HasSample extension i → IsFirst (HasExtension extension) table j
       → (j ≡ DLL) ⊎ ((j ≡ EPUB_ARCHIVE) ⊎ (ROW_COUNT ≤ j)) → ⊥
   never_sampled many i j has first none =
-      let same = same_row (HasExtension extension) i j has.0 first in
-      grind (arith, many, none, same, has.1, has.2, first.within)
+      grind (arith, many, none, IsFirstOf-same (HasExtension extension) table (Some i) (Some j) has.0 first, has.1, has.2, first.within)
 
   pub sample-written : (i j n : ℕ) (buf : List ℕ) (failed : Bool) (old new : Option (List ℕ)) → HasSample extension i
       → IsFirst (HasExtension extension) table j → HoldsAt (HoldsSample n buf) table j
@@ -36,7 +27,9 @@ module _ (extension : List ℕ) where
       → HoldsAt (λ r. Appends (unless_failed failed old) new (sample_of r.signature)) table i
   sample-written i j n buf true old new has first holds app = λ d. tt
   sample-written i j n buf false old new has first holds app =
-      subst (λ k. HoldsAt (λ r. Appends old new (sample_of r.signature)) table k) (sym (same_row (HasExtension extension) i j has.0 first))
+      let both = IsFirstOf-same (HasExtension extension) table (Some i) (Some j) has.0 first in
+      let same : j ≡ i = cc in
+      subst (λ k. HoldsAt (λ r. Appends old new (sample_of r.signature)) table k) same
       (λ d. let h = holds d in
       subst (Appends old new) (ap (take n) h.1 ∙ take_at (sample_of (get_or table j d).signature) (zeros (SAMPLE_SIZE - n)) n (sym h.0)) app)
 

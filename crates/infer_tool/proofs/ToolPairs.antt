@@ -1,6 +1,6 @@
 -- What has a property of what the program says, and what has not: each pair computed.
-use Rattle.infer_tool.proofs.Common.{◌≡◌, ℕ, Bool, true, false, [], ◌∷◌, Option, None, Some, Result, Ok, Err, IsTrue, length, refl, ap, codes, arith, Appends, Triple, Reports, ReportsInput, fault_written, outcome_of, stream, told, unless_failed, written, has_failed, inner, Failed, Unknown}
-use Rattle.std.proofs.Common.{get_or, unwrap_or}
+use Rattle.infer_tool.proofs.Common.{◌≡◌, ℕ, Bool, true, false, [], ◌∷◌, Option, None, Some, Result, Ok, Err, IsTrue, length, refl, ap, codes, arith, Appends, Triple, Reports, ReportsInput, fault_written, outcome_of, told, unless_failed, has_failed, Failed, Unknown, stream, written, inner, get_or}
+use Rattle.std.proofs.Common.{unwrap_or}
 use Rattle.infer.specs.declared.read.fault.Fault.{Fault}
 use Rattle.infer.specs.declared.read.fault.Fault.TheVariants.{Memory, Open, Read}
 use Rattle.infer_tool.specs.Line.{fault_line, fault_text, line}

@@ -1,5 +1,5 @@
 -- One buffer more is counted or passed.
-use Rattle.infer.proofs.Common.{◌≡◌, ◌+◌, ◌<◌, ℕ, suc, List, [], ◌∷◌, ◌++◌, Option, length, map, take, get_or, add-one, ap, subst, sym, ◌∙◌, map_more, IsAnswer, Accepts, table, Triple}
+use Rattle.infer.proofs.Common.{◌+◌, ◌<◌, ℕ, List, Option, length, map, take, get_or, subst, sym, map_more, IsAnswer, Accepts, table, Triple}
 use Rattle.infer.specs.declared.table.file_type.MatcherType.{MatcherType}
 use Rattle.infer_uses.specs.Answers.{IsOfClass}
 use Rattle.infer_uses.specs.Counts.{Counts, counted, passed}

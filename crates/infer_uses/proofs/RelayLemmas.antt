@@ -1,5 +1,5 @@
 -- One more piece passed on, and what a relay's last verdict tells.
-use Rattle.infer.proofs.Common.{◌≡◌, ◌≢◌, ◌⊎◌, inl, inr, ◌∙◌, ◌<◌, ◌≤◌, ℕ, List, [], ◌++◌, Option, length, take, ap, sym, subst, arith, length-take, cases_lt, append-nil, length-take-le, take-append-le, take_all, Consumes-trans, Appends, Consumes, IsAtEnd, head}
+use Rattle.infer.proofs.Common.{◌≡◌, ◌⊎◌, inl, inr, ◌∙◌, ◌≤◌, ℕ, List, [], ◌++◌, Option, length, take, ap, subst, arith, length-take, append-nil, Consumes-trans, Appends, Consumes, IsAtEnd, head}
 use Rattle.std.proofs.KnownBytes.{Appends-nil, Appends-trans, Consumes-nil}
 use Rattle.infer.specs.declared.table.file_type.FileType.{FileType}
 use Rattle.infer_sniff.proofs.KeptLemmas.{front_again}

@@ -1,6 +1,4 @@
-use Rattle.std.proofs.Common.{arith, rules, None}
-use Rattle.infer.specs.Table.{table}
-use Rattle.infer.specs.Walks.{HasGiven}
+use Rattle.infer.proofs.Common.{rules, table, arith, None, HasGiven}
 use Rattle.infer.proofs.CandidateLemmas.{first_of_buffer, first_of_every}
 use Rattle.infer.proofs.TableLemmas.{length-table}
 use Rattle.infer.proofs.answers.position.Goals as goal

@@ -1,6 +1,5 @@
-use Rattle.std.proofs.Common.{map}
-use Rattle.infer.specs.Listed.{number_of}
-use Rattle.infer.specs.Walks.{Takes}
+use Rattle.infer.proofs.Common.{◌↔◌, IsTrue, subst, sym, IsAsked, SomeBoth, Accepts, table, map, number_of, Takes}
+use Rattle.infer.proofs.CandidateLemmas.{some_of_first}
 use Rattle.infer.proofs.SlotLemmas.{some_alone, some_listed}
 use Rattle.infer.proofs.answers.some.Goals as goal
 

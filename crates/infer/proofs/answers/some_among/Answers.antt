@@ -1,7 +1,4 @@
-use Rattle.std.proofs.Common.{map, refl, rules, tests}
-use Rattle.std.proofs.lemmas.Iterator.{YieldsList-from_slice, cases_from_any}
-use Rattle.infer.specs.Listed.{number_of}
-use Rattle.infer.specs.Walks.{RowHas, Takes}
+use Rattle.infer.proofs.Common.{map, refl, rules, tests, YieldsList-from_slice, cases_from_any, number_of, RowHas, Takes}
 use Rattle.infer.proofs.ListLemmas.{some_of_any}
 use Rattle.infer.proofs.answers.some_among.Goals as goal
 

@@ -1,7 +1,4 @@
-use Rattle.std.proofs.Common.{◌≡◌, rules}
-use Rattle.infer.specs.Table.{table}
-use Rattle.infer.specs.Triple.{Triple}
-use Rattle.infer.specs.Walks.{Takes}
+use Rattle.infer.proofs.Common.{rules, table, Takes, ◌≡◌, Triple}
 use Rattle.infer.proofs.CandidateLemmas.{first_of_buffer, some_of_first}
 use Rattle.infer.proofs.answers.some_of_class.Goals as goal
 

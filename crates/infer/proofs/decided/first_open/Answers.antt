@@ -1,8 +1,5 @@
-use Rattle.std.proofs.Common.{rules, tests}
-use Rattle.std.proofs.lemmas.Iterator.{YieldsList-from_slice, first_from_find}
-use Rattle.infer.specs.Decided.{MayBecomeRow}
-use Rattle.infer.specs.Walks.{RowHas}
-use Rattle.infer.proofs.AskLemmas.{among_of_find}
+use Rattle.infer.proofs.Common.{arith, refl, MayBecomeRow, RowHas, rules, tests, YieldsList-from_slice, first_from_find}
+use Rattle.infer.proofs.AskLemmas.{found_among, none_among, among_of_find}
 use Rattle.infer.proofs.decided.first_open.Goals as goal
 
 pub returns : goal.returns

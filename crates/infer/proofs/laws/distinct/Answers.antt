@@ -1,12 +1,9 @@
-use Rattle.std.proofs.Common.{◌≢◌, ℕ, List, ◌∷◌, ◌++◌, map, sym, ap, ◌∙◌, refl, arith}
-use Rattle.std.specs.List.{AllPairs}
+use Rattle.infer.proofs.Common.{◌≢◌, ℕ, List, ◌∷◌, ◌++◌, map, sym, ap, ◌∙◌, refl, arith, AllPairs, length-map, bytes_eq-Decides, shows, table, Triple}
 use Rattle.std.proofs.lemmas.Cmp.{nat_list_eq_equiv}
-use Rattle.std.proofs.lemmas.List.{get_or-map, length-map}
+use Rattle.std.proofs.lemmas.List.{get_or-map}
 use Rattle.std.proofs.lemmas.Map.Made.{AllPairs-from_IsDistinct, IsDistinct-from_count}
-use Rattle.std.proofs.lemmas.Slice.Eq.{bytes_eq-Decides}
 use denote.Enum.Declared.{tag_of}
 use Rattle.infer.specs.contracts.table.file_type.MatcherType as matcher_type
-use Rattle.infer.proofs.Common.{shows, table, Triple}
 use Rattle.infer.proofs.laws.distinct.Goals as goal
 
 -- a triple as one text

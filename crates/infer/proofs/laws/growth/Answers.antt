@@ -1,5 +1,4 @@
-use Rattle.std.proofs.Common.{get_or}
-use Rattle.infer.proofs.Common.{signatures}
+use Rattle.infer.proofs.Common.{get_or, signatures}
 use Rattle.infer.proofs.LawLemmas.{length-signatures, every_lasts}
 use Rattle.infer.proofs.laws.growth.Goals as goal
 

@@ -1,5 +1,4 @@
-use Rattle.std.proofs.Common.{refl}
-use Rattle.infer.proofs.Common.{is_far_row, signature_of, table}
+use Rattle.infer.proofs.Common.{refl, is_far_row, signature_of, table}
 use Rattle.infer.proofs.LawLemmas.{others_near}
 use Rattle.infer.proofs.laws.near.Goals as goal
 

@@ -1,5 +1,4 @@
-use Rattle.std.proofs.Common.{get_or, subst, arith}
-use Rattle.infer.proofs.Common.{Accepts, table, EPUB, EXE}
+use Rattle.infer.proofs.Common.{get_or, subst, arith, Accepts, table, EPUB, EXE}
 use Rattle.infer.proofs.OrderLemmas.{some_row}
 use Rattle.infer.proofs.laws.never.Goals as goal
 

@@ -1,4 +1,4 @@
-use Rattle.std.proofs.Common.{arith}
+use Rattle.infer.proofs.Common.{arith}
 use Rattle.infer.proofs.SampleLemmas.{written_first}
 use Rattle.infer.proofs.samples.sample.Goals as goal
 

@@ -1,6 +1,7 @@
 use Rattle.infer_tool.proofs.Common.{ap, arith, refl, ◌∙◌, outcome_after, has_failed, inner, Known}
 use Rattle.infer_tool.proofs.RunLemmas.{keeps_unless_failed}
-use Rattle.infer_tool.proofs.SampleLemmas.{never_sampled, sample-written, sampled, some_row}
+use Rattle.infer_tool.proofs.SampleLemmas.{never_sampled, sample-written, sampled}
+use Rattle.infer.proofs.OrderLemmas.{some_row}
 use Rattle.infer_tool.proofs.sample.run_sample.Goals as goal
 
 pub returns-in-Some-sample-clause-none : goal.returns-in-Some-sample-clause-none

@@ -1,6 +1,4 @@
-use Rattle.std.proofs.Common.{subst, refl, List, ℕ}
-use Rattle.infer.specs.Leads.{candidates_of}
-use Rattle.infer.specs.Walks.{HasGiven, IsFirstAmong, RowHas, Takes}
+use Rattle.infer.proofs.Common.{subst, refl, List, ℕ, candidates_of, IsFirstAmong, RowHas, Takes, HasGiven}
 use Rattle.infer.proofs.CandidateLemmas.{first_of_buffer}
 use Rattle.infer.proofs.candidates.asker.count.Goals as goal
 

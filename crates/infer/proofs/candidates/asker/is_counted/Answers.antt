@@ -1,6 +1,4 @@
-use Rattle.std.proofs.Common.{Some}
-use Rattle.infer.specs.Table.{table}
-use Rattle.infer.specs.Walks.{HasGiven, Takes}
+use Rattle.infer.proofs.Common.{table, Takes, Some, HasGiven}
 use Rattle.infer.proofs.CandidateLemmas.{some_of_first}
 use Rattle.infer.proofs.candidates.asker.is_counted.Goals as goal
 

@@ -1,5 +1,4 @@
-use Rattle.std.proofs.Common.{arith}
-use Rattle.infer.specs.Table.{table}
+use Rattle.infer.proofs.Common.{arith, table}
 use Rattle.infer.proofs.CandidateLemmas.{first_of_every}
 use Rattle.infer.proofs.TableLemmas.{length-table}
 use Rattle.infer.proofs.candidates.asker.position_counted.Goals as goal

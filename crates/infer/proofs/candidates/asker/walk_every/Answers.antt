@@ -1,7 +1,4 @@
-use Rattle.std.proofs.Common.{◌∙◌, arith, refl, filter, get_or, take, length, ◌≤◌, None, Some, subst, List, ℕ}
-use Rattle.infer.specs.Row.{Accepts}
-use Rattle.infer.specs.Walks.{HasGiven, IsFirstAmong, RowHas, Takes, is_asked}
-use Rattle.infer.specs.declared.table.rows.TheConstants.{MOST_CANDIDATES}
+use Rattle.infer.proofs.Common.{◌∙◌, arith, refl, filter, get_or, take, length, ◌≤◌, None, Some, subst, List, ℕ, Accepts, IsFirstAmong, RowHas, Takes, is_asked, MOST_CANDIDATES, HasGiven}
 use Rattle.infer.proofs.AskLemmas.{candidate_asked, candidate_room, candidate_row, candidates_asked, few_asked, found_among, none_among, refused_here}
 use Rattle.infer.proofs.CandidateLemmas.{every_taken}
 use Rattle.infer.proofs.candidates.asker.walk_every.Goals as goal

@@ -1,8 +1,5 @@
 -- none of the rows so far accepts the buffer, and they were asked
-use Rattle.std.proofs.Common.{◌≡◌, None, take}
-use Rattle.std.specs.List.{AllWithin, filter}
-use Rattle.infer.specs.Row.{Accepts}
-use Rattle.infer.specs.Walks.{RowHas, is_asked}
+use Rattle.infer.proofs.Common.{◌≡◌, take, AllWithin, filter, Accepts, RowHas, is_asked, None}
 use Rattle.infer.proofs.candidates.asker.walk_every.Given as goal
 
 abbrev pub invariant-loop-row : goal.invariant-loop-row

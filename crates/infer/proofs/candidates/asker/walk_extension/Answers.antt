@@ -1,8 +1,5 @@
-use Rattle.std.proofs.Common.{◌∙◌, ◌≡◌, ◌<◌, ◌≤◌, ap, arith, filter, get_or, length, map, take, None, Some, subst, List, ℕ}
-use Rattle.std.proofs.lemmas.List.{get_or-map, length-map, take_all}
-use Rattle.infer.specs.Listed.{number_of}
-use Rattle.infer.specs.Walks.{RowHas, asked_rows, count_asked}
-use Rattle.infer.specs.declared.table.rows.TheConstants.{MOST_CANDIDATES}
+use Rattle.infer.proofs.Common.{◌∙◌, ◌≡◌, ◌<◌, ◌≤◌, ap, arith, filter, get_or, length, map, take, None, Some, subst, List, ℕ, length-map, take_all, number_of, RowHas, asked_rows, count_asked, MOST_CANDIDATES}
+use Rattle.std.proofs.lemmas.List.{get_or-map}
 use Rattle.infer.proofs.AskLemmas.{few_asked, found_here, none_among, refused_here}
 use Rattle.infer.proofs.SlotLemmas.{TakesText, asked_one_more, is_walked, slot_asked, slot_asked_all, slot_first, slot_room}
 use Rattle.infer.proofs.candidates.asker.walk_extension.Goals as goal

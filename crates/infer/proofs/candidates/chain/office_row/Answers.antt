@@ -1,6 +1,4 @@
-use Rattle.std.proofs.Common.{rules}
-use Rattle.infer.specs.Table.{table}
-use Rattle.infer.specs.Walks.{IsFirstAmong}
+use Rattle.infer.proofs.Common.{rules, table, IsFirstAmong}
 use Rattle.infer.proofs.candidates.chain.office_row.Goals as goal
 
 pub returns-then-is_folder_of : goal.returns-then-is_folder_of

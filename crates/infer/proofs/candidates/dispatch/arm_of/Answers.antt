@@ -1,10 +1,5 @@
-use Rattle.std.proofs.Common.{ℕ, Bool, ◌∙◌, ap, get_or, refl, arith}
-use Rattle.std.proofs.lemmas.List.{get_or_default}
-use Rattle.std.specs.Str.{bytes_eq}
-use Rattle.std.proofs.lemmas.Slice.Eq.{bytes_eq-Decides}
+use Rattle.infer.proofs.Common.{ℕ, Bool, ◌∙◌, ap, get_or, refl, arith, get_or_default, bytes_eq, bytes_eq-Decides, candidates, table}
 use Rattle.infer.specs.Arms.{rows_of}
-use Rattle.infer.specs.Leads.{candidates}
-use Rattle.infer.specs.Table.{table}
 use Rattle.infer.specs.declared.candidates.dispatch.Arm.TheVariants.{Other}
 use Rattle.infer.specs.declared.candidates.dispatch.TheConstants.{ARMS}
 use Rattle.infer.proofs.TestLemmas.{NoneRefused, passed}

@@ -1,6 +1,4 @@
-use Rattle.std.proofs.Common.{[], refl}
-use Rattle.infer_deep.specs.Numbers.{le16, le32, be32}
-use Rattle.infer.proofs.Common.{stands, table}
+use Rattle.infer.proofs.Common.{[], refl, le16, le32, be32, stands, table}
 use Rattle.infer.proofs.KnownLemmas.{proof_of}
 use Rattle.infer.proofs.OrderLemmas.{none_accepts}
 use Rattle.infer.proofs.candidates.dispatch.blank.Goals as goal

@@ -1,6 +1,5 @@
 -- A read that gives bytes goes after those before it.
-use Rattle.std.proofs.Common.{rules}
-use Rattle.std.proofs.lemmas.Bool.{false≢true}
+use Rattle.infer.proofs.Common.{rules, false≢true}
 use Rattle.infer.proofs.HeadLemmas.{Consumes-one_more, IsDue-read}
 use Rattle.infer.proofs.read.watched.fill.Goals as goal
 

@@ -1,7 +1,6 @@
 -- What was read so far stands at the front of the buffer.
-use Rattle.std.proofs.Common.{◌≡◌, ◌-◌, ◌≤◌, None, length, take}
-use Rattle.std.specs.Io.KnownBytes.{Consumes}
-use Rattle.infer.proofs.Common.{IsDue, fault_of, inner}
+use Rattle.infer.proofs.Common.{◌≡◌, ◌-◌, ◌≤◌, None, length, take, Consumes, IsDue, fault_of, inner}
+use Rattle.infer.proofs.read.watched.fill.Given as goal
 use Rattle.infer.proofs.read.watched.fill.Given as goal
 
 abbrev pub invariant-loop-filled : goal.invariant-loop-filled

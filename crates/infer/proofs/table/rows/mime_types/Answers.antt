@@ -1,7 +1,6 @@
-use Rattle.std.proofs.Common.{ℕ, List, map, refl}
-use Rattle.infer.proofs.Common.{mime_type_of, number_of, rows_in, table}
+use Rattle.infer.proofs.Common.{refl, mime_type_of, rows_in, table, number_of, ℕ, List, map}
+use Rattle.infer.proofs.SlotLemmas.{slots_listed, of_slot}
 use Rattle.infer.specs.declared.table.rows.TheConstants.{BY_MIME_TYPE}
-use Rattle.infer.proofs.SlotLemmas.{of_slot, slots_listed}
 use Rattle.infer.proofs.TestLemmas.{NoneRefused}
 use Rattle.infer.proofs.table.rows.mime_types.Goals as goal
 

@@ -1,5 +1,4 @@
-use Rattle.std.proofs.Common.{refl}
-use Rattle.infer.proofs.Common.{signature_of, table}
+use Rattle.infer.proofs.Common.{refl, signature_of, table}
 use Rattle.infer.proofs.table.rows.rows.Goals as goal
 
 pub returns-clause-listed : goal.returns-clause-listed

@@ -1,5 +1,4 @@
-use Rattle.std.proofs.Common.{refl}
-use Rattle.infer.proofs.Common.{table}
+use Rattle.infer.proofs.Common.{refl, table}
 use Rattle.infer.proofs.table.rows.samples.Goals as goal
 
 pub returns-clause-buffers : goal.returns-clause-buffers

@@ -1,9 +1,6 @@
-use Rattle.std.proofs.Common.{◌<◌, ℕ, Bool, true, List, get_or, arith}
-use Rattle.std.specs.Bool.{OnFalse}
+use Rattle.infer.proofs.Common.{◌<◌, ℕ, Bool, true, List, get_or, arith, OnFalse, IsBuffer, Contract, Allows, FixesAnswers}
 use Rattle.std.proofs.lemmas.Grind.{get_or_default_zero}
 use denote.Ref.{Bor}
-use Rattle.infer.specs.Buffer.{IsBuffer}
-use Rattle.infer.specs.Caller.{Contract, Allows, FixesAnswers}
 use Rattle.infer.proofs.caller.custom.CustomRow.accepts.Goals as goal
 
 -- a slice of bytes is a buffer

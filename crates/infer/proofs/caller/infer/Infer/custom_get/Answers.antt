@@ -1,7 +1,4 @@
-use Rattle.std.proofs.Common.{rules, tests, sym, ap, ◌∙◌, Some, option_map}
-use Rattle.std.proofs.lemmas.Iterator.{YieldsList-from_slice, first_from_find}
-use Rattle.infer.specs.Rows.{AnyAccepts, custom_row, custom_rows}
-use Rattle.infer.specs.Triple.{triple_of}
+use Rattle.infer.proofs.Common.{rules, tests, sym, ap, ◌∙◌, Some, option_map, YieldsList-from_slice, first_from_find, AnyAccepts, custom_row, custom_rows, triple_of}
 use Rattle.infer.proofs.RowLemmas.{answer_of_find}
 use Rattle.infer.proofs.caller.infer.Infer.custom_get.Goals as goal
 

@@ -1,7 +1,4 @@
-use Rattle.std.proofs.Common.{rules, tests}
-use Rattle.std.proofs.lemmas.Iterator.{YieldsList-from_slice, cases_from_any}
-use Rattle.infer.specs.Questions.{IsAsked}
-use Rattle.infer.specs.Rows.{AnyAccepts, custom_row, custom_rows}
+use Rattle.infer.proofs.Common.{rules, tests, YieldsList-from_slice, cases_from_any, IsAsked, AnyAccepts, custom_row, custom_rows}
 use Rattle.infer.proofs.ListLemmas.{some_of_any}
 use Rattle.infer.proofs.caller.infer.Infer.custom_some.Goals as goal
 

@@ -1,6 +1,4 @@
-use Rattle.std.proofs.Common.{map, refl}
-use Rattle.infer.specs.Rows.{AnyAccepts, custom_rows, kept_row}
-use Rattle.infer.specs.Table.{table}
+use Rattle.infer.proofs.Common.{map, refl, AnyAccepts, custom_rows, kept_row, table}
 use Rattle.infer.proofs.RowLemmas.{IsAnswer-map, IsAnswer-right}
 use Rattle.infer.proofs.caller.infer.Infer.get.Goals as goal
 

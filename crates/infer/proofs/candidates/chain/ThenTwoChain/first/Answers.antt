@@ -1,7 +1,4 @@
-use Rattle.std.proofs.Common.{List, ℕ, inl, inr, refl, arith}
-use Rattle.infer.specs.Row.{Accepts}
-use Rattle.infer.specs.Walks.{IsFirstAmong, RowHas, Takes}
-use Rattle.infer.specs.Triple.{Triple}
+use Rattle.infer.proofs.Common.{List, ℕ, inl, inr, refl, arith, Accepts, IsFirstAmong, RowHas, Takes, Triple}
 use Rattle.infer.proofs.candidates.chain.ThenTwoChain.first.Goals as goal
 
 -- a row that accepts two buffers alike takes them alike

@@ -1,5 +1,4 @@
-use Rattle.std.proofs.Common.{arith, subst, sym}
-use Rattle.infer.specs.Walks.{IsFirstAmong}
+use Rattle.infer.proofs.Common.{arith, subst, sym, IsFirstAmong}
 use Rattle.infer.proofs.CandidateLemmas.{first_is_row, row_numbered-row}
 use Rattle.infer.proofs.candidates.chain.Whole.number.Goals as goal
 
