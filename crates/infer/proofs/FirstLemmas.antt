@@ -1,5 +1,5 @@
 -- The first element with a property is one, and stands no later if more elements have it.
-use Rattle.infer.proofs.Common.{◌≡◌, ◌∙◌, ◌<◌, ℕ, List, [], ◌∷◌, length, get_or, Option, None, Some, ap, sym, refl, arith, HoldsAt, AllWithin, Contracts, IsAnswer, IsFirstOf, IsNotLater, ReadersAreAlike, Row, Signature, Triple, triple_of, option_map}
+use Rattle.infer.proofs.Common.{◌≡◌, ◌∙◌, ◌<◌, ℕ, List, [], ◌∷◌, length, get_or, Option, None, Some, ap, sym, refl, arith, HoldsAt, AllWithin, Contracts, IsAnswer, IsFirstOf, IsNotLater, ReadersAreAlike, Row, Signature, Triple}
 
 -- an element that has the property is not among those that lack it
 among : {A : Type 0} (P : A → Type 0) (xs : List A) (i n : ℕ) → i < length xs → i < n → HoldsAt P xs i → ¬ AllWithin (λ x. ¬ P x) xs 0 n

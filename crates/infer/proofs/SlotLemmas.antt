@@ -1,5 +1,5 @@
 -- Each slot lists the rows whose text has it.
-use Rattle.infer.proofs.Common.{◌∷◌, ◌++◌, ◌&&◌, ◌+◌, leb, suc, zero, take, filter, Option, ◌≡◌, ◌<◌, ◌≤◌, ◌↔◌, ◌==◌, eq-eqb, ℕ, Bool, true, false, IsTrue, List, [], ◌∙◌, ap, sym, subst, get_or, map, length, refl, arith, Bor, None, bytes_eq, HoldsAt, slice_get, option_map_or, false≢true, bytes_eq-Decides, filter_more, none_from_all_within, BuiltIn, IsAccepted, NoneHas, SomeHas, Leads, candidates_of, number_of, IsAsked, Row, Triple, Accepts, HoldAsked, ListSlots, rows_in, slot_of, signature_of, table, IsFirstAmong, RowHas, Takes, is_listed, ROW_COUNT}
+use Rattle.infer.proofs.Common.{◌∷◌, ◌++◌, ◌&&◌, ◌+◌, leb, suc, zero, take, filter, Option, ◌≡◌, ◌<◌, ◌≤◌, ◌↔◌, ◌==◌, eq-eqb, ℕ, Bool, true, false, IsTrue, List, [], ◌∙◌, ap, sym, subst, get_or, map, length, refl, arith, Bor, None, bytes_eq, HoldsAt, slice_get, option_map_or, false≢true, bytes_eq-Decides, filter_more, none_from_all_within, BuiltIn, NoneHas, SomeHas, Leads, candidates_of, number_of, IsAsked, Row, Triple, Accepts, HoldAsked, ListSlots, rows_in, slot_of, table, IsFirstAmong, RowHas, is_listed, ROW_COUNT}
 use Rattle.std.proofs.lemmas.List.{get_or-map}
 use Rattle.infer.proofs.Common.{BuiltIn, NoneHas, SomeHas, Leads, candidates_of, number_of, IsAsked, Row, Accepts, HoldAsked, ListSlots, rows_in, slot_of, table, IsFirstAmong, RowHas, is_listed, Triple, ROW_COUNT, bytes_eq-Decides, filter_more, none_from_all_within}
 use Rattle.infer.specs.declared.table.rows.RowName.{RowName}

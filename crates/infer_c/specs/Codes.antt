@@ -1,5 +1,5 @@
 -- What crosses to C: rows and classes as numbers.
-use Rattle.std.specs.Prelude.{◌≡◌, ◌⊎◌, ℕ, ℤ, pos, negsuc, List, Option, None, Some, codes}
+use Rattle.std.specs.Prelude.{◌≡◌, ℕ, ℤ, pos, negsuc, List, Option, None, Some, codes}
 use Rattle.std.specs.List.{slice_get}
 use Rattle.infer.specs.Decided.{MayBecomeRow}
 use Rattle.infer.specs.Triple.{Triple}

@@ -1,5 +1,5 @@
 -- The laws of a signature, from its parts up.
-use Rattle.infer_deep.proofs.Common.{◌≡◌, ℕ, ◌≤◌, List, ◌∷◌, ◌++◌, length, take, arith, ltb, leb, IsTrue, get_or-take, and_parts, and_from, leb-true, ltb-true, nat_tests, get_or_append_left, sym, subst}
+use Rattle.infer_deep.proofs.Common.{◌≡◌, ℕ, ◌≤◌, List, ◌∷◌, ◌++◌, length, take, arith, ltb, leb, IsTrue, get_or-take, and_parts, and_from, leb-true, ltb-true, nat_tests, get_or_append_left}
 use Rattle.std.proofs.lemmas.Grind.{common_steps}
 use Rattle.infer_sig.proofs.ListLemmas.{list_any_passes, list_all_passes, list_any_same, list_all_same}
 use Rattle.infer_sig.proofs.PlaceLemmas.{stands_lasts, stands-take}

@@ -3,7 +3,6 @@ use Rattle.infer_tool.proofs.Common.{MatchOption, None, ◌≡◌, ◌-◌, ◌<
 use Rattle.std.proofs.lemmas.List.{get_or-map}
 use Rattle.infer.proofs.FirstLemmas.{IsFirstOf-same}
 use Rattle.infer.specs.declared.samples.TheConstants.{SAMPLE_SIZE}
-use Rattle.infer.specs.declared.table.file_type.MatcherType.TheVariants.{Text}
 use Rattle.infer.specs.declared.table.rows.TheConstants.{DLL, EPUB_ARCHIVE, ROW_COUNT}
 
 -- the word at 1 names what stands after the option

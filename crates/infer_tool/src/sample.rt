@@ -13,8 +13,8 @@ ghost use Rattle.infer_tool.specs.Writer.{IsLater, has_failed, inner};
 
 use crate::outcome::Outcome;
 use crate::writer::WatchedWriter;
-use infer::{SAMPLE_SIZE, Type};
 use infer::rows::{ROW_COUNT, numbers};
+use infer::{SAMPLE_SIZE, Type};
 use std::io::Write;
 
 /// Writes the sample of the first row with this extension to `out`, and nothing after it. If there is no such

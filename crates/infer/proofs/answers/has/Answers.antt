@@ -1,5 +1,4 @@
-use Rattle.infer.proofs.Common.{rules, tests, YieldsList-from_slice, cases_from_any, row_listed, IsAsked, table, map, number_of}
-use Rattle.infer.proofs.ListLemmas.{some_of_any}
+use Rattle.infer.proofs.Common.{IsAsked, map, number_of}
 use Rattle.infer.proofs.SlotLemmas.{some_alone, some_listed}
 use Rattle.infer.proofs.answers.has.Goals as goal
 

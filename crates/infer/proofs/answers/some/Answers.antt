@@ -1,5 +1,4 @@
-use Rattle.infer.proofs.Common.{◌↔◌, IsTrue, subst, sym, IsAsked, SomeBoth, Accepts, table, map, number_of, Takes}
-use Rattle.infer.proofs.CandidateLemmas.{some_of_first}
+use Rattle.infer.proofs.Common.{map, number_of, Takes}
 use Rattle.infer.proofs.SlotLemmas.{some_alone, some_listed}
 use Rattle.infer.proofs.answers.some.Goals as goal
 

@@ -1,5 +1,5 @@
-use Rattle.infer.proofs.Common.{arith, refl, MayBecomeRow, RowHas, rules, tests, YieldsList-from_slice, first_from_find}
-use Rattle.infer.proofs.AskLemmas.{found_among, none_among, among_of_find}
+use Rattle.infer.proofs.Common.{MayBecomeRow, RowHas, rules, tests, YieldsList-from_slice, first_from_find}
+use Rattle.infer.proofs.AskLemmas.{among_of_find}
 use Rattle.infer.proofs.decided.first_open.Goals as goal
 
 pub returns : goal.returns

@@ -1,4 +1,4 @@
-use Rattle.infer.proofs.Common.{◌∙◌, ap, subst, sym, List, ℕ, number_of, HasExtension, IsAsked, Accepts, RowHas, is_listed}
+use Rattle.infer.proofs.Common.{◌∙◌, ap, subst, sym, List, ℕ, number_of, HasExtension, Accepts, RowHas, is_listed}
 use Rattle.infer.proofs.SlotLemmas.{accepted_listed, takes_both}
 use Rattle.infer.proofs.candidates.asker.ask_named.Goals.{then-is_asked, else-is_asked}
 use Rattle.infer.proofs.candidates.asker.ask_named.Goals as goal

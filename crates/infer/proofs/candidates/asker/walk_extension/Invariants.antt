@@ -1,7 +1,7 @@
 -- none of the rows so far has the extension and accepts the buffer, and those of them that have it and are candidates
 -- were asked
 use Rattle.infer.proofs.Common.{◌≡◌, map, take, AllWithin, filter, number_of, RowHas}
-use Rattle.infer.proofs.SlotLemmas.{TakesText, is_asked, is_walked}
+use Rattle.infer.proofs.SlotLemmas.{TakesText, is_walked}
 use Rattle.infer.proofs.candidates.asker.walk_extension.Given as goal
 
 abbrev pub invariant-loop-row : goal.invariant-loop-row
