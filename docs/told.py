@@ -363,8 +363,8 @@ def check_classes():
     faults = re.findall(r"^    (\w+)(?:\(ErrorKind\))?,$", text_of("crates/infer/src/read/fault.rt"), re.M)
     listed = re.findall(r"^\| `Fault::(\w+)", text_of("docs/LIBRARY.md"), re.M)
     yield listed == faults, f"docs/LIBRARY.md lists the faults {listed}, and the code has {faults}"
-    last = re.findall(r"Case::.*=> (\w+),", text_of("crates/infer_sniff/src/case.rt"))
-    count = len(re.findall(r"^    [A-Z]\w+,$", text_of("crates/infer_sniff/src/case.rt"), re.M))
+    last = re.findall(r"Beginning::.*=> (\w+),", text_of("crates/infer/src/beginnings.rt"))
+    count = len(re.findall(r"^    [A-Z]\w+,$", text_of("crates/infer/src/beginnings.rt"), re.M))
     bounds = re.findall(r"^\| .* \| [\w, ]+? (?:in (?:compound files|ZIP archives) )?\| (\w+) \|$", text_of("docs/STREAMS.md"), re.M)
     titles = {"PPT": "PowerPoint", "PPTX": "PowerPoint"}
     wanted = [titles.get(it, it) for it in last] + [last[-1]] * (count - len(last))
@@ -388,7 +388,7 @@ NUMBERS = ["no", "one", "two", "three", "four", "five", "six", "seven", "eight",
 def check_counts(pages):
     """What is counted in words or figures is what the code has."""
     uses = len([it for it in os.listdir("crates/infer_uses/src") if it != "lib.rt"])
-    cases = len(re.findall(r"^    [A-Z]\w+,$", text_of("crates/infer_sniff/src/case.rt"), re.M))
+    cases = len(re.findall(r"^    [A-Z]\w+,$", text_of("crates/infer/src/beginnings.rt"), re.M))
     tags = len(re.findall(r'codes "', re.search(r"^tags = .*?(?=\n\n|\Z)", text_of("crates/infer_deep/specs/Text.antt"), re.M | re.S)[0])) if re.search(r"^tags = ", text_of("crates/infer_deep/specs/Text.antt"), re.M) else None
     front = re.search(r"const FRONT: usize = (\d+);", text_of("crates/infer/src/read/watched.rt"))[1]
     size = re.search(r"const SAMPLE_SIZE: usize = (\d+);", text_of("crates/infer_more/src/samples.rt"))[1]

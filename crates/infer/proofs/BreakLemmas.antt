@@ -1,6 +1,6 @@
 -- For each far row, and for each beginning, a buffer that has the row as its first, and whose first 1024 bytes
 -- have another answer.
-use Rattle.infer.proofs.Common.{◌≡◌, ◌⊎◌, ◌≢◌, ◌+◌, ◌<◌, ◌∷◌, ◌++◌, le_refl, zero-le, suc, ℕ, not, List, [], Option, None, Some, length, get_or, take, IsTrue, refl, codes, inl, inr, arith, slice_get_past, compound_header, word_id, old_excel_id, powerpoint_id, OccursAt, le16, le32, be32, zip_header, BeginsMarked, stands, Beginning, open_box, compound, archive, frame, white, mark, Begins, BeginsAlone, last_after, BuiltIn, framed, heif, avif, office, doc, xls, ppt, html, xml, Breaks, is_far_row, put, sample_of, zeros, signature_of, table, MSI, PDF, ROW_COUNT, ZIP}
+use Rattle.infer.proofs.Common.{◌≡◌, ◌⊎◌, ◌≢◌, ◌+◌, ◌<◌, ◌∷◌, ◌++◌, le_refl, zero-le, suc, ℕ, not, List, [], Option, None, Some, length, get_or, take, IsTrue, refl, codes, inl, inr, arith, slice_get_past, compound_header, word_id, old_excel_id, powerpoint_id, OccursAt, le16, le32, be32, zip_header, BeginsMarked, stands, Beginning, Begins, BeginsAlone, last_after, BuiltIn, framed, heif, avif, office, doc, xls, ppt, html, xml, Breaks, is_far_row, put, sample_of, zeros, signature_of, table, MSI, PDF, ROW_COUNT, ZIP, OpenBox, Compound, Archive, Frame, White, Mark}
 use Rattle.std.proofs.lemmas.Option.{none-some, same_Some}
 use Rattle.infer_deep.specs.Laws as Deep
 use Rattle.infer.proofs.DecisionLemmas.{occurs, behind, long_frame, space, wide_mark}
@@ -79,51 +79,51 @@ module _ (by_place : ByPlace) (exclude : Deep.Apart) where
 -- a claim of every beginning
 abbrev of_each : {P : Beginning → Type 0} → ((how : Beginning) → Known (P how)) → Known ((how : Beginning) → P how)
 of_each k = do
-  box ← takes (k open_box)
-  file ← takes (k compound)
-  entry ← takes (k archive)
-  skipped ← takes (k frame)
-  blank ← takes (k white)
-  marked ← takes (k mark)
-  proved (elim [ open_box ↦ box | compound ↦ file | archive ↦ entry | frame ↦ skipped | white ↦ blank | mark ↦ marked ])
+  box ← takes (k OpenBox)
+  file ← takes (k Compound)
+  entry ← takes (k Archive)
+  skipped ← takes (k Frame)
+  blank ← takes (k White)
+  marked ← takes (k Mark)
+  proved (elim [ OpenBox ↦ box | Compound ↦ file | Archive ↦ entry | Frame ↦ skipped | White ↦ blank | Mark ↦ marked ])
 
 module _ (by_place : ByPlace) (b : List ℕ) where
   marked_by : BeginsMarked b → OccursAt b (0xEF ∷ 0xBB ∷ 0xBF ∷ []) 0 ⊎ OccursAt b (0xFE ∷ 0xFF ∷ []) 0 ⊎ OccursAt b (0xFF ∷ 0xFE ∷ []) 0
   marked_by (m, is, o) = grind arith
 
   abbrev begins : (how : Beginning) → Known (Begins how b)
-  begins open_box = do
+  begins OpenBox = do
     kind ← needs (occurs by_place b 4 (codes "ftyp")) (λ h. h.kind)
     longer ← needs (at_most (suc (length b)) (be32 b 0)) (λ h. h.longer)
     proved (record { kind = kind; longer = longer })
-  begins compound = occurs by_place b 0 compound_header
-  begins archive =
+  begins Compound = occurs by_place b 0 compound_header
+  begins Archive =
       both (occurs by_place b 0 zip_header) (either (occurs by_place b 30 (codes "[Content_Types].xml")) (either (occurs by_place b 30 (codes "_rels/.rels")) (occurs by_place b 30 (codes "docProps"))))
-  begins frame = do
+  begins Frame = do
     low ← needs (at_most 0x50 (get_or b 0 0)) (λ h. h.low)
     high ← needs (at_most (get_or b 0 0) 0x5F) (λ h. h.high)
     number ← needs (occurs by_place b 1 (0x2A ∷ 0x4D ∷ 0x18 ∷ [])) (λ h. h.mark)
     proved (record { low = low; high = high; mark = number })
-  begins white =
+  begins White =
       let x = get_or b 0 0 in either (same x 0x09) (either (same x 0x0A) (either (same x 0x0C) (either (same x 0x0D) (same x 0x20))))
-  begins mark = do
+  begins Mark = do
     some ← needs (either (occurs by_place b 0 (0xEF ∷ 0xBB ∷ 0xBF ∷ [])) (either (occurs by_place b 0 (0xFE ∷ 0xFF ∷ [])) (occurs by_place b 0 (0xFF ∷ 0xFE ∷ [])))) marked_by
     proved (elim some [ inl o ↦ (_, inl refl, o) | inr (inl o) ↦ (_, inr (inl refl), o) | inr (inr o) ↦ (_, inr (inr refl), o) ])
 
   abbrev excluded : (how other : Beginning) → Known (Begins other b → other ≡ how)
-  excluded open_box open_box = proved (λ h. refl)
-  excluded compound compound = proved (λ h. refl)
-  excluded archive archive = proved (λ h. refl)
-  excluded frame frame = proved (λ h. refl)
-  excluded white white = proved (λ h. refl)
-  excluded mark mark = proved (λ h. refl)
+  excluded OpenBox OpenBox = proved (λ h. refl)
+  excluded Compound Compound = proved (λ h. refl)
+  excluded Archive Archive = proved (λ h. refl)
+  excluded Frame Frame = proved (λ h. refl)
+  excluded White White = proved (λ h. refl)
+  excluded Mark Mark = proved (λ h. refl)
   excluded how other = do
     none ← takes (negated (begins other))
     proved (λ h. absurd (none h))
 
 -- a buffer that begins so alone, to which bytes after the first 1024 bring the last row that can come
 abbrev late_after : Beginning → List ℕ × Option ℕ
-late_after mark = (behind 512 wide_mark (sample_of xml), None)
+late_after Mark = (behind 512 wide_mark (sample_of xml), None)
 late_after how = late (signature_of (last_after how))
 
 -- one that its 1024th byte decides, and that states no frame which would fit

@@ -1,5 +1,5 @@
 -- What nearly every proof names, passed on.
-pub use Rattle.infer.specs.Arrivals.{IsAwaited, last_awaited, Beginning, open_box, compound, archive, frame, white, mark, Begins, BeginsAlone, Comes, last_after, NewcomersAreAwaited}
+pub use Rattle.infer.specs.Arrivals.{IsAwaited, last_awaited, Begins, BeginsAlone, Comes, last_after, NewcomersAreAwaited}
 pub use Rattle.infer.specs.Buffer.{head, IsBuffer}
 pub use Rattle.infer.specs.BuiltIn.{BuiltIn, html, doc, framed, office, ppt, xls, xml, avif, heif, IsAccepted, fixed, matroska, pdf}
 pub use Rattle.infer.specs.Caller.{Contracts, Contract, Allows, FixesAnswers}
@@ -23,6 +23,8 @@ pub use Rattle.infer.specs.Triple.{Triple, triple_of}
 unfoldable pub use Rattle.infer.specs.Walks.{IsFirstAmong}
 pub use Rattle.infer.specs.Walks.{RowHas, Takes, is_listed, is_asked, asked_rows, count_asked, is_not_above, WalksFindFirst, row_numbered, HasGiven}
 pub use Rattle.infer.specs.Watched.{IsDue, fault_of, inner}
+pub use Rattle.infer.specs.declared.beginnings.Beginning.{Beginning}
+pub use Rattle.infer.specs.declared.beginnings.Beginning.TheVariants.{OpenBox, Compound, Archive, Frame, White, Mark}
 pub use Rattle.infer.specs.declared.read.fault.Fault.{Fault}
 pub use Rattle.infer.specs.declared.table.file_type.FileType.{FileType}
 pub use Rattle.infer.specs.declared.table.file_type.MatcherType.TheVariants.{Text, App, Image}

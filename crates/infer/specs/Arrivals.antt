@@ -7,24 +7,18 @@ use Rattle.infer_deep.specs.Office.{BeginsOffice}
 use Rattle.infer_deep.specs.Text.{BeginsMarked, BeginsWhite}
 use Rattle.infer.specs.BuiltIn.{BuiltIn, fixed, avif, doc, framed, heif, html, matroska, office, pdf, ppt, xls, xml, IsAccepted}
 use Rattle.infer.specs.Table.{signature_of}
+use Rattle.infer.specs.declared.beginnings.Beginning.{Beginning}
+use Rattle.infer.specs.declared.beginnings.Beginning.TheVariants.{OpenBox, Compound, Archive, Frame, White, Mark}
 use Rattle.infer.specs.declared.table.rows.TheConstants.{AVIF, LZ4, PPT, PPTX, ROW_COUNT, XML}
 
--- the ways in which a buffer can begin to which more bytes can bring a row
-pub data Beginning : Type 0 where
-  open_box : Beginning
-  compound : Beginning
-  archive : Beginning
-  frame : Beginning
-  white : Beginning
-  mark : Beginning
-
+-- the buffer begins in this way, after which more bytes can bring a row
 abbrev pub Begins : Beginning → List ℕ → Type 0
-Begins open_box b = IsOpenBox b
-Begins compound b = BeginsCompound b
-Begins archive b = BeginsOffice b
-Begins frame b = BeginsFrame b
-Begins white b = BeginsWhite b
-Begins mark b = BeginsMarked b
+Begins OpenBox b = IsOpenBox b
+Begins Compound b = BeginsCompound b
+Begins Archive b = BeginsOffice b
+Begins Frame b = BeginsFrame b
+Begins White b = BeginsWhite b
+Begins Mark b = BeginsMarked b
 
 -- b begins so and in no other of these ways
 abbrev pub BeginsAlone : Beginning → List ℕ → Type 0
@@ -32,42 +26,42 @@ BeginsAlone how b = Begins how b × ((other : Beginning) → Begins other b → 
 
 -- the number of the last row that can come after it
 abbrev pub last_after : Beginning → ℕ
-last_after open_box = AVIF
-last_after compound = PPT
-last_after archive = PPTX
-last_after frame = LZ4
-last_after white = XML
-last_after mark = XML
+last_after OpenBox = AVIF
+last_after Compound = PPT
+last_after Archive = PPTX
+last_after Frame = LZ4
+last_after White = XML
+last_after Mark = XML
 
 -- how a buffer begins to which more bytes can bring the signature
 abbrev pub IsAwaited : BuiltIn → List ℕ → Type 0
 IsAwaited (fixed alternatives) b = ⊥
 IsAwaited pdf b = ⊥
 IsAwaited (matroska doc_type) b = ⊥
-IsAwaited (framed magic) b = Begins frame b
-IsAwaited heif b = Begins open_box b
-IsAwaited avif b = Begins open_box b
-IsAwaited (office folder) b = Begins archive b
-IsAwaited doc b = Begins compound b
-IsAwaited xls b = Begins compound b
-IsAwaited ppt b = Begins compound b
-IsAwaited html b = Begins white b
-IsAwaited xml b = Begins white b ⊎ Begins mark b
+IsAwaited (framed magic) b = Begins Frame b
+IsAwaited heif b = Begins OpenBox b
+IsAwaited avif b = Begins OpenBox b
+IsAwaited (office folder) b = Begins Archive b
+IsAwaited doc b = Begins Compound b
+IsAwaited xls b = Begins Compound b
+IsAwaited ppt b = Begins Compound b
+IsAwaited html b = Begins White b
+IsAwaited xml b = Begins White b ⊎ Begins Mark b
 
 -- the number of the last row that is awaited so
 abbrev pub last_awaited : BuiltIn → ℕ
 last_awaited (fixed alternatives) = 0
 last_awaited pdf = 0
 last_awaited (matroska doc_type) = 0
-last_awaited (framed magic) = last_after frame
-last_awaited heif = last_after open_box
-last_awaited avif = last_after open_box
-last_awaited (office folder) = last_after archive
-last_awaited doc = last_after compound
-last_awaited xls = last_after compound
-last_awaited ppt = last_after compound
-last_awaited html = last_after white
-last_awaited xml = last_after mark
+last_awaited (framed magic) = last_after Frame
+last_awaited heif = last_after OpenBox
+last_awaited avif = last_after OpenBox
+last_awaited (office folder) = last_after Archive
+last_awaited doc = last_after Compound
+last_awaited xls = last_after Compound
+last_awaited ppt = last_after Compound
+last_awaited html = last_after White
+last_awaited xml = last_after Mark
 
 -- row i is awaited, and none of the rows after it up to the last that is awaited so accepts the buffer before and with
 -- the bytes that follow

@@ -5,7 +5,7 @@ ghost use Rattle.std.specs.List.{AllPairs, HoldsAt, filter, range_with_len};
 ghost use Rattle.infer_deep.specs.Laws.{Apart, Beginnings};
 ghost use Rattle.infer_sig.specs.App.{java, mach};
 ghost use Rattle.infer_sig.specs.Signature.{accepts};
-ghost use Rattle.infer.specs.Arrivals.{Beginning, Begins, BeginsAlone, NewcomersAreAwaited, last_after};
+ghost use Rattle.infer.specs.Arrivals.{Begins, BeginsAlone, NewcomersAreAwaited, last_after};
 ghost use Rattle.infer.specs.BuiltIn.{BuiltIn};
 ghost use Rattle.infer.specs.Decided.{AllowsExactly, AnswersAreOpen, DecidedByRows, DecidedLasts, FirstOpenComes, IsToldExactly, ReachNarrows};
 ghost use Rattle.infer.specs.First.{IsFirst, IsFirstOf};
@@ -17,6 +17,7 @@ ghost use Rattle.infer.specs.Samples.{sample_of};
 ghost use Rattle.infer.specs.Table.{table};
 ghost use Rattle.infer.specs.Triple.{triple_of};
 ghost use Rattle.infer.specs.Walks.{WalksFindFirst};
+ghost use Rattle.infer.specs.declared.beginnings.Beginning.{Beginning};
 
 use crate::caller::infer::Infer;
 pub use crate::candidates::dispatch::{blank, leads};

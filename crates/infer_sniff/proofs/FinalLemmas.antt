@@ -1,5 +1,7 @@
 -- A final verdict stays final.
-use Rattle.infer_sniff.proofs.Common.{◌≡◌, ◌↔◌, ℕ, ◌<◌, ◌≤◌, Bool, leb, List, ◌++◌, length, get_or, sym, ap, subst, ◌∙◌, inl, inr, Option, None, Some, arith, IsTrue, length-append, cases_lt, nat_tests, append_assoc, slice_get-get_or, IsAwaited, last_awaited, NewcomersAreAwaited, BuiltIn, IsAccepted, IsAnswer, IsFirstOf, IsNotLater, Lasts, Row, Accepts, row, signature_of, table, Triple, Holds, bound, Case, OpenBox, Compound, Office, Frame, Space, Mark, AreAlike, StaysFinalFromBeginning, IsTypeOf, IsSettled, IsVerdict, StaysFinal, RowStaysFinal, Verdict, SoFar, Final}
+use Rattle.infer_sniff.proofs.Common.{◌≡◌, ◌↔◌, ℕ, ◌<◌, ◌≤◌, Bool, leb, List, ◌++◌, length, get_or, sym, ap, subst, ◌∙◌, inl, inr, Option, None, Some, arith, IsTrue, length-append, cases_lt, nat_tests, append_assoc, slice_get-get_or, IsAwaited, last_awaited, NewcomersAreAwaited, BuiltIn, IsAccepted, IsAnswer, IsFirstOf, IsNotLater, Lasts, Row, Accepts, row, signature_of, table, Triple, Begins, last_after, AreAlike, StaysFinalFromBeginning, IsTypeOf, IsSettled, IsVerdict, StaysFinal, RowStaysFinal, Verdict, SoFar, Final}
+use Rattle.infer.specs.declared.beginnings.Beginning.{Beginning}
+use Rattle.infer.specs.declared.beginnings.Beginning.TheVariants.{OpenBox, Compound, Archive, Frame, White, Mark}
 use Rattle.infer.specs.DeepLaws.{Beginnings}
 use Rattle.infer.specs.declared.table.rows.TheConstants.{ROW_COUNT}
 use Rattle.infer.specs.declared.table.file_type.FileType.{FileType}
@@ -30,21 +32,21 @@ later : (o p q : Option ℕ) → IsNotLater o p → IsNotLater p q → IsNotLate
 later h0 h1 h2 h k = grind (arith, nat_tests)
 
 -- a buffer of at least 1024 bytes is settled by the case that holds and has the least bound
-module _ (b : List ℕ) (long : 1024 ≤ length b) (case : Case) (holds : Holds case b) (least : (other : Case) → Holds other b → bound case ≤ bound other) where
-  settled_within : (o : Option ℕ) → IsFirstOf (Accepts b) table o → IsNotLater o (Some (bound case)) → IsSettled b
+module _ (b : List ℕ) (long : 1024 ≤ length b) (how : Beginning) (holds : Begins how b) (least : (other : Beginning) → Begins other b → last_after how ≤ last_after other) where
+  settled_within : (o : Option ℕ) → IsFirstOf (Accepts b) table o → IsNotLater o (Some (last_after how)) → IsSettled b
   settled_within o first h = grind (arith, nat_tests, IsFirstOf-same (Accepts b) table o)
 
   pub open-from_none : IsFirstOf (Accepts b) table None → ¬ IsSettled b
-  open-from_none none settled = settled.within None none case holds
+  open-from_none none settled = settled.within None none how holds
 
-  pub settled-from_first : (i : ℕ) (r : Bool) → r ≡ leb i (bound case) → IsFirstOf (Accepts b) table (Some i) → IsTrue r ↔ IsSettled b
+  pub settled-from_first : (i : ℕ) (r : Bool) → r ≡ leb i (last_after how) → IsFirstOf (Accepts b) table (Some i) → IsTrue r ↔ IsSettled b
   settled-from_first i r e first = (
     λ is. settled_within (Some i) first (grind (arith, nat_tests)),
-    λ settled. let low = settled.within (Some i) first case holds in grind (arith, nat_tests),
+    λ settled. let low = settled.within (Some i) first how holds in grind (arith, nat_tests),
   )
 
 -- the case in which a signature is awaited
-in_case : (s : BuiltIn) (b : List ℕ) → IsAwaited s b → (case : Case) × Holds case b × (bound case ≡ last_awaited s)
+in_case : (s : BuiltIn) (b : List ℕ) → IsAwaited s b → (how : Beginning) × Begins how b × (last_after how ≡ last_awaited s)
 in_case h0 b h2 = grind (arith, nat_tests)
 
 module _ (every : (s : BuiltIn) → Lasts s) (b more : List ℕ) where
@@ -78,18 +80,18 @@ module _ (many : length table ≡ ROW_COUNT) (every : (s : BuiltIn) → Lasts s)
   answer_stays (Some t) (i, first, shown) = (i, first_stays (Some i) first, shown)
 
   -- a case that holds of more bytes held before
-  held : (case : Case) → Holds case (b ++ more) → Holds case b
+  held : (how : Beginning) → Begins how (b ++ more) → Begins how b
   held OpenBox h = early.open_box b more long h
   held Compound h = early.compound b more long h
-  held Office h = early.office b more long h
+  held Archive h = early.office b more long h
   held Frame h = early.frame b more long h
-  held Space h = early.white b more long h
+  held White h = early.white b more long h
   held Mark h = early.mark b more long h
 
   settled_by : (o : Option ℕ) → IsFirstOf (Accepts b) table o → IsSettled (b ++ more)
   settled_by o first = record {
     long = let l = long in omega (arith, length-append b more);
-    within = λ p then case holds. later p o (Some (bound case)) (not_later every b more o p first then) (settled.within o first case (held case holds));
+    within = λ p then how holds. later p o (Some (last_after how)) (not_later every b more o p first then) (settled.within o first how (held how holds));
   }
 
   settled_stays : (t : Option Triple) → IsAnswer (Accepts b) table t → IsSettled (b ++ more)

@@ -1,11 +1,6 @@
 -- A buffer for each case that it alone keeps open, and one that is a byte too short.
-use Rattle.infer_sniff.proofs.Common.{◌≡◌, ℕ, List, ◌++◌, length, take, drop, Option, Some, sym, subst, ap, ◌∙◌, arith, refl, length-append, length-take-le, take-append-drop, Beginning, Begins, BeginsAlone, archive, compound, frame, mark, open_box, white, IsFirst, IsFirstOf, Breaks, Accepts, table, beginning_of, bound, IsOneShort, IsSettled, KeepsOpen, RowStaysFinal, Case, OpenBox, Compound, Office, Frame, Space, Mark}
-
-abbrev case_of : Beginning → Case
-case_of = elim [ open_box ↦ OpenBox | compound ↦ Compound | archive ↦ Office | frame ↦ Frame | white ↦ Space | mark ↦ Mark ]
-
-is_own : (case : Case) → case_of (beginning_of case) ≡ case
-is_own = elim [ OpenBox ↦ refl | Compound ↦ refl | Office ↦ refl | Frame ↦ refl | Space ↦ refl | Mark ↦ refl ]
+use Rattle.infer_sniff.proofs.Common.{◌≡◌, ℕ, List, ◌++◌, length, take, drop, Option, Some, sym, subst, ap, ◌∙◌, arith, length-append, length-take-le, take-append-drop, Begins, BeginsAlone, last_after, IsFirst, IsFirstOf, Breaks, Accepts, table, IsOneShort, IsSettled, KeepsOpen, RowStaysFinal}
+use Rattle.infer.specs.declared.beginnings.Beginning.{Beginning}
 
 module _ (single : (b : List ℕ) (o p : Option ℕ) → IsFirstOf (Accepts b) table o → IsFirstOf (Accepts b) table p → o ≡ p) where
   module _ (n i : ℕ) (buf : List ℕ) (h : Breaks n i buf) where
@@ -24,20 +19,20 @@ module _ (single : (b : List ℕ) (o p : Option ℕ) → IsFirstOf (Accepts b) t
   one_short i buf long h none = record {
     short = short 1023 i buf h;
     one = (let e = ap length (take-append-drop 1023 buf) in omega (arith, e, long, length-append (take 1023 buf) (drop 1023 buf), short 1023 i buf h));
-    none = λ case. none (beginning_of case);
+    none = none;
     changes = changed 1023 i buf h;
   }
 
-  pub kept_open : ((b : List ℕ) (row : Option ℕ) → IsFirstOf (Accepts b) table row → IsSettled b → RowStaysFinal b row) → (case : Case) (buf : List ℕ)
-      → Breaks 1024 (bound case) buf → BeginsAlone (beginning_of case) (take 1024 buf) → KeepsOpen case (take 1024 buf) (drop 1024 buf)
-  kept_open stays case buf h alone =
+  pub kept_open : ((b : List ℕ) (row : Option ℕ) → IsFirstOf (Accepts b) table row → IsSettled b → RowStaysFinal b row) → (how : Beginning) (buf : List ℕ)
+      → Breaks 1024 (last_after how) buf → BeginsAlone how (take 1024 buf) → KeepsOpen how (take 1024 buf) (drop 1024 buf)
+  kept_open stays how buf h alone =
       let b = take 1024 buf in
-      let other = changed 1024 (bound case) buf h in
+      let other = changed 1024 (last_after how) buf h in
       record {
-        long = (let e = short 1024 (bound case) buf h in omega arith);
+        long = (let e = short 1024 (last_after how) buf h in omega arith);
         holds = alone.0;
-        alone = λ other held. sym (is_own other) ∙ ap case_of (alone.1 (beginning_of other) held) ∙ is_own case;
+        alone = alone.1;
         unsettled = λ settled. other h.front h.front_first (stays b h.front h.front_first settled (drop 1024 buf)).0;
-        own = λ first. h.other (single b h.front (Some (bound case)) h.front_first first);
-        brought = brought 1024 (bound case) buf h;
+        own = λ first. h.other (single b h.front (Some (last_after how)) h.front_first first);
+        brought = brought 1024 (last_after how) buf h;
       }

@@ -1,18 +1,23 @@
 -- What can be said of the answer for a buffer that may go on.
-use Rattle.std.specs.Prelude.{◌≡◌, ◌↔◌, ◌≤◌, ℕ, List, ◌++◌, Option, length, option_map}
+use Rattle.std.specs.Prelude.{◌≡◌, ◌↔◌, ◌≤◌, ℕ, List, ◌++◌, Option, length, option_map, Some}
 use Rattle.infer.specs.First.{IsAnswer, IsFirst, IsFirstOf}
 use Rattle.infer.specs.Row.{Accepts}
 use Rattle.infer.specs.Table.{table}
 use Rattle.infer.specs.Triple.{triple_of}
 use Rattle.infer.specs.declared.table.file_type.FileType.{FileType}
-use Rattle.infer_sniff.specs.Cases.{Holds, IsWithinBounds, bound}
-use Rattle.infer_sniff.specs.declared.case.Case.{Case}
+use Rattle.infer.specs.Arrivals.{Begins, last_after}
+use Rattle.infer.specs.Laws.{IsNotLater}
+use Rattle.infer.specs.declared.beginnings.Beginning.{Beginning}
 use Rattle.infer_sniff.specs.declared.verdict.Verdict.{Verdict}
 use Rattle.infer_sniff.specs.declared.verdict.Verdict.TheVariants.{SoFar, Final}
 
 -- the type is that of the first built-in row that accepts the buffer, and none if no row does
 abbrev pub IsTypeOf : List ℕ → Option FileType → Type 0
 IsTypeOf b answer = IsAnswer (Accepts b) table (option_map triple_of answer)
+
+-- the row is not after the last that can come after a way in which the buffer begins; none comes after all
+abbrev pub IsWithinBounds : List ℕ → Option ℕ → Type 0
+IsWithinBounds b row = (how : Beginning) → Begins how b → IsNotLater row (Some (last_after how))
 
 -- there are at least 1024 bytes, and the first row that accepts them is within the bounds of the cases that hold
 pub record IsSettled (b : List ℕ) : Type 0 where
@@ -53,17 +58,17 @@ StaysFinalFromBeginning verdict b = (short more : List ℕ) × (b ≡ short ++ m
 
 -- the case holds of the buffer, and no other does; the buffer is not settled, and more bytes bring the last row that the
 -- case can bring, which is not the buffer's own
-pub record KeepsOpen (case : Case) (b more : List ℕ) : Type 0 where
+pub record KeepsOpen (how : Beginning) (b more : List ℕ) : Type 0 where
   pub long : 1024 ≤ length b
-  pub holds : Holds case b
-  pub alone : (other : Case) → Holds other b → other ≡ case
+  pub holds : Begins how b
+  pub alone : (other : Beginning) → Begins other b → other ≡ how
   pub unsettled : ¬ IsSettled b
-  pub own : ¬ IsFirst (Accepts b) table (bound case)
-  pub brought : IsFirst (Accepts (b ++ more)) table (bound case)
+  pub own : ¬ IsFirst (Accepts b) table (last_after how)
+  pub brought : IsFirst (Accepts (b ++ more)) table (last_after how)
 
 -- no case holds of the buffer, which has 1023 bytes, and one byte more changes its first row
 pub record IsOneShort (b more : List ℕ) : Type 0 where
   pub short : length b ≡ 1023
   pub one : length more ≡ 1
-  pub none : (case : Case) → ¬ Holds case b
+  pub none : (how : Beginning) → ¬ Begins how b
   pub changes : (row : Option ℕ) → IsFirstOf (Accepts b) table row → ¬ IsFirstOf (Accepts (b ++ more)) table row

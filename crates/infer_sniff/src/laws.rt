@@ -3,7 +3,7 @@ ghost use Rattle.std.specs.Prelude.{◌≡◌, ℕ, List, ◌++◌};
 ghost use Rattle.infer.specs.Buffer.{head};
 ghost use Rattle.infer.specs.Decided.{IsDecided};
 ghost use Rattle.infer_sniff.specs.Verdicts.{AreAlike, IsOneShort, IsSettled, IsVerdict, KeepsOpen};
-ghost use Rattle.infer_sniff.specs.declared.case.Case.{Case};
+ghost use Rattle.infer.specs.declared.beginnings.Beginning.{Beginning};
 ghost use Rattle.infer_sniff.specs.declared.verdict.Verdict.{Verdict};
 
 use infer::{FRONT, laws, rows};
@@ -30,7 +30,7 @@ pub fn decided()
 /// which more bytes bring the last row that it allows; and a buffer of 1023 bytes, of which no case holds, gets another
 /// row by one byte more.
 pub fn needed()
-    ensures cases { (case : Case) → (b more : List ℕ) × KeepsOpen case b more }
+    ensures cases { (how : Beginning) → (b more : List ℕ) × KeepsOpen how b more }
     ensures least { (b more : List ℕ) × IsOneShort b more }
 {
     rows::numbers();

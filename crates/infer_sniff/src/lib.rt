@@ -5,7 +5,6 @@
 //! change it.
 #![tactic(auto)]
 
-mod case;
 pub mod laws;
 mod position;
 mod reading;

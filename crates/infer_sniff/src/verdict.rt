@@ -5,7 +5,7 @@ ghost use Rattle.infer.specs.Row.{Accepts};
 ghost use Rattle.infer.specs.Table.{table};
 ghost use Rattle.infer_sniff.specs.Verdicts.{StaysFinalFromBeginning, IsFinal, IsSettled, IsTypeOf, IsVerdict, StaysFinal, found_of};
 
-use crate::case::Case;
+use infer::beginnings::Beginning;
 use infer::{Type, laws, position, row, rows};
 
 /// So many bytes decide every row that is not far.
@@ -85,9 +85,9 @@ pub fn is_settled(buf: &[u8], place: Option<usize>) -> bool
     if buf.len() < LEAST {
         return false;
     }
-    match (Case::of(buf), place) {
+    match (Beginning::of(buf), place) {
         (None, _) => true,
         (Some(_), None) => false,
-        (Some(case), Some(found)) => found <= case.bound(),
+        (Some(beginning), Some(found)) => found <= beginning.last_after(),
     }
 }

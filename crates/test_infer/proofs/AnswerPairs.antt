@@ -10,7 +10,8 @@ use Rattle.infer_sig.specs.Image.{png}
 use Rattle.infer_sig.specs.Signature.{Alternative, accepts, stands, any_of, at_least, byte}
 use Rattle.infer.specs.Arms.{rows_of}
 use Rattle.infer_sig.specs.Open.{agrees}
-use Rattle.infer.specs.Arrivals.{IsAwaited, frame, last_after, white}
+use Rattle.infer.specs.Arrivals.{IsAwaited, last_after}
+use Rattle.infer.specs.declared.beginnings.Beginning.TheVariants.{Frame, White}
 use Rattle.infer.specs.Buffer.{IsBuffer}
 use Rattle.infer.specs.BuiltIn.{BuiltIn, fixed, html, pdf}
 use Rattle.infer.specs.Caller.{Allows, Contract, Contracts, FixesAnswers}
@@ -96,7 +97,7 @@ IsBuffer_pair = (All-cons (λ x. x < 256) 255 [] (omega arith) (All-nil (λ x. x
 pub allows_first_pair : IsTrue (allows_first (fixed png) 0x89) × (¬ IsTrue (allows_first (fixed png) 0x50))
 allows_first_pair = (refl, λ t. absurd (cc))
 
-pub last_after_pair : (last_after white ≡ XML) × (¬ (last_after frame ≡ XML))
+pub last_after_pair : (last_after White ≡ XML) × (¬ (last_after Frame ≡ XML))
 last_after_pair = (refl, λ e. omega (arith, e))
 
 pub FixesAnswers_pair : FixesAnswers of_nothing × (¬ FixesAnswers of_any)

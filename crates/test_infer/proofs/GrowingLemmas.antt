@@ -1,39 +1,20 @@
 -- What a buffer's first rows tell of it, as it is and as it grows.
 use Rattle.std.proofs.Common.{◌≡◌, ◌≢◌, ◌↔◌, ◌<◌, ◌∙◌, ℕ, Bool, true, false, not, List, [], ◌++◌, Option, None, Some, IsTrue, length, take, subst, sym, refl}
 use Rattle.std.proofs.lemmas.List.{append-nil}
-use Rattle.infer.specs.Arrivals.{Beginning, Begins, archive, compound, frame, mark, open_box, white}
+use Rattle.infer.specs.Arrivals.{Begins}
 use Rattle.infer.specs.Buffer.{IsBuffer}
 use Rattle.infer.specs.First.{IsFirst, IsFirstOf}
 use Rattle.infer.specs.Laws.{Breaks}
 use Rattle.infer.specs.Row.{Accepts}
 use Rattle.infer.specs.Table.{table}
 use Rattle.infer.proofs.FirstLemmas.{IsFirstOf-same}
-use Rattle.infer_sniff.specs.Cases.{Holds, beginning_of}
 use Rattle.infer_sniff.specs.Verdicts.{IsOneShort, IsSettled, RowStaysFinal, StaysFinal}
-use Rattle.infer_sniff.specs.declared.case.Case.{Case}
-use Rattle.infer_sniff.specs.declared.case.Case.TheVariants.{OpenBox, Compound, Office, Frame, Space, Mark}
+use Rattle.infer.specs.declared.beginnings.Beginning.{Beginning}
 use Rattle.infer_sniff.specs.declared.verdict.Verdict.TheVariants.{Final}
 
 negated : {X : Type 0} (told : Bool) → IsTrue told ↔ X → IsTrue (not told) ↔ (¬ X)
 negated true tells = (λ t. absurd (cc), λ never. absurd (never (tells.0 refl)))
 negated false tells = (λ t x. absurd (let e = tells.1 x in cc), λ never. refl)
-
--- what is said of each case is said of each beginning
-pub none_begins : (b : List ℕ) → ((case : Case) → ¬ Holds case b) → (how : Beginning) → ¬ Begins how b
-none_begins b none open_box = none OpenBox
-none_begins b none compound = none Compound
-none_begins b none archive = none Office
-none_begins b none frame = none Frame
-none_begins b none white = none Space
-none_begins b none mark = none Mark
-
-pub white_alone : (b : List ℕ) → ((case : Case) → Holds case b → case ≡ Space) → (how : Beginning) → Begins how b → how ≡ white
-white_alone b alone open_box held = absurd (let e = alone OpenBox held in cc)
-white_alone b alone compound held = absurd (let e = alone Compound held in cc)
-white_alone b alone archive held = absurd (let e = alone Office held in cc)
-white_alone b alone frame held = absurd (let e = alone Frame held in cc)
-white_alone b alone white held = refl
-white_alone b alone mark held = absurd (let e = alone Mark held in cc)
 
 -- the first row of the buffer, and whether it is told that it stays
 module _ (b : List ℕ) (o : Option ℕ) (settled : Bool) (first : IsFirstOf (Accepts b) table o) (told : IsTrue settled ↔ IsSettled b)
@@ -71,6 +52,6 @@ module _ (b more : List ℕ) (o p : Option ℕ) (same : Bool) (short : length b 
 
   pub one_short : IsTrue (not same) ↔ IsOneShort b more
   one_short = (
-    λ t. record { short = short; one = one; none = λ case. none (beginning_of case); changes = changes ((negated same told).0 t) },
+    λ t. record { short = short; one = one; none = none; changes = changes ((negated same told).0 t) },
     λ h. (negated same told).1 (λ e. h.changes o first (subst (IsFirstOf (Accepts (b ++ more)) table) (sym e) then)),
   )

@@ -45,9 +45,7 @@ use Rattle.infer_more.proofs.SizeLemmas.{texts_fit}
 use Rattle.infer_more.proofs.LawLemmas.{text_lost}
 use Rattle.test_infer.proofs.SignaturePairs.{occurs}
 use Rattle.infer_sniff.specs.Sniffers.{IsSniffer}
-use Rattle.infer_sniff.specs.Cases.{bound}
 use Rattle.infer_sniff.specs.Verdicts.{AreAlike, IsFinal, StaysFinalFromBeginning, found_of}
-use Rattle.infer_sniff.specs.declared.case.Case.TheVariants.{Frame, Space}
 use Rattle.infer_sniff.specs.declared.verdict.Verdict.TheVariants.{Final, SoFar}
 use Rattle.infer_uses.specs.Counts.{Counts, counted, no_buffer, passed}
 use Rattle.infer_uses.specs.Fields.{filled, mime_type_at}
@@ -171,9 +169,6 @@ HasNoSample_pair = (inl refl, λ h. ⊎_elim (λ e. omega (arith, e)) (λ i. ⊎
 
 pub written_pair : (written None (codes "a") ≡ codes "a") × (¬ (written (Some []) (codes "a") ≡ codes "a"))
 written_pair = (refl, λ e. omega (arith, ap (λ b. get_or b 0 0) e))
-
-pub bound_pair : (bound Space ≡ XML) × (¬ (bound Frame ≡ XML))
-bound_pair = (refl, λ e. omega (arith, e))
 
 pub IsFinal_pair : IsFinal (Final None) × (¬ IsFinal (SoFar None))
 IsFinal_pair = (tt, λ h. h)

@@ -29,9 +29,9 @@ ghost use Rattle.infer_more.specs.Decided as wider;
 ghost use Rattle.infer_more.specs.Decided.{MayBecomeAt};
 ghost use Rattle.infer_more.specs.Samples.{HasAnswer};
 ghost use Rattle.infer_more.specs.Wider.{AcceptsAt, IsWider, IsWiderAnswer, ShowsExtension, ShowsMimeType};
-ghost use Rattle.infer_sniff.specs.Cases.{Holds};
+ghost use Rattle.infer.specs.Arrivals.{Begins};
 ghost use Rattle.infer_sniff.specs.Verdicts.{IsSettled, IsTypeOf, IsVerdict};
-ghost use Rattle.infer_sniff.specs.declared.case.Case.TheVariants.{Space};
+ghost use Rattle.infer.specs.declared.beginnings.Beginning.TheVariants.{White};
 ghost use Rattle.infer_sniff.specs.declared.verdict.Verdict.TheVariants.{SoFar};
 ghost use Rattle.infer_more.specs.Text.{IsTypesAnswer};
 ghost use Rattle.infer_uses.specs.Choices.{IsAgreed, IsChoice};
@@ -86,8 +86,8 @@ pub fn is_accepted_by_png(buf: &[u8]) -> bool
     is_png(buf)
 }
 
-pub fn is_held_by_space(buf: &[u8]) -> bool
-    ensures { IsTrue result ↔ Holds Space buf.now }
+pub fn begins_with_white(buf: &[u8]) -> bool
+    ensures { IsTrue result ↔ Begins White buf.now }
 {
     begins_white(buf)
 }

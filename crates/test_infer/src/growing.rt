@@ -1,12 +1,13 @@
 //! Properties of a buffer that grows, which the page of definitions shows and no call tells by itself, as functions that
 //! tell them.
 ghost use Rattle.std.specs.Prelude.{◌≡◌, ◌≢◌, ◌↔◌, ◌+◌, ◌++◌, IsTrue, None, codes, length};
-ghost use Rattle.infer.specs.Arrivals.{Beginning, Begins, BeginsAlone, white};
+ghost use Rattle.infer.specs.Arrivals.{Begins, BeginsAlone};
 ghost use Rattle.infer.specs.Laws.{Breaks};
 ghost use Rattle.infer.specs.Samples.{zeros};
 ghost use Rattle.infer.specs.declared.table.rows.TheConstants.{EXE};
 ghost use Rattle.infer_sniff.specs.Verdicts.{IsOneShort, KeepsOpen, RowStaysFinal, StaysFinal};
-ghost use Rattle.infer_sniff.specs.declared.case.Case.TheVariants.{Space};
+ghost use Rattle.infer.specs.declared.beginnings.Beginning.{Beginning};
+ghost use Rattle.infer.specs.declared.beginnings.Beginning.TheVariants.{White};
 ghost use Rattle.infer_sniff.specs.declared.verdict.Verdict.TheVariants.{Final};
 
 use crate::definitions::{is_first, is_settled};
@@ -19,7 +20,7 @@ use infer_sniff::position_settled;
 
 /// Whether it begins in one of the other ways than with white space.
 fn begins_otherwise(buf: &[u8]) -> bool
-    ensures { IsTrue result ↔ ((how : Beginning) × (how ≢ white) × Begins how buf.now) }
+    ensures { IsTrue result ↔ ((how : Beginning) × (how ≢ White) × Begins how buf.now) }
 {
     is_open_box(buf)
         || begins_compound(buf)
@@ -35,7 +36,7 @@ fn begins_in_none(buf: &[u8]) -> bool
 }
 
 pub fn begins_white_alone(buf: &[u8]) -> bool
-    ensures { IsTrue result ↔ BeginsAlone white buf.now }
+    ensures { IsTrue result ↔ BeginsAlone White buf.now }
 {
     begins_white(buf) && !begins_otherwise(buf)
 }
@@ -80,7 +81,7 @@ fn join(front: &[u8], back: &[u8], out: &mut [u8])
 }
 
 pub fn is_kept_open_by_white(buf: &[u8; 1024]) -> bool
-    ensures { IsTrue result ↔ KeepsOpen Space buf.now (codes "<?xml") }
+    ensures { IsTrue result ↔ KeepsOpen White buf.now (codes "<?xml") }
 {
     if !begins_white_alone(buf) {
         return false;

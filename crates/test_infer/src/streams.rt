@@ -2,7 +2,7 @@
 ghost use Rattle.std.specs.Prelude.{◌≡◌, ◌++◌, ℕ, IsTrue, List};
 ghost use Rattle.infer.specs.Buffer.{head};
 ghost use Rattle.infer_sniff.specs.Verdicts.{IsVerdict, KeepsOpen};
-ghost use Rattle.infer_sniff.specs.declared.case.Case.TheVariants.{Mark};
+ghost use Rattle.infer.specs.declared.beginnings.Beginning.TheVariants.{Mark};
 
 use infer::FRONT;
 use infer_sniff::laws::{cuts, decided, needed};

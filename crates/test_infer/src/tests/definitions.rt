@@ -140,7 +140,7 @@ fn answers(rt: HostRuntime) {
         "IsDecided" is_wider_decided, &zeros_but::<53>(&[(0, b"\x7FELF")]), &zeros_but::<53>(&[(0, b"\x7FELF\x02\x01"), (16, b"\x03")]);
         "IsChangeable" is_wider_changeable, &zeros_but::<53>(&[(0, b"\x7FELF\x02\x01"), (16, b"\x03")]), &zeros_but::<53>(&[(0, b"\x7FELF")]);
         "MayBecomeAt buf.now ROW_COUNT" may_become_object, b"\0\0\0\0\0", b"\0\0\0\0\0\0";
-        "Holds Space" is_held_by_space, b" ", b"x";
+        "Begins White" begins_with_white, b" ", b"x";
         "IsSettled" is_settled, &[0; 1024], &[0; 1023];
         "IsTypeOf buf.now None" has_no_row, b"M", b"MZ";
         "IsVerdict buf.now (SoFar None)" is_unknown_so_far, b"M", b"MZ";
@@ -217,7 +217,7 @@ fn added(rt: HostRuntime) -> Result<(), AllocError> {
 #[test]
 fn growing(rt: HostRuntime) {
     let told = told! {
-        "BeginsAlone white" begins_white_alone, b" ", b" \0\0\0ftyp";
+        "BeginsAlone White" begins_white_alone, b" ", b" \0\0\0ftyp";
         "Breaks 1 EXE" breaks_at_1, b"MZ", b"M";
         "RowStaysFinal buf.now None" stays_unknown, &[0; 1024], &[0x20; 1024];
         "StaysFinal buf.now (Final None)" stays_unknown, &[0; 1024], &[0x20; 1024];

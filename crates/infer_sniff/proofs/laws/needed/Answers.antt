@@ -1,15 +1,15 @@
-use Rattle.infer_sniff.proofs.Common.{take, drop, beginning_of}
+use Rattle.infer_sniff.proofs.Common.{take, drop}
 use Rattle.infer_sniff.proofs.FinalLemmas.{first-stays}
 use Rattle.infer_sniff.proofs.NeededLemmas.{kept_open, one_short}
 use Rattle.infer_sniff.proofs.laws.needed.Goals as goal
 
 pub returns-clause-cases : goal.returns-clause-cases
-returns-clause-cases c case =
-    let found = c.breaks.ensures.beginnings (beginning_of case) in (
+returns-clause-cases c how =
+    let found = c.breaks.ensures.beginnings how in (
       take 1024 found.0,
       drop 1024 found.0,
       kept_open c.single.ensures (first-stays c.numbers.ensures.many c.growth.ensures.every c.arrival.ensures.awaited c.arrival.ensures.early)
-          case found.0 found.1 found.2,
+          how found.0 found.1 found.2,
     )
 
 pub returns-clause-least : goal.returns-clause-least

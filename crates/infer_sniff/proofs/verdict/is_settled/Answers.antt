@@ -13,6 +13,6 @@ returns-in-Some-None c =
 pub returns-in-Some-Some : goal.returns-in-Some-Some
 returns-in-Some-Some c =
     let held = c.in-Some-Some.ensures in
-    settled-from_first c.args.buf.now c.if-buf-lt-LEAST.false c.in-Some-Some.case held.0 held.1 c.in-Some-Some.found _
-    (ap (leb c.in-Some-Some.found) c.bound.ensures)
+    settled-from_first c.args.buf.now c.if-buf-lt-LEAST.false c.in-Some-Some.beginning held.0 held.1 c.in-Some-Some.found _
+    (ap (leb c.in-Some-Some.found) c.last_after.ensures)
     (subst (IsFirstOf (Accepts c.args.buf.now) table) c.in-Some-Some.is-1 c.requires)

@@ -3,7 +3,7 @@ use Rattle.infer.specs.First.{IsFirstOf}
 use Rattle.infer.specs.Row.{Accepts}
 use Rattle.infer.specs.Table.{table}
 use Rattle.infer_sniff.specs.Verdicts.{IsOneShort}
-use Rattle.test_infer.proofs.GrowingLemmas.{none_begins, one_short}
+use Rattle.test_infer.proofs.GrowingLemmas.{one_short}
 use Rattle.test_infer.proofs.growing.is_one_short.Goals as goal
 
 pub returns-then-begins_in_none : goal.returns-then-begins_in_none
@@ -19,5 +19,5 @@ returns-then-begins_in_none c =
 pub returns-else-begins_in_none : goal.returns-else-begins_in_none
 returns-else-begins_in_none c = (
   λ t. absurd (let e = c.if-begins_in_none.false in cc),
-  λ h. c.begins_in_none.ensures.1 (none_begins c.join.new.out (subst (λ u. IsOneShort u (70 ∷ [])) (sym c.join.ensures) h).none),
+  λ h. c.begins_in_none.ensures.1 (subst (λ u. IsOneShort u (70 ∷ [])) (sym c.join.ensures) h).none,
 )
