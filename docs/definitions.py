@@ -16,7 +16,7 @@ DATA = "App Archive Audio Book Font Image Odf Text Video".split()
 ALSO = {
     "IsFramed": "IsZst", "IsMatroska": "IsMkv", "IsOffice": "IsDocx", "IsOpenBox": "Begins open_box", "BeginsCompound": "Begins compound",
     "BeginsOffice": "Begins archive", "BeginsFrame": "Begins frame", "BeginsWhite": "Begins white", "BeginsMarked": "Begins mark",
-    "Alternative": "fits", "BuiltIn": "allows_first", "Beginning": "last_after", "Triple": "triple", "Row": "shows",
+    "Alternative": "fits", "BuiltIn": "allows_first", "Triple": "triple", "Row": "shows",
 }
 # What names mean that have no words above them in their file, and none before that hold for them too.
 UNSAID = {

@@ -13,7 +13,7 @@ in_range P s n all k low high = grind (arith, get_or-range_with_len s n (k - s) 
 
 module _ (fixed_near : (n : ℕ) (s : List Alternative) → IsTrue (Fixed.is_within n s) → Fixed.DependsOnFront n s) (deep_near : Deep.Near)
     (arrivals : Deep.Arrivals) (exclude : Deep.Apart) (b more : List ℕ) (long : 1024 ≤ length b) where
-  before : (s : BuiltIn) → IsNear s → IsAccepted s (b ++ more) → IsAccepted s b
+  before : (s : BuiltIn) → IsNear (IsAccepted s) → IsAccepted s (b ++ more) → IsAccepted s b
   before s near h = grind (arith, length-append b more, take-append-le 1024 b more long)
 
   either_id : IsAccepted xls (b ++ more) → IsAccepted xls b ⊎ IsAwaited xls b

@@ -7,7 +7,7 @@ use Rattle.infer.proofs.FirstLemmas.{IsFirstOf-same}
 use Rattle.infer.proofs.ListLemmas.{HoldsAt-read}
 use Rattle.infer.proofs.OrderLemmas.{some_row}
 
-module _ (lasts : (s : BuiltIn) → Lasts s) where
+module _ (lasts : (s : BuiltIn) → Lasts (IsAccepted s)) where
   may_accept_now : (b : List ℕ) (r : Row BuiltIn) → Accepts b r → MayBecomeRow b r
   may_accept_now b r a = ([], All-nil (λ x. x < 256), lasts r.signature b [] a)
 
@@ -85,7 +85,7 @@ none_first P xs none (suc n) le =
 not_unanswered : {A : Type 0} (P : A → Type 0) (xs : List A) → ¬ ((o : Option ℕ) → ¬ IsFirstOf P xs o)
 not_unanswered P xs none = none None (none_first P xs none (length xs) (le_refl (length xs)))
 
-module _ (lasts : (s : BuiltIn) → Lasts s) (b : List ℕ) where
+module _ (lasts : (s : BuiltIn) → Lasts (IsAccepted s)) (b : List ℕ) where
   pub decided_if_none : IsFirstOf (MayBecomeRow b) table None → IsDecided b
   decided_if_none none =
       (decided_by_rows lasts b None (λ k d low lt a. none k d low lt (may_accept_now lasts b (get_or table k d) a))).1 none
@@ -162,7 +162,7 @@ first_open_comes b i first =
       },
     )
 
-module _ (lasts : (s : BuiltIn) → Lasts s) where
+module _ (lasts : (s : BuiltIn) → Lasts (IsAccepted s)) where
   pub decided_lasts : DecidedLasts
   decided_lasts b more bytes decided rest None rest_bytes none = λ k d low lt a.
       not_unanswered (Accepts b) table (λ o first.

@@ -16,9 +16,9 @@ row_signature P i d lt h =
     let inside : i < length (map decides table) = omega (arith, lt, length-map {A = Row BuiltIn} {B = BuiltIn} table decides) in
     subst P (get_or_append_left (map decides table) _ d.signature i inside ∙ get_or-map decides table i d d.signature lt) (h d.signature)
 
-module _ (growth : All Lasts signatures) where
-  row_lasts : (i : ℕ) (d : Row BuiltIn) → i < length table → Lasts (get_or table i d).signature
-  row_lasts i d lt = row_signature Lasts i d lt (λ e. growth i e (omega (arith, lt, length-table, length-signatures)))
+module _ (growth : All (λ s. Lasts (IsAccepted s)) signatures) where
+  row_lasts : (i : ℕ) (d : Row BuiltIn) → i < length table → Lasts (IsAccepted (get_or table i d).signature)
+  row_lasts i d lt = row_signature (λ s. Lasts (IsAccepted s)) i d lt (λ e. growth i e (omega (arith, lt, length-table, length-signatures)))
 
   pub rows_keep : {X : Type 0} {g : Contracts X} (added : List (Row (Signature X g))) → All (λ r. AnyLasts r.signature) added
       → All (λ r. AnyLasts r.signature) (added ++ map kept_row table)
@@ -36,7 +36,7 @@ steady all keep short more before after bytes =
 abbrev Answered : List ℕ → Option ℕ → Type 0
 Answered buf o = IfSome o (HoldsAt (Accepts buf) table)
 
-module _ (growth : All Lasts signatures) (short more : List ℕ) where
+module _ (growth : All (λ s. Lasts (IsAccepted s)) signatures) (short more : List ℕ) where
   -- an answer of the longer buffer that the shorter one has too is its first
   shortened : (o : Option ℕ) → IsFirstOf (Accepts (short ++ more)) table o → Answered short o → IsFirstOf (Accepts short) table o
   shortened None none here = λ i d low lt h. none i d low lt (row_lasts growth i d lt short more h)
@@ -50,9 +50,9 @@ module _ (near : OthersAreNear signatures) (buf : List ℕ) (long : 1024 ≤ len
   front_answered : (o : Option ℕ) → IsTrue (not (answers_far o)) → IsFirstOf (Accepts buf) table o → Answered (take 1024 buf) o
   front_answered None out none = tt
   front_answered (Some i) out first =
-      λ d. (row_signature IsNear i d first.within (near i (omega (arith, first.within, length-table, length-signatures)) out) buf long).0 (first.here d)
+      λ d. (row_signature (λ s. IsNear (IsAccepted s)) i d first.within (near i (omega (arith, first.within, length-table, length-signatures)) out) buf long).0 (first.here d)
 
-module _ (growth : All Lasts signatures) (near : OthersAreNear signatures) where
+module _ (growth : All (λ s. Lasts (IsAccepted s)) signatures) (near : OthersAreNear signatures) where
   pub front_decides : FrontDecides
   front_decides buf o first out = elim (cases_lt (length buf) 1024) [
     | inl lt ↦ subst (λ (b : List ℕ). IsFirstOf (Accepts b) table o) (sym (take_all 1024 buf (omega arith))) first

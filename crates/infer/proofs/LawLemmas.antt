@@ -1,5 +1,5 @@
 -- The laws of all matchers, from those of every signature.
-use Rattle.infer.proofs.Common.{◌≡◌, ◌<◌, ℕ, List, length, get_or, refl, ◌⊎◌, sym, ◌∙◌, arith, IsTrue, Alternative, BuiltIn, fixed, avif, doc, framed, heif, html, matroska, office, pdf, ppt, xls, xml, signatures, is_far_row, Lasts, IsNear, OthersAreNear, signature_of, table, MATCHER_COUNT}
+use Rattle.infer.proofs.Common.{accepts, IsAccepted, ◌≡◌, ◌<◌, ℕ, List, length, get_or, refl, ◌⊎◌, sym, ◌∙◌, arith, IsTrue, Alternative, BuiltIn, fixed, avif, doc, framed, heif, html, matroska, office, pdf, ppt, xls, xml, signatures, is_far_row, Lasts, IsNear, OthersAreNear, signature_of, table, MATCHER_COUNT}
 use Rattle.infer_sig.specs.Laws as Fixed
 use Rattle.infer_deep.specs.Laws as Deep
 use Rattle.infer.proofs.KnownLemmas.{Known, proved, unknown, is, either, is_proved, proof_of, proved_if}
@@ -9,7 +9,7 @@ pub length-signatures : length signatures ≡ MATCHER_COUNT
 unfolding signatures table
 length-signatures = refl
 
-pub every_lasts : ((s : List Alternative) → Fixed.Lasts s) → Deep.Growth → (s : BuiltIn) → Lasts s
+pub every_lasts : ((s : List Alternative) → Lasts (λ b. IsTrue (accepts s b))) → Deep.Growth → (s : BuiltIn) → Lasts (IsAccepted s)
 every_lasts fixed_last deep_last (fixed alternatives) = fixed_last alternatives
 every_lasts fixed_last deep_last pdf = deep_last.pdf
 every_lasts fixed_last deep_last (matroska doc_type) = deep_last.matroska doc_type
@@ -25,7 +25,7 @@ every_lasts fixed_last deep_last xml = deep_last.xml
 
 module _ (fixed_near : (n : ℕ) (s : List Alternative) → IsTrue (Fixed.is_within n s) → Fixed.DependsOnFront n s) (deep_near : Deep.Near) where
   -- whether the first 1024 bytes decide
-  abbrev pub known_near : (s : BuiltIn) → Known (IsNear s)
+  abbrev pub known_near : (s : BuiltIn) → Known (IsNear (IsAccepted s))
   known_near (fixed alternatives) = proved_if (Fixed.is_within 1024 alternatives) (λ within buf long.
       let same = fixed_near 1024 alternatives within buf in (λ yes. same ∙ yes, λ yes. sym same ∙ yes))
   known_near pdf = proved deep_near.pdf
@@ -33,7 +33,7 @@ module _ (fixed_near : (n : ℕ) (s : List Alternative) → IsTrue (Fixed.is_wit
   known_near s = unknown
 
   -- matcher m is that of a far row, or they do
-  abbrev is_decided : (d : BuiltIn) (m : ℕ) → Known (IsTrue (is_far_row m) ⊎ IsNear (get_or signatures m d))
+  abbrev is_decided : (d : BuiltIn) (m : ℕ) → Known (IsTrue (is_far_row m) ⊎ IsNear (IsAccepted (get_or signatures m d)))
   is_decided d m = either (is (is_far_row m)) (known_near (get_or signatures m d))
 
   all_decided : (d : BuiltIn) → NoneRefused (λ m. is_proved (is_decided d m)) MATCHER_COUNT 0 8

@@ -1,7 +1,7 @@
 -- The signatures of all matchers, and what holds of a signature as buffers grow.
 use Rattle.std.specs.Prelude.{◌<◌, ℕ, Bool, true, false, List, [], ◌∷◌, ◌++◌, length, map, not, IsTrue}
 use Rattle.std.specs.List.{HoldsAt}
-use Rattle.infer_deep.specs.Signatures as Property
+use Rattle.infer_deep.specs.Signatures.{IsNear}
 use Rattle.infer_sig.specs.App.{coff_i386, coff_x64, coff_ia64}
 use Rattle.infer.specs.BuiltIn.{BuiltIn, fixed, matroska, pdf, IsAccepted}
 use Rattle.infer.specs.Table.{signature_of, table}
@@ -21,14 +21,6 @@ is_far _ = true
 unfoldable pub is_far_row : ℕ → Bool
 is_far_row m = is_far (signature_of m)
 
--- what the signature accepts, it accepts in everything that grows it
-abbrev pub Lasts : BuiltIn → Type 0
-Lasts s = Property.Lasts (IsAccepted s)
-
--- on every buffer of at least 1024 bytes it answers as on the first 1024
-abbrev pub IsNear : BuiltIn → Type 0
-IsNear s = Property.IsNear (IsAccepted s)
-
--- every matcher that is not of a far row does
+-- every matcher that is not of a far row answers on at least 1024 bytes as on the first 1024
 abbrev pub OthersAreNear : List BuiltIn → Type 0
-OthersAreNear ss = (m : ℕ) → m < length ss → IsTrue (not (is_far_row m)) → HoldsAt IsNear ss m
+OthersAreNear ss = (m : ℕ) → m < length ss → IsTrue (not (is_far_row m)) → HoldsAt (λ s. IsNear (IsAccepted s)) ss m

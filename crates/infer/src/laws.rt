@@ -3,14 +3,15 @@
 ghost use Rattle.std.specs.Prelude.{◌≡◌, ◌≢◌, ◌↔◌, ◌<◌, ℕ, List, Option, [], ◌∷◌, All, IfOk, IsTrue, length, map, take};
 ghost use Rattle.std.specs.List.{AllPairs, HoldsAt, filter, range_with_len};
 ghost use Rattle.infer_deep.specs.Laws.{Apart, Beginnings};
+ghost use Rattle.infer_deep.specs.Signatures.{Lasts};
 ghost use Rattle.infer_sig.specs.App.{java, mach};
 ghost use Rattle.infer_sig.specs.Signature.{accepts};
 ghost use Rattle.infer.specs.Arrivals.{Begins, BeginsAlone, NewcomersAreAwaited, last_after};
-ghost use Rattle.infer.specs.BuiltIn.{BuiltIn};
+ghost use Rattle.infer.specs.BuiltIn.{BuiltIn, IsAccepted};
 ghost use Rattle.infer.specs.Decided.{AllowsExactly, AnswersAreOpen, DecidedByRows, DecidedLasts, FirstOpenComes, IsToldExactly, ReachNarrows};
 ghost use Rattle.infer.specs.First.{IsFirst, IsFirstOf};
 ghost use Rattle.infer.specs.Laws.{AnswersAreLocal, AnswersAreNamed, AnswersAsBuiltIn, AnyLasts, Breaks, FrontDecides, IsSteady, OnlyFarRowsFollow, ReadersAreAlike};
-ghost use Rattle.infer.specs.Matchers.{Lasts, OthersAreNear, is_far_row, signatures};
+ghost use Rattle.infer.specs.Matchers.{OthersAreNear, is_far_row, signatures};
 ghost use Rattle.infer.specs.Row.{Accepts, shows};
 ghost use Rattle.infer.specs.Rows.{custom_rows, rows};
 ghost use Rattle.infer.specs.Samples.{sample_of};
@@ -62,8 +63,8 @@ pub fn distinct()
 /// buffer goes on.
 pub fn growth()
     ensures many { length signatures ≡ MATCHER_COUNT }
-    ensures last { All Lasts signatures }
-    ensures every { (signature : BuiltIn) → Lasts signature }
+    ensures last { All (λ s. Lasts (IsAccepted s)) signatures }
+    ensures every { (signature : BuiltIn) → Lasts (IsAccepted signature) }
 {
     infer_sig::laws::growth();
     infer_deep::laws::growth();

@@ -13,7 +13,7 @@ use Rattle.infer_inside.specs.Laws as Inside
 use Rattle.infer_inside.specs.Laws.{HasBracket}
 use Rattle.infer_inside.specs.Markup.{HasRoot}
 use Rattle.infer_inside.proofs.GrowthLemmas.{there}
-use Rattle.infer_sig.specs.Laws.{Lasts}
+use Rattle.infer_deep.specs.Signatures.{Lasts}
 use Rattle.infer_sig.specs.Places.{StandsByPlace}
 use Rattle.infer_sig.specs.Signature as fixed
 use Rattle.infer_sig.specs.Signature.{at_least, Part, text, any_text, byte, accepts, fits, has_part, stands}
@@ -34,7 +34,7 @@ use Rattle.infer_more.proofs.RefusalLemmas.{clash}
 
 -- ---- growing buffers
 
-module _ (deep : Deep.Growth) (inside : Inside.Growth) (fixed_lasts : (signature : List fixed.Alternative) → Lasts signature) (b more : List ℕ) where
+module _ (deep : Deep.Growth) (inside : Inside.Growth) (fixed_lasts : (signature : List fixed.Alternative) → Lasts (λ b. IsTrue (accepts signature b))) (b more : List ℕ) where
   bytes_last : (a : fixed.Alternative) → IsTrue (fits b a) → IsTrue (fits (b ++ more) a)
   bytes_last a h = elim (either (fits (b ++ more) a) false (fixed_lasts (a ∷ []) b more (from_left (fits b a) false h))) [ inl e ↦ e | inr e ↦ absurd (cc) ]
 
@@ -69,7 +69,7 @@ module _ (deep : Deep.Growth) (inside : Inside.Growth) (fixed_lasts : (signature
   accepted_last (a ∷ others) l (inl h) = inl (fits_last a (both_left (is_lasting a) _ l) h)
   accepted_last (a ∷ others) l (inr h) = inr (accepted_last others (both_right (is_lasting a) _ l) h)
 
-pub all_last : Deep.Growth → Inside.Growth → ((signature : List fixed.Alternative) → Lasts signature) → AllLast
+pub all_last : Deep.Growth → Inside.Growth → ((signature : List fixed.Alternative) → Lasts (λ b. IsTrue (accepts signature b))) → AllLast
 all_last deep inside fixed_lasts signature l b more h = accepted_last deep inside fixed_lasts b more signature l h
 
 -- a letter is plain text, and with 00 after it binary data

@@ -14,10 +14,10 @@ use Rattle.infer_inside.specs.Open.{Stays}
 use Rattle.infer_inside.specs.Png.{IsAnimated, here}
 use Rattle.infer_inside.specs.Script.{IsProgram}
 use Rattle.infer_inside.specs.Text.{IsBinary}
-use Rattle.infer_sig.specs.Laws.{Lasts}
+use Rattle.infer_deep.specs.Signatures.{Lasts}
 use Rattle.infer_sig.specs.Open.{MayBecomeIsExact, agrees, is_alternative_sound, is_sound, may_fit, may_have}
 use Rattle.infer_sig.specs.Signature as fixed
-use Rattle.infer_sig.specs.Signature.{Bytes, Part, text, byte, allows, between, fits, stands}
+use Rattle.infer_sig.specs.Signature.{accepts, Bytes, Part, text, byte, allows, between, fits, stands}
 use Rattle.infer_sig.proofs.PlaceLemmas.{stands_by_place}
 use Rattle.infer_more.specs.Laws.{AllLast, is_lasting}
 use Rattle.infer_more.specs.Listed.{alternative_listed, signature_listed}
@@ -109,7 +109,7 @@ module _ (opens : (signature : List fixed.Alternative) → IsTrue (is_sound sign
       only false h = h
 
   -- a byte of binary data can always follow
-  pub binary_open : Lasts (a ∷ []) → (r : Bool) → r ≡ may_fit b a → IsTrue r ↔ MayBecome (λ c. IsTrue (fits c a) × IsBinary c) b
+  pub binary_open : Lasts (λ b. IsTrue (accepts (a ∷ []) b)) → (r : Bool) → r ≡ may_fit b a → IsTrue r ↔ MayBecome (λ c. IsTrue (fits c a) × IsBinary c) b
   binary_open lasts r e =
       let plain = bytes_open r e in (
         λ t. let (more, bytes, h) = plain.0 t in (

@@ -3,8 +3,9 @@ use Rattle.infer_deep.proofs.Common.{◌≡◌, ℕ, ◌≤◌, List, ◌∷◌,
 use Rattle.std.proofs.lemmas.Grind.{common_steps}
 use Rattle.infer_sig.proofs.ListLemmas.{list_any_passes, list_all_passes, list_any_same, list_all_same}
 use Rattle.infer_sig.proofs.PlaceLemmas.{stands_lasts, stands-take}
-use Rattle.infer_sig.specs.Signature.{Alternative, at_least, Part, text, byte, any_text, has_part, fits, stands}
-use Rattle.infer_sig.specs.Laws.{Lasts, DependsOnFront, Leads, is_part_within, is_alternative_within, is_within, text_lead, part_lead, alternative_lead}
+use Rattle.infer_sig.specs.Signature.{accepts, Alternative, at_least, Part, text, byte, any_text, has_part, fits, stands}
+use Rattle.infer_deep.specs.Signatures.{Lasts}
+use Rattle.infer_sig.specs.Laws.{DependsOnFront, Leads, is_part_within, is_alternative_within, is_within, text_lead, part_lead, alternative_lead}
 
 -- ---- a buffer that goes on
 
@@ -16,7 +17,7 @@ part_lasts buf more (byte place set) h = grind (arith, nat_tests, and_parts (ltb
 alternative_lasts : (buf more : List ℕ) (a : Alternative) → IsTrue (fits buf a) → IsTrue (fits (buf ++ more) a)
 alternative_lasts buf more (at_least least parts) h = grind (arith, nat_tests, and_parts (leb least (length buf)), common_steps, and_from (leb least (length (buf ++ more))), list_all_passes, part_lasts buf more)
 
-pub signature_lasts : (s : List Alternative) → Lasts s
+pub signature_lasts : (s : List Alternative) → Lasts (λ b. IsTrue (accepts s b))
 signature_lasts s buf more h = list_any_passes _ _ (alternative_lasts buf more) s h
 
 -- ---- a front of the buffer

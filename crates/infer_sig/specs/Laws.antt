@@ -1,12 +1,7 @@
 -- What holds of every fixed signature.
 use Rattle.std.specs.Prelude.{◌≡◌, ℕ, zero, suc, ◌+◌, Bool, true, List, [], ◌∷◌, take, length, ◌&&◌, nat_le, nat_lt, ◌==◌, IsTrue}
 use Rattle.std.specs.List.{list_any, list_all}
-use Rattle.infer_deep.specs.Signatures as Property
 use Rattle.infer_sig.specs.Signature.{Alternative, at_least, Part, text, byte, any_text, allows, accepts}
-
--- what the signature accepts, it accepts however the buffer goes on
-abbrev pub Lasts : List Alternative → Type 0
-Lasts signature = Property.Lasts (λ buf. IsTrue (accepts signature buf))
 
 -- the first n bytes of a buffer of any length decide
 abbrev pub DependsOnFront : ℕ → List Alternative → Type 0

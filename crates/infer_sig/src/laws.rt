@@ -1,8 +1,9 @@
 //! Facts about the definitions, each the contract of a function that does nothing.
 ghost use Rattle.std.specs.Prelude.{◌↔◌, ℕ, List, IsTrue};
-ghost use Rattle.infer_sig.specs.Signature.{Alternative, stands};
+ghost use Rattle.infer_deep.specs.Signatures.{Lasts};
+ghost use Rattle.infer_sig.specs.Signature.{Alternative, accepts, stands};
 ghost use Rattle.infer_sig.specs.Places.{StandsByPlace};
-ghost use Rattle.infer_sig.specs.Laws.{DependsOnFront, Lasts, Leads, is_within};
+ghost use Rattle.infer_sig.specs.Laws.{DependsOnFront, Leads, is_within};
 ghost use Rattle.infer_sig.specs.Open.{Begins, MayBecomeIsExact, is_sound};
 
 /// A text stands at a place exactly if each place from there on is in the buffer and holds the text's byte.
@@ -14,7 +15,8 @@ pub fn by_place()
 
 /// What a signature accepts, it accepts however the buffer goes on.
 pub fn growth()
-    ensures { (signature : List Alternative) → Lasts signature }
+    ensures { (signature : List Alternative)
+        → Lasts (λ buf. IsTrue (accepts signature buf)) }
 {}
 
 /// If no part and no least length of a signature reaches past the first n bytes, these decide, however long

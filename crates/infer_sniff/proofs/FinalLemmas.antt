@@ -49,7 +49,7 @@ module _ (b : List ℕ) (long : 1024 ≤ length b) (how : Beginning) (holds : Be
 in_case : (s : BuiltIn) (b : List ℕ) → IsAwaited s b → (how : Beginning) × Begins how b × (last_after how ≡ last_awaited s)
 in_case h0 b h2 = grind (arith, nat_tests)
 
-module _ (every : (s : BuiltIn) → Lasts s) (b more : List ℕ) where
+module _ (every : (s : BuiltIn) → Lasts (IsAccepted s)) (b more : List ℕ) where
   keeps : (i : ℕ) → i < length table → Accepts b (get_or table i some_row) → IsAccepted (signature_of i) (b ++ more)
   keeps i lt h = every (signature_of i) b more (accepts_at b i lt some_row h)
 
@@ -57,7 +57,7 @@ module _ (every : (s : BuiltIn) → Lasts s) (b more : List ℕ) where
   not_later None p first then = tt
   not_later (Some i) p first then = first_by (b ++ more) p i then first.within (keeps i first.within (first.here some_row))
 
-module _ (many : length table ≡ ROW_COUNT) (every : (s : BuiltIn) → Lasts s) (newcomers : NewcomersAreAwaited) (early : Beginnings)
+module _ (many : length table ≡ ROW_COUNT) (every : (s : BuiltIn) → Lasts (IsAccepted s)) (newcomers : NewcomersAreAwaited) (early : Beginnings)
     (b more : List ℕ) (settled : IsSettled b) where
   long : 1024 ≤ length b
   long = settled.long
@@ -98,11 +98,11 @@ module _ (many : length table ≡ ROW_COUNT) (every : (s : BuiltIn) → Lasts s)
   settled_stays None none = settled_by None none
   settled_stays (Some t) (i, first, shown) = settled_by (Some i) first
 
-pub Final-stays : length table ≡ ROW_COUNT → ((s : BuiltIn) → Lasts s) → NewcomersAreAwaited → Beginnings → (b : List ℕ) (answer : Option FileType)
+pub Final-stays : length table ≡ ROW_COUNT → ((s : BuiltIn) → Lasts (IsAccepted s)) → NewcomersAreAwaited → Beginnings → (b : List ℕ) (answer : Option FileType)
     → IsVerdict b (Final answer) → StaysFinal b (Final answer)
 Final-stays many every newcomers early b answer h6 more = grind (arith, nat_tests, answer_stays, settled_stays)
 
-pub first-stays : length table ≡ ROW_COUNT → ((s : BuiltIn) → Lasts s) → NewcomersAreAwaited → Beginnings → (b : List ℕ) (row : Option ℕ)
+pub first-stays : length table ≡ ROW_COUNT → ((s : BuiltIn) → Lasts (IsAccepted s)) → NewcomersAreAwaited → Beginnings → (b : List ℕ) (row : Option ℕ)
     → IsFirstOf (Accepts b) table row → IsSettled b → RowStaysFinal b row
 first-stays many every newcomers early b row first settled more = grind (arith, nat_tests, first_stays, settled_by)
 
