@@ -10,7 +10,7 @@ ghost use Rattle.infer.specs.Triple.{triple_of};
 ghost use Rattle.infer.specs.Walks.{RowHas, Takes};
 
 use crate::ask::class::Class;
-use crate::ask::question::{Every, OfClass, Question, is_asked, takes};
+use crate::ask::question::{Every, OfClass, Question, is_asked, takes_named};
 use crate::candidates::dispatch::{arm_of, blank, first_of, first_of_class, leads};
 use crate::table::file_type::FileType;
 use crate::table::rows::{ROW_COUNT, RowName, rows};
@@ -65,7 +65,7 @@ pub fn some<Q: Question>(rows: &[RowName], question: &Q, buf: &[u8]) -> bool
     ensures { IsTrue result ↔ SomeBoth (IsAsked (Q.asked question.now)) (Accepts buf.now) table }
 {
     if let [row] = rows {
-        return takes(*row as usize, question, buf);
+        return takes_named(*row, question, buf);
     }
     some_among(rows, question, buf)
 }
@@ -79,7 +79,7 @@ fn some_among<Q: Question>(rows: &[RowName], question: &Q, buf: &[u8]) -> bool
     let takes = |row: &RowName| -> bool
         ensures { IsTrue result
             ↔ RowHas (Takes (Q.asked question.entry.now) buf.entry.now) (number_of row.now) }
-    { takes(*row as usize, question, buf) };
+    { takes_named(*row, question, buf) };
     rows.iter().any(takes)
 }
 

@@ -4,7 +4,7 @@ ghost use Rattle.infer.specs.Decided.{CanBeDecided, IsChangeable, IsDecided, May
 ghost use Rattle.infer.specs.Listed.{row_listed};
 ghost use Rattle.infer.specs.Walks.{IsFirstAmong, RowHas};
 
-use crate::ask::question::accepts;
+use crate::ask::question::accepts_at;
 use crate::candidates::dispatch::{arm_of, blank, candidates_at, leads};
 use crate::table::rows::{BuiltInRow, may_become_named, rows};
 
@@ -26,7 +26,7 @@ pub fn is_decided(buf: &[u8]) -> bool
         return false;
     };
     match first_open(candidates_at(arm_of(*first)), buf) {
-        Some(row) => accepts(buf, row),
+        Some(row) => accepts_at(row, buf),
         None => true,
     }
 }
@@ -35,10 +35,12 @@ pub fn is_decided(buf: &[u8]) -> bool
 fn first_open(rows: &[usize], buf: &[u8]) -> Option<usize>
     ensures { IsFirstAmong (RowHas (MayBecomeRow buf.now)) rows.now result }
 {
-    let may_become_row = |row: &&usize| -> bool
-        ensures { IsTrue result ↔ RowHas (MayBecomeRow buf.entry.now) row.now.now }
-    { may_become(buf, **row) };
-    rows.iter().find(may_become_row).copied()
+    for row in rows {
+        if may_become(buf, *row) {
+            return Some(*row);
+        }
+    }
+    None
 }
 
 /// Whether some bytes after `buf` make row `row` accept it. From `ROW_COUNT` on there is no row, and no bytes do.

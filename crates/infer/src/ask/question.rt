@@ -1,5 +1,6 @@
 //! What is asked for, and of one row: every row, or those with one extension, MIME type or class.
-ghost use Rattle.std.specs.Prelude.{◌≡◌, ◌↔◌, IsTrue};
+ghost use Rattle.std.specs.Prelude.{◌≡◌, ◌↔◌, ◌<◌, IsTrue};
+ghost use Rattle.infer.specs.Listed.{number_of};
 ghost use Rattle.infer.specs.Questions.{IsAsked};
 ghost use Rattle.infer.specs.Row.{Accepts};
 ghost use Rattle.infer.specs.Triple.{Triple, triple_of};
@@ -7,7 +8,7 @@ ghost use Rattle.infer.specs.Walks.{RowHas, Takes};
 
 use crate::ask::class::Class;
 use crate::table::file_type::FileType;
-use crate::table::rows::rows;
+use crate::table::rows::{ROW_COUNT, RowName, accepts_named, row_at, row_named, rows};
 use std::marker::PhantomData;
 
 /// A question, which is known by its type, so that code is made for each.
@@ -83,6 +84,15 @@ pub fn accepts(buf: &[u8], row: usize) -> bool
     }
 }
 
+/// Whether row `i` accepts `buf`.
+#[inline(always)]
+pub fn accepts_at(i: usize, buf: &[u8]) -> bool
+    requires { i < ROW_COUNT }
+    ensures { IsTrue result ↔ RowHas (Accepts buf.now) i }
+{
+    row_at(i).accepts(buf)
+}
+
 /// Whether row `i` is one that the question asks for.
 #[inline(always)]
 pub fn is_asked<Q: Question>(i: usize, question: &Q) -> bool
@@ -103,4 +113,12 @@ pub fn takes<Q: Question>(i: usize, question: &Q, buf: &[u8]) -> bool
         Some(row) => question.asks_for(&row.file_type) && row.accepts(buf),
         None => false,
     }
+}
+
+/// Whether the row is one that the question asks for, and accepts `buf`.
+#[inline(always)]
+pub fn takes_named<Q: Question>(row: RowName, question: &Q, buf: &[u8]) -> bool
+    ensures { IsTrue result ↔ RowHas (Takes (Q.asked question.now) buf.now) (number_of row) }
+{
+    question.asks_for(&row_named(row).file_type) && accepts_named(row, buf)
 }

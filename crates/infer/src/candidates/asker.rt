@@ -9,7 +9,7 @@ ghost use Rattle.infer.specs.Row.{Accepts};
 ghost use Rattle.infer.specs.Table.{table};
 ghost use Rattle.infer.specs.Walks.{HasGiven, IsFirstAmong, RowHas, Takes, asked_rows, count_asked, is_asked, is_listed};
 
-use crate::ask::question::{WithExtension, accepts, is_asked};
+use crate::ask::question::{WithExtension, accepts_at, is_asked};
 use crate::candidates::dispatch::{arm_of, blank, candidates_at, leads};
 use crate::candidates::slots::rows_for_extension;
 use crate::table::rows::{MOST_CANDIDATES, ROW_COUNT, RowName};
@@ -72,7 +72,7 @@ impl Ask for Asker<'_> {
 
     fn ask(&mut self, i: usize) -> bool {
         self.count += 1;
-        accepts(self.buf, i)
+        accepts_at(i, self.buf)
     }
 }
 

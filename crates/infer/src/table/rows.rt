@@ -622,3 +622,11 @@ pub(crate) fn mime_types() -> &'static [&'static [RowName]; 128]
 {
     &BY_MIME_TYPE
 }
+
+/// The row of that name.
+#[inline(always)]
+pub(crate) fn row_named(name: RowName) -> &'static BuiltInRow
+    ensures { slice_get table (number_of name) ≡ Some (row_listed result.now) }
+{
+    row_at(name as usize)
+}

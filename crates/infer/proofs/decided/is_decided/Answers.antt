@@ -13,8 +13,8 @@ returns-in_default c =
       can_be = λ long. absurd (omega (arith, long, empty));
     }
 
-pub accepts-requires : goal.accepts-requires
-accepts-requires c =
+pub accepts_at-requires : goal.accepts_at-requires
+accepts_at-requires c =
     let long : 0 < length c.args.buf.now = grind (arith) in
     let first = first_open_row c.leads.ensures c.args.buf.now _ (Some c.in-Some-first_open.row) long (search rules) c.in-Some-first_open.ensures in
     omega (arith, first.within, length-table)
@@ -26,8 +26,8 @@ returns-in-Some-first_open c =
     let first = first_open_row c.leads.ensures c.args.buf.now _ (Some row) long (search rules) c.in-Some-first_open.ensures in
     let lasts = every_lasts c.growth.ensures c.growth-2.ensures in
     record {
-      exact = decided_by_first lasts c.args.buf.now row first c.accepts.result c.accepts.ensures;
-      «open» = λ f. changes_by_first lasts c.args.buf.now row first (λ has. absurd (let t = c.accepts.ensures.1 has in cc));
+      exact = decided_by_first lasts c.args.buf.now row first c.accepts_at.result c.accepts_at.ensures;
+      «open» = λ f. changes_by_first lasts c.args.buf.now row first (λ has. absurd (let t = c.accepts_at.ensures.1 has in cc));
       can_be = λ l. decided_with_first lasts c.args.buf.now row first;
     }
 
