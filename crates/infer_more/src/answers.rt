@@ -421,6 +421,7 @@ fn least_folder_at(folders: &[Named], buf: &[u8], place: usize, before: usize) -
 }
 
 /// The least of the number before and of the rows whose folder of an application the package has.
+#[inline(always)]
 fn least_folder(folders: &[Named], buf: &[u8], before: usize) -> usize
     requires application { AllApplications folders.now }
     requires ascend { IsTrue (ascends named_row folders.now) }
@@ -526,30 +527,39 @@ fn is_nothing(below: &Below) -> bool
 
 /// The number of the wider answer of a buffer whose built-in answer is this row.
 #[inline(always)]
-fn found(row: usize, buf: &[u8]) -> Option<usize>
-    ensures { IsWidened (Some row) buf.now result }
+fn found(row: usize, buf: &[u8]) -> usize
+    ensures { IsWidened (Some row) buf.now (Some result) }
 {
     let index = index();
     finds(&index);
     let least = least_found(below_at(index.below, row), row, buf);
     if least < FURTHER_COUNT {
-        Some(ROW_COUNT + least)
+        ROW_COUNT + least
     } else {
-        Some(row)
+        row
     }
 }
 
 /// [`found`] below row `ROW`, with code of its own: the compiler knows how its rows are told.
-fn found_row<const ROW: usize>(buf: &[u8]) -> Option<usize>
-    ensures { IsWidened (Some ROW) buf.now result }
+fn found_row<const ROW: usize>(buf: &[u8]) -> usize
+    ensures { IsWidened (Some ROW) buf.now (Some result) }
 {
     found(ROW, buf)
 }
 
+/// [`found_row`] as a function of its own, so that it takes nothing of what other rows need. It is not one function
+/// with [`found_row`], since the compiler shortens code twice where one is put into the other.
+#[inline(never)]
+fn found_row_apart<const ROW: usize>(buf: &[u8]) -> usize
+    ensures { IsWidened (Some ROW) buf.now (Some result) }
+{
+    found_row::<ROW>(buf)
+}
+
 /// [`found`] below any row.
 #[inline(never)]
-fn found_any(row: usize, buf: &[u8]) -> Option<usize>
-    ensures { IsWidened (Some row) buf.now result }
+fn found_any(buf: &[u8], row: usize) -> usize
+    ensures { IsWidened (Some row) buf.now (Some result) }
 {
     found(row, buf)
 }
@@ -557,17 +567,18 @@ fn found_any(row: usize, buf: &[u8]) -> Option<usize>
 macro_rules! by_parent {
     ($row:ident $buf:ident: $($parent:literal)*) => {
         match $row {
-            $($parent => found_row::<$parent>($buf),)*
-            _ => found_any($row, $buf),
+            $($parent => found_row_apart::<$parent>($buf),)*
+            _ => found_any($buf, $row),
         }
     };
 }
 
-/// [`found`] below a row, of which `docs/tables` writes those that have code of their own. A function of its own, so that a
-/// row that none widens takes nothing of what this one needs.
+/// [`found`] below a row, of which `docs/tables` writes those that have code of their own. A function of its own, so
+/// that a row that none widens takes nothing of what this one needs. The buffer comes first, as in what this calls, so
+/// that it is passed on as it came.
 #[inline(never)]
-fn found_below(row: usize, buf: &[u8]) -> Option<usize>
-    ensures { IsWidened (Some row) buf.now result }
+fn found_below(buf: &[u8], row: usize) -> usize
+    ensures { IsWidened (Some row) buf.now (Some result) }
 {
     by_parent![
         row buf:
@@ -577,13 +588,13 @@ fn found_below(row: usize, buf: &[u8]) -> Option<usize>
 
 /// The number of the wider answer of a buffer whose built-in answer is this row, at once if none is below it.
 #[inline(always)]
-fn widened(row: usize, buf: &[u8]) -> Option<usize>
-    ensures { IsWidened (Some row) buf.now result }
+fn widened(row: usize, buf: &[u8]) -> usize
+    ensures { IsWidened (Some row) buf.now (Some result) }
 {
     if is_widest(row) {
-        return Some(row);
+        return row;
     }
-    found_below(row, buf)
+    found_below(buf, row)
 }
 
 /// The number of the wider answer of a buffer that no built-in row accepts.
@@ -606,7 +617,7 @@ pub fn position(buf: &[u8]) -> Option<usize>
     ensures bound { IfSome result (λ i. i < ROW_COUNT + FURTHER_COUNT) }
 {
     match infer::position(buf) {
-        Some(row) => widened(row, buf),
+        Some(row) => Some(widened(row, buf)),
         None => widened_unknown(buf),
     }
 }
