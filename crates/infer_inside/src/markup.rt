@@ -65,7 +65,7 @@ impl Root<'_> {
 pub fn has_root(buf: &[u8], name: &[u8]) -> bool
     ensures { IsTrue result ↔ HasRoot name.now buf.now }
 {
-    match root_of(buf) {
+    match root_apart(buf) {
         Some(root) => root.name == name,
         None => false,
     }
@@ -75,7 +75,7 @@ pub fn has_root(buf: &[u8], name: &[u8]) -> bool
 pub fn has_root_with(buf: &[u8], name: &[u8], text: &[u8]) -> bool
     ensures { IsTrue result ↔ HasRootWith name.now text.now buf.now }
 {
-    match root_of(buf) {
+    match root_apart(buf) {
         Some(root) => root.name == name && root.has_in_tag(text),
         None => false,
     }
@@ -87,7 +87,7 @@ pub fn has_root_with(buf: &[u8], name: &[u8], text: &[u8]) -> bool
 /// "<?" up to "?>" and of "<!--" up to "-->", and once "<!DOCTYPE", white space and all up to ">", without a "[". The
 /// root element's tag follows: "<" and its name, which goes up to white space, "/" or ">", begins with neither "!" nor
 /// "?", and ends within the buffer. If a document type was declared, its name is the same.
-#[inline(never)]
+#[inline(always)]
 pub fn root_of(buf: &[u8]) -> Option<Root<'_>>
     ensures found { MatchOption result ((name rest : List ℕ) → ¬ IsRootElement name rest buf.now)
         (λ r. IsRootElement r.name.now r.rest.now buf.now) }
@@ -99,6 +99,17 @@ pub fn root_of(buf: &[u8]) -> Option<Root<'_>>
         name: &buf[tag.at..tag.to],
         rest: &buf[tag.to..],
     })
+}
+
+/// [`root_of`] as a function of its own, so that the functions here share its code.
+#[inline(never)]
+fn root_apart(buf: &[u8]) -> Option<Root<'_>>
+    ensures found { MatchOption result ((name rest : List ℕ) → ¬ IsRootElement name rest buf.now)
+        (λ r. IsRootElement r.name.now r.rest.now buf.now) }
+    ensures only { IfSome result
+        (λ r. (name rest : List ℕ) → IsRootElement name rest buf.now → (name ≡ r.name.now) × (rest ≡ r.rest.now)) }
+{
+    root_of(buf)
 }
 
 /// Whether the buffer may have a root element, by its first tag: a byte order mark stands first, or white space, perhaps none,
@@ -416,7 +427,7 @@ fn is_doctype(buf: &[u8], name: usize, from: usize, to: usize) -> bool
 pub fn may_have_root(buf: &[u8], name: &[u8]) -> bool
     ensures { IsTrue result ↔ MayBecome (HasRoot name.now) buf.now }
 {
-    match root_of(buf) {
+    match root_apart(buf) {
         Some(root) => is_same(root.name, name),
         None => may_come_to_root(buf, name),
     }
@@ -427,7 +438,7 @@ pub fn may_have_root(buf: &[u8], name: &[u8]) -> bool
 pub fn may_have_root_with(buf: &[u8], name: &[u8], text: &[u8]) -> bool
     ensures { IsTrue result ↔ MayBecome (HasRootWith name.now text.now) buf.now }
 {
-    match root_of(buf) {
+    match root_apart(buf) {
         Some(root) => is_same(root.name, name) && may_have_in_tag(&root, text),
         None => may_come_to_root_with(buf, name, text),
     }

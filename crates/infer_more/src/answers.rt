@@ -334,6 +334,15 @@ fn least_opened(roots: &[Rooted], buf: &[u8], before: usize) -> usize
     if !may_be_rooted(buf) {
         return before;
     }
+    least_root_apart(roots, buf, before)
+}
+
+/// [`least_root`] as a function of its own, so that a buffer whose first tag is none takes nothing of what it needs.
+#[inline(never)]
+fn least_root_apart(roots: &[Rooted], buf: &[u8], before: usize) -> usize
+    requires { IsTrue (ascends rooted_row roots.now) }
+    ensures { IsLeast (IsRooted buf.now roots.now) before result }
+{
     least_root(roots, buf, before)
 }
 
@@ -449,6 +458,7 @@ fn is_rooted(rooted: &Rooted, root: &Root<'_>) -> bool
 }
 
 /// The least of the number before and of the rows with this root, which is that of the first.
+#[inline(always)]
 fn least_rooted(roots: &[Rooted], root: &Root<'_>, before: usize) -> usize
     requires { IsTrue (ascends rooted_row roots.now) }
     ensures { IsLeast (IsRootedBy root.now.name.now root.now.rest.now roots.now) before result }
@@ -462,6 +472,7 @@ fn least_rooted(roots: &[Rooted], root: &Root<'_>, before: usize) -> usize
 }
 
 /// The least of the number before and of the rows with the buffer's root.
+#[inline(always)]
 fn least_root(roots: &[Rooted], buf: &[u8], before: usize) -> usize
     requires { IsTrue (ascends rooted_row roots.now) }
     ensures { IsLeast (IsRooted buf.now roots.now) before result }
