@@ -154,7 +154,8 @@ fn after_any_frames(mut buf: &[u8]) -> &[u8]
 /// What follows the skippable frame at the front of `buf`, if a whole one stands there.
 #[tactic(auto, using(crate::proofs::FrameLemmas::begun_fits, crate::proofs::FrameLemmas::frame_begins))]
 fn after_frame(buf: &[u8]) -> Option<&[u8]>
-    ensures { MatchOption result (NoneBegins IsFrame buf.now) (λ rest. BeginsWith IsFrame buf.now rest.now) }
+    ensures { MatchOption result (NoneBegins IsFrame buf.now)
+        (λ rest. BeginsWith IsFrame buf.now rest.now) }
 {
     if buf.len() < 8 || !begins_frame(buf) {
         return None;

@@ -175,7 +175,8 @@ fn after_spaces(mut buf: &[u8]) -> &[u8]
 
 #[tactic(auto, using(crate::proofs::TextLemmas::space_begins))]
 fn after_space(buf: &[u8]) -> Option<&[u8]>
-    ensures { MatchOption result (NoneBegins IsSpace buf.now) (λ rest. BeginsWith IsSpace buf.now rest.now) }
+    ensures { MatchOption result (NoneBegins IsSpace buf.now)
+        (λ rest. BeginsWith IsSpace buf.now rest.now) }
 {
     if buf.is_empty() || !is_white(buf[0]) {
         return None;
@@ -243,7 +244,8 @@ fn after_marks(mut buf: &[u8]) -> &[u8]
 
 #[tactic(auto, using(crate::proofs::TextLemmas::long_mark, crate::proofs::TextLemmas::short_mark))]
 fn after_mark(buf: &[u8]) -> Option<&[u8]>
-    ensures { MatchOption result (NoneBegins IsMark buf.now) (λ rest. BeginsWith IsMark buf.now rest.now) }
+    ensures { MatchOption result (NoneBegins IsMark buf.now)
+        (λ rest. BeginsWith IsMark buf.now rest.now) }
 {
     if has_at(buf, b"\xEF\xBB\xBF", 0) {
         return Some(&buf[3..]);

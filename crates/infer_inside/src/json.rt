@@ -216,7 +216,8 @@ fn read_line(buf: &[u8]) -> Line<'_>
 
 /// What stands behind white space that ends the line, or nothing if the buffer ends in white space.
 fn next_line(buf: &[u8]) -> Option<&[u8]>
-    ensures { MatchOption result ((¬ CanBe (same_line ∷ []) buf.now) × (¬ CanBe (blanks ∷ []) buf.now)) (λ next. IsNextLine buf.now next.now) }
+    ensures { MatchOption result ((¬ CanBe (same_line ∷ []) buf.now)
+        × (¬ CanBe (blanks ∷ []) buf.now)) (λ next. IsNextLine buf.now next.now) }
 {
     for at in 0..buf.len() {
         match buf[at] {
@@ -608,7 +609,8 @@ impl Reader {
     fn read(&mut self, due: Due, byte: u8) -> bool
         requires opened { IsOpen self.old }
         requires black { ¬ IsBlank byte }
-        ensures { Reads (λ ss. blanks ∷ due_left due self.old.depth self.old.kinds ss) byte self.new result }
+        ensures { Reads (λ ss. blanks ∷ due_left due self.old.depth self.old.kinds ss) byte self.new
+            result }
     {
         match due {
             Due::First => self.read_first(byte),
@@ -718,7 +720,8 @@ impl Reader {
     fn open(&mut self, kind: u128) -> bool
         requires opened { IsOpen self.old }
         requires kind { kind ≤ 1 }
-        ensures { Reads (due_left Value self.old.depth self.old.kinds) (opening kind) self.new result }
+        ensures { Reads (due_left Value self.old.depth self.old.kinds)
+            (opening kind) self.new result }
     {
         if self.depth == MOST_DEPTH {
             return false;

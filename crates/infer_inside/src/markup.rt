@@ -92,7 +92,8 @@ pub fn root_of(buf: &[u8]) -> Option<Root<'_>>
     ensures found { MatchOption result ((name rest : List ℕ) → ¬ IsRootElement name rest buf.now)
         (λ r. IsRootElement r.name.now r.rest.now buf.now) }
     ensures only { IfSome result
-        (λ r. (name rest : List ℕ) → IsRootElement name rest buf.now → (name ≡ r.name.now) × (rest ≡ r.rest.now)) }
+        (λ r. (name rest : List ℕ) → IsRootElement name rest buf.now → (name ≡ r.name.now)
+        × (rest ≡ r.rest.now)) }
 {
     let tag = tag_at(buf, prolog_end(buf, prolog_start(buf)))?;
     Some(Root {
@@ -107,7 +108,8 @@ fn root_apart(buf: &[u8]) -> Option<Root<'_>>
     ensures found { MatchOption result ((name rest : List ℕ) → ¬ IsRootElement name rest buf.now)
         (λ r. IsRootElement r.name.now r.rest.now buf.now) }
     ensures only { IfSome result
-        (λ r. (name rest : List ℕ) → IsRootElement name rest buf.now → (name ≡ r.name.now) × (rest ≡ r.rest.now)) }
+        (λ r. (name rest : List ℕ) → IsRootElement name rest buf.now → (name ≡ r.name.now)
+        × (rest ≡ r.rest.now)) }
 {
     root_of(buf)
 }
@@ -167,14 +169,17 @@ fn prolog_start(buf: &[u8]) -> usize
 #[inline(always)]
 fn prolog_end(buf: &[u8], start: usize) -> Reached
     requires { start ≤ length buf.now }
-    ensures tag { (at to : ℕ) → LeadsToTag buf.now at to start None ↔ OpensTag buf.now at to result.place result.doctype }
+    ensures tag { (at to : ℕ) → LeadsToTag buf.now at to start None
+        ↔ OpensTag buf.now at to result.place result.doctype }
     ensures grown { (more : List ℕ) (at to : ℕ)
-        → LeadsToTag (buf.now ++ more) at to start None ↔ LeadsToTag (buf.now ++ more) at to result.place result.doctype }
+        → LeadsToTag (buf.now ++ more) at to start None
+        ↔ LeadsToTag (buf.now ++ more) at to result.place result.doctype }
     ensures ends { (q : ℕ) (e : Option ℕ) → ¬ IsPart buf.now result.place result.doctype q e }
     ensures within { result.place ≤ length buf.now }
     ensures opens { IsTrue result.opens ↔ OpensElement buf.now result.place }
     ensures declared { (name : ℕ) → result.doctype ≡ Some name
-        → (close : ℕ) × (name ≤ close) × (close < length buf.now) × (slice_index buf.now close ≡ 0x3E) }
+        → (close : ℕ) × (name ≤ close) × (close < length buf.now)
+        × (slice_index buf.now close ≡ 0x3E) }
 {
     let stop = miscs_end(buf, start);
     if stop.opens {
@@ -219,7 +224,8 @@ fn miscs_end(buf: &[u8], start: usize) -> Stop
     requires { start ≤ length buf.now }
     ensures within { result.place ≤ length buf.now }
     ensures leads { (d : Option ℕ) (more : List ℕ) (at to : ℕ)
-        → LeadsToTag (buf.now ++ more) at to start d ↔ LeadsToTag (buf.now ++ more) at to result.place d }
+        → LeadsToTag (buf.now ++ more) at to start d
+        ↔ LeadsToTag (buf.now ++ more) at to result.place d }
     ensures ends { (q : ℕ) → ¬ IsMisc buf.now result.place q }
     ensures opens { IsTrue result.opens ↔ OpensElement buf.now result.place }
 {
@@ -360,7 +366,8 @@ fn declaration_close(buf: &[u8], from: usize) -> Option<usize>
 #[inline(always)]
 fn tag_at(buf: &[u8], reached: Reached) -> Option<Tag>
     requires { IsTrue reached.opens ↔ OpensElement buf.now reached.place }
-    ensures { MatchOption result ((at to : ℕ) → ¬ OpensTag buf.now at to reached.place reached.doctype)
+    ensures { MatchOption result ((at to : ℕ)
+        → ¬ OpensTag buf.now at to reached.place reached.doctype)
         (λ t. OpensTag buf.now t.at t.to reached.place reached.doctype) }
 {
     if !reached.opens {
@@ -479,7 +486,8 @@ fn has_closing(text: &[u8]) -> bool
 /// [`may_have_root`] of a buffer that has none yet. What ends its name can be anything that does.
 fn may_come_to_root(buf: &[u8], name: &[u8]) -> bool
     requires { (name rest : List ℕ) → ¬ IsRootElement name rest buf.now }
-    ensures comes { IsTrue result → (rest : List ℕ) → EndsName rest → All (λ x. x < 256) rest → MayBecome (IsRootElement name.now rest) buf.now }
+    ensures comes { IsTrue result → (rest : List ℕ) → EndsName rest → All (λ x. x < 256) rest
+        → MayBecome (IsRootElement name.now rest) buf.now }
     ensures known { MayBecome (HasRoot name.now) buf.now → IsTrue result }
 {
     if !is_local_name(name) {
@@ -506,7 +514,8 @@ pub(super) fn ends_in_mark(buf: &[u8]) -> bool
 /// Whether a tag of any name may open where the prolog ends, or that of a document type that is declared there.
 fn may_open_any(buf: &[u8], place: usize, name: &[u8]) -> bool
     requires { place ≤ length buf.now }
-    ensures { IsTrue result ↔ MayGoOn buf.now place ⊎ MayOpenTag buf.now place ⊎ MayDeclare name.now buf.now place }
+    ensures { IsTrue result ↔ MayGoOn buf.now place ⊎ MayOpenTag buf.now place
+        ⊎ MayDeclare name.now buf.now place }
 {
     may_go_on(buf, place) || may_open_tag(buf, place) || may_declare(buf, place, name)
 }
@@ -514,10 +523,13 @@ fn may_open_any(buf: &[u8], place: usize, name: &[u8]) -> bool
 /// Whether the tag of an element may open where the prolog ends whose name was declared.
 fn may_open_declared(buf: &[u8], place: usize, from: usize, name: &[u8]) -> bool
     requires { from ≤ length buf.now }
-    ensures yes { IsTrue result → (end : ℕ) × IsRun IsTypeByte buf.now from end × IsFullName (slice_range buf.now from end) name.now
+    ensures yes { IsTrue result → (end : ℕ) × IsRun IsTypeByte buf.now from end
+        × IsFullName (slice_range buf.now from end) name.now
         × (MayGoOn buf.now place ⊎ MayOpenAs (slice_range buf.now from end) buf.now place) }
-    ensures no { (end : ℕ) → IsRun IsTypeByte buf.now from end → IsFullName (slice_range buf.now from end) name.now
-        → MayGoOn buf.now place ⊎ MayOpenAs (slice_range buf.now from end) buf.now place → IsTrue result }
+    ensures no { (end : ℕ) → IsRun IsTypeByte buf.now from end
+        → IsFullName (slice_range buf.now from end) name.now
+        → MayGoOn buf.now place ⊎ MayOpenAs (slice_range buf.now from end) buf.now place
+        → IsTrue result }
 {
     match type_end(buf, from) {
         Some(end) => is_full_name(&buf[from..end], name)
@@ -594,7 +606,8 @@ fn may_name_root(buf: &[u8], from: usize, name: &[u8]) -> bool
 /// Where the name of a document type that stands there ends.
 fn type_end(buf: &[u8], from: usize) -> Option<usize>
     requires { from ≤ length buf.now }
-    ensures { MatchOption result ((k : ℕ) → from ≤ k → k < length buf.now → IsTypeByte (slice_index buf.now k))
+    ensures { MatchOption result ((k : ℕ) → from ≤ k → k < length buf.now
+        → IsTypeByte (slice_index buf.now k))
         (λ end. IsRun IsTypeByte buf.now from end) }
 {
     for end in from..buf.len() {
@@ -606,7 +619,8 @@ fn type_end(buf: &[u8], from: usize) -> Option<usize>
 }
 
 fn is_space_from(buf: &[u8], from: usize) -> bool
-    ensures { IsTrue result ↔ ((k : ℕ) → from ≤ k → k < length buf.now → IsXmlSpace (slice_index buf.now k)) }
+    ensures { IsTrue result ↔ ((k : ℕ) → from ≤ k → k < length buf.now
+        → IsXmlSpace (slice_index buf.now k)) }
 {
     for at in from..buf.len() {
         if !is_xml_space(buf[at]) {
@@ -617,7 +631,8 @@ fn is_space_from(buf: &[u8], from: usize) -> bool
 }
 
 fn has_name_from(buf: &[u8], from: usize) -> bool
-    ensures { IsTrue result ↔ ((k : ℕ) → from ≤ k → k < length buf.now → IsNameByte (slice_index buf.now k)) }
+    ensures { IsTrue result ↔ ((k : ℕ) → from ≤ k → k < length buf.now
+        → IsNameByte (slice_index buf.now k)) }
 {
     for at in from..buf.len() {
         if !is_name_byte(buf[at]) {
@@ -630,7 +645,8 @@ fn has_name_from(buf: &[u8], from: usize) -> bool
 /// Whether the declaration that stands there is not closed, and has no "[".
 fn goes_on_from(buf: &[u8], from: usize) -> bool
     ensures { IsTrue result
-        ↔ ((k : ℕ) → from ≤ k → k < length buf.now → (slice_index buf.now k ≢ 0x3E) × (slice_index buf.now k ≢ 0x5B)) }
+        ↔ ((k : ℕ) → from ≤ k → k < length buf.now → (slice_index buf.now k ≢ 0x3E)
+        × (slice_index buf.now k ≢ 0x5B)) }
 {
     for at in from..buf.len() {
         if buf[at] == b'>' || buf[at] == b'[' {

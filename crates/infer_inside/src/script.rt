@@ -25,7 +25,8 @@ struct Word {
 /// version, and left out, so that nothing may be left of it.
 #[inline(never)]
 pub fn program(buf: &[u8]) -> Option<&[u8]>
-    ensures found { MatchOption result ((n : List ℕ) → ¬ IsProgram n buf.now) (λ name. IsProgram name.now buf.now) }
+    ensures found { MatchOption result ((n : List ℕ) → ¬ IsProgram n buf.now)
+        (λ name. IsProgram name.now buf.now) }
     ensures only { IfSome result (λ name. (n : List ℕ) → IsProgram n buf.now → n ≡ name.now) }
 {
     if !has_at(buf, b"#!", 0) {
@@ -98,7 +99,8 @@ fn is_bare(name: &[u8]) -> bool
 }
 
 fn has_name_bytes(name: &[u8]) -> bool
-    ensures { IsTrue result ↔ ((k : ℕ) → k < length name.now → IsNameByte (slice_index name.now k)) }
+    ensures { IsTrue result ↔ ((k : ℕ) → k < length name.now
+        → IsNameByte (slice_index name.now k)) }
 {
     for at in 0..name.len() {
         if !is_word_byte(name[at]) || name[at] == b'/' {
@@ -110,7 +112,8 @@ fn has_name_bytes(name: &[u8]) -> bool
 
 /// Whether the first line ends in `buf`, behind its first two bytes.
 fn has_line_end(buf: &[u8]) -> bool
-    ensures { IsTrue result ↔ ((k : ℕ) × (2 ≤ k) × (k < length buf.now) × IsLineEnd (slice_index buf.now k)) }
+    ensures { IsTrue result ↔ ((k : ℕ) × (2 ≤ k) × (k < length buf.now)
+        × IsLineEnd (slice_index buf.now k)) }
 {
     for at in 2..buf.len() {
         if buf[at] == b'\n' || buf[at] == b'\r' {
@@ -124,7 +127,8 @@ fn has_line_end(buf: &[u8]) -> bool
 #[inline(always)]
 fn program_word(buf: &[u8]) -> Option<Word>
     requires { 2 ≤ length buf.now }
-    ensures names { MatchOption result ((p q : ℕ) → ¬ NamesProgram buf.now p q) (λ w. NamesProgram buf.now w.from w.to) }
+    ensures names { MatchOption result ((p q : ℕ) → ¬ NamesProgram buf.now p q)
+        (λ w. NamesProgram buf.now w.from w.to) }
     ensures read { IfSome result (λ w. IsRead buf.now w) }
 {
     // Scripts that name `env` mostly begin so, and one comparison tells it.
@@ -145,7 +149,8 @@ fn next_program(buf: &[u8], place: usize) -> Option<Word>
     requires line { (k : ℕ) → 2 ≤ k → k < place → ¬ IsLineEnd (slice_index buf.now k) }
     requires whole { place < length buf.now }
     requires ends { ¬ IsWordByte (slice_index buf.now place) }
-    ensures next { MatchOption result ((p q : ℕ) → place ≤ p → IsWord buf.now p q → IsSetting buf.now p q)
+    ensures next { MatchOption result ((p q : ℕ) → place ≤ p → IsWord buf.now p q
+        → IsSetting buf.now p q)
         (λ w. IsNextWord buf.now (λ p q. ¬ IsSetting buf.now p q) place w.from w.to) }
     ensures read { IfSome result (λ w. IsRead buf.now w) }
 {
@@ -231,7 +236,8 @@ fn blanks_end(buf: &[u8], place: usize) -> usize
 #[inline(always)]
 fn read_word(buf: &[u8], from: usize, folder: usize) -> Option<Word>
     requires { IsFolder buf.now from folder }
-    ensures { MatchOption result ((k : ℕ) → from ≤ k → k < length buf.now → IsWordByte (slice_index buf.now k))
+    ensures { MatchOption result ((k : ℕ) → from ≤ k → k < length buf.now
+        → IsWordByte (slice_index buf.now k))
         (λ w. (w.from ≡ from) × IsRun IsWordByte buf.now from w.to × IsRead buf.now w) }
 {
     let mut name = folder;

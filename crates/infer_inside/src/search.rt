@@ -22,7 +22,8 @@ const NEAR_MISSES: usize = 8;
 #[inline(always)]
 fn marks(buf: &[u8], byte: u8, place: usize) -> u64
     requires { place + 32 ≤ length buf.now }
-    ensures { (k : ℕ) → (bit_at result k ≡ 1) ↔ (k < 32) × (slice_index buf.now (place + k) ≡ byte) }
+    ensures { (k : ℕ) → (bit_at result k ≡ 1) ↔ (k < 32)
+        × (slice_index buf.now (place + k) ≡ byte) }
 {
     u8x32::from_slice(&buf[place..])
         .simd_eq(u8x32::splat(byte))
@@ -33,7 +34,8 @@ fn marks(buf: &[u8], byte: u8, place: usize) -> u64
 #[inline(always)]
 pub(crate) fn find_near(buf: &[u8], byte: u8, start: usize) -> Option<usize>
     requires { start ≤ length buf.now }
-    ensures { MatchOption result ((k : ℕ) → start ≤ k → k < length buf.now → slice_index buf.now k ≢ byte)
+    ensures { MatchOption result ((k : ℕ) → start ≤ k → k < length buf.now
+        → slice_index buf.now k ≢ byte)
         (λ at. IsNext byte buf.now start at) }
 {
     let mut from = start;
@@ -53,7 +55,8 @@ pub(crate) fn find_near(buf: &[u8], byte: u8, start: usize) -> Option<usize>
 /// [`find_near`] of a byte that may be far.
 fn find_far(buf: &[u8], byte: u8, start: usize) -> Option<usize>
     requires { start ≤ length buf.now }
-    ensures { MatchOption result ((k : ℕ) → start ≤ k → k < length buf.now → slice_index buf.now k ≢ byte)
+    ensures { MatchOption result ((k : ℕ) → start ≤ k → k < length buf.now
+        → slice_index buf.now k ≢ byte)
         (λ at. IsNext byte buf.now start at) }
 {
     Some(start + memchr(byte, &buf[start..])?)

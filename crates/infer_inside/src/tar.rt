@@ -69,7 +69,8 @@ fn is_sum(buf: &[u8], place: usize, count: usize, least: u32, most: u32) -> bool
     requires inside { place + count < 156 → place + count < length buf.now }
     requires spaces { (k : ℕ) → 148 ≤ k → k < place → slice_index buf.now k ≡ 0x20 }
     requires digits { (k : ℕ) → k < count → IsOctal (slice_index buf.now (place + k)) }
-    ensures { IsTrue result ↔ IsField buf.now place count × (least ≤ octal buf.now place count) × (octal buf.now place count ≤ most) }
+    ensures { IsTrue result ↔ IsField buf.now place count × (least ≤ octal buf.now place count)
+        × (octal buf.now place count ≤ most) }
 {
     if !is_field(buf, place, count) {
         return false;

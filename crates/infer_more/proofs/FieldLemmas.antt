@@ -1,8 +1,7 @@
 -- What the words of a row say.
-use Rattle.std.proofs.Common.{◌≡◌, ◌⊎◌, ◌↔◌, ℕ, Bool, true, false, List, Option, None, Some, IsTrue, cond, inl, inr, option_map, refl, sym, subst, ◌∙◌}
+use Rattle.std.proofs.Common.{◌≡◌, ◌⊎◌, ℕ, Bool, true, false, List, Option, None, Some, cond, inl, inr, option_map, refl}
 use Rattle.infer.specs.declared.table.file_type.MatcherType.{MatcherType}
-use Rattle.infer_notation.specs.Alternative.{Accepted, Alternative}
-use Rattle.infer_notation.specs.Relations.{IsSeen}
+use Rattle.infer_notation.specs.Alternative.{Alternative}
 use Rattle.infer_notation.specs.Signature.{signature_of}
 use Rattle.infer_notation.specs.Words.{◌>>=◌}
 use Rattle.infer_more.specs.Line.{Fields, Row, class_of, is_built_in, is_mime_type, is_name, is_none, parent_of, row, row_of}
