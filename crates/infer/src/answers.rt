@@ -60,50 +60,50 @@ pub fn some_of_class<C: Class>(buf: &[u8]) -> bool
 
 /// Whether some row that is asked for accepts `buf`. All that are asked for are among `rows`, and only these are asked.
 #[inline(always)]
-pub fn some<Q: Question>(rows: &[RowName], question: &Q, buf: &[u8]) -> bool
-    requires { HoldAsked (Q.asked question.now) (map number_of rows.now) }
-    ensures { IsTrue result ↔ SomeBoth (IsAsked (Q.asked question.now)) (Accepts buf.now) table }
+pub fn some<Q: Question + Copy>(rows: &[RowName], question: Q, buf: &[u8]) -> bool
+    requires { HoldAsked (Q.asked question) (map number_of rows.now) }
+    ensures { IsTrue result ↔ SomeBoth (IsAsked (Q.asked question)) (Accepts buf.now) table }
 {
     if let [row] = rows {
-        return takes_named(*row, question, buf);
+        return takes_named(*row, &question, buf);
     }
     some_among(rows, question, buf)
 }
 
 /// Whether one of these rows is asked for and accepts `buf`. A function of its own, since most slots have one row.
 #[inline(never)]
-fn some_among<Q: Question>(rows: &[RowName], question: &Q, buf: &[u8]) -> bool
+fn some_among<Q: Question + Copy>(rows: &[RowName], question: Q, buf: &[u8]) -> bool
     ensures { IsTrue result
-        ↔ SomeHas (RowHas (Takes (Q.asked question.now) buf.now)) (map number_of rows.now) }
+        ↔ SomeHas (RowHas (Takes (Q.asked question) buf.now)) (map number_of rows.now) }
 {
     let takes = |row: &RowName| -> bool
         ensures { IsTrue result
-            ↔ RowHas (Takes (Q.asked question.entry.now) buf.entry.now) (number_of row.now) }
-    { takes_named(*row, question, buf) };
+            ↔ RowHas (Takes (Q.asked question) buf.entry.now) (number_of row.now) }
+    { takes_named(*row, &question, buf) };
     rows.iter().any(takes)
 }
 
 /// Whether some row is asked for. All that are asked for are among `rows`, and only these are looked at.
 #[inline(always)]
-pub fn has<Q: Question>(rows: &[RowName], question: &Q) -> bool
-    requires { HoldAsked (Q.asked question.now) (map number_of rows.now) }
-    ensures { IsTrue result ↔ SomeHas (IsAsked (Q.asked question.now)) table }
+pub fn has<Q: Question + Copy>(rows: &[RowName], question: Q) -> bool
+    requires { HoldAsked (Q.asked question) (map number_of rows.now) }
+    ensures { IsTrue result ↔ SomeHas (IsAsked (Q.asked question)) table }
 {
     if let [row] = rows {
-        return is_asked(*row as usize, question);
+        return is_asked(*row as usize, &question);
     }
     has_among(rows, question)
 }
 
 /// Whether one of these rows is asked for. A function of its own, since most slots have one row.
 #[inline(never)]
-fn has_among<Q: Question>(rows: &[RowName], question: &Q) -> bool
+fn has_among<Q: Question + Copy>(rows: &[RowName], question: Q) -> bool
     ensures { IsTrue result
-        ↔ SomeHas (RowHas (IsAsked (Q.asked question.now))) (map number_of rows.now) }
+        ↔ SomeHas (RowHas (IsAsked (Q.asked question))) (map number_of rows.now) }
 {
     let asked = |row: &RowName| -> bool
         ensures { IsTrue result
-            ↔ RowHas (IsAsked (Q.asked question.entry.now)) (number_of row.now) }
-    { is_asked(*row as usize, question) };
+            ↔ RowHas (IsAsked (Q.asked question)) (number_of row.now) }
+    { is_asked(*row as usize, &question) };
     rows.iter().any(asked)
 }
