@@ -48,7 +48,7 @@ pub use infer_sig::{
     image as image, odf as odf, text as text, video as video,
 };
 pub use read::fault::Fault;
-pub use read::watched::{Enough, FRONT, Watched, read_head, read_until};
+pub use read::watched::{Enough, FRONT, Limit, Watched, read_head, read_until};
 pub use samples::{SAMPLE_SIZE, sample};
 use std::alloc::Allocator;
 use std::rt::Files;

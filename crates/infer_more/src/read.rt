@@ -4,22 +4,11 @@ ghost use Rattle.infer.specs.Watched.{fault_of};
 ghost use Rattle.infer_more.specs.Reading.{AnswersReader, AnswersSome};
 
 use crate::answers::get;
-use infer::{Enough, Fault, Type, Watched, read_until};
+use infer::{Fault, Limit, Type, Watched, read_until};
 use std::alloc::Allocator;
 use std::fs::File;
 use std::io::Read;
 use std::rt::Files;
-
-/// No bytes are enough before the limit.
-struct Limit;
-
-impl Enough for Limit {
-    ghost suffices = { λ _ _. ⊥ };
-
-    fn is_enough(&self, _bytes: &[u8]) -> bool {
-        false
-    }
-}
 
 /// The type of the wider answer of the first `n` bytes of a reader, or all if it has fewer.
 pub fn get_from_reader_within<A: Allocator, R: Read>(
@@ -32,7 +21,7 @@ pub fn get_from_reader_within<A: Allocator, R: Read>(
     requires most { n ≤ 65536 }
     ensures { AnswersReader R.remaining n r.old r.new result }
 {
-    let bytes = read_until(alloc, r, n, n, &Limit)?;
+    let bytes = read_until(alloc, r, n, n, &mut Limit)?;
     Ok(get(bytes.as_slice()))
 }
 

@@ -1,6 +1,5 @@
 -- What the bytes that were read tell of the front of all that there was to read.
 use Rattle.infer_sniff.proofs.Common.{◌≡◌, ℕ, ◌-◌, ◌<◌, ◌≤◌, ◌⊎◌, List, [], ◌++◌, Option, None, Some, IfSome, length, take, sym, ap, subst, ◌∙◌, arith, inl, inr, take-append-add, cases_lt, append-nil, take_all, Consumes, IsAtEnd, IsSettled, IsTypeOf, IsVerdict, StaysFinal, found_of, Verdict, SoFar, Final}
-use Rattle.infer.specs.declared.table.file_type.FileType.{FileType}
 
 module _ (n : ℕ) (b : List ℕ) (few : length b ≤ n) where
   front_behind : (rest : List ℕ) → take n (b ++ rest) ≡ b ++ take (n - length b) rest
@@ -16,14 +15,9 @@ module _ (n : ℕ) (b : List ℕ) (few : length b ≤ n) where
       ] in
       subst (λ u. IsTypeOf u found) (sym (front_behind rest ∙ ap (λ u. b ++ u) none ∙ append-nil b)) is.1
 
-  of_front : (v : Verdict) (given left : Option (List ℕ)) → IsVerdict b v → StaysFinal b v → Consumes given left b
+  -- if the reader is at its end, or there are n bytes, or the verdict is final
+  pub of_front : (v : Verdict) (given left : Option (List ℕ)) → IsVerdict b v → StaysFinal b v → Consumes given left b
       → (length b < n → IsAtEnd left ⊎ IsSettled b) → IfSome given (λ s. IsTypeOf (take n s) (found_of v))
   of_front v None left is stays h end = tt
   of_front v (Some s) None is stays h end = absurd h
   of_front v (Some s) (Some rest) is stays h end = subst (λ u. IsTypeOf (take n u) (found_of v)) (sym h) (tells v rest is stays end)
-
--- if the reader is at its end, or there are n bytes, or the verdict is final
-pub front-from_read : (n : ℕ) (read b : List ℕ) (v : Verdict) (found : Option FileType) (given left : Option (List ℕ)) → read ≡ b → found ≡ found_of v
-    → length b ≤ n → IsVerdict read v → StaysFinal read v → Consumes given left b → (length b < n → IsAtEnd left ⊎ IsSettled b)
-    → IfSome given (λ s. IsTypeOf (take n s) found)
-front-from_read n read b v found given left same shown few is stays h end = grind (arith, of_front n b few v given left)

@@ -4,10 +4,9 @@ ghost use Rattle.std.specs.Io.KnownBytes.{Consumes};
 ghost use Rattle.infer.specs.Buffer.{IsBuffer, head};
 ghost use Rattle.infer.specs.Fault.{OpensNothing, read_fault};
 ghost use Rattle.infer.specs.Watched.{IsDue, Loses, fault_of, inner};
-ghost use Rattle.infer_sniff.specs.Verdicts.{IsSettled, IsTypeOf};
+ghost use Rattle.infer_sniff.specs.Verdicts.{IsSettled, IsTypeOf, IsVerdict, StaysFinal};
 
-use crate::position::position_settled;
-use crate::verdict::verdict_of;
+use crate::verdict::{Verdict, verdict_of};
 use infer::{Enough, FRONT, Fault, Type, Watched, read_until};
 use std::alloc::Allocator;
 use std::io::Read;
@@ -15,14 +14,18 @@ use std::io::Read;
 /// How many bytes are read at once: no verdict is final before.
 const PIECE: usize = 1024;
 
-/// Bytes are enough if their verdict is final.
-struct Settled;
+/// Bytes are enough if their verdict is final. It is kept, so that the rows are not asked again.
+#[derive(Drop)]
+struct Latest(Verdict);
 
-impl Enough for Settled {
-    ghost suffices = { λ _ bytes. IsSettled bytes };
+impl Enough for Latest {
+    ghost suffices = { IsSettled };
 
-    fn is_enough(&self, bytes: &[u8]) -> bool {
-        position_settled(bytes).1
+    ghost keeps = { λ self bytes. IsVerdict bytes self.0 × StaysFinal bytes self.0 };
+
+    fn is_enough(&mut self, bytes: &[u8]) -> bool {
+        self.0 = verdict_of(bytes);
+        self.0.is_final()
     }
 }
 
@@ -51,6 +54,7 @@ pub fn label<A: Allocator, R: Read>(
     ensures lost { OnErr result (Loses FRONT (R.remaining (inner reader.old))
         (R.remaining (inner reader.new))) }
 {
-    let bytes = read_until(alloc, reader, FRONT, PIECE, &Settled)?;
-    Ok(verdict_of(bytes.as_slice()).found())
+    let mut latest = Latest(Verdict::SoFar(None));
+    read_until(alloc, reader, FRONT, PIECE, &mut latest)?;
+    Ok(latest.0.found())
 }

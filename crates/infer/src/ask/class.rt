@@ -10,30 +10,39 @@ pub trait Class {
     const CLASS: MatcherType;
 }
 
+/// Programs and the like: [`MatcherType::App`].
 #[derive(Drop)]
 pub struct App;
 
+/// Archives: [`MatcherType::Archive`].
 #[derive(Drop)]
 pub struct Archive;
 
+/// Sound: [`MatcherType::Audio`].
 #[derive(Drop)]
 pub struct Audio;
 
+/// Books: [`MatcherType::Book`].
 #[derive(Drop)]
 pub struct Book;
 
+/// Documents: [`MatcherType::Doc`].
 #[derive(Drop)]
 pub struct Doc;
 
+/// Fonts: [`MatcherType::Font`].
 #[derive(Drop)]
 pub struct Font;
 
+/// Images: [`MatcherType::Image`].
 #[derive(Drop)]
 pub struct Image;
 
+/// Video: [`MatcherType::Video`].
 #[derive(Drop)]
 pub struct Video;
 
+/// Types that a caller added: [`MatcherType::Custom`].
 #[derive(Drop)]
 pub struct Custom;
 

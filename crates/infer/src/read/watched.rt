@@ -71,22 +71,30 @@ impl<R: Read> Watched<R> {
 /// How many bytes of an input are looked at, if no other number is chosen.
 pub const FRONT: usize = 8192;
 
-/// A test by which reading ends before its limit.
+/// A test by which reading ends before its limit. It may keep what it learnt of the bytes that it was asked about last.
 pub trait Enough {
-    ghost suffices: { Self → List ℕ → Type 0 };
+    // The bytes that are enough.
+    ghost suffices: { List ℕ → Type 0 };
+
+    // What it keeps of the bytes that it was asked about last.
+    ghost keeps: { Self → List ℕ → Type 0 };
 
     /// Whether these bytes are enough, so that no more are read.
-    fn is_enough(&self, bytes: &[u8]) -> bool
-        ensures { IsTrue result ↔ suffices self.now bytes.now };
+    fn is_enough(&mut self, bytes: &[u8]) -> bool
+        ensures enough { IsTrue result ↔ suffices bytes.now }
+        ensures kept { keeps self.new bytes.now };
 }
 
 /// No bytes are enough before the limit.
-struct Limit;
+#[derive(Drop)]
+pub struct Limit;
 
 impl Enough for Limit {
-    ghost suffices = { λ _ _. ⊥ };
+    ghost suffices = { λ _. ⊥ };
 
-    fn is_enough(&self, _bytes: &[u8]) -> bool {
+    ghost keeps = { λ _ _. Unit {0} };
+
+    fn is_enough(&mut self, _bytes: &[u8]) -> bool {
         false
     }
 }
@@ -105,7 +113,7 @@ fn fill<R: Read, E: Enough>(
     reader: &mut Watched<R>,
     out: &mut [u8],
     piece: usize,
-    enough: &E,
+    enough: &mut E,
 ) -> Result<usize, ErrorKind>
     requires no_fault { fault_of reader.old ≡ None }
     requires some { 1 ≤ piece }
@@ -113,14 +121,15 @@ fn fill<R: Read, E: Enough>(
     ensures bytes { IfOk result (λ n. Consumes (R.remaining (inner reader.old))
         (R.remaining (inner reader.new)) (take n out.new)) }
     ensures end { IfOk result (λ n. n < length out.new
-        → IsAtEnd (R.remaining (inner reader.new)) ⊎ E.suffices enough.now (take n out.new)) }
-    ensures due { IfOk result (λ n. IsDue piece (E.suffices enough.now) (take n out.new)) }
+        → IsAtEnd (R.remaining (inner reader.new)) ⊎ E.suffices (take n out.new)) }
+    ensures due { IfOk result (λ n. IsDue piece E.suffices (take n out.new)) }
+    ensures kept { IfOk result (λ n. E.keeps enough.new (take n out.new)) }
     ensures fault { fault_of reader.new ≡ result_err result }
     ensures lost { OnErr result (Loses (length out.new) (R.remaining (inner reader.old))
         (R.remaining (inner reader.new))) }
 {
     let mut filled = 0;
-    while filled < out.len() && !enough.is_enough(&out[..filled]) {
+    while !enough.is_enough(&out[..filled]) && filled < out.len() {
         let room = cmp::min(piece, out.len() - filled);
         let count = reader.read(&mut out[filled..filled + room])?;
         if count == 0 {
@@ -138,7 +147,7 @@ pub fn read_until<A: Allocator, R: Read, E: Enough>(
     reader: &mut Watched<R>,
     limit: usize,
     piece: usize,
-    enough: &E,
+    enough: &mut E,
 ) -> Result<Vec<u8, A>, Fault>
     requires no_fault { fault_of reader.old ≡ None }
     requires some { 1 ≤ limit }
@@ -148,8 +157,9 @@ pub fn read_until<A: Allocator, R: Read, E: Enough>(
     ensures taken { IfOk result (λ bytes. Consumes (R.remaining (inner reader.old))
         (R.remaining (inner reader.new)) bytes.items) }
     ensures end { IfOk result (λ bytes. vec_len bytes < limit
-        → IsAtEnd (R.remaining (inner reader.new)) ⊎ E.suffices enough.now bytes.items) }
-    ensures due { IfOk result (λ bytes. IsDue piece (E.suffices enough.now) bytes.items) }
+        → IsAtEnd (R.remaining (inner reader.new)) ⊎ E.suffices bytes.items) }
+    ensures due { IfOk result (λ bytes. IsDue piece E.suffices bytes.items) }
+    ensures kept { IfOk result (λ bytes. E.keeps enough.new bytes.items) }
     ensures fault { fault_of reader.new ≡ read_fault result }
     ensures memory { IsErrOf result Fault.Memory → reader.new ≡ reader.old }
     ensures opens_nothing { OpensNothing result }
@@ -186,5 +196,5 @@ pub fn read_head<R: Read>(reader: &mut Watched<R>, room: &mut [u8]) -> Result<us
     ensures lost { OnErr result (Loses (length room.new) (R.remaining (inner reader.old))
         (R.remaining (inner reader.new))) }
 {
-    fill(reader, room, usize::MAX, &Limit)
+    fill(reader, room, usize::MAX, &mut Limit)
 }
