@@ -170,15 +170,22 @@ not_decided b (more, bytes, change) decided =
 -- ---- the first of the rows that are gone through
 
 module _ (P : Further → Type 0) where
-  pub first_at : (i : ℕ) → HasAt P i → ((k : ℕ) → k < i → ¬ HasAt P k) → IsFirst P further i
+  first_at : (i : ℕ) → HasAt P i → ((k : ℕ) → k < i → ¬ HasAt P k) → IsFirst P further i
   first_at i here before = record {
     within = here.0;
     here = here.1;
     before = λ k d low lt p. let within = here.0 in before k lt (omega arith, HoldsAt-read P further k d (omega arith) p);
   }
 
-  pub none_at_all : (n : ℕ) → length further ≤ n → ((k : ℕ) → k < n → ¬ HasAt P k) → IsFirstOf P further None
+  none_at_all : (n : ℕ) → length further ≤ n → ((k : ℕ) → k < n → ¬ HasAt P k) → IsFirstOf P further None
   none_at_all n le before = λ k d low lt p. before k (omega arith) (lt, HoldsAt-read P further k d lt p)
+
+  -- what `find` found of the numbers of the rows
+  pub first_found : (n : ℕ) → length further ≤ n → (o : Option ℕ)
+      → MatchOption o ((k : ℕ) → 0 ≤ k → k < n → ¬ HasAt P k) (λ i. (0 ≤ i) × (i < n) × HasAt P i × ((k : ℕ) → 0 ≤ k → k < i → ¬ HasAt P k))
+      → IsFirstOf P further o
+  first_found n le None none = none_at_all n le (λ k lt. none k (omega arith) lt)
+  first_found n le (Some i) (low, lt, here, before) = first_at i here (λ k l. before k (omega arith) l)
 
 -- ---- the built-in rows and the further ones
 

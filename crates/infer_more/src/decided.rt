@@ -62,12 +62,11 @@ fn is_stable(row: &FurtherRow, buf: &[u8]) -> bool
 fn first_open(parent: Option<usize>, buf: &[u8]) -> Option<usize>
     ensures { IsFirstOf (MayWiden parent buf.now) further result }
 {
-    for i in 0..FURTHER_COUNT {
-        if may_widen(i, parent, buf) {
-            return Some(i);
-        }
-    }
-    None
+    let may_widen = |i: &usize| -> bool
+        ensures { IsTrue result ↔ ((i.now < length further)
+            × HoldsAt (MayWiden parent.entry buf.entry.now) further i.now) }
+    { may_widen(*i, parent, buf) };
+    (0..FURTHER_COUNT).find(may_widen)
 }
 
 /// Whether row `i` has this parent, and some bytes after the buffer make it accept.

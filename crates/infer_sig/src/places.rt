@@ -1,5 +1,5 @@
 //! Comparisons with texts of a stated length, which compile to comparisons of words.
-ghost use Rattle.std.specs.Prelude.{◌≡◌, ◌≤◌, ◌+◌, length};
+ghost use Rattle.std.specs.Prelude.{◌≡◌, ◌<◌, ◌≤◌, ◌+◌, length};
 ghost use Rattle.std.specs.List.{list_any};
 ghost use Rattle.infer_sig.specs.Open.{agrees};
 ghost use Rattle.infer_sig.specs.Signature.{stands};
@@ -30,7 +30,7 @@ pub fn any_matches_at<const N: usize>(buf: &[u8], texts: &[[u8; N]], place: usiz
 }
 
 /// Whether as much of `text` as `buf` has room for from `place` on stands there.
-#[tactic(auto, using(crate::proofs::OpenLemmas::agrees_whole))]
+#[tactic(auto, using(crate::proofs::OpenLemmas::agrees_whole, crate::proofs::OpenLemmas::agrees_beyond))]
 #[inline(always)]
 pub fn may_match_at<const N: usize>(buf: &[u8], text: &[u8; N], place: usize) -> bool
     ensures { result ≡ agrees place text.now buf.now }
@@ -38,7 +38,7 @@ pub fn may_match_at<const N: usize>(buf: &[u8], text: &[u8; N], place: usize) ->
     if place <= buf.len() && N <= buf.len() - place {
         return matches_at(buf, text, place);
     }
-    begins_at(buf, text, place)
+    place >= buf.len() || begins_at(buf, text, place)
 }
 
 /// Whether as much of one of the texts as `buf` has room for from `place` on stands there.
@@ -52,12 +52,13 @@ pub fn any_may_match_at<const N: usize>(buf: &[u8], texts: &[[u8; N]], place: us
     texts.iter().any(agrees)
 }
 
-/// [`may_match_at`] for a text of which `buf` has no more than a part: a function of its own, since most have room.
+/// [`may_match_at`] for a text that `buf` ends in: a function of its own, since most have room.
 #[tactic(auto, unfolding(crate::specs::Open::agrees, crate::specs::Signature::stands))]
 #[inline(never)]
 fn begins_at(buf: &[u8], text: &[u8], place: usize) -> bool
-    requires { length buf.now ≤ place + length text.now }
+    requires some { place < length buf.now }
+    requires part { length buf.now ≤ place + length text.now }
     ensures { result ≡ agrees place text.now buf.now }
 {
-    place >= buf.len() || buf[place..].starts_with(&text[..buf.len() - place])
+    buf[place..].starts_with(&text[..buf.len() - place])
 }
