@@ -1,5 +1,5 @@
 -- What bytes after a buffer can bring: texts that agree with it as far as it goes.
-use Rattle.infer_deep.proofs.Common.{IsTrue, ◌≡◌, ◌⊎◌, ◌↔◌, ℕ, zero, suc, ◌+◌, ◌-◌, ◌<◌, ◌≤◌, inl, inr, Bool, true, List, [], ◌∷◌, ◌++◌, length, get_or, take, drop, max, min, refl, sym, ap, subst, ◌∙◌, arith, length-append, length-drop, append_assoc, get_or-append_right, lt-ltb, cases_lt, cases_order, ltb-true, append-nil, get_or_append_left, get_or-drop, length-replicate, All-append, All-drop, All-from_get_or, All-nil, All-replicate, take_rest, front_reads, front_from_reads, starts_is, Decides-eqb, AllPass-from_list_all, list_all-from_AllPass, starts_with, All, nat_eq, nat_lt, replicate, OccursAt, IsWithin, IsFirstPlace, are_bytes, AgreesAt, MayBecome}
+use Rattle.infer_deep.proofs.Common.{Option, None, Some, MatchOption, IsFirstWithin, IsTrue, ◌≡◌, ◌⊎◌, ◌↔◌, ℕ, zero, suc, ◌+◌, ◌-◌, ◌<◌, ◌≤◌, inl, inr, Bool, true, List, [], ◌∷◌, ◌++◌, length, get_or, take, drop, max, min, refl, sym, ap, subst, ◌∙◌, arith, length-append, length-drop, append_assoc, get_or-append_right, lt-ltb, cases_lt, cases_order, ltb-true, append-nil, get_or_append_left, get_or-drop, length-replicate, All-append, All-drop, All-from_get_or, All-nil, All-replicate, take_rest, front_reads, front_from_reads, starts_is, Decides-eqb, AllPass-from_list_all, list_all-from_AllPass, starts_with, All, nat_eq, nat_lt, replicate, OccursAt, IsWithin, IsFirstPlace, are_bytes, AgreesAt, MayBecome}
 use Rattle.infer_deep.proofs.PlaceLemmas.{OccursAt-append}
 
 abbrev pub IsBytes : List ℕ → Type 0
@@ -163,12 +163,20 @@ module _ (b text : List ℕ) (start end first last : ℕ) (none : (q : ℕ) → 
   before_first q lt m =
       none q (record { stands = stands_where_whole b text q (let low = m.low in omega arith) m.stands; low = m.low; high = m.high })
 
-  pub first_open_found : (n : ℕ) → first ≤ n → n ≤ last → ((k : ℕ) → first ≤ k → k < n → ¬ AgreesAt b text k)
+  first_open_found : (n : ℕ) → first ≤ n → n ≤ last → ((k : ℕ) → first ≤ k → k < n → ¬ AgreesAt b text k)
       → AgreesAt b text n → IsFirstPlace AgreesAt b text start end n
   first_open_found n low high passed a = grind (arith, before_first)
 
-  pub none_open_found : ((k : ℕ) → first ≤ k → k < last + 1 → ¬ AgreesAt b text k) → (p : ℕ) → ¬ IsWithin AgreesAt b text start end p
+  none_open_found : ((k : ℕ) → first ≤ k → k < last + 1 → ¬ AgreesAt b text k) → (p : ℕ) → ¬ IsWithin AgreesAt b text start end p
   none_open_found passed p m = grind (arith, before_first p, passed p, passed last, agrees_past b text last, m.stands)
+
+  -- what `find` found of the places from `first` to `last`
+  pub first_open_of_find : (found : Option ℕ)
+      → MatchOption found ((k : ℕ) → first ≤ k → k < last + 1 → ¬ AgreesAt b text k)
+      (λ p. (first ≤ p) × (p < last + 1) × AgreesAt b text p × ((k : ℕ) → first ≤ k → k < p → ¬ AgreesAt b text k))
+      → IsFirstWithin AgreesAt b text start end found
+  first_open_of_find None none = none_open_found none
+  first_open_of_find (Some p) (low, high, here, before) = first_open_found p low (omega (arith, high)) before here
 
 -- ---- least places
 

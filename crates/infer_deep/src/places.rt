@@ -203,12 +203,10 @@ pub(crate) fn find_open<const N: usize>(
     // Before `first` the whole of it would stand in `buf`, and from the end of `buf` on it may always come to stand.
     let first = start.max((buf.len() + 1).saturating_sub(N));
     let last = start.max(buf.len()).min(end - N);
-    for place in first..last + 1 {
-        if agrees_at(buf, text, place) {
-            return Some(place);
-        }
-    }
-    None
+    let agrees = |place: &usize| -> bool
+        ensures { IsTrue result ↔ AgreesAt buf.entry.now text.entry.now place.now }
+    { agrees_at(buf, text, *place) };
+    (first..last + 1).find(agrees)
 }
 
 /// Whether some bytes after `buf` make `text` stand in the first `end` bytes.
