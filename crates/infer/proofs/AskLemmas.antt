@@ -1,5 +1,7 @@
 -- A walk over the candidates of a buffer: which numbers they are, where it ends, and which it asks.
 use Rattle.infer.proofs.Common.{◌≡◌, ◌<◌, ◌≤◌, ◌+◌, ℕ, zero, suc, Bool, true, false, ◌&&◌, List, [], ◌∷◌, ◌++◌, length, get_or, take, sym, subst, ◌∙◌, ap, arith, refl, leb, Option, Some, None, inl, inr, cond, if◌then◌else◌, IsTrue, ◌↔◌, ◌==◌, ◌||◌, eq-eqb, All, AllPairs, AllWithin, filter, slice_get, option_map_or, false≢true, ne_eqb, nat_tests, get_or_default, length-take-le, All-cons, AllWithin-more, filter_more, count_by-le-length, length-filter, BuiltIn, allows_first, candidates, candidates_of, numbers_from, Row, table, MOST_CANDIDATES, ROW_COUNT, IsFirstAmong, asked_rows, count_asked, is_listed, is_asked, is_not_above, Bor}
+use Rattle.std.specs.Option.{option_copied, MatchOption}
+use Rattle.std.specs.List.{HoldsAt}
 use Rattle.std.proofs.lemmas.List.Kept.{AllPairs-cons}
 use Rattle.infer.proofs.TableLemmas.{length-table}
 
@@ -35,6 +37,16 @@ module _ (P : ℕ → Type 0) where
   found_among (c ∷ cs) zero d l h none = inl (h, refl)
   found_among (c ∷ cs) (suc k) d l h none =
       inr (none 0 0 (omega arith) (omega arith), found_among cs k d (omega arith) h (λ j e a b. none (suc j) e (omega arith) (omega arith)))
+
+module _ (P : ℕ → Type 0) where
+  -- what `find` found of the numbers
+  pub among_of_find : (cs : List ℕ) (found : Option (Bor ℕ))
+      → MatchOption found (AllWithin (λ i. ¬ P i) cs 0 (length cs))
+      (λ x. P x.now × (k : ℕ) × (k < length cs) × HoldsAt (λ i. i ≡ x.now) cs k × AllWithin (λ i. ¬ P i) cs 0 k)
+      → IsFirstAmong P cs (option_copied found)
+  among_of_find cs None none = none_among P cs none
+  among_of_find cs (Some x) (holds, k, lt, at, before) =
+      subst (λ i. IsFirstAmong P cs (Some i)) (at 0) (found_among P cs k 0 lt (subst P (sym (at 0)) holds) before)
 
 -- what a call tells of the next number, in words of the buffer as it was
 module _ (S : List ℕ → ℕ → Type 0) (b c rs : List ℕ) (k n : ℕ) (r : Bool) (kept : c ≡ b) (answer : IsTrue r ↔ S c n)

@@ -1,5 +1,6 @@
 -- A buffer is decided just if none of the rows before its answer may still accept it.
 use Rattle.infer.proofs.Common.{◌≡◌, ◌↔◌, ◌<◌, ◌≤◌, inl, inr, le_refl, ◌∙◌, sym, refl, zero, suc, ℕ, Bool, true, List, [], ◌∷◌, ◌++◌, length, get_or, Option, None, Some, All, IsTrue, subst, append_assoc, append-nil, arith, AllPass-from_list_all, All-append, All-nil, AllWithin-none, and_parts, cases_lt, cases_order, AllWithin, HoldsAt, list_all, slice_get, option_map_or, MayBecome, MayBecomeIsExact, is_sound, Alternative, stands, BuiltIn, fixed, IsAccepted, IsBuffer, AnswersAreOpen, CanBeDecided, DecidedByRows, DecidedLasts, FirstOpenComes, IsChangeable, IsDecided, IsToldExactly, MayBecomeRow, ReachNarrows, TellsMayBecome, rows_before, IsFirst, IsFirstOf, NoneHas, Leads, candidates, candidates_of, Lasts, signatures, Row, Accepts, signature_of, table, IsFirstAmong, RowHas, EXE}
+use Rattle.infer.proofs.TableLemmas.{signature_has}
 use Rattle.std.proofs.lemmas.List.Folds.{list_all-append, list_all-map}
 use Rattle.infer_deep.proofs.OpenLemmas.{bytes_from_test}
 use Rattle.infer.proofs.CandidateLemmas.{first_listed, read_has}
@@ -57,9 +58,12 @@ module _ (opens : (s : List Alternative) → IsTrue (is_sound s) → MayBecomeIs
   told (fixed alternatives) sound same = let open_it = opens alternatives sound b in (λ t. open_it.0 (sym same ∙ t), λ h. same ∙ open_it.1 h)
   told s sound h = h
 
-  pub told_of_row : (i : ℕ) → TellsMayBecome (signature_of i) b r → IsTrue r ↔ MayBecome (IsAccepted (signature_of i)) b
+  pub told_of_row : (i : ℕ) → TellsMayBecome (signature_of i) b r → IsTrue r ↔ RowHas (MayBecomeRow b) i
   unfolding signature_of
-  told_of_row i = told (signature_of i) (sound_at table rows_sound i)
+  told_of_row i tells =
+      let both = told (signature_of i) (sound_at table rows_sound i) tells in
+      let same = signature_has (λ s. MayBecome (IsAccepted s) b) (λ (more, bytes, h). absurd (cc)) i in
+      (λ t. same.0 (both.0 t), λ h. both.1 (same.1 h))
 
 pub open_signatures : ((s : List Alternative) → IsTrue (is_sound s) → MayBecomeIsExact s) → All IsToldExactly signatures
 open_signatures opens i d lt b r = told opens b r (get_or signatures i d) (AllPass-from_list_all is_sound_if_fixed signatures all_sound i d lt)

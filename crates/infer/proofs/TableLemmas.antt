@@ -1,6 +1,19 @@
--- The table's length.
-use Rattle.infer.proofs.Common.{◌≡◌, length, refl, table, ROW_COUNT}
+-- The table's length, and what its rows have.
+use Rattle.infer.proofs.Common.{◌≡◌, ◌↔◌, ℕ, [], length, refl, Option, None, Some, MatchOption, option_map_or, slice_get, table, ROW_COUNT, BuiltIn, fixed, Row, signature_of, RowHas, List, IsAccepted, Accepts}
 
 pub length-table : length table ≡ ROW_COUNT
 unfolding table
 length-table = refl
+
+-- what no signature of no alternatives has, the signature of row i has just if the row is there and its own has it
+module _ (Q : BuiltIn → Type 0) (never : ¬ Q (fixed [])) where
+  of_row : (o : Option (Row BuiltIn)) → Q (option_map_or (λ r. r.signature) o (fixed [])) ↔ MatchOption o ⊥ (λ r. Q r.signature)
+  of_row None = (never, λ h. absurd h)
+  of_row (Some r) = (λ h. h, λ h. h)
+
+  pub signature_has : (i : ℕ) → Q (signature_of i) ↔ RowHas (λ r. Q r.signature) i
+  unfolding signature_of
+  signature_has i = of_row (slice_get table i)
+
+pub row_accepts : (b : List ℕ) (i : ℕ) → IsAccepted (signature_of i) b ↔ RowHas (Accepts b) i
+row_accepts b i = signature_has (λ s. IsAccepted s b) (λ h. absurd (cc)) i

@@ -1,12 +1,11 @@
 //! What more bytes can change of an answer.
 ghost use Rattle.std.specs.Prelude.{◌↔◌, ◌<◌, IsFalse, IsTrue, length};
 ghost use Rattle.infer.specs.Decided.{CanBeDecided, IsChangeable, IsDecided, MayBecomeRow};
-ghost use Rattle.infer.specs.Listed.{row_listed};
 ghost use Rattle.infer.specs.Walks.{IsFirstAmong, RowHas};
 
 use crate::ask::question::accepts_at;
 use crate::candidates::dispatch::{arm_of, blank, candidates_at, leads};
-use crate::table::rows::{BuiltInRow, may_become_named, rows};
+use crate::table::rows::{ROW_COUNT, may_become_named, name_at};
 
 /// Whether no bytes after `buf` change its answer. If this is false, some bytes do. The empty buffer is never decided, and
 /// every other can be: some bytes after it make a buffer that is.
@@ -35,12 +34,10 @@ pub fn is_decided(buf: &[u8]) -> bool
 fn first_open(rows: &[usize], buf: &[u8]) -> Option<usize>
     ensures { IsFirstAmong (RowHas (MayBecomeRow buf.now)) rows.now result }
 {
-    for row in rows {
-        if may_become(buf, *row) {
-            return Some(*row);
-        }
-    }
-    None
+    let may_become_row = |row: &&usize| -> bool
+        ensures { IsTrue result ↔ RowHas (MayBecomeRow buf.entry.now) row.now.now }
+    { may_become(buf, **row) };
+    rows.iter().find(may_become_row).copied()
 }
 
 /// Whether some bytes after `buf` make row `row` accept it. From `ROW_COUNT` on there is no row, and no bytes do.
@@ -48,16 +45,14 @@ fn first_open(rows: &[usize], buf: &[u8]) -> Option<usize>
 pub fn may_become(buf: &[u8], row: usize) -> bool
     ensures { IsTrue result ↔ RowHas (MayBecomeRow buf.now) row }
 {
-    match rows().get(row) {
-        Some(row) => may_become_row(row, buf),
-        None => false,
-    }
+    row < ROW_COUNT && may_become_at(row, buf)
 }
 
 #[inline(always)]
-fn may_become_row(row: &BuiltInRow, buf: &[u8]) -> bool
-    ensures { IsTrue result ↔ MayBecomeRow buf.now (row_listed row.now) }
+fn may_become_at(row: usize, buf: &[u8]) -> bool
+    requires { row < ROW_COUNT }
+    ensures { IsTrue result ↔ RowHas (MayBecomeRow buf.now) row }
 {
     infer_sig::laws::open();
-    may_become_named(row.row, buf)
+    may_become_named(name_at(row), buf)
 }

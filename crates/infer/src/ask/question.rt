@@ -8,7 +8,7 @@ ghost use Rattle.infer.specs.Walks.{RowHas, Takes};
 
 use crate::ask::class::Class;
 use crate::table::file_type::FileType;
-use crate::table::rows::{ROW_COUNT, RowName, accepts_named, row_at, row_named, rows};
+use crate::table::rows::{ROW_COUNT, RowName, accepts_named, name_at, row_named, rows};
 use std::marker::PhantomData;
 
 /// A question, which is known by its type, so that code is made for each.
@@ -90,7 +90,7 @@ pub fn accepts_at(i: usize, buf: &[u8]) -> bool
     requires { i < ROW_COUNT }
     ensures { IsTrue result ↔ RowHas (Accepts buf.now) i }
 {
-    row_at(i).accepts(buf)
+    accepts_named(name_at(i), buf)
 }
 
 /// Whether row `i` is one that the question asks for.

@@ -418,14 +418,14 @@ macro_rules! with_rows {
     };
 }
 
-macro_rules! count {
+macro_rules! names {
     ([] $($row:ident $class:ident $mime_type:literal $extension:literal $matcher:path, $may_become:path, $len:literal $front:literal $($place:literal $text:literal)?;)*) => {
-        [$(RowName::$row),*].len()
+        [$(RowName::$row),*]
     };
 }
 
 /// How many rows there are.
-pub const ROW_COUNT: usize = with_rows!(count);
+pub const ROW_COUNT: usize = with_rows!(names).len();
 
 /// How many matchers there are: those of the rows, and the three of object files for one processor.
 pub const MATCHER_COUNT: usize = ROW_COUNT + 3;
@@ -504,9 +504,20 @@ pub(crate) struct Pieces {
     pub text: &'static [u8],
 }
 
+static NAMES: [RowName; ROW_COUNT] = with_rows!(names);
+
 static ROWS: [BuiltInRow; ROW_COUNT] = with_rows!(rows);
 
 static SAMPLES: [Pieces; ROW_COUNT] = with_rows!(samples);
+
+/// The name of row `i`. Names have a byte each, so that a row is asked without its texts.
+#[inline(always)]
+pub(crate) fn name_at(i: usize) -> RowName
+    requires { i < ROW_COUNT }
+    ensures { number_of result ≡ i }
+{
+    NAMES[i]
+}
 
 /// The built-in rows, in the order in which they are asked.
 pub(crate) fn rows() -> &'static [BuiltInRow]
