@@ -15,6 +15,7 @@ use Rattle.infer.specs.Table as built_in
 use Rattle.infer.specs.declared.table.rows.TheConstants.{ROW_COUNT}
 use Rattle.infer.proofs.FirstLemmas.{IsFirstOf-same}
 use Rattle.infer.proofs.ListLemmas.{HoldsAt-read}
+use Rattle.infer.proofs.CandidateLemmas.{read_has}
 use Rattle.infer.proofs.TableLemmas.{length-table}
 use Rattle.infer_more.specs.Decided.{IsChangeable, IsDecided, IsUnstable, IsWidenedForGood, IsWideningOpen, MayWiden}
 use Rattle.infer_more.specs.Laws.{built_in_by}
@@ -170,22 +171,20 @@ not_decided b (more, bytes, change) decided =
 -- ---- the first of the rows that are gone through
 
 module _ (P : Further → Type 0) where
-  first_at : (i : ℕ) → HasAt P i → ((k : ℕ) → k < i → ¬ HasAt P k) → IsFirst P further i
-  first_at i here before = record {
-    within = here.0;
-    here = here.1;
-    before = λ k d low lt p. let within = here.0 in before k lt (omega arith, HoldsAt-read P further k d (omega arith) p);
-  }
-
-  none_at_all : (n : ℕ) → length further ≤ n → ((k : ℕ) → k < n → ¬ HasAt P k) → IsFirstOf P further None
-  none_at_all n le before = λ k d low lt p. before k (omega arith) (lt, HoldsAt-read P further k d lt p)
-
   -- what `find` found of the numbers of the rows
-  pub first_found : (n : ℕ) → length further ≤ n → (o : Option ℕ)
-      → MatchOption o ((k : ℕ) → 0 ≤ k → k < n → ¬ HasAt P k) (λ i. (0 ≤ i) × (i < n) × HasAt P i × ((k : ℕ) → 0 ≤ k → k < i → ¬ HasAt P k))
+  pub first_found : (n : ℕ) → length further ≡ n → (o : Option ℕ)
+      → MatchOption o ((k : ℕ) → 0 ≤ k → k < n → ¬ MatchOption (slice_get further k) ⊥ P)
+      (λ i. (0 ≤ i) × (i < n) × MatchOption (slice_get further i) ⊥ P × ((k : ℕ) → 0 ≤ k → k < i → ¬ MatchOption (slice_get further k) ⊥ P))
       → IsFirstOf P further o
-  first_found n le None none = none_at_all n le (λ k lt. none k (omega arith) lt)
-  first_found n le (Some i) (low, lt, here, before) = first_at i here (λ k l. before k (omega arith) l)
+  first_found n many None none = λ k d low lt p. none k low (omega (arith, lt, many)) ((read_has P further k).1 (lt, HoldsAt-read P further k d lt p))
+  first_found n many (Some i) (low, lt, has, before) =
+      let here = (read_has P further i).0 has in
+      record {
+        within = here.0;
+        here = here.1;
+        before = λ k d low lt p. let inside = here.0 in
+            before k low lt ((read_has P further k).1 (omega (arith, lt), HoldsAt-read P further k d (omega (arith, lt)) p));
+      }
 
 -- ---- the built-in rows and the further ones
 

@@ -1,6 +1,5 @@
 //! What more bytes can change of a wider answer.
-ghost use Rattle.std.specs.Prelude.{◌↔◌, ◌<◌, IsFalse, IsTrue, length};
-ghost use Rattle.std.specs.List.{HoldsAt};
+ghost use Rattle.std.specs.Prelude.{◌↔◌, IsFalse, IsTrue, MatchOption, slice_get};
 ghost use Rattle.infer.specs.First.{IsFirst, IsFirstOf};
 ghost use Rattle.infer_inside.specs.Open.{Stays};
 ghost use Rattle.infer_more.specs.Decided.{IsChangeable, IsDecided, IsUnstable, IsWidenedForGood, IsWideningOpen, MayBecomeAt, MayWiden};
@@ -63,15 +62,15 @@ fn first_open(parent: Option<usize>, buf: &[u8]) -> Option<usize>
     ensures { IsFirstOf (MayWiden parent buf.now) further result }
 {
     let may_widen = |i: &usize| -> bool
-        ensures { IsTrue result ↔ ((i.now < length further)
-            × HoldsAt (MayWiden parent.entry buf.entry.now) further i.now) }
+        ensures { IsTrue result ↔ MatchOption (slice_get further i.now) ⊥
+            (MayWiden parent buf.entry.now) }
     { may_widen(*i, parent, buf) };
     (0..FURTHER_COUNT).find(may_widen)
 }
 
 /// Whether row `i` has this parent, and some bytes after the buffer make it accept.
 fn may_widen(i: usize, parent: Option<usize>, buf: &[u8]) -> bool
-    ensures { IsTrue result ↔ ((i < length further) × HoldsAt (MayWiden parent buf.now) further i) }
+    ensures { IsTrue result ↔ MatchOption (slice_get further i) ⊥ (MayWiden parent buf.now) }
 {
     match row_at(i) {
         Some(row) => row_may_widen(row, parent, buf),
