@@ -1,6 +1,6 @@
 -- Brands of a boxed file: they last, and only to an open box do more bytes bring them.
-use Rattle.infer_deep.proofs.Common.{◌≡◌, ◌⊎◌, Bool, false, ◌||◌, ◌↔◌, ℕ, ◌+◌, ◌-◌, ◌*◌, ◌/◌, ◌<◌, ◌≤◌, max, min, List, [], ◌∷◌, ◌++◌, length, refl, ap, sym, subst, ◌∙◌, inl, inr, arith, codes, length-append, append_assoc, IsTrue, All-append, cases_lt, or_cases, or_left, or_right, OccursAt, are_bytes, AgreesAt, Lasts, ComesWith, IsEarly, MayBecome, box_length, IsBoxed, IsOpenBox, HasMajor, HasCompatible, MayHaveCompatible, IsHeif, IsAvif}
-use Rattle.infer_deep.proofs.OpenLemmas.{IsBytes, Part, LieApart, AllAgree, AllStand, AllStand-append, agrees_none, agrees_past, agrees_where_stands, fills_parts, fills_text, grown_agrees, stands_where_whole}
+use Rattle.infer_deep.proofs.Common.{◌≡◌, ◌⊎◌, Bool, false, ◌||◌, ◌↔◌, ℕ, ◌+◌, ◌-◌, ◌*◌, ◌/◌, ◌<◌, ◌≤◌, min, List, [], ◌∷◌, ◌++◌, length, refl, sym, subst, inl, inr, arith, codes, length-append, IsTrue, cases_lt, or_cases, or_left, or_right, OccursAt, are_bytes, AgreesAt, Lasts, ComesWith, IsEarly, MayBecome, box_length, IsBoxed, IsOpenBox, HasMajor, HasCompatible, MayHaveCompatible, IsHeif, IsAvif}
+use Rattle.infer_deep.proofs.OpenLemmas.{Part, LieApart, AllAgree, AllStand, agrees_none, agrees_past, agrees_where_stands, fills_parts, kept, kept_agrees, kept_bytes, kept_ends, kept_numbers, grown_agrees, stands_where_whole}
 use Rattle.infer_deep.proofs.PlaceLemmas.{Carries, OccursAt-append, OccursAt-front}
 use Rattle.infer_deep.proofs.NumberLemmas.{be32-append}
 
@@ -20,10 +20,11 @@ pub compatible_below : (b brand : List ℕ) (n : ℕ) → length brand ≡ 4 →
     → StandsBelow b brand n ↔ HasCompatible brand b
 compatible_below b brand n four long is = (λ (j, lt, o). (j, grind (arith, lt), o), λ (j, lt, o). (j, grind (arith, lt, o.fits), o))
 
+abbrev ftyp : List ℕ
+ftyp = codes "ftyp"
+
 pub IsOpenBox-early : IsEarly IsOpenBox
-IsOpenBox-early b more long o =
-    let same = be32-append b more 0 (omega arith) in
-    record { kind = OccursAt-front b more _ 4 (omega arith) o.kind; longer = omega (arith, length-append b more) }
+IsOpenBox-early b more long o = grind (arith, OccursAt-front b more ftyp 4, be32-append b more 0, length-append b more)
 
 -- the brands of a boxed file are those of each that has the same box
 module _ (b c : List ℕ) (n : ℕ) (carries : Carries n b c) (size : box_length b ≡ box_length c) (long : 12 ≤ n) (whole : box_length c ≤ n) where
@@ -40,8 +41,7 @@ module _ (b c : List ℕ) (n : ℕ) (carries : Carries n b c) (size : box_length
   pub IsAvif-carried : IsBoxed c → IsAvif b → IsAvif c
   IsAvif-carried box (_, inl o) = (box, inl (major _ (omega arith) o))
   IsAvif-carried box (_, inr (inl o)) = (box, inr (inl (major _ (omega arith) o)))
-  IsAvif-carried box (_, inr (inr (inl k))) = (box, inr (inr (inl (compatible _ (omega arith) k))))
-  IsAvif-carried box (_, inr (inr (inr k))) = (box, inr (inr (inr (compatible _ (omega arith) k))))
+  IsAvif-carried box (_, inr (inr k)) = (box, grind (arith, compatible (codes "avif"), compatible (codes "avis")))
 
 -- a property of boxed files that is carried so
 module _ (S : List ℕ → Type 0) (boxed : (b : List ℕ) → S b → IsBoxed b) (carried : (b c : List ℕ) (n : ℕ)
@@ -49,69 +49,39 @@ module _ (S : List ℕ → Type 0) (boxed : (b : List ℕ) → S b → IsBoxed b
   pub boxed-lasts : Lasts S
   boxed-lasts b more x =
       let box = boxed b x in
-      let size = be32-append b more 0 (omega arith) in
-      carried b (b ++ more) (length b) (λ text p within o. OccursAt-append b more text p o) (sym size) (omega arith) (omega arith)
-      (record {
-        long = omega (arith, length-append b more);
-        kind = OccursAt-append b more _ 4 box.kind;
-        whole = omega (arith, length-append b more);
-      }) x
+      carried b (b ++ more) (length b) (λ text p within o. OccursAt-append b more text p o) (sym (be32-append b more 0 (omega arith))) (omega arith)
+      (grind (arith, be32-append b more 0)) (grind (arith, be32-append b more 0, length-append b more, OccursAt-append b more ftyp 4)) x
 
   pub boxed-comes : ComesWith S IsOpenBox
   boxed-comes b more long x =
-      let kind = OccursAt-front b more _ 4 (omega arith) (boxed (b ++ more) x).kind in
+      let kind = OccursAt-front b more ftyp 4 (omega arith) (boxed (b ++ more) x).kind in
       let size = be32-append b more 0 (omega arith) in
       elim (cases_lt (length b) (box_length b)) [
         | inl l ↦ inr (record { kind = kind; longer = l })
-        | inr l ↦ inl (carried (b ++ more) b (length b) (OccursAt-front b more) size (omega arith) l
-            (record { long = omega arith; kind = kind; whole = l }) x)
+        | inr l ↦ inl (carried (b ++ more) b (length b) (OccursAt-front b more) size (omega arith) l (record { long = omega arith; kind = kind; whole = l }) x)
       ]
 
 -- ---- what more bytes can bring
-abbrev ftyp : List ℕ
-ftyp = codes "ftyp"
-
--- bytes with which b is boxed and has the parts, and states the length that it stated if it did
-record Boxing (xs : List Part) (b : List ℕ) : Type 0 where
-  pub more : List ℕ
-  pub bytes : IsBytes more
-  pub box : IsBoxed (b ++ more)
-  pub stand : AllStand xs (b ++ more)
-  pub same : 4 ≤ length b → box_length (b ++ more) ≡ box_length b
-
-boxing : (b : List ℕ) (xs : List Part) (end : ℕ) → AgreesAt b ftyp 4 → LieApart 8 xs end → AllAgree xs b → Boxing xs b
-boxing b xs end kind apart agree =
-    let f = fills_parts (record { place = 4; text = ftyp } ∷ xs) b 0 end (omega arith, refl, apart) (kind, agree) in
-    let c = b ++ f.more in
-    let n = max 16 (box_length c) in
-    let g = fills_text c [] n refl (agrees_none c n) in
-    let joined = append_assoc b f.more g.more in
-    let size = be32-append c g.more 0 in
-    let long : 4 ≤ length c = omega (arith, f.holds.0.fits) in
-    record {
-      more = f.more ++ g.more;
-      bytes = All-append (λ x. x < 256) f.more g.more f.bytes g.bytes;
-      box = subst IsBoxed joined (record {
-        long = omega (arith, g.long);
-        kind = OccursAt-append c g.more ftyp 4 f.holds.0;
-        whole = omega (arith, g.long, size);
-      });
-      stand = subst (AllStand xs) joined (AllStand-append xs c g.more f.holds.1);
-      same = λ l. ap box_length (sym joined) ∙ size long ∙ be32-append b f.more 0 l;
-    }
-
 module _ (S : List ℕ → Type 0) (b : List ℕ) (kind : AgreesAt b ftyp 4) where
-  by_major : (brand : List ℕ) → IsTrue (are_bytes brand) → AgreesAt b brand 8 → ((c : List ℕ) → IsBoxed c → HasMajor brand c → S c) → MayBecome S b
-  by_major brand bytes a is =
-      let x = boxing b (record { place = 8; text = brand } ∷ []) (8 + length brand) kind (omega arith, bytes, omega arith) (a, tt) in
-      (x.more, x.bytes, is (b ++ x.more) x.box x.stand.0)
+  -- what more bytes make boxed with the parts, they bring, if the box states then what b states
+  boxed_reached : (xs : List Part) (end : ℕ) → 16 ≤ end → box_length b ≤ end → LieApart 8 xs end → AllAgree xs b
+      → ((c : List ℕ) → IsBoxed c → AllStand xs c → box_length c ≡ box_length b → S c) → MayBecome S b
+  boxed_reached xs end long whole apart agree is =
+      let f = fills_parts (kept b 0 4 ∷ record { place = 4; text = ftyp } ∷ xs) b 0 end
+      (omega arith, kept_bytes b 0 4, (omega (arith, kept_ends), refl, apart)) (kept_agrees b 0 4, (kind, agree)) in
+      let same = (kept_numbers b f.more 0 f.holds.0).1 in
+      (f.more, f.bytes, is (b ++ f.more) (record { long = omega (arith, f.long); kind = f.holds.1.0; whole = omega (arith, f.long, same) }) f.holds.1.1 same)
 
-  by_compatible : (major brand : List ℕ) → IsTrue (are_bytes major) → length major ≤ 8 → AgreesAt b major 8 → IsTrue (are_bytes brand) → 4 ≤ length b
+  by_major : (brand : List ℕ) → IsTrue (are_bytes brand) → AgreesAt b brand 8 → ((c : List ℕ) → IsBoxed c → HasMajor brand c → S c) → MayBecome S b
+  by_major brand bytes a is = boxed_reached (record { place = 8; text = brand } ∷ []) (16 + length brand + box_length b) (omega arith) (omega arith)
+      (omega arith, bytes, omega arith) (a, tt) (λ c box s same. is c box s.0)
+
+  by_compatible : (major brand : List ℕ) → IsTrue (are_bytes major) → length major ≤ 8 → AgreesAt b major 8 → IsTrue (are_bytes brand)
       → MayHaveCompatible brand b → ((c : List ℕ) → IsBoxed c → HasMajor major c → HasCompatible brand c → S c) → MayBecome S b
-  by_compatible major brand major_bytes short m bytes long (k, l, a) is =
-      let x = boxing b (record { place = 8; text = major } ∷ record { place = 16 + 4 * k; text = brand } ∷ []) (16 + 4 * k + length brand) kind
-      (omega arith, major_bytes, (omega arith, bytes, omega arith)) (m, (a, tt)) in
-      (x.more, x.bytes, is (b ++ x.more) x.box x.stand.0 (k, subst (λ s. k < s / 4 - 4) (sym (x.same long)) l, x.stand.1.0))
+  by_compatible major brand major_bytes short m bytes (k, l, a) is =
+      boxed_reached (record { place = 8; text = major } ∷ record { place = 16 + 4 * k; text = brand } ∷ []) (16 + 4 * k + length brand + box_length b)
+      (omega arith) (omega arith) (omega arith, major_bytes, (omega arith, bytes, omega arith)) (m, (a, tt))
+      (λ c box s same. is c box s.0 (k, subst (λ n. k < n / 4 - 4) (sym same) l, s.1.0))
 
 -- a brand that is compatible after more bytes may be one
 compatible_known : (b more brand : List ℕ) → 4 ≤ length b → HasCompatible brand (b ++ more) → MayHaveCompatible brand b
@@ -126,10 +96,12 @@ MayBeHeif b =
 pub heif_reached : (b : List ℕ) → AgreesAt b ftyp 4 → MayBeHeif b → MayBecome IsHeif b
 heif_reached b kind (inl a) = by_major IsHeif b kind (codes "heic") refl a (λ c box m. (box, inl m))
 heif_reached b kind (inr (inl a)) = by_major IsHeif b kind (codes "heix") refl a (λ c box m. (box, inr (inl m)))
-heif_reached b kind (inr (inr (major, compatible))) = grind (arith, by_major IsHeif b kind (codes "heic") refl, agrees_past b (codes "heic") 8, by_compatible IsHeif b kind (codes "mif1") (codes "heic") refl, by_compatible IsHeif b kind (codes "msf1") (codes "heic") refl)
+heif_reached b kind (inr (inr h)) =
+    grind (arith, by_compatible IsHeif b kind (codes "mif1") (codes "heic") refl, by_compatible IsHeif b kind (codes "msf1") (codes "heic") refl)
 
 pub heif_known : (b : List ℕ) → MayBecome IsHeif b → AgreesAt b ftyp 4 × MayBeHeif b
-heif_known b (more, bytes, (box, h)) = grind (arith, grown_agrees b more, agrees_past b (codes "heic") 8, compatible_known b more (codes "heic"), grown_agrees b more ftyp 4 box.kind)
+heif_known b (more, bytes, (box, h)) =
+    grind (arith, grown_agrees b more, agrees_past b (codes "heic") 8, compatible_known b more (codes "heic"), grown_agrees b more ftyp 4 box.kind)
 
 abbrev pub MayBeAvif : List ℕ → Type 0
 MayBeAvif b =
@@ -137,32 +109,15 @@ MayBeAvif b =
     ⊎ MayHaveCompatible (codes "avif") b ⊎ MayHaveCompatible (codes "avis") b
 
 pub avif_reached : (b : List ℕ) → AgreesAt b ftyp 4 → MayBeAvif b → MayBecome IsAvif b
-avif_reached b kind h =
-    elim (cases_lt (length b) 4) [
-      | inl l ↦ by_major IsAvif b kind (codes "avif") refl (agrees_past b (codes "avif") 8 (omega arith)) (λ c box m. (box, inl m))
-      | inr long ↦ elim h [
-        | inl a ↦ by_major IsAvif b kind (codes "avif") refl a (λ c box m. (box, inl m))
-        | inr (inl a) ↦ by_major IsAvif b kind (codes "avis") refl a (λ c box m. (box, inr (inl m)))
-        | inr (inr (inl k)) ↦ by_compatible IsAvif b kind [] (codes "avif") refl (omega arith) (agrees_none b 8) refl long k
-            (λ c box m h. (box, inr (inr (inl h))))
-        | inr (inr (inr k)) ↦ by_compatible IsAvif b kind [] (codes "avis") refl (omega arith) (agrees_none b 8) refl long k
-            (λ c box m h. (box, inr (inr (inr h))))
-      ]
-    ]
+avif_reached b kind (inl a) = by_major IsAvif b kind (codes "avif") refl a (λ c box m. (box, inl m))
+avif_reached b kind (inr (inl a)) = by_major IsAvif b kind (codes "avis") refl a (λ c box m. (box, inr (inl m)))
+avif_reached b kind (inr (inr h)) =
+    grind (arith, by_compatible IsAvif b kind [] (codes "avif") refl, by_compatible IsAvif b kind [] (codes "avis") refl, agrees_none b 8)
 
 pub avif_known : (b : List ℕ) → MayBecome IsAvif b → AgreesAt b ftyp 4 × MayBeAvif b
-avif_known b (more, bytes, (box, h)) = (
-  grown_agrees b more ftyp 4 box.kind,
-  elim (cases_lt (length b) 4) [
-    | inl l ↦ inl (agrees_past b (codes "avif") 8 (omega arith))
-    | inr long ↦ elim h [
-      | inl m ↦ inl (grown_agrees b more _ 8 m)
-      | inr (inl m) ↦ inr (inl (grown_agrees b more _ 8 m))
-      | inr (inr (inl k)) ↦ inr (inr (inl (compatible_known b more _ long k)))
-      | inr (inr (inr k)) ↦ inr (inr (inr (compatible_known b more _ long k)))
-    ]
-  ],
-)
+avif_known b (more, bytes, (box, h)) =
+    let known = compatible_known b more in
+    grind (arith, grown_agrees b more, agrees_past b (codes "avif") 8, known (codes "avif"), known (codes "avis"), grown_agrees b more ftyp 4 box.kind)
 
 -- of the fours only the last may be cut
 pub may_have_compatible_last : (b brand : List ℕ) → 0 < box_length b / 4 - 4

@@ -1,14 +1,23 @@
 -- The root entry of a compound file lasts.
-use Rattle.infer_deep.proofs.Common.{IsTrue, ◌≡◌, ◌↔◌, ◌⊎◌, inl, inr, ℕ, ◌+◌, ◌*◌, ◌<◌, ◌≤◌, List, [], ◌∷◌, ◌++◌, length, refl, sym, ap, subst, ◌∙◌, arith, length-append, cases_lt, OccursAt, le16, le32, are_bytes, AgreesAt, get_or_append_left, Lasts, MayBecome, BeginsRoot, IsRoot, HasClassId, MayHaveRoot, compound_header, format_3, format_4}
-use Rattle.infer_deep.proofs.OpenLemmas.{MayBecome-grown, AgreesAt-later, agrees_past, bytes_from_test, fills_parts, grown_agrees}
+use Rattle.infer_deep.proofs.Common.{IsTrue, ◌≡◌, ◌↔◌, ◌⊎◌, inl, inr, ℕ, ◌+◌, ◌*◌, ◌<◌, ◌≤◌, List, [], ◌∷◌, ◌++◌, length, refl, sym, ap, arith, length-append, OccursAt, le16, le32, are_bytes, AgreesAt, get_or_append_left, Lasts, ComesWith, IsEarly, MayBecome, IsXls, BeginsRoot, IsRoot, HasClassId, MayHaveRoot, compound_header, format_3, format_4}
+use Rattle.infer_deep.proofs.OpenLemmas.{agrees_past, bytes_from_test, fills_parts, grown_agrees, kept, kept_agrees, kept_bytes, kept_ends, kept_numbers}
+use Rattle.infer_deep.specs.ClassId.{BeginsCompound}
 use Rattle.infer_deep.proofs.NumberLemmas.{le16-append, le32-append}
-use Rattle.infer_deep.proofs.PlaceLemmas.{byte_stands, OccursAt-append, OccursAt-first}
-
-IsRoot-append : (b more : List ℕ) (root : ℕ) → IsRoot b root → IsRoot (b ++ more) root
-IsRoot-append b more root r = grind (arith, le16-append, le32-append, OccursAt-append, length-append, get_or_append_left)
+use Rattle.infer_deep.proofs.PlaceLemmas.{byte_stands, OccursAt-append, OccursAt-first, OccursAt-front}
 
 pub HasClassId-lasts : (id : List ℕ) → Lasts (HasClassId id)
-HasClassId-lasts id b more (root, r, o) = (root, IsRoot-append b more root r, OccursAt-append b more id (root + 80) o)
+HasClassId-lasts id b more (root, r, o) =
+    let grown : IsRoot (b ++ more) root = grind (arith, le16-append, le32-append, OccursAt-append, length-append, get_or_append_left) in
+    (root, grown, OccursAt-append b more id (root + 80) o)
+
+pub IsXls-lasts : Lasts IsXls
+IsXls-lasts b more h = grind (arith, HasClassId-lasts)
+
+pub BeginsCompound-early : IsEarly BeginsCompound
+BeginsCompound-early b more long o = OccursAt-front b more compound_header 0 (omega arith) o
+
+pub HasClassId-comes : (id : List ℕ) → ComesWith (HasClassId id) BeginsCompound
+HasClassId-comes id b more long (root, r, o) = inr (BeginsCompound-early b more long r.header)
 
 -- ---- what more bytes can bring
 
@@ -34,41 +43,23 @@ module _ (version shift size : ℕ) (format_bytes : IsTrue (are_bytes (format_of
 
   root_reached : (id b : List ℕ) → IsTrue (are_bytes id) → length id ≡ 16 → AgreesAt b compound_header 0 → MayHaveRoot (format_of version shift) size id b → MayBecome (HasClassId id) b
   root_reached id b bytes long header r =
-      let f = fills_parts (record { place = 0; text = compound_header } ∷ record { place = 26; text = format_of version shift } ∷ []) b 0 52
-      (omega arith, refl, (omega arith, format_bytes, omega arith))
-      (header, (r.header, tt)) in
+      let root = (le32 b 48 + 1) * size in
+      let past = root_past (le32 b 48) in
+      let f = fills_parts (record { place = 0; text = compound_header } ∷ record { place = 26; text = format_of version shift } ∷ kept b 48 4
+      ∷ record { place = root + 66; text = 5 ∷ [] } ∷ record { place = root + 80; text = id } ∷ []) b 0 (root + 128)
+      (omega arith, refl, (omega arith, format_bytes, (omega arith, kept_bytes b 48 4, (omega (arith, kept_ends), refl, (omega arith, bytes, omega arith)))))
+      (header, (r.header, (kept_agrees b 48 4, (r.kind, (r.tells, tt))))) in
       let c = b ++ f.more in
-      let root = (le32 c 48 + 1) * size in
-      let past = root_past (le32 c 48) in
-      let later : (text : List ℕ) (n : ℕ) → AgreesAt b text ((le32 b 48 + 1) * size + n) → AgreesAt c text (root + n)
-      = λ text n a. elim (cases_lt (length b) 52) [
-        | inl l ↦ agrees_past c text (root + n) (omega (arith, f.short))
-        | inr l ↦
-            let same : le32 c 48 ≡ le32 b 48 = le32-append b f.more 48 (omega arith) in
-            AgreesAt-later b f.more text 52 (root + n) f.short (omega arith) (subst (λ (x : ℕ). AgreesAt b text ((x + 1) * size + n)) (sym same) a)
-      ] in
-      let g = fills_parts (record { place = root + 66; text = 5 ∷ [] } ∷ record { place = root + 80; text = id } ∷ []) c 0 (root + 128)
-      (omega arith, refl, (omega arith, bytes, omega arith))
-      (later (5 ∷ []) 66 r.kind, (later id 80 r.tells, tt)) in
-      let d = c ++ g.more in
       let numbers = numbers_of_format c version shift f.holds.1.0 in
-      let long_c = f.long in
-      MayBecome-grown (HasClassId id) b f.more f.bytes (
-        g.more,
-        g.bytes,
-        (
-          root,
-          record {
-            header = OccursAt-append c g.more compound_header 0 f.holds.0;
-            byte_order = OccursAt-append c g.more _ 28 numbers.1;
-            begins = begins d root (le16-append c g.more 26 (omega arith) ∙ numbers.0) (le16-append c g.more 30 (omega arith) ∙ numbers.2)
-                (ap (λ (x : ℕ). (x + 1) * size) (sym (le32-append c g.more 48 (omega arith))));
-            whole = omega (arith, g.long);
-            kind = OccursAt-first d (5 ∷ []) (root + 66) (omega arith) g.holds.0;
-          },
-          g.holds.1.0,
-        ),
-      )
+      let same = ap (λ (x : ℕ). (x + 1) * size) (sym (kept_numbers b f.more 48 f.holds.1.1.0).0) in
+      let entry : IsRoot c root = record {
+        header = f.holds.0;
+        byte_order = numbers.1;
+        begins = begins c root numbers.0 numbers.2 same;
+        whole = omega (arith, f.long);
+        kind = OccursAt-first c (5 ∷ []) (root + 66) (omega arith) f.holds.1.1.1.0;
+      } in
+      (f.more, f.bytes, (root, entry, f.holds.1.1.1.1.0))
 
   root_known : (id b more : List ℕ) (root : ℕ) → IsRoot (b ++ more) root → OccursAt (b ++ more) id (root + 80)
       → le16 (b ++ more) 26 ≡ version → le16 (b ++ more) 30 ≡ shift → root ≡ (le32 (b ++ more) 48 + 1) * size → MayHaveRoot (format_of version shift) size id b
@@ -76,12 +67,7 @@ module _ (version shift size : ℕ) (format_bytes : IsTrue (are_bytes (format_of
       let past = root_past (le32 b 48) in
       let far = root_past (le32 (b ++ more) 48) in
       let earlier : (text : List ℕ) (n : ℕ) → OccursAt (b ++ more) text (root + n) → AgreesAt b text ((le32 b 48 + 1) * size + n)
-      = λ text n stands. elim (cases_lt (length b) 52) [
-        | inl l ↦ agrees_past b text ((le32 b 48 + 1) * size + n) (omega arith)
-        | inr l ↦
-            let same : root ≡ (le32 b 48 + 1) * size = is ∙ ap (λ (x : ℕ). (x + 1) * size) (le32-append b more 48 (omega arith)) in
-            subst (λ (x : ℕ). AgreesAt b text (x + n)) same (grown_agrees b more text (root + n) stands)
-      ] in
+      = λ text n stands. grind (arith, agrees_past b text, grown_agrees b more text (root + n) stands, le32-append b more 48) in
       let whole = r.whole in
       record {
         header = grown_agrees b more _ 26 (format_of_numbers (b ++ more) version shift (bytes_from_test (format_of version shift) format_bytes 0 0 (omega arith)) (bytes_from_test (format_of version shift) format_bytes 4 0 (omega arith)) (omega arith) at_26 r.byte_order at_30);
@@ -96,11 +82,8 @@ class_id_reached id b bytes long = (
     | inl r ↦ root_reached 3 9 512 refl (omega arith) (λ d root x y z. inl (x, y, z)) id b bytes long header r
     | inr r ↦ root_reached 4 12 4096 refl (omega arith) (λ d root x y z. inr (x, y, z)) id b bytes long header r
   ],
-  λ (more, all, (root, r, o)). (
-    grown_agrees b more compound_header 0 r.header,
-    elim r.begins [
-      | inl (x, y, z) ↦ inl (root_known 3 9 512 refl (omega arith) (λ d p i j k. inl (i, j, k)) id b more root r o x y z)
-      | inr (x, y, z) ↦ inr (root_known 4 12 4096 refl (omega arith) (λ d p i j k. inr (i, j, k)) id b more root r o x y z)
-    ],
-  ),
+  λ (more, all, (root, r, o)).
+      let third = root_known 3 9 512 refl (omega arith) (λ d p i j k. inl (i, j, k)) id b more root r o in
+      let fourth = root_known 4 12 4096 refl (omega arith) (λ d p i j k. inr (i, j, k)) id b more root r o in
+      grind (arith, grown_agrees b more compound_header 0 r.header, r.begins, third, fourth),
 )

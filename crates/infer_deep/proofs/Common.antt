@@ -5,7 +5,7 @@ pub use Rattle.std.proofs.Math.Seq.{get_or-append_right, take-append-add, take-a
 pub use Rattle.std.proofs.lemmas.Bool.{cases_lt, false≢true, OnFalse_at, OnTrue_at, cases_order, eq-eqb, lt-ltb, ltb-true, or_cases, or_left, or_right, and_parts, and_from, le-leb, ne_eqb, leb-true, cases_Bool, eqb-true}
 pub use Rattle.std.proofs.lemmas.Bool.Decides.{nat_tests, Decides-eqb, not_from_Decides}
 pub use Rattle.std.proofs.lemmas.Iterator.{YieldsList-from_range, cases_from_any, YieldsList-from_slice, first_from_find, first_from_Range}
-pub use Rattle.std.proofs.lemmas.List.{get_or_append_left, take_rest, take-append-drop, length-take-le, take_at, append-nil, get_or-drop, get_or-take, length-map, length-replicate, take-append-le, append_cancel_left, drop_more, get_or-replicate, get_or_at, get_or_default, map-append, take-map, take_all, drop-take, get_or-append-add, drop-drop, map_more, take_min, drop-replicate}
+pub use Rattle.std.proofs.lemmas.List.{get_or_past, get_or_append_left, take_rest, take-append-drop, length-take-le, take_at, append-nil, get_or-drop, get_or-take, length-map, length-replicate, take-append-le, append_cancel_left, drop_more, get_or-replicate, get_or_at, get_or_default, map-append, take-map, take_all, drop-take, get_or-append-add, drop-drop, map_more, take_min, drop-replicate}
 pub use Rattle.std.proofs.lemmas.List.Elements.{All-append, All-drop, All-replicate, All-from_get_or, All-nil, All-take, All-cons, AllWithin-more, filter_more, AllWithin-none, AllWithin-upto, recursion_from_All, All-map}
 pub use Rattle.std.proofs.lemmas.List.Folds.{none_from_all_within}
 pub use Rattle.std.proofs.lemmas.List.FromFn.{get_or-range_with_len, length-range_with_len}

@@ -1,8 +1,8 @@
 -- Skippable frames: where one stands at the front, and what is data after them.
-use Rattle.infer_deep.proofs.Common.{◌≡◌, ◌↔◌, ℕ, ◌+◌, ◌-◌, ◌<◌, ◌≤◌, ◌⊎◌, inl, inr, List, [], ◌∷◌, ◌++◌, length, get_or, take, drop, refl, sym, ap, ◌∙◌, arith, length-append, IsTrue, take_at, take_rest, take-append-drop, length-take-le, get_or_append_left, le32, cases_lt, are_bytes, AgreesAt, Lasts, ComesWith, AreApart, IsEarly, MayBecome, nat_tests, SkipsTo, NoneBegins, BeginsWith, BeginsFrame, IsFrame, IsFramed, OccursAt}
+use Rattle.infer_deep.proofs.Common.{◌≡◌, ◌↔◌, ℕ, ◌+◌, ◌-◌, ◌<◌, ◌≤◌, ◌⊎◌, inl, List, [], ◌∷◌, ◌++◌, length, max, get_or_past, get_or, take, drop, refl, ap, arith, length-append, IsTrue, take_at, take_rest, take-append-drop, length-take-le, get_or_append_left, le32, are_bytes, AgreesAt, Lasts, ComesWith, AreApart, IsEarly, MayBecome, nat_tests, SkipsTo, NoneBegins, BeginsWith, BeginsFrame, IsFrame, IsFramed, OccursAt}
 use Rattle.infer_deep.specs.Laws.{BeginApart}
-use Rattle.infer_deep.proofs.OpenLemmas.{MayBecome-grown, agrees_none, agrees_past, agrees_where_stands, fills_parts, fills_text, grown_agrees, reaches_text}
-use Rattle.infer_deep.proofs.PlaceLemmas.{byte_stands, OccursAt-append, OccursAt-agree, OccursAt-first, OccursAt-front}
+use Rattle.infer_deep.proofs.OpenLemmas.{fills_parts, grown_agrees, kept, kept_agrees, kept_bytes, kept_ends, kept_numbers, reaches_text}
+use Rattle.infer_deep.proofs.PlaceLemmas.{OccursAt-append, OccursAt-agree, OccursAt-first, OccursAt-front}
 use Rattle.infer_deep.proofs.NumberLemmas.{le32-append}
 use Rattle.infer_deep.proofs.JoinedLemmas.{IsPrefixFree, Stops, WordsBegin, NoneBegins-first, Behind-lead, Behind-lasts, Behind-comes, Behind-left, Behind-trimmed, Behind-apart, Behind-open}
 
@@ -14,13 +14,9 @@ pub BeginsFrame-early : IsEarly BeginsFrame
 BeginsFrame-early b more long f = front_begins b more (omega arith) f
 
 -- what begins as a frame does so by the number in its first four bytes
-module _ (b : List ℕ) (long : 4 ≤ length b) where
-  mark_number : OccursAt b (0x2A ∷ 0x4D ∷ 0x18 ∷ []) 1 ↔ ((get_or b 1 0 ≡ 0x2A) × (get_or b 2 0 ≡ 0x4D) × (get_or b 3 0 ≡ 0x18))
-  mark_number = grind (arith, nat_tests)
-
-  pub BeginsFrame-number : ((i : ℕ) → get_or b i 0 < 256) → BeginsFrame b ↔ ((0x184D2A50 ≤ le32 b 0) × (le32 b 0 ≤ 0x184D2A5F))
-  unfolding le32
-  BeginsFrame-number bytes = grind (arith, nat_tests, mark_number)
+pub number_of_frame : (b : List ℕ) → 4 ≤ length b → ((i : ℕ) → get_or b i 0 < 256) → ((0x184D2A50 ≤ le32 b 0) × (le32 b 0 ≤ 0x184D2A5F)) ↔ BeginsFrame b
+unfolding le32
+number_of_frame b long bytes = grind (arith, nat_tests)
 
 -- what a buffer says of the frame that begins it
 module _ (b word rest : List ℕ) (f : IsFrame word) (e : b ≡ word ++ rest) where
@@ -41,11 +37,11 @@ IsFrame-prefix_free v w x y f g e = grind (arith, nat_tests, begun-length (v ++ 
 pub frame_begins : (b : List ℕ) (n : ℕ)
     → n ≡ 8 + le32 b 4 → BeginsFrame b → n ≤ length b → BeginsWith IsFrame b (take (length b - n) (drop n b))
 frame_begins b n is begins fits =
-    let split : take n b ++ drop n b ≡ b = take-append-drop n b in
-    let long : length (take n b) ≡ n = length-take-le n b fits in
-    let number : le32 b 4 ≡ le32 (take n b) 4
-    = ap (λ u. le32 u 4) (sym split) ∙ le32-append (take n b) (drop n b) 4 (omega arith) in
-    grind (arith, nat_tests, take-append-drop, length-take-le, le32-append, front_begins, take_rest)
+    let front = front_begins (take n b) (drop n b) in
+    grind (arith, nat_tests, take-append-drop n b, length-take-le n b, le32-append (take n b) (drop n b) 4, front, take_rest b n)
+
+pub empty_frame : (b : List ℕ) → BeginsFrame b → le32 b 4 ≡ 0 → 8 ≤ length b → BeginsWith IsFrame b (take (length b - 8) (drop 8 b))
+empty_frame b begins empty long = frame_begins b 8 (omega arith) begins long
 
 -- the first byte of a frame
 abbrev IsFrameByte : ℕ → Type 0
@@ -69,9 +65,8 @@ module _ (magic : List ℕ) where
 -- the first byte is the magic's, or a frame's
 pub IsFramed-lead : (x : ℕ) (magic b : List ℕ) → IsFramed (x ∷ magic) b → (get_or b 0 0 ≡ x) ⊎ IsFrameByte (get_or b 0 0)
 IsFramed-lead x magic b h =
-    let stands = x ∷ magic in
-    let lead = Behind-lead IsFrame (Stands stands) IsFrameByte (λ y. y ≡ x) IsFrame-begin in
-    elim (lead (λ u o. OccursAt-first u stands 0 (omega arith) o) b h) [ inl f ↦ inr f | inr e ↦ inl e ]
+    let first = λ (u : List ℕ) (o : OccursAt u (x ∷ magic) 0). OccursAt-first u (x ∷ magic) 0 (omega arith) o in
+    grind (arith, Behind-lead IsFrame (Stands (x ∷ magic)) IsFrameByte (λ y. y ≡ x) IsFrame-begin first b h)
 
 -- a magic number whose first byte is below 50 begins with no frame
 module _ (magic : List ℕ) (some : 0 < length magic) (low : get_or magic 0 0 < 0x50) where
@@ -109,36 +104,16 @@ pub frame_mark : (b : List ℕ) → MayBecome IsFrame b → AgreesAt b mark 1
 frame_mark b (more, bytes, f) = grown_agrees b more mark 1 f.begins.mark
 
 -- and what agrees with it, and begins with no whole frame, more bytes can make one
-record FirstByte (b : List ℕ) : Type 0 where
-  pub byte : ℕ
-  pub is : IsFrameByte byte
-  pub agrees : AgreesAt b (byte ∷ []) 0
-
-first_byte : (b : List ℕ) → (0 < length b → IsFrameByte (get_or b 0 0)) → FirstByte b
-first_byte [] h = record { byte = 0x50; is = (omega arith, omega arith); agrees = agrees_past [] (0x50 ∷ []) 0 (omega arith) }
-first_byte (x ∷ b) h = grind (arith, nat_tests, agrees_where_stands (x ∷ b) (x ∷ []) 0, byte_stands (x ∷ b) x 0)
-
-within_frame : (b : List ℕ) → NoneBegins IsFrame b → BeginsFrame b → length b ≤ 8 + le32 b 4
-within_frame b none begins = grind (arith, nat_tests, frame_begins b (8 + le32 b 4) refl begins)
-
 pub frame_reached : (b : List ℕ) → NoneBegins IsFrame b → (0 < length b → IsFrameByte (get_or b 0 0)) → AgreesAt b mark 1 → MayBecome IsFrame b
 frame_reached b none first agrees =
-    let x = first_byte b first in
-    let f = fills_parts (record { place = 0; text = x.byte ∷ [] } ∷ record { place = 1; text = mark } ∷ []) b 0 8
-    (omega arith, grind (arith, nat_tests), (omega arith, refl, omega arith)) (x.agrees, (agrees, tt)) in
-    let c = b ++ f.more in
-    let head = OccursAt-first c (x.byte ∷ []) 0 (omega arith) f.holds.0 in
-    let begins : BeginsFrame c = record { low = omega arith; high = omega arith; mark = f.holds.1.0 } in
-    let within : length c ≤ 8 + le32 c 4 = elim (cases_lt (length b) 8) [
-      | inl l ↦ omega (arith, f.short)
-      | inr l ↦ omega (arith, f.short, le32-append b f.more 4, within_frame b none (front_begins b f.more (omega arith) begins))
-    ] in
-    let g = fills_text c [] (8 + le32 c 4) refl (agrees_none c (8 + le32 c 4)) in
-    MayBecome-grown IsFrame b f.more f.bytes (
-      g.more,
-      g.bytes,
-      record {
-        begins = grind (arith, OccursAt-append c g.more mark 1, get_or_append_left c g.more 0 0);
-        sized = omega (arith, g.short, g.long, le32-append c g.more 4);
-      },
-    )
+    let x = max (get_or b 0 0) 0x50 in
+    let is : IsFrameByte x = grind (arith, first, get_or_past b 0 0) in
+    let begun : AgreesAt b (x ∷ []) 0 = grind (arith, first) in
+    let f = fills_parts (record { place = 0; text = x ∷ [] } ∷ record { place = 1; text = mark } ∷ kept b 4 4 ∷ []) b 0 (8 + le32 b 4)
+    (omega arith, grind (arith, nat_tests, is), (omega arith, refl, (omega arith, kept_bytes b 4 4, omega (arith, kept_ends))))
+    (begun, (agrees, (kept_agrees b 4 4, tt))) in
+    let same = (kept_numbers b f.more 4 f.holds.1.1.0).0 in
+    let head = OccursAt-first (b ++ f.more) (x ∷ []) 0 (omega arith) f.holds.0 in
+    let begins : BeginsFrame (b ++ f.more) = record { low = omega arith; high = omega arith; mark = f.holds.1.0 } in
+    let within : length b ≤ 8 + le32 b 4 = grind (arith, front_begins b f.more, frame_begins b (8 + le32 b 4) refl) in
+    (f.more, f.bytes, record { begins = begins; sized = omega (arith, f.long, f.short) })

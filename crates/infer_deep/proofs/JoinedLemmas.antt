@@ -1,5 +1,5 @@
 -- Words joined: what is left after them is one, however it is found, and what holds of a buffer after them.
-use Rattle.infer_deep.proofs.Common.{◌≡◌, ◌↔◌, ℕ, zero, suc, ◌-◌, ◌<◌, ◌≤◌, ◌⊎◌, inl, inr, List, [], ◌∷◌, ◌++◌, length, get_or, take, drop, refl, sym, ap, subst, ◌∙◌, ◌+◌, arith, append_assoc, append_cancel_left, take-append-drop, take-append-le, take_at, take-append-add, cases_lt, All-append, All-take, front_reads, AllByRecursion, concat, repeat, OccursAt, SkipsTo, NoneBegins, BeginsWith, LeadsTo, Behind, Lasts, ComesWith, AreApart, MayBecome}
+use Rattle.infer_deep.proofs.Common.{◌≡◌, ◌↔◌, ℕ, zero, suc, ◌-◌, ◌<◌, ◌≤◌, ◌⊎◌, inl, inr, List, [], ◌∷◌, ◌++◌, length, get_or, take, drop, refl, sym, subst, ◌∙◌, arith, append_assoc, append_cancel_left, take-append-drop, take-append-le, take_at, take-append-add, cases_lt, All-append, All-take, front_reads, AllByRecursion, concat, repeat, OccursAt, SkipsTo, NoneBegins, BeginsWith, LeadsTo, Behind, Lasts, ComesWith, AreApart, MayBecome}
 use Rattle.infer_deep.proofs.PlaceLemmas.{begins-from_OccursAt}
 use Rattle.infer_deep.proofs.OpenLemmas.{IsBytes}
 
@@ -26,13 +26,13 @@ module _ (P : List ℕ → Type 0) where
   SkipsTo-begin b rest (word ∷ words) all e =
       inr (concat words ++ rest, record { word = word; kind = all.0; whole = e ∙ append_assoc word (concat words) rest })
 
+  -- a word that stands at the front is one
+  pub word_begins : (b word : List ℕ) → P word → OccursAt b word 0 → BeginsWith P b (take (length b - length word) (drop (length word) b))
+  word_begins b word is o = record { word = word; kind = is; whole = begins-from_OccursAt b word o }
+
   -- one more word in front
   pub SkipsTo-cons : (b c rest : List ℕ) → BeginsWith P b c → SkipsTo P c rest → SkipsTo P b rest
-  SkipsTo-cons b c rest h s = record {
-    words = h.word ∷ s.words;
-    each = (h.kind, s.each);
-    whole = h.whole ∙ ap (λ u. h.word ++ u) s.whole ∙ sym (append_assoc h.word (concat s.words) rest);
-  }
+  SkipsTo-cons b c rest h s = record { words = h.word ∷ s.words; each = (h.kind, s.each); whole = grind (arith, append_assoc) }
 
   -- one more word skipped
   pub leads_past : (b c d : List ℕ) → LeadsTo P b c → BeginsWith P c d → LeadsTo P b d
@@ -56,8 +56,7 @@ module _ (P : List ℕ → Type 0) where
 
   -- in a buffer that grows
   SkipsTo-append : (b rest more : List ℕ) → SkipsTo P b rest → SkipsTo P (b ++ more) (rest ++ more)
-  SkipsTo-append b rest more s =
-      record { words = s.words; each = s.each; whole = ap (λ u. u ++ more) s.whole ∙ append_assoc (concat s.words) rest more }
+  SkipsTo-append b rest more s = record { words = s.words; each = s.each; whole = grind (arith, append_assoc) }
 
   -- the way to a rest at which the words end leads over each other rest
   through : IsPrefixFree P → (vs ws : List (List ℕ)) (x y : List ℕ) → AllByRecursion P vs → AllByRecursion P ws
@@ -65,30 +64,18 @@ module _ (P : List ℕ → Type 0) where
   through free [] ws x y a b n e = record { words = ws; each = b; whole = e }
   through free (v ∷ vs) [] x y a b n e = absurd (n v _ a.0 (sym e ∙ append_assoc v (concat vs) x))
   through free (v ∷ vs) (w ∷ ws) x y a b n e =
-      let joined : v ++ (concat vs ++ x) ≡ w ++ (concat ws ++ y)
-      = sym (append_assoc v (concat vs) x) ∙ e ∙ append_assoc w (concat ws) y in
+      let joined : v ++ (concat vs ++ x) ≡ w ++ (concat ws ++ y) = grind (arith, append_assoc) in
       let same = free v w _ _ a.0 b.0 joined in
-      through free vs ws x y a.1 b.1 n (append_cancel_left v _ _ (joined ∙ ap (λ u. u ++ (concat ws ++ y)) (sym same)))
-
-  same_rests : IsPrefixFree P → (b x y : List ℕ) → SkipsTo P b x → NoneBegins P x → SkipsTo P b y → NoneBegins P y → x ≡ y
-  same_rests free b x y s n t m =
-      let u = through free s.words t.words x y s.each t.each m (sym s.whole ∙ t.whole) in
-      elim (SkipsTo-begin x y u.words u.each u.whole) [ inl e ↦ e | inr (r, w) ↦ absurd (n w.word r w.kind w.whole) ]
+      through free vs ws x y a.1 b.1 n (append_cancel_left v _ _ (cc))
 
   -- a word that a buffer begins once it grows, and not before, is one that it can become
   word_reached : (b more rest : List ℕ) → NoneBegins P b → IsBytes more → BeginsWith P (b ++ more) rest → MayBecome P b
   word_reached b more rest none bytes w =
       let n = length w.word in
       elim (cases_lt n (length b)) [
-        | inl l ↦
-            let front : take n b ≡ w.word
-            = sym (take-append-le n b more (omega arith)) ∙ ap (take n) w.whole ∙ take_at w.word rest n refl in
-            absurd (none w.word (drop n b) w.kind (sym (take-append-drop n b) ∙ ap (λ u. u ++ drop n b) front))
+        | inl l ↦ absurd (none w.word (drop n b) w.kind (grind (arith, take-append-le n b more, take_at w.word rest n, take-append-drop n b)))
         | inr l ↦
-            let long : n ≡ length b + (n - length b) = omega arith in
-            let split : w.word ≡ b ++ take (n - length b) more
-            = sym (take_at w.word rest n refl) ∙ ap (take n) (sym w.whole) ∙ ap (λ k. take k (b ++ more)) long
-            ∙ take-append-add b more (n - length b) in
+            let split : w.word ≡ b ++ take (n - length b) more = grind (arith, take_at w.word rest n, take-append-add b more (n - length b)) in
             (take (n - length b) more, All-take (λ x. x < 256) (n - length b) more bytes, subst P split w.kind)
       ]
 
@@ -127,7 +114,9 @@ module _ (P S : List ℕ → Type 0) where
     pub Behind-left : (b left : List ℕ) → SkipsTo P b left → NoneBegins P left → S left ↔ Behind P S b
     Behind-left b left skips none = (
       λ h. (left, skips, h),
-      λ (rest, s, h). subst S (same_rests P free b rest left s (stops rest h) skips none) h,
+      λ (rest, s, h).
+          let u = through P free s.words skips.words rest left s.each skips.each none (sym s.whole ∙ skips.whole) in
+          elim (SkipsTo-begin P rest left u.words u.each u.whole) [ inl e ↦ subst S e h | inr (r, w) ↦ absurd (stops rest h w.word r w.kind w.whole) ],
     )
 
     pub Behind-trimmed : (b left : List ℕ) → SkipsTo P b left → NoneBegins P left → Behind P S left ↔ Behind P S b
@@ -146,15 +135,12 @@ module _ (P S : List ℕ → Type 0) where
         | inr (more, bytes, word) ↦
             let one = SkipsTo-cons P (left ++ (more ++ some)) some some
             (record { word = left ++ more; kind = word; whole = sym (append_assoc left more some) }) (SkipsTo-none P some) in
-            let grown = SkipsTo-append P b left (more ++ some) skips in (
-              more ++ some,
-              All-append (λ x. x < 256) more some bytes some_bytes,
-              (some, SkipsTo-join P grown.words _ _ some grown.each grown.whole one, is_some),
-            )
+            let grown = SkipsTo-append P b left (more ++ some) skips in
+            let all = SkipsTo-join P grown.words _ _ some grown.each grown.whole one in
+            (more ++ some, All-append (λ x. x < 256) more some bytes some_bytes, (some, all, is_some))
       ],
       λ (more, bytes, (rest, s, h)).
-          let u = through P free skips.words s.words (left ++ more) rest skips.each s.each (stops rest h)
-          (sym (append_assoc (concat skips.words) left more) ∙ ap (λ u. u ++ more) (sym skips.whole) ∙ s.whole) in
+          let u = through P free skips.words s.words (left ++ more) rest skips.each s.each (stops rest h) (grind (arith, append_assoc)) in
           elim (SkipsTo-begin P (left ++ more) rest u.words u.each u.whole) [
             | inl e ↦ inl (more, bytes, subst S (sym e) h)
             | inr (x, w) ↦ inr (word_reached P left more x none bytes w)

@@ -19,10 +19,10 @@ AreBytes b = (i : ℕ) → get_or b i 0 < 256
 
 -- two numbers are the same just if their bytes are
 module _ (b c : List ℕ) (p q : ℕ) (b_bytes : AreBytes b) (c_bytes : AreBytes c) where
-  pub le16-same : (le16 b p ≡ le16 c q) ↔ ((k : ℕ) → k < 2 → get_or b (p + k) 0 ≡ get_or c (q + k) 0)
+  pub le16_same : (le16 b p ≡ le16 c q) ↔ ((k : ℕ) → k < 2 → get_or b (p + k) 0 ≡ get_or c (q + k) 0)
   unfolding le16
-  le16-same = grind (arith, add-zero)
+  le16_same = grind (arith, add-zero)
 
-  pub le32-same : (le32 b p ≡ le32 c q) ↔ ((k : ℕ) → k < 4 → get_or b (p + k) 0 ≡ get_or c (q + k) 0)
+  pub le32_same : (le32 b p ≡ le32 c q) ↔ ((k : ℕ) → k < 4 → get_or b (p + k) 0 ≡ get_or c (q + k) 0)
   unfolding le32
-  le32-same = grind (arith, add-zero)
+  le32_same = grind (arith, add-zero)

@@ -1,5 +1,5 @@
 -- The headers of an Office document: each is one place, and stays it in a buffer that grows.
-use Rattle.infer_deep.proofs.Common.{◌≡◌, ℕ, ◌+◌, ◌<◌, ◌≤◌, List, ◌++◌, Option, Some, None, length, refl, sym, subst, ◌∙◌, inl, inr, arith, codes, min, take, drop, ◌-◌, ◌↔◌, unwrap_or, OccursAt, le32, IsWithin, IsFirstWithin, FindsPlace, IsEarly, ComesWith, zip_header, HasFolder, HasOfficeName, BeginsOffice, IsHeaderFrom, IsThirdHeader, DecidesBehind, IsDecidingHeader, IsDecidingPlace, IsOffice}
+use Rattle.infer_deep.proofs.Common.{◌≡◌, ℕ, ◌+◌, ◌<◌, ◌≤◌, List, ◌++◌, Option, Some, None, length, refl, sym, subst, ◌∙◌, inl, inr, arith, codes, min, take, drop, ◌-◌, ◌↔◌, unwrap_or, OccursAt, le32, IsWithin, IsFirstWithin, FindsPlace, Lasts, IsEarly, ComesWith, zip_header, HasFolder, HasOfficeName, BeginsOffice, IsHeaderFrom, IsThirdHeader, DecidesBehind, IsDecidingHeader, IsDecidingPlace, IsOffice}
 use Rattle.infer_deep.proofs.NumberLemmas.{le32-append}
 use Rattle.infer_deep.proofs.PlaceLemmas.{Carries, IsUnique, IsFirstPlace-same, IsFirstPlace-append, OccursAt-append, OccursAt-front, OccursAt-part, stands_at_one}
 
@@ -7,17 +7,14 @@ pub IsThirdHeader-one : (At : List ℕ → List ℕ → ℕ → Type 0) (b : Lis
 IsThirdHeader-one At b p q t u = grind (arith, IsFirstPlace-same)
 
 -- what the searches for the second and the third header tell of the third
-module _ (b : List ℕ) (start : ℕ) (is : start ≡ le32 b 18 + 49) where
+module _ (b : List ℕ) (start : ℕ) (is : (start ≡ le32 b 18 + 49) × (start ≤ 0xFFFFFFFF)) where
   pub no_second : (r : Option ℕ) → r ≡ None → ((p : ℕ) → ¬ IsWithin OccursAt b zip_header start (start + 6000) p) → FindsPlace (IsThirdHeader OccursAt b) r
-  no_second r e none = subst (FindsPlace (IsThirdHeader OccursAt b)) (sym e)
-      (λ p t. none t.second (subst (λ (s : ℕ). IsWithin OccursAt b zip_header s (s + 6000) t.second) (sym is) t.second_found.here))
+  no_second r e none = subst (FindsPlace (IsThirdHeader OccursAt b)) (sym e) (λ p t. grind (arith, none t.second))
 
-  pub third_from_search : (second : ℕ) → IsHeaderFrom OccursAt b start second → start ≤ 0xFFFFFFFF → (r : Option ℕ)
+  pub third_from_search : (second : ℕ) → IsHeaderFrom OccursAt b start second → (r : Option ℕ)
       → IsFirstWithin OccursAt b zip_header (second + 30) (second + 30 + 6000) r → FindsPlace (IsThirdHeader OccursAt b) r
-  third_from_search second found fits None none = λ p t.
-      let same = IsFirstPlace-same OccursAt b zip_header _ _ t.second second (subst (λ (s : ℕ). IsHeaderFrom OccursAt b s t.second) (sym is) t.second_found) found in
-      none p (subst (λ (s : ℕ). IsWithin OccursAt b zip_header (s + 30) (s + 30 + 6000) p) same t.third_found.here)
-  third_from_search second found fits (Some p) there = grind arith
+  third_from_search second found None none = λ p t. grind (arith, IsFirstPlace-same OccursAt b zip_header start (start + 6000) t.second second, none p)
+  third_from_search second found (Some p) there = grind arith
 
 -- if no header is the third, none decides
 pub no_third : (b : List ℕ) (r : Option ℕ) → r ≡ None → ((p : ℕ) → ¬ IsThirdHeader OccursAt b p) → FindsPlace (IsDecidingHeader b) r
@@ -26,20 +23,16 @@ no_third b r e none = subst (FindsPlace (IsDecidingHeader b)) (sym e) (λ p d. n
 -- what the search for the fourth header says, if no folder of Office stands at the third
 pub fourth_from_search : (b : List ℕ) (third : ℕ) → IsThirdHeader OccursAt b third → (¬ HasFolder b (third + 30)) → (r : Option ℕ)
     → IsFirstWithin OccursAt b zip_header (third + 56) (third + 56 + 6000) r → FindsPlace (IsDecidingHeader b) r
-fourth_from_search b third t free None none = λ p d.
-    let decides = subst (λ x. DecidesBehind b x p) (IsThirdHeader-one OccursAt b d.third third d.third_found t) d.decides in
-    grind (arith, none p)
+fourth_from_search b third t free None none = λ p d. grind (arith, IsThirdHeader-one OccursAt b d.third third d.third_found t, none p)
 fourth_from_search b third t free (Some p) there = record { third = third; third_found = t; decides = inr (free, there) }
 
 IsDecidingHeader-one : (b : List ℕ) → IsUnique (IsDecidingHeader b)
 IsDecidingHeader-one b p q d e =
     let same = IsThirdHeader-one OccursAt b d.third e.third d.third_found e.third_found in
-    let here = subst (λ x. DecidesBehind b x p) same d.decides in
     grind (arith, IsFirstPlace-same OccursAt b zip_header (e.third + 56) (e.third + 56 + 6000) p q)
 
 pub IsDecidingPlace-one : (b : List ℕ) → IsUnique (IsDecidingPlace b)
-IsDecidingPlace-one b p q (_, inl h) (_, inl k) = h.1 ∙ sym k.1
-IsDecidingPlace-one b p q (_, inl h) (_, inr k) = absurd (k.0 h.0)
+IsDecidingPlace-one b p q (_, inl h) (_, k) = elim k [ inl e ↦ h.1 ∙ sym e.1 | inr e ↦ absurd (e.0 h.0) ]
 IsDecidingPlace-one b p q (_, inr h) (_, inl k) = absurd (h.0 k.0)
 IsDecidingPlace-one b p q (_, inr (_, _, (x, f, e))) (_, inr (_, _, (y, g, d))) = grind (arith, IsDecidingHeader-one b x y f g)
 
@@ -57,13 +50,11 @@ pub IsOffice-at : (b folder : List ℕ) (p : ℕ) → IsDecidingPlace b p → Oc
 IsOffice-at b folder p d = stands_at_one (IsDecidingPlace b) (IsDecidingPlace-one b) b (λ x. x) folder p d
 
 -- what follows from the deciding place on begins with the folder of the document
-pub folder_follows : (b folder : List ℕ) (r : Option ℕ) (n : ℕ) → 0 < length folder → FindsPlace (IsDecidingPlace b) r
-    → n ≡ min (unwrap_or r (length b)) (length b) → OccursAt (take (length b - n) (drop n b)) folder 0 ↔ IsOffice folder b
-folder_follows b folder None n some none is = (
-  λ o. absurd (let ends = ((OccursAt-part b folder n (length b) 0 (omega arith) (omega arith)).0 o).1 in omega arith),
-  λ (p, d, o). absurd (none p d),
-)
-folder_follows b folder (Some p) n some d is = grind (arith, OccursAt-part b folder n (length b) 0, IsOffice-at b folder p d)
+pub folder_follows : (b folder : List ℕ) (r : Option ℕ) (place n : ℕ) → 0 < length folder → FindsPlace (IsDecidingPlace b) r
+    → place ≡ unwrap_or r (length b) → n ≡ min place (length b) → OccursAt (take (length b - n) (drop n b)) folder 0 ↔ IsOffice folder b
+folder_follows b folder None place n some none at is =
+    (λ o. absurd (grind (arith, OccursAt-part b folder n (length b) 0)), λ (p, d, o). absurd (none p d))
+folder_follows b folder (Some p) place n some d at is = grind (arith, OccursAt-part b folder n (length b) 0, IsOffice-at b folder p d)
 
 -- what stands in one buffer and another
 module _ (b c : List ℕ) (n : ℕ) (carries : Carries n b c) where
@@ -73,10 +64,6 @@ module _ (b c : List ℕ) (n : ℕ) (carries : Carries n b c) where
   pub HasOfficeName-carried : 49 ≤ n → HasOfficeName OccursAt b → HasOfficeName OccursAt c
   HasOfficeName-carried l h =
       grind (arith, carries (codes "[Content_Types].xml") 30, carries (codes "_rels/.rels") 30, carries (codes "docProps") 30)
-
--- if a name of Office stands there, a folder has room there too
-pub name_long : (b : List ℕ) → HasOfficeName OccursAt b → 35 ≤ length b
-name_long b name = grind arith
 
 -- in a buffer that grows
 module _ (b more : List ℕ) where
@@ -90,14 +77,12 @@ module _ (b more : List ℕ) where
   no_folder-append p long free h = free (HasFolder-carried (b ++ more) b (length b) (OccursAt-front b more) p long h)
 
   pub IsThirdHeader-append : (third : ℕ) → IsThirdHeader OccursAt b third → IsThirdHeader OccursAt (b ++ more) third
-  IsThirdHeader-append third t =
-      let same = le32-append b more 18 (omega arith) in
-      record {
-        second = t.second;
-        start_fits = omega arith;
-        second_found = subst (λ (n : ℕ). IsHeaderFrom OccursAt (b ++ more) (n + 49) t.second) (sym same) (IsFirstPlace-append b more zip_header _ _ t.second t.second_found);
-        third_found = IsFirstPlace-append b more zip_header _ _ third t.third_found;
-      }
+  IsThirdHeader-append third t = record {
+    second = t.second;
+    start_fits = grind (arith, le32-append b more 18);
+    second_found = grind (arith, le32-append b more 18, IsFirstPlace-append b more zip_header (le32 b 18 + 49) (le32 b 18 + 49 + 6000) t.second);
+    third_found = IsFirstPlace-append b more zip_header _ _ third t.third_found;
+  }
 
   -- if the fourth header stands, the bytes after the third are all there
   DecidesBehind-append : (third header : ℕ) → DecidesBehind b third header → DecidesBehind (b ++ more) third header
@@ -105,27 +90,23 @@ module _ (b more : List ℕ) where
   DecidesBehind-append third header (inr h) =
       inr (no_folder-append (third + 30) (omega arith) h.0, IsFirstPlace-append b more zip_header _ _ header h.1)
 
-  pub IsDecidingPlace-append : (p : ℕ) → IsDecidingPlace b p → IsDecidingPlace (b ++ more) p
+  IsDecidingPlace-append : (p : ℕ) → IsDecidingPlace b p → IsDecidingPlace (b ++ more) p
   IsDecidingPlace-append p (z, inl h) = (OccursAt-append b more zip_header 0 z, inl (HasFolder-append 30 h.0, h.1))
-  IsDecidingPlace-append p (z, inr (free, name, (header, d, e))) = (
-    OccursAt-append b more zip_header 0 z,
-    inr (
-      no_folder-append 30 (name_long b name) free,
-      HasOfficeName-carried b (b ++ more) 49 (grows 49) (omega arith) name,
-      (
-        header,
-        record { third = d.third; third_found = IsThirdHeader-append d.third d.third_found; decides = DecidesBehind-append d.third header d.decides },
-        e,
-      ),
-    ),
-  )
+  IsDecidingPlace-append p (z, inr (free, name, (header, d, e))) =
+      let found = IsThirdHeader-append d.third d.third_found in
+      let decides = DecidesBehind-append d.third header d.decides in
+      let there : IsDecidingHeader (b ++ more) header = record { third = d.third; third_found = found; decides = decides } in
+      let named = HasOfficeName-carried b (b ++ more) 49 (grows 49) (omega arith) name in
+      (OccursAt-append b more zip_header 0 z, inr (no_folder-append 30 (grind arith) free, named, (header, there, e)))
+
+pub IsOffice-lasts : (folder : List ℕ) → Lasts (IsOffice folder)
+IsOffice-lasts folder b more (p, d, o) = (p, IsDecidingPlace-append b more p d, OccursAt-append b more folder p o)
 
 -- what more bytes bring
 pub BeginsOffice-early : IsEarly BeginsOffice
-BeginsOffice-early b more long (zip, name) = (
-  OccursAt-front b more zip_header 0 (omega arith) zip,
-  HasOfficeName-carried (b ++ more) b (length b) (OccursAt-front b more) (omega arith) name,
-)
+BeginsOffice-early b more long (zip, name) =
+    let front = OccursAt-front b more in
+    (front zip_header 0 (omega arith) zip, HasOfficeName-carried (b ++ more) b (length b) front (omega arith) name)
 
 pub IsOffice-comes : (folder : List ℕ) → length folder ≤ 5 → ComesWith (IsOffice folder) BeginsOffice
 IsOffice-comes folder short b more long (p, (z, inl (f, e)), o) =

@@ -63,8 +63,5 @@ IsFirstPlace-same At b text start end p q f g = grind arith
 
 pub IsFirstPlace-append : (b more text : List ℕ) (start end p : ℕ)
     → IsFirstPlace OccursAt b text start end p → IsFirstPlace OccursAt (b ++ more) text start end p
-IsFirstPlace-append b more text start end p f = record {
-  here = record { stands = OccursAt-append b more text p f.here.stands; low = f.here.low; high = f.here.high };
-  before = λ q lt w.
-      f.before q lt (record { stands = OccursAt-front b more text q (omega arith) w.stands; low = w.low; high = w.high });
-}
+IsFirstPlace-append b more text start end p f =
+    record { here = grind (arith, OccursAt-append b more text p); before = λ q lt w. grind (arith, f.before q, OccursAt-front b more text q) }

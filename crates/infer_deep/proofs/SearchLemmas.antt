@@ -12,24 +12,16 @@ module _ (b text : List ℕ) (p : ℕ) (r : Bool) (e : r ≡ starts_with nat_eq 
   pub occurs_from_starts : p ≤ length b → r ≡ true → OccursAt b text p
   occurs_from_starts l is =
       let split = (starts_is Decides-eqb (drop p b) text r tested).0 is in
-      let n = front_fits (drop p b) text _ split in
-      grind (arith, starts_is, Decides-eqb, front_fits, length-drop, at_reads)
+      grind (arith, front_fits (drop p b) text _ split, length-drop p b, at_reads 0 b text p _ split)
 
   pub starts_from_occurs : OccursAt b text p → r ≡ true
-  starts_from_occurs o =
-      (starts_is Decides-eqb (drop p b) text r tested).1 _ (at_from_reads 0 b text p o.fits o.reads)
+  starts_from_occurs o = (starts_is Decides-eqb (drop p b) text r tested).1 _ (at_from_reads 0 b text p o.fits o.reads)
 
 -- a search may begin later if nothing stands before
 module _ (b text : List ℕ) (start later end : ℕ) (le : start ≤ later) (none : (q : ℕ) → q < later → ¬ IsWithin OccursAt b text start end q) where
-  from_later : (q : ℕ) → later ≤ q → IsWithin OccursAt b text start end q → IsWithin OccursAt b text later end q
-  from_later q low w = record { stands = w.stands; low = low; high = w.high }
-
   pub IsFirstWithin-skip : (r : Option ℕ) → IsFirstWithin OccursAt b text later end r → IsFirstWithin OccursAt b text start end r
-  IsFirstWithin-skip None h = λ q w. grind (arith, none q, h q, from_later q)
-  IsFirstWithin-skip (Some p) h = record {
-    here = record { stands = h.here.stands; low = omega arith; high = h.here.high };
-    before = λ q lt w. grind (arith, none q, h.before q, from_later q);
-  }
+  IsFirstWithin-skip None h = λ q w. grind (arith, none q, h q)
+  IsFirstWithin-skip (Some p) h = record { here = grind arith; before = λ q lt w. grind (arith, none q, h.before q) }
 
 -- a pair that stands in a part of a buffer from s to e
 pair_in_part : (b : List ℕ) (x y s e p : ℕ) → s ≤ p → p + 1 < e → IsPairAt x y b p → IsPairAt x y (take (e - s) (drop s b)) (p - s)
@@ -38,20 +30,15 @@ pair_in_part b x y s e p low high h8 = grind (arith, part_reads)
 -- one more block of 128 places that lack the pair, which may overlap those before
 pub lacks_more : (b : List ℕ) (x y n at m : ℕ) → at ≤ n → m ≤ at + 128
     → LacksPair x y b n → LacksPair x y (take (at + 129 - at) (drop at b)) 128 → LacksPair x y b m
-lacks_more b x y n at m le reach before lacks p lt pair =
-    let early = before p in
-    let late = lacks (p - at) in
-    grind (arith, pair_in_part b x y at (at + 129) p)
+lacks_more b x y n at m le reach before lacks p lt pair = grind (arith, before p, lacks (p - at), pair_in_part b x y at (at + 129) p)
 
 -- a search may begin after n places that lack the two bytes of the text from `rare` on
 module _ (b text : List ℕ) (rare start end m n : ℕ) (two : rare + 2 ≤ length text) (is : m ≡ min end (length b))
     (lacks : LacksPair (get_or text rare 0) (get_or text (rare + 1) 0) (take (m - (start + rare)) (drop (start + rare) b)) n) where
   none_before : (q : ℕ) → q < start + n → ¬ IsWithin OccursAt b text start end q
   none_before q lt w =
-      let next : q + rare + 1 ≡ q + (rare + 1) = omega arith in
-      let second = ap (λ i. get_or b i 0) next ∙ w.stands.reads (rare + 1) (omega arith) in
-      lacks (q + rare - (start + rare)) (omega arith)
-      (pair_in_part b _ _ (start + rare) m (q + rare) (omega arith) (omega arith) (w.stands.reads rare (omega arith), second))
+      let pair = pair_in_part b (get_or text rare 0) (get_or text (rare + 1) 0) (start + rare) m (q + rare) in
+      grind (arith, pair, lacks (q + rare - (start + rare)), w.stands.reads rare, w.stands.reads (rare + 1))
 
   pub first_later : (r : Option ℕ) → IsFirstWithin OccursAt b text (start + n) end r → IsFirstWithin OccursAt b text start end r
   first_later r h = IsFirstWithin-skip b text start (start + n) end (omega arith) none_before r h
@@ -74,15 +61,12 @@ module _ (b text : List ℕ) (start end m : ℕ) (is : m ≡ min end (length b))
 
   pub none_in_rest : Nowhere (OccursAt (take (m - start) (drop start b)) text) 0 (length (take (m - start) (drop start b)) + 1)
       → (p : ℕ) → ¬ IsWithin OccursAt b text start end p
-  none_in_rest none p w = let o = in_rest p w in none (p - start) (omega arith) (omega (arith, o.fits)) o
+  none_in_rest none p w = grind (arith, none (p - start), in_rest p w)
 
   pub first_in_rest : (k n : ℕ) → NoneBefore (OccursAt (take (m - start) (drop start b)) text) 0 n k
       → OccursAt (take (m - start) (drop start b)) text k → IsFirstPlace OccursAt b text start end (start + k)
   first_in_rest k n h o =
-      let there = (OccursAt-part b text start m k l (omega arith)).0 o in record {
-        here = record { stands = there.0; low = omega arith; high = omega (arith, there.1) };
-        before = λ q lt w. h.before (q - start) (omega arith) (omega (arith, lt, w.low)) (in_rest q w);
-      }
+      record { here = grind (arith, OccursAt-part b text start m k l); before = λ q lt w. grind (arith, h.before (q - start), in_rest q w) }
 
 -- what a search for a pair of bytes of the text in the part from `from` on says, if the text stands nowhere before
 module _ (b text : List ℕ) (start from end m : ℕ) (is : m ≡ min end (length b)) (l : from ≤ m) (low : start ≤ from)
@@ -92,17 +76,14 @@ module _ (b text : List ℕ) (start from end m : ℕ) (is : m ≡ min end (lengt
 
   none_to : (k : ℕ) → Nowhere (HasPair f (take (m - from) (drop from b))) 0 k → (q : ℕ) → q < from + k → ¬ IsWithin OccursAt b text start end q
   none_to k lacks q lt w =
-      let early = none q in
-      let pair = λ (begun : from ≤ q). (let o = in_part q begun w in lacks (q - from) (omega arith) (omega arith)
-      (record { first = o.reads f.pair.index1 of.pair.first ∙ sym of.byte1; second = o.reads f.pair.index2 of.pair.second ∙ sym of.byte2 })) in
-      grind arith
+      let read = λ (begun : from ≤ q). (in_part q begun w).reads in
+      grind (arith, none q, lacks (q - from), read, of.pair, of.byte1, of.byte2)
 
   -- if there is no pair the text does not stand
   pub none_without_pair : (r : Option ℕ) → r ≡ None
       → Nowhere (HasPair f (take (m - from) (drop from b))) 0 (length (take (m - from) (drop from b)) - reach_of f) → IsFirstWithin OccursAt b text start end r
-  none_without_pair r e lacks = subst (IsFirstWithin OccursAt b text start end) (sym e) (λ q w.
-      let part = in_part q in
-      grind (arith, none q, none_to _ lacks q, of.pair))
+  none_without_pair r e lacks =
+      subst (IsFirstWithin OccursAt b text start end) (sym e) (λ q w. grind (arith, none q, in_part q, none_to _ lacks q, of.pair))
 
   -- a text that stands at the first pair is the first
   pub first_at_pair : (k n : ℕ) → NoneBefore (HasPair f (take (m - from) (drop from b))) 0 n k
@@ -112,6 +93,4 @@ module _ (b text : List ℕ) (start from end m : ℕ) (is : m ≡ min end (lengt
   -- and if none does, it does not stand there either
   pub none_past_pair : (k n : ℕ) → NoneBefore (HasPair f (take (m - from) (drop from b))) 0 n k
       → ¬ (OccursAt b text (from + k) × (from + k + length text ≤ m)) → (q : ℕ) → q < from + k + 1 → ¬ IsWithin OccursAt b text start end q
-  none_past_pair k n h absent q lt w =
-      let before = none_to k h.before q in
-      grind (arith, w.stands)
+  none_past_pair k n h absent q lt w = grind (arith, none_to k h.before q, w.stands)

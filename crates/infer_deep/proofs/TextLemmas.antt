@@ -1,35 +1,29 @@
 -- White space, marks and tags: what a buffer begins with, and what is markup after them.
-use Rattle.infer_deep.proofs.Common.{◌≡◌, ◌↔◌, ℕ, suc, ◌-◌, ◌<◌, ◌≤◌, ◌⊎◌, Bool, true, false, List, [], ◌∷◌, ◌++◌, length, get_or, take, drop, refl, sym, ap, subst, ◌∙◌, inl, inr, arith, eqb, length-append, min, IsTrue, take-append-drop, take_at, take_rest, get_or_append_left, get_or-take, get_or_at, take-append-le, drop_more, length-map, length-take-le, append_assoc, append-nil, map-append, take-map, take_all, All-append, All-drop, cases_lt, AllPass-from_list_all, eq-eqb, nat_tests, Any, codes, filter, OccursAt, AllBelow, are_bytes, AgreesAt, Lasts, AreApart, ComesWith, IsEarly, MayBecome, Behind, SkipsTo, LeadsTo, NoneBegins, BeginsWith, IsWhite, IsSpace, IsMark, IsSameInAnyCase, BeginsInAnyCase, BeginsMarked, BeginsWhite, BeginsWithTag, IsHtml, IsXml, tags, tags_with}
+use Rattle.infer_deep.proofs.Common.{◌≡◌, ◌↔◌, ℕ, suc, ◌-◌, ◌<◌, ◌≤◌, ◌⊎◌, Bool, true, false, List, [], ◌∷◌, ◌++◌, length, get_or, take, drop, refl, sym, ap, subst, ◌∙◌, inl, inr, arith, eqb, length-append, min, IsTrue, take-append-drop, take_at, get_or_append_left, get_or-take, get_or_at, take-append-le, drop_more, length-map, length-take-le, append_assoc, append-nil, map-append, take-map, take_all, All-drop, cases_lt, AllPass-from_list_all, eq-eqb, nat_tests, Any, codes, filter, OccursAt, AllBelow, are_bytes, AgreesAt, Lasts, AreApart, ComesWith, IsEarly, MayBecome, Behind, SkipsTo, LeadsTo, NoneBegins, BeginsWith, IsWhite, IsSpace, IsMark, IsSameInAnyCase, BeginsInAnyCase, BeginsMarked, BeginsWhite, BeginsWithTag, IsHtml, IsXml, tags, tags_with}
+use Rattle.infer_deep.proofs.Common.{front_from_reads}
 use Rattle.std.proofs.Math.ListN.{get_or-map}
 use Rattle.std.specs.Char.{to_ascii_lowercase}
-use Rattle.infer_deep.proofs.OpenLemmas.{MayBecome-here, bytes_from_test, fills_text, grown_agrees, stands_where_whole}
-use Rattle.infer_deep.proofs.JoinedLemmas.{IsPrefixFree, Stops, WordsBegin, begun-first, SkipsTo-none, SkipsTo-cons, NoneBegins-first, Behind-lead, Behind-lasts, Behind-comes, Behind-left, Behind-trimmed, Behind-apart, Behind-open}
-use Rattle.infer_deep.proofs.PlaceLemmas.{begins-from_OccursAt, OccursAt-begins, OccursAt-front}
+use Rattle.infer_deep.proofs.OpenLemmas.{MayBecome-grown, MayBecome-here, bytes_from_test, grown_agrees, stands_where_whole}
+use Rattle.infer_deep.proofs.JoinedLemmas.{IsPrefixFree, Stops, WordsBegin, begun-first, word_begins, SkipsTo-none, SkipsTo-cons, NoneBegins-first, Behind-lead, Behind-lasts, Behind-comes, Behind-left, Behind-trimmed, Behind-apart, Behind-open}
+use Rattle.infer_deep.proofs.PlaceLemmas.{byte_stands, begins-from_OccursAt, OccursAt-begins, OccursAt-front}
 
--- a mark that stands at the front
-mark_begins : (b word : List ℕ) → IsMark word → OccursAt b word 0 → BeginsWith IsMark b (take (length b - length word) (drop (length word) b))
-mark_begins b word is o = record { word = word; kind = is; whole = begins-from_OccursAt b word o }
-
+-- a mark, or white space, that stands at the front
 pub long_mark : (b : List ℕ) → OccursAt b (0xEF ∷ 0xBB ∷ 0xBF ∷ []) 0 → BeginsWith IsMark b (take (length b - 3) (drop 3 b))
-long_mark b o = mark_begins b _ (inl refl) o
+long_mark b o = word_begins IsMark b _ (inl refl) o
 
 pub short_mark : (b : List ℕ) → OccursAt b (0xFE ∷ 0xFF ∷ []) 0 ⊎ OccursAt b (0xFF ∷ 0xFE ∷ []) 0 → BeginsWith IsMark b (take (length b - 2) (drop 2 b))
-short_mark b o = elim o [ inl x ↦ mark_begins b _ (inr (inl refl)) x | inr y ↦ mark_begins b _ (inr (inr refl)) y ]
+short_mark b (inl o) = word_begins IsMark b _ (inr (inl refl)) o
+short_mark b (inr o) = word_begins IsMark b _ (inr (inr refl)) o
 
 pub space_begins : (b : List ℕ)
     → 0 < length b → IsWhite (get_or b 0 0) → BeginsWith IsSpace b (take (length b - 1) (drop 1 b))
-space_begins b l white = record {
-  word = get_or b 0 0 ∷ [];
-  kind = (get_or b 0 0, white, refl);
-  whole = drop_more b 0 0 l ∙ ap (λ u. get_or b 0 0 ∷ u) (sym (take_rest b 1));
-}
+space_begins b l white = word_begins IsSpace b (get_or b 0 0 ∷ []) (get_or b 0 0, white, refl) (byte_stands b (get_or b 0 0) 0 l refl)
 
 -- white bytes in front are words to skip
 LeadsTo-white : (block b : List ℕ) → AllBelow IsWhite block (length block) → LeadsTo IsSpace (block ++ b) b
 LeadsTo-white [] b all rest s = s
 LeadsTo-white (x ∷ block) b all rest s =
-    SkipsTo-cons IsSpace (x ∷ (block ++ b)) (block ++ b) rest
-    (record { word = x ∷ []; kind = (x, all 0 (omega arith), refl); whole = refl })
+    SkipsTo-cons IsSpace (x ∷ (block ++ b)) (block ++ b) rest (record { word = x ∷ []; kind = (x, all 0 (omega arith), refl); whole = refl })
     (LeadsTo-white block b (λ k l. all (suc k) (omega arith)) rest s)
 
 pub leads_past_block : (b c block rest : List ℕ) (n : ℕ)
@@ -58,8 +52,7 @@ same_length word text h = sym (length-map word to_ascii_lowercase) ∙ ap length
 
 -- what begins with a text in any case
 pub begins_in_any_case : (b text : List ℕ) → IsSameInAnyCase (take (length text) b) text → BeginsInAnyCase text b
-begins_in_any_case b text h =
-    let n = length text in record { word = take n b; rest = drop n b; same = h; whole = sym (take-append-drop n b) }
+begins_in_any_case b text h = record { word = take (length text) b; rest = drop (length text) b; same = h; whole = sym (take-append-drop (length text) b) }
 
 pub front_in_any_case : (b text : List ℕ) → BeginsInAnyCase text b → IsSameInAnyCase (take (length text) b) text
 front_in_any_case b text h = grind (arith, nat_tests, take_at, same_length)
@@ -69,8 +62,7 @@ BeginsInAnyCase-byte : (b text : List ℕ) (i : ℕ)
 BeginsInAnyCase-byte b text i l h = grind (arith, nat_tests, get_or-take (length text) b i 0 l, get_or-map to_ascii_lowercase (take (length text) b) i 0, front_in_any_case b text h, get_or-map to_ascii_lowercase text i 0)
 
 BeginsInAnyCase-lasts : (text : List ℕ) → Lasts (BeginsInAnyCase text)
-BeginsInAnyCase-lasts text b more h =
-    record { word = h.word; rest = h.rest ++ more; same = h.same; whole = ap (λ u. u ++ more) h.whole ∙ append_assoc h.word h.rest more }
+BeginsInAnyCase-lasts text b more h = record { word = h.word; rest = h.rest ++ more; same = h.same; whole = grind (arith, append_assoc) }
 
 BeginsInAnyCase-front : (b more text : List ℕ) → length text ≤ length b → BeginsInAnyCase text (b ++ more) → BeginsInAnyCase text b
 BeginsInAnyCase-front b more text l h = grind (arith, nat_tests, begins_in_any_case, take-append-le, front_in_any_case)
@@ -83,11 +75,13 @@ BeginsInAnyCase-open b text l first h = grind (arith, nat_tests, BeginsInAnyCase
 pub tag_from_text : (b tag : List ℕ) → length tag < length b
     → (get_or b (length tag) 0 ≡ 0x20) ⊎ (get_or b (length tag) 0 ≡ 0x3E) → BeginsInAnyCase tag b → BeginsWithTag tag b
 tag_from_text b tag l closes h =
-    let n = length tag in
-    grind (arith, nat_tests, front_in_any_case b tag h, take-append-drop n b, drop_more b n 0 l)
+    grind (arith, nat_tests, front_in_any_case b tag h, take-append-drop (length tag) b, drop_more b (length tag) 0 l)
 
 pub text_of_tag : (b tag : List ℕ) → BeginsWithTag tag b → BeginsInAnyCase tag b
 text_of_tag b tag h = record { word = h.word; rest = h.end ∷ h.rest; same = h.same; whole = h.whole }
+
+tag_of_word : (word tag : List ℕ) → IsSameInAnyCase word tag → BeginsWithTag tag (word ++ 0x3E ∷ [])
+tag_of_word word tag h = record { word = word; end = 0x3E; rest = []; same = h; closes = inr refl; whole = refl }
 
 -- the text of HTML begins with one of the tags, and that of XML so
 abbrev pub HasTag : List ℕ → Type 0
@@ -117,11 +111,7 @@ module _ {X : Type 0} (P : X → Type 0) (x : X) (xs : List X) where
 module _ {X : Type 0} (P : X → Type 0) (test : X → Bool) where
   Any-from_filter : (xs : List X) → Any P (filter test xs) → Any P xs
   Any-from_filter [] h = h
-  Any-from_filter (x ∷ xs) h = kept (test x) refl (Any-from_filter xs)
-    where
-      kept : (r : Bool) → test x ≡ r → (Any P (filter test xs) → Any P xs) → Any P (x ∷ xs)
-      kept true e rest = Any-cons P x xs (elim (cons-Any P x (filter test xs) (rw e at h)) [ inl p ↦ inl p | inr q ↦ inr (rest q) ])
-      kept false e rest = Any-cons P x xs (inr (rest (rw e at h)))
+  Any-from_filter (x ∷ xs) h = grind (arith, nat_tests, Any-from_filter xs, Any-cons P x xs, cons-Any P x (filter test xs))
 
   Any-filter : ((x : X) → P x → test x ≡ true) → (xs : List X) → Any P xs → Any P (filter test xs)
   Any-filter passes [] h = h
@@ -164,8 +154,7 @@ HasTag-apart_xml b (k, tag, l, e, h) x = grind (arith, nat_tests, tag_opens k ta
 -- in a buffer that grows, and in its front
 HasTag-lasts : Lasts HasTag
 HasTag-lasts b more (k, tag, l, e, h) =
-    let whole = ap (λ u. u ++ more) h.whole ∙ append_assoc h.word (h.end ∷ h.rest) more in
-    (k, tag, l, e, record { word = h.word; end = h.end; rest = h.rest ++ more; same = h.same; closes = h.closes; whole = whole })
+    (k, tag, l, e, record { word = h.word; end = h.end; rest = h.rest ++ more; same = h.same; closes = h.closes; whole = grind (arith, append_assoc) })
 
 pub tag_end : (b more tag : List ℕ) → BeginsWithTag tag (b ++ more) → length tag < length b
     → (get_or b (length tag) 0 ≡ 0x20) ⊎ (get_or b (length tag) 0 ≡ 0x3E)
@@ -173,9 +162,8 @@ tag_end b more tag h l = grind (arith, nat_tests, get_or_append_left, get_or_at,
 
 HasTag-early : IsEarly HasTag
 HasTag-early b more long (k, tag, l, e, h) =
-    let o = tag_opens k tag l e in
-    let text = BeginsInAnyCase-front b more tag (omega arith) (text_of_tag (b ++ more) tag h) in
-    (k, tag, l, e, tag_from_text b tag (omega arith) (tag_end b more tag h (omega arith)) text)
+    let front = BeginsInAnyCase-front b more tag in
+    (k, tag, l, e, grind (arith, tag_opens k tag l e, front, text_of_tag (b ++ more) tag h, tag_from_text b tag, tag_end b more tag h))
 
 -- what begins with "<" begins with no space and no mark, nor do marks begin with a space
 HasTag-stops : Stops HasTag IsSpace
@@ -197,23 +185,6 @@ IsMarkedXml-stops b h = grind (arith, nat_tests, IsMarkedXml-lead b h, NoneBegin
 IsMarkedXml-left : (b left : List ℕ) → SkipsTo IsMark b left → NoneBegins IsMark left → HasXml left ↔ IsMarkedXml b
 IsMarkedXml-left = Behind-left IsMark HasXml IsMark-prefix_free (λ b h. NoneBegins-mark b (HasXml-open b h))
 
--- what is left after white space, and after marks
-module _ (b text : List ℕ) (skips : SkipsTo IsSpace b text) (none : NoneBegins IsSpace text) where
-  pub IsHtml-left : HasTag text ↔ IsHtml b
-  IsHtml-left = Behind-left IsSpace HasTag IsSpace-prefix_free HasTag-stops b text skips none
-
-  pub IsHtml-trimmed : IsHtml text ↔ IsHtml b
-  IsHtml-trimmed = Behind-trimmed IsSpace HasTag IsSpace-prefix_free HasTag-stops b text skips none
-
-  pub IsXml-left : (left : List ℕ) → SkipsTo IsMark text left → NoneBegins IsMark left → HasXml left ↔ IsXml b
-  IsXml-left left marks ends =
-      let unmarked = IsMarkedXml-left text left marks ends in
-      let unspaced = Behind-left IsSpace IsMarkedXml IsSpace-prefix_free IsMarkedXml-stops b text skips none in
-      (λ h. unspaced.0 (unmarked.0 h), λ x. unmarked.1 (unspaced.1 x))
-
-  pub IsXml-trimmed : IsXml text ↔ IsXml b
-  IsXml-trimmed = Behind-trimmed IsSpace IsMarkedXml IsSpace-prefix_free IsMarkedXml-stops b text skips none
-
 pub IsHtml-apart_IsXml : AreApart IsHtml IsXml
 IsHtml-apart_IsXml = Behind-apart IsSpace IsMarkedXml IsSpace-prefix_free IsMarkedXml-stops HasTag HasTag-stops
     (λ u tag x. HasTag-apart_xml u tag ((IsMarkedXml-left u u (SkipsTo-none IsMark u) (NoneBegins-mark u (HasTag-open u tag))).1 x))
@@ -230,8 +201,7 @@ pub IsHtml-lead : (b : List ℕ) → IsHtml b → IsWhite (get_or b 0 0) ⊎ (ge
 IsHtml-lead = Behind-lead IsSpace HasTag IsWhite (λ x. x ≡ 0x3C) IsSpace-begin HasTag-open
 
 pub IsXml-lead : (b : List ℕ) → IsXml b → IsWhite (get_or b 0 0) ⊎ (get_or b 0 0 ≡ 0x3C) ⊎ IsMarkByte (get_or b 0 0)
-IsXml-lead = Behind-lead IsSpace IsMarkedXml IsWhite (λ y. (y ≡ 0x3C) ⊎ IsMarkByte y) IsSpace-begin
-    (λ u h. elim (IsMarkedXml-lead u h) [ inl m ↦ inr m | inr e ↦ inl e ])
+IsXml-lead = Behind-lead IsSpace IsMarkedXml IsWhite (λ y. (y ≡ 0x3C) ⊎ IsMarkByte y) IsSpace-begin (λ u h. grind (arith, IsMarkedXml-lead u h))
 
 -- what more bytes bring
 pub BeginsWhite-early : IsEarly BeginsWhite
@@ -244,8 +214,7 @@ white_begins : (b more rest : List ℕ) → 1024 ≤ length b → BeginsWith IsS
 white_begins b more rest long w = BeginsWhite-early b more long (begun-first IsSpace IsWhite IsSpace-begin (b ++ more) rest w)
 
 pub IsHtml-comes : ComesWith IsHtml BeginsWhite
-IsHtml-comes = Behind-comes IsSpace HasTag BeginsWhite white_begins
-    (λ b more long h. inl (HasTag-early b more long h))
+IsHtml-comes = Behind-comes IsSpace HasTag BeginsWhite white_begins (λ b more long h. inl (HasTag-early b more long h))
 
 pub IsXml-comes : ComesWith IsXml (λ b. BeginsWhite b ⊎ BeginsMarked b)
 IsXml-comes = Behind-comes IsSpace IsMarkedXml (λ u. BeginsWhite u ⊎ BeginsMarked u) (λ u y rest l w. inl (white_begins u y rest l w))
@@ -254,9 +223,6 @@ IsXml-comes = Behind-comes IsSpace IsMarkedXml (λ u. BeginsWhite u ⊎ BeginsMa
     (λ u y l h. inl (BeginsInAnyCase-front u y _ (omega arith) h)))
 
 -- what more bytes can bring: a text that is the same as far as the buffer goes
-same_front : (word text : List ℕ) (n : ℕ) → IsSameInAnyCase word text → IsSameInAnyCase (take n word) (take n text)
-same_front word text n h = sym (take-map to_ascii_lowercase n word) ∙ ap (take n) h ∙ take-map to_ascii_lowercase n text
-
 same_filled : (b text : List ℕ) (n : ℕ) → length b ≤ length text → n ≡ min (length b) (length text)
     → IsSameInAnyCase (take n b) (take n text) → IsSameInAnyCase (b ++ drop n text) text
 same_filled b text n l is h = grind (arith, nat_tests, map-append to_ascii_lowercase b (drop n text), take_all n b, map-append to_ascii_lowercase (take n text) (drop n text), take-append-drop n text)
@@ -266,7 +232,9 @@ text_reached b tag (more, bytes, h) = (more, bytes, text_of_tag (b ++ more) tag 
 
 module _ (b text : List ℕ) (n : ℕ) (is : n ≡ min (length b) (length text)) where
   pub known_from_reached : MayBecome (BeginsInAnyCase text) b → IsSameInAnyCase (take n b) (take n text)
-  known_from_reached (more, bytes, h) = grind (arith, nat_tests, same_length h.word text h.same, take-append-le n b more, take-append-le n h.word h.rest, same_front h.word text n h.same)
+  known_from_reached (more, bytes, h) =
+      let long = same_length h.word text h.same in
+      grind (arith, nat_tests, take-append-le n b more, take-append-le n h.word h.rest, take-map to_ascii_lowercase n)
 
   whole_from_known : length text < length b → IsSameInAnyCase (take n b) (take n text) → BeginsInAnyCase text b
   whole_from_known l h = grind (arith, nat_tests, begins_in_any_case, take_all)
@@ -276,18 +244,9 @@ module _ (b text : List ℕ) (n : ℕ) (is : n ≡ min (length b) (length text))
   tag_filled bytes h closes =
       elim (cases_lt (length text) (length b)) [
         | inl l ↦ MayBecome-here (BeginsWithTag text) b (tag_from_text b text l (closes l) (whole_from_known l h))
-        | inr l ↦ (
-          drop n text ++ 0x3E ∷ [],
-          All-append (λ x. x < 256) (drop n text) (0x3E ∷ []) (All-drop (λ x. x < 256) n text (bytes_from_test text bytes)) (bytes_from_test (0x3E ∷ []) refl),
-          record {
-            word = b ++ drop n text;
-            end = 0x3E;
-            rest = [];
-            same = same_filled b text n l is h;
-            closes = inr refl;
-            whole = sym (append_assoc b (drop n text) (0x3E ∷ []));
-          },
-        )
+        | inr l ↦
+            MayBecome-grown (BeginsWithTag text) b (drop n text) (All-drop (λ x. x < 256) n text (bytes_from_test text bytes))
+            (0x3E ∷ [], bytes_from_test (0x3E ∷ []) refl, tag_of_word (b ++ drop n text) text (same_filled b text n l is h))
       ]
 
   pub reached_from_known : IsTrue (are_bytes text) → IsSameInAnyCase (take n b) (take n text) → MayBecome (BeginsInAnyCase text) b
@@ -299,10 +258,6 @@ pub tag_reached : (b tag : List ℕ) → IsTrue (are_bytes tag) → MayBecome (B
 tag_reached b tag bytes h closes =
     let n = min (length b) (length tag) in tag_filled b tag n refl bytes (known_from_reached b tag n refl h) closes
 
-pub tag_closed : (b tag : List ℕ) → MayBecome (BeginsWithTag tag) b → length tag < length b
-    → (get_or b (length tag) 0 ≡ 0x20) ⊎ (get_or b (length tag) 0 ≡ 0x3E)
-tag_closed b tag (more, bytes, h) = tag_end b more tag h
-
 pub has_tag_reached : (b : List ℕ) → Any (λ tag. MayBecome (BeginsWithTag tag) b) tags ↔ MayBecome HasTag b
 has_tag_reached b = grind (arith, nat_tests)
 
@@ -312,51 +267,55 @@ reached_open b some (more, bytes, h) = sym (get_or_append_left b more 0 0 some) 
 pub HasTag-reached_second : (b : List ℕ) → 1 < length b
     → Any (λ tag. MayBecome (BeginsWithTag tag) b) (tags_with (to_ascii_lowercase (get_or b 1 0))) ↔ MayBecome HasTag b
 HasTag-reached_second b l =
-    let second = Any-second (λ tag. MayBecome (BeginsWithTag tag) b) (to_ascii_lowercase (get_or b 1 0))
-    (λ tag (more, bytes, h) long.
-    sym (BeginsInAnyCase-byte (b ++ more) tag 1 long (text_of_tag (b ++ more) tag h))
-    ∙ ap to_ascii_lowercase (get_or_append_left b more 0 1 l)) in
-    let reached = has_tag_reached b in
-    (λ h. reached.0 (second.0 h), λ h. second.1 (reached.1 h))
+    let second = Any-second (λ tag. MayBecome (BeginsWithTag tag) b) (to_ascii_lowercase (get_or b 1 0)) (λ tag (more, bytes, h) long.
+    grind (arith, BeginsInAnyCase-byte (b ++ more) tag 1 long (text_of_tag (b ++ more) tag h), get_or_append_left b more 0 1 l)) in
+    grind (arith, second, has_tag_reached b)
 
 -- no more white space comes but to an empty rest
 no_space_comes : (b : List ℕ) → NoneBegins IsSpace b → MayBecome IsSpace b → b ≡ []
 no_space_comes [] none h = refl
-no_space_comes (y ∷ ys) none (more, bytes, (x, white, e)) =
-    absurd (none (y ∷ []) ys (x, white, let first : y ≡ x = (cc) in ap (λ u. u ∷ []) first) refl)
+no_space_comes (y ∷ ys) none (more, bytes, (x, white, e)) = absurd (none (y ∷ []) ys (x, white, (cc)) refl)
 
 -- and what can follow white space can come to it
 space_open : (S : List ℕ → Type 0) → Stops S IsSpace → MayBecome S []
     → (b text : List ℕ) → SkipsTo IsSpace b text → NoneBegins IsSpace text → MayBecome S text ↔ MayBecome (Behind IsSpace S) b
-space_open S stops some b text skips none =
-    let both = Behind-open IsSpace S IsSpace-prefix_free stops some b text skips none in (
-      λ h. both.0 (inl h),
-      λ h. elim (both.1 h) [ inl s ↦ s | inr w ↦ subst (MayBecome S) (sym (no_space_comes text none w)) some ],
-    )
+space_open S stops some b text skips none = grind (arith, Behind-open IsSpace S IsSpace-prefix_free stops some b text skips none, no_space_comes text none)
 
 HasXml-some : MayBecome HasXml []
 HasXml-some = reached_from_known [] (codes "<?xml") 0 refl refl refl
 
-HasTag-some : MayBecome HasTag []
-HasTag-some =
-    (has_tag_reached []).0 (15, codes "<P", omega arith, refl, tag_filled [] (codes "<P") 0 refl refl refl (λ l. absurd (omega arith)))
-
 -- every tag can come to its first byte
+tag_comes : (b : List ℕ) (n : ℕ) → n ≡ min (length b) 2 → length b ≤ 2 → IsSameInAnyCase (take n b) (take n (codes "<P")) → MayBecome HasTag b
+tag_comes b n is short same =
+    (has_tag_reached b).0 (15, codes "<P", omega arith, refl, tag_filled b (codes "<P") n is refl same (λ l. absurd (omega arith)))
+
 pub HasTag-begun : (b : List ℕ) → length b < 2 → (0 < length b → get_or b 0 0 ≡ 0x3C) → MayBecome HasTag b
-HasTag-begun [] l h = HasTag-some
-HasTag-begun (x ∷ []) l h =
-    let p = codes "<P" in
-    let tag = tag_filled (0x3C ∷ []) p 1 refl refl refl (λ m. absurd (omega (arith, m))) in
-    subst (λ y. MayBecome HasTag (y ∷ [])) (sym (h (omega arith))) ((has_tag_reached (0x3C ∷ [])).0 (15, p, omega arith, refl, tag))
+HasTag-begun [] l h = tag_comes [] 0 refl (omega arith) refl
+HasTag-begun (x ∷ []) l h = subst (λ y. MayBecome HasTag (y ∷ [])) (sym (h (omega arith))) (tag_comes (0x3C ∷ []) 1 refl (omega arith) refl)
 HasTag-begun (x ∷ y ∷ b) l h = absurd (omega (arith, l))
 
 IsMarkedXml-open : (text left : List ℕ) → SkipsTo IsMark text left → NoneBegins IsMark left
     → (MayBecome HasXml left ⊎ MayBecome IsMark left) ↔ MayBecome IsMarkedXml text
 IsMarkedXml-open = Behind-open IsMark HasXml IsMark-prefix_free (λ b h. NoneBegins-mark b (HasXml-open b h)) HasXml-some
 
+-- what is left after white space, and after marks
 module _ (b text : List ℕ) (skips : SkipsTo IsSpace b text) (none : NoneBegins IsSpace text) where
+  pub IsHtml-left : HasTag text ↔ IsHtml b
+  IsHtml-left = Behind-left IsSpace HasTag IsSpace-prefix_free HasTag-stops b text skips none
+
+  pub IsHtml-trimmed : IsHtml text ↔ IsHtml b
+  IsHtml-trimmed = Behind-trimmed IsSpace HasTag IsSpace-prefix_free HasTag-stops b text skips none
+
+  pub IsXml-left : (left : List ℕ) → SkipsTo IsMark text left → NoneBegins IsMark left → HasXml left ↔ IsXml b
+  IsXml-left left marks ends =
+      grind (arith, IsMarkedXml-left text left marks ends, Behind-left IsSpace IsMarkedXml IsSpace-prefix_free IsMarkedXml-stops b text skips none)
+
+  pub IsXml-trimmed : IsXml text ↔ IsXml b
+  IsXml-trimmed = Behind-trimmed IsSpace IsMarkedXml IsSpace-prefix_free IsMarkedXml-stops b text skips none
+
+  -- and what it can become
   pub is_html_open : MayBecome HasTag text ↔ MayBecome IsHtml b
-  is_html_open = space_open HasTag HasTag-stops HasTag-some b text skips none
+  is_html_open = space_open HasTag HasTag-stops (tag_comes [] 0 refl (omega arith) refl) b text skips none
 
   pub is_xml_open : (left : List ℕ) → SkipsTo IsMark text left → NoneBegins IsMark left
       → (MayBecome HasXml left ⊎ MayBecome IsMark left) ↔ MayBecome IsXml b
@@ -369,16 +328,10 @@ module _ (b text : List ℕ) (skips : SkipsTo IsSpace b text) (none : NoneBegins
 -- a mark that the end of the buffer cuts
 mark_reached : (b mark : List ℕ) → IsTrue (are_bytes mark) → IsMark mark → NoneBegins IsMark b → AgreesAt b mark 0 → MayBecome IsMark b
 mark_reached b mark bytes is none a =
-    let cut : length b < length mark = elim (cases_lt (length b) (length mark)) [
-      | inl l ↦ l
-      | inr l ↦ absurd (none mark _ is (begins-from_OccursAt b mark (stands_where_whole b mark 0 (omega arith) a)))
-    ] in
-    let f = fills_text b mark 0 bytes a in
-    let c = b ++ f.more in
-    let exact : length c - length mark ≡ 0 = omega (arith, f.short) in
-    let same : c ≡ mark
-    = begins-from_OccursAt c mark f.holds ∙ ap (λ k. mark ++ take k (drop (length mark) c)) exact ∙ append-nil mark in
-    (f.more, f.bytes, subst IsMark (sym same) is)
+    let begun = λ (o : OccursAt b mark 0). none mark _ is (begins-from_OccursAt b mark o) in
+    let cut : length b < length mark = grind (arith, begun, stands_where_whole b mark 0) in
+    let same : mark ≡ b ++ drop (length b) mark = front_from_reads 0 mark b (omega arith) (λ i l. grind (arith, a.reads i)) in
+    (drop (length b) mark, All-drop (λ x. x < 256) (length b) mark (bytes_from_test mark bytes), subst IsMark same is)
 
 agrees_with_mark : (b mark : List ℕ) → (x : MayBecome (λ c. c ≡ mark) b) → AgreesAt b mark 0
 agrees_with_mark b mark (more, bytes, e) = grown_agrees b more mark 0 (OccursAt-begins (b ++ more) mark [] (e ∙ sym (append-nil mark)))

@@ -3,6 +3,9 @@ use Rattle.infer_deep.proofs.Common.{IsTrue, ◌≡◌, ◌↔◌, ℕ, ◌+◌,
 use Rattle.infer_deep.proofs.PlaceLemmas.{OccursAt-append, OccursAt-front}
 use Rattle.infer_deep.proofs.OpenLemmas.{agrees_past, grown_agrees, stands_where_whole, fills_text, fills_parts}
 
+abbrev ebml : List ℕ
+ebml = 0x1A ∷ 0x45 ∷ 0xDF ∷ 0xA3 ∷ []
+
 pub StandsBy-lasts : (text : List ℕ) (end : ℕ) → Lasts (StandsBy text end)
 StandsBy-lasts text end b more (p, w) = grind (arith, OccursAt-append b more text p w.stands)
 
@@ -12,8 +15,7 @@ pub StandsBy-front : (text : List ℕ) (end : ℕ) (b more : List ℕ)
 StandsBy-front text end b more l (p, w) = grind (arith, OccursAt-front b more text p)
 
 pub IsMatroska-lasts : (doc_type : List ℕ) → Lasts (IsMatroska doc_type)
-IsMatroska-lasts doc_type b more h =
-    (omega (arith, length-append b more), OccursAt-append b more _ 0 h.1, StandsBy-lasts doc_type 256 b more h.2)
+IsMatroska-lasts doc_type b more h = grind (arith, length-append b more, OccursAt-append b more ebml 0 h.1, StandsBy-lasts doc_type 256 b more h.2)
 
 -- what lasts is near, if the first 1024 bytes of a yes say yes
 pub near_from_growth : (S : List ℕ → Type 0) → Lasts S
@@ -35,16 +37,10 @@ room_reaches b text end bytes room = reach_window text end b (length b) bytes ro
 
 pub found_reaches : (b text : List ℕ) (end : ℕ) (r : Option ℕ) → IsTrue (are_bytes text)
     → IsFirstWithin AgreesAt b text 0 end r → is_some r ≡ true ↔ MayBecome (StandsBy text end) b
-found_reaches b text end None bytes none = (
-  λ is. absurd (false≢true is),
-  λ (more, all, (p, w)). absurd (none p (record { stands = grown_agrees b more text p w.stands; low = w.low; high = w.high })),
-)
-found_reaches b text end (Some p) bytes first = (λ is. reach_window text end b p bytes first.here.high first.here.stands, λ h. refl)
+found_reaches b text end None bytes none = (λ is. absurd (false≢true is), λ (more, all, (p, w)). grind (arith, none p, grown_agrees b more text p))
+found_reaches b text end (Some p) bytes first = grind (arith, reach_window text end b p bytes)
 
 -- the header of EBML and a document type can come to stand together
-abbrev ebml : List ℕ
-ebml = 0x1A ∷ 0x45 ∷ 0xDF ∷ 0xA3 ∷ []
-
 pub matroska_reaches : (doc_type b : List ℕ) → IsTrue (are_bytes doc_type) → length doc_type ≤ 252
     → (AgreesAt b ebml 0 × MayBecome (StandsBy doc_type 256) b) ↔ MayBecome (IsMatroska doc_type) b
 matroska_reaches doc_type b bytes short = (
@@ -52,27 +48,14 @@ matroska_reaches doc_type b bytes short = (
     | inl full ↦
         let f = fills_parts (record { place = p; text = doc_type } ∷ []) b 0 257
         (omega arith, bytes, omega arith)
-        (grown_agrees b more doc_type p w.stands, tt) in (
-          f.more,
-          f.bytes,
-          (
-            f.long,
-            OccursAt-append b f.more ebml 0 (stands_where_whole b ebml 0 (omega arith) header),
-            (p, record { stands = f.holds.0; low = omega arith; high = w.high }),
-          ),
-        )
+        (grown_agrees b more doc_type p w.stands, tt) in
+        let begins = OccursAt-append b f.more ebml 0 (stands_where_whole b ebml 0 (omega arith) header) in
+        (f.more, f.bytes, (f.long, begins, (p, grind (arith, f.holds))))
     | inr room ↦
         let f = fills_parts (record { place = 0; text = ebml } ∷ record { place = max 4 (length b); text = doc_type } ∷ []) b 0 257
         (omega arith, refl, (omega arith, bytes, omega arith))
-        (header, (agrees_past b doc_type (max 4 (length b)) (omega arith), tt)) in (
-          f.more,
-          f.bytes,
-          (
-            omega arith,
-            f.holds.0,
-            (max 4 (length b), record { stands = f.holds.1.0; low = omega arith; high = omega arith }),
-          ),
-        )
+        (header, (agrees_past b doc_type (max 4 (length b)) (omega arith), tt)) in
+        (f.more, f.bytes, (omega arith, f.holds.0, (max 4 (length b), grind (arith, f.holds))))
   ],
   λ (more, all, (long, header, (p, w))). (grown_agrees b more ebml 0 header, (more, all, (p, w))),
 )

@@ -126,7 +126,7 @@ fn after_frame_block(buf: &[u8]) -> Option<&[u8]>
     after_empty_frame(third)
 }
 
-#[tactic(auto, using(crate::proofs::FrameLemmas::frame_begins))]
+#[tactic(auto, using(crate::proofs::FrameLemmas::empty_frame))]
 #[inline(always)]
 fn after_empty_frame(buf: &[u8]) -> Option<&[u8]>
     ensures begins { IfSome result (λ rest. BeginsWith IsFrame buf.now rest.now) }
@@ -167,6 +167,7 @@ fn after_frame(buf: &[u8]) -> Option<&[u8]>
     Some(&buf[end..])
 }
 
+#[tactic(auto, using(crate::proofs::FrameLemmas::number_of_frame))]
 #[inline(always)]
 fn begins_frame(buf: &[u8]) -> bool
     requires { 4 ≤ length buf.now }

@@ -116,6 +116,7 @@ fn has_compatible(buf: &[u8], one: &[u8; 4], other: &[u8; 4]) -> bool
 
 /// Whether one of the two is a compatible brand in a long box. No brand ends the loop early, so that it compares many
 /// at a time.
+#[tactic(auto, using(crate::proofs::BrandLemmas::none_below, crate::proofs::BrandLemmas::one_more_below, crate::proofs::BrandLemmas::compatible_below))]
 #[inline(never)]
 fn has_compatible_in_long(buf: &[u8], one: &[u8; 4], other: &[u8; 4]) -> bool
     requires { 16 ≤ length buf.now }

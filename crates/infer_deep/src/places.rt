@@ -87,6 +87,7 @@ fn same_words(buf: &[u8], text: &[u8], place: usize) -> bool
 }
 
 /// Whether the two bytes from `place` on are those of `text` from `i` on.
+#[tactic(auto, using(crate::proofs::NumberLemmas::le16_same))]
 #[inline]
 fn same_half(buf: &[u8], place: usize, text: &[u8], i: usize) -> bool
     requires in_buf { place + 2 ≤ length buf.now }
@@ -98,6 +99,7 @@ fn same_half(buf: &[u8], place: usize, text: &[u8], i: usize) -> bool
 }
 
 /// Whether the four bytes from `place` on are those of `text` from `i` on.
+#[tactic(auto, using(crate::proofs::NumberLemmas::le32_same))]
 #[inline]
 fn same_word(buf: &[u8], place: usize, text: &[u8], i: usize) -> bool
     requires in_buf { place + 4 ≤ length buf.now }

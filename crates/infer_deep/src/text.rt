@@ -43,7 +43,8 @@ pub fn is_xml(buf: &[u8]) -> bool
     begins_in_any_case(text, b"<?xml")
 }
 
-/// Whether some bytes after `buf` make it HTML: a function of its own, so that who asks many rows saves fewer registers.
+/// Whether some bytes after `buf` make it HTML.
+// A function of its own, so that a caller that asks many rows saves fewer registers.
 #[inline(never)]
 pub fn may_become_html(buf: &[u8]) -> bool
     ensures { IsTrue result ↔ MayBecome IsHtml buf.now }
@@ -303,7 +304,7 @@ fn may_begin_some_tag(buf: &[u8], tags: &[&[u8]]) -> bool
     tags.iter().any(|tag| may_begin_tag(buf, tag))
 }
 
-#[tactic(auto, using(crate::proofs::TextLemmas::tag_reached, crate::proofs::TextLemmas::text_reached, crate::proofs::TextLemmas::tag_closed, crate::proofs::OpenLemmas::test_from_reads))]
+#[tactic(auto, using(crate::proofs::TextLemmas::tag_reached, crate::proofs::TextLemmas::text_reached, crate::proofs::TextLemmas::tag_end, crate::proofs::OpenLemmas::test_from_reads))]
 fn may_begin_tag(buf: &[u8], tag: &[u8]) -> bool
     ensures { IsTrue result ↔ MayBecome (BeginsWithTag tag.now) buf.now }
 {

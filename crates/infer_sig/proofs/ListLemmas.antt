@@ -7,16 +7,15 @@ pub list_any_passes : {X : Type 0} (p q : X → Bool) → ((x : X) → IsTrue (p
 list_any_passes p q each [] some = some
 list_any_passes p q each (x ∷ xs) some = grind (arith, nat_tests, each x, list_any_passes p q each xs)
 
-pub list_all_passes : {X : Type 0} (p q : X → Bool) → ((x : X) → IsTrue (p x) → IsTrue (q x))
-    → (xs : List X) → IsTrue (list_all p xs) → IsTrue (list_all q xs)
-list_all_passes p q each [] all = refl
-list_all_passes p q each (x ∷ xs) all = grind (arith, nat_tests, each x, list_all_passes p q each xs)
-
--- where two tests pass, so does a third
+-- where two tests pass, so does a third, and where one does, another
 pub list_all_joined : {X : Type 0} (p q r : X → Bool) → ((x : X) → IsTrue (p x) → IsTrue (q x) → IsTrue (r x))
     → (xs : List X) → IsTrue (list_all p xs) → IsTrue (list_all q xs) → IsTrue (list_all r xs)
 list_all_joined p q r each [] all others = refl
 list_all_joined p q r each (x ∷ xs) all others = grind (arith, nat_tests, each x, list_all_joined p q r each xs)
+
+pub list_all_passes : {X : Type 0} (p q : X → Bool) → ((x : X) → IsTrue (p x) → IsTrue (q x))
+    → (xs : List X) → IsTrue (list_all p xs) → IsTrue (list_all q xs)
+list_all_passes p q each xs all = list_all_joined p p q (λ x passes again. each x passes) xs all all
 
 -- of elements that all pass the first test, one that passes the second passes the third
 pub list_any_among : {X : Type 0} (p q r : X → Bool) → ((x : X) → IsTrue (p x) → IsTrue (q x) → IsTrue (r x))

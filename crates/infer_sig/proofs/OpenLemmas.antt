@@ -1,11 +1,10 @@
 -- What a buffer leaves open of a signature: the bytes that are missing, put after it part by part.
-use Rattle.infer_deep.proofs.Common.{take, true, ◌≡◌, ℕ, zero, suc, ◌+◌, ◌-◌, ◌≤◌, inl, inr, not, List, [], ◌∷◌, ◌++◌, length, take_all, refl, ap, arith, eqb, ltb, leb, IsTrue, AgreesAt, OccursAt, ◌↔◌, length-append, length-take, get_or-take, and_parts, and_from, or_cases, or_left, or_right, le-leb, eq-eqb, ne_eqb, leb-true, cases_lt, nat_tests, get_or_append_left, list_any, list_all, are_bytes, MayBecome}
-use Rattle.infer_deep.proofs.OpenLemmas.{AgreesAt-front, AllAgree, AllStand, LieApart, MayBecome-grown, agrees_none, agrees_past, fills_parts, fills_text}
+use Rattle.infer_deep.proofs.Common.{take, true, ◌≡◌, ℕ, zero, suc, ◌+◌, ◌-◌, ◌≤◌, inl, inr, not, List, [], ◌∷◌, ◌++◌, length, max, take_all, refl, ap, arith, eqb, ltb, leb, IsTrue, AgreesAt, OccursAt, ◌↔◌, length-append, length-take, get_or-take, and_parts, and_from, or_cases, or_left, or_right, le-leb, eq-eqb, ne_eqb, leb-true, cases_lt, nat_tests, get_or_append_left, list_any, list_all, are_bytes, MayBecome}
+use Rattle.infer_deep.proofs.OpenLemmas.{AllAgree, AllStand, LieApart, agrees_none, agrees_past, fills_parts, grown_agrees}
 use Rattle.infer_deep.proofs.OpenLemmas as Deep
 use Rattle.infer_deep.proofs.PlaceLemmas.{OccursAt-first}
 use Rattle.infer_sig.proofs.ListLemmas.{list_any_among, list_any_passes, list_all_joined, list_all_passes}
 use Rattle.infer_sig.proofs.PlaceLemmas.{stands_by_place}
-use Rattle.infer_sig.proofs.SignatureLemmas.{part_lasts}
 use Rattle.infer_sig.specs.Laws.{is_part_within, text_lead, part_lead, alternative_lead}
 use Rattle.infer_sig.specs.Open.{agrees, may_have, may_fit, may_become, has_byte, is_possible, place_of, are_apart, is_alternative_sound, is_sound, MayBecomeIsExact, Begins}
 use Rattle.infer_sig.specs.Signature.{Alternative, at_least, Bytes, any_of, between, all_but, Part, text, any_text, byte, allows, has_part, fits, stands, accepts}
@@ -19,7 +18,7 @@ agrees_by_place place t buf = grind (arith, nat_tests, stands_by_place, length-t
 
 module _ (buf more : List ℕ) where
   agrees_front : (place : ℕ) (t : List ℕ) → IsTrue (stands place t (buf ++ more)) → IsTrue (agrees place t buf)
-  agrees_front place t h = grind (arith, nat_tests, stands_by_place place t (buf ++ more), agrees_by_place place t buf, AgreesAt-front buf more t place)
+  agrees_front place t h = grind (arith, nat_tests, stands_by_place place t (buf ++ more), agrees_by_place place t buf, grown_agrees buf more t place)
 
   part_front : (part : Part) → IsTrue (has_part (buf ++ more) part) → IsTrue (may_have buf part)
   part_front h0 h = grind (arith, nat_tests, agrees_front, list_any_passes, get_or_append_left)
@@ -89,28 +88,31 @@ filled buf (byte place set) possible h =
 
 -- ---- the missing bytes of all parts
 
--- texts that lie apart from n on, with which the buffer, however it goes on, has the parts
-record Fillings (buf : List ℕ) (n : ℕ) (parts : List Part) : Type 0 where
+-- texts that lie apart from n on and end at the least length or later, with which the buffer, however it goes on, has the parts
+record Fillings (least : ℕ) (buf : List ℕ) (n : ℕ) (parts : List Part) : Type 0 where
   pub texts : List Deep.Part
   pub end : ℕ
+  pub long : least ≤ end
   pub apart : LieApart n texts end
   pub agree : AllAgree texts buf
   pub fill : (more : List ℕ) → AllStand texts (buf ++ more) → IsTrue (list_all (has_part (buf ++ more)) parts)
 
-fillings : (n : ℕ) (parts : List Part) (buf : List ℕ) → IsTrue (list_all (λ q. leb n (place_of q)) parts) → IsTrue (are_apart parts)
-    → IsTrue (list_all is_possible parts) → IsTrue (list_all (may_have buf) parts) → Fillings buf n parts
-fillings n [] buf after apart possible h = record { texts = []; end = n; apart = omega arith; agree = tt; fill = λ more s. refl }
-fillings n (part ∷ parts) buf after apart possible h =
+fillings : (least n : ℕ) (parts : List Part) (buf : List ℕ) → IsTrue (list_all (λ q. leb n (place_of q)) parts) → IsTrue (are_apart parts)
+    → IsTrue (list_all is_possible parts) → IsTrue (list_all (may_have buf) parts) → Fillings least buf n parts
+fillings least n [] buf after apart possible h =
+    record { texts = []; end = max n least; long = omega arith; apart = omega arith; agree = tt; fill = λ more s. refl }
+fillings least n (part ∷ parts) buf after apart possible h =
     let a = and_parts (list_all (λ later. is_part_within (place_of later) part) parts) _ apart in
     let p = and_parts (is_possible part) _ possible in
     let each = and_parts (may_have buf part) _ h in
     let f = filled buf part p.0 each.0 in
     let m = place_of part + length f.filling in
     let behind = list_all_passes _ (λ q. leb m (place_of q)) (λ q within. le-leb m (place_of q) (f.ends (place_of q) within)) parts a.0 in
-    let rest = fillings m parts buf behind a.1 p.1 each.1 in
+    let rest = fillings least m parts buf behind a.1 p.1 each.1 in
     record {
       texts = record { place = place_of part; text = f.filling } ∷ rest.texts;
       end = rest.end;
+      long = rest.long;
       apart = (leb-true n (place_of part) (and_parts (leb n (place_of part)) _ after).0, f.bytes, rest.apart);
       agree = (f.agrees, rest.agree);
       fill = λ more s. and_from (has_part (buf ++ more) part) _ (f.fills more s.0) (rest.fill more s.1);
@@ -119,13 +121,10 @@ fillings n (part ∷ parts) buf after apart possible h =
 fitting : (n : ℕ) (parts : List Part) (buf : List ℕ) → IsTrue (are_apart parts) → IsTrue (list_all is_possible parts)
     → IsTrue (list_all (may_have buf) parts) → MayBecome (λ b. IsTrue (fits b (at_least n parts))) buf
 fitting n parts buf apart possible h =
-    let f = fillings 0 parts buf (list_all_passes is_possible (λ q. leb 0 (place_of q)) (λ q s. le-leb 0 (place_of q) (omega arith)) parts possible) apart possible h in
+    let after = list_all_passes is_possible (λ q. leb 0 (place_of q)) (λ q s. le-leb 0 (place_of q) (omega arith)) parts possible in
+    let f = fillings n 0 parts buf after apart possible h in
     let x = fills_parts f.texts buf 0 f.end f.apart f.agree in
-    let c = buf ++ x.more in
-    let y = fills_text c [] n refl (agrees_none c n) in
-    let has = list_all_passes _ _ (part_lasts c y.more) parts (f.fill x.more x.holds) in
-    MayBecome-grown (λ b. IsTrue (fits b (at_least n parts))) buf x.more x.bytes
-    (y.more, y.bytes, and_from (leb n (length (c ++ y.more))) _ (le-leb n (length (c ++ y.more)) (omega (arith, y.long))) has)
+    (x.more, x.bytes, and_from (leb n (length (buf ++ x.more))) _ (le-leb n (length (buf ++ x.more)) (omega (arith, x.long, f.long))) (f.fill x.more x.holds))
 
 reached : (s : List Alternative) (buf : List ℕ) → IsTrue (is_sound s) → IsTrue (may_become s buf) → MayBecome (λ b. IsTrue (accepts s b)) buf
 reached [] buf sound h = absurd (cc)
@@ -138,10 +137,7 @@ reached (at_least n parts ∷ s) buf sound h =
     ]
 
 pub signature_open : (s : List Alternative) → IsTrue (is_sound s) → MayBecomeIsExact s
-signature_open s sound buf = (
-  λ h. reached s buf sound h,
-  λ (more, bytes, h). list_any_passes _ _ (alternative_front buf more) s h,
-)
+signature_open s sound buf = (λ h. reached s buf sound h, λ (more, bytes, h). list_any_passes _ _ (alternative_front buf more) s h)
 
 -- ---- the first byte
 

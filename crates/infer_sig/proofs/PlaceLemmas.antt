@@ -1,5 +1,5 @@
 -- A text stands at a place exactly if each of its bytes does.
-use Rattle.infer_deep.proofs.Common.{◌≡◌, Bool, ℕ, suc, ◌+◌, ◌-◌, ◌<◌, ◌≤◌, ◌↔◌, List, [], ◌∷◌, ◌++◌, length, get_or, take, drop, refl, sym, ap, ◌∙◌, arith, eqb, nat_eq, IsTrue, length-append, length-drop, get_or-drop, take-take, and_from, eq-eqb, drop-take, get_or_append_left, Decides-eqb, starts_is, OccursAt, starts_with}
+use Rattle.infer_deep.proofs.Common.{◌≡◌, Bool, ℕ, ◌+◌, ◌-◌, ◌<◌, ◌≤◌, ◌↔◌, List, ◌++◌, length, get_or, take, drop, refl, ap, ◌∙◌, arith, nat_eq, IsTrue, length-append, length-drop, get_or-drop, take-take, drop-take, get_or_append_left, Decides-eqb, starts_is, front_from_reads, OccursAt, starts_with}
 use Rattle.std.specs.Cmp.Lexicographic.{pointwise}
 use Rattle.infer_sig.specs.Signature.{stands}
 use Rattle.infer_sig.specs.Places.{StandsByPlace}
@@ -8,16 +8,11 @@ use Rattle.infer_sig.specs.Places.{StandsByPlace}
 front_read : (t xs : List ℕ) → IsTrue (starts_with nat_eq xs t)
     → (k : ℕ) → k < length t → (k < length xs) × (get_or xs k 0 ≡ get_or t k 0)
 front_read t xs h k l =
-    let whole = (starts_is {E = nat_eq} Decides-eqb xs t _ refl).0 h in
-    (omega (arith, ap length whole, length-append t (drop (length t) xs)), ap (λ u. get_or u k 0) whole ∙ get_or_append_left t _ 0 k l)
+    let whole = (starts_is {E = nat_eq} Decides-eqb xs t _ refl).0 h in grind (arith, whole, length-append, get_or_append_left t (drop (length t) xs) 0 k)
 
 front_made : (t xs : List ℕ) → ((k : ℕ) → k < length t → (k < length xs) × (get_or xs k 0 ≡ get_or t k 0))
     → IsTrue (starts_with nat_eq xs t)
-front_made [] xs h = refl
-front_made (c ∷ t) [] h = absurd (omega (arith, (h 0 (omega arith)).0))
-front_made (c ∷ t) (x ∷ xs) h =
-    and_from (eqb c x) _ (eq-eqb c x (sym (h 0 (omega arith)).1))
-    (front_made t xs (λ k l. let rest = h (suc k) (omega arith) in (omega (arith, rest.0), rest.1)))
+front_made t xs h = (starts_is {E = nat_eq} Decides-eqb xs t _ refl).1 _ (front_from_reads 0 xs t (grind (arith, h (length t - 1))) (λ k l. (h k l).1))
 
 pub stands_by_place : (place : ℕ) (t buf : List ℕ) → IsTrue (stands place t buf) ↔ StandsByPlace place t buf
 unfolding stands

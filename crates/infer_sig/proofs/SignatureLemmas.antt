@@ -3,9 +3,8 @@ use Rattle.infer_deep.proofs.Common.{◌≡◌, ℕ, ◌≤◌, List, ◌∷◌,
 use Rattle.std.proofs.lemmas.Grind.{common_steps}
 use Rattle.infer_sig.proofs.ListLemmas.{list_any_passes, list_all_passes, list_any_same, list_all_same}
 use Rattle.infer_sig.proofs.PlaceLemmas.{stands_lasts, stands-take}
-use Rattle.infer_sig.specs.Signature.{accepts, Alternative, at_least, Part, text, byte, any_text, has_part, fits, stands}
-use Rattle.infer_deep.specs.Signatures.{Lasts}
-use Rattle.infer_sig.specs.Laws.{DependsOnFront, Leads, is_part_within, is_alternative_within, is_within, text_lead, part_lead, alternative_lead}
+use Rattle.infer_sig.specs.Signature.{Alternative, at_least, Part, text, byte, any_text, has_part, fits, stands}
+use Rattle.infer_sig.specs.Laws.{DependsOnFront, is_part_within, is_alternative_within, is_within, text_lead, part_lead, alternative_lead}
 
 -- ---- a buffer that goes on
 
@@ -14,11 +13,8 @@ part_lasts buf more (text place t) h = stands_lasts place t buf more h
 part_lasts buf more (any_text place ts) h = list_any_passes _ _ (λ t. stands_lasts place t buf more) ts h
 part_lasts buf more (byte place set) h = grind (arith, nat_tests, and_parts (ltb place (length buf)), ltb-true place (length buf), common_steps, get_or_append_left buf more 0 place, and_from (ltb place (length (buf ++ more))))
 
-alternative_lasts : (buf more : List ℕ) (a : Alternative) → IsTrue (fits buf a) → IsTrue (fits (buf ++ more) a)
+pub alternative_lasts : (buf more : List ℕ) (a : Alternative) → IsTrue (fits buf a) → IsTrue (fits (buf ++ more) a)
 alternative_lasts buf more (at_least least parts) h = grind (arith, nat_tests, and_parts (leb least (length buf)), common_steps, and_from (leb least (length (buf ++ more))), list_all_passes, part_lasts buf more)
-
-pub signature_lasts : (s : List Alternative) → Lasts (λ b. IsTrue (accepts s b))
-signature_lasts s buf more h = list_any_passes _ _ (alternative_lasts buf more) s h
 
 -- ---- a front of the buffer
 
@@ -45,9 +41,6 @@ text_leads f rest h2 h = grind (arith, nat_tests, and_parts)
 part_leads : (f : ℕ) (rest : List ℕ) (part : Part) → IsTrue (has_part (f ∷ rest) part) → IsTrue (part_lead part f)
 part_leads f rest h2 h = grind (arith, nat_tests, text_leads, list_any_passes, and_parts)
 
-alternative_leads : (f : ℕ) (rest : List ℕ) (a : Alternative) → IsTrue (fits (f ∷ rest) a)
+pub alternative_leads : (f : ℕ) (rest : List ℕ) (a : Alternative) → IsTrue (fits (f ∷ rest) a)
     → IsTrue (alternative_lead a f)
 alternative_leads f rest h2 h = grind (arith, nat_tests, list_all_passes, part_leads, and_parts)
-
-pub signature_leads : (s : List Alternative) → Leads s
-signature_leads s f rest h = list_any_passes _ _ (alternative_leads f rest) s h

@@ -39,6 +39,7 @@ pub fn open()
 {}
 
 /// With each byte that such a signature allows first begins a buffer that it accepts.
+#[tactic(auto, using(crate::proofs::OpenLemmas::signature_begins))]
 pub fn begins()
     ensures { (signature : List Alternative) → IsTrue (is_sound signature) → Begins signature }
 {}

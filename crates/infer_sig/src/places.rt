@@ -7,6 +7,7 @@ ghost use Rattle.infer_sig.specs.Signature.{stands};
 use infer_deep::places::same_at;
 
 /// Whether `text` stands in `buf` from `place` on.
+#[tactic(auto, using(crate::proofs::PlaceLemmas::stands_by_place))]
 #[inline(always)]
 pub fn matches_at<const N: usize>(buf: &[u8], text: &[u8; N], place: usize) -> bool
     requires { place + N ≤ length buf.now }

@@ -1,4 +1,4 @@
-use Rattle.infer_deep.proofs.Common.{◌+◌, ◌<◌, ◌≡◌, ℕ, List, get_or, length, arith, inl, inr, HasClassId, IsRoot, compound_header, word_id, old_excel_id, excel_id, powerpoint_id, IsDecidingPlace, zip_header, AreApart}
+use Rattle.infer_deep.proofs.Common.{◌+◌, ◌<◌, ◌≡◌, ℕ, List, get_or, length, arith, HasClassId, IsRoot, compound_header, word_id, old_excel_id, excel_id, powerpoint_id, IsDecidingPlace, zip_header, AreApart}
 use Rattle.infer_deep.proofs.FrameLemmas.{IsFramed-apart}
 use Rattle.infer_deep.proofs.OfficeLemmas.{IsDecidingPlace-one}
 use Rattle.infer_deep.proofs.PlaceLemmas.{OccursAt-agree, apart_at_one}
@@ -13,17 +13,10 @@ returns c = record {
   framed = IsFramed-apart;
   office = λ v w (some_v, some_w, differ) b. apart_at_one (IsDecidingPlace b) (IsDecidingPlace-one b) b (λ p. p) v w 0 some_v some_w differ;
   class_id = ids_apart;
-  doc_xls = λ b doc xls. elim xls [
-    | inl h ↦ ids_apart word_id old_excel_id 0 (omega arith) (omega arith) (λ e. omega arith) b doc h
-    | inr h ↦ ids_apart word_id excel_id 0 (omega arith) (omega arith) (λ e. omega arith) b doc h
-  ];
+  doc_xls = λ b doc xls. grind (arith, ids_apart word_id old_excel_id 0, ids_apart word_id excel_id 0);
   doc_ppt = ids_apart word_id powerpoint_id 0 (omega arith) (omega arith) (λ e. omega arith);
-  xls_ppt = λ b xls ppt. elim xls [
-    | inl h ↦ ids_apart old_excel_id powerpoint_id 1 (omega arith) (omega arith) (λ e. omega arith) b h ppt
-    | inr h ↦ ids_apart excel_id powerpoint_id 1 (omega arith) (omega arith) (λ e. omega arith) b h ppt
-  ];
-  compound_zip = λ b compound zip.
-      let same = OccursAt-agree b compound_header zip_header 0 0 compound zip (omega arith) (omega arith) in absurd (omega arith);
+  xls_ppt = λ b xls ppt. grind (arith, ids_apart old_excel_id powerpoint_id 1, ids_apart excel_id powerpoint_id 1);
+  compound_zip = λ b compound zip. grind (arith, OccursAt-agree b compound_header zip_header 0 0);
   open_boxed = λ b o box. omega arith;
   html_xml = IsHtml-apart_IsXml;
 }

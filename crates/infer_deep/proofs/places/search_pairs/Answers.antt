@@ -10,20 +10,15 @@ returns-in_err-at c =
 pub returns-then-stands_within : goal.returns-then-stands_within
 returns-then-stands_within c =
     let i = c.loop-turn.invariant in
-    first_at_pair _ _ _ _ _ _ c.min-stop.ensures i.1 (omega arith) i.2 _ c.with_pair-pair.ensures.value _ _ c.in_ok-at.ensures.0
-    (c.stands_within.ensures.0 c.if-stands_within.true)
+    let pair = first_at_pair _ _ _ _ _ _ c.min-stop.ensures i.1 (omega arith) i.2 _ c.with_pair-pair.ensures.value _ _ c.in_ok-at.ensures.0 in
+    pair (c.stands_within.ensures.0 c.if-stands_within.true)
 
 pub loop-turn-preserved : goal.loop-turn-preserved
 loop-turn-preserved c =
     let i = c.loop-turn.invariant in
-    let inside = c.in_ok-at.ensures.0.high in (
-      omega arith,
-      omega arith,
-      none_past_pair _ _ _ _ _ _ c.min-stop.ensures i.1 (omega arith) i.2 _ c.with_pair-pair.ensures.value _ _ c.in_ok-at.ensures.0
-          (λ there. let e = c.if-stands_within.ensures.1 there in absurd (cc)),
-    )
+    let inside = c.in_ok-at.ensures.0.high in
+    let past = none_past_pair _ _ _ _ _ _ c.min-stop.ensures i.1 (omega arith) i.2 _ c.with_pair-pair.ensures.value _ _ c.in_ok-at.ensures.0 in
+    (omega arith, omega arith, past (λ there. let e = c.if-stands_within.ensures.1 there in absurd (cc)))
 
 pub returns : goal.returns
-returns c =
-    let i = c.loop-turn.invariant in
-    IsFirstWithin-skip _ _ _ _ _ i.0 i.2 _ c.search_bytes.ensures
+returns c = IsFirstWithin-skip _ _ _ _ _ c.loop-turn.invariant.0 c.loop-turn.invariant.2 _ c.search_bytes.ensures
