@@ -2,10 +2,9 @@
 use Rattle.infer.proofs.Common.{◌<◌, ◌≤◌, ◌+◌, ◌-◌, ◌⊎◌, ◌++◌, zero-le, ℕ, suc, List, length, refl, inl, inr, arith, IsTrue, length-append, AllWithin, range_with_len, take-append-le, get_or-range_with_len, length-range_with_len, Alternative, IsAwaited, last_awaited, Comes, BuiltIn, avif, doc, framed, heif, html, office, ppt, xls, xml, IsAccepted, IsNear, signature_of, table, ROW_COUNT}
 use Rattle.infer_sig.specs.Laws as Fixed
 use Rattle.infer_deep.specs.Laws as Deep
-use Rattle.infer.proofs.KnownLemmas.{Known, proved, is_proved, proof_of, each_before, at_most, takes, ◌>>=◌}
+use Rattle.infer.proofs.KnownLemmas.{Known, proved, each_known, each_before, at_most, takes, ◌>>=◌}
 use Rattle.infer.proofs.LawLemmas.{known_near}
 use Rattle.infer.proofs.OrderLemmas.{exclusion}
-use Rattle.infer.proofs.TestLemmas.{NoneRefused, passed}
 
 -- what holds of n numbers from s on holds of each
 in_range : (P : ℕ → Type 0) (s n : ℕ) → AllWithin P (range_with_len s n) 0 n → (k : ℕ) → s ≤ k → k < s + n → P k
@@ -62,10 +61,7 @@ module _ (fixed_near : (n : ℕ) (s : List Alternative) → IsTrue (Fixed.is_wit
       alone = λ k low high. in_range (λ j. IsAlone (signature_of i) (signature_of j)) (suc i) n alone k low (omega arith) accepted refused;
     })
 
-  all_newcomers : NoneRefused (λ i. is_proved (newcomer i)) ROW_COUNT 0 8
-  unfolding table signature_of
-  all_newcomers = (refl, (refl, (refl, (refl, (refl, (refl, (refl, (refl, tt))))))))
-
   pub awaited_newcomer : (i : ℕ) → i < ROW_COUNT
       → IsAccepted (signature_of i) (b ++ more) → (¬ IsAccepted (signature_of i) b) → Comes i b more
-  awaited_newcomer i lt = proof_of (newcomer i) (passed (λ j. is_proved (newcomer j)) ROW_COUNT 8 all_newcomers (omega arith) i lt)
+  unfolding table signature_of
+  awaited_newcomer = each_known newcomer ROW_COUNT 8 (refl, (refl, (refl, (refl, (refl, (refl, (refl, (refl, tt)))))))) (omega arith)

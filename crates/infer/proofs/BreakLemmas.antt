@@ -4,11 +4,10 @@ use Rattle.infer.proofs.Common.{◌≡◌, ◌⊎◌, ◌≢◌, ◌+◌, ◌<�
 use Rattle.std.proofs.lemmas.Option.{none-some, same_Some}
 use Rattle.infer_deep.specs.Laws as Deep
 use Rattle.infer.proofs.DecisionLemmas.{occurs, behind, long_frame, space, wide_mark}
-use Rattle.infer.proofs.KnownLemmas.{Known, proved, is, is_proved, proof_of, same, at_most, negated, both, either, each_before, needs, takes, ◌>>=◌}
+use Rattle.infer.proofs.KnownLemmas.{Known, proved, is, each_known, proof_of, same, at_most, negated, both, either, each_before, needs, takes, ◌>>=◌}
 use Rattle.infer.proofs.OrderLemmas.{known_first, some_row}
 use Rattle.infer.proofs.PlaceLemmas.{ByPlace, not_both}
 use Rattle.infer.proofs.TableLemmas.{length-table}
-use Rattle.infer.proofs.TestLemmas.{NoneRefused, passed}
 
 -- a box that ends after the first 1024 bytes
 abbrev long_box : List ℕ → List ℕ
@@ -60,16 +59,13 @@ module _ (by_place : ByPlace) (exclude : Deep.Apart) where
   abbrev breaks : (i : ℕ) → Known (IsTrue (not (is_far_row i)) ⊎ Breaks 1024 i (late (signature_of i)).0)
   breaks i = either (is (not (is_far_row i))) (breaks_with 1024 i (late (signature_of i)).1 (late (signature_of i)).0)
 
-  all_break : NoneRefused (λ i. is_proved (breaks i)) ROW_COUNT 0 8
+  all_break : (i : ℕ) → i < ROW_COUNT → IsTrue (not (is_far_row i)) ⊎ Breaks 1024 i (late (signature_of i)).0
   unfolding table is_far_row signature_of stands le16 le32 be32
-  all_break = (refl, (refl, (refl, (refl, (refl, (refl, (refl, (refl, tt))))))))
-
-  far_within : (i : ℕ) → IsTrue (is_far_row i) → i < ROW_COUNT
-  unfolding is_far_row signature_of
-  far_within i e = grind (arith, slice_get_past table i, length-table)
+  all_break = each_known breaks ROW_COUNT 8 (refl, (refl, (refl, (refl, (refl, (refl, (refl, (refl, tt)))))))) (omega arith)
 
   pub broken : (i : ℕ) → IsTrue (is_far_row i) → (buf : List ℕ) × Breaks 1024 i buf
-  broken i e = elim (proof_of (breaks i) (passed (λ j. is_proved (breaks j)) ROW_COUNT 8 all_break (omega arith) i (far_within i e))) [
+  unfolding is_far_row signature_of
+  broken i e = elim (all_break i (grind (arith, slice_get_past table i, length-table))) [
     | inl other ↦ absurd (not_both (is_far_row i) e other)
     | inr h ↦ ((late (signature_of i)).0, h)
   ]

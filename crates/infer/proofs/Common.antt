@@ -12,7 +12,7 @@ pub use Rattle.infer.specs.Listed.{number_of, buffer_listed, row_listed}
 unfoldable pub use Rattle.infer.specs.Matchers.{signatures, is_far_row}
 pub use Rattle.infer.specs.Matchers.{OthersAreNear}
 pub use Rattle.infer_deep.specs.Signatures.{Lasts, IsNear}
-pub use Rattle.infer.specs.Questions.{HasExtension, IsAsked, SomeBoth}
+pub use Rattle.infer.specs.Questions.{HasClass, HasExtension, HasMimeType, IsAsked, SomeBoth}
 pub use Rattle.infer.specs.Row.{Accepts, Row, shows}
 pub use Rattle.infer.specs.Rows.{custom_rows, AnyAccepts, kept_row, rows, custom_row, Signature}
 pub use Rattle.infer.specs.Samples.{sample_of, zeros, HoldsSample, put, padded}

@@ -1,5 +1,5 @@
 -- What a computation says of a built-in signature and a buffer.
-use Rattle.infer.proofs.Common.{◌≡◌, ◌≤◌, ◌⊎◌, inl, inr, ℕ, suc, ◌+◌, ◌-◌, ◌*◌, ◌/◌, List, [], ◌∷◌, ◌++◌, map, length, get_or, replicate, take, eqb, IsTrue, refl, sym, ap, subst, ◌∙◌, codes, arith, lit≤, append_assoc, Bool, list_any, AllByRecursion, concat, eqb-true, eq-eqb, or_left, or_right, append-nil, take_at, All-replicate, recursion_from_All, front_fits, front_reads, AllPass-from_list_all, HasCompatible, IsBoxed, compound_header, HasClassId, IsRoot, word_id, old_excel_id, excel_id, powerpoint_id, OccursAt, IsFrame, IsFramed, SkipsTo, le16, le32, be32, zip_header, HasFolder, IsDecidingHeader, IsHeaderFrom, IsThirdHeader, IsOffice, BeginsWithTag, IsHtml, IsMark, IsSpace, IsXml, tags, StandsBy, accepts, stands, BuiltIn, fixed, avif, doc, framed, heif, html, matroska, office, pdf, ppt, xls, xml, IsAccepted}
+use Rattle.infer.proofs.Common.{◌≡◌, ◌≤◌, ◌⊎◌, inl, inr, ℕ, suc, ◌+◌, ◌-◌, ◌*◌, ◌/◌, List, [], ◌∷◌, ◌++◌, map, length, get_or, replicate, take, eqb, IsTrue, refl, sym, ap, ◌∙◌, codes, arith, append_assoc, Bool, list_any, AllByRecursion, concat, eqb-true, eq-eqb, or_left, or_right, append-nil, take_at, All-replicate, recursion_from_All, front_fits, front_reads, AllPass-from_list_all, HasCompatible, IsBoxed, compound_header, HasClassId, IsRoot, word_id, old_excel_id, excel_id, powerpoint_id, OccursAt, IsFrame, IsFramed, SkipsTo, le16, le32, be32, zip_header, HasFolder, IsDecidingHeader, IsHeaderFrom, IsThirdHeader, IsOffice, BeginsWithTag, IsHtml, IsMark, IsSpace, IsXml, StandsBy, accepts, stands, BuiltIn, fixed, avif, doc, framed, heif, html, matroska, office, pdf, ppt, xls, xml, IsAccepted}
 use Rattle.std.specs.Char.{to_ascii_lowercase}
 use Rattle.std.proofs.lemmas.List.Folds.{list_any-append}
 use Rattle.infer_deep.proofs.PlaceLemmas.{OccursAt-begins, begins-from_OccursAt}
@@ -36,16 +36,19 @@ spaced_html n b e =
     let tag : BeginsWithTag (codes "<P") (codes "<P>") = record { word = codes "<P"; end = 0x3E; rest = []; same = refl; closes = inr refl; whole = refl } in
     (codes "<P>", spaced n (codes "<P>") b e, (15, codes "<P", omega arith, refl, tag))
 
+-- nothing is passed over
+pub unskipped : {P : List ℕ → Type 0} (b : List ℕ) → SkipsTo P b b
+unskipped b = record { words = []; each = tt; whole = refl }
+
+-- after white space and marks comes the tag
+pub tagged_xml : (b marked : List ℕ) → SkipsTo IsSpace b marked → SkipsTo IsMark marked (codes "<?xml") → IsXml b
+tagged_xml b marked spaces marks = (marked, spaces, (codes "<?xml", marks, record { word = codes "<?xml"; rest = []; same = refl; whole = refl }))
+
 pub spaced_xml : (n : ℕ) (b : List ℕ) → b ≡ behind n space (codes "<?xml") → IsXml b
-spaced_xml n b e =
-    let unmarked : SkipsTo IsMark (codes "<?xml") (codes "<?xml") = record { words = []; each = tt; whole = refl } in
-    (codes "<?xml", spaced n (codes "<?xml") b e, (codes "<?xml", unmarked, record { word = codes "<?xml"; rest = []; same = refl; whole = refl }))
+spaced_xml n b e = tagged_xml b (codes "<?xml") (spaced n (codes "<?xml") b e) (unskipped (codes "<?xml"))
 
 pub marked_xml : (n : ℕ) (b : List ℕ) → b ≡ behind n wide_mark (codes "<?xml") → IsXml b
-marked_xml n b e =
-    let unspaced : SkipsTo IsSpace b b = record { words = []; each = tt; whole = refl } in
-    let marked = skips IsMark n wide_mark (codes "<?xml") b (inr (inl refl)) e in
-    (b, unspaced, (codes "<?xml", marked, record { word = codes "<?xml"; rest = []; same = refl; whole = refl }))
+marked_xml n b e = tagged_xml b b (unskipped b) (skips IsMark n wide_mark (codes "<?xml") b (inr (inl refl)) e)
 
 -- a byte that is "<" in some case
 abbrev is_opening : ℕ → Bool
@@ -57,13 +60,8 @@ opens : (front word rest b : List ℕ) → b ≡ front ++ (word ++ rest) → get
 opens front [] rest b e first = absurd (cc)
 opens front (x ∷ word) rest b e first = grind (arith, or_left (is_opening x) (list_any is_opening (word ++ rest)) (eq-eqb (to_ascii_lowercase x) 0x3C first), eq-eqb (to_ascii_lowercase x) 0x3C first, list_any-append is_opening front (x ∷ word ++ rest), or_right (list_any is_opening front))
 
-abbrev is_tag : List ℕ → Bool
-is_tag t = eqb (get_or (map to_ascii_lowercase t) 0 0) 0x3C
-
 pub html_opens : (b : List ℕ) → IsHtml b → IsTrue (list_any is_opening b)
-html_opens b (text, skips, (k, tag, l, e, h)) =
-    let first = eqb-true _ _ (subst (λ t. IsTrue (is_tag t)) e (AllPass-from_list_all is_tag tags refl k tag l)) in
-    opens (concat skips.words) h.word (h.end ∷ h.rest) b (cc) (ap (λ u. get_or u 0 0) h.same ∙ first)
+html_opens b (text, skips, (k, tag, l, e, h)) = grind (arith, eqb-true, AllPass-from_list_all, opens, skips)
 
 pub xml_opens : (b : List ℕ) → IsXml b → IsTrue (list_any is_opening b)
 xml_opens b (marked, spaces, (text, marks, h)) =
@@ -77,14 +75,7 @@ stands_whole text = OccursAt-begins text text [] (sym (append-nil text))
 
 pub framed_behind : ByPlace → (n : ℕ) (magic b : List ℕ) → b ≡ behind n long_frame magic → IsFramed magic b
 unfolding le32 stands
-framed_behind by_place n magic b e = (
-  magic,
-  skips IsFrame n long_frame magic b (record {
-    begins = record { low = lit≤ tt; high = lit≤ tt; mark = Place.found by_place (0x2A ∷ 0x4D ∷ 0x18 ∷ []) long_frame 1 refl };
-    sized = refl;
-  }) e,
-  stands_whole magic,
-)
+framed_behind by_place n magic b e = grind (arith, skips, stands_whole)
 
 le32-front : (b front rest : List ℕ) → b ≡ front ++ rest → 8 ≤ length front → le32 b 4 ≡ le32 front 4
 unfolding le32
@@ -94,12 +85,7 @@ le32-front b front rest e long = omega (arith, front_reads 0 b front rest e)
 pub begins_framed : (magic b : List ℕ) (words : List (List ℕ)) (rest : List ℕ) → AllByRecursion IsFrame words
     → b ≡ concat words ++ (magic ++ rest) → (take (length magic) b ≡ magic) ⊎ (8 + le32 b 4 ≤ length b)
 begins_framed magic b [] rest each whole = inl (ap (take (length magic)) whole ∙ take_at magic rest (length magic) refl)
-begins_framed magic b (w ∷ words) rest each whole =
-    let sized : length w ≡ 8 + le32 w 4 = each.0.sized in
-    let split : b ≡ w ++ (concat words ++ (magic ++ rest)) = whole ∙ append_assoc w (concat words) (magic ++ rest) in
-    let same = le32-front b w (concat words ++ (magic ++ rest)) split (omega arith) in
-    let long = front_fits b w (concat words ++ (magic ++ rest)) split in
-    inr (omega arith)
+begins_framed magic b (w ∷ words) rest each whole = grind (arith, append_assoc, le32-front, front_fits)
 
 module _ (by_place : ByPlace) (b : List ℕ) where
   abbrev pub occurs : (p : ℕ) (t : List ℕ) → Known (OccursAt b t p)

@@ -1,14 +1,13 @@
 -- With each byte that a row allows first begins a buffer that it accepts.
-use Rattle.infer.proofs.Common.{◌≡◌, ◌≤◌, ◌<◌, ◌+◌, ◌*◌, ◌⊎◌, inl, inr, ℕ, List, [], ◌∷◌, ◌++◌, length, drop, IsTrue, Option, None, Some, MatchOption, refl, ap, sym, subst, codes, arith, rules, length-append, All, replicate, slice_get, option_map_or, eqb-true, nat_tests, length-replicate, All-append, All-replicate, IsBoxed, OccursAt, IsFrame, IsFramed, SkipsTo, le16, le32, be32, are_bytes, MayBecome, IsHtml, IsMark, IsSpace, IsWhite, IsXml, is_sound, Alternative, stands, BuiltIn, fixed, avif, doc, framed, heif, html, matroska, office, pdf, ppt, xls, xml, IsAccepted, AllowsExactly, MayBecomeRow, Leads, allows_first, Row, sample_of, signature_of, table, ROW_COUNT}
+use Rattle.infer.proofs.Common.{◌↔◌, ◌≡◌, ◌≤◌, ◌<◌, ◌+◌, ◌*◌, ◌⊎◌, inl, inr, ℕ, List, [], ◌∷◌, ◌++◌, length, drop, IsTrue, Option, Some, MatchOption, refl, ap, codes, arith, rules, length-append, All, replicate, slice_get, eqb-true, nat_tests, length-replicate, All-append, All-replicate, IsBoxed, OccursAt, IsFrame, IsFramed, SkipsTo, le16, le32, be32, are_bytes, MayBecome, IsHtml, IsMark, IsSpace, IsWhite, IsXml, is_sound, Alternative, stands, BuiltIn, fixed, avif, doc, framed, heif, html, matroska, office, pdf, ppt, xls, xml, IsAccepted, AllowsExactly, MayBecomeRow, Leads, allows_first, Row, sample_of, signature_of, table, ROW_COUNT}
+use Rattle.std.proofs.lemmas.Option.{slice_get_within}
 use Rattle.infer_deep.proofs.OpenLemmas.{bytes_from_test}
 use Rattle.infer_sig.specs.Open as Fixed
-use Rattle.infer.proofs.CandidateLemmas.{read_has}
-use Rattle.infer.proofs.DecisionLemmas.{known, spaced_html, spaced_xml, stands_whole}
-use Rattle.infer.proofs.KnownLemmas.{Known, proved, unknown, is, is_proved, proof_of, proved_if, takes, ◌>>=◌}
+use Rattle.infer.proofs.DecisionLemmas.{known, spaced_html, spaced_xml, stands_whole, tagged_xml, unskipped}
+use Rattle.infer.proofs.KnownLemmas.{Known, proved, unknown, is, each_known, proved_if, takes, ◌>>=◌}
 use Rattle.infer.proofs.PlaceLemmas.{ByPlace}
 use Rattle.infer.proofs.PlaceLemmas as Place
 use Rattle.infer.proofs.TableLemmas.{length-table}
-use Rattle.infer.proofs.TestLemmas.{NoneRefused, passed}
 
 abbrev Begins : BuiltIn → Type 0
 Begins s = (f : ℕ) → f < 256 → IsTrue (allows_first s f) → MayBecome (IsAccepted s) (f ∷ [])
@@ -35,9 +34,7 @@ xml_before f b white (marked, spaces, text) = (marked, spaced_before f b marked 
 
 marked_before : (mark : List ℕ) → IsMark mark → IsXml (mark ++ codes "<?xml")
 marked_before mark kind =
-    let unspaced : SkipsTo IsSpace (mark ++ codes "<?xml") (mark ++ codes "<?xml") = record { words = []; each = tt; whole = refl } in
-    let marks : SkipsTo IsMark (mark ++ codes "<?xml") (codes "<?xml") = record { words = mark ∷ []; each = (kind, tt); whole = search rules } in
-    (mark ++ codes "<?xml", unspaced, (codes "<?xml", marks, record { word = codes "<?xml"; rest = []; same = refl; whole = refl }))
+    tagged_xml (mark ++ codes "<?xml") _ (unskipped _) (record { words = mark ∷ []; each = (kind, tt); whole = search rules })
 
 html_begins : Begins html
 html_begins f lt h = grind (arith, nat_tests, bytes_from_test (codes "<P>") refl, html_before f (codes "<P>"), spaced_html 0 (codes "<P>") refl, bytes_from_test (codes "P>") refl)
@@ -68,8 +65,8 @@ module _ (by_place : ByPlace) where
       let byte : (f ≡ x) ⊎ ((0x50 ≤ f) × (f ≤ 0x5F)) = grind (arith, nat_tests) in
       elim byte [
         | inl e ↦
-            let skips : SkipsTo IsFrame (x ∷ magic) (x ∷ magic) = record { words = []; each = tt; whole = refl } in
-            (magic, bytes_from_test magic bytes, subst (λ y. IsFramed (x ∷ magic) (y ∷ magic)) (sym e) (x ∷ magic, skips, stands_whole (x ∷ magic)))
+            let framed_so : IsFramed (x ∷ magic) (x ∷ magic) = (x ∷ magic, unskipped (x ∷ magic), stands_whole (x ∷ magic)) in
+            (magic, bytes_from_test magic bytes, rw e framed_so)
         | inr range ↦
             let frame : List ℕ = f ∷ 0x2A ∷ 0x4D ∷ 0x18 ∷ 0x00 ∷ 0x00 ∷ 0x00 ∷ 0x00 ∷ [] in
             let is_frame : IsFrame frame = record {
@@ -138,27 +135,15 @@ module _ (by_place : ByPlace) (begins : (s : List Alternative) → IsTrue (is_so
   known_begins html = proved html_begins
   known_begins xml = proved xml_begins
 
-  all_begin : NoneRefused (λ i. is_proved (known_begins (signature_of i))) ROW_COUNT 0 8
-  unfolding signature_of table stands le16 le32 be32
-  all_begin = (refl, (refl, (refl, (refl, (refl, (refl, (refl, (refl, tt))))))))
-
   row_begins : (i : ℕ) → i < ROW_COUNT → Begins (signature_of i)
-  row_begins i lt = proof_of (known_begins (signature_of i)) (passed (λ j. is_proved (known_begins (signature_of j))) ROW_COUNT 8 all_begin (omega arith) i lt)
+  unfolding signature_of table stands le16 le32 be32
+  row_begins = each_known (λ i. known_begins (signature_of i)) ROW_COUNT 8 (refl, (refl, (refl, (refl, (refl, (refl, (refl, (refl, tt)))))))) (omega arith)
 
-  may_accept_first : (f : ℕ) → f < 256 → (o : Option (Row BuiltIn)) → Begins (option_map_or (λ r. r.signature) o (fixed []))
-      → MatchOption o ⊥ (λ r. IsTrue (allows_first r.signature f)) → MatchOption o ⊥ (MayBecomeRow (f ∷ []))
-  may_accept_first f lt None begins_so h = h
-  may_accept_first f lt (Some r) begins_so h = begins_so f lt h
-
-  allows_what_comes : ((s : BuiltIn) → Leads s) → (f : ℕ) (o : Option (Row BuiltIn))
-      → MatchOption o ⊥ (MayBecomeRow (f ∷ [])) → MatchOption o ⊥ (λ r. IsTrue (allows_first r.signature f))
-  allows_what_comes leads f h2 h3 = grind (arith, nat_tests)
+  allows_at : ((s : BuiltIn) → Leads s) → (f : ℕ) → f < 256 → (o : Option (Row BuiltIn)) → ((r : Row BuiltIn) → o ≡ Some r → Begins r.signature)
+      → MatchOption o ⊥ (λ r. IsTrue (allows_first r.signature f)) ↔ MatchOption o ⊥ (MayBecomeRow (f ∷ []))
+  allows_at leads f lt o begins_so = grind (arith)
 
   pub allows_exactly : ((s : BuiltIn) → Leads s) → AllowsExactly
   unfolding signature_of
-  allows_exactly leads f i lt = (
-    λ h.
-        let at = (read_has (λ r. IsTrue (allows_first r.signature f)) table i).0 h in
-        may_accept_first f lt (slice_get table i) (row_begins i (omega (arith, at.0, length-table))) h,
-    allows_what_comes leads f (slice_get table i),
-  )
+  allows_exactly leads f i lt =
+      allows_at leads f lt (slice_get table i) (λ r e. rw e at (row_begins i (omega (arith, length-table, slice_get_within table i r e))))

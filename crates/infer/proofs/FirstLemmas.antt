@@ -30,3 +30,5 @@ same_answer P (r ∷ rows) (Some t) (Some u) (i, first, shown) (j, then, shows) 
 
 pub readers_alike : {X : Type 0} {g : Contracts X} (all : List (Row (Signature X g))) → ReadersAreAlike all
 readers_alike all n s t h4 h5 same h k = grind (arith, same_answer)
+
+pub ruleset one_first = (IsFirstOf-same)

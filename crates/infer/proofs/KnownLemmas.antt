@@ -1,5 +1,6 @@
 -- What a computation says of a claim: a proof of it, a proof that it fails, or nothing.
-use Rattle.infer.proofs.Common.{◌≡◌, ◌≤◌, ◌⊎◌, inl, inr, ℕ, Bool, true, false, List, eqb, leb, IsTrue, refl, length, take, arith, Decides, AllWithin, list_all, bytes_eq, leb-true, le-leb, Decides-eqb, not_from_Decides, get_or-take, length-take-le, AllPass-from_list_all, bytes_eq-Decides}
+use Rattle.infer.proofs.Common.{◌*◌, ◌<◌, ◌≡◌, ◌≤◌, ◌⊎◌, inl, inr, ℕ, Bool, true, false, List, eqb, leb, IsTrue, refl, length, take, arith, Decides, AllWithin, list_all, bytes_eq, leb-true, le-leb, Decides-eqb, not_from_Decides, get_or-take, length-take-le, AllPass-from_list_all, bytes_eq-Decides}
+use Rattle.infer.proofs.TestLemmas.{NoneRefused, passed}
 
 pub data Known (P : Type 0) : Type 0 where
   proved : P → Known P
@@ -12,8 +13,7 @@ module _ {P : Type 0} where
   is_proved k = false
 
   pub proof_of : (k : Known P) → IsTrue (is_proved k) → P
-  proof_of (proved h) e = h
-  proof_of k e = absurd (cc)
+  proof_of k e = grind (arith)
 
   -- by a test that is enough for the claim, or against it, or that decides it
   abbrev pub proved_if : (r : Bool) → (IsTrue r → P) → Known P
@@ -62,6 +62,10 @@ module _ {P Q : Type 0} where
   either k (proved q) = proved (inr q)
   either (refuted h) (refuted g) = refuted (λ s. elim s [ inl p ↦ h p | inr q ↦ g q ])
   either h k = unknown
+
+-- a claim of each number below n, of which so many sixteens are looked at
+pub each_known : {P : ℕ → Type 0} (k : (i : ℕ) → Known (P i)) (n m : ℕ) → NoneRefused (λ i. is_proved (k i)) n 0 m → n ≤ 16 * m → (i : ℕ) → i < n → P i
+each_known k n m all enough i lt = proof_of (k i) (passed (λ j. is_proved (k j)) n m all enough i lt)
 
 -- a claim of each of the first n elements
 module _ {X : Type 0} {P : X → Type 0} (k : (x : X) → Known (P x)) (xs : List X) (n : ℕ) (within : n ≤ length xs) where

@@ -2,12 +2,11 @@
 use Rattle.infer.proofs.Common.{accepts, IsAccepted, ◌≡◌, ◌<◌, ℕ, List, length, get_or, refl, ◌⊎◌, sym, ◌∙◌, arith, IsTrue, Alternative, BuiltIn, fixed, avif, doc, framed, heif, html, matroska, office, pdf, ppt, xls, xml, signatures, is_far_row, Lasts, IsNear, OthersAreNear, signature_of, table, MATCHER_COUNT}
 use Rattle.infer_sig.specs.Laws as Fixed
 use Rattle.infer_deep.specs.Laws as Deep
-use Rattle.infer.proofs.KnownLemmas.{Known, proved, unknown, is, either, is_proved, proof_of, proved_if}
-use Rattle.infer.proofs.TestLemmas.{NoneRefused, passed}
+use Rattle.infer.proofs.KnownLemmas.{Known, proved, unknown, is, either, each_known, proved_if}
 
-pub length-signatures : length signatures ≡ MATCHER_COUNT
+pub length_signatures : length signatures ≡ MATCHER_COUNT
 unfolding signatures table
-length-signatures = refl
+length_signatures = refl
 
 pub every_lasts : ((s : List Alternative) → Lasts (λ b. IsTrue (accepts s b))) → Deep.Growth → (s : BuiltIn) → Lasts (IsAccepted s)
 every_lasts fixed_last deep_last (fixed alternatives) = fixed_last alternatives
@@ -36,12 +35,9 @@ module _ (fixed_near : (n : ℕ) (s : List Alternative) → IsTrue (Fixed.is_wit
   abbrev is_decided : (d : BuiltIn) (m : ℕ) → Known (IsTrue (is_far_row m) ⊎ IsNear (IsAccepted (get_or signatures m d)))
   is_decided d m = either (is (is_far_row m)) (known_near (get_or signatures m d))
 
-  all_decided : (d : BuiltIn) → NoneRefused (λ m. is_proved (is_decided d m)) MATCHER_COUNT 0 8
+  all_decided : (d : BuiltIn) (m : ℕ) → m < MATCHER_COUNT → IsTrue (is_far_row m) ⊎ IsNear (IsAccepted (get_or signatures m d))
   unfolding signatures table is_far_row signature_of
-  all_decided d = (refl, (refl, (refl, (refl, (refl, (refl, (refl, (refl, tt))))))))
+  all_decided d = each_known (is_decided d) MATCHER_COUNT 8 (refl, (refl, (refl, (refl, (refl, (refl, (refl, (refl, tt)))))))) (omega arith)
 
   pub others_near : OthersAreNear signatures
-  others_near m lt out d =
-      let below : m < MATCHER_COUNT = omega (arith, lt, length-signatures) in
-      let known = proof_of (is_decided d m) (passed (λ j. is_proved (is_decided d j)) MATCHER_COUNT 8 (all_decided d) (omega arith) m below) in
-      grind arith
+  others_near m lt out d = let known = all_decided d m (omega (arith, lt, length_signatures)) in grind arith

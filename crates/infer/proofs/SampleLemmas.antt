@@ -1,13 +1,12 @@
 -- Each built-in row but two is first for its sample.
-use Rattle.infer.proofs.Common.{◌≡◌, ◌≢◌, ◌<◌, ◌-◌, ◌⊎◌, ℕ, List, Some, map, get_or, length, sym, ap, take, refl, subst, ◌∙◌, arith, HoldsAt, length-map, take_at, le16, le32, be32, stands, BuiltIn, IsFirst, Row, Accepts, buffer_listed, HoldsSample, padded, sample_of, zeros, table, DLL, EPUB_ARCHIVE, ROW_COUNT}
+use Rattle.infer.proofs.Common.{◌≡◌, ◌<◌, ◌-◌, ◌⊎◌, ℕ, List, Some, map, get_or, length, sym, ap, take, refl, subst, ◌∙◌, arith, HoldsAt, length-map, take_at, le16, le32, be32, stands, BuiltIn, IsFirst, Row, Accepts, buffer_listed, HoldsSample, padded, sample_of, zeros, table, DLL, EPUB_ARCHIVE, ROW_COUNT}
 use Rattle.std.proofs.lemmas.List.{get_or-map}
 use Rattle.infer.specs.declared.samples.TheConstants.{SAMPLE_SIZE}
 use Rattle.infer_deep.specs.Laws as Deep
 use Rattle.infer.specs.declared.table.rows.Pieces.{Pieces}
-use Rattle.infer.proofs.KnownLemmas.{Known, same, either, is_proved, proof_of}
+use Rattle.infer.proofs.KnownLemmas.{Known, same, either, each_known}
 use Rattle.infer.proofs.OrderLemmas.{known_first, some_row}
 use Rattle.infer.proofs.PlaceLemmas.{ByPlace}
-use Rattle.infer.proofs.TestLemmas.{NoneRefused, passed}
 use Rattle.infer.proofs.TableLemmas.{length-table}
 
 module _ (by_place : ByPlace) (exclude : Deep.Apart) (d : Row BuiltIn) where
@@ -15,14 +14,9 @@ module _ (by_place : ByPlace) (exclude : Deep.Apart) (d : Row BuiltIn) where
   abbrev reaches : (i : ℕ) → Known ((i ≡ DLL) ⊎ (i ≡ EPUB_ARCHIVE) ⊎ IsFirst (Accepts (sample_of (get_or table i d).signature)) table i)
   reaches i = either (same i DLL) (either (same i EPUB_ARCHIVE) (known_first by_place exclude d (Some i) (sample_of (get_or table i d).signature)))
 
-  all_reach : NoneRefused (λ i. is_proved (reaches i)) ROW_COUNT 0 8
+  pub all_reach : (i : ℕ) → i < ROW_COUNT → (i ≡ DLL) ⊎ (i ≡ EPUB_ARCHIVE) ⊎ IsFirst (Accepts (sample_of (get_or table i d).signature)) table i
   unfolding table stands le16 le32 be32
-  all_reach = (refl, (refl, (refl, (refl, (refl, (refl, (refl, (refl, tt))))))))
-
-  pub sample_first : (i : ℕ) → i < ROW_COUNT → i ≢ DLL → i ≢ EPUB_ARCHIVE
-      → IsFirst (Accepts (sample_of (get_or table i d).signature)) table i
-  sample_first i lt not_dll not_epub =
-      let known = proof_of (reaches i) (passed (λ j. is_proved (reaches j)) ROW_COUNT 8 all_reach (omega arith) i lt) in grind arith
+  all_reach = each_known reaches ROW_COUNT 8 (refl, (refl, (refl, (refl, (refl, (refl, (refl, (refl, tt)))))))) (omega arith)
 
 -- ---- the samples of the code
 

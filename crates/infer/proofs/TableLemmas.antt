@@ -5,6 +5,8 @@ pub length-table : length table ≡ ROW_COUNT
 unfolding table
 length-table = refl
 
+pub ruleset table_rows = (length-table)
+
 -- what no signature of no alternatives has, the signature of row i has just if the row is there and its own has it
 module _ (Q : BuiltIn → Type 0) (never : ¬ Q (fixed [])) where
   of_row : (o : Option (Row BuiltIn)) → Q (option_map_or (λ r. r.signature) o (fixed [])) ↔ MatchOption o ⊥ (λ r. Q r.signature)

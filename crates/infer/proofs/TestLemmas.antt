@@ -20,8 +20,7 @@ none_refused r i is e = grind arith
 module _ (test : ℕ → Bool) (n : ℕ) where
   all_pass : (is : List ℕ) → filter (λ i. not (passes test n i)) is ≡ [] → (k : ℕ) → k < length is → IsTrue (passes test n (get_or is k 0))
   all_pass [] none k lt = absurd (omega arith)
-  all_pass (i ∷ is) none zero lt = (none_refused (passes test n i) i _ none).0
-  all_pass (i ∷ is) none (suc k) lt = all_pass is (none_refused (passes test n i) i _ none).1 k (omega arith)
+  all_pass (i ∷ is) none k lt = let both = none_refused (passes test n i) i _ none in let rest = all_pass is both.1 in grind (arith)
 
   passed_from : (s k : ℕ) → NoneRefused test n s k → (i : ℕ) → s ≤ i → i < s + 16 * k → IsTrue (passes test n i)
   passed_from s zero none i low lt = absurd (omega arith)

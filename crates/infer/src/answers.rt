@@ -30,6 +30,7 @@ pub fn position(buf: &[u8]) -> Option<usize>
 }
 
 /// The type of the built-in row `i`, and `None` exactly from [`ROW_COUNT`] on.
+#[tactic(auto, using(std::proofs::lemmas::Bool::Decides::nat_tests))]
 pub fn row(i: usize) -> Option<FileType>
     ensures shows { option_map triple_of result ≡ option_map shows (slice_get table i) }
     ensures none { IsNone result ↔ (ROW_COUNT ≤ i) }

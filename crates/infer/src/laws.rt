@@ -61,6 +61,7 @@ pub fn distinct()
 
 /// A yes on the beginning of a buffer stays a yes: what one of the matchers accepts, it accepts however the
 /// buffer goes on.
+#[tactic(auto, using(crate::proofs::LawLemmas::every_lasts, crate::proofs::LawLemmas::length_signatures))]
 pub fn growth()
     ensures many { length signatures ≡ MATCHER_COUNT }
     ensures last { All (λ s. Lasts (IsAccepted s)) signatures }
@@ -73,6 +74,7 @@ pub fn growth()
 /// The first 1024 bytes decide: every matcher but those of the far rows answers on a buffer of at least 1024 bytes
 /// as on its first 1024. Far rows are those that have neither a list of bytes at fixed places nor a window, and these
 /// are their numbers.
+#[tactic(auto, using(crate::proofs::LawLemmas::others_near))]
 pub fn near()
     ensures others { OthersAreNear signatures }
     ensures twelve { filter is_far_row (range_with_len 0 ROW_COUNT)
@@ -113,6 +115,7 @@ pub fn arrival()
 }
 
 /// A buffer has one answer: two numbers that are its first row are the same.
+#[tactic(auto, using(crate::proofs::FirstLemmas::one_first))]
 pub fn single()
     ensures { (buf : List ℕ) (o p : Option ℕ) → IsFirstOf (Accepts buf) table o
         → IsFirstOf (Accepts buf) table p → o ≡ p }
@@ -129,6 +132,7 @@ pub fn decided()
 /// What is decided stays decided, whatever bytes follow. A row that may accept a buffer that has grown may accept it
 /// before. The first row that may accept a buffer may be its answer, by some bytes after it. And a row that may be its
 /// answer may accept it, and no row before it accepts it yet.
+#[tactic(auto, using(crate::proofs::DecidedLemmas::told_later))]
 pub fn later()
     ensures lasts { DecidedLasts }
     ensures narrows { ReachNarrows }
@@ -140,6 +144,7 @@ pub fn later()
 
 /// What the matcher's second function tells of a buffer, as `may_become_png` does, is that some bytes after it make the
 /// matcher accept: so of a fixed signature too, since the parts of each ascend, lie apart and are possible.
+#[tactic(auto, using(crate::proofs::DecidedLemmas::open_signatures))]
 pub fn open()
     ensures { All IsToldExactly signatures }
 {
@@ -148,6 +153,7 @@ pub fn open()
 
 /// Going through the candidates of a buffer finds the first row of the table that accepts it: so the rows that
 /// `position_counted` counts are all that `position` needs to ask.
+#[tactic(auto, using(crate::proofs::CandidateLemmas::walks_find_first))]
 pub fn walked()
     ensures { WalksFindFirst }
 {
@@ -156,6 +162,7 @@ pub fn walked()
 }
 
 /// A row is a candidate of a first byte exactly if some buffer that begins with the byte is one that the row accepts.
+#[tactic(auto, using(crate::proofs::FirstByteLemmas::allows_exactly))]
 pub fn candidates()
     ensures { AllowsExactly }
 {
@@ -165,6 +172,7 @@ pub fn candidates()
 }
 
 /// An `Infer` without rows of a caller answers as the built-in rows do.
+#[tactic(auto, using(crate::proofs::BuiltInLemmas::answers_as_built_in))]
 pub fn built_in<A: Allocator>(infer: &Infer<A>)
     requires { custom_rows infer.now ≡ [] }
     ensures { AnswersAsBuiltIn (rows infer.now) }
@@ -181,6 +189,7 @@ pub fn named<A: Allocator>(infer: &Infer<A>)
 
 /// Bytes after a buffer never make its first row a later one, if each function that was added keeps its yes
 /// as a buffer goes on. The built-in rows do.
+#[tactic(auto, using(crate::proofs::IndexLemmas::rows_keep, crate::proofs::IndexLemmas::steady))]
 pub fn index<A: Allocator>(infer: &Infer<A>)
     requires { All (λ r. AnyLasts r.signature) (custom_rows infer.now) }
     ensures { IsSteady (rows infer.now) }
@@ -191,6 +200,7 @@ pub fn index<A: Allocator>(infer: &Infer<A>)
 
 /// The first 1024 bytes decide, but for the far rows: if the answer of the built-in rows is none or another row,
 /// it is that of the first 1024 bytes. And after these an answer stays, or gives way to a far row.
+#[tactic(auto, using(crate::proofs::IndexLemmas::front_decides, crate::proofs::IndexLemmas::only_far_rows_follow))]
 pub fn front()
     ensures decides { FrontDecides }
     ensures follow { OnlyFarRowsFollow }
@@ -200,6 +210,7 @@ pub fn front()
 }
 
 /// Two buffers with the same first 1024 bytes have the same answer, unless the answer of one of them is a far row.
+#[tactic(auto, using(crate::proofs::IndexLemmas::answers_local))]
 pub fn locality()
     ensures { AnswersAreLocal }
 {
@@ -208,6 +219,7 @@ pub fn locality()
 }
 
 /// Two readers that have the same n bytes to give have the same answer within n bytes.
+#[tactic(auto, using(crate::proofs::FirstLemmas::readers_alike))]
 pub fn readers<A: Allocator>(infer: &Infer<A>)
     ensures { ReadersAreAlike (rows infer.now) }
 {
@@ -226,6 +238,7 @@ pub fn reach()
 /// Each far row is the first of some buffer whose first 1024 bytes have another answer. So is, for each
 /// beginning, the last row that is awaited after it, of a buffer whose first 1024 bytes begin so alone. And 1023 bytes
 /// that begin in none of these ways can get another answer by one byte more.
+#[tactic(auto, using(crate::proofs::BreakLemmas::broken, crate::proofs::BreakLemmas::by_one_byte))]
 pub fn breaks()
     ensures rows { (i : ℕ) → IsTrue (is_far_row i) → (buf : List ℕ) × Breaks 1024 i buf }
     ensures beginnings { (how : Beginning) → (buf : List ℕ) × Breaks 1024 (last_after how) buf

@@ -116,6 +116,7 @@ pub fn takes<Q: Question>(i: usize, question: &Q, buf: &[u8]) -> bool
 }
 
 /// Whether the row is one that the question asks for, and accepts `buf`.
+#[tactic(auto, unfolding(crate::specs::Table::signature_of))]
 #[inline(always)]
 pub fn takes_named<Q: Question>(row: RowName, question: &Q, buf: &[u8]) -> bool
     ensures { IsTrue result ↔ RowHas (Takes (Q.asked question.now) buf.now) (number_of row) }

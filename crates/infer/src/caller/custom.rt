@@ -29,6 +29,7 @@ impl CustomRow {
         }
     }
 
+    #[tactic(auto, using(crate::proofs::RowLemmas::settled_no))]
     pub fn accepts(&self, buf: &[u8]) -> bool
         ensures yes { OnTrue result (AnyAccepts buf.now (custom_row self.now)) }
         ensures no { OnFalse result (¬ AnyAccepts buf.now (custom_row self.now)) }

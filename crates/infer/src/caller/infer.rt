@@ -97,6 +97,7 @@ impl<A: Allocator> Infer<A> {
     }
 
     /// The type of the first row that accepts `buf`, and `None` exactly if no row accepts it.
+    #[tactic(auto, using(crate::proofs::RowLemmas::answer_right, crate::proofs::RowLemmas::answer_map))]
     pub fn get(&self, buf: &[u8]) -> Option<FileType>
         ensures { IsAnswer (AnyAccepts buf.now) (rows self.now) (option_map triple_of result) }
     {

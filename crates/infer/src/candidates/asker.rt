@@ -96,6 +96,7 @@ pub fn walk<A: Ask>(asker: &mut A, wanted: Option<&str>) -> Option<usize>
 }
 
 /// The first candidate that accepts the asker's buffer.
+#[tactic(auto, using(crate::proofs::AskLemmas::every_asked))]
 #[inline(always)]
 fn walk_every<A: Ask>(asker: &mut A) -> Option<usize>
     requires { A.has_asked asker.old [] }
@@ -115,6 +116,7 @@ fn walk_every<A: Ask>(asker: &mut A) -> Option<usize>
 
 /// The first candidate with this extension that accepts the asker's buffer. Only the rows in the text's slot are
 /// compared with it.
+#[tactic(auto, using(crate::proofs::AskLemmas::few_asked))]
 fn walk_extension<A: Ask>(asker: &mut A, extension: &str) -> Option<usize>
     requires { A.has_asked asker.old [] }
     ensures first { IsFirstAmong (RowHas
@@ -168,6 +170,7 @@ fn candidates_of<A: Ask>(asker: &A) -> &'static [usize]
 }
 
 /// What a [`walk`] about `buf` answers, and how many rows it asks.
+#[tactic(auto, using(crate::proofs::CandidateLemmas::first_of_buffer))]
 #[inline(always)]
 fn count(buf: &[u8], wanted: Option<&str>) -> (Option<usize>, u32)
     ensures first { IsFirstOf (Takes (HasGiven wanted.entry) buf.now) table result.0 }
@@ -185,6 +188,7 @@ fn count(buf: &[u8], wanted: Option<&str>) -> (Option<usize>, u32)
 
 /// The number of the first built-in row that accepts `buf`, as [`position`](crate::position) answers, and how many
 /// rows a [`walk`] asks for it: its candidates up to that row, all of them if no row accepts it.
+#[tactic(auto, using(crate::proofs::CandidateLemmas::first_of_every, crate::proofs::TableLemmas::table_rows))]
 pub fn position_counted(buf: &[u8]) -> (Option<usize>, u32)
     ensures first { IsFirstOf (Accepts buf.now) table result.0 }
     ensures bound { IfSome result.0 (λ i. i < ROW_COUNT) }
@@ -196,6 +200,7 @@ pub fn position_counted(buf: &[u8]) -> (Option<usize>, u32)
 
 /// Whether some built-in row with this extension accepts `buf`, as [`is`](crate::is) answers, and how many rows a
 /// [`walk`] asks for it: the candidates with the extension up to the first that accepts `buf`.
+#[tactic(auto, using(crate::proofs::CandidateLemmas::some_of_first))]
 pub fn is_counted(buf: &[u8], extension: &str) -> (bool, u32)
     ensures found { IsTrue result.0
         ↔ SomeBoth (HasExtension extension.now) (Accepts buf.now) table }

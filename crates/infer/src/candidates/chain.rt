@@ -123,6 +123,7 @@ impl<C: Chain> Chain for ThenOffice<C> {
 impl<const I: usize, const J: usize, S: Shared<I, J>, C: Chain> Chain for ThenTwo<I, J, S, C> {
     ghost rows = { λ s. I ∷ J ∷ C.rows s.1 };
 
+    #[tactic(auto, using(crate::proofs::CandidateLemmas::taken_alike), unfolding(crate::specs::Walks::IsFirstAmong))]
     #[inline(always)]
     fn first<Q: Question>(&self, question: &Q, buf: &[u8]) -> Option<usize> {
         let rest = self.0.after(question, buf);
@@ -171,6 +172,7 @@ impl<C: Chain> Chain for Whole<C> {
 
 impl<C: Chain> Whole<C> {
     /// The number of the first row, as [`Chain::first`] answers, and [`NO_ROW`] for none. A number takes one register.
+    #[tactic(auto, using(crate::proofs::CandidateLemmas::first_is_row, crate::proofs::CandidateLemmas::numbered_row))]
     #[inline(never)]
     pub fn number<Q: Question>(&self, question: &Q, buf: &[u8]) -> u32
         ensures { IsFirstAmong (RowHas (Takes (Q.asked question.now) buf.now)) (C.rows self.now.0)
@@ -212,6 +214,7 @@ impl Told for u32 {
 }
 
 /// The first row of Office in ZIP archives that accepts `buf`, of those that are asked for.
+#[tactic(auto, unfolding(crate::specs::Walks::IsFirstAmong, crate::specs::Table::table))]
 fn office_row<Q: Question>(question: &Q, buf: &[u8]) -> Option<usize>
     ensures { IsFirstAmong (RowHas (Takes (Q.asked question.now) buf.now))
         (DOCX ∷ XLSX ∷ PPTX ∷ []) result }

@@ -256,6 +256,7 @@ pub fn first_of_class<Q: Question>(arm: Arm, question: &Q, buf: &[u8]) -> Option
 }
 
 /// A buffer that a built-in signature accepts begins with a byte that the signature allows there.
+#[tactic(auto, using(crate::proofs::LeadLemmas::every_leads))]
 pub fn leads()
     ensures { (signature : BuiltIn) → Leads signature }
 {

@@ -6,6 +6,7 @@ ghost use Rattle.infer.specs.Slots.{HoldAsked, slot_of};
 use crate::table::rows::{RowName, extensions, mime_types};
 
 /// Rows, ascending, among which are all with this extension.
+#[tactic(auto, using(crate::proofs::SlotLemmas::asked_in_slot))]
 #[inline(always)]
 pub fn rows_for_extension(text: &[u8]) -> &'static [RowName]
     ensures { HoldAsked (λ t. t.extension ≡ text.now) (map number_of result.now) }
@@ -14,6 +15,7 @@ pub fn rows_for_extension(text: &[u8]) -> &'static [RowName]
 }
 
 /// Rows, ascending, among which are all with this MIME type.
+#[tactic(auto, using(crate::proofs::SlotLemmas::asked_in_slot))]
 #[inline(always)]
 pub fn rows_for_mime_type(text: &[u8]) -> &'static [RowName]
     ensures { HoldAsked (λ t. t.mime_type ≡ text.now) (map number_of result.now) }

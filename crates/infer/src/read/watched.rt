@@ -141,7 +141,7 @@ fn fill<R: Read, E: Enough>(
 }
 
 /// Reads at most `piece` bytes at a time until there are `limit` bytes, those read are enough or the reader ends. It
-/// reserves `limit` bytes first.
+/// reserves `limit` bytes first, and asks last about all that it read.
 pub fn read_until<A: Allocator, R: Read, E: Enough>(
     alloc: A,
     reader: &mut Watched<R>,

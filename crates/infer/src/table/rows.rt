@@ -434,6 +434,7 @@ pub const MATCHER_COUNT: usize = ROW_COUNT + 3;
 pub const MOST_CANDIDATES: usize = 25;
 
 /// The numbers that the names stand for.
+#[tactic(auto, using(crate::proofs::TableLemmas::table_rows))]
 pub fn numbers()
     ensures names { (ROW_COUNT ≡ 98) × (DLL ≡ 3) × (EPUB_ARCHIVE ≡ 66) × (MOST_CANDIDATES ≡ 25) }
     ensures bounds { (AVIF ≡ 27) × (PPT ≡ 61) × (PPTX ≡ 62) × (LZ4 ≡ 92) × (XML ≡ 96) }
@@ -520,6 +521,7 @@ pub(crate) fn name_at(i: usize) -> RowName
 }
 
 /// The built-in rows, in the order in which they are asked.
+#[tactic(auto, unfolding(crate::specs::Table::signature_of, crate::specs::Table::table))]
 pub(crate) fn rows() -> &'static [BuiltInRow]
     ensures listed { map row_listed result.now ≡ table }
     ensures many { length result.now ≡ ROW_COUNT }
@@ -537,6 +539,7 @@ pub(crate) fn row_at(i: usize) -> &'static BuiltInRow
 }
 
 /// The samples, in the order of the rows.
+#[tactic(auto, unfolding(crate::specs::Table::table))]
 pub(crate) fn samples() -> &'static [Pieces; ROW_COUNT]
     ensures buffers { map buffer_listed result.now ≡ map padded table }
     ensures lengths { map (λ s. s.len) result.now

@@ -1,5 +1,6 @@
-use Rattle.infer.proofs.SampleLemmas.{sample_first}
+use Rattle.infer.proofs.Common.{arith}
+use Rattle.infer.proofs.SampleLemmas.{all_reach}
 use Rattle.infer.proofs.laws.reach.Goals as goal
 
 pub returns : goal.returns
-returns c = λ i lt not_dll not_epub d. sample_first c.by_place.ensures c.apart.ensures d i lt not_dll not_epub
+returns c = λ i lt not_dll not_epub d. let known = all_reach c.by_place.ensures c.apart.ensures d i lt in grind arith

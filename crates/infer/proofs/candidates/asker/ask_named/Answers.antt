@@ -1,4 +1,4 @@
-use Rattle.infer.proofs.Common.{◌∙◌, ap, subst, sym, List, ℕ, number_of, HasExtension, Accepts, RowHas, is_listed}
+use Rattle.infer.proofs.Common.{◌∙◌, Accepts, HasExtension, number_of}
 use Rattle.infer.proofs.SlotLemmas.{accepted_listed, takes_both}
 use Rattle.infer.proofs.candidates.asker.ask_named.Goals.{then-is_asked, else-is_asked}
 use Rattle.infer.proofs.candidates.asker.ask_named.Goals as goal
@@ -8,13 +8,9 @@ pub returns-else-contains-clause-answer : goal.returns-else-contains-clause-answ
 returns-else-contains-clause-answer g c = (
   λ t. absurd (cc),
   λ h.
-      let b = g.A.Ask.buffer c.args.asker.now in
-      let i = number_of c.args.row in
-      let both = takes_both (HasExtension c.args.extension.now) (Accepts b) i h in
+      let both = takes_both (HasExtension c.args.extension.now) (Accepts (g.A.Ask.buffer c.args.asker.now)) (number_of c.args.row) h in
       elim c.if-is_asked.branch [
-        | then-is_asked w ↦
-            w.value-is ∙ w.contains.ensures.value ∙ ap (λ cs. is_listed cs i) c.requires.all ∙ accepted_listed c.leads.ensures c.blank.ensures b i both.1
-        | else-is_asked w ↦
-            w.value-is ∙ c.is_asked.ensures.1 (subst (λ (t : List ℕ). RowHas (HasExtension t) i) (sym c.as_bytes.ensures.value) both.0)
+        | then-is_asked w ↦ w.value-is ∙ w.contains.ensures.value ∙ accepted_listed c.leads.ensures c.blank.ensures _ _ c.requires.all _ both.1
+        | else-is_asked w ↦ w.value-is ∙ (rw c.as_bytes.ensures.value at c.is_asked.ensures).1 both.0
       ],
 )

@@ -1,11 +1,12 @@
-use Rattle.infer.proofs.Common.{rules, tests, YieldsList-from_slice, cases_from_any, IsAsked, AnyAccepts, custom_row, custom_rows}
+use Rattle.infer.proofs.Common.{rules, tests, YieldsList-from_slice, cases_from_any, IsAsked, AnyAccepts, custom_row}
 use Rattle.infer.proofs.ListLemmas.{some_of_any}
 use Rattle.infer.proofs.caller.infer.Infer.custom_some.Goals as goal
 
 pub returns : goal.returns
 returns g c =
-    some_of_any custom_row (λ r. IsAsked (g.Q.Question.asked c.args.question.now) r × AnyAccepts c.args.buf.now r) c.custom.result.now (custom_rows c.args.self.now)
-    c.custom.ensures c.any.result
-    (cases_from_any _ _ c.any.result (λ r. IsAsked (g.Q.Question.asked c.args.question.now) (custom_row r) × AnyAccepts c.args.buf.now (custom_row r))
-    (λ r. ¬ (IsAsked (g.Q.Question.asked c.args.question.now) (custom_row r) × AnyAccepts c.args.buf.now (custom_row r))) c.any.ensures.ran
-    (YieldsList-from_slice c.custom.result.now c.iter.ensures.rest) (λ x q k. search (rules, tests)) (λ x q k. search (rules, tests)))
+    let asked = g.Q.Question.asked c.args.question.now in
+    let accepts = AnyAccepts c.args.buf.now in
+    some_of_any custom_row (λ r. IsAsked asked r × accepts r) _ _ c.custom.ensures _
+    (cases_from_any _ _ _ (λ r. IsAsked asked (custom_row r) × accepts (custom_row r))
+    (λ r. ¬ (IsAsked asked (custom_row r) × accepts (custom_row r))) c.any.ensures.ran
+    (YieldsList-from_slice _ c.iter.ensures.rest) (λ x q k. search (rules, tests)) (λ x q k. search (rules, tests)))
