@@ -20,6 +20,6 @@ pub fn position_settled(buf: &[u8]) -> (Option<usize>, bool)
     rows::numbers();
     laws::growth();
     laws::arrival();
-    let place = position(buf);
-    (place, is_settled(buf, place))
+    let first = position(buf);
+    (first, is_settled(buf, first))
 }

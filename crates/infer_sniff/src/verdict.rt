@@ -46,8 +46,8 @@ pub fn verdict_of(buf: &[u8]) -> Verdict
     rows::numbers();
     laws::growth();
     laws::arrival();
-    let (place, answer) = first_of(buf);
-    if is_settled(buf, place) {
+    let (first, answer) = first_of(buf);
+    if is_settled(buf, first) {
         Verdict::Final(answer)
     } else {
         Verdict::SoFar(answer)
@@ -72,20 +72,20 @@ fn first_of(buf: &[u8]) -> (Option<usize>, Option<Type>)
     ensures tells { IsTypeOf buf.now result.1 }
 {
     match position(buf) {
-        Some(place) => (Some(place), row(place)),
+        Some(number) => (Some(number), row(number)),
         None => (None, None),
     }
 }
 
-/// Whether the verdict of `buf`, whose first row is `place`, is final. Then nothing after `buf` changes that row.
-pub fn is_settled(buf: &[u8], place: Option<usize>) -> bool
-    requires { IsFirstOf (Accepts buf.now) table place }
+/// Whether the verdict of `buf`, whose first row is `first`, is final. Then nothing after `buf` changes that row.
+pub fn is_settled(buf: &[u8], first: Option<usize>) -> bool
+    requires { IsFirstOf (Accepts buf.now) table first }
     ensures { IsTrue result ↔ IsSettled buf.now }
 {
     if buf.len() < LEAST {
         return false;
     }
-    match (Beginning::of(buf), place) {
+    match (Beginning::of(buf), first) {
         (None, _) => true,
         (Some(_), None) => false,
         (Some(beginning), Some(found)) => found <= beginning.last_after(),
