@@ -40,7 +40,7 @@ fills f bytes b n =
           get_or-append_right b more k 0 low ∙ read (k - start) (omega arith) ∙ ap f same;
     }
 
--- the same with the bytes of a text, and one byte past its end
+-- a buffer may have the bytes of a text from there on, and one byte past its end
 pub fills_list : (xs : List ℕ) (d : ℕ) → IsTrue (are_bytes xs) → d < 256 → (b : List ℕ) (n : ℕ) → Filled (λ k. get_or xs k d) b n
 fills_list xs d bytes small b n = fills (λ k. get_or xs k d) each b n
   where

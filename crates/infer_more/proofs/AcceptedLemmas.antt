@@ -53,7 +53,7 @@ module _ (b : List ℕ) where
     ]
   ]
 
--- the same of names
+-- a name is among names, as the code and the definition list them
 module _ (name : List ℕ) where
   abbrev Among : List (Bor (List ℕ)) → Type 0
   Among xs = IsOneOf name (map (λ x. x.now) xs)

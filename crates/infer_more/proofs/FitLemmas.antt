@@ -513,7 +513,7 @@ module _ (by_place : ByPlace) (inside : Inside.Leads) (single : Inside.Single) (
     ends ← takes (either (same (slice_index b name_end) 0x3E) (same (slice_index b name_end) 0x20))
     proved (is_root opening name_end unmarked prolog opens (letters_from b (opening + 1)) (omega arith) (omega arith) ends)
 
-  -- the same, by a name
+  -- whether the root has the name
   abbrev rooted_so : (name : List ℕ) → Known (IsRootElement name (drop name_end b) b)
   rooted_so name = do
     own ← takes own_root

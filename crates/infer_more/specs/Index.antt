@@ -238,7 +238,7 @@ is_tried_parentless index i a =
     is_tested (λ x. is_met i a (entries_at index.first.now x) 0 x) 0 a
     || (is_guarded i a index.guards.now || (is_gated i a index.gate || is_ranged i a index.ranges.now))
 
--- the same bytes
+-- two texts have the same bytes
 abbrev pub same : List ℕ → List ℕ → Bool
 same [] [] = true
 same [] (y ∷ ys) = false

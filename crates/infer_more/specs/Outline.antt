@@ -16,7 +16,7 @@ abbrev pub counted : ℕ → List fixed.Alternative
 counted place =
     at_least 30 (text 0 zip_header ∷ byte place (all_but 0x00) ∷ []) ∷ at_least 30 (text 0 zip_header ∷ byte (place + 1) (all_but 0x00) ∷ []) ∷ []
 
--- the same, and any if the text, which the number counts, is empty
+-- one whose number in the two bytes at the place is not 0, or any if the text that it counts is empty
 abbrev pub counted_for : List ℕ → ℕ → List fixed.Alternative
 counted_for [] place = at_least 30 (text 0 zip_header ∷ []) ∷ []
 counted_for (x ∷ t) place = counted place

@@ -9,7 +9,7 @@ use crate::signature;
 use crate::signature::ANY;
 use crate::table::{FurtherRow, row_at};
 
-/// Row `ROW`, whose place the compiler computes: a function of its own, so that it does so before the row is read.
+/// Row `ROW`, whose address the compiler computes: a function of its own, so that it does so before the row is read.
 fn row_of<const ROW: usize>() -> Option<&'static FurtherRow>
     ensures listed { option_map (λ row. row_listed row.now) result ≡ slice_get further ROW }
     ensures closed { IfSome result (λ row. IsTrue (is_row_closed (row_listed row.now))) }

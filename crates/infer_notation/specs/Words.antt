@@ -83,7 +83,7 @@ first_passes test (x ∷ xs) = test x
 abbrev pub hex_seen : List ℕ → List ℕ → Hex
 hex_seen buf xs = record { count = length xs; stands = starts_with nat_eq buf xs; has = first_passes (allows (any_of xs)) buf }
 
--- the same with what was read before them, behind which `left` follows in the buffer
+-- what a buffer makes of bytes behind those that were read, after which `left` follows in the buffer
 abbrev pub hex_joined : Hex → List ℕ → List ℕ → List ℕ → Hex
 hex_joined read left buf xs = record {
   count = read.count + length xs;
