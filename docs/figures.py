@@ -55,6 +55,7 @@ TIMED = [
     ("README.md", r"jpg`\s+after", "rt try"),
     ("README.md", r"before\s+it\s+builds\s+them:", "rt run"),
     ("README.md", r"tests\s+everything,\s+in", ".ci/run"),
+    ("docs/ADDING_A_TYPE.md", r"first\s+`rt\s+check`\s+takes", "rt check"),
 ]
 TIME = r"\d+\s+processor\s+(?:seconds|minutes),\s+\d+\s+(?:seconds|minutes)\s+on\s+\w+\s+cores"
 
