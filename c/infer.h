@@ -88,9 +88,10 @@ bool infer_is_decided(const void *buf, size_t len);
  * answer moves only to rows before that of infer_position, or to any row if that is -1. */
 bool infer_may_become(const void *buf, size_t len, int32_t row);
 
-/* The same of the wider answer, and of every row: whether no bytes that may follow can change what infer_more_position
- * answers, and whether some that may follow make that row, built-in or further, accept the buffer. The parent of a
- * further row is not asked. */
+/* The same of the wider answer, and of every row, built-in or further: true of the first promises that no bytes that may
+ * follow change what infer_more_position answers, and false of the second that none make that row accept the buffer. The
+ * other way round both may err, but not of rows that ask for bytes at fixed places. The parent of a further row is not
+ * asked. */
 bool infer_more_is_decided(const void *buf, size_t len);
 bool infer_more_may_become(const void *buf, size_t len, int32_t row);
 

@@ -1,5 +1,6 @@
-/* Says of each buffer of a pack, two bytes of its length and then its bytes, which of some rows accept it and how it is
- * encoded: a line with a digit a row, and the name. usage: asked ROW.. < PACK */
+/* Says of each buffer of a pack, two bytes of its length and then its bytes, which of some rows accept it, whether its
+ * wider answer is decided, which that is, and how it is encoded: a line with a digit a row, a digit, a number and the name.
+ * usage: asked ROW.. < PACK */
 #include "infer.h"
 #include <stdio.h>
 #include <stdlib.h>
@@ -14,7 +15,7 @@ int main(int argc, char **argv) {
         for (int i = 1; i < argc; i++)
             putchar(infer_accepts(buf, len, (int32_t)atoi(argv[i])) ? '1' : '0');
         infer_encoding(buf, len, name, sizeof name);
-        printf(" %s\n", name);
+        printf(" %d %d %s\n", infer_more_is_decided(buf, len), (int)infer_more_position(buf, len), name);
     }
     return 0;
 }

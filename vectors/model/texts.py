@@ -246,6 +246,12 @@ def row_number(name):
         return next(count + i for i, row in enumerate(rows) if row.split("\t")[2:4] == [name, "none"])
 
 
+def fields(line):
+    """Which rows accept a buffer, and how it is encoded."""
+    rows, _, _, name = line.split(" ", 3)
+    return rows, name
+
+
 def main():
     program, count = sys.argv[1], int(sys.argv[2]) if len(sys.argv) > 2 else 100_000
     rng = random.Random(SEED)
@@ -261,7 +267,7 @@ def main():
     ]
     differing = 0
     for (kind, _), its, pair in zip(kinds, buffers, answers):
-        wrong = [buf for buf in its for wanted, told in [pair(buf, *next(said).split(" ", 1))] if wanted != told]
+        wrong = [buf for buf in its for wanted, told in [pair(buf, *fields(next(said)))] if wanted != told]
         print(f"{kind}: {count} buffers by Python, {len(wrong)} differ" + "".join(f", as {it!r}" for it in wrong[:3]))
         differing += len(wrong)
     return 1 if differing else 0

@@ -2,7 +2,7 @@
 //! them. A text from C is bytes: one that is not UTF-8 is no row's text.
 #![tactic(auto)]
 
-ghost use Rattle.std.specs.Prelude.{◌≡◌, ◌↔◌, ◌+◌, ◌≤◌, ℕ, List, Option, None, Some, [], IsTrue, codes, is_some, length, negsuc, pos};
+ghost use Rattle.std.specs.Prelude.{◌≡◌, ◌↔◌, ◌+◌, ◌≤◌, ◌⊎◌, ℕ, List, Option, None, Some, [], IsTrue, codes, is_some, length, negsuc, pos};
 ghost use Rattle.std.specs.Option.{option_map_or};
 ghost use Rattle.infer.specs.App.{coff_i386, coff_ia64, coff_x64};
 ghost use Rattle.infer.specs.Signature.{accepts};
@@ -124,19 +124,21 @@ pub extern "C" fn infer_more_position(buf: &[u8]) -> i32
     }
 }
 
-/// Whether no bytes after `buf` change the number of its wider answer.
+/// Whether no bytes after `buf` change the number of its wider answer: a yes is certain.
 #[unsafe(no_mangle)]
 pub extern "C" fn infer_more_is_decided(buf: &[u8]) -> bool
-    ensures { IsTrue result ↔ wider.IsDecided buf.now }
+    ensures { IsTrue result → wider.IsDecided buf.now }
 {
     infer_more::is_decided(buf)
 }
 
-/// Whether there is a row with this number, built-in or further, and some bytes after `buf`, or none, make its signature
-/// accept it.
+/// Whether there is a row with this number, built-in or further, and some bytes after `buf`, or none, may make its
+/// signature accept it: a no is certain, and so is a yes but of a further row that asks for a relation.
 #[unsafe(no_mangle)]
 pub extern "C" fn infer_more_may_become(buf: &[u8], row: i32) -> bool
-    ensures { IsTrue result ↔ ((i : ℕ) × (row ≡ pos i) × wider.MayBecomeAt buf.now i) }
+    ensures may { (i : ℕ) → row ≡ pos i → wider.MayBecomeAt buf.now i → IsTrue result }
+    ensures exact { IsTrue result → (i : ℕ) × (row ≡ pos i)
+        × (wider.MayBecomeAt buf.now i ⊎ wider.AsksForRelation i) }
 {
     row >= 0 && infer_more::may_become(buf, row as usize)
 }

@@ -1,10 +1,10 @@
 -- The parts of a prolog, the tag that they lead to, and the name of the document type.
 use Rattle.std.proofs.Common.{◌≡◌, ◌↔◌, ℕ, ◌+◌, ◌-◌, ◌<◌, ◌≤◌, ◌⊎◌, inl, inr, List, ◌++◌, Option, None, Some, length, codes, get_or, add-zero, refl, sym, subst, ap, ◌∙◌, arith}
 use Rattle.std.proofs.lemmas.Bool.{cases_lt}
-use Rattle.std.proofs.lemmas.List.{drop-append-le, ext_get_or, get_or_past}
+use Rattle.std.proofs.lemmas.List.{drop-append-le, ext_get_or}
 use Rattle.std.specs.Prelude.{slice_range}
 use Rattle.memchr.specs.Find.{OccursAt}
-use Rattle.infer_deep.proofs.PlaceLemmas.{IsFirstPlace-same, byte_stands}
+use Rattle.infer_deep.proofs.PlaceLemmas.{IsFirstPlace-same}
 use Rattle.infer_deep.specs.Signatures.{Lasts}
 use Rattle.infer_inside.specs.Markup.{AgreesWithDoctype, BeginsAt, BeginsElement, ClosesDeclaration, HasRoot, HasRootWith, IsDoctype, IsEnclosed, IsMisc, IsNameByte, IsPart, IsRootElement, IsSpaceRun, IsTypeByte, IsXmlSpace, LeadsToTag, OpensElement, OpensTag, here, later, utf8_mark}
 use Rattle.infer_inside.specs.Runs.{IsAfterLast, IsRun}
@@ -36,13 +36,6 @@ not_space x is (inl e) = omega arith
 not_space x is (inr (inl e)) = omega arith
 not_space x is (inr (inr (inl e))) = omega arith
 not_space x is (inr (inr (inr e))) = omega arith
-
--- and it is a text
-pub tag_stands : (b : List ℕ) (p : ℕ) → get_or b p 0 ≡ 0x3C → OccursAt b (codes "<") p
-tag_stands b p is = elim (cases_lt p (length b)) [
-  | inl lt ↦ byte_stands b 0x3C p lt is
-  | inr past ↦ absurd (let none = get_or_past b p 0 past in omega arith)
-]
 
 -- so one part stands at a place
 one_enclosed : (b opening closing : List ℕ) (p q r : ℕ) → IsEnclosed b opening closing p q

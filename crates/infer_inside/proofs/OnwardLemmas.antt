@@ -206,6 +206,3 @@ colon_past b p lt e n d k at (low, high, h) = (
       (λ s. colon.0 (skip.0 s), λ s. skip.1 (colon.1 s)) in
       (λ s. reads.0 ((h ss v).0 s), λ s. (h ss v).1 (reads.1 s)),
 )
-
-pub colon_at : (b : List ℕ) (p : ℕ) → TellsAsMuch b (Place.At p Colon) (Place.At p Colon)
-colon_at b p n d k at h = h

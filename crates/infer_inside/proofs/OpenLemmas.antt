@@ -13,7 +13,7 @@ use Rattle.memchr.specs.Find.{OccursAt}
 use Rattle.infer_deep.proofs.PlaceLemmas.{OccursAt-first}
 use Rattle.infer_deep.specs.Open.{are_bytes}
 use Rattle.infer_inside.specs.Numbers.{be16, bytes16, most16, number16}
-use Rattle.infer_deep.proofs.OpenLemmas.{IsBytes, bytes_from_test, test_from_reads}
+use Rattle.infer_deep.proofs.OpenLemmas.{IsBytes, bytes_from_test}
 
 -- b, and then the byte f k at each place k up to n
 pub record Filled (f : ℕ → ℕ) (b : List ℕ) (n : ℕ) : Type 0 where
@@ -39,38 +39,6 @@ fills f bytes b n =
           let same : start + (k - start) ≡ k = omega arith in
           get_or-append_right b more k 0 low ∙ read (k - start) (omega arith) ∙ ap f same;
     }
-
--- a buffer may have the bytes of a text from there on, and one byte past its end
-pub fills_list : (xs : List ℕ) (d : ℕ) → IsTrue (are_bytes xs) → d < 256 → (b : List ℕ) (n : ℕ) → Filled (λ k. get_or xs k d) b n
-fills_list xs d bytes small b n = fills (λ k. get_or xs k d) each b n
-  where
-    each : (k : ℕ) → get_or xs k d < 256
-    each k = elim (cases_lt k (length xs)) [
-      | inl l ↦ bytes_from_test xs bytes k d l
-      | inr l ↦ subst (λ x. x < 256) (sym (get_or-eq_default xs d l)) small
-    ]
-
-module _ (f : ℕ → ℕ) (b : List ℕ) (n : ℕ) (c : Filled f b n) where
-  -- what holds of a byte if b has it, and of the one that is put there else
-  pub either : (P : ℕ → Type 0) (k : ℕ) → k < n → P (f k) → (k < length b → P (get_or b k 0)) → P (get_or (b ++ c.more) k 0)
-  either P k lt put has = elim (cases_lt k (length b)) [
-    | inl l ↦ subst P (sym (c.known k l)) (has l)
-    | inr l ↦ subst P (sym (c.filled k l lt)) put
-  ]
-
--- ---- the bytes of a buffer that grows
-
-pub byte_small : (b : List ℕ) (p : ℕ) → IsTrue (are_bytes b) → get_or b p 0 < 256
-byte_small b p h = elim (cases_lt p (length b)) [
-  | inl l ↦ bytes_from_test b h p 0 l
-  | inr l ↦ subst (λ x. x < 256) (sym (get_or-eq_default b 0 l)) (omega arith)
-]
-
-pub byte_or_small : (b : List ℕ) (p : ℕ) → IsTrue (are_bytes b) → get_or b p 255 < 256
-byte_or_small b p h = elim (cases_lt p (length b)) [
-  | inl l ↦ bytes_from_test b h p 255 l
-  | inr l ↦ subst (λ x. x < 256) (sym (get_or-eq_default b 255 l)) (omega arith)
-]
 
 pub grown_byte : (b more : List ℕ) (p : ℕ) → IsTrue (are_bytes b) → IsBytes more → get_or (b ++ more) p 0 < 256
 grown_byte b more p h bytes = elim (cases_lt p (length (b ++ more))) [
@@ -126,24 +94,6 @@ number16_reads c false p n o =
     let y : get_or c (p + 1) 0 ≡ n / 256 = o.reads 1 (omega arith) in
     omega arith
 
-pub bytes16_bytes : (big : Bool) (n : ℕ) → n < 65536 → IsTrue (are_bytes (bytes16 big n))
-bytes16_bytes true n le = test_from_reads (bytes16 true n) go
-  where
-    go : (i : ℕ) → get_or (bytes16 true n) i 0 < 256
-    go zero = let x : n / 256 < 256 = omega arith in x
-    go (suc zero) = let x : n % 256 < 256 = omega arith in x
-    go (suc (suc i)) = let x : 0 < 256 = omega arith in x
-bytes16_bytes false n le = test_from_reads (bytes16 false n) go
-  where
-    go : (i : ℕ) → get_or (bytes16 false n) i 0 < 256
-    go zero = let x : n % 256 < 256 = omega arith in x
-    go (suc zero) = let x : n / 256 < 256 = omega arith in x
-    go (suc (suc i)) = let x : 0 < 256 = omega arith in x
-
 pub length-bytes16 : (big : Bool) (n : ℕ) → length (bytes16 big n) ≡ 2
 length-bytes16 true n = refl
 length-bytes16 false n = refl
-
--- bytes FF up to n
-pub fills_most : (b : List ℕ) (n : ℕ) → Filled (λ k. 255) b n
-fills_most b n = fills (λ k. 255) (λ k. omega arith) b n

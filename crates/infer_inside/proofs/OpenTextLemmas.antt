@@ -1,9 +1,8 @@
 -- What bytes after a buffer can make text of it, and which texts stay one.
-use Rattle.std.proofs.Common.{◌≡◌, ◌⊎◌, ◌<◌, ◌≤◌, ◌+◌, inl, inr, ◌↔◌, ℕ, zero, suc, Bool, true, false, IsTrue, nat_eq, List, [], ◌∷◌, ◌++◌, append-nil, length, length-append, refl, sym, subst, ◌∙◌, arith}
+use Rattle.std.proofs.Common.{◌≡◌, ◌⊎◌, ◌<◌, ◌≤◌, ◌+◌, inl, inr, ◌↔◌, ℕ, zero, suc, Bool, false, IsTrue, nat_eq, List, [], ◌∷◌, ◌++◌, length, refl, sym, subst, ◌∙◌, arith}
 use Rattle.std.specs.Prelude.{slice_index}
 use Rattle.std.proofs.lemmas.Bool.{cases_lt}
 use Rattle.std.proofs.lemmas.List.{get_or_append_left}
-use Rattle.std.proofs.lemmas.List.Elements.{All-cons, All-nil}
 use Rattle.memchr.specs.Find.{OccursAt}
 use Rattle.infer_deep.specs.Signatures.{MayBecome}
 use Rattle.infer_deep.specs.Text.{BeginsMarked, IsMark}
@@ -65,56 +64,13 @@ pub text_may : (b : List ℕ) → MayBecome IsText b → (length b ≡ 0) ⊎ Is
 text_may [] h = inl refl
 text_may (x ∷ b) (more, bytes, is) = inr (was_text (x ∷ b) more x b refl is)
 
-letter_plain : ¬ IsBinary (0x61 ∷ [])
-letter_plain (zero, lt, is) = letter is
-  where
-    letter : ¬ IsDataByte 0x61
-    letter (inl h) = absurd (omega arith)
-    letter (inr (inl h)) = absurd (omega arith)
-    letter (inr (inr (inl h))) = absurd (omega arith)
-    letter (inr (inr (inr h))) = absurd (omega arith)
-letter_plain (suc k, lt, is) = absurd (omega arith)
-
-pub text_comes : (b : List ℕ) → (length b ≡ 0) ⊎ IsText b → MayBecome IsText b
-text_comes b (inr is) = ([], All-nil (λ x. x < 256), subst IsText (sym (append-nil b)) is)
-text_comes [] (inl e) = (0x61 ∷ [], All-cons (λ x. x < 256) 0x61 [] (omega arith) (All-nil (λ x. x < 256)), inr (omega arith, letter_plain))
-text_comes (x ∷ b) (inl e) = absurd (omega arith)
-
-pub empty_text : (b : List ℕ) (r : Bool) → r ≡ nat_eq (length b) 0 → r ≡ true → IsTrue r ↔ MayBecome IsText b
-empty_text b r e so = (λ h. text_comes b (inl (grind arith)), λ h. so)
-
-pub some_text : (b : List ℕ) (r t : Bool) → r ≡ nat_eq (length b) 0 → r ≡ false → IsTrue t ↔ IsText b → IsTrue t ↔ MayBecome IsText b
-some_text b r t e not_so is = (
-  λ h. text_comes b (inr (is.0 h)),
-  λ h. elim (text_may b h) [
-    | inl none ↦ absurd (grind arith)
-    | inr so ↦ is.1 so
-  ],
-)
+pub empty_or_text : (b : List ℕ) (r t : Bool) → r ≡ nat_eq (length b) 0 → r ≡ false → IsTrue t ↔ IsText b → MayBecome IsText b → IsTrue t
+empty_or_text b r t e not_so is h = elim (text_may b h) [
+  | inl none ↦ absurd (grind arith)
+  | inr so ↦ is.1 so
+]
 
 -- ---- texts with a mark
 
 pub marked_stays : (b : List ℕ) → BeginsMarked b → Stays IsText b
 marked_stays b (mark, is, o) more bytes = inl (mark, is, OccursAt-append b more mark 0 o)
-
-zero_behind : (b : List ℕ) → slice_index (b ++ 0 ∷ []) (length b) ≡ zero
-zero_behind [] = refl
-zero_behind (x ∷ b) = zero_behind b
-
--- the byte 00 makes binary data of any other
-pub zero_marked : (b : List ℕ) → IsText (b ++ 0 ∷ []) → BeginsMarked b
-zero_marked b (inl (mark, is, o)) = elim (cases_lt (length b) (length mark)) [
-  | inl short ↦
-      let read : slice_index (b ++ 0 ∷ []) (length b) ≡ slice_index mark (length b) = first_reads o (length b) short in
-      let high = mark_high mark is (length b) short in
-      let low = zero_behind b in
-      absurd (omega arith)
-  | inr long ↦ (mark, is, OccursAt-front b (0 ∷ []) mark 0 (omega arith) o)
-]
-zero_marked b (inr (some, plain)) =
-    let more = length-append b (0 ∷ []) in
-    let low = zero_behind b in
-    absurd (plain (length b, omega arith, inl (omega arith)))
-
-pub stays_marked : (b : List ℕ) → Stays IsText b → BeginsMarked b
-stays_marked b h = zero_marked b (h (0 ∷ []) (All-cons (λ x. x < 256) 0 [] (omega arith) (All-nil (λ x. x < 256))))

@@ -1,18 +1,17 @@
 -- Laws of the relations.
 use Rattle.std.specs.Prelude.{◌≡◌, ◌⊎◌, ℕ, ◌+◌, ◌<◌, ◌≤◌, List, [], ◌∷◌, ◌++◌, slice_index}
 use Rattle.memchr.specs.Find.{OccursAt}
-use Rattle.infer_deep.specs.Signatures.{Lasts, MayBecome}
+use Rattle.infer_deep.specs.Signatures.{Lasts}
 use Rattle.infer_inside.specs.Dbase.{IsDbase}
 use Rattle.infer_inside.specs.Elf.{IsSharedObject}
 use Rattle.infer_inside.specs.Json.{CanBe, IsBlank, IsJson, IsJsonLines, blanks, text}
 use Rattle.infer_inside.specs.JsonStates.{IsBracket}
 use Rattle.infer_inside.specs.Markup.{BeginsElement, HasRoot, HasRootWith, IsRootElement, IsXmlSpace, utf8_mark}
-use Rattle.infer_inside.specs.Open.{Stays}
 use Rattle.infer_inside.specs.Png.{IsAnimated}
 use Rattle.infer_inside.specs.Script.{IsProgram}
 use Rattle.infer_inside.specs.Subtitles.{IsSubRip}
 use Rattle.infer_inside.specs.Tar.{HasTarChecksum}
-use Rattle.infer_inside.specs.Text.{IsBinary, IsText}
+use Rattle.infer_inside.specs.Text.{IsBinary}
 use Rattle.infer_inside.specs.Tiff.{HasTag}
 use Rattle.infer_inside.specs.Zip.{FirstEntryEndsIn, FirstEntryHasExtra, FirstEntryIs, IsPackageWith}
 
@@ -65,12 +64,6 @@ pub record Leads : Type 0 where
   pub json : (b : List ℕ) → IsJson b → BeginsJson b × HasBracket b
   pub json_lines : (b : List ℕ) → IsJsonLines b → BeginsJson b × HasBracket b
   pub root_with : (name text b : List ℕ) → HasRootWith name text b → HasRoot name b
-
--- no bytes after 00 make a buffer with it JSON; and what is text with 00 after it stays text
-pub record Ends : Type 0 where
-  pub json : (b : List ℕ) → ¬ MayBecome IsJson (b ++ 0 ∷ [])
-  pub json_lines : (b : List ℕ) → ¬ MayBecome IsJsonLines (b ++ 0 ∷ [])
-  pub plain : (b : List ℕ) → IsText (b ++ 0 ∷ []) → Stays IsText b
 
 -- a script names one program, and markup has one root element; and no bytes make one text of JSON of what has "]", a line
 -- end and "[" in it

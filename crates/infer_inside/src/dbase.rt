@@ -18,10 +18,10 @@ pub fn is_dbase(buf: &[u8]) -> bool
     ends_fields(buf)
 }
 
-/// Whether some bytes after `buf`, or none, make it the header of a dBASE table.
-#[tactic(auto, using(crate::proofs::OpenDbaseLemmas::dbase_reached, crate::proofs::OpenDbaseLemmas::dbase_known))]
+/// Whether some bytes after `buf`, or none, may make it the header of a dBASE table.
+#[tactic(auto, using(crate::proofs::OpenDbaseLemmas::dbase_known))]
 pub fn may_become_dbase(buf: &[u8]) -> bool
-    ensures { IsTrue result ↔ MayBecome IsDbase buf.now }
+    ensures { MayBecome IsDbase buf.now → IsTrue result }
 {
     may_be_dbase(buf)
 }

@@ -22,9 +22,9 @@ pub fn is_shared_object(buf: &[u8]) -> bool
     }
 }
 
-/// Whether some bytes after `buf`, or none, make it a shared object.
+/// Whether some bytes after `buf`, or none, may make it a shared object.
 pub fn may_become_shared_object(buf: &[u8]) -> bool
-    ensures { IsTrue result ↔ MayBecome IsSharedObject buf.now }
+    ensures { MayBecome IsSharedObject buf.now → IsTrue result }
 {
     may_be_shared_object(buf)
 }

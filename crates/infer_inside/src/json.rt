@@ -46,23 +46,23 @@ pub fn is_json_lines(buf: &[u8]) -> bool
     }
 }
 
-/// Whether some bytes after `buf`, or none, make it JSON.
+/// Whether some bytes after `buf`, or none, may make it JSON.
 pub fn may_become_json(buf: &[u8]) -> bool
-    ensures { IsTrue result ↔ MayBecome IsJson buf.now }
+    ensures { MayBecome IsJson buf.now → IsTrue result }
 {
     ends_in_mark(buf) || may_be_text(past_mark(buf))
 }
 
-/// Whether some bytes after `buf`, or none, make it JSON lines.
+/// Whether some bytes after `buf`, or none, may make it JSON lines.
 pub fn may_become_json_lines(buf: &[u8]) -> bool
-    ensures { IsTrue result ↔ MayBecome IsJsonLines buf.now }
+    ensures { MayBecome IsJsonLines buf.now → IsTrue result }
 {
     ends_in_mark(buf) || may_be_lines(past_mark(buf))
 }
 
-/// Whether some bytes can follow so that the whole is one text between white space.
+/// Whether some bytes may follow so that the whole is one text between white space.
 fn may_be_text(buf: &[u8]) -> bool
-    ensures { IsTrue result ↔ CanBe (blanks ∷ text ∷ blanks ∷ []) buf.now }
+    ensures { CanBe (blanks ∷ text ∷ blanks ∷ []) buf.now → IsTrue result }
 {
     match read_line(past_blanks(buf)) {
         Line::Whole(next) => next.is_empty(),
@@ -71,9 +71,9 @@ fn may_be_text(buf: &[u8]) -> bool
     }
 }
 
-/// Whether some can follow so that it is texts, each behind the first on a new line.
+/// Whether some may follow so that it is texts, each behind the first on a new line.
 fn may_be_lines(buf: &[u8]) -> bool
-    ensures { IsTrue result ↔ CanBe (blanks ∷ text ∷ same_line ∷ []) buf.now }
+    ensures { CanBe (blanks ∷ text ∷ same_line ∷ []) buf.now → IsTrue result }
 {
     match read_line(past_blanks(buf)) {
         Line::Whole(next) => begins_line(next),

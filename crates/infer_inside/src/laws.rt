@@ -1,5 +1,5 @@
 //! Facts about the definitions, each the contract of a function that does nothing.
-ghost use Rattle.infer_inside.specs.Laws.{Ends, Growth, Leads, Single};
+ghost use Rattle.infer_inside.specs.Laws.{Growth, Leads, Single};
 
 /// What a buffer has it has with any bytes after it too: all that is told here but that it is text, or JSON.
 pub fn growth()
@@ -9,11 +9,6 @@ pub fn growth()
 /// With what a buffer begins that has a root element, and that an element opens in it; and the same of JSON and a bracket.
 pub fn leads()
     ensures { Leads }
-{}
-
-/// What the byte 00 ends: a buffer with it becomes no JSON, whatever follows, and text only if it stays text whatever follows.
-pub fn ends()
-    ensures { Ends }
 {}
 
 /// What there is one of: the program of a script, and the root element of markup. And what has `]`, a line end and `[` in

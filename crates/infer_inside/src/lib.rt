@@ -1,4 +1,5 @@
-//! Relations that look inside containers, documents and texts.
+//! Relations that look inside containers, documents and texts. Where a function tells whether more bytes may bring one, a
+//! no is certain.
 #![tactic(auto)]
 
 pub mod dbase;

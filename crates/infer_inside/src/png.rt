@@ -14,9 +14,9 @@ pub fn is_animated(buf: &[u8]) -> bool
     animation(buf) == Some(true)
 }
 
-/// Whether some bytes after `buf`, or none, make it an animated image.
+/// Whether some bytes after `buf`, or none, may make it an animated image.
 pub fn may_become_animated(buf: &[u8]) -> bool
-    ensures { IsTrue result ↔ MayBecome IsAnimated buf.now }
+    ensures { MayBecome IsAnimated buf.now → IsTrue result }
 {
     animation(buf) != Some(false)
 }

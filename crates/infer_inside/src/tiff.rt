@@ -17,9 +17,9 @@ pub fn first_directory_has_tag(buf: &[u8], tag: u16) -> bool
     stands_at(buf, b"MM\x00\x2A", 0) && directory_has_tag(buf, tag, true)
 }
 
-/// Whether some bytes after `buf`, or none, give the first directory of a TIFF file an entry with this tag.
+/// Whether some bytes after `buf`, or none, may give the first directory of a TIFF file an entry with this tag.
 pub fn first_directory_may_have_tag(buf: &[u8], tag: u16) -> bool
-    ensures { IsTrue result ↔ MayBecome (HasTag tag) buf.now }
+    ensures { MayBecome (HasTag tag) buf.now → IsTrue result }
 {
     may_have_tag(buf, tag)
 }

@@ -54,10 +54,10 @@ fn first_name_end(buf: &[u8]) -> Option<usize>
     Some(end)
 }
 
-/// Whether some bytes after `buf`, or none, give the first entry this name.
-#[tactic(auto, using(infer_deep::proofs::OpenLemmas::test_from_reads, crate::proofs::OpenZipLemmas::name_reached, crate::proofs::OpenZipLemmas::name_known))]
+/// Whether some bytes after `buf`, or none, may give the first entry this name.
+#[tactic(auto, using(infer_deep::proofs::OpenLemmas::test_from_reads, crate::proofs::OpenZipLemmas::name_known))]
 pub fn may_have_first_entry(buf: &[u8], name: &[u8]) -> bool
-    ensures { IsTrue result ↔ MayBecome (FirstEntryIs name.now) buf.now }
+    ensures { MayBecome (FirstEntryIs name.now) buf.now → IsTrue result }
 {
     may_have_first_name(buf, name)
 }
@@ -74,10 +74,10 @@ fn may_have_first_name(buf: &[u8], name: &[u8]) -> bool
         && may_stand_at(buf, name, 30)
 }
 
-/// Whether some bytes after `buf`, or none, give the first entry a name that ends in this text, or is it.
-#[tactic(auto, using(infer_deep::proofs::OpenLemmas::test_from_reads, crate::proofs::OpenZipLemmas::ending_reached, crate::proofs::OpenZipLemmas::ending_known))]
+/// Whether some bytes after `buf`, or none, may give the first entry a name that ends in this text, or is it.
+#[tactic(auto, using(infer_deep::proofs::OpenLemmas::test_from_reads, crate::proofs::OpenZipLemmas::ending_known))]
 pub fn may_have_first_entry_ending(buf: &[u8], text: &[u8]) -> bool
-    ensures { IsTrue result ↔ MayBecome (FirstEntryEndsIn text.now) buf.now }
+    ensures { MayBecome (FirstEntryEndsIn text.now) buf.now → IsTrue result }
 {
     may_have_first_ending(buf, text)
 }
@@ -91,10 +91,10 @@ fn may_have_first_ending(buf: &[u8], text: &[u8]) -> bool
         && may_stand_at(buf, text, 30 + length - text.len())
 }
 
-/// Whether some bytes after `buf`, or none, give the first entry an extra field that begins with this text.
-#[tactic(auto, using(infer_deep::proofs::OpenLemmas::test_from_reads, crate::proofs::OpenZipLemmas::extra_reached, crate::proofs::OpenZipLemmas::extra_known))]
+/// Whether some bytes after `buf`, or none, may give the first entry an extra field that begins with this text.
+#[tactic(auto, using(infer_deep::proofs::OpenLemmas::test_from_reads, crate::proofs::OpenZipLemmas::extra_known))]
 pub fn may_have_first_extra(buf: &[u8], text: &[u8]) -> bool
-    ensures { IsTrue result ↔ MayBecome (FirstEntryHasExtra text.now) buf.now }
+    ensures { MayBecome (FirstEntryHasExtra text.now) buf.now → IsTrue result }
 {
     may_have_first_field(buf, text)
 }
@@ -136,12 +136,12 @@ pub fn package_folder(buf: &[u8]) -> Option<usize>
     }
 }
 
-/// Whether some bytes after `buf`, or none, make it a package of the Open Packaging Conventions whose first folder of an
-/// application, by place, is this one.
-#[tactic(auto, using(crate::proofs::OpenPackageLemmas::opened, crate::proofs::OpenPackageLemmas::none_yet))]
+/// Whether some bytes after `buf`, or none, may make it a package of the Open Packaging Conventions whose first folder of
+/// an application, by place, is this one.
+#[tactic(auto, using(crate::proofs::OpenPackageLemmas::opened))]
 pub fn may_become_package_with(buf: &[u8], folder: &[u8]) -> bool
     requires { IsOneOf folder.now applications }
-    ensures { IsTrue result ↔ MayBecome (IsPackageWith folder.now) buf.now }
+    ensures { MayBecome (IsPackageWith folder.now) buf.now → IsTrue result }
 {
     if !may_open_package(buf, folder) {
         return false;

@@ -1,28 +1,60 @@
--- Which texts are lost: some buffer is JSON, or JSON lines, and with 00 after it no longer.
-use Rattle.std.proofs.Common.{inl, [], ◌∷◌, ◌++◌}
-use Rattle.infer_inside.specs.Json.{IsJson, IsJsonLines, blanks, same_line, text}
-use Rattle.infer_inside.specs.Laws.{Ends}
-use Rattle.infer_inside.proofs.CompleteLemmas.{completes}
-use Rattle.infer_inside.proofs.OpenJsonLemmas.{json_comes, lines_come}
+-- Which texts are lost: some buffer is JSON, or JSON lines, and with more bytes no longer.
+use Rattle.std.proofs.Common.{◌≡◌, ℕ, List, inl, inr, [], ◌∷◌, ◌++◌, ap, codes, get_or, refl, arith}
+use Rattle.infer_inside.specs.Json.{CanBe, Stands, blanks, by_rule, byte, items, next_line, nothing, one, same_line, text}
+use Rattle.infer_inside.specs.Laws.{Single}
+use Rattle.infer_inside.proofs.JsonLemmas.{begins}
 use Rattle.infer_more.specs.Laws.{IsLost, OthersAreLost}
 use Rattle.infer_notation.specs.Alternative.{json_lines, json_text, plain_text}
 use Rattle.infer_more.proofs.LawLemmas.{text_lost}
-use Rattle.infer_more.proofs.OpenLemmas.{not_yet}
 
-json_lost : Ends → IsLost json_text
-json_lost ends =
-    let whole = completes (blanks ∷ text ∷ blanks ∷ []) tt in
-    let (b, bytes, is) = json_comes [] (whole.0, inl whole.1) in
-    (b, 0 ∷ [], is, not_yet IsJson (b ++ 0 ∷ []) (ends.json b))
+-- a list without items, and what the symbols behind it stand for
+list_stands : {ss : List _} {v : List ℕ} → Stands ss v → Stands (text ∷ ss) (0x5B ∷ 0x5D ∷ v)
+list_stands rest =
+    by_rule (byte 0x5B ∷ blanks ∷ items 127 ∷ []) (inl refl) (one (omega arith) (omega arith)
+    (by_rule [] (inl refl) (by_rule (byte 0x5D ∷ []) (inl refl) (one (omega arith) (omega arith) rest))))
 
-lines_lost : Ends → IsLost json_lines
-lines_lost ends =
-    let whole = completes (blanks ∷ text ∷ same_line ∷ []) tt in
-    let (b, bytes, is) = lines_come [] (whole.0, inl whole.1) in
-    (b, 0 ∷ [], is, not_yet IsJsonLines (b ++ 0 ∷ []) (ends.json_lines b))
+json_lost : Single → IsLost json_text
+json_lost single = (
+  codes "[]",
+  codes "\n[",
+  inl ((inl (inl refl, inl (inl (inr (inl refl))))), ([], by_rule [] (inl refl) (list_stands (by_rule [] (inl refl) nothing)))),
+  λ is. elim is [
+    | inl t ↦ single.json (codes "[") [] t.1
+    | inr (w, e, t) ↦ omega (arith, ap (λ b. get_or b 0 0) e)
+  ],
+)
 
-pub others_lost : Ends → OthersAreLost
-others_lost ends json_text other = json_lost ends
-others_lost ends json_lines other = lines_lost ends
-others_lost ends plain_text other = text_lost
-others_lost ends a other = absurd (cc)
+-- two lists, of which the second is cut, and what cannot stand in it
+lines_can : CanBe (blanks ∷ text ∷ same_line ∷ []) (codes "[]\n[")
+lines_can = (
+  codes "]",
+  by_rule [] (inl refl) (list_stands (by_rule (byte 0x0A ∷ next_line ∷ []) (inr (inr (inr (inr (inl refl))))) (one (omega arith) (omega arith)
+      (by_rule (text ∷ same_line ∷ []) (inr (inr (inr (inr (inr (inl refl)))))) (list_stands (by_rule [] (inl refl) nothing)))))),
+)
+
+colon_ends : ¬ CanBe (blanks ∷ text ∷ same_line ∷ []) (codes "[]\n[:")
+colon_ends (v, d) =
+    let opened : Stands (blanks ∷ items 127 ∷ same_line ∷ []) (0x5D ∷ 0x0A ∷ 0x5B ∷ 0x3A ∷ v) =
+    let f = (begins 3 0x5B (0x5D ∷ 0x0A ∷ 0x5B ∷ 0x3A ∷ v) (blanks ∷ text ∷ same_line ∷ [])).0 d in grind arith in
+    let closed : Stands (same_line ∷ []) (0x0A ∷ 0x5B ∷ 0x3A ∷ v) =
+    let f = (begins 6 0x5D (0x0A ∷ 0x5B ∷ 0x3A ∷ v) (blanks ∷ items 127 ∷ same_line ∷ [])).0 opened in grind arith in
+    let ended : Stands (next_line ∷ []) (0x5B ∷ 0x3A ∷ v) = let f = (begins 2 0x0A (0x5B ∷ 0x3A ∷ v) (same_line ∷ [])).0 closed in grind arith in
+    let second : Stands (blanks ∷ items 127 ∷ same_line ∷ []) (0x3A ∷ v) = let f = (begins 3 0x5B (0x3A ∷ v) (next_line ∷ [])).0 ended in grind arith in
+    let f = (begins 6 0x3A v (blanks ∷ items 127 ∷ same_line ∷ [])).0 second in grind arith
+
+lines_lost : Single → IsLost json_lines
+lines_lost single = (
+  codes "[]\n[",
+  codes ":",
+  inl (lines_can, single.json (codes "[") []),
+  λ is. elim is [
+    | inl t ↦ colon_ends t.0
+    | inr (w, e, t) ↦ omega (arith, ap (λ b. get_or b 0 0) e)
+  ],
+)
+
+pub others_lost : Single → OthersAreLost
+others_lost single json_text other = json_lost single
+others_lost single json_lines other = lines_lost single
+others_lost single plain_text other = text_lost
+others_lost single a other = absurd (cc)

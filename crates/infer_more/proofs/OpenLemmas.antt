@@ -1,15 +1,14 @@
 -- What bytes after a buffer can bring an alternative and a signature, and what they can take from them.
-use Rattle.std.proofs.Common.{◌≡◌, ◌↔◌, ◌⊎◌, ◌+◌, ◌-◌, ◌<◌, ◌≤◌, inl, inr, ℕ, zero, suc, Bool, true, false, IsTrue, List, [], ◌∷◌, ◌++◌, append_assoc, append-nil, codes, get_or, length, length-append, map, nat_le, take, take_all, refl, sym, subst, ap, ◌∙◌, arith}
+use Rattle.std.proofs.Common.{◌≡◌, ◌↔◌, ◌⊎◌, ◌+◌, ◌-◌, ◌<◌, ◌≤◌, inl, inr, ℕ, zero, suc, Bool, true, false, IsTrue, List, [], ◌∷◌, ◌++◌, append_assoc, get_or, length, length-append, map, nat_le, take, take_all, refl, sym, subst, ap, ◌∙◌, arith}
 use Rattle.std.specs.Prelude.{◌||◌, ◌==◌, if◌then◌else◌, slice_index}
-use Rattle.std.proofs.lemmas.Bool.{and_from, and_parts, cases_lt, eqb-true, le-leb, leb-true, or_left}
+use Rattle.std.proofs.lemmas.Bool.{and_from, and_parts, eqb-true, le-leb, leb-true, or_left}
 use Rattle.std.proofs.lemmas.List.{get_or-take, length-take}
 use Rattle.std.proofs.lemmas.List.Elements.{All-append, All-cons, All-nil}
 use denote.Ref.{Bor}
 use Rattle.infer_deep.specs.Find.{OccursAt}
 use Rattle.infer_deep.specs.Open.{AgreesAt}
 use Rattle.infer_deep.specs.Signatures.{MayBecome}
-use Rattle.infer_deep.proofs.OpenLemmas.{agrees_past, fills_parts, grown_agrees, stands_where_whole}
-use Rattle.infer_deep.proofs.PlaceLemmas.{OccursAt-append}
+use Rattle.infer_deep.proofs.OpenLemmas.{grown_agrees}
 use Rattle.infer_inside.specs.Open.{Stays}
 use Rattle.infer_inside.specs.Png.{IsAnimated, here}
 use Rattle.infer_inside.specs.Script.{IsProgram}
@@ -17,7 +16,7 @@ use Rattle.infer_inside.specs.Text.{IsBinary}
 use Rattle.infer_deep.specs.Signatures.{Lasts}
 use Rattle.infer_sig.specs.Open.{MayBecomeIsExact, agrees, is_alternative_sound, is_sound, may_fit, may_have}
 use Rattle.infer_sig.specs.Signature as fixed
-use Rattle.infer_sig.specs.Signature.{accepts, Bytes, Part, text, byte, allows, between, fits, stands}
+use Rattle.infer_sig.specs.Signature.{accepts, Bytes, Part, text, byte, allows, between, fits}
 use Rattle.infer_sig.proofs.PlaceLemmas.{stands_by_place}
 use Rattle.infer_more.specs.Laws.{AllLast, is_lasting}
 use Rattle.infer_more.specs.Listed.{alternative_listed, signature_listed}
@@ -79,18 +78,12 @@ module _ (b : List ℕ) where
   abbrev pub MayName : List (Bor (List ℕ)) → Type 0
   MayName xs = SomeOf (λ (x : Bor (List ℕ)). x.now) (λ name. MayBecome (IsProgram name) b) xs
 
-  pub some_named : (xs : List (Bor (List ℕ))) → MayName xs ↔ MayBecome (IsProgramAmong (map (λ (x : Bor (List ℕ)). x.now) xs)) b
-  some_named [] = (λ h. absurd h, λ (more, bytes, h). h)
-  some_named (x ∷ xs) = let rest = some_named xs in (
-    λ h. elim h [
-      | inl (more, bytes, f) ↦ (more, bytes, inl f)
-      | inr r ↦ let (more, bytes, g) = rest.0 r in (more, bytes, inr g)
-    ],
-    λ (more, bytes, h). elim h [
-      | inl f ↦ inl (more, bytes, f)
-      | inr g ↦ inr (rest.1 (more, bytes, g))
-    ],
-  )
+  pub some_named : (xs : List (Bor (List ℕ))) → MayBecome (IsProgramAmong (map (λ (x : Bor (List ℕ)). x.now) xs)) b → MayName xs
+  some_named [] (more, bytes, h) = h
+  some_named (x ∷ xs) (more, bytes, h) = elim h [
+    | inl f ↦ inl (more, bytes, f)
+    | inr g ↦ inr (some_named xs (more, bytes, g))
+  ]
 
 -- ---- fixed bytes
 
@@ -220,15 +213,6 @@ module _ (place : ℕ) (b : List ℕ) where
 pub animation_known : (b : List ℕ) → MayBecome (λ c. OccursAt c png_header 0 × IsAnimated c) b → AgreesAt b png_header 0 × MayBecome IsAnimated b
 animation_known b (more, bytes, (header, animated)) = (grown_agrees b more png_header 0 header, (more, bytes, animated))
 
-pub animation_comes : (b : List ℕ) → AgreesAt b png_header 0 → MayBecome IsAnimated b → MayBecome (λ c. OccursAt c png_header 0 × IsAnimated c) b
-animation_comes b agree (more, bytes, animated) = elim (cases_lt (length b) 4) [
-  | inl short ↦
-      let f = fills_parts (record { place = 0; text = png_header } ∷ record { place = 12; text = codes "acTL" } ∷ []) b 0 16
-      (omega arith, refl, (omega arith, refl, omega arith)) (agree, (agrees_past b (codes "acTL") 12 (omega arith), tt)) in
-      (f.more, f.bytes, (f.holds.0, here 8 f.holds.1.0))
-  | inr long ↦ (more, bytes, (OccursAt-append b more png_header 0 (stands_where_whole b png_header 0 (omega arith) agree), animated))
-]
-
 -- ---- what stays
 
 lasts_but : (a : Alternative) → (a ≡ JsonLines → ⊥) → (a ≡ JsonText → ⊥) → (a ≡ PlainText → ⊥) → IsTrue (is_lasting (alternative_listed a))
@@ -240,7 +224,3 @@ lasts_but a n m p = refl
 pub fit_stays : AllLast → (a : Alternative) → (a ≡ JsonLines → ⊥) → (a ≡ JsonText → ⊥) → (a ≡ PlainText → ⊥) → (b : List ℕ) → Fits (alternative_listed a) b → Stays (Fits (alternative_listed a)) b
 fit_stays all_last a n m p b f more bytes =
     elim (all_last (alternative_listed a ∷ []) (and_from (is_lasting (alternative_listed a)) true (lasts_but a n m p) refl) b more (inl f)) [ inl g ↦ g | inr g ↦ absurd g ]
-
--- what some bytes after it do not make it, it is not
-pub not_yet : (S : List ℕ → Type 0) (b : List ℕ) → ¬ MayBecome S b → ¬ S b
-not_yet S b none is = none ([], All-nil (λ x. x < 256), subst S (sym (append-nil b)) is)

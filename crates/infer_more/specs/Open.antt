@@ -1,5 +1,5 @@
--- What can be told of the bytes that may follow a buffer, alternative by alternative.
-use Rattle.std.specs.Prelude.{Bool, true, List, [], ◌∷◌, ◌&&◌}
+-- What is told of the bytes that may follow a buffer, alternative by alternative.
+use Rattle.std.specs.Prelude.{Bool, false, true, List, [], ◌∷◌, ◌&&◌}
 use Rattle.std.specs.List.{list_all}
 use Rattle.infer_sig.specs.Open.{is_alternative_sound}
 use Rattle.infer_more.specs.Index.{is_application}
@@ -14,7 +14,17 @@ is_sound (binary_bytes a) = is_alternative_sound a
 is_sound (package_with folder) = is_application folder
 is_sound a = true
 
--- so is each alternative of a signature
+-- the alternative asks for bytes at fixed places, or for these and a byte of binary data
+abbrev pub is_fixed : Alternative → Bool
+is_fixed (bytes a) = true
+is_fixed (binary_bytes a) = true
+is_fixed a = false
+
+-- so does each of a signature
+abbrev pub are_fixed : List Alternative → Bool
+are_fixed signature = list_all is_fixed signature
+
+-- each alternative of a signature is sound
 abbrev pub are_sound : List Alternative → Bool
 are_sound signature = list_all is_sound signature
 

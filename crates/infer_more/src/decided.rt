@@ -1,8 +1,7 @@
 //! What more bytes can change of a wider answer.
-ghost use Rattle.std.specs.Prelude.{◌↔◌, IsFalse, IsTrue, MatchOption, slice_get};
-ghost use Rattle.infer.specs.First.{IsFirst, IsFirstOf};
+ghost use Rattle.std.specs.Prelude.{◌≡◌, ◌⊎◌, IsTrue, MatchOption, length, slice_get};
 ghost use Rattle.infer_inside.specs.Open.{Stays};
-ghost use Rattle.infer_more.specs.Decided.{IsChangeable, IsDecided, IsUnstable, IsWidenedForGood, IsWideningOpen, MayBecomeAt, MayWiden};
+ghost use Rattle.infer_more.specs.Decided.{AsksForRelation, IsAwaited, IsDecided, IsWidenedForGood, MayBecomeAt, MayWiden, NoneMayWiden};
 ghost use Rattle.infer_more.specs.Listed.{row_listed};
 ghost use Rattle.infer_more.specs.Open.{is_row_sound};
 ghost use Rattle.infer_more.specs.Row.{is_row_closed};
@@ -16,18 +15,16 @@ use crate::signature::ANY;
 use crate::table::{FurtherRow, row_at};
 use infer::rows::ROW_COUNT;
 
-/// Whether no bytes after the buffer change its wider answer.
+/// Whether no bytes after the buffer change its wider answer, as far as this tells: a yes is certain.
 pub fn is_decided(buf: &[u8]) -> bool
-    ensures exact { IsTrue result ↔ IsDecided buf.now }
-    ensures open { IsFalse result → IsChangeable buf.now }
+    ensures { IsTrue result → IsDecided buf.now }
 {
     infer::is_decided(buf) && is_widened_for_good(infer::position(buf), buf)
 }
 
 /// Whether none changes the first further row that widens this answer.
 fn is_widened_for_good(parent: Option<usize>, buf: &[u8]) -> bool
-    ensures yes { IsTrue result → IsWidenedForGood parent buf.now }
-    ensures no { IsFalse result → IsWideningOpen parent buf.now }
+    ensures { IsTrue result → IsWidenedForGood parent buf.now }
 {
     match first_open(parent, buf) {
         Some(i) => is_first_for_good(i, parent, buf),
@@ -37,9 +34,8 @@ fn is_widened_for_good(parent: Option<usize>, buf: &[u8]) -> bool
 
 /// Whether the first row that may widen the answer does so, whatever bytes follow.
 fn is_first_for_good(i: usize, parent: Option<usize>, buf: &[u8]) -> bool
-    requires { IsFirst (MayWiden parent buf.now) further i }
-    ensures yes { IsTrue result → IsWidenedForGood parent buf.now }
-    ensures no { IsFalse result → IsWideningOpen parent buf.now }
+    requires { IsAwaited parent buf.now i }
+    ensures { IsTrue result → IsWidenedForGood parent buf.now }
 {
     match row_at(i) {
         Some(row) => is_stable(row, buf),
@@ -51,26 +47,29 @@ fn is_first_for_good(i: usize, parent: Option<usize>, buf: &[u8]) -> bool
 fn is_stable(row: &FurtherRow, buf: &[u8]) -> bool
     requires closed { IsTrue (is_row_closed (row_listed row.now)) }
     requires sound { IsTrue (is_row_sound (row_listed row.now)) }
-    ensures yes { IsTrue result → Stays (Accepted (row_listed row.now).signature) buf.now }
-    ensures no { IsFalse result → IsUnstable (row_listed row.now).signature buf.now }
+    ensures { IsTrue result → Stays (Accepted (row_listed row.now).signature) buf.now }
 {
     signature::accepts::<ANY>(row.signature, buf) && stays_accepted(row.signature, buf)
 }
 
 /// The first row that may widen the answer.
 fn first_open(parent: Option<usize>, buf: &[u8]) -> Option<usize>
-    ensures { IsFirstOf (MayWiden parent buf.now) further result }
+    ensures { MatchOption result (NoneMayWiden parent buf.now (length further))
+        (IsAwaited parent buf.now) }
 {
     let may_widen = |i: &usize| -> bool
-        ensures { IsTrue result ↔ MatchOption (slice_get further i.now) ⊥
-            (MayWiden parent buf.entry.now) }
+        ensures may { MatchOption (slice_get further i.now) ⊥ (MayWiden parent buf.entry.now)
+            → IsTrue result }
+        ensures below { IsTrue result
+            → MatchOption (slice_get further i.now) ⊥ (λ r. r.parent ≡ parent) }
     { may_widen(*i, parent, buf) };
     (0..FURTHER_COUNT).find(may_widen)
 }
 
-/// Whether row `i` has this parent, and some bytes after the buffer make it accept.
+/// Whether row `i` has this parent, and some bytes after the buffer may make it accept.
 fn may_widen(i: usize, parent: Option<usize>, buf: &[u8]) -> bool
-    ensures { IsTrue result ↔ MatchOption (slice_get further i) ⊥ (MayWiden parent buf.now) }
+    ensures may { MatchOption (slice_get further i) ⊥ (MayWiden parent buf.now) → IsTrue result }
+    ensures below { IsTrue result → MatchOption (slice_get further i) ⊥ (λ r. r.parent ≡ parent) }
 {
     match row_at(i) {
         Some(row) => row_may_widen(row, parent, buf),
@@ -80,14 +79,17 @@ fn may_widen(i: usize, parent: Option<usize>, buf: &[u8]) -> bool
 
 fn row_may_widen(row: &FurtherRow, parent: Option<usize>, buf: &[u8]) -> bool
     requires { IsTrue (is_row_sound (row_listed row.now)) }
-    ensures { IsTrue result ↔ MayWiden parent buf.now (row_listed row.now) }
+    ensures may { MayWiden parent buf.now (row_listed row.now) → IsTrue result }
+    ensures below { IsTrue result → (row_listed row.now).parent ≡ parent }
 {
     row.parent == parent && may_become_accepted(row.signature, buf)
 }
 
-/// Whether some bytes after the buffer, or none, make row `i`, built-in or further, accept it.
+/// Whether some bytes after the buffer, or none, may make row `i`, built-in or further, accept it: a no is certain, and so
+/// is a yes but of a further row that asks for a relation.
 pub fn may_become(buf: &[u8], i: usize) -> bool
-    ensures { IsTrue result ↔ MayBecomeAt buf.now i }
+    ensures may { MayBecomeAt buf.now i → IsTrue result }
+    ensures exact { IsTrue result → MayBecomeAt buf.now i ⊎ AsksForRelation i }
 {
     if i < ROW_COUNT {
         return infer::may_become(buf, i);

@@ -21,7 +21,7 @@ pub fn lasting()
     infer_deep::laws::growth();
     infer_inside::laws::growth();
     infer_sig::laws::growth();
-    infer_inside::laws::ends();
+    infer_inside::laws::single();
 }
 
 /// As long as the built-in answer stays, bytes after a buffer never make its first further row a later one, unless that is

@@ -13,14 +13,14 @@
 //! `samples`; `open`, what the bytes after a buffer can bring a signature; `decided`, what they can change of the answer.
 #![tactic(auto)]
 
-ghost use Rattle.std.specs.Prelude.{◌≡◌, ◌+◌, ◌<◌, ◌≤◌, ◌↔◌, IfSome, IsFalse, IsTrue, None, option_map, slice_get};
+ghost use Rattle.std.specs.Prelude.{◌≡◌, ◌+◌, ◌<◌, ◌≤◌, ◌↔◌, ◌⊎◌, IfSome, IsTrue, None, option_map, slice_get};
 ghost use Rattle.infer.specs.Rows.{custom_rows};
 ghost use Rattle.infer.specs.Triple.{triple_of};
 ghost use Rattle.infer.specs.Watched.{fault_of};
 ghost use Rattle.infer.specs.declared.table.rows.TheConstants.{ROW_COUNT};
 ghost use Rattle.infer_inside.specs.Text.{IsEncodingOf, IsText};
 ghost use Rattle.infer_more.specs.Added.{IsAnswerWith};
-ghost use Rattle.infer_more.specs.Decided.{IsChangeable, IsDecided, MayBecomeAt};
+ghost use Rattle.infer_more.specs.Decided.{AsksForRelation, IsDecided, MayBecomeAt};
 ghost use Rattle.infer_more.specs.Ended.{ended_listed, ended_shown};
 ghost use Rattle.infer_more.specs.Reading.{AnswersReader, AnswersSome};
 ghost use Rattle.infer_more.specs.Wider.{AcceptsAt, IsWider, IsWiderAnswer, ShowsExtension, ShowsMimeType, parent_at, shown};
@@ -103,19 +103,19 @@ pub fn accepts(buf: &[u8], i: usize) -> bool
     answers::accepts(buf, i)
 }
 
-/// Whether no bytes after `buf` change its wider answer, which is the number of the row or that there is none. If this is
-/// false, some bytes do.
+/// Whether no bytes after `buf` change its wider answer, which is the number of the row or that there is none. A yes is
+/// certain. A no is not: where a row asks for a relation, it may be that none do.
 pub fn is_decided(buf: &[u8]) -> bool
-    ensures exact { IsTrue result ↔ IsDecided buf.now }
-    ensures open { IsFalse result → IsChangeable buf.now }
+    ensures { IsTrue result → IsDecided buf.now }
 {
     decided::is_decided(buf)
 }
 
-/// Whether some bytes after `buf`, or none, make the signature of row `i`, built-in or further, accept it. A further row's
-/// parent is not asked.
+/// Whether some bytes after `buf`, or none, may make the signature of row `i`, built-in or further, accept it. A further
+/// row's parent is not asked. A no is certain, and so is a yes but of a further row that asks for a relation.
 pub fn may_become(buf: &[u8], i: usize) -> bool
-    ensures { IsTrue result ↔ MayBecomeAt buf.now i }
+    ensures may { MayBecomeAt buf.now i → IsTrue result }
+    ensures exact { IsTrue result → MayBecomeAt buf.now i ⊎ AsksForRelation i }
 {
     decided::may_become(buf, i)
 }

@@ -1,10 +1,10 @@
 //! What the bytes after a buffer can bring a signature, and what they can take from it.
-ghost use Rattle.std.specs.Prelude.{◌≡◌, ◌↔◌, ◌∷◌, [], ◌++◌, IsFalse, IsTrue, map};
+ghost use Rattle.std.specs.Prelude.{◌≡◌, IsTrue, map};
 ghost use Rattle.infer_deep.specs.Signatures.{MayBecome};
 ghost use Rattle.infer_inside.specs.Open.{Stays};
 ghost use Rattle.infer_sig.specs.Open.{may_fit, may_have};
 ghost use Rattle.infer_more.specs.Listed.{alternative_listed, bytes_listed, part_listed, signature_listed};
-ghost use Rattle.infer_more.specs.Open.{are_sound, is_one_or_lasts, is_sound};
+ghost use Rattle.infer_more.specs.Open.{are_fixed, are_sound, is_fixed, is_one_or_lasts, is_sound};
 ghost use Rattle.infer_notation.specs.Alternative.{Accepted, Fits, IsProgramAmong};
 
 use crate::laws::lasting;
@@ -26,10 +26,13 @@ use infer_inside::zip::{
     may_have_first_extra,
 };
 
-/// Whether some bytes after the buffer, or none, make the signature accept it.
+/// Whether some bytes after the buffer, or none, may make the signature accept it: a no is certain, and so is a yes of
+/// bytes at fixed places.
 pub(super) fn may_become_accepted(signature: &[Alternative], buf: &[u8]) -> bool
     requires { IsTrue (are_sound (signature_listed signature.now)) }
-    ensures { IsTrue result ↔ MayBecome (Accepted (signature_listed signature.now)) buf.now }
+    ensures may { MayBecome (Accepted (signature_listed signature.now)) buf.now → IsTrue result }
+    ensures exact { IsTrue (are_fixed (signature_listed signature.now)) → IsTrue result
+        → MayBecome (Accepted (signature_listed signature.now)) buf.now }
 {
     for alternative in signature {
         if may_fit(alternative, buf) {
@@ -39,10 +42,12 @@ pub(super) fn may_become_accepted(signature: &[Alternative], buf: &[u8]) -> bool
     false
 }
 
-/// Whether some make it have what this alternative asks.
+/// Whether some may make it have what this alternative asks.
 fn may_fit(alternative: &Alternative, buf: &[u8]) -> bool
     requires { IsTrue (is_sound (alternative_listed alternative.now)) }
-    ensures { IsTrue result ↔ MayBecome (Fits (alternative_listed alternative.now)) buf.now }
+    ensures may { MayBecome (Fits (alternative_listed alternative.now)) buf.now → IsTrue result }
+    ensures exact { IsTrue (is_fixed (alternative_listed alternative.now)) → IsTrue result
+        → MayBecome (Fits (alternative_listed alternative.now)) buf.now }
 {
     infer_sig::laws::growth();
     infer_sig::laws::open();
@@ -69,10 +74,10 @@ fn may_fit(alternative: &Alternative, buf: &[u8]) -> bool
     }
 }
 
-/// Whether some make one of the names that of the program.
+/// Whether some may make one of the names that of the program.
 fn may_become_program_among(buf: &[u8], names: &[&[u8]]) -> bool
-    ensures { IsTrue result ↔ MayBecome (IsProgramAmong
-        (map (λ name. name.now) names.now)) buf.now }
+    ensures { MayBecome (IsProgramAmong (map (λ name. name.now) names.now)) buf.now
+        → IsTrue result }
 {
     for name in names {
         if may_become_program(buf, name) {
@@ -107,12 +112,11 @@ fn may_have(piece: &Piece, buf: &[u8]) -> bool
     }
 }
 
-/// Whether the signature, which accepts the buffer, does so whatever bytes follow. If not, the byte 00 ends it.
+/// Whether the signature, which accepts the buffer, does so whatever bytes follow, as far as this tells: a yes is certain.
 pub(super) fn stays_accepted(signature: &[Alternative], buf: &[u8]) -> bool
     requires accepts { Accepted (signature_listed signature.now) buf.now }
     requires known { IsTrue (is_one_or_lasts (signature_listed signature.now)) }
-    ensures yes { IsTrue result → Stays (Accepted (signature_listed signature.now)) buf.now }
-    ensures no { IsFalse result → ¬ Accepted (signature_listed signature.now) (buf.now ++ 0 ∷ []) }
+    ensures { IsTrue result → Stays (Accepted (signature_listed signature.now)) buf.now }
 {
     lasting();
     match signature {
@@ -121,14 +125,12 @@ pub(super) fn stays_accepted(signature: &[Alternative], buf: &[u8]) -> bool
     }
 }
 
-/// Whether the buffer, which has what the alternative asks, has it whatever bytes follow. If not, the byte 00 ends it.
+/// Whether the buffer, which has what the alternative asks, has it whatever bytes follow.
 fn stays(alternative: &Alternative, buf: &[u8]) -> bool
     requires { Fits (alternative_listed alternative.now) buf.now }
-    ensures yes { IsTrue result → Stays (Fits (alternative_listed alternative.now)) buf.now }
-    ensures no { IsFalse result → ¬ Fits (alternative_listed alternative.now) (buf.now ++ 0 ∷ []) }
+    ensures { IsTrue result → Stays (Fits (alternative_listed alternative.now)) buf.now }
 {
     lasting();
-    infer_inside::laws::ends();
     match alternative {
         Alternative::JsonLines => false,
         Alternative::JsonText => false,

@@ -1,5 +1,5 @@
 -- What has a property of further rows, of verdicts and of what users do, and what has not: each pair computed, or proved by a law.
-use Rattle.std.proofs.Common.{◌≡◌, ◌≤◌, ◌++◌, ℕ, Bool, true, false, List, [], ◌∷◌, Option, None, Some, IsTrue, nat_eq, length, length-append, get_or, slice_index, refl, ap, subst, ⊎_elim, codes, arith, inl, inr}
+use Rattle.std.proofs.Common.{◌≡◌, ◌≤◌, ◌++◌, ℕ, Bool, true, false, List, [], ◌∷◌, Option, None, Some, IsTrue, nat_eq, length, length-append, get_or, slice_index, refl, ap, subst, ⊎_elim, codes, arith, inl, inr, ◌+◌}
 use Rattle.std.proofs.lemmas.Bool.Decides.{nat_tests}
 use Rattle.std.proofs.lemmas.List.Folds.{list_all_at}
 use Rattle.std.specs.List.{list_all}
@@ -20,6 +20,7 @@ use Rattle.infer_inside.specs.declared.text.Encoding.TheVariants.{UsAscii, Utf8}
 use Rattle.infer_inside.specs.Numbers.{bytes16, most16, be16, number16, number32, number64}
 use Rattle.infer_inside.specs.Runs.{IsAfterLast, IsNext}
 use Rattle.infer_deep.specs.Numbers.{be32, le16, le32}
+use Rattle.infer_more.specs.Decided.{AsksForRelation}
 use Rattle.infer_more.specs.Ended.{ended, ended_listed, ended_shown}
 use Rattle.infer_more.specs.Index.{is_plain}
 use Rattle.infer_deep.specs.Office.{zip_header}
@@ -156,6 +157,10 @@ shown_pair = (refl, λ e. omega (arith, ap (λ t. get_or t 1 0) e))
 pub further_pair : ((get_or further 0 (further_row [])).parent ≡ Some ELF) × (¬ ((get_or further 0 (further_row [])).parent ≡ None))
 unfolding further packages
 further_pair = (refl, λ e. absurd (cc))
+
+pub AsksForRelation_pair : AsksForRelation (ROW_COUNT + 3) × (¬ AsksForRelation ROW_COUNT)
+unfolding further packages
+AsksForRelation_pair = ((omega arith, refl), λ asks. absurd (let same = asks.1 in cc))
 
 pub has_room_pair : IsTrue (has_room (further_row (at_least 1 [] ∷ []))) × (¬ IsTrue (has_room (further_row (at_least 5000 [] ∷ []))))
 has_room_pair = (refl, λ t. absurd (cc))

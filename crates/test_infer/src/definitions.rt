@@ -120,16 +120,9 @@ pub fn is_changeable(buf: &[u8]) -> bool
 }
 
 pub fn is_wider_decided(buf: &[u8]) -> bool
-    ensures { IsTrue result ↔ wider.IsDecided buf.now }
+    ensures { IsTrue result → wider.IsDecided buf.now }
 {
     infer_more::is_decided(buf)
-}
-
-pub fn is_wider_changeable(buf: &[u8]) -> bool
-    ensures { IsTrue result ↔ wider.IsChangeable buf.now }
-{
-    let _answer = infer_more::position(buf);
-    !infer_more::is_decided(buf)
 }
 
 pub fn may_become_object(buf: &[u8]) -> bool

@@ -138,7 +138,6 @@ fn answers(rt: HostRuntime) {
         "IsChangeable" is_changeable, b"M", b"MZ";
         "IsDecided" is_decided, b"MZ", b"M";
         "IsDecided" is_wider_decided, &zeros_but::<53>(&[(0, b"\x7FELF")]), &zeros_but::<53>(&[(0, b"\x7FELF\x02\x01"), (16, b"\x03")]);
-        "IsChangeable" is_wider_changeable, &zeros_but::<53>(&[(0, b"\x7FELF\x02\x01"), (16, b"\x03")]), &zeros_but::<53>(&[(0, b"\x7FELF")]);
         "MayBecomeAt buf.now ROW_COUNT" may_become_object, b"\0\0\0\0\0", b"\0\0\0\0\0\0";
         "Begins White" begins_with_white, b" ", b"x";
         "IsSettled" is_settled, &[0; 1024], &[0; 1023];

@@ -1,40 +1,16 @@
 use Rattle.std.proofs.Common.{◌↔◌, ◌-◌, ◌<◌, ℕ, length, List, Option, None, Some, ◌++◌, drop, refl, subst, arith}
 use Rattle.std.specs.Prelude.{slice_range}
 use Rattle.infer_deep.specs.Open.{AgreesAt}
-use Rattle.infer_deep.proofs.OpenLemmas.{bytes_from_test, test_from_reads}
 use Rattle.infer_inside.specs.Markup.{IsPart, LeadsToTag, OpensTag, utf8_mark}
-use Rattle.infer_inside.proofs.OpenMarkupLemmas.{any_brings, any_comes, brought, come, declared_comes, declared_so_brings, marked, root_local, run_to}
+use Rattle.infer_inside.proofs.OpenMarkupLemmas.{any_comes, come, declared_comes, root_local, run_to}
 use Rattle.infer_inside.proofs.markup.may_come_to_root.Goals as goal
 
-pub returns-then-not-is_local_name-clause-known : goal.returns-then-not-is_local_name-clause-known
-returns-then-not-is_local_name-clause-known c = λ reached.
+pub returns-then-not-is_local_name : goal.returns-then-not-is_local_name
+returns-then-not-is_local_name c = λ reached.
     absurd (let local = c.is_local_name.ensures.1 (root_local c.args.buf.now c.args.name.now reached) in cc)
 
-pub returns-then-ends_in_mark-clause-comes : goal.returns-then-ends_in_mark-clause-comes
-returns-then-ends_in_mark-clause-comes c = λ t rest ends bytes.
-    let (short, agrees) = c.ends_in_mark.ensures.0 c.if-ends_in_mark.true in
-    let name = c.args.name.now in
-    marked c.args.buf.now name rest short agrees (bytes_from_test name (test_from_reads name (λ i. omega (arith, c.type_inv.name i))))
-    (c.is_local_name.ensures.0 c.if-not-is_local_name.false) ends bytes
-
-pub returns-in-Some-clause-comes : goal.returns-in-Some-clause-comes
-returns-in-Some-clause-comes c = λ t rest ends rest_bytes.
-    let b = c.args.buf.now in
-    let name = c.args.name.now in
-    let end = c.prolog_end-reached.ensures in
-    let place = c.prolog_end-reached.result.place in
-    let start = c.prolog_start.result in
-    let other : ¬ ((length b < 3) × AgreesAt b utf8_mark 0) = λ h. (let t = c.ends_in_mark.ensures.1 h in cc) in
-    let begins = c.prolog_start.ensures.begins in
-    let stuck = subst (λ d. (q : ℕ) (e : Option ℕ) → ¬ IsPart b place d q e) c.in-Some.is end.ends in
-    let grown = subst (λ d. (more : List ℕ) (at to : ℕ) → LeadsToTag (b ++ more) at to start None ↔ LeadsToTag (b ++ more) at to place d) c.in-Some.is end.grown in
-    let bytes = bytes_from_test b (test_from_reads b (λ i. omega (arith, c.type_inv.buf i))) in
-    let (last, run, full, may) = c.may_open_declared.ensures.yes t in
-    brought b name rest start place (Some c.in-Some.from) other begins grown
-    (declared_so_brings b name rest place c.in-Some.from last bytes end.within stuck ends rest_bytes run full may)
-
-pub returns-in-Some-clause-known : goal.returns-in-Some-clause-known
-returns-in-Some-clause-known c = λ reached.
+pub returns-in-Some : goal.returns-in-Some
+returns-in-Some c = λ reached.
     let b = c.args.buf.now in
     let name = c.args.name.now in
     let end = c.prolog_end-reached.ensures in
@@ -50,27 +26,10 @@ returns-in-Some-clause-known c = λ reached.
     let (close, order, inside, is) = end.declared c.in-Some.from c.in-Some.is in
     let (last, run) = run_to b c.in-Some.from (close - c.in-Some.from) close (omega arith) inside (λ t. t.1 is) in
     let known = declared_comes b name place c.in-Some.from last run end.within stuck untagged comes in
-    c.may_open_declared.ensures.no last run known.0 known.1
+    c.may_open_declared.ensures last run known.0 known.1
 
-pub returns-in-None-clause-comes : goal.returns-in-None-clause-comes
-returns-in-None-clause-comes c = λ t rest ends rest_bytes.
-    let b = c.args.buf.now in
-    let name = c.args.name.now in
-    let end = c.prolog_end-reached.ensures in
-    let place = c.prolog_end-reached.result.place in
-    let start = c.prolog_start.result in
-    let other : ¬ ((length b < 3) × AgreesAt b utf8_mark 0) = λ h. (let t = c.ends_in_mark.ensures.1 h in cc) in
-    let begins = c.prolog_start.ensures.begins in
-    let stuck = subst (λ d. (q : ℕ) (e : Option ℕ) → ¬ IsPart b place d q e) c.in-None.is end.ends in
-    let grown = subst (λ d. (more : List ℕ) (at to : ℕ) → LeadsToTag (b ++ more) at to start None ↔ LeadsToTag (b ++ more) at to place d) c.in-None.is end.grown in
-    let bytes = bytes_from_test b (test_from_reads b (λ i. omega (arith, c.type_inv.buf i))) in
-    let name_bytes = bytes_from_test name (test_from_reads name (λ i. omega (arith, c.type_inv.name i))) in
-    brought b name rest start place None other begins grown
-    (any_brings b name rest place bytes name_bytes (c.is_local_name.ensures.0 c.if-not-is_local_name.false) end.within stuck ends rest_bytes
-    (c.may_open_any.ensures.0 t))
-
-pub returns-in-None-clause-known : goal.returns-in-None-clause-known
-returns-in-None-clause-known c = λ reached.
+pub returns-in-None : goal.returns-in-None
+returns-in-None c = λ reached.
     let b = c.args.buf.now in
     let name = c.args.name.now in
     let end = c.prolog_end-reached.ensures in

@@ -2,13 +2,11 @@ use Rattle.infer_inside.proofs.OpenMarkupLemmas.{root_stays_with}
 use Rattle.infer_inside.proofs.markup.may_have_root_with.Goals as goal
 
 pub returns-then-is_same : goal.returns-then-is_same
-returns-then-is_same c =
-    let stays =
-    root_stays_with c.args.buf.now c.in-Some.root.name.now c.in-Some.root.rest.now c.args.name.now c.args.text.now c.in-Some.ensures.found in
-    (λ t. stays.0 (c.is_same.ensures.0 c.if-is_same.true, c.may_have_in_tag.ensures.0 t), λ reached. c.may_have_in_tag.ensures.1 (stays.1 reached).1)
+returns-then-is_same c = λ reached.
+    c.may_have_in_tag.ensures
+    (root_stays_with c.args.buf.now c.in-Some.root.name.now c.in-Some.root.rest.now c.args.name.now c.args.text.now c.in-Some.ensures.found reached).1
 
 pub returns-else-is_same : goal.returns-else-is_same
-returns-else-is_same c =
-    let stays =
-    root_stays_with c.args.buf.now c.in-Some.root.name.now c.in-Some.root.rest.now c.args.name.now c.args.text.now c.in-Some.ensures.found in
-    (λ t. absurd (cc), λ reached. c.is_same.ensures.1 (stays.1 reached).0)
+returns-else-is_same c = λ reached.
+    c.is_same.ensures.1
+    (root_stays_with c.args.buf.now c.in-Some.root.name.now c.in-Some.root.rest.now c.args.name.now c.args.text.now c.in-Some.ensures.found reached).0

@@ -1,6 +1,6 @@
 use Rattle.std.proofs.Common.{refl, arith}
 use Rattle.infer_inside.specs.Png.{here}
-use Rattle.infer_inside.proofs.PngLemmas.{never_after_data, next_decides, open_at, reached_control, unreached_data}
+use Rattle.infer_inside.proofs.PngLemmas.{never_after_data, next_decides, open_at, unreached_data}
 use Rattle.infer_inside.proofs.png.animation.Goals as goal
 
 pub returns-then-stands_at : goal.returns-then-stands_at
@@ -8,7 +8,7 @@ returns-then-stands_at c =
     let i = c.loop-chunk.invariant in
     let stands = c.stands_at.ensures.0 c.if-stands_at.true in (
       (λ is. i.0.1 (here c.loop-chunk.chunk stands), λ a. refl),
-      (λ is. i.1.1 (reached_control c.args.buf.now c.loop-chunk.chunk stands), λ a. refl),
+      λ a. refl,
     )
 
 pub returns-then-stands_at-2 : goal.returns-then-stands_at-2
@@ -16,7 +16,7 @@ returns-then-stands_at-2 c =
     let i = c.loop-chunk.invariant in
     let stands = c.stands_at-in-loop-chunk.ensures.0 c.if-stands_at-2.true in (
       (λ is. absurd (cc), λ a. absurd (never_after_data c.args.buf.now c.loop-chunk.chunk stands (i.0.0 a))),
-      (λ is. absurd (cc), λ a. absurd (unreached_data c.args.buf.now c.loop-chunk.chunk stands (i.1.0 a))),
+      λ a. absurd (unreached_data c.args.buf.now c.loop-chunk.chunk stands (i.1 a)),
     )
 
 pub returns-then-length-buf : goal.returns-then-length-buf

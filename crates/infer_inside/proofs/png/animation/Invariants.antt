@@ -7,7 +7,7 @@ use Rattle.infer_inside.proofs.png.animation.Given as goal
 abbrev pub invariant-loop-chunk : goal.invariant-loop-chunk
 invariant-loop-chunk l =
     (IsAnimated l.buf ↔ IsAnimatedFrom l.buf l.chunk)
-    × (MayBecome IsAnimated l.buf ↔ MayBecome (λ c. IsAnimatedFrom c l.chunk) l.buf)
+    × (MayBecome IsAnimated l.buf → MayBecome (λ c. IsAnimatedFrom c l.chunk) l.buf)
 
 abbrev pub decreases-loop-chunk : goal.decreases-loop-chunk
 decreases-loop-chunk l = length l.buf - l.chunk

@@ -1,7 +1,7 @@
 use Rattle.std.proofs.Common.{◌≡◌, ◌<◌, ◌≤◌, ◌+◌, ◌-◌, ◌*◌, ℕ, List, IsTrue, ◌↔◌, ◌⊎◌, Bool, max, min, length, get_or, inl, inr, subst, sym, ap, ◌∙◌, arith}
 use Rattle.infer_deep.specs.Signatures.{MayBecome}
 use Rattle.infer_inside.specs.Tar.{HasTarChecksum, IsField, IsOctal, MayWrite, header_sum, octal}
-use Rattle.infer_inside.proofs.OpenTarLemmas.{Reads, open_tells, whole_tells}
+use Rattle.infer_inside.proofs.OpenTarLemmas.{Reads, open_known, whole_known}
 use Rattle.infer_inside.proofs.tar.may_have_sum.Goals as goal
 
 reads : (b : List ℕ) (end p k : ℕ) → end ≡ min (length b) 156 → 148 ≤ p → p + k ≤ end → ((i : ℕ) → 148 ≤ i → i < p → get_or b i 0 ≡ 0x20)
@@ -16,20 +16,17 @@ reads b end p k is low high spaces no_space digits no_digit = record {
   no_digit = λ lt inside. no_digit (omega arith);
 }
 
-moved : (v w m n l k h i : ℕ) → v ≡ w → m ≡ n → l ≡ k → h ≡ i → MayWrite v m l h ↔ MayWrite w n k i
-moved v w m n l k h i a b c d =
+moved : (v w m n l k h i : ℕ) → v ≡ w → m ≡ n → l ≡ k → h ≡ i → MayWrite w n k i → MayWrite v m l h
+moved v w m n l k h i a b c d may =
     let so : MayWrite v m l h ≡ MayWrite w n k i = ap (λ x. MayWrite x m l h) a ∙ ap (λ x. MayWrite w x l h) b ∙ ap (λ x. MayWrite w n x h) c ∙ ap (MayWrite w n k) d in
-    (λ t. subst (λ T. T) so t, λ t. subst (λ T. T) (sym so) t)
+    subst (λ T. T) (sym so) may
 
 -- the whole checksum decides, by the sums that are told
 tells : (b : List ℕ) (p k least most : ℕ) (r : Bool) → 1 ≤ get_or b 0 0 → 148 ≤ length b → length b ≤ 512 → Reads b p k
     → (p + k < length b) ⊎ (156 ≤ length b) → least ≡ header_sum b → most ≡ least + 255 * (512 - max (length b) 156)
-    → IsTrue r ↔ (IsField b p k × (least ≤ octal b p k) × (octal b p k ≤ most)) → IsTrue r ↔ MayBecome HasTarChecksum b
-tells b p k least most r first long short reads whole sum rest is =
-    let so = whole_tells b first long p k reads short whole in (
-      λ t. let (f, low, high) = is.0 t in so.0 (f, omega arith, omega arith),
-      λ reached. let (f, low, high) = so.1 reached in is.1 (f, omega arith, omega arith),
-    )
+    → IsTrue r ↔ (IsField b p k × (least ≤ octal b p k) × (octal b p k ≤ most)) → MayBecome HasTarChecksum b → IsTrue r
+tells b p k least most r first long short reads whole sum rest is reached =
+    let (f, low, high) = whole_known b first long p k reads short whole reached in is.1 (f, omega arith, omega arith)
 
 pub returns-then-end-eq156 : goal.returns-then-end-eq156
 returns-then-end-eq156 c =
@@ -58,7 +55,7 @@ returns-then-place-count c =
     c.is_sum-then-place-count.ensures
 
 pub returns : goal.returns
-returns c =
+returns c = λ reached.
     let s = c.spaces_end-place.ensures in
     let n = c.digit_count-count.ensures in
     let end = c.min-end.ensures in
@@ -69,12 +66,6 @@ returns c =
     let not_all = c.if-end-eq156.false in
     let short : length c.args.buf.now < 156 = grind (arith, end, not_all) in
     let most = c.max.ensures in
-    let sum = c.least_sum-least.ensures.is in
-    let value = c.octal.ensures in
-    let so = open_tells c.args.buf.now c.requires.first low c.spaces_end-place.result c.digit_count-count.result
-    (reads c.args.buf.now c.min-end.result _ _ end s.low n.high s.spaces s.ends n.digits n.ends) short (omega arith) in
-    let same : MayWrite c.octal.result (156 - c.min-end.result) c.least_sum-least.result (c.least_sum-least.result + 255 * (512 - c.max.result))
-    ↔ MayWrite (octal c.args.buf.now c.spaces_end-place.result c.digit_count-count.result) (156 - length c.args.buf.now) (header_sum c.args.buf.now)
-    (header_sum c.args.buf.now + 255 * 356)
-    = moved _ _ _ _ _ _ _ _ value (omega arith) sum (omega arith) in
-    (λ t. so.0 (same.0 (c.may_write.ensures.0 t)), λ reached. c.may_write.ensures.1 (same.1 (so.1 reached)))
+    c.may_write.ensures (moved _ _ _ _ _ _ _ _ c.octal.ensures (omega arith) c.least_sum-least.ensures.is (omega (arith, c.least_sum-least.ensures.is))
+    (open_known c.args.buf.now c.requires.first low c.spaces_end-place.result c.digit_count-count.result
+    (reads c.args.buf.now c.min-end.result _ _ end s.low n.high s.spaces s.ends n.digits n.ends) short (omega arith) reached))

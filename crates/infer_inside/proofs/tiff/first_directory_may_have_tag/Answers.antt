@@ -1,10 +1,8 @@
 use Rattle.std.proofs.Common.{arith}
 use Rattle.infer_deep.proofs.OpenLemmas.{test_from_reads}
-use Rattle.infer_inside.proofs.OpenTiffLemmas.{tag_known, tag_reached}
+use Rattle.infer_inside.proofs.OpenTiffLemmas.{tag_known}
 use Rattle.infer_inside.proofs.tiff.first_directory_may_have_tag.Goals as goal
 
 pub returns : goal.returns
-returns c = (
-  λ is. tag_reached c.args.tag c.args.buf.now (omega (arith, c.ranges.tag.fits)) (c.may_have_tag.ensures.0 is),
-  λ r. c.may_have_tag.ensures.1 (tag_known c.args.tag c.args.buf.now (test_from_reads c.args.buf.now (λ i. omega (arith, c.type_inv.buf i))) r),
-)
+returns c = λ may.
+    c.may_have_tag.ensures.1 (tag_known c.args.tag c.args.buf.now (test_from_reads c.args.buf.now (λ i. omega (arith, c.type_inv.buf i))) may)

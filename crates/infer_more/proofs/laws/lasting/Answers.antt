@@ -6,4 +6,4 @@ pub returns-clause-lasting : goal.returns-clause-lasting
 returns-clause-lasting c = all_last c.growth.ensures c.growth-2.ensures c.growth-3.ensures
 
 pub returns-clause-lost : goal.returns-clause-lost
-returns-clause-lost c = others_lost c.ends.ensures
+returns-clause-lost c = others_lost c.single.ensures

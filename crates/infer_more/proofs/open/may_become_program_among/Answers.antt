@@ -1,22 +1,17 @@
-use Rattle.std.proofs.Common.{refl, arith}
+use Rattle.std.proofs.Common.{arith}
 use Rattle.std.proofs.lemmas.Bool.{false≢true}
 use Rattle.infer_deep.specs.Signatures.{MayBecome}
 use Rattle.infer_inside.specs.Script.{IsProgram}
-use Rattle.infer_more.proofs.OpenLemmas.{none_more, none_of, some_at, some_named}
+use Rattle.infer_more.proofs.OpenLemmas.{none_more, none_of, some_named}
 use Rattle.infer_more.proofs.open.may_become_program_among.Goals as goal
 
 pub loop-name-preserved : goal.loop-name-preserved
 loop-name-preserved c =
     let b = c.args.buf.now in
     none_more (λ name. name.now) (λ name. MayBecome (IsProgram name) b) c.args.names.now c.loop-name.name-index _ (omega arith) c.loop-name.invariant
-    (λ may. false≢true (c.if-may_become_program.ensures.1 may))
-
-pub returns-then-may_become_program : goal.returns-then-may_become_program
-returns-then-may_become_program c =
-    let b = c.args.buf.now in
-    (λ e. (some_named b c.args.names.now).0 (some_at (λ name. name.now) (λ name. MayBecome (IsProgram name) b) c.args.names.now c.loop-name.name-index _ (omega arith) (c.if-may_become_program.ensures.0 refl)), λ h. refl)
+    (λ may. false≢true (c.if-may_become_program.ensures may))
 
 pub returns : goal.returns
-returns c =
+returns c = λ h.
     let b = c.args.buf.now in
-    (λ e. absurd (cc), λ h. absurd (none_of (λ name. name.now) (λ name. MayBecome (IsProgram name) b) c.args.names.now c.loop-name.name-index (omega arith) c.loop-name.invariant ((some_named b c.args.names.now).1 h)))
+    absurd (none_of (λ name. name.now) (λ name. MayBecome (IsProgram name) b) c.args.names.now c.loop-name.name-index (omega arith) c.loop-name.invariant (some_named b c.args.names.now h))
