@@ -1,12 +1,5 @@
 -- Whatever symbols are left, some bytes complete them.
-use Rattle.std.proofs.Common.{ℕ, zero, suc, ◌≤◌, inl, inr, List, [], ◌∷◌, ◌++◌, ◌-◌, ◌/◌, ◌%◌, refl, arith}
-use Rattle.infer_inside.specs.Json.{Symbol, range, blanks, value, items, more_items, members, member, more_members, chars, char, escape, hex, number, whole, fraction, exponent, power, digits, text, same_line, next_line, byte, digit, Stands, nothing, one, by_rule}
-use Rattle.infer_inside.specs.JsonStates.{first_in, frames, left, more_in, next_left}
-use Rattle.infer_inside.specs.declared.json.Token.{Token}
-use Rattle.infer_inside.specs.declared.json.Token.TheVariants.{Chars, Escape, Hex4, Hex3, Hex2, Hex1, Char1, Char2, Char3, CharE0, CharEd, CharF0, CharF4, T, Tr, Tru, F, Fa, Fal, Fals, N, Nu, Nul, Minus, Zero, Whole, Point, Fraction, Exponent, Sign, Power}
-use Rattle.infer_inside.specs.declared.json.Due.TheVariants.{First, Value, Key, Colon, After}
-use Rattle.infer_inside.specs.declared.json.Next.{Next}
-use Rattle.infer_inside.specs.declared.json.Next.TheVariants.{Closed, Between, InKey, InValue}
+use Rattle.infer_inside.proofs.Common.{ℕ, zero, suc, ◌≤◌, inl, inr, List, [], ◌∷◌, ◌++◌, ◌-◌, ◌/◌, ◌%◌, refl, arith, Symbol, range, blanks, value, items, more_items, members, member, more_members, chars, char, escape, hex, number, whole, fraction, exponent, power, digits, text, same_line, next_line, byte, digit, Stands, nothing, one, by_rule, first_in, frames, left, more_in, next_left, Token, Chars, Escape, Hex4, Hex3, Hex2, Hex1, Char1, Char2, Char3, CharE0, CharEd, CharF0, CharF4, T, Tr, Tru, F, Fa, Fal, Fals, N, Nu, Nul, Minus, Zero, Whole, Point, Fraction, Exponent, Sign, Power, First, Value, Key, Colon, After, Next, Closed, Between, InKey, InValue}
 use Rattle.infer_inside.proofs.JsonLemmas.{value_begins}
 
 abbrev pub Completes : List Symbol → Type 0

@@ -1,9 +1,5 @@
 -- What two buffers with the same first bytes both have among these.
-use Rattle.std.proofs.Common.{◌≡◌, ℕ, ◌+◌, ◌-◌, ◌<◌, ◌≤◌, List, ◌++◌, length, get_or, arith, length-append, subst, sym, ◌∙◌}
-use Rattle.std.proofs.lemmas.List.{ext_get_or, get_or_append_left}
-use Rattle.std.specs.Prelude.{slice_range}
-use Rattle.memchr.specs.Find.{OccursAt}
-use Rattle.infer_inside.specs.Runs.{IsAfterLast, IsRun}
+use Rattle.infer_inside.proofs.Common.{◌≡◌, ℕ, ◌+◌, ◌-◌, ◌<◌, ◌≤◌, List, ◌++◌, length, get_or, arith, length-append, subst, sym, ◌∙◌, ext_get_or, get_or_append_left, slice_range, OccursAt, IsAfterLast, IsRun}
 use Rattle.infer_inside.proofs.PartLemmas.{part_length, part_reads}
 
 -- b and c have n bytes and more, and the same first n

@@ -1,22 +1,10 @@
 -- What a buffer has it has however it goes on: each relation that lasts.
-use Rattle.std.proofs.Common.{◌≡◌, inl, inr, ℕ, zero, suc, ◌+◌, ◌-◌, ◌*◌, ◌<◌, ◌≤◌, Bool, true, false, List, [], ◌∷◌, ◌++◌, length, codes, refl, sym, ap, subst, ◌∙◌, arith, length-append}
-use Rattle.std.specs.Prelude.{slice_index}
-use Rattle.std.proofs.lemmas.Bool.{cases_lt}
-use Rattle.std.proofs.lemmas.List.{get_or_append_left}
-use Rattle.memchr.specs.Find.{OccursAt}
-use Rattle.infer_deep.specs.Numbers.{be32, le16}
-use Rattle.infer_deep.specs.Office.{zip_header}
-use Rattle.infer_deep.proofs.NumberLemmas.{be32-append, le16-append, le32-append}
-use Rattle.infer_deep.proofs.PlaceLemmas.{OccursAt-append, OccursAt-front}
-use Rattle.infer_inside.specs.Dbase.{BeginsName, IsDbase, IsOneOf, behind, versions}
-use Rattle.infer_inside.specs.Elf.{HasOwnTable, IsSharedObject, counted_length, entry_count, entry_size, known_size, table_place}
-use Rattle.infer_inside.specs.Numbers.{be16, number16, number32, number64}
-use Rattle.infer_inside.specs.Png.{IsAnimatedFrom, here, later}
-use Rattle.infer_inside.specs.Subtitles.{EndsLine, IsCue, IsDigit, IsPairAt, IsSubRip, IsTime}
-use Rattle.infer_inside.specs.Tar.{HasTarChecksum, IsField, IsOctal, header_sum, octal, sum_from}
-use Rattle.infer_inside.specs.Text.{IsBinary, IsDataByte}
-use Rattle.infer_inside.specs.Tiff.{BeginsTiff, HasTag, IsTagEntry}
-use Rattle.infer_inside.specs.Zip.{FirstEntryEndsIn, FirstEntryHasExtra, FirstEntryIs, HasFirstName, IsFirstFolder, IsFolderEntry, IsPackageWith, IsPartEntry, MayBeginPackage}
+use Rattle.infer_inside.proofs.Common.{◌≡◌, inl, inr, ℕ, zero, suc, ◌+◌, ◌-◌, ◌*◌, ◌<◌, ◌≤◌, Bool, true, false, List, [], ◌∷◌, ◌++◌, length, codes, refl, sym, ap, subst, ◌∙◌, arith, length-append, slice_index, cases_lt, get_or_append_left, OccursAt, be32, le16, zip_header, be32-append, OccursAt-append, OccursAt-front, BeginsName, IsDbase, behind, versions, HasOwnTable, IsSharedObject, counted_length, entry_count, entry_size, known_size, table_place, be16, number16, number32, IsAnimatedFrom, EndsLine, IsCue, IsDigit, IsPairAt, IsSubRip, IsTime, HasTarChecksum, IsField, IsOctal, header_sum, octal, sum_from, IsBinary, IsDataByte, BeginsTiff, HasTag, IsTagEntry, FirstEntryEndsIn, FirstEntryHasExtra, FirstEntryIs, IsFirstFolder, IsFolderEntry, IsPackageWith, IsPartEntry, MayBeginPackage}
+use Rattle.infer_deep.proofs.NumberLemmas.{le16-append, le32-append}
+use Rattle.infer_inside.specs.Dbase.{IsOneOf}
+use Rattle.infer_inside.specs.Numbers.{number64}
+use Rattle.infer_inside.specs.Png.{here, later}
+use Rattle.infer_inside.specs.Zip.{HasFirstName}
 
 -- a byte that is not zero is in the buffer
 pub there : (b : List ℕ) (p : ℕ) → 1 ≤ slice_index b p → p < length b

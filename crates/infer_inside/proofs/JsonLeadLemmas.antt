@@ -1,12 +1,8 @@
 -- With which byte JSON begins, and that it has a bracket.
-use Rattle.std.proofs.Common.{◌≡◌, ◌⊎◌, inl, inr, ℕ, zero, suc, ◌<◌, Bool, true, false, List, [], ◌∷◌, ◌++◌, refl, sym, subst, arith}
-use Rattle.std.specs.Prelude.{◌||◌, ◌==◌, slice_index}
-use Rattle.std.proofs.lemmas.Bool.Decides.{nat_tests}
+use Rattle.infer_inside.proofs.Common.{◌≡◌, ◌⊎◌, inl, inr, ℕ, zero, suc, ◌<◌, Bool, true, false, List, [], ◌∷◌, ◌++◌, refl, sym, subst, arith, ◌||◌, ◌==◌, slice_index, nat_tests, BehindBlanks, BeginsLines, BeginsText, IsJson, IsJsonLines, OpensWithToken, UpToMark, blanks, same_line, text, IsBracket, IsPast, utf8_mark}
 use Rattle.infer_deep.proofs.PlaceLemmas.{OccursAt-begins}
-use Rattle.infer_inside.specs.Json.{BehindBlanks, BeginsLines, BeginsText, IsBlank, IsJson, IsJsonLines, OpensWithToken, UpToMark, blanks, same_line, text}
-use Rattle.infer_inside.specs.JsonStates.{IsBracket, IsPast}
+use Rattle.infer_inside.specs.Json.{IsBlank}
 use Rattle.infer_inside.specs.Laws.{BeginsJson, HasBracket, OpensBehindBlanks}
-use Rattle.infer_inside.specs.Markup.{utf8_mark}
 use Rattle.infer_inside.proofs.CompleteLemmas.{completes}
 use Rattle.infer_inside.proofs.LineLemmas.{past_can, text_no_blank, text_opens}
 

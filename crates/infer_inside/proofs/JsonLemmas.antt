@@ -1,6 +1,6 @@
 -- The grammar, byte by byte.
-use Rattle.std.proofs.Common.{◌≡◌, ℕ, zero, suc, ◌≤◌, ◌⊎◌, inl, inr, ◌↔◌, codes, List, [], ◌∷◌, ◌++◌, refl, subst, arith}
-use Rattle.infer_inside.specs.Json.{Symbol, range, blanks, value, items, members, chars, escape, hex, whole, fraction, exponent, power, digits, exact, rules, IsAmong, Stands, one, by_rule}
+use Rattle.infer_inside.proofs.Common.{◌≡◌, ℕ, zero, suc, ◌≤◌, ◌⊎◌, inl, inr, ◌↔◌, codes, List, [], ◌∷◌, ◌++◌, refl, subst, arith, Symbol, range, blanks, value, items, members, chars, escape, hex, whole, fraction, exponent, power, digits, exact, IsAmong, Stands, one, by_rule}
+use Rattle.infer_inside.specs.Json.{rules}
 
 abbrev AnyOf : (List Symbol → Type 0) → List (List Symbol) → Type 0
 AnyOf P [] = ⊥

@@ -1,11 +1,7 @@
 -- With which byte markup begins, and that an element opens in it.
-use Rattle.std.proofs.Common.{◌≡◌, inl, inr, ℕ, ◌<◌, List, Option, None, codes, length, refl, subst, ◌∙◌, arith}
-use Rattle.std.specs.Prelude.{slice_index}
-use Rattle.std.proofs.lemmas.Bool.{cases_lt}
-use Rattle.memchr.specs.Find.{OccursAt}
-use Rattle.infer_deep.proofs.PlaceLemmas.{OccursAt-first}
+use Rattle.infer_inside.proofs.Common.{◌≡◌, inl, inr, ℕ, ◌<◌, List, Option, None, codes, length, refl, subst, ◌∙◌, arith, slice_index, cases_lt, OccursAt, OccursAt-first, IsRootElement, LeadsToTag}
 use Rattle.infer_inside.specs.Laws.{BeginsMarkup, OpensBehindSpace, OpensElement}
-use Rattle.infer_inside.specs.Markup.{IsRootElement, LeadsToTag, here, later}
+use Rattle.infer_inside.specs.Markup.{here, later}
 
 module _ (b : List ℕ) where
   opened : (t : List ℕ) → 0 < length t → slice_index t 0 ≡ 0x3C → (p : ℕ) → OccursAt b t p → slice_index b p ≡ 0x3C

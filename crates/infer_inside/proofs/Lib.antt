@@ -1,3 +1,4 @@
+pub mod Common
 pub mod GrowthLemmas
 pub mod CompleteLemmas
 pub mod JsonLemmas

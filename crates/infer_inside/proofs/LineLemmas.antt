@@ -1,13 +1,10 @@
 -- White space and the lines that texts stand on.
-use Rattle.std.proofs.Common.{◌≡◌, ℕ, ◌+◌, ◌-◌, ◌≤◌, ◌<◌, ◌⊎◌, inl, inr, ◌↔◌, Bool, false, IsTrue, nat_eq, rules, List, [], ◌∷◌, ◌++◌, Option, None, Some, length, take, drop, get_or, length-drop, refl, sym, subst, ap, ◌∙◌, arith}
-use Rattle.std.proofs.lemmas.List.{drop_more, take_rest}
-use Rattle.infer_inside.specs.Json.{Symbol, blanks, text, same_line, next_line, BeginsLines, BeginsText, CanBe, UpToMark, IsBlank, IsKind, Stands}
-use Rattle.infer_inside.specs.JsonStates.{IsBracket, IsNextLine, IsKindPastMark, IsPast, IsPastMark, Leaves, LineTells, StartsLine, next_left}
-use Rattle.infer_inside.specs.declared.json.Kind.{Kind}
-use Rattle.infer_inside.specs.declared.json.Kind.TheVariants.{Lines, Text}
+use Rattle.infer_inside.proofs.Common.{◌≡◌, ℕ, ◌+◌, ◌-◌, ◌≤◌, ◌<◌, ◌⊎◌, inl, inr, ◌↔◌, Bool, false, IsTrue, nat_eq, List, [], ◌∷◌, ◌++◌, Option, None, Some, length, take, drop, get_or, length-drop, refl, sym, subst, ap, ◌∙◌, arith, drop_more, take_rest, Symbol, blanks, text, same_line, next_line, BeginsLines, BeginsText, CanBe, UpToMark, IsKind, Stands, IsBracket, IsKindPastMark, IsPast, IsPastMark, Leaves, StartsLine, next_left, Kind, Lines, Text, Next}
+use Rattle.std.proofs.Common.{rules}
+use Rattle.infer_inside.specs.Json.{IsBlank}
+use Rattle.infer_inside.specs.JsonStates.{IsNextLine, LineTells}
 use Rattle.infer_inside.specs.declared.json.Line as line
 use Rattle.infer_inside.specs.declared.json.Line.TheVariants as Line
-use Rattle.infer_inside.specs.declared.json.Next.{Next}
 use Rattle.infer_inside.proofs.JsonLemmas.{begins, range_begins}
 use Rattle.infer_inside.proofs.ReaderLemmas.{blank_read, blank_skip}
 use Rattle.infer_inside.proofs.CompleteLemmas.{AllHold, completes, next_holds}

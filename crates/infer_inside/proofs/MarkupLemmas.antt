@@ -1,13 +1,8 @@
 -- The parts of a prolog, the tag that they lead to, and the name of the document type.
-use Rattle.std.proofs.Common.{◌≡◌, ◌↔◌, ℕ, ◌+◌, ◌-◌, ◌<◌, ◌≤◌, ◌⊎◌, inl, inr, List, ◌++◌, Option, None, Some, length, codes, get_or, add-zero, refl, sym, subst, ap, ◌∙◌, arith}
-use Rattle.std.proofs.lemmas.Bool.{cases_lt}
-use Rattle.std.proofs.lemmas.List.{drop-append-le, ext_get_or}
-use Rattle.std.specs.Prelude.{slice_range}
-use Rattle.memchr.specs.Find.{OccursAt}
+use Rattle.infer_inside.proofs.Common.{◌≡◌, ◌↔◌, ℕ, ◌+◌, ◌-◌, ◌<◌, ◌≤◌, ◌⊎◌, inl, inr, List, ◌++◌, Option, None, Some, length, codes, get_or, add-zero, refl, sym, subst, ap, ◌∙◌, arith, cases_lt, ext_get_or, slice_range, OccursAt, Lasts, AgreesWithDoctype, BeginsAt, BeginsElement, ClosesDeclaration, HasRoot, HasRootWith, IsDoctype, IsEnclosed, IsMisc, IsPart, IsRootElement, IsSpaceRun, IsTypeByte, IsXmlSpace, LeadsToTag, OpensTag, utf8_mark, IsAfterLast, IsRun}
+use Rattle.std.proofs.lemmas.List.{drop-append-le}
 use Rattle.infer_deep.proofs.PlaceLemmas.{IsFirstPlace-same}
-use Rattle.infer_deep.specs.Signatures.{Lasts}
-use Rattle.infer_inside.specs.Markup.{AgreesWithDoctype, BeginsAt, BeginsElement, ClosesDeclaration, HasRoot, HasRootWith, IsDoctype, IsEnclosed, IsMisc, IsNameByte, IsPart, IsRootElement, IsSpaceRun, IsTypeByte, IsXmlSpace, LeadsToTag, OpensElement, OpensTag, here, later, utf8_mark}
-use Rattle.infer_inside.specs.Runs.{IsAfterLast, IsRun}
+use Rattle.infer_inside.specs.Markup.{IsNameByte, OpensElement, here, later}
 use Rattle.infer_inside.proofs.FrontLemmas.{SharesFront, after_last_shared, byte_shared, byte_shared_back, front_grows, front_swaps, range_shared, run_shared, text_shared}
 use Rattle.infer_inside.proofs.PartLemmas.{part_length, part_reads}
 use Rattle.infer_inside.proofs.RunLemmas.{one_after_last, one_run_end}

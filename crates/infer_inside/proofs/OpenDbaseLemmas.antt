@@ -1,11 +1,6 @@
 -- What bytes after a buffer can make a dBASE table.
-use Rattle.std.proofs.Common.{◌≡◌, add-zero, inl, inr, ℕ, zero, suc, ◌+◌, ◌<◌, ◌≤◌, List, [], ◌∷◌, ◌++◌, length, codes, sym, subst, ◌∙◌, arith}
-use Rattle.std.specs.Prelude.{slice_index}
-use Rattle.std.proofs.lemmas.Bool.{cases_lt}
-use Rattle.std.proofs.lemmas.List.{get_or_append_left}
-use Rattle.infer_deep.specs.Numbers.{le16}
-use Rattle.infer_deep.specs.Signatures.{MayBecome}
-use Rattle.infer_inside.specs.Dbase.{BeginsName, EndsFields, IsDbase, IsOneOf, MayBeDbase, MayEndFields, behind, versions}
+use Rattle.infer_inside.proofs.Common.{◌≡◌, add-zero, inl, inr, ℕ, zero, suc, ◌+◌, ◌<◌, ◌≤◌, List, [], ◌∷◌, ◌++◌, length, codes, sym, subst, ◌∙◌, arith, slice_index, cases_lt, get_or_append_left, le16, MayBecome, BeginsName, IsDbase, behind, versions}
+use Rattle.infer_inside.specs.Dbase.{EndsFields, IsOneOf, MayBeDbase, MayEndFields}
 use Rattle.infer_inside.specs.Open.{MayBe}
 
 module _ (b more : List ℕ) where

@@ -1,15 +1,7 @@
 -- What bytes after a buffer can make a shared object.
-use Rattle.std.proofs.Common.{IsTrue, ◌≡◌, inl, inr, ℕ, ◌+◌, ◌*◌, ◌<◌, ◌≤◌, Bool, true, false, List, ◌++◌, length, get_or, refl, sym, subst, ◌∙◌, arith}
-use Rattle.std.proofs.Math.ListN.{get_or-eq_default}
-use Rattle.std.proofs.lemmas.Bool.{cases_lt}
-use Rattle.std.proofs.lemmas.Grind.{get_or_default_zero}
-use Rattle.std.proofs.lemmas.List.{get_or_append_left}
-use Rattle.infer_deep.specs.Numbers.{le16}
-use Rattle.infer_deep.specs.Open.{are_bytes}
-use Rattle.infer_deep.specs.Signatures.{MayBecome}
-use Rattle.infer_deep.proofs.OpenLemmas.{IsBytes, agrees_past, agrees_where_stands, grown_agrees, stands_where_whole}
-use Rattle.infer_inside.specs.Elf.{AsksAt, HasOwnTable, IsSharedObject, MayBeSharedObject, MayCount, MayHaveOwnTable, counted_length, entry_count, entry_size, known_size, place_end, size_at, table_place}
-use Rattle.infer_inside.specs.Numbers.{be16, bytes16, number16}
+use Rattle.infer_inside.proofs.Common.{IsTrue, ◌≡◌, inl, inr, ℕ, ◌+◌, ◌*◌, ◌<◌, ◌≤◌, Bool, true, false, List, ◌++◌, length, get_or, refl, sym, subst, ◌∙◌, arith, get_or-eq_default, cases_lt, get_or_default_zero, get_or_append_left, le16, are_bytes, MayBecome, IsBytes, agrees_past, grown_agrees, AsksAt, HasOwnTable, IsSharedObject, counted_length, entry_count, entry_size, known_size, table_place, be16, bytes16, number16}
+use Rattle.infer_deep.proofs.OpenLemmas.{agrees_where_stands, stands_where_whole}
+use Rattle.infer_inside.specs.Elf.{MayBeSharedObject, MayCount, MayHaveOwnTable, place_end, size_at}
 use Rattle.infer_inside.proofs.GrowthLemmas.{number32-append, number64-append}
 use Rattle.infer_inside.proofs.OpenLemmas.{grown_byte, length-bytes16, number16_reads, number16_stands}
 

@@ -1,14 +1,9 @@
 -- What bytes after a buffer can make JSON of it.
-use Rattle.std.proofs.Common.{◌≡◌, ◌↔◌, ◌⊎◌, ◌<◌, ◌+◌, inl, inr, ℕ, zero, suc, Bool, true, false, IsTrue, List, [], ◌∷◌, ◌++◌, append_assoc, drop, get_or, length, nat_lt, refl, sym, subst, ap, ◌∙◌, arith}
-use Rattle.std.specs.Prelude.{◌&&◌, ◌||◌}
-use Rattle.std.specs.List.{list_all}
+use Rattle.infer_inside.proofs.Common.{◌≡◌, ◌↔◌, ◌⊎◌, ◌<◌, ◌+◌, inl, inr, ℕ, zero, suc, Bool, true, false, IsTrue, List, [], ◌∷◌, ◌++◌, append_assoc, drop, get_or, length, refl, sym, subst, ap, ◌∙◌, arith, ◌||◌, list_all, nat_tests, AgreesAt, MayBecome, Symbol, range, blanks, value, items, more_items, members, member, more_members, chars, char, escape, hex, number, whole, fraction, exponent, power, digits, text, same_line, next_line, BeginsLines, BeginsText, CanBe, IsAmong, IsJson, IsJsonLines, Stands, UpToMark, nothing, one, by_rule, IsPast, IsPastMark, utf8_mark}
+use Rattle.std.proofs.Common.{nat_lt}
+use Rattle.std.specs.Prelude.{◌&&◌}
 use Rattle.std.proofs.lemmas.Bool.{and_parts, or_right}
-use Rattle.std.proofs.lemmas.Bool.Decides.{nat_tests}
-use Rattle.infer_deep.specs.Open.{AgreesAt}
-use Rattle.infer_deep.specs.Signatures.{MayBecome}
-use Rattle.infer_inside.specs.Json.{Symbol, range, blanks, value, items, more_items, members, member, more_members, chars, char, escape, hex, number, whole, fraction, exponent, power, digits, text, same_line, next_line, rules, BeginsLines, BeginsText, CanBe, IsAmong, IsJson, IsJsonLines, Stands, UpToMark, nothing, one, by_rule}
-use Rattle.infer_inside.specs.JsonStates.{IsPast, IsPastMark}
-use Rattle.infer_inside.specs.Markup.{utf8_mark}
+use Rattle.infer_inside.specs.Json.{rules}
 use Rattle.infer_inside.proofs.CompleteLemmas.{AllHold}
 use Rattle.infer_inside.proofs.JsonLemmas.{begins, chars_begin}
 use Rattle.infer_inside.proofs.LineLemmas.{mark_stops, past_can, text_no_blank}

@@ -1,19 +1,9 @@
 -- Bytes after a buffer, chosen by their places.
-use Rattle.std.proofs.Common.{IsTrue, ◌≡◌, Bool, true, false, add-zero, inl, inr, ℕ, zero, suc, ◌+◌, ◌-◌, ◌/◌, ◌%◌, ◌<◌, ◌≤◌, List, ◌++◌, length, get_or, max, map, refl, ap, sym, subst, ◌∙◌, arith, length-append}
-use Rattle.std.proofs.Math.Seq.{get_or-append_right}
-use Rattle.std.proofs.lemmas.List.{get_or_append_left}
-use Rattle.std.proofs.lemmas.Grind.{get_or_default_zero}
+use Rattle.infer_inside.proofs.Common.{IsTrue, ◌≡◌, Bool, true, false, add-zero, inl, inr, ℕ, zero, suc, ◌+◌, ◌-◌, ◌/◌, ◌%◌, ◌<◌, ◌≤◌, List, ◌++◌, length, get_or, max, map, refl, ap, sym, subst, ◌∙◌, arith, length-append, get_or-append_right, get_or_append_left, get_or_default_zero, cases_lt, get_or-eq_default, le16, OccursAt, OccursAt-first, are_bytes, be16, bytes16, most16, number16, IsBytes}
 use Rattle.std.proofs.lemmas.List.Elements.{All-append, All-from_get_or}
 use Rattle.std.proofs.lemmas.List.FromFn.{get_or-map-range_with_len, length-map-range_with_len}
 use Rattle.std.specs.List.{range_with_len}
-use Rattle.std.proofs.lemmas.Bool.{cases_lt}
-use Rattle.std.proofs.Math.ListN.{get_or-eq_default}
-use Rattle.infer_deep.specs.Numbers.{le16}
-use Rattle.memchr.specs.Find.{OccursAt}
-use Rattle.infer_deep.proofs.PlaceLemmas.{OccursAt-first}
-use Rattle.infer_deep.specs.Open.{are_bytes}
-use Rattle.infer_inside.specs.Numbers.{be16, bytes16, most16, number16}
-use Rattle.infer_deep.proofs.OpenLemmas.{IsBytes, bytes_from_test}
+use Rattle.infer_deep.proofs.OpenLemmas.{bytes_from_test}
 
 -- b, and then the byte f k at each place k up to n
 pub record Filled (f : ℕ → ℕ) (b : List ℕ) (n : ℕ) : Type 0 where

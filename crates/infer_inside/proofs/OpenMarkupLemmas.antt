@@ -1,16 +1,8 @@
 -- What bytes after a buffer can make the name of its root element.
-use Rattle.std.proofs.Common.{◌≡◌, ◌⊎◌, ◌↔◌, inl, inr, ℕ, zero, suc, ◌+◌, ◌-◌, ◌<◌, ◌≤◌, List, [], ◌∷◌, ◌++◌, Option, None, Some, length, codes, get_or, drop, refl, sym, ap, subst, ◌∙◌, add-zero, arith, length-drop}
-use Rattle.std.proofs.Math.ListN.{get_or-eq_default}
-use Rattle.std.proofs.lemmas.Bool.{cases_lt, cases_order}
-use Rattle.std.proofs.lemmas.List.{ext_get_or, get_or-drop, get_or_append_left}
-use Rattle.std.specs.Prelude.{slice_range}
-use Rattle.memchr.specs.Find.{OccursAt}
-use Rattle.infer_deep.specs.Open.{AgreesAt}
-use Rattle.infer_deep.specs.Signatures.{MayBecome}
-use Rattle.infer_deep.proofs.OpenLemmas.{Fills, IsBytes, fills_text, grown_agrees, test_from_reads}
-use Rattle.infer_deep.proofs.PlaceLemmas.{OccursAt-front}
-use Rattle.infer_inside.specs.Markup.{AgreesWithDoctype, BeginsAt, BeginsElement, ClosesDeclaration, EndsName, HasInTag, HasRoot, HasRootWith, HasNoBracket, IsDoctype, IsFullName, IsLocalName, IsMisc, MayDeclare, MayGoOn, MayNameRoot, MayOpenAs, MayOpenTag, IsNameByte, IsPart, IsRootElement, IsSpaceRun, IsTypeByte, IsXmlSpace, LeadsToTag, OpensTag, here, later, utf8_mark}
-use Rattle.infer_inside.specs.Runs.{IsRun}
+use Rattle.infer_inside.proofs.Common.{◌≡◌, ◌⊎◌, ◌↔◌, inl, inr, ℕ, zero, suc, ◌+◌, ◌-◌, ◌<◌, ◌≤◌, List, [], ◌∷◌, ◌++◌, Option, None, Some, length, codes, get_or, drop, refl, sym, ap, subst, ◌∙◌, add-zero, arith, length-drop, get_or-eq_default, cases_lt, ext_get_or, get_or-drop, get_or_append_left, slice_range, OccursAt, AgreesAt, MayBecome, IsBytes, grown_agrees, test_from_reads, OccursAt-front, AgreesWithDoctype, BeginsAt, BeginsElement, ClosesDeclaration, HasInTag, HasRoot, HasRootWith, IsDoctype, IsFullName, IsMisc, MayOpenAs, IsPart, IsRootElement, IsSpaceRun, IsTypeByte, IsXmlSpace, LeadsToTag, OpensTag, utf8_mark, IsRun}
+use Rattle.std.proofs.lemmas.Bool.{cases_order}
+use Rattle.infer_deep.proofs.OpenLemmas.{Fills, fills_text}
+use Rattle.infer_inside.specs.Markup.{EndsName, HasNoBracket, IsLocalName, MayDeclare, MayGoOn, MayNameRoot, MayOpenTag, IsNameByte, here, later}
 use Rattle.infer_inside.proofs.FrontLemmas.{SharesFront, byte_shared, front_grows, front_swaps, after_last_shared, range_shared, run_shared, text_shared}
 use Rattle.infer_inside.proofs.MarkupLemmas.{begin_lasts, one_begin, one_lead, root_lasts, ways}
 use Rattle.infer_inside.proofs.PartLemmas.{part_length, part_reads}

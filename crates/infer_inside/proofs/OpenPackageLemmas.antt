@@ -1,12 +1,7 @@
 -- What bytes after a buffer can make a package with the folder of an application.
-use Rattle.std.proofs.Common.{◌≡◌, inl, inr, ℕ, ◌+◌, ◌≤◌, List, ◌++◌, length, codes, get_or, refl, sym, ap, subst, ◌∙◌, arith}
-use Rattle.std.specs.Prelude.{if◌then◌else◌, nat_eq}
-use Rattle.memchr.specs.Find.{OccursAt}
-use Rattle.infer_deep.specs.Office.{zip_header}
-use Rattle.infer_deep.specs.Signatures.{MayBecome}
-use Rattle.infer_deep.proofs.OpenLemmas.{grown_agrees}
-use Rattle.infer_deep.proofs.PlaceLemmas.{OccursAt-append, OccursAt-first}
-use Rattle.infer_inside.specs.Zip.{IsFirstFolder, IsOneOf, IsPackageWith, MayOpenPackage, applications}
+use Rattle.infer_inside.proofs.Common.{◌≡◌, inl, inr, ℕ, ◌+◌, ◌≤◌, List, ◌++◌, length, codes, get_or, refl, sym, ap, subst, ◌∙◌, arith, nat_eq, OccursAt, zip_header, MayBecome, grown_agrees, OccursAt-append, OccursAt-first, IsFirstFolder, IsPackageWith, applications}
+use Rattle.std.specs.Prelude.{if◌then◌else◌}
+use Rattle.infer_inside.specs.Zip.{IsOneOf, MayOpenPackage}
 use Rattle.infer_inside.proofs.GrowthLemmas.{first_folder-lasts}
 use Rattle.infer_inside.proofs.ZipLemmas.{entry_of, one_folder}
 

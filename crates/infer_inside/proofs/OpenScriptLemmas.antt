@@ -1,11 +1,6 @@
 -- What bytes after a buffer can make the name of its program.
-use Rattle.std.proofs.Common.{◌≡◌, inl, inr, ℕ, ◌+◌, ◌-◌, ◌<◌, ◌≤◌, List, ◌++◌, length, codes, get_or, sym, ap, subst, ◌∙◌, arith}
-use Rattle.std.proofs.lemmas.Bool.{cases_lt}
-use Rattle.std.specs.Prelude.{slice_range}
-use Rattle.infer_deep.specs.Open.{AgreesAt}
-use Rattle.infer_deep.specs.Signatures.{MayBecome}
-use Rattle.infer_deep.proofs.OpenLemmas.{grown_agrees}
-use Rattle.infer_inside.specs.Script.{IsBareName, IsEnv, IsFirstWord, IsLineEnd, IsNextWord, IsProgram, IsSetting, IsVersionByte, IsWord, IsWordByte, NamesProgram}
+use Rattle.infer_inside.proofs.Common.{◌≡◌, inl, inr, ℕ, ◌+◌, ◌-◌, ◌<◌, ◌≤◌, List, ◌++◌, length, codes, get_or, sym, ap, subst, ◌∙◌, arith, cases_lt, slice_range, AgreesAt, MayBecome, grown_agrees, IsEnv, IsFirstWord, IsLineEnd, IsNextWord, IsProgram, IsSetting, IsVersionByte, IsWord, IsWordByte, NamesProgram}
+use Rattle.infer_inside.specs.Script.{IsBareName}
 use Rattle.infer_inside.proofs.FrontLemmas.{byte_shared, front_grows, front_swaps}
 use Rattle.infer_inside.proofs.PartLemmas.{part_length, part_reads}
 use Rattle.infer_inside.proofs.ScriptLemmas.{IsProgram-lasts, env_shared, first_lasts, named_word, one_next_word, one_program, setting_shared, word_shared}

@@ -1,12 +1,6 @@
 -- What bytes after a buffer can make subtitles of SubRip.
-use Rattle.std.proofs.Common.{◌≡◌, ◌⊎◌, inl, inr, ℕ, ◌+◌, ◌-◌, ◌<◌, ◌≤◌, List, ◌++◌, length, get_or, refl, sym, subst, ◌∙◌, arith}
-use Rattle.std.proofs.Math.ListN.{get_or-eq_default}
-use Rattle.std.proofs.lemmas.Bool.{cases_lt}
-use Rattle.std.proofs.lemmas.Grind.{get_or_default_zero}
-use Rattle.std.proofs.lemmas.List.{get_or_append_left}
-use Rattle.infer_deep.specs.Signatures.{MayBecome}
-use Rattle.infer_deep.proofs.OpenLemmas.{grown_agrees}
-use Rattle.infer_inside.specs.Subtitles.{AreDigits, EndsLine, IsCue, IsDigit, IsPairAt, IsSpan, IsSubRip, IsTime, MayBeCue, MayBePair, MayBeSpan, MayBeSubRip, MayBeTime}
+use Rattle.infer_inside.proofs.Common.{◌≡◌, ◌⊎◌, inl, inr, ℕ, ◌+◌, ◌-◌, ◌<◌, ◌≤◌, List, ◌++◌, length, get_or, refl, sym, subst, ◌∙◌, arith, get_or-eq_default, cases_lt, get_or_default_zero, get_or_append_left, MayBecome, grown_agrees, AreDigits, EndsLine, IsCue, IsDigit, IsPairAt, IsSubRip, IsTime, MayBeSpan}
+use Rattle.infer_inside.specs.Subtitles.{IsSpan, MayBeCue, MayBePair, MayBeSubRip, MayBeTime}
 use Rattle.infer_inside.proofs.SubtitlesLemmas.{cue_by_count}
 
 -- ---- what the count of the digits tells

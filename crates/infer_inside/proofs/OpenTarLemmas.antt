@@ -1,12 +1,5 @@
 -- What bytes after a buffer can make a first header with its checksum.
-use Rattle.std.proofs.Common.{◌≡◌, ◌⊎◌, inl, inr, ℕ, zero, suc, ◌+◌, ◌-◌, ◌*◌, ◌<◌, ◌≤◌, List, ◌++◌, length, get_or, max, min, refl, sym, ap, subst, ◌∙◌, arith}
-use Rattle.std.proofs.Math.ListN.{get_or-eq_default}
-use Rattle.std.proofs.Math.Seq.{get_or-append_right}
-use Rattle.std.proofs.lemmas.Bool.{cases_lt}
-use Rattle.std.proofs.lemmas.List.{get_or_append_left}
-use Rattle.infer_deep.specs.Signatures.{MayBecome}
-use Rattle.infer_deep.proofs.OpenLemmas.{IsBytes}
-use Rattle.infer_inside.specs.Tar.{HasTarChecksum, IsField, IsOctal, MayWrite, header_sum, octal, scaled, sum_from}
+use Rattle.infer_inside.proofs.Common.{◌≡◌, ◌⊎◌, inl, inr, ℕ, zero, suc, ◌+◌, ◌-◌, ◌*◌, ◌<◌, ◌≤◌, List, ◌++◌, length, get_or, max, min, refl, sym, ap, subst, ◌∙◌, arith, get_or-eq_default, get_or-append_right, cases_lt, get_or_append_left, MayBecome, IsBytes, HasTarChecksum, IsField, IsOctal, MayWrite, header_sum, octal, scaled, sum_from}
 use Rattle.infer_inside.proofs.GrowthLemmas.{header_sum-append}
 use Rattle.infer_inside.proofs.OpenLemmas.{Filled, fills}
 use Rattle.infer_inside.proofs.TarLemmas.{count_is, place_is}

@@ -1,14 +1,8 @@
 -- What bytes after a buffer can make text of it, and which texts stay one.
-use Rattle.std.proofs.Common.{◌≡◌, ◌⊎◌, ◌<◌, ◌≤◌, ◌+◌, inl, inr, ◌↔◌, ℕ, zero, suc, Bool, false, IsTrue, nat_eq, List, [], ◌∷◌, ◌++◌, length, refl, sym, subst, ◌∙◌, arith}
-use Rattle.std.specs.Prelude.{slice_index}
-use Rattle.std.proofs.lemmas.Bool.{cases_lt}
-use Rattle.std.proofs.lemmas.List.{get_or_append_left}
-use Rattle.memchr.specs.Find.{OccursAt}
-use Rattle.infer_deep.specs.Signatures.{MayBecome}
+use Rattle.infer_inside.proofs.Common.{◌≡◌, ◌⊎◌, ◌<◌, ◌≤◌, ◌+◌, inl, inr, ◌↔◌, ℕ, zero, suc, Bool, false, IsTrue, nat_eq, List, [], ◌∷◌, ◌++◌, length, refl, sym, subst, ◌∙◌, arith, slice_index, cases_lt, get_or_append_left, OccursAt, MayBecome, OccursAt-append, OccursAt-front, IsBinary, IsDataByte}
 use Rattle.infer_deep.specs.Text.{BeginsMarked, IsMark}
-use Rattle.infer_deep.proofs.PlaceLemmas.{OccursAt-append, OccursAt-front}
 use Rattle.infer_inside.specs.Open.{Stays}
-use Rattle.infer_inside.specs.Text.{IsBinary, IsDataByte, IsText}
+use Rattle.infer_inside.specs.Text.{IsText}
 use Rattle.infer_inside.proofs.GrowthLemmas.{binary-lasts}
 
 -- no byte of a mark is one of binary data

@@ -1,11 +1,6 @@
 -- What bytes after a buffer can bring to the first directory of a TIFF file.
-use Rattle.std.proofs.Common.{IsTrue, ◌≡◌, inl, inr, ℕ, ◌+◌, ◌-◌, ◌*◌, ◌/◌, min, ◌<◌, ◌≤◌, Bool, true, false, List, ◌++◌, length, get_or, subst, arith}
-use Rattle.std.proofs.lemmas.Bool.{cases_lt}
-use Rattle.infer_deep.specs.Open.{AgreesAt, are_bytes}
-use Rattle.infer_deep.specs.Signatures.{MayBecome}
-use Rattle.infer_deep.proofs.OpenLemmas.{agrees_past, grown_agrees}
-use Rattle.infer_inside.specs.Numbers.{bytes16, number16, number32}
-use Rattle.infer_inside.specs.Tiff.{BeginsTiff, HasTag, IsTagEntry, MayBeginTiff, MayHaveEntry, MayHaveTag}
+use Rattle.infer_inside.proofs.Common.{IsTrue, ◌≡◌, inl, inr, ℕ, ◌+◌, ◌-◌, ◌*◌, ◌/◌, min, ◌<◌, ◌≤◌, Bool, true, false, List, ◌++◌, length, get_or, subst, arith, cases_lt, AgreesAt, are_bytes, MayBecome, agrees_past, grown_agrees, bytes16, number16, number32, BeginsTiff, HasTag, IsTagEntry}
+use Rattle.infer_inside.specs.Tiff.{MayBeginTiff, MayHaveEntry, MayHaveTag}
 use Rattle.infer_inside.proofs.GrowthLemmas.{number16-append, number32-append}
 use Rattle.infer_inside.proofs.OpenLemmas.{grown_byte, number16_stands}
 

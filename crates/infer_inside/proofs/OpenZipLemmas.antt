@@ -1,13 +1,7 @@
 -- What bytes after a buffer can make the first entry of a ZIP archive.
-use Rattle.std.proofs.Common.{IsTrue, ◌≡◌, inl, inr, ℕ, zero, suc, ◌+◌, ◌-◌, ◌/◌, ◌%◌, ◌<◌, List, ◌++◌, length, get_or, subst, arith}
-use Rattle.std.proofs.lemmas.Bool.{cases_lt}
-use Rattle.infer_deep.specs.Numbers.{le16}
-use Rattle.infer_deep.specs.Office.{zip_header}
-use Rattle.infer_deep.specs.Open.{AgreesAt, are_bytes}
-use Rattle.infer_deep.specs.Signatures.{MayBecome}
-use Rattle.infer_deep.proofs.OpenLemmas.{agrees_past, grown_agrees}
-use Rattle.infer_inside.specs.Numbers.{low_bytes, most16}
-use Rattle.infer_inside.specs.Zip.{FirstEntryEndsIn, FirstEntryHasExtra, FirstEntryIs, MayHaveFirstEnding, MayHaveFirstField, MayHaveFirstName}
+use Rattle.infer_inside.proofs.Common.{IsTrue, ◌≡◌, inl, inr, ℕ, zero, suc, ◌+◌, ◌-◌, ◌/◌, ◌%◌, ◌<◌, List, ◌++◌, length, get_or, subst, arith, cases_lt, le16, zip_header, AgreesAt, are_bytes, MayBecome, agrees_past, grown_agrees, most16, FirstEntryEndsIn, FirstEntryHasExtra, FirstEntryIs}
+use Rattle.infer_inside.specs.Numbers.{low_bytes}
+use Rattle.infer_inside.specs.Zip.{MayHaveFirstEnding, MayHaveFirstField, MayHaveFirstName}
 use Rattle.infer_inside.proofs.OpenLemmas.{grown_byte, most16_grown, most16_known}
 
 pub name_known : (name b : List ℕ) → IsTrue (are_bytes b) → MayBecome (FirstEntryIs name) b → MayHaveFirstName name b

@@ -1,11 +1,6 @@
 -- What a chunk says of those after it.
-use Rattle.std.proofs.Common.{◌≡◌, ◌↔◌, ◌⊎◌, inl, inr, ℕ, ◌+◌, ◌<◌, ◌≤◌, List, ◌++◌, length, codes, sym, subst, ◌∙◌, arith, length-append}
-use Rattle.memchr.specs.Find.{OccursAt}
-use Rattle.infer_deep.specs.Numbers.{be32}
-use Rattle.infer_deep.specs.Signatures.{MayBecome}
-use Rattle.infer_deep.proofs.NumberLemmas.{be32-append}
-use Rattle.infer_deep.proofs.PlaceLemmas.{OccursAt-append, OccursAt-front}
-use Rattle.infer_inside.specs.Png.{IsAnimated, IsAnimatedFrom, here, later}
+use Rattle.infer_inside.proofs.Common.{◌≡◌, ◌↔◌, ◌⊎◌, inl, inr, ℕ, ◌+◌, ◌<◌, ◌≤◌, List, ◌++◌, length, codes, sym, subst, ◌∙◌, arith, length-append, OccursAt, be32, MayBecome, be32-append, OccursAt-append, OccursAt-front, IsAnimated, IsAnimatedFrom}
+use Rattle.infer_inside.specs.Png.{here, later}
 
 parts : (b : List ℕ) (c : ℕ) → IsAnimatedFrom b c
     → OccursAt b (codes "acTL") (c + 4) ⊎ ((c + 8 ≤ length b) × (OccursAt b (codes "IDAT") (c + 4) → ⊥) × IsAnimatedFrom b (c + 12 + be32 b c))

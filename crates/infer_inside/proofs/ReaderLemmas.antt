@@ -1,14 +1,9 @@
 -- What is left of a text, byte by byte.
-use Rattle.std.proofs.Common.{◌≡◌, ℕ, zero, suc, ◌+◌, ◌-◌, ◌*◌, ◌/◌, ◌%◌, ◌^◌, ◌≤◌, ◌<◌, ◌⊎◌, inl, inr, ◌↔◌, Bool, true, false, List, ◌∷◌, refl, sym, subst, ap, ◌∙◌, arith}
+use Rattle.infer_inside.proofs.Common.{◌≡◌, ℕ, zero, suc, ◌+◌, ◌-◌, ◌*◌, ◌/◌, ◌%◌, ◌^◌, ◌≤◌, ◌<◌, ◌⊎◌, inl, inr, ◌↔◌, Bool, true, false, List, ◌∷◌, refl, sym, subst, ap, ◌∙◌, arith, Symbol, blanks, value, items, more_items, members, member, more_members, chars, text, byte, Stands, first_in, more_in, next_left, IsOpen, frames, due_left, EndsNumber, Reads, Due, First, Value, Key, Colon, After, Next, Closed, Between, Reader}
 use Rattle.std.proofs.Math.Nat.{pow-le-pow_right}
 use Rattle.std.proofs.lemmas.Grind.{pow_more}
-use Rattle.infer_inside.specs.Json.{Symbol, blanks, value, items, more_items, members, member, more_members, chars, text, byte, IsBlank, Stands}
-use Rattle.infer_inside.specs.JsonStates.{first_in, more_in, opening, closing, next_left, IsOpen, IsClosedTo, frames, due_left, MayGoOn, EndsNumber, Reads}
-use Rattle.infer_inside.specs.declared.json.Due.{Due}
-use Rattle.infer_inside.specs.declared.json.Due.TheVariants.{First, Value, Key, Colon, After}
-use Rattle.infer_inside.specs.declared.json.Next.{Next}
-use Rattle.infer_inside.specs.declared.json.Next.TheVariants.{Closed, Between}
-use Rattle.infer_inside.specs.declared.json.Reader.{Reader}
+use Rattle.infer_inside.specs.Json.{IsBlank}
+use Rattle.infer_inside.specs.JsonStates.{opening, closing, IsClosedTo, MayGoOn}
 use Rattle.infer_inside.proofs.JsonLemmas.{begins, range_begins, value_begins, array_begins, object_begins, none_nested}
 
 pub frames_none : (k : ℕ) (ss : List Symbol) → frames 0 k ss ≡ ss

@@ -1,6 +1,5 @@
 -- A run ends at one place, and what follows a byte begins at one.
-use Rattle.std.proofs.Common.{◌≡◌, ℕ, ◌-◌, ◌<◌, List, arith}
-use Rattle.infer_inside.specs.Runs.{IsAfterLast, IsRun}
+use Rattle.infer_inside.proofs.Common.{◌≡◌, ℕ, ◌-◌, ◌<◌, List, arith, IsAfterLast, IsRun}
 
 pub one_run_end : (Kind : ℕ → Type 0) (b : List ℕ) (from to other : ℕ) → IsRun Kind b from to → IsRun Kind b from other → to ≡ other
 one_run_end Kind b from to other r s =

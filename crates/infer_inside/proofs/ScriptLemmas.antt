@@ -1,13 +1,9 @@
 -- The words of a first line, and the one that names the program.
-use Rattle.std.proofs.Common.{◌≡◌, ◌==◌, ◌||◌, ℕ, zero, suc, ◌+◌, ◌-◌, ◌<◌, ◌≤◌, ◌⊎◌, inl, inr, ap, refl, Bool, true, false, not, List, ◌++◌, Option, None, Some, length, codes, get_or, sym, subst, ◌∙◌, MatchOption, arith}
-use Rattle.std.specs.List.{list_all}
+use Rattle.infer_inside.proofs.Common.{◌≡◌, ◌==◌, ◌||◌, ℕ, zero, suc, ◌+◌, ◌-◌, ◌<◌, ◌≤◌, ◌⊎◌, inl, inr, ap, refl, Bool, true, false, List, ◌++◌, Option, None, Some, length, codes, get_or, sym, subst, ◌∙◌, MatchOption, arith, list_all, get_or_append_left, OccursAt, Lasts, IsEnv, IsFirstWord, IsLineEnd, IsNextWord, IsProgram, IsSetting, IsVersionByte, IsWord, IsWordByte, NamesProgram, IsRun}
+use Rattle.std.proofs.Common.{not}
 use Rattle.std.proofs.lemmas.Bool.{true≢false}
-use Rattle.std.proofs.lemmas.List.{get_or_append_left}
 use Rattle.std.proofs.lemmas.List.Sums.{AllPass-from_list_all}
-use Rattle.memchr.specs.Find.{OccursAt}
-use Rattle.infer_deep.specs.Signatures.{Lasts}
-use Rattle.infer_inside.specs.Script.{EndsBare, IsBlank, IsEnv, IsFirstWord, IsFolder, IsLineEnd, IsNameOf, IsNextWord, IsProgram, IsRead, IsSetting, IsVersionByte, IsWord, IsWordByte, NamesProgram}
-use Rattle.infer_inside.specs.Runs.{IsRun}
+use Rattle.infer_inside.specs.Script.{EndsBare, IsBlank, IsFolder, IsNameOf, IsRead}
 use Rattle.infer_inside.specs.declared.script.Word.{Word}
 use Rattle.infer_inside.proofs.FrontLemmas.{SharesFront, after_last_shared, byte_shared, byte_shared_back, front_grows, front_swaps, range_shared, run_shared, text_shared}
 use Rattle.infer_inside.proofs.RunLemmas.{one_after_last, one_run_end}

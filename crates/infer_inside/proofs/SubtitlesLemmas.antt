@@ -1,6 +1,5 @@
 -- The number of a cue is all the digits that stand there.
-use Rattle.std.proofs.Common.{◌≡◌, ℕ, ◌+◌, ◌<◌, ◌≤◌, List, get_or, arith}
-use Rattle.infer_inside.specs.Subtitles.{AreDigits, EndsLine, IsDigit}
+use Rattle.infer_inside.proofs.Common.{◌≡◌, ℕ, ◌+◌, ◌<◌, ◌≤◌, List, get_or, arith, AreDigits, EndsLine, IsDigit}
 
 pub cue_by_count : (b : List ℕ) (p n m t : ℕ) → n ≤ 10 → AreDigits b p n → (n < 10 → ¬ IsDigit (get_or b (p + n) 0))
     → m ≤ 9 → AreDigits b p m → EndsLine b (p + m) t → m ≡ n

@@ -1,6 +1,5 @@
 -- The checksum is all the digits that stand behind the spaces.
-use Rattle.std.proofs.Common.{◌≡◌, ℕ, ◌+◌, ◌<◌, ◌≤◌, List, get_or, add-zero, subst, arith}
-use Rattle.infer_inside.specs.Tar.{IsField, IsOctal, octal}
+use Rattle.infer_inside.proofs.Common.{◌≡◌, ℕ, ◌+◌, ◌<◌, ◌≤◌, List, get_or, add-zero, subst, arith, IsField, IsOctal, octal}
 
 module _ (b : List ℕ) (place count p d : ℕ) (low : 148 ≤ place) (spaces : (k : ℕ) → 148 ≤ k → k < place → get_or b k 0 ≡ 0x20)
     (ends : place < 156 → ¬ (get_or b place 0 ≡ 0x20)) (f : IsField b p d) where

@@ -1,9 +1,5 @@
 -- Bytes of binary data, block by block, and the rest.
-use Rattle.std.proofs.Common.{◌≡◌, ℕ, ◌+◌, ◌-◌, ◌≤◌, ◌↔◌, Bool, true, false, List, length, get_or, take, drop, sym, subst, ap, ◌∙◌, arith, length-drop}
-use Rattle.std.specs.Bool.{OnTrue}
-use Rattle.std.proofs.lemmas.List.{get_or-drop, get_or-take, take_rest}
-use Rattle.infer_deep.specs.Blocks.{AllBelow}
-use Rattle.infer_inside.specs.Text.{IsBinary, IsDataByte, IsPlainByte, SomeBelow}
+use Rattle.infer_inside.proofs.Common.{◌≡◌, ℕ, ◌+◌, ◌-◌, ◌≤◌, ◌↔◌, Bool, true, false, List, length, get_or, take, drop, sym, subst, ap, ◌∙◌, arith, length-drop, OnTrue, get_or-drop, get_or-take, take_rest, AllBelow, IsBinary, IsDataByte, IsPlainByte, SomeBelow}
 use Rattle.infer_inside.proofs.PartLemmas.{part_reads}
 
 -- one more block of s bytes without them

@@ -1,17 +1,11 @@
 -- Where tokens end.
-use Rattle.std.proofs.Common.{◌≡◌, ℕ, ◌+◌, ◌≤◌, ◌<◌, ◌⊎◌, inl, inr, ◌↔◌, codes, Bool, true, false, IsTrue, List, [], ◌∷◌, ◌++◌, Option, None, Some, length, drop, get_or, append_assoc, append-nil, refl, sym, subst, ap, ◌∙◌, arith}
-use Rattle.std.specs.Bool.{OnTrue}
+use Rattle.infer_inside.proofs.Common.{◌≡◌, ℕ, ◌+◌, ◌≤◌, ◌<◌, ◌⊎◌, inl, inr, ◌↔◌, codes, Bool, true, false, IsTrue, List, [], ◌∷◌, ◌++◌, Option, None, Some, length, drop, get_or, append_assoc, refl, sym, subst, ap, ◌∙◌, arith, OnTrue, drop_more, Symbol, range, blanks, value, chars, escape, hex, whole, fraction, exponent, power, digits, byte, digit, exact, BeginsWhole, BehindBlanks, text, BeginsText, CanBe, IsAmong, IsKind, OpensWithToken, Stands, nothing, one, by_rule, EndsNumber, Follows, IsBracket, IsKindPastMark, IsPast, IsPastMark, left, Kind, Lines, Text, Token, Chars, Escape, Hex4, Hex3, Hex2, Hex1, Char1, Char2, Char3, CharE0, CharEd, CharF0, CharF4, T, Tr, Tru, F, Fa, Fal, Fals, N, Nu, Nul, Minus, Zero, Whole, Point, Fraction, Exponent, Sign, Power, Inside, Ended, EndedBefore, Wrong}
+use Rattle.std.proofs.Common.{append-nil}
 use Rattle.std.specs.Prelude.{not}
-use Rattle.std.proofs.lemmas.List.{drop_more}
-use Rattle.infer_inside.specs.Json.{Symbol, range, blanks, value, chars, escape, hex, whole, fraction, exponent, power, digits, byte, digit, later, exact, rules, BeginsToken, BeginsWhole, BehindBlanks, text, BeginsText, CanBe, IsAmong, IsBlank, IsKind, IsMark, NoneGoesOn, OpensWithToken, Stands, nothing, one, by_rule}
-use Rattle.infer_inside.specs.JsonStates.{EndsNumber, Follows, IsBracket, IsKindBefore, IsKindPastMark, IsPast, IsPastMark, left, NoToken, Starts}
-use Rattle.infer_inside.specs.declared.json.Kind.{Kind}
-use Rattle.infer_inside.specs.declared.json.Kind.TheVariants.{Lines, Text}
+use Rattle.infer_inside.specs.Json.{later, rules, BeginsToken, IsBlank, IsMark, NoneGoesOn}
+use Rattle.infer_inside.specs.JsonStates.{IsKindBefore, NoToken, Starts}
 use Rattle.infer_inside.specs.declared.json.Line.TheVariants as Line
-use Rattle.infer_inside.specs.declared.json.Token.{Token}
-use Rattle.infer_inside.specs.declared.json.Token.TheVariants.{Chars, Escape, Hex4, Hex3, Hex2, Hex1, Char1, Char2, Char3, CharE0, CharEd, CharF0, CharF4, T, Tr, Tru, F, Fa, Fal, Fals, N, Nu, Nul, Minus, Zero, Whole, Point, Fraction, Exponent, Sign, Power}
 use Rattle.infer_inside.specs.declared.json.Step.{Step}
-use Rattle.infer_inside.specs.declared.json.Step.TheVariants.{Inside, Ended, EndedBefore, Wrong}
 use Rattle.infer_inside.proofs.JsonLemmas.{value_begins}
 use Rattle.infer_inside.proofs.LineLemmas.{CutLine, WholeLine, WrongLine, lines_none, lines_open, lines_single, lines_so, none_left, kind_past, past_can, text_no_blank}
 use Rattle.infer_inside.proofs.CompleteLemmas.{AllHold, Completes, completes, token_holds}

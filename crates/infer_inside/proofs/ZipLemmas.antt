@@ -1,9 +1,6 @@
 -- The first entry with a property, by the first byte of its header.
-use Rattle.std.proofs.Common.{◌≡◌, ◌↔◌, ℕ, ◌+◌, ◌-◌, ◌<◌, ◌≤◌, inl, inr, List, length, codes, get_or, take, drop, add-zero, ap, refl, subst, ◌∙◌, arith, eq-eqb, length-drop}
-use Rattle.std.proofs.lemmas.List.{take_rest}
-use Rattle.memchr.specs.Find.{OccursAt, Nowhere, Passes, is_byte}
-use Rattle.infer_deep.specs.Office.{zip_header}
-use Rattle.infer_inside.specs.Zip.{IsFirstFolder, IsFolderEntry, IsOneOf, IsPackageWith, IsPartEntry, MayBeginAny, MayBeginPackage, applications}
+use Rattle.infer_inside.proofs.Common.{◌≡◌, ◌↔◌, ℕ, ◌+◌, ◌-◌, ◌<◌, ◌≤◌, inl, inr, List, length, codes, get_or, take, drop, add-zero, ap, refl, subst, ◌∙◌, arith, eq-eqb, length-drop, take_rest, OccursAt, Nowhere, Passes, is_byte, zip_header, IsFirstFolder, IsFolderEntry, IsPackageWith, IsPartEntry, MayBeginPackage, applications}
+use Rattle.infer_inside.specs.Zip.{IsOneOf, MayBeginAny}
 use Rattle.infer_inside.proofs.PartLemmas.{part_reads}
 
 -- a place with the property is one of a header, so it is none that the search for its first byte passed over

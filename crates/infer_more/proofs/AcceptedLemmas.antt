@@ -1,12 +1,5 @@
 -- What an alternative accepts, its signature does.
-use Rattle.std.proofs.Common.{◌≡◌, ℕ, zero, suc, ◌+◌, ◌<◌, ◌≤◌, ◌⊎◌, inl, inr, List, [], ◌∷◌, length, get_or, map, take, subst, sym, arith, ◌≢◌, ◌↔◌}
-use Rattle.std.proofs.lemmas.List.{take_all}
-use Rattle.std.proofs.lemmas.Bool.{cases_lt}
-use denote.Ref.{Bor}
-use Rattle.infer_inside.specs.Script.{IsProgram}
-use Rattle.infer_more.specs.Listed.{FitsAt, signature_listed}
-use Rattle.infer_notation.specs.Alternative.{Accepted, IsProgramAmong}
-use Rattle.infer_inside.specs.Zip.{IsOneOf}
+use Rattle.infer_more.proofs.Common.{◌≡◌, ℕ, zero, suc, ◌+◌, ◌<◌, ◌≤◌, ◌⊎◌, inl, inr, List, [], ◌∷◌, length, get_or, map, take, subst, sym, arith, ◌≢◌, ◌↔◌, cases_lt, Bor, IsProgram, FitsAt, signature_listed, Accepted, IsProgramAmong, IsOneOf}
 use Rattle.infer_more.specs.declared.signature.Alternative.{Alternative}
 
 module _ (b : List ℕ) where
@@ -73,9 +66,6 @@ module _ (name : List ℕ) where
         | inl f ↦ before (inl f)
         | inr f ↦ no_name_more xs k d (omega arith) (λ a. before (inr a)) here f
       ])
-
-  pub no_name : (xs : List (Bor (List ℕ))) (n : ℕ) → length xs ≤ n → ¬ Among (take n xs) → ¬ Among xs
-  no_name xs n le h = subst (λ l. ¬ Among l) (take_all n xs le) h
 
 -- the program's name is one of the names
 module _ (b : List ℕ) where

@@ -1,24 +1,17 @@
 -- The answer of the rows that a caller added.
-use Rattle.std.proofs.Common.{◌≡◌, ◌<◌, ◌-◌, ◌⊎◌, ℕ, zero, suc, Bool, true, false, not, IsTrue, inl, inr, List, [], ◌∷◌, ◌++◌, Option, None, Some, get_or, length, length-append, map, refl, subst, sym, arith}
-use Rattle.std.specs.List.{list_all}
-use Rattle.std.specs.Option.{option_map_or}
-use Rattle.std.proofs.lemmas.Bool.{cases_lt}
-use Rattle.std.proofs.lemmas.List.{get_or-append_right, get_or_append_left, get_or_default}
+use Rattle.infer_more.proofs.Common.{◌≡◌, ◌<◌, ◌-◌, ◌⊎◌, ℕ, zero, suc, Bool, true, false, not, IsTrue, inl, inr, List, [], ◌∷◌, ◌++◌, Option, None, Some, get_or, length, map, refl, subst, sym, arith, list_all, option_map_or, cases_lt, get_or_default, BuiltIn, IsFirst, NoneHas, SomeHas, table, Triple, MatcherType, some_row}
+use Rattle.std.proofs.Common.{length-append}
+use Rattle.std.proofs.lemmas.List.{get_or-append_right, get_or_append_left}
 use Rattle.std.proofs.lemmas.List.Sums.{AllPass-from_list_all}
-use Rattle.infer.specs.BuiltIn.{BuiltIn}
 use Rattle.infer.specs.Caller.{Contracts}
-use Rattle.infer.specs.First.{IsAnswer, IsFirst, NoneHas, SomeHas}
+use Rattle.infer.specs.First.{IsAnswer}
 use Rattle.infer.specs.Questions.{HasClass, SomeBoth}
 use Rattle.infer.specs.Row.{Row}
 use Rattle.infer.specs.Rows.{AnyAccepts, Signature, custom_row, custom_rows, kept_row, rows}
-use Rattle.infer.specs.Table.{table}
-use Rattle.infer.specs.Triple.{Triple}
 use Rattle.infer.specs.declared.caller.custom.CustomRow.{CustomRow}
 use Rattle.infer.specs.declared.caller.infer.Infer.{Infer}
-use Rattle.infer.specs.declared.table.file_type.MatcherType.{MatcherType}
 use Rattle.infer.specs.declared.table.file_type.MatcherType.TheVariants.{Custom}
 use Rattle.infer.proofs.ListLemmas.{SomeHas-from_map}
-use Rattle.infer.proofs.OrderLemmas.{some_row}
 use Rattle.infer_more.specs.Added.{IsAnswerWith}
 use Rattle.infer_more.specs.Wider.{IsWiderAnswer}
 use Rattle.infer_more.proofs.RefusalLemmas.{clash}

@@ -1,20 +1,9 @@
 -- What the wider answer says of the built-in one.
-use Rattle.std.proofs.Common.{◌≡◌, ◌≤◌, ◌<◌, ◌+◌, ◌-◌, ℕ, false, inl, inr, List, Option, None, Some, IfSome, ap, length, nat_lt, slice_get, subst, sym, ◌∙◌, arith, refl}
-use Rattle.std.specs.Prelude.{if◌then◌else◌}
-use Rattle.std.specs.Option.{option_map_or}
-use Rattle.std.proofs.lemmas.Bool.{lt-ltb}
-use Rattle.std.proofs.lemmas.Bool.Decides.{nat_tests}
-use Rattle.std.proofs.lemmas.Option.{slice_get_cases}
-use Rattle.infer.specs.First.{IsFirst, IsFirstOf}
-use Rattle.infer.specs.Row.{Accepts}
+use Rattle.infer_more.proofs.Common.{◌≡◌, ◌≤◌, ◌<◌, ◌+◌, ◌-◌, ℕ, false, inl, inr, List, Option, None, Some, IfSome, ap, length, nat_lt, subst, sym, ◌∙◌, arith, refl, if◌then◌else◌, option_map_or, lt-ltb, nat_tests, slice_get_cases, IsFirst, IsFirstOf, Accepts, ROW_COUNT, length-table, Further, further, IsWider, Widens, wider, FURTHER_COUNT}
+use Rattle.std.proofs.Common.{slice_get}
 use Rattle.infer.specs.Table as built_in
-use Rattle.infer.specs.declared.table.rows.TheConstants.{ROW_COUNT}
-use Rattle.infer.proofs.TableLemmas.{length-table}
 use Rattle.infer_more.specs.Laws.{AllAreBelow, built_in_by}
-use Rattle.infer_more.specs.Row.{Further}
-use Rattle.infer_more.specs.Table.{further}
-use Rattle.infer_more.specs.Wider.{IsWidened, IsWider, Widens, parent_at, wider}
-use Rattle.infer_more.specs.declared.index.lists.TheConstants.{FURTHER_COUNT}
+use Rattle.infer_more.specs.Wider.{IsWidened, parent_at}
 use Rattle.infer_more.proofs.TableLemmas.{length-further}
 
 not_less : (m n : ℕ) → n ≤ m → nat_lt m n ≡ false

@@ -1,32 +1,18 @@
 -- What more bytes can change of a wider answer, by the further rows that they can bring.
-use Rattle.std.proofs.Common.{◌≡◌, ◌↔◌, ◌+◌, ◌<◌, ◌≤◌, ℕ, List, [], ◌∷◌, ◌++◌, Option, None, Some, append-nil, get_or, length, slice_get, sym, subst, ap, ◌∙◌, arith}
-use Rattle.std.specs.Prelude.{MatchOption}
-use Rattle.std.proofs.lemmas.List.Elements.{All-nil}
-use Rattle.std.proofs.lemmas.Option.{get_or_from_slice_get}
-use Rattle.infer_inside.specs.Open.{Stays}
-use Rattle.infer.specs.Buffer.{IsBuffer}
+use Rattle.infer_more.proofs.Common.{◌≡◌, ◌↔◌, ◌+◌, ◌<◌, ◌≤◌, ℕ, List, [], ◌∷◌, ◌++◌, Option, None, Some, get_or, length, sym, subst, ap, ◌∙◌, arith, MatchOption, All-nil, get_or_from_slice_get, Stays, IsBuffer, IsFirst, IsFirstOf, Accepts, MayWiden, Further, Accepted, further, IsWider, Widens, wider}
+use Rattle.std.proofs.Common.{append-nil, slice_get}
 use Rattle.infer.specs.Decided as built_in_decided
-use Rattle.infer.specs.First.{IsFirst, IsFirstOf}
-use Rattle.infer.specs.Row.{Accepts}
 use Rattle.infer.specs.Table as built_in
 use Rattle.infer.proofs.FirstLemmas.{IsFirstOf-same}
 use Rattle.infer.proofs.ListLemmas.{HoldsAt-read}
 use Rattle.infer.proofs.CandidateLemmas.{read_has}
-use Rattle.infer_more.specs.Decided.{IsAwaited, IsDecided, IsWidenedForGood, MayWiden, NoneMayWiden}
-use Rattle.infer_more.specs.Row.{Further}
-use Rattle.infer_notation.specs.Alternative.{Accepted}
-use Rattle.infer_more.specs.Table.{further}
-use Rattle.infer_more.specs.Wider.{IsWider, Widens, wider}
+use Rattle.infer_more.specs.Decided.{IsAwaited, IsDecided, IsWidenedForGood, NoneMayWiden}
 
 -- ---- the first further row
 
 module _ (parent : Option ℕ) (b : List ℕ) where
   widens_may : (more : List ℕ) → IsBuffer more → (r : Further) → Widens parent (b ++ more) r → MayWiden parent b r
   widens_may more bytes r w = (w.0, (more, bytes, w.1))
-
-  -- none may
-  pub none_for_good : NoneMayWiden parent b (length further) → IsWidenedForGood parent b
-  none_for_good none = (None, λ more bytes k d low lt w. none k d low lt (widens_may more bytes (get_or further k d) w))
 
   module _ (i : ℕ) (first : IsAwaited parent b i) (r : Further) (read : Some r ≡ slice_get further i) where
     -- if it accepts the buffer with these bytes, it is the first

@@ -1,22 +1,15 @@
 -- The rows that are read of a text are those that it describes.
-use Rattle.std.proofs.Common.{◌≡◌, ◌<◌, ◌&&◌, ◌==◌, ℕ, Bool, true, false, not, List, [], ◌∷◌, ◌++◌, Option, None, Some, codes, drop, length, nat_le, option_map, take, inl, inr, refl, sym, ap, subst, ◌∙◌, arith}
-use Rattle.std.proofs.Math.Seq.{drop-append_seam, take-append_seam}
-use Rattle.std.proofs.lemmas.Bool.{cases_Bool, eqb-true}
-use Rattle.std.proofs.lemmas.List.{append-nil, take-append-drop}
-use Rattle.std.proofs.lemmas.List.Splits.{slice_split_at, slice_split_none}
-use Rattle.std.proofs.lemmas.Slice.Eq.{bytes_eq-Decides}
-use Rattle.std.specs.Prelude.{if◌then◌else◌}
-use Rattle.std.specs.List.{list_all, prefix_len}
+use Rattle.infer_more.proofs.Common.{◌≡◌, ◌<◌, ◌&&◌, ◌==◌, ℕ, Bool, true, false, not, List, [], ◌∷◌, ◌++◌, Option, None, Some, codes, drop, length, nat_le, option_map, take, inl, inr, refl, sym, ap, subst, ◌∙◌, arith, take-append_seam, cases_Bool, eqb-true, take-append-drop, slice_split_at, slice_split_none, bytes_eq-Decides, if◌then◌else◌, list_all, MatcherType, signature_of, behind_blanks, class_of, fields_of, is_alphanumeric, is_built_in, is_mime_type, is_name, is_name_byte, is_remark, line_of, parent_of, row, row_of, is_line_end, lines_of, rows_in, rows_of, with_row}
+use Rattle.std.proofs.Math.Seq.{drop-append_seam}
+use Rattle.std.proofs.lemmas.List.{append-nil}
+use Rattle.std.specs.List.{prefix_len}
 use Rattle.infer_notation.proofs.MadeLemmas.{both_true, front_length, fronts_pass, next_fails, not_same}
 use Rattle.infer_notation.proofs.DescribedLemmas.{IsSplit, cut, is_described, is_signature, is_split, whole}
 use Rattle.infer.specs.Table as built_in
-use Rattle.infer.specs.declared.table.file_type.MatcherType.{MatcherType}
 use Rattle.infer_notation.specs.Alternative.{Alternative}
-use Rattle.infer_notation.specs.Signature.{signature_of}
-use Rattle.infer_notation.specs.Words.{◌>>=◌, behind_blanks, behind_word, first_passes, is_blank, word, word_len}
+use Rattle.infer_notation.specs.Words.{◌>>=◌, behind_word, first_passes, is_blank, word, word_len}
 use Rattle.infer_more.specs.Described.{AreBlanks, BeginsWithWord, DescribesLine, DescribesRow, DescribesRows, NamesParent, a_row, blank_line, last_line, next_line, remark}
-use Rattle.infer_more.specs.Line.{Row, class_of, fields_of, is_alphanumeric, is_built_in, is_mime_type, is_name, is_name_byte, is_none, is_remark, line_of, parent_of, row, row_of}
-use Rattle.infer_more.specs.Text.{is_line_end, lines_of, rows_in, rows_of, with_row}
+use Rattle.infer_more.specs.Line.{Row, is_none}
 
 abbrev is_dark : ℕ → Bool
 is_dark x = not (is_blank x)

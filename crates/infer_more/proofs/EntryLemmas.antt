@@ -1,12 +1,9 @@
 -- Rows of which something is known.
-use Rattle.std.proofs.Common.{◌≡◌, ◌+◌, ◌<◌, ℕ, Bool, true, false, not, cond, drop, get_or, List, [], ◌∷◌, ◌++◌, Option, None, Some, inl, inr, length, map, option_map, refl, sym, ap, ◌∙◌}
-use Rattle.std.proofs.lemmas.Bool.{cases_Bool, false≢true}
-use Rattle.std.proofs.lemmas.List.{drop_more}
-use Rattle.infer_more.specs.Entries.{is_row_line, left_lines, row_lines}
-use Rattle.infer_more.specs.Line.{Fields, Row, fields_of, is_remark, line_of, row_of}
-use Rattle.infer_more.specs.Text.{lines_of, rows_in, rows_left, with_row}
+use Rattle.infer_more.proofs.Common.{◌≡◌, ◌+◌, ◌<◌, ℕ, Bool, true, false, not, cond, drop, get_or, List, [], ◌∷◌, ◌++◌, Option, None, Some, inl, inr, length, map, option_map, refl, sym, ap, ◌∙◌, cases_Bool, false≢true, drop_more, left_lines, row_lines, Fields, fields_of, is_remark, line_of, row_of, lines_of, rows_in, rows_left, with_row, behind_blanks}
+use Rattle.infer_more.specs.Entries.{is_row_line}
+use Rattle.infer_more.specs.Line.{Row}
 use Rattle.infer_more.specs.declared.types.entries.Entry.{Entry}
-use Rattle.infer_notation.specs.Words.{◌>>=◌, behind_blanks}
+use Rattle.infer_notation.specs.Words.{◌>>=◌}
 
 -- ---- lines
 

@@ -1,10 +1,8 @@
 -- What the words of a row say.
-use Rattle.std.proofs.Common.{◌≡◌, ◌⊎◌, ℕ, Bool, true, false, List, Option, None, Some, cond, inl, inr, option_map, refl}
-use Rattle.infer.specs.declared.table.file_type.MatcherType.{MatcherType}
+use Rattle.infer_more.proofs.Common.{◌≡◌, ◌⊎◌, ℕ, Bool, true, false, List, Option, None, Some, cond, option_map, refl, MatcherType, signature_of, Fields, class_of, is_mime_type, is_name, parent_of, row, row_of}
 use Rattle.infer_notation.specs.Alternative.{Alternative}
-use Rattle.infer_notation.specs.Signature.{signature_of}
 use Rattle.infer_notation.specs.Words.{◌>>=◌}
-use Rattle.infer_more.specs.Line.{Fields, Row, class_of, is_built_in, is_mime_type, is_name, is_none, parent_of, row, row_of}
+use Rattle.infer_more.specs.Line.{Row}
 
 -- what each word of a row says
 pub record Says (f : Fields) (own : Row) : Type 0 where
@@ -42,13 +40,3 @@ says_from f own true true (Some c) (Some p) (Some s) is-a is-b is-c is-p is-s e 
 pub says : (f : Fields) (own : Row) → row_of f ≡ Some own → Says f own
 unfolding row_of
 says f own e = says_from f own (is_name f.extension) (is_mime_type f.mime_type) (class_of f.class) (parent_of f.parent) (signature_of f.signature) refl refl refl refl refl e
-
--- the parent that a word names
-parent_is : (w : List ℕ) (none known : Bool) (p extension : Option (List ℕ)) → is_none w ≡ none → cond none (Some None) (cond known (Some (Some w)) None) ≡ Some p
-    → (p ≡ None) × (none ≡ true) ⊎ (p ≡ Some w) × (none ≡ false)
-parent_is w true known p extension is e = inl (cc, refl)
-parent_is w false true p extension is e = inr (cc, refl)
-parent_is w false false p extension is e = absurd cc
-
-pub parent_cases : (w : List ℕ) (p : Option (List ℕ)) → parent_of w ≡ Some p → ((p ≡ None) × (is_none w ≡ true)) ⊎ ((p ≡ Some w) × (is_none w ≡ false))
-parent_cases w p e = parent_is w (is_none w) (is_built_in w) p None refl e

@@ -1,36 +1,26 @@
 -- What a computation says of whether a buffer fits an alternative: that it does, as the sample of one does, by places that
 -- are tried; or that it does not, by its outline.
-use Rattle.std.proofs.Common.{◌≡◌, ◌≢◌, ◌⊎◌, ◌≤◌, inl, inr, ℕ, zero, suc, ◌+◌, ◌-◌, ◌*◌, ◌<◌, Bool, true, false, IsTrue, List, [], ◌∷◌, None, codes, drop, get_or-drop, length, nat_le, refl, subst, sym, arith}
-use Rattle.std.specs.Prelude.{◌&&◌, ◌||◌, ◌==◌, if◌then◌else◌, not, slice_index, slice_range}
-use Rattle.std.specs.List.{list_any}
-use Rattle.std.proofs.lemmas.Bool.{cases_lt}
-use Rattle.std.proofs.lemmas.Bool.Decides.{nat_tests}
-use Rattle.infer_deep.specs.Find.{OccursAt}
-use Rattle.infer_deep.specs.Numbers.{be32, le16, le32}
-use Rattle.infer_deep.specs.Office.{zip_header}
+use Rattle.infer_more.proofs.Common.{◌≡◌, ◌≢◌, ◌⊎◌, ◌≤◌, inl, inr, ℕ, zero, suc, ◌+◌, ◌-◌, ◌<◌, Bool, true, false, IsTrue, List, [], ◌∷◌, None, codes, drop, length, nat_le, refl, subst, sym, arith, ◌&&◌, ◌||◌, ◌==◌, if◌then◌else◌, not, slice_index, list_any, cases_lt, nat_tests, OccursAt, be32, le16, le32, zip_header, HasBracket, CanBe, IsJson, IsJsonLines, Stands, BeginsElement, HasRoot, IsRootElement, IsXmlSpace, be16, here, IsProgram, IsDigit, IsSubRip, IsOctal, header_sum, IsBinary, IsText, HasFirstName, IsPackageWith, accepts, fits, Known, proved, refuted, at_most, both, either, negated, proved_if, refuted_if, needs, takes, ◌>>◌, ByPlace, occurs, is_plain, lines, Accepted, Fits, IsProgramAmong, animated, binary_bytes, bytes, class_id, dbase, directory_tag, first_entry_ends_in, first_entry_has_extra, first_entry_is, package_with, plain_text, png_header, shared_object, subrip, tar_checksum, program, root, root_with, json_lines, json_text}
+use Rattle.std.proofs.Common.{◌*◌, get_or-drop}
+use Rattle.std.specs.Prelude.{slice_range}
 use Rattle.infer_inside.specs.Dbase.{IsDbase, behind, versions}
 use Rattle.infer_inside.specs.Elf.{IsSharedObject}
 use Rattle.infer_inside.specs.Laws as Inside
-use Rattle.infer_inside.specs.Laws.{HasBracket, OpensElement}
+use Rattle.infer_inside.specs.Laws.{OpensElement}
 use Rattle.infer_inside.specs.Json as Json
-use Rattle.infer_inside.specs.Json.{CanBe, IsJson, IsJsonLines, Stands, Symbol}
-use Rattle.infer_inside.specs.Markup.{BeginsElement, HasRoot, HasRootWith, IsEnclosed, IsNameByte, IsRootElement, IsXmlSpace, LeadsToTag, OpensTag, later, utf8_mark}
+use Rattle.infer_inside.specs.Json.{Symbol}
+use Rattle.infer_inside.specs.Markup.{HasRootWith, IsEnclosed, IsNameByte, LeadsToTag, OpensTag, later, utf8_mark}
 use Rattle.infer_inside.specs.Markup as Markup
-use Rattle.infer_inside.specs.Numbers.{be16}
-use Rattle.infer_inside.specs.Png.{here}
-use Rattle.infer_inside.specs.Script.{IsEnv, IsFirstWord, IsProgram, IsWord, IsWordByte}
-use Rattle.infer_inside.specs.Subtitles.{IsDigit, IsPairAt, IsSubRip, IsTime}
-use Rattle.infer_inside.specs.Tar.{HasTarChecksum, IsOctal, header_sum, octal}
-use Rattle.infer_inside.specs.Text.{IsBinary, IsDataByte, IsText}
+use Rattle.infer_inside.specs.Script.{IsEnv, IsFirstWord, IsWord, IsWordByte}
+use Rattle.infer_inside.specs.Subtitles.{IsPairAt, IsTime}
+use Rattle.infer_inside.specs.Tar.{HasTarChecksum, octal}
+use Rattle.infer_inside.specs.Text.{IsDataByte}
 use Rattle.infer_inside.specs.Tiff.{HasTag}
-use Rattle.infer_inside.specs.Zip.{HasFirstName, IsFolderEntry, IsPackageWith}
-use Rattle.infer_sig.specs.Signature.{accepts, fits}
-use Rattle.infer.proofs.KnownLemmas.{Known, proved, refuted, at_most, both, either, is, negated, proved_if, refuted_if, needs, same, same_text, takes, ◌>>=◌, ◌>>◌}
+use Rattle.infer_inside.specs.Zip.{IsFolderEntry}
+use Rattle.infer.proofs.KnownLemmas.{is, same, same_text, ◌>>=◌}
 use Rattle.infer.proofs.DecisionLemmas.{known_class}
-use Rattle.infer.proofs.PlaceLemmas.{ByPlace, lacked, lacks, occurs}
-use Rattle.infer_more.specs.Index.{is_plain}
-use Rattle.infer_more.specs.Outline.{lines}
-use Rattle.infer_notation.specs.Alternative.{Accepted, Alternative, Fits, IsProgramAmong, animated, binary_bytes, bytes, class_id, dbase, directory_tag, first_entry_ends_in, first_entry_has_extra, first_entry_is, package_with, plain_text, png_header, shared_object, subrip, tar_checksum, program, root, root_with, json_lines, json_text}
+use Rattle.infer.proofs.PlaceLemmas.{lacked, lacks}
+use Rattle.infer_notation.specs.Alternative.{Alternative}
 use Rattle.infer_more.proofs.IndexLemmas as test
 use Rattle.infer_more.proofs.OutlineLemmas.{has_lines}
 use Rattle.infer_more.proofs.RefusalLemmas.{clash}

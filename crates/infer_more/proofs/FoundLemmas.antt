@@ -1,42 +1,16 @@
 -- By the index just those rows are found that widen an answer.
-use Rattle.std.proofs.Common.{◌≡◌, ◌↔◌, ℕ, zero, suc, ◌+◌, ◌<◌, ◌≤◌, ◌==◌, inl, inr, Bool, true, false, IsTrue, List, [], ◌∷◌, Option, None, Some, length, get_or, ap, sym, ◌∙◌, subst, arith, refl}
-use Rattle.std.specs.Prelude.{◌%◌, ◌&&◌, ◌||◌, ◌++◌, slice_get, slice_index}
-use Rattle.std.specs.Prelude.{nat_le}
-use Rattle.std.specs.List.{list_all, list_any}
-use Rattle.std.specs.Option.{option_map_or}
-use Rattle.std.proofs.lemmas.Bool.{cases_lt, eqb-true, leb-true}
-use Rattle.std.proofs.lemmas.List.{get_or_default}
-use Rattle.std.proofs.lemmas.Option.{slice_get_cases}
-use denote.Ref.{Bor}
-use Rattle.infer_inside.specs.Json.{IsJson, IsJsonLines}
+use Rattle.infer_more.proofs.Common.{◌≡◌, ◌↔◌, ℕ, zero, suc, ◌+◌, ◌<◌, ◌≤◌, ◌==◌, inl, inr, Bool, true, false, IsTrue, List, [], ◌∷◌, Option, None, Some, length, get_or, ap, sym, ◌∙◌, subst, arith, refl, ◌%◌, ◌&&◌, ◌||◌, ◌++◌, slice_index, nat_le, list_all, list_any, option_map_or, cases_lt, eqb-true, leb-true, get_or_default, slice_get_cases, Bor, IsJson, IsJsonLines, BeginsElement, IsRootElement, IsXmlSpace, there, IsProgram, IsOneOf, IsPackageWith, applications, accepts, fits, stands, StandsByPlace, IsBuffer, IsFirstOf, is_listed, NoneRefused, passed, HasTagText, IsFoundBelow, IsLeast, IsNamed, IsOfProgram, IsRootedBy, IsRooted, IsRowOf, IsTried, ascends, candidates, excepted, is_covered, is_excepted, is_plain, is_tried_parentless, is_true_below, named_row, names_like, rooted_row, tried_parentless, lines, Further, Accepted, Fits, IsProgramAmong, json_lines, json_text, package_with, plain_text, program, root, root_with, further, Widens, WidensAt, Nothing, Except, Named, Parentless, Rooted, FURTHER_COUNT}
+use Rattle.std.specs.Prelude.{slice_get}
 use Rattle.infer_inside.specs.Laws.{Leads}
-use Rattle.infer_inside.specs.Markup.{BeginsElement, HasInTag, IsRootElement, IsXmlSpace, MayBeRooted}
-use Rattle.infer_inside.proofs.GrowthLemmas.{there}
-use Rattle.infer_inside.specs.Script.{IsProgram}
-use Rattle.infer_inside.specs.Zip.{IsOneOf, IsPackageWith, applications}
+use Rattle.infer_inside.specs.Markup.{HasInTag, MayBeRooted}
 use Rattle.infer_sig.specs.Signature as fixed
-use Rattle.infer_sig.specs.Signature.{accepts, fits, stands}
-use Rattle.infer_sig.specs.Places.{StandsByPlace}
-use Rattle.infer.specs.Buffer.{IsBuffer}
-use Rattle.infer.specs.First.{IsFirstOf}
-use Rattle.infer.specs.Walks.{is_listed}
-use Rattle.infer.proofs.TestLemmas.{NoneRefused, passed}
-use Rattle.infer_more.specs.Index.{AllApplications, EachBelowIsFound, EachFreeIsFound, EachIsFound, FindsAll, HasTagText, IsFoundBelow, IsFoundFree, IsLeast, IsNamed, IsOfProgram, IsRootedBy, IsRooted, IsRowOf, IsTextRow, IsTried, MayOpenMarkup, are_rooted, are_texts, are_true, ascends, asks_folder, asks_program, asks_root, below_at, candidates, excepted, has_named, has_rooted, is_application, is_child, is_covered, is_excepted, is_found_below, is_found_free, is_in_folders, is_in_programs, is_in_roots, is_json, is_lines, is_plain, is_row_below, is_row_below_found, is_row_free, is_row_free_found, is_row_with, is_text_row, is_tried_below, is_tried_in, is_tried_parentless, is_true_below, named_row, names_at, names_like, rooted_row, same, same_text, tried_parentless}
-use Rattle.infer_more.specs.Outline.{lines}
-use Rattle.infer_more.specs.Row.{Further}
-use Rattle.infer_notation.specs.Alternative.{Accepted, Alternative, Fits, IsProgramAmong, json_lines, json_text, package_with, plain_text, program, root, root_with}
-use Rattle.infer_more.specs.Table.{further}
-use Rattle.infer_more.specs.Wider.{Widens, WidensAt}
+use Rattle.infer_more.specs.Index.{AllApplications, EachBelowIsFound, EachFreeIsFound, EachIsFound, FindsAll, IsFoundFree, IsTextRow, MayOpenMarkup, are_rooted, are_texts, are_true, asks_folder, asks_program, asks_root, below_at, has_named, has_rooted, is_application, is_child, is_found_below, is_found_free, is_in_folders, is_in_programs, is_in_roots, is_json, is_lines, is_row_below, is_row_below_found, is_row_free, is_row_free_found, is_row_with, is_text_row, is_tried_below, is_tried_in, names_at, same, same_text}
+use Rattle.infer_notation.specs.Alternative.{Alternative}
 use Rattle.infer_more.specs.declared.index.Below as below
-use Rattle.infer_more.specs.declared.index.Below.TheVariants.{Entries, Nothing, Packages, Programs, Roots}
+use Rattle.infer_more.specs.declared.index.Below.TheVariants.{Entries, Packages, Programs, Roots}
 use Rattle.infer_more.specs.declared.index.Entry.{Entry}
-use Rattle.infer_more.specs.declared.index.Except.{Except}
-use Rattle.infer_more.specs.declared.index.Named.{Named}
-use Rattle.infer_more.specs.declared.index.Parentless.{Parentless}
-use Rattle.infer_more.specs.declared.index.Rooted.{Rooted}
 use Rattle.infer_more.specs.declared.index.RowIndex.{RowIndex}
 use Rattle.infer_more.specs.declared.index.Texts.{Texts}
-use Rattle.infer_more.specs.declared.index.lists.TheConstants.{FURTHER_COUNT}
 use Rattle.infer_more.proofs.IndexLemmas.{both_left, both_right, covered_here, either, excepted_here, listed_left, listed_right, parentless_here}
 use Rattle.infer_more.proofs.LeastLemmas.{least_both, least_late, least_none, least_same, none_found}
 use Rattle.infer_more.proofs.NamedLemmas.{both}

@@ -1,19 +1,12 @@
 -- A row of which a buffer has the bytes is tried.
-use Rattle.std.proofs.Common.{◌≡◌, ◌↔◌, ℕ, zero, suc, ◌+◌, ◌-◌, ◌<◌, ◌≤◌, ◌==◌, ◌⊎◌, inl, inr, Bool, true, false, IsTrue, List, [], ◌∷◌, ◌++◌, length, ap, sym, ◌∙◌, subst, arith, refl, nat_le, nat_lt}
-use Rattle.std.specs.Prelude.{◌&&◌, ◌||◌, if◌then◌else◌, slice_index}
-use Rattle.std.specs.List.{list_all, list_any, range_with_len}
-use Rattle.std.specs.Option.{option_map_or}
-use Rattle.std.proofs.lemmas.Bool.{cases_lt, eq-eqb, eqb-true, leb-true, lt-ltb, ltb-true}
-use Rattle.std.proofs.lemmas.Option.{get_or_from_slice_get, slice_get_cases}
-use Rattle.infer_sig.specs.Signature.{Alternative, at_least, Bytes, any_of, between, all_but, Part, text, any_text, byte, allows, fits, has_part, stands}
-use Rattle.infer_sig.specs.Places.{StandsByPlace}
-use Rattle.infer.specs.Walks.{is_listed}
-use Rattle.infer_more.specs.Index.{tried_parentless, begun, behind, candidate, candidates, entries_at, excepted, gated, guarded, has_between, has_byte, has_entry, has_guard, has_other, is_but, is_excepted, is_other, is_tried_parentless, is_covered, is_gated, is_guarded, is_met, is_settled, is_tested, is_ranged, is_within, ranged, unless, within}
+use Rattle.infer_more.proofs.Common.{◌≡◌, ◌↔◌, ℕ, zero, suc, ◌+◌, ◌-◌, ◌<◌, ◌≤◌, ◌==◌, ◌⊎◌, inl, inr, Bool, true, false, IsTrue, List, [], ◌∷◌, ◌++◌, length, ap, sym, ◌∙◌, subst, arith, refl, nat_le, nat_lt, ◌&&◌, ◌||◌, if◌then◌else◌, slice_index, list_all, list_any, option_map_or, cases_lt, eq-eqb, eqb-true, leb-true, lt-ltb, get_or_from_slice_get, slice_get_cases, at_least, Bytes, any_of, between, all_but, Part, any_text, allows, fits, has_part, stands, StandsByPlace, is_listed, tried_parentless, candidate, candidates, excepted, guarded, has_byte, is_excepted, is_tried_parentless, is_covered, is_settled, ranged, unless, within, Except, Parentless}
+use Rattle.std.specs.List.{range_with_len}
+use Rattle.std.proofs.lemmas.Bool.{ltb-true}
+use Rattle.infer_sig.specs.Signature.{Alternative, text, byte}
+use Rattle.infer_more.specs.Index.{begun, behind, entries_at, gated, has_between, has_entry, has_guard, has_other, is_but, is_other, is_gated, is_guarded, is_met, is_tested, is_ranged, is_within}
 use Rattle.infer_more.specs.declared.index.Entry.{Entry}
-use Rattle.infer_more.specs.declared.index.Except.{Except}
 use Rattle.infer_more.specs.declared.index.Gate.{Gate}
 use Rattle.infer_more.specs.declared.index.Guard.{Guard}
-use Rattle.infer_more.specs.declared.index.Parentless.{Parentless}
 use Rattle.infer_more.specs.declared.index.Range.{Range}
 use Rattle.infer_more.proofs.NamedLemmas.{both}
 

@@ -1,13 +1,9 @@
 -- Elements of lists that are joined.
-use Rattle.std.proofs.Common.{◌≡◌, ℕ, zero, suc, ◌+◌, ◌-◌, ◌<◌, List, [], ◌∷◌, ◌++◌, Option, None, Some, All, map, option_map, length, drop, get_or, slice_get, ap, sym, ◌∙◌, subst, arith, drop-cons, add-one}
-use Rattle.std.proofs.lemmas.Option.{slice_get-map}
-use Rattle.std.proofs.lemmas.List.{length-map}
+use Rattle.infer_more.proofs.Common.{◌≡◌, ℕ, zero, suc, ◌+◌, ◌-◌, ◌<◌, List, [], ◌∷◌, ◌++◌, Option, None, Some, map, option_map, length, drop, get_or, ap, sym, ◌∙◌, subst, arith, slice_get-map, length-map, Bor, ended_shown, joined, row_listed, Further, FurtherRow}
+use Rattle.std.proofs.Common.{All, slice_get, drop-cons, add-one}
 use Rattle.std.proofs.lemmas.List.Elements.{All-get_or}
-use denote.Ref.{Bor}
-use Rattle.infer_more.specs.Ended.{ended_listed, ended_shown}
-use Rattle.infer_more.specs.Listed.{AreEnded, joined, row_listed}
-use Rattle.infer_more.specs.Row.{Further}
-use Rattle.infer_more.specs.declared.table.FurtherRow.{FurtherRow}
+use Rattle.infer_more.specs.Ended.{ended_listed}
+use Rattle.infer_more.specs.Listed.{AreEnded}
 
 module _ {A : Type 0} where
   pub slice_get_front : (xs ys : List A) (i : ℕ) (x : A) → slice_get xs i ≡ Some x → slice_get (xs ++ ys) i ≡ Some x

@@ -1,33 +1,14 @@
 -- Laws of further rows.
-use Rattle.std.proofs.Common.{◌↔◌, ℕ, ◌<◌, ◌≤◌, inl, inr, Bool, true, false, IsTrue, List, [], ◌∷◌, ◌++◌, Option, None, Some, All, length, get_or, arith, nat_le, refl, subst, sym, ◌≡◌, slice_get, zero, suc, codes, ◌⊎◌}
-use Rattle.std.specs.Prelude.{not, slice_index}
-use Rattle.std.specs.List.{HoldsAt, list_all, list_any}
-use Rattle.std.proofs.lemmas.Bool.{cases_lt, leb-true}
+use Rattle.infer_more.proofs.Common.{◌↔◌, ℕ, ◌<◌, ◌≤◌, inl, inr, Bool, true, false, IsTrue, List, [], ◌∷◌, ◌++◌, Option, None, Some, length, get_or, arith, nat_le, refl, subst, sym, ◌≡◌, zero, suc, codes, ◌⊎◌, not, slice_index, HoldsAt, list_all, list_any, cases_lt, leb-true, nat_tests, get_or_from_slice_get, slice_get_cases, OccursAt, OccursAt-append, HasBracket, HasRoot, there, Lasts, StandsByPlace, at_least, Part, any_text, accepts, fits, has_part, stands, IsFirstOf, is_white, is_settled, AllLast, IsLost, is_dark, is_filled, is_lasting, is_plain, lines, outline, Further, Accepted, Fits, IsProgramAmong, animated, binary_bytes, bytes, class_id, dbase, directory_tag, first_entry_ends_in, first_entry_has_extra, first_entry_is, package_with, plain_text, png_header, shared_object, subrip, tar_checksum, program, root, root_with, json_lines, json_text, further, Widens}
+use Rattle.std.proofs.Common.{All, slice_get}
 use Rattle.std.proofs.lemmas.List.Elements.{AllWithin-from_all}
-use Rattle.std.proofs.lemmas.Bool.Decides.{nat_tests}
-use Rattle.std.proofs.lemmas.Option.{get_or_from_slice_get, slice_get_cases}
-use Rattle.infer_deep.specs.Find.{OccursAt}
 use Rattle.infer_deep.specs.Laws as Deep
-use Rattle.infer_deep.proofs.PlaceLemmas.{OccursAt-append}
 use Rattle.infer_inside.specs.Laws as Inside
-use Rattle.infer_inside.specs.Laws.{HasBracket}
-use Rattle.infer_inside.specs.Markup.{HasRoot}
-use Rattle.infer_inside.proofs.GrowthLemmas.{there}
-use Rattle.infer_deep.specs.Signatures.{Lasts}
-use Rattle.infer_sig.specs.Places.{StandsByPlace}
 use Rattle.infer_sig.specs.Signature as fixed
-use Rattle.infer_sig.specs.Signature.{at_least, Part, text, any_text, byte, accepts, fits, has_part, stands}
-use Rattle.infer.specs.First.{IsFirstOf}
+use Rattle.infer_sig.specs.Signature.{text, byte}
 use Rattle.infer.specs.Laws.{IsNotLater}
-use Rattle.infer.specs.Leads.{is_white}
-use Rattle.infer_more.specs.Index.{is_settled}
-use Rattle.infer_more.specs.Laws.{AllLast, IsLost, IsSteady, MayBeLost, NoneIsBlank, is_dark, is_dark_alternative, is_dark_part, is_dark_relation, is_filled, is_lasting, is_some_alternative, lasts}
-use Rattle.infer_more.specs.Index.{is_plain}
-use Rattle.infer_more.specs.Outline.{lines, outline}
-use Rattle.infer_more.specs.Row.{Further}
-use Rattle.infer_notation.specs.Alternative.{Accepted, Alternative, Fits, IsProgramAmong, animated, binary_bytes, bytes, class_id, dbase, directory_tag, first_entry_ends_in, first_entry_has_extra, first_entry_is, package_with, plain_text, png_header, shared_object, subrip, tar_checksum, program, root, root_with, json_lines, json_text}
-use Rattle.infer_more.specs.Table.{further}
-use Rattle.infer_more.specs.Wider.{Widens}
+use Rattle.infer_more.specs.Laws.{IsSteady, MayBeLost, NoneIsBlank, is_dark_alternative, is_dark_part, is_dark_relation, is_some_alternative, lasts}
+use Rattle.infer_notation.specs.Alternative.{Alternative}
 use Rattle.infer_more.proofs.IndexLemmas.{both_left, both_right, either, from_left, passes_part}
 use Rattle.infer_more.proofs.OutlineLemmas.{has_lines, has_outline, past}
 use Rattle.infer_more.proofs.RefusalLemmas.{clash}

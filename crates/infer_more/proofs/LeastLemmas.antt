@@ -1,19 +1,9 @@
 -- The least of the rows that are found.
-use Rattle.std.proofs.Common.{◌≡◌, ℕ, zero, suc, ◌+◌, ◌<◌, ◌≤◌, Bool, true, false, IsTrue, List, [], ◌∷◌, ◌++◌, Option, None, Some, length, take, get_or, ◌⊎◌, inl, inr, ap, sym, ◌∙◌, subst, arith, refl, append_assoc}
-use Rattle.std.specs.Prelude.{◌==◌, if◌then◌else◌, min}
+use Rattle.infer_more.proofs.Common.{◌≡◌, ℕ, zero, suc, ◌+◌, ◌<◌, ◌≤◌, Bool, true, false, IsTrue, List, [], ◌∷◌, ◌++◌, Option, None, Some, length, take, get_or, ◌⊎◌, inl, inr, ap, sym, ◌∙◌, subst, arith, refl, append_assoc, ◌==◌, if◌then◌else◌, min, cases_lt, eqb-true, leb-true, get_or_default, list_all, nat_le, IsFirstOf, is_listed, IsLeast, IsRowOf, IsTried, ascends, candidate, candidates, has_byte, Further, further, Widens, WidensAt, FURTHER_COUNT}
 use Rattle.std.proofs.Math.Nat.{min-le_left, min-le_right}
-use Rattle.std.proofs.lemmas.Bool.{cases_lt, eqb-true, leb-true}
-use Rattle.std.proofs.lemmas.List.{append-nil, get_or_default, take_all}
-use Rattle.std.specs.List.{list_all}
-use Rattle.std.specs.Prelude.{nat_le}
-use Rattle.infer.specs.First.{IsFirstOf}
-use Rattle.infer.specs.Walks.{is_listed}
-use Rattle.infer_more.specs.Index.{IsLeast, IsRowOf, IsTried, all_of, ascends, candidate, candidates, has_byte}
-use Rattle.infer_more.specs.Row.{Further}
-use Rattle.infer_more.specs.Table.{further}
-use Rattle.infer_more.specs.Wider.{Widens, WidensAt}
+use Rattle.std.proofs.lemmas.List.{append-nil, take_all}
+use Rattle.infer_more.specs.Index.{all_of}
 use Rattle.infer_more.specs.declared.index.Entry.{Entry}
-use Rattle.infer_more.specs.declared.index.lists.TheConstants.{FURTHER_COUNT}
 use Rattle.infer_more.proofs.IndexLemmas.{both_left, both_right, either, from_left, from_right, listed_left, listed_right}
 use Rattle.infer_more.proofs.TableLemmas.{length-further}
 
@@ -23,18 +13,6 @@ least_none P before none = record { below = omega arith; is = λ lt. absurd (ome
 
 pub least_late : (P : ℕ → Type 0) (before : ℕ) → ((i : ℕ) → P i → before ≤ i) → IsLeast P before before
 least_late P before late = record { below = omega arith; is = λ lt. absurd (omega arith); least = late }
-
-pub least_one : (P : ℕ → Type 0) (before row : ℕ) → P row → ((i : ℕ) → P i → row ≡ i) → IsLeast P before (min before row)
-least_one P before row here only =
-    let low = min-le_left before row in
-    let high = min-le_right before row in record {
-      below = low;
-      is = λ lt. let e : row ≡ min before row = by_min before row lt in subst P e here;
-      least = λ i p. let e = only i p in omega arith;
-    }
-  where
-    by_min : (m n : ℕ) → min m n < m → n ≡ min m n
-    by_min m n lt = grind arith
 
 pub least_both : (P Q : ℕ → Type 0) (o p q : ℕ) → IsLeast P o p → IsLeast Q p q → IsLeast (λ i. P i ⊎ Q i) o q
 least_both P Q o p q h k =
@@ -86,25 +64,6 @@ module _ (parent : Option ℕ) (b : List ℕ) where
     | inr e ↦ absurd (cc)
   ]
   only_row false row i (listed, w) = absurd (cc)
-
-  pub row_untried : (on : Bool) (row before : ℕ) → on ≡ false → IsLeast (IsTried parent b (if on then row ∷ [] else [])) before before
-  row_untried on row before off = least_none _ before (λ i is. let (holds, e) = only_row on row i is in absurd (cc))
-
-  pub row_late : (on : Bool) (row before : ℕ) → before ≤ row → IsLeast (IsTried parent b (if on then row ∷ [] else [])) before before
-  row_late on row before le = least_late _ before (λ i is. let (holds, e) = only_row on row i is in omega arith)
-
-  pub row_refused : (on : Bool) (row before : ℕ) → ¬ WidensAt parent b row → IsLeast (IsTried parent b (if on then row ∷ [] else [])) before before
-  row_refused on row before no_row = least_none _ before (λ i is. let (holds, e) = only_row on row i is in no_row (subst (WidensAt parent b) (sym e) is.1))
-
-  pub row_found : (on : Bool) (row before : ℕ) → on ≡ true → row < before → WidensAt parent b row → IsLeast (IsTried parent b (if on then row ∷ [] else [])) before row
-  row_found on row before holds lt w = record {
-    below = omega arith;
-    is = λ less. (subst (λ t. IsTrue (is_listed (if t then row ∷ [] else []) row)) (sym holds) (from_left (row == row) false (same_number row)), w);
-    least = λ i is. let (on_it, e) = only_row on row i is in omega arith;
-  }
-    where
-      same_number : (n : ℕ) → IsTrue (n == n)
-      same_number n = grind (arith, eqb-true)
 
   -- of entries whose rows are none before that number
   pub tried_late : (entries : List Entry) (before : ℕ) → IsTrue (list_all (λ e. nat_le before e.row) entries) → IsLeast (IsTried parent b (candidates b entries)) before before

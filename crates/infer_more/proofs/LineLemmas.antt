@@ -1,11 +1,7 @@
 -- Lines of a text.
-use Rattle.std.proofs.Common.{◌≡◌, ◌+◌, ◌<◌, ℕ, Bool, true, false, List, [], ◌∷◌, ◌++◌, length, get_or, take, drop, inl, inr, sym, ap, ◌∙◌, arith}
+use Rattle.infer_more.proofs.Common.{◌≡◌, ◌+◌, ◌<◌, ℕ, Bool, true, false, List, [], ◌∷◌, ◌++◌, length, get_or, take, drop, inl, inr, sym, ap, ◌∙◌, arith, cases_Bool, drop-drop, drop_more, get_or-take, length-take, take-append-drop, slice_split_at, slice_split_none, is_line_end, lines_of}
 use Rattle.std.specs.List.{All}
-use Rattle.std.proofs.lemmas.Bool.{cases_Bool}
-use Rattle.std.proofs.lemmas.List.{drop-drop, drop_more, get_or-take, length-take, take-append-drop}
 use Rattle.std.proofs.lemmas.List.Elements.{All-from_get_or}
-use Rattle.std.proofs.lemmas.List.Splits.{slice_split_at, slice_split_none}
-use Rattle.infer_more.specs.Text.{is_line_end, lines_of}
 
 not_true : (b : Bool) → (b ≡ true → ⊥) → b ≡ false
 not_true b h = elim (cases_Bool b) [ inl e ↦ absurd (h e) | inr e ↦ e ]

@@ -1,17 +1,10 @@
 -- Tests of the images of a list.
-use Rattle.std.proofs.Common.{◌≡◌, ℕ, zero, suc, Bool, true, false, IsTrue, List, [], ◌∷◌, ◌+◌, ◌<◌, ◌≤◌, Some, slice_get, length, get_or, map, take, refl, ap, subst, ◌∙◌, arith}
-use Rattle.std.proofs.lemmas.Bool.{and_parts}
+use Rattle.infer_more.proofs.Common.{◌≡◌, ℕ, zero, suc, Bool, true, false, IsTrue, List, [], ◌∷◌, ◌+◌, ◌<◌, ◌≤◌, Some, length, get_or, map, take, refl, ap, subst, ◌∙◌, arith, and_parts, get_or_from_slice_get, slice_get_within, ◌&&◌, ◌||◌, not, list_any, list_all}
+use Rattle.std.proofs.Common.{slice_get}
 use Rattle.std.proofs.lemmas.List.{take_all}
-use Rattle.std.proofs.lemmas.Option.{get_or_from_slice_get, slice_get_within}
 use Rattle.std.proofs.lemmas.List.Folds.{list_all_more, list_any_more}
-use Rattle.std.specs.Prelude.{◌&&◌, ◌||◌, not}
-use Rattle.std.specs.List.{list_any, list_all}
 
 module _ {A B : Type 0} (p : B → Bool) (f : A → B) where
-  pub list_any_map : (xs : List A) → list_any p (map f xs) ≡ list_any (λ x. p (f x)) xs
-  list_any_map [] = refl
-  list_any_map (x ∷ xs) = ap (λ rest. p (f x) || rest) (list_any_map xs)
-
   pub list_all_map : (xs : List A) → list_all p (map f xs) ≡ list_all (λ x. p (f x)) xs
   list_all_map [] = refl
   list_all_map (x ∷ xs) = ap (λ rest. p (f x) && rest) (list_all_map xs)

@@ -1,10 +1,9 @@
 -- Which texts are lost: some buffer is JSON, or JSON lines, and with more bytes no longer.
-use Rattle.std.proofs.Common.{◌≡◌, ℕ, List, inl, inr, [], ◌∷◌, ◌++◌, ap, codes, get_or, refl, arith}
-use Rattle.infer_inside.specs.Json.{CanBe, Stands, blanks, by_rule, byte, items, next_line, nothing, one, same_line, text}
+use Rattle.infer_more.proofs.Common.{◌≡◌, ℕ, List, inl, inr, [], ◌∷◌, ◌++◌, ap, codes, get_or, refl, arith, CanBe, Stands, IsLost, json_lines, json_text, plain_text}
+use Rattle.infer_inside.specs.Json.{blanks, by_rule, byte, items, next_line, nothing, one, same_line, text}
 use Rattle.infer_inside.specs.Laws.{Single}
 use Rattle.infer_inside.proofs.JsonLemmas.{begins}
-use Rattle.infer_more.specs.Laws.{IsLost, OthersAreLost}
-use Rattle.infer_notation.specs.Alternative.{json_lines, json_text, plain_text}
+use Rattle.infer_more.specs.Laws.{OthersAreLost}
 use Rattle.infer_more.proofs.LawLemmas.{text_lost}
 
 -- a list without items, and what the symbols behind it stand for

@@ -1,11 +1,8 @@
 -- Names are ASCII.
-use Rattle.std.proofs.Common.{◌≡◌, ◌<◌, ◌&&◌, ◌==◌, ℕ, suc, true, List, [], ◌∷◌, codes, length, take, drop, inl, inr, refl, subst, nat_le, arith}
-use Rattle.std.proofs.lemmas.Bool.{cases_Bool, and_parts, eqb-true, or_cases}
-use Rattle.std.proofs.lemmas.Bool.Decides.{nat_tests}
+use Rattle.infer_more.proofs.Common.{◌≡◌, ◌<◌, ◌&&◌, ◌==◌, ℕ, suc, true, List, [], ◌∷◌, codes, length, take, drop, inl, inr, refl, subst, nat_le, arith, cases_Bool, and_parts, eqb-true, nat_tests, list_all, list_any, is_alphanumeric, is_mime_type, is_name, is_name_byte, slash_place}
+use Rattle.std.proofs.lemmas.Bool.{or_cases}
 use Rattle.std.proofs.lemmas.Str.Ascii.{IsAscii-cons, IsAscii-nil}
-use Rattle.std.specs.List.{list_all, list_any}
 use Rattle.std.specs.Str.{IsAscii}
-use Rattle.infer_more.specs.Line.{is_alphanumeric, is_mime_type, is_name, is_name_byte, slash_place}
 
 alphanumeric_ascii : (x : ℕ) → is_alphanumeric x ≡ true → x < 128
 alphanumeric_ascii x e = grind (arith, nat_tests)

@@ -1,9 +1,6 @@
 -- Tests of all rows, whose refusal shows the numbers of the rows that fail.
-use Rattle.std.proofs.Common.{◌≡◌, ℕ, zero, suc, Bool, true, false, IsTrue, List, [], ◌∷◌, Some, slice_get, subst, refl}
-use Rattle.std.proofs.lemmas.Bool.{and_parts}
-use Rattle.std.specs.Prelude.{◌&&◌, if◌then◌else◌}
-use Rattle.std.specs.List.{list_all}
-use Rattle.infer_more.specs.Row.{Further}
+use Rattle.infer_more.proofs.Common.{◌≡◌, ℕ, zero, suc, Bool, true, false, IsTrue, List, [], ◌∷◌, Some, subst, refl, and_parts, ◌&&◌, if◌then◌else◌, list_all, Further}
+use Rattle.std.proofs.Common.{slice_get}
 
 pub both : (a b : Bool) → IsTrue a → IsTrue b → IsTrue (a && b)
 both true b h k = k

@@ -1,26 +1,15 @@
 -- What bytes after a buffer can bring an alternative and a signature, and what they can take from them.
-use Rattle.std.proofs.Common.{◌≡◌, ◌↔◌, ◌⊎◌, ◌+◌, ◌-◌, ◌<◌, ◌≤◌, inl, inr, ℕ, zero, suc, Bool, true, false, IsTrue, List, [], ◌∷◌, ◌++◌, append_assoc, get_or, length, length-append, map, nat_le, take, take_all, refl, sym, subst, ap, ◌∙◌, arith}
-use Rattle.std.specs.Prelude.{◌||◌, ◌==◌, if◌then◌else◌, slice_index}
-use Rattle.std.proofs.lemmas.Bool.{and_from, and_parts, eqb-true, le-leb, leb-true, or_left}
-use Rattle.std.proofs.lemmas.List.{get_or-take, length-take}
-use Rattle.std.proofs.lemmas.List.Elements.{All-append, All-cons, All-nil}
-use denote.Ref.{Bor}
-use Rattle.infer_deep.specs.Find.{OccursAt}
+use Rattle.infer_more.proofs.Common.{◌≡◌, ◌↔◌, ◌⊎◌, ◌+◌, ◌-◌, ◌<◌, ◌≤◌, inl, inr, ℕ, zero, suc, Bool, true, false, IsTrue, List, [], ◌∷◌, ◌++◌, append_assoc, get_or, length, map, nat_le, take, refl, sym, subst, ap, ◌∙◌, arith, ◌||◌, ◌==◌, if◌then◌else◌, slice_index, and_from, and_parts, eqb-true, le-leb, leb-true, get_or-take, length-take, All-nil, Bor, OccursAt, MayBecome, Stays, here, IsProgram, IsBinary, Lasts, may_have, accepts, Bytes, Part, allows, between, fits, AllLast, is_lasting, alternative_listed, signature_listed, Accepted, Fits, IsProgramAmong, png_header}
+use Rattle.std.proofs.Common.{length-append, take_all}
+use Rattle.std.proofs.lemmas.Bool.{or_left}
+use Rattle.std.proofs.lemmas.List.Elements.{All-append, All-cons}
 use Rattle.infer_deep.specs.Open.{AgreesAt}
-use Rattle.infer_deep.specs.Signatures.{MayBecome}
 use Rattle.infer_deep.proofs.OpenLemmas.{grown_agrees}
-use Rattle.infer_inside.specs.Open.{Stays}
-use Rattle.infer_inside.specs.Png.{IsAnimated, here}
-use Rattle.infer_inside.specs.Script.{IsProgram}
-use Rattle.infer_inside.specs.Text.{IsBinary}
-use Rattle.infer_deep.specs.Signatures.{Lasts}
-use Rattle.infer_sig.specs.Open.{MayBecomeIsExact, agrees, is_alternative_sound, is_sound, may_fit, may_have}
+use Rattle.infer_inside.specs.Png.{IsAnimated}
+use Rattle.infer_sig.specs.Open.{MayBecomeIsExact, agrees, is_alternative_sound, is_sound, may_fit}
 use Rattle.infer_sig.specs.Signature as fixed
-use Rattle.infer_sig.specs.Signature.{accepts, Bytes, Part, text, byte, allows, between, fits}
+use Rattle.infer_sig.specs.Signature.{text, byte}
 use Rattle.infer_sig.proofs.PlaceLemmas.{stands_by_place}
-use Rattle.infer_more.specs.Laws.{AllLast, is_lasting}
-use Rattle.infer_more.specs.Listed.{alternative_listed, signature_listed}
-use Rattle.infer_notation.specs.Alternative.{Accepted, Fits, IsProgramAmong, png_header}
 use Rattle.infer_more.specs.declared.signature.Alternative.{Alternative}
 use Rattle.infer_more.specs.declared.signature.Alternative.TheVariants.{JsonLines, JsonText, PlainText}
 

@@ -1,30 +1,18 @@
 -- What fits an alternative has one of its lines.
-use Rattle.std.proofs.Common.{◌≡◌, ◌↔◌, ℕ, zero, suc, ◌+◌, ◌<◌, ◌≤◌, inl, inr, Bool, true, false, IsTrue, List, [], ◌∷◌, ◌++◌, length, sym, ◌∙◌, subst, arith, refl, nat_le, nat_lt, codes}
-use Rattle.std.specs.Prelude.{◌-◌, replicate, slice_index}
-use Rattle.std.proofs.lemmas.Bool.{cases_lt, le-leb, lt-ltb}
-use Rattle.std.proofs.lemmas.Bool.Decides.{nat_tests}
-use Rattle.std.proofs.lemmas.List.{get_or-replicate, length-replicate}
+use Rattle.infer_more.proofs.Common.{◌≡◌, ◌↔◌, ℕ, zero, suc, ◌+◌, ◌<◌, ◌≤◌, inl, inr, Bool, true, false, IsTrue, List, [], ◌∷◌, ◌++◌, length, sym, ◌∙◌, subst, arith, refl, nat_le, nat_lt, codes, ◌-◌, slice_index, cases_lt, le-leb, lt-ltb, nat_tests, length-replicate, OccursAt, zip_header, le16, be16, IsDigit, IsSubRip, IsOctal, IsText, HasFirstName, there, at_least, Part, all_but, any_of, between, accepts, allows, fits, has_part, stands, StandsByPlace, IsBuffer, lines, outline, Accepted, Fits, IsProgramAmong, animated, binary_bytes, bytes, class_id, dbase, directory_tag, first_entry_ends_in, first_entry_has_extra, first_entry_is, package_with, plain_text, png_header, shared_object, subrip, tar_checksum, program, root, root_with, json_lines, json_text, is_plain}
+use Rattle.std.specs.Prelude.{replicate}
+use Rattle.std.proofs.lemmas.List.{get_or-replicate}
 use Rattle.std.proofs.lemmas.Grind.{get_or_default_zero}
-use Rattle.infer_deep.specs.Find.{OccursAt}
-use Rattle.infer_deep.specs.Office.{zip_header}
 use Rattle.infer_inside.specs.Elf.{HasOwnTable}
-use Rattle.infer_deep.specs.Numbers.{le16}
-use Rattle.infer_inside.specs.Numbers.{be16}
-use Rattle.infer_inside.specs.Subtitles.{IsDigit, IsSubRip}
-use Rattle.infer_inside.specs.Tar.{IsField, IsOctal}
-use Rattle.infer_inside.specs.Text.{IsText}
+use Rattle.infer_inside.specs.Tar.{IsField}
 use Rattle.infer_inside.specs.Tiff.{BeginsTiff}
-use Rattle.infer_inside.specs.Zip.{HasFirstName, MayBeginPackage}
-use Rattle.infer_inside.proofs.GrowthLemmas.{there}
+use Rattle.infer_inside.specs.Zip.{MayBeginPackage}
 use Rattle.infer_sig.specs.Signature as fixed
-use Rattle.infer_sig.specs.Signature.{at_least, Part, text, byte, all_but, any_of, between, accepts, allows, fits, has_part, stands}
-use Rattle.infer_sig.specs.Places.{StandsByPlace}
-use Rattle.infer.specs.Buffer.{IsBuffer}
-use Rattle.infer_more.specs.Outline.{counted, counted_for, digit_behind, digits_behind, json_outline, lines, markup_lines, named, outline}
-use Rattle.infer_notation.specs.Alternative.{Accepted, Alternative, Fits, IsProgramAmong, animated, binary_bytes, bytes, class_id, dbase, directory_tag, first_entry_ends_in, first_entry_has_extra, first_entry_is, package_with, plain_text, png_header, shared_object, subrip, tar_checksum, program, root, root_with, json_lines, json_text}
+use Rattle.infer_sig.specs.Signature.{text, byte}
+use Rattle.infer_more.specs.Outline.{counted, counted_for, digit_behind, digits_behind, json_outline, markup_lines, named}
+use Rattle.infer_notation.specs.Alternative.{Alternative}
 use Rattle.infer_inside.specs.JsonStates.{IsBracket}
 use Rattle.infer_inside.specs.Laws.{BeginsJson, BeginsMarkup, Leads}
-use Rattle.infer_more.specs.Index.{is_plain}
 use Rattle.infer_more.proofs.NamedLemmas.{both}
 use Rattle.infer_more.proofs.IndexLemmas.{either, from_left, from_right}
 

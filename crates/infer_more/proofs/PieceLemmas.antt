@@ -1,13 +1,6 @@
 -- What a piece asks, where all that it asks is in the buffer.
-use Rattle.std.proofs.Common.{◌≡◌, ◌↔◌, ◌+◌, ◌<◌, ◌≤◌, ℕ, zero, suc, Bool, true, false, IsTrue, List, [], ◌∷◌, length, ap, sym, ◌∙◌, arith, refl}
-use Rattle.std.specs.Prelude.{◌==◌, ◌&&◌, if◌then◌else◌, nat_le, slice_index}
-use Rattle.std.specs.List.{list_all}
-use Rattle.std.proofs.lemmas.Bool.{and_from, and_parts, eqb-true, le-leb, leb-true, lt-ltb}
-use Rattle.infer_deep.specs.Find.{OccursAt}
-use Rattle.infer_sig.specs.Signature.{Bytes, Part, text, any_text, byte, allows, between, has_part}
-use Rattle.infer_sig.proofs.PlaceLemmas.{stands_from_occurs}
-use Rattle.infer.specs.Samples.{put, with_part}
-use Rattle.infer_more.specs.Row.{is_inside}
+use Rattle.infer_more.proofs.Common.{◌≡◌, ◌↔◌, ◌+◌, ◌<◌, ◌≤◌, ℕ, zero, suc, Bool, true, false, IsTrue, List, [], ◌∷◌, length, ap, sym, ◌∙◌, arith, refl, ◌==◌, ◌&&◌, if◌then◌else◌, nat_le, slice_index, list_all, and_from, and_parts, eqb-true, le-leb, leb-true, lt-ltb, OccursAt, Bytes, Part, any_text, allows, between, has_part, stands_from_occurs, is_inside}
+use Rattle.infer_sig.specs.Signature.{text, byte}
 
 -- what is in the first bytes is in more of them
 inside_more : (n m : ℕ) → n ≤ m → (part : Part) → IsTrue (is_inside n part) → IsTrue (is_inside m part)
@@ -35,13 +28,6 @@ module _ (place low high : ℕ) where
 
   pub range_inside : (n : ℕ) → IsTrue (is_inside n (ranged (low == high))) → place < n
   range_inside n h = ranged_inside n (low == high) h
-
-  ranged_put : (b : List ℕ) (t : Bool) → put place (low ∷ []) b ≡ with_part (ranged t) b
-  ranged_put b true = refl
-  ranged_put b false = refl
-
-  pub range_put : (b : List ℕ) → put place (low ∷ []) b ≡ with_part (ranged (low == high)) b
-  range_put b = ranged_put b (low == high)
 
   module _ (b : List ℕ) (lt : place < length b) where
     abbrev pub within : Bool

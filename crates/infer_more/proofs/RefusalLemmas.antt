@@ -1,25 +1,19 @@
 -- What a computation says of buffers that a built-in signature refuses: by their first byte, by what stands behind white
 -- space, or since they begin with no frame; and whether they are markup.
-use Rattle.std.proofs.Common.{◌≡◌, ◌⊎◌, ◌↔◌, inl, inr, ℕ, zero, suc, Bool, true, false, not, IsTrue, List, [], ◌∷◌, ◌++◌, get_or, length, le_refl, map, take, refl, ap, sym, subst, ◌∙◌, codes, arith}
-use Rattle.std.specs.Prelude.{Any, if◌then◌else◌}
+use Rattle.infer_more.proofs.Common.{◌≡◌, ◌⊎◌, ◌↔◌, inl, inr, ℕ, zero, suc, Bool, true, false, not, IsTrue, List, [], ◌∷◌, ◌++◌, get_or, length, map, take, refl, ap, sym, subst, ◌∙◌, codes, arith, if◌then◌else◌, nat_tests, OccursAt, OccursAt-append, BuiltIn, NoneHas, is_white, Accepts, table, Known, proved, refuted, unknown, at_most, each_before, either, needs, negated, proved_if, refuted_if, takes, ◌>>◌, ByPlace, occurs}
+use Rattle.std.proofs.Common.{le_refl}
+use Rattle.std.specs.Prelude.{Any}
 use Rattle.std.specs.Char.{to_ascii_lowercase}
-use Rattle.std.proofs.lemmas.Bool.Decides.{nat_tests}
-use Rattle.infer_deep.specs.Find.{OccursAt}
 use Rattle.infer_deep.specs.Frames.{IsFrame}
 use Rattle.infer_deep.specs.Joined.{NoneBegins, SkipsTo}
 use Rattle.infer_deep.specs.Text.{BeginsInAnyCase, BeginsWithTag, IsHtml, IsMark, IsSpace, IsWhite, IsXml, tags}
 use Rattle.infer_deep.proofs.FrameLemmas.{IsFramed-left}
 use Rattle.infer_deep.proofs.JoinedLemmas.{SkipsTo-cons, SkipsTo-none}
-use Rattle.infer_deep.proofs.PlaceLemmas.{OccursAt-append}
 use Rattle.infer_deep.proofs.TextLemmas.{IsHtml-left, IsXml-lead, IsXml-left, IsXml-trimmed, begins_in_any_case, front_in_any_case, tag_from_text, text_of_tag}
-use Rattle.infer.specs.BuiltIn.{BuiltIn, framed, html, xml, IsAccepted}
-use Rattle.infer.specs.First.{NoneHas}
-use Rattle.infer.specs.Leads.{Leads, allows_first, is_white}
-use Rattle.infer.specs.Row.{Accepts}
-use Rattle.infer.specs.Table.{table}
+use Rattle.infer.specs.BuiltIn.{framed, html, xml, IsAccepted}
+use Rattle.infer.specs.Leads.{Leads, allows_first}
 use Rattle.infer.proofs.DecisionLemmas.{known}
-use Rattle.infer.proofs.KnownLemmas.{Known, proved, refuted, unknown, at_most, each_before, either, needs, negated, proved_if, refuted_if, same, same_text, takes, ◌>>=◌, ◌>>◌}
-use Rattle.infer.proofs.PlaceLemmas.{ByPlace, occurs}
+use Rattle.infer.proofs.KnownLemmas.{same, same_text, ◌>>=◌}
 
 pub clash : (x : Bool) → IsTrue x → IsTrue (not x) → ⊥
 clash true h k = cc

@@ -1,10 +1,6 @@
 -- What holds of a further row, and of some further row.
-use Rattle.std.proofs.Common.{◌≡◌, ◌↔◌, ◌<◌, ◌≤◌, ℕ, Bool, false, IsTrue, None, Some, inl, inr, length, slice_get, subst, sym, arith}
-use Rattle.std.specs.List.{HoldsAt}
-use Rattle.std.proofs.lemmas.Option.{get_or_from_slice_get, slice_get_cases, slice_get_within}
-use Rattle.infer.specs.First.{SomeHas}
-use Rattle.infer_more.specs.Row.{Further}
-use Rattle.infer_more.specs.Table.{further}
+use Rattle.infer_more.proofs.Common.{◌≡◌, ◌↔◌, ◌<◌, ◌≤◌, ℕ, Bool, false, IsTrue, None, Some, inl, inr, length, subst, sym, arith, HoldsAt, get_or_from_slice_get, slice_get_cases, slice_get_within, SomeHas, Further, further}
+use Rattle.std.proofs.Common.{slice_get}
 
 module _ (P : Further → Type 0) where
   abbrev pub HasAt : ℕ → Type 0

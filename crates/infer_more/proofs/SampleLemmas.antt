@@ -1,27 +1,11 @@
 -- Each further row is the wider answer of its sample.
-use Rattle.std.proofs.Common.{◌≡◌, ◌<◌, ◌+◌, suc, ℕ, List, Option, None, Some, MatchOption, ap, get_or, length, refl, sym, ◌≢◌, subst, arith}
-use Rattle.std.proofs.lemmas.List.{get_or_default}
+use Rattle.infer_more.proofs.Common.{◌≡◌, ◌<◌, ◌+◌, suc, ℕ, List, Option, None, Some, MatchOption, ap, get_or, length, refl, sym, ◌≢◌, subst, arith, get_or_default, le16, le32, be32, be16, header_sum, stands, BuiltIn, IsFirst, IsFirstOf, Accepts, ROW_COUNT, Known, proved, refuted, unknown, at_most, both, each_before, negated, takes, some_row, ByPlace, NoneRefused, passed, Further, Reaches, further_sample, archives, code, further, headers, images, late, markup, media, packages, records, IsWider, Widens, FURTHER_COUNT}
 use Rattle.infer_deep.specs.Laws as Deep
-use Rattle.infer_deep.specs.Numbers.{le16, le32, be32}
 use Rattle.infer_inside.specs.Laws as Inside
-use Rattle.infer_inside.specs.Numbers.{be16}
-use Rattle.infer_inside.specs.Tar.{header_sum}
-use Rattle.infer_sig.specs.Signature.{stands}
-use Rattle.infer.specs.BuiltIn.{BuiltIn}
-use Rattle.infer.specs.First.{IsFirst, IsFirstOf}
 use Rattle.infer.specs.Leads.{Leads}
-use Rattle.infer.specs.Row.{Accepts}
 use Rattle.infer.specs.Table as built_in
-use Rattle.infer.specs.declared.table.rows.TheConstants.{ROW_COUNT}
-use Rattle.infer.proofs.KnownLemmas.{Known, proved, refuted, unknown, at_most, both, each_before, is_proved, negated, proof_of, same, takes, ◌>>=◌}
-use Rattle.infer.proofs.OrderLemmas.{known_at, some_row}
-use Rattle.infer.proofs.PlaceLemmas.{ByPlace}
-use Rattle.infer.proofs.TestLemmas.{NoneRefused, passed}
-use Rattle.infer_more.specs.Row.{Further}
-use Rattle.infer_more.specs.Samples.{Reaches, further_sample}
-use Rattle.infer_more.specs.Table.{archives, code, further, headers, images, late, markup, media, packages, records}
-use Rattle.infer_more.specs.Wider.{IsWider, Widens}
-use Rattle.infer_more.specs.declared.index.lists.TheConstants.{FURTHER_COUNT}
+use Rattle.infer.proofs.KnownLemmas.{is_proved, proof_of, same, ◌>>=◌}
+use Rattle.infer.proofs.OrderLemmas.{known_at}
 use Rattle.infer_more.proofs.FitLemmas.{known_accepted}
 use Rattle.infer_more.proofs.RefusalLemmas.{accepted, none_accepts}
 use Rattle.infer_more.proofs.TableLemmas.{length-further}

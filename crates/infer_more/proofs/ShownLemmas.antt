@@ -1,16 +1,9 @@
 -- What the rows of all numbers show.
-use Rattle.std.proofs.Common.{◌≡◌, ◌<◌, ◌≤◌, ◌+◌, ◌-◌, ℕ, inl, inr, length, map, option_map, slice_get, ap, sym, ◌∙◌, arith}
-use Rattle.std.proofs.lemmas.List.{length-append, length-map}
-use Rattle.std.proofs.lemmas.Option.{slice_get-map, slice_get_cases, slice_get_past}
-use Rattle.infer.specs.BuiltIn.{BuiltIn}
+use Rattle.infer_more.proofs.Common.{◌≡◌, ◌<◌, ◌≤◌, ◌+◌, ◌-◌, ℕ, inl, inr, length, map, option_map, ap, sym, ◌∙◌, arith, length-map, slice_get-map, slice_get_cases, slice_get_past, BuiltIn, Triple, ROW_COUNT, Further, further, shown, FURTHER_COUNT}
+use Rattle.std.proofs.Common.{slice_get}
+use Rattle.std.proofs.lemmas.List.{length-append}
 use Rattle.infer.specs.Row.{Row}
 use Rattle.infer.specs.Table as built_in
-use Rattle.infer.specs.Triple.{Triple}
-use Rattle.infer.specs.declared.table.rows.TheConstants.{ROW_COUNT}
-use Rattle.infer_more.specs.Row.{Further}
-use Rattle.infer_more.specs.Table.{further}
-use Rattle.infer_more.specs.Wider.{shown}
-use Rattle.infer_more.specs.declared.index.lists.TheConstants.{FURTHER_COUNT}
 use Rattle.infer_more.proofs.JoinedLemmas.{slice_get_front, slice_get_rest}
 use Rattle.infer_more.proofs.TableLemmas.{length-further}
 

@@ -1,13 +1,9 @@
 -- No MIME type and no extension of a row, built-in or further, is longer than 73 bytes.
-use Rattle.std.proofs.Common.{◌≤◌, ◌&&◌, ℕ, Bool, List, [], ◌∷◌, zero, suc, IfSome, leb, length, IsTrue, refl, arith}
-use Rattle.std.specs.List.{list_all, slice_get}
-use Rattle.std.proofs.lemmas.Bool.{and_parts}
-use Rattle.std.proofs.lemmas.Bool.Decides.{nat_tests}
+use Rattle.infer_more.proofs.Common.{◌≤◌, ◌&&◌, ℕ, Bool, List, [], ◌∷◌, zero, suc, IfSome, length, IsTrue, refl, arith, list_all, and_parts, nat_tests, Triple, archives, code, further, headers, images, late, markup, media, packages, records, shown}
+use Rattle.std.proofs.Common.{leb}
+use Rattle.std.specs.List.{slice_get}
 use Rattle.infer.specs.Table as built_in
-use Rattle.infer.specs.Triple.{Triple}
 use Rattle.infer_more.specs.Laws.{TextsFit}
-use Rattle.infer_more.specs.Table.{archives, code, further, headers, images, late, markup, media, packages, records}
-use Rattle.infer_more.specs.Wider.{shown}
 
 abbrev fits : Triple → Bool
 fits t = leb (length t.mime_type) 73 && leb (length t.extension) 73

@@ -1,10 +1,5 @@
 -- The table's length, that no row asks for more than its least length, and that it can be told what more bytes bring each.
-use Rattle.std.proofs.Common.{◌≡◌, IsTrue, length, refl}
-use Rattle.std.specs.List.{list_all}
-use Rattle.infer_more.specs.Open.{is_row_sound}
-use Rattle.infer_more.specs.Row.{is_row_closed}
-use Rattle.infer_more.specs.Table.{archives, code, further, headers, images, late, markup, media, packages, records}
-use Rattle.infer_more.specs.declared.index.lists.TheConstants.{FURTHER_COUNT}
+use Rattle.infer_more.proofs.Common.{◌≡◌, IsTrue, length, refl, list_all, is_row_sound, is_row_closed, archives, code, further, headers, images, late, markup, media, packages, records, FURTHER_COUNT}
 use Rattle.infer_more.proofs.NamedLemmas.{all_pass}
 
 pub length-further : length further ≡ FURTHER_COUNT

@@ -1,31 +1,8 @@
 -- Rows that lines describe, one after the other.
-use Rattle.std.proofs.Common.{◌≡◌, ℕ, true, false, List, [], ◌∷◌, Option, None, Some, inl, inr, is_some, option_map, refl, sym, ap, subst, ◌∙◌, ◌<◌, ◌≤◌, ◌+◌, MatchOption, arith, length}
-use Rattle.std.specs.Option.{option_map_or}
-use denote.Ref.{Bor}
-use Rattle.infer.specs.Triple.{Triple}
+use Rattle.infer_more.proofs.Common.{◌≡◌, ℕ, List, [], ◌∷◌, Option, None, Some, inl, inr, option_map, refl, sym, ap, subst, ◌∙◌, ◌<◌, ◌≤◌, ◌+◌, MatchOption, arith, length, option_map_or, Bor, Triple, line_of, IsFirstShown, rows_left, lines_of, rows_in, rows_of, with_row}
 use Rattle.infer_notation.specs.Words.{◌>>=◌}
-use Rattle.infer_more.specs.Line.{Row, line_of}
-use Rattle.infer_more.specs.Text.{IsFirstShown, IsLineAnswer, IsNextRow, rows_left, lines_of, rows_in, rows_of, with_row}
-
-some_map : {A B : Type 0} (f : A → B) (o : Option A) → is_some (option_map f o) ≡ is_some o
-some_map f None = refl
-some_map f (Some x) = refl
-
-some_then : (o : Option (Option Row)) (rows : Option (List Row)) → is_some o ≡ true → is_some (o >>= λ r. option_map (with_row r) rows) ≡ is_some rows
-some_then None rows e = absurd cc
-some_then (Some r) rows e = some_map (with_row r) rows
-
-none_then : (o : Option (Option Row)) (rows : Option (List Row)) → is_some o ≡ false → is_some (o >>= λ r. option_map (with_row r) rows) ≡ false
-none_then None rows e = refl
-none_then (Some r) rows e = absurd cc
-
-module _ (text line : List ℕ) where
-  -- a line that describes neither a row nor none
-  pub rows_none : (lines : List (List ℕ)) → lines_of text ≡ line ∷ lines → is_some (line_of line) ≡ false → is_some (rows_of text) ≡ false
-  rows_none lines is e = ap (λ ls. is_some (rows_in ls)) is ∙ none_then (line_of line) (rows_in lines) e
-
-  pub rows_more : (lines : List (List ℕ)) → lines_of text ≡ line ∷ lines → is_some (line_of line) ≡ true → is_some (rows_of text) ≡ is_some (rows_in lines)
-  rows_more lines is e = ap (λ ls. is_some (rows_in ls)) is ∙ some_then (line_of line) (rows_in lines) e
+use Rattle.infer_more.specs.Line.{Row}
+use Rattle.infer_more.specs.Text.{IsLineAnswer, IsNextRow}
 
 -- the row of the first line, and those of the others
 pub record Parts (line : List ℕ) (lines : List (List ℕ)) (rows : List Row) : Type 0 where

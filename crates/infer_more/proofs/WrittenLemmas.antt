@@ -1,30 +1,17 @@
 -- What is written of the sample of a row, and which rows have none.
-use Rattle.std.proofs.Common.{◌↔◌, IfSome, MatchOption, is_some, ◌≡◌, ◌≢◌, ◌⊎◌, ◌≤◌, ◌<◌, ◌+◌, ◌-◌, ℕ, Bool, true, false, IsTrue, inl, inr, List, [], ◌∷◌, ◌++◌, Option, None, Some, ap, drop, get_or, length, map, length-append, length-drop, max, option_map, slice_get, subst, append_assoc, sym, take, unwrap_or, ◌∙◌, arith, refl, nat_le}
-use Rattle.std.specs.Prelude.{◌==◌, ◌||◌, if◌then◌else◌}
-use denote.Ref.{Bor}
-use Rattle.std.specs.List.{HoldsAt, concat, list_all}
-use Rattle.std.specs.Option.{option_map_or}
-use Rattle.std.proofs.Math.Seq.{drop-append-add, take-append-add, take-append_seam}
-use Rattle.std.proofs.lemmas.Bool.{leb-true}
-use Rattle.std.proofs.lemmas.Bool.Decides.{nat_tests}
-use Rattle.std.proofs.lemmas.List.{drop-drop, drop_more, drop-replicate, length-replicate, length-take-le, take-replicate, take_at}
-use Rattle.std.proofs.lemmas.Option.{get_or_from_slice_get, slice_get-map, slice_get_cases, slice_get_past, slice_get_within}
-use Rattle.infer_sig.specs.Signature.{Part, text, any_text, byte}
-use Rattle.infer.specs.BuiltIn.{BuiltIn}
+use Rattle.infer_more.proofs.Common.{◌↔◌, IfSome, MatchOption, is_some, ◌≡◌, ◌≢◌, ◌⊎◌, ◌≤◌, ◌<◌, ◌+◌, ◌-◌, ℕ, Bool, true, false, IsTrue, inl, inr, List, [], ◌∷◌, ◌++◌, Option, None, Some, ap, drop, get_or, length, map, max, option_map, subst, append_assoc, sym, take, unwrap_or, ◌∙◌, arith, refl, nat_le, ◌==◌, ◌||◌, if◌then◌else◌, Bor, HoldsAt, concat, list_all, option_map_or, take-append_seam, leb-true, nat_tests, drop-drop, drop_more, length-replicate, length-take-le, get_or_from_slice_get, slice_get-map, slice_get_cases, slice_get_past, slice_get_within, Part, any_text, BuiltIn, put, with_parts, zeros, ROW_COUNT, length-table, alternative_listed, row_listed, Further, is_inside, further, Reaches, built_in_sample, further_sample, has_room, model, parent_sample, parts_of, written, SAMPLE_SIZE, FurtherRow}
+use Rattle.std.proofs.Common.{length-append, length-drop, slice_get}
+use Rattle.std.proofs.Math.Seq.{drop-append-add, take-append-add}
+use Rattle.std.proofs.lemmas.List.{drop-replicate, take-replicate, take_at}
+use Rattle.infer_sig.specs.Signature.{text, byte}
 use Rattle.infer.specs.Row.{Row}
-use Rattle.infer.specs.Samples.{HoldsSample, chosen, put, sample_of, with_part, with_parts, zeros}
+use Rattle.infer.specs.Samples.{HoldsSample, chosen, sample_of, with_part}
 use Rattle.infer.specs.Table as built_in
-use Rattle.infer.specs.declared.table.rows.TheConstants.{DLL, EPUB_ARCHIVE, ROW_COUNT}
-use Rattle.infer.proofs.TableLemmas.{length-table}
-use Rattle.infer_more.specs.Listed.{alternative_listed, row_listed}
-use Rattle.infer_more.specs.Row.{Further, is_inside}
-use Rattle.infer_more.specs.Table.{further}
+use Rattle.infer.specs.declared.table.rows.TheConstants.{DLL, EPUB_ARCHIVE}
 use Rattle.infer_sig.specs.Signature as fixed
-use Rattle.infer_more.specs.Samples.{AllReach, HasNoSample, Reaches, built_in_sample, further_sample, has_room, has_room_after, joined_sample, least_of, model, parent_sample, parts_of, prolog, row_model, written}
+use Rattle.infer_more.specs.Samples.{AllReach, HasNoSample, has_room_after, joined_sample, least_of, prolog, row_model}
 use Rattle.infer.specs.declared.samples.TheConstants as built_in_samples
-use Rattle.infer_more.specs.declared.samples.TheConstants.{SAMPLE_SIZE}
 use Rattle.infer_more.specs.declared.signature.Alternative as Listed
-use Rattle.infer_more.specs.declared.table.FurtherRow.{FurtherRow}
 use Rattle.infer_more.proofs.IndexLemmas.{both_left, both_right}
 
 -- the sample of a row that is found

@@ -1,27 +1,18 @@
 -- What is read of a text is what it describes.
-use Rattle.std.proofs.Common.{◌≡◌, ◌+◌, ◌*◌, ◌<◌, ◌≤◌, ◌&&◌, ◌||◌, ◌==◌, ◌⊎◌, ℕ, Bool, true, false, List, [], ◌∷◌, ◌++◌, Option, None, Some, codes, drop, length, map, nat_le, nat_lt, option_map, inl, inr, refl, sym, ap, subst, ◌∙◌, arith}
-use Rattle.std.specs.List.{All, list_all, onto_first, slice_split}
+use Rattle.infer_notation.proofs.Common.{◌≡◌, ◌+◌, ◌<◌, ◌≤◌, ◌&&◌, ◌||◌, ◌==◌, ◌⊎◌, ℕ, Bool, true, false, List, [], ◌∷◌, ◌++◌, Option, None, Some, codes, drop, length, map, nat_le, nat_lt, option_map, inl, inr, refl, sym, ap, subst, ◌∙◌, arith, All, list_all, onto_first, slice_split, cases_Bool, eqb-true, le-leb, leb-true, lt-leb, lt-ltb, ltb-true, append-nil, length-map, All-cons, All-nil, slice_split-cons_no, slice_split_at, slice_split_none, cond_some, bytes_eq-Decides, Alternative, BeginsWith, IsMadeOf, by_mark, by_word, blank, empty, in_braces, in_quotes, next, begins_by, bytes_in, is_bare, is_or, item_of, items_in, marked_entry, named_in, names, related, relations_of, same_token, short_groups, spelled, Asked, Rest, alternatives_of, rest_of, Derives, opened, signature, tokens_of, begins_relation, described, signature_of, bare, is_of, mark, quoted, ◌>>=◌, behind_blanks, byte_of, byte_with, number_of, Bare, Relation, SharedObject}
+use Rattle.std.proofs.Common.{◌*◌}
 use Rattle.std.specs.Int.{is_in_range}
-use Rattle.std.proofs.lemmas.Bool.{cases_Bool, eqb-true, le-leb, leb-true, lt-leb, lt-ltb, ltb-true}
-use Rattle.std.proofs.lemmas.List.{append-nil, append_assoc, length-map}
-use Rattle.std.proofs.lemmas.List.Elements.{All-cons, All-nil}
-use Rattle.std.proofs.lemmas.List.Splits.{slice_split-cons_no, slice_split-cons_yes, slice_split_at, slice_split_none}
-use Rattle.std.proofs.lemmas.Option.{cond_some}
-use Rattle.std.proofs.lemmas.Slice.Eq.{bytes_eq-Decides}
-use Rattle.infer_notation.specs.Alternative.{Alternative, class_id, directory_tag, first_entry_ends_in, first_entry_has_extra, first_entry_is, package_with, program, root, root_with}
-use Rattle.infer_notation.specs.Described.{AreBytes, Asks, AsksBytes, AsksEach, BeginsWith, Describes, IsMadeOf, IsGroup, IsName, IsNameIn, IsParted, NamesRelation, by_mark, by_word, blank, empty, in_braces, in_quotes, next, a_folder, a_name, a_tag, a_text_within, an_element, an_end, an_extra, an_id, last, nothing, other, programs}
-use Rattle.infer_notation.specs.Relations.{alone, begins_by, bytes_in, directory_of, ending_entry, entry_of, extra_field, id_of, is_bare, is_or, is_word, item_alone, item_of, items_in, marked_entry, named_entry, named_in, names, or_else, package_of, program_of, related, relations_of, root_of, same_token, short_groups, spelled}
-use Rattle.infer_notation.specs.Fixed.{Asked, Rest, alternatives_of, rest_of}
-use Rattle.infer_notation.specs.Grammar.{Derives, opened, signature, tokens_of}
-use Rattle.infer_notation.specs.Signature.{begins_relation, described, signature_of}
-use Rattle.infer_notation.specs.Tokens.{Token, bare, is_of, mark, quoted, set}
-use Rattle.infer_notation.specs.Words.{◌>>=◌, behind_blanks, byte_of, byte_with, is_digit, number_of}
+use Rattle.std.proofs.lemmas.List.{append_assoc}
+use Rattle.std.proofs.lemmas.List.Splits.{slice_split-cons_yes}
+use Rattle.infer_notation.specs.Alternative.{class_id, directory_tag, first_entry_ends_in, first_entry_has_extra, first_entry_is, package_with, program, root, root_with}
+use Rattle.infer_notation.specs.Described.{AreBytes, Asks, AsksBytes, AsksEach, Describes, IsGroup, IsName, IsNameIn, IsParted, NamesRelation, a_folder, a_name, a_tag, a_text_within, an_element, an_end, an_extra, an_id, last, nothing, other, programs}
+use Rattle.infer_notation.specs.Relations.{alone, directory_of, ending_entry, entry_of, extra_field, id_of, is_word, item_alone, named_entry, or_else, package_of, program_of, root_of}
+use Rattle.infer_notation.specs.Tokens.{Token, set}
+use Rattle.infer_notation.specs.Words.{is_digit}
 use Rattle.infer_notation.proofs.GrammarLemmas as grammar
 use Rattle.infer_notation.proofs.GrammarLemmas.{is_derived}
 use Rattle.infer_notation.proofs.MadeLemmas.{both_true, is_made, is_read, not_blank}
-use Rattle.infer_notation.specs.declared.tokens.Run.TheVariants.{Bare}
-use Rattle.infer_notation.specs.declared.names.Relation.{Relation}
-use Rattle.infer_notation.specs.declared.names.Relation.TheVariants.{Animated, ClassId, Dbase, DirectoryTag, FirstEntry, JsonLines, JsonText, PackageWith, PlainText, Program, Root, SharedObject, SubRip, TarChecksum}
+use Rattle.infer_notation.specs.declared.names.Relation.TheVariants.{Animated, ClassId, Dbase, DirectoryTag, FirstEntry, JsonLines, JsonText, PackageWith, PlainText, Program, Root, SubRip, TarChecksum}
 
 -- ---- groups
 

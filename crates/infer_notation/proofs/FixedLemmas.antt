@@ -1,14 +1,8 @@
 -- What a buffer makes of the parts that a text writes.
-use Rattle.std.proofs.Common.{◌≡◌, ◌+◌, ◌&&◌, ℕ, suc, Bool, true, false, List, [], ◌∷◌, Option, None, Some, cond, length, drop, get_or, option_map, nat_le, refl, sym, ap, ◌∙◌, arith}
-use Rattle.std.proofs.Common.{inl, inr}
-use Rattle.std.proofs.lemmas.Bool.{cases_lt, le-ltb, lt-ltb}
-use Rattle.std.proofs.lemmas.List.{at_drop_all, at_drop_more}
-use Rattle.infer_sig.specs.Signature.{Bytes, Part, allows, any_of, byte, has_part, stands, text}
-use Rattle.infer_notation.specs.Fixed.{cursor, part, set_part, step_seen, within, within_seen}
-use Rattle.infer_notation.specs.Words.{◌>>=◌, first_passes, hex_seen}
-use Rattle.infer_notation.specs.declared.fixed.Effect.TheVariants.{Has}
-use Rattle.infer_notation.specs.declared.fixed.Wanted.TheVariants.{More}
-use Rattle.infer_notation.specs.declared.words.Hex.{Hex}
+use Rattle.infer_notation.proofs.Common.{◌≡◌, ◌+◌, ◌&&◌, ℕ, suc, Bool, true, false, List, [], ◌∷◌, Option, None, Some, cond, length, drop, get_or, option_map, nat_le, refl, sym, ap, ◌∙◌, arith, inl, inr, cases_lt, lt-ltb, at_drop_all, at_drop_more, Part, allows, any_of, byte, has_part, stands, text, cursor, part, set_part, step_seen, within, ◌>>=◌, first_passes, hex_seen, Has, More, Hex}
+use Rattle.std.proofs.lemmas.Bool.{le-ltb}
+use Rattle.infer_sig.specs.Signature.{Bytes}
+use Rattle.infer_notation.specs.Fixed.{within_seen}
 
 -- a part within the least length, as a buffer sees it
 pub within_is : (least place size : ℕ) (buf : List ℕ) (p : Part) (has : Bool) → has_part buf p ≡ has

@@ -1,17 +1,10 @@
 -- What is read is derived by the grammar, and what is derived is read.
-use Rattle.std.proofs.Common.{◌≡◌, ◌+◌, ◌≤◌, ◌==◌, ℕ, zero, suc, Bool, true, false, List, [], ◌∷◌, ◌++◌, Option, None, Some, codes, cond, length, nat_le, option_map, inl, inr, refl, sym, ap, subst, ◌∙◌}
-use Rattle.std.specs.Str.{bytes_eq}
-use Rattle.std.proofs.lemmas.Bool.{cases_Bool, eqb-true, le-leb, leb-true}
-use Rattle.std.proofs.lemmas.Option.{cond_some}
-use Rattle.std.proofs.lemmas.Slice.Eq.{bytes_eq-Decides}
-use Rattle.infer_sig.specs.Signature.{Part, all_but, any_of, between, byte, text}
+use Rattle.infer_notation.proofs.Common.{◌≡◌, ◌+◌, ◌≤◌, ◌==◌, ℕ, zero, suc, Bool, true, false, List, [], ◌∷◌, ◌++◌, Option, None, Some, codes, cond, length, nat_le, option_map, inl, inr, refl, sym, ap, subst, ◌∙◌, bytes_eq, cases_Bool, eqb-true, le-leb, leb-true, cond_some, bytes_eq-Decides, Part, all_but, any_of, between, byte, text, Asked, Effect, Rest, asks_binary, cursor, joined, opens, part, range_of, rest_at, rest_of, start, step, within, Derives, opened, signature, tokens_at, tokens_of, bare, mark, quoted, token_at, ◌>>=◌, byte_of, bytes_of, is_blank, number_of, Cursor, Length, Colon, At, Place, More, Byte, Binary, Or}
 use Rattle.infer_notation.specs.Fixed as fixed
-use Rattle.infer_notation.specs.Fixed.{Asked, Effect, Rest, asks_binary, cursor, joined, nothing, opens, part, range_of, rest_at, rest_of, start, step, within}
-use Rattle.infer_notation.specs.Grammar.{Derives, IsPiece, IsSignature, Symbol, a_range, a_set, a_text, another, asked, comma, ended, more, opened, other, others, parts, pieces, placed, rest, signature, some_bytes, with_data, without, tokens_at, tokens_of}
-use Rattle.infer_notation.specs.Tokens.{Token, bare, mark, quoted, set, token_at}
-use Rattle.infer_notation.specs.Words.{◌>>=◌, byte_of, bytes_of, is_blank, number_of}
-use Rattle.infer_notation.specs.declared.fixed.Cursor.{Cursor}
-use Rattle.infer_notation.specs.declared.fixed.Wanted.TheVariants.{Length, Colon, At, Place, Bytes, More, Byte, Binary, Or}
+use Rattle.infer_notation.specs.Fixed.{nothing}
+use Rattle.infer_notation.specs.Grammar.{IsPiece, IsSignature, Symbol, a_range, a_set, a_text, another, asked, comma, ended, more, other, others, parts, pieces, placed, rest, some_bytes, with_data, without}
+use Rattle.infer_notation.specs.Tokens.{Token, set}
+use Rattle.infer_notation.specs.declared.fixed.Wanted.TheVariants.{Bytes}
 
 -- what tokens add, from a cursor on
 abbrev pub parse : Cursor → List Token → Option Rest
@@ -62,9 +55,6 @@ cursor_of others = cursor Or 0 0
 
 not_same : (w v : List ℕ) → (w ≡ v → ⊥) → bytes_eq w v ≡ false
 not_same w v h = elim (cases_Bool (bytes_eq w v)) [ inl e ↦ absurd (h ((bytes_eq-Decides w v).0 e)) | inr e ↦ e ]
-
-is_word : (w : List ℕ) → bytes_eq w w ≡ true
-is_word w = (bytes_eq-Decides w w).1 refl
 
 -- no bytes and no range are written so
 no_bytes : (w v xs : List ℕ) → bytes_of v ≡ None → bytes_of w ≡ Some xs → bytes_eq w v ≡ false

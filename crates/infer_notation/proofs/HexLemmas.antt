@@ -1,10 +1,5 @@
 -- Bytes in hexadecimal digits, read one after the other.
-use Rattle.std.proofs.Common.{◌≡◌, ◌+◌, ◌&&◌, ◌||◌, ◌==◌, ℕ, suc, Bool, true, false, List, [], ◌∷◌, Option, None, Some, length, drop, option_map, nat_eq, refl, sym, ap, ◌∙◌, arith}
-use Rattle.std.specs.List.{list_any, starts_with}
-use Rattle.infer_sig.specs.Signature.{allows, any_of}
-use Rattle.std.proofs.lemmas.Bool.Decides.{nat_tests}
-use Rattle.infer_notation.specs.Words.{bytes_behind, bytes_of, byte_with, first_passes, hex_joined, hex_seen, is_blank}
-use Rattle.infer_notation.specs.declared.words.Hex.{Hex}
+use Rattle.infer_notation.proofs.Common.{◌≡◌, ◌+◌, ◌&&◌, ◌||◌, ◌==◌, ℕ, suc, Bool, true, false, List, [], ◌∷◌, Option, None, Some, length, drop, option_map, nat_eq, refl, sym, ap, ◌∙◌, arith, list_any, starts_with, allows, any_of, nat_tests, bytes_behind, bytes_of, byte_with, first_passes, hex_joined, hex_seen, is_blank, Hex}
 
 starts_next : (b : ℕ) (left xs : List ℕ) → starts_with nat_eq left (b ∷ xs) ≡ (first_passes (λ x. b == x) left && starts_with nat_eq (drop 1 left) xs)
 starts_next b [] xs = refl

@@ -1,21 +1,13 @@
 -- What is known of the buffers that fit what was read of a signature.
-use Rattle.std.proofs.Common.{◌≡◌, ◌+◌, ◌<◌, ◌≤◌, ◌==◌, ◌&&◌, ◌||◌, ℕ, Bool, true, false, codes, cond, List, [], ◌∷◌, Option, None, Some, IsTrue, IfSome, drop, length, get_or, map, nat_eq, nat_le, nat_lt, option_map, inl, inr, refl, sym, ap, subst, ◌∙◌, arith}
-use Rattle.std.specs.List.{list_any, starts_with}
-use Rattle.std.proofs.lemmas.List.{at_drop_all}
-use Rattle.std.proofs.lemmas.Bool.{and_parts, false≢true, or_cases}
-use Rattle.std.specs.Str.{bytes_eq}
-use Rattle.infer_sig.specs.Signature.{Bytes, Part, allows, any_of, between, byte, has_part, stands, text}
-use Rattle.infer_notation.specs.Alternative.{Accepted, Alternative}
+use Rattle.infer_notation.proofs.Common.{◌≡◌, ◌+◌, ◌<◌, ◌≤◌, ◌==◌, ◌&&◌, ◌||◌, ℕ, Bool, true, false, codes, cond, List, [], ◌∷◌, Option, None, Some, IsTrue, drop, length, get_or, map, nat_eq, nat_le, nat_lt, option_map, inl, inr, refl, sym, ap, subst, ◌∙◌, arith, list_any, starts_with, at_drop_all, and_parts, false≢true, or_cases, bytes_eq, Part, allows, any_of, between, byte, has_part, stands, text, Accepted, Alternative, Asked, Effect, accepts, alternatives_of, asks_binary, effect_seen, given, has_data, more_read, opens, part, piece, range_of, rest_at, rest_seen, set_part, start, state, state_taken, step, step_seen, within, word_part, IsKnown, IsLed, IsRead, is_found, described, bare, mark, quoted, token_at, ◌>>=◌, bytes_behind, bytes_of, byte_with, first_passes, is_blank, behind_blanks, Cursor, Has, At, Binary, Byte, Length, More}
+use Rattle.std.proofs.Common.{IfSome}
+use Rattle.infer_sig.specs.Signature.{Bytes}
 use Rattle.infer_notation.specs.Fixed as fixed
-use Rattle.infer_notation.specs.Fixed.{Asked, Effect, accepts, alternatives_of, asks_binary, effect_seen, ended, given, has_data, more_read, nothing, opens, part, piece, range_of, rest_at, rest_of, rest_seen, set_part, start, state, state_taken, step, step_seen, within, word_part}
-use Rattle.infer_notation.specs.Leads.{IsKnown, IsLead, IsLed, IsRead, is_found, lead_part}
-use Rattle.infer_notation.specs.Signature.{described}
-use Rattle.infer_notation.specs.Tokens.{Token, bare, mark, quoted, set, token_at}
-use Rattle.infer_notation.specs.Words.{◌>>=◌, bytes_behind, bytes_of, byte_with, first_passes, is_blank, behind_blanks}
-use Rattle.infer_notation.specs.declared.fixed.Cursor.{Cursor}
+use Rattle.infer_notation.specs.Fixed.{nothing}
+use Rattle.infer_notation.specs.Leads.{IsLead, lead_part}
+use Rattle.infer_notation.specs.Tokens.{Token, set}
 use Rattle.infer_notation.specs.declared.fixed.Effect as declared
-use Rattle.infer_notation.specs.declared.fixed.Effect.TheVariants.{Has, Nothing, Opens}
-use Rattle.infer_notation.specs.declared.fixed.Wanted.TheVariants.{At, Binary, Byte, Length, More}
+use Rattle.infer_notation.specs.declared.fixed.Effect.TheVariants.{Nothing, Opens}
 use Rattle.infer_notation.specs.declared.leads.Known as kinds
 use Rattle.infer_notation.specs.declared.leads.Known.TheVariants as known
 use Rattle.infer_notation.specs.declared.leads.Lead.{Lead}
@@ -315,13 +307,6 @@ read_next r s whole xs t n d f lead some dark is-t is-s is-d taken asks h =
           ∙ sym (given_next b before d xs t n (effect_seen b e) some dark is-t (sym (ap (option_map (step_seen b)) was.1)))
           ∙ h.same b;
     }
-
--- what an effect adds: nothing, what a part asks, and a further alternative
-pub taken_nothing : (r s : Reading) (d : Cursor) (f : declared.Effect) (lead : Option Lead) → f ≡ Nothing → s.any ≡ r.any → s.last ≡ r.last → IsTaken r s d f lead
-taken_nothing r s d f lead is any last nothing ks ls seen leads h i = (subst (λ k. IsKnown k ks) (sym any) h, subst (λ k. IsKnown k ls) (sym last) i)
-taken_nothing r s d f lead is any last (part p) ks ls seen leads h i = absurd cc
-taken_nothing r s d f lead is any last asks_binary ks ls seen leads h i = absurd cc
-taken_nothing r s d f lead is any last (opens n) ks ls seen leads h i = absurd cc
 
 has_true : (t : Bool) → t ≡ true → Has t ≡ Has true
 has_true t e = ap (λ (t : Bool). Has t) e

@@ -1,3 +1,4 @@
+pub mod Common
 pub mod HexLemmas
 pub mod FixedLemmas
 pub mod SignatureLemmas

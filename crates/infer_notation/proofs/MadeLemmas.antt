@@ -1,18 +1,14 @@
 -- The tokens that are read of a text are those that it is made of.
-use Rattle.std.proofs.Common.{◌≡◌, ◌+◌, ◌-◌, ◌<◌, ◌==◌, ◌&&◌, ℕ, zero, suc, Bool, true, false, IsTrue, List, [], ◌∷◌, ◌++◌, Option, None, Some, cond, drop, length, nat_lt, option_map, take, inl, inr, refl, sym, ap, subst, ◌∙◌, arith}
-use Rattle.std.specs.Prelude.{slice_index}
-use Rattle.std.specs.List.{list_all, prefix_len}
+use Rattle.infer_notation.proofs.Common.{◌≡◌, ◌+◌, ◌<◌, ◌==◌, ◌&&◌, ℕ, zero, suc, Bool, true, false, IsTrue, List, [], ◌∷◌, ◌++◌, Option, None, Some, cond, drop, length, nat_lt, option_map, take, inl, inr, refl, sym, ap, subst, ◌∙◌, arith, slice_index, list_all, prefix_len, cases_Bool, cases_lt, eqb-true, lt-ltb, ltb-true, drop_all, drop_more, BeginsWith, IsMadeOf, blank, by_mark, by_word, empty, in_braces, in_quotes, next, tokens_at, tokens_of, bare, bare_at, is_mark, is_of, mark, quoted, quoted_at, set_at, token_at, ◌>>=◌, first_passes, is_blank, Bare}
+use Rattle.std.proofs.Common.{◌-◌}
 use Rattle.std.proofs.Math.Seq.{drop-append-add, drop-append_seam, get_or-append_seam, take-append_seam}
-use Rattle.std.proofs.lemmas.Bool.{cases_Bool, cases_lt, eq-eqb, eqb-true, lt-ltb, ltb-true, true≢false}
-use Rattle.std.proofs.lemmas.List.{drop_all, drop_more, get_or-take, get_or_past, length-take-le, take-append-drop}
+use Rattle.std.proofs.lemmas.Bool.{eq-eqb, true≢false}
+use Rattle.std.proofs.lemmas.List.{get_or-take, get_or_past, length-take-le, take-append-drop}
 use Rattle.std.proofs.lemmas.List.Folds.{prefix_len-append}
 use Rattle.std.proofs.lemmas.List.Sums.{list_all-from_AllPass, prefix_len-le-length, prefix_len_passes, prefix_len_stops}
-use Rattle.infer_notation.specs.Described.{BeginsWith, IsMadeOf, blank, by_mark, by_word, empty, in_braces, in_quotes, next}
-use Rattle.infer_notation.specs.Grammar.{tokens_at, tokens_of}
-use Rattle.infer_notation.specs.Tokens.{Token, bare, bare_at, is_mark, is_of, mark, quoted, quoted_at, set, set_at, token_at, token_from}
+use Rattle.infer_notation.specs.Tokens.{Token, set, token_from}
 use Rattle.infer_notation.proofs.RelationLemmas.{past_read}
-use Rattle.infer_notation.specs.Words.{◌>>=◌, first_passes, is_blank}
-use Rattle.infer_notation.specs.declared.tokens.Run.TheVariants.{Bare, Quoted, Set}
+use Rattle.infer_notation.specs.declared.tokens.Run.TheVariants.{Quoted, Set}
 
 pub both_true : (b c : Bool) → (b && c) ≡ true → (b ≡ true) × (c ≡ true)
 both_true true c h = (refl, h)

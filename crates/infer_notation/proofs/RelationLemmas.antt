@@ -1,21 +1,15 @@
 -- Relations, token by token.
-use Rattle.std.proofs.Common.{◌≡◌, ◌+◌, ◌<◌, ◌≤◌, ◌&&◌, ℕ, zero, suc, true, false, List, [], ◌∷◌, ◌++◌, Option, None, Some, length, drop, take, map, nat_le, nat_lt, option_map, inl, inr, refl, sym, ap, ◌∙◌, Result, Ok, Err, IfOk, get_or, set, subst, append_assoc, length-take, arith}
+use Rattle.infer_notation.proofs.Common.{◌≡◌, ◌+◌, ◌<◌, ◌≤◌, ◌&&◌, ℕ, zero, suc, true, false, List, [], ◌∷◌, ◌++◌, Option, None, Some, length, drop, take, map, nat_le, nat_lt, option_map, inl, inr, refl, sym, ap, ◌∙◌, get_or, subst, arith, All, slice_split, onto_first, cases_Bool, le-leb, lt-leb, lt-ltb, append-nil, drop_all, drop_more, length-map, All-cons, All-nil, slice_split-cons_no, slice_split_at, slice_split_none, tokens_at, tokens_of, begins_by, group_listed, groups_of, is_or, left_groups, name_listed, named_in, same_token, short_groups, token_at, token_listed, Relation, ◌>>=◌, behind_blanks, is_blank}
+use Rattle.std.proofs.Common.{Result, Ok, Err, IfOk, set, append_assoc, length-take}
 use denote.Ref.{Bor}
-use Rattle.std.specs.List.{All, slice_split, onto_first}
 use Rattle.std.proofs.Math.Bool.{and-false}
-use Rattle.std.proofs.lemmas.Bool.{cases_Bool, le-leb, lt-leb, lt-ltb}
-use Rattle.std.proofs.lemmas.List.{append-nil, drop-map, drop_all, drop_more, length-map, length-set, map-append}
-use Rattle.std.proofs.lemmas.List.Elements.{All-append, All-cons, All-head, All-nil, All-tail}
+use Rattle.std.proofs.lemmas.List.{drop-map, length-set, map-append}
+use Rattle.std.proofs.lemmas.List.Elements.{All-append, All-head, All-tail}
 use Rattle.std.proofs.lemmas.Grind.{take-set_at}
-use Rattle.std.proofs.lemmas.List.Splits.{slice_split-cons_no, slice_split-cons_yes, slice_split_at, slice_split_none}
-use Rattle.infer_notation.specs.Grammar.{tokens_at, tokens_of}
-use Rattle.infer_notation.specs.Relations.{begins_by, group_listed, groups_of, is_or, left_groups, name_listed, named_in, same_token, short_groups}
-use Rattle.infer_notation.specs.Tokens.{Token, token_at, token_listed}
+use Rattle.infer_notation.specs.Tokens.{Token}
 use Rattle.infer_notation.specs.declared.reason.Flaw.{Flaw}
 use Rattle.infer_notation.specs.declared.relations.Group.{Group}
-use Rattle.infer_notation.specs.declared.names.Relation.{Relation}
 use Rattle.infer_notation.specs.declared.tokens.Token as declared
-use Rattle.infer_notation.specs.Words.{◌>>=◌, behind_blanks, is_blank}
 
 -- bytes of a token that was read count no more
 pub past_read : (n : ℕ) (xs : List ℕ) → tokens_at n xs ≡ tokens_at 0 (drop n xs)
@@ -73,9 +67,6 @@ module _ (pre : List Token) (front : All (λ t. is_or t ≡ false) pre) where
         ap (λ o. o >>= λ ts. short_groups (slice_split is_or ts)) (whole ∙ ap (option_map (λ ts. pre ++ ts)) none)
         ∙ ap short_groups split_last ∙ short_front [] some few
 
-    pub group_none : tokens_of rest ≡ None → groups_of text ≡ None
-    group_none none = ap (λ o. o >>= λ ts. short_groups (slice_split is_or ts)) (whole ∙ ap (option_map (λ ts. pre ++ ts)) none)
-
     pub group_or : (behind : List ℕ) (t : Token) → tokens_of rest ≡ option_map (λ ts. t ∷ ts) (tokens_of behind) → is_or t ≡ true → 0 < length pre → length pre ≤ 24
         → groups_of text ≡ option_map (λ gs. pre ∷ gs) (groups_of behind)
     group_or behind t next is some few =
@@ -129,19 +120,6 @@ group_long pre text rest behind t front whole next other long =
         let k = long_front pre t r front other in
         let many : nat_le (length k.first) 24 ≡ false = lt-leb (length k.first) 24 (let l = k.long in omega arith) in
         ap short_groups k.is ∙ rw (many, and-false (nat_lt 0 (length k.first))) refl
-
--- a text that begins by "or", or ends
-pub group_empty : (text rest : List ℕ) → tokens_of text ≡ option_map (λ ts. [] ++ ts) (tokens_of rest) → tokens_of rest ≡ Some [] → groups_of text ≡ None
-group_empty text rest whole none = ap (λ o. o >>= λ ts. short_groups (slice_split is_or ts)) (whole ∙ ap (option_map (λ ts. [] ++ ts)) none)
-
-pub group_empty_or : (text rest behind : List ℕ) (t : Token) → tokens_of text ≡ option_map (λ ts. [] ++ ts) (tokens_of rest) → tokens_of rest ≡ option_map (λ ts. t ∷ ts) (tokens_of behind)
-    → is_or t ≡ true → groups_of text ≡ None
-group_empty_or text rest behind t whole next is =
-    ap (λ o. o >>= λ ts. short_groups (slice_split is_or ts)) (whole ∙ ap (option_map (λ ts. [] ++ ts)) next) ∙ on_rest (tokens_of behind)
-  where
-    on_rest : (o : Option (List Token)) → (option_map (λ ts. [] ++ ts) (option_map (λ ts. t ∷ ts) o) >>= λ ts. short_groups (slice_split is_or ts)) ≡ None
-    on_rest None = refl
-    on_rest (Some r) = ap short_groups (slice_split-cons_yes is_or t r is)
 
 -- ---- a list of names
 

@@ -1,22 +1,15 @@
 -- What a buffer makes of alternatives that a text describes by a relation.
-use Rattle.std.proofs.Common.{◌≡◌, ◌+◌, ◌⊎◌, ◌↔◌, ◌||◌, ℕ, suc, slice_index, Bool, true, false, not, cond, ◌&&◌, List, [], ◌∷◌, ◌++◌, Option, None, Some, IsTrue, drop, length, map, option_map, take, get_or, set, inl, inr, refl, sym, ap, subst, ◌∙◌, ◌<◌, arith, append_assoc}
-use Rattle.std.proofs.lemmas.Bool.{and_parts, false≢true, or_cases}
+use Rattle.infer_notation.proofs.Common.{◌≡◌, ◌+◌, ◌⊎◌, ◌||◌, ℕ, suc, slice_index, Bool, true, false, not, cond, ◌&&◌, List, [], ◌∷◌, ◌++◌, Option, None, Some, IsTrue, drop, length, map, option_map, get_or, inl, inr, refl, sym, ap, subst, ◌∙◌, ◌<◌, arith, and_parts, false≢true, or_cases, nat_tests, drop_more, IsOneOf, Accepted, Alternative, Asked, accepts, has_data, described, IsItemSeen, IsSeen, groups_of, item_of, items_in, left_groups, named_in, names, related, relations_of, spelled, token_listed, ◌>>=◌, Relation}
+use Rattle.std.proofs.Common.{◌↔◌}
 use Rattle.std.proofs.Math.Bool.{and-true}
-use Rattle.std.proofs.lemmas.Bool.Decides.{Decides-or, nat_tests}
+use Rattle.std.proofs.lemmas.Bool.Decides.{Decides-or}
 use Rattle.std.proofs.lemmas.List.Folds.{list_any_at}
-use Rattle.std.proofs.lemmas.Grind.{take-set_at}
-use Rattle.std.proofs.lemmas.List.{drop_more}
 use Rattle.infer_sig.specs.Signature as fixed
 use Rattle.infer_inside.specs.Script.{IsProgram}
-use Rattle.infer_inside.specs.Zip.{IsOneOf}
 use Rattle.infer_inside.specs.Text.{IsBinary, IsDataByte}
-use Rattle.infer_notation.specs.Alternative.{Accepted, Alternative, Fits, IsProgramAmong, binary_bytes, bytes}
-use Rattle.infer_notation.specs.Fixed.{Asked, accepts, fits_asked, has_data, is_data_byte}
-use Rattle.infer_notation.specs.Signature.{described}
-use Rattle.infer_notation.specs.Relations.{IsItemSeen, IsSeen, bytes_in, groups_of, item_of, items_in, left_groups, named_in, names, related, relations_of, spelled, token_byte}
-use Rattle.infer_notation.specs.Tokens.{Token, token_listed}
-use Rattle.infer_notation.specs.Words.{◌>>=◌}
-use Rattle.infer_notation.specs.declared.names.Relation.{Relation}
+use Rattle.infer_notation.specs.Alternative.{Fits, IsProgramAmong, binary_bytes, bytes}
+use Rattle.infer_notation.specs.Fixed.{fits_asked, is_data_byte}
+use Rattle.infer_notation.specs.Tokens.{Token}
 use Rattle.infer_notation.specs.declared.tokens.Token as declared
 
 -- ---- names of programs
@@ -35,26 +28,6 @@ no_program b none [] h = absurd h
 no_program b none (n ∷ ns) (inl p) = none n p
 no_program b none (n ∷ ns) (inr more) = no_program b none ns more
 
--- ---- bytes
-
-pub bytes_next : (ts : List declared.Token) (i : ℕ) (t : declared.Token) (x : ℕ) (id : List ℕ) → i < length ts → i < length id → token_byte (token_listed (get_or ts i t)) ≡ Some x
-    → option_map (λ xs. take i id ++ xs) (bytes_in (map token_listed (drop i ts))) ≡ option_map (λ xs. take (i + 1) (set id i x) ++ xs) (bytes_in (map token_listed (drop (i + 1) ts)))
-bytes_next ts i t x id inside room is =
-    ap (λ r. option_map (λ xs. take i id ++ xs) (bytes_in (map token_listed r))) (drop_more ts i t inside)
-    ∙ ap (λ o. option_map (λ xs. take i id ++ xs) (o >>= λ x. option_map (λ xs. x ∷ xs) (bytes_in (map token_listed (drop (i + 1) ts))))) is
-    ∙ joined (bytes_in (map token_listed (drop (i + 1) ts)))
-    ∙ ap (λ (front : List ℕ). option_map (λ xs. front ++ xs) (bytes_in (map token_listed (drop (i + 1) ts)))) (sym (take-set_at id i (i + 1) x refl room))
-  where
-    joined : (o : Option (List ℕ)) → option_map (λ xs. take i id ++ xs) (option_map (λ xs. x ∷ xs) o) ≡ option_map (λ xs. (take i id ++ x ∷ []) ++ xs) o
-    joined None = refl
-    joined (Some xs) = ap (λ (ys : List ℕ). Some ys) (sym (append_assoc (take i id) (x ∷ []) xs))
-
-pub bytes_bad : (ts : List declared.Token) (i : ℕ) (t : declared.Token) (id : List ℕ) → i < length ts → token_byte (token_listed (get_or ts i t)) ≡ None
-    → option_map (λ xs. take i id ++ xs) (bytes_in (map token_listed (drop i ts))) ≡ None
-bytes_bad ts i t id inside is =
-    ap (λ r. option_map (λ xs. take i id ++ xs) (bytes_in (map token_listed r))) (drop_more ts i t inside)
-    ∙ ap (λ o. option_map (λ xs. take i id ++ xs) (o >>= λ x. option_map (λ xs. x ∷ xs) (bytes_in (map token_listed (drop (i + 1) ts))))) is
-
 -- ---- alternatives
 
 -- those to come, and one before them that the buffer may fit
@@ -70,10 +43,6 @@ module _ (r : Relation) (g : List Token) (rest : Option (List ℕ)) where
   items_next : (a : Alternative) → item_of r g ≡ Some a → (o : Option (List (List Token))) → (option_map (λ gs. g ∷ gs) o >>= items_in r) ≡ option_map (λ others. a ∷ others) (o >>= items_in r)
   items_next a is None = refl
   items_next a is (Some gs) = ap (λ i. i >>= λ a. option_map (λ others. a ∷ others) (items_in r gs)) is
-
-  items_none : item_of r g ≡ None → (o : Option (List (List Token))) → (option_map (λ gs. g ∷ gs) o >>= items_in r) ≡ None
-  items_none is None = refl
-  items_none is (Some gs) = ap (λ i. i >>= λ a. option_map (λ others. a ∷ others) (items_in r gs)) is
 
 -- one alternative less to come
 seen_more : (items others : Option (List Alternative)) (b : List ℕ) (any fits : Bool) (a : Alternative) → items ≡ option_map (λ more. a ∷ more) others → IsTrue fits ↔ Fits a b
@@ -127,10 +96,6 @@ pub seen_next : (more b : List ℕ) (g : List Token) (rest : Option (List ℕ)) 
     → IsItemSeen (item_of r g) b (Some fits) → (x : Option Bool) → IsLeft (any || fits) (left_items r rest) b x → IsLeft any (left_items r (Some more)) b x
 seen_next more b g rest r any fits whole (a, is, fit) =
     seen_more (left_items r (Some more)) (left_items r rest) b any fits a (ap (λ o. o >>= items_in r) whole ∙ items_next r g rest a is (left_groups rest)) fit
-
-pub unseen_next : (more b : List ℕ) (g : List Token) (rest : Option (List ℕ)) (r : Relation) (any : Bool) → groups_of more ≡ option_map (λ gs. g ∷ gs) (left_groups rest)
-    → item_of r g ≡ None → IsLeft any (left_items r (Some more)) b None
-unseen_next more b g rest r any whole is = ap (λ o. o >>= items_in r) whole ∙ items_none r g rest is (left_groups rest)
 
 -- none is to come
 pub seen_last : (b : List ℕ) (r : Relation) (any : Bool) → IsLeft any (left_items r None) b (Some any)

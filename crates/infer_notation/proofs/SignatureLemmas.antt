@@ -1,17 +1,10 @@
 -- A signature that is read token by token.
-use Rattle.std.proofs.Common.{◌≡◌, ◌⊎◌, ◌+◌, ◌&&◌, ◌||◌, ℕ, zero, suc, Bool, true, false, not, List, [], ◌∷◌, Option, None, Some, length, drop, option_map, nat_le, inl, inr, refl, sym, ap, ◌∙◌, ◌<◌, arith, get_or}
-use Rattle.std.specs.List.{list_all}
-use Rattle.std.proofs.lemmas.Bool.{cases_Bool}
-use Rattle.infer_sig.specs.Signature.{has_part}
-use Rattle.infer_notation.specs.Fixed.{Effect, Rest, accepts, alternatives_of, asks_binary, effect_seen, given, has_data, joined, nothing, opens, part, rest_at, rest_of, rest_seen, state_taken, step, step_seen, ended, start, state}
-use Rattle.infer_notation.specs.Tokens.{Token, token_at}
-use Rattle.infer_notation.specs.Words.{behind_blanks, is_blank}
-use Rattle.infer_notation.specs.declared.fixed.Cursor.{Cursor}
+use Rattle.infer_notation.proofs.Common.{◌≡◌, ◌⊎◌, ◌+◌, ◌&&◌, ◌||◌, ℕ, zero, suc, Bool, true, false, not, List, [], ◌∷◌, Option, None, Some, length, drop, option_map, nat_le, inl, inr, refl, sym, ap, ◌∙◌, ◌<◌, arith, get_or, list_all, cases_Bool, has_part, Effect, Rest, accepts, alternatives_of, asks_binary, effect_seen, given, has_data, joined, opens, part, rest_at, rest_of, rest_seen, state_taken, step, step_seen, start, state, token_at, behind_blanks, is_blank, Cursor, Wanted, At, Binary, Byte, Colon, Length, More, Or, Place, State}
+use Rattle.infer_notation.specs.Fixed.{nothing, ended}
+use Rattle.infer_notation.specs.Tokens.{Token}
 use Rattle.infer_notation.specs.declared.fixed.Effect as declared
 use Rattle.infer_notation.specs.declared.fixed.Effect.TheVariants as effects
-use Rattle.infer_notation.specs.declared.fixed.Wanted.{Wanted}
-use Rattle.infer_notation.specs.declared.fixed.Wanted.TheVariants.{At, Binary, Byte, Bytes, Colon, Length, More, Or, Place}
-use Rattle.infer_notation.specs.declared.signature.State.{State}
+use Rattle.infer_notation.specs.declared.fixed.Wanted.TheVariants.{Bytes}
 use Rattle.infer_notation.proofs.HexLemmas.{and_assoc, and_true, or_assoc}
 
 -- bytes of a token that was read count no more

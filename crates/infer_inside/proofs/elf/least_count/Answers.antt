@@ -1,4 +1,4 @@
-use Rattle.std.proofs.Common.{arith}
+use Rattle.infer_inside.proofs.Common.{arith}
 use Rattle.infer_inside.proofs.OpenElfLemmas.{count_agrees, count_is}
 use Rattle.infer_inside.proofs.elf.least_count.Goals as goal
 

@@ -1,5 +1,4 @@
-use Rattle.std.proofs.Common.{arith}
-use Rattle.infer_deep.proofs.OpenLemmas.{test_from_reads}
+use Rattle.infer_inside.proofs.Common.{arith, test_from_reads}
 use Rattle.infer_inside.proofs.OpenElfLemmas.{object_known}
 use Rattle.infer_inside.proofs.elf.may_become_shared_object.Goals as goal
 

@@ -1,6 +1,5 @@
 -- none of the entries so far asks for one
-use Rattle.std.proofs.Common.{ℕ, ◌+◌, ◌*◌, ◌<◌}
-use Rattle.infer_inside.specs.Elf.{AsksAt}
+use Rattle.infer_inside.proofs.Common.{ℕ, ◌+◌, ◌*◌, ◌<◌, AsksAt}
 use Rattle.infer_inside.proofs.elf.none_asks.Given as goal
 
 abbrev pub invariant-loop-i : goal.invariant-loop-i

@@ -1,4 +1,4 @@
-use Rattle.std.proofs.Common.{refl}
+use Rattle.infer_inside.proofs.Common.{refl}
 use Rattle.infer_inside.proofs.LineLemmas.{empty_read, lines_cut, lines_end, lines_then, lines_wrong, some_left}
 use Rattle.infer_inside.proofs.json.begins_line.Goals as goal
 

@@ -1,7 +1,5 @@
 -- the texts so far stand each on a new line
-use Rattle.std.proofs.Common.{[], ◌∷◌, ◌↔◌, length}
-use Rattle.infer_inside.specs.Json.{next_line, CanBe}
-use Rattle.infer_inside.specs.JsonStates.{StartsLine}
+use Rattle.infer_inside.proofs.Common.{[], ◌∷◌, ◌↔◌, length, next_line, CanBe, StartsLine}
 use Rattle.infer_inside.proofs.json.begins_line.Given as goal
 
 abbrev pub invariant-loop-rest : goal.invariant-loop-rest

@@ -1,4 +1,4 @@
-use Rattle.std.proofs.Common.{inl, inr}
+use Rattle.infer_inside.proofs.Common.{inl, inr}
 use Rattle.infer_inside.proofs.TokenLemmas.{none_starts, token_starts}
 use Rattle.infer_inside.proofs.json.begins_token.Goals as goal
 

@@ -1,7 +1,4 @@
-use Rattle.std.proofs.Common.{subst, refl, arith}
-use Rattle.std.proofs.lemmas.List.{drop_all}
-use Rattle.infer_inside.specs.Json.{BeginsWhole}
-use Rattle.infer_inside.specs.JsonStates.{left}
+use Rattle.infer_inside.proofs.Common.{subst, refl, arith, drop_all, BeginsWhole, left}
 use Rattle.infer_inside.proofs.TokenLemmas.{ends_at, none_ends, stops_at, whole_more}
 use Rattle.infer_inside.proofs.json.begins_whole.Goals as goal
 

@@ -1,7 +1,5 @@
 -- the token ends where what is left of it does
-use Rattle.std.proofs.Common.{drop, ◌↔◌}
-use Rattle.infer_inside.specs.Json.{BeginsWhole}
-use Rattle.infer_inside.specs.JsonStates.{left}
+use Rattle.infer_inside.proofs.Common.{drop, ◌↔◌, BeginsWhole, left}
 use Rattle.infer_inside.proofs.json.begins_whole.Given as goal
 
 abbrev pub invariant-loop-i : goal.invariant-loop-i

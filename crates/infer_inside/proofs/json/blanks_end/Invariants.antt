@@ -1,6 +1,5 @@
 -- what the rest is past is what all is past
-use Rattle.std.proofs.Common.{ℕ, List, drop}
-use Rattle.infer_inside.specs.JsonStates.{IsPast}
+use Rattle.infer_inside.proofs.Common.{ℕ, List, drop, IsPast}
 use Rattle.infer_inside.proofs.json.blanks_end.Given as goal
 
 abbrev pub invariant-loop-i : goal.invariant-loop-i

@@ -1,5 +1,4 @@
-use Rattle.std.proofs.Common.{drop, refl, arith}
-use Rattle.infer_inside.specs.JsonStates.{left}
+use Rattle.infer_inside.proofs.Common.{drop, refl, arith, left}
 use Rattle.infer_inside.proofs.OnwardLemmas.{onward_before, onward_cut, onward_ended, onward_here, onward_more, onward_wrong}
 use Rattle.infer_inside.proofs.json.end_of.Goals as goal
 

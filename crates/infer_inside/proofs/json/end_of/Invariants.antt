@@ -1,6 +1,5 @@
 -- what is left of the token before the place
-use Rattle.std.proofs.Common.{drop}
-use Rattle.infer_inside.specs.JsonStates.{Onward, left}
+use Rattle.infer_inside.proofs.Common.{drop, Onward, left}
 use Rattle.infer_inside.proofs.json.end_of.Given as goal
 
 abbrev pub invariant-loop-i : goal.invariant-loop-i

@@ -1,7 +1,5 @@
-use Rattle.std.proofs.Common.{None, subst}
+use Rattle.infer_inside.proofs.Common.{None, subst, OnTrue, IsKind}
 use Rattle.std.specs.Prelude.{not}
-use Rattle.std.specs.Bool.{OnTrue}
-use Rattle.infer_inside.specs.Json.{IsKind}
 use Rattle.infer_inside.proofs.json.kind_of.Goals as goal
 
 pub returns-else-may_open : goal.returns-else-may_open

@@ -1,5 +1,4 @@
-use Rattle.std.proofs.Common.{[], ◌∷◌}
-use Rattle.infer_inside.specs.Json.{same_line}
+use Rattle.infer_inside.proofs.Common.{[], ◌∷◌, same_line}
 use Rattle.infer_inside.proofs.OpenJsonLemmas.{by_line}
 use Rattle.infer_inside.proofs.json.may_be_lines.Goals as goal
 

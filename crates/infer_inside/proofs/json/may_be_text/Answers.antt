@@ -1,5 +1,4 @@
-use Rattle.std.proofs.Common.{[], ◌∷◌}
-use Rattle.infer_inside.specs.Json.{blanks}
+use Rattle.infer_inside.proofs.Common.{[], ◌∷◌, blanks}
 use Rattle.infer_inside.proofs.LineLemmas.{empty_read}
 use Rattle.infer_inside.proofs.OpenJsonLemmas.{by_line}
 use Rattle.infer_inside.proofs.json.may_be_text.Goals as goal

@@ -1,5 +1,4 @@
-use Rattle.std.proofs.Common.{[], ◌∷◌}
-use Rattle.infer_inside.specs.Json.{blanks}
+use Rattle.infer_inside.proofs.Common.{[], ◌∷◌, blanks}
 use Rattle.infer_inside.proofs.OpenJsonLemmas.{behind_mark, json_may}
 use Rattle.infer_inside.proofs.json.may_become_json.Goals as goal
 

@@ -1,6 +1,4 @@
-use Rattle.std.proofs.Common.{◌≤◌, length, arith, sym}
-use Rattle.std.proofs.lemmas.Bool.{eqb-true}
-use Rattle.std.proofs.lemmas.Bool.Decides.{nat_tests}
+use Rattle.infer_inside.proofs.Common.{◌≤◌, length, arith, sym, eqb-true, nat_tests}
 use Rattle.infer_inside.proofs.TokenLemmas.{kind_nothing, on_shut}
 use Rattle.infer_inside.proofs.json.may_open.Goals as goal
 

@@ -1,6 +1,4 @@
-use Rattle.std.proofs.Common.{◌+◌, subst, arith}
-use Rattle.std.proofs.lemmas.List.{drop_all, take_rest}
-use Rattle.infer_inside.specs.JsonStates.{IsPast}
+use Rattle.infer_inside.proofs.Common.{◌+◌, subst, arith, drop_all, take_rest, IsPast}
 use Rattle.infer_inside.proofs.LineLemmas.{SameLine, next_at_end, next_found, none_next, same_more}
 use Rattle.infer_inside.proofs.json.next_line.Goals as goal
 

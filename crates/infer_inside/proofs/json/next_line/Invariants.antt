@@ -1,5 +1,5 @@
 -- the line goes on to the place
-use Rattle.std.proofs.Common.{drop}
+use Rattle.infer_inside.proofs.Common.{drop}
 use Rattle.infer_inside.proofs.LineLemmas.{SameLine}
 use Rattle.infer_inside.proofs.json.next_line.Given as goal
 

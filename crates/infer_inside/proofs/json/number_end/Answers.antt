@@ -1,5 +1,4 @@
-use Rattle.std.proofs.Common.{drop, arith}
-use Rattle.infer_inside.specs.declared.json.Token.TheVariants.{Whole}
+use Rattle.infer_inside.proofs.Common.{drop, arith, Whole}
 use Rattle.infer_inside.proofs.OnwardLemmas.{onward_cut}
 use Rattle.infer_inside.proofs.json.number_end.Goals as goal
 

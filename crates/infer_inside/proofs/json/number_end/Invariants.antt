@@ -1,7 +1,5 @@
 -- what is left of the token before the place
-use Rattle.std.proofs.Common.{drop}
-use Rattle.infer_inside.specs.JsonStates.{Onward, left}
-use Rattle.infer_inside.specs.declared.json.Token.TheVariants.{Whole}
+use Rattle.infer_inside.proofs.Common.{drop, Onward, left, Whole}
 use Rattle.infer_inside.proofs.json.number_end.Given as goal
 
 abbrev pub invariant-loop-i : goal.invariant-loop-i

@@ -1,6 +1,4 @@
-use Rattle.std.proofs.Common.{subst, sym}
-use Rattle.std.proofs.lemmas.List.{take_rest}
-use Rattle.infer_inside.specs.JsonStates.{IsPast}
+use Rattle.infer_inside.proofs.Common.{subst, sym, take_rest, IsPast}
 use Rattle.infer_inside.proofs.json.past_blanks.Goals as goal
 
 pub returns : goal.returns

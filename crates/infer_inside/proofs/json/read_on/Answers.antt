@@ -1,6 +1,4 @@
-use Rattle.std.proofs.Common.{drop, subst, arith}
-use Rattle.infer_inside.specs.JsonStates.{EndTells, PlaceTells}
-use Rattle.infer_inside.specs.declared.json.Due.TheVariants.{Colon}
+use Rattle.infer_inside.proofs.Common.{drop, subst, arith, EndTells, PlaceTells, Colon}
 use Rattle.infer_inside.specs.declared.json.Place.TheVariants as Place
 use Rattle.infer_inside.proofs.OnwardLemmas.{place_between, place_closed, place_key, place_value}
 use Rattle.infer_inside.proofs.json.read_on.Goals as goal

@@ -1,7 +1,4 @@
-use Rattle.std.proofs.Common.{◌∷◌, ◌+◌, ◌≤◌, get_or, subst, arith}
-use Rattle.infer_inside.specs.Json.{blanks}
-use Rattle.infer_inside.specs.JsonStates.{Reads, due_left}
-use Rattle.infer_inside.specs.declared.json.Next.TheVariants.{Between}
+use Rattle.infer_inside.proofs.Common.{◌∷◌, ◌+◌, ◌≤◌, get_or, subst, arith, blanks, Reads, due_left, Between}
 use Rattle.infer_inside.proofs.OnwardLemmas.{due_blanks, due_cut, due_read, next_cut, next_done, next_due}
 use Rattle.infer_inside.proofs.json.read_text.Goals as goal
 

@@ -1,6 +1,5 @@
 -- what is due at the place
-use Rattle.std.proofs.Common.{◌-◌, ◌≤◌, length}
-use Rattle.infer_inside.specs.JsonStates.{IsOpen}
+use Rattle.infer_inside.proofs.Common.{◌-◌, ◌≤◌, length, IsOpen}
 use Rattle.infer_inside.proofs.OnwardLemmas.{DueAt}
 use Rattle.infer_inside.proofs.json.read_text.Given as goal
 

@@ -1,5 +1,4 @@
-use Rattle.std.proofs.Common.{drop, arith}
-use Rattle.infer_inside.specs.declared.json.Token.TheVariants.{Chars}
+use Rattle.infer_inside.proofs.Common.{drop, arith, Chars}
 use Rattle.infer_inside.proofs.OnwardLemmas.{onward_cut}
 use Rattle.infer_inside.proofs.json.string_end.Goals as goal
 

@@ -1,8 +1,4 @@
-use Rattle.std.proofs.Common.{◌≡◌, ℕ, ◌<◌, ◌≤◌, List, get_or, arith, subst, sym, ◌∙◌}
-use Rattle.std.proofs.lemmas.Bool.{false≢true}
-use Rattle.infer_deep.specs.Places.{FindsPlace}
-use Rattle.infer_inside.specs.Markup.{ClosesDeclaration}
-use Rattle.infer_inside.specs.Runs.{IsNext}
+use Rattle.infer_inside.proofs.Common.{◌≡◌, ℕ, ◌<◌, ◌≤◌, List, get_or, arith, subst, sym, ◌∙◌, false≢true, FindsPlace, ClosesDeclaration, IsNext}
 use Rattle.infer_inside.proofs.PartLemmas.{part_search}
 use Rattle.infer_inside.proofs.markup.declaration_close.Goals as goal
 

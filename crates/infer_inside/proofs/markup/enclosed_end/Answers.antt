@@ -1,7 +1,4 @@
-use Rattle.std.proofs.Common.{◌≡◌, ◌+◌, length, arith, subst, sym}
-use Rattle.memchr.specs.Find.{OccursAt}
-use Rattle.infer_deep.specs.Places.{FindsPlace, IsWithin}
-use Rattle.infer_inside.specs.Markup.{IsEnclosed}
+use Rattle.infer_inside.proofs.Common.{◌≡◌, ◌+◌, length, arith, subst, sym, OccursAt, FindsPlace, IsWithin, IsEnclosed}
 use Rattle.infer_inside.proofs.markup.enclosed_end.Goals as goal
 
 pub returns-in_err-end : goal.returns-in_err-end

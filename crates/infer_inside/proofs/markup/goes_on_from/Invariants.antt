@@ -1,5 +1,5 @@
 -- the declaration goes on so far
-use Rattle.std.proofs.Common.{ℕ, ◌≡◌, ◌<◌, ◌≤◌, get_or}
+use Rattle.infer_inside.proofs.Common.{ℕ, ◌≡◌, ◌<◌, ◌≤◌, get_or}
 use Rattle.infer_inside.proofs.markup.goes_on_from.Given as goal
 
 abbrev pub invariant-loop-at : goal.invariant-loop-at

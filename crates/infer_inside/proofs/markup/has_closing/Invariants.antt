@@ -1,5 +1,5 @@
 -- none stands there so far
-use Rattle.std.proofs.Common.{ℕ, ◌≡◌, ◌<◌, get_or}
+use Rattle.infer_inside.proofs.Common.{ℕ, ◌≡◌, ◌<◌, get_or}
 use Rattle.infer_inside.proofs.markup.has_closing.Given as goal
 
 abbrev pub invariant-loop-at : goal.invariant-loop-at

@@ -1,4 +1,4 @@
-use Rattle.std.proofs.Common.{arith}
+use Rattle.infer_inside.proofs.Common.{arith}
 use Rattle.infer_inside.proofs.markup.has_name_from.Goals as goal
 
 pub returns-then-not-is_name_byte : goal.returns-then-not-is_name_byte

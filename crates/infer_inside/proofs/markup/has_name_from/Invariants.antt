@@ -1,5 +1,5 @@
 -- the bytes so far are those of a name
-use Rattle.std.proofs.Common.{ℕ, ◌<◌, ◌≤◌, get_or}
+use Rattle.infer_inside.proofs.Common.{ℕ, ◌<◌, ◌≤◌, get_or}
 use Rattle.infer_inside.specs.Markup.{IsNameByte}
 use Rattle.infer_inside.proofs.markup.has_name_from.Given as goal
 

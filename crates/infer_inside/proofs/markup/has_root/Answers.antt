@@ -1,7 +1,4 @@
-use Rattle.std.proofs.Common.{subst, sym}
-use Rattle.std.proofs.lemmas.Bool.Decides.{Decides-eqb}
-use Rattle.std.proofs.lemmas.Slice.Eq.{slice_eq-Decides}
-use Rattle.infer_inside.specs.Markup.{IsRootElement}
+use Rattle.infer_inside.proofs.Common.{subst, sym, Decides-eqb, slice_eq-Decides, IsRootElement}
 use Rattle.infer_inside.proofs.markup.has_root.Goals as goal
 
 pub returns-in-Some : goal.returns-in-Some

@@ -1,7 +1,4 @@
-use Rattle.std.proofs.Common.{subst, sym}
-use Rattle.std.proofs.lemmas.Bool.Decides.{Decides-eqb}
-use Rattle.std.proofs.lemmas.Slice.Eq.{slice_eq-Decides}
-use Rattle.infer_inside.specs.Markup.{HasInTag, IsRootElement}
+use Rattle.infer_inside.proofs.Common.{subst, sym, Decides-eqb, slice_eq-Decides, HasInTag, IsRootElement}
 use Rattle.infer_inside.proofs.markup.has_root_with.Goals as goal
 
 pub returns-then-eq : goal.returns-then-eq

@@ -1,6 +1,4 @@
-use Rattle.std.proofs.Common.{codes, subst, sym}
-use Rattle.infer_deep.specs.Places.{FindsPlace}
-use Rattle.infer_inside.specs.Markup.{IsEnclosed}
+use Rattle.infer_inside.proofs.Common.{codes, subst, sym, FindsPlace, IsEnclosed}
 use Rattle.infer_inside.proofs.markup.instruction_end.Goals as goal
 
 pub returns-in_err-end : goal.returns-in_err-end

@@ -1,4 +1,4 @@
-use Rattle.std.proofs.Common.{arith}
+use Rattle.infer_inside.proofs.Common.{arith}
 use Rattle.infer_inside.proofs.MarkupLemmas.{is_declared}
 use Rattle.infer_inside.proofs.markup.is_doctype.Goals as goal
 

@@ -1,7 +1,5 @@
-use Rattle.std.proofs.Common.{◌≡◌, ℕ, ◌+◌, ◌<◌, length, inl, inr, arith, refl, subst}
-use Rattle.std.specs.Prelude.{slice_index}
-use Rattle.std.proofs.lemmas.Bool.{cases_lt, false≢true}
-use Rattle.infer_inside.specs.Markup.{IsXmlSpace, MayOpen}
+use Rattle.infer_inside.proofs.Common.{◌≡◌, ℕ, ◌+◌, ◌<◌, length, inl, inr, arith, refl, subst, slice_index, cases_lt, false≢true, IsXmlSpace}
+use Rattle.infer_inside.specs.Markup.{MayOpen}
 use Rattle.infer_inside.proofs.GrowthLemmas.{there}
 use Rattle.infer_inside.proofs.markup.may_be_rooted.Goals as goal
 

@@ -1,7 +1,5 @@
 -- white space stands at all places so far
-use Rattle.std.proofs.Common.{ℕ, ◌<◌}
-use Rattle.std.specs.Prelude.{slice_index}
-use Rattle.infer_inside.specs.Markup.{IsXmlSpace}
+use Rattle.infer_inside.proofs.Common.{ℕ, ◌<◌, slice_index, IsXmlSpace}
 use Rattle.infer_inside.proofs.markup.may_be_rooted.Given as goal
 
 abbrev pub invariant-loop-place : goal.invariant-loop-place

@@ -1,7 +1,4 @@
-use Rattle.std.proofs.Common.{◌↔◌, ◌-◌, ◌<◌, ℕ, length, List, Option, None, Some, ◌++◌, drop, refl, subst, arith}
-use Rattle.std.specs.Prelude.{slice_range}
-use Rattle.infer_deep.specs.Open.{AgreesAt}
-use Rattle.infer_inside.specs.Markup.{IsPart, LeadsToTag, OpensTag, utf8_mark}
+use Rattle.infer_inside.proofs.Common.{◌↔◌, ◌-◌, ◌<◌, ℕ, length, List, Option, None, Some, ◌++◌, drop, refl, subst, arith, slice_range, AgreesAt, IsPart, LeadsToTag, OpensTag, utf8_mark}
 use Rattle.infer_inside.proofs.OpenMarkupLemmas.{any_comes, come, declared_comes, root_local, run_to}
 use Rattle.infer_inside.proofs.markup.may_come_to_root.Goals as goal
 

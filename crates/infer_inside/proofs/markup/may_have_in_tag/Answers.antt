@@ -1,6 +1,5 @@
-use Rattle.std.proofs.Common.{ap}
+use Rattle.infer_inside.proofs.Common.{ap, false_from_ne_true}
 use Rattle.std.proofs.Math.Bool.{not}
-use Rattle.std.proofs.lemmas.Bool.{false_from_ne_true}
 use Rattle.infer_inside.proofs.OpenMarkupLemmas.{in_tag_ended, in_tag_open}
 use Rattle.infer_inside.proofs.markup.may_have_in_tag.Goals as goal
 

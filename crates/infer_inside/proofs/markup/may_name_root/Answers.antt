@@ -1,6 +1,4 @@
-use Rattle.std.proofs.Common.{inl, inr, subst}
-use Rattle.std.specs.Prelude.{slice_range}
-use Rattle.infer_inside.specs.Markup.{IsFullName, IsTypeByte}
+use Rattle.infer_inside.proofs.Common.{inl, inr, subst, slice_range, IsFullName, IsTypeByte}
 use Rattle.infer_inside.proofs.RunLemmas.{one_run_end}
 use Rattle.infer_inside.proofs.markup.may_name_root.Goals as goal
 

@@ -1,5 +1,4 @@
-use Rattle.std.proofs.Common.{length, inl, inr, arith, subst, sym, IsTrue}
-use Rattle.std.proofs.lemmas.Bool.{false≢true}
+use Rattle.infer_inside.proofs.Common.{length, inl, inr, arith, subst, sym, IsTrue, false≢true}
 use Rattle.infer_inside.proofs.GrowthLemmas.{there}
 use Rattle.infer_inside.proofs.PartLemmas.{part_search}
 use Rattle.infer_inside.proofs.markup.may_open.Goals as goal

@@ -1,6 +1,5 @@
-use Rattle.std.proofs.Common.{subst, ◌⊎◌}
-use Rattle.std.specs.Prelude.{slice_range}
-use Rattle.infer_inside.specs.Markup.{IsFullName, IsTypeByte, MayGoOn, MayOpenAs}
+use Rattle.infer_inside.proofs.Common.{subst, ◌⊎◌, slice_range, IsFullName, IsTypeByte, MayOpenAs}
+use Rattle.infer_inside.specs.Markup.{MayGoOn}
 use Rattle.infer_inside.proofs.RunLemmas.{one_run_end}
 use Rattle.infer_inside.proofs.markup.may_open_declared.Goals as goal
 

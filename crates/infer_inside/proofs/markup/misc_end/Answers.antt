@@ -1,6 +1,4 @@
-use Rattle.std.proofs.Common.{◌≡◌, ℕ, ◌+◌, List, Option, None, Some, inl, inr, arith, codes, get_or}
-use Rattle.infer_deep.specs.Places.{FindsPlace}
-use Rattle.infer_inside.specs.Markup.{BeginsElement, IsEnclosed, IsMisc, IsXmlSpace}
+use Rattle.infer_inside.proofs.Common.{◌≡◌, ℕ, ◌+◌, List, Option, None, Some, inl, inr, arith, codes, get_or, FindsPlace, BeginsElement, IsEnclosed, IsMisc, IsXmlSpace}
 use Rattle.infer_inside.proofs.MarkupLemmas.{comment_first, instruction_first, no_misc}
 use Rattle.infer_inside.proofs.markup.misc_end.Goals as goal
 

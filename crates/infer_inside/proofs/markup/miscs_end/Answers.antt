@@ -1,5 +1,4 @@
-use Rattle.std.proofs.Common.{None, inl, refl, ◌++◌, length, arith}
-use Rattle.infer_inside.specs.Markup.{IsXmlSpace}
+use Rattle.infer_inside.proofs.Common.{None, inl, refl, ◌++◌, length, arith, IsXmlSpace}
 use Rattle.infer_inside.proofs.FrontLemmas.{byte_shared, front_grows}
 use Rattle.infer_inside.proofs.MarkupLemmas.{part_lasts, part_within, past_part, spaces_lead}
 use Rattle.infer_inside.proofs.markup.miscs_end.Goals as goal

@@ -1,6 +1,5 @@
 -- a tag that is led to from the beginning is led to from there, whatever bytes follow
-use Rattle.std.proofs.Common.{ℕ, ◌↔◌, ◌++◌, ◌-◌, ◌≤◌, List, Option, length, get_or}
-use Rattle.infer_inside.specs.Markup.{IsXmlSpace, LeadsToTag}
+use Rattle.infer_inside.proofs.Common.{ℕ, ◌↔◌, ◌++◌, ◌-◌, ◌≤◌, List, Option, length, get_or, IsXmlSpace, LeadsToTag}
 use Rattle.infer_inside.proofs.markup.miscs_end.Given as goal
 
 abbrev pub invariant-loop-place : goal.invariant-loop-place

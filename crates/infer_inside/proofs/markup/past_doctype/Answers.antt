@@ -1,5 +1,4 @@
-use Rattle.std.proofs.Common.{◌+◌, ◌++◌, None, Some, inr, refl}
-use Rattle.infer_inside.specs.Markup.{IsPart}
+use Rattle.infer_inside.proofs.Common.{◌+◌, ◌++◌, None, Some, inr, refl, IsPart}
 use Rattle.infer_inside.proofs.FrontLemmas.{front_grows}
 use Rattle.infer_inside.proofs.MarkupLemmas.{closed_part, no_part, part_lasts, past_part}
 use Rattle.infer_inside.proofs.markup.past_doctype.Goals as goal

@@ -1,6 +1,5 @@
-use Rattle.std.proofs.Common.{ℕ, List, Option, None, [], ◌↔◌, ◌++◌, subst}
+use Rattle.infer_inside.proofs.Common.{ℕ, List, Option, None, [], ◌↔◌, ◌++◌, subst, IsPart, LeadsToTag, OpensTag}
 use Rattle.std.proofs.lemmas.List.{append-nil}
-use Rattle.infer_inside.specs.Markup.{IsPart, LeadsToTag, OpensTag}
 use Rattle.infer_inside.proofs.MarkupLemmas.{opened_undeclared, past_none}
 use Rattle.infer_inside.proofs.markup.prolog_end.Goals as goal
 

@@ -1,7 +1,6 @@
 -- the bytes so far are those of a name, and what follows their last ":" begins there
-use Rattle.std.proofs.Common.{ℕ, ◌<◌, ◌≤◌, get_or}
+use Rattle.infer_inside.proofs.Common.{ℕ, ◌<◌, ◌≤◌, get_or, IsAfterLast}
 use Rattle.infer_inside.specs.Markup.{IsNameByte}
-use Rattle.infer_inside.specs.Runs.{IsAfterLast}
 use Rattle.infer_inside.proofs.markup.read_name.Given as goal
 
 abbrev pub invariant-loop-to : goal.invariant-loop-to

@@ -1,7 +1,4 @@
-use Rattle.std.proofs.Common.{ℕ, List, None, MatchOption, drop, ap, subst, sym, ◌∙◌}
-use Rattle.std.specs.Prelude.{slice_range}
-use Rattle.std.proofs.lemmas.List.{take_rest}
-use Rattle.infer_inside.specs.Markup.{IsRootElement, LeadsToTag}
+use Rattle.infer_inside.proofs.Common.{ℕ, List, None, MatchOption, drop, ap, subst, sym, ◌∙◌, slice_range, take_rest, IsRootElement, LeadsToTag}
 use Rattle.infer_inside.proofs.MarkupLemmas.{one_begin, one_tag}
 use Rattle.infer_inside.proofs.markup.root_of.Goals as goal
 

@@ -1,6 +1,5 @@
 -- the bytes so far are white space
-use Rattle.std.proofs.Common.{ℕ, ◌<◌, ◌≤◌, get_or}
-use Rattle.infer_inside.specs.Markup.{IsXmlSpace}
+use Rattle.infer_inside.proofs.Common.{ℕ, ◌<◌, ◌≤◌, get_or, IsXmlSpace}
 use Rattle.infer_inside.proofs.markup.spaces_end.Given as goal
 
 abbrev pub invariant-loop-end : goal.invariant-loop-end

@@ -1,5 +1,4 @@
-use Rattle.std.proofs.Common.{subst}
-use Rattle.infer_inside.specs.Runs.{IsAfterLast}
+use Rattle.infer_inside.proofs.Common.{subst, IsAfterLast}
 use Rattle.infer_inside.proofs.MarkupLemmas.{undeclared, unnamed}
 use Rattle.infer_inside.proofs.markup.tag_at.Goals as goal
 

@@ -1,6 +1,5 @@
 -- the bytes so far are those of the name
-use Rattle.std.proofs.Common.{ℕ, ◌<◌, ◌≤◌, get_or}
-use Rattle.infer_inside.specs.Markup.{IsTypeByte}
+use Rattle.infer_inside.proofs.Common.{ℕ, ◌<◌, ◌≤◌, get_or, IsTypeByte}
 use Rattle.infer_inside.proofs.markup.type_end.Given as goal
 
 abbrev pub invariant-loop-end : goal.invariant-loop-end

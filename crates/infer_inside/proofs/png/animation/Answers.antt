@@ -1,4 +1,4 @@
-use Rattle.std.proofs.Common.{refl, arith}
+use Rattle.infer_inside.proofs.Common.{refl, arith}
 use Rattle.infer_inside.specs.Png.{here}
 use Rattle.infer_inside.proofs.PngLemmas.{never_after_data, next_decides, open_at, unreached_data}
 use Rattle.infer_inside.proofs.png.animation.Goals as goal

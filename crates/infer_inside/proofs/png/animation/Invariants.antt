@@ -1,7 +1,5 @@
 -- the chunks so far leave it open
-use Rattle.std.proofs.Common.{◌↔◌, ◌-◌, length}
-use Rattle.infer_deep.specs.Signatures.{MayBecome}
-use Rattle.infer_inside.specs.Png.{IsAnimated, IsAnimatedFrom}
+use Rattle.infer_inside.proofs.Common.{◌↔◌, ◌-◌, length, MayBecome, IsAnimated, IsAnimatedFrom}
 use Rattle.infer_inside.proofs.png.animation.Given as goal
 
 abbrev pub invariant-loop-chunk : goal.invariant-loop-chunk

@@ -1,5 +1,5 @@
 -- the byte does not stand from there on
-use Rattle.std.proofs.Common.{◌≡◌, ℕ, ◌<◌, ◌≤◌, get_or}
+use Rattle.infer_inside.proofs.Common.{◌≡◌, ℕ, ◌<◌, ◌≤◌, get_or}
 use Rattle.infer_inside.proofs.runs.after_last.Given as goal
 
 abbrev pub invariant-loop-at : goal.invariant-loop-at

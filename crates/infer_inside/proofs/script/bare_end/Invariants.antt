@@ -1,6 +1,5 @@
 -- the bytes from there on are digits and dots
-use Rattle.std.proofs.Common.{ℕ, ◌<◌, ◌≤◌, get_or}
-use Rattle.infer_inside.specs.Script.{IsVersionByte}
+use Rattle.infer_inside.proofs.Common.{ℕ, ◌<◌, ◌≤◌, get_or, IsVersionByte}
 use Rattle.infer_inside.proofs.script.bare_end.Given as goal
 
 abbrev pub invariant-loop-end : goal.invariant-loop-end

@@ -1,5 +1,5 @@
 -- the bytes so far are spaces and tabs
-use Rattle.std.proofs.Common.{ℕ, ◌<◌, ◌≤◌, get_or}
+use Rattle.infer_inside.proofs.Common.{ℕ, ◌<◌, ◌≤◌, get_or}
 use Rattle.infer_inside.specs.Script.{IsBlank}
 use Rattle.infer_inside.proofs.script.blanks_end.Given as goal
 

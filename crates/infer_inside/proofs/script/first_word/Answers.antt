@@ -1,4 +1,4 @@
-use Rattle.std.proofs.Common.{inl, refl, arith}
+use Rattle.infer_inside.proofs.Common.{inl, refl, arith}
 use Rattle.infer_inside.proofs.ScriptLemmas.{next_read}
 use Rattle.infer_inside.proofs.script.first_word.Goals as goal
 

@@ -1,4 +1,4 @@
-use Rattle.std.proofs.Common.{codes, refl}
+use Rattle.infer_inside.proofs.Common.{codes, refl}
 use Rattle.infer_inside.proofs.ScriptLemmas.{path_is_folder}
 use Rattle.infer_inside.proofs.script.folder_end.Goals as goal
 

@@ -1,6 +1,5 @@
 -- the line has not ended so far
-use Rattle.std.proofs.Common.{ℕ, ◌<◌, ◌≤◌, get_or}
-use Rattle.infer_inside.specs.Script.{IsLineEnd}
+use Rattle.infer_inside.proofs.Common.{ℕ, ◌<◌, ◌≤◌, get_or, IsLineEnd}
 use Rattle.infer_inside.proofs.script.has_line_end.Given as goal
 
 abbrev pub invariant-loop-at : goal.invariant-loop-at

@@ -1,6 +1,5 @@
-use Rattle.std.proofs.Common.{inl, ap}
+use Rattle.infer_inside.proofs.Common.{inl, ap, false_from_ne_true}
 use Rattle.std.proofs.Math.Bool.{not}
-use Rattle.std.proofs.lemmas.Bool.{false_from_ne_true}
 use Rattle.infer_inside.proofs.OpenScriptLemmas.{bare_named, equals_set, line_ended}
 use Rattle.infer_inside.proofs.script.may_name.Goals as goal
 

@@ -1,4 +1,4 @@
-use Rattle.std.proofs.Common.{arith}
+use Rattle.infer_inside.proofs.Common.{arith}
 use Rattle.infer_inside.proofs.ScriptLemmas.{settings_more}
 use Rattle.infer_inside.proofs.script.next_program.Goals as goal
 

@@ -1,6 +1,5 @@
 -- `env` takes the words so far for itself
-use Rattle.std.proofs.Common.{ℕ, ◌-◌, ◌<◌, ◌≤◌, length, get_or}
-use Rattle.infer_inside.specs.Script.{IsLineEnd, IsSetting, IsWord, IsWordByte}
+use Rattle.infer_inside.proofs.Common.{ℕ, ◌-◌, ◌<◌, ◌≤◌, length, get_or, IsLineEnd, IsSetting, IsWord, IsWordByte}
 use Rattle.infer_inside.proofs.script.next_program.Given as goal
 
 abbrev pub invariant-loop-word : goal.invariant-loop-word

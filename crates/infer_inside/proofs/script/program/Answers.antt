@@ -1,5 +1,4 @@
-use Rattle.std.proofs.Common.{ℕ, List, sym, subst, MatchOption}
-use Rattle.infer_inside.specs.Script.{IsProgram}
+use Rattle.infer_inside.proofs.Common.{ℕ, List, sym, subst, MatchOption, IsProgram}
 use Rattle.infer_inside.proofs.ScriptLemmas.{one_program}
 use Rattle.infer_inside.proofs.script.program.Goals as goal
 

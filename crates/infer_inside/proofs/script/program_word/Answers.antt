@@ -1,5 +1,4 @@
-use Rattle.std.proofs.Common.{ℕ, sym, subst, MatchOption, arith}
-use Rattle.infer_inside.specs.Script.{NamesProgram}
+use Rattle.infer_inside.proofs.Common.{ℕ, sym, subst, MatchOption, arith, NamesProgram}
 use Rattle.infer_inside.proofs.ScriptLemmas.{env_byte, env_first, env_named, named_behind_env, no_first_word}
 use Rattle.infer_inside.proofs.script.program_word.Goals as goal
 

@@ -1,6 +1,6 @@
 -- the bytes so far are those of a word, its name begins behind the last "/", and "=" is told
-use Rattle.std.proofs.Common.{◌≡◌, ◌↔◌, ℕ, ◌-◌, ◌<◌, ◌≤◌, IsTrue, get_or}
-use Rattle.infer_inside.specs.Script.{HasEquals, IsWordByte}
+use Rattle.infer_inside.proofs.Common.{◌≡◌, ◌↔◌, ℕ, ◌-◌, ◌<◌, ◌≤◌, IsTrue, get_or, IsWordByte}
+use Rattle.infer_inside.specs.Script.{HasEquals}
 use Rattle.infer_inside.proofs.script.read_word.Given as goal
 
 abbrev pub invariant-loop-to : goal.invariant-loop-to

@@ -1,5 +1,5 @@
-use Rattle.std.proofs.Common.{arith}
-use Rattle.infer_deep.proofs.SearchLemmas.{IsFirstWithin-skip, first_at_pair, none_past_pair, none_without_pair}
+use Rattle.infer_inside.proofs.Common.{arith, IsFirstWithin-skip}
+use Rattle.infer_deep.proofs.SearchLemmas.{first_at_pair, none_past_pair, none_without_pair}
 use Rattle.infer_inside.proofs.search.find_by.Goals as goal
 
 pub returns-in_err-at : goal.returns-in_err-at

@@ -1,7 +1,5 @@
 -- the text stands nowhere before
-use Rattle.std.proofs.Common.{ℕ, ◌<◌, ◌≤◌, length}
-use Rattle.memchr.specs.Find.{OccursAt}
-use Rattle.infer_deep.specs.Places.{IsWithin}
+use Rattle.infer_inside.proofs.Common.{ℕ, ◌<◌, ◌≤◌, length, OccursAt, IsWithin}
 use Rattle.infer_inside.proofs.search.find_by.Given as goal
 
 abbrev pub invariant-loop-turn : goal.invariant-loop-turn

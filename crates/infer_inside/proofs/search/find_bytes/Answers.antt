@@ -1,6 +1,4 @@
-use Rattle.std.proofs.Common.{length, arith, subst, sym}
-use Rattle.memchr.specs.Find.{OccursAt}
-use Rattle.infer_deep.specs.Places.{IsFirstWithin}
+use Rattle.infer_inside.proofs.Common.{length, arith, subst, sym, OccursAt, IsFirstWithin}
 use Rattle.infer_deep.proofs.SearchLemmas.{first_in_rest, none_in_rest}
 use Rattle.infer_inside.proofs.search.find_bytes.Goals as goal
 

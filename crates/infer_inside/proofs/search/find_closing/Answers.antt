@@ -1,8 +1,4 @@
-use Rattle.std.proofs.Common.{◌≡◌, inl, inr, ℕ, ◌+◌, ◌-◌, ◌<◌, ◌≤◌, List, length, get_or, arith, subst, sym}
-use Rattle.std.proofs.lemmas.Bool.{cases_lt}
-use Rattle.memchr.specs.Find.{OccursAt}
-use Rattle.infer_deep.specs.Places.{IsFirstWithin, IsWithin}
-use Rattle.infer_deep.proofs.SearchLemmas.{IsFirstWithin-skip}
+use Rattle.infer_inside.proofs.Common.{◌≡◌, inl, inr, ℕ, ◌+◌, ◌-◌, ◌<◌, ◌≤◌, List, length, get_or, arith, subst, sym, cases_lt, OccursAt, IsFirstWithin, IsWithin, IsFirstWithin-skip}
 use Rattle.infer_inside.proofs.search.find_closing.Goals as goal
 
 -- where the last byte of the text is not, the text does not stand

@@ -1,5 +1,4 @@
-use Rattle.std.proofs.Common.{◌≡◌, ℕ, ◌-◌, ◌<◌, ◌≤◌, length, get_or, arith, subst, sym, MatchOption}
-use Rattle.infer_inside.specs.Runs.{IsNext}
+use Rattle.infer_inside.proofs.Common.{◌≡◌, ℕ, ◌-◌, ◌<◌, ◌≤◌, length, get_or, arith, subst, sym, MatchOption, IsNext}
 use Rattle.infer_inside.proofs.PartLemmas.{part_has, part_lacks, part_length}
 use Rattle.infer_inside.proofs.search.find_far.Goals as goal
 

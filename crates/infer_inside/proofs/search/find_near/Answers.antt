@@ -1,6 +1,5 @@
-use Rattle.std.proofs.Common.{◌≡◌, inl, inr, ◌+◌, ◌-◌, get_or, ap, subst, sym, ◌∙◌, arith, w64}
-use Rattle.std.specs.Int.{bit_at}
-use Rattle.std.proofs.lemmas.Bool.{cases_lt}
+use Rattle.infer_inside.proofs.Common.{◌≡◌, inl, inr, ◌+◌, ◌-◌, get_or, ap, subst, sym, ◌∙◌, arith, bit_at, cases_lt}
+use Rattle.std.proofs.Common.{w64}
 use Rattle.std.proofs.lemmas.Nat.Bits.{bit_at-trailing_zeros, bit_at-zero}
 use Rattle.infer_inside.proofs.search.find_near.Goals as goal
 

@@ -1,5 +1,5 @@
 -- no such byte is in the windows so far
-use Rattle.std.proofs.Common.{◌≡◌, ℕ, ◌<◌, ◌≤◌, length, get_or}
+use Rattle.infer_inside.proofs.Common.{◌≡◌, ℕ, ◌<◌, ◌≤◌, length, get_or}
 use Rattle.infer_inside.proofs.search.find_near.Given as goal
 
 abbrev pub invariant-loop-window : goal.invariant-loop-window

@@ -1,7 +1,4 @@
-use Rattle.std.proofs.Common.{◌≡◌, inl, inr, ◌+◌, add-zero, length, get_or, sym, subst, arith, ◌∙◌}
-use Rattle.std.proofs.lemmas.Bool.{cases_lt}
-use Rattle.memchr.specs.Find.{OccursAt}
-use Rattle.infer_deep.proofs.SearchLemmas.{IsFirstWithin-skip}
+use Rattle.infer_inside.proofs.Common.{◌≡◌, inl, inr, ◌+◌, add-zero, length, get_or, sym, subst, arith, ◌∙◌, cases_lt, OccursAt, IsFirstWithin-skip}
 use Rattle.infer_inside.proofs.search.find_opening.Goals as goal
 
 pub returns : goal.returns

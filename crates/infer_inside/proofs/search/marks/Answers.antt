@@ -1,5 +1,5 @@
-use Rattle.std.proofs.Common.{◌≡◌, ◌↔◌, ◌+◌, ◌<◌, eqb, get_or, take, drop, map, sym, subst, ◌∙◌, arith, w8}
-use Rattle.std.specs.Int.{bit_at}
+use Rattle.infer_inside.proofs.Common.{◌≡◌, ◌↔◌, ◌+◌, ◌<◌, eqb, get_or, take, drop, map, sym, subst, ◌∙◌, arith, bit_at}
+use Rattle.std.proofs.Common.{w8}
 use Rattle.std.proofs.lemmas.Simd.{bit_mask_l, bitmask_splat, get_or-chunk, length-chunk}
 use Rattle.infer_inside.proofs.NearLemmas.{bit_marked}
 use Rattle.infer_inside.proofs.search.marks.Goals as goal

@@ -1,5 +1,5 @@
 -- the bytes so far are digits
-use Rattle.infer_inside.specs.Subtitles.{AreDigits}
+use Rattle.infer_inside.proofs.Common.{AreDigits}
 use Rattle.infer_inside.proofs.subtitles.digit_count.Given as goal
 
 abbrev pub invariant-loop-n : goal.invariant-loop-n

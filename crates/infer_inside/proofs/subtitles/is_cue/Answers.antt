@@ -1,5 +1,4 @@
-use Rattle.std.proofs.Common.{◌+◌, subst, arith}
-use Rattle.infer_inside.specs.Subtitles.{EndsLine}
+use Rattle.infer_inside.proofs.Common.{◌+◌, subst, arith, EndsLine}
 use Rattle.infer_inside.proofs.SubtitlesLemmas.{cue_by_count, line_after}
 use Rattle.infer_inside.proofs.subtitles.is_cue.Goals as goal
 

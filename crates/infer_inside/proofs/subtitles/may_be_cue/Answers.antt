@@ -1,6 +1,4 @@
-use Rattle.std.proofs.Common.{inl, inr, refl, subst, arith, eq-eqb}
-use Rattle.std.proofs.lemmas.Bool.{eqb-true}
-use Rattle.infer_inside.specs.Subtitles.{MayBeSpan}
+use Rattle.infer_inside.proofs.Common.{inl, inr, refl, subst, arith, eq-eqb, eqb-true, MayBeSpan}
 use Rattle.infer_inside.proofs.OpenSubtitlesLemmas.{cue_goes_on, cut_line, ends_in_number, line_same}
 use Rattle.infer_inside.proofs.SubtitlesLemmas.{line_after}
 use Rattle.infer_inside.proofs.subtitles.may_be_cue.Goals as goal

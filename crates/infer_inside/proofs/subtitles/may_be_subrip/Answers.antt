@@ -1,4 +1,4 @@
-use Rattle.std.proofs.Common.{inl, inr}
+use Rattle.infer_inside.proofs.Common.{inl, inr}
 use Rattle.infer_inside.proofs.subtitles.may_be_subrip.Goals as goal
 
 pub returns-then-may_stand_at : goal.returns-then-may_stand_at

@@ -1,6 +1,5 @@
 -- the bytes so far are digits
-use Rattle.std.proofs.Common.{ℕ, ◌+◌, ◌<◌, get_or}
-use Rattle.infer_inside.specs.Tar.{IsOctal}
+use Rattle.infer_inside.proofs.Common.{ℕ, ◌+◌, ◌<◌, get_or, IsOctal}
 use Rattle.infer_inside.proofs.tar.digit_count.Given as goal
 
 abbrev pub invariant-loop-n : goal.invariant-loop-n

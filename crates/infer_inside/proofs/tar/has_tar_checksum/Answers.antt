@@ -1,5 +1,4 @@
-use Rattle.std.proofs.Common.{◌≤◌, get_or, sym, ◌∙◌, arith, eq-eqb}
-use Rattle.std.proofs.lemmas.Bool.{eqb-true}
+use Rattle.infer_inside.proofs.Common.{◌≤◌, get_or, sym, ◌∙◌, arith, eq-eqb, eqb-true}
 use Rattle.infer_inside.proofs.TarLemmas.{located}
 use Rattle.infer_inside.proofs.tar.has_tar_checksum.Goals as goal
 

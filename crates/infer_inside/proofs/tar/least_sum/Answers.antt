@@ -1,4 +1,4 @@
-use Rattle.std.proofs.Common.{arith}
+use Rattle.infer_inside.proofs.Common.{arith}
 use Rattle.infer_inside.proofs.OpenTarLemmas.{sum_past_field, sum_to_field}
 use Rattle.infer_inside.proofs.tar.least_sum.Goals as goal
 

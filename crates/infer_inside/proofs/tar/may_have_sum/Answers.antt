@@ -1,6 +1,4 @@
-use Rattle.std.proofs.Common.{◌≡◌, ◌<◌, ◌≤◌, ◌+◌, ◌-◌, ◌*◌, ℕ, List, IsTrue, ◌↔◌, ◌⊎◌, Bool, max, min, length, get_or, inl, inr, subst, sym, ap, ◌∙◌, arith}
-use Rattle.infer_deep.specs.Signatures.{MayBecome}
-use Rattle.infer_inside.specs.Tar.{HasTarChecksum, IsField, IsOctal, MayWrite, header_sum, octal}
+use Rattle.infer_inside.proofs.Common.{◌≡◌, ◌<◌, ◌≤◌, ◌+◌, ◌-◌, ◌*◌, ℕ, List, IsTrue, ◌↔◌, ◌⊎◌, Bool, max, min, length, get_or, inl, inr, subst, sym, ap, ◌∙◌, arith, MayBecome, HasTarChecksum, IsField, IsOctal, MayWrite, header_sum, octal}
 use Rattle.infer_inside.proofs.OpenTarLemmas.{Reads, open_known, whole_known}
 use Rattle.infer_inside.proofs.tar.may_have_sum.Goals as goal
 

@@ -1,4 +1,4 @@
-use Rattle.std.proofs.Common.{arith}
+use Rattle.infer_inside.proofs.Common.{arith}
 use Rattle.infer_inside.proofs.OpenTarLemmas.{whole_before, zero_never}
 use Rattle.infer_inside.proofs.tar.may_have_tar_checksum.Goals as goal
 

@@ -1,7 +1,6 @@
-use Rattle.std.proofs.Common.{◌≡◌, ◌≤◌, suc, ap, arith}
+use Rattle.infer_inside.proofs.Common.{◌≡◌, ◌≤◌, suc, ap, arith, scaled}
 use Rattle.std.proofs.lemmas.Bool.{le-leb}
 use Rattle.infer_inside.proofs.OpenTarLemmas.{first_writes, none_writes}
-use Rattle.infer_inside.specs.Tar.{scaled}
 use Rattle.infer_inside.proofs.tar.may_write.Goals as goal
 
 pub returns-then-least-next : goal.returns-then-least-next

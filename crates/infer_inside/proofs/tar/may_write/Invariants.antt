@@ -1,6 +1,5 @@
 -- with fewer digits the number is too small
-use Rattle.std.proofs.Common.{◌≡◌, ℕ, suc, ◌<◌, ◌≤◌}
-use Rattle.infer_inside.specs.Tar.{scaled}
+use Rattle.infer_inside.proofs.Common.{◌≡◌, ℕ, suc, ◌<◌, ◌≤◌, scaled}
 use Rattle.infer_inside.proofs.tar.may_write.Given as goal
 
 abbrev pub invariant-loop-digits : goal.invariant-loop-digits

@@ -1,6 +1,5 @@
 -- the number of the digits so far, which is below a power of eight
-use Rattle.std.proofs.Common.{◌≡◌, ◌<◌, ◌^◌}
-use Rattle.infer_inside.specs.Tar.{octal}
+use Rattle.infer_inside.proofs.Common.{◌≡◌, ◌<◌, ◌^◌, octal}
 use Rattle.infer_inside.proofs.tar.octal.Given as goal
 
 abbrev pub invariant-loop-n : goal.invariant-loop-n

@@ -1,5 +1,5 @@
 -- the bytes so far are spaces
-use Rattle.std.proofs.Common.{◌≡◌, ℕ, ◌<◌, ◌≤◌, get_or}
+use Rattle.infer_inside.proofs.Common.{◌≡◌, ℕ, ◌<◌, ◌≤◌, get_or}
 use Rattle.infer_inside.proofs.tar.spaces_end.Given as goal
 
 abbrev pub invariant-loop-place : goal.invariant-loop-place

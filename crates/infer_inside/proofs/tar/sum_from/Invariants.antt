@@ -1,6 +1,5 @@
 -- the sum of the bytes so far
-use Rattle.std.proofs.Common.{◌≡◌, ◌*◌, ◌≤◌}
-use Rattle.infer_inside.specs.Tar.{sum_from}
+use Rattle.infer_inside.proofs.Common.{◌≡◌, ◌*◌, ◌≤◌, sum_from}
 use Rattle.infer_inside.proofs.tar.sum_from.Given as goal
 
 abbrev pub invariant-loop-n : goal.invariant-loop-n

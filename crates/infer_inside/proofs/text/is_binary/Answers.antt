@@ -1,4 +1,4 @@
-use Rattle.std.proofs.Common.{drop, length, take, ◌-◌}
+use Rattle.infer_inside.proofs.Common.{drop, length, take, ◌-◌}
 use Rattle.infer_inside.proofs.TextLemmas.{binary_rest}
 use Rattle.infer_inside.proofs.text.is_binary.Goals as goal
 

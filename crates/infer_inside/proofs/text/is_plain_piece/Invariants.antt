@@ -1,8 +1,6 @@
 -- whether the bytes so far are none of binary data
 use Rattle.std.proofs.Common.{not}
-use Rattle.std.specs.Bool.{OnTrue}
-use Rattle.infer_deep.specs.Blocks.{AllBelow}
-use Rattle.infer_inside.specs.Text.{IsDataByte, IsPlainByte, SomeBelow}
+use Rattle.infer_inside.proofs.Common.{OnTrue, AllBelow, IsDataByte, IsPlainByte, SomeBelow}
 use Rattle.infer_inside.proofs.text.is_plain_piece.Given as goal
 
 abbrev pub invariant-loop-i : goal.invariant-loop-i

@@ -1,6 +1,5 @@
 -- what is least is not above any byte so far, nor above any that many past 0B
-use Rattle.std.proofs.Common.{◌+◌, ◌%◌, ◌≤◌}
-use Rattle.infer_deep.specs.Blocks.{AllBelow}
+use Rattle.infer_inside.proofs.Common.{◌+◌, ◌%◌, ◌≤◌, AllBelow}
 use Rattle.infer_inside.proofs.text.is_printed_block.Given as goal
 
 abbrev pub invariant-loop-i : goal.invariant-loop-i

@@ -1,5 +1,4 @@
-use Rattle.std.proofs.Common.{arith}
-use Rattle.std.proofs.lemmas.Bool.{OnTrue_at}
+use Rattle.infer_inside.proofs.Common.{arith, OnTrue_at}
 use Rattle.infer_inside.proofs.TextLemmas.{plain_more}
 use Rattle.infer_inside.proofs.text.plain_front.Goals as goal
 

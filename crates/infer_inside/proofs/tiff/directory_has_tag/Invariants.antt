@@ -1,6 +1,5 @@
 -- none of the entries so far has the tag
-use Rattle.std.proofs.Common.{ℕ, ◌<◌}
-use Rattle.infer_inside.specs.Tiff.{IsTagEntry}
+use Rattle.infer_inside.proofs.Common.{ℕ, ◌<◌, IsTagEntry}
 use Rattle.infer_inside.proofs.tiff.directory_has_tag.Given as goal
 
 abbrev pub invariant-loop-i : goal.invariant-loop-i

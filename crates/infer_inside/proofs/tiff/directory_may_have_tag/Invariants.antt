@@ -1,6 +1,5 @@
 -- none of the entries so far may have the tag
-use Rattle.std.proofs.Common.{ℕ, ◌+◌, ◌*◌, ◌<◌}
-use Rattle.infer_deep.specs.Open.{AgreesAt}
+use Rattle.infer_inside.proofs.Common.{ℕ, ◌+◌, ◌*◌, ◌<◌, AgreesAt}
 use Rattle.infer_inside.proofs.tiff.directory_may_have_tag.Given as goal
 
 abbrev pub invariant-loop-i : goal.invariant-loop-i

@@ -1,5 +1,4 @@
-use Rattle.std.proofs.Common.{arith}
-use Rattle.infer_deep.proofs.OpenLemmas.{test_from_reads}
+use Rattle.infer_inside.proofs.Common.{arith, test_from_reads}
 use Rattle.infer_inside.proofs.OpenTiffLemmas.{tag_known}
 use Rattle.infer_inside.proofs.tiff.first_directory_may_have_tag.Goals as goal
 

@@ -1,5 +1,4 @@
-use Rattle.std.proofs.Common.{arith}
-use Rattle.infer_inside.specs.Zip.{IsFolderEntry}
+use Rattle.infer_inside.proofs.Common.{arith, IsFolderEntry}
 use Rattle.infer_inside.proofs.ZipLemmas.{none_to, none_past, none_left}
 use Rattle.infer_inside.proofs.zip.first_folder.Goals as goal
 

@@ -1,6 +1,5 @@
 -- there is no such entry before
-use Rattle.std.proofs.Common.{ℕ, ◌-◌, ◌<◌, ◌≤◌, length}
-use Rattle.infer_inside.specs.Zip.{IsFolderEntry}
+use Rattle.infer_inside.proofs.Common.{ℕ, ◌-◌, ◌<◌, ◌≤◌, length, IsFolderEntry}
 use Rattle.infer_inside.proofs.zip.first_folder.Given as goal
 
 abbrev pub invariant-loop-step : goal.invariant-loop-step

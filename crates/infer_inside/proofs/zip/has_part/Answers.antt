@@ -1,5 +1,4 @@
-use Rattle.std.proofs.Common.{arith}
-use Rattle.infer_inside.specs.Zip.{IsPartEntry}
+use Rattle.infer_inside.proofs.Common.{arith, IsPartEntry}
 use Rattle.infer_inside.proofs.ZipLemmas.{none_past, none_left}
 use Rattle.infer_inside.proofs.zip.has_part.Goals as goal
 

@@ -1,6 +1,5 @@
 -- there is no such entry before
-use Rattle.std.proofs.Common.{ℕ, ◌-◌, ◌<◌, ◌≤◌, length}
-use Rattle.infer_inside.specs.Zip.{IsPartEntry}
+use Rattle.infer_inside.proofs.Common.{ℕ, ◌-◌, ◌<◌, ◌≤◌, length, IsPartEntry}
 use Rattle.infer_inside.proofs.zip.has_part.Given as goal
 
 abbrev pub invariant-loop-step : goal.invariant-loop-step

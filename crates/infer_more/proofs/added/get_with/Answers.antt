@@ -1,4 +1,4 @@
-use Rattle.std.proofs.Common.{refl}
+use Rattle.infer_more.proofs.Common.{refl}
 use Rattle.infer_more.proofs.AddedLemmas.{none_own, own_answer, some_own, wider_answer}
 use Rattle.infer_more.proofs.added.get_with.Goals as goal
 

@@ -1,6 +1,4 @@
-use Rattle.std.proofs.Common.{Some, option_map, ap, sym, ◌∙◌}
-use Rattle.infer_more.specs.Ended.{ended_shown}
-use Rattle.infer_more.specs.Row.{Further}
+use Rattle.infer_more.proofs.Common.{Some, option_map, ap, sym, ◌∙◌, ended_shown, Further}
 use Rattle.infer_more.proofs.ShownLemmas.{shown_further}
 use Rattle.infer_more.proofs.answers.ended_texts.Goals as goal
 

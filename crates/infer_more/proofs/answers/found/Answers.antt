@@ -1,6 +1,4 @@
-use Rattle.std.proofs.Common.{◌≡◌, None, Some, true, arith, refl, subst, sym}
-use Rattle.infer_more.specs.Index.{is_true_below}
-use Rattle.infer_more.specs.declared.index.Below.{Below}
+use Rattle.infer_more.proofs.Common.{◌≡◌, None, Some, true, arith, refl, subst, sym, is_true_below, Below}
 use Rattle.infer_more.proofs.FoundLemmas.{least_below, true_below}
 use Rattle.infer_more.proofs.LeastLemmas.{first_found, none_found}
 use Rattle.infer_more.proofs.OutlineLemmas.{buffer_of}

@@ -1,5 +1,4 @@
-use Rattle.std.proofs.Common.{Some, option_map, ap, ◌∙◌}
-use Rattle.infer_more.specs.Row.{Further}
+use Rattle.infer_more.proofs.Common.{Some, option_map, ap, ◌∙◌, Further}
 use Rattle.infer_more.proofs.answers.further_type.Goals as goal
 
 pub returns-in-Some : goal.returns-in-Some

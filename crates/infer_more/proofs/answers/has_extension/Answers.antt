@@ -1,7 +1,4 @@
-use Rattle.std.proofs.Common.{◌≡◌, ◌≤◌, below_more, length, arith}
-use Rattle.std.proofs.lemmas.Bool.{false≢true}
-use Rattle.infer_more.specs.Row.{Further}
-use Rattle.infer_more.specs.Table.{further}
+use Rattle.infer_more.proofs.Common.{◌≡◌, ◌≤◌, below_more, length, arith, false≢true, Further, further}
 use Rattle.infer_more.proofs.RowLemmas.{none_of_all}
 use Rattle.infer_more.proofs.TableLemmas.{length-further}
 use Rattle.infer_more.proofs.answers.has_extension.Goals as goal

@@ -1,7 +1,5 @@
 -- none of the rows so far
-use Rattle.std.proofs.Common.{◌≡◌, ◌<◌, ℕ, length}
-use Rattle.std.specs.List.{HoldsAt}
-use Rattle.infer_more.specs.Table.{further}
+use Rattle.infer_more.proofs.Common.{◌≡◌, ◌<◌, ℕ, length, HoldsAt, further}
 use Rattle.infer_more.proofs.answers.has_mime_type.Given as goal
 
 abbrev pub invariant-loop-i : goal.invariant-loop-i

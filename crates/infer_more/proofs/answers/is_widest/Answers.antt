@@ -1,8 +1,4 @@
-use Rattle.std.proofs.Common.{Option, ap, refl, ◌∙◌}
-use Rattle.std.specs.Option.{option_map_or}
-use Rattle.std.proofs.lemmas.Option.{slice_get_past, slice_get_read}
-use Rattle.infer_more.specs.declared.index.Below.{Below}
-use Rattle.infer_more.specs.declared.index.Below.TheVariants.{Nothing}
+use Rattle.infer_more.proofs.Common.{Option, ap, refl, ◌∙◌, option_map_or, slice_get_past, slice_get_read, Below, Nothing}
 use Rattle.infer_more.proofs.FoundLemmas.{none_below}
 use Rattle.infer_more.proofs.answers.is_widest.Goals as goal
 

@@ -1,5 +1,4 @@
-use Rattle.std.proofs.Common.{◌<◌, ◌≤◌, length, arith}
-use Rattle.infer_more.specs.Index.{candidate}
+use Rattle.infer_more.proofs.Common.{◌<◌, ◌≤◌, length, arith, candidate}
 use Rattle.infer_more.proofs.LeastLemmas.{tried_all, tried_none, tried_one_more}
 use Rattle.infer_more.proofs.answers.least_among.Goals as goal
 

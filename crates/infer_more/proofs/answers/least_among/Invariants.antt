@@ -1,6 +1,5 @@
 -- the least of the rows so far
-use Rattle.std.proofs.Common.{take}
-use Rattle.infer_more.specs.Index.{IsLeast, IsTried, candidates}
+use Rattle.infer_more.proofs.Common.{take, IsLeast, IsTried, candidates}
 use Rattle.infer_more.proofs.answers.least_among.Given as goal
 
 abbrev pub invariant-loop-entry : goal.invariant-loop-entry

@@ -1,4 +1,4 @@
-use Rattle.std.proofs.Common.{None, sym, ◌∙◌}
+use Rattle.infer_more.proofs.Common.{None, sym, ◌∙◌}
 use Rattle.infer_more.proofs.LeastLemmas.{tried_behind, tried_shut}
 use Rattle.infer_more.proofs.answers.least_behind.Goals as goal
 

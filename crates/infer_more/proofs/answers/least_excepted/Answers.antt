@@ -1,5 +1,4 @@
-use Rattle.std.proofs.Common.{◌<◌, ◌≤◌, length, arith}
-use Rattle.infer_more.specs.Index.{unless}
+use Rattle.infer_more.proofs.Common.{◌<◌, ◌≤◌, length, arith, unless}
 use Rattle.infer_more.proofs.LeastLemmas.{tried_all, tried_none, tried_one_more}
 use Rattle.infer_more.proofs.answers.least_excepted.Goals as goal
 

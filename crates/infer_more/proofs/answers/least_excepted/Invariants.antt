@@ -1,6 +1,5 @@
 -- the least of the rows so far
-use Rattle.std.proofs.Common.{take}
-use Rattle.infer_more.specs.Index.{IsLeast, IsTried, excepted}
+use Rattle.infer_more.proofs.Common.{take, IsLeast, IsTried, excepted}
 use Rattle.infer_more.proofs.answers.least_excepted.Given as goal
 
 abbrev pub invariant-loop-except : goal.invariant-loop-except

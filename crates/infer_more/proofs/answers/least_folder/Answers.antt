@@ -1,6 +1,4 @@
-use Rattle.infer_deep.specs.Find.{OccursAt}
-use Rattle.infer_inside.specs.Zip.{IsPackageWith}
-use Rattle.infer_more.specs.Index.{IsNamed, named_row}
+use Rattle.infer_more.proofs.Common.{OccursAt, IsPackageWith, IsNamed, named_row}
 use Rattle.infer_more.proofs.LeastLemmas.{least_none, least_same, no_rows, rows_same}
 use Rattle.infer_more.proofs.answers.least_folder.Goals as goal
 

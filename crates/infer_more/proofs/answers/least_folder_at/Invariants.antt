@@ -1,7 +1,5 @@
 -- none so far is the one
-use Rattle.std.proofs.Common.{ℕ, ◌<◌, get_or}
-use Rattle.infer_deep.specs.Find.{OccursAt}
-use Rattle.infer_more.specs.declared.index.Named.{Named}
+use Rattle.infer_more.proofs.Common.{ℕ, ◌<◌, get_or, OccursAt, Named}
 use Rattle.infer_more.proofs.answers.least_folder_at.Given as goal
 
 abbrev pub invariant-loop-named : goal.invariant-loop-named

@@ -1,7 +1,4 @@
-use Rattle.std.proofs.Common.{◌≡◌, Some, true, subst, sym}
-use Rattle.infer_more.specs.Index.{IsFoundBelow, IsLeast, is_true_below}
-use Rattle.infer_more.specs.declared.index.Below.{Below}
-use Rattle.infer_more.specs.declared.index.lists.TheConstants.{FURTHER_COUNT}
+use Rattle.infer_more.proofs.Common.{◌≡◌, Some, true, subst, sym, IsFoundBelow, IsLeast, is_true_below, Below, FURTHER_COUNT}
 use Rattle.infer_more.proofs.FoundLemmas.{all_applications}
 use Rattle.infer_more.proofs.IndexLemmas.{both_left}
 use Rattle.infer_more.proofs.LeastLemmas.{least_both, tried_more}

@@ -1,4 +1,4 @@
-use Rattle.std.proofs.Common.{arith}
+use Rattle.infer_more.proofs.Common.{arith}
 use Rattle.infer_more.proofs.FoundLemmas.{least_before_texts, least_with_texts}
 use Rattle.infer_more.proofs.IndexLemmas.{both_left}
 use Rattle.infer_more.proofs.OutlineLemmas.{buffer_of}

@@ -1,4 +1,4 @@
-use Rattle.std.proofs.Common.{◌<◌, ◌≤◌, None, length, arith}
+use Rattle.infer_more.proofs.Common.{◌<◌, ◌≤◌, None, length, arith}
 use Rattle.infer_more.specs.Index.{behind}
 use Rattle.infer_more.proofs.LeastLemmas.{tried_all, tried_none, tried_one_more}
 use Rattle.infer_more.proofs.answers.least_guarded.Goals as goal

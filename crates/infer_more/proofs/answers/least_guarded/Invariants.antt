@@ -1,6 +1,5 @@
 -- the least of the rows so far
-use Rattle.std.proofs.Common.{None, take}
-use Rattle.infer_more.specs.Index.{IsLeast, IsTried, guarded}
+use Rattle.infer_more.proofs.Common.{None, take, IsLeast, IsTried, guarded}
 use Rattle.infer_more.proofs.answers.least_guarded.Given as goal
 
 abbrev pub invariant-loop-guard : goal.invariant-loop-guard

@@ -1,8 +1,4 @@
-use Rattle.std.proofs.Common.{◌≡◌, ◌<◌, [], length, ap, arith, subst, sym, ◌∙◌}
-use Rattle.std.proofs.lemmas.Bool.{false≢true}
-use Rattle.std.specs.Prelude.{min}
-use Rattle.infer_more.specs.Index.{IsLeast, named_row}
-use Rattle.infer_more.specs.declared.index.Named.{Named}
+use Rattle.infer_more.proofs.Common.{◌≡◌, ◌<◌, [], length, ap, arith, subst, sym, ◌∙◌, false≢true, min, IsLeast, named_row, Named}
 use Rattle.infer_more.proofs.LeastLemmas.{none_more, rows_first, rows_past}
 use Rattle.infer_more.proofs.answers.least_named.Goals as goal
 

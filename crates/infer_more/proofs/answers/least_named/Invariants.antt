@@ -1,6 +1,5 @@
 -- none so far is the one
-use Rattle.std.proofs.Common.{◌≡◌, ℕ, ◌<◌, get_or}
-use Rattle.infer_more.specs.declared.index.Named.{Named}
+use Rattle.infer_more.proofs.Common.{◌≡◌, ℕ, ◌<◌, get_or, Named}
 use Rattle.infer_more.proofs.answers.least_named.Given as goal
 
 abbrev pub invariant-loop-named : goal.invariant-loop-named

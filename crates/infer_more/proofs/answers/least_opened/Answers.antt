@@ -1,5 +1,4 @@
-use Rattle.std.proofs.lemmas.Bool.{false≢true}
-use Rattle.infer_more.specs.Index.{IsRooted}
+use Rattle.infer_more.proofs.Common.{false≢true, IsRooted}
 use Rattle.infer_more.proofs.FoundLemmas.{root_may}
 use Rattle.infer_more.proofs.LeastLemmas.{least_none}
 use Rattle.infer_more.proofs.answers.least_opened.Goals as goal

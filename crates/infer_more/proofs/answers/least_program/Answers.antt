@@ -1,6 +1,4 @@
-use Rattle.std.proofs.Common.{◌≡◌, refl, subst, sym, true}
-use Rattle.infer_more.specs.Index.{IsNamed, IsOfProgram, ascends, named_row, names_like}
-use Rattle.infer_more.specs.declared.index.lists.TheConstants.{FURTHER_COUNT}
+use Rattle.infer_more.proofs.Common.{◌≡◌, refl, subst, sym, true, IsNamed, IsOfProgram, ascends, named_row, names_like, FURTHER_COUNT}
 use Rattle.infer_more.proofs.FoundLemmas.{listed_like}
 use Rattle.infer_more.proofs.LeastLemmas.{least_none, least_same}
 use Rattle.infer_more.proofs.answers.least_program.Goals as goal

@@ -1,5 +1,4 @@
-use Rattle.std.proofs.Common.{◌<◌, ◌≤◌, None, length, arith}
-use Rattle.infer_more.specs.Index.{within}
+use Rattle.infer_more.proofs.Common.{◌<◌, ◌≤◌, None, length, arith, within}
 use Rattle.infer_more.proofs.LeastLemmas.{tried_all, tried_none, tried_one_more}
 use Rattle.infer_more.proofs.answers.least_ranged.Goals as goal
 

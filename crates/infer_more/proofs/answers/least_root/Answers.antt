@@ -1,5 +1,4 @@
-use Rattle.std.proofs.Common.{subst}
-use Rattle.infer_more.specs.Index.{IsRooted, IsRootedBy}
+use Rattle.infer_more.proofs.Common.{subst, IsRooted, IsRootedBy}
 use Rattle.infer_more.proofs.LeastLemmas.{least_none, least_same}
 use Rattle.infer_more.proofs.answers.least_root.Goals as goal
 

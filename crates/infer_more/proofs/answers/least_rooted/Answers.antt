@@ -1,8 +1,4 @@
-use Rattle.std.proofs.Common.{◌≡◌, ◌<◌, [], None, length, ap, arith, subst, sym, ◌∙◌}
-use Rattle.std.proofs.lemmas.Bool.{false≢true}
-use Rattle.std.specs.Prelude.{min}
-use Rattle.infer_more.specs.Index.{IsLeast, rooted_row, HasTagText}
-use Rattle.infer_more.specs.declared.index.Rooted.{Rooted}
+use Rattle.infer_more.proofs.Common.{◌≡◌, ◌<◌, [], None, length, ap, arith, subst, sym, ◌∙◌, false≢true, min, IsLeast, rooted_row, HasTagText, Rooted}
 use Rattle.infer_more.proofs.LeastLemmas.{none_more, rows_first, rows_past}
 use Rattle.infer_more.proofs.answers.least_rooted.Goals as goal
 

@@ -1,7 +1,5 @@
 -- none so far is the one
-use Rattle.std.proofs.Common.{◌≡◌, ℕ, ◌<◌, get_or}
-use Rattle.infer_more.specs.Index.{HasTagText}
-use Rattle.infer_more.specs.declared.index.Rooted.{Rooted}
+use Rattle.infer_more.proofs.Common.{◌≡◌, ℕ, ◌<◌, get_or, HasTagText, Rooted}
 use Rattle.infer_more.proofs.answers.least_rooted.Given as goal
 
 abbrev pub invariant-loop-rooted : goal.invariant-loop-rooted

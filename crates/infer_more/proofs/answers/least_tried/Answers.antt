@@ -1,4 +1,4 @@
-use Rattle.std.proofs.Common.{None}
+use Rattle.infer_more.proofs.Common.{None}
 use Rattle.infer_more.proofs.LeastLemmas.{tried_more}
 use Rattle.infer_more.proofs.answers.least_tried.Goals as goal
 

@@ -1,4 +1,4 @@
-use Rattle.std.proofs.Common.{sym, ◌∙◌}
+use Rattle.infer_more.proofs.Common.{sym, ◌∙◌}
 use Rattle.infer_more.proofs.ShownLemmas.{shown_built_in, shown_further}
 use Rattle.infer_more.proofs.answers.row.Goals as goal
 

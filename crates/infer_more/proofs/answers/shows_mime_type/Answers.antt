@@ -1,5 +1,4 @@
-use Rattle.std.proofs.Common.{◌≡◌}
-use Rattle.infer_more.specs.Row.{Further}
+use Rattle.infer_more.proofs.Common.{◌≡◌, Further}
 use Rattle.infer_more.proofs.RowLemmas.{has_no_row, has_row}
 use Rattle.infer_more.proofs.answers.shows_mime_type.Goals as goal
 

@@ -1,4 +1,4 @@
-use Rattle.std.proofs.Common.{None, Some, arith, refl}
+use Rattle.infer_more.proofs.Common.{None, Some, arith, refl}
 use Rattle.infer_more.proofs.LeastLemmas.{first_found, none_found}
 use Rattle.infer_more.proofs.answers.widened_unknown.Goals as goal
 

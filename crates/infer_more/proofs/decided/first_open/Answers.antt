@@ -1,7 +1,6 @@
-use Rattle.std.proofs.Common.{◌≡◌, ℕ, MatchOption, rules, slice_get, tests}
+use Rattle.infer_more.proofs.Common.{◌≡◌, ℕ, MatchOption, MayWiden, further}
+use Rattle.std.proofs.Common.{rules, slice_get, tests}
 use Rattle.std.proofs.lemmas.Iterator.{first_from_Range}
-use Rattle.infer_more.specs.Decided.{MayWiden}
-use Rattle.infer_more.specs.Table.{further}
 use Rattle.infer_more.proofs.DecidedLemmas.{awaited_found}
 use Rattle.infer_more.proofs.TableLemmas.{length-further}
 use Rattle.infer_more.proofs.decided.first_open.Goals as goal

@@ -1,4 +1,4 @@
-use Rattle.std.proofs.Common.{refl}
+use Rattle.infer_more.proofs.Common.{refl}
 use Rattle.infer_more.proofs.DecidedLemmas as lemma
 use Rattle.infer_more.proofs.decided.is_decided.Goals as goal
 

@@ -1,7 +1,4 @@
-use Rattle.std.proofs.Common.{◌≡◌}
-use Rattle.std.proofs.lemmas.Bool.{false≢true}
-use Rattle.infer_more.specs.Open.{is_row_sound}
-use Rattle.infer_more.specs.Table.{further}
+use Rattle.infer_more.proofs.Common.{◌≡◌, false≢true, is_row_sound, further}
 use Rattle.infer_more.proofs.DecidedLemmas.{first_for_good}
 use Rattle.infer_more.proofs.NamedLemmas.{row_passes}
 use Rattle.infer_more.proofs.RowLemmas.{has_no_row}

@@ -1,9 +1,5 @@
-use Rattle.std.proofs.Common.{◌-◌}
-use Rattle.std.proofs.lemmas.Bool.{and_parts}
-use Rattle.infer.specs.declared.table.rows.TheConstants.{ROW_COUNT}
-use Rattle.infer_more.specs.Listed.{signature_listed}
-use Rattle.infer_more.specs.Open.{are_sound, is_row_sound}
-use Rattle.infer_more.specs.Table.{further}
+use Rattle.infer_more.proofs.Common.{◌-◌, and_parts, ROW_COUNT, signature_listed, is_row_sound, further}
+use Rattle.infer_more.specs.Open.{are_sound}
 use Rattle.infer_more.proofs.NamedLemmas.{row_passes}
 use Rattle.infer_more.proofs.TableLemmas.{all_sound}
 use Rattle.infer_more.proofs.decided.may_become.Goals as goal

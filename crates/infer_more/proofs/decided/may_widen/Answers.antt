@@ -1,5 +1,4 @@
-use Rattle.infer_more.specs.Open.{is_row_sound}
-use Rattle.infer_more.specs.Table.{further}
+use Rattle.infer_more.proofs.Common.{is_row_sound, further}
 use Rattle.infer_more.proofs.NamedLemmas.{row_passes}
 use Rattle.infer_more.proofs.TableLemmas.{all_sound}
 use Rattle.infer_more.proofs.decided.may_widen.Goals as goal

@@ -1,5 +1,4 @@
-use Rattle.std.proofs.Common.{refl}
-use Rattle.infer_more.specs.Table.{archives, code, further, headers, images, late, markup, media, packages, records}
+use Rattle.infer_more.proofs.Common.{refl, archives, code, further, headers, images, late, markup, media, packages, records}
 use Rattle.infer_more.proofs.FoundLemmas.{each_below}
 use Rattle.infer_more.proofs.index.below_rows.Goals as goal
 

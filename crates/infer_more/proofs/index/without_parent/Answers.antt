@@ -1,5 +1,4 @@
-use Rattle.std.proofs.Common.{refl}
-use Rattle.infer_more.specs.Table.{archives, code, further, headers, images, late, markup, media, packages, records}
+use Rattle.infer_more.proofs.Common.{refl, archives, code, further, headers, images, late, markup, media, packages, records}
 use Rattle.infer_more.proofs.FoundLemmas.{each_free}
 use Rattle.infer_more.proofs.index.without_parent.Goals as goal
 

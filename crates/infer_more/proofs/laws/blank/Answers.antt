@@ -1,6 +1,4 @@
-use Rattle.std.proofs.Common.{refl}
-use Rattle.infer_more.specs.Table.{archives, code, further, headers, images, late, markup, media, packages, records}
-use Rattle.infer_more.specs.Laws.{is_dark, is_filled}
+use Rattle.infer_more.proofs.Common.{refl, archives, code, further, headers, images, late, markup, media, packages, records, is_dark, is_filled}
 use Rattle.infer_more.proofs.NamedLemmas.{all_pass}
 use Rattle.infer_more.proofs.LawLemmas.{none_is_blank}
 use Rattle.infer_more.proofs.laws.blank.Goals as goal

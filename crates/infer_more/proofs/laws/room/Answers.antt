@@ -1,7 +1,5 @@
-use Rattle.std.proofs.Common.{refl}
+use Rattle.infer_more.proofs.Common.{refl, archives, code, further, headers, images, late, markup, media, packages, records, has_room}
 use Rattle.infer.specs.Table as built_in
-use Rattle.infer_more.specs.Table.{archives, code, further, headers, images, late, markup, media, packages, records}
-use Rattle.infer_more.specs.Samples.{has_room}
 use Rattle.infer_more.proofs.NamedLemmas.{all_pass}
 use Rattle.infer_more.proofs.laws.room.Goals as goal
 

@@ -1,9 +1,5 @@
-use Rattle.std.proofs.Common.{◌<◌, length, refl, arith}
-use Rattle.std.proofs.lemmas.Bool.{false≢true}
-use Rattle.infer_deep.specs.Signatures.{MayBecome}
-use Rattle.infer_more.specs.Listed.{alternative_listed}
+use Rattle.infer_more.proofs.Common.{◌<◌, length, refl, arith, false≢true, MayBecome, alternative_listed, Fits}
 use Rattle.infer_more.specs.Open.{is_fixed, is_sound}
-use Rattle.infer_notation.specs.Alternative.{Fits}
 use Rattle.infer_more.proofs.ListLemmas.{passed_by}
 use Rattle.infer_more.proofs.OpenLemmas.{none_more, none_of, some_at, some_fits}
 use Rattle.infer_more.proofs.open.may_become_accepted.Goals as goal

@@ -1,5 +1,5 @@
 -- no bytes bring one of the alternatives so far
-use Rattle.std.proofs.Common.{take}
+use Rattle.infer_more.proofs.Common.{take}
 use Rattle.infer_more.proofs.OpenLemmas.{MayFit}
 use Rattle.infer_more.proofs.open.may_become_accepted.Given as goal
 

@@ -1,7 +1,4 @@
-use Rattle.std.proofs.Common.{arith}
-use Rattle.std.proofs.lemmas.Bool.{false≢true}
-use Rattle.infer_deep.specs.Signatures.{MayBecome}
-use Rattle.infer_inside.specs.Script.{IsProgram}
+use Rattle.infer_more.proofs.Common.{arith, false≢true, MayBecome, IsProgram}
 use Rattle.infer_more.proofs.OpenLemmas.{none_more, none_of, some_named}
 use Rattle.infer_more.proofs.open.may_become_program_among.Goals as goal
 

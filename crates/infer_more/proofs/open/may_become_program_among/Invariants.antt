@@ -1,5 +1,5 @@
 -- none of the names so far may be that of the program
-use Rattle.std.proofs.Common.{take}
+use Rattle.infer_more.proofs.Common.{take}
 use Rattle.infer_more.proofs.OpenLemmas.{MayName}
 use Rattle.infer_more.proofs.open.may_become_program_among.Given as goal
 

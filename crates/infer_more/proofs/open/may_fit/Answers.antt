@@ -1,9 +1,6 @@
-use Rattle.std.proofs.Common.{[], ◌∷◌, IsTrue, sym, subst}
-use Rattle.infer_deep.specs.Signatures.{MayBecome}
-use Rattle.infer_inside.specs.Zip.{applications}
-use Rattle.infer_more.specs.Listed.{alternative_listed, bytes_listed}
+use Rattle.infer_more.proofs.Common.{[], ◌∷◌, IsTrue, sym, subst, MayBecome, applications, alternative_listed, Fits}
+use Rattle.infer_more.specs.Listed.{bytes_listed}
 use Rattle.infer_more.specs.Open.{is_sound}
-use Rattle.infer_notation.specs.Alternative.{Fits}
 use Rattle.infer_more.specs.declared.signature.Alternative.{Alternative}
 use Rattle.infer_more.proofs.FoundLemmas.{one_of}
 use Rattle.infer_more.proofs.OpenLemmas.{animation_known, binary_open, bytes_open}

@@ -1,8 +1,4 @@
-use Rattle.std.proofs.Common.{ap, length, sym, ◌∙◌}
-use Rattle.std.proofs.lemmas.Bool.{le-leb}
-use Rattle.infer_sig.specs.Open.{may_have}
-use Rattle.infer_more.specs.Listed.{part_listed}
-use Rattle.infer_more.specs.declared.signature.Piece.{Piece}
+use Rattle.infer_more.proofs.Common.{ap, length, sym, ◌∙◌, le-leb, may_have, part_listed, Piece}
 use Rattle.infer_more.proofs.OpenLemmas.{agrees_test, range_past, range_within}
 use Rattle.infer_more.proofs.open.may_have.Goals as goal
 

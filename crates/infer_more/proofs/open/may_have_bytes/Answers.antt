@@ -1,8 +1,4 @@
-use Rattle.std.proofs.Common.{◌<◌, ◌≤◌, length, arith, sym, ◌∙◌}
-use Rattle.std.proofs.lemmas.List.Folds.{list_all_at}
-use Rattle.infer_sig.specs.Open.{may_have}
-use Rattle.infer_more.specs.Listed.{part_listed}
-use Rattle.infer_more.specs.declared.signature.Piece.{Piece}
+use Rattle.infer_more.proofs.Common.{◌<◌, ◌≤◌, length, arith, sym, ◌∙◌, list_all_at, may_have, part_listed, Piece}
 use Rattle.infer_more.proofs.ListLemmas.{all_of_all, list_all_map, one_more}
 use Rattle.infer_more.proofs.open.may_have_bytes.Goals as goal
 

@@ -1,5 +1,4 @@
-use Rattle.std.proofs.Common.{Some, ap, inl, inr, length, option_map, refl, sym, take, ◌∙◌}
-use Rattle.infer_more.specs.Samples.{written}
+use Rattle.infer_more.proofs.Common.{Some, ap, inl, inr, length, option_map, refl, sym, take, ◌∙◌, written}
 use Rattle.infer_more.proofs.WrittenLemmas.{none_built_in, put_front, some_built_in}
 use Rattle.infer_more.proofs.samples.built_in.Goals as goal
 

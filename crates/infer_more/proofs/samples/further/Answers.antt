@@ -1,9 +1,4 @@
-use Rattle.std.proofs.Common.{Some, ◌+◌}
-use Rattle.infer.specs.declared.table.rows.TheConstants.{ROW_COUNT}
-use Rattle.infer_more.specs.Listed.{row_listed}
-use Rattle.infer_more.specs.Samples.{further_sample, has_room}
-use Rattle.infer_more.specs.Table.{further}
-use Rattle.infer_more.specs.Wider.{IsWider}
+use Rattle.infer_more.proofs.Common.{Some, ◌+◌, ROW_COUNT, row_listed, further_sample, has_room, further, IsWider}
 use Rattle.infer_more.proofs.NamedLemmas.{row_passes}
 use Rattle.infer_more.proofs.WrittenLemmas.{holds_written, row_answered}
 use Rattle.infer_more.proofs.samples.further.Goals as goal

@@ -1,11 +1,4 @@
-use Rattle.std.proofs.Common.{IsTrue, [], ◌++◌, ◌-◌, ◌∙◌, ap, length, max, subst, sym, arith}
-use Rattle.std.specs.List.{list_all}
-use Rattle.std.proofs.lemmas.List.{length-take-le}
-use Rattle.infer.specs.Samples.{zeros}
-use Rattle.infer_more.specs.Listed.{alternative_listed}
-use Rattle.infer_more.specs.Row.{is_inside}
-use Rattle.infer_more.specs.Samples.{model, parent_sample, parts_of}
-use Rattle.infer_more.specs.declared.samples.TheConstants.{SAMPLE_SIZE}
+use Rattle.infer_more.proofs.Common.{IsTrue, [], ◌++◌, ◌-◌, ◌∙◌, ap, length, max, subst, sym, arith, list_all, length-take-le, zeros, alternative_listed, is_inside, model, parent_sample, parts_of, SAMPLE_SIZE}
 use Rattle.infer_more.proofs.WrittenLemmas.{counted_further, least_fits, roomy, written_further}
 use Rattle.infer_more.proofs.samples.of_row.Goals as goal
 

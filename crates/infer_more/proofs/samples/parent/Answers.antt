@@ -1,7 +1,4 @@
-use Rattle.std.proofs.Common.{[], ◌++◌, ◌-◌, ap, sym, unwrap_or, ◌∙◌}
-use Rattle.infer.specs.Samples.{zeros}
-use Rattle.infer_more.specs.Samples.{built_in_sample, parent_sample}
-use Rattle.infer_more.specs.declared.samples.TheConstants.{SAMPLE_SIZE}
+use Rattle.infer_more.proofs.Common.{[], ◌++◌, ◌-◌, ap, sym, unwrap_or, ◌∙◌, zeros, built_in_sample, parent_sample, SAMPLE_SIZE}
 use Rattle.infer_more.proofs.WrittenLemmas.{counted_parent, written_parent}
 use Rattle.infer_more.proofs.samples.parent.Goals as goal
 

@@ -1,5 +1,4 @@
-use Rattle.std.proofs.Common.{[], ap, length, ◌%◌, ◌∙◌, ◌∷◌}
-use Rattle.infer.specs.Samples.{put}
+use Rattle.infer_more.proofs.Common.{[], ap, length, ◌%◌, ◌∙◌, ◌∷◌, put}
 use Rattle.infer_more.proofs.samples.put_entry.Goals as goal
 
 pub returns : goal.returns

@@ -1,9 +1,5 @@
 -- what the pieces so far ask is written, and the others have room
-use Rattle.std.proofs.Common.{◌≡◌, IsTrue, drop, length, map}
-use Rattle.std.specs.List.{list_all}
-use Rattle.infer.specs.Samples.{with_parts}
-use Rattle.infer_more.specs.Listed.{part_listed}
-use Rattle.infer_more.specs.Row.{is_inside}
+use Rattle.infer_more.proofs.Common.{◌≡◌, IsTrue, drop, length, map, list_all, with_parts, part_listed, is_inside}
 use Rattle.infer_more.proofs.samples.put_pieces.Given as goal
 
 abbrev pub invariant-loop-piece : goal.invariant-loop-piece

@@ -1,4 +1,4 @@
-use Rattle.std.proofs.Common.{[]}
+use Rattle.infer_more.proofs.Common.{[]}
 use Rattle.infer_more.proofs.WrittenLemmas.{next_text}
 use Rattle.infer_more.proofs.samples.put_texts.Goals as goal
 

@@ -1,7 +1,5 @@
 -- the texts that are left, behind those so far, make all of them, and have room
-use Rattle.std.proofs.Common.{◌≡◌, ◌+◌, ◌≤◌, drop, length, map}
-use Rattle.std.specs.List.{concat}
-use Rattle.infer.specs.Samples.{put}
+use Rattle.infer_more.proofs.Common.{◌≡◌, ◌+◌, ◌≤◌, drop, length, map, concat, put}
 use Rattle.infer_more.proofs.samples.put_texts.Given as goal
 
 abbrev pub invariant-loop-text : goal.invariant-loop-text

@@ -1,5 +1,4 @@
-use Rattle.std.proofs.Common.{inl, inr, refl}
-use Rattle.std.proofs.lemmas.Bool.{false≢true}
+use Rattle.infer_more.proofs.Common.{inl, inr, refl, false≢true}
 use Rattle.infer_more.proofs.AcceptedLemmas.{accepted_at, of_four}
 use Rattle.infer_more.proofs.signature.accepts.Goals as goal
 

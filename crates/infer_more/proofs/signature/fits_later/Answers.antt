@@ -1,6 +1,4 @@
-use Rattle.std.proofs.Common.{◌≡◌, length, arith, refl, subst, inl, inr}
-use Rattle.std.proofs.lemmas.Bool.{cases_lt, false≢true}
-use Rattle.infer_more.specs.Listed.{FitsAt}
+use Rattle.infer_more.proofs.Common.{◌≡◌, length, arith, refl, subst, inl, inr, cases_lt, false≢true, FitsAt}
 use Rattle.infer_more.proofs.AcceptedLemmas.{fits_past}
 use Rattle.infer_more.proofs.signature.fits_later.Goals as goal
 

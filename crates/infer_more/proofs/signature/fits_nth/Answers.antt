@@ -1,9 +1,5 @@
-use Rattle.std.proofs.Common.{◌↔◌, IsTrue, Option, refl, subst, sym}
-use Rattle.std.specs.Prelude.{MatchOption}
-use Rattle.std.proofs.lemmas.Option.{slice_get_past, slice_get_read}
-use Rattle.infer_more.specs.Listed.{alternative_listed}
+use Rattle.infer_more.proofs.Common.{◌↔◌, IsTrue, Option, refl, subst, sym, MatchOption, slice_get_past, slice_get_read, alternative_listed, Fits}
 use Rattle.infer_more.specs.Row.{is_closed_alternative}
-use Rattle.infer_notation.specs.Alternative.{Fits}
 use Rattle.infer_more.specs.declared.signature.Alternative.{Alternative}
 use Rattle.infer_more.proofs.ListLemmas.{passed_read}
 use Rattle.infer_more.proofs.signature.fits_nth.Goals as goal

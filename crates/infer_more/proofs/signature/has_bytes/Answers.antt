@@ -1,5 +1,4 @@
-use Rattle.std.proofs.Common.{length, map}
-use Rattle.infer_more.specs.Listed.{part_listed}
+use Rattle.infer_more.proofs.Common.{length, map, part_listed}
 use Rattle.infer_more.proofs.PieceLemmas.{all_inside_more}
 use Rattle.infer_more.proofs.signature.has_bytes.Goals as goal
 

@@ -1,9 +1,4 @@
-use Rattle.std.proofs.Common.{ap, sym, ◌∙◌}
-use Rattle.std.specs.Prelude.{◌&&◌, ◌||◌}
-use Rattle.std.specs.List.{list_all}
-use Rattle.infer_sig.specs.Signature.{has_part}
-use Rattle.infer_more.specs.Listed.{is_text, part_listed}
-use Rattle.infer_more.specs.declared.signature.Piece.{Piece}
+use Rattle.infer_more.proofs.Common.{ap, sym, ◌∙◌, ◌&&◌, ◌||◌, list_all, has_part, is_text, part_listed, Piece}
 use Rattle.infer_more.proofs.ListLemmas.{split_all}
 use Rattle.infer_more.proofs.signature.has_every.Goals as goal
 

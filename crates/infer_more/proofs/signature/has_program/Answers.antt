@@ -1,4 +1,4 @@
-use Rattle.std.proofs.Common.{map}
+use Rattle.infer_more.proofs.Common.{map}
 use Rattle.infer_more.proofs.AcceptedLemmas.{among_programs, none_among}
 use Rattle.infer_more.proofs.signature.has_program.Goals as goal
 

@@ -1,9 +1,4 @@
-use Rattle.std.proofs.Common.{IsTrue, length, ap, sym, subst, ◌∙◌}
-use Rattle.std.specs.Prelude.{◌||◌}
-use Rattle.infer_sig.specs.Signature.{has_part}
-use Rattle.infer_more.specs.Listed.{is_text, part_listed}
-use Rattle.infer_more.specs.Row.{is_inside}
-use Rattle.infer_more.specs.declared.signature.Piece.{Piece}
+use Rattle.infer_more.proofs.Common.{IsTrue, length, ap, sym, subst, ◌∙◌, ◌||◌, has_part, is_text, part_listed, is_inside, Piece}
 use Rattle.infer_more.proofs.PieceLemmas.{range_inside, range_read}
 use Rattle.infer_more.proofs.signature.has_single.Goals as goal
 

@@ -1,10 +1,4 @@
-use Rattle.std.proofs.Common.{◌<◌, ◌≤◌, length, arith, sym, ◌∙◌}
-use Rattle.std.proofs.lemmas.List.Folds.{list_all_at}
-use Rattle.std.specs.Prelude.{◌||◌}
-use Rattle.infer_sig.specs.Signature.{has_part}
-use Rattle.infer_more.specs.Listed.{is_text, part_listed}
-use Rattle.infer_more.specs.declared.signature.Piece.{Piece}
-use Rattle.infer_more.specs.Row.{is_inside}
+use Rattle.infer_more.proofs.Common.{◌<◌, ◌≤◌, length, arith, sym, ◌∙◌, list_all_at, ◌||◌, has_part, is_text, part_listed, Piece, is_inside}
 use Rattle.infer_more.proofs.ListLemmas.{all_of_all, one_more, passed_by}
 use Rattle.infer_more.proofs.signature.has_singles.Goals as goal
 

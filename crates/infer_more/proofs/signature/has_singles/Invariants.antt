@@ -1,9 +1,5 @@
 -- the buffer has what each piece so far asks that is a single byte
-use Rattle.std.proofs.Common.{◌≡◌, true, take}
-use Rattle.std.specs.List.{list_all}
-use Rattle.std.specs.Prelude.{◌||◌}
-use Rattle.infer_sig.specs.Signature.{has_part}
-use Rattle.infer_more.specs.Listed.{is_text, part_listed}
+use Rattle.infer_more.proofs.Common.{◌≡◌, true, take, list_all, ◌||◌, has_part, is_text, part_listed}
 use Rattle.infer_more.proofs.signature.has_singles.Given as goal
 
 abbrev pub invariant-loop-piece : goal.invariant-loop-piece

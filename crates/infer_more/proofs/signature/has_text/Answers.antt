@@ -1,11 +1,4 @@
-use Rattle.std.proofs.Common.{◌≤◌, ◌+◌, IsTrue, length, ap, sym, subst, ◌∙◌}
-use Rattle.std.specs.Prelude.{◌||◌, not}
-use Rattle.std.proofs.lemmas.Bool.{leb-true}
-use Rattle.infer_sig.specs.Signature.{has_part}
-use Rattle.infer_sig.proofs.PlaceLemmas.{stands_from_occurs}
-use Rattle.infer_more.specs.Listed.{is_text, part_listed}
-use Rattle.infer_more.specs.Row.{is_inside}
-use Rattle.infer_more.specs.declared.signature.Piece.{Piece}
+use Rattle.infer_more.proofs.Common.{◌≤◌, ◌+◌, IsTrue, length, ap, sym, subst, ◌∙◌, ◌||◌, not, leb-true, has_part, stands_from_occurs, is_text, part_listed, is_inside, Piece}
 use Rattle.infer_more.proofs.signature.has_text.Goals as goal
 
 pub returns-in-At : goal.returns-in-At

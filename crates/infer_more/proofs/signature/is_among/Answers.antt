@@ -1,5 +1,5 @@
-use Rattle.std.proofs.Common.{◌<◌, ◌≤◌, ◌==◌, ℕ, length, arith, sym}
-use Rattle.std.proofs.lemmas.Bool.{eq-eqb, ne_eqb}
+use Rattle.infer_more.proofs.Common.{◌<◌, ◌≤◌, ◌==◌, ℕ, length, arith, sym, eq-eqb}
+use Rattle.std.proofs.lemmas.Bool.{ne_eqb}
 use Rattle.std.proofs.lemmas.List.Folds.{list_any_at}
 use Rattle.infer_more.proofs.ListLemmas.{any_of_all, no_more}
 use Rattle.infer_more.proofs.signature.is_among.Goals as goal

@@ -1,6 +1,5 @@
 -- none of the bytes so far is this one
-use Rattle.std.proofs.Common.{◌≡◌, ◌==◌, false, take}
-use Rattle.std.specs.List.{list_any}
+use Rattle.infer_more.proofs.Common.{◌≡◌, ◌==◌, false, take, list_any}
 use Rattle.infer_more.proofs.signature.is_among.Given as goal
 
 abbrev pub invariant-loop-other : goal.invariant-loop-other

@@ -1,6 +1,4 @@
-use Rattle.std.proofs.Common.{◌<◌, length, refl, sym, ◌∙◌, arith}
-use Rattle.std.proofs.lemmas.Bool.{false≢true}
-use Rattle.std.proofs.lemmas.Slice.Eq.{bytes_eq-Decides}
+use Rattle.infer_more.proofs.Common.{◌<◌, length, refl, sym, ◌∙◌, arith, false≢true, bytes_eq-Decides}
 use Rattle.infer_more.proofs.AcceptedLemmas.{among_at, no_name_more}
 use Rattle.infer_more.proofs.signature.is_listed.Goals as goal
 

@@ -1,6 +1,5 @@
 -- the name is none of those so far
-use Rattle.std.proofs.Common.{map, take}
-use Rattle.infer_inside.specs.Zip.{IsOneOf}
+use Rattle.infer_more.proofs.Common.{map, take, IsOneOf}
 use Rattle.infer_more.proofs.signature.is_listed.Given as goal
 
 abbrev pub invariant-loop-other : goal.invariant-loop-other

@@ -1,5 +1,4 @@
-use Rattle.std.proofs.Common.{refl}
-use Rattle.infer_more.specs.Table.{further}
+use Rattle.infer_more.proofs.Common.{refl, further}
 use Rattle.infer_more.proofs.table.lists.Goals as goal
 
 pub returns-clause-listed : goal.returns-clause-listed

@@ -1,7 +1,4 @@
-use Rattle.std.proofs.Common.{◌<◌, length, arith, refl}
-use Rattle.std.proofs.lemmas.Option.{slice_get_past, slice_get_read}
-use Rattle.infer_more.specs.Row.{is_row_closed}
-use Rattle.infer_more.specs.Table.{further}
+use Rattle.infer_more.proofs.Common.{◌<◌, length, arith, refl, slice_get_past, slice_get_read, is_row_closed, further}
 use Rattle.infer_more.proofs.JoinedLemmas.{ended_here, found_here, found_later}
 use Rattle.infer_more.proofs.NamedLemmas.{row_passes}
 use Rattle.infer_more.proofs.TableLemmas.{all_closed}

@@ -1,7 +1,6 @@
 -- what is left of the number, among the lists that are left
-use Rattle.std.proofs.Common.{◌≡◌, drop, slice_get}
-use Rattle.infer_more.specs.Listed.{joined}
-use Rattle.infer_more.specs.Table.{further}
+use Rattle.infer_more.proofs.Common.{◌≡◌, drop, joined, further}
+use Rattle.std.proofs.Common.{slice_get}
 use Rattle.infer_more.proofs.table.row_at.Given as goal
 
 abbrev pub invariant-loop-rows : goal.invariant-loop-rows

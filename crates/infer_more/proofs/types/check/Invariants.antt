@@ -1,5 +1,5 @@
-use Rattle.std.proofs.Common.{◌≡◌, ◌+◌, ◌≤◌, length, is_some}
-use Rattle.infer_more.specs.Text.{lines_before_mistake, lines_of, rows_of}
+use Rattle.infer_more.proofs.Common.{◌≡◌, ◌+◌, ◌≤◌, length, is_some, lines_of, rows_of}
+use Rattle.infer_more.specs.Text.{lines_before_mistake}
 use Rattle.infer_more.proofs.types.check.Given as goal
 
 abbrev pub invariant-loop-flaw : goal.invariant-loop-flaw

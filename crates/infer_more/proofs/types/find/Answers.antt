@@ -1,5 +1,4 @@
-use Rattle.std.proofs.Common.{◌≡◌, ◌∷◌, ◌<◌, [], None, Some, MatchOption, length, option_map, subst}
-use Rattle.infer_more.specs.Text.{Answers, found_shows, lines_of}
+use Rattle.infer_more.proofs.Common.{◌≡◌, ◌∷◌, ◌<◌, [], None, Some, MatchOption, length, option_map, subst, Answers, found_shows, lines_of}
 use Rattle.infer_more.proofs.TextLemmas.{answer_here, answer_later, answer_none, some_lines}
 use Rattle.infer_more.proofs.types.find.Goals as goal
 

@@ -1,7 +1,5 @@
-use Rattle.std.proofs.Common.{◌≡◌, List, Option, Some, length, option_map}
-use Rattle.infer.specs.Triple.{Triple}
+use Rattle.infer_more.proofs.Common.{◌≡◌, List, Option, Some, length, option_map, Triple, Answers, IsFirstShown, rows_of}
 use Rattle.infer_more.specs.Line.{Row}
-use Rattle.infer_more.specs.Text.{Answers, IsFirstShown, rows_of}
 use Rattle.infer_more.proofs.types.find.Given as goal
 
 abbrev pub invariant-loop-found : goal.invariant-loop-found

@@ -1,8 +1,4 @@
-use Rattle.std.proofs.Common.{ap, cond, map, option_map, subst, sym, ◌∙◌}
-use Rattle.infer_notation.specs.Fixed.{alternatives_of}
-use Rattle.infer_notation.specs.Relations.{IsSeen, relations_of}
-use Rattle.infer_notation.specs.Signature.{begins_relation, described, signature_of}
-use Rattle.infer_notation.specs.Words.{found_by}
+use Rattle.infer_notation.proofs.Common.{ap, cond, map, option_map, subst, sym, ◌∙◌, alternatives_of, IsSeen, relations_of, begins_relation, described, signature_of, found_by}
 use Rattle.infer_notation.proofs.SeenLemmas.{seen_fixed}
 use Rattle.infer_notation.proofs.described.accepts.Goals as goal
 

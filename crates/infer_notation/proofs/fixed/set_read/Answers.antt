@@ -1,7 +1,4 @@
-use Rattle.std.proofs.Common.{option_map, drop, ap, sym, ◌∙◌}
-use Rattle.std.proofs.lemmas.Result.{err_from_is_err_and}
-use Rattle.infer_notation.specs.Fixed.{set_part, step_seen}
-use Rattle.infer_notation.specs.Words.{bytes_of, hex_seen}
+use Rattle.infer_notation.proofs.Common.{option_map, drop, ap, sym, ◌∙◌, err_from_is_err_and, set_part, step_seen, bytes_of, hex_seen}
 use Rattle.infer_notation.proofs.FixedLemmas.{none_read, set_empty, set_is}
 use Rattle.infer_notation.proofs.fixed.set_read.Goals as goal
 

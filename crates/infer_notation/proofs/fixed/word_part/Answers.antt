@@ -1,8 +1,4 @@
-use Rattle.std.proofs.Common.{option_map, drop, length, ap, sym, ◌∙◌}
-use Rattle.std.proofs.lemmas.Result.{err_from_is_err_and}
-use Rattle.infer_sig.specs.Signature.{text}
-use Rattle.infer_notation.specs.Fixed.{step_seen, within, word_part}
-use Rattle.infer_notation.specs.Words.{bytes_of, hex_seen}
+use Rattle.infer_notation.proofs.Common.{option_map, drop, length, ap, sym, ◌∙◌, err_from_is_err_and, text, step_seen, within, word_part, bytes_of, hex_seen}
 use Rattle.infer_notation.proofs.FixedLemmas.{none_read, text_is}
 use Rattle.infer_notation.proofs.fixed.word_part.Goals as goal
 

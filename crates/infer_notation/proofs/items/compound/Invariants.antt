@@ -1,6 +1,4 @@
-use Rattle.std.proofs.Common.{◌≡◌, ◌++◌, drop, length, map, option_map, take}
-use Rattle.infer_notation.specs.Relations.{bytes_in}
-use Rattle.infer_notation.specs.Tokens.{token_listed}
+use Rattle.infer_notation.proofs.Common.{◌≡◌, ◌++◌, drop, length, map, option_map, take, bytes_in, token_listed}
 use Rattle.infer_notation.proofs.items.compound.Given as goal
 
 abbrev pub invariant-loop-at : goal.invariant-loop-at

@@ -1,6 +1,4 @@
-use Rattle.std.proofs.Common.{◌≡◌, ◌<◌, ◌∷◌, List, None, [], arith, length, map, refl}
-use Rattle.infer_notation.specs.Relations.{marked_entry}
-use Rattle.infer_notation.specs.Tokens.{token_listed}
+use Rattle.infer_notation.proofs.Common.{◌≡◌, ◌<◌, ◌∷◌, List, None, [], arith, length, map, refl, marked_entry, token_listed}
 use Rattle.infer_notation.specs.declared.tokens.Token.{Token}
 use Rattle.infer_notation.proofs.items.marked_entry.Goals as goal
 

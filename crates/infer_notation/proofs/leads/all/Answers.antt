@@ -1,4 +1,4 @@
-use Rattle.std.proofs.Common.{rules}
+use Rattle.infer_notation.proofs.Common.{rules}
 use Rattle.infer_notation.proofs.LeadLemmas.{all_last}
 use Rattle.infer_notation.proofs.leads.all.Goals as goal
 

@@ -1,7 +1,4 @@
-use Rattle.std.proofs.Common.{◌≡◌, Some, subst}
-use Rattle.infer_notation.specs.Fixed.{step_at}
-use Rattle.infer_notation.specs.Tokens.{token_listed}
-use Rattle.infer_notation.specs.Fixed.{step}
+use Rattle.infer_notation.proofs.Common.{◌≡◌, Some, subst, step_at, token_listed, step}
 use Rattle.infer_notation.proofs.LeadLemmas.{more_piece}
 use Rattle.infer_notation.proofs.leads.asked.Goals as goal
 

@@ -1,5 +1,4 @@
-use Rattle.std.proofs.Common.{subst}
-use Rattle.infer_notation.specs.Leads.{IsLed}
+use Rattle.infer_notation.proofs.Common.{subst, IsLed}
 use Rattle.infer_notation.proofs.LeadLemmas.{known_both, known_lead}
 use Rattle.infer_notation.proofs.leads.both.Goals as goal
 

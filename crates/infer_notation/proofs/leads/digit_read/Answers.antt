@@ -1,5 +1,4 @@
-use Rattle.std.proofs.Common.{◌≡◌, ◌∷◌, Some, subst, sym}
-use Rattle.infer_notation.specs.Words.{bytes_behind}
+use Rattle.infer_notation.proofs.Common.{◌≡◌, ◌∷◌, Some, subst, sym, bytes_behind}
 use Rattle.infer_notation.proofs.LeadLemmas.{byte_found}
 use Rattle.infer_notation.proofs.leads.digit_read.Goals as goal
 

@@ -1,5 +1,4 @@
-use Rattle.std.proofs.Common.{subst}
-use Rattle.infer_notation.specs.Leads.{IsKnown}
+use Rattle.infer_notation.proofs.Common.{subst, IsKnown}
 use Rattle.infer_notation.proofs.LeadLemmas.{known_other}
 use Rattle.infer_notation.proofs.leads.either.Goals as goal
 

@@ -1,5 +1,4 @@
-use Rattle.std.proofs.Common.{subst}
-use Rattle.infer_notation.specs.Leads.{IsKnown, IsLed}
+use Rattle.infer_notation.proofs.Common.{subst, IsKnown, IsLed}
 use Rattle.infer_notation.proofs.LeadLemmas.{known_led, known_one}
 use Rattle.infer_notation.proofs.leads.either_led.Goals as goal
 

@@ -1,4 +1,4 @@
-use Rattle.std.proofs.Common.{sym, ◌∙◌}
+use Rattle.infer_notation.proofs.Common.{sym, ◌∙◌}
 use Rattle.infer_notation.proofs.LeadLemmas.{first_of}
 use Rattle.infer_notation.proofs.leads.first_byte.Goals as goal
 

@@ -1,6 +1,4 @@
-use Rattle.std.proofs.Common.{◌≡◌, ap, arith, drop, length, refl, subst, sym, ◌∙◌}
-use Rattle.std.proofs.lemmas.List.{drop-drop}
-use Rattle.infer_notation.specs.Leads.{IsRead}
+use Rattle.infer_notation.proofs.Common.{◌≡◌, ap, arith, drop, length, refl, subst, sym, ◌∙◌, drop-drop, IsRead}
 use Rattle.infer_notation.proofs.LeadLemmas.{read_blanks, read_end, read_start}
 use Rattle.infer_notation.proofs.leads.fixed_lead.Goals as goal
 

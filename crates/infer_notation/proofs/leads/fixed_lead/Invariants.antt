@@ -1,6 +1,4 @@
-use Rattle.std.proofs.Common.{◌≡◌, ◌<◌, false, get_or, length}
-use Rattle.infer_notation.specs.Leads.{IsRead}
-use Rattle.infer_notation.specs.Words.{is_blank}
+use Rattle.infer_notation.proofs.Common.{◌≡◌, ◌<◌, false, get_or, length, IsRead, is_blank}
 use Rattle.infer_notation.proofs.leads.fixed_lead.Given as goal
 
 abbrev pub invariant-loop-rest : goal.invariant-loop-rest

@@ -1,4 +1,4 @@
-use Rattle.std.proofs.Common.{sym, ◌∙◌}
+use Rattle.infer_notation.proofs.Common.{sym, ◌∙◌}
 use Rattle.infer_notation.proofs.LeadLemmas.{blank_found, half_found}
 use Rattle.infer_notation.proofs.leads.half_of.Goals as goal
 

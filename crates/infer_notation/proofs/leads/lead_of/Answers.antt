@@ -1,7 +1,4 @@
-use Rattle.std.proofs.Common.{◌≡◌, Some, ap, cond, map, option_map, subst, sym, ◌∙◌}
-use Rattle.infer_notation.specs.Fixed.{alternatives_of}
-use Rattle.infer_notation.specs.Relations.{relations_of}
-use Rattle.infer_notation.specs.Signature.{begins_relation, described, signature_of}
+use Rattle.infer_notation.proofs.Common.{◌≡◌, Some, ap, cond, map, option_map, subst, sym, ◌∙◌, alternatives_of, relations_of, begins_relation, described, signature_of}
 use Rattle.infer_notation.proofs.LeadLemmas.{lead_fixed}
 use Rattle.infer_notation.proofs.leads.lead_of.Goals as goal
 

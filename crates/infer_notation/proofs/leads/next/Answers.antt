@@ -1,4 +1,4 @@
-use Rattle.infer_notation.specs.Tokens.{token_listed}
+use Rattle.infer_notation.proofs.Common.{token_listed}
 use Rattle.infer_notation.proofs.LeadLemmas.{read_next}
 use Rattle.infer_notation.proofs.leads.next.Goals as goal
 

@@ -1,6 +1,4 @@
-use Rattle.std.proofs.Common.{◌≡◌, Some, subst}
-use Rattle.infer_notation.specs.Fixed.{piece}
-use Rattle.infer_notation.specs.Tokens.{token_listed}
+use Rattle.infer_notation.proofs.Common.{◌≡◌, Some, subst, piece, token_listed}
 use Rattle.infer_notation.proofs.LeadLemmas.{quoted_has, set_has, word_piece}
 use Rattle.infer_notation.proofs.leads.piece_lead.Goals as goal
 

@@ -1,6 +1,4 @@
-use Rattle.std.proofs.Common.{◌≡◌, ◌+◌, ◌∷◌, ap, drop, get_or, sym, ◌∙◌}
-use Rattle.std.proofs.lemmas.List.{drop_more}
-use Rattle.infer_notation.specs.Words.{bytes_behind}
+use Rattle.infer_notation.proofs.Common.{◌≡◌, ◌+◌, ◌∷◌, ap, drop, get_or, sym, ◌∙◌, drop_more, bytes_behind}
 use Rattle.infer_notation.proofs.LeadLemmas.{all_found}
 use Rattle.infer_notation.proofs.leads.set_bytes.Goals as goal
 

@@ -1,7 +1,4 @@
-use Rattle.std.proofs.Common.{◌≡◌, ◌||◌, ℕ, IsTrue, List, Some, drop}
-use Rattle.infer_sig.specs.Signature.{allows, any_of}
-use Rattle.infer_notation.specs.Leads.{is_found}
-use Rattle.infer_notation.specs.Words.{bytes_behind, bytes_of}
+use Rattle.infer_notation.proofs.Common.{◌≡◌, ◌||◌, ℕ, IsTrue, List, Some, drop, allows, any_of, is_found, bytes_behind, bytes_of}
 use Rattle.infer_notation.proofs.leads.set_bytes.Given as goal
 
 abbrev pub invariant-loop-digit : goal.invariant-loop-digit

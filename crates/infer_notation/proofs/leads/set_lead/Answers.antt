@@ -1,4 +1,4 @@
-use Rattle.infer_sig.specs.Signature.{any_of, byte}
+use Rattle.infer_notation.proofs.Common.{any_of, byte}
 use Rattle.infer_notation.proofs.LeadLemmas.{byte_leads, led_by}
 use Rattle.infer_notation.proofs.leads.set_lead.Goals as goal
 

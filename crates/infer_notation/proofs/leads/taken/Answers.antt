@@ -1,4 +1,4 @@
-use Rattle.std.proofs.Common.{refl}
+use Rattle.infer_notation.proofs.Common.{refl}
 use Rattle.infer_notation.specs.declared.leads.Known.TheVariants as known
 use Rattle.infer_notation.proofs.LeadLemmas.{taken_more, taken_part}
 use Rattle.infer_notation.proofs.leads.taken.Goals as goal

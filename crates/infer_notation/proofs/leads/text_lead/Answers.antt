@@ -1,5 +1,4 @@
-use Rattle.std.proofs.Common.{◌∷◌, [], get_or}
-use Rattle.infer_sig.specs.Signature.{any_of, byte}
+use Rattle.infer_notation.proofs.Common.{◌∷◌, [], get_or, any_of, byte}
 use Rattle.infer_notation.proofs.LeadLemmas.{first_leads, led_by}
 use Rattle.infer_notation.proofs.leads.text_lead.Goals as goal
 

@@ -1,5 +1,4 @@
-use Rattle.std.proofs.Common.{◌∷◌, [], sym}
-use Rattle.infer_sig.specs.Signature.{any_of, byte}
+use Rattle.infer_notation.proofs.Common.{◌∷◌, [], sym, any_of, byte}
 use Rattle.infer_notation.proofs.LeadLemmas.{bytes_lead, led_by, range_leads}
 use Rattle.infer_notation.proofs.leads.word_lead.Goals as goal
 

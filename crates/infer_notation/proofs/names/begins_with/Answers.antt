@@ -1,6 +1,4 @@
-use Rattle.std.proofs.Common.{map, sym, arith}
-use Rattle.std.proofs.lemmas.List.{length-map}
-use Rattle.infer_notation.specs.Tokens.{token_listed}
+use Rattle.infer_notation.proofs.Common.{map, sym, arith, length-map, token_listed}
 use Rattle.infer_notation.proofs.RelationLemmas.{begins_not}
 use Rattle.infer_notation.proofs.names.begins_with.Goals as goal
 

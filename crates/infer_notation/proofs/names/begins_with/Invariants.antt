@@ -1,6 +1,4 @@
-use Rattle.std.proofs.Common.{◌≡◌, drop, map}
-use Rattle.infer_notation.specs.Relations.{begins_by}
-use Rattle.infer_notation.specs.Tokens.{token_listed}
+use Rattle.infer_notation.proofs.Common.{◌≡◌, drop, map, begins_by, token_listed}
 use Rattle.infer_notation.proofs.names.begins_with.Given as goal
 
 abbrev pub invariant-loop-at : goal.invariant-loop-at

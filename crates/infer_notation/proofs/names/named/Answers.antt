@@ -1,8 +1,5 @@
-use Rattle.std.proofs.Common.{[], ap, arith, get_or, length, map, ◌∙◌, sym}
-use Rattle.std.proofs.lemmas.List.{length-drop, take_all}
-use Rattle.infer_notation.specs.Relations.{named_in}
-use Rattle.infer_notation.specs.Tokens.{token_listed}
-use Rattle.infer_notation.specs.declared.names.Relation.TheVariants.{SharedObject}
+use Rattle.infer_notation.proofs.Common.{[], ap, arith, get_or, length, map, ◌∙◌, sym, length-drop, named_in, token_listed, SharedObject}
+use Rattle.std.proofs.lemmas.List.{take_all}
 use Rattle.infer_notation.proofs.RelationLemmas.{named_here, named_later, named_nowhere}
 use Rattle.infer_notation.proofs.names.named.Goals as goal
 

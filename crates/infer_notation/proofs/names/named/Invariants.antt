@@ -1,6 +1,4 @@
-use Rattle.std.proofs.Common.{◌≡◌, drop, map}
-use Rattle.infer_notation.specs.Relations.{name_listed, named_in, names}
-use Rattle.infer_notation.specs.Tokens.{token_listed}
+use Rattle.infer_notation.proofs.Common.{◌≡◌, drop, map, name_listed, named_in, names, token_listed}
 use Rattle.infer_notation.proofs.names.named.Given as goal
 
 abbrev pub invariant-loop-name : goal.invariant-loop-name

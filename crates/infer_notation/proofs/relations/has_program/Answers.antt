@@ -1,6 +1,4 @@
-use Rattle.std.proofs.Common.{map}
-use Rattle.infer_notation.specs.Relations.{spelled}
-use Rattle.infer_notation.specs.Tokens.{token_listed}
+use Rattle.infer_notation.proofs.Common.{map, spelled, token_listed}
 use Rattle.infer_notation.proofs.SeenLemmas.{among_programs, no_program}
 use Rattle.infer_notation.proofs.relations.has_program.Goals as goal
 

@@ -1,10 +1,4 @@
-use Rattle.std.proofs.Common.{get_or, map, refl, sym, subst, ◌∙◌}
-use Rattle.std.proofs.lemmas.Bool.{false≢true}
-use Rattle.std.proofs.lemmas.List.{drop_all}
-use Rattle.std.proofs.lemmas.Slice.Eq.{bytes_eq-Decides}
-use Rattle.infer_inside.specs.Zip.{IsOneOf}
-use Rattle.infer_notation.specs.Relations.{spelled}
-use Rattle.infer_notation.specs.Tokens.{token_listed}
+use Rattle.infer_notation.proofs.Common.{get_or, map, refl, sym, subst, ◌∙◌, false≢true, drop_all, bytes_eq-Decides, IsOneOf, spelled, token_listed}
 use Rattle.infer_notation.specs.declared.tokens.Token.TheVariants as declared
 use Rattle.infer_notation.proofs.SeenLemmas.{among_here, among_later, among_not}
 use Rattle.infer_notation.proofs.relations.is_among.Goals as goal

@@ -1,7 +1,4 @@
-use Rattle.std.proofs.Common.{drop, map}
-use Rattle.infer_inside.specs.Zip.{IsOneOf}
-use Rattle.infer_notation.specs.Relations.{spelled}
-use Rattle.infer_notation.specs.Tokens.{token_listed}
+use Rattle.infer_notation.proofs.Common.{drop, map, IsOneOf, spelled, token_listed}
 use Rattle.infer_notation.proofs.relations.is_among.Given as goal
 
 -- it is one of them exactly if it is one of those to come

@@ -1,8 +1,5 @@
-use Rattle.std.proofs.Common.{◌≡◌, ◌||◌, Some, ap, map, option_map, refl, subst, sym, ◌∙◌}
-use Rattle.std.proofs.lemmas.Result.{err_from_is_err_and}
-use Rattle.infer_notation.specs.Relations.{IsItemSeen, IsSeen, group_listed, item_of, named_in, names, relations_of, rest_listed}
-use Rattle.infer_notation.specs.Tokens.{token_listed}
-use Rattle.infer_notation.specs.Words.{found_by}
+use Rattle.infer_notation.proofs.Common.{◌≡◌, ◌||◌, Some, ap, map, option_map, refl, subst, sym, ◌∙◌, err_from_is_err_and, IsItemSeen, IsSeen, group_listed, item_of, named_in, names, relations_of, token_listed, found_by}
+use Rattle.infer_notation.specs.Relations.{rest_listed}
 use Rattle.infer_notation.proofs.SeenLemmas.{IsLeft, left_items, seen_first, seen_last, seen_next, unseen_first, untaken_first}
 use Rattle.infer_notation.proofs.relations.is_related.Goals as goal
 

@@ -1,5 +1,5 @@
-use Rattle.std.proofs.Common.{Bool, Option, option_map}
-use Rattle.infer_notation.specs.Relations.{IsSeen, left_length, relations_of}
+use Rattle.infer_notation.proofs.Common.{Bool, Option, option_map, IsSeen, relations_of}
+use Rattle.infer_notation.specs.Relations.{left_length}
 use Rattle.infer_notation.proofs.SeenLemmas.{IsLeft, left_items}
 use Rattle.infer_notation.proofs.relations.is_related.Given as goal
 

@@ -1,7 +1,5 @@
-use Rattle.std.proofs.Common.{sym, ◌∙◌, arith}
+use Rattle.infer_notation.proofs.Common.{sym, ◌∙◌, arith, token_listed, group_listed}
 use Rattle.infer_notation.proofs.RelationLemmas.{found_last, found_or, group_long, group_next, listed_len}
-use Rattle.infer_notation.specs.Tokens.{token_listed}
-use Rattle.infer_notation.specs.Relations.{group_listed}
 use Rattle.infer_notation.proofs.relations.read_group.Goals as goal
 
 pub returns-then-is_word-clause-found : goal.returns-then-is_word-clause-found

@@ -1,7 +1,4 @@
-use Rattle.std.proofs.Common.{◌≡◌, ◌≤◌, ◌++◌, false, length, option_map}
-use Rattle.std.specs.List.{All}
-use Rattle.infer_notation.specs.Grammar.{tokens_of}
-use Rattle.infer_notation.specs.Relations.{group_listed, is_or}
+use Rattle.infer_notation.proofs.Common.{◌≡◌, ◌≤◌, ◌++◌, false, length, option_map, All, tokens_of, group_listed, is_or}
 use Rattle.infer_notation.proofs.relations.read_group.Given as goal
 
 abbrev pub invariant-loop-token : goal.invariant-loop-token

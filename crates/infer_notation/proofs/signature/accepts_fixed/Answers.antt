@@ -1,6 +1,4 @@
-use Rattle.std.proofs.Common.{ap, drop, false, ◌∙◌, sym}
-use Rattle.std.proofs.lemmas.List.{drop-drop}
-use Rattle.infer_notation.specs.Fixed.{given, start, state}
+use Rattle.infer_notation.proofs.Common.{ap, drop, false, ◌∙◌, sym, drop-drop, given, start, state}
 use Rattle.infer_notation.proofs.SignatureLemmas.{given_blanks, given_start}
 use Rattle.infer_notation.proofs.signature.accepts_fixed.Goals as goal
 

@@ -1,6 +1,4 @@
-use Rattle.std.proofs.Common.{◌≡◌, ◌<◌, false, get_or, length, option_map}
-use Rattle.infer_notation.specs.Fixed.{accepts, alternatives_of, given}
-use Rattle.infer_notation.specs.Words.{is_blank}
+use Rattle.infer_notation.proofs.Common.{◌≡◌, ◌<◌, false, get_or, length, option_map, accepts, alternatives_of, given, is_blank}
 use Rattle.infer_notation.proofs.signature.accepts_fixed.Given as goal
 
 abbrev pub invariant-loop-rest : goal.invariant-loop-rest

@@ -1,6 +1,4 @@
-use Rattle.std.proofs.Common.{◌≡◌, ◌||◌, None, Some, ap, arith, drop, false, length, option_map, sym, ◌∙◌}
-use Rattle.std.proofs.lemmas.List.{drop-drop}
-use Rattle.infer_notation.specs.Fixed.{accepts, given, start, state}
+use Rattle.infer_notation.proofs.Common.{◌≡◌, ◌||◌, None, Some, ap, arith, drop, false, length, option_map, sym, ◌∙◌, drop-drop, accepts, given, start, state}
 use Rattle.infer_notation.proofs.RefusedLemmas.{given_last, refused}
 use Rattle.infer_notation.proofs.SignatureLemmas.{given_blanks, given_start}
 use Rattle.infer_notation.proofs.signature.fits_fixed.Goals as goal

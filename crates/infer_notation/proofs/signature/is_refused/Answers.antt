@@ -1,4 +1,4 @@
-use Rattle.std.proofs.Common.{arith}
+use Rattle.infer_notation.proofs.Common.{arith}
 use Rattle.infer_notation.proofs.RefusedLemmas.{no_or}
 use Rattle.infer_notation.proofs.signature.is_refused.Goals as goal
 

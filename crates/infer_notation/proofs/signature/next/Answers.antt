@@ -1,6 +1,4 @@
-use Rattle.std.proofs.Common.{◌+◌, drop, ap, ◌∙◌, sym}
-use Rattle.infer_notation.specs.Fixed.{given}
-use Rattle.infer_notation.specs.Tokens.{token_listed}
+use Rattle.infer_notation.proofs.Common.{◌+◌, drop, ap, ◌∙◌, sym, given, token_listed}
 use Rattle.infer_notation.proofs.SignatureLemmas.{given_next}
 use Rattle.infer_notation.proofs.signature.next.Goals as goal
 

@@ -1,7 +1,4 @@
-use Rattle.std.proofs.Common.{◌<◌, ap, drop, length, option_map, sym, ◌∷◌, ◌∙◌, arith, rules}
-use Rattle.std.proofs.lemmas.List.{length-drop}
-use Rattle.infer_notation.specs.Grammar.{tokens_of}
-use Rattle.infer_notation.specs.Tokens.{token_listed}
+use Rattle.infer_notation.proofs.Common.{◌<◌, ap, drop, length, option_map, sym, ◌∷◌, ◌∙◌, arith, rules, length-drop, tokens_of, token_listed}
 use Rattle.infer_notation.proofs.RelationLemmas.{bad_token, next_token, no_token}
 use Rattle.infer_notation.proofs.tokens.next_token.Goals as goal
 

@@ -1,6 +1,4 @@
-use Rattle.std.proofs.Common.{◌≡◌, ◌+◌, drop}
-use Rattle.std.specs.List.{prefix_len}
-use Rattle.infer_notation.specs.Tokens.{is_of}
+use Rattle.infer_notation.proofs.Common.{◌≡◌, ◌+◌, drop, prefix_len, is_of}
 use Rattle.infer_notation.proofs.tokens.run_len.Given as goal
 
 abbrev pub invariant-loop-at : goal.invariant-loop-at

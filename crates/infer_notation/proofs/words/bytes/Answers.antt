@@ -1,5 +1,4 @@
-use Rattle.std.proofs.Common.{◌≡◌, ◌∷◌, ◌+◌, drop, get_or, ◌∙◌, sym, ap, arith, None, Some}
-use Rattle.std.proofs.lemmas.List.{at_drop_more, at_drop_all}
+use Rattle.infer_notation.proofs.Common.{◌≡◌, ◌∷◌, ◌+◌, drop, get_or, ◌∙◌, sym, ap, arith, None, Some, at_drop_more, at_drop_all}
 use Rattle.infer_notation.proofs.HexLemmas.{gives, gives_start, gives_blank, gives_first, gives_byte, gives_end}
 use Rattle.infer_notation.proofs.words.bytes.Goals as goal
 use Rattle.infer_notation.proofs.words.bytes.Goals.{in-None+then-not-is_blank, in-None+else-not-is_blank, in-Some+in-Some-byte_with}

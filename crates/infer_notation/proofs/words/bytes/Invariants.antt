@@ -1,5 +1,4 @@
-use Rattle.std.proofs.Common.{◌≡◌, ◌≤◌, drop, option_map}
-use Rattle.infer_notation.specs.Words.{bytes_behind, bytes_of, hex_joined, hex_seen}
+use Rattle.infer_notation.proofs.Common.{◌≡◌, ◌≤◌, drop, option_map, bytes_behind, bytes_of, hex_joined, hex_seen}
 use Rattle.infer_notation.proofs.words.bytes.Given as goal
 
 abbrev pub invariant-loop-digit : goal.invariant-loop-digit

@@ -1,4 +1,4 @@
-use Rattle.std.proofs.Common.{◌≡◌, ◌<◌, drop}
+use Rattle.infer_notation.proofs.Common.{◌≡◌, ◌<◌, drop}
 use Rattle.infer_notation.specs.Words.{number_behind}
 use Rattle.infer_notation.proofs.words.number.Given as goal
 

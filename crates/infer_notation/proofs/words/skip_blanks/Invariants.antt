@@ -1,5 +1,4 @@
-use Rattle.std.proofs.Common.{◌≡◌, drop}
-use Rattle.infer_notation.specs.Words.{behind_blanks}
+use Rattle.infer_notation.proofs.Common.{◌≡◌, drop, behind_blanks}
 use Rattle.infer_notation.proofs.words.skip_blanks.Given as goal
 
 abbrev pub invariant-loop-at : goal.invariant-loop-at

@@ -1,4 +1,4 @@
-use Rattle.std.proofs.Common.{◌≡◌, ◌+◌, drop}
+use Rattle.infer_notation.proofs.Common.{◌≡◌, ◌+◌, drop}
 use Rattle.infer_notation.specs.Words.{word_len}
 use Rattle.infer_notation.proofs.words.word_len.Given as goal
 

@@ -1,6 +1,4 @@
-use Rattle.std.proofs.Common.{◌≡◌, arith, refl, subst, sym, ◌∷◌, ◌↔◌}
-use Rattle.infer_inside.specs.Json.{blanks, items, members, Stands, text}
-use Rattle.infer_inside.specs.JsonStates.{frames}
+use Rattle.infer_inside.proofs.Common.{◌≡◌, arith, refl, subst, sym, ◌∷◌, ◌↔◌, blanks, items, members, Stands, text, frames}
 use Rattle.infer_inside.proofs.ReaderLemmas.{begun}
 use Rattle.infer_inside.proofs.json.Reader.begin.Goals as goal
 

@@ -1,4 +1,4 @@
-use Rattle.std.proofs.Common.{arith}
+use Rattle.infer_inside.proofs.Common.{arith}
 use Rattle.infer_inside.proofs.ReaderLemmas.{opens_no_more, opens_more, bits_fit}
 use Rattle.infer_inside.proofs.json.Reader.open.Goals as goal
 

@@ -1,4 +1,4 @@
-use Rattle.infer_inside.specs.declared.json.Due.TheVariants.{First, Value, Key, Colon, After}
+use Rattle.infer_inside.proofs.Common.{First, Value, Key, Colon, After}
 use Rattle.infer_inside.proofs.ReaderLemmas.{reads_between}
 use Rattle.infer_inside.proofs.json.Reader.read.Goals as goal
 

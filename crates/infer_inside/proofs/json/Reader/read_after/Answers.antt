@@ -1,4 +1,4 @@
-use Rattle.std.proofs.Common.{◌≡◌, ◌%◌, ◌∙◌, arith}
+use Rattle.infer_inside.proofs.Common.{◌≡◌, ◌%◌, ◌∙◌, arith}
 use Rattle.infer_inside.proofs.ReaderLemmas.{reads_closed, after_closes, comma_item, comma_member}
 use Rattle.infer_inside.proofs.json.Reader.read_after.Goals as goal
 

@@ -1,4 +1,4 @@
-use Rattle.std.proofs.Common.{arith}
+use Rattle.infer_inside.proofs.Common.{arith}
 use Rattle.infer_inside.proofs.ReaderLemmas.{colon_read}
 use Rattle.infer_inside.proofs.json.Reader.read_colon.Goals as goal
 

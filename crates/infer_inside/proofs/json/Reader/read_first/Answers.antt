@@ -1,6 +1,4 @@
-use Rattle.std.proofs.Common.{◌≡◌, ◌%◌, ◌∙◌, sym}
-use Rattle.infer_inside.specs.JsonStates.{due_left}
-use Rattle.infer_inside.specs.declared.json.Due.TheVariants.{Key, Value}
+use Rattle.infer_inside.proofs.Common.{◌≡◌, ◌%◌, ◌∙◌, sym, due_left, Key, Value}
 use Rattle.infer_inside.proofs.ReaderLemmas.{reads_closed, first_closed, opened_key, opened_value, reads_same}
 use Rattle.infer_inside.proofs.json.Reader.read_first.Goals as goal
 

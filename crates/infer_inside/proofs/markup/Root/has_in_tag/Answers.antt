@@ -1,10 +1,6 @@
-use Rattle.std.proofs.Common.{◌≡◌, ◌↔◌, inl, inr, ℕ, ◌+◌, ◌-◌, ◌<◌, ◌≤◌, List, Option, None, Some, length, get_or, take, is_some, refl, subst, sym, arith, eq-eqb, IsTrue}
-use Rattle.std.proofs.lemmas.Bool.{cases_lt, eqb-true}
+use Rattle.infer_inside.proofs.Common.{◌≡◌, ◌↔◌, inl, inr, ℕ, ◌+◌, ◌-◌, ◌<◌, ◌≤◌, List, Option, None, Some, length, get_or, take, is_some, refl, subst, sym, arith, eq-eqb, IsTrue, cases_lt, eqb-true, IsFirstByte, OccursAt, is_byte, IsFirstWithin, HasInTag}
 use Rattle.std.specs.Option.{unwrap_or}
-use Rattle.memchr.specs.Find.{IsFirstByte, OccursAt, is_byte}
-use Rattle.infer_deep.specs.Places.{IsFirstWithin}
 use Rattle.infer_deep.proofs.PlaceLemmas.{OccursAt-part}
-use Rattle.infer_inside.specs.Markup.{HasInTag}
 use Rattle.infer_inside.proofs.markup.Root.has_in_tag.Goals as goal
 
 -- a tag ends at the first ">", or where the buffer does

@@ -1,5 +1,4 @@
-use Rattle.std.proofs.Common.{refl}
-use Rattle.infer_more.specs.Table.{archives}
+use Rattle.infer_more.proofs.Common.{refl, archives}
 use Rattle.infer_more.proofs.table.archives.rows.Goals as goal
 
 pub returns-clause-listed : goal.returns-clause-listed

@@ -1,5 +1,4 @@
-use Rattle.std.proofs.Common.{refl}
-use Rattle.infer_more.specs.Table.{code}
+use Rattle.infer_more.proofs.Common.{refl, code}
 use Rattle.infer_more.proofs.table.code.rows.Goals as goal
 
 pub returns-clause-listed : goal.returns-clause-listed

@@ -1,5 +1,4 @@
-use Rattle.std.proofs.Common.{refl}
-use Rattle.infer_more.specs.Table.{headers}
+use Rattle.infer_more.proofs.Common.{refl, headers}
 use Rattle.infer_more.proofs.table.headers.rows.Goals as goal
 
 pub returns-clause-listed : goal.returns-clause-listed

@@ -1,5 +1,4 @@
-use Rattle.std.proofs.Common.{refl}
-use Rattle.infer_more.specs.Table.{images}
+use Rattle.infer_more.proofs.Common.{refl, images}
 use Rattle.infer_more.proofs.table.images.rows.Goals as goal
 
 pub returns-clause-listed : goal.returns-clause-listed

@@ -1,5 +1,4 @@
-use Rattle.std.proofs.Common.{refl}
-use Rattle.infer_more.specs.Table.{late}
+use Rattle.infer_more.proofs.Common.{refl, late}
 use Rattle.infer_more.proofs.table.late.rows.Goals as goal
 
 pub returns-clause-listed : goal.returns-clause-listed

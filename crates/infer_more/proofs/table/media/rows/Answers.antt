@@ -1,5 +1,4 @@
-use Rattle.std.proofs.Common.{refl}
-use Rattle.infer_more.specs.Table.{media}
+use Rattle.infer_more.proofs.Common.{refl, media}
 use Rattle.infer_more.proofs.table.media.rows.Goals as goal
 
 pub returns-clause-listed : goal.returns-clause-listed

@@ -1,5 +1,4 @@
-use Rattle.std.proofs.Common.{refl}
-use Rattle.infer_more.specs.Table.{packages}
+use Rattle.infer_more.proofs.Common.{refl, packages}
 use Rattle.infer_more.proofs.table.packages.rows.Goals as goal
 
 pub returns-clause-listed : goal.returns-clause-listed

@@ -1,6 +1,4 @@
-use Rattle.std.proofs.Common.{◌≡◌, ◌≤◌, ◌+◌, Some, ap, arith, length, option_map, sym, subst, ◌∙◌}
-use Rattle.infer_more.specs.Text.{found_shows, left_size, lines_of, rows_left, rows_of}
-use Rattle.std.specs.Option.{option_map_or}
+use Rattle.infer_more.proofs.Common.{◌≡◌, ◌≤◌, ◌+◌, Some, ap, arith, length, option_map, sym, subst, ◌∙◌, found_shows, left_size, lines_of, rows_left, rows_of, option_map_or}
 use Rattle.infer_more.proofs.TextLemmas.{left_lines, line_less, row_later, row_next}
 use Rattle.infer_more.proofs.types.Rows.next_row.Goals as goal
 

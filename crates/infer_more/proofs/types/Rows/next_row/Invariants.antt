@@ -1,6 +1,5 @@
-use Rattle.std.proofs.Common.{◌≡◌, ◌≤◌, List, Some, option_map}
+use Rattle.infer_more.proofs.Common.{◌≡◌, ◌≤◌, List, Some, option_map, left_size, rows_left}
 use Rattle.infer_more.specs.Line.{Row}
-use Rattle.infer_more.specs.Text.{left_size, rows_left}
 use Rattle.infer_more.proofs.types.Rows.next_row.Given as goal
 
 abbrev pub invariant-loop-self : goal.invariant-loop-self

@@ -1,6 +1,4 @@
-use Rattle.std.proofs.Common.{ap, option_map, sym, ◌∙◌}
-use Rattle.infer_more.specs.Entries.{left_lines, row_lines}
-use Rattle.infer_more.specs.Text.{found_shows, lines_of, rows_in}
+use Rattle.infer_more.proofs.Common.{ap, option_map, sym, ◌∙◌, left_lines, row_lines, found_shows, lines_of, rows_in}
 use Rattle.infer_more.proofs.EntryLemmas.{left_rows, rows_kept}
 use Rattle.infer_more.proofs.types.Types.find.Goals as goal
 

@@ -1,7 +1,4 @@
-use Rattle.std.proofs.Common.{◌≡◌, ◌+◌, ◌≤◌, ◌++◌, length, map, option_map, take}
-use Rattle.std.specs.Option.{option_map_or}
-use Rattle.infer_more.specs.Entries.{left_lines, row_lines}
-use Rattle.infer_more.specs.Text.{lines_of}
+use Rattle.infer_more.proofs.Common.{◌≡◌, ◌+◌, ◌≤◌, ◌++◌, length, map, option_map, take, option_map_or, left_lines, row_lines, lines_of}
 use Rattle.infer_more.proofs.types.entries.entries_of.Given as goal
 
 abbrev pub invariant-loop-rest : goal.invariant-loop-rest

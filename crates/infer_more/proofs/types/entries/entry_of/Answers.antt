@@ -1,6 +1,6 @@
-use Rattle.std.proofs.Common.{ap, subst, sym, ◌∙◌}
+use Rattle.infer_more.proofs.Common.{ap, subst, sym, ◌∙◌, fields_listed}
 use Rattle.infer_more.specs.Entries.{mark_of}
-use Rattle.infer_more.specs.Line.{Row, fields_listed}
+use Rattle.infer_more.specs.Line.{Row}
 use Rattle.infer_more.proofs.EntryLemmas.{row_in}
 use Rattle.infer_more.proofs.FieldLemmas.{says}
 use Rattle.infer_notation.specs.Leads.{IsLead}

@@ -1,5 +1,4 @@
-use Rattle.std.proofs.Common.{◌+◌, ◌++◌, Some, drop, option_map}
-use Rattle.infer_more.specs.Text.{Answers, found_shows}
+use Rattle.infer_more.proofs.Common.{◌+◌, ◌++◌, Some, drop, option_map, Answers, found_shows}
 use Rattle.infer_more.proofs.EntryLemmas.{entry_at, lines_in}
 use Rattle.infer_more.proofs.TextLemmas.{first_in, later_in}
 use Rattle.infer_more.proofs.types.entries.first_of.Goals as goal

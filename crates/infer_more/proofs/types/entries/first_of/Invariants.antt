@@ -1,7 +1,5 @@
-use Rattle.std.proofs.Common.{◌≡◌, ◌++◌, ℕ, List, Option, Some, drop, map, option_map}
-use Rattle.infer.specs.Triple.{Triple}
+use Rattle.infer_more.proofs.Common.{◌≡◌, ◌++◌, ℕ, List, Option, Some, drop, map, option_map, Triple, Answers, IsFirstShown, rows_in}
 use Rattle.infer_more.specs.Line.{Row}
-use Rattle.infer_more.specs.Text.{Answers, IsFirstShown, rows_in}
 use Rattle.infer_more.proofs.types.entries.first_of.Given as goal
 
 abbrev pub invariant-loop-entry : goal.invariant-loop-entry

@@ -1,7 +1,5 @@
-use Rattle.std.proofs.Common.{ap, sym, subst, ◌∙◌}
-use Rattle.std.proofs.lemmas.Bool.{false≢true}
-use Rattle.infer_notation.specs.Alternative.{Accepted}
-use Rattle.infer_more.specs.Line.{Row, fields_listed}
+use Rattle.infer_more.proofs.Common.{ap, sym, subst, ◌∙◌, false≢true, Accepted, fields_listed}
+use Rattle.infer_more.specs.Line.{Row}
 use Rattle.infer_more.proofs.FieldLemmas.{says}
 use Rattle.infer_more.proofs.types.line.answers.Goals as goal
 

@@ -1,6 +1,6 @@
-use Rattle.std.proofs.Common.{◌≡◌, Some, ap, sym, ◌∙◌}
-use Rattle.infer.specs.Triple.{Triple, triple}
-use Rattle.infer_more.specs.Line.{Row, fields_listed}
+use Rattle.infer_more.proofs.Common.{◌≡◌, Some, ap, sym, ◌∙◌, Triple, fields_listed}
+use Rattle.infer.specs.Triple.{triple}
+use Rattle.infer_more.specs.Line.{Row}
 use Rattle.infer_more.proofs.FieldLemmas.{says}
 use Rattle.infer_more.proofs.NameLemmas.{mime_type_ascii, name_ascii}
 use Rattle.infer_more.proofs.types.line.shown.Goals as goal

@@ -1,6 +1,5 @@
-use Rattle.std.proofs.Common.{ap, arith, drop, take, sym, ◌∙◌, ◌∷◌}
+use Rattle.infer_more.proofs.Common.{ap, arith, drop, take, sym, ◌∙◌, ◌∷◌, lines_of}
 use Rattle.std.proofs.lemmas.List.{length-drop}
-use Rattle.infer_more.specs.Text.{lines_of}
 use Rattle.infer_more.proofs.LineLemmas.{line_ended, line_last}
 use Rattle.infer_more.proofs.types.lines.next_line.Goals as goal
 

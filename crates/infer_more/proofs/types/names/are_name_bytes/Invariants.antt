@@ -1,6 +1,4 @@
-use Rattle.std.proofs.Common.{◌≡◌, drop}
-use Rattle.std.specs.List.{list_all}
-use Rattle.infer_more.specs.Line.{is_name_byte}
+use Rattle.infer_more.proofs.Common.{◌≡◌, drop, list_all, is_name_byte}
 use Rattle.infer_more.proofs.types.names.are_name_bytes.Given as goal
 
 abbrev pub invariant-loop-byte : goal.invariant-loop-byte

@@ -1,11 +1,7 @@
-use Rattle.std.proofs.Common.{refl}
+use Rattle.infer_more.proofs.Common.{refl, bytes_eq-Decides, list_any, table, is_built_in}
 use Rattle.std.proofs.lemmas.Bool.Decides.{Decides-by_or, same_from_decides}
-use Rattle.std.proofs.lemmas.Slice.Eq.{bytes_eq-Decides}
-use Rattle.std.specs.List.{list_any}
 use Rattle.std.specs.Str.{bytes_eq}
 use Rattle.infer.specs.Questions.{HasExtension}
-use Rattle.infer.specs.Table.{table}
-use Rattle.infer_more.specs.Line.{is_built_in}
 use Rattle.infer_more.proofs.types.names.is_built_in.Goals as goal
 
 pub returns : goal.returns

@@ -1,5 +1,4 @@
-use Rattle.std.proofs.Common.{◌≡◌, ◌+◌, drop}
-use Rattle.infer_more.specs.Line.{slash_place}
+use Rattle.infer_more.proofs.Common.{◌≡◌, ◌+◌, drop, slash_place}
 use Rattle.infer_more.proofs.types.names.slash_place.Given as goal
 
 abbrev pub invariant-loop-at : goal.invariant-loop-at
