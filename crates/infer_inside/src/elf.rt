@@ -60,6 +60,7 @@ fn may_have_own_table(buf: &[u8], wide: bool, big: bool) -> bool
 }
 
 /// The least count that the two bytes at `place` may come to write.
+#[tactic(auto, using(crate::proofs::OpenElfLemmas::count_agrees, crate::proofs::OpenElfLemmas::count_is))]
 fn least_count(buf: &[u8], place: usize, big: bool) -> Option<usize>
     requires { place ≤ 56 }
     ensures { IsLeastCount big buf.now place result }

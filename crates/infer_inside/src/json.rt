@@ -108,6 +108,7 @@ fn opens(byte: u8) -> bool
 }
 
 /// [`kind_of`] what may be JSON.
+#[tactic(auto, using(crate::proofs::LineLemmas::kind_past))]
 #[inline(never)]
 fn kind_begun(buf: &[u8]) -> Option<Kind>
     ensures { IsKind buf.now result }
@@ -230,6 +231,7 @@ fn next_line(buf: &[u8]) -> Option<&[u8]>
 }
 
 /// What stands behind the white space at the front.
+#[tactic(auto, using(std::proofs::lemmas::List::take_rest))]
 fn past_blanks(buf: &[u8]) -> &[u8]
     ensures { IsPast buf.now result.now }
 {
@@ -253,6 +255,7 @@ fn blanks_end(buf: &[u8], at: usize) -> usize
 }
 
 /// Whether a whole token comes behind white space.
+#[tactic(auto, using(crate::proofs::LineLemmas::by_first, crate::proofs::TokenLemmas::no_token, crate::proofs::TokenLemmas::tokens_past))]
 fn has_token(buf: &[u8]) -> bool
     ensures { IsTrue result ↔ BehindBlanks BeginsToken buf.now }
 {
@@ -651,6 +654,7 @@ impl Reader {
         }
     }
 
+    #[tactic(auto, using(crate::proofs::ReaderLemmas::key_read))]
     fn read_key(&mut self, byte: u8) -> bool
         requires { IsOpen self.old }
         ensures { Reads (due_left Key self.old.depth self.old.kinds) byte self.new result }
@@ -662,6 +666,7 @@ impl Reader {
         true
     }
 
+    #[tactic(auto, using(crate::proofs::ReaderLemmas::colon_read))]
     fn read_colon(&mut self, byte: u8) -> bool
         requires { IsOpen self.old }
         ensures { Reads (due_left Colon self.old.depth self.old.kinds) byte self.new result }

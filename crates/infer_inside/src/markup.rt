@@ -452,6 +452,7 @@ pub fn may_have_root_with(buf: &[u8], name: &[u8], text: &[u8]) -> bool
 }
 
 /// [`may_have_root_with`] of a buffer that has no root yet.
+#[tactic(auto, using(crate::proofs::OpenMarkupLemmas::root_known_with))]
 fn may_come_to_root_with(buf: &[u8], name: &[u8], text: &[u8]) -> bool
     requires { (name rest : List ℕ) → ¬ IsRootElement name rest buf.now }
     ensures { MayBecome (HasRootWith name.now text.now) buf.now → IsTrue result }
@@ -463,6 +464,7 @@ fn may_come_to_root_with(buf: &[u8], name: &[u8], text: &[u8]) -> bool
 }
 
 /// Whether the text stands in the tag, or can come to if the tag goes on.
+#[tactic(auto, using(std::proofs::lemmas::Bool::false_from_ne_true, crate::proofs::OpenMarkupLemmas::in_tag_ended, crate::proofs::OpenMarkupLemmas::in_tag_open))]
 fn may_have_in_tag(root: &Root<'_>, text: &[u8]) -> bool
     ensures { MayBecome (HasInTag text.now) root.now.rest.now → IsTrue result }
 {

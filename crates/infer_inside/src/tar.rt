@@ -16,6 +16,7 @@ pub fn has_tar_checksum(buf: &[u8]) -> bool
 }
 
 /// Whether some bytes after `buf`, or none, may make it begin with a header whose checksum is the sum of its bytes.
+#[tactic(auto, using(crate::proofs::OpenTarLemmas::whole_before, crate::proofs::OpenTarLemmas::zero_never))]
 pub fn may_have_tar_checksum(buf: &[u8]) -> bool
     ensures { MayBecome HasTarChecksum buf.now → IsTrue result }
 {
@@ -204,6 +205,7 @@ fn sum_from(buf: &[u8], place: usize, count: usize) -> u32
 }
 
 /// The sum of the bytes that the header has, but for the checksum.
+#[tactic(auto, using(crate::proofs::OpenTarLemmas::sum_past_field, crate::proofs::OpenTarLemmas::sum_to_field))]
 fn least_sum(buf: &[u8]) -> u32
     requires low { 148 ≤ length buf.now }
     requires high { length buf.now < 512 }

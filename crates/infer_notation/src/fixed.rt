@@ -93,6 +93,7 @@ fn binary_read(token: Token<'_>, buf: &[u8]) -> Result<(Cursor, Effect), Reason>
 }
 
 /// Whether a byte of the buffer is one of binary data.
+#[tactic(auto, using(std::proofs::lemmas::Bool::Decides::same_from_decides, crate::proofs::SeenLemmas::data_is))]
 fn has_data(buf: &[u8]) -> bool
     ensures { result ≡ has_data buf.now }
 {

@@ -14,6 +14,7 @@ pub fn grammar()
 {}
 
 /// The tokens of a text are those that it is made of.
+#[tactic(auto, using(crate::proofs::MadeLemmas::is_made, crate::proofs::MadeLemmas::is_read))]
 pub fn tokens()
     ensures { (t : List ℕ) (ts : List Token) → tokens_of t ≡ Some ts ↔ IsMadeOf t ts }
 {}

@@ -154,6 +154,7 @@ fn taken(reading: Reading, cursor: Cursor, effect: Effect, lead: Option<Lead>) -
 }
 
 /// What is known of the buffers that have both.
+#[tactic(auto, using(crate::proofs::LeadLemmas::known_both, crate::proofs::LeadLemmas::known_lead))]
 fn both(last: Known, lead: Option<Lead>) -> Known
     ensures { (f g : List ℕ → Bool) → IsKnown last f → ((b : List ℕ) → g b ≡ true → IsLed lead b)
         → IsKnown result (λ b. f b && g b) }
@@ -168,6 +169,7 @@ fn both(last: Known, lead: Option<Lead>) -> Known
 }
 
 /// What is known of the buffers of either kind.
+#[tactic(auto, using(crate::proofs::LeadLemmas::known_other))]
 fn either(one: Known, other: Known) -> Known
     ensures { (f g : List ℕ → Bool) → IsKnown one f → IsKnown other g
         → IsKnown result (λ b. f b || g b) }
@@ -195,6 +197,7 @@ fn either_led(lead: Lead, other: Known) -> Known
 }
 
 /// What each buffer has that has one of the two.
+#[tactic(auto, using(crate::proofs::LeadLemmas::merged_leads))]
 fn merged(one: Lead, other: Lead) -> Option<Lead>
     ensures { (b : List ℕ) → IsTrue (has_part b (lead_part one) || has_part b (lead_part other))
         → IsLed result b }
@@ -274,6 +277,7 @@ fn piece_lead(place: usize, token: Token<'_>) -> Option<Lead>
 }
 
 /// What each buffer has that has the text at the place.
+#[tactic(auto, using(crate::proofs::LeadLemmas::first_leads, crate::proofs::LeadLemmas::led_by))]
 fn text_lead(place: usize, text: &[u8]) -> Option<Lead>
     ensures { (b : List ℕ) → IsTrue (has_part b (signature.text place text.now)) → IsLed result b }
 {
@@ -284,6 +288,7 @@ fn text_lead(place: usize, text: &[u8]) -> Option<Lead>
 }
 
 /// What each buffer has that has a byte of the set at the place.
+#[tactic(auto, using(crate::proofs::LeadLemmas::byte_leads, crate::proofs::LeadLemmas::led_by))]
 fn set_lead(place: usize, digits: &[u8]) -> Option<Lead>
     ensures { (b xs : List ℕ) → bytes_of digits.now ≡ Some xs
         → IsTrue (has_part b (signature.byte place (any_of xs))) → IsLed result b }
@@ -337,6 +342,7 @@ fn digit_read(
 }
 
 /// The first digit of a byte, unless it is a blank.
+#[tactic(auto, using(crate::proofs::LeadLemmas::blank_found, crate::proofs::LeadLemmas::half_found))]
 fn half_of(digit: u8) -> Option<u8>
     ensures { (xs ys : List ℕ) → bytes_behind None (digit ∷ ys) ≡ Some xs
         → bytes_behind result ys ≡ Some xs }
@@ -371,6 +377,7 @@ fn word_lead(place: usize, word: &[u8]) -> Option<Lead>
 }
 
 /// What each buffer has that has a byte of the range at the place.
+#[tactic(auto, using(crate::proofs::LeadLemmas::byte_leads, crate::proofs::LeadLemmas::led_by))]
 fn range_lead(place: usize, low: u8, high: u8) -> Option<Lead>
     ensures { (b : List ℕ) → IsTrue (has_part b (signature.byte place (between low high)))
         → IsLed result b }
@@ -382,6 +389,7 @@ fn range_lead(place: usize, low: u8, high: u8) -> Option<Lead>
 }
 
 /// The first of the bytes that the word writes.
+#[tactic(auto, using(crate::proofs::LeadLemmas::first_of))]
 fn first_byte(word: &[u8]) -> Option<u8>
     ensures { IfSome result (λ x. (bytes : List ℕ) → bytes_of word.now ≡ Some bytes
         → (more : List ℕ) × (bytes ≡ x ∷ more)) }

@@ -159,6 +159,7 @@ fn fits(item: Item<'_, '_>, buf: &[u8]) -> bool
 }
 
 /// Whether one of the words is the name of the program.
+#[tactic(auto, using(crate::proofs::SeenLemmas::among_programs, crate::proofs::SeenLemmas::no_program))]
 fn has_program(buf: &[u8], words: &[Token<'_>]) -> bool
     ensures { IsTrue result ↔ IsProgramAmong (map spelled (map token_listed words.now)) buf.now }
 {

@@ -91,6 +91,7 @@ fn start() -> State
 
 /// Whether the buffer lacks what was read last, and no "or" follows, since no "o" does. The text is looked through once an
 /// alternative.
+#[tactic(auto, using(crate::proofs::RefusedLemmas::no_or))]
 #[inline(always)]
 fn is_refused(before: State, after: State, text: &[u8]) -> bool
     ensures any { IsTrue result → after.any ≡ false }
