@@ -1,4 +1,5 @@
-//! dBASE tables, by their header.
+//! dBASE tables, by their header: dBASE table file format (dBase knowledge base), the table file header and the field
+//! descriptors.
 ghost use Rattle.std.specs.Prelude.{◌≡◌, ◌↔◌, ◌≤◌, ℕ, length, slice_index, codes, IsTrue};
 ghost use Rattle.infer_deep.specs.Numbers.{le16};
 ghost use Rattle.infer_inside.specs.Dbase.{BeginsName, EndsFields, HasField, IsDated, IsDbase, IsOneOf, MayBeDated, MayBeDbase, MayEndFields, MayHaveField, behind, versions};
@@ -8,11 +9,38 @@ use crate::numbers::byte_or;
 use infer_deep::numbers::le16;
 use infer_deep::places::may_stand_at;
 
+/// The version of the file.
+const VERSION: usize = 0;
+/// The month of the last update.
+const MONTH: usize = 2;
+/// And its day.
+const DAY: usize = 3;
+/// How long the header is, in two bytes.
+const HEADER_LENGTH: usize = 8;
+/// How long a record is.
+const RECORD_LENGTH: usize = 10;
+/// Two bytes that are zero.
+const RESERVED: usize = 12;
+/// The first field descriptor, which begins with its name.
+const FIELD: usize = 32;
+/// The type of that field.
+const FIELD_TYPE: usize = 43;
+/// The size of a field descriptor.
+const FIELD_SIZE: usize = 32;
+/// The least header: itself, one field, and the byte that ends the fields.
+const LEAST: usize = 65;
+/// The first version of Visual FoxPro, whose header has a backlink behind the fields.
+const FIRST_FOXPRO: u8 = 0x30;
+/// And the last.
+const LAST_FOXPRO: u8 = 0x32;
+/// The size of that backlink.
+const BACKLINK_SIZE: usize = 263;
+
 /// The header of a dBASE table.
 pub fn is_dbase(buf: &[u8]) -> bool
     ensures { IsTrue result ↔ IsDbase buf.now }
 {
-    if buf.len() < 65 || !is_dated(buf) || !has_field(buf) || le16(buf, 10) < 2 {
+    if buf.len() < LEAST || !is_dated(buf) || !has_field(buf) || le16(buf, RECORD_LENGTH) < 2 {
         return false;
     }
     ends_fields(buf)
@@ -30,7 +58,7 @@ pub fn may_become_dbase(buf: &[u8]) -> bool
 fn may_be_dbase(buf: &[u8]) -> bool
     ensures { IsTrue result ↔ MayBeDbase buf.now }
 {
-    if buf.len() >= 12 && le16(buf, 10) < 2 {
+    if buf.len() >= RECORD_LENGTH + 2 && le16(buf, RECORD_LENGTH) < 2 {
         return false;
     }
     may_be_dated(buf) && may_have_field(buf) && may_end_fields(buf)
@@ -39,17 +67,17 @@ fn may_be_dbase(buf: &[u8]) -> bool
 fn may_be_dated(buf: &[u8]) -> bool
     ensures { IsTrue result ↔ MayBeDated buf.now }
 {
-    is_version(byte_or(buf, 0, 0x03))
-        && is_within(byte_or(buf, 2, 1), 0x0C)
-        && is_within(byte_or(buf, 3, 1), 0x1F)
-        && byte_or(buf, 12, 0) == 0
-        && byte_or(buf, 13, 0) == 0
+    is_version(byte_or(buf, VERSION, 0x03))
+        && is_within(byte_or(buf, MONTH, 1), 0x0C)
+        && is_within(byte_or(buf, DAY, 1), 0x1F)
+        && byte_or(buf, RESERVED, 0) == 0
+        && byte_or(buf, RESERVED + 1, 0) == 0
 }
 
 fn may_have_field(buf: &[u8]) -> bool
     ensures { IsTrue result ↔ MayHaveField buf.now }
 {
-    begins_name(byte_or(buf, 32, b'A')) && is_kind(byte_or(buf, 43, b'C'))
+    begins_name(byte_or(buf, FIELD, b'A')) && is_kind(byte_or(buf, FIELD_TYPE, b'C'))
 }
 
 /// Whether whole fields may end where the header says, as far as `buf` goes.
@@ -60,36 +88,39 @@ fn may_end_fields(buf: &[u8]) -> bool
         return true;
     }
     let behind = behind(buf[0]);
-    if buf.len() < 10 {
-        return buf[8] as usize % 32 == behind % 32;
+    if buf.len() < HEADER_LENGTH + 2 {
+        return buf[HEADER_LENGTH] as usize % FIELD_SIZE == behind % FIELD_SIZE;
     }
-    let length = le16(buf, 8) as usize;
-    if length < behind + 64 {
+    let length = le16(buf, HEADER_LENGTH) as usize;
+    if length < behind + FIELD + FIELD_SIZE {
         return false;
     }
     let end = length - behind;
-    end % 32 == 0 && may_stand_at(buf, b"\x0D", end)
+    end % FIELD_SIZE == 0 && may_stand_at(buf, b"\x0D", end)
 }
 
 fn is_dated(buf: &[u8]) -> bool
     requires { 65 ≤ length buf.now }
     ensures { IsTrue result ↔ IsDated buf.now }
 {
-    is_version(buf[0]) && is_within(buf[2], 0x0C) && is_within(buf[3], 0x1F) && has_zeros(buf)
+    is_version(buf[VERSION])
+        && is_within(buf[MONTH], 0x0C)
+        && is_within(buf[DAY], 0x1F)
+        && has_zeros(buf)
 }
 
 fn has_zeros(buf: &[u8]) -> bool
     requires { 65 ≤ length buf.now }
     ensures { IsTrue result ↔ ((slice_index buf.now 12 ≡ 0) × (slice_index buf.now 13 ≡ 0)) }
 {
-    buf[12] == 0 && buf[13] == 0
+    buf[RESERVED] == 0 && buf[RESERVED + 1] == 0
 }
 
 fn has_field(buf: &[u8]) -> bool
     requires { 65 ≤ length buf.now }
     ensures { IsTrue result ↔ HasField buf.now }
 {
-    begins_name(buf[32]) && is_kind(buf[43])
+    begins_name(buf[FIELD]) && is_kind(buf[FIELD_TYPE])
 }
 
 fn is_version(byte: u8) -> bool
@@ -126,8 +157,8 @@ fn behind(version: u8) -> usize
     ensures some { 1 ≤ result }
     ensures few { result ≤ 264 }
 {
-    if version >= 0x30 && version <= 0x32 {
-        264
+    if version >= FIRST_FOXPRO && version <= LAST_FOXPRO {
+        BACKLINK_SIZE + 1
     } else {
         1
     }
@@ -138,11 +169,11 @@ fn ends_fields(buf: &[u8]) -> bool
     requires { 65 ≤ length buf.now }
     ensures { IsTrue result ↔ ((e : ℕ) × EndsFields buf.now e) }
 {
-    let length = le16(buf, 8) as usize;
+    let length = le16(buf, HEADER_LENGTH) as usize;
     let behind = behind(buf[0]);
-    if length < behind + 64 || length - behind >= buf.len() {
+    if length < behind + FIELD + FIELD_SIZE || length - behind >= buf.len() {
         return false;
     }
     let end = length - behind;
-    end % 32 == 0 && buf[end] == 0x0D
+    end % FIELD_SIZE == 0 && buf[end] == 0x0D
 }

@@ -1,4 +1,5 @@
-//! ELF files, by their program headers.
+//! ELF files, by their program headers: System V Application Binary Interface, Object Files, the ELF header and the
+//! program header.
 ghost use Rattle.std.specs.Prelude.{◌≡◌, ◌↔◌, ◌+◌, ◌*◌, ◌<◌, ◌≤◌, ℕ, length, IsTrue};
 ghost use Rattle.infer_inside.specs.Elf.{AsksAt, HasOwnTable, IsLeastCount, IsSharedObject, MayBeSharedObject, MayHaveOwnTable, NoneKnownAsks, counted_length, entry_count, entry_size, known_size, place_end, size_at, table_place};
 ghost use Rattle.infer_deep.specs.Signatures.{MayBecome};
@@ -6,18 +7,53 @@ ghost use Rattle.infer_deep.specs.Signatures.{MayBecome};
 use crate::numbers::{byte_or, bytes16, number16, number32, number64};
 use infer_deep::places::may_stand_at;
 
+/// Of e_ident, the class: of 32 bits or of 64.
+const EI_CLASS: usize = 4;
+/// Of e_ident, the order of bytes.
+const EI_DATA: usize = 5;
+/// The class of 32 bits.
+const ELFCLASS32: u8 = 1;
+/// The class of 64 bits.
+const ELFCLASS64: u8 = 2;
+/// The lowest byte comes first.
+const ELFDATA2LSB: u8 = 1;
+/// The highest does.
+const ELFDATA2MSB: u8 = 2;
+/// e_type: what the file is.
+const E_TYPE: usize = 16;
+/// A shared object.
+const ET_DYN: u16 = 3;
+/// e_phoff: where the table of program headers begins, of 32 bits.
+const E_PHOFF_32: usize = 28;
+/// The same of 64 bits.
+const E_PHOFF_64: usize = 32;
+/// e_phentsize: the size of a program header.
+const E_PHENTSIZE_32: usize = 42;
+/// The same of 64 bits.
+const E_PHENTSIZE_64: usize = 54;
+/// e_phnum: how many program headers there are.
+const E_PHNUM_32: usize = 44;
+/// The same of 64 bits.
+const E_PHNUM_64: usize = 56;
+/// The size of Elf32_Phdr.
+const PHDR_SIZE_32: usize = 32;
+/// The size of Elf64_Phdr.
+const PHDR_SIZE_64: usize = 56;
+/// p_type, the first field of a program header, where it asks for an interpreter.
+const PT_INTERP: u32 = 3;
+
 /// A shared object: of its program headers, which lie in the buffer, none asks for an interpreter.
 pub fn is_shared_object(buf: &[u8]) -> bool
     ensures { IsTrue result ↔ IsSharedObject buf.now }
 {
-    if buf.len() < 46 {
+    if buf.len() < E_PHNUM_32 + 2 {
         return false;
     }
-    match (buf[4], buf[5]) {
-        (1, 1) => has_own_table(buf, false, false),
-        (1, 2) => has_own_table(buf, false, true),
-        (2, 1) => has_own_table(buf, true, false),
-        (2, 2) => has_own_table(buf, true, true),
+    match (buf[EI_CLASS], buf[EI_DATA]) {
+        (ELFCLASS32, ELFDATA2LSB) => has_own_table(buf, false, false),
+        (ELFCLASS32, ELFDATA2MSB) => has_own_table(buf, false, true),
+        (ELFCLASS64, ELFDATA2LSB) => has_own_table(buf, true, false),
+        (ELFCLASS64, ELFDATA2MSB) => has_own_table(buf, true, true),
         _ => false,
     }
 }
@@ -32,11 +68,14 @@ pub fn may_become_shared_object(buf: &[u8]) -> bool
 fn may_be_shared_object(buf: &[u8]) -> bool
     ensures { IsTrue result ↔ MayBeSharedObject buf.now }
 {
-    match (byte_or(buf, 4, 1), byte_or(buf, 5, 1)) {
-        (1, 1) => may_have_own_table(buf, false, false),
-        (1, 2) => may_have_own_table(buf, false, true),
-        (2, 1) => may_have_own_table(buf, true, false),
-        (2, 2) => may_have_own_table(buf, true, true),
+    match (
+        byte_or(buf, EI_CLASS, ELFCLASS32),
+        byte_or(buf, EI_DATA, ELFDATA2LSB),
+    ) {
+        (ELFCLASS32, ELFDATA2LSB) => may_have_own_table(buf, false, false),
+        (ELFCLASS32, ELFDATA2MSB) => may_have_own_table(buf, false, true),
+        (ELFCLASS64, ELFDATA2LSB) => may_have_own_table(buf, true, false),
+        (ELFCLASS64, ELFDATA2MSB) => may_have_own_table(buf, true, true),
         _ => false,
     }
 }
@@ -46,7 +85,7 @@ fn may_have_own_table(buf: &[u8], wide: bool, big: bool) -> bool
 {
     let size = known_size(wide);
     let place = size_at(wide);
-    if !may_stand_at(buf, &bytes16(3, big), 16)
+    if !may_stand_at(buf, &bytes16(ET_DYN, big), E_TYPE)
         || !may_stand_at(buf, &bytes16(size as u16, big), place)
     {
         return false;
@@ -70,6 +109,7 @@ fn least_count(buf: &[u8], place: usize, big: bool) -> Option<usize>
     }
     if buf.len() == place + 1 {
         let first = buf[place] as usize;
+        // Where this is the low byte and 0, the high one is 1 at least.
         return Some(if big {
             (256 * first).max(1)
         } else if first == 0 {
@@ -93,7 +133,7 @@ fn none_known_asks(buf: &[u8], start: usize, count: usize, size: usize, big: boo
     }
     let known = count.min((buf.len() - 4 - start) / size + 1);
     for i in 0..known {
-        if number32(buf, start + i * size, big) == 3 {
+        if number32(buf, start + i * size, big) == PT_INTERP {
             return false;
         }
     }
@@ -104,13 +144,13 @@ fn size_at(wide: bool) -> usize
     ensures is { result ≡ size_at wide }
     ensures small { result ≤ 54 }
 {
-    if wide { 54 } else { 42 }
+    if wide { E_PHENTSIZE_64 } else { E_PHENTSIZE_32 }
 }
 
 fn place_end(wide: bool) -> usize
     ensures { result ≡ place_end wide }
 {
-    if wide { 40 } else { 32 }
+    if wide { E_PHOFF_64 + 8 } else { E_PHOFF_32 + 4 }
 }
 
 fn has_own_table(buf: &[u8], wide: bool, big: bool) -> bool
@@ -121,7 +161,7 @@ fn has_own_table(buf: &[u8], wide: bool, big: bool) -> bool
     }
     let size = known_size(wide);
     let count = entry_count(buf, wide, big);
-    if number16(buf, 16, big) != 3 || entry_size(buf, wide, big) != size || count == 0 {
+    if number16(buf, E_TYPE, big) != ET_DYN || entry_size(buf, wide, big) != size || count == 0 {
         return false;
     }
     let start = table_place(buf, wide, big);
@@ -138,7 +178,7 @@ fn none_asks(buf: &[u8], start: usize, count: usize, size: usize, big: bool) -> 
     ensures { IsTrue result ↔ ((i : ℕ) → i < count → ¬ AsksAt big buf.now (start + i * size)) }
 {
     for i in 0..count {
-        if number32(buf, start + i * size, big) == 3 {
+        if number32(buf, start + i * size, big) == PT_INTERP {
             return false;
         }
     }
@@ -148,7 +188,7 @@ fn none_asks(buf: &[u8], start: usize, count: usize, size: usize, big: bool) -> 
 fn counted_length(wide: bool) -> usize
     ensures { result ≡ counted_length wide }
 {
-    if wide { 58 } else { 46 }
+    if wide { E_PHNUM_64 + 2 } else { E_PHNUM_32 + 2 }
 }
 
 fn known_size(wide: bool) -> usize
@@ -156,7 +196,7 @@ fn known_size(wide: bool) -> usize
     ensures large { 32 ≤ result }
     ensures small { result ≤ 56 }
 {
-    if wide { 56 } else { 32 }
+    if wide { PHDR_SIZE_64 } else { PHDR_SIZE_32 }
 }
 
 fn table_place(buf: &[u8], wide: bool, big: bool) -> usize
@@ -164,9 +204,9 @@ fn table_place(buf: &[u8], wide: bool, big: bool) -> usize
     ensures { result ≡ table_place wide big buf.now }
 {
     if wide {
-        number64(buf, 32, big) as usize
+        number64(buf, E_PHOFF_64, big) as usize
     } else {
-        number32(buf, 28, big) as usize
+        number32(buf, E_PHOFF_32, big) as usize
     }
 }
 
@@ -174,7 +214,7 @@ fn entry_size(buf: &[u8], wide: bool, big: bool) -> usize
     requires { counted_length wide ≤ length buf.now }
     ensures { result ≡ entry_size wide big buf.now }
 {
-    number16(buf, if wide { 54 } else { 42 }, big) as usize
+    number16(buf, if wide { E_PHENTSIZE_64 } else { E_PHENTSIZE_32 }, big) as usize
 }
 
 fn entry_count(buf: &[u8], wide: bool, big: bool) -> usize
@@ -182,5 +222,5 @@ fn entry_count(buf: &[u8], wide: bool, big: bool) -> usize
     ensures is { result ≡ entry_count wide big buf.now }
     ensures small { result ≤ 65535 }
 {
-    number16(buf, if wide { 56 } else { 44 }, big) as usize
+    number16(buf, if wide { E_PHNUM_64 } else { E_PHNUM_32 }, big) as usize
 }

@@ -1,4 +1,4 @@
-//! JSON texts, of which a buffer may have the beginning only.
+//! JSON texts, of which a buffer may have the beginning only: RFC 8259, sections 2 to 7, and RFC 3629, section 4.
 ghost use Rattle.std.specs.Prelude.{◌≡◌, ◌⊎◌, ◌↔◌, ◌≤◌, ◌%◌, ◌∷◌, [], ◌++◌, ℕ, None, drop, length, IsTrue, MatchOption, not};
 ghost use Rattle.std.specs.Bool.{OnTrue};
 ghost use Rattle.infer_deep.specs.Signatures.{MayBecome};

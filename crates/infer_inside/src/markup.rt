@@ -1,4 +1,4 @@
-//! Markup, by its root element.
+//! Markup, by its root element: Extensible Markup Language (XML) 1.0 (W3C), sections 2.8 and 3.1.
 ghost use Rattle.std.specs.Prelude.{◌≡◌, ◌≢◌, ◌↔◌, Some, ◌+◌, ◌++◌, ◌<◌, ◌≤◌, ◌⊎◌, ℕ, List, Option, None, All, length, codes, slice_index, slice_range, IsTrue, IfSome, MatchOption};
 ghost use Rattle.infer_deep.specs.Open.{AgreesAt};
 ghost use Rattle.infer_deep.specs.Signatures.{MayBecome};

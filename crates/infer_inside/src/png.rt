@@ -1,4 +1,4 @@
-//! PNG images, by their chunks.
+//! PNG images, by their chunks: PNG Specification, third edition (W3C), sections 5.2 and 5.3.
 ghost use Rattle.std.specs.Prelude.{◌↔◌, IsTrue};
 ghost use Rattle.infer_deep.specs.Signatures.{MayBecome};
 ghost use Rattle.infer_inside.specs.Open.{TellsMayBecome};
@@ -6,6 +6,13 @@ ghost use Rattle.infer_inside.specs.Png.{IsAnimated};
 
 use infer_deep::numbers::be32;
 use infer_deep::places::stands_at;
+
+/// Behind the signature the first chunk begins.
+const SIGNATURE_SIZE: usize = 8;
+/// The type of a chunk stands behind its length.
+const CHUNK_TYPE: usize = 4;
+/// What a chunk has beside its data: its length, its type and a checksum.
+const CHUNK_FRAME: usize = 12;
 
 /// An animated image: from the chunk at 8 on, one has the type "acTL", and none before it has the type "IDAT".
 pub fn is_animated(buf: &[u8]) -> bool
@@ -26,19 +33,19 @@ pub fn may_become_animated(buf: &[u8]) -> bool
 fn animation(buf: &[u8]) -> Option<bool>
     ensures { TellsMayBecome IsAnimated buf.now result }
 {
-    let mut chunk = 8;
-    while chunk < buf.len() && buf.len() - chunk >= 8 {
-        if stands_at(buf, b"acTL", chunk + 4) {
+    let mut chunk = SIGNATURE_SIZE;
+    while chunk < buf.len() && buf.len() - chunk >= CHUNK_TYPE + 4 {
+        if stands_at(buf, b"acTL", chunk + CHUNK_TYPE) {
             return Some(true);
         }
-        if stands_at(buf, b"IDAT", chunk + 4) {
+        if stands_at(buf, b"IDAT", chunk + CHUNK_TYPE) {
             return Some(false);
         }
         let length = be32(buf, chunk) as usize;
         if length > buf.len() {
             return None;
         }
-        chunk += 12 + length;
+        chunk += CHUNK_FRAME + length;
     }
     None
 }

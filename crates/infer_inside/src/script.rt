@@ -1,4 +1,4 @@
-//! Scripts, by the program that their first line names.
+//! Scripts, by the program that their first line names: execve(2), "Interpreter scripts".
 ghost use Rattle.std.specs.Prelude.{◌≡◌, ◌↔◌, ◌+◌, ◌<◌, ◌≤◌, ◌⊎◌, ℕ, List, length, codes, slice_index, IsTrue, IfSome, MatchOption};
 ghost use Rattle.memchr.specs.Find.{OccursAt};
 ghost use Rattle.infer_deep.specs.Open.{AgreesAt};

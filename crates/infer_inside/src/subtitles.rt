@@ -1,4 +1,4 @@
-//! Subtitles, by their first cue.
+//! Subtitles of SubRip, by their first cue. No document states the format.
 ghost use Rattle.std.specs.Prelude.{◌≡◌, ◌↔◌, ◌+◌, ◌<◌, ◌≤◌, ℕ, slice_index, IsTrue};
 ghost use Rattle.infer_deep.specs.Places.{FindsPlace};
 ghost use Rattle.infer_inside.specs.Subtitles.{AreDigits, EndsLine, IsCue, IsDigit, IsPairAt, IsSpan, IsSubRip, IsTime, MayBeCue, MayBePair, MayBeSpan, MayBeSubRip, MayBeTime};
@@ -6,6 +6,13 @@ ghost use Rattle.infer_deep.specs.Signatures.{MayBecome};
 
 use crate::numbers::byte_or;
 use infer_deep::places::{may_stand_at, stands_at};
+
+/// How many digits the number of a cue has at most.
+const MOST_DIGITS: usize = 9;
+/// The size of a time, as 00:00:00,000.
+const TIME_SIZE: usize = 12;
+/// The size of what stands between two.
+const ARROW_SIZE: usize = 5;
 
 /// Subtitles of SubRip: a number of one to nine digits, and in the next line two times with " --> " between them.
 pub fn is_subrip(buf: &[u8]) -> bool
@@ -35,7 +42,7 @@ fn may_be_cue(buf: &[u8], place: usize) -> bool
     ensures { IsTrue result ↔ MayBeCue buf.now place }
 {
     let count = digit_count(buf, place);
-    if count > 9 {
+    if count > MOST_DIGITS {
         return false;
     }
     let end = place + count;
@@ -56,7 +63,7 @@ fn is_cue(buf: &[u8], place: usize) -> bool
     ensures { IsTrue result ↔ IsCue buf.now place }
 {
     let count = digit_count(buf, place);
-    if count == 0 || count > 9 {
+    if count == 0 || count > MOST_DIGITS {
         return false;
     }
     match next_line(buf, place + count) {
@@ -72,12 +79,12 @@ fn digit_count(buf: &[u8], place: usize) -> usize
     ensures digits { AreDigits buf.now place result }
     ensures ends { result < 10 → ¬ IsDigit (slice_index buf.now (place + result)) }
 {
-    for n in 0..10 {
+    for n in 0..MOST_DIGITS + 1 {
         if !is_digit(byte_at(buf, place + n)) {
             return n;
         }
     }
-    10
+    MOST_DIGITS + 1
 }
 
 /// Where the next line begins, if one ends at that place.
@@ -96,7 +103,9 @@ fn is_span(buf: &[u8], place: usize) -> bool
     requires { place ≤ 14 }
     ensures { IsTrue result ↔ IsSpan buf.now place }
 {
-    is_time(buf, place) && stands_at(buf, b" --> ", place + 12) && is_time(buf, place + 17)
+    is_time(buf, place)
+        && stands_at(buf, b" --> ", place + TIME_SIZE)
+        && is_time(buf, place + TIME_SIZE + ARROW_SIZE)
 }
 
 fn is_time(buf: &[u8], place: usize) -> bool
@@ -127,8 +136,8 @@ fn may_be_span(buf: &[u8], place: usize) -> bool
     ensures { IsTrue result ↔ MayBeSpan buf.now place }
 {
     may_be_time(buf, place)
-        && may_stand_at(buf, b" --> ", place + 12)
-        && may_be_time(buf, place + 17)
+        && may_stand_at(buf, b" --> ", place + TIME_SIZE)
+        && may_be_time(buf, place + TIME_SIZE + ARROW_SIZE)
 }
 
 fn may_be_time(buf: &[u8], place: usize) -> bool

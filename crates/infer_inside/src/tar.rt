@@ -1,17 +1,26 @@
-//! Tar archives without a magic text, by the checksum of their first header.
+//! Tar archives without a magic text, by the checksum of their first header: tar(5), the old-style archive format.
 ghost use Rattle.std.specs.Prelude.{◌≡◌, ◌↔◌, ◌+◌, ◌*◌, ◌<◌, ◌≤◌, ℕ, length, slice_index, IsTrue, ◌⊎◌};
 ghost use Rattle.infer_deep.specs.Signatures.{MayBecome};
 ghost use Rattle.infer_inside.specs.Tar.{HasTarChecksum, IsField, IsOctal, MayWrite, header_sum, octal, sum_from};
+
+/// The size of a header.
+const HEADER_SIZE: usize = 512;
+/// Where the field for the checksum begins.
+const CHECKSUM: usize = 148;
+/// And where it ends.
+const CHECKSUM_END: usize = 156;
+/// What its eight bytes add to the sum: as many spaces.
+const CHECKSUM_SUM: u32 = 256;
 
 /// A first header whose checksum, in octal digits, is the sum of its bytes.
 pub fn has_tar_checksum(buf: &[u8]) -> bool
     ensures { IsTrue result ↔ HasTarChecksum buf.now }
 {
-    if buf.len() < 512 || buf[0] == 0 {
+    if buf.len() < HEADER_SIZE || buf[0] == 0 {
         return false;
     }
-    let place = spaces_end(buf, 156);
-    let count = digit_count(buf, place, 156);
+    let place = spaces_end(buf, CHECKSUM_END);
+    let count = digit_count(buf, place, CHECKSUM_END);
     is_field(buf, place, count) && octal(buf, place, count) == header_sum(buf)
 }
 
@@ -20,14 +29,14 @@ pub fn has_tar_checksum(buf: &[u8]) -> bool
 pub fn may_have_tar_checksum(buf: &[u8]) -> bool
     ensures { MayBecome HasTarChecksum buf.now → IsTrue result }
 {
-    if buf.len() >= 512 {
+    if buf.len() >= HEADER_SIZE {
         return has_tar_checksum(buf);
     }
     if begins_zero(buf) {
         return false;
     }
     // Digits can follow that write any sum.
-    if buf.len() < 148 {
+    if buf.len() < CHECKSUM {
         return true;
     }
     may_have_sum(buf)
@@ -40,19 +49,19 @@ fn may_have_sum(buf: &[u8]) -> bool
     requires first { 1 ≤ slice_index buf.now 0 }
     ensures { MayBecome HasTarChecksum buf.now → IsTrue result }
 {
-    let end = buf.len().min(156);
+    let end = buf.len().min(CHECKSUM_END);
     let place = spaces_end(buf, end);
     let count = digit_count(buf, place, end);
     let least = least_sum(buf);
     // Each byte that the header lacks can add as much.
-    let most = least + 255 * (512 - buf.len().max(156)) as u32;
-    if end == 156 {
+    let most = least + 255 * (HEADER_SIZE - buf.len().max(CHECKSUM_END)) as u32;
+    if end == CHECKSUM_END {
         return is_sum(buf, place, count, least, most);
     }
     if place + count < end {
         return is_sum(buf, place, count, least, most);
     }
-    may_write(octal(buf, place, count), 156 - end, least, most)
+    may_write(octal(buf, place, count), CHECKSUM_END - end, least, most)
 }
 
 fn begins_zero(buf: &[u8]) -> bool
@@ -93,7 +102,7 @@ fn is_field(buf: &[u8], place: usize, count: usize) -> bool
     if count == 0 {
         return false;
     }
-    place + count == 156 || ends_field(buf[place + count])
+    place + count == CHECKSUM_END || ends_field(buf[place + count])
 }
 
 /// Where the spaces of the checksum end, or that place.
@@ -106,7 +115,7 @@ fn spaces_end(buf: &[u8], end: usize) -> usize
     ensures spaces { (k : ℕ) → 148 ≤ k → k < result → slice_index buf.now k ≡ 0x20 }
     ensures ends { result < end → ¬ (slice_index buf.now result ≡ 0x20) }
 {
-    for place in 148..end {
+    for place in CHECKSUM..end {
         if buf[place] != b' ' {
             return place;
         }
@@ -188,7 +197,9 @@ fn header_sum(buf: &[u8]) -> u32
     requires { 512 ≤ length buf.now }
     ensures { result ≡ header_sum buf.now }
 {
-    sum_from(buf, 0, 148) + 256 + sum_from(buf, 156, 356)
+    sum_from(buf, 0, CHECKSUM)
+        + CHECKSUM_SUM
+        + sum_from(buf, CHECKSUM_END, HEADER_SIZE - CHECKSUM_END)
 }
 
 fn sum_from(buf: &[u8], place: usize, count: usize) -> u32
@@ -212,9 +223,9 @@ fn least_sum(buf: &[u8]) -> u32
     ensures is { result ≡ header_sum buf.now }
     ensures small { result < 16777216 }
 {
-    let front = sum_from(buf, 0, 148) + 256;
-    if buf.len() <= 156 {
+    let front = sum_from(buf, 0, CHECKSUM) + CHECKSUM_SUM;
+    if buf.len() <= CHECKSUM_END {
         return front;
     }
-    front + sum_from(buf, 156, buf.len() - 156)
+    front + sum_from(buf, CHECKSUM_END, buf.len() - CHECKSUM_END)
 }

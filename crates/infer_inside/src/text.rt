@@ -1,4 +1,4 @@
-//! Plain text, and how it is encoded.
+//! Plain text, and how it is encoded: MIME Sniffing Standard (WHATWG), sections 3 and 7.2, and RFC 3629, section 4.
 ghost use Rattle.std.specs.Prelude.{◌≡◌, ◌↔◌, ◌<◌, ◌≤◌, ℕ, length, take, drop, Some, IsTrue, not};
 ghost use Rattle.std.specs.Bool.{OnTrue};
 ghost use Rattle.std.specs.Str.{IsAscii};

@@ -1,4 +1,4 @@
-//! TIFF files, by the tags of their first directory.
+//! TIFF files, by the tags of their first directory: TIFF 6.0, section 2.
 ghost use Rattle.std.specs.Prelude.{◌≡◌, ◌↔◌, ◌+◌, ◌≤◌, ℕ, length, IsTrue};
 ghost use Rattle.infer_inside.specs.Numbers.{number32};
 ghost use Rattle.infer_inside.specs.Tiff.{BeginsTiff, HasTag, IsTagEntry, MayHaveEntry, MayHaveTag};
@@ -6,6 +6,13 @@ ghost use Rattle.infer_deep.specs.Signatures.{MayBecome};
 
 use crate::numbers::{bytes16, number16, number32};
 use infer_deep::places::{may_stand_at, stands_at};
+
+/// Where the header says at what place the first directory begins.
+const DIRECTORY: usize = 4;
+/// The size of the count of its entries.
+const COUNT_SIZE: usize = 2;
+/// The size of an entry, which begins with its tag.
+const ENTRY_SIZE: usize = 12;
 
 /// The first directory of a TIFF file has an entry with this tag.
 pub fn first_directory_has_tag(buf: &[u8], tag: u16) -> bool
@@ -37,18 +44,20 @@ fn may_have_tag(buf: &[u8], tag: u16) -> bool
 fn directory_may_have_tag(buf: &[u8], tag: u16, big: bool) -> bool
     ensures { IsTrue result ↔ MayHaveEntry big tag buf.now }
 {
-    if buf.len() < 8 {
+    if buf.len() < DIRECTORY + 4 {
         return true;
     }
-    let start = number32(buf, 4, big) as usize;
-    if buf.len() < start + 2 {
+    let start = number32(buf, DIRECTORY, big) as usize;
+    if buf.len() < start + COUNT_SIZE {
         return true;
     }
     // An entry past the end of `buf` may have any tag, so of these one is enough.
-    let count = (number16(buf, start, big) as usize).min((buf.len() - start - 2) / 12 + 2);
+    let count = (number16(buf, start, big) as usize).min(
+        (buf.len() - start - COUNT_SIZE) / ENTRY_SIZE + 2,
+    );
     let bytes = bytes16(tag, big);
     for i in 0..count {
-        if may_stand_at(buf, &bytes, start + 2 + 12 * i) {
+        if may_stand_at(buf, &bytes, start + COUNT_SIZE + ENTRY_SIZE * i) {
             return true;
         }
     }
@@ -58,16 +67,18 @@ fn directory_may_have_tag(buf: &[u8], tag: u16, big: bool) -> bool
 fn directory_has_tag(buf: &[u8], tag: u16, big: bool) -> bool
     ensures { IsTrue result ↔ ((i : ℕ) × IsTagEntry big tag buf.now (number32 big buf.now 4) i) }
 {
-    if buf.len() < 14 {
+    if buf.len() < COUNT_SIZE + ENTRY_SIZE {
         return false;
     }
-    let start = number32(buf, 4, big) as usize;
-    if start > buf.len() - 14 {
+    let start = number32(buf, DIRECTORY, big) as usize;
+    if start > buf.len() - COUNT_SIZE - ENTRY_SIZE {
         return false;
     }
-    let count = (number16(buf, start, big) as usize).min((buf.len() - start - 2) / 12);
+    let count = (number16(buf, start, big) as usize).min(
+        (buf.len() - start - COUNT_SIZE) / ENTRY_SIZE,
+    );
     for i in 0..count {
-        if number16(buf, start + 2 + 12 * i, big) == tag {
+        if number16(buf, start + COUNT_SIZE + ENTRY_SIZE * i, big) == tag {
             return true;
         }
     }

@@ -1,4 +1,5 @@
-//! ZIP archives, by the names of their entries.
+//! ZIP archives, by the names of their entries: ZIP APPNOTE, section 4.3.7, the local file header; and packages: ECMA-376,
+//! part 2.
 ghost use Rattle.std.specs.Prelude.{◌≡◌, ◌↔◌, ◌+◌, ◌≤◌, length, IsTrue};
 ghost use Rattle.infer_deep.specs.Numbers.{le16};
 ghost use Rattle.infer_deep.specs.Places.{FindsPlace};
@@ -10,12 +11,19 @@ use infer_deep::numbers::le16;
 use infer_deep::places::{has_at, may_stand_at, stands_at};
 use memchr::memchr;
 
+/// Of a local file header, where the length of the file name stands.
+const NAME_LENGTH: usize = 26;
+/// Behind it that of the extra field.
+const EXTRA_LENGTH: usize = 28;
+/// And then the file name itself.
+const NAME: usize = 30;
+
 /// The first entry has this name.
 pub fn first_entry_is(buf: &[u8], name: &[u8]) -> bool
     ensures { IsTrue result ↔ FirstEntryIs name.now buf.now }
 {
     match first_name_end(buf) {
-        Some(end) => end - 30 == name.len() && stands_at(buf, name, 30),
+        Some(end) => end - NAME == name.len() && stands_at(buf, name, NAME),
         None => false,
     }
 }
@@ -25,7 +33,7 @@ pub fn first_entry_ends_in(buf: &[u8], text: &[u8]) -> bool
     ensures { IsTrue result ↔ FirstEntryEndsIn text.now buf.now }
 {
     match first_name_end(buf) {
-        Some(end) => text.len() <= end - 30 && stands_at(buf, text, end - text.len()),
+        Some(end) => text.len() <= end - NAME && stands_at(buf, text, end - text.len()),
         None => false,
     }
 }
@@ -35,7 +43,7 @@ pub fn first_entry_has_extra(buf: &[u8], text: &[u8]) -> bool
     ensures { IsTrue result ↔ FirstEntryHasExtra text.now buf.now }
 {
     match first_name_end(buf) {
-        Some(end) => text.len() <= le16(buf, 28) as usize && stands_at(buf, text, end),
+        Some(end) => text.len() <= le16(buf, EXTRA_LENGTH) as usize && stands_at(buf, text, end),
         None => false,
     }
 }
@@ -44,10 +52,10 @@ pub fn first_entry_has_extra(buf: &[u8], text: &[u8]) -> bool
 fn first_name_end(buf: &[u8]) -> Option<usize>
     ensures { FindsPlace (λ end. HasFirstName buf.now × (end ≡ 30 + le16 buf.now 26)) result }
 {
-    if buf.len() < 30 || !stands_at(buf, b"PK\x03\x04", 0) {
+    if buf.len() < NAME || !stands_at(buf, b"PK\x03\x04", 0) {
         return None;
     }
-    let end = 30 + le16(buf, 26) as usize;
+    let end = NAME + le16(buf, NAME_LENGTH) as usize;
     if end > buf.len() {
         return None;
     }
@@ -70,8 +78,12 @@ fn may_have_first_name(buf: &[u8], name: &[u8]) -> bool
         return false;
     }
     may_stand_at(buf, b"PK\x03\x04", 0)
-        && may_stand_at(buf, &[(length % 256) as u8, (length / 256) as u8], 26)
-        && may_stand_at(buf, name, 30)
+        && may_stand_at(
+            buf,
+            &[(length % 256) as u8, (length / 256) as u8],
+            NAME_LENGTH,
+        )
+        && may_stand_at(buf, name, NAME)
 }
 
 /// Whether some bytes after `buf`, or none, may give the first entry a name that ends in this text, or is it.
@@ -85,10 +97,10 @@ pub fn may_have_first_entry_ending(buf: &[u8], text: &[u8]) -> bool
 fn may_have_first_ending(buf: &[u8], text: &[u8]) -> bool
     ensures { IsTrue result ↔ MayHaveFirstEnding text.now buf.now }
 {
-    let length = most16(buf, 26);
+    let length = most16(buf, NAME_LENGTH);
     text.len() <= length
         && may_stand_at(buf, b"PK\x03\x04", 0)
-        && may_stand_at(buf, text, 30 + length - text.len())
+        && may_stand_at(buf, text, NAME + length - text.len())
 }
 
 /// Whether some bytes after `buf`, or none, may give the first entry an extra field that begins with this text.
@@ -102,9 +114,9 @@ pub fn may_have_first_extra(buf: &[u8], text: &[u8]) -> bool
 fn may_have_first_field(buf: &[u8], text: &[u8]) -> bool
     ensures { IsTrue result ↔ MayHaveFirstField text.now buf.now }
 {
-    text.len() <= most16(buf, 28)
+    text.len() <= most16(buf, EXTRA_LENGTH)
         && may_stand_at(buf, b"PK\x03\x04", 0)
-        && may_stand_at(buf, text, 30 + most16(buf, 26))
+        && may_stand_at(buf, text, NAME + most16(buf, NAME_LENGTH))
 }
 
 /// A package of the Open Packaging Conventions whose first folder of an application, by place, is this one.
@@ -115,7 +127,7 @@ pub fn is_package_with(buf: &[u8], folder: &[u8]) -> bool
         return false;
     }
     match first_folder(buf) {
-        Some(place) => stands_at(buf, folder, place + 30),
+        Some(place) => stands_at(buf, folder, place + NAME),
         None => false,
     }
 }
@@ -131,7 +143,7 @@ pub fn package_folder(buf: &[u8]) -> Option<usize>
         return None;
     }
     match first_folder(buf) {
-        Some(place) => Some(place + 30),
+        Some(place) => Some(place + NAME),
         None => None,
     }
 }
@@ -147,7 +159,7 @@ pub fn may_become_package_with(buf: &[u8], folder: &[u8]) -> bool
         return false;
     }
     match first_folder(buf) {
-        Some(place) => stands_at(buf, folder, place + 30),
+        Some(place) => stands_at(buf, folder, place + NAME),
         None => true,
     }
 }
@@ -156,10 +168,10 @@ fn may_open_package(buf: &[u8], folder: &[u8]) -> bool
     ensures { IsTrue result ↔ MayOpenPackage folder.now buf.now }
 {
     may_stand_at(buf, b"PK\x03\x04", 0)
-        && (may_stand_at(buf, b"[Content_Types].xml", 30)
-            || may_stand_at(buf, b"_rels/", 30)
-            || may_stand_at(buf, b"docProps/", 30)
-            || may_stand_at(buf, folder, 30))
+        && (may_stand_at(buf, b"[Content_Types].xml", NAME)
+            || may_stand_at(buf, b"_rels/", NAME)
+            || may_stand_at(buf, b"docProps/", NAME)
+            || may_stand_at(buf, folder, NAME))
 }
 
 /// Whether `buf` begins with an entry that some package may have first.
@@ -169,20 +181,20 @@ fn may_begin_any_package(buf: &[u8]) -> bool
     if !has_at(buf, b"PK\x03\x04", 0) {
         return false;
     }
-    has_at(buf, b"[Content_Types].xml", 30)
-        || has_at(buf, b"_rels/", 30)
-        || has_at(buf, b"docProps/", 30)
-        || is_folder(buf, 30)
+    has_at(buf, b"[Content_Types].xml", NAME)
+        || has_at(buf, b"_rels/", NAME)
+        || has_at(buf, b"docProps/", NAME)
+        || is_folder(buf, NAME)
 }
 
 fn may_begin_package(buf: &[u8], folder: &[u8]) -> bool
     ensures { IsTrue result ↔ MayBeginPackage folder.now buf.now }
 {
     stands_at(buf, b"PK\x03\x04", 0)
-        && (stands_at(buf, b"[Content_Types].xml", 30)
-            || stands_at(buf, b"_rels/", 30)
-            || stands_at(buf, b"docProps/", 30)
-            || stands_at(buf, folder, 30))
+        && (stands_at(buf, b"[Content_Types].xml", NAME)
+            || stands_at(buf, b"_rels/", NAME)
+            || stands_at(buf, b"docProps/", NAME)
+            || stands_at(buf, folder, NAME))
 }
 
 /// Whether some entry is a part that each package has.
@@ -218,14 +230,15 @@ fn is_part_entry(buf: &[u8], place: usize) -> bool
     ensures { IsTrue result ↔ IsPartEntry buf.now place }
 {
     has_at(buf, b"PK\x03\x04", place)
-        && (has_at(buf, b"[Content_Types].xml", place + 30) || has_at(buf, b"_rels/", place + 30))
+        && (has_at(buf, b"[Content_Types].xml", place + NAME)
+            || has_at(buf, b"_rels/", place + NAME))
 }
 
 fn is_folder_entry(buf: &[u8], place: usize) -> bool
     requires { place ≤ length buf.now }
     ensures { IsTrue result ↔ IsFolderEntry buf.now place }
 {
-    has_at(buf, b"PK\x03\x04", place) && is_folder(buf, place + 30)
+    has_at(buf, b"PK\x03\x04", place) && is_folder(buf, place + NAME)
 }
 
 /// Whether the folder of an application stands at the place.

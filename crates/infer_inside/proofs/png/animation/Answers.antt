@@ -25,8 +25,8 @@ returns-then-length-buf c =
     (λ o. let e = c.stands_at.ensures.1 o in absurd (cc))
     (λ o. let e = c.stands_at-in-loop-chunk.ensures.1 o in absurd (cc)) c.loop-chunk.invariant)
 
-pub returns-else-buf-chunk-ge8 : goal.returns-else-buf-chunk-ge8
-returns-else-buf-chunk-ge8 c = open_at _ _ (omega arith) c.loop-chunk.invariant
+pub returns-else-buf-chunk : goal.returns-else-buf-chunk
+returns-else-buf-chunk c = open_at _ _ (omega arith) c.loop-chunk.invariant
 
 pub returns-after-loop-chunk : goal.returns-after-loop-chunk
 returns-after-loop-chunk c = open_at _ _ (omega arith) c.loop-chunk.invariant

@@ -26,14 +26,14 @@ tells : (b : List ℕ) (p k least most : ℕ) (r : Bool) → 1 ≤ get_or b 0 0 
 tells b p k least most r first long short reads whole sum rest is reached =
     let (f, low, high) = whole_known b first long p k reads short whole reached in is.1 (f, omega arith, omega arith)
 
-pub returns-then-end-eq156 : goal.returns-then-end-eq156
-returns-then-end-eq156 c =
+pub returns-then-end-eq-CHECKSUM_END : goal.returns-then-end-eq-CHECKSUM_END
+returns-then-end-eq-CHECKSUM_END c =
     let s = c.spaces_end-place.ensures in
     let n = c.digit_count-count.ensures in
     let end = c.min-end.ensures in
     let low = c.requires.low in
     let high = c.requires.high in
-    let is_end = c.if-end-eq156.true in
+    let is_end = c.if-end-eq-CHECKSUM_END.true in
     let most = c.max.ensures in
     tells c.args.buf.now c.spaces_end-place.result c.digit_count-count.result c.least_sum-least.result _ c.is_sum.result c.requires.first low (omega arith)
     (reads c.args.buf.now c.min-end.result _ _ end s.low n.high s.spaces s.ends n.digits n.ends) (inr (omega arith)) c.least_sum-least.ensures.is (omega arith)
@@ -61,7 +61,7 @@ returns c = λ reached.
     let high = c.requires.high in
     let whole = c.if-place-count.false in
     let fits = n.high in
-    let not_all = c.if-end-eq156.false in
+    let not_all = c.if-end-eq-CHECKSUM_END.false in
     let short : length c.args.buf.now < 156 = grind (arith, end, not_all) in
     let most = c.max.ensures in
     c.may_write.ensures (moved _ _ _ _ _ _ _ _ c.octal.ensures (omega arith) c.least_sum-least.ensures.is (omega (arith, c.least_sum-least.ensures.is))
