@@ -21,6 +21,7 @@ use Rattle.infer.proofs.KnownLemmas.{is, same, same_text, ◌>>=◌}
 use Rattle.infer.proofs.DecisionLemmas.{known_class}
 use Rattle.infer.proofs.PlaceLemmas.{lacked, lacks}
 use Rattle.infer_notation.specs.Alternative.{Alternative}
+use Rattle.std.proofs.lemmas.Bool.{or_cases}
 use Rattle.infer_more.proofs.IndexLemmas as test
 use Rattle.infer_more.proofs.OutlineLemmas.{has_lines}
 use Rattle.infer_more.proofs.RefusalLemmas.{clash}
@@ -38,7 +39,7 @@ no_data_byte x h is = grind (arith, nat_tests)
 
 pub has_data : (b : List ℕ) → IsTrue (list_any is_data b) → IsBinary b
 has_data [] h = absurd (cc)
-has_data (x ∷ b) h = elim (test.either (is_data x) _ h) [
+has_data (x ∷ b) h = elim (or_cases (is_data x) _ h) [
   | inl e ↦ (0, omega arith, data_byte x e)
   | inr e ↦ let (k, lt, is) = has_data b e in (suc k, omega arith, is)
 ]
@@ -88,7 +89,7 @@ opens_other (x ∷ b) = not (x == 0x3C) && (not (is_space x) || opens_other b)
 not_behind_space : (b : List ℕ) → IsTrue (opens_other b) → (k : ℕ) → ((j : ℕ) → j < k → IsXmlSpace (slice_index b j)) → slice_index b k ≢ 0x3C
 not_behind_space [] h k spaces e = omega arith
 not_behind_space (x ∷ b) h zero spaces e = let none = test.both_left (not (x == 0x3C)) _ h in grind (arith, nat_tests)
-not_behind_space (x ∷ b) h (suc k) spaces e = elim (test.either (not (is_space x)) _ (test.both_right (not (x == 0x3C)) _ h)) [
+not_behind_space (x ∷ b) h (suc k) spaces e = elim (or_cases (not (is_space x)) _ (test.both_right (not (x == 0x3C)) _ h)) [
   | inl dark ↦ let space = spaces 0 (omega arith) in grind (arith, nat_tests)
   | inr rest ↦ not_behind_space b rest k (λ j lt. spaces (suc j) (omega arith)) e
 ]
@@ -359,7 +360,7 @@ module _ (by_place : ByPlace) (inside : Inside.Leads) (single : Inside.Single) (
     proved (inr (some, none))
 
   pub no_root : (name : List ℕ) → IsTrue (opens_none b || (opens_other b && not (has_mark b))) → ¬ HasRoot name b
-  no_root name h is = elim (test.either (opens_none b) _ h) [
+  no_root name h is = elim (or_cases (opens_none b) _ h) [
     | inl none ↦ no_element b none (inside.element name b is)
     | inr other ↦ elim (inside.root name b is) [
       | inl mark ↦ let first = mark.reads 0 (omega arith) in no_mark b (test.both_right (opens_other b) _ other) first

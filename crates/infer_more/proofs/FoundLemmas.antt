@@ -1,5 +1,6 @@
 -- By the index just those rows are found that widen an answer.
-use Rattle.infer_more.proofs.Common.{◌≡◌, ◌↔◌, ℕ, zero, suc, ◌+◌, ◌<◌, ◌≤◌, ◌==◌, inl, inr, Bool, true, false, IsTrue, List, [], ◌∷◌, Option, None, Some, length, get_or, ap, sym, ◌∙◌, subst, arith, refl, ◌%◌, ◌&&◌, ◌||◌, ◌++◌, slice_index, nat_le, list_all, list_any, option_map_or, cases_lt, eqb-true, leb-true, get_or_default, slice_get_cases, Bor, IsJson, IsJsonLines, BeginsElement, IsRootElement, IsXmlSpace, there, IsProgram, IsOneOf, IsPackageWith, applications, accepts, fits, stands, StandsByPlace, IsBuffer, IsFirstOf, is_listed, NoneRefused, passed, HasTagText, IsFoundBelow, IsLeast, IsNamed, IsOfProgram, IsRootedBy, IsRooted, IsRowOf, IsTried, ascends, candidates, excepted, is_covered, is_excepted, is_plain, is_tried_parentless, is_true_below, named_row, names_like, rooted_row, tried_parentless, lines, Further, Accepted, Fits, IsProgramAmong, json_lines, json_text, package_with, plain_text, program, root, root_with, further, Widens, WidensAt, Nothing, Except, Named, Parentless, Rooted, FURTHER_COUNT}
+use Rattle.std.proofs.lemmas.Bool.{or_cases}
+use Rattle.infer_more.proofs.Common.{◌≡◌, ◌↔◌, ℕ, zero, suc, ◌+◌, ◌<◌, ◌≤◌, ◌==◌, inl, inr, Bool, true, false, IsTrue, List, [], ◌∷◌, Option, None, Some, length, get_or, ap, sym, ◌∙◌, subst, arith, refl, ◌%◌, ◌&&◌, ◌||◌, ◌++◌, slice_index, nat_le, list_all, list_any, option_map_or, cases_lt, eqb-true, leb-true, get_or_default, slice_get_cases, Bor, IsJson, IsJsonLines, BeginsElement, IsRootElement, IsXmlSpace, there, IsProgram, IsOneOf, IsPackageWith, applications, accepts, fits, stands, StandsByPlace, IsBuffer, IsFirstOf, is_listed, NoneRefused, passed, HasTagText, IsFoundBelow, IsLeast, IsNamed, IsOfProgram, IsRootedBy, IsRooted, IsRowOf, IsTried, ascends, candidates, excepted, is_covered, is_excepted, is_plain, is_tried_parentless, is_true_below, named_row, names_like, rooted_row, tried_parentless, lines, Further, Accepted, Fits, IsProgramAmong, json_lines, json_text, package_with, plain_text, program, root, root_with, further, Widens, WidensAt, Nothing, Except, Named, Parentless, Rooted, FURTHER_COUNT, and_from}
 use Rattle.std.specs.Prelude.{slice_get}
 use Rattle.infer_inside.specs.Laws.{Leads}
 use Rattle.infer_inside.specs.Markup.{HasInTag, MayBeRooted}
@@ -11,9 +12,8 @@ use Rattle.infer_more.specs.declared.index.Below.TheVariants.{Entries, Packages,
 use Rattle.infer_more.specs.declared.index.Entry.{Entry}
 use Rattle.infer_more.specs.declared.index.RowIndex.{RowIndex}
 use Rattle.infer_more.specs.declared.index.Texts.{Texts}
-use Rattle.infer_more.proofs.IndexLemmas.{both_left, both_right, covered_here, either, excepted_here, listed_left, listed_right, parentless_here}
+use Rattle.infer_more.proofs.IndexLemmas.{both_left, both_right, covered_here, excepted_here, listed_left, listed_right, parentless_here}
 use Rattle.infer_more.proofs.LeastLemmas.{least_both, least_late, least_none, least_same, none_found}
-use Rattle.infer_more.proofs.NamedLemmas.{both}
 use Rattle.infer_more.proofs.OutlineLemmas.{has_lines, small_bytes}
 use Rattle.infer_more.proofs.TableLemmas.{length-further}
 
@@ -30,7 +30,7 @@ same_true (x ∷ xs) (y ∷ ys) h =
 -- a name that is listed has its row
 listed_name : (P : List ℕ → Type 0) (i : ℕ) (names : List Named) (name : List ℕ) → IsTrue (has_named i names name) → P name → IsNamed P names i
 listed_name P i [] name h p = absurd (cc)
-listed_name P i (e ∷ names) name h p = elim (either (e.row == i && same e.name.now name) _ h) [
+listed_name P i (e ∷ names) name h p = elim (or_cases (e.row == i && same e.name.now name) _ h) [
   | inl here ↦ inl (eqb-true e.row i (both_left (e.row == i) _ here), subst P (sym (same_true e.name.now name (both_right (e.row == i) _ here))) p)
   | inr later ↦ inr (listed_name P i names name later p)
 ]
@@ -66,10 +66,10 @@ tag_text rest (Some t) (Some u) h p = subst (λ own. HasInTag own rest) (sym (sa
 listed_root : (rest : List ℕ) (i : ℕ) (roots : List Rooted) (name : List ℕ) (u : Option (List ℕ)) → IsTrue (has_rooted i roots name u)
     → OwnText rest u → IsRootedBy name rest roots i
 listed_root rest i [] name u h p = absurd (cc)
-listed_root rest i (e ∷ roots) name u h p = elim (either (e.row == i && (same e.name.now name && same_text e.text u)) _ h) [
+listed_root rest i (e ∷ roots) name u h p = elim (or_cases (e.row == i && (same e.name.now name && same_text e.text u)) _ h) [
   | inl here ↦
-      let both = both_right (e.row == i) (same e.name.now name && same_text e.text u) here in
-      inl (eqb-true e.row i (both_left (e.row == i) _ here), (same_true e.name.now name (both_left (same e.name.now name) _ both), tag_text rest e.text u (both_right (same e.name.now name) _ both) p))
+      let and_from = both_right (e.row == i) (same e.name.now name && same_text e.text u) here in
+      inl (eqb-true e.row i (both_left (e.row == i) _ here), (same_true e.name.now name (both_left (same e.name.now name) _ and_from), tag_text rest e.text u (both_right (same e.name.now name) _ and_from) p))
   | inr later ↦ inr (listed_root rest i roots name u later p)
 ]
 
@@ -78,7 +78,7 @@ module _ (by_place : (place : ℕ) (t buf : List ℕ) → IsTrue (stands place t
   line_tried : (entries : List Entry) (some : List fixed.Alternative) → IsTrue (list_all (λ l. is_covered i l entries) some) → IsTrue (accepts some b)
       → IsTrue (is_listed (candidates b entries) i)
   line_tried entries [] h k = absurd (cc)
-  line_tried entries (l ∷ some) h k = elim (either (fits b l) _ k) [
+  line_tried entries (l ∷ some) h k = elim (or_cases (fits b l) _ k) [
     | inl e ↦ covered_here by_place b i l entries (both_left (is_covered i l entries) _ h) e
     | inr e ↦ line_tried entries some (both_right (is_covered i l entries) _ h) e
   ]
@@ -86,7 +86,7 @@ module _ (by_place : (place : ℕ) (t buf : List ℕ) → IsTrue (stands place t
   line_tried_free : (index : Parentless) (some : List fixed.Alternative) → IsTrue (list_all (is_tried_parentless index i) some) → IsTrue (accepts some b)
       → IsTrue (is_listed (tried_parentless index b) i)
   line_tried_free index [] h k = absurd (cc)
-  line_tried_free index (l ∷ some) h k = elim (either (fits b l) _ k) [
+  line_tried_free index (l ∷ some) h k = elim (or_cases (fits b l) _ k) [
     | inl e ↦ parentless_here by_place index b i l (both_left (is_tried_parentless index i l) _ h) e
     | inr e ↦ line_tried_free index some (both_right (is_tried_parentless index i l) _ h) e
   ]
@@ -98,8 +98,8 @@ module _ (by_place : (place : ℕ) (t buf : List ℕ) → IsTrue (stands place t
       → IsTrue (list_all (λ l. is_covered i l entries || is_excepted i l excepts) some) → IsTrue (accepts some b)
       → IsTrue (is_listed (candidates b entries ++ excepted b excepts) i)
   line_excepted entries excepts [] h k = absurd (cc)
-  line_excepted entries excepts (l ∷ some) h k = elim (either (fits b l) _ k) [
-    | inl e ↦ elim (either (is_covered i l entries) _ (both_left (is_covered i l entries || is_excepted i l excepts) _ h)) [
+  line_excepted entries excepts (l ∷ some) h k = elim (or_cases (fits b l) _ k) [
+    | inl e ↦ elim (or_cases (is_covered i l entries) _ (both_left (is_covered i l entries || is_excepted i l excepts) _ h)) [
       | inl covered ↦ listed_left (candidates b entries) _ i (covered_here by_place b i l entries covered e)
       | inr but ↦ listed_right (candidates b entries) _ i (excepted_here b i l excepts but e)
     ]
@@ -135,7 +135,7 @@ module _ (by_place : (place : ℕ) (t buf : List ℕ) → IsTrue (stands place t
     found_by (Entries entries) a h k = (tried entries.now a h k, w)
     found_by (Programs lists) a h k = in_programs lists.now a h k
     found_by (Roots roots) a h k = in_roots roots.now a h k
-    found_by (Packages entries excepts folders) a h k = elim (either (is_in_folders i folders.now a) _ h) [
+    found_by (Packages entries excepts folders) a h k = elim (or_cases (is_in_folders i folders.now a) _ h) [
       | inl e ↦ inr (in_folders folders.now a e k)
       | inr e ↦ inl (tried_in entries.now excepts.now a e k, w)
     ]
@@ -149,9 +149,9 @@ module _ (by_place : (place : ℕ) (t buf : List ℕ) → IsTrue (stands place t
   found_free : (index : Parentless) → WidensAt None b i → (signature : List Alternative) → IsTrue (list_all (is_found_free index i) signature)
       → Accepted signature b → IsFoundFree index b i
   found_free index w [] h k = absurd (k)
-  found_free index w (a ∷ signature) h (inl k) = elim (either (is_text_row index.texts i a) _ (both_left (is_found_free index i a) _ h)) [
+  found_free index w (a ∷ signature) h (inl k) = elim (or_cases (is_text_row index.texts i a) _ (both_left (is_found_free index i a) _ h)) [
     | inl e ↦ inr (inr (in_texts index.texts a e k))
-    | inr e ↦ elim (either (is_in_roots i index.roots.now a) _ e) [
+    | inr e ↦ elim (or_cases (is_in_roots i index.roots.now a) _ e) [
       | inl r ↦ inr (inl (in_roots index.roots.now a r k))
       | inr t ↦ inl (line_tried_free index (lines a) t (has_lines by_place leads b a (λ plain. small) k), w)
     ]
@@ -162,7 +162,7 @@ module _ (by_place : (place : ℕ) (t buf : List ℕ) → IsTrue (stands place t
 any_of : (test : Alternative → Bool) (b : List ℕ) → ((a : Alternative) → IsTrue (test a) → Fits a b) → (signature : List Alternative) → IsTrue (list_any test signature)
     → Accepted signature b
 any_of test b sound [] h = absurd (cc)
-any_of test b sound (a ∷ signature) h = elim (either (test a) _ h) [
+any_of test b sound (a ∷ signature) h = elim (or_cases (test a) _ h) [
   | inl e ↦ inl (sound a e)
   | inr e ↦ inr (any_of test b sound signature e)
 ]
@@ -194,7 +194,7 @@ rows_widen row Q test parent b sound (x ∷ xs) i h (inr is) = rows_widen row Q 
 module _ (b : List ℕ) where
   program_among : (name : List ℕ) (names : List (List ℕ)) → IsTrue (list_any (same name) names) → IsProgram name b → IsProgramAmong names b
   program_among name [] h p = absurd (cc)
-  program_among name (other ∷ names) h p = elim (either (same name other) _ h) [
+  program_among name (other ∷ names) h p = elim (or_cases (same name other) _ h) [
     | inl e ↦ inl (subst (λ n. IsProgram n b) (same_true name other e) p)
     | inr e ↦ inr (program_among name names e p)
   ]
@@ -239,7 +239,7 @@ module _ (b : List ℕ) where
   folder_rows parent [] h = refl
   folder_rows parent (e ∷ folders) h =
       let told = both_left (is_application e.name.now && is_row_with (Some parent) (asks_folder e.name.now) e.row) _ h in
-      both _ _ (both_right (is_application e.name.now) _ told) (folder_rows parent folders (both_right (is_application e.name.now && is_row_with (Some parent) (asks_folder e.name.now) e.row) _ h))
+      and_from _ _ (both_right (is_application e.name.now) _ told) (folder_rows parent folders (both_right (is_application e.name.now && is_row_with (Some parent) (asks_folder e.name.now) e.row) _ h))
 
   widens_root : (parent : Option ℕ) (roots : List Rooted) (i : ℕ) → IsTrue (list_all (λ e. is_row_with parent (asks_root e.name.now e.text) e.row) roots)
       → IsRooted b roots i → WidensAt parent b i
@@ -282,7 +282,7 @@ true_below ways parent each = let e : 0 + parent ≡ parent = omega arith in sub
 -- each folder of a package is that of an application
 pub one_of : (t : List ℕ) (others : List (List ℕ)) → IsTrue (list_any (same t) others) → IsOneOf t others
 one_of t [] h = absurd (cc)
-one_of t (other ∷ others) h = elim (either (same t other) _ h) [
+one_of t (other ∷ others) h = elim (or_cases (same t other) _ h) [
   | inl e ↦ inl (same_true t other e)
   | inr e ↦ inr (one_of t others e)
 ]

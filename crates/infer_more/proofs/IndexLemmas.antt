@@ -1,5 +1,6 @@
 -- A row of which a buffer has the bytes is tried.
-use Rattle.infer_more.proofs.Common.{◌≡◌, ◌↔◌, ℕ, zero, suc, ◌+◌, ◌-◌, ◌<◌, ◌≤◌, ◌==◌, ◌⊎◌, inl, inr, Bool, true, false, IsTrue, List, [], ◌∷◌, ◌++◌, length, ap, sym, ◌∙◌, subst, arith, refl, nat_le, nat_lt, ◌&&◌, ◌||◌, if◌then◌else◌, slice_index, list_all, list_any, option_map_or, cases_lt, eq-eqb, eqb-true, leb-true, lt-ltb, get_or_from_slice_get, slice_get_cases, at_least, Bytes, any_of, between, all_but, Part, any_text, allows, fits, has_part, stands, StandsByPlace, is_listed, tried_parentless, candidate, candidates, excepted, guarded, has_byte, is_excepted, is_tried_parentless, is_covered, is_settled, ranged, unless, within, Except, Parentless}
+use Rattle.std.proofs.lemmas.Bool.{or_cases, or_left, or_right}
+use Rattle.infer_more.proofs.Common.{◌≡◌, ◌↔◌, ℕ, zero, suc, ◌+◌, ◌-◌, ◌<◌, ◌≤◌, ◌==◌, ◌⊎◌, inl, inr, Bool, true, false, IsTrue, List, [], ◌∷◌, ◌++◌, length, ap, sym, ◌∙◌, subst, arith, refl, nat_le, nat_lt, ◌&&◌, ◌||◌, if◌then◌else◌, slice_index, list_all, list_any, option_map_or, cases_lt, eq-eqb, eqb-true, leb-true, lt-ltb, get_or_from_slice_get, slice_get_cases, at_least, Bytes, any_of, between, all_but, Part, any_text, allows, fits, has_part, stands, StandsByPlace, is_listed, tried_parentless, candidate, candidates, excepted, guarded, has_byte, is_excepted, is_tried_parentless, is_covered, is_settled, ranged, unless, within, Except, Parentless, and_from, and_parts}
 use Rattle.std.specs.List.{range_with_len}
 use Rattle.std.proofs.lemmas.Bool.{ltb-true}
 use Rattle.infer_sig.specs.Signature.{Alternative, text, byte}
@@ -8,40 +9,25 @@ use Rattle.infer_more.specs.declared.index.Entry.{Entry}
 use Rattle.infer_more.specs.declared.index.Gate.{Gate}
 use Rattle.infer_more.specs.declared.index.Guard.{Guard}
 use Rattle.infer_more.specs.declared.index.Range.{Range}
-use Rattle.infer_more.proofs.NamedLemmas.{both}
 
--- both of two tests pass, or one of them
+-- both of two tests pass
 pub both_left : (a b : Bool) → IsTrue (a && b) → IsTrue a
-both_left true b h = refl
-both_left false b h = absurd (cc)
+both_left a b h = (and_parts a b h).0
 
 pub both_right : (a b : Bool) → IsTrue (a && b) → IsTrue b
-both_right true b h = h
-both_right false b h = absurd (cc)
-
-pub either : (a b : Bool) → IsTrue (a || b) → IsTrue a ⊎ IsTrue b
-either true b h = inl refl
-either false b h = inr h
-
-pub from_left : (a b : Bool) → IsTrue a → IsTrue (a || b)
-from_left true b h = refl
-from_left false b h = absurd (cc)
-
-pub from_right : (a b : Bool) → IsTrue b → IsTrue (a || b)
-from_right true b h = refl
-from_right false b h = h
+both_right a b h = (and_parts a b h).1
 
 -- a number among the first or the second of two lists is among both
 pub listed_left : (xs ys : List ℕ) (i : ℕ) → IsTrue (is_listed xs i) → IsTrue (is_listed (xs ++ ys) i)
 listed_left [] ys i h = absurd (cc)
-listed_left (x ∷ xs) ys i h = elim (either (x == i) (is_listed xs i) h) [
-  | inl e ↦ from_left (x == i) (is_listed (xs ++ ys) i) e
-  | inr e ↦ from_right (x == i) (is_listed (xs ++ ys) i) (listed_left xs ys i e)
+listed_left (x ∷ xs) ys i h = elim (or_cases (x == i) (is_listed xs i) h) [
+  | inl e ↦ or_left (x == i) (is_listed (xs ++ ys) i) e
+  | inr e ↦ or_right (x == i) (is_listed (xs ++ ys) i) (listed_left xs ys i e)
 ]
 
 pub listed_right : (xs ys : List ℕ) (i : ℕ) → IsTrue (is_listed ys i) → IsTrue (is_listed (xs ++ ys) i)
 listed_right [] ys i h = h
-listed_right (x ∷ xs) ys i h = from_right (x == i) (is_listed (xs ++ ys) i) (listed_right xs ys i h)
+listed_right (x ∷ xs) ys i h = or_right (x == i) (is_listed (xs ++ ys) i) (listed_right xs ys i h)
 
 -- a number of the range passes a test that all of it pass
 all_of_range : (test : ℕ → Bool) (low n z : ℕ) → IsTrue (list_all test (range_with_len low n)) → low ≤ z → z < low + n → IsTrue (test z)
@@ -53,7 +39,7 @@ all_of_range test low (suc n) z h le lt = elim (cases_lt low z) [
 
 all_of_listed : (test : ℕ → Bool) (z : ℕ) (xs : List ℕ) → IsTrue (list_all test xs) → IsTrue (list_any (λ y. z == y) xs) → IsTrue (test z)
 all_of_listed test z [] h k = absurd (cc)
-all_of_listed test z (x ∷ xs) h k = elim (either (z == x) _ k) [
+all_of_listed test z (x ∷ xs) h k = elim (or_cases (z == x) _ k) [
   | inl e ↦ let same : x ≡ z = sym (eqb-true z x e) in subst (λ y. IsTrue (test y)) same (both_left (test x) _ h)
   | inr e ↦ all_of_listed test z xs (both_right (test x) _ h) e
 ]
@@ -104,7 +90,7 @@ module _ (by_place : (place : ℕ) (t buf : List ℕ) → IsTrue (stands place t
 
   passes_parts : (parts : List Part) → IsTrue (list_any (is_settled test place) parts) → IsTrue (list_all (has_part b) parts) → Passes
   passes_parts [] h k = absurd (cc)
-  passes_parts (part ∷ parts) h k = elim (either (is_settled test place part) _ h) [
+  passes_parts (part ∷ parts) h k = elim (or_cases (is_settled test place part) _ h) [
     | inl e ↦ passes_part part e (both_left (has_part b part) _ k)
     | inr e ↦ passes_parts parts e (both_right (has_part b part) _ k)
   ]
@@ -122,13 +108,13 @@ candidate_here b i place x e lt at h =
     let same_byte : e.byte ≡ x = eqb-true e.byte x (both_right (e.place == place) _ rest) in
     let there : nat_lt e.place (length b) ≡ true = lt-ltb e.place (length b) (omega arith) in
     let here : slice_index b e.place ≡ e.byte = ap (slice_index b) same_place ∙ (at ∙ sym same_byte) in
-    let on : has_byte b e.place e.byte ≡ true = both (nat_lt e.place (length b)) _ there (eq-eqb (slice_index b e.place) e.byte here) in
-    subst (λ t. IsTrue (is_listed (if t then e.row ∷ [] else []) i)) (sym on) (from_left (e.row == i) false (eq-eqb e.row i same_row))
+    let on : has_byte b e.place e.byte ≡ true = and_from (nat_lt e.place (length b)) _ there (eq-eqb (slice_index b e.place) e.byte here) in
+    subst (λ t. IsTrue (is_listed (if t then e.row ∷ [] else []) i)) (sym on) (or_left (e.row == i) false (eq-eqb e.row i same_row))
 
 candidates_here : (b : List ℕ) (i place x : ℕ) (entries : List Entry) → place < length b → slice_index b place ≡ x → IsTrue (has_entry i entries place x)
     → IsTrue (is_listed (candidates b entries) i)
 candidates_here b i place x [] lt at h = absurd (cc)
-candidates_here b i place x (e ∷ entries) lt at h = elim (either (e.row == i && (e.place == place && e.byte == x)) _ h) [
+candidates_here b i place x (e ∷ entries) lt at h = elim (or_cases (e.row == i && (e.place == place && e.byte == x)) _ h) [
   | inl here ↦ listed_left (candidate b e) (candidates b entries) i (candidate_here b i place x e lt at here)
   | inr later ↦ listed_right (candidate b e) (candidates b entries) i (candidates_here b i place x entries lt at later)
 ]
@@ -137,7 +123,7 @@ module _ (by_place : (place : ℕ) (t buf : List ℕ) → IsTrue (stands place t
   covered_in : (a : Alternative) (all some : List Entry) → IsTrue (list_any (λ e. is_tested (has_entry i all e.place) e.place a) some) → IsTrue (fits b a)
       → IsTrue (is_listed (candidates b all) i)
   covered_in a all [] h k = absurd (cc)
-  covered_in a all (e ∷ some) h k = elim (either (is_tested (has_entry i all e.place) e.place a) _ h) [
+  covered_in a all (e ∷ some) h k = elim (or_cases (is_tested (has_entry i all e.place) e.place a) _ h) [
     | inl here ↦ let at = passes by_place (has_entry i all e.place) e.place b a here k in candidates_here b i e.place (slice_index b e.place) all at.0 refl at.1
     | inr later ↦ covered_in a all some later k
   ]
@@ -148,7 +134,7 @@ module _ (by_place : (place : ℕ) (t buf : List ℕ) → IsTrue (stands place t
   -- the entries have the row where the byte stands
   met_here : (a : Alternative) (entries : List Entry) (place x : ℕ) → IsTrue (fits b a) → place < length b → slice_index b place ≡ x
       → IsTrue (is_met i a entries place x) → IsTrue (is_listed (candidates b entries) i)
-  met_here a entries place x k lt at h = elim (either (has_entry i entries place x) _ h) [
+  met_here a entries place x k lt at h = elim (or_cases (has_entry i entries place x) _ h) [
     | inl e ↦ candidates_here b i place x entries lt at e
     | inr e ↦ covered_here a entries e k
   ]
@@ -157,14 +143,14 @@ module _ (by_place : (place : ℕ) (t buf : List ℕ) → IsTrue (stands place t
   guard_here : (a : Alternative) (guards : List Guard) (place x : ℕ) → IsTrue (fits b a) → place < length b → slice_index b place ≡ x
       → IsTrue (has_guard i a guards place x) → IsTrue (is_listed (guarded b guards) i)
   guard_here a [] place x k lt at h = absurd (cc)
-  guard_here a (g ∷ guards) place x k lt at h = elim (either (g.place == place && (g.byte == x && is_met i a g.entries.now place x)) _ h) [
+  guard_here a (g ∷ guards) place x k lt at h = elim (or_cases (g.place == place && (g.byte == x && is_met i a g.entries.now place x)) _ h) [
     | inl e ↦
         let rest = both_right (g.place == place) (g.byte == x && is_met i a g.entries.now place x) e in
         let same_place : g.place ≡ place = eqb-true g.place place (both_left (g.place == place) _ e) in
         let same_byte : g.byte ≡ x = eqb-true g.byte x (both_left (g.byte == x) _ rest) in
         let there : nat_lt g.place (length b) ≡ true = lt-ltb g.place (length b) (omega arith) in
         let here : slice_index b g.place ≡ g.byte = ap (slice_index b) same_place ∙ (at ∙ sym same_byte) in
-        let on : has_byte b g.place g.byte ≡ true = both (nat_lt g.place (length b)) _ there (eq-eqb (slice_index b g.place) g.byte here) in
+        let on : has_byte b g.place g.byte ≡ true = and_from (nat_lt g.place (length b)) _ there (eq-eqb (slice_index b g.place) g.byte here) in
         listed_left (behind b g) (guarded b guards) i (subst (λ t. IsTrue (is_listed (if t then candidates b g.entries.now else []) i)) (sym on) (met_here a g.entries.now place x k lt at (both_right (g.byte == x) _ rest)))
     | inr e ↦ listed_right (behind b g) (guarded b guards) i (guard_here a guards place x k lt at e)
   ]
@@ -172,7 +158,7 @@ module _ (by_place : (place : ℕ) (t buf : List ℕ) → IsTrue (stands place t
   guarded_in : (a : Alternative) (all some : List Guard) → IsTrue (list_any (λ g. is_tested (has_guard i a all g.place) g.place a) some) → IsTrue (fits b a)
       → IsTrue (is_listed (guarded b all) i)
   guarded_in a all [] h k = absurd (cc)
-  guarded_in a all (g ∷ some) h k = elim (either (is_tested (has_guard i a all g.place) g.place a) _ h) [
+  guarded_in a all (g ∷ some) h k = elim (or_cases (is_tested (has_guard i a all g.place) g.place a) _ h) [
     | inl here ↦ let at = passes by_place (has_guard i a all g.place) g.place b a here k in guard_here a all g.place (slice_index b g.place) k at.0 refl at.1
     | inr later ↦ guarded_in a all some later k
   ]
@@ -183,18 +169,18 @@ module _ (by_place : (place : ℕ) (t buf : List ℕ) → IsTrue (stands place t
   gated_here : (a : Alternative) (g : Gate) → IsTrue (is_gated i a g) → IsTrue (fits b a) → IsTrue (is_listed (gated b g) i)
   gated_here a g h k =
       let here = passes by_place (λ x. x == g.byte) g.place b a (both_left (is_tested (λ x. x == g.byte) g.place a) _ h) k in
-      let on : has_byte b g.place g.byte ≡ true = both (nat_lt g.place (length b)) _ (lt-ltb g.place (length b) here.0) here.1 in
+      let on : has_byte b g.place g.byte ≡ true = and_from (nat_lt g.place (length b)) _ (lt-ltb g.place (length b) here.0) here.1 in
       subst (λ t. IsTrue (is_listed (if t then guarded b g.guards.now else []) i)) (sym on) (guarded_here a g.guards.now (both_right (is_tested (λ x. x == g.byte) g.place a) _ h) k)
 
   range_here : (a : Alternative) (r : Range) → IsTrue (is_within i a r) → IsTrue (fits b a) → IsTrue (is_listed (within b r) i)
   range_here a r h k =
       let here = passes by_place (allows (between r.low r.high)) r.place b a (both_right (r.row == i) _ h) k in
-      let on : has_between b r.place r.low r.high ≡ true = both (nat_lt r.place (length b)) _ (lt-ltb r.place (length b) here.0) here.1 in
-      subst (λ t. IsTrue (is_listed (if t then r.row ∷ [] else []) i)) (sym on) (from_left (r.row == i) false (both_left (r.row == i) _ h))
+      let on : has_between b r.place r.low r.high ≡ true = and_from (nat_lt r.place (length b)) _ (lt-ltb r.place (length b) here.0) here.1 in
+      subst (λ t. IsTrue (is_listed (if t then r.row ∷ [] else []) i)) (sym on) (or_left (r.row == i) false (both_left (r.row == i) _ h))
 
   ranged_here : (a : Alternative) (ranges : List Range) → IsTrue (is_ranged i a ranges) → IsTrue (fits b a) → IsTrue (is_listed (ranged b ranges) i)
   ranged_here a [] h k = absurd (cc)
-  ranged_here a (r ∷ ranges) h k = elim (either (is_within i a r) _ h) [
+  ranged_here a (r ∷ ranges) h k = elim (or_cases (is_within i a r) _ h) [
     | inl e ↦ listed_left (within b r) (ranged b ranges) i (range_here a r e k)
     | inr e ↦ listed_right (within b r) (ranged b ranges) i (ranged_here a ranges e k)
   ]
@@ -213,7 +199,7 @@ other_part b place x (byte p (all_but y)) h k =
 other_parts : (b : List ℕ) (place x : ℕ) (parts : List Part) → IsTrue (list_any (is_other place x) parts) → IsTrue (list_all (has_part b) parts)
     → IsTrue (has_other b place x)
 other_parts b place x [] h k = absurd (cc)
-other_parts b place x (part ∷ parts) h k = elim (either (is_other place x part) _ h) [
+other_parts b place x (part ∷ parts) h k = elim (or_cases (is_other place x part) _ h) [
   | inl e ↦ other_part b place x part e (both_left (has_part b part) _ k)
   | inr e ↦ other_parts b place x parts e (both_right (has_part b part) _ k)
 ]
@@ -221,12 +207,12 @@ other_parts b place x (part ∷ parts) h k = elim (either (is_other place x part
 unless_here : (b : List ℕ) (i : ℕ) (a : Alternative) (e : Except) → IsTrue (is_but i a e) → IsTrue (fits b a) → IsTrue (is_listed (unless b e) i)
 unless_here b i (at_least n parts) e h k =
     let on : has_other b e.place e.byte ≡ true = other_parts b e.place e.byte parts (both_right (e.row == i) _ h) (both_right (nat_le n (length b)) _ k) in
-    subst (λ t. IsTrue (is_listed (if t then e.row ∷ [] else []) i)) (sym on) (from_left (e.row == i) false (both_left (e.row == i) _ h))
+    subst (λ t. IsTrue (is_listed (if t then e.row ∷ [] else []) i)) (sym on) (or_left (e.row == i) false (both_left (e.row == i) _ h))
 
 pub excepted_here : (b : List ℕ) (i : ℕ) (a : Alternative) (excepts : List Except) → IsTrue (is_excepted i a excepts) → IsTrue (fits b a)
     → IsTrue (is_listed (excepted b excepts) i)
 excepted_here b i a [] h k = absurd (cc)
-excepted_here b i a (e ∷ excepts) h k = elim (either (is_but i a e) _ h) [
+excepted_here b i a (e ∷ excepts) h k = elim (or_cases (is_but i a e) _ h) [
   | inl here ↦ listed_left (unless b e) (excepted b excepts) i (unless_here b i a e here k)
   | inr later ↦ listed_right (unless b e) (excepted b excepts) i (excepted_here b i a excepts later k)
 ]
@@ -245,11 +231,11 @@ module _ (by_place : (place : ℕ) (t buf : List ℕ) → IsTrue (stands place t
       (met_here by_place b i a entries 0 (slice_index b 0) k here.0 refl here.1)
 
   pub parentless_here : (a : Alternative) → IsTrue (is_tried_parentless index i a) → IsTrue (fits b a) → IsTrue (is_listed (tried_parentless index b) i)
-  parentless_here a h k = elim (either (is_tested (λ x. is_met i a (entries_at index.first.now x) 0 x) 0 a) _ h) [
+  parentless_here a h k = elim (or_cases (is_tested (λ x. is_met i a (entries_at index.first.now x) 0 x) 0 a) _ h) [
     | inl e ↦ listed_left (candidates b (begun index b)) _ i (begun_here a e k)
-    | inr e ↦ listed_right (candidates b (begun index b)) _ i (elim (either (is_guarded i a index.guards.now) _ e) [
+    | inr e ↦ listed_right (candidates b (begun index b)) _ i (elim (or_cases (is_guarded i a index.guards.now) _ e) [
       | inl beside ↦ listed_left (guarded b index.guards.now) _ i (guarded_here by_place b i a index.guards.now beside k)
-      | inr other ↦ listed_right (guarded b index.guards.now) _ i (elim (either (is_gated i a index.gate) _ other) [
+      | inr other ↦ listed_right (guarded b index.guards.now) _ i (elim (or_cases (is_gated i a index.gate) _ other) [
         | inl inside ↦ listed_left (gated b index.gate) _ i (gated_here by_place b i a index.gate inside k)
         | inr wide ↦ listed_right (gated b index.gate) _ i (ranged_here by_place b i a index.ranges.now wide k)
       ])

@@ -1,4 +1,5 @@
 -- Laws of further rows.
+use Rattle.std.proofs.lemmas.Bool.{or_cases, or_left}
 use Rattle.infer_more.proofs.Common.{◌↔◌, ℕ, ◌<◌, ◌≤◌, inl, inr, Bool, true, false, IsTrue, List, [], ◌∷◌, ◌++◌, Option, None, Some, length, get_or, arith, nat_le, refl, subst, sym, ◌≡◌, zero, suc, codes, ◌⊎◌, not, slice_index, HoldsAt, list_all, list_any, cases_lt, leb-true, nat_tests, get_or_from_slice_get, slice_get_cases, OccursAt, OccursAt-append, HasBracket, HasRoot, there, Lasts, StandsByPlace, at_least, Part, any_text, accepts, fits, has_part, stands, IsFirstOf, is_white, is_settled, AllLast, IsLost, is_dark, is_filled, is_lasting, is_plain, lines, outline, Further, Accepted, Fits, IsProgramAmong, animated, binary_bytes, bytes, class_id, dbase, directory_tag, first_entry_ends_in, first_entry_has_extra, first_entry_is, package_with, plain_text, png_header, shared_object, subrip, tar_checksum, program, root, root_with, json_lines, json_text, further, Widens}
 use Rattle.std.proofs.Common.{All, slice_get}
 use Rattle.std.proofs.lemmas.List.Elements.{AllWithin-from_all}
@@ -9,7 +10,7 @@ use Rattle.infer_sig.specs.Signature.{text, byte}
 use Rattle.infer.specs.Laws.{IsNotLater}
 use Rattle.infer_more.specs.Laws.{IsSteady, MayBeLost, NoneIsBlank, is_dark_alternative, is_dark_part, is_dark_relation, is_some_alternative, lasts}
 use Rattle.infer_notation.specs.Alternative.{Alternative}
-use Rattle.infer_more.proofs.IndexLemmas.{both_left, both_right, either, from_left, passes_part}
+use Rattle.infer_more.proofs.IndexLemmas.{both_left, both_right, passes_part}
 use Rattle.infer_more.proofs.OutlineLemmas.{has_lines, has_outline, past}
 use Rattle.infer_more.proofs.RefusalLemmas.{clash}
 
@@ -17,7 +18,7 @@ use Rattle.infer_more.proofs.RefusalLemmas.{clash}
 
 module _ (deep : Deep.Growth) (inside : Inside.Growth) (fixed_lasts : (signature : List fixed.Alternative) → Lasts (λ b. IsTrue (accepts signature b))) (b more : List ℕ) where
   bytes_last : (a : fixed.Alternative) → IsTrue (fits b a) → IsTrue (fits (b ++ more) a)
-  bytes_last a h = elim (either (fits (b ++ more) a) false (fixed_lasts (a ∷ []) b more (from_left (fits b a) false h))) [ inl e ↦ e | inr e ↦ absurd (cc) ]
+  bytes_last a h = elim (or_cases (fits (b ++ more) a) false (fixed_lasts (a ∷ []) b more (or_left (fits b a) false h))) [ inl e ↦ e | inr e ↦ absurd (cc) ]
 
   program_lasts : (names : List (List ℕ)) → IsProgramAmong names b → IsProgramAmong names (b ++ more)
   program_lasts [] h = h
@@ -132,21 +133,21 @@ module _ (by_place : (place : ℕ) (t buf : List ℕ) → IsTrue (stands place t
 
   refused_parts : (parts : List Part) → IsTrue (list_any is_dark_part parts) → IsTrue (list_all (has_part b) parts) → ⊥
   refused_parts [] h k = cc
-  refused_parts (part ∷ parts) h k = elim (either (is_dark_part part) _ h) [
+  refused_parts (part ∷ parts) h k = elim (or_cases (is_dark_part part) _ h) [
     | inl e ↦ refused_part part e (both_left (has_part b part) _ k)
     | inr e ↦ refused_parts parts e (both_right (has_part b part) _ k)
   ]
 
   refused : (signature : List fixed.Alternative) → IsTrue (list_all is_dark_alternative signature) → IsTrue (accepts signature b) → ⊥
   refused [] h k = cc
-  refused (at_least n parts ∷ signature) h k = elim (either (fits b (at_least n parts)) _ k) [
+  refused (at_least n parts ∷ signature) h k = elim (or_cases (fits b (at_least n parts)) _ k) [
     | inl e ↦ refused_parts parts (both_left (list_any is_dark_part parts) _ h) (both_right (nat_le n (length b)) _ e)
     | inr e ↦ refused signature (both_right (list_any is_dark_part parts) _ h) e
   ]
 
 unfilled : (signature : List fixed.Alternative) → IsTrue (list_all is_some_alternative signature) → IsTrue (accepts signature []) → ⊥
 unfilled [] h k = cc
-unfilled (at_least n parts ∷ signature) h k = elim (either (fits [] (at_least n parts)) _ k) [
+unfilled (at_least n parts ∷ signature) h k = elim (or_cases (fits [] (at_least n parts)) _ k) [
   | inl e ↦
       let some = leb-true 1 n (both_left (nat_le 1 n) _ h) in
       let short = leb-true n 0 (both_left (nat_le n 0) _ e) in
@@ -209,7 +210,7 @@ module _ (by_place : (place : ℕ) (t buf : List ℕ) → IsTrue (stands place t
   none_is_blank dark filled = record {
     white = λ b white k d le lt (h, other).
         let r = get_or further k d in
-        elim (either (list_any is_plain r.signature) _ (passes_at is_dark further k d dark lt)) [
+        elim (or_cases (list_any is_plain r.signature) _ (passes_at is_dark further k d dark lt)) [
           | inl plain ↦ clash _ plain other
           | inr relations ↦ refused_signature b white r.signature relations h
         ];

@@ -1,10 +1,11 @@
 -- The least of the rows that are found.
+use Rattle.std.proofs.lemmas.Bool.{or_cases, or_left, or_right}
 use Rattle.infer_more.proofs.Common.{◌≡◌, ℕ, zero, suc, ◌+◌, ◌<◌, ◌≤◌, Bool, true, false, IsTrue, List, [], ◌∷◌, ◌++◌, Option, None, Some, length, take, get_or, ◌⊎◌, inl, inr, ap, sym, ◌∙◌, subst, arith, refl, append_assoc, ◌==◌, if◌then◌else◌, min, cases_lt, eqb-true, leb-true, get_or_default, list_all, nat_le, IsFirstOf, is_listed, IsLeast, IsRowOf, IsTried, ascends, candidate, candidates, has_byte, Further, further, Widens, WidensAt, FURTHER_COUNT}
 use Rattle.std.proofs.Math.Nat.{min-le_left, min-le_right}
 use Rattle.std.proofs.lemmas.List.{append-nil, take_all}
 use Rattle.infer_more.specs.Index.{all_of}
 use Rattle.infer_more.specs.declared.index.Entry.{Entry}
-use Rattle.infer_more.proofs.IndexLemmas.{both_left, both_right, either, from_left, from_right, listed_left, listed_right}
+use Rattle.infer_more.proofs.IndexLemmas.{both_left, both_right, listed_left, listed_right}
 use Rattle.infer_more.proofs.TableLemmas.{length-further}
 
 -- of no number, of one, and of the numbers of two
@@ -35,10 +36,10 @@ least_same P Q o p to from h = record { below = h.below; is = λ lt. to p (h.is 
 -- of the numbers of two lists, one after the other
 in_either : (xs ys : List ℕ) (i : ℕ) → IsTrue (is_listed (xs ++ ys) i) → IsTrue (is_listed xs i) ⊎ IsTrue (is_listed ys i)
 in_either [] ys i h = inr h
-in_either (x ∷ xs) ys i h = elim (either (x == i) (is_listed (xs ++ ys) i) h) [
-  | inl e ↦ inl (from_left (x == i) (is_listed xs i) e)
+in_either (x ∷ xs) ys i h = elim (or_cases (x == i) (is_listed (xs ++ ys) i) h) [
+  | inl e ↦ inl (or_left (x == i) (is_listed xs i) e)
   | inr e ↦ elim (in_either xs ys i e) [
-    | inl l ↦ inl (from_right (x == i) (is_listed xs i) l)
+    | inl l ↦ inl (or_right (x == i) (is_listed xs i) l)
     | inr l ↦ inr l
   ]
 ]
@@ -59,7 +60,7 @@ module _ (parent : Option ℕ) (b : List ℕ) where
 
   -- of one row, if it is tried
   only_row : (on : Bool) (row i : ℕ) → IsTried parent b (if on then row ∷ [] else []) i → IsTrue on × (row ≡ i)
-  only_row true row i (listed, w) = elim (either (row == i) (is_listed [] i) listed) [
+  only_row true row i (listed, w) = elim (or_cases (row == i) (is_listed [] i) listed) [
     | inl e ↦ (refl, eqb-true row i e)
     | inr e ↦ absurd (cc)
   ]

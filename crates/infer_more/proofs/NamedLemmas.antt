@@ -1,10 +1,6 @@
 -- Tests of all rows, whose refusal shows the numbers of the rows that fail.
-use Rattle.infer_more.proofs.Common.{◌≡◌, ℕ, zero, suc, Bool, true, false, IsTrue, List, [], ◌∷◌, Some, subst, refl, and_parts, ◌&&◌, if◌then◌else◌, list_all, Further}
+use Rattle.infer_more.proofs.Common.{◌≡◌, ℕ, zero, suc, Bool, true, false, IsTrue, List, [], ◌∷◌, Some, subst, refl, and_parts, ◌&&◌, if◌then◌else◌, list_all, Further, and_from}
 use Rattle.std.proofs.Common.{slice_get}
-
-pub both : (a b : Bool) → IsTrue a → IsTrue b → IsTrue (a && b)
-both true b h k = k
-both false b h k = absurd (cc)
 
 pub none_failed : (t : Bool) (i : ℕ) (rest : List ℕ) → (if t then rest else i ∷ rest) ≡ [] → IsTrue t × (rest ≡ [])
 none_failed true i rest e = (refl, e)
@@ -18,7 +14,7 @@ failing test i (r ∷ rows) = if test r then failing test (suc i) rows else i �
 pub all_pass : (test : Further → Bool) (i : ℕ) (rows : List Further) → failing test i rows ≡ [] → IsTrue (list_all test rows)
 all_pass test i [] e = refl
 all_pass test i (r ∷ rows) e =
-    let here = none_failed (test r) i (failing test (suc i) rows) e in both (test r) _ here.0 (all_pass test (suc i) rows here.1)
+    let here = none_failed (test r) i (failing test (suc i) rows) e in and_from (test r) _ here.0 (all_pass test (suc i) rows here.1)
 
 -- a test that all rows pass is passed by the row that is read
 pub row_passes : (test : Further → Bool) (rows : List Further) (i : ℕ) (r : Further) → IsTrue (list_all test rows) → Some r ≡ slice_get rows i → IsTrue (test r)

@@ -1,4 +1,5 @@
 -- What bytes after a buffer can bring an alternative and a signature, and what they can take from them.
+use Rattle.std.proofs.lemmas.Bool.{or_cases}
 use Rattle.infer_more.proofs.Common.{◌≡◌, ◌↔◌, ◌⊎◌, ◌+◌, ◌-◌, ◌<◌, ◌≤◌, inl, inr, ℕ, zero, suc, Bool, true, false, IsTrue, List, [], ◌∷◌, ◌++◌, append_assoc, get_or, length, map, nat_le, take, refl, sym, subst, ap, ◌∙◌, arith, ◌||◌, ◌==◌, if◌then◌else◌, slice_index, and_from, and_parts, eqb-true, le-leb, leb-true, get_or-take, length-take, All-nil, Bor, OccursAt, MayBecome, Stays, here, IsProgram, IsBinary, Lasts, may_have, accepts, Bytes, Part, allows, between, fits, AllLast, is_lasting, alternative_listed, signature_listed, Accepted, Fits, IsProgramAmong, png_header}
 use Rattle.std.proofs.Common.{length-append, take_all}
 use Rattle.std.proofs.lemmas.Bool.{or_left}
@@ -12,10 +13,6 @@ use Rattle.infer_sig.specs.Signature.{text, byte}
 use Rattle.infer_sig.proofs.PlaceLemmas.{stands_by_place}
 use Rattle.infer_more.specs.declared.signature.Alternative.{Alternative}
 use Rattle.infer_more.specs.declared.signature.Alternative.TheVariants.{JsonLines, JsonText, PlainText}
-
-either_true : (p q : Bool) → IsTrue (p || q) → IsTrue p ⊎ IsTrue q
-either_true true q h = inl refl
-either_true false q h = inr h
 
 same_tests : (r s : Bool) → (IsTrue r → IsTrue s) → (IsTrue s → IsTrue r) → r ≡ s
 same_tests true s f g = sym (f refl)
@@ -103,7 +100,7 @@ module _ (opens : (signature : List fixed.Alternative) → IsTrue (is_sound sign
       )
     where
       longer : (c : List ℕ) → IsTrue (fits c a) → IsTrue (fits (c ++ 0 ∷ []) a)
-      longer c h = elim (either_true (fits (c ++ 0 ∷ []) a) false (lasts c (0 ∷ []) (or_left (fits c a) false h))) [ inl f ↦ f | inr f ↦ absurd (cc) ]
+      longer c h = elim (or_cases (fits (c ++ 0 ∷ []) a) false (lasts c (0 ∷ []) (or_left (fits c a) false h))) [ inl f ↦ f | inr f ↦ absurd (cc) ]
 
       last : (c : List ℕ) → slice_index (c ++ 0 ∷ []) (length c) ≡ zero
       last [] = refl
@@ -150,7 +147,7 @@ module _ (place : ℕ) (b : List ℕ) where
       or_right_of false h = h
 
       back : IsTrue (nat_le (length b) place || q) → IsTrue q
-      back h = elim (either_true (nat_le (length b) place) q h) [
+      back h = elim (or_cases (nat_le (length b) place) q h) [
         | inl e ↦ let le = leb-true (length b) place e in absurd (omega arith)
         | inr f ↦ f
       ]

@@ -1,5 +1,6 @@
 -- What fits an alternative has one of its lines.
-use Rattle.infer_more.proofs.Common.{◌≡◌, ◌↔◌, ℕ, zero, suc, ◌+◌, ◌<◌, ◌≤◌, inl, inr, Bool, true, false, IsTrue, List, [], ◌∷◌, ◌++◌, length, sym, ◌∙◌, subst, arith, refl, nat_le, nat_lt, codes, ◌-◌, slice_index, cases_lt, le-leb, lt-ltb, nat_tests, length-replicate, OccursAt, zip_header, le16, be16, IsDigit, IsSubRip, IsOctal, IsText, HasFirstName, there, at_least, Part, all_but, any_of, between, accepts, allows, fits, has_part, stands, StandsByPlace, IsBuffer, lines, outline, Accepted, Fits, IsProgramAmong, animated, binary_bytes, bytes, class_id, dbase, directory_tag, first_entry_ends_in, first_entry_has_extra, first_entry_is, package_with, plain_text, png_header, shared_object, subrip, tar_checksum, program, root, root_with, json_lines, json_text, is_plain}
+use Rattle.std.proofs.lemmas.Bool.{or_cases, or_left, or_right}
+use Rattle.infer_more.proofs.Common.{◌≡◌, ◌↔◌, ℕ, zero, suc, ◌+◌, ◌<◌, ◌≤◌, inl, inr, Bool, true, false, IsTrue, List, [], ◌∷◌, ◌++◌, length, sym, ◌∙◌, subst, arith, refl, nat_le, nat_lt, codes, ◌-◌, slice_index, cases_lt, le-leb, lt-ltb, nat_tests, length-replicate, OccursAt, zip_header, le16, be16, IsDigit, IsSubRip, IsOctal, IsText, HasFirstName, there, at_least, Part, all_but, any_of, between, accepts, allows, fits, has_part, stands, StandsByPlace, IsBuffer, lines, outline, Accepted, Fits, IsProgramAmong, animated, binary_bytes, bytes, class_id, dbase, directory_tag, first_entry_ends_in, first_entry_has_extra, first_entry_is, package_with, plain_text, png_header, shared_object, subrip, tar_checksum, program, root, root_with, json_lines, json_text, is_plain, and_from}
 use Rattle.std.specs.Prelude.{replicate}
 use Rattle.std.proofs.lemmas.List.{get_or-replicate}
 use Rattle.std.proofs.lemmas.Grind.{get_or_default_zero}
@@ -13,8 +14,6 @@ use Rattle.infer_more.specs.Outline.{counted, counted_for, digit_behind, digits_
 use Rattle.infer_notation.specs.Alternative.{Alternative}
 use Rattle.infer_inside.specs.JsonStates.{IsBracket}
 use Rattle.infer_inside.specs.Laws.{BeginsJson, BeginsMarkup, Leads}
-use Rattle.infer_more.proofs.NamedLemmas.{both}
-use Rattle.infer_more.proofs.IndexLemmas.{either, from_left, from_right}
 
 module _ (by_place : (place : ℕ) (t buf : List ℕ) → IsTrue (stands place t buf) ↔ StandsByPlace place t buf) (leads : Leads) (b : List ℕ) where
   occurs : (p : ℕ) (t : List ℕ) → OccursAt b t p → IsTrue (has_part b (text p t))
@@ -30,22 +29,22 @@ module _ (by_place : (place : ℕ) (t buf : List ℕ) → IsTrue (stands place t
 
   in_range : (p low high : ℕ) → p < length b → low ≤ slice_index b p → slice_index b p ≤ high → IsTrue (has_part b (byte p (between low high)))
   in_range p low high lt from to =
-      both (nat_lt p (length b)) _ (lt-ltb p (length b) lt) (both (nat_le low (slice_index b p)) _ (le-leb low (slice_index b p) from) (le-leb (slice_index b p) high to))
+      and_from (nat_lt p (length b)) _ (lt-ltb p (length b) lt) (and_from (nat_le low (slice_index b p)) _ (le-leb low (slice_index b p) from) (le-leb (slice_index b p) high to))
 
   -- one part, in the first of the alternatives
   one : (n : ℕ) (part : Part) (others : List fixed.Alternative) → n ≤ length b → IsTrue (has_part b part) → IsTrue (accepts (at_least n (part ∷ []) ∷ others) b)
   one n part others le h =
-      from_left (fits b (at_least n (part ∷ []))) (accepts others b) (both (nat_le n (length b)) _ (le-leb n (length b) le) (both (has_part b part) true h refl))
+      or_left (fits b (at_least n (part ∷ []))) (accepts others b) (and_from (nat_le n (length b)) _ (le-leb n (length b) le) (and_from (has_part b part) true h refl))
 
   -- and two
   two : (n : ℕ) (part next : Part) (others : List fixed.Alternative) → n ≤ length b → IsTrue (has_part b part) → IsTrue (has_part b next)
       → IsTrue (accepts (at_least n (part ∷ next ∷ []) ∷ others) b)
   two n part next others le h k =
-      from_left (fits b (at_least n (part ∷ next ∷ []))) (accepts others b)
-      (both (nat_le n (length b)) _ (le-leb n (length b) le) (both (has_part b part) _ h (both (has_part b next) true k refl)))
+      or_left (fits b (at_least n (part ∷ next ∷ []))) (accepts others b)
+      (and_from (nat_le n (length b)) _ (le-leb n (length b) le) (and_from (has_part b part) _ h (and_from (has_part b next) true k refl)))
 
   other : (a : fixed.Alternative) (others : List fixed.Alternative) → IsTrue (accepts others b) → IsTrue (accepts (a ∷ others) b)
-  other a others h = from_right (fits b a) (accepts others b) h
+  other a others h = or_right (fits b a) (accepts others b) h
 
   begins : (n : ℕ) (t : List ℕ) → n ≤ length b → OccursAt b t 0 → IsTrue (accepts (at_least n (text 0 t ∷ []) ∷ []) b)
   begins n t le o = one n (text 0 t) [] le (occurs 0 t o)
@@ -80,7 +79,7 @@ module _ (by_place : (place : ℕ) (t buf : List ℕ) → IsTrue (stands place t
   counted_line : (p : ℕ) (others : List fixed.Alternative) → HasFirstName b → p < 30 → 1 ≤ slice_index b p → IsTrue (accepts (counted_at p ∷ others) b)
   counted_line p others h low some =
       let lt : p < length b = let long = h.long in omega arith in
-      two 30 (text 0 zip_header) (byte p (all_but 0x00)) others h.long (occurs 0 zip_header h.header) (both (nat_lt p (length b)) _ (lt-ltb p (length b) lt) (grind (arith, nat_tests)))
+      two 30 (text 0 zip_header) (byte p (all_but 0x00)) others h.long (occurs 0 zip_header h.header) (and_from (nat_lt p (length b)) _ (lt-ltb p (length b) lt) (grind (arith, nat_tests)))
 
   counted_lines : (place : ℕ) → HasFirstName b → place + 1 < 30 → 1 ≤ le16 b place → IsTrue (accepts (counted place) b)
   unfolding le16
@@ -114,10 +113,10 @@ module _ (by_place : (place : ℕ) (t buf : List ℕ) → IsTrue (stands place t
 
   digit_lines : (n m k : ℕ) → k < m → IsTrue (fits b (digit_behind (n + k))) → IsTrue (accepts (digits_behind n m) b)
   digit_lines n zero k lt h = absurd (omega arith)
-  digit_lines n (suc m) zero lt h = let e : n + 0 ≡ n = omega arith in from_left (fits b (digit_behind n)) _ (subst (λ x. IsTrue (fits b (digit_behind x))) e h)
+  digit_lines n (suc m) zero lt h = let e : n + 0 ≡ n = omega arith in or_left (fits b (digit_behind n)) _ (subst (λ x. IsTrue (fits b (digit_behind x))) e h)
   digit_lines n (suc m) (suc k) lt h =
       let e : n + suc k ≡ suc n + k = omega arith in
-      from_right (fits b (digit_behind n)) _ (digit_lines (suc n) m k (omega arith) (subst (λ x. IsTrue (fits b (digit_behind x))) e h))
+      or_right (fits b (digit_behind n)) _ (digit_lines (suc n) m k (omega arith) (subst (λ x. IsTrue (fits b (digit_behind x))) e h))
 
   field_lines : (p d : ℕ) → 512 ≤ length b → IsField b p d → IsTrue (accepts (lines tar_checksum) b)
   field_lines p d long f =
@@ -125,9 +124,9 @@ module _ (by_place : (place : ℕ) (t buf : List ℕ) → IsTrue (stands place t
       let place : 148 + (p - 148) ≡ p = omega arith in
       let digit = subst (λ k. IsOctal (slice_index b k)) (let e : p + 0 ≡ 148 + (p - 148) = omega arith in e) (f.digits 0 (omega arith)) in
       let behind : IsTrue (fits b (digit_behind (p - 148))) =
-      both (nat_le 512 (length b)) _ (le-leb 512 (length b) long)
-      (both _ _ (occurs 148 _ (spaces_at (p - 148) (omega arith) (λ k from to. f.spaces k from (omega arith))))
-      (both _ true (in_range (148 + (p - 148)) 0x30 0x37 (omega arith) digit.0 digit.1) refl)) in
+      and_from (nat_le 512 (length b)) _ (le-leb 512 (length b) long)
+      (and_from _ _ (occurs 148 _ (spaces_at (p - 148) (omega arith) (λ k from to. f.spaces k from (omega arith))))
+      (and_from _ true (in_range (148 + (p - 148)) 0x30 0x37 (omega arith) digit.0 digit.1) refl)) in
       let e : p - 148 ≡ 0 + (p - 148) = omega arith in
       digit_lines 0 8 (p - 148) (omega arith) (subst (λ n. IsTrue (fits b (digit_behind n))) e behind)
 
@@ -154,7 +153,7 @@ module _ (by_place : (place : ℕ) (t buf : List ℕ) → IsTrue (stands place t
   begins_line : (1 ≤ slice_index b 0) → IsTrue (allows (any_of (0x09 ∷ 0x0A ∷ 0x0D ∷ 0x20 ∷ 0x3C ∷ [])) (slice_index b 0)) → IsTrue (accepts markup_lines b)
   begins_line some is =
       let lt : 0 < length b = there b 0 some in
-      one 1 (byte 0 (any_of (0x09 ∷ 0x0A ∷ 0x0D ∷ 0x20 ∷ 0x3C ∷ []))) (marked_line ∷ []) (omega arith) (both (nat_lt 0 (length b)) _ (lt-ltb 0 (length b) lt) is)
+      one 1 (byte 0 (any_of (0x09 ∷ 0x0A ∷ 0x0D ∷ 0x20 ∷ 0x3C ∷ []))) (marked_line ∷ []) (omega arith) (and_from (nat_lt 0 (length b)) _ (lt-ltb 0 (length b) lt) is)
 
   markup_begins : BeginsMarkup b → IsTrue (accepts markup_lines b)
   markup_begins (inl o) = let le = o.fits in other markup_line (marked_line ∷ []) (begins 3 (0xEF ∷ 0xBB ∷ 0xBF ∷ []) (omega arith) o)
@@ -174,7 +173,7 @@ module _ (by_place : (place : ℕ) (t buf : List ℕ) → IsTrue (stands place t
   begins_json_line : (1 ≤ slice_index b 0) → IsTrue (allows (any_of (0x09 ∷ 0x0A ∷ 0x0D ∷ 0x20 ∷ 0x5B ∷ 0x7B ∷ [])) (slice_index b 0)) → IsTrue (accepts json_outline b)
   begins_json_line some is =
       let lt : 0 < length b = there b 0 some in
-      one 1 (byte 0 (any_of (0x09 ∷ 0x0A ∷ 0x0D ∷ 0x20 ∷ 0x5B ∷ 0x7B ∷ []))) (marked_line ∷ []) (omega arith) (both (nat_lt 0 (length b)) _ (lt-ltb 0 (length b) lt) is)
+      one 1 (byte 0 (any_of (0x09 ∷ 0x0A ∷ 0x0D ∷ 0x20 ∷ 0x5B ∷ 0x7B ∷ []))) (marked_line ∷ []) (omega arith) (and_from (nat_lt 0 (length b)) _ (lt-ltb 0 (length b) lt) is)
 
   json_begins : BeginsJson b → IsTrue (accepts json_outline b)
   json_begins (inl o) = let le = o.fits in other json_line (marked_line ∷ []) (begins 3 (0xEF ∷ 0xBB ∷ 0xBF ∷ []) (omega arith) o)
@@ -215,8 +214,8 @@ module _ (by_place : (place : ℕ) (t buf : List ℕ) → IsTrue (stands place t
       )
 
   pub has_lines : (a : Alternative) → (IsTrue (is_plain a) → Small) → Fits a b → IsTrue (accepts (lines a) b)
-  has_lines (bytes a) small h = from_left (fits b a) false h
-  has_lines (binary_bytes a) small h = from_left (fits b a) false h.0
+  has_lines (bytes a) small h = or_left (fits b a) false h
+  has_lines (binary_bytes a) small h = or_left (fits b a) false h.0
   has_lines shared_object small (wide, big, class, order, table) = object_lines wide big table
   has_lines (first_entry_is name) small h = named_part name [] h.0.header h.2
   has_lines (first_entry_ends_in name) small h = counted_for_lines name 26 h.0 (omega arith) h.1
@@ -227,9 +226,9 @@ module _ (by_place : (place : ℕ) (t buf : List ℕ) → IsTrue (stands place t
   has_lines animated small (o, a) = let le = o.fits in begins 4 png_header (omega arith) o
   has_lines subrip small h = subrip_lines h
   has_lines dbase small (long, dated, field, many, ends) =
-      from_left _ _ (both (nat_le 14 (length b)) _ (le-leb 14 (length b) (omega arith))
-      (both _ _ (both (nat_lt 0 (length b)) _ (lt-ltb 0 (length b) (omega arith)) dated.0)
-      (both _ true (pair 12 0x00 0x00 (omega arith) dated.3.0 dated.3.1) refl)))
+      or_left _ _ (and_from (nat_le 14 (length b)) _ (le-leb 14 (length b) (omega arith))
+      (and_from _ _ (and_from (nat_lt 0 (length b)) _ (lt-ltb 0 (length b) (omega arith)) dated.0)
+      (and_from _ true (pair 12 0x00 0x00 (omega arith) dated.3.0 dated.3.1) refl)))
   has_lines tar_checksum small (long, some, (p, d, f, sums)) = field_lines p d long f
   has_lines (program names) small h = program_lines names h
   has_lines (root name) small h = markup_begins (leads.root name b h)
@@ -241,14 +240,14 @@ module _ (by_place : (place : ℕ) (t buf : List ℕ) → IsTrue (stands place t
   module _ (small : Small) where
     any_left : (xs ys : List fixed.Alternative) → IsTrue (accepts xs b) → IsTrue (accepts (xs ++ ys) b)
     any_left [] ys h = absurd (cc)
-    any_left (x ∷ xs) ys h = elim (either (fits b x) _ h) [
-      | inl e ↦ from_left (fits b x) _ e
-      | inr e ↦ from_right (fits b x) _ (any_left xs ys e)
+    any_left (x ∷ xs) ys h = elim (or_cases (fits b x) _ h) [
+      | inl e ↦ or_left (fits b x) _ e
+      | inr e ↦ or_right (fits b x) _ (any_left xs ys e)
     ]
 
     any_right : (xs ys : List fixed.Alternative) → IsTrue (accepts ys b) → IsTrue (accepts (xs ++ ys) b)
     any_right [] ys h = h
-    any_right (x ∷ xs) ys h = from_right (fits b x) _ (any_right xs ys h)
+    any_right (x ∷ xs) ys h = or_right (fits b x) _ (any_right xs ys h)
 
     pub has_outline : (signature : List Alternative) → Accepted signature b → IsTrue (accepts (outline signature) b)
     has_outline [] h = absurd (h)

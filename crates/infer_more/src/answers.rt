@@ -132,6 +132,7 @@ fn least_after(entries: &[Entry], parent: Option<usize>, buf: &[u8], before: usi
 }
 
 /// [`least_after`] that number, of the entries behind a guard: the number before if the buffer lacks the guard's byte.
+#[tactic(auto, using(crate::proofs::LeastLemmas::tried_behind, crate::proofs::LeastLemmas::tried_shut))]
 #[inline(always)]
 fn least_behind(guard: &Guard, buf: &[u8], before: usize) -> usize
     ensures { IsLeast (IsTried None buf.now (behind buf.now guard.now)) before result }
@@ -155,6 +156,7 @@ fn least_guarded(guards: &[Guard], buf: &[u8], before: usize) -> usize
 }
 
 /// [`least_guarded`] behind the gate: the number before if the buffer lacks the gate's byte.
+#[tactic(auto, using(crate::proofs::LeastLemmas::tried_behind, crate::proofs::LeastLemmas::tried_shut))]
 #[inline(always)]
 fn least_gated(gate: &Gate, buf: &[u8], before: usize) -> usize
     ensures { IsLeast (IsTried None buf.now (gated buf.now gate.now)) before result }
@@ -665,6 +667,7 @@ fn further_type(i: usize) -> Option<Type>
 }
 
 /// The type of row `i`, built-in or further.
+#[tactic(auto, using(crate::proofs::ShownLemmas::shown_built_in, crate::proofs::ShownLemmas::shown_further))]
 #[inline(always)]
 pub fn row(i: usize) -> Option<Type>
     ensures { option_map triple_of result ≡ slice_get shown i }
@@ -726,6 +729,7 @@ fn is_same(a: &str, b: &str) -> bool
 }
 
 /// Whether further row `i` has this extension.
+#[tactic(auto, using(crate::proofs::RowLemmas::has_no_row, crate::proofs::RowLemmas::has_row))]
 fn shows_extension(i: usize, extension: &str) -> bool
     ensures { IsTrue result ↔ ((i < length further)
         × HoldsAt (λ r. r.shows.extension ≡ extension.now) further i) }
@@ -749,6 +753,7 @@ pub fn has_extension(extension: &str) -> bool
 }
 
 /// Whether further row `i` has this MIME type.
+#[tactic(auto, using(crate::proofs::RowLemmas::has_no_row, crate::proofs::RowLemmas::has_row))]
 fn shows_mime_type(i: usize, mime_type: &str) -> bool
     ensures { IsTrue result ↔ ((i < length further)
         × HoldsAt (λ r. r.shows.mime_type ≡ mime_type.now) further i) }

@@ -67,6 +67,7 @@ fn first_open(parent: Option<usize>, buf: &[u8]) -> Option<usize>
 }
 
 /// Whether row `i` has this parent, and some bytes after the buffer may make it accept.
+#[tactic(auto, using(crate::proofs::NamedLemmas::row_passes, crate::proofs::TableLemmas::all_sound))]
 fn may_widen(i: usize, parent: Option<usize>, buf: &[u8]) -> bool
     ensures may { MatchOption (slice_get further i) ⊥ (MayWiden parent buf.now) → IsTrue result }
     ensures below { IsTrue result → MatchOption (slice_get further i) ⊥ (λ r. r.parent ≡ parent) }
@@ -87,6 +88,7 @@ fn row_may_widen(row: &FurtherRow, parent: Option<usize>, buf: &[u8]) -> bool
 
 /// Whether some bytes after the buffer, or none, may make row `i`, built-in or further, accept it: a no is certain, and so
 /// is a yes but of a further row that asks for a relation.
+#[tactic(auto, using(std::proofs::lemmas::Bool::and_parts, crate::proofs::NamedLemmas::row_passes, crate::proofs::TableLemmas::all_sound))]
 pub fn may_become(buf: &[u8], i: usize) -> bool
     ensures may { MayBecomeAt buf.now i → IsTrue result }
     ensures exact { IsTrue result → MayBecomeAt buf.now i ⊎ AsksForRelation i }

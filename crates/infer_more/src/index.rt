@@ -226,6 +226,7 @@ pub(crate) fn index() -> RowIndex
 }
 
 /// By such an index just those further rows are found that widen an answer.
+#[tactic(auto, using(crate::proofs::FoundLemmas::all_found))]
 pub(crate) fn finds(index: &RowIndex)
     requires { EachIsFound index.now }
     ensures { FindsAll index.now }

@@ -14,6 +14,7 @@ ghost use Rattle.infer_more.specs.declared.index.lists.TheConstants.{FURTHER_COU
 
 /// A yes stays a yes, but of JSON, JSON lines and plain text: what the signature of a further row accepts, it accepts however
 /// the buffer goes on. Of each of these three some buffer loses it.
+#[tactic(auto, using(crate::proofs::LawLemmas::all_last, crate::proofs::LostLemmas::others_lost))]
 pub fn lasting()
     ensures lasting { AllLast }
     ensures lost { OthersAreLost }
@@ -26,6 +27,7 @@ pub fn lasting()
 
 /// As long as the built-in answer stays, bytes after a buffer never make its first further row a later one, unless that is
 /// one of these three.
+#[tactic(auto, using(crate::proofs::LawLemmas::steady))]
 pub fn index()
     ensures { IsSteady }
 {
@@ -42,11 +44,13 @@ pub fn blank()
 
 /// The wider answer contradicts no built-in one: if it is a further row, the built-in answer is that row's parent, and
 /// none if it has no parent. Otherwise both are the same.
+#[tactic(auto, using(crate::proofs::BelowLemmas::all_below))]
 pub fn below()
     ensures { AllAreBelow }
 {}
 
 /// Every further row is the wider answer of some buffer: of its sample.
+#[tactic(auto, using(crate::proofs::SampleLemmas::row_reaches))]
 pub fn reach()
     ensures { AllReach }
 {
@@ -71,11 +75,13 @@ pub fn numbers()
 }
 
 /// No MIME type and no extension of a row, built-in or further, has more than 73 bytes.
+#[tactic(auto, using(crate::proofs::SizeLemmas::texts_fit))]
 pub fn sizes()
     ensures { TextsFit 73 }
 {}
 
 /// The rows that are read of a text of types are those that it describes.
+#[tactic(auto, using(crate::proofs::DescribedLemmas::described_rows, crate::proofs::DescribedLemmas::rows_described))]
 pub fn described()
     ensures { (text : List ℕ) (rows : List Row) → rows_of text ≡ Some rows
         ↔ DescribesRows text rows }

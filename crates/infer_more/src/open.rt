@@ -126,6 +126,7 @@ pub(super) fn stays_accepted(signature: &[Alternative], buf: &[u8]) -> bool
 }
 
 /// Whether the buffer, which has what the alternative asks, has it whatever bytes follow.
+#[tactic(auto, using(crate::proofs::OpenLemmas::fit_stays))]
 fn stays(alternative: &Alternative, buf: &[u8]) -> bool
     requires { Fits (alternative_listed alternative.now) buf.now }
     ensures { IsTrue result → Stays (Fits (alternative_listed alternative.now)) buf.now }

@@ -215,6 +215,7 @@ fn built_in(i: usize, out: &mut [u8; SAMPLE_SIZE]) -> Option<usize>
 }
 
 /// Writes the sample of the parent with zeros after it, and gives its length.
+#[tactic(auto, using(crate::proofs::WrittenLemmas::counted_parent, crate::proofs::WrittenLemmas::written_parent))]
 fn parent(parent: Option<usize>, out: &mut [u8; SAMPLE_SIZE]) -> usize
     ensures counted { result ≡ length (parent_sample parent) }
     ensures fits { result ≤ built_in_samples.SAMPLE_SIZE }
@@ -262,6 +263,7 @@ fn further(i: usize, out: &mut [u8; SAMPLE_SIZE]) -> Option<usize>
 /// A built-in row is the first that accepts its sample, and a further row is the wider answer of its own. Rows [`DLL`]
 /// and [`EPUB_ARCHIVE`] are first for no buffer: for these, and where there is no row, the answer is `None`, and `out`
 /// stays as it was.
+#[tactic(auto, using(crate::proofs::WrittenLemmas::none_above, crate::proofs::WrittenLemmas::none_below))]
 pub fn sample(i: usize, out: &mut [u8; SAMPLE_SIZE]) -> Option<usize>
     ensures none { IsNone result ↔ HasNoSample i }
     ensures counted { result ≡ option_map length (sample_at i) }

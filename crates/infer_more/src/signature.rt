@@ -158,6 +158,7 @@ fn fits_inside(alternative: &Alternative, buf: &[u8]) -> bool
 }
 
 /// Whether one of the names is that of the program.
+#[tactic(auto, using(crate::proofs::AcceptedLemmas::among_programs, crate::proofs::AcceptedLemmas::none_among))]
 fn has_program(buf: &[u8], names: &[&[u8]]) -> bool
     ensures { IsTrue result ↔ IsProgramAmong (map (λ name. name.now) names.now) buf.now }
 {
@@ -243,6 +244,7 @@ fn has_text(piece: &Piece, buf: &[u8]) -> bool
 }
 
 /// Whether the piece asks a text, or the buffer has the byte that it asks.
+#[tactic(auto, using(crate::proofs::PieceLemmas::range_inside, crate::proofs::PieceLemmas::range_read))]
 #[inline(always)]
 fn has_single(piece: &Piece, buf: &[u8]) -> bool
     requires { IsTrue (is_inside (length buf.now) (part_listed piece.now)) }
