@@ -104,6 +104,10 @@ def functions_of(crate, root):
     for path, known in modules:
         prefix = "" if root == "main" else f"{known}::"
         named += [named_by(prefix, owner, it) for owner, it in functions_in(file_of(crate, path)) if (path, owner or it.name) not in passed_on]
+        # What a module passes on of its own ones is called by the module's name.
+        text = text_of(file_of(crate, path))
+        below = {(module, name) for module, name, _ in used(text) if module in re.findall(r"^mod (\w+);", text, re.M)}
+        named += [named_by(prefix, "", it) for module in sorted({it for it, _ in below}) for _, it in functions_in(file_of(crate, f"{path}::{module}")) if (module, it.name) in below]
     return [it for it in named if it.clauses or it.doc]
 
 

@@ -61,16 +61,16 @@ pub use Rattle.infer_inside.specs.Text.{IsBinary, IsDataByte, IsPlainByte, SomeB
 pub use Rattle.infer_inside.specs.Tiff.{BeginsTiff, HasTag, IsTagEntry}
 pub use Rattle.infer_inside.specs.Zip.{FirstEntryEndsIn, FirstEntryHasExtra, FirstEntryIs, IsFirstFolder, IsFolderEntry}
 pub use Rattle.infer_inside.specs.Zip.{IsPackageWith, IsPartEntry, MayBeginPackage, applications}
-pub use Rattle.infer_inside.specs.declared.json.Due.{Due}
-pub use Rattle.infer_inside.specs.declared.json.Due.TheVariants.{After, Colon, First, Key, Value}
+pub use Rattle.infer_inside.specs.declared.json.reader.Due.{Due}
+pub use Rattle.infer_inside.specs.declared.json.reader.Due.TheVariants.{After, Colon, First, Key, Value}
 pub use Rattle.infer_inside.specs.declared.json.Kind.{Kind}
 pub use Rattle.infer_inside.specs.declared.json.Kind.TheVariants.{Lines, Text}
-pub use Rattle.infer_inside.specs.declared.json.Next.{Next}
-pub use Rattle.infer_inside.specs.declared.json.Next.TheVariants.{Between, Closed, InKey, InValue}
-pub use Rattle.infer_inside.specs.declared.json.Reader.{Reader}
-pub use Rattle.infer_inside.specs.declared.json.Step.TheVariants.{Ended, EndedBefore, Inside, Wrong}
-pub use Rattle.infer_inside.specs.declared.json.Token.{Token}
-pub use Rattle.infer_inside.specs.declared.json.Token.TheVariants.{Char1, Char2, Char3, CharE0, CharEd, CharF0, CharF4}
-pub use Rattle.infer_inside.specs.declared.json.Token.TheVariants.{Chars, Escape, Exponent, F, Fa, Fal, Fals, Fraction}
-pub use Rattle.infer_inside.specs.declared.json.Token.TheVariants.{Hex1, Hex2, Hex3, Hex4, Minus, N, Nu, Nul, Point}
-pub use Rattle.infer_inside.specs.declared.json.Token.TheVariants.{Power, Sign, T, Tr, Tru, Whole, Zero}
+pub use Rattle.infer_inside.specs.declared.json.reader.Next.{Next}
+pub use Rattle.infer_inside.specs.declared.json.reader.Next.TheVariants.{Between, Closed, InKey, InValue}
+pub use Rattle.infer_inside.specs.declared.json.reader.Reader.{Reader}
+pub use Rattle.infer_inside.specs.declared.json.token.Step.TheVariants.{Ended, EndedBefore, Inside, Wrong}
+pub use Rattle.infer_inside.specs.declared.json.token.Token.{Token}
+pub use Rattle.infer_inside.specs.declared.json.token.Token.TheVariants.{Char1, Char2, Char3, CharE0, CharEd, CharF0, CharF4}
+pub use Rattle.infer_inside.specs.declared.json.token.Token.TheVariants.{Chars, Escape, Exponent, F, Fa, Fal, Fals, Fraction}
+pub use Rattle.infer_inside.specs.declared.json.token.Token.TheVariants.{Hex1, Hex2, Hex3, Hex4, Minus, N, Nu, Nul, Point}
+pub use Rattle.infer_inside.specs.declared.json.token.Token.TheVariants.{Power, Sign, T, Tr, Tru, Whole, Zero}

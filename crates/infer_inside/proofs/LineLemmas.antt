@@ -3,8 +3,8 @@ use Rattle.infer_inside.proofs.Common.{◌≡◌, ℕ, ◌+◌, ◌-◌, ◌≤�
 use Rattle.std.proofs.Common.{rules}
 use Rattle.infer_inside.specs.Json.{IsBlank}
 use Rattle.infer_inside.specs.JsonStates.{IsNextLine, LineTells}
-use Rattle.infer_inside.specs.declared.json.Line as line
-use Rattle.infer_inside.specs.declared.json.Line.TheVariants as Line
+use Rattle.infer_inside.specs.declared.json.lines.Line as line
+use Rattle.infer_inside.specs.declared.json.lines.Line.TheVariants as Line
 use Rattle.infer_inside.proofs.JsonLemmas.{begins, range_begins}
 use Rattle.infer_inside.proofs.ReaderLemmas.{blank_read, blank_skip}
 use Rattle.infer_inside.proofs.CompleteLemmas.{AllHold, completes, next_holds}

@@ -2,8 +2,8 @@
 use Rattle.infer_inside.proofs.Common.{◌≡◌, ℕ, ◌+◌, ◌≤◌, ◌<◌, inl, ◌↔◌, true, List, [], ◌∷◌, ◌++◌, length, drop, get_or, refl, sym, subst, ap, ◌∙◌, arith, drop_all, drop_more, Symbol, blanks, text, Stands, PlaceTells, EndTells, EndsNumber, Follows, IsPast, Leaves, Onward, Reads, due_left, frames, left, next_left, Token, Inside, Ended, EndedBefore, Wrong, Due, Colon, After, Value, Next, Closed, Between, InKey, InValue, Reader}
 use Rattle.infer_inside.specs.Json.{IsBlank}
 use Rattle.infer_inside.specs.JsonStates.{TellsAsMuch}
-use Rattle.infer_inside.specs.declared.json.Place as place
-use Rattle.infer_inside.specs.declared.json.Place.TheVariants as Place
+use Rattle.infer_inside.specs.declared.json.reader.Place as place
+use Rattle.infer_inside.specs.declared.json.reader.Place.TheVariants as Place
 use Rattle.infer_inside.proofs.ReaderLemmas.{after_ends, between_left, blank_skip, colon_ends, colon_read, due_not_blank, frames_none, frames_open}
 use Rattle.infer_inside.proofs.LineLemmas.{past_read}
 

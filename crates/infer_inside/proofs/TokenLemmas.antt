@@ -4,8 +4,8 @@ use Rattle.std.proofs.Common.{append-nil}
 use Rattle.std.specs.Prelude.{not}
 use Rattle.infer_inside.specs.Json.{later, rules, BeginsToken, IsBlank, IsMark, NoneGoesOn}
 use Rattle.infer_inside.specs.JsonStates.{IsKindBefore, NoToken, Starts}
-use Rattle.infer_inside.specs.declared.json.Line.TheVariants as Line
-use Rattle.infer_inside.specs.declared.json.Step.{Step}
+use Rattle.infer_inside.specs.declared.json.lines.Line.TheVariants as Line
+use Rattle.infer_inside.specs.declared.json.token.Step.{Step}
 use Rattle.infer_inside.proofs.JsonLemmas.{value_begins}
 use Rattle.infer_inside.proofs.LineLemmas.{CutLine, WholeLine, WrongLine, lines_none, lines_open, lines_single, lines_so, none_left, kind_past, past_can, text_no_blank}
 use Rattle.infer_inside.proofs.CompleteLemmas.{AllHold, Completes, completes, token_holds}

@@ -3,21 +3,21 @@ use Rattle.std.specs.Prelude.{◌≡◌, ◌↔◌, ℕ, zero, suc, ◌-◌, ◌
 use Rattle.infer_inside.specs.Json.{Symbol, range, blanks, value, items, more_items, members, member, more_members, chars, escape, hex, whole, fraction, exponent, power, digits, text, same_line, next_line, byte, exact, digit, later, BeginsLines, BeginsText, BeginsToken, BehindBlanks, CanBe, IsBlank, Stands}
 use Rattle.infer_inside.specs.declared.json.Kind.{Kind}
 use Rattle.infer_inside.specs.declared.json.Kind.TheVariants.{Lines, Text}
-use Rattle.infer_inside.specs.declared.json.Token.{Token}
-use Rattle.infer_inside.specs.declared.json.Token.TheVariants.{Chars, Escape, Hex4, Hex3, Hex2, Hex1, Char1, Char2, Char3, CharE0, CharEd, CharF0, CharF4, T, Tr, Tru, F, Fa, Fal, Fals, N, Nu, Nul, Minus, Zero, Whole, Point, Fraction, Exponent, Sign, Power}
-use Rattle.infer_inside.specs.declared.json.Step.{Step}
-use Rattle.infer_inside.specs.declared.json.Step.TheVariants.{Inside, Ended, EndedBefore, Wrong}
-use Rattle.infer_inside.specs.declared.json.Due.{Due}
-use Rattle.infer_inside.specs.declared.json.Due.TheVariants.{First, Value, Key, Colon, After}
-use Rattle.infer_inside.specs.declared.json.Next.{Next}
-use Rattle.infer_inside.specs.declared.json.Next.TheVariants.{Closed, Between, InKey, InValue}
-use Rattle.infer_inside.specs.declared.json.Place as place
-use Rattle.infer_inside.specs.declared.json.Place.TheVariants as Place
-use Rattle.infer_inside.specs.declared.json.Reader.{Reader}
-use Rattle.infer_inside.specs.declared.json.Line as line
-use Rattle.infer_inside.specs.declared.json.Line.TheVariants as Line
-use Rattle.infer_inside.specs.declared.json.Reading as read
-use Rattle.infer_inside.specs.declared.json.Reading.TheVariants as Reading
+use Rattle.infer_inside.specs.declared.json.token.Token.{Token}
+use Rattle.infer_inside.specs.declared.json.token.Token.TheVariants.{Chars, Escape, Hex4, Hex3, Hex2, Hex1, Char1, Char2, Char3, CharE0, CharEd, CharF0, CharF4, T, Tr, Tru, F, Fa, Fal, Fals, N, Nu, Nul, Minus, Zero, Whole, Point, Fraction, Exponent, Sign, Power}
+use Rattle.infer_inside.specs.declared.json.token.Step.{Step}
+use Rattle.infer_inside.specs.declared.json.token.Step.TheVariants.{Inside, Ended, EndedBefore, Wrong}
+use Rattle.infer_inside.specs.declared.json.reader.Due.{Due}
+use Rattle.infer_inside.specs.declared.json.reader.Due.TheVariants.{First, Value, Key, Colon, After}
+use Rattle.infer_inside.specs.declared.json.reader.Next.{Next}
+use Rattle.infer_inside.specs.declared.json.reader.Next.TheVariants.{Closed, Between, InKey, InValue}
+use Rattle.infer_inside.specs.declared.json.reader.Place as place
+use Rattle.infer_inside.specs.declared.json.reader.Place.TheVariants as Place
+use Rattle.infer_inside.specs.declared.json.reader.Reader.{Reader}
+use Rattle.infer_inside.specs.declared.json.lines.Line as line
+use Rattle.infer_inside.specs.declared.json.lines.Line.TheVariants as Line
+use Rattle.infer_inside.specs.declared.json.reader.Reading as read
+use Rattle.infer_inside.specs.declared.json.reader.Reading.TheVariants as Reading
 
 -- what is left of a token
 abbrev pub left : Token → List Symbol

@@ -1,12 +1,14 @@
 //! Scripts, by the program that their first line names: execve(2), "Interpreter scripts".
-ghost use Rattle.std.specs.Prelude.{◌≡◌, ◌↔◌, ◌+◌, ◌<◌, ◌≤◌, ◌⊎◌, ℕ, List, length, codes, slice_index, IsTrue, IfSome, MatchOption};
+ghost use Rattle.std.specs.Prelude.{◌≡◌, ◌↔◌, ◌<◌, ◌≤◌, ◌⊎◌, ℕ, List, length, codes, slice_index, IsTrue, IfSome, MatchOption};
 ghost use Rattle.memchr.specs.Find.{OccursAt};
-ghost use Rattle.infer_deep.specs.Open.{AgreesAt};
-ghost use Rattle.infer_deep.specs.Signatures.{MayBecome};
 ghost use Rattle.infer_inside.specs.Runs.{IsRun};
-ghost use Rattle.infer_inside.specs.Script.{EndsBare, HasEquals, IsBareName, IsBlank, IsEnv, IsFolder, IsLineEnd, IsNameByte, IsNextWord, IsProgram, IsRead, IsSetting, IsVersionByte, IsWord, IsWordByte, NamesProgram};
+ghost use Rattle.infer_inside.specs.Script.{EndsBare, IsBlank, IsEnv, IsFolder, IsLineEnd, IsNextWord, IsProgram, IsRead, IsSetting, IsVersionByte, IsWord, IsWordByte, NamesProgram};
 
-use infer_deep::places::{has_at, may_stand_at, same_at};
+mod open;
+
+use infer_deep::places::{has_at, same_at};
+use open::has_equals;
+pub use open::may_become_program;
 
 /// A word of the first line: where it begins and ends, where its name begins, and whether it has "=".
 #[derive(Clone, Copy)]
@@ -43,84 +45,6 @@ fn bare_name(buf: &[u8], word: Word) -> &[u8]
     ensures { IsProgram result.now buf.now }
 {
     &buf[word.name..bare_end(buf, word.name, word.to)]
-}
-
-/// Whether some bytes after `buf`, or none, may make it a script of the program with this name.
-#[tactic(auto, using(crate::proofs::OpenScriptLemmas::opened_so, crate::proofs::OpenScriptLemmas::none_in_short))]
-pub fn may_become_program(buf: &[u8], name: &[u8]) -> bool
-    ensures { MayBecome (IsProgram name.now) buf.now → IsTrue result }
-{
-    if !may_stand_at(buf, b"#!", 0) {
-        return false;
-    }
-    if buf.len() < 2 {
-        return may_name(buf, name);
-    }
-    match program_word(buf) {
-        Some(word) => is_same(bare_name(buf, word), name),
-        None => may_name(buf, name),
-    }
-}
-
-#[inline(always)]
-fn is_same(name: &[u8], other: &[u8]) -> bool
-    ensures { IsTrue result ↔ (name.now ≡ other.now) }
-{
-    name == other
-}
-
-/// [`may_become_program`] of a line that names no program yet.
-fn may_name(buf: &[u8], name: &[u8]) -> bool
-    requires opens { AgreesAt buf.now (codes "#!") 0 }
-    requires none { (p q : ℕ) → ¬ NamesProgram buf.now p q }
-    ensures { MayBecome (IsProgram name.now) buf.now → IsTrue result }
-{
-    if !is_bare(name) {
-        return false;
-    }
-    if buf.len() < 2 {
-        return true;
-    }
-    if has_line_end(buf) {
-        return false;
-    }
-    match first_word(buf) {
-        // It is `env`, which takes a word with "=" for itself.
-        Some(word) => is_env(buf, word) && !has_equals(name),
-        None => true,
-    }
-}
-
-/// Whether a script can have a program with this name.
-fn is_bare(name: &[u8]) -> bool
-    ensures { IsTrue result ↔ IsBareName name.now }
-{
-    has_name_bytes(name) && !matches!(name.last(), Some(last) if is_version_byte(*last))
-}
-
-fn has_name_bytes(name: &[u8]) -> bool
-    ensures { IsTrue result ↔ ((k : ℕ) → k < length name.now
-        → IsNameByte (slice_index name.now k)) }
-{
-    for at in 0..name.len() {
-        if !is_word_byte(name[at]) || name[at] == b'/' {
-            return false;
-        }
-    }
-    true
-}
-
-/// Whether the first line ends in `buf`, behind its first two bytes.
-fn has_line_end(buf: &[u8]) -> bool
-    ensures { IsTrue result ↔ ((k : ℕ) × (2 ≤ k) × (k < length buf.now)
-        × IsLineEnd (slice_index buf.now k)) }
-{
-    for at in 2..buf.len() {
-        if buf[at] == b'\n' || buf[at] == b'\r' {
-            return true;
-        }
-    }
-    false
 }
 
 /// The word whose name is that of the program.
@@ -293,18 +217,6 @@ fn is_setting(buf: &[u8], word: Word) -> bool
     ensures { IsTrue result ↔ IsSetting buf.now word.from word.to }
 {
     buf[word.from] == b'-' || word.has_equals
-}
-
-/// Whether "=" stands in the name.
-fn has_equals(name: &[u8]) -> bool
-    ensures { IsTrue result ↔ HasEquals name.now 0 (length name.now) }
-{
-    for at in 0..name.len() {
-        if name[at] == b'=' {
-            return true;
-        }
-    }
-    false
 }
 
 /// Where the name ends without the digits and dots at its end.

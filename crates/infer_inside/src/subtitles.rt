@@ -1,11 +1,12 @@
 //! Subtitles of SubRip, by their first cue. No document states the format.
-ghost use Rattle.std.specs.Prelude.{◌≡◌, ◌↔◌, ◌+◌, ◌<◌, ◌≤◌, ℕ, slice_index, IsTrue};
+ghost use Rattle.std.specs.Prelude.{◌≡◌, ◌↔◌, ◌+◌, ◌<◌, ◌≤◌, slice_index, IsTrue};
 ghost use Rattle.infer_deep.specs.Places.{FindsPlace};
-ghost use Rattle.infer_inside.specs.Subtitles.{AreDigits, EndsLine, IsCue, IsDigit, IsPairAt, IsSpan, IsSubRip, IsTime, MayBeCue, MayBePair, MayBeSpan, MayBeSubRip, MayBeTime};
-ghost use Rattle.infer_deep.specs.Signatures.{MayBecome};
+ghost use Rattle.infer_inside.specs.Subtitles.{AreDigits, EndsLine, IsCue, IsDigit, IsPairAt, IsSpan, IsSubRip, IsTime};
 
-use crate::numbers::byte_or;
-use infer_deep::places::{may_stand_at, stands_at};
+mod open;
+
+use infer_deep::places::stands_at;
+pub use open::may_become_subrip;
 
 /// How many digits the number of a cue has at most.
 const MOST_DIGITS: usize = 9;
@@ -19,43 +20,6 @@ pub fn is_subrip(buf: &[u8]) -> bool
     ensures { IsTrue result ↔ IsSubRip buf.now }
 {
     is_cue(buf, 0) || stands_at(buf, b"\xEF\xBB\xBF", 0) && is_cue(buf, 3)
-}
-
-/// Whether some bytes after `buf`, or none, may make it subtitles of SubRip.
-pub fn may_become_subrip(buf: &[u8]) -> bool
-    ensures { MayBecome IsSubRip buf.now → IsTrue result }
-{
-    may_be_subrip(buf)
-}
-
-fn may_be_subrip(buf: &[u8]) -> bool
-    ensures { IsTrue result ↔ MayBeSubRip buf.now }
-{
-    if may_be_cue(buf, 0) {
-        return true;
-    }
-    may_stand_at(buf, b"\xEF\xBB\xBF", 0) && may_be_cue(buf, 3)
-}
-
-fn may_be_cue(buf: &[u8], place: usize) -> bool
-    requires { place ≤ 3 }
-    ensures { IsTrue result ↔ MayBeCue buf.now place }
-{
-    let count = digit_count(buf, place);
-    if count > MOST_DIGITS {
-        return false;
-    }
-    let end = place + count;
-    if buf.len() <= end {
-        return true;
-    }
-    if count == 0 {
-        return false;
-    }
-    match next_line(buf, end) {
-        Some(line) => may_be_span(buf, line),
-        None => buf[end] == b'\r' && buf.len() == end + 1,
-    }
 }
 
 fn is_cue(buf: &[u8], place: usize) -> bool
@@ -129,38 +93,6 @@ fn is_pair(buf: &[u8], place: usize) -> bool
     ensures { IsTrue result ↔ IsPairAt buf.now place }
 {
     is_digit(byte_at(buf, place)) && is_digit(byte_at(buf, place + 1))
-}
-
-fn may_be_span(buf: &[u8], place: usize) -> bool
-    requires { place ≤ 14 }
-    ensures { IsTrue result ↔ MayBeSpan buf.now place }
-{
-    may_be_time(buf, place)
-        && may_stand_at(buf, b" --> ", place + TIME_SIZE)
-        && may_be_time(buf, place + TIME_SIZE + ARROW_SIZE)
-}
-
-fn may_be_time(buf: &[u8], place: usize) -> bool
-    requires { place ≤ 31 }
-    ensures { IsTrue result ↔ MayBeTime buf.now place }
-{
-    if !may_be_pair(buf, place) || byte_or(buf, place + 2, b':') != b':' {
-        return false;
-    }
-    if !may_be_pair(buf, place + 3) || byte_or(buf, place + 5, b':') != b':' {
-        return false;
-    }
-    if !may_be_pair(buf, place + 6) || !matches!(byte_or(buf, place + 8, b','), b',' | b'.') {
-        return false;
-    }
-    may_be_pair(buf, place + 9) && is_digit(byte_or(buf, place + 11, b'0'))
-}
-
-fn may_be_pair(buf: &[u8], place: usize) -> bool
-    requires { place ≤ 40 }
-    ensures { IsTrue result ↔ MayBePair buf.now place }
-{
-    is_digit(byte_or(buf, place, b'0')) && is_digit(byte_or(buf, place + 1, b'0'))
 }
 
 fn is_digit(byte: u8) -> bool

@@ -3,13 +3,17 @@
 ghost use Rattle.std.specs.Prelude.{◌≡◌, ◌↔◌, ◌+◌, ◌≤◌, length, IsTrue};
 ghost use Rattle.infer_deep.specs.Numbers.{le16};
 ghost use Rattle.infer_deep.specs.Places.{FindsPlace};
-ghost use Rattle.infer_inside.specs.Zip.{FindsFolder, FindsPackage, FindsPart, FirstEntryEndsIn, FirstEntryHasExtra, FirstEntryIs, HasFirstName, IsFolder, IsFolderEntry, IsOneOf, IsPackageWith, IsPartEntry, MayBeginAny, MayBeginPackage, MayHaveFirstEnding, MayHaveFirstField, MayHaveFirstName, MayOpenPackage, applications};
-ghost use Rattle.infer_deep.specs.Signatures.{MayBecome};
+ghost use Rattle.infer_inside.specs.Zip.{FindsFolder, FindsPackage, FindsPart, FirstEntryEndsIn, FirstEntryHasExtra, FirstEntryIs, HasFirstName, IsFolder, IsFolderEntry, IsPackageWith, IsPartEntry, MayBeginAny, MayBeginPackage};
 
-use crate::numbers::most16;
+mod open;
+
 use infer_deep::numbers::le16;
-use infer_deep::places::{has_at, may_stand_at, stands_at};
+use infer_deep::places::{has_at, stands_at};
 use memchr::memchr;
+pub use open::{
+    may_become_package_with, may_have_first_entry, may_have_first_entry_ending,
+    may_have_first_extra,
+};
 
 /// Of a local file header, where the length of the file name stands.
 const NAME_LENGTH: usize = 26;
@@ -62,63 +66,6 @@ fn first_name_end(buf: &[u8]) -> Option<usize>
     Some(end)
 }
 
-/// Whether some bytes after `buf`, or none, may give the first entry this name.
-#[tactic(auto, using(infer_deep::proofs::OpenLemmas::test_from_reads, crate::proofs::OpenZipLemmas::name_known))]
-pub fn may_have_first_entry(buf: &[u8], name: &[u8]) -> bool
-    ensures { MayBecome (FirstEntryIs name.now) buf.now → IsTrue result }
-{
-    may_have_first_name(buf, name)
-}
-
-fn may_have_first_name(buf: &[u8], name: &[u8]) -> bool
-    ensures { IsTrue result ↔ MayHaveFirstName name.now buf.now }
-{
-    let length = name.len();
-    if length > 0xFFFF {
-        return false;
-    }
-    may_stand_at(buf, b"PK\x03\x04", 0)
-        && may_stand_at(
-            buf,
-            &[(length % 256) as u8, (length / 256) as u8],
-            NAME_LENGTH,
-        )
-        && may_stand_at(buf, name, NAME)
-}
-
-/// Whether some bytes after `buf`, or none, may give the first entry a name that ends in this text, or is it.
-#[tactic(auto, using(infer_deep::proofs::OpenLemmas::test_from_reads, crate::proofs::OpenZipLemmas::ending_known))]
-pub fn may_have_first_entry_ending(buf: &[u8], text: &[u8]) -> bool
-    ensures { MayBecome (FirstEntryEndsIn text.now) buf.now → IsTrue result }
-{
-    may_have_first_ending(buf, text)
-}
-
-fn may_have_first_ending(buf: &[u8], text: &[u8]) -> bool
-    ensures { IsTrue result ↔ MayHaveFirstEnding text.now buf.now }
-{
-    let length = most16(buf, NAME_LENGTH);
-    text.len() <= length
-        && may_stand_at(buf, b"PK\x03\x04", 0)
-        && may_stand_at(buf, text, NAME + length - text.len())
-}
-
-/// Whether some bytes after `buf`, or none, may give the first entry an extra field that begins with this text.
-#[tactic(auto, using(infer_deep::proofs::OpenLemmas::test_from_reads, crate::proofs::OpenZipLemmas::extra_known))]
-pub fn may_have_first_extra(buf: &[u8], text: &[u8]) -> bool
-    ensures { MayBecome (FirstEntryHasExtra text.now) buf.now → IsTrue result }
-{
-    may_have_first_field(buf, text)
-}
-
-fn may_have_first_field(buf: &[u8], text: &[u8]) -> bool
-    ensures { IsTrue result ↔ MayHaveFirstField text.now buf.now }
-{
-    text.len() <= most16(buf, EXTRA_LENGTH)
-        && may_stand_at(buf, b"PK\x03\x04", 0)
-        && may_stand_at(buf, text, NAME + most16(buf, NAME_LENGTH))
-}
-
 /// A package of the Open Packaging Conventions whose first folder of an application, by place, is this one.
 pub fn is_package_with(buf: &[u8], folder: &[u8]) -> bool
     ensures { IsTrue result ↔ IsPackageWith folder.now buf.now }
@@ -146,32 +93,6 @@ pub fn package_folder(buf: &[u8]) -> Option<usize>
         Some(place) => Some(place + NAME),
         None => None,
     }
-}
-
-/// Whether some bytes after `buf`, or none, may make it a package of the Open Packaging Conventions whose first folder of
-/// an application, by place, is this one.
-#[tactic(auto, using(crate::proofs::OpenPackageLemmas::opened))]
-pub fn may_become_package_with(buf: &[u8], folder: &[u8]) -> bool
-    requires { IsOneOf folder.now applications }
-    ensures { MayBecome (IsPackageWith folder.now) buf.now → IsTrue result }
-{
-    if !may_open_package(buf, folder) {
-        return false;
-    }
-    match first_folder(buf) {
-        Some(place) => stands_at(buf, folder, place + NAME),
-        None => true,
-    }
-}
-
-fn may_open_package(buf: &[u8], folder: &[u8]) -> bool
-    ensures { IsTrue result ↔ MayOpenPackage folder.now buf.now }
-{
-    may_stand_at(buf, b"PK\x03\x04", 0)
-        && (may_stand_at(buf, b"[Content_Types].xml", NAME)
-            || may_stand_at(buf, b"_rels/", NAME)
-            || may_stand_at(buf, b"docProps/", NAME)
-            || may_stand_at(buf, folder, NAME))
 }
 
 /// Whether `buf` begins with an entry that some package may have first.
