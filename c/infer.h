@@ -90,8 +90,8 @@ bool infer_may_become(const void *buf, size_t len, int32_t row);
 
 /* The same of the wider answer, and of every row, built-in or further: true of the first promises that no bytes that may
  * follow change what infer_more_position answers, and false of the second that none make that row accept the buffer. The
- * other way round both may err, but not of rows that ask for bytes at fixed places. The parent of a further row is not
- * asked. */
+ * other way round both may err, the second only of further rows that ask for a relation. The parent of a further row is
+ * not asked. */
 bool infer_more_is_decided(const void *buf, size_t len);
 bool infer_more_may_become(const void *buf, size_t len, int32_t row);
 

@@ -1,34 +1,7 @@
--- Bytes after a buffer, chosen by their places.
-use Rattle.infer_inside.proofs.Common.{IsTrue, ◌≡◌, Bool, true, false, add-zero, inl, inr, ℕ, zero, suc, ◌+◌, ◌-◌, ◌/◌, ◌%◌, ◌<◌, ◌≤◌, List, ◌++◌, length, get_or, max, map, refl, ap, sym, subst, ◌∙◌, arith, length-append, get_or-append_right, get_or_append_left, get_or_default_zero, cases_lt, get_or-eq_default, le16, OccursAt, OccursAt-first, are_bytes, be16, bytes16, most16, number16, IsBytes}
-use Rattle.std.proofs.lemmas.List.Elements.{All-append, All-from_get_or}
-use Rattle.std.proofs.lemmas.List.FromFn.{get_or-map-range_with_len, length-map-range_with_len}
-use Rattle.std.specs.List.{range_with_len}
+-- The bytes of a buffer that grows, and numbers as texts.
+use Rattle.infer_inside.proofs.Common.{IsTrue, ◌≡◌, Bool, true, false, add-zero, inl, inr, ℕ, zero, suc, ◌+◌, ◌-◌, ◌/◌, ◌%◌, ◌<◌, ◌≤◌, List, ◌++◌, length, get_or, refl, sym, subst, ◌∙◌, arith, get_or_append_left, get_or_default_zero, cases_lt, get_or-eq_default, le16, OccursAt, OccursAt-first, are_bytes, be16, bytes16, most16, number16, IsBytes}
+use Rattle.std.proofs.lemmas.List.Elements.{All-append}
 use Rattle.infer_deep.proofs.OpenLemmas.{bytes_from_test}
-
--- b, and then the byte f k at each place k up to n
-pub record Filled (f : ℕ → ℕ) (b : List ℕ) (n : ℕ) : Type 0 where
-  pub more : List ℕ
-  pub bytes : IsBytes more
-  pub long : length (b ++ more) ≡ max (length b) n
-  pub known : (k : ℕ) → k < length b → get_or (b ++ more) k 0 ≡ get_or b k 0
-  pub filled : (k : ℕ) → length b ≤ k → k < n → get_or (b ++ more) k 0 ≡ f k
-
-pub fills : (f : ℕ → ℕ) → ((k : ℕ) → f k < 256) → (b : List ℕ) (n : ℕ) → Filled f b n
-fills f bytes b n =
-    let start = length b in
-    let more : List ℕ = map f (range_with_len start (n - start)) in
-    let long : length more ≡ n - start = length-map-range_with_len f start (n - start) in
-    let read : (i : ℕ) → i < n - start → get_or more i 0 ≡ f (start + i)
-    = λ i lt. get_or-map-range_with_len f start (n - start) i (start + i) 0 lt refl in
-    record {
-      more = more;
-      bytes = All-from_get_or (λ x. x < 256) more 0 (λ i lt. subst (λ x. x < 256) (sym (read i (omega arith))) (bytes (start + i)));
-      long = omega (arith, length-append b more);
-      known = λ k lt. get_or_append_left b more 0 k lt;
-      filled = λ k low lt.
-          let same : start + (k - start) ≡ k = omega arith in
-          get_or-append_right b more k 0 low ∙ read (k - start) (omega arith) ∙ ap f same;
-    }
 
 pub grown_byte : (b more : List ℕ) (p : ℕ) → IsTrue (are_bytes b) → IsBytes more → get_or (b ++ more) p 0 < 256
 grown_byte b more p h bytes = elim (cases_lt p (length (b ++ more))) [

@@ -1,8 +1,7 @@
 -- What bytes after a buffer can make the name of its root element.
-use Rattle.infer_inside.proofs.Common.{◌≡◌, ◌⊎◌, ◌↔◌, inl, inr, ℕ, zero, suc, ◌+◌, ◌-◌, ◌<◌, ◌≤◌, List, [], ◌∷◌, ◌++◌, Option, None, Some, length, codes, get_or, drop, refl, sym, ap, subst, ◌∙◌, add-zero, arith, length-drop, get_or-eq_default, cases_lt, ext_get_or, get_or-drop, get_or_append_left, slice_range, OccursAt, AgreesAt, MayBecome, IsBytes, grown_agrees, test_from_reads, OccursAt-front, AgreesWithDoctype, BeginsAt, BeginsElement, ClosesDeclaration, HasInTag, HasRoot, HasRootWith, IsDoctype, IsFullName, IsMisc, MayOpenAs, IsPart, IsRootElement, IsSpaceRun, IsTypeByte, IsXmlSpace, LeadsToTag, OpensTag, utf8_mark, IsRun}
+use Rattle.infer_inside.proofs.Common.{◌≡◌, ◌⊎◌, ◌↔◌, inl, inr, ℕ, zero, suc, ◌+◌, ◌-◌, ◌<◌, ◌≤◌, List, [], ◌∷◌, ◌++◌, Option, None, Some, length, codes, get_or, drop, refl, sym, ap, subst, ◌∙◌, add-zero, arith, length-drop, cases_lt, ext_get_or, get_or-drop, get_or_append_left, slice_range, AgreesAt, MayBecome, grown_agrees, OccursAt-front, AgreesWithDoctype, BeginsAt, BeginsElement, ClosesDeclaration, HasInTag, HasRoot, HasRootWith, IsDoctype, IsFullName, IsMisc, MayOpenAs, IsPart, IsRootElement, IsTypeByte, IsXmlSpace, LeadsToTag, OpensTag, utf8_mark, IsRun}
 use Rattle.std.proofs.lemmas.Bool.{cases_order}
-use Rattle.infer_deep.proofs.OpenLemmas.{Fills, fills_text}
-use Rattle.infer_inside.specs.Markup.{EndsName, HasNoBracket, IsLocalName, MayDeclare, MayGoOn, MayNameRoot, MayOpenTag, IsNameByte, here, later}
+use Rattle.infer_inside.specs.Markup.{HasNoBracket, IsLocalName, MayDeclare, MayGoOn, MayNameRoot, MayOpenTag, IsNameByte, here, later}
 use Rattle.infer_inside.proofs.FrontLemmas.{SharesFront, byte_shared, front_grows, front_swaps, after_last_shared, range_shared, run_shared, text_shared}
 use Rattle.infer_inside.proofs.MarkupLemmas.{begin_lasts, one_begin, one_lead, root_lasts, ways}
 use Rattle.infer_inside.proofs.PartLemmas.{part_length, part_reads}
@@ -22,34 +21,9 @@ local_named whole name f =
       );
     })
 
--- c has the tag at p
-record HasTag (c whole rest : List ℕ) (p : ℕ) : Type 0 where
-  long : p + 1 + length whole < length c
-  opens : get_or c p 0 ≡ 0x3C
-  reads : (k : ℕ) → k < length whole → get_or c (p + 1 + k) 0 ≡ get_or whole k 0
-  ends : ¬ IsNameByte (get_or c (p + 1 + length whole) 0)
-  behind : drop (p + 1 + length whole) c ≡ rest
-
-module _ (c whole name rest : List ℕ) (p : ℕ) (d : Option ℕ) (h : HasTag c whole rest p) (f : IsFullName whole name) where
-  abbrev to : ℕ
-  to = p + 1 + length whole
-
 -- what stands in a declaration that goes on
 abbrev IsOpenByte : ℕ → Type 0
 IsOpenByte x = (x ≡ 0x3E → ⊥) × (x ≡ 0x5B → ⊥)
-
--- a declaration of a name of which b has the front
-module _ (b whole name rest : List ℕ) (p from : ℕ) (bytes : IsBytes b) (w_bytes : IsBytes whole) (full : IsFullName whole name)
-    (plain : HasNoBracket whole) (opens : OccursAt b (codes "<!DOCTYPE") p) (space : IsSpaceRun b (p + 9) from) (agrees : AgreesAt b whole from)
-    (short : length b ≤ from + length whole) (ends : EndsName rest) (rest_bytes : IsBytes rest) where
-  abbrev f : Fills (λ c. OccursAt c whole from) b (from + length whole)
-  f = fills_text b whole from (test_from_reads whole (λ i. elim (cases_lt i (length whole)) [
-    | inl l ↦ w_bytes i 0 l
-    | inr l ↦ let past = get_or-eq_default whole 0 {n = i} l in omega arith
-  ])) agrees
-
-  abbrev d : List ℕ
-  d = (b ++ f.more) ++ (0x3E ∷ [])
 
 -- ---- what is known of a buffer that has come to one
 

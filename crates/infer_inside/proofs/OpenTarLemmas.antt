@@ -1,7 +1,6 @@
 -- What bytes after a buffer can make a first header with its checksum.
-use Rattle.infer_inside.proofs.Common.{◌≡◌, ◌⊎◌, inl, inr, ℕ, zero, suc, ◌+◌, ◌-◌, ◌*◌, ◌<◌, ◌≤◌, List, ◌++◌, length, get_or, max, min, refl, sym, ap, subst, ◌∙◌, arith, get_or-eq_default, get_or-append_right, cases_lt, get_or_append_left, MayBecome, IsBytes, HasTarChecksum, IsField, IsOctal, MayWrite, header_sum, octal, scaled, sum_from}
+use Rattle.infer_inside.proofs.Common.{◌≡◌, ◌⊎◌, inl, inr, ℕ, zero, suc, ◌+◌, ◌-◌, ◌*◌, ◌<◌, ◌≤◌, List, ◌++◌, length, get_or, max, refl, sym, ap, subst, ◌∙◌, arith, get_or-eq_default, get_or-append_right, cases_lt, get_or_append_left, MayBecome, IsBytes, HasTarChecksum, IsField, IsOctal, MayWrite, header_sum, octal, scaled, sum_from}
 use Rattle.infer_inside.proofs.GrowthLemmas.{header_sum-append}
-use Rattle.infer_inside.proofs.OpenLemmas.{Filled, fills}
 use Rattle.infer_inside.proofs.TarLemmas.{count_is, place_is}
 
 -- ---- sums
@@ -86,18 +85,6 @@ module _ (b more : List ℕ) (long : 148 ≤ length b) (bytes : IsBytes more) wh
     where
       go : (x y v w d : ℕ) → v ≡ x → y ≤ w + d → x + 256 + y ≤ v + 256 + w + d
       go x y v w d e le = omega arith
-
--- ---- bytes with a sum
-
-abbrev put : ℕ → ℕ → ℕ → ℕ
-put n t k = min 255 (t - 255 * (k - n))
-
-module _ (b : List ℕ) (t : ℕ) (low : 156 ≤ length b) (high : length b ≤ 512) (le : t ≤ 255 * (512 - length b)) where
-  abbrev filler : Filled (put (length b) t) b 512
-  filler = fills (put (length b) t) (λ k. omega arith) b 512
-
-  abbrev c : List ℕ
-  c = b ++ filler.more
 
 -- ---- the digits of a number
 

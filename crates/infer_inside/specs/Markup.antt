@@ -170,8 +170,3 @@ MayDeclare name b p =
     (HasNoBracket name × AgreesAt b (codes "<!DOCTYPE") p × ((k : ℕ) → p + 9 ≤ k → k < length b → IsXmlSpace (slice_index b k)))
     ⊎ ((from : ℕ) × OccursAt b (codes "<!DOCTYPE") p × IsSpaceRun b (p + 9) from
     × ((k : ℕ) → from ≤ k → k < length b → (slice_index b k ≢ 0x3E) × (slice_index b k ≢ 0x5B)) × MayNameRoot name b from)
-
--- it ends a name that stands before it
-pub record EndsName (rest : List ℕ) : Type 0 where
-  pub some : 0 < length rest
-  pub ends : ¬ IsNameByte (slice_index rest 0)
