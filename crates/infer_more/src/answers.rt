@@ -680,6 +680,7 @@ pub fn row(i: usize) -> Option<Type>
 }
 
 /// The texts of further row `i`, each with a zero after it.
+#[tactic(auto, using(crate::proofs::ShownLemmas::shown_further))]
 pub fn ended_texts(i: usize) -> Option<&'static EndedTexts>
     ensures built_in { i < ROW_COUNT → result ≡ None }
     ensures further { ROW_COUNT ≤ i → option_map (λ texts. ended_listed texts.now) result

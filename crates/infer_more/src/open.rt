@@ -88,6 +88,7 @@ fn may_become_program_among(buf: &[u8], names: &[&[u8]]) -> bool
 }
 
 /// Whether the buffer has every piece as far as it goes.
+#[tactic(auto, using(std::proofs::lemmas::List::Folds::list_all_at, crate::proofs::ListLemmas::all_of_all, crate::proofs::ListLemmas::list_all_map, crate::proofs::ListLemmas::one_more))]
 fn may_have_bytes(bytes: &Bytes, buf: &[u8]) -> bool
     ensures { result ≡ may_fit buf.now (bytes_listed bytes.now) }
 {

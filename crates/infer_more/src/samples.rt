@@ -200,6 +200,7 @@ fn model_length(prolog: &[u8], alternative: &Alternative) -> usize
 }
 
 /// Writes the sample of built-in row `i`.
+#[tactic(auto, using(crate::proofs::WrittenLemmas::none_built_in, crate::proofs::WrittenLemmas::put_front, crate::proofs::WrittenLemmas::some_built_in))]
 fn built_in(i: usize, out: &mut [u8; SAMPLE_SIZE]) -> Option<usize>
     ensures none { IsNone result ↔ ((i ≡ DLL) ⊎ (i ≡ EPUB_ARCHIVE) ⊎ (ROW_COUNT ≤ i)) }
     ensures counted { result ≡ option_map length (built_in_sample i) }

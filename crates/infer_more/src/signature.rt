@@ -90,6 +90,7 @@ pub(crate) fn accepts<const ROW: usize>(signature: &[Alternative], buf: &[u8]) -
 }
 
 /// Whether the buffer has what alternative `k` asks, if there is one.
+#[tactic(auto, using(std::proofs::lemmas::Option::slice_get_past, std::proofs::lemmas::Option::slice_get_read, crate::proofs::ListLemmas::passed_read))]
 #[inline(always)]
 fn fits_nth(signature: &[Alternative], k: usize, buf: &[u8]) -> bool
     requires { IsTrue (list_all is_closed_alternative (signature_listed signature.now)) }
@@ -102,6 +103,7 @@ fn fits_nth(signature: &[Alternative], k: usize, buf: &[u8]) -> bool
 }
 
 /// Whether it has what an alternative from that one on asks.
+#[tactic(auto, using(std::proofs::lemmas::Bool::cases_lt, crate::proofs::AcceptedLemmas::fits_past))]
 #[inline(always)]
 fn fits_later(signature: &[Alternative], from: usize, buf: &[u8]) -> bool
     requires { IsTrue (list_all is_closed_alternative (signature_listed signature.now)) }
@@ -202,6 +204,7 @@ fn has_every(pieces: &[Piece], buf: &[u8]) -> bool
 }
 
 /// Whether it has what each piece asks that is a text.
+#[tactic(auto, using(std::proofs::lemmas::List::Folds::list_all_at, crate::proofs::ListLemmas::all_of_all, crate::proofs::ListLemmas::one_more, crate::proofs::ListLemmas::passed_by))]
 #[inline(always)]
 fn has_texts(pieces: &[Piece], buf: &[u8]) -> bool
     requires { IsTrue (list_all (is_inside (length buf.now)) (map part_listed pieces.now)) }
@@ -217,6 +220,7 @@ fn has_texts(pieces: &[Piece], buf: &[u8]) -> bool
 }
 
 /// Whether it has what each piece asks that is a single byte.
+#[tactic(auto, using(std::proofs::lemmas::List::Folds::list_all_at, crate::proofs::ListLemmas::all_of_all, crate::proofs::ListLemmas::one_more, crate::proofs::ListLemmas::passed_by))]
 #[inline(always)]
 fn has_singles(pieces: &[Piece], buf: &[u8]) -> bool
     requires { IsTrue (list_all (is_inside (length buf.now)) (map part_listed pieces.now)) }
@@ -266,6 +270,7 @@ pub(super) fn is_between(byte: u8, low: u8, high: u8) -> bool
 }
 
 /// Whether the byte is one of these.
+#[tactic(auto, using(std::proofs::lemmas::Bool::ne_eqb, std::proofs::lemmas::List::Folds::list_any_at, crate::proofs::ListLemmas::any_of_all, crate::proofs::ListLemmas::no_more))]
 #[inline(always)]
 pub(super) fn is_among(byte: u8, bytes: &[u8]) -> bool
     ensures { result ≡ allows (any_of bytes.now) byte }
