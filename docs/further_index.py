@@ -57,6 +57,8 @@ NAMED = {
 MARKUP = [{0: set(b"\t\n\r <")}, {0: {0xEF}, 1: {0xBB}, 2: {0xBF}}]
 JSON = [{0: set(b"\t\n\r [{")}, {0: {0xEF}, 1: {0xBB}, 2: {0xBF}}]
 OUTLINES = {
+    # (its own pieces tell them)
+    "BinaryBytes": None,
     "SharedObject": [{16: {3}, 17: {0}}, {16: {0}, 17: {3}}],
     "ClassId": [{0: {0xD0}, 1: {0xCF}, 2: {0x11}, 3: {0xE0}}],
     "DirectoryTag": [{0: {0x49}, 1: {0x49}}, {0: {0x4D}, 1: {0x4D}}],
@@ -118,22 +120,14 @@ def asked(pieces):
     return allowed
 
 
-def rows_in(code):
-    """The rows of a list, each a line."""
-    for parent, signature in re.findall(r'^    \w+ ".*?" ".*?":(?: (\w+))? => ?(.*);$', code, re.M):
-        yield Further(parent, list(alternatives(signature)))
-
-
-def alternatives(signature):
-    """The alternatives of a signature: pieces, or what a name stands for."""
-    for least, inside in re.findall(rf"\[(\d+, )?((?:{TEXT}|&\[[^\]]*\]|[^\]\"'])*)\]", signature):
-        name, _, takes = inside.removesuffix(")").partition("(")
-        if least:
-            yield Alternative("", "", [asked(inside)])
-        elif name in NAMED:
-            yield Alternative(name, takes, NAMED[name](bytes_of(takes)))
-        else:
-            yield Alternative(name, takes, OUTLINES.get(name, [asked(inside)]))
+def alternative(code):
+    """An alternative as the code writes it: pieces, or what a name stands for."""
+    name, _, takes = code.removesuffix(")").partition("(")
+    if code[0].isdigit():
+        return Alternative("", "", [asked(code)])
+    if name in NAMED:
+        return Alternative(name, takes, NAMED[name](bytes_of(takes)))
+    return Alternative(name, takes, OUTLINES.get(name) or [asked(code)])
 
 
 def is_wide(alternative):

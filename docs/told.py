@@ -95,7 +95,8 @@ def check_paths(page):
 def rows():
     """The MIME type, extension and class of each row."""
     lines = [it.split("\t") for path in ("vectors/rows.tsv", "vectors/further/rows.tsv") for it in text_of(path).splitlines()]
-    return {(mime, extension, group.lower()) for group, mime, extension, *_ in lines}
+    # (docs/tables tells of a line that has fewer columns)
+    return {(it[1], it[2], it[0].lower()) for it in lines if len(it) > 2}
 
 
 TYPE = r"\b(?:application|audio|chemical|custom|font|image|message|model|text|video)/[\w.+-]*\w"

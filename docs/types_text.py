@@ -8,6 +8,7 @@ HEAD = """# The further types of the library, as a text of types, in the order i
 """
 # What each alternative that looks inside is called, and what it takes.
 NAMES = {
+    "BinaryBytes": lambda it: f"{fixed(it.removeprefix('bytes!(').removesuffix(')'))} and binary",
     "SharedObject": lambda it: "shared object",
     "FirstEntryIs": lambda it: f"first entry: is {quoted(it)}",
     "FirstEntryEndsIn": lambda it: f"first entry: ends in {quoted(it)}",
@@ -73,24 +74,19 @@ def alternative(inside):
     if inside[0].isdigit():
         return fixed(inside)
     name, _, takes = inside.removesuffix(")").partition("(")
-    if name == "BinaryBytes":
-        return f"{fixed(takes.removeprefix('bytes!(').removesuffix(')'))} and binary"
     return NAMES[name](takes)
 
 
-def line(code, parents):
-    """The line of a row."""
-    group, mime_type, extension, parent, signature = code
-    told = [alternative(it) for it in re.findall(rf"\[((?:{TEXT}|&\[[^\]]*\]|[^\]\"'])*)\]", signature)]
+def line(row, parents):
+    """The line of a row, by the extensions of the parents' constants."""
     # What is said of one kind is said once: `root: rss or RDF with ..`.
-    said = " or ".join(told)
+    said = " or ".join(map(alternative, row.alternatives))
     for name in ("first entry: ", "class id: ", "root: "):
         said = said.replace(f" or {name}", " or ")
-    words = [f"{extension:<11}", f"{mime_type:<36}", f"{group.lower():<7}", f"{parents[parent] if parent else '-':<6}", said]
+    words = [f"{row.extension:<11}", f"{row.mime_type:<36}", f"{row.group.lower():<7}", f"{parents[row.parent] if row.parent else '-':<6}", said]
     return "  ".join(words) + "\n"
 
 
-def text(lists, parents):
-    """The text of the rows of these lists, by the extensions of the parents' constants."""
-    rows = [it for code in lists for it in re.findall(r'^    (\w+) "(.*?)" "(.*?)":(?: (\w+))? => ?(.*);$', code, re.M)]
+def text(rows, parents):
+    """The text of these rows."""
     return HEAD + "".join(line(it, parents) for it in rows)

@@ -155,6 +155,23 @@ class Alternative(NamedTuple):
     """The bytes that are allowed at each place that is asked."""
 
 
+# What a signature is made of, as it is written above.
+TOKEN = r'(?:"[^"]+"|\{[0-9A-F]{2}(?: [0-9A-F]{2})*\}|not [0-9A-F]{2}|[0-9A-F]{2}\.\.[0-9A-F]{2}|[A-Z]{4,}|[0-9A-F]{2})'
+PART = rf"@\d+(?: {TOKEN})+"
+SIGNATURE = re.compile(rf"\d+: {PART}(?:, {PART})*(?: or \d+: {PART}(?:, {PART})*)*")
+
+
+def signature_of(line: str) -> tuple[str, list[Alternative]]:
+    """A line as it is written above: the extension of a row, and the alternatives of its signature."""
+    extension, _, text = line.partition(" ")
+    if not SIGNATURE.fullmatch(text.strip()):
+        sys.exit(f"vectors/model/decided.py: this is no signature: {line}")
+    found = list(alternatives_of(text.strip()))
+    if any(place >= least for least, asked in found for place in asked):
+        sys.exit(f"vectors/model/decided.py: a part ends past the least length: {line}")
+    return extension, found
+
+
 def alternatives_of(text: str) -> Iterator[Alternative]:
     """Those of a signature as it is written above; each of several texts makes one."""
     for alternative in text.split(" or "):
@@ -508,7 +525,7 @@ def needs_xml(_: str, buf: bytes) -> Needs | None:
 Accepts = Callable[[str, bytes], bool]
 WhatNeeds = Callable[[str, bytes], "Needs | None"]
 
-ALTERNATIVES = {line.split()[0]: list(alternatives_of(line[8:])) for line in FIXED.strip().splitlines()}
+ALTERNATIVES = dict(map(signature_of, FIXED.strip().splitlines()))
 KINDS: dict[str, tuple[Accepts, WhatNeeds]] = {
     **dict.fromkeys(ALTERNATIVES, (is_fixed, needs_fixed)),
     **dict.fromkeys(MATROSKA, (is_matroska, needs_matroska)),
@@ -540,6 +557,8 @@ EXTENSIONS = [extension for _, _, extension, _ in fields_of("rows.tsv")]
 SAMPLES = [None if sample == "none" else decode(sample) for _, _, _, sample in fields_of("rows.tsv")]
 if without := [name for name, extension in zip(ROW_NAMES, EXTENSIONS) if extension not in KINDS]:
     sys.exit(f"vectors/model/decided.py: no signature for {', '.join(without)} of vectors/rows.tsv")
+if unknown := [extension for extension in KINDS if extension not in EXTENSIONS]:
+    sys.exit(f"vectors/model/decided.py: no row of vectors/rows.tsv for the signature of {', '.join(unknown)}")
 
 
 def accepts(row: int, buf) -> bool:
