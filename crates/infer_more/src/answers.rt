@@ -586,7 +586,7 @@ macro_rules! by_parent {
     };
 }
 
-/// [`found`] below a row, of which `docs/tables` writes those that have code of their own. A function of its own, so
+/// [`found`] below a row, of which `tools/tables` writes those that have code of their own. A function of its own, so
 /// that a row that none widens takes nothing of what this one needs. The buffer comes first, as in what this calls, so
 /// that it is passed on as it came.
 #[inline(never)]

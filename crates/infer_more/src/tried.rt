@@ -56,7 +56,7 @@ macro_rules! by_row {
     };
 }
 
-/// Whether further row `i` has this parent and accepts the buffer. `docs/tables` writes the rows that have code of their
+/// Whether further row `i` has this parent and accepts the buffer. `tools/tables` writes the rows that have code of their
 /// own.
 #[inline(never)]
 pub(super) fn widens(i: usize, parent: Option<usize>, buf: &[u8]) -> bool

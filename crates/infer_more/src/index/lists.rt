@@ -1,4 +1,4 @@
-//! The lists of the index, which `docs/tables` makes from the rows: a place, a byte there, and a row, or a name and a row.
+//! The lists of the index, which `tools/tables` makes from the rows: a place, a byte there, and a row, or a name and a row.
 //! Those below each built-in row stand in its order, and those by the first byte eight a line.
 use crate::index::Below::{Entries, Nothing, Packages, Programs, Roots};
 use crate::index::{Below, Entry, Except, Gate, Guard, Named, Parentless, Range, Rooted, Texts};

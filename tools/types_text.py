@@ -3,7 +3,7 @@ import re
 
 from further_index import TEXT, TEXT_OF_BYTES, byte_of, bytes_of
 
-HEAD = """# The further types of the library, as a text of types, in the order in which they are asked. docs/tables writes it from
+HEAD = """# The further types of the library, as a text of types, in the order in which they are asked. tools/tables writes it from
 # the rows.
 """
 # What each alternative that looks inside is called, and what it takes.

@@ -2,7 +2,7 @@
 
 `bench/run --pages` writes the tables of docs/PERFORMANCE.md, each between marks that name it, the picture, and the
 figures of those tables that other pages repeat; here both are read. What a command takes stands in docs/seconds.tsv,
-where `bench/commands --pages` and `.ci/run --pages` write it, and `docs/tables` writes it into the pages. The version
+where `bench/commands --pages` and `.ci/run --pages` write it, and `tools/tables` writes it into the pages. The version
 is that of c/infer.h."""
 import json
 import math

@@ -11,7 +11,7 @@ MOST_BYTES = 5
 MOST_GUARDS = 15
 # Behind the gate, what a row costs that passes the guard of another.
 BEHIND = 12
-HEAD = """//! The lists of the index, which `docs/tables` makes from the rows: a place, a byte there, and a row, or a name and a row.
+HEAD = """//! The lists of the index, which `tools/tables` makes from the rows: a place, a byte there, and a row, or a name and a row.
 //! Those below each built-in row stand in its order, and those by the first byte eight a line.
 use crate::index::Below::{{Entries, Nothing, Packages, Programs, Roots}};
 use crate::index::{{Below, Entry, Except, Gate, Guard, Named, Parentless, Range, Rooted, Texts}};

@@ -41,7 +41,7 @@ class Row(NamedTuple):
 
 
 def refuse(what):
-    sys.exit(f"docs/tables: {what}")
+    sys.exit(f"tools/tables: {what}")
 
 
 def lists():
@@ -150,9 +150,9 @@ def check_written(row, number, parents):
         refuse(f"{label} has the parent {row.parent}, and no built-in row is called that in crates/infer/src/table/rows.rt")
     for name in (it.partition("(")[0] for it in row.alternatives if not it[0].isdigit()):
         if name not in types_text.NAMES:
-            refuse(f"{label} asks for {name}, which docs/types_text.py cannot write in the notation: it wants a line in NAMES")
+            refuse(f"{label} asks for {name}, which tools/types_text.py cannot write in the notation: it wants a line in NAMES")
         if name not in further_index.NAMED and name not in further_index.OUTLINES:
-            refuse(f"{label} asks for {name}, of which docs/further_index.py knows no bytes: it wants a line in OUTLINES")
+            refuse(f"{label} asks for {name}, of which tools/further_index.py knows no bytes: it wants a line in OUTLINES")
     try:
         line = types_text.line(row, parents).strip()
     except (AttributeError, IndexError, SyntaxError, TypeError, ValueError):

@@ -33,7 +33,7 @@ def between(text, begin, end, lines):
     before, found, after = text.partition(begin + "\n")
     _, last, rest = after.partition(f"\n{end}\n")
     if not found or not last:
-        raise SystemExit(f"docs/tables: the dispatch has no place between {begin} and {end}")
+        raise SystemExit(f"tools/tables: the dispatch has no place between {begin} and {end}")
     return before + found + "\n".join(lines) + last + rest
 
 

@@ -12,7 +12,7 @@ from texts import kept, text_of
 
 # What is made, and what is no source: the pages' own checks, and edits that are wrong by intent.
 PRUNED = {"out", ".git", ".ci", "target", "node_modules", "__pycache__", "dist", "must-fail"}
-OWN = {"docs/told.py", "docs/figures.py", "docs/texts.py"}
+OWN = {"tools/told.py", "tools/figures.py", "tools/texts.py"}
 # Names of other programs and languages that no source here has.
 FOREIGN = """auditwheel ldconfig memmove Send Sync must_use TLS allocate structures GLIBC_2 flif recend sshlogin basefile nonall
 spark gp mpa tex v3 dac8208d650f15bf manylinux_2_17_x86_64 manylinux2014_x86_64 linux_x86_64 curl checkCode
@@ -95,7 +95,7 @@ def check_paths(page):
 def rows():
     """The MIME type, extension and class of each row."""
     lines = [it.split("\t") for path in ("vectors/rows.tsv", "vectors/further/rows.tsv") for it in text_of(path).splitlines()]
-    # (docs/tables tells of a line that has fewer columns)
+    # (tools/tables tells of a line that has fewer columns)
     return {(it[1], it[2], it[0].lower()) for it in lines if len(it) > 2}
 
 
@@ -199,7 +199,7 @@ def check_compiling(page, rest):
 
 def check_commands(page):
     lines = [it for it in blocks_of(page)] + [it for it in spans(page) if " " in it or "/" in it]
-    heads = ("cd ", "rt ", "cc ", "c/", "docs/", "bench/", ".ci/", "bindings/", "examples/", "infer_tool ", "./infer_tool ", "./directory_report ", "PYTHONPATH=", "export ", "find ")
+    heads = ("cd ", "rt ", "cc ", "c/", "tools/", "bench/", ".ci/", "bindings/", "examples/", "infer_tool ", "./infer_tool ", "./directory_report ", "PYTHONPATH=", "export ", "find ")
     for line in lines:
         if line.startswith(heads):
             for command in simple_commands(line):
