@@ -1,29 +1,36 @@
 #!/usr/bin/python3
-"""Tells the types of all files in folders on many processes or machines, by Dask. MANY_MACHINES.md says how.
+"""Tells the types of all files in folders by processes of this machine, or on many machines by Dask. MANY_MACHINES.md
+says how.
 
-It needs Debian's packages python3-dask and python3-distributed, and python3-matplotlib for the picture."""
+With --scheduler it needs Debian's packages python3-dask and python3-distributed, and python3-matplotlib for the picture."""
 from __future__ import annotations
 
 import argparse
 import contextlib
 import errno
 import functools
-import glob
 import hashlib
+import io
 import json
 import logging
+import multiprocessing
+import multiprocessing.connection
 import os
+import re
+import signal
 import stat
 import sys
 import tempfile
+import threading
 import zlib
 from collections import Counter
 from collections.abc import Callable, Iterable, Iterator
+from concurrent.futures import FIRST_COMPLETED, CancelledError, Executor, Future, ProcessPoolExecutor, wait
+from concurrent.futures.process import BrokenProcessPool
 from dataclasses import dataclass
 from typing import TYPE_CHECKING
 
 if TYPE_CHECKING:
-    import distributed
     import infer
 
 sys.path.append(os.path.join(os.path.dirname(os.path.abspath(__file__)), "..", "..", "bindings", "python", "src"))
@@ -31,6 +38,11 @@ sys.path.append(os.path.join(os.path.dirname(os.path.abspath(__file__)), "..", "
 OPEN = os.O_RDONLY | os.O_NONBLOCK | os.O_NOFOLLOW | os.O_NOCTTY | os.O_CLOEXEC
 FRONT, MOST, USUAL, AHEAD = 8192, 4000, 1000, 64  # bytes of a file; names of a partition; partitions under way
 CLEAR = "\r\033[K"  # takes a bar from a terminal
+# Controls beyond those that JSON escapes, further line ends, and marks of direction.
+OBEYED = re.compile("[\x7f-\x9f\u061c\u200e\u200f\u2028-\u202e\u2066-\u2069]")
+# The names that the report's folder has from here: whole files, and those that are being written.
+WHOLE = re.compile(r"(?P<part>part-[0-9a-f]{64})\.(jsonl|sums)")
+UNFINISHED = re.compile(r"\.(part-[0-9a-f]{64}\.(jsonl|sums)|summary\.(json|png))\.[a-z0-9_]{8}")
 
 
 @dataclass(frozen=True)
@@ -194,22 +206,27 @@ def path_of(out: str, part: list[Entry]) -> str:
     return os.path.join(out, "part-" + hashlib.sha256(repr([(entry.root, entry.below, entry.fault) for entry in part]).encode()).hexdigest())
 
 
-def put(path: str, text: str) -> None:
-    """Writes a file under another name, and renames it once it is whole."""
-    with tempfile.NamedTemporaryFile("w", encoding="utf-8", dir=os.path.dirname(path), prefix=".part-", delete=False) as file:
-        file.write(text)
+def put(path: str, content: bytes) -> None:
+    """Writes a file under another name, and renames it once it is whole. Nobody else reads it: it may have names."""
+    folder, name = os.path.split(path)
+    with tempfile.NamedTemporaryFile(dir=folder, prefix=f".{name}.", delete=False) as file:
+        file.write(content)
         file.flush()
         os.fsync(file.fileno())
-    os.chmod(file.name, 0o644)
     os.rename(file.name, path)
+
+
+def line_of(told: dict[str, str | None]) -> str:
+    """The line of a file, in which no name has what a terminal or a reader of lines obeys."""
+    return OBEYED.sub(lambda it: f"\\u{ord(it[0]):04x}", json.dumps(told, ensure_ascii=False, separators=(",", ":"))) + "\n"
 
 
 def write(path: str, part: list[Entry]) -> dict[str, int]:
     """Writes the sums and then the lines of a partition, on a worker: who sees the lines finds the sums too."""
     sums: Counter[str] = Counter()
-    text = "".join(json.dumps(line, ensure_ascii=False, separators=(",", ":")) + "\n" for line in lines_of(part, sums))
-    put(path + ".sums", json.dumps(sums))
-    put(path + ".jsonl", text)
+    text = "".join(map(line_of, lines_of(part, sums)))
+    put(path + ".sums", json.dumps(sums).encode())
+    put(path + ".jsonl", text.encode())
     return dict(sums)
 
 
@@ -229,18 +246,23 @@ def add(total: Counter[str], sums: dict[str, int], known: int) -> None:
         print(f"\r[{bar:30}] {says}\033[K", end="", file=sys.stderr, flush=True)
 
 
-def counts(client: distributed.Client, parts: Iterable[tuple[str, list[Entry]]]) -> Iterator[dict[str, int]]:
+def counts(workers: Executor, parts: Iterable[tuple[str, list[Entry]]]) -> Iterator[dict[str, int]]:
     """Has the workers write what is not there yet. At most some partitions are under way, so memory does not grow."""
-    from distributed import as_completed
-    waiting = as_completed()
-    for path, part in parts:
-        if os.path.exists(path + ".jsonl"):
-            yield sums_of(path)
-            continue
-        waiting.add(client.submit(write, path, part, pure=False))
-        if waiting.count() >= AHEAD:
-            yield result_of(next(waiting))
-    yield from map(result_of, waiting)
+    waiting: set[Future[dict[str, int]]] = set()
+    try:
+        for path, part in parts:
+            if os.path.exists(path + ".jsonl"):
+                yield sums_of(path)
+                continue
+            waiting.add(workers.submit(write, path, part))
+            if len(waiting) >= AHEAD:
+                done, waiting = wait(waiting, return_when=FIRST_COMPLETED)
+                yield from map(result_of, done)
+        yield from map(result_of, waiting)
+    finally:
+        # What is not begun is not waited for, if it ends by a fault.
+        for future in waiting:
+            future.cancel()
 
 
 def named_parts(out: str, roots: list[bytes], paths: set[str]) -> Iterator[tuple[str, list[Entry]]]:
@@ -251,22 +273,24 @@ def named_parts(out: str, roots: list[bytes], paths: set[str]) -> Iterator[tuple
         yield path, part
 
 
-def run(client: distributed.Client, out: str, roots: list[bytes]) -> Counter[str]:
+def run(workers: Executor, out: str, roots: list[bytes]) -> Counter[str]:
     """Writes all partitions, takes away what is none of them, and counts."""
     total: Counter[str] = Counter()
     paths: set[str] = set()
-    for sums in counts(client, named_parts(out, roots, paths)):
+    for sums in counts(workers, named_parts(out, roots, paths)):
         add(total, sums, len(paths))
     clear(out, paths)
     return total
 
 
 def clear(out: str, paths: set[str]) -> None:
-    """Takes away partitions of an earlier walk, whose files would be counted twice, and what dead workers left."""
-    for path in glob.glob(glob.escape(out) + "/part-*") + glob.glob(glob.escape(out) + "/.part-*"):
-        if os.path.splitext(path)[0] not in paths:
+    """Takes away partitions of an earlier walk, whose files would be counted twice, and what dead workers left. A name
+    that is not made here stays, whatever it begins with."""
+    for name in os.listdir(out):
+        whole = WHOLE.fullmatch(name)
+        if UNFINISHED.fullmatch(name) or (whole and os.path.join(out, whole["part"]) not in paths):
             with contextlib.suppress(FileNotFoundError):
-                os.unlink(path)
+                os.unlink(os.path.join(out, name))
 
 
 def summary(total: Counter[str]) -> dict[str, object]:
@@ -303,7 +327,9 @@ def draw(told: dict, path: str) -> None:
         axes.invert_yaxis()
         axes.set_xlabel(title)
     figure.tight_layout()
-    figure.savefig(path, dpi=80)
+    picture = io.BytesIO()
+    figure.savefig(picture, dpi=80, format="png")
+    put(path, picture.getvalue())
 
 
 def refuse(why: str) -> None:
@@ -329,32 +355,58 @@ def check_folders(out: str, folders: list[str]) -> None:
             refuse(f"{out!a}, for the report, stands in {folder!a}")
 
 
-def connect(scheduler: str | None, stack: contextlib.ExitStack) -> distributed.Client:
-    """The client of that scheduler, or of a cluster of processes of this machine, which ends with the stack."""
-    from distributed import Client, LocalCluster
-    if not scheduler:
-        place = stack.enter_context(tempfile.TemporaryDirectory())
-        # Without an address for its pages Dask serves them on every one of the machine's.
-        own = {"host": "127.0.0.1", "dashboard_address": "127.0.0.1:0", "worker_dashboard_address": "127.0.0.1:0"}
-        scheduler = stack.enter_context(LocalCluster(threads_per_worker=1, local_directory=place, **own))
-    return stack.enter_context(Client(scheduler, timeout=10))
+def check_report(out: str) -> None:
+    """Refuses a folder that has something else in it than a report, or than what an interrupted run left of one."""
+    names = set(os.listdir(out))
+    if "summary.json" in names:
+        with contextlib.suppress(OSError, ValueError), open(os.path.join(out, "summary.json"), encoding="utf-8") as file:
+            told = json.load(file)
+            if isinstance(told, dict) and told.keys() == summary(Counter()).keys():
+                return
+    others = sorted(it for it in names if not WHOLE.fullmatch(it) and not UNFINISHED.fullmatch(it))
+    if others:
+        refuse(f"{out!a} has {others[0]!a} and no summary of a report: take a folder of its own")
 
 
-def result_of(future: distributed.Future) -> dict[str, int]:
-    """The counts of a partition that was written. One on which worker after worker dies is a failure."""
-    from distributed import CancelledError, KilledWorker
+def begin() -> None:
+    """Readies a process of this machine: an interrupt is for the one that walks, and none outlives that one."""
+    signal.signal(signal.SIGINT, signal.SIG_IGN)
+    parent = multiprocessing.parent_process()
+    assert parent
+
+    def end() -> None:
+        multiprocessing.connection.wait([parent.sentinel])
+        os._exit(1)
+
+    threading.Thread(target=end, daemon=True).start()
+
+
+def workers_of(scheduler: str | None, stack: contextlib.ExitStack) -> Executor:
+    """The workers of that scheduler; or processes of this machine, which hear by pipes alone, so that nobody else does."""
+    if scheduler:
+        from distributed import Client
+        return stack.enter_context(Client(scheduler, timeout=10)).get_executor(pure=False)
+    processes = len(os.sched_getaffinity(0))
+    return stack.enter_context(ProcessPoolExecutor(processes, multiprocessing.get_context("fork"), begin))
+
+
+def result_of(future: Future[dict[str, int]]) -> dict[str, int]:
+    """The counts of a partition that was written. One on which worker after worker of a cluster dies is a failure."""
     try:
         return future.result()
     except CancelledError:
         raise OSError("the scheduler has gone; the same words go on from what is written") from None
-    except KilledWorker as fault:
+    except Exception as fault:
+        # KilledWorker is known only where Dask is, and BrokenProcessPool is for who made the pool.
+        if type(fault).__name__ != "KilledWorker":
+            raise
         raise OSError(f"the workers died again and again: {fault}") from None
 
 
 def main() -> int:
     words = Words(description="Tells the types of all files in the folders, on many workers.", allow_abbrev=False)
-    words.add_argument("--scheduler", metavar="ADDRESS", help="of a cluster that runs; without it processes of this machine are the workers")
-    words.add_argument("--out", metavar="FOLDER", default="report", help="where the report is written, and goes on: report")
+    words.add_argument("--scheduler", metavar="ADDRESS", help="of a cluster of Dask that runs; without it processes of this machine are the workers")
+    words.add_argument("--out", metavar="FOLDER", required=True, help="where the report is written, and goes on: a folder of its own")
     words.add_argument("folders", metavar="FOLDER", nargs="+")
     given = words.parse_args()
     check_folders(given.out, given.folders)
@@ -364,12 +416,15 @@ def main() -> int:
     try:
         import infer  # noqa: F401
         os.makedirs(out, exist_ok=True)
+        check_report(out)
         with contextlib.ExitStack() as stack:
-            client = connect(given.scheduler, stack)
-            total = run(client, out, [os.fsencode(os.path.abspath(it) if given.scheduler else it) for it in given.folders])
+            workers = workers_of(given.scheduler, stack)
+            total = run(workers, out, [os.fsencode(os.path.abspath(it) if given.scheduler else it) for it in given.folders])
         told = summary(total)
-        put(os.path.join(out, "summary.json"), json.dumps(told, indent=1) + "\n")
+        put(os.path.join(out, "summary.json"), (json.dumps(told, indent=1) + "\n").encode())
         draw(told, os.path.join(out, "summary.png"))
+    except BrokenProcessPool:
+        refuse("a process died; the same words go on from what is written")
     except (ImportError, OSError, ValueError) as fault:
         refuse((str(fault) or type(fault).__name__).splitlines()[0])
     if sys.stderr.isatty():
