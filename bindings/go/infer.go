@@ -40,9 +40,11 @@ import "C"
 
 import (
 	"bufio"
+	"errors"
 	"io"
 	"os"
 	"sync"
+	"syscall"
 	"unsafe"
 )
 
@@ -149,18 +151,37 @@ func Verdict(b []byte) (found Type, ok bool, final bool) {
 	return found, ok, both&1 == 1
 }
 
+var errCount = errors.New("infer: a reader said that it gave less than no bytes, or more than it had room for")
+
 var fronts = sync.Pool{New: func() any { return new([Front]byte) }}
 
 // DetectReader tells the type of the first 8192 bytes of a reader, which are gone from it then. It takes no others.
 func DetectReader(r io.Reader) (Type, bool, error) {
 	front := fronts.Get().(*[Front]byte)
 	defer fronts.Put(front)
-	count, err := io.ReadFull(r, front[:])
-	if err != nil && err != io.EOF && err != io.ErrUnexpectedEOF {
+	count, err := readFront(r, front[:])
+	if err != nil {
 		return Type{}, false, err
 	}
 	found, ok := Detect(front[:count])
 	return found, ok, nil
+}
+
+// readFront fills the bytes or ends with the reader. One that says that it gave less than none or more than there is room
+// for would have the caller look elsewhere.
+func readFront(r io.Reader, front []byte) (count int, err error) {
+	for count < len(front) && err == nil {
+		var given int
+		given, err = r.Read(front[count:])
+		if given < 0 || given > len(front)-count {
+			return 0, errCount
+		}
+		count += given
+	}
+	if err == io.EOF || count == len(front) {
+		err = nil
+	}
+	return count, err
 }
 
 // DetectWhole tells the same, and gives a reader of the whole: those bytes and then the rest. If a read fails, it gives
@@ -175,14 +196,39 @@ func DetectWhole(r io.Reader) (found Type, ok bool, whole *bufio.Reader, err err
 	return found, ok, whole, nil
 }
 
-// DetectFile tells the type of the first 8192 bytes of a file.
+// DetectFile tells the type of the first 8192 bytes of a regular file. It opens no other, and waits for no FIFO.
 func DetectFile(path string) (Type, bool, error) {
-	file, err := os.Open(path)
+	about, err := os.Stat(path)
+	if err != nil {
+		return Type{}, false, err
+	}
+	// A device can act as soon as it is opened.
+	if err := refuseUnlessRegular(about, path); err != nil {
+		return Type{}, false, err
+	}
+	file, err := os.OpenFile(path, os.O_RDONLY|syscall.O_NONBLOCK|syscall.O_NOCTTY, 0)
 	if err != nil {
 		return Type{}, false, err
 	}
 	defer file.Close()
+	// The path may name another file by now.
+	if about, err = file.Stat(); err == nil {
+		err = refuseUnlessRegular(about, path)
+	}
+	if err != nil {
+		return Type{}, false, err
+	}
 	return DetectReader(file)
+}
+
+func refuseUnlessRegular(about os.FileInfo, path string) error {
+	if about.Mode().IsRegular() {
+		return nil
+	}
+	if about.IsDir() {
+		return &os.PathError{Op: "open", Path: path, Err: syscall.EISDIR}
+	}
+	return &os.PathError{Op: "open", Path: path, Err: syscall.ENOTSUP}
 }
 
 // Is tells whether some type with this extension accepts the bytes. It need not be the answer of Detect.

@@ -6,6 +6,7 @@ import (
 	"encoding/hex"
 	"errors"
 	"io"
+	"math"
 	"math/rand"
 	"os"
 	"path/filepath"
@@ -13,8 +14,10 @@ import (
 	"strconv"
 	"strings"
 	"sync"
+	"syscall"
 	"testing"
 	"testing/iotest"
+	"time"
 	"unicode/utf8"
 )
 
@@ -306,6 +309,45 @@ func TestReaders(t *testing.T) {
 	}
 	if _, _, err := DetectFile(filepath.Dir(path)); err == nil {
 		t.Error("a folder is read")
+	}
+}
+
+// lying gives no bytes and says that it gave some.
+type lying int
+
+func (count lying) Read([]byte) (int, error) { return int(count), nil }
+
+func TestLyingReaders(t *testing.T) {
+	for _, count := range []lying{-1, Front + 1, math.MaxInt, math.MinInt} {
+		if _, ok, err := DetectReader(count); ok || err == nil {
+			t.Error(count, ok, err)
+		}
+		if _, ok, err := DetectReader(io.MultiReader(bytes.NewReader(jpeg), count)); ok || err == nil {
+			t.Error(count, ok, err)
+		}
+	}
+}
+
+// What is no regular file is a fault at once, whoever writes to it.
+func TestFilesOfOtherKinds(t *testing.T) {
+	path := filepath.Join(t.TempDir(), "fifo")
+	if err := syscall.Mkfifo(path, 0o600); err != nil {
+		t.Skip(err)
+	}
+	for path, want := range map[string]error{path: syscall.ENOTSUP, "/dev/null": syscall.ENOTSUP, filepath.Dir(path): syscall.EISDIR} {
+		path, ended := path, make(chan error, 1)
+		go func() {
+			_, _, err := DetectFile(path)
+			ended <- err
+		}()
+		select {
+		case err := <-ended:
+			if !errors.Is(err, want) || !strings.Contains(err.Error(), path) {
+				t.Error(path, err)
+			}
+		case <-time.After(10 * time.Second):
+			t.Error(path, "holds the call")
+		}
 	}
 }
 

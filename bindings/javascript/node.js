@@ -1,5 +1,6 @@
 // The package as Node takes it: with files and Node's own streams.
-import { open, readFile } from "node:fs/promises";
+import { constants } from "node:fs";
+import { open, readFile, stat } from "node:fs/promises";
 import { Readable } from "node:stream";
 import * as core from "./core.js";
 
@@ -20,9 +21,19 @@ export {
     wider,
 } from "./core.js";
 
+/** What has no front of its own to read is a fault: opening a FIFO would wait, and hold one of Node's few threads. */
+const refuseUnlessRegular = (about, path) => {
+    if (about.isFile()) return;
+    const [code, why] = about.isDirectory() ? ["EISDIR", "illegal operation on a directory"] : ["ENOTSUP", "not a regular file"];
+    throw Object.assign(new Error(`${code}: ${why}, open '${path}'`), { code, syscall: "open", path });
+};
+
 export const fileTypeFromFile = async (path) => {
-    const file = await open(path);
+    // A device can act as soon as it is opened. By then the path may name another file, so that is asked again.
+    refuseUnlessRegular(await stat(path), path);
+    const file = await open(path, constants.O_RDONLY | constants.O_NONBLOCK | constants.O_NOCTTY);
     try {
+        refuseUnlessRegular(await file.stat(), path);
         const front = new Uint8Array(FRONT);
         let length = 0;
         while (length < FRONT) {

@@ -3,6 +3,7 @@ import assert from "node:assert/strict";
 import { existsSync, mkdtempSync, openAsBlob, readFileSync, rmSync, truncateSync, writeFileSync } from "node:fs";
 import { tmpdir } from "node:os";
 import { join } from "node:path";
+import { execFileSync } from "node:child_process";
 import { Readable } from "node:stream";
 import { test } from "node:test";
 import { pathToFileURL } from "node:url";
@@ -205,6 +206,19 @@ test("a file is told by its path, and faults are those of Node", async () => {
         await assert.rejects(fileTypeFromFile(folder), { code: "EISDIR" });
         await assert.rejects(fileTypeFromFile(path + "\0"), TypeError);
         for (const other of [undefined, 3, {}, jpeg.buffer]) await assert.rejects(fileTypeFromFile(other), TypeError);
+    } finally {
+        rmSync(folder, { recursive: true });
+    }
+});
+
+test("what is no regular file is a fault at once, and holds no thread of Node", { timeout: 30_000 }, async () => {
+    const folder = mkdtempSync(join(tmpdir(), "infer-test-"));
+    try {
+        const fifos = [1, 2, 3, 4, 5].map((number) => join(folder, `fifo ${number}`));
+        execFileSync("mkfifo", fifos);
+        for (const path of [...fifos, "/dev/null"]) await assert.rejects(fileTypeFromFile(path), { code: "ENOTSUP", path });
+        writeFileSync(join(folder, "photo"), jpeg);
+        assert.deepEqual(await fileTypeFromFile(join(folder, "photo")), JPEG);
     } finally {
         rmSync(folder, { recursive: true });
     }

@@ -179,8 +179,8 @@ def get_type(mime: str | None = None, ext: str | None = None, more: bool = False
 def _encoded(text: str) -> bytes:
     if not isinstance(text, str):
         raise TypeError(f"hand over a str, and not {type(text).__name__}")
-    # A text that is not Unicode is nobody's.
-    return text.encode("utf-8", "surrogatepass")
+    # A text that is not Unicode is nobody's. Not what a subclass of str calls encoding.
+    return str.encode(text, "utf-8", "surrogatepass")
 
 
 def is_extension(obj: Source, ext: str) -> bool:
@@ -319,7 +319,7 @@ class Types:
         if not isinstance(text, (str, bytes)):
             raise TypeError(f"hand over the text as str or bytes, and not {type(text).__name__}")
         # A text that is not Unicode can be a remark.
-        self._text = text.encode("utf-8", "surrogatepass") if isinstance(text, str) else text
+        self._text = _encoded(text) if isinstance(text, str) else bytes(memoryview(text))
         if mistake := _library.types_mistake(self._text):
             raise TypesError(*mistake)
 

@@ -1,7 +1,11 @@
 """The first bytes of a path, of bytes or of a file."""
 from __future__ import annotations
 
+import contextlib
+import errno
+import io
 import os
+import stat
 from collections.abc import Awaitable
 from typing import Any, Protocol, Union
 
@@ -21,12 +25,13 @@ Source = Union[str, "os.PathLike[str]", "os.PathLike[bytes]", bytes, bytearray, 
 
 def get_bytes(obj: Source) -> bytes:
     """The first 8192 bytes. The place of a file is put back if its `tell` and `seek` work."""
-    if isinstance(obj, bytes):
+    if type(obj) is bytes:
         return obj[:FRONT]
-    if isinstance(obj, (bytearray, memoryview)):
+    # A subclass can state another length and other bytes than it has, and a view asks it for neither.
+    if isinstance(obj, (bytes, bytearray, memoryview)):
         return _of_view(memoryview(obj))
     if isinstance(obj, (str, os.PathLike)):
-        with open(obj, "rb", buffering=0) as file:
+        with _open(obj) as file:
             return _read(file)
     if not hasattr(obj, "read"):
         raise TypeError(f"hand over a path, bytes, or a file that is open for reading bytes, and not {type(obj).__name__}")
@@ -39,10 +44,34 @@ def get_bytes(obj: Source) -> bytes:
         obj.seek(place)  # type: ignore[attr-defined]
 
 
+def _open(path: Union[str, os.PathLike[str], os.PathLike[bytes]]) -> io.FileIO:
+    """Opens a regular file. A device can act as soon as it is opened, and opening a FIFO waits, so each is a fault."""
+    def check(about: os.stat_result) -> None:
+        if not stat.S_ISREG(about.st_mode):
+            number = errno.EISDIR if stat.S_ISDIR(about.st_mode) else errno.ENOTSUP
+            raise OSError(number, os.strerror(number), path)
+
+    # Windows has neither.
+    at_once = getattr(os, "O_NONBLOCK", 0) | getattr(os, "O_NOCTTY", 0)
+    check(os.stat(path))
+    file = open(path, "rb", buffering=0, opener=lambda name, flags: os.open(name, flags | at_once))
+    try:
+        # The path may name another file by now.
+        check(os.fstat(file.fileno()))
+    except OSError:
+        file.close()
+        raise
+    return file
+
+
 def _of_view(view: memoryview) -> bytes:
     """The first bytes of a view of any format, shape and step. No more is copied than the entries that hold them."""
     if view.nbytes == 0:
         return b""
+    if view.c_contiguous:
+        # Some formats are not taken, as "<I" of ctypes.
+        with contextlib.suppress(TypeError, ValueError):
+            return view.cast("B")[:FRONT].tobytes()
     entries = view[: FRONT * view.shape[0] // view.nbytes + 1] if view.shape else view
     return entries.tobytes()[:FRONT]
 
@@ -71,7 +100,8 @@ def _read(file: Readable) -> bytes:
             raise BlockingIOError("the file does not block and has no bytes yet: hand it over again when it has some")
         if part is None or not _is_bytes(part):
             break
-        parts.append(bytes(part))
+        # As it is, and not as a subclass of bytes says.
+        parts.append(memoryview(part).tobytes()[:left])
         left -= len(parts[-1])
     return b"".join(parts)[:FRONT]
 
@@ -81,7 +111,7 @@ def _is_bytes(part: object) -> bool:
     _refuse_if_asynchronous(part)
     if not isinstance(part, (bytes, bytearray, memoryview)):
         raise TypeError(f"`read` gives {type(part).__name__} and not bytes: open the file for reading bytes, as in mode 'rb'")
-    return len(part) > 0
+    return memoryview(part).nbytes > 0
 
 
 def _refuse_if_asynchronous(answer: object) -> None:

@@ -173,6 +173,20 @@ fn the_first_bytes_of_a_file_are_looked_at() {
     assert!(infer.get_from_path(env!("CARGO_TARGET_TMPDIR")).is_err());
 }
 
+/// What is no regular file is a fault at once, and holds no call.
+#[test]
+fn files_of_other_kinds_are_faults() {
+    let fifo = PathBuf::from(env!("CARGO_TARGET_TMPDIR")).join(format!("fifo {}", std::process::id()));
+    assert!(std::process::Command::new("mkfifo").arg(&fifo).status().unwrap().success());
+    for path in [fifo.clone(), "/dev/null".into()] {
+        let (ended, answer) = std::sync::mpsc::channel();
+        std::thread::spawn(move || ended.send(infer::get_from_path(path).map_err(|fault| fault.kind())));
+        let told = answer.recv_timeout(std::time::Duration::from_secs(10)).expect("the call returns");
+        assert_eq!(told, Err(ErrorKind::Unsupported));
+    }
+    fs::remove_file(fifo).unwrap();
+}
+
 const OWN_TYPES: &str = "# extension MIME type class parent signature
 qoi   image/qoi        image -   14: @0 \"qoif\"
 myapp application/x-my app   zip 42: @30 \"manifest.my\"
