@@ -29,7 +29,7 @@ static const char help[] =
     "    directory_report --summary -r /srv /home\n"
     "\n"
     "A line is the MIME type, the extension, the class and the name between tabs, and\n"
-    "ends in a zero byte. A file that cannot be read is a line with the reason.\n"
+    "ends in a zero byte, or on a terminal as lines do. A fault is a line as well.\n"
     "\n"
     "  -j            write JSON, an object on each line\n"
     "  -r            walk the folders: no link is followed, only files are opened\n"
@@ -86,6 +86,7 @@ struct report {
     struct name name;
     uintmax_t names, faults; /* how many names were read, and of how many the file could not be */
     struct total *totals;    /* of each row, of each type of the caller, and then of no row */
+    bool is_seen;            /* the lines are written to a terminal */
     bool is_shown;           /* the progress line */
     long long shown, input;  /* when it was written last; the size of the list of names, or 0 */
 };
@@ -334,18 +335,39 @@ static bool is_utf8(const char *text) {
     return true;
 }
 
+/* The character that stands in so many bytes. */
+static unsigned code_of(const unsigned char *text, size_t size) {
+    unsigned code = size == 1 ? text[0] : text[0] & (0xFFu >> (size + 1));
+    for (size_t i = 1; i < size; i++)
+        code = code << 6 | (text[i] & 0x3Fu);
+    return code;
+}
+
+/* Whether a terminal or a reader of lines obeys the character: a control, an end of a line, a mark of direction. */
+static bool is_obeyed(unsigned code) {
+    return code < 0x20 || (code >= 0x7F && code <= 0x9F) || code == 0x61C || code == 0x200E || code == 0x200F ||
+           (code >= 0x2028 && code <= 0x202E) || (code >= 0x2066 && code <= 0x2069);
+}
+
+/* Writes a text so that nothing of it is obeyed, with a backslash before it and before each of the marks. A byte that is
+ * of no character is \x and its digits. */
+static void put_escaped(const char *text, const char *marks) {
+    for (const unsigned char *at = (const unsigned char *)text; *at;) {
+        size_t size = character(at);
+        unsigned code = code_of(at, size ? size : 1);
+        if (size == 0)
+            printf("\\x%02x", code);
+        else if (is_obeyed(code))
+            printf("\\u%04x", code);
+        else
+            printf("%s%.*s", strchr(marks, *at) ? "\\" : "", (int)size, (const char *)at);
+        at += size ? size : 1;
+    }
+}
+
 static void put_json(const char *text) {
     putchar('"');
-    for (; *text; text++) {
-        unsigned char byte = (unsigned char)*text;
-        if (byte < 0x20 || byte == 0x7F)
-            printf("\\u%04x", byte);
-        else {
-            if (byte == '"' || byte == '\\')
-                putchar('\\');
-            putchar(byte);
-        }
-    }
+    put_escaped(text, "\"\\");
     putchar('"');
 }
 
@@ -386,7 +408,8 @@ static void put_json_line(const struct name *name, const struct finding *found) 
     fputs("}\n", stdout);
 }
 
-/* The name comes last, since it alone can have tabs. */
+/* The name comes last, since it alone can have tabs. A terminal gets a line that it does not obey; all else gets the name
+ * as it is, up to a zero byte, which no name has. */
 static void put_line(const struct report *report, const struct finding *found) {
     if (found->fault)
         printf("fault\t%s\t-\t", found->fault);
@@ -400,6 +423,11 @@ static void put_line(const struct report *report, const struct finding *found) {
         printf("%s\t%s\t", mime_type_of(found->claimed), extension_of(found->claimed));
     else if (report->options.is_disagree)
         fputs("-\t-\t", stdout);
+    if (report->is_seen) {
+        put_escaped(report->name.text, "\\");
+        putchar('\n');
+        return;
+    }
     fputs(report->name.text, stdout);
     putchar(0);
 }
@@ -663,6 +691,7 @@ static bool make_totals(struct report *report) {
 /* Writes the whole report, and answers the status. */
 static int run(struct report *report, char **folders, int count) {
     prepare_progress(report);
+    report->is_seen = isatty(STDOUT_FILENO);
     for (int i = 0; i < count; i++)
         walk(report, folders[i]);
     if (!report->options.is_walk)
