@@ -26,6 +26,9 @@ export function encoding(bytes: Bytes): "us-ascii" | "utf-8" | "utf-16le" | "utf
 /** Whether no bytes that may follow can change the answer of fileTypeFromBuffer. */
 export function isDecided(bytes: Bytes): boolean;
 
+/** Whether no bytes that may follow can change the answer of wider. */
+export function isWiderDecided(bytes: Bytes): boolean;
+
 /** What is wrong with a text that describes no types, and where: the line and the column, both from 1, a column by bytes. */
 export class TypesError extends SyntaxError {
     private constructor();

@@ -86,6 +86,7 @@ const typeOf = (input) => answerOf(ask(infer.infer_position, input));
 export const wider = (input) => answerOf(ask(infer.infer_more_position, input));
 export const encoding = (input) => textOf(infer.infer_encoding, place, hand(input)) || undefined;
 export const isDecided = (input) => ask(infer.infer_is_decided, input) !== 0;
+export const isWiderDecided = (input) => ask(infer.infer_more_is_decided, input) !== 0;
 export const fileTypeFromBuffer = async (input) => typeOf(input);
 
 /** The mistake of a text that describes no types. */

@@ -17,6 +17,7 @@ export {
     fileTypeFromStream,
     fileTypeStream,
     isDecided,
+    isWiderDecided,
     knownTypes,
     supportedExtensions,
     supportedMimeTypes,

@@ -15,6 +15,7 @@ export {
     fileTypeFromBlob,
     fileTypeFromBuffer,
     isDecided,
+    isWiderDecided,
     knownTypes,
     supportedExtensions,
     supportedMimeTypes,

@@ -5,7 +5,7 @@ import * as infer from "hoarvelt-infer";
 import * as aliases from "hoarvelt-infer/aliases";
 import { furtherRows, furtherVectors, generator, rows, samples, vectors } from "./support.mjs";
 
-const { fileTypeFromBuffer, isDecided, wider } = infer;
+const { fileTypeFromBuffer, isDecided, isWiderDecided, wider } = infer;
 const JPEG = { ext: "jpg", mime: "image/jpeg" };
 const jpeg = new Uint8Array([0xff, 0xd8, 0xff, 0xe0]);
 
@@ -110,6 +110,18 @@ test("what is decided stays the answer, whatever follows", async () => {
             assert.deepEqual(await fileTypeFromBuffer(longer), type);
         }
     }
+    let decided = 0;
+    for (const { data } of furtherVectors) {
+        if (!isWiderDecided(data)) continue;
+        decided += 1;
+        const longer = new Uint8Array(data.length + 300).map(() => below(256));
+        longer.set(data);
+        assert.deepEqual(wider(longer), wider(data));
+    }
+    assert.ok(decided > 20, `${decided}`);
+    // XML is settled by its first bytes, and what kind of XML it is by its root element.
+    const xml = new TextEncoder().encode('<?xml version="1.0"?>'.padEnd(1100));
+    assert.deepEqual([isDecided(xml), isWiderDecided(xml)], [true, false]);
     assert.equal(isDecided(new Uint8Array()), false);
     assert.equal(isDecided(new Uint8Array(1 << 20)), true);
 });
@@ -140,6 +152,7 @@ test("a detached buffer and its views are refused", async () => {
         await assert.rejects(fileTypeFromBuffer(gone), TypeError);
         assert.throws(() => wider(gone), TypeError);
         assert.throws(() => isDecided(gone), TypeError);
+        assert.throws(() => isWiderDecided(gone), TypeError);
     }
 });
 
@@ -198,6 +211,7 @@ test("100,000 hostile buffers are answered, and no answer depends on the buffers
         const shown = shownOf(data);
         assert.ok(shown === "unknown" || known.has(shown), shown);
         assert.equal(typeof isDecided(data), "boolean");
+        assert.equal(typeof isWiderDecided(data), "boolean");
         // The buffer before, once more, after other bytes stood in its place.
         assert.equal(shownOf(last), lastShown);
         [last, lastShown, recognised] = [data, shown, recognised + (shown !== "unknown")];

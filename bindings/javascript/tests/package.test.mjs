@@ -98,7 +98,7 @@ const whole = await types.fileTypeStream(new Blob([]).stream());
 const more: types.FileTypeResult | undefined = whole.fileType ?? types.wider(new SharedArrayBuffer(4)) ?? (await types.fileTypeFromBlob(new Blob([])));
 const own: types.FileTypeResult | undefined = new types.Types("").wider(new Uint8Array(4)) ?? new types.Types(new ArrayBuffer(4)).wider(new ArrayBuffer(4));
 const place = (fault: types.TypesError): string => fault.reason + (fault.line + fault.column);
-const isDecided: boolean = types.isDecided(new DataView(new ArrayBuffer(4)));
+const isDecided: boolean = types.isDecided(new DataView(new ArrayBuffer(4))) && types.isWiderDecided(new Uint8Array(4));
 // @ts-expect-error
 await types.fileTypeFromBuffer("text");
 // @ts-expect-error
