@@ -1,13 +1,18 @@
 // Tells the types of files that are dropped on the page or chosen. Files are read here, and sent nowhere.
 
 const FRONT = 8192;
-const SHOWN_BYTES = 16;
-const BYTES_IN_A_LINE = 8;
 /** Among so many first bytes those that decide are looked for. */
 const SEARCHED = 1024;
+const BYTES_IN_A_LINE = 16;
+/** So many lines of an opened file are shown, and beyond them those that have a byte which decides. */
+const FIRST_LINES = 4;
 const ROWS_AT_ONCE = 500;
 const FILES_AT_ONCE = 32;
 const BETWEEN_PAINTS = 200;
+/** So many milliseconds the page works before it lets the browser draw and answer. */
+const WORK_AT_ONCE = 20;
+/** Of a name that is too long for its line so many last characters stay. */
+const END_OF_A_NAME = 12;
 /** An extension that is never the answer, since an earlier type has the same signature. */
 const SAME_SIGNATURE = new Map([["dll", "exe"]]);
 
@@ -23,23 +28,37 @@ const element = (name, className, ...inside) => {
 };
 
 const say = (text, isFault = false) => {
-    byId("status").textContent = text;
+    byId("status").replaceChildren(...[text].flat());
     byId("status").classList.toggle("fault", isFault);
 };
 
-/** A name with what is not seen written out, so that none can be shown in another order than it has. */
-const visible = (name) => name.replace(/[\p{Cc}\p{Cf}]/gu, (it) => `\\u{${it.codePointAt(0).toString(16)}}`);
+/** What is not seen, but for a plain blank, or has no form of its own; and what would look like one that is written out. */
+const UNSEEN = /[\p{C}\p{Default_Ignorable_Code_Point}\u2800]|[\p{Z}--[ ]]|\\(?=u\{)/gv;
+
+/** A name with what is not seen written out, so that none can be shown in another order than it has, or as another one. */
+const visible = (name) => name.replace(UNSEEN, (it) => `\\u{${it.codePointAt(0).toString(16)}}`);
 
 let infer;
 let aliases;
 
-/** After how many first bytes nothing that follows can change the answer, and undefined if not even after all of them. */
+/** Lets the browser draw and answer the keyboard. */
+const rest = () => new Promise((resolve) => setTimeout(resolve));
+
+/** Rests once the page has worked for a while since the last rest. */
+let rested = 0;
+const restIfLong = async () => {
+    if (performance.now() - rested < WORK_AT_ONCE) return;
+    await rest();
+    rested = performance.now();
+};
+
+/** After how many first bytes nothing that follows can change the wider answer; undefined if not even after all of them. */
 const decidedAfter = (front) => {
-    if (!infer.isDecided(front)) return undefined;
+    if (!infer.isWiderDecided(front)) return undefined;
     let [low, high] = [0, front.length];
     while (low < high) {
         const middle = (low + high) >> 1;
-        if (infer.isDecided(front.subarray(0, middle))) high = middle;
+        if (infer.isWiderDecided(front.subarray(0, middle))) high = middle;
         else low = middle + 1;
     }
     return low;
@@ -47,8 +66,8 @@ const decidedAfter = (front) => {
 
 const same = (one, other) => one?.ext === other?.ext && one?.mime === other?.mime;
 
-/** The places at which another byte, alone, makes the answer another one. */
-const decidingPlaces = (front, type) => {
+/** The places at which another byte, alone, makes the answer another one. Nobody asks for them but who opens a file. */
+const decidingPlaces = async (front, type) => {
     const places = [];
     if (!type) return places;
     const bytes = front.slice(0, SEARCHED);
@@ -62,6 +81,7 @@ const decidingPlaces = (front, type) => {
         });
         asked[at] = kept;
         if (isDeciding) places.push(at);
+        await restIfLong();
     }
     return places;
 };
@@ -76,36 +96,30 @@ const agreement = (name, types) => {
     const known = aliases.builtOn.get(extension) ?? SAME_SIGNATURE.get(extension) ?? extension;
     if (types.some((type) => type.ext === extension || type.ext === known)) return ["agrees", "agrees"];
     const claimed = [extension, known].map((it) => infer.knownTypes.find((type) => type.ext === it)).find(Boolean);
-    if (!claimed) return ["none", `${written} is not known`];
-    if (types.length === 1 && types[0].mime === "text/plain" && claimed.class === "text") return ["none", `text, as a ${written} is`];
-    if (types.length === 0) return ["none", `the bytes do not show ${written}`];
-    return ["differs", `differs: the name says ${written}`];
+    if (!claimed) return ["none", `${visible(written)} is not known`];
+    if (types.length === 1 && types[0].mime === "text/plain" && claimed.class === "text") return ["none", `text, as a ${visible(written)} is`];
+    if (types.length === 0) return ["none", `the bytes do not show ${visible(written)}`];
+    return ["differs", `the name says ${visible(written)}`];
 };
 
-/** All that the page shows of a file. */
-const judge = async ({ name, open }) => {
-    let front;
-    let size;
+const frontOf = async (file) => new Uint8Array(await file.slice(0, FRONT).arrayBuffer());
+
+/** The file, and its first bytes, or why there are none. */
+const read = async ({ name, open }) => {
     try {
         const file = await open();
-        size = file.size;
-        front = new Uint8Array(await file.slice(0, FRONT).arrayBuffer());
+        return { name, file, size: file.size, front: await frontOf(file) };
     } catch (fault) {
         return { name, fault: fault.message };
     }
-    const [type, wider] = [await infer.fileTypeFromBuffer(front), infer.wider(front)];
-    const types = [type, wider].filter(Boolean);
-    return { name, type, wider, size, encoding: infer.encoding(front), after: decidedAfter(front), agreement: agreement(name, types), shown: front.slice(0, SHOWN_BYTES), places: decidingPlaces(front, wider) };
 };
 
-/** A long MIME type is broken where it has a mark. */
-const mimeNote = (mime) => element("span", "note", ...mime.split(/(?<=[./-])/).flatMap((part) => [part, element("wbr", "")]));
-
-const typeCell = ({ type, wider }) => {
-    if (!wider) return element("td", "", "unknown");
-    const cell = element("td", "", wider.ext, mimeNote(wider.mime));
-    if (type && !same(type, wider)) cell.append(element("span", "note", `a kind of ${type.ext}`));
-    return cell;
+/** All that a row of the table says of a file. Its bytes are not kept: a folder can have very many files. */
+const judge = async ({ name, file, size, front, fault }) => {
+    if (fault !== undefined) return { name, fault };
+    const [type, wider] = [await infer.fileTypeFromBuffer(front), infer.wider(front)];
+    const [kind, words] = agreement(name, [type, wider].filter(Boolean));
+    return { name, file, size, type, wider, encoding: infer.encoding(front), after: decidedAfter(front), kind, words };
 };
 
 const afterText = ({ after, size }) => {
@@ -113,7 +127,7 @@ const afterText = ({ after, size }) => {
     return size <= FRONT ? `the end, ${counted(size, "byte")}` : `not by ${counted(FRONT, "byte")}`;
 };
 
-/** Places as spans: 0 1 2 5 as "0-2, 5". */
+/** Places as spans: 0 1 2 5 as "0–2, 5". */
 const spansOf = (places) => {
     const spans = [];
     for (const place of places) {
@@ -124,63 +138,176 @@ const spansOf = (places) => {
     return spans.map(([first, last]) => (first === last ? `${first}` : `${first}–${last}`)).join(", ");
 };
 
-const bytesCell = ({ shown, places }) => {
-    const cell = element("td", "bytes");
-    for (const [at, byte] of shown.entries()) {
-        if (at % BYTES_IN_A_LINE === 0) cell.append(element("span", "line"));
-        const digits = byte.toString(16).padStart(2, "0").toUpperCase();
-        cell.lastChild.append(places.includes(at) ? element("mark", "", digits) : digits, " ");
+/** The lines of a dump: the first, and those with a byte that decides. */
+const linesOf = (front, places) => {
+    const last = Math.min(FIRST_LINES, Math.ceil(front.length / BYTES_IN_A_LINE));
+    const shown = new Set([...Array(last).keys(), ...places.map((place) => Math.floor(place / BYTES_IN_A_LINE))]);
+    return [...shown].sort((one, other) => one - other);
+};
+
+/** Bytes in hexadecimal and as characters, each with a colour if it decides. */
+const dumpOf = (front, places) => {
+    const deciding = new Set(places);
+    const dump = element("pre", "dump");
+    dump.tabIndex = 0;
+    let before = -1;
+    for (const line of linesOf(front, places)) {
+        const from = line * BYTES_IN_A_LINE;
+        const bytes = [...front.subarray(from, from + BYTES_IN_A_LINE)];
+        const shownAs = (write) => bytes.map((byte, at) => (deciding.has(from + at) ? element("mark", "", write(byte)) : write(byte)));
+        const digits = shownAs((byte) => byte.toString(16).padStart(2, "0").toUpperCase()).flatMap((it) => [it, " "]);
+        const text = element("span", "text", ...shownAs((byte) => (byte > 0x20 && byte < 0x7f ? String.fromCharCode(byte) : "·")));
+        if (line !== before + 1) dump.append(element("span", "place", "     ⋮\n"));
+        dump.append(element("span", "place", `${from}`.padStart(6), "  "), ...digits, "   ".repeat(BYTES_IN_A_LINE - bytes.length), " ", text, "\n");
+        before = line;
     }
-    if (places.length > 0) cell.append(element("span", "note", `decided by ${places.length === 1 ? "byte" : "bytes"} ${spansOf(places)}`));
+    return dump;
+};
+
+/** What an opened file shows below its row. */
+const detailsOf = async ({ file, size, type, wider }) => {
+    const front = await frontOf(file);
+    const places = await decidingPlaces(front, wider);
+    const facts = [["Type", wider?.mime ?? "unknown"]];
+    if (type && !same(type, wider)) facts.push(["A kind of", `${type.ext}, ${type.mime}`]);
+    facts.push(["Size", counted(size, "byte")]);
+    if (places.length > 0) facts.push([places.length === 1 ? "Decided by byte" : "Decided by bytes", spansOf(places)]);
+    return [element("dl", "", ...facts.map(([term, text]) => element("div", "", element("dt", "", term), element("dd", "", text)))), dumpOf(front, places)];
+};
+
+const cellOf = (label, className, ...inside) => {
+    const cell = element("td", className, ...inside);
+    cell.dataset.label = label;
+    cell.role = "cell";
     return cell;
 };
 
-const rowOf = (result) => {
-    const name = element("th", "", visible(result.name));
-    name.scope = "row";
-    if (result.fault !== undefined) {
-        const cell = element("td", "differs", `could not be read: ${result.fault}`);
-        cell.colSpan = 5;
-        return element("tr", "", name, cell);
+/** A name whose end stays in sight, and which opens and closes what stands below its row. */
+const openerOf = (name) => {
+    const text = visible(name);
+    const letters = [...text];
+    const opener = element("button", "opener", element("span", "", letters.slice(0, -END_OF_A_NAME).join("")), element("span", "", letters.slice(-END_OF_A_NAME).join("")));
+    Object.assign(opener, { type: "button", title: text, ariaExpanded: "false" });
+    return opener;
+};
+
+const toggle = async (row, result) => {
+    const opener = row.querySelector(".opener");
+    if (opener.ariaExpanded === "true") {
+        opener.ariaExpanded = "false";
+        row.nextElementSibling.remove();
+        return;
     }
-    const [className, words] = result.agreement;
-    return element("tr", "", name, typeCell(result), element("td", "", result.encoding ?? "none"), element("td", className, words), element("td", "", afterText(result)), bytesCell(result));
+    opener.ariaExpanded = "true";
+    const cell = element("td", "", "Looking for the bytes that decide.");
+    cell.colSpan = 5;
+    cell.role = "cell";
+    const opened = element("tr", "opened", cell);
+    opened.role = "row";
+    row.after(opened);
+    try {
+        cell.replaceChildren(...(await detailsOf(result)));
+    } catch (fault) {
+        cell.replaceChildren(`It could not be read again: ${fault.message}`);
+    }
+};
+
+const rowOf = (result) => {
+    const name = element("th", "", result.fault === undefined ? openerOf(result.name) : visible(result.name));
+    Object.assign(name, { scope: "row", role: "rowheader" });
+    const row = element("tr", "file", name);
+    row.role = "row";
+    if (result.fault !== undefined) {
+        const cell = cellOf("", "differs", `could not be read: ${result.fault}`);
+        cell.colSpan = 4;
+        row.append(cell);
+        return row;
+    }
+    const type = result.wider ? [result.wider.ext, " ", element("span", "note", result.wider.mime)] : ["unknown"];
+    const [encoding, after] = [result.encoding ?? "none", afterText(result)];
+    row.append(cellOf("Type", "", ...type), cellOf("Encoding", "", encoding), cellOf("Extension", result.kind, result.words), cellOf("Decided after", "", after));
+    row.addEventListener("click", () => toggle(row, result));
+    return row;
 };
 
 const results = [];
 const counts = new Map();
-let [listed, mayList] = [0, ROWS_AT_ONCE];
+const differs = (result) => result.kind === "differs" || result.fault !== undefined;
+const nameOfType = ({ wider, fault }) => (fault === undefined ? (wider?.ext ?? "unknown") : "not read");
 
-const paintBars = () => {
+/** What is listed: by which words and in which order. Without a key, those that differ come first. */
+const list = { onlyDiffering: false, words: "", key: "", isDown: false, most: ROWS_AT_ONCE };
+
+/** By what a column is sorted. */
+const KEYS = {
+    name: ({ name }) => name,
+    type: nameOfType,
+    encoding: ({ encoding }) => encoding ?? "",
+    extension: (result) => (differs(result) ? ` ${result.words}` : (result.words ?? "")),
+    after: ({ after, size }) => after ?? FRONT + (size ?? 0),
+};
+
+const compare = (one, other) => (one < other ? -1 : one > other ? 1 : 0);
+
+const listed = () => {
+    const words = list.words.toLowerCase();
+    const has = (result) => !words || `${visible(result.name)} ${nameOfType(result)} ${result.wider?.mime ?? ""}`.toLowerCase().includes(words);
+    const kept = results.filter((result) => (!list.onlyDiffering || differs(result)) && has(result));
+    if (!list.key) return [...kept.filter(differs), ...kept.filter((result) => !differs(result))];
+    const key = KEYS[list.key];
+    const sign = list.isDown ? -1 : 1;
+    return kept.sort((one, other) => sign * compare(key(one), key(other)));
+};
+
+/** The counts of all types, the most frequent first. */
+const paintTypes = () => {
     const sorted = [...counts].sort(([, one], [, other]) => other - one);
-    const most = sorted[0]?.[1] ?? 1;
-    const bars = sorted.map(([name, count]) => {
-        const bar = element("span", "bar");
-        bar.style.width = `${(100 * count) / most}%`;
-        return element("li", "", element("span", "", name), bar, element("span", "", count.toLocaleString("en")));
+    byId("bars").replaceChildren(...sorted.map(([name, count]) => element("li", "", element("strong", "", count.toLocaleString("en")), name)));
+};
+
+const paintRows = () => {
+    const all = listed();
+    const shown = all.slice(0, list.most);
+    // A row that is there stays as it is, with what is opened below it.
+    const below = shown.flatMap((result) => {
+        result.row ??= rowOf(result);
+        const next = result.row.nextElementSibling;
+        return next?.className === "opened" ? [result.row, next] : [result.row];
     });
-    byId("bars").replaceChildren(...bars);
+    byId("rows").replaceChildren(...below);
+    const left = all.length - shown.length;
+    byId("more").hidden = left === 0;
+    byId("more").textContent = `Show ${Math.min(left, ROWS_AT_ONCE).toLocaleString("en")} more of ${counted(left, "file")}`;
+    byId("none").hidden = all.length > 0;
 };
 
 const paint = () => {
-    const upTo = Math.min(results.length, mayList);
-    byId("rows").append(...results.slice(listed, upTo).map(rowOf));
-    listed = upTo;
-    paintBars();
-    const left = results.length - listed;
-    byId("more").hidden = left === 0;
-    byId("more").textContent = `Show ${Math.min(left, ROWS_AT_ONCE).toLocaleString("en")} more of ${counted(left, "file")}`;
-    for (const id of ["types", "results"]) byId(id).hidden = results.length === 0;
+    byId("results").hidden = results.length === 0;
+    paintTypes();
+    paintRows();
+    for (const [id, count, isHere] of [["all", results.length, !list.onlyDiffering], ["differ", results.filter(differs).length, list.onlyDiffering]]) {
+        byId(id).lastChild.textContent = count.toLocaleString("en");
+        byId(id).ariaCurrent = isHere ? "true" : null;
+    }
+    for (const button of document.querySelectorAll("thead button")) {
+        const isKey = button.dataset.key === list.key;
+        button.parentElement.ariaSort = isKey ? (list.isDown ? "descending" : "ascending") : null;
+    }
 };
 
 const keep = (result) => {
     results.push(result);
-    const name = result.fault === undefined ? (result.wider?.ext ?? "unknown") : "not read";
-    counts.set(name, (counts.get(name) ?? 0) + 1);
+    counts.set(nameOfType(result), (counts.get(nameOfType(result)) ?? 0) + 1);
 };
 
-/** Lets the browser draw and answer the keyboard. */
-const rest = () => new Promise((resolve) => setTimeout(resolve));
+/** A link to the files whose extension differs, in what the page says. */
+const sayResults = () => {
+    const count = results.filter((it) => it.kind === "differs").length;
+    const words = `${count === 0 ? "none" : count.toLocaleString("en")} of them ${count === 1 ? "has" : "have"} an extension that differs`;
+    const link = element("a", "", words);
+    link.href = "#differ";
+    say([`${counted(results.length, "file")} looked at, and `, count === 0 ? words : link, ". Nothing was sent."]);
+};
 
 const lookAt = async (sources) => {
     const progress = byId("progress");
@@ -188,7 +315,10 @@ const lookAt = async (sources) => {
     say(`Looking at ${counted(sources.length, "file")}.`);
     let painted = performance.now();
     for (let at = 0; at < sources.length; at += FILES_AT_ONCE) {
-        for (const result of await Promise.all(sources.slice(at, at + FILES_AT_ONCE).map(judge))) keep(result);
+        for (const found of await Promise.all(sources.slice(at, at + FILES_AT_ONCE).map(read))) {
+            keep(await judge(found));
+            await restIfLong();
+        }
         progress.value = Math.min(sources.length, at + FILES_AT_ONCE);
         if (performance.now() - painted < BETWEEN_PAINTS) continue;
         paint();
@@ -197,9 +327,58 @@ const lookAt = async (sources) => {
     }
     paint();
     progress.hidden = true;
-    const differing = results.filter((it) => it.agreement?.[0] === "differs").length;
-    const verb = differing === 1 ? "has" : "have";
-    say(`${counted(results.length, "file")} looked at, and ${differing === 0 ? "none" : differing.toLocaleString("en")} of them ${verb} an extension that differs. Nothing was sent.`);
+    sayResults();
+};
+
+const SAVED = ["name", "mime_type", "extension", "encoding", "size", "decided_after", "name_says", "fault"];
+
+/** What is saved of a file. Where the table has words, it has none. */
+const savedOf = (result) => ({
+    name: result.name,
+    mime_type: result.wider?.mime ?? null,
+    extension: result.wider?.ext ?? null,
+    encoding: result.encoding ?? null,
+    size: result.size ?? null,
+    decided_after: result.after ?? null,
+    name_says: result.kind === "differs" ? result.words.replace("the name says ", "") : null,
+    fault: result.fault ?? null,
+});
+
+/** A cell of CSV. A program for tables takes a text that begins so for a formula, and a stranger chose the name. */
+const csvCell = (value) => {
+    const text = typeof value === "string" ? visible(value).replace(/^[=+\-@]/, "'$&") : `${value ?? ""}`;
+    return /[",]/.test(text) ? `"${text.replaceAll('"', '""')}"` : text;
+};
+
+const csvOf = (all) => [SAVED, ...all.map((it) => SAVED.map((key) => savedOf(it)[key]))].map((cells) => `${cells.map(csvCell).join(",")}\r\n`).join("");
+const jsonOf = (all) => `${JSON.stringify(all.map(savedOf), null, 1)}\n`;
+
+const save = (name, type, text) => {
+    const link = element("a", "");
+    Object.assign(link, { href: URL.createObjectURL(new Blob([text], { type })), download: name });
+    link.click();
+    setTimeout(() => URL.revokeObjectURL(link.href), 10_000);
+};
+
+/** Small files to try the page with, two of which have a name that says something else. */
+const exampleFiles = () => {
+    const bytes = (digits, text = "", size = 0) => {
+        const begin = Uint8Array.from(digits.match(/../g) ?? [], (it) => Number.parseInt(it, 16));
+        const whole = new Uint8Array(Math.max(size, begin.length + text.length));
+        whole.set(begin);
+        whole.set(new TextEncoder().encode(text), begin.length);
+        return whole;
+    };
+    const files = [
+        ["holiday.jpg", bytes("ffd8ffe000104a46494600010100000100010000", "", 9000)],
+        ["letter.docx", bytes("504b03041400000008000000000000000000000000000000000011000000", "word/document.xml", 9000)],
+        ["drawing.svg", bytes("", '<svg xmlns="http://www.w3.org/2000/svg"><circle r="9"/></svg>\n')],
+        ["notes.txt", bytes("", "Bring the blue towel.\n")],
+        ["song.mp3", bytes("49443304000000000000", "TIT2", 9000)],
+        ["invoice.pdf", bytes("4d5a90000300000004000000ffff0000", "", 9000)],
+        ["photo.png", bytes("", "<!doctype html><title>not a photo</title>\n")],
+    ];
+    return files.map(([name, data]) => new File([data], name));
 };
 
 /** What is dropped meanwhile waits for its turn. */
@@ -259,10 +438,31 @@ const listen = () => {
         const entries = [...dataTransfer.items].map((item) => item.webkitGetAsEntry()).filter(Boolean);
         add(() => sourcesBelow(entries));
     });
+    byId("example").addEventListener("click", () => add(() => sourcesOfFiles(exampleFiles())));
     byId("more").addEventListener("click", () => {
-        mayList = listed + ROWS_AT_ONCE;
+        list.most += ROWS_AT_ONCE;
         paint();
     });
+    byId("search").addEventListener("input", ({ target }) => {
+        Object.assign(list, { words: target.value, most: ROWS_AT_ONCE });
+        paint();
+    });
+    byId("csv").addEventListener("click", () => save("types.csv", "text/csv", csvOf(listed())));
+    byId("json").addEventListener("click", () => save("types.json", "application/json", jsonOf(listed())));
+    for (const button of document.querySelectorAll("thead button")) {
+        button.addEventListener("click", () => {
+            const { key } = button.dataset;
+            Object.assign(list, { key, isDown: list.key === key && !list.isDown });
+            paint();
+        });
+    }
+    // A link to the files that differ can be kept, and the browser's way back leads back.
+    const follow = () => {
+        Object.assign(list, { onlyDiffering: location.hash === "#differ", most: ROWS_AT_ONCE });
+        paint();
+    };
+    addEventListener("hashchange", follow);
+    follow();
 };
 
 try {
@@ -270,6 +470,6 @@ try {
     listen();
     say("The page is ready.");
 } catch (fault) {
-    for (const id of ["files", "folder"]) byId(id).disabled = true;
+    for (const id of ["files", "folder", "example"]) byId(id).disabled = true;
     say(fault.message, true);
 }
