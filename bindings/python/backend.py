@@ -27,18 +27,32 @@ OLDEST_GLIBC = (2, 17)
 OLD_LIBRARIES = {"libc.so.6", "libm.so.6", "libdl.so.2", "librt.so.1", "libpthread.so.0", "libutil.so.1"}
 
 
+# What a C library of any kind has, and all that the library asks of one.
+OF_EVERY_LIBC = {"memcpy", "memmove", "memset"}
+
+
 def _library(folder: str) -> str:
+    """The library that INFER_LIBRARY names, or one of what c/build made. This one names no C library, so that it is for
+    glibc and for musl."""
     if "INFER_LIBRARY" in os.environ:
         return os.environ["INFER_LIBRARY"]
-    subprocess.run([os.path.join(ROOT, "c", "install"), folder], check=True)
-    return os.path.join(folder, "lib", "libinfer.so")
+    archive, names, library = os.path.join(ROOT, "c", "out", "libinfer.a"), os.path.join(folder, "names"), os.path.join(folder, "libinfer.so")
+    if not os.path.exists(archive):
+        raise FileNotFoundError("no c/out/libinfer.a: run c/build first")
+    with open(names, "w", encoding="ascii") as file:
+        file.write("{ global: infer_*; local: *; };\n")
+    safe = ["-Wl,-z,now", "-Wl,-z,relro", "-Wl,-z,noexecstack"]
+    words = [os.environ.get("CC", "cc"), "-shared", "-nostdlib", *safe, "-Wl,-soname,libinfer.so", f"-Wl,--version-script={names}"]
+    subprocess.run([*words, "-Wl,--whole-archive", archive, "-Wl,--no-whole-archive", "-o", library], check=True)
+    return library
 
 
 def _platforms(library: str) -> list[str]:
-    """The platforms of the tag: both names of manylinux2014 if the library needs no more than that has, by readelf."""
+    """The platforms of the tag, by readelf: both names of manylinux2014 if the library needs no more than that has, and
+    musllinux too if it names no C library."""
     system, _, machine = sysconfig.get_platform().partition("-")
     plain = [f"{system}-{machine}".replace("-", "_").replace(".", "_")]
-    words = ["readelf", "--wide", "--dynamic", "--version-info", library]
+    words = ["readelf", "--wide", "--dynamic", "--version-info", "--dyn-syms", library]
     try:
         shown = subprocess.run(words, env=os.environ | {"LC_ALL": "C"}, check=True, capture_output=True, text=True).stdout
     except (OSError, subprocess.CalledProcessError):
@@ -47,7 +61,10 @@ def _platforms(library: str) -> list[str]:
     versions = re.findall(r"Name: (\S+)", shown.partition("Version needs section")[2])
     found = [re.fullmatch(r"GLIBC_(\d+)\.(\d+)(?:\.\d+)?", version) for version in versions]
     fits = system == "linux" and libraries <= OLD_LIBRARIES and all(it and (int(it[1]), int(it[2])) <= OLDEST_GLIBC for it in found)
-    return [f"manylinux_2_17_{machine}", f"manylinux2014_{machine}"] if fits else plain
+    if not fits:
+        return plain
+    everywhere = not libraries and set(re.findall(r" UND (\S+)", shown)) <= OF_EVERY_LIBC
+    return [f"manylinux_2_17_{machine}", f"manylinux2014_{machine}", *([f"musllinux_1_1_{machine}"] if everywhere else [])]
 
 
 def _contents(library: str, tags: list[str]) -> dict[str, bytes]:
