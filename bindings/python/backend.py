@@ -77,8 +77,10 @@ def _contents(library: str, tags: list[str]) -> dict[str, bytes]:
     for name, path in paths.items():
         with open(path, "rb") as file:
             files[name] = file.read()
-    with open(os.path.join(HERE, "README.md"), "rb") as file:
-        files[f"{NAME}-{VERSION}.dist-info/METADATA"] = METADATA.encode() + file.read()
+    with tempfile.TemporaryDirectory() as folder:
+        subprocess.run([os.path.join(ROOT, "c", "pages"), folder, os.path.join(HERE, "README.md")], check=True)
+        with open(os.path.join(folder, "README.md"), "rb") as file:
+            files[f"{NAME}-{VERSION}.dist-info/METADATA"] = METADATA.encode() + file.read()
     wheel = "Wheel-Version: 1.0\nGenerator: backend.py\nRoot-Is-Purelib: false\n" + "".join(f"Tag: {tag}\n" for tag in tags)
     files[f"{NAME}-{VERSION}.dist-info/WHEEL"] = wheel.encode()
     return files
