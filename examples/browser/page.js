@@ -268,13 +268,18 @@ const paintTypes = () => {
 const paintRows = () => {
     const all = listed();
     const shown = all.slice(0, list.most);
-    // A row that is there stays as it is, with what is opened below it.
+    // A row stays as it is, with what is opened below it.
     const below = shown.flatMap((result) => {
         result.row ??= rowOf(result);
         const next = result.row.nextElementSibling;
         return next?.className === "opened" ? [result.row, next] : [result.row];
     });
-    byId("rows").replaceChildren(...below);
+    // Rows that are in their place are not touched: to lay hundreds out takes longer than to look at their files.
+    const rows = byId("rows");
+    let kept = 0;
+    while (kept < below.length && rows.children[kept] === below[kept]) kept += 1;
+    while (rows.children.length > kept) rows.lastChild.remove();
+    rows.append(...below.slice(kept));
     const left = all.length - shown.length;
     byId("more").hidden = left === 0;
     byId("more").textContent = `Show ${Math.min(left, ROWS_AT_ONCE).toLocaleString("en")} more of ${counted(left, "file")}`;
