@@ -213,6 +213,8 @@ def check_versions(pages):
         yield told == version, f"{place} states the version {told}, and c/infer.h {version}"
     for minor in re.findall(r"find_package\(infer (\S+) ", text_of("docs/C_LIBRARY.md")):
         yield minor == version.rpartition(".")[0], f"docs/C_LIBRARY.md wants the version {minor} of {version}"
+    named = re.findall(r"^Package: libinfer(\d+\.\d+)$", text_of("debian/control"), re.M)
+    yield named == [version.rpartition(".")[0]], f"debian/control has the library's package for {named}, of the version {version}"
     crate = re.search(r'\+infer\.([\d.]+)"$', text_of("bindings/rust/infer/Cargo.toml"), re.M)[1]
     for page in pages:
         told = re.findall(r"(?:crate `infer`|`infer`) (\d+\.\d+\.\d+)|\+infer\.(\d+\.\d+\.\d+)", re.sub(r"\n(?=\S)", " ", text_of(page)))

@@ -3,7 +3,6 @@ from __future__ import annotations
 
 import contextlib
 import errno
-import io
 import os
 import stat
 from collections.abc import Awaitable
@@ -31,8 +30,7 @@ def get_bytes(obj: Source) -> bytes:
     if isinstance(obj, (bytes, bytearray, memoryview)):
         return _of_view(memoryview(obj))
     if isinstance(obj, (str, os.PathLike)):
-        with _open(obj) as file:
-            return _read(file)
+        return _of_path(obj)
     if not hasattr(obj, "read"):
         raise TypeError(f"hand over a path, bytes, or a file that is open for reading bytes, and not {type(obj).__name__}")
     place = _place(obj)
@@ -44,24 +42,28 @@ def get_bytes(obj: Source) -> bytes:
         obj.seek(place)  # type: ignore[attr-defined]
 
 
-def _open(path: Union[str, os.PathLike[str], os.PathLike[bytes]]) -> io.FileIO:
-    """Opens a regular file. A device can act as soon as it is opened, and opening a FIFO waits, so each is a fault."""
-    def check(about: os.stat_result) -> None:
-        if not stat.S_ISREG(about.st_mode):
-            number = errno.EISDIR if stat.S_ISDIR(about.st_mode) else errno.ENOTSUP
-            raise OSError(number, os.strerror(number), path)
+# Opening a FIFO waits unless it is told not to. Windows has its own words.
+_AT_ONCE = os.O_RDONLY | sum(getattr(os, name, 0) for name in ("O_NONBLOCK", "O_NOCTTY", "O_BINARY"))
 
-    # Windows has neither.
-    at_once = getattr(os, "O_NONBLOCK", 0) | getattr(os, "O_NOCTTY", 0)
-    check(os.stat(path))
-    file = open(path, "rb", buffering=0, opener=lambda name, flags: os.open(name, flags | at_once))
+
+def _of_path(path: Union[str, os.PathLike[str], os.PathLike[bytes]]) -> bytes:
+    """The first bytes of a regular file. A device can act as soon as it is opened, so that is asked before and after."""
+    _refuse_unless_regular(os.stat(path), path)
+    fd = os.open(path, _AT_ONCE)
     try:
-        # The path may name another file by now.
-        check(os.fstat(file.fileno()))
-    except OSError:
-        file.close()
-        raise
-    return file
+        _refuse_unless_regular(os.fstat(fd), path)
+        front = b""
+        while len(front) < FRONT and (part := os.read(fd, FRONT - len(front))):
+            front += part
+        return front
+    finally:
+        os.close(fd)
+
+
+def _refuse_unless_regular(about: os.stat_result, path: object) -> None:
+    if not stat.S_ISREG(about.st_mode):
+        number = errno.EISDIR if stat.S_ISDIR(about.st_mode) else errno.ENOTSUP
+        raise OSError(number, os.strerror(number), path)
 
 
 def _of_view(view: memoryview) -> bytes:
