@@ -24,13 +24,12 @@
 
 #define LETTERS_AND_DIGITS "0123456789ABCDEFGHIJKLMNOPQRSTUVWXYZabcdefghijklmnopqrstuvwxyz"
 
-enum { HEAD = 8192, LARGEST = 8 << 20, NAME = 100, CHILDREN = 16, LINGER = 2000, NOTICE = 100, WHY = 512 };
+enum { HEAD = 8192, PIECE = 65536, LARGEST = 8 << 20, NAME = 100, CHILDREN = 16, LINGER = 2000, NOTICE = 100, WHY = 512 };
 
-static bool *allowed;         /* of each row */
-static char *allowed_names;   /* the classes and MIME types as they were given, with a comma before and after each */
-static char *own_types;       /* a text that describes types, with a zero after it, or a null pointer */
+static char *allowed;         /* classes and MIME types, with a comma before and after each */
+static char *own_types;       /* a text that describes types, or a null pointer */
 static size_t own_size;
-static long patience = 30000; /* milliseconds for a whole request */
+static long patience;         /* milliseconds for a whole request */
 static int folder;
 static atomic_ulong *lost; /* lines that nobody read in time, counted by all processes */
 
@@ -92,8 +91,8 @@ static const char *reason(int status) {
     static const struct { int status; const char *text; } all[] = {
         {201, "Created"}, {400, "Bad Request"}, {405, "Method Not Allowed"}, {408, "Request Timeout"},
         {409, "Conflict"}, {411, "Length Required"}, {413, "Content Too Large"}, {415, "Unsupported Media Type"},
-        {417, "Expectation Failed"}, {422, "Unprocessable Content"}, {431, "Request Header Fields Too Large"},
-        {500, "Internal Server Error"}, {501, "Not Implemented"}, {503, "Service Unavailable"},
+        {417, "Expectation Failed"}, {421, "Misdirected Request"}, {422, "Unprocessable Content"},
+        {431, "Request Header Fields Too Large"}, {500, "Internal Server Error"}, {501, "Not Implemented"}, {503, "Service Unavailable"},
     };
     for (size_t i = 0; i < sizeof all / sizeof *all; i++)
         if (all[i].status == status)
@@ -188,11 +187,19 @@ static int parse_type(const char *value, struct request *it) {
     return 0;
 }
 
+/* A page of a site whose name leads here is of that site for a browser, and is to put nothing. */
 static int parse_host(const char *value, struct request *it) {
-    if (it->has_host || *value == 0 || value[strspn(value, "-._~:[]%" LETTERS_AND_DIGITS)] != 0)
+    static const char *const own[] = {"127.0.0.1", "localhost", "[::1]"};
+    if (it->has_host)
         return 400;
     it->has_host = true;
-    return 0;
+    for (size_t i = 0; i < sizeof own / sizeof *own; i++) {
+        size_t size = strlen(own[i]);
+        const char *port = value + size;
+        if (strncasecmp(value, own[i], size) == 0 && (*port == 0 || (*port == ':' && port[1 + strspn(port + 1, "0123456789")] == 0)))
+            return 0;
+    }
+    return 421;
 }
 
 /* Only HTTP/1.1 has this header: an older sender does not wait. */
@@ -281,9 +288,7 @@ static bool is_claimed(const struct request *it, const char *mime_type, const ch
 }
 
 static bool is_row(int32_t row, const char *extension) {
-    char text[32];
-    infer_extension(row, text, sizeof text);
-    return strcmp(text, extension) == 0;
+    return strcmp(infer_extension_text(row), extension) == 0;
 }
 
 /* Whether honest files that are told as `row` fit `other` too: the format is built on it, or holds files of it. */
@@ -310,27 +315,27 @@ static bool is_double(const uint8_t *bytes, size_t size, int32_t row) {
 }
 
 /* Whether there is an archive behind the first bytes that its programs find wherever it begins: a ZIP archive by an
- * entry of its directory and the directory's end, or one of RAR or 7z. */
+ * entry of its directory and the directory's end, which need not come after it, or one of RAR or 7z. */
 static bool hides_archive(const uint8_t *bytes, size_t size) {
-    const uint8_t *entry = memmem(bytes, size, "PK\1\2", 4);
-    return (entry && memmem(entry, size - (size_t)(entry - bytes), "PK\5\6", 4)) || memmem(bytes, size, "Rar!\x1a\7", 6)
+    return (memmem(bytes, size, "PK\1\2", 4) && memmem(bytes, size, "PK\5\6", 4)) || memmem(bytes, size, "Rar!\x1a\7", 6)
         || memmem(bytes, size, "7z\xbc\xaf\x27\x1c", 6);
 }
 
-static bool is_word(const char *wanted, const char *word) { return !wanted || strcasecmp(wanted, word) == 0; }
-
-/* Whether an own type shows these: they are the first three words of its line. A null pointer stands for any. */
-static bool is_among_own(const char *extension, const char *mime_type, const char *class_name) {
-    char *words = own_types ? strdup(own_types) : NULL, *lines = words, *line, *rest;
+/* Whether some own type has that MIME type or class, which are the second and third word of its line. */
+static bool is_among_own(const char *name) {
+    FILE *lines = own_size > 0 ? fmemopen(own_types, own_size, "r") : NULL;
+    char *line = NULL, *rest;
+    size_t room = 0;
     bool is_found = false;
-    while (words && !is_found && (line = strsep(&lines, "\n"))) {
-        char *first = strtok_r(line, " \t\r", &rest);
-        if (!first || *first == '#')
-            continue;
-        char *second = strtok_r(NULL, " \t\r", &rest), *third = strtok_r(NULL, " \t\r", &rest);
-        is_found = is_word(extension, first) && is_word(mime_type, second) && is_word(class_name, third);
+    while (lines && !is_found && getline(&line, &room, lines) > 0) {
+        char *first = strtok_r(line, " \t\r\n", &rest);
+        char *second = first && *first != '#' ? strtok_r(NULL, " \t\r\n", &rest) : NULL;
+        char *third = second ? strtok_r(NULL, " \t\r\n", &rest) : NULL;
+        is_found = third && (strcasecmp(name, second) == 0 || strcasecmp(name, third) == 0);
     }
-    free(words);
+    free(line);
+    if (lines)
+        fclose(lines);
     return is_found;
 }
 
@@ -341,14 +346,13 @@ struct answer {
     char mime_type[INFER_TYPES_TEXT_SIZE], extension[INFER_TYPES_TEXT_SIZE];
 };
 
-/* An own type answers before the built-in row that it stands below. Of the library's further rows none is asked. */
+/* An own type answers before the built-in row that it stands below. Of the library's further rows none is asked, so
+ * what a line refuses is not taken for a further row that shows the same. */
 static struct answer answer_of(const uint8_t *bytes, size_t size) {
-    struct answer it = {.row = infer_position(bytes, size)};
-    if (own_types) {
+    struct answer it = {.row = infer_position(bytes, size), .is_own = infer_types_line(own_types, own_size, bytes, size) > 0};
+    if (it.is_own) {
         it.class_code = infer_types_get(own_types, own_size, bytes, size, it.mime_type, sizeof it.mime_type, it.extension, sizeof it.extension);
-        it.is_own = it.class_code >= 0 && is_among_own(it.extension, it.mime_type, infer_class_name_text(it.class_code));
-    }
-    if (!it.is_own) {
+    } else {
         it.class_code = infer_class(it.row);
         infer_mime_type(it.row, it.mime_type, sizeof it.mime_type);
         infer_extension(it.row, it.extension, sizeof it.extension);
@@ -377,13 +381,7 @@ static bool holds_no_archives(const struct answer *it) {
 static bool is_among(const char *name) {
     char wanted[INFER_TYPES_TEXT_SIZE + 2];
     snprintf(wanted, sizeof wanted, ",%s,", name);
-    return strcasestr(allowed_names, wanted) != NULL;
-}
-
-static bool is_allowed(const struct answer *it) {
-    if (it->is_own)
-        return is_among(it->mime_type) || is_among(infer_class_name_text(it->class_code));
-    return allowed[it->row];
+    return strcasestr(allowed, wanted) != NULL;
 }
 
 /* 0, or the status of a refusal, and in `why` the MIME type or the reason. */
@@ -394,7 +392,7 @@ static int judge(const struct request *it, const uint8_t *bytes, size_t size, ch
     bool has_claim = *it->mime_type != 0 && strcmp(it->mime_type, "application/octet-stream") != 0;
     if (row < 0 && !answer.is_own)
         return snprintf(why, WHY, "these bytes are of no known type"), 415;
-    if (!is_allowed(&answer))
+    if (!is_among(mime_type) && !is_among(infer_class_name_text(answer.class_code)))
         return snprintf(why, WHY, "%.200s is not allowed", mime_type), 415;
     if (*it->extension == 0 && !has_claim)
         return snprintf(why, WHY, "no extension and no Content-Type, but %s", mime_type), 422;
@@ -415,12 +413,15 @@ static int judge(const struct request *it, const uint8_t *bytes, size_t size, ch
  * shortens it meanwhile. */
 static int judge_file(const struct request *it, int file, char why[WHY]) {
     void *bytes = it->length > 0 ? mmap(NULL, it->length, PROT_READ, MAP_PRIVATE, file, 0) : "";
-    return bytes == MAP_FAILED ? 500 : judge(it, bytes, it->length, why);
+    int status = bytes == MAP_FAILED ? 500 : judge(it, bytes, it->length, why);
+    if (it->length > 0 && bytes != MAP_FAILED)
+        munmap(bytes, it->length);
+    return status;
 }
 
 /* Passes the body on to the file. */
 static int copy(int fd, int file, size_t left, long long deadline) {
-    static uint8_t piece[65536];
+    static uint8_t piece[PIECE];
     while (left > 0) {
         size_t size = left < sizeof piece ? left : sizeof piece;
         int status = receive_all(fd, piece, size, deadline);
@@ -454,7 +455,7 @@ static int keep(int file, const char *name) {
     return 500;
 }
 
-/* Takes the body, of which the head's last read brought `count` bytes. */
+/* Takes the body, of which the head's last read brought `count` bytes. If it is refused, its space is free at once. */
 static int store(int fd, const struct request *it, const char *early, size_t count, long long deadline, char why[WHY]) {
     size_t size = count < it->length ? count : it->length;
     int file = open_file();
@@ -463,7 +464,10 @@ static int store(int fd, const struct request *it, const char *early, size_t cou
     int status = write_all(file, early, size) ? copy(fd, file, it->length - size, deadline) : 500;
     if (status == 0)
         status = judge_file(it, file, why);
-    return status == 0 ? keep(file, it->name) : status;
+    if (status == 0)
+        status = keep(file, it->name);
+    close(file);
+    return status;
 }
 
 static int take(int fd, char why[WHY]) {
@@ -489,7 +493,7 @@ static void serve(int fd) {
     respond(fd, status, *why && (status == 201 || status == 415 || status == 422) ? why : reason(status));
     shutdown(fd, SHUT_WR);
     /* If a socket is closed with bytes unread, its sender can see a reset and never the answer. */
-    static uint8_t dropped[65536];
+    static uint8_t dropped[PIECE];
     long long deadline = now() + LINGER;
     for (size_t count = 0; count < 2 * LARGEST;) {
         ssize_t got = receive(fd, dropped, sizeof dropped, deadline);
@@ -499,53 +503,59 @@ static void serve(int fd) {
     }
 }
 
-/* Allows the rows of a class or of a MIME type, and answers whether there are any, or an own type. */
-static bool allow_rows(const char *name) {
-    bool has_some = is_among_own(NULL, name, NULL) || is_among_own(NULL, NULL, name);
-    for (int32_t row = 0; row < (int32_t)infer_row_count(); row++) {
-        char class[16], mime_type[128];
-        infer_class_name(infer_class(row), class, sizeof class);
-        infer_mime_type(row, mime_type, sizeof mime_type);
-        if (strcmp(name, class) == 0 || strcmp(name, mime_type) == 0)
-            has_some = allowed[row] = true;
-    }
-    return has_some;
+/* Whether some built-in row or own type has that MIME type or class. */
+static bool is_known(const char *name) {
+    bool is_found = is_among_own(name);
+    for (int32_t row = 0; row < (int32_t)infer_row_count() && !is_found; row++)
+        is_found = strcmp(name, infer_mime_type_text(row)) == 0 || strcmp(name, infer_class_name_text(infer_class(row))) == 0;
+    return is_found;
 }
 
 static bool allow(char *names) {
-    allowed = calloc(infer_row_count(), sizeof *allowed);
-    if (asprintf(&allowed_names, ",%s,", names) < 0)
+    if (asprintf(&allowed, ",%s,", names) < 0)
         return false;
-    char *name = allowed ? strtok(names, ",") : NULL;
+    char *name = strtok(names, ",");
     bool are_known = name != NULL;
     for (; name && are_known; name = strtok(NULL, ","))
-        are_known = allow_rows(name);
+        are_known = is_known(name);
     return are_known;
+}
+
+/* Reads all of a file or a pipe into own_types. */
+static bool read_types(int fd) {
+    ssize_t got = 1;
+    while (got > 0) {
+        char *larger = realloc(own_types, own_size + PIECE);
+        if (!larger)
+            return false;
+        own_types = larger;
+        got = read(fd, own_types + own_size, PIECE);
+        own_size += got > 0 ? (size_t)got : 0;
+    }
+    return got == 0;
 }
 
 /* Takes the types that a file describes, or says why not. */
 static bool take_types(const char *path) {
-    struct stat about;
     size_t line, column;
     char reason_text[INFER_TEXT_SIZE];
     int fd = open(path, O_RDONLY | O_CLOEXEC);
-    bool is_read = fd >= 0 && fstat(fd, &about) == 0 && (own_types = calloc(1, (size_t)about.st_size + 1));
-    ssize_t got = is_read ? read(fd, own_types, (size_t)about.st_size) : -1;
-    if (got < 0)
+    if (fd < 0 || !read_types(fd)) {
         perror(path);
+        return false;
+    }
     close(fd);
-    own_size = got < 0 ? 0 : (size_t)got;
-    if (got >= 0 && infer_types_check(own_types, own_size, &line, &column, reason_text, sizeof reason_text) == 0)
+    if (infer_types_check(own_types, own_size, &line, &column, reason_text, sizeof reason_text) == 0)
         return true;
-    if (got >= 0)
-        fprintf(stderr, "%s:%zu:%zu: %s\n", path, line, column, reason_text);
+    fprintf(stderr, "%s:%zu:%zu: %s\n", path, line, column, reason_text);
     return false;
 }
 
-/* Whether the word is a port in digits. */
-static bool is_port(const char *word) {
+/* The number that a word of digits says, or -1. */
+static long number_of(const char *word, long most) {
     size_t len = strlen(word);
-    return len > 0 && len <= 5 && strspn(word, "0123456789") == len && atoi(word) <= 65535;
+    long number = len > 0 && len <= 9 && strspn(word, "0123456789") == len ? atol(word) : -1;
+    return number <= most ? number : -1;
 }
 
 /* The listening socket, or -1. SO_REUSEADDR allows a start right after an end. */
@@ -628,6 +638,7 @@ static bool set_up(void) {
     fill_standard();
     lost = mmap(NULL, sizeof *lost, PROT_READ | PROT_WRITE, MAP_SHARED | MAP_ANONYMOUS, -1, 0);
     signal(SIGPIPE, SIG_IGN);
+    signal(SIGCHLD, SIG_DFL); /* or no child's end would be counted */
     signal(SIGXFSZ, SIG_IGN); /* a file that grows past a limit is a failed write */
     return lost != MAP_FAILED && sigaction(SIGALRM, &(struct sigaction){.sa_handler = wake}, NULL) == 0;
 }
@@ -639,10 +650,12 @@ int main(int argc, char **argv) {
         argc -= 2;
         argv += 2;
     }
-    if (argc < 4 || argc > 5 || !is_port(argv[1]) || !allow(argv[3]) || (argc == 5 && (patience = atol(argv[4]) * 1000) <= 0)) {
+    long seconds = argc == 5 ? number_of(argv[4], 86400) : 30;
+    if (argc < 4 || argc > 5 || seconds < 1 || number_of(argv[1], 65535) < 0 || !allow(argv[3])) {
         fputs("usage: upload_gate [--types TEXT] PORT FOLDER CLASS|MIME_TYPE,.. [SECONDS]\n", stderr);
         return 2;
     }
+    patience = 1000 * seconds;
     int listening = set_up() && open_folder(argv[2]) ? listen_at(argv[1]) : -1;
     if (listening < 0) {
         perror("upload_gate");
