@@ -17,9 +17,9 @@
 
 enum { FRONT = 8192, ROOM = 16384, STREAMS = 256, QUIET = 200, REST = 100 };
 
-static long long patience = 60000; /* milliseconds that a stream may be silent */
-static long long rests_until;      /* no client is taken before, since the system was short of something */
-static unsigned long lost;         /* lines that nobody read in time */
+static long long patience;    /* milliseconds that a stream may be silent */
+static long long rests_until; /* no client is taken before, since the system was short of something */
+static unsigned long lost;    /* lines that nobody read in time */
 
 /* The first bytes of a stream, how many of them the library was asked about, and when the last bytes came. */
 struct label {
@@ -203,19 +203,21 @@ static void serve(struct stream *it, short at_client, short at_server) {
         end(it);
 }
 
-/* Whether the word is a port in digits. */
-static bool is_port(const char *word) {
+/* The number that a word of digits says, or -1. */
+static long number_of(const char *word, long most) {
     size_t len = strlen(word);
-    return len > 0 && len <= 5 && strspn(word, "0123456789") == len && atoi(word) <= 65535;
+    long number = len > 0 && len <= 9 && strspn(word, "0123456789") == len ? atol(word) : -1;
+    return number <= most ? number : -1;
 }
 
 static struct sockaddr_in loopback(const char *port) {
     return (struct sockaddr_in){.sin_family = AF_INET, .sin_port = htons((uint16_t)atoi(port)), .sin_addr.s_addr = htonl(INADDR_LOOPBACK)};
 }
 
-/* Makes a socket one that never waits. If that fails, it is closed. */
+/* Makes a socket one that never waits, and whose urgent bytes come in their place. If that fails, it is closed. */
 static bool never_waits(int fd) {
-    if (fcntl(fd, F_SETFL, O_NONBLOCK) == 0)
+    int yes = 1;
+    if (fcntl(fd, F_SETFL, O_NONBLOCK) == 0 && setsockopt(fd, SOL_SOCKET, SO_OOBINLINE, &yes, sizeof yes) == 0)
         return true;
     close(fd);
     return false;
@@ -315,10 +317,12 @@ static void fill_standard(void) {
 }
 
 int main(int argc, char **argv) {
-    if (argc < 3 || argc > 4 || !is_port(argv[1]) || !is_port(argv[2]) || (argc == 4 && (patience = atol(argv[3]) * 1000) <= 0)) {
+    long seconds = argc == 4 ? number_of(argv[3], 86400) : 60;
+    if (argc < 3 || argc > 4 || seconds < 1 || number_of(argv[1], 65535) < 0 || number_of(argv[2], 65535) < 0) {
         fputs("usage: labelling_proxy PORT TO_PORT [SECONDS]\n", stderr);
         return 2;
     }
+    patience = 1000 * seconds;
     fill_standard();
     signal(SIGPIPE, SIG_IGN);
     signal(SIGXFSZ, SIG_IGN); /* a file of lines that is full is a failed write */
