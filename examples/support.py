@@ -3,6 +3,7 @@ from __future__ import annotations
 
 import atexit
 import contextlib
+import glob
 import os
 import re
 import shutil
@@ -55,6 +56,21 @@ def build(source: str, *flags: str, by: str = "") -> str:
     words = [by or compiler(), "-std=c11", "-O2", "-Wall", "-Wextra", "-Werror", *flags, f"-I{ROOT}/c/out", f"-I{ROOT}/aliases"]
     subprocess.run([*words, f"{ROOT}/{source}", f"{ROOT}/c/out/libinfer.a", "-o", program], check=True)
     return program
+
+
+def of_debian(package: str, path: str) -> str:
+    """Where that path of a package of Debian is: on this machine, or unpacked into a folder of the test, which installs
+    nothing. If apt-get brings none, the tests that ask are left out."""
+    if os.path.exists(path):
+        return path
+    place, quiet = folder(), {"stdout": subprocess.DEVNULL, "stderr": subprocess.DEVNULL}
+    for words in (["download", package], ["update"], ["download", package]):
+        with contextlib.suppress(OSError):
+            subprocess.run(["apt-get", "-o", "APT::Sandbox::User=root", *words], cwd=place, **quiet)
+        for archive in glob.glob(f"{place}/{package}_*.deb"):
+            subprocess.run(["dpkg-deb", "-x", archive, place], check=True)
+            return place + path
+    raise unittest.SkipTest(f"no {path} is here, and apt-get brings no {package}")
 
 
 def old_rust() -> str:

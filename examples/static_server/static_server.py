@@ -4,28 +4,27 @@
 usage: static_server.py PORT FOLDER [SECONDS]"""
 from __future__ import annotations
 
+import asyncio
 import contextlib
 import email.utils
 import errno
-import http.server
 import mimetypes
 import os
 import re
-import socket
 import stat
 import sys
-import threading
 import time
 import urllib.parse
-from collections.abc import Iterator
+from collections.abc import Iterable, Iterator
 from http import HTTPStatus
-from typing import BinaryIO, NamedTuple
+from typing import BinaryIO
 
+import h11
 import infer
 from infer.aliases import BROWSER_OF, BUILT_ON, EXTENSION
 
 FRONT, WHOLE, PIECE, HEAD = 8192, 1 << 20, 65536, 8192
-THREADS, SECONDS, GRACE, LINGER, REST = 64, 30, 2, 1, 0.1
+PLACES, SECONDS, LINGER = 200, 30, 1
 SHORT = {errno.EMFILE, errno.ENFILE, errno.ENOBUFS, errno.ENOMEM}  # the system has no more of something
 UNKNOWN, PAGE = "application/octet-stream", "application/xhtml+xml"
 TEXTS = {"js": "text/javascript", "mjs": "text/javascript", "md": "text/markdown", "json": "application/json", "svg": "image/svg+xml",
@@ -90,54 +89,28 @@ class Refusal(Exception):
 
     def __init__(self, status: int, *fields: tuple[str, str]) -> None:
         super().__init__(status)
-        self.status, self.fields = HTTPStatus(status), fields
+        self.status, self.fields = status, fields
 
 
-class Request(NamedTuple):
-    method: str
-    target: str
-    headers: dict[str, str]
-    is_last: bool
-
-
-LINE = re.compile(rb"([A-Z]+) ([!-~]+) HTTP/1\.([01])")
-HOST = re.compile(r"[A-Za-z0-9._~:\[\]%-]+")
-# A name has letters, digits and "-" alone, since some servers take "Content_Length" for "Content-Length".
-FIELD = re.compile(rb"([A-Za-z0-9-]+):[ \t]*([\t -~\x80-\xff]*)")
-# A line that ends so ends for some servers, and not for others.
-LF_ALONE = re.compile(rb"(?<!\r)\n")
+# A page of a site whose name leads here is of that site, and is to read nothing.
+OWN_HOST = re.compile(r"(?:127\.0\.0\.1|localhost|\[::1\])(?::[0-9]+)?", re.IGNORECASE)
 TARGET = re.compile(r"/(?:[!$&-\[\]-~]|%[0-9A-Fa-f]{2})*")
-ONCE = {"host", "content-length", "transfer-encoding", "expect", "range", "if-range", "if-modified-since"}
 
 
-def headers_of(lines: list[bytes]) -> dict[str, str]:
+def headers_of(request: h11.Request) -> dict[str, str]:
+    """The headers of a request that is served, of which several with one name are a list."""
     headers: dict[str, str] = {}
-    for line in lines:
-        found = FIELD.fullmatch(line)
-        if not found:
-            raise Refusal(400)
-        name, value = found[1].decode().lower(), found[2].decode("latin-1").rstrip(" \t")
-        if name in headers and name in ONCE:
-            raise Refusal(400)
+    for name, value in ((name.decode(), value.decode("latin-1")) for name, value in request.headers):
         headers[name] = f"{headers[name]}, {value}" if name in headers else value
-    return headers
-
-
-def request_of(head: bytes) -> Request:
-    """The request of a head, or a refusal of what two servers could read in two ways."""
-    first, *lines = head.split(b"\r\n")
-    found, headers = LINE.fullmatch(first), headers_of(lines)
-    if not found or not HOST.fullmatch(headers.get("host", "none" if found[3] == b"0" else "")):
+    if request.http_version not in (b"1.0", b"1.1") or "transfer-encoding" in headers or any("_" in name for name in headers):
         raise Refusal(400)
-    # What a body holds could be taken for a second request.
-    if headers.get("content-length", "0") != "0" or "transfer-encoding" in headers:
-        raise Refusal(400)
+    if "host" in headers and not OWN_HOST.fullmatch(headers["host"]):
+        raise Refusal(421)
     if "expect" in headers:
         raise Refusal(417)
-    if found[1] not in {b"GET", b"HEAD"}:
+    if request.method not in (b"GET", b"HEAD"):
         raise Refusal(501)
-    is_last = found[3] == b"0" or "close" in re.split(r"[ \t,]+", headers.get("connection", "").lower())
-    return Request(found[1].decode(), found[2].decode(), headers, is_last)
+    return headers
 
 
 def names_of(target: str) -> list[bytes]:
@@ -184,11 +157,25 @@ def open_file(folder: int, target: str) -> tuple[int, os.stat_result, str]:
     raise Refusal(301, ("Location", path + "/" + mark + query))
 
 
+def is_listed(tag: str, listed: str) -> bool:
+    return listed == "*" or tag in (it.strip(" \t") for it in listed.split(","))
+
+
+def seconds_of(date: str) -> float:
+    """The date in seconds, or infinity, which no file is later than, if it is none."""
+    with contextlib.suppress(TypeError, ValueError, LookupError, OverflowError):
+        return email.utils.parsedate_to_datetime(date).timestamp()
+    return float("inf")
+
+
 def is_known(headers: dict[str, str], tag: str, modified: str) -> bool:
-    """Whether the client has the file as it is."""
+    """Whether the client has the file as it is. A file that it wants only as it was is refused if it is another one."""
+    if not is_listed(tag, headers.get("if-match", tag)):
+        raise Refusal(412)
+    if "if-match" not in headers and seconds_of(modified) > seconds_of(headers.get("if-unmodified-since", "")):
+        raise Refusal(412)
     if "if-none-match" in headers:
-        tags = re.split(r"[ \t]*,[ \t]*", headers["if-none-match"])
-        return "*" in tags or tag in {known.removeprefix("W/") for known in tags}
+        return is_listed(tag, headers["if-none-match"].replace("W/", ""))
     return headers.get("if-modified-since") == modified
 
 
@@ -216,176 +203,135 @@ def span_of(value: str, size: int) -> tuple[int, int]:
     return begin, end
 
 
-class Handler(http.server.BaseHTTPRequestHandler):
-    protocol_version, server_version, sys_version = "HTTP/1.1", "static_server", ""
-    disable_nagle_algorithm = True
-    server: Server
+def pieces(file: BinaryIO, begin: int, end: int) -> Iterator[bytes]:
+    """The bytes between two places, or fewer if the file has become shorter."""
+    file.seek(begin)
+    while begin < end and (piece := file.read(min(PIECE, end - begin))):
+        yield piece
+        begin += len(piece)
 
-    def setup(self) -> None:
-        super().setup()
-        self.kept, self.close_connection, self.requestline = b"", False, ""
 
-    def handle(self) -> None:
-        while not self.close_connection:
-            self.answer_one()
+class Client:
+    """A connection, on which h11 reads what requests say, and writes the answers."""
 
-    def log_message(self, format: str, *args: object) -> None:
-        pass
+    def __init__(self, server: Server, reader: asyncio.StreamReader, writer: asyncio.StreamWriter) -> None:
+        self.server, self.reader, self.writer = server, reader, writer
+        self.http = h11.Connection(h11.SERVER, max_incomplete_event_size=HEAD)
+        writer.transport.set_write_buffer_limits(0)  # so that what was drained is with the system
 
-    def send_headers(self, *fields: tuple[str, str]) -> None:
-        ends = [("Connection", "close")] if self.close_connection else []
-        for field in [*fields, *ends, ("X-Content-Type-Options", "nosniff")]:
-            self.send_header(*field)
-        self.end_headers()
+    async def next_event(self) -> object:
+        while (event := self.http.next_event()) is h11.NEED_DATA:
+            self.http.receive_data(await self.reader.read(HEAD))
+        return event
 
-    def receive(self, deadline: float) -> bytes:
-        """Some bytes, and none at the end or after the deadline."""
-        left = deadline - time.monotonic()
-        if left <= 0:
-            return b""
-        self.connection.settimeout(left)
+    async def next_request(self) -> h11.Request | None:
+        """The next request, or None at the end."""
         try:
-            return self.connection.recv(HEAD)
-        except socket.timeout:
-            return b""
+            event = await asyncio.wait_for(self.next_event(), self.server.seconds)
+        except asyncio.TimeoutError:
+            if self.http.trailing_data[0]:
+                raise Refusal(408) from None
+            return None
+        return event if isinstance(event, h11.Request) else None
 
-    def read_head(self) -> bytes | None:
-        """The next head without its blank line, or None at the end. What came after it is kept."""
-        deadline = time.monotonic() + self.server.seconds
-        while b"\r\n\r\n" not in self.kept:
-            piece = self.receive(deadline) if len(self.kept) <= HEAD else b""
-            if not piece and self.kept:
-                raise Refusal(431 if len(self.kept) > HEAD else 408)
-            if not piece:
-                return None
-            at, self.kept = len(self.kept), self.kept + piece
-            if LF_ALONE.search(self.kept, at):
-                raise Refusal(400)
-        head, _, self.kept = self.kept.partition(b"\r\n\r\n")
-        if len(head) > HEAD:
-            raise Refusal(431)
-        return head
+    async def send(self, status: int, fields: list[tuple[str, str]], body: Iterable[bytes] = ()) -> None:
+        fields += [("Date", email.utils.formatdate(usegmt=True)), ("X-Content-Type-Options", "nosniff")]
+        self.writer.write(self.http.send(h11.Response(status_code=status, headers=fields, reason=HTTPStatus(status).phrase)))
+        for piece in body:
+            self.writer.write(self.http.send(h11.Data(data=piece)))
+            await asyncio.wait_for(self.writer.drain(), self.server.seconds)
+            self.server.moved(self.writer)
+        self.writer.write(self.http.send(h11.EndOfMessage()))
+        await asyncio.wait_for(self.writer.drain(), self.server.seconds)
 
-    def answer_one(self) -> None:
-        self.request_version, self.command = "HTTP/1.1", "GET"
-        try:
-            with self.server.waiting(self.connection):
-                head = self.read_head()
-            self.close_connection = head is None
-            if head is not None:
-                request = request_of(head)
-                self.command, self.close_connection = request.method, request.is_last
-                self.connection.settimeout(self.server.seconds)
-                self.send_file(request)
-        except Refusal as refusal:
-            self.refuse(refusal)
-
-    def refuse(self, refusal: Refusal) -> None:
-        """Answers a line, and closes the connection."""
-        text = f"{refusal.status.value} {refusal.status.phrase}\n".encode()
-        self.connection.settimeout(LINGER)
-        self.close_connection = True
-        self.send_response(refusal.status)
-        self.send_headers(("Content-Type", "text/plain"), ("Content-Length", str(len(text))), *refusal.fields)
-        if self.command != "HEAD":
-            self.wfile.write(text)
-        # If a socket is closed with bytes unread, its sender can see a reset and never the answer.
-        self.connection.shutdown(socket.SHUT_WR)
-        deadline, left = time.monotonic() + LINGER, WHOLE
-        while left > 0 and (piece := self.receive(deadline)):
-            left -= len(piece)
-
-    def send_file(self, request: Request) -> None:
-        fd, state, name = open_file(self.server.folder, request.target)
+    async def send_file(self, request: h11.Request) -> None:
+        headers = headers_of(request)
+        # What a body holds could be taken for a second request.
+        if not isinstance(self.http.next_event(), h11.EndOfMessage):
+            raise Refusal(400)
+        fd, state, name = open_file(self.server.folder, request.target.decode())
         with open(fd, "rb", buffering=0) as file:
             size, tag = state.st_size, f'"{state.st_ino:x}-{state.st_mtime_ns:x}-{state.st_size:x}"'
             modified = email.utils.formatdate(min(max(state.st_mtime, 0), time.time()), usegmt=True)
-            if is_known(request.headers, tag, modified):
-                self.send_response(304)
-                self.send_headers(("ETag", tag))
-                return
+            if is_known(headers, tag, modified):
+                return await self.send(304, [("ETag", tag)])
             # A part is sent of the file that the client has another part of.
-            is_part = request.method == "GET" and request.headers.get("if-range", tag) == tag
-            begin, end = span_of(request.headers.get("range", ""), size) if is_part else (0, size)
-            fields = [*type_fields(file, name, size), ("Content-Length", str(end - begin)), ("Accept-Ranges", "bytes")]
+            is_part = request.method == b"GET" and headers.get("if-range", tag) == tag
+            begin, end = span_of(headers.get("range", ""), size) if is_part else (0, size)
+            fields = [*type_fields(file, name, size), ("Content-Length", str(end - begin)), ("Accept-Ranges", "bytes"), ("ETag", tag), ("Last-Modified", modified)]
             if end - begin < size:
                 fields.append(("Content-Range", f"bytes {begin}-{end - 1}/{size}"))
-            self.send_response(206 if end - begin < size else 200)
-            self.send_headers(*fields, ("ETag", tag), ("Last-Modified", modified))
-            if request.method == "GET":
-                self.send_bytes(file, begin, end)
+            await self.send(206 if end - begin < size else 200, fields, pieces(file, begin, end) if request.method == b"GET" else ())
 
-    def send_bytes(self, file: BinaryIO, begin: int, end: int) -> None:
-        file.seek(begin)
-        while begin < end:
-            piece = file.read(min(PIECE, end - begin))
-            if not piece:
-                # A file that became shorter leaves a promise unkept, which the client sees by the closed connection.
-                self.close_connection = True
-                return
-            with self.server.waiting(self.connection):
-                self.wfile.write(piece)
-            begin += len(piece)
+    async def refuse(self, refusal: Refusal, is_head: bool) -> None:
+        """Answers a line, and ends the connection."""
+        text = f"{refusal.status} {HTTPStatus(refusal.status).phrase}\n".encode()
+        fields = [("Content-Type", "text/plain"), ("Content-Length", str(len(text))), ("Connection", "close"), *refusal.fields]
+        await self.send(refusal.status, fields, [] if is_head else [text])
+        # If a socket is closed with bytes unread, its sender can see a reset and never the answer.
+        self.writer.write_eof()
+        self.server.moved(self.writer, is_over=True)
+        await asyncio.wait_for(self.drop(), LINGER)
+
+    async def drop(self) -> None:
+        left = WHOLE
+        while left > 0 and (piece := await self.reader.read(PIECE)):
+            left -= len(piece)
+
+    async def answer_all(self) -> None:
+        request = None
+        try:
+            while request := await self.next_request():
+                self.server.moved(self.writer)
+                await self.send_file(request)
+                if self.http.our_state is not h11.DONE:
+                    return
+                self.http.start_next_cycle()
+                request = None
+        except Refusal as refusal:
+            await self.refuse(refusal, request is not None and request.method == b"HEAD")
+        except h11.RemoteProtocolError as fault:
+            await self.refuse(Refusal(fault.error_status_hint), is_head=False)
 
 
-class Server(http.server.ThreadingHTTPServer):
-    """A thread for each connection, of which there are so many at most."""
+class Server:
+    """So many connections at most, with the time at which each last brought a request or took a piece of an answer."""
 
-    daemon_threads = True
-    request_queue_size = THREADS
-
-    def __init__(self, port: int, folder: str, seconds: int) -> None:
+    def __init__(self, folder: str, seconds: int) -> None:
         self.folder, self.seconds = os.open(folder, os.O_PATH | os.O_DIRECTORY), seconds
-        self.places, self.lock = threading.BoundedSemaphore(THREADS), threading.Lock()
-        self.since: dict[socket.socket, float] = {}
-        super().__init__(("127.0.0.1", port), Handler)
+        self.clients: dict[asyncio.StreamWriter, float] = {}
 
-    def get_request(self):
-        try:
-            return super().get_request()
-        except OSError as fault:
-            if fault.errno in SHORT:
-                time.sleep(REST)  # or it would be asked again and again
-            raise
+    def moved(self, writer: asyncio.StreamWriter, is_over: bool = False) -> None:
+        """A client whose connection is over goes before all others."""
+        if writer in self.clients:
+            self.clients[writer] = 0 if is_over else time.monotonic()
 
-    @contextlib.contextmanager
-    def waiting(self, connection: socket.socket) -> Iterator[None]:
-        """Meanwhile the client is waited for: for a head, or to take a piece of an answer."""
-        with self.lock:
-            self.since[connection] = time.monotonic()
+    async def serve(self, reader: asyncio.StreamReader, writer: asyncio.StreamWriter) -> None:
+        if len(self.clients) >= PLACES:
+            silent = min(self.clients, key=self.clients.__getitem__)
+            del self.clients[silent]
+            silent.transport.abort()
+        self.clients[writer] = time.monotonic()
         try:
-            yield
+            await Client(self, reader, writer).answer_all()
+        except (OSError, asyncio.TimeoutError, h11.LocalProtocolError):
+            pass  # a client that leaves or takes nothing, or a file that became shorter
         finally:
-            with self.lock:
-                del self.since[connection]
+            self.clients.pop(writer, None)
+            writer.transport.abort()
 
-    def end_longest(self) -> None:
-        """Ends the connection whose client has been waited for longest, unless that is not long."""
-        with self.lock, contextlib.suppress(OSError):
-            connection, since = next(iter(self.since.items()), (None, 0.0))
-            if connection and time.monotonic() - since > GRACE:
-                connection.shutdown(socket.SHUT_RDWR)
 
-    def process_request(self, request, client_address) -> None:
-        is_free = self.places.acquire(blocking=False)
-        while not is_free:
-            self.end_longest()
-            is_free = self.places.acquire(timeout=REST)
-        try:
-            super().process_request(request, client_address)
-        except BaseException:  # no thread could be started
-            self.places.release()
-            raise
+def tell(loop: asyncio.AbstractEventLoop, about: dict[str, object]) -> None:
+    """Prints a fault of this program. A client that leaves is none, and after a lack of descriptors asyncio tries again."""
+    if not isinstance(about.get("exception"), OSError):
+        loop.default_exception_handler(about)
 
-    def process_request_thread(self, request, client_address) -> None:
-        try:
-            super().process_request_thread(request, client_address)
-        finally:
-            self.places.release()
 
-    def handle_error(self, request, client_address) -> None:
-        if not isinstance(sys.exc_info()[1], OSError):  # a client that leaves is no error
-            super().handle_error(request, client_address)
+async def run(port: int, folder: str, seconds: int) -> None:
+    asyncio.get_running_loop().set_exception_handler(tell)
+    listening = await asyncio.start_server(Server(folder, seconds).serve, "127.0.0.1", port)
+    print(f"listening on 127.0.0.1:{listening.sockets[0].getsockname()[1]}", flush=True)
+    await listening.serve_forever()
 
 
 def number_of(word: str, most: int) -> int:
@@ -397,9 +343,7 @@ def main() -> None:
     port, folder, seconds = (*sys.argv[1:], str(SECONDS))[:3] if 3 <= len(sys.argv) <= 4 else ("", "", "")
     if number_of(port, 65535) < 0 or number_of(seconds, 86400) < 1 or not os.path.isdir(folder):
         sys.exit("usage: static_server.py PORT FOLDER [SECONDS]")
-    with Server(int(port), folder, int(seconds)) as server:
-        print(f"listening on 127.0.0.1:{server.server_address[1]}", flush=True)
-        server.serve_forever()
+    asyncio.run(run(int(port), folder, int(seconds)))
 
 
 if __name__ == "__main__":
