@@ -24,13 +24,14 @@
 
 #define LETTERS_AND_DIGITS "0123456789ABCDEFGHIJKLMNOPQRSTUVWXYZabcdefghijklmnopqrstuvwxyz"
 
-enum { HEAD = 8192, PIECE = 65536, LARGEST = 8 << 20, NAME = 100, CHILDREN = 16, LINGER = 2000, NOTICE = 100, WHY = 512 };
+enum { HEAD = 8192, PIECE = 65536, LARGEST = 8 << 20, NAME = 100, CHILDREN = 16, LINGER = 2000, NOTICE = 100, HURRY = 10, WHY = 512 };
 
 static char *allowed;         /* classes and MIME types, with a comma before and after each */
 static char *own_types;       /* a text that describes types, or a null pointer */
 static size_t own_size;
 static long patience;         /* milliseconds for a whole request */
 static int folder;
+static pid_t children[CHILDREN]; /* the processes of requests, and 0 for each that may come */
 static atomic_ulong *lost; /* lines that nobody read in time, counted by all processes */
 
 struct request {
@@ -492,7 +493,8 @@ static void serve(int fd) {
     int status = take(fd, why);
     respond(fd, status, *why && (status == 201 || status == 415 || status == 422) ? why : reason(status));
     shutdown(fd, SHUT_WR);
-    /* If a socket is closed with bytes unread, its sender can see a reset and never the answer. */
+    /* If a socket is closed with bytes unread, its sender can see a reset and never the answer. `hurry` ends this. */
+    signal(SIGUSR1, SIG_DFL);
     static uint8_t dropped[PIECE];
     long long deadline = now() + LINGER;
     for (size_t count = 0; count < 2 * LARGEST;) {
@@ -571,44 +573,69 @@ static int listen_at(const char *port) {
     return fd;
 }
 
-/* Whether a child has ended. It waits for one if there are as many as may be. */
-static bool has_ended(int children) {
+/* Where that child stands, or a free place for 0, and a null pointer if there is none. */
+static pid_t *place_of(pid_t child) {
+    for (size_t i = 0; i < CHILDREN; i++)
+        if (children[i] == child)
+            return &children[i];
+    return NULL;
+}
+
+/* Whether a child has ended, which leaves its place. */
+static bool has_ended(void) {
     int how = 0;
-    pid_t child = children > 0 ? waitpid(-1, &how, children < CHILDREN ? WNOHANG : 0) : 0;
-    if (child > 0 && WIFSIGNALED(how))
+    pid_t child = waitpid(-1, &how, WNOHANG);
+    if (child <= 0)
+        return false;
+    *place_of(child) = 0;
+    if (WIFSIGNALED(how) && WTERMSIG(how) != SIGUSR1)
         tell(500, "a request's process was ended by a signal");
-    return child > 0;
+    return true;
+}
+
+/* Who waits for a place comes before those that have their answer. */
+static void hurry(void) {
+    for (size_t i = 0; i < CHILDREN; i++)
+        kill(children[i], SIGUSR1);
+    poll(NULL, 0, HURRY);
 }
 
 /* Whether a sender comes. While there are children it waits a while and no longer, so that a child which has been ended
  * is told of though nobody comes after it. */
-static bool comes(int listening, int children) {
+static bool comes(int listening) {
     struct pollfd ready = {.fd = listening, .events = POLLIN};
-    return children == 0 || poll(&ready, 1, NOTICE) > 0;
+    siginfo_t ended;
+    bool has_children = waitid(P_ALL, 0, &ended, WEXITED | WNOHANG | WNOWAIT) == 0;
+    return poll(&ready, 1, has_children ? NOTICE : -1) > 0;
 }
 
 /* A process for each request, so that a slow sender holds up nobody, and a bound on them, so that memory has one. */
 static void accept_all(int listening) {
-    for (int children = 0;;) {
-        while (has_ended(children))
-            children--;
-        if (!comes(listening, children))
+    for (;;) {
+        while (has_ended())
             continue;
+        if (!comes(listening))
+            continue;
+        pid_t *place = place_of(0);
+        if (!place) {
+            hurry();
+            continue;
+        }
         int fd = accept(listening, NULL, NULL);
         if (fd < 0) {
             poll(NULL, 0, 100); /* the system is short of something: no busy loop */
             continue;
         }
-        pid_t child = fork();
-        if (child == 0) {
+        *place = fork();
+        if (*place == 0) {
             close(listening);
             serve(fd);
             _exit(0);
         }
-        if (child > 0)
-            children++;
-        else
+        if (*place < 0) {
+            *place = 0;
             respond(fd, 503, reason(503));
+        }
         close(fd);
     }
 }
@@ -639,6 +666,7 @@ static bool set_up(void) {
     lost = mmap(NULL, sizeof *lost, PROT_READ | PROT_WRITE, MAP_SHARED | MAP_ANONYMOUS, -1, 0);
     signal(SIGPIPE, SIG_IGN);
     signal(SIGCHLD, SIG_DFL); /* or no child's end would be counted */
+    signal(SIGUSR1, SIG_IGN);
     signal(SIGXFSZ, SIG_IGN); /* a file that grows past a limit is a failed write */
     return lost != MAP_FAILED && sigaction(SIGALRM, &(struct sigaction){.sa_handler = wake}, NULL) == 0;
 }
