@@ -11,6 +11,7 @@ import errno
 import mimetypes
 import os
 import re
+import resource
 import stat
 import sys
 import time
@@ -299,6 +300,8 @@ class Server:
 
     def __init__(self, folder: str, seconds: int) -> None:
         self.folder, self.seconds = os.open(folder, os.O_PATH | os.O_DIRECTORY), seconds
+        # Each client takes two descriptors, its own and that of a file.
+        self.places = max(1, min(PLACES, resource.getrlimit(resource.RLIMIT_NOFILE)[0] // 2 - 16))
         self.clients: dict[asyncio.StreamWriter, float] = {}
 
     def moved(self, writer: asyncio.StreamWriter, is_over: bool = False) -> None:
@@ -307,7 +310,7 @@ class Server:
             self.clients[writer] = 0 if is_over else time.monotonic()
 
     async def serve(self, reader: asyncio.StreamReader, writer: asyncio.StreamWriter) -> None:
-        if len(self.clients) >= PLACES:
+        if len(self.clients) >= self.places:
             silent = min(self.clients, key=self.clients.__getitem__)
             del self.clients[silent]
             silent.transport.abort()
