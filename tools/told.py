@@ -391,7 +391,7 @@ def check_counts(pages):
     uses = len([it for it in os.listdir("crates/infer_uses/src") if it != "lib.rt"])
     cases = len(re.findall(r"^    [A-Z]\w+,$", text_of("crates/infer/src/beginnings.rt"), re.M))
     tags = len(re.findall(r'codes "', re.search(r"^tags = .*?(?=\n\n|\Z)", text_of("crates/infer_deep/specs/Text.antt"), re.M | re.S)[0])) if re.search(r"^tags = ", text_of("crates/infer_deep/specs/Text.antt"), re.M) else None
-    front = re.search(r"const FRONT: usize = (\d+);", text_of("crates/infer/src/read/watched.rt"))[1]
+    front = re.search(r"const FRONT: usize = (\d+);", text_of("crates/infer/src/read/head.rt"))[1]
     size = re.search(r"const SAMPLE_SIZE: usize = (\d+);", text_of("crates/infer_more/src/samples.rt"))[1]
     yield f"#define INFER_SAMPLE_SIZE {size}\n" in text_of("c/infer.h"), f"c/infer.h: the longest sample is not {size} bytes"
     most = re.search(r"front must be 1 to (\d+)", text_of("crates/infer_tool/src/run.rt"))[1]

@@ -40,15 +40,16 @@ module _ {X : Type 0} {g : Contracts X} where
   abbrev pub ReadersAreAlike : List (Row (Signature X g)) → Type 0
   ReadersAreAlike all =
       (n : ℕ) (s t : List ℕ) (r q : Result (Option FileType) Fault) → head n s ≡ head n t
-      → AnswersFront n AnyAccepts all (Some s) r → AnswersFront n AnyAccepts all (Some t) q
+      → AnswersFront n (λ b. IsAnswer (AnyAccepts b) all) (Some s) r → AnswersFront n (λ b. IsAnswer (AnyAccepts b) all) (Some t) q
       → IfOk r (λ found. IfOk q (λ other. option_map triple_of found ≡ option_map triple_of other))
 
   -- what holds of a call's answer by these rows holds by the built-in rows
   pub record AnswersAsBuiltIn (all : List (Row (Signature X g))) : Type 0 where
     pub answer : (buf : List ℕ) (o : Option Triple) → IsAnswer (AnyAccepts buf) all o → IsAnswer (Accepts buf) table o
-    pub file : (n : ℕ) (result : Result (Option FileType) Fault) → AnswersSome n AnyAccepts all result → AnswersSome n Accepts table result
+    pub file : (n : ℕ) (result : Result (Option FileType) Fault)
+        → AnswersSome n (λ b. IsAnswer (AnyAccepts b) all) result → AnswersSome n (λ b. IsAnswer (Accepts b) table) result
     pub front : (n : ℕ) (left : Option (List ℕ)) (result : Result (Option FileType) Fault)
-        → AnswersFront n AnyAccepts all left result → AnswersFront n Accepts table left result
+        → AnswersFront n (λ b. IsAnswer (AnyAccepts b) all) left result → AnswersFront n (λ b. IsAnswer (Accepts b) table) left result
 
 -- the answer is a far row
 abbrev pub answers_far : Option ℕ → Bool

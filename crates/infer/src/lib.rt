@@ -17,13 +17,14 @@
 //! about all of these; `samples`.
 #![tactic(auto)]
 
-ghost use Rattle.std.specs.Prelude.{◌≡◌, ◌↔◌, ◌<◌, ◌≤◌, IfSome, IsNone, IsTrue, option_map, slice_get};
+ghost use Rattle.std.specs.Prelude.{◌≡◌, ◌↔◌, ◌<◌, ◌≤◌, IfOk, IfSome, IsNone, IsTrue, None, option_map, slice_get};
 ghost use Rattle.infer.specs.First.{IsAnswer, IsFirstOf, SomeHas};
 ghost use Rattle.infer.specs.Questions.{HasClass, HasExtension, HasMimeType, SomeBoth};
-ghost use Rattle.infer.specs.Reading.{AnswersSome};
+ghost use Rattle.infer.specs.Reading.{AnswersOpened, AnswersSome};
 ghost use Rattle.infer.specs.Row.{Accepts, shows};
 ghost use Rattle.infer.specs.Table.{table};
 ghost use Rattle.infer.specs.Triple.{triple_of};
+ghost use Rattle.infer.specs.Watched.{fault_of};
 
 mod answers;
 mod ask;
@@ -48,9 +49,12 @@ pub use infer_sig::{
     image as image, odf as odf, text as text, video as video,
 };
 pub use read::fault::Fault;
-pub use read::watched::{Enough, FRONT, Limit, Watched, read_head, read_until};
+pub use read::head::{Enough, FRONT, Limit, lengthen, read_head, read_until};
+pub use read::watched::Watched;
 pub use samples::{SAMPLE_SIZE, sample};
 use std::alloc::Allocator;
+use std::io;
+use std::io::Read;
 use std::rt::Files;
 pub use table::file_type::{FileType as Type, Matcher, MatcherType};
 pub use table::rows as rows;
@@ -65,9 +69,23 @@ pub fn get_from_path<R: Files, A: Allocator>(
     alloc: A,
     path: &str,
 ) -> Result<Option<Type>, Fault>
-    ensures { AnswersSome FRONT Accepts table result }
+    ensures { AnswersSome FRONT (λ b. IsAnswer (Accepts b) table) result }
 {
     Infer::new().get_from_path(rt, alloc, path)
+}
+
+/// [`get_from_path`] for what is opened already, or for the error that opening gave: the first `n` bytes are looked at,
+/// which are read into `room`, as [`Infer::get_from_opened`] does.
+pub fn get_from_opened<A: Allocator, R: Read>(
+    room: &mut Vec<u8, A>,
+    opened: &mut io::Result<Watched<R>>,
+    n: usize,
+) -> Result<Option<Type>, Fault>
+    requires { IfOk opened.old (λ r. fault_of r ≡ None) }
+    ensures { AnswersOpened R.remaining n (λ b. IsAnswer (Accepts b) table)
+        opened.old opened.new result }
+{
+    Infer::new().get_from_opened(room, opened, n)
 }
 
 /// Whether some built-in row with this extension accepts `buf`, which need not be the answer: allow by [`get`]. Upper

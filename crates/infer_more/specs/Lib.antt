@@ -9,7 +9,6 @@ pub mod Entries
 pub mod Added
 pub mod Outline
 pub mod Index
-pub mod Reading
 pub mod Laws
 pub mod Open
 pub mod Decided

@@ -13,7 +13,8 @@
 //! `samples`; `open`, what the bytes after a buffer can bring a signature; `decided`, what they can change of the answer.
 #![tactic(auto)]
 
-ghost use Rattle.std.specs.Prelude.{◌≡◌, ◌+◌, ◌<◌, ◌≤◌, ◌↔◌, ◌⊎◌, IfSome, IsTrue, None, option_map, slice_get};
+ghost use Rattle.std.specs.Prelude.{◌≡◌, ◌+◌, ◌<◌, ◌≤◌, ◌↔◌, ◌⊎◌, IfOk, IfSome, IsTrue, None, option_map, slice_get};
+ghost use Rattle.infer.specs.Reading.{AnswersOpened, AnswersReader, AnswersSome};
 ghost use Rattle.infer.specs.Rows.{custom_rows};
 ghost use Rattle.infer.specs.Triple.{triple_of};
 ghost use Rattle.infer.specs.Watched.{fault_of};
@@ -22,7 +23,6 @@ ghost use Rattle.infer_inside.specs.Text.{IsEncodingOf, IsText};
 ghost use Rattle.infer_more.specs.Added.{IsAnswerWith};
 ghost use Rattle.infer_more.specs.Decided.{AsksForRelation, IsDecided, MayBecomeAt};
 ghost use Rattle.infer_more.specs.Ended.{ended_listed, ended_shown};
-ghost use Rattle.infer_more.specs.Reading.{AnswersReader, AnswersSome};
 ghost use Rattle.infer_more.specs.Wider.{AcceptsAt, IsWider, IsWiderAnswer, ShowsExtension, ShowsMimeType, parent_at, shown};
 ghost use Rattle.infer_more.specs.declared.index.lists.TheConstants.{FURTHER_COUNT};
 
@@ -45,6 +45,7 @@ pub use infer_inside::text;
 pub use infer_notation::Reason;
 pub use samples::{SAMPLE_SIZE, sample};
 use std::alloc::Allocator;
+use std::io;
 use std::io::Read;
 use std::rt::Files;
 pub use table::EndedTexts;
@@ -157,7 +158,7 @@ pub fn get_from_reader<A: Allocator, R: Read>(
     r: &mut Watched<R>,
 ) -> Result<Option<Type>, Fault>
     requires { fault_of r.old ≡ None }
-    ensures { AnswersReader R.remaining FRONT r.old r.new result }
+    ensures { AnswersReader R.remaining FRONT IsWiderAnswer r.old r.new result }
 {
     read::get_from_reader_within(alloc, r, FRONT)
 }
@@ -171,7 +172,7 @@ pub fn get_from_reader_within<A: Allocator, R: Read>(
     requires no_fault { fault_of r.old ≡ None }
     requires least { 1 ≤ n }
     requires most { n ≤ 65536 }
-    ensures { AnswersReader R.remaining n r.old r.new result }
+    ensures { AnswersReader R.remaining n IsWiderAnswer r.old r.new result }
 {
     read::get_from_reader_within(alloc, r, n)
 }
@@ -183,7 +184,7 @@ pub fn get_from_path<R: Files, A: Allocator>(
     alloc: A,
     path: &str,
 ) -> Result<Option<Type>, Fault>
-    ensures { AnswersSome FRONT result }
+    ensures { AnswersSome FRONT IsWiderAnswer result }
 {
     read::get_from_path_within(rt, alloc, path, FRONT)
 }
@@ -197,7 +198,20 @@ pub fn get_from_path_within<R: Files, A: Allocator>(
 ) -> Result<Option<Type>, Fault>
     requires least { 1 ≤ n }
     requires most { n ≤ 65536 }
-    ensures { AnswersSome n result }
+    ensures { AnswersSome n IsWiderAnswer result }
 {
     read::get_from_path_within(rt, alloc, path, n)
+}
+
+/// [`get_from_path_within`] for what is opened already, or for the error that opening gave, which is `Open` then. It reads
+/// into `room`, which is made `n` bytes long if it is shorter, so that one room serves many files.
+pub fn get_from_opened<A: Allocator, R: Read>(
+    room: &mut Vec<u8, A>,
+    opened: &mut io::Result<Watched<R>>,
+    n: usize,
+) -> Result<Option<Type>, Fault>
+    requires { IfOk opened.old (λ r. fault_of r ≡ None) }
+    ensures { AnswersOpened R.remaining n IsWiderAnswer opened.old opened.new result }
+{
+    read::get_from_opened(room, opened, n)
 }

@@ -1,5 +1,6 @@
 -- A buffer for each case that it alone keeps open, and one that is a byte too short.
 use Rattle.infer_sniff.proofs.Common.{◌≡◌, ℕ, List, ◌++◌, length, take, drop, Option, Some, sym, subst, ap, ◌∙◌, arith, length-append, length-take-le, take-append-drop, Begins, BeginsAlone, last_after, IsFirst, IsFirstOf, Breaks, Accepts, table, IsOneShort, IsSettled, KeepsOpen, RowStaysFinal}
+use Rattle.infer.specs.Buffer.{IsBuffer}
 use Rattle.infer.specs.declared.beginnings.Beginning.{Beginning}
 
 module _ (single : (b : List ℕ) (o p : Option ℕ) → IsFirstOf (Accepts b) table o → IsFirstOf (Accepts b) table p → o ≡ p) where
@@ -13,6 +14,10 @@ module _ (single : (b : List ℕ) (o p : Option ℕ) → IsFirstOf (Accepts b) t
     changed : (row : Option ℕ) → IsFirstOf (Accepts (take n buf)) table row → ¬ IsFirstOf (Accepts (take n buf ++ drop n buf)) table row
     changed row before after =
         h.other (single (take n buf) h.front row h.front_first before ∙ single (take n buf ++ drop n buf) row (Some i) after brought)
+
+  -- a buffer is one also cut in two
+  pub joined_bytes : (n i : ℕ) (buf : List ℕ) → Breaks n i buf → IsBuffer (take n buf ++ drop n buf)
+  joined_bytes n i buf h = subst IsBuffer (sym (take-append-drop n buf)) h.bytes
 
   pub one_short : (i : ℕ) (buf : List ℕ) → length buf ≡ 1024 → Breaks 1023 i buf → ((how : Beginning) → ¬ Begins how (take 1023 buf))
       → IsOneShort (take 1023 buf) (drop 1023 buf)

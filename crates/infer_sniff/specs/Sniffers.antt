@@ -1,6 +1,6 @@
 -- What holds of a sniffer.
 use Rattle.std.specs.Prelude.{◌≤◌, ℕ, List, length}
-use Rattle.infer.specs.declared.read.watched.TheConstants.{FRONT}
+use Rattle.infer.specs.declared.read.head.TheConstants.{FRONT}
 use Rattle.infer_sniff.specs.Verdicts.{IsVerdict, StaysFinal}
 use Rattle.infer_sniff.specs.declared.verdict.Verdict.{Verdict}
 

@@ -1,6 +1,6 @@
 //! What holds of verdicts whatever the bytes are.
 ghost use Rattle.std.specs.Prelude.{◌≡◌, ℕ, List, ◌++◌};
-ghost use Rattle.infer.specs.Buffer.{head};
+ghost use Rattle.infer.specs.Buffer.{IsBuffer, head};
 ghost use Rattle.infer.specs.Decided.{IsDecided};
 ghost use Rattle.infer_sniff.specs.Verdicts.{AreAlike, IsOneShort, IsSettled, IsVerdict, KeepsOpen};
 ghost use Rattle.infer.specs.declared.beginnings.Beginning.{Beginning};
@@ -30,8 +30,8 @@ pub fn decided()
 /// which more bytes bring the last row that it allows; and a buffer of 1023 bytes, of which no case holds, gets another
 /// row by one byte more.
 pub fn needed()
-    ensures cases { (how : Beginning) → (b more : List ℕ) × KeepsOpen how b more }
-    ensures least { (b more : List ℕ) × IsOneShort b more }
+    ensures cases { (how : Beginning) → (b more : List ℕ) × IsBuffer (b ++ more) × KeepsOpen how b more }
+    ensures least { (b more : List ℕ) × IsBuffer (b ++ more) × IsOneShort b more }
 {
     rows::numbers();
     laws::growth();

@@ -19,7 +19,7 @@ const PIECE: usize = 1024;
 struct Latest(Verdict);
 
 impl Enough for Latest {
-    ghost suffices = { IsSettled };
+    ghost suffices = { λ _ bytes. IsSettled bytes };
 
     ghost keeps = { λ self bytes. IsVerdict bytes self.0 × StaysFinal bytes self.0 };
 

@@ -1,8 +1,12 @@
 -- What has a property of what the program says, and what has not: each pair computed.
-use Rattle.infer_tool.proofs.Common.{◌≡◌, ℕ, Bool, true, false, [], ◌∷◌, Option, None, Some, Result, Ok, Err, IsTrue, length, refl, ap, codes, arith, Appends, Triple, Reports, ReportsInput, fault_written, outcome_of, told, unless_failed, has_failed, Failed, Unknown, stream, written, inner, get_or}
+use Rattle.infer_tool.proofs.Common.{◌≡◌, ℕ, Bool, true, false, [], ◌∷◌, Option, None, Some, Result, Ok, Err, IsTrue, length, refl, ap, subst, codes, arith, Appends, Triple, Reports, ReportsInput, fault_written, outcome_of, told, unless_failed, has_failed, Failed, Unknown, stream, written, inner, get_or}
 use Rattle.std.proofs.Common.{unwrap_or}
 use Rattle.infer.specs.declared.read.fault.Fault.{Fault}
 use Rattle.infer.specs.declared.read.fault.Fault.TheVariants.{Memory, Open, Read}
+use Rattle.std.specs.IoError.{error_kind}
+use Rattle.std.specs.declared.io.Error.{Error}
+use Rattle.infer.specs.declared.table.file_type.FileType.{FileType}
+use Rattle.infer_tool.specs.Reader.{ReportsOpened}
 use Rattle.infer_tool.specs.Line.{fault_line, fault_text, line}
 use Rattle.infer_tool.specs.Words.{front_option, sample_option, second}
 use Rattle.infer_tool.specs.declared.writer.WatchedWriter.{WatchedWriter}
@@ -59,6 +63,16 @@ told_fault (Err Memory) e bytes = omega (arith, ap length bytes)
 
 pub ReportsInput_pair : ReportsInput 0 None [] Failed None None (Some []) (Some (codes ": no memory\n")) × (¬ ReportsInput 0 None [] Failed None None (Some []) (Some []))
 ReportsInput_pair = ((Err Memory, tt, (refl, tt, refl)), λ h. told_fault h.0 h.2.0 h.2.2)
+
+-- a file that was not opened is told so
+not_opened : (error : Error) (answer : Result (Option FileType) Fault) → answer ≡ Err (Open (error_kind error)) → Appends (Some []) (Some []) (fault_written [] (told answer)) → ⊥
+not_opened error answer is bytes =
+    let written = subst (λ (a : Result (Option FileType) Fault). Appends (Some []) (Some []) (fault_written [] (told a))) is bytes in
+    omega (arith, ap length written)
+
+pub ReportsOpened_pair : (error : Error) → (ReportsOpened {R = ℕ} (λ r. None) 1 (Err error) (Err error) [] Failed None None (Some []) (Some (codes ": cannot open\n")))
+    × (¬ ReportsOpened {R = ℕ} (λ r. None) 1 (Err error) (Err error) [] Failed None None (Some []) (Some []))
+ReportsOpened_pair error = ((Err (Open (error_kind error)), refl, (refl, tt, refl)), λ h. not_opened error h.0 h.1 h.2.2)
 
 pub line_pair : (line (codes "a") None ≡ codes "a: unknown\n") × (¬ (line (codes "a") None ≡ codes "a: unknown"))
 line_pair = (refl, λ e. omega (arith, ap length e))

@@ -1,7 +1,12 @@
 -- What is said of a watched reader.
 use Rattle.std.specs.Prelude.{◌≡◌, ℕ, List, Option, Some, Result, IfOk, IfSome, IsErrOf, OnErr, OnOk, drop}
 use Rattle.std.specs.Io.KnownBytes.{Consumes}
+use Rattle.std.specs.declared.io.Error.{Error}
 use Rattle.infer.specs.Fault.{OpensNothing, read_fault}
+use Rattle.infer.specs.First.{IsAnswer}
+use Rattle.infer.specs.Reading.{AnswersOpened}
+use Rattle.infer.specs.Row.{Accepts}
+use Rattle.infer.specs.Table.{table}
 use Rattle.infer.specs.Watched.{IsDue, Loses, fault_of, inner}
 use Rattle.infer.specs.declared.read.fault.Fault.{Fault}
 use Rattle.infer.specs.declared.read.fault.Fault.TheVariants.{Memory}
@@ -34,4 +39,10 @@ abbrev pub ReportsReader : {R : Type 0} (remaining : R → Option (List ℕ)) (n
     (old new : Watched R) → List ℕ → Saying
 ReportsReader remaining n Lost before after name outcome old new err_old err_new =
     (answer : Result (Option FileType) Fault) × AnswersInput remaining n Lost before after answer
+    × Reports name (told answer) outcome old new err_old err_new
+
+-- the report of what was opened, or of the fault that stands for the error in its place
+abbrev pub ReportsOpened : {R : Type 0} (remaining : R → Option (List ℕ)) (n : ℕ) (old new : Result (Watched R) Error) → List ℕ → Saying
+ReportsOpened remaining n before after name outcome old new err_old err_new =
+    (answer : Result (Option FileType) Fault) × AnswersOpened remaining n (λ b. IsAnswer (Accepts b) table) before after answer
     × Reports name (told answer) outcome old new err_old err_new

@@ -1,22 +1,20 @@
 //! One line for one input.
-ghost use Rattle.std.specs.Prelude.{◌≡◌, ◌≢◌, ◌≤◌, None, OnErr};
+ghost use Rattle.std.specs.Prelude.{◌≡◌, ◌≢◌, ◌≤◌, IfOk, None, OnErr};
 ghost use Rattle.std.specs.Io.KnownBytes.{Appends};
-ghost use Rattle.infer.specs.Reading.{AnswersSome};
-ghost use Rattle.infer.specs.Row.{Accepts};
-ghost use Rattle.infer.specs.Table.{table};
 ghost use Rattle.infer.specs.Watched.{fault_of};
 ghost use Rattle.infer_tool.specs.Line.{fault_text};
 ghost use Rattle.infer_tool.specs.Outcome.{outcome_after};
-ghost use Rattle.infer_tool.specs.Reader.{LosesFront, LosesUntilFinal, ReportsReader};
+ghost use Rattle.infer_tool.specs.Reader.{LosesFront, LosesUntilFinal, ReportsOpened, ReportsReader};
 ghost use Rattle.infer_tool.specs.Report.{Reports, ReportsInput, Says, fault_written, outcome_of, stream, told, unless_failed, written};
 ghost use Rattle.infer_tool.specs.Writer.{IsLater, has_failed, inner};
 
 use crate::outcome::Outcome;
 use crate::writer::WatchedWriter;
-use infer::{FRONT, Fault, Infer, Type, Watched, laws, read_head};
+use infer::{FRONT, Fault, Infer, Type, Watched, laws};
 use infer_sniff::label;
 use std::alloc::Allocator;
 use std::fs::File;
+use std::io;
 use std::io::{Read, Write};
 use std::rt::Files;
 
@@ -177,11 +175,7 @@ pub fn run_path<R: Files, A: Allocator, W: Write, E: Write>(
 }
 
 /// Reads at most `n` bytes of a file, and reports what they are, under its path. A fault is told also if `out` has
-/// failed.
-///
-/// They are read into `room`, which is made `n` bytes long after the file was opened: it asks for memory only if it
-/// has less, so that one room serves many files. Before a fault is told, `out` is flushed, so that lines and faults come
-/// in their order if both writers write to the same file.
+/// failed. All of it but the opening is [`run_opened`].
 pub fn run_path_within<R: Files, A: Allocator, W: Write, E: Write>(
     rt: &R,
     room: &mut Vec<u8, A>,
@@ -196,25 +190,34 @@ pub fn run_path_within<R: Files, A: Allocator, W: Write, E: Write>(
     ensures err_later { IsLater err.old err.new }
     ensures silent { result ≢ Outcome.Failed → err.new ≡ err.old }
 {
-    let answer = answer_about(rt, room, path, n);
+    let mut opened = File::open(rt, path).map(Watched::new);
+    run_opened(room, path, &mut opened, n, out, err)
+}
+
+/// Reads at most `n` bytes of what is opened already, or takes the error that opening gave, and reports it under this
+/// name. A fault is told also if `out` has failed.
+///
+/// They are read into `room`, which is made `n` bytes long if it is shorter, so that one room serves many files. Before a
+/// fault is told, `out` is flushed, so that lines and faults come in their order if both writers write to the same file.
+pub fn run_opened<A: Allocator, R: Read, W: Write, E: Write>(
+    room: &mut Vec<u8, A>,
+    name: &str,
+    opened: &mut io::Result<Watched<R>>,
+    n: usize,
+    out: &mut WatchedWriter<'_, W>,
+    err: &mut WatchedWriter<'_, E>,
+) -> Outcome
+    requires { IfOk opened.old (λ r. fault_of r ≡ None) }
+    ensures line { Says (stream W.contents out.old out.new)
+        (stream E.contents err.old err.new) result
+        (ReportsOpened R.remaining n opened.old opened.new name.now) }
+    ensures later { IsLater out.old out.new }
+    ensures err_later { IsLater err.old err.new }
+    ensures silent { result ≢ Outcome.Failed → err.new ≡ err.old }
+{
+    let answer = infer::get_from_opened(room, opened, n);
     if answer.is_err() {
         out.flush();
     }
-    report_watched(path, answer, out, err)
-}
-
-/// What the built-in rows answer about the first `n` bytes of a file, which are read into `room`.
-fn answer_about<R: Files, A: Allocator>(
-    rt: &R,
-    room: &mut Vec<u8, A>,
-    path: &str,
-    n: usize,
-) -> Result<Option<Type>, Fault>
-    ensures { AnswersSome n Accepts table result }
-{
-    let file = File::open(rt, path).map_err(|error| Fault::Open(error.kind()))?;
-    room.resize(n, 0).map_err(|_| Fault::Memory)?;
-    let room = room.as_mut_slice();
-    let count = read_head(&mut Watched::new(file), room).map_err(Fault::Read)?;
-    Ok(infer::get(&room[..count]))
+    report_watched(name, answer, out, err)
 }

@@ -2,7 +2,7 @@
 use Rattle.std.specs.Prelude.{◌≤◌, ◌⊎◌, ℕ, List, Option, length}
 use Rattle.std.specs.Io.KnownBytes.{Appends, Consumes, IsAtEnd}
 use Rattle.infer.specs.Buffer.{head}
-use Rattle.infer.specs.declared.read.watched.TheConstants.{FRONT}
+use Rattle.infer.specs.declared.read.head.TheConstants.{FRONT}
 use Rattle.infer.specs.declared.table.file_type.FileType.{FileType}
 use Rattle.infer_sniff.specs.Verdicts.{IsSettled, IsTypeOf}
 

@@ -1,7 +1,9 @@
 -- What has a property of rows, answers and readers, and what has not: each pair computed, or proved by a law.
-use Rattle.std.proofs.Common.{◌≡◌, ◌<◌, ◌≤◌, ◌++◌, ◌∙◌, ℕ, Bool, false, true, List, [], ◌∷◌, Option, None, Some, Ok, Err, IsTrue, length, length-append, replicate, get_or, take, refl, sym, ap, subst, unwrap_or, ⊎_elim, codes, arith, inl, inr}
+use Rattle.std.proofs.Common.{◌≡◌, ◌≢◌, ◌<◌, ◌≤◌, ◌++◌, ◌∙◌, ℕ, Bool, false, true, List, [], ◌∷◌, Option, None, Some, Ok, Err, IsTrue, length, length-append, replicate, get_or, take, refl, sym, ap, subst, unwrap_or, ⊎_elim, codes, arith, inl, inr}
 use Rattle.std.proofs.lemmas.Bool.Decides.{nat_tests}
 use Rattle.std.proofs.lemmas.List.Elements.{All-cons, All-nil}
+use Rattle.std.specs.IoError.{error_kind}
+use Rattle.std.specs.declared.io.Error.{Error}
 use Rattle.std.specs.declared.io.ErrorKind.{ErrorKind}
 use Rattle.std.specs.declared.io.ErrorKind.TheVariants.{NotFound}
 use denote.Ref.{Bor}
@@ -23,7 +25,7 @@ use Rattle.infer.specs.Leads.{allows_first, candidates, candidates_of, numbers_f
 use Rattle.infer.specs.Listed.{buffer_listed, is_inside, number_of, row_listed}
 use Rattle.infer.specs.Matchers.{OthersAreNear, is_far, is_far_row, signatures}
 use Rattle.infer.specs.Questions.{IsAsked}
-use Rattle.infer.specs.Reading.{AnswersFront, AnswersReader, AnswersSome}
+use Rattle.infer.specs.Reading.{AnswersFront, AnswersOpened, AnswersReader, AnswersSome}
 use Rattle.infer.specs.Row.{Row, shows}
 use Rattle.infer.specs.Rows.{AnyAccepts, IsAcceptedBy, Signature, custom_row, custom_rows, given, rows}
 use Rattle.infer.specs.Samples.{padded, sample_of, zeros}
@@ -205,8 +207,8 @@ pub count_asked_pair : (count_asked None (codes "MZ") (Some EXE) ≡ 1) × (¬ (
 unfolding candidates table
 count_asked_pair = (refl, λ e. omega (arith, e))
 
-pub AnswersSome_pair : AnswersSome {S = BuiltIn} 0 (λ b r. ⊥) (row_with [] ∷ []) (Ok None) × (¬ AnswersSome {S = BuiltIn} 0 (λ b r. Unit {0}) (row_with [] ∷ []) (Ok None))
-AnswersSome_pair = (([], All-nil (λ x. x < 256), omega arith, λ k d low high h. h), λ h. h.3 0 (row_with []) (omega arith) (omega arith) tt)
+pub AnswersSome_pair : AnswersSome 0 (λ b t. t ≡ None) (Ok None) × (¬ AnswersSome 0 (λ b t. t ≢ None) (Ok None))
+AnswersSome_pair = (([], All-nil (λ x. x < 256), omega arith, refl), λ h. h.3 refl)
 
 pub shows_pair : (shows (row_with (codes "pdf")) ≡ triple App [] (codes "pdf")) × (¬ (shows (row_with []) ≡ triple App [] (codes "pdf")))
 shows_pair = (refl, λ e. absurd (let f = ap (λ t. length t.extension) e in omega (arith, f)))
@@ -255,12 +257,16 @@ TellsMayBecome_pair = (refl, λ e. absurd (cc))
 pub IsToldExactly_pair : IsToldExactly pdf × (¬ IsToldExactly (fixed impossible))
 IsToldExactly_pair = (λ b r told. told, λ h. let r = (h [] true refl).0 refl in never r.0 r.2)
 
-pub AnswersReader_pair : AnswersReader {S = BuiltIn} (λ r. None) 1 (λ b r. ⊥) [] (reader 0 None) (reader 0 None) (Err Memory)
-    × (¬ AnswersReader {S = BuiltIn} (λ r. None) 1 (λ b r. ⊥) [] (reader 0 None) (reader 0 None) (Err (Open NotFound)))
+pub AnswersReader_pair : AnswersReader (λ r. None) 1 (λ b t. ⊥) (reader 0 None) (reader 0 None) (Err Memory)
+    × (¬ AnswersReader (λ r. None) 1 (λ b t. ⊥) (reader 0 None) (reader 0 None) (Err (Open NotFound)))
 AnswersReader_pair = (
   record { answer = tt; rest = tt; some_bytes = tt; fault = refl; memory = λ e. refl; opens_nothing = tt; lost = ([], omega arith, tt) },
   λ h. h.opens_nothing,
 )
+
+pub AnswersOpened_pair : (error : Error) → (AnswersOpened {R = ℕ} (λ r. None) 1 (λ b t. ⊥) (Err error) (Err error) (Err (Open (error_kind error))))
+    × (¬ AnswersOpened {R = ℕ} (λ r. None) 1 (λ b t. ⊥) (Err error) (Err error) (Err Memory))
+AnswersOpened_pair error = (refl, λ e. absurd (cc))
 
 pub custom_row_pair : (r : CustomRow (Unit {0}) (one of_any)) → ((custom_row r).shows.class ≡ Custom) × (¬ ((custom_row r).shows.class ≡ App))
 custom_row_pair r = (refl, λ e. absurd (cc))
@@ -289,8 +295,8 @@ IsNotLater_pair = (tt, λ h. h)
 pub IsAwaited_pair : IsAwaited html (codes " ") × (¬ IsAwaited html (codes "x"))
 IsAwaited_pair = (inr (inr (inr (inr refl))), λ white. absurd (grind arith))
 
-pub AnswersFront_pair : AnswersFront {S = BuiltIn} 1 (λ b r. ⊥) (row_with [] ∷ []) (Some []) (Ok None) × (¬ AnswersFront {S = BuiltIn} 1 (λ b r. Unit {0}) (row_with [] ∷ []) (Some []) (Ok None))
-AnswersFront_pair = (λ k d low high h. h, λ h. h 0 (row_with []) (omega arith) (omega arith) tt)
+pub AnswersFront_pair : AnswersFront 1 (λ b t. t ≡ None) (Some []) (Ok None) × (¬ AnswersFront 1 (λ b t. t ≢ None) (Some []) (Ok None))
+AnswersFront_pair = (refl, λ h. h refl)
 
 pub is_asked_pair : IsTrue (is_asked (Some (lent (codes "png"))) PNG) × (¬ IsTrue (is_asked (Some (lent (codes "png"))) EXE))
 unfolding table

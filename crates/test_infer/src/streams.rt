@@ -1,10 +1,10 @@
 //! What the laws of growing input tell of a sniffer.
-ghost use Rattle.std.specs.Prelude.{◌≡◌, ◌++◌, ℕ, IsTrue, List};
-ghost use Rattle.infer.specs.Buffer.{head};
+ghost use Rattle.std.specs.Prelude.{◌≡◌, ◌≤◌, ◌++◌, ℕ, IsTrue, List, length};
+ghost use Rattle.infer.specs.Buffer.{IsBuffer, head};
 ghost use Rattle.infer_sniff.specs.Verdicts.{IsVerdict, KeepsOpen};
 ghost use Rattle.infer.specs.declared.beginnings.Beginning.TheVariants.{Mark};
 
-use infer::FRONT;
+use infer::{Enough, FRONT};
 use infer_sniff::laws::{cuts, decided, needed};
 use infer_sniff::{Sniffer, Verdict};
 use std::alloc::Allocator;
@@ -30,7 +30,21 @@ pub fn push_both<A: Allocator>(sniffer: &mut Sniffer<A>, front: &[u8], rest: &[u
 
 /// Some buffer is kept open by the case of marks alone.
 pub fn open_by_a_mark()
-    ensures { (b more : List ℕ) × KeepsOpen Mark b more }
+    ensures { (b more : List ℕ) × IsBuffer (b ++ more) × KeepsOpen Mark b more }
 {
     needed();
+}
+
+/// Bytes are enough once there are so many.
+#[derive(Drop)]
+pub struct AtLeast(pub usize);
+
+impl Enough for AtLeast {
+    ghost suffices = { λ self bytes. self.0 ≤ length bytes };
+
+    ghost keeps = { λ _ _. Unit {0} };
+
+    fn is_enough(&mut self, bytes: &[u8]) -> bool {
+        self.0 <= bytes.len()
+    }
 }

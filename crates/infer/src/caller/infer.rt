@@ -1,9 +1,9 @@
 //! The list of rows that is asked, about a buffer, a reader or a file.
-ghost use Rattle.std.specs.Prelude.{◌≡◌, ◌↔◌, None, Some, [], ◌∷◌, ◌++◌, IsTrue, OnErr, OnOk, map, option_map, ◌≤◌, IsErrOf, length};
+ghost use Rattle.std.specs.Prelude.{◌≡◌, ◌↔◌, None, Some, [], ◌∷◌, ◌++◌, IfOk, IsTrue, OnErr, OnOk, map, option_map, ◌≤◌, IsErrOf, length};
 ghost use Rattle.infer.specs.Caller.{FixesAnswers};
 ghost use Rattle.infer.specs.First.{IsAnswer, SomeHas};
 ghost use Rattle.infer.specs.Questions.{HasClass, HasExtension, HasMimeType, IsAsked, SomeBoth};
-ghost use Rattle.infer.specs.Reading.{AnswersReader, AnswersSome};
+ghost use Rattle.infer.specs.Reading.{AnswersOpened, AnswersReader, AnswersSome};
 ghost use Rattle.infer.specs.Rows.{AnyAccepts, custom_row, custom_rows, given, rows};
 ghost use Rattle.infer.specs.Triple.{triple, triple_of};
 ghost use Rattle.infer.specs.Watched.{fault_of};
@@ -13,11 +13,13 @@ use crate::ask::class::{App, Archive, Audio, Book, Class, Custom, Doc, Font, Ima
 use crate::ask::question::{OfClass, Question, WithExtension, WithMimeType};
 use crate::caller::custom::CustomRow;
 use crate::read::fault::Fault;
-use crate::read::watched::{FRONT, Watched, make_room, read_head};
+use crate::read::head::{FRONT, lengthen, make_room, read_head};
+use crate::read::watched::Watched;
 use crate::table::file_type::{FileType, Matcher};
 use crate::{answers, texts};
 use std::alloc::{AllocError, Allocator, Global};
 use std::fs::File;
+use std::io;
 use std::io::Read;
 use std::marker::PhantomData;
 use std::rt::Files;
@@ -119,7 +121,8 @@ impl<A: Allocator> Infer<A> {
         r: &mut Watched<R>,
     ) -> Result<Option<FileType>, Fault>
         requires { fault_of r.old ≡ None }
-        ensures { AnswersReader R.remaining FRONT AnyAccepts (rows self.now) r.old r.new result }
+        ensures { AnswersReader R.remaining FRONT (λ b. IsAnswer (AnyAccepts b) (rows self.now))
+            r.old r.new result }
     {
         self.get_from_reader_within(alloc, r, FRONT)
     }
@@ -135,7 +138,7 @@ impl<A: Allocator> Infer<A> {
         alloc: B,
         path: &str,
     ) -> Result<Option<FileType>, Fault>
-        ensures { AnswersSome FRONT AnyAccepts (rows self.now) result }
+        ensures { AnswersSome FRONT (λ b. IsAnswer (AnyAccepts b) (rows self.now)) result }
     {
         self.get_from_path_within(rt, alloc, path, FRONT)
     }
@@ -150,7 +153,8 @@ impl<A: Allocator> Infer<A> {
         requires no_fault { fault_of r.old ≡ None }
         requires least { 1 ≤ n }
         requires most { n ≤ 65536 }
-        ensures { AnswersReader R.remaining n AnyAccepts (rows self.now) r.old r.new result }
+        ensures { AnswersReader R.remaining n (λ b. IsAnswer (AnyAccepts b) (rows self.now))
+            r.old r.new result }
     {
         let mut room = make_room(alloc, n)?;
         self.get_from_reader_in(room.as_mut_slice(), r)
@@ -165,8 +169,8 @@ impl<A: Allocator> Infer<A> {
         r: &mut Watched<R>,
     ) -> Result<Option<FileType>, Fault>
         requires { fault_of r.old ≡ None }
-        ensures answer { AnswersReader R.remaining (length room.new) AnyAccepts
-            (rows self.now) r.old r.new result }
+        ensures answer { AnswersReader R.remaining (length room.new)
+            (λ b. IsAnswer (AnyAccepts b) (rows self.now)) r.old r.new result }
         ensures no_memory { ¬ IsErrOf result Fault.Memory }
     {
         match read_head(r, room) {
@@ -185,10 +189,32 @@ impl<A: Allocator> Infer<A> {
     ) -> Result<Option<FileType>, Fault>
         requires least { 1 ≤ n }
         requires most { n ≤ 65536 }
-        ensures { AnswersSome n AnyAccepts (rows self.now) result }
+        ensures { AnswersSome n (λ b. IsAnswer (AnyAccepts b) (rows self.now)) result }
     {
-        match File::open(rt, path) {
-            Ok(file) => self.get_from_reader_within(alloc, &mut Watched::new(file), n),
+        let mut opened = File::open(rt, path).map(Watched::new);
+        self.get_from_opened(&mut Vec::new(alloc), &mut opened, n)
+    }
+
+    /// [`Infer::get_from_path_within`] for what is opened already, or for the error that opening gave, which is `Open`
+    /// then: all that is left of a path is to open it.
+    ///
+    /// It reads into `room`, which is made `n` bytes long if it is shorter, after the file was opened. So one room serves
+    /// many files. What it had before is not looked at.
+    pub fn get_from_opened<B: Allocator, R: Read>(
+        &self,
+        room: &mut Vec<u8, B>,
+        opened: &mut io::Result<Watched<R>>,
+        n: usize,
+    ) -> Result<Option<FileType>, Fault>
+        requires { IfOk opened.old (λ r. fault_of r ≡ None) }
+        ensures { AnswersOpened R.remaining n (λ b. IsAnswer (AnyAccepts b) (rows self.now))
+            opened.old opened.new result }
+    {
+        match opened {
+            Ok(r) => {
+                lengthen(room, n)?;
+                self.get_from_reader_in(&mut room.as_mut_slice()[..n], r)
+            }
             Err(error) => Err(Fault::Open(error.kind())),
         }
     }

@@ -8,6 +8,8 @@ ghost use Rattle.infer.specs.Slots.{ListSlots, extension_of, mime_type_of};
 ghost use Rattle.infer.specs.Row.{Accepts};
 ghost use Rattle.infer.specs.Samples.{padded, sample_of};
 ghost use Rattle.infer.specs.Table.{signature_of, table};
+ghost use Rattle.infer.specs.declared.read.head.TheConstants.{FRONT};
+ghost use Rattle.infer.specs.declared.samples.TheConstants.{SAMPLE_SIZE};
 
 use crate::table::file_type::{FileType, MatcherType};
 use infer_sig::{app, archive, audio, book, doc, font, image, odf, text, video};
@@ -433,10 +435,11 @@ pub const MATCHER_COUNT: usize = ROW_COUNT + 3;
 /// How many rows are candidates of one buffer at most.
 pub const MOST_CANDIDATES: usize = 25;
 
-/// The numbers that the names stand for.
+/// The numbers that the names stand for, those of [`crate::FRONT`] and [`crate::SAMPLE_SIZE`] among them.
 #[tactic(auto, using(crate::proofs::TableLemmas::table_rows))]
 pub fn numbers()
     ensures names { (ROW_COUNT ≡ 98) × (DLL ≡ 3) × (EPUB_ARCHIVE ≡ 66) × (MOST_CANDIDATES ≡ 25) }
+    ensures sizes { (FRONT ≡ 8192) × (SAMPLE_SIZE ≡ 640) }
     ensures bounds { (AVIF ≡ 27) × (PPT ≡ 61) × (PPTX ≡ 62) × (LZ4 ≡ 92) × (XML ≡ 96) }
     ensures many { length table ≡ ROW_COUNT }
 {}

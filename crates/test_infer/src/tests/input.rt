@@ -100,6 +100,14 @@ fn the_end_after_each_byte(rt: HostRuntime) -> Result<(), Fail> {
 }
 
 #[test]
+fn an_interruption_after_8191_bytes_is_no_answer(rt: HostRuntime) -> Result<(), Fail> {
+    let bytes = vec![in rt.alloc(); b' '; 8191]?;
+    let reader = PieceReader::failing(bytes.as_slice(), 8191, 1, ErrorKind::Interrupted);
+    assert_eq!(rt; told_of(rt.alloc(), reader, FRONT), ("cannot read", 0, 2));
+    Ok(())
+}
+
+#[test]
 fn no_read_after_the_8192nd_byte(rt: HostRuntime) -> Result<(), Fail> {
     let bytes = vec![in rt.alloc(); b' '; 8192]?;
     for (piece, reads) in [(1usize, 8192), (4096, 2), (8192, 1)] {

@@ -1,8 +1,8 @@
 //! Verdicts on worked streams.
 
-use crate::streams::{final_and_decided, open_by_a_mark, push_both};
+use crate::streams::{AtLeast, final_and_decided, open_by_a_mark, push_both};
 use crate::tests::buffers::filled_but;
-use infer::Watched;
+use infer::{Watched, read_until};
 use infer_sniff::{Sniffer, Verdict, label};
 use infer_uses::relay::{pass, pass_by_turns};
 use linked_list_allocator::LocalHeap;
@@ -267,5 +267,21 @@ fn verdicts_print(rt: HostRuntime) -> Result<(), Fail> {
         format!(in rt.alloc(); "{verdict:?}")?.as_str(),
         "Final(None)"
     );
+    Ok(())
+}
+
+#[test]
+fn reading_ends_after_as_many_bytes_as_are_enough(rt: HostRuntime) -> Result<(), Fail> {
+    let zeros = [0; 100];
+    for (enough, piece, count) in [(0, 7, 0), (10, 7, 14), (10, 100, 50), (60, 7, 50)] {
+        let mut reader = Watched::new(PieceReader::new(&zeros, 100));
+        let bytes = read_until(rt.alloc(), &mut reader, 50, piece, &mut AtLeast(enough));
+        assert_eq!(rt;
+            bytes.map_or(0, |bytes| bytes.len()),
+            count,
+            "{enough}, {piece} a read"
+        );
+        assert_eq!(rt; reader.into_inner().rest.len(), 100 - count);
+    }
     Ok(())
 }

@@ -1,6 +1,6 @@
 use Rattle.infer_tool.proofs.Common.{codes, rules, ◌∙◌, LosesFront, LosesUntilFinal, Says, SaysThrough, Saying, stream, has_failed, inner}
 use Rattle.std.specs.Io.Buffered.{line_writer_contents, writer_contents}
-use Rattle.infer.specs.declared.read.watched.TheConstants.{FRONT}
+use Rattle.infer.specs.declared.read.head.TheConstants.{FRONT}
 use Rattle.infer_tool.proofs.LinesLemmas.{reader_moves, said_through, sample_moves}
 use Rattle.infer_tool.proofs.RunLemmas.{Moves, each_moves}
 use Rattle.infer_tool.proofs.lines.run_lines.Given as given
