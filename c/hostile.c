@@ -38,10 +38,13 @@ static void ask_types(const void *buf, size_t len) {
     int32_t row = infer_position(buf, len), wider = infer_more_position(buf, len);
     wants(infer_types_get(NULL, 0, buf, len, NULL, 0, extension, sizeof extension) == infer_class(wider));
     wants(strcmp(extension, infer_extension_text(wider)) == 0);
+    wants(infer_types_line(buf, len, buf, len) <= len + 1);
+    wants(infer_types_line(NULL, 0, buf, len) == 0);
     if (len == 0) return;
     snprintf(text, sizeof text, "%s%02x", one, *(const unsigned char *)buf);
     wants(infer_types_check(text, strlen(text), &line, &column, NULL, 0) == 0);
     wants(infer_types_get(text, strlen(text), buf, len, NULL, 0, NULL, 0) == (row < 0 ? INFER_APP : infer_class(wider)));
+    wants(infer_types_line(text, strlen(text), buf, len) == (size_t)(row < 0));
 }
 
 /* What the calls say of one buffer must agree. */

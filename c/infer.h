@@ -154,6 +154,10 @@ size_t infer_types_check(const void *text, size_t text_len, size_t *line, size_t
 #define INFER_TYPES_TEXT_SIZE 256
 int32_t infer_types_get(const void *text, size_t text_len, const void *buf, size_t len, char *mime_type, size_t mime_type_size, char *extension, size_t extension_size);
 
+/* Which line that is: the number, from 1, of the line whose type infer_types_get gives, and 0 if it gives the wider answer
+ * or none. So a type of your own is told from a further one that has the same MIME type and extension. */
+size_t infer_types_line(const void *text, size_t text_len, const void *buf, size_t len);
+
 /* Whether some built-in row with this extension or MIME type accepts the buffer. It need not be the answer. */
 bool infer_is(const void *buf, size_t len, const char *extension, size_t extension_len);
 bool infer_is_mime(const void *buf, size_t len, const char *mime_type, size_t mime_type_len);

@@ -273,14 +273,18 @@ static void types(void) {
     same("class", infer_types_get(text, sizeof text - 1, buf, 14, mime_type, sizeof mime_type, extension, sizeof extension), INFER_IMAGE);
     same("MIME type", strcmp(mime_type, "image/qoi"), 0);
     same("extension", strcmp(extension, "qoi"), 0);
+    same("its line", (long)infer_types_line(text, sizeof text - 1, buf, 14), 2);
+    same("no line", (long)infer_types_line(text, sizeof text - 1, buf, 13), 0);
     same("too short", infer_types_get(text, sizeof text - 1, buf, 13, mime_type, sizeof mime_type, extension, sizeof extension), INFER_NO_ROW);
     memcpy(buf, "PK\3\4", 4);
     memcpy(buf + 30, "manifest.my", 11);
     same("below zip", infer_types_get(text, sizeof text - 1, buf, 42, mime_type, 5, NULL, 0), INFER_APP);
     same("cut", strcmp(mime_type, "appl"), 0);
+    same("the line below zip", (long)infer_types_line(text, sizeof text - 1, buf, 42), 3);
     static const char document[] = "<?xml version='1.0'?><flows>";
     same("below xml", infer_types_get(text, sizeof text - 1, document, sizeof document - 1, mime_type, sizeof mime_type, extension, sizeof extension), INFER_TEXT);
     same("its MIME type", strcmp(mime_type, "text/x-flow"), 0);
+    same("the last line", (long)infer_types_line(text, sizeof text - 1, document, sizeof document - 1), 4);
     same("no text", infer_types_get(NULL, 0, "\377\330\377", 3, mime_type, sizeof mime_type, extension, sizeof extension), INFER_IMAGE);
     static const char open[] = "\nqoi image/qoi image - 14: @0 \"qoif";
     same("a mistake", (long)infer_types_check(open, sizeof open - 1, &line, &column, reason, sizeof reason), 19);

@@ -2,7 +2,7 @@
 //! them. A text from C is bytes: one that is not UTF-8 is no row's text.
 #![tactic(auto)]
 
-ghost use Rattle.std.specs.Prelude.{◌≡◌, ◌↔◌, ◌+◌, ◌≤◌, ◌⊎◌, ℕ, List, Option, None, Some, [], IsTrue, codes, is_some, length, negsuc, pos};
+ghost use Rattle.std.specs.Prelude.{◌≡◌, ◌↔◌, ◌+◌, ◌≤◌, ◌⊎◌, ℕ, List, Option, None, Some, [], IsTrue, codes, is_some, length, negsuc, pos, ◌<◌, IfSome, unwrap_or};
 ghost use Rattle.std.specs.Option.{option_map_or};
 ghost use Rattle.infer.specs.App.{coff_i386, coff_ia64, coff_x64};
 ghost use Rattle.infer.specs.Signature.{accepts};
@@ -17,13 +17,13 @@ ghost use Rattle.infer_sniff.specs.Verdicts.{IsSettled, RowStaysFinal};
 ghost use Rattle.infer_c.specs.Codes.{AcceptsAt, IsClassOf, IsSampleOf, MayBecomeAt, class_code, class_name, row_code, triple_at};
 ghost use Rattle.infer_inside.specs.Text.{IsEncodingOf, encoding_name};
 ghost use Rattle.infer_inside.specs.declared.text.Encoding.{Encoding};
-ghost use Rattle.infer_more.specs.declared.samples.TheConstants.{SAMPLE_SIZE};
+ghost use Rattle.infer_more.specs.declared.types.Mistake.{Mistake};
 ghost use Rattle.infer_more.specs.Decided as wider;
 ghost use Rattle.infer_more.specs.Ended.{ended};
 ghost use Rattle.infer_more.specs.Wider.{IsWider, shown};
 ghost use Rattle.infer.specs.Triple.{Triple};
 ghost use Rattle.infer_more.specs.Line.{Row};
-ghost use Rattle.infer_more.specs.Text.{IsTypesAnswer, lines_before_mistake, lines_of, rows_of};
+ghost use Rattle.infer_more.specs.Text.{IsAnswerLine, IsMistake, IsTypesAnswer, reason_text, rows_of};
 ghost use Rattle.infer_c.specs.Written.{WritesText, WritesWhole};
 
 mod class;
@@ -32,6 +32,7 @@ mod texts;
 mod written;
 
 use infer::MatcherType;
+use infer_more::laws;
 
 const VERSION: &str = "0.1.0";
 
@@ -255,7 +256,7 @@ pub extern "C" fn infer_sample(row: i32, out: &mut [u8]) -> usize
     ensures sample { (sample : Option (List ℕ)) × IsSampleOf row sample
         × (result ≡ option_map_or (λ s. length s) sample 0)
         × WritesWhole (option_map_or (λ s. s) sample []) out.old out.new }
-    ensures few { result ≤ SAMPLE_SIZE }
+    ensures few { result ≤ 1088 }
 {
     if row < 0 {
         return 0;
@@ -282,13 +283,16 @@ pub extern "C" fn infer_types_check(
     reason: &mut [u8],
 ) -> usize
     ensures described { IsTrue (is_some (rows_of text.now)) ↔ (result ≡ 0) }
-    ensures line { ¬ (result ≡ 0) → line.new ≡ lines_before_mistake (lines_of text.now) + 1 }
-    ensures written { (words : List ℕ) × (result ≡ length words)
-        × WritesText words reason.old reason.new }
+    ensures none { result ≡ 0 → (line.new ≡ 0) × (column.new ≡ 0)
+        × WritesText [] reason.old reason.new }
+    ensures mistake { ¬ (result ≡ 0) → (mistake : Mistake) × IsMistake text.now mistake
+        × (line.new ≡ mistake.line) × (column.new ≡ mistake.column)
+        × (result ≡ length (reason_text mistake.reason))
+        × WritesText (reason_text mistake.reason) reason.old reason.new }
     ensures few { result ≤ 73 }
 {
     match infer_more::types::check(text) {
-        Ok(_) => {
+        Ok(()) => {
             *line = 0;
             *column = 0;
             written::write_text("", reason)
@@ -314,9 +318,11 @@ pub extern "C" fn infer_types_get(
     ensures { (rows : List Row) → rows_of text.now ≡ Some rows
         → (t : Option Triple) × IsTypesAnswer rows buf.now t
         × (result ≡ option_map_or (λ t. class_code t.class) t (negsuc 0))
+        × IfSome t (λ t. (length t.mime_type < 256) × (length t.extension < 256))
         × WritesText (option_map_or (λ t. t.mime_type) t []) mime_type.old mime_type.new
         × WritesText (option_map_or (λ t. t.extension) t []) extension.old extension.new }
 {
+    laws::own_sizes();
     match infer_more::types::get(text, buf) {
         Some(found) => {
             written::write_text(found.mime_type(), mime_type);
@@ -329,6 +335,16 @@ pub extern "C" fn infer_types_get(
             -1
         }
     }
+}
+
+/// The number, from 1, of the line of `text` whose type is the answer, and 0 if no line's type is, so that the wider answer
+/// is. Nothing is said if `text` describes no types.
+#[unsafe(no_mangle)]
+pub extern "C" fn infer_types_line(text: &[u8], buf: &[u8]) -> usize
+    ensures { IsTrue (is_some (rows_of text.now)) → (number : Option ℕ)
+        × IsAnswerLine text.now buf.now number × (result ≡ unwrap_or number 0) }
+{
+    infer_more::types::answer_line(text, buf).unwrap_or(0)
 }
 
 /// Whether some row with this extension accepts `buf`.

@@ -1,11 +1,12 @@
 -- Laws of further rows.
-use Rattle.std.proofs.lemmas.Bool.{or_cases, or_left}
+use Rattle.std.proofs.lemmas.Bool.{and_parts, or_cases, or_left}
 use Rattle.infer_more.proofs.Common.{◌↔◌, ℕ, ◌<◌, ◌≤◌, inl, inr, Bool, true, false, IsTrue, List, [], ◌∷◌, ◌++◌, Option, None, Some, length, get_or, arith, nat_le, refl, subst, sym, ◌≡◌, zero, suc, codes, ◌⊎◌, not, slice_index, HoldsAt, list_all, list_any, cases_lt, leb-true, nat_tests, get_or_from_slice_get, slice_get_cases, OccursAt, OccursAt-append, HasBracket, HasRoot, there, Lasts, StandsByPlace, at_least, Part, any_text, accepts, fits, has_part, stands, IsFirstOf, is_white, is_settled, AllLast, IsLost, is_dark, is_filled, is_lasting, is_plain, lines, outline, Further, Accepted, Fits, IsProgramAmong, animated, binary_bytes, bytes, class_id, dbase, directory_tag, first_entry_ends_in, first_entry_has_extra, first_entry_is, package_with, plain_text, png_header, shared_object, subrip, tar_checksum, program, root, root_with, json_lines, json_text, further, Widens}
 use Rattle.std.proofs.Common.{All, slice_get}
-use Rattle.std.proofs.lemmas.List.Elements.{AllWithin-from_all}
+use Rattle.std.proofs.lemmas.List.Elements.{All-cons, All-nil, AllWithin-from_all}
 use Rattle.infer_deep.specs.Laws as Deep
 use Rattle.infer_inside.specs.Laws as Inside
 use Rattle.infer_sig.specs.Signature as fixed
+use Rattle.infer.specs.Buffer.{IsBuffer}
 use Rattle.infer_sig.specs.Signature.{text, byte}
 use Rattle.infer.specs.Laws.{IsNotLater}
 use Rattle.infer_more.specs.Laws.{IsSteady, MayBeLost, NoneIsBlank, is_dark_alternative, is_dark_part, is_dark_relation, is_some_alternative, lasts}
@@ -54,11 +55,19 @@ module _ (deep : Deep.Growth) (inside : Inside.Growth) (fixed_lasts : (signature
 pub all_last : Deep.Growth → Inside.Growth → ((signature : List fixed.Alternative) → Lasts (λ b. IsTrue (accepts signature b))) → AllLast
 all_last deep inside fixed_lasts signature l b more h = accepted_last deep inside fixed_lasts b more signature l h
 
+-- a list that is told to be one of bytes
+pub are_bytes : (xs : List ℕ) → list_all (λ x. nat_le x 255) xs ≡ true → IsBuffer xs
+are_bytes [] told = All-nil (λ x. x < 256)
+are_bytes (x ∷ xs) told =
+    let both = and_parts (nat_le x 255) (list_all (λ x. nat_le x 255) xs) told in
+    All-cons (λ x. x < 256) x xs (let low = leb-true x 255 both.0 in omega arith) (are_bytes xs both.1)
+
 -- a letter is plain text, and with 00 after it binary data
 pub text_lost : IsLost plain_text
 text_lost = (
   codes "a",
   0 ∷ [],
+  are_bytes (codes "a" ++ 0 ∷ []) refl,
   inr (omega arith, λ (k, lt, is). let first : slice_index (codes "a") 0 ≡ 0x61 = refl in letter k lt is),
   λ h. elim h [
     | inl (mark, is, o) ↦ unmarked mark is o

@@ -29,3 +29,5 @@ pub mod OpenLemmas
 pub mod LostLemmas
 pub mod DecidedLemmas
 pub mod DescribedLemmas
+pub mod OwnSizeLemmas
+pub mod AnswerLineLemmas

@@ -4,7 +4,7 @@ use Rattle.infer_inside.specs.Json.{blanks, by_rule, byte, items, next_line, not
 use Rattle.infer_inside.specs.Laws.{Single}
 use Rattle.infer_inside.proofs.JsonLemmas.{begins}
 use Rattle.infer_more.specs.Laws.{OthersAreLost}
-use Rattle.infer_more.proofs.LawLemmas.{text_lost}
+use Rattle.infer_more.proofs.LawLemmas.{are_bytes, text_lost}
 
 -- a list without items, and what the symbols behind it stand for
 list_stands : {ss : List _} {v : List ℕ} → Stands ss v → Stands (text ∷ ss) (0x5B ∷ 0x5D ∷ v)
@@ -16,6 +16,7 @@ json_lost : Single → IsLost json_text
 json_lost single = (
   codes "[]",
   codes "\n[",
+  are_bytes (codes "[]" ++ codes "\n[") refl,
   inl ((inl (inl refl, inl (inl (inr (inl refl))))), ([], by_rule [] (inl refl) (list_stands (by_rule [] (inl refl) nothing)))),
   λ is. elim is [
     | inl t ↦ single.json (codes "[") [] t.1
@@ -45,6 +46,7 @@ lines_lost : Single → IsLost json_lines
 lines_lost single = (
   codes "[]\n[",
   codes ":",
+  are_bytes (codes "[]\n[" ++ codes ":") refl,
   inl (lines_can, single.json (codes "[") []),
   λ is. elim is [
     | inl t ↦ colon_ends t.0

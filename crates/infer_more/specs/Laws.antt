@@ -3,12 +3,16 @@ use Rattle.std.specs.Prelude.{◌≡◌, ◌<◌, ◌≤◌, ◌⊎◌, ◌||◌
 use Rattle.std.specs.List.{HoldsAt, list_all, list_any}
 use Rattle.infer_sig.specs.Signature as fixed
 use Rattle.infer_sig.specs.Signature.{at_least, Part, text, any_text, byte}
+use Rattle.infer.specs.Buffer.{IsBuffer}
 use Rattle.infer.specs.First.{IsFirstOf, NoneHas}
 use Rattle.infer.specs.Laws.{IsNotLater}
 use Rattle.infer.specs.Leads.{is_white}
 use Rattle.infer.specs.Row.{Accepts, shows}
+use Rattle.infer.specs.Triple.{Triple}
 use Rattle.infer.specs.Table as built_in
 use Rattle.infer.specs.declared.table.rows.TheConstants.{ROW_COUNT}
+use Rattle.infer_more.specs.Line as text_line
+use Rattle.infer_more.specs.Text.{IsTypesAnswer, rows_of}
 use Rattle.infer_more.specs.Index.{is_plain, is_settled}
 use Rattle.infer_more.specs.Outline.{lines, outline}
 use Rattle.infer_more.specs.Row.{Further}
@@ -33,7 +37,7 @@ AllLast = (signature : List Alternative) → IsTrue (lasts signature) → (b mor
 
 -- a buffer fits the alternative, and with more bytes after it no longer
 abbrev pub IsLost : Alternative → Type 0
-IsLost a = (b more : List ℕ) × Fits a b × (¬ Fits a (b ++ more))
+IsLost a = (b more : List ℕ) × IsBuffer (b ++ more) × Fits a b × (¬ Fits a (b ++ more))
 
 -- so it is of each other alternative
 abbrev pub OthersAreLost : Type 0
@@ -100,3 +104,9 @@ AllAreBelow = (b : List ℕ) (o : Option ℕ) → IsWider b o → IsFirstOf (Acc
 -- the MIME type and the extension of every row, built-in or further, have at most n bytes
 abbrev pub TextsFit : ℕ → Type 0
 TextsFit n = (i : ℕ) → IfSome (slice_get shown i) (λ t. (length t.mime_type ≤ n) × (length t.extension ≤ n))
+
+-- so those of an answer with types of a text have fewer than 256
+abbrev pub OwnTextsFit : Type 0
+OwnTextsFit =
+    (text : List ℕ) (rows : List text_line.Row) (b : List ℕ) (t : Option Triple) → rows_of text ≡ Some rows → IsTypesAnswer rows b t
+    → IfSome t (λ t. (length t.mime_type < 256) × (length t.extension < 256))

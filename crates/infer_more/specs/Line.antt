@@ -1,5 +1,5 @@
 -- A line of a text of types: a type of files in five fields.
-use Rattle.std.specs.Prelude.{◌==◌, ◌&&◌, ◌||◌, ℕ, Bool, true, false, not, List, [], ◌∷◌, Option, None, Some, codes, drop, length, nat_le, option_map, take, if◌then◌else◌}
+use Rattle.std.specs.Prelude.{◌≡◌, ◌≤◌, ◌==◌, ◌&&◌, IsTrue, ◌||◌, ℕ, Bool, true, false, not, List, [], ◌∷◌, Option, None, Some, codes, drop, length, nat_le, option_map, take, if◌then◌else◌}
 use Rattle.std.specs.Int.{is_in_range}
 use Rattle.std.specs.List.{list_all, list_any, prefix_len}
 use Rattle.std.specs.Str.{bytes_eq}
@@ -8,8 +8,11 @@ use Rattle.infer.specs.Triple.{Triple, triple}
 use Rattle.infer.specs.declared.table.file_type.MatcherType.{MatcherType}
 use Rattle.infer.specs.declared.table.file_type.MatcherType.TheVariants.{App, Archive, Audio, Book, Doc, Font, Image, Text, Video}
 use Rattle.infer_notation.specs.Alternative.{Alternative}
+use Rattle.infer_notation.specs.Grammar.{unread}
+use Rattle.infer_notation.specs.Reasons.{is_of_token}
 use Rattle.infer_notation.specs.Signature.{signature_of}
 use Rattle.infer_notation.specs.Words.{◌>>=◌, behind_blanks, behind_word, is_digit, word}
+use Rattle.infer_notation.specs.declared.reason.Flaw.{Flaw}
 use Rattle.infer_more.specs.declared.types.line.Fields as declared
 
 -- what a line tells of a type: what it shows, the extension of the built-in answer below which it is asked, if any, and
@@ -87,6 +90,12 @@ fields_of t =
     let third = behind_word second in
     let fourth = behind_word third in
     record { extension = word t; mime_type = word second; class = word third; parent = word fourth; signature = behind_word fourth }
+
+-- what is wrong with a line without blanks at its front: it is at a place of the line or at its end, and if no token stands
+-- there, at the first place of its signature at which none does
+pub record IsFlawIn (text : List ℕ) (flaw : Flaw) : Type 0 where
+  pub inside : flaw.left ≤ length text
+  pub first : IsTrue (is_of_token flaw.reason) → flaw.left ≡ length (unread (fields_of text).signature)
 
 abbrev pub row : MatcherType → List ℕ → List ℕ → Option (List ℕ) → List Alternative → Row
 row class mime_type extension parent signature = record { shows = triple class mime_type extension; parent = parent; signature = signature }

@@ -1,16 +1,20 @@
 -- A text of types: lines, each of which describes a type or none.
-use Rattle.std.specs.Prelude.{◌≡◌, ◌==◌, ◌⊎◌, ℕ, Bool, List, [], ◌∷◌, Option, None, Some, MatchOption, is_some, length, option_map, ◌+◌}
+use Rattle.std.specs.Prelude.{◌≡◌, ◌≤◌, ◌==◌, ◌⊎◌, IsTrue, if◌then◌else◌, ℕ, Bool, List, [], ◌∷◌, Option, None, Some, MatchOption, is_some, length, option_map, ◌+◌}
 use Rattle.std.specs.Option.{option_map_or}
 use Rattle.std.specs.List.{prefix_len, slice_split}
-use Rattle.infer.specs.First.{IsAnswer}
+use Rattle.infer.specs.First.{IsAnswer, IsFirstOf}
 use Rattle.infer.specs.Row.{Accepts}
 use Rattle.infer.specs.Table as built_in
 use Rattle.infer.specs.Triple.{Triple, triple}
 use Rattle.infer_notation.specs.Alternative.{Accepted}
 use Rattle.infer_more.specs.Wider.{IsWiderAnswer}
-use Rattle.infer_notation.specs.Words.{◌>>=◌}
-use Rattle.infer_more.specs.Line.{Row, line_of}
+use Rattle.infer_notation.specs.Grammar.{unread}
+use Rattle.infer_notation.specs.Reasons.{is_of_token}
+pub use Rattle.infer_notation.specs.Reasons.{reason_text}
+use Rattle.infer_notation.specs.Words.{◌>>=◌, behind_blanks}
+use Rattle.infer_more.specs.Line.{Row, fields_of, line_of}
 use Rattle.infer_more.specs.declared.types.Found.{Found}
+use Rattle.infer_more.specs.declared.types.Mistake.{Mistake}
 use Rattle.infer_more.specs.declared.types.Rows.{Rows}
 
 -- 0A ends a line
@@ -37,6 +41,24 @@ rows_of text = rows_in (lines_of text)
 -- how many lines stand before the first that describes neither a row nor none
 abbrev pub lines_before_mistake : List (List ℕ) → ℕ
 lines_before_mistake lines = prefix_len (λ line. is_some (line_of line)) lines
+
+-- the first line that describes neither a row nor none
+abbrev pub mistaken_line : List (List ℕ) → List ℕ
+mistaken_line [] = []
+mistaken_line (line ∷ lines) = if is_some (line_of line) then mistaken_line lines else line
+
+-- what is left of a line from the first place of its signature on at which no token stands
+abbrev pub unread_of : List ℕ → List ℕ
+unread_of line = unread (fields_of (behind_blanks line)).signature
+
+-- the mistake of a text is in its first line that describes neither a row nor none, from its first byte up to its end.
+-- If no token stands at the mistake, that is the first such place.
+pub record IsMistake (text : List ℕ) (mistake : Mistake) : Type 0 where
+  pub line : mistake.line ≡ lines_before_mistake (lines_of text) + 1
+  pub from : 1 ≤ mistake.column
+  pub to : mistake.column ≤ length (mistaken_line (lines_of text)) + 1
+  pub first : IsTrue (is_of_token mistake.reason)
+      → mistake.column + length (unread_of (mistaken_line (lines_of text))) ≡ length (mistaken_line (lines_of text)) + 1
 
 -- the rows of what is left of a text, if anything is
 abbrev pub rows_left : Option (List ℕ) → Option (List Row)
@@ -83,3 +105,15 @@ pub record IsTypesAnswer (rows : List Row) (b : List ℕ) (t : Option Triple) : 
   pub answers : IsAnswer (Accepts b) built_in.table parent
   pub first : IsFirstShown (Answers (option_map (λ p. p.extension) parent) b) rows own
   pub is : MatchOption own (IsWiderAnswer b t) (λ x. t ≡ Some x)
+
+-- the line describes a row that is asked below the built-in answer with this extension, or none, and accepts the buffer
+abbrev pub LineAnswers : Option (List ℕ) → List ℕ → List ℕ → Type 0
+LineAnswers extension b line = (r : Row) × (line_of line ≡ Some (Some r)) × Answers extension b r
+
+-- the number is that of the first such line, the first of all being 1, and none exactly if there is none
+pub record IsAnswerLine (text b : List ℕ) (number : Option ℕ) : Type 0 where
+  pub parent : Option Triple
+  pub answers : IsAnswer (Accepts b) built_in.table parent
+  pub place : Option ℕ
+  pub first : IsFirstOf (LineAnswers (option_map (λ p. p.extension) parent) b) (lines_of text) place
+  pub is : number ≡ option_map (λ i. i + 1) place

@@ -6,11 +6,12 @@ ghost use Rattle.infer.specs.declared.table.rows.TheConstants.{ROW_COUNT};
 ghost use Rattle.infer_more.specs.Described.{DescribesRows};
 ghost use Rattle.infer_more.specs.Line.{Row};
 ghost use Rattle.infer_more.specs.Text.{rows_of};
-ghost use Rattle.infer_more.specs.Laws.{AllAreBelow, AllLast, IsSteady, NoneIsBlank, OthersAreLost, ShowsBuiltIn, TextsFit};
+ghost use Rattle.infer_more.specs.Laws.{AllAreBelow, AllLast, IsSteady, NoneIsBlank, OthersAreLost, OwnTextsFit, ShowsBuiltIn, TextsFit};
 ghost use Rattle.infer_more.specs.Samples.{AllReach, has_room};
 ghost use Rattle.infer_more.specs.Table.{further};
 ghost use Rattle.infer_more.specs.Wider.{shown};
 ghost use Rattle.infer_more.specs.declared.index.lists.TheConstants.{FURTHER_COUNT};
+ghost use Rattle.infer_more.specs.declared.samples.TheConstants.{SAMPLE_SIZE};
 
 /// A yes stays a yes, but of JSON, JSON lines and plain text: what the signature of a further row accepts, it accepts however
 /// the buffer goes on. Of each of these three some buffer loses it.
@@ -66,10 +67,11 @@ pub(crate) fn room()
     ensures { IsTrue (list_all has_room further) }
 {}
 
-/// How many rows there are, and that each built-in row is the row of its number among all.
+/// How many rows there are, that each built-in row is the row of its number among all, and how long a sample may be.
 pub fn numbers()
     ensures many { length shown ≡ ROW_COUNT + FURTHER_COUNT }
     ensures built_in { ShowsBuiltIn }
+    ensures longest { SAMPLE_SIZE ≡ 1088 }
 {
     infer::rows::numbers();
 }
@@ -79,6 +81,13 @@ pub fn numbers()
 pub fn sizes()
     ensures { TextsFit 73 }
 {}
+
+/// Nor has one of an answer with types of a text more than 255.
+pub fn own_sizes()
+    ensures { OwnTextsFit }
+{
+    sizes();
+}
 
 /// The rows that are read of a text of types are those that it describes.
 #[tactic(auto, using(crate::proofs::DescribedLemmas::described_rows, crate::proofs::DescribedLemmas::rows_described))]

@@ -1,9 +1,13 @@
 //! Types that a text describes.
-ghost use Rattle.std.specs.Prelude.{◌≡◌, ◌+◌, ◌++◌, ◌<◌, ◌≤◌, IfErr, IfOk, IsTrue, List, MatchOption, Some, is_ok, is_some, map, option_map, take};
+ghost use Rattle.std.specs.Prelude.{◌≡◌, ◌+◌, ◌++◌, ◌<◌, ◌≤◌, ℕ, IfErr, IfOk, IsTrue, List, MatchOption, Option, Some, length, is_ok, is_some, map, option_map, take};
 ghost use Rattle.std.specs.Iterator.{at_most};
+ghost use Rattle.infer.specs.First.{IsAnswer, IsFirstOf};
+ghost use Rattle.infer.specs.Row.{Accepts};
+ghost use Rattle.infer.specs.Table.{table};
+ghost use Rattle.infer.specs.Triple.{Triple};
 ghost use Rattle.infer_more.specs.Entries.{left_lines, row_lines};
 ghost use Rattle.infer_more.specs.Line.{Row};
-ghost use Rattle.infer_more.specs.Text.{Answers, IsFirstShown, IsNextRow, IsTypesAnswer, NextShown, found_shows, left_size, lines_before_mistake, lines_of, rows_left, rows_of};
+ghost use Rattle.infer_more.specs.Text.{Answers, IsAnswerLine, IsFirstShown, IsNextRow, LineAnswers, IsTypesAnswer, NextShown, IsMistake, found_shows, left_size, lines_of, rows_left, rows_of};
 ghost use Rattle.infer_more.specs.Wider.{IsWiderAnswer};
 
 mod entries;
@@ -76,9 +80,7 @@ impl<'a> Types<'a> {
     pub fn new(text: &'a [u8]) -> Result<Types<'a>, Mistake>
         ensures described { is_ok result ≡ is_some (rows_of text.now) }
         ensures text { IfOk result (λ types. types.text.now ≡ text.now) }
-        // The mistake is in the first line that describes neither a type nor none.
-        ensures line { IfErr result (λ mistake. mistake.line
-            ≡ lines_before_mistake (lines_of text.now) + 1) }
+        ensures mistake { IfErr result (IsMistake text.now) }
     {
         check(text)?;
         let entries = entries_of(text);
@@ -100,11 +102,7 @@ impl<'a> Types<'a> {
         ensures { (rows : List Row) → rows_of self.now.text.now ≡ Some rows
             → IsTypesAnswer rows buf.now (option_map found_shows result) }
     {
-        let parent = infer::get(buf);
-        let extension = match parent {
-            Some(parent) => Some(parent.extension().as_bytes()),
-            None => None,
-        };
+        let extension = parent_extension(buf);
         match self.find(extension, buf) {
             Some(found) => Some(found),
             None => wider(buf),
@@ -172,14 +170,53 @@ pub fn get<'a>(text: &'a [u8], buf: &[u8]) -> Option<Found<'a>>
     ensures { (rows : List Row) → rows_of text.now ≡ Some rows
         → IsTypesAnswer rows buf.now (option_map found_shows result) }
 {
-    let parent = infer::get(buf);
-    let extension = match parent {
-        Some(parent) => Some(parent.extension().as_bytes()),
-        None => None,
-    };
+    let extension = parent_extension(buf);
     match find(text, extension, buf) {
         Some(found) => Some(found),
         None => wider(buf),
+    }
+}
+
+/// The number, from 1, of the line whose type [`get`] answers, and `None` if no line's type is the answer, so that the
+/// wider answer is.
+pub fn answer_line(text: &[u8], buf: &[u8]) -> Option<usize>
+    ensures { IsTrue (is_some (rows_of text.now)) → IsAnswerLine text.now buf.now result }
+{
+    let extension = parent_extension(buf);
+    find_line(text, extension, buf)
+}
+
+/// The number of the first line whose row is asked below the built-in answer with this extension, or none, and accepts
+/// the buffer.
+fn find_line(text: &[u8], extension: Option<&[u8]>, buf: &[u8]) -> Option<usize>
+    ensures { IsTrue (is_some (rows_of text.now)) → (place : Option ℕ)
+        × IsFirstOf (LineAnswers (option_map (λ e. e.now) extension.entry) buf.now)
+        (lines_of text.now) place
+        × (result ≡ option_map (λ i. i + 1) place) }
+{
+    let mut rest = text;
+    let mut number = 1;
+    loop {
+        let (line, behind) = next_line(rest);
+        if answer_of(line, extension, buf).is_some() {
+            return Some(number);
+        }
+        match behind {
+            Some(more) => rest = more,
+            None => return None,
+        }
+        number += 1;
+    }
+}
+
+/// The extension of the built-in answer.
+fn parent_extension(buf: &[u8]) -> Option<&'static [u8]>
+    ensures { (parent : Option Triple) × IsAnswer (Accepts buf.now) table parent
+        × (option_map (λ e. e.now) result ≡ option_map (λ p. p.extension) parent) }
+{
+    match infer::get(buf) {
+        Some(parent) => Some(parent.extension().as_bytes()),
+        None => None,
     }
 }
 
@@ -232,8 +269,7 @@ fn find<'a>(text: &'a [u8], extension: Option<&[u8]>, buf: &[u8]) -> Option<Foun
 /// Whether each line of the text describes a type or none, and else the first mistake.
 pub fn check(text: &[u8]) -> Result<(), Mistake>
     ensures described { is_ok result ≡ is_some (rows_of text.now) }
-    ensures line { IfErr result (λ mistake. mistake.line
-        ≡ lines_before_mistake (lines_of text.now) + 1) }
+    ensures mistake { IfErr result (IsMistake text.now) }
 {
     let mut rest = text;
     let mut number = 1;
@@ -250,12 +286,16 @@ pub fn check(text: &[u8]) -> Result<(), Mistake>
     }
 }
 
+/// What is wrong with the line of this number.
 fn placed(line: &[u8], number: usize, flaw: Flaw) -> Mistake
-    ensures { result.line ≡ number }
+    requires { flaw.left ≤ length line.now }
+    ensures line { result.line ≡ number }
+    ensures column { result.column + flaw.left ≡ length line.now + 1 }
+    ensures reason { result.reason ≡ flaw.reason }
 {
     Mistake {
         reason: flaw.reason,
         line: number,
-        column: line.len() - flaw.left.min(line.len()) + 1,
+        column: line.len() - flaw.left + 1,
     }
 }

@@ -3,6 +3,8 @@ pub mod HexLemmas
 pub mod FixedLemmas
 pub mod SignatureLemmas
 pub mod GrammarLemmas
+pub mod ReasonLemmas
+pub mod FlawLemmas
 pub mod RelationLemmas
 pub mod SeenLemmas
 pub mod LeadLemmas

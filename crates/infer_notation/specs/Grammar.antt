@@ -1,5 +1,6 @@
 -- The grammar of fixed signatures, over their tokens.
 use Rattle.std.specs.Prelude.{◌≡◌, ◌+◌, ◌≤◌, ℕ, zero, suc, true, false, List, [], ◌∷◌, ◌++◌, Option, None, Some, codes, length, option_map, if◌then◌else◌}
+use Rattle.std.specs.Option.{option_map_or}
 use Rattle.infer_sig.specs.Signature.{Part, all_but, any_of, between, byte, text}
 use Rattle.infer_notation.specs.Fixed.{Asked, Rest, asked_of, range_of, rest_of}
 use Rattle.infer_notation.specs.Tokens.{Token, bare, mark, quoted, set, token_at}
@@ -15,6 +16,17 @@ tokens_at zero (x ∷ xs) =
 -- blanks may stand before each, and each is as long as it can be
 abbrev pub tokens_of : List ℕ → Option (List Token)
 tokens_of t = tokens_at 0 t
+
+-- what is left of a text, after some bytes of a token that was read already, from the first place on at which a token is to
+-- stand and none does. It is empty if there is no such place.
+abbrev pub unread_at : ℕ → List ℕ → List ℕ
+unread_at read [] = []
+unread_at (suc read) (x ∷ xs) = unread_at read xs
+unread_at zero (x ∷ xs) =
+    if is_blank x then unread_at zero xs else option_map_or (λ t. unread_at t.1 xs) (token_at (x ∷ xs)) (x ∷ xs)
+
+abbrev pub unread : List ℕ → List ℕ
+unread t = unread_at 0 t
 
 -- what is asked of the bytes from a place on: the part, how many bytes it takes, and the tokens that say so
 pub data IsPiece : ℕ → List Token → Part → ℕ → Type 0 where

@@ -1,8 +1,10 @@
 pub mod Alternative
 pub mod Words
+pub mod Reasons
 pub mod Tokens
 pub mod Fixed
 pub mod Grammar
+pub mod Flaws
 pub mod Relations
 pub mod Signature
 pub mod Leads

@@ -1,6 +1,7 @@
 //! Signatures as a text describes them: fixed bytes, or a relation.
-ghost use Rattle.std.specs.Prelude.{◌≡◌, ◌↔◌, IsTrue, List, Some};
+ghost use Rattle.std.specs.Prelude.{◌≡◌, ◌↔◌, IfErr, IsTrue, List, Some};
 ghost use Rattle.infer_notation.specs.Alternative.{Accepted, Alternative};
+ghost use Rattle.infer_notation.specs.Flaws.{IsFlawOf};
 ghost use Rattle.infer_notation.specs.Relations.{IsSeen};
 ghost use Rattle.infer_notation.specs.Signature.{begins_relation, signature_of};
 ghost use Rattle.infer_notation.specs.Words.{found_by};
@@ -12,7 +13,8 @@ use crate::words::skip_blanks;
 
 /// Whether the buffer fits an alternative of the signature that the text describes.
 pub fn accepts(text: &[u8], buf: &[u8]) -> Result<bool, Flaw>
-    ensures { IsSeen (signature_of text.now) buf.now (found_by result) }
+    ensures seen { IsSeen (signature_of text.now) buf.now (found_by result) }
+    ensures flaw { IfErr result (IsFlawOf text.now) }
 {
     if begins_relation(skip_blanks(text)) {
         return is_related(text, buf);

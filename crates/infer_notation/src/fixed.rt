@@ -1,9 +1,10 @@
 //! Fixed signatures as a text writes them, as in `14: @0 "qoif" or 8: @4 {01 02}, @6 00..1F`.
-ghost use Rattle.std.specs.Prelude.{◌≡◌, [], codes, option_map};
+ghost use Rattle.std.specs.Prelude.{◌≡◌, [], IfErr, codes, false, option_map};
 ghost use Rattle.std.specs.List.{starts_with};
 ghost use Rattle.infer_sig.specs.Signature as signature;
 ghost use Rattle.infer_sig.specs.Signature.{all_but, between, has_part};
 ghost use Rattle.infer_notation.specs.Fixed.{asks_binary, behind_mark, behind_word_of, cursor, has_data, length_read, more_read, nothing, other_byte, piece, place_read, range_of, set_read, step, step_seen, within_seen, word_part};
+ghost use Rattle.infer_notation.specs.Reasons.{is_of_token};
 ghost use Rattle.infer_notation.specs.Tokens.{token_listed};
 ghost use Rattle.infer_notation.specs.declared.fixed.Wanted.TheVariants.{Length, Or};
 ghost use Rattle.infer_notation.specs.Words.{found_by};
@@ -58,8 +59,9 @@ pub enum Effect {
 #[inline(always)]
 #[tactic(auto, unfolding(crate::specs::Fixed::step))]
 pub fn step(cursor: Cursor, token: Token<'_>, buf: &[u8]) -> Result<(Cursor, Effect), Reason>
-    ensures { found_by result ≡ option_map (step_seen buf.now)
+    ensures found { found_by result ≡ option_map (step_seen buf.now)
         (step cursor (token_listed token.entry)) }
+    ensures kind { IfErr result (λ reason. is_of_token reason ≡ false) }
 {
     match cursor.wanted {
         Wanted::Length => length_read(token, buf),
@@ -76,8 +78,9 @@ pub fn step(cursor: Cursor, token: Token<'_>, buf: &[u8]) -> Result<(Cursor, Eff
 
 /// What follows on "binary".
 fn binary_read(token: Token<'_>, buf: &[u8]) -> Result<(Cursor, Effect), Reason>
-    ensures { found_by result ≡ option_map (step_seen buf.now)
+    ensures found { found_by result ≡ option_map (step_seen buf.now)
         (behind_word_of (codes "binary") (cursor Or 0 0) asks_binary (token_listed token.entry)) }
+    ensures kind { IfErr result (λ reason. is_of_token reason ≡ false) }
 {
     match token {
         Token::Word(word) if word == b"binary".as_slice() => Ok((
@@ -102,8 +105,9 @@ fn has_data(buf: &[u8]) -> bool
 
 /// What follows on "or".
 fn or_read(token: Token<'_>) -> Result<(Cursor, Effect), Reason>
-    ensures { found_by result ≡ option_map (step_seen [])
+    ensures found { found_by result ≡ option_map (step_seen [])
         (behind_word_of (codes "or") (cursor Length 0 0) nothing (token_listed token.entry)) }
+    ensures kind { IfErr result (λ reason. is_of_token reason ≡ false) }
 {
     match token {
         Token::Word(word) if word == b"or".as_slice() => Ok((
@@ -120,8 +124,9 @@ fn or_read(token: Token<'_>) -> Result<(Cursor, Effect), Reason>
 
 #[inline(always)]
 fn length_read(token: Token<'_>, buf: &[u8]) -> Result<(Cursor, Effect), Reason>
-    ensures { found_by result ≡ option_map (step_seen buf.now)
+    ensures found { found_by result ≡ option_map (step_seen buf.now)
         (length_read (token_listed token.entry)) }
+    ensures kind { IfErr result (λ reason. is_of_token reason ≡ false) }
 {
     match token {
         Token::Word(word) => match number(word) {
@@ -148,8 +153,9 @@ fn behind_mark(
     token: Token<'_>,
     reason: Reason,
 ) -> Result<(Cursor, Effect), Reason>
-    ensures { found_by result ≡ option_map (step_seen [])
+    ensures found { found_by result ≡ option_map (step_seen [])
         (behind_mark mark wanted cursor.least cursor.place (token_listed token.entry)) }
+    ensures kind { IfErr result (λ given. given ≡ reason) }
 {
     match token {
         Token::Mark(other) if other == mark => Ok((Cursor { wanted, ..cursor }, Effect::Nothing)),
@@ -159,8 +165,9 @@ fn behind_mark(
 
 #[inline(always)]
 fn place_read(cursor: Cursor, token: Token<'_>) -> Result<(Cursor, Effect), Reason>
-    ensures { found_by result ≡ option_map (step_seen [])
+    ensures found { found_by result ≡ option_map (step_seen [])
         (place_read cursor.least cursor.place (token_listed token.entry)) }
+    ensures kind { IfErr result (λ reason. is_of_token reason ≡ false) }
 {
     let Token::Word(word) = token else {
         return Err(Reason::Place);
@@ -185,8 +192,9 @@ fn place_read(cursor: Cursor, token: Token<'_>) -> Result<(Cursor, Effect), Reas
 
 #[inline(always)]
 fn more_read(cursor: Cursor, token: Token<'_>, buf: &[u8]) -> Result<(Cursor, Effect), Reason>
-    ensures { found_by result ≡ option_map (step_seen buf.now)
+    ensures found { found_by result ≡ option_map (step_seen buf.now)
         (more_read cursor.least cursor.place (token_listed token.entry)) }
+    ensures kind { IfErr result (λ reason. is_of_token reason ≡ false) }
 {
     match token {
         Token::Mark(_) => behind_mark(b',', Wanted::At, cursor, token, Reason::Bytes),
@@ -203,8 +211,9 @@ fn more_read(cursor: Cursor, token: Token<'_>, buf: &[u8]) -> Result<(Cursor, Ef
 }
 
 fn other_byte(cursor: Cursor, token: Token<'_>, buf: &[u8]) -> Result<(Cursor, Effect), Reason>
-    ensures { found_by result ≡ option_map (step_seen buf.now)
+    ensures found { found_by result ≡ option_map (step_seen buf.now)
         (other_byte cursor.least cursor.place (token_listed token.entry)) }
+    ensures kind { IfErr result (λ reason. is_of_token reason ≡ false) }
 {
     let Token::Word(word) = token else {
         return Err(Reason::Bytes);
@@ -218,8 +227,9 @@ fn other_byte(cursor: Cursor, token: Token<'_>, buf: &[u8]) -> Result<(Cursor, E
 /// What a token asks for at the place.
 #[inline(always)]
 fn piece(cursor: Cursor, token: Token<'_>, buf: &[u8]) -> Result<(Cursor, Effect), Reason>
-    ensures { found_by result ≡ option_map (step_seen buf.now)
+    ensures found { found_by result ≡ option_map (step_seen buf.now)
         (piece cursor.least cursor.place (token_listed token.entry)) }
+    ensures kind { IfErr result (λ reason. is_of_token reason ≡ false) }
 {
     match token {
         Token::Quoted(text) => within(cursor, text.len(), has_text(buf, cursor.place, text)),
@@ -238,8 +248,9 @@ fn piece(cursor: Cursor, token: Token<'_>, buf: &[u8]) -> Result<(Cursor, Effect
 
 /// One of the bytes of a set.
 fn set_read(cursor: Cursor, digits: &[u8], buf: &[u8]) -> Result<(Cursor, Effect), Reason>
-    ensures { found_by result ≡ option_map (step_seen buf.now)
+    ensures found { found_by result ≡ option_map (step_seen buf.now)
         (set_read cursor.least cursor.place digits.now) }
+    ensures kind { IfErr result (λ reason. is_of_token reason ≡ false) }
 {
     let read = bytes(digits, from(buf, cursor.place))?;
     if read.count == 0 {
@@ -251,8 +262,9 @@ fn set_read(cursor: Cursor, digits: &[u8], buf: &[u8]) -> Result<(Cursor, Effect
 /// The bytes that a bare word writes, or one of a range.
 #[inline(always)]
 fn word_part(cursor: Cursor, word: &[u8], buf: &[u8]) -> Result<(Cursor, Effect), Reason>
-    ensures { found_by result ≡ option_map (step_seen buf.now)
+    ensures found { found_by result ≡ option_map (step_seen buf.now)
         (word_part cursor.least cursor.place word.now (range_of word.now)) }
+    ensures kind { IfErr result (λ reason. is_of_token reason ≡ false) }
 {
     match range(word) {
         Some((low, high)) => {
@@ -285,7 +297,8 @@ pub fn range(word: &[u8]) -> Option<(u8, u8)>
 /// A part of that many bytes, all of them within the least length.
 #[inline(always)]
 fn within(cursor: Cursor, size: usize, has: bool) -> Result<(Cursor, Effect), Reason>
-    ensures { found_by result ≡ within_seen cursor.least cursor.place size has }
+    ensures found { found_by result ≡ within_seen cursor.least cursor.place size has }
+    ensures kind { IfErr result (λ reason. is_of_token reason ≡ false) }
 {
     if cursor.place > cursor.least || size > cursor.least - cursor.place {
         return Err(Reason::Past);

@@ -1,5 +1,6 @@
 //! Why a text describes no types.
-ghost use Rattle.std.specs.Prelude.{◌<◌, ◌≤◌, length};
+ghost use Rattle.std.specs.Prelude.{◌≡◌, ◌<◌, ◌≤◌, length};
+ghost use Rattle.infer_notation.specs.Reasons.{reason_text};
 
 /// What is wrong at a place of a text.
 #[derive(Clone, Copy, Debug, Eq, PartialEq)]
@@ -36,6 +37,7 @@ pub struct Flaw {
 impl Reason {
     /// The reason in words, of which there are at most 73 bytes.
     pub fn text(self) -> &'static str
+        ensures words { result.now ≡ reason_text self }
         ensures some { 0 < length result.now }
         ensures few { length result.now ≤ 73 }
     {

@@ -1,7 +1,9 @@
 //! Relations as a text writes them, as in `root: rss or RDF with "http://purl.org/rss/1.0/"`.
-ghost use Rattle.std.specs.Prelude.{◌≡◌, ◌↔◌, ◌∷◌, ◌≤◌, ◌<◌, IfErr, IfOk, IsTrue, None, length, map, option_map};
+ghost use Rattle.std.specs.Prelude.{◌≡◌, ◌↔◌, ◌∷◌, ◌≤◌, ◌<◌, IfErr, IfOk, IfSome, IsTrue, None, length, map, option_map};
 ghost use Rattle.infer_inside.specs.Zip.{IsOneOf};
 ghost use Rattle.infer_notation.specs.Alternative.{Fits, IsProgramAmong};
+ghost use Rattle.infer_notation.specs.Flaws.{IsFlawOf};
+ghost use Rattle.infer_notation.specs.Grammar.{unread};
 ghost use Rattle.infer_notation.specs.Relations.{IsItemSeen, IsSeen, group_listed, groups_of, item_listed, item_of, left_groups, left_length, relations_of, spelled};
 ghost use Rattle.infer_notation.specs.Tokens.{token_listed};
 ghost use Rattle.infer_notation.specs.Words.{found_by};
@@ -52,6 +54,8 @@ pub fn read_group(text: &[u8]) -> Result<(Group<'_>, Option<&[u8]>), Flaw>
     ensures bound { IfOk result (λ r. r.0.count ≤ 24) }
     ensures left { IfOk result (λ r. left_length (option_map (λ t. t.now) r.1) ≤ length text.now) }
     ensures none { IfErr result (λ flaw. groups_of text.now ≡ None) }
+    ensures read { IfOk result (λ r. IfSome r.1 (λ more. unread text.now ≡ unread more.now)) }
+    ensures flaw { IfErr result (IsFlawOf text.now) }
 {
     let mut group = Group {
         tokens: [Mark(b':'); 24],
@@ -84,6 +88,7 @@ fn ended<'a>(
     ensures found { IfOk result (λ r. (r.0 ≡ group.entry) × (r.1 ≡ rest.entry)
         × (0 < group.entry.count)) }
     ensures none { IfErr result (λ flaw. group.entry.count ≡ 0) }
+    ensures flaw { IfErr result (IsFlawOf text.entry.now) }
 {
     if group.count == 0 {
         return Err(Flaw {
@@ -100,7 +105,8 @@ fn ended<'a>(
 
 /// Whether the buffer fits an alternative of the relation that the text describes.
 pub fn is_related(text: &[u8], buf: &[u8]) -> Result<bool, Flaw>
-    ensures { IsSeen (relations_of text.now) buf.now (found_by result) }
+    ensures seen { IsSeen (relations_of text.now) buf.now (found_by result) }
+    ensures flaw { IfErr result (IsFlawOf text.now) }
 {
     let (first, mut rest) = read_group(text)?;
     let Some((relation, tokens)) = named(first.read()) else {
@@ -121,8 +127,9 @@ pub fn is_related(text: &[u8], buf: &[u8]) -> Result<bool, Flaw>
 
 /// Whether the buffer has what the tokens of an alternative ask by the relation. The text is that of the alternative.
 fn asked(relation: Relation, tokens: &[Token<'_>], text: &[u8], buf: &[u8]) -> Result<bool, Flaw>
-    ensures { IsItemSeen (item_of relation (map token_listed tokens.now)) buf.now
+    ensures seen { IsItemSeen (item_of relation (map token_listed tokens.now)) buf.now
         (found_by result) }
+    ensures flaw { IfErr result (IsFlawOf text.now) }
 {
     match read_item(relation, tokens) {
         Some(item) => Ok(fits(item, buf)),

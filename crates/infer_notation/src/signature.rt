@@ -1,7 +1,10 @@
 //! Fixed signatures as a text writes them, asked of a buffer while they are read.
-ghost use Rattle.std.specs.Prelude.{◌≡◌, ◌↔◌, ◌+◌, ◌<◌, ◌==◌, IfErr, IfOk, IsTrue, List, None, Some, drop, false, length, option_map, slice_index};
+ghost use Rattle.std.specs.Prelude.{◌≡◌, ◌↔◌, ◌+◌, ◌<◌, ◌==◌, IfErr, IfOk, IsTrue, List, None, Some, drop, false, length, option_map, slice_index, true};
 ghost use Rattle.std.specs.List.{list_any};
 ghost use Rattle.infer_notation.specs.Fixed.{Asked, accepts, alternatives_of, given, start, state, state_taken};
+ghost use Rattle.infer_notation.specs.Flaws.{IsFlawOf};
+ghost use Rattle.infer_notation.specs.Grammar.{unread};
+ghost use Rattle.infer_notation.specs.Reasons.{is_of_token};
 ghost use Rattle.infer_notation.specs.Words.{found_by, is_blank};
 ghost use Rattle.infer_notation.specs.declared.fixed.Wanted.TheVariants.{Length};
 
@@ -22,8 +25,9 @@ struct State {
 
 /// Whether the buffer fits an alternative of the fixed signature that the text describes.
 pub fn accepts_fixed(text: &[u8], buf: &[u8]) -> Result<bool, Flaw>
-    ensures { found_by result ≡ option_map (λ alternatives. accepts alternatives buf.now)
+    ensures found { found_by result ≡ option_map (λ alternatives. accepts alternatives buf.now)
         (alternatives_of text.now) }
+    ensures flaw { IfErr result (IsFlawOf text.now) }
 {
     let mut state = start();
     let mut rest = skip_blanks(text);
@@ -131,6 +135,8 @@ fn next(state: State, text: &[u8], buf: &[u8]) -> Result<(State, usize), Reason>
         ≡ given buf.now n.0 0 (drop (1 + n.1) text.now)) }
     ensures bound { IfOk result (λ n. n.1 < length text.now) }
     ensures none { IfErr result (λ e. given buf.now state 0 text.now ≡ None) }
+    ensures read { IfOk result (λ n. unread text.now ≡ unread (drop (1 + n.1) text.now)) }
+    ensures unread { IfErr result (λ reason. is_of_token reason ≡ true → unread text.now ≡ text.now) }
 {
     let (token, count) = token_at(text)?;
     let (cursor, effect) = step(state.cursor, token, buf)?;

@@ -1,7 +1,8 @@
 //! The tokens of a signature's text.
-ghost use Rattle.std.specs.Prelude.{◌≡◌, ◌<◌, ◌≤◌, ◌+◌, ◌-◌, ◌∷◌, [], IfErr, IfOk, MatchOption, None, Some, drop, length, option_map};
+ghost use Rattle.std.specs.Prelude.{◌≡◌, ◌<◌, ◌≤◌, ◌+◌, ◌-◌, ◌∷◌, [], IfErr, IfOk, IfSome, MatchOption, None, Some, drop, length, option_map};
 ghost use Rattle.std.specs.List.{prefix_len};
-ghost use Rattle.infer_notation.specs.Grammar.{tokens_of};
+ghost use Rattle.infer_notation.specs.Flaws.{IsFlawOf};
+ghost use Rattle.infer_notation.specs.Grammar.{tokens_of, unread};
 ghost use Rattle.infer_notation.specs.Tokens.{bare_at, is_mark, is_of, pair_listed, quoted_at, set_at, token_at, token_listed};
 ghost use Rattle.infer_notation.specs.Words.{found_by};
 
@@ -47,6 +48,8 @@ pub fn next_token(text: &[u8]) -> Result<Option<(Token<'_>, &[u8])>, Flaw>
         (λ t. (tokens_of text.now ≡ option_map (λ ts. token_listed t.0 ∷ ts) (tokens_of t.1.now))
         × (length t.1.now < length text.now))) }
     ensures none { IfErr result (λ flaw. tokens_of text.now ≡ None) }
+    ensures read { IfOk result (λ found. IfSome found (λ t. unread text.now ≡ unread t.1.now)) }
+    ensures flaw { IfErr result (IsFlawOf text.now) }
 {
     let front = skip_blanks(text);
     if front.is_empty() {

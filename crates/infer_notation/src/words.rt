@@ -1,5 +1,5 @@
 //! Blanks, numbers and bytes in hexadecimal digits.
-ghost use Rattle.std.specs.Prelude.{◌≡◌, ◌<◌, ◌≤◌, ◌==◌, ◌∷◌, ◌+◌, ◌-◌, ◌^◌, ℕ, List, IfSome, drop, false, length, option_map, slice_index};
+ghost use Rattle.std.specs.Prelude.{◌≡◌, ◌<◌, ◌≤◌, ◌==◌, ◌∷◌, ◌+◌, ◌-◌, ◌^◌, ℕ, List, IfErr, IfSome, drop, false, length, option_map, slice_index};
 ghost use Rattle.infer_notation.specs.Words.{behind_blanks, behind_word, byte_of, byte_with, bytes_of, first_passes, found_by, hex_joined, hex_seen, hex_value, is_blank, is_digit, number_behind, number_of, word, word_len};
 
 use crate::reason::Reason;
@@ -41,6 +41,7 @@ pub fn skip_blanks(text: &[u8]) -> &[u8]
 pub fn split_word(text: &[u8]) -> (&[u8], &[u8])
     ensures word { result.0.now ≡ word text.now }
     ensures behind { result.1.now ≡ behind_word text.now }
+    ensures fits { length result.1.now ≤ length text.now }
 {
     let (word, behind) = text.split_at(word_len(text));
     (word, skip_blanks(behind))
@@ -120,7 +121,8 @@ pub fn byte(text: &[u8]) -> Option<u8>
 
 /// What the buffer makes of the bytes that the text writes.
 pub fn bytes(text: &[u8], buf: &[u8]) -> Result<Hex, Reason>
-    ensures { found_by result ≡ option_map (hex_seen buf.now) (bytes_of text.now) }
+    ensures found { found_by result ≡ option_map (hex_seen buf.now) (bytes_of text.now) }
+    ensures kind { IfErr result (λ reason. reason ≡ Reason.Digits) }
 {
     let mut read = Hex {
         count: 0,

@@ -1,5 +1,5 @@
 -- What has a property of further rows, of verdicts and of what users do, and what has not: each pair computed, or proved by a law.
-use Rattle.std.proofs.Common.{◌≡◌, ◌≤◌, ◌++◌, ℕ, Bool, true, false, List, [], ◌∷◌, Option, None, Some, IsTrue, nat_eq, length, length-append, get_or, slice_index, refl, ap, subst, ⊎_elim, codes, arith, inl, inr, ◌+◌}
+use Rattle.std.proofs.Common.{◌≡◌, ◌≤◌, ◌++◌, ℕ, Bool, true, false, List, [], ◌∷◌, Option, None, Some, IsTrue, nat_eq, length, length-append, get_or, slice_index, refl, ap, subst, ⊎_elim, codes, arith, inl, inr, ◌<◌, ◌+◌, zero, suc, option_map}
 use Rattle.std.proofs.lemmas.Bool.Decides.{nat_tests}
 use Rattle.std.proofs.lemmas.List.Folds.{list_all_at}
 use Rattle.std.specs.List.{list_all}
@@ -7,6 +7,8 @@ use Rattle.std.specs.Prelude.{slice_index_or, IsFalse, if◌then◌else◌}
 use denote.Ref.{Bor}
 use Rattle.infer_sig.specs.Signature as fixed
 use Rattle.infer_sig.specs.Signature.{text}
+use Rattle.infer.specs.First.{IsFirstOf, NoneHas}
+use Rattle.infer.specs.Row.{Accepts}
 use Rattle.infer.specs.Samples.{zeros}
 use Rattle.infer.specs.Triple.{triple}
 use Rattle.infer.specs.Table.{table}
@@ -30,11 +32,13 @@ use Rattle.infer_more.specs.Listed.{AreEnded, joined, row_listed, signature_list
 use Rattle.infer_more.specs.Row.{Further, is_closed, is_closed_alternative, is_row_closed}
 use Rattle.infer_more.specs.Described.{DescribesRows, last_line, remark}
 use Rattle.infer_more.specs.Line.{is_mime_type, row_of}
-use Rattle.infer_more.specs.Text.{is_line_end}
-use Rattle.infer_notation.specs.Words.{behind_word, word}
+use Rattle.infer_more.specs.Text.{IsAnswerLine, IsMistake, LineAnswers, is_line_end}
+use Rattle.infer_notation.specs.Words.{behind_blanks, behind_word, word}
 use Rattle.infer_more.proofs.DescribedLemmas.{described_rows}
 use Rattle.std.proofs.lemmas.List.Elements.{All-from_recursion}
 use Rattle.infer_more.specs.Samples.{HasNoSample, further_sample, has_room, least_of, model, model_entry, parts_of, prolog, row_model, sample_at, texts, written}
+use Rattle.infer_more.specs.declared.types.Mistake.{Mistake}
+use Rattle.infer_notation.specs.declared.reason.Reason.TheVariants.{Fields}
 use Rattle.infer_notation.specs.Alternative.{Accepted, Alternative, at_least, binary_bytes, bytes, json_text, plain_text}
 use Rattle.infer_more.specs.Table.{archives, code, further, headers, images, late, markup, media, packages, records}
 use Rattle.infer_more.specs.Wider.{IsWidened, Widens, parent_at, shown, wider}
@@ -140,7 +144,7 @@ pub plain_text_pair : IsTrue (is_plain plain_text) × (¬ IsTrue (is_plain json_
 plain_text_pair = (refl, λ t. absurd (cc))
 
 pub IsLost_pair : IsLost plain_text × (¬ IsLost (at_least 0 []))
-IsLost_pair = (text_lost, λ h. h.3 (grind (arith, nat_tests)))
+IsLost_pair = (text_lost, λ h. h.4 (grind (arith, nat_tests)))
 
 pub TextsFit_pair : TextsFit 73 × (¬ TextsFit 0)
 unfolding shown table further
@@ -302,4 +306,30 @@ unfolding row_of is_mime_type word behind_word
 DescribesRows_pair = (
   last_line (codes "# a") None (All-from_recursion (λ x. IsFalse (is_line_end x)) (codes "# a") (refl, (refl, (refl, tt)))) (remark [] (codes " a") refl),
   λ d. let none : None ≡ Some [] = described_rows (codes "a") [] d in absurd (cc),
+)
+
+pub behind_blanks_pair : (behind_blanks (codes " a") ≡ codes "a") × (¬ (behind_blanks (codes "a ") ≡ codes "a"))
+behind_blanks_pair = (refl, λ e. omega (arith, ap length e))
+
+-- a line of one word is no type
+abbrev mistake : ℕ → Mistake
+mistake line = record { reason = Fields; line = line; column = 2 }
+
+pub IsMistake_pair : IsMistake (codes "a") (mistake 1) × (¬ IsMistake (codes "a") (mistake 2))
+unfolding row_of word is_mime_type behind_word
+IsMistake_pair = (record { line = refl; from = omega arith; to = omega arith; first = λ token. absurd (cc) }, λ h. let e = h.line in omega arith)
+
+-- the one line of the empty text describes no row
+no_line : (extension : Option (List ℕ)) (k : ℕ) (d : List ℕ) → k < 1 → LineAnswers extension [] (slice_index_or ([] ∷ []) k d) → ⊥
+no_line extension zero d lt (r, is, answers) = absurd (cc)
+no_line extension (suc k) d lt h = absurd (omega arith)
+
+not_one : (extension : Option (List ℕ)) (place : Option ℕ) → Some 1 ≡ option_map (λ i. i + 1) place → IsFirstOf (LineAnswers extension []) ([] ∷ []) place → ⊥
+not_one extension None is first = absurd (cc)
+not_one extension (Some i) is first = no_line extension i [] first.within (first.here [])
+
+pub IsAnswerLine_pair : (blank : NoneHas (Accepts []) table) → (IsAnswerLine [] [] None) × (¬ IsAnswerLine [] [] (Some 1))
+IsAnswerLine_pair blank = (
+  record { parent = None; answers = blank; place = None; first = λ k d low high. no_line None k d high; is = refl },
+  λ h. not_one _ h.place h.is h.first,
 )

@@ -1,7 +1,9 @@
 //! A line of a text of types.
-ghost use Rattle.std.specs.Prelude.{◌≡◌, ◌↔◌, ℕ, IsTrue, List, Option, Some, is_ok, is_some, option_map};
+ghost use Rattle.std.specs.Prelude.{◌≡◌, ◌↔◌, ◌≤◌, ℕ, IfErr, IsTrue, List, Option, Some, false, is_ok, is_some, length, option_map};
 ghost use Rattle.std.specs.Str.{IsAscii};
-ghost use Rattle.infer_more.specs.Line.{Row, fields_listed, fields_of, is_none, is_remark, line_of, parent_of, row_of};
+ghost use Rattle.infer_notation.specs.Reasons.{is_of_token};
+ghost use Rattle.infer_notation.specs.Words.{behind_blanks};
+ghost use Rattle.infer_more.specs.Line.{IsFlawIn, Row, fields_listed, fields_of, is_none, is_remark, line_of, parent_of, row_of};
 ghost use Rattle.infer_more.specs.Text.{Answers, IsLineAnswer, found_shows};
 
 use crate::types::Found;
@@ -48,7 +50,9 @@ pub fn is_remark(text: &[u8]) -> bool
 
 /// Whether the line describes a type or none, and else what is wrong with it.
 pub fn check(line: &[u8]) -> Result<(), Flaw>
-    ensures { is_ok result ≡ is_some (line_of line.now) }
+    ensures described { is_ok result ≡ is_some (line_of line.now) }
+    ensures flaw { IfErr result (IsFlawIn (behind_blanks line.now)) }
+    ensures inside { IfErr result (λ flaw. flaw.left ≤ length line.now) }
 {
     let text = skip_blanks(line);
     if is_remark(text) {
@@ -60,7 +64,8 @@ pub fn check(line: &[u8]) -> Result<(), Flaw>
 /// Whether the words describe a type, and else what is wrong with them.
 #[tactic(auto, unfolding(crate::specs::Line::row_of))]
 fn check_row(text: &[u8]) -> Result<(), Flaw>
-    ensures { is_ok result ≡ is_some (row_of (fields_of text.now)) }
+    ensures described { is_ok result ≡ is_some (row_of (fields_of text.now)) }
+    ensures flaw { IfErr result (IsFlawIn text.now) }
 {
     let (extension, second) = split_word(text);
     if !is_name(extension) {
@@ -85,7 +90,10 @@ fn check_row(text: &[u8]) -> Result<(), Flaw>
 }
 
 /// What is wrong with the word at the front of the text, unless there is none.
-fn flaw(word: &[u8], text: &[u8], reason: Reason) -> Flaw {
+fn flaw(word: &[u8], text: &[u8], reason: Reason) -> Flaw
+    ensures left { result.left ≡ length text.now }
+    ensures kind { is_of_token reason ≡ false → is_of_token result.reason ≡ false }
+{
     Flaw {
         reason: if word.is_empty() {
             Reason::Fields

@@ -1,4 +1,7 @@
-use Rattle.infer_notation.proofs.Common.{◌≡◌, ◌≤◌, ◌++◌, false, length, option_map, All, tokens_of, group_listed, is_or}
+use Rattle.std.proofs.Common.{◌≡◌, ◌≤◌, ◌++◌, false, length, option_map}
+use Rattle.std.specs.List.{All}
+use Rattle.infer_notation.specs.Grammar.{tokens_of, unread}
+use Rattle.infer_notation.specs.Relations.{group_listed, is_or}
 use Rattle.infer_notation.proofs.relations.read_group.Given as goal
 
 abbrev pub invariant-loop-token : goal.invariant-loop-token
@@ -8,6 +11,7 @@ invariant-loop-token l = record {
   front : All (λ t. is_or t ≡ false) (group_listed l.group);
   whole : tokens_of l.text ≡ option_map (λ ts. group_listed l.group ++ ts) (tokens_of l.rest);
   fits : length l.rest ≤ length l.text;
+  read : unread l.text ≡ unread l.rest;
 }
 
 abbrev pub decreases-loop-token : goal.decreases-loop-token

@@ -1,4 +1,8 @@
-use Rattle.infer_notation.proofs.Common.{◌<◌, ap, drop, length, option_map, sym, ◌∷◌, ◌∙◌, arith, rules, length-drop, tokens_of, token_listed}
+use Rattle.std.proofs.Common.{◌<◌, ap, drop, length, option_map, sym, ◌∷◌, ◌∙◌, arith, rules}
+use Rattle.std.proofs.lemmas.List.{length-drop}
+use Rattle.infer_notation.specs.Grammar.{tokens_of, unread}
+use Rattle.infer_notation.specs.Tokens.{token_listed}
+use Rattle.infer_notation.proofs.FlawLemmas as flaws
 use Rattle.infer_notation.proofs.RelationLemmas.{bad_token, next_token, no_token}
 use Rattle.infer_notation.proofs.tokens.next_token.Goals as goal
 
@@ -20,3 +24,21 @@ returns-in-Err-clause-none c =
     let front = c.skip_blanks-front.result.now in
     let some : 0 < length front = search rules in
     bad_token c.args.text.now front c.skip_blanks-front.ensures.value some (c.skip_blanks-front.ensures.ends some) c.in-Err.ensures.value
+
+pub returns-in-Ok-clause-read : goal.returns-in-Ok-clause-read
+returns-in-Ok-clause-read c =
+    let front = c.skip_blanks-front.result.now in
+    let some : 0 < length front = search rules in
+    let behind = c.from.ensures ∙ ap (drop c.in-Ok.count) c.behind_first.ensures in
+    sym (flaws.past_blanks c.args.text.now) ∙ ap unread (sym c.skip_blanks-front.ensures.value)
+    ∙ flaws.past_token front (token_listed c.in-Ok.token) c.in-Ok.count some (c.skip_blanks-front.ensures.ends some) c.in-Ok.ensures.value ∙ ap unread (sym behind)
+
+pub returns-in-Err-clause-flaw : goal.returns-in-Err-clause-flaw
+returns-in-Err-clause-flaw c =
+    let front = c.skip_blanks-front.result.now in
+    let some : 0 < length front = search rules in
+    record {
+      inside = c.skip_blanks-front.ensures.fits;
+      first = λ token. ap length (sym (flaws.no_token front some (c.skip_blanks-front.ensures.ends some) c.in-Err.ensures.value)
+          ∙ ap unread c.skip_blanks-front.ensures.value ∙ flaws.past_blanks c.args.text.now);
+    }

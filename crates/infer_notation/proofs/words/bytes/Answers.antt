@@ -34,8 +34,8 @@ loop-digit-preserved c =
           (let e = w.read-is in let n = w.with_byte-read.ensures.count in grind arith, same ∙ sym step ∙ sym is ∙ sym next ∙ l.invariant.1)
     ]
 
-pub returns-in-None-first : goal.returns-in-None-first
-returns-in-None-first c =
+pub returns-in-None-first-clause-found : goal.returns-in-None-first-clause-found
+returns-in-None-first-clause-found c =
     let l = c.loop-digit in
     let buf = c.args.buf.now in
     let none = ap (λ f. gives l.read l.left.now buf f (drop l.digit-index c.args.text.now)) c.in-None-first.is in

@@ -1,0 +1,50 @@
+-- What is left unread of a text, token by token.
+use Rattle.std.proofs.Common.{◌≡◌, ◌<◌, ◌≤◌, ℕ, zero, suc, false, List, [], ◌∷◌, Option, None, Some, IfSome, length, drop, option_map, inl, inr, refl, sym, ap, ◌∙◌, get_or, arith}
+use denote.Ref.{Bor}
+use Rattle.std.proofs.lemmas.Bool.{cases_Bool}
+use Rattle.infer_notation.specs.Flaws.{IsFlawOf}
+use Rattle.infer_notation.specs.Grammar.{unread, unread_at}
+use Rattle.infer_notation.specs.Relations.{left_length}
+use Rattle.infer_notation.specs.Tokens.{Token, token_at}
+use Rattle.infer_notation.specs.declared.reason.Flaw.{Flaw}
+use Rattle.infer_notation.specs.Words.{behind_blanks, is_blank}
+
+-- bytes of a token that was read count no more
+past_read : (n : ℕ) (xs : List ℕ) → unread_at n xs ≡ unread_at 0 (drop n xs)
+past_read zero [] = refl
+past_read zero (x ∷ xs) = refl
+past_read (suc n) [] = refl
+past_read (suc n) (x ∷ xs) = past_read n xs
+
+-- nor do blanks
+pub past_blanks : (xs : List ℕ) → unread (behind_blanks xs) ≡ unread xs
+past_blanks [] = refl
+past_blanks (x ∷ xs) = elim (cases_Bool (is_blank x)) [
+  | inl blank ↦ rw blank (past_blanks xs)
+  | inr other ↦ (let whole : behind_blanks (x ∷ xs) ≡ x ∷ xs = rw other refl in ap unread whole)
+]
+
+-- behind a token, what is left unread is the same
+pub past_token : (front : List ℕ) (t : Token) (n : ℕ) → 0 < length front → is_blank (get_or front 0 0) ≡ false → Some (t, n) ≡ token_at front
+    → unread front ≡ unread (drop n (drop 1 front))
+past_token [] t n some dark is = absurd (omega arith)
+past_token (x ∷ xs) t n some dark is = rw (dark, sym is) (past_read n xs)
+
+-- and where no token stands, that is all
+pub no_token : (front : List ℕ) → 0 < length front → is_blank (get_or front 0 0) ≡ false → None ≡ token_at front → unread front ≡ front
+no_token [] some dark is = absurd (omega arith)
+no_token (x ∷ xs) some dark is = rw (dark, sym is) refl
+
+-- what is wrong with what is left of a text is wrong with the text
+pub flaw_behind : (text rest : List ℕ) (flaw : Flaw) → length rest ≤ length text → unread text ≡ unread rest → IsFlawOf rest flaw → IsFlawOf text flaw
+flaw_behind text rest flaw fits same is = record {
+  inside = (let inside = is.inside in omega arith);
+  first = λ token. is.first token ∙ ap length (sym same);
+}
+
+-- what stands behind the next alternative of a relation
+pub behind_next : (text more : List ℕ) (behind : Option (Bor (List ℕ))) → unread text ≡ unread more → length more ≤ length text
+    → IfSome behind (λ t. unread more ≡ unread t.now) → left_length (option_map (λ t. t.now) behind) ≤ length more
+    → IfSome behind (λ t. (unread text ≡ unread t.now) × (length t.now ≤ length text))
+behind_next text more None same fits read less = tt
+behind_next text more (Some t) same fits read less = (same ∙ read, omega arith)
