@@ -73,6 +73,13 @@ def of_debian(package: str, path: str) -> str:
     raise unittest.SkipTest(f"no {path} is here, and apt-get brings no {package}")
 
 
+def h11() -> str:
+    """A folder of the test in which the module is that reads HTTP for the static server."""
+    place = folder()
+    os.symlink(of_debian("python3-h11", "/usr/lib/python3/dist-packages/h11"), f"{place}/h11")
+    return place
+
+
 def old_rust() -> str:
     """Why the compiler of Rust that is here cannot compile the binding, or nothing."""
     with open(f"{ROOT}/bindings/rust/infer/Cargo.toml", encoding="utf-8") as manifest:
