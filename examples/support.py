@@ -162,6 +162,14 @@ def written(process_id: int) -> int:
         return int(re.findall(r"^wchar: ([0-9]+)$", file.read(), re.MULTILINE)[0])
 
 
+def received(it: socket.socket, count: int) -> bytes:
+    """The next bytes that come, so many, or fewer if no more do. (A socket with a timeout does not wait for all of them.)"""
+    data = b""
+    while len(data) < count and (more := it.recv(count - len(data))):
+        data += more
+    return data
+
+
 def all_of(it: socket.socket) -> bytes:
     """What comes until the other side ends."""
     got = b""
