@@ -1,7 +1,8 @@
 -- What is said of a buffer is said of the writer below it, which got the buffer's bytes.
-use Rattle.infer_tool.proofs.Common.{◌≡◌, ℕ, Bool, true, false, List, Option, None, Some, IfSome, ap, refl, ◌∙◌, is_none, option_and_then, Keeps, outcome_after, ReportsReader, Saying, SaysThrough, unless_failed, WritesSample, Outcome}
+use Rattle.infer_tool.proofs.Common.{Appends, OnFalse, Failed, Refuses, RefusesBy, Says, Stream, Tells, stream, inner, has_failed, subst, sym, ◌≡◌, ℕ, Bool, true, false, List, Option, None, Some, IfSome, ap, refl, ◌∙◌, is_none, option_and_then, Keeps, outcome_after, ReportsReader, Saying, SaysThrough, unless_failed, WritesSample, Outcome}
 use Rattle.infer.specs.declared.read.watched.Watched.{Watched}
-use Rattle.infer_tool.proofs.RunLemmas.{Moved, Moves, appends-moved, keeps-moved}
+use Rattle.infer_tool.specs.declared.writer.WatchedWriter.{WatchedWriter}
+use Rattle.infer_tool.proofs.RunLemmas.{Moved, Moves, appends-moved, keeps-moved, keeps_unless_failed}
 
 pub sample_moves : (i : ℕ) → Moves (WritesSample i)
 sample_moves i o old new eo en before after eb ea m e (is, lines, faults) =
@@ -11,6 +12,33 @@ pub reader_moves : {R : Type 0} (remaining : R → Option (List ℕ)) (n : ℕ) 
     → Moves (ReportsReader remaining n Lost before after name)
 reader_moves remaining n Lost read left name o old new eo en before after eb ea m e (answer, found, (is, lines, faults)) =
     (answer, found, (is, appends-moved old new before after _ m lines, appends-moved eo en eb ea _ e faults))
+
+pub refuses_moves : (refusal : List ℕ) → Moves (Refuses refusal)
+refuses_moves refusal o old new eo en before after eb ea m e (is, kept, told) =
+    (is, keeps-moved old new before after m kept, appends-moved eo en eb ea refusal e told)
+
+-- a line that refuses wrong words is said
+module _ {W : Type 0} (contents : W → Option (List ℕ)) where
+  failed_is_failed : (failed : Bool) → Failed ≡ outcome_after failed Failed
+  failed_is_failed true = refl
+  failed_is_failed false = refl
+
+  appends_told : (failed : Bool) (old new : Option (List ℕ)) (refusal : List ℕ) → OnFalse failed (Appends old new refusal)
+      → Appends (unless_failed failed old) new refusal
+  appends_told true old new refusal told = tt
+  appends_told false old new refusal told = told
+
+  pub refused_is_said : (old new : WatchedWriter W) (faults : Stream) (result : Outcome) (refusal : List ℕ)
+      → RefusesBy old new faults result refusal → Says (stream contents old new) faults result (Refuses refusal)
+  refused_is_said old new faults result refusal (is, same, told) = (
+    Failed,
+    is ∙ failed_is_failed (has_failed new),
+    (
+      refl,
+      subst (λ w. Keeps (unless_failed (has_failed new) (contents (inner old))) (contents (inner w))) (sym same) (keeps_unless_failed (has_failed new) (contents (inner old))),
+      appends_told faults.failed faults.old faults.new refusal told,
+    ),
+  )
 
 -- a buffer that gave its writer back, or failed
 module _ {W : Type 0} (contents : W → Option (List ℕ)) (out : W) where

@@ -1,5 +1,9 @@
 -- Reports of the inputs that words name, one word after the other.
-use Rattle.infer_tool.proofs.Common.{◌≡◌, ◌≢◌, ◌+◌, ◌<◌, ℕ, Bool, true, false, List, [], ◌∷◌, ◌++◌, Option, None, Some, IsTrue, IfSome, Appends, Saying, length, map, take, get_or, ap, ap₂, refl, subst, sym, ◌∙◌, map_more, Keeps, outcome_after, worse_of, ReportsInput, unless_failed, ReportsEach, no_input, one_more, Outcome, Failed}
+use Rattle.infer_tool.proofs.Common.{◌≡◌, ◌≢◌, ◌+◌, ◌<◌, ℕ, Bool, true, false, List, [], ◌∷◌, ◌++◌, Option, None, Some, IsTrue, IfSome, Appends, Saying, length, map, take, get_or, ap, ap₂, refl, subst, sym, ◌∙◌, map_more, Keeps, outcome_after, worse_of, ReportsInput, ReportsReader, told, Says, Stream, unless_failed, ReportsEach, no_input, one_more, Outcome, Failed}
+use Rattle.std.specs.Prelude.{IfOk}
+use Rattle.infer.specs.Watched as watched
+use Rattle.infer.specs.declared.read.watched.Watched.{Watched}
+use Rattle.infer_tool.specs.Report.{IsFound}
 
 pub keeps_itself : (bytes : Option (List ℕ)) → Keeps bytes bytes
 keeps_itself None = tt
@@ -79,6 +83,26 @@ unfailed false result outcome fine is = refl
 pub unfailed_outcome : (failed : Bool) (result outcome : Outcome) → result ≢ Failed → result ≡ outcome_after failed outcome → outcome ≡ result
 unfailed_outcome true result outcome fine is = absurd (fine is)
 unfailed_outcome false result outcome fine is = sym is
+
+-- the report of a watched reader is one of the reader below it
+pub input_of_reader : {R : Type 0} (remaining : R → Option (List ℕ)) (n : ℕ) (Lost : (old new : Option (List ℕ)) → Type 0) (before after : Watched R) (reader : R)
+    (name : List ℕ) (outcome : Outcome) (old new err_old err_new : Option (List ℕ)) → watched.inner before ≡ reader
+    → ReportsReader remaining n Lost before after name outcome old new err_old err_new → ReportsInput n (remaining reader) name outcome old new err_old err_new
+input_of_reader remaining n Lost before after reader name outcome old new eo en is (answer, answers, reports) =
+    (told answer, subst (λ r. IfOk (told answer) (IsFound n (remaining r))) is answers.found, reports)
+
+-- what a run that has not failed said through watched writers is said of the writers below them
+pub said_plainly : (Said : Saying) (lines faults : Stream) (result : Outcome) (old new err_old err_new : Option (List ℕ)) → lines.old ≡ old → lines.new ≡ new
+    → faults.old ≡ err_old → faults.new ≡ err_new → faults.failed ≡ false → Says lines faults result Said → result ≢ Failed → Said result old new err_old err_new
+said_plainly Said lines faults result old new eo en is_old is_new is_eo is_en quiet (outcome, is, said) fine =
+    let going = unfailed lines.failed result outcome fine is in
+    let same = unfailed_outcome lines.failed result outcome fine is in
+    let known : Said result lines.old lines.new faults.old faults.new =
+    subst (λ o. Said o lines.old lines.new faults.old faults.new) same
+    (subst (λ b. Said outcome (unless_failed b lines.old) lines.new faults.old faults.new) going
+    (subst (λ b. Said outcome (unless_failed lines.failed lines.old) lines.new (unless_failed b faults.old) faults.new) quiet said)) in
+    subst (λ x. Said result old new eo x) is_en (subst (λ x. Said result old new x faults.new) is_eo
+    (subst (λ x. Said result old x faults.old faults.new) is_new (subst (λ x. Said result x lines.new faults.old faults.new) is_old known)))
 
 module _ {A : Type 0} (name_of : A → List ℕ) (n : ℕ) (words : List A) where
   -- the report of one more word

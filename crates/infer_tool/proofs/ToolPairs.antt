@@ -1,5 +1,5 @@
 -- What has a property of what the program says, and what has not: each pair computed.
-use Rattle.infer_tool.proofs.Common.{◌≡◌, ℕ, Bool, true, false, [], ◌∷◌, Option, None, Some, Result, Ok, Err, IsTrue, length, refl, ap, subst, codes, arith, Appends, Triple, Reports, ReportsInput, fault_written, outcome_of, told, unless_failed, has_failed, Failed, Unknown, stream, written, inner, get_or}
+use Rattle.infer_tool.proofs.Common.{◌≡◌, ℕ, Bool, true, false, [], ◌∷◌, Option, None, Some, Result, Ok, Err, IsTrue, length, refl, ap, subst, codes, inl, inr, arith, Appends, Triple, Reports, ReportsInput, fault_written, outcome_of, told, unless_failed, has_failed, Failed, Unknown, stream, written, inner, get_or}
 use Rattle.std.proofs.Common.{unwrap_or}
 use Rattle.infer.specs.declared.read.fault.Fault.{Fault}
 use Rattle.infer.specs.declared.read.fault.Fault.TheVariants.{Memory, Open, Read}
@@ -8,6 +8,7 @@ use Rattle.std.specs.declared.io.Error.{Error}
 use Rattle.infer.specs.declared.table.file_type.FileType.{FileType}
 use Rattle.infer_tool.specs.Reader.{ReportsOpened}
 use Rattle.infer_tool.specs.Line.{fault_line, fault_text, line}
+use Rattle.infer_tool.specs.Run.{AsksForInput}
 use Rattle.infer_tool.specs.Words.{front_option, sample_option, second}
 use Rattle.infer_tool.specs.declared.writer.WatchedWriter.{WatchedWriter}
 
@@ -38,6 +39,14 @@ sample_option_pair = (refl, λ e. omega (arith, ap length e))
 
 pub second_pair : (second (codes "a" ∷ codes "b" ∷ []) ≡ codes "b") × (¬ (second (codes "b" ∷ []) ≡ codes "b"))
 second_pair = (refl, λ e. omega (arith, ap length e))
+
+-- one word that is no option
+no_input : AsksForInput (codes "a" ∷ []) → ⊥
+no_input (inl none) = absurd (cc)
+no_input (inr (asks, two, limit)) = omega (arith, two)
+
+pub AsksForInput_pair : AsksForInput [] × (¬ AsksForInput (codes "a" ∷ []))
+AsksForInput_pair = (inl refl, no_input)
 
 pub has_failed_pair : IsTrue (has_failed (writer 0 true)) × (¬ IsTrue (has_failed (writer 0 false)))
 has_failed_pair = (refl, λ t. absurd (cc))

@@ -67,6 +67,10 @@ Says lines faults result Said =
     (outcome : Outcome) × (result ≡ outcome_after lines.failed outcome)
     × Said outcome (unless_failed lines.failed lines.old) lines.new (unless_failed faults.failed faults.old) faults.new
 
+-- the outcome is `Failed`, the writer of lines is as it was, and the writer of faults was told this line
+abbrev pub RefusesBy : {W : Type 0} (old new : WatchedWriter W) (faults : Stream) → Outcome → List ℕ → Type 0
+RefusesBy old new faults result refusal = (result ≡ Failed) × (new ≡ old) × Tells faults refusal
+
 -- this was said through buffers, which gave their writers back, or none of one that has failed
 abbrev pub SaysThrough : {W E : Type 0} (contents : W → Option (List ℕ)) (err_contents : E → Option (List ℕ))
     (out : W) (err : E) → Outcome × (Option W × Option E) → Saying → Type 0

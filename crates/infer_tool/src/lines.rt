@@ -1,15 +1,11 @@
 //! Runs whose writes go through buffers.
-ghost use Rattle.std.specs.Prelude.{◌≡◌, ◌≢◌, ◌<◌, ◌≤◌, ℕ, [], IfOk, IfSome, None, OnErr, codes, drop, length, map, string_bytes, true};
+ghost use Rattle.std.specs.Prelude.{◌≡◌, ◌<◌, IfOk, IfSome, None, OnErr, codes, map, string_bytes, true};
 ghost use Rattle.std.specs.Io.Buffered.{line_writer_contents, line_writer_inner, writer_capacity, writer_contents, writer_inner};
 ghost use Rattle.std.specs.Io.KnownBytes.{Keeps};
 ghost use Rattle.infer.specs.Watched.{fault_of};
-ghost use Rattle.infer_tool.specs.Limit.{IsLimit};
-ghost use Rattle.infer_tool.specs.Line.{limits_line, no_sample_line, usage_line};
-ghost use Rattle.infer_tool.specs.Reader.{LosesFront, LosesUntilFinal, ReportsReader};
+ghost use Rattle.infer_tool.specs.Reader.{ReportsReader};
 ghost use Rattle.infer_tool.specs.Report.{Refuses, SaysThrough};
-ghost use Rattle.infer_tool.specs.Run.{ReportsEach};
-ghost use Rattle.infer_tool.specs.Sample.{HasSample, WritesSample};
-ghost use Rattle.infer_tool.specs.Words.{Asks, front_option, sample_option, second};
+ghost use Rattle.infer_tool.specs.Run.{Runs};
 
 use crate::outcome::Outcome;
 use crate::run::run_watched;
@@ -37,47 +33,10 @@ pub fn run_lines<R: Files, A: Allocator + Copy, I: Read, W: Write + Drop, E: Wri
 ) -> io::Result<(Outcome, (Option<W>, Option<E>))>
     requires { fault_of input.old ≡ None }
     ensures refused { OnErr result (input.new ≡ input.old) }
-    ensures line { words.now ≡ []
-        → IfOk result (λ done. SaysThrough W.contents E.contents out err done
-        (ReportsReader I.remaining FRONT LosesUntilFinal input.old input.new (codes "-"))) }
-    ensures each { words.now ≢ [] → ¬ Asks sample_option (map string_bytes words.now)
-        → ¬ Asks front_option (map string_bytes words.now)
-        → IfOk result (λ done. SaysThrough W.contents E.contents out err done
-        (ReportsEach FRONT (map string_bytes words.now))) }
-
-    // After `--sample`.
-    ensures sample { Asks sample_option (map string_bytes words.now) → length words.now ≡ 2
-        → (i : ℕ) → HasSample (second (map string_bytes words.now)) i
-        → IfOk result (λ done. SaysThrough W.contents E.contents out err done (WritesSample i)) }
-    ensures usage { Asks sample_option (map string_bytes words.now) → length words.now ≢ 2
-        → IfOk result (λ done. SaysThrough W.contents E.contents out err done
-        (Refuses usage_line)) }
-    ensures no_sample { Asks sample_option (map string_bytes words.now)
-        → ((i : ℕ) → ¬ HasSample (second (map string_bytes words.now)) i)
-        → length words.now ≡ 2
-        → IfOk result (λ done. SaysThrough W.contents E.contents out err done
-        (Refuses (no_sample_line (second (map string_bytes words.now))))) }
-
-    // After `--front`.
-    ensures limit { Asks front_option (map string_bytes words.now) → (n : ℕ)
-        → IsLimit (second (map string_bytes words.now)) n
-        → length words.now ≡ 2 → IfOk result (λ done. SaysThrough W.contents E.contents out err done
-        (ReportsReader I.remaining n (LosesFront n) input.old input.new (codes "-"))) }
-    ensures limit_each { Asks front_option (map string_bytes words.now) → (n : ℕ)
-        → IsLimit (second (map string_bytes words.now)) n
-        → length words.now ≢ 2
-        → IfOk result (λ done. SaysThrough W.contents E.contents out err done
-        (ReportsEach n (drop 2 (map string_bytes words.now)))) }
-    ensures no_second { Asks front_option (map string_bytes words.now)
-        → ((n : ℕ) → ¬ IsLimit (second (map string_bytes words.now)) n)
-        → length words.now < 2
-        → IfOk result (λ done. SaysThrough W.contents E.contents out err done
-        (Refuses usage_line)) }
-    ensures no_limit { Asks front_option (map string_bytes words.now)
-        → ((n : ℕ) → ¬ IsLimit (second (map string_bytes words.now)) n)
-        → 2 ≤ length words.now
-        → IfOk result (λ done. SaysThrough W.contents E.contents out err done
-        (Refuses limits_line)) }
+    ensures said { IfOk result (λ done. Runs (map string_bytes words.now)
+        (λ n Lost. ReportsReader I.remaining n Lost input.old input.new (codes "-"))
+        (SaysThrough W.contents E.contents out err done)
+        (λ refusal. SaysThrough W.contents E.contents out err done (Refuses refusal))) }
 {
     let mut lines = lines_over(alloc, block, out)?;
     let mut faults = lines_over(alloc, 0, err)?;

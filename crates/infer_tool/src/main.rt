@@ -1,10 +1,9 @@
 //! Prints the type of each file that it is given, or of standard input.
 #![tactic(auto)]
 
-ghost use Rattle.std.specs.Prelude.{◌≡◌, ◌≢◌, ℕ, length, map, string_bytes};
-ghost use Rattle.infer_tool.specs.Limit.{IsLimit};
-ghost use Rattle.infer_tool.specs.Sample.{HasSample};
-ghost use Rattle.infer_tool.specs.Words.{Asks, front_option, sample_option, second};
+ghost use Rattle.std.specs.Prelude.{◌≡◌, None, codes, map, string_bytes};
+ghost use Rattle.infer_tool.specs.Report.{ReportsInput};
+ghost use Rattle.infer_tool.specs.Run.{Runs};
 
 mod limit;
 mod lines;
@@ -50,14 +49,8 @@ fn words_of<R: Env + AllocGlobal>(rt: &R) -> io::Result<Vec<String>> {
 
 /// Runs over the system's streams, through buffers for lines, or without them if their memory is refused.
 fn run_words(rt: &HostRuntime, words: &[String]) -> Outcome
-    ensures usage { Asks sample_option (map string_bytes words.now) → length words.now ≢ 2
-        → result ≡ Outcome.Failed }
-    ensures no_sample { Asks sample_option (map string_bytes words.now)
-        → ((i : ℕ) → ¬ HasSample (second (map string_bytes words.now)) i)
-        → result ≡ Outcome.Failed }
-    ensures no_limit { Asks front_option (map string_bytes words.now)
-        → ((n : ℕ) → ¬ IsLimit (second (map string_bytes words.now)) n)
-        → result ≡ Outcome.Failed }
+    ensures refused { Runs (map string_bytes words.now) (λ n Lost. ReportsInput n None (codes "-"))
+        (λ Said. Unit {0}) (λ refusal. result ≡ Outcome.Failed) }
 {
     let block = if rt.stdout().is_terminal() { 0 } else { BLOCK };
     let input = &mut Watched::new(rt.stdin());

@@ -1,14 +1,11 @@
 //! What the words of a run ask for.
-ghost use Rattle.std.specs.Prelude.{◌≡◌, ◌≢◌, ◌↔◌, ◌<◌, ◌≤◌, ℕ, [], IsTrue, None, codes, drop, length, map, string_bytes};
+ghost use Rattle.std.specs.Prelude.{◌≡◌, ◌≢◌, ◌↔◌, ◌<◌, ◌≤◌, IsTrue, None, codes, drop, length, map, string_bytes};
 ghost use Rattle.infer.specs.Watched.{fault_of};
-ghost use Rattle.infer_tool.specs.Limit.{IsLimit};
-ghost use Rattle.infer_tool.specs.Line.{limits_line, no_sample_line, usage_line};
-ghost use Rattle.infer_tool.specs.Reader.{LosesFront, LosesUntilFinal, ReportsReader};
-ghost use Rattle.infer_tool.specs.Report.{ReportsInput, Says, Tells, stream};
-ghost use Rattle.infer_tool.specs.Run.{ReportsEach};
-ghost use Rattle.infer_tool.specs.Sample.{HasSample, WritesSample};
-ghost use Rattle.infer_tool.specs.Words.{Asks, front_option, sample_option, second};
-ghost use Rattle.infer_tool.specs.Writer.{IsLater, has_failed, inner};
+ghost use Rattle.infer_tool.specs.Reader.{LosesFront, ReportsReader};
+ghost use Rattle.infer_tool.specs.Report.{RefusesBy, ReportsInput, Says, stream};
+ghost use Rattle.infer_tool.specs.Run.{AsksForInput, NamesNoFile, ReportsEach, ReportsFronts, Runs, WritesAsked};
+ghost use Rattle.infer_tool.specs.Words.{Asks};
+ghost use Rattle.infer_tool.specs.Writer.{IsLater};
 
 use crate::limit::limit_of;
 use crate::outcome::Outcome;
@@ -40,39 +37,11 @@ pub fn run<R: Files, A: Allocator + Copy, I: Read + Drop, W: Write, E: Write>(
     out: &mut W,
     err: &mut E,
 ) -> Outcome
-    ensures line { words.now ≡ [] → result ≢ Outcome.Failed
-        → ReportsInput FRONT (I.remaining input) (codes "-") result
-        (W.contents out.old) (W.contents out.new) (E.contents err.old) (E.contents err.new) }
-    ensures each { words.now ≢ [] → ¬ Asks sample_option (map string_bytes words.now)
-        → ¬ Asks front_option (map string_bytes words.now)
-        → result ≢ Outcome.Failed → ReportsEach FRONT (map string_bytes words.now) result
-        (W.contents out.old) (W.contents out.new) (E.contents err.old) (E.contents err.new) }
-
-    // After `--sample`.
-    ensures sample { Asks sample_option (map string_bytes words.now) → length words.now ≡ 2
-        → (i : ℕ) → HasSample (second (map string_bytes words.now)) i → result ≢ Outcome.Failed
-        → WritesSample i result
-        (W.contents out.old) (W.contents out.new) (E.contents err.old) (E.contents err.new) }
-    ensures usage { Asks sample_option (map string_bytes words.now) → length words.now ≢ 2
-        → (result ≡ Outcome.Failed) × (out.new ≡ out.old) }
-    ensures no_sample { Asks sample_option (map string_bytes words.now)
-        → ((i : ℕ) → ¬ HasSample (second (map string_bytes words.now)) i)
-        → (result ≡ Outcome.Failed) × (out.new ≡ out.old) }
-
-    // After `--front`.
-    ensures limit { Asks front_option (map string_bytes words.now) → (n : ℕ)
-        → IsLimit (second (map string_bytes words.now)) n
-        → length words.now ≡ 2 → result ≢ Outcome.Failed
-        → ReportsInput n (I.remaining input) (codes "-") result
-        (W.contents out.old) (W.contents out.new) (E.contents err.old) (E.contents err.new) }
-    ensures limit_each { Asks front_option (map string_bytes words.now) → (n : ℕ)
-        → IsLimit (second (map string_bytes words.now)) n
-        → length words.now ≢ 2 → result ≢ Outcome.Failed
-        → ReportsEach n (drop 2 (map string_bytes words.now)) result
-        (W.contents out.old) (W.contents out.new) (E.contents err.old) (E.contents err.new) }
-    ensures no_limit { Asks front_option (map string_bytes words.now)
-        → ((n : ℕ) → ¬ IsLimit (second (map string_bytes words.now)) n)
-        → (result ≡ Outcome.Failed) × (out.new ≡ out.old) }
+    ensures said { Runs (map string_bytes words.now)
+        (λ n Lost. ReportsInput n (I.remaining input) (codes "-"))
+        (λ Said. result ≢ Outcome.Failed → Said result
+        (W.contents out.old) (W.contents out.new) (E.contents err.old) (E.contents err.new))
+        (λ refusal. (result ≡ Outcome.Failed) × (out.new ≡ out.old)) }
     ensures silent { result ≢ Outcome.Failed → err.new ≡ err.old }
 {
     let (mut lines, mut faults) = (WatchedWriter::new(out), WatchedWriter::new(err));
@@ -97,46 +66,11 @@ pub fn run_watched<R: Files, A: Allocator + Copy, I: Read, W: Write, E: Write>(
     err: &mut WatchedWriter<'_, E>,
 ) -> Outcome
     requires { fault_of input.old ≡ None }
-    ensures line { words.now ≡ []
-        → Says (stream W.contents out.old out.new) (stream E.contents err.old err.new) result
-        (ReportsReader I.remaining FRONT LosesUntilFinal input.old input.new (codes "-")) }
-    ensures each { words.now ≢ [] → ¬ Asks sample_option (map string_bytes words.now)
-        → ¬ Asks front_option (map string_bytes words.now)
-        → Says (stream W.contents out.old out.new) (stream E.contents err.old err.new) result
-        (ReportsEach FRONT (map string_bytes words.now)) }
-    ensures unread { words.now ≢ [] → ¬ Asks front_option (map string_bytes words.now)
-        → input.new ≡ input.old }
-
-    // After `--sample`.
-    ensures sample { Asks sample_option (map string_bytes words.now) → length words.now ≡ 2
-        → (i : ℕ) → HasSample (second (map string_bytes words.now)) i
-        → Says (stream W.contents out.old out.new) (stream E.contents err.old err.new) result
-        (WritesSample i) }
-    ensures usage { Asks sample_option (map string_bytes words.now) → length words.now ≢ 2
-        → (result ≡ Outcome.Failed) × (out.new ≡ out.old)
-        × Tells (stream E.contents err.old err.new) usage_line }
-    ensures no_sample { Asks sample_option (map string_bytes words.now)
-        → ((i : ℕ) → ¬ HasSample (second (map string_bytes words.now)) i)
-        → (result ≡ Outcome.Failed) × (out.new ≡ out.old)
-        × (length words.now ≡ 2 → Tells (stream E.contents err.old err.new)
-        (no_sample_line (second (map string_bytes words.now)))) }
-
-    // After `--front`.
-    ensures limit { Asks front_option (map string_bytes words.now) → (n : ℕ)
-        → IsLimit (second (map string_bytes words.now)) n
-        → length words.now ≡ 2 → Says (stream W.contents out.old out.new)
-        (stream E.contents err.old err.new) result
-        (ReportsReader I.remaining n (LosesFront n) input.old input.new (codes "-")) }
-    ensures limit_each { Asks front_option (map string_bytes words.now) → (n : ℕ)
-        → IsLimit (second (map string_bytes words.now)) n
-        → length words.now ≢ 2 → (input.new ≡ input.old)
-        × Says (stream W.contents out.old out.new) (stream E.contents err.old err.new) result
-        (ReportsEach n (drop 2 (map string_bytes words.now))) }
-    ensures no_limit { Asks front_option (map string_bytes words.now)
-        → ((n : ℕ) → ¬ IsLimit (second (map string_bytes words.now)) n)
-        → (result ≡ Outcome.Failed) × (out.new ≡ out.old) × (input.new ≡ input.old)
-        × (length words.now < 2 → Tells (stream E.contents err.old err.new) usage_line)
-        × (2 ≤ length words.now → Tells (stream E.contents err.old err.new) limits_line) }
+    ensures said { Runs (map string_bytes words.now)
+        (λ n Lost. ReportsReader I.remaining n Lost input.old input.new (codes "-"))
+        (Says (stream W.contents out.old out.new) (stream E.contents err.old err.new) result)
+        (RefusesBy out.old out.new (stream E.contents err.old err.new) result) }
+    ensures unread { ¬ AsksForInput (map string_bytes words.now) → input.new ≡ input.old }
     ensures later { IsLater out.old out.new }
     ensures err_later { IsLater err.old err.new }
     ensures silent { result ≢ Outcome.Failed → err.new ≡ err.old }
@@ -175,16 +109,9 @@ fn run_asked<W: Write, E: Write>(
     out: &mut WatchedWriter<'_, W>,
     err: &mut WatchedWriter<'_, E>,
 ) -> Outcome
-    ensures sample { length words.now ≡ 2 → (i : ℕ)
-        → HasSample (second (map string_bytes words.now)) i
-        → Says (stream W.contents out.old out.new) (stream E.contents err.old err.new) result
-        (WritesSample i) }
-    ensures usage { length words.now ≢ 2 → (result ≡ Outcome.Failed) × (out.new ≡ out.old)
-        × Tells (stream E.contents err.old err.new) usage_line }
-    ensures no_sample { ((i : ℕ) → ¬ HasSample (second (map string_bytes words.now)) i)
-        → (result ≡ Outcome.Failed) × (out.new ≡ out.old)
-        × (length words.now ≡ 2 → Tells (stream E.contents err.old err.new)
-        (no_sample_line (second (map string_bytes words.now)))) }
+    ensures said { WritesAsked (map string_bytes words.now)
+        (Says (stream W.contents out.old out.new) (stream E.contents err.old err.new) result)
+        (RefusesBy out.old out.new (stream E.contents err.old err.new) result) }
     ensures later { IsLater out.old out.new }
     ensures err_later { IsLater err.old err.new }
     ensures silent { result ≢ Outcome.Failed → err.new ≡ err.old }
@@ -206,18 +133,11 @@ fn run_limited<R: Files, A: Allocator + Copy, I: Read, W: Write, E: Write>(
     err: &mut WatchedWriter<'_, E>,
 ) -> Outcome
     requires { fault_of input.old ≡ None }
-    ensures limit { (n : ℕ) → IsLimit (second (map string_bytes words.now)) n
-        → length words.now ≡ 2 → Says (stream W.contents out.old out.new)
-        (stream E.contents err.old err.new) result
-        (ReportsReader I.remaining n (LosesFront n) input.old input.new (codes "-")) }
-    ensures limit_each { (n : ℕ) → IsLimit (second (map string_bytes words.now)) n
-        → length words.now ≢ 2 → (input.new ≡ input.old)
-        × Says (stream W.contents out.old out.new) (stream E.contents err.old err.new) result
-        (ReportsEach n (drop 2 (map string_bytes words.now))) }
-    ensures no_limit { ((n : ℕ) → ¬ IsLimit (second (map string_bytes words.now)) n)
-        → (result ≡ Outcome.Failed) × (out.new ≡ out.old) × (input.new ≡ input.old)
-        × (length words.now < 2 → Tells (stream E.contents err.old err.new) usage_line)
-        × (2 ≤ length words.now → Tells (stream E.contents err.old err.new) limits_line) }
+    ensures said { ReportsFronts (map string_bytes words.now)
+        (λ n Lost. ReportsReader I.remaining n Lost input.old input.new (codes "-"))
+        (Says (stream W.contents out.old out.new) (stream E.contents err.old err.new) result)
+        (RefusesBy out.old out.new (stream E.contents err.old err.new) result) }
+    ensures unread { ¬ NamesNoFile (map string_bytes words.now) → input.new ≡ input.old }
     ensures later { IsLater out.old out.new }
     ensures err_later { IsLater err.old err.new }
     ensures silent { result ≢ Outcome.Failed → err.new ≡ err.old }
@@ -247,12 +167,13 @@ fn run_within<R: Files, A: Allocator + Copy, I: Read, W: Write, E: Write>(
     requires fault { fault_of input.old ≡ None }
     requires least { 1 ≤ n }
     requires most { n ≤ 65536 }
-    ensures limit { length words.now ≡ 2
+    ensures line { length words.now ≡ 2
         → Says (stream W.contents out.old out.new) (stream E.contents err.old err.new) result
         (ReportsReader I.remaining n (LosesFront n) input.old input.new (codes "-")) }
-    ensures limit_each { length words.now ≢ 2 → (input.new ≡ input.old)
-        × Says (stream W.contents out.old out.new) (stream E.contents err.old err.new) result
+    ensures each { length words.now ≢ 2
+        → Says (stream W.contents out.old out.new) (stream E.contents err.old err.new) result
         (ReportsEach n (drop 2 (map string_bytes words.now))) }
+    ensures unread { length words.now ≢ 2 → input.new ≡ input.old }
     ensures later { IsLater out.old out.new }
     ensures err_later { IsLater err.old err.new }
     ensures silent { result ≢ Outcome.Failed → err.new ≡ err.old }

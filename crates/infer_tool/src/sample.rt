@@ -7,7 +7,7 @@ ghost use Rattle.infer.specs.Questions.{HasExtension};
 ghost use Rattle.infer.specs.Table.{table};
 ghost use Rattle.infer.specs.Triple.{triple_of};
 ghost use Rattle.infer_tool.specs.Line.{no_sample_line};
-ghost use Rattle.infer_tool.specs.Report.{Says, Tells, stream};
+ghost use Rattle.infer_tool.specs.Report.{RefusesBy, Says, Tells, stream};
 ghost use Rattle.infer_tool.specs.Sample.{HasSample, WritesSample};
 ghost use Rattle.infer_tool.specs.Writer.{IsLater, has_failed, inner};
 
@@ -27,9 +27,9 @@ pub fn run_sample<W: Write, E: Write>(
     ensures sample { (i : ℕ) → HasSample extension.now i
         → Says (stream W.contents out.old out.new) (stream E.contents err.old err.new) result
         (WritesSample i) }
-    ensures none { ((i : ℕ) → ¬ HasSample extension.now i) → (result ≡ Outcome.Failed)
-        × (out.new ≡ out.old)
-        × Tells (stream E.contents err.old err.new) (no_sample_line extension.now) }
+    ensures none { ((i : ℕ) → ¬ HasSample extension.now i)
+        → RefusesBy out.old out.new (stream E.contents err.old err.new) result
+        (no_sample_line extension.now) }
     ensures later { IsLater out.old out.new }
     ensures err_later { IsLater err.old err.new }
     ensures silent { result ≢ Outcome.Failed → err.new ≡ err.old }

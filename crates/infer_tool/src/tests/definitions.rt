@@ -136,17 +136,17 @@ fn written(rt: HostRuntime) -> Result<(), Fail> {
     let told = writing! {
         &rt;
         &["--sample", "png"] =>
-        "WritesSample" run_lines, b"\x89PNG", b"\x89PNG\n";
+        "Runs WritesSample" run_lines, b"\x89PNG", b"\x89PNG\n";
         &[] =>
         "ReportsReader" run_lines, b"-: image/jpeg jpg\n", b"-: image/png png\n";
         &["none"] =>
-        "ReportsEach" run_lines, b"none: cannot open\n", b"one: cannot open\n";
+        "Runs ReportsEach" run_lines, b"none: cannot open\n", b"one: cannot open\n";
         &["--sample"] =>
         "Refuses usage_line" run_lines, b"usage: infer_tool [--front N] [PATH ..] or --sample EXT\n", b"usage: infer_tool\n";
         &["--front", "+1"] =>
         "Refuses limits_line" run_lines, b"front must be 1 to 65536\n", b"front must be 1 to 65536";
         &["--sample", "dll"] =>
-        "no_sample_line" run_lines, b"dll: no sample\n", b"dll: no sample";
+        "Refuses no_sample_line" run_lines, b"dll: no sample\n", b"dll: no sample";
         &[] =>
         "SaysThrough" run_lines, b"-: image/jpeg jpg\n", b"-: image/jpeg jpg";
     };
@@ -163,11 +163,11 @@ fn watched(rt: HostRuntime) -> Result<(), Fail> {
         &[], lines =>
         "Says" run_watched, b"-: unknown\n", b"-: unknown";
         &["--sample", "dll"], faults =>
-        "Tells" run_watched, b"dll: no sample\n", b"dll: no sample";
+        "RefusesBy Tells" run_watched, b"dll: no sample\n", b"dll: no sample";
         &["--front", "4"], left =>
-        "LosesFront" run_watched, b"ef", b"f";
+        "Runs LosesFront" run_watched, b"ef", b"f";
         &[], left =>
-        "LosesUntilFinal" run_watched, b"", b"f";
+        "Runs LosesUntilFinal" run_watched, b"", b"f";
     };
     for (name, has, lacks) in told {
         assert!(rt; has && !lacks, "{name}");

@@ -1,7 +1,7 @@
-use Rattle.infer_tool.proofs.Common.{codes, rules, ◌∙◌, LosesFront, LosesUntilFinal, Says, SaysThrough, Saying, stream, has_failed, inner}
+use Rattle.infer_tool.proofs.Common.{List, ℕ, codes, rules, ◌∙◌, Refuses, RefusesBy, LosesFront, LosesUntilFinal, Says, SaysThrough, Saying, stream, has_failed, inner}
 use Rattle.std.specs.Io.Buffered.{line_writer_contents, writer_contents}
 use Rattle.infer.specs.declared.read.head.TheConstants.{FRONT}
-use Rattle.infer_tool.proofs.LinesLemmas.{reader_moves, said_through, sample_moves}
+use Rattle.infer_tool.proofs.LinesLemmas.{reader_moves, refused_is_said, refuses_moves, said_through, sample_moves}
 use Rattle.infer_tool.proofs.RunLemmas.{Moves, each_moves}
 use Rattle.infer_tool.proofs.lines.run_lines.Given as given
 use Rattle.infer_tool.proofs.lines.run_lines.Goals as goal
@@ -24,19 +24,29 @@ through g c Said moves said =
     (rw c.new-err.ensures.writer c.in_ok-faults.ensures.bytes) (search rules) (λ f. c.writer_of-2.ensures.failed (c.has_failed-err_failed.ensures ∙ f))
     said
 
-pub returns-clause-line : goal.returns-clause-line
-returns-clause-line g c = λ none.
-    through g c _ (reader_moves g.I.Read.remaining FRONT LosesUntilFinal c.args.input.now c.run_watched-outcome.new.input (codes "-")) (c.run_watched-outcome.ensures.line none)
+-- a line that refuses wrong words went to them
+refused : (g : given.Over) (c : goal.After-failed_if g) (refusal : List ℕ)
+    → RefusesBy c.new-out.result c.run_watched-outcome.new.out (stream (line_writer_contents (writer_contents g.E.Write.contents)) c.new-err.result c.run_watched-outcome.new.err)
+    c.run_watched-outcome.result refusal
+    → SaysThrough g.W.Write.contents g.E.Write.contents c.args.out c.args.err (c.failed_if.result, (c.writer_of.result, c.writer_of-2.result)) (Refuses refusal)
+refused g c refusal this = through g c (Refuses refusal) (refuses_moves refusal)
+    (refused_is_said (line_writer_contents (writer_contents g.W.Write.contents)) _ _ _ _ refusal this)
 
-pub returns-clause-each : goal.returns-clause-each
-returns-clause-each g c = λ some plain every. through g c _ (each_moves _ _) (c.run_watched-outcome.ensures.each some plain every)
-
-pub returns-clause-sample : goal.returns-clause-sample
-returns-clause-sample g c = λ asks two i has. through g c _ (sample_moves i) (c.run_watched-outcome.ensures.sample asks two i has)
-
-pub returns-clause-limit : goal.returns-clause-limit
-returns-clause-limit g c = λ asks n limit two.
-    through g c _ (reader_moves g.I.Read.remaining n (LosesFront n) c.args.input.now c.run_watched-outcome.new.input (codes "-")) (c.run_watched-outcome.ensures.limit asks n limit two)
-
-pub returns-clause-limit_each : goal.returns-clause-limit_each
-returns-clause-limit_each g c = λ asks n limit more. through g c _ (each_moves _ _) (c.run_watched-outcome.ensures.limit_each asks n limit more).1
+pub returns-clause-said : goal.returns-clause-said
+returns-clause-said g c =
+    let runs = c.run_watched-outcome.ensures.said in
+    record {
+      line = λ none. through g c _ (reader_moves g.I.Read.remaining FRONT LosesUntilFinal c.args.input.now c.run_watched-outcome.new.input (codes "-")) (runs.line none);
+      each = λ some plain every. through g c _ (each_moves _ _) (runs.each some plain every);
+      sample = λ asks. let samples = runs.sample asks in record {
+        sample = λ two i has. through g c _ (sample_moves i) (samples.sample two i has);
+        no_sample = λ two none. refused g c _ (samples.no_sample two none);
+        usage = λ more. refused g c _ (samples.usage more);
+      };
+      front = λ asks. let fronts = runs.front asks in record {
+        line = λ n limit two. through g c _ (reader_moves g.I.Read.remaining n (LosesFront n) c.args.input.now c.run_watched-outcome.new.input (codes "-")) (fronts.line n limit two);
+        each = λ n limit more. through g c _ (each_moves _ _) (fronts.each n limit more);
+        no_limit = λ two none. refused g c _ (fronts.no_limit two none);
+        usage = λ few. refused g c _ (fronts.usage few);
+      };
+    }
