@@ -42,7 +42,7 @@ def with_lists(code, allowed):
     arm_of, of_arm = arms(allowed)
     in_sixteens = [" ".join(f"{it:5}" for it in arm_of[at : at + 16]).rstrip() for at in range(0, 256, 16)]
     code = between(code, "pub enum Arm {", "}", [f"    {it}," for it in of_arm])
-    code = between(code, "static ARMS: [Arm; 256] = arms![", "];", [f"    {it}" for it in in_sixteens])
+    code = between(code, "        $with![", "        ]", [f"            {it}" for it in in_sixteens])
     lists = [f"            {name} ({listed(rows)})" for name, rows in of_arm.items()]
     code = between(code, "$with! { [$($more)*]", "        }", lists)
-    return re.sub(r"(?<=static CANDIDATES: \[&\[usize\]; )\d+", str(len(of_arm)), code)
+    return re.sub(r"(?<=pub const ARM_COUNT: usize = )\d+", str(len(of_arm)), code)

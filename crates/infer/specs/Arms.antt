@@ -3,8 +3,8 @@ use Rattle.std.specs.Prelude.{ℕ, List, []}
 use Rattle.std.specs.List.{slice_get}
 use Rattle.std.specs.Option.{option_map_or}
 use denote.Enum.Declared.{tag_of}
-use Rattle.infer.specs.contracts.candidates.dispatch.Arm as arm_type
-use Rattle.infer.specs.declared.candidates.dispatch.Arm.{Arm}
+use Rattle.infer.specs.contracts.candidates.arms.Arm as arm_type
+use Rattle.infer.specs.declared.candidates.arms.Arm.{Arm}
 use Rattle.infer.specs.declared.candidates.dispatch.TheConstants.{CANDIDATES}
 
 abbrev pub rows_of : Arm → List ℕ

@@ -7,8 +7,8 @@ use Rattle.infer.specs.Samples.{put, zeros}
 use Rattle.infer.specs.Table.{signature_of}
 use Rattle.infer.specs.Triple.{triple_of}
 use Rattle.infer.specs.contracts.table.rows.RowName as row_name
-use Rattle.infer.specs.declared.table.rows.BuiltInRow.{BuiltInRow}
-use Rattle.infer.specs.declared.table.rows.Pieces.{Pieces}
+use Rattle.infer.specs.declared.table.built_in.BuiltInRow.{BuiltInRow}
+use Rattle.infer.specs.declared.table.built_in.Pieces.{Pieces}
 use Rattle.infer.specs.declared.table.rows.RowName.{RowName}
 use Rattle.infer.specs.declared.samples.TheConstants.{SAMPLE_SIZE}
 

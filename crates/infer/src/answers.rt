@@ -10,10 +10,11 @@ ghost use Rattle.infer.specs.Triple.{triple_of};
 ghost use Rattle.infer.specs.Walks.{RowHas, Takes};
 
 use crate::ask::class::Class;
-use crate::ask::question::{Every, OfClass, Question, is_asked, takes_named};
+use crate::ask::question::{Every, OfClass, Question, is_asked, takes_row};
 use crate::candidates::dispatch::{arm_of, blank, first_of, first_of_class, leads};
+use crate::table::built_in::rows;
 use crate::table::file_type::FileType;
-use crate::table::rows::{ROW_COUNT, RowName, rows};
+use crate::table::rows::{ROW_COUNT, RowName};
 use std::marker::PhantomData;
 
 /// The number of the first built-in row that accepts `buf`, and `None` exactly if no row accepts it. Only the candidates
@@ -66,7 +67,7 @@ pub fn some<Q: Question + Copy>(rows: &[RowName], question: Q, buf: &[u8]) -> bo
     ensures { IsTrue result ↔ SomeBoth (IsAsked (Q.asked question)) (Accepts buf.now) table }
 {
     if let [row] = rows {
-        return takes_named(*row, &question, buf);
+        return takes_row(*row, &question, buf);
     }
     some_among(rows, question, buf)
 }
@@ -80,7 +81,7 @@ fn some_among<Q: Question + Copy>(rows: &[RowName], question: Q, buf: &[u8]) -> 
     let takes = |row: &RowName| -> bool
         ensures { IsTrue result
             ↔ RowHas (Takes (Q.asked question) buf.entry.now) (number_of row.now) }
-    { takes_named(*row, &question, buf) };
+    { takes_row(*row, &question, buf) };
     rows.iter().any(takes)
 }
 

@@ -9,7 +9,8 @@ ghost use Rattle.infer.specs.Table.{table};
 ghost use Rattle.infer.specs.declared.samples.TheConstants.{SAMPLE_SIZE};
 
 use crate::laws;
-use crate::table::rows::{DLL, EPUB_ARCHIVE, Pieces, ROW_COUNT, samples};
+use crate::table::built_in::{Pieces, samples};
+use crate::table::rows::{DLL, EPUB_ARCHIVE, ROW_COUNT};
 
 /// The length of the longest sample.
 pub const SAMPLE_SIZE: usize = 640;

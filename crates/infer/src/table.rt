@@ -1,3 +1,5 @@
 //! The built-in rows: what is known of each, by its name.
+pub mod built_in;
 pub mod file_type;
 pub mod rows;
+pub mod slots;

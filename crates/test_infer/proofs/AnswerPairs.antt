@@ -36,7 +36,7 @@ use Rattle.infer.specs.Walks.{HasGiven, IsFirstAmong, Takes, asked_rows, count_a
 use Rattle.infer.specs.Watched.{IsDue, Loses, fault_of, inner}
 use Rattle.infer.specs.declared.caller.custom.CustomRow.{CustomRow}
 use Rattle.infer.specs.declared.caller.infer.Infer.{Infer}
-use Rattle.infer.specs.declared.candidates.dispatch.Arm.TheVariants.{B4D, B4E}
+use Rattle.infer.specs.declared.candidates.arms.Arm.TheVariants.{B4D, B4E}
 use Rattle.infer.specs.declared.read.fault.Fault.TheVariants.{Memory, Open, Read}
 use Rattle.infer.specs.declared.read.watched.Watched.{Watched}
 use Rattle.infer.specs.declared.table.file_type.FileType.{FileType}

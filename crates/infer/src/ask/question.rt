@@ -7,8 +7,9 @@ ghost use Rattle.infer.specs.Triple.{Triple, triple_of};
 ghost use Rattle.infer.specs.Walks.{RowHas, Takes};
 
 use crate::ask::class::Class;
+use crate::table::built_in::{accepts_row, name_at, row_of, rows};
 use crate::table::file_type::FileType;
-use crate::table::rows::{ROW_COUNT, RowName, accepts_named, name_at, row_named, rows};
+use crate::table::rows::{ROW_COUNT, RowName};
 use std::marker::PhantomData;
 
 /// A question, which is known by its type, so that code is made for each.
@@ -90,7 +91,7 @@ pub fn accepts_at(i: usize, buf: &[u8]) -> bool
     requires { i < ROW_COUNT }
     ensures { IsTrue result ↔ RowHas (Accepts buf.now) i }
 {
-    accepts_named(name_at(i), buf)
+    accepts_row(name_at(i), buf)
 }
 
 /// Whether row `i` is one that the question asks for.
@@ -118,8 +119,8 @@ pub fn takes<Q: Question>(i: usize, question: &Q, buf: &[u8]) -> bool
 /// Whether the row is one that the question asks for, and accepts `buf`.
 #[tactic(auto, unfolding(crate::specs::Table::signature_of))]
 #[inline(always)]
-pub fn takes_named<Q: Question>(row: RowName, question: &Q, buf: &[u8]) -> bool
+pub fn takes_row<Q: Question>(row: RowName, question: &Q, buf: &[u8]) -> bool
     ensures { IsTrue result ↔ RowHas (Takes (Q.asked question.now) buf.now) (number_of row) }
 {
-    question.asks_for(&row_named(row).file_type) && accepts_named(row, buf)
+    question.asks_for(&row_of(row).file_type) && accepts_row(row, buf)
 }

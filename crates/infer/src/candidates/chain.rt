@@ -65,7 +65,7 @@ pub struct Markup;
 
 /// A chain as a function of its own.
 #[derive(Drop)]
-pub struct Whole<C>(pub C);
+pub struct Outlined<C>(pub C);
 
 impl Chain for End {
     ghost rows = { λ _. [] };
@@ -161,7 +161,7 @@ impl Shared<{ HTML }, { XML }> for Markup {
     }
 }
 
-impl<C: Chain> Chain for Whole<C> {
+impl<C: Chain> Chain for Outlined<C> {
     ghost rows = { λ s. C.rows s.0 };
 
     #[inline(never)]
@@ -170,7 +170,7 @@ impl<C: Chain> Chain for Whole<C> {
     }
 }
 
-impl<C: Chain> Whole<C> {
+impl<C: Chain> Outlined<C> {
     /// The number of the first row, as [`Chain::first`] answers, and [`NO_ROW`] for none. A number takes one register.
     #[tactic(auto, using(crate::proofs::CandidateLemmas::first_is_row, crate::proofs::CandidateLemmas::numbered_row))]
     #[inline(never)]
@@ -189,7 +189,7 @@ impl<C: Chain> Whole<C> {
 pub trait Told {
     ghost told: { Self → Option ℕ };
 
-    fn of<C: Chain, Q: Question>(chain: &Whole<C>, question: &Q, buf: &[u8]) -> Self
+    fn of<C: Chain, Q: Question>(chain: &Outlined<C>, question: &Q, buf: &[u8]) -> Self
         ensures { IsFirstAmong (RowHas (Takes (Q.asked question.now) buf.now)) (C.rows chain.now.0)
             (told result) };
 }
@@ -198,7 +198,7 @@ impl Told for Option<usize> {
     ghost told = { λ row. row };
 
     #[inline(always)]
-    fn of<C: Chain, Q: Question>(chain: &Whole<C>, question: &Q, buf: &[u8]) -> Option<usize> {
+    fn of<C: Chain, Q: Question>(chain: &Outlined<C>, question: &Q, buf: &[u8]) -> Option<usize> {
         chain.first(question, buf)
     }
 }
@@ -208,7 +208,7 @@ impl Told for u32 {
     ghost told = { row_numbered };
 
     #[inline(always)]
-    fn of<C: Chain, Q: Question>(chain: &Whole<C>, question: &Q, buf: &[u8]) -> u32 {
+    fn of<C: Chain, Q: Question>(chain: &Outlined<C>, question: &Q, buf: &[u8]) -> u32 {
         chain.number(question, buf)
     }
 }

@@ -3,7 +3,8 @@ ghost use Rattle.std.specs.Prelude.{◌≡◌, ◌<◌, map};
 ghost use Rattle.infer.specs.Listed.{number_of};
 ghost use Rattle.infer.specs.Slots.{HoldAsked, slot_of};
 
-use crate::table::rows::{RowName, extensions, mime_types};
+use crate::table::rows::RowName;
+use crate::table::slots::{extensions, mime_types};
 
 /// Rows, ascending, among which are all with this extension.
 #[tactic(auto, using(crate::proofs::SlotLemmas::asked_in_slot))]

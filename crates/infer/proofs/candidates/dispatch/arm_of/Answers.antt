@@ -1,6 +1,6 @@
 use Rattle.infer.proofs.Common.{ℕ, Bool, ◌∙◌, ap, get_or, refl, arith, get_or_default, bytes_eq, bytes_eq-Decides, candidates, table}
 use Rattle.infer.specs.Arms.{rows_of}
-use Rattle.infer.specs.declared.candidates.dispatch.Arm.TheVariants.{Other}
+use Rattle.infer.specs.declared.candidates.arms.Arm.TheVariants.{Other}
 use Rattle.infer.specs.declared.candidates.dispatch.TheConstants.{ARMS}
 use Rattle.infer.proofs.TestLemmas.{NoneRefused, passed}
 use Rattle.infer.proofs.candidates.dispatch.arm_of.Goals as goal

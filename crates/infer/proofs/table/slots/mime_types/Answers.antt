@@ -1,7 +1,7 @@
 use Rattle.infer.proofs.Common.{mime_type_of, map, number_of, refl, rows_in, table}
 use Rattle.infer.proofs.SlotLemmas.{slots_listed}
-use Rattle.infer.specs.declared.table.rows.TheConstants.{BY_MIME_TYPE}
-use Rattle.infer.proofs.table.rows.mime_types.Goals as goal
+use Rattle.infer.specs.declared.table.slots.TheConstants.{BY_MIME_TYPE}
+use Rattle.infer.proofs.table.slots.mime_types.Goals as goal
 
 -- a check that fails shows the slots whose rows are others
 pub returns : goal.returns

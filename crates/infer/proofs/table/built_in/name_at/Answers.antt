@@ -3,8 +3,8 @@ use Rattle.std.proofs.Common.{zero-add}
 use Rattle.std.specs.List.{range_with_len}
 use Rattle.std.proofs.lemmas.List.{get_or-map}
 use Rattle.std.proofs.lemmas.List.FromFn.{get_or-range_with_len}
-use Rattle.infer.specs.declared.table.rows.TheConstants.{NAMES}
-use Rattle.infer.proofs.table.rows.name_at.Goals as goal
+use Rattle.infer.specs.declared.table.built_in.TheConstants.{NAMES}
+use Rattle.infer.proofs.table.built_in.name_at.Goals as goal
 
 ascending : map number_of NAMES ≡ range_with_len 0 ROW_COUNT
 ascending = refl
