@@ -1,7 +1,7 @@
 -- The answers of an `Infer` without rows of a caller are those of the built-in rows.
 use Rattle.infer.proofs.Common.{arith, ◌≡◌, ℕ, List, [], ◌++◌, Option, map, Result, Ok, Err, refl, subst, Contracts, Fault, FileType, inner, IsAnswer, AnswersAsBuiltIn, Accepts, AnyAccepts, custom_rows, kept_row, rows, table, Triple}
 use Rattle.std.specs.declared.io.Error.{Error}
-use Rattle.infer.specs.Reading.{AnswersOpened, AnswersReader}
+use Rattle.infer.specs.Reading.{AnswersOpened}
 use Rattle.infer.specs.declared.caller.infer.Infer.{Infer}
 use Rattle.infer.specs.declared.read.watched.Watched.{Watched}
 use Rattle.infer.proofs.RowLemmas.{answer_from_map}

@@ -1,5 +1,5 @@
 -- What is said of a buffer is said of the writer below it, which got the buffer's bytes.
-use Rattle.infer_tool.proofs.Common.{Appends, OnFalse, Failed, Refuses, RefusesBy, Says, Stream, Tells, stream, inner, has_failed, subst, sym, ◌≡◌, ℕ, Bool, true, false, List, Option, None, Some, IfSome, ap, refl, ◌∙◌, is_none, option_and_then, Keeps, outcome_after, ReportsReader, Saying, SaysThrough, unless_failed, WritesSample, Outcome}
+use Rattle.infer_tool.proofs.Common.{Appends, OnFalse, Failed, Refuses, RefusesBy, Says, Stream, stream, inner, has_failed, subst, sym, ◌≡◌, ℕ, Bool, true, false, List, Option, None, Some, IfSome, ap, refl, ◌∙◌, is_none, option_and_then, Keeps, outcome_after, ReportsReader, Saying, SaysThrough, unless_failed, WritesSample, Outcome}
 use Rattle.infer.specs.declared.read.watched.Watched.{Watched}
 use Rattle.infer_tool.specs.declared.writer.WatchedWriter.{WatchedWriter}
 use Rattle.infer_tool.proofs.RunLemmas.{Moved, Moves, appends-moved, keeps-moved, keeps_unless_failed}

@@ -43,7 +43,7 @@ second_pair = (refl, λ e. omega (arith, ap length e))
 -- one word that is no option
 no_input : AsksForInput (codes "a" ∷ []) → ⊥
 no_input (inl none) = absurd (cc)
-no_input (inr (asks, two, limit)) = omega (arith, two)
+no_input (inr (asks, names)) = omega (arith, names.0)
 
 pub AsksForInput_pair : AsksForInput [] × (¬ AsksForInput (codes "a" ∷ []))
 AsksForInput_pair = (inl refl, no_input)
