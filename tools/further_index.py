@@ -96,7 +96,7 @@ class Further(NamedTuple):
 
 def bytes_of(text):
     """The bytes of a literal of Rust, in which \\0 ends before a digit."""
-    return ast.literal_eval(re.sub(r"\\(.)", lambda it: r"\x00" if it[1] == "0" else it[0], text))
+    return ast.literal_eval(re.sub(r"\\(.)", lambda it: r"\x00" if it[1] == "0" else it[0], text.removeprefix("*")))
 
 
 def byte_of(text):

@@ -23,7 +23,7 @@ TEXT = r"""b"(?:[^"\\]|\\[nrt0\\'"]|\\x[0-9A-Fa-f]{2})*\""""
 BYTE = r"""(?:0x[0-9A-Fa-f]{2}|b'(?:[^'\\]|\\[nrt0\\'"]|\\x[0-9A-Fa-f]{2})')"""
 PIECE = rf"(?:(?:At|OneOf)\(\d+, {TEXT}\)|is!\(\d+, {BYTE}\)|Between\(\d+, {BYTE}, {BYTE}\))"
 FIXED = rf"\d+(?:, {PIECE})+"
-VALUE = rf"(?:{TEXT}|&\[{TEXT}(?:, {TEXT})*\]|0x[0-9A-Fa-f]+|bytes!\({FIXED}\))"
+VALUE = rf"(?:\*?{TEXT}|0x[0-9A-Fa-f]+|bytes!\({FIXED}\))"
 ALTERNATIVE = rf"\[(?:{FIXED}|[A-Z]\w*(?:\({VALUE}(?:, {VALUE})*\))?)\]"
 ROW = re.compile(rf' {{4}}(\w+) "([^"]+)" "([^"]+)":(?: (\w+))? =>((?: {ALTERNATIVE})*);')
 FORM = 'CLASS "MIME TYPE" "EXTENSION": PARENT => [LEAST LENGTH, PIECE, ..] [..];'
@@ -70,11 +70,9 @@ def in_code():
 
 def value(code):
     """What a value of the code is in the definitions."""
-    if code.startswith("&["):
-        return tuple(tuple(bytes_of(it)) for it in re.findall(TEXT, code))
     if code.startswith("bytes!"):
         return fixed(code.removeprefix("bytes!("))
-    return tuple(bytes_of(code)) if code.startswith("b") else int(code, 0)
+    return tuple(bytes_of(code)) if code.endswith('"') else int(code, 0)
 
 
 def piece(kind, place, said):
@@ -97,7 +95,8 @@ def alternative(code):
     if code[0].isdigit():
         return fixed(code)
     name, _, takes = code.partition("(")
-    return Call(name.lower(), tuple(value(it) for it in re.findall(VALUE, takes)))
+    found = Call(name.lower(), tuple(value(it) for it in re.findall(VALUE, takes)))
+    return found if name == "BinaryBytes" else Call("related", (found,))
 
 
 @kept
@@ -136,6 +135,8 @@ def told(term):
         return f"{term.takes[0]}: {', '.join(map(told, term.takes[1]))}"
     if isinstance(term, Call) and term.name in ("text", "byte"):
         return f"@{term.takes[0]} {told(term.takes[1])}"
+    if isinstance(term, Call) and term.name == "related":
+        return told(*term.takes)
     if isinstance(term, Call):
         return " ".join([term.name, *map(told, term.takes)])
     if isinstance(term, tuple) and all(isinstance(it, int) for it in term):

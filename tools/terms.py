@@ -80,7 +80,8 @@ class Reader:
             return int(token, 0)
         if token in ENDS:
             raise Unread(token)
-        return Call(token)
+        # A constant has its underscores, and a name none.
+        return Call(token if token.isupper() else token.replace("_", ""))
 
 
 def term_of(text):

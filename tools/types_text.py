@@ -20,7 +20,7 @@ NAMES = {
     "SubRip": lambda it: "first cue of SubRip",
     "Dbase": lambda it: "dBASE header",
     "TarChecksum": lambda it: "tar checksum",
-    "Program": lambda it: f"program: {' '.join(bytes_of(text).decode() for text in re.findall(TEXT_OF_BYTES, it))}",
+    "Program": lambda it: f"program: {bytes_of(it).decode()}",
     "Root": lambda it: f"root: {bytes_of(it).decode()}",
     "RootWith": lambda it: "root: {} with {}".format(bytes_of(texts(it)[0]).decode(), quoted(texts(it)[1])),
     "JsonLines": lambda it: "JSON lines",
@@ -79,8 +79,8 @@ def alternative(inside):
 
 def line(row, parents):
     """The line of a row, by the extensions of the parents' constants."""
-    # What is said of one kind is said once: `root: rss or RDF with ..`.
-    said = " or ".join(map(alternative, row.alternatives))
+    # What is said of one kind is said once: `root: rss or RDF with ..`, `program: python pypy`.
+    said = " or ".join(map(alternative, row.alternatives)).replace(" or program: ", " ")
     for name in ("first entry: ", "class id: ", "root: "):
         said = said.replace(f" or {name}", " or ")
     words = [f"{row.extension:<11}", f"{row.mime_type:<36}", f"{row.group.lower():<7}", f"{parents[row.parent] if row.parent else '-':<6}", said]

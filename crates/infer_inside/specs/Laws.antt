@@ -1,36 +1,19 @@
 -- Laws of the relations.
-use Rattle.std.specs.Prelude.{◌≡◌, ◌⊎◌, ℕ, ◌+◌, ◌<◌, ◌≤◌, List, [], ◌∷◌, ◌++◌, slice_index}
+use Rattle.std.specs.Prelude.{IsTrue, ◌≡◌, ◌⊎◌, ℕ, ◌+◌, ◌<◌, ◌≤◌, List, [], ◌∷◌, ◌++◌, slice_index}
 use Rattle.memchr.specs.Find.{OccursAt}
 use Rattle.infer_deep.specs.Signatures.{Lasts}
-use Rattle.infer_inside.specs.Dbase.{IsDbase}
-use Rattle.infer_inside.specs.Elf.{IsSharedObject}
 use Rattle.infer_inside.specs.Json.{CanBe, IsBlank, IsJson, IsJsonLines, blanks, text}
 use Rattle.infer_inside.specs.JsonStates.{IsBracket}
 use Rattle.infer_inside.specs.Markup.{BeginsElement, HasRoot, HasRootWith, IsRootElement, IsXmlSpace, utf8_mark}
-use Rattle.infer_inside.specs.Png.{IsAnimated}
+use Rattle.infer_inside.specs.Outline.{HasLines}
+use Rattle.infer_inside.specs.Relation.{Fits, Relation, is_lasting}
 use Rattle.infer_inside.specs.Script.{IsProgram}
-use Rattle.infer_inside.specs.Subtitles.{IsSubRip}
-use Rattle.infer_inside.specs.Tar.{HasTarChecksum}
 use Rattle.infer_inside.specs.Text.{IsBinary}
-use Rattle.infer_inside.specs.Tiff.{HasTag}
-use Rattle.infer_inside.specs.Zip.{FirstEntryEndsIn, FirstEntryHasExtra, FirstEntryIs, IsPackageWith}
 
--- what a buffer has it has however it goes on
+-- what a buffer has it has however it goes on: a relation that lasts, and a byte of binary data
 pub record Growth : Type 0 where
-  pub shared_object : Lasts IsSharedObject
-  pub first_entry_is : (name : List ℕ) → Lasts (FirstEntryIs name)
-  pub first_entry_ends_in : (text : List ℕ) → Lasts (FirstEntryEndsIn text)
-  pub first_entry_has_extra : (text : List ℕ) → Lasts (FirstEntryHasExtra text)
-  pub package_with : (folder : List ℕ) → Lasts (IsPackageWith folder)
-  pub tag : (tag : ℕ) → Lasts (HasTag tag)
-  pub animated : Lasts IsAnimated
-  pub subrip : Lasts IsSubRip
-  pub dbase : Lasts IsDbase
-  pub tar_checksum : Lasts HasTarChecksum
+  pub relation : (r : Relation) → IsTrue (is_lasting r) → Lasts (Fits r)
   pub binary : Lasts IsBinary
-  pub program : (name : List ℕ) → Lasts (IsProgram name)
-  pub root : (name : List ℕ) → Lasts (HasRoot name)
-  pub root_with : (name text : List ℕ) → Lasts (HasRootWith name text)
 
 -- from p on stands white space, perhaps none, and then "<"
 abbrev pub OpensBehindSpace : List ℕ → ℕ → Type 0
@@ -57,13 +40,14 @@ abbrev pub HasBracket : List ℕ → Type 0
 HasBracket b = (k : ℕ) × IsBracket (slice_index b k)
 
 -- with what a buffer begins that has a root, and that an element opens in it; one with a text in the tag has the root;
--- and with what JSON begins, and that it has a bracket
+-- with what JSON begins, and that it has a bracket; and with what bytes a buffer that fits a relation
 pub record Leads : Type 0 where
   pub root : (name b : List ℕ) → HasRoot name b → BeginsMarkup b
   pub element : (name b : List ℕ) → HasRoot name b → OpensElement b
   pub json : (b : List ℕ) → IsJson b → BeginsJson b × HasBracket b
   pub json_lines : (b : List ℕ) → IsJsonLines b → BeginsJson b × HasBracket b
   pub root_with : (name text b : List ℕ) → HasRootWith name text b → HasRoot name b
+  pub outline : (r : Relation) (b : List ℕ) → HasLines r b
 
 -- a script names one program, and markup has one root element; and no bytes make one text of JSON of what has "]", a line
 -- end and "[" in it

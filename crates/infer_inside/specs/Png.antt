@@ -1,7 +1,11 @@
 -- PNG images, by their chunks.
-use Rattle.std.specs.Prelude.{ℕ, ◌+◌, ◌≤◌, List, length, codes}
+use Rattle.std.specs.Prelude.{ℕ, ◌+◌, ◌≤◌, List, [], ◌∷◌, length, codes}
 use Rattle.memchr.specs.Find.{OccursAt}
 use Rattle.infer_deep.specs.Numbers.{be32}
+
+-- what a PNG image begins with
+abbrev pub png_header : List ℕ
+png_header = 0x89 ∷ 0x50 ∷ 0x4E ∷ 0x47 ∷ []
 
 -- the chunk at c has the type "acTL"; or it hasn't the type "IDAT", and one after it, reached by its length, has
 -- "acTL" before any has "IDAT"

@@ -9,6 +9,7 @@ pub mod laws;
 pub mod markup;
 mod numbers;
 pub mod png;
+pub mod relation;
 mod runs;
 pub mod script;
 mod search;

@@ -7,8 +7,8 @@ ghost use Rattle.infer_inside.specs.Script.{EndsBare, IsBlank, IsEnv, IsFolder, 
 mod open;
 
 use infer_deep::places::{has_at, same_at};
-use open::has_equals;
 pub use open::may_become_program;
+use open::{has_equals, is_same};
 
 /// A word of the first line: where it begins and ends, where its name begins, and whether it has "=".
 #[derive(Clone, Copy)]
@@ -35,6 +35,16 @@ pub fn program(buf: &[u8]) -> Option<&[u8]>
         return None;
     }
     Some(bare_name(buf, program_word(buf)?))
+}
+
+/// Whether a script names this program.
+pub fn is_program(buf: &[u8], name: &[u8]) -> bool
+    ensures { IsTrue result ↔ IsProgram name.now buf.now }
+{
+    match program(buf) {
+        Some(named) => is_same(named, name),
+        None => false,
+    }
 }
 
 /// The name of the program, which the word names.

@@ -1,5 +1,5 @@
 -- What an alternative accepts, its signature does.
-use Rattle.infer_more.proofs.Common.{◌≡◌, ℕ, zero, suc, ◌+◌, ◌<◌, ◌≤◌, ◌⊎◌, inl, inr, List, [], ◌∷◌, length, get_or, map, take, subst, sym, arith, ◌≢◌, ◌↔◌, cases_lt, Bor, IsProgram, FitsAt, signature_listed, Accepted, IsProgramAmong, IsOneOf}
+use Rattle.infer_more.proofs.Common.{◌≡◌, ℕ, zero, suc, ◌+◌, ◌<◌, ◌≤◌, ◌⊎◌, inl, inr, List, [], ◌∷◌, length, get_or, map, take, subst, sym, arith, ◌≢◌, ◌↔◌, cases_lt, FitsAt, signature_listed, Accepted}
 use Rattle.infer_more.specs.declared.signature.Alternative.{Alternative}
 
 module _ (b : List ℕ) where
@@ -45,40 +45,3 @@ module _ (b : List ℕ) where
       ]
     ]
   ]
-
--- a name is among names, as the code and the definition list them
-module _ (name : List ℕ) where
-  abbrev Among : List (Bor (List ℕ)) → Type 0
-  Among xs = IsOneOf name (map (λ x. x.now) xs)
-
-  pub among_at : (xs : List (Bor (List ℕ))) (k : ℕ) (d : Bor (List ℕ)) → k < length xs → name ≡ (get_or xs k d).now → Among xs
-  among_at [] k d lt e = absurd (omega arith)
-  among_at (x ∷ xs) zero d lt e = inl e
-  among_at (x ∷ xs) (suc k) d lt e = inr (among_at xs k d (omega arith) e)
-
-  pub no_name_more : (xs : List (Bor (List ℕ))) (k : ℕ) (d : Bor (List ℕ)) → k < length xs → ¬ Among (take k xs) → name ≢ (get_or xs k d).now
-      → ¬ Among (take (k + 1) xs)
-  no_name_more [] k d lt before here = absurd (omega arith)
-  no_name_more (x ∷ xs) zero d lt before here = λ h. elim h [ inl e ↦ here e | inr f ↦ f ]
-  no_name_more (x ∷ xs) (suc k) d lt before here =
-      let e : suc k + 1 ≡ suc (k + 1) = omega arith in
-      rw e (λ h. elim h [
-        | inl f ↦ before (inl f)
-        | inr f ↦ no_name_more xs k d (omega arith) (λ a. before (inr a)) here f
-      ])
-
--- the program's name is one of the names
-module _ (b : List ℕ) where
-  pub among_programs : (name : List ℕ) → IsProgram name b → ((n : List ℕ) → IsProgram n b → n ≡ name) → (ns : List (List ℕ))
-      → IsOneOf name ns ↔ IsProgramAmong ns b
-  among_programs name is only [] = (λ h. h, λ h. h)
-  among_programs name is only (n ∷ ns) =
-      let rest = among_programs name is only ns in (
-        λ h. elim h [ inl e ↦ inl (subst (λ m. IsProgram m b) e is) | inr r ↦ inr (rest.0 r) ],
-        λ h. elim h [ inl p ↦ inl (sym (only n p)) | inr r ↦ inr (rest.1 r) ],
-      )
-
-  pub none_among : ((n : List ℕ) → ¬ IsProgram n b) → (ns : List (List ℕ)) → ¬ IsProgramAmong ns b
-  none_among none [] h = h
-  none_among none (n ∷ ns) (inl p) = none n p
-  none_among none (n ∷ ns) (inr r) = none_among none ns r

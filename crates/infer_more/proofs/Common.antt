@@ -59,11 +59,12 @@ unfoldable pub use Rattle.infer_inside.specs.Tar.{header_sum}
 pub use Rattle.infer_inside.specs.Tar.{IsOctal}
 pub use Rattle.infer_inside.specs.Text.{IsBinary, IsText}
 pub use Rattle.infer_inside.specs.Zip.{HasFirstName, IsOneOf, IsPackageWith, applications}
-pub use Rattle.infer_notation.specs.Alternative.{Accepted, Fits, IsProgramAmong, animated, binary_bytes, bytes}
-pub use Rattle.infer_notation.specs.Alternative.{class_id, dbase, directory_tag, first_entry_ends_in}
-pub use Rattle.infer_notation.specs.Alternative.{first_entry_has_extra, first_entry_is, json_lines, json_text}
-pub use Rattle.infer_notation.specs.Alternative.{package_with, plain_text, png_header, program, root, root_with}
-pub use Rattle.infer_notation.specs.Alternative.{shared_object, subrip, tar_checksum}
+pub use Rattle.infer_notation.specs.Alternative.{Accepted, Fits, binary_bytes, bytes, related}
+pub use Rattle.infer_inside.specs.Png.{png_header}
+pub use Rattle.infer_inside.specs.Relation.{animated, class_id, dbase, directory_tag, first_entry_ends_in}
+pub use Rattle.infer_inside.specs.Relation.{first_entry_has_extra, first_entry_is, json_lines, json_text, package_with}
+pub use Rattle.infer_inside.specs.Relation.{plain_text, program, relation_listed, root, root_with, shared_object, subrip}
+pub use Rattle.infer_inside.specs.Relation.{tar_checksum}
 unfoldable pub use Rattle.infer_notation.specs.Signature.{signature_of}
 pub use Rattle.infer_notation.specs.Words.{behind_blanks}
 pub use Rattle.infer_sig.proofs.PlaceLemmas.{stands_from_occurs}

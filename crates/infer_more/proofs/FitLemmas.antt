@@ -1,6 +1,6 @@
 -- What a computation says of whether a buffer fits an alternative: that it does, as the sample of one does, by places that
 -- are tried; or that it does not, by its outline.
-use Rattle.infer_more.proofs.Common.{◌≡◌, ◌≢◌, ◌⊎◌, ◌≤◌, inl, inr, ℕ, zero, suc, ◌+◌, ◌-◌, ◌<◌, Bool, true, false, IsTrue, List, [], ◌∷◌, None, codes, drop, length, nat_le, refl, subst, sym, arith, ◌&&◌, ◌||◌, ◌==◌, if◌then◌else◌, not, slice_index, list_any, cases_lt, nat_tests, OccursAt, be32, le16, le32, zip_header, HasBracket, CanBe, IsJson, IsJsonLines, Stands, BeginsElement, HasRoot, IsRootElement, IsXmlSpace, be16, here, IsProgram, IsDigit, IsSubRip, IsOctal, header_sum, IsBinary, IsText, HasFirstName, IsPackageWith, accepts, fits, Known, proved, refuted, at_most, both, either, negated, proved_if, refuted_if, needs, takes, ◌>>◌, ByPlace, occurs, is_plain, lines, Accepted, Fits, IsProgramAmong, animated, binary_bytes, bytes, class_id, dbase, directory_tag, first_entry_ends_in, first_entry_has_extra, first_entry_is, package_with, plain_text, png_header, shared_object, subrip, tar_checksum, program, root, root_with, json_lines, json_text}
+use Rattle.infer_more.proofs.Common.{◌≡◌, ◌≢◌, ◌⊎◌, ◌≤◌, inl, inr, ℕ, zero, suc, ◌+◌, ◌-◌, ◌<◌, Bool, true, false, IsTrue, List, [], ◌∷◌, None, codes, drop, length, nat_le, refl, subst, sym, arith, ◌&&◌, ◌||◌, ◌==◌, if◌then◌else◌, not, slice_index, list_any, cases_lt, nat_tests, OccursAt, be32, le16, le32, zip_header, HasBracket, CanBe, IsJson, IsJsonLines, Stands, BeginsElement, HasRoot, IsRootElement, IsXmlSpace, be16, here, IsProgram, IsDigit, IsSubRip, IsOctal, header_sum, IsBinary, IsText, HasFirstName, IsPackageWith, accepts, fits, Known, proved, refuted, at_most, both, either, negated, proved_if, refuted_if, needs, takes, ◌>>◌, ByPlace, occurs, is_plain, lines, Accepted, Fits, related, animated, binary_bytes, bytes, class_id, dbase, directory_tag, first_entry_ends_in, first_entry_has_extra, first_entry_is, package_with, plain_text, png_header, shared_object, subrip, tar_checksum, program, root, root_with, json_lines, json_text}
 use Rattle.std.proofs.Common.{◌*◌, get_or-drop}
 use Rattle.std.specs.Prelude.{slice_range}
 use Rattle.infer_inside.specs.Dbase.{IsDbase, behind, versions}
@@ -429,10 +429,6 @@ module _ (by_place : ByPlace) (inside : Inside.Leads) (single : Inside.Single) (
     equal ← needs (same_text name (slice_range b 2 line_end)) (λ is. single.program b name (slice_range b 2 line_end) is own)
     proved (subst (λ n. IsProgram n b) (sym equal) own)
 
-  abbrev named : (names : List (List ℕ)) → Known (IsProgramAmong names b)
-  named [] = refuted (λ h. h)
-  named (name ∷ names) = either (named_so name) (named names)
-
   -- an instruction or a comment stands first
   abbrev enclosed : (opening closing : List ℕ) (q : ℕ) → Known (IsEnclosed b opening closing 0 q)
   enclosed opening closing q = do
@@ -528,52 +524,52 @@ module _ (by_place : ByPlace) (inside : Inside.Leads) (single : Inside.Single) (
   abbrev fitting : (a : Alternative) → Known (Fits a b)
   fitting (bytes a) = is (fits b a)
   fitting (binary_bytes a) = both (is (fits b a)) (proved_if (list_any is_data b) (has_data b))
-  fitting shared_object = shared
-  fitting (first_entry_is name) = do
+  fitting (related shared_object) = shared
+  fitting (related (first_entry_is name)) = do
     entry ← takes first_name
     long ← takes (same (le16 b 26) (length name))
     stands ← takes (occurs by_place name b 30)
     proved (entry, long, stands)
-  fitting (first_entry_ends_in text) = do
+  fitting (related (first_entry_ends_in text)) = do
     name ← takes first_name
     long ← needs (at_most (length text) (le16 b 26)) (λ h. h.1)
     ends ← needs (occurs by_place text b (30 + le16 b 26 - length text)) (λ h. h.2)
     proved (name, long, ends)
-  fitting (first_entry_has_extra text) = do
+  fitting (related (first_entry_has_extra text)) = do
     name ← takes first_name
     long ← takes (at_most (length text) (le16 b 28))
     stands ← takes (occurs by_place text b (30 + le16 b 26))
     proved (name, long, stands)
-  fitting (package_with folder) = packed folder
-  fitting (class_id id) = known_class by_place b id
-  fitting (directory_tag tag) = tagged tag
-  fitting animated = both (occurs by_place png_header b 0) (do
+  fitting (related (package_with folder)) = packed folder
+  fitting (related (class_id id)) = known_class by_place b id
+  fitting (related (directory_tag tag)) = tagged tag
+  fitting (related animated) = both (occurs by_place png_header b 0) (do
     type ← takes (occurs by_place (codes "acTL") b 12)
     proved (here 8 type))
-  fitting subrip = cue
-  fitting dbase = table_known
-  fitting tar_checksum = checksum
-  fitting (program names) = named names
-  fitting (root name) = do
+  fitting (related subrip) = cue
+  fitting (related dbase) = table_known
+  fitting (related tar_checksum) = checksum
+  fitting (related (program name)) = named_so name
+  fitting (related (root name)) = do
     refuted_if (opens_none b || (opens_other b && not (has_mark b))) (no_root name)
     root_named name
-  fitting (root_with name t) = do
+  fitting (related (root_with name t)) = do
     refuted_if (opens_none b || (opens_other b && not (has_mark b))) (λ none h. no_root name none (inside.root_with name t b h))
     root_named_with name t
-  fitting json_lines = do
+  fitting (related json_lines) = do
     refuted_if (not (list_any is_bracket b)) (λ none h. no_bracket b none (inside.json_lines b h).1)
     (do equal ← takes (same_text b two_lines); proved (subst IsJsonLines (sym equal) (are_lines single)))
     (do equal ← takes (same_text b array); refuted (subst (λ u. ¬ IsJsonLines u) (sym equal) array_is_no_lines))
-  fitting json_text = do
+  fitting (related json_text) = do
     refuted_if (not (list_any is_bracket b)) (λ none h. no_bracket b none (inside.json b h).1)
     (do equal ← takes (same_text b array); proved (subst IsJson (sym equal) array_is_json))
-  fitting plain_text = plain
+  fitting (related plain_text) = plain
 
   -- it lacks the bytes of the outline
   pub outside : (a : Alternative) → IsTrue (not (is_plain a) && not (accepts (lines a) b)) → ¬ Fits a b
   outside a e h =
       let lasting = test.both_left (not (is_plain a)) _ e in
-      clash _ (has_lines by_place inside b a (λ plain. absurd (clash (is_plain a) plain lasting)) h) (test.both_right (not (is_plain a)) _ e)
+      clash _ (has_lines inside b a (λ plain. absurd (clash (is_plain a) plain lasting)) h) (test.both_right (not (is_plain a)) _ e)
 
   abbrev pub known_fit : (a : Alternative) → Known (Fits a b)
   known_fit a = do

@@ -1,6 +1,6 @@
 -- By the index just those rows are found that widen an answer.
 use Rattle.std.proofs.lemmas.Bool.{or_cases}
-use Rattle.infer_more.proofs.Common.{◌≡◌, ◌↔◌, ℕ, zero, suc, ◌+◌, ◌<◌, ◌≤◌, ◌==◌, inl, inr, Bool, true, false, IsTrue, List, [], ◌∷◌, Option, None, Some, length, get_or, ap, sym, ◌∙◌, subst, arith, refl, ◌%◌, ◌&&◌, ◌||◌, ◌++◌, slice_index, nat_le, list_all, list_any, option_map_or, cases_lt, eqb-true, leb-true, get_or_default, slice_get_cases, Bor, IsJson, IsJsonLines, BeginsElement, IsRootElement, IsXmlSpace, there, IsProgram, IsOneOf, IsPackageWith, applications, accepts, fits, stands, StandsByPlace, IsBuffer, IsFirstOf, is_listed, NoneRefused, passed, HasTagText, IsFoundBelow, IsLeast, IsNamed, IsOfProgram, IsRootedBy, IsRooted, IsRowOf, IsTried, ascends, candidates, excepted, is_covered, is_excepted, is_plain, is_tried_parentless, is_true_below, named_row, names_like, rooted_row, tried_parentless, lines, Further, Accepted, Fits, IsProgramAmong, json_lines, json_text, package_with, plain_text, program, root, root_with, further, Widens, WidensAt, Nothing, Except, Named, Parentless, Rooted, FURTHER_COUNT, and_from}
+use Rattle.infer_more.proofs.Common.{◌≡◌, ◌↔◌, ℕ, zero, suc, ◌+◌, ◌<◌, ◌≤◌, ◌==◌, inl, inr, Bool, true, false, IsTrue, List, [], ◌∷◌, Option, None, Some, length, get_or, ap, sym, ◌∙◌, subst, arith, refl, ◌%◌, ◌&&◌, ◌||◌, ◌++◌, slice_index, nat_le, list_all, list_any, option_map_or, cases_lt, eqb-true, leb-true, get_or_default, slice_get_cases, Bor, IsJson, IsJsonLines, BeginsElement, IsRootElement, IsXmlSpace, there, IsProgram, IsOneOf, IsPackageWith, applications, accepts, fits, stands, StandsByPlace, IsBuffer, IsFirstOf, is_listed, NoneRefused, passed, HasTagText, IsFoundBelow, IsLeast, IsNamed, IsOfProgram, IsRootedBy, IsRooted, IsRowOf, IsTried, ascends, candidates, excepted, is_covered, is_excepted, is_plain, is_tried_parentless, is_true_below, named_row, names_like, rooted_row, tried_parentless, lines, Further, Accepted, Fits, related, json_lines, json_text, package_with, plain_text, program, root, root_with, further, Widens, WidensAt, Nothing, Except, Named, Parentless, Rooted, FURTHER_COUNT, and_from}
 use Rattle.std.specs.Prelude.{slice_get}
 use Rattle.infer_inside.specs.Laws.{Leads}
 use Rattle.infer_inside.specs.Markup.{HasInTag, MayBeRooted}
@@ -34,13 +34,6 @@ listed_name P i (e ∷ names) name h p = elim (or_cases (e.row == i && same e.na
   | inl here ↦ inl (eqb-true e.row i (both_left (e.row == i) _ here), subst P (sym (same_true e.name.now name (both_right (e.row == i) _ here))) p)
   | inr later ↦ inr (listed_name P i names name later p)
 ]
-
-listed_program : (b : List ℕ) (i : ℕ) (lists : List (Bor (List Named))) (names : List (List ℕ))
-    → IsTrue (list_all (λ name. has_named i (names_like lists name) name) names) → IsProgramAmong names b → IsOfProgram b lists i
-listed_program b i lists [] h p = absurd (p)
-listed_program b i lists (name ∷ names) h (inl p) =
-    (name, p, listed_name (λ n. n ≡ name) i (names_like lists name) name (both_left (has_named i (names_like lists name) name) _ h) refl)
-listed_program b i lists (name ∷ names) h (inr p) = listed_program b i lists names (both_right (has_named i (names_like lists name) name) _ h) p
 
 -- what each list has, that of a name has
 listed_at : (Q : List Named → Bool) → IsTrue (Q []) → (lists : List (Bor (List Named))) (i : ℕ) → IsTrue (list_all (λ names. Q names.now) lists) → IsTrue (Q (names_at lists i))
@@ -92,7 +85,7 @@ module _ (by_place : (place : ℕ) (t buf : List ℕ) → IsTrue (stands place t
   ]
 
   tried : (entries : List Entry) (a : Alternative) → IsTrue (is_tried_below i entries a) → Fits a b → IsTrue (is_listed (candidates b entries) i)
-  tried entries a h k = line_tried entries (lines a) h (has_lines by_place leads b a (λ plain. small) k)
+  tried entries a h k = line_tried entries (lines a) h (has_lines leads b a (λ plain. small) k)
 
   line_excepted : (entries : List Entry) (excepts : List Except) (some : List fixed.Alternative)
       → IsTrue (list_all (λ l. is_covered i l entries || is_excepted i l excepts) some) → IsTrue (accepts some b)
@@ -108,25 +101,25 @@ module _ (by_place : (place : ℕ) (t buf : List ℕ) → IsTrue (stands place t
 
   tried_in : (entries : List Entry) (excepts : List Except) (a : Alternative) → IsTrue (is_tried_in i entries excepts a) → Fits a b
       → IsTrue (is_listed (candidates b entries ++ excepted b excepts) i)
-  tried_in entries excepts a h k = line_excepted entries excepts (lines a) h (has_lines by_place leads b a (λ plain. small) k)
+  tried_in entries excepts a h k = line_excepted entries excepts (lines a) h (has_lines leads b a (λ plain. small) k)
 
   in_programs : (lists : List (Bor (List Named))) (a : Alternative) → IsTrue (is_in_programs i lists a) → Fits a b → IsOfProgram b lists i
-  in_programs lists (program names) h k = listed_program b i lists names h k
+  in_programs lists (related (program name)) h k = (name, k, listed_name (λ n. n ≡ name) i (names_like lists name) name h refl)
   in_programs lists other h k = absurd (cc)
 
   in_roots : (roots : List Rooted) (a : Alternative) → IsTrue (is_in_roots i roots a) → Fits a b → IsRooted b roots i
-  in_roots roots (root name) h (rest, element) = (name, rest, element, listed_root rest i roots name None h tt)
-  in_roots roots (root_with name t) h (rest, element, there) = (name, rest, element, listed_root rest i roots name (Some t) h there)
+  in_roots roots (related (root name)) h (rest, element) = (name, rest, element, listed_root rest i roots name None h tt)
+  in_roots roots (related (root_with name t)) h (rest, element, there) = (name, rest, element, listed_root rest i roots name (Some t) h there)
   in_roots roots other h k = absurd (cc)
 
   in_folders : (folders : List Named) (a : Alternative) → IsTrue (is_in_folders i folders a) → Fits a b → IsNamed (λ folder. IsPackageWith folder b) folders i
-  in_folders folders (package_with folder) h k = listed_name (λ f. IsPackageWith f b) i folders folder h k
+  in_folders folders (related (package_with folder)) h k = listed_name (λ f. IsPackageWith f b) i folders folder h k
   in_folders folders other h k = absurd (cc)
 
   in_texts : (t : Texts) (a : Alternative) → IsTrue (is_text_row t i a) → Fits a b → IsTextRow t b i
-  in_texts t json_lines h k = inl (eqb-true t.lines i h, k)
-  in_texts t json_text h k = inr (inl (eqb-true t.json i h, k))
-  in_texts t plain_text h k = inr (inr (eqb-true t.plain i h, k))
+  in_texts t (related json_lines) h k = inl (eqb-true t.lines i h, k)
+  in_texts t (related json_text) h k = inr (inl (eqb-true t.json i h, k))
+  in_texts t (related plain_text) h k = inr (inr (eqb-true t.plain i h, k))
   in_texts t other h k = absurd (cc)
 
   module _ (parent : ℕ) (w : WidensAt (Some parent) b i) where
@@ -153,7 +146,7 @@ module _ (by_place : (place : ℕ) (t buf : List ℕ) → IsTrue (stands place t
     | inl e ↦ inr (inr (in_texts index.texts a e k))
     | inr e ↦ elim (or_cases (is_in_roots i index.roots.now a) _ e) [
       | inl r ↦ inr (inl (in_roots index.roots.now a r k))
-      | inr t ↦ inl (line_tried_free index (lines a) t (has_lines by_place leads b a (λ plain. small) k), w)
+      | inr t ↦ inl (line_tried_free index (lines a) t (has_lines leads b a (λ plain. small) k), w)
     ]
   ]
   found_free index w (a ∷ signature) h (inr k) = found_free index w signature (both_right (is_found_free index i a) _ h) k
@@ -192,15 +185,8 @@ rows_widen row Q test parent b sound (x ∷ xs) i h (inl is) =
 rows_widen row Q test parent b sound (x ∷ xs) i h (inr is) = rows_widen row Q test parent b sound xs i (both_right (is_row_with parent (test x) (row x)) _ h) is
 
 module _ (b : List ℕ) where
-  program_among : (name : List ℕ) (names : List (List ℕ)) → IsTrue (list_any (same name) names) → IsProgram name b → IsProgramAmong names b
-  program_among name [] h p = absurd (cc)
-  program_among name (other ∷ names) h p = elim (or_cases (same name other) _ h) [
-    | inl e ↦ inl (subst (λ n. IsProgram n b) (same_true name other e) p)
-    | inr e ↦ inr (program_among name names e p)
-  ]
-
   fits_program : (name : List ℕ) → IsProgram name b → (a : Alternative) → IsTrue (asks_program name a) → Fits a b
-  fits_program name p (program names) h = program_among name names h p
+  fits_program name p (related (program own)) h = subst (λ n. IsProgram n b) (same_true name own h) p
   fits_program name p other h = absurd (cc)
 
   in_tag : (rest : List ℕ) (t : Option (Bor (List ℕ))) (u : List ℕ) → IsTrue (same_text t (Some u)) → HasTagText rest t → HasInTag u rest
@@ -209,9 +195,9 @@ module _ (b : List ℕ) where
 
   module _ (name rest : List ℕ) (element : IsRootElement name rest b) where
     fits_root : (own : List ℕ) (t : Option (Bor (List ℕ))) → (own ≡ name) × HasTagText rest t → (a : Alternative) → IsTrue (asks_root own t a) → Fits a b
-    fits_root own t p (root other) h =
+    fits_root own t p (related (root other)) h =
         (rest, subst (λ n. IsRootElement n rest b) (sym p.0 ∙ same_true own other (both_left (same own other) _ h)) element)
-    fits_root own t p (root_with other u) h = (
+    fits_root own t p (related (root_with other u)) h = (
       rest,
       subst (λ n. IsRootElement n rest b) (sym p.0 ∙ same_true own other (both_left (same own other) _ h)) element,
       in_tag rest t u (both_right (same own other) _ h) p.1,
@@ -219,19 +205,19 @@ module _ (b : List ℕ) where
     fits_root own t p other h = absurd (cc)
 
   fits_folder : (folder : List ℕ) → IsPackageWith folder b → (a : Alternative) → IsTrue (asks_folder folder a) → Fits a b
-  fits_folder folder p (package_with other) h = subst (λ f. IsPackageWith f b) (same_true folder other h) p
+  fits_folder folder p (related (package_with other)) h = subst (λ f. IsPackageWith f b) (same_true folder other h) p
   fits_folder folder p other h = absurd (cc)
 
   fits_lines : IsJsonLines b → (a : Alternative) → IsTrue (is_lines a) → Fits a b
-  fits_lines p json_lines h = p
+  fits_lines p (related json_lines) h = p
   fits_lines p other h = absurd (cc)
 
   fits_json : IsJson b → (a : Alternative) → IsTrue (is_json a) → Fits a b
-  fits_json p json_text h = p
+  fits_json p (related json_text) h = p
   fits_json p other h = absurd (cc)
 
-  fits_plain : Fits plain_text b → (a : Alternative) → IsTrue (is_plain a) → Fits a b
-  fits_plain p plain_text h = p
+  fits_plain : Fits (related plain_text) b → (a : Alternative) → IsTrue (is_plain a) → Fits a b
+  fits_plain p (related plain_text) h = p
   fits_plain p other h = absurd (cc)
 
   folder_rows : (parent : ℕ) (folders : List Named) → IsTrue (list_all (λ e. is_application e.name.now && is_row_with (Some parent) (asks_folder e.name.now) e.row) folders)

@@ -1,9 +1,8 @@
 -- Laws of further rows.
 use Rattle.std.proofs.lemmas.Bool.{and_parts, or_cases, or_left}
-use Rattle.infer_more.proofs.Common.{◌↔◌, ℕ, ◌<◌, ◌≤◌, inl, inr, Bool, true, false, IsTrue, List, [], ◌∷◌, ◌++◌, Option, None, Some, length, get_or, arith, nat_le, refl, subst, sym, ◌≡◌, zero, suc, codes, ◌⊎◌, not, slice_index, HoldsAt, list_all, list_any, cases_lt, leb-true, nat_tests, get_or_from_slice_get, slice_get_cases, OccursAt, OccursAt-append, HasBracket, HasRoot, there, Lasts, StandsByPlace, at_least, Part, any_text, accepts, fits, has_part, stands, IsFirstOf, is_white, is_settled, AllLast, IsLost, is_dark, is_filled, is_lasting, is_plain, lines, outline, Further, Accepted, Fits, IsProgramAmong, animated, binary_bytes, bytes, class_id, dbase, directory_tag, first_entry_ends_in, first_entry_has_extra, first_entry_is, package_with, plain_text, png_header, shared_object, subrip, tar_checksum, program, root, root_with, json_lines, json_text, further, Widens}
+use Rattle.infer_more.proofs.Common.{◌↔◌, ℕ, ◌<◌, ◌≤◌, inl, inr, Bool, true, false, IsTrue, List, [], ◌∷◌, ◌++◌, Option, None, Some, length, get_or, arith, nat_le, refl, subst, sym, ◌≡◌, zero, suc, codes, ◌⊎◌, not, slice_index, HoldsAt, list_all, list_any, cases_lt, leb-true, nat_tests, get_or_from_slice_get, slice_get_cases, OccursAt, HasBracket, HasRoot, there, Lasts, StandsByPlace, at_least, Part, any_text, accepts, fits, has_part, stands, IsFirstOf, is_white, is_settled, AllLast, IsLost, is_dark, is_filled, is_lasting, is_plain, lines, outline, Further, Accepted, Fits, binary_bytes, bytes, related, plain_text, root, root_with, json_lines, json_text, further, Widens}
 use Rattle.std.proofs.Common.{All, slice_get}
 use Rattle.std.proofs.lemmas.List.Elements.{All-cons, All-nil, AllWithin-from_all}
-use Rattle.infer_deep.specs.Laws as Deep
 use Rattle.infer_inside.specs.Laws as Inside
 use Rattle.infer_sig.specs.Signature as fixed
 use Rattle.infer.specs.Buffer.{IsBuffer}
@@ -17,43 +16,22 @@ use Rattle.infer_more.proofs.RefusalLemmas.{clash}
 
 -- ---- growing buffers
 
-module _ (deep : Deep.Growth) (inside : Inside.Growth) (fixed_lasts : (signature : List fixed.Alternative) → Lasts (λ b. IsTrue (accepts signature b))) (b more : List ℕ) where
+module _ (inside : Inside.Growth) (fixed_lasts : (signature : List fixed.Alternative) → Lasts (λ b. IsTrue (accepts signature b))) (b more : List ℕ) where
   bytes_last : (a : fixed.Alternative) → IsTrue (fits b a) → IsTrue (fits (b ++ more) a)
   bytes_last a h = elim (or_cases (fits (b ++ more) a) false (fixed_lasts (a ∷ []) b more (or_left (fits b a) false h))) [ inl e ↦ e | inr e ↦ absurd (cc) ]
-
-  program_lasts : (names : List (List ℕ)) → IsProgramAmong names b → IsProgramAmong names (b ++ more)
-  program_lasts [] h = h
-  program_lasts (name ∷ names) (inl h) = inl (inside.program name b more h)
-  program_lasts (name ∷ names) (inr h) = inr (program_lasts names h)
 
   fits_last : (a : Alternative) → IsTrue (is_lasting a) → Fits a b → Fits a (b ++ more)
   fits_last (bytes a) l h = bytes_last a h
   fits_last (binary_bytes a) l h = (bytes_last a h.0, inside.binary b more h.1)
-  fits_last shared_object l h = inside.shared_object b more h
-  fits_last (first_entry_is name) l h = inside.first_entry_is name b more h
-  fits_last (first_entry_ends_in t) l h = inside.first_entry_ends_in t b more h
-  fits_last (first_entry_has_extra t) l h = inside.first_entry_has_extra t b more h
-  fits_last (package_with folder) l h = inside.package_with folder b more h
-  fits_last (class_id id) l h = deep.class_id id b more h
-  fits_last (directory_tag tag) l h = inside.tag tag b more h
-  fits_last animated l h = (OccursAt-append b more png_header 0 h.0, inside.animated b more h.1)
-  fits_last subrip l h = inside.subrip b more h
-  fits_last dbase l h = inside.dbase b more h
-  fits_last tar_checksum l h = inside.tar_checksum b more h
-  fits_last (program names) l h = program_lasts names h
-  fits_last (root name) l h = inside.root name b more h
-  fits_last (root_with name t) l h = inside.root_with name t b more h
-  fits_last json_lines l h = absurd (cc)
-  fits_last json_text l h = absurd (cc)
-  fits_last plain_text l h = absurd (cc)
+  fits_last (related r) l h = inside.relation r l b more h
 
   accepted_last : (signature : List Alternative) → IsTrue (lasts signature) → Accepted signature b → Accepted signature (b ++ more)
   accepted_last [] l h = h
   accepted_last (a ∷ others) l (inl h) = inl (fits_last a (both_left (is_lasting a) _ l) h)
   accepted_last (a ∷ others) l (inr h) = inr (accepted_last others (both_right (is_lasting a) _ l) h)
 
-pub all_last : Deep.Growth → Inside.Growth → ((signature : List fixed.Alternative) → Lasts (λ b. IsTrue (accepts signature b))) → AllLast
-all_last deep inside fixed_lasts signature l b more h = accepted_last deep inside fixed_lasts b more signature l h
+pub all_last : Inside.Growth → ((signature : List fixed.Alternative) → Lasts (λ b. IsTrue (accepts signature b))) → AllLast
+all_last inside fixed_lasts signature l b more h = accepted_last inside fixed_lasts b more signature l h
 
 -- a list that is told to be one of bytes
 pub are_bytes : (xs : List ℕ) → list_all (λ x. nat_le x 255) xs ≡ true → IsBuffer xs
@@ -63,7 +41,7 @@ are_bytes (x ∷ xs) told =
     All-cons (λ x. x < 256) x xs (let low = leb-true x 255 both.0 in omega arith) (are_bytes xs both.1)
 
 -- a letter is plain text, and with 00 after it binary data
-pub text_lost : IsLost plain_text
+pub text_lost : IsLost (related plain_text)
 text_lost = (
   codes "a",
   0 ∷ [],
@@ -172,7 +150,7 @@ module _ (by_place : (place : ℕ) (t buf : List ℕ) → IsTrue (stands place t
   ]
 
   by_outline : (b : List ℕ) → All (λ x. IsTrue (is_white x)) b → (a : Alternative) → IsTrue (list_all is_dark_alternative (lines a)) → ¬ Fits a b
-  by_outline b white a dark h = refused by_place b white (lines a) dark (has_lines by_place leads b a (λ plain. small_white b white) h)
+  by_outline b white a dark h = refused by_place b white (lines a) dark (has_lines leads b a (λ plain. small_white b white) h)
 
   -- no markup is white space: an element opens in it
   no_markup : (b : List ℕ) → All (λ x. IsTrue (is_white x)) b → (name : List ℕ) → ¬ HasRoot name b
@@ -190,25 +168,11 @@ module _ (by_place : (place : ℕ) (t buf : List ℕ) → IsTrue (stands place t
       grind (arith, nat_tests)
 
   refused_alternative : (b : List ℕ) → All (λ x. IsTrue (is_white x)) b → (a : Alternative) → IsTrue (is_dark_relation a) → ¬ Fits a b
-  refused_alternative b white (root name) dark h = no_markup b white name h
-  refused_alternative b white (root_with name t) dark h = no_markup b white name (leads.root_with name t b h)
-  refused_alternative b white json_lines dark h = no_json b white (leads.json_lines b h).1
-  refused_alternative b white json_text dark h = no_json b white (leads.json b h).1
-  refused_alternative b white (bytes a) dark h = by_outline b white (bytes a) dark h
-  refused_alternative b white (binary_bytes a) dark h = by_outline b white (binary_bytes a) dark h
-  refused_alternative b white shared_object dark h = by_outline b white shared_object dark h
-  refused_alternative b white (first_entry_is name) dark h = by_outline b white (first_entry_is name) dark h
-  refused_alternative b white (first_entry_ends_in t) dark h = by_outline b white (first_entry_ends_in t) dark h
-  refused_alternative b white (first_entry_has_extra t) dark h = by_outline b white (first_entry_has_extra t) dark h
-  refused_alternative b white (package_with folder) dark h = by_outline b white (package_with folder) dark h
-  refused_alternative b white (class_id id) dark h = by_outline b white (class_id id) dark h
-  refused_alternative b white (directory_tag tag) dark h = by_outline b white (directory_tag tag) dark h
-  refused_alternative b white animated dark h = by_outline b white animated dark h
-  refused_alternative b white subrip dark h = by_outline b white subrip dark h
-  refused_alternative b white dbase dark h = by_outline b white dbase dark h
-  refused_alternative b white tar_checksum dark h = by_outline b white tar_checksum dark h
-  refused_alternative b white (program names) dark h = by_outline b white (program names) dark h
-  refused_alternative b white plain_text dark h = absurd (cc)
+  refused_alternative b white (related (root name)) dark h = no_markup b white name h
+  refused_alternative b white (related (root_with name t)) dark h = no_markup b white name (leads.root_with name t b h)
+  refused_alternative b white (related json_lines) dark h = no_json b white (leads.json_lines b h).1
+  refused_alternative b white (related json_text) dark h = no_json b white (leads.json b h).1
+  refused_alternative b white a dark h = by_outline b white a dark h
 
   refused_signature : (b : List ℕ) → All (λ x. IsTrue (is_white x)) b → (signature : List Alternative) → IsTrue (list_all is_dark_relation signature) → ¬ Accepted signature b
   refused_signature b white [] dark h = h
@@ -225,5 +189,5 @@ module _ (by_place : (place : ℕ) (t buf : List ℕ) → IsTrue (stands place t
         ];
     empty = λ k d le lt h.
         let r = get_or further k d in
-        unfilled (outline r.signature) (passes_at is_filled further k d filled lt) (has_outline by_place leads [] (λ i. past [] i (omega arith)) r.signature h);
+        unfilled (outline r.signature) (passes_at is_filled further k d filled lt) (has_outline leads [] (λ i. past [] i (omega arith)) r.signature h);
   }

@@ -1,5 +1,5 @@
 -- Which texts are lost: some buffer is JSON, or JSON lines, and with more bytes no longer.
-use Rattle.infer_more.proofs.Common.{◌≡◌, ℕ, List, inl, inr, [], ◌∷◌, ◌++◌, ap, codes, get_or, refl, arith, CanBe, Stands, IsLost, json_lines, json_text, plain_text}
+use Rattle.infer_more.proofs.Common.{◌≡◌, ℕ, List, inl, inr, [], ◌∷◌, ◌++◌, ap, codes, get_or, refl, arith, CanBe, Stands, IsLost, related, json_lines, json_text, plain_text}
 use Rattle.infer_inside.specs.Json.{blanks, by_rule, byte, items, next_line, nothing, one, same_line, text}
 use Rattle.infer_inside.specs.Laws.{Single}
 use Rattle.infer_inside.proofs.JsonLemmas.{begins}
@@ -12,7 +12,7 @@ list_stands rest =
     by_rule (byte 0x5B ∷ blanks ∷ items 127 ∷ []) (inl refl) (one (omega arith) (omega arith)
     (by_rule [] (inl refl) (by_rule (byte 0x5D ∷ []) (inl refl) (one (omega arith) (omega arith) rest))))
 
-json_lost : Single → IsLost json_text
+json_lost : Single → IsLost (related json_text)
 json_lost single = (
   codes "[]",
   codes "\n[",
@@ -42,7 +42,7 @@ colon_ends (v, d) =
     let second : Stands (blanks ∷ items 127 ∷ same_line ∷ []) (0x3A ∷ v) = let f = (begins 3 0x5B (0x3A ∷ v) (next_line ∷ [])).0 ended in grind arith in
     let f = (begins 6 0x3A v (blanks ∷ items 127 ∷ same_line ∷ [])).0 second in grind arith
 
-lines_lost : Single → IsLost json_lines
+lines_lost : Single → IsLost (related json_lines)
 lines_lost single = (
   codes "[]\n[",
   codes ":",
@@ -55,7 +55,7 @@ lines_lost single = (
 )
 
 pub others_lost : Single → OthersAreLost
-others_lost single json_text other = json_lost single
-others_lost single json_lines other = lines_lost single
-others_lost single plain_text other = text_lost
+others_lost single (related json_text) other = json_lost single
+others_lost single (related json_lines) other = lines_lost single
+others_lost single (related plain_text) other = text_lost
 others_lost single a other = absurd (cc)

@@ -1,18 +1,18 @@
 -- What bytes after a buffer can bring an alternative and a signature, and what they can take from them.
 use Rattle.std.proofs.lemmas.Bool.{or_cases}
-use Rattle.infer_more.proofs.Common.{◌≡◌, ◌↔◌, ◌⊎◌, ◌+◌, ◌-◌, ◌<◌, ◌≤◌, inl, inr, ℕ, zero, suc, Bool, true, false, IsTrue, List, [], ◌∷◌, ◌++◌, append_assoc, get_or, length, map, nat_le, take, refl, sym, subst, ap, ◌∙◌, arith, ◌||◌, ◌==◌, if◌then◌else◌, slice_index, and_from, and_parts, eqb-true, le-leb, leb-true, get_or-take, length-take, All-nil, Bor, OccursAt, MayBecome, Stays, here, IsProgram, IsBinary, Lasts, may_have, accepts, Bytes, Part, allows, between, fits, AllLast, is_lasting, alternative_listed, signature_listed, Accepted, Fits, IsProgramAmong, png_header}
+use Rattle.infer_more.proofs.Common.{◌≡◌, ◌↔◌, ◌⊎◌, ◌+◌, ◌-◌, ◌<◌, ◌≤◌, inl, inr, ℕ, zero, suc, Bool, true, false, IsTrue, List, [], ◌∷◌, ◌++◌, append_assoc, get_or, length, map, nat_le, take, refl, sym, subst, ap, ◌∙◌, arith, ◌||◌, ◌==◌, if◌then◌else◌, slice_index, and_from, and_parts, eqb-true, le-leb, leb-true, get_or-take, length-take, All-nil, OccursAt, MayBecome, Stays, here, IsBinary, Lasts, applications, package_with, may_have, accepts, Bytes, Part, allows, between, fits, AllLast, is_lasting, alternative_listed, signature_listed, Accepted, Fits}
 use Rattle.std.proofs.Common.{length-append, take_all}
 use Rattle.std.proofs.lemmas.Bool.{or_left}
 use Rattle.std.proofs.lemmas.List.Elements.{All-append, All-cons}
 use Rattle.infer_deep.specs.Open.{AgreesAt}
-use Rattle.infer_deep.proofs.OpenLemmas.{grown_agrees}
-use Rattle.infer_inside.specs.Png.{IsAnimated}
+use Rattle.infer_inside.specs.Relation.{IsSound, Relation}
+use Rattle.infer_more.specs.Open.{is_known}
+use Rattle.infer_more.proofs.FoundLemmas.{one_of}
 use Rattle.infer_sig.specs.Open.{MayBecomeIsExact, agrees, is_alternative_sound, is_sound, may_fit}
 use Rattle.infer_sig.specs.Signature as fixed
 use Rattle.infer_sig.specs.Signature.{text, byte}
 use Rattle.infer_sig.proofs.PlaceLemmas.{stands_by_place}
 use Rattle.infer_more.specs.declared.signature.Alternative.{Alternative}
-use Rattle.infer_more.specs.declared.signature.Alternative.TheVariants.{JsonLines, JsonText, PlainText}
 
 same_tests : (r s : Bool) → (IsTrue r → IsTrue s) → (IsTrue s → IsTrue r) → r ≡ s
 same_tests true s f g = sym (f refl)
@@ -60,16 +60,6 @@ module _ (b : List ℕ) where
       | inr g ↦ inr (rest.1 (more, bytes, g))
     ],
   )
-
-  abbrev pub MayName : List (Bor (List ℕ)) → Type 0
-  MayName xs = SomeOf (λ (x : Bor (List ℕ)). x.now) (λ name. MayBecome (IsProgram name) b) xs
-
-  pub some_named : (xs : List (Bor (List ℕ))) → MayBecome (IsProgramAmong (map (λ (x : Bor (List ℕ)). x.now) xs)) b → MayName xs
-  some_named [] (more, bytes, h) = h
-  some_named (x ∷ xs) (more, bytes, h) = elim h [
-    | inl f ↦ inl (more, bytes, f)
-    | inr g ↦ inr (some_named xs (more, bytes, g))
-  ]
 
 -- ---- fixed bytes
 
@@ -194,19 +184,14 @@ module _ (place : ℕ) (b : List ℕ) where
     pub range_within : place < length b → (r : Bool) → r ≡ allows (between low high) (slice_index b place) → r ≡ may_have b (Ranged (low == high))
     range_within lt r e = within_ranged lt r e (low == high) refl
 
--- ---- an animated image
-
-pub animation_known : (b : List ℕ) → MayBecome (λ c. OccursAt c png_header 0 × IsAnimated c) b → AgreesAt b png_header 0 × MayBecome IsAnimated b
-animation_known b (more, bytes, (header, animated)) = (grown_agrees b more png_header 0 header, (more, bytes, animated))
-
 -- ---- what stays
 
-lasts_but : (a : Alternative) → (a ≡ JsonLines → ⊥) → (a ≡ JsonText → ⊥) → (a ≡ PlainText → ⊥) → IsTrue (is_lasting (alternative_listed a))
-lasts_but JsonLines n m p = absurd (n refl)
-lasts_but JsonText n m p = absurd (m refl)
-lasts_but PlainText n m p = absurd (p refl)
-lasts_but a n m p = refl
+pub fit_stays : AllLast → (a : Alternative) → IsTrue (is_lasting (alternative_listed a)) → (b : List ℕ) → Fits (alternative_listed a) b → Stays (Fits (alternative_listed a)) b
+fit_stays all_last a l b f more bytes =
+    elim (all_last (alternative_listed a ∷ []) (and_from (is_lasting (alternative_listed a)) true l refl) b more (inl f)) [ inl g ↦ g | inr g ↦ absurd g ]
 
-pub fit_stays : AllLast → (a : Alternative) → (a ≡ JsonLines → ⊥) → (a ≡ JsonText → ⊥) → (a ≡ PlainText → ⊥) → (b : List ℕ) → Fits (alternative_listed a) b → Stays (Fits (alternative_listed a)) b
-fit_stays all_last a n m p b f more bytes =
-    elim (all_last (alternative_listed a ∷ []) (and_from (is_lasting (alternative_listed a)) true (lasts_but a n m p) refl) b more (inl f)) [ inl g ↦ g | inr g ↦ absurd g ]
+-- ---- a relation, whose folder is that of an application
+
+pub sound_relation : (r : Relation) → IsTrue (is_known r) → IsSound r
+sound_relation (package_with folder) known = one_of folder applications known
+sound_relation other known = tt

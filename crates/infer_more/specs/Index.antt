@@ -14,7 +14,9 @@ use Rattle.infer.specs.Buffer.{IsBuffer}
 use Rattle.infer.specs.Walks.{is_listed}
 use Rattle.infer_more.specs.Outline.{lines}
 use Rattle.infer_more.specs.Row.{Further}
-use Rattle.infer_notation.specs.Alternative.{Alternative, json_lines, json_text, package_with, plain_text, program, root, root_with}
+use Rattle.infer_inside.specs.Outline as relation
+use Rattle.infer_inside.specs.Relation.{json_lines, json_text, package_with, plain_text, program, root, root_with}
+use Rattle.infer_notation.specs.Alternative.{Alternative, related}
 use Rattle.infer_more.specs.Table.{further}
 use Rattle.infer_more.specs.Wider.{WidensAt}
 use Rattle.infer_more.specs.declared.index.Below as below
@@ -268,16 +270,16 @@ is_tried_in i entries excepts a = list_all (λ l. is_covered i l entries || is_e
 
 -- or is told row i by a name
 abbrev pub is_in_programs : ℕ → List (Bor (List Named)) → Alternative → Bool
-is_in_programs i lists (program names) = list_all (λ name. has_named i (names_like lists name) name) names
+is_in_programs i lists (related (program name)) = has_named i (names_like lists name) name
 is_in_programs i lists other = false
 
 abbrev pub is_in_roots : ℕ → List Rooted → Alternative → Bool
-is_in_roots i roots (root name) = has_rooted i roots name None
-is_in_roots i roots (root_with name t) = has_rooted i roots name (Some t)
+is_in_roots i roots (related (root name)) = has_rooted i roots name None
+is_in_roots i roots (related (root_with name t)) = has_rooted i roots name (Some t)
 is_in_roots i roots other = false
 
 abbrev pub is_in_folders : ℕ → List Named → Alternative → Bool
-is_in_folders i folders (package_with folder) = has_named i folders folder
+is_in_folders i folders (related (package_with folder)) = has_named i folders folder
 is_in_folders i folders other = false
 
 abbrev pub is_found_below : below.Below → ℕ → Alternative → Bool
@@ -289,9 +291,9 @@ is_found_below (Packages entries excepts folders) i a = is_in_folders i folders.
 
 -- row i is that of the text
 abbrev pub is_text_row : Texts → ℕ → Alternative → Bool
-is_text_row t i json_lines = t.lines == i
-is_text_row t i json_text = t.json == i
-is_text_row t i plain_text = t.plain == i
+is_text_row t i (related json_lines) = t.lines == i
+is_text_row t i (related json_text) = t.json == i
+is_text_row t i (related plain_text) = t.plain == i
 is_text_row t i other = false
 
 -- or of the root, or it is tried
@@ -327,29 +329,29 @@ is_row_with parent test i = option_map_or (λ r. is_child parent r.parent && lis
 
 -- the alternative asks for the program, the root, the folder
 abbrev pub asks_program : List ℕ → Alternative → Bool
-asks_program name (program names) = list_any (same name) names
+asks_program name (related (program own)) = same name own
 asks_program name other = false
 
 abbrev pub asks_root : List ℕ → Option (Bor (List ℕ)) → Alternative → Bool
-asks_root name t (root own) = same name own && same_text t None
-asks_root name t (root_with own u) = same name own && same_text t (Some u)
+asks_root name t (related (root own)) = same name own && same_text t None
+asks_root name t (related (root_with own u)) = same name own && same_text t (Some u)
 asks_root name t other = false
 
 abbrev pub asks_folder : List ℕ → Alternative → Bool
-asks_folder folder (package_with own) = same folder own
+asks_folder folder (related (package_with own)) = same folder own
 asks_folder folder other = false
 
 -- it asks for JSON lines, for JSON, for plain text
 abbrev pub is_lines : Alternative → Bool
-is_lines json_lines = true
+is_lines (related json_lines) = true
 is_lines other = false
 
 abbrev pub is_json : Alternative → Bool
-is_json json_text = true
+is_json (related json_text) = true
 is_json other = false
 
 abbrev pub is_plain : Alternative → Bool
-is_plain plain_text = true
+is_plain (related r) = relation.is_plain r
 is_plain other = false
 
 -- the folder is one of an application

@@ -1,6 +1,8 @@
 -- Laws of further rows and of the wider answer.
 use Rattle.std.specs.Prelude.{◌≡◌, ◌<◌, ◌≤◌, ◌⊎◌, ◌||◌, ℕ, Bool, true, false, IfSome, IsTrue, List, [], ◌++◌, Option, None, Some, All, MatchOption, if◌then◌else◌, length, nat_le, nat_lt, not, option_map, slice_get}
 use Rattle.std.specs.List.{HoldsAt, list_all, list_any}
+use Rattle.infer_inside.specs.Relation as relation
+use Rattle.infer_inside.specs.Relation.{json_lines, json_text, root, root_with}
 use Rattle.infer_sig.specs.Signature as fixed
 use Rattle.infer_sig.specs.Signature.{at_least, Part, text, any_text, byte}
 use Rattle.infer.specs.Buffer.{IsBuffer}
@@ -16,15 +18,13 @@ use Rattle.infer_more.specs.Text.{IsTypesAnswer, rows_of}
 use Rattle.infer_more.specs.Index.{is_plain, is_settled}
 use Rattle.infer_more.specs.Outline.{lines, outline}
 use Rattle.infer_more.specs.Row.{Further}
-use Rattle.infer_notation.specs.Alternative.{Accepted, Alternative, Fits, json_lines, json_text, plain_text, root, root_with}
+use Rattle.infer_notation.specs.Alternative.{Accepted, Alternative, Fits, related}
 use Rattle.infer_more.specs.Table.{further}
 use Rattle.infer_more.specs.Wider.{IsWider, Widens, parent_at, shown}
 
 -- more bytes never take back that a buffer fits the alternative: it is none of the texts
 abbrev pub is_lasting : Alternative → Bool
-is_lasting json_lines = false
-is_lasting json_text = false
-is_lasting plain_text = false
+is_lasting (related r) = relation.is_lasting r
 is_lasting other = true
 
 -- and so each of a signature
@@ -71,10 +71,10 @@ is_dark_alternative (at_least n parts) = list_any is_dark_part parts
 
 -- it has a byte that is no white space, since it asks for one, or as JSON and the root of markup
 abbrev pub is_dark_relation : Alternative → Bool
-is_dark_relation json_lines = true
-is_dark_relation json_text = true
-is_dark_relation (root name) = true
-is_dark_relation (root_with name t) = true
+is_dark_relation (related json_lines) = true
+is_dark_relation (related json_text) = true
+is_dark_relation (related (root name)) = true
+is_dark_relation (related (root_with name t)) = true
 is_dark_relation a = list_all is_dark_alternative (lines a)
 
 -- the signature is one of plain text, or each of its alternatives has

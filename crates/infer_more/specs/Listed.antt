@@ -1,16 +1,17 @@
 -- The further rows as the code lists them.
 use Rattle.std.specs.Prelude.{◌≡◌, ◌==◌, ℕ, Bool, true, false, List, [], ◌∷◌, ◌++◌, MatchOption, if◌then◌else◌, map, slice_get}
 use denote.Ref.{Bor}
+use Rattle.infer_inside.specs.Relation.{relation_listed}
 use Rattle.infer_sig.specs.Signature as fixed
 use Rattle.infer_sig.specs.Signature.{Part, at_least, text, byte, any_of, between}
 use Rattle.infer.specs.Triple.{triple}
 use Rattle.infer_more.specs.Ended.{ended_listed, ended_shown}
 use Rattle.infer_more.specs.Row.{Further}
 use Rattle.infer_notation.specs.Alternative as signature
-use Rattle.infer_notation.specs.Alternative.{bytes, binary_bytes, shared_object, first_entry_is, first_entry_ends_in, first_entry_has_extra, package_with, class_id, directory_tag, animated, subrip, dbase, tar_checksum, plain_text, program, root, root_with, json_lines, json_text}
+use Rattle.infer_notation.specs.Alternative.{binary_bytes, bytes, related}
 use Rattle.infer_more.specs.declared.table.FurtherRow.{FurtherRow}
 use Rattle.infer_more.specs.declared.signature.Alternative.{Alternative}
-use Rattle.infer_more.specs.declared.signature.Alternative.TheVariants.{Animated, BinaryBytes, Bytes, ClassId, Dbase, DirectoryTag, FirstEntryEndsIn, FirstEntryHasExtra, FirstEntryIs, JsonLines, JsonText, PackageWith, PlainText, Program, Root, RootWith, SharedObject, SubRip, TarChecksum}
+use Rattle.infer_more.specs.declared.signature.Alternative.TheVariants.{BinaryBytes, Bytes, Related}
 use Rattle.infer_more.specs.declared.signature.Bytes as listed
 use Rattle.infer_more.specs.declared.signature.Piece.{Piece}
 use Rattle.infer_more.specs.declared.signature.Piece.TheVariants.{At, OneOf, Between}
@@ -33,23 +34,7 @@ bytes_listed a = at_least a.least (map part_listed a.pieces.now)
 abbrev pub alternative_listed : Alternative → signature.Alternative
 alternative_listed (Bytes a) = bytes (bytes_listed a)
 alternative_listed (BinaryBytes a) = binary_bytes (bytes_listed a)
-alternative_listed SharedObject = shared_object
-alternative_listed (FirstEntryIs name) = first_entry_is name.now
-alternative_listed (FirstEntryEndsIn end) = first_entry_ends_in end.now
-alternative_listed (FirstEntryHasExtra extra) = first_entry_has_extra extra.now
-alternative_listed (PackageWith folder) = package_with folder.now
-alternative_listed (ClassId id) = class_id id.now
-alternative_listed (DirectoryTag tag) = directory_tag tag
-alternative_listed Animated = animated
-alternative_listed SubRip = subrip
-alternative_listed Dbase = dbase
-alternative_listed TarChecksum = tar_checksum
-alternative_listed (Program names) = program (map (λ name. name.now) names.now)
-alternative_listed (Root name) = root name.now
-alternative_listed (RootWith name t) = root_with name.now t.now
-alternative_listed JsonLines = json_lines
-alternative_listed JsonText = json_text
-alternative_listed PlainText = plain_text
+alternative_listed (Related r) = related (relation_listed r)
 
 abbrev pub signature_listed : List Alternative → List signature.Alternative
 signature_listed alternatives = map alternative_listed alternatives

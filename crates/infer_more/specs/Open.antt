@@ -1,18 +1,23 @@
 -- What is told of the bytes that may follow a buffer, alternative by alternative.
 use Rattle.std.specs.Prelude.{Bool, false, true, List, [], ◌∷◌, ◌&&◌}
 use Rattle.std.specs.List.{list_all}
+use Rattle.infer_inside.specs.Relation.{Relation, package_with}
 use Rattle.infer_sig.specs.Open.{is_alternative_sound}
 use Rattle.infer_more.specs.Index.{is_application}
 use Rattle.infer_more.specs.Laws.{lasts}
 use Rattle.infer_more.specs.Row.{Further}
-use Rattle.infer_notation.specs.Alternative.{Alternative, binary_bytes, bytes, package_with}
+use Rattle.infer_notation.specs.Alternative.{Alternative, binary_bytes, bytes, related}
+
+-- a folder that the relation asks is that of an application
+abbrev pub is_known : Relation → Bool
+is_known (package_with folder) = is_application folder
+is_known other = true
 
 -- the parts of its bytes ascend, lie apart and are possible, and its folder is that of an application
 abbrev pub is_sound : Alternative → Bool
 is_sound (bytes a) = is_alternative_sound a
 is_sound (binary_bytes a) = is_alternative_sound a
-is_sound (package_with folder) = is_application folder
-is_sound a = true
+is_sound (related r) = is_known r
 
 -- the alternative asks for bytes at fixed places, or for these and a byte of binary data
 abbrev pub is_fixed : Alternative → Bool

@@ -20,7 +20,6 @@ pub fn lasting()
     ensures lasting { AllLast }
     ensures lost { OthersAreLost }
 {
-    infer_deep::laws::growth();
     infer_inside::laws::growth();
     infer_sig::laws::growth();
     infer_inside::laws::single();

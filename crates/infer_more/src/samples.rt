@@ -1,5 +1,5 @@
 //! A sample of each row: a short buffer that has it as its answer.
-ghost use Rattle.std.specs.Prelude.{◌≡◌, ◌+◌, ◌-◌, ◌<◌, ◌≤◌, ◌⊎◌, ◌↔◌, ℕ, [], ◌++◌, IfSome, IsNone, IsSome, IsTrue, List, length, map, option_and_then, option_map, slice_get, slice_index_or, take};
+ghost use Rattle.std.specs.Prelude.{◌≡◌, ◌+◌, ◌-◌, ◌<◌, ◌≤◌, ◌⊎◌, ◌↔◌, ℕ, [], ◌++◌, IfSome, IsNone, IsSome, IsTrue, List, length, map, option_and_then, option_map, slice_get, take};
 ghost use Rattle.std.specs.List.{concat, list_all};
 ghost use Rattle.infer.specs.First.{IsFirst};
 ghost use Rattle.infer.specs.Row.{Accepts};
@@ -7,8 +7,8 @@ ghost use Rattle.infer.specs.Samples.{put, with_part, with_parts, zeros};
 ghost use Rattle.infer.specs.Table as built_in;
 ghost use Rattle.infer_more.specs.Listed.{alternative_listed, part_listed, row_listed};
 ghost use Rattle.infer_more.specs.Row.{is_inside};
-ghost use Rattle.infer_more.specs.Samples.{HasAnswer, HasNoSample, built_in_sample, further_sample, has_room, least_of, model, model_entry, parent_sample, parts_of, prolog, sample_at, written};
-ghost use Rattle.infer_notation.specs.Alternative.{class_id, dbase, package_with};
+ghost use Rattle.infer_more.specs.Samples.{HasAnswer, HasNoSample, built_in_sample, further_sample, has_room, least_of, model, model_entry, parent_sample, parts_of, prolog, relation_model, sample_at, written};
+ghost use Rattle.infer_inside.specs.Relation.{class_id, dbase, package_with, relation_listed};
 ghost use Rattle.infer_more.specs.Table.{further};
 ghost use Rattle.infer_more.specs.Wider.{AcceptsAt, IsWider};
 ghost use Rattle.infer.specs.declared.samples.TheConstants as built_in_samples;
@@ -19,6 +19,7 @@ use crate::signature::Piece::At;
 use crate::signature::{Alternative, Piece};
 use crate::table::{FurtherRow, row_at};
 use infer::rows::{DLL, EPUB_ARCHIVE, HTML, ROW_COUNT, XML};
+use infer_inside::relation::Relation;
 
 /// The most bytes that a sample has, with some to spare.
 pub const SAMPLE_SIZE: usize = 1088;
@@ -83,7 +84,7 @@ fn put_entry(place: usize, text: &[u8], out: &mut [u8])
 fn put_class_id(id: &[u8], out: &mut [u8])
     requires room { 592 + length id.now ≤ length out.old }
     requires whole { 592 ≤ length out.old }
-    ensures { out.new ≡ with_parts (parts_of (model [] (class_id id.now))) out.old }
+    ensures { out.new ≡ with_parts (parts_of (relation_model [] (class_id id.now))) out.old }
 {
     put(0, b"\xD0\xCF\x11\xE0\xA1\xB1\x1A\xE1", out);
     put(26, b"\x03\0\xFE\xFF\x09", out);
@@ -94,7 +95,7 @@ fn put_class_id(id: &[u8], out: &mut [u8])
 /// Writes the header of an entry "_rels/", and inside it, at 6, that of an entry in the folder.
 fn put_package(folder: &'static [u8], out: &mut [u8])
     requires { 36 + length folder.now ≤ length out.old }
-    ensures { out.new ≡ with_parts (parts_of (model [] (package_with folder.now))) out.old }
+    ensures { out.new ≡ with_parts (parts_of (relation_model [] (package_with folder.now))) out.old }
 {
     put(0, b"PK\x03\x04", out);
     put(6, b"PK\x03\x04", out);
@@ -105,7 +106,7 @@ fn put_package(folder: &'static [u8], out: &mut [u8])
 /// Writes the header of a dBASE table with one field.
 fn put_dbase(out: &mut [u8])
     requires { 65 ≤ length out.old }
-    ensures { out.new ≡ with_parts (parts_of (model [] dbase)) out.old }
+    ensures { out.new ≡ with_parts (parts_of (relation_model [] dbase)) out.old }
 {
     put(0, b"\x02\0\x01\x01", out);
     put(8, b"\x41\0\x02", out);
@@ -125,16 +126,6 @@ fn prolog(parent: Option<usize>) -> &'static [u8]
     }
 }
 
-/// The first of the names, and the empty one if there is none.
-fn first_of(names: &[&'static [u8]]) -> &'static [u8]
-    ensures { result.now ≡ slice_index_or (map (λ name. name.now) names.now) 0 [] }
-{
-    match names.first() {
-        Some(name) => *name,
-        None => b"",
-    }
-}
-
 /// Writes a sample of the alternative over what is there: the root element behind that prolog.
 fn put_model(prolog: &'static [u8], alternative: &Alternative, out: &mut [u8])
     requires { IsTrue (list_all (is_inside (length out.old))
@@ -145,29 +136,41 @@ fn put_model(prolog: &'static [u8], alternative: &Alternative, out: &mut [u8])
     match alternative {
         Alternative::Bytes(bytes) => put_pieces(bytes.pieces, out),
         Alternative::BinaryBytes(bytes) => put_pieces(bytes.pieces, out),
-        Alternative::SharedObject => put_pieces(
+        Alternative::Related(relation) => put_relation(prolog, relation, out),
+    }
+}
+
+/// Writes a sample of the relation over it.
+fn put_relation(prolog: &'static [u8], relation: &Relation<'static>, out: &mut [u8])
+    requires { IsTrue (list_all (is_inside (length out.old))
+        (parts_of (relation_model prolog.now (relation_listed relation.now)))) }
+    ensures { out.new
+        ≡ with_parts (parts_of (relation_model prolog.now (relation_listed relation.now))) out.old }
+{
+    match relation {
+        Relation::SharedObject => put_pieces(
             &[At(4, b"\x01\x01"), At(16, b"\x03"), At(42, b"\x20\0\x01")],
             out,
         ),
-        Alternative::FirstEntryIs(name) => put_entry(26, name, out),
-        Alternative::FirstEntryEndsIn(name) => put_entry(26, name, out),
-        Alternative::FirstEntryHasExtra(extra) => put_entry(28, extra, out),
-        Alternative::PackageWith(folder) => put_package(folder, out),
-        Alternative::ClassId(id) => put_class_id(*id, out),
-        Alternative::DirectoryTag(tag) => {
+        Relation::FirstEntryIs(name) => put_entry(26, name, out),
+        Relation::FirstEntryEndsIn(name) => put_entry(26, name, out),
+        Relation::FirstEntryHasExtra(extra) => put_entry(28, extra, out),
+        Relation::PackageWith(folder) => put_package(folder, out),
+        Relation::ClassId(id) => put_class_id(id, out),
+        Relation::DirectoryTag(tag) => {
             put(0, b"MM\0*\0\0\0\x06", out);
             put(8, &tag.to_be_bytes(), out);
         }
-        Alternative::Animated => put_pieces(&[At(0, b"\x89PNG"), At(12, b"acTL")], out),
-        Alternative::SubRip => put_texts(&[b"0\n00:00:00,000 --> 00:00:00,000"], out),
-        Alternative::Dbase => put_dbase(out),
-        Alternative::TarChecksum => put_pieces(&[At(0, b"\x01"), At(148, b"401")], out),
-        Alternative::Program(names) => put_texts(&[b"#!", first_of(names), b"\n"], out),
-        Alternative::Root(name) => put_texts(&[prolog, b"<", name, b">"], out),
-        Alternative::RootWith(name, text) => put_texts(&[prolog, b"<", name, b" ", text], out),
-        Alternative::JsonLines => put_texts(&[b"[]\n["], out),
-        Alternative::JsonText => put_texts(&[b"[]"], out),
-        Alternative::PlainText => put_texts(&[b" "], out),
+        Relation::Animated => put_pieces(&[At(0, b"\x89PNG"), At(12, b"acTL")], out),
+        Relation::SubRip => put_texts(&[b"0\n00:00:00,000 --> 00:00:00,000"], out),
+        Relation::Dbase => put_dbase(out),
+        Relation::TarChecksum => put_pieces(&[At(0, b"\x01"), At(148, b"401")], out),
+        Relation::Program(name) => put_texts(&[b"#!", name, b"\n"], out),
+        Relation::Root(name) => put_texts(&[prolog, b"<", name, b">"], out),
+        Relation::RootWith(name, text) => put_texts(&[prolog, b"<", name, b" ", text], out),
+        Relation::JsonLines => put_texts(&[b"[]\n["], out),
+        Relation::JsonText => put_texts(&[b"[]"], out),
+        Relation::PlainText => put_texts(&[b" "], out),
     }
 }
 
@@ -179,24 +182,42 @@ fn model_length(prolog: &[u8], alternative: &Alternative) -> usize
     match alternative {
         Alternative::Bytes(bytes) => bytes.least,
         Alternative::BinaryBytes(bytes) => bytes.least,
-        Alternative::SharedObject => 46,
-        Alternative::FirstEntryIs(name) => 30 + name.len(),
-        Alternative::FirstEntryEndsIn(name) => 30 + name.len(),
-        Alternative::FirstEntryHasExtra(extra) => 30 + extra.len(),
-        Alternative::PackageWith(folder) => 36 + folder.len(),
-        Alternative::ClassId(_) => 640,
-        Alternative::DirectoryTag(_) => 20,
-        Alternative::Animated => 16,
-        Alternative::SubRip => 31,
-        Alternative::Dbase => 65,
-        Alternative::TarChecksum => 512,
-        Alternative::Program(names) => 3 + first_of(names).len(),
-        Alternative::Root(name) => prolog.len() + 2 + name.len(),
-        Alternative::RootWith(name, text) => prolog.len() + 2 + name.len() + text.len(),
-        Alternative::JsonLines => 4,
-        Alternative::JsonText => 2,
-        Alternative::PlainText => 1,
+        Alternative::Related(relation) => relation_length(prolog, relation),
     }
+}
+
+/// The length of that of the relation.
+fn relation_length(prolog: &[u8], relation: &Relation<'static>) -> usize
+    requires { least_of (relation_model prolog.now (relation_listed relation.now)) ≤ SAMPLE_SIZE }
+    ensures { result ≡ least_of (relation_model prolog.now (relation_listed relation.now)) }
+{
+    match relation {
+        Relation::SharedObject => 46,
+        Relation::FirstEntryIs(name) => entry_length(name),
+        Relation::FirstEntryEndsIn(name) => entry_length(name),
+        Relation::FirstEntryHasExtra(extra) => entry_length(extra),
+        Relation::PackageWith(folder) => 36 + folder.len(),
+        Relation::ClassId(_) => 640,
+        Relation::DirectoryTag(_) => 20,
+        Relation::Animated => 16,
+        Relation::SubRip => 31,
+        Relation::Dbase => 65,
+        Relation::TarChecksum => 512,
+        Relation::Program(name) => 3 + name.len(),
+        Relation::Root(name) => prolog.len() + 2 + name.len(),
+        Relation::RootWith(name, text) => prolog.len() + 2 + name.len() + text.len(),
+        Relation::JsonLines => 4,
+        Relation::JsonText => 2,
+        Relation::PlainText => 1,
+    }
+}
+
+/// The length of the first entry of a ZIP archive with the text behind its header.
+fn entry_length(text: &[u8]) -> usize
+    requires { 30 + length text.now ≤ SAMPLE_SIZE }
+    ensures { result ≡ 30 + length text.now }
+{
+    30 + text.len()
 }
 
 /// Writes the sample of built-in row `i`.

@@ -4,24 +4,11 @@ ghost use Rattle.std.specs.List.{list_all};
 ghost use Rattle.infer_sig.specs.Signature.{allows, any_of, between, fits, has_part};
 ghost use Rattle.infer_more.specs.Listed.{FitsAt, alternative_listed, bytes_listed, is_text, part_listed, signature_listed};
 ghost use Rattle.infer_more.specs.Row.{is_closed, is_closed_alternative, is_inside};
-ghost use Rattle.infer_inside.specs.Zip.{IsOneOf};
-ghost use Rattle.infer_notation.specs.Alternative.{Accepted, Fits, IsProgramAmong};
+ghost use Rattle.infer_notation.specs.Alternative.{Accepted, Fits};
 
-use infer_deep::doc::has_class_id;
-use infer_deep::places::{same_text, stands_at};
-use infer_inside::dbase::is_dbase;
-use infer_inside::elf::is_shared_object;
-use infer_inside::json::{is_json, is_json_lines};
-use infer_inside::markup::{has_root, has_root_with};
-use infer_inside::png::is_animated;
-use infer_inside::script::program;
-use infer_inside::subtitles::is_subrip;
-use infer_inside::tar::has_tar_checksum;
-use infer_inside::text::{is_binary, is_text};
-use infer_inside::tiff::first_directory_has_tag;
-use infer_inside::zip::{
-    first_entry_ends_in, first_entry_has_extra, first_entry_is, is_package_with,
-};
+use infer_deep::places::same_text;
+use infer_inside::relation::Relation;
+use infer_inside::text::is_binary;
 
 /// What a signature asks of places.
 #[derive(Drop)]
@@ -40,27 +27,11 @@ pub(crate) struct Bytes {
     pub pieces: &'static [Piece],
 }
 
-/// One of the alternatives of a signature: bytes at fixed places, these and a byte of binary data, or a look inside.
+/// One of the alternatives of a signature: bytes at fixed places, these and a byte of binary data, or a relation.
 pub(crate) enum Alternative {
     Bytes(Bytes),
     BinaryBytes(Bytes),
-    SharedObject,
-    FirstEntryIs(&'static [u8]),
-    FirstEntryEndsIn(&'static [u8]),
-    FirstEntryHasExtra(&'static [u8]),
-    PackageWith(&'static [u8]),
-    ClassId(&'static [u8; 16]),
-    DirectoryTag(u16),
-    Animated,
-    SubRip,
-    Dbase,
-    TarChecksum,
-    Program(&'static [&'static [u8]]),
-    Root(&'static [u8]),
-    RootWith(&'static [u8], &'static [u8]),
-    JsonLines,
-    JsonText,
-    PlainText,
+    Related(Relation<'static>),
 }
 
 /// In the place of a row's number, where the row is not known.
@@ -126,60 +97,8 @@ fn fits(alternative: &Alternative, buf: &[u8]) -> bool
     match alternative {
         Alternative::Bytes(bytes) => has_bytes(bytes, buf),
         Alternative::BinaryBytes(bytes) => has_bytes(bytes, buf) && is_binary(buf),
-        other => fits_inside(other, buf),
+        Alternative::Related(relation) => relation.fits(buf),
     }
-}
-
-/// Whether the buffer has what this one asks, which is seldom bytes. A function of its own, so that no row has a copy of it.
-#[inline(never)]
-fn fits_inside(alternative: &Alternative, buf: &[u8]) -> bool
-    requires { IsTrue (is_closed_alternative (alternative_listed alternative.now)) }
-    ensures { IsTrue result ↔ Fits (alternative_listed alternative.now) buf.now }
-{
-    match alternative {
-        Alternative::Bytes(bytes) => has_bytes(bytes, buf),
-        Alternative::BinaryBytes(bytes) => has_bytes(bytes, buf) && is_binary(buf),
-        Alternative::SharedObject => is_shared_object(buf),
-        Alternative::FirstEntryIs(name) => first_entry_is(buf, name),
-        Alternative::FirstEntryEndsIn(end) => first_entry_ends_in(buf, end),
-        Alternative::FirstEntryHasExtra(extra) => first_entry_has_extra(buf, extra),
-        Alternative::PackageWith(folder) => is_package_with(buf, folder),
-        Alternative::ClassId(id) => has_class_id(buf, id),
-        Alternative::DirectoryTag(tag) => first_directory_has_tag(buf, *tag),
-        Alternative::Animated => stands_at(buf, b"\x89PNG", 0) && is_animated(buf),
-        Alternative::SubRip => is_subrip(buf),
-        Alternative::Dbase => is_dbase(buf),
-        Alternative::TarChecksum => has_tar_checksum(buf),
-        Alternative::Program(names) => has_program(buf, names),
-        Alternative::Root(name) => has_root(buf, name),
-        Alternative::RootWith(name, text) => has_root_with(buf, name, text),
-        Alternative::JsonLines => is_json_lines(buf),
-        Alternative::JsonText => is_json(buf),
-        Alternative::PlainText => is_text(buf),
-    }
-}
-
-/// Whether one of the names is that of the program.
-#[tactic(auto, using(crate::proofs::AcceptedLemmas::among_programs, crate::proofs::AcceptedLemmas::none_among))]
-fn has_program(buf: &[u8], names: &[&[u8]]) -> bool
-    ensures { IsTrue result ↔ IsProgramAmong (map (λ name. name.now) names.now) buf.now }
-{
-    match program(buf) {
-        Some(name) => is_listed(name, names),
-        None => false,
-    }
-}
-
-/// Whether the name is one of these.
-fn is_listed(name: &[u8], names: &[&[u8]]) -> bool
-    ensures { IsTrue result ↔ IsOneOf name.now (map (λ other. other.now) names.now) }
-{
-    for other in names {
-        if name == *other {
-            return true;
-        }
-    }
-    false
 }
 
 /// Whether the buffer has the least length and every piece.

@@ -26,7 +26,7 @@ pub(crate) struct FurtherRow {
 }
 
 // A row a line: what it shows, its parent after a colon, and the alternatives of its signature, each as its least length
-// and its pieces, or as what it is called.
+// and its pieces, or as a relation.
 macro_rules! rows {
     ($($class:ident $mime_type:literal $extension:literal: $($parent:ident)? => $([$($alternative:tt)*])*;)*) => {
         &[$(FurtherRow {
@@ -47,8 +47,11 @@ macro_rules! alternative {
     ($least:literal, $($piece:expr),*) => {
         Alternative::Bytes(bytes!($least, $($piece),*))
     };
-    ($looks_inside:expr) => {
-        $looks_inside
+    (BinaryBytes($bytes:expr)) => {
+        Alternative::BinaryBytes($bytes)
+    };
+    ($relation:expr) => {
+        Alternative::Related($relation)
     };
 }
 

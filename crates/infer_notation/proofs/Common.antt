@@ -18,11 +18,10 @@ pub use Rattle.std.proofs.lemmas.Slice.Eq.{bytes_eq-Decides}
 pub use Rattle.std.specs.List.{All, list_all, list_any, onto_first, prefix_len, slice_split, starts_with}
 pub use Rattle.std.specs.Str.{bytes_eq}
 -- of the crates below
-pub use Rattle.infer_inside.specs.Zip.{IsOneOf}
 unfoldable pub use Rattle.infer_sig.specs.Signature.{stands}
 pub use Rattle.infer_sig.specs.Signature.{Part, all_but, allows, any_of, between, byte, has_part, text}
 -- of the definitions
-pub use Rattle.infer_notation.specs.Alternative.{Accepted, Alternative}
+pub use Rattle.infer_notation.specs.Alternative.{Accepted, Alternative, related}
 pub use Rattle.infer_notation.specs.Described.{BeginsWith, IsMadeOf, blank, by_mark, by_word, empty, in_braces}
 pub use Rattle.infer_notation.specs.Described.{in_quotes, next}
 unfoldable pub use Rattle.infer_notation.specs.Fixed.{step}
@@ -32,10 +31,10 @@ pub use Rattle.infer_notation.specs.Fixed.{range_of, rest_at, rest_of, rest_seen
 pub use Rattle.infer_notation.specs.Fixed.{step_at, step_seen, within, word_part}
 pub use Rattle.infer_notation.specs.Grammar.{Derives, opened, signature, tokens_at, tokens_of}
 pub use Rattle.infer_notation.specs.Leads.{IsKnown, IsLed, IsRead, is_found}
-pub use Rattle.infer_notation.specs.Relations.{IsItemSeen, IsSeen, begins_by, bytes_in, group_listed, groups_of}
-pub use Rattle.infer_notation.specs.Relations.{is_bare, is_or, item_of, items_in, left_groups, marked_entry}
-pub use Rattle.infer_notation.specs.Relations.{name_listed, named_in, names, related, relations_of, same_token}
-pub use Rattle.infer_notation.specs.Relations.{short_groups, spelled}
+pub use Rattle.infer_notation.specs.Relations.{IsSeen, begins_by, bytes_in, each_of, group_listed, groups_of, is_or}
+pub use Rattle.infer_notation.specs.Relations.{item_of, items_in, items_of, left_groups, marked_entry, name_listed}
+pub use Rattle.infer_notation.specs.Relations.{named_in, names, programs_of, relations_in, relations_of, same_token}
+pub use Rattle.infer_notation.specs.Relations.{short_groups}
 unfoldable pub use Rattle.infer_notation.specs.Signature.{signature_of}
 pub use Rattle.infer_notation.specs.Signature.{begins_relation, described}
 unfoldable pub use Rattle.infer_notation.specs.Tokens.{token_at}
@@ -47,8 +46,8 @@ pub use Rattle.infer_notation.specs.declared.fixed.Cursor.{Cursor}
 pub use Rattle.infer_notation.specs.declared.fixed.Effect.TheVariants.{Has}
 pub use Rattle.infer_notation.specs.declared.fixed.Wanted.{Wanted}
 pub use Rattle.infer_notation.specs.declared.fixed.Wanted.TheVariants.{At, Binary, Byte, Colon, Length, More, Or, Place}
-pub use Rattle.infer_notation.specs.declared.names.Relation.{Relation}
-pub use Rattle.infer_notation.specs.declared.names.Relation.TheVariants.{SharedObject}
+pub use Rattle.infer_notation.specs.declared.names.Takes.{Takes}
+pub use Rattle.infer_notation.specs.declared.names.Takes.TheVariants.{Nothing, Program}
 pub use Rattle.infer_notation.specs.declared.signature.State.{State}
 pub use Rattle.infer_notation.specs.declared.tokens.Run.TheVariants.{Bare}
 pub use Rattle.infer_notation.specs.declared.words.Hex.{Hex}

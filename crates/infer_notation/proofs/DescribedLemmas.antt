@@ -1,18 +1,22 @@
 -- What is read of a text is what it describes.
-use Rattle.infer_notation.proofs.Common.{◌≡◌, ◌+◌, ◌<◌, ◌≤◌, ◌&&◌, ◌||◌, ◌==◌, ◌⊎◌, ℕ, Bool, true, false, List, [], ◌∷◌, ◌++◌, Option, None, Some, codes, drop, length, map, nat_le, nat_lt, option_map, inl, inr, refl, sym, ap, subst, ◌∙◌, arith, All, list_all, onto_first, slice_split, cases_Bool, eqb-true, le-leb, leb-true, lt-leb, lt-ltb, ltb-true, append-nil, length-map, All-cons, All-nil, slice_split-cons_no, slice_split_at, slice_split_none, cond_some, bytes_eq-Decides, Alternative, BeginsWith, IsMadeOf, by_mark, by_word, blank, empty, in_braces, in_quotes, next, begins_by, bytes_in, is_bare, is_or, item_of, items_in, marked_entry, named_in, names, related, relations_of, same_token, short_groups, spelled, Asked, Rest, alternatives_of, rest_of, Derives, opened, signature, tokens_of, begins_relation, described, signature_of, bare, is_of, mark, quoted, ◌>>=◌, behind_blanks, byte_of, byte_with, number_of, Bare, Relation, SharedObject}
+use Rattle.infer_notation.proofs.Common.{◌≡◌, ◌+◌, ◌<◌, ◌≤◌, ◌&&◌, ◌||◌, ◌==◌, ◌⊎◌, ℕ, Bool, true, false, List, [], ◌∷◌, ◌++◌, Option, None, Some, codes, drop, length, map, nat_le, nat_lt, option_map, inl, inr, refl, sym, ap, subst, ◌∙◌, arith, All, list_all, onto_first, slice_split, cases_Bool, eqb-true, le-leb, leb-true, lt-leb, lt-ltb, ltb-true, append-nil, length-map, All-cons, All-nil, slice_split-cons_no, slice_split_at, slice_split_none, cond_some, bytes_eq-Decides, Alternative, BeginsWith, IsMadeOf, by_mark, by_word, blank, empty, in_braces, in_quotes, next, begins_by, bytes_in, each_of, is_or, item_of, items_in, items_of, marked_entry, named_in, names, programs_of, related, relations_in, relations_of, same_token, short_groups, Asked, Rest, alternatives_of, rest_of, Derives, opened, signature, tokens_of, begins_relation, described, signature_of, bare, is_of, mark, quoted, ◌>>=◌, behind_blanks, byte_of, byte_with, number_of, Bare, Takes, Nothing, Program, not, or_cases}
 use Rattle.std.proofs.Common.{◌*◌}
 use Rattle.std.specs.Int.{is_in_range}
 use Rattle.std.proofs.lemmas.List.{append_assoc}
 use Rattle.std.proofs.lemmas.List.Splits.{slice_split-cons_yes}
-use Rattle.infer_notation.specs.Alternative.{class_id, directory_tag, first_entry_ends_in, first_entry_has_extra, first_entry_is, package_with, program, root, root_with}
-use Rattle.infer_notation.specs.Described.{AreBytes, Asks, AsksBytes, AsksEach, Describes, IsGroup, IsName, IsNameIn, IsParted, NamesRelation, a_folder, a_name, a_tag, a_text_within, an_element, an_end, an_extra, an_id, last, nothing, other, programs}
-use Rattle.infer_notation.specs.Relations.{alone, directory_of, ending_entry, entry_of, extra_field, id_of, is_word, item_alone, named_entry, or_else, package_of, program_of, root_of}
+use Rattle.std.proofs.Math.Bool.{and-false}
+use Rattle.std.proofs.lemmas.Bool.{eq-eqb}
+use Rattle.infer_inside.specs.Relation.{Relation, class_id, directory_tag, first_entry_ends_in, first_entry_has_extra, first_entry_is, package_with, program, relation_listed, root, root_with}
+use Rattle.infer_inside.specs.declared.relation.Relation as relations
+use Rattle.infer_notation.specs.Described.{AreBytes, Asks, AsksBytes, AsksEach, AsksFor, Describes, IsGroup, IsName, IsNameIn, IsParted, NamesRelation, a_folder, a_name, a_program, a_relation, a_tag, a_text_within, an_element, an_end, an_extra, an_id, last, nothing, other, programs}
+use Rattle.infer_notation.specs.Relations.{alone, directory_of, ending_entry, entry_of, extra_field, id_of, is_word, named_entry, or_else, package_of, program_of, root_of}
 use Rattle.infer_notation.specs.Tokens.{Token, set}
 use Rattle.infer_notation.specs.Words.{is_digit}
 use Rattle.infer_notation.proofs.GrammarLemmas as grammar
 use Rattle.infer_notation.proofs.GrammarLemmas.{is_derived}
 use Rattle.infer_notation.proofs.MadeLemmas.{both_true, is_made, is_read, not_blank}
-use Rattle.infer_notation.specs.declared.names.Relation.TheVariants.{Animated, ClassId, Dbase, DirectoryTag, FirstEntry, JsonLines, JsonText, PackageWith, PlainText, Program, Root, SubRip, TarChecksum}
+use Rattle.infer_notation.specs.declared.names.Takes.TheVariants.{ClassId, Entry, Folder, Root, Tag}
+use Rattle.infer_notation.proofs.RelationLemmas.{begins_not}
 
 -- ---- groups
 
@@ -94,65 +98,105 @@ begun (t ∷ ts) (n ∷ ns) is =
     ap (λ u. u ∷ ts) (one_token t n both.0) ∙ ap (λ us. n ∷ us) (begun ts ns both.1)
 
 -- the name by which tokens begin
-pub record Named (ns : List (List Token × Relation)) (ts : List Token) (r : Relation) (rest : List Token) : Type 0 where
+pub record Named (ns : List (List Token × Takes)) (ts : List Token) (takes : Takes) (rest : List Token) : Type 0 where
   pub name : List Token
-  pub listed : IsNameIn ns r name
+  pub listed : IsNameIn ns takes name
   pub whole : ts ≡ name ++ rest
 
-pair_same : (s r : Relation) (us rest : List Token) → ◌≡◌ {A = Option (Relation × List Token)} (Some (s, us)) (Some (r, rest)) → (s ≡ r) × (us ≡ rest)
-pair_same s r us rest e = (ap (λ (n : Relation × List Token). n.0) (ap kept e), ap (λ (n : Relation × List Token). n.1) (ap kept e))
+pair_same : (s r : Takes) (us rest : List Token) → ◌≡◌ {A = Option (Takes × List Token)} (Some (s, us)) (Some (r, rest)) → (s ≡ r) × (us ≡ rest)
+pair_same s r us rest e = (ap (λ (n : Takes × List Token). n.0) (ap kept e), ap (λ (n : Takes × List Token). n.1) (ap kept e))
   where
-    kept : Option (Relation × List Token) → Relation × List Token
+    kept : Option (Takes × List Token) → Takes × List Token
     kept None = (s, us)
     kept (Some n) = n
 
-pub named_by : (ns : List (List Token × Relation)) (ts : List Token) (r : Relation) (rest : List Token) → named_in ns ts ≡ Some (r, rest) → Named ns ts r rest
-named_by [] ts r rest e = absurd cc
-named_by ((name, s) ∷ others) ts r rest e = elim (cases_Bool (begins_by ts name)) [
+pub named_by : (ns : List (List Token × Takes)) (ts : List Token) (takes : Takes) (rest : List Token) → named_in ns ts ≡ Some (takes, rest) → Named ns ts takes rest
+named_by [] ts takes rest e = absurd cc
+named_by ((name, s) ∷ others) ts takes rest e = elim (cases_Bool (begins_by ts name)) [
   | inl is ↦
-      let same = pair_same s r (drop (length name) ts) rest (rw is at e) in
+      let same = pair_same s takes (drop (length name) ts) rest (rw is at e) in
       record { name = name; listed = inl (ap (λ k. (name, k)) same.0); whole = begun ts name is ∙ ap (λ us. name ++ us) same.1 }
-  | inr not ↦
-      let later = named_by others ts r rest (rw not at e) in
+  | inr absent ↦
+      let later = named_by others ts takes rest (rw absent at e) in
       record { name = later.name; listed = inr later.listed; whole = later.whole }
 ]
 
-json_alone : (r : Relation) (rest : List Token) (a : Alternative) → r ≡ JsonText → Asks r rest a → rest ≡ []
-json_alone r rest a e (nothing _ _ is) = refl
-json_alone r rest a e (a_tag w x y z high low is-high is-low) = absurd cc
-json_alone r rest a e (a_folder folder) = absurd cc
-json_alone r rest a e (programs w ws) = absurd cc
-json_alone r rest a e (a_name name) = absurd cc
-json_alone r rest a e (an_end end) = absurd cc
-json_alone r rest a e (an_extra v w x y is-x is-y) = absurd cc
-json_alone r rest a e (an_id ws id long bytes) = absurd cc
-json_alone r rest a e (an_element name) = absurd cc
-json_alone r rest a e (a_text_within name text) = absurd cc
+-- what begins by the second name does not begin by the first: they differ, or the first is longer and the second takes nothing
+abbrev differ : List Token → List Token → Bool
+differ (t ∷ ts) (n ∷ ns) = not (same_token t n) || differ ts ns
+differ ts ns = false
+
+abbrev takes_none : Takes → Bool
+takes_none (Nothing r) = true
+takes_none takes = false
+
+abbrev are_apart : List Token × Takes → List Token × Takes → Bool
+are_apart m n = differ n.0 m.0 || (takes_none n.1 && nat_lt (length n.0) (length m.0))
+
+-- so each of the names is of those behind it
+abbrev all_apart : List (List Token × Takes) → Bool
+all_apart [] = true
+all_apart (m ∷ ns) = list_all (are_apart m) ns && all_apart ns
+
+begins_other : (ts ns rest : List Token) → differ ts ns ≡ true → begins_by (ts ++ rest) ns ≡ false
+begins_other [] ns rest is = absurd cc
+begins_other (t ∷ ts) [] rest is = absurd cc
+begins_other (t ∷ ts) (n ∷ ns) rest is = elim (or_cases (not (same_token t n)) (differ ts ns) is) [
+  | inl here ↦ rw (not_so (same_token t n) here) refl
+  | inr later ↦ ap (λ b. same_token t n && b) (begins_other ts ns rest later) ∙ and-false (same_token t n)
+]
+  where
+    not_so : (b : Bool) → not b ≡ true → b ≡ false
+    not_so true is = absurd cc
+    not_so false is = refl
+
+same_itself : (t : Token) → same_token t t ≡ true
+same_itself (quoted s) = (bytes_eq-Decides s s).1 refl
+same_itself (set s) = (bytes_eq-Decides s s).1 refl
+same_itself (bare s) = (bytes_eq-Decides s s).1 refl
+same_itself (mark x) = eq-eqb x x refl
+
+begins_itself : (ts rest : List Token) → (begins_by (ts ++ rest) ts ≡ true) × (drop (length ts) (ts ++ rest) ≡ rest)
+begins_itself [] rest = (refl, refl)
+begins_itself (t ∷ ts) rest = let later = begins_itself ts rest in (rw (same_itself t, later.0) refl, later.1)
+
+-- what takes nothing has no token behind its name
+taken_none : (takes : Takes) (rest : List Token) (bs : List Alternative) → AsksFor takes rest bs → takes_none takes ≡ true → rest ≡ []
+taken_none (Nothing r) rest bs (a_relation _ _ s (nothing _)) is = refl
+taken_none Tag rest bs asks is = absurd cc
+taken_none Folder rest bs asks is = absurd cc
+taken_none Program rest bs asks is = absurd cc
+taken_none Entry rest bs asks is = absurd cc
+taken_none ClassId rest bs asks is = absurd cc
+taken_none Root rest bs asks is = absurd cc
 
 -- tokens that begin by a relation's name, and go on with what it takes, name that one
-module _ (r : Relation) (name rest : List Token) (a : Alternative) (asks : Asks r rest a) where
-  abbrev IsTold : List Token × Relation → Type 0
-  IsTold n = named_in names (n.0 ++ rest) ≡ Some (n.1, rest)
+module _ (takes : Takes) (name rest : List Token) (bs : List Alternative) (asks : AsksFor takes rest bs) where
+  before : (m : List Token × Takes) → are_apart m (name, takes) ≡ true → begins_by (name ++ rest) m.0 ≡ false
+  before m is = elim (or_cases (differ name m.0) (takes_none takes && nat_lt (length name) (length m.0)) is) [
+    | inl differs ↦ begins_other name m.0 rest differs
+    | inr longer ↦
+        let both = both_true (takes_none takes) (nat_lt (length name) (length m.0)) longer in
+        subst (λ us. begins_by (name ++ us) m.0 ≡ false) (sym (taken_none takes rest bs asks both.0))
+        (ap (λ us. begins_by us m.0) (append-nil name) ∙ begins_not name m.0 (ltb-true (length name) (length m.0) both.1))
+  ]
 
-  told_json : ◌≡◌ {A = List Token × Relation} (bare (codes "JSON") ∷ [], JsonText) (name, r) → IsTold (bare (codes "JSON") ∷ [], JsonText)
-  told_json e = subst (λ us. named_in names (bare (codes "JSON") ∷ us) ≡ Some (JsonText, us)) (sym (json_alone r rest a (sym (ap (λ (n : List Token × Relation). n.1) e)) asks)) refl
+  apart_from : (m : List Token × Takes) (ns : List (List Token × Takes)) → list_all (are_apart m) ns ≡ true → IsNameIn ns takes name → are_apart m (name, takes) ≡ true
+  apart_from m (n ∷ ns) all (inl e) = subst (λ k. are_apart m k ≡ true) e (both_true (are_apart m n) _ all).0
+  apart_from m (n ∷ ns) all (inr later) = apart_from m ns (both_true (are_apart m n) _ all).1 later
+  apart_from m [] all none = absurd none
 
-  pub takes_so : IsName r name → named_in names (name ++ rest) ≡ Some (r, rest)
-  takes_so (inl e) = subst IsTold e refl
-  takes_so (inr (inl e)) = subst IsTold e refl
-  takes_so (inr (inr (inl e))) = subst IsTold e refl
-  takes_so (inr (inr (inr (inl e)))) = subst IsTold e refl
-  takes_so (inr (inr (inr (inr (inl e))))) = subst IsTold e refl
-  takes_so (inr (inr (inr (inr (inr (inl e)))))) = subst IsTold e refl
-  takes_so (inr (inr (inr (inr (inr (inr (inl e))))))) = subst IsTold e (told_json e)
-  takes_so (inr (inr (inr (inr (inr (inr (inr (inl e)))))))) = subst IsTold e refl
-  takes_so (inr (inr (inr (inr (inr (inr (inr (inr (inl e))))))))) = subst IsTold e refl
-  takes_so (inr (inr (inr (inr (inr (inr (inr (inr (inr (inl e)))))))))) = subst IsTold e refl
-  takes_so (inr (inr (inr (inr (inr (inr (inr (inr (inr (inr (inl e))))))))))) = subst IsTold e refl
-  takes_so (inr (inr (inr (inr (inr (inr (inr (inr (inr (inr (inr (inl e)))))))))))) = subst IsTold e refl
-  takes_so (inr (inr (inr (inr (inr (inr (inr (inr (inr (inr (inr (inr (inl e))))))))))))) = subst IsTold e refl
-  takes_so (inr (inr (inr (inr (inr (inr (inr (inr (inr (inr (inr (inr (inr (inl e)))))))))))))) = subst IsTold e refl
-  takes_so (inr (inr (inr (inr (inr (inr (inr (inr (inr (inr (inr (inr (inr (inr none)))))))))))))) = absurd none
+  told_in : (ns : List (List Token × Takes)) → all_apart ns ≡ true → IsNameIn ns takes name → named_in ns (name ++ rest) ≡ Some (takes, rest)
+  told_in (n ∷ ns) apart (inl e) =
+      subst (λ (k : List Token × Takes). named_in (k ∷ ns) (name ++ rest) ≡ Some (takes, rest)) (sym e)
+      (let its = begins_itself name rest in rw its.0 (ap (λ us. Some (takes, us)) its.1))
+  told_in (n ∷ ns) apart (inr later) =
+      let both = both_true (list_all (are_apart n) ns) (all_apart ns) apart in
+      rw (before n (apart_from n ns both.0 later)) (told_in ns both.1 later)
+  told_in [] apart none = absurd none
+
+  pub takes_so : IsName takes name → named_in names (name ++ rest) ≡ Some (takes, rest)
+  takes_so is = told_in names refl is
 
 -- ---- what a relation takes
 
@@ -162,19 +206,19 @@ word_is w (quoted v) is = absurd cc
 word_is w (set v) is = absurd cc
 word_is w (mark x) is = absurd cc
 
-alone_so : (r : Relation) (ts : List Token) (a : Alternative) → alone (item_alone r) ts ≡ Some a → Asks r ts a
-alone_so r [] a e = nothing r a e
+alone_so : (r : relations.Relation) (ts : List Token) (a : Relation) → alone (relation_listed r) ts ≡ Some a → Asks (Nothing r) ts a
+alone_so r [] a e = let same : relation_listed r ≡ a = cc in subst (Asks (Nothing r) []) same (nothing r)
 alone_so r (t ∷ ts) a e = absurd cc
 
-tag_so : (w x y z : ℕ) (a : Alternative) (high low : Option ℕ) → byte_with w x ≡ high → byte_with y z ≡ low
-    → (high >>= λ h. option_map (λ l. directory_tag (256 * h + l)) low) ≡ Some a → Asks DirectoryTag (bare (w ∷ x ∷ y ∷ z ∷ []) ∷ []) a
+tag_so : (w x y z : ℕ) (a : Relation) (high low : Option ℕ) → byte_with w x ≡ high → byte_with y z ≡ low
+    → (high >>= λ h. option_map (λ l. directory_tag (256 * h + l)) low) ≡ Some a → Asks Tag (bare (w ∷ x ∷ y ∷ z ∷ []) ∷ []) a
 tag_so w x y z a None low is-high is-low e = absurd cc
 tag_so w x y z a (Some h) None is-high is-low e = absurd cc
 tag_so w x y z a (Some h) (Some l) is-high is-low e =
     let same : directory_tag (256 * h + l) ≡ a = cc in
-    subst (Asks DirectoryTag (bare (w ∷ x ∷ y ∷ z ∷ []) ∷ [])) same (a_tag w x y z h l is-high is-low)
+    subst (Asks Tag (bare (w ∷ x ∷ y ∷ z ∷ []) ∷ [])) same (a_tag w x y z h l is-high is-low)
 
-directory_so : (ts : List Token) (a : Alternative) → directory_of ts ≡ Some a → Asks DirectoryTag ts a
+directory_so : (ts : List Token) (a : Relation) → directory_of ts ≡ Some a → Asks Tag ts a
 directory_so (bare (w ∷ x ∷ y ∷ z ∷ []) ∷ []) a e = tag_so w x y z a (byte_with w x) (byte_with y z) refl refl e
 directory_so [] a e = absurd cc
 directory_so (bare [] ∷ ts) a e = absurd cc
@@ -187,39 +231,30 @@ directory_so (quoted v ∷ ts) a e = absurd cc
 directory_so (set v ∷ ts) a e = absurd cc
 directory_so (mark v ∷ ts) a e = absurd cc
 
-folder_so : (ts : List Token) (a : Alternative) → package_of ts ≡ Some a → Asks PackageWith ts a
-folder_so (quoted t ∷ []) a e = let same : package_with t ≡ a = cc in subst (Asks PackageWith (quoted t ∷ [])) same (a_folder t)
+folder_so : (ts : List Token) (a : Relation) → package_of ts ≡ Some a → Asks Folder ts a
+folder_so (quoted t ∷ []) a e = let same : package_with t ≡ a = cc in subst (Asks Folder (quoted t ∷ [])) same (a_folder t)
 folder_so [] a e = absurd cc
 folder_so (quoted t ∷ u ∷ ts) a e = absurd cc
 folder_so (set v ∷ ts) a e = absurd cc
 folder_so (mark v ∷ ts) a e = absurd cc
 folder_so (bare v ∷ ts) a e = absurd cc
 
-all_bare : (ts : List Token) → list_all is_bare ts ≡ true → map bare (map spelled ts) ≡ ts
-all_bare [] all = refl
-all_bare (bare w ∷ ts) all = ap (λ us. bare w ∷ us) (all_bare ts all)
-all_bare (quoted w ∷ ts) all = absurd cc
-all_bare (set w ∷ ts) all = absurd cc
-all_bare (mark x ∷ ts) all = absurd cc
-
-bare_all : (ws : List (List ℕ)) → (list_all is_bare (map bare ws) ≡ true) × (map spelled (map bare ws) ≡ ws)
-bare_all [] = (refl, refl)
-bare_all (w ∷ ws) = let others = bare_all ws in (others.0, ap (λ vs. w ∷ vs) others.1)
-
-program_so : (ts : List Token) (a : Alternative) → program_of ts ≡ Some a → Asks Program ts a
+program_so : (ts : List Token) (a : Relation) → program_of ts ≡ Some a → Asks Program ts a
+program_so (bare w ∷ []) a e = let same : program w ≡ a = cc in subst (Asks Program (bare w ∷ [])) same (a_program w)
 program_so [] a e = absurd cc
-program_so (t ∷ ts) a e =
-    let both = cond_some (list_all is_bare (t ∷ ts)) (program (map spelled (t ∷ ts))) a e in
-    subst (Asks Program (t ∷ ts)) both.1 (subst (λ us. Asks Program us (program (map spelled (t ∷ ts)))) (all_bare (t ∷ ts) both.0) (programs (spelled t) (map spelled ts)))
+program_so (bare w ∷ t ∷ ts) a e = absurd cc
+program_so (quoted v ∷ ts) a e = absurd cc
+program_so (set v ∷ ts) a e = absurd cc
+program_so (mark v ∷ ts) a e = absurd cc
 
-either_so : (o p : Option Alternative) (a : Alternative) → or_else o p ≡ Some a → (o ≡ Some a) ⊎ (p ≡ Some a)
+either_so : (o p : Option Relation) (a : Relation) → or_else o p ≡ Some a → (o ≡ Some a) ⊎ (p ≡ Some a)
 either_so None p a e = inr e
 either_so (Some b) p a e = inl e
 
-name_so : (ts : List Token) (a : Alternative) → named_entry ts ≡ Some a → Asks FirstEntry ts a
+name_so : (ts : List Token) (a : Relation) → named_entry ts ≡ Some a → Asks Entry ts a
 name_so (t ∷ quoted s ∷ []) a e =
     let both = cond_some (is_word (codes "is") t) (first_entry_is s) a e in
-    subst (λ u. Asks FirstEntry (u ∷ quoted s ∷ []) a) (sym (word_is (codes "is") t both.0)) (subst (Asks FirstEntry (bare (codes "is") ∷ quoted s ∷ [])) both.1 (a_name s))
+    subst (λ u. Asks Entry (u ∷ quoted s ∷ []) a) (sym (word_is (codes "is") t both.0)) (subst (Asks Entry (bare (codes "is") ∷ quoted s ∷ [])) both.1 (a_name s))
 name_so [] a e = absurd cc
 name_so (t ∷ []) a e = absurd cc
 name_so (t ∷ quoted s ∷ u ∷ ts) a e = absurd cc
@@ -227,13 +262,13 @@ name_so (t ∷ set s ∷ ts) a e = absurd cc
 name_so (t ∷ mark s ∷ ts) a e = absurd cc
 name_so (t ∷ bare s ∷ ts) a e = absurd cc
 
-end_so : (ts : List Token) (a : Alternative) → ending_entry ts ≡ Some a → Asks FirstEntry ts a
+end_so : (ts : List Token) (a : Relation) → ending_entry ts ≡ Some a → Asks Entry ts a
 end_so (t ∷ u ∷ quoted s ∷ []) a e =
     let both = cond_some (is_word (codes "ends") t && is_word (codes "in") u) (first_entry_ends_in s) a e in
     let words = both_true (is_word (codes "ends") t) (is_word (codes "in") u) both.0 in
-    subst (λ v. Asks FirstEntry (v ∷ u ∷ quoted s ∷ []) a) (sym (word_is (codes "ends") t words.0))
-    (subst (λ v. Asks FirstEntry (bare (codes "ends") ∷ v ∷ quoted s ∷ []) a) (sym (word_is (codes "in") u words.1))
-    (subst (Asks FirstEntry (bare (codes "ends") ∷ bare (codes "in") ∷ quoted s ∷ [])) both.1 (an_end s)))
+    subst (λ v. Asks Entry (v ∷ u ∷ quoted s ∷ []) a) (sym (word_is (codes "ends") t words.0))
+    (subst (λ v. Asks Entry (bare (codes "ends") ∷ v ∷ quoted s ∷ []) a) (sym (word_is (codes "in") u words.1))
+    (subst (Asks Entry (bare (codes "ends") ∷ bare (codes "in") ∷ quoted s ∷ [])) both.1 (an_end s)))
 end_so [] a e = absurd cc
 end_so (t ∷ []) a e = absurd cc
 end_so (t ∷ u ∷ []) a e = absurd cc
@@ -242,17 +277,17 @@ end_so (t ∷ u ∷ set s ∷ ts) a e = absurd cc
 end_so (t ∷ u ∷ mark s ∷ ts) a e = absurd cc
 end_so (t ∷ u ∷ bare s ∷ ts) a e = absurd cc
 
-abbrev Extra : List Token → Alternative → Type 0
-Extra id a = Asks FirstEntry (bare (codes "has") ∷ bare (codes "extra") ∷ id) a
+abbrev Extra : List Token → Relation → Type 0
+Extra id a = Asks Entry (bare (codes "has") ∷ bare (codes "extra") ∷ id) a
 
-bytes_so : (v w : List ℕ) (a : Alternative) (high low : Option ℕ) → byte_of v ≡ high → byte_of w ≡ low
+bytes_so : (v w : List ℕ) (a : Relation) (high low : Option ℕ) → byte_of v ≡ high → byte_of w ≡ low
     → (high >>= λ x. option_map (λ y. first_entry_has_extra (x ∷ y ∷ [])) low) ≡ Some a → Extra (bare v ∷ bare w ∷ []) a
 bytes_so v w a None low is-high is-low e = absurd cc
 bytes_so v w a (Some x) None is-high is-low e = absurd cc
 bytes_so v w a (Some x) (Some y) is-high is-low e =
     let same : first_entry_has_extra (x ∷ y ∷ []) ≡ a = cc in subst (Extra (bare v ∷ bare w ∷ [])) same (an_extra v w x y is-high is-low)
 
-field_so : (id : List Token) (a : Alternative) → extra_field id ≡ Some a → Extra id a
+field_so : (id : List Token) (a : Relation) → extra_field id ≡ Some a → Extra id a
 field_so (bare v ∷ bare w ∷ []) a e = bytes_so v w a (byte_of v) (byte_of w) refl refl e
 field_so [] a e = absurd cc
 field_so (quoted v ∷ ts) a e = absurd cc
@@ -264,18 +299,18 @@ field_so (bare v ∷ set w ∷ ts) a e = absurd cc
 field_so (bare v ∷ mark w ∷ ts) a e = absurd cc
 field_so (bare v ∷ bare w ∷ t ∷ ts) a e = absurd cc
 
-extra_so : (ts : List Token) (a : Alternative) → marked_entry ts ≡ Some a → Asks FirstEntry ts a
+extra_so : (ts : List Token) (a : Relation) → marked_entry ts ≡ Some a → Asks Entry ts a
 extra_so [] a e = absurd cc
 extra_so (t ∷ []) a e = absurd cc
 extra_so (t ∷ u ∷ id) a e = elim (cases_Bool (is_word (codes "has") t && is_word (codes "extra") u)) [
   | inl is ↦
       let words = both_true (is_word (codes "has") t) (is_word (codes "extra") u) is in
-      subst (λ v. Asks FirstEntry (v ∷ u ∷ id) a) (sym (word_is (codes "has") t words.0))
-      (subst (λ v. Asks FirstEntry (bare (codes "has") ∷ v ∷ id) a) (sym (word_is (codes "extra") u words.1)) (field_so id a (rw is at e)))
+      subst (λ v. Asks Entry (v ∷ u ∷ id) a) (sym (word_is (codes "has") t words.0))
+      (subst (λ v. Asks Entry (bare (codes "has") ∷ v ∷ id) a) (sym (word_is (codes "extra") u words.1)) (field_so id a (rw is at e)))
   | inr not ↦ absurd (let none : None ≡ Some a = rw not at e in cc)
 ]
 
-entry_so : (ts : List Token) (a : Alternative) → entry_of ts ≡ Some a → Asks FirstEntry ts a
+entry_so : (ts : List Token) (a : Relation) → entry_of ts ≡ Some a → Asks Entry ts a
 entry_so ts a e = elim (either_so (named_entry ts) (or_else (ending_entry ts) (marked_entry ts)) a e) [
   | inl named ↦ name_so ts a named
   | inr others ↦ elim (either_so (ending_entry ts) (marked_entry ts) a others) [
@@ -312,7 +347,7 @@ so_words (w ∷ ws) (x ∷ xs) are = rw (are.0, so_words ws xs are.1) refl
 so_words [] (x ∷ xs) are = absurd are
 so_words (w ∷ ws) [] are = absurd are
 
-id_so : (ts : List Token) (a : Alternative) → id_of ts ≡ Some a → Asks ClassId ts a
+id_so : (ts : List Token) (a : Relation) → id_of ts ≡ Some a → Asks ClassId ts a
 id_so ts a e = elim (cases_Bool (length ts == 16)) [
   | inl is ↦ some (bytes_in ts) refl (rw is at e) (eqb-true (length ts) 16 is)
   | inr not ↦ absurd (let none : None ≡ Some a = rw not at e in cc)
@@ -326,7 +361,7 @@ id_so ts a e = elim (cases_Bool (length ts == 16)) [
         subst (λ us. Asks ClassId us a) (sym written.same) (subst (Asks ClassId (map bare written.words)) same
         (an_id written.words xs (sym (length-map written.words bare) ∙ ap length (sym written.same) ∙ long) written.bytes))
 
-root_so : (ts : List Token) (a : Alternative) → root_of ts ≡ Some a → Asks Root ts a
+root_so : (ts : List Token) (a : Relation) → root_of ts ≡ Some a → Asks Root ts a
 root_so (bare n ∷ []) a e = let same : root n ≡ a = cc in subst (Asks Root (bare n ∷ [])) same (an_element n)
 root_so (bare n ∷ t ∷ quoted s ∷ []) a e =
     let both = cond_some (is_word (codes "with") t) (root_with n s) a e in
@@ -341,100 +376,134 @@ root_so (bare n ∷ t ∷ set s ∷ ts) a e = absurd cc
 root_so (bare n ∷ t ∷ mark s ∷ ts) a e = absurd cc
 root_so (bare n ∷ t ∷ bare s ∷ ts) a e = absurd cc
 
-asked_so : (r : Relation) (ts : List Token) (a : Alternative) → item_of r ts ≡ Some a → Asks r ts a
-asked_so SharedObject ts a e = alone_so SharedObject ts a e
-asked_so Animated ts a e = alone_so Animated ts a e
-asked_so SubRip ts a e = alone_so SubRip ts a e
-asked_so Dbase ts a e = alone_so Dbase ts a e
-asked_so TarChecksum ts a e = alone_so TarChecksum ts a e
-asked_so JsonLines ts a e = alone_so JsonLines ts a e
-asked_so JsonText ts a e = alone_so JsonText ts a e
-asked_so PlainText ts a e = alone_so PlainText ts a e
-asked_so DirectoryTag ts a e = directory_so ts a e
-asked_so PackageWith ts a e = folder_so ts a e
+asked_so : (takes : Takes) (ts : List Token) (a : Relation) → item_of takes ts ≡ Some a → Asks takes ts a
+asked_so (Nothing r) ts a e = alone_so r ts a e
+asked_so Tag ts a e = directory_so ts a e
+asked_so Folder ts a e = folder_so ts a e
 asked_so Program ts a e = program_so ts a e
-asked_so FirstEntry ts a e = entry_so ts a e
+asked_so Entry ts a e = entry_so ts a e
 asked_so ClassId ts a e = id_so ts a e
 asked_so Root ts a e = root_so ts a e
 
-alone_item : (r : Relation) (a : Alternative) → item_alone r ≡ Some a → item_of r [] ≡ Some a
-alone_item SharedObject a e = e
-alone_item Animated a e = e
-alone_item SubRip a e = e
-alone_item Dbase a e = e
-alone_item TarChecksum a e = e
-alone_item JsonLines a e = e
-alone_item JsonText a e = e
-alone_item PlainText a e = e
-alone_item DirectoryTag a e = absurd cc
-alone_item PackageWith a e = absurd cc
-alone_item Program a e = absurd cc
-alone_item FirstEntry a e = absurd cc
-alone_item ClassId a e = absurd cc
-alone_item Root a e = absurd cc
+asks_so : (takes : Takes) (ts : List Token) (a : Relation) → Asks takes ts a → items_of takes ts ≡ Some (related a ∷ [])
+asks_so takes ts a (nothing r) = refl
+asks_so takes ts a (a_tag w x y z high low is-high is-low) = rw (is-high, is-low) refl
+asks_so takes ts a (a_folder folder) = refl
+asks_so takes ts a (a_program w) = refl
+asks_so takes ts a (a_name name) = refl
+asks_so takes ts a (an_end end) = refl
+asks_so takes ts a (an_extra v w x y is-x is-y) = rw (is-x, is-y) refl
+asks_so takes ts a (an_id ws id long bytes) = rw (length-map ws bare ∙ long, so_words ws id bytes) refl
+asks_so takes ts a (an_element name) = refl
+asks_so takes ts a (a_text_within name text) = refl
 
-asks_so : (r : Relation) (ts : List Token) (a : Alternative) → Asks r ts a → item_of r ts ≡ Some a
-asks_so r ts a (nothing _ _ is) = alone_item r a is
-asks_so r ts a (a_tag w x y z high low is-high is-low) = rw (is-high, is-low) refl
-asks_so r ts a (a_folder folder) = refl
-asks_so r ts a (programs w ws) = let others = bare_all ws in rw (others.0, others.1) refl
-asks_so r ts a (a_name name) = refl
-asks_so r ts a (an_end end) = refl
-asks_so r ts a (an_extra v w x y is-x is-y) = rw (is-x, is-y) refl
-asks_so r ts a (an_id ws id long bytes) = rw (length-map ws bare ∙ long, so_words ws id bytes) refl
-asks_so r ts a (an_element name) = refl
-asks_so r ts a (a_text_within name text) = refl
+-- a program by each word
+abbrev program_by : List ℕ → Alternative
+program_by w = related (program w)
 
-pub asked_each : (r : Relation) (gs : List (List Token)) (bs : List Alternative) → items_in r gs ≡ Some bs → AsksEach r gs bs
-asked_each r [] bs e = let none : [] ≡ bs = cc in subst (AsksEach r []) none tt
-asked_each r (g ∷ gs) bs e = first (item_of r g) refl (items_in r gs) refl e (asked_each r gs)
+words_read : (ws : List (List ℕ)) → each_of Program (map bare ws) ≡ Some (map program_by ws)
+words_read [] = refl
+words_read (w ∷ ws) = ap (option_map (λ others. program_by w ∷ others)) (words_read ws)
+
+-- words, and the programs that they name
+record Programs (ts : List Token) (bs : List Alternative) : Type 0 where
+  words : List (List ℕ)
+  same : ts ≡ map bare words
+  are : bs ≡ map program_by words
+
+words_named : (ts : List Token) (bs : List Alternative) → each_of Program ts ≡ Some bs → Programs ts bs
+words_named [] bs e = record { words = []; same = refl; are = (let none : [] ≡ bs = cc in sym none) }
+words_named (quoted w ∷ ts) bs e = absurd cc
+words_named (set w ∷ ts) bs e = absurd cc
+words_named (mark w ∷ ts) bs e = absurd cc
+words_named (bare w ∷ ts) bs e = more (each_of Program ts) refl e (words_named ts)
   where
-    first : (o : Option Alternative) → item_of r g ≡ o → (p : Option (List Alternative)) → items_in r gs ≡ p → (o >>= λ a. option_map (λ others. a ∷ others) p) ≡ Some bs
-        → ((others : List Alternative) → items_in r gs ≡ Some others → AsksEach r gs others) → AsksEach r (g ∷ gs) bs
-    first None is p are e more = absurd cc
-    first (Some a) is None are e more = absurd cc
-    first (Some a) is (Some others) are e more = let same : a ∷ others ≡ bs = cc in subst (AsksEach r (g ∷ gs)) same (asked_so r g a is, more others are)
+    more : (o : Option (List Alternative)) → each_of Program ts ≡ o → option_map (λ others. program_by w ∷ others) o ≡ Some bs
+        → ((others : List Alternative) → each_of Program ts ≡ Some others → Programs ts others) → Programs (bare w ∷ ts) bs
+    more None none e rest = absurd cc
+    more (Some others) is e rest =
+        let later = rest others is in
+        let same : program_by w ∷ others ≡ bs = cc in
+        record { words = w ∷ later.words; same = ap (λ us. bare w ∷ us) later.same; are = sym same ∙ ap (λ us. program_by w ∷ us) later.are }
 
-pub asks_each : (r : Relation) (gs : List (List Token)) (bs : List Alternative) → AsksEach r gs bs → items_in r gs ≡ Some bs
-asks_each r [] [] each = refl
-asks_each r (g ∷ gs) (a ∷ bs) each = rw (asks_so r g a each.0, asks_each r gs bs each.1) refl
-asks_each r [] (a ∷ bs) each = absurd each
-asks_each r (g ∷ gs) [] each = absurd each
+programs_so : (ts : List Token) (bs : List Alternative) → programs_of ts ≡ Some bs → AsksFor Program ts bs
+programs_so [] bs e = absurd cc
+programs_so (t ∷ ts) bs e = let are = words_named (t ∷ ts) bs e in by are.words are.same are.are
+  where
+    by : (ws : List (List ℕ)) → t ∷ ts ≡ map bare ws → bs ≡ map program_by ws → AsksFor Program (t ∷ ts) bs
+    by [] same are = absurd cc
+    by (w ∷ ws) same are = subst (λ us. AsksFor Program us bs) (sym same) (subst (AsksFor Program (map bare (w ∷ ws))) (sym are) (programs w ws))
+
+one_so : (takes : Takes) (ts : List Token) (bs : List Alternative) → option_map (λ r. related r ∷ []) (item_of takes ts) ≡ Some bs → AsksFor takes ts bs
+one_so takes ts bs e = item (item_of takes ts) refl e
+  where
+    item : (o : Option Relation) → item_of takes ts ≡ o → option_map (λ r. related r ∷ []) o ≡ Some bs → AsksFor takes ts bs
+    item None none e = absurd cc
+    item (Some r) is e = let same : related r ∷ [] ≡ bs = cc in subst (AsksFor takes ts) same (a_relation takes ts r (asked_so takes ts r is))
+
+asked_for : (takes : Takes) (ts : List Token) (bs : List Alternative) → items_of takes ts ≡ Some bs → AsksFor takes ts bs
+asked_for (Nothing r) ts bs e = one_so (Nothing r) ts bs e
+asked_for Tag ts bs e = one_so Tag ts bs e
+asked_for Folder ts bs e = one_so Folder ts bs e
+asked_for Program ts bs e = programs_so ts bs e
+asked_for Entry ts bs e = one_so Entry ts bs e
+asked_for ClassId ts bs e = one_so ClassId ts bs e
+asked_for Root ts bs e = one_so Root ts bs e
+
+asks_for : (takes : Takes) (ts : List Token) (bs : List Alternative) → AsksFor takes ts bs → items_of takes ts ≡ Some bs
+asks_for takes ts bs (a_relation _ _ r asks) = asks_so takes ts r asks
+asks_for takes ts bs (programs w ws) = words_read (w ∷ ws)
+
+pub asked_each : (takes : Takes) (gs : List (List Token)) (bs : List Alternative) → items_in takes gs ≡ Some bs → AsksEach takes gs bs
+asked_each takes [] bs e = let none : [] ≡ bs = cc in sym none
+asked_each takes (g ∷ gs) bs e = first (items_of takes g) refl (items_in takes gs) refl e (asked_each takes gs)
+  where
+    first : (o : Option (List Alternative)) → items_of takes g ≡ o → (p : Option (List Alternative)) → items_in takes gs ≡ p → (o >>= λ firsts. option_map (λ others. firsts ++ others) p) ≡ Some bs
+        → ((others : List Alternative) → items_in takes gs ≡ Some others → AsksEach takes gs others) → AsksEach takes (g ∷ gs) bs
+    first None is p are e more = absurd cc
+    first (Some firsts) is None are e more = absurd cc
+    first (Some firsts) is (Some others) are e more = let same : firsts ++ others ≡ bs = cc in (firsts, others, asked_for takes g firsts is, more others are, sym same)
+
+pub asks_each : (takes : Takes) (gs : List (List Token)) (bs : List Alternative) → AsksEach takes gs bs → items_in takes gs ≡ Some bs
+asks_each takes [] bs each = ap (λ cs. Some cs) (sym each)
+asks_each takes (g ∷ gs) bs (firsts, others, asks, each, same) = rw (asks_for takes g firsts asks, asks_each takes gs others each) (ap (λ cs. Some cs) (sym same))
 
 -- ---- a text
 
-relation_so : (text : List ℕ) (bs : List Alternative) (o : Option (List Token)) → tokens_of text ≡ o → (o >>= λ ts. short_groups (slice_split is_or ts)) >>= related ≡ Some bs → NamesRelation text bs
+relation_so : (text : List ℕ) (bs : List Alternative) (o : Option (List Token)) → tokens_of text ≡ o → (o >>= λ ts. short_groups (slice_split is_or ts)) >>= relations_in ≡ Some bs → NamesRelation text bs
 relation_so text bs None none e = absurd cc
 relation_so text bs (Some ts) is e = groups (short_groups (slice_split is_or ts)) refl e
   where
-    told : (g : List Token) (gs : List (List Token)) → short_groups (slice_split is_or ts) ≡ Some (g ∷ gs) → (o : Option (Relation × List Token)) → named_in names g ≡ o
+    told : (g : List Token) (gs : List (List Token)) → short_groups (slice_split is_or ts) ≡ Some (g ∷ gs) → (o : Option (Takes × List Token)) → named_in names g ≡ o
         → (o >>= λ n. items_in n.0 (n.1 ∷ gs)) ≡ Some bs → NamesRelation text bs
     told g gs parted None none e = absurd cc
-    told g gs parted (Some (r, rest)) named e =
-        let by = named_by names g r rest named in record {
+    told g gs parted (Some (takes, rest)) named e =
+        let by = named_by names g takes rest named in record {
           tokens = ts;
           made = is_made text ts is;
-          relation = r;
+          takes = takes;
           name = by.name;
           named = by.listed;
           first = rest;
           others = gs;
           parted = subst (λ h. IsParted ts (h ∷ gs)) by.whole (is_parted ts (g ∷ gs) parted);
-          asks = asked_each r (rest ∷ gs) bs e;
+          asks = asked_each takes (rest ∷ gs) bs e;
         }
 
-    groups : (o : Option (List (List Token))) → short_groups (slice_split is_or ts) ≡ o → o >>= related ≡ Some bs → NamesRelation text bs
+    groups : (o : Option (List (List Token))) → short_groups (slice_split is_or ts) ≡ o → o >>= relations_in ≡ Some bs → NamesRelation text bs
     groups None none e = absurd cc
     groups (Some []) are e = absurd cc
     groups (Some (g ∷ gs)) are e = told g gs are (named_in names g) refl e
 
 so_relation : (text : List ℕ) (bs : List Alternative) → NamesRelation text bs → relations_of text ≡ Some bs
-so_relation text [] is = absurd is.asks
-so_relation text (b ∷ bs) is =
-    ap (λ o. (o >>= λ ts. short_groups (slice_split is_or ts)) >>= related) (is_read text is.tokens is.made)
-    ∙ ap (λ o. o >>= related) (is_grouped is.tokens ((is.name ++ is.first) ∷ is.others) is.parted)
-    ∙ ap (λ o. o >>= λ n. items_in n.0 (n.1 ∷ is.others)) (takes_so is.relation is.name is.first b is.asks.0 is.named)
-    ∙ asks_each is.relation (is.first ∷ is.others) (b ∷ bs) is.asks
+so_relation text bs is =
+    ap (λ o. (o >>= λ ts. short_groups (slice_split is_or ts)) >>= relations_in) (is_read text is.tokens is.made)
+    ∙ ap (λ o. o >>= relations_in) (is_grouped is.tokens ((is.name ++ is.first) ∷ is.others) is.parted)
+    ∙ ap (λ o. o >>= λ n. items_in n.0 (n.1 ∷ is.others)) (named is.asks)
+    ∙ asks_each is.takes (is.first ∷ is.others) bs is.asks
+  where
+    named : AsksEach is.takes (is.first ∷ is.others) bs → named_in names (is.name ++ is.first) ≡ Some (is.takes, is.first)
+    named (firsts, others, asks, each, same) = takes_so is.takes is.name is.first firsts asks is.named
 
 -- a relation's name begins with a letter, and fixed bytes with a number
 begins_so : (text rest : List ℕ) (t : Token) (w : List ℕ) → BeginsWith text t rest → t ≡ bare w → (behind_blanks text ≡ w ++ rest) × (0 < length w)
@@ -470,29 +539,29 @@ fixed_first : (text : List ℕ) (ts : List Token) (r : Rest) → IsMadeOf text t
 fixed_first text ts r made (opened w n us s is derived) =
     let (rest, same, some) = first_word text ts w (mark 0x3A ∷ us) made refl in ap begins_relation same ∙ number_first w rest n is
 
-module _ (text : List ℕ) (name us : List Token) (r : Relation) (made : IsMadeOf text (name ++ us)) where
-  begins_by_word : (w : List ℕ) (vs : List Token) (n : List Token × Relation) → n ≡ (name, r) → n.0 ++ us ≡ bare w ∷ vs
-      → ((rest : List ℕ) → begins_relation (w ++ rest) ≡ true) → begins_relation (behind_blanks text) ≡ true
-  begins_by_word w vs n e is letter =
-      let (rest, same, some) = first_word text (n.0 ++ us) w vs (subst (λ (m : List Token × Relation). IsMadeOf text (m.0 ++ us)) (sym e) made) is in
-      ap begins_relation same ∙ letter rest
+-- the name begins with a word whose first byte is a letter
+abbrev opens_letter : List Token × Takes → Bool
+opens_letter ((bare w ∷ ts), takes) = begins_relation w
+opens_letter n = false
 
-  letter_first : IsName r name → begins_relation (behind_blanks text) ≡ true
-  letter_first (inl e) = begins_by_word (codes "shared") (bare (codes "object") ∷ us) _ e refl (λ rest. refl)
-  letter_first (inr (inl e)) = begins_by_word (codes "chunk") (quoted (codes "acTL") ∷ bare (codes "before") ∷ quoted (codes "IDAT") ∷ us) _ e refl (λ rest. refl)
-  letter_first (inr (inr (inl e))) = begins_by_word (codes "first") (bare (codes "cue") ∷ bare (codes "of") ∷ bare (codes "SubRip") ∷ us) _ e refl (λ rest. refl)
-  letter_first (inr (inr (inr (inl e)))) = begins_by_word (codes "dBASE") (bare (codes "header") ∷ us) _ e refl (λ rest. refl)
-  letter_first (inr (inr (inr (inr (inl e))))) = begins_by_word (codes "tar") (bare (codes "checksum") ∷ us) _ e refl (λ rest. refl)
-  letter_first (inr (inr (inr (inr (inr (inl e)))))) = begins_by_word (codes "JSON") (bare (codes "lines") ∷ us) _ e refl (λ rest. refl)
-  letter_first (inr (inr (inr (inr (inr (inr (inl e))))))) = begins_by_word (codes "JSON") (us) _ e refl (λ rest. refl)
-  letter_first (inr (inr (inr (inr (inr (inr (inr (inl e)))))))) = begins_by_word (codes "text") (us) _ e refl (λ rest. refl)
-  letter_first (inr (inr (inr (inr (inr (inr (inr (inr (inl e))))))))) = begins_by_word (codes "first") (bare (codes "directory") ∷ bare (codes "has") ∷ bare (codes "tag") ∷ us) _ e refl (λ rest. refl)
-  letter_first (inr (inr (inr (inr (inr (inr (inr (inr (inr (inl e)))))))))) = begins_by_word (codes "package") (bare (codes "with") ∷ mark 0x3A ∷ us) _ e refl (λ rest. refl)
-  letter_first (inr (inr (inr (inr (inr (inr (inr (inr (inr (inr (inl e))))))))))) = begins_by_word (codes "program") (mark 0x3A ∷ us) _ e refl (λ rest. refl)
-  letter_first (inr (inr (inr (inr (inr (inr (inr (inr (inr (inr (inr (inl e)))))))))))) = begins_by_word (codes "first") (bare (codes "entry") ∷ mark 0x3A ∷ us) _ e refl (λ rest. refl)
-  letter_first (inr (inr (inr (inr (inr (inr (inr (inr (inr (inr (inr (inr (inl e))))))))))))) = begins_by_word (codes "class") (bare (codes "id") ∷ mark 0x3A ∷ us) _ e refl (λ rest. refl)
-  letter_first (inr (inr (inr (inr (inr (inr (inr (inr (inr (inr (inr (inr (inr (inl e)))))))))))))) = begins_by_word (codes "root") (mark 0x3A ∷ us) _ e refl (λ rest. refl)
-  letter_first (inr (inr (inr (inr (inr (inr (inr (inr (inr (inr (inr (inr (inr (inr none)))))))))))))) = absurd none
+module _ (text : List ℕ) (us : List Token) (takes : Takes) where
+  letter_here : (name : List Token) → IsMadeOf text (name ++ us) → opens_letter (name, takes) ≡ true → begins_relation (behind_blanks text) ≡ true
+  letter_here (bare [] ∷ vs) made is = absurd cc
+  letter_here (bare (x ∷ w) ∷ vs) made is =
+      let (rest, same, some) = first_word text (bare (x ∷ w) ∷ (vs ++ us)) (x ∷ w) (vs ++ us) made refl in
+      ap begins_relation same ∙ is
+  letter_here [] made is = absurd cc
+  letter_here (quoted v ∷ vs) made is = absurd cc
+  letter_here (set v ∷ vs) made is = absurd cc
+  letter_here (mark v ∷ vs) made is = absurd cc
+
+  letter_in : (ns : List (List Token × Takes)) (name : List Token) → list_all opens_letter ns ≡ true → IsNameIn ns takes name → opens_letter (name, takes) ≡ true
+  letter_in (n ∷ ns) name all (inl e) = subst (λ k. opens_letter k ≡ true) e (both_true (opens_letter n) _ all).0
+  letter_in (n ∷ ns) name all (inr later) = letter_in ns name (both_true (opens_letter n) _ all).1 later
+  letter_in [] name all none = absurd none
+
+  letter_first : (name : List Token) → IsMadeOf text (name ++ us) → IsName takes name → begins_relation (behind_blanks text) ≡ true
+  letter_first name made is = letter_here name made (letter_in names name refl is)
 
 tokens_whole : (ts g : List Token) (gs : List (List Token)) → IsParted ts (g ∷ gs) → (us : List Token) × (ts ≡ g ++ us)
 tokens_whole ts g gs (last _ group) = ([], sym (append-nil g))
@@ -519,4 +588,4 @@ is_signature text bs (inl is) =
 is_signature text bs (inr is) =
     let (us, all) = tokens_whole is.tokens (is.name ++ is.first) is.others is.parted in
     let made = subst (IsMadeOf text) (all ∙ append_assoc is.name is.first us) is.made in
-    rw (letter_first text is.name (is.first ++ us) is.relation made is.named) (so_relation text bs is)
+    rw (letter_first text (is.first ++ us) is.takes is.name made is.named) (so_relation text bs is)

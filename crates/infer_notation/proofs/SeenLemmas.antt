@@ -1,32 +1,16 @@
 -- What a buffer makes of alternatives that a text describes by a relation.
-use Rattle.infer_notation.proofs.Common.{◌≡◌, ◌+◌, ◌⊎◌, ◌||◌, ℕ, suc, slice_index, Bool, true, false, not, cond, ◌&&◌, List, [], ◌∷◌, ◌++◌, Option, None, Some, IsTrue, drop, length, map, option_map, get_or, inl, inr, refl, sym, ap, subst, ◌∙◌, ◌<◌, arith, and_parts, false≢true, or_cases, nat_tests, drop_more, IsOneOf, Accepted, Alternative, Asked, accepts, has_data, described, IsItemSeen, IsSeen, groups_of, item_of, items_in, left_groups, named_in, names, related, relations_of, spelled, token_listed, ◌>>=◌, Relation}
+use Rattle.infer_notation.proofs.Common.{◌≡◌, ◌+◌, ◌⊎◌, ◌||◌, ◌≤◌, ℕ, suc, slice_index, Bool, true, false, not, cond, ◌&&◌, List, [], ◌∷◌, ◌++◌, Option, None, Some, IsTrue, drop, length, map, option_map, get_or, inl, inr, refl, sym, ap, subst, ◌∙◌, ◌<◌, arith, and_parts, false≢true, or_cases, nat_tests, drop_all, drop_more, Accepted, Alternative, Asked, accepts, has_data, described, IsSeen, each_of, groups_of, item_of, items_of, items_in, left_groups, named_in, names, programs_of, relations_in, relations_of, token_listed, ◌>>=◌, Takes, Program}
 use Rattle.std.proofs.Common.{◌↔◌}
 use Rattle.std.proofs.Math.Bool.{and-true}
 use Rattle.std.proofs.lemmas.Bool.Decides.{Decides-or}
 use Rattle.std.proofs.lemmas.List.Folds.{list_any_at}
 use Rattle.infer_sig.specs.Signature as fixed
-use Rattle.infer_inside.specs.Script.{IsProgram}
+use Rattle.infer_inside.specs.Relation.{Relation}
 use Rattle.infer_inside.specs.Text.{IsBinary, IsDataByte}
-use Rattle.infer_notation.specs.Alternative.{Fits, IsProgramAmong, binary_bytes, bytes}
+use Rattle.infer_notation.specs.Alternative.{Fits, binary_bytes, bytes, related}
 use Rattle.infer_notation.specs.Fixed.{fits_asked, is_data_byte}
 use Rattle.infer_notation.specs.Tokens.{Token}
 use Rattle.infer_notation.specs.declared.tokens.Token as declared
-
--- ---- names of programs
-
--- the program has one name, so it is one of these exactly if this name is
-pub among_programs : (b name : List ℕ) → IsProgram name b → ((n : List ℕ) → IsProgram n b → n ≡ name) → (ns : List (List ℕ)) → IsOneOf name ns ↔ IsProgramAmong ns b
-among_programs b name is only [] = (λ h. h, λ h. h)
-among_programs b name is only (n ∷ ns) =
-    let later = among_programs b name is only ns in (
-      λ h. elim h [ inl e ↦ inl (subst (λ m. IsProgram m b) e is) | inr more ↦ inr (later.0 more) ],
-      λ h. elim h [ inl p ↦ inl (sym (only n p)) | inr more ↦ inr (later.1 more) ],
-    )
-
-pub no_program : (b : List ℕ) → ((n : List ℕ) → ¬ IsProgram n b) → (ns : List (List ℕ)) → ¬ IsProgramAmong ns b
-no_program b none [] h = absurd h
-no_program b none (n ∷ ns) (inl p) = none n p
-no_program b none (n ∷ ns) (inr more) = no_program b none ns more
 
 -- ---- alternatives
 
@@ -35,88 +19,117 @@ abbrev pub IsLeft : Bool → Option (List Alternative) → List ℕ → Option B
 IsLeft any items b None = items ≡ None
 IsLeft any items b (Some x) = (alternatives : List Alternative) × (items ≡ Some alternatives) × (IsTrue x ↔ (IsTrue any ⊎ Accepted alternatives b))
 
-abbrev pub left_items : Relation → Option (List ℕ) → Option (List Alternative)
-left_items r rest = left_groups rest >>= items_in r
+abbrev pub left_items : Takes → Option (List ℕ) → Option (List Alternative)
+left_items takes rest = left_groups rest >>= items_in takes
 
--- the items of a group and of what follows it
-module _ (r : Relation) (g : List Token) (rest : Option (List ℕ)) where
-  items_next : (a : Alternative) → item_of r g ≡ Some a → (o : Option (List (List Token))) → (option_map (λ gs. g ∷ gs) o >>= items_in r) ≡ option_map (λ others. a ∷ others) (o >>= items_in r)
-  items_next a is None = refl
-  items_next a is (Some gs) = ap (λ i. i >>= λ a. option_map (λ others. a ∷ others) (items_in r gs)) is
+accepted_both : (first others : List Alternative) (b : List ℕ) → Accepted (first ++ others) b ↔ (Accepted first b ⊎ Accepted others b)
+accepted_both [] others b = (λ h. inr h, λ h. elim h [ inl none ↦ absurd none | inr more ↦ more ])
+accepted_both (a ∷ first) others b = let rest = accepted_both first others b in (
+  λ h. elim h [ inl f ↦ inl (inl f) | inr more ↦ elim (rest.0 more) [ inl f ↦ inl (inr f) | inr m ↦ inr m ] ],
+  λ h. elim h [ inl (inl f) ↦ inl f | inl (inr f) ↦ inr (rest.1 (inl f)) | inr m ↦ inr (rest.1 (inr m)) ],
+)
 
--- one alternative less to come
-seen_more : (items others : Option (List Alternative)) (b : List ℕ) (any fits : Bool) (a : Alternative) → items ≡ option_map (λ more. a ∷ more) others → IsTrue fits ↔ Fits a b
+-- some alternatives less to come
+seen_more : (items others : Option (List Alternative)) (b : List ℕ) (any fits : Bool) (first : List Alternative) → items ≡ option_map (λ more. first ++ more) others → IsTrue fits ↔ Accepted first b
     → (x : Option Bool) → IsLeft (any || fits) others b x → IsLeft any items b x
-seen_more items others b any fits a is fit None left = is ∙ ap (option_map (λ more. a ∷ more)) left
-seen_more items others b any fits a is fit (Some x) (alternatives, are, seen) = (a ∷ alternatives, is ∙ ap (option_map (λ more. a ∷ more)) are, (λ t. there any fits fit.0 (seen.0 t), λ h. seen.1 (back any fits fit.1 h)))
+seen_more items others b any fits first is fit None left = is ∙ ap (option_map (λ more. first ++ more)) left
+seen_more items others b any fits first is fit (Some x) (alternatives, are, seen) = (
+  first ++ alternatives,
+  is ∙ ap (option_map (λ more. first ++ more)) are,
+  (λ t. there any fits fit.0 (seen.0 t), λ h. seen.1 (back any fits fit.1 h)),
+)
   where
-    there : (any fits : Bool) → (IsTrue fits → Fits a b) → IsTrue (any || fits) ⊎ Accepted alternatives b → IsTrue any ⊎ (Fits a b ⊎ Accepted alternatives b)
+    there : (any fits : Bool) → (IsTrue fits → Accepted first b) → IsTrue (any || fits) ⊎ Accepted alternatives b → IsTrue any ⊎ Accepted (first ++ alternatives) b
     there true fits f h = inl refl
-    there false fits f (inl t) = inr (inl (f t))
-    there false fits f (inr more) = inr (inr more)
+    there false fits f (inl t) = inr ((accepted_both first alternatives b).1 (inl (f t)))
+    there false fits f (inr more) = inr ((accepted_both first alternatives b).1 (inr more))
 
-    back : (any fits : Bool) → (Fits a b → IsTrue fits) → IsTrue any ⊎ (Fits a b ⊎ Accepted alternatives b) → IsTrue (any || fits) ⊎ Accepted alternatives b
+    back : (any fits : Bool) → (Accepted first b → IsTrue fits) → IsTrue any ⊎ Accepted (first ++ alternatives) b → IsTrue (any || fits) ⊎ Accepted alternatives b
     back true fits f h = inl refl
     back false fits f (inl t) = absurd (false≢true t)
-    back false fits f (inr (inl fit)) = inl (f fit)
-    back false fits f (inr (inr more)) = inr more
+    back false fits f (inr h) = elim ((accepted_both first alternatives b).0 h) [ inl fit ↦ inl (f fit) | inr more ↦ inr more ]
 
--- the first alternative
-pub seen_first : (text b : List ℕ) (g : List Token) (rest : Option (List ℕ)) (r : Relation) (ts : List Token) (fits : Bool) → groups_of text ≡ option_map (λ gs. g ∷ gs) (left_groups rest)
-    → named_in names g ≡ Some (r, ts) → IsItemSeen (item_of r ts) b (Some fits) → (x : Option Bool) → IsLeft fits (left_items r rest) b x → IsSeen (relations_of text) b x
-seen_first text b g rest r ts fits whole named (a, is, fit) x left =
-    ended x (seen_more (relations_of text) (left_items r rest) b false fits a (ap (λ o. o >>= related) whole ∙ on_groups (left_groups rest)) fit x left)
+-- none before them
+only_left : (items : Option (List Alternative)) (b : List ℕ) (x : Option Bool) → IsLeft false items b x → IsSeen items b x
+only_left items b None h = h
+only_left items b (Some x) (alternatives, are, seen) = (alternatives, are, (λ t. elim (seen.0 t) [ inl f ↦ absurd (false≢true f) | inr h ↦ h ], λ h. seen.1 (inr h)))
+
+-- the first alternatives
+pub seen_first : (text b : List ℕ) (g : List Token) (rest : Option (List ℕ)) (takes : Takes) (ts : List Token) (fits : Bool) → groups_of text ≡ option_map (λ gs. g ∷ gs) (left_groups rest)
+    → named_in names g ≡ Some (takes, ts) → IsSeen (items_of takes ts) b (Some fits) → (x : Option Bool) → IsLeft fits (left_items takes rest) b x → IsSeen (relations_of text) b x
+seen_first text b g rest takes ts fits whole named (first, is, fit) x left =
+    only_left (relations_of text) b x (seen_more (relations_of text) (left_items takes rest) b false fits first (ap (λ o. o >>= relations_in) whole ∙ on_groups (left_groups rest)) fit x left)
   where
-    on_groups : (o : Option (List (List Token))) → (option_map (λ gs. g ∷ gs) o >>= related) ≡ option_map (λ others. a ∷ others) (o >>= items_in r)
+    on_groups : (o : Option (List (List Token))) → (option_map (λ gs. g ∷ gs) o >>= relations_in) ≡ option_map (λ others. first ++ others) (o >>= items_in takes)
     on_groups None = refl
-    on_groups (Some gs) = ap (λ n. n >>= λ n. items_in n.0 (n.1 ∷ gs)) named ∙ ap (λ i. i >>= λ a. option_map (λ others. a ∷ others) (items_in r gs)) is
-
-    ended : (x : Option Bool) → IsLeft false (relations_of text) b x → IsSeen (relations_of text) b x
-    ended None h = h
-    ended (Some x) (alternatives, are, seen) = (alternatives, are, (λ t. elim (seen.0 t) [ inl f ↦ absurd (false≢true f) | inr h ↦ h ], λ h. seen.1 (inr h)))
+    on_groups (Some gs) = ap (λ n. n >>= λ n. items_in n.0 (n.1 ∷ gs)) named ∙ ap (λ i. i >>= λ first. option_map (λ others. first ++ others) (items_in takes gs)) is
 
 -- a name that none has, or an alternative that takes something else
 pub unseen_first : (text : List ℕ) (g : List Token) (rest : Option (List ℕ)) → groups_of text ≡ option_map (λ gs. g ∷ gs) (left_groups rest) → named_in names g ≡ None → relations_of text ≡ None
-unseen_first text g rest whole named = ap (λ o. o >>= related) whole ∙ on_groups (left_groups rest)
+unseen_first text g rest whole named = ap (λ o. o >>= relations_in) whole ∙ on_groups (left_groups rest)
   where
-    on_groups : (o : Option (List (List Token))) → (option_map (λ gs. g ∷ gs) o >>= related) ≡ None
+    on_groups : (o : Option (List (List Token))) → (option_map (λ gs. g ∷ gs) o >>= relations_in) ≡ None
     on_groups None = refl
     on_groups (Some gs) = ap (λ n. n >>= λ n. items_in n.0 (n.1 ∷ gs)) named
 
-pub untaken_first : (text : List ℕ) (g : List Token) (rest : Option (List ℕ)) (r : Relation) (ts : List Token) → groups_of text ≡ option_map (λ gs. g ∷ gs) (left_groups rest)
-    → named_in names g ≡ Some (r, ts) → item_of r ts ≡ None → relations_of text ≡ None
-untaken_first text g rest r ts whole named is = ap (λ o. o >>= related) whole ∙ on_groups (left_groups rest)
+pub untaken_first : (text : List ℕ) (g : List Token) (rest : Option (List ℕ)) (takes : Takes) (ts : List Token) → groups_of text ≡ option_map (λ gs. g ∷ gs) (left_groups rest)
+    → named_in names g ≡ Some (takes, ts) → items_of takes ts ≡ None → relations_of text ≡ None
+untaken_first text g rest takes ts whole named is = ap (λ o. o >>= relations_in) whole ∙ on_groups (left_groups rest)
   where
-    on_groups : (o : Option (List (List Token))) → (option_map (λ gs. g ∷ gs) o >>= related) ≡ None
+    on_groups : (o : Option (List (List Token))) → (option_map (λ gs. g ∷ gs) o >>= relations_in) ≡ None
     on_groups None = refl
-    on_groups (Some gs) = ap (λ n. n >>= λ n. items_in n.0 (n.1 ∷ gs)) named ∙ ap (λ i. i >>= λ a. option_map (λ others. a ∷ others) (items_in r gs)) is
+    on_groups (Some gs) = ap (λ n. n >>= λ n. items_in n.0 (n.1 ∷ gs)) named ∙ ap (λ i. i >>= λ first. option_map (λ others. first ++ others) (items_in takes gs)) is
 
--- a further alternative
-pub seen_next : (more b : List ℕ) (g : List Token) (rest : Option (List ℕ)) (r : Relation) (any fits : Bool) → groups_of more ≡ option_map (λ gs. g ∷ gs) (left_groups rest)
-    → IsItemSeen (item_of r g) b (Some fits) → (x : Option Bool) → IsLeft (any || fits) (left_items r rest) b x → IsLeft any (left_items r (Some more)) b x
-seen_next more b g rest r any fits whole (a, is, fit) =
-    seen_more (left_items r (Some more)) (left_items r rest) b any fits a (ap (λ o. o >>= items_in r) whole ∙ items_next r g rest a is (left_groups rest)) fit
+-- further alternatives
+pub seen_next : (more b : List ℕ) (g : List Token) (rest : Option (List ℕ)) (takes : Takes) (any fits : Bool) → groups_of more ≡ option_map (λ gs. g ∷ gs) (left_groups rest)
+    → IsSeen (items_of takes g) b (Some fits) → (x : Option Bool) → IsLeft (any || fits) (left_items takes rest) b x → IsLeft any (left_items takes (Some more)) b x
+seen_next more b g rest takes any fits whole (first, is, fit) =
+    seen_more (left_items takes (Some more)) (left_items takes rest) b any fits first (ap (λ o. o >>= items_in takes) whole ∙ on_groups (left_groups rest)) fit
+  where
+    on_groups : (o : Option (List (List Token))) → (option_map (λ gs. g ∷ gs) o >>= items_in takes) ≡ option_map (λ others. first ++ others) (o >>= items_in takes)
+    on_groups None = refl
+    on_groups (Some gs) = ap (λ i. i >>= λ first. option_map (λ others. first ++ others) (items_in takes gs)) is
 
 -- none is to come
-pub seen_last : (b : List ℕ) (r : Relation) (any : Bool) → IsLeft any (left_items r None) b (Some any)
-seen_last b r any = ([], refl, (λ t. inl t, λ h. elim h [ inl t ↦ t | inr none ↦ absurd none ]))
+pub seen_last : (b : List ℕ) (takes : Takes) (any : Bool) → IsLeft any (left_items takes None) b (Some any)
+seen_last b takes any = ([], refl, (λ t. inl t, λ h. elim h [ inl t ↦ t | inr none ↦ absurd none ]))
 
--- ---- one of the words
+-- ---- one relation, and programs, each by a word
 
-module _ (name : List ℕ) (ws : List declared.Token) (i : ℕ) (w : declared.Token) (inside : i < length ws) where
-  abbrev Among : List declared.Token → Type 0
-  Among xs = IsOneOf name (map spelled (map token_listed xs))
+abbrev one : Relation → List Alternative
+one r = related r ∷ []
 
-  -- it is this one
-  pub among_here : name ≡ spelled (token_listed (get_or ws i w)) → Among (drop i ws)
-  among_here is = subst Among (sym (drop_more ws i w inside)) (inl is)
+pub one_seen : (o : Option Relation) (r : Relation) (b : List ℕ) (x : Bool) → Some r ≡ o → IsTrue x ↔ Fits (related r) b → IsSeen (option_map one o) b (Some x)
+one_seen o r b x is fit = (one r, ap (option_map one) (sym is), (λ t. inl (fit.0 t), λ h. elim h [ inl f ↦ fit.1 f | inr none ↦ absurd none ]))
 
-  -- or one of those behind it, and no other
-  pub among_later : Among (drop (i + 1) ws) → Among (drop i ws)
-  among_later h = subst Among (sym (drop_more ws i w inside)) (inr h)
+abbrev pub AreLeft : Bool → List declared.Token → List ℕ → Option Bool → Type 0
+AreLeft any ts b x = IsLeft any (each_of Program (map token_listed ts)) b x
 
-  pub among_not : (name ≡ spelled (token_listed (get_or ws i w)) → ⊥) → Among (drop i ws) → Among (drop (i + 1) ws)
-  among_not other h = elim (subst Among (drop_more ws i w inside) h) [ inl e ↦ absurd (other e) | inr more ↦ more ]
+pub programs_first : (ts : List declared.Token) (b : List ℕ) → 0 < length ts → (x : Option Bool) → AreLeft false ts b x → IsSeen (programs_of (map token_listed ts)) b x
+programs_first [] b some x left = absurd (omega arith)
+programs_first (t ∷ ts) b some x left = only_left (each_of Program (map token_listed (t ∷ ts))) b x left
+
+-- the next
+module _ (ts : List declared.Token) (i : ℕ) (t : declared.Token) (inside : i < length ts) (b : List ℕ) where
+  pub program_next : (any fits : Bool) → IsSeen (option_map one (item_of Program (token_listed (get_or ts i t) ∷ []))) b (Some fits) → (x : Option Bool) → AreLeft (any || fits) (drop (i + 1) ts) b x → AreLeft any (drop i ts) b x
+  program_next any fits (first, is, fit) x left =
+      seen_more (each_of Program (map token_listed (drop i ts))) (each_of Program (map token_listed (drop (i + 1) ts))) b any fits first
+      (ap (λ us. each_of Program (map token_listed us)) (drop_more ts i t inside) ∙ on_first (item_of Program (token_listed (get_or ts i t) ∷ [])) is (each_of Program (map token_listed (drop (i + 1) ts)))) fit x left
+    where
+      on_first : (o : Option Relation) → option_map one o ≡ Some first → (p : Option (List Alternative)) → (o >>= λ r. option_map (λ others. related r ∷ others) p) ≡ option_map (λ more. first ++ more) p
+      on_first None e p = absurd cc
+      on_first (Some r) e p = let same : one r ≡ first = cc in subst (λ f. option_map (λ others. related r ∷ others) p ≡ option_map (λ more. f ++ more) p) same refl
+
+  pub no_program : (any : Bool) → option_map one (item_of Program (token_listed (get_or ts i t) ∷ [])) ≡ None → AreLeft any (drop i ts) b None
+  no_program any is = ap (λ us. each_of Program (map token_listed us)) (drop_more ts i t inside) ∙ on_first (item_of Program (token_listed (get_or ts i t) ∷ [])) is
+    where
+      on_first : (o : Option Relation) → option_map one o ≡ None → (o >>= λ r. option_map (λ others. related r ∷ others) (each_of Program (map token_listed (drop (i + 1) ts)))) ≡ None
+      on_first None e = refl
+      on_first (Some r) e = absurd cc
+
+-- and none behind the last
+pub programs_last : (ts : List declared.Token) (i : ℕ) (b : List ℕ) (any : Bool) → length ts ≤ i → AreLeft any (drop i ts) b (Some any)
+programs_last ts i b any past = subst (λ us. AreLeft any us b (Some any)) (sym (drop_all i ts past)) ([], refl, (λ t. inl t, λ h. elim h [ inl t ↦ t | inr none ↦ absurd none ]))
 
 -- ---- fixed signatures as those of further rows
 

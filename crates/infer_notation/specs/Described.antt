@@ -1,15 +1,17 @@
 -- What a text describes, as relations between its bytes, its tokens and alternatives.
 use Rattle.std.specs.Prelude.{◌≡◌, ◌+◌, ◌*◌, ◌<◌, ◌≤◌, ◌⊎◌, ℕ, false, All, IsFalse, IsTrue, List, [], ◌∷◌, ◌++◌, Some, codes, length, map}
 use Rattle.std.specs.List.{list_all}
-use Rattle.infer_notation.specs.Alternative.{Alternative, class_id, directory_tag, first_entry_ends_in, first_entry_has_extra, first_entry_is, package_with, program, root, root_with}
+use Rattle.infer_inside.specs.Relation.{Relation, class_id, directory_tag, first_entry_ends_in, first_entry_has_extra, first_entry_is, package_with, program, relation_listed, root, root_with}
+use Rattle.infer_inside.specs.declared.relation.Relation as relations
+use Rattle.infer_notation.specs.Alternative.{Alternative, related}
 use Rattle.infer_notation.specs.Fixed.{Asked, rest_of}
 use Rattle.infer_notation.specs.Grammar.{Derives, signature}
-use Rattle.infer_notation.specs.Relations.{is_or, item_alone, names}
+use Rattle.infer_notation.specs.Relations.{is_or, names}
 use Rattle.infer_notation.specs.Signature.{described}
 use Rattle.infer_notation.specs.Tokens.{Token, bare, is_mark, is_of, mark, quoted, set}
 use Rattle.infer_notation.specs.Words.{byte_of, byte_with, first_passes, is_blank}
-use Rattle.infer_notation.specs.declared.names.Relation.{Relation}
-use Rattle.infer_notation.specs.declared.names.Relation.TheVariants.{ClassId, DirectoryTag, FirstEntry, PackageWith, Program, Root}
+use Rattle.infer_notation.specs.declared.names.Takes.{Takes}
+use Rattle.infer_notation.specs.declared.names.Takes.TheVariants.{ClassId, Entry, Folder, Nothing, Program, Root, Tag}
 use Rattle.infer_notation.specs.declared.tokens.Run.{Run}
 use Rattle.infer_notation.specs.declared.tokens.Run.TheVariants.{Bare, Quoted, Set}
 
@@ -30,13 +32,13 @@ pub data IsMadeOf : List ℕ → List Token → Type 0 where
   blank : (x : ℕ) (text : List ℕ) (ts : List Token) → IsTrue (is_blank x) → IsMadeOf text ts → IsMadeOf (x ∷ text) ts
   next : (text rest : List ℕ) (t : Token) (ts : List Token) → BeginsWith text t rest → IsMadeOf rest ts → IsMadeOf text (t ∷ ts)
 
--- the relation has that name
-abbrev pub IsNameIn : List (List Token × Relation) → Relation → List Token → Type 0
-IsNameIn [] r name = ⊥
-IsNameIn (n ∷ others) r name = (n ≡ (name, r)) ⊎ IsNameIn others r name
+-- the relation that takes this has that name
+abbrev pub IsNameIn : List (List Token × Takes) → Takes → List Token → Type 0
+IsNameIn [] takes name = ⊥
+IsNameIn (n ∷ others) takes name = (n ≡ (name, takes)) ⊎ IsNameIn others takes name
 
-abbrev pub IsName : Relation → List Token → Type 0
-IsName r name = IsNameIn names r name
+abbrev pub IsName : Takes → List Token → Type 0
+IsName takes name = IsNameIn names takes name
 
 -- each word writes one of the bytes, in order
 abbrev pub AreBytes : List (List ℕ) → List ℕ → Type 0
@@ -44,20 +46,25 @@ AreBytes [] [] = Unit {0}
 AreBytes (w ∷ ws) (x ∷ xs) = (byte_of w ≡ Some x) × AreBytes ws xs
 AreBytes ws xs = ⊥
 
--- with these tokens behind its name, the relation asks for this alternative
-pub data Asks : Relation → List Token → Alternative → Type 0 where
-  nothing : (r : Relation) (a : Alternative) → item_alone r ≡ Some a → Asks r [] a
+-- with these tokens behind a name that takes this, the text asks for the relation
+pub data Asks : Takes → List Token → Relation → Type 0 where
+  nothing : (r : relations.Relation) → Asks (Nothing r) [] (relation_listed r)
   a_tag : (a b c d x y : ℕ) → byte_with a b ≡ Some x → byte_with c d ≡ Some y
-      → Asks DirectoryTag (bare (a ∷ b ∷ c ∷ d ∷ []) ∷ []) (directory_tag (256 * x + y))
-  a_folder : (folder : List ℕ) → Asks PackageWith (quoted folder ∷ []) (package_with folder)
-  programs : (w : List ℕ) (ws : List (List ℕ)) → Asks Program (map bare (w ∷ ws)) (program (w ∷ ws))
-  a_name : (name : List ℕ) → Asks FirstEntry (bare (codes "is") ∷ quoted name ∷ []) (first_entry_is name)
-  an_end : (end : List ℕ) → Asks FirstEntry (bare (codes "ends") ∷ bare (codes "in") ∷ quoted end ∷ []) (first_entry_ends_in end)
+      → Asks Tag (bare (a ∷ b ∷ c ∷ d ∷ []) ∷ []) (directory_tag (256 * x + y))
+  a_folder : (folder : List ℕ) → Asks Folder (quoted folder ∷ []) (package_with folder)
+  a_program : (w : List ℕ) → Asks Program (bare w ∷ []) (program w)
+  a_name : (name : List ℕ) → Asks Entry (bare (codes "is") ∷ quoted name ∷ []) (first_entry_is name)
+  an_end : (end : List ℕ) → Asks Entry (bare (codes "ends") ∷ bare (codes "in") ∷ quoted end ∷ []) (first_entry_ends_in end)
   an_extra : (v w : List ℕ) (x y : ℕ) → byte_of v ≡ Some x → byte_of w ≡ Some y
-      → Asks FirstEntry (bare (codes "has") ∷ bare (codes "extra") ∷ bare v ∷ bare w ∷ []) (first_entry_has_extra (x ∷ y ∷ []))
+      → Asks Entry (bare (codes "has") ∷ bare (codes "extra") ∷ bare v ∷ bare w ∷ []) (first_entry_has_extra (x ∷ y ∷ []))
   an_id : (ws : List (List ℕ)) (id : List ℕ) → length ws ≡ 16 → AreBytes ws id → Asks ClassId (map bare ws) (class_id id)
   an_element : (name : List ℕ) → Asks Root (bare name ∷ []) (root name)
   a_text_within : (name text : List ℕ) → Asks Root (bare name ∷ bare (codes "with") ∷ quoted text ∷ []) (root_with name text)
+
+-- it asks for the alternatives: the relation, or programs, each by a word
+pub data AsksFor : Takes → List Token → List Alternative → Type 0 where
+  a_relation : (takes : Takes) (ts : List Token) (r : Relation) → Asks takes ts r → AsksFor takes ts (related r ∷ [])
+  programs : (w : List ℕ) (ws : List (List ℕ)) → AsksFor Program (map bare (w ∷ ws)) (map (λ v. related (program v)) (w ∷ ws))
 
 -- tokens between words "or": 1 to 24, and none of them is "or"
 pub record IsGroup (ts : List Token) : Type 0 where
@@ -70,23 +77,22 @@ pub data IsParted : List Token → List (List Token) → Type 0 where
   last : (g : List Token) → IsGroup g → IsParted g (g ∷ [])
   other : (g ts : List Token) (gs : List (List Token)) → IsGroup g → IsParted ts gs → IsParted (g ++ (bare (codes "or") ∷ ts)) (g ∷ gs)
 
--- the relation asks for the alternatives, each by a group
-abbrev pub AsksEach : Relation → List (List Token) → List Alternative → Type 0
-AsksEach r [] [] = Unit {0}
-AsksEach r (g ∷ gs) (a ∷ others) = Asks r g a × AsksEach r gs others
-AsksEach r gs others = ⊥
+-- it asks for the alternatives, some by each group
+abbrev pub AsksEach : Takes → List (List Token) → List Alternative → Type 0
+AsksEach takes [] alternatives = alternatives ≡ []
+AsksEach takes (g ∷ gs) alternatives = (first others : List Alternative) × AsksFor takes g first × AsksEach takes gs others × (alternatives ≡ first ++ others)
 
 -- the text names a relation, which asks for the alternatives: the first group begins with the name
 pub record NamesRelation (text : List ℕ) (alternatives : List Alternative) : Type 0 where
   pub tokens : List Token
   pub made : IsMadeOf text tokens
-  pub relation : Relation
+  pub takes : Takes
   pub name : List Token
-  pub named : IsName relation name
+  pub named : IsName takes name
   pub first : List Token
   pub others : List (List Token)
   pub parted : IsParted tokens ((name ++ first) ∷ others)
-  pub asks : AsksEach relation (first ∷ others) alternatives
+  pub asks : AsksEach takes (first ∷ others) alternatives
 
 -- the text asks for fixed bytes
 pub record AsksBytes (text : List ℕ) (alternatives : List Alternative) : Type 0 where

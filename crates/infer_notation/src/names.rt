@@ -5,29 +5,26 @@ ghost use Rattle.infer_notation.specs.Tokens.{token_listed};
 
 use crate::tokens::Token;
 use crate::tokens::Token::{Mark, Quoted, Set, Word};
+use infer_inside::relation::Relation;
 
-/// What a signature asks of a buffer that is no fixed bytes.
+/// What stands behind the name of a relation.
 #[derive(Clone, Copy)]
-pub enum Relation {
-    SharedObject,
-    Animated,
-    SubRip,
-    Dbase,
-    TarChecksum,
-    JsonLines,
-    JsonText,
-    PlainText,
-    DirectoryTag,
-    PackageWith,
+pub enum Takes {
+    Nothing(Relation<'static>),
+    Tag,
+    Folder,
     Program,
-    FirstEntry,
+    Entry,
     ClassId,
     Root,
 }
 
-/// What each relation is called.
-static NAMES: &[(&[Token<'static>], Relation)] = &[
-    (&[Word(b"shared"), Word(b"object")], Relation::SharedObject),
+/// What each relation is called, and what it takes.
+static NAMES: &[(&[Token<'static>], Takes)] = &[
+    (
+        &[Word(b"shared"), Word(b"object")],
+        Takes::Nothing(Relation::SharedObject),
+    ),
     (
         &[
             Word(b"chunk"),
@@ -35,17 +32,26 @@ static NAMES: &[(&[Token<'static>], Relation)] = &[
             Word(b"before"),
             Quoted(b"IDAT"),
         ],
-        Relation::Animated,
+        Takes::Nothing(Relation::Animated),
     ),
     (
         &[Word(b"first"), Word(b"cue"), Word(b"of"), Word(b"SubRip")],
-        Relation::SubRip,
+        Takes::Nothing(Relation::SubRip),
     ),
-    (&[Word(b"dBASE"), Word(b"header")], Relation::Dbase),
-    (&[Word(b"tar"), Word(b"checksum")], Relation::TarChecksum),
-    (&[Word(b"JSON"), Word(b"lines")], Relation::JsonLines),
-    (&[Word(b"JSON")], Relation::JsonText),
-    (&[Word(b"text")], Relation::PlainText),
+    (
+        &[Word(b"dBASE"), Word(b"header")],
+        Takes::Nothing(Relation::Dbase),
+    ),
+    (
+        &[Word(b"tar"), Word(b"checksum")],
+        Takes::Nothing(Relation::TarChecksum),
+    ),
+    (
+        &[Word(b"JSON"), Word(b"lines")],
+        Takes::Nothing(Relation::JsonLines),
+    ),
+    (&[Word(b"JSON")], Takes::Nothing(Relation::JsonText)),
+    (&[Word(b"text")], Takes::Nothing(Relation::PlainText)),
     (
         &[
             Word(b"first"),
@@ -53,38 +59,32 @@ static NAMES: &[(&[Token<'static>], Relation)] = &[
             Word(b"has"),
             Word(b"tag"),
         ],
-        Relation::DirectoryTag,
+        Takes::Tag,
     ),
     (
         &[Word(b"package"), Word(b"with"), Mark(b':')],
-        Relation::PackageWith,
+        Takes::Folder,
     ),
-    (&[Word(b"program"), Mark(b':')], Relation::Program),
-    (
-        &[Word(b"first"), Word(b"entry"), Mark(b':')],
-        Relation::FirstEntry,
-    ),
-    (
-        &[Word(b"class"), Word(b"id"), Mark(b':')],
-        Relation::ClassId,
-    ),
-    (&[Word(b"root"), Mark(b':')], Relation::Root),
+    (&[Word(b"program"), Mark(b':')], Takes::Program),
+    (&[Word(b"first"), Word(b"entry"), Mark(b':')], Takes::Entry),
+    (&[Word(b"class"), Word(b"id"), Mark(b':')], Takes::ClassId),
+    (&[Word(b"root"), Mark(b':')], Takes::Root),
 ];
 
 #[inline(always)]
-fn all_names() -> &'static [(&'static [Token<'static>], Relation)]
+fn all_names() -> &'static [(&'static [Token<'static>], Takes)]
     ensures { map name_listed result.now ≡ names }
 {
     NAMES
 }
 
-/// The relation by whose name the tokens begin, and the tokens behind it.
-pub fn named<'a, 'b>(tokens: &'b [Token<'a>]) -> Option<(Relation, &'b [Token<'a>])>
+/// What stands behind the name by which the tokens begin, and the tokens there.
+pub fn named<'a, 'b>(tokens: &'b [Token<'a>]) -> Option<(Takes, &'b [Token<'a>])>
     ensures { option_map rest_listed result ≡ named_in names (map token_listed tokens.now) }
 {
-    for (name, relation) in all_names() {
+    for (name, takes) in all_names() {
         if begins_with(tokens, name) {
-            return Some((*relation, &tokens[name.len()..]));
+            return Some((*takes, &tokens[name.len()..]));
         }
     }
     None

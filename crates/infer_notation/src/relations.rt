@@ -1,34 +1,18 @@
 //! Relations as a text writes them, as in `root: rss or RDF with "http://purl.org/rss/1.0/"`.
-ghost use Rattle.std.specs.Prelude.{◌≡◌, ◌↔◌, ◌∷◌, ◌≤◌, ◌<◌, IfErr, IfOk, IfSome, IsTrue, None, length, map, option_map};
-ghost use Rattle.infer_inside.specs.Zip.{IsOneOf};
-ghost use Rattle.infer_notation.specs.Alternative.{Fits, IsProgramAmong};
+ghost use Rattle.std.specs.Prelude.{◌≡◌, [], ◌∷◌, ◌≤◌, ◌<◌, IfErr, IfOk, IfSome, None, length, map, option_map};
+ghost use Rattle.infer_notation.specs.Alternative.{related};
 ghost use Rattle.infer_notation.specs.Flaws.{IsFlawOf};
 ghost use Rattle.infer_notation.specs.Grammar.{unread};
-ghost use Rattle.infer_notation.specs.Relations.{IsItemSeen, IsSeen, group_listed, groups_of, item_listed, item_of, left_groups, left_length, relations_of, spelled};
+ghost use Rattle.infer_notation.specs.Relations.{IsSeen, group_listed, groups_of, item_of, items_of, left_groups, left_length, programs_of, relations_of};
 ghost use Rattle.infer_notation.specs.Tokens.{token_listed};
 ghost use Rattle.infer_notation.specs.Words.{found_by};
 
-use crate::items::{Item, read_item};
-use crate::names::{Relation, is_word, named};
+use crate::items::read_relation;
+use crate::names::{Takes, is_word, named};
 use crate::reason::{Flaw, Reason};
-use crate::tokens::Token::{Mark, Word};
+use crate::tokens::Token::Mark;
 use crate::tokens::{Token, next_token};
 use crate::words::skip_blanks;
-use infer_deep::doc::has_class_id;
-use infer_deep::places::stands_at;
-use infer_inside::dbase::is_dbase;
-use infer_inside::elf::is_shared_object;
-use infer_inside::json::{is_json, is_json_lines};
-use infer_inside::markup::{has_root, has_root_with};
-use infer_inside::png::is_animated;
-use infer_inside::script::program;
-use infer_inside::subtitles::is_subrip;
-use infer_inside::tar::has_tar_checksum;
-use infer_inside::text::is_text;
-use infer_inside::tiff::first_directory_has_tag;
-use infer_inside::zip::{
-    first_entry_ends_in, first_entry_has_extra, first_entry_is, is_package_with,
-};
 
 /// Tokens of one alternative: the first `count`.
 #[derive(Clone, Copy)]
@@ -109,30 +93,29 @@ pub fn is_related(text: &[u8], buf: &[u8]) -> Result<bool, Flaw>
     ensures flaw { IfErr result (IsFlawOf text.now) }
 {
     let (first, mut rest) = read_group(text)?;
-    let Some((relation, tokens)) = named(first.read()) else {
+    let Some((takes, tokens)) = named(first.read()) else {
         return Err(Flaw {
             reason: Reason::Relation,
             left: skip_blanks(text).len(),
         });
     };
-    let mut any = asked(relation, tokens, text, buf)?;
+    let mut any = asked(takes, tokens, text, buf)?;
     while let Some(more) = rest {
         let (group, behind) = read_group(more)?;
-        let fits = asked(relation, group.read(), more, buf)?;
+        let fits = asked(takes, group.read(), more, buf)?;
         any = any || fits;
         rest = behind;
     }
     Ok(any)
 }
 
-/// Whether the buffer has what the tokens of an alternative ask by the relation. The text is that of the alternative.
-fn asked(relation: Relation, tokens: &[Token<'_>], text: &[u8], buf: &[u8]) -> Result<bool, Flaw>
-    ensures seen { IsItemSeen (item_of relation (map token_listed tokens.now)) buf.now
-        (found_by result) }
+/// Whether the buffer has what the tokens ask behind a name that takes this. The text is that of the tokens.
+fn asked(takes: Takes, tokens: &[Token<'_>], text: &[u8], buf: &[u8]) -> Result<bool, Flaw>
+    ensures seen { IsSeen (items_of takes (map token_listed tokens.now)) buf.now (found_by result) }
     ensures flaw { IfErr result (IsFlawOf text.now) }
 {
-    match read_item(relation, tokens) {
-        Some(item) => Ok(fits(item, buf)),
+    match fits(takes, tokens, buf) {
+        Some(fits) => Ok(fits),
         None => Err(Flaw {
             reason: Reason::Item,
             left: skip_blanks(text).len(),
@@ -140,60 +123,38 @@ fn asked(relation: Relation, tokens: &[Token<'_>], text: &[u8], buf: &[u8]) -> R
     }
 }
 
-/// Whether the buffer has what the item asks.
-fn fits(item: Item<'_, '_>, buf: &[u8]) -> bool
-    ensures { IsTrue result ↔ Fits (item_listed item.entry) buf.now }
+/// Whether it has what they ask, if they ask anything.
+fn fits(takes: Takes, tokens: &[Token<'_>], buf: &[u8]) -> Option<bool>
+    ensures { IsSeen (items_of takes (map token_listed tokens.now)) buf.now result }
 {
-    match item {
-        Item::SharedObject => is_shared_object(buf),
-        Item::Animated => stands_at(buf, b"\x89PNG", 0) && is_animated(buf),
-        Item::SubRip => is_subrip(buf),
-        Item::Dbase => is_dbase(buf),
-        Item::TarChecksum => has_tar_checksum(buf),
-        Item::JsonLines => is_json_lines(buf),
-        Item::JsonText => is_json(buf),
-        Item::PlainText => is_text(buf),
-        Item::DirectoryTag(tag) => first_directory_has_tag(buf, tag),
-        Item::PackageWith(folder) => is_package_with(buf, folder),
-        Item::Program(names) => has_program(buf, names),
-        Item::FirstEntryIs(name) => first_entry_is(buf, name),
-        Item::FirstEntryEndsIn(end) => first_entry_ends_in(buf, end),
-        Item::FirstEntryHasExtra(id) => first_entry_has_extra(buf, &id),
-        Item::ClassId(id) => has_class_id(buf, &id),
-        Item::Root(name) => has_root(buf, name),
-        Item::RootWith(name, text) => has_root_with(buf, name, text),
+    match takes {
+        Takes::Program => has_program(tokens, buf),
+        other => has_relation(other, tokens, buf),
     }
 }
 
-/// Whether one of the words is the name of the program.
-#[tactic(auto, using(crate::proofs::SeenLemmas::among_programs, crate::proofs::SeenLemmas::no_program))]
-fn has_program(buf: &[u8], words: &[Token<'_>]) -> bool
-    ensures { IsTrue result ↔ IsProgramAmong (map spelled (map token_listed words.now)) buf.now }
+/// Whether it has the relation that the tokens ask for.
+fn has_relation(takes: Takes, tokens: &[Token<'_>], buf: &[u8]) -> Option<bool>
+    ensures { IsSeen (option_map (λ r. related r ∷ []) (item_of takes
+        (map token_listed tokens.now))) buf.now result }
 {
-    match program(buf) {
-        Some(name) => is_among(name, words),
-        None => false,
+    match read_relation(takes, tokens) {
+        Some(relation) => Some(relation.fits(buf)),
+        None => None,
     }
 }
 
-/// Whether the name is one of the words.
-fn is_among(name: &[u8], words: &[Token<'_>]) -> bool
-    ensures { IsTrue result ↔ IsOneOf name.now (map spelled (map token_listed words.now)) }
+/// Whether it is a script of one of the programs, which the tokens name, each by itself.
+fn has_program(tokens: &[Token<'_>], buf: &[u8]) -> Option<bool>
+    ensures { IsSeen (programs_of (map token_listed tokens.now)) buf.now result }
 {
-    for word in words {
-        if name == spelled(*word) {
-            return true;
-        }
+    if tokens.is_empty() {
+        return None;
     }
-    false
-}
-
-/// The bytes of a word.
-fn spelled<'a>(token: Token<'a>) -> &'a [u8]
-    ensures { result.now ≡ spelled (token_listed token.entry) }
-{
-    match token {
-        Word(word) => word,
-        _ => b"",
+    let mut any = false;
+    for token in tokens {
+        let is_named = has_relation(Takes::Program, &[*token], buf)?;
+        any = any || is_named;
     }
+    Some(any)
 }

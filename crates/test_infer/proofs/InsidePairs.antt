@@ -9,6 +9,10 @@ use Rattle.infer_deep.specs.Places.{IsFirstPlace}
 use Rattle.infer_sig.specs.Signature.{stands}
 use Rattle.infer_inside.specs.Json.{BeginsLines, BeginsText, BeginsToken, BeginsWhole, BehindBlanks, CanBe, OpensWithToken, Stands, Symbol, UpToMark, blanks, by_rule, byte, digit, items, next_line, nothing, number, one, rules, same_line, text}
 use Rattle.infer_inside.specs.Markup.{LeadsToTag, OpensTag, here, later}
+use Rattle.infer_inside.specs.Png as png
+use Rattle.infer_inside.specs.Png.{png_header}
+use Rattle.infer_inside.specs.Relation.{Fits, IsSound, animated, dbase, package_with, relation_listed}
+use Rattle.infer_inside.specs.declared.relation.Relation.TheVariants.{Dbase, SubRip}
 use Rattle.infer_inside.specs.Text.{BeginsUtf8, HasEncoding}
 use Rattle.infer_inside.specs.declared.text.Encoding.TheVariants.{Utf16Le}
 use Rattle.infer_inside.proofs.JsonLemmas.{begins}
@@ -180,3 +184,16 @@ IsRoot_pair = (
   },
   λ h. ⊎_elim (λ s. omega (arith, s.2)) (λ s. omega (arith, s.2)) h.begins,
 )
+
+abbrev animation : List ℕ
+animation = png_header ++ replicate 8 0 ++ codes "acTL"
+
+pub Fits_pair : Fits animated (png_header ++ replicate 8 0 ++ codes "acTL") × (¬ Fits animated [])
+unfolding stands
+Fits_pair = ((occurs 0 png_header animation (omega arith) refl, png.here 8 (occurs 12 (codes "acTL") animation (omega arith) refl)), λ h. let fits = h.0.fits in omega arith)
+
+pub IsSound_pair : IsSound (package_with (codes "word/")) × (¬ IsSound (package_with (codes "a")))
+IsSound_pair = (inl refl, λ h. ⊎_elim (λ e. omega (arith, ap length e)) (λ h. ⊎_elim (λ e. omega (arith, ap length e)) (λ h. ⊎_elim (λ e. omega (arith, ap length e)) (λ h. ⊎_elim (λ e. omega (arith, ap length e)) (λ h. ⊎_elim (λ e. omega (arith, ap length e)) (λ h. h) h) h) h) h) h)
+
+pub relation_listed_pair : (relation_listed Dbase ≡ dbase) × (¬ (relation_listed SubRip ≡ dbase))
+relation_listed_pair = (refl, λ e. absurd (cc))

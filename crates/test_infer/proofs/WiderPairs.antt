@@ -39,7 +39,8 @@ use Rattle.std.proofs.lemmas.List.Elements.{All-from_recursion}
 use Rattle.infer_more.specs.Samples.{HasNoSample, further_sample, has_room, least_of, model, model_entry, parts_of, prolog, row_model, sample_at, texts, written}
 use Rattle.infer_more.specs.declared.types.Mistake.{Mistake}
 use Rattle.infer_notation.specs.declared.reason.Reason.TheVariants.{Fields}
-use Rattle.infer_notation.specs.Alternative.{Accepted, Alternative, at_least, binary_bytes, bytes, json_text, plain_text}
+use Rattle.infer_inside.specs.Relation.{json_text, plain_text}
+use Rattle.infer_notation.specs.Alternative.{Accepted, Alternative, at_least, binary_bytes, bytes, related}
 use Rattle.infer_more.specs.Table.{archives, code, further, headers, images, late, markup, media, packages, records}
 use Rattle.infer_more.specs.Wider.{IsWidened, Widens, parent_at, shown, wider}
 use Rattle.infer_sig.proofs.PlaceLemmas.{stands_by_place}
@@ -122,10 +123,10 @@ pub AreEnded_pair : AreEnded (record { matcher_type = App; mime_type = lent []; 
     × (¬ AreEnded (record { matcher_type = App; mime_type = lent []; extension = lent (codes "a"); ended = record { mime_type = lent (0 ∷ []); extension = lent (codes "a") }; parent = None; signature = lent_list [] } ∷ []))
 AreEnded_pair = (refl, λ e. absurd (let f = ap (λ l. length (get_or l 0 (ended_shown (triple App [] []))).extension) e in omega (arith, f)))
 
-pub signature_listed_pair : (signature_listed [] ≡ []) × (¬ (signature_listed [] ≡ plain_text ∷ []))
+pub signature_listed_pair : (signature_listed [] ≡ []) × (¬ (signature_listed [] ≡ related plain_text ∷ []))
 signature_listed_pair = (refl, λ e. omega (arith, ap length e))
 
-pub row_listed_pair : (row_listed record { matcher_type = App; mime_type = lent []; extension = lent (codes "a"); ended = record { mime_type = lent (0 ∷ []); extension = lent [] }; parent = None; signature = lent_list [] } ≡ further_row []) × (¬ (row_listed record { matcher_type = App; mime_type = lent []; extension = lent (codes "a"); ended = record { mime_type = lent (0 ∷ []); extension = lent [] }; parent = None; signature = lent_list [] } ≡ further_row (plain_text ∷ [])))
+pub row_listed_pair : (row_listed record { matcher_type = App; mime_type = lent []; extension = lent (codes "a"); ended = record { mime_type = lent (0 ∷ []); extension = lent [] }; parent = None; signature = lent_list [] } ≡ further_row []) × (¬ (row_listed record { matcher_type = App; mime_type = lent []; extension = lent (codes "a"); ended = record { mime_type = lent (0 ∷ []); extension = lent [] }; parent = None; signature = lent_list [] } ≡ further_row (related plain_text ∷ [])))
 row_listed_pair = (refl, λ e. omega (arith, ap (λ r. length r.signature) e))
 
 pub joined_pair : (length (joined (lent_list (record { matcher_type = App; mime_type = lent []; extension = lent (codes "a"); ended = record { mime_type = lent (0 ∷ []); extension = lent [] }; parent = None; signature = lent_list [] } ∷ []) ∷ [])) ≡ 1) × (¬ (length (joined (lent_list [] ∷ [])) ≡ 1))
@@ -140,10 +141,10 @@ is_row_closed_pair = (refl, λ t. absurd (cc))
 pub Accepted_pair : Accepted (at_least 3 [] ∷ at_least 1 [] ∷ []) (codes "M") × (¬ Accepted (at_least 3 [] ∷ at_least 1 [] ∷ []) [])
 Accepted_pair = (inr (inl refl), λ h. absurd (⊎_elim (λ t. cc) (λ m. ⊎_elim (λ t. cc) (λ n. n) m) h))
 
-pub plain_text_pair : IsTrue (is_plain plain_text) × (¬ IsTrue (is_plain json_text))
+pub plain_text_pair : IsTrue (is_plain (related plain_text)) × (¬ IsTrue (is_plain (related json_text)))
 plain_text_pair = (refl, λ t. absurd (cc))
 
-pub IsLost_pair : IsLost plain_text × (¬ IsLost (at_least 0 []))
+pub IsLost_pair : IsLost (related plain_text) × (¬ IsLost (at_least 0 []))
 IsLost_pair = (text_lost, λ h. h.4 (grind (arith, nat_tests)))
 
 pub TextsFit_pair : TextsFit 73 × (¬ TextsFit 0)
@@ -264,10 +265,10 @@ IsWidened_pair = (
   λ h. widens_all h.0 h.2,
 )
 
-pub lines_pair : (lines (bytes (fixed.at_least 3 [])) ≡ fixed.at_least 3 [] ∷ []) × (¬ (lines json_text ≡ fixed.at_least 3 [] ∷ []))
+pub lines_pair : (lines (bytes (fixed.at_least 3 [])) ≡ fixed.at_least 3 [] ∷ []) × (¬ (lines (related json_text) ≡ fixed.at_least 3 [] ∷ []))
 lines_pair = (refl, λ e. omega (arith, ap length e))
 
-pub outline_pair : (length (outline (bytes (fixed.at_least 3 []) ∷ json_text ∷ [])) ≡ 3) × (¬ (length (outline (json_text ∷ [])) ≡ 3))
+pub outline_pair : (length (outline (bytes (fixed.at_least 3 []) ∷ related json_text ∷ [])) ≡ 3) × (¬ (length (outline (related json_text ∷ [])) ≡ 3))
 outline_pair = (refl, λ e. omega (arith, e))
 
 pub least_of_pair : (least_of (fixed.at_least 3 []) ≡ 3) × (¬ (least_of (fixed.at_least 2 []) ≡ 3))
@@ -282,7 +283,7 @@ prolog_pair = (refl, λ e. omega (arith, ap length e))
 pub texts_pair : (least_of (texts (codes "a" ∷ codes "bc" ∷ [])) ≡ 3) × (¬ (least_of (texts (codes "a" ∷ [])) ≡ 3))
 texts_pair = (refl, λ e. omega (arith, e))
 
-pub model_pair : (model [] (binary_bytes (fixed.at_least 3 [])) ≡ fixed.at_least 3 []) × (¬ (model [] json_text ≡ fixed.at_least 3 []))
+pub model_pair : (model [] (binary_bytes (fixed.at_least 3 [])) ≡ fixed.at_least 3 []) × (¬ (model [] (related json_text) ≡ fixed.at_least 3 []))
 model_pair = (refl, λ e. omega (arith, ap least_of e))
 
 pub row_model_pair : (row_model (further_row (at_least 3 [] ∷ [])) ≡ Some (fixed.at_least 3 [])) × (¬ (row_model (further_row []) ≡ Some (fixed.at_least 3 [])))

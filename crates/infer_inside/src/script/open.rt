@@ -25,7 +25,7 @@ pub fn may_become_program(buf: &[u8], name: &[u8]) -> bool
 }
 
 #[inline(always)]
-fn is_same(name: &[u8], other: &[u8]) -> bool
+pub(super) fn is_same(name: &[u8], other: &[u8]) -> bool
     ensures { IsTrue result ↔ (name.now ≡ other.now) }
 {
     name == other

@@ -3,11 +3,11 @@ ghost use Rattle.std.specs.Prelude.{◌≡◌, map};
 ghost use Rattle.infer_more.specs.Listed.{AreEnded, row_listed};
 ghost use Rattle.infer_more.specs.Table.{media};
 
-use crate::signature::Alternative::SubRip;
 use crate::signature::Piece::{At, Between, OneOf};
 use crate::signature::{Alternative, Bytes};
 use crate::table::{EndedTexts, FurtherRow};
 use infer::MatcherType;
+use infer_inside::relation::Relation::SubRip;
 
 static ROWS: &[FurtherRow] = rows![
     Audio "audio/basic" "au": => [6, At(0, b".snd\0\0")];

@@ -3,14 +3,14 @@ ghost use Rattle.std.specs.Prelude.{◌≡◌, map};
 ghost use Rattle.infer_more.specs.Listed.{AreEnded, row_listed};
 ghost use Rattle.infer_more.specs.Table.{packages};
 
-use crate::signature::Alternative::{
-    FirstEntryEndsIn, FirstEntryHasExtra, FirstEntryIs, PackageWith, SharedObject,
-};
 use crate::signature::Piece::{At, Between, OneOf};
 use crate::signature::{Alternative, Bytes};
 use crate::table::{EndedTexts, FurtherRow};
 use infer::MatcherType;
 use infer::rows::{ELF, ODP, ODS, ODT, ZIP};
+use infer_inside::relation::Relation::{
+    FirstEntryEndsIn, FirstEntryHasExtra, FirstEntryIs, PackageWith, SharedObject,
+};
 
 static ROWS: &[FurtherRow] = rows![
     App "application/x-object" "o": ELF => [18, is!(5, 0x01), At(16, b"\x01\0")] [18, is!(5, 0x02), At(16, b"\0\x01")];
@@ -19,7 +19,7 @@ static ROWS: &[FurtherRow] = rows![
     App "application/x-sharedlib" "so": ELF => [SharedObject];
     App "application/vnd.android.package-archive" "apk": ZIP => [FirstEntryIs(b"AndroidManifest.xml")] [FirstEntryIs(b"META-INF/com/android/build/gradle/app-metadata.properties")];
     Archive "application/vnd.google-earth.kmz" "kmz": ZIP => [FirstEntryEndsIn(b".kml")];
-    Archive "application/java-archive" "jar": ZIP => [FirstEntryIs(b"META-INF/MANIFEST.MF")] [FirstEntryIs(b"META-INF/")] [FirstEntryHasExtra(b"\xFE\xCA")];
+    Archive "application/java-archive" "jar": ZIP => [FirstEntryIs(b"META-INF/MANIFEST.MF")] [FirstEntryIs(b"META-INF/")] [FirstEntryHasExtra(*b"\xFE\xCA")];
     Doc "application/vnd.openxmlformats-officedocument.wordprocessingml.document" "docx": ZIP => [PackageWith(b"word/")];
     Doc "application/vnd.openxmlformats-officedocument.spreadsheetml.sheet" "xlsx": ZIP => [PackageWith(b"xl/")];
     Doc "application/vnd.openxmlformats-officedocument.presentationml.presentation" "pptx": ZIP => [PackageWith(b"ppt/")];

@@ -1,5 +1,6 @@
 use Rattle.infer_inside.proofs.LeadLemmas.{begins_markup, opens_element}
 use Rattle.infer_inside.proofs.JsonLeadLemmas.{lines_lead, text_leads}
+use Rattle.infer_inside.proofs.OutlineLemmas.{has_lines}
 use Rattle.infer_inside.proofs.laws.leads.Goals as goal
 
 pub returns : goal.returns
@@ -9,4 +10,5 @@ returns c = record {
   json = text_leads;
   json_lines = lines_lead;
   root_with = λ name text b h. (h.0, h.1);
+  outline = λ r b. has_lines c.by_place.ensures b r;
 }

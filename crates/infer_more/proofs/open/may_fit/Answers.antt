@@ -1,14 +1,13 @@
-use Rattle.infer_more.proofs.Common.{[], ◌∷◌, IsTrue, sym, subst, MayBecome, applications, alternative_listed, Fits}
+use Rattle.infer_more.proofs.Common.{[], ◌∷◌, IsTrue, sym, subst, MayBecome, alternative_listed, relation_listed, Fits}
 use Rattle.infer_more.specs.Listed.{bytes_listed}
 use Rattle.infer_more.specs.Open.{is_sound}
 use Rattle.infer_more.specs.declared.signature.Alternative.{Alternative}
-use Rattle.infer_more.proofs.FoundLemmas.{one_of}
-use Rattle.infer_more.proofs.OpenLemmas.{animation_known, binary_open, bytes_open}
+use Rattle.infer_more.proofs.OpenLemmas.{binary_open, bytes_open, sound_relation}
 use Rattle.infer_more.proofs.open.may_fit.Goals as goal
 
-pub may_become_package_with-requires : goal.may_become_package_with-requires
-may_become_package_with-requires c =
-    one_of c.in-PackageWith.folder.now applications (subst (λ (a : Alternative). IsTrue (is_sound (alternative_listed a))) c.in-PackageWith.is c.requires)
+pub may_fit-requires : goal.may_fit-requires
+may_fit-requires c =
+    sound_relation (relation_listed c.in-Related.relation) (subst (λ (a : Alternative). IsTrue (is_sound (alternative_listed a))) c.in-Related.is c.requires)
 
 pub returns-in-Bytes : goal.returns-in-Bytes
 returns-in-Bytes c =
@@ -27,11 +26,3 @@ returns-in-BinaryBytes c =
       may = λ h. open_it.1 (subst (λ (a : Alternative). MayBecome (Fits (alternative_listed a)) c.args.buf.now) c.in-BinaryBytes.is h);
       exact = λ fixed t. subst (λ (a : Alternative). MayBecome (Fits (alternative_listed a)) c.args.buf.now) (sym c.in-BinaryBytes.is) (open_it.0 t);
     }
-
-pub returns-then-may_stand_at-clause-may : goal.returns-then-may_stand_at-clause-may
-returns-then-may_stand_at-clause-may c = λ h.
-    c.may_become_animated.ensures (animation_known c.args.buf.now (subst (λ (a : Alternative). MayBecome (Fits (alternative_listed a)) c.args.buf.now) c.in-Animated.is h)).1
-
-pub returns-else-may_stand_at-clause-may : goal.returns-else-may_stand_at-clause-may
-returns-else-may_stand_at-clause-may c = λ h.
-    c.may_stand_at.ensures.1 (animation_known c.args.buf.now (subst (λ (a : Alternative). MayBecome (Fits (alternative_listed a)) c.args.buf.now) c.in-Animated.is h)).0

@@ -1,6 +1,6 @@
 use Rattle.std.proofs.Common.{◌≡◌, ◌||◌, Some, arith, rules, ap, map, option_map, refl, subst, sym, ◌∙◌}
 use Rattle.std.proofs.lemmas.Result.{err_from_is_err_and}
-use Rattle.infer_notation.specs.Relations.{IsItemSeen, IsSeen, group_listed, item_of, named_in, names, relations_of, rest_listed}
+use Rattle.infer_notation.specs.Relations.{IsSeen, group_listed, items_of, named_in, names, relations_of, rest_listed}
 use Rattle.infer_notation.specs.Tokens.{token_listed}
 use Rattle.infer_notation.specs.Words.{found_by}
 use Rattle.infer_notation.proofs.FlawLemmas.{behind_next, flaw_behind}
@@ -19,14 +19,14 @@ returns-in_err-any-clause-seen c =
     let named = ap (named_in names) (sym c.read.ensures) ∙ sym c.named.ensures ∙ ap (option_map rest_listed) c.in-Some.is in
     let p = err_from_is_err_and c.from_residual-in_err-any.result c.from_residual-in_err-any.ensures.1 in
     subst (λ r. IsSeen (relations_of c.args.text.now) c.args.buf.now (found_by r)) (sym p.1)
-    (untaken_first c.args.text.now (group_listed g) (option_map (λ t. t.now) c.in_ok-first.rest) c.in-Some.relation (map token_listed c.in-Some.tokens.now) c.in_ok-first.ensures.found named c.in_err-any.ensures.seen)
+    (untaken_first c.args.text.now (group_listed g) (option_map (λ t. t.now) c.in_ok-first.rest) c.in-Some.takes (map token_listed c.in-Some.tokens.now) c.in_ok-first.ensures.found named c.in_err-any.ensures.seen)
 
 pub loop-rest-init : goal.loop-rest-init
 loop-rest-init c =
     let g = c.in_ok-first.first in
     let named = ap (named_in names) (sym c.read.ensures) ∙ sym c.named.ensures ∙ ap (option_map rest_listed) c.in-Some.is in
     record {
-      seen = seen_first c.args.text.now c.args.buf.now (group_listed g) (option_map (λ t. t.now) c.in_ok-first.rest) c.in-Some.relation (map token_listed c.in-Some.tokens.now) c.in_ok-any.any
+      seen = seen_first c.args.text.now c.args.buf.now (group_listed g) (option_map (λ t. t.now) c.in_ok-first.rest) c.in-Some.takes (map token_listed c.in-Some.tokens.now) c.in_ok-any.any
           c.in_ok-first.ensures.found named c.in_ok-any.ensures.seen;
       behind = behind_next c.args.text.now c.args.text.now c.in_ok-first.rest refl (omega arith) c.in_ok-first.ensures.read c.in_ok-first.ensures.left;
     }
@@ -35,12 +35,12 @@ pub loop-rest-preserved-then-any : goal.loop-rest-preserved-then-any
 loop-rest-preserved-then-any c =
     let l = c.loop-rest in
     let before = rw c.in-Some-rest.is at l.invariant.behind in
-    let seen = subst (λ g. IsItemSeen (item_of c.in-Some.relation g) c.args.buf.now (Some c.in_ok-fits.fits)) c.read-in-Some-rest.ensures c.in_ok-fits.ensures.seen in
+    let seen = subst (λ g. IsSeen (items_of c.in-Some.takes g) c.args.buf.now (Some c.in_ok-fits.fits)) c.read-in-Some-rest.ensures c.in_ok-fits.ensures.seen in
     let same : (l.any || c.in_ok-fits.fits) ≡ l.any = rw c.if-any.true refl in
-    let next = seen_next c.in-Some-rest.more.now c.args.buf.now (group_listed c.in_ok-group.group) (option_map (λ t. t.now) c.in_ok-group.behind) c.in-Some.relation l.any c.in_ok-fits.fits c.in_ok-group.ensures.found seen in
+    let next = seen_next c.in-Some-rest.more.now c.args.buf.now (group_listed c.in_ok-group.group) (option_map (λ t. t.now) c.in_ok-group.behind) c.in-Some.takes l.any c.in_ok-fits.fits c.in_ok-group.ensures.found seen in
     record {
-      seen = λ x left. l.invariant.seen x (subst (λ o. IsLeft l.any (left_items c.in-Some.relation (option_map (λ t. t.now) o)) c.args.buf.now x) (sym c.in-Some-rest.is)
-          (next x (subst (λ any. IsLeft any (left_items c.in-Some.relation (option_map (λ t. t.now) c.in_ok-group.behind)) c.args.buf.now x) (sym same) left)));
+      seen = λ x left. l.invariant.seen x (subst (λ o. IsLeft l.any (left_items c.in-Some.takes (option_map (λ t. t.now) o)) c.args.buf.now x) (sym c.in-Some-rest.is)
+          (next x (subst (λ any. IsLeft any (left_items c.in-Some.takes (option_map (λ t. t.now) c.in_ok-group.behind)) c.args.buf.now x) (sym same) left)));
       behind = behind_next c.args.text.now c.in-Some-rest.more.now c.in_ok-group.behind before.0 before.1 c.in_ok-group.ensures.read c.in_ok-group.ensures.left;
     }
 
@@ -48,19 +48,19 @@ pub loop-rest-preserved : goal.loop-rest-preserved
 loop-rest-preserved c =
     let l = c.loop-rest in
     let before = rw c.in-Some-rest.is at l.invariant.behind in
-    let seen = subst (λ g. IsItemSeen (item_of c.in-Some.relation g) c.args.buf.now (Some c.in_ok-fits.fits)) c.read-in-Some-rest.ensures c.in_ok-fits.ensures.seen in
+    let seen = subst (λ g. IsSeen (items_of c.in-Some.takes g) c.args.buf.now (Some c.in_ok-fits.fits)) c.read-in-Some-rest.ensures c.in_ok-fits.ensures.seen in
     let same : (l.any || c.in_ok-fits.fits) ≡ c.in_ok-fits.fits = rw c.if-any.false refl in
-    let next = seen_next c.in-Some-rest.more.now c.args.buf.now (group_listed c.in_ok-group.group) (option_map (λ t. t.now) c.in_ok-group.behind) c.in-Some.relation l.any c.in_ok-fits.fits c.in_ok-group.ensures.found seen in
+    let next = seen_next c.in-Some-rest.more.now c.args.buf.now (group_listed c.in_ok-group.group) (option_map (λ t. t.now) c.in_ok-group.behind) c.in-Some.takes l.any c.in_ok-fits.fits c.in_ok-group.ensures.found seen in
     record {
-      seen = λ x left. l.invariant.seen x (subst (λ o. IsLeft l.any (left_items c.in-Some.relation (option_map (λ t. t.now) o)) c.args.buf.now x) (sym c.in-Some-rest.is)
-          (next x (subst (λ any. IsLeft any (left_items c.in-Some.relation (option_map (λ t. t.now) c.in_ok-group.behind)) c.args.buf.now x) (sym same) left)));
+      seen = λ x left. l.invariant.seen x (subst (λ o. IsLeft l.any (left_items c.in-Some.takes (option_map (λ t. t.now) o)) c.args.buf.now x) (sym c.in-Some-rest.is)
+          (next x (subst (λ any. IsLeft any (left_items c.in-Some.takes (option_map (λ t. t.now) c.in_ok-group.behind)) c.args.buf.now x) (sym same) left)));
       behind = behind_next c.args.text.now c.in-Some-rest.more.now c.in_ok-group.behind before.0 before.1 c.in_ok-group.ensures.read c.in_ok-group.ensures.left;
     }
 
 pub returns-clause-seen : goal.returns-clause-seen
 returns-clause-seen c =
     let l = c.loop-rest in
-    l.invariant.seen (Some l.any) (subst (λ o. IsLeft l.any (left_items c.in-Some.relation (option_map (λ t. t.now) o)) c.args.buf.now (Some l.any)) (sym c.in_default-rest.is) (seen_last c.args.buf.now c.in-Some.relation l.any))
+    l.invariant.seen (Some l.any) (subst (λ o. IsLeft l.any (left_items c.in-Some.takes (option_map (λ t. t.now) o)) c.args.buf.now (Some l.any)) (sym c.in_default-rest.is) (seen_last c.args.buf.now c.in-Some.takes l.any))
 
 pub returns-in_err-group-clause-flaw : goal.returns-in_err-group-clause-flaw
 returns-in_err-group-clause-flaw c =
