@@ -1,5 +1,5 @@
 -- The root entry of a compound file lasts.
-use Rattle.infer_deep.proofs.Common.{IsTrue, ◌≡◌, ◌↔◌, ◌⊎◌, inl, inr, ℕ, ◌+◌, ◌*◌, ◌<◌, ◌≤◌, List, [], ◌∷◌, ◌++◌, length, refl, sym, ap, arith, length-append, OccursAt, le16, le32, are_bytes, AgreesAt, get_or_append_left, Lasts, ComesWith, IsEarly, MayBecome, IsXls, BeginsRoot, IsRoot, HasClassId, MayHaveRoot, compound_header, format_3, format_4}
+use Rattle.infer_deep.proofs.Common.{IsTrue, ◌≡◌, ◌↔◌, ◌⊎◌, inl, inr, ℕ, ◌+◌, ◌*◌, ◌<◌, ◌≤◌, ◌∙◌, List, [], ◌∷◌, ◌++◌, Some, length, take, drop, get_or, get_or-take, get_or-drop, take_at, at_from_reads, refl, sym, subst, ap, arith, length-append, OccursAt, le16, le32, are_bytes, AgreesAt, get_or_append_left, Lasts, ComesWith, IsEarly, MayBecome, IsXls, BeginsRoot, IsRoot, HasClassId, MayHaveRoot, compound_header, format_3, format_4}
 use Rattle.infer_deep.proofs.OpenLemmas.{agrees_past, bytes_from_test, fills_parts, grown_agrees, kept, kept_agrees, kept_bytes, kept_ends, kept_numbers}
 use Rattle.infer_deep.specs.ClassId.{BeginsCompound}
 use Rattle.infer_deep.proofs.NumberLemmas.{le16-append, le32-append}
@@ -87,3 +87,24 @@ class_id_reached id b bytes long = (
       let fourth = root_known 4 12 4096 refl (omega arith) (λ d p i j k. inr (i, j, k)) id b more root r o in
       grind (arith, grown_agrees b more compound_header 0 r.header, r.begins, third, fourth),
 )
+
+-- ---- which class id it has
+
+-- the n bytes from a place on are the text exactly if it stands there
+cut_out : (b text : List ℕ) (p n : ℕ) → length text ≡ n → p + n ≤ length b → OccursAt b text p ↔ (take n (drop p b) ≡ text)
+cut_out b text p n long fits = (
+  λ o. rw (sym long) (ap (take (length text)) (at_from_reads 0 b text p o.fits o.reads) ∙ take_at text _ (length text) refl),
+  λ e. record {
+    fits = omega (arith, long, fits);
+    reads = λ j l. sym (ap (λ t. get_or t j 0) (sym e) ∙ get_or-take n (drop p b) j 0 (omega (arith, l, long)) ∙ get_or-drop p b j 0);
+  },
+)
+
+pub class_id_read : (b id : List ℕ) (root n : ℕ) → n ≡ 16 → IsRoot b root → length id ≡ 16
+    → HasClassId id b ↔ (Some (take n (drop (root + 80) b)) ≡ Some id)
+class_id_read b id root n e r long =
+    let whole = r.whole in
+    let cut = cut_out b id (root + 80) n (omega arith) (omega arith) in (
+      λ (other, k, o). let same : other ≡ root = grind arith in ap Some (cut.0 (subst (λ p. OccursAt b id (p + 80)) same o)),
+      λ h. (root, r, cut.1 (grind (arith, h))),
+    )

@@ -1,5 +1,5 @@
 //! Documents of Microsoft Office, in compound files and in ZIP archives.
-ghost use Rattle.std.specs.Prelude.{◌≡◌, ◌↔◌, ◌+◌, ◌*◌, ◌<◌, ◌≤◌, codes, length, IsTrue};
+ghost use Rattle.std.specs.Prelude.{◌≡◌, ◌↔◌, ◌+◌, ◌*◌, ◌<◌, ◌≤◌, ℕ, List, Some, codes, length, option_map, IsTrue};
 ghost use Rattle.infer_deep.specs.Numbers.{le32};
 ghost use Rattle.memchr.specs.Find.{OccursAt};
 ghost use Rattle.infer_deep.specs.Open.{AgreesAt};
@@ -111,6 +111,17 @@ fn may_have_root(buf: &[u8], format: &[u8; 6], sector_size: usize, id: &[u8; 16]
     agrees_at(buf, format, 26)
         && agrees_at(buf, b"\x05", root + 66)
         && agrees_at(buf, id, root + 80)
+}
+
+/// The 16 bytes of the class id of a compound file's root entry, and `None` if `buf` has no such entry whole.
+///
+/// Where several class ids are asked for, they are compared with this one: the header is read once.
+pub fn class_id(buf: &[u8]) -> Option<&[u8]>
+    ensures { (id : List ℕ) → length id ≡ 16
+        → HasClassId id buf.now ↔ (option_map (λ found. found.now) result ≡ Some id) }
+{
+    let root = root_entry(buf)?;
+    Some(&buf[root + 80..root + 96])
 }
 
 /// A compound file of MS-CFB whose root entry has this class id.
