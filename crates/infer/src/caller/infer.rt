@@ -103,10 +103,22 @@ impl<A: Allocator> Infer<A> {
     pub fn get(&self, buf: &[u8]) -> Option<FileType>
         ensures { IsAnswer (AnyAccepts buf.now) (rows self.now) (option_map triple_of result) }
     {
-        match self.custom_get(buf) {
+        match self.get_added(buf) {
             Some(found) => Some(found),
             None => answers::get(buf),
         }
+    }
+
+    /// The type of the first added row that accepts `buf`, and `None` exactly if none does.
+    pub fn get_added(&self, buf: &[u8]) -> Option<FileType>
+        ensures { IsAnswer (AnyAccepts buf.now) (custom_rows self.now)
+            (option_map triple_of result) }
+    {
+        let accepts = |row: &&CustomRow| -> bool
+            ensures { IsTrue result ↔ AnyAccepts buf.entry.now (custom_row row.now.now) }
+        { row.accepts(buf) };
+        let row = self.custom().iter().find(accepts)?;
+        Some(row.file_type())
     }
 
     /// The type of the first row that accepts the first 8192 bytes of a reader, or all if it has fewer, and `None`
@@ -356,18 +368,6 @@ impl<A: Allocator> Infer<A> {
             ensures { IsTrue result ↔ IsAsked (Q.asked question.entry.now) (custom_row row.now) }
         { question.asks_for(&row.file_type()) };
         self.custom().iter().any(asked)
-    }
-
-    /// The answer of the added rows alone.
-    fn custom_get(&self, buf: &[u8]) -> Option<FileType>
-        ensures { IsAnswer (AnyAccepts buf.now) (custom_rows self.now)
-            (option_map triple_of result) }
-    {
-        let accepts = |row: &&CustomRow| -> bool
-            ensures { IsTrue result ↔ AnyAccepts buf.entry.now (custom_row row.now.now) }
-        { row.accepts(buf) };
-        let row = self.custom().iter().find(accepts)?;
-        Some(row.file_type())
     }
 
     /// The added rows.

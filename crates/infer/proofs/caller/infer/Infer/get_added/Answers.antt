@@ -1,6 +1,6 @@
 use Rattle.infer.proofs.Common.{rules, tests, sym, ap, ◌∙◌, Some, option_map, YieldsList-from_slice, first_from_find, AnyAccepts, custom_row, custom_rows, triple_of}
 use Rattle.infer.proofs.RowLemmas.{answer_of_find}
-use Rattle.infer.proofs.caller.infer.Infer.custom_get.Goals as goal
+use Rattle.infer.proofs.caller.infer.Infer.get_added.Goals as goal
 
 pub returns-in_err-row : goal.returns-in_err-row
 returns-in_err-row g c =
