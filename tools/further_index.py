@@ -11,22 +11,88 @@ MOST_BYTES = 5
 MOST_GUARDS = 15
 # Behind the gate, what a row costs that passes the guard of another.
 BEHIND = 12
-HEAD = """//! The lists of the index, which `tools/tables` makes from the rows: a place, a byte there, and a row, or a name and a row.
-//! Those below each built-in row stand in its order, and those by the first byte eight a line.
-use crate::index::Below::{{Entries, Nothing, Packages, Programs, Roots}};
+HEAD = """//! Made by `tools/tables` from the further rows, the lists of the index: a place, a byte there, and a row, or a name and a
+//! row. Those below each built-in row stand in its order, and those by the first byte eight a line.
+ghost use Rattle.std.specs.Prelude.{{Some}};
+ghost use Rattle.infer_more.specs.Wider.{{IsWidened}};
+
+use crate::index::Below::{{ClassIds, Entries, Nothing, Packages, Programs, Roots}};
+use crate::index::asked::found_row_apart;
 use crate::index::{{Below, Entry, Except, Gate, Guard, Named, Parentless, Range, Rooted, Texts}};
 
 /// How many further rows there are.
 pub const FURTHER_COUNT: usize = {};
 
 """
+BY_PARENT = """
+/// The number of the wider answer of a buffer whose built-in answer is this row, which no further row widens that is not
+/// named here. The buffer comes first, as in what this calls, so that it is passed on as it came.
+#[inline(always)]
+pub(crate) fn found_below(buf: &[u8], row: usize) -> usize
+    ensures {{ IsWidened (Some row) buf.now (Some result) }}
+{{
+    match row {{
+{}
+        _ => row,
+    }}
+}}
+"""
+ROW_AT = """//! Made by `tools/tables` from the further rows: each by its number.
+ghost use Rattle.std.specs.Prelude.{{◌≡◌, IfSome, IsTrue, option_map, slice_get}};
+ghost use Rattle.infer_more.specs.Ended.{{ended_listed, ended_shown}};
+ghost use Rattle.infer_more.specs.Listed.{{row_listed}};
+ghost use Rattle.infer_more.specs.Row.{{is_row_closed}};
+ghost use Rattle.infer_more.specs.Table.{{further}};
+
+use crate::table::{{FurtherRow, row_in_lists, row_of}};
+
+/// Row `i`, by one look: the compiler makes a table of the addresses.
+pub(crate) fn row_at(i: usize) -> Option<&'static FurtherRow>
+    ensures listed {{ option_map (λ row. row_listed row.now) result ≡ slice_get further i }}
+    ensures ended {{ IfSome result (λ row. ended_listed row.now.ended
+        ≡ ended_shown (row_listed row.now).shows) }}
+    ensures closed {{ IfSome result (λ row. IsTrue (is_row_closed (row_listed row.now))) }}
+{{
+    match i {{
+{}
+        _ => row_in_lists(i),
+    }}
+}}
+"""
+NO_OTHER_PARENT = """-- Made by `tools/tables` from the further rows: no row that the code does not name is the parent of one.
+use Rattle.infer_more.proofs.Common.{{◌∷◌, [], None, arith, refl, archives, code, further, headers, images, late, markup, media, packages, records}}
+use Rattle.infer_more.proofs.BelowLemmas.{{none_below_others}}
+use Rattle.infer_more.proofs.index.generated.found_below.Goals as goal
+
+pub returns-in_default : goal.returns-in_default
+unfolding further archives code headers images late markup media packages records
+returns-in_default c =
+    (None, none_below_others ({parents} ∷ []) refl c.args.row {differ} c.args.buf.now, refl)
+"""
+BY_ROW = """//! Made by `tools/tables` from the further rows: code of its own for each of them.
+ghost use Rattle.std.specs.Prelude.{{◌↔◌, IsTrue}};
+ghost use Rattle.infer_more.specs.Wider.{{WidensAt}};
+
+use crate::tried::{{widens_any, widens_row}};
+
+/// Whether further row `i` has this parent and accepts the buffer.
+#[inline(never)]
+pub(crate) fn widens(i: usize, parent: Option<usize>, buf: &[u8]) -> bool
+    ensures {{ IsTrue result ↔ WidensAt parent buf.now i }}
+{{
+    match i {{
+{}
+        _ => widens_any(i, parent, buf),
+    }}
+}}
+"""
 # A text or a character in the code.
 TEXT = r"""(?:"(?:[^"\\]|\\.)*"|'(?:[^'\\]|\\.)*')"""
 TEXT_OF_BYTES = rf"b{TEXT}"
 # The longest line of code.
 WIDTH = 100
-# How many lists of programs there are.
-NAME_LISTS = 32
+# How many buckets of programs there are.
+BUCKETS = 32
 # What is told last, without being tried.
 TEXTS = {"JsonLines", "JsonText", "PlainText"}
 # What is told without a parent and not tried.
@@ -288,10 +354,12 @@ def below(rows):
     kinds = {it.name for _, row in rows for it in row.signature}
     if not rows:
         return "Nothing", []
+    if kinds == {"ClassId"}:
+        return "ClassIds", [f"named!{bracketed(f'{it} {k}' for some, k in names(rows, 'ClassId') for it in some)}"]
     if kinds == {"Program"}:
         listed = [(it, k) for some, k in names(rows, "Program") for it in some]
-        by_first = [[f"{it} {k}" for it, k in listed if ast.literal_eval(it)[0] % NAME_LISTS == n] for n in range(NAME_LISTS)]
-        return "Programs", [f"by_first![{' '.join(f'({chr(44).join(chr(32) + it for it in some)[1:]})' for some in by_first)}]"]
+        buckets = [[f"{it} {k}" for it, k in listed if ast.literal_eval(it)[0] % BUCKETS == n] for n in range(BUCKETS)]
+        return "Programs", [f"buckets![{' '.join(f'({chr(44).join(chr(32) + it for it in some)[1:]})' for some in buckets)}]"]
     if kinds <= {"Root", "RootWith"}:
         return "Roots", [rooted(rows)]
     told = {"PackageWith"} & kinds
@@ -367,11 +435,35 @@ def with_rows_below(rows, parents):
     return [k for k, parent in enumerate(parents) if any(row.parent == parent for row in rows)]
 
 
-def in_numbers(some):
-    """These numbers, twenty-four a line."""
-    yield from ("        " + " ".join(map(str, some[at : at + 24])) for at in range(0, len(some), 24))
+def arms(numbers, call):
+    """The arms of a match, one for each number, with what it calls."""
+    return "\n".join(f"        {it} => {call.format(it)}," for it in numbers)
+
+
+def by_parent(rows, parents):
+    """The function with code of its own for each parent."""
+    return BY_PARENT.format(arms(with_rows_below(rows, parents), "found_row_apart::<{}>(buf)"))
+
+
+def no_other_parent(rows, parents):
+    """The proof that these are all."""
+    listed = with_rows_below(rows, parents)
+    differ = "tt"
+    for _ in listed:
+        differ = f"(λ e. omega arith, {differ})"
+    return NO_OTHER_PARENT.format(parents=" ∷ ".join(map(str, listed)), differ=differ)
+
+
+def row_at(rows):
+    """The file with each row by its number."""
+    return ROW_AT.format(arms(range(len(rows)), "row_of::<{}>()"))
+
+
+def by_row(rows):
+    """The file with code for each row."""
+    return BY_ROW.format(arms(range(len(rows)), "widens_row::<{}>(parent, buf)"))
 
 
 def text(rows, parents):
     """The file of the index."""
-    return HEAD.format(len(rows)) + "\n".join(lists(rows, parents)) + "\n"
+    return HEAD.format(len(rows)) + "\n".join(lists(rows, parents)) + "\n" + by_parent(rows, parents)

@@ -1,6 +1,8 @@
 -- What the wider answer says of the built-in one.
-use Rattle.infer_more.proofs.Common.{◌≡◌, ◌≤◌, ◌<◌, ◌+◌, ◌-◌, ℕ, false, inl, inr, List, Option, None, Some, IfSome, ap, length, nat_lt, subst, sym, ◌∙◌, arith, refl, if◌then◌else◌, option_map_or, lt-ltb, nat_tests, slice_get_cases, IsFirst, IsFirstOf, Accepts, ROW_COUNT, length-table, Further, further, IsWider, Widens, wider, FURTHER_COUNT}
+use Rattle.infer_more.proofs.Common.{◌≡◌, ◌≤◌, ◌<◌, ◌+◌, ◌-◌, ℕ, false, inl, inr, List, Option, None, Some, IfSome, ap, length, nat_lt, subst, sym, ◌∙◌, arith, refl, if◌then◌else◌, option_map_or, lt-ltb, nat_tests, slice_get_cases, IsFirst, IsFirstOf, Accepts, ROW_COUNT, length-table, Further, further, IsWider, Widens, wider, FURTHER_COUNT, Bool, true, [], ◌∷◌, ◌==◌, IsTrue, get_or, list_all, eqb-true, is_listed}
 use Rattle.std.proofs.Common.{slice_get}
+use Rattle.std.proofs.lemmas.Bool.{or_cases}
+use Rattle.std.proofs.lemmas.List.Sums.{AllPass-from_list_all}
 use Rattle.infer.specs.Table as built_in
 use Rattle.infer_more.specs.Laws.{AllAreBelow, built_in_by}
 use Rattle.infer_more.specs.Wider.{IsWidened, parent_at}
@@ -56,3 +58,28 @@ module _ (b : List ℕ) (parent o : Option ℕ) where
 pub all_below : AllAreBelow
 all_below b o w =
     subst (IsFirstOf (Accepts b) built_in.table) (sym (ap built_in_by w.is ∙ told b w.parent w.found w.answers w.widens)) w.answers
+
+-- ---- the rows below which there are none
+
+-- the number is none of these
+abbrev pub DiffersFromEach : List ℕ → ℕ → Type 0
+DiffersFromEach [] n = Unit {0}
+DiffersFromEach (k ∷ ks) n = (k ≡ n → ⊥) × DiffersFromEach ks n
+
+not_among : (ks : List ℕ) (n : ℕ) → DiffersFromEach ks n → IsTrue (is_listed ks n) → ⊥
+not_among [] n d h = absurd (cc)
+not_among (k ∷ ks) n d h = elim (or_cases (k == n) (is_listed ks n) h) [
+  | inl e ↦ d.0 (eqb-true k n e)
+  | inr l ↦ not_among ks n d.1 l
+]
+
+-- the further row has no parent, or one of these
+abbrev pub has_parent_among : List ℕ → Further → Bool
+has_parent_among parents r = option_map_or (λ p. is_listed parents p) r.parent true
+
+-- no further row widens an answer that is none of their parents
+pub none_below_others : (parents : List ℕ) → IsTrue (list_all (has_parent_among parents) further) → (row : ℕ) → DiffersFromEach parents row
+    → (b : List ℕ) → IsFirstOf (Widens (Some row) b) further None
+none_below_others parents each row differ b = λ k d low lt w.
+    let has : IsTrue (has_parent_among parents (get_or further k d)) = AllPass-from_list_all (has_parent_among parents) further each k d lt in
+    not_among parents row differ (subst (λ (o : Option ℕ). IsTrue (option_map_or (λ p. is_listed parents p) o true)) w.0 has)

@@ -80,7 +80,7 @@ pub use Rattle.infer_more.specs.Entries.{left_lines, row_lines}
 pub use Rattle.infer_more.specs.Index.{HasTagText, IsFoundBelow, IsLeast, IsNamed, IsOfProgram, IsRooted, IsRootedBy}
 pub use Rattle.infer_more.specs.Index.{IsRowOf, IsTried, ascends, candidate, candidates, excepted, guarded, has_byte}
 pub use Rattle.infer_more.specs.Index.{is_covered, is_excepted, is_plain, is_settled, is_tried_parentless}
-pub use Rattle.infer_more.specs.Index.{is_true_below, named_row, names_like, ranged, rooted_row, tried_parentless}
+pub use Rattle.infer_more.specs.Index.{is_true_below, named_row, bucket_of, ranged, rooted_row, tried_parentless}
 pub use Rattle.infer_more.specs.Index.{unless, within}
 pub use Rattle.infer_more.specs.Laws.{AllLast, IsLost, is_dark, is_filled, is_lasting}
 unfoldable pub use Rattle.infer_more.specs.Line.{class_of, is_built_in, is_mime_type, row_of}
@@ -105,7 +105,7 @@ pub use Rattle.infer_more.specs.declared.index.Except.{Except}
 pub use Rattle.infer_more.specs.declared.index.Named.{Named}
 pub use Rattle.infer_more.specs.declared.index.Parentless.{Parentless}
 pub use Rattle.infer_more.specs.declared.index.Rooted.{Rooted}
-pub use Rattle.infer_more.specs.declared.index.lists.TheConstants.{FURTHER_COUNT}
+pub use Rattle.infer_more.specs.declared.index.generated.TheConstants.{FURTHER_COUNT}
 pub use Rattle.infer_more.specs.declared.samples.TheConstants.{SAMPLE_SIZE}
 pub use Rattle.infer_more.specs.declared.signature.Piece.{Piece}
 pub use Rattle.infer_more.specs.declared.table.FurtherRow.{FurtherRow}

@@ -1,19 +1,20 @@
 -- By the index just those rows are found that widen an answer.
 use Rattle.std.proofs.lemmas.Bool.{or_cases}
-use Rattle.infer_more.proofs.Common.{◌≡◌, ◌↔◌, ℕ, zero, suc, ◌+◌, ◌<◌, ◌≤◌, ◌==◌, inl, inr, Bool, true, false, IsTrue, List, [], ◌∷◌, Option, None, Some, length, get_or, ap, sym, ◌∙◌, subst, arith, refl, ◌%◌, ◌&&◌, ◌||◌, ◌++◌, slice_index, nat_le, list_all, list_any, option_map_or, cases_lt, eqb-true, leb-true, get_or_default, slice_get_cases, Bor, IsJson, IsJsonLines, BeginsElement, IsRootElement, IsXmlSpace, there, IsProgram, IsOneOf, IsPackageWith, applications, accepts, fits, stands, StandsByPlace, IsBuffer, IsFirstOf, is_listed, NoneRefused, passed, HasTagText, IsFoundBelow, IsLeast, IsNamed, IsOfProgram, IsRootedBy, IsRooted, IsRowOf, IsTried, ascends, candidates, excepted, is_covered, is_excepted, is_plain, is_tried_parentless, is_true_below, named_row, names_like, rooted_row, tried_parentless, lines, Further, Accepted, Fits, related, json_lines, json_text, package_with, plain_text, program, root, root_with, further, Widens, WidensAt, Nothing, Except, Named, Parentless, Rooted, FURTHER_COUNT, and_from}
+use Rattle.infer_more.proofs.Common.{◌≡◌, ◌↔◌, ℕ, zero, suc, ◌+◌, ◌<◌, ◌≤◌, ◌==◌, inl, inr, Bool, true, false, IsTrue, List, [], ◌∷◌, Option, None, Some, length, get_or, ap, sym, ◌∙◌, subst, arith, refl, ◌%◌, ◌&&◌, ◌||◌, ◌++◌, slice_index, nat_le, list_all, list_any, option_map_or, cases_lt, eqb-true, leb-true, get_or_default, slice_get_cases, Bor, IsJson, IsJsonLines, BeginsElement, IsRootElement, IsXmlSpace, there, IsProgram, IsOneOf, IsPackageWith, applications, accepts, fits, stands, StandsByPlace, IsBuffer, IsFirstOf, is_listed, NoneRefused, passed, HasTagText, IsFoundBelow, IsLeast, IsNamed, IsOfProgram, IsRootedBy, IsRooted, IsRowOf, IsTried, ascends, candidates, excepted, is_covered, is_excepted, is_plain, is_tried_parentless, is_true_below, named_row, rooted_row, tried_parentless, lines, Further, Accepted, Fits, related, json_lines, json_text, package_with, plain_text, program, root, root_with, further, Widens, WidensAt, Nothing, Except, Named, Parentless, Rooted, FURTHER_COUNT, and_from, bucket_of, class_id}
 use Rattle.std.specs.Prelude.{slice_get}
+use Rattle.infer_deep.specs.ClassId.{HasClassId}
 use Rattle.infer_inside.specs.Laws.{Leads}
 use Rattle.infer_inside.specs.Markup.{HasInTag, MayBeRooted}
 use Rattle.infer_sig.specs.Signature as fixed
-use Rattle.infer_more.specs.Index.{AllApplications, EachBelowIsFound, EachFreeIsFound, EachIsFound, FindsAll, IsFoundFree, IsTextRow, MayOpenMarkup, are_rooted, are_texts, are_true, asks_folder, asks_program, asks_root, below_at, has_named, has_rooted, is_application, is_child, is_found_below, is_found_free, is_in_folders, is_in_programs, is_in_roots, is_json, is_lines, is_row_below, is_row_below_found, is_row_free, is_row_free_found, is_row_with, is_text_row, is_tried_below, is_tried_in, names_at, same, same_text}
+use Rattle.infer_more.specs.Index.{AllApplications, AreClassIds, EachBelowIsFound, EachFreeIsFound, EachIsFound, FindsAll, IsFoundFree, IsTextRow, MayBeginMarkup, are_rooted, are_texts, are_true, asks_class_id, asks_folder, asks_program, asks_root, below_at, has_named, has_rooted, is_application, is_child, is_found_below, is_found_free, is_in_class_ids, is_in_folders, is_in_programs, is_in_roots, is_json, is_lines, is_row_below, is_row_below_found, is_row_free, is_row_free_found, is_row_with, is_text_row, is_tried_below, is_tried_in, bucket_at, same, same_text}
 use Rattle.infer_notation.specs.Alternative.{Alternative}
 use Rattle.infer_more.specs.declared.index.Below as below
-use Rattle.infer_more.specs.declared.index.Below.TheVariants.{Entries, Packages, Programs, Roots}
+use Rattle.infer_more.specs.declared.index.Below.TheVariants.{ClassIds, Entries, Packages, Programs, Roots}
 use Rattle.infer_more.specs.declared.index.Entry.{Entry}
 use Rattle.infer_more.specs.declared.index.RowIndex.{RowIndex}
 use Rattle.infer_more.specs.declared.index.Texts.{Texts}
 use Rattle.infer_more.proofs.IndexLemmas.{both_left, both_right, covered_here, excepted_here, listed_left, listed_right, parentless_here}
-use Rattle.infer_more.proofs.LeastLemmas.{least_both, least_late, least_none, least_same, none_found}
+use Rattle.infer_more.proofs.LeastLemmas.{least_both, least_late, least_same}
 use Rattle.infer_more.proofs.OutlineLemmas.{has_lines, small_bytes}
 use Rattle.infer_more.proofs.TableLemmas.{length-further}
 
@@ -36,12 +37,12 @@ listed_name P i (e ∷ names) name h p = elim (or_cases (e.row == i && same e.na
 ]
 
 -- what each list has, that of a name has
-listed_at : (Q : List Named → Bool) → IsTrue (Q []) → (lists : List (Bor (List Named))) (i : ℕ) → IsTrue (list_all (λ names. Q names.now) lists) → IsTrue (Q (names_at lists i))
+listed_at : (Q : List Named → Bool) → IsTrue (Q []) → (lists : List (Bor (List Named))) (i : ℕ) → IsTrue (list_all (λ names. Q names.now) lists) → IsTrue (Q (bucket_at lists i))
 listed_at Q none [] i h = none
 listed_at Q none (names ∷ lists) zero h = both_left (Q names.now) _ h
 listed_at Q none (names ∷ lists) (suc i) h = listed_at Q none lists i (both_right (Q names.now) _ h)
 
-pub listed_like : (Q : List Named → Bool) → IsTrue (Q []) → (lists : List (Bor (List Named))) (name : List ℕ) → IsTrue (list_all (λ names. Q names.now) lists) → IsTrue (Q (names_like lists name))
+pub listed_like : (Q : List Named → Bool) → IsTrue (Q []) → (lists : List (Bor (List Named))) (name : List ℕ) → IsTrue (list_all (λ names. Q names.now) lists) → IsTrue (Q (bucket_of lists name))
 listed_like Q none lists [] h = none
 listed_like Q none lists (x ∷ xs) h = listed_at Q none lists (x % 32) h
 
@@ -103,8 +104,12 @@ module _ (by_place : (place : ℕ) (t buf : List ℕ) → IsTrue (stands place t
       → IsTrue (is_listed (candidates b entries ++ excepted b excepts) i)
   tried_in entries excepts a h k = line_excepted entries excepts (lines a) h (has_lines leads b a (λ plain. small) k)
 
+  in_class_ids : (ids : List Named) (a : Alternative) → IsTrue (is_in_class_ids i ids a) → Fits a b → IsNamed (λ id. HasClassId id b) ids i
+  in_class_ids ids (related (class_id id)) h k = listed_name (λ n. HasClassId n b) i ids id h k
+  in_class_ids ids other h k = absurd (cc)
+
   in_programs : (lists : List (Bor (List Named))) (a : Alternative) → IsTrue (is_in_programs i lists a) → Fits a b → IsOfProgram b lists i
-  in_programs lists (related (program name)) h k = (name, k, listed_name (λ n. n ≡ name) i (names_like lists name) name h refl)
+  in_programs lists (related (program name)) h k = (name, k, listed_name (λ n. n ≡ name) i (bucket_of lists name) name h refl)
   in_programs lists other h k = absurd (cc)
 
   in_roots : (roots : List Rooted) (a : Alternative) → IsTrue (is_in_roots i roots a) → Fits a b → IsRooted b roots i
@@ -126,6 +131,7 @@ module _ (by_place : (place : ℕ) (t buf : List ℕ) → IsTrue (stands place t
     found_by : (way : below.Below) (a : Alternative) → IsTrue (is_found_below way i a) → Fits a b → IsFoundBelow way parent b i
     found_by Nothing a h k = absurd (cc)
     found_by (Entries entries) a h k = (tried entries.now a h k, w)
+    found_by (ClassIds ids) a h k = in_class_ids ids.now a h k
     found_by (Programs lists) a h k = in_programs lists.now a h k
     found_by (Roots roots) a h k = in_roots roots.now a h k
     found_by (Packages entries excepts folders) a h k = elim (or_cases (is_in_folders i folders.now a) _ h) [
@@ -204,6 +210,10 @@ module _ (b : List ℕ) where
     )
     fits_root own t p other h = absurd (cc)
 
+  fits_class_id : (id : List ℕ) → HasClassId id b → (a : Alternative) → IsTrue (asks_class_id id a) → Fits a b
+  fits_class_id id p (related (class_id other)) h = subst (λ own. HasClassId own b) (same_true id other h) p
+  fits_class_id id p other h = absurd (cc)
+
   fits_folder : (folder : List ℕ) → IsPackageWith folder b → (a : Alternative) → IsTrue (asks_folder folder a) → Fits a b
   fits_folder folder p (related (package_with other)) h = subst (λ f. IsPackageWith f b) (same_true folder other h) p
   fits_folder folder p other h = absurd (cc)
@@ -220,12 +230,10 @@ module _ (b : List ℕ) where
   fits_plain p (related plain_text) h = p
   fits_plain p other h = absurd (cc)
 
-  folder_rows : (parent : ℕ) (folders : List Named) → IsTrue (list_all (λ e. is_application e.name.now && is_row_with (Some parent) (asks_folder e.name.now) e.row) folders)
-      → IsTrue (list_all (λ e. is_row_with (Some parent) (asks_folder e.name.now) e.row) folders)
-  folder_rows parent [] h = refl
-  folder_rows parent (e ∷ folders) h =
-      let told = both_left (is_application e.name.now && is_row_with (Some parent) (asks_folder e.name.now) e.row) _ h in
-      and_from _ _ (both_right (is_application e.name.now) _ told) (folder_rows parent folders (both_right (is_application e.name.now && is_row_with (Some parent) (asks_folder e.name.now) e.row) _ h))
+  -- what is told of each element, and one more thing
+  second_of_each : (P Q : Named → Bool) (xs : List Named) → IsTrue (list_all (λ e. P e && Q e) xs) → IsTrue (list_all Q xs)
+  second_of_each P Q [] h = refl
+  second_of_each P Q (e ∷ xs) h = and_from (Q e) _ (both_right (P e) (Q e) (both_left (P e && Q e) _ h)) (second_of_each P Q xs (both_right (P e && Q e) _ h))
 
   widens_root : (parent : Option ℕ) (roots : List Rooted) (i : ℕ) → IsTrue (list_all (λ e. is_row_with parent (asks_root e.name.now e.text) e.row) roots)
       → IsRooted b roots i → WidensAt parent b i
@@ -236,15 +244,18 @@ module _ (b : List ℕ) where
   widens_below : (parent : ℕ) (way : below.Below) (i : ℕ) → IsTrue (is_true_below parent way) → IsFoundBelow way parent b i → WidensAt (Some parent) b i
   widens_below parent Nothing i h is = absurd (is)
   widens_below parent (Entries entries) i h is = is.1
+  widens_below parent (ClassIds ids) i h is =
+      rows_widen named_row (λ e. HasClassId e.name.now b) (λ e. asks_class_id e.name.now) (Some parent) b (λ e p. fits_class_id e.name.now p) ids.now i
+      (second_of_each (λ e. length e.name.now == 16) (λ e. is_row_with (Some parent) (asks_class_id e.name.now) e.row) ids.now (both_right (ascends named_row ids.now) _ h)) is
   widens_below parent (Programs lists) i h (name, p, is) =
       rows_widen named_row (λ e. e.name.now ≡ name) (λ e. asks_program e.name.now) (Some parent) b
-      (λ e same. fits_program e.name.now (subst (λ n. IsProgram n b) (sym same) p)) (names_like lists.now name) i
+      (λ e same. fits_program e.name.now (subst (λ n. IsProgram n b) (sym same) p)) (bucket_of lists.now name) i
       (listed_like (list_all (λ e. is_row_with (Some parent) (asks_program e.name.now) e.row)) refl lists.now name (both_right (list_all (λ names. ascends named_row names.now) lists.now) _ h)) is
   widens_below parent (Roots roots) i h is = widens_root (Some parent) roots.now i (both_right (ascends rooted_row roots.now) _ h) is
   widens_below parent (Packages entries excepts folders) i h (inl is) = is.1
   widens_below parent (Packages entries excepts folders) i h (inr is) =
       rows_widen named_row (λ e. IsPackageWith e.name.now b) (λ e. asks_folder e.name.now) (Some parent) b (λ e p. fits_folder e.name.now p) folders.now i
-      (folder_rows parent folders.now (both_right (ascends named_row folders.now) _ h)) is
+      (second_of_each (λ e. is_application e.name.now) (λ e. is_row_with (Some parent) (asks_folder e.name.now) e.row) folders.now (both_right (ascends named_row folders.now) _ h)) is
 
   widens_text : (t : Texts) (i : ℕ) → IsTrue (are_texts t) → IsTextRow t b i → WidensAt None b i
   widens_text t i h is =
@@ -284,6 +295,19 @@ module _ (parent : ℕ) where
 
   pub all_applications : (entries : Bor (List Entry)) (excepts : Bor (List Except)) (folders : Bor (List Named)) → IsTrue (is_true_below parent (Packages entries excepts folders)) → AllApplications folders.now
   all_applications entries excepts folders h = λ k d lt. each_application folders.now (both_right (ascends named_row folders.now) _ h) k d lt
+
+-- each class id has its bytes
+module _ (parent : ℕ) where
+  abbrev is_class_id : Named → Bool
+  is_class_id e = length e.name.now == 16 && is_row_with (Some parent) (asks_class_id e.name.now) e.row
+
+  each_class_id : (ids : List Named) → IsTrue (list_all is_class_id ids) → (k : ℕ) (d : Named) → k < length ids → length (get_or ids k d).name.now ≡ 16
+  each_class_id [] h k d lt = absurd (omega arith)
+  each_class_id (e ∷ ids) h zero d lt = eqb-true (length e.name.now) 16 (both_left (length e.name.now == 16) _ (both_left (is_class_id e) _ h))
+  each_class_id (e ∷ ids) h (suc k) d lt = each_class_id ids (both_right (is_class_id e) _ h) k d (omega arith)
+
+  pub are_class_ids : (ids : Bor (List Named)) → IsTrue (is_true_below parent (ClassIds ids)) → AreClassIds ids.now
+  are_class_ids ids h = λ k d lt. each_class_id ids.now (both_right (ascends named_row ids.now) _ h) k d lt
 
 -- a row is found by its parent, or without one
 module _ (index : RowIndex) (each : EachIsFound index) (i : ℕ) (r : Further) (found : slice_get further i ≡ Some r) (lt : i < length further) where
@@ -360,16 +384,6 @@ module _ (index : RowIndex) (all : FindsAll index) (b : List ℕ) (bytes : IsBuf
         | inr (inr (e, p)) ↦ omega arith
       ]))
 
--- no row widens an answer below which there is none
-pub none_below : (index : RowIndex) → FindsAll index → (row : ℕ) → below_at index.below.now row ≡ Nothing → (b : List ℕ) → IsBuffer b
-    → IsFirstOf (Widens (Some row) b) further None
-none_below index all row e b bytes =
-    none_found (Some row) b FURTHER_COUNT
-    (least_none (WidensAt (Some row) b) FURTHER_COUNT (λ i w.
-    let found = (all.below b bytes row i).1 w in
-    absurd (subst (λ (way : below.Below). IsFoundBelow way row b i) e found)))
-    (omega arith)
-
 -- as computed of sixteen rows a step, with room for more of them: a refusal shows the numbers of the rows that are not found
 pub each_below : (ways : List below.Below) → NoneRefused (is_row_below_found ways) FURTHER_COUNT 0 16 → IsTrue (are_true 0 ways) → EachBelowIsFound ways
 each_below ways none told = record {
@@ -386,7 +400,7 @@ each_free index none texts roots = record {
 }
 
 -- a root is that of markup, which begins with white space, "<" or a byte order mark
-pub root_opens : (b : List ℕ) → Leads → (name rest : List ℕ) → IsRootElement name rest b → MayOpenMarkup b
+pub root_opens : (b : List ℕ) → Leads → (name rest : List ℕ) → IsRootElement name rest b → MayBeginMarkup b
 root_opens b leads name rest element = elim (leads.root name b (rest, element)) [
   | inl o ↦ let fits = o.fits in (omega arith, inr (inr (o.reads 0 (omega arith))))
   | inr (k, low, spaces, opens) ↦ elim (cases_lt 0 k) [

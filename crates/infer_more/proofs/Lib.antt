@@ -22,7 +22,6 @@ pub mod TextLemmas
 pub mod FieldLemmas
 pub mod NameLemmas
 pub mod EntryLemmas
-pub mod AddedLemmas
 pub mod SizeLemmas
 mod PiecePairs
 pub mod OpenLemmas

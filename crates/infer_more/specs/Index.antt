@@ -3,6 +3,7 @@ use Rattle.std.specs.Prelude.{◌≡◌, ◌⊎◌, ◌↔◌, ◌-◌, ◌%◌,
 use Rattle.std.specs.List.{list_all, list_any, range_with_len}
 use Rattle.std.specs.Option.{option_map_or}
 use denote.Ref.{Bor}
+use Rattle.infer_deep.specs.ClassId.{HasClassId}
 use Rattle.infer_inside.specs.Json.{IsJson, IsJsonLines}
 use Rattle.infer_inside.specs.Markup.{HasInTag, IsRootElement, IsXmlSpace}
 use Rattle.infer_inside.specs.Script.{IsProgram}
@@ -15,12 +16,12 @@ use Rattle.infer.specs.Walks.{is_listed}
 use Rattle.infer_more.specs.Outline.{lines}
 use Rattle.infer_more.specs.Row.{Further}
 use Rattle.infer_inside.specs.Outline as relation
-use Rattle.infer_inside.specs.Relation.{json_lines, json_text, package_with, plain_text, program, root, root_with}
+use Rattle.infer_inside.specs.Relation.{class_id, json_lines, json_text, package_with, plain_text, program, root, root_with}
 use Rattle.infer_notation.specs.Alternative.{Alternative, related}
 use Rattle.infer_more.specs.Table.{further}
 use Rattle.infer_more.specs.Wider.{WidensAt}
 use Rattle.infer_more.specs.declared.index.Below as below
-use Rattle.infer_more.specs.declared.index.Below.TheVariants.{Entries, Nothing, Packages, Programs, Roots}
+use Rattle.infer_more.specs.declared.index.Below.TheVariants.{ClassIds, Entries, Nothing, Packages, Programs, Roots}
 use Rattle.infer_more.specs.declared.index.Entry.{Entry}
 use Rattle.infer_more.specs.declared.index.Except.{Except}
 use Rattle.infer_more.specs.declared.index.Gate.{Gate}
@@ -129,18 +130,18 @@ rooted_row e = e.row
 abbrev pub IsNamed : (List ℕ → Type 0) → List Named → ℕ → Type 0
 IsNamed P names i = IsRowOf named_row (λ e. P e.name.now) names i
 
--- the names that the code lists at i
-abbrev pub names_at : List (Bor (List Named)) → ℕ → List Named
-names_at lists i = option_map_or (λ names. names.now) (slice_get lists i) []
+-- the names in bucket i
+abbrev pub bucket_at : List (Bor (List Named)) → ℕ → List Named
+bucket_at buckets i = option_map_or (λ names. names.now) (slice_get buckets i) []
 
--- those among which a name is looked for: by the low five bits of its first byte
-abbrev pub names_like : List (Bor (List Named)) → List ℕ → List Named
-names_like lists [] = []
-names_like lists (x ∷ xs) = names_at lists (x % 32)
+-- the bucket of a name: by the low five bits of its first byte
+abbrev pub bucket_of : List (Bor (List Named)) → List ℕ → List Named
+bucket_of buckets [] = []
+bucket_of buckets (x ∷ xs) = bucket_at buckets (x % 32)
 
 -- row i is listed with the name of the script's program
 abbrev pub IsOfProgram : List ℕ → List (Bor (List Named)) → ℕ → Type 0
-IsOfProgram b lists i = (name : List ℕ) × IsProgram name b × IsNamed (λ other. other ≡ name) (names_like lists name) i
+IsOfProgram b lists i = (name : List ℕ) × IsProgram name b × IsNamed (λ other. other ≡ name) (bucket_of lists name) i
 
 -- the text, if there is one, stands in a tag of which this is the rest
 abbrev pub HasTagText : List ℕ → Option (Bor (List ℕ)) → Type 0
@@ -159,6 +160,7 @@ IsRooted b roots i = (name rest : List ℕ) × IsRootElement name rest b × IsRo
 abbrev pub IsFoundBelow : below.Below → ℕ → List ℕ → ℕ → Type 0
 IsFoundBelow Nothing parent b i = ⊥
 IsFoundBelow (Entries entries) parent b i = IsTried (Some parent) b (candidates b entries.now) i
+IsFoundBelow (ClassIds ids) parent b i = IsNamed (λ id. HasClassId id b) ids.now i
 IsFoundBelow (Programs lists) parent b i = IsOfProgram b lists.now i
 IsFoundBelow (Roots roots) parent b i = IsRooted b roots.now i
 IsFoundBelow (Packages entries excepts folders) parent b i =
@@ -169,8 +171,8 @@ abbrev pub IsTextRow : Texts → List ℕ → ℕ → Type 0
 IsTextRow t b i = ((t.lines ≡ i) × IsJsonLines b) ⊎ ((t.json ≡ i) × IsJson b) ⊎ ((t.plain ≡ i) × IsText b)
 
 -- the first byte is white space, "<" or the first of a byte order mark
-abbrev pub MayOpenMarkup : List ℕ → Type 0
-MayOpenMarkup b = (0 < length b) × (IsXmlSpace (slice_index b 0) ⊎ (slice_index b 0 ≡ 0x3C) ⊎ (slice_index b 0 ≡ 0xEF))
+abbrev pub MayBeginMarkup : List ℕ → Type 0
+MayBeginMarkup b = (0 < length b) × (IsXmlSpace (slice_index b 0) ⊎ (slice_index b 0 ≡ 0x3C) ⊎ (slice_index b 0 ≡ 0xEF))
 
 -- row i is found without a built-in answer
 abbrev pub IsFoundFree : Parentless → List ℕ → ℕ → Type 0
@@ -270,8 +272,12 @@ is_tried_in i entries excepts a = list_all (λ l. is_covered i l entries || is_e
 
 -- or is told row i by a name
 abbrev pub is_in_programs : ℕ → List (Bor (List Named)) → Alternative → Bool
-is_in_programs i lists (related (program name)) = has_named i (names_like lists name) name
+is_in_programs i lists (related (program name)) = has_named i (bucket_of lists name) name
 is_in_programs i lists other = false
+
+abbrev pub is_in_class_ids : ℕ → List Named → Alternative → Bool
+is_in_class_ids i ids (related (class_id id)) = has_named i ids id
+is_in_class_ids i ids other = false
 
 abbrev pub is_in_roots : ℕ → List Rooted → Alternative → Bool
 is_in_roots i roots (related (root name)) = has_rooted i roots name None
@@ -285,6 +291,7 @@ is_in_folders i folders other = false
 abbrev pub is_found_below : below.Below → ℕ → Alternative → Bool
 is_found_below Nothing i a = false
 is_found_below (Entries entries) i a = is_tried_below i entries.now a
+is_found_below (ClassIds ids) i a = is_in_class_ids i ids.now a
 is_found_below (Programs lists) i a = is_in_programs i lists.now a
 is_found_below (Roots roots) i a = is_in_roots i roots.now a
 is_found_below (Packages entries excepts folders) i a = is_in_folders i folders.now a || is_tried_in i entries.now excepts.now a
@@ -327,7 +334,11 @@ is_child (Some parent) (Some other) = parent == other
 abbrev pub is_row_with : Option ℕ → (Alternative → Bool) → ℕ → Bool
 is_row_with parent test i = option_map_or (λ r. is_child parent r.parent && list_any test r.signature) (slice_get further i) false
 
--- the alternative asks for the program, the root, the folder
+-- the alternative asks for the class id, the program, the root, the folder
+abbrev pub asks_class_id : List ℕ → Alternative → Bool
+asks_class_id id (related (class_id own)) = same id own
+asks_class_id id other = false
+
 abbrev pub asks_program : List ℕ → Alternative → Bool
 asks_program name (related (program own)) = same name own
 asks_program name other = false
@@ -362,8 +373,15 @@ is_application folder = list_any (same folder) applications
 abbrev pub AllApplications : List Named → Type 0
 AllApplications folders = All (λ (e : Named). IsOneOf e.name.now applications) folders
 
+-- each has the 16 bytes of a class id
+abbrev pub AreClassIds : List Named → Type 0
+AreClassIds ids = All (λ (e : Named). length e.name.now ≡ 16) ids
+
 -- each name below that row is one that the row which is told by it asks for, and the rows ascend
 abbrev pub is_true_below : ℕ → below.Below → Bool
+is_true_below parent (ClassIds ids) =
+    ascends named_row ids.now
+    && list_all (λ e. length e.name.now == 16 && is_row_with (Some parent) (asks_class_id e.name.now) e.row) ids.now
 is_true_below parent (Programs lists) =
     list_all (λ names. ascends named_row names.now) lists.now
     && list_all (λ names. list_all (λ e. is_row_with (Some parent) (asks_program e.name.now) e.row) names.now) lists.now

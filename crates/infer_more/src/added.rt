@@ -9,13 +9,11 @@ use infer::{Infer, Type};
 use std::alloc::Allocator;
 
 /// The type of the first added row that accepts the buffer, or that of the wider answer.
-#[tactic(auto, using(crate::proofs::AddedLemmas::none_own, crate::proofs::AddedLemmas::own_answer, crate::proofs::AddedLemmas::some_own, crate::proofs::AddedLemmas::wider_answer))]
 pub fn get_with<A: Allocator>(infer: &Infer<A>, buf: &[u8]) -> Option<Type>
     ensures { IsAnswerWith (custom_rows infer.now) buf.now (option_map triple_of result) }
 {
-    // Only added rows are of the class that is asked for here.
-    if infer.is_custom(buf) {
-        return infer.get(buf);
+    match infer.get_added(buf) {
+        Some(found) => Some(found),
+        None => get(buf),
     }
-    get(buf)
 }

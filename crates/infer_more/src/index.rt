@@ -40,7 +40,7 @@ pub(crate) struct Except {
     pub byte: u8,
 }
 
-/// A row, by its number among the further rows, that is told by a name.
+/// A row, by its number among the further rows, that is told by a name, which may be a class id.
 pub(crate) struct Named {
     pub row: u16,
     pub name: &'static [u8],
@@ -59,7 +59,9 @@ pub(crate) enum Below {
     Nothing,
     /// By trying those of which a buffer has the byte.
     Entries(&'static [Entry]),
-    /// By the program of a script. The names are listed by the low five bits of their first byte.
+    /// By the class id of a compound file.
+    ClassIds(&'static [Named]),
+    /// By the program of a script. The names stand in buckets, by the low five bits of their first byte.
     Programs(&'static [&'static [Named]]),
     /// By the root element.
     Roots(&'static [Rooted]),
@@ -123,7 +125,7 @@ macro_rules! named {
     };
 }
 
-macro_rules! by_first {
+macro_rules! buckets {
     ($(($($name:literal $row:literal),*))*) => {
         &[$(named![$($name $row),*]),*]
     };
@@ -193,10 +195,12 @@ macro_rules! ranges {
     };
 }
 
-mod lists;
+pub(crate) mod asked;
+mod generated;
 
-pub use lists::FURTHER_COUNT;
-use lists::{BELOW, PARENTLESS};
+pub use generated::FURTHER_COUNT;
+pub(crate) use generated::found_below;
+use generated::{BELOW, PARENTLESS};
 
 /// How the rows below each built-in row are told.
 #[inline(always)]
@@ -214,20 +218,23 @@ fn without_parent() -> &'static Parentless
     &PARENTLESS
 }
 
-/// The index.
+/// The index, by which just those further rows are found that widen an answer.
 #[inline(always)]
 pub(crate) fn index() -> RowIndex
-    ensures { EachIsFound result }
+    ensures each { EachIsFound result }
+    ensures finds { FindsAll result }
 {
-    RowIndex {
+    let index = RowIndex {
         below: below_rows(),
         parentless: without_parent(),
-    }
+    };
+    law_finds(&index);
+    index
 }
 
-/// By such an index just those further rows are found that widen an answer.
+/// A law: by an index that has each row just those are found that widen an answer.
 #[tactic(auto, using(crate::proofs::FoundLemmas::all_found))]
-pub(crate) fn finds(index: &RowIndex)
+fn law_finds(index: &RowIndex)
     requires { EachIsFound index.now }
     ensures { FindsAll index.now }
 {

@@ -10,7 +10,7 @@ ghost use Rattle.infer_more.specs.Laws.{AllAreBelow, AllLast, IsSteady, NoneIsBl
 ghost use Rattle.infer_more.specs.Samples.{AllReach, has_room};
 ghost use Rattle.infer_more.specs.Table.{further};
 ghost use Rattle.infer_more.specs.Wider.{shown};
-ghost use Rattle.infer_more.specs.declared.index.lists.TheConstants.{FURTHER_COUNT};
+ghost use Rattle.infer_more.specs.declared.index.generated.TheConstants.{FURTHER_COUNT};
 ghost use Rattle.infer_more.specs.declared.samples.TheConstants.{SAMPLE_SIZE};
 
 /// A yes stays a yes, but of JSON, JSON lines and plain text: what the signature of a further row accepts, it accepts however

@@ -83,6 +83,7 @@ macro_rules! is {
 
 mod archives;
 mod code;
+mod generated;
 mod headers;
 mod images;
 mod late;
@@ -90,6 +91,8 @@ mod markup;
 mod media;
 mod packages;
 mod records;
+
+pub(crate) use generated::row_at;
 
 /// The rows, list by list.
 #[inline(always)]
@@ -110,8 +113,8 @@ pub(crate) fn lists() -> [&'static [FurtherRow]; 9]
     ]
 }
 
-/// Row `i`.
-pub(crate) fn row_at(i: usize) -> Option<&'static FurtherRow>
+/// Row `i`, by a walk over the lists: for a number that the compiler knows, since it walks then.
+fn row_in_lists(i: usize) -> Option<&'static FurtherRow>
     ensures listed { option_map (λ row. row_listed row.now) result ≡ slice_get further i }
     ensures ended { IfSome result (λ row. ended_listed row.now.ended
         ≡ ended_shown (row_listed row.now).shows) }
@@ -125,4 +128,14 @@ pub(crate) fn row_at(i: usize) -> Option<&'static FurtherRow>
         }
     }
     None
+}
+
+/// Row `ROW`, whose address the compiler computes: a function of its own, so that it does so before the row is read.
+pub(crate) fn row_of<const ROW: usize>() -> Option<&'static FurtherRow>
+    ensures listed { option_map (λ row. row_listed row.now) result ≡ slice_get further ROW }
+    ensures ended { IfSome result (λ row. ended_listed row.now.ended
+        ≡ ended_shown (row_listed row.now).shows) }
+    ensures closed { IfSome result (λ row. IsTrue (is_row_closed (row_listed row.now))) }
+{
+    row_in_lists(ROW)
 }

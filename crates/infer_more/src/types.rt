@@ -1,5 +1,5 @@
 //! Types that a text describes.
-ghost use Rattle.std.specs.Prelude.{◌≡◌, ◌+◌, ◌++◌, ◌<◌, ◌≤◌, ℕ, IfErr, IfOk, IsTrue, List, MatchOption, Option, Some, length, is_ok, is_some, map, option_map, take};
+ghost use Rattle.std.specs.Prelude.{◌≡◌, ◌+◌, ◌++◌, ◌<◌, ◌≤◌, ℕ, IfErr, IfOk, IsTrue, List, MatchOption, Option, Some, length, is_ok, is_some, map, option_map, slice_get, take};
 ghost use Rattle.std.specs.Iterator.{at_most};
 ghost use Rattle.infer.specs.First.{IsAnswer, IsFirstOf};
 ghost use Rattle.infer.specs.Row.{Accepts};
@@ -102,10 +102,10 @@ impl<'a> Types<'a> {
         ensures { (rows : List Row) → rows_of self.now.text.now ≡ Some rows
             → IsTypesAnswer rows buf.now (option_map found_shows result) }
     {
-        let extension = parent_extension(buf);
+        let (parent, extension) = built_in(buf);
         match self.find(extension, buf) {
             Some(found) => Some(found),
-            None => wider(buf),
+            None => wider(parent, buf),
         }
     }
 
@@ -170,10 +170,10 @@ pub fn get<'a>(text: &'a [u8], buf: &[u8]) -> Option<Found<'a>>
     ensures { (rows : List Row) → rows_of text.now ≡ Some rows
         → IsTypesAnswer rows buf.now (option_map found_shows result) }
 {
-    let extension = parent_extension(buf);
+    let (parent, extension) = built_in(buf);
     match find(text, extension, buf) {
         Some(found) => Some(found),
-        None => wider(buf),
+        None => wider(parent, buf),
     }
 }
 
@@ -182,7 +182,7 @@ pub fn get<'a>(text: &'a [u8], buf: &[u8]) -> Option<Found<'a>>
 pub fn answer_line(text: &[u8], buf: &[u8]) -> Option<usize>
     ensures { IsTrue (is_some (rows_of text.now)) → IsAnswerLine text.now buf.now result }
 {
-    let extension = parent_extension(buf);
+    let (_, extension) = built_in(buf);
     find_line(text, extension, buf)
 }
 
@@ -209,22 +209,35 @@ fn find_line(text: &[u8], extension: Option<&[u8]>, buf: &[u8]) -> Option<usize>
     }
 }
 
-/// The extension of the built-in answer.
-fn parent_extension(buf: &[u8]) -> Option<&'static [u8]>
-    ensures { (parent : Option Triple) × IsAnswer (Accepts buf.now) table parent
-        × (option_map (λ e. e.now) result ≡ option_map (λ p. p.extension) parent) }
+/// The number of the built-in answer, and its extension.
+fn built_in(buf: &[u8]) -> (Option<usize>, Option<&'static [u8]>)
+    ensures number { IsFirstOf (Accepts buf.now) table result.0 }
+    ensures extension { (parent : Option Triple) × IsAnswer (Accepts buf.now) table parent
+        × (option_map (λ e. e.now) result.1 ≡ option_map (λ p. p.extension) parent) }
 {
-    match infer::get(buf) {
-        Some(parent) => Some(parent.extension().as_bytes()),
+    match infer::position(buf) {
+        Some(row) => (Some(row), extension_of(row)),
+        None => (None, None),
+    }
+}
+
+/// The extension of the built-in row of that number.
+fn extension_of(row: usize) -> Option<&'static [u8]>
+    ensures { option_map (λ e. e.now) result
+        ≡ option_map (λ r. r.shows.extension) (slice_get table row) }
+{
+    match infer::row(row) {
+        Some(found) => Some(found.extension().as_bytes()),
         None => None,
     }
 }
 
-/// The wider answer.
-fn wider<'a>(buf: &[u8]) -> Option<Found<'a>>
+/// The wider answer of a buffer whose built-in answer is this.
+fn wider<'a>(parent: Option<usize>, buf: &[u8]) -> Option<Found<'a>>
+    requires { IsFirstOf (Accepts buf.now) table parent }
     ensures { IsWiderAnswer buf.now (option_map found_shows result) }
 {
-    match answers::get(buf) {
+    match answers::get_from(parent, buf) {
         Some(found) => Some(Found {
             matcher_type: found.matcher_type(),
             mime_type: found.mime_type(),

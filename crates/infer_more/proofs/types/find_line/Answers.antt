@@ -1,5 +1,5 @@
-use Rattle.std.proofs.Common.{◌≡◌, ◌+◌, ◌∷◌, ◌<◌, [], IsTrue, MatchOption, ap, arith, is_some, length, option_map, subst, sym, ◌∙◌}
-use Rattle.infer_more.specs.Text.{lines_of, rows_in, rows_of}
+use Rattle.std.proofs.Common.{◌≡◌, ◌+◌, ◌∷◌, ◌<◌, [], MatchOption, arith, length, option_map, subst, sym, ◌∙◌}
+use Rattle.infer_more.specs.Text.{lines_of}
 use Rattle.infer_more.proofs.AnswerLineLemmas.{Later, at_end, at_line, line_described, past_line, told_here, told_not}
 use Rattle.infer_more.proofs.TextLemmas.{some_lines}
 use Rattle.infer_more.proofs.types.find_line.Goals as goal

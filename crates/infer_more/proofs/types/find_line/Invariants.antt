@@ -1,4 +1,4 @@
-use Rattle.std.proofs.Common.{◌≡◌, ◌+◌, ◌≤◌, IsTrue, is_some, length, option_map}
+use Rattle.std.proofs.Common.{◌+◌, ◌≤◌, IsTrue, is_some, length, option_map}
 use Rattle.infer_more.specs.Text.{lines_of, rows_of}
 use Rattle.infer_more.proofs.AnswerLineLemmas.{Later}
 use Rattle.infer_more.proofs.types.find_line.Given as goal

@@ -1,9 +1,0 @@
-use Rattle.infer_more.proofs.Common.{None}
-use Rattle.infer_more.proofs.LeastLemmas.{tried_more}
-use Rattle.infer_more.proofs.answers.least_tried.Goals as goal
-
-pub returns : goal.returns
-returns c =
-    let b = c.args.buf.now in
-    tried_more None b _ _ _ _ _ c.least_begun-begun.ensures
-    (tried_more None b _ _ _ _ _ c.least_guarded-least.ensures (tried_more None b _ _ _ _ _ c.least_gated-opened.ensures c.least_ranged.ensures))

@@ -1,0 +1,565 @@
+//! What the index asks of a buffer: the least row that widens its answer.
+ghost use Rattle.std.specs.Prelude.{◌≡◌, ◌↔◌, IsTrue, None, Some, length, nat_le};
+ghost use Rattle.std.specs.List.{list_all};
+ghost use Rattle.infer_deep.specs.ClassId.{HasClassId};
+ghost use Rattle.infer_deep.specs.Find.{OccursAt};
+ghost use Rattle.infer_inside.specs.Json.{IsJson, IsJsonLines};
+ghost use Rattle.infer_inside.specs.Zip.{IsPackageWith};
+ghost use Rattle.infer_more.specs.Index.{AllApplications, AreClassIds, HasTagText, IsFoundBelow, IsLeast, IsNamed, IsOfProgram, IsRooted, IsRootedBy, IsTextRow, IsTried, MayBeginMarkup, are_texts, ascends, begun, behind, below_at, bucket_at, bucket_of, candidate, candidates, entries_at, excepted, gated, guarded, has_between, has_byte, has_other, is_true_below, named_row, ranged, rooted_row, tried_parentless, unless, within};
+ghost use Rattle.infer_more.specs.Wider.{IsWidened, WidensAt};
+ghost use Rattle.infer_more.specs.declared.index.generated.TheConstants.{FURTHER_COUNT};
+
+use crate::index::{
+    Below, Entry, Except, FURTHER_COUNT, Gate, Guard, Named, Parentless, Range, Rooted, Texts,
+    index,
+};
+use crate::tried::widens;
+use infer::rows::ROW_COUNT;
+use infer_deep::doc::class_id;
+use infer_deep::places::stands_at;
+use infer_inside::json::{Kind, kind_of};
+use infer_inside::markup::{Root, may_be_rooted, root_of};
+use infer_inside::script::program;
+use infer_inside::text::is_text;
+use infer_inside::zip::package_folder;
+
+/// How many buckets of names there are.
+const BUCKETS: usize = 32;
+
+/// How rows past the last are told.
+static NOTHING: Below = Below::Nothing;
+
+/// Whether the buffer has the byte at the place.
+#[inline(always)]
+fn has_byte(buf: &[u8], place: u32, byte: u8) -> bool
+    ensures { result ≡ has_byte buf.now place byte }
+{
+    match buf.get(place as usize) {
+        Some(found) => *found == byte,
+        None => false,
+    }
+}
+
+/// Whether the buffer has another byte at the place.
+#[inline(always)]
+fn has_other(buf: &[u8], place: u32, byte: u8) -> bool
+    ensures { result ≡ has_other buf.now place byte }
+{
+    match buf.get(place as usize) {
+        Some(found) => *found != byte,
+        None => false,
+    }
+}
+
+/// Whether the buffer has at the place a byte from the first to the second.
+#[inline(always)]
+fn has_between(buf: &[u8], place: u32, low: u8, high: u8) -> bool
+    ensures { result ≡ has_between buf.now place low high }
+{
+    match buf.get(place as usize) {
+        Some(found) => low <= *found && *found <= high,
+        None => false,
+    }
+}
+
+/// The entry's row if it is before that number, is tried and widens the answer; that number otherwise.
+#[inline(always)]
+fn least_at(entry: &Entry, parent: Option<usize>, buf: &[u8], before: usize) -> usize
+    ensures { IsLeast (IsTried parent buf.now (candidate buf.now entry.now)) before result }
+{
+    let row = usize::from(entry.row);
+    if !has_byte(buf, entry.place, entry.byte) {
+        return before;
+    }
+    if row >= before {
+        return before;
+    }
+    if !widens(row, parent, buf) {
+        return before;
+    }
+    row
+}
+
+/// The least of the number before and of the rows of these entries that widen the answer.
+#[inline(always)]
+fn least_among(entries: &[Entry], parent: Option<usize>, buf: &[u8], before: usize) -> usize
+    ensures { IsLeast (IsTried parent buf.now (candidates buf.now entries.now)) before result }
+{
+    let mut least = before;
+    for entry in entries {
+        least = least_at(entry, parent, buf, least);
+    }
+    least
+}
+
+/// [`least_among`] entries that the compiler does not know.
+#[inline(never)]
+fn least_of(entries: &[Entry], parent: Option<usize>, buf: &[u8], before: usize) -> usize
+    ensures { IsLeast (IsTried parent buf.now (candidates buf.now entries.now)) before result }
+{
+    least_among(entries, parent, buf, before)
+}
+
+/// Whether this is one entry, whose row is not before that number: told without a loop, as most guards have one entry.
+#[inline(always)]
+fn is_late(entries: &[Entry], before: usize) -> bool
+    ensures { IsTrue result ↔ (length entries.now ≡ 1)
+        × IsTrue (list_all (λ e. nat_le before e.row) entries.now) }
+{
+    match entries {
+        [only] => before <= usize::from(only.row),
+        _ => false,
+    }
+}
+
+/// [`least_of`], and the number before at once if there is one entry, of no earlier row. A function of its own, so that this
+/// takes nothing of what [`least_of`] needs.
+#[inline(never)]
+fn least_after(entries: &[Entry], parent: Option<usize>, buf: &[u8], before: usize) -> usize
+    ensures { IsLeast (IsTried parent buf.now (candidates buf.now entries.now)) before result }
+{
+    if is_late(entries, before) {
+        return before;
+    }
+    least_of(entries, parent, buf, before)
+}
+
+/// [`least_after`] that number, of the entries behind a guard: the number before if the buffer lacks the guard's byte.
+#[tactic(auto, using(crate::proofs::LeastLemmas::tried_behind, crate::proofs::LeastLemmas::tried_shut))]
+#[inline(always)]
+fn least_behind(guard: &Guard, buf: &[u8], before: usize) -> usize
+    ensures { IsLeast (IsTried None buf.now (behind buf.now guard.now)) before result }
+{
+    if !has_byte(buf, guard.place, guard.byte) {
+        return before;
+    }
+    least_after(guard.entries, None, buf, before)
+}
+
+/// [`least_of`] the entries behind all guards.
+#[inline(always)]
+fn least_guarded(guards: &[Guard], buf: &[u8], before: usize) -> usize
+    ensures { IsLeast (IsTried None buf.now (guarded buf.now guards.now)) before result }
+{
+    let mut least = before;
+    for guard in guards {
+        least = least_behind(guard, buf, least);
+    }
+    least
+}
+
+/// [`least_guarded`] behind the gate: the number before if the buffer lacks the gate's byte.
+#[tactic(auto, using(crate::proofs::LeastLemmas::tried_behind, crate::proofs::LeastLemmas::tried_shut))]
+#[inline(always)]
+fn least_gated(gate: &Gate, buf: &[u8], before: usize) -> usize
+    ensures { IsLeast (IsTried None buf.now (gated buf.now gate.now)) before result }
+{
+    if !has_byte(buf, gate.place, gate.byte) {
+        return before;
+    }
+    least_guarded(gate.guards, buf, before)
+}
+
+/// The range's row if it is before that number, is tried and widens the answer; that number otherwise.
+#[inline(always)]
+fn least_within(range: &Range, buf: &[u8], before: usize) -> usize
+    ensures { IsLeast (IsTried None buf.now (within buf.now range.now)) before result }
+{
+    let row = usize::from(range.row);
+    if !has_between(buf, range.place, range.low, range.high) {
+        return before;
+    }
+    if row >= before {
+        return before;
+    }
+    if !widens(row, None, buf) {
+        return before;
+    }
+    row
+}
+
+/// The least of the number before and of the rows of all ranges that widen the answer.
+#[inline(always)]
+fn least_ranged(ranges: &[Range], buf: &[u8], before: usize) -> usize
+    ensures { IsLeast (IsTried None buf.now (ranged buf.now ranges.now)) before result }
+{
+    let mut least = before;
+    for range in ranges {
+        least = least_within(range, buf, least);
+    }
+    least
+}
+
+/// The row if it is before that number, is tried and widens the answer; that number otherwise.
+#[inline(always)]
+fn least_but(except: &Except, parent: Option<usize>, buf: &[u8], before: usize) -> usize
+    ensures { IsLeast (IsTried parent buf.now (unless buf.now except.now)) before result }
+{
+    let row = usize::from(except.row);
+    if !has_other(buf, except.place, except.byte) {
+        return before;
+    }
+    if row >= before {
+        return before;
+    }
+    if !widens(row, parent, buf) {
+        return before;
+    }
+    row
+}
+
+/// The least of the number before and of those of these rows that widen the answer.
+#[inline(always)]
+fn least_excepted(excepts: &[Except], parent: Option<usize>, buf: &[u8], before: usize) -> usize
+    ensures { IsLeast (IsTried parent buf.now (excepted buf.now excepts.now)) before result }
+{
+    let mut least = before;
+    for except in excepts {
+        least = least_but(except, parent, buf, least);
+    }
+    least
+}
+
+/// The entries that are listed by the buffer's first byte.
+#[inline(always)]
+fn entries_begun(index: &Parentless, buf: &[u8]) -> &'static [Entry]
+    ensures { result.now ≡ begun index.now buf.now }
+{
+    match buf.first() {
+        Some(byte) => entries_at(index.first, usize::from(*byte)),
+        None => &[],
+    }
+}
+
+/// The entries at that place of the lists, and none past the last.
+#[inline(always)]
+fn entries_at(lists: &'static [&'static [Entry]], i: usize) -> &'static [Entry]
+    ensures { result.now ≡ entries_at lists.now i }
+{
+    match lists.get(i) {
+        Some(entries) => entries,
+        None => &[],
+    }
+}
+
+/// The least of the rows that are listed by the first byte and widen the answer, or their count. Most first bytes list
+/// none, and cost no call.
+#[inline(always)]
+fn least_begun(index: &Parentless, buf: &[u8]) -> usize
+    ensures { IsLeast (IsTried None buf.now
+        (candidates buf.now (begun index.now buf.now))) FURTHER_COUNT result }
+{
+    let entries = entries_begun(index, buf);
+    if entries.is_empty() {
+        return FURTHER_COUNT;
+    }
+    least_of(entries, None, buf, FURTHER_COUNT)
+}
+
+/// The least of the rows that such an index tries and that widen the answer, or their count.
+#[inline(always)]
+fn least_tried(index: &Parentless, buf: &[u8]) -> usize
+    ensures { IsLeast (IsTried None buf.now
+        (tried_parentless index.now buf.now)) FURTHER_COUNT result }
+{
+    let begun = least_begun(index, buf);
+    let least = least_guarded(index.guards, buf, begun);
+    let gated = least_gated(&index.gate, buf, least);
+    least_ranged(index.ranges, buf, gated)
+}
+
+/// The row of the text that the buffer is, or the number before if that is less or it is none.
+#[inline(always)]
+fn least_text(texts: &Texts, buf: &[u8], before: usize) -> usize
+    requires { IsTrue (are_texts texts.now) }
+    ensures { IsLeast (IsTextRow texts.now buf.now) before result }
+{
+    match kind_of(buf) {
+        Some(Kind::Lines) => before.min(usize::from(texts.lines)),
+        Some(Kind::Text) => before.min(usize::from(texts.json)),
+        None => least_plain(texts, buf, before),
+    }
+}
+
+/// The row of plain text if the buffer is that, or the number before if that is less or it is none.
+#[inline(always)]
+fn least_plain(texts: &Texts, buf: &[u8], before: usize) -> usize
+    requires json { ¬ IsJson buf.now }
+    requires lines { ¬ IsJsonLines buf.now }
+    ensures { IsLeast (IsTextRow texts.now buf.now) before result }
+{
+    if is_text(buf) {
+        before.min(usize::from(texts.plain))
+    } else {
+        before
+    }
+}
+
+/// Whether the first byte is one with which markup may begin.
+#[inline(always)]
+fn may_begin_markup(buf: &[u8]) -> bool
+    ensures { IsTrue result ↔ MayBeginMarkup buf.now }
+{
+    match buf.first() {
+        Some(byte) => matches!(*byte, b'\t' | b'\n' | b'\r' | b' ' | b'<' | 0xEF),
+        None => false,
+    }
+}
+
+/// [`least_root`] of a buffer that need not be markup.
+#[inline(always)]
+fn least_markup(roots: &[Rooted], buf: &[u8], before: usize) -> usize
+    requires { IsTrue (ascends rooted_row roots.now) }
+    ensures { IsLeast (IsRooted buf.now roots.now) before result }
+{
+    infer_inside::laws::leads();
+    if !may_begin_markup(buf) {
+        return before;
+    }
+    least_begun_markup(roots, buf, before)
+}
+
+/// [`least_root`] of a buffer whose first tag may be no tag. A function of its own, so that few buffers take what it needs.
+#[inline(never)]
+fn least_begun_markup(roots: &[Rooted], buf: &[u8], before: usize) -> usize
+    requires { IsTrue (ascends rooted_row roots.now) }
+    ensures { IsLeast (IsRooted buf.now roots.now) before result }
+{
+    infer_inside::laws::leads();
+    if !may_be_rooted(buf) {
+        return before;
+    }
+    least_root_apart(roots, buf, before)
+}
+
+/// [`least_root`] as a function of its own, so that a buffer whose first tag is none takes nothing of what it needs.
+#[inline(never)]
+fn least_root_apart(roots: &[Rooted], buf: &[u8], before: usize) -> usize
+    requires { IsTrue (ascends rooted_row roots.now) }
+    ensures { IsLeast (IsRooted buf.now roots.now) before result }
+{
+    least_root(roots, buf, before)
+}
+
+/// The least row that widens an answer below which there is none, or their count. A function of its own, that names the
+/// index itself: so its guards are tested in straight code.
+#[inline(never)]
+fn least_free(buf: &[u8]) -> usize
+    ensures { IsLeast (WidensAt None buf.now) FURTHER_COUNT result }
+{
+    let index = index();
+    let tried = least_tried(index.parentless, buf);
+    let rooted = least_markup(index.parentless.roots, buf, tried);
+    let texts = &index.parentless.texts;
+    if rooted <= usize::from(texts.lines) {
+        return rooted;
+    }
+    least_text(texts, buf, rooted)
+}
+
+fn is_named(named: &Named, name: &[u8]) -> bool
+    ensures { IsTrue result ↔ (named.now.name.now ≡ name.now) }
+{
+    named.name == name
+}
+
+/// The least of the number before and of the rows with this name, which is that of the first.
+fn least_named(names: &[Named], name: &[u8], before: usize) -> usize
+    requires { IsTrue (ascends named_row names.now) }
+    ensures { IsLeast (IsNamed (λ other. other ≡ name.now) names.now) before result }
+{
+    for named in names {
+        if is_named(named, name) {
+            return before.min(usize::from(named.row));
+        }
+    }
+    before
+}
+
+/// The bucket of a name, by the low five bits of its first byte: the only one in which the name can be.
+#[inline(always)]
+fn bucket_of(buckets: &'static [&'static [Named]], name: &[u8]) -> &'static [Named]
+    ensures { result.now ≡ bucket_of buckets.now name.now }
+{
+    match name.first() {
+        Some(first) => bucket_at(buckets, usize::from(*first) % BUCKETS),
+        None => &[],
+    }
+}
+
+/// The bucket of that number, and an empty one past the last.
+#[inline(always)]
+fn bucket_at(buckets: &'static [&'static [Named]], i: usize) -> &'static [Named]
+    ensures { result.now ≡ bucket_at buckets.now i }
+{
+    match buckets.get(i) {
+        Some(names) => names,
+        None => &[],
+    }
+}
+
+/// The least of the rows with the name of the script's program, or their count.
+fn least_program(buckets: &'static [&'static [Named]], buf: &[u8]) -> usize
+    requires { IsTrue (list_all (λ names. ascends named_row names.now) buckets.now) }
+    ensures { IsLeast (IsOfProgram buf.now buckets.now) FURTHER_COUNT result }
+{
+    match program(buf) {
+        Some(name) => least_named(bucket_of(buckets, name), name, FURTHER_COUNT),
+        None => FURTHER_COUNT,
+    }
+}
+
+/// The least of the rows with the class id of the compound file, or their count.
+#[inline(always)]
+fn least_class(ids: &[Named], buf: &[u8]) -> usize
+    requires long { AreClassIds ids.now }
+    requires ascend { IsTrue (ascends named_row ids.now) }
+    ensures { IsLeast (IsNamed (λ id. HasClassId id buf.now) ids.now) FURTHER_COUNT result }
+{
+    match class_id(buf) {
+        Some(id) => least_named(ids, id, FURTHER_COUNT),
+        None => FURTHER_COUNT,
+    }
+}
+
+/// The least of the number before and of the rows whose folder stands at the place, which is that of the first.
+fn least_folder_at(folders: &[Named], buf: &[u8], place: usize, before: usize) -> usize
+    requires { IsTrue (ascends named_row folders.now) }
+    ensures { IsLeast (IsNamed (λ folder. OccursAt buf.now folder place) folders.now) before
+        result }
+{
+    for named in folders {
+        if stands_at(buf, named.name, place) {
+            return before.min(usize::from(named.row));
+        }
+    }
+    before
+}
+
+/// The least of the number before and of the rows whose folder of an application the package has.
+#[inline(always)]
+fn least_folder(folders: &[Named], buf: &[u8], before: usize) -> usize
+    requires application { AllApplications folders.now }
+    requires ascend { IsTrue (ascends named_row folders.now) }
+    ensures { IsLeast (IsNamed (λ folder. IsPackageWith folder buf.now) folders.now) before result }
+{
+    match package_folder(buf) {
+        Some(place) => least_folder_at(folders, buf, place, before),
+        None => before,
+    }
+}
+
+/// Whether the root element has the row's name, and its text in the tag.
+#[inline(always)]
+fn is_rooted(rooted: &Rooted, root: &Root<'_>) -> bool
+    ensures { IsTrue result ↔ (rooted.now.name.now ≡ root.now.name.now)
+        × HasTagText root.now.rest.now rooted.now.text }
+{
+    if root.name != rooted.name {
+        return false;
+    }
+    match rooted.text {
+        Some(text) => root.has_in_tag(text),
+        None => true,
+    }
+}
+
+/// The least of the number before and of the rows with this root, which is that of the first.
+#[inline(always)]
+fn least_rooted(roots: &[Rooted], root: &Root<'_>, before: usize) -> usize
+    requires { IsTrue (ascends rooted_row roots.now) }
+    ensures { IsLeast (IsRootedBy root.now.name.now root.now.rest.now roots.now) before result }
+{
+    for rooted in roots {
+        if is_rooted(rooted, root) {
+            return before.min(usize::from(rooted.row));
+        }
+    }
+    before
+}
+
+/// The least of the number before and of the rows with the buffer's root.
+#[inline(always)]
+fn least_root(roots: &[Rooted], buf: &[u8], before: usize) -> usize
+    requires { IsTrue (ascends rooted_row roots.now) }
+    ensures { IsLeast (IsRooted buf.now roots.now) before result }
+{
+    match root_of(buf) {
+        Some(root) => least_rooted(roots, &root, before),
+        None => before,
+    }
+}
+
+/// The least row that is found below a built-in row in this way, or their count.
+#[inline(always)]
+fn least_found(below: &Below, row: usize, buf: &[u8]) -> usize
+    requires { IsTrue (is_true_below row below.now) }
+    ensures { IsLeast (IsFoundBelow below.now row buf.now) FURTHER_COUNT result }
+{
+    match below {
+        Below::Nothing => FURTHER_COUNT,
+        Below::Entries(entries) => least_among(entries, Some(row), buf, FURTHER_COUNT),
+        Below::ClassIds(ids) => least_class(ids, buf),
+        Below::Programs(buckets) => least_program(buckets, buf),
+        Below::Roots(roots) => least_root(roots, buf, FURTHER_COUNT),
+        Below::Packages(entries, excepts, folders) => {
+            let tried = least_among(entries, Some(row), buf, FURTHER_COUNT);
+            let least = least_excepted(excepts, Some(row), buf, tried);
+            least_folder(folders, buf, least)
+        }
+    }
+}
+
+/// How the rows below this built-in row are told.
+#[inline(always)]
+fn below_at(ways: &'static [Below], i: usize) -> &'static Below
+    ensures { result.now ≡ below_at ways.now i }
+{
+    match ways.get(i) {
+        Some(below) => below,
+        None => &NOTHING,
+    }
+}
+
+/// The number of the wider answer of a buffer whose built-in answer is this row.
+#[inline(always)]
+fn found(row: usize, buf: &[u8]) -> usize
+    ensures { IsWidened (Some row) buf.now (Some result) }
+{
+    let index = index();
+    let least = least_found(below_at(index.below, row), row, buf);
+    if least < FURTHER_COUNT {
+        ROW_COUNT + least
+    } else {
+        row
+    }
+}
+
+/// [`found`] below row `ROW`, with code of its own: the compiler knows how its rows are told.
+fn found_row<const ROW: usize>(buf: &[u8]) -> usize
+    ensures { IsWidened (Some ROW) buf.now (Some result) }
+{
+    found(ROW, buf)
+}
+
+/// [`found_row`] as a function of its own, so that it takes nothing of what other rows need. It is not one function
+/// with [`found_row`], since the compiler shortens code twice where one is put into the other.
+#[inline(never)]
+pub(super) fn found_row_apart<const ROW: usize>(buf: &[u8]) -> usize
+    ensures { IsWidened (Some ROW) buf.now (Some result) }
+{
+    found_row::<ROW>(buf)
+}
+
+/// The number of the wider answer of a buffer that no built-in row accepts.
+#[inline(always)]
+pub(crate) fn found_free(buf: &[u8]) -> Option<usize>
+    ensures { IsWidened None buf.now result }
+{
+    let least = least_free(buf);
+    if least < FURTHER_COUNT {
+        Some(ROW_COUNT + least)
+    } else {
+        None
+    }
+}
