@@ -6,6 +6,9 @@ import ast
 import re
 from typing import NamedTuple
 
+from terms import Unread, term_of
+from texts import kept, text_of
+
 # A set of more bytes is no entry, but is left to the signature.
 MOST_BYTES = 5
 MOST_GUARDS = 15
@@ -98,7 +101,9 @@ TEXTS = {"JsonLines", "JsonText", "PlainText"}
 # What is told without a parent and not tried.
 TOLD = TEXTS | {"Root", "RootWith"}
 COMMON = set(b" etaoinshrdlu\n\x00\x01\xFF")
-# What every buffer has that fits an alternative which looks inside: as specs/Outline.antt says.
+RELATIONS = "crates/infer_inside/specs/Relation.antt"
+# What every buffer has that fits an alternative which looks inside, where RELATIONS names other definitions, or asks for more
+# bytes than tell it.
 ZIP = {0: {0x50}, 1: {0x4B}, 2: {0x03}, 3: {0x04}}
 ALL = set(range(0x100))
 NOT_ZERO = ALL - {0x00}
@@ -125,11 +130,9 @@ JSON = [{0: set(b"\t\n\r [{")}, {0: {0xEF}, 1: {0xBB}, 2: {0xBF}}]
 OUTLINES = {
     # (its own pieces tell them)
     "BinaryBytes": None,
-    "SharedObject": [{16: {3}, 17: {0}}, {16: {0}, 17: {3}}],
     "ClassId": [{0: {0xD0}, 1: {0xCF}, 2: {0x11}, 3: {0xE0}}],
     "DirectoryTag": [{0: {0x49}, 1: {0x49}}, {0: {0x4D}, 1: {0x4D}}],
     "Animated": [{0: {0x89}, 1: {0x50}, 2: {0x4E}, 3: {0x47}}],
-    "SubRip": [{0: set(range(0x30, 0x3A))}, {0: {0xEF}, 1: {0xBB}, 2: {0xBF}}],
     "Dbase": [{0: {0x02, 0x03, 0x30, 0x31, 0x32, 0x43, 0x63, 0x83, 0x8B, 0xCB, 0xF5}, 12: {0}, 13: {0}}],
     "TarChecksum": [{148: set(range(0x20, 0x38))}],
     "Program": [{0: {0x23}, 1: {0x21}}],
@@ -137,7 +140,6 @@ OUTLINES = {
     "RootWith": MARKUP,
     "JsonLines": JSON,
     "JsonText": JSON,
-    "PlainText": [{0: set(range(0x09, 0x100))}],
 }
 
 
@@ -186,6 +188,33 @@ def asked(pieces):
     return allowed
 
 
+@kept
+def outlines_of(name):
+    """What the definitions say that every buffer has which fits the relation, by place, if they name no other definition."""
+    lines = re.findall(r"^lines \(?(\w+)[^=\n]*=((?: [^\n]*)(?:\n {4}[^\n]*)*)", text_of(RELATIONS), re.M)
+    [said] = [text for it, text in lines if it.replace("_", "") == name.lower()] or [""]
+    try:
+        return [allowed(it) for it in term_of(said)]
+    except (AttributeError, TypeError, Unread, ValueError):
+        return []
+
+
+def allowed(outline):
+    """The bytes that a list of parts allows, by place."""
+    by_place = {}
+    for part in outline.takes[1]:
+        place, said = part.takes
+        if part.name == "text":
+            by_place.update((place + k, {byte}) for k, byte in enumerate(bytes(said)))
+        elif said.name == "between":
+            by_place[place] = set(range(said.takes[0], said.takes[1] + 1))
+        elif said.name == "anyof":
+            by_place[place] = set(bytes(said.takes[0]))
+        else:
+            by_place[place] = ALL - {*bytes(said.takes)}
+    return by_place
+
+
 def alternative(code):
     """An alternative as the code writes it: pieces, or what a name stands for."""
     name, _, takes = code.removesuffix(")").partition("(")
@@ -193,7 +222,7 @@ def alternative(code):
         return Alternative("", "", [asked(code)])
     if name in NAMED:
         return Alternative(name, takes, NAMED[name](bytes_of(takes)))
-    return Alternative(name, takes, OUTLINES.get(name) or [asked(code)])
+    return Alternative(name, takes, OUTLINES.get(name) or outlines_of(name) or [asked(code)])
 
 
 def is_wide(alternative):

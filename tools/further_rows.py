@@ -150,9 +150,9 @@ def check_written(row, number, parents):
     if row.parent and row.parent not in parents:
         refuse(f"{label} has the parent {row.parent}, and no built-in row is called that in crates/infer/src/table/rows.rt")
     for name in (it.partition("(")[0] for it in row.alternatives if not it[0].isdigit()):
-        if name not in types_text.NAMES:
+        if name not in types_text.names():
             refuse(f"{label} asks for {name}, which tools/types_text.py cannot write in the notation: it wants a line in NAMES")
-        if name not in further_index.NAMED and name not in further_index.OUTLINES:
+        if name not in further_index.NAMED and name not in further_index.OUTLINES and not further_index.outlines_of(name):
             refuse(f"{label} asks for {name}, of which tools/further_index.py knows no bytes: it wants a line in OUTLINES")
     try:
         line = types_text.line(row, parents).strip()

@@ -2,31 +2,33 @@
 import re
 
 from further_index import TEXT, TEXT_OF_BYTES, byte_of, bytes_of
+from texts import kept, text_of
 
 HEAD = """# The further types of the library, as a text of types, in the order in which they are asked. tools/tables writes it from
 # the rows.
 """
-# What each alternative that looks inside is called, and what it takes.
+# What each alternative is called that takes something, and what it takes.
 NAMES = {
     "BinaryBytes": lambda it: f"{fixed(it.removeprefix('bytes!(').removesuffix(')'))} and binary",
-    "SharedObject": lambda it: "shared object",
     "FirstEntryIs": lambda it: f"first entry: is {quoted(it)}",
     "FirstEntryEndsIn": lambda it: f"first entry: ends in {quoted(it)}",
     "FirstEntryHasExtra": lambda it: f"first entry: has extra {spaced(it)}",
     "PackageWith": lambda it: f"package with: {quoted(it)}",
     "ClassId": lambda it: f"class id: {spaced(it)}",
     "DirectoryTag": lambda it: f"first directory has tag {int(it, 0):04X}",
-    "Animated": lambda it: 'chunk "acTL" before "IDAT"',
-    "SubRip": lambda it: "first cue of SubRip",
-    "Dbase": lambda it: "dBASE header",
-    "TarChecksum": lambda it: "tar checksum",
     "Program": lambda it: f"program: {bytes_of(it).decode()}",
     "Root": lambda it: f"root: {bytes_of(it).decode()}",
     "RootWith": lambda it: "root: {} with {}".format(bytes_of(texts(it)[0]).decode(), quoted(texts(it)[1])),
-    "JsonLines": lambda it: "JSON lines",
-    "JsonText": lambda it: "JSON",
-    "PlainText": lambda it: "text",
 }
+
+
+@kept
+def names():
+    """What stands for each alternative: of a relation that takes nothing, what names.rt calls it."""
+    code = " ".join(text_of("crates/infer_notation/src/names.rt").split())
+    alone = re.findall(r"\(\s*&\[([^]]*)\],\s*Takes::Nothing\(Relation::(\w+)\)", code)
+    said = {name: " ".join(quoted(text) if kind == "Quoted" else bytes_of(text).decode() for kind, text in re.findall(rf"(\w+)\(({TEXT_OF_BYTES})\)", tokens)) for tokens, name in alone}
+    return {**NAMES, **{name: lambda it, text=text: text for name, text in said.items()}}
 
 
 def texts(code):
@@ -74,7 +76,7 @@ def alternative(inside):
     if inside[0].isdigit():
         return fixed(inside)
     name, _, takes = inside.removesuffix(")").partition("(")
-    return NAMES[name](takes)
+    return names()[name](takes)
 
 
 def line(row, parents):

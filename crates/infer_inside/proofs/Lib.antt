@@ -32,5 +32,5 @@ pub mod OpenMarkupLemmas
 pub mod OpenTiffLemmas
 pub mod OpenElfLemmas
 pub mod OpenSubtitlesLemmas
-pub mod RelationLemmas
 pub mod OutlineLemmas
+pub mod RelationLemmas

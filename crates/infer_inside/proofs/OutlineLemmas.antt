@@ -1,6 +1,6 @@
--- What fits a relation has one of its lines.
+-- The lines that buffers have which fit a relation, format by format.
 use Rattle.std.proofs.lemmas.Bool.{and_from, le-leb, lt-ltb, or_cases, or_left, or_right}
-use Rattle.infer_inside.proofs.Common.{◌≡◌, ◌↔◌, ℕ, zero, suc, ◌+◌, ◌≤◌, inl, inr, Bool, true, false, IsTrue, List, [], ◌∷◌, length, sym, ◌∙◌, subst, arith, refl, codes, ◌-◌, slice_index, cases_lt, nat_tests, OccursAt, zip_header, le16, be16, IsDigit, IsSubRip, IsOctal, MayBeginPackage, HasOwnTable, IsField, BeginsTiff, IsBracket, IsProgram}
+use Rattle.infer_inside.proofs.Common.{◌≡◌, ◌↔◌, ℕ, zero, suc, ◌+◌, ◌≤◌, inl, inr, Bool, true, false, IsTrue, List, [], ◌∷◌, length, sym, ◌∙◌, subst, arith, refl, codes, ◌-◌, slice_index, cases_lt, nat_tests, OccursAt, zip_header, le16, be16, IsDigit, IsSubRip, IsOctal, MayBeginPackage, HasOwnTable, IsDbase, IsField, BeginsTiff, IsBracket, IsProgram}
 use Rattle.std.specs.Prelude.{◌<◌, nat_le, nat_lt}
 use Rattle.std.specs.Prelude.{replicate}
 use Rattle.std.proofs.lemmas.List.{get_or-replicate, length-replicate}
@@ -8,8 +8,8 @@ use Rattle.std.proofs.lemmas.Grind.{get_or_default_zero}
 use Rattle.infer_inside.specs.Png.{png_header}
 use Rattle.infer_inside.specs.Text.{IsText}
 use Rattle.infer_inside.specs.Zip.{HasFirstName}
-use Rattle.infer_inside.specs.Outline.{HasLines, counted, counted_for, digit_behind, digits_behind, json_outline, lines, markup_lines, named}
-use Rattle.infer_inside.specs.Relation.{Fits, Relation, animated, class_id, dbase, directory_tag, first_entry_ends_in, first_entry_has_extra, first_entry_is, json_lines, json_text, package_with, plain_text, program, root, root_with, shared_object, subrip, tar_checksum}
+use Rattle.infer_inside.specs.Outline.{counted, counted_for, digit_behind, digits_behind, json_outline, markup_lines, named}
+use Rattle.infer_inside.specs.Relation.{Fits, HasLines, Relation, lines, animated, class_id, dbase, directory_tag, first_entry_ends_in, first_entry_has_extra, first_entry_is, json_lines, json_text, package_with, plain_text, program, root, root_with, shared_object, subrip, tar_checksum}
 use Rattle.infer_inside.proofs.GrowthLemmas.{there}
 use Rattle.infer_inside.proofs.JsonLeadLemmas.{lines_lead, text_leads}
 use Rattle.infer_inside.proofs.LeadLemmas.{begins_markup}
@@ -19,10 +19,10 @@ use Rattle.infer_sig.specs.Signature.{Part, accepts, all_but, allows, any_of, at
 use Rattle.infer_inside.specs.Laws.{BeginsJson, BeginsMarkup}
 
 module _ (by_place : (place : ℕ) (t buf : List ℕ) → IsTrue (stands place t buf) ↔ StandsByPlace place t buf) (b : List ℕ) where
-  occurs : (p : ℕ) (t : List ℕ) → OccursAt b t p → IsTrue (has_part b (text p t))
+  pub occurs : (p : ℕ) (t : List ℕ) → OccursAt b t p → IsTrue (has_part b (text p t))
   occurs p t o = (by_place p t b).1 (λ k l. (let fits = o.fits in omega arith, o.reads k l))
 
-  pair : (p x y : ℕ) → p + 2 ≤ length b → slice_index b p ≡ x → slice_index b (p + 1) ≡ y → IsTrue (has_part b (text p (x ∷ y ∷ [])))
+  pub pair : (p x y : ℕ) → p + 2 ≤ length b → slice_index b p ≡ x → slice_index b (p + 1) ≡ y → IsTrue (has_part b (text p (x ∷ y ∷ [])))
   pair p x y le first second = (by_place p (x ∷ y ∷ []) b).1 each
     where
       each : StandsByPlace p (x ∷ y ∷ []) b
@@ -30,17 +30,17 @@ module _ (by_place : (place : ℕ) (t buf : List ℕ) → IsTrue (stands place t
       each (suc zero) l = (omega arith, second)
       each (suc (suc k)) l = absurd (omega arith)
 
-  in_range : (p low high : ℕ) → p < length b → low ≤ slice_index b p → slice_index b p ≤ high → IsTrue (has_part b (byte p (between low high)))
+  pub in_range : (p low high : ℕ) → p < length b → low ≤ slice_index b p → slice_index b p ≤ high → IsTrue (has_part b (byte p (between low high)))
   in_range p low high lt from to =
       and_from (nat_lt p (length b)) _ (lt-ltb p (length b) lt) (and_from (nat_le low (slice_index b p)) _ (le-leb low (slice_index b p) from) (le-leb (slice_index b p) high to))
 
   -- one part, in the first of the alternatives
-  one : (n : ℕ) (part : Part) (others : List fixed.Alternative) → n ≤ length b → IsTrue (has_part b part) → IsTrue (accepts (at_least n (part ∷ []) ∷ others) b)
+  pub one : (n : ℕ) (part : Part) (others : List fixed.Alternative) → n ≤ length b → IsTrue (has_part b part) → IsTrue (accepts (at_least n (part ∷ []) ∷ others) b)
   one n part others le h =
       or_left (fits b (at_least n (part ∷ []))) (accepts others b) (and_from (nat_le n (length b)) _ (le-leb n (length b) le) (and_from (has_part b part) true h refl))
 
   -- and two
-  two : (n : ℕ) (part next : Part) (others : List fixed.Alternative) → n ≤ length b → IsTrue (has_part b part) → IsTrue (has_part b next)
+  pub two : (n : ℕ) (part next : Part) (others : List fixed.Alternative) → n ≤ length b → IsTrue (has_part b part) → IsTrue (has_part b next)
       → IsTrue (accepts (at_least n (part ∷ next ∷ []) ∷ others) b)
   two n part next others le h k =
       or_left (fits b (at_least n (part ∷ next ∷ []))) (accepts others b)
@@ -49,7 +49,7 @@ module _ (by_place : (place : ℕ) (t buf : List ℕ) → IsTrue (stands place t
   other : (a : fixed.Alternative) (others : List fixed.Alternative) → IsTrue (accepts others b) → IsTrue (accepts (a ∷ others) b)
   other a others h = or_right (fits b a) (accepts others b) h
 
-  begins : (n : ℕ) (t : List ℕ) → n ≤ length b → OccursAt b t 0 → IsTrue (accepts (at_least n (text 0 t ∷ []) ∷ []) b)
+  pub begins : (n : ℕ) (t : List ℕ) → n ≤ length b → OccursAt b t 0 → IsTrue (accepts (at_least n (text 0 t ∷ []) ∷ []) b)
   begins n t le o = one n (text 0 t) [] le (occurs 0 t o)
 
   abbrev little_object : fixed.Alternative
@@ -58,7 +58,7 @@ module _ (by_place : (place : ℕ) (t buf : List ℕ) → IsTrue (stands place t
   abbrev big_object : fixed.Alternative
   big_object = at_least 18 (text 16 (0x00 ∷ 0x03 ∷ []) ∷ [])
 
-  object_lines : (wide big : Bool) → HasOwnTable wide big b → IsTrue (accepts (lines shared_object) b)
+  pub object_lines : (wide big : Bool) → HasOwnTable wide big b → IsTrue (accepts (lines shared_object) b)
   unfolding le16 be16
   object_lines true false t = let n = t.long in let is = t.kind in one 18 (text 16 (0x03 ∷ 0x00 ∷ [])) (big_object ∷ []) (omega arith) (pair 16 0x03 0x00 (omega arith) (omega arith) (omega arith))
   object_lines false false t = let n = t.long in let is = t.kind in one 18 (text 16 (0x03 ∷ 0x00 ∷ [])) (big_object ∷ []) (omega arith) (pair 16 0x03 0x00 (omega arith) (omega arith) (omega arith))
@@ -71,7 +71,7 @@ module _ (by_place : (place : ℕ) (t buf : List ℕ) → IsTrue (stands place t
   abbrev big_tiff : fixed.Alternative
   big_tiff = at_least 4 (text 0 (0x4D ∷ 0x4D ∷ 0x00 ∷ 0x2A ∷ []) ∷ [])
 
-  tag_lines : (tag : ℕ) (big : Bool) → BeginsTiff big b → IsTrue (accepts (lines (directory_tag tag)) b)
+  pub tag_lines : (tag : ℕ) (big : Bool) → BeginsTiff big b → IsTrue (accepts (lines (directory_tag tag)) b)
   tag_lines tag false o = let le = o.fits in one 4 (text 0 (0x49 ∷ 0x49 ∷ 0x2A ∷ 0x00 ∷ [])) (big_tiff ∷ []) (omega arith) (occurs 0 _ o)
   tag_lines tag true o = let le = o.fits in other little_tiff (big_tiff ∷ []) (one 4 (text 0 (0x4D ∷ 0x4D ∷ 0x00 ∷ 0x2A ∷ [])) [] (omega arith) (occurs 0 _ o))
 
@@ -91,14 +91,14 @@ module _ (by_place : (place : ℕ) (t buf : List ℕ) → IsTrue (stands place t
     | inr le ↦ other (counted_at place) (counted_at (place + 1) ∷ []) (counted_line (place + 1) [] h low (omega arith))
   ]
 
-  counted_for_lines : (t : List ℕ) (place : ℕ) → HasFirstName b → place + 1 < 30 → length t ≤ le16 b place → IsTrue (accepts (counted_for t place) b)
+  pub counted_for_lines : (t : List ℕ) (place : ℕ) → HasFirstName b → place + 1 < 30 → length t ≤ le16 b place → IsTrue (accepts (counted_for t place) b)
   counted_for_lines [] place h low le = begins 30 zip_header h.long h.header
   counted_for_lines (x ∷ t) place h low le = counted_lines place h low (omega arith)
 
-  named_part : (name : List ℕ) (others : List fixed.Alternative) → OccursAt b zip_header 0 → OccursAt b name 30 → IsTrue (accepts (named name ∷ others) b)
+  pub named_part : (name : List ℕ) (others : List fixed.Alternative) → OccursAt b zip_header 0 → OccursAt b name 30 → IsTrue (accepts (named name ∷ others) b)
   named_part name others o t = two 30 (text 0 zip_header) (text 30 name) others (let fits = t.fits in omega arith) (occurs 0 zip_header o) (occurs 30 name t)
 
-  package_lines : (folder : List ℕ) → MayBeginPackage folder b → IsTrue (accepts (lines (package_with folder)) b)
+  pub package_lines : (folder : List ℕ) → MayBeginPackage folder b → IsTrue (accepts (lines (package_with folder)) b)
   package_lines folder (o, h) =
       let types = named (codes "[Content_Types].xml") in let links = named (codes "_rels/") in let about = named (codes "docProps/") in
       let last = named folder ∷ [] in elim h [
@@ -121,7 +121,7 @@ module _ (by_place : (place : ℕ) (t buf : List ℕ) → IsTrue (stands place t
       let e : n + suc k ≡ suc n + k = omega arith in
       or_right (fits b (digit_behind n)) _ (digit_lines (suc n) m k (omega arith) (subst (λ x. IsTrue (fits b (digit_behind x))) e h))
 
-  field_lines : (p d : ℕ) → 512 ≤ length b → IsField b p d → IsTrue (accepts (lines tar_checksum) b)
+  pub field_lines : (p d : ℕ) → 512 ≤ length b → IsField b p d → IsTrue (accepts (lines tar_checksum) b)
   field_lines p d long f =
       let low = f.low in let high = f.high in let some = f.some in
       let place : 148 + (p - 148) ≡ p = omega arith in
@@ -136,7 +136,7 @@ module _ (by_place : (place : ℕ) (t buf : List ℕ) → IsTrue (stands place t
   abbrev marked_line : fixed.Alternative
   marked_line = at_least 3 (text 0 (0xEF ∷ 0xBB ∷ 0xBF ∷ []) ∷ [])
 
-  subrip_lines : IsSubRip b → IsTrue (accepts (lines subrip) b)
+  pub subrip_lines : IsSubRip b → IsTrue (accepts (lines subrip) b)
   subrip_lines (inl (n, t, many, digits, ends, span)) =
       let digit : IsDigit (slice_index b 0) = digits 0 (let some = many.0 in omega arith) in
       let low = digit.0 in
@@ -144,7 +144,7 @@ module _ (by_place : (place : ℕ) (t buf : List ℕ) → IsTrue (stands place t
       one 1 (byte 0 (between 0x30 0x39)) (marked_line ∷ []) (omega arith) (in_range 0 0x30 0x39 lt digit.0 digit.1)
   subrip_lines (inr (o, cue)) = let le = o.fits in other (at_least 1 (byte 0 (between 0x30 0x39) ∷ [])) (marked_line ∷ []) (begins 3 (0xEF ∷ 0xBB ∷ 0xBF ∷ []) (omega arith) o)
 
-  program_lines : (name : List ℕ) → IsProgram name b → IsTrue (accepts (lines (program name)) b)
+  pub program_lines : (name : List ℕ) → IsProgram name b → IsTrue (accepts (lines (program name)) b)
   program_lines name (o, _) = begins 2 (codes "#!") (let le = o.fits in omega arith) o
 
   abbrev markup_line : fixed.Alternative
@@ -156,7 +156,7 @@ module _ (by_place : (place : ℕ) (t buf : List ℕ) → IsTrue (stands place t
       let lt : 0 < length b = there b 0 some in
       one 1 (byte 0 (any_of (0x09 ∷ 0x0A ∷ 0x0D ∷ 0x20 ∷ 0x3C ∷ []))) (marked_line ∷ []) (omega arith) (and_from (nat_lt 0 (length b)) _ (lt-ltb 0 (length b) lt) is)
 
-  markup_begins : BeginsMarkup b → IsTrue (accepts markup_lines b)
+  pub markup_begins : BeginsMarkup b → IsTrue (accepts markup_lines b)
   markup_begins (inl o) = let le = o.fits in other markup_line (marked_line ∷ []) (begins 3 (0xEF ∷ 0xBB ∷ 0xBF ∷ []) (omega arith) o)
   markup_begins (inr (k, low, spaces, opens)) = elim (cases_lt 0 k) [
     | inl lt ↦ elim (spaces 0 (omega arith) lt) [
@@ -176,7 +176,7 @@ module _ (by_place : (place : ℕ) (t buf : List ℕ) → IsTrue (stands place t
       let lt : 0 < length b = there b 0 some in
       one 1 (byte 0 (any_of (0x09 ∷ 0x0A ∷ 0x0D ∷ 0x20 ∷ 0x5B ∷ 0x7B ∷ []))) (marked_line ∷ []) (omega arith) (and_from (nat_lt 0 (length b)) _ (lt-ltb 0 (length b) lt) is)
 
-  json_begins : BeginsJson b → IsTrue (accepts json_outline b)
+  pub json_begins : BeginsJson b → IsTrue (accepts json_outline b)
   json_begins (inl o) = let le = o.fits in other json_line (marked_line ∷ []) (begins 3 (0xEF ∷ 0xBB ∷ 0xBF ∷ []) (omega arith) o)
   json_begins (inr (k, spaces, opens)) = elim (cases_lt 0 k) [
     | inl lt ↦ elim (spaces 0 lt) [
@@ -192,10 +192,10 @@ module _ (by_place : (place : ℕ) (t buf : List ℕ) → IsTrue (stands place t
   ]
 
   -- no byte of a buffer is 256 or more
-  abbrev Small : Type 0
+  abbrev pub Small : Type 0
   Small = (i : ℕ) → slice_index b i < 256
 
-  text_lines : Small → IsText b → IsTrue (accepts (lines plain_text) b)
+  pub text_lines : Small → IsText b → IsTrue (accepts (lines plain_text) b)
   text_lines small h =
       let (lt, low) = begun h in one 1 (byte 0 (between 0x09 0xFF)) [] (omega arith) (in_range 0 0x09 0xFF lt low (let s = small 0 in omega arith))
     where
@@ -214,24 +214,8 @@ module _ (by_place : (place : ℕ) (t buf : List ℕ) → IsTrue (stands place t
         ],
       )
 
-  pub has_lines : (r : Relation) → HasLines r b
-  has_lines shared_object small (wide, big, class, order, table) = object_lines wide big table
-  has_lines (first_entry_is name) small h = named_part name [] h.0.header h.2
-  has_lines (first_entry_ends_in name) small h = counted_for_lines name 26 h.0 (omega arith) h.1
-  has_lines (first_entry_has_extra extra) small h = counted_for_lines extra 28 h.0 (omega arith) h.1
-  has_lines (package_with folder) small h = package_lines folder h.0
-  has_lines (class_id id) small (place, r, o) = let le = r.header.fits in begins 8 _ (omega arith) r.header
-  has_lines (directory_tag tag) small (big, b, e) = tag_lines tag big b
-  has_lines animated small (o, a) = let le = o.fits in begins 4 png_header (omega arith) o
-  has_lines subrip small h = subrip_lines h
-  has_lines dbase small (long, dated, field, many, ends) =
+  pub dbase_lines : IsDbase b → IsTrue (accepts (lines dbase) b)
+  dbase_lines (long, dated, field, many, ends) =
       or_left _ _ (and_from (nat_le 14 (length b)) _ (le-leb 14 (length b) (omega arith))
       (and_from _ _ (and_from (nat_lt 0 (length b)) _ (lt-ltb 0 (length b) (omega arith)) dated.0)
       (and_from _ true (pair 12 0x00 0x00 (omega arith) dated.3.0 dated.3.1) refl)))
-  has_lines tar_checksum small (long, some, (p, d, f, sums)) = field_lines p d long f
-  has_lines (program name) small h = program_lines name h
-  has_lines (root name) small h = markup_begins (begins_markup b name h.0 h.1)
-  has_lines (root_with name t) small h = markup_begins (begins_markup b name h.0 h.1)
-  has_lines json_lines small h = json_begins (lines_lead b h).0
-  has_lines json_text small h = json_begins (text_leads b h).0
-  has_lines plain_text small h = text_lines (small refl) h

@@ -1,8 +1,13 @@
 -- Each relation, by the lemmas of its format.
-use Rattle.infer_inside.proofs.Common.{◌≡◌, IsTrue, List, ℕ, ◌++◌, OccursAt, OccursAt-append, Lasts, MayBecome, AgreesAt, IsAnimated, grown_agrees, refl}
+use Rattle.infer_inside.proofs.Common.{[], ◌≡◌, ◌+◌, ◌↔◌, ◌≤◌, IsTrue, List, ℕ, ◌++◌, OccursAt, OccursAt-append, Lasts, MayBecome, AgreesAt, IsAnimated, arith, grown_agrees, refl}
+use Rattle.infer_sig.specs.Places.{StandsByPlace}
+use Rattle.infer_sig.specs.Signature.{stands}
+use Rattle.infer_inside.proofs.JsonLeadLemmas.{lines_lead, text_leads}
+use Rattle.infer_inside.proofs.LeadLemmas.{begins_markup}
+use Rattle.infer_inside.proofs.OutlineLemmas.{begins, counted_for_lines, dbase_lines, field_lines, json_begins, markup_begins, named_part, object_lines, package_lines, program_lines, subrip_lines, tag_lines, text_lines}
 use Rattle.infer_inside.specs.Open.{Stays}
 use Rattle.infer_inside.specs.Png.{png_header}
-use Rattle.infer_inside.specs.Relation.{Fits, Relation, animated, class_id, dbase, directory_tag, first_entry_ends_in, first_entry_has_extra, first_entry_is, is_lasting, json_lines, json_text, package_with, plain_text, program, relation_listed, root, root_with, shared_object, subrip, tar_checksum}
+use Rattle.infer_inside.specs.Relation.{Fits, HasLines, Relation, animated, class_id, dbase, directory_tag, first_entry_ends_in, first_entry_has_extra, first_entry_is, is_lasting, json_lines, json_text, package_with, plain_text, program, relation_listed, root, root_with, shared_object, subrip, tar_checksum}
 use Rattle.infer_inside.specs.declared.relation.Relation as declared
 use Rattle.infer_inside.specs.declared.relation.Relation.TheVariants.{JsonLines, JsonText, PlainText}
 use Rattle.infer_deep.proofs.ClassIdLemmas.{HasClassId-lasts}
@@ -41,3 +46,24 @@ fit_stays r n m p b f more bytes = relation_lasts (relation_listed r) (lasts_but
 -- what becomes an animated image begins as one, and its chunks may be such
 pub animation_known : (b : List ℕ) → MayBecome (λ c. OccursAt c png_header 0 × IsAnimated c) b → AgreesAt b png_header 0 × MayBecome IsAnimated b
 animation_known b (more, bytes, (header, chunks)) = (grown_agrees b more png_header 0 header, (more, bytes, chunks))
+
+-- it has one of its lines
+module _ (by_place : (place : ℕ) (t buf : List ℕ) → IsTrue (stands place t buf) ↔ StandsByPlace place t buf) (b : List ℕ) where
+  pub has_lines : (r : Relation) → HasLines r b
+  has_lines shared_object small (wide, big, class, order, table) = object_lines by_place b wide big table
+  has_lines (first_entry_is name) small h = named_part by_place b name [] h.0.header h.2
+  has_lines (first_entry_ends_in name) small h = counted_for_lines by_place b name 26 h.0 (omega arith) h.1
+  has_lines (first_entry_has_extra extra) small h = counted_for_lines by_place b extra 28 h.0 (omega arith) h.1
+  has_lines (package_with folder) small h = package_lines by_place b folder h.0
+  has_lines (class_id id) small (place, r, o) = let le = r.header.fits in begins by_place b 8 _ (omega arith) r.header
+  has_lines (directory_tag tag) small (big, opens, e) = tag_lines by_place b tag big opens
+  has_lines animated small (o, a) = let le = o.fits in begins by_place b 4 png_header (omega arith) o
+  has_lines subrip small h = subrip_lines by_place b h
+  has_lines dbase small h = dbase_lines by_place b h
+  has_lines tar_checksum small (long, some, (p, d, f, sums)) = field_lines by_place b p d long f
+  has_lines (program name) small h = program_lines by_place b name h
+  has_lines (root name) small h = markup_begins by_place b (begins_markup b name h.0 h.1)
+  has_lines (root_with name t) small h = markup_begins by_place b (begins_markup b name h.0 h.1)
+  has_lines json_lines small h = json_begins by_place b (lines_lead b h).0
+  has_lines json_text small h = json_begins by_place b (text_leads b h).0
+  has_lines plain_text small h = text_lines by_place b (small refl) h

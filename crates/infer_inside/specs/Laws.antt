@@ -5,8 +5,7 @@ use Rattle.infer_deep.specs.Signatures.{Lasts}
 use Rattle.infer_inside.specs.Json.{CanBe, IsBlank, IsJson, IsJsonLines, blanks, text}
 use Rattle.infer_inside.specs.JsonStates.{IsBracket}
 use Rattle.infer_inside.specs.Markup.{BeginsElement, HasRoot, HasRootWith, IsRootElement, IsXmlSpace, utf8_mark}
-use Rattle.infer_inside.specs.Outline.{HasLines}
-use Rattle.infer_inside.specs.Relation.{Fits, Relation, is_lasting}
+use Rattle.infer_inside.specs.Relation.{Fits, HasLines, Relation, is_lasting}
 use Rattle.infer_inside.specs.Script.{IsProgram}
 use Rattle.infer_inside.specs.Text.{IsBinary}
 

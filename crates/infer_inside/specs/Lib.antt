@@ -13,6 +13,6 @@ pub mod Json
 pub mod JsonStates
 pub mod Markup
 pub mod Open
-pub mod Relation
 pub mod Outline
+pub mod Relation
 pub mod Laws

@@ -1,12 +1,8 @@
--- What every buffer has that fits a relation, as bytes at fixed places, so that an index can ask for one of them.
-use Rattle.std.specs.Prelude.{ℕ, zero, suc, ◌+◌, ◌<◌, Bool, false, true, IsTrue, List, [], ◌∷◌, codes, replicate, slice_index}
-use Rattle.infer_deep.specs.ClassId.{compound_header}
+-- What several relations have in common at fixed places.
+use Rattle.std.specs.Prelude.{ℕ, zero, suc, ◌+◌, ◌%◌, List, [], ◌∷◌, length, replicate}
 use Rattle.infer_deep.specs.Office.{zip_header}
-use Rattle.infer_inside.specs.Dbase.{versions}
 use Rattle.infer_sig.specs.Signature as fixed
-use Rattle.infer_sig.specs.Signature.{accepts, at_least, text, byte, all_but, any_of, between}
-use Rattle.infer_inside.specs.Png.{png_header}
-use Rattle.infer_inside.specs.Relation.{Fits, Relation, animated, class_id, dbase, directory_tag, first_entry_ends_in, first_entry_has_extra, first_entry_is, json_lines, json_text, package_with, plain_text, program, root, root_with, shared_object, subrip, tar_checksum}
+use Rattle.infer_sig.specs.Signature.{all_but, any_of, at_least, between, byte, text}
 
 -- a ZIP archive whose first entry has a name that begins with the text
 abbrev pub named : List ℕ → fixed.Alternative
@@ -40,31 +36,6 @@ abbrev pub json_outline : List fixed.Alternative
 json_outline =
     at_least 1 (byte 0 (any_of (0x09 ∷ 0x0A ∷ 0x0D ∷ 0x20 ∷ 0x5B ∷ 0x7B ∷ [])) ∷ []) ∷ at_least 3 (text 0 (0xEF ∷ 0xBB ∷ 0xBF ∷ []) ∷ []) ∷ []
 
--- for each relation, bytes of which such a buffer has one list
-abbrev pub lines : Relation → List fixed.Alternative
-lines shared_object = at_least 18 (text 16 (0x03 ∷ 0x00 ∷ []) ∷ []) ∷ at_least 18 (text 16 (0x00 ∷ 0x03 ∷ []) ∷ []) ∷ []
-lines (first_entry_is name) = named name ∷ []
-lines (first_entry_ends_in name) = counted_for name 26
-lines (first_entry_has_extra extra) = counted_for extra 28
-lines (package_with folder) = named (codes "[Content_Types].xml") ∷ named (codes "_rels/") ∷ named (codes "docProps/") ∷ named folder ∷ []
-lines (class_id id) = at_least 8 (text 0 compound_header ∷ []) ∷ []
-lines (directory_tag tag) = at_least 4 (text 0 (0x49 ∷ 0x49 ∷ 0x2A ∷ 0x00 ∷ []) ∷ []) ∷ at_least 4 (text 0 (0x4D ∷ 0x4D ∷ 0x00 ∷ 0x2A ∷ []) ∷ []) ∷ []
-lines animated = at_least 4 (text 0 png_header ∷ []) ∷ []
-lines subrip = at_least 1 (byte 0 (between 0x30 0x39) ∷ []) ∷ at_least 3 (text 0 (0xEF ∷ 0xBB ∷ 0xBF ∷ []) ∷ []) ∷ []
-lines dbase = at_least 14 (byte 0 (any_of versions) ∷ text 12 (0x00 ∷ 0x00 ∷ []) ∷ []) ∷ []
-lines tar_checksum = digits_behind 0 8
-lines (program name) = at_least 2 (text 0 (codes "#!") ∷ []) ∷ []
-lines (root name) = markup_lines
-lines (root_with name t) = markup_lines
-lines json_lines = json_outline
-lines json_text = json_outline
-lines plain_text = at_least 1 (byte 0 (between 0x09 0xFF) ∷ []) ∷ []
-
--- the relation asks for plain text
-abbrev pub is_plain : Relation → Bool
-is_plain plain_text = true
-is_plain other = false
-
--- what fits the relation has one of its lists. Of plain text, that no byte is 256 or more is known
-abbrev pub HasLines : Relation → List ℕ → Type 0
-HasLines r b = (IsTrue (is_plain r) → (i : ℕ) → slice_index b i < 256) → Fits r b → IsTrue (accepts (lines r) b)
+-- the first entry of a ZIP archive with the text behind its header, and the low byte of its length at the place
+abbrev pub model_entry : ℕ → List ℕ → fixed.Alternative
+model_entry place t = at_least (30 + length t) (text 0 zip_header ∷ text place (length t % 256 ∷ []) ∷ text 30 t ∷ [])

@@ -36,6 +36,7 @@ const LAST_FOXPRO: u8 = 0x32;
 const BACKLINK_SIZE: usize = 263;
 
 /// The header of a dBASE table.
+#[inline(never)]
 pub fn is_dbase(buf: &[u8]) -> bool
     ensures { IsTrue result ↔ IsDbase buf.now }
 {

@@ -44,6 +44,7 @@ const PHDR_SIZE_64: usize = 56;
 const PT_INTERP: u32 = 3;
 
 /// A shared object: of its program headers, which lie in the buffer, none asks for an interpreter.
+#[inline(never)]
 pub fn is_shared_object(buf: &[u8]) -> bool
     ensures { IsTrue result ↔ IsSharedObject buf.now }
 {

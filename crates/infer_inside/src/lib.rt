@@ -7,6 +7,7 @@ pub mod elf;
 pub mod json;
 pub mod laws;
 pub mod markup;
+pub mod model;
 mod numbers;
 pub mod png;
 pub mod relation;

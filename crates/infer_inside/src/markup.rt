@@ -45,6 +45,7 @@ pub fn has_root(buf: &[u8], name: &[u8]) -> bool
 }
 
 /// Whether the root element has this local name, and the text in its tag behind the name.
+#[inline(never)]
 pub fn has_root_with(buf: &[u8], name: &[u8], text: &[u8]) -> bool
     ensures { IsTrue result ↔ HasRootWith name.now text.now buf.now }
 {

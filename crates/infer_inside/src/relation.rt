@@ -1,13 +1,15 @@
-//! Relations: what each is called and takes, whether a buffer has it, and what bytes after the buffer can bring or take.
-ghost use Rattle.std.specs.Prelude.{◌↔◌, IsTrue};
+//! Relations: what each takes, whether a buffer has it, what bytes after the buffer can bring or take, and a short buffer that
+//! has it.
+ghost use Rattle.std.specs.Prelude.{◌≡◌, ◌≤◌, ◌↔◌, [], IsTrue, length};
 ghost use Rattle.infer_deep.specs.Signatures.{MayBecome};
 ghost use Rattle.infer_inside.specs.Open.{Stays};
-ghost use Rattle.infer_inside.specs.Relation.{Fits, IsSound, relation_listed};
+ghost use Rattle.infer_inside.specs.Relation.{Fits, IsSound, class_id, dbase, directory_tag, least_of, model, model_listed, package_with, program, relation_listed, root, root_with, shared_object};
 
 use crate::dbase::{is_dbase, may_become_dbase};
 use crate::elf::{is_shared_object, may_become_shared_object};
 use crate::json::{is_json, is_json_lines, may_become_json, may_become_json_lines};
 use crate::markup::{has_root, has_root_with, may_have_root, may_have_root_with};
+use crate::model::{Model, Text, at, entry, five, four, made, one, three, two};
 use crate::png::{is_animated, may_become_animated};
 use crate::script::{is_program, may_become_program};
 use crate::subtitles::{is_subrip, may_become_subrip};
@@ -46,6 +48,7 @@ pub enum Relation<'a> {
 
 impl<'a> Relation<'a> {
     /// Whether the buffer has it. No copy of this function stands in its callers.
+    // Nor has it copies of the longer ones that it calls, so that it saves few registers.
     #[inline(never)]
     pub fn fits(&self, buf: &[u8]) -> bool
         ensures { IsTrue result ↔ Fits (relation_listed self.now) buf.now }
@@ -110,4 +113,145 @@ impl<'a> Relation<'a> {
             _ => true,
         }
     }
+
+    /// A short buffer that has it. A root element stands behind this text.
+    pub fn model<'b>(&'b self, before: &'b [u8]) -> Model<'b>
+        requires { least_of (model before.now (relation_listed self.now)) ≤ 65536 }
+        ensures model { model_listed result ≡ model before.now (relation_listed self.now) }
+        ensures few { result.count ≤ 5 }
+    {
+        match self {
+            Relation::SharedObject => object(),
+            Relation::FirstEntryIs(name) => entry(26, Text::Slice(name)),
+            Relation::FirstEntryEndsIn(end) => entry(26, Text::Slice(end)),
+            Relation::FirstEntryHasExtra(extra) => entry(28, Text::Two(*extra)),
+            Relation::PackageWith(folder) => package(folder),
+            Relation::ClassId(id) => compound(*id),
+            Relation::DirectoryTag(tag) => directory(*tag),
+            Relation::Animated => two(16, at(0, b"\x89PNG"), at(12, b"acTL")),
+            Relation::SubRip => one(31, at(0, b"0\n00:00:00,000 --> 00:00:00,000")),
+            Relation::Dbase => table(),
+            Relation::TarChecksum => two(512, at(0, b"\x01"), at(148, b"401")),
+            Relation::Program(name) => script(name),
+            Relation::Root(name) => element(before, name),
+            Relation::RootWith(name, text) => element_with(before, name, text),
+            Relation::JsonLines => one(4, at(0, b"[]\n[")),
+            Relation::JsonText => one(2, at(0, b"[]")),
+            Relation::PlainText => one(1, at(0, b" ")),
+        }
+    }
+}
+
+/// That of a shared object: a narrow file whose lowest byte comes first, with one entry.
+fn object() -> Model<'static>
+    ensures model { model_listed result ≡ model [] shared_object }
+    ensures few { result.count ≤ 5 }
+{
+    three(
+        46,
+        at(4, b"\x01\x01"),
+        at(16, b"\x03"),
+        at(42, b"\x20\0\x01"),
+    )
+}
+
+/// That of a package: the header of an entry "_rels/", and inside it, at 6, that of an entry in the folder.
+fn package<'b>(folder: &'b [u8]) -> Model<'b>
+    requires { length folder.now ≤ 65536 }
+    ensures model { model_listed result ≡ model [] (package_with folder.now) }
+    ensures few { result.count ≤ 5 }
+{
+    four(
+        36 + folder.len(),
+        at(0, b"PK\x03\x04"),
+        at(6, b"PK\x03\x04"),
+        at(30, b"_rels/"),
+        at(36, folder),
+    )
+}
+
+/// That of a compound file: a root entry behind the header.
+fn compound(id: [u8; 16]) -> Model<'static>
+    ensures model { model_listed result ≡ model [] (class_id id) }
+    ensures few { result.count ≤ 5 }
+{
+    four(
+        640,
+        at(0, b"\xD0\xCF\x11\xE0\xA1\xB1\x1A\xE1"),
+        at(26, b"\x03\0\xFE\xFF\x09"),
+        at(578, b"\x05"),
+        made(592, Text::Sixteen(id)),
+    )
+}
+
+/// That of a TIFF file: a directory with this tag.
+fn directory(tag: u16) -> Model<'static>
+    ensures model { model_listed result ≡ model [] (directory_tag tag) }
+    ensures few { result.count ≤ 5 }
+{
+    two(
+        20,
+        at(0, b"MM\0*\0\0\0\x06"),
+        made(8, Text::Two(tag.to_be_bytes())),
+    )
+}
+
+/// That of a dBASE table: a header with one field.
+fn table() -> Model<'static>
+    ensures model { model_listed result ≡ model [] dbase }
+    ensures few { result.count ≤ 5 }
+{
+    five(
+        65,
+        at(0, b"\x02\0\x01\x01"),
+        at(8, b"\x41\0\x02"),
+        at(32, b"A"),
+        at(43, b"+"),
+        at(64, b"\r"),
+    )
+}
+
+/// That of a script: a line that names its program.
+fn script<'b>(name: &'b [u8]) -> Model<'b>
+    requires { length name.now ≤ 65536 }
+    ensures model { model_listed result ≡ model [] (program name.now) }
+    ensures few { result.count ≤ 5 }
+{
+    three(
+        3 + name.len(),
+        at(0, b"#!"),
+        at(2, name),
+        at(2 + name.len(), b"\n"),
+    )
+}
+
+/// That of markup: an element behind this text.
+fn element<'b>(before: &'b [u8], name: &'b [u8]) -> Model<'b>
+    requires { least_of (model before.now (root name.now)) ≤ 65536 }
+    ensures model { model_listed result ≡ model before.now (root name.now) }
+    ensures few { result.count ≤ 5 }
+{
+    four(
+        before.len() + 2 + name.len(),
+        at(0, before),
+        at(before.len(), b"<"),
+        at(before.len() + 1, name),
+        at(before.len() + 1 + name.len(), b">"),
+    )
+}
+
+/// That of markup with the text in its tag.
+fn element_with<'b>(before: &'b [u8], name: &'b [u8], text: &'b [u8]) -> Model<'b>
+    requires { least_of (model before.now (root_with name.now text.now)) ≤ 65536 }
+    ensures model { model_listed result ≡ model before.now (root_with name.now text.now) }
+    ensures few { result.count ≤ 5 }
+{
+    five(
+        before.len() + 2 + name.len() + text.len(),
+        at(0, before),
+        at(before.len(), b"<"),
+        at(before.len() + 1, name),
+        at(before.len() + 1 + name.len(), b" "),
+        at(before.len() + 2 + name.len(), text),
+    )
 }

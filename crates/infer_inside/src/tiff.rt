@@ -17,6 +17,7 @@ const COUNT_SIZE: usize = 2;
 const ENTRY_SIZE: usize = 12;
 
 /// The first directory of a TIFF file has an entry with this tag.
+#[inline(never)]
 pub fn first_directory_has_tag(buf: &[u8], tag: u16) -> bool
     ensures { IsTrue result ↔ HasTag tag buf.now }
 {

@@ -67,6 +67,7 @@ fn first_name_end(buf: &[u8]) -> Option<usize>
 }
 
 /// A package of the Open Packaging Conventions whose first folder of an application, by place, is this one.
+#[inline(never)]
 pub fn is_package_with(buf: &[u8], folder: &[u8]) -> bool
     ensures { IsTrue result ↔ IsPackageWith folder.now buf.now }
 {

@@ -9,7 +9,8 @@ use Rattle.infer.specs.Samples.{HoldsSample, chosen, sample_of, with_part}
 use Rattle.infer.specs.Table as built_in
 use Rattle.infer.specs.declared.table.rows.TheConstants.{DLL, EPUB_ARCHIVE}
 use Rattle.infer_sig.specs.Signature as fixed
-use Rattle.infer_more.specs.Samples.{AllReach, HasNoSample, has_room_after, joined_sample, least_of, prolog, row_model}
+use Rattle.infer_more.specs.Samples.{AllReach, HasNoSample, has_room_after, joined_sample, prolog, row_model}
+use Rattle.infer_inside.specs.Relation.{least_of}
 use Rattle.infer.specs.declared.samples.TheConstants as built_in_samples
 use Rattle.infer_more.specs.declared.signature.Alternative as Listed
 use Rattle.infer_more.proofs.IndexLemmas.{both_left, both_right}
@@ -63,45 +64,9 @@ first_model row a before first is =
     ap (option_map (model (prolog row.parent))) (slice_get-map alternative_listed row.signature.now 0 ∙ ap (option_map alternative_listed) (sym first))
     ∙ ap (λ v. Some (model v (alternative_listed a))) (sym is)
 
--- a text that is written behind another is written with it
-pub put_behind : (place : ℕ) (t rest b : List ℕ) → place + length t ≤ length b → put (place + length t) rest (put place t b) ≡ put place (t ++ rest) b
-put_behind place t rest b le =
-    let front = take place b in
-    let back = drop (place + length t) b in
-    let at : length front ≡ place = length-take-le place b (omega arith) in
-    let taken : take (place + length t) (front ++ (t ++ back)) ≡ front ++ t =
-    ap (λ k. take (k + length t) (front ++ (t ++ back))) (sym at) ∙ take-append-add front (t ++ back) (length t) ∙ ap (λ l. front ++ l) (take-append_seam t back) in
-    let dropped : drop (place + length t + length rest) (front ++ (t ++ back)) ≡ drop (place + length (t ++ rest)) b =
-    (let more = length-append t rest in
-    let far : place + length t + length rest ≡ length front + (length t + length rest) = omega arith in
-    let behind : place + length t + length rest ≡ place + length (t ++ rest) = omega arith in
-    ap (λ k. drop k (front ++ (t ++ back))) far ∙ drop-append-add front (t ++ back) (length t + length rest)
-    ∙ drop-append-add t back (length rest) ∙ drop-drop (length rest) (place + length t) b ∙ ap (λ k. drop k b) behind) in
-    ap (λ l. l ++ (rest ++ drop (place + length t + length rest) (front ++ (t ++ back)))) taken
-    ∙ ap (λ l. (front ++ t) ++ (rest ++ l)) dropped
-    ∙ append_assoc front t (rest ++ drop (place + length (t ++ rest)) b)
-    ∙ ap (λ l. front ++ l) (sym (append_assoc t rest (drop (place + length (t ++ rest)) b)))
-
 -- each part is written over a place that is there
 length-put : (place : ℕ) (t b : List ℕ) → place + length t ≤ length b → length (put place t b) ≡ length b
 length-put place t b le = omega (arith, length-append (take place b) (t ++ drop (place + length t) b), length-append t (drop (place + length t) b), length-take-le place b (omega arith), length-drop (place + length t) b)
-
--- the next of some texts is written, and the others behind it
-pub next_text : (ts : List (Bor (List ℕ))) (i place : ℕ) (d : Bor (List ℕ)) (old new all : List ℕ) → i < length ts
-    → put place (concat (map (λ t. t.now) (drop i ts))) old ≡ all → place + length (concat (map (λ t. t.now) (drop i ts))) ≤ length old
-    → new ≡ put place (get_or ts i d).now old
-    → (put (place + length (get_or ts i d).now) (concat (map (λ t. t.now) (drop (i + 1) ts))) new ≡ all)
-    × (place + length (get_or ts i d).now + length (concat (map (λ t. t.now) (drop (i + 1) ts))) ≤ length new)
-next_text ts i place d old new all lt whole fits done =
-    let t = (get_or ts i d).now in
-    let rest = concat (map (λ (u : Bor (List ℕ)). u.now) (drop (i + 1) ts)) in
-    let parted : concat (map (λ u. u.now) (drop i ts)) ≡ t ++ rest = ap (λ l. concat (map (λ (u : Bor (List ℕ)). u.now) l)) (drop_more ts i d lt) in
-    let long : length (concat (map (λ (u : Bor (List ℕ)). u.now) (drop i ts))) ≡ length t + length rest = ap length parted ∙ length-append t rest in
-    let le : place + length t ≤ length old = omega arith in
-    let same : length new ≡ length old = ap length done ∙ length-put place t old le in (
-      ap (put (place + length t) rest) done ∙ put_behind place t rest old le ∙ sym (ap (λ l. put place l old) parted) ∙ whole,
-      omega arith,
-    )
 
 length-part : (n : ℕ) (part : Part) (b : List ℕ) → length b ≡ n → IsTrue (is_inside n part) → length (with_part part b) ≡ n
 length-part n (text place t) b e h = length-put place t b (let le = leb-true _ _ h in omega arith) ∙ e

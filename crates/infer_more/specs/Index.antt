@@ -15,7 +15,7 @@ use Rattle.infer.specs.Buffer.{IsBuffer}
 use Rattle.infer.specs.Walks.{is_listed}
 use Rattle.infer_more.specs.Outline.{lines}
 use Rattle.infer_more.specs.Row.{Further}
-use Rattle.infer_inside.specs.Outline as relation
+use Rattle.infer_inside.specs.Relation as relation
 use Rattle.infer_inside.specs.Relation.{class_id, json_lines, json_text, package_with, plain_text, program, root, root_with}
 use Rattle.infer_notation.specs.Alternative.{Alternative, related}
 use Rattle.infer_more.specs.Table.{further}

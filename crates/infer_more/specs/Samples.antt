@@ -1,13 +1,11 @@
 -- A sample of each row: a short buffer that has it as its answer.
 use Rattle.std.specs.Prelude.{◌≡◌, ◌+◌, ◌-◌, ◌/◌, ◌%◌, ◌<◌, ◌≤◌, ◌⊎◌, ◌==◌, ◌&&◌, ◌||◌, ℕ, Bool, false, List, [], ◌∷◌, ◌++◌, MatchBool, MatchOption, Option, None, Some, codes, if◌then◌else◌, length, max, nat_le, nat_lt, option_and_then, option_map, slice_get, unwrap_or}
-use Rattle.std.specs.List.{HoldsAt, concat, list_all}
+use Rattle.std.specs.List.{HoldsAt, list_all}
 use Rattle.std.specs.Option.{option_map_or}
-use Rattle.infer_deep.specs.ClassId.{compound_header}
-use Rattle.infer_deep.specs.Office.{zip_header}
-use Rattle.infer_inside.specs.Png.{png_header}
-use Rattle.infer_inside.specs.Relation.{Relation, animated, class_id, dbase, directory_tag, first_entry_ends_in, first_entry_has_extra, first_entry_is, json_lines, json_text, package_with, plain_text, program, root, root_with, shared_object, subrip, tar_checksum}
+use Rattle.infer_inside.specs.Relation as relation
+use Rattle.infer_inside.specs.Relation.{least_of}
 use Rattle.infer_sig.specs.Signature as fixed
-use Rattle.infer_sig.specs.Signature.{at_least, Part, text}
+use Rattle.infer_sig.specs.Signature.{Part, at_least}
 use Rattle.infer.specs.First.{IsFirst}
 use Rattle.infer.specs.Row.{Accepts}
 use Rattle.infer.specs.Samples.{sample_of, with_parts, zeros}
@@ -28,54 +26,19 @@ abbrev pub parent_sample : Option ℕ → List ℕ
 parent_sample None = []
 parent_sample (Some parent) = unwrap_or (built_in_sample parent) []
 
--- the first entry of a ZIP archive with the text behind its header, and the low byte of its length at the place
-abbrev pub model_entry : ℕ → List ℕ → fixed.Alternative
-model_entry place t = at_least (30 + length t) (text 0 zip_header ∷ text place (length t % 256 ∷ []) ∷ text 30 t ∷ [])
-
 -- what stands before the root element of a sample, so that the parent is its built-in answer
 abbrev pub prolog : Option ℕ → List ℕ
 prolog None = []
 prolog (Some parent) = if parent == XML then codes "<?xml?>" else (if parent == HTML then codes "<!-- -->" else [])
 
--- the texts, one after the other
-abbrev pub texts : List (List ℕ) → fixed.Alternative
-texts ts = at_least (length (concat ts)) (text 0 (concat ts) ∷ [])
-
--- a short buffer that fits the relation, as bytes at fixed places with zeros between them. A root element stands behind
--- that prolog
-abbrev pub relation_model : List ℕ → Relation → fixed.Alternative
-relation_model before shared_object = at_least 46 (text 4 (0x01 ∷ 0x01 ∷ []) ∷ text 16 (0x03 ∷ []) ∷ text 42 (0x20 ∷ 0x00 ∷ 0x01 ∷ []) ∷ [])
-relation_model before (first_entry_is name) = model_entry 26 name
-relation_model before (first_entry_ends_in name) = model_entry 26 name
-relation_model before (first_entry_has_extra extra) = model_entry 28 extra
-relation_model before (package_with folder) =
-    at_least (36 + length folder) (text 0 zip_header ∷ text 6 zip_header ∷ text 30 (codes "_rels/") ∷ text 36 folder ∷ [])
-relation_model before (class_id id) =
-    at_least 640 (text 0 compound_header ∷ text 26 (0x03 ∷ 0x00 ∷ 0xFE ∷ 0xFF ∷ 0x09 ∷ []) ∷ text 578 (0x05 ∷ []) ∷ text 592 id ∷ [])
-relation_model before (directory_tag tag) =
-    at_least 20 (text 0 (0x4D ∷ 0x4D ∷ 0x00 ∷ 0x2A ∷ 0x00 ∷ 0x00 ∷ 0x00 ∷ 0x06 ∷ []) ∷ text 8 (tag / 256 ∷ tag % 256 ∷ []) ∷ [])
-relation_model before animated = at_least 16 (text 0 png_header ∷ text 12 (codes "acTL") ∷ [])
-relation_model before subrip = texts (codes "0\n00:00:00,000 --> 00:00:00,000" ∷ [])
-relation_model before dbase =
-    at_least 65 (text 0 (0x02 ∷ 0x00 ∷ 0x01 ∷ 0x01 ∷ []) ∷ text 8 (0x41 ∷ 0x00 ∷ 0x02 ∷ []) ∷ text 32 (codes "A") ∷ text 43 (codes "+") ∷ text 64 (0x0D ∷ []) ∷ [])
-relation_model before tar_checksum = at_least 512 (text 0 (0x01 ∷ []) ∷ text 148 (codes "401") ∷ [])
-relation_model before (program name) = texts (codes "#!" ∷ name ∷ codes "\n" ∷ [])
-relation_model before (root name) = texts (before ∷ codes "<" ∷ name ∷ codes ">" ∷ [])
-relation_model before (root_with name t) = texts (before ∷ codes "<" ∷ name ∷ codes " " ∷ t ∷ [])
-relation_model before json_lines = texts (codes "[]\n[" ∷ [])
-relation_model before json_text = texts (codes "[]" ∷ [])
-relation_model before plain_text = texts (codes " " ∷ [])
-
--- and one that fits the alternative
+-- a short buffer that fits the alternative, as bytes at fixed places with zeros between them. A root element stands behind
+-- the text that is before it
 abbrev pub model : List ℕ → Alternative → fixed.Alternative
 model before (bytes a) = a
 model before (binary_bytes a) = a
-model before (related r) = relation_model before r
+model before (related r) = relation.model before r
 
--- the least length of an alternative, and its parts
-abbrev pub least_of : fixed.Alternative → ℕ
-least_of (at_least least parts) = least
-
+-- the parts of an alternative
 abbrev pub parts_of : fixed.Alternative → List Part
 parts_of (at_least least parts) = parts
 

@@ -1,25 +1,24 @@
 //! A sample of each row: a short buffer that has it as its answer.
 ghost use Rattle.std.specs.Prelude.{◌≡◌, ◌+◌, ◌-◌, ◌<◌, ◌≤◌, ◌⊎◌, ◌↔◌, ℕ, [], ◌++◌, IfSome, IsNone, IsSome, IsTrue, List, length, map, option_and_then, option_map, slice_get, take};
-ghost use Rattle.std.specs.List.{concat, list_all};
+ghost use Rattle.std.specs.List.{list_all};
 ghost use Rattle.infer.specs.First.{IsFirst};
 ghost use Rattle.infer.specs.Row.{Accepts};
 ghost use Rattle.infer.specs.Samples.{put, with_part, with_parts, zeros};
 ghost use Rattle.infer.specs.Table as built_in;
 ghost use Rattle.infer_more.specs.Listed.{alternative_listed, part_listed, row_listed};
 ghost use Rattle.infer_more.specs.Row.{is_inside};
-ghost use Rattle.infer_more.specs.Samples.{HasAnswer, HasNoSample, built_in_sample, further_sample, has_room, least_of, model, model_entry, parent_sample, parts_of, prolog, relation_model, sample_at, written};
-ghost use Rattle.infer_inside.specs.Relation.{class_id, dbase, package_with, relation_listed};
+ghost use Rattle.infer_more.specs.Samples.{HasAnswer, HasNoSample, built_in_sample, further_sample, has_room, model, parent_sample, parts_of, prolog, sample_at, written};
+ghost use Rattle.infer_inside.specs.Relation.{least_of, model_listed};
 ghost use Rattle.infer_more.specs.Table.{further};
 ghost use Rattle.infer_more.specs.Wider.{AcceptsAt, IsWider};
 ghost use Rattle.infer.specs.declared.samples.TheConstants as built_in_samples;
 ghost use Rattle.infer_more.specs.declared.samples.TheConstants.{SAMPLE_SIZE};
 
 use crate::laws;
-use crate::signature::Piece::At;
 use crate::signature::{Alternative, Piece};
 use crate::table::{FurtherRow, row_at};
 use infer::rows::{DLL, EPUB_ARCHIVE, HTML, ROW_COUNT, XML};
-use infer_inside::relation::Relation;
+use infer_inside::model::Model;
 
 /// The most bytes that a sample has, with some to spare.
 pub const SAMPLE_SIZE: usize = 1088;
@@ -57,62 +56,16 @@ fn put_pieces(pieces: &[Piece], out: &mut [u8])
     }
 }
 
-/// Writes the texts, one after the other.
-fn put_texts(texts: &[&'static [u8]], out: &mut [u8])
-    requires { length (concat (map (λ t. t.now) texts.now)) ≤ length out.old }
-    ensures { out.new ≡ put 0 (concat (map (λ t. t.now) texts.now)) out.old }
+/// Writes the texts of the model, each at its place.
+fn put_texts(model: &Model<'_>, out: &mut [u8])
+    requires few { model.now.count ≤ 5 }
+    requires room { IsTrue (list_all (is_inside (length out.old))
+        (parts_of (model_listed model.now))) }
+    ensures { out.new ≡ with_parts (parts_of (model_listed model.now)) out.old }
 {
-    let mut place = 0;
-    for text in texts {
-        put(place, text, out);
-        place += text.len();
+    for placed in &model.texts[..model.count] {
+        put(placed.place, placed.text.bytes(), out);
     }
-}
-
-/// Writes the first entry of a ZIP archive with the text behind its header, and its length at the place.
-fn put_entry(place: usize, text: &[u8], out: &mut [u8])
-    requires count { place < 30 }
-    requires room { 30 + length text.now ≤ length out.old }
-    ensures { out.new ≡ with_parts (parts_of (model_entry place text.now)) out.old }
-{
-    put(0, b"PK\x03\x04", out);
-    put(place, &[(text.len() % 256) as u8], out);
-    put(30, text, out);
-}
-
-/// Writes the class id of a root entry behind the header of a compound file.
-fn put_class_id(id: &[u8], out: &mut [u8])
-    requires room { 592 + length id.now ≤ length out.old }
-    requires whole { 592 ≤ length out.old }
-    ensures { out.new ≡ with_parts (parts_of (relation_model [] (class_id id.now))) out.old }
-{
-    put(0, b"\xD0\xCF\x11\xE0\xA1\xB1\x1A\xE1", out);
-    put(26, b"\x03\0\xFE\xFF\x09", out);
-    put(578, b"\x05", out);
-    put(592, id, out);
-}
-
-/// Writes the header of an entry "_rels/", and inside it, at 6, that of an entry in the folder.
-fn put_package(folder: &'static [u8], out: &mut [u8])
-    requires { 36 + length folder.now ≤ length out.old }
-    ensures { out.new ≡ with_parts (parts_of (relation_model [] (package_with folder.now))) out.old }
-{
-    put(0, b"PK\x03\x04", out);
-    put(6, b"PK\x03\x04", out);
-    put(30, b"_rels/", out);
-    put(36, folder, out);
-}
-
-/// Writes the header of a dBASE table with one field.
-fn put_dbase(out: &mut [u8])
-    requires { 65 ≤ length out.old }
-    ensures { out.new ≡ with_parts (parts_of (relation_model [] dbase)) out.old }
-{
-    put(0, b"\x02\0\x01\x01", out);
-    put(8, b"\x41\0\x02", out);
-    put(32, b"A", out);
-    put(43, b"+", out);
-    put(64, b"\r", out);
 }
 
 /// What stands before the root element in a sample, so that it has this parent.
@@ -128,7 +81,8 @@ fn prolog(parent: Option<usize>) -> &'static [u8]
 
 /// Writes a sample of the alternative over what is there: the root element behind that prolog.
 fn put_model(prolog: &'static [u8], alternative: &Alternative, out: &mut [u8])
-    requires { IsTrue (list_all (is_inside (length out.old))
+    requires least { least_of (model prolog.now (alternative_listed alternative.now)) ≤ SAMPLE_SIZE }
+    requires room { IsTrue (list_all (is_inside (length out.old))
         (parts_of (model prolog.now (alternative_listed alternative.now)))) }
     ensures { out.new
         ≡ with_parts (parts_of (model prolog.now (alternative_listed alternative.now))) out.old }
@@ -136,41 +90,7 @@ fn put_model(prolog: &'static [u8], alternative: &Alternative, out: &mut [u8])
     match alternative {
         Alternative::Bytes(bytes) => put_pieces(bytes.pieces, out),
         Alternative::BinaryBytes(bytes) => put_pieces(bytes.pieces, out),
-        Alternative::Related(relation) => put_relation(prolog, relation, out),
-    }
-}
-
-/// Writes a sample of the relation over it.
-fn put_relation(prolog: &'static [u8], relation: &Relation<'static>, out: &mut [u8])
-    requires { IsTrue (list_all (is_inside (length out.old))
-        (parts_of (relation_model prolog.now (relation_listed relation.now)))) }
-    ensures { out.new
-        ≡ with_parts (parts_of (relation_model prolog.now (relation_listed relation.now))) out.old }
-{
-    match relation {
-        Relation::SharedObject => put_pieces(
-            &[At(4, b"\x01\x01"), At(16, b"\x03"), At(42, b"\x20\0\x01")],
-            out,
-        ),
-        Relation::FirstEntryIs(name) => put_entry(26, name, out),
-        Relation::FirstEntryEndsIn(name) => put_entry(26, name, out),
-        Relation::FirstEntryHasExtra(extra) => put_entry(28, extra, out),
-        Relation::PackageWith(folder) => put_package(folder, out),
-        Relation::ClassId(id) => put_class_id(id, out),
-        Relation::DirectoryTag(tag) => {
-            put(0, b"MM\0*\0\0\0\x06", out);
-            put(8, &tag.to_be_bytes(), out);
-        }
-        Relation::Animated => put_pieces(&[At(0, b"\x89PNG"), At(12, b"acTL")], out),
-        Relation::SubRip => put_texts(&[b"0\n00:00:00,000 --> 00:00:00,000"], out),
-        Relation::Dbase => put_dbase(out),
-        Relation::TarChecksum => put_pieces(&[At(0, b"\x01"), At(148, b"401")], out),
-        Relation::Program(name) => put_texts(&[b"#!", name, b"\n"], out),
-        Relation::Root(name) => put_texts(&[prolog, b"<", name, b">"], out),
-        Relation::RootWith(name, text) => put_texts(&[prolog, b"<", name, b" ", text], out),
-        Relation::JsonLines => put_texts(&[b"[]\n["], out),
-        Relation::JsonText => put_texts(&[b"[]"], out),
-        Relation::PlainText => put_texts(&[b" "], out),
+        Alternative::Related(relation) => put_texts(&relation.model(prolog), out),
     }
 }
 
@@ -182,42 +102,8 @@ fn model_length(prolog: &[u8], alternative: &Alternative) -> usize
     match alternative {
         Alternative::Bytes(bytes) => bytes.least,
         Alternative::BinaryBytes(bytes) => bytes.least,
-        Alternative::Related(relation) => relation_length(prolog, relation),
+        Alternative::Related(relation) => relation.model(prolog).least,
     }
-}
-
-/// The length of that of the relation.
-fn relation_length(prolog: &[u8], relation: &Relation<'static>) -> usize
-    requires { least_of (relation_model prolog.now (relation_listed relation.now)) ≤ SAMPLE_SIZE }
-    ensures { result ≡ least_of (relation_model prolog.now (relation_listed relation.now)) }
-{
-    match relation {
-        Relation::SharedObject => 46,
-        Relation::FirstEntryIs(name) => entry_length(name),
-        Relation::FirstEntryEndsIn(name) => entry_length(name),
-        Relation::FirstEntryHasExtra(extra) => entry_length(extra),
-        Relation::PackageWith(folder) => 36 + folder.len(),
-        Relation::ClassId(_) => 640,
-        Relation::DirectoryTag(_) => 20,
-        Relation::Animated => 16,
-        Relation::SubRip => 31,
-        Relation::Dbase => 65,
-        Relation::TarChecksum => 512,
-        Relation::Program(name) => 3 + name.len(),
-        Relation::Root(name) => prolog.len() + 2 + name.len(),
-        Relation::RootWith(name, text) => prolog.len() + 2 + name.len() + text.len(),
-        Relation::JsonLines => 4,
-        Relation::JsonText => 2,
-        Relation::PlainText => 1,
-    }
-}
-
-/// The length of the first entry of a ZIP archive with the text behind its header.
-fn entry_length(text: &[u8]) -> usize
-    requires { 30 + length text.now ≤ SAMPLE_SIZE }
-    ensures { result ≡ 30 + length text.now }
-{
-    30 + text.len()
 }
 
 /// Writes the sample of built-in row `i`.

@@ -11,8 +11,10 @@ use Rattle.infer_inside.specs.Json.{BeginsLines, BeginsText, BeginsToken, Begins
 use Rattle.infer_inside.specs.Markup.{LeadsToTag, OpensTag, here, later}
 use Rattle.infer_inside.specs.Png as png
 use Rattle.infer_inside.specs.Png.{png_header}
-use Rattle.infer_inside.specs.Relation.{Fits, IsSound, animated, dbase, package_with, relation_listed}
+use Rattle.infer_inside.specs.Relation.{Fits, IsSound, animated, dbase, json_text, least_of, model, model_listed, package_with, placed_listed, plain_text, relation_listed, text_listed}
+use Rattle.infer_inside.specs.declared.model.Text.TheVariants.{One}
 use Rattle.infer_inside.specs.declared.relation.Relation.TheVariants.{Dbase, SubRip}
+use Rattle.infer_sig.specs.Signature as fixed
 use Rattle.infer_inside.specs.Text.{BeginsUtf8, HasEncoding}
 use Rattle.infer_inside.specs.declared.text.Encoding.TheVariants.{Utf16Le}
 use Rattle.infer_inside.proofs.JsonLemmas.{begins}
@@ -197,3 +199,22 @@ IsSound_pair = (inl refl, λ h. ⊎_elim (λ e. omega (arith, ap length e)) (λ 
 
 pub relation_listed_pair : (relation_listed Dbase ≡ dbase) × (¬ (relation_listed SubRip ≡ dbase))
 relation_listed_pair = (refl, λ e. absurd (cc))
+
+pub model_pair : (model [] json_text ≡ fixed.at_least 2 (fixed.text 0 (codes "[]") ∷ [])) × (¬ (model [] plain_text ≡ fixed.at_least 2 (fixed.text 0 (codes "[]") ∷ [])))
+model_pair = (refl, λ e. absurd (cc))
+
+pub text_listed_pair : (text_listed (One (7 ∷ [])) ≡ 7 ∷ []) × (¬ (text_listed (One []) ≡ 7 ∷ []))
+text_listed_pair = (refl, λ e. omega (arith, ap length e))
+
+pub placed_listed_pair : (placed_listed (record { place = 1; text = One (7 ∷ []) }) ≡ fixed.text 1 (7 ∷ [])) × (¬ (placed_listed (record { place = 1; text = One [] }) ≡ fixed.text 1 (7 ∷ [])))
+placed_listed_pair = (refl, λ e. absurd (cc))
+
+pub at_least_pair : (least_of (fixed.at_least 3 []) ≡ 3) × (¬ (least_of (fixed.at_least 2 []) ≡ 3))
+at_least_pair = (refl, λ e. omega (arith, e))
+
+pub text_pair : IsTrue (fixed.has_part (codes "ab") (fixed.text 1 (codes "b"))) × (¬ IsTrue (fixed.has_part (codes "aa") (fixed.text 1 (codes "b"))))
+unfolding stands
+text_pair = (refl, λ t. absurd (cc))
+
+pub model_listed_pair : (model_listed (record { least = 3; texts = []; count = 0 }) ≡ fixed.at_least 3 []) × (¬ (model_listed (record { least = 2; texts = []; count = 0 }) ≡ fixed.at_least 3 []))
+model_listed_pair = (refl, λ e. absurd (cc))

@@ -36,10 +36,11 @@ use Rattle.infer_more.specs.Text.{IsAnswerLine, IsMistake, LineAnswers, is_line_
 use Rattle.infer_notation.specs.Words.{behind_blanks, behind_word, word}
 use Rattle.infer_more.proofs.DescribedLemmas.{described_rows}
 use Rattle.std.proofs.lemmas.List.Elements.{All-from_recursion}
-use Rattle.infer_more.specs.Samples.{HasNoSample, further_sample, has_room, least_of, model, model_entry, parts_of, prolog, row_model, sample_at, texts, written}
+use Rattle.infer_more.specs.Samples.{HasNoSample, further_sample, has_room, model, parts_of, prolog, row_model, sample_at, written}
 use Rattle.infer_more.specs.declared.types.Mistake.{Mistake}
 use Rattle.infer_notation.specs.declared.reason.Reason.TheVariants.{Fields}
-use Rattle.infer_inside.specs.Relation.{json_text, plain_text}
+use Rattle.infer_inside.specs.Outline.{model_entry}
+use Rattle.infer_inside.specs.Relation.{json_text, least_of, plain_text}
 use Rattle.infer_notation.specs.Alternative.{Accepted, Alternative, at_least, binary_bytes, bytes, related}
 use Rattle.infer_more.specs.Table.{archives, code, further, headers, images, late, markup, media, packages, records}
 use Rattle.infer_more.specs.Wider.{IsWidened, Widens, parent_at, shown, wider}
@@ -279,9 +280,6 @@ parts_of_pair = (refl, λ e. omega (arith, e))
 
 pub prolog_pair : (prolog (Some XML) ≡ codes "<?xml?>") × (¬ (prolog None ≡ codes "<?xml?>"))
 prolog_pair = (refl, λ e. omega (arith, ap length e))
-
-pub texts_pair : (least_of (texts (codes "a" ∷ codes "bc" ∷ [])) ≡ 3) × (¬ (least_of (texts (codes "a" ∷ [])) ≡ 3))
-texts_pair = (refl, λ e. omega (arith, e))
 
 pub model_pair : (model [] (binary_bytes (fixed.at_least 3 [])) ≡ fixed.at_least 3 []) × (¬ (model [] (related json_text) ≡ fixed.at_least 3 []))
 model_pair = (refl, λ e. omega (arith, ap least_of e))

@@ -1,6 +1,6 @@
 use Rattle.infer_inside.proofs.LeadLemmas.{begins_markup, opens_element}
 use Rattle.infer_inside.proofs.JsonLeadLemmas.{lines_lead, text_leads}
-use Rattle.infer_inside.proofs.OutlineLemmas.{has_lines}
+use Rattle.infer_inside.proofs.RelationLemmas.{has_lines}
 use Rattle.infer_inside.proofs.laws.leads.Goals as goal
 
 pub returns : goal.returns

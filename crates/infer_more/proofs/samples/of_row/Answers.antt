@@ -6,8 +6,12 @@ pub model_length-requires : goal.model_length-requires
 model_length-requires c =
     least_fits c.args.row.now c.in_ok-alternative.alternative.now c.prolog-prolog.result.now c.in_ok-alternative.ensures.value c.prolog-prolog.ensures c.requires
 
-pub put_model-requires : goal.put_model-requires
-put_model-requires c =
+pub put_model-requires-clause-least : goal.put_model-requires-clause-least
+put_model-requires-clause-least c =
+    least_fits c.args.row.now c.in_ok-alternative.alternative.now c.prolog-prolog.result.now c.in_ok-alternative.ensures.value c.prolog-prolog.ensures c.requires
+
+pub put_model-requires-clause-room : goal.put_model-requires-clause-room
+put_model-requires-clause-room c =
     let p = parent_sample c.args.row.now.parent in
     let a = c.in_ok-alternative.alternative.now in
     let h = roomy c.args.row.now a c.prolog-prolog.result.now c.max-n.result c.parent.new.out [] c.in_ok-alternative.ensures.value c.prolog-prolog.ensures c.requires
