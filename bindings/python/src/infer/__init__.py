@@ -20,7 +20,7 @@ __all__ = [
     "FRONT", "Readable", "Source", "TYPES", "Type", "Types", "TypesError", "add_type", "application_match", "application_matchers", "archive_match",
     "archive_matchers", "audio_match", "audio_matchers", "document_match", "document_matchers", "encoding", "font_match", "font_matchers",
     "get_bytes", "get_signature_bytes", "get_type", "guess", "guess_extension", "guess_mime", "image_match", "image_matchers",
-    "is_app", "is_archive", "is_audio", "is_book", "is_document", "is_extension", "is_extension_supported", "is_font",
+    "is_app", "is_archive", "is_audio", "is_book", "is_decided", "is_document", "is_extension", "is_extension_supported", "is_font",
     "is_image", "is_mime", "is_mime_supported", "is_video", "match", "signature", "types", "verdict", "version", "video_match",
     "video_matchers",
 ]
@@ -168,6 +168,12 @@ def verdict(obj: Source) -> tuple[Type | None, bool]:
         return guess(front), False
     row, is_final = _library.verdict(front)
     return _rows[row] if row >= 0 else None, is_final
+
+
+def is_decided(obj: Source) -> bool:
+    """Whether no bytes that may follow can change what `guess` answers, told exactly. With added types that is never said."""
+    front = get_bytes(obj)
+    return types[0] is _rows[0] and _library.is_decided(front, len(front))
 
 
 def get_type(mime: str | None = None, ext: str | None = None, more: bool = False) -> Type | None:

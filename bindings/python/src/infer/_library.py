@@ -34,6 +34,7 @@ _AskByText = Callable[[bytes, int, bytes, int], bool]
 position: Callable[[bytes, int], int] = _declare("infer_position", _ROW, _BUFFER, _SIZE)
 more_position: Callable[[bytes, int], int] = _declare("infer_more_position", _ROW, _BUFFER, _SIZE)
 accepts: Callable[[bytes, int, int], bool] = _declare("infer_accepts", ctypes.c_bool, _BUFFER, _SIZE, _ROW)
+is_decided: _Ask = _declare("infer_is_decided", ctypes.c_bool, _BUFFER, _SIZE)
 is_: _AskByText = _declare("infer_is", ctypes.c_bool, _BUFFER, _SIZE, _BUFFER, _SIZE)
 is_mime: _AskByText = _declare("infer_is_mime", ctypes.c_bool, _BUFFER, _SIZE, _BUFFER, _SIZE)
 is_supported: _Ask = _declare("infer_is_supported", ctypes.c_bool, _BUFFER, _SIZE)
