@@ -3,9 +3,11 @@ from __future__ import annotations
 
 import atexit
 import contextlib
+import functools
 import glob
 import os
 import re
+import shlex
 import shutil
 import signal
 import socket
@@ -73,8 +75,9 @@ def of_debian(package: str, path: str) -> str:
     raise unittest.SkipTest(f"no {path} is here, and apt-get brings no {package}")
 
 
+@functools.cache
 def h11() -> str:
-    """A folder of the test in which the module is that reads HTTP for the static server."""
+    """A folder of the test in which the module is that reads HTTP for the example servers."""
     place = folder()
     os.symlink(of_debian("python3-h11", "/usr/lib/python3/dist-packages/h11"), f"{place}/h11")
     return place
@@ -96,6 +99,21 @@ def shared_library() -> str:
         subprocess.run([f"{ROOT}/c/install", prefix], check=True, stdout=subprocess.DEVNULL)
         os.environ["INFER_LIBRARY"] = f"{prefix}/lib/libinfer.so"
     return os.environ["INFER_LIBRARY"]
+
+
+def environment(*modules: str) -> dict[str, str]:
+    """What an example in Python needs: the library, its binding, and modules beside those that examples share."""
+    return os.environ | {"INFER_LIBRARY": shared_library(), "PYTHONPATH": ":".join([f"{ROOT}/bindings/python/src", f"{ROOT}/examples", *modules])}
+
+
+def started(readme: str, *modules: str) -> tuple[list[str], dict[str, str]]:
+    """The words of the command that starts an example in Python by its README, from python3 on, and its environment, to be
+    run at the top of the repository."""
+    words = shlex.split(command_in(readme, "PYTHONPATH="))
+    place = words.index("python3")
+    named = dict(word.split("=", 1) for word in words[:place])
+    assert {"PYTHONPATH"} <= {*named} <= {"PYTHONPATH", "INFER_LIBRARY"}, named
+    return [sys.executable, *words[place + 1 :]], environment() | {"PYTHONPATH": ":".join([named["PYTHONPATH"], *modules])}
 
 
 @contextlib.contextmanager
@@ -136,6 +154,12 @@ def cpu_seconds(process: subprocess.Popen[bytes]) -> float:
     with open(f"/proc/{process.pid}/stat", encoding="ascii") as file:
         words = file.read().rpartition(")")[2].split()
     return (int(words[11]) + int(words[12])) / os.sysconf("SC_CLK_TCK")
+
+
+def largest(process: subprocess.Popen[bytes]) -> int:
+    """The most memory that a process has had, in bytes."""
+    with open(f"/proc/{process.pid}/status", encoding="ascii") as file:
+        return 1024 * int(re.findall(r"^VmHWM:\s+([0-9]+) kB$", file.read(), re.MULTILINE)[0])
 
 
 def descriptors(process: subprocess.Popen[bytes]) -> int:
@@ -234,8 +258,12 @@ def further_vectors() -> list[tuple[str, bytes, Row | None, str]]:
 
 def command_in(readme: str, begins: str) -> str:
     """The first command of a README that begins so."""
+    return next(line for line in commands_in(readme) if line.startswith(begins))
+
+
+def commands_in(readme: str) -> list[str]:
     with open(readme, encoding="utf-8") as lines:
-        return next(line.strip() for line in lines if line.startswith("    " + begins))
+        return [line.strip() for line in lines if line.startswith("    ")]
 
 
 def _refuse_to_wait(number: int, frame: object) -> None:

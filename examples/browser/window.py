@@ -32,7 +32,7 @@ def served() -> Iterator[str]:
     """The address of the page."""
     folder = support.folder()
     subprocess.run([f"{HERE}/fill", folder], check=True)
-    env = os.environ | {"PYTHONPATH": f"{support.ROOT}/bindings/python/src:{support.h11()}", "INFER_LIBRARY": support.shared_library()}
+    env = support.environment(support.h11())
     with support.running([sys.executable, f"{support.ROOT}/examples/static_server/static_server.py", "0", folder], env=env) as server:
         yield f"http://127.0.0.1:{support.port_of(server)}/"
 

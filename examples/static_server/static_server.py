@@ -8,32 +8,30 @@ import asyncio
 import contextlib
 import email.utils
 import errno
+import functools
 import mimetypes
 import os
 import re
-import resource
 import stat
 import sys
 import time
 import urllib.parse
-from collections.abc import Iterable, Iterator
-from http import HTTPStatus
+from collections.abc import Iterator
 from typing import BinaryIO
 
-import h11
 import infer
 from infer.aliases import BROWSER_OF, BUILT_ON, EXTENSION
+from loopback import listen, number_of
+from serving import PIECE, SHORT, Client, Refusal, Server
 
-FRONT, WHOLE, PIECE, HEAD = 8192, 1 << 20, 65536, 8192
-PLACES, SECONDS, LINGER = 200, 30, 1
-SHORT = {errno.EMFILE, errno.ENFILE, errno.ENOBUFS, errno.ENOMEM}  # the system has no more of something
+WHOLE = 1 << 20
+STATUS_OF = dict.fromkeys(SHORT, 503) | {errno.EIO: 500}
 UNKNOWN, PAGE = "application/octet-stream", "application/xhtml+xml"
 TEXTS = {"js": "text/javascript", "mjs": "text/javascript", "md": "text/markdown", "json": "application/json", "svg": "image/svg+xml",
          "xhtml": PAGE, "ics": "text/calendar"}
 TEXTS |= dict.fromkeys(["log", "conf", "cfg", "ini", "yaml", "yml", "toml", "sql"], "text/plain")
 # The system's own list is left out, so that the answers are the same on every machine.
 NAMES = mimetypes.MimeTypes(filenames=())
-CONTROLS = bytes([*range(0x09), 0x0B, *range(0x0E, 0x1B), *range(0x1C, 0x20)])
 # What no browser runs.
 SHOWN = {"image", "audio", "video", "font"}
 
@@ -56,16 +54,10 @@ def is_textual(mime_type: str) -> bool:
     return mime_type.startswith("text/") or mime_type.endswith(("xml", "json", "javascript"))
 
 
-def is_utf8(data: bytes, is_whole: bool) -> bool:
-    try:
-        data.decode("utf-8")
-    except UnicodeDecodeError as fault:
-        return not is_whole and fault.reason == "unexpected end of data"
-    return True
-
-
-def is_text(front: bytes) -> bool:
-    return is_utf8(front, len(front) < FRONT) and len(front.translate(None, CONTROLS)) == len(front)
+def is_utf8(data: bytes) -> bool:
+    with contextlib.suppress(UnicodeDecodeError):
+        return data.decode("utf-8") is not None
+    return False
 
 
 def content_type(name: str, front: bytes) -> str:
@@ -79,39 +71,13 @@ def content_type(name: str, front: bytes) -> str:
     if told is None or named == browser_type(told) or BUILT_ON.get(extension) == told.extension:
         return named
     # A text can begin as anything: a script by "#!", a page in Markdown by a tag, a note by BM as a bitmap does.
-    if is_textual(named) and is_text(front):
+    if is_textual(named) and infer.encoding(front) in ("us-ascii", "utf-8"):
         return named
     # Of a name and bytes that contradict each other neither is believed, but for a picture in another format and the like.
     return browser_type(told) if told.group in SHOWN and named.partition("/")[0] == told.group else UNKNOWN
 
 
-class Refusal(Exception):
-    """Ends a request: the status, and the headers that go with it."""
-
-    def __init__(self, status: int, *fields: tuple[str, str]) -> None:
-        super().__init__(status)
-        self.status, self.fields = status, fields
-
-
-# A page of a site whose name leads here is of that site, and is to read nothing.
-OWN_HOST = re.compile(r"(?:127\.0\.0\.1|localhost|\[::1\])(?::[0-9]+)?", re.IGNORECASE)
 TARGET = re.compile(r"/(?:[!$&-\[\]-~]|%[0-9A-Fa-f]{2})*")
-
-
-def headers_of(request: h11.Request) -> dict[str, str]:
-    """The headers of a request that is served, of which several with one name are a list."""
-    headers: dict[str, str] = {}
-    for name, value in ((name.decode(), value.decode("latin-1")) for name, value in request.headers):
-        headers[name] = f"{headers[name]}, {value}" if name in headers else value
-    if request.http_version not in (b"1.0", b"1.1") or "transfer-encoding" in headers or any("_" in name for name in headers):
-        raise Refusal(400)
-    if "host" in headers and not OWN_HOST.fullmatch(headers["host"]):
-        raise Refusal(421)
-    if "expect" in headers:
-        raise Refusal(417)
-    if request.method not in (b"GET", b"HEAD"):
-        raise Refusal(501)
-    return headers
 
 
 def names_of(target: str) -> list[bytes]:
@@ -147,7 +113,7 @@ def open_file(folder: int, target: str) -> tuple[int, os.stat_result, str]:
     try:
         file = open_below(folder, names)
     except OSError as fault:
-        raise Refusal(503 if fault.errno in SHORT else 500 if fault.errno == errno.EIO else 404) from None
+        raise Refusal(STATUS_OF.get(fault.errno, 404)) from None
     state = os.fstat(file)
     if stat.S_ISREG(state.st_mode):
         return file, state, os.fsdecode(names[-1])
@@ -155,7 +121,7 @@ def open_file(folder: int, target: str) -> tuple[int, os.stat_result, str]:
     if is_folder or not stat.S_ISDIR(state.st_mode):
         raise Refusal(404)
     path, mark, query = target.partition("?")
-    raise Refusal(301, ("Location", path + "/" + mark + query))
+    raise Refusal(301, "", ("Location", path + "/" + mark + query))
 
 
 def is_listed(tag: str, listed: str) -> bool:
@@ -182,10 +148,10 @@ def is_known(headers: dict[str, str], tag: str, modified: str) -> bool:
 
 def type_fields(file: BinaryIO, name: str, size: int) -> list[tuple[str, str]]:
     """The headers that say what a file is. A charset is said of a text that was looked at as a whole."""
-    front = file.read(FRONT)
+    front = file.read(infer.FRONT)
     mime_type = content_type(name, front)
     is_short_text = is_textual(mime_type) and size <= WHOLE
-    charset = "; charset=utf-8" if is_short_text and is_utf8(front + file.read(WHOLE), is_whole=True) else ""
+    charset = "; charset=utf-8" if is_short_text and is_utf8(front + file.read(WHOLE)) else ""
     fields = [("Content-Type", mime_type + charset)]
     # An image in SVG that is opened by itself is a page, whose scripts this stops.
     return fields + [("Content-Security-Policy", "sandbox")] if mime_type.endswith("xml") and mime_type != PAGE else fields
@@ -200,7 +166,7 @@ def span_of(value: str, size: int) -> tuple[int, int]:
     begin = int(first) if first else max(0, size - int(last))
     end = min(size, int(last) + 1) if first and last else size
     if begin >= end:
-        raise Refusal(416, ("Content-Range", f"bytes */{size}"))
+        raise Refusal(416, "", ("Content-Range", f"bytes */{size}"))
     return begin, end
 
 
@@ -212,141 +178,36 @@ def pieces(file: BinaryIO, begin: int, end: int) -> Iterator[bytes]:
         begin += len(piece)
 
 
-class Client:
-    """A connection, on which h11 reads what requests say, and writes the answers."""
-
-    def __init__(self, server: Server, reader: asyncio.StreamReader, writer: asyncio.StreamWriter) -> None:
-        self.server, self.reader, self.writer = server, reader, writer
-        self.http = h11.Connection(h11.SERVER, max_incomplete_event_size=HEAD)
-        writer.transport.set_write_buffer_limits(0)  # so that what was drained is with the system
-
-    async def next_event(self) -> object:
-        while (event := self.http.next_event()) is h11.NEED_DATA:
-            self.http.receive_data(await self.reader.read(HEAD))
-        return event
-
-    async def next_request(self) -> h11.Request | None:
-        """The next request, or None at the end."""
-        try:
-            event = await asyncio.wait_for(self.next_event(), self.server.seconds)
-        except asyncio.TimeoutError:
-            if self.http.trailing_data[0]:
-                raise Refusal(408) from None
-            return None
-        return event if isinstance(event, h11.Request) else None
-
-    async def send(self, status: int, fields: list[tuple[str, str]], body: Iterable[bytes] = ()) -> None:
-        fields += [("Date", email.utils.formatdate(usegmt=True)), ("X-Content-Type-Options", "nosniff")]
-        self.writer.write(self.http.send(h11.Response(status_code=status, headers=fields, reason=HTTPStatus(status).phrase)))
-        for piece in body:
-            self.writer.write(self.http.send(h11.Data(data=piece)))
-            await asyncio.wait_for(self.writer.drain(), self.server.seconds)
-            self.server.moved(self.writer)
-        self.writer.write(self.http.send(h11.EndOfMessage()))
-        await asyncio.wait_for(self.writer.drain(), self.server.seconds)
-
-    async def send_file(self, request: h11.Request) -> None:
-        headers = headers_of(request)
-        # What a body holds could be taken for a second request.
-        if not isinstance(self.http.next_event(), h11.EndOfMessage):
-            raise Refusal(400)
-        fd, state, name = open_file(self.server.folder, request.target.decode())
-        with open(fd, "rb", buffering=0) as file:
-            size, tag = state.st_size, f'"{state.st_ino:x}-{state.st_mtime_ns:x}-{state.st_size:x}"'
-            modified = email.utils.formatdate(min(max(state.st_mtime, 0), time.time()), usegmt=True)
-            if is_known(headers, tag, modified):
-                return await self.send(304, [("ETag", tag)])
-            # A part is sent of the file that the client has another part of.
-            is_part = request.method == b"GET" and headers.get("if-range", tag) == tag
-            begin, end = span_of(headers.get("range", ""), size) if is_part else (0, size)
-            fields = [*type_fields(file, name, size), ("Content-Length", str(end - begin)), ("Accept-Ranges", "bytes"), ("ETag", tag), ("Last-Modified", modified)]
-            if end - begin < size:
-                fields.append(("Content-Range", f"bytes {begin}-{end - 1}/{size}"))
-            await self.send(206 if end - begin < size else 200, fields, pieces(file, begin, end) if request.method == b"GET" else ())
-
-    async def refuse(self, refusal: Refusal, is_head: bool) -> None:
-        """Answers a line, and ends the connection."""
-        text = f"{refusal.status} {HTTPStatus(refusal.status).phrase}\n".encode()
-        fields = [("Content-Type", "text/plain"), ("Content-Length", str(len(text))), ("Connection", "close"), *refusal.fields]
-        await self.send(refusal.status, fields, [] if is_head else [text])
-        # If a socket is closed with bytes unread, its sender can see a reset and never the answer.
-        self.writer.write_eof()
-        self.server.moved(self.writer, is_over=True)
-        await asyncio.wait_for(self.drop(), LINGER)
-
-    async def drop(self) -> None:
-        left = WHOLE
-        while left > 0 and (piece := await self.reader.read(PIECE)):
-            left -= len(piece)
-
-    async def answer_all(self) -> None:
-        request = None
-        try:
-            while request := await self.next_request():
-                self.server.moved(self.writer)
-                await self.send_file(request)
-                if self.http.our_state is not h11.DONE:
-                    return
-                self.http.start_next_cycle()
-                request = None
-        except Refusal as refusal:
-            await self.refuse(refusal, request is not None and request.method == b"HEAD")
-        except h11.RemoteProtocolError as fault:
-            await self.refuse(Refusal(fault.error_status_hint), is_head=False)
-
-
-class Server:
-    """So many connections at most, with the time at which each last brought a request or took a piece of an answer."""
-
-    def __init__(self, folder: str, seconds: int) -> None:
-        self.folder, self.seconds = os.open(folder, os.O_PATH | os.O_DIRECTORY), seconds
-        # Each client takes two descriptors, its own and that of a file.
-        self.places = max(1, min(PLACES, resource.getrlimit(resource.RLIMIT_NOFILE)[0] // 2 - 16))
-        self.clients: dict[asyncio.StreamWriter, float] = {}
-
-    def moved(self, writer: asyncio.StreamWriter, is_over: bool = False) -> None:
-        """A client whose connection is over goes before all others."""
-        if writer in self.clients:
-            self.clients[writer] = 0 if is_over else time.monotonic()
-
-    async def serve(self, reader: asyncio.StreamReader, writer: asyncio.StreamWriter) -> None:
-        if len(self.clients) >= self.places:
-            silent = min(self.clients, key=self.clients.__getitem__)
-            del self.clients[silent]
-            silent.transport.abort()
-        self.clients[writer] = time.monotonic()
-        try:
-            await Client(self, reader, writer).answer_all()
-        except (OSError, asyncio.TimeoutError, h11.LocalProtocolError):
-            pass  # a client that leaves or takes nothing, or a file that became shorter
-        finally:
-            self.clients.pop(writer, None)
-            writer.transport.abort()
-
-
-def tell(loop: asyncio.AbstractEventLoop, about: dict[str, object]) -> None:
-    """Prints a fault of this program. A client that leaves is none, and after a lack of descriptors asyncio tries again."""
-    if not isinstance(about.get("exception"), OSError):
-        loop.default_exception_handler(about)
-
-
-async def run(port: int, folder: str, seconds: int) -> None:
-    asyncio.get_running_loop().set_exception_handler(tell)
-    listening = await asyncio.start_server(Server(folder, seconds).serve, "127.0.0.1", port)
-    print(f"listening on 127.0.0.1:{listening.sockets[0].getsockname()[1]}", flush=True)
-    await listening.serve_forever()
-
-
-def number_of(word: str, most: int) -> int:
-    """The number that a word of digits says, or -1."""
-    return int(word) if re.fullmatch("[0-9]{1,9}", word) and int(word) <= most else -1
+async def answer(folder: int, client: Client) -> None:
+    headers, is_get = client.headers, client.method == "GET"
+    if "expect" in headers:
+        raise Refusal(417)
+    if not is_get and client.method != "HEAD":
+        raise Refusal(501)
+    # What a body holds could be taken for a second request.
+    if headers.get("content-length", "0") != "0":
+        raise Refusal(400)
+    fd, state, name = open_file(folder, client.target)
+    with open(fd, "rb", buffering=0) as file:
+        size, tag = state.st_size, f'"{state.st_ino:x}-{state.st_mtime_ns:x}-{state.st_size:x}"'
+        modified = email.utils.formatdate(min(max(state.st_mtime, 0), time.time()), usegmt=True)
+        if is_known(headers, tag, modified):
+            return await client.send(304, [("ETag", tag)])
+        # A part is sent of the file that the client has another part of.
+        is_part = is_get and headers.get("if-range", tag) == tag
+        begin, end = span_of(headers.get("range", ""), size) if is_part else (0, size)
+        fields = [*type_fields(file, name, size), ("Content-Length", str(end - begin)), ("Accept-Ranges", "bytes"), ("ETag", tag), ("Last-Modified", modified)]
+        if end - begin < size:
+            fields.append(("Content-Range", f"bytes {begin}-{end - 1}/{size}"))
+        await client.send(206 if end - begin < size else 200, fields, pieces(file, begin, end) if is_get else ())
 
 
 def main() -> None:
-    port, folder, seconds = (*sys.argv[1:], str(SECONDS))[:3] if 3 <= len(sys.argv) <= 4 else ("", "", "")
+    port, folder, seconds = (*sys.argv[1:], "30")[:3] if 3 <= len(sys.argv) <= 4 else ("", "", "")
     if number_of(port, 65535) < 0 or number_of(seconds, 86400) < 1 or not os.path.isdir(folder):
         sys.exit("usage: static_server.py PORT FOLDER [SECONDS]")
-    asyncio.run(run(int(port), folder, int(seconds)))
+    top = os.open(folder, os.O_PATH | os.O_DIRECTORY)
+    asyncio.run(Server(functools.partial(answer, top), int(seconds)).run(listen(int(port))))
 
 
 if __name__ == "__main__":

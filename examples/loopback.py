@@ -1,0 +1,44 @@
+"""What the example servers share: the words that start them, where they listen, and what they print."""
+from __future__ import annotations
+
+import os
+import re
+import select
+import socket
+
+
+def number_of(word: str, most: int) -> int:
+    """The number that a word of digits says, or -1."""
+    return int(word) if re.fullmatch("[0-9]{1,9}", word) and int(word) <= most else -1
+
+
+def listen(port: int) -> socket.socket:
+    """A socket that listens on the loopback."""
+    # No connection gets the number of a standard descriptor that is closed, or lines would be sent over it.
+    while os.open("/dev/null", os.O_RDWR) <= 2:
+        pass
+    it = socket.create_server(("127.0.0.1", port), backlog=256)
+    it.setblocking(False)
+    return it
+
+
+def announce(listening: socket.socket) -> None:
+    print(f"listening on 127.0.0.1:{listening.getsockname()[1]}", flush=True)
+
+
+class Lines:
+    """Lines on standard output. For one without room nobody waits: it is dropped and counted."""
+
+    def __init__(self) -> None:
+        self.lost, self.room = 0, select.poll()
+        self.room.register(1, select.POLLOUT)
+
+    def tell(self, line: str) -> None:
+        before = f"{self.lost} lines dropped\n" if self.lost else ""
+        self.lost = 0 if self.is_written(f"{before}{line}\n".encode()) else self.lost + 1
+
+    def is_written(self, text: bytes) -> bool:
+        try:
+            return bool(self.room.poll(0)) and os.write(1, text) == len(text)
+        except OSError:
+            return False

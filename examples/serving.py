@@ -1,0 +1,165 @@
+"""HTTP for the example servers. h11 reads and writes it; what stands here are bounds on time, size and places."""
+from __future__ import annotations
+
+import asyncio
+import email.utils
+import errno
+import re
+import resource
+import socket
+from collections import OrderedDict
+from collections.abc import AsyncIterator, Awaitable, Callable, Iterable
+from http import HTTPStatus
+
+import h11
+from loopback import announce
+
+SHORT = {errno.EMFILE, errno.ENFILE, errno.ENOBUFS, errno.ENOMEM, errno.EAGAIN}  # the system has no more of something
+PIECE, HEAD, PLACES, LINGER, DROPPED = 65536, 8192, 200, 2, 16 << 20
+# Heads of any other form, or with one of these headers twice or of two values, two servers could read in two ways.
+PLAIN = re.compile(rb"[A-Za-z]+ [!-~]+ HTTP/1\.[01]\r\n(?:[-0-9A-Za-z]+:[\t -~\x80-\xff]*\r\n)*\r\n")
+DOUBLE = re.compile(rb"\n(content-length|content-type|host):(?s:.*)\n\1:|\ncontent-(?:length|type):.*,", re.IGNORECASE)
+# A page of a site whose name leads here is of that site, and is to read and put nothing.
+OWN_HOST = re.compile(r"(?:127\.0\.0\.1|localhost|\[::1\])(?::[0-9]+)?", re.IGNORECASE)
+
+
+class Refusal(Exception):
+    """Ends a request and its connection: the status, why if the standard's words do not say it, and headers beside them."""
+
+    def __init__(self, status: int, why: str = "", *fields: tuple[str, str]) -> None:
+        super().__init__(status)
+        self.status, self.why, self.fields = status, why, fields
+
+
+class Client:
+    """A connection, with the request that is to be answered. Of headers with one name it has a list."""
+
+    def __init__(self, server: Server, reader: asyncio.StreamReader, writer: asyncio.StreamWriter) -> None:
+        self.server, self.reader, self.writer, self.http = server, reader, writer, h11.Connection(h11.SERVER)
+        writer.transport.set_write_buffer_limits(0)  # so that what was drained is with the system
+
+    async def read_head(self) -> bytes:
+        self.begun = await self.reader.read(1)
+        return self.begun and self.begun + await self.reader.readuntil(b"\r\n\r\n")
+
+    async def takes_request(self) -> bool:
+        """Whether there is another request, which is taken."""
+        self.method, self.target, self.headers, self.begun = "", "", dict[str, str](), b""
+        try:
+            head = await asyncio.wait_for(self.read_head(), self.server.seconds)
+        except asyncio.TimeoutError:
+            if self.begun:
+                raise Refusal(408) from None
+            return False
+        except (asyncio.IncompleteReadError, asyncio.LimitOverrunError) as fault:
+            raise Refusal(431 if isinstance(fault, asyncio.LimitOverrunError) else 400) from None
+        if head:
+            self.read(head)
+            self.server.moved(self.writer)
+        return bool(head)
+
+    def read(self, head: bytes) -> None:
+        if not PLAIN.fullmatch(head) or DOUBLE.search(head):
+            raise Refusal(400)
+        self.http.receive_data(head)
+        try:
+            request = self.http.next_event()
+        except ValueError:  # a length of more digits than Python reads
+            raise Refusal(413) from None
+        self.method, self.target = request.method.decode(), request.target.decode()
+        for name, value in ((name.decode(), value.decode("latin-1")) for name, value in request.headers):
+            self.headers[name] = f"{self.headers[name]}, {value}" if name in self.headers else value
+        if "transfer-encoding" in self.headers:
+            raise Refusal(501)
+        if not OWN_HOST.fullmatch(self.headers.get("host", "localhost")):
+            raise Refusal(421)
+
+    async def body(self) -> AsyncIterator[bytes]:
+        """The pieces of the request's body. A sender that waits for leave to send it is given leave."""
+        if self.http.they_are_waiting_for_100_continue:
+            self.writer.write(self.http.send(h11.InformationalResponse(status_code=100, headers=[], reason="Continue")))
+        while not isinstance(event := self.http.next_event(), h11.EndOfMessage):
+            if event is h11.NEED_DATA:
+                self.http.receive_data(await self.reader.read(PIECE))
+                self.server.moved(self.writer)
+            else:
+                yield event.data
+
+    async def send(self, status: int, fields: Iterable[tuple[str, str]], body: Iterable[bytes] = ()) -> None:
+        fields = [*fields, ("Date", email.utils.formatdate(usegmt=True)), ("X-Content-Type-Options", "nosniff")]
+        self.writer.write(self.http.send(h11.Response(status_code=status, headers=fields, reason=HTTPStatus(status).phrase)))
+        for piece in body:
+            self.writer.write(self.http.send(h11.Data(data=piece)))
+            await asyncio.wait_for(self.writer.drain(), self.server.seconds)
+            self.server.moved(self.writer)
+        self.writer.write(self.http.send(h11.EndOfMessage()))
+        await asyncio.wait_for(self.writer.drain(), self.server.seconds)
+
+    async def end(self, status: int, why: str = "", *fields: tuple[str, str]) -> None:
+        """Answers a line, and ends the connection."""
+        line = f"{status} {why or HTTPStatus(status).phrase}"
+        self.server.tell(line)
+        fields = (("Content-Type", "text/plain"), ("Content-Length", str(len(line) + 1)), ("Connection", "close"), *fields)
+        await self.send(status, fields, [] if self.method == "HEAD" else [line.encode() + b"\n"])
+        # If a socket is closed with bytes unread, its sender can see a reset and never the answer.
+        self.writer.write_eof()
+        self.server.moved(self.writer, is_over=True)
+        await asyncio.wait_for(self.drop(), LINGER)
+
+    async def drop(self) -> None:
+        left = DROPPED
+        while left > 0 and (piece := await self.reader.read(PIECE)):
+            left -= len(piece)
+
+    async def answer_all(self) -> None:
+        try:
+            while await self.takes_request():
+                await self.server.answer(self)
+                if self.http.our_state is not h11.DONE:
+                    return
+                async for _ in self.body():
+                    pass
+                self.http.start_next_cycle()
+        except Refusal as it:
+            await self.end(it.status, it.why, *it.fields)
+        except h11.RemoteProtocolError as fault:
+            await self.end(fault.error_status_hint)
+
+
+class Server:
+    """So many connections at most, in the order in which they last brought a request or a piece, or took one."""
+
+    def __init__(self, answer: Callable[[Client], Awaitable[None]], seconds: int, tell: Callable[[str], None] = lambda line: None) -> None:
+        self.answer, self.seconds, self.tell = answer, seconds, tell
+        # Each client takes two descriptors, its own and that of a file.
+        self.places = max(1, min(PLACES, resource.getrlimit(resource.RLIMIT_NOFILE)[0] // 2 - 16))
+        self.clients: OrderedDict[asyncio.StreamWriter, None] = OrderedDict()
+
+    def moved(self, writer: asyncio.StreamWriter, is_over: bool = False) -> None:
+        """A client whose connection is over goes before all others."""
+        if writer in self.clients:
+            self.clients.move_to_end(writer, last=not is_over)
+
+    async def serve(self, reader: asyncio.StreamReader, writer: asyncio.StreamWriter) -> None:
+        if len(self.clients) >= self.places:
+            self.clients.popitem(last=False)[0].transport.abort()
+        self.clients[writer] = None
+        try:
+            await Client(self, reader, writer).answer_all()
+        except (OSError, asyncio.TimeoutError, h11.LocalProtocolError):
+            pass  # a client that leaves or takes nothing, or a file that became shorter
+        finally:
+            self.clients.pop(writer, None)
+            writer.transport.abort()
+
+    async def run(self, listening: socket.socket) -> None:
+        asyncio.get_running_loop().set_exception_handler(report)
+        serving = await asyncio.start_server(self.serve, sock=listening, limit=HEAD)
+        announce(listening)
+        await serving.serve_forever()
+
+
+def report(loop: asyncio.AbstractEventLoop, about: dict[str, object]) -> None:
+    """Prints a fault of this program. A client that leaves is none, and after a lack of descriptors asyncio tries again."""
+    if not isinstance(about.get("exception"), OSError):
+        loop.default_exception_handler(about)

@@ -1,0 +1,114 @@
+#!/usr/bin/env python3
+"""An upload gate on the loopback: takes PUT /NAME, and keeps what a judge lets through.
+
+usage: upload_gate.py PORT FOLDER SECONDS JUDGE WORD.."""
+from __future__ import annotations
+
+import asyncio
+import errno
+import os
+import re
+import signal
+import subprocess
+import sys
+from typing import BinaryIO
+
+from loopback import Lines, listen, number_of
+from serving import SHORT, Client, Refusal, Server
+
+LARGEST = 8 << 20
+STATUS_OF = dict.fromkeys(SHORT, 503) | {errno.ECONNRESET: 400, errno.EEXIST: 409}
+# Letters, digits, "-", "_" and at most one dot between others, and no option of a program.
+NAME = re.compile(r"/(?!-)(?=.{1,100}$)([-_0-9A-Za-z]+(?:\.[-_0-9A-Za-z]+)?)")
+# As in "image/jpeg; q=1".
+CLAIM = re.compile(r"([-!#$&^_.+/0-9A-Za-z]{0,127})(?:[; \t].*)?")
+
+
+def upload_of(method: str, target: str, headers: dict[str, str]) -> tuple[str, str]:
+    """The name, and the MIME type that is claimed or nothing, of a request whose body is to be taken."""
+    name, claim = NAME.fullmatch(target), CLAIM.fullmatch(headers.get("content-type", ""))
+    if method != "PUT":
+        raise Refusal(405)
+    if not name or not claim:
+        raise Refusal(400)
+    if headers.get("expect", "100-continue").lower() != "100-continue":
+        raise Refusal(417)
+    if "content-encoding" in headers or "content-range" in headers:
+        raise Refusal(501)
+    if "content-length" not in headers:
+        raise Refusal(411)
+    if int(headers["content-length"]) > LARGEST:
+        raise Refusal(413)
+    return name[1], claim[1].lower()
+
+
+class Gate:
+    def __init__(self, folder: str, seconds: int, judge: list[str]) -> None:
+        self.folder, self.seconds, self.judge = os.open(folder, os.O_RDONLY | os.O_DIRECTORY), seconds, judge
+
+    def unnamed(self) -> BinaryIO:
+        """A file without a name: whatever ends this program, no part of it is left."""
+        return open(os.open(".", os.O_TMPFILE | os.O_RDWR, 0o644, dir_fd=self.folder), "w+b")
+
+    def says(self, words: list[str], *files: int) -> subprocess.CompletedProcess[str]:
+        return subprocess.run([*self.judge, *words], stdin=subprocess.DEVNULL, stdout=subprocess.PIPE, pass_fds=files, text=True)
+
+    async def answer(self, client: Client) -> None:
+        name, claim = upload_of(client.method, client.target, client.headers)
+        try:
+            with self.unnamed() as file:
+                await asyncio.wait_for(self.receive(client, file), self.seconds)
+                status, why = await asyncio.to_thread(self.judged, file.fileno(), name, claim)
+        except asyncio.TimeoutError:
+            raise Refusal(408) from None
+        except OSError as fault:
+            raise Refusal(STATUS_OF.get(fault.errno, 500)) from None
+        except RuntimeError:  # there is no thread
+            raise Refusal(503) from None
+        await client.end(status, why)
+
+    async def receive(self, client: Client, file: BinaryIO) -> None:
+        async for piece in client.body():
+            file.write(piece)
+        file.flush()
+
+    def judged(self, file: int, name: str, claim: str) -> tuple[int, str]:
+        """The status and the reason, after the file has got its name if it is let through."""
+        path = f"/proc/self/fd/{file}"
+        found = re.fullmatch("(201|415|422) (.*)\n", self.says([path, name, claim], file).stdout)
+        if not found:
+            raise Refusal(500)
+        if found[1] == "201":
+            self.keep(file, path, name)
+        return int(found[1]), found[2]
+
+    def keep(self, file: int, path: str, name: str) -> None:
+        """The file is on the disk before it gets its name, and the name before the sender is told. Nothing is replaced."""
+        os.fsync(file)
+        os.link(path, name, dst_dir_fd=self.folder, follow_symlinks=True)
+        try:
+            os.fsync(self.folder)
+        except OSError:
+            os.unlink(name, dir_fd=self.folder)
+            raise
+
+
+def main() -> None:
+    port, folder, seconds, *judge = sys.argv[1:] if len(sys.argv) > 5 else ("", "", "")
+    if number_of(port, 65535) < 0 or number_of(seconds, 86400) < 1:
+        print("usage: upload_gate.py PORT FOLDER SECONDS JUDGE WORD..", file=sys.stderr)
+        sys.exit(2)
+    signal.signal(signal.SIGCHLD, signal.SIG_DFL)  # or nobody would learn how a judge ended
+    try:
+        gate = Gate(folder, int(seconds), judge)
+        gate.unnamed().close()
+        if gate.says([]).returncode != 0:
+            sys.exit(2)
+        asyncio.run(Server(gate.answer, int(seconds), Lines().tell).run(listen(int(port))))
+    except OSError as fault:
+        print(f"upload_gate.py: {fault}", file=sys.stderr)
+        sys.exit(2)
+
+
+if __name__ == "__main__":
+    main()
