@@ -37,6 +37,8 @@ class Client:
     def __init__(self, server: Server, reader: asyncio.StreamReader, writer: asyncio.StreamWriter) -> None:
         self.server, self.reader, self.writer, self.http = server, reader, writer, h11.Connection(h11.SERVER)
         writer.transport.set_write_buffer_limits(0)  # so that what was drained is with the system
+        # Or the end of an answer would wait until its client tells that it has the beginning.
+        writer.get_extra_info("socket").setsockopt(socket.IPPROTO_TCP, socket.TCP_NODELAY, 1)
 
     async def read_head(self) -> bytes:
         self.begun = await self.reader.read(1)
@@ -117,8 +119,7 @@ class Client:
                 await self.server.answer(self)
                 if self.http.our_state is not h11.DONE:
                     return
-                async for _ in self.body():
-                    pass
+                self.http.next_event()  # the end of a request without a body
                 self.http.start_next_cycle()
         except Refusal as it:
             await self.end(it.status, it.why, *it.fields)

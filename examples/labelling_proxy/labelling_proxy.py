@@ -26,6 +26,7 @@ class Stream:
         self.moved, self.ended = time.monotonic(), set[socket.socket]()
         for side in (client, server):
             side.setblocking(False)
+            side.setsockopt(socket.IPPROTO_TCP, socket.TCP_NODELAY, 1)
             side.setsockopt(socket.SOL_SOCKET, socket.SO_OOBINLINE, 1)
             # A socket that is closed resets its connection, or an end of this program would tell a server that an upload is whole.
             side.setsockopt(socket.SOL_SOCKET, socket.SO_LINGER, AT_ONCE)
