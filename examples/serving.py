@@ -14,7 +14,8 @@ from http import HTTPStatus
 import h11
 from loopback import announce
 
-SHORT = {errno.EMFILE, errno.ENFILE, errno.ENOBUFS, errno.ENOMEM, errno.EAGAIN}  # the system has no more of something
+# The status if the system has no more of something.
+SHORT = dict.fromkeys((errno.EMFILE, errno.ENFILE, errno.ENOBUFS, errno.ENOMEM, errno.EAGAIN), 503)
 PIECE, HEAD, PLACES, LINGER, DROPPED = 65536, 8192, 200, 2, 16 << 20
 # Heads of any other form, or with one of these headers twice or of two values, two servers could read in two ways.
 PLAIN = re.compile(rb"[A-Za-z]+ [!-~]+ HTTP/1\.[01]\r\n(?:[-0-9A-Za-z]+:[\t -~\x80-\xff]*\r\n)*\r\n")
@@ -24,11 +25,11 @@ OWN_HOST = re.compile(r"(?:127\.0\.0\.1|localhost|\[::1\])(?::[0-9]+)?", re.IGNO
 
 
 class Refusal(Exception):
-    """Ends a request and its connection: the status, why if the standard's words do not say it, and headers beside them."""
+    """Ends a request and its connection: the status, and the headers that go with it."""
 
-    def __init__(self, status: int, why: str = "", *fields: tuple[str, str]) -> None:
+    def __init__(self, status: int, *fields: tuple[str, str]) -> None:
         super().__init__(status)
-        self.status, self.why, self.fields = status, why, fields
+        self.status, self.fields = status, fields
 
 
 class Client:
@@ -122,7 +123,7 @@ class Client:
                 self.http.next_event()  # the end of a request without a body
                 self.http.start_next_cycle()
         except Refusal as it:
-            await self.end(it.status, it.why, *it.fields)
+            await self.end(it.status, "", *it.fields)
         except h11.RemoteProtocolError as fault:
             await self.end(fault.error_status_hint)
 

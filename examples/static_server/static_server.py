@@ -25,7 +25,7 @@ from loopback import listen, number_of
 from serving import PIECE, SHORT, Client, Refusal, Server
 
 WHOLE = 1 << 20
-STATUS_OF = dict.fromkeys(SHORT, 503) | {errno.EIO: 500}
+STATUS_OF = SHORT | {errno.EIO: 500}
 UNKNOWN, PAGE = "application/octet-stream", "application/xhtml+xml"
 TEXTS = {"js": "text/javascript", "mjs": "text/javascript", "md": "text/markdown", "json": "application/json", "svg": "image/svg+xml",
          "xhtml": PAGE, "ics": "text/calendar"}
@@ -121,7 +121,7 @@ def open_file(folder: int, target: str) -> tuple[int, os.stat_result, str]:
     if is_folder or not stat.S_ISDIR(state.st_mode):
         raise Refusal(404)
     path, mark, query = target.partition("?")
-    raise Refusal(301, "", ("Location", path + "/" + mark + query))
+    raise Refusal(301, ("Location", path + "/" + mark + query))
 
 
 def is_listed(tag: str, listed: str) -> bool:
@@ -166,7 +166,7 @@ def span_of(value: str, size: int) -> tuple[int, int]:
     begin = int(first) if first else max(0, size - int(last))
     end = min(size, int(last) + 1) if first and last else size
     if begin >= end:
-        raise Refusal(416, "", ("Content-Range", f"bytes */{size}"))
+        raise Refusal(416, ("Content-Range", f"bytes */{size}"))
     return begin, end
 
 

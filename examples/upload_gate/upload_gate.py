@@ -17,7 +17,7 @@ from loopback import Lines, listen, number_of
 from serving import SHORT, Client, Refusal, Server
 
 LARGEST = 8 << 20
-STATUS_OF = dict.fromkeys(SHORT, 503) | {errno.ECONNRESET: 400, errno.EEXIST: 409}
+STATUS_OF = SHORT | {errno.ECONNRESET: 400, errno.EEXIST: 409}
 # Letters, digits, "-", "_" and at most one dot between others, and no option of a program.
 NAME = re.compile(r"/(?!-)(?=.{1,100}$)([-_0-9A-Za-z]+(?:\.[-_0-9A-Za-z]+)?)")
 # As in "image/jpeg; q=1".
