@@ -8,7 +8,6 @@ import asyncio
 import contextlib
 import email.utils
 import errno
-import functools
 import mimetypes
 import os
 import re
@@ -92,18 +91,15 @@ def names_of(target: str) -> list[bytes]:
 
 def open_below(folder: int, names: list[bytes]) -> int:
     """Opens each name from the one before it and follows no link, so that what is swapped meanwhile leads nowhere else."""
-    at = folder
+    at = os.dup(folder)
     try:
         for name in names[:-1]:
-            inner = os.open(name, os.O_PATH | os.O_DIRECTORY | os.O_NOFOLLOW, dir_fd=at)
-            if at != folder:
-                os.close(at)
-            at = inner
+            before, at = at, os.open(name, os.O_PATH | os.O_DIRECTORY | os.O_NOFOLLOW, dir_fd=at)
+            os.close(before)
         # Of a FIFO this waits for no writer, and a terminal does not become this program's.
         return os.open(names[-1], os.O_RDONLY | os.O_NOFOLLOW | os.O_NONBLOCK | os.O_NOCTTY, dir_fd=at)
     finally:
-        if at != folder:
-            os.close(at)
+        os.close(at)
 
 
 def open_file(folder: int, target: str) -> tuple[int, os.stat_result, str]:
@@ -207,7 +203,7 @@ def main() -> None:
     if number_of(port, 65535) < 0 or number_of(seconds, 86400) < 1 or not os.path.isdir(folder):
         sys.exit("usage: static_server.py PORT FOLDER [SECONDS]")
     top = os.open(folder, os.O_PATH | os.O_DIRECTORY)
-    asyncio.run(Server(functools.partial(answer, top), int(seconds)).run(listen(int(port))))
+    asyncio.run(Server(lambda client: answer(top, client), int(seconds)).run(listen(int(port))))
 
 
 if __name__ == "__main__":
