@@ -190,7 +190,7 @@ def versions():
         ("bindings/rust/infer/Cargo.toml", r'^version = "(.*?)\+infer\.\d+\.\d+\.\d+"$'),
         ("CHANGELOG.md", r"^## (\d+\.\d+\.\d+)"),
         ("bindings/rust/infer/README.md", r"`(\d+\.\d+\.\d+)\+infer"),
-        ("bindings/python/README.md", r"hoarvelt_infer-(\d+\.\d+\.\d+)-\*\.whl"),
+        ("bindings/python/README.md", r"hoarvelt-infer==(\d+\.\d+\.\d+)"),
         ("bindings/go/README.md", r"infer-go-(\d+\.\d+\.\d+)\.tar"),
         ("README.md", r"infer-tools_(\d+\.\d+\.\d+)_amd64"),
         ("bindings/javascript/README.md", r"hoarvelt-infer-(\d+\.\d+\.\d+)\.tgz"),

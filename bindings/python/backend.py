@@ -5,6 +5,7 @@ import base64
 import hashlib
 import os
 import re
+import struct
 import subprocess
 import sysconfig
 import tempfile
@@ -27,18 +28,21 @@ OLDEST_GLIBC = (2, 17)
 OLD_LIBRARIES = {"libc.so.6", "libm.so.6", "libdl.so.2", "librt.so.1", "libpthread.so.0", "libutil.so.1"}
 
 
+# The machines of ELF, by their numbers.
+MACHINES = {62: "x86_64", 183: "aarch64"}
 # What a C library of any kind has, and all that the library asks of one.
 OF_EVERY_LIBC = {"memcpy", "memmove", "memset"}
 
 
 def _library(folder: str) -> str:
-    """The library that INFER_LIBRARY names, or one of what c/build made. This one names no C library, so that it is for
-    glibc and for musl."""
+    """The library that INFER_LIBRARY names, or one that CC links of the archive that INFER_ARCHIVE names, or that c/build
+    made. This one names no C library, so that it is for glibc and for musl."""
     if "INFER_LIBRARY" in os.environ:
         return os.environ["INFER_LIBRARY"]
-    archive, names, library = os.path.join(ROOT, "c", "out", "libinfer.a"), os.path.join(folder, "names"), os.path.join(folder, "libinfer.so")
+    archive = os.environ.get("INFER_ARCHIVE") or os.path.join(ROOT, "c", "out", "libinfer.a")
+    names, library = os.path.join(folder, "names"), os.path.join(folder, "libinfer.so")
     if not os.path.exists(archive):
-        raise FileNotFoundError("no c/out/libinfer.a: run c/build first")
+        raise FileNotFoundError(f"no {archive}: run c/build first")
     with open(names, "w", encoding="ascii") as file:
         file.write("{ global: infer_*; local: *; };\n")
     safe = ["-Wl,-z,now", "-Wl,-z,relro", "-Wl,-z,noexecstack"]
@@ -47,11 +51,25 @@ def _library(folder: str) -> str:
     return library
 
 
+def _machine(library: str) -> str:
+    """The machine that the library is for, by its own head."""
+    with open(library, "rb") as file:
+        head = file.read(20)
+    if not head.startswith(b"\x7fELF") or len(head) < 20:
+        raise ValueError(f"{library} is no library of Linux")
+    [number] = struct.unpack("<H" if head[5] == 1 else ">H", head[18:20])
+    return MACHINES.get(number, f"machine_{number}")
+
+
 def _platforms(library: str) -> list[str]:
     """The platforms of the tag, by readelf: both names of manylinux2014 if the library needs no more than that has, and
-    musllinux too if it names no C library."""
-    system, _, machine = sysconfig.get_platform().partition("-")
-    plain = [f"{system}-{machine}".replace("-", "_").replace(".", "_")]
+    musllinux too if it names no C library. The machine is that of the library, which has to be the one that the wheel is made
+    for: that of this Python, unless _PYTHON_HOST_PLATFORM says another."""
+    system, _, wanted = sysconfig.get_platform().partition("-")
+    machine = _machine(library)
+    if machine != wanted:
+        raise ValueError(f"{library} is for {machine}, and the wheel for {system}-{wanted}: _PYTHON_HOST_PLATFORM=linux-{machine} makes one for it")
+    plain = [f"{system}_{machine}"]
     words = ["readelf", "--wide", "--dynamic", "--version-info", "--dyn-syms", library]
     try:
         shown = subprocess.run(words, env=os.environ | {"LC_ALL": "C"}, check=True, capture_output=True, text=True).stdout
