@@ -2,8 +2,6 @@
 package infer
 
 /*
-#cgo linux,amd64 LDFLAGS: ${SRCDIR}/libinfer_linux_amd64.a
-#cgo linux,arm64 LDFLAGS: ${SRCDIR}/libinfer_linux_arm64.a
 #include "library.h"
 
 // For an argument of the type void * Go allocates, and for one that C writes to. These have none.

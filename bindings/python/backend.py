@@ -1,18 +1,24 @@
-"""Makes the wheel for pip, without a network and without a package: the files of src/infer, the aliases and the library."""
+"""Makes the wheel for pip, without a network and without a package: the files of src/infer, the aliases and the library. In
+the repository this is what c/build made. In a source distribution it is compiled of infer_portable.c, by CC and CFLAGS."""
 from __future__ import annotations
 
 import base64
+import gzip
 import hashlib
+import io
 import os
 import re
 import struct
 import subprocess
 import sysconfig
+import tarfile
 import tempfile
 import zipfile
 
 HERE = os.path.dirname(os.path.abspath(__file__))
 ROOT = os.path.dirname(os.path.dirname(HERE))
+# What a source distribution has beside this file, and the repository elsewhere.
+PORTABLE = os.path.join(HERE, "infer_portable.c")
 NAME, VERSION = "hoarvelt_infer", "0.1.0"
 METADATA = f"""Metadata-Version: 2.1
 Name: hoarvelt-infer
@@ -34,11 +40,21 @@ MACHINES = {62: "x86_64", 183: "aarch64"}
 OF_EVERY_LIBC = {"memcpy", "memmove", "memset"}
 
 
+def _compiled(folder: str) -> str:
+    """The library by this machine's compiler of C."""
+    library = os.path.join(folder, "libinfer.so")
+    words = [os.environ.get("CC", "cc"), *os.environ.get("CFLAGS", "-O1").split(), "-shared", "-fPIC", "-I", HERE, PORTABLE, "-o", library]
+    subprocess.run(words, check=True)
+    return library
+
+
 def _library(folder: str) -> str:
     """The library that INFER_LIBRARY names, or one that CC links of the archive that INFER_ARCHIVE names, or that c/build
     made. This one names no C library, so that it is for glibc and for musl."""
     if "INFER_LIBRARY" in os.environ:
         return os.environ["INFER_LIBRARY"]
+    if os.path.exists(PORTABLE):
+        return _compiled(folder)
     archive = os.environ.get("INFER_ARCHIVE") or os.path.join(ROOT, "c", "out", "libinfer.a")
     names, library = os.path.join(folder, "names"), os.path.join(folder, "libinfer.so")
     if not os.path.exists(archive):
@@ -65,6 +81,8 @@ def _platforms(library: str) -> list[str]:
     """The platforms of the tag, by readelf: both names of manylinux2014 if the library needs no more than that has, and
     musllinux too if it names no C library. The machine is that of the library, which has to be the one that the wheel is made
     for: that of this Python, unless _PYTHON_HOST_PLATFORM says another."""
+    if os.path.exists(PORTABLE):
+        return [sysconfig.get_platform().replace("-", "_").replace(".", "_")]
     system, _, wanted = sysconfig.get_platform().partition("-")
     machine = _machine(library)
     if machine != wanted:
@@ -85,20 +103,36 @@ def _platforms(library: str) -> list[str]:
     return [f"manylinux_2_17_{machine}", f"manylinux2014_{machine}", *([f"musllinux_1_1_{machine}"] if everywhere else [])]
 
 
-def _contents(library: str, tags: list[str]) -> dict[str, bytes]:
-    """The files of the wheel by their names."""
-    source = os.path.join(HERE, "src", "infer")
-    paths = {f"infer/{name}": os.path.join(source, name) for name in sorted(os.listdir(source)) if name.endswith((".py", ".typed"))}
-    paths |= {"infer/aliases.def": os.path.join(ROOT, "aliases", "aliases.def"), "infer/libinfer.so": library}
-    paths |= {f"{NAME}-{VERSION}.dist-info/LICENSE": os.path.join(ROOT, "LICENSE")}
-    files = {}
-    for name, path in paths.items():
-        with open(path, "rb") as file:
-            files[name] = file.read()
+def _read(path: str) -> bytes:
+    with open(path, "rb") as file:
+        return file.read()
+
+
+def _metadata() -> bytes:
+    """What is said of the package, with its page as it is read away from the repository."""
+    if os.path.exists(PORTABLE):
+        return _read(os.path.join(HERE, "PKG-INFO"))
     with tempfile.TemporaryDirectory() as folder:
         subprocess.run([os.path.join(ROOT, "c", "pages"), folder, os.path.join(HERE, "README.md")], check=True)
-        with open(os.path.join(folder, "README.md"), "rb") as file:
-            files[f"{NAME}-{VERSION}.dist-info/METADATA"] = METADATA.encode() + file.read()
+        return METADATA.encode() + _read(os.path.join(folder, "README.md"))
+
+
+def _modules() -> dict[str, bytes]:
+    """The files of Python by their names."""
+    source = os.path.join(HERE, "src", "infer")
+    return {name: _read(os.path.join(source, name)) for name in sorted(os.listdir(source)) if name.endswith((".py", ".typed"))}
+
+
+def _beside(name: str, *folders: str) -> bytes:
+    """A file that stands beside this one in a source distribution, and in that folder in the repository."""
+    return _read(os.path.join(HERE, name) if os.path.exists(PORTABLE) else os.path.join(ROOT, *folders, name))
+
+
+def _contents(library: str, tags: list[str]) -> dict[str, bytes]:
+    """The files of the wheel by their names."""
+    files = {f"infer/{name}": data for name, data in _modules().items()}
+    files |= {"infer/aliases.def": _beside("aliases.def", "aliases"), "infer/libinfer.so": _read(library)}
+    files |= {f"{NAME}-{VERSION}.dist-info/LICENSE": _beside("LICENSE"), f"{NAME}-{VERSION}.dist-info/METADATA": _metadata()}
     wheel = "Wheel-Version: 1.0\nGenerator: backend.py\nRoot-Is-Purelib: false\n" + "".join(f"Tag: {tag}\n" for tag in tags)
     files[f"{NAME}-{VERSION}.dist-info/WHEEL"] = wheel.encode()
     return files
@@ -128,4 +162,20 @@ def build_wheel(wheel_directory: str, config_settings: object = None, metadata_d
 
 
 def build_sdist(sdist_directory: str, config_settings: object = None) -> str:
-    raise NotImplementedError("a wheel alone is made: the library is built by the repository")
+    """The source distribution, for platforms that no wheel is for, of what c/build made for any compiler of C."""
+    portable = os.path.join(ROOT, "c", "out", "wasm64-unknown-unknown", "infer_portable.c")
+    if not os.path.exists(portable):
+        raise FileNotFoundError(f"no {portable}: run c/build --target wasm64-unknown-unknown first")
+    files = {f"src/infer/{name}": data for name, data in _modules().items()}
+    files |= {name: _read(os.path.join(HERE, name)) for name in ("backend.py", "pyproject.toml")}
+    files |= {"infer_portable.c": _read(portable), "infer.h": _beside("infer.h", "c"), "aliases.def": _beside("aliases.def", "aliases")}
+    files |= {"LICENSE": _beside("LICENSE"), "PKG-INFO": _metadata(), "README.md": _metadata().partition(b"\n\n")[2]}
+    name = f"{NAME}-{VERSION}"
+    with open(os.path.join(sdist_directory, f"{name}.tar.gz"), "wb") as raw:
+        # The same files make the same archive, byte for byte.
+        with gzip.GzipFile("", "wb", fileobj=raw, mtime=0) as packed, tarfile.open(fileobj=packed, mode="w", format=tarfile.PAX_FORMAT) as out:
+            for path, data in sorted(files.items()):
+                entry = tarfile.TarInfo(f"{name}/{path}")
+                entry.size, entry.mode = len(data), 0o644
+                out.addfile(entry, io.BytesIO(data))
+    return f"{name}.tar.gz"

@@ -1,0 +1,148 @@
+/* Prints a sum of all that the library says of its rows, and of so many buffers, a hundred a line: samples that are cut,
+ * spoiled and joined, texts and chance. Two builds of one library print the same, whatever the machine.
+ * usage: told COUNT */
+#include "infer.h"
+#include <inttypes.h>
+#include <stdio.h>
+#include <stdlib.h>
+#include <string.h>
+
+enum { ROOM = 70000, BLOCK = 100, EVERY = 7 };
+static const char types[] = "qoi image/qoi image - 14: @0 \"qoif\"\nown text/x-own text xml 6: @0 \"<?xml \"\nzz a/zz app - 3: @1 {01..7F} @2 00\n";
+static const char *const texts[] = {
+    "{\"a\": [1, 2.5e3, null, \"x\"]}", "<?xml version='1.0'?>\n<svg xmlns='http://www.w3.org/2000/svg'/>", "plain text\n",
+    "gr\xC3\xBC\xC3\x9F" "e \xE2\x82\xAC \xF0\x9F\x98\x80\n", "\xFF\xFE" "a", "\xEF\xBB\xBF{}", "<!DOCTYPE html><html>", "#!/bin/sh\n",
+    "qoif  image/qoi  image  -  14: @0 \"qoif\"\n",
+};
+static uint64_t state = 0x2545F4914F6CDD1D, sum;
+
+static uint64_t next(uint64_t below) {
+    state ^= state << 13;
+    state ^= state >> 7;
+    state ^= state << 17;
+    return (state >> 16) % below;
+}
+
+static void note(int64_t told) {
+    for (int shift = 0; shift < 64; shift += 8)
+        sum = (sum ^ ((uint64_t)told >> shift & 0xFF)) * UINT64_C(0x100000001B3);
+}
+
+static void note_text(const char *text) {
+    for (; *text; text++) note(*text & 0xFF);
+    note(-1);
+}
+
+/* Puts a sample, a text or chance into the buffer at a place, and gives where it ends. */
+static size_t put(unsigned char *buf, size_t at) {
+    const char *text = texts[next(sizeof texts / sizeof *texts)];
+    unsigned char *to = buf + at;
+    size_t len = strlen(text);
+    switch (next(8)) {
+    case 0: memcpy(to, text, len); return at + len;
+    case 1:
+        len = next(300);
+        for (size_t i = 0; i < len; i++) to[i] = (unsigned char)next(256);
+        return at + len;
+    case 2:
+        len = next(4) ? next(600) : next(9000);
+        memset(to, "\0 a\xFF"[next(4)], len);
+        return at + len;
+    default: return at + infer_sample((int32_t)next(infer_more_row_count()), to, INFER_SAMPLE_SIZE);
+    }
+}
+
+static size_t spoil(unsigned char *buf, size_t len) {
+    size_t at = next(len + 1), size = next(9);
+    if (at == len) return len;
+    switch (next(5)) {
+    case 0: buf[at] = (unsigned char)next(256); return len;
+    case 1: buf[at] ^= (unsigned char)(1 << next(8)); return len;
+    case 2: memset(buf + at, next(2) ? 0xFF : 0, len - at < size ? len - at : size); return len;
+    case 3:
+        size = len - at < size ? len - at : size;
+        memmove(buf + at, buf + at + size, len - at - size);
+        return len - size;
+    default: return at;
+    }
+}
+
+typedef bool test_of(const void *buf, size_t len);
+static test_of *const tests[] = {
+    infer_is_decided, infer_more_is_decided, infer_is_app, infer_is_archive, infer_is_audio, infer_is_book, infer_is_document,
+    infer_is_font, infer_is_image, infer_is_video, infer_is_coff_i386, infer_is_coff_x64, infer_is_coff_ia64,
+};
+
+static void ask_types(const char *text, size_t size, const void *buf, size_t len) {
+    char mime_type[INFER_TYPES_TEXT_SIZE], extension[INFER_TYPES_TEXT_SIZE];
+    note(infer_types_get(text, size, buf, len, mime_type, sizeof mime_type, extension, sizeof extension));
+    note_text(mime_type);
+    note_text(extension);
+    note((int64_t)infer_types_line(text, size, buf, len));
+}
+
+static void ask(const void *buf, size_t len, int32_t first) {
+    char text[INFER_TEXT_SIZE];
+    bool is_final;
+    uint32_t asked;
+    size_t line, column;
+    int32_t row = infer_position(buf, len), wider = infer_more_position(buf, len), rows = (int32_t)infer_more_row_count();
+    note(row);
+    note(wider);
+    note(infer_verdict(buf, len, &is_final) * 2 + is_final);
+    note(infer_position_counted(buf, len, &asked) + (int64_t)asked * 1000);
+    for (size_t i = 0; i < sizeof tests / sizeof *tests; i++) note(tests[i](buf, len));
+    for (int32_t i = first; i < rows; i += EVERY)
+        note(infer_accepts(buf, len, i) + 2 * infer_may_become(buf, len, i) + 4 * infer_more_may_become(buf, len, i));
+    note((int64_t)infer_encoding(buf, len, text, sizeof text));
+    note_text(text);
+    note((int64_t)infer_types_check(buf, len, &line, &column, text, sizeof text));
+    note_text(text);
+    note((int64_t)line);
+    note((int64_t)column);
+    ask_types(types, strlen(types), buf, len);
+    ask_types(buf, len, buf, len);
+    note(infer_is(buf, len, infer_extension_text(row), strlen(infer_extension_text(row))));
+    note(infer_is_mime(buf, len, infer_mime_type_text(row), strlen(infer_mime_type_text(row))));
+}
+
+static void ask_row(int32_t row) {
+    unsigned char sample[INFER_SAMPLE_SIZE];
+    char mime_type[INFER_TEXT_SIZE], extension[5], class_name[INFER_TEXT_SIZE];
+    size_t len = infer_sample(row, sample, sizeof sample);
+    note(infer_class(row));
+    note((int64_t)infer_mime_type(row, mime_type, sizeof mime_type));
+    note((int64_t)infer_extension(row, extension, sizeof extension));
+    note((int64_t)infer_class_name(infer_class(row), class_name, sizeof class_name));
+    note_text(mime_type);
+    note_text(extension);
+    note_text(class_name);
+    note_text(infer_mime_type_text(row));
+    note_text(infer_extension_text(row));
+    note_text(infer_class_name_text(infer_class(row)));
+    note(infer_is_supported(extension, strlen(extension)) + 2 * infer_is_mime_supported(mime_type, strlen(mime_type)));
+    for (size_t i = 0; i < len; i++) note(sample[i]);
+}
+
+int main(int count, char **words) {
+    static unsigned char made[ROOM];
+    long buffers = count == 2 ? atol(words[1]) : 0;
+    int32_t rows = (int32_t)infer_more_row_count();
+    char version[INFER_TEXT_SIZE];
+    infer_version(version, sizeof version);
+    for (int32_t row = -1; row <= rows; row++) ask_row(row);
+    printf("%s: %zu and %" PRId32 " rows, %016" PRIx64 "\n", version, infer_row_count(), rows, sum);
+    for (long i = 0; i < buffers; i++) {
+        size_t len = put(made, 0);
+        while (next(2) && len < ROOM / 2) len = put(made, len);
+        while (next(3)) len = spoil(made, len);
+        /* Of its own length, so that a sanitizer sees what is read behind it. */
+        unsigned char *buf = malloc(len ? len : 1);
+        if (!buf) return 2;
+        memcpy(buf, made, len);
+        ask(buf, len, (int32_t)(i % EVERY));
+        free(buf);
+        if (i % BLOCK == BLOCK - 1) printf("%ld %016" PRIx64 "\n", i + 1, sum);
+    }
+    return buffers > 0 && fflush(stdout) == 0 ? 0 : 2;
+}
