@@ -6,7 +6,10 @@ typedef uint64_t u64;
 #else
 #define stop() abort()
 #endif
-#if defined(_MSC_VER)
+#if defined(__clang__)
+/* A module need not have each instruction. */
+#pragma clang diagnostic ignored "-Wunused-function"
+#elif defined(_MSC_VER)
 /* A minus before a number without a sign, and labels that nothing jumps to. */
 #pragma warning(disable : 4102 4146)
 #endif

@@ -22,8 +22,6 @@ DEEPEST = 6
 # What an expression can read beside locals.
 MEMORY = -1
 LONGEST = 120
-# Of two truths they make a truth.
-TRUTHFUL = {"and", "or", "xor"}
 OPERATORS = {"add": "+", "sub": "-", "mul": "*", "and": "&", "or": "|", "xor": "^"}
 RELATIONS = {"eq": "==", "ne": "!=", "lt": "<", "gt": ">", "le": "<=", "ge": ">="}
 SHIFTS = {"shl": "<<", "shr_u": ">>", "shr_s": ">>"}
@@ -227,19 +225,7 @@ class Translation:
             values = self.pop(1 if word in ("clz", "ctz", "popcnt") else 2)
             self.push(f"{word}{bits}({', '.join(bare(it.text) for it in values)})", type_, *values)
         elif word in OPERATORS:
-            first, second = self.pop(2)
-            are_truths = word in TRUTHFUL and first.is_truth and second.is_truth
-            if not are_truths:
-                first, second = first.number(), second.number()
-            operator, other = OPERATORS[word], second.text
-            number = number_of(second)
-            below = self.moved(first, word, number)
-            if below is not None and below >= 0:
-                self.stack.append(self.of_stack(below))
-                return
-            if word == "add" and number is not None and number >> (int(bits) - 1):
-                operator, other = "-", constant(-number, type_).text
-            self.push(f"({first.text} {operator} {other})", type_, first, second, is_truth=are_truths)
+            self.operator(type_, word, bits)
         elif word in SHIFTS:
             self.shift(type_, word, bits)
         elif word.startswith(("extend", "wrap")):
@@ -247,21 +233,39 @@ class Translation:
             signed = re.fullmatch(r"extend(\d*)_s", word)
             self.push(f"({type_})" + (f"(int{signed[1] or 32}_t)" if signed else "") + value.text, type_, value)
         elif word == "eqz":
-            [value] = self.pop(1)
-            # Twice it asks whether the value is another.
-            if (number := number_of(value)) is not None:
-                self.stack.append(constant(int(number == 0), "u32"))
-                return
-            twice = value.text.endswith(" == 0)") and bare(value.text) != value.text
-            self.push(f"{value.text[: -len(' == 0)')]} != 0)" if twice else f"({value.text} == 0)", "u32", value, is_truth=True)
+            self.is_zero()
         else:
-            first, second = self.pop(2)
-            if first.below is not None and word in ("lt_s", "gt_s") and (number_of(second) or SMALL) < SMALL:
-                # Whether there is room on the stack: the array has it.
-                self.stack.append(constant(int(word == "gt_s"), "u32"))
-                return
-            cast = f"(int{bits}_t)" if word.endswith("_s") else ""
-            self.push(f"({cast}{first.text} {RELATIONS[word[:2]]} {cast}{second.text})", "u32", first, second, is_truth=True)
+            self.relation(word, bits)
+
+    def operator(self, type_: str, word: str, bits: str) -> None:
+        first, second = (it.number() for it in self.pop(2))
+        operator, other, number = OPERATORS[word], second.text, number_of(second)
+        below = self.moved(first, word, number)
+        if below is not None and below >= 0:
+            self.stack.append(self.of_stack(below))
+            return
+        if word == "add" and number is not None and number >> (int(bits) - 1):
+            operator, other = "-", constant(-number, type_).text
+        self.push(f"({first.text} {operator} {other})", type_, first, second)
+
+    def is_zero(self) -> None:
+        [value] = self.pop(1)
+        number = number_of(value)
+        if number is not None:
+            self.stack.append(constant(int(number == 0), "u32"))
+            return
+        # Twice it asks whether the value is another.
+        twice = value.text.endswith(" == 0)") and bare(value.text) != value.text
+        self.push(f"{value.text[: -len(' == 0)')]} != 0)" if twice else f"({value.text} == 0)", "u32", value, is_truth=True)
+
+    def relation(self, word: str, bits: str) -> None:
+        first, second = self.pop(2)
+        if first.below is not None and word in ("lt_s", "gt_s") and (number_of(second) or SMALL) < SMALL:
+            # Whether there is room on the stack: the array has it.
+            self.stack.append(constant(int(word == "gt_s"), "u32"))
+            return
+        cast = f"(int{bits}_t)" if word.endswith("_s") else ""
+        self.push(f"({cast}{first.text} {RELATIONS[word[:2]]} {cast}{second.text})", "u32", first, second, is_truth=True)
 
     def moved(self, value: Value, word: str, by: int | None) -> int | None:
         """How far below the stack's pointer the value is that is so much less or more, if it is known."""
