@@ -1,11 +1,10 @@
 /* Hands every function buffers that end at a page which may not be touched, and text buffers of every small size with
  * a watched byte on both sides. A read or write outside ends the program by a signal; a wrong answer is counted. */
 #define _DEFAULT_SOURCE
+#include "guarded.h"
 #include "infer.h"
 #include <stdio.h>
 #include <string.h>
-#include <sys/mman.h>
-#include <unistd.h>
 
 enum { ROOM = 16384, ROUNDS = 20000 };
 static unsigned char *end; /* of the room, right before the page that may not be touched */
@@ -135,10 +134,9 @@ static void write_samples(int32_t row) {
 int main(void) {
     const int32_t last = (int32_t)infer_more_row_count() - 1;
     const int32_t numbers[] = {INT32_MIN, INT32_MIN + 1, -2, -1, last + 1, last + 2, 255, 256, 65536, INT32_MAX - 1, INT32_MAX};
-    size_t page = (size_t)sysconf(_SC_PAGESIZE);
-    unsigned char *room = mmap(NULL, ROOM + 2 * page, PROT_READ | PROT_WRITE, MAP_PRIVATE | MAP_ANONYMOUS, -1, 0);
-    if (room == MAP_FAILED || mprotect(room + page + ROOM, page, PROT_NONE) != 0) return perror("hostile"), 2;
-    end = room + page + ROOM;
+    unsigned char *room = guarded(whole_pages(ROOM));
+    if (!room) return perror("hostile"), 2;
+    end = room + whole_pages(ROOM);
     for (int i = 0; i < ROUNDS; i++)
         ask_some();
     for (int32_t row = 0; row <= last; row++) {

@@ -2,11 +2,16 @@
  * and lengths, counts and offsets of every size. Each buffer ends at a page that may not be touched, and each answer is
  * the one that the definition says by hand. One that takes more than a minute ends the program by a signal. */
 #define _DEFAULT_SOURCE
+#include "guarded.h"
 #include "infer.h"
 #include <stdio.h>
 #include <string.h>
-#include <sys/mman.h>
+#ifdef _WIN32
+/* There the test as a whole has a limit of time. */
+#define alarm(seconds) (void)(seconds)
+#else
 #include <unistd.h>
+#endif
 
 enum { MILLION = 1000000, ROOM = 10 * MILLION + 4096 };
 static unsigned char *end; /* of the room, right before the page that may not be touched */
@@ -153,10 +158,9 @@ static void chunks(void) {
 }
 
 int main(void) {
-    size_t page = (size_t)sysconf(_SC_PAGESIZE), room = (ROOM + page - 1) / page * page;
-    unsigned char *at = mmap(NULL, room + page, PROT_READ | PROT_WRITE, MAP_PRIVATE | MAP_ANONYMOUS, -1, 0);
-    if (at == MAP_FAILED || mprotect(at + room, page, PROT_NONE) != 0) return perror("inside"), 2;
-    end = at + room;
+    unsigned char *room = guarded(whole_pages(ROOM));
+    if (!room) return perror("inside"), 2;
+    end = room + whole_pages(ROOM);
     texts();
     archives();
     tables();

@@ -34,8 +34,12 @@ OLDEST_GLIBC = (2, 17)
 OLD_LIBRARIES = {"libc.so.6", "libm.so.6", "libdl.so.2", "librt.so.1", "libpthread.so.0", "libutil.so.1"}
 
 
-# The machines of ELF, by their numbers.
-MACHINES = {62: "x86_64", 183: "aarch64"}
+# The system and the machine of a library, by the numbers of ELF, of a DLL and of Mach-O.
+OF_ELF = {62: ("linux", "x86_64"), 183: ("linux", "aarch64")}
+OF_DLL = {0x8664: ("win", "amd64"), 0xAA64: ("win", "arm64")}
+OF_MACHO = {0x01000007: ("macosx", "x86_64"), 0x0100000C: ("macosx", "arm64")}
+# What the library is named, as src/infer/_library.py looks for it.
+NAMES = {"win": "infer.dll", "macosx": "libinfer.dylib"}
 # What a C library of any kind has, and all that the library asks of one.
 OF_EVERY_LIBC = {"memcpy", "memmove", "memset"}
 
@@ -67,27 +71,42 @@ def _library(folder: str) -> str:
     return library
 
 
-def _machine(library: str) -> str:
-    """The machine that the library is for, by its own head."""
+def _machine(library: str) -> tuple[str, str]:
+    """The system and the machine that the library is for, by its own head."""
     with open(library, "rb") as file:
-        head = file.read(20)
-    if not head.startswith(b"\x7fELF") or len(head) < 20:
-        raise ValueError(f"{library} is no library of Linux")
-    [number] = struct.unpack("<H" if head[5] == 1 else ">H", head[18:20])
-    return MACHINES.get(number, f"machine_{number}")
+        data = file.read()
+    if data.startswith(b"\x7fELF") and len(data) > 20:
+        [number] = struct.unpack_from("<H" if data[5] == 1 else ">H", data, 18)
+        return OF_ELF.get(number, ("linux", f"machine_{number}"))
+    if data.startswith(b"MZ") and len(data) > 64:
+        [head] = struct.unpack_from("<I", data, 60)
+        if data[head : head + 4] == b"PE\0\0" and len(data) > head + 6:
+            [number] = struct.unpack_from("<H", data, head + 4)
+            return OF_DLL.get(number, ("win", f"machine_{number}"))
+    if data.startswith(b"\xcf\xfa\xed\xfe") and len(data) > 8:
+        [number] = struct.unpack_from("<I", data, 4)
+        return OF_MACHO.get(number, ("macosx", f"machine_{number}"))
+    raise ValueError(f"{library} is no library of Linux, Windows or macOS")
+
+
+def _wanted() -> tuple[str, str]:
+    """The system and the machine that the wheel is made for: those of this Python, or of _PYTHON_HOST_PLATFORM."""
+    system, _, rest = sysconfig.get_platform().partition("-")
+    return system, rest.rpartition("-")[2]
 
 
 def _platforms(library: str) -> list[str]:
     """The platforms of the tag, by readelf: both names of manylinux2014 if the library needs no more than that has, and
     musllinux too if it names no C library. The machine is that of the library, which has to be the one that the wheel is made
     for: that of this Python, unless _PYTHON_HOST_PLATFORM says another."""
+    plain = [sysconfig.get_platform().replace("-", "_").replace(".", "_")]
     if os.path.exists(PORTABLE):
-        return [sysconfig.get_platform().replace("-", "_").replace(".", "_")]
-    system, _, wanted = sysconfig.get_platform().partition("-")
-    machine = _machine(library)
-    if machine != wanted:
-        raise ValueError(f"{library} is for {machine}, and the wheel for {system}-{wanted}: _PYTHON_HOST_PLATFORM=linux-{machine} makes one for it")
-    plain = [f"{system}_{machine}"]
+        return plain
+    system, machine = _machine(library)
+    if (system, machine) != _wanted():
+        raise ValueError(f"{library} is for {machine} on {system}, and the wheel for {sysconfig.get_platform()}, which _PYTHON_HOST_PLATFORM can change")
+    if system != "linux":
+        return plain
     words = ["readelf", "--wide", "--dynamic", "--version-info", "--dyn-syms", library]
     try:
         shown = subprocess.run(words, env=os.environ | {"LC_ALL": "C"}, check=True, capture_output=True, text=True).stdout
@@ -96,7 +115,7 @@ def _platforms(library: str) -> list[str]:
     libraries = set(re.findall(r"\(NEEDED\).*\[(.*)\]", shown))
     versions = re.findall(r"Name: (\S+)", shown.partition("Version needs section")[2])
     found = [re.fullmatch(r"GLIBC_(\d+)\.(\d+)(?:\.\d+)?", version) for version in versions]
-    fits = system == "linux" and libraries <= OLD_LIBRARIES and all(it and (int(it[1]), int(it[2])) <= OLDEST_GLIBC for it in found)
+    fits = libraries <= OLD_LIBRARIES and all(it and (int(it[1]), int(it[2])) <= OLDEST_GLIBC for it in found)
     if not fits:
         return plain
     everywhere = not libraries and set(re.findall(r" UND (\S+)", shown)) <= OF_EVERY_LIBC
@@ -131,7 +150,7 @@ def _beside(name: str, *folders: str) -> bytes:
 def _contents(library: str, tags: list[str]) -> dict[str, bytes]:
     """The files of the wheel by their names."""
     files = {f"infer/{name}": data for name, data in _modules().items()}
-    files |= {"infer/aliases.def": _beside("aliases.def", "aliases"), "infer/libinfer.so": _read(library)}
+    files |= {"infer/aliases.def": _beside("aliases.def", "aliases"), f"infer/{NAMES.get(_wanted()[0], 'libinfer.so')}": _read(library)}
     files |= {f"{NAME}-{VERSION}.dist-info/LICENSE": _beside("LICENSE"), f"{NAME}-{VERSION}.dist-info/METADATA": _metadata()}
     wheel = "Wheel-Version: 1.0\nGenerator: backend.py\nRoot-Is-Purelib: false\n" + "".join(f"Tag: {tag}\n" for tag in tags)
     files[f"{NAME}-{VERSION}.dist-info/WHEEL"] = wheel.encode()

@@ -3,6 +3,7 @@ from __future__ import annotations
 
 import ctypes
 import os
+import sys
 from collections.abc import Callable
 from typing import Any
 
@@ -10,7 +11,8 @@ _SYSTEM_LIBRARY = "libinfer.so.0.1"
 
 
 def _load() -> ctypes.CDLL:
-    beside = os.path.join(os.path.dirname(os.path.abspath(__file__)), "libinfer.so")
+    name = {"win32": "infer.dll", "darwin": "libinfer.dylib"}.get(sys.platform, "libinfer.so")
+    beside = os.path.join(os.path.dirname(os.path.abspath(__file__)), name)
     path = os.environ.get("INFER_LIBRARY") or (beside if os.path.exists(beside) else _SYSTEM_LIBRARY)
     try:
         return ctypes.CDLL(path)
