@@ -138,20 +138,24 @@ class Translation:
         """Takes away the labels of loops that begin again by `continue` alone, and variables that nobody reads."""
         self.lines = [re.sub(r"^( *)(again\d+): ", lambda it: it[0] if it[2] in self.jumped_to else it[1], line) for line in self.lines]
         self.lines = by_words(self.lines)
-        read = collections.Counter(re.findall(r"\bt\d+\b", "\n".join(self.lines)))
-        unread = re.compile(r"^( *)const u\d+ (t\d+) = (.*)$")
-        kept = []
-        for line in self.lines:
-            found = unread.match(line)
-            if not found or read[found[2]] > 1:
-                kept.append(line)
-            elif found[3].startswith(("f_", "by_table_")):
-                kept.append(found[1] + found[3])
-        self.lines = kept
+        while (kept := self.without_unread()) != self.lines:
+            self.lines = kept
         read = set(re.findall(r"\bl\d+\b", re.sub(r"^ *l\d+ = ", "", "\n".join(self.lines), flags=re.MULTILINE)))
         of_stack = re.compile(r"^ *(l\d+) = sp( - \d+)?;$")
         self.lines = [line for line in self.lines if not (found := of_stack.match(line)) or found[1] in read]
         self.uses_stack = any(re.search(r"\bsp\b", line) for line in self.lines)
+
+    def without_unread(self) -> list[str]:
+        """The lines without those that give a value to what nobody reads. Of a call the call stays."""
+        read = collections.Counter(re.findall(r"\bt\d+\b", "\n".join(self.lines)))
+        kept = []
+        for line in self.lines:
+            found = re.match(r"( *)const u\d+ (t\d+) = (.*)$", line)
+            if not found or read[found[2]] > 1:
+                kept.append(line)
+            elif found[3].startswith(("f_", "by_table_")):
+                kept.append(found[1] + found[3])
+        return kept
 
     def only_stack_pointer(self, number: int) -> None:
         if number != self.module.stack_pointer:

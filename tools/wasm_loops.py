@@ -20,13 +20,20 @@ def expression(lines: list[str], name: str) -> str:
     return text
 
 
+def begins_at_zero(before: list[str], index: str) -> bool:
+    """Whether the variable is zero behind those lines, however they are reached: by a label it could be something else."""
+    start = f"{index} = UINT64_C(0);"
+    other = re.fullmatch(r"(l\d+) = [^;]*;", before[-1]) if before else None
+    return before[-1:] == [start] or before[-2:-1] == [start] and other is not None and other[1] != index
+
+
 def searched(before: list[str], body: list[str]) -> list[str] | None:
     """The lines in place of such a loop, whose body these are, after those lines. Nothing if it is any other loop."""
     first = re.fullmatch(r"(l\d+) = (l\d+) \+ (l\d+);", body[0])
     step = re.fullmatch(r"(l\d+) = \1 \+ UINT64_C\((\d+)\);", body[-2])
     last = re.fullmatch(r"if \((l\d+) != UINT64_C\((\d+)\)\) continue;", body[-1])
     found = re.match(r"(l\d+) = ", body[-3])
-    if not (first and step and last and found) or not first[3] == step[1] == last[1] or f"{step[1]} = UINT64_C(0);" not in before:
+    if not (first and step and last and found) or not first[3] == step[1] == last[1] or not begins_at_zero(before, step[1]):
         return None
     at, base, index, told = first[1], first[2], step[1], found[1]
     if len({at, base, index, told}) < 4 or sum(line.startswith("l") for line in body) != 3:
