@@ -9,7 +9,7 @@ import told
 from texts import kept, text_of
 
 # The crates whose contracts callers rely on.
-CONTRACTED = "infer_sig infer_deep infer infer_inside infer_more infer_sniff infer_tool infer_c infer_uses".split()
+CONTRACTED = "infer_sig infer_deep infer infer_formats infer_more infer_sniff infer_tool infer_c infer_uses".split()
 # The files of data, whose signatures no page needs to name.
 DATA = "App Archive Audio Book Font Image Odf Text Video".split()
 # Definitions that are another one with what that one asks for, or kinds of what another one takes: its examples are theirs.

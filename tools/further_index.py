@@ -101,7 +101,7 @@ TEXTS = {"JsonLines", "JsonText", "PlainText"}
 # What is told without a parent and not tried.
 TOLD = TEXTS | {"Root", "RootWith"}
 COMMON = set(b" etaoinshrdlu\n\x00\x01\xFF")
-RELATIONS = "crates/infer_inside/specs/Relation.antt"
+RELATIONS = "crates/infer_formats/specs/Relation.antt"
 # What every buffer has that fits an alternative which looks inside, where RELATIONS names other definitions, or asks for more
 # bytes than tell it.
 ZIP = {0: {0x50}, 1: {0x4B}, 2: {0x03}, 3: {0x04}}

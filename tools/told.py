@@ -308,8 +308,8 @@ def check_clauses(page):
 
 # The crates that a crate's names may come from.
 BELOW = {
-    "infer": ["infer", "infer_sig", "infer_deep"], "infer_more": ["infer_more", "infer_inside"], "infer_sniff": ["infer_sniff"],
-    "infer_uses": ["infer_uses"], "infer_sig": ["infer_sig", "infer_deep"], "infer_deep": ["infer_deep"], "infer_inside": ["infer_inside"],
+    "infer": ["infer", "infer_sig", "infer_deep"], "infer_more": ["infer_more", "infer_formats"], "infer_sniff": ["infer_sniff"],
+    "infer_uses": ["infer_uses"], "infer_sig": ["infer_sig", "infer_deep"], "infer_deep": ["infer_deep"], "infer_formats": ["infer_formats"],
 }
 
 

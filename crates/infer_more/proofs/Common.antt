@@ -46,25 +46,25 @@ pub use Rattle.infer_deep.specs.Find.{OccursAt}
 unfoldable pub use Rattle.infer_deep.specs.Numbers.{be32, le16, le32}
 pub use Rattle.infer_deep.specs.Office.{zip_header}
 pub use Rattle.infer_deep.specs.Signatures.{Lasts, MayBecome}
-pub use Rattle.infer_inside.proofs.GrowthLemmas.{there}
-pub use Rattle.infer_inside.specs.Json.{CanBe, IsJson, IsJsonLines, Stands}
-pub use Rattle.infer_inside.specs.Laws.{HasBracket}
-pub use Rattle.infer_inside.specs.Markup.{BeginsElement, HasRoot, IsRootElement, IsXmlSpace}
-unfoldable pub use Rattle.infer_inside.specs.Numbers.{be16}
-pub use Rattle.infer_inside.specs.Open.{Stays}
-pub use Rattle.infer_inside.specs.Png.{here}
-pub use Rattle.infer_inside.specs.Script.{IsProgram}
-pub use Rattle.infer_inside.specs.Subtitles.{IsDigit, IsSubRip}
-unfoldable pub use Rattle.infer_inside.specs.Tar.{header_sum}
-pub use Rattle.infer_inside.specs.Tar.{IsOctal}
-pub use Rattle.infer_inside.specs.Text.{IsBinary, IsText}
-pub use Rattle.infer_inside.specs.Zip.{HasFirstName, IsOneOf, IsPackageWith, applications}
+pub use Rattle.infer_formats.proofs.GrowthLemmas.{there}
+pub use Rattle.infer_formats.specs.Json.{CanBe, IsJson, IsJsonLines, Stands}
+pub use Rattle.infer_formats.specs.Laws.{HasBracket}
+pub use Rattle.infer_formats.specs.Markup.{BeginsElement, HasRoot, IsRootElement, IsXmlSpace}
+unfoldable pub use Rattle.infer_formats.specs.Numbers.{be16}
+pub use Rattle.infer_formats.specs.Open.{Stays}
+pub use Rattle.infer_formats.specs.Png.{here}
+pub use Rattle.infer_formats.specs.Script.{IsProgram}
+pub use Rattle.infer_formats.specs.Subtitles.{IsDigit, IsSubRip}
+unfoldable pub use Rattle.infer_formats.specs.Tar.{header_sum}
+pub use Rattle.infer_formats.specs.Tar.{IsOctal}
+pub use Rattle.infer_formats.specs.Text.{IsBinary, IsText}
+pub use Rattle.infer_formats.specs.Zip.{HasFirstName, IsOneOf, IsPackageWith, applications}
 pub use Rattle.infer_notation.specs.Alternative.{Accepted, Fits, binary_bytes, bytes, related}
-pub use Rattle.infer_inside.specs.Png.{png_header}
-pub use Rattle.infer_inside.specs.Relation.{animated, class_id, dbase, directory_tag, first_entry_ends_in}
-pub use Rattle.infer_inside.specs.Relation.{first_entry_has_extra, first_entry_is, json_lines, json_text, package_with}
-pub use Rattle.infer_inside.specs.Relation.{plain_text, program, relation_listed, root, root_with, shared_object, subrip}
-pub use Rattle.infer_inside.specs.Relation.{tar_checksum}
+pub use Rattle.infer_formats.specs.Png.{png_header}
+pub use Rattle.infer_formats.specs.Relation.{animated, class_id, dbase, directory_tag, first_entry_ends_in}
+pub use Rattle.infer_formats.specs.Relation.{first_entry_has_extra, first_entry_is, json_lines, json_text, package_with}
+pub use Rattle.infer_formats.specs.Relation.{plain_text, program, relation_listed, root, root_with, shared_object, subrip}
+pub use Rattle.infer_formats.specs.Relation.{tar_checksum}
 unfoldable pub use Rattle.infer_notation.specs.Signature.{signature_of}
 pub use Rattle.infer_notation.specs.Words.{behind_blanks}
 pub use Rattle.infer_sig.proofs.PlaceLemmas.{stands_from_occurs}

@@ -3,20 +3,20 @@
 use Rattle.infer_more.proofs.Common.{◌≡◌, ◌≢◌, ◌⊎◌, ◌≤◌, inl, inr, ℕ, zero, suc, ◌+◌, ◌-◌, ◌<◌, Bool, true, false, IsTrue, List, [], ◌∷◌, None, codes, drop, length, nat_le, refl, subst, sym, arith, ◌&&◌, ◌||◌, ◌==◌, if◌then◌else◌, not, slice_index, list_any, cases_lt, nat_tests, OccursAt, be32, le16, le32, zip_header, HasBracket, CanBe, IsJson, IsJsonLines, Stands, BeginsElement, HasRoot, IsRootElement, IsXmlSpace, be16, here, IsProgram, IsDigit, IsSubRip, IsOctal, header_sum, IsBinary, IsText, HasFirstName, IsPackageWith, accepts, fits, Known, proved, refuted, at_most, both, either, negated, proved_if, refuted_if, needs, takes, ◌>>◌, ByPlace, occurs, is_plain, lines, Accepted, Fits, related, animated, binary_bytes, bytes, class_id, dbase, directory_tag, first_entry_ends_in, first_entry_has_extra, first_entry_is, package_with, plain_text, png_header, shared_object, subrip, tar_checksum, program, root, root_with, json_lines, json_text}
 use Rattle.std.proofs.Common.{◌*◌, get_or-drop}
 use Rattle.std.specs.Prelude.{slice_range}
-use Rattle.infer_inside.specs.Dbase.{IsDbase, behind, versions}
-use Rattle.infer_inside.specs.Elf.{IsSharedObject}
-use Rattle.infer_inside.specs.Laws as Inside
-use Rattle.infer_inside.specs.Laws.{OpensElement}
-use Rattle.infer_inside.specs.Json as Json
-use Rattle.infer_inside.specs.Json.{Symbol}
-use Rattle.infer_inside.specs.Markup.{HasRootWith, IsEnclosed, IsNameByte, LeadsToTag, OpensTag, later, utf8_mark}
-use Rattle.infer_inside.specs.Markup as Markup
-use Rattle.infer_inside.specs.Script.{IsEnv, IsFirstWord, IsWord, IsWordByte}
-use Rattle.infer_inside.specs.Subtitles.{IsPairAt, IsTime}
-use Rattle.infer_inside.specs.Tar.{HasTarChecksum, octal}
-use Rattle.infer_inside.specs.Text.{IsDataByte}
-use Rattle.infer_inside.specs.Tiff.{HasTag}
-use Rattle.infer_inside.specs.Zip.{IsFolderEntry}
+use Rattle.infer_formats.specs.Dbase.{IsDbase, behind, versions}
+use Rattle.infer_formats.specs.Elf.{IsSharedObject}
+use Rattle.infer_formats.specs.Laws as Inside
+use Rattle.infer_formats.specs.Laws.{OpensElement}
+use Rattle.infer_formats.specs.Json as Json
+use Rattle.infer_formats.specs.Json.{Symbol}
+use Rattle.infer_formats.specs.Markup.{HasRootWith, IsEnclosed, IsNameByte, LeadsToTag, OpensTag, later, utf8_mark}
+use Rattle.infer_formats.specs.Markup as Markup
+use Rattle.infer_formats.specs.Script.{IsEnv, IsFirstWord, IsWord, IsWordByte}
+use Rattle.infer_formats.specs.Subtitles.{IsPairAt, IsTime}
+use Rattle.infer_formats.specs.Tar.{HasTarChecksum, octal}
+use Rattle.infer_formats.specs.Text.{IsDataByte}
+use Rattle.infer_formats.specs.Tiff.{HasTag}
+use Rattle.infer_formats.specs.Zip.{IsFolderEntry}
 use Rattle.infer.proofs.KnownLemmas.{is, same, same_text, ◌>>=◌}
 use Rattle.infer.proofs.DecisionLemmas.{known_class}
 use Rattle.infer.proofs.PlaceLemmas.{lacked, lacks}

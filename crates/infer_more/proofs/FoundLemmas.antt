@@ -3,8 +3,8 @@ use Rattle.std.proofs.lemmas.Bool.{or_cases}
 use Rattle.infer_more.proofs.Common.{◌≡◌, ◌↔◌, ℕ, zero, suc, ◌+◌, ◌<◌, ◌≤◌, ◌==◌, inl, inr, Bool, true, false, IsTrue, List, [], ◌∷◌, Option, None, Some, length, get_or, ap, sym, ◌∙◌, subst, arith, refl, ◌%◌, ◌&&◌, ◌||◌, ◌++◌, slice_index, nat_le, list_all, list_any, option_map_or, cases_lt, eqb-true, leb-true, get_or_default, slice_get_cases, Bor, IsJson, IsJsonLines, BeginsElement, IsRootElement, IsXmlSpace, there, IsProgram, IsOneOf, IsPackageWith, applications, accepts, fits, stands, StandsByPlace, IsBuffer, IsFirstOf, is_listed, NoneRefused, passed, HasTagText, IsFoundBelow, IsLeast, IsNamed, IsOfProgram, IsRootedBy, IsRooted, IsRowOf, IsTried, ascends, candidates, excepted, is_covered, is_excepted, is_plain, is_tried_parentless, is_true_below, named_row, rooted_row, tried_parentless, lines, Further, Accepted, Fits, related, json_lines, json_text, package_with, plain_text, program, root, root_with, further, Widens, WidensAt, Nothing, Except, Named, Parentless, Rooted, FURTHER_COUNT, and_from, bucket_of, class_id}
 use Rattle.std.specs.Prelude.{slice_get}
 use Rattle.infer_deep.specs.ClassId.{HasClassId}
-use Rattle.infer_inside.specs.Laws.{Leads}
-use Rattle.infer_inside.specs.Markup.{HasInTag, MayBeRooted}
+use Rattle.infer_formats.specs.Laws.{Leads}
+use Rattle.infer_formats.specs.Markup.{HasInTag, MayBeRooted}
 use Rattle.infer_sig.specs.Signature as fixed
 use Rattle.infer_more.specs.Index.{AllApplications, AreClassIds, EachBelowIsFound, EachFreeIsFound, EachIsFound, FindsAll, IsFoundFree, IsTextRow, MayBeginMarkup, are_rooted, are_texts, are_true, asks_class_id, asks_folder, asks_program, asks_root, below_at, has_named, has_rooted, is_application, is_child, is_found_below, is_found_free, is_in_class_ids, is_in_folders, is_in_programs, is_in_roots, is_json, is_lines, is_row_below, is_row_below_found, is_row_free, is_row_free_found, is_row_with, is_text_row, is_tried_below, is_tried_in, bucket_at, same, same_text}
 use Rattle.infer_notation.specs.Alternative.{Alternative}

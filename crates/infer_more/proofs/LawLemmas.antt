@@ -3,7 +3,7 @@ use Rattle.std.proofs.lemmas.Bool.{and_parts, or_cases, or_left}
 use Rattle.infer_more.proofs.Common.{◌↔◌, ℕ, ◌<◌, ◌≤◌, inl, inr, Bool, true, false, IsTrue, List, [], ◌∷◌, ◌++◌, Option, None, Some, length, get_or, arith, nat_le, refl, subst, sym, ◌≡◌, zero, suc, codes, ◌⊎◌, not, slice_index, HoldsAt, list_all, list_any, cases_lt, leb-true, nat_tests, get_or_from_slice_get, slice_get_cases, OccursAt, HasBracket, HasRoot, there, Lasts, StandsByPlace, at_least, Part, any_text, accepts, fits, has_part, stands, IsFirstOf, is_white, is_settled, AllLast, IsLost, is_dark, is_filled, is_lasting, is_plain, lines, outline, Further, Accepted, Fits, binary_bytes, bytes, related, plain_text, root, root_with, json_lines, json_text, further, Widens}
 use Rattle.std.proofs.Common.{All, slice_get}
 use Rattle.std.proofs.lemmas.List.Elements.{All-cons, All-nil, AllWithin-from_all}
-use Rattle.infer_inside.specs.Laws as Inside
+use Rattle.infer_formats.specs.Laws as Inside
 use Rattle.infer_sig.specs.Signature as fixed
 use Rattle.infer.specs.Buffer.{IsBuffer}
 use Rattle.infer_sig.specs.Signature.{text, byte}

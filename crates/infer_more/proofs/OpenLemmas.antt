@@ -5,7 +5,7 @@ use Rattle.std.proofs.Common.{length-append, take_all}
 use Rattle.std.proofs.lemmas.Bool.{or_left}
 use Rattle.std.proofs.lemmas.List.Elements.{All-append, All-cons}
 use Rattle.infer_deep.specs.Open.{AgreesAt}
-use Rattle.infer_inside.specs.Relation.{IsSound, Relation}
+use Rattle.infer_formats.specs.Relation.{IsSound, Relation}
 use Rattle.infer_more.specs.Open.{is_known}
 use Rattle.infer_more.proofs.FoundLemmas.{one_of}
 use Rattle.infer_sig.specs.Open.{MayBecomeIsExact, agrees, is_alternative_sound, is_sound, may_fit}

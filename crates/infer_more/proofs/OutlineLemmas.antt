@@ -2,7 +2,7 @@
 use Rattle.std.proofs.lemmas.Bool.{or_cases, or_left, or_right}
 use Rattle.infer_more.proofs.Common.{ℕ, zero, suc, ◌<◌, ◌≤◌, inl, inr, IsTrue, List, [], ◌∷◌, ◌++◌, length, arith, slice_index, cases_lt, accepts, fits, IsBuffer, lines, outline, Accepted, Fits, binary_bytes, bytes, related, is_plain}
 use Rattle.std.proofs.lemmas.Grind.{get_or_default_zero}
-use Rattle.infer_inside.specs.Laws.{Leads}
+use Rattle.infer_formats.specs.Laws.{Leads}
 use Rattle.infer_sig.specs.Signature as fixed
 use Rattle.infer_notation.specs.Alternative.{Alternative}
 

@@ -10,7 +10,7 @@ use Rattle.infer.specs.Table as built_in
 use Rattle.infer.specs.declared.table.rows.TheConstants.{DLL, EPUB_ARCHIVE}
 use Rattle.infer_sig.specs.Signature as fixed
 use Rattle.infer_more.specs.Samples.{AllReach, HasNoSample, has_room_after, joined_sample, prolog, row_model}
-use Rattle.infer_inside.specs.Relation.{least_of}
+use Rattle.infer_formats.specs.Relation.{least_of}
 use Rattle.infer.specs.declared.samples.TheConstants as built_in_samples
 use Rattle.infer_more.specs.declared.signature.Alternative as Listed
 use Rattle.infer_more.proofs.IndexLemmas.{both_left, both_right}

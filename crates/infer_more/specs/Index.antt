@@ -4,19 +4,19 @@ use Rattle.std.specs.List.{list_all, list_any, range_with_len}
 use Rattle.std.specs.Option.{option_map_or}
 use denote.Ref.{Bor}
 use Rattle.infer_deep.specs.ClassId.{HasClassId}
-use Rattle.infer_inside.specs.Json.{IsJson, IsJsonLines}
-use Rattle.infer_inside.specs.Markup.{HasInTag, IsRootElement, IsXmlSpace}
-use Rattle.infer_inside.specs.Script.{IsProgram}
-use Rattle.infer_inside.specs.Text.{IsText}
-use Rattle.infer_inside.specs.Zip.{IsPackageWith, applications, IsOneOf}
+use Rattle.infer_formats.specs.Json.{IsJson, IsJsonLines}
+use Rattle.infer_formats.specs.Markup.{HasInTag, IsRootElement, IsXmlSpace}
+use Rattle.infer_formats.specs.Script.{IsProgram}
+use Rattle.infer_formats.specs.Text.{IsText}
+use Rattle.infer_formats.specs.Zip.{IsPackageWith, applications, IsOneOf}
 use Rattle.infer_sig.specs.Signature as fixed
 use Rattle.infer_sig.specs.Signature.{at_least, any_of, between, all_but, Part, text, any_text, byte, allows}
 use Rattle.infer.specs.Buffer.{IsBuffer}
 use Rattle.infer.specs.Walks.{is_listed}
 use Rattle.infer_more.specs.Outline.{lines}
 use Rattle.infer_more.specs.Row.{Further}
-use Rattle.infer_inside.specs.Relation as relation
-use Rattle.infer_inside.specs.Relation.{class_id, json_lines, json_text, package_with, plain_text, program, root, root_with}
+use Rattle.infer_formats.specs.Relation as relation
+use Rattle.infer_formats.specs.Relation.{class_id, json_lines, json_text, package_with, plain_text, program, root, root_with}
 use Rattle.infer_notation.specs.Alternative.{Alternative, related}
 use Rattle.infer_more.specs.Table.{further}
 use Rattle.infer_more.specs.Wider.{WidensAt}

@@ -1,8 +1,8 @@
 -- Laws of further rows and of the wider answer.
 use Rattle.std.specs.Prelude.{◌≡◌, ◌<◌, ◌≤◌, ◌⊎◌, ◌||◌, ℕ, Bool, true, false, IfSome, IsTrue, List, [], ◌++◌, Option, None, Some, All, MatchOption, if◌then◌else◌, length, nat_le, nat_lt, not, option_map, slice_get}
 use Rattle.std.specs.List.{HoldsAt, list_all, list_any}
-use Rattle.infer_inside.specs.Relation as relation
-use Rattle.infer_inside.specs.Relation.{json_lines, json_text, root, root_with}
+use Rattle.infer_formats.specs.Relation as relation
+use Rattle.infer_formats.specs.Relation.{json_lines, json_text, root, root_with}
 use Rattle.infer_sig.specs.Signature as fixed
 use Rattle.infer_sig.specs.Signature.{at_least, Part, text, any_text, byte}
 use Rattle.infer.specs.Buffer.{IsBuffer}

@@ -1,7 +1,7 @@
 -- The further rows as the code lists them.
 use Rattle.std.specs.Prelude.{◌≡◌, ◌==◌, ℕ, Bool, true, false, List, [], ◌∷◌, ◌++◌, MatchOption, if◌then◌else◌, map, slice_get}
 use denote.Ref.{Bor}
-use Rattle.infer_inside.specs.Relation.{relation_listed}
+use Rattle.infer_formats.specs.Relation.{relation_listed}
 use Rattle.infer_sig.specs.Signature as fixed
 use Rattle.infer_sig.specs.Signature.{Part, at_least, text, byte, any_of, between}
 use Rattle.infer.specs.Triple.{triple}

@@ -1,7 +1,7 @@
 -- What is told of the bytes that may follow a buffer, alternative by alternative.
 use Rattle.std.specs.Prelude.{Bool, false, true, List, [], ◌∷◌, ◌&&◌}
 use Rattle.std.specs.List.{list_all}
-use Rattle.infer_inside.specs.Relation.{Relation, package_with}
+use Rattle.infer_formats.specs.Relation.{Relation, package_with}
 use Rattle.infer_sig.specs.Open.{is_alternative_sound}
 use Rattle.infer_more.specs.Index.{is_application}
 use Rattle.infer_more.specs.Laws.{lasts}

@@ -1,6 +1,6 @@
 -- What every buffer has that fits an alternative, as bytes at fixed places, so that the index can ask for one of them.
 use Rattle.std.specs.Prelude.{List, [], ◌∷◌, ◌++◌}
-use Rattle.infer_inside.specs.Relation as relation
+use Rattle.infer_formats.specs.Relation as relation
 use Rattle.infer_sig.specs.Signature as fixed
 use Rattle.infer_notation.specs.Alternative.{Alternative, binary_bytes, bytes, related}
 

@@ -2,8 +2,8 @@
 use Rattle.std.specs.Prelude.{◌≡◌, ◌+◌, ◌-◌, ◌/◌, ◌%◌, ◌<◌, ◌≤◌, ◌⊎◌, ◌==◌, ◌&&◌, ◌||◌, ℕ, Bool, false, List, [], ◌∷◌, ◌++◌, MatchBool, MatchOption, Option, None, Some, codes, if◌then◌else◌, length, max, nat_le, nat_lt, option_and_then, option_map, slice_get, unwrap_or}
 use Rattle.std.specs.List.{HoldsAt, list_all}
 use Rattle.std.specs.Option.{option_map_or}
-use Rattle.infer_inside.specs.Relation as relation
-use Rattle.infer_inside.specs.Relation.{least_of}
+use Rattle.infer_formats.specs.Relation as relation
+use Rattle.infer_formats.specs.Relation.{least_of}
 use Rattle.infer_sig.specs.Signature as fixed
 use Rattle.infer_sig.specs.Signature.{Part, at_least}
 use Rattle.infer.specs.First.{IsFirst}

@@ -1,6 +1,6 @@
 -- The further rows, in order. A row whose signature has no alternative accepts nothing.
 use Rattle.std.specs.Prelude.{ℕ, List, [], ◌∷◌, ◌++◌, Option, None, Some, codes}
-use Rattle.infer_inside.specs.Relation.{animated, class_id, dbase, directory_tag, first_entry_ends_in, first_entry_has_extra, first_entry_is, json_lines, json_text, package_with, plain_text, program, root, root_with, shared_object, subrip, tar_checksum}
+use Rattle.infer_formats.specs.Relation.{animated, class_id, dbase, directory_tag, first_entry_ends_in, first_entry_has_extra, first_entry_is, json_lines, json_text, package_with, plain_text, program, root, root_with, shared_object, subrip, tar_checksum}
 use Rattle.infer_sig.specs.Signature as fixed
 use Rattle.infer_sig.specs.Signature.{text, byte, any_of, between}
 use Rattle.infer.specs.Triple.{triple}

@@ -1,6 +1,6 @@
 //! What more bytes can change of a wider answer.
 ghost use Rattle.std.specs.Prelude.{◌≡◌, ◌⊎◌, IsTrue, MatchOption, length, slice_get};
-ghost use Rattle.infer_inside.specs.Open.{Stays};
+ghost use Rattle.infer_formats.specs.Open.{Stays};
 ghost use Rattle.infer_more.specs.Decided.{AsksForRelation, IsAwaited, IsDecided, IsWidenedForGood, MayBecomeAt, MayWiden, NoneMayWiden};
 ghost use Rattle.infer_more.specs.Listed.{row_listed};
 ghost use Rattle.infer_more.specs.Open.{is_row_sound};

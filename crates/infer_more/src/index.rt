@@ -239,6 +239,6 @@ fn law_finds(index: &RowIndex)
     ensures { FindsAll index.now }
 {
     let _ = index;
-    infer_inside::laws::leads();
+    infer_formats::laws::leads();
     infer_sig::laws::by_place();
 }

@@ -20,9 +20,9 @@ pub fn lasting()
     ensures lasting { AllLast }
     ensures lost { OthersAreLost }
 {
-    infer_inside::laws::growth();
+    infer_formats::laws::growth();
     infer_sig::laws::growth();
-    infer_inside::laws::single();
+    infer_formats::laws::single();
 }
 
 /// As long as the built-in answer stays, bytes after a buffer never make its first further row a later one, unless that is
@@ -38,7 +38,7 @@ pub fn index()
 pub fn blank()
     ensures { NoneIsBlank }
 {
-    infer_inside::laws::leads();
+    infer_formats::laws::leads();
     infer_sig::laws::by_place();
 }
 
@@ -57,8 +57,8 @@ pub fn reach()
     infer::laws::leads();
     infer_sig::laws::by_place();
     infer_deep::laws::apart();
-    infer_inside::laws::leads();
-    infer_inside::laws::single();
+    infer_formats::laws::leads();
+    infer_formats::laws::single();
 }
 
 /// Every sample of a further row has room for what it holds.

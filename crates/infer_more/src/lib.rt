@@ -20,7 +20,7 @@ ghost use Rattle.infer.specs.Rows.{custom_rows};
 ghost use Rattle.infer.specs.Triple.{triple_of};
 ghost use Rattle.infer.specs.Watched.{fault_of};
 ghost use Rattle.infer.specs.declared.table.rows.TheConstants.{ROW_COUNT};
-ghost use Rattle.infer_inside.specs.Text.{IsEncodingOf, IsText};
+ghost use Rattle.infer_formats.specs.Text.{IsEncodingOf, IsText};
 ghost use Rattle.infer_more.specs.Added.{IsAnswerWith};
 ghost use Rattle.infer_more.specs.Decided.{AsksForRelation, IsDecided, MayBecomeAt};
 ghost use Rattle.infer_more.specs.Ended.{ended_listed, ended_shown};
@@ -43,7 +43,7 @@ pub mod types;
 
 pub use index::FURTHER_COUNT;
 use infer::{FRONT, Fault, Infer, Type, Watched};
-pub use infer_inside::text;
+pub use infer_formats::text;
 pub use infer_notation::Reason;
 pub use samples::{SAMPLE_SIZE, sample};
 use std::alloc::Allocator;

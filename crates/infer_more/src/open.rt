@@ -1,7 +1,7 @@
 //! What the bytes after a buffer can bring a signature, and what they can take from it.
 ghost use Rattle.std.specs.Prelude.{◌≡◌, IsTrue, map};
 ghost use Rattle.infer_deep.specs.Signatures.{MayBecome};
-ghost use Rattle.infer_inside.specs.Open.{Stays};
+ghost use Rattle.infer_formats.specs.Open.{Stays};
 ghost use Rattle.infer_sig.specs.Open.{may_fit, may_have};
 ghost use Rattle.infer_more.specs.Listed.{alternative_listed, bytes_listed, part_listed, signature_listed};
 ghost use Rattle.infer_more.specs.Open.{are_fixed, are_sound, is_fixed, is_one_or_lasts, is_sound};

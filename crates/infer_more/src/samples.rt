@@ -8,7 +8,7 @@ ghost use Rattle.infer.specs.Table as built_in;
 ghost use Rattle.infer_more.specs.Listed.{alternative_listed, part_listed, row_listed};
 ghost use Rattle.infer_more.specs.Row.{is_inside};
 ghost use Rattle.infer_more.specs.Samples.{HasAnswer, HasNoSample, built_in_sample, further_sample, has_room, model, parent_sample, parts_of, prolog, sample_at, written};
-ghost use Rattle.infer_inside.specs.Relation.{least_of, model_listed};
+ghost use Rattle.infer_formats.specs.Relation.{least_of, model_listed};
 ghost use Rattle.infer_more.specs.Table.{further};
 ghost use Rattle.infer_more.specs.Wider.{AcceptsAt, IsWider};
 ghost use Rattle.infer.specs.declared.samples.TheConstants as built_in_samples;
@@ -18,7 +18,7 @@ use crate::laws;
 use crate::signature::{Alternative, Piece};
 use crate::table::{FurtherRow, row_at};
 use infer::rows::{DLL, EPUB_ARCHIVE, HTML, ROW_COUNT, XML};
-use infer_inside::model::Model;
+use infer_formats::model::Model;
 
 /// The most bytes that a sample has, with some to spare.
 pub const SAMPLE_SIZE: usize = 1088;

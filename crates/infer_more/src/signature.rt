@@ -7,8 +7,8 @@ ghost use Rattle.infer_more.specs.Row.{is_closed, is_closed_alternative, is_insi
 ghost use Rattle.infer_notation.specs.Alternative.{Accepted, Fits};
 
 use infer_deep::places::same_text;
-use infer_inside::relation::Relation;
-use infer_inside::text::is_binary;
+use infer_formats::relation::Relation;
+use infer_formats::text::is_binary;
 
 /// What a signature asks of places.
 #[derive(Drop)]

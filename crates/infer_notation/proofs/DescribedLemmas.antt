@@ -6,8 +6,8 @@ use Rattle.std.proofs.lemmas.List.{append_assoc}
 use Rattle.std.proofs.lemmas.List.Splits.{slice_split-cons_yes}
 use Rattle.std.proofs.Math.Bool.{and-false}
 use Rattle.std.proofs.lemmas.Bool.{eq-eqb}
-use Rattle.infer_inside.specs.Relation.{Relation, class_id, directory_tag, first_entry_ends_in, first_entry_has_extra, first_entry_is, package_with, program, relation_listed, root, root_with}
-use Rattle.infer_inside.specs.declared.relation.Relation as relations
+use Rattle.infer_formats.specs.Relation.{Relation, class_id, directory_tag, first_entry_ends_in, first_entry_has_extra, first_entry_is, package_with, program, relation_listed, root, root_with}
+use Rattle.infer_formats.specs.declared.relation.Relation as relations
 use Rattle.infer_notation.specs.Described.{AreBytes, Asks, AsksBytes, AsksEach, AsksFor, Describes, IsGroup, IsName, IsNameIn, IsParted, NamesRelation, a_folder, a_name, a_program, a_relation, a_tag, a_text_within, an_element, an_end, an_extra, an_id, last, nothing, other, programs}
 use Rattle.infer_notation.specs.Relations.{alone, directory_of, ending_entry, entry_of, extra_field, id_of, is_word, named_entry, or_else, package_of, program_of, root_of}
 use Rattle.infer_notation.specs.Tokens.{Token, set}

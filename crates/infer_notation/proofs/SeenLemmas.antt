@@ -5,8 +5,8 @@ use Rattle.std.proofs.Math.Bool.{and-true}
 use Rattle.std.proofs.lemmas.Bool.Decides.{Decides-or}
 use Rattle.std.proofs.lemmas.List.Folds.{list_any_at}
 use Rattle.infer_sig.specs.Signature as fixed
-use Rattle.infer_inside.specs.Relation.{Relation}
-use Rattle.infer_inside.specs.Text.{IsBinary, IsDataByte}
+use Rattle.infer_formats.specs.Relation.{Relation}
+use Rattle.infer_formats.specs.Text.{IsBinary, IsDataByte}
 use Rattle.infer_notation.specs.Alternative.{Fits, binary_bytes, bytes, related}
 use Rattle.infer_notation.specs.Fixed.{fits_asked, is_data_byte}
 use Rattle.infer_notation.specs.Tokens.{Token}

@@ -1,8 +1,8 @@
 -- What a signature asks for: alternatives, each of fixed bytes or of a relation.
 use Rattle.std.specs.Prelude.{◌⊎◌, ℕ, IsTrue, List, [], ◌∷◌}
-use Rattle.infer_inside.specs.Relation as relation
-use Rattle.infer_inside.specs.Relation.{Relation}
-use Rattle.infer_inside.specs.Text.{IsBinary}
+use Rattle.infer_formats.specs.Relation as relation
+use Rattle.infer_formats.specs.Relation.{Relation}
+use Rattle.infer_formats.specs.Text.{IsBinary}
 use Rattle.infer_sig.specs.Signature as fixed
 use Rattle.infer_sig.specs.Signature.{Part, fits}
 

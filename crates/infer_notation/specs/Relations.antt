@@ -3,8 +3,8 @@ use Rattle.std.specs.Prelude.{◌≡◌, ◌+◌, ◌*◌, ◌↔◌, ◌==◌, 
 use Rattle.std.specs.List.{slice_split}
 use Rattle.std.specs.Str.{bytes_eq}
 use denote.Ref.{Bor}
-use Rattle.infer_inside.specs.Relation.{Relation, class_id, directory_tag, first_entry_ends_in, first_entry_has_extra, first_entry_is, package_with, program, relation_listed, root, root_with}
-use Rattle.infer_inside.specs.declared.relation.Relation.TheVariants as relations
+use Rattle.infer_formats.specs.Relation.{Relation, class_id, directory_tag, first_entry_ends_in, first_entry_has_extra, first_entry_is, package_with, program, relation_listed, root, root_with}
+use Rattle.infer_formats.specs.declared.relation.Relation.TheVariants as relations
 use Rattle.infer_notation.specs.Alternative.{Accepted, Alternative, related}
 use Rattle.infer_notation.specs.Grammar.{tokens_of}
 use Rattle.infer_notation.specs.Tokens.{Token, bare, mark, quoted, set, token_listed}

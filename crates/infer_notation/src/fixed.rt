@@ -12,7 +12,7 @@ ghost use Rattle.infer_notation.specs.Words.{found_by};
 use crate::reason::Reason;
 use crate::tokens::Token;
 use crate::words::{byte, byte_with, bytes, from, number};
-use infer_inside::text::is_binary;
+use infer_formats::text::is_binary;
 
 /// What has to come next.
 #[derive(Clone, Copy)]

@@ -1,6 +1,6 @@
 //! Relations that tokens ask for, behind a name.
 ghost use Rattle.std.specs.Prelude.{◌≡◌, map, option_map};
-ghost use Rattle.infer_inside.specs.Relation.{relation_listed};
+ghost use Rattle.infer_formats.specs.Relation.{relation_listed};
 ghost use Rattle.infer_notation.specs.Relations.{alone, directory_of, ending_entry, entry_of, extra_field, id_of, is_word, item_of, marked_entry, named_entry, package_of, program_of, root_of, token_byte};
 ghost use Rattle.infer_notation.specs.Tokens.{token_listed};
 
@@ -8,7 +8,7 @@ use crate::names::{Takes, is_word};
 use crate::tokens::Token;
 use crate::tokens::Token::{Quoted, Word};
 use crate::words::{byte, byte_with};
-use infer_inside::relation::Relation;
+use infer_formats::relation::Relation;
 
 /// The relation that the tokens ask for behind a name that takes this, if they ask for one.
 pub fn read_relation<'a>(takes: Takes, tokens: &[Token<'a>]) -> Option<Relation<'a>>

@@ -5,7 +5,7 @@ ghost use Rattle.infer_notation.specs.Tokens.{token_listed};
 
 use crate::tokens::Token;
 use crate::tokens::Token::{Mark, Quoted, Set, Word};
-use infer_inside::relation::Relation;
+use infer_formats::relation::Relation;
 
 /// What stands behind the name of a relation.
 #[derive(Clone, Copy)]

@@ -7,18 +7,18 @@ use Rattle.infer_deep.specs.Office.{IsDecidingHeader, IsThirdHeader, MayDecide, 
 use Rattle.infer_deep.specs.Open.{AgreesAt}
 use Rattle.infer_deep.specs.Places.{IsFirstPlace}
 use Rattle.infer_sig.specs.Signature.{stands}
-use Rattle.infer_inside.specs.Json.{BeginsLines, BeginsText, BeginsToken, BeginsWhole, BehindBlanks, CanBe, OpensWithToken, Stands, Symbol, UpToMark, blanks, by_rule, byte, digit, items, next_line, nothing, number, one, rules, same_line, text}
-use Rattle.infer_inside.specs.Markup.{LeadsToTag, OpensTag, here, later}
-use Rattle.infer_inside.specs.Png as png
-use Rattle.infer_inside.specs.Png.{png_header}
-use Rattle.infer_inside.specs.Relation.{Fits, IsSound, animated, dbase, json_text, least_of, model, model_listed, package_with, placed_listed, plain_text, relation_listed, text_listed}
-use Rattle.infer_inside.specs.declared.model.Text.TheVariants.{One}
-use Rattle.infer_inside.specs.declared.relation.Relation.TheVariants.{Dbase, SubRip}
+use Rattle.infer_formats.specs.Json.{BeginsLines, BeginsText, BeginsToken, BeginsWhole, BehindBlanks, CanBe, OpensWithToken, Stands, Symbol, UpToMark, blanks, by_rule, byte, digit, items, next_line, nothing, number, one, rules, same_line, text}
+use Rattle.infer_formats.specs.Markup.{LeadsToTag, OpensTag, here, later}
+use Rattle.infer_formats.specs.Png as png
+use Rattle.infer_formats.specs.Png.{png_header}
+use Rattle.infer_formats.specs.Relation.{Fits, IsSound, animated, dbase, json_text, least_of, model, model_listed, package_with, placed_listed, plain_text, relation_listed, text_listed}
+use Rattle.infer_formats.specs.declared.model.Text.TheVariants.{One}
+use Rattle.infer_formats.specs.declared.relation.Relation.TheVariants.{Dbase, SubRip}
 use Rattle.infer_sig.specs.Signature as fixed
-use Rattle.infer_inside.specs.Text.{BeginsUtf8, HasEncoding}
-use Rattle.infer_inside.specs.declared.text.Encoding.TheVariants.{Utf16Le}
-use Rattle.infer_inside.proofs.JsonLemmas.{begins}
-use Rattle.infer_inside.proofs.Utf8Lemmas.{begins_by_cut, one_completes}
+use Rattle.infer_formats.specs.Text.{BeginsUtf8, HasEncoding}
+use Rattle.infer_formats.specs.declared.text.Encoding.TheVariants.{Utf16Le}
+use Rattle.infer_formats.proofs.JsonLemmas.{begins}
+use Rattle.infer_formats.proofs.Utf8Lemmas.{begins_by_cut, one_completes}
 use Rattle.test_infer.proofs.SignaturePairs.{occurs}
 
 pub rules_pair : (length (rules number) ≡ 2) × (¬ (length (rules digit) ≡ 2))

@@ -15,12 +15,12 @@ use Rattle.infer.specs.Table.{table}
 use Rattle.infer.specs.declared.table.file_type.FileType.{FileType}
 use Rattle.infer.specs.declared.table.file_type.MatcherType.TheVariants.{App}
 use Rattle.infer.specs.declared.table.rows.TheConstants.{DLL, ELF, EXE, GIF, PDF, ROW_COUNT, XML}
-use Rattle.infer_inside.specs.Markup.{HasInTag}
-use Rattle.infer_inside.specs.Text.{IsDataByte, encoding_name}
-use Rattle.infer_inside.specs.Zip.{HasFirstName, IsOneOf, applications}
-use Rattle.infer_inside.specs.declared.text.Encoding.TheVariants.{UsAscii, Utf8}
-use Rattle.infer_inside.specs.Numbers.{bytes16, most16, be16, number16, number32, number64}
-use Rattle.infer_inside.specs.Runs.{IsAfterLast, IsNext}
+use Rattle.infer_formats.specs.Markup.{HasInTag}
+use Rattle.infer_formats.specs.Text.{IsDataByte, encoding_name}
+use Rattle.infer_formats.specs.Zip.{HasFirstName, IsOneOf, applications}
+use Rattle.infer_formats.specs.declared.text.Encoding.TheVariants.{UsAscii, Utf8}
+use Rattle.infer_formats.specs.Numbers.{bytes16, most16, be16, number16, number32, number64}
+use Rattle.infer_formats.specs.Runs.{IsAfterLast, IsNext}
 use Rattle.infer_deep.specs.Numbers.{be32, le16, le32}
 use Rattle.infer_more.specs.Decided.{AsksForRelation}
 use Rattle.infer_more.specs.Ended.{ended, ended_listed, ended_shown}
@@ -39,8 +39,8 @@ use Rattle.std.proofs.lemmas.List.Elements.{All-from_recursion}
 use Rattle.infer_more.specs.Samples.{HasNoSample, further_sample, has_room, model, parts_of, prolog, row_model, sample_at, written}
 use Rattle.infer_more.specs.declared.types.Mistake.{Mistake}
 use Rattle.infer_notation.specs.declared.reason.Reason.TheVariants.{Fields}
-use Rattle.infer_inside.specs.Outline.{model_entry}
-use Rattle.infer_inside.specs.Relation.{json_text, least_of, plain_text}
+use Rattle.infer_formats.specs.Outline.{model_entry}
+use Rattle.infer_formats.specs.Relation.{json_text, least_of, plain_text}
 use Rattle.infer_notation.specs.Alternative.{Accepted, Alternative, at_least, binary_bytes, bytes, related}
 use Rattle.infer_more.specs.Table.{archives, code, further, headers, images, late, markup, media, packages, records}
 use Rattle.infer_more.specs.Wider.{IsWidened, Widens, parent_at, shown, wider}

@@ -21,9 +21,9 @@ ghost use Rattle.infer.specs.Table.{table};
 ghost use Rattle.infer.specs.Walks.{RowHas};
 ghost use Rattle.infer.specs.declared.samples.TheConstants.{SAMPLE_SIZE};
 ghost use Rattle.infer.specs.declared.table.rows.TheConstants.{PNG, ROW_COUNT};
-ghost use Rattle.infer_inside.specs.Markup.{IsRootElement};
-ghost use Rattle.infer_inside.specs.Script.{IsProgram};
-ghost use Rattle.infer_inside.specs.Text.{IsEncodingOf};
+ghost use Rattle.infer_formats.specs.Markup.{IsRootElement};
+ghost use Rattle.infer_formats.specs.Script.{IsProgram};
+ghost use Rattle.infer_formats.specs.Text.{IsEncodingOf};
 ghost use Rattle.infer_more.specs.Added.{IsAnswerWith};
 ghost use Rattle.infer_more.specs.Decided as wider;
 ghost use Rattle.infer_more.specs.Decided.{MayBecomeAt};
@@ -45,8 +45,8 @@ use infer::{Ask, Asker, Infer, SAMPLE_SIZE, get, is, is_decided, may_become, pos
 use infer_deep::doc::has_class_id;
 use infer_deep::numbers::{be32, le16, le32};
 use infer_deep::places::stands_at;
-use infer_inside::markup::root_of;
-use infer_inside::script::program;
+use infer_formats::markup::root_of;
+use infer_formats::script::program;
 use infer_sniff::position_settled;
 use std::alloc::Allocator;
 

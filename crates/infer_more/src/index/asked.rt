@@ -3,8 +3,8 @@ ghost use Rattle.std.specs.Prelude.{◌≡◌, ◌↔◌, IsTrue, None, Some, le
 ghost use Rattle.std.specs.List.{list_all};
 ghost use Rattle.infer_deep.specs.ClassId.{HasClassId};
 ghost use Rattle.infer_deep.specs.Find.{OccursAt};
-ghost use Rattle.infer_inside.specs.Json.{IsJson, IsJsonLines};
-ghost use Rattle.infer_inside.specs.Zip.{IsPackageWith};
+ghost use Rattle.infer_formats.specs.Json.{IsJson, IsJsonLines};
+ghost use Rattle.infer_formats.specs.Zip.{IsPackageWith};
 ghost use Rattle.infer_more.specs.Index.{AllApplications, AreClassIds, HasTagText, IsFoundBelow, IsLeast, IsNamed, IsOfProgram, IsRooted, IsRootedBy, IsTextRow, IsTried, MayBeginMarkup, are_texts, ascends, begun, behind, below_at, bucket_at, bucket_of, candidate, candidates, entries_at, excepted, gated, guarded, has_between, has_byte, has_other, is_true_below, named_row, ranged, rooted_row, tried_parentless, unless, within};
 ghost use Rattle.infer_more.specs.Wider.{IsWidened, WidensAt};
 ghost use Rattle.infer_more.specs.declared.index.generated.TheConstants.{FURTHER_COUNT};
@@ -17,11 +17,11 @@ use crate::tried::widens;
 use infer::rows::ROW_COUNT;
 use infer_deep::doc::class_id;
 use infer_deep::places::stands_at;
-use infer_inside::json::{Kind, kind_of};
-use infer_inside::markup::{Root, may_be_rooted, root_of};
-use infer_inside::script::program;
-use infer_inside::text::is_text;
-use infer_inside::zip::package_folder;
+use infer_formats::json::{Kind, kind_of};
+use infer_formats::markup::{Root, may_be_rooted, root_of};
+use infer_formats::script::program;
+use infer_formats::text::is_text;
+use infer_formats::zip::package_folder;
 
 /// How many buckets of names there are.
 const BUCKETS: usize = 32;
@@ -312,7 +312,7 @@ fn least_markup(roots: &[Rooted], buf: &[u8], before: usize) -> usize
     requires { IsTrue (ascends rooted_row roots.now) }
     ensures { IsLeast (IsRooted buf.now roots.now) before result }
 {
-    infer_inside::laws::leads();
+    infer_formats::laws::leads();
     if !may_begin_markup(buf) {
         return before;
     }
@@ -325,7 +325,7 @@ fn least_begun_markup(roots: &[Rooted], buf: &[u8], before: usize) -> usize
     requires { IsTrue (ascends rooted_row roots.now) }
     ensures { IsLeast (IsRooted buf.now roots.now) before result }
 {
-    infer_inside::laws::leads();
+    infer_formats::laws::leads();
     if !may_be_rooted(buf) {
         return before;
     }

@@ -8,7 +8,7 @@ use crate::signature::{Alternative, Bytes};
 use crate::table::{EndedTexts, FurtherRow};
 use infer::MatcherType;
 use infer::rows::{DER, HEIF, JPEG2000, MSI, OGG, PEM, PNG, PS, SQLITE, TIFF};
-use infer_inside::relation::Relation::{Animated, ClassId, DirectoryTag};
+use infer_formats::relation::Relation::{Animated, ClassId, DirectoryTag};
 
 static ROWS: &[FurtherRow] = rows![
     App "application/x-msi" "msi": MSI => [ClassId(*b"\x84\x10\x0C\0\0\0\0\0\xC0\0\0\0\0\0\0\x46")];

@@ -7,7 +7,7 @@ use crate::signature::Piece::{At, Between, OneOf};
 use crate::signature::{Alternative, Bytes};
 use crate::table::{EndedTexts, FurtherRow};
 use infer::MatcherType;
-use infer_inside::relation::Relation::{Dbase, JsonLines, JsonText, PlainText, TarChecksum};
+use infer_formats::relation::Relation::{Dbase, JsonLines, JsonText, PlainText, TarChecksum};
 
 static ROWS: &[FurtherRow] = rows![
     Archive "application/x-lzh-compressed" "lzh": => [7, At(2, b"-lh"), Between(5, 0x30, 0x37), is!(6, b'-')] [7, At(2, b"-lh"), OneOf(5, b"dx"), is!(6, b'-')] [7, At(2, b"-lz"), OneOf(5, b"45s"), is!(6, b'-')] [7, At(2, b"-pm"), Between(5, 0x30, 0x32), is!(6, b'-')];

@@ -7,7 +7,7 @@ use crate::signature::{Alternative, Bytes};
 use crate::table::{EndedTexts, FurtherRow};
 use infer::MatcherType;
 use infer::rows::{HTML, SHELLSCRIPT, XML};
-use infer_inside::relation::Relation::{Program, Root, RootWith};
+use infer_formats::relation::Relation::{Program, Root, RootWith};
 
 static ROWS: &[FurtherRow] = rows![
     Text "text/x-python" "py": SHELLSCRIPT => [Program(b"python")] [Program(b"pypy")];

@@ -7,7 +7,7 @@ use crate::signature::Piece::{At, Between, OneOf};
 use crate::signature::{Alternative, Bytes};
 use crate::table::{EndedTexts, FurtherRow};
 use infer::MatcherType;
-use infer_inside::relation::Relation::SubRip;
+use infer_formats::relation::Relation::SubRip;
 
 static ROWS: &[FurtherRow] = rows![
     Audio "audio/basic" "au": => [6, At(0, b".snd\0\0")];

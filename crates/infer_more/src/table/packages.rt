@@ -8,7 +8,7 @@ use crate::signature::{Alternative, Bytes};
 use crate::table::{EndedTexts, FurtherRow};
 use infer::MatcherType;
 use infer::rows::{ELF, ODP, ODS, ODT, ZIP};
-use infer_inside::relation::Relation::{
+use infer_formats::relation::Relation::{
     FirstEntryEndsIn, FirstEntryHasExtra, FirstEntryIs, PackageWith, SharedObject,
 };
 

@@ -19,16 +19,16 @@ use infer::texts::{is_mime_supported, is_supported};
 use infer::video::{is_mkv, is_webm};
 use infer::{Infer, is_decided, is_image};
 use infer_deep::doc::has_office_name;
-use infer_inside::dbase::is_dbase;
-use infer_inside::elf::is_shared_object;
-use infer_inside::json::{is_json, is_json_lines, may_become_json, may_become_json_lines};
-use infer_inside::markup::{has_root, has_root_with, may_be_rooted};
-use infer_inside::png::is_animated;
-use infer_inside::subtitles::is_subrip;
-use infer_inside::tar::has_tar_checksum;
-use infer_inside::text::{is_binary, may_become_text, stays_text};
-use infer_inside::tiff::first_directory_has_tag;
-use infer_inside::zip::{
+use infer_formats::dbase::is_dbase;
+use infer_formats::elf::is_shared_object;
+use infer_formats::json::{is_json, is_json_lines, may_become_json, may_become_json_lines};
+use infer_formats::markup::{has_root, has_root_with, may_be_rooted};
+use infer_formats::png::is_animated;
+use infer_formats::subtitles::is_subrip;
+use infer_formats::tar::has_tar_checksum;
+use infer_formats::text::{is_binary, may_become_text, stays_text};
+use infer_formats::tiff::first_directory_has_tag;
+use infer_formats::zip::{
     first_entry_ends_in, first_entry_has_extra, first_entry_is, is_package_with,
 };
 use infer_more::is_text;

@@ -1,6 +1,6 @@
 -- the texts so far are written, and the others have room
 use Rattle.infer_more.proofs.Common.{◌≡◌, IsTrue, drop, length, map, list_all, take, with_parts, is_inside}
-use Rattle.infer_inside.specs.Relation.{placed_listed}
+use Rattle.infer_formats.specs.Relation.{placed_listed}
 use Rattle.infer_more.proofs.samples.put_texts.Given as goal
 
 abbrev pub invariant-loop-placed : goal.invariant-loop-placed

@@ -1,6 +1,6 @@
 use Rattle.infer_notation.proofs.Common.{[], ap, arith, get_or, length, map, ◌∙◌, sym, length-drop, named_in, token_listed, Nothing}
 use Rattle.std.proofs.lemmas.List.{take_all}
-use Rattle.infer_inside.specs.declared.relation.Relation.TheVariants.{SharedObject}
+use Rattle.infer_formats.specs.declared.relation.Relation.TheVariants.{SharedObject}
 use Rattle.infer_notation.proofs.RelationLemmas.{named_here, named_later, named_nowhere}
 use Rattle.infer_notation.proofs.names.named.Goals as goal
 

@@ -1,5 +1,5 @@
 use Rattle.infer_notation.proofs.Common.{map, token_listed, item_of}
-use Rattle.infer_inside.specs.Relation.{relation_listed}
+use Rattle.infer_formats.specs.Relation.{relation_listed}
 use Rattle.infer_notation.proofs.SeenLemmas.{one_seen}
 use Rattle.infer_notation.proofs.relations.has_relation.Goals as goal
 

@@ -1,5 +1,5 @@
 use Rattle.std.proofs.Common.{codes, subst, sym}
-use Rattle.infer_inside.specs.Script.{IsProgram}
+use Rattle.infer_formats.specs.Script.{IsProgram}
 use Rattle.test_infer.proofs.definitions.is_program_sh.Goals as goal
 
 pub returns-in-Some : goal.returns-in-Some

@@ -1,5 +1,5 @@
 use Rattle.std.proofs.Common.{codes, subst, sym}
-use Rattle.infer_inside.specs.Markup.{IsRootElement}
+use Rattle.infer_formats.specs.Markup.{IsRootElement}
 use Rattle.test_infer.proofs.definitions.is_root_svg.Goals as goal
 
 pub returns-in-Some : goal.returns-in-Some

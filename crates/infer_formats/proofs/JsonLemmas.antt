@@ -1,0 +1,120 @@
+-- The grammar, byte by byte.
+use Rattle.infer_formats.proofs.Common.{◌≡◌, ℕ, zero, suc, ◌≤◌, ◌⊎◌, inl, inr, ◌↔◌, codes, List, [], ◌∷◌, ◌++◌, refl, subst, arith, Symbol, range, blanks, value, items, members, chars, escape, hex, whole, fraction, exponent, power, digits, exact, IsAmong, Stands, one, by_rule}
+use Rattle.infer_formats.specs.Json.{rules}
+
+abbrev AnyOf : (List Symbol → Type 0) → List (List Symbol) → Type 0
+AnyOf P [] = ⊥
+AnyOf P (r ∷ rs) = P r ⊎ AnyOf P rs
+
+-- the symbol is a range with x in it, and A
+abbrev IsByte : Symbol → ℕ → Type 0 → Type 0
+IsByte (range low high) x A = (low ≤ x) × (x ≤ high) × A
+IsByte _ x A = ⊥
+
+-- x and v by the first symbol, and by its rules k deep
+abbrev Begins : ℕ → ℕ → List ℕ → List Symbol → Type 0
+Begins zero x v ss = Stands ss (x ∷ v)
+Begins (suc k) x v [] = ⊥
+Begins (suc k) x v (a ∷ ss) = IsByte a x (Stands ss v) ⊎ AnyOf (λ r. Begins k x v (r ++ ss)) (rules a)
+
+any_among : (P : List Symbol → Type 0) (rs : List (List Symbol)) (r : List Symbol) → IsAmong r rs → P r → AnyOf P rs
+any_among P [] r m p = elim m [ ]
+any_among P (s ∷ rs) r (inl e) p = inl (subst P e p)
+any_among P (s ∷ rs) r (inr m) p = inr (any_among P rs r m p)
+
+among_any : (P : List Symbol → Type 0) (rs : List (List Symbol)) → AnyOf P rs → (r : List Symbol) × IsAmong r rs × P r
+among_any P [] h = elim h [ ]
+among_any P (r ∷ rs) (inl p) = (r, inl refl, p)
+among_any P (r ∷ rs) (inr h) = let f = among_any P rs h in (f.0, inr f.1, f.2)
+
+any_map : (P Q : List Symbol → Type 0) (rs : List (List Symbol)) → ((r : List Symbol) → P r → Q r) → AnyOf P rs
+    → AnyOf Q rs
+any_map P Q [] f h = h
+any_map P Q (r ∷ rs) f (inl p) = inl (f r p)
+any_map P Q (r ∷ rs) f (inr h) = inr (any_map P Q rs f h)
+
+opens : {a : Symbol} {ss : List Symbol} {x : ℕ} {v : List ℕ} → Stands (a ∷ ss) (x ∷ v)
+    → IsByte a x (Stands ss v) ⊎ AnyOf (λ r. Stands (r ++ ss) (x ∷ v)) (rules a)
+opens (one l h d) = inl (l, h, d)
+opens {a} {ss} {x} {v} (by_rule r m d) = inr (any_among (λ r. Stands (r ++ ss) (x ∷ v)) (rules a) r m d)
+
+by_byte : (a : Symbol) (ss : List Symbol) (x : ℕ) (v : List ℕ) → IsByte a x (Stands ss v) → Stands (a ∷ ss) (x ∷ v)
+by_byte (range low high) ss x v (l, h, d) = one l h d
+by_byte _ ss x v h = elim h [ ]
+
+pub begins : (k x : ℕ) (v : List ℕ) (ss : List Symbol) → Stands ss (x ∷ v) ↔ Begins k x v ss
+begins zero x v ss = (λ d. d, λ d. d)
+begins (suc k) x v [] = (λ d. elim d [ ], λ d. elim d [ ])
+begins (suc k) x v (a ∷ ss) = (
+  λ d. elim (opens d) [
+    | inl b ↦ inl b
+    | inr h ↦ inr (any_map (λ r. Stands (r ++ ss) (x ∷ v)) (λ r. Begins k x v (r ++ ss)) (rules a)
+        (λ r p. (begins k x v (r ++ ss)).0 p) h)
+  ],
+  λ d. elim d [
+    | inl b ↦ by_byte a ss x v b
+    | inr h ↦ let f =
+        among_any (λ r. Begins k x v (r ++ ss)) (rules a) h in by_rule f.0 f.1 ((begins k x v (f.0 ++ ss)).1 f.2)
+  ],
+)
+
+-- of each token's first symbol
+pub range_begins : (low high x : ℕ) (ss : List Symbol) (v : List ℕ) → Stands (range low high ∷ ss) (x ∷ v)
+    ↔ Begins 1 x v (range low high ∷ ss)
+range_begins low high x ss v = begins 1 x v (range low high ∷ ss)
+
+pub chars_begin : (x : ℕ) (ss : List Symbol) (v : List ℕ) → Stands (chars ∷ ss) (x ∷ v) ↔ Begins 3 x v (chars ∷ ss)
+chars_begin x ss v = begins 3 x v (chars ∷ ss)
+
+pub escape_begins : (x : ℕ) (ss : List Symbol) (v : List ℕ) → Stands (escape ∷ ss) (x ∷ v)
+    ↔ Begins 2 x v (escape ∷ ss)
+escape_begins x ss v = begins 2 x v (escape ∷ ss)
+
+pub hex_begins : (x : ℕ) (ss : List Symbol) (v : List ℕ) → Stands (hex ∷ ss) (x ∷ v) ↔ Begins 2 x v (hex ∷ ss)
+hex_begins x ss v = begins 2 x v (hex ∷ ss)
+
+pub whole_begins : (x : ℕ) (ss : List Symbol) (v : List ℕ) → Stands (whole ∷ ss) (x ∷ v) ↔ Begins 2 x v (whole ∷ ss)
+whole_begins x ss v = begins 2 x v (whole ∷ ss)
+
+pub power_begins : (x : ℕ) (ss : List Symbol) (v : List ℕ) → Stands (power ∷ ss) (x ∷ v) ↔ Begins 2 x v (power ∷ ss)
+power_begins x ss v = begins 2 x v (power ∷ ss)
+
+-- of those that may stand for nothing
+pub fraction_begins : (x : ℕ) (ss : List Symbol) (v : List ℕ) → Stands (fraction ∷ ss) (x ∷ v)
+    ↔ Begins 1 x v (fraction ∷ ss)
+fraction_begins x ss v = begins 1 x v (fraction ∷ ss)
+
+pub exponent_begins : (x : ℕ) (ss : List Symbol) (v : List ℕ) → Stands (exponent ∷ ss) (x ∷ v)
+    ↔ Begins 1 x v (exponent ∷ ss)
+exponent_begins x ss v = begins 1 x v (exponent ∷ ss)
+
+pub digits_begin : (x : ℕ) (ss : List Symbol) (v : List ℕ) → Stands (digits ∷ ss) (x ∷ v) ↔ Begins 1 x v (digits ∷ ss)
+digits_begin x ss v = begins 1 x v (digits ∷ ss)
+
+-- of values
+abbrev pub ValueBegins : ℕ → List ℕ → List Symbol → Type 0
+ValueBegins x v ss =
+    ((x ≡ 0x74) × Stands (exact (codes "rue") ++ ss) v) ⊎ ((x ≡ 0x66) × Stands (exact (codes "alse") ++ ss) v)
+    ⊎ ((x ≡ 0x6E) × Stands (exact (codes "ull") ++ ss) v) ⊎ ((x ≡ 0x22) × Stands (chars ∷ ss) v)
+    ⊎ ((x ≡ 0x2D) × Stands (whole ∷ fraction ∷ exponent ∷ ss) v) ⊎ ((x ≡ 0x30) × Stands (fraction ∷ exponent ∷ ss) v)
+    ⊎ ((0x31 ≤ x) × (x ≤ 0x39) × Stands (digits ∷ fraction ∷ exponent ∷ ss) v)
+
+pub value_begins : (n x : ℕ) (ss : List Symbol) (v : List ℕ) → ¬ (x ≡ 0x5B) → ¬ (x ≡ 0x7B)
+    → Stands (value n ∷ ss) (x ∷ v) ↔ ValueBegins x v ss
+value_begins zero x ss v p q =
+    let b = begins 4 x v (value 0 ∷ ss) in (λ d. let e = b.0 d in grind arith, λ d. b.1 (grind arith))
+value_begins (suc n) x ss v p q =
+    let b = begins 4 x v (value (suc n) ∷ ss) in (λ d. let e = b.0 d in grind arith, λ d. b.1 (grind arith))
+
+pub array_begins : (n : ℕ) (ss : List Symbol) (v : List ℕ) → Stands (value (suc n) ∷ ss) (0x5B ∷ v)
+    ↔ Stands (blanks ∷ items n ∷ ss) v
+array_begins n ss v =
+    let b = begins 4 0x5B v (value (suc n) ∷ ss) in (λ d. let e = b.0 d in grind arith, λ d. b.1 (grind arith))
+
+pub object_begins : (n : ℕ) (ss : List Symbol) (v : List ℕ) → Stands (value (suc n) ∷ ss) (0x7B ∷ v)
+    ↔ Stands (blanks ∷ members n ∷ ss) v
+object_begins n ss v =
+    let b = begins 4 0x7B v (value (suc n) ∷ ss) in (λ d. let e = b.0 d in grind arith, λ d. b.1 (grind arith))
+
+pub none_nested : (x : ℕ) (ss : List Symbol) (v : List ℕ) → (x ≡ 0x5B) ⊎ (x ≡ 0x7B) → ¬ Stands (value 0 ∷ ss) (x ∷ v)
+none_nested x ss v h d = let e = (begins 4 x v (value 0 ∷ ss)).0 d in grind arith

@@ -1,0 +1,415 @@
+-- The parts of a prolog, the tag that they lead to, and the name of the document type.
+use Rattle.infer_formats.proofs.Common.{◌≡◌, ◌↔◌, ℕ, ◌+◌, ◌-◌, ◌<◌, ◌≤◌, ◌⊎◌, inl, inr, List, ◌++◌, Option, None, Some, length, codes, get_or, add-zero, refl, sym, subst, ap, ◌∙◌, arith, cases_lt, ext_get_or, slice_range, OccursAt, Lasts, AgreesWithDoctype, BeginsAt, BeginsElement, ClosesDeclaration, HasRoot, HasRootWith, IsDoctype, IsEnclosed, IsMisc, IsPart, IsRootElement, IsSpaceRun, IsTypeByte, IsXmlSpace, LeadsToTag, OpensTag, utf8_mark, IsAfterLast, IsRun}
+use Rattle.std.proofs.lemmas.List.{drop-append-le}
+use Rattle.infer_deep.proofs.PlaceLemmas.{IsFirstPlace-same}
+use Rattle.infer_formats.specs.Markup.{IsNameByte, OpensElement, here, later}
+use Rattle.infer_formats.proofs.FrontLemmas.{SharesFront, after_last_shared, byte_shared, byte_shared_back, front_grows, front_swaps, range_shared, run_shared, text_shared}
+use Rattle.infer_formats.proofs.PartLemmas.{part_length, part_reads}
+use Rattle.infer_formats.proofs.RunLemmas.{one_after_last, one_run_end}
+
+-- what the first bytes of a part are
+pub space_first : (b : List ℕ) (p q : ℕ) → IsSpaceRun b p q → IsXmlSpace (get_or b p 0)
+space_first b p q (some, run) = run.bytes p (omega arith) some
+
+pub instruction_first : (b : List ℕ) (p q : ℕ) → IsEnclosed b (codes "<?") (codes "?>") p q
+    → (get_or b p 0 ≡ 0x3C) × (get_or b (p + 1) 0 ≡ 0x3F)
+instruction_first b p q (o, end) = (rw add-zero at (o.reads 0 (omega arith)), o.reads 1 (omega arith))
+
+pub comment_first : (b : List ℕ) (p q : ℕ) → IsEnclosed b (codes "<!--") (codes "-->") p q
+    → (get_or b p 0 ≡ 0x3C) × (get_or b (p + 1) 0 ≡ 0x21) × (get_or b (p + 2) 0 ≡ 0x2D)
+comment_first b p q (o, end) =
+    (rw add-zero at (o.reads 0 (omega arith)), o.reads 1 (omega arith), o.reads 2 (omega arith))
+
+doctype_first : (b : List ℕ) (p name close : ℕ) → IsDoctype b p name close
+    → (get_or b p 0 ≡ 0x3C) × (get_or b (p + 1) 0 ≡ 0x21) × (get_or b (p + 2) 0 ≡ 0x44)
+doctype_first b p name close d =
+    let o = d.opens in (rw add-zero at (o.reads 0 (omega arith)), o.reads 1 (omega arith), o.reads 2 (omega arith))
+
+-- "<" is no white space
+pub not_space : (x : ℕ) → x ≡ 0x3C → ¬ IsXmlSpace x
+not_space x is (inl e) = omega arith
+not_space x is (inr (inl e)) = omega arith
+not_space x is (inr (inr (inl e))) = omega arith
+not_space x is (inr (inr (inr e))) = omega arith
+
+-- so one part stands at a place
+one_enclosed : (b opening closing : List ℕ) (p q r : ℕ) → IsEnclosed b opening closing p q
+    → IsEnclosed b opening closing p r → q ≡ r
+one_enclosed b opening closing p q r (o, (e, first, is)) (_, (f, other, same)) =
+    let one = IsFirstPlace-same OccursAt b closing (p + length opening) (length b) e f first other in omega arith
+
+one_misc : (b : List ℕ) (p q r : ℕ) → IsMisc b p q → IsMisc b p r → q ≡ r
+one_misc b p q r (inl s) (inl t) = one_run_end IsXmlSpace b p q r s.1 t.1
+one_misc b p q r (inr (inl i)) (inr (inl j)) = one_enclosed b (codes "<?") (codes "?>") p q r i j
+one_misc b p q r (inr (inr c)) (inr (inr e)) = one_enclosed b (codes "<!--") (codes "-->") p q r c e
+one_misc b p q r (inl s) (inr (inl i)) = absurd (not_space _ (instruction_first b p r i).0 (space_first b p q s))
+one_misc b p q r (inl s) (inr (inr c)) = absurd (not_space _ (comment_first b p r c).0 (space_first b p q s))
+one_misc b p q r (inr (inl i)) (inl s) = absurd (not_space _ (instruction_first b p q i).0 (space_first b p r s))
+one_misc b p q r (inr (inr c)) (inl s) = absurd (not_space _ (comment_first b p q c).0 (space_first b p r s))
+one_misc b p q r (inr (inl i)) (inr (inr c)) =
+    absurd (let x = instruction_first b p q i in let y = comment_first b p r c in omega arith)
+one_misc b p q r (inr (inr c)) (inr (inl i)) =
+    absurd (let x = instruction_first b p r i in let y = comment_first b p q c in omega arith)
+
+no_misc_doctype : (b : List ℕ) (p q name close : ℕ) → IsMisc b p q → ¬ IsDoctype b p name close
+no_misc_doctype b p q name close (inl s) d = not_space _ (doctype_first b p name close d).0 (space_first b p q s)
+no_misc_doctype b p q name close (inr (inl i)) d =
+    let x = instruction_first b p q i in let y = doctype_first b p name close d in omega arith
+no_misc_doctype b p q name close (inr (inr c)) d =
+    let x = comment_first b p q c in let y = doctype_first b p name close d in omega arith
+
+one_doctype : (b : List ℕ) (p name close other end : ℕ) → IsDoctype b p name close → IsDoctype b p other end
+    → (name ≡ other) × (close ≡ end)
+one_doctype b p name close other end d e =
+    let same = one_run_end IsXmlSpace b (p + 9) name other d.space.1 e.space.1 in
+    let moved = subst (λ n. ClosesDeclaration b n close) same d.closes in
+    (same, one_run_end (λ x. (x ≡ 0x3E → ⊥) × (x ≡ 0x5B → ⊥)) b other close end moved.0 e.closes.0)
+
+one_part : (b : List ℕ) (p : ℕ) (d : Option ℕ) (q : ℕ) (e : Option ℕ) (r : ℕ) (f : Option ℕ)
+    → IsPart b p d q e → IsPart b p d r f → (q ≡ r) × (e ≡ f)
+one_part b p d q e r f (inl (m, is)) (inl (n, same)) = (one_misc b p q r m n, is ∙ sym same)
+one_part b p d q e r f (inl (m, is)) (inr (name, close, doctype, none, ends, same)) =
+    absurd (no_misc_doctype b p q name close m doctype)
+one_part b p d q e r f (inr (name, close, doctype, none, ends, same)) (inl (m, is)) =
+    absurd (no_misc_doctype b p r name close m doctype)
+one_part b p d q e r f (inr (name, close, doctype, none, ends, is)) (inr (other, end, again, _, stops, same)) =
+    let one = one_doctype b p name close other end doctype again in (omega arith, is ∙ ap Some one.0 ∙ sym same)
+
+-- and it is within the buffer, and no tag of an element
+pub part_within : (b : List ℕ) (p : ℕ) (d : Option ℕ) (q : ℕ) (e : Option ℕ) → IsPart b p d q e
+    → (p < q) × (q ≤ length b)
+part_within b p d q e (inl (inl (some, run), is)) = (some, let w = run.whole in omega arith)
+part_within b p d q e (inl (inr (inl (o, (end, first, same))), is)) = let w = first.here in (omega arith, omega arith)
+part_within b p d q e (inl (inr (inr (o, (end, first, same))), is)) = let w = first.here in (omega arith, omega arith)
+part_within b p d q e (inr (name, close, doctype, none, ends, is)) =
+    let space = doctype.space in
+    let order = doctype.closes.0.order in
+    let whole = doctype.closes.0.whole in (omega (arith, space.0), omega arith)
+
+-- a document type that was declared before it, or in it, is closed
+pub closed_part : (b : List ℕ) (p : ℕ) (d : Option ℕ) (q : ℕ) (e : Option ℕ) → IsPart b p d q e
+    → ((name : ℕ) → d ≡ Some name → (close : ℕ) × (name ≤ close) × (close < length b) × (get_or b close 0 ≡ 0x3E))
+    → (name : ℕ) → e ≡ Some name → (close : ℕ) × (name ≤ close) × (close < length b) × (get_or b close 0 ≡ 0x3E)
+closed_part b p d q e (inl (m, is)) before name same = before name (sym is ∙ same)
+closed_part b p d q e (inr (from, close, doctype, none, ends, is)) before name same =
+    let (run, last) = doctype.closes in
+    let order = run.order in
+    let one : from ≡ name = (let both = sym is ∙ same in cc) in
+    (close, omega arith, run.whole, last)
+
+no_tag : (b : List ℕ) (at to p : ℕ) (d : Option ℕ) (q : ℕ) (e : Option ℕ) → IsPart b p d q e → ¬ OpensTag b at to p d
+no_tag b at to p d q e (inl (inl s, is)) tag = not_space _ tag.opens (space_first b p q s)
+no_tag b at to p d q e (inl (inr (inl i), is)) tag = tag.begins.1 (instruction_first b p q i).1
+no_tag b at to p d q e (inl (inr (inr c), is)) tag = tag.begins.0 (comment_first b p q c).1
+no_tag b at to p d q e (inr (name, close, doctype, none, ends, is)) tag =
+    tag.begins.0 (doctype_first b p name close doctype).1
+
+-- the ways to a tag
+pub ways : (b : List ℕ) (at to p : ℕ) (d : Option ℕ) → LeadsToTag b at to p d
+    → OpensTag b at to p d ⊎ ((q : ℕ) × ((e : Option ℕ) × IsPart b p d q e × LeadsToTag b at to q e))
+ways b at to p d (here _ _ tag) = inl tag
+ways b at to p d (later _ _ q e is rest) = inr (q, (e, is, rest))
+
+-- one leads past a part that stands there
+pub past_part : (b : List ℕ) (at to p : ℕ) (d : Option ℕ) (q : ℕ) (e : Option ℕ) → IsPart b p d q e
+    → LeadsToTag b at to p d ↔ LeadsToTag b at to q e
+past_part b at to p d q e is = (
+  λ leads. elim (ways b at to p d leads) [
+    | inl tag ↦ absurd (no_tag b at to p d q e is tag)
+    | inr (r, (f, other, rest)) ↦
+        let same = one_part b p d r f q e other is in
+        subst (λ x. LeadsToTag b at to x e) same.0 (subst (λ y. LeadsToTag b at to r y) same.1 rest)
+  ],
+  λ rest. later p d q e is rest,
+)
+
+-- where no part stands, the tag opens
+pub past_none : (b : List ℕ) (at to p : ℕ) (d : Option ℕ) → ((q : ℕ) (e : Option ℕ) → ¬ IsPart b p d q e)
+    → LeadsToTag b at to p d ↔ OpensTag b at to p d
+past_none b at to p d none = (
+  λ leads. elim (ways b at to p d leads) [ inl tag ↦ tag | inr (q, (e, is, rest)) ↦ absurd (none q e is) ],
+  λ tag. here p d tag,
+)
+
+-- one tag opens at a place
+pub one_tag : (b : List ℕ) (at to from end p : ℕ) (d : Option ℕ) → OpensTag b at to p d
+    → OpensTag b from end p d → (at ≡ from) × (to ≡ end)
+one_tag b at to from end p d t u =
+    let same = one_run_end IsNameByte b (p + 1) to end t.name u.name in
+    let moved = subst (λ x. IsAfterLast 0x3A b (p + 1) x at) same t.local in
+    (one_after_last 0x3A b (p + 1) end at from moved u.local, same)
+
+-- so a place leads to one
+pub one_lead : (b : List ℕ) (at to from end p : ℕ) (d : Option ℕ) → LeadsToTag b at to p d → LeadsToTag b from end p d
+    → (at ≡ from) × (to ≡ end)
+one_lead b at to from end p d (here _ _ t) other = elim (ways b from end p d other) [
+  | inl u ↦ one_tag b at to from end p d t u
+  | inr (q, (e, part, rest)) ↦ absurd (no_tag b at to p d q e part t)
+]
+one_lead b at to from end p d (later _ _ q e part rest) other =
+    one_lead b at to from end q e rest ((past_part b from end p d q e part).0 other)
+
+-- an element's name is that of the document type if it stands there, and no byte of such a name follows
+pub is_declared : (b : List ℕ) (name p q : ℕ) → IsRun IsNameByte b p q
+    → (OccursAt b (slice_range b p q) name × (name + (q - p) < length b) × (¬ IsTypeByte (get_or b (name + (q - p)) 0)))
+    ↔ AgreesWithDoctype b (Some name) p q
+is_declared b name p q run =
+    let order = run.order in
+    let whole = run.whole in
+    let long = part_length b p q order (omega arith) in (
+      λ (o, fits, ends).
+          let end = name + (q - p) in
+          let fill = part_length b name end (omega arith) (omega arith) in
+          let reads : (k : ℕ) → k < q - p → get_or b (name + k) 0 ≡ get_or b (p + k) 0 =
+          λ k lt. o.reads k (omega arith) ∙ part_reads b p q k (omega arith) in
+          let bytes : (k : ℕ) → name ≤ k → k < end → IsTypeByte (get_or b k 0) =
+          λ k low high.
+          let same : name + (k - name) ≡ k = omega arith in
+          let kind = run.bytes (p + (k - name)) (omega arith) (omega arith) in
+          subst (λ i. IsTypeByte (get_or b i 0)) same (subst IsTypeByte (sym (reads (k - name) (omega arith))) kind.0) in (
+            end,
+            record { order = omega arith; bytes = bytes; whole = fits; ends = ends },
+            ext_get_or 0 _ _ (omega arith)
+                (λ k lt.
+                part_reads b name end k (omega arith) ∙ reads k (omega arith) ∙ sym (part_reads b p q k (omega arith))),
+          ),
+      λ (end, is, same).
+          let fill = part_length b name end is.order (let w = is.whole in omega arith) in
+          let equal = ap length same in
+          let low = is.order in
+          let there : end ≡ name + (q - p) = omega arith in (
+            record {
+              fits = let w = is.whole in omega arith;
+              reads = λ k lt. sym (part_reads b name end k (omega arith)) ∙ ap (λ xs. get_or xs k 0) same;
+            },
+            let w = is.whole in omega arith,
+            subst (λ x. ¬ IsTypeByte (get_or b x 0)) there is.ends,
+          ),
+    )
+
+-- where no white space, instruction, comment or first declaration stands, no part does
+pub no_part : (b : List ℕ) (p : ℕ) (d : Option ℕ) → ((q : ℕ) → ¬ IsMisc b p q)
+    → (d ≡ None → (name close : ℕ) → ¬ IsDoctype b p name close) → (q : ℕ) (e : Option ℕ) → ¬ IsPart b p d q e
+no_part b p d no_misc no_doctype q e (inl (m, is)) = no_misc q m
+no_part b p d no_misc no_doctype q e (inr (name, close, doctype, none, ends, is)) = no_doctype none name close doctype
+
+-- where neither white space, an instruction nor a comment stands, none of them does
+pub no_misc : (b : List ℕ) (p : ℕ) → (¬ IsXmlSpace (get_or b p 0)) → ((q : ℕ) → ¬ IsEnclosed b (codes "<?") (codes "?>") p q)
+    → ((q : ℕ) → ¬ IsEnclosed b (codes "<!--") (codes "-->") p q) → (q : ℕ) → ¬ IsMisc b p q
+no_misc b p no_space no_instruction no_comment q (inl space) = no_space (space_first b p q space)
+no_misc b p no_space no_instruction no_comment q (inr (inl instruction)) = no_instruction q instruction
+no_misc b p no_space no_instruction no_comment q (inr (inr comment)) = no_comment q comment
+
+-- where the name of an element begins behind "<" none of them does
+pub no_misc_opened : (b : List ℕ) (p : ℕ) → OpensElement b p → (q : ℕ) → ¬ IsMisc b p q
+no_misc_opened b p (within, tag, (no_mark, no_question)) q (inl space) = not_space _ tag (space_first b p q space)
+no_misc_opened b p (within, tag, (no_mark, no_question)) q (inr (inl i)) = no_question (instruction_first b p q i).1
+no_misc_opened b p (within, tag, (no_mark, no_question)) q (inr (inr c)) = no_mark (comment_first b p q c).1
+
+-- nor any part, where no document type was declared
+pub opened_undeclared : (b : List ℕ) (p : ℕ) → OpensElement b p → (q : ℕ) (e : Option ℕ) → ¬ IsPart b p None q e
+opened_undeclared b p opens = no_part b p None (no_misc_opened b p opens)
+    (λ none name close doctype. let (within, tag, (no_mark, no_question)) = opens in no_mark (doctype_first b p name close doctype).1)
+
+-- a tag is led to from before white space as from behind it
+pub spaces_lead : (b : List ℕ) (at to p q : ℕ) (d : Option ℕ) → p ≤ q → ((k : ℕ) → p ≤ k → k < q → IsXmlSpace (get_or b k 0))
+    → LeadsToTag b at to p d ↔ LeadsToTag b at to q d
+spaces_lead b at to p q d order spaces = elim (cases_lt p q) [
+  | inr late ↦ let same : p ≡ q = omega arith in (λ l. subst (λ x. LeadsToTag b at to x d) same l, λ l. subst (λ x. LeadsToTag b at to x d) (sym same) l)
+  | inl less ↦
+      let space = spaces p (omega arith) less in
+      let to_there : (q < length b) → (¬ IsXmlSpace (get_or b q 0)) → LeadsToTag b at to q d → LeadsToTag b at to p d = λ whole ends leads.
+      later p d q d (inl (inl (less, record { order = order; bytes = spaces; whole = whole; ends = ends }), refl)) leads in (
+        λ leads. elim (ways b at to p d leads) [
+          | inl tag ↦ absurd (not_space _ tag.opens space)
+          | inr (r, (e, part, rest)) ↦ elim part [
+            | inl (inl (some, run), is) ↦
+                let far : q ≤ r = elim (cases_lt r q) [ inl early ↦ absurd (run.ends (spaces r (omega arith) early)) | inr le ↦ le ] in
+                elim (cases_lt q r) [
+                  | inl lt ↦
+                      later q d r e (inl (
+                        inl (
+                          lt,
+                          record {
+                            order = far;
+                            bytes = λ k low high. run.bytes k (omega arith) high;
+                            whole = run.whole;
+                            ends = run.ends;
+                          },
+                        ),
+                        is,
+                      )) rest
+                  | inr le ↦
+                      let here : r ≡ q = omega arith in subst (λ x. LeadsToTag b at to x d) here (subst (λ x. LeadsToTag b at to r x) is rest)
+                ]
+            | inl (inr (inl i), is) ↦ absurd (not_space _ (instruction_first b p r i).0 space)
+            | inl (inr (inr c), is) ↦ absurd (not_space _ (comment_first b p r c).0 space)
+            | inr (name, close, doctype, none, ends, is) ↦ absurd (not_space _ (doctype_first b p name close doctype).0 space)
+          ]
+        ],
+        λ leads. elim (ways b at to q d leads) [
+          | inl tag ↦ to_there (let order = tag.name.order in let whole = tag.name.whole in omega arith) (not_space _ tag.opens) leads
+          | inr (r, (e, part, rest)) ↦
+              let within = part_within b q d r e part in
+              let inside : q < length b = omega arith in
+              elim part [
+                | inl (inl (some, run), is) ↦
+                    later p d r e (inl (
+                      inl (
+                        omega arith,
+                        record {
+                          order = omega arith;
+                          bytes = λ k low high. elim (cases_lt k q) [ inl early ↦ spaces k low early | inr le ↦ run.bytes k le high ];
+                          whole = run.whole;
+                          ends = run.ends;
+                        },
+                      ),
+                      is,
+                    )) rest
+                | inl (inr (inl i), is) ↦ to_there inside (not_space _ (instruction_first b q r i).0) leads
+                | inl (inr (inr c), is) ↦ to_there inside (not_space _ (comment_first b q r c).0) leads
+                | inr (name, close, doctype, none, ends, is) ↦ to_there inside (not_space _ (doctype_first b q name close doctype).0) leads
+              ]
+        ],
+      )
+]
+
+-- no tag opens where the name, or what follows its last ":", is no name of an element
+module _ (b : List ℕ) (p to : ℕ) (d : Option ℕ) (run : IsRun IsNameByte b (p + 1) to) where
+  same_end : (at end : ℕ) → OpensTag b at end p d → end ≡ to
+  same_end at end tag = one_run_end IsNameByte b (p + 1) end to tag.name run
+
+  pub undeclared : (¬ AgreesWithDoctype b d (p + 1) to) → (at end : ℕ) → ¬ OpensTag b at end p d
+  undeclared other at end tag = other (subst (AgreesWithDoctype b d (p + 1)) (same_end at end tag) tag.agrees)
+
+  pub unnamed : IsAfterLast 0x3A b (p + 1) to to → (at end : ℕ) → ¬ OpensTag b at end p d
+  unnamed none at end tag =
+      let same = same_end at end tag in
+      let moved = subst (λ x. IsAfterLast 0x3A b (p + 1) x at) same tag.local in
+      let empty = one_after_last 0x3A b (p + 1) to at to moved none in
+      let some = tag.some in omega arith
+
+-- a prolog begins at one place
+pub one_begin : (b : List ℕ) (p q : ℕ) → BeginsAt b p → BeginsAt b q → p ≡ q
+one_begin b p q (inl (mark, is)) (inl (_, same)) = is ∙ sym same
+one_begin b p q (inl (mark, is)) (inr (none, same)) = absurd (none mark)
+one_begin b p q (inr (none, is)) (inl (mark, same)) = absurd (none mark)
+one_begin b p q (inr (none, is)) (inr (_, same)) = is ∙ sym same
+
+-- what stands in b stands in what begins as b does
+module _ (b c : List ℕ) (s : SharesFront (length b) b c) where
+  space_lasts : (p q : ℕ) → IsSpaceRun b p q → IsSpaceRun c p q
+  space_lasts p q (some, run) = (some, run_shared (length b) b c s IsXmlSpace p q run.whole run)
+
+  pub enclosed_lasts : (opening closing : List ℕ) (p q : ℕ) → IsEnclosed b opening closing p q
+      → IsEnclosed c opening closing p q
+  enclosed_lasts opening closing p q (o, (e, first, is)) =
+      let here = first.here in
+      let fits = here.high in
+      let back = front_swaps (length b) b c s in (
+        text_shared (length b) b c s opening p o.fits o,
+        (
+          e,
+          record {
+            here = record {
+              stands = text_shared (length b) b c s closing e fits here.stands;
+              low = here.low;
+              high = let long = s.second in omega arith;
+            };
+            before = λ k lt w.
+                let stands = text_shared (length b) c b back closing k (omega arith) w.stands in
+                first.before k lt (record { stands = stands; low = w.low; high = omega arith });
+          },
+          is,
+        ),
+      )
+
+  pub part_lasts : (p : ℕ) (d : Option ℕ) (q : ℕ) (e : Option ℕ) → IsPart b p d q e → IsPart c p d q e
+  part_lasts p d q e (inl (inl space, is)) = inl (inl (space_lasts p q space), is)
+  part_lasts p d q e (inl (inr (inl i), is)) = inl (inr (inl (enclosed_lasts (codes "<?") (codes "?>") p q i)), is)
+  part_lasts p d q e (inl (inr (inr i), is)) = inl (inr (inr (enclosed_lasts (codes "<!--") (codes "-->") p q i)), is)
+  part_lasts p d q e (inr (name, close, doctype, none, ends, is)) =
+      let (run, bracket) = doctype.closes in
+      inr (
+        name,
+        close,
+        record {
+          opens = text_shared (length b) b c s (codes "<!DOCTYPE") p doctype.opens.fits doctype.opens;
+          space = space_lasts (p + 9) name doctype.space;
+          closes = (
+            run_shared (length b) b c s (λ x. (x ≡ 0x3E → ⊥) × (x ≡ 0x5B → ⊥)) name close run.whole run,
+            byte_shared (length b) b c s (λ x. x ≡ 0x3E) close run.whole bracket,
+          );
+        },
+        none,
+        ends,
+        is,
+      )
+
+  pub name_lasts : (d : Option ℕ) (p q : ℕ) → p ≤ q → q ≤ length b → AgreesWithDoctype b d p q → AgreesWithDoctype c d p q
+  name_lasts None p q order high is = is
+  name_lasts (Some name) p q order high (end, run, is) =
+      let whole = run.whole in
+      let declared = range_shared (length b) b c s name end run.order (omega arith) in (
+        end,
+        run_shared (length b) b c s IsTypeByte name end whole run,
+        sym declared ∙ is ∙ range_shared (length b) b c s p q order high,
+      )
+
+  pub tag_lasts : (at to p : ℕ) (d : Option ℕ) → OpensTag b at to p d → OpensTag c at to p d
+  tag_lasts at to p d t =
+      let order = t.name.order in
+      let whole = t.name.whole in record {
+        opens = byte_shared (length b) b c s (λ x. x ≡ 0x3C) p (omega arith) t.opens;
+        name = run_shared (length b) b c s IsNameByte (p + 1) to whole t.name;
+        begins = byte_shared (length b) b c s BeginsElement (p + 1) (omega arith) t.begins;
+        local = after_last_shared (length b) b c s 0x3A (p + 1) to at (omega arith) t.local;
+        some = t.some;
+        agrees = name_lasts d (p + 1) to order (omega arith) t.agrees;
+      }
+
+  leads_lasts : (at to p : ℕ) (d : Option ℕ) → LeadsToTag b at to p d → LeadsToTag c at to p d
+  leads_lasts at to p d (here _ _ tag) = here p d (tag_lasts at to p d tag)
+  leads_lasts at to p d (later _ _ q e is rest) = later p d q e (part_lasts p d q e is) (leads_lasts at to q e rest)
+
+-- the tag is within the buffer
+tag_within : (b : List ℕ) (at to p : ℕ) (d : Option ℕ) → LeadsToTag b at to p d
+    → (p + 1 ≤ at) × (at < to) × (to < length b)
+tag_within b at to p d (here _ _ tag) = (tag.local.low, tag.some, tag.name.whole)
+tag_within b at to p d (later _ _ q e is rest) =
+    let past = part_within b p d q e is in let within = tag_within b at to q e rest in (omega arith, within.1, within.2)
+
+pub begin_lasts : (b c : List ℕ) (p : ℕ) → SharesFront (length b) b c → 3 ≤ length b → BeginsAt b p → BeginsAt c p
+begin_lasts b c p s long (inl (mark, is)) = inl (text_shared (length b) b c s utf8_mark 0 mark.fits mark, is)
+begin_lasts b c p s long (inr (none, is)) =
+    inr (λ mark. none (text_shared (length b) c b (front_swaps (length b) b c s) utf8_mark 0 (omega arith) mark), is)
+
+pub root_lasts : (name rest b more : List ℕ) → IsRootElement name rest b → IsRootElement name (rest ++ more) (b ++ more)
+root_lasts name rest b more (p, at, to, begins, leads, is_name, is_rest) =
+    let s = front_grows b more in
+    let (low, some, whole) = tag_within b at to p None leads in (
+      p,
+      at,
+      to,
+      begin_lasts b (b ++ more) p s (omega arith) begins,
+      leads_lasts b (b ++ more) s at to p None leads,
+      is_name ∙ range_shared (length b) b (b ++ more) s at to (omega arith) (omega arith),
+      ap (λ r. r ++ more) is_rest ∙ sym (drop-append-le to b more (omega arith)),
+    )
+
+pub HasRoot-lasts : (name : List ℕ) → Lasts (HasRoot name)
+HasRoot-lasts name b more (rest, is) = (rest ++ more, root_lasts name rest b more is)
+
+pub HasRootWith-lasts : (name text : List ℕ) → Lasts (HasRootWith name text)
+HasRootWith-lasts name text b more (rest, is, (p, o, none)) =
+    let s = front_grows rest more in
+    let back = byte_shared_back (length rest) rest (rest ++ more) s (λ x. x ≡ 0x3E) in
+    let fits = o.fits in (
+      rest ++ more,
+      root_lasts name rest b more is,
+      (
+        p,
+        text_shared (length rest) rest (rest ++ more) s text p fits o,
+        λ k lt closes. none k lt (back k (omega arith) closes),
+      ),
+    )

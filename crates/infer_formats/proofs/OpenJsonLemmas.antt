@@ -1,0 +1,217 @@
+-- What bytes after a buffer can make JSON of it.
+use Rattle.infer_formats.proofs.Common.{◌≡◌, ◌↔◌, ◌⊎◌, ◌<◌, ◌+◌, inl, inr, ℕ, zero, suc, Bool, true, false, IsTrue, List, [], ◌∷◌, ◌++◌, append_assoc, drop, get_or, length, refl, sym, subst, ap, ◌∙◌, arith, ◌||◌, list_all, nat_tests, AgreesAt, MayBecome, Symbol, range, blanks, value, items, more_items, members, member, more_members, chars, char, escape, hex, number, whole, fraction, exponent, power, digits, text, same_line, next_line, BeginsLines, BeginsText, CanBe, IsAmong, IsJson, IsJsonLines, Stands, UpToMark, nothing, one, by_rule, IsPast, IsPastMark, utf8_mark}
+use Rattle.std.proofs.Common.{nat_lt}
+use Rattle.std.specs.Prelude.{◌&&◌}
+use Rattle.std.proofs.lemmas.Bool.{and_parts, or_right}
+use Rattle.infer_formats.specs.Json.{rules}
+use Rattle.infer_formats.proofs.CompleteLemmas.{AllHold}
+use Rattle.infer_formats.proofs.JsonLemmas.{begins, chars_begin}
+use Rattle.infer_formats.proofs.LineLemmas.{mark_stops, past_can, text_no_blank}
+use Rattle.infer_formats.proofs.ReaderLemmas.{blank_read, blank_skip}
+
+-- ---- what the grammar leaves open
+
+-- some bytes can follow b, or none need to, so that the symbols stand for the whole, or for all behind its byte order mark
+abbrev pub MayStandFor : List Symbol → List ℕ → Type 0
+MayStandFor ss b = (v : List ℕ) × UpToMark (Stands ss) (b ++ v)
+
+-- so that the whole is one text between white space
+abbrev pub MayBecomeJson : List ℕ → Type 0
+MayBecomeJson = MayStandFor (blanks ∷ text ∷ blanks ∷ [])
+
+-- so that it is texts, each behind the first on a new line
+abbrev pub MayBecomeJsonLines : List ℕ → Type 0
+MayBecomeJsonLines = MayStandFor (blanks ∷ text ∷ same_line ∷ [])
+
+either_true : (p q : Bool) → IsTrue (p || q) → IsTrue p ⊎ IsTrue q
+either_true true q h = inl refl
+either_true false q h = inr h
+
+among_passes : (p : List Symbol → Bool) (r : List Symbol) (rs : List (List Symbol)) → IsTrue (list_all p rs) → IsAmong r rs → IsTrue (p r)
+among_passes p r [] all m = elim m [ ]
+among_passes p r (s ∷ rs) all (inl e) = subst (λ t. IsTrue (p t)) (sym e) (and_parts (p s) _ all).0
+among_passes p r (s ∷ rs) all (inr m) = among_passes p r rs (and_parts (p s) _ all).1 m
+
+-- ---- what more bytes may make of a buffer
+
+module _ (ss : List Symbol) (P : List ℕ → Type 0) (can : (w : List ℕ) → P w → CanBe ss w) where
+  -- if it has P with more bytes, up to a mark, the symbols may stand for it
+  pub may_stand : (b more : List ℕ) → UpToMark P (b ++ more) → MayStandFor ss b
+  may_stand b more (inl p) = let (v, d) = can (b ++ more) p in (more ++ v, inl (subst (Stands ss) (append_assoc b more v) d))
+  may_stand b more (inr (w, e, p)) =
+      let (v, d) = can w p in
+      (more ++ v, inr (w ++ v, sym (append_assoc b more v) ∙ ap (λ t. t ++ v) e, d))
+
+pub json_may : (b : List ℕ) → MayBecome IsJson b → MayBecomeJson b
+json_may b (more, bytes, is) = may_stand _ BeginsText (λ w p. p.1) b more is
+
+pub lines_may : (b : List ℕ) → MayBecome IsJsonLines b → MayBecomeJsonLines b
+lines_may b (more, bytes, is) = may_stand _ BeginsLines (λ w p. p.0) b more is
+
+-- a mark that bytes after b end has begun, or is whole
+agrees_marked : (b v w : List ℕ) → b ++ v ≡ 0xEF ∷ 0xBB ∷ 0xBF ∷ w
+    → ((length b < 3) × AgreesAt b utf8_mark 0) ⊎ ((u : List ℕ) × (b ≡ 0xEF ∷ 0xBB ∷ 0xBF ∷ u))
+agrees_marked [] v w e = inl (omega arith, record { reads = λ k lt less. absurd (omega arith) })
+agrees_marked (x ∷ []) v w e = let f : x ≡ 0xEF = cc in inl (omega arith, record { reads = go f })
+  where
+    go : x ≡ 0xEF → (k : ℕ) → k < 3 → 0 + k < 1 → get_or (x ∷ []) (0 + k) 0 ≡ get_or utf8_mark k 0
+    go f zero lt less = f
+    go f (suc k) lt less = absurd (omega arith)
+agrees_marked (x ∷ y ∷ []) v w e = let f : x ≡ 0xEF = cc in let g : y ≡ 0xBB = cc in inl (omega arith, record { reads = go f g })
+  where
+    go : x ≡ 0xEF → y ≡ 0xBB → (k : ℕ) → k < 3 → 0 + k < 2 → get_or (x ∷ y ∷ []) (0 + k) 0 ≡ get_or utf8_mark k 0
+    go f g zero lt less = f
+    go f g (suc zero) lt less = g
+    go f g (suc (suc k)) lt less = absurd (omega arith)
+agrees_marked (x ∷ y ∷ z ∷ b) v w e =
+    let f : x ≡ 0xEF = cc in let g : y ≡ 0xBB = cc in let h : z ≡ 0xBF = cc in
+    inr (b, ap (λ t. t ∷ y ∷ z ∷ b) f ∙ (ap (λ t. 0xEF ∷ t ∷ z ∷ b) g ∙ ap (λ t. 0xEF ∷ 0xBB ∷ t ∷ b) h))
+
+module _ (ss : List Symbol) where
+  abbrev after : List Symbol
+  after = blanks ∷ text ∷ ss
+
+  -- what stands behind the mark decides, if none is cut
+  pub may_past : (b w : List ℕ) → ¬ ((length b < 3) × AgreesAt b utf8_mark 0) → IsPastMark b w → MayStandFor after b → CanBe after w
+  may_past b w none (inl e) (v, h) = elim h [
+    | inl d ↦ absurd (mark_stops ss _ (subst (λ t. Stands after (t ++ v)) e d))
+    | inr (u, f, d) ↦
+        let same : w ++ v ≡ u = ap (drop 3) (sym (ap (λ t. t ++ v) e) ∙ f) in
+        (v, subst (Stands after) (sym same) d)
+  ]
+  may_past b w none (inr (e, lacks)) (v, h) = elim h [
+    | inl d ↦ (v, subst (λ t. Stands after (t ++ v)) e d)
+    | inr (u, f, d) ↦ elim (agrees_marked b v u f) [
+      | inl begun ↦ absurd (none begun)
+      | inr (t, g) ↦ absurd (lacks t g)
+    ]
+  ]
+
+-- ---- one text is never followed by the next on a new line
+
+-- what is left behind a bracket that closes: of each open bracket white space and what comes behind a value
+is_frame : List Symbol → Bool
+is_frame [] = false
+is_frame (blanks ∷ []) = true
+is_frame (blanks ∷ more_items n ∷ ss) = is_frame ss
+is_frame (blanks ∷ more_members n ∷ ss) = is_frame ss
+is_frame ss = false
+
+in_string : List Symbol → Bool
+in_string (chars ∷ ss) = true
+in_string ss = false
+
+-- behind what may end in "]" stands such a frame, or the rest of a string
+is_tidy : Symbol → List Symbol → Bool
+is_tidy (range low high) ss = (nat_lt 0x5D low || nat_lt high 0x5D) || (is_frame ss || in_string ss)
+is_tidy char ss = in_string ss
+is_tidy (value n) ss = is_frame ss
+is_tidy (items n) ss = is_frame ss
+is_tidy (more_items n) ss = is_frame ss
+is_tidy (members n) ss = is_frame ss
+is_tidy (member n) ss = is_frame ss
+is_tidy (more_members n) ss = is_frame ss
+is_tidy text ss = is_frame ss
+is_tidy same_line ss = false
+is_tidy next_line ss = false
+is_tidy a ss = true
+
+are_tidy : List Symbol → Bool
+are_tidy [] = true
+are_tidy (a ∷ ss) = is_tidy a ss && are_tidy ss
+
+rules_tidy : (a : Symbol) (ss : List Symbol) → IsTrue (is_tidy a ss) → IsTrue (are_tidy ss) → IsTrue (list_all (λ r. are_tidy (r ++ ss)) (rules a))
+unfolding is_frame in_string is_tidy are_tidy
+rules_tidy (range low high) ss t h = refl
+rules_tidy blanks ss t h = rw h refl
+rules_tidy (value zero) ss t h = rw h refl
+rules_tidy (value (suc n)) ss t h = rw (t, h) refl
+rules_tidy (items n) ss t h = rw (t, h) refl
+rules_tidy (more_items n) ss t h = rw (t, h) refl
+rules_tidy (members n) ss t h = rw (t, h) refl
+rules_tidy (member n) ss t h = rw (t, h) refl
+rules_tidy (more_members n) ss t h = rw (t, h) refl
+rules_tidy chars ss t h = rw h refl
+rules_tidy char ss t h = rw (t, h, or_right (is_frame ss) true refl) refl
+rules_tidy escape ss t h = rw h refl
+rules_tidy hex ss t h = rw h refl
+rules_tidy number ss t h = rw h refl
+rules_tidy whole ss t h = rw h refl
+rules_tidy fraction ss t h = rw h refl
+rules_tidy exponent ss t h = rw h refl
+rules_tidy power ss t h = rw h refl
+rules_tidy digits ss t h = rw h refl
+rules_tidy text ss t h = rw (t, h) refl
+rules_tidy same_line ss t h = absurd (cc)
+rules_tidy next_line ss t h = absurd (cc)
+
+-- no frame goes on with a bracket on a new line
+no_bracket : (ss : List Symbol) → IsTrue (is_frame ss) → (y : List ℕ) → ¬ Stands ss (0x5B ∷ y)
+unfolding is_frame
+no_bracket [] h y d = absurd (cc)
+no_bracket (blanks ∷ []) h y d = let f = (blank_skip 0x5B [] y (λ b. grind arith)).0 d in elim f [ ]
+no_bracket (blanks ∷ more_items n ∷ ss) h y d =
+    let f = (blank_skip 0x5B (more_items n ∷ ss) y (λ b. grind arith)).0 d in
+    let g = (begins 2 0x5B y (more_items n ∷ ss)).0 f in grind arith
+no_bracket (blanks ∷ more_members n ∷ ss) h y d =
+    let f = (blank_skip 0x5B (more_members n ∷ ss) y (λ b. grind arith)).0 d in
+    let g = (begins 2 0x5B y (more_members n ∷ ss)).0 f in grind arith
+no_bracket (a ∷ ss) h y d = absurd (cc)
+
+no_line : (ss : List Symbol) → IsTrue (is_frame ss) → (y : List ℕ) → ¬ Stands ss (0x0A ∷ 0x5B ∷ y)
+unfolding is_frame
+no_line [] h y d = absurd (cc)
+no_line (blanks ∷ []) h y d = no_bracket (blanks ∷ []) refl y ((blank_read 0x0A [] (0x5B ∷ y) (inr (inr (inl refl))) (λ e. elim e [ ])).0 d)
+no_line (blanks ∷ more_items n ∷ ss) h y d =
+    let never : ¬ Stands (more_items n ∷ ss) (0x0A ∷ 0x5B ∷ y) = λ e. let g = (begins 2 0x0A (0x5B ∷ y) (more_items n ∷ ss)).0 e in grind arith in
+    no_bracket (blanks ∷ more_items n ∷ ss) h y ((blank_read 0x0A (more_items n ∷ ss) (0x5B ∷ y) (inr (inr (inl refl))) never).0 d)
+no_line (blanks ∷ more_members n ∷ ss) h y d =
+    let never : ¬ Stands (more_members n ∷ ss) (0x0A ∷ 0x5B ∷ y) = λ e. let g = (begins 2 0x0A (0x5B ∷ y) (more_members n ∷ ss)).0 e in grind arith in
+    no_bracket (blanks ∷ more_members n ∷ ss) h y ((blank_read 0x0A (more_members n ∷ ss) (0x5B ∷ y) (inr (inr (inl refl))) never).0 d)
+no_line (a ∷ ss) h y d = absurd (cc)
+
+no_char : (ss : List Symbol) → IsTrue (in_string ss) → (y : List ℕ) → ¬ Stands ss (0x0A ∷ y)
+unfolding in_string
+no_char (chars ∷ ss) h y d = let f = (chars_begin 0x0A ss y).0 d in grind arith
+no_char [] h y d = absurd (cc)
+no_char (a ∷ ss) h y d = absurd (cc)
+
+never_next : {ss : List Symbol} {xs : List ℕ} → Stands ss xs → IsTrue (are_tidy ss) → (p y : List ℕ) → xs ≡ p ++ 0x5D ∷ 0x0A ∷ 0x5B ∷ y → ⊥
+unfolding is_tidy are_tidy
+never_next nothing t [] y e = absurd (cc)
+never_next nothing t (z ∷ p) y e = absurd (cc)
+never_next (one {low} {high} {x} {ss} {xs} l h d) t [] y e =
+    let first : x ≡ 0x5D = cc in
+    let rest : xs ≡ 0x0A ∷ 0x5B ∷ y = cc in
+    let behind = subst (Stands ss) rest d in
+    let tidy = and_parts (is_tidy (range low high) ss) _ t in
+    elim (either_true (nat_lt 0x5D low || nat_lt high 0x5D) _ tidy.0) [
+      | inl other ↦ absurd (grind (arith, nat_tests, other, l, h, first))
+      | inr kind ↦ elim (either_true (is_frame ss) _ kind) [
+        | inl frame ↦ no_line ss frame y behind
+        | inr string ↦ no_char ss string (0x5B ∷ y) behind
+      ]
+    ]
+never_next (one {low} {high} {x} {ss} {xs} l h d) t (z ∷ p) y e =
+    let rest : xs ≡ p ++ 0x5D ∷ 0x0A ∷ 0x5B ∷ y = cc in
+    never_next d (and_parts (is_tidy (range low high) ss) _ t).1 p y rest
+never_next (by_rule {a} {ss} {xs} r m d) t p y e =
+    let tidy = and_parts (is_tidy a ss) _ t in
+    never_next d (among_passes (λ s. are_tidy (s ++ ss)) r (rules a) (rules_tidy a ss tidy.0 tidy.1) m) p y e
+
+pub one_text : (w y : List ℕ) → ¬ CanBe (blanks ∷ text ∷ blanks ∷ []) (w ++ 0x5D ∷ 0x0A ∷ 0x5B ∷ y)
+unfolding is_frame in_string is_tidy are_tidy
+one_text w y (v, d) = never_next d refl w (y ++ v) (append_assoc w (0x5D ∷ 0x0A ∷ 0x5B ∷ y) v)
+
+-- ---- by the first line
+
+-- what stands past white space decides
+pub by_line : (ss : List Symbol) (b s : List ℕ) (r : Bool) → AllHold ss → IsPast b s → (CanBe (text ∷ ss) s → IsTrue r)
+    → CanBe (blanks ∷ text ∷ ss) b → IsTrue r
+by_line ss b s r holds past told d = told ((past_can (text ∷ ss) b s holds (text_no_blank ss) past).0 d)
+
+-- and what stands past a mark
+pub behind_mark : (ss : List Symbol) (b : List ℕ) (r begun : Bool) (w : List ℕ) → begun ≡ false
+    → IsTrue begun ↔ ((length b < 3) × AgreesAt b utf8_mark 0) → IsPastMark b w → (CanBe (blanks ∷ text ∷ ss) w → IsTrue r)
+    → MayStandFor (blanks ∷ text ∷ ss) b → IsTrue r
+behind_mark ss b r begun w not_so told past can may = can (may_past ss b w (λ h. let e = told.1 h in absurd (cc)) past may)

@@ -1,0 +1,69 @@
+-- Each relation, by the lemmas of its format.
+use Rattle.infer_formats.proofs.Common.{[], ◌≡◌, ◌+◌, ◌↔◌, ◌≤◌, IsTrue, List, ℕ, ◌++◌, OccursAt, OccursAt-append, Lasts, MayBecome, AgreesAt, IsAnimated, arith, grown_agrees, refl}
+use Rattle.infer_sig.specs.Places.{StandsByPlace}
+use Rattle.infer_sig.specs.Signature.{stands}
+use Rattle.infer_formats.proofs.JsonLeadLemmas.{lines_lead, text_leads}
+use Rattle.infer_formats.proofs.LeadLemmas.{begins_markup}
+use Rattle.infer_formats.proofs.OutlineLemmas.{begins, counted_for_lines, dbase_lines, field_lines, json_begins, markup_begins, named_part, object_lines, package_lines, program_lines, subrip_lines, tag_lines, text_lines}
+use Rattle.infer_formats.specs.Open.{Stays}
+use Rattle.infer_formats.specs.Png.{png_header}
+use Rattle.infer_formats.specs.Relation.{Fits, HasLines, Relation, animated, class_id, dbase, directory_tag, first_entry_ends_in, first_entry_has_extra, first_entry_is, is_lasting, json_lines, json_text, package_with, plain_text, program, relation_listed, root, root_with, shared_object, subrip, tar_checksum}
+use Rattle.infer_formats.specs.declared.relation.Relation as declared
+use Rattle.infer_formats.specs.declared.relation.Relation.TheVariants.{JsonLines, JsonText, PlainText}
+use Rattle.infer_deep.proofs.ClassIdLemmas.{HasClassId-lasts}
+use Rattle.infer_formats.proofs.GrowthLemmas.{chunk, dbase-lasts, first_entry_ends_in-lasts, first_entry_has_extra-lasts, first_entry_is-lasts, package_with-lasts, shared_object-lasts, subrip-lasts, tag-lasts, tar_checksum-lasts}
+use Rattle.infer_formats.proofs.MarkupLemmas.{HasRoot-lasts, HasRootWith-lasts}
+use Rattle.infer_formats.proofs.ScriptLemmas.{IsProgram-lasts}
+
+pub relation_lasts : (r : Relation) → IsTrue (is_lasting r) → Lasts (Fits r)
+relation_lasts shared_object l = shared_object-lasts
+relation_lasts (first_entry_is name) l = λ b more. first_entry_is-lasts b more name
+relation_lasts (first_entry_ends_in text) l = λ b more. first_entry_ends_in-lasts b more text
+relation_lasts (first_entry_has_extra text) l = λ b more. first_entry_has_extra-lasts b more text
+relation_lasts (package_with folder) l = λ b more. package_with-lasts b more folder
+relation_lasts (class_id id) l = HasClassId-lasts id
+relation_lasts (directory_tag tag) l = λ b more. tag-lasts b more tag
+relation_lasts animated l = λ b more (header, chunks). (OccursAt-append b more png_header 0 header, chunk b more 8 chunks)
+relation_lasts subrip l = subrip-lasts
+relation_lasts dbase l = dbase-lasts
+relation_lasts tar_checksum l = tar_checksum-lasts
+relation_lasts (program name) l = IsProgram-lasts name
+relation_lasts (root name) l = HasRoot-lasts name
+relation_lasts (root_with name t) l = HasRootWith-lasts name t
+relation_lasts json_lines l = absurd (cc)
+relation_lasts json_text l = absurd (cc)
+relation_lasts plain_text l = absurd (cc)
+
+lasts_but : (r : declared.Relation) → (r ≡ JsonLines → ⊥) → (r ≡ JsonText → ⊥) → (r ≡ PlainText → ⊥) → IsTrue (is_lasting (relation_listed r))
+lasts_but JsonLines n m p = absurd (n refl)
+lasts_but JsonText n m p = absurd (m refl)
+lasts_but PlainText n m p = absurd (p refl)
+lasts_but r n m p = refl
+
+pub fit_stays : (r : declared.Relation) → (r ≡ JsonLines → ⊥) → (r ≡ JsonText → ⊥) → (r ≡ PlainText → ⊥) → (b : List ℕ) → Fits (relation_listed r) b → Stays (Fits (relation_listed r)) b
+fit_stays r n m p b f more bytes = relation_lasts (relation_listed r) (lasts_but r n m p) b more f
+
+-- what becomes an animated image begins as one, and its chunks may be such
+pub animation_known : (b : List ℕ) → MayBecome (λ c. OccursAt c png_header 0 × IsAnimated c) b → AgreesAt b png_header 0 × MayBecome IsAnimated b
+animation_known b (more, bytes, (header, chunks)) = (grown_agrees b more png_header 0 header, (more, bytes, chunks))
+
+-- it has one of its lines
+module _ (by_place : (place : ℕ) (t buf : List ℕ) → IsTrue (stands place t buf) ↔ StandsByPlace place t buf) (b : List ℕ) where
+  pub has_lines : (r : Relation) → HasLines r b
+  has_lines shared_object small (wide, big, class, order, table) = object_lines by_place b wide big table
+  has_lines (first_entry_is name) small h = named_part by_place b name [] h.0.header h.2
+  has_lines (first_entry_ends_in name) small h = counted_for_lines by_place b name 26 h.0 (omega arith) h.1
+  has_lines (first_entry_has_extra extra) small h = counted_for_lines by_place b extra 28 h.0 (omega arith) h.1
+  has_lines (package_with folder) small h = package_lines by_place b folder h.0
+  has_lines (class_id id) small (place, r, o) = let le = r.header.fits in begins by_place b 8 _ (omega arith) r.header
+  has_lines (directory_tag tag) small (big, opens, e) = tag_lines by_place b tag big opens
+  has_lines animated small (o, a) = let le = o.fits in begins by_place b 4 png_header (omega arith) o
+  has_lines subrip small h = subrip_lines by_place b h
+  has_lines dbase small h = dbase_lines by_place b h
+  has_lines tar_checksum small (long, some, (p, d, f, sums)) = field_lines by_place b p d long f
+  has_lines (program name) small h = program_lines by_place b name h
+  has_lines (root name) small h = markup_begins by_place b (begins_markup b name h.0 h.1)
+  has_lines (root_with name t) small h = markup_begins by_place b (begins_markup b name h.0 h.1)
+  has_lines json_lines small h = json_begins by_place b (lines_lead b h).0
+  has_lines json_text small h = json_begins by_place b (text_leads b h).0
+  has_lines plain_text small h = text_lines by_place b (small refl) h

@@ -1,0 +1,52 @@
+use Rattle.infer_formats.proofs.Common.{◌≡◌, ℕ, ◌+◌, ◌<◌, length, inl, inr, arith, refl, subst, slice_index, cases_lt, false≢true, IsXmlSpace}
+use Rattle.infer_formats.specs.Markup.{MayOpen}
+use Rattle.infer_formats.proofs.GrowthLemmas.{there}
+use Rattle.infer_formats.proofs.markup.may_be_rooted.Goals as goal
+
+no_space : (x : ℕ) → x ≡ 0x3C → ¬ IsXmlSpace x
+no_space x e (inl s) = absurd (omega arith)
+no_space x e (inr (inl s)) = absurd (omega arith)
+no_space x e (inr (inr (inl s))) = absurd (omega arith)
+no_space x e (inr (inr (inr s))) = absurd (omega arith)
+
+pub loop-place-init : goal.loop-place-init
+loop-place-init c = λ j lt. absurd (omega arith)
+
+pub loop-place-preserved : goal.loop-place-preserved
+loop-place-preserved c = λ j lt. elim (cases_lt j c.loop-place.place) [
+  | inl less ↦ c.loop-place.invariant j less
+  | inr more ↦
+      let e : c.loop-place.place ≡ j = omega arith in
+      subst (λ k. IsXmlSpace (slice_index c.args.buf.now k)) e (c.if-not-is_xml_space.ensures.0 refl)
+]
+
+pub returns-then-not-is_xml_space : goal.returns-then-not-is_xml_space
+returns-then-not-is_xml_space c =
+    let b = c.args.buf.now in
+    let place = c.loop-place.place in (
+      λ is. let (opens, may) = c.opens_at.ensures.0 is in inr (place, c.loop-place.invariant, opens, may),
+      λ m. elim m [
+        | inl mark ↦ absurd (false≢true (c.if-has_at.ensures.1 mark))
+        | inr (k, spaces, opens, may) ↦ elim (cases_lt k place) [
+          | inl less ↦ absurd (no_space (slice_index b k) opens (c.loop-place.invariant k less))
+          | inr more ↦ elim (cases_lt place k) [
+            | inl less ↦ absurd (false≢true (c.if-not-is_xml_space.ensures.1 (spaces place less)))
+            | inr same ↦
+                let e : k ≡ place = omega arith in
+                c.opens_at.ensures.1 (subst (λ i. (slice_index b i ≡ 0x3C) × MayOpen b (i + 1)) e (opens, may))
+          ]
+        ]
+      ],
+    )
+
+pub returns : goal.returns
+returns c =
+    let b = c.args.buf.now in (
+      λ e. absurd (cc),
+      λ m. elim m [
+        | inl mark ↦ absurd (false≢true (c.if-has_at.ensures.1 mark))
+        | inr (k, spaces, opens, may) ↦
+            let lt : k < length b = there b k (omega arith) in
+            absurd (no_space (slice_index b k) opens (c.loop-place.invariant k (omega arith)))
+      ],
+    )

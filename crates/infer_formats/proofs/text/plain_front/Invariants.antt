@@ -1,0 +1,6 @@
+-- the blocks so far have no byte of binary data
+use Rattle.infer_formats.proofs.Common.{◌*◌, AllBelow, IsPlainByte}
+use Rattle.infer_formats.proofs.text.plain_front.Given as goal
+
+abbrev pub invariant-loop-k : goal.invariant-loop-k
+invariant-loop-k l = AllBelow IsPlainByte l.buf (16 * l.k)

@@ -1,0 +1,9 @@
+-- there is no such entry before
+use Rattle.infer_formats.proofs.Common.{ℕ, ◌-◌, ◌<◌, ◌≤◌, length, IsFolderEntry}
+use Rattle.infer_formats.proofs.zip.first_folder.Given as goal
+
+abbrev pub invariant-loop-step : goal.invariant-loop-step
+invariant-loop-step l = (l.from ≤ length l.buf) × ((p : ℕ) → p < l.from → ¬ IsFolderEntry l.buf p)
+
+abbrev pub decreases-loop-step : goal.decreases-loop-step
+decreases-loop-step l = length l.buf - l.from

@@ -1,0 +1,172 @@
+-- Markup, by its root element: the first element, behind a prolog of white space, processing instructions, comments and
+-- at most one document type declaration.
+use Rattle.std.specs.Prelude.{◌≡◌, ◌≢◌, ◌↔◌, ℕ, ◌+◌, ◌<◌, ◌≤◌, ◌⊎◌, List, [], ◌∷◌, ◌++◌, length, codes, drop, slice_index, slice_range, Option, None, Some}
+use Rattle.memchr.specs.Find.{OccursAt}
+use Rattle.infer_deep.specs.Open.{AgreesAt}
+use Rattle.infer_deep.specs.Places.{IsFirstPlace}
+use Rattle.infer_formats.specs.Runs.{IsAfterLast, IsRun}
+
+-- white space, of which XML has no 0C
+abbrev pub IsXmlSpace : ℕ → Type 0
+IsXmlSpace x = (x ≡ 0x09) ⊎ (x ≡ 0x0A) ⊎ (x ≡ 0x0D) ⊎ (x ≡ 0x20)
+
+-- what is neither white space nor ">" is a byte of a document type's name
+abbrev pub IsTypeByte : ℕ → Type 0
+IsTypeByte x = (¬ IsXmlSpace x) × (x ≢ 0x3E)
+
+-- what is not "/" either is one of an element's name
+abbrev pub IsNameByte : ℕ → Type 0
+IsNameByte x = IsTypeByte x × (x ≢ 0x2F)
+
+-- from p up to q stands white space, at least a byte of it, and all that stands there
+abbrev pub IsSpaceRun : List ℕ → ℕ → ℕ → Type 0
+IsSpaceRun b p q = (p < q) × IsRun IsXmlSpace b p q
+
+-- from p up to q stands `opening`, then all before the first `closing` that comes after it, and that
+abbrev pub IsEnclosed : List ℕ → List ℕ → List ℕ → ℕ → ℕ → Type 0
+IsEnclosed b opening closing p q =
+    OccursAt b opening p
+    × ((e : ℕ) × IsFirstPlace OccursAt b closing (p + length opening) (length b) e × (q ≡ e + length closing))
+
+-- from p up to q stands white space, a processing instruction or a comment
+abbrev pub IsMisc : List ℕ → ℕ → ℕ → Type 0
+IsMisc b p q =
+    IsSpaceRun b p q ⊎ IsEnclosed b (codes "<?") (codes "?>") p q ⊎ IsEnclosed b (codes "<!--") (codes "-->") p q
+
+-- the first ">" from `from` on is at `close`, and no "[" stands before it
+abbrev pub ClosesDeclaration : List ℕ → ℕ → ℕ → Type 0
+ClosesDeclaration b from close = IsRun (λ x. (x ≢ 0x3E) × (x ≢ 0x5B)) b from close × (slice_index b close ≡ 0x3E)
+
+-- a document type declaration stands at p: "<!DOCTYPE", white space, a name that begins at `name`, and all up to the
+-- first ">" behind the white space, which is at `close`, without a "["
+pub record IsDoctype (b : List ℕ) (p name close : ℕ) : Type 0 where
+  pub opens : OccursAt b (codes "<!DOCTYPE") p
+  pub space : IsSpaceRun b (p + 9) name
+  pub closes : ClosesDeclaration b name close
+
+-- a part of the prolog stands from p up to q. d is where the document type's name begins if one was declared before p,
+-- and e the same before q. A second declaration is no part
+abbrev pub IsPart : List ℕ → ℕ → Option ℕ → ℕ → Option ℕ → Type 0
+IsPart b p d q e =
+    (IsMisc b p q × (e ≡ d))
+    ⊎ ((name close : ℕ) × IsDoctype b p name close × (d ≡ None) × (q ≡ close + 1) × (e ≡ Some name))
+
+-- the text from p up to q is the whole name of the document type, if one was declared
+abbrev pub AgreesWithDoctype : List ℕ → Option ℕ → ℕ → ℕ → Type 0
+AgreesWithDoctype b None p q = Unit {0}
+AgreesWithDoctype b (Some name) p q =
+    (end : ℕ) × IsRun IsTypeByte b name end × (slice_range b name end ≡ slice_range b p q)
+
+-- "!" and "?" begin no element's name
+abbrev pub BeginsElement : ℕ → Type 0
+BeginsElement x = (x ≢ 0x21) × (x ≢ 0x3F)
+
+-- "<" stands at p, and behind it a byte that can begin an element's name
+abbrev pub OpensElement : List ℕ → ℕ → Type 0
+OpensElement b p = (p + 1 < length b) × (slice_index b p ≡ 0x3C) × BeginsElement (slice_index b (p + 1))
+
+-- the tag of an element opens at p: "<", and a name that ends at `to`, within b, and is that of the document type d.
+-- What follows the name's last ":", or all of it, begins at `at` and is not empty
+pub record OpensTag (b : List ℕ) (at to p : ℕ) (d : Option ℕ) : Type 0 where
+  pub opens : slice_index b p ≡ 0x3C
+  pub name : IsRun IsNameByte b (p + 1) to
+  pub begins : BeginsElement (slice_index b (p + 1))
+  pub local : IsAfterLast 0x3A b (p + 1) to at
+  pub some : at < to
+  pub agrees : AgreesWithDoctype b d (p + 1) to
+
+-- the first thing from p on that is no part of the prolog is that tag: it opens at p, or follows on a part that stands
+-- there
+pub data LeadsToTag (b : List ℕ) (at to : ℕ) : ℕ → Option ℕ → Type 0 where
+  here : (p : ℕ) (d : Option ℕ) → OpensTag b at to p d → LeadsToTag b at to p d
+  later : (p : ℕ) (d : Option ℕ) (q : ℕ) (e : Option ℕ)
+      → IsPart b p d q e → LeadsToTag b at to q e → LeadsToTag b at to p d
+
+-- from `start` on a prolog ends at `place`, whatever bytes follow b: a tag that it leads to opens there. d is where the
+-- name of the document type begins, if one was declared, and its declaration is closed
+pub record EndsProlog (b : List ℕ) (start place : ℕ) (d : Option ℕ) : Type 0 where
+  pub within : place ≤ length b
+  pub leads : (more : List ℕ) (at to : ℕ) → LeadsToTag (b ++ more) at to start None ↔ LeadsToTag (b ++ more) at to place d
+  pub ends : (q : ℕ) (e : Option ℕ) → ¬ IsPart b place d q e
+  pub declared : (name : ℕ) → d ≡ Some name → (close : ℕ) × (name ≤ close) × (close < length b) × (slice_index b close ≡ 0x3E)
+
+-- the byte order mark of UTF-8
+abbrev pub utf8_mark : List ℕ
+utf8_mark = 0xEF ∷ 0xBB ∷ 0xBF ∷ []
+
+-- the prolog begins at p: at 0, or behind a byte order mark if there is one
+abbrev pub BeginsAt : List ℕ → ℕ → Type 0
+BeginsAt b p = (OccursAt b utf8_mark 0 × (p ≡ 3)) ⊎ ((¬ OccursAt b utf8_mark 0) × (p ≡ 0))
+
+-- the root element has this local name, and `rest` is what comes after it in b
+abbrev pub IsRootElement : List ℕ → List ℕ → List ℕ → Type 0
+IsRootElement name rest b =
+    (p at to : ℕ) × BeginsAt b p × LeadsToTag b at to p None × (name ≡ slice_range b at to) × (rest ≡ drop to b)
+
+-- the text stands in `rest` before its first ">", or anywhere if it has none
+abbrev pub HasInTag : List ℕ → List ℕ → Type 0
+HasInTag text rest = (p : ℕ) × OccursAt rest text p × ((k : ℕ) → k < p + length text → slice_index rest k ≢ 0x3E)
+
+-- the root element has this local name
+abbrev pub HasRoot : List ℕ → List ℕ → Type 0
+HasRoot name b = (rest : List ℕ) × IsRootElement name rest b
+
+-- and the text in its tag behind the name
+abbrev pub HasRootWith : List ℕ → List ℕ → List ℕ → Type 0
+HasRootWith name text b = (rest : List ℕ) × IsRootElement name rest b × HasInTag text rest
+
+-- behind a "<" the name of an element stands at p, or another "<" there or behind
+abbrev pub MayOpen : List ℕ → ℕ → Type 0
+MayOpen b p = BeginsElement (slice_index b p) ⊎ ((j : ℕ) × (p ≤ j) × (slice_index b j ≡ 0x3C))
+
+-- b begins with a byte order mark, or with white space, perhaps none, and such a "<"
+abbrev pub MayBeRooted : List ℕ → Type 0
+MayBeRooted b =
+    OccursAt b utf8_mark 0
+    ⊎ ((k : ℕ) × ((j : ℕ) → j < k → IsXmlSpace (slice_index b j)) × (slice_index b k ≡ 0x3C) × MayOpen b (k + 1))
+
+-- a root element can have this local name: it has a byte, and all are those of an element's name, but ":"
+pub record IsLocalName (name : List ℕ) : Type 0 where
+  pub some : 0 < length name
+  pub bytes : (k : ℕ) → k < length name → IsNameByte (slice_index name k) × (slice_index name k ≢ 0x3A)
+
+-- an element can have this name, whose local name it is
+pub record IsFullName (whole name : List ℕ) : Type 0 where
+  pub bytes : (k : ℕ) → k < length whole → IsNameByte (slice_index whole k)
+  pub begins : BeginsElement (slice_index whole 0)
+  pub at : ℕ
+  pub local : IsAfterLast 0x3A whole 0 (length whole) at
+  pub some : at < length whole
+  pub is : name ≡ drop at whole
+
+-- the prolog may go on from p: white space stands there up to the end of b, or an instruction or a comment as far as b goes
+abbrev pub MayGoOn : List ℕ → ℕ → Type 0
+MayGoOn b p =
+    ((k : ℕ) → p ≤ k → k < length b → IsXmlSpace (slice_index b k)) ⊎ AgreesAt b (codes "<?") p ⊎ AgreesAt b (codes "<!--") p
+
+-- a tag opens at p, and b ends in its name
+abbrev pub MayOpenTag : List ℕ → ℕ → Type 0
+MayOpenTag b p =
+    (slice_index b p ≡ 0x3C) × (p + 1 < length b) × BeginsElement (slice_index b (p + 1))
+    × ((k : ℕ) → p + 1 ≤ k → k < length b → IsNameByte (slice_index b k))
+
+-- b ends in a tag of this name, which opens at p
+abbrev pub MayOpenAs : List ℕ → List ℕ → ℕ → Type 0
+MayOpenAs whole b p = AgreesAt b (0x3C ∷ whole) p × (length b ≤ p + 1 + length whole)
+
+-- the text has no "["
+abbrev pub HasNoBracket : List ℕ → Type 0
+HasNoBracket text = (k : ℕ) → k < length text → slice_index text k ≢ 0x5B
+
+-- the name of a document type stands at `from`, up to the end of b or before, and can be that of an element of this name
+abbrev pub MayNameRoot : List ℕ → List ℕ → ℕ → Type 0
+MayNameRoot name b from =
+    (HasNoBracket name × BeginsElement (slice_index b from) × ((k : ℕ) → from ≤ k → k < length b → IsNameByte (slice_index b k)))
+    ⊎ ((end : ℕ) × IsRun IsTypeByte b from end × IsFullName (slice_range b from end) name)
+
+-- a document type may be declared at p whose name is that of the root: b ends before that name, or the declaration goes on
+abbrev pub MayDeclare : List ℕ → List ℕ → ℕ → Type 0
+MayDeclare name b p =
+    (HasNoBracket name × AgreesAt b (codes "<!DOCTYPE") p × ((k : ℕ) → p + 9 ≤ k → k < length b → IsXmlSpace (slice_index b k)))
+    ⊎ ((from : ℕ) × OccursAt b (codes "<!DOCTYPE") p × IsSpaceRun b (p + 9) from
+    × ((k : ℕ) → from ≤ k → k < length b → (slice_index b k ≢ 0x3E) × (slice_index b k ≢ 0x5B)) × MayNameRoot name b from)

@@ -1,0 +1,126 @@
+//! dBASE tables, by their header: dBASE table file format (dBase knowledge base), the table file header and the field
+//! descriptors.
+ghost use Rattle.std.specs.Prelude.{◌≡◌, ◌↔◌, ◌≤◌, ℕ, length, slice_index, codes, IsTrue};
+ghost use Rattle.infer_formats.specs.Dbase.{BeginsName, EndsFields, HasField, IsDated, IsDbase, IsOneOf, behind, versions};
+
+mod open;
+
+use infer_deep::numbers::le16;
+pub use open::may_become_dbase;
+
+/// The version of the file.
+const VERSION: usize = 0;
+/// The month of the last update.
+const MONTH: usize = 2;
+/// And its day.
+const DAY: usize = 3;
+/// How long the header is, in two bytes.
+const HEADER_LENGTH: usize = 8;
+/// How long a record is.
+const RECORD_LENGTH: usize = 10;
+/// Two bytes that are zero.
+const RESERVED: usize = 12;
+/// The first field descriptor, which begins with its name.
+const FIELD: usize = 32;
+/// The type of that field.
+const FIELD_TYPE: usize = 43;
+/// The size of a field descriptor.
+const FIELD_SIZE: usize = 32;
+/// The least header: itself, one field, and the byte that ends the fields.
+const LEAST: usize = 65;
+/// The first version of Visual FoxPro, whose header has a backlink behind the fields.
+const FIRST_FOXPRO: u8 = 0x30;
+/// And the last.
+const LAST_FOXPRO: u8 = 0x32;
+/// The size of that backlink.
+const BACKLINK_SIZE: usize = 263;
+
+/// The header of a dBASE table.
+#[inline(never)]
+pub fn is_dbase(buf: &[u8]) -> bool
+    ensures { IsTrue result ↔ IsDbase buf.now }
+{
+    if buf.len() < LEAST || !is_dated(buf) || !has_field(buf) || le16(buf, RECORD_LENGTH) < 2 {
+        return false;
+    }
+    ends_fields(buf)
+}
+
+fn is_dated(buf: &[u8]) -> bool
+    requires { 65 ≤ length buf.now }
+    ensures { IsTrue result ↔ IsDated buf.now }
+{
+    is_version(buf[VERSION])
+        && is_within(buf[MONTH], 0x0C)
+        && is_within(buf[DAY], 0x1F)
+        && has_zeros(buf)
+}
+
+fn has_zeros(buf: &[u8]) -> bool
+    requires { 65 ≤ length buf.now }
+    ensures { IsTrue result ↔ ((slice_index buf.now 12 ≡ 0) × (slice_index buf.now 13 ≡ 0)) }
+{
+    buf[RESERVED] == 0 && buf[RESERVED + 1] == 0
+}
+
+fn has_field(buf: &[u8]) -> bool
+    requires { 65 ≤ length buf.now }
+    ensures { IsTrue result ↔ HasField buf.now }
+{
+    begins_name(buf[FIELD]) && is_kind(buf[FIELD_TYPE])
+}
+
+fn is_version(byte: u8) -> bool
+    ensures { IsTrue result ↔ IsOneOf versions byte }
+{
+    matches!(
+        byte,
+        0x02 | 0x03 | 0x30 | 0x31 | 0x32 | 0x43 | 0x63 | 0x83 | 0x8B | 0xCB | 0xF5
+    )
+}
+
+/// Whether a month or a day, which begin at 1, is in its range.
+fn is_within(byte: u8, last: u8) -> bool
+    ensures { IsTrue result ↔ ((1 ≤ byte) × (byte ≤ last)) }
+{
+    byte >= 1 && byte <= last
+}
+
+fn begins_name(byte: u8) -> bool
+    ensures { IsTrue result ↔ BeginsName byte }
+{
+    matches!(byte, b'A'..=b'Z' | b'a'..=b'z' | b'_')
+}
+
+fn is_kind(byte: u8) -> bool
+    ensures { IsTrue result ↔ IsOneOf (codes "+@BCDFGILMNOPTVXY") byte }
+{
+    b"+@BCDFGILMNOPTVXY".contains(&byte)
+}
+
+/// How many bytes of the header stand from the end of the fields on.
+fn behind(version: u8) -> usize
+    ensures is { result ≡ behind version }
+    ensures some { 1 ≤ result }
+    ensures few { result ≤ 264 }
+{
+    if version >= FIRST_FOXPRO && version <= LAST_FOXPRO {
+        BACKLINK_SIZE + 1
+    } else {
+        1
+    }
+}
+
+/// Whether whole fields of 32 bytes end where the header says.
+fn ends_fields(buf: &[u8]) -> bool
+    requires { 65 ≤ length buf.now }
+    ensures { IsTrue result ↔ ((e : ℕ) × EndsFields buf.now e) }
+{
+    let length = le16(buf, HEADER_LENGTH) as usize;
+    let behind = behind(buf[0]);
+    if length < behind + FIELD + FIELD_SIZE || length - behind >= buf.len() {
+        return false;
+    }
+    let end = length - behind;
+    end % FIELD_SIZE == 0 && buf[end] == 0x0D
+}

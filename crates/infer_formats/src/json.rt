@@ -1,0 +1,138 @@
+//! JSON texts, of which a buffer may have the beginning only: RFC 8259, sections 2 to 7, and RFC 3629, section 4.
+ghost use Rattle.std.specs.Prelude.{◌≡◌, ◌⊎◌, ◌↔◌, [], None, IsTrue, not};
+ghost use Rattle.std.specs.Bool.{OnTrue};
+ghost use Rattle.infer_formats.specs.Json.{IsBlank, IsJson, IsJsonLines, IsKind, text};
+ghost use Rattle.infer_formats.specs.JsonStates.{IsBracket, IsKindBefore, IsKindPastMark, IsPastMark, StartsLine};
+
+mod lines;
+mod open;
+mod reader;
+mod token;
+
+use lines::{Line, begins_line, is_bracket, past_blanks, read_line};
+pub use open::{may_become_json, may_become_json_lines};
+use token::has_token;
+
+/// What JSON a buffer is.
+#[derive(Clone, Copy, Debug, PartialEq, Eq)]
+pub enum Kind {
+    /// One text.
+    Text,
+    /// JSON lines.
+    Lines,
+}
+
+/// JSON, or its beginning: an array or an object, with only white space around it.
+///
+/// Some bytes can follow `buf`, or none need to, so that the whole is one text, whose brackets are nested at most 128
+/// deep and whose strings are UTF-8. A number, a name, an escape or a character may be cut at the end. But behind the
+/// first bracket at least one token is whole: a bracket, a colon, a comma, a string, a name, or a number with a byte after
+/// it. A byte order mark (EF BB BF) may stand first.
+pub fn is_json(buf: &[u8]) -> bool
+    ensures { IsTrue result ↔ IsJson buf.now }
+{
+    match kind_of(buf) {
+        Some(Kind::Text) => true,
+        Some(Kind::Lines) | None => false,
+    }
+}
+
+/// JSON lines, or their beginning: arrays and objects as in [`is_json`], of which the second has begun, with white space
+/// and at least one line end (0A) between any two.
+pub fn is_json_lines(buf: &[u8]) -> bool
+    ensures { IsTrue result ↔ IsJsonLines buf.now }
+{
+    match kind_of(buf) {
+        Some(Kind::Lines) => true,
+        Some(Kind::Text) | None => false,
+    }
+}
+
+/// Which of the two a buffer is, and `None` if neither: it is never both. It is read once.
+#[inline(always)]
+pub fn kind_of(buf: &[u8]) -> Option<Kind>
+    ensures { IsKind buf.now result }
+{
+    if may_open(buf) { kind_begun(buf) } else { None }
+}
+
+/// Whether white space, a bracket or the first byte of a mark stands first. Most of what is no JSON costs no call.
+#[inline(always)]
+fn may_open(buf: &[u8]) -> bool
+    ensures { OnTrue (not result) (IsKind buf.now None) }
+{
+    if buf.is_empty() {
+        return false;
+    }
+    opens(buf[0])
+}
+
+fn opens(byte: u8) -> bool
+    ensures { IsTrue result ↔ (IsBlank byte ⊎ IsBracket byte ⊎ (byte ≡ 0xEF)) }
+{
+    matches!(byte, b'\t' | b'\n' | b'\r' | b' ' | b'[' | b'{' | 0xEF)
+}
+
+/// [`kind_of`] what may be JSON.
+#[tactic(auto, using(crate::proofs::LineLemmas::kind_past))]
+#[inline(never)]
+fn kind_begun(buf: &[u8]) -> Option<Kind>
+    ensures { IsKind buf.now result }
+{
+    kind_past_mark(past_mark(buf))
+}
+
+/// What stands behind the byte order mark, if there is one.
+#[inline(always)]
+fn past_mark(buf: &[u8]) -> &[u8]
+    ensures { IsPastMark buf.now result.now }
+{
+    match buf.strip_prefix(b"\xEF\xBB\xBF") {
+        Some(rest) => rest,
+        None => buf,
+    }
+}
+
+/// [`kind_of`] of what stands behind a mark.
+fn kind_past_mark(buf: &[u8]) -> Option<Kind>
+    ensures { IsKindPastMark buf.now result }
+{
+    let text = past_blanks(buf);
+    let [first, rest @ ..] = text else {
+        return None;
+    };
+    if !is_bracket(*first) {
+        return None;
+    }
+    match read_line(text) {
+        Line::Whole(next) => kind_before(rest, next),
+        Line::Cut => kind_behind(rest),
+        Line::Wrong => None,
+    }
+}
+
+/// What JSON a buffer is whose first text is whole, by what stands behind its bracket and on the next lines.
+fn kind_before(rest: &[u8], next: &[u8]) -> Option<Kind>
+    requires { StartsLine next.now }
+    ensures { IsKindBefore rest.now next.now result }
+{
+    if next.is_empty() {
+        return kind_behind(rest);
+    }
+    if begins_line(next) {
+        Some(Kind::Lines)
+    } else {
+        None
+    }
+}
+
+/// One text, if a token is whole behind its bracket.
+fn kind_behind(rest: &[u8]) -> Option<Kind>
+    ensures { IsKindBefore rest.now [] result }
+{
+    if has_token(rest) {
+        Some(Kind::Text)
+    } else {
+        None
+    }
+}

@@ -1,0 +1,28 @@
+//! The bytes of names.
+ghost use Rattle.std.specs.Prelude.{◌↔◌, IsTrue};
+ghost use Rattle.infer_formats.specs.Markup.{BeginsElement, IsNameByte, IsTypeByte, IsXmlSpace};
+
+pub(super) fn begins_element(byte: u8) -> bool
+    ensures { IsTrue result ↔ BeginsElement byte }
+{
+    byte != b'!' && byte != b'?'
+}
+
+pub(super) fn is_xml_space(byte: u8) -> bool
+    ensures { IsTrue result ↔ IsXmlSpace byte }
+{
+    // Most bytes are told by the first test.
+    byte <= b' ' && matches!(byte, b'\t' | b'\n' | b'\r' | b' ')
+}
+
+pub(super) fn is_type_byte(byte: u8) -> bool
+    ensures { IsTrue result ↔ IsTypeByte byte }
+{
+    !is_xml_space(byte) && byte != b'>'
+}
+
+pub(super) fn is_name_byte(byte: u8) -> bool
+    ensures { IsTrue result ↔ IsNameByte byte }
+{
+    is_type_byte(byte) && byte != b'/'
+}

@@ -1,0 +1,257 @@
+//! Relations: what each takes, whether a buffer has it, what bytes after the buffer can bring or take, and a short buffer that
+//! has it.
+ghost use Rattle.std.specs.Prelude.{◌≡◌, ◌≤◌, ◌↔◌, [], IsTrue, length};
+ghost use Rattle.infer_deep.specs.Signatures.{MayBecome};
+ghost use Rattle.infer_formats.specs.Open.{Stays};
+ghost use Rattle.infer_formats.specs.Relation.{Fits, IsSound, class_id, dbase, directory_tag, least_of, model, model_listed, package_with, program, relation_listed, root, root_with, shared_object};
+
+use crate::dbase::{is_dbase, may_become_dbase};
+use crate::elf::{is_shared_object, may_become_shared_object};
+use crate::json::{is_json, is_json_lines, may_become_json, may_become_json_lines};
+use crate::markup::{has_root, has_root_with, may_have_root, may_have_root_with};
+use crate::model::{Model, Text, at, entry, five, four, made, one, three, two};
+use crate::png::{is_animated, may_become_animated};
+use crate::script::{is_program, may_become_program};
+use crate::subtitles::{is_subrip, may_become_subrip};
+use crate::tar::{has_tar_checksum, may_have_tar_checksum};
+use crate::text::{is_text, may_become_text, stays_text};
+use crate::tiff::{first_directory_has_tag, first_directory_may_have_tag};
+use crate::zip::{
+    first_entry_ends_in, first_entry_has_extra, first_entry_is, is_package_with,
+    may_become_package_with, may_have_first_entry, may_have_first_entry_ending,
+    may_have_first_extra,
+};
+use infer_deep::doc::{has_class_id, may_have_class_id};
+use infer_deep::places::{may_stand_at, stands_at};
+
+/// What a signature may ask of a buffer beside bytes at fixed places, with what it takes.
+#[derive(Clone, Copy)]
+pub enum Relation<'a> {
+    SharedObject,
+    FirstEntryIs(&'a [u8]),
+    FirstEntryEndsIn(&'a [u8]),
+    FirstEntryHasExtra([u8; 2]),
+    PackageWith(&'a [u8]),
+    ClassId([u8; 16]),
+    DirectoryTag(u16),
+    Animated,
+    SubRip,
+    Dbase,
+    TarChecksum,
+    Program(&'a [u8]),
+    Root(&'a [u8]),
+    RootWith(&'a [u8], &'a [u8]),
+    JsonLines,
+    JsonText,
+    PlainText,
+}
+
+impl<'a> Relation<'a> {
+    /// Whether the buffer has it. No copy of this function stands in its callers.
+    // Nor has it copies of the longer ones that it calls, so that it saves few registers.
+    #[inline(never)]
+    pub fn fits(&self, buf: &[u8]) -> bool
+        ensures { IsTrue result ↔ Fits (relation_listed self.now) buf.now }
+    {
+        match self {
+            Relation::SharedObject => is_shared_object(buf),
+            Relation::FirstEntryIs(name) => first_entry_is(buf, name),
+            Relation::FirstEntryEndsIn(end) => first_entry_ends_in(buf, end),
+            Relation::FirstEntryHasExtra(extra) => first_entry_has_extra(buf, extra),
+            Relation::PackageWith(folder) => is_package_with(buf, folder),
+            Relation::ClassId(id) => has_class_id(buf, id),
+            Relation::DirectoryTag(tag) => first_directory_has_tag(buf, *tag),
+            Relation::Animated => stands_at(buf, b"\x89PNG", 0) && is_animated(buf),
+            Relation::SubRip => is_subrip(buf),
+            Relation::Dbase => is_dbase(buf),
+            Relation::TarChecksum => has_tar_checksum(buf),
+            Relation::Program(name) => is_program(buf, name),
+            Relation::Root(name) => has_root(buf, name),
+            Relation::RootWith(name, text) => has_root_with(buf, name, text),
+            Relation::JsonLines => is_json_lines(buf),
+            Relation::JsonText => is_json(buf),
+            Relation::PlainText => is_text(buf),
+        }
+    }
+
+    /// Whether some bytes after the buffer, or none, may make it have it: a no is certain.
+    pub fn may_fit(&self, buf: &[u8]) -> bool
+        requires { IsSound (relation_listed self.now) }
+        ensures { MayBecome (Fits (relation_listed self.now)) buf.now → IsTrue result }
+    {
+        match self {
+            Relation::SharedObject => may_become_shared_object(buf),
+            Relation::FirstEntryIs(name) => may_have_first_entry(buf, name),
+            Relation::FirstEntryEndsIn(end) => may_have_first_entry_ending(buf, end),
+            Relation::FirstEntryHasExtra(extra) => may_have_first_extra(buf, extra),
+            Relation::PackageWith(folder) => may_become_package_with(buf, folder),
+            Relation::ClassId(id) => may_have_class_id(buf, id),
+            Relation::DirectoryTag(tag) => first_directory_may_have_tag(buf, *tag),
+            Relation::Animated => may_stand_at(buf, b"\x89PNG", 0) && may_become_animated(buf),
+            Relation::SubRip => may_become_subrip(buf),
+            Relation::Dbase => may_become_dbase(buf),
+            Relation::TarChecksum => may_have_tar_checksum(buf),
+            Relation::Program(name) => may_become_program(buf, name),
+            Relation::Root(name) => may_have_root(buf, name),
+            Relation::RootWith(name, text) => may_have_root_with(buf, name, text),
+            Relation::JsonLines => may_become_json_lines(buf),
+            Relation::JsonText => may_become_json(buf),
+            Relation::PlainText => may_become_text(buf),
+        }
+    }
+
+    /// Whether the buffer, which has it, has it whatever bytes follow, as far as this tells: a yes is certain.
+    #[tactic(auto, using(crate::proofs::RelationLemmas::fit_stays))]
+    pub fn stays(&self, buf: &[u8]) -> bool
+        requires { Fits (relation_listed self.now) buf.now }
+        ensures { IsTrue result → Stays (Fits (relation_listed self.now)) buf.now }
+    {
+        match self {
+            Relation::JsonLines => false,
+            Relation::JsonText => false,
+            Relation::PlainText => stays_text(buf),
+            _ => true,
+        }
+    }
+
+    /// A short buffer that has it. A root element stands behind this text.
+    pub fn model<'b>(&'b self, before: &'b [u8]) -> Model<'b>
+        requires { least_of (model before.now (relation_listed self.now)) ≤ 65536 }
+        ensures model { model_listed result ≡ model before.now (relation_listed self.now) }
+        ensures few { result.count ≤ 5 }
+    {
+        match self {
+            Relation::SharedObject => object(),
+            Relation::FirstEntryIs(name) => entry(26, Text::Slice(name)),
+            Relation::FirstEntryEndsIn(end) => entry(26, Text::Slice(end)),
+            Relation::FirstEntryHasExtra(extra) => entry(28, Text::Two(*extra)),
+            Relation::PackageWith(folder) => package(folder),
+            Relation::ClassId(id) => compound(*id),
+            Relation::DirectoryTag(tag) => directory(*tag),
+            Relation::Animated => two(16, at(0, b"\x89PNG"), at(12, b"acTL")),
+            Relation::SubRip => one(31, at(0, b"0\n00:00:00,000 --> 00:00:00,000")),
+            Relation::Dbase => table(),
+            Relation::TarChecksum => two(512, at(0, b"\x01"), at(148, b"401")),
+            Relation::Program(name) => script(name),
+            Relation::Root(name) => element(before, name),
+            Relation::RootWith(name, text) => element_with(before, name, text),
+            Relation::JsonLines => one(4, at(0, b"[]\n[")),
+            Relation::JsonText => one(2, at(0, b"[]")),
+            Relation::PlainText => one(1, at(0, b" ")),
+        }
+    }
+}
+
+/// That of a shared object: a narrow file whose lowest byte comes first, with one entry.
+fn object() -> Model<'static>
+    ensures model { model_listed result ≡ model [] shared_object }
+    ensures few { result.count ≤ 5 }
+{
+    three(
+        46,
+        at(4, b"\x01\x01"),
+        at(16, b"\x03"),
+        at(42, b"\x20\0\x01"),
+    )
+}
+
+/// That of a package: the header of an entry "_rels/", and inside it, at 6, that of an entry in the folder.
+fn package<'b>(folder: &'b [u8]) -> Model<'b>
+    requires { length folder.now ≤ 65536 }
+    ensures model { model_listed result ≡ model [] (package_with folder.now) }
+    ensures few { result.count ≤ 5 }
+{
+    four(
+        36 + folder.len(),
+        at(0, b"PK\x03\x04"),
+        at(6, b"PK\x03\x04"),
+        at(30, b"_rels/"),
+        at(36, folder),
+    )
+}
+
+/// That of a compound file: a root entry behind the header.
+fn compound(id: [u8; 16]) -> Model<'static>
+    ensures model { model_listed result ≡ model [] (class_id id) }
+    ensures few { result.count ≤ 5 }
+{
+    four(
+        640,
+        at(0, b"\xD0\xCF\x11\xE0\xA1\xB1\x1A\xE1"),
+        at(26, b"\x03\0\xFE\xFF\x09"),
+        at(578, b"\x05"),
+        made(592, Text::Sixteen(id)),
+    )
+}
+
+/// That of a TIFF file: a directory with this tag.
+fn directory(tag: u16) -> Model<'static>
+    ensures model { model_listed result ≡ model [] (directory_tag tag) }
+    ensures few { result.count ≤ 5 }
+{
+    two(
+        20,
+        at(0, b"MM\0*\0\0\0\x06"),
+        made(8, Text::Two(tag.to_be_bytes())),
+    )
+}
+
+/// That of a dBASE table: a header with one field.
+fn table() -> Model<'static>
+    ensures model { model_listed result ≡ model [] dbase }
+    ensures few { result.count ≤ 5 }
+{
+    five(
+        65,
+        at(0, b"\x02\0\x01\x01"),
+        at(8, b"\x41\0\x02"),
+        at(32, b"A"),
+        at(43, b"+"),
+        at(64, b"\r"),
+    )
+}
+
+/// That of a script: a line that names its program.
+fn script<'b>(name: &'b [u8]) -> Model<'b>
+    requires { length name.now ≤ 65536 }
+    ensures model { model_listed result ≡ model [] (program name.now) }
+    ensures few { result.count ≤ 5 }
+{
+    three(
+        3 + name.len(),
+        at(0, b"#!"),
+        at(2, name),
+        at(2 + name.len(), b"\n"),
+    )
+}
+
+/// That of markup: an element behind this text.
+fn element<'b>(before: &'b [u8], name: &'b [u8]) -> Model<'b>
+    requires { least_of (model before.now (root name.now)) ≤ 65536 }
+    ensures model { model_listed result ≡ model before.now (root name.now) }
+    ensures few { result.count ≤ 5 }
+{
+    four(
+        before.len() + 2 + name.len(),
+        at(0, before),
+        at(before.len(), b"<"),
+        at(before.len() + 1, name),
+        at(before.len() + 1 + name.len(), b">"),
+    )
+}
+
+/// That of markup with the text in its tag.
+fn element_with<'b>(before: &'b [u8], name: &'b [u8], text: &'b [u8]) -> Model<'b>
+    requires { least_of (model before.now (root_with name.now text.now)) ≤ 65536 }
+    ensures model { model_listed result ≡ model before.now (root_with name.now text.now) }
+    ensures few { result.count ≤ 5 }
+{
+    five(
+        before.len() + 2 + name.len() + text.len(),
+        at(0, before),
+        at(before.len(), b"<"),
+        at(before.len() + 1, name),
+        at(before.len() + 1 + name.len(), b" "),
+        at(before.len() + 2 + name.len(), text),
+    )
+}

@@ -1,0 +1,109 @@
+//! Subtitles of SubRip, by their first cue. No document states the format.
+ghost use Rattle.std.specs.Prelude.{◌≡◌, ◌↔◌, ◌+◌, ◌<◌, ◌≤◌, slice_index, IsTrue};
+ghost use Rattle.infer_deep.specs.Places.{FindsPlace};
+ghost use Rattle.infer_formats.specs.Subtitles.{AreDigits, EndsLine, IsCue, IsDigit, IsPairAt, IsSpan, IsSubRip, IsTime};
+
+mod open;
+
+use infer_deep::places::stands_at;
+pub use open::may_become_subrip;
+
+/// How many digits the number of a cue has at most.
+const MOST_DIGITS: usize = 9;
+/// The size of a time, as 00:00:00,000.
+const TIME_SIZE: usize = 12;
+/// The size of what stands between two.
+const ARROW_SIZE: usize = 5;
+
+/// Subtitles of SubRip: a number of one to nine digits, and in the next line two times with " --> " between them.
+pub fn is_subrip(buf: &[u8]) -> bool
+    ensures { IsTrue result ↔ IsSubRip buf.now }
+{
+    is_cue(buf, 0) || stands_at(buf, b"\xEF\xBB\xBF", 0) && is_cue(buf, 3)
+}
+
+fn is_cue(buf: &[u8], place: usize) -> bool
+    requires { place ≤ 3 }
+    ensures { IsTrue result ↔ IsCue buf.now place }
+{
+    let count = digit_count(buf, place);
+    if count == 0 || count > MOST_DIGITS {
+        return false;
+    }
+    match next_line(buf, place + count) {
+        Some(line) => is_span(buf, line),
+        None => false,
+    }
+}
+
+/// How many digits stand at that place, up to ten.
+fn digit_count(buf: &[u8], place: usize) -> usize
+    requires { place ≤ 3 }
+    ensures few { result ≤ 10 }
+    ensures digits { AreDigits buf.now place result }
+    ensures ends { result < 10 → ¬ IsDigit (slice_index buf.now (place + result)) }
+{
+    for n in 0..MOST_DIGITS + 1 {
+        if !is_digit(byte_at(buf, place + n)) {
+            return n;
+        }
+    }
+    MOST_DIGITS + 1
+}
+
+/// Where the next line begins, if one ends at that place.
+fn next_line(buf: &[u8], end: usize) -> Option<usize>
+    requires { end ≤ 12 }
+    ensures { FindsPlace (λ line. EndsLine buf.now end line × (line ≤ 14)) result }
+{
+    match byte_at(buf, end) {
+        b'\n' => Some(end + 1),
+        b'\r' if byte_at(buf, end + 1) == b'\n' => Some(end + 2),
+        _ => None,
+    }
+}
+
+fn is_span(buf: &[u8], place: usize) -> bool
+    requires { place ≤ 14 }
+    ensures { IsTrue result ↔ IsSpan buf.now place }
+{
+    is_time(buf, place)
+        && stands_at(buf, b" --> ", place + TIME_SIZE)
+        && is_time(buf, place + TIME_SIZE + ARROW_SIZE)
+}
+
+fn is_time(buf: &[u8], place: usize) -> bool
+    requires { place ≤ 31 }
+    ensures { IsTrue result ↔ IsTime buf.now place }
+{
+    if !is_pair(buf, place) || byte_at(buf, place + 2) != b':' {
+        return false;
+    }
+    if !is_pair(buf, place + 3) || byte_at(buf, place + 5) != b':' {
+        return false;
+    }
+    if !is_pair(buf, place + 6) || !matches!(byte_at(buf, place + 8), b',' | b'.') {
+        return false;
+    }
+    is_pair(buf, place + 9) && is_digit(byte_at(buf, place + 11))
+}
+
+fn is_pair(buf: &[u8], place: usize) -> bool
+    requires { place ≤ 40 }
+    ensures { IsTrue result ↔ IsPairAt buf.now place }
+{
+    is_digit(byte_at(buf, place)) && is_digit(byte_at(buf, place + 1))
+}
+
+fn is_digit(byte: u8) -> bool
+    ensures { IsTrue result ↔ IsDigit byte }
+{
+    byte >= b'0' && byte <= b'9'
+}
+
+/// The byte at that place, and 0 past the end.
+fn byte_at(buf: &[u8], place: usize) -> u8
+    ensures { result ≡ slice_index buf.now place }
+{
+    if place < buf.len() { buf[place] } else { 0 }
+}

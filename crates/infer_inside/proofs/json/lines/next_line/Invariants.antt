@@ -1,7 +1,0 @@
--- the line goes on to the place
-use Rattle.infer_inside.proofs.Common.{drop}
-use Rattle.infer_inside.proofs.LineLemmas.{SameLine}
-use Rattle.infer_inside.proofs.json.lines.next_line.Given as goal
-
-abbrev pub invariant-loop-at : goal.invariant-loop-at
-invariant-loop-at l = SameLine l.buf (drop l.at l.buf)

@@ -1,6 +1,0 @@
--- what is left of the token before the place
-use Rattle.infer_inside.proofs.Common.{drop, Onward, left, Whole}
-use Rattle.infer_inside.proofs.json.reader.number_end.Given as goal
-
-abbrev pub invariant-loop-i : goal.invariant-loop-i
-invariant-loop-i l = Onward (left Whole) (drop l.at l.buf) (left Whole) (drop l.i l.buf)

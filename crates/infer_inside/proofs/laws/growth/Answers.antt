@@ -1,6 +1,0 @@
-use Rattle.infer_inside.proofs.GrowthLemmas.{binary-lasts}
-use Rattle.infer_inside.proofs.RelationLemmas.{relation_lasts}
-use Rattle.infer_inside.proofs.laws.growth.Goals as goal
-
-pub returns : goal.returns
-returns c = record { relation = relation_lasts; binary = binary-lasts }

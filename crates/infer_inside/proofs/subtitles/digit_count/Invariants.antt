@@ -1,6 +1,0 @@
--- the bytes so far are digits
-use Rattle.infer_inside.proofs.Common.{AreDigits}
-use Rattle.infer_inside.proofs.subtitles.digit_count.Given as goal
-
-abbrev pub invariant-loop-n : goal.invariant-loop-n
-invariant-loop-n l = AreDigits l.buf l.place l.n

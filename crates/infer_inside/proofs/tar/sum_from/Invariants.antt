@@ -1,6 +1,0 @@
--- the sum of the bytes so far
-use Rattle.infer_inside.proofs.Common.{◌≡◌, ◌*◌, ◌≤◌, sum_from}
-use Rattle.infer_inside.proofs.tar.sum_from.Given as goal
-
-abbrev pub invariant-loop-n : goal.invariant-loop-n
-invariant-loop-n l = (l.total ≡ sum_from l.buf l.place l.n) × (l.total ≤ 255 * l.n)

@@ -1,7 +1,0 @@
--- whether the bytes so far are none of binary data
-use Rattle.std.proofs.Common.{not}
-use Rattle.infer_inside.proofs.Common.{OnTrue, AllBelow, IsDataByte, IsPlainByte, SomeBelow}
-use Rattle.infer_inside.proofs.text.is_plain_piece.Given as goal
-
-abbrev pub invariant-loop-i : goal.invariant-loop-i
-invariant-loop-i l = OnTrue l.all (AllBelow IsPlainByte l.piece l.i) × OnTrue (not l.all) (SomeBelow IsDataByte l.piece l.i)

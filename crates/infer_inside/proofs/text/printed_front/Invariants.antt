@@ -1,6 +1,0 @@
--- the blocks so far have no byte of binary data
-use Rattle.infer_inside.proofs.Common.{◌*◌, AllBelow, IsPlainByte}
-use Rattle.infer_inside.proofs.text.printed_front.Given as goal
-
-abbrev pub invariant-loop-k : goal.invariant-loop-k
-invariant-loop-k l = AllBelow IsPlainByte l.buf (256 * l.k)

@@ -1,5 +1,0 @@
-use Rattle.infer_inside.proofs.TextLemmas.{binary_front}
-use Rattle.infer_inside.proofs.text.shows_data.Goals as goal
-
-pub returns-then-buf-ge16 : goal.returns-then-buf-ge16
-returns-then-buf-ge16 c = binary_front _ _ 16 c.if-buf-ge16.true c.is_plain_piece.ensures.data

@@ -1,6 +1,0 @@
--- none of the entries so far has the tag
-use Rattle.infer_inside.proofs.Common.{ℕ, ◌<◌, IsTagEntry}
-use Rattle.infer_inside.proofs.tiff.directory_has_tag.Given as goal
-
-abbrev pub invariant-loop-i : goal.invariant-loop-i
-invariant-loop-i l = (k : ℕ) → k < l.i → ¬ IsTagEntry l.big l.tag l.buf l.start k

@@ -1,9 +1,0 @@
--- there is no such entry before
-use Rattle.infer_inside.proofs.Common.{ℕ, ◌-◌, ◌<◌, ◌≤◌, length, IsFolderEntry}
-use Rattle.infer_inside.proofs.zip.first_folder.Given as goal
-
-abbrev pub invariant-loop-step : goal.invariant-loop-step
-invariant-loop-step l = (l.from ≤ length l.buf) × ((p : ℕ) → p < l.from → ¬ IsFolderEntry l.buf p)
-
-abbrev pub decreases-loop-step : goal.decreases-loop-step
-decreases-loop-step l = length l.buf - l.from

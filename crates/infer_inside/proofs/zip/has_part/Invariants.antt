@@ -1,9 +1,0 @@
--- there is no such entry before
-use Rattle.infer_inside.proofs.Common.{ℕ, ◌-◌, ◌<◌, ◌≤◌, length, IsPartEntry}
-use Rattle.infer_inside.proofs.zip.has_part.Given as goal
-
-abbrev pub invariant-loop-step : goal.invariant-loop-step
-invariant-loop-step l = (l.from ≤ length l.buf) × ((p : ℕ) → p < l.from → ¬ IsPartEntry l.buf p)
-
-abbrev pub decreases-loop-step : goal.decreases-loop-step
-decreases-loop-step l = length l.buf - l.from
