@@ -22,7 +22,9 @@ pub fn is_decided(buf: &[u8]) -> bool
     infer::is_decided(buf) && is_widened_for_good(infer::position(buf), buf)
 }
 
-/// Whether none changes the first further row that widens this answer.
+/// Whether none changes the first further row that widens this answer. A function of its own, so that a buffer whose
+/// built-in answer may change costs no more than that answer.
+#[inline(never)]
 fn is_widened_for_good(parent: Option<usize>, buf: &[u8]) -> bool
     ensures { IsTrue result → IsWidenedForGood parent buf.now }
 {
