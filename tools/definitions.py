@@ -214,7 +214,7 @@ def lines_of(file, names):
     """The table of a file."""
     yield from ["| Name | It says | Has it | Has it not |", "|---|---|---|---|"]
     order = [*described(file)]
-    for name in sorted(names, key=lambda it: order.index(it) if it in order else len(order)):
+    for name in sorted(names, key=lambda it: (order.index(it) if it in order else len(order), it)):
         words = described(file).get(name) or head_of(file)
         for i, (said, has, lacks) in enumerate(examples_of(file, name)):
             told = [words] * (i == 0) + [f"(`{said}`)"] * (said != name)
