@@ -300,17 +300,80 @@ def weigh(counts, chosen, gates=(), price=1):
     return 3 * len({place for place, _ in looked_at}) + sum(4 + price * (counts[it] ** 2 - 1) for it in pairs) + beyond
 
 
+class Chosen:
+    """Guards that are chosen, and what `weigh` says of them with one of them changed, told without a look at the others."""
+
+    def __init__(self, counts, chosen, gates, price):
+        self.counts, self.price = counts, price
+        self.used, self.places, self.gates = {}, {}, frozenset(gates)
+        self.count, self.place_count, self.common, self.cost = 0, 0, 0, 0
+        for pair in self.gates:
+            self.look(pair, 1)
+        for way in chosen:
+            self.add(way)
+
+    def add(self, way):
+        for pair in way:
+            self.used[pair] = self.used.get(pair, 0) + 1
+            if self.used[pair] == 1:
+                self.change(pair, 1)
+
+    def remove(self, way):
+        for pair in way:
+            self.used[pair] -= 1
+            if self.used[pair] == 0:
+                self.change(pair, -1)
+
+    def change(self, pair, by):
+        self.count += by
+        self.cost += by * (4 + self.price * (self.counts[pair] ** 2 - 1))
+        if pair not in self.gates:
+            self.look(pair, by)
+
+    def look(self, pair, by):
+        """The byte at the place is looked at, or no more."""
+        place, byte = pair
+        before = self.places.get(place, 0)
+        self.places[place] = before + by
+        self.place_count += (before + by > 0) - (before > 0)
+        self.common += by * (byte in COMMON)
+
+    def weight(self):
+        return 3 * self.place_count + self.cost + 100 * max(0, self.count - MOST_GUARDS) + 3 * self.common
+
+    def changed(self, olds, new):
+        """What it weighs with the new guards in the place of each of the old."""
+        for old in olds:
+            self.remove(old)
+            self.add(new)
+        found = self.weight()
+        for old in olds:
+            self.remove(new)
+            self.add(old)
+        return found
+
+
 def choose(free, gates=(), known=None, price=1):
     """For each of these alternatives, each with its number, the bytes that leave least to compare."""
     counts, ways = passing(free), [ways_of(it, known) for _, it in free]
     # Each at first as if it stood alone: from one guard for all no single move leads to a guard for each.
-    chosen, before = [min(it, key=lambda way: (weigh(counts, [way], gates, price), sorted(way))) for it in ways], None
-    while chosen != before:
-        before = chosen
-        moves = [[way if way in some else old for old, some in zip(chosen, ways)] for way in sorted(set().union(*ways), key=sorted)]
-        moves += [chosen[:k] + [it] + chosen[k + 1 :] for k, some in enumerate(ways) for it in some]
-        chosen = min([chosen, *moves], key=lambda it: weigh(counts, it, gates, price))
-    return chosen
+    chosen = [min(it, key=lambda way: (weigh(counts, [way], gates, price), sorted(way))) for it in ways]
+    takers = {}
+    for k, some in enumerate(ways):
+        for way in some:
+            takers.setdefault(way, []).append(k)
+    # One guard for all that can have it, and then one for one.
+    moves = [(takers[way], way) for way in sorted(takers, key=sorted)] + [([k], way) for k, some in enumerate(ways) for way in some]
+    now = Chosen(counts, chosen, gates, price)
+    while True:
+        weights = [now.changed([chosen[k] for k in some], way) for some, way in moves]
+        if not weights or min(weights) >= now.weight():
+            return chosen
+        some, way = moves[weights.index(min(weights))]
+        for k in some:
+            now.remove(chosen[k])
+            now.add(way)
+            chosen[k] = way
 
 
 def guards(free, chosen):
