@@ -23,7 +23,6 @@ pub mod FieldLemmas
 pub mod NameLemmas
 pub mod EntryLemmas
 pub mod SizeLemmas
-mod PiecePairs
 pub mod OpenLemmas
 pub mod LostLemmas
 pub mod DecidedLemmas

@@ -2,4 +2,3 @@ pub mod Common
 pub mod LinesLemmas
 pub mod RunLemmas
 pub mod SampleLemmas
-pub mod ToolPairs
