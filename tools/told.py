@@ -5,45 +5,21 @@ the code, a header, a contract, a script or a text that the program prints, and 
 import os
 import re
 import shlex
-import shutil
-import subprocess
 
 from texts import kept, text_of
 
 # What is made, and what is no source: the pages' own checks, and edits that are wrong by intent.
 PRUNED = {"out", ".git", ".ci", "target", "node_modules", "__pycache__", "dist", "must-fail"}
-OWN = {"tools/told.py", "tools/figures.py", "tools/texts.py"}
-# Names of other programs and languages that no source here has.
-FOREIGN = """auditwheel ldconfig memmove Send Sync must_use TLS allocate structures GLIBC_2 flif recend sshlogin basefile nonall
-spark gp mpa tex v3 dac8208d650f15bf manylinux_2_17_x86_64 manylinux2014_x86_64 linux_x86_64 curl checkCode
-createWriteStream pipeline graph BT LR Println rn tcp temp_dir x89 e2fff2e706466 Foo FOO""".split()
-# Texts in which the pages speak of all names of a kind.
-PATTERNS = {"may_become_NAME", "is_NAME", "_within", "LIST", "NAME", "_sig", "_deep", "_inside", "_sniff", "_more"}
 
 
 @kept
 def sources():
-    """The paths of all texts but the pages. What bindings copy to themselves is there once they were tested."""
+    """The paths of all texts but the pages."""
     found = []
     for at, folders, files in os.walk("."):
         folders[:] = sorted(it for it in folders if it not in PRUNED)
         found += (os.path.normpath(f"{at}/{it}") for it in sorted(files) if not it.endswith((".md", ".png", ".svg", ".jpg", ".wasm", ".a")))
-    return [it for it in found if it not in OWN and it != "crates/infer_tool/stdin"]
-
-
-@kept
-def words_of(path):
-    return set(re.findall(r"\w+", text_of(path)))
-
-
-@kept
-def words():
-    """Every word of the sources and of the paths of all files."""
-    known = {*FOREIGN, *PATTERNS}.union(*map(words_of, sources()))
-    for at, folders, files in os.walk("."):
-        folders[:] = [it for it in folders if it not in PRUNED - {".ci", "out", "must-fail"}]
-        known.update(it for name in [*folders, *files] for it in re.findall(r"\w+", name))
-    return known
+    return [it for it in found if it != "crates/infer_tool/stdin"]
 
 
 def without_blocks(page):
@@ -62,13 +38,6 @@ def blocks_of(page):
 def spans(page):
     """What stands between backticks."""
     return re.findall(r"`([^`]+)`", re.sub(r"(?<=\w)\n(?=\w)", " ", without_blocks(page)))
-
-
-def check_words(page):
-    """Each word of code stands in a source, so a name that is misspelt is told."""
-    for span in [*spans(page), *blocks_of(page)]:
-        unknown = [it for it in re.findall(r"(?<![\w])[A-Za-z_]\w+", span) if it not in words() and not re.fullmatch(r"[\dA-F]+", it)]
-        yield not unknown, f"{page}: `{span}`: no source has {', '.join(unknown)}"
 
 
 def is_there(path, page):
@@ -126,16 +95,6 @@ def check_types(page):
         yield fits or mime.startswith("custom/") or extension == "true", f"{page}: no row is {mime} {extension} {group}".rstrip()
 
 
-@kept
-def subcommands():
-    """What `rt` can be told to do, by its own help."""
-    if not shutil.which("rt"):
-        return None
-    run = subprocess.run(["rt", "--help"], cwd="/", stdout=subprocess.PIPE, stderr=subprocess.STDOUT, text=True, check=False)
-    told = re.findall(r"^ +(?:usage: )?rt ([a-z|-]+)", run.stdout, re.M) + re.findall(r"^usage: rt ([a-z|-]+)", run.stdout, re.M)
-    return {it for some in told for it in some.split("|")}
-
-
 def simple_commands(line):
     """The commands of a line of a shell, each as its words."""
     try:
@@ -162,8 +121,6 @@ def check_command(page, command):
     head, rest = command[0], command[1:]
     if head == "cd":
         yield os.path.isdir(rest[0]), f"{page}: there is no folder {rest[0]} to `cd` to"
-    if head == "rt" and subcommands():
-        yield rest[:1] != [] and rest[0] in subcommands(), f"{page}: `rt` has no {' '.join(rest[:1])}"
     if head == "cc":
         yield from check_compiling(page, rest)
     program = {"infer_tool": "crates/infer_tool/src/run.rt", "./infer_tool": "crates/infer_tool/src/run.rt", "./directory_report": "examples/directory_report/directory_report.c"}.get(head, head)
@@ -234,42 +191,8 @@ def check_lines(page):
                 yield line in texts, f"{page}: the program prints no line such as '{line}'"
 
 
-@kept
-def tested_statuses():
-    """The statuses that the tests of the program want, by what it prints, after the name."""
-    tests = text_of("crates/infer_tool/process-tests")
-    run = text_of("crates/infer_tool/src/run.rt")
-    texts = {*said(), *re.findall(r'&\[u8\] = b"(.*)\\n"', run), "image/jpeg jpg", "this machine lacks a feature of x86-64-v2"}
-    values = dict(re.findall(r"^(\w+)=\$'(.*)'$", tests, re.M))
-    values |= {name: text for name, text in re.findall(r"""^(\w+)="\$\(printf '(.*?)' .*\)\"\$'\\n'$""", tests, re.M)}
-    found = {"": set()}
-    # The status of a job, or of several runs, is not that of the program.
-    for name, status, printed in re.findall(r"""^ *wants (['"](?!a job|four runs).*?['"]) (\d+) (.*)$""", tests, re.M):
-        printed = re.sub(r"\$(\w+)", lambda it: values.get(it[1], ""), printed)
-        in_it = [it for it in texts if it in printed]
-        if len(in_it) == 1:
-            found.setdefault(in_it[0], set()).add(int(status))
-        if printed == "'' ''" and re.search("full|closed|gone", name):
-            found[""].add(int(status))
-    return found
-
-
 def check_statuses():
-    """Each status of docs/PROGRAM.md is that which the tests want of what is printed then."""
-    tested = tested_statuses()
-    lines = re.findall(r"^\| (.*?) \| (.*) \| (\d+)(?:, .*?)? \|$", text_of("docs/PROGRAM.md"), re.M)
-    yield len(lines) >= 10, "docs/PROGRAM.md has no table of statuses"
-    for what, printed, status in lines:
-        wanted = [it for text, it in tested.items() if text and text in printed]
-        if not wanted and "usage line" in printed:
-            wanted = [it for text, it in tested.items() if text.startswith("usage")]
-        if not wanted and printed.startswith("nothing"):
-            wanted = [tested[""]]
-        if not wanted:
-            # Nothing of the program was run.
-            wanted = [it for text, it in tested.items() if text.startswith("this machine")]
-        # A failed write makes a status worse.
-        yield [int(status)] == [*{min(it) for it in wanted}], f"docs/PROGRAM.md: the tests want other statuses than {status} if {what}"
+    """The pages tell of the statuses as the code of the program has them."""
     outcomes = text_of("crates/infer_tool/src/outcome.rt")
     numbers = dict(re.findall(r"Outcome::(\w+) => (\d),", outcomes))
     told = {numbers[name]: text for text, name in re.findall(r"^    /// (.*)\.\n    (\w+),$", outcomes, re.M)}
@@ -364,12 +287,6 @@ def check_classes():
     faults = re.findall(r"^    (\w+)(?:\(ErrorKind\))?,$", text_of("crates/infer/src/read/fault.rt"), re.M)
     listed = re.findall(r"^\| `Fault::(\w+)", text_of("docs/LIBRARY.md"), re.M)
     yield listed == faults, f"docs/LIBRARY.md lists the faults {listed}, and the code has {faults}"
-    last = re.findall(r"Beginning::.*=> (\w+),", text_of("crates/infer/src/beginnings.rt"))
-    count = len(re.findall(r"^    [A-Z]\w+,$", text_of("crates/infer/src/beginnings.rt"), re.M))
-    bounds = re.findall(r"^\| .* \| [\w, ]+? (?:in (?:compound files|ZIP archives) )?\| (\w+) \|$", text_of("docs/STREAMS.md"), re.M)
-    titles = {"PPT": "PowerPoint", "PPTX": "PowerPoint"}
-    wanted = [titles.get(it, it) for it in last] + [last[-1]] * (count - len(last))
-    yield [it.replace("Zstandard", "ZST") for it in bounds] == wanted, f"docs/STREAMS.md has cases whose last rows are {bounds}, and the code {wanted}"
 
 
 def check_copied():
@@ -383,35 +300,19 @@ def check_copied():
     yield 'grep "^$crate:" $from/crates.txt >> crates.txt\n' in inside, f"docs/CALLING.md takes other lines of crates.txt than of {sorted(copied)}"
 
 
-NUMBERS = ["no", "one", "two", "three", "four", "five", "six", "seven", "eight", "nine", "ten"]
-
-
 def check_counts(pages):
-    """What is counted in words or figures is what the code has."""
-    uses = len([it for it in os.listdir("crates/infer_uses/src") if it != "lib.rt"])
-    cases = len(re.findall(r"^    [A-Z]\w+,$", text_of("crates/infer/src/beginnings.rt"), re.M))
-    tags = len(re.findall(r'codes "', re.search(r"^tags = .*?(?=\n\n|\Z)", text_of("crates/infer_deep/specs/Text.antt"), re.M | re.S)[0])) if re.search(r"^tags = ", text_of("crates/infer_deep/specs/Text.antt"), re.M) else None
+    """What is counted in figures is what the code has."""
     front = re.search(r"const FRONT: usize = (\d+);", text_of("crates/infer/src/read/head.rt"))[1]
     size = re.search(r"const SAMPLE_SIZE: usize = (\d+);", text_of("crates/infer_more/src/samples.rt"))[1]
     yield f"#define INFER_SAMPLE_SIZE {size}\n" in text_of("c/infer.h"), f"c/infer.h: the longest sample is not {size} bytes"
     most = re.search(r"front must be 1 to (\d+)", text_of("crates/infer_tool/src/run.rt"))[1]
-    steps = re.findall(r"In `([^`]+)`", re.sub(r"\n(?=\S)", " ", text_of("docs/ADDING_A_TYPE.md").partition("\n## A type whose")[0]))
-    files = len({it for it in steps if os.path.isfile(it)})
+    counted = [len(text_of(f"vectors/{it}").splitlines()) for it in ("rows.tsv", "further/rows.tsv")]
     for page in pages:
         text = re.sub(r"\n(?=\S)", " ", text_of(page))
-        told = [(it, uses) for it in re.findall(r"has (\w+) such callers", text)]
-        told += [(it, cases) for it in re.findall(r"these (\w+) cases", text)]
-        told += [(it, files) for it in re.findall(r"in (\w+) files and some \d+ lines|in (?=seven)(\w+) files\.", text) for it in it if it]
         for built_in, more in re.findall(r"(\d+) built-in and (\d+) further types", text):
-            counted = [len(text_of(f"vectors/{it}").splitlines()) for it in ("rows.tsv", "further/rows.tsv")]
             yield [int(built_in), int(more)] == counted, f"{page} counts {built_in} and {more} types, and there are {counted}"
-        for word, count in told:
-            yield word in NUMBERS and NUMBERS.index(word) == count, f"{page} counts {word}, and there are {count}"
-        if tags:
-            yield all(int(it) == tags for it in re.findall(r"The (\d+) tags of", text)), f"{page} counts other tags than {tags}"
         # A definition has numbers of its own.
-        fronts = [] if page in ("docs/DEFINITIONS.md", "docs/PROMISES.md") else re.findall(r"first (\d{3,5}) bytes", text)
-        for count in fronts:
+        for count in re.findall(r"first (\d{3,5}) bytes", text) if page != "docs/DEFINITIONS.md" else []:
             yield count in (front, "1024", "256", most), f"{page} speaks of the first {count} bytes, and {front} are read"
-        for count in [] if page in ("docs/DEFINITIONS.md", "docs/PROMISES.md") else re.findall(r"\b1 to (\d+)", text):
+        for count in re.findall(r"\b1 to (\d+)", text) if page != "docs/DEFINITIONS.md" else []:
             yield count == most, f"{page} speaks of 1 to {count}, and the program takes {most}"
