@@ -86,14 +86,14 @@ def functions_in(path: str) -> list[tuple[str, Function]]:
         if line.startswith("}"):
             owner, is_shared = "", False
         if line.strip().startswith("///"):
-            doc.append(line.strip()[3:].strip())
+            doc.append(line.strip().removeprefix("///").removeprefix(" "))
         elif not line.strip().startswith("#["):
             named = re.match(r' *(pub )?(?:extern "C" )?fn (\w+)', line)
             if named and (named[1] or is_shared):
                 end = next(i for i in range(at, len(lines)) if is_head(lines[at : i + 1]))
                 told = "\n".join(lines[at : end + 1])
                 head = re.split(r"\n *(?:requires|ensures)\b|\n *\{|[ ;]*\{?\}?$", told, maxsplit=1)[0]
-                found.append((owner, Function(named[2], path, textwrap.dedent(head), " ".join(doc), clauses_of(told))))
+                found.append((owner, Function(named[2], path, textwrap.dedent(head), "\n".join(doc), clauses_of(told))))
             doc = []
     return found
 

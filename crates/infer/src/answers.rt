@@ -19,6 +19,11 @@ use std::marker::PhantomData;
 
 /// The number of the first built-in row that accepts `buf`, and `None` exactly if no row accepts it. Only the candidates
 /// of its first byte are asked.
+///
+/// ```
+/// assert_eq!(rt; infer::position(b"GIF89a"), Some(rows::GIF));
+/// assert_eq!(rt; infer::position(b"plain text"), None);
+/// ```
 #[inline(always)]
 pub fn position(buf: &[u8]) -> Option<usize>
     ensures first { IsFirstOf (Accepts buf.now) table result }
@@ -31,6 +36,10 @@ pub fn position(buf: &[u8]) -> Option<usize>
 }
 
 /// The type of the built-in row `i`, and `None` exactly from [`ROW_COUNT`] on.
+///
+/// ```
+/// assert!(rt; infer::row(rows::GIF) == infer::get(b"GIF89a"));
+/// ```
 #[tactic(auto, using(std::proofs::lemmas::Bool::Decides::nat_tests))]
 pub fn row(i: usize) -> Option<FileType>
     ensures shows { option_map triple_of result ≡ option_map shows (slice_get table i) }
@@ -40,6 +49,12 @@ pub fn row(i: usize) -> Option<FileType>
 }
 
 /// The type of the first built-in row that accepts `buf`, and `None` exactly if no row accepts it.
+///
+/// ```
+/// let found = infer::get(b"\xFF\xD8\xFF\xE0").ok_or("a JPEG image")?;
+/// assert_eq!(rt; found.mime_type(), "image/jpeg");
+/// assert_eq!(rt; found.extension(), "jpg");
+/// ```
 pub fn get(buf: &[u8]) -> Option<FileType>
     ensures { IsAnswer (Accepts buf.now) table (option_map triple_of result) }
 {

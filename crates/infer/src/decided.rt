@@ -13,6 +13,10 @@ use crate::table::rows::ROW_COUNT;
 ///
 /// The first candidate that may still accept `buf` is the answer of some longer buffer. So `buf` is decided exactly if
 /// that row accepts it already, or if there is none.
+///
+/// ```
+/// assert!(rt; infer::is_decided(b"MZ") && !infer::is_decided(b"M"));
+/// ```
 pub fn is_decided(buf: &[u8]) -> bool
     ensures exact { IsTrue result ↔ IsDecided buf.now }
     ensures open { IsFalse result → IsChangeable buf.now }
@@ -42,6 +46,10 @@ fn first_open(rows: &[usize], buf: &[u8]) -> Option<usize>
 }
 
 /// Whether some bytes after `buf` make row `row` accept it. From `ROW_COUNT` on there is no row, and no bytes do.
+///
+/// ```
+/// assert!(rt; infer::may_become(b"\x89P", rows::PNG) && !infer::may_become(b"\x89X", rows::PNG));
+/// ```
 #[inline(always)]
 pub fn may_become(buf: &[u8], row: usize) -> bool
     ensures { IsTrue result ↔ RowHas (MayBecomeRow buf.now) row }

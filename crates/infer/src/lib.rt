@@ -64,6 +64,11 @@ use table::rows::ROW_COUNT;
 /// `None` exactly if no row accepts them.
 ///
 /// It opens the file, reserves 8192 bytes and reads, in this order, as [`Infer::get_from_path`] does.
+///
+/// ```
+/// let answer = infer::get_from_path(&rt, rt.alloc(), "/no/such/photo.jpg");
+/// assert!(rt; matches!(answer, Err(infer::Fault::Open(_))));
+/// ```
 pub fn get_from_path<R: Files, A: Allocator>(
     rt: &R,
     alloc: A,
@@ -90,6 +95,12 @@ pub fn get_from_opened<A: Allocator, R: Read>(
 
 /// Whether some built-in row with this extension accepts `buf`, which need not be the answer: allow by [`get`]. Upper
 /// and lower case are apart.
+///
+/// ```
+/// let gif = b"GIF89a%PDF";
+/// assert!(rt; infer::is(gif, "gif") && infer::is(gif, "pdf"));
+/// assert!(rt; infer::get(gif).map(|it| it.extension()) == Some("gif"));
+/// ```
 pub fn is(buf: &[u8], extension: &str) -> bool
     ensures { IsTrue result ↔ SomeBoth (HasExtension extension.now) (Accepts buf.now) table }
 {
@@ -98,6 +109,10 @@ pub fn is(buf: &[u8], extension: &str) -> bool
 
 /// Whether some built-in row with this MIME type accepts `buf`, which need not be the answer: allow by [`get`]. Upper
 /// and lower case are apart.
+///
+/// ```
+/// assert!(rt; infer::is_mime(b"GIF89a", "image/gif"));
+/// ```
 pub fn is_mime(buf: &[u8], mime_type: &str) -> bool
     ensures { IsTrue result ↔ SomeBoth (HasMimeType mime_type.now) (Accepts buf.now) table }
 {
@@ -105,6 +120,10 @@ pub fn is_mime(buf: &[u8], mime_type: &str) -> bool
 }
 
 /// Whether some built-in row has this extension.
+///
+/// ```
+/// assert!(rt; infer::is_supported("png") && !infer::is_supported("PNG"));
+/// ```
 pub fn is_supported(extension: &str) -> bool
     ensures { IsTrue result ↔ SomeHas (HasExtension extension.now) table }
 {
@@ -112,6 +131,10 @@ pub fn is_supported(extension: &str) -> bool
 }
 
 /// Whether some built-in row has this MIME type.
+///
+/// ```
+/// assert!(rt; infer::is_mime_supported("image/png"));
+/// ```
 pub fn is_mime_supported(mime_type: &str) -> bool
     ensures { IsTrue result ↔ SomeHas (HasMimeType mime_type.now) table }
 {
@@ -161,6 +184,10 @@ pub fn is_font(buf: &[u8]) -> bool
 }
 
 /// Whether some built-in row of the class `Image` accepts `buf`, which need not be the answer: allow by [`get`].
+///
+/// ```
+/// assert!(rt; infer::is_image(b"GIF89a") && !infer::is_image(b"%PDF-1.7"));
+/// ```
 pub fn is_image(buf: &[u8]) -> bool
     ensures { IsTrue result ↔ SomeBoth (HasClass MatcherType.Image) (Accepts buf.now) table }
 {

@@ -54,6 +54,11 @@ pub use table::EndedTexts;
 pub use types::{Mistake, Rows, Types};
 
 /// The type of the wider answer of `buf`, and `None` exactly if no row accepts it.
+///
+/// ```
+/// let found = infer_more::get(b"{\"name\": 1}").ok_or("JSON")?;
+/// assert_eq!(rt; found.mime_type(), "application/json");
+/// ```
 pub fn get(buf: &[u8]) -> Option<Type>
     ensures { IsWiderAnswer buf.now (option_map triple_of result) }
 {
@@ -108,6 +113,10 @@ pub fn accepts(buf: &[u8], i: usize) -> bool
 
 /// Whether no bytes after `buf` change its wider answer, which is the number of the row or that there is none. A yes is
 /// certain. A no is not: where a row asks for a relation, it may be that none do.
+///
+/// ```
+/// assert!(rt; infer_more::is_decided(b"\0asm\x01\0\0\0") && !infer_more::is_decided(b"\0asm"));
+/// ```
 pub fn is_decided(buf: &[u8]) -> bool
     ensures { IsTrue result → IsDecided buf.now }
 {
@@ -138,6 +147,10 @@ pub fn is_mime_supported(mime_type: &str) -> bool
 }
 
 /// Whether `buf` is text: a byte order mark first, or at least one byte and none of 00 to 08, 0B, 0E to 1A and 1C to 1F.
+///
+/// ```
+/// assert!(rt; infer_more::is_text(b"plain text") && !infer_more::is_text(b"\0"));
+/// ```
 pub fn is_text(buf: &[u8]) -> bool
     ensures { IsTrue result ↔ IsText buf.now }
 {
@@ -147,6 +160,11 @@ pub fn is_text(buf: &[u8]) -> bool
 /// How the text `buf` is encoded, and `None` if it is no text or its encoding is not known. A byte order mark tells UTF-16,
 /// bytes below 80 alone are US-ASCII, and it is UTF-8 if some bytes can follow so that the whole is: a character that is
 /// cut at the end makes no difference.
+///
+/// ```
+/// let encoding = infer_more::encoding("für".as_bytes());
+/// assert!(rt; encoding.map(|it| it.name()) == Some("utf-8"));
+/// ```
 pub fn encoding(buf: &[u8]) -> Option<text::Encoding>
     ensures { IsEncodingOf buf.now result }
 {

@@ -166,6 +166,12 @@ impl<'a> Rows<'a> {
 
 /// What the first row of the text shows that is asked below the built-in answer of the buffer and accepts it, and the
 /// wider answer if there is none.
+///
+/// ```
+/// let text = b"draw image/x-drawing image - 4: @0 \"DRAW\"";
+/// let found = types::get(text, b"DRAW 1").ok_or("a drawing")?;
+/// assert_eq!(rt; found.mime_type(), "image/x-drawing");
+/// ```
 pub fn get<'a>(text: &'a [u8], buf: &[u8]) -> Option<Found<'a>>
     ensures { (rows : List Row) → rows_of text.now ≡ Some rows
         → IsTypesAnswer rows buf.now (option_map found_shows result) }

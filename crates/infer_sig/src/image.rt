@@ -8,6 +8,10 @@ use crate::places::{any_matches_at, any_may_match_at, matches_at, may_match_at};
 pub use infer_deep::image::{is_avif, is_heif, may_become_avif, may_become_heif};
 
 /// JPEG: at least 3 bytes, FF D8 FF first.
+///
+/// ```
+/// assert!(rt; infer::image::is_jpeg(b"\xFF\xD8\xFF\xE0"));
+/// ```
 pub fn is_jpeg(buf: &[u8]) -> bool
     ensures { result ≡ accepts jpeg buf.now }
 {

@@ -45,6 +45,12 @@ impl<A: Allocator> Sniffer<A> {
     ///
     /// It takes no memory and cannot refuse. It costs a copy of what is kept of the piece and, as long as the verdict is
     /// not final, one `get` of all that is kept.
+    ///
+    /// ```
+    /// let mut sniffer = Sniffer::new(rt.alloc())?;
+    /// let verdict = sniffer.push(b"\x89PNG");
+    /// assert!(rt; matches!(verdict, Verdict::SoFar(Some(_))));
+    /// ```
     pub fn push(&mut self, piece: &[u8]) -> Verdict
         ensures kept { self.new ≡ head FRONT (self.old ++ piece.now) }
         ensures grows { (added : List ℕ) × (self.new ≡ self.old ++ added) }

@@ -3,6 +3,7 @@ mod asked;
 mod buffers;
 mod decisions;
 mod definitions;
+mod examples;
 mod input;
 mod laws;
 mod pieces;

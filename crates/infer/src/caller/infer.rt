@@ -127,6 +127,13 @@ impl<A: Allocator> Infer<A> {
     /// It reserves 8192 bytes first, then reads until it has them or a read gives none. The rest stays in the
     /// reader. `Memory` means that the bytes were refused and nothing was read, `Read` that a read failed, whatever
     /// its kind; bytes that were read before are lost then. It is never `Open`.
+    ///
+    /// ```
+    /// let photo: &[u8] = b"\xFF\xD8\xFF\xE0";
+    /// let mut watched = Watched::new(photo);
+    /// let found = Infer::new().get_from_reader(rt.alloc(), &mut watched)?;
+    /// assert!(rt; found.map(|it| it.extension()) == Some("jpg"));
+    /// ```
     pub fn get_from_reader<B: Allocator, R: Read>(
         &self,
         alloc: B,
