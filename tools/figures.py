@@ -194,6 +194,7 @@ def versions():
         ("bindings/go/README.md", r"infer-go-(\d+\.\d+\.\d+)\.tar"),
         ("README.md", r"infer-tools_(\d+\.\d+\.\d+)_amd64"),
         ("bindings/javascript/README.md", r"hoarvelt-infer-(\d+\.\d+\.\d+)\.tgz"),
+        ("bindings/java/README.md", r"hoarvelt-infer-(\d+\.\d+\.\d+)\.jar"),
     ]:
         found = re.search(pattern, text_of(path), re.M)
         yield path, found[1] if found else "none"
@@ -227,8 +228,9 @@ def check_versions(pages):
         ("bindings/go/README.md", re.search(r"^go (.*)$", text_of("bindings/go/go.mod"), re.M)[1], "Go"),
         ("bindings/rust/infer/README.md", re.search(r'^rust-version = "(.*)"$', text_of("bindings/rust/infer/Cargo.toml"), re.M)[1], "Rust"),
         ("bindings/javascript/README.md", json.loads(text_of("bindings/javascript/package.json"))["engines"]["node"].lstrip(">="), "Node"),
+        ("bindings/java/README.md", re.search(r"--release (\d+) -Xlint:all -Werror", text_of("bindings/java/fill"))[1], "Java"),
     ]:
-        source = os.path.dirname(page) + {"Python": "/pyproject.toml", "Go": "/go.mod", "Rust": "/Cargo.toml", "Node": "/package.json"}[name]
+        source = os.path.dirname(page) + {"Python": "/pyproject.toml", "Go": "/go.mod", "Rust": "/Cargo.toml", "Node": "/package.json", "Java": "/fill"}[name]
         yield f"{name} {asked} or later" in text_of(page).replace("\n", " "), f"{page} does not ask for {name} {asked} or later, as {source} does"
     kit = toolchain()
     # Kits of one number differ by a letter. What they prove by is told by the logic's own number.

@@ -1,0 +1,94 @@
+/* The calls of the library for Java. An array is not copied: while one is held no other call of Java is made, and the library
+ * never waits, so the collector is kept from it no longer than an answer takes. Bytes.java has checked which bytes are meant. */
+#include "infer.h"
+#include <jni.h>
+
+#define NAME(name) JNICALL Java_dev_hoarvelt_infer_Library_##name
+
+/* Room for each text of a type of one's own: Library.TEXT_SIZE. */
+_Static_assert(INFER_TYPES_TEXT_SIZE == 256 && INFER_TEXT_SIZE <= 256, "Library.java has another size");
+
+/* Where the bytes of an array or else of a direct buffer begin. Of an array it is null if memory is refused, and of a buffer if
+ * it has none. */
+static char *held(JNIEnv *env, jbyteArray array, jobject direct) {
+    return array ? (*env)->GetPrimitiveArrayCritical(env, array, NULL) : (*env)->GetDirectBufferAddress(env, direct);
+}
+
+static void release(JNIEnv *env, jbyteArray array, char *at) {
+    if (array && at) (*env)->ReleasePrimitiveArrayCritical(env, array, at, JNI_ABORT);
+}
+
+static void refuse(JNIEnv *env) { (*env)->ThrowNew(env, (*env)->FindClass(env, "java/lang/OutOfMemoryError"), "an array cannot be held"); }
+
+/* A function of Java for a call that is asked about bytes. */
+#define ASKS(type, name, call) \
+    JNIEXPORT type NAME(name)(JNIEnv *env, jclass self, jbyteArray array, jobject direct, jint from, jint size) { \
+        char *at = held(env, array, direct); \
+        type answer = 0; \
+        (void)self; \
+        if (array && !at) return refuse(env), answer; \
+        answer = call(array ? at + from : at, (size_t)size); \
+        release(env, array, at); \
+        return answer; \
+    }
+
+ASKS(jint, position, infer_position)
+ASKS(jint, morePosition, infer_more_position)
+ASKS(jboolean, isDecided, infer_is_decided)
+
+JNIEXPORT jstring NAME(encoding)(JNIEnv *env, jclass self, jbyteArray array, jobject direct, jint from, jint size) {
+    char *at = held(env, array, direct), name[INFER_TEXT_SIZE];
+    (void)self;
+    if (array && !at) return refuse(env), NULL;
+    infer_encoding(array ? at + from : at, (size_t)size, name, sizeof name);
+    release(env, array, at);
+    return (*env)->NewStringUTF(env, name);
+}
+
+JNIEXPORT jint NAME(typesGet)(JNIEnv *env, jclass self, jbyteArray text, jbyteArray array, jobject direct, jint from, jint size, jbyteArray mime_type, jbyteArray extension) {
+    jbyte told[2][INFER_TYPES_TEXT_SIZE];
+    size_t text_size = (size_t)(*env)->GetArrayLength(env, text);
+    char *types = held(env, text, NULL), *at = held(env, array, direct);
+    jint class_code = INFER_NO_ROW;
+    (void)self;
+    if (types && (at || !array))
+        class_code = infer_types_get(types, text_size, array ? at + from : at, (size_t)size, (char *)told[0], sizeof told[0], (char *)told[1], sizeof told[1]);
+    release(env, array, at);
+    release(env, text, types);
+    if (!types || (array && !at)) return refuse(env), class_code;
+    if (class_code == INFER_NO_ROW) return class_code;
+    (*env)->SetByteArrayRegion(env, mime_type, 0, sizeof told[0], told[0]);
+    (*env)->SetByteArrayRegion(env, extension, 0, sizeof told[1], told[1]);
+    return class_code;
+}
+
+JNIEXPORT jstring NAME(typesMistake)(JNIEnv *env, jclass self, jbyteArray text, jlongArray place) {
+    char reason[INFER_TEXT_SIZE] = "", *types;
+    size_t line = 0, column = 0, text_size = (size_t)(*env)->GetArrayLength(env, text);
+    (void)self;
+    types = held(env, text, NULL);
+    if (!types) return refuse(env), NULL;
+    infer_types_check(types, text_size, &line, &column, reason, sizeof reason);
+    release(env, text, types);
+    (*env)->SetLongArrayRegion(env, place, 0, 2, (jlong[]){(jlong)line, (jlong)column});
+    return (*env)->NewStringUTF(env, reason);
+}
+
+JNIEXPORT jint NAME(rowCount)(JNIEnv *env, jclass self) { (void)env, (void)self; return (jint)infer_row_count(); }
+JNIEXPORT jint NAME(moreRowCount)(JNIEnv *env, jclass self) { (void)env, (void)self; return (jint)infer_more_row_count(); }
+JNIEXPORT jint NAME(classCode)(JNIEnv *env, jclass self, jint row) { (void)env, (void)self; return infer_class(row); }
+
+/* A function of Java for a text of the library's own. */
+#define TELLS(name, call) \
+    JNIEXPORT jstring NAME(name)(JNIEnv *env, jclass self, jint number) { (void)self; return (*env)->NewStringUTF(env, call(number)); }
+
+TELLS(mimeType, infer_mime_type_text)
+TELLS(extension, infer_extension_text)
+TELLS(className, infer_class_name_text)
+
+JNIEXPORT jstring NAME(version)(JNIEnv *env, jclass self) {
+    char text[INFER_TEXT_SIZE];
+    (void)self;
+    infer_version(text, sizeof text);
+    return (*env)->NewStringUTF(env, text);
+}

@@ -1,0 +1,149 @@
+package dev.hoarvelt.infer;
+
+import java.io.IOException;
+import java.io.InputStream;
+import java.nio.ByteBuffer;
+import java.nio.charset.Charset;
+import java.nio.file.Path;
+import java.util.List;
+import java.util.Optional;
+import java.util.stream.IntStream;
+
+/**
+ * The type of a file, from its first bytes.
+ *
+ * <pre>{@code
+ * Infer.get(Path.of("photo.jpg")).ifPresent(type -> System.out.println(type.mimeType()));
+ * }</pre>
+ *
+ * <p>Bytes can be handed over in four ways. Of an array or a buffer all that is handed over is looked at, {@link #FRONT}
+ * bytes are enough, and nobody may change them meanwhile. A buffer's are those between its position and its limit, which
+ * stay. Of a stream the next {@link #FRONT} bytes are read, between {@link InputStream#mark mark} and
+ * {@link InputStream#reset reset}, so it stands afterwards where it stood; one that cannot go back is an
+ * {@link IllegalArgumentException}. A path is that of a regular file, and of any other an {@link IOException} tells. A
+ * failed read is no answer, but that exception.
+ *
+ * <p>Nothing is kept between two calls, and all may be called from any thread.
+ */
+public final class Infer {
+    /** How many bytes of a stream or a file are looked at. */
+    public static final int FRONT = 8192;
+
+    private static final List<Optional<Type>> ANSWERS = IntStream.range(0, Library.moreRowCount())
+        .mapToObj(row -> Optional.of(new Type(Library.mimeType(row), Library.extension(row), Library.className(Library.classCode(row)))))
+        .toList();
+    private static final List<Type> TYPES = ANSWERS.stream().limit(Library.rowCount()).map(Optional::get).toList();
+    private static final String VERSION = Library.version();
+
+    private Infer() {}
+
+    /** {@return the built-in types, in the order in which they are asked} */
+    public static List<Type> types() {
+        return TYPES;
+    }
+
+    /** {@return the version of the library} */
+    public static String version() {
+        return VERSION;
+    }
+
+    private static Optional<Type> answer(int row) {
+        return row < 0 ? Optional.empty() : ANSWERS.get(row);
+    }
+
+    private static Optional<Type> get(Bytes bytes) {
+        return answer(Library.position(bytes));
+    }
+
+    /** {@return the first built-in type that accepts the bytes} Allow a file by this answer. */
+    public static Optional<Type> get(byte[] bytes) {
+        return get(Bytes.of(bytes));
+    }
+
+    /** {@return the same, of a buffer's bytes} */
+    public static Optional<Type> get(ByteBuffer buffer) {
+        return get(Bytes.of(buffer));
+    }
+
+    /** {@return the same, of the next bytes of a stream, which stays where it is} */
+    public static Optional<Type> get(InputStream in) throws IOException {
+        return get(Front.of(in));
+    }
+
+    /** {@return the same, of the first bytes of a file} */
+    public static Optional<Type> get(Path path) throws IOException {
+        return get(Front.of(path));
+    }
+
+    private static Optional<Type> wider(Bytes bytes) {
+        return answer(Library.morePosition(bytes));
+    }
+
+    /** {@return the wider answer: the first further type below the answer of {@code get}, and that answer if there is none} */
+    public static Optional<Type> wider(byte[] bytes) {
+        return wider(Bytes.of(bytes));
+    }
+
+    /** {@return the same, of a buffer's bytes} */
+    public static Optional<Type> wider(ByteBuffer buffer) {
+        return wider(Bytes.of(buffer));
+    }
+
+    /** {@return the same, of the next bytes of a stream, which stays where it is} */
+    public static Optional<Type> wider(InputStream in) throws IOException {
+        return wider(Front.of(in));
+    }
+
+    /** {@return the same, of the first bytes of a file} */
+    public static Optional<Type> wider(Path path) throws IOException {
+        return wider(Front.of(path));
+    }
+
+    private static Optional<Charset> encoding(Bytes bytes) {
+        String name = Library.encoding(bytes);
+        return name.isEmpty() ? Optional.empty() : Optional.of(Charset.forName(name));
+    }
+
+    /**
+     * {@return how the text is encoded: US-ASCII, UTF-8, UTF-16LE or UTF-16BE} It is empty if the bytes are no text, or
+     * text of another encoding. A character that is cut at the end makes no difference.
+     */
+    public static Optional<Charset> encoding(byte[] bytes) {
+        return encoding(Bytes.of(bytes));
+    }
+
+    /** {@return the same, of a buffer's bytes} */
+    public static Optional<Charset> encoding(ByteBuffer buffer) {
+        return encoding(Bytes.of(buffer));
+    }
+
+    /** {@return the same, of the next bytes of a stream, which stays where it is} */
+    public static Optional<Charset> encoding(InputStream in) throws IOException {
+        return encoding(Front.of(in));
+    }
+
+    /** {@return the same, of the first bytes of a file} */
+    public static Optional<Charset> encoding(Path path) throws IOException {
+        return encoding(Front.of(path));
+    }
+
+    /** {@return whether no bytes that may follow can change the answer of {@code get}, told exactly} */
+    public static boolean isDecided(byte[] bytes) {
+        return Library.isDecided(Bytes.of(bytes));
+    }
+
+    /** {@return the same, of a buffer's bytes} */
+    public static boolean isDecided(ByteBuffer buffer) {
+        return Library.isDecided(Bytes.of(buffer));
+    }
+
+    /** {@return the same, of the next bytes of a stream, which stays where it is} */
+    public static boolean isDecided(InputStream in) throws IOException {
+        return Library.isDecided(Front.of(in));
+    }
+
+    /** {@return the same, of the first bytes of a file} */
+    public static boolean isDecided(Path path) throws IOException {
+        return Library.isDecided(Front.of(path));
+    }
+}

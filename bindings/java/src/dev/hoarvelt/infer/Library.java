@@ -1,0 +1,67 @@
+package dev.hoarvelt.infer;
+
+import java.nio.ByteBuffer;
+
+/**
+ * The calls of the C library, whose header infer.h says what each answers. Here they go by the native interface of Java,
+ * through infer_jni.c. The class of this name in src22 stands in its place from Java 22 on.
+ */
+final class Library {
+    /** Room for each text of a type of one's own, with its zero. */
+    static final int TEXT_SIZE = 256;
+
+    static {
+        Loader.load();
+    }
+
+    private Library() {}
+
+    static int position(Bytes it) {
+        return position(it.array(), it.direct(), it.from(), it.size());
+    }
+
+    static int morePosition(Bytes it) {
+        return morePosition(it.array(), it.direct(), it.from(), it.size());
+    }
+
+    static boolean isDecided(Bytes it) {
+        return isDecided(it.array(), it.direct(), it.from(), it.size());
+    }
+
+    /** The name of the encoding, or the empty text. */
+    static String encoding(Bytes it) {
+        return encoding(it.array(), it.direct(), it.from(), it.size());
+    }
+
+    /** The code of the class, or -1. Both texts get a zero after them. */
+    static int typesGet(byte[] text, Bytes it, byte[] mimeType, byte[] extension) {
+        return typesGet(text, it.array(), it.direct(), it.from(), it.size(), mimeType, extension);
+    }
+
+    private static native int position(byte[] array, ByteBuffer direct, int from, int size);
+
+    private static native int morePosition(byte[] array, ByteBuffer direct, int from, int size);
+
+    private static native boolean isDecided(byte[] array, ByteBuffer direct, int from, int size);
+
+    private static native String encoding(byte[] array, ByteBuffer direct, int from, int size);
+
+    private static native int typesGet(byte[] text, byte[] array, ByteBuffer direct, int from, int size, byte[] mimeType, byte[] extension);
+
+    /** What is wrong with a text of types, or the empty text. The line and the column go into the place. */
+    static native String typesMistake(byte[] text, long[] place);
+
+    static native int rowCount();
+
+    static native int moreRowCount();
+
+    static native int classCode(int row);
+
+    static native String mimeType(int row);
+
+    static native String extension(int row);
+
+    static native String className(int classCode);
+
+    static native String version();
+}

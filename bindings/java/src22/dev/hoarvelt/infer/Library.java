@@ -1,0 +1,180 @@
+package dev.hoarvelt.infer;
+
+import static java.lang.foreign.ValueLayout.ADDRESS;
+import static java.lang.foreign.ValueLayout.JAVA_BOOLEAN;
+import static java.lang.foreign.ValueLayout.JAVA_INT;
+import static java.lang.foreign.ValueLayout.JAVA_LONG;
+
+import java.lang.foreign.FunctionDescriptor;
+import java.lang.foreign.Linker;
+import java.lang.foreign.MemoryLayout;
+import java.lang.foreign.MemorySegment;
+import java.lang.foreign.SymbolLookup;
+import java.lang.invoke.MethodHandle;
+import java.nio.charset.StandardCharsets;
+
+/**
+ * The calls of the C library, whose header infer.h says what each answers. Here they go by java.lang.foreign, past
+ * infer_jni.c. The class of this name in src stands in its place before Java 22.
+ */
+final class Library {
+    /** Room for each text of a type of one's own, with its zero, and so for any text. */
+    static final int TEXT_SIZE = 256;
+
+    static {
+        Loader.load();
+    }
+
+    private static final MethodHandle POSITION = handle("infer_position", JAVA_INT, ADDRESS, JAVA_LONG);
+    private static final MethodHandle MORE_POSITION = handle("infer_more_position", JAVA_INT, ADDRESS, JAVA_LONG);
+    private static final MethodHandle IS_DECIDED = handle("infer_is_decided", JAVA_BOOLEAN, ADDRESS, JAVA_LONG);
+    private static final MethodHandle ENCODING = handle("infer_encoding", JAVA_LONG, ADDRESS, JAVA_LONG, ADDRESS, JAVA_LONG);
+    private static final MethodHandle TYPES_GET =
+        handle("infer_types_get", JAVA_INT, ADDRESS, JAVA_LONG, ADDRESS, JAVA_LONG, ADDRESS, JAVA_LONG, ADDRESS, JAVA_LONG);
+    private static final MethodHandle TYPES_CHECK = handle("infer_types_check", JAVA_LONG, ADDRESS, JAVA_LONG, ADDRESS, ADDRESS, ADDRESS, JAVA_LONG);
+    private static final MethodHandle ROW_COUNT = handle("infer_row_count", JAVA_LONG);
+    private static final MethodHandle MORE_ROW_COUNT = handle("infer_more_row_count", JAVA_LONG);
+    private static final MethodHandle CLASS = handle("infer_class", JAVA_INT, JAVA_INT);
+    private static final MethodHandle MIME_TYPE = handle("infer_mime_type", JAVA_LONG, JAVA_INT, ADDRESS, JAVA_LONG);
+    private static final MethodHandle EXTENSION = handle("infer_extension", JAVA_LONG, JAVA_INT, ADDRESS, JAVA_LONG);
+    private static final MethodHandle CLASS_NAME = handle("infer_class_name", JAVA_LONG, JAVA_INT, ADDRESS, JAVA_LONG);
+    private static final MethodHandle VERSION = handle("infer_version", JAVA_LONG, ADDRESS, JAVA_LONG);
+
+    private Library() {}
+
+    /** A call of the library. It never waits, so it may look at an array where that stands. */
+    private static MethodHandle handle(String name, MemoryLayout result, MemoryLayout... arguments) {
+        MemorySegment at = SymbolLookup.loaderLookup().find(name).orElseThrow(() -> new UnsatisfiedLinkError("the library has no " + name));
+        return Linker.nativeLinker().downcallHandle(at, FunctionDescriptor.of(result, arguments), Linker.Option.critical(true));
+    }
+
+    private static MemorySegment segment(Bytes it) {
+        return it.array() == null ? MemorySegment.ofBuffer(it.direct()) : MemorySegment.ofArray(it.array()).asSlice(it.from(), it.size());
+    }
+
+    private static String told(byte[] room, long size) {
+        return new String(room, 0, (int) size, StandardCharsets.US_ASCII);
+    }
+
+    /** What a call throws that throws nothing of its own: that memory is refused, or that another thread frees the bytes. */
+    private static RuntimeException thrown(Throwable fault) {
+        if (fault instanceof Error error) {
+            throw error;
+        }
+        return fault instanceof RuntimeException exception ? exception : new IllegalStateException(fault);
+    }
+
+    static int position(Bytes it) {
+        try {
+            return (int) POSITION.invokeExact(segment(it), (long) it.size());
+        } catch (Throwable fault) {
+            throw thrown(fault);
+        }
+    }
+
+    static int morePosition(Bytes it) {
+        try {
+            return (int) MORE_POSITION.invokeExact(segment(it), (long) it.size());
+        } catch (Throwable fault) {
+            throw thrown(fault);
+        }
+    }
+
+    static boolean isDecided(Bytes it) {
+        try {
+            return (boolean) IS_DECIDED.invokeExact(segment(it), (long) it.size());
+        } catch (Throwable fault) {
+            throw thrown(fault);
+        }
+    }
+
+    /** The name of the encoding, or the empty text. */
+    static String encoding(Bytes it) {
+        byte[] out = new byte[TEXT_SIZE];
+        try {
+            return told(out, (long) ENCODING.invokeExact(segment(it), (long) it.size(), MemorySegment.ofArray(out), (long) TEXT_SIZE));
+        } catch (Throwable fault) {
+            throw thrown(fault);
+        }
+    }
+
+    /** The code of the class, or -1. Both texts get a zero after them. */
+    static int typesGet(byte[] text, Bytes it, byte[] mimeType, byte[] extension) {
+        MemorySegment types = MemorySegment.ofArray(text);
+        MemorySegment mimeTypeOut = MemorySegment.ofArray(mimeType);
+        MemorySegment extensionOut = MemorySegment.ofArray(extension);
+        try {
+            return (int) TYPES_GET.invokeExact(
+                types, (long) text.length, segment(it), (long) it.size(), mimeTypeOut, (long) TEXT_SIZE, extensionOut, (long) TEXT_SIZE);
+        } catch (Throwable fault) {
+            throw thrown(fault);
+        }
+    }
+
+    /** What is wrong with a text of types, or the empty text. The line and the column go into the place. */
+    static String typesMistake(byte[] text, long[] place) {
+        byte[] out = new byte[TEXT_SIZE];
+        MemorySegment line = MemorySegment.ofArray(place);
+        MemorySegment column = line.asSlice(JAVA_LONG.byteSize());
+        try {
+            return told(out, (long) TYPES_CHECK.invokeExact(
+                MemorySegment.ofArray(text), (long) text.length, line, column, MemorySegment.ofArray(out), (long) TEXT_SIZE));
+        } catch (Throwable fault) {
+            throw thrown(fault);
+        }
+    }
+
+    static int rowCount() {
+        try {
+            return (int) (long) ROW_COUNT.invokeExact();
+        } catch (Throwable fault) {
+            throw thrown(fault);
+        }
+    }
+
+    static int moreRowCount() {
+        try {
+            return (int) (long) MORE_ROW_COUNT.invokeExact();
+        } catch (Throwable fault) {
+            throw thrown(fault);
+        }
+    }
+
+    static int classCode(int row) {
+        try {
+            return (int) CLASS.invokeExact(row);
+        } catch (Throwable fault) {
+            throw thrown(fault);
+        }
+    }
+
+    private static String text(MethodHandle call, int number) {
+        byte[] out = new byte[TEXT_SIZE];
+        try {
+            return told(out, (long) call.invokeExact(number, MemorySegment.ofArray(out), (long) TEXT_SIZE));
+        } catch (Throwable fault) {
+            throw thrown(fault);
+        }
+    }
+
+    static String mimeType(int row) {
+        return text(MIME_TYPE, row);
+    }
+
+    static String extension(int row) {
+        return text(EXTENSION, row);
+    }
+
+    static String className(int classCode) {
+        return text(CLASS_NAME, classCode);
+    }
+
+    static String version() {
+        byte[] out = new byte[TEXT_SIZE];
+        try {
+            return told(out, (long) VERSION.invokeExact(MemorySegment.ofArray(out), (long) TEXT_SIZE));
+        } catch (Throwable fault) {
+            throw thrown(fault);
+        }
+    }
+}

@@ -1,0 +1,250 @@
+import dev.hoarvelt.infer.Infer;
+import dev.hoarvelt.infer.Type;
+import dev.hoarvelt.infer.Types;
+import dev.hoarvelt.infer.TypesException;
+import java.io.BufferedInputStream;
+import java.io.BufferedReader;
+import java.io.ByteArrayInputStream;
+import java.io.IOException;
+import java.io.InputStream;
+import java.io.InputStreamReader;
+import java.lang.reflect.Modifier;
+import java.nio.ByteBuffer;
+import java.nio.charset.Charset;
+import java.nio.charset.StandardCharsets;
+import java.nio.file.Files;
+import java.nio.file.Path;
+import java.util.ArrayList;
+import java.util.Arrays;
+import java.util.HexFormat;
+import java.util.List;
+import java.util.Optional;
+import java.util.concurrent.Callable;
+import java.util.concurrent.ExecutorService;
+import java.util.concurrent.Executors;
+import java.util.concurrent.Future;
+import java.util.concurrent.atomic.AtomicBoolean;
+
+/** Asks what the test wants to know, by the first word, and prints what it was told. */
+final class Asks {
+    private static final String OWN = "qoi image/qoi image - 14: @0 \"qoif\"\n";
+
+    public static void main(String[] words) throws Exception {
+        List<String> rest = List.of(words).subList(1, words.length);
+        switch (words[0]) {
+            case "rows" -> rows();
+            case "ways" -> ways(Path.of(rest.get(0)));
+            case "own" -> rest.forEach(Asks::own);
+            case "load" -> rest.forEach(path -> say(path, () -> shown(Types.load(Path.of(path)).get(hex("716f6966" + "00".repeat(10))))));
+            case "paths" -> rest.forEach(path -> say(path, () -> shown(Infer.get(Path.of(path)))));
+            case "probe" -> rest.forEach(path -> say(path, () -> String.valueOf(Files.probeContentType(Path.of(path)))));
+            case "streams" -> streams();
+            case "nulls" -> nulls();
+            case "threads" -> threads();
+            default -> throw new IllegalArgumentException(words[0]);
+        }
+    }
+
+    private static byte[] hex(String digits) {
+        return HexFormat.of().parseHex(digits);
+    }
+
+    private static List<byte[]> given() throws IOException {
+        try (BufferedReader in = new BufferedReader(new InputStreamReader(System.in))) {
+            return in.lines().map(Asks::hex).toList();
+        }
+    }
+
+    private static String shown(Optional<Type> type) {
+        return type.map(it -> it.mimeType() + " " + it.extension() + " " + it.group()).orElse("unknown");
+    }
+
+    /** Prints what a call answers, or what it throws. */
+    private static void say(String about, Callable<String> call) {
+        String told;
+        try {
+            told = call.call();
+        } catch (Exception fault) {
+            told = fault.getClass().getSimpleName();
+        }
+        System.out.println(about + "\t" + told);
+    }
+
+    /** How the library is called, its version, and the rows. */
+    private static void rows() throws Exception {
+        boolean isNative = Arrays.stream(Class.forName("dev.hoarvelt.infer.Library").getDeclaredMethods()).anyMatch(it -> Modifier.isNative(it.getModifiers()));
+        System.out.println(isNative ? "native" : "foreign");
+        System.out.println(Infer.version());
+        Infer.types().forEach(it -> System.out.println(shown(Optional.of(it))));
+    }
+
+    private interface Way {
+        String of(byte[] bytes) throws IOException;
+    }
+
+    private static String answers(Optional<Type> get, Optional<Type> wider, Optional<Charset> encoding, boolean isDecided, Optional<Type> own) {
+        return String.join("|", shown(get), shown(wider), encoding.map(Charset::name).orElse("none"), String.valueOf(isDecided), shown(own));
+    }
+
+    /** Of each buffer that is given, what is said of it in each way to hand it over. */
+    private static void ways(Path file) throws IOException {
+        Types own = Types.of(OWN);
+        List<Way> all = List.of(
+            it -> answers(Infer.get(it), Infer.wider(it), Infer.encoding(it), Infer.isDecided(it), own.get(it)),
+            it -> of(own, inside(it, ByteBuffer.allocate(it.length + 9))),
+            it -> of(own, inside(it, ByteBuffer.allocateDirect(it.length + 9))),
+            it -> of(own, inside(it, ByteBuffer.allocate(it.length + 9)).slice().asReadOnlyBuffer()),
+            it -> of(own, new BufferedInputStream(new ByteArrayInputStream(it), 16)),
+            it -> {
+                Files.write(file, it);
+                return answers(Infer.get(file), Infer.wider(file), Infer.encoding(file), Infer.isDecided(file), own.get(file));
+            });
+        for (byte[] bytes : given()) {
+            List<String> told = new ArrayList<>();
+            for (Way way : all) {
+                told.add(way.of(bytes));
+            }
+            System.out.println(String.join("\t", told));
+        }
+    }
+
+    /** The bytes in the midst of others, of which none is part of an answer. */
+    private static ByteBuffer inside(byte[] bytes, ByteBuffer room) {
+        while (room.hasRemaining()) {
+            room.put((byte) 'G');
+        }
+        room.position(5).limit(5 + bytes.length);
+        room.duplicate().put(bytes);
+        return room;
+    }
+
+    private static String of(Types own, ByteBuffer it) {
+        ByteBuffer before = it.duplicate();
+        String told = answers(Infer.get(it), Infer.wider(it), Infer.encoding(it), Infer.isDecided(it), own.get(it));
+        return before.equals(it) && before.position() == it.position() ? told : "moved";
+    }
+
+    private static String of(Types own, InputStream it) throws IOException {
+        int left = it.available();
+        String told = answers(Infer.get(it), Infer.wider(it), Infer.encoding(it), Infer.isDecided(it), own.get(it));
+        return left == it.available() ? told : "moved";
+    }
+
+    private static void own(String text) {
+        try {
+            Types types = Types.of(text);
+            System.out.println(shown(types.get(hex("716f6966" + "00".repeat(10)))) + ", " + shown(types.get("GIF89a".getBytes(StandardCharsets.US_ASCII))));
+        } catch (TypesException mistake) {
+            System.out.println(mistake.line() + " " + mistake.column() + " " + mistake.reason() + ": " + mistake.getMessage());
+        }
+    }
+
+    /** A stream whose reads and resets do what it is told. */
+    private static final class Odd extends InputStream {
+        private final int given;
+        private final boolean resets;
+
+        Odd(int given, boolean resets) {
+            this.given = given;
+            this.resets = resets;
+        }
+
+        @Override
+        public int read() {
+            return 'G';
+        }
+
+        @Override
+        public int read(byte[] to, int from, int size) throws IOException {
+            if (given < -1) {
+                throw new IOException("no more");
+            }
+            return given;
+        }
+
+        @Override
+        public boolean markSupported() {
+            return true;
+        }
+
+        @Override
+        public void reset() throws IOException {
+            if (!resets) {
+                throw new IOException("no way back");
+            }
+        }
+    }
+
+    private static void streams() throws IOException {
+        for (int given : new int[] {-2, -1, 0, Infer.FRONT, Infer.FRONT + 1, Integer.MAX_VALUE}) {
+            for (boolean resets : new boolean[] {true, false}) {
+                say(given + " " + resets, () -> shown(Infer.get(new Odd(given, resets))));
+            }
+        }
+        say("no mark", () -> shown(Infer.get(InputStream.nullInputStream())));
+        InputStream pieces = new BufferedInputStream(new ByteArrayInputStream(hex("0000474946383961")) {
+            @Override
+            public synchronized int read(byte[] to, int from, int size) {
+                return super.read(to, from, Math.min(size, 1));
+            }
+        });
+        pieces.skipNBytes(2);
+        say("pieces", () -> shown(Infer.get(pieces)));
+        say("the rest", () -> HexFormat.of().formatHex(pieces.readAllBytes()));
+    }
+
+    private static void nulls() {
+        say("array", () -> shown(Infer.get((byte[]) null)));
+        say("buffer", () -> shown(Infer.wider((ByteBuffer) null)));
+        say("stream", () -> String.valueOf(Infer.encoding((InputStream) null)));
+        say("path", () -> String.valueOf(Infer.isDecided((Path) null)));
+        say("text", () -> String.valueOf(Types.of(null)));
+        say("half a character", () -> String.valueOf(Types.of(OWN + "\ud800")));
+    }
+
+    /** Eight threads ask about the same buffers, and have the same answers, while others change what they are asked about. */
+    private static void threads() throws Exception {
+        Types own = Types.of(OWN);
+        List<byte[]> buffers = given();
+        List<String> alone = buffers.stream().map(it -> of(own, ByteBuffer.wrap(it))).toList();
+        byte[] torn = new byte[Infer.FRONT];
+        ByteBuffer moved = ByteBuffer.allocateDirect(Infer.FRONT);
+        AtomicBoolean isOver = new AtomicBoolean();
+        ExecutorService all = Executors.newFixedThreadPool(12);
+        List<Future<Boolean>> right = new ArrayList<>();
+        for (int thread = 0; thread < 8; thread++) {
+            right.add(all.submit(() -> buffers.stream().map(it -> of(own, ByteBuffer.wrap(it))).toList().equals(alone)));
+        }
+        for (int thread = 0; thread < 2; thread++) {
+            int first = thread;
+            all.submit(() -> {
+                for (int at = first; !isOver.get(); at = (at + 1) % buffers.size()) {
+                    byte[] bytes = buffers.get(at);
+                    System.arraycopy(bytes, 0, torn, 0, Math.min(bytes.length, torn.length));
+                    moved.limit(at % Infer.FRONT).position(at % (moved.limit() + 1));
+                    moved.clear();
+                    System.gc();
+                }
+                return null;
+            });
+        }
+        for (int thread = 0; thread < 2; thread++) {
+            right.add(all.submit(() -> {
+                for (int count = 0; count < 20_000; count++) {
+                    own.get(torn);
+                    Infer.wider(torn);
+                    Infer.encoding(torn);
+                    Infer.isDecided(moved);
+                }
+                return true;
+            }));
+        }
+        boolean isRight = true;
+        for (Future<Boolean> it : right) {
+            isRight &= it.get();
+        }
+        isOver.set(true);
+        all.shutdown();
+        System.out.println(isRight);
+    }
+}
