@@ -291,13 +291,13 @@ def check_classes():
 
 def check_copied():
     """A project that copies crates copies what they stand on, and their lines."""
-    page = text_of("docs/CALLING.md")
+    page = text_of("docs/LIBRARY.md")
     copied = set(re.search(r"^    for crate in (.*); do$", page, re.M)[1].split())
     lines = text_of("crates.txt").splitlines()
     lacking = {it for line in lines if line.split(":")[0] in copied for it in line.split(":")[1].split() if it.startswith("infer")} - copied
-    yield not lacking, f"docs/CALLING.md copies crates without {sorted(lacking)}, on which they stand"
+    yield not lacking, f"docs/LIBRARY.md copies crates without {sorted(lacking)}, on which they stand"
     inside = re.search(r"^    for crate in .*; do\n((?: {8}.*\n)*)    done$", page, re.M)[1]
-    yield 'grep "^$crate:" $from/crates.txt >> crates.txt\n' in inside, f"docs/CALLING.md takes other lines of crates.txt than of {sorted(copied)}"
+    yield 'grep "^$crate:" $from/crates.txt >> crates.txt\n' in inside, f"docs/LIBRARY.md takes other lines of crates.txt than of {sorted(copied)}"
 
 
 def check_counts(pages):
