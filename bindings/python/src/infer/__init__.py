@@ -14,14 +14,14 @@ from itertools import takewhile
 from typing import Union
 
 from . import _library
-from ._source import FRONT, Readable, Source, get_bytes
+from ._source import FRONT, Readable, Source, Whole, get_bytes, get_front
 
 __all__ = [
-    "FRONT", "Readable", "Source", "TYPES", "Type", "Types", "TypesError", "add_type", "application_match", "application_matchers", "archive_match",
-    "archive_matchers", "audio_match", "audio_matchers", "document_match", "document_matchers", "encoding", "font_match", "font_matchers",
-    "get_bytes", "get_signature_bytes", "get_type", "guess", "guess_extension", "guess_mime", "image_match", "image_matchers",
+    "FRONT", "Readable", "Sniffer", "Source", "TYPES", "Type", "Types", "TypesError", "Whole", "add_type", "application_match", "application_matchers",
+    "archive_match", "archive_matchers", "audio_match", "audio_matchers", "document_match", "document_matchers", "encoding", "font_match", "font_matchers",
+    "further_types", "get_bytes", "get_signature_bytes", "get_type", "guess", "guess_extension", "guess_mime", "image_match", "image_matchers",
     "is_app", "is_archive", "is_audio", "is_book", "is_decided", "is_document", "is_extension", "is_extension_supported", "is_font",
-    "is_image", "is_mime", "is_mime_supported", "is_video", "match", "signature", "types", "verdict", "version", "video_match",
+    "is_image", "is_mime", "is_mime_supported", "is_video", "match", "may_become", "sample", "signature", "types", "verdict", "version", "video_match",
     "video_matchers",
 ]
 
@@ -59,11 +59,9 @@ class Type:
 
     def match(self, buf: bytes) -> bool:
         """Whether the type accepts the first bytes. It need not be the answer of `guess`."""
-        rows = _rows_of.get(self._values)
-        if rows is None:
+        if self._values not in _rows_of:
             raise NotImplementedError(f"{self!r} is no type of the library, so its class has to say what `match` answers")
-        front = get_bytes(buf)
-        return any(_library.accepts(front, len(front), row) for row in rows)
+        return _accepts(_rows_of[self._values], get_bytes(buf))
 
     def __iter__(self) -> Iterator[str]:
         return iter(self._values)
@@ -89,9 +87,24 @@ _rows_of = {tuple(kind): [row] for row, kind in enumerate(_rows)}
 for _row, _kind in enumerate(_all_rows[_built_in:], _built_in):
     if _kind not in _rows:
         _rows_of.setdefault(tuple(_kind), []).append(_row)
+_rows_by_extension: dict[str, list[int]] = {}
+for _row, _kind in enumerate(_all_rows):
+    _rows_by_extension.setdefault(_kind.extension, []).append(_row)
 types: list[Type] = list(_rows)
 """All types, in the order in which they are asked. `guess` asks those that stand before the library's own too."""
 TYPES = types
+further_types: tuple[Type, ...] = tuple(dict.fromkeys(_all_rows[_built_in:]))
+"""The types that only the wider answer knows. One of them can show what one of `types` does."""
+
+
+def _accepts(rows: Iterable[int], front: Union[bytes, Whole]) -> bool:
+    return any(_library.accepts(front, len(front), row) for row in rows)
+
+
+def _fits(kind: Type, front: Union[bytes, Whole]) -> bool:
+    """Whether the type accepts these bytes. One of your own is handed the first of them."""
+    rows = _rows_of.get(tuple(kind)) if type(kind) is Type else None
+    return _accepts(rows, front) if rows else kind.match(get_bytes(front))
 
 
 def _of_group(group: str) -> tuple[Type, ...]:
@@ -112,8 +125,9 @@ def _added() -> Iterator[Type]:
     return takewhile(lambda kind: kind is not _rows[0], types)
 
 
-def _accepting(front: bytes) -> Iterator[Type]:
+def _accepting(obj: Source) -> Iterator[Type]:
     """Those of them that accept the first bytes. As in filetype.py none is asked about nothing, so `match` may look at a byte."""
+    front = get_bytes(obj)
     return (kind for kind in _added() if front and kind.match(front))
 
 
@@ -136,7 +150,7 @@ def signature(array: Union[bytes, bytearray, memoryview]) -> bytes:
 
 def guess(obj: Source, more: bool = False) -> Type | None:
     """The type of the first bytes, or None. With `more` it is the wider answer, which can be a type beyond `types`."""
-    front = get_bytes(obj)
+    front = get_front(obj)
     if types[0] is not _rows[0] and (kind := next(_accepting(front), None)):
         return kind
     row = _library.more_position(front, len(front)) if more else _library.position(front, len(front))
@@ -158,22 +172,77 @@ def guess_extension(obj: Source, more: bool = False) -> str | None:
 def encoding(obj: Source) -> str | None:
     """How the text is encoded, by its IANA name: us-ascii, utf-8, utf-16le or utf-16be. It is None if the first bytes are
     no text, or text of another encoding. A character that is cut at the end makes no difference."""
-    return _library.encoding(get_bytes(obj)) or None
+    return _library.encoding(get_front(obj)) or None
 
 
 def verdict(obj: Source) -> tuple[Type | None, bool]:
     """What `guess` answers, and whether no bytes that may follow can change it. With added types that is never said."""
-    front = get_bytes(obj)
+    front = get_front(obj)
     if types[0] is not _rows[0]:
         return guess(front), False
     row, is_final = _library.verdict(front)
     return _rows[row] if row >= 0 else None, is_final
 
 
-def is_decided(obj: Source) -> bool:
-    """Whether no bytes that may follow can change what `guess` answers, told exactly. With added types that is never said."""
-    front = get_bytes(obj)
-    return types[0] is _rows[0] and _library.is_decided(front, len(front))
+def is_decided(obj: Source, more: bool = False) -> bool:
+    """Whether no bytes that may follow can change what `guess` answers. It is told exactly, and with `more`, of the wider
+    answer, it can be false although none can. With added types it is never said."""
+    front = get_front(obj)
+    ask = _library.more_is_decided if more else _library.is_decided
+    return types[0] is _rows[0] and ask(front, len(front))
+
+
+def may_become(obj: Source, ext: str, more: bool = False) -> bool:
+    """Whether some bytes that may follow make some type with this extension accept. It need not be the answer of `guess`
+    then. With `more` the types beyond `types` are asked too: of these, as of added ones, it can be true although none do."""
+    front = get_front(obj)
+    ask = _library.more_may_become if more else _library.may_become
+    rows = _rows_by_extension.get(ext, ())
+    return any(kind.extension == ext for kind in _added()) or any(ask(front, len(front), row) for row in rows)
+
+
+def sample(kind: Type) -> bytes | None:
+    """A short buffer whose answer is this type, or whose wider answer is. It is None if no buffer has it, and of a type
+    that is not the library's."""
+    return next(filter(None, map(_library.sample, _rows_of.get(tuple(kind), []))), None)
+
+
+class Sniffer:
+    """The type of bytes that come in pieces, of which the first 8192 are kept.
+
+    >>> sniffer = infer.Sniffer()
+    >>> sniffer.push(b"GIF89a")
+    >>> sniffer.guess_mime(), sniffer.is_decided()
+    ('image/gif', False)"""
+
+    def __init__(self) -> None:
+        self.kept = b""
+        """The first bytes of what was pushed, at most 8192."""
+
+    def push(self, piece: Union[bytes, bytearray, memoryview]) -> None:
+        """Takes the next bytes."""
+        if not self.is_full():
+            self.kept = (self.kept + get_bytes(piece))[:FRONT]
+
+    def is_full(self) -> bool:
+        """Whether 8192 bytes are kept, so that no more are looked at."""
+        return len(self.kept) == FRONT
+
+    def is_decided(self, more: bool = False) -> bool:
+        """Whether no bytes that may follow can change the answer, as the function `is_decided` says."""
+        return is_decided(self.kept, more)
+
+    def guess(self, more: bool = False) -> Type | None:
+        """The type of what is kept, or None."""
+        return guess(self.kept, more)
+
+    def guess_mime(self, more: bool = False) -> str | None:
+        """Its MIME type, or None."""
+        return guess_mime(self.kept, more)
+
+    def guess_extension(self, more: bool = False) -> str | None:
+        """Its extension, or None."""
+        return guess_extension(self.kept, more)
 
 
 def get_type(mime: str | None = None, ext: str | None = None, more: bool = False) -> Type | None:
@@ -191,13 +260,13 @@ def _encoded(text: str) -> bytes:
 
 def is_extension(obj: Source, ext: str) -> bool:
     """Whether some type with this extension accepts the first bytes. It need not be the answer of `guess`."""
-    front, text = get_bytes(obj), _encoded(ext)
+    front, text = get_front(obj), _encoded(ext)
     return any(kind.extension == ext for kind in _accepting(front)) or _library.is_(front, len(front), text, len(text))
 
 
 def is_mime(obj: Source, mime: str) -> bool:
     """Whether some type with this MIME type accepts the first bytes. It need not be the answer of `guess`."""
-    front, text = get_bytes(obj), _encoded(mime)
+    front, text = get_front(obj), _encoded(mime)
     return any(kind.mime == mime for kind in _accepting(front)) or _library.is_mime(front, len(front), text, len(text))
 
 
@@ -217,8 +286,8 @@ def match(obj: Source, matchers: Iterable[Type] = types) -> Type | None:
     """The first of these types that accepts the first bytes, or None. Without a list it is what `guess` answers."""
     if matchers is types:
         return guess(obj)
-    front = get_bytes(obj)
-    return next((kind for kind in matchers if kind.match(front)), None)
+    front = get_front(obj)
+    return next((kind for kind in matchers if _fits(kind, front)), None)
 
 
 def application_match(obj: Source) -> Type | None:
@@ -257,7 +326,7 @@ def video_match(obj: Source) -> Type | None:
 
 
 def _is_of_class(name: str, obj: Source) -> bool:
-    front = get_bytes(obj)
+    front = get_front(obj)
     return _library.of_class[name](front, len(front))
 
 
@@ -325,8 +394,9 @@ class Types:
         if not isinstance(text, (str, bytes)):
             raise TypeError(f"hand over the text as str or bytes, and not {type(text).__name__}")
         # A text that is not Unicode can be a remark.
-        self._text = _encoded(text) if isinstance(text, str) else bytes(memoryview(text))
-        if mistake := _library.types_mistake(self._text):
+        self.text = _encoded(text) if isinstance(text, str) else bytes(memoryview(text))
+        """The text, as bytes."""
+        if mistake := _library.types_mistake(self.text):
             raise TypesError(*mistake)
 
     @classmethod
@@ -342,8 +412,13 @@ class Types:
     def guess(self, obj: Source) -> Type | None:
         """The first of these types that stands below the built-in answer and accepts the first bytes, the wider answer if
         there is none, or None."""
-        found = _library.types_get(self._text, get_bytes(obj))
+        found = _library.types_get(self.text, get_front(obj))
         return Type(*found) if found else None
+
+    def line(self, obj: Source) -> int | None:
+        """The number of the line, from 1, whose type `guess` answers, or None if that is the wider answer. So a type of
+        your own is told from one of the library that shows the same."""
+        return _library.types_line(self.text, get_front(obj)) or None
 
     def guess_mime(self, obj: Source) -> str | None:
         """The MIME type of what `guess` answers, or None."""

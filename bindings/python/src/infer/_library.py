@@ -4,7 +4,7 @@ from __future__ import annotations
 import ctypes
 import os
 import sys
-from collections.abc import Callable
+from collections.abc import Callable, Sized
 from typing import Any
 
 _SYSTEM_LIBRARY = "libinfer.so.0.1"
@@ -30,13 +30,17 @@ def _declare(name: str, result: object, *arguments: object) -> Any:
     return function
 
 
-_Ask = Callable[[bytes, int], bool]
-_AskByText = Callable[[bytes, int, bytes, int], bool]
+# What is asked about is bytes, or a `_source.Whole`, which ctypes takes for its `_as_parameter_`.
+_Ask = Callable[[Sized, int], bool]
+_AskByText = Callable[[Sized, int, bytes, int], bool]
 
-position: Callable[[bytes, int], int] = _declare("infer_position", _ROW, _BUFFER, _SIZE)
-more_position: Callable[[bytes, int], int] = _declare("infer_more_position", _ROW, _BUFFER, _SIZE)
-accepts: Callable[[bytes, int, int], bool] = _declare("infer_accepts", ctypes.c_bool, _BUFFER, _SIZE, _ROW)
+position: Callable[[Sized, int], int] = _declare("infer_position", _ROW, _BUFFER, _SIZE)
+more_position: Callable[[Sized, int], int] = _declare("infer_more_position", _ROW, _BUFFER, _SIZE)
+accepts: Callable[[Sized, int, int], bool] = _declare("infer_accepts", ctypes.c_bool, _BUFFER, _SIZE, _ROW)
+may_become: Callable[[Sized, int, int], bool] = _declare("infer_may_become", ctypes.c_bool, _BUFFER, _SIZE, _ROW)
+more_may_become: Callable[[Sized, int, int], bool] = _declare("infer_more_may_become", ctypes.c_bool, _BUFFER, _SIZE, _ROW)
 is_decided: _Ask = _declare("infer_is_decided", ctypes.c_bool, _BUFFER, _SIZE)
+more_is_decided: _Ask = _declare("infer_more_is_decided", ctypes.c_bool, _BUFFER, _SIZE)
 is_: _AskByText = _declare("infer_is", ctypes.c_bool, _BUFFER, _SIZE, _BUFFER, _SIZE)
 is_mime: _AskByText = _declare("infer_is_mime", ctypes.c_bool, _BUFFER, _SIZE, _BUFFER, _SIZE)
 is_supported: _Ask = _declare("infer_is_supported", ctypes.c_bool, _BUFFER, _SIZE)
@@ -51,14 +55,24 @@ _verdict: Callable[..., int] = _declare("infer_verdict", _ROW, _BUFFER, _SIZE, c
 _encoding: Callable[..., int] = _declare("infer_encoding", _SIZE, _BUFFER, _SIZE, ctypes.c_char_p, _SIZE)
 
 
-def encoding(front: bytes) -> str:
+def encoding(front: Sized) -> str:
     """The IANA name of the text's encoding, or the empty text."""
     out = ctypes.create_string_buffer(16)
     size = _encoding(front, len(front), out, len(out))
     return out.raw[:size].decode("ascii")
 
 
-def verdict(front: bytes) -> tuple[int, bool]:
+_sample: Callable[..., int] = _declare("infer_sample", _SIZE, _ROW, ctypes.c_char_p, _SIZE)
+
+
+def sample(row: int) -> bytes:
+    """The row's sample, or nothing if it is never the answer."""
+    out = ctypes.create_string_buffer(1088)
+    size = _sample(row, out, len(out))
+    return out.raw[:size]
+
+
+def verdict(front: Sized) -> tuple[int, bool]:
     """The number of the answer's row or -1, and whether it is final."""
     is_final = ctypes.c_bool()
     return _verdict(front, len(front), ctypes.byref(is_final)), is_final.value
@@ -66,6 +80,7 @@ def verdict(front: bytes) -> tuple[int, bool]:
 
 _types_check: Callable[..., int] = _declare("infer_types_check", _SIZE, _BUFFER, _SIZE, *[ctypes.POINTER(_SIZE)] * 2, ctypes.c_char_p, _SIZE)
 _types_get: Callable[..., int] = _declare("infer_types_get", _ROW, _BUFFER, _SIZE, _BUFFER, _SIZE, ctypes.c_char_p, _SIZE, ctypes.c_char_p, _SIZE)
+_types_line: Callable[..., int] = _declare("infer_types_line", _SIZE, _BUFFER, _SIZE, _BUFFER, _SIZE)
 _class_name: Callable[..., int] = _declare("infer_class_name", _SIZE, ctypes.c_int32, ctypes.c_char_p, _SIZE)
 
 
@@ -77,7 +92,7 @@ def types_mistake(text: bytes) -> tuple[int, int, str] | None:
     return line.value, column.value, reason.value.decode("ascii")
 
 
-def types_get(text: bytes, front: bytes) -> tuple[str, str, str] | None:
+def types_get(text: bytes, front: Sized) -> tuple[str, str, str] | None:
     """The MIME type, the extension and the class of what the types of the text say, or None."""
     mime_type, extension, name = (ctypes.create_string_buffer(256) for _ in range(3))
     class_code = _types_get(text, len(text), front, len(front), mime_type, len(mime_type), extension, len(extension))
@@ -85,6 +100,11 @@ def types_get(text: bytes, front: bytes) -> tuple[str, str, str] | None:
         return None
     _class_name(class_code, name, len(name))
     return mime_type.value.decode("ascii"), extension.value.decode("ascii"), name.value.decode("ascii")
+
+
+def types_line(text: bytes, front: Sized) -> int:
+    """The number of the line, from 1, whose type `types_get` gives, or 0."""
+    return _types_line(text, len(text), front, len(front))
 
 
 def texts() -> tuple[list[tuple[str, str, str]], int, str]:

@@ -2,9 +2,12 @@
 from __future__ import annotations
 
 import contextlib
+import ctypes
 import errno
+import mmap
 import os
 import stat
+import sys
 from collections.abc import Awaitable
 from typing import Any, Protocol, Union
 
@@ -19,13 +22,59 @@ class Readable(Protocol):
         """At most so many bytes, and none at the end."""
 
 
-Source = Union[str, "os.PathLike[str]", "os.PathLike[bytes]", bytes, bytearray, memoryview, Readable]
+class HasDescriptor(Protocol):
+    """An open file of the system."""
+
+    def fileno(self) -> int:
+        """Its descriptor."""
+
+
+# ctypes takes the place of what can be written to alone. What would be written stays here, and no memory is set apart for it.
+_OWN = {"access": mmap.ACCESS_COPY}
+if sys.platform == "linux":
+    _OWN = {"flags": mmap.MAP_PRIVATE | getattr(mmap, "MAP_NORESERVE", 0x4000)}
+
+
+class Whole:
+    """A regular file of which every call looks at all bytes: the path, or the file that is open. It is mapped, so only the
+    pages that decide are read. Nobody may shorten it meanwhile, or the program ends by SIGBUS.
+
+    >>> with open("photo.jpg", "rb") as file:
+    ...     infer.guess_mime(infer.Whole(file))
+    'image/jpeg'"""
+
+    def __init__(self, file: Union[str, os.PathLike[str], os.PathLike[bytes], HasDescriptor]) -> None:
+        fd = _open_regular(file) if isinstance(file, (str, os.PathLike)) else os.dup(file.fileno())
+        try:
+            about = os.fstat(fd)
+            _refuse_unless_regular(about, file)
+            mapped: Union[mmap.mmap, bytearray] = mmap.mmap(fd, about.st_size, **_OWN) if about.st_size else bytearray(1)
+        finally:
+            os.close(fd)
+        self._size = about.st_size
+        self.front = bytes(mapped[: min(FRONT, self._size)])
+        """The first 8192 bytes."""
+        # What ctypes hands over for this object.
+        self._as_parameter_ = ctypes.byref(ctypes.c_char.from_buffer(mapped))
+
+    def __len__(self) -> int:
+        return self._size
+
+
+Source = Union[str, "os.PathLike[str]", "os.PathLike[bytes]", bytes, bytearray, memoryview, Readable, Whole]
+
+
+def get_front(obj: Source) -> Union[bytes, Whole]:
+    """What the library is asked about: a whole file, or the first 8192 bytes of anything else."""
+    return obj if isinstance(obj, Whole) else get_bytes(obj)
 
 
 def get_bytes(obj: Source) -> bytes:
     """The first 8192 bytes. The place of a file is put back if its `tell` and `seek` work."""
     if type(obj) is bytes:
         return obj[:FRONT]
+    if isinstance(obj, Whole):
+        return obj.front
     # A subclass can state another length and other bytes than it has, and a view asks it for neither.
     if isinstance(obj, (bytes, bytearray, memoryview)):
         return _of_view(memoryview(obj))
@@ -46,10 +95,15 @@ def get_bytes(obj: Source) -> bytes:
 _AT_ONCE = os.O_RDONLY | sum(getattr(os, name, 0) for name in ("O_NONBLOCK", "O_NOCTTY", "O_BINARY"))
 
 
-def _of_path(path: Union[str, os.PathLike[str], os.PathLike[bytes]]) -> bytes:
-    """The first bytes of a regular file. A device can act as soon as it is opened, so that is asked before and after."""
+def _open_regular(path: Union[str, os.PathLike[str], os.PathLike[bytes]]) -> int:
+    """The descriptor of what was a regular file before it was opened, since a device can act as soon as it is."""
     _refuse_unless_regular(os.stat(path), path)
-    fd = os.open(path, _AT_ONCE)
+    return os.open(path, _AT_ONCE)
+
+
+def _of_path(path: Union[str, os.PathLike[str], os.PathLike[bytes]]) -> bytes:
+    """The first bytes of a regular file."""
+    fd = _open_regular(path)
     try:
         _refuse_unless_regular(os.fstat(fd), path)
         front = b""
