@@ -1,11 +1,11 @@
-"""The names of python-magic, for MIME types and extensions. The library has no descriptions, so without `mime=True` or
-`extension=True` there is a MagicException."""
+"""The names of python-magic, for MIME types, encodings and extensions, by the wider answer. The library has no descriptions,
+so without `mime=True`, `mime_encoding=True` or `extension=True` there is a MagicException."""
 from __future__ import annotations
 
 import os
 from typing import NoReturn, Union
 
-from . import get_bytes, guess
+from . import encoding, get_bytes, guess
 
 __all__ = ["Magic", "MagicException", "from_buffer", "from_file", "from_descriptor", "version"]
 
@@ -37,22 +37,24 @@ class Magic:
         # `raw` is taken: all answers are ASCII, so nothing of them is escaped.
         refused = {
             "magic_file": (magic_file is not None, "the signatures are part of the library"),
-            "mime_encoding": (mime_encoding, "no encoding of a text is told"),
             "keep_going": (keep_going, "there is one answer; infer.match takes a list of the types to ask"),
             "uncompress": (uncompress, "nothing is unpacked: unpack it first, and ask about what comes out"),
         }
         for name, (is_wanted, why) in refused.items():
             if is_wanted:
                 raise MagicException(f"{name} is not taken: {why}")
-        if bool(mime) == bool(extension):
-            raise MagicException("ask with mime=True or extension=True: there are no descriptions")
-        self._is_mime = bool(mime)
+        if bool(mime or mime_encoding) == bool(extension):
+            raise MagicException("ask with mime=True, mime_encoding=True or extension=True: there are no descriptions")
+        self._is_mime, self._is_encoding = bool(mime), bool(mime_encoding)
 
     def _text(self, front: bytes) -> str:
-        kind = guess(front)
-        if not self._is_mime:
-            return kind.extension if kind else "???"
-        return kind.mime if kind else "application/octet-stream" if front else "application/x-empty"
+        kind = guess(front, more=True)
+        mime = kind.mime if kind else "application/octet-stream" if front else "application/x-empty"
+        # As libmagic says it of what is no text, and of a text whose encoding is not told.
+        charset = encoding(front) or ("unknown-8bit" if mime.startswith("text/") else "binary")
+        if self._is_encoding:
+            return f"{mime}; charset={charset}" if self._is_mime else charset
+        return mime if self._is_mime else kind.extension if kind else "???"
 
     def from_buffer(self, buf: Buffer) -> str:
         """What the first bytes are. A text stands for its bytes in UTF-8."""
