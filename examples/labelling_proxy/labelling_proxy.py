@@ -22,7 +22,7 @@ class Stream:
 
     def __init__(self, client: socket.socket, server: socket.socket, port: int, lines: Lines) -> None:
         self.client, self.server, self.port, self.lines = client, server, port, lines
-        self.front, self.count, self.is_told, self.is_broken = b"", 0, False, False
+        self.sniffer, self.count, self.is_told, self.is_broken = infer.Sniffer(), 0, False, False
         self.moved, self.ended = time.monotonic(), set[socket.socket]()
         for side in (client, server):
             side.setblocking(False)
@@ -34,18 +34,16 @@ class Stream:
     def tell(self, when: str) -> None:
         """Prints the label once."""
         if not self.is_told:
-            self.lines.tell(f"127.0.0.1:{self.port} {infer.guess_mime(self.front) or 'unknown'} {when} {self.count}")
+            self.lines.tell(f"127.0.0.1:{self.port} {self.sniffer.guess_mime() or 'unknown'} {when} {self.count}")
         self.is_told = True
 
     def label(self, piece: bytes) -> None:
-        """Prints the label if no byte can change it, or if there is room for no more."""
+        """Prints the label if no byte can change it, or if no more are kept."""
         self.count += len(piece)
-        if self.is_told:
-            return
-        self.front = (self.front + piece)[: infer.FRONT]
-        if infer.is_decided(self.front):
+        self.sniffer.push(piece)
+        if not self.is_told and self.sniffer.is_decided():
             self.tell("final")
-        elif len(self.front) == infer.FRONT:
+        elif self.sniffer.is_full():
             self.tell("front")
 
     async def pass_on(self, source: socket.socket, target: socket.socket) -> None:
