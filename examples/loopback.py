@@ -1,10 +1,19 @@
 """What the example servers share: the words that start them, where they listen, and what they print."""
 from __future__ import annotations
 
+import contextlib
 import os
 import re
 import select
 import socket
+import sys
+from typing import NoReturn
+
+
+def fail(why: str) -> NoReturn:
+    """Ends a program that cannot begin."""
+    print(why, file=sys.stderr)
+    sys.exit(2)
 
 
 def number_of(word: str, most: int) -> int:
@@ -29,16 +38,11 @@ def announce(listening: socket.socket) -> None:
 class Lines:
     """Lines on standard output. For one without room nobody waits: it is dropped and counted."""
 
-    def __init__(self) -> None:
-        self.lost, self.room = 0, select.poll()
-        self.room.register(1, select.POLLOUT)
+    lost = 0
 
     def tell(self, line: str) -> None:
-        before = f"{self.lost} lines dropped\n" if self.lost else ""
-        self.lost = 0 if self.is_written(f"{before}{line}\n".encode()) else self.lost + 1
-
-    def is_written(self, text: bytes) -> bool:
-        try:
-            return bool(self.room.poll(0)) and os.write(1, text) == len(text)
-        except OSError:
-            return False
+        text = (f"{self.lost} lines dropped\n" if self.lost else "") + line + "\n"
+        self.lost += 1
+        with contextlib.suppress(OSError):
+            if select.select([], [1], [], 0)[1] and os.write(1, text.encode()) == len(text):
+                self.lost = 0

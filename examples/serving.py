@@ -4,12 +4,14 @@ from __future__ import annotations
 import asyncio
 import email.utils
 import errno
+import itertools
 import re
 import resource
 import socket
 from collections import OrderedDict
-from collections.abc import AsyncIterator, Awaitable, Callable, Iterable
+from collections.abc import Awaitable, Callable, Iterable
 from http import HTTPStatus
+from typing import BinaryIO
 
 import h11
 from loopback import announce
@@ -41,25 +43,18 @@ class Client:
         # Or the end of an answer would wait until its client tells that it has the beginning.
         writer.get_extra_info("socket").setsockopt(socket.IPPROTO_TCP, socket.TCP_NODELAY, 1)
 
-    async def read_head(self) -> bytes:
-        self.begun = await self.reader.read(1)
-        return self.begun and self.begun + await self.reader.readuntil(b"\r\n\r\n")
-
-    async def takes_request(self) -> bool:
-        """Whether there is another request, which is taken."""
-        self.method, self.target, self.headers, self.begun = "", "", dict[str, str](), b""
+    async def next_head(self) -> bytes:
+        """The head of the next request, or nothing. Who is silent before one is let go, and within one is told so."""
+        self.method, self.target, self.headers = "", "", dict[str, str]()
+        first = await asyncio.wait_for(self.reader.read(1), self.server.seconds)
         try:
-            head = await asyncio.wait_for(self.read_head(), self.server.seconds)
+            return first and first + await asyncio.wait_for(self.reader.readuntil(b"\r\n\r\n"), self.server.seconds)
         except asyncio.TimeoutError:
-            if self.begun:
-                raise Refusal(408) from None
-            return False
-        except (asyncio.IncompleteReadError, asyncio.LimitOverrunError) as fault:
-            raise Refusal(431 if isinstance(fault, asyncio.LimitOverrunError) else 400) from None
-        if head:
-            self.read(head)
-            self.server.moved(self.writer)
-        return bool(head)
+            raise Refusal(408) from None
+        except asyncio.IncompleteReadError:
+            raise Refusal(400) from None
+        except asyncio.LimitOverrunError:
+            raise Refusal(431) from None
 
     def read(self, head: bytes) -> None:
         if not PLAIN.fullmatch(head) or DOUBLE.search(head):
@@ -76,9 +71,10 @@ class Client:
             raise Refusal(501)
         if not OWN_HOST.fullmatch(self.headers.get("host", "localhost")):
             raise Refusal(421)
+        self.server.moved(self.writer)
 
-    async def body(self) -> AsyncIterator[bytes]:
-        """The pieces of the request's body. A sender that waits for leave to send it is given leave."""
+    async def receive(self, file: BinaryIO) -> None:
+        """Writes the request's body to the file. A sender that waits for leave to send it is given leave."""
         if self.http.they_are_waiting_for_100_continue:
             self.writer.write(self.http.send(h11.InformationalResponse(status_code=100, headers=[], reason="Continue")))
         while not isinstance(event := self.http.next_event(), h11.EndOfMessage):
@@ -86,17 +82,16 @@ class Client:
                 self.http.receive_data(await self.reader.read(PIECE))
                 self.server.moved(self.writer)
             else:
-                yield event.data
+                file.write(event.data)
+        file.flush()
 
     async def send(self, status: int, fields: Iterable[tuple[str, str]], body: Iterable[bytes] = ()) -> None:
         fields = [*fields, ("Date", email.utils.formatdate(usegmt=True)), ("X-Content-Type-Options", "nosniff")]
-        self.writer.write(self.http.send(h11.Response(status_code=status, headers=fields, reason=HTTPStatus(status).phrase)))
-        for piece in body:
-            self.writer.write(self.http.send(h11.Data(data=piece)))
+        head = h11.Response(status_code=status, headers=fields, reason=HTTPStatus(status).phrase)
+        for event in itertools.chain([head], (h11.Data(data=piece) for piece in body), [h11.EndOfMessage()]):
+            self.writer.write(self.http.send(event))
             await asyncio.wait_for(self.writer.drain(), self.server.seconds)
             self.server.moved(self.writer)
-        self.writer.write(self.http.send(h11.EndOfMessage()))
-        await asyncio.wait_for(self.writer.drain(), self.server.seconds)
 
     async def end(self, status: int, why: str = "", *fields: tuple[str, str]) -> None:
         """Answers a line, and ends the connection."""
@@ -116,7 +111,8 @@ class Client:
 
     async def answer_all(self) -> None:
         try:
-            while await self.takes_request():
+            while head := await self.next_head():
+                self.read(head)
                 await self.server.answer(self)
                 if self.http.our_state is not h11.DONE:
                     return

@@ -1,19 +1,18 @@
 #!/usr/bin/env python3
-"""An upload gate on the loopback: takes PUT /NAME, and keeps what a judge lets through.
+"""An upload gate on the loopback: takes PUT /NAME, and keeps what its judge lets through.
 
-usage: upload_gate.py PORT FOLDER SECONDS JUDGE WORD.."""
+usage: upload_gate.py PORT FOLDER SECONDS [--types FILE] CLASS|MIME_TYPE,.."""
 from __future__ import annotations
 
 import asyncio
 import errno
 import os
 import re
-import signal
-import subprocess
 import sys
 from typing import BinaryIO
 
-from loopback import Lines, listen, number_of
+from judge_upload import Judge
+from loopback import Lines, fail, listen, number_of
 from serving import SHORT, Client, Refusal, Server
 
 LARGEST = 8 << 20
@@ -43,22 +42,19 @@ def upload_of(method: str, target: str, headers: dict[str, str]) -> tuple[str, s
 
 
 class Gate:
-    def __init__(self, folder: str, seconds: int, judge: list[str]) -> None:
+    def __init__(self, folder: str, seconds: int, judge: Judge) -> None:
         self.folder, self.seconds, self.judge = os.open(folder, os.O_RDONLY | os.O_DIRECTORY), seconds, judge
 
     def unnamed(self) -> BinaryIO:
         """A file without a name: whatever ends this program, no part of it is left."""
         return open(os.open(".", os.O_TMPFILE | os.O_RDWR, 0o644, dir_fd=self.folder), "w+b")
 
-    def says(self, words: list[str], *files: int) -> subprocess.CompletedProcess[str]:
-        return subprocess.run([*self.judge, *words], stdin=subprocess.DEVNULL, stdout=subprocess.PIPE, pass_fds=files, text=True)
-
     async def answer(self, client: Client) -> None:
         name, claim = upload_of(client.method, client.target, client.headers)
         try:
             with self.unnamed() as file:
-                await asyncio.wait_for(self.receive(client, file), self.seconds)
-                status, why = await asyncio.to_thread(self.judged, file.fileno(), name, claim)
+                await asyncio.wait_for(client.receive(file), self.seconds)
+                status, why = await asyncio.to_thread(self.judged, file, name, claim)
         except asyncio.TimeoutError:
             raise Refusal(408) from None
         except OSError as fault:
@@ -67,22 +63,15 @@ class Gate:
             raise Refusal(503) from None
         await client.end(status, why)
 
-    async def receive(self, client: Client, file: BinaryIO) -> None:
-        async for piece in client.body():
-            file.write(piece)
-        file.flush()
-
-    def judged(self, file: int, name: str, claim: str) -> tuple[int, str]:
+    def judged(self, file: BinaryIO, name: str, claim: str) -> tuple[int, str]:
         """The status and the reason, after the file has got its name if it is let through."""
-        path = f"/proc/self/fd/{file}"
-        found = re.fullmatch("(201|415|422) (.*)\n", self.says([path, name, claim], file).stdout)
-        if not found:
-            raise Refusal(500)
-        if found[1] == "201":
+        path = f"/proc/self/fd/{file.fileno()}"
+        status, why = self.judge.judge(path, name, claim)
+        if status == 201:
             self.keep(file, path, name)
-        return int(found[1]), found[2]
+        return status, why
 
-    def keep(self, file: int, path: str, name: str) -> None:
+    def keep(self, file: BinaryIO, path: str, name: str) -> None:
         """The file is on the disk before it gets its name, and the name before the sender is told. Nothing is replaced."""
         os.fsync(file)
         os.link(path, name, dst_dir_fd=self.folder, follow_symlinks=True)
@@ -94,20 +83,15 @@ class Gate:
 
 
 def main() -> None:
-    port, folder, seconds, *judge = sys.argv[1:] if len(sys.argv) > 5 else ("", "", "")
-    if number_of(port, 65535) < 0 or number_of(seconds, 86400) < 1:
-        print("usage: upload_gate.py PORT FOLDER SECONDS JUDGE WORD..", file=sys.stderr)
-        sys.exit(2)
-    signal.signal(signal.SIGCHLD, signal.SIG_DFL)  # or nobody would learn how a judge ended
+    port, folder, seconds, *types, allowed = sys.argv[1:] if len(sys.argv) in (5, 7) else ("", "", "", "")
+    if number_of(port, 65535) < 0 or number_of(seconds, 86400) < 1 or types[:1] not in ([], ["--types"]):
+        fail("usage: upload_gate.py PORT FOLDER SECONDS [--types FILE] CLASS|MIME_TYPE,..")
     try:
-        gate = Gate(folder, int(seconds), judge)
+        gate = Gate(folder, int(seconds), Judge(allowed, *types[1:]))
         gate.unnamed().close()
-        if gate.says([]).returncode != 0:
-            sys.exit(2)
         asyncio.run(Server(gate.answer, int(seconds), Lines().tell).run(listen(int(port))))
-    except OSError as fault:
-        print(f"upload_gate.py: {fault}", file=sys.stderr)
-        sys.exit(2)
+    except (OSError, ValueError) as fault:
+        fail(f"upload_gate.py: {fault}")
 
 
 if __name__ == "__main__":

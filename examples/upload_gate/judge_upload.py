@@ -1,0 +1,99 @@
+#!/usr/bin/env python3
+"""Says whether a file may be kept: its bytes are of an allowed type, and its name and what is claimed of it agree with
+them. README.md says what it refuses.
+
+usage: judge_upload.py [--types FILE] CLASS|MIME_TYPE,.. FILE NAME [CONTENT_TYPE]"""
+from __future__ import annotations
+
+import os
+import sys
+
+import infer
+from infer.aliases import BROWSER, EXTENSION, MIME_TYPE
+from loopback import fail
+
+# The classes and extensions of files that honestly fit a type too: they are built on it, or hold files of it.
+FITTING = {"zip": {"doc", "book", "ora"}, "pdf": {"archive"}, "epub": {"epub"}, "sh": {"amr", "deb"}}
+FITTING |= {"msi": FITTING["zip"], "ar": FITTING["sh"]}
+# Files of these hold no archives as they are, so that one in them is hidden.
+CLOSED = {"audio", "font", "image", "text", "video", "pdf", "rtf"}
+# What archives have that their programs find wherever they begin. The end of ZIP's directory need not come after it.
+ARCHIVES = [{b"PK\1\2", b"PK\5\6"}, {b"Rar!\x1a\7"}, {b"7z\xbc\xaf\x27\x1c"}]
+PIECE = 65536
+
+
+def is_one(kind: infer.Type, names: set[str]) -> bool:
+    """Whether its class or its extension is one of these."""
+    return not names.isdisjoint((kind.group, kind.extension))
+
+
+def is_kin(kind: infer.Type, other: infer.Type) -> bool:
+    """Whether honest files that are told as `kind` fit `other` too."""
+    if other.extension in FITTING:
+        return is_one(kind, FITTING[other.extension])
+    return kind.group == other.group != "archive"
+
+
+def hides_archive(path: str) -> bool:
+    """Whether there is an archive in the file, of which two pieces are in memory at a time."""
+    found, before = set[bytes](), b""
+    with open(path, "rb") as file:
+        while piece := file.read(PIECE):
+            found |= {mark for mark in set().union(*ARCHIVES) if mark in before + piece}
+            before = piece
+    return any(marks <= found for marks in ARCHIVES)
+
+
+class Judge:
+    """Lets through what is of these classes and MIME types, with a comma between two. A file can describe further ones."""
+
+    def __init__(self, allowed: str, types: str = os.devnull) -> None:
+        self.allowed, self.own = set(allowed.lower().split(",")), infer.Types.load(types)
+        known = {word.lower() for kind in infer.types for word in (kind.group, kind.mime)}
+        if unknown := self.allowed - known - set(self.own.text.decode("ascii", "replace").lower().split()):
+            raise ValueError(f"no class and no MIME type: {','.join(sorted(unknown))}")
+
+    def judge(self, path: str, name: str, claim: str) -> tuple[int, str]:
+        """The status for the sender, and the MIME type or the reason."""
+        data, extension = infer.Whole(path), os.path.splitext(name)[1][1:].lower()
+        claim = "" if claim.lower() == "application/octet-stream" else claim.lower()
+        # Of the library's further types none is asked, so what a line refuses is not taken for one that shows the same.
+        built_in, own = infer.guess(data), self.own.guess(data) if self.own.line(data) else None
+        kind = own or built_in
+        if kind is None:
+            return 415, "these bytes are of no known type"
+        if self.allowed.isdisjoint((kind.group, kind.mime.lower())):
+            return 415, f"{kind.mime} is not allowed"
+        if not extension and not claim:
+            return 422, f"no extension and no Content-Type, but {kind.mime}"
+        if extension and extension != kind.extension.lower() and EXTENSION.get(extension) != kind.extension:
+            return 422, f"named .{extension}, but {kind.mime}"
+        if claim and claim != kind.mime.lower() and (own or (MIME_TYPE | BROWSER).get(claim) != kind.extension):
+            return 422, f"claimed {claim}, but {kind.mime}"
+        # An own type is judged as the built-in one is that it stands below.
+        parent = built_in or kind
+        if infer.match(data, [it for it in infer.types if it != parent and not is_kin(parent, it)]):
+            return 422, f"{kind.mime} that fits another type too"
+        if parent.extension == "pdf" and not data.front.startswith(b"%PDF"):
+            return 422, f"{kind.mime} behind something else"
+        if is_one(parent, CLOSED) and parent.extension != "ora" and hides_archive(path):
+            return 422, f"{kind.mime} that holds an archive"
+        return 201, kind.mime
+
+
+def main() -> None:
+    words = sys.argv[1:]
+    begin = 2 if words[:1] == ["--types"] else 0
+    if len(words) - begin not in (3, 4):
+        fail("usage: judge_upload.py [--types FILE] CLASS|MIME_TYPE,.. FILE NAME [CONTENT_TYPE]")
+    allowed, path, name, claim = (*words[begin:], "")[:4]
+    try:
+        status, why = Judge(allowed, *words[1:begin]).judge(path, name, claim)
+    except (OSError, ValueError) as fault:
+        fail(f"judge_upload.py: {fault}")
+    print(status, why)
+    sys.exit(status != 201)
+
+
+if __name__ == "__main__":
+    main()
