@@ -33,8 +33,6 @@ def at_most(cell):
 
 # Where another page repeats a figure, its group, and the table, the row and the column in which it stands.
 REPEATED = [
-    ("README.md", r"\| Rust crate `infer` [\d.]+ \| ([\d,]+) / [\d,]+ instructions", "answer", MEDIAN, "`position`", as_it_is),
-    ("README.md", r"\| Rust crate `infer` [\d.]+ \| [\d,]+ / ([\d,]+) instructions", "answer", MEDIAN, "`get` there", as_it_is),
     ("CHANGELOG.md", r"`position`\s+takes\s+([\d,]+)\s+instructions\s+at\s+the\s+median", "answer", MEDIAN, "`position`", as_it_is),
     ("docs/HOSTILE_INPUT.md", r"\| white space, .*\| ([\d.]+) \|", "dearest", "white space", "a byte of 8 KB", at_most),
     ("docs/HOSTILE_INPUT.md", r"\| byte order marks, .*\| ([\d.]+)[ ,]", "dearest", "byte order marks", "a byte of 8 KB", at_most),
@@ -151,31 +149,48 @@ def check_performance():
         yield cells.get("`get` there") == crate, f"{PERFORMANCE}: the Rust crate takes {crate} of {kind}, as docs/speed.svg has it"
 
 
-def numbers_of(path):
-    """Each line of the tables of a page as its numbers."""
-    return [re.findall(r"\d[\d,.]*", " ".join(row[1:])) for _, rows in tables(path) for row in rows]
+# Where the time of a question stands that another program was asked too: the page, the rows of both, and what is counted.
+TIMED_AGAINST = {
+    "`file`": ("examples/directory_report/README.md", "xargs -0 infer_tool", "xargs -0 file", "seconds for 20,000 files"),
+    "mimetype": ("bindings/go/README.md", "infer.Detect", "mimetype.Detect", "nanoseconds"),
+    "python-magic": ("bindings/python/README.md", "infer.magic", "python-magic", "microseconds"),
+    "filetype.py": ("bindings/python/README.md", "infer.guess", "filetype.guess", "microseconds"),
+}
 
 
-def check_compared(page):
-    """What a page tells of two libraries stands in the tables of the page that it leads to, which a script printed."""
-    for ours, theirs, link in re.findall(r"^\|.*\| ([\d.,]+) / ([\d.,]+) \w+ \| \[.*?\]\((.*?)(?:#.*?)?\)", text_of(page), re.M):
-        leads_to = os.path.normpath(os.path.join(os.path.dirname(page), link))
-        if leads_to == PERFORMANCE:
-            continue
-        rows = numbers_of(leads_to)
-        is_pair = any((ours, theirs) in zip(row, row[1:]) for row in rows)
-        yield is_pair or all(any(number in row[:1] for row in rows) for number in (ours, theirs)), f"{page}: {link} has not {ours} and {theirs}"
+def time_of(program):
+    """What a question takes here and there, with a link to the page that has it, and nothing if none has."""
+    if program.startswith("Rust crate"):
+        row = table_of(text_of(PERFORMANCE), "answer")[MEDIAN]
+        return f"[{row['`position`'].partition(' / ')[0]} / {row['`get` there']} instructions]({PERFORMANCE})"
+    for name, (page, here, there, counted) in TIMED_AGAINST.items():
+        if program.startswith(name):
+            rows = table_of(text_of(page), "speed")
+            ours, theirs = (next([*cells.values()][0] for label, cells in rows.items() if it in label) for it in (here, there))
+            return f"[{ours} / {theirs} {counted}]({page}#speed)"
+    return ""
+
+
+def comparison():
+    """The table of README.md: of each program its types, what it says of the files of other tests, and its time."""
+    differences = text_of("docs/DIFFERENCES.md")
+    compared = table_of(differences, "compared")
+    head, rows = next((head, rows) for head, rows in tables("docs/DIFFERENCES.md") if " suites: " in head[0])
+    count = re.search(r"(\d+) binary files", head[0])[1]
+    yield from [f"| | Types | Right, of {count} | Wrong | Time of a question, here / there |", "|---|---|---|---|---|"]
+    for program, right, _, _, wrong, *_ in rows:
+        types = [cells["Types"] for label, cells in compared.items() if label.startswith(program.removesuffix(", not run"))]
+        yield f"| {program} | {''.join(it for it in types if it.isdigit())} | {right} | {wrong} | {time_of(program)} |"
 
 
 def check_repeated(page):
     """A page that tells of instructions repeats a figure of the page of figures, in a place that is known."""
-    text = re.sub(r"\n(?=\S)", " ", text_of(page))
+    text = re.sub(r"\n(?=\S)", " ", re.sub(r"<!-- comparison -->.*?<!-- end -->", "", text_of(page), flags=re.S))
     known = [re.search(pattern, text) for path, pattern, *_ in REPEATED if path == page]
     places = [it.span(1) for it in known if it]
     for it in re.finditer(rf"({FIGURE}) instructions", text):
         is_written = any(at < it.end(1) and it.start(1) < end for at, end in places)
         yield is_written, f"{page}: {it[0]} stand in no place that bench/run --pages writes"
-    yield from check_compared(page)
 
 
 def versions():
