@@ -195,9 +195,8 @@ def check_statuses():
     """The pages tell of the statuses as the code of the program has them."""
     outcomes = text_of("crates/infer_tool/src/outcome.rt")
     numbers = dict(re.findall(r"Outcome::(\w+) => (\d),", outcomes))
-    told = {numbers[name]: text for text, name in re.findall(r"^    /// (.*)\.\n    (\w+),$", outcomes, re.M)}
-    listed = dict(re.findall(r"^\| (\d) \| (.*) \|$", text_of("README.md"), re.M))
-    yield {it: text[0].upper() + text[1:] for it, text in listed.items()} == told, f"README.md tells of the statuses otherwise than crates/infer_tool/src/outcome.rt: {told}"
+    listed = {it for line in re.findall(r"^\|.*$", text_of("docs/PROGRAM.md"), re.M) for it in re.findall(r"\| (\d+) \|$", line)}
+    yield listed == {*numbers.values(), "127"}, f"docs/PROGRAM.md has the statuses {sorted(listed)}"
     listed = re.findall(r"^\.It (\d+)$", text_of("man/infer_tool.1"), re.M)
     yield listed == [*numbers.values(), "127"], f"man/infer_tool.1 has the statuses {listed}"
 
