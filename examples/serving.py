@@ -97,7 +97,8 @@ class Client:
         """Answers a line, and ends the connection."""
         line = f"{status} {why or HTTPStatus(status).phrase}"
         self.server.tell(line)
-        fields = (("Content-Type", "text/plain"), ("Content-Length", str(len(line) + 1)), ("Connection", "close"), *fields)
+        size = str(len(line) + 1)
+        fields = (("Content-Type", "text/plain"), ("Content-Length", size), ("Connection", "close"), *fields)
         await self.send(status, fields, [] if self.method == "HEAD" else [line.encode() + b"\n"])
         # If a socket is closed with bytes unread, its sender can see a reset and never the answer.
         self.writer.write_eof()
@@ -127,7 +128,9 @@ class Client:
 class Server:
     """So many connections at most, in the order in which they last brought a request or a piece, or took one."""
 
-    def __init__(self, answer: Callable[[Client], Awaitable[None]], seconds: int, tell: Callable[[str], None] = lambda line: None) -> None:
+    def __init__(
+        self, answer: Callable[[Client], Awaitable[None]], seconds: int, tell: Callable[[str], None] = lambda line: None
+    ) -> None:
         self.answer, self.seconds, self.tell = answer, seconds, tell
         # Each client takes two descriptors, its own and that of a file.
         self.places = max(1, min(PLACES, resource.getrlimit(resource.RLIMIT_NOFILE)[0] // 2 - 16))
@@ -158,6 +161,6 @@ class Server:
 
 
 def report(loop: asyncio.AbstractEventLoop, about: dict[str, object]) -> None:
-    """Prints a fault of this program. A client that leaves is none, and after a lack of descriptors asyncio tries again."""
+    """Prints a fault of this program. A client that leaves is none, and without a descriptor asyncio tries again."""
     if not isinstance(about.get("exception"), OSError):
         loop.default_exception_handler(about)

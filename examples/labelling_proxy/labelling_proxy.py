@@ -28,7 +28,7 @@ class Stream:
             side.setblocking(False)
             side.setsockopt(socket.IPPROTO_TCP, socket.TCP_NODELAY, 1)
             side.setsockopt(socket.SOL_SOCKET, socket.SO_OOBINLINE, 1)
-            # A socket that is closed resets its connection, or an end of this program would tell a server that an upload is whole.
+            # What is closed is reset, or an end of this program would tell a server that an upload is whole.
             side.setsockopt(socket.SOL_SOCKET, socket.SO_LINGER, AT_ONCE)
 
     def tell(self, when: str) -> None:
@@ -91,7 +91,7 @@ class Stream:
 
 
 async def take(listening: socket.socket, lines: Lines) -> Stream | None:
-    """The next stream, or None if the system is short of something. Of a client that is taken the server's socket is open."""
+    """The next stream, or None if there is no descriptor. Before a client is taken its server has a socket."""
     try:
         with socket.socket() as server:
             client, (_, port) = await asyncio.get_running_loop().sock_accept(listening)

@@ -26,8 +26,8 @@ from serving import PIECE, SHORT, Client, Refusal, Server
 WHOLE = 1 << 20
 STATUS_OF = SHORT | {errno.EIO: 500}
 UNKNOWN, PAGE = "application/octet-stream", "application/xhtml+xml"
-TEXTS = {"js": "text/javascript", "mjs": "text/javascript", "md": "text/markdown", "json": "application/json", "svg": "image/svg+xml",
-         "xhtml": PAGE, "ics": "text/calendar"}
+TEXTS = {"json": "application/json", "svg": "image/svg+xml", "xhtml": PAGE, "ics": "text/calendar"}
+TEXTS |= {"js": "text/javascript", "mjs": "text/javascript", "md": "text/markdown"}
 TEXTS |= dict.fromkeys(["log", "conf", "cfg", "ini", "yaml", "yml", "toml", "sql"], "text/plain")
 # The system's own list is left out, so that the answers are the same on every machine.
 NAMES = mimetypes.MimeTypes(filenames=())
@@ -72,7 +72,7 @@ def content_type(name: str, front: bytes) -> str:
     # A text can begin as anything: a script by "#!", a page in Markdown by a tag, a note by BM as a bitmap does.
     if is_textual(named) and infer.encoding(front) in ("us-ascii", "utf-8"):
         return named
-    # Of a name and bytes that contradict each other neither is believed, but for a picture in another format and the like.
+    # Of a name and bytes that contradict each other neither is believed, but for one picture named as another.
     return browser_type(told) if told.group in SHOWN and named.partition("/")[0] == told.group else UNKNOWN
 
 
@@ -90,7 +90,7 @@ def names_of(target: str) -> list[bytes]:
 
 
 def open_below(folder: int, names: list[bytes]) -> int:
-    """Opens each name from the one before it and follows no link, so that what is swapped meanwhile leads nowhere else."""
+    """Opens each name from the one before and follows no link, so that what is swapped meanwhile leads nowhere else."""
     at = os.dup(folder)
     try:
         for name in names[:-1]:
@@ -148,9 +148,9 @@ def type_fields(file: BinaryIO, name: str, size: int) -> list[tuple[str, str]]:
     mime_type = content_type(name, front)
     is_short_text = is_textual(mime_type) and size <= WHOLE
     charset = "; charset=utf-8" if is_short_text and is_utf8(front + file.read(WHOLE)) else ""
-    fields = [("Content-Type", mime_type + charset)]
     # An image in SVG that is opened by itself is a page, whose scripts this stops.
-    return fields + [("Content-Security-Policy", "sandbox")] if mime_type.endswith("xml") and mime_type != PAGE else fields
+    is_drawing = mime_type.endswith("xml") and mime_type != PAGE
+    return [("Content-Type", mime_type + charset)] + [("Content-Security-Policy", "sandbox")] * is_drawing
 
 
 def span_of(value: str, size: int) -> tuple[int, int]:
@@ -192,7 +192,8 @@ async def answer(folder: int, client: Client) -> None:
         # A part is sent of the file that the client has another part of.
         is_part = is_get and headers.get("if-range", tag) == tag
         begin, end = span_of(headers.get("range", ""), size) if is_part else (0, size)
-        fields = [*type_fields(file, name, size), ("Content-Length", str(end - begin)), ("Accept-Ranges", "bytes"), ("ETag", tag), ("Last-Modified", modified)]
+        fields = [*type_fields(file, name, size), ("Content-Length", str(end - begin)), ("Accept-Ranges", "bytes")]
+        fields += [("ETag", tag), ("Last-Modified", modified)]
         if end - begin < size:
             fields.append(("Content-Range", f"bytes {begin}-{end - 1}/{size}"))
         await client.send(206 if end - begin < size else 200, fields, pieces(file, begin, end) if is_get else ())

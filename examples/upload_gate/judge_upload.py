@@ -45,7 +45,7 @@ def hides_archive(path: str) -> bool:
 
 
 class Judge:
-    """Lets through what is of these classes and MIME types, with a comma between two. A file can describe further ones."""
+    """Lets through what is of these classes and MIME types, with a comma between two. A file can describe others."""
 
     def __init__(self, allowed: str, types: str = os.devnull) -> None:
         self.allowed, self.own = set(allowed.lower().split(",")), infer.Types.load(types)

@@ -72,7 +72,7 @@ class Gate:
         return status, why
 
     def keep(self, file: BinaryIO, path: str, name: str) -> None:
-        """The file is on the disk before it gets its name, and the name before the sender is told. Nothing is replaced."""
+        """The file is on the disk before it gets its name, and that before the sender is told. Nothing is replaced."""
         os.fsync(file)
         os.link(path, name, dst_dir_fd=self.folder, follow_symlinks=True)
         try:
