@@ -15,12 +15,19 @@ mod c {
     unsafe extern "C" {
         pub fn infer_position(buf: *const c_void, len: usize) -> i32;
         pub fn infer_more_position(buf: *const c_void, len: usize) -> i32;
+        pub fn infer_verdict(buf: *const c_void, len: usize, is_final: *mut bool) -> i32;
         pub fn infer_accepts(buf: *const c_void, len: usize, row: i32) -> bool;
+        pub fn infer_is_decided(buf: *const c_void, len: usize) -> bool;
+        pub fn infer_more_is_decided(buf: *const c_void, len: usize) -> bool;
+        pub fn infer_may_become(buf: *const c_void, len: usize, row: i32) -> bool;
+        pub fn infer_more_may_become(buf: *const c_void, len: usize, row: i32) -> bool;
         pub fn infer_row_count() -> usize;
         pub fn infer_more_row_count() -> usize;
         pub fn infer_mime_type(row: i32, out: *mut c_char, size: usize) -> usize;
         pub fn infer_extension(row: i32, out: *mut c_char, size: usize) -> usize;
         pub fn infer_class(row: i32) -> i32;
+        pub fn infer_sample(row: i32, out: *mut c_void, size: usize) -> usize;
+        pub fn infer_version(out: *mut c_char, size: usize) -> usize;
         pub fn infer_encoding(buf: *const c_void, len: usize, out: *mut c_char, size: usize) -> usize;
         pub fn infer_types_check(
             text: *const c_void,
@@ -40,6 +47,7 @@ mod c {
             extension: *mut c_char,
             extension_size: usize,
         ) -> i32;
+        pub fn infer_types_line(text: *const c_void, text_len: usize, buf: *const c_void, len: usize) -> usize;
         pub fn infer_is(buf: *const c_void, len: usize, extension: *const c_char, extension_len: usize) -> bool;
         pub fn infer_is_mime(buf: *const c_void, len: usize, mime_type: *const c_char, mime_type_len: usize) -> bool;
         pub fn infer_is_supported(extension: *const c_char, extension_len: usize) -> bool;
@@ -78,7 +86,8 @@ of_buffers! {
     /// Whether the buffer begins as a COFF object for the processor x64.
     is_coff_x64 = infer_is_coff_x64,
     /// Whether the buffer begins as a COFF object for the processor ia64.
-    is_coff_ia64 = infer_is_coff_ia64
+    is_coff_ia64 = infer_is_coff_ia64,
+    is_decided = infer_is_decided, more_is_decided = infer_more_is_decided
 }
 
 /// The number of the first built-in row that accepts the buffer. It is an index into [`all_rows`], as the one below.
@@ -93,6 +102,43 @@ pub fn more_position(buf: &[u8]) -> Option<usize> {
     usize::try_from(unsafe { c::infer_more_position(buf.as_ptr().cast(), buf.len()) }).ok()
 }
 
+/// What `position` answers, and whether that is final.
+pub fn verdict(buf: &[u8]) -> (Option<usize>, bool) {
+    let mut is_final = false;
+    // SAFETY: as above, and `is_final` is written.
+    let row = unsafe { c::infer_verdict(buf.as_ptr().cast(), buf.len(), &mut is_final) };
+    (usize::try_from(row).ok(), is_final)
+}
+
+/// Whether some bytes that may follow make that built-in row accept the buffer.
+pub fn may_become(buf: &[u8], row: usize) -> bool {
+    // SAFETY: as above; any row may be asked for.
+    unsafe { c::infer_may_become(buf.as_ptr().cast(), buf.len(), row as i32) }
+}
+
+/// The same of any row, where true can be said of a further one although none do.
+pub fn more_may_become(buf: &[u8], row: usize) -> bool {
+    // SAFETY: as above.
+    unsafe { c::infer_more_may_become(buf.as_ptr().cast(), buf.len(), row as i32) }
+}
+
+/// The row's sample, or nothing.
+pub fn sample(row: usize) -> Vec<u8> {
+    // SAFETY: without room nothing is written, and the answer is the length.
+    let mut out = vec![0_u8; unsafe { c::infer_sample(row as i32, ptr::null_mut(), 0) }];
+    // SAFETY: `out` has room for it.
+    unsafe { c::infer_sample(row as i32, out.as_mut_ptr().cast(), out.len()) };
+    out
+}
+
+/// The version of the library.
+pub fn version() -> Text<TEXT_SIZE> {
+    let mut out = Text::EMPTY;
+    // SAFETY: `out` has room for as many bytes as it says.
+    unsafe { c::infer_version(out.bytes.as_mut_ptr().cast(), out.bytes.len()) };
+    out
+}
+
 /// Room for each text of the library, `INFER_TEXT_SIZE` of `infer.h`.
 pub const TEXT_SIZE: usize = 74;
 
@@ -103,14 +149,17 @@ pub fn encoding<'out>(buf: &[u8], out: &'out mut [u8; TEXT_SIZE]) -> &'out [u8] 
     &out[..size]
 }
 
-/// A text that the library wrote, and a zero behind it. The room is `INFER_TYPES_TEXT_SIZE` of `infer.h`.
-#[derive(Copy, Clone, Eq, PartialEq)]
-pub struct Text {
-    bytes: [u8; 256],
+/// Room for each text of a type that a text describes, `INFER_TYPES_TEXT_SIZE` of `infer.h`.
+pub const TYPES_TEXT_SIZE: usize = 256;
+
+/// A text that the library wrote, and a zero behind it.
+#[derive(Copy, Clone, Eq, PartialEq, Hash)]
+pub struct Text<const SIZE: usize> {
+    bytes: [u8; SIZE],
 }
 
-impl Text {
-    const EMPTY: Text = Text { bytes: [0; 256] };
+impl<const SIZE: usize> Text<SIZE> {
+    const EMPTY: Text<SIZE> = Text { bytes: [0; SIZE] };
 
     pub fn as_str(&self) -> &str {
         let len = self.bytes.iter().position(|byte| *byte == 0).unwrap_or(self.bytes.len());
@@ -119,7 +168,7 @@ impl Text {
 }
 
 /// The line and the column of the first mistake, and what it is, unless the text describes types.
-pub fn types_mistake(text: &[u8]) -> Option<(usize, usize, Text)> {
+pub fn types_mistake(text: &[u8]) -> Option<(usize, usize, Text<TEXT_SIZE>)> {
     let (mut line, mut column, mut reason) = (0, 0, Text::EMPTY);
     let (out, size) = (reason.bytes.as_mut_ptr().cast(), reason.bytes.len());
     // SAFETY: as above; the two numbers are written, and `reason` has room for as many bytes as it says.
@@ -128,7 +177,7 @@ pub fn types_mistake(text: &[u8]) -> Option<(usize, usize, Text)> {
 }
 
 /// The class, the MIME type and the extension of what the types of the text say.
-pub fn types_get(text: &[u8], buf: &[u8]) -> Option<(MatcherType, Text, Text)> {
+pub fn types_get(text: &[u8], buf: &[u8]) -> Option<(MatcherType, Text<TYPES_TEXT_SIZE>, Text<TYPES_TEXT_SIZE>)> {
     let (mut mime_type, mut extension) = (Text::EMPTY, Text::EMPTY);
     // SAFETY: as above, with room for both texts.
     let code = unsafe {
@@ -144,6 +193,12 @@ pub fn types_get(text: &[u8], buf: &[u8]) -> Option<(MatcherType, Text, Text)> {
         )
     };
     (code >= 0).then_some((class_of(code), mime_type, extension))
+}
+
+/// The number of the line whose type `types_get` gives, from 1, or 0.
+pub fn types_line(text: &[u8], buf: &[u8]) -> usize {
+    // SAFETY: as above.
+    unsafe { c::infer_types_line(text.as_ptr().cast(), text.len(), buf.as_ptr().cast(), buf.len()) }
 }
 
 pub fn is(buf: &[u8], extension: &str) -> bool {
@@ -186,6 +241,11 @@ pub fn all_rows() -> &'static [Type] {
     }
     // SAFETY: the pointer is that of a box, which is neither freed nor written to again.
     unsafe { &*rows }
+}
+
+/// The numbers of those of the types, which are the first rows, that have the extension.
+pub fn numbered<'it>(types: &'it [Type], extension: &'it str) -> impl Iterator<Item = usize> + 'it {
+    types.iter().enumerate().filter(move |(_, it)| it.extension() == extension).map(|(row, _)| row)
 }
 
 fn read_rows() -> Vec<Type> {

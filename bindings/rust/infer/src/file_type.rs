@@ -4,7 +4,7 @@ use core::fmt;
 pub type Matcher = fn(buf: &[u8]) -> bool;
 
 /// The class of a type.
-#[derive(Debug, Copy, Clone, Eq, PartialEq)]
+#[derive(Debug, Copy, Clone, Eq, PartialEq, Hash)]
 pub enum MatcherType {
     /// A program, such as "exe".
     App,
@@ -29,7 +29,7 @@ pub enum MatcherType {
 }
 
 /// A type: its class, its MIME type and its usual extension.
-#[derive(Copy, Clone, Eq, PartialEq)]
+#[derive(Copy, Clone, Eq, PartialEq, Hash)]
 pub struct Type {
     matcher_type: MatcherType,
     mime_type: &'static str,

@@ -5,6 +5,7 @@
 
 extern crate alloc;
 
+use alloc::string::String;
 use alloc::vec::Vec;
 
 pub mod aliases;
@@ -14,14 +15,14 @@ mod file_type;
 mod matchers;
 pub mod more;
 #[cfg(feature = "std")]
-mod path;
+mod read;
 mod types;
 
 pub use encoding::{encoding, Encoding};
 pub use file_type::{Matcher, MatcherType, Type};
 pub use matchers::{app, archive, audio, book, doc, font, image, odf, text, video};
 #[cfg(feature = "std")]
-pub use path::get_from_path;
+pub use read::{get_from_path, get_from_reader, whole};
 pub use types::{Found, Mistake, Types};
 
 /// The built-in types, and those that the caller added, which are asked first.
@@ -99,6 +100,32 @@ pub fn is_supported(extension: &str) -> bool {
 /// Whether some type has this MIME type.
 pub fn is_mime_supported(mime_type: &str) -> bool {
     ffi::is_mime_supported(mime_type)
+}
+
+/// The first type that accepts the buffer, and whether that is final: no bytes that may follow can change it then.
+pub fn verdict(buf: &[u8]) -> (Option<Type>, bool) {
+    let (row, is_final) = ffi::verdict(buf);
+    (row.map(|row| ffi::all_rows()[row]), is_final)
+}
+
+/// Whether no bytes that may follow can change what [`get`] answers, told exactly.
+pub fn is_decided(buf: &[u8]) -> bool {
+    ffi::is_decided(buf)
+}
+
+/// Whether some bytes that may follow make some type with this extension accept the buffer. It need not be the first then.
+pub fn may_become(buf: &[u8], extension: &str) -> bool {
+    ffi::numbered(types(), extension).any(|row| ffi::may_become(buf, row))
+}
+
+/// The types that [`get`] knows, in the order in which they are asked.
+pub fn types() -> &'static [Type] {
+    ffi::rows()
+}
+
+/// The version of the library for C, such as "0.1.0".
+pub fn version() -> String {
+    ffi::version().as_str().into()
 }
 
 macro_rules! class_tests {

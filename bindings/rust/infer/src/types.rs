@@ -1,9 +1,9 @@
-use crate::ffi::{self, Text};
+use crate::ffi::{self, Text, TEXT_SIZE, TYPES_TEXT_SIZE};
 use crate::MatcherType;
 use core::fmt;
 
 /// Types of your own, which a text describes, one a line, in the notation of `docs/NOTATION.md`.
-#[derive(Debug, Copy, Clone, Eq, PartialEq)]
+#[derive(Debug, Copy, Clone, Eq, PartialEq, Hash)]
 pub struct Types<'text> {
     text: &'text [u8],
 }
@@ -24,14 +24,20 @@ impl<'text> Types<'text> {
         let (matcher_type, mime_type, extension) = ffi::types_get(self.text, buf)?;
         Some(Found { matcher_type, mime_type, extension })
     }
+
+    /// The number of the line, from 1, whose type [`Types::get`] gives, and `None` if that is the wider answer. So a type
+    /// of your own is told from one of the library that shows the same.
+    pub fn line(&self, buf: &[u8]) -> Option<usize> {
+        Some(ffi::types_line(self.text, buf)).filter(|line| *line > 0)
+    }
 }
 
 /// A type that was found: its class, its MIME type and its extension.
-#[derive(Copy, Clone, Eq, PartialEq)]
+#[derive(Copy, Clone, Eq, PartialEq, Hash)]
 pub struct Found {
     matcher_type: MatcherType,
-    mime_type: Text,
-    extension: Text,
+    mime_type: Text<TYPES_TEXT_SIZE>,
+    extension: Text<TYPES_TEXT_SIZE>,
 }
 
 impl Found {
@@ -69,11 +75,11 @@ impl fmt::Display for Found {
 }
 
 /// The first mistake of a text that describes no types.
-#[derive(Copy, Clone, Eq, PartialEq)]
+#[derive(Copy, Clone, Eq, PartialEq, Hash)]
 pub struct Mistake {
     line: usize,
     column: usize,
-    reason: Text,
+    reason: Text<TEXT_SIZE>,
 }
 
 impl Mistake {

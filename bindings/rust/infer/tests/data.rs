@@ -1,15 +1,8 @@
 //! The rows, their samples and the vectors, by the repository's test data.
 
 use infer::{Matcher, MatcherType, Type};
-use std::ffi::{c_char, c_void};
 use std::fs;
 use std::path::Path;
-use std::ptr;
-
-unsafe extern "C" {
-    fn infer_sample(row: i32, out: *mut c_void, size: usize) -> usize;
-    fn infer_version(out: *mut c_char, size: usize) -> usize;
-}
 
 /// A class as it prints, a MIME type and an extension.
 type Row = (String, String, String);
@@ -44,15 +37,6 @@ fn decode(tokens: &str) -> Vec<u8> {
         (0..count.parse().unwrap()).for_each(|_| bytes.extend(&part));
     }
     bytes
-}
-
-fn sample(row: usize) -> Vec<u8> {
-    // SAFETY: nothing is written to no bytes.
-    let size = unsafe { infer_sample(row as i32, ptr::null_mut(), 0) };
-    let mut out = vec![0_u8; size];
-    // SAFETY: `out` has as many bytes as it says.
-    unsafe { infer_sample(row as i32, out.as_mut_ptr().cast(), out.len()) };
-    out
 }
 
 /// The name of each row, and its matcher.
@@ -180,11 +164,7 @@ fn matchers_accept_the_samples_of_their_rows() {
 
 #[test]
 fn the_version_is_that_of_the_library_and_beside_it_that_of_the_crate() {
-    let mut out = [0_u8; 64];
-    // SAFETY: `out` has as many bytes as it says.
-    let size = unsafe { infer_version(out.as_mut_ptr().cast(), out.len()) };
-    let version = std::str::from_utf8(&out[..size]).unwrap();
-    assert_eq!(env!("CARGO_PKG_VERSION"), format!("{version}+infer.0.22.0"));
+    assert_eq!(env!("CARGO_PKG_VERSION"), format!("{}+infer.0.22.0", infer::version()));
 }
 
 #[test]
@@ -192,7 +172,7 @@ fn samples_are_of_their_rows() {
     let mut told = 0;
     let rows = rows();
     for (row, wanted) in rows.iter().enumerate() {
-        let data = sample(row);
+        let data = infer::more::sample(row);
         if data.is_empty() {
             continue;
         }
@@ -202,6 +182,34 @@ fn samples_are_of_their_rows() {
     }
     // Two rows have the signature of an earlier one, and so no sample.
     assert_eq!(told, rows.len() - 2);
+}
+
+#[test]
+fn types_are_the_rows_in_their_order() {
+    let listed: Vec<_> = infer::types().iter().copied().map(shown).collect();
+    assert_eq!(listed, rows());
+    let further: Vec<_> = lines("further/rows.tsv").iter().map(|line| (line[0].clone(), line[1].clone(), line[2].clone())).collect();
+    let all: Vec<_> = infer::more::types().iter().copied().map(shown).collect();
+    assert_eq!(all, [listed, further].concat());
+}
+
+/// Of each type and each beginning of its sample: what can come of it is said, and what is decided stays.
+#[test]
+fn samples_come_of_what_they_begin_with() {
+    let builtin = infer::types().len();
+    for (number, kind) in infer::more::types().iter().enumerate() {
+        let data = infer::more::sample(number);
+        for at in (0..=data.len()).filter(|_| !data.is_empty()) {
+            let front = &data[..at];
+            assert!(infer::more::may_become(front, kind.extension()), "{kind:?} {at}");
+            assert!(number >= builtin || infer::may_become(front, kind.extension()), "{kind:?} {at}");
+            assert!(!infer::is_decided(front) || infer::get(front) == infer::get(&data), "{kind:?} {at}");
+            assert!(!infer::more::is_decided(front) || infer::more::get(front) == infer::more::get(&data), "{kind:?} {at}");
+        }
+        let found = if number < builtin { infer::get(&data) } else { infer::more::get(&data) };
+        assert!(data.is_empty() || found == Some(*kind), "{kind:?}");
+    }
+    assert_eq!((infer::more::sample(infer::more::types().len()), infer::more::sample(usize::MAX)), (vec![], vec![]));
 }
 
 #[test]

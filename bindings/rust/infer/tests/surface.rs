@@ -1,8 +1,9 @@
 //! The behaviour of every public item. The bytes are those of the signatures.
 
 use infer::{Infer, Matcher, MatcherType, Type};
+use std::collections::HashSet;
 use std::fs;
-use std::io::ErrorKind;
+use std::io::{self, ErrorKind, Read};
 use std::path::{Path, PathBuf};
 
 const JPEG: &[u8] = b"\xFF\xD8\xFF\xAA";
@@ -173,6 +174,85 @@ fn the_first_bytes_of_a_file_are_looked_at() {
     assert!(infer.get_from_path(env!("CARGO_TARGET_TMPDIR")).is_err());
 }
 
+const SIGNATURE: &[u8] = b"-----BEGIN PGP SIGNATURE-----";
+
+#[test]
+fn more_bytes_change_what_is_not_decided() {
+    let grown = [JPEG, &[0; 57]].concat();
+    let told: [(&[u8], bool); 5] = [(b"", false), (JPEG, false), (&grown, true), (b"MZ", true), (&[b' '; 1024], false)];
+    for (buf, wanted) in told {
+        assert_eq!(infer::is_decided(buf), wanted, "{buf:?}");
+    }
+    assert_eq!((infer::more::is_decided(JPEG), infer::more::is_decided(&grown)), (false, true));
+    assert!(infer::may_become(b"\xFF", "jpg") && !infer::may_become(b"G", "jpg") && infer::may_become(b" <", "html"));
+    assert!(!infer::may_become(b"", "svg") && infer::more::may_become(b"", "svg") && !infer::more::may_become(b"", "none"));
+    let long = [JPEG, &[0; 1020]].concat();
+    assert_eq!((infer::verdict(&long), infer::verdict(&long[1..]).1), ((infer::get(JPEG), true), false));
+}
+
+/// It gives its bytes one at a time, with a call that was interrupted before each, and fails at the end if it is to.
+struct Slow<'buf> {
+    left: &'buf [u8],
+    is_interrupted: bool,
+    fails: bool,
+}
+
+impl Read for Slow<'_> {
+    fn read(&mut self, out: &mut [u8]) -> io::Result<usize> {
+        self.is_interrupted = !self.is_interrupted;
+        match (self.is_interrupted, self.left.split_first()) {
+            (true, _) => Err(ErrorKind::Interrupted.into()),
+            (false, None) if self.fails => Err(ErrorKind::ConnectionReset.into()),
+            (false, None) => Ok(0),
+            (false, Some((first, rest))) => {
+                (out[0], self.left) = (*first, rest);
+                Ok(1)
+            }
+        }
+    }
+}
+
+fn slow(left: &[u8], fails: bool) -> Slow<'_> {
+    Slow { left, is_interrupted: false, fails }
+}
+
+#[test]
+fn the_first_bytes_of_a_reader_are_looked_at() {
+    let mut reader = JPEG;
+    assert_eq!((infer::get_from_reader(&mut reader).unwrap(), reader), (infer::get(JPEG), &b""[..]));
+    let late = [&[b' '; 8190][..], b"<p>"].concat();
+    let mut reader = &late[..];
+    assert_eq!((infer::get_from_reader(&mut reader).unwrap(), reader), (None, &late[8192..]));
+    assert_eq!(infer::get_from_reader(slow(JPEG, false)).unwrap(), infer::get(JPEG));
+    assert_eq!(infer::more::get_from_reader(SIGNATURE).unwrap().unwrap().extension(), "sig");
+    assert_eq!(infer::more::get_from_path(file("signature", SIGNATURE)).unwrap().unwrap().extension(), "sig");
+    assert_eq!(infer::more::get_from_path("/no/such").unwrap_err().kind(), ErrorKind::NotFound);
+    let mut infer = Infer::new();
+    infer.add("custom/foo", "foo", begins_foo);
+    assert_eq!(infer.get_from_reader(JPEG).unwrap().unwrap().extension(), "foo");
+    // A fault is no answer, unless the bytes that are looked at were there before it.
+    for kind in
+        [infer::get_from_reader(slow(JPEG, true)), infer::more::get_from_reader(slow(JPEG, true)), infer.get_from_reader(slow(b"", true))]
+    {
+        assert_eq!(kind.unwrap_err().kind(), ErrorKind::ConnectionReset);
+    }
+    assert_eq!(infer::get_from_reader(slow(&[&[b' '; 8187][..], b"<p>  more"].concat(), true)).unwrap().unwrap().extension(), "html");
+    assert_eq!(infer::whole(slow(JPEG, true)).map(|_| ()).unwrap_err().kind(), ErrorKind::ConnectionReset);
+    for data in [&b""[..], JPEG, &late, &[7; 30_000]] {
+        let (front, mut whole) = infer::whole(slow(data, false)).unwrap();
+        let mut read = Vec::new();
+        whole.read_to_end(&mut read).unwrap();
+        assert!(front == data[..data.len().min(8192)] && read == data);
+    }
+}
+
+#[test]
+fn values_can_be_kept_in_sets() {
+    let found: HashSet<Type> = [JPEG, b"GIF89a", JPEG].into_iter().filter_map(infer::get).collect();
+    let classes: HashSet<MatcherType> = found.iter().map(Type::matcher_type).collect();
+    assert_eq!((found.len(), classes.len()), (2, 1));
+}
+
 /// What is no regular file is a fault at once, and holds no call.
 #[test]
 fn files_of_other_kinds_are_faults() {
@@ -203,6 +283,10 @@ fn types_of_a_text_answer() {
     assert_eq!(format!("{found:?}"), "Found { matcher_type: Image, mime_type: \"image/qoi\", extension: \"qoi\" }");
     assert_eq!(own.get(&entry(30, b"manifest.my?")).unwrap().extension(), "myapp");
     assert_eq!(own.get(b"<?xml version='1.0'?><flows>").unwrap().mime_type(), "text/x-flow");
+    assert_eq!(
+        (own.line(&placed(14, &[(0, b"qoif")])), own.line(b"<?xml version='1.0'?><flows>"), own.line(JPEG), own.line(b"")),
+        (Some(2), Some(4), None, None)
+    );
     assert_eq!(own.get(b"").is_none(), own.get(&placed(13, &[(0, b"qoif")])).is_none());
     // What they do not know, the wider answer may.
     for types in [own, Types::new("").unwrap(), Types::new(OWN_TYPES.as_bytes()).unwrap()] {
