@@ -21,6 +21,10 @@ static struct name encoding(const uint8_t *buf, size_t len) {
 	found.size = infer_encoding(buf, len, found.text, sizeof found.text);
 	return found;
 }
+static bool is_decided(const uint8_t *buf, size_t len) { return infer_is_decided(buf, len); }
+static bool more_is_decided(const uint8_t *buf, size_t len) { return infer_more_is_decided(buf, len); }
+static bool may_become(const uint8_t *buf, size_t len, int32_t row) { return infer_may_become(buf, len, row); }
+static bool more_may_become(const uint8_t *buf, size_t len, int32_t row) { return infer_more_may_become(buf, len, row); }
 static bool is(const uint8_t *buf, size_t len, _GoString_ text) { return infer_is(buf, len, _GoStringPtr(text), _GoStringLen(text)); }
 static bool is_mime(const uint8_t *buf, size_t len, _GoString_ text) { return infer_is_mime(buf, len, _GoStringPtr(text), _GoStringLen(text)); }
 static bool is_supported(_GoString_ text) { return infer_is_supported(_GoStringPtr(text), _GoStringLen(text)); }
@@ -41,6 +45,7 @@ import (
 	"bufio"
 	"errors"
 	"io"
+	"io/fs"
 	"os"
 	"sync"
 	"syscall"
@@ -68,10 +73,24 @@ const (
 
 // Type is a type: its MIME type, its usual extension without a dot, and its class.
 type Type struct {
-	MIMEType  string
-	Extension string
-	Class     Class
+	MIMEType  string `json:"mime"`
+	Extension string `json:"extension"`
+	Class     Class  `json:"class"`
 }
+
+// String gives the MIME type.
+func (t Type) String() string { return t.MIMEType }
+
+var version = readVersion()
+
+func readVersion() string {
+	var out [C.INFER_TEXT_SIZE]C.char
+	C.infer_version(&out[0], C.INFER_TEXT_SIZE)
+	return C.GoString(&out[0])
+}
+
+// Version gives the version of the library, such as "0.1.0".
+func Version() string { return version }
 
 // The built-in types, and then the further ones.
 var allTypes = rows()
@@ -92,9 +111,14 @@ func rows() []Type {
 	return all
 }
 
-// Types lists all types, in the order in which they are asked.
+// Types lists all types that Detect knows, in the order in which they are asked.
 func Types() []Type {
 	return append([]Type(nil), types...)
+}
+
+// MoreTypes lists all types that DetectMore knows: those of Types, and then the further ones.
+func MoreTypes() []Type {
+	return append([]Type(nil), allTypes...)
 }
 
 func typeOf(row int) (Type, bool) {
@@ -150,19 +174,51 @@ func Verdict(b []byte) (found Type, ok bool, final bool) {
 	return found, ok, both&1 == 1
 }
 
+// IsDecided tells whether no bytes that may follow can change what Detect answers, exactly.
+func IsDecided(b []byte) bool { return bool(C.is_decided(first(b), C.size_t(len(b)))) }
+
+// IsMoreDecided tells the same of DetectMore. It can be false although none can.
+func IsMoreDecided(b []byte) bool { return bool(C.more_is_decided(first(b), C.size_t(len(b)))) }
+
+// MayBecome tells whether some bytes that may follow make some type of Types with this extension accept. It need not be
+// the answer of Detect then.
+func MayBecome(b []byte, extension string) bool {
+	for row := range types {
+		if types[row].Extension == extension && bool(C.may_become(first(b), C.size_t(len(b)), C.int32_t(row))) {
+			return true
+		}
+	}
+	return false
+}
+
+// MoreMayBecome tells the same of the types of MoreTypes. Of a further one it can be true although no bytes do.
+func MoreMayBecome(b []byte, extension string) bool {
+	for row := range allTypes {
+		if allTypes[row].Extension == extension && bool(C.more_may_become(first(b), C.size_t(len(b)), C.int32_t(row))) {
+			return true
+		}
+	}
+	return false
+}
+
 var errCount = errors.New("infer: a reader said that it gave less than no bytes, or more than it had room for")
 
 var fronts = sync.Pool{New: func() any { return new([Front]byte) }}
 
 // DetectReader tells the type of the first 8192 bytes of a reader, which are gone from it then. It takes no others.
-func DetectReader(r io.Reader) (Type, bool, error) {
+func DetectReader(r io.Reader) (Type, bool, error) { return detectReader(r, Detect) }
+
+// DetectMoreReader tells the same by DetectMore.
+func DetectMoreReader(r io.Reader) (Type, bool, error) { return detectReader(r, DetectMore) }
+
+func detectReader(r io.Reader, detect func([]byte) (Type, bool)) (Type, bool, error) {
 	front := fronts.Get().(*[Front]byte)
 	defer fronts.Put(front)
 	count, err := readFront(r, front[:])
 	if err != nil {
 		return Type{}, false, err
 	}
-	found, ok := Detect(front[:count])
+	found, ok := detect(front[:count])
 	return found, ok, nil
 }
 
@@ -183,21 +239,52 @@ func readFront(r io.Reader, front []byte) (count int, err error) {
 	return count, err
 }
 
-// DetectWhole tells the same, and gives a reader of the whole: those bytes and then the rest. If a read fails, it gives
-// what came before. A *bufio.Reader of at least 8192 bytes is given back itself, with nothing taken from it.
+// DetectWhole tells what DetectReader does, and gives a reader of the whole: those bytes and then the rest. If a read
+// fails, it gives what came before. A *bufio.Reader of at least 8192 bytes is given back itself, with nothing taken from it.
 func DetectWhole(r io.Reader) (found Type, ok bool, whole *bufio.Reader, err error) {
+	return detectWhole(r, Detect)
+}
+
+// DetectMoreWhole tells the same by DetectMore.
+func DetectMoreWhole(r io.Reader) (found Type, ok bool, whole *bufio.Reader, err error) {
+	return detectWhole(r, DetectMore)
+}
+
+func detectWhole(r io.Reader, detect func([]byte) (Type, bool)) (found Type, ok bool, whole *bufio.Reader, err error) {
 	whole = bufio.NewReaderSize(r, Front)
 	front, err := whole.Peek(Front)
 	if err != nil && err != io.EOF {
 		return Type{}, false, whole, err
 	}
-	found, ok = Detect(front)
+	found, ok = detect(front)
 	return found, ok, whole, nil
 }
 
 // DetectFile tells the type of the first 8192 bytes of a regular file. It opens no other, and waits for no FIFO.
-func DetectFile(path string) (Type, bool, error) {
-	about, err := os.Stat(path)
+func DetectFile(path string) (Type, bool, error) { return detectFile(system{}, path, Detect) }
+
+// DetectMoreFile tells the same by DetectMore.
+func DetectMoreFile(path string) (Type, bool, error) { return detectFile(system{}, path, DetectMore) }
+
+// DetectFS tells the type of the first 8192 bytes of a regular file of a file system, such as one that is embedded.
+func DetectFS(fsys fs.FS, name string) (Type, bool, error) { return detectFile(fsys, name, Detect) }
+
+// DetectMoreFS tells the same by DetectMore.
+func DetectMoreFS(fsys fs.FS, name string) (Type, bool, error) {
+	return detectFile(fsys, name, DetectMore)
+}
+
+// The files of the system by any path, opened so that none waits if it has become a FIFO.
+type system struct{}
+
+func (system) Open(path string) (fs.File, error) {
+	return os.OpenFile(path, os.O_RDONLY|syscall.O_NONBLOCK|syscall.O_NOCTTY, 0)
+}
+
+func (system) Stat(path string) (fs.FileInfo, error) { return os.Stat(path) }
+
+func detectFile(fsys fs.FS, path string, detect func([]byte) (Type, bool)) (Type, bool, error) {
+	about, err := fs.Stat(fsys, path)
 	if err != nil {
 		return Type{}, false, err
 	}
@@ -205,7 +292,7 @@ func DetectFile(path string) (Type, bool, error) {
 	if err := refuseUnlessRegular(about, path); err != nil {
 		return Type{}, false, err
 	}
-	file, err := os.OpenFile(path, os.O_RDONLY|syscall.O_NONBLOCK|syscall.O_NOCTTY, 0)
+	file, err := fsys.Open(path)
 	if err != nil {
 		return Type{}, false, err
 	}
@@ -217,7 +304,7 @@ func DetectFile(path string) (Type, bool, error) {
 	if err != nil {
 		return Type{}, false, err
 	}
-	return DetectReader(file)
+	return detectReader(file, detect)
 }
 
 func refuseUnlessRegular(about os.FileInfo, path string) error {
@@ -286,9 +373,10 @@ func IsVideo(b []byte) bool {
 	return bool(C.is_video(first(b), C.size_t(len(b))))
 }
 
-// Sample gives a short buffer of which the type in Types with this number is the answer, and nothing if there is none.
+// Sample gives a short buffer of which the type in MoreTypes with this number is the answer, or the wider answer, and nothing
+// if there is none.
 func Sample(number int) []byte {
-	if number < 0 || number >= len(types) {
+	if number < 0 || number >= len(allTypes) {
 		return nil
 	}
 	out := make([]byte, C.INFER_SAMPLE_SIZE)

@@ -4,8 +4,10 @@ import (
 	"bufio"
 	"bytes"
 	"encoding/hex"
+	"encoding/json"
 	"errors"
 	"io"
+	"io/fs"
 	"math"
 	"math/rand"
 	"os"
@@ -16,6 +18,7 @@ import (
 	"sync"
 	"syscall"
 	"testing"
+	"testing/fstest"
 	"testing/iotest"
 	"time"
 	"unicode/utf8"
@@ -163,11 +166,70 @@ func TestRows(t *testing.T) {
 		}
 	}
 	// Two rows have the signature of an earlier one, and so no sample.
-	if samples != len(rows)-2 || Sample(-1) != nil || Sample(len(rows)) != nil {
+	if samples != len(rows)-2 || Sample(-1) != nil || Sample(len(MoreTypes())) != nil {
 		t.Error(samples)
 	}
 	if IsSupported("txt") || IsMIMETypeSupported("text/plain") || IsSupported("") || IsSupported("\xFF") {
 		t.Error("supported")
+	}
+}
+
+func TestMoreTypes(t *testing.T) {
+	rows := wantedRows(t)
+	builtIn := len(rows)
+	for _, line := range lines(t, "further/rows.tsv") {
+		rows = append(rows, Type{line[1], line[2], Class(strings.ToLower(line[0]))})
+	}
+	all := MoreTypes()
+	if len(all) != len(rows) || Version() == "" || strings.Count(Version(), ".") != 2 {
+		t.Fatal(len(all), len(rows), Version())
+	}
+	for number, kind := range all {
+		if kind != rows[number] || kind.String() != kind.MIMEType {
+			t.Error(kind, rows[number])
+		}
+		detect, mayBecome := DetectMore, MoreMayBecome
+		if number < builtIn {
+			detect, mayBecome = Detect, MayBecome
+		}
+		data := Sample(number)
+		if got, ok := detect(data); len(data) > 0 && (!ok || got != kind) {
+			t.Error(got, kind)
+		}
+		// What can come of a beginning is said, and what is decided stays.
+		for at := 0; at <= len(data) && len(data) > 0; at++ {
+			if !mayBecome(data[:at], kind.Extension) {
+				t.Error(kind, at)
+			}
+			front, _ := Detect(data[:at])
+			whole, _ := Detect(data)
+			if IsDecided(data[:at]) && front != whole {
+				t.Error(kind, at)
+			}
+			front, _ = DetectMore(data[:at])
+			whole, _ = DetectMore(data)
+			if IsMoreDecided(data[:at]) && front != whole {
+				t.Error(kind, at)
+			}
+		}
+	}
+	grown := append(append([]byte{}, jpeg...), make([]byte, 57)...)
+	if IsDecided(nil) || IsDecided(jpeg) || !IsDecided(grown) || IsMoreDecided(jpeg) || !IsMoreDecided(grown) {
+		t.Error("decided")
+	}
+	if MayBecome([]byte("G"), "jpg") || !MayBecome([]byte(" <"), "html") || MayBecome(nil, "svg") || !MoreMayBecome(nil, "svg") || MoreMayBecome(nil, "none") {
+		t.Error("may become")
+	}
+}
+
+func TestJSON(t *testing.T) {
+	text, err := json.Marshal(want)
+	if string(text) != `{"mime":"image/jpeg","extension":"jpg","class":"image"}` || err != nil {
+		t.Error(string(text), err)
+	}
+	var back Type
+	if err := json.Unmarshal(text, &back); back != want || err != nil {
+		t.Error(back, err)
 	}
 }
 
@@ -240,6 +302,11 @@ func TestOwnTypes(t *testing.T) {
 			t.Error(got, it.want)
 		}
 	}
+	for line, data := range map[int]string{2: "qoif" + strings.Repeat("\x00", 10), 4: "<?xml version='1.0'?><flows>", 0: "GIF89a"} {
+		if got, ok := own.Line([]byte(data)); got != line || ok != (line > 0) {
+			t.Error(line, got)
+		}
+	}
 	// What they do not know, the wider answer may.
 	for _, line := range lines(t, "further/vectors.tsv") {
 		data := decode(t, line[1])
@@ -309,6 +376,47 @@ func TestReaders(t *testing.T) {
 	}
 	if _, _, err := DetectFile(filepath.Dir(path)); err == nil {
 		t.Error("a folder is read")
+	}
+}
+
+func TestMoreReadersAndFiles(t *testing.T) {
+	signature := "-----BEGIN PGP SIGNATURE-----"
+	reader := strings.NewReader(signature)
+	if got, ok, err := DetectMoreReader(reader); got.Extension != "sig" || !ok || err != nil || reader.Len() != 0 {
+		t.Error(got, ok, err)
+	}
+	got, ok, whole, err := DetectMoreWhole(strings.NewReader(signature))
+	if all, fault := io.ReadAll(whole); got.Extension != "sig" || !ok || err != nil || fault != nil || string(all) != signature {
+		t.Error(got, ok, err, fault)
+	}
+	path := filepath.Join(t.TempDir(), "signature")
+	if err := os.WriteFile(path, []byte(signature), 0o600); err != nil {
+		t.Fatal(err)
+	}
+	if got, ok, err := DetectMoreFile(path); got.Extension != "sig" || !ok || err != nil {
+		t.Error(got, ok, err)
+	}
+	for name, fsys := range map[string]fs.FS{"signature": os.DirFS(filepath.Dir(path)), "a/b": fstest.MapFS{"a/b": {Data: []byte(signature)}}} {
+		if got, ok, err := DetectMoreFS(fsys, name); got.Extension != "sig" || !ok || err != nil {
+			t.Error(name, got, ok, err)
+		}
+		if got, ok, err := DetectFS(fsys, name); got.Extension != "pem" || !ok || err != nil {
+			t.Error(name, got, ok, err)
+		}
+		for _, wrong := range []string{"none", "../signature", "/etc/passwd", ""} {
+			if _, ok, err := DetectFS(fsys, wrong); ok || err == nil {
+				t.Error(name, wrong)
+			}
+		}
+		if _, _, err := DetectFS(fsys, "."); !errors.Is(err, syscall.EISDIR) {
+			t.Error(name, err)
+		}
+	}
+	if err := syscall.Mkfifo(path+"-fifo", 0o600); err != nil {
+		t.Skip(err)
+	}
+	if _, _, err := DetectFS(os.DirFS(filepath.Dir(path)), "signature-fifo"); !errors.Is(err, syscall.ENOTSUP) {
+		t.Error(err)
 	}
 }
 
@@ -400,6 +508,12 @@ func TestAllocations(t *testing.T) {
 		"Detect":              {0, func() { Detect(jpeg) }},
 		"DetectMore":          {0, func() { DetectMore(jpeg) }},
 		"Encoding":            {0, func() { Encoding(text) }},
+		"IsDecided":           {0, func() { IsDecided(jpeg) }},
+		"IsMoreDecided":       {0, func() { IsMoreDecided(jpeg) }},
+		"MayBecome":           {0, func() { MayBecome(jpeg, extension) }},
+		"MoreMayBecome":       {0, func() { MoreMayBecome(jpeg, extension) }},
+		"String":              {0, func() { _ = want.String() }},
+		"Line":                {0, func() { own.Line(jpeg) }},
 		"Verdict":             {0, func() { Verdict(jpeg) }},
 		"Is":                  {0, func() { Is(jpeg, extension) }},
 		"IsMIMEType":          {0, func() { IsMIMEType(jpeg, extension) }},
@@ -418,6 +532,8 @@ func TestAllocations(t *testing.T) {
 		"DetectWhole":         {2, func() { reader.Reset(jpeg); DetectWhole(reader) }},
 		"DetectWhole, large":  {0, func() { reader.Reset(jpeg); large.Reset(reader); DetectWhole(large) }},
 		"Types":               {1, func() { Types() }},
+		"MoreTypes":           {1, func() { MoreTypes() }},
+		"Version":             {0, func() { Version() }},
 		"Sample":              {1, func() { Sample(1) }},
 		"Detect of types":     {2, func() { own.Detect(jpeg) }},
 	}

@@ -22,6 +22,7 @@ static struct own_type types_get(const uint8_t *text, size_t text_len, const uin
 	found.class_code = infer_types_get(text, text_len, buf, len, found.mime_type, sizeof found.mime_type, found.extension, sizeof found.extension);
 	return found;
 }
+static size_t types_line(const uint8_t *text, size_t text_len, const uint8_t *buf, size_t len) { return infer_types_line(text, text_len, buf, len); }
 */
 import "C"
 
@@ -82,6 +83,13 @@ func (own *OwnTypes) Detect(b []byte) (Type, bool) {
 		return Type{}, false
 	}
 	return Type{written(&found.mime_type), written(&found.extension), classes[found.class_code]}, true
+}
+
+// Line tells the number, from 1, of the line whose type Detect answers, and false if that is the answer of DetectMore. So a
+// type of your own is told from one of the library that shows the same.
+func (own *OwnTypes) Line(b []byte) (number int, ok bool) {
+	line := C.types_line(first(own.text), C.size_t(len(own.text)), first(b), C.size_t(len(b)))
+	return int(line), line > 0
 }
 
 // written gives the text that C wrote, with a zero after it.
