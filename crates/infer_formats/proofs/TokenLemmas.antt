@@ -1,14 +1,14 @@
 -- Where tokens end.
-use Rattle.infer_formats.proofs.Common.{◌≡◌, ℕ, ◌+◌, ◌≤◌, ◌<◌, ◌⊎◌, inl, inr, ◌↔◌, codes, Bool, true, false, IsTrue, List, [], ◌∷◌, ◌++◌, Option, None, Some, length, drop, get_or, append_assoc, refl, sym, subst, ap, ◌∙◌, arith, OnTrue, drop_more, Symbol, range, blanks, value, chars, escape, hex, whole, fraction, exponent, power, digits, byte, digit, exact, BeginsWhole, BehindBlanks, text, BeginsText, CanBe, IsAmong, IsKind, OpensWithToken, Stands, nothing, one, by_rule, EndsNumber, Follows, IsBracket, IsKindPastMark, IsPast, IsPastMark, left, Kind, Lines, Text, Token, Chars, Escape, Hex4, Hex3, Hex2, Hex1, Char1, Char2, Char3, CharE0, CharEd, CharF0, CharF4, T, Tr, Tru, F, Fa, Fal, Fals, N, Nu, Nul, Minus, Zero, Whole, Point, Fraction, Exponent, Sign, Power, Inside, Ended, EndedBefore, Wrong}
+use Rattle.infer_formats.proofs.Common.{[], ◌≡◌, ℕ, ◌+◌, ◌≤◌, ◌<◌, ◌⊎◌, inl, inr, ◌↔◌, Bool, true, false, IsTrue, List, ◌∷◌, ◌++◌, Option, None, Some, length, drop, get_or, append_assoc, refl, sym, subst, ap, ◌∙◌, arith, OnTrue, drop_more, Symbol, range, blanks, value, chars, escape, hex, whole, fraction, power, digits, byte, digit, BeginsWhole, BehindBlanks, text, BeginsText, CanBe, IsAmong, IsKind, OpensWithToken, Stands, nothing, one, by_rule, EndsNumber, Follows, IsBracket, IsKindPastMark, IsPast, IsPastMark, left, Kind, Lines, Text, Token, Chars, Inside, Ended, EndedBefore, Wrong}
 use Rattle.std.proofs.Common.{append-nil}
 use Rattle.std.specs.Prelude.{not}
-use Rattle.infer_formats.specs.Json.{later, rules, BeginsToken, IsBlank, IsMark, NoneGoesOn}
+use Rattle.infer_formats.specs.Json.{rules, BeginsToken, IsBlank, IsMark, NoneGoesOn}
 use Rattle.infer_formats.specs.JsonStates.{IsKindBefore, NoToken, Starts}
-use Rattle.infer_formats.specs.declared.json.lines.Line.TheVariants as Line
 use Rattle.infer_formats.specs.declared.json.token.Step.{Step}
+use Rattle.infer_formats.proofs.CompleteLemmas.{AllHold, Completes, completes, token_holds}
 use Rattle.infer_formats.proofs.JsonLemmas.{value_begins}
 use Rattle.infer_formats.proofs.LineLemmas.{CutLine, WholeLine, WrongLine, lines_none, lines_open, lines_single, lines_so, none_left, kind_past, past_can, text_no_blank}
-use Rattle.infer_formats.proofs.CompleteLemmas.{AllHold, Completes, completes, token_holds}
+use Rattle.infer_formats.specs.declared.json.lines.Line.TheVariants as Line
 
 -- one after the other, and apart
 both : {us : List Symbol} {xs : List ℕ} (bs : List Symbol) (ys : List ℕ) → Stands us xs → Stands bs ys
@@ -133,75 +133,39 @@ goes_range low high ss l c = (low, c.0, one (omega arith) l c.1)
 goes_by : (r : List Symbol) (a : Symbol) (ss : List Symbol) → IsAmong r (rules a) → GoesOn (r ++ ss) → GoesOn (a ∷ ss)
 goes_by r a ss m g = (g.0, g.1, by_rule r m g.2)
 
-goes_chars : GoesOn (chars ∷ [])
-goes_chars = goes_by (byte 0x22 ∷ []) chars [] (inl refl) (goes_range 0x22 0x22 [] (omega arith) (completes [] tt))
+-- by the first symbol that is left
+abbrev begins_some : List Symbol → Bool
+begins_some (range low high ∷ ss) = true
+begins_some (chars ∷ ss) = true
+begins_some (escape ∷ ss) = true
+begins_some (hex ∷ ss) = true
+begins_some (whole ∷ ss) = true
+begins_some (fraction ∷ ss) = true
+begins_some (digits ∷ ss) = true
+begins_some (power ∷ ss) = true
+begins_some ss = false
 
-goes_hex : (ss : List Symbol) → AllHold ss → GoesOn (hex ∷ ss)
-goes_hex ss h = goes_by (digit ∷ []) hex ss (inl refl) (goes_range 0x30 0x39 ss (omega arith) (completes ss h))
+goes : (ss : List Symbol) → begins_some ss ≡ true → AllHold ss → GoesOn ss
+goes (range low high ∷ ss) is h = goes_range low high ss h.0 (completes ss h.1)
+goes (chars ∷ ss) is h = goes_by (byte 0x22 ∷ []) chars ss (inl refl) (goes_range 0x22 0x22 ss (omega arith) (completes ss h))
+goes (escape ∷ ss) is h = goes_by (byte 0x22 ∷ []) escape ss (inl refl) (goes_range 0x22 0x22 ss (omega arith) (completes ss h))
+goes (hex ∷ ss) is h = goes_by (digit ∷ []) hex ss (inl refl) (goes_range 0x30 0x39 ss (omega arith) (completes ss h))
+goes (whole ∷ ss) is h = goes_by (byte 0x30 ∷ []) whole ss (inl refl) (goes_range 0x30 0x30 ss (omega arith) (completes ss h))
+goes (fraction ∷ ss) is h =
+    goes_by (byte 0x2E ∷ digit ∷ digits ∷ []) fraction ss (inr (inl refl))
+    (goes_range 0x2E 0x2E (digit ∷ digits ∷ ss) (omega arith) (completes (digit ∷ digits ∷ ss) (omega arith, h)))
+goes (digits ∷ ss) is h =
+    goes_by (digit ∷ digits ∷ []) digits ss (inr (inl refl)) (goes_range 0x30 0x39 (digits ∷ ss) (omega arith) (completes (digits ∷ ss) h))
+goes (power ∷ ss) is h =
+    goes_by (digit ∷ digits ∷ []) power ss (inl refl) (goes_range 0x30 0x39 (digits ∷ ss) (omega arith) (completes (digits ∷ ss) h))
+goes ss is h = absurd cc
 
-goes_digits : (ss : List Symbol) → AllHold ss → GoesOn (digits ∷ ss)
-goes_digits ss h =
-    goes_by (digit ∷ digits ∷ []) digits ss (inr (inl refl))
-    (goes_range 0x30 0x39 (digits ∷ ss) (omega arith) (completes (digits ∷ ss) h))
+left_begins : (t : Token) → begins_some (left t) ≡ true
+left_begins Chars = refl
+left_begins _ = refl
 
 goes_on : (t : Token) → GoesOn (left t)
-goes_on Chars = goes_chars
-goes_on Escape =
-    goes_by (byte 0x22 ∷ []) escape (chars ∷ []) (inl refl)
-    (goes_range 0x22 0x22 (chars ∷ []) (omega arith) (completes (chars ∷ []) tt))
-goes_on Hex4 = goes_hex (hex ∷ hex ∷ hex ∷ chars ∷ []) tt
-goes_on Hex3 = goes_hex (hex ∷ hex ∷ chars ∷ []) tt
-goes_on Hex2 = goes_hex (hex ∷ chars ∷ []) tt
-goes_on Hex1 = goes_hex (chars ∷ []) tt
-goes_on Char1 = goes_range 0x80 0xBF (chars ∷ []) (omega arith) (completes (chars ∷ []) tt)
-goes_on Char2 =
-    goes_range 0x80 0xBF (later ∷ chars ∷ []) (omega arith) (completes (later ∷ chars ∷ []) (omega arith, tt))
-goes_on Char3 =
-    goes_range 0x80 0xBF (later ∷ later ∷ chars ∷ []) (omega arith)
-    (completes (later ∷ later ∷ chars ∷ []) (omega arith, (omega arith, tt)))
-goes_on CharE0 =
-    goes_range 0xA0 0xBF (later ∷ chars ∷ []) (omega arith) (completes (later ∷ chars ∷ []) (omega arith, tt))
-goes_on CharEd =
-    goes_range 0x80 0x9F (later ∷ chars ∷ []) (omega arith) (completes (later ∷ chars ∷ []) (omega arith, tt))
-goes_on CharF0 =
-    goes_range 0x90 0xBF (later ∷ later ∷ chars ∷ []) (omega arith)
-    (completes (later ∷ later ∷ chars ∷ []) (omega arith, (omega arith, tt)))
-goes_on CharF4 =
-    goes_range 0x80 0x8F (later ∷ later ∷ chars ∷ []) (omega arith)
-    (completes (later ∷ later ∷ chars ∷ []) (omega arith, (omega arith, tt)))
-goes_on T =
-    goes_range 0x72 0x72 (exact (codes "ue")) (omega arith)
-    (completes (exact (codes "ue")) (omega arith, (omega arith, tt)))
-goes_on Tr = goes_range 0x75 0x75 (exact (codes "e")) (omega arith) (completes (exact (codes "e")) (omega arith, tt))
-goes_on Tru = goes_range 0x65 0x65 [] (omega arith) (completes [] tt)
-goes_on F =
-    goes_range 0x61 0x61 (exact (codes "lse")) (omega arith)
-    (completes (exact (codes "lse")) (omega arith, (omega arith, (omega arith, tt))))
-goes_on Fa =
-    goes_range 0x6C 0x6C (exact (codes "se")) (omega arith)
-    (completes (exact (codes "se")) (omega arith, (omega arith, tt)))
-goes_on Fal = goes_range 0x73 0x73 (exact (codes "e")) (omega arith) (completes (exact (codes "e")) (omega arith, tt))
-goes_on Fals = goes_range 0x65 0x65 [] (omega arith) (completes [] tt)
-goes_on N =
-    goes_range 0x75 0x75 (exact (codes "ll")) (omega arith)
-    (completes (exact (codes "ll")) (omega arith, (omega arith, tt)))
-goes_on Nu = goes_range 0x6C 0x6C (exact (codes "l")) (omega arith) (completes (exact (codes "l")) (omega arith, tt))
-goes_on Nul = goes_range 0x6C 0x6C [] (omega arith) (completes [] tt)
-goes_on Minus =
-    goes_by (byte 0x30 ∷ []) whole (fraction ∷ exponent ∷ []) (inl refl)
-    (goes_range 0x30 0x30 (fraction ∷ exponent ∷ []) (omega arith) (completes (fraction ∷ exponent ∷ []) tt))
-goes_on Zero =
-    goes_by (byte 0x2E ∷ digit ∷ digits ∷ []) fraction (exponent ∷ []) (inr (inl refl))
-    (goes_range 0x2E 0x2E (digit ∷ digits ∷ exponent ∷ []) (omega arith)
-    (completes (digit ∷ digits ∷ exponent ∷ []) (omega arith, tt)))
-goes_on Whole = goes_digits (fraction ∷ exponent ∷ []) tt
-goes_on Point = goes_range 0x30 0x39 (digits ∷ exponent ∷ []) (omega arith) (completes (digits ∷ exponent ∷ []) tt)
-goes_on Fraction = goes_digits (exponent ∷ []) tt
-goes_on Exponent =
-    goes_by (digit ∷ digits ∷ []) power [] (inl refl)
-    (goes_range 0x30 0x39 (digits ∷ []) (omega arith) (completes (digits ∷ []) tt))
-goes_on Sign = goes_range 0x30 0x39 (digits ∷ []) (omega arith) (completes (digits ∷ []) tt)
-goes_on Power = goes_digits [] tt
+goes_on t = goes (left t) (left_begins t) (subst AllHold (append-nil (left t)) (token_holds t [] tt))
 
 pub none_ends : (t : Token) → ¬ BeginsWhole (left t) []
 none_ends t ([], [], e, d, none) = let g = goes_on t in none g.0 g.1 g.2
