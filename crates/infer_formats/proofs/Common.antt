@@ -45,8 +45,8 @@ pub use Rattle.infer_formats.specs.JsonStates.{EndTells, EndsNumber, Follows, Is
 pub use Rattle.infer_formats.specs.JsonStates.{IsPastMark, Leaves, Onward, PlaceTells, Reads, StartsLine, due_left}
 pub use Rattle.infer_formats.specs.JsonStates.{first_in, left, more_in, next_left}
 pub use Rattle.infer_formats.specs.Markup.{AgreesWithDoctype, BeginsAt, BeginsElement, ClosesDeclaration, HasInTag}
-pub use Rattle.infer_formats.specs.Markup.{HasRoot, HasRootWith, IsDoctype, IsEnclosed, IsFullName, IsMisc, IsPart}
-pub use Rattle.infer_formats.specs.Markup.{IsRootElement, IsSpaceRun, IsTypeByte, IsXmlSpace, LeadsToTag, MayOpenAs}
+pub use Rattle.infer_formats.specs.Markup.{HasRoot, HasRootWith, IsDoctype, IsEnclosed, IsMisc, IsPart}
+pub use Rattle.infer_formats.specs.Markup.{IsRootElement, IsSpaceRun, IsTypeByte, IsXmlSpace, LeadsToTag}
 pub use Rattle.infer_formats.specs.Markup.{OpensTag, utf8_mark}
 unfoldable pub use Rattle.infer_formats.specs.Numbers.{be16}
 pub use Rattle.infer_formats.specs.Numbers.{bytes16, most16, number16, number32}
@@ -56,7 +56,7 @@ pub use Rattle.infer_formats.specs.Script.{IsEnv, IsFirstWord, IsLineEnd, IsNext
 pub use Rattle.infer_formats.specs.Script.{IsVersionByte, IsWord, IsWordByte, NamesProgram}
 pub use Rattle.infer_formats.specs.Subtitles.{AreDigits, EndsLine, IsCue, IsDigit, IsPairAt, IsSubRip, IsTime, MayBeSpan}
 unfoldable pub use Rattle.infer_formats.specs.Tar.{header_sum}
-pub use Rattle.infer_formats.specs.Tar.{HasTarChecksum, IsField, IsOctal, MayWrite, octal, scaled, sum_from}
+pub use Rattle.infer_formats.specs.Tar.{HasTarChecksum, IsField, IsOctal, octal, sum_from}
 pub use Rattle.infer_formats.specs.Text.{IsBinary, IsDataByte, IsPlainByte, SomeBelow}
 pub use Rattle.infer_formats.specs.Tiff.{BeginsTiff, HasTag, IsTagEntry}
 pub use Rattle.infer_formats.specs.Zip.{FirstEntryEndsIn, FirstEntryHasExtra, FirstEntryIs, IsFirstFolder, IsFolderEntry}

@@ -1,10 +1,15 @@
 -- With which byte JSON begins, and that it has a bracket.
-use Rattle.infer_formats.proofs.Common.{◌≡◌, ◌⊎◌, inl, inr, ℕ, zero, suc, ◌<◌, Bool, true, false, List, [], ◌∷◌, ◌++◌, refl, sym, subst, arith, ◌||◌, ◌==◌, slice_index, nat_tests, BehindBlanks, BeginsLines, BeginsText, IsJson, IsJsonLines, OpensWithToken, UpToMark, blanks, same_line, text, IsBracket, IsPast, utf8_mark}
+use Rattle.infer_formats.proofs.Common.{[], ◌≡◌, ◌⊎◌, inl, inr, ℕ, zero, suc, ◌<◌, Bool, true, false, List, ◌∷◌, ◌++◌, refl, sym, subst, arith, ◌||◌, ◌==◌, slice_index, nat_tests, BehindBlanks, BeginsLines, BeginsText, IsJson, IsJsonLines, OpensWithToken, UpToMark, blanks, same_line, text, IsBracket, IsPast, utf8_mark, ◌↔◌, IsTrue, cases_lt}
 use Rattle.infer_deep.proofs.PlaceLemmas.{OccursAt-begins}
 use Rattle.infer_formats.specs.Json.{IsBlank}
 use Rattle.infer_formats.specs.Laws.{BeginsJson, HasBracket, OpensBehindBlanks}
+use Rattle.infer_formats.specs.Outline.{json_outline}
+use Rattle.infer_sig.specs.Places.{StandsByPlace}
+use Rattle.infer_sig.specs.Signature.{accepts, stands, any_of, at_least}
 use Rattle.infer_formats.proofs.CompleteLemmas.{completes}
 use Rattle.infer_formats.proofs.LineLemmas.{past_can, text_no_blank, text_opens}
+use Rattle.infer_formats.proofs.OutlineLemmas.{begins_among, marked}
+use Rattle.infer_sig.specs.Signature as fixed
 
 -- one more byte of white space
 one_more : (x : ℕ) (w : List ℕ) → IsBlank x → OpensBehindBlanks w → OpensBehindBlanks (x ∷ w)
@@ -79,3 +84,17 @@ text_leads b h = (begins_json BeginsText (λ w t. opens_text w t.0) b h, has_bra
 
 pub lines_lead : (b : List ℕ) → IsJsonLines b → BeginsJson b × HasBracket b
 lines_lead b h = (begins_json BeginsLines opens_lines b h, has_bracket BeginsLines opens_lines b h)
+
+abbrev json_bytes : List ℕ
+json_bytes = 0x09 ∷ 0x0A ∷ 0x0D ∷ 0x20 ∷ 0x5B ∷ 0x7B ∷ []
+
+-- so the byte with which a buffer begins is one of six, or it begins with a byte order mark
+module _ (by_place : (place : ℕ) (t buf : List ℕ) → IsTrue (stands place t buf) ↔ StandsByPlace place t buf) (b : List ℕ) where
+  pub json_begins : BeginsJson b → IsTrue (accepts json_outline b)
+  json_begins (inl o) = marked by_place b (at_least 1 (fixed.byte 0 (any_of json_bytes) ∷ [])) o
+  json_begins (inr (k, spaces, opens)) =
+      let first : IsBlank (slice_index b 0) ⊎ IsBracket (slice_index b 0) = elim (cases_lt 0 k) [
+        | inl lt ↦ inl (spaces 0 lt)
+        | inr le ↦ inr (let same : k ≡ 0 = omega arith in subst (λ i. IsBracket (slice_index b i)) same opens)
+      ] in
+      begins_among by_place b json_bytes (grind arith) (grind (arith, nat_tests))

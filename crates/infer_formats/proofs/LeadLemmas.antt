@@ -1,7 +1,11 @@
 -- With which byte markup begins, and that an element opens in it.
-use Rattle.infer_formats.proofs.Common.{◌≡◌, inl, inr, ℕ, ◌<◌, List, Option, None, codes, length, refl, subst, ◌∙◌, arith, slice_index, cases_lt, OccursAt, OccursAt-first, IsRootElement, LeadsToTag}
+use Rattle.infer_formats.proofs.Common.{◌≡◌, inl, inr, ℕ, ◌<◌, List, Option, None, codes, length, refl, subst, ◌∙◌, arith, slice_index, cases_lt, OccursAt, OccursAt-first, IsRootElement, LeadsToTag, ◌↔◌, IsTrue, IsXmlSpace, ◌⊎◌, nat_tests, [], ◌∷◌}
 use Rattle.infer_formats.specs.Laws.{BeginsMarkup, OpensBehindSpace, OpensElement}
 use Rattle.infer_formats.specs.Markup.{here, later}
+use Rattle.infer_formats.specs.Outline.{markup_lines}
+use Rattle.infer_sig.specs.Places.{StandsByPlace}
+use Rattle.infer_sig.specs.Signature.{accepts, stands, any_of, at_least, byte}
+use Rattle.infer_formats.proofs.OutlineLemmas.{begins_among, marked}
 
 module _ (b : List ℕ) where
   opened : (t : List ℕ) → 0 < length t → slice_index t 0 ≡ 0x3C → (p : ℕ) → OccursAt b t p → slice_index b p ≡ 0x3C
@@ -31,3 +35,17 @@ module _ (b : List ℕ) where
 
   pub opens_element : (name rest : List ℕ) → IsRootElement name rest b → OpensElement b
   opens_element name rest (p, at, to, begins, leads, _, _) = tag_stands at to p None leads
+
+abbrev markup_bytes : List ℕ
+markup_bytes = 0x09 ∷ 0x0A ∷ 0x0D ∷ 0x20 ∷ 0x3C ∷ []
+
+-- so the byte with which a buffer begins is one of five, or it begins with a byte order mark
+module _ (by_place : (place : ℕ) (t buf : List ℕ) → IsTrue (stands place t buf) ↔ StandsByPlace place t buf) (b : List ℕ) where
+  pub markup_begins : BeginsMarkup b → IsTrue (accepts markup_lines b)
+  markup_begins (inl o) = marked by_place b (at_least 1 (byte 0 (any_of markup_bytes) ∷ [])) o
+  markup_begins (inr (k, low, spaces, opens)) =
+      let first : IsXmlSpace (slice_index b 0) ⊎ (slice_index b 0 ≡ 0x3C) = elim (cases_lt 0 k) [
+        | inl lt ↦ inl (spaces 0 (omega arith) lt)
+        | inr le ↦ inr (subst (λ i. slice_index b i ≡ 0x3C) (omega arith) opens)
+      ] in
+      begins_among by_place b markup_bytes (grind arith) (grind (arith, nat_tests))

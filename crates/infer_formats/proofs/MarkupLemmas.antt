@@ -1,8 +1,8 @@
--- The parts of a prolog, the tag that they lead to, and the name of the document type.
-use Rattle.infer_formats.proofs.Common.{◌≡◌, ◌↔◌, ℕ, ◌+◌, ◌-◌, ◌<◌, ◌≤◌, ◌⊎◌, inl, inr, List, ◌++◌, Option, None, Some, length, codes, get_or, add-zero, refl, sym, subst, ap, ◌∙◌, arith, cases_lt, ext_get_or, slice_range, OccursAt, Lasts, AgreesWithDoctype, BeginsAt, BeginsElement, ClosesDeclaration, HasRoot, HasRootWith, IsDoctype, IsEnclosed, IsMisc, IsPart, IsRootElement, IsSpaceRun, IsTypeByte, IsXmlSpace, LeadsToTag, OpensTag, utf8_mark, IsAfterLast, IsRun}
+-- The parts of a prolog, the tag that they lead to, the name of the document type, and what more bytes may make of them.
+use Rattle.infer_formats.proofs.Common.{◌≡◌, ◌↔◌, ℕ, ◌+◌, ◌-◌, ◌<◌, ◌≤◌, ◌⊎◌, inl, inr, List, ◌++◌, Option, None, Some, length, codes, get_or, add-zero, refl, sym, subst, ap, ◌∙◌, arith, cases_lt, ext_get_or, slice_range, OccursAt, Lasts, AgreesWithDoctype, BeginsAt, BeginsElement, ClosesDeclaration, HasRoot, HasRootWith, IsDoctype, IsEnclosed, IsMisc, IsPart, IsRootElement, IsSpaceRun, IsTypeByte, IsXmlSpace, LeadsToTag, OpensTag, utf8_mark, IsAfterLast, IsRun, zero, suc, drop, get_or_append_left, AgreesAt, MayBecome, grown_agrees, OccursAt-front, HasInTag}
 use Rattle.std.proofs.lemmas.List.{drop-append-le}
 use Rattle.infer_deep.proofs.PlaceLemmas.{IsFirstPlace-same}
-use Rattle.infer_formats.specs.Markup.{IsNameByte, OpensElement, here, later}
+use Rattle.infer_formats.specs.Markup.{IsNameByte, OpensElement, here, later, MayReachTag}
 use Rattle.infer_formats.proofs.FrontLemmas.{SharesFront, after_last_shared, byte_shared, byte_shared_back, front_grows, front_swaps, range_shared, run_shared, text_shared}
 use Rattle.infer_formats.proofs.PartLemmas.{part_length, part_reads}
 use Rattle.infer_formats.proofs.RunLemmas.{one_after_last, one_run_end}
@@ -85,17 +85,6 @@ part_within b p d q e (inr (name, close, doctype, none, ends, is)) =
     let space = doctype.space in
     let order = doctype.closes.0.order in
     let whole = doctype.closes.0.whole in (omega (arith, space.0), omega arith)
-
--- a document type that was declared before it, or in it, is closed
-pub closed_part : (b : List ℕ) (p : ℕ) (d : Option ℕ) (q : ℕ) (e : Option ℕ) → IsPart b p d q e
-    → ((name : ℕ) → d ≡ Some name → (close : ℕ) × (name ≤ close) × (close < length b) × (get_or b close 0 ≡ 0x3E))
-    → (name : ℕ) → e ≡ Some name → (close : ℕ) × (name ≤ close) × (close < length b) × (get_or b close 0 ≡ 0x3E)
-closed_part b p d q e (inl (m, is)) before name same = before name (sym is ∙ same)
-closed_part b p d q e (inr (from, close, doctype, none, ends, is)) before name same =
-    let (run, last) = doctype.closes in
-    let order = run.order in
-    let one : from ≡ name = (let both = sym is ∙ same in cc) in
-    (close, omega arith, run.whole, last)
 
 no_tag : (b : List ℕ) (at to p : ℕ) (d : Option ℕ) (q : ℕ) (e : Option ℕ) → IsPart b p d q e → ¬ OpensTag b at to p d
 no_tag b at to p d q e (inl (inl s, is)) tag = not_space _ tag.opens (space_first b p q s)
@@ -413,3 +402,80 @@ HasRootWith-lasts name text b more (rest, is, (p, o, none)) =
         λ k lt closes. none k lt (back k (omega arith) closes),
       ),
     )
+
+-- ---- what more bytes may make
+
+-- the prolog begins where it did
+begin_stays : (b more : List ℕ) (start : ℕ) → ¬ ((length b < 3) × AgreesAt b utf8_mark 0) → BeginsAt b start → BeginsAt (b ++ more) start
+begin_stays b more start other begins = elim (cases_lt (length b) 3) [
+  | inr l ↦ begin_lasts b (b ++ more) start (front_grows b more) l begins
+  | inl l ↦ elim begins [
+    | inl (mark, is) ↦ absurd (let fits = mark.fits in omega arith)
+    | inr (none, is) ↦ inr (λ mark. other (l, grown_agrees b more utf8_mark 0 mark), is)
+  ]
+]
+
+-- where no part stands, a tag that comes may open, or white space goes on to the end of b
+reaches : (b more : List ℕ) (p at to : ℕ) (d : Option ℕ) → ((q : ℕ) (e : Option ℕ) → ¬ IsPart b p d q e) → LeadsToTag (b ++ more) at to p d → MayReachTag b p
+reaches b more p at to d stuck leads = elim (ways (b ++ more) at to p d leads) [
+  | inl tag ↦ inr (opened tag.opens)
+  | inr (q, (e, inl (inl (some, run), same), rest)) ↦ elim (cases_lt q (length b)) [
+    | inl lt ↦ absurd (stuck q d (inl (inl (some, run_shared (length b) (b ++ more) b back IsXmlSpace p q lt run), refl)))
+    | inr far ↦ inl (λ k low lt. subst IsXmlSpace (get_or_append_left b more 0 k lt) (run.bytes k low (omega arith)))
+  ]
+  | inr (q, (e, inl (inr (inl i), same), rest)) ↦ inr (opened (instruction_first (b ++ more) p q i).0)
+  | inr (q, (e, inl (inr (inr c), same), rest)) ↦ inr (opened (comment_first (b ++ more) p q c).0)
+  | inr (q, (e, inr (name, close, doctype, none, ends, same), rest)) ↦ inr (opened (doctype_first (b ++ more) p name close doctype).0)
+]
+  where
+    back : SharesFront (length b) (b ++ more) b
+    back = front_swaps (length b) b (b ++ more) (front_grows b more)
+
+    opened : get_or (b ++ more) p 0 ≡ 0x3C → AgreesAt b (codes "<") p
+    opened is = record { reads = go }
+      where
+        go : (k : ℕ) → k < 1 → p + k < length b → get_or b (p + k) 0 ≡ get_or (codes "<") k 0
+        go zero lt within = let here = get_or_append_left b more 0 p (omega arith) in rw add-zero (sym here ∙ is)
+        go (suc k) lt within = absurd (omega arith)
+
+pub root_reached : (b name : List ℕ) (start p : ℕ) (d : Option ℕ) → ¬ ((length b < 3) × AgreesAt b utf8_mark 0) → BeginsAt b start
+    → ((more : List ℕ) (at to : ℕ) → LeadsToTag (b ++ more) at to start None ↔ LeadsToTag (b ++ more) at to p d)
+    → ((q : ℕ) (e : Option ℕ) → ¬ IsPart b p d q e) → MayBecome (HasRoot name) b → MayReachTag b p
+root_reached b name start p d other begins grown stuck (more, bytes, (rest, (q, at, to, begin, leads, is, behind))) =
+    let same = one_begin (b ++ more) q start begin (begin_stays b more start other begins) in
+    reaches b more p at to d stuck ((grown more at to).0 (subst (λ x. LeadsToTag (b ++ more) at to x None) same leads))
+
+-- there is one
+pub one_root : (c n rest m other : List ℕ) → IsRootElement n rest c → IsRootElement m other c → (n ≡ m) × (rest ≡ other)
+one_root c n rest m other (p, at, to, begins, leads, is, behind) (q, from, end, begin, lead, same, after) =
+    let start = one_begin c q p begin begins in
+    let both = one_lead c at to from end p None leads (subst (λ x. LeadsToTag c from end x None) start lead) in (
+      is ∙ ap (λ x. slice_range c x to) both.0 ∙ ap (slice_range c from) both.1 ∙ sym same,
+      behind ∙ ap (λ x. drop x c) both.1 ∙ sym after,
+    )
+
+pub root_stays : (b n rest name : List ℕ) → IsRootElement n rest b → MayBecome (HasRoot name) b → n ≡ name
+root_stays b n rest name is (more, bytes, (other, root)) = (one_root (b ++ more) n (rest ++ more) name other (root_lasts n rest b more is) root).0
+
+-- ---- with a text in the tag
+
+abbrev pub HasClosing : List ℕ → Type 0
+HasClosing text = (k : ℕ) × (k < length text) × (get_or text k 0 ≡ 0x3E)
+
+-- a tag that has ended keeps what it has
+pub in_tag_ended : (text rest : List ℕ) → HasClosing rest → MayBecome (HasInTag text) rest → HasInTag text rest
+in_tag_ended text rest (i, lt, closes) (more, bytes, (p, o, none)) =
+    let early : p + length text ≤ i = elim (cases_lt i (p + length text)) [
+      | inl l ↦ absurd (none i l (get_or_append_left rest more 0 i lt ∙ closes))
+      | inr l ↦ l
+    ] in
+    (p, OccursAt-front rest more text p (omega arith) o, λ k less e. none k less (get_or_append_left rest more 0 k (omega arith) ∙ e))
+
+pub root_stays_with : (b n rest name text : List ℕ) → IsRootElement n rest b → MayBecome (HasRootWith name text) b
+    → (n ≡ name) × MayBecome (HasInTag text) rest
+root_stays_with b n rest name text is (more, bytes, (other, root, in_tag)) =
+    let one = one_root (b ++ more) n (rest ++ more) name other (root_lasts n rest b more is) root in
+    (one.0, (more, bytes, subst (HasInTag text) (sym one.1) in_tag))
+
+pub without_text : (b name text : List ℕ) → MayBecome (HasRootWith name text) b → MayBecome (HasRoot name) b
+without_text b name text (more, bytes, (rest, root, in_tag)) = (more, bytes, (rest, root))

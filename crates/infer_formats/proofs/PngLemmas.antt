@@ -1,6 +1,7 @@
 -- What a chunk says of those after it.
-use Rattle.infer_formats.proofs.Common.{◌≡◌, ◌↔◌, ◌⊎◌, inl, inr, ℕ, ◌+◌, ◌<◌, ◌≤◌, List, ◌++◌, length, codes, sym, subst, ◌∙◌, arith, length-append, OccursAt, be32, MayBecome, be32-append, OccursAt-append, OccursAt-front, IsAnimated, IsAnimatedFrom}
-use Rattle.infer_formats.specs.Png.{here, later}
+use Rattle.infer_formats.proofs.Common.{◌≡◌, ◌↔◌, ◌⊎◌, inl, inr, ℕ, ◌+◌, ◌<◌, ◌≤◌, List, ◌++◌, length, codes, sym, subst, ◌∙◌, arith, length-append, OccursAt, be32, MayBecome, be32-append, OccursAt-append, OccursAt-front, IsAnimated, IsAnimatedFrom, ap, AgreesAt, grown_agrees}
+use Rattle.infer_formats.specs.Png.{here, later, png_header}
+use Rattle.infer_formats.proofs.GrowthLemmas.{longer}
 
 parts : (b : List ℕ) (c : ℕ) → IsAnimatedFrom b c
     → OccursAt b (codes "acTL") (c + 4) ⊎ ((c + 8 ≤ length b) × (OccursAt b (codes "IDAT") (c + 4) → ⊥) × IsAnimatedFrom b (c + 12 + be32 b c))
@@ -53,3 +54,15 @@ next_decides b c n e fits control picture h =
       (λ a. next.0 (h.0.0 a), λ rest. h.0.1 (next.1 rest)),
       λ a. passes_chunk b c n e fits control picture (h.1 a),
     )
+
+-- it has the chunks that it had
+module _ (b more : List ℕ) where
+  pub chunk : (c : ℕ) → IsAnimatedFrom b c → IsAnimatedFrom (b ++ more) c
+  chunk c (here _ o) = here c (OccursAt-append b more _ (c + 4) o)
+  chunk c (later _ fits other rest) =
+      later c (longer b more _ fits) (λ o. other (OccursAt-front b more _ (c + 4) (omega arith) o))
+      (subst (IsAnimatedFrom (b ++ more)) (ap (λ n. c + 12 + n) (sym (be32-append b more c (omega arith)))) (chunk (c + 12 + be32 b c) rest))
+
+-- what becomes an animated image begins as one, and its chunks may be such
+pub animation_known : (b : List ℕ) → MayBecome (λ c. OccursAt c png_header 0 × IsAnimated c) b → AgreesAt b png_header 0 × MayBecome IsAnimated b
+animation_known b (more, bytes, (header, chunks)) = (grown_agrees b more png_header 0 header, (more, bytes, chunks))

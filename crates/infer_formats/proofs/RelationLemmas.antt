@@ -2,18 +2,25 @@
 use Rattle.infer_formats.proofs.Common.{[], ◌≡◌, ◌+◌, ◌↔◌, ◌≤◌, IsTrue, List, ℕ, ◌++◌, OccursAt, OccursAt-append, Lasts, MayBecome, AgreesAt, IsAnimated, arith, grown_agrees, refl}
 use Rattle.infer_sig.specs.Places.{StandsByPlace}
 use Rattle.infer_sig.specs.Signature.{stands}
-use Rattle.infer_formats.proofs.JsonLeadLemmas.{lines_lead, text_leads}
-use Rattle.infer_formats.proofs.LeadLemmas.{begins_markup}
-use Rattle.infer_formats.proofs.OutlineLemmas.{begins, counted_for_lines, dbase_lines, field_lines, json_begins, markup_begins, named_part, object_lines, package_lines, program_lines, subrip_lines, tag_lines, text_lines}
+use Rattle.infer_formats.proofs.DbaseLemmas.{dbase_lines, dbase-lasts}
+use Rattle.infer_formats.proofs.ElfLemmas.{object_lines, shared_object-lasts}
+use Rattle.infer_formats.proofs.JsonLeadLemmas.{lines_lead, text_leads, json_begins}
+use Rattle.infer_formats.proofs.LeadLemmas.{begins_markup, markup_begins}
+use Rattle.infer_formats.proofs.MarkupLemmas.{HasRoot-lasts, HasRootWith-lasts}
+use Rattle.infer_formats.proofs.OutlineLemmas.{begins}
+use Rattle.infer_formats.proofs.PngLemmas.{chunk}
+use Rattle.infer_formats.proofs.ScriptLemmas.{IsProgram-lasts, program_lines}
+use Rattle.infer_formats.proofs.SubtitlesLemmas.{subrip_lines, subrip-lasts}
+use Rattle.infer_formats.proofs.TarLemmas.{field_lines, tar_checksum-lasts}
+use Rattle.infer_formats.proofs.TextLemmas.{text_lines}
+use Rattle.infer_formats.proofs.TiffLemmas.{tag_lines, tag-lasts}
+use Rattle.infer_formats.proofs.ZipLemmas.{counted_for_lines, named_part, package_lines, first_entry_ends_in-lasts, first_entry_has_extra-lasts, first_entry_is-lasts, package_with-lasts}
 use Rattle.infer_formats.specs.Open.{Stays}
 use Rattle.infer_formats.specs.Png.{png_header}
 use Rattle.infer_formats.specs.Relation.{Fits, HasLines, Relation, animated, class_id, dbase, directory_tag, first_entry_ends_in, first_entry_has_extra, first_entry_is, is_lasting, json_lines, json_text, package_with, plain_text, program, relation_listed, root, root_with, shared_object, subrip, tar_checksum}
 use Rattle.infer_formats.specs.declared.relation.Relation as declared
 use Rattle.infer_formats.specs.declared.relation.Relation.TheVariants.{JsonLines, JsonText, PlainText}
 use Rattle.infer_deep.proofs.ClassIdLemmas.{HasClassId-lasts}
-use Rattle.infer_formats.proofs.GrowthLemmas.{chunk, dbase-lasts, first_entry_ends_in-lasts, first_entry_has_extra-lasts, first_entry_is-lasts, package_with-lasts, shared_object-lasts, subrip-lasts, tag-lasts, tar_checksum-lasts}
-use Rattle.infer_formats.proofs.MarkupLemmas.{HasRoot-lasts, HasRootWith-lasts}
-use Rattle.infer_formats.proofs.ScriptLemmas.{IsProgram-lasts}
 
 pub relation_lasts : (r : Relation) → IsTrue (is_lasting r) → Lasts (Fits r)
 relation_lasts shared_object l = shared_object-lasts
@@ -42,10 +49,6 @@ lasts_but r n m p = refl
 
 pub fit_stays : (r : declared.Relation) → (r ≡ JsonLines → ⊥) → (r ≡ JsonText → ⊥) → (r ≡ PlainText → ⊥) → (b : List ℕ) → Fits (relation_listed r) b → Stays (Fits (relation_listed r)) b
 fit_stays r n m p b f more bytes = relation_lasts (relation_listed r) (lasts_but r n m p) b more f
-
--- what becomes an animated image begins as one, and its chunks may be such
-pub animation_known : (b : List ℕ) → MayBecome (λ c. OccursAt c png_header 0 × IsAnimated c) b → AgreesAt b png_header 0 × MayBecome IsAnimated b
-animation_known b (more, bytes, (header, chunks)) = (grown_agrees b more png_header 0 header, (more, bytes, chunks))
 
 -- it has one of its lines
 module _ (by_place : (place : ℕ) (t buf : List ℕ) → IsTrue (stands place t buf) ↔ StandsByPlace place t buf) (b : List ℕ) where

@@ -1,5 +1,11 @@
--- The number of a cue is all the digits that stand there.
-use Rattle.infer_formats.proofs.Common.{◌≡◌, ℕ, ◌+◌, ◌<◌, ◌≤◌, List, get_or, arith, AreDigits, EndsLine, IsDigit}
+-- Subtitles: what more bytes keep and may make, and the bytes that each file has.
+use Rattle.infer_formats.proofs.Common.{◌≡◌, ℕ, ◌+◌, ◌<◌, ◌≤◌, List, get_or, arith, AreDigits, EndsLine, IsDigit, ◌⊎◌, inl, inr, ◌-◌, ◌++◌, length, refl, sym, subst, ◌∙◌, get_or-eq_default, cases_lt, get_or_default_zero, get_or_append_left, MayBecome, grown_agrees, IsCue, IsPairAt, IsSubRip, IsTime, MayBeSpan, ◌∷◌, slice_index, OccursAt-append, ◌↔◌, IsTrue, []}
+use Rattle.infer_formats.specs.Relation.{lines, subrip}
+use Rattle.infer_formats.specs.Subtitles.{IsSpan, MayBeCue, MayBePair, MayBeSubRip, MayBeTime}
+use Rattle.infer_sig.specs.Places.{StandsByPlace}
+use Rattle.infer_sig.specs.Signature.{accepts, between, stands, byte, at_least}
+use Rattle.infer_formats.proofs.GrowthLemmas.{there, carried, kept}
+use Rattle.infer_formats.proofs.OutlineLemmas.{in_range, one, marked, marked_line}
 
 pub cue_by_count : (b : List ℕ) (p n m t : ℕ) → n ≤ 10 → AreDigits b p n → (n < 10 → ¬ IsDigit (get_or b (p + n) 0))
     → m ≤ 9 → AreDigits b p m → EndsLine b (p + m) t → m ≡ n
@@ -11,3 +17,145 @@ cue_by_count b p n m t few digits ends most others line =
 -- the next line is near
 pub line_after : (b : List ℕ) (e t : ℕ) → EndsLine b e t → t ≤ e + 2
 line_after b e t f = grind arith
+
+-- ---- a buffer that grows
+
+module _ (b more : List ℕ) where
+  pub digit : (p : ℕ) → IsDigit (slice_index b p) → IsDigit (slice_index (b ++ more) p)
+  digit p d = carried b more IsDigit p (there b p (let low = d.0 in omega arith)) d
+
+  is_byte : (x p : ℕ) → 1 ≤ x → slice_index b p ≡ x → slice_index (b ++ more) p ≡ x
+  is_byte x p some e = kept b more p (there b p (omega arith)) ∙ e
+
+  pair : (p : ℕ) → IsPairAt b p → IsPairAt (b ++ more) p
+  pair p (d, e) = (digit p d, digit (p + 1) e)
+
+  pub time : (t : ℕ) → IsTime b t → IsTime (b ++ more) t
+  time t h = record {
+    hours = pair t h.hours;
+    to_minutes = is_byte 0x3A (t + 2) (omega arith) h.to_minutes;
+    minutes = pair (t + 3) h.minutes;
+    to_seconds = is_byte 0x3A (t + 5) (omega arith) h.to_seconds;
+    seconds = pair (t + 6) h.seconds;
+    to_thousandths = elim h.to_thousandths [
+      | inl e ↦ inl (is_byte 0x2C (t + 8) (omega arith) e)
+      | inr e ↦ inr (is_byte 0x2E (t + 8) (omega arith) e)
+    ];
+    thousandths = (pair (t + 9) h.thousandths.0, digit (t + 11) h.thousandths.1);
+  }
+
+  pub line_end : (e t : ℕ) → EndsLine b e t → EndsLine (b ++ more) e t
+  line_end e t (inl (x, s)) = inl (is_byte 0x0A e (omega arith) x, s)
+  line_end e t (inr (x, y, s)) = inr (is_byte 0x0D e (omega arith) x, is_byte 0x0A (e + 1) (omega arith) y, s)
+
+  cue : (p : ℕ) → IsCue b p → IsCue (b ++ more) p
+  cue p (n, t, many, digits, ends, (from, arrow, to)) =
+      (n, t, many, λ k lt. digit (p + k) (digits k lt), line_end (p + n) t ends, (time t from, OccursAt-append b more _ (t + 12) arrow, time (t + 17) to))
+
+  pub subrip-lasts : IsSubRip b → IsSubRip (b ++ more)
+  subrip-lasts (inl c) = inl (cue 0 c)
+  subrip-lasts (inr (o, c)) = inr (OccursAt-append b more _ 0 o, cue 3 c)
+
+-- ---- what more bytes may make
+
+-- ---- what the count of the digits tells
+
+pub ends_in_number : (b : List ℕ) (p n : ℕ) → n ≤ 9 → AreDigits b p n → length b ≤ p + n → MayBeCue b p
+ends_in_number b p n few digits short = inl (
+  omega arith,
+  λ k low lt. subst (λ i. IsDigit (get_or b i 0)) (let e : p + (k - p) ≡ k = omega arith in e) (digits (k - p) (omega arith)),
+)
+
+module _ (b : List ℕ) (p n : ℕ) (few : n ≤ 9) (digits : AreDigits b p n) (other : ¬ IsDigit (get_or b (p + n) 0)) (within : p + n < length b) where
+  pub cue_goes_on : MayBeCue b p
+      → ((get_or b (p + n) 0 ≡ 0x0D) × (length b ≡ p + n + 1)) ⊎ ((t : ℕ) × EndsLine b (p + n) t × MayBeSpan b t)
+  cue_goes_on (inl (short, all)) = absurd (other (all (p + n) (omega arith) within))
+  cue_goes_on (inr (inl (m, small, others, cr, ends))) =
+      let shorter = digits m in
+      let longer = others n in
+      let same : m ≡ n = grind arith in
+      inl (subst (λ k. (get_or b (p + k) 0 ≡ 0x0D) × (length b ≡ p + k + 1)) same (cr, ends))
+  cue_goes_on (inr (inr (m, t, small, others, line, span))) =
+      let same = cue_by_count b p n m t (omega arith) digits (λ l. other) small.1 others line in
+      inr (t, subst (λ k. EndsLine b (p + k) t) same line, span)
+
+pub line_same : (b : List ℕ) (e t s : ℕ) → EndsLine b e t → EndsLine b e s → t ≡ s
+line_same b e t s f g = grind arith
+
+-- a line whose end is cut ends nowhere yet
+pub cut_line : (b : List ℕ) (e t : ℕ) → get_or b e 0 ≡ 0x0D → length b ≡ e + 1 → ¬ EndsLine b e t
+cut_line b e t cr ends (inl (lf, at)) = omega arith
+cut_line b e t cr ends (inr (x, lf, at)) = let past : get_or b (e + 1) 0 ≡ 0 = get_or-eq_default b 0 (omega arith) in omega arith
+
+-- ---- what a cue allows
+
+module _ (b more : List ℕ) where
+  front_or : (P : ℕ → Type 0) (p d : ℕ) → P d → P (get_or (b ++ more) p 0) → P (get_or b p d)
+  front_or P p d right h = elim (cases_lt p (length b)) [
+    | inl l ↦ subst P (get_or_append_left b more 0 p l ∙ sym (get_or_default_zero b p d l)) h
+    | inr l ↦ subst P (sym (get_or-eq_default b d l)) right
+  ]
+
+  front : (P : ℕ → Type 0) (p : ℕ) → p < length b → P (get_or (b ++ more) p 0) → P (get_or b p 0)
+  front P p lt h = subst P (get_or_append_left b more 0 p lt) h
+
+  known_digit : (p : ℕ) → IsDigit (get_or (b ++ more) p 0) → IsDigit (get_or b p 0x30)
+  known_digit p h = front_or IsDigit p 0x30 (omega arith, omega arith) h
+
+  known_pair : (p : ℕ) → IsPairAt (b ++ more) p → MayBePair b p
+  known_pair p (x, y) = (known_digit p x, known_digit (p + 1) y)
+
+  known_time : (t : ℕ) → IsTime (b ++ more) t → MayBeTime b t
+  known_time t h = record {
+    hours = known_pair t h.hours;
+    to_minutes = front_or (λ x. x ≡ 0x3A) (t + 2) 0x3A refl h.to_minutes;
+    minutes = known_pair (t + 3) h.minutes;
+    to_seconds = front_or (λ x. x ≡ 0x3A) (t + 5) 0x3A refl h.to_seconds;
+    seconds = known_pair (t + 6) h.seconds;
+    to_thousandths = front_or (λ x. (x ≡ 0x2C) ⊎ (x ≡ 0x2E)) (t + 8) 0x2C (inl refl) h.to_thousandths;
+    thousandths = (known_pair (t + 9) h.thousandths.0, known_digit (t + 11) h.thousandths.1);
+  }
+
+  known_span : (t : ℕ) → IsSpan (b ++ more) t → MayBeSpan b t
+  known_span t (from, arrow, to) = (known_time t from, grown_agrees b more _ (t + 12) arrow, known_time (t + 17) to)
+
+  known_cue : (p : ℕ) → IsCue (b ++ more) p → MayBeCue b p
+  known_cue p (n, t, (some, few), digits, line, span) = elim (cases_lt (p + n) (length b)) [
+    | inr short ↦ inl (
+      omega arith,
+      λ k low lt.
+          let here = subst (λ i. IsDigit (get_or (b ++ more) i 0)) (let e : p + (k - p) ≡ k = omega arith in e) (digits (k - p) (omega arith)) in
+          front IsDigit k lt here,
+    )
+    | inl within ↦
+        let kept : AreDigits b p n = λ k lt. front IsDigit (p + k) (omega arith) (digits k lt) in
+        elim line [
+          | inl (lf, at) ↦ inr (inr (n, t, (some, few), kept, inl (front (λ x. x ≡ 0x0A) (p + n) within lf, at), known_span t span))
+          | inr (cr, lf, at) ↦ elim (cases_lt (p + n + 1) (length b)) [
+            | inr cut ↦ inr (inl (n, (some, few), kept, front (λ x. x ≡ 0x0D) (p + n) within cr, omega arith))
+            | inl l ↦ inr (inr (
+              n,
+              t,
+              (some, few),
+              kept,
+              inr (front (λ x. x ≡ 0x0D) (p + n) within cr, front (λ x. x ≡ 0x0A) (p + n + 1) l lf, at),
+              known_span t span,
+            ))
+          ]
+        ]
+  ]
+
+pub subrip_known : (b : List ℕ) → MayBecome IsSubRip b → MayBeSubRip b
+subrip_known b (more, bytes, inl cue) = inl (known_cue b more 0 cue)
+subrip_known b (more, bytes, inr (mark, cue)) = inr (grown_agrees b more _ 0 mark, known_cue b more 3 cue)
+
+-- ---- the bytes that each has
+
+module _ (by_place : (place : ℕ) (t buf : List ℕ) → IsTrue (stands place t buf) ↔ StandsByPlace place t buf) (b : List ℕ) where
+  pub subrip_lines : IsSubRip b → IsTrue (accepts (lines subrip) b)
+  subrip_lines (inl (n, t, many, digits, ends, span)) =
+      let digit : IsDigit (slice_index b 0) = digits 0 (let some = many.0 in omega arith) in
+      let low = digit.0 in
+      let lt : 0 < length b = there b 0 (omega arith) in
+      one by_place b 1 (byte 0 (between 0x30 0x39)) (marked_line ∷ []) (omega arith) (in_range by_place b 0 0x30 0x39 lt digit.0 digit.1)
+  subrip_lines (inr (o, cue)) = marked by_place b (at_least 1 (byte 0 (between 0x30 0x39) ∷ [])) o

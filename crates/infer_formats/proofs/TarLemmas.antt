@@ -1,5 +1,14 @@
 -- The checksum is all the digits that stand behind the spaces.
-use Rattle.infer_formats.proofs.Common.{◌≡◌, ℕ, ◌+◌, ◌<◌, ◌≤◌, List, get_or, add-zero, subst, arith, IsField, IsOctal, octal}
+use Rattle.infer_formats.proofs.Common.{◌≡◌, ℕ, ◌+◌, ◌<◌, ◌≤◌, List, get_or, add-zero, subst, arith, IsField, IsOctal, octal, inl, inr, zero, suc, ◌-◌, ◌++◌, length, refl, sym, ◌∙◌, cases_lt, get_or_append_left, MayBecome, HasTarChecksum, header_sum, sum_from, true, length-append, slice_index, OccursAt, behind, ◌↔◌, IsTrue}
+use Rattle.std.proofs.lemmas.Bool.{and_from, le-leb, or_left, or_right}
+use Rattle.std.proofs.lemmas.List.{get_or-replicate, length-replicate}
+use Rattle.std.specs.Prelude.{nat_le, replicate}
+use Rattle.infer_formats.specs.Outline.{digit_behind, digits_behind}
+use Rattle.infer_formats.specs.Relation.{lines, tar_checksum}
+use Rattle.infer_formats.specs.Tar.{HasField}
+use Rattle.infer_sig.specs.Places.{StandsByPlace}
+use Rattle.infer_sig.specs.Signature.{accepts, fits, stands}
+use Rattle.infer_formats.proofs.OutlineLemmas.{in_range, occurs}
 
 module _ (b : List ℕ) (place count p d : ℕ) (low : 148 ≤ place) (spaces : (k : ℕ) → 148 ≤ k → k < place → get_or b k 0 ≡ 0x20)
     (ends : place < 156 → ¬ (get_or b place 0 ≡ 0x20)) (f : IsField b p d) where
@@ -32,3 +41,95 @@ located b place count n low fits spaces ends digits stops p d f value =
     let known = subst (λ x. octal b x d ≡ n) e value in
     let g = count_is b place count d fits digits stops here in
     (subst (λ x. IsField b place x) g here, subst (λ x. octal b place x ≡ n) g known)
+
+-- what two buffers have alike up to the field's end, both have of it
+field_same : (b c : List ℕ) (p d : ℕ) → ((k : ℕ) → k < 156 → get_or b k 0 ≡ get_or c k 0) → IsField b p d → IsField c p d
+field_same b c p d same f =
+    let some = f.some in
+    let high = f.high in
+    record {
+      low = f.low;
+      spaces = λ k low lt. sym (same k (omega arith)) ∙ f.spaces k low lt;
+      some = f.some;
+      high = f.high;
+      digits = λ k lt. subst IsOctal (same (p + k) (omega arith)) (f.digits k lt);
+      end = elim f.end [
+        | inl e ↦ inl e
+        | inr ends ↦ elim (cases_lt (p + d) 156) [
+          | inr l ↦ inl (omega arith)
+          | inl l ↦ inr (elim ends [ inl e ↦ inl (sym (same (p + d) l) ∙ e) | inr e ↦ inr (sym (same (p + d) l) ∙ e) ])
+        ]
+      ];
+    }
+
+sum_same : (b c : List ℕ) (p n : ℕ) → ((k : ℕ) → k < p + n → get_or b k 0 ≡ get_or c k 0) → sum_from b p n ≡ sum_from c p n
+sum_same b c p zero same = refl
+sum_same b c p (suc n) same =
+    let before = sum_same b c p n (λ k lt. same k (omega arith)) in let last = same (p + n) (omega arith) in omega arith
+
+octal_same : (b c : List ℕ) (p n : ℕ) → ((k : ℕ) → k < p + n → get_or b k 0 ≡ get_or c k 0) → octal b p n ≡ octal c p n
+octal_same b c p zero same = refl
+octal_same b c p (suc n) same =
+    let before = octal_same b c p n (λ k lt. same k (omega arith)) in let last = same (p + n) (omega arith) in omega arith
+
+header_sum_same : (b c : List ℕ) → ((k : ℕ) → k < 512 → get_or b k 0 ≡ get_or c k 0) → header_sum b ≡ header_sum c
+unfolding header_sum
+header_sum_same b c same = go _ _ _ _ (sum_same b c 0 148 (λ k lt. same k (omega arith))) (sum_same b c 156 356 (λ k lt. same k (omega arith)))
+  where
+    go : (x y v w : ℕ) → x ≡ v → y ≡ w → x + 256 + y ≡ v + 256 + w
+    go x y v w e f = omega arith
+
+-- so two with the same first header have its checksum both
+header_same : (b c : List ℕ) → 512 ≤ length c → ((k : ℕ) → k < 512 → get_or b k 0 ≡ get_or c k 0) → HasTarChecksum b → HasTarChecksum c
+header_same b c long same (size, first, (p, d, f, e)) =
+    let high = f.high in
+    let digits = octal_same b c p d (λ k lt. same k (omega arith)) in
+    let field = field_same b c p d (λ k lt. same k (omega arith)) f in
+    (long, subst (λ x. 1 ≤ x) (same 0 (omega arith)) first, (p, d, field, sym digits ∙ e ∙ header_sum_same b c same))
+
+-- ---- of a buffer that grows
+
+module _ (b more : List ℕ) where
+  kept : (k : ℕ) → k < length b → get_or (b ++ more) k 0 ≡ get_or b k 0
+  kept k lt = get_or_append_left b more 0 k lt
+
+  pub tar_checksum-lasts : HasTarChecksum b → HasTarChecksum (b ++ more)
+  tar_checksum-lasts is =
+      let long = is.0 in header_same b (b ++ more) (omega (arith, length-append b more)) (λ k lt. sym (kept k (omega arith))) is
+
+pub whole_before : (b : List ℕ) → 512 ≤ length b → MayBecome HasTarChecksum b → HasTarChecksum b
+whole_before b long (more, bytes, is) = header_same (b ++ more) b long (λ k lt. kept b more k (omega arith)) is
+
+pub field_before : (b : List ℕ) → 156 ≤ length b → MayBecome HasTarChecksum b → HasField b
+field_before b long (more, bytes, (size, first, (p, d, f, e))) = (p, d, field_same (b ++ more) b p d (λ k lt. kept b more k (omega arith)) f)
+
+pub zero_never : (b : List ℕ) → 0 < length b → get_or b 0 0 ≡ 0 → ¬ MayBecome HasTarChecksum b
+zero_never b some zero_first (more, bytes, (size, first, rest)) = let same = kept b more 0 some in omega arith
+
+-- ---- the bytes that each has
+
+module _ (by_place : (place : ℕ) (t buf : List ℕ) → IsTrue (stands place t buf) ↔ StandsByPlace place t buf) (b : List ℕ) where
+  spaces_at : (n : ℕ) → 148 + n ≤ length b → ((k : ℕ) → 148 ≤ k → k < 148 + n → slice_index b k ≡ 0x20) → OccursAt b (replicate n 0x20) 148
+  spaces_at n le all = record {
+    fits = let long = length-replicate {A = ℕ} n 0x20 in omega arith;
+    reads = λ j l. let long = length-replicate {A = ℕ} n 0x20 in all (148 + j) (omega arith) (omega arith) ∙ sym (get_or-replicate n j 0x20 0 (omega arith));
+  }
+
+  digit_lines : (n m k : ℕ) → k < m → IsTrue (fits b (digit_behind (n + k))) → IsTrue (accepts (digits_behind n m) b)
+  digit_lines n zero k lt h = absurd (omega arith)
+  digit_lines n (suc m) zero lt h = let e : n + 0 ≡ n = omega arith in or_left (fits b (digit_behind n)) _ (subst (λ x. IsTrue (fits b (digit_behind x))) e h)
+  digit_lines n (suc m) (suc k) lt h =
+      let e : n + suc k ≡ suc n + k = omega arith in
+      or_right (fits b (digit_behind n)) _ (digit_lines (suc n) m k (omega arith) (subst (λ x. IsTrue (fits b (digit_behind x))) e h))
+
+  pub field_lines : (p d : ℕ) → 512 ≤ length b → IsField b p d → IsTrue (accepts (lines tar_checksum) b)
+  field_lines p d long f =
+      let low = f.low in let high = f.high in let some = f.some in
+      let place : 148 + (p - 148) ≡ p = omega arith in
+      let digit = subst (λ k. IsOctal (slice_index b k)) (let e : p + 0 ≡ 148 + (p - 148) = omega arith in e) (f.digits 0 (omega arith)) in
+      let behind : IsTrue (fits b (digit_behind (p - 148))) =
+      and_from (nat_le 512 (length b)) _ (le-leb 512 (length b) long)
+      (and_from _ _ (occurs by_place b 148 _ (spaces_at (p - 148) (omega arith) (λ k from to. f.spaces k from (omega arith))))
+      (and_from _ true (in_range by_place b (148 + (p - 148)) 0x30 0x37 (omega arith) digit.0 digit.1) refl)) in
+      let e : p - 148 ≡ 0 + (p - 148) = omega arith in
+      digit_lines 0 8 (p - 148) (omega arith) (subst (λ n. IsTrue (fits b (digit_behind n))) e behind)

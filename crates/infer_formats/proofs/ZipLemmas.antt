@@ -1,7 +1,19 @@
--- The first entry with a property, by the first byte of its header.
-use Rattle.infer_formats.proofs.Common.{◌≡◌, ◌↔◌, ℕ, ◌+◌, ◌-◌, ◌<◌, ◌≤◌, inl, inr, List, length, codes, get_or, take, drop, add-zero, ap, refl, subst, ◌∙◌, arith, eq-eqb, length-drop, take_rest, OccursAt, Nowhere, Passes, is_byte, zip_header, IsFirstFolder, IsFolderEntry, IsPackageWith, IsPartEntry, MayBeginPackage, applications}
-use Rattle.infer_formats.specs.Zip.{IsOneOf, MayBeginAny}
+-- ZIP archives and packages: the first entry with a property, what more bytes keep and may make, and the bytes that each has.
+use Rattle.infer_formats.proofs.Common.{[], ◌≡◌, ◌↔◌, ℕ, ◌+◌, ◌-◌, ◌<◌, ◌≤◌, inl, inr, List, length, codes, get_or, take, drop, add-zero, ap, refl, subst, ◌∙◌, arith, eq-eqb, length-drop, take_rest, OccursAt, Nowhere, Passes, is_byte, zip_header, IsFirstFolder, IsFolderEntry, IsPackageWith, IsPartEntry, MayBeginPackage, applications, IsTrue, zero, suc, ◌/◌, ◌%◌, ◌++◌, cases_lt, le16, AgreesAt, are_bytes, MayBecome, agrees_past, grown_agrees, most16, FirstEntryEndsIn, FirstEntryHasExtra, FirstEntryIs, sym, nat_eq, OccursAt-append, OccursAt-first, ◌∷◌, slice_index, OccursAt-front, nat_tests}
+use Rattle.std.proofs.lemmas.Bool.{and_from, lt-ltb}
+use Rattle.std.specs.Prelude.{if◌then◌else◌, nat_lt}
+use Rattle.infer_deep.proofs.NumberLemmas.{le16-append}
+use Rattle.infer_formats.specs.Numbers.{low_bytes}
+use Rattle.infer_formats.specs.Outline.{counted, counted_for, named}
+use Rattle.infer_formats.specs.Relation.{lines, package_with}
+use Rattle.infer_formats.specs.Zip.{IsOneOf, MayBeginAny, MayHaveFirstEnding, MayHaveFirstField, MayHaveFirstName, MayOpenPackage, HasFirstName}
+use Rattle.infer_sig.specs.Places.{StandsByPlace}
+use Rattle.infer_sig.specs.Signature.{accepts, all_but, at_least, fits, stands, byte, text}
+use Rattle.infer_formats.proofs.GrowthLemmas.{there, longer}
+use Rattle.infer_formats.proofs.OpenLemmas.{grown_byte, most16_grown, most16_known}
+use Rattle.infer_formats.proofs.OutlineLemmas.{begins, occurs, other, two}
 use Rattle.infer_formats.proofs.PartLemmas.{part_reads}
+use Rattle.infer_sig.specs.Signature as fixed
 
 -- a place with the property is one of a header, so it is none that the search for its first byte passed over
 module _ (b : List ℕ) (E : ℕ → Type 0) (headed : (p : ℕ) → E p → OccursAt b zip_header p) (from : ℕ)
@@ -38,11 +50,11 @@ pub one_folder : (b : List ℕ) (p q : ℕ) → IsFirstFolder b p → IsFirstFol
 one_folder b p q first other =
     let not_before = first.1 q in let not_after = other.1 p in grind (arith, other.0, first.0)
 
-pub folder_decides : (b text : List ℕ) (q : ℕ) → IsFirstFolder b q
-    → OccursAt b text (q + 30) ↔ ((p : ℕ) × IsFirstFolder b p × OccursAt b text (p + 30))
-folder_decides b text q first = (
+pub folder_decides : (b name : List ℕ) (q : ℕ) → IsFirstFolder b q
+    → OccursAt b name (q + 30) ↔ ((p : ℕ) × IsFirstFolder b p × OccursAt b name (p + 30))
+folder_decides b name q first = (
   λ o. (q, first, o),
-  λ (p, other, o). subst (λ x. OccursAt b text (x + 30)) (one_folder b p q other first) o,
+  λ (p, other, o). subst (λ x. OccursAt b name (x + 30)) (one_folder b p q other first) o,
 )
 
 -- the folder that stands in an entry
@@ -99,3 +111,243 @@ module _ (b folder : List ℕ) (application : IsOneOf folder applications) where
   folder_tells q may part first =
       let decides = folder_decides b folder q first in
       (λ o. (begins_with q first o may, part, decides.0 o), λ (begins, any, there). decides.1 there)
+
+-- ---- a buffer that grows
+
+module _ (b more : List ℕ) where
+  first_name : HasFirstName b → HasFirstName (b ++ more)
+  first_name h = record {
+    long = longer b more 30 h.long;
+    header = OccursAt-append b more zip_header 0 h.header;
+    whole = subst (λ n. 30 + n ≤ length (b ++ more)) (sym (le16-append b more 26 (let l = h.long in omega arith))) (longer b more _ h.whole);
+  }
+
+  name_length : HasFirstName b → le16 (b ++ more) 26 ≡ le16 b 26
+  name_length h = le16-append b more 26 (let l = h.long in omega arith)
+
+  pub first_entry_is-lasts : (name : List ℕ) → FirstEntryIs name b → FirstEntryIs name (b ++ more)
+  first_entry_is-lasts name (h, long, o) = (first_name h, name_length h ∙ long, OccursAt-append b more name 30 o)
+
+  pub first_entry_ends_in-lasts : (wanted : List ℕ) → FirstEntryEndsIn wanted b → FirstEntryEndsIn wanted (b ++ more)
+  first_entry_ends_in-lasts wanted (h, long, o) = (
+    first_name h,
+    subst (λ n. length wanted ≤ n) (sym (name_length h)) long,
+    subst (λ n. OccursAt (b ++ more) wanted (30 + n - length wanted)) (sym (name_length h)) (OccursAt-append b more wanted _ o),
+  )
+
+  pub first_entry_has_extra-lasts : (wanted : List ℕ) → FirstEntryHasExtra wanted b → FirstEntryHasExtra wanted (b ++ more)
+  first_entry_has_extra-lasts wanted (h, long, o) = (
+    first_name h,
+    subst (λ n. length wanted ≤ n) (sym (le16-append b more 28 (let l = h.long in omega arith))) long,
+    subst (λ n. OccursAt (b ++ more) wanted (30 + n)) (sym (name_length h)) (OccursAt-append b more wanted _ o),
+  )
+
+  part_entry : (p : ℕ) → IsPartEntry b p → IsPartEntry (b ++ more) p
+  part_entry p (o, inl t) = (OccursAt-append b more zip_header p o, inl (OccursAt-append b more _ (p + 30) t))
+  part_entry p (o, inr t) = (OccursAt-append b more zip_header p o, inr (OccursAt-append b more _ (p + 30) t))
+
+  entry_lasts : (q : ℕ) → IsFolderEntry b q → IsFolderEntry (b ++ more) q
+  entry_lasts q (o, inl t) = (OccursAt-append b more zip_header q o, inl (OccursAt-append b more _ (q + 30) t))
+  entry_lasts q (o, inr (inl t)) = (OccursAt-append b more zip_header q o, inr (inl (OccursAt-append b more _ (q + 30) t)))
+  entry_lasts q (o, inr (inr (inl t))) = (OccursAt-append b more zip_header q o, inr (inr (inl (OccursAt-append b more _ (q + 30) t))))
+  entry_lasts q (o, inr (inr (inr (inl t)))) = (OccursAt-append b more zip_header q o, inr (inr (inr (inl (OccursAt-append b more _ (q + 30) t)))))
+  entry_lasts q (o, inr (inr (inr (inr t)))) = (OccursAt-append b more zip_header q o, inr (inr (inr (inr (OccursAt-append b more _ (q + 30) t)))))
+
+  -- the name of a folder has three bytes or more, and six at most
+  folder_inside : (q : ℕ) → IsFolderEntry b q → q + 33 ≤ length b
+  folder_inside q (o, inl t) = let f = t.fits in omega arith
+  folder_inside q (o, inr (inl t)) = let f = t.fits in omega arith
+  folder_inside q (o, inr (inr (inl t))) = let f = t.fits in omega arith
+  folder_inside q (o, inr (inr (inr (inl t)))) = let f = t.fits in omega arith
+  folder_inside q (o, inr (inr (inr (inr t)))) = let f = t.fits in omega arith
+
+  folder_front : (k : ℕ) → k + 36 ≤ length b → IsFolderEntry (b ++ more) k → IsFolderEntry b k
+  folder_front k le (o, h) = (
+    OccursAt-front b more zip_header k (omega arith) o,
+    elim h [
+      | inl t ↦ inl (OccursAt-front b more _ (k + 30) (omega arith) t)
+      | inr (inl t) ↦ inr (inl (OccursAt-front b more _ (k + 30) (omega arith) t))
+      | inr (inr (inl t)) ↦ inr (inr (inl (OccursAt-front b more _ (k + 30) (omega arith) t)))
+      | inr (inr (inr (inl t))) ↦ inr (inr (inr (inl (OccursAt-front b more _ (k + 30) (omega arith) t))))
+      | inr (inr (inr (inr t))) ↦ inr (inr (inr (inr (OccursAt-front b more _ (k + 30) (omega arith) t))))
+    ],
+  )
+
+  pub begins_package : (folder : List ℕ) → MayBeginPackage folder b → MayBeginPackage folder (b ++ more)
+  begins_package folder (o, begins) = (
+    OccursAt-append b more zip_header 0 o,
+    elim begins [
+      | inl t ↦ inl (OccursAt-append b more _ 30 t)
+      | inr (inl t) ↦ inr (inl (OccursAt-append b more _ 30 t))
+      | inr (inr (inl t)) ↦ inr (inr (inl (OccursAt-append b more _ 30 t)))
+      | inr (inr (inr t)) ↦ inr (inr (inr (OccursAt-append b more _ 30 t)))
+    ],
+  )
+
+  -- the first OccursAt-append b more the first, since headers do not overlap
+  pub first_folder-lasts : (q : ℕ) → IsFirstFolder b q → IsFirstFolder (b ++ more) q
+  first_folder-lasts q (is, before) = (
+    entry_lasts q is,
+    λ k lt e.
+        let far : k + 4 ≤ q = apart (b ++ more) k q lt e.0 (OccursAt-append b more zip_header q is.0) in
+        let inside = folder_inside q is in
+        before k lt (folder_front k (omega arith) e),
+  )
+    where
+      apart : (c : List ℕ) (k q : ℕ) → k < q → OccursAt c zip_header k → OccursAt c zip_header q → k + 4 ≤ q
+      apart c k q lt o h = elim (cases_lt q (k + 4)) [
+        | inr le ↦ le
+        | inl near ↦
+            let same : k + (q - k) ≡ q = omega arith in
+            let first : slice_index c (q + 0) ≡ 0x50 = h.reads 0 (omega arith) in
+            let read : slice_index c (k + (q - k)) ≡ slice_index zip_header (q - k) = o.reads (q - k) (omega arith) in
+            absurd (other (q - k) (omega arith) (omega arith)
+            (sym read ∙ ap (slice_index c) (omega arith) ∙ first))
+      ]
+        where
+          other : (j : ℕ) → 0 < j → j < 4 → slice_index zip_header j ≡ 0x50 → ⊥
+          other zero low high e = absurd (omega arith)
+          other (suc zero) low high e = absurd (omega arith)
+          other (suc (suc zero)) low high e = absurd (omega arith)
+          other (suc (suc (suc zero))) low high e = absurd (omega arith)
+          other (suc (suc (suc (suc j)))) low high e = absurd (omega arith)
+
+  pub package_with-lasts : (folder : List ℕ) → IsPackageWith folder b → IsPackageWith folder (b ++ more)
+  package_with-lasts folder (begins, (p, part), (q, first, f)) =
+      (begins_package folder begins, (p, part_entry p part), (q, first_folder-lasts q first, OccursAt-append b more folder (q + 30) f))
+
+-- ---- the first entry
+
+pub name_known : (name b : List ℕ) → IsTrue (are_bytes b) → MayBecome (FirstEntryIs name) b → MayHaveFirstName name b
+unfolding le16
+name_known name b b_bytes (more, bytes, (h, is, o)) =
+    let c = b ++ more in
+    let n = length name in
+    let low = grown_byte b more 26 b_bytes bytes in
+    let high = grown_byte b more 27 b_bytes bytes in
+    record {
+      short = omega arith;
+      header = grown_agrees b more zip_header 0 h.header;
+      sized = grown_agrees b more (low_bytes n) 26 (record { fits = let l = h.long in omega arith; reads = go });
+      tells = grown_agrees b more name 30 o;
+    }
+  where
+    go : (k : ℕ) → k < 2 → get_or (b ++ more) (26 + k) 0 ≡ get_or (low_bytes (length name)) k 0
+    go zero l = let low = grown_byte b more 26 b_bytes bytes in let x : get_or (b ++ more) 26 0 ≡ length name % 256 = omega arith in x
+    go (suc zero) l = let low = grown_byte b more 26 b_bytes bytes in let x : get_or (b ++ more) 27 0 ≡ length name / 256 = omega arith in x
+    go (suc (suc k)) l = absurd (omega arith)
+
+pub ending_known : (wanted b : List ℕ) → IsTrue (are_bytes b) → MayBecome (FirstEntryEndsIn wanted) b → MayHaveFirstEnding wanted b
+ending_known wanted b b_bytes (more, bytes, (h, long, o)) =
+    let most = most16_grown b more 26 b_bytes bytes in
+    record {
+      short = omega arith;
+      header = grown_agrees b more zip_header 0 h.header;
+      tells = elim (cases_lt (length b) 28) [
+        | inl l ↦ agrees_past b wanted (30 + most16 b 26 - length wanted) (omega arith)
+        | inr l ↦ subst (λ (m : ℕ). AgreesAt b wanted (30 + m - length wanted)) (most16_known b more 26 l) (grown_agrees b more wanted _ o)
+      ];
+    }
+
+pub extra_known : (wanted b : List ℕ) → IsTrue (are_bytes b) → MayBecome (FirstEntryHasExtra wanted) b → MayHaveFirstField wanted b
+extra_known wanted b b_bytes (more, bytes, (h, long, o)) =
+    let most = most16_grown b more 28 b_bytes bytes in
+    record {
+      short = omega arith;
+      header = grown_agrees b more zip_header 0 h.header;
+      tells = elim (cases_lt (length b) 28) [
+        | inl l ↦ agrees_past b wanted (30 + most16 b 26) (omega arith)
+        | inr l ↦ subst (λ (m : ℕ). AgreesAt b wanted (30 + m)) (most16_known b more 26 l) (grown_agrees b more wanted _ o)
+      ];
+    }
+
+-- ---- a package
+
+-- what holds of each
+of_each : (P : List ℕ → Type 0) → P (codes "word/") → P (codes "xl/") → P (codes "ppt/") → P (codes "visio/") → P (codes "3D/")
+    → (f : List ℕ) → IsOneOf f applications → P f
+of_each P word xl ppt visio three f (inl e) = subst P (sym e) word
+of_each P word xl ppt visio three f (inr (inl e)) = subst P (sym e) xl
+of_each P word xl ppt visio three f (inr (inr (inl e))) = subst P (sym e) ppt
+of_each P word xl ppt visio three f (inr (inr (inr (inl e)))) = subst P (sym e) visio
+of_each P word xl ppt visio three f (inr (inr (inr (inr (inl e))))) = subst P (sym e) three
+of_each P word xl ppt visio three f (inr (inr (inr (inr (inr none))))) = absurd (none)
+
+-- they are of three bytes or more
+long_folder : (f : List ℕ) → IsOneOf f applications → 3 ≤ length f
+long_folder = of_each (λ f. 3 ≤ length f) (omega arith) (omega arith) (omega arith) (omega arith) (omega arith)
+
+-- the one that begins with the byte
+abbrev by_first : ℕ → List ℕ
+by_first x =
+    if nat_eq x 0x77 then codes "word/" else if nat_eq x 0x78 then codes "xl/" else if nat_eq x 0x70 then codes "ppt/" else if nat_eq x 0x76
+    then codes "visio/" else codes "3D/"
+
+same_folder : (f g : List ℕ) → IsOneOf f applications → IsOneOf g applications → get_or f 0 0 ≡ get_or g 0 0 → f ≡ g
+same_folder f g is other e =
+    let told = of_each (λ t. t ≡ by_first (get_or t 0 0)) refl refl refl refl refl in
+    told f is ∙ ap by_first e ∙ sym (told g other)
+
+-- ---- a buffer that grows
+
+-- if the first folder of an application stands in b, it is this one
+pub first_known : (folder b : List ℕ) → IsOneOf folder applications → (q : ℕ) → IsFirstFolder b q → MayBecome (IsPackageWith folder) b
+    → OccursAt b folder (q + 30)
+first_known folder b application q is (more, bytes, (begins, part, (p, other, o))) =
+    let c = b ++ more in
+    let same = one_folder c p q other (first_folder-lasts b more q is) in
+    let there = subst (λ x. OccursAt c folder (x + 30)) same o in
+    let (g, is_g, stands) = entry_of b q is.0 in
+    let later = OccursAt-append b more g (q + 30) stands in
+    let long = long_folder g is_g in
+    let long_f = long_folder folder application in
+    let bytes_same : get_or folder 0 0 ≡ get_or g 0 0 = sym (OccursAt-first c folder (q + 30) (omega arith) there) ∙ OccursAt-first c g (q + 30) (omega arith) later in
+    subst (λ t. OccursAt b t (q + 30)) (sym (same_folder folder g application is_g bytes_same)) stands
+
+-- none is reached if b cannot begin as one
+pub opened : (folder b : List ℕ) → MayBecome (IsPackageWith folder) b → MayOpenPackage folder b
+opened folder b (more, bytes, ((o, may), parts, folders)) = (
+  grown_agrees b more zip_header 0 o,
+  elim may [
+    | inl t ↦ inl (grown_agrees b more _ 30 t)
+    | inr (inl t) ↦ inr (inl (grown_agrees b more _ 30 t))
+    | inr (inr (inl t)) ↦ inr (inr (inl (grown_agrees b more _ 30 t)))
+    | inr (inr (inr t)) ↦ inr (inr (inr (grown_agrees b more _ 30 t)))
+  ],
+)
+
+-- ---- the bytes that each has
+
+module _ (by_place : (place : ℕ) (t buf : List ℕ) → IsTrue (stands place t buf) ↔ StandsByPlace place t buf) (b : List ℕ) where
+  -- one by_place b of the two by_place b bytes of a number that is not 0
+  abbrev counted_at : ℕ → fixed.Alternative
+  counted_at p = at_least 30 (text 0 zip_header ∷ byte p (all_but 0x00) ∷ [])
+
+  counted_line : (p : ℕ) (others : List fixed.Alternative) → HasFirstName b → p < 30 → 1 ≤ slice_index b p → IsTrue (accepts (counted_at p ∷ others) b)
+  counted_line p others h low some =
+      let lt : p < length b = let long = h.long in omega arith in
+      two by_place b 30 (text 0 zip_header) (byte p (all_but 0x00)) others h.long (occurs by_place b 0 zip_header h.header) (and_from (nat_lt p (length b)) _ (lt-ltb p (length b) lt) (grind (arith, nat_tests)))
+
+  counted_lines : (place : ℕ) → HasFirstName b → place + 1 < 30 → 1 ≤ le16 b place → IsTrue (accepts (counted place) b)
+  unfolding le16
+  counted_lines place h low some = elim (cases_lt 0 (slice_index b place)) [
+    | inl lt ↦ counted_line place (counted_at (place + 1) ∷ []) h (omega arith) (omega arith)
+    | inr le ↦ other by_place b (counted_at place) (counted_at (place + 1) ∷ []) (counted_line (place + 1) [] h low (omega arith))
+  ]
+
+  pub counted_for_lines : (t : List ℕ) (place : ℕ) → HasFirstName b → place + 1 < 30 → length t ≤ le16 b place → IsTrue (accepts (counted_for t place) b)
+  counted_for_lines [] place h low le = begins by_place b 30 zip_header h.long h.header
+  counted_for_lines (x ∷ t) place h low le = counted_lines place h low (omega arith)
+
+  pub named_part : (name : List ℕ) (others : List fixed.Alternative) → OccursAt b zip_header 0 → OccursAt b name 30 → IsTrue (accepts (named name ∷ others) b)
+  named_part name others o t = two by_place b 30 (text 0 zip_header) (text 30 name) others (let fits = t.fits in omega arith) (occurs by_place b 0 zip_header o) (occurs by_place b 30 name t)
+
+  pub package_lines : (folder : List ℕ) → MayBeginPackage folder b → IsTrue (accepts (lines (package_with folder)) b)
+  package_lines folder (o, h) =
+      let types = named (codes "[Content_Types].xml") in let links = named (codes "_rels/") in let about = named (codes "docProps/") in
+      let last = named folder ∷ [] in elim h [
+        | inl t ↦ named_part (codes "[Content_Types].xml") (links ∷ about ∷ last) o t
+        | inr (inl t) ↦ other by_place b types (links ∷ about ∷ last) (named_part (codes "_rels/") (about ∷ last) o t)
+        | inr (inr (inl t)) ↦ other by_place b types (links ∷ about ∷ last) (other by_place b links (about ∷ last) (named_part (codes "docProps/") last o t))
+        | inr (inr (inr t)) ↦ other by_place b types (links ∷ about ∷ last) (other by_place b links (about ∷ last) (other by_place b about last (named_part folder [] o t)))
+      ]

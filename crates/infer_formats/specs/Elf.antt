@@ -1,5 +1,5 @@
 -- ELF files, by their program headers.
-use Rattle.std.specs.Prelude.{◌≡◌, ℕ, ◌+◌, ◌*◌, ◌<◌, ◌≤◌, Bool, List, Option, MatchOption, length, slice_index, slice_index_or, if◌then◌else◌}
+use Rattle.std.specs.Prelude.{◌≡◌, ℕ, ◌+◌, ◌*◌, ◌<◌, ◌≤◌, ◌⊎◌, Bool, List, length, slice_index, if◌then◌else◌}
 use Rattle.infer_deep.specs.Open.{AgreesAt}
 use Rattle.infer_formats.specs.Numbers.{bytes16, number16, number32, number64}
 
@@ -39,38 +39,24 @@ IsSharedObject b =
     (wide big : Bool)
     × (slice_index b 4 ≡ (if wide then 2 else 1)) × (slice_index b 5 ≡ (if big then 2 else 1)) × HasOwnTable wide big b
 
--- where the size of an entry stands, and behind it the count; and where the place of the table ends
+-- where the size of an entry stands
 abbrev pub size_at : Bool → ℕ
 size_at wide = if wide then 54 else 42
-
-abbrev pub place_end : Bool → ℕ
-place_end wide = if wide then 40 else 32
-
--- as far as b goes, the two bytes at p may write this count
-abbrev pub MayCount : Bool → List ℕ → ℕ → ℕ → Type 0
-MayCount big b p n = (1 ≤ n) × (n < 65536) × AgreesAt b (bytes16 big n) p
-
--- r is the least count that they may write, and none only if they write none
-abbrev pub IsLeastCount : Bool → List ℕ → ℕ → Option ℕ → Type 0
-IsLeastCount big b p r =
-    MatchOption r ((n : ℕ) → ¬ MayCount big b p n) (λ n. MayCount big b p n × ((m : ℕ) → MayCount big b p m → n ≤ m))
 
 -- of n entries from `start` on, none that b has the kind of asks for an interpreter
 abbrev pub NoneKnownAsks : Bool → List ℕ → ℕ → ℕ → ℕ → Type 0
 NoneKnownAsks big b start n size =
     (i : ℕ) → i < n → start + i * size + 4 ≤ length b → ¬ AsksAt big b (start + i * size)
 
--- as far as b goes, it may have such a table, with some count
+-- as far as b goes, it may have such a table
 pub record MayHaveOwnTable (wide big : Bool) (b : List ℕ) : Type 0 where
   pub kind : AgreesAt b (bytes16 big 3) 16
   pub size : AgreesAt b (bytes16 big (known_size wide)) (size_at wide)
-  pub count : ℕ
-  pub counted : MayCount big b (size_at wide + 2) count
-  pub alone : place_end wide ≤ length b → NoneKnownAsks big b (table_place wide big b) count (known_size wide)
+  pub alone : counted_length wide ≤ length b
+      → (1 ≤ entry_count wide big b) × NoneKnownAsks big b (table_place wide big b) (entry_count wide big b) (known_size wide)
 
--- as far as b goes, it may be a shared object: a class or an order that it does not say yet is the first one
+-- b ends before it says its class and its order, or may have such a table
 abbrev pub MayBeSharedObject : List ℕ → Type 0
 MayBeSharedObject b =
-    (wide big : Bool)
-    × (slice_index_or b 4 1 ≡ (if wide then 2 else 1)) × (slice_index_or b 5 1 ≡ (if big then 2 else 1))
-    × MayHaveOwnTable wide big b
+    (length b ≤ 5)
+    ⊎ ((wide big : Bool) × (slice_index b 4 ≡ (if wide then 2 else 1)) × (slice_index b 5 ≡ (if big then 2 else 1)) × MayHaveOwnTable wide big b)

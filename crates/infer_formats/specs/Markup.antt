@@ -83,12 +83,11 @@ pub data LeadsToTag (b : List ℕ) (at to : ℕ) : ℕ → Option ℕ → Type 0
       → IsPart b p d q e → LeadsToTag b at to q e → LeadsToTag b at to p d
 
 -- from `start` on a prolog ends at `place`, whatever bytes follow b: a tag that it leads to opens there. d is where the
--- name of the document type begins, if one was declared, and its declaration is closed
+-- name of the document type begins, if one was declared
 pub record EndsProlog (b : List ℕ) (start place : ℕ) (d : Option ℕ) : Type 0 where
   pub within : place ≤ length b
   pub leads : (more : List ℕ) (at to : ℕ) → LeadsToTag (b ++ more) at to start None ↔ LeadsToTag (b ++ more) at to place d
   pub ends : (q : ℕ) (e : Option ℕ) → ¬ IsPart b place d q e
-  pub declared : (name : ℕ) → d ≡ Some name → (close : ℕ) × (name ≤ close) × (close < length b) × (slice_index b close ≡ 0x3E)
 
 -- the byte order mark of UTF-8
 abbrev pub utf8_mark : List ℕ
@@ -125,48 +124,6 @@ MayBeRooted b =
     OccursAt b utf8_mark 0
     ⊎ ((k : ℕ) × ((j : ℕ) → j < k → IsXmlSpace (slice_index b j)) × (slice_index b k ≡ 0x3C) × MayOpen b (k + 1))
 
--- a root element can have this local name: it has a byte, and all are those of an element's name, but ":"
-pub record IsLocalName (name : List ℕ) : Type 0 where
-  pub some : 0 < length name
-  pub bytes : (k : ℕ) → k < length name → IsNameByte (slice_index name k) × (slice_index name k ≢ 0x3A)
-
--- an element can have this name, whose local name it is
-pub record IsFullName (whole name : List ℕ) : Type 0 where
-  pub bytes : (k : ℕ) → k < length whole → IsNameByte (slice_index whole k)
-  pub begins : BeginsElement (slice_index whole 0)
-  pub at : ℕ
-  pub local : IsAfterLast 0x3A whole 0 (length whole) at
-  pub some : at < length whole
-  pub is : name ≡ drop at whole
-
--- the prolog may go on from p: white space stands there up to the end of b, or an instruction or a comment as far as b goes
-abbrev pub MayGoOn : List ℕ → ℕ → Type 0
-MayGoOn b p =
-    ((k : ℕ) → p ≤ k → k < length b → IsXmlSpace (slice_index b k)) ⊎ AgreesAt b (codes "<?") p ⊎ AgreesAt b (codes "<!--") p
-
--- a tag opens at p, and b ends in its name
-abbrev pub MayOpenTag : List ℕ → ℕ → Type 0
-MayOpenTag b p =
-    (slice_index b p ≡ 0x3C) × (p + 1 < length b) × BeginsElement (slice_index b (p + 1))
-    × ((k : ℕ) → p + 1 ≤ k → k < length b → IsNameByte (slice_index b k))
-
--- b ends in a tag of this name, which opens at p
-abbrev pub MayOpenAs : List ℕ → List ℕ → ℕ → Type 0
-MayOpenAs whole b p = AgreesAt b (0x3C ∷ whole) p × (length b ≤ p + 1 + length whole)
-
--- the text has no "["
-abbrev pub HasNoBracket : List ℕ → Type 0
-HasNoBracket text = (k : ℕ) → k < length text → slice_index text k ≢ 0x5B
-
--- the name of a document type stands at `from`, up to the end of b or before, and can be that of an element of this name
-abbrev pub MayNameRoot : List ℕ → List ℕ → ℕ → Type 0
-MayNameRoot name b from =
-    (HasNoBracket name × BeginsElement (slice_index b from) × ((k : ℕ) → from ≤ k → k < length b → IsNameByte (slice_index b k)))
-    ⊎ ((end : ℕ) × IsRun IsTypeByte b from end × IsFullName (slice_range b from end) name)
-
--- a document type may be declared at p whose name is that of the root: b ends before that name, or the declaration goes on
-abbrev pub MayDeclare : List ℕ → List ℕ → ℕ → Type 0
-MayDeclare name b p =
-    (HasNoBracket name × AgreesAt b (codes "<!DOCTYPE") p × ((k : ℕ) → p + 9 ≤ k → k < length b → IsXmlSpace (slice_index b k)))
-    ⊎ ((from : ℕ) × OccursAt b (codes "<!DOCTYPE") p × IsSpaceRun b (p + 9) from
-    × ((k : ℕ) → from ≤ k → k < length b → (slice_index b k ≢ 0x3E) × (slice_index b k ≢ 0x5B)) × MayNameRoot name b from)
+-- from p on b has nothing but white space, or "<" stands at p, as far as b goes
+abbrev pub MayReachTag : List ℕ → ℕ → Type 0
+MayReachTag b p = ((k : ℕ) → p ≤ k → k < length b → IsXmlSpace (slice_index b k)) ⊎ AgreesAt b (codes "<") p

@@ -28,16 +28,11 @@ pub record IsField (b : List ℕ) (p d : ℕ) : Type 0 where
   pub digits : (k : ℕ) → k < d → IsOctal (slice_index b (p + k))
   pub end : (p + d ≡ 156) ⊎ (slice_index b (p + d) ≡ 0x00) ⊎ (slice_index b (p + d) ≡ 0x20)
 
+-- there is one, of any value
+abbrev pub HasField : List ℕ → Type 0
+HasField b = (p d : ℕ) × IsField b p d
+
 -- a whole first header that does not begin with 00, and whose checksum is its sum
 abbrev pub HasTarChecksum : List ℕ → Type 0
 HasTarChecksum b =
     (512 ≤ length b) × (1 ≤ slice_index b 0) × ((p d : ℕ) × IsField b p d × (octal b p d ≡ header_sum b))
-
--- the least number whose digits are those of v and j more
-abbrev pub scaled : ℕ → ℕ → ℕ
-scaled v zero = v
-scaled v (suc j) = 8 * scaled v j
-
--- a number that begins with the digits of v, and has at most `room` more, is from `least` to `most`
-abbrev pub MayWrite : ℕ → ℕ → ℕ → ℕ → Type 0
-MayWrite v room least most = (j : ℕ) × (j ≤ room) × (scaled v j ≤ most) × (least < scaled (suc v) j)

@@ -1,7 +1,7 @@
 //! ELF files, by their program headers: System V Application Binary Interface, Object Files, the ELF header and the
 //! program header.
 ghost use Rattle.std.specs.Prelude.{◌≡◌, ◌↔◌, ◌+◌, ◌*◌, ◌<◌, ◌≤◌, ℕ, length, IsTrue};
-ghost use Rattle.infer_formats.specs.Elf.{AsksAt, HasOwnTable, IsSharedObject, counted_length, entry_count, entry_size, known_size, place_end, table_place};
+ghost use Rattle.infer_formats.specs.Elf.{AsksAt, HasOwnTable, IsSharedObject, counted_length, entry_count, entry_size, known_size, table_place};
 
 mod open;
 
@@ -60,12 +60,6 @@ pub fn is_shared_object(buf: &[u8]) -> bool
     }
 }
 
-fn place_end(wide: bool) -> usize
-    ensures { result ≡ place_end wide }
-{
-    if wide { E_PHOFF_64 + 8 } else { E_PHOFF_32 + 4 }
-}
-
 fn has_own_table(buf: &[u8], wide: bool, big: bool) -> bool
     ensures { IsTrue result ↔ HasOwnTable wide big buf.now }
 {
@@ -113,7 +107,7 @@ fn known_size(wide: bool) -> usize
 }
 
 fn table_place(buf: &[u8], wide: bool, big: bool) -> usize
-    requires { place_end wide ≤ length buf.now }
+    requires { counted_length wide ≤ length buf.now }
     ensures { result ≡ table_place wide big buf.now }
 {
     if wide {

@@ -82,7 +82,7 @@ pub fn may_become_text(buf: &[u8]) -> bool
 }
 
 /// Whether `buf` is text whatever bytes follow: a byte order mark stands first.
-#[tactic(auto, using(crate::proofs::OpenTextLemmas::marked_stays))]
+#[tactic(auto, using(crate::proofs::TextLemmas::marked_stays))]
 pub fn stays_text(buf: &[u8]) -> bool
     ensures { IsTrue result → Stays IsText buf.now }
 {

@@ -12,7 +12,7 @@ use infer_deep::numbers::le16;
 use infer_deep::places::may_stand_at;
 
 /// Whether some bytes after `buf`, or none, may make it the header of a dBASE table.
-#[tactic(auto, using(crate::proofs::OpenDbaseLemmas::dbase_known))]
+#[tactic(auto, using(crate::proofs::DbaseLemmas::dbase_known))]
 pub fn may_become_dbase(buf: &[u8]) -> bool
     ensures { MayBecome IsDbase buf.now → IsTrue result }
 {

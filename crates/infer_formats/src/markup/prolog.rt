@@ -63,9 +63,6 @@ pub(super) fn prolog_end(buf: &[u8], start: usize) -> Reached
     ensures ends { (q : ℕ) (e : Option ℕ) → ¬ IsPart buf.now result.place result.doctype q e }
     ensures within { result.place ≤ length buf.now }
     ensures opens { IsTrue result.opens ↔ OpensElement buf.now result.place }
-    ensures declared { (name : ℕ) → result.doctype ≡ Some name
-        → (close : ℕ) × (name ≤ close) × (close < length buf.now)
-        × (slice_index buf.now close ≡ 0x3E) }
 {
     let stop = miscs_end(buf, start);
     if stop.opens {

@@ -8,7 +8,7 @@ use super::{bare_name, first_word, is_env, is_version_byte, is_word_byte, progra
 use infer_deep::places::may_stand_at;
 
 /// Whether some bytes after `buf`, or none, may make it a script of the program with this name.
-#[tactic(auto, using(crate::proofs::OpenScriptLemmas::opened_so, crate::proofs::OpenScriptLemmas::none_in_short))]
+#[tactic(auto, using(crate::proofs::ScriptLemmas::opened_so, crate::proofs::ScriptLemmas::none_in_short))]
 pub fn may_become_program(buf: &[u8], name: &[u8]) -> bool
     ensures { MayBecome (IsProgram name.now) buf.now → IsTrue result }
 {

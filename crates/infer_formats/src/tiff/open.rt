@@ -23,7 +23,7 @@ fn may_have_tag(buf: &[u8], tag: u16) -> bool
     may_stand_at(buf, b"MM\x00\x2A", 0) && directory_may_have_tag(buf, tag, true)
 }
 
-#[tactic(auto, using(crate::proofs::OpenTiffLemmas::none_agrees))]
+#[tactic(auto, using(crate::proofs::TiffLemmas::none_agrees))]
 fn directory_may_have_tag(buf: &[u8], tag: u16, big: bool) -> bool
     ensures { IsTrue result ↔ MayHaveEntry big tag buf.now }
 {

@@ -8,7 +8,7 @@ use crate::numbers::most16;
 use infer_deep::places::{may_stand_at, stands_at};
 
 /// Whether some bytes after `buf`, or none, may give the first entry this name.
-#[tactic(auto, using(infer_deep::proofs::OpenLemmas::test_from_reads, crate::proofs::OpenZipLemmas::name_known))]
+#[tactic(auto, using(infer_deep::proofs::OpenLemmas::test_from_reads, crate::proofs::ZipLemmas::name_known))]
 pub fn may_have_first_entry(buf: &[u8], name: &[u8]) -> bool
     ensures { MayBecome (FirstEntryIs name.now) buf.now → IsTrue result }
 {
@@ -32,7 +32,7 @@ fn may_have_first_name(buf: &[u8], name: &[u8]) -> bool
 }
 
 /// Whether some bytes after `buf`, or none, may give the first entry a name that ends in this text, or is it.
-#[tactic(auto, using(infer_deep::proofs::OpenLemmas::test_from_reads, crate::proofs::OpenZipLemmas::ending_known))]
+#[tactic(auto, using(infer_deep::proofs::OpenLemmas::test_from_reads, crate::proofs::ZipLemmas::ending_known))]
 pub fn may_have_first_entry_ending(buf: &[u8], text: &[u8]) -> bool
     ensures { MayBecome (FirstEntryEndsIn text.now) buf.now → IsTrue result }
 {
@@ -49,7 +49,7 @@ fn may_have_first_ending(buf: &[u8], text: &[u8]) -> bool
 }
 
 /// Whether some bytes after `buf`, or none, may give the first entry an extra field that begins with this text.
-#[tactic(auto, using(infer_deep::proofs::OpenLemmas::test_from_reads, crate::proofs::OpenZipLemmas::extra_known))]
+#[tactic(auto, using(infer_deep::proofs::OpenLemmas::test_from_reads, crate::proofs::ZipLemmas::extra_known))]
 pub fn may_have_first_extra(buf: &[u8], text: &[u8]) -> bool
     ensures { MayBecome (FirstEntryHasExtra text.now) buf.now → IsTrue result }
 {
@@ -66,7 +66,7 @@ fn may_have_first_field(buf: &[u8], text: &[u8]) -> bool
 
 /// Whether some bytes after `buf`, or none, may make it a package of the Open Packaging Conventions whose first folder of
 /// an application, by place, is this one.
-#[tactic(auto, using(crate::proofs::OpenPackageLemmas::opened))]
+#[tactic(auto, using(crate::proofs::ZipLemmas::opened))]
 pub fn may_become_package_with(buf: &[u8], folder: &[u8]) -> bool
     requires { IsOneOf folder.now applications }
     ensures { MayBecome (IsPackageWith folder.now) buf.now → IsTrue result }

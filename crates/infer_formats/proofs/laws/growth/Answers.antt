@@ -1,5 +1,5 @@
-use Rattle.infer_formats.proofs.GrowthLemmas.{binary-lasts}
 use Rattle.infer_formats.proofs.RelationLemmas.{relation_lasts}
+use Rattle.infer_formats.proofs.TextLemmas.{binary-lasts}
 use Rattle.infer_formats.proofs.laws.growth.Goals as goal
 
 pub returns : goal.returns

@@ -1,4 +1,4 @@
-use Rattle.infer_formats.proofs.OpenTextLemmas.{empty_or_text}
+use Rattle.infer_formats.proofs.TextLemmas.{empty_or_text}
 use Rattle.infer_formats.proofs.text.may_become_text.Goals as goal
 
 pub returns-else-is_empty : goal.returns-else-is_empty

@@ -1,5 +1,5 @@
 use Rattle.infer_formats.proofs.Common.{arith, test_from_reads}
-use Rattle.infer_formats.proofs.OpenElfLemmas.{object_known}
+use Rattle.infer_formats.proofs.ElfLemmas.{object_known}
 use Rattle.infer_formats.proofs.elf.open.may_become_shared_object.Goals as goal
 
 pub returns : goal.returns

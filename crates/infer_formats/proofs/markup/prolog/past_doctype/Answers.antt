@@ -1,6 +1,6 @@
 use Rattle.infer_formats.proofs.Common.{◌+◌, ◌++◌, None, Some, inr, refl, IsPart}
 use Rattle.infer_formats.proofs.FrontLemmas.{front_grows}
-use Rattle.infer_formats.proofs.MarkupLemmas.{closed_part, no_part, part_lasts, past_part}
+use Rattle.infer_formats.proofs.MarkupLemmas.{no_part, part_lasts, past_part}
 use Rattle.infer_formats.proofs.markup.prolog.past_doctype.Goals as goal
 
 pub returns-in-Some-clause-ends : goal.returns-in-Some-clause-ends
@@ -18,7 +18,6 @@ returns-in-Some-clause-ends c =
           let on = end.leads (Some doctype.name) more at to in
           (λ l. on.0 (past.0 l), λ l. past.1 (on.1 l));
       ends = no_part b c.miscs_end-stop.result.place (Some doctype.name) end.ends (λ none. absurd (cc));
-      declared = closed_part b place None (doctype.close + 1) (Some doctype.name) part (λ name is. absurd (cc));
     }
 
 pub returns-in-None-clause-ends : goal.returns-in-None-clause-ends
@@ -26,5 +25,4 @@ returns-in-None-clause-ends c = record {
   within = c.requires.within;
   leads = λ more at to. (λ l. l, λ l. l);
   ends = no_part c.args.buf.now c.args.place None c.requires.no_misc (λ none. c.in-None.ensures);
-  declared = λ name is. absurd (cc);
 }

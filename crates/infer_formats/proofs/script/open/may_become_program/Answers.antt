@@ -1,4 +1,4 @@
-use Rattle.infer_formats.proofs.OpenScriptLemmas.{named_stays}
+use Rattle.infer_formats.proofs.ScriptLemmas.{named_stays}
 use Rattle.infer_formats.proofs.script.open.may_become_program.Goals as goal
 
 pub returns-in-Some : goal.returns-in-Some

@@ -1,6 +1,6 @@
 use Rattle.infer_formats.proofs.Common.{inl, ap, false_from_ne_true}
 use Rattle.std.proofs.Math.Bool.{not}
-use Rattle.infer_formats.proofs.OpenScriptLemmas.{bare_named, equals_set, line_ended}
+use Rattle.infer_formats.proofs.ScriptLemmas.{bare_named, equals_set, line_ended}
 use Rattle.infer_formats.proofs.script.open.may_name.Goals as goal
 
 pub returns-then-not-is_bare : goal.returns-then-not-is_bare

@@ -1,6 +1,5 @@
 use Rattle.infer_formats.proofs.Common.{inl, inr, refl, subst, arith, eq-eqb, eqb-true, MayBeSpan}
-use Rattle.infer_formats.proofs.OpenSubtitlesLemmas.{cue_goes_on, cut_line, ends_in_number, line_same}
-use Rattle.infer_formats.proofs.SubtitlesLemmas.{line_after}
+use Rattle.infer_formats.proofs.SubtitlesLemmas.{cue_goes_on, cut_line, ends_in_number, line_same, line_after}
 use Rattle.infer_formats.proofs.subtitles.open.may_be_cue.Goals as goal
 
 pub returns-then-buf-end : goal.returns-then-buf-end

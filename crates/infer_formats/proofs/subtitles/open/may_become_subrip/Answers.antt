@@ -1,4 +1,4 @@
-use Rattle.infer_formats.proofs.OpenSubtitlesLemmas.{subrip_known}
+use Rattle.infer_formats.proofs.SubtitlesLemmas.{subrip_known}
 use Rattle.infer_formats.proofs.subtitles.open.may_become_subrip.Goals as goal
 
 pub returns : goal.returns

@@ -1,5 +1,5 @@
 use Rattle.infer_formats.proofs.Common.{arith, test_from_reads}
-use Rattle.infer_formats.proofs.OpenTiffLemmas.{tag_known}
+use Rattle.infer_formats.proofs.TiffLemmas.{tag_known}
 use Rattle.infer_formats.proofs.tiff.open.first_directory_may_have_tag.Goals as goal
 
 pub returns : goal.returns

@@ -1,4 +1,4 @@
-use Rattle.infer_formats.proofs.OpenPackageLemmas.{first_known}
+use Rattle.infer_formats.proofs.ZipLemmas.{first_known}
 use Rattle.infer_formats.proofs.zip.open.may_become_package_with.Goals as goal
 
 pub returns-in-Some : goal.returns-in-Some

@@ -1,0 +1,91 @@
+-- dBASE tables: what more bytes keep and may make, and the bytes that each has.
+use Rattle.infer_formats.proofs.Common.{[], ◌≡◌, add-zero, inl, inr, ℕ, zero, suc, ◌+◌, ◌<◌, ◌≤◌, List, ◌∷◌, ◌++◌, length, codes, sym, subst, ◌∙◌, arith, slice_index, cases_lt, get_or_append_left, le16, MayBecome, BeginsName, IsDbase, behind, versions, true, refl, ap, ◌↔◌, IsTrue}
+use Rattle.std.proofs.lemmas.Bool.{and_from, le-leb, lt-ltb, or_left}
+use Rattle.std.specs.Prelude.{nat_le, nat_lt}
+use Rattle.infer_deep.proofs.NumberLemmas.{le16-append}
+use Rattle.infer_formats.specs.Dbase.{EndsFields, IsOneOf, MayBeDbase, MayEndFields}
+use Rattle.infer_formats.specs.Open.{MayBe}
+use Rattle.infer_formats.specs.Relation.{lines, dbase}
+use Rattle.infer_sig.specs.Places.{StandsByPlace}
+use Rattle.infer_sig.specs.Signature.{accepts, stands}
+use Rattle.infer_formats.proofs.GrowthLemmas.{carried, kept, longer}
+use Rattle.infer_formats.proofs.OutlineLemmas.{pair}
+
+-- ---- a buffer that grows
+
+module _ (b more : List ℕ) where
+  pub dbase-lasts : IsDbase b → IsDbase (b ++ more)
+  dbase-lasts (long, (version, month, day, zeros), (name, kind), many, (e, (sum, low, whole, inside, end))) = (
+    longer b more 65 long,
+    (
+      carried b more (IsOneOf versions) 0 (omega arith) version,
+      carried b more (λ x. (0x01 ≤ x) × (x ≤ 0x0C)) 2 (omega arith) month,
+      carried b more (λ x. (0x01 ≤ x) × (x ≤ 0x1F)) 3 (omega arith) day,
+      (kept b more 12 (omega arith) ∙ zeros.0, kept b more 13 (omega arith) ∙ zeros.1),
+    ),
+    (carried b more BeginsName 32 (omega arith) name, carried b more (IsOneOf (codes "+@BCDFGILMNOPTVXY")) 43 (omega arith) kind),
+    subst (λ n. 2 ≤ n) (sym (le16-append b more 10 (omega arith))) many,
+    (
+      e,
+      (
+        ap (λ x. e + behind x) (kept b more 0 (omega arith)) ∙ sum ∙ sym (le16-append b more 8 (omega arith)),
+        low,
+        whole,
+        longer b more _ inside,
+        kept b more e (omega arith) ∙ end,
+      ),
+    ),
+  )
+
+-- ---- what more bytes may make
+
+module _ (b more : List ℕ) where
+  front : (P : ℕ → Type 0) (p : ℕ) → P (slice_index (b ++ more) p) → MayBe P b p
+  front P p h lt = subst P (get_or_append_left b more 0 p lt) h
+
+  known_fields : (e : ℕ) → EndsFields (b ++ more) e → MayEndFields b
+  unfolding le16
+  known_fields e (sum, low, whole, inside, end) = elim (cases_lt (length b) 9) [
+    | inl l ↦ inl (omega arith)
+    | inr l ↦
+        let first : slice_index (b ++ more) 0 ≡ slice_index b 0 = get_or_append_left b more 0 0 (omega arith) in
+        let total : e + behind (slice_index b 0) ≡ le16 (b ++ more) 8 = subst (λ x. e + behind x ≡ le16 (b ++ more) 8) first sum in
+        let byte = get_or_append_left b more 0 8 (omega arith) in
+        elim (cases_lt (length b) 10) [
+          | inl short ↦ inr (inl (omega arith, omega arith))
+          | inr long ↦
+              let other = get_or_append_left b more 0 9 (omega arith) in
+              inr (inr (omega arith, (e, omega arith, low, whole, record { reads = end_byte })))
+        ]
+  ]
+    where
+      end_byte : (k : ℕ) → k < 1 → e + k < length b → slice_index b (e + k) ≡ slice_index (0x0D ∷ []) k
+      end_byte zero lt within = let here = get_or_append_left b more 0 e (omega arith) in rw add-zero (sym here ∙ end)
+      end_byte (suc k) lt within = absurd (omega arith)
+
+  known_many : 2 ≤ le16 (b ++ more) 10 → 12 ≤ length b → 2 ≤ le16 b 10
+  unfolding le16
+  known_many many long = omega (arith, get_or_append_left b more 0 10 (omega arith), get_or_append_left b more 0 11 (omega arith))
+
+pub dbase_known : (b : List ℕ) → MayBecome IsDbase b → MayBeDbase b
+dbase_known b (more, bytes, (long, (version, month, day, zeros), (name, kind), many, (e, fields))) = record {
+  dated = (
+    front b more (IsOneOf versions) 0 version,
+    front b more (λ x. (0x01 ≤ x) × (x ≤ 0x0C)) 2 month,
+    front b more (λ x. (0x01 ≤ x) × (x ≤ 0x1F)) 3 day,
+    front b more (λ x. x ≡ 0) 12 zeros.0,
+    front b more (λ x. x ≡ 0) 13 zeros.1,
+  );
+  field = (front b more BeginsName 32 name, front b more (IsOneOf (codes "+@BCDFGILMNOPTVXY")) 43 kind);
+  many = known_many b more many;
+  ends = known_fields b more e fields;
+}
+
+-- ---- the bytes that each has
+
+module _ (by_place : (place : ℕ) (t buf : List ℕ) → IsTrue (stands place t buf) ↔ StandsByPlace place t buf) (b : List ℕ) where
+  pub dbase_lines : IsDbase b → IsTrue (accepts (lines dbase) b)
+  dbase_lines (long, dated, field, many, ends) =
+      or_left _ _ (and_from (nat_le 14 (length b)) _ (le-leb 14 (length b) (omega arith))
+      (and_from _ _ (and_from (nat_lt 0 (length b)) _ (lt-ltb 0 (length b) (omega arith)) dated.0)
+      (and_from _ true (pair by_place b 12 0x00 0x00 (omega arith) dated.3.0 dated.3.1) refl)))

@@ -1,0 +1,84 @@
+-- Tags of TIFF files: what more bytes keep and may bring, and the bytes that each file has.
+use Rattle.infer_formats.proofs.Common.{[], IsTrue, ◌≡◌, inl, inr, ℕ, ◌+◌, ◌-◌, ◌*◌, ◌/◌, min, ◌<◌, ◌≤◌, Bool, true, false, List, ◌++◌, length, get_or, subst, arith, cases_lt, AgreesAt, are_bytes, MayBecome, agrees_past, grown_agrees, bytes16, number16, number32, BeginsTiff, HasTag, IsTagEntry, ◌∷◌, sym, ◌∙◌, OccursAt-append, ◌↔◌}
+use Rattle.infer_formats.specs.Relation.{lines, directory_tag}
+use Rattle.infer_formats.specs.Tiff.{MayBeginTiff, MayHaveEntry, MayHaveTag}
+use Rattle.infer_sig.specs.Places.{StandsByPlace}
+use Rattle.infer_sig.specs.Signature.{accepts, at_least, stands, text}
+use Rattle.infer_formats.proofs.GrowthLemmas.{number16-append, number32-append, longer}
+use Rattle.infer_formats.proofs.OpenLemmas.{grown_byte, number16_stands}
+use Rattle.infer_formats.proofs.OutlineLemmas.{occurs, other, one}
+use Rattle.infer_sig.specs.Signature as fixed
+
+-- ---- a buffer that grows
+
+module _ (b more : List ℕ) where
+  begins_tiff : (big : Bool) → BeginsTiff big b → BeginsTiff big (b ++ more)
+  begins_tiff true o = OccursAt-append b more _ 0 o
+  begins_tiff false o = OccursAt-append b more _ 0 o
+
+  pub tag-lasts : (tag : ℕ) → HasTag tag b → HasTag tag (b ++ more)
+  tag-lasts tag (big, begins, (i, (lt, whole, is))) =
+      let start = number32 big b 4 in (
+        big,
+        begins_tiff big begins,
+        (
+          i,
+          subst (λ s. IsTagEntry big tag (b ++ more) s i) (sym (number32-append b more big 4 (omega arith))) (
+            subst (λ n. i < n) (sym (number16-append b more big start (omega arith))) lt,
+            longer b more _ whole,
+            number16-append b more big (start + 2 + 12 * i) (omega arith) ∙ is,
+          ),
+        ),
+      )
+
+-- ---- what more bytes may bring
+
+begins_known : (big : Bool) (b more : List ℕ) → BeginsTiff big (b ++ more) → MayBeginTiff big b
+begins_known true b more o = grown_agrees b more _ 0 o
+begins_known false b more o = grown_agrees b more _ 0 o
+
+known_entry : (big : Bool) (tag : ℕ) (b more : List ℕ) (i : ℕ) → ((k : ℕ) → get_or (b ++ more) k 0 < 256)
+    → IsTagEntry big tag (b ++ more) (number32 big (b ++ more) 4) i → MayHaveEntry big tag b
+known_entry big tag b more i small entry = elim (cases_lt (length b) 8) [
+  | inl l ↦ inl l
+  | inr long ↦ elim (cases_lt (length b) (number32 big b 4 + 2)) [
+    | inl l ↦ inr (inl l)
+    | inr listed ↦
+        let c = b ++ more in
+        let s = number32 big b 4 in
+        let start : number32 big c 4 ≡ s = number32-append b more big 4 (omega arith) in
+        let count : number16 big c s ≡ number16 big b s = number16-append b more big s (omega arith) in
+        let (below, fits, tagged) = subst (λ u. IsTagEntry big tag c u i) start entry in
+        let stands = number16_stands c big (s + 2 + 12 * i) tag small (omega arith) tagged in
+        inr (inr (i, subst (λ n. i < n) count below, grown_agrees b more (bytes16 big tag) (s + 2 + 12 * i) stands))
+  ]
+]
+
+pub tag_known : (tag : ℕ) (b : List ℕ) → IsTrue (are_bytes b) → MayBecome (HasTag tag) b → MayHaveTag tag b
+tag_known tag b b_bytes (more, bytes, (true, begins, (i, entry))) =
+    inr (begins_known true b more begins, known_entry true tag b more i (λ k. grown_byte b more k b_bytes bytes) entry)
+tag_known tag b b_bytes (more, bytes, (false, begins, (i, entry))) =
+    inl (begins_known false b more begins, known_entry false tag b more i (λ k. grown_byte b more k b_bytes bytes) entry)
+
+-- no entry agrees if none of those does that b has, or the first one past its end
+pub none_agrees : (b wanted : List ℕ) (s many count : ℕ) → s + 2 ≤ length b → count ≡ min many ((length b - s - 2) / 12 + 2)
+    → ((k : ℕ) → k < count → ¬ AgreesAt b wanted (s + 2 + 12 * k)) → (i : ℕ) → i < many → ¬ AgreesAt b wanted (s + 2 + 12 * i)
+none_agrees b wanted s many count listed is none i lt a = elim (cases_lt i count) [
+  | inl l ↦ none i l a
+  | inr l ↦
+      let q = (length b - s - 2) / 12 + 1 in
+      none q (omega arith) (agrees_past b wanted (s + 2 + 12 * q) (omega arith))
+]
+
+-- ---- the bytes that each has
+
+module _ (by_place : (place : ℕ) (t buf : List ℕ) → IsTrue (stands place t buf) ↔ StandsByPlace place t buf) (b : List ℕ) where
+  abbrev little_tiff : fixed.Alternative
+  little_tiff = at_least 4 (text 0 (0x49 ∷ 0x49 ∷ 0x2A ∷ 0x00 ∷ []) ∷ [])
+
+  abbrev big_tiff : fixed.Alternative
+  big_tiff = at_least 4 (text 0 (0x4D ∷ 0x4D ∷ 0x00 ∷ 0x2A ∷ []) ∷ [])
+
+  pub tag_lines : (tag : ℕ) (big : Bool) → BeginsTiff big b → IsTrue (accepts (lines (directory_tag tag)) b)
+  tag_lines tag false o = let le = o.fits in one by_place b 4 (text 0 (0x49 ∷ 0x49 ∷ 0x2A ∷ 0x00 ∷ [])) (big_tiff ∷ []) (omega arith) (occurs by_place b 0 _ o)
+  tag_lines tag true o = let le = o.fits in other by_place b little_tiff (big_tiff ∷ []) (one by_place b 4 (text 0 (0x4D ∷ 0x4D ∷ 0x00 ∷ 0x2A ∷ [])) [] (omega arith) (occurs by_place b 0 _ o))
