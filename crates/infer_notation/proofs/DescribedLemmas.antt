@@ -16,15 +16,14 @@ use Rattle.infer_notation.proofs.GrammarLemmas as grammar
 use Rattle.infer_notation.proofs.GrammarLemmas.{is_derived}
 use Rattle.infer_notation.proofs.MadeLemmas.{both_true, is_made, is_read, not_blank}
 use Rattle.infer_notation.specs.declared.names.Takes.TheVariants.{ClassId, Entry, Folder, Root, Tag}
+use Rattle.infer_notation.proofs.OptionLemmas.{bind_some, cond_given, map_some}
 use Rattle.infer_notation.proofs.RelationLemmas.{begins_not}
 
 -- ---- groups
 
 or_word : (t : Token) → is_or t ≡ true → t ≡ bare (codes "or")
 or_word (bare w) is = ap bare ((bytes_eq-Decides w (codes "or")).0 is)
-or_word (quoted w) is = absurd cc
-or_word (set w) is = absurd cc
-or_word (mark x) is = absurd cc
+or_word t is = absurd cc
 
 -- a list, parted at each element that passes a test
 pub data IsSplit {X : Type 0} (p : X → Bool) : List X → List (List X) → Type 0 where
@@ -49,17 +48,11 @@ parted_so : (ts : List Token) (gs hs : List (List Token)) → IsSplit is_or ts g
 parted_so ts gs hs (whole g one) e =
     let both = cond_some (nat_lt 0 (length g) && nat_le (length g) 24) (g ∷ []) hs e in
     subst (IsParted g) both.1 (last g (short g one both.0))
-parted_so ts gs hs (cut g us y ks one is_y split) e = elim (cases_Bool (nat_lt 0 (length g) && nat_le (length g) 24)) [
-  | inl is ↦ behind is (short_groups ks) refl (rw is at e) (λ js. parted_so us ks js split)
-  | inr not ↦ absurd (let none : None ≡ Some hs = rw not at e in cc)
-]
-  where
-    behind : (nat_lt 0 (length g) && nat_le (length g) 24) ≡ true → (o : Option (List (List Token))) → short_groups ks ≡ o → option_map (λ js. g ∷ js) o ≡ Some hs
-        → ((js : List (List Token)) → short_groups ks ≡ Some js → IsParted us js) → IsParted (g ++ (y ∷ us)) hs
-    behind is None none e more = absurd cc
-    behind is (Some js) some e more =
-        let same : g ∷ js ≡ hs = cc in
-        subst (λ t. IsParted (g ++ (t ∷ us)) hs) (sym (or_word y is_y)) (subst (IsParted (g ++ (bare (codes "or") ∷ us))) same (other g us js (short g one is) (more js some)))
+parted_so ts gs hs (cut g us y ks one is_y split) e =
+    let (is, some) = cond_given (nat_lt 0 (length g) && nat_le (length g) 24) (option_map (λ js. g ∷ js) (short_groups ks)) hs e in
+    let (js, are, same) = map_some (λ js. g ∷ js) (short_groups ks) hs some in
+    subst (λ t. IsParted (g ++ (t ∷ us)) hs) (sym (or_word y is_y))
+    (subst (IsParted (g ++ (bare (codes "or") ∷ us))) same (other g us js (short g one is) (parted_so us ks js split are)))
 
 pub is_parted : (ts : List Token) (gs : List (List Token)) → short_groups (slice_split is_or ts) ≡ Some gs → IsParted ts gs
 is_parted ts gs e = parted_so ts (slice_split is_or ts) gs (is_split is_or ts) e
@@ -77,18 +70,7 @@ one_token (quoted s) (quoted w) is = ap quoted ((bytes_eq-Decides s w).0 is)
 one_token (set s) (set w) is = ap set ((bytes_eq-Decides s w).0 is)
 one_token (mark x) (mark y) is = ap mark (eqb-true x y is)
 one_token (bare s) (bare w) is = ap bare ((bytes_eq-Decides s w).0 is)
-one_token (quoted s) (set w) is = absurd cc
-one_token (quoted s) (mark y) is = absurd cc
-one_token (quoted s) (bare w) is = absurd cc
-one_token (set s) (quoted w) is = absurd cc
-one_token (set s) (mark y) is = absurd cc
-one_token (set s) (bare w) is = absurd cc
-one_token (mark x) (quoted w) is = absurd cc
-one_token (mark x) (set w) is = absurd cc
-one_token (mark x) (bare w) is = absurd cc
-one_token (bare s) (quoted w) is = absurd cc
-one_token (bare s) (set w) is = absurd cc
-one_token (bare s) (mark y) is = absurd cc
+one_token t n is = absurd cc
 
 begun : (ts ns : List Token) → begins_by ts ns ≡ true → ts ≡ ns ++ drop (length ns) ts
 begun ts [] is = refl
@@ -103,19 +85,16 @@ pub record Named (ns : List (List Token × Takes)) (ts : List Token) (takes : Ta
   pub listed : IsNameIn ns takes name
   pub whole : ts ≡ name ++ rest
 
-pair_same : (s r : Takes) (us rest : List Token) → ◌≡◌ {A = Option (Takes × List Token)} (Some (s, us)) (Some (r, rest)) → (s ≡ r) × (us ≡ rest)
-pair_same s r us rest e = (ap (λ (n : Takes × List Token). n.0) (ap kept e), ap (λ (n : Takes × List Token). n.1) (ap kept e))
-  where
-    kept : Option (Takes × List Token) → Takes × List Token
-    kept None = (s, us)
-    kept (Some n) = n
-
 pub named_by : (ns : List (List Token × Takes)) (ts : List Token) (takes : Takes) (rest : List Token) → named_in ns ts ≡ Some (takes, rest) → Named ns ts takes rest
 named_by [] ts takes rest e = absurd cc
 named_by ((name, s) ∷ others) ts takes rest e = elim (cases_Bool (begins_by ts name)) [
   | inl is ↦
-      let same = pair_same s takes (drop (length name) ts) rest (rw is at e) in
-      record { name = name; listed = inl (ap (λ k. (name, k)) same.0); whole = begun ts name is ∙ ap (λ us. name ++ us) same.1 }
+      let found : ◌≡◌ {A = Option (Takes × List Token)} (Some (s, drop (length name) ts)) (Some (takes, rest)) = rw is at e in
+      let same : (s, drop (length name) ts) ≡ (takes, rest) = cc in record {
+        name = name;
+        listed = inl (ap (λ (n : Takes × List Token). (name, n.0)) same);
+        whole = begun ts name is ∙ ap (λ (n : Takes × List Token). name ++ n.1) same;
+      }
   | inr absent ↦
       let later = named_by others ts takes rest (rw absent at e) in
       record { name = later.name; listed = inr later.listed; whole = later.whole }
@@ -139,8 +118,6 @@ all_apart [] = true
 all_apart (m ∷ ns) = list_all (are_apart m) ns && all_apart ns
 
 begins_other : (ts ns rest : List Token) → differ ts ns ≡ true → begins_by (ts ++ rest) ns ≡ false
-begins_other [] ns rest is = absurd cc
-begins_other (t ∷ ts) [] rest is = absurd cc
 begins_other (t ∷ ts) (n ∷ ns) rest is = elim (or_cases (not (same_token t n)) (differ ts ns) is) [
   | inl here ↦ rw (not_so (same_token t n) here) refl
   | inr later ↦ ap (λ b. same_token t n && b) (begins_other ts ns rest later) ∙ and-false (same_token t n)
@@ -149,6 +126,7 @@ begins_other (t ∷ ts) (n ∷ ns) rest is = elim (or_cases (not (same_token t n
     not_so : (b : Bool) → not b ≡ true → b ≡ false
     not_so true is = absurd cc
     not_so false is = refl
+begins_other ts ns rest is = absurd cc
 
 same_itself : (t : Token) → same_token t t ≡ true
 same_itself (quoted s) = (bytes_eq-Decides s s).1 refl
@@ -163,12 +141,7 @@ begins_itself (t ∷ ts) rest = let later = begins_itself ts rest in (rw (same_i
 -- what takes nothing has no token behind its name
 taken_none : (takes : Takes) (rest : List Token) (bs : List Alternative) → AsksFor takes rest bs → takes_none takes ≡ true → rest ≡ []
 taken_none (Nothing r) rest bs (a_relation _ _ s (nothing _)) is = refl
-taken_none Tag rest bs asks is = absurd cc
-taken_none Folder rest bs asks is = absurd cc
-taken_none Program rest bs asks is = absurd cc
-taken_none Entry rest bs asks is = absurd cc
-taken_none ClassId rest bs asks is = absurd cc
-taken_none Root rest bs asks is = absurd cc
+taken_none takes rest bs asks is = absurd cc
 
 -- tokens that begin by a relation's name, and go on with what it takes, name that one
 module _ (takes : Takes) (name rest : List Token) (bs : List Alternative) (asks : AsksFor takes rest bs) where
@@ -202,50 +175,26 @@ module _ (takes : Takes) (name rest : List Token) (bs : List Alternative) (asks 
 
 word_is : (w : List ℕ) (t : Token) → is_word w t ≡ true → t ≡ bare w
 word_is w (bare v) is = ap bare ((bytes_eq-Decides v w).0 is)
-word_is w (quoted v) is = absurd cc
-word_is w (set v) is = absurd cc
-word_is w (mark x) is = absurd cc
+word_is w t is = absurd cc
 
 alone_so : (r : relations.Relation) (ts : List Token) (a : Relation) → alone (relation_listed r) ts ≡ Some a → Asks (Nothing r) ts a
 alone_so r [] a e = let same : relation_listed r ≡ a = cc in subst (Asks (Nothing r) []) same (nothing r)
 alone_so r (t ∷ ts) a e = absurd cc
 
-tag_so : (w x y z : ℕ) (a : Relation) (high low : Option ℕ) → byte_with w x ≡ high → byte_with y z ≡ low
-    → (high >>= λ h. option_map (λ l. directory_tag (256 * h + l)) low) ≡ Some a → Asks Tag (bare (w ∷ x ∷ y ∷ z ∷ []) ∷ []) a
-tag_so w x y z a None low is-high is-low e = absurd cc
-tag_so w x y z a (Some h) None is-high is-low e = absurd cc
-tag_so w x y z a (Some h) (Some l) is-high is-low e =
-    let same : directory_tag (256 * h + l) ≡ a = cc in
-    subst (Asks Tag (bare (w ∷ x ∷ y ∷ z ∷ []) ∷ [])) same (a_tag w x y z h l is-high is-low)
-
 directory_so : (ts : List Token) (a : Relation) → directory_of ts ≡ Some a → Asks Tag ts a
-directory_so (bare (w ∷ x ∷ y ∷ z ∷ []) ∷ []) a e = tag_so w x y z a (byte_with w x) (byte_with y z) refl refl e
-directory_so [] a e = absurd cc
-directory_so (bare [] ∷ ts) a e = absurd cc
-directory_so (bare (w ∷ []) ∷ ts) a e = absurd cc
-directory_so (bare (w ∷ x ∷ []) ∷ ts) a e = absurd cc
-directory_so (bare (w ∷ x ∷ y ∷ []) ∷ ts) a e = absurd cc
-directory_so (bare (w ∷ x ∷ y ∷ z ∷ v ∷ vs) ∷ ts) a e = absurd cc
-directory_so (bare (w ∷ x ∷ y ∷ z ∷ []) ∷ t ∷ ts) a e = absurd cc
-directory_so (quoted v ∷ ts) a e = absurd cc
-directory_so (set v ∷ ts) a e = absurd cc
-directory_so (mark v ∷ ts) a e = absurd cc
+directory_so (bare (w ∷ x ∷ y ∷ z ∷ []) ∷ []) a e =
+    let (h, is-high, some) = bind_some (byte_with w x) _ a e in
+    let (l, is-low, same) = map_some (λ l. directory_tag (256 * h + l)) (byte_with y z) a some in
+    subst (Asks Tag (bare (w ∷ x ∷ y ∷ z ∷ []) ∷ [])) same (a_tag w x y z h l is-high is-low)
+directory_so ts a e = absurd cc
 
 folder_so : (ts : List Token) (a : Relation) → package_of ts ≡ Some a → Asks Folder ts a
 folder_so (quoted t ∷ []) a e = let same : package_with t ≡ a = cc in subst (Asks Folder (quoted t ∷ [])) same (a_folder t)
-folder_so [] a e = absurd cc
-folder_so (quoted t ∷ u ∷ ts) a e = absurd cc
-folder_so (set v ∷ ts) a e = absurd cc
-folder_so (mark v ∷ ts) a e = absurd cc
-folder_so (bare v ∷ ts) a e = absurd cc
+folder_so ts a e = absurd cc
 
 program_so : (ts : List Token) (a : Relation) → program_of ts ≡ Some a → Asks Program ts a
 program_so (bare w ∷ []) a e = let same : program w ≡ a = cc in subst (Asks Program (bare w ∷ [])) same (a_program w)
-program_so [] a e = absurd cc
-program_so (bare w ∷ t ∷ ts) a e = absurd cc
-program_so (quoted v ∷ ts) a e = absurd cc
-program_so (set v ∷ ts) a e = absurd cc
-program_so (mark v ∷ ts) a e = absurd cc
+program_so ts a e = absurd cc
 
 either_so : (o p : Option Relation) (a : Relation) → or_else o p ≡ Some a → (o ≡ Some a) ⊎ (p ≡ Some a)
 either_so None p a e = inr e
@@ -255,12 +204,7 @@ name_so : (ts : List Token) (a : Relation) → named_entry ts ≡ Some a → Ask
 name_so (t ∷ quoted s ∷ []) a e =
     let both = cond_some (is_word (codes "is") t) (first_entry_is s) a e in
     subst (λ u. Asks Entry (u ∷ quoted s ∷ []) a) (sym (word_is (codes "is") t both.0)) (subst (Asks Entry (bare (codes "is") ∷ quoted s ∷ [])) both.1 (a_name s))
-name_so [] a e = absurd cc
-name_so (t ∷ []) a e = absurd cc
-name_so (t ∷ quoted s ∷ u ∷ ts) a e = absurd cc
-name_so (t ∷ set s ∷ ts) a e = absurd cc
-name_so (t ∷ mark s ∷ ts) a e = absurd cc
-name_so (t ∷ bare s ∷ ts) a e = absurd cc
+name_so ts a e = absurd cc
 
 end_so : (ts : List Token) (a : Relation) → ending_entry ts ≡ Some a → Asks Entry ts a
 end_so (t ∷ u ∷ quoted s ∷ []) a e =
@@ -269,46 +213,22 @@ end_so (t ∷ u ∷ quoted s ∷ []) a e =
     subst (λ v. Asks Entry (v ∷ u ∷ quoted s ∷ []) a) (sym (word_is (codes "ends") t words.0))
     (subst (λ v. Asks Entry (bare (codes "ends") ∷ v ∷ quoted s ∷ []) a) (sym (word_is (codes "in") u words.1))
     (subst (Asks Entry (bare (codes "ends") ∷ bare (codes "in") ∷ quoted s ∷ [])) both.1 (an_end s)))
-end_so [] a e = absurd cc
-end_so (t ∷ []) a e = absurd cc
-end_so (t ∷ u ∷ []) a e = absurd cc
-end_so (t ∷ u ∷ quoted s ∷ v ∷ ts) a e = absurd cc
-end_so (t ∷ u ∷ set s ∷ ts) a e = absurd cc
-end_so (t ∷ u ∷ mark s ∷ ts) a e = absurd cc
-end_so (t ∷ u ∷ bare s ∷ ts) a e = absurd cc
+end_so ts a e = absurd cc
 
-abbrev Extra : List Token → Relation → Type 0
-Extra id a = Asks Entry (bare (codes "has") ∷ bare (codes "extra") ∷ id) a
-
-bytes_so : (v w : List ℕ) (a : Relation) (high low : Option ℕ) → byte_of v ≡ high → byte_of w ≡ low
-    → (high >>= λ x. option_map (λ y. first_entry_has_extra (x ∷ y ∷ [])) low) ≡ Some a → Extra (bare v ∷ bare w ∷ []) a
-bytes_so v w a None low is-high is-low e = absurd cc
-bytes_so v w a (Some x) None is-high is-low e = absurd cc
-bytes_so v w a (Some x) (Some y) is-high is-low e =
-    let same : first_entry_has_extra (x ∷ y ∷ []) ≡ a = cc in subst (Extra (bare v ∷ bare w ∷ [])) same (an_extra v w x y is-high is-low)
-
-field_so : (id : List Token) (a : Relation) → extra_field id ≡ Some a → Extra id a
-field_so (bare v ∷ bare w ∷ []) a e = bytes_so v w a (byte_of v) (byte_of w) refl refl e
-field_so [] a e = absurd cc
-field_so (quoted v ∷ ts) a e = absurd cc
-field_so (set v ∷ ts) a e = absurd cc
-field_so (mark v ∷ ts) a e = absurd cc
-field_so (bare v ∷ []) a e = absurd cc
-field_so (bare v ∷ quoted w ∷ ts) a e = absurd cc
-field_so (bare v ∷ set w ∷ ts) a e = absurd cc
-field_so (bare v ∷ mark w ∷ ts) a e = absurd cc
-field_so (bare v ∷ bare w ∷ t ∷ ts) a e = absurd cc
+field_so : (id : List Token) (a : Relation) → extra_field id ≡ Some a → Asks Entry (bare (codes "has") ∷ bare (codes "extra") ∷ id) a
+field_so (bare v ∷ bare w ∷ []) a e =
+    let (x, is-high, some) = bind_some (byte_of v) _ a e in
+    let (y, is-low, same) = map_some (λ y. first_entry_has_extra (x ∷ y ∷ [])) (byte_of w) a some in
+    subst (Asks Entry (bare (codes "has") ∷ bare (codes "extra") ∷ bare v ∷ bare w ∷ [])) same (an_extra v w x y is-high is-low)
+field_so id a e = absurd cc
 
 extra_so : (ts : List Token) (a : Relation) → marked_entry ts ≡ Some a → Asks Entry ts a
-extra_so [] a e = absurd cc
-extra_so (t ∷ []) a e = absurd cc
-extra_so (t ∷ u ∷ id) a e = elim (cases_Bool (is_word (codes "has") t && is_word (codes "extra") u)) [
-  | inl is ↦
-      let words = both_true (is_word (codes "has") t) (is_word (codes "extra") u) is in
-      subst (λ v. Asks Entry (v ∷ u ∷ id) a) (sym (word_is (codes "has") t words.0))
-      (subst (λ v. Asks Entry (bare (codes "has") ∷ v ∷ id) a) (sym (word_is (codes "extra") u words.1)) (field_so id a (rw is at e)))
-  | inr not ↦ absurd (let none : None ≡ Some a = rw not at e in cc)
-]
+extra_so (t ∷ u ∷ id) a e =
+    let (is, some) = cond_given (is_word (codes "has") t && is_word (codes "extra") u) (extra_field id) a e in
+    let words = both_true (is_word (codes "has") t) (is_word (codes "extra") u) is in
+    subst (λ v. Asks Entry (v ∷ u ∷ id) a) (sym (word_is (codes "has") t words.0))
+    (subst (λ v. Asks Entry (bare (codes "has") ∷ v ∷ id) a) (sym (word_is (codes "extra") u words.1)) (field_so id a some))
+extra_so ts a e = absurd cc
 
 entry_so : (ts : List Token) (a : Relation) → entry_of ts ≡ Some a → Asks Entry ts a
 entry_so ts a e = elim (either_so (named_entry ts) (or_else (ending_entry ts) (marked_entry ts)) a e) [
@@ -327,19 +247,12 @@ record Words (ts : List Token) (xs : List ℕ) : Type 0 where
 
 words_so : (ts : List Token) (xs : List ℕ) → bytes_in ts ≡ Some xs → Words ts xs
 words_so [] xs e = let none : [] ≡ xs = cc in subst (Words []) none (record { words = []; same = refl; bytes = tt })
-words_so (quoted w ∷ ts) xs e = absurd cc
-words_so (set w ∷ ts) xs e = absurd cc
-words_so (mark w ∷ ts) xs e = absurd cc
-words_so (bare w ∷ ts) xs e = first (byte_of w) refl (bytes_in ts) refl e (words_so ts)
-  where
-    first : (o : Option ℕ) → byte_of w ≡ o → (p : Option (List ℕ)) → bytes_in ts ≡ p → (o >>= λ y. option_map (λ ys. y ∷ ys) p) ≡ Some xs
-        → ((ys : List ℕ) → bytes_in ts ≡ Some ys → Words ts ys) → Words (bare w ∷ ts) xs
-    first None is p are e more = absurd cc
-    first (Some y) is None are e more = absurd cc
-    first (Some y) is (Some ys) are e more =
-        let others = more ys are in
-        let same : y ∷ ys ≡ xs = cc in
-        subst (Words (bare w ∷ ts)) same (record { words = w ∷ others.words; same = ap (λ us. bare w ∷ us) others.same; bytes = (is, others.bytes) })
+words_so (bare w ∷ ts) xs e =
+    let (y, is, some) = bind_some (byte_of w) _ xs e in
+    let (ys, are, same) = map_some (λ ys. y ∷ ys) (bytes_in ts) xs some in
+    let others = words_so ts ys are in
+    subst (Words (bare w ∷ ts)) same (record { words = w ∷ others.words; same = ap (λ us. bare w ∷ us) others.same; bytes = (is, others.bytes) })
+words_so ts xs e = absurd cc
 
 so_words : (ws : List (List ℕ)) (xs : List ℕ) → AreBytes ws xs → bytes_in (map bare ws) ≡ Some xs
 so_words [] [] are = refl
@@ -348,33 +261,19 @@ so_words [] (x ∷ xs) are = absurd are
 so_words (w ∷ ws) [] are = absurd are
 
 id_so : (ts : List Token) (a : Relation) → id_of ts ≡ Some a → Asks ClassId ts a
-id_so ts a e = elim (cases_Bool (length ts == 16)) [
-  | inl is ↦ some (bytes_in ts) refl (rw is at e) (eqb-true (length ts) 16 is)
-  | inr not ↦ absurd (let none : None ≡ Some a = rw not at e in cc)
-]
-  where
-    some : (o : Option (List ℕ)) → bytes_in ts ≡ o → option_map class_id o ≡ Some a → length ts ≡ 16 → Asks ClassId ts a
-    some None is e long = absurd cc
-    some (Some xs) is e long =
-        let written = words_so ts xs is in
-        let same : class_id xs ≡ a = cc in
-        subst (λ us. Asks ClassId us a) (sym written.same) (subst (Asks ClassId (map bare written.words)) same
-        (an_id written.words xs (sym (length-map written.words bare) ∙ ap length (sym written.same) ∙ long) written.bytes))
+id_so ts a e =
+    let (long, some) = cond_given (length ts == 16) (option_map class_id (bytes_in ts)) a e in
+    let (xs, are, same) = map_some class_id (bytes_in ts) a some in
+    let written = words_so ts xs are in
+    let many = sym (length-map written.words bare) ∙ ap length (sym written.same) ∙ eqb-true (length ts) 16 long in
+    subst (λ us. Asks ClassId us a) (sym written.same) (subst (Asks ClassId (map bare written.words)) same (an_id written.words xs many written.bytes))
 
 root_so : (ts : List Token) (a : Relation) → root_of ts ≡ Some a → Asks Root ts a
 root_so (bare n ∷ []) a e = let same : root n ≡ a = cc in subst (Asks Root (bare n ∷ [])) same (an_element n)
 root_so (bare n ∷ t ∷ quoted s ∷ []) a e =
     let both = cond_some (is_word (codes "with") t) (root_with n s) a e in
     subst (λ u. Asks Root (bare n ∷ u ∷ quoted s ∷ []) a) (sym (word_is (codes "with") t both.0)) (subst (Asks Root (bare n ∷ bare (codes "with") ∷ quoted s ∷ [])) both.1 (a_text_within n s))
-root_so [] a e = absurd cc
-root_so (quoted n ∷ ts) a e = absurd cc
-root_so (set n ∷ ts) a e = absurd cc
-root_so (mark n ∷ ts) a e = absurd cc
-root_so (bare n ∷ t ∷ []) a e = absurd cc
-root_so (bare n ∷ t ∷ quoted s ∷ u ∷ ts) a e = absurd cc
-root_so (bare n ∷ t ∷ set s ∷ ts) a e = absurd cc
-root_so (bare n ∷ t ∷ mark s ∷ ts) a e = absurd cc
-root_so (bare n ∷ t ∷ bare s ∷ ts) a e = absurd cc
+root_so ts a e = absurd cc
 
 asked_so : (takes : Takes) (ts : List Token) (a : Relation) → item_of takes ts ≡ Some a → Asks takes ts a
 asked_so (Nothing r) ts a e = alone_so r ts a e
@@ -413,18 +312,11 @@ record Programs (ts : List Token) (bs : List Alternative) : Type 0 where
 
 words_named : (ts : List Token) (bs : List Alternative) → each_of Program ts ≡ Some bs → Programs ts bs
 words_named [] bs e = record { words = []; same = refl; are = (let none : [] ≡ bs = cc in sym none) }
-words_named (quoted w ∷ ts) bs e = absurd cc
-words_named (set w ∷ ts) bs e = absurd cc
-words_named (mark w ∷ ts) bs e = absurd cc
-words_named (bare w ∷ ts) bs e = more (each_of Program ts) refl e (words_named ts)
-  where
-    more : (o : Option (List Alternative)) → each_of Program ts ≡ o → option_map (λ others. program_by w ∷ others) o ≡ Some bs
-        → ((others : List Alternative) → each_of Program ts ≡ Some others → Programs ts others) → Programs (bare w ∷ ts) bs
-    more None none e rest = absurd cc
-    more (Some others) is e rest =
-        let later = rest others is in
-        let same : program_by w ∷ others ≡ bs = cc in
-        record { words = w ∷ later.words; same = ap (λ us. bare w ∷ us) later.same; are = sym same ∙ ap (λ us. program_by w ∷ us) later.are }
+words_named (bare w ∷ ts) bs e =
+    let (others, is, same) = map_some (λ others. program_by w ∷ others) (each_of Program ts) bs e in
+    let later = words_named ts others is in
+    record { words = w ∷ later.words; same = ap (λ us. bare w ∷ us) later.same; are = sym same ∙ ap (λ us. program_by w ∷ us) later.are }
+words_named ts bs e = absurd cc
 
 programs_so : (ts : List Token) (bs : List Alternative) → programs_of ts ≡ Some bs → AsksFor Program ts bs
 programs_so [] bs e = absurd cc
@@ -435,11 +327,9 @@ programs_so (t ∷ ts) bs e = let are = words_named (t ∷ ts) bs e in by are.wo
     by (w ∷ ws) same are = subst (λ us. AsksFor Program us bs) (sym same) (subst (AsksFor Program (map bare (w ∷ ws))) (sym are) (programs w ws))
 
 one_so : (takes : Takes) (ts : List Token) (bs : List Alternative) → option_map (λ r. related r ∷ []) (item_of takes ts) ≡ Some bs → AsksFor takes ts bs
-one_so takes ts bs e = item (item_of takes ts) refl e
-  where
-    item : (o : Option Relation) → item_of takes ts ≡ o → option_map (λ r. related r ∷ []) o ≡ Some bs → AsksFor takes ts bs
-    item None none e = absurd cc
-    item (Some r) is e = let same : related r ∷ [] ≡ bs = cc in subst (AsksFor takes ts) same (a_relation takes ts r (asked_so takes ts r is))
+one_so takes ts bs e =
+    let (r, is, same) = map_some (λ r. related r ∷ []) (item_of takes ts) bs e in
+    subst (AsksFor takes ts) same (a_relation takes ts r (asked_so takes ts r is))
 
 asked_for : (takes : Takes) (ts : List Token) (bs : List Alternative) → items_of takes ts ≡ Some bs → AsksFor takes ts bs
 asked_for (Nothing r) ts bs e = one_so (Nothing r) ts bs e
@@ -456,13 +346,10 @@ asks_for takes ts bs (programs w ws) = words_read (w ∷ ws)
 
 pub asked_each : (takes : Takes) (gs : List (List Token)) (bs : List Alternative) → items_in takes gs ≡ Some bs → AsksEach takes gs bs
 asked_each takes [] bs e = let none : [] ≡ bs = cc in sym none
-asked_each takes (g ∷ gs) bs e = first (items_of takes g) refl (items_in takes gs) refl e (asked_each takes gs)
-  where
-    first : (o : Option (List Alternative)) → items_of takes g ≡ o → (p : Option (List Alternative)) → items_in takes gs ≡ p → (o >>= λ firsts. option_map (λ others. firsts ++ others) p) ≡ Some bs
-        → ((others : List Alternative) → items_in takes gs ≡ Some others → AsksEach takes gs others) → AsksEach takes (g ∷ gs) bs
-    first None is p are e more = absurd cc
-    first (Some firsts) is None are e more = absurd cc
-    first (Some firsts) is (Some others) are e more = let same : firsts ++ others ≡ bs = cc in (firsts, others, asked_for takes g firsts is, more others are, sym same)
+asked_each takes (g ∷ gs) bs e =
+    let (firsts, is, some) = bind_some (items_of takes g) _ bs e in
+    let (others, are, same) = map_some (λ others. firsts ++ others) (items_in takes gs) bs some in
+    (firsts, others, asked_for takes g firsts is, asked_each takes gs others are, sym same)
 
 pub asks_each : (takes : Takes) (gs : List (List Token)) (bs : List Alternative) → AsksEach takes gs bs → items_in takes gs ≡ Some bs
 asks_each takes [] bs each = ap (λ cs. Some cs) (sym each)
@@ -470,30 +357,27 @@ asks_each takes (g ∷ gs) bs (firsts, others, asks, each, same) = rw (asks_for 
 
 -- ---- a text
 
-relation_so : (text : List ℕ) (bs : List Alternative) (o : Option (List Token)) → tokens_of text ≡ o → (o >>= λ ts. short_groups (slice_split is_or ts)) >>= relations_in ≡ Some bs → NamesRelation text bs
-relation_so text bs None none e = absurd cc
-relation_so text bs (Some ts) is e = groups (short_groups (slice_split is_or ts)) refl e
+relation_so : (text : List ℕ) (bs : List Alternative) → relations_of text ≡ Some bs → NamesRelation text bs
+relation_so text bs e =
+    let (gs, parted, asks) = bind_some (tokens_of text >>= λ ts. short_groups (slice_split is_or ts)) relations_in bs e in
+    let (ts, is, are) = bind_some (tokens_of text) (λ ts. short_groups (slice_split is_or ts)) gs parted in
+    told ts gs is are asks
   where
-    told : (g : List Token) (gs : List (List Token)) → short_groups (slice_split is_or ts) ≡ Some (g ∷ gs) → (o : Option (Takes × List Token)) → named_in names g ≡ o
-        → (o >>= λ n. items_in n.0 (n.1 ∷ gs)) ≡ Some bs → NamesRelation text bs
-    told g gs parted None none e = absurd cc
-    told g gs parted (Some (takes, rest)) named e =
-        let by = named_by names g takes rest named in record {
+    told : (ts : List Token) (gs : List (List Token)) → tokens_of text ≡ Some ts → short_groups (slice_split is_or ts) ≡ Some gs → relations_in gs ≡ Some bs → NamesRelation text bs
+    told ts [] is are e = absurd cc
+    told ts (g ∷ gs) is are e =
+        let (n, named, asks) = bind_some (named_in names g) (λ n. items_in n.0 (n.1 ∷ gs)) bs e in
+        let by = named_by names g n.0 n.1 named in record {
           tokens = ts;
           made = is_made text ts is;
-          takes = takes;
+          takes = n.0;
           name = by.name;
           named = by.listed;
-          first = rest;
+          first = n.1;
           others = gs;
-          parted = subst (λ h. IsParted ts (h ∷ gs)) by.whole (is_parted ts (g ∷ gs) parted);
-          asks = asked_each takes (rest ∷ gs) bs e;
+          parted = subst (λ h. IsParted ts (h ∷ gs)) by.whole (is_parted ts (g ∷ gs) are);
+          asks = asked_each n.0 (n.1 ∷ gs) bs asks;
         }
-
-    groups : (o : Option (List (List Token))) → short_groups (slice_split is_or ts) ≡ o → o >>= relations_in ≡ Some bs → NamesRelation text bs
-    groups None none e = absurd cc
-    groups (Some []) are e = absurd cc
-    groups (Some (g ∷ gs)) are e = told g gs are (named_in names g) refl e
 
 so_relation : (text : List ℕ) (bs : List Alternative) → NamesRelation text bs → relations_of text ≡ Some bs
 so_relation text bs is =
@@ -530,10 +414,7 @@ digit_alone x is =
 
 number_first : (w rest : List ℕ) (n : ℕ) → number_of w ≡ Some n → begins_relation (w ++ rest) ≡ false
 number_first [] rest n e = absurd cc
-number_first (x ∷ xs) rest n e = elim (cases_Bool (is_digit x)) [
-  | inl is ↦ digit_alone x is
-  | inr not ↦ absurd (let none : None ≡ Some n = rw not at e in cc)
-]
+number_first (x ∷ xs) rest n e = digit_alone x (cond_given (is_digit x) _ n e).0
 
 fixed_first : (text : List ℕ) (ts : List Token) (r : Rest) → IsMadeOf text ts → Derives signature ts r → begins_relation (behind_blanks text) ≡ false
 fixed_first text ts r made (opened w n us s is derived) =
@@ -546,14 +427,10 @@ opens_letter n = false
 
 module _ (text : List ℕ) (us : List Token) (takes : Takes) where
   letter_here : (name : List Token) → IsMadeOf text (name ++ us) → opens_letter (name, takes) ≡ true → begins_relation (behind_blanks text) ≡ true
-  letter_here (bare [] ∷ vs) made is = absurd cc
   letter_here (bare (x ∷ w) ∷ vs) made is =
       let (rest, same, some) = first_word text (bare (x ∷ w) ∷ (vs ++ us)) (x ∷ w) (vs ++ us) made refl in
       ap begins_relation same ∙ is
-  letter_here [] made is = absurd cc
-  letter_here (quoted v ∷ vs) made is = absurd cc
-  letter_here (set v ∷ vs) made is = absurd cc
-  letter_here (mark v ∷ vs) made is = absurd cc
+  letter_here name made is = absurd cc
 
   letter_in : (ns : List (List Token × Takes)) (name : List Token) → list_all opens_letter ns ≡ true → IsNameIn ns takes name → opens_letter (name, takes) ≡ true
   letter_in (n ∷ ns) name all (inl e) = subst (λ k. opens_letter k ≡ true) e (both_true (opens_letter n) _ all).0
@@ -570,15 +447,12 @@ tokens_whole ts g gs (other _ us _ group parted) = (bare (codes "or") ∷ us, re
 pub is_described : (text : List ℕ) (bs : List Alternative) → signature_of text ≡ Some bs → Describes text bs
 unfolding signature_of
 is_described text bs e = elim (cases_Bool (begins_relation (behind_blanks text))) [
-  | inl is ↦ inr (relation_so text bs (tokens_of text) refl (rw is at e))
-  | inr not ↦ inl (bytes (alternatives_of text) refl (rw not at e))
+  | inl is ↦ inr (relation_so text bs (rw is at e))
+  | inr not ↦
+      let (ys, are, same) = map_some (map described) (alternatives_of text) bs (rw not at e) in
+      let (ts, made, derived) = is_derived text ys are in
+      inl (record { tokens = ts; made = is_made text ts made; asked = ys; derived = derived; same = sym same })
 ]
-  where
-    bytes : (o : Option (List Asked)) → alternatives_of text ≡ o → option_map (map described) o ≡ Some bs → AsksBytes text bs
-    bytes None none e = absurd cc
-    bytes (Some ys) is e =
-        let (ts, made, derived) = is_derived text ys is in
-        record { tokens = ts; made = is_made text ts made; asked = ys; derived = derived; same = (let same : map described ys ≡ bs = cc in sym same) }
 
 pub is_signature : (text : List ℕ) (bs : List Alternative) → Describes text bs → signature_of text ≡ Some bs
 unfolding signature_of

@@ -12,7 +12,9 @@ use Rattle.infer_notation.specs.declared.leads.Known as kinds
 use Rattle.infer_notation.specs.declared.leads.Known.TheVariants as known
 use Rattle.infer_notation.specs.declared.leads.Lead.{Lead}
 use Rattle.infer_notation.specs.declared.leads.Reading.{Reading}
+use Rattle.std.proofs.lemmas.Option.{cond_some}
 use Rattle.infer_notation.proofs.FixedLemmas.{first_at}
+use Rattle.infer_notation.proofs.OptionLemmas.{bind_some, cond_given, map_some}
 use Rattle.infer_notation.proofs.HexLemmas.{same_test}
 use Rattle.infer_notation.proofs.SeenLemmas.{seen_fixed}
 use Rattle.infer_notation.proofs.SignatureLemmas.{cursor_taken, ended_is, given_blanks, given_ended, given_next, given_start, step_was}
@@ -65,20 +67,18 @@ text_leads b place x xs h = first_at (any_of (x ∷ x ∷ x ∷ x ∷ [])) place
     on_front [] h = absurd (false≢true h)
     on_front (y ∷ ys) h = ap (λ t. t || list_any (λ z. y == z) (x ∷ x ∷ x ∷ [])) (same_test y x ∙ (and_parts (x == y) (starts_with nat_eq ys xs) h).0)
 
--- the effect of a step
-effect_of : (c d : Cursor) (f e : Effect) → ◌≡◌ {A = Option (Cursor × Effect)} (Some (c, f)) (Some (d, e)) → f ≡ e
-effect_of c d f e h = let same : (c, f) ≡ (d, e) = cc in ap (λ (p : Cursor × Effect). p.1) same
-
-no_part : (c d : Cursor) (e : Effect) (b : List ℕ) → ◌≡◌ {A = Option (Cursor × Effect)} (Some (c, nothing)) (Some (d, e)) → effect_seen b e ≡ Has true → ⊥
-no_part c d e b h seen = let has : Nothing ≡ Has true = ap (effect_seen b) (effect_of c d nothing e h) ∙ seen in absurd cc
-
 -- what is within the least length is the part
 pub within_has : (least place size : ℕ) (p : Part) (d : Cursor) (e : Effect) (b : List ℕ) → within least place size p ≡ Some (d, e) → effect_seen b e ≡ Has true → IsTrue (has_part b p)
-within_has least place size p d e b is seen = chosen (nat_le (place + size) least) is
-  where
-    chosen : (t : Bool) → cond {A = Option (Cursor × Effect)} t (Some (fixed.cursor More least (place + size), part p)) None ≡ Some (d, e) → IsTrue (has_part b p)
-    chosen true is = let has : Has (has_part b p) ≡ Has true = ap (effect_seen b) (effect_of (fixed.cursor More least (place + size)) d (part p) e is) ∙ seen in cc
-    chosen false is = absurd cc
+within_has least place size p d e b is seen =
+    let (fits, same) = cond_some (nat_le (place + size) least) (fixed.cursor More least (place + size), part p) (d, e) is in
+    let has : Has (has_part b p) ≡ Has true = ap (λ (x : Cursor × Effect). effect_seen b x.1) same ∙ seen in cc
+
+-- what adds nothing has no part
+no_part : (t : Bool) (c d : Cursor) (e : Effect) (b : List ℕ) (o : Option (Cursor × Effect)) → cond t (Some (c, nothing)) o ≡ Some (d, e) → effect_seen b e ≡ Has true → o ≡ Some (d, e)
+no_part true c d e b o is seen =
+    let same : (c, nothing) ≡ (d, e) = cc in
+    absurd (let has : Nothing ≡ Has true = ap (λ (x : Cursor × Effect). effect_seen b x.1) same ∙ seen in cc)
+no_part false c d e b o is seen = is
 
 -- a lead that says what is known of a part
 pub led_by : (o : Option Lead) (p : Part) (b : List ℕ) → IfSome o (λ l. lead_part l ≡ p) → IsTrue (has_part b p) → IsLed o b
@@ -98,11 +98,6 @@ all_added : (bytes others one two three four : List ℕ) → length others ≡ 4
     → ((x : ℕ) → IsTrue (allows (any_of two) x || x == get_or others 2 0) → IsTrue (allows (any_of three) x))
     → ((x : ℕ) → IsTrue (allows (any_of three) x || x == get_or others 3 0) → IsTrue (allows (any_of four) x))
     → (x : ℕ) → IsTrue (allows (any_of bytes) x || allows (any_of others) x) → IsTrue (allows (any_of four) x)
-all_added bytes [] one two three four len f g h i = absurd (omega arith)
-all_added bytes (a ∷ []) one two three four len f g h i = absurd (omega arith)
-all_added bytes (a ∷ b ∷ []) one two three four len f g h i = absurd (omega arith)
-all_added bytes (a ∷ b ∷ c ∷ []) one two three four len f g h i = absurd (omega arith)
-all_added bytes (a ∷ b ∷ c ∷ d ∷ e ∷ more) one two three four len f g h i = absurd (omega arith)
 all_added bytes (a ∷ b ∷ c ∷ d ∷ []) one two three four len f g h i = λ x e.
     let f' = f x in
     let g' = g x in
@@ -118,6 +113,7 @@ all_added bytes (a ∷ b ∷ c ∷ d ∷ []) one two three four len f g h i = λ
     joined false false false true d one two three four f g h i e = i (or_left _ _ (h (or_true two true refl)))
     joined false false false false true one two three four f g h i e = i (or_true three true refl)
     joined false false false false false one two three four f g h i e = absurd (false≢true e)
+all_added bytes others one two three four len f g h i = absurd (omega arith)
 
 pub all_last : (bytes others one two three : List ℕ) (o : Option (List ℕ)) → length others ≡ 4
     → ((x : ℕ) → IsTrue (allows (any_of bytes) x || x == get_or others 0 0) → IsTrue (allows (any_of one) x))
@@ -150,59 +146,40 @@ quoted_has least place xs d e b is seen = within_has least place (length xs) (te
 pub more_piece : (least place : ℕ) (t : Token) (d : Cursor) (e : Effect) (b : List ℕ) → more_read least place t ≡ Some (d, e) → effect_seen b e ≡ Has true → piece least place t ≡ Some (d, e)
 more_piece least place (quoted xs) d e b is seen = is
 more_piece least place (set xs) d e b is seen = is
-more_piece least place (mark m) d e b is seen = chosen (m == 0x2C) is
-  where
-    chosen : (t : Bool) → cond {A = Option (Cursor × Effect)} t (Some (fixed.cursor At least place, nothing)) None ≡ Some (d, e) → ◌≡◌ {A = Option (Cursor × Effect)} None (Some (d, e))
-    chosen true is = absurd (no_part (fixed.cursor At least place) d e b is seen)
-    chosen false is = is
-more_piece least place (bare w) d e b is seen = chosen (bytes_eq w (codes "or")) (bytes_eq w (codes "and")) is
-  where
-    chosen : (t u : Bool) → cond {A = Option (Cursor × Effect)} t (Some (fixed.cursor Length 0 0, nothing)) (cond {A = Option (Cursor × Effect)} u (Some (fixed.cursor Binary least place, nothing)) (piece least place (bare w))) ≡ Some (d, e)
-        → piece least place (bare w) ≡ Some (d, e)
-    chosen true u is = absurd (no_part (fixed.cursor Length 0 0) d e b is seen)
-    chosen false true is = absurd (no_part (fixed.cursor Binary least place) d e b is seen)
-    chosen false false is = is
+more_piece least place (mark m) d e b is seen = no_part (m == 0x2C) (fixed.cursor At least place) d e b None is seen
+more_piece least place (bare w) d e b is seen =
+    no_part (bytes_eq w (codes "and")) (fixed.cursor Binary least place) d e b (piece least place (bare w))
+    (no_part (bytes_eq w (codes "or")) (fixed.cursor Length 0 0) d e b _ is seen) seen
 
 -- a bare word that asks for a part
 pub word_piece : (least place : ℕ) (w : List ℕ) (d : Cursor) (e : Effect) (b : List ℕ) → piece least place (bare w) ≡ Some (d, e) → effect_seen b e ≡ Has true
     → word_part least place w (range_of w) ≡ Some (d, e)
-word_piece least place w d e b is seen = chosen (bytes_eq w (codes "not")) is
-  where
-    chosen : (t : Bool) → cond {A = Option (Cursor × Effect)} t (Some (fixed.cursor Byte least place, nothing)) (word_part least place w (range_of w)) ≡ Some (d, e) → word_part least place w (range_of w) ≡ Some (d, e)
-    chosen true is = absurd (no_part (fixed.cursor Byte least place) d e b is seen)
-    chosen false is = is
+word_piece least place w d e b is seen = no_part (bytes_eq w (codes "not")) (fixed.cursor Byte least place) d e b _ is seen
 
 -- one of a range
 pub range_leads : (least place low high : ℕ) (w : List ℕ) (d : Cursor) (e : Effect) (b : List ℕ) → word_part least place w (range_of w) ≡ Some (d, e) → range_of w ≡ Some (low, high)
     → effect_seen b e ≡ Has true → IsTrue (has_part b (byte place (between low high)))
-range_leads least place low high w d e b is range seen = chosen (nat_le low high) (sym (ap (word_part least place w) range) ∙ is)
-  where
-    chosen : (t : Bool) → cond t (within least place 1 (byte place (between low high))) None ≡ Some (d, e) → IsTrue (has_part b (byte place (between low high)))
-    chosen true is = within_has least place 1 (byte place (between low high)) d e b is seen
-    chosen false is = absurd cc
+range_leads least place low high w d e b is range seen =
+    within_has least place 1 (byte place (between low high)) d e b (cond_given (nat_le low high) _ (d, e) (sym (ap (word_part least place w) range) ∙ is)).1 seen
 
 -- bytes, of which the first is known
 pub bytes_lead : (least place x : ℕ) (w : List ℕ) (d : Cursor) (e : Effect) (b : List ℕ) → word_part least place w (range_of w) ≡ Some (d, e) → range_of w ≡ None
     → ((xs : List ℕ) → bytes_of w ≡ Some xs → (more : List ℕ) × (xs ≡ x ∷ more)) → effect_seen b e ≡ Has true → IsTrue (has_part b (byte place (any_of (x ∷ x ∷ x ∷ x ∷ []))))
-bytes_lead least place x w d e b is range first seen = on_bytes (bytes_of w) refl (sym (ap (word_part least place w) range) ∙ is)
-  where
-    on_bytes : (o : Option (List ℕ)) → bytes_of w ≡ o → (o >>= λ xs. within least place (length xs) (text place xs)) ≡ Some (d, e) → IsTrue (has_part b (byte place (any_of (x ∷ x ∷ x ∷ x ∷ []))))
-    on_bytes None are is = absurd cc
-    on_bytes (Some xs) are is =
-        let front = first xs are in
-        text_leads b place x front.0 (subst (λ ys. IsTrue (has_part b (text place ys))) front.1 (within_has least place (length xs) (text place xs) d e b is seen))
+bytes_lead least place x w d e b is range first seen =
+    let (xs, are, some) = bind_some (bytes_of w) (λ xs. within least place (length xs) (text place xs)) (d, e) (sym (ap (word_part least place w) range) ∙ is) in
+    let front = first xs are in
+    text_leads b place x front.0 (subst (λ ys. IsTrue (has_part b (text place ys))) front.1 (within_has least place (length xs) (text place xs) d e b some seen))
+
+pub half_found : (x : ℕ) (xs ys : List ℕ) → is_blank x ≡ false → bytes_behind None (x ∷ ys) ≡ Some xs → bytes_behind (Some x) ys ≡ Some xs
+half_found x xs ys dark e = sym (let past : bytes_behind None (x ∷ ys) ≡ bytes_behind (Some x) ys = rw dark refl in past) ∙ e
 
 -- the first byte that a word writes
 pub first_written : (x y z : ℕ) (w : List ℕ) → is_blank x ≡ false → byte_with x y ≡ Some z → (xs : List ℕ) → bytes_of (x ∷ y ∷ w) ≡ Some xs → (more : List ℕ) × (xs ≡ z ∷ more)
-first_written x y z w dark is xs are = on_rest (bytes_behind None w) (subst (λ o. (o >>= λ b. option_map (λ bytes. b ∷ bytes) (bytes_behind None w)) ≡ Some xs) is (behind (is_blank x) dark are))
-  where
-    behind : (t : Bool) → t ≡ false → cond t (bytes_behind None (y ∷ w)) (bytes_behind (Some x) (y ∷ w)) ≡ Some xs → bytes_behind (Some x) (y ∷ w) ≡ Some xs
-    behind true e h = absurd (false≢true (sym e))
-    behind false e h = h
-
-    on_rest : (o : Option (List ℕ)) → option_map (λ bytes. z ∷ bytes) o ≡ Some xs → (more : List ℕ) × (xs ≡ z ∷ more)
-    on_rest None h = absurd cc
-    on_rest (Some more) h = (more, cc)
+first_written x y z w dark is xs are =
+    let past : bytes_behind (Some x) (y ∷ w) ≡ Some xs = half_found x xs (y ∷ w) dark are in
+    let (more, rest, same) = map_some (λ bytes. z ∷ bytes) (bytes_behind None w) xs
+    (subst (λ o. (o >>= λ b. option_map (λ bytes. b ∷ bytes) (bytes_behind None w)) ≡ Some xs) is past) in
+    (more, sym same)
 
 pub first_of : (w : List ℕ) (r : Option ℕ) → 2 ≤ length w → is_blank (get_or w 0 0) ≡ false → r ≡ byte_with (get_or w 0 0) (get_or w 1 0)
     → IfSome r (λ x. (bytes : List ℕ) → bytes_of w ≡ Some bytes → (more : List ℕ) × (bytes ≡ x ∷ more))
@@ -214,33 +191,26 @@ first_of (x ∷ y ∷ w) (Some z) some dark is = λ bytes are. first_written x y
 -- a set that is asked for, which has a byte
 pub set_has : (least place : ℕ) (digits : List ℕ) (d : Cursor) (e : Effect) (b : List ℕ) → piece least place (set digits) ≡ Some (d, e) → effect_seen b e ≡ Has true
     → (xs : List ℕ) × (bytes_of digits ≡ Some xs) × IsTrue (has_part b (byte place (any_of xs)))
-set_has least place digits d e b is seen = on_bytes (bytes_of digits) refl is
+set_has least place digits d e b is seen =
+    let (xs, are, some) = bind_some (bytes_of digits) (set_part least place) (d, e) is in (xs, are, part_of xs some)
   where
-    on_bytes : (o : Option (List ℕ)) → bytes_of digits ≡ o → (o >>= set_part least place) ≡ Some (d, e) → (xs : List ℕ) × (bytes_of digits ≡ Some xs) × IsTrue (has_part b (byte place (any_of xs)))
-    on_bytes None are is = absurd cc
-    on_bytes (Some []) are is = absurd cc
-    on_bytes (Some (x ∷ xs)) are is = (x ∷ xs, are, within_has least place 1 (byte place (any_of (x ∷ xs))) d e b is seen)
+    part_of : (xs : List ℕ) → set_part least place xs ≡ Some (d, e) → IsTrue (has_part b (byte place (any_of xs)))
+    part_of [] some = absurd cc
+    part_of (x ∷ xs) some = within_has least place 1 (byte place (any_of (x ∷ xs))) d e b some seen
 
 -- a byte that is written by two digits
 pub byte_found : (found : Option (List ℕ)) (x y b : ℕ) (more xs ys : List ℕ) → byte_with x y ≡ Some b → ((z : ℕ) → IsTrue (is_found found z || z == b) → IsTrue (allows (any_of more) z))
     → bytes_behind (Some x) (y ∷ ys) ≡ Some xs
     → (zs : List ℕ) × (bytes_behind None ys ≡ Some zs) × ((z : ℕ) → IsTrue (is_found found z || allows (any_of xs) z) → IsTrue (is_found (Some more) z || allows (any_of zs) z))
-byte_found found x y b more xs ys is all are = on_rest (bytes_behind None ys) refl (subst (λ o. (o >>= λ b. option_map (λ bytes. b ∷ bytes) (bytes_behind None ys)) ≡ Some xs) is are)
+byte_found found x y b more xs ys is all are =
+    let (zs, rest, same) = map_some (λ bytes. b ∷ bytes) (bytes_behind None ys) xs
+    (subst (λ o. (o >>= λ b. option_map (λ bytes. b ∷ bytes) (bytes_behind None ys)) ≡ Some xs) is are) in
+    (zs, rest, λ z e. joined (is_found found z) (z == b) (allows (any_of zs) z) (allows (any_of more) z) (all z) (subst (λ l. IsTrue (is_found found z || allows (any_of l) z)) (sym same) e))
   where
     joined : (p q r m : Bool) → ((p || q) ≡ true → m ≡ true) → (p || (q || r)) ≡ true → (m || r) ≡ true
     joined true q r m f e = or_left _ _ (f refl)
     joined false true r m f e = or_left _ _ (f refl)
     joined false false r m f e = or_true m r e
-
-    on_rest : (o : Option (List ℕ)) → bytes_behind None ys ≡ o → option_map (λ bytes. b ∷ bytes) o ≡ Some xs
-        → (zs : List ℕ) × (bytes_behind None ys ≡ Some zs) × ((z : ℕ) → IsTrue (is_found found z || allows (any_of xs) z) → IsTrue (is_found (Some more) z || allows (any_of zs) z))
-    on_rest None are is = absurd cc
-    on_rest (Some zs) are is =
-        let same : b ∷ zs ≡ xs = cc in
-        (zs, are, λ z e. joined (is_found found z) (z == b) (allows (any_of zs) z) (allows (any_of more) z) (all z) (subst (λ l. IsTrue (is_found found z || allows (any_of l) z)) (sym same) e))
-
-pub half_found : (x : ℕ) (xs ys : List ℕ) → is_blank x ≡ false → bytes_behind None (x ∷ ys) ≡ Some xs → bytes_behind (Some x) ys ≡ Some xs
-half_found x xs ys dark e = sym (let past : bytes_behind None (x ∷ ys) ≡ bytes_behind (Some x) ys = rw dark refl in past) ∙ e
 
 pub blank_found : (x : ℕ) (xs ys : List ℕ) → is_blank x ≡ true → bytes_behind None (x ∷ ys) ≡ Some xs → bytes_behind None ys ≡ Some xs
 blank_found x xs ys blank e = sym (let past : bytes_behind None (x ∷ ys) ≡ bytes_behind None ys = rw blank refl in past) ∙ e
@@ -313,19 +283,16 @@ has_true t e = ap (λ (t : Bool). Has t) e
 
 pub taken_part : (r s : Reading) (d : Cursor) (f : declared.Effect) (lead : Option Lead) (has : Bool) → f ≡ Has has → s.any ≡ r.any
     → ((f g : List ℕ → Bool) → IsKnown r.last f → ((b : List ℕ) → g b ≡ true → IsLed lead b) → IsKnown s.last (λ b. f b && g b)) → IsTaken r s d f lead
-taken_part r s d f lead has is any last nothing ks ls seen leads h i = absurd cc
 taken_part r s d f lead has is any last (part p) ks ls seen leads h i =
     (subst (λ k. IsKnown k ks) (sym any) h, last ls (λ b. has_part b p) i (λ b e. leads b (has_true (has_part b p) e)))
 taken_part r s d f lead has is any last asks_binary ks ls seen leads h i =
     (subst (λ k. IsKnown k ks) (sym any) h, last ls has_data i (λ b e. leads b (has_true (has_data b) e)))
-taken_part r s d f lead has is any last (opens n) ks ls seen leads h i = absurd cc
+taken_part r s d f lead has is any last e ks ls seen leads h i = absurd cc
 
 pub taken_more : (r s : Reading) (d : Cursor) (f : declared.Effect) (lead : Option Lead) (long : Bool) → f ≡ Opens long → s.last ≡ known.Nothing
     → ((f g : List ℕ → Bool) → IsKnown r.any f → IsKnown r.last g → IsKnown s.any (λ b. f b || g b)) → IsTaken r s d f lead
-taken_more r s d f lead long is last any nothing ks ls seen leads h i = absurd cc
-taken_more r s d f lead long is last any (part p) ks ls seen leads h i = absurd cc
-taken_more r s d f lead long is last any asks_binary ks ls seen leads h i = absurd cc
 taken_more r s d f lead long is last any (opens n) ks ls seen leads h i = (any ks ls h i, subst (λ k. IsKnown k (λ b. nat_le n (length b))) (sym last) tt)
+taken_more r s d f lead long is last any e ks ls seen leads h i = absurd cc
 
 -- ---- the end
 

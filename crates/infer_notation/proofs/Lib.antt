@@ -1,3 +1,5 @@
+pub mod StepLemmas
+pub mod OptionLemmas
 pub mod Common
 pub mod HexLemmas
 pub mod FixedLemmas

@@ -5,6 +5,7 @@ use Rattle.infer_notation.specs.Fixed.{behind_mark, behind_word_of, nothing}
 use Rattle.infer_notation.specs.Tokens.{Token, set}
 use Rattle.infer_notation.specs.declared.fixed.Wanted.TheVariants.{Bytes}
 use Rattle.infer_notation.specs.declared.tokens.Run.TheVariants as runs
+use Rattle.infer_notation.proofs.StepLemmas.{Steps, again, counted, ends, further, steps_so}
 use Rattle.infer_notation.proofs.SignatureLemmas.{ended_is, given_ended}
 
 -- no byte is that with which "or" begins
@@ -31,115 +32,12 @@ no_or (x ∷ xs) h =
 abbrev pub Keeps : Cursor → Effect → Type 0
 Keeps d e = (d.wanted ≡ Length → ⊥) × ((q : Rest) → (joined e q).alternatives ≡ q.alternatives)
 
-kept : (c d : Cursor) (f e : Effect) → Keeps c f → ◌≡◌ {A = Option (Cursor × Effect)} (Some (c, f)) (Some (d, e)) → Keeps d e
-kept c d f e keeps is = let same : (c, f) ≡ (d, e) = cc in subst (λ (p : Cursor × Effect). Keeps p.0 p.1) same keeps
-
-within_keeps : (least place size : ℕ) (p : Part) (d : Cursor) (e : Effect) → within least place size p ≡ Some (d, e) → Keeps d e
-within_keeps least place size p d e is = chosen (nat_le (place + size) least) is
-  where
-    chosen : (t : Bool) → cond {A = Option (Cursor × Effect)} t (Some (fixed.cursor More least (place + size), part p)) None ≡ Some (d, e) → Keeps d e
-    chosen true is = kept (fixed.cursor More least (place + size)) d (part p) e ((λ w. absurd cc), λ q. refl) is
-    chosen false is = absurd cc
-
-mark_keeps : (m : ℕ) (w : Wanted) (least place : ℕ) (t : Token) (d : Cursor) (e : Effect) → (w ≡ Length → ⊥) → behind_mark m w least place t ≡ Some (d, e) → Keeps d e
-mark_keeps m w least place (mark x) d e other is = chosen (x == m) is
-  where
-    chosen : (t : Bool) → cond {A = Option (Cursor × Effect)} t (Some (fixed.cursor w least place, nothing)) None ≡ Some (d, e) → Keeps d e
-    chosen true is = kept (fixed.cursor w least place) d nothing e (other, λ q. refl) is
-    chosen false is = absurd cc
-mark_keeps m w least place (quoted xs) d e other is = absurd cc
-mark_keeps m w least place (set xs) d e other is = absurd cc
-mark_keeps m w least place (bare v) d e other is = absurd cc
-
-set_keeps : (least place : ℕ) (o : Option (List ℕ)) (d : Cursor) (e : Effect) → (o >>= set_part least place) ≡ Some (d, e) → Keeps d e
-set_keeps least place None d e is = absurd cc
-set_keeps least place (Some []) d e is = absurd cc
-set_keeps least place (Some (x ∷ xs)) d e is = within_keeps least place 1 _ d e is
-
-text_keeps : (least place : ℕ) (o : Option (List ℕ)) (d : Cursor) (e : Effect) → (o >>= λ xs. within least place (length xs) (text place xs)) ≡ Some (d, e) → Keeps d e
-text_keeps least place None d e is = absurd cc
-text_keeps least place (Some xs) d e is = within_keeps least place (length xs) _ d e is
-
-byte_keeps : (least place : ℕ) (o : Option ℕ) (d : Cursor) (e : Effect) → (o >>= λ x. within least place 1 (byte place (all_but x))) ≡ Some (d, e) → Keeps d e
-byte_keeps least place None d e is = absurd cc
-byte_keeps least place (Some x) d e is = within_keeps least place 1 _ d e is
-
-word_keeps : (least place : ℕ) (w : List ℕ) (range : Option (ℕ × ℕ)) (d : Cursor) (e : Effect) → word_part least place w range ≡ Some (d, e) → Keeps d e
-word_keeps least place w None d e is = text_keeps least place (bytes_of w) d e is
-word_keeps least place w (Some (low, high)) d e is = chosen (nat_le low high) is
-  where
-    chosen : (t : Bool) → cond t (within least place 1 (byte place (between low high))) None ≡ Some (d, e) → Keeps d e
-    chosen true is = within_keeps least place 1 _ d e is
-    chosen false is = absurd cc
-
-piece_keeps : (least place : ℕ) (t : Token) (d : Cursor) (e : Effect) → piece least place t ≡ Some (d, e) → Keeps d e
-piece_keeps least place (quoted xs) d e is = within_keeps least place (length xs) _ d e is
-piece_keeps least place (set digits) d e is = set_keeps least place (bytes_of digits) d e is
-piece_keeps least place (mark m) d e is = absurd cc
-piece_keeps least place (bare w) d e is = chosen (bytes_eq w (codes "not")) is
-  where
-    chosen : (t : Bool) → cond {A = Option (Cursor × Effect)} t (Some (fixed.cursor Byte least place, nothing)) (word_part least place w (range_of w)) ≡ Some (d, e) → Keeps d e
-    chosen true is = kept (fixed.cursor Byte least place) d nothing e ((λ w. absurd cc), λ q. refl) is
-    chosen false is = word_keeps least place w (range_of w) d e is
-
-place_keeps : (least place : ℕ) (o : Option ℕ) (d : Cursor) (e : Effect)
-    → (o >>= λ p. cond {A = Option (Cursor × Effect)} (nat_le place p) (Some (fixed.cursor Bytes least p, nothing)) None) ≡ Some (d, e) → Keeps d e
-place_keeps least place None d e is = absurd cc
-place_keeps least place (Some p) d e is = chosen (nat_le place p) is
-  where
-    chosen : (t : Bool) → cond {A = Option (Cursor × Effect)} t (Some (fixed.cursor Bytes least p, nothing)) None ≡ Some (d, e) → Keeps d e
-    chosen true is = kept (fixed.cursor Bytes least p) d nothing e ((λ w. absurd cc), λ q. refl) is
-    chosen false is = absurd cc
-
-more_keeps : (least place : ℕ) (t : Token) (d : Cursor) (e : Effect) → is_or t ≡ false → more_read least place t ≡ Some (d, e) → Keeps d e
-more_keeps least place (quoted xs) d e nor is = piece_keeps least place (quoted xs) d e is
-more_keeps least place (set xs) d e nor is = piece_keeps least place (set xs) d e is
-more_keeps least place (mark m) d e nor is = mark_keeps 0x2C At least place (mark m) d e (λ w. absurd cc) is
-more_keeps least place (bare w) d e nor is = chosen (bytes_eq w (codes "or")) (bytes_eq w (codes "and")) nor is
-  where
-    chosen : (t u : Bool) → t ≡ false
-        → cond {A = Option (Cursor × Effect)} t (Some (fixed.cursor Length 0 0, nothing)) (cond {A = Option (Cursor × Effect)} u (Some (fixed.cursor Binary least place, nothing)) (piece least place (bare w))) ≡ Some (d, e)
-        → Keeps d e
-    chosen true u nor is = absurd (false≢true (sym nor))
-    chosen false true nor is = kept (fixed.cursor Binary least place) d nothing e ((λ w. absurd cc), λ q. refl) is
-    chosen false false nor is = piece_keeps least place (bare w) d e is
-
-binary_keeps : (t : Token) (d : Cursor) (e : Effect) → behind_word_of (codes "binary") (fixed.cursor Or 0 0) asks_binary t ≡ Some (d, e) → Keeps d e
-binary_keeps (quoted xs) d e is = absurd cc
-binary_keeps (set xs) d e is = absurd cc
-binary_keeps (mark m) d e is = absurd cc
-binary_keeps (bare v) d e is = chosen (bytes_eq v (codes "binary")) is
-  where
-    chosen : (t : Bool) → cond {A = Option (Cursor × Effect)} t (Some (fixed.cursor Or 0 0, asks_binary)) None ≡ Some (d, e) → Keeps d e
-    chosen true is = kept (fixed.cursor Or 0 0) d asks_binary e ((λ w. absurd cc), λ q. refl) is
-    chosen false is = absurd cc
-
-or_keeps : (t : Token) (d : Cursor) (e : Effect) → is_or t ≡ false → behind_word_of (codes "or") (fixed.cursor Length 0 0) nothing t ≡ Some (d, e) → Keeps d e
-or_keeps (quoted xs) d e nor is = absurd cc
-or_keeps (set xs) d e nor is = absurd cc
-or_keeps (mark m) d e nor is = absurd cc
-or_keeps (bare v) d e nor is = chosen (bytes_eq v (codes "or")) nor is
-  where
-    chosen : (t : Bool) → t ≡ false → cond {A = Option (Cursor × Effect)} t (Some (fixed.cursor Length 0 0, nothing)) None ≡ Some (d, e) → Keeps d e
-    chosen true nor is = absurd (false≢true (sym nor))
-    chosen false nor is = absurd cc
-
-step_keeps : (w : Wanted) (least place : ℕ) (t : Token) (d : Cursor) (e : Effect) → (w ≡ Length → ⊥) → is_or t ≡ false → step_at w least place t ≡ Some (d, e) → Keeps d e
-step_keeps Length least place t d e other nor is = absurd (other refl)
-step_keeps Colon least place t d e other nor is = mark_keeps 0x3A At least place t d e (λ w. absurd cc) is
-step_keeps At least place t d e other nor is = mark_keeps 0x40 Place least place t d e (λ w. absurd cc) is
-step_keeps Place least place (bare w) d e other nor is = place_keeps least place (number_of w) d e is
-step_keeps Place least place (quoted xs) d e other nor is = absurd cc
-step_keeps Place least place (set xs) d e other nor is = absurd cc
-step_keeps Place least place (mark m) d e other nor is = absurd cc
-step_keeps Bytes least place t d e other nor is = piece_keeps least place t d e is
-step_keeps More least place t d e other nor is = more_keeps least place t d e nor is
-step_keeps Byte least place (bare w) d e other nor is = byte_keeps least place (byte_of w) d e is
-step_keeps Byte least place (quoted xs) d e other nor is = absurd cc
-step_keeps Byte least place (set xs) d e other nor is = absurd cc
-step_keeps Byte least place (mark m) d e other nor is = absurd cc
-step_keeps Binary least place t d e other nor is = binary_keeps t d e is
-step_keeps Or least place t d e other nor is = or_keeps t d e nor is
+steps_keep : (w : Wanted) (n p : ℕ) (t : Token) (d : Cursor) (e : Effect) → (w ≡ Length → ⊥) → is_or t ≡ false → Steps w n p t d e → Keeps d e
+steps_keep w n p t d e some nor (counted _ _ v m is) = absurd (some refl)
+steps_keep w n p t d e some nor (again _ _ _ _ _ s) = steps_keep Bytes n p t d e (λ no. absurd cc) nor s
+steps_keep w n p t d e some nor (ends _ _) = absurd cc
+steps_keep w n p t d e some nor (further _ _) = absurd cc
+steps_keep w n p t d e some nor s = ((λ no. absurd cc), λ q. refl)
 
 -- ---- tokens
 
@@ -190,7 +88,7 @@ next_others c x xs r nor other later is = on_blank (is_blank x) is
     on_step : (t : Token) (m : ℕ) → is_or t ≡ false → (o : Option (Cursor × Effect)) → step_at c.wanted c.least c.place t ≡ o → (o >>= λ s. option_map (joined s.1) (rest_at s.0 m xs)) ≡ Some r
         → r.alternatives ≡ []
     on_step t m nor None are is = absurd cc
-    on_step t m nor (Some (d, e)) are is = on_rest d e m (step_keeps c.wanted c.least c.place t d e other nor are) (rest_at d m xs) refl is
+    on_step t m nor (Some (d, e)) are is = on_rest d e m (steps_keep c.wanted c.least c.place t d e other nor (steps_so c.wanted c.least c.place t (d, e) are)) (rest_at d m xs) refl is
 
     on_token : (o : Option (Token × ℕ)) → token_at (x ∷ xs) ≡ o → (o >>= λ t. step c t.0 >>= λ s. option_map (joined s.1) (rest_at s.0 t.1 xs)) ≡ Some r → r.alternatives ≡ []
     on_token None are is = absurd cc

@@ -162,11 +162,10 @@ accepted_is (a ∷ others) b = Decides-or (fits_asked b a) (accepts others b) (f
 
 pub seen_fixed : (o : Option (List Asked)) (b : List ℕ) (x : Option Bool) → x ≡ option_map (λ alternatives. accepts alternatives b) o → IsSeen (option_map (map described) o) b x
 seen_fixed None b None e = refl
-seen_fixed None b (Some x) e = absurd cc
-seen_fixed (Some a) b None e = absurd cc
 seen_fixed (Some a) b (Some x) e =
     let same : x ≡ accepts a b = cc in
     (map described a, refl, subst (λ y. IsTrue y ↔ Accepted (map described a) b) (sym same) (accepted_is a b))
+seen_fixed o b x e = absurd cc
 
 -- ---- a signature that is known to be described
 
