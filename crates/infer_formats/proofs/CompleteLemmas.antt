@@ -1,8 +1,5 @@
 -- Whatever symbols are left, some bytes complete them.
-use Rattle.infer_formats.proofs.Common.{[], ℕ, zero, suc, ◌≤◌, inl, inr, List, ◌∷◌, ◌++◌, ◌-◌, ◌/◌, ◌%◌, refl, arith, Symbol, range, blanks, value, items, more_items, members, member, more_members, chars, char, escape, hex, number, whole, fraction, exponent, power, digits, text, byte, digit, Stands, nothing, one, by_rule, first_in, frames, left, more_in, next_left, Token, Chars, First, Value, Key, Colon, After, Next, Closed, Between, InKey, InValue, ◌≡◌, Bool, true, IsAmong}
-use Rattle.std.proofs.lemmas.Bool.{and_parts, leb-true}
-use Rattle.std.specs.Prelude.{◌&&◌, nat_le}
-use Rattle.infer_formats.specs.Json.{rules}
+use Rattle.infer_formats.proofs.Common.{[], ℕ, zero, suc, ◌≤◌, inl, inr, List, ◌∷◌, ◌++◌, ◌-◌, ◌/◌, ◌%◌, refl, arith, Symbol, range, blanks, value, items, more_items, members, member, more_members, chars, char, escape, hex, number, whole, fraction, exponent, power, digits, text, byte, digit, Stands, nothing, one, by_rule, first_in, frames, left, more_in, next_left, Token, Chars, First, Value, Key, Colon, After, Next, Closed, Between, InKey, InValue, ◌≡◌, Bool, true, IsAmong, and_parts, leb-true, ◌&&◌, nat_le, rules}
 use Rattle.infer_formats.proofs.JsonLemmas.{value_begins}
 
 abbrev pub Completes : List Symbol → Type 0

@@ -1,13 +1,6 @@
 -- dBASE tables: what more bytes keep and may make, and the bytes that each has.
-use Rattle.infer_formats.proofs.Common.{[], ◌≡◌, add-zero, inl, inr, ℕ, zero, suc, ◌+◌, ◌<◌, ◌≤◌, List, ◌∷◌, ◌++◌, length, codes, sym, subst, ◌∙◌, arith, slice_index, cases_lt, get_or_append_left, le16, MayBecome, BeginsName, IsDbase, behind, versions, true, refl, ap, ◌↔◌, IsTrue}
-use Rattle.std.proofs.lemmas.Bool.{and_from, le-leb, lt-ltb, or_left}
-use Rattle.std.specs.Prelude.{nat_le, nat_lt}
-use Rattle.infer_deep.proofs.NumberLemmas.{le16-append}
-use Rattle.infer_formats.specs.Dbase.{EndsFields, IsOneOf, MayBeDbase, MayEndFields}
-use Rattle.infer_formats.specs.Open.{MayBe}
-use Rattle.infer_formats.specs.Relation.{lines, dbase}
-use Rattle.infer_sig.specs.Places.{StandsByPlace}
-use Rattle.infer_sig.specs.Signature.{accepts, stands}
+use Rattle.infer_formats.proofs.Common.{◌≡◌, ℕ, ◌+◌, ◌≤◌, List, ◌++◌, length, codes, sym, subst, ◌∙◌, arith, slice_index, get_or_append_left, le16, MayBecome, BeginsName, IsDbase, behind, versions, true, refl, ap, ◌↔◌, IsTrue, and_from, le-leb, lt-ltb, or_left, nat_le, nat_lt, le16-append, MayBe, lines, dbase, StandsByPlace, accepts, stands}
+use Rattle.infer_formats.specs.Dbase.{IsOneOf, MayBeDbase}
 use Rattle.infer_formats.proofs.GrowthLemmas.{carried, kept, longer}
 use Rattle.infer_formats.proofs.OutlineLemmas.{pair}
 
@@ -43,26 +36,6 @@ module _ (b more : List ℕ) where
   front : (P : ℕ → Type 0) (p : ℕ) → P (slice_index (b ++ more) p) → MayBe P b p
   front P p h lt = subst P (get_or_append_left b more 0 p lt) h
 
-  known_fields : (e : ℕ) → EndsFields (b ++ more) e → MayEndFields b
-  unfolding le16
-  known_fields e (sum, low, whole, inside, end) = elim (cases_lt (length b) 9) [
-    | inl l ↦ inl (omega arith)
-    | inr l ↦
-        let first : slice_index (b ++ more) 0 ≡ slice_index b 0 = get_or_append_left b more 0 0 (omega arith) in
-        let total : e + behind (slice_index b 0) ≡ le16 (b ++ more) 8 = subst (λ x. e + behind x ≡ le16 (b ++ more) 8) first sum in
-        let byte = get_or_append_left b more 0 8 (omega arith) in
-        elim (cases_lt (length b) 10) [
-          | inl short ↦ inr (inl (omega arith, omega arith))
-          | inr long ↦
-              let other = get_or_append_left b more 0 9 (omega arith) in
-              inr (inr (omega arith, (e, omega arith, low, whole, record { reads = end_byte })))
-        ]
-  ]
-    where
-      end_byte : (k : ℕ) → k < 1 → e + k < length b → slice_index b (e + k) ≡ slice_index (0x0D ∷ []) k
-      end_byte zero lt within = let here = get_or_append_left b more 0 e (omega arith) in rw add-zero (sym here ∙ end)
-      end_byte (suc k) lt within = absurd (omega arith)
-
   known_many : 2 ≤ le16 (b ++ more) 10 → 12 ≤ length b → 2 ≤ le16 b 10
   unfolding le16
   known_many many long = omega (arith, get_or_append_left b more 0 10 (omega arith), get_or_append_left b more 0 11 (omega arith))
@@ -78,7 +51,6 @@ dbase_known b (more, bytes, (long, (version, month, day, zeros), (name, kind), m
   );
   field = (front b more BeginsName 32 name, front b more (IsOneOf (codes "+@BCDFGILMNOPTVXY")) 43 kind);
   many = known_many b more many;
-  ends = known_fields b more e fields;
 }
 
 -- ---- the bytes that each has

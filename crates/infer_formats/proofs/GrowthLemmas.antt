@@ -1,7 +1,5 @@
 -- What a buffer has it has however it goes on: bytes and numbers.
-use Rattle.infer_formats.proofs.Common.{[], ◌≡◌, ℕ, zero, suc, ◌+◌, ◌<◌, ◌≤◌, Bool, true, false, List, ◌∷◌, ◌++◌, length, sym, subst, arith, length-append, slice_index, get_or_append_left, be32-append, be16, number16, number32}
-use Rattle.infer_deep.proofs.NumberLemmas.{le16-append, le32-append}
-use Rattle.infer_formats.specs.Numbers.{number64}
+use Rattle.infer_formats.proofs.Common.{[], ◌≡◌, ℕ, zero, suc, ◌+◌, ◌<◌, ◌≤◌, Bool, true, false, List, ◌∷◌, ◌++◌, length, sym, subst, arith, length-append, slice_index, get_or_append_left, be32-append, be16, number16, number32, le16-append, le32-append, number64}
 
 -- a byte that is not zero is in the buffer
 pub there : (b : List ℕ) (p : ℕ) → 1 ≤ slice_index b p → p < length b

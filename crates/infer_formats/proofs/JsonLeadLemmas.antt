@@ -1,11 +1,6 @@
 -- With which byte JSON begins, and that it has a bracket.
-use Rattle.infer_formats.proofs.Common.{[], ◌≡◌, ◌⊎◌, inl, inr, ℕ, zero, suc, ◌<◌, Bool, true, false, List, ◌∷◌, ◌++◌, refl, sym, subst, arith, ◌||◌, ◌==◌, slice_index, nat_tests, BehindBlanks, BeginsLines, BeginsText, IsJson, IsJsonLines, OpensWithToken, UpToMark, blanks, same_line, text, IsBracket, IsPast, utf8_mark, ◌↔◌, IsTrue, cases_lt}
-use Rattle.infer_deep.proofs.PlaceLemmas.{OccursAt-begins}
-use Rattle.infer_formats.specs.Json.{IsBlank}
+use Rattle.infer_formats.proofs.Common.{[], ◌≡◌, ◌⊎◌, inl, inr, ℕ, zero, suc, ◌<◌, Bool, true, false, List, ◌∷◌, ◌++◌, refl, sym, subst, arith, ◌||◌, ◌==◌, slice_index, nat_tests, BehindBlanks, BeginsLines, BeginsText, IsJson, IsJsonLines, OpensWithToken, UpToMark, blanks, same_line, text, IsBracket, IsPast, utf8_mark, ◌↔◌, IsTrue, cases_lt, OccursAt-begins, IsBlank, json_outline, StandsByPlace, accepts, stands, any_of, at_least}
 use Rattle.infer_formats.specs.Laws.{BeginsJson, HasBracket, OpensBehindBlanks}
-use Rattle.infer_formats.specs.Outline.{json_outline}
-use Rattle.infer_sig.specs.Places.{StandsByPlace}
-use Rattle.infer_sig.specs.Signature.{accepts, stands, any_of, at_least}
 use Rattle.infer_formats.proofs.CompleteLemmas.{completes}
 use Rattle.infer_formats.proofs.LineLemmas.{past_can, text_no_blank, text_opens}
 use Rattle.infer_formats.proofs.OutlineLemmas.{begins_among, marked}

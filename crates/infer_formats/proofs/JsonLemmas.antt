@@ -1,6 +1,5 @@
 -- The grammar, byte by byte.
-use Rattle.infer_formats.proofs.Common.{◌≡◌, ℕ, zero, suc, ◌≤◌, ◌⊎◌, inl, inr, ◌↔◌, codes, List, [], ◌∷◌, ◌++◌, refl, subst, arith, Symbol, range, blanks, value, items, members, chars, escape, hex, whole, fraction, exponent, power, digits, exact, IsAmong, Stands, one, by_rule}
-use Rattle.infer_formats.specs.Json.{rules}
+use Rattle.infer_formats.proofs.Common.{◌≡◌, ℕ, zero, suc, ◌≤◌, ◌⊎◌, inl, inr, ◌↔◌, codes, List, [], ◌∷◌, ◌++◌, refl, subst, arith, Symbol, range, blanks, value, items, members, chars, escape, hex, whole, fraction, exponent, power, digits, exact, IsAmong, Stands, one, by_rule, rules}
 
 abbrev AnyOf : (List Symbol → Type 0) → List (List Symbol) → Type 0
 AnyOf P [] = ⊥

@@ -1,10 +1,8 @@
 -- With which byte markup begins, and that an element opens in it.
-use Rattle.infer_formats.proofs.Common.{◌≡◌, inl, inr, ℕ, ◌<◌, List, Option, None, codes, length, refl, subst, ◌∙◌, arith, slice_index, cases_lt, OccursAt, OccursAt-first, IsRootElement, LeadsToTag, ◌↔◌, IsTrue, IsXmlSpace, ◌⊎◌, nat_tests, [], ◌∷◌}
+use Rattle.infer_formats.proofs.Common.{◌≡◌, inl, inr, ℕ, ◌<◌, List, Option, None, codes, length, refl, subst, ◌∙◌, arith, slice_index, cases_lt, OccursAt, OccursAt-first, IsRootElement, LeadsToTag, ◌↔◌, IsTrue, IsXmlSpace, ◌⊎◌, nat_tests, [], ◌∷◌, markup_lines, StandsByPlace, accepts, stands, any_of, at_least}
 use Rattle.infer_formats.specs.Laws.{BeginsMarkup, OpensBehindSpace, OpensElement}
 use Rattle.infer_formats.specs.Markup.{here, later}
-use Rattle.infer_formats.specs.Outline.{markup_lines}
-use Rattle.infer_sig.specs.Places.{StandsByPlace}
-use Rattle.infer_sig.specs.Signature.{accepts, stands, any_of, at_least, byte}
+use Rattle.infer_sig.specs.Signature.{byte}
 use Rattle.infer_formats.proofs.OutlineLemmas.{begins_among, marked}
 
 module _ (b : List ℕ) where

@@ -1,8 +1,6 @@
 -- White space and the lines that texts stand on.
-use Rattle.infer_formats.proofs.Common.{◌≡◌, ℕ, ◌+◌, ◌-◌, ◌≤◌, ◌<◌, ◌⊎◌, inl, inr, ◌↔◌, Bool, false, IsTrue, nat_eq, List, [], ◌∷◌, ◌++◌, Option, None, Some, length, take, drop, get_or, length-drop, refl, sym, subst, ap, ◌∙◌, arith, drop_more, take_rest, Symbol, blanks, text, same_line, next_line, BeginsLines, BeginsText, CanBe, UpToMark, IsKind, Stands, IsBracket, IsKindPastMark, IsPast, IsPastMark, Leaves, StartsLine, next_left, Kind, Lines, Text, Next}
+use Rattle.infer_formats.proofs.Common.{◌≡◌, ℕ, ◌+◌, ◌-◌, ◌≤◌, ◌<◌, ◌⊎◌, inl, inr, ◌↔◌, Bool, false, IsTrue, nat_eq, List, [], ◌∷◌, ◌++◌, Option, None, Some, length, take, drop, get_or, length-drop, refl, sym, subst, ap, ◌∙◌, arith, drop_more, take_rest, Symbol, blanks, text, same_line, next_line, BeginsLines, BeginsText, CanBe, UpToMark, IsKind, Stands, IsBracket, IsKindPastMark, IsPast, IsPastMark, Leaves, StartsLine, next_left, Kind, Lines, Text, Next, IsBlank, IsNextLine, LineTells}
 use Rattle.std.proofs.Common.{rules}
-use Rattle.infer_formats.specs.Json.{IsBlank}
-use Rattle.infer_formats.specs.JsonStates.{IsNextLine, LineTells}
 use Rattle.infer_formats.specs.declared.json.lines.Line as line
 use Rattle.infer_formats.specs.declared.json.lines.Line.TheVariants as Line
 use Rattle.infer_formats.proofs.JsonLemmas.{begins, range_begins}

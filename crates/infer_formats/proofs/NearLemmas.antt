@@ -1,6 +1,5 @@
 -- The bits that tell where a byte is in a window.
-use Rattle.infer_formats.proofs.Common.{◌≡◌, ◌↔◌, ℕ, zero, suc, ◌<◌, List, [], ◌∷◌, Bool, true, false, eqb, length, get_or, map, refl, sym, ◌∙◌, arith, eq-eqb, eqb-true, false≢true}
-use Rattle.std.proofs.Common.{cond}
+use Rattle.infer_formats.proofs.Common.{◌≡◌, ◌↔◌, ℕ, zero, suc, ◌<◌, List, [], ◌∷◌, Bool, true, false, eqb, length, get_or, map, refl, sym, ◌∙◌, arith, eq-eqb, eqb-true, false≢true, cond}
 
 tells : (x y : ℕ) (t : Bool) → eqb x y ≡ t → (cond {A = ℕ} t 1 0 ≡ 1) ↔ (x ≡ y)
 tells x y true e = (λ h. eqb-true x y e, λ h. refl)

@@ -1,7 +1,5 @@
 -- What is left behind a token, and behind each byte of a text.
-use Rattle.infer_formats.proofs.Common.{◌≡◌, ℕ, ◌+◌, ◌≤◌, ◌<◌, inl, ◌↔◌, true, List, [], ◌∷◌, ◌++◌, length, drop, get_or, refl, sym, subst, ap, ◌∙◌, arith, drop_all, drop_more, Symbol, blanks, text, Stands, PlaceTells, EndTells, EndsNumber, Follows, IsPast, Leaves, Onward, Reads, due_left, frames, left, next_left, Token, Inside, Ended, EndedBefore, Wrong, Due, Colon, After, Value, Next, Closed, Between, InKey, InValue, Reader}
-use Rattle.infer_formats.specs.Json.{IsBlank}
-use Rattle.infer_formats.specs.JsonStates.{TellsAsMuch}
+use Rattle.infer_formats.proofs.Common.{◌≡◌, ℕ, ◌+◌, ◌≤◌, ◌<◌, inl, ◌↔◌, true, List, [], ◌∷◌, ◌++◌, length, drop, get_or, refl, sym, subst, ap, ◌∙◌, arith, drop_all, drop_more, Symbol, blanks, text, Stands, PlaceTells, EndTells, EndsNumber, Follows, IsPast, Leaves, Onward, Reads, due_left, frames, left, next_left, Token, Inside, Ended, EndedBefore, Wrong, Due, Colon, After, Value, Next, Closed, Between, InKey, InValue, Reader, IsBlank, TellsAsMuch}
 use Rattle.infer_formats.specs.declared.json.reader.Place as place
 use Rattle.infer_formats.specs.declared.json.reader.Place.TheVariants as Place
 use Rattle.infer_formats.proofs.ReaderLemmas.{after_ends, between_left, blank_skip, colon_ends, colon_read, due_not_blank, frames_none, frames_open}

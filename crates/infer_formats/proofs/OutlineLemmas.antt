@@ -1,9 +1,6 @@
 -- Parts of the lines that buffers have which fit a relation.
-use Rattle.infer_formats.proofs.Common.{[], ◌≡◌, ◌↔◌, ℕ, zero, suc, ◌+◌, ◌≤◌, true, IsTrue, List, ◌∷◌, length, arith, refl, slice_index, OccursAt, ◌<◌}
-use Rattle.std.proofs.lemmas.Bool.{and_from, le-leb, lt-ltb, or_left, or_right}
-use Rattle.std.specs.Prelude.{nat_le, nat_lt}
-use Rattle.infer_sig.specs.Places.{StandsByPlace}
-use Rattle.infer_sig.specs.Signature.{Part, accepts, allows, any_of, at_least, between, fits, has_part, stands, byte, text}
+use Rattle.infer_formats.proofs.Common.{[], ◌≡◌, ◌↔◌, ℕ, zero, suc, ◌+◌, ◌≤◌, true, IsTrue, List, ◌∷◌, length, arith, refl, slice_index, OccursAt, ◌<◌, and_from, le-leb, lt-ltb, or_left, or_right, nat_le, nat_lt, StandsByPlace, Part, accepts, allows, any_of, at_least, between, fits, has_part, stands}
+use Rattle.infer_sig.specs.Signature.{byte, text}
 use Rattle.infer_formats.proofs.GrowthLemmas.{there}
 use Rattle.infer_sig.specs.Signature as fixed
 

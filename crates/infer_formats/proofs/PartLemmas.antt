@@ -1,6 +1,5 @@
 -- What the bytes of a part of a buffer say of the buffer.
-use Rattle.infer_formats.proofs.Common.{◌≡◌, ℕ, ◌+◌, ◌-◌, ◌<◌, ◌≤◌, List, length, get_or, take, drop, sym, ap, ◌∙◌, ◌↔◌, arith, eq-eqb, length-drop, Option, Some, None, is_some, IsTrue, refl, eqb-true, get_or-take, get_or-drop, IsFirstByte, Nowhere, Passes, is_byte}
-use Rattle.std.proofs.Common.{length-take}
+use Rattle.infer_formats.proofs.Common.{◌≡◌, ℕ, ◌+◌, ◌-◌, ◌<◌, ◌≤◌, List, length, get_or, take, drop, sym, ap, ◌∙◌, ◌↔◌, arith, eq-eqb, length-drop, Option, Some, None, is_some, IsTrue, refl, eqb-true, get_or-take, get_or-drop, IsFirstByte, Nowhere, Passes, is_byte, length-take}
 
 -- the bytes of a part from s to e
 pub part_reads : (b : List ℕ) (s e i : ℕ) → s + i < e → get_or (take (e - s) (drop s b)) i 0 ≡ get_or b (s + i) 0

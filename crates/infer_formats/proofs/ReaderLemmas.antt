@@ -1,9 +1,7 @@
 -- What is left of a text, byte by byte.
-use Rattle.infer_formats.proofs.Common.{◌≡◌, ℕ, zero, suc, ◌+◌, ◌-◌, ◌*◌, ◌/◌, ◌%◌, ◌^◌, ◌≤◌, ◌<◌, ◌⊎◌, inl, inr, ◌↔◌, Bool, true, false, List, ◌∷◌, refl, sym, subst, ap, ◌∙◌, arith, Symbol, blanks, value, items, more_items, members, member, more_members, chars, text, byte, Stands, first_in, more_in, next_left, IsOpen, frames, due_left, EndsNumber, Reads, Due, First, Value, Key, Colon, After, Next, Closed, Between, Reader}
+use Rattle.infer_formats.proofs.Common.{◌≡◌, ℕ, zero, suc, ◌+◌, ◌-◌, ◌*◌, ◌/◌, ◌%◌, ◌^◌, ◌≤◌, ◌<◌, ◌⊎◌, inl, inr, ◌↔◌, Bool, true, false, List, ◌∷◌, refl, sym, subst, ap, ◌∙◌, arith, Symbol, blanks, value, items, more_items, members, member, more_members, chars, text, byte, Stands, first_in, more_in, next_left, IsOpen, frames, due_left, EndsNumber, Reads, Due, First, Value, Key, Colon, After, Next, Closed, Between, Reader, IsBlank, opening, closing, IsClosedTo, MayGoOn}
 use Rattle.std.proofs.Math.Nat.{pow-le-pow_right}
 use Rattle.std.proofs.lemmas.Grind.{pow_more}
-use Rattle.infer_formats.specs.Json.{IsBlank}
-use Rattle.infer_formats.specs.JsonStates.{opening, closing, IsClosedTo, MayGoOn}
 use Rattle.infer_formats.proofs.JsonLemmas.{begins, range_begins, value_begins, array_begins, object_begins, none_nested}
 
 pub frames_none : (k : ℕ) (ss : List Symbol) → frames 0 k ss ≡ ss

@@ -1,7 +1,5 @@
 -- Each relation, by the lemmas of its format.
-use Rattle.infer_formats.proofs.Common.{[], ◌≡◌, ◌+◌, ◌↔◌, ◌≤◌, IsTrue, List, ℕ, ◌++◌, OccursAt, OccursAt-append, Lasts, MayBecome, AgreesAt, IsAnimated, arith, grown_agrees, refl}
-use Rattle.infer_sig.specs.Places.{StandsByPlace}
-use Rattle.infer_sig.specs.Signature.{stands}
+use Rattle.infer_formats.proofs.Common.{[], ◌≡◌, ◌+◌, ◌↔◌, ◌≤◌, IsTrue, List, ℕ, ◌++◌, OccursAt, OccursAt-append, Lasts, MayBecome, AgreesAt, IsAnimated, arith, grown_agrees, refl, StandsByPlace, stands, Stays, png_header, Fits, HasLines, Relation, animated, class_id, dbase, directory_tag, first_entry_ends_in, first_entry_has_extra, first_entry_is, is_lasting, json_lines, json_text, package_with, plain_text, program, relation_listed, root, root_with, shared_object, subrip, tar_checksum}
 use Rattle.infer_formats.proofs.DbaseLemmas.{dbase_lines, dbase-lasts}
 use Rattle.infer_formats.proofs.ElfLemmas.{object_lines, shared_object-lasts}
 use Rattle.infer_formats.proofs.JsonLeadLemmas.{lines_lead, text_leads, json_begins}
@@ -15,9 +13,6 @@ use Rattle.infer_formats.proofs.TarLemmas.{field_lines, tar_checksum-lasts}
 use Rattle.infer_formats.proofs.TextLemmas.{text_lines}
 use Rattle.infer_formats.proofs.TiffLemmas.{tag_lines, tag-lasts}
 use Rattle.infer_formats.proofs.ZipLemmas.{counted_for_lines, named_part, package_lines, first_entry_ends_in-lasts, first_entry_has_extra-lasts, first_entry_is-lasts, package_with-lasts}
-use Rattle.infer_formats.specs.Open.{Stays}
-use Rattle.infer_formats.specs.Png.{png_header}
-use Rattle.infer_formats.specs.Relation.{Fits, HasLines, Relation, animated, class_id, dbase, directory_tag, first_entry_ends_in, first_entry_has_extra, first_entry_is, is_lasting, json_lines, json_text, package_with, plain_text, program, relation_listed, root, root_with, shared_object, subrip, tar_checksum}
 use Rattle.infer_formats.specs.declared.relation.Relation as declared
 use Rattle.infer_formats.specs.declared.relation.Relation.TheVariants.{JsonLines, JsonText, PlainText}
 use Rattle.infer_deep.proofs.ClassIdLemmas.{HasClassId-lasts}

@@ -1,9 +1,6 @@
 -- Subtitles: what more bytes keep and may make, and the bytes that each file has.
-use Rattle.infer_formats.proofs.Common.{◌≡◌, ℕ, ◌+◌, ◌<◌, ◌≤◌, List, get_or, arith, AreDigits, EndsLine, IsDigit, ◌⊎◌, inl, inr, ◌-◌, ◌++◌, length, refl, sym, subst, ◌∙◌, get_or-eq_default, cases_lt, get_or_default_zero, get_or_append_left, MayBecome, grown_agrees, IsCue, IsPairAt, IsSubRip, IsTime, MayBeSpan, ◌∷◌, slice_index, OccursAt-append, ◌↔◌, IsTrue, []}
-use Rattle.infer_formats.specs.Relation.{lines, subrip}
-use Rattle.infer_formats.specs.Subtitles.{IsSpan, MayBeCue, MayBePair, MayBeSubRip, MayBeTime}
-use Rattle.infer_sig.specs.Places.{StandsByPlace}
-use Rattle.infer_sig.specs.Signature.{accepts, between, stands, byte, at_least}
+use Rattle.infer_formats.proofs.Common.{◌≡◌, ℕ, ◌+◌, ◌<◌, ◌≤◌, List, get_or, arith, AreDigits, EndsLine, IsDigit, ◌⊎◌, inl, inr, ◌-◌, ◌++◌, length, sym, subst, ◌∙◌, get_or-eq_default, cases_lt, get_or_default_zero, get_or_append_left, MayBecome, grown_agrees, IsCue, IsPairAt, IsSubRip, IsTime, ◌∷◌, slice_index, OccursAt-append, ◌↔◌, IsTrue, [], lines, subrip, MayBeCue, MayBeSubRip, MayBeginTime, StandsByPlace, accepts, between, stands, at_least}
+use Rattle.infer_sig.specs.Signature.{byte}
 use Rattle.infer_formats.proofs.GrowthLemmas.{there, carried, kept}
 use Rattle.infer_formats.proofs.OutlineLemmas.{in_range, one, marked, marked_line}
 
@@ -68,7 +65,7 @@ ends_in_number b p n few digits short = inl (
 
 module _ (b : List ℕ) (p n : ℕ) (few : n ≤ 9) (digits : AreDigits b p n) (other : ¬ IsDigit (get_or b (p + n) 0)) (within : p + n < length b) where
   pub cue_goes_on : MayBeCue b p
-      → ((get_or b (p + n) 0 ≡ 0x0D) × (length b ≡ p + n + 1)) ⊎ ((t : ℕ) × EndsLine b (p + n) t × MayBeSpan b t)
+      → ((get_or b (p + n) 0 ≡ 0x0D) × (length b ≡ p + n + 1)) ⊎ ((t : ℕ) × EndsLine b (p + n) t × MayBeginTime b t)
   cue_goes_on (inl (short, all)) = absurd (other (all (p + n) (omega arith) within))
   cue_goes_on (inr (inl (m, small, others, cr, ends))) =
       let shorter = digits m in
@@ -102,23 +99,6 @@ module _ (b more : List ℕ) where
   known_digit : (p : ℕ) → IsDigit (get_or (b ++ more) p 0) → IsDigit (get_or b p 0x30)
   known_digit p h = front_or IsDigit p 0x30 (omega arith, omega arith) h
 
-  known_pair : (p : ℕ) → IsPairAt (b ++ more) p → MayBePair b p
-  known_pair p (x, y) = (known_digit p x, known_digit (p + 1) y)
-
-  known_time : (t : ℕ) → IsTime (b ++ more) t → MayBeTime b t
-  known_time t h = record {
-    hours = known_pair t h.hours;
-    to_minutes = front_or (λ x. x ≡ 0x3A) (t + 2) 0x3A refl h.to_minutes;
-    minutes = known_pair (t + 3) h.minutes;
-    to_seconds = front_or (λ x. x ≡ 0x3A) (t + 5) 0x3A refl h.to_seconds;
-    seconds = known_pair (t + 6) h.seconds;
-    to_thousandths = front_or (λ x. (x ≡ 0x2C) ⊎ (x ≡ 0x2E)) (t + 8) 0x2C (inl refl) h.to_thousandths;
-    thousandths = (known_pair (t + 9) h.thousandths.0, known_digit (t + 11) h.thousandths.1);
-  }
-
-  known_span : (t : ℕ) → IsSpan (b ++ more) t → MayBeSpan b t
-  known_span t (from, arrow, to) = (known_time t from, grown_agrees b more _ (t + 12) arrow, known_time (t + 17) to)
-
   known_cue : (p : ℕ) → IsCue (b ++ more) p → MayBeCue b p
   known_cue p (n, t, (some, few), digits, line, span) = elim (cases_lt (p + n) (length b)) [
     | inr short ↦ inl (
@@ -130,7 +110,7 @@ module _ (b more : List ℕ) where
     | inl within ↦
         let kept : AreDigits b p n = λ k lt. front IsDigit (p + k) (omega arith) (digits k lt) in
         elim line [
-          | inl (lf, at) ↦ inr (inr (n, t, (some, few), kept, inl (front (λ x. x ≡ 0x0A) (p + n) within lf, at), known_span t span))
+          | inl (lf, at) ↦ inr (inr (n, t, (some, few), kept, inl (front (λ x. x ≡ 0x0A) (p + n) within lf, at), known_digit t span.0.hours.0))
           | inr (cr, lf, at) ↦ elim (cases_lt (p + n + 1) (length b)) [
             | inr cut ↦ inr (inl (n, (some, few), kept, front (λ x. x ≡ 0x0D) (p + n) within cr, omega arith))
             | inl l ↦ inr (inr (
@@ -139,7 +119,7 @@ module _ (b more : List ℕ) where
               (some, few),
               kept,
               inr (front (λ x. x ≡ 0x0D) (p + n) within cr, front (λ x. x ≡ 0x0A) (p + n + 1) l lf, at),
-              known_span t span,
+              known_digit t span.0.hours.0,
             ))
           ]
         ]

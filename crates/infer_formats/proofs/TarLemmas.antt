@@ -1,13 +1,6 @@
 -- The checksum is all the digits that stand behind the spaces.
-use Rattle.infer_formats.proofs.Common.{◌≡◌, ℕ, ◌+◌, ◌<◌, ◌≤◌, List, get_or, add-zero, subst, arith, IsField, IsOctal, octal, inl, inr, zero, suc, ◌-◌, ◌++◌, length, refl, sym, ◌∙◌, cases_lt, get_or_append_left, MayBecome, HasTarChecksum, header_sum, sum_from, true, length-append, slice_index, OccursAt, behind, ◌↔◌, IsTrue}
-use Rattle.std.proofs.lemmas.Bool.{and_from, le-leb, or_left, or_right}
-use Rattle.std.proofs.lemmas.List.{get_or-replicate, length-replicate}
-use Rattle.std.specs.Prelude.{nat_le, replicate}
-use Rattle.infer_formats.specs.Outline.{digit_behind, digits_behind}
-use Rattle.infer_formats.specs.Relation.{lines, tar_checksum}
+use Rattle.infer_formats.proofs.Common.{◌≡◌, ℕ, ◌+◌, ◌<◌, ◌≤◌, List, get_or, add-zero, subst, arith, IsField, IsOctal, octal, inl, inr, zero, suc, ◌-◌, ◌++◌, length, refl, sym, ◌∙◌, cases_lt, get_or_append_left, MayBecome, HasTarChecksum, header_sum, sum_from, true, length-append, slice_index, OccursAt, behind, ◌↔◌, IsTrue, and_from, le-leb, or_left, or_right, get_or-replicate, length-replicate, nat_le, replicate, digit_behind, digits_behind, lines, tar_checksum, StandsByPlace, accepts, fits, stands}
 use Rattle.infer_formats.specs.Tar.{HasField}
-use Rattle.infer_sig.specs.Places.{StandsByPlace}
-use Rattle.infer_sig.specs.Signature.{accepts, fits, stands}
 use Rattle.infer_formats.proofs.OutlineLemmas.{in_range, occurs}
 
 module _ (b : List ℕ) (place count p d : ℕ) (low : 148 ≤ place) (spaces : (k : ℕ) → 148 ≤ k → k < place → get_or b k 0 ≡ 0x20)

@@ -1,9 +1,7 @@
 -- Tags of TIFF files: what more bytes keep and may bring, and the bytes that each file has.
-use Rattle.infer_formats.proofs.Common.{[], IsTrue, ◌≡◌, inl, inr, ℕ, ◌+◌, ◌-◌, ◌*◌, ◌/◌, min, ◌<◌, ◌≤◌, Bool, true, false, List, ◌++◌, length, get_or, subst, arith, cases_lt, AgreesAt, are_bytes, MayBecome, agrees_past, grown_agrees, bytes16, number16, number32, BeginsTiff, HasTag, IsTagEntry, ◌∷◌, sym, ◌∙◌, OccursAt-append, ◌↔◌}
-use Rattle.infer_formats.specs.Relation.{lines, directory_tag}
+use Rattle.infer_formats.proofs.Common.{[], IsTrue, ◌≡◌, inl, inr, ℕ, ◌+◌, ◌-◌, ◌*◌, ◌/◌, min, ◌<◌, ◌≤◌, Bool, true, false, List, ◌++◌, length, get_or, subst, arith, cases_lt, AgreesAt, are_bytes, MayBecome, agrees_past, grown_agrees, bytes16, number16, number32, BeginsTiff, HasTag, IsTagEntry, ◌∷◌, sym, ◌∙◌, OccursAt-append, ◌↔◌, lines, directory_tag, StandsByPlace, accepts, at_least, stands}
 use Rattle.infer_formats.specs.Tiff.{MayBeginTiff, MayHaveEntry, MayHaveTag}
-use Rattle.infer_sig.specs.Places.{StandsByPlace}
-use Rattle.infer_sig.specs.Signature.{accepts, at_least, stands, text}
+use Rattle.infer_sig.specs.Signature.{text}
 use Rattle.infer_formats.proofs.GrowthLemmas.{number16-append, number32-append, longer}
 use Rattle.infer_formats.proofs.OpenLemmas.{grown_byte, number16_stands}
 use Rattle.infer_formats.proofs.OutlineLemmas.{occurs, other, one}

@@ -1,9 +1,5 @@
 -- Where tokens end.
-use Rattle.infer_formats.proofs.Common.{[], ◌≡◌, ℕ, ◌+◌, ◌≤◌, ◌<◌, ◌⊎◌, inl, inr, ◌↔◌, Bool, true, false, IsTrue, List, ◌∷◌, ◌++◌, Option, None, Some, length, drop, get_or, append_assoc, refl, sym, subst, ap, ◌∙◌, arith, OnTrue, drop_more, Symbol, range, blanks, value, chars, escape, hex, whole, fraction, power, digits, byte, digit, BeginsWhole, BehindBlanks, text, BeginsText, CanBe, IsAmong, IsKind, OpensWithToken, Stands, nothing, one, by_rule, EndsNumber, Follows, IsBracket, IsKindPastMark, IsPast, IsPastMark, left, Kind, Lines, Text, Token, Chars, Inside, Ended, EndedBefore, Wrong}
-use Rattle.std.proofs.Common.{append-nil}
-use Rattle.std.specs.Prelude.{not}
-use Rattle.infer_formats.specs.Json.{rules, BeginsToken, IsBlank, IsMark, NoneGoesOn}
-use Rattle.infer_formats.specs.JsonStates.{IsKindBefore, NoToken, Starts}
+use Rattle.infer_formats.proofs.Common.{[], ◌≡◌, ℕ, ◌+◌, ◌≤◌, ◌<◌, ◌⊎◌, inl, inr, ◌↔◌, Bool, true, false, IsTrue, List, ◌∷◌, ◌++◌, Option, None, Some, length, drop, get_or, append_assoc, refl, sym, subst, ap, ◌∙◌, arith, OnTrue, drop_more, Symbol, range, blanks, value, chars, escape, hex, whole, fraction, power, digits, byte, digit, BeginsWhole, BehindBlanks, text, BeginsText, CanBe, IsAmong, IsKind, OpensWithToken, Stands, nothing, one, by_rule, EndsNumber, Follows, IsBracket, IsKindPastMark, IsPast, IsPastMark, left, Kind, Lines, Text, Token, Chars, Inside, Ended, EndedBefore, Wrong, append-nil, not, rules, BeginsToken, IsBlank, IsMark, NoneGoesOn, IsKindBefore, NoToken, Starts}
 use Rattle.infer_formats.specs.declared.json.token.Step.{Step}
 use Rattle.infer_formats.proofs.CompleteLemmas.{AllHold, Completes, completes, token_holds}
 use Rattle.infer_formats.proofs.JsonLemmas.{value_begins}

@@ -1,13 +1,11 @@
 -- Beginnings of UTF-8, by what each byte may follow.
-use Rattle.infer_formats.proofs.Common.{◌≡◌, ℕ, zero, suc, ◌+◌, ◌-◌, ◌<◌, ◌≤◌, inl, inr, ◌↔◌, List, [], ◌∷◌, ◌++◌, length, get_or, take, drop, refl, sym, subst, ap, ◌∙◌, arith, append_assoc, drop_more, drop_all, cases_lt}
-use Rattle.std.proofs.Common.{take-append-drop, take_all, append-nil}
+use Rattle.infer_formats.proofs.Common.{◌≡◌, ℕ, zero, suc, ◌+◌, ◌-◌, ◌<◌, ◌≤◌, inl, inr, ◌↔◌, List, [], ◌∷◌, ◌++◌, length, get_or, take, drop, refl, sym, subst, ap, ◌∙◌, arith, append_assoc, drop_more, drop_all, cases_lt, take-append-drop, take_all, append-nil, BeginsUtf8, IsCutLen, MayBeginChar, MayFollow}
 use Rattle.std.proofs.lemmas.Str.{IsUtf8-append}
 use Rattle.std.specs.Str.{IsUtf8}
 use Rattle.simdutf8.specs.Steps.{IsClosed, IsContinuation, Step, first, second, later, StepsThen, least_after}
 use Rattle.simdutf8.specs.Tracks.{last_three}
 use Rattle.simdutf8.proofs.Chars.{least_is, most_is, StepsThen-IsUtf8, closed-IsUtf8}
 use Rattle.simdutf8.proofs.StepsLemmas.{StepsThen_parts, StepsThen-append}
-use Rattle.infer_formats.specs.Text.{BeginsUtf8, IsCutLen, MayBeginChar, MayFollow}
 
 -- a character of two, three and four bytes
 char_of_two : (x y : ℕ) → MayFollow x y → x < 0xE0 → IsUtf8 (x ∷ y ∷ [])

@@ -1,16 +1,9 @@
 -- ZIP archives and packages: the first entry with a property, what more bytes keep and may make, and the bytes that each has.
-use Rattle.infer_formats.proofs.Common.{[], ◌≡◌, ◌↔◌, ℕ, ◌+◌, ◌-◌, ◌<◌, ◌≤◌, inl, inr, List, length, codes, get_or, take, drop, add-zero, ap, refl, subst, ◌∙◌, arith, eq-eqb, length-drop, take_rest, OccursAt, Nowhere, Passes, is_byte, zip_header, IsFirstFolder, IsFolderEntry, IsPackageWith, IsPartEntry, MayBeginPackage, applications, IsTrue, zero, suc, ◌/◌, ◌%◌, ◌++◌, cases_lt, le16, AgreesAt, are_bytes, MayBecome, agrees_past, grown_agrees, most16, FirstEntryEndsIn, FirstEntryHasExtra, FirstEntryIs, sym, nat_eq, OccursAt-append, OccursAt-first, ◌∷◌, slice_index, OccursAt-front, nat_tests}
-use Rattle.std.proofs.lemmas.Bool.{and_from, lt-ltb}
-use Rattle.std.specs.Prelude.{if◌then◌else◌, nat_lt}
-use Rattle.infer_deep.proofs.NumberLemmas.{le16-append}
-use Rattle.infer_formats.specs.Numbers.{low_bytes}
-use Rattle.infer_formats.specs.Outline.{counted, counted_for, named}
-use Rattle.infer_formats.specs.Relation.{lines, package_with}
+use Rattle.infer_formats.proofs.Common.{[], ◌≡◌, ◌↔◌, ℕ, ◌+◌, ◌-◌, ◌<◌, ◌≤◌, inl, inr, List, length, codes, get_or, take, drop, add-zero, ap, refl, subst, ◌∙◌, arith, eq-eqb, length-drop, take_rest, OccursAt, Nowhere, Passes, is_byte, zip_header, IsFirstFolder, IsFolderEntry, IsPackageWith, IsPartEntry, MayBeginPackage, applications, IsTrue, zero, suc, ◌/◌, ◌%◌, ◌++◌, cases_lt, le16, AgreesAt, are_bytes, MayBecome, grown_agrees, FirstEntryEndsIn, FirstEntryHasExtra, FirstEntryIs, sym, nat_eq, OccursAt-append, OccursAt-first, ◌∷◌, slice_index, OccursAt-front, nat_tests, and_from, lt-ltb, if◌then◌else◌, nat_lt, le16-append, low_bytes, counted, counted_for, named, lines, package_with, StandsByPlace, accepts, all_but, at_least, fits, stands}
 use Rattle.infer_formats.specs.Zip.{IsOneOf, MayBeginAny, MayHaveFirstEnding, MayHaveFirstField, MayHaveFirstName, MayOpenPackage, HasFirstName}
-use Rattle.infer_sig.specs.Places.{StandsByPlace}
-use Rattle.infer_sig.specs.Signature.{accepts, all_but, at_least, fits, stands, byte, text}
+use Rattle.infer_sig.specs.Signature.{byte, text}
 use Rattle.infer_formats.proofs.GrowthLemmas.{there, longer}
-use Rattle.infer_formats.proofs.OpenLemmas.{grown_byte, most16_grown, most16_known}
+use Rattle.infer_formats.proofs.OpenLemmas.{grown_byte}
 use Rattle.infer_formats.proofs.OutlineLemmas.{begins, occurs, other, two}
 use Rattle.infer_formats.proofs.PartLemmas.{part_reads}
 use Rattle.infer_sig.specs.Signature as fixed
@@ -237,29 +230,23 @@ name_known name b b_bytes (more, bytes, (h, is, o)) =
     go (suc zero) l = let low = grown_byte b more 26 b_bytes bytes in let x : get_or (b ++ more) 27 0 ≡ length name / 256 = omega arith in x
     go (suc (suc k)) l = absurd (omega arith)
 
-pub ending_known : (wanted b : List ℕ) → IsTrue (are_bytes b) → MayBecome (FirstEntryEndsIn wanted) b → MayHaveFirstEnding wanted b
-ending_known wanted b b_bytes (more, bytes, (h, long, o)) =
-    let most = most16_grown b more 26 b_bytes bytes in
-    record {
-      short = omega arith;
-      header = grown_agrees b more zip_header 0 h.header;
-      tells = elim (cases_lt (length b) 28) [
-        | inl l ↦ agrees_past b wanted (30 + most16 b 26 - length wanted) (omega arith)
-        | inr l ↦ subst (λ (m : ℕ). AgreesAt b wanted (30 + m - length wanted)) (most16_known b more 26 l) (grown_agrees b more wanted _ o)
-      ];
-    }
+pub ending_known : (wanted b : List ℕ) → MayBecome (FirstEntryEndsIn wanted) b → MayHaveFirstEnding wanted b
+ending_known wanted b (more, bytes, (h, long, o)) = record {
+  header = grown_agrees b more zip_header 0 h.header;
+  tells = λ whole.
+      let same = le16-append b more 26 (omega arith) in
+      (subst (λ n. length wanted ≤ n) same long, subst (λ n. AgreesAt b wanted (30 + n - length wanted)) same (grown_agrees b more wanted _ o));
+}
 
-pub extra_known : (wanted b : List ℕ) → IsTrue (are_bytes b) → MayBecome (FirstEntryHasExtra wanted) b → MayHaveFirstField wanted b
-extra_known wanted b b_bytes (more, bytes, (h, long, o)) =
-    let most = most16_grown b more 28 b_bytes bytes in
-    record {
-      short = omega arith;
-      header = grown_agrees b more zip_header 0 h.header;
-      tells = elim (cases_lt (length b) 28) [
-        | inl l ↦ agrees_past b wanted (30 + most16 b 26) (omega arith)
-        | inr l ↦ subst (λ (m : ℕ). AgreesAt b wanted (30 + m)) (most16_known b more 26 l) (grown_agrees b more wanted _ o)
-      ];
-    }
+pub extra_known : (wanted b : List ℕ) → MayBecome (FirstEntryHasExtra wanted) b → MayHaveFirstField wanted b
+extra_known wanted b (more, bytes, (h, long, o)) = record {
+  header = grown_agrees b more zip_header 0 h.header;
+  tells = λ whole.
+      let same = le16-append b more 26 (omega arith) in (
+        subst (λ n. length wanted ≤ n) (le16-append b more 28 (omega arith)) long,
+        subst (λ n. AgreesAt b wanted (30 + n)) same (grown_agrees b more wanted _ o),
+      );
+}
 
 -- ---- a package
 

@@ -2,7 +2,6 @@
 use Rattle.std.specs.Prelude.{◌≡◌, ◌==◌, ℕ, ◌+◌, ◌%◌, ◌≤◌, ◌⊎◌, ◌&&◌, nat_le, if◌then◌else◌, IsTrue, List, [], ◌∷◌, length, codes, slice_index}
 use Rattle.std.specs.List.{list_any}
 use Rattle.infer_deep.specs.Numbers.{le16}
-use Rattle.infer_deep.specs.Open.{AgreesAt}
 use Rattle.infer_formats.specs.Open.{MayBe}
 
 -- the byte is one of these
@@ -49,16 +48,8 @@ MayBeDated b =
 abbrev pub MayHaveField : List ℕ → Type 0
 MayHaveField b = MayBe BeginsName b 32 × MayBe (IsOneOf (codes "+@BCDFGILMNOPTVXY")) b 43
 
--- whole fields may end where the header says, as far as b has the two bytes at 8, and the fields
-abbrev pub MayEndFields : List ℕ → Type 0
-MayEndFields b =
-    (length b ≤ 8) ⊎ ((length b ≡ 9) × (slice_index b 8 % 32 ≡ behind (slice_index b 0) % 32))
-    ⊎ ((10 ≤ length b)
-    × ((e : ℕ) × (e + behind (slice_index b 0) ≡ le16 b 8) × (64 ≤ e) × (e % 32 ≡ 0) × AgreesAt b (0x0D ∷ []) e))
-
 -- what b has of the header is one of a table
 pub record MayBeDbase (b : List ℕ) : Type 0 where
   pub dated : MayBeDated b
   pub field : MayHaveField b
   pub many : 12 ≤ length b → 2 ≤ le16 b 10
-  pub ends : MayEndFields b

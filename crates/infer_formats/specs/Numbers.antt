@@ -20,10 +20,6 @@ number64 big b p = if big then 0x100000000 * be32 b p + be32 b (p + 4) else le32
 abbrev pub low_bytes : ℕ → List ℕ
 low_bytes n = n % 256 ∷ n / 256 ∷ []
 
--- the greatest number that the two bytes at p may come to write, the lowest first
-abbrev pub most16 : List ℕ → ℕ → ℕ
-most16 b p = slice_index_or b p 0xFF + 256 * slice_index_or b (p + 1) 0xFF
-
 -- the two bytes of a number in either order
 abbrev pub bytes16 : Bool → ℕ → List ℕ
 bytes16 big n = if big then n / 256 ∷ n % 256 ∷ [] else low_bytes n

@@ -95,8 +95,3 @@ IsProgram name b = OccursAt b (codes "#!") 0 × ((at end : ℕ) × IsProgramAt b
 -- a byte of a program's name is one of a word, and no "/"
 abbrev pub IsNameByte : ℕ → Type 0
 IsNameByte x = IsWordByte x × (x ≢ 0x2F)
-
--- a script can have a program of this name: its bytes are such, and the last is none of a version
-pub record IsBareName (name : List ℕ) : Type 0 where
-  pub bytes : (k : ℕ) → k < length name → IsNameByte (slice_index name k)
-  pub bare : 0 < length name → ¬ IsVersionByte (slice_index name (length name - 1))

@@ -41,23 +41,9 @@ IsCue b p = (n t : ℕ) × ((1 ≤ n) × (n ≤ 9)) × AreDigits b p n × EndsLi
 abbrev pub IsSubRip : List ℕ → Type 0
 IsSubRip b = IsCue b 0 ⊎ (OccursAt b (0xEF ∷ 0xBB ∷ 0xBF ∷ []) 0 × IsCue b 3)
 
--- as far as b goes, two digits may stand at p: a byte past its end counts as a right one
-abbrev pub MayBePair : List ℕ → ℕ → Type 0
-MayBePair b p = IsDigit (slice_index_or b p 0x30) × IsDigit (slice_index_or b (p + 1) 0x30)
-
--- or a time
-pub record MayBeTime (b : List ℕ) (t : ℕ) : Type 0 where
-  pub hours : MayBePair b t
-  pub to_minutes : slice_index_or b (t + 2) 0x3A ≡ 0x3A
-  pub minutes : MayBePair b (t + 3)
-  pub to_seconds : slice_index_or b (t + 5) 0x3A ≡ 0x3A
-  pub seconds : MayBePair b (t + 6)
-  pub to_thousandths : (slice_index_or b (t + 8) 0x2C ≡ 0x2C) ⊎ (slice_index_or b (t + 8) 0x2C ≡ 0x2E)
-  pub thousandths : MayBePair b (t + 9) × IsDigit (slice_index_or b (t + 11) 0x30)
-
--- or two with an arrow between them
-abbrev pub MayBeSpan : List ℕ → ℕ → Type 0
-MayBeSpan b t = MayBeTime b t × AgreesAt b (codes " --> ") (t + 12) × MayBeTime b (t + 17)
+-- as far as b goes, a time may begin at t: a byte past its end counts as a digit
+abbrev pub MayBeginTime : List ℕ → ℕ → Type 0
+MayBeginTime b t = IsDigit (slice_index_or b t 0x30)
 
 -- b ends in the number of a cue at p or before it, or in the middle of the end of its line
 abbrev pub EndsInNumber : List ℕ → ℕ → Type 0
@@ -71,7 +57,7 @@ EndsInLineEnd b p =
 abbrev pub MayBeCue : List ℕ → ℕ → Type 0
 MayBeCue b p =
     EndsInNumber b p ⊎ EndsInLineEnd b p
-    ⊎ ((n t : ℕ) × ((1 ≤ n) × (n ≤ 9)) × AreDigits b p n × EndsLine b (p + n) t × MayBeSpan b t)
+    ⊎ ((n t : ℕ) × ((1 ≤ n) × (n ≤ 9)) × AreDigits b p n × EndsLine b (p + n) t × MayBeginTime b t)
 
 -- and with it subtitles may
 abbrev pub MayBeSubRip : List ℕ → Type 0

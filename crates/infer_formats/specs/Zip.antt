@@ -4,7 +4,7 @@ use Rattle.memchr.specs.Find.{OccursAt}
 use Rattle.infer_deep.specs.Numbers.{le16}
 use Rattle.infer_deep.specs.Office.{zip_header}
 use Rattle.infer_deep.specs.Open.{AgreesAt}
-use Rattle.infer_formats.specs.Numbers.{low_bytes, most16}
+use Rattle.infer_formats.specs.Numbers.{low_bytes}
 
 -- b begins with an entry, whose name, of the length that the two bytes at 26 say, lies in b
 pub record HasFirstName (b : List ℕ) : Type 0 where
@@ -91,17 +91,15 @@ pub record MayHaveFirstName (name b : List ℕ) : Type 0 where
   pub sized : AgreesAt b (low_bytes (length name)) 26
   pub tells : AgreesAt b name 30
 
--- or one that ends in the text: of a length that b does not say, the greatest is taken
+-- or one that ends in the text, if b has the whole header
 pub record MayHaveFirstEnding (text b : List ℕ) : Type 0 where
-  pub short : length text ≤ most16 b 26
   pub header : AgreesAt b zip_header 0
-  pub tells : AgreesAt b text (30 + most16 b 26 - length text)
+  pub tells : 30 ≤ length b → (length text ≤ le16 b 26) × AgreesAt b text (30 + le16 b 26 - length text)
 
 -- or the text behind its name
 pub record MayHaveFirstField (text b : List ℕ) : Type 0 where
-  pub short : length text ≤ most16 b 28
   pub header : AgreesAt b zip_header 0
-  pub tells : AgreesAt b text (30 + most16 b 26)
+  pub tells : 30 ≤ length b → (length text ≤ le16 b 28) × AgreesAt b text (30 + le16 b 26)
 
 -- or b begins with an entry that a package with the folder may have first
 abbrev pub MayOpenPackage : List ℕ → List ℕ → Type 0

@@ -2,7 +2,7 @@
 #![tactic(auto, unfolding(crate::specs::Numbers::be16))]
 
 ghost use Rattle.std.specs.Prelude.{◌≡◌, ◌+◌, ◌≤◌, length, slice_index_or};
-ghost use Rattle.infer_formats.specs.Numbers.{be16, bytes16, most16, number16, number32, number64};
+ghost use Rattle.infer_formats.specs.Numbers.{be16, bytes16, number16, number32, number64};
 
 use infer_deep::numbers::{be32, le16, le32};
 
@@ -48,15 +48,6 @@ pub fn number64(buf: &[u8], place: usize, big: bool) -> u64
     } else {
         u64::from(le32(buf, place)) + 0x1_0000_0000 * u64::from(le32(buf, place + 4))
     }
-}
-
-/// The greatest number that the two bytes from `place` on may come to write, the lowest first.
-pub(crate) fn most16(buf: &[u8], place: usize) -> usize
-    requires { place ≤ 0xFFFF }
-    ensures is { result ≡ most16 buf.now place }
-    ensures small { result ≤ 0xFFFF }
-{
-    byte_or(buf, place, 0xFF) as usize + 256 * byte_or(buf, place + 1, 0xFF) as usize
 }
 
 /// The byte at `place`, or the other one where `buf` ends before it.

@@ -7,8 +7,8 @@ ghost use Rattle.infer_formats.specs.Script.{EndsBare, IsBlank, IsEnv, IsFolder,
 mod open;
 
 use infer_deep::places::{has_at, same_at};
+use open::is_same;
 pub use open::may_become_program;
-use open::{has_equals, is_same};
 
 /// A word of the first line: where it begins and ends, where its name begins, and whether it has "=".
 #[derive(Clone, Copy)]

@@ -4,7 +4,7 @@ ghost use Rattle.infer_formats.specs.Zip.{FirstEntryEndsIn, FirstEntryHasExtra, 
 ghost use Rattle.infer_deep.specs.Signatures.{MayBecome};
 
 use super::{EXTRA_LENGTH, NAME, NAME_LENGTH, first_folder};
-use crate::numbers::most16;
+use infer_deep::numbers::le16;
 use infer_deep::places::{may_stand_at, stands_at};
 
 /// Whether some bytes after `buf`, or none, may give the first entry this name.
@@ -32,7 +32,7 @@ fn may_have_first_name(buf: &[u8], name: &[u8]) -> bool
 }
 
 /// Whether some bytes after `buf`, or none, may give the first entry a name that ends in this text, or is it.
-#[tactic(auto, using(infer_deep::proofs::OpenLemmas::test_from_reads, crate::proofs::ZipLemmas::ending_known))]
+#[tactic(auto, using(crate::proofs::ZipLemmas::ending_known))]
 pub fn may_have_first_entry_ending(buf: &[u8], text: &[u8]) -> bool
     ensures { MayBecome (FirstEntryEndsIn text.now) buf.now → IsTrue result }
 {
@@ -42,14 +42,18 @@ pub fn may_have_first_entry_ending(buf: &[u8], text: &[u8]) -> bool
 fn may_have_first_ending(buf: &[u8], text: &[u8]) -> bool
     ensures { IsTrue result ↔ MayHaveFirstEnding text.now buf.now }
 {
-    let length = most16(buf, NAME_LENGTH);
-    text.len() <= length
-        && may_stand_at(buf, b"PK\x03\x04", 0)
-        && may_stand_at(buf, text, NAME + length - text.len())
+    if !may_stand_at(buf, b"PK\x03\x04", 0) {
+        return false;
+    }
+    if buf.len() < NAME {
+        return true;
+    }
+    let length = le16(buf, NAME_LENGTH) as usize;
+    text.len() <= length && may_stand_at(buf, text, NAME + length - text.len())
 }
 
 /// Whether some bytes after `buf`, or none, may give the first entry an extra field that begins with this text.
-#[tactic(auto, using(infer_deep::proofs::OpenLemmas::test_from_reads, crate::proofs::ZipLemmas::extra_known))]
+#[tactic(auto, using(crate::proofs::ZipLemmas::extra_known))]
 pub fn may_have_first_extra(buf: &[u8], text: &[u8]) -> bool
     ensures { MayBecome (FirstEntryHasExtra text.now) buf.now → IsTrue result }
 {
@@ -59,9 +63,14 @@ pub fn may_have_first_extra(buf: &[u8], text: &[u8]) -> bool
 fn may_have_first_field(buf: &[u8], text: &[u8]) -> bool
     ensures { IsTrue result ↔ MayHaveFirstField text.now buf.now }
 {
-    text.len() <= most16(buf, EXTRA_LENGTH)
-        && may_stand_at(buf, b"PK\x03\x04", 0)
-        && may_stand_at(buf, text, NAME + most16(buf, NAME_LENGTH))
+    if !may_stand_at(buf, b"PK\x03\x04", 0) {
+        return false;
+    }
+    if buf.len() < NAME {
+        return true;
+    }
+    text.len() <= le16(buf, EXTRA_LENGTH) as usize
+        && may_stand_at(buf, text, NAME + le16(buf, NAME_LENGTH) as usize)
 }
 
 /// Whether some bytes after `buf`, or none, may make it a package of the Open Packaging Conventions whose first folder of

@@ -1,5 +1,4 @@
-use Rattle.infer_formats.proofs.Common.{None, subst, OnTrue, IsKind}
-use Rattle.std.specs.Prelude.{not}
+use Rattle.infer_formats.proofs.Common.{None, subst, OnTrue, IsKind, not}
 use Rattle.infer_formats.proofs.json.kind_of.Goals as goal
 
 pub returns-else-may_open : goal.returns-else-may_open

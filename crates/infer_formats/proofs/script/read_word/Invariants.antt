@@ -1,6 +1,5 @@
 -- the bytes so far are those of a word, its name begins behind the last "/", and "=" is told
-use Rattle.infer_formats.proofs.Common.{◌≡◌, ◌↔◌, ℕ, ◌-◌, ◌<◌, ◌≤◌, IsTrue, get_or, IsWordByte}
-use Rattle.infer_formats.specs.Script.{HasEquals}
+use Rattle.infer_formats.proofs.Common.{◌≡◌, ◌↔◌, ℕ, ◌-◌, ◌<◌, ◌≤◌, IsTrue, get_or, IsWordByte, HasEquals}
 use Rattle.infer_formats.proofs.script.read_word.Given as goal
 
 abbrev pub invariant-loop-to : goal.invariant-loop-to

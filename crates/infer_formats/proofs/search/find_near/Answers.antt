@@ -1,5 +1,4 @@
-use Rattle.infer_formats.proofs.Common.{◌≡◌, inl, inr, ◌+◌, ◌-◌, get_or, ap, subst, sym, ◌∙◌, arith, bit_at, cases_lt}
-use Rattle.std.proofs.Common.{w64}
+use Rattle.infer_formats.proofs.Common.{◌≡◌, inl, inr, ◌+◌, ◌-◌, get_or, ap, subst, sym, ◌∙◌, arith, bit_at, cases_lt, w64}
 use Rattle.std.proofs.lemmas.Nat.Bits.{bit_at-trailing_zeros, bit_at-zero}
 use Rattle.infer_formats.proofs.search.find_near.Goals as goal
 

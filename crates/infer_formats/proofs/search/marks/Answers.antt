@@ -1,5 +1,4 @@
-use Rattle.infer_formats.proofs.Common.{◌≡◌, ◌↔◌, ◌+◌, ◌<◌, eqb, get_or, take, drop, map, sym, subst, ◌∙◌, arith, bit_at}
-use Rattle.std.proofs.Common.{w8}
+use Rattle.infer_formats.proofs.Common.{◌≡◌, ◌↔◌, ◌+◌, ◌<◌, eqb, get_or, take, drop, map, sym, subst, ◌∙◌, arith, bit_at, w8}
 use Rattle.std.proofs.lemmas.Simd.{bit_mask_l, bitmask_splat, get_or-chunk, length-chunk}
 use Rattle.infer_formats.proofs.NearLemmas.{bit_marked}
 use Rattle.infer_formats.proofs.search.marks.Goals as goal

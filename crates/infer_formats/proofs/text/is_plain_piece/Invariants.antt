@@ -1,6 +1,5 @@
 -- whether the bytes so far are none of binary data
-use Rattle.std.proofs.Common.{not}
-use Rattle.infer_formats.proofs.Common.{OnTrue, AllBelow, IsDataByte, IsPlainByte, SomeBelow}
+use Rattle.infer_formats.proofs.Common.{not, OnTrue, AllBelow, IsDataByte, IsPlainByte, SomeBelow}
 use Rattle.infer_formats.proofs.text.is_plain_piece.Given as goal
 
 abbrev pub invariant-loop-i : goal.invariant-loop-i

@@ -1,6 +1,5 @@
-use Rattle.infer_formats.proofs.Common.{◌≡◌, ◌↔◌, inl, inr, ℕ, ◌+◌, ◌-◌, ◌<◌, ◌≤◌, List, Option, None, Some, length, get_or, take, is_some, refl, subst, sym, arith, eq-eqb, IsTrue, cases_lt, eqb-true, IsFirstByte, OccursAt, is_byte, IsFirstWithin, HasInTag}
+use Rattle.infer_formats.proofs.Common.{◌≡◌, ◌↔◌, inl, inr, ℕ, ◌+◌, ◌-◌, ◌<◌, ◌≤◌, List, Option, None, Some, length, get_or, take, is_some, refl, subst, sym, arith, eq-eqb, IsTrue, cases_lt, eqb-true, IsFirstByte, OccursAt, is_byte, IsFirstWithin, HasInTag, OccursAt-part}
 use Rattle.std.specs.Option.{unwrap_or}
-use Rattle.infer_deep.proofs.PlaceLemmas.{OccursAt-part}
 use Rattle.infer_formats.proofs.markup.Root.has_in_tag.Goals as goal
 
 -- a tag ends at the first ">", or where the buffer does

@@ -1,6 +1,5 @@
 -- the bytes so far are those of a name, and what follows their last ":" begins there
-use Rattle.infer_formats.proofs.Common.{ℕ, ◌<◌, ◌≤◌, get_or, IsAfterLast}
-use Rattle.infer_formats.specs.Markup.{IsNameByte}
+use Rattle.infer_formats.proofs.Common.{ℕ, ◌<◌, ◌≤◌, get_or, IsAfterLast, IsNameByte}
 use Rattle.infer_formats.proofs.markup.prolog.read_name.Given as goal
 
 abbrev pub invariant-loop-to : goal.invariant-loop-to

@@ -1,4 +1,4 @@
-use Rattle.infer_formats.proofs.Common.{inl, inr, refl, subst, arith, eq-eqb, eqb-true, MayBeSpan}
+use Rattle.infer_formats.proofs.Common.{inl, inr, refl, subst, arith, eq-eqb, eqb-true, MayBeginTime}
 use Rattle.infer_formats.proofs.SubtitlesLemmas.{cue_goes_on, cut_line, ends_in_number, line_same, line_after}
 use Rattle.infer_formats.proofs.subtitles.open.may_be_cue.Goals as goal
 
@@ -11,11 +11,11 @@ pub returns-in-Some : goal.returns-in-Some
 returns-in-Some c =
     let n = c.digit_count-count.ensures in
     let line = c.in-Some.ensures.0 in (
-      λ is. inr (inr (c.digit_count-count.result, c.in-Some.line, (omega arith, omega arith), n.digits, line, c.may_be_span.ensures.0 is)),
+      λ is. inr (inr (c.digit_count-count.result, c.in-Some.line, (omega arith, omega arith), n.digits, line, c.may_begin_time.ensures.0 is)),
       λ may. elim (cue_goes_on c.args.buf.now c.args.place c.digit_count-count.result (omega arith) n.digits (n.ends (omega arith)) (omega arith) may) [
         | inl (cr, ends) ↦ absurd (cut_line c.args.buf.now _ c.in-Some.line cr ends line)
         | inr (t, other, span) ↦
-            c.may_be_span.ensures.1 (subst (MayBeSpan c.args.buf.now) (line_same c.args.buf.now _ t c.in-Some.line other line) span)
+            c.may_begin_time.ensures.1 (subst (MayBeginTime c.args.buf.now) (line_same c.args.buf.now _ t c.in-Some.line other line) span)
       ],
     )
 
