@@ -1,7 +1,7 @@
 // Other names of the types, as Node reads them.
-import { readFile } from "node:fs/promises";
+import { readFileSync } from "node:fs";
 import { fillFrom } from "./aliases-core.js";
 
-fillFrom(await readFile(new URL("aliases.def", import.meta.url), "utf8"));
+fillFrom(readFileSync(new URL("aliases.def", import.meta.url), "utf8"));
 
 export { browserTypes, builtOn, extensions, mimeTypes } from "./aliases-core.js";

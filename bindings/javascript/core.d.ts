@@ -8,11 +8,22 @@ export interface FileTypeResult {
 /** Bytes of any kind. */
 export type Bytes = ArrayBufferView | ArrayBufferLike;
 
+/** A detector of your own: what the first bytes, 8192 at most, are, or undefined. */
+export type Detector = (front: Uint8Array) => FileTypeResult | undefined | Promise<FileTypeResult | undefined>;
+
+/** What is asked. */
+export interface Options {
+    /** Whether the wider answer is told, which knows the further types too. */
+    readonly more?: boolean;
+    /** They are asked in their order, before the library. */
+    readonly detectors?: readonly Detector[];
+}
+
 /** The type by the first 8192 bytes, or undefined if they are of no known type. */
-export function fileTypeFromBuffer(bytes: Bytes): Promise<FileTypeResult | undefined>;
+export function fileTypeFromBuffer(bytes: Bytes, options?: Options): Promise<FileTypeResult | undefined>;
 
 /** The type of a Blob or File, of which 8192 bytes are read at most. */
-export function fileTypeFromBlob(blob: Blob): Promise<FileTypeResult | undefined>;
+export function fileTypeFromBlob(blob: Blob, options?: Options): Promise<FileTypeResult | undefined>;
 
 /** The wider answer by the first 8192 bytes: that of fileTypeFromBuffer, or a further type that is more exact. */
 export function wider(bytes: Bytes): FileTypeResult | undefined;
@@ -26,8 +37,14 @@ export function encoding(bytes: Bytes): "us-ascii" | "utf-8" | "utf-16le" | "utf
 /** Whether no bytes that may follow can change the answer of fileTypeFromBuffer. */
 export function isDecided(bytes: Bytes): boolean;
 
-/** Whether no bytes that may follow can change the answer of wider. */
+/** Whether no bytes that may follow can change the answer of wider. It can be false although none can. */
 export function isWiderDecided(bytes: Bytes): boolean;
+
+/** Whether some bytes that may follow make a type that fileTypeFromBuffer knows, with this extension, accept. */
+export function mayBecome(bytes: Bytes, ext: string): boolean;
+
+/** The same of the types that wider knows. Of a further type it can be true although no bytes do. */
+export function mayBecomeWider(bytes: Bytes, ext: string): boolean;
 
 /** What is wrong with a text that describes no types, and where: the line and the column, both from 1, a column by bytes. */
 export class TypesError extends SyntaxError {
@@ -47,6 +64,9 @@ export class Types {
      * answer of wider if there is none.
      */
     wider(bytes: Bytes): FileTypeResult | undefined;
+
+    /** The number of the line, from 1, whose type that is, and undefined if it is that of the function wider, or none. */
+    line(bytes: Bytes): number | undefined;
 }
 
 /** The extensions that fileTypeFromBuffer knows. */
@@ -62,3 +82,9 @@ export interface KnownType extends FileTypeResult {
 
 /** The types that wider knows, in the order in which they are asked: those of fileTypeFromBuffer and the further types. */
 export const knownTypes: readonly KnownType[];
+
+/** A short buffer of which the type with that number in knownTypes is the answer, or the wider answer, if there is one. */
+export function sample(number: number): Uint8Array | undefined;
+
+/** The version of the library. */
+export const version: string;

@@ -6,6 +6,8 @@ const FRONT = 8192;
 /** Most files are told by so many bytes, and of a Blob no more are read then. */
 const FIRST = 1024;
 const PAGE = 65536;
+/** Room for the longest sample. */
+const SAMPLE = 1088;
 /** Room for a text that the module writes, of which two stand behind the bytes that it is asked about. */
 const TEXT = 256;
 /** Then come two numbers, and a text of types. */
@@ -21,11 +23,15 @@ let place;
 let room;
 /** The text of types that the module sees. */
 let held;
+/** How many of the rows are built-in. */
+let builtIn;
 
 export const supportedExtensions = new Set();
 export const supportedMimeTypes = new Set();
 /** The types that wider knows, by their rows. */
 export let knownTypes = [];
+/** The version of the library. */
+export let version = "";
 
 /** Older engines take the number of pages as a number, and later ones as a BigInt. */
 const grow = (memory, pages) => {
@@ -50,19 +56,41 @@ const textOf = (write, ...asked) => {
     return new TextDecoder().decode(room.slice(FRONT, FRONT + length));
 };
 
-/** Makes the package ready. `read` gives the bytes of infer.wasm, or a promise of them. */
+const noModule = (fault) =>
+    new Error(`hoarvelt-infer has no module infer.wasm, which bindings/javascript/fill copies to it: ${fault.message}`, { cause: fault });
+
+const refuseUnlessValid = (bytes) => {
+    if (!WebAssembly.validate(WIDE) && !WebAssembly.validate(bytes)) throw new Error(NO_WIDE_MEMORY);
+};
+
+/** Makes the package ready. `read` gives a promise of the bytes of infer.wasm. */
 export const connect = async (read) => {
+    const bytes = await read().catch((fault) => {
+        throw noModule(fault);
+    });
+    refuseUnlessValid(bytes);
+    begin((await WebAssembly.instantiate(bytes, {})).instance);
+};
+
+/** The same at once, so that Node can `require` the package. `read` gives the bytes. */
+export const connectAtOnce = (read) => {
     let bytes;
     try {
-        bytes = await read();
+        bytes = read();
     } catch (fault) {
-        throw new Error(`hoarvelt-infer has no module infer.wasm, which bindings/javascript/fill copies to it: ${fault.message}`, { cause: fault });
+        throw noModule(fault);
     }
-    if (!WebAssembly.validate(WIDE) && !WebAssembly.validate(bytes)) throw new Error(NO_WIDE_MEMORY);
-    infer = (await WebAssembly.instantiate(bytes, {})).instance.exports;
+    refuseUnlessValid(bytes);
+    begin(new WebAssembly.Instance(new WebAssembly.Module(bytes), {}));
+};
+
+const begin = (instance) => {
+    infer = instance.exports;
     place = infer.__heap_base.value;
     makeRoom(TYPES);
-    const [builtIn, all] = [Number(infer.infer_row_count()), Number(infer.infer_more_row_count())];
+    builtIn = Number(infer.infer_row_count());
+    version = textOf(infer.infer_version);
+    const all = Number(infer.infer_more_row_count());
     const typeOfRow = (_, row) =>
         Object.freeze({ ext: textOf(infer.infer_extension, row), mime: textOf(infer.infer_mime_type, row), class: textOf(infer.infer_class_name, infer.infer_class(row)) });
     knownTypes = Object.freeze(Array.from({ length: all }, typeOfRow));
@@ -84,10 +112,38 @@ const answerOf = (row) => {
 const typeOf = (input) => answerOf(ask(infer.infer_position, input));
 
 export const wider = (input) => answerOf(ask(infer.infer_more_position, input));
+
+/** Whether a question says yes of one of the first rows with that extension. */
+const someRow = (question, input, ext, count) => {
+    const size = hand(input);
+    return knownTypes.slice(0, count).some((known, row) => known.ext === ext && question(place, size, row) !== 0);
+};
+export const mayBecome = (input, ext) => someRow(infer.infer_may_become, input, ext, builtIn);
+export const mayBecomeWider = (input, ext) => someRow(infer.infer_more_may_become, input, ext);
+
+export const sample = (number) => {
+    if (!Number.isInteger(number) || !(number in knownTypes)) return undefined;
+    const size = Number(infer.infer_sample(number, place, BigInt(SAMPLE)));
+    return size > 0 ? room.slice(0, size) : undefined;
+};
 export const encoding = (input) => textOf(infer.infer_encoding, place, hand(input)) || undefined;
 export const isDecided = (input) => ask(infer.infer_is_decided, input) !== 0;
 export const isWiderDecided = (input) => ask(infer.infer_more_is_decided, input) !== 0;
-export const fileTypeFromBuffer = async (input) => typeOf(input);
+
+/** Whether no bytes that may follow can change what is told. Of detectors of the caller's nobody knows that. */
+const isEnough = (front, { more = false, detectors = [] } = {}) => detectors.length === 0 && (more ? isWiderDecided(front) : isDecided(front));
+
+/** What the first of the caller's detectors says that says something, and else the library. */
+const tell = async (input, { more = false, detectors = [] } = {}) => {
+    for (const detect of detectors) {
+        // A copy of its own, so that none changes what the next is asked about.
+        const found = await detect(frontOf(input, FRONT).slice());
+        if (found !== undefined) return found;
+    }
+    return more ? wider(input) : typeOf(input);
+};
+
+export const fileTypeFromBuffer = async (input, options) => (options === undefined ? typeOf(input) : tell(input, options));
 
 /** The mistake of a text that describes no types. */
 export class TypesError extends SyntaxError {
@@ -132,17 +188,21 @@ export class Types {
         const group = infer.infer_types_get(...text, place, hand(input), at(FRONT), size, at(FRONT + TEXT), size);
         return group < 0 ? undefined : { ext: written(FRONT + TEXT), mime: written(FRONT) };
     }
+
+    line(input) {
+        return Number(infer.infer_types_line(...hold(this.#text), place, hand(input))) || undefined;
+    }
 }
 
-export const fileTypeFromBlob = async (blob) => {
+export const fileTypeFromBlob = async (blob, options) => {
     if (typeof blob?.slice !== "function" || typeof blob.arrayBuffer !== "function") throw new TypeError("hand over a Blob or a File");
     const first = frontOf(await blob.slice(0, FIRST).arrayBuffer(), FRONT);
-    if (first.length < FIRST || isDecided(first)) return typeOf(first);
-    return typeOf(await blob.slice(0, FRONT).arrayBuffer());
+    if (first.length < FIRST || isEnough(first, options)) return tell(first, options);
+    return tell(await blob.slice(0, FRONT).arrayBuffer(), options);
 };
 
 /** Reads until the type is decided, the bytes looked at are there, or the end. Gives the type and what was read. */
-export const readFront = async (read) => {
+export const readFront = async (read, options) => {
     const front = new Uint8Array(FRONT);
     const pieces = [];
     let length = 0;
@@ -155,9 +215,9 @@ export const readFront = async (read) => {
         pieces.push(value);
         front.set(bytes, length);
         length += bytes.length;
-        if (isDecided(front.subarray(0, length))) break;
+        if (isEnough(front.subarray(0, length), options)) break;
     }
-    return { fileType: typeOf(front.subarray(0, length)), pieces };
+    return { fileType: await tell(front.subarray(0, length), options), pieces };
 };
 
 const readerOf = (stream) => {
@@ -165,10 +225,10 @@ const readerOf = (stream) => {
     return stream.getReader();
 };
 
-export const fileTypeFromStream = async (stream) => {
+export const fileTypeFromStream = async (stream, options) => {
     const reader = readerOf(stream);
     try {
-        return (await readFront(() => reader.read())).fileType;
+        return (await readFront(() => reader.read(), options)).fileType;
     } finally {
         reader.releaseLock();
     }
@@ -188,10 +248,10 @@ const wholeOf = (pieces, reader) =>
         { highWaterMark: 0 },
     );
 
-export const fileTypeStream = async (stream) => {
+export const fileTypeStream = async (stream, options) => {
     const reader = readerOf(stream);
     try {
-        const { fileType, pieces } = await readFront(() => reader.read());
+        const { fileType, pieces } = await readFront(() => reader.read(), options);
         return Object.assign(wholeOf(pieces, reader), { fileType });
     } catch (fault) {
         // Nobody else can reach what is left. Whether that can be cancelled changes nothing.

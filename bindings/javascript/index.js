@@ -19,7 +19,11 @@ export {
     isDecided,
     isWiderDecided,
     knownTypes,
+    mayBecome,
+    mayBecomeWider,
+    sample,
     supportedExtensions,
     supportedMimeTypes,
+    version,
     wider,
 } from "./core.js";

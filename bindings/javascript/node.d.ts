@@ -2,15 +2,15 @@
 import type { PathLike } from "node:fs";
 import type { Readable } from "node:stream";
 import type { ReadableStream as NodeReadableStream } from "node:stream/web";
-import type { Bytes, FileTypeResult } from "./core.js";
+import type { Bytes, FileTypeResult, Options } from "./core.js";
 
 export * from "./core.js";
 
 /** The type of a file, of which 8192 bytes are read at most. */
-export function fileTypeFromFile(path: PathLike): Promise<FileTypeResult | undefined>;
+export function fileTypeFromFile(path: PathLike, options?: Options): Promise<FileTypeResult | undefined>;
 
 /** Reads until the type is decided, and takes away what it reads. The stream is left open and not locked. */
-export function fileTypeFromStream(stream: Readable | NodeReadableStream<Bytes>): Promise<FileTypeResult | undefined>;
+export function fileTypeFromStream(stream: Readable | NodeReadableStream<Bytes>, options?: Options): Promise<FileTypeResult | undefined>;
 
 /** Reads until the type is decided, and gives a stream of the whole, with the type in `fileType`. */
-export function fileTypeStream<Stream extends Readable | NodeReadableStream<Bytes>>(stream: Stream): Promise<Stream & { readonly fileType?: FileTypeResult }>;
+export function fileTypeStream<Stream extends Readable | NodeReadableStream<Bytes>>(stream: Stream, options?: Options): Promise<Stream & { readonly fileType?: FileTypeResult }>;

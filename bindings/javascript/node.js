@@ -1,12 +1,12 @@
 // The package as Node takes it: with files and Node's own streams.
-import { constants } from "node:fs";
-import { open, readFile, stat } from "node:fs/promises";
+import { constants, readFileSync } from "node:fs";
+import { open, stat } from "node:fs/promises";
 import { Readable } from "node:stream";
 import * as core from "./core.js";
 
 const FRONT = 8192;
 
-await core.connect(() => readFile(new URL("infer.wasm", import.meta.url)));
+core.connectAtOnce(() => readFileSync(new URL("infer.wasm", import.meta.url)));
 
 export {
     Types,
@@ -17,8 +17,12 @@ export {
     isDecided,
     isWiderDecided,
     knownTypes,
+    mayBecome,
+    mayBecomeWider,
+    sample,
     supportedExtensions,
     supportedMimeTypes,
+    version,
     wider,
 } from "./core.js";
 
@@ -29,7 +33,7 @@ const refuseUnlessRegular = (about, path) => {
     throw Object.assign(new Error(`${code}: ${why}, open '${path}'`), { code, syscall: "open", path });
 };
 
-export const fileTypeFromFile = async (path) => {
+export const fileTypeFromFile = async (path, options) => {
     // A device can act as soon as it is opened. By then the path may name another file, so that is asked again.
     refuseUnlessRegular(await stat(path), path);
     const file = await open(path, constants.O_RDONLY | constants.O_NONBLOCK | constants.O_NOCTTY);
@@ -42,17 +46,17 @@ export const fileTypeFromFile = async (path) => {
             if (bytesRead === 0) break;
             length += bytesRead;
         }
-        return await core.fileTypeFromBuffer(front.subarray(0, length));
+        return await core.fileTypeFromBuffer(front.subarray(0, length), options);
     } finally {
         await file.close();
     }
 };
 
-export const fileTypeFromStream = async (stream) => {
-    if (!(stream instanceof Readable)) return core.fileTypeFromStream(stream);
+export const fileTypeFromStream = async (stream, options) => {
+    if (!(stream instanceof Readable)) return core.fileTypeFromStream(stream, options);
     const pieces = stream.iterator({ destroyOnReturn: false });
     try {
-        return (await core.readFront(() => pieces.next())).fileType;
+        return (await core.readFront(() => pieces.next(), options)).fileType;
     } finally {
         await pieces.return();
     }
@@ -68,11 +72,11 @@ async function* wholeOf(read, rest, stream) {
     }
 }
 
-export const fileTypeStream = async (stream) => {
-    if (!(stream instanceof Readable)) return core.fileTypeStream(stream);
+export const fileTypeStream = async (stream, options) => {
+    if (!(stream instanceof Readable)) return core.fileTypeStream(stream, options);
     const rest = stream.iterator();
     try {
-        const { fileType, pieces } = await core.readFront(() => rest.next());
+        const { fileType, pieces } = await core.readFront(() => rest.next(), options);
         const whole = Readable.from(wholeOf(pieces, rest, stream), { objectMode: false });
         whole.once("close", () => stream.destroy());
         return Object.assign(whole, { fileType });

@@ -25,6 +25,58 @@ test("the sets have the extensions and MIME types of the rows", () => {
     assert.ok(Object.isFrozen(infer.knownTypes) && Object.isFrozen(infer.knownTypes[0]));
 });
 
+test("samples have their types, and what can come of a beginning is said", () => {
+    for (const [number, { ext, mime }] of infer.knownTypes.entries()) {
+        const data = infer.sample(number);
+        const [row, isFurther] = [rows[number], number >= rows.length];
+        if (!isFurther) assert.deepEqual(data, row.sample && new Uint8Array(row.sample), ext);
+        else assert.deepEqual(wider(data), { ext, mime });
+        for (let at = 0; at <= (data?.length ?? -1); at += 1) {
+            const front = data.subarray(0, at);
+            assert.ok(infer.mayBecomeWider(front, ext) && (isFurther || infer.mayBecome(front, ext)), `${ext} ${at}`);
+        }
+    }
+    for (const wrong of [-1, infer.knownTypes.length, 1.5, NaN, "length", undefined]) assert.equal(infer.sample(wrong), undefined);
+    const bytes = (text) => new TextEncoder().encode(text);
+    assert.deepEqual([infer.mayBecome(bytes("G"), "jpg"), infer.mayBecome(bytes(" <"), "html"), infer.mayBecome(bytes(""), "svg")], [false, true, false]);
+    assert.deepEqual([infer.mayBecomeWider(bytes(""), "svg"), infer.mayBecomeWider(bytes(""), "none")], [true, false]);
+    assert.throws(() => infer.mayBecome("text", "jpg"), TypeError);
+    assert.match(infer.version, /^\d+\.\d+\.\d+$/);
+});
+
+test("the wider answer is given where it is asked for", async () => {
+    for (const { name, data } of furtherVectors) {
+        assert.deepEqual(await fileTypeFromBuffer(data, { more: true }), wider(data), name);
+        assert.deepEqual(await infer.fileTypeFromBlob(new Blob([data]), { more: true }), wider(data), name);
+        assert.deepEqual(await infer.fileTypeFromStream(new Blob([data]).stream(), { more: true }), wider(data), name);
+        for (const options of [undefined, {}, { more: false }]) assert.deepEqual(await fileTypeFromBuffer(data, options), await fileTypeFromBuffer(data), name);
+    }
+});
+
+test("detectors of the caller's are asked first, each about bytes of its own", async () => {
+    const own = Object.freeze({ ext: "own", mime: "image/own" });
+    const asked = [];
+    const options = {
+        detectors: [
+            (front) => {
+                asked.push(front.length);
+                front.fill(0);
+            },
+            async (front) => (front[0] === 0xff && front.length > 4 ? own : undefined),
+        ],
+    };
+    const long = new Uint8Array(20_000).fill(0xff);
+    assert.equal(await fileTypeFromBuffer(long, options), own);
+    assert.deepEqual([long[0], await fileTypeFromBuffer(jpeg, options), await fileTypeFromBuffer(new Uint8Array(), options)], [0xff, JPEG, undefined]);
+    assert.equal(await infer.fileTypeFromBlob(new Blob([long]), options), own);
+    assert.equal(await infer.fileTypeFromStream(new Blob([jpeg, long]).stream(), options), own);
+    assert.deepEqual(asked, [8192, 4, 0, 8192, 8192]);
+    const fault = new Error("mine");
+    await assert.rejects(fileTypeFromBuffer(jpeg, { detectors: [() => Promise.reject(fault)] }), fault);
+    await assert.rejects(infer.fileTypeStream(new Blob([jpeg]).stream(), { detectors: [() => { throw fault; }] }), fault);
+    await assert.rejects(fileTypeFromBuffer(jpeg, { detectors: ["none"] }), TypeError);
+});
+
 test("each vector has its type", async () => {
     for (const { name, type, data } of vectors) {
         if (data.length <= 8192) assert.deepEqual(await fileTypeFromBuffer(data), type, name);
@@ -54,6 +106,9 @@ test("types of a text answer before the further ones", () => {
         assert.deepEqual(types.wider(bytes(`PK\x03\x04${"0".repeat(26)}manifest.my?`)), { ext: "myapp", mime: "application/x-my" });
         assert.deepEqual(types.wider(bytes("<?xml version='1.0'?><flows>")), { ext: "flow", mime: "text/x-flow" });
         assert.equal(types.wider(new ArrayBuffer(0)), undefined);
+        const lines = types === own ? 0 : 5000;
+        const told = ["qoif0123456789", "<?xml version='1.0'?><flows>", "GIF89a", ""].map((text) => types.line(bytes(text)));
+        assert.deepEqual(told, [lines + 2, lines + 4, undefined, undefined]);
     }
     for (const { name, data } of furtherVectors) {
         for (const types of [own, none]) assert.deepEqual(types.wider(data), wider(data), name);

@@ -62,6 +62,19 @@ test("the page's program stores an image, and nothing else", () => {
     assert.equal(ended.stdout, "GIF89a rest not an image false\n", ended.stderr);
 });
 
+const [major, minor] = process.versions.node.split(".").map(Number);
+const withoutRequire = major > 22 || (major === 22 && minor >= 12) || (major === 20 && minor >= 19) ? false : `node ${process.version} requires no ES module`;
+
+test("the package is required as it is imported", { skip: withoutRequire }, () => {
+    const folder = folderWith("required");
+    const source = `const { fileTypeFromBuffer, wider } = require("hoarvelt-infer");
+        const { extensions } = require("hoarvelt-infer/aliases");
+        fileTypeFromBuffer(Buffer.from("GIF89a")).then((it) => console.log(it.ext, wider(Buffer.from("<svg></svg>")).ext, extensions.get("jpeg")));`;
+    writeFileSync(join(folder, "asks.cjs"), source);
+    const ended = node(folder, "asks.cjs");
+    assert.equal(ended.stdout, "gif svg jpg\n", ended.stderr);
+});
+
 test("a module that is not there is named in one sentence", () => {
     const folder = folderWith("without-module", (to) => rmSync(join(to, "infer.wasm")));
     const ended = node(folder, "--input-type=module", "-e", 'import("hoarvelt-infer").catch((fault) => console.log(fault.message, fault.cause.code))');
@@ -98,12 +111,15 @@ const whole = await types.fileTypeStream(new Blob([]).stream());
 const more: types.FileTypeResult | undefined = whole.fileType ?? types.wider(new SharedArrayBuffer(4)) ?? (await types.fileTypeFromBlob(new Blob([])));
 const own: types.FileTypeResult | undefined = new types.Types("").wider(new Uint8Array(4)) ?? new types.Types(new ArrayBuffer(4)).wider(new ArrayBuffer(4));
 const place = (fault: types.TypesError): string => fault.reason + (fault.line + fault.column);
+const options: types.Options = { more: true, detectors: [(front) => (front.length > 4 ? found : undefined), async () => undefined] };
+const asked = [await types.fileTypeFromBuffer(new Uint8Array(4), options), await types.fileTypeFromBlob(new Blob([]), options), (await types.fileTypeStream(new Blob([]).stream(), options)).fileType];
+const told: [Uint8Array | undefined, string, boolean, number | undefined] = [types.sample(4), types.version, types.mayBecome(new Uint8Array(4), "jpg") || types.mayBecomeWider(new Uint8Array(4), "jpg"), new types.Types("").line(new Uint8Array(4))];
 const isDecided: boolean = types.isDecided(new DataView(new ArrayBuffer(4))) && types.isWiderDecided(new Uint8Array(4));
 // @ts-expect-error
 await types.fileTypeFromBuffer("text");
 // @ts-expect-error
 found!.ext = "x";
-export { names, whole, more, own, place, isDecided };
+export { names, whole, more, own, place, isDecided, asked, told };
 `;
 
 const TYPED_FOR_NODE = `import { createReadStream } from "node:fs";

@@ -12,6 +12,7 @@ import { samples } from "./support.mjs";
 
 const jpeg = new Uint8Array([0xff, 0xd8, 0xff, 0xe0]);
 const JPEG = { ext: "jpg", mime: "image/jpeg" };
+const SVG = { ext: "svg", mime: "image/svg+xml" };
 const chosen = samples.filter((row) => row.sample.length >= 4 && row.sample.length <= 600).filter((_, at) => at % 8 === 0).slice(0, 10);
 
 /** A stream of these pieces that notes how many were asked for and why it was cancelled. */
@@ -76,6 +77,18 @@ test("a stream is read up to the first piece after which the type is decided", a
         assert.equal(second.notes.asked, wanted);
         await reader.cancel("enough");
         assert.equal(second.notes.cancelled, "enough");
+    }
+});
+
+test("the wider answer of a stream is given, and the stream is handed on whole", async () => {
+    const data = Buffer.from(`<?xml version="1.0"?>${" ".repeat(2000)}<svg></svg>`);
+    for (const pieces of [[data], Array.from(data, (_, at) => data.subarray(at, at + 1))]) {
+        for (const streamOf of [(it) => noted(it).stream, (it) => Readable.from(it, { objectMode: false })]) {
+            assert.deepEqual(await fileTypeFromStream(streamOf(pieces), { more: true }), SVG);
+            const whole = await fileTypeStream(streamOf(pieces), { more: true });
+            assert.deepEqual(whole.fileType, SVG);
+            assert.ok((await collect(whole)).equals(data));
+        }
     }
 });
 
@@ -200,6 +213,8 @@ test("a file is told by its path, and faults are those of Node", async () => {
         const path = join(folder, "photo");
         writeFileSync(path, Buffer.concat([jpeg, Buffer.alloc(20_000)]));
         for (const name of [path, pathToFileURL(path), Buffer.from(path)]) assert.deepEqual(await fileTypeFromFile(name), JPEG);
+        writeFileSync(path, "<svg></svg>");
+        assert.deepEqual([await fileTypeFromFile(path), await fileTypeFromFile(path, { more: true })], [undefined, SVG]);
         writeFileSync(path, "");
         assert.equal(await fileTypeFromFile(path), undefined);
         await assert.rejects(fileTypeFromFile(join(folder, "none")), { code: "ENOENT" });
