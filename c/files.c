@@ -1,4 +1,4 @@
-/* Compares what infer_path and infer_fd say of files of each kind with constants, and counts the differences. They are
+/* Compares what infer_path, infer_fd and those of the wider answer say of files of each kind with constants, and counts the differences. They are
  * linked with -Wl,--wrap=open,--wrap=pread, so that opening and reading are interrupted and give a few bytes at a time.
  * usage: files FOLDER, an empty one. */
 #define _GNU_SOURCE
@@ -57,19 +57,22 @@ static long told(int answer, int32_t row, int fault) {
     return fault ? -fault - 1 : row;
 }
 
-static void path_is(const char *path, long wanted) {
+static void path_by(int ask(const char *, int32_t *), const char *path, long wanted) {
     int32_t row = 99;
     errno = 0;
-    int answer = infer_path(path, &row);
+    int answer = ask(path, &row);
     same(path, told(answer, row, answer ? errno : 0), wanted);
 }
 
-static void fd_is(const char *what, int fd, long wanted) {
+static void fd_by(int ask(int, int32_t *), const char *what, int fd, long wanted) {
     int32_t row = 99;
     errno = 0;
-    int answer = infer_fd(fd, &row);
+    int answer = ask(fd, &row);
     same(what, told(answer, row, answer ? errno : 0), wanted);
 }
+
+static void path_is(const char *path, long wanted) { path_by(infer_path, path, wanted); }
+static void fd_is(const char *what, int fd, long wanted) { fd_by(infer_fd, what, fd, wanted); }
 
 #define FAULT(number) (-(number) - 1)
 
@@ -172,6 +175,32 @@ static void swapped(const char *path, int becomes, long wanted) {
     next = STAYS;
 }
 
+/* The wider answer, of files that the built-in one does not tell, and the same faults. */
+static void wider(void) {
+    static const char svg[] = "<svg></svg>";
+    const int32_t row = infer_more_position(svg, sizeof svg - 1);
+    write_file("drawing", svg, sizeof svg - 1, sizeof svg - 1);
+    same("SVG is of a further row", row >= (int32_t)infer_row_count(), true);
+    path_is("drawing", -1);
+    path_by(infer_more_path, "drawing", row);
+    path_by(infer_more_path, "photo", jpeg());
+    path_by(infer_more_path, "empty", -1);
+    path_by(infer_more_path, "none", FAULT(ENOENT));
+    path_by(infer_more_path, "folder", FAULT(EISDIR));
+    path_by(infer_more_path, "fifo", FAULT(ENOTSUP));
+    path_by(infer_more_path, "/dev/zero", FAULT(ENOTSUP));
+    path_by(infer_more_path, "/proc/self/mem", FAULT(EIO));
+    int drawing = __real_open("drawing", O_RDONLY), written = __real_open("drawing", O_WRONLY);
+    lseek(drawing, 4, SEEK_SET);
+    fd_is("a drawing", drawing, -1);
+    fd_by(infer_more_fd, "a drawing", drawing, row);
+    same("its place", lseek(drawing, 0, SEEK_CUR), 4);
+    fd_by(infer_more_fd, "a drawing open for writing", written, FAULT(EBADF));
+    close(written);
+    close(drawing);
+    fd_by(infer_more_fd, "a closed descriptor", drawing, FAULT(EBADF));
+}
+
 static void descriptors(void) {
     int ends[2], folder = __real_open("folder", O_RDONLY), photo = __real_open("photo", O_RDWR);
     int written = __real_open("photo", O_WRONLY), named = __real_open("photo", O_PATH), zero = __real_open("/dev/zero", O_RDONLY);
@@ -209,6 +238,7 @@ int main(int argc, char **argv) {
     swapped("goes", GOES, FAULT(ENOENT));
     swapped("becomes a fifo", IS_FIFO, FAULT(ENOTSUP));
     swapped("becomes a folder", IS_FOLDER, FAULT(EISDIR));
+    wider();
     int left = dup(0);
     close(left);
     same("descriptors left open", left, first);

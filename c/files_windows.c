@@ -37,6 +37,15 @@ static bool is_refused(const char *path, int fault) {
     return infer_path(path, &row) == -1 && row == -1 && errno == fault;
 }
 
+static void ask_wider(void) {
+    int32_t row = 7;
+    wants("a drawing", infer_more_path("drawing", &row) == 0 && strcmp(infer_mime_type_text(row), "image/svg+xml") == 0 && is_told("drawing", ""));
+    wants("no drawing", infer_more_path("none", &row) == -1 && row == -1 && errno == ENOENT);
+    int fd = _open("drawing", _O_RDONLY | _O_TEXT);
+    wants("its descriptor", infer_more_fd(fd, &row) == 0 && strcmp(infer_mime_type_text(row), "image/svg+xml") == 0);
+    _close(fd);
+}
+
 static void ask_descriptor(void) {
     /* Of text, where a line ends by two bytes and a file by one of them. */
     int32_t row = 7;
@@ -66,6 +75,8 @@ int main(void) {
     wants("a folder", _mkdir("folder") == 0 && is_refused("folder", EISDIR));
     wants("a name that is no UTF-8", is_refused("\xFF", EILSEQ));
     wants("a name that is too long", is_refused(longest, ENAMETOOLONG));
+    write_file(L"drawing", "<svg></svg>", 11, 0);
+    ask_wider();
     ask_descriptor();
     printf("%d answers about files compared, %d differ\n", compared, differing);
     return differing != 0;

@@ -6,6 +6,9 @@
 #include <sys/stat.h>
 #include <unistd.h>
 
+/* The call that tells the row of the first bytes. */
+typedef int32_t position(const void *buf, size_t len);
+
 /* Whether this is a regular file. If not, errno says so. */
 static bool is_regular(const struct stat *about) {
     if (S_ISREG(about->st_mode)) return true;
@@ -36,18 +39,18 @@ static int open_front(const char *path) {
     return fd;
 }
 
-int infer_fd(int fd, int32_t *row) {
+static int of_fd(int fd, int32_t *row, position *ask) {
     unsigned char front[INFER_FRONT];
     struct stat about;
     *row = -1;
     if (fstat(fd, &about) != 0 || !is_regular(&about)) return -1;
     ssize_t count = read_front(fd, front);
     if (count < 0) return -1;
-    *row = infer_position(front, (size_t)count);
+    *row = ask(front, (size_t)count);
     return 0;
 }
 
-int infer_path(const char *path, int32_t *row) {
+static int of_path(const char *path, int32_t *row, position *ask) {
     struct stat about;
     *row = -1;
     /* A device can act as soon as it is opened: a tape winds back, a watchdog starts. */
@@ -55,8 +58,13 @@ int infer_path(const char *path, int32_t *row) {
     int fd = open_front(path);
     if (fd < 0) return -1;
     /* The path may name another file by now, so the descriptor is asked again. */
-    int answer = infer_fd(fd, row), fault = errno;
+    int answer = of_fd(fd, row, ask), fault = errno;
     close(fd);
     errno = fault;
     return answer;
 }
+
+int infer_path(const char *path, int32_t *row) { return of_path(path, row, infer_position); }
+int infer_fd(int fd, int32_t *row) { return of_fd(fd, row, infer_position); }
+int infer_more_path(const char *path, int32_t *row) { return of_path(path, row, infer_more_position); }
+int infer_more_fd(int fd, int32_t *row) { return of_fd(fd, row, infer_more_position); }

@@ -10,6 +10,9 @@
 /* So many units of two bytes has a path of Windows at most, with the zero. */
 enum { LONGEST_PATH = 32768 };
 
+/* The call that tells the row of the first bytes. */
+typedef int32_t position(const void *buf, size_t len);
+
 /* Whether this is a regular file. If not, errno says so. */
 static bool is_regular(const struct _stat64 *about) {
     int kind = about->st_mode & _S_IFMT;
@@ -29,7 +32,7 @@ static int read_front(int fd, unsigned char front[INFER_FRONT]) {
     return got < 0 ? -1 : count;
 }
 
-int infer_fd(int fd, int32_t *row) {
+static int of_fd(int fd, int32_t *row, position *ask) {
     unsigned char front[INFER_FRONT];
     struct _stat64 about;
     *row = -1;
@@ -43,11 +46,11 @@ int infer_fd(int fd, int32_t *row) {
     if (_lseeki64(fd, stood, SEEK_SET) < 0) return -1;
     errno = fault;
     if (count < 0) return -1;
-    *row = infer_position(front, (size_t)count);
+    *row = ask(front, (size_t)count);
     return 0;
 }
 
-int infer_path(const char *path, int32_t *row) {
+static int of_path(const char *path, int32_t *row, position *ask) {
     wchar_t wide[LONGEST_PATH];
     struct _stat64 about;
     *row = -1;
@@ -60,8 +63,13 @@ int infer_path(const char *path, int32_t *row) {
     int fd = _wopen(wide, _O_RDONLY | _O_BINARY | _O_NOINHERIT);
     if (fd < 0) return -1;
     /* The path may name another file by now, so the descriptor is asked again. */
-    int answer = infer_fd(fd, row), fault = errno;
+    int answer = of_fd(fd, row, ask), fault = errno;
     _close(fd);
     errno = fault;
     return answer;
 }
+
+int infer_path(const char *path, int32_t *row) { return of_path(path, row, infer_position); }
+int infer_fd(int fd, int32_t *row) { return of_fd(fd, row, infer_position); }
+int infer_more_path(const char *path, int32_t *row) { return of_path(path, row, infer_more_position); }
+int infer_more_fd(int fd, int32_t *row) { return of_fd(fd, row, infer_more_position); }
