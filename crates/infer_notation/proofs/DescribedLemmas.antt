@@ -1,5 +1,5 @@
 -- What is read of a text is what it describes.
-use Rattle.infer_notation.proofs.Common.{◌≡◌, ◌+◌, ◌<◌, ◌≤◌, ◌&&◌, ◌||◌, ◌==◌, ◌⊎◌, ℕ, Bool, true, false, List, [], ◌∷◌, ◌++◌, Option, None, Some, codes, drop, length, map, nat_le, nat_lt, option_map, inl, inr, refl, sym, ap, subst, ◌∙◌, arith, All, list_all, onto_first, slice_split, cases_Bool, eqb-true, le-leb, leb-true, lt-leb, lt-ltb, ltb-true, append-nil, length-map, All-cons, All-nil, slice_split-cons_no, slice_split_at, slice_split_none, cond_some, bytes_eq-Decides, Alternative, BeginsWith, IsMadeOf, by_mark, by_word, blank, empty, in_braces, in_quotes, next, begins_by, bytes_in, each_of, is_or, item_of, items_in, items_of, marked_entry, named_in, names, programs_of, related, relations_in, relations_of, same_token, short_groups, Asked, Rest, alternatives_of, rest_of, Derives, opened, signature, tokens_of, begins_relation, described, signature_of, bare, is_of, mark, quoted, ◌>>=◌, behind_blanks, byte_of, byte_with, number_of, Bare, Takes, Nothing, Program, not, or_cases}
+use Rattle.infer_notation.proofs.Common.{◌≡◌, ◌+◌, ◌<◌, ◌≤◌, ◌&&◌, ◌||◌, ◌==◌, ◌⊎◌, ℕ, Bool, true, false, List, [], ◌∷◌, ◌++◌, Option, None, Some, codes, drop, length, map, nat_le, nat_lt, option_map, inl, inr, refl, sym, ap, subst, ◌∙◌, arith, All, list_all, onto_first, slice_split, cases_Bool, eqb-true, le-leb, leb-true, lt-leb, lt-ltb, ltb-true, append-nil, length-map, All-cons, All-nil, slice_split-cons_no, slice_split_at, slice_split_none, cond_some, bytes_eq-Decides, Alternative, BeginsWith, IsMadeOf, by_mark, by_word, blank, empty, in_braces, in_quotes, next, begins_by, bytes_in, each_of, is_or, item_of, items_in, items_of, marked_entry, named_in, names, programs_of, related, relations_in, relations_of, same_token, short_groups, Asked, Rest, alternatives_of, rest_of, Derives, opened, signature, tokens_of, begins_relation, described, signature_of, bare, is_of, mark, quoted, ◌>>=◌, behind_blanks, byte_of, byte_with, number_of, Bare, Takes, Nothing, Program, not, or_cases, and_parts}
 use Rattle.std.proofs.Common.{◌*◌}
 use Rattle.std.specs.Int.{is_in_range}
 use Rattle.std.proofs.lemmas.List.{append_assoc}
@@ -14,7 +14,7 @@ use Rattle.infer_notation.specs.Tokens.{Token, set}
 use Rattle.infer_notation.specs.Words.{is_digit}
 use Rattle.infer_notation.proofs.GrammarLemmas as grammar
 use Rattle.infer_notation.proofs.GrammarLemmas.{is_derived}
-use Rattle.infer_notation.proofs.MadeLemmas.{both_true, is_made, is_read, not_blank}
+use Rattle.infer_notation.proofs.MadeLemmas.{is_made, is_read, not_blank}
 use Rattle.infer_notation.specs.declared.names.Takes.TheVariants.{ClassId, Entry, Folder, Root, Tag}
 use Rattle.infer_notation.proofs.OptionLemmas.{bind_some, cond_given, map_some}
 use Rattle.infer_notation.proofs.RelationLemmas.{begins_not}
@@ -42,7 +42,7 @@ is_split p (t ∷ ts) = elim (cases_Bool (p t)) [
 ]
 
 short : (g : List Token) → All (λ t. is_or t ≡ false) g → (nat_lt 0 (length g) && nat_le (length g) 24) ≡ true → IsGroup g
-short g one h = let tests = both_true (nat_lt 0 (length g)) (nat_le (length g) 24) h in record { some = ltb-true 0 (length g) tests.0; few = leb-true (length g) 24 tests.1; one = one }
+short g one h = let tests = and_parts (nat_lt 0 (length g)) (nat_le (length g) 24) h in record { some = ltb-true 0 (length g) tests.0; few = leb-true (length g) 24 tests.1; one = one }
 
 parted_so : (ts : List Token) (gs hs : List (List Token)) → IsSplit is_or ts gs → short_groups gs ≡ Some hs → IsParted ts hs
 parted_so ts gs hs (whole g one) e =
@@ -76,7 +76,7 @@ begun : (ts ns : List Token) → begins_by ts ns ≡ true → ts ≡ ns ++ drop 
 begun ts [] is = refl
 begun [] (n ∷ ns) is = absurd cc
 begun (t ∷ ts) (n ∷ ns) is =
-    let both = both_true (same_token t n) (begins_by ts ns) is in
+    let both = and_parts (same_token t n) (begins_by ts ns) is in
     ap (λ u. u ∷ ts) (one_token t n both.0) ∙ ap (λ us. n ∷ us) (begun ts ns both.1)
 
 -- the name by which tokens begin
@@ -149,14 +149,14 @@ module _ (takes : Takes) (name rest : List Token) (bs : List Alternative) (asks 
   before m is = elim (or_cases (differ name m.0) (takes_none takes && nat_lt (length name) (length m.0)) is) [
     | inl differs ↦ begins_other name m.0 rest differs
     | inr longer ↦
-        let both = both_true (takes_none takes) (nat_lt (length name) (length m.0)) longer in
+        let both = and_parts (takes_none takes) (nat_lt (length name) (length m.0)) longer in
         subst (λ us. begins_by (name ++ us) m.0 ≡ false) (sym (taken_none takes rest bs asks both.0))
         (ap (λ us. begins_by us m.0) (append-nil name) ∙ begins_not name m.0 (ltb-true (length name) (length m.0) both.1))
   ]
 
   apart_from : (m : List Token × Takes) (ns : List (List Token × Takes)) → list_all (are_apart m) ns ≡ true → IsNameIn ns takes name → are_apart m (name, takes) ≡ true
-  apart_from m (n ∷ ns) all (inl e) = subst (λ k. are_apart m k ≡ true) e (both_true (are_apart m n) _ all).0
-  apart_from m (n ∷ ns) all (inr later) = apart_from m ns (both_true (are_apart m n) _ all).1 later
+  apart_from m (n ∷ ns) all (inl e) = subst (λ k. are_apart m k ≡ true) e (and_parts (are_apart m n) _ all).0
+  apart_from m (n ∷ ns) all (inr later) = apart_from m ns (and_parts (are_apart m n) _ all).1 later
   apart_from m [] all none = absurd none
 
   told_in : (ns : List (List Token × Takes)) → all_apart ns ≡ true → IsNameIn ns takes name → named_in ns (name ++ rest) ≡ Some (takes, rest)
@@ -164,7 +164,7 @@ module _ (takes : Takes) (name rest : List Token) (bs : List Alternative) (asks 
       subst (λ (k : List Token × Takes). named_in (k ∷ ns) (name ++ rest) ≡ Some (takes, rest)) (sym e)
       (let its = begins_itself name rest in rw its.0 (ap (λ us. Some (takes, us)) its.1))
   told_in (n ∷ ns) apart (inr later) =
-      let both = both_true (list_all (are_apart n) ns) (all_apart ns) apart in
+      let both = and_parts (list_all (are_apart n) ns) (all_apart ns) apart in
       rw (before n (apart_from n ns both.0 later)) (told_in ns both.1 later)
   told_in [] apart none = absurd none
 
@@ -209,7 +209,7 @@ name_so ts a e = absurd cc
 end_so : (ts : List Token) (a : Relation) → ending_entry ts ≡ Some a → Asks Entry ts a
 end_so (t ∷ u ∷ quoted s ∷ []) a e =
     let both = cond_some (is_word (codes "ends") t && is_word (codes "in") u) (first_entry_ends_in s) a e in
-    let words = both_true (is_word (codes "ends") t) (is_word (codes "in") u) both.0 in
+    let words = and_parts (is_word (codes "ends") t) (is_word (codes "in") u) both.0 in
     subst (λ v. Asks Entry (v ∷ u ∷ quoted s ∷ []) a) (sym (word_is (codes "ends") t words.0))
     (subst (λ v. Asks Entry (bare (codes "ends") ∷ v ∷ quoted s ∷ []) a) (sym (word_is (codes "in") u words.1))
     (subst (Asks Entry (bare (codes "ends") ∷ bare (codes "in") ∷ quoted s ∷ [])) both.1 (an_end s)))
@@ -225,7 +225,7 @@ field_so id a e = absurd cc
 extra_so : (ts : List Token) (a : Relation) → marked_entry ts ≡ Some a → Asks Entry ts a
 extra_so (t ∷ u ∷ id) a e =
     let (is, some) = cond_given (is_word (codes "has") t && is_word (codes "extra") u) (extra_field id) a e in
-    let words = both_true (is_word (codes "has") t) (is_word (codes "extra") u) is in
+    let words = and_parts (is_word (codes "has") t) (is_word (codes "extra") u) is in
     subst (λ v. Asks Entry (v ∷ u ∷ id) a) (sym (word_is (codes "has") t words.0))
     (subst (λ v. Asks Entry (bare (codes "has") ∷ v ∷ id) a) (sym (word_is (codes "extra") u words.1)) (field_so id a some))
 extra_so ts a e = absurd cc
@@ -285,16 +285,10 @@ asked_so ClassId ts a e = id_so ts a e
 asked_so Root ts a e = root_so ts a e
 
 asks_so : (takes : Takes) (ts : List Token) (a : Relation) → Asks takes ts a → items_of takes ts ≡ Some (related a ∷ [])
-asks_so takes ts a (nothing r) = refl
 asks_so takes ts a (a_tag w x y z high low is-high is-low) = rw (is-high, is-low) refl
-asks_so takes ts a (a_folder folder) = refl
-asks_so takes ts a (a_program w) = refl
-asks_so takes ts a (a_name name) = refl
-asks_so takes ts a (an_end end) = refl
 asks_so takes ts a (an_extra v w x y is-x is-y) = rw (is-x, is-y) refl
 asks_so takes ts a (an_id ws id long bytes) = rw (length-map ws bare ∙ long, so_words ws id bytes) refl
-asks_so takes ts a (an_element name) = refl
-asks_so takes ts a (a_text_within name text) = refl
+asks_so takes ts a asks = refl
 
 -- a program by each word
 abbrev program_by : List ℕ → Alternative
@@ -391,14 +385,12 @@ so_relation text bs is =
 
 -- a relation's name begins with a letter, and fixed bytes with a number
 begins_so : (text rest : List ℕ) (t : Token) (w : List ℕ) → BeginsWith text t rest → t ≡ bare w → (behind_blanks text ≡ w ++ rest) × (0 < length w)
-begins_so text rest t w (in_quotes xs _ some all) e = absurd cc
-begins_so text rest t w (in_braces xs _ all) e = absurd cc
-begins_so text rest t w (by_mark x _ is) e = absurd cc
 begins_so text rest t w (by_word [] _ some all ends) e = absurd (omega arith)
 begins_so text rest t w (by_word (x ∷ xs) _ some all ends) e =
     let same : x ∷ xs ≡ w = cc in
-    let dark = not_blank (is_of Bare) x refl refl refl (both_true (is_of Bare x) (list_all (is_of Bare) xs) all).0 in
+    let dark = not_blank (is_of Bare) x refl refl refl (and_parts (is_of Bare x) (list_all (is_of Bare) xs) all).0 in
     (rw dark (ap (λ u. u ++ rest) same), subst (λ u. 0 < length u) same some)
+begins_so text rest t w begins e = absurd cc
 
 first_word : (text : List ℕ) (ts : List Token) (w : List ℕ) (us : List Token) → IsMadeOf text ts → ts ≡ bare w ∷ us → (rest : List ℕ) × (behind_blanks text ≡ w ++ rest) × (0 < length w)
 first_word text ts w us empty e = absurd cc
@@ -409,7 +401,7 @@ first_word text ts w us (next _ rest t vs begins made) e =
 
 digit_alone : (x : ℕ) → is_digit x ≡ true → (is_in_range 0x41 0x5A x || is_in_range 0x61 0x7A x) ≡ false
 digit_alone x is =
-    let high : x ≤ 0x39 = leb-true x 0x39 (both_true (nat_le 0x30 x) (nat_le x 0x39) is).1 in
+    let high : x ≤ 0x39 = leb-true x 0x39 (and_parts (nat_le 0x30 x) (nat_le x 0x39) is).1 in
     rw (lt-leb 0x41 x (omega (arith, high)), lt-leb 0x61 x (omega (arith, high))) refl
 
 number_first : (w rest : List ℕ) (n : ℕ) → number_of w ≡ Some n → begins_relation (w ++ rest) ≡ false
@@ -433,8 +425,8 @@ module _ (text : List ℕ) (us : List Token) (takes : Takes) where
   letter_here name made is = absurd cc
 
   letter_in : (ns : List (List Token × Takes)) (name : List Token) → list_all opens_letter ns ≡ true → IsNameIn ns takes name → opens_letter (name, takes) ≡ true
-  letter_in (n ∷ ns) name all (inl e) = subst (λ k. opens_letter k ≡ true) e (both_true (opens_letter n) _ all).0
-  letter_in (n ∷ ns) name all (inr later) = letter_in ns name (both_true (opens_letter n) _ all).1 later
+  letter_in (n ∷ ns) name all (inl e) = subst (λ k. opens_letter k ≡ true) e (and_parts (opens_letter n) _ all).0
+  letter_in (n ∷ ns) name all (inr later) = letter_in ns name (and_parts (opens_letter n) _ all).1 later
   letter_in [] name all none = absurd none
 
   letter_first : (name : List Token) → IsMadeOf text (name ++ us) → IsName takes name → begins_relation (behind_blanks text) ≡ true

@@ -8,21 +8,15 @@ use Rattle.infer_notation.specs.Relations.{left_length}
 use Rattle.infer_notation.specs.Tokens.{Token, token_at}
 use Rattle.infer_notation.specs.declared.reason.Flaw.{Flaw}
 use Rattle.infer_notation.specs.Words.{behind_blanks, is_blank}
+use Rattle.infer_notation.proofs.ReadLemmas as read
 
 -- bytes of a token that was read count no more
 past_read : (n : ℕ) (xs : List ℕ) → unread_at n xs ≡ unread_at 0 (drop n xs)
-past_read zero [] = refl
-past_read zero (x ∷ xs) = refl
-past_read (suc n) [] = refl
-past_read (suc n) (x ∷ xs) = past_read n xs
+past_read = read.past_read unread_at (λ n. refl) (λ n x xs. refl)
 
 -- nor do blanks
 pub past_blanks : (xs : List ℕ) → unread (behind_blanks xs) ≡ unread xs
-past_blanks [] = refl
-past_blanks (x ∷ xs) = elim (cases_Bool (is_blank x)) [
-  | inl blank ↦ rw blank (past_blanks xs)
-  | inr other ↦ (let whole : behind_blanks (x ∷ xs) ≡ x ∷ xs = rw other refl in ap unread whole)
-]
+past_blanks = read.past_blanks unread (λ x xs is. rw is refl)
 
 -- behind a token, what is left unread is the same
 pub past_token : (front : List ℕ) (t : Token) (n : ℕ) → 0 < length front → is_blank (get_or front 0 0) ≡ false → Some (t, n) ≡ token_at front

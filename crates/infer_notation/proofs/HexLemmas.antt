@@ -1,25 +1,10 @@
 -- Bytes in hexadecimal digits, read one after the other.
 use Rattle.infer_notation.proofs.Common.{◌≡◌, ◌+◌, ◌&&◌, ◌||◌, ◌==◌, ℕ, suc, Bool, true, false, List, [], ◌∷◌, Option, None, Some, length, drop, option_map, nat_eq, refl, sym, ap, ◌∙◌, arith, list_any, starts_with, allows, any_of, nat_tests, bytes_behind, bytes_of, byte_with, first_passes, hex_joined, hex_seen, is_blank, Hex}
+use Rattle.std.proofs.Math.Bool.{and-true, and_assoc, or-false, or_assoc}
 
 starts_next : (b : ℕ) (left xs : List ℕ) → starts_with nat_eq left (b ∷ xs) ≡ (first_passes (λ x. b == x) left && starts_with nat_eq (drop 1 left) xs)
 starts_next b [] xs = refl
 starts_next b (y ∷ ys) xs = refl
-
-pub and_assoc : (a b c : Bool) → (a && (b && c)) ≡ ((a && b) && c)
-and_assoc true b c = refl
-and_assoc false b c = refl
-
-pub or_assoc : (a b c : Bool) → (a || (b || c)) ≡ ((a || b) || c)
-or_assoc true b c = refl
-or_assoc false b c = refl
-
-pub and_true : (a : Bool) → (a && true) ≡ a
-and_true true = refl
-and_true false = refl
-
-or_false : (a : Bool) → (a || false) ≡ a
-or_false true = refl
-or_false false = refl
 
 pub same_test : (a b : ℕ) → (a == b) ≡ (b == a)
 same_test a b = grind (arith, nat_tests)
@@ -34,8 +19,8 @@ pub joined_next : (read : Hex) (left buf : List ℕ) (b : ℕ) (xs : List ℕ) (
     → hex_joined (record { count = n; stands = s; has = h }) (drop 1 left) buf xs ≡ hex_joined read left buf (b ∷ xs)
 joined_next read left buf b xs n s h is-n is-s is-h =
     let count : n + length xs ≡ read.count + suc (length xs) = omega arith in
-    let stands = ap (λ t. read.stands && t) (starts_next b left xs) ∙ and_assoc read.stands _ (starts_with nat_eq (drop 1 left) xs) in
-    let has = ap (λ t. read.has || t) (has_next b buf xs) ∙ or_assoc read.has _ (first_passes (allows (any_of xs)) buf) in
+    let stands = ap (λ t. read.stands && t) (starts_next b left xs) ∙ sym (and_assoc read.stands _ (starts_with nat_eq (drop 1 left) xs)) in
+    let has = ap (λ t. read.has || t) (has_next b buf xs) ∙ sym (or_assoc read.has _ (first_passes (allows (any_of xs)) buf)) in
     cc
 
 -- what is given in the end, from here on
@@ -82,7 +67,7 @@ gives_end read left buf = ap (λ (r : Hex). Some r) (ended read (starts_none lef
     ended : (read : Hex) → starts_with nat_eq left [] ≡ true → hex_joined read left buf [] ≡ read
     ended read h =
         let n : read.count + 0 ≡ read.count = omega arith in
-        let s : (read.stands && starts_with nat_eq left []) ≡ read.stands = ap (λ t. read.stands && t) h ∙ and_true read.stands in
-        let e : (read.has || first_passes (allows (any_of [])) buf) ≡ read.has = ap (λ t. read.has || t) (none_among buf) ∙ or_false read.has in
+        let s : (read.stands && starts_with nat_eq left []) ≡ read.stands = ap (λ t. read.stands && t) h ∙ and-true read.stands in
+        let e : (read.has || first_passes (allows (any_of [])) buf) ≡ read.has = ap (λ t. read.has || t) (none_among buf) ∙ or-false read.has in
         ap (λ (k : ℕ). hex k (read.stands && starts_with nat_eq left []) (read.has || first_passes (allows (any_of [])) buf)) n
         ∙ (ap (λ (t : Bool). hex read.count t (read.has || first_passes (allows (any_of [])) buf)) s ∙ ap (λ (t : Bool). hex read.count read.stands t) e)

@@ -1,5 +1,5 @@
 -- The tokens that are read of a text are those that it is made of.
-use Rattle.infer_notation.proofs.Common.{◌≡◌, ◌+◌, ◌<◌, ◌==◌, ◌&&◌, ℕ, zero, suc, Bool, true, false, IsTrue, List, [], ◌∷◌, ◌++◌, Option, None, Some, cond, drop, length, nat_lt, option_map, take, inl, inr, refl, sym, ap, subst, ◌∙◌, arith, slice_index, list_all, prefix_len, cases_Bool, cases_lt, eqb-true, lt-ltb, ltb-true, drop_all, drop_more, BeginsWith, IsMadeOf, blank, by_mark, by_word, empty, in_braces, in_quotes, next, tokens_at, tokens_of, bare, bare_at, is_mark, is_of, mark, quoted, quoted_at, set_at, token_at, ◌>>=◌, first_passes, is_blank, Bare}
+use Rattle.infer_notation.proofs.Common.{◌≡◌, ◌+◌, ◌<◌, ◌==◌, ◌&&◌, ℕ, zero, suc, Bool, true, false, IsTrue, List, [], ◌∷◌, ◌++◌, Option, None, Some, cond, drop, length, nat_lt, option_map, take, inl, inr, refl, sym, ap, subst, ◌∙◌, arith, slice_index, list_all, prefix_len, cases_Bool, cases_lt, eqb-true, lt-ltb, ltb-true, drop_all, drop_more, BeginsWith, IsMadeOf, blank, by_mark, by_word, empty, in_braces, in_quotes, next, tokens_at, tokens_of, bare, bare_at, is_mark, is_of, mark, quoted, quoted_at, set_at, token_at, ◌>>=◌, first_passes, is_blank, Bare, and_parts}
 use Rattle.std.proofs.Common.{◌-◌}
 use Rattle.std.proofs.Math.Seq.{drop-append-add, drop-append_seam, get_or-append_seam, take-append_seam}
 use Rattle.std.proofs.lemmas.Bool.{eq-eqb, true≢false}
@@ -9,10 +9,6 @@ use Rattle.std.proofs.lemmas.List.Sums.{list_all-from_AllPass, prefix_len-le-len
 use Rattle.infer_notation.specs.Tokens.{Token, set, token_from}
 use Rattle.infer_notation.proofs.RelationLemmas.{past_read}
 use Rattle.infer_notation.specs.declared.tokens.Run.TheVariants.{Quoted, Set}
-
-pub both_true : (b c : Bool) → (b && c) ≡ true → (b ≡ true) × (c ≡ true)
-both_true true c h = (refl, h)
-both_true false c h = absurd (cc)
 
 -- the bytes up to the first that fails a test pass it, and the next one does not
 module _ (p : ℕ → Bool) where
@@ -33,7 +29,7 @@ module _ (p : ℕ → Bool) where
   -- and bytes that pass, before one that does not, are just these
   all_pass : (xs : List ℕ) → IsTrue (list_all p xs) → prefix_len p xs ≡ length xs
   all_pass [] all = refl
-  all_pass (x ∷ xs) all = let e = all_pass xs ((both_true (p x) (list_all p xs) all).1) in rw ((both_true (p x) (list_all p xs) all).0) (omega (arith, e))
+  all_pass (x ∷ xs) all = let e = all_pass xs ((and_parts (p x) (list_all p xs) all).1) in rw ((and_parts (p x) (list_all p xs) all).0) (omega (arith, e))
 
   none_pass : (xs : List ℕ) → first_passes p xs ≡ false → prefix_len p xs ≡ 0
   none_pass [] fails = refl
@@ -63,7 +59,7 @@ quoted_read xs =
     let n = prefix_len (is_of Quoted) xs in
     elim (cases_Bool (nat_lt 0 n && slice_index xs n == 0x22)) [
       | inl is ↦
-          let tests = both_true (nat_lt 0 n) (slice_index xs n == 0x22) is in
+          let tests = and_parts (nat_lt 0 n) (slice_index xs n == 0x22) is in
           let some = ltb-true 0 n tests.0 in
           let le = prefix_len-le-length (is_of Quoted) xs in
           let whole = split_at (is_of Quoted) xs 0x22 (omega arith) (eqb-true (slice_index xs n) 0x22 tests.1) in
@@ -199,7 +195,7 @@ token_at_front text rest t ts (in_braces xs _ all) e =
 token_at_front text rest t ts (by_mark x _ is) e = one_read x rest rest (mark x) 0 ts (not_blank is_mark x refl refl refl is) (mark_from x rest is) refl e
 token_at_front text rest t ts (by_word [] _ some all ends) e = absurd (omega arith)
 token_at_front text rest t ts (by_word (x ∷ xs) _ some all ends) e =
-    let is = (both_true (is_of Bare x) (list_all (is_of Bare) xs) all).0 in
+    let is = (and_parts (is_of Bare x) (list_all (is_of Bare) xs) all).0 in
     let n = prefix_len (is_of Bare) (x ∷ (xs ++ rest)) in
     let long : n ≡ length (x ∷ xs) = front_length (is_of Bare) (x ∷ xs) rest all ends in
     let some = lt-ltb 0 n (omega (arith, long)) in

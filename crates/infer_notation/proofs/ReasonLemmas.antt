@@ -15,25 +15,7 @@ found words = found_among (Fields ∷ Extension ∷ MimeType ∷ Class ∷ Paren
 found_by_its : (r : Reason) → found (reason_text r) ≡ Some r
 unfolding found found_among
 found_by_its Fields = refl
-found_by_its Extension = refl
-found_by_its MimeType = refl
-found_by_its Class = refl
-found_by_its Parent = refl
-found_by_its OpenQuote = refl
-found_by_its Empty = refl
-found_by_its OpenSet = refl
-found_by_its Byte = refl
-found_by_its Digits = refl
-found_by_its Length = refl
-found_by_its Place = refl
-found_by_its Bytes = refl
-found_by_its Overlap = refl
-found_by_its Past = refl
-found_by_its Range = refl
-found_by_its Binary = refl
-found_by_its Relation = refl
-found_by_its Item = refl
-found_by_its End = refl
+found_by_its _ = refl
 
 pub texts_apart : (a b : Reason) → reason_text a ≡ reason_text b → a ≡ b
 texts_apart a b same = let both : Some a ≡ Some b = sym (found_by_its a) ∙ ap found same ∙ found_by_its b in cc

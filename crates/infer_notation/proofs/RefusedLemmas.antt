@@ -7,23 +7,16 @@ use Rattle.infer_notation.specs.declared.fixed.Wanted.TheVariants.{Bytes}
 use Rattle.infer_notation.specs.declared.tokens.Run.TheVariants as runs
 use Rattle.infer_notation.proofs.StepLemmas.{Steps, again, counted, ends, further, steps_so}
 use Rattle.infer_notation.proofs.SignatureLemmas.{ended_is, given_ended}
+use Rattle.std.proofs.lemmas.Bool.{false_from_ne_true, or_parts}
 
 -- no byte is that with which "or" begins
 abbrev pub HasNoOr : List ℕ → Type 0
 HasNoOr xs = list_any (λ x. x == 0x6F) xs ≡ false
 
-or_parts : (a b : Bool) → (a || b) ≡ false → (a ≡ false) × (b ≡ false)
-or_parts true b e = absurd cc
-or_parts false b e = (refl, e)
-
-not_true : (b : Bool) → (b ≡ true → ⊥) → b ≡ false
-not_true true h = absurd (h refl)
-not_true false h = refl
-
 pub no_or : (xs : List ℕ) → ((k : ℕ) → k < length xs → (get_or xs k 0 == 0x6F) ≡ true → ⊥) → HasNoOr xs
 no_or [] h = refl
 no_or (x ∷ xs) h =
-    ap (λ t. t || list_any (λ x. x == 0x6F) xs) (not_true (x == 0x6F) (h 0 (omega arith)))
+    ap (λ t. t || list_any (λ x. x == 0x6F) xs) (false_from_ne_true (x == 0x6F) (h 0 (omega arith)))
     ∙ no_or xs (λ k lt. h (suc k) (omega arith))
 
 -- ---- steps

@@ -10,21 +10,15 @@ use Rattle.infer_notation.specs.Tokens.{Token}
 use Rattle.infer_notation.specs.declared.reason.Flaw.{Flaw}
 use Rattle.infer_notation.specs.declared.relations.Group.{Group}
 use Rattle.infer_notation.specs.declared.tokens.Token as declared
+use Rattle.infer_notation.proofs.ReadLemmas as read
 
 -- bytes of a token that was read count no more
 pub past_read : (n : ℕ) (xs : List ℕ) → tokens_at n xs ≡ tokens_at 0 (drop n xs)
-past_read zero [] = refl
-past_read zero (x ∷ xs) = refl
-past_read (suc n) [] = refl
-past_read (suc n) (x ∷ xs) = past_read n xs
+past_read = read.past_read tokens_at (λ n. refl) (λ n x xs. refl)
 
 -- nor do blanks
 past_blanks : (xs : List ℕ) → tokens_at 0 (behind_blanks xs) ≡ tokens_at 0 xs
-past_blanks [] = refl
-past_blanks (x ∷ xs) = elim (cases_Bool (is_blank x)) [
-  | inl blank ↦ rw blank (past_blanks xs)
-  | inr other ↦ (let whole : behind_blanks (x ∷ xs) ≡ x ∷ xs = rw other refl in ap (tokens_at 0) whole)
-]
+past_blanks = read.past_blanks (tokens_at 0) (λ x xs is. rw is refl)
 
 pub no_token : (text front : List ℕ) → front ≡ behind_blanks text → length front ≡ 0 → tokens_of text ≡ Some []
 no_token text [] e none = sym (past_blanks text) ∙ ap (tokens_at 0) (sym e)

@@ -54,15 +54,23 @@ only_left : (items : Option (List Alternative)) (b : List ℕ) (x : Option Bool)
 only_left items b None h = h
 only_left items b (Some x) (alternatives, are, seen) = (alternatives, are, (λ t. elim (seen.0 t) [ inl f ↦ absurd (false≢true f) | inr h ↦ h ], λ h. seen.1 (inr h)))
 
+-- the first group, by the relation's name, and by what it takes
+named_group : (g : List Token) (takes : Takes) (ts : List Token) → named_in names g ≡ Some (takes, ts) → (o : Option (List (List Token)))
+    → (option_map (λ gs. g ∷ gs) o >>= relations_in) ≡ (option_map (λ gs. ts ∷ gs) o >>= items_in takes)
+named_group g takes ts named None = refl
+named_group g takes ts named (Some gs) = ap (λ n. n >>= λ n. items_in n.0 (n.1 ∷ gs)) named
+
+taken_group : (takes : Takes) (ts : List Token) (first : List Alternative) → items_of takes ts ≡ Some first → (o : Option (List (List Token)))
+    → (option_map (λ gs. ts ∷ gs) o >>= items_in takes) ≡ option_map (λ others. first ++ others) (o >>= items_in takes)
+taken_group takes ts first is None = refl
+taken_group takes ts first is (Some gs) = ap (λ i. i >>= λ first. option_map (λ others. first ++ others) (items_in takes gs)) is
+
 -- the first alternatives
 pub seen_first : (text b : List ℕ) (g : List Token) (rest : Option (List ℕ)) (takes : Takes) (ts : List Token) (fits : Bool) → groups_of text ≡ option_map (λ gs. g ∷ gs) (left_groups rest)
     → named_in names g ≡ Some (takes, ts) → IsSeen (items_of takes ts) b (Some fits) → (x : Option Bool) → IsLeft fits (left_items takes rest) b x → IsSeen (relations_of text) b x
 seen_first text b g rest takes ts fits whole named (first, is, fit) x left =
-    only_left (relations_of text) b x (seen_more (relations_of text) (left_items takes rest) b false fits first (ap (λ o. o >>= relations_in) whole ∙ on_groups (left_groups rest)) fit x left)
-  where
-    on_groups : (o : Option (List (List Token))) → (option_map (λ gs. g ∷ gs) o >>= relations_in) ≡ option_map (λ others. first ++ others) (o >>= items_in takes)
-    on_groups None = refl
-    on_groups (Some gs) = ap (λ n. n >>= λ n. items_in n.0 (n.1 ∷ gs)) named ∙ ap (λ i. i >>= λ first. option_map (λ others. first ++ others) (items_in takes gs)) is
+    only_left (relations_of text) b x (seen_more (relations_of text) (left_items takes rest) b false fits first
+    (ap (λ o. o >>= relations_in) whole ∙ named_group g takes ts named (left_groups rest) ∙ taken_group takes ts first is (left_groups rest)) fit x left)
 
 -- a name that none has, or an alternative that takes something else
 pub unseen_first : (text : List ℕ) (g : List Token) (rest : Option (List ℕ)) → groups_of text ≡ option_map (λ gs. g ∷ gs) (left_groups rest) → named_in names g ≡ None → relations_of text ≡ None
@@ -74,21 +82,17 @@ unseen_first text g rest whole named = ap (λ o. o >>= relations_in) whole ∙ o
 
 pub untaken_first : (text : List ℕ) (g : List Token) (rest : Option (List ℕ)) (takes : Takes) (ts : List Token) → groups_of text ≡ option_map (λ gs. g ∷ gs) (left_groups rest)
     → named_in names g ≡ Some (takes, ts) → items_of takes ts ≡ None → relations_of text ≡ None
-untaken_first text g rest takes ts whole named is = ap (λ o. o >>= relations_in) whole ∙ on_groups (left_groups rest)
+untaken_first text g rest takes ts whole named is = ap (λ o. o >>= relations_in) whole ∙ named_group g takes ts named (left_groups rest) ∙ on_groups (left_groups rest)
   where
-    on_groups : (o : Option (List (List Token))) → (option_map (λ gs. g ∷ gs) o >>= relations_in) ≡ None
+    on_groups : (o : Option (List (List Token))) → (option_map (λ gs. ts ∷ gs) o >>= items_in takes) ≡ None
     on_groups None = refl
-    on_groups (Some gs) = ap (λ n. n >>= λ n. items_in n.0 (n.1 ∷ gs)) named ∙ ap (λ i. i >>= λ first. option_map (λ others. first ++ others) (items_in takes gs)) is
+    on_groups (Some gs) = ap (λ i. i >>= λ first. option_map (λ others. first ++ others) (items_in takes gs)) is
 
 -- further alternatives
 pub seen_next : (more b : List ℕ) (g : List Token) (rest : Option (List ℕ)) (takes : Takes) (any fits : Bool) → groups_of more ≡ option_map (λ gs. g ∷ gs) (left_groups rest)
     → IsSeen (items_of takes g) b (Some fits) → (x : Option Bool) → IsLeft (any || fits) (left_items takes rest) b x → IsLeft any (left_items takes (Some more)) b x
 seen_next more b g rest takes any fits whole (first, is, fit) =
-    seen_more (left_items takes (Some more)) (left_items takes rest) b any fits first (ap (λ o. o >>= items_in takes) whole ∙ on_groups (left_groups rest)) fit
-  where
-    on_groups : (o : Option (List (List Token))) → (option_map (λ gs. g ∷ gs) o >>= items_in takes) ≡ option_map (λ others. first ++ others) (o >>= items_in takes)
-    on_groups None = refl
-    on_groups (Some gs) = ap (λ i. i >>= λ first. option_map (λ others. first ++ others) (items_in takes gs)) is
+    seen_more (left_items takes (Some more)) (left_items takes rest) b any fits first (ap (λ o. o >>= items_in takes) whole ∙ taken_group takes g first is (left_groups rest)) fit
 
 -- none is to come
 pub seen_last : (b : List ℕ) (takes : Takes) (any : Bool) → IsLeft any (left_items takes None) b (Some any)

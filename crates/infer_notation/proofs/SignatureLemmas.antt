@@ -5,22 +5,16 @@ use Rattle.infer_notation.specs.Tokens.{Token}
 use Rattle.infer_notation.specs.declared.fixed.Effect as declared
 use Rattle.infer_notation.specs.declared.fixed.Effect.TheVariants as effects
 use Rattle.infer_notation.specs.declared.fixed.Wanted.TheVariants.{Bytes}
-use Rattle.infer_notation.proofs.HexLemmas.{and_assoc, and_true, or_assoc}
+use Rattle.std.proofs.Math.Bool.{and-true, and_assoc, or_assoc}
+use Rattle.infer_notation.proofs.ReadLemmas as read
 
 -- bytes of a token that was read count no more
 pub past_read : (c : Cursor) (n : ℕ) (xs : List ℕ) → rest_at c n xs ≡ rest_at c 0 (drop n xs)
-past_read c zero [] = refl
-past_read c zero (x ∷ xs) = refl
-past_read c (suc n) [] = refl
-past_read c (suc n) (x ∷ xs) = past_read c n xs
+past_read c = read.past_read (rest_at c) (λ n. refl) (λ n x xs. refl)
 
 -- nor do blanks
 pub past_blanks : (c : Cursor) (xs : List ℕ) → rest_at c 0 (behind_blanks xs) ≡ rest_at c 0 xs
-past_blanks c [] = refl
-past_blanks c (x ∷ xs) = elim (cases_Bool (is_blank x)) [
-  | inl blank ↦ rw blank (past_blanks c xs)
-  | inr other ↦ (let whole : behind_blanks (x ∷ xs) ≡ x ∷ xs = rw other refl in ap (rest_at c 0) whole)
-]
+past_blanks c = read.past_blanks (rest_at c 0) (λ x xs is. rw is refl)
 
 pub past_token : (c d : Cursor) (x : ℕ) (xs : List ℕ) (t : Token) (n : ℕ) (e : Effect) → is_blank x ≡ false → token_at (x ∷ xs) ≡ Some (t, n) → step c t ≡ Some (d, e)
     → rest_at c 0 (x ∷ xs) ≡ option_map (joined e) (rest_at d 0 (drop n xs))
@@ -28,7 +22,7 @@ past_token c d x xs t n e dark is-t is-s = rw (dark, is-t, is-s) (ap (option_map
 
 opened : (a l o p q r : Bool) → ((a || (l && (true && true))) || (((o && p) && q) || r)) ≡ (((a || l) || (o && (p && q))) || r)
 opened a l o p q r =
-    ap (λ t. (a || t) || (((o && p) && q) || r)) (and_true l) ∙ ap (λ t. (a || l) || (t || r)) (sym (and_assoc o p q)) ∙ or_assoc (a || l) (o && (p && q)) r
+    ap (λ t. (a || t) || (((o && p) && q) || r)) (and-true l) ∙ ap (λ t. (a || l) || (t || r)) (and_assoc o p q) ∙ sym (or_assoc (a || l) (o && (p && q)) r)
 
 with_data : (a l p b d r : Bool) → ((a || (l && (p && (not true || d)))) || r) ≡ ((a || ((l && d) && (p && (not b || d)))) || r)
 with_data a false p b d r = refl
@@ -46,7 +40,7 @@ map_joined buf s d nothing (Some r) = refl
 map_joined buf s d (part p) (Some r) =
     let q = not r.binary || has_data buf in
     ap (λ (t : Bool). Some ((s.any || t) || accepts r.alternatives buf))
-    (ap (λ t. s.last && t) (sym (and_assoc (has_part buf p) (list_all (has_part buf) r.parts) q)) ∙ and_assoc s.last (has_part buf p) (list_all (has_part buf) r.parts && q))
+    (ap (λ t. s.last && t) (and_assoc (has_part buf p) (list_all (has_part buf) r.parts) q) ∙ sym (and_assoc s.last (has_part buf p) (list_all (has_part buf) r.parts && q)))
 map_joined buf s d asks_binary (Some r) =
     ap (λ (t : Bool). Some t) (with_data s.any s.last (list_all (has_part buf) r.parts) r.binary (has_data buf) (accepts r.alternatives buf))
 map_joined buf s d (opens n) (Some r) =
@@ -54,8 +48,7 @@ map_joined buf s d (opens n) (Some r) =
 
 pub cursor_taken : (s : State) (d : Cursor) (f : declared.Effect) → (state_taken s d f).cursor ≡ d
 cursor_taken s d effects.Nothing = refl
-cursor_taken s d (effects.Has has) = refl
-cursor_taken s d (effects.Opens long) = refl
+cursor_taken s d f = refl
 
 -- a step that was taken
 pub step_was : (buf : List ℕ) (d : Cursor) (f : declared.Effect) (r : Option (Cursor × Effect)) → Some (d, f) ≡ option_map (step_seen buf) r
@@ -88,15 +81,9 @@ no_more buf false false = refl
 
 -- a signature ends, or it does not
 pub ended_is : (w : Wanted) → (ended w ≡ None) ⊎ (ended w ≡ Some (rest_of [] false []))
-ended_is Length = inl refl
-ended_is Colon = inl refl
-ended_is At = inl refl
-ended_is Place = inl refl
-ended_is Bytes = inl refl
 ended_is More = inr refl
-ended_is Byte = inl refl
-ended_is Binary = inl refl
 ended_is Or = inr refl
+ended_is w = inl refl
 
 pub given_ended : (buf : List ℕ) (s : State) (w : Wanted) → s.cursor.wanted ≡ w → ended w ≡ Some (rest_of [] false []) → given buf s 0 [] ≡ Some (s.any || s.last)
 given_ended buf s w is ends = ap (λ w. option_map (rest_seen buf s.any s.last) (ended w)) is ∙ ap (option_map (rest_seen buf s.any s.last)) ends ∙ ap (λ (b : Bool). Some b) (no_more buf s.any s.last)
