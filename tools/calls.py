@@ -1,0 +1,70 @@
+"""What bindings/README.md shows of the calls of infer.h and infer_file.h in each language, by bindings/calls.tsv. There a
+cell has names, with what is asked of them in parentheses, or "-" and why there is none."""
+import re
+import sys
+
+from texts import text_of
+
+TABLE = "bindings/calls.tsv"
+HEADERS = ["c/infer.h", "c/infer_file.h"]
+LANGUAGES = ["C", "Python", "Rust", "Go", "JavaScript"]
+PYTHON, RUST, GO, JAVASCRIPT = "bindings/python/src/infer", "bindings/rust/infer/src", "bindings/go", "bindings/javascript"
+# Where the names of a module of the binding for Rust stand.
+RUST_FILES = {"": ["lib", "read", "encoding", "file_type"], "more": ["more"], "Types": ["types"], "app": ["matchers"], "image": ["matchers"]}
+
+
+def declared():
+    """The calls of the headers."""
+    return set(re.findall(r"\b(infer_\w+)\(", re.sub(r"/\*.*?\*/", "", "".join(map(text_of, HEADERS)), flags=re.S)))
+
+
+def is_in_python(name):
+    of, _, method = name.rpartition(".")
+    module = text_of(f"{PYTHON}/__init__.py")
+    body = re.search(rf"^class {of}\b.*?(?=^\S)", module + "\nend", re.M | re.S) if of else None
+    return f"def {method}(" in body[0] if body else f'"{method}"' in module.partition("__all__ = ")[2].partition("]")[0]
+
+
+def is_in_rust(name):
+    of, _, item = name.rpartition("::")
+    # As it is written, as a macro takes it, or as it is passed on.
+    pattern = rf"\bpub (?:fn|struct) {item}\b|\b{item}: \"|\b{item} = \"|\bpub use [^;]*\b{item}\b"
+    return any(re.search(pattern, text_of(f"{RUST}/{it}.rs")) for it in RUST_FILES[of])
+
+
+def is_in_go(name):
+    of, _, item = name.rpartition(".")
+    receiver = rf"\(\w+ \*?{of}\) " if of else ""
+    return any(re.search(rf"^(?:func {receiver}|type ){item}\b", text_of(f"{GO}/{it}.go"), re.M) for it in ("infer", "own_types"))
+
+
+def is_in_javascript(name):
+    of, _, item = name.rpartition(".")
+    pattern = rf"^export (?:declare )?class {of}\b.*?^    {item}\(" if of else rf"^export (?:function|class|const|interface) {item}\b"
+    return any(re.search(pattern, text_of(f"{JAVASCRIPT}/{it}.d.ts"), re.M | re.S) for it in ("core", "node"))
+
+
+IS_IN = {"Python": is_in_python, "Rust": is_in_rust, "Go": is_in_go, "JavaScript": is_in_javascript}
+
+
+def names_of(cell):
+    return [] if cell.startswith("-") else [it.partition("(")[0] for it in cell.split(", ")]
+
+
+def lines():
+    """The lines of the table. It ends the program with the first call that a header has and no line, or the other way round,
+    or that a language is said to have and has not."""
+    rows = [line.split("\t") for line in text_of(TABLE).splitlines()]
+    listed = [name for row in rows for name in names_of(row[0])]
+    if wrong := sorted({*listed} ^ declared()) or [it for it in listed if listed.count(it) > 1]:
+        sys.exit(f"tools/tables: {TABLE} and the headers have other calls, or it has one twice: {', '.join(wrong)}")
+    for row in rows:
+        for language, cell in zip(LANGUAGES, row, strict=True):
+            is_in = IS_IN.get(language, lambda name: True)
+            if missing := [it for it in names_of(cell) if not is_in(it)]:
+                sys.exit(f"tools/tables: {TABLE}: the binding for {language} has no {missing[0]}")
+    yield f"| {' | '.join(LANGUAGES)} |"
+    yield "|---" * len(LANGUAGES) + "|"
+    for row in rows:
+        cells = (f"none: {cell[1:]}" if cell.startswith("-") else ", ".join(f"`{it}`" for it in cell.split(", ")) for cell in row)
+        yield f"| {' | '.join(cells)} |"
