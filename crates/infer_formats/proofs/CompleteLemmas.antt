@@ -1,5 +1,5 @@
 -- Whatever symbols are left, some bytes complete them.
-use Rattle.infer_formats.proofs.Common.{[], ℕ, zero, suc, ◌≤◌, inl, inr, List, ◌∷◌, ◌++◌, ◌-◌, ◌/◌, ◌%◌, refl, arith, Symbol, range, blanks, value, items, more_items, members, member, more_members, chars, char, escape, hex, number, whole, fraction, exponent, power, digits, text, byte, digit, Stands, nothing, one, by_rule, first_in, frames, left, more_in, next_left, Token, Chars, First, Value, Key, Colon, After, Next, Closed, Between, InKey, InValue, ◌≡◌, Bool, true, IsAmong, and_parts, leb-true, ◌&&◌, nat_le, rules}
+use Rattle.infer_formats.proofs.Common.{[], ℕ, zero, suc, ◌≤◌, inl, inr, List, ◌∷◌, ◌++◌, ◌-◌, ◌/◌, ◌%◌, refl, arith, Symbol, range, blanks, value, items, more_items, members, member, more_members, chars, char, escape, hex, number, whole, fraction, exponent, power, digits, text, byte, digit, Stands, nothing, one, by_rule, first_in, frames, left, more_in, next_left, Token, Chars, First, Colon, Next, Between, InKey, InValue, ◌≡◌, Bool, true, IsAmong, and_parts, leb-true, ◌&&◌, nat_le, rules}
 use Rattle.infer_formats.proofs.JsonLemmas.{value_begins}
 
 abbrev pub Completes : List Symbol → Type 0
@@ -111,13 +111,10 @@ frames_hold zero k ss h = h
 frames_hold (suc d) k ss h = more_holds (k % 2) (128 - suc d) (frames d (k / 2) ss) (frames_hold d (k / 2) ss h)
 
 pub next_holds : (n : Next) (d k : ℕ) (ss : List Symbol) → AllHold ss → AllHold (next_left n d k ss)
-next_holds Closed d k ss h = frames_hold d k ss h
 next_holds (Between First) d k ss h =
     first_holds (k % 2) (128 - d) (frames (d - 1) (k / 2) ss) (frames_hold (d - 1) (k / 2) ss h)
-next_holds (Between Value) d k ss h = frames_hold d k ss h
-next_holds (Between Key) d k ss h = frames_hold d k ss h
 next_holds (Between Colon) d k ss h = (omega arith, frames_hold d k ss h)
-next_holds (Between After) d k ss h = frames_hold d k ss h
 next_holds (InKey t) d k ss h =
     token_holds t (blanks ∷ byte 0x3A ∷ blanks ∷ value (128 - d) ∷ frames d k ss) (omega arith, frames_hold d k ss h)
 next_holds (InValue t) d k ss h = token_holds t (frames d k ss) (frames_hold d k ss h)
+next_holds _ d k ss h = frames_hold d k ss h

@@ -57,38 +57,35 @@ begins (suc k) x v (a ∷ ss) = (
   ],
 )
 
--- of each token's first symbol
-pub range_begins : (low high x : ℕ) (ss : List Symbol) (v : List ℕ) → Stands (range low high ∷ ss) (x ∷ v)
-    ↔ Begins 1 x v (range low high ∷ ss)
+-- of the first symbol of each token
+pub range_begins : (low high x : ℕ) (ss : List Symbol) (v : List ℕ) → Stands (range low high ∷ ss) (x ∷ v) ↔ Begins 1 x v (range low high ∷ ss)
 range_begins low high x ss v = begins 1 x v (range low high ∷ ss)
 
-pub chars_begin : (x : ℕ) (ss : List Symbol) (v : List ℕ) → Stands (chars ∷ ss) (x ∷ v) ↔ Begins 3 x v (chars ∷ ss)
-chars_begin x ss v = begins 3 x v (chars ∷ ss)
+module _ (x : ℕ) (ss : List Symbol) (v : List ℕ) where
+  pub chars_begin : Stands (chars ∷ ss) (x ∷ v) ↔ Begins 3 x v (chars ∷ ss)
+  chars_begin = begins 3 x v (chars ∷ ss)
 
-pub escape_begins : (x : ℕ) (ss : List Symbol) (v : List ℕ) → Stands (escape ∷ ss) (x ∷ v)
-    ↔ Begins 2 x v (escape ∷ ss)
-escape_begins x ss v = begins 2 x v (escape ∷ ss)
+  pub escape_begins : Stands (escape ∷ ss) (x ∷ v) ↔ Begins 2 x v (escape ∷ ss)
+  escape_begins = begins 2 x v (escape ∷ ss)
 
-pub hex_begins : (x : ℕ) (ss : List Symbol) (v : List ℕ) → Stands (hex ∷ ss) (x ∷ v) ↔ Begins 2 x v (hex ∷ ss)
-hex_begins x ss v = begins 2 x v (hex ∷ ss)
+  pub hex_begins : Stands (hex ∷ ss) (x ∷ v) ↔ Begins 2 x v (hex ∷ ss)
+  hex_begins = begins 2 x v (hex ∷ ss)
 
-pub whole_begins : (x : ℕ) (ss : List Symbol) (v : List ℕ) → Stands (whole ∷ ss) (x ∷ v) ↔ Begins 2 x v (whole ∷ ss)
-whole_begins x ss v = begins 2 x v (whole ∷ ss)
+  pub whole_begins : Stands (whole ∷ ss) (x ∷ v) ↔ Begins 2 x v (whole ∷ ss)
+  whole_begins = begins 2 x v (whole ∷ ss)
 
-pub power_begins : (x : ℕ) (ss : List Symbol) (v : List ℕ) → Stands (power ∷ ss) (x ∷ v) ↔ Begins 2 x v (power ∷ ss)
-power_begins x ss v = begins 2 x v (power ∷ ss)
+  pub power_begins : Stands (power ∷ ss) (x ∷ v) ↔ Begins 2 x v (power ∷ ss)
+  power_begins = begins 2 x v (power ∷ ss)
 
--- of those that may stand for nothing
-pub fraction_begins : (x : ℕ) (ss : List Symbol) (v : List ℕ) → Stands (fraction ∷ ss) (x ∷ v)
-    ↔ Begins 1 x v (fraction ∷ ss)
-fraction_begins x ss v = begins 1 x v (fraction ∷ ss)
+  -- of those that may stand for nothing
+  pub fraction_begins : Stands (fraction ∷ ss) (x ∷ v) ↔ Begins 1 x v (fraction ∷ ss)
+  fraction_begins = begins 1 x v (fraction ∷ ss)
 
-pub exponent_begins : (x : ℕ) (ss : List Symbol) (v : List ℕ) → Stands (exponent ∷ ss) (x ∷ v)
-    ↔ Begins 1 x v (exponent ∷ ss)
-exponent_begins x ss v = begins 1 x v (exponent ∷ ss)
+  pub exponent_begins : Stands (exponent ∷ ss) (x ∷ v) ↔ Begins 1 x v (exponent ∷ ss)
+  exponent_begins = begins 1 x v (exponent ∷ ss)
 
-pub digits_begin : (x : ℕ) (ss : List Symbol) (v : List ℕ) → Stands (digits ∷ ss) (x ∷ v) ↔ Begins 1 x v (digits ∷ ss)
-digits_begin x ss v = begins 1 x v (digits ∷ ss)
+  pub digits_begin : Stands (digits ∷ ss) (x ∷ v) ↔ Begins 1 x v (digits ∷ ss)
+  digits_begin = begins 1 x v (digits ∷ ss)
 
 -- of values
 abbrev pub ValueBegins : ℕ → List ℕ → List Symbol → Type 0

@@ -25,10 +25,7 @@ doctype_first b p name close d =
 
 -- "<" is no white space
 pub not_space : (x : ℕ) → x ≡ 0x3C → ¬ IsXmlSpace x
-not_space x is (inl e) = omega arith
-not_space x is (inr (inl e)) = omega arith
-not_space x is (inr (inr (inl e))) = omega arith
-not_space x is (inr (inr (inr e))) = omega arith
+not_space x is s = grind arith
 
 -- so one part stands at a place
 one_enclosed : (b opening closing : List ℕ) (p q r : ℕ) → IsEnclosed b opening closing p q

@@ -9,45 +9,27 @@ use Rattle.infer_formats.proofs.LineLemmas.{past_read}
 pub onward_here : (ss : List Symbol) (s : List ℕ) → Onward ss s ss s
 onward_here ss s others m v = (λ d. d, λ d. d)
 
-pub onward_more : (t u w : Token) (s b : List ℕ) (i : ℕ) → i < length b → Onward (left t) s (left u) (drop i b)
-    → Follows (left u) (get_or b i 0) (Inside w)
-    → Onward (left t) s (left w) (drop (i + 1) b)
-onward_more t u w s b i l before f others m v =
-    let h =
-    subst (λ q. Stands (left t ++ others) (s ++ v) ↔ Stands (left u ++ others) (q ++ v)) (drop_more b i 0 l)
-    (before others m v) in
-    let g = f others m (drop (i + 1) b ++ v) in
-    (λ d. g.0 (h.0 d), λ d. h.1 (g.1 d))
+-- by the byte that stands there
+module _ (t u : Token) (s b : List ℕ) (i : ℕ) (l : i < length b) (before : Onward (left t) s (left u) (drop i b)) where
+  there : (others : List Symbol) → EndsNumber others → (v : List ℕ)
+      → Stands (left t ++ others) (s ++ v) ↔ Stands (left u ++ others) (get_or b i 0 ∷ drop (i + 1) b ++ v)
+  there others m v = subst (λ q. Stands (left t ++ others) (s ++ v) ↔ Stands (left u ++ others) (q ++ v)) (drop_more b i 0 l) (before others m v)
 
-pub onward_ended : (t u : Token) (s b : List ℕ) (i : ℕ) → i < length b → Onward (left t) s (left u) (drop i b)
-    → Follows (left u) (get_or b i 0) Ended
-    → Onward (left t) s [] (drop (i + 1) b)
-onward_ended t u s b i l before f others m v =
-    let h =
-    subst (λ q. Stands (left t ++ others) (s ++ v) ↔ Stands (left u ++ others) (q ++ v)) (drop_more b i 0 l)
-    (before others m v) in
-    let g = f others (drop (i + 1) b ++ v) in
-    (λ d. g.0 (h.0 d), λ d. h.1 (g.1 d))
+  pub onward_more : (w : Token) → Follows (left u) (get_or b i 0) (Inside w) → Onward (left t) s (left w) (drop (i + 1) b)
+  onward_more w f others m v =
+      let h = there others m v in let g = f others m (drop (i + 1) b ++ v) in (λ d. g.0 (h.0 d), λ d. h.1 (g.1 d))
 
-pub onward_before : (t u : Token) (s b : List ℕ) (i : ℕ) → i < length b → Onward (left t) s (left u) (drop i b)
-    → Follows (left u) (get_or b i 0) EndedBefore
-    → Onward (left t) s [] (drop i b)
-onward_before t u s b i l before f others m v =
-    let e = drop_more b i 0 l in
-    let h =
-    subst (λ q. Stands (left t ++ others) (s ++ v) ↔ Stands (left u ++ others) (q ++ v)) e (before others m v) in
-    let g = f others (drop (i + 1) b ++ v) in
-    subst (λ q. Stands (left t ++ others) (s ++ v) ↔ Stands others (q ++ v)) (sym e)
-    (λ d. g.0 (h.0 d), λ d. h.1 (g.1 d))
+  pub onward_ended : Follows (left u) (get_or b i 0) Ended → Onward (left t) s [] (drop (i + 1) b)
+  onward_ended f others m v =
+      let h = there others m v in let g = f others (drop (i + 1) b ++ v) in (λ d. g.0 (h.0 d), λ d. h.1 (g.1 d))
 
-pub onward_wrong : (t u : Token) (s b : List ℕ) (i : ℕ) → i < length b → Onward (left t) s (left u) (drop i b)
-    → Follows (left u) (get_or b i 0) Wrong
-    → (others : List Symbol) → EndsNumber others → (v : List ℕ) → ¬ Stands (left t ++ others) (s ++ v)
-onward_wrong t u s b i l before f others m v d =
-    let h =
-    subst (λ q. Stands (left t ++ others) (s ++ v) ↔ Stands (left u ++ others) (q ++ v)) (drop_more b i 0 l)
-    (before others m v) in
-    f others (drop (i + 1) b ++ v) (h.0 d)
+  pub onward_before : Follows (left u) (get_or b i 0) EndedBefore → Onward (left t) s [] (drop i b)
+  onward_before f others m v =
+      let h = there others m v in let g = f others (drop (i + 1) b ++ v) in
+      subst (λ q. Stands (left t ++ others) (s ++ v) ↔ Stands others (q ++ v)) (sym (drop_more b i 0 l)) (λ d. g.0 (h.0 d), λ d. h.1 (g.1 d))
+
+  pub onward_wrong : Follows (left u) (get_or b i 0) Wrong → (others : List Symbol) → EndsNumber others → (v : List ℕ) → ¬ Stands (left t ++ others) (s ++ v)
+  onward_wrong f others m v d = f others (drop (i + 1) b ++ v) ((there others m v).0 d)
 
 pub onward_cut : (t u : Token) (s b : List ℕ) (i : ℕ) → length b ≤ i → Onward (left t) s (left u) (drop i b)
     → Onward (left t) s (left u) []

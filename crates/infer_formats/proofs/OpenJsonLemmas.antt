@@ -4,6 +4,7 @@ use Rattle.infer_formats.proofs.CompleteLemmas.{AllHold}
 use Rattle.infer_formats.proofs.JsonLemmas.{begins, chars_begin}
 use Rattle.infer_formats.proofs.LineLemmas.{mark_stops, past_can, text_no_blank}
 use Rattle.infer_formats.proofs.ReaderLemmas.{blank_read, blank_skip}
+use Rattle.std.proofs.lemmas.Bool.{or_cases}
 
 -- ---- what the grammar leaves open
 
@@ -18,10 +19,6 @@ MayBecomeJson = MayStandFor (blanks ∷ text ∷ blanks ∷ [])
 -- so that it is texts, each behind the first on a new line
 abbrev pub MayBecomeJsonLines : List ℕ → Type 0
 MayBecomeJsonLines = MayStandFor (blanks ∷ text ∷ same_line ∷ [])
-
-either_true : (p q : Bool) → IsTrue (p || q) → IsTrue p ⊎ IsTrue q
-either_true true q h = inl refl
-either_true false q h = inr h
 
 among_passes : (p : List Symbol → Bool) (r : List Symbol) (rs : List (List Symbol)) → IsTrue (list_all p rs) → IsAmong r rs → IsTrue (p r)
 among_passes p r [] all m = elim m [ ]
@@ -118,28 +115,12 @@ are_tidy (a ∷ ss) = is_tidy a ss && are_tidy ss
 
 rules_tidy : (a : Symbol) (ss : List Symbol) → IsTrue (is_tidy a ss) → IsTrue (are_tidy ss) → IsTrue (list_all (λ r. are_tidy (r ++ ss)) (rules a))
 unfolding is_frame in_string is_tidy are_tidy
-rules_tidy (range low high) ss t h = refl
-rules_tidy blanks ss t h = rw h refl
-rules_tidy (value zero) ss t h = rw h refl
-rules_tidy (value (suc n)) ss t h = rw (t, h) refl
-rules_tidy (items n) ss t h = rw (t, h) refl
-rules_tidy (more_items n) ss t h = rw (t, h) refl
-rules_tidy (members n) ss t h = rw (t, h) refl
-rules_tidy (member n) ss t h = rw (t, h) refl
-rules_tidy (more_members n) ss t h = rw (t, h) refl
-rules_tidy chars ss t h = rw h refl
-rules_tidy char ss t h = rw (t, h, or_right (is_frame ss) true refl) refl
-rules_tidy escape ss t h = rw h refl
-rules_tidy hex ss t h = rw h refl
-rules_tidy number ss t h = rw h refl
-rules_tidy whole ss t h = rw h refl
-rules_tidy fraction ss t h = rw h refl
-rules_tidy exponent ss t h = rw h refl
-rules_tidy power ss t h = rw h refl
-rules_tidy digits ss t h = rw h refl
-rules_tidy text ss t h = rw (t, h) refl
 rules_tidy same_line ss t h = absurd (cc)
 rules_tidy next_line ss t h = absurd (cc)
+rules_tidy char ss t h = rw (t, h, or_right (is_frame ss) true refl) refl
+rules_tidy (value zero) ss t h = rw h refl
+rules_tidy (range low high) ss t h = refl
+rules_tidy a ss t h = first_of (rw (t, h), rw h)
 
 -- no frame goes on with a bracket on a new line
 no_bracket : (ss : List Symbol) → IsTrue (is_frame ss) → (y : List ℕ) → ¬ Stands ss (0x5B ∷ y)
@@ -181,9 +162,9 @@ never_next (one {low} {high} {x} {ss} {xs} l h d) t [] y e =
     let rest : xs ≡ 0x0A ∷ 0x5B ∷ y = cc in
     let behind = subst (Stands ss) rest d in
     let tidy = and_parts (is_tidy (range low high) ss) _ t in
-    elim (either_true (nat_lt 0x5D low || nat_lt high 0x5D) _ tidy.0) [
+    elim (or_cases (nat_lt 0x5D low || nat_lt high 0x5D) _ tidy.0) [
       | inl other ↦ absurd (grind (arith, nat_tests, other, l, h, first))
-      | inr kind ↦ elim (either_true (is_frame ss) _ kind) [
+      | inr kind ↦ elim (or_cases (is_frame ss) _ kind) [
         | inl frame ↦ no_line ss frame y behind
         | inr string ↦ no_char ss string (0x5B ∷ y) behind
       ]

@@ -62,7 +62,3 @@ module _ (b more : List ℕ) where
   chunk c (later _ fits other rest) =
       later c (longer b more _ fits) (λ o. other (OccursAt-front b more _ (c + 4) (omega arith) o))
       (subst (IsAnimatedFrom (b ++ more)) (ap (λ n. c + 12 + n) (sym (be32-append b more c (omega arith)))) (chunk (c + 12 + be32 b c) rest))
-
--- what becomes an animated image begins as one, and its chunks may be such
-pub animation_known : (b : List ℕ) → MayBecome (λ c. OccursAt c png_header 0 × IsAnimated c) b → AgreesAt b png_header 0 × MayBecome IsAnimated b
-animation_known b (more, bytes, (header, chunks)) = (grown_agrees b more png_header 0 header, (more, bytes, chunks))

@@ -164,11 +164,8 @@ after_ends d k ss x v h s =
 -- what is left, where brackets are open
 pub between_left : (due : Due) (d k : ℕ) (ss : List Symbol) → 1 ≤ d
     → next_left (Between due) d k ss ≡ blanks ∷ due_left due d k ss
-between_left First d k ss l = refl
-between_left Value d k ss l = refl
-between_left Key d k ss l = refl
-between_left Colon d k ss l = refl
 between_left After d k ss l = frames_open d k ss l
+between_left _ d k ss l = refl
 
 pub reads_closed : (before : List Symbol → List Symbol) (x : ℕ) (old new : Reader) → IsOpen old → IsClosedTo old new
     → ((ss : List Symbol) (v : List ℕ) → Stands (before ss) (x ∷ v)

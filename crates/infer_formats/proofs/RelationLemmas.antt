@@ -32,9 +32,7 @@ relation_lasts tar_checksum l = tar_checksum-lasts
 relation_lasts (program name) l = IsProgram-lasts name
 relation_lasts (root name) l = HasRoot-lasts name
 relation_lasts (root_with name t) l = HasRootWith-lasts name t
-relation_lasts json_lines l = absurd (cc)
-relation_lasts json_text l = absurd (cc)
-relation_lasts plain_text l = absurd (cc)
+relation_lasts r l = absurd cc
 
 lasts_but : (r : declared.Relation) → (r ≡ JsonLines → ⊥) → (r ≡ JsonText → ⊥) → (r ≡ PlainText → ⊥) → IsTrue (is_lasting (relation_listed r))
 lasts_but JsonLines n m p = absurd (n refl)

@@ -1,10 +1,11 @@
 -- Text and binary data, block by block: what more bytes keep and may make, and the bytes that each has.
-use Rattle.infer_formats.proofs.Common.{[], ◌≡◌, ℕ, ◌+◌, ◌-◌, ◌≤◌, ◌↔◌, Bool, true, false, List, length, get_or, take, drop, sym, subst, ap, ◌∙◌, arith, length-drop, OnTrue, get_or-drop, get_or-take, take_rest, AllBelow, IsBinary, IsDataByte, IsPlainByte, SomeBelow, ◌⊎◌, ◌<◌, inl, inr, zero, suc, IsTrue, nat_eq, ◌∷◌, ◌++◌, refl, slice_index, cases_lt, get_or_append_left, OccursAt, MayBecome, OccursAt-append, OccursAt-front, Stays, lines, plain_text, IsText, StandsByPlace, accepts, between, fits, stands}
+use Rattle.infer_formats.proofs.Common.{[], ◌≡◌, ℕ, ◌+◌, ◌-◌, ◌≤◌, ◌↔◌, Bool, true, false, List, length, get_or, take, drop, sym, subst, ap, ◌∙◌, arith, length-drop, OnTrue, get_or-drop, get_or-take, take_rest, AllBelow, IsBinary, IsDataByte, IsPlainByte, SomeBelow, ◌⊎◌, ◌<◌, inl, inr, zero, suc, IsTrue, nat_eq, ◌∷◌, ◌++◌, refl, slice_index, cases_lt, get_or_append_left, OccursAt, MayBecome, OccursAt-append, OccursAt-front, Stays, lines, plain_text, IsText, StandsByPlace, accepts, between, fits, stands, leb-true, nat_le}
 use Rattle.infer_deep.specs.Text.{BeginsMarked, IsMark}
 use Rattle.infer_sig.specs.Signature.{byte}
 use Rattle.infer_formats.proofs.GrowthLemmas.{carried, longer}
 use Rattle.infer_formats.proofs.OutlineLemmas.{in_range, one}
 use Rattle.infer_formats.proofs.PartLemmas.{part_reads}
+use Rattle.std.proofs.lemmas.List.Sums.{AllPass-from_list_all}
 
 -- one more block of s bytes without them
 pub plain_more : (b : List ℕ) (s n m : ℕ) → m ≡ n + s → AllBelow IsPlainByte b n → AllBelow IsPlainByte (take (n + s - n) (drop n b)) s
@@ -44,31 +45,14 @@ module _ (b more : List ℕ) where
 
 -- no byte of a mark is one of binary data
 mark_high : (mark : List ℕ) → IsMark mark → (k : ℕ) → k < length mark → 0xBB ≤ slice_index mark k
-mark_high mark (inl e) k lt = subst (λ m. k < length m → 0xBB ≤ slice_index m k) (sym e) (go k) lt
-  where
-    go : (j : ℕ) → j < 3 → 0xBB ≤ slice_index (0xEF ∷ 0xBB ∷ 0xBF ∷ []) j
-    go zero l = omega arith
-    go (suc zero) l = omega arith
-    go (suc (suc zero)) l = omega arith
-    go (suc (suc (suc j))) l = absurd (omega arith)
-mark_high mark (inr (inl e)) k lt = subst (λ m. k < length m → 0xBB ≤ slice_index m k) (sym e) (go k) lt
-  where
-    go : (j : ℕ) → j < 2 → 0xBB ≤ slice_index (0xFE ∷ 0xFF ∷ []) j
-    go zero l = omega arith
-    go (suc zero) l = omega arith
-    go (suc (suc j)) l = absurd (omega arith)
-mark_high mark (inr (inr e)) k lt = subst (λ m. k < length m → 0xBB ≤ slice_index m k) (sym e) (go k) lt
-  where
-    go : (j : ℕ) → j < 2 → 0xBB ≤ slice_index (0xFF ∷ 0xFE ∷ []) j
-    go zero l = omega arith
-    go (suc zero) l = omega arith
-    go (suc (suc j)) l = absurd (omega arith)
+mark_high mark is k lt = leb-true 0xBB _ (AllPass-from_list_all (nat_le 0xBB) mark (elim is [
+  | inl e ↦ rw e refl
+  | inr (inl e) ↦ rw e refl
+  | inr (inr e) ↦ rw e refl
+]) k 0 lt)
 
 high_plain : (x : ℕ) → 0xBB ≤ x → ¬ IsDataByte x
-high_plain x h (inl is) = absurd (omega arith)
-high_plain x h (inr (inl is)) = absurd (omega arith)
-high_plain x h (inr (inr (inl is))) = absurd (omega arith)
-high_plain x h (inr (inr (inr is))) = absurd (omega arith)
+high_plain x h is = grind arith
 
 first_reads : {b text : List ℕ} → OccursAt b text 0 → (k : ℕ) → k < length text → slice_index b k ≡ slice_index text k
 first_reads {b} {text} o k lt = let e : 0 + k ≡ k = omega arith in subst (λ i. slice_index b i ≡ slice_index text k) e (o.reads k lt)

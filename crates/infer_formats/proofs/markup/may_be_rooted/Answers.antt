@@ -1,12 +1,7 @@
 use Rattle.infer_formats.proofs.Common.{◌≡◌, ℕ, ◌+◌, ◌<◌, length, inl, inr, arith, refl, subst, slice_index, cases_lt, false≢true, IsXmlSpace, MayOpen}
 use Rattle.infer_formats.proofs.GrowthLemmas.{there}
+use Rattle.infer_formats.proofs.MarkupLemmas.{not_space}
 use Rattle.infer_formats.proofs.markup.may_be_rooted.Goals as goal
-
-no_space : (x : ℕ) → x ≡ 0x3C → ¬ IsXmlSpace x
-no_space x e (inl s) = absurd (omega arith)
-no_space x e (inr (inl s)) = absurd (omega arith)
-no_space x e (inr (inr (inl s))) = absurd (omega arith)
-no_space x e (inr (inr (inr s))) = absurd (omega arith)
 
 pub loop-place-init : goal.loop-place-init
 loop-place-init c = λ j lt. absurd (omega arith)
@@ -27,7 +22,7 @@ returns-then-not-is_xml_space c =
       λ m. elim m [
         | inl mark ↦ absurd (false≢true (c.if-has_at.ensures.1 mark))
         | inr (k, spaces, opens, may) ↦ elim (cases_lt k place) [
-          | inl less ↦ absurd (no_space (slice_index b k) opens (c.loop-place.invariant k less))
+          | inl less ↦ absurd (not_space (slice_index b k) opens (c.loop-place.invariant k less))
           | inr more ↦ elim (cases_lt place k) [
             | inl less ↦ absurd (false≢true (c.if-not-is_xml_space.ensures.1 (spaces place less)))
             | inr same ↦
@@ -46,6 +41,6 @@ returns c =
         | inl mark ↦ absurd (false≢true (c.if-has_at.ensures.1 mark))
         | inr (k, spaces, opens, may) ↦
             let lt : k < length b = there b k (omega arith) in
-            absurd (no_space (slice_index b k) opens (c.loop-place.invariant k (omega arith)))
+            absurd (not_space (slice_index b k) opens (c.loop-place.invariant k (omega arith)))
       ],
     )

@@ -7,8 +7,8 @@ loop-i-init c = onward_here (left c.args.token) (drop c.args.at c.args.buf.now)
 
 pub loop-i-preserved : goal.loop-i-preserved
 loop-i-preserved c =
-    onward_more c.args.token c.loop-i.token c.in-Inside.next (drop c.args.at c.args.buf.now) c.args.buf.now c.loop-i.i
-    (omega arith) c.loop-i.invariant c.in-Inside.ensures
+    onward_more c.args.token c.loop-i.token (drop c.args.at c.args.buf.now) c.args.buf.now c.loop-i.i
+    (omega arith) c.loop-i.invariant c.in-Inside.next c.in-Inside.ensures
 
 pub returns-in-Ended : goal.returns-in-Ended
 returns-in-Ended c = (
