@@ -1,0 +1,179 @@
+/* The library for C++17 and later, over infer.h and infer_file.h, whose comments say what each call means.
+ *
+ *     const std::vector<unsigned char> front = ...;
+ *     if (const auto found = infer::get(front))
+ *         std::cout << found->mime_type << '\n';
+ *
+ * What is not here is called as in C. Nothing here throws but what says so, and what allocates gives a std::string. */
+#ifndef INFER_HPP
+#define INFER_HPP
+
+#include "infer.h"
+#include "infer_file.h"
+
+#include <algorithm>
+#include <array>
+#include <cerrno>
+#include <cstddef>
+#include <cstdint>
+#include <istream>
+#include <iterator>
+#include <optional>
+#include <stdexcept>
+#include <string>
+#include <string_view>
+#include <system_error>
+#include <type_traits>
+#include <utility>
+
+namespace infer {
+
+/* A view of bytes, as a call takes them: of a std::string_view, a std::vector, a std::span or any other range that stands
+ * in one piece, of elements of one byte, or of a place and a size. It is made of no text with a zero behind it, which would
+ * not say how many bytes there are: write "GIF89a"sv. */
+class bytes {
+public:
+    constexpr bytes() noexcept = default;
+    constexpr bytes(const void *data, std::size_t size) noexcept : data_(data), size_(size) {}
+    constexpr bytes(std::string_view text) noexcept : data_(text.data()), size_(text.size()) {}
+    template <class Range, class Element = std::remove_pointer_t<decltype(std::data(std::declval<const Range &>()))>,
+              class = std::enable_if_t<sizeof(Element) == 1 && std::is_trivially_copyable_v<Element>>>
+    constexpr bytes(const Range &range) noexcept : data_(std::data(range)), size_(std::size(range)) {}
+    bytes(const char *) = delete;
+    template <std::size_t size> bytes(const char (&)[size]) = delete;
+
+    constexpr const void *data() const noexcept { return data_; }
+    constexpr std::size_t size() const noexcept { return size_; }
+
+private:
+    const void *data_ = nullptr;
+    std::size_t size_ = 0;
+};
+
+/* A type. The texts are the library's own and last as long as it is loaded. */
+struct type {
+    std::string_view mime_type, extension;
+    infer_class_code class_code;
+
+    std::string_view class_name() const noexcept { return infer_class_name_text(class_code); }
+    friend bool operator==(const type &a, const type &b) noexcept { return a.mime_type == b.mime_type && a.extension == b.extension && a.class_code == b.class_code; }
+    friend bool operator!=(const type &a, const type &b) noexcept { return !(a == b); }
+};
+
+/* The type of a row, and nothing of a number that no row has. */
+inline std::optional<type> of_row(std::int32_t row) noexcept {
+    const auto class_code = static_cast<infer_class_code>(infer_class(row));
+    if (class_code == INFER_NO_ROW) return std::nullopt;
+    return type{infer_mime_type_text(row), infer_extension_text(row), class_code};
+}
+
+/* The answer, and the wider answer. */
+inline std::optional<type> get(bytes of) noexcept { return of_row(infer_position(of.data(), of.size())); }
+inline std::optional<type> get_more(bytes of) noexcept { return of_row(infer_more_position(of.data(), of.size())); }
+
+/* Whether no bytes that may follow can change them. */
+inline bool is_decided(bytes of) noexcept { return infer_is_decided(of.data(), of.size()); }
+inline bool is_more_decided(bytes of) noexcept { return infer_more_is_decided(of.data(), of.size()); }
+
+/* Whether some built-in type with that extension or MIME type accepts the bytes. It need not be the answer. */
+inline bool is(bytes of, std::string_view extension) noexcept { return infer_is(of.data(), of.size(), extension.data(), extension.size()); }
+inline bool is_mime(bytes of, std::string_view mime_type) noexcept { return infer_is_mime(of.data(), of.size(), mime_type.data(), mime_type.size()); }
+
+/* How a text is encoded, by its IANA name, and nothing of other bytes. */
+inline std::optional<std::string> encoding(bytes of) {
+    std::array<char, INFER_TEXT_SIZE> out{};
+    const std::size_t size = infer_encoding(of.data(), of.size(), out.data(), out.size());
+    if (size == 0) return std::nullopt;
+    return std::string(out.data(), size);
+}
+
+namespace detail {
+inline std::optional<type> of_path(int ask(const char *, std::int32_t *), const std::string &path) {
+    std::int32_t row = -1;
+    if (ask(path.c_str(), &row) != 0) throw std::system_error(errno, std::generic_category(), path);
+    return of_row(row);
+}
+
+/* The first bytes of a stream from where it stands, and it stands there again if it can go back. */
+inline std::string front_of(std::istream &from) {
+    std::string front(INFER_FRONT, '\0');
+    if (!from.good()) return {};
+    const std::streamsize count = std::max<std::streamsize>(0, from.rdbuf()->sgetn(front.data(), static_cast<std::streamsize>(front.size())));
+    from.rdbuf()->pubseekoff(-count, std::ios_base::cur, std::ios_base::in);
+    front.resize(static_cast<std::size_t>(count));
+    return front;
+}
+} // namespace detail
+
+/* The same by the first 8192 bytes of a regular file. What infer_path says by errno is thrown as a std::system_error. */
+inline std::optional<type> get_path(const std::string &path) { return detail::of_path(infer_path, path); }
+inline std::optional<type> get_more_path(const std::string &path) { return detail::of_path(infer_more_path, path); }
+
+/* The same by the next 8192 bytes of a stream. One that can go back stands where it stood; of another they are gone. */
+inline std::optional<type> get_from(std::istream &from) { return get(detail::front_of(from)); }
+inline std::optional<type> get_more_from(std::istream &from) { return get_more(detail::front_of(from)); }
+
+/* The type of bytes that come in pieces, of which the first 8192 are kept. It allocates nothing. */
+class sniffer {
+public:
+    void push(bytes piece) noexcept {
+        const std::size_t count = std::min(piece.size(), kept_.size() - size_);
+        std::copy_n(static_cast<const unsigned char *>(piece.data()), count, kept_.begin() + static_cast<std::ptrdiff_t>(size_));
+        size_ += count;
+    }
+    bytes kept() const noexcept { return {kept_.data(), size_}; }
+    bool is_full() const noexcept { return size_ == kept_.size(); }
+
+private:
+    std::array<unsigned char, INFER_FRONT> kept_{};
+    std::size_t size_ = 0;
+};
+
+/* A text that describes no types: where its first mistake is, both from 1, and by what() which one it is. */
+class types_error : public std::invalid_argument {
+public:
+    types_error(std::size_t line, std::size_t column, const char *reason) : std::invalid_argument(reason), line_(line), column_(column) {}
+    std::size_t line() const noexcept { return line_; }
+    std::size_t column() const noexcept { return column_; }
+
+private:
+    std::size_t line_, column_;
+};
+
+/* Types of your own, which a text describes, one a line, in the notation of docs/NOTATION.md. */
+class types {
+public:
+    struct found {
+        std::string mime_type, extension;
+        infer_class_code class_code;
+    };
+
+    /* Throws a types_error if the text describes no types. */
+    explicit types(std::string text) : text_(std::move(text)) {
+        std::size_t line = 0, column = 0;
+        std::array<char, INFER_TEXT_SIZE> reason{};
+        if (infer_types_check(text_.data(), text_.size(), &line, &column, reason.data(), reason.size()) != 0)
+            throw types_error(line, column, reason.data());
+    }
+
+    /* The first of these types that stands below the built-in answer and accepts the bytes, and else the wider answer. */
+    std::optional<found> get(bytes of) const {
+        std::array<char, INFER_TYPES_TEXT_SIZE> mime_type{}, extension{};
+        const std::int32_t class_code = infer_types_get(text_.data(), text_.size(), of.data(), of.size(), mime_type.data(), mime_type.size(), extension.data(), extension.size());
+        if (class_code == INFER_NO_ROW) return std::nullopt;
+        return found{mime_type.data(), extension.data(), static_cast<infer_class_code>(class_code)};
+    }
+
+    /* The number of the line, from 1, whose type that is, and nothing if it is the wider answer. */
+    std::optional<std::size_t> line(bytes of) const noexcept {
+        const std::size_t number = infer_types_line(text_.data(), text_.size(), of.data(), of.size());
+        return number > 0 ? std::optional(number) : std::nullopt;
+    }
+
+private:
+    std::string text_;
+};
+
+} // namespace infer
+
+#endif

@@ -1,0 +1,168 @@
+/* Asks infer.hpp what infer.h says too, of bytes of every kind, and counts the differences.
+ * usage: told_cpp FOLDER, an empty one. */
+#include "infer.hpp"
+
+#include <cstdio>
+#include <cstdlib>
+#include <cstring>
+#include <fstream>
+#include <iostream>
+#include <random>
+#include <sstream>
+#include <unistd.h>
+#include <vector>
+#if __cplusplus >= 202002L
+#include <span>
+#endif
+
+using namespace std::string_view_literals;
+
+static int compared, differing;
+
+static void wants(const char *what, bool is_so) {
+    compared++;
+    if (!is_so) {
+        differing++;
+        std::printf("%s\n", what);
+    }
+}
+
+/* What is no view of bytes is refused by the compiler. */
+static_assert(!std::is_constructible_v<infer::bytes, const char *> && !std::is_constructible_v<infer::bytes, const char (&)[7]>);
+static_assert(!std::is_constructible_v<infer::bytes, std::vector<int>> && !std::is_constructible_v<infer::bytes, std::wstring> && !std::is_constructible_v<infer::bytes, int>);
+static_assert(std::is_nothrow_constructible_v<infer::bytes, std::vector<unsigned char>> && std::is_nothrow_constructible_v<infer::bytes, std::string>);
+static_assert(std::is_trivially_copyable_v<infer::bytes> && std::is_trivially_copyable_v<infer::type>);
+
+static bool is_jpeg(const std::optional<infer::type> &it) {
+    return it && it->mime_type == "image/jpeg" && it->extension == "jpg" && it->class_code == INFER_IMAGE && it->class_name() == "image";
+}
+
+static void views() {
+    const unsigned char array[] = {0xFF, 0xD8, 0xFF, 0xE0};
+    const std::vector<unsigned char> vector(array, array + 4);
+    const std::vector<std::byte> of_bytes(8, std::byte{0xFF});
+    const std::string text("\xFF\xD8\xFF\xE0");
+    wants("views of one buffer", is_jpeg(infer::get(array)) && is_jpeg(infer::get(vector)) && is_jpeg(infer::get(text)) && is_jpeg(infer::get({array, 4})));
+    wants("a view of a string_view", is_jpeg(infer::get(std::string_view(text))) && is_jpeg(infer::get("\xFF\xD8\xFF"sv)));
+    wants("views of nothing", !infer::get(infer::bytes()) && !infer::get(std::string()) && !infer::get(std::vector<char>()) && !infer::get({nullptr, 0}));
+    wants("bytes that are of no type", !infer::get(of_bytes));
+#if __cplusplus >= 202002L
+    wants("views of spans", is_jpeg(infer::get(std::span(vector))) && is_jpeg(infer::get(std::span<const unsigned char, 4>(array))) && !infer::get(std::as_bytes(std::span(vector)).first(2)));
+#endif
+    wants("a zero inside", infer::get("\0asm\1\0\0\0"sv)->extension == "wasm" && infer::get(std::string("\0asm\1\0\0\0", 8))->extension == "wasm");
+    wants("types are alike", infer::get(array) == infer::get(vector) && infer::get("GIF89a"sv) != infer::get(vector) && *infer::get("GIF89a"sv) != *infer::get(vector));
+}
+
+static void calls() {
+    wants("the wider answer", infer::get_more("<svg></svg>"sv)->mime_type == "image/svg+xml" && !infer::get("<svg></svg>"sv));
+    wants("encodings", infer::encoding("text"sv) == "us-ascii" && infer::encoding("caf\xC3\xA9"sv) == "utf-8" && !infer::encoding("\0"sv) && !infer::encoding(""sv));
+    wants("some type", infer::is("MZ"sv, "dll") && infer::is_mime("GIF89a"sv, "image/gif") && !infer::is("MZ"sv, "DLL") && !infer::is("MZ"sv, {}));
+    wants("rows", !infer::of_row(-1) && !infer::of_row(INT32_MAX) && !infer::of_row(INT32_MIN) && infer::of_row(0));
+    std::mt19937 chance(7);
+    std::size_t known = 0;
+    for (int round = 0; round < 20000; round++) {
+        std::vector<unsigned char> data(chance() % 300);
+        for (auto &byte : data)
+            byte = static_cast<unsigned char>(chance());
+        if (round % 2 == 0) {
+            data.resize(INFER_SAMPLE_SIZE);
+            data.resize(infer_sample(static_cast<std::int32_t>(chance() % infer_more_row_count()), data.data(), data.size()));
+            /* Of half of the samples one bit is another. */
+            if (!data.empty() && round % 4 == 0) data[chance() % data.size()] ^= static_cast<unsigned char>(1U << chance() % 8);
+        }
+        const auto row = infer_more_position(data.data(), data.size());
+        const auto found = infer::get_more(data);
+        known += found.has_value();
+        const bool is_same = found.has_value() == (row >= 0) && (!found || (found->mime_type == infer_mime_type_text(row) && found->extension == infer_extension_text(row)));
+        if (!is_same || infer::is_decided(data) != infer_is_decided(data.data(), data.size()) || infer::is_more_decided(data) != infer_more_is_decided(data.data(), data.size()))
+            wants("a buffer has another answer than in C", false);
+    }
+    wants("many of these buffers have a type", known > 5000);
+}
+
+/* A buffer of a stream that gives a byte at a time and cannot go back. */
+class once : public std::streambuf {
+public:
+    explicit once(std::string text) : text_(std::move(text)) {}
+
+private:
+    std::string text_;
+    std::size_t at_ = 0;
+    int_type underflow() override {
+        if (at_ == text_.size()) return traits_type::eof();
+        setg(text_.data() + at_, text_.data() + at_, text_.data() + at_ + 1);
+        at_++;
+        return traits_type::to_int_type(text_[at_ - 1]);
+    }
+};
+
+static void streams_and_files() {
+    const std::string jpeg("\xFF\xD8\xFF\xE0"), late = std::string(8190, ' ') + "<p>";
+    std::ofstream("photo", std::ios::binary) << jpeg << std::string(20000, '\0');
+    std::ifstream file("photo", std::ios::binary);
+    wants("a file", is_jpeg(infer::get_path("photo")) && is_jpeg(infer::get_from(file)) && file.tellg() == std::streampos(0) && is_jpeg(infer::get_more_from(file)));
+    file.seekg(1);
+    wants("a file from where it stands", !infer::get_from(file) && file.tellg() == std::streampos(1));
+    std::ofstream("drawing", std::ios::binary) << "<svg></svg>";
+    wants("the wider answer of a file", infer::get_more_path("drawing")->extension == "svg" && !infer::get_path("drawing"));
+    std::istringstream text(late), spaces(late.substr(1));
+    wants("8192 bytes of a stream", !infer::get_from(text) && infer::get_from(spaces)->extension == "html" && text.good() && text.tellg() == std::streampos(0));
+    once front(jpeg + "rest");
+    std::istream slow(&front);
+    std::string rest;
+    wants("a stream that cannot go back", is_jpeg(infer::get_from(slow)) && !(slow >> rest));
+    std::istream none(nullptr);
+    std::istringstream failed(jpeg);
+    failed.setstate(std::ios::failbit);
+    wants("streams without bytes", !infer::get_from(none) && !infer::get_from(failed));
+    int faults = 0;
+    for (const char *path : {"none", "", ".", "/dev/null"}) {
+        try {
+            infer::get_path(path);
+        } catch (const std::system_error &fault) {
+            const int wanted[] = {ENOENT, ENOENT, EISDIR, ENOTSUP};
+            faults += fault.code() == std::error_code(wanted[faults], std::generic_category()) && std::strstr(fault.what(), path) != nullptr;
+        }
+    }
+    wants("faults of paths", faults == 4);
+}
+
+static void pieces() {
+    const std::string jpeg = std::string("\xFF\xD8\xFF\xE0") + std::string(57, '\0');
+    infer::sniffer sniffer;
+    wants("no piece", !infer::get(sniffer.kept()) && !sniffer.is_full());
+    for (std::size_t at = 0; at < jpeg.size(); at++) {
+        wants("it is decided by its last byte", !infer::is_decided(sniffer.kept()));
+        sniffer.push({jpeg.data() + at, 1});
+    }
+    wants("the type of pieces", is_jpeg(infer::get(sniffer.kept())) && infer::is_decided(sniffer.kept()) && sniffer.kept().size() == jpeg.size());
+    sniffer.push(infer::bytes());
+    for (int round = 0; round < 3; round++)
+        sniffer.push(std::vector<char>(5000));
+    wants("no more than 8192 bytes are kept", sniffer.is_full() && sniffer.kept().size() == INFER_FRONT && is_jpeg(infer::get(sniffer.kept())));
+}
+
+static void own_types() {
+    const infer::types own("# mine\nqoi image/qoi image - 4: @0 \"qoif\"\nsvg image/svg+xml image - root: svg with \"safe\"\n");
+    const auto qoi = own.get("qoif"sv);
+    wants("an own type", qoi && qoi->mime_type == "image/qoi" && qoi->extension == "qoi" && qoi->class_code == INFER_IMAGE);
+    wants("lines", own.line("qoif"sv) == 2U && own.line("<svg safe></svg>"sv) == 3U && !own.line("<svg></svg>"sv) && own.get("<svg></svg>"sv)->extension == "svg");
+    wants("the wider answer, or none", own.get("GIF89a"sv)->extension == "gif" && !own.get("\0?"sv) && infer::types("").get("MZ"sv)->extension == "exe");
+    try {
+        infer::types("qoi image/qoi picture - 4: @0 00");
+        wants("a mistake is thrown", false);
+    } catch (const infer::types_error &mistake) {
+        wants("a mistake", mistake.line() == 1 && mistake.column() == 15 && std::strcmp(mistake.what(), "unknown class") == 0);
+    }
+}
+
+int main(int argc, char **argv) {
+    if (argc != 2 || chdir(argv[1]) != 0) return std::puts("usage: told_cpp FOLDER"), 2;
+    views();
+    calls();
+    streams_and_files();
+    pieces();
+    own_types();
+    std::printf("%d answers of C++ compared, %d differ\n", compared, differing);
+    return differing != 0;
+}
