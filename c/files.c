@@ -201,6 +201,42 @@ static void wider(void) {
     fd_by(infer_more_fd, "a closed descriptor", drawing, FAULT(EBADF));
 }
 
+static void is_told(const char *path, int wanted, const char *extension, const char *encoding, bool is_decided) {
+    struct infer_told told;
+    errno = 0;
+    int answer = infer_tell_path(path, &told), fault = errno;
+    same(path, answer ? FAULT(fault) : 0, wanted);
+    same(path, strcmp(told.extension, extension) == 0 && strcmp(told.encoding, encoding) == 0 && told.is_decided == is_decided, true);
+    same(path, told.class_code, infer_class(told.row));
+    same(path, told.mime_type == infer_mime_type_text(told.row), true);
+}
+
+/* All that is told at once, of files, and of pieces as of the whole. */
+static void all_at_once(void) {
+    is_told("drawing", 0, "svg", "us-ascii", false);
+    is_told("sparse", 0, "jpg", "", true);
+    is_told("empty", 0, "", "", false);
+    is_told("none", FAULT(ENOENT), "", "", false);
+    is_told("folder", FAULT(EISDIR), "", "", false);
+    is_told("fifo", FAULT(ENOTSUP), "", "", false);
+    static char stream[20000] = "\xFF\xD8\xFF\xE0";
+    static const size_t sizes[] = {1, 7, 1000, 8191, 8192, 8193, sizeof stream};
+    for (size_t i = 0; i < sizeof sizes / sizeof *sizes; i++) {
+        struct infer_sniffer it = {0};
+        bool is_final = false;
+        for (size_t at = 0; at < sizeof stream; at += sizes[i]) {
+            size_t size = sizeof stream - at < sizes[i] ? sizeof stream - at : sizes[i];
+            infer_sniffer_push(&it, stream + at, size);
+            size_t kept = at + size < INFER_FRONT ? at + size : INFER_FRONT;
+            infer_verdict(stream, kept, &is_final);
+            if (it.size != kept || it.is_final != is_final || memcmp(it.kept, stream, kept) != 0) same("a piece", (long)at, -1);
+        }
+        infer_sniffer_push(&it, NULL, 0);
+        same("the type of pieces", infer_position(it.kept, it.size), jpeg());
+        same("its verdict", it.is_final, true);
+    }
+}
+
 static void descriptors(void) {
     int ends[2], folder = __real_open("folder", O_RDONLY), photo = __real_open("photo", O_RDWR);
     int written = __real_open("photo", O_WRONLY), named = __real_open("photo", O_PATH), zero = __real_open("/dev/zero", O_RDONLY);
@@ -239,6 +275,7 @@ int main(int argc, char **argv) {
     swapped("becomes a fifo", IS_FIFO, FAULT(ENOTSUP));
     swapped("becomes a folder", IS_FOLDER, FAULT(EISDIR));
     wider();
+    all_at_once();
     int left = dup(0);
     close(left);
     same("descriptors left open", left, first);

@@ -40,6 +40,8 @@ static bool is_refused(const char *path, int fault) {
 static void ask_wider(void) {
     int32_t row = 7;
     wants("a drawing", infer_more_path("drawing", &row) == 0 && strcmp(infer_mime_type_text(row), "image/svg+xml") == 0 && is_told("drawing", ""));
+    struct infer_told told;
+    wants("all of it", infer_tell_path("drawing", &told) == 0 && told.row == row && strcmp(told.encoding, "us-ascii") == 0 && !told.is_decided);
     wants("no drawing", infer_more_path("none", &row) == -1 && row == -1 && errno == ENOENT);
     int fd = _open("drawing", _O_RDONLY | _O_TEXT);
     wants("its descriptor", infer_more_fd(fd, &row) == 0 && strcmp(infer_mime_type_text(row), "image/svg+xml") == 0);

@@ -6,8 +6,12 @@
 #include <sys/stat.h>
 #include <unistd.h>
 
-/* The call that tells the row of the first bytes. */
-typedef int32_t position(const void *buf, size_t len);
+/* Stores what is told of the first bytes. */
+typedef void teller(const void *front, size_t len, void *told);
+
+static void tell_row(const void *front, size_t len, void *row) { *(int32_t *)row = infer_position(front, len); }
+static void tell_more_row(const void *front, size_t len, void *row) { *(int32_t *)row = infer_more_position(front, len); }
+static void tell_all(const void *front, size_t len, void *told) { infer_tell(front, len, (struct infer_told *)told); }
 
 /* Whether this is a regular file. If not, errno says so. */
 static bool is_regular(const struct stat *about) {
@@ -39,32 +43,33 @@ static int open_front(const char *path) {
     return fd;
 }
 
-static int of_fd(int fd, int32_t *row, position *ask) {
+static int of_fd(int fd, void *told, teller *tell) {
     unsigned char front[INFER_FRONT];
     struct stat about;
-    *row = -1;
+    tell(NULL, 0, told);
     if (fstat(fd, &about) != 0 || !is_regular(&about)) return -1;
     ssize_t count = read_front(fd, front);
     if (count < 0) return -1;
-    *row = ask(front, (size_t)count);
+    tell(front, (size_t)count, told);
     return 0;
 }
 
-static int of_path(const char *path, int32_t *row, position *ask) {
+static int of_path(const char *path, void *told, teller *tell) {
     struct stat about;
-    *row = -1;
+    tell(NULL, 0, told);
     /* A device can act as soon as it is opened: a tape winds back, a watchdog starts. */
     if (stat(path, &about) != 0 || !is_regular(&about)) return -1;
     int fd = open_front(path);
     if (fd < 0) return -1;
     /* The path may name another file by now, so the descriptor is asked again. */
-    int answer = of_fd(fd, row, ask), fault = errno;
+    int answer = of_fd(fd, told, tell), fault = errno;
     close(fd);
     errno = fault;
     return answer;
 }
 
-int infer_path(const char *path, int32_t *row) { return of_path(path, row, infer_position); }
-int infer_fd(int fd, int32_t *row) { return of_fd(fd, row, infer_position); }
-int infer_more_path(const char *path, int32_t *row) { return of_path(path, row, infer_more_position); }
-int infer_more_fd(int fd, int32_t *row) { return of_fd(fd, row, infer_more_position); }
+int infer_path(const char *path, int32_t *row) { return of_path(path, row, tell_row); }
+int infer_fd(int fd, int32_t *row) { return of_fd(fd, row, tell_row); }
+int infer_more_path(const char *path, int32_t *row) { return of_path(path, row, tell_more_row); }
+int infer_more_fd(int fd, int32_t *row) { return of_fd(fd, row, tell_more_row); }
+int infer_tell_path(const char *path, struct infer_told *told) { return of_path(path, told, tell_all); }

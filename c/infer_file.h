@@ -5,6 +5,7 @@
 #define INFER_FILE_H
 
 #include "infer.h"
+#include <string.h>
 
 #ifdef __cplusplus
 extern "C" {
@@ -30,6 +31,51 @@ int infer_path(const char *path, int32_t *row);
 int infer_fd(int fd, int32_t *row);
 int infer_more_path(const char *path, int32_t *row);
 int infer_more_fd(int fd, int32_t *row);
+
+/* All that is told of some bytes, by the wider answer: its row, or -1, its class, MIME type and extension, which are as
+ * infer_class, infer_mime_type_text and infer_extension_text give them, the encoding, as infer_encoding writes it, and
+ * whether no bytes that may follow change the answer, as infer_more_is_decided tells it. */
+struct infer_told {
+    int32_t row, class_code;
+    const char *mime_type, *extension;
+    char encoding[INFER_TEXT_SIZE];
+    bool is_decided;
+};
+
+/* What is told of a buffer, and of the first INFER_FRONT bytes of a regular file. The second answers as infer_path does:
+ * where it fails, `told` is what is told of no bytes. `told` must not be null. */
+static inline void infer_tell(const void *buf, size_t len, struct infer_told *told);
+int infer_tell_path(const char *path, struct infer_told *told);
+
+/* A stream that comes in pieces, in the caller's memory: its first INFER_FRONT bytes, how many these are so far, and
+ * whether the verdict on them is final, as infer_verdict tells it. It begins as `struct infer_sniffer it = {0};`. Any call
+ * takes what is kept, as infer_more_position(it.kept, it.size). */
+struct infer_sniffer {
+    unsigned char kept[INFER_FRONT];
+    size_t size;
+    bool is_final;
+};
+
+/* Takes the next bytes of the stream, of which it keeps as many as there is room for. Nothing is allocated. */
+static inline void infer_sniffer_push(struct infer_sniffer *it, const void *piece, size_t len);
+
+static inline void infer_tell(const void *buf, size_t len, struct infer_told *told) {
+    told->row = infer_more_position(buf, len);
+    told->class_code = infer_class(told->row);
+    told->mime_type = infer_mime_type_text(told->row);
+    told->extension = infer_extension_text(told->row);
+    infer_encoding(buf, len, told->encoding, sizeof told->encoding);
+    told->is_decided = infer_more_is_decided(buf, len);
+}
+
+static inline void infer_sniffer_push(struct infer_sniffer *it, const void *piece, size_t len) {
+    size_t room = sizeof it->kept - it->size;
+    size_t taken = len < room ? len : room;
+    if (taken == 0) return;
+    memcpy(it->kept + it->size, piece, taken);
+    it->size += taken;
+    if (!it->is_final) infer_verdict(it->kept, it->size, &it->is_final);
+}
 
 #ifdef __cplusplus
 }

@@ -10,8 +10,12 @@
 /* So many units of two bytes has a path of Windows at most, with the zero. */
 enum { LONGEST_PATH = 32768 };
 
-/* The call that tells the row of the first bytes. */
-typedef int32_t position(const void *buf, size_t len);
+/* Stores what is told of the first bytes. */
+typedef void teller(const void *front, size_t len, void *told);
+
+static void tell_row(const void *front, size_t len, void *row) { *(int32_t *)row = infer_position(front, len); }
+static void tell_more_row(const void *front, size_t len, void *row) { *(int32_t *)row = infer_more_position(front, len); }
+static void tell_all(const void *front, size_t len, void *told) { infer_tell(front, len, (struct infer_told *)told); }
 
 /* Whether this is a regular file. If not, errno says so. */
 static bool is_regular(const struct _stat64 *about) {
@@ -32,10 +36,10 @@ static int read_front(int fd, unsigned char front[INFER_FRONT]) {
     return got < 0 ? -1 : count;
 }
 
-static int of_fd(int fd, int32_t *row, position *ask) {
+static int of_fd(int fd, void *told, teller *tell) {
     unsigned char front[INFER_FRONT];
     struct _stat64 about;
-    *row = -1;
+    tell(NULL, 0, told);
     if (_fstat64(fd, &about) != 0 || !is_regular(&about)) return -1;
     long long stood = _lseeki64(fd, 0, SEEK_CUR);
     /* A descriptor may be one of text, whose line ends are not those of the file. */
@@ -46,14 +50,14 @@ static int of_fd(int fd, int32_t *row, position *ask) {
     if (_lseeki64(fd, stood, SEEK_SET) < 0) return -1;
     errno = fault;
     if (count < 0) return -1;
-    *row = ask(front, (size_t)count);
+    tell(front, (size_t)count, told);
     return 0;
 }
 
-static int of_path(const char *path, int32_t *row, position *ask) {
+static int of_path(const char *path, void *told, teller *tell) {
     wchar_t wide[LONGEST_PATH];
     struct _stat64 about;
-    *row = -1;
+    tell(NULL, 0, told);
     if (MultiByteToWideChar(CP_UTF8, MB_ERR_INVALID_CHARS, path, -1, wide, LONGEST_PATH) == 0) {
         errno = GetLastError() == ERROR_INSUFFICIENT_BUFFER ? ENAMETOOLONG : EILSEQ;
         return -1;
@@ -63,13 +67,14 @@ static int of_path(const char *path, int32_t *row, position *ask) {
     int fd = _wopen(wide, _O_RDONLY | _O_BINARY | _O_NOINHERIT);
     if (fd < 0) return -1;
     /* The path may name another file by now, so the descriptor is asked again. */
-    int answer = of_fd(fd, row, ask), fault = errno;
+    int answer = of_fd(fd, told, tell), fault = errno;
     _close(fd);
     errno = fault;
     return answer;
 }
 
-int infer_path(const char *path, int32_t *row) { return of_path(path, row, infer_position); }
-int infer_fd(int fd, int32_t *row) { return of_fd(fd, row, infer_position); }
-int infer_more_path(const char *path, int32_t *row) { return of_path(path, row, infer_more_position); }
-int infer_more_fd(int fd, int32_t *row) { return of_fd(fd, row, infer_more_position); }
+int infer_path(const char *path, int32_t *row) { return of_path(path, row, tell_row); }
+int infer_fd(int fd, int32_t *row) { return of_fd(fd, row, tell_row); }
+int infer_more_path(const char *path, int32_t *row) { return of_path(path, row, tell_more_row); }
+int infer_more_fd(int fd, int32_t *row) { return of_fd(fd, row, tell_more_row); }
+int infer_tell_path(const char *path, struct infer_told *told) { return of_path(path, told, tell_all); }
