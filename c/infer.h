@@ -30,6 +30,11 @@
 #ifndef INFER_H
 #define INFER_H
 
+/* MSVC says which C it takes only if it was told. */
+#if !defined __cplusplus && !defined _MSC_VER && (!defined __STDC_VERSION__ || __STDC_VERSION__ < 199901L)
+#error "infer.h wants C99 or later, or C++"
+#endif
+
 #include <stdbool.h>
 #include <stddef.h>
 #include <stdint.h>
