@@ -28,12 +28,36 @@ const FIELD_TYPE: usize = 43;
 const FIELD_SIZE: usize = 32;
 /// The least header: itself, one field, and the byte that ends the fields.
 const LEAST: usize = 65;
-/// The first version of Visual FoxPro, whose header has a backlink behind the fields.
-const FIRST_FOXPRO: u8 = 0x30;
-/// And the last.
-const LAST_FOXPRO: u8 = 0x32;
+/// The byte behind the last field descriptor.
+const FIELDS_END: u8 = 0x0D;
+/// The versions: FoxBASE.
+const FOXBASE: u8 = 0x02;
+/// dBASE III PLUS, and with a memo file.
+const DBASE_3: u8 = 0x03;
+
+const DBASE_3_MEMO: u8 = 0x83;
+/// dBASE IV with a memo file, its SQL tables, with a memo file too, and its SQL system files.
+const DBASE_4_MEMO: u8 = 0x8B;
+
+const DBASE_4_SQL: u8 = 0x43;
+
+const DBASE_4_SQL_MEMO: u8 = 0xCB;
+
+const DBASE_4_SYSTEM: u8 = 0x63;
+/// FoxPro 2 with a memo file.
+const FOXPRO_2_MEMO: u8 = 0xF5;
+/// Visual FoxPro, whose header has a backlink behind the fields, with fields that count up, and with those of any length.
+const VISUAL_FOXPRO: u8 = 0x30;
+
+const VISUAL_FOXPRO_COUNTS: u8 = 0x31;
+
+const VISUAL_FOXPRO_VARCHAR: u8 = 0x32;
 /// The size of that backlink.
 const BACKLINK_SIZE: usize = 263;
+/// The last month of a year, and the last day of a month.
+const LAST_MONTH: u8 = 12;
+
+const LAST_DAY: u8 = 31;
 
 /// The header of a dBASE table.
 #[inline(never)]
@@ -51,8 +75,8 @@ fn is_dated(buf: &[u8]) -> bool
     ensures { IsTrue result ↔ IsDated buf.now }
 {
     is_version(buf[VERSION])
-        && is_within(buf[MONTH], 0x0C)
-        && is_within(buf[DAY], 0x1F)
+        && is_within(buf[MONTH], LAST_MONTH)
+        && is_within(buf[DAY], LAST_DAY)
         && has_zeros(buf)
 }
 
@@ -75,7 +99,17 @@ fn is_version(byte: u8) -> bool
 {
     matches!(
         byte,
-        0x02 | 0x03 | 0x30 | 0x31 | 0x32 | 0x43 | 0x63 | 0x83 | 0x8B | 0xCB | 0xF5
+        FOXBASE
+            | DBASE_3
+            | VISUAL_FOXPRO
+            | VISUAL_FOXPRO_COUNTS
+            | VISUAL_FOXPRO_VARCHAR
+            | DBASE_4_SQL
+            | DBASE_4_SYSTEM
+            | DBASE_3_MEMO
+            | DBASE_4_MEMO
+            | DBASE_4_SQL_MEMO
+            | FOXPRO_2_MEMO
     )
 }
 
@@ -104,7 +138,7 @@ fn behind(version: u8) -> usize
     ensures some { 1 ≤ result }
     ensures few { result ≤ 264 }
 {
-    if version >= FIRST_FOXPRO && version <= LAST_FOXPRO {
+    if version >= VISUAL_FOXPRO && version <= VISUAL_FOXPRO_VARCHAR {
         BACKLINK_SIZE + 1
     } else {
         1
@@ -117,10 +151,10 @@ fn ends_fields(buf: &[u8]) -> bool
     ensures { IsTrue result ↔ ((e : ℕ) × EndsFields buf.now e) }
 {
     let length = le16(buf, HEADER_LENGTH) as usize;
-    let behind = behind(buf[0]);
+    let behind = behind(buf[VERSION]);
     if length < behind + FIELD + FIELD_SIZE || length - behind >= buf.len() {
         return false;
     }
     let end = length - behind;
-    end % FIELD_SIZE == 0 && buf[end] == 0x0D
+    end % FIELD_SIZE == 0 && buf[end] == FIELDS_END
 }

@@ -12,14 +12,30 @@ pub use open::may_become_subrip;
 const MOST_DIGITS: usize = 9;
 /// The size of a time, as 00:00:00,000.
 const TIME_SIZE: usize = 12;
+/// Where the ":" before the minutes stands in a time, and behind it the minutes.
+const TO_MINUTES: usize = 2;
+
+const MINUTES: usize = 3;
+/// The same of the seconds.
+const TO_SECONDS: usize = 5;
+
+const SECONDS: usize = 6;
+/// Where "," or "." stands before the thousandths, and behind it their first two digits and the last one.
+const TO_THOUSANDTHS: usize = 8;
+
+const THOUSANDTHS: usize = 9;
+
+const LAST_DIGIT: usize = 11;
 /// The size of what stands between two.
 const ARROW_SIZE: usize = 5;
+/// The size of the byte order mark of UTF-8.
+const MARK_SIZE: usize = 3;
 
 /// Subtitles of SubRip: a number of one to nine digits, and in the next line two times with " --> " between them.
 pub fn is_subrip(buf: &[u8]) -> bool
     ensures { IsTrue result ↔ IsSubRip buf.now }
 {
-    is_cue(buf, 0) || stands_at(buf, b"\xEF\xBB\xBF", 0) && is_cue(buf, 3)
+    is_cue(buf, 0) || stands_at(buf, b"\xEF\xBB\xBF", 0) && is_cue(buf, MARK_SIZE)
 }
 
 fn is_cue(buf: &[u8], place: usize) -> bool
@@ -76,16 +92,18 @@ fn is_time(buf: &[u8], place: usize) -> bool
     requires { place ≤ 31 }
     ensures { IsTrue result ↔ IsTime buf.now place }
 {
-    if !is_pair(buf, place) || byte_at(buf, place + 2) != b':' {
+    if !is_pair(buf, place) || byte_at(buf, place + TO_MINUTES) != b':' {
         return false;
     }
-    if !is_pair(buf, place + 3) || byte_at(buf, place + 5) != b':' {
+    if !is_pair(buf, place + MINUTES) || byte_at(buf, place + TO_SECONDS) != b':' {
         return false;
     }
-    if !is_pair(buf, place + 6) || !matches!(byte_at(buf, place + 8), b',' | b'.') {
+    if !is_pair(buf, place + SECONDS)
+        || !matches!(byte_at(buf, place + TO_THOUSANDTHS), b',' | b'.')
+    {
         return false;
     }
-    is_pair(buf, place + 9) && is_digit(byte_at(buf, place + 11))
+    is_pair(buf, place + THOUSANDTHS) && is_digit(byte_at(buf, place + LAST_DIGIT))
 }
 
 fn is_pair(buf: &[u8], place: usize) -> bool

@@ -4,8 +4,8 @@ ghost use Rattle.infer_formats.specs.Dbase.{IsDbase, MayBeDated, MayBeDbase, May
 ghost use Rattle.infer_deep.specs.Signatures.{MayBecome};
 
 use super::{
-    DAY, FIELD, FIELD_TYPE, MONTH, RECORD_LENGTH, RESERVED, VERSION, begins_name, is_kind,
-    is_version, is_within,
+    DAY, DBASE_3, FIELD, FIELD_TYPE, LAST_DAY, LAST_MONTH, MONTH, RECORD_LENGTH, RESERVED, VERSION,
+    begins_name, is_kind, is_version, is_within,
 };
 use crate::numbers::byte_or;
 use infer_deep::numbers::le16;
@@ -31,9 +31,9 @@ fn may_be_dbase(buf: &[u8]) -> bool
 fn may_be_dated(buf: &[u8]) -> bool
     ensures { IsTrue result ↔ MayBeDated buf.now }
 {
-    is_version(byte_or(buf, VERSION, 0x03))
-        && is_within(byte_or(buf, MONTH, 1), 0x0C)
-        && is_within(byte_or(buf, DAY, 1), 0x1F)
+    is_version(byte_or(buf, VERSION, DBASE_3))
+        && is_within(byte_or(buf, MONTH, 1), LAST_MONTH)
+        && is_within(byte_or(buf, DAY, 1), LAST_DAY)
         && byte_or(buf, RESERVED, 0) == 0
         && byte_or(buf, RESERVED + 1, 0) == 0
 }

@@ -3,7 +3,7 @@ ghost use Rattle.std.specs.Prelude.{◌↔◌, ◌≤◌, IsTrue};
 ghost use Rattle.infer_formats.specs.Subtitles.{IsSubRip, MayBeCue, MayBeSubRip, MayBeginTime};
 ghost use Rattle.infer_deep.specs.Signatures.{MayBecome};
 
-use super::{MOST_DIGITS, digit_count, is_digit, next_line};
+use super::{MARK_SIZE, MOST_DIGITS, digit_count, is_digit, next_line};
 use crate::numbers::byte_or;
 use infer_deep::places::may_stand_at;
 
@@ -20,7 +20,7 @@ fn may_be_subrip(buf: &[u8]) -> bool
     if may_be_cue(buf, 0) {
         return true;
     }
-    may_stand_at(buf, b"\xEF\xBB\xBF", 0) && may_be_cue(buf, 3)
+    may_stand_at(buf, b"\xEF\xBB\xBF", 0) && may_be_cue(buf, MARK_SIZE)
 }
 
 fn may_be_cue(buf: &[u8], place: usize) -> bool
