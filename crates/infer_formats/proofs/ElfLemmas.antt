@@ -1,6 +1,6 @@
 -- Shared objects: what more bytes keep, what they may make, and the bytes that each has.
-use Rattle.infer_formats.proofs.Common.{[], IsTrue, ◌≡◌, inl, inr, ℕ, ◌+◌, ◌*◌, ◌<◌, ◌≤◌, Bool, true, false, List, ◌++◌, length, get_or, refl, sym, subst, ◌∙◌, arith, get_or-eq_default, cases_lt, get_or_default_zero, get_or_append_left, le16, are_bytes, MayBecome, IsBytes, agrees_past, grown_agrees, AsksAt, HasOwnTable, IsSharedObject, counted_length, entry_count, entry_size, known_size, table_place, be16, bytes16, number16, ◌∷◌, number32, ◌↔◌, lines, shared_object, StandsByPlace, accepts, at_least, stands}
-use Rattle.infer_formats.specs.Elf.{MayBeSharedObject, MayHaveOwnTable, size_at}
+use Rattle.infer_formats.proofs.Common.{[], IsTrue, ◌≡◌, inl, inr, ℕ, ◌+◌, ◌*◌, ◌<◌, ◌≤◌, Bool, true, false, List, ◌++◌, length, get_or, refl, sym, subst, ◌∙◌, arith, cases_lt, le16, are_bytes, MayBecome, grown_agrees, AsksAt, HasOwnTable, IsSharedObject, counted_length, entry_count, entry_size, known_size, table_place, be16, bytes16, number16, ◌∷◌, number32, ◌↔◌, lines, shared_object, StandsByPlace, accepts, at_least, stands}
+use Rattle.infer_formats.specs.Elf.{MayBeSharedObject, size_at}
 use Rattle.infer_sig.specs.Signature.{text}
 use Rattle.infer_formats.proofs.GrowthLemmas.{number32-append, number64-append, kept, longer, number16-append}
 use Rattle.infer_formats.proofs.OpenLemmas.{grown_byte, number16_stands}

@@ -1,5 +1,5 @@
 -- What bytes after a buffer can make JSON of it.
-use Rattle.infer_formats.proofs.Common.{◌≡◌, ◌↔◌, ◌⊎◌, ◌<◌, ◌+◌, inl, inr, ℕ, zero, suc, Bool, true, false, IsTrue, List, [], ◌∷◌, ◌++◌, append_assoc, drop, get_or, length, refl, sym, subst, ap, ◌∙◌, arith, ◌||◌, list_all, nat_tests, AgreesAt, MayBecome, Symbol, range, blanks, value, items, more_items, members, member, more_members, chars, char, escape, hex, number, whole, fraction, exponent, power, digits, text, same_line, next_line, BeginsLines, BeginsText, CanBe, IsAmong, IsJson, IsJsonLines, Stands, UpToMark, nothing, one, by_rule, IsPast, IsPastMark, utf8_mark, nat_lt, ◌&&◌, and_parts, or_right, rules}
+use Rattle.infer_formats.proofs.Common.{◌≡◌, ◌↔◌, ◌⊎◌, ◌<◌, ◌+◌, inl, inr, ℕ, zero, suc, Bool, true, false, IsTrue, List, [], ◌∷◌, ◌++◌, append_assoc, drop, get_or, length, refl, sym, subst, ap, ◌∙◌, arith, ◌||◌, list_all, nat_tests, AgreesAt, MayBecome, Symbol, range, blanks, value, items, more_items, members, member, more_members, chars, char, text, same_line, next_line, BeginsLines, BeginsText, CanBe, IsAmong, IsJson, IsJsonLines, Stands, UpToMark, nothing, one, by_rule, IsPast, IsPastMark, utf8_mark, nat_lt, ◌&&◌, and_parts, or_right, rules}
 use Rattle.infer_formats.proofs.CompleteLemmas.{AllHold}
 use Rattle.infer_formats.proofs.JsonLemmas.{begins, chars_begin}
 use Rattle.infer_formats.proofs.LineLemmas.{mark_stops, past_can, text_no_blank}

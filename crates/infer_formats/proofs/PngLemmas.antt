@@ -1,5 +1,5 @@
 -- What a chunk says of those after it.
-use Rattle.infer_formats.proofs.Common.{◌≡◌, ◌↔◌, ◌⊎◌, inl, inr, ℕ, ◌+◌, ◌<◌, ◌≤◌, List, ◌++◌, length, codes, sym, subst, ◌∙◌, arith, length-append, OccursAt, be32, MayBecome, be32-append, OccursAt-append, OccursAt-front, IsAnimated, IsAnimatedFrom, ap, AgreesAt, grown_agrees, png_header}
+use Rattle.infer_formats.proofs.Common.{◌≡◌, ◌↔◌, ◌⊎◌, inl, inr, ℕ, ◌+◌, ◌<◌, ◌≤◌, List, ◌++◌, length, codes, sym, subst, ◌∙◌, arith, length-append, OccursAt, be32, MayBecome, be32-append, OccursAt-append, OccursAt-front, IsAnimated, IsAnimatedFrom, ap}
 use Rattle.infer_formats.specs.Png.{later, here}
 use Rattle.infer_formats.proofs.GrowthLemmas.{longer}
 

@@ -1,5 +1,5 @@
 -- Each relation, by the lemmas of its format.
-use Rattle.infer_formats.proofs.Common.{[], ◌≡◌, ◌+◌, ◌↔◌, ◌≤◌, IsTrue, List, ℕ, ◌++◌, OccursAt, OccursAt-append, Lasts, MayBecome, AgreesAt, IsAnimated, arith, grown_agrees, refl, StandsByPlace, stands, Stays, png_header, Fits, HasLines, Relation, animated, class_id, dbase, directory_tag, first_entry_ends_in, first_entry_has_extra, first_entry_is, is_lasting, json_lines, json_text, package_with, plain_text, program, relation_listed, root, root_with, shared_object, subrip, tar_checksum}
+use Rattle.infer_formats.proofs.Common.{[], ◌≡◌, ◌↔◌, IsTrue, List, ℕ, OccursAt-append, Lasts, arith, refl, StandsByPlace, stands, Stays, png_header, Fits, HasLines, Relation, animated, class_id, dbase, directory_tag, first_entry_ends_in, first_entry_has_extra, first_entry_is, is_lasting, json_lines, json_text, package_with, plain_text, program, relation_listed, root, root_with, shared_object, subrip, tar_checksum}
 use Rattle.infer_formats.proofs.DbaseLemmas.{dbase_lines, dbase-lasts}
 use Rattle.infer_formats.proofs.ElfLemmas.{object_lines, shared_object-lasts}
 use Rattle.infer_formats.proofs.JsonLeadLemmas.{lines_lead, text_leads, json_begins}

@@ -1,9 +1,9 @@
 -- The rows that are read of a text are those that it describes.
-use Rattle.infer_more.proofs.Common.{◌≡◌, ◌<◌, ◌&&◌, ◌==◌, ℕ, Bool, true, false, not, List, [], ◌∷◌, ◌++◌, Option, None, Some, codes, drop, length, nat_le, option_map, take, inl, inr, refl, sym, ap, subst, ◌∙◌, arith, take-append_seam, cases_Bool, eqb-true, take-append-drop, slice_split_at, slice_split_none, bytes_eq-Decides, if◌then◌else◌, list_all, MatcherType, signature_of, behind_blanks, class_of, fields_of, is_alphanumeric, is_built_in, is_mime_type, is_name, is_name_byte, is_remark, line_of, parent_of, row, row_of, is_line_end, lines_of, rows_in, rows_of, with_row}
+use Rattle.infer_more.proofs.Common.{◌≡◌, ◌<◌, ◌&&◌, ◌==◌, ℕ, Bool, true, false, not, List, [], ◌∷◌, ◌++◌, Option, None, Some, codes, drop, length, nat_le, option_map, take, inl, inr, refl, sym, ap, subst, ◌∙◌, arith, take-append_seam, cases_Bool, eqb-true, take-append-drop, slice_split_at, slice_split_none, bytes_eq-Decides, if◌then◌else◌, list_all, MatcherType, signature_of, behind_blanks, class_of, fields_of, is_alphanumeric, is_built_in, is_mime_type, is_name, is_name_byte, is_remark, line_of, parent_of, row, row_of, is_line_end, lines_of, rows_in, rows_of, with_row, and_parts}
 use Rattle.std.proofs.Math.Seq.{drop-append_seam}
 use Rattle.std.proofs.lemmas.List.{append-nil}
 use Rattle.std.specs.List.{prefix_len}
-use Rattle.infer_notation.proofs.MadeLemmas.{both_true, front_length, fronts_pass, next_fails, not_same}
+use Rattle.infer_notation.proofs.MadeLemmas.{front_length, fronts_pass, next_fails, not_same}
 use Rattle.infer_notation.proofs.DescribedLemmas.{IsSplit, cut, is_described, is_signature, is_split, whole}
 use Rattle.infer.specs.Table as built_in
 use Rattle.infer_notation.specs.Alternative.{Alternative}
@@ -37,7 +37,7 @@ front (x ∷ xs) = elim (cases_Bool (is_blank x)) [
 past : (blanks rest : List ℕ) → AreBlanks blanks → first_passes is_blank rest ≡ false → behind_blanks (blanks ++ rest) ≡ rest
 past [] [] are ends = refl
 past [] (x ∷ xs) are ends = rw ends refl
-past (x ∷ blanks) rest are ends = let both = both_true (is_blank x) (list_all is_blank blanks) are in rw both.0 (past blanks rest both.1 ends)
+past (x ∷ blanks) rest are ends = let both = and_parts (is_blank x) (list_all is_blank blanks) are in rw both.0 (past blanks rest both.1 ends)
 
 -- a word that is read, if another follows it
 pub word_read : (text : List ℕ) → 0 < length (word text) → 0 < length (behind_word text) → BeginsWithWord text (word text) (behind_word text)
@@ -72,7 +72,7 @@ read_word text w rest begins =
   where
     gap_fails : (gap : List ℕ) → 0 < length gap → AreBlanks gap → first_passes is_dark (gap ++ rest) ≡ false
     gap_fails [] some are = absurd (omega arith)
-    gap_fails (x ∷ gap) some are = ap not (both_true (is_blank x) (list_all is_blank gap) are).0
+    gap_fails (x ∷ gap) some are = ap not (and_parts (is_blank x) (list_all is_blank gap) are).0
 
 -- ---- a row
 
@@ -237,9 +237,9 @@ row_first text r d = first r.shows.extension d.is_extension d.extension_first
     first : (w : List ℕ) → is_name w ≡ true → BeginsWithWord text w d.second → (first_passes is_blank text ≡ false) × (is_remark text ≡ false)
     first [] is begins = absurd cc
     first (x ∷ xs) is begins =
-        let front = both_true (is_alphanumeric x && nat_le (length xs) 126) (list_all is_name_byte xs) is in
-        let letter = both_true (is_alphanumeric x) (nat_le (length xs) 126) front.0 in
-        let dark = both_true (is_dark x) (list_all is_dark xs) begins.dark in
+        let front = and_parts (is_alphanumeric x && nat_le (length xs) 126) (list_all is_name_byte xs) is in
+        let letter = and_parts (is_alphanumeric x) (nat_le (length xs) 126) front.0 in
+        let dark = and_parts (is_dark x) (list_all is_dark xs) begins.dark in
         (ap (first_passes is_blank) begins.whole ∙ not_true (is_blank x) dark.0, ap is_remark begins.whole ∙ not_same is_alphanumeric x 0x23 letter.0 refl)
 
 line_read : (line : List ℕ) (o : Option Row) → DescribesLine line o → line_of line ≡ Some o

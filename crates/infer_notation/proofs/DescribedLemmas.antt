@@ -1,5 +1,5 @@
 -- What is read of a text is what it describes.
-use Rattle.infer_notation.proofs.Common.{◌≡◌, ◌+◌, ◌<◌, ◌≤◌, ◌&&◌, ◌||◌, ◌==◌, ◌⊎◌, ℕ, Bool, true, false, List, [], ◌∷◌, ◌++◌, Option, None, Some, codes, drop, length, map, nat_le, nat_lt, option_map, inl, inr, refl, sym, ap, subst, ◌∙◌, arith, All, list_all, onto_first, slice_split, cases_Bool, eqb-true, le-leb, leb-true, lt-leb, lt-ltb, ltb-true, append-nil, length-map, All-cons, All-nil, slice_split-cons_no, slice_split_at, slice_split_none, cond_some, bytes_eq-Decides, Alternative, BeginsWith, IsMadeOf, by_mark, by_word, blank, empty, in_braces, in_quotes, next, begins_by, bytes_in, each_of, is_or, item_of, items_in, items_of, marked_entry, named_in, names, programs_of, related, relations_in, relations_of, same_token, short_groups, Asked, Rest, alternatives_of, rest_of, Derives, opened, signature, tokens_of, begins_relation, described, signature_of, bare, is_of, mark, quoted, ◌>>=◌, behind_blanks, byte_of, byte_with, number_of, Bare, Takes, Nothing, Program, not, or_cases, and_parts}
+use Rattle.infer_notation.proofs.Common.{◌≡◌, ◌+◌, ◌<◌, ◌≤◌, ◌&&◌, ◌||◌, ◌==◌, ◌⊎◌, ℕ, Bool, true, false, List, [], ◌∷◌, ◌++◌, Option, None, Some, codes, drop, length, map, nat_le, nat_lt, option_map, inl, inr, refl, sym, ap, subst, ◌∙◌, arith, All, list_all, onto_first, slice_split, cases_Bool, eqb-true, le-leb, leb-true, lt-leb, lt-ltb, ltb-true, append-nil, length-map, All-cons, All-nil, slice_split-cons_no, slice_split_at, slice_split_none, cond_some, bytes_eq-Decides, Alternative, BeginsWith, IsMadeOf, by_word, blank, empty, next, begins_by, bytes_in, each_of, is_or, item_of, items_in, items_of, marked_entry, named_in, names, programs_of, related, relations_in, relations_of, same_token, short_groups, Rest, alternatives_of, rest_of, Derives, opened, signature, tokens_of, begins_relation, described, signature_of, bare, is_of, mark, quoted, ◌>>=◌, behind_blanks, byte_of, byte_with, number_of, Bare, Takes, Nothing, Program, not, or_cases, and_parts}
 use Rattle.std.proofs.Common.{◌*◌}
 use Rattle.std.specs.Int.{is_in_range}
 use Rattle.std.proofs.lemmas.List.{append_assoc}
@@ -8,7 +8,7 @@ use Rattle.std.proofs.Math.Bool.{and-false}
 use Rattle.std.proofs.lemmas.Bool.{eq-eqb}
 use Rattle.infer_formats.specs.Relation.{Relation, class_id, directory_tag, first_entry_ends_in, first_entry_has_extra, first_entry_is, package_with, program, relation_listed, root, root_with}
 use Rattle.infer_formats.specs.declared.relation.Relation as relations
-use Rattle.infer_notation.specs.Described.{AreBytes, Asks, AsksBytes, AsksEach, AsksFor, Describes, IsGroup, IsName, IsNameIn, IsParted, NamesRelation, a_folder, a_name, a_program, a_relation, a_tag, a_text_within, an_element, an_end, an_extra, an_id, last, nothing, other, programs}
+use Rattle.infer_notation.specs.Described.{AreBytes, Asks, AsksEach, AsksFor, Describes, IsGroup, IsName, IsNameIn, IsParted, NamesRelation, a_folder, a_name, a_program, a_relation, a_tag, a_text_within, an_element, an_end, an_extra, an_id, last, nothing, other, programs}
 use Rattle.infer_notation.specs.Relations.{alone, directory_of, ending_entry, entry_of, extra_field, id_of, is_word, named_entry, or_else, package_of, program_of, root_of}
 use Rattle.infer_notation.specs.Tokens.{Token, set}
 use Rattle.infer_notation.specs.Words.{is_digit}

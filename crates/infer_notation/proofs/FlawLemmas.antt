@@ -1,7 +1,6 @@
 -- What is left unread of a text, token by token.
-use Rattle.std.proofs.Common.{◌≡◌, ◌<◌, ◌≤◌, ℕ, zero, suc, false, List, [], ◌∷◌, Option, None, Some, IfSome, length, drop, option_map, inl, inr, refl, sym, ap, ◌∙◌, get_or, arith}
+use Rattle.std.proofs.Common.{◌≡◌, ◌<◌, ◌≤◌, ℕ, false, List, [], ◌∷◌, Option, None, Some, IfSome, length, drop, option_map, refl, sym, ap, ◌∙◌, get_or, arith}
 use denote.Ref.{Bor}
-use Rattle.std.proofs.lemmas.Bool.{cases_Bool}
 use Rattle.infer_notation.specs.Flaws.{IsFlawOf}
 use Rattle.infer_notation.specs.Grammar.{unread, unread_at}
 use Rattle.infer_notation.specs.Relations.{left_length}

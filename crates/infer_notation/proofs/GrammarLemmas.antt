@@ -1,5 +1,5 @@
 -- What is read is derived by the grammar, and what is derived is read.
-use Rattle.infer_notation.proofs.Common.{◌≡◌, ◌+◌, ◌≤◌, ◌==◌, ℕ, zero, suc, Bool, true, false, List, [], ◌∷◌, ◌++◌, Option, None, Some, codes, cond, length, nat_le, option_map, inl, inr, refl, sym, ap, subst, ◌∙◌, bytes_eq, cases_Bool, eqb-true, le-leb, leb-true, cond_some, bytes_eq-Decides, Part, all_but, any_of, between, byte, text, Asked, Effect, Rest, asks_binary, cursor, joined, opens, part, range_of, rest_at, rest_of, start, step, within, Derives, opened, signature, tokens_at, tokens_of, bare, mark, quoted, token_at, ◌>>=◌, byte_of, bytes_of, is_blank, number_of, step_at, Cursor, Wanted, Length, Colon, At, Place, More, Byte, Binary, Or}
+use Rattle.infer_notation.proofs.Common.{◌≡◌, ◌+◌, ◌≤◌, ℕ, zero, suc, true, false, List, [], ◌∷◌, ◌++◌, Option, None, Some, codes, cond, length, nat_le, option_map, inl, inr, refl, sym, ap, subst, ◌∙◌, bytes_eq, cases_Bool, le-leb, bytes_eq-Decides, Part, all_but, any_of, between, byte, text, Asked, Effect, Rest, asks_binary, cursor, joined, opens, part, range_of, rest_at, rest_of, start, step, within, Derives, opened, signature, tokens_at, tokens_of, bare, mark, quoted, token_at, ◌>>=◌, byte_of, bytes_of, is_blank, number_of, step_at, Cursor, Wanted, Length, Colon, At, Place, More, Byte, Binary, Or}
 use Rattle.infer_notation.specs.Fixed as fixed
 use Rattle.infer_notation.specs.Fixed.{nothing}
 use Rattle.infer_notation.specs.Grammar.{IsPiece, IsSignature, Symbol, a_range, a_set, a_text, another, asked, comma, ended, more, other, others, parts, pieces, placed, rest, some_bytes, with_data, without}

@@ -1,5 +1,5 @@
 -- What is read of a text from its first byte on.
-use Rattle.infer_notation.proofs.Common.{[], ◌≡◌, ◌∷◌, ℕ, List, drop, false, inl, inr, refl, suc, true, zero, ◌∙◌, sym, cases_Bool, behind_blanks, is_blank, ap}
+use Rattle.infer_notation.proofs.Common.{[], ◌≡◌, ◌∷◌, ℕ, List, drop, inl, inr, refl, suc, true, zero, ◌∙◌, sym, cases_Bool, behind_blanks, is_blank, ap}
 
 -- bytes of a token that was read count no more
 pub past_read : {A : Type 0} (f : ℕ → List ℕ → A) → ((n : ℕ) → f n [] ≡ f 0 []) → ((n x : ℕ) (xs : List ℕ) → f (suc n) (x ∷ xs) ≡ f n xs)

@@ -1,7 +1,5 @@
 -- A signature whose last alternative a buffer does not fit, and which has no further one.
-use Rattle.infer_notation.proofs.Common.{◌≡◌, ◌+◌, ◌<◌, ◌==◌, ◌&&◌, ◌||◌, ℕ, zero, suc, Bool, true, false, codes, cond, List, [], ◌∷◌, Option, None, Some, get_or, length, nat_le, nat_lt, option_map, take, inl, inr, refl, sym, ap, subst, ◌∙◌, arith, list_any, prefix_len, bytes_eq, false≢true, Part, all_but, between, byte, text, Effect, Rest, accepts, asks_binary, given, joined, more_read, part, piece, range_of, rest_at, rest_of, rest_seen, set_part, step, step_at, within, word_part, is_or, bare, bare_at, is_mark, is_of, mark, quoted, quoted_at, set_at, token_at, ◌>>=◌, byte_of, bytes_of, is_blank, number_of, Cursor, Wanted, At, Binary, Byte, Colon, Length, More, Or, Place, State}
-use Rattle.infer_notation.specs.Fixed as fixed
-use Rattle.infer_notation.specs.Fixed.{behind_mark, behind_word_of, nothing}
+use Rattle.infer_notation.proofs.Common.{◌≡◌, ◌<◌, ◌==◌, ◌&&◌, ◌||◌, ℕ, zero, suc, Bool, true, false, codes, cond, List, [], ◌∷◌, Option, None, Some, get_or, length, nat_lt, option_map, take, inl, inr, refl, sym, ap, subst, ◌∙◌, arith, list_any, prefix_len, bytes_eq, false≢true, Effect, Rest, accepts, given, joined, rest_at, rest_of, rest_seen, step, step_at, is_or, bare, bare_at, is_mark, is_of, mark, quoted, quoted_at, set_at, token_at, ◌>>=◌, is_blank, Cursor, Wanted, Length, State}
 use Rattle.infer_notation.specs.Tokens.{Token, set}
 use Rattle.infer_notation.specs.declared.fixed.Wanted.TheVariants.{Bytes}
 use Rattle.infer_notation.specs.declared.tokens.Run.TheVariants as runs

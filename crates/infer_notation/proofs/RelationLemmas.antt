@@ -1,5 +1,5 @@
 -- Relations, token by token.
-use Rattle.infer_notation.proofs.Common.{◌≡◌, ◌+◌, ◌<◌, ◌≤◌, ◌&&◌, ℕ, zero, suc, true, false, List, [], ◌∷◌, ◌++◌, Option, None, Some, length, drop, take, map, nat_le, nat_lt, option_map, inl, inr, refl, sym, ap, ◌∙◌, get_or, subst, arith, All, slice_split, onto_first, cases_Bool, le-leb, lt-leb, lt-ltb, append-nil, drop_all, drop_more, length-map, All-cons, All-nil, slice_split-cons_no, slice_split_at, slice_split_none, tokens_at, tokens_of, begins_by, group_listed, groups_of, is_or, left_groups, name_listed, named_in, same_token, short_groups, token_at, token_listed, Takes, ◌>>=◌, behind_blanks, is_blank}
+use Rattle.infer_notation.proofs.Common.{◌≡◌, ◌+◌, ◌<◌, ◌≤◌, ◌&&◌, ℕ, true, false, List, [], ◌∷◌, ◌++◌, Option, None, Some, length, drop, take, map, nat_le, nat_lt, option_map, refl, sym, ap, ◌∙◌, get_or, subst, arith, All, slice_split, onto_first, le-leb, lt-leb, lt-ltb, append-nil, drop_all, drop_more, length-map, All-cons, All-nil, slice_split-cons_no, slice_split_at, slice_split_none, tokens_at, tokens_of, begins_by, group_listed, groups_of, is_or, left_groups, name_listed, named_in, same_token, short_groups, token_at, token_listed, Takes, ◌>>=◌, behind_blanks, is_blank}
 use Rattle.std.proofs.Common.{Result, Ok, Err, IfOk, set, append_assoc, length-take}
 use denote.Ref.{Bor}
 use Rattle.std.proofs.Math.Bool.{and-false}

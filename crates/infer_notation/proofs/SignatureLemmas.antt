@@ -1,10 +1,9 @@
 -- A signature that is read token by token.
-use Rattle.infer_notation.proofs.Common.{◌≡◌, ◌⊎◌, ◌+◌, ◌&&◌, ◌||◌, ℕ, zero, suc, Bool, true, false, not, List, [], ◌∷◌, Option, None, Some, length, drop, option_map, nat_le, inl, inr, refl, sym, ap, ◌∙◌, ◌<◌, arith, get_or, list_all, cases_Bool, has_part, Effect, Rest, accepts, alternatives_of, asks_binary, effect_seen, given, has_data, joined, opens, part, rest_at, rest_of, rest_seen, state_taken, step, step_seen, start, state, token_at, behind_blanks, is_blank, Cursor, Wanted, At, Binary, Byte, Colon, Length, More, Or, Place, State}
+use Rattle.infer_notation.proofs.Common.{◌≡◌, ◌⊎◌, ◌+◌, ◌&&◌, ◌||◌, ℕ, suc, Bool, true, false, not, List, [], ◌∷◌, Option, None, Some, length, drop, option_map, nat_le, inl, inr, refl, sym, ap, ◌∙◌, ◌<◌, arith, get_or, list_all, has_part, Effect, Rest, accepts, alternatives_of, asks_binary, effect_seen, given, has_data, joined, opens, part, rest_at, rest_of, rest_seen, state_taken, step, step_seen, start, state, token_at, behind_blanks, is_blank, Cursor, Wanted, More, Or, State}
 use Rattle.infer_notation.specs.Fixed.{nothing, ended}
 use Rattle.infer_notation.specs.Tokens.{Token}
 use Rattle.infer_notation.specs.declared.fixed.Effect as declared
 use Rattle.infer_notation.specs.declared.fixed.Effect.TheVariants as effects
-use Rattle.infer_notation.specs.declared.fixed.Wanted.TheVariants.{Bytes}
 use Rattle.std.proofs.Math.Bool.{and-true, and_assoc, or_assoc}
 use Rattle.infer_notation.proofs.ReadLemmas as read
 

@@ -1,4 +1,4 @@
-use Rattle.infer_formats.proofs.Common.{◌≡◌, ℕ, ◌+◌, ◌<◌, length, inl, inr, arith, refl, subst, slice_index, cases_lt, false≢true, IsXmlSpace, MayOpen}
+use Rattle.infer_formats.proofs.Common.{◌≡◌, ◌+◌, ◌<◌, length, inl, inr, arith, refl, subst, slice_index, cases_lt, false≢true, IsXmlSpace, MayOpen}
 use Rattle.infer_formats.proofs.GrowthLemmas.{there}
 use Rattle.infer_formats.proofs.MarkupLemmas.{not_space}
 use Rattle.infer_formats.proofs.markup.may_be_rooted.Goals as goal
