@@ -1,5 +1,5 @@
 /* Compares each line of aliases.def with the rows of the library. */
-#include "aliases.h"
+#include "infer_aliases.h"
 #include "infer.h"
 #include <stdio.h>
 

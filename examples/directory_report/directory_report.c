@@ -1,6 +1,6 @@
 /* Tells the types of files whose names come on standard input, or that stand in folders. README.md says how. */
 #define _POSIX_C_SOURCE 200809L
-#include "aliases.h"
+#include "infer_aliases.h"
 #include "infer_file.h"
 #include <dirent.h>
 #include <errno.h>
