@@ -48,9 +48,11 @@ JNIEXPORT jstring NAME(encoding)(JNIEnv *env, jclass self, jbyteArray array, job
 JNIEXPORT jint NAME(typesGet)(JNIEnv *env, jclass self, jbyteArray text, jbyteArray array, jobject direct, jint from, jint size, jbyteArray mime_type, jbyteArray extension) {
     jbyte told[2][INFER_TYPES_TEXT_SIZE];
     size_t text_size = (size_t)(*env)->GetArrayLength(env, text);
-    char *types = held(env, text, NULL), *at = held(env, array, direct);
+    /* Where a buffer begins is asked before an array is held. */
+    char *at = array ? NULL : held(env, NULL, direct), *types = held(env, text, NULL);
     jint class_code = INFER_NO_ROW;
     (void)self;
+    if (array) at = held(env, array, NULL);
     if (types && (at || !array))
         class_code = infer_types_get(types, text_size, array ? at + from : at, (size_t)size, (char *)told[0], sizeof told[0], (char *)told[1], sizeof told[1]);
     release(env, array, at);

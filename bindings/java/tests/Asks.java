@@ -223,14 +223,16 @@ final class Asks {
                     System.arraycopy(bytes, 0, torn, 0, Math.min(bytes.length, torn.length));
                     moved.limit(at % Infer.FRONT).position(at % (moved.limit() + 1));
                     moved.clear();
-                    System.gc();
+                    if (at % 100 == first) {
+                        System.gc();
+                    }
                 }
                 return null;
             });
         }
         for (int thread = 0; thread < 2; thread++) {
             right.add(all.submit(() -> {
-                for (int count = 0; count < 20_000; count++) {
+                for (int count = 0; count < 5_000; count++) {
                     own.get(torn);
                     Infer.wider(torn);
                     Infer.encoding(torn);

@@ -4,13 +4,12 @@ import java.net.URLConnection;
 import java.nio.file.Files;
 import java.nio.file.Path;
 import java.util.ArrayList;
-import java.util.Arrays;
 import java.util.List;
 
-/** Prints the nanoseconds that each call takes over the files that are named, the median of its rounds. */
+/** Prints the nanoseconds that each call takes over the files that are named, the least of its rounds. */
 final class Times {
-    private static final int ROUNDS = 30;
-    private static final int CALLS = 20_000;
+    private static final int ROUNDS = 100;
+    private static final int CALLS = 10_000;
 
     private interface Call {
         Object of(int number) throws Exception;
@@ -30,7 +29,7 @@ final class Times {
     }
 
     private static void print(String name, Call call, int count, int calls) throws Exception {
-        long[] took = new long[ROUNDS];
+        long least = Long.MAX_VALUE;
         int known = 0;
         for (int round = 0; round < ROUNDS; round++) {
             long start = System.nanoTime();
@@ -38,9 +37,8 @@ final class Times {
                 // What is answered is looked at, so that the call is made.
                 known += call.of(at % count) == null ? 0 : 1;
             }
-            took[round] = (System.nanoTime() - start) / calls;
+            least = Math.min(least, (System.nanoTime() - start) / calls);
         }
-        Arrays.sort(took);
-        System.out.println(name + " " + took[ROUNDS / 2] + " " + known);
+        System.out.println(name + " " + least + " " + known);
     }
 }

@@ -100,6 +100,7 @@ static void test_types(struct array *photo) {
     jlong place[2] = {-1, -1};
     wants(ASK(typesGet, (jbyteArray)&own, (jbyteArray)photo, NULL, 0, 5, (jbyteArray)&mime_type, (jbyteArray)&extension) == 6, "the class of a type of one's own");
     wants(strcmp(mime_type.bytes, "image/two") == 0 && strcmp(extension.bytes, "two") == 0, "its texts");
+    wants(ASK(typesGet, (jbyteArray)&own, NULL, (jobject)(void *)photo->bytes, 0, 5, (jbyteArray)&mime_type, (jbyteArray)&extension) == 6, "the same of a buffer");
     wants(ASK(typesGet, (jbyteArray)&own, (jbyteArray)photo, NULL, 3, 0, (jbyteArray)&mime_type, (jbyteArray)&extension) == -1, "no type");
     wants(says(ASK(typesMistake, (jbyteArray)&own, (jlongArray)(void *)place), "") && place[0] == 0 && place[1] == 0, "a text without a mistake");
     wants(!says(ASK(typesMistake, (jbyteArray)&flawed, (jlongArray)(void *)place), "") && place[0] == 1 && place[1] > 0, "a mistake");
