@@ -1,6 +1,6 @@
 -- ZIP archives and packages: the first entry with a property, what more bytes keep and may make, and the bytes that each has.
 use Rattle.infer_formats.proofs.Common.{[], ◌≡◌, ◌↔◌, ℕ, ◌+◌, ◌-◌, ◌<◌, ◌≤◌, inl, inr, List, length, codes, get_or, take, drop, add-zero, ap, refl, subst, ◌∙◌, arith, eq-eqb, length-drop, take_rest, OccursAt, Nowhere, Passes, is_byte, zip_header, IsFirstFolder, IsFolderEntry, IsPackageWith, IsPartEntry, MayBeginPackage, applications, IsTrue, zero, suc, ◌/◌, ◌%◌, ◌++◌, cases_lt, le16, AgreesAt, are_bytes, MayBecome, grown_agrees, FirstEntryEndsIn, FirstEntryHasExtra, FirstEntryIs, sym, nat_eq, OccursAt-append, OccursAt-first, ◌∷◌, slice_index, OccursAt-front, nat_tests, and_from, lt-ltb, if◌then◌else◌, nat_lt, le16-append, low_bytes, counted, counted_for, named, lines, package_with, StandsByPlace, accepts, all_but, at_least, fits, stands}
-use Rattle.infer_formats.specs.Zip.{IsOneOf, MayBeginAny, MayHaveFirstEnding, MayHaveFirstField, MayHaveFirstName, MayOpenPackage, HasFirstName}
+use Rattle.infer_formats.specs.Zip.{IsOneOf, MayBeginAny, MayHaveFirstEnding, MayHaveFirstField, MayHaveFirstName, MayOpenPackage, HasFirstName, IsFolder}
 use Rattle.infer_sig.specs.Signature.{byte, text}
 use Rattle.infer_formats.proofs.GrowthLemmas.{there, longer}
 use Rattle.infer_formats.proofs.OpenLemmas.{grown_byte}
@@ -50,6 +50,30 @@ folder_decides b name q first = (
   λ (p, other, o). subst (λ x. OccursAt b name (x + 30)) (one_folder b p q other first) o,
 )
 
+-- ---- the folders of applications
+
+-- what holds of each
+of_each : (P : List ℕ → Type 0) → P (codes "word/") → P (codes "xl/") → P (codes "ppt/") → P (codes "visio/") → P (codes "3D/")
+    → (f : List ℕ) → IsOneOf f applications → P f
+of_each P word xl ppt visio three f (inl e) = subst P (sym e) word
+of_each P word xl ppt visio three f (inr (inl e)) = subst P (sym e) xl
+of_each P word xl ppt visio three f (inr (inr (inl e))) = subst P (sym e) ppt
+of_each P word xl ppt visio three f (inr (inr (inr (inl e)))) = subst P (sym e) visio
+of_each P word xl ppt visio three f (inr (inr (inr (inr (inl e))))) = subst P (sym e) three
+of_each P word xl ppt visio three f (inr (inr (inr (inr (inr none))))) = absurd (none)
+
+-- they are of three bytes or more
+long_folder : (f : List ℕ) → IsOneOf f applications → 3 ≤ length f
+long_folder = of_each (λ f. 3 ≤ length f) (omega arith) (omega arith) (omega arith) (omega arith) (omega arith)
+
+-- where one stands in b, the same stands in c, if each text does
+carried_folder : (b c : List ℕ) (p : ℕ) → ((t : List ℕ) → length t ≤ 6 → OccursAt b t p → OccursAt c t p) → IsFolder b p → IsFolder c p
+carried_folder b c p f (inl o) = inl (f _ (omega arith) o)
+carried_folder b c p f (inr (inl o)) = inr (inl (f _ (omega arith) o))
+carried_folder b c p f (inr (inr (inl o))) = inr (inr (inl (f _ (omega arith) o)))
+carried_folder b c p f (inr (inr (inr (inl o)))) = inr (inr (inr (inl (f _ (omega arith) o))))
+carried_folder b c p f (inr (inr (inr (inr o)))) = inr (inr (inr (inr (f _ (omega arith) o))))
+
 -- the folder that stands in an entry
 pub entry_of : (b : List ℕ) (p : ℕ) → IsFolderEntry b p → (g : List ℕ) × IsOneOf g applications × OccursAt b g (p + 30)
 entry_of b p (h, inl o) = (codes "word/", inl refl, o)
@@ -63,22 +87,8 @@ module _ (b folder : List ℕ) (application : IsOneOf folder applications) where
   pub folder_entry : (p : ℕ) → OccursAt b zip_header p → OccursAt b folder (p + 30) → IsFolderEntry b p
   folder_entry p h o = (
     h,
-    elim application [
-      | inl e ↦ inl (subst (λ f. OccursAt b f (p + 30)) e o)
-      | inr other ↦ inr (elim other [
-        | inl e ↦ inl (subst (λ f. OccursAt b f (p + 30)) e o)
-        | inr other ↦ inr (elim other [
-          | inl e ↦ inl (subst (λ f. OccursAt b f (p + 30)) e o)
-          | inr other ↦ inr (elim other [
-            | inl e ↦ inl (subst (λ f. OccursAt b f (p + 30)) e o)
-            | inr other ↦ inr (elim other [
-              | inl e ↦ subst (λ f. OccursAt b f (p + 30)) e o
-              | inr none ↦ absurd (none)
-            ])
-          ])
-        ])
-      ])
-    ],
+    of_each (λ f. OccursAt b f (p + 30) → IsFolder b (p + 30)) (λ o. inl o) (λ o. inr (inl o)) (λ o. inr (inr (inl o))) (λ o. inr (inr (inr (inl o))))
+        (λ o. inr (inr (inr (inr o)))) folder application o,
   )
 
   begins_any : MayBeginPackage folder b → MayBeginAny b
@@ -140,30 +150,19 @@ module _ (b more : List ℕ) where
   part_entry p (o, inr t) = (OccursAt-append b more zip_header p o, inr (OccursAt-append b more _ (p + 30) t))
 
   entry_lasts : (q : ℕ) → IsFolderEntry b q → IsFolderEntry (b ++ more) q
-  entry_lasts q (o, inl t) = (OccursAt-append b more zip_header q o, inl (OccursAt-append b more _ (q + 30) t))
-  entry_lasts q (o, inr (inl t)) = (OccursAt-append b more zip_header q o, inr (inl (OccursAt-append b more _ (q + 30) t)))
-  entry_lasts q (o, inr (inr (inl t))) = (OccursAt-append b more zip_header q o, inr (inr (inl (OccursAt-append b more _ (q + 30) t))))
-  entry_lasts q (o, inr (inr (inr (inl t)))) = (OccursAt-append b more zip_header q o, inr (inr (inr (inl (OccursAt-append b more _ (q + 30) t)))))
-  entry_lasts q (o, inr (inr (inr (inr t)))) = (OccursAt-append b more zip_header q o, inr (inr (inr (inr (OccursAt-append b more _ (q + 30) t)))))
+  entry_lasts q (o, h) = (OccursAt-append b more zip_header q o, carried_folder b (b ++ more) (q + 30) (λ t few here. OccursAt-append b more t (q + 30) here) h)
 
   -- the name of a folder has three bytes or more, and six at most
   folder_inside : (q : ℕ) → IsFolderEntry b q → q + 33 ≤ length b
-  folder_inside q (o, inl t) = let f = t.fits in omega arith
-  folder_inside q (o, inr (inl t)) = let f = t.fits in omega arith
-  folder_inside q (o, inr (inr (inl t))) = let f = t.fits in omega arith
-  folder_inside q (o, inr (inr (inr (inl t)))) = let f = t.fits in omega arith
-  folder_inside q (o, inr (inr (inr (inr t)))) = let f = t.fits in omega arith
+  folder_inside q h =
+      let (g, is_g, o) = entry_of b q h in
+      let long = long_folder g is_g in
+      let fits = o.fits in omega arith
 
   folder_front : (k : ℕ) → k + 36 ≤ length b → IsFolderEntry (b ++ more) k → IsFolderEntry b k
   folder_front k le (o, h) = (
     OccursAt-front b more zip_header k (omega arith) o,
-    elim h [
-      | inl t ↦ inl (OccursAt-front b more _ (k + 30) (omega arith) t)
-      | inr (inl t) ↦ inr (inl (OccursAt-front b more _ (k + 30) (omega arith) t))
-      | inr (inr (inl t)) ↦ inr (inr (inl (OccursAt-front b more _ (k + 30) (omega arith) t)))
-      | inr (inr (inr (inl t))) ↦ inr (inr (inr (inl (OccursAt-front b more _ (k + 30) (omega arith) t))))
-      | inr (inr (inr (inr t))) ↦ inr (inr (inr (inr (OccursAt-front b more _ (k + 30) (omega arith) t))))
-    ],
+    carried_folder (b ++ more) b (k + 30) (λ t few here. OccursAt-front b more t (k + 30) (omega arith) here) h,
   )
 
   pub begins_package : (folder : List ℕ) → MayBeginPackage folder b → MayBeginPackage folder (b ++ more)
@@ -249,20 +248,6 @@ extra_known wanted b (more, bytes, (h, long, o)) = record {
 }
 
 -- ---- a package
-
--- what holds of each
-of_each : (P : List ℕ → Type 0) → P (codes "word/") → P (codes "xl/") → P (codes "ppt/") → P (codes "visio/") → P (codes "3D/")
-    → (f : List ℕ) → IsOneOf f applications → P f
-of_each P word xl ppt visio three f (inl e) = subst P (sym e) word
-of_each P word xl ppt visio three f (inr (inl e)) = subst P (sym e) xl
-of_each P word xl ppt visio three f (inr (inr (inl e))) = subst P (sym e) ppt
-of_each P word xl ppt visio three f (inr (inr (inr (inl e)))) = subst P (sym e) visio
-of_each P word xl ppt visio three f (inr (inr (inr (inr (inl e))))) = subst P (sym e) three
-of_each P word xl ppt visio three f (inr (inr (inr (inr (inr none))))) = absurd (none)
-
--- they are of three bytes or more
-long_folder : (f : List ℕ) → IsOneOf f applications → 3 ≤ length f
-long_folder = of_each (λ f. 3 ≤ length f) (omega arith) (omega arith) (omega arith) (omega arith) (omega arith)
 
 -- the one that begins with the byte
 abbrev by_first : ℕ → List ℕ
