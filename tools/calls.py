@@ -7,8 +7,9 @@ from texts import text_of
 
 TABLE = "bindings/calls.tsv"
 HEADERS = ["c/infer.h", "c/infer_file.h"]
-LANGUAGES = ["C", "Python", "Rust", "Go", "JavaScript"]
+LANGUAGES = ["C", "Python", "Rust", "Go", "JavaScript", "Java"]
 PYTHON, RUST, GO, JAVASCRIPT = "bindings/python/src/infer", "bindings/rust/infer/src", "bindings/go", "bindings/javascript"
+JAVA = "bindings/java/src/dev/hoarvelt/infer"
 # Where the names of a module of the binding for Rust stand.
 RUST_FILES = {"": ["lib", "read", "encoding", "file_type"], "more": ["more"], "Types": ["types"], "app": ["matchers"], "image": ["matchers"]}
 
@@ -44,7 +45,12 @@ def is_in_javascript(name):
     return any(re.search(pattern, text_of(f"{JAVASCRIPT}/{it}.d.ts"), re.M | re.S) for it in ("core", "node"))
 
 
-IS_IN = {"Python": is_in_python, "Rust": is_in_rust, "Go": is_in_go, "JavaScript": is_in_javascript}
+def is_in_java(name):
+    of, _, item = name.rpartition(".")
+    return bool(re.search(rf"^    public (?:static )?\S+ {item}\(" if of else rf"^public (?:record|final class) {item}\b", text_of(f"{JAVA}/{of or item}.java"), re.M))
+
+
+IS_IN = {"Python": is_in_python, "Rust": is_in_rust, "Go": is_in_go, "JavaScript": is_in_javascript, "Java": is_in_java}
 
 
 def names_of(cell):

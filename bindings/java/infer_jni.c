@@ -35,6 +35,7 @@ static void refuse(JNIEnv *env) { (*env)->ThrowNew(env, (*env)->FindClass(env, "
 ASKS(jint, position, infer_position)
 ASKS(jint, morePosition, infer_more_position)
 ASKS(jboolean, isDecided, infer_is_decided)
+ASKS(jboolean, moreIsDecided, infer_more_is_decided)
 
 JNIEXPORT jstring NAME(encoding)(JNIEnv *env, jclass self, jbyteArray array, jobject direct, jint from, jint size) {
     char *at = held(env, array, direct), name[INFER_TEXT_SIZE];

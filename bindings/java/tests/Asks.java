@@ -76,28 +76,29 @@ final class Asks {
         System.out.println(isNative ? "native" : "foreign");
         System.out.println(Infer.version());
         Infer.types().forEach(it -> System.out.println(shown(Optional.of(it))));
+        Infer.furtherTypes().forEach(it -> System.out.println(shown(Optional.of(it))));
     }
 
     private interface Way {
         String of(byte[] bytes) throws IOException;
     }
 
-    private static String answers(Optional<Type> get, Optional<Type> wider, Optional<Charset> encoding, boolean isDecided, Optional<Type> own) {
-        return String.join("|", shown(get), shown(wider), encoding.map(Charset::name).orElse("none"), String.valueOf(isDecided), shown(own));
+    private static String answers(Optional<Type> get, Optional<Type> wider, Optional<Charset> encoding, boolean isDecided, boolean isWiderDecided, Optional<Type> own) {
+        return String.join("|", shown(get), shown(wider), encoding.map(Charset::name).orElse("none"), String.valueOf(isDecided), String.valueOf(isWiderDecided), shown(own));
     }
 
     /** Of each buffer that is given, what is said of it in each way to hand it over. */
     private static void ways(Path file) throws IOException {
         Types own = Types.of(OWN);
         List<Way> all = List.of(
-            it -> answers(Infer.get(it), Infer.wider(it), Infer.encoding(it), Infer.isDecided(it), own.get(it)),
+            it -> answers(Infer.get(it), Infer.wider(it), Infer.encoding(it), Infer.isDecided(it), Infer.isWiderDecided(it), own.get(it)),
             it -> of(own, inside(it, ByteBuffer.allocate(it.length + 9))),
             it -> of(own, inside(it, ByteBuffer.allocateDirect(it.length + 9))),
             it -> of(own, inside(it, ByteBuffer.allocate(it.length + 9)).slice().asReadOnlyBuffer()),
             it -> of(own, new BufferedInputStream(new ByteArrayInputStream(it), 16)),
             it -> {
                 Files.write(file, it);
-                return answers(Infer.get(file), Infer.wider(file), Infer.encoding(file), Infer.isDecided(file), own.get(file));
+                return answers(Infer.get(file), Infer.wider(file), Infer.encoding(file), Infer.isDecided(file), Infer.isWiderDecided(file), own.get(file));
             });
         for (byte[] bytes : given()) {
             List<String> told = new ArrayList<>();
@@ -120,13 +121,13 @@ final class Asks {
 
     private static String of(Types own, ByteBuffer it) {
         ByteBuffer before = it.duplicate();
-        String told = answers(Infer.get(it), Infer.wider(it), Infer.encoding(it), Infer.isDecided(it), own.get(it));
+        String told = answers(Infer.get(it), Infer.wider(it), Infer.encoding(it), Infer.isDecided(it), Infer.isWiderDecided(it), own.get(it));
         return before.equals(it) && before.position() == it.position() ? told : "moved";
     }
 
     private static String of(Types own, InputStream it) throws IOException {
         int left = it.available();
-        String told = answers(Infer.get(it), Infer.wider(it), Infer.encoding(it), Infer.isDecided(it), own.get(it));
+        String told = answers(Infer.get(it), Infer.wider(it), Infer.encoding(it), Infer.isDecided(it), Infer.isWiderDecided(it), own.get(it));
         return left == it.available() ? told : "moved";
     }
 

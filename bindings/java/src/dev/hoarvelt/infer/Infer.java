@@ -33,6 +33,7 @@ public final class Infer {
         .mapToObj(row -> Optional.of(new Type(Library.mimeType(row), Library.extension(row), Library.className(Library.classCode(row)))))
         .toList();
     private static final List<Type> TYPES = ANSWERS.stream().limit(Library.rowCount()).map(Optional::get).toList();
+    private static final List<Type> FURTHER_TYPES = ANSWERS.stream().skip(Library.rowCount()).map(Optional::get).toList();
     private static final String VERSION = Library.version();
 
     private Infer() {}
@@ -40,6 +41,11 @@ public final class Infer {
     /** {@return the built-in types, in the order in which they are asked} */
     public static List<Type> types() {
         return TYPES;
+    }
+
+    /** {@return the further types, of which several can be equal} */
+    public static List<Type> furtherTypes() {
+        return FURTHER_TYPES;
     }
 
     /** {@return the version of the library} */
@@ -145,5 +151,25 @@ public final class Infer {
     /** {@return the same, of the first bytes of a file} */
     public static boolean isDecided(Path path) throws IOException {
         return Library.isDecided(Front.of(path));
+    }
+
+    /** {@return whether no bytes that may follow can change the answer of {@code wider}} False does not say that some can. */
+    public static boolean isWiderDecided(byte[] bytes) {
+        return Library.moreIsDecided(Bytes.of(bytes));
+    }
+
+    /** {@return the same, of a buffer's bytes} */
+    public static boolean isWiderDecided(ByteBuffer buffer) {
+        return Library.moreIsDecided(Bytes.of(buffer));
+    }
+
+    /** {@return the same, of the next bytes of a stream, which stays where it is} */
+    public static boolean isWiderDecided(InputStream in) throws IOException {
+        return Library.moreIsDecided(Front.of(in));
+    }
+
+    /** {@return the same, of the first bytes of a file} */
+    public static boolean isWiderDecided(Path path) throws IOException {
+        return Library.moreIsDecided(Front.of(path));
     }
 }

@@ -28,6 +28,10 @@ final class Library {
         return isDecided(it.array(), it.direct(), it.from(), it.size());
     }
 
+    static boolean moreIsDecided(Bytes it) {
+        return moreIsDecided(it.array(), it.direct(), it.from(), it.size());
+    }
+
     /** The name of the encoding, or the empty text. */
     static String encoding(Bytes it) {
         return encoding(it.array(), it.direct(), it.from(), it.size());
@@ -43,6 +47,8 @@ final class Library {
     private static native int morePosition(byte[] array, ByteBuffer direct, int from, int size);
 
     private static native boolean isDecided(byte[] array, ByteBuffer direct, int from, int size);
+
+    private static native boolean moreIsDecided(byte[] array, ByteBuffer direct, int from, int size);
 
     private static native String encoding(byte[] array, ByteBuffer direct, int from, int size);
 

@@ -28,6 +28,7 @@ final class Library {
     private static final MethodHandle POSITION = handle("infer_position", JAVA_INT, ADDRESS, JAVA_LONG);
     private static final MethodHandle MORE_POSITION = handle("infer_more_position", JAVA_INT, ADDRESS, JAVA_LONG);
     private static final MethodHandle IS_DECIDED = handle("infer_is_decided", JAVA_BOOLEAN, ADDRESS, JAVA_LONG);
+    private static final MethodHandle MORE_IS_DECIDED = handle("infer_more_is_decided", JAVA_BOOLEAN, ADDRESS, JAVA_LONG);
     private static final MethodHandle ENCODING = handle("infer_encoding", JAVA_LONG, ADDRESS, JAVA_LONG, ADDRESS, JAVA_LONG);
     private static final MethodHandle TYPES_GET =
         handle("infer_types_get", JAVA_INT, ADDRESS, JAVA_LONG, ADDRESS, JAVA_LONG, ADDRESS, JAVA_LONG, ADDRESS, JAVA_LONG);
@@ -83,6 +84,14 @@ final class Library {
     static boolean isDecided(Bytes it) {
         try {
             return (boolean) IS_DECIDED.invokeExact(segment(it), (long) it.size());
+        } catch (Throwable fault) {
+            throw thrown(fault);
+        }
+    }
+
+    static boolean moreIsDecided(Bytes it) {
+        try {
+            return (boolean) MORE_IS_DECIDED.invokeExact(segment(it), (long) it.size());
         } catch (Throwable fault) {
             throw thrown(fault);
         }
