@@ -1,0 +1,10 @@
+pub mod Key
+pub mod Listed
+pub mod Texts
+pub mod Names
+pub mod Slots
+pub mod Table
+pub mod Bytes
+pub mod Asks
+pub mod Join
+pub mod Named

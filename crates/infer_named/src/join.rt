@@ -1,0 +1,306 @@
+//! What a name and the bytes tell together.
+ghost use Rattle.std.specs.Prelude.{◌≡◌, None, Some, map, nat_eq, option_map};
+ghost use Rattle.std.specs.List.{list_any, starts_with};
+ghost use Rattle.infer.specs.Triple.{triple_of};
+ghost use Rattle.infer_named.specs.Asks.{admits};
+ghost use Rattle.infer_named.specs.Bytes.{IsKind, has_no_zero, is_empty, lead_of};
+ghost use Rattle.infer_named.specs.Join.{answer, extension_of, fits, is_among, is_own, is_own_name, joined_with, keyed, mime_type_of, reading_of, reading_without, row_extension, told_by, takes, unnamed};
+ghost use Rattle.infer_named.specs.Listed.{key_listed, origin_listed, reading_listed, texts};
+ghost use Rattle.infer_named.specs.Named.{IsNamed, answer_of, key_of, told_listed};
+
+use crate::bytes::{Kind, kind_of, lead_of};
+use crate::names::key;
+use crate::table::{Asks, Key, NamedType, Origin, Reading};
+use infer::Type;
+
+/// What the name did.
+#[derive(Clone, Copy, Debug, PartialEq, Eq)]
+pub enum Standing {
+    /// The bytes are of the type that the name has.
+    Agree,
+    /// The bytes may begin a file of the type that the name has, which is told.
+    NameRefines,
+    /// The bytes are of a finer kind of the type that the name has. Theirs is told.
+    BytesRefine,
+    /// The name says nothing, and the bytes have a type.
+    BytesAlone,
+    /// No row accepts the bytes, and they may be of the type that the name has.
+    NameAlone,
+    /// The bytes are not of a type that the name has.
+    Contradicts,
+    /// Neither says anything.
+    Nothing,
+}
+
+/// A type that is told.
+#[derive(Clone, Copy, Debug)]
+pub enum Told {
+    /// That of the row that accepts the bytes.
+    Bytes(Type),
+    /// One that the name has.
+    Name(NamedType),
+}
+
+impl Told {
+    /// The MIME type.
+    pub fn mime_type(&self) -> &'static str
+        ensures { result.now ≡ mime_type_of (told_listed self.now) }
+    {
+        match self {
+            Told::Bytes(t) => t.mime_type(),
+            Told::Name(t) => t.mime_type,
+        }
+    }
+
+    /// The extension of the row that has the type, and `None` if none does.
+    pub fn extension(&self) -> Option<&'static str>
+        ensures { option_map (λ e. e.now) result ≡ extension_of (told_listed self.now) }
+    {
+        match self {
+            Told::Bytes(t) => Some(t.extension()),
+            Told::Name(t) => row_extension(t.origin),
+        }
+    }
+
+    /// Whether nobody else names the type, so that it is not to be sent.
+    pub fn is_own_name(&self) -> bool
+        ensures { result ≡ is_own_name (told_listed self.now) }
+    {
+        match self {
+            Told::Bytes(_) => false,
+            Told::Name(t) => is_own(t.origin),
+        }
+    }
+}
+
+/// The extension of the row that has the type, if there is one.
+fn row_extension(origin: Origin) -> Option<&'static str>
+    ensures { option_map (λ e. e.now) result ≡ row_extension (origin_listed origin) }
+{
+    match origin {
+        Origin::Row(extension) => Some(extension),
+        Origin::Known | Origin::Own => None,
+    }
+}
+
+fn is_own(origin: Origin) -> bool
+    ensures { result ≡ is_own (origin_listed origin) }
+{
+    match origin {
+        Origin::Own => true,
+        Origin::Known | Origin::Row(_) => false,
+    }
+}
+
+/// What a name and bytes tell.
+#[derive(Clone, Copy)]
+pub struct Named {
+    /// What the name did.
+    pub standing: Standing,
+    /// The type, if one is told.
+    pub told: Option<Told>,
+    /// The key of the name, if it has one.
+    pub key: Option<&'static Key>,
+}
+
+/// What the name and the bytes tell.
+pub fn answer(name: &[u8], buf: &[u8]) -> Named
+    ensures { IsNamed name.now buf.now result }
+{
+    let found = infer_more::get(buf);
+    match key(name) {
+        Some(key) => keyed(key, found, buf),
+        None => unnamed(found),
+    }
+}
+
+/// A name without a key: the bytes alone, or nothing.
+fn unnamed(found: Option<Type>) -> Named
+    ensures answer { answer_of result ≡ unnamed (option_map triple_of found) }
+    ensures key { key_of result ≡ None }
+{
+    match found {
+        Some(t) => telling(Standing::BytesAlone, Told::Bytes(t), None),
+        None => silent(Standing::Nothing, None),
+    }
+}
+
+fn telling(standing: Standing, told: Told, key: Option<&'static Key>) -> Named
+    ensures answer { answer_of result ≡ answer standing (Some (told_listed told)) }
+    ensures key { key_of result ≡ option_map (λ k. key_listed k.now) key.entry }
+{
+    Named {
+        standing,
+        told: Some(told),
+        key,
+    }
+}
+
+fn silent(standing: Standing, key: Option<&'static Key>) -> Named
+    ensures answer { answer_of result ≡ answer standing None }
+    ensures key { key_of result ≡ option_map (λ k. key_listed k.now) key.entry }
+{
+    Named {
+        standing,
+        told: None,
+        key,
+    }
+}
+
+/// What a key tells of bytes with this type, or without one.
+fn keyed(key: &'static Key, found: Option<Type>, buf: &[u8]) -> Named
+    ensures answer { (kind : Kind) → IsKind buf.now kind
+        → answer_of result ≡ keyed (key_listed key.now) (option_map triple_of found) kind (lead_of buf.now) }
+    ensures key { key_of result ≡ Some (key_listed key.now) }
+{
+    match found {
+        Some(t) => joined_with(key, t, reading_of(key.readings, t, buf)),
+        None => keyed_alone(key, buf),
+    }
+}
+
+/// What it tells of bytes without one.
+#[tactic(auto, using(crate::proofs::KindLemmas::one_kind))]
+fn keyed_alone(key: &'static Key, buf: &[u8]) -> Named
+    ensures answer { (kind : Kind) → IsKind buf.now kind
+        → answer_of result ≡ keyed (key_listed key.now) None kind (lead_of buf.now) }
+    ensures key { key_of result ≡ Some (key_listed key.now) }
+{
+    if key.is_loose {
+        return silent(Standing::Nothing, Some(key));
+    }
+    match reading_without(key.readings, kind_of(buf), buf) {
+        Some(reading) => telling(Standing::NameAlone, Told::Name(reading.named), Some(key)),
+        None => silent(Standing::Contradicts, Some(key)),
+    }
+}
+
+/// What it tells of bytes with this type, of which this is the reading.
+fn joined_with(key: &'static Key, t: Type, reading: Option<&'static Reading>) -> Named
+    ensures answer { answer_of result
+        ≡ joined_with (key_listed key.now).is_loose (triple_of t) (option_map (λ r. reading_listed r.now) reading.entry) }
+    ensures key { key_of result ≡ Some (key_listed key.now) }
+{
+    match reading {
+        Some(reading) => told_by(key, reading, t),
+        None => {
+            if key.is_loose {
+                telling(Standing::BytesAlone, Told::Bytes(t), Some(key))
+            } else {
+                telling(Standing::Contradicts, Told::Bytes(t), Some(key))
+            }
+        }
+    }
+}
+
+/// What a reading tells of a type that one of its sets has.
+fn told_by(key: &'static Key, reading: &Reading, t: Type) -> Named
+    ensures answer { answer_of result ≡ told_by (reading_listed reading.now) (triple_of t) }
+    ensures key { key_of result ≡ Some (key_listed key.now) }
+{
+    if is_among(t, reading.agrees) {
+        return telling(Standing::Agree, Told::Bytes(t), Some(key));
+    }
+    if is_among(t, reading.begins) {
+        return telling(Standing::NameRefines, Told::Name(reading.named), Some(key));
+    }
+    telling(Standing::BytesRefine, Told::Bytes(t), Some(key))
+}
+
+/// The first reading that the bytes fit and that has their type in a set.
+fn reading_of(readings: &'static [Reading], t: Type, buf: &[u8]) -> Option<&'static Reading>
+    ensures { option_map (λ r. reading_listed r.now) result
+        ≡ reading_of (map reading_listed readings.now) (triple_of t) (lead_of buf.now) }
+{
+    for reading in readings {
+        if takes(reading, t) && fits(reading, buf) {
+            return Some(reading);
+        }
+    }
+    None
+}
+
+/// The first reading that the bytes fit and that admits bytes of the kind.
+fn reading_without(readings: &'static [Reading], kind: Kind, buf: &[u8]) -> Option<&'static Reading>
+    ensures { option_map (λ r. reading_listed r.now) result
+        ≡ reading_without (map reading_listed readings.now) kind (lead_of buf.now) }
+{
+    for reading in readings {
+        if admits(reading.asks, kind) && fits(reading, buf) {
+            return Some(reading);
+        }
+    }
+    None
+}
+
+/// Whether one of the reading's sets has the type.
+fn takes(reading: &Reading, t: Type) -> bool
+    ensures { result ≡ takes (triple_of t) (reading_listed reading.now) }
+{
+    is_among(t, reading.agrees) || is_among(t, reading.begins) || is_among(t, reading.finer)
+}
+
+/// Whether the type is that of one of the rows.
+fn is_among(t: Type, rows: &[&str]) -> bool
+    ensures { result ≡ is_among (triple_of t) (texts rows.now) }
+{
+    let (extension, mime_type) = (t.extension(), t.mime_type());
+    for row in rows {
+        if *row == extension || *row == mime_type {
+            return true;
+        }
+    }
+    false
+}
+
+/// Whether the bytes begin as a file of the reading's type does.
+fn fits(reading: &Reading, buf: &[u8]) -> bool
+    ensures { result ≡ fits (lead_of buf.now) (reading_listed reading.now) }
+{
+    if reading.leads.is_empty() {
+        return true;
+    }
+    begins_with(lead_of(buf).bytes(), reading.leads)
+}
+
+/// Whether the lead begins with one of the texts.
+fn begins_with(lead: &[u8], leads: &[&[u8]]) -> bool
+    ensures { result ≡ list_any (λ text. starts_with nat_eq lead.now text) (texts leads.now) }
+{
+    for text in leads {
+        if lead.starts_with(text) {
+            return true;
+        }
+    }
+    false
+}
+
+/// Whether bytes of this kind, which no row accepts, are as the type asks.
+fn admits(asks: Asks, kind: Kind) -> bool
+    ensures { result ≡ admits asks kind }
+{
+    match asks {
+        Asks::Signature => false,
+        Asks::Text => has_no_zero(kind),
+        Asks::Bytes => !is_empty(kind),
+        Asks::Nothing => true,
+    }
+}
+
+fn has_no_zero(kind: Kind) -> bool
+    ensures { result ≡ has_no_zero kind }
+{
+    match kind {
+        Kind::Empty | Kind::Marked => true,
+        Kind::Text | Kind::Binary => false,
+    }
+}
+
+fn is_empty(kind: Kind) -> bool
+    ensures { result ≡ is_empty kind }
+{
+    match kind {
+        Kind::Empty => true,
+        Kind::Text | Kind::Binary | Kind::Marked => false,
+    }
+}

@@ -1,0 +1,303 @@
+//! The key of a name.
+ghost use Rattle.std.specs.Prelude.{◌≡◌, ◌<◌, ◌≤◌, IfSome, IsTrue, None, if◌then◌else◌, length, map, not, option_map, true, unwrap_or};
+ghost use Rattle.std.specs.Char.{to_ascii_lowercase};
+ghost use Rattle.std.specs.List.{find, list_any};
+ghost use Rattle.std.specs.Str.{bytes_eq};
+ghost use Rattle.memchr.specs.Find.{IsLastByte};
+ghost use Rattle.infer_named.specs.Listed.{key_listed};
+ghost use Rattle.infer_named.specs.Names.{IsBase, IsDottedKey, IsExtensionKey, IsKey, IsLastDot, IsMakerKey, IsStemKey, IsVersioned, are_parts, copy_length, ends_in, entry, extension_at, is_digit, is_key, is_version, is_version_byte, makers, same_part, slot_of, small, stem_of};
+ghost use Rattle.infer_named.specs.Table.{keys};
+ghost use Rattle.infer_named.specs.declared.table.Part.TheVariants.{Whole};
+
+use crate::table::{Key, Part, slot};
+use memchr::{memchr, memrchr, memrchr2};
+
+/// The key of the name, and `None` exactly if it has none.
+pub fn key(name: &[u8]) -> Option<&'static Key>
+    ensures { IsKey keys name.now (option_map (λ k. key_listed k.now) result) }
+{
+    if memchr(0, name).is_some() {
+        return None;
+    }
+    key_of_stem(stem(base(name)))
+}
+
+/// What stands behind the last "/" or "\".
+fn base(name: &[u8]) -> &[u8]
+    ensures { IsBase name.now result.now }
+{
+    match memrchr2(b'/', b'\\', name) {
+        Some(slash) => &name[slash + 1..],
+        None => name,
+    }
+}
+
+/// What stands before the ending of a copy, if it has one.
+fn stem(base: &[u8]) -> &[u8]
+    ensures { result.now ≡ stem_of base.now }
+{
+    &base[..base.len() - copy_length(base)]
+}
+
+/// How many bytes are the ending of a copy.
+fn copy_length(base: &[u8]) -> usize
+    ensures value { result ≡ copy_length base.now }
+    ensures bound { result ≤ length base.now }
+{
+    if ends_in(base, b"~") {
+        return 1;
+    }
+    if ends_in(base, b".bak") {
+        return 4;
+    }
+    if ends_in(base, b".orig") {
+        return 5;
+    }
+    if ends_in(base, b".old") {
+        return 4;
+    }
+    0
+}
+
+/// Whether the text ends in this ending, whose letters are small, and something stands before it.
+fn ends_in(text: &[u8], ending: &[u8]) -> bool
+    ensures value { result ≡ ends_in text.now ending.now }
+    ensures bound { IsTrue result → length ending.now ≤ length text.now }
+{
+    ending.len() < text.len() && is_small(&text[text.len() - ending.len()..], ending)
+}
+
+/// Whether the text in small letters is the other.
+#[tactic(auto, using(crate::proofs::SmallLemmas::alike, crate::proofs::SmallLemmas::not_as_long, crate::proofs::SmallLemmas::unlike))]
+fn is_small(text: &[u8], other: &[u8]) -> bool
+    ensures { result ≡ bytes_eq (small text.now) other.now }
+{
+    if text.len() != other.len() {
+        return false;
+    }
+    for i in 0..text.len() {
+        if text[i].to_ascii_lowercase() != other[i] {
+            return false;
+        }
+    }
+    true
+}
+
+/// The key of a stem: the whole, or else its extension, or else what stands before its first dot.
+fn key_of_stem(stem: &[u8]) -> Option<&'static Key>
+    ensures { IsStemKey keys stem.now (option_map (λ k. key_listed k.now) result) }
+{
+    match entry(Part::Whole, stem) {
+        Some(found) => Some(found),
+        None => dotted_key(stem),
+    }
+}
+
+fn dotted_key(stem: &[u8]) -> Option<&'static Key>
+    ensures { IsDottedKey keys stem.now (option_map (λ k. key_listed k.now) result) }
+{
+    match extension_key(stem) {
+        Some(found) => Some(found),
+        None => maker_key(stem),
+    }
+}
+
+/// The extension of a stem.
+fn extension_key(stem: &[u8]) -> Option<&'static Key>
+    ensures { IsExtensionKey keys stem.now (option_map (λ k. key_listed k.now) result) }
+{
+    let last = last_dot(stem, stem.len());
+    let second = second_dot(stem, last);
+    if is_versioned(stem) {
+        return entry(Part::Extension, b"so");
+    }
+    match extension_at(stem, second) {
+        Some(found) => Some(found),
+        None => extension_at(stem, last),
+    }
+}
+
+/// The last dot before the place, but for one that is the first byte.
+fn last_dot(stem: &[u8], before: usize) -> Option<usize>
+    requires { before ≤ length stem.now }
+    ensures dot { IsLastDot stem.now before result }
+{
+    match memrchr(b'.', &stem[..before]) {
+        Some(0) => None,
+        found => found,
+    }
+}
+
+/// The last such dot before this one.
+fn second_dot(stem: &[u8], last: Option<usize>) -> Option<usize>
+    requires { IsLastDot stem.now (length stem.now) last }
+    ensures { IsLastDot stem.now (unwrap_or last 0) result }
+{
+    match last {
+        Some(dot) => last_dot(stem, dot),
+        None => None,
+    }
+}
+
+/// The extension behind a dot, if there is one.
+fn extension_at(stem: &[u8], dot: Option<usize>) -> Option<&'static Key>
+    requires { IfSome dot (λ place. place < length stem.now) }
+    ensures { option_map (λ k. key_listed k.now) result ≡ extension_at keys stem.now dot }
+{
+    match dot {
+        Some(place) => entry(Part::Extension, &stem[place + 1..]),
+        None => None,
+    }
+}
+
+/// Whether digits and dots at the end are a version behind ".so".
+fn is_versioned(stem: &[u8]) -> bool
+    ensures { IsVersioned stem.now result }
+{
+    match version_edge(stem) {
+        Some(edge) => is_version(&stem[edge + 1..]) && ends_in(&stem[..edge + 1], b".so"),
+        None => false,
+    }
+}
+
+/// Where the last byte stands that is neither a digit nor a dot.
+fn version_edge(stem: &[u8]) -> Option<usize>
+    ensures { IsLastByte (λ x. not (is_version_byte x)) stem.now result }
+{
+    let mut edge = stem.len();
+    while edge > 0 {
+        edge -= 1;
+        if !is_version_byte(stem[edge]) {
+            return Some(edge);
+        }
+    }
+    None
+}
+
+fn is_version_byte(byte: u8) -> bool
+    ensures { result ≡ is_version_byte byte }
+{
+    is_digit(byte) || byte == b'.'
+}
+
+fn is_digit(byte: u8) -> bool
+    ensures { result ≡ is_digit byte }
+{
+    b'0' <= byte && byte <= b'9'
+}
+
+/// Whether the text is parts of digits only, each behind a dot.
+fn is_version(text: &[u8]) -> bool
+    ensures { result ≡ is_version text.now }
+{
+    match text {
+        [first, rest @ ..] => *first == b'.' && are_parts(rest),
+        [] => false,
+    }
+}
+
+/// Whether these are digits and dots, a digit first and one behind each dot.
+fn are_parts(text: &[u8]) -> bool
+    ensures { result ≡ are_parts true text.now }
+{
+    let mut due = true;
+    for byte in text {
+        if is_digit(*byte) {
+            due = false;
+        } else if due || *byte != b'.' {
+            return false;
+        } else {
+            due = true;
+        }
+    }
+    !due
+}
+
+/// The whole name before the first dot, if it is one of the four that may have anything behind them.
+fn maker_key(stem: &[u8]) -> Option<&'static Key>
+    ensures { IsMakerKey keys stem.now (option_map (λ k. key_listed k.now) result) }
+{
+    let dot = memchr(b'.', stem);
+    match dot {
+        Some(place) => maker(&stem[..place]),
+        None => None,
+    }
+}
+
+fn maker(text: &[u8]) -> Option<&'static Key>
+    ensures { option_map (λ k. key_listed k.now) result
+        ≡ (if list_any (bytes_eq (small text.now)) makers then entry keys Whole text.now else None) }
+{
+    if is_maker(text) {
+        entry(Part::Whole, text)
+    } else {
+        None
+    }
+}
+
+fn is_maker(text: &[u8]) -> bool
+    ensures { result ≡ list_any (bytes_eq (small text.now)) makers }
+{
+    is_small(text, b"makefile")
+        || is_small(text, b"gnumakefile")
+        || is_small(text, b"dockerfile")
+        || is_small(text, b"containerfile")
+}
+
+/// The key of the table that is this part of a name, with this text in small letters.
+#[tactic(auto, using(crate::proofs::TableLemmas::found_in_slot))]
+fn entry(part: Part, text: &[u8]) -> Option<&'static Key>
+    ensures { option_map (λ k. key_listed k.now) result ≡ entry keys part text.now }
+{
+    find_in(slot(slot_of(text)), part, text)
+}
+
+/// The first of these keys that is this part of a name, with this text in small letters.
+fn find_in(names: &'static [Key], part: Part, text: &[u8]) -> Option<&'static Key>
+    ensures { option_map (λ k. key_listed k.now) result ≡ find (is_key part (small text.now)) (map key_listed names.now) }
+{
+    for key in names {
+        if is_key(key, part, text) {
+            return Some(key);
+        }
+    }
+    None
+}
+
+fn is_key(key: &Key, part: Part, text: &[u8]) -> bool
+    ensures { result ≡ is_key part (small text.now) (key_listed key.now) }
+{
+    is_same_part(part, key.part) && is_small(text, key.text.as_bytes())
+}
+
+fn is_same_part(a: Part, b: Part) -> bool
+    ensures { result ≡ same_part a b }
+{
+    match (a, b) {
+        (Part::Whole, Part::Whole) | (Part::Extension, Part::Extension) => true,
+        _ => false,
+    }
+}
+
+/// The slot of a text in small letters.
+#[tactic(auto, using(crate::proofs::SmallLemmas::slot_small))]
+fn slot_of(text: &[u8]) -> usize
+    ensures value { result ≡ slot_of (small text.now) }
+    ensures bound { result < 512 }
+{
+    if text.is_empty() {
+        return 0;
+    }
+    let first = small_number(text[0]);
+    let middle = small_number(text[text.len() / 2]);
+    let last = small_number(text[text.len() - 1]);
+    (text.len() + 118 * first + 203 * middle + 36 * last) % 512
+}
+
+/// The number of a byte in small letters.
+fn small_number(byte: u8) -> usize
+    ensures value { result ≡ to_ascii_lowercase byte }
+    ensures bound { result < 256 }
+{
+    usize::from(byte.to_ascii_lowercase())
+}

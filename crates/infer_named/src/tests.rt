@@ -1,0 +1,3 @@
+//! Names and bytes from outside.
+
+mod generated;
