@@ -13,7 +13,8 @@ from texts import TOP, kept, text_of
 
 # The crates whose contracts callers rely on, each on those before it, with what one of them is for.
 CRATES = {
-    "infer": "rows and answers", "infer_more": "further rows, and types of a text", "infer_sniff": "growing input", "infer_tool": "the program",
+    "infer": "rows and answers", "infer_more": "further rows, and types of a text", "infer_named": "a name and its bytes",
+    "infer_sniff": "growing input", "infer_tool": "the program",
     "infer_c": "the library for C", "infer_uses": "callers with contracts of their own", "infer_sig": "fixed signatures", "infer_deep": "relations on whole buffers",
     "infer_formats": "inside containers and texts", "infer_notation": "the notation of signatures",
 }

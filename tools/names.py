@@ -39,8 +39,7 @@ pub(super) fn slot(place: usize) -> &'static [Key]
     }}
 }}
 """
-SLOT = """static SLOT_{number}: &[Key] = keys![
-{keys}];
+SLOT = """static SLOT_{number}: &[Key] = keys![{keys}];
 
 #[tactic(auto, unfolding(crate::specs::Slots::{name}::slot_{number}))]
 #[inline(always)]
@@ -236,7 +235,7 @@ def slots_of(number):
 def group(number):
     name, first = f"G{number:02}", number * GROUP
     slots = (
-        SLOT.format(number=k, name=name, keys="".join(f"{line_of(it)}\n" for it in keys)) for k, keys in enumerate(slots_of(number))
+        SLOT.format(number=k, name=name, keys="".join(f"\n{line_of(it)}" for it in keys) + "\n" * bool(keys)) for k, keys in enumerate(slots_of(number))
     )
     return GROUP_HEAD.format(
         first=first, last=first + GROUP - 1, name=name, names=", ".join(f"slot_{k}" for k in range(GROUP)), slots="\n".join(slots),
@@ -300,17 +299,22 @@ def all_placed(count):
 VECTORS, SHORT = "vectors/named.tsv", 80
 TEST_HEAD = """//! Made by `tools/tables` from vectors/named.tsv: names and first bytes whose standings and types a program computed that
 //! shares no code with this one.
-use crate::Standing::{Agree, BytesAlone, BytesRefine, Contradicts, NameAlone, NameRefines, Nothing};
 use crate::{Standing, named};
 use std::test::Fail;
 
 /// A name, bytes, the standing, and the MIME type or no text.
 type Case<'a> = (&'a [u8], &'a [u8], Standing, &'a str);
+
+macro_rules! cases {
+    ($($name:literal $buf:literal $standing:ident $mime_type:literal;)*) => {
+        [$(($name, $buf, Standing::$standing, $mime_type)),*]
+    };
+}
 """
 TEST = """
 #[test]
 fn part_{number}(rt: HostRuntime) -> Result<(), Fail> {{
-    let cases: [Case<'_>; {count}] = [
+    let cases: [Case<'_>; {count}] = cases![
 {cases}
     ];
     for (i, (name, buf, standing, mime_type)) in cases.iter().enumerate() {{
@@ -336,7 +340,7 @@ def cases():
         name = re.sub(rb"\\x([0-9A-Fa-f]{2})", lambda it: bytes([int(it[1], 16)]), name.encode())
         data = b"".join(bytes.fromhex(digits) * int(count or 1) for digits, _, count in (it.partition("*") for it in words.replace("-", "").split()))
         if max(len(name), len(data)) <= SHORT:
-            yield f'        ({literal(name)}, {literal(data)}, {standing.title().replace(" ", "")}, "{mime_type.removeprefix("-")}"),'
+            yield f'        {literal(name)} {literal(data)} {standing.title().replace(" ", "")} "{mime_type.removeprefix("-")}";'
 
 
 def tests():
