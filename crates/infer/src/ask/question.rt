@@ -1,5 +1,5 @@
 //! What is asked for, and of one row: every row, or those with one extension, MIME type or class.
-ghost use Rattle.std.specs.Prelude.{◌≡◌, ◌↔◌, ◌<◌, ℕ, IsTrue};
+ghost use Rattle.std.specs.Prelude.{◌≡◌, ◌↔◌, ◌<◌, IsTrue};
 ghost use Rattle.infer.specs.Listed.{number_of};
 ghost use Rattle.infer.specs.Questions.{IsAsked};
 ghost use Rattle.infer.specs.Row.{Accepts};
@@ -113,50 +113,6 @@ pub fn takes<Q: Question>(i: usize, question: &Q, buf: &[u8]) -> bool
     match rows().get(i) {
         Some(row) => question.asks_for(&row.file_type) && row.accepts(buf),
         None => false,
-    }
-}
-
-/// The number of a row, known by its type.
-pub trait Numbered {
-    ghost NUMBER: { ℕ };
-
-    const NUMBER: usize;
-}
-
-/// Row `I`.
-pub struct At<const I: usize>;
-
-impl<const I: usize> Numbered for At<I> {
-    ghost NUMBER = { I };
-
-    const NUMBER: usize = I;
-}
-
-/// How the rows of a chain are compiled.
-pub trait Way {
-    /// Whether row `N` is one that the question asks for, and accepts `buf`.
-    fn takes<N: Numbered, Q: Question>(question: &Q, buf: &[u8]) -> bool
-        ensures { IsTrue result ↔ RowHas (Takes (Q.asked question.now) buf.now) N.NUMBER };
-}
-
-/// Each row stands in its chain from the start.
-pub struct InPlace;
-
-/// Each row is a function first, which shrinks before it is put into its chain: to nothing if the row is not asked for. So the
-/// chains of the classes, which ask for few rows, take half the time to compile.
-pub struct Shrunk;
-
-impl Way for InPlace {
-    #[inline(always)]
-    fn takes<N: Numbered, Q: Question>(question: &Q, buf: &[u8]) -> bool {
-        takes(N::NUMBER, question, buf)
-    }
-}
-
-impl Way for Shrunk {
-    #[inline]
-    fn takes<N: Numbered, Q: Question>(question: &Q, buf: &[u8]) -> bool {
-        takes(N::NUMBER, question, buf)
     }
 }
 

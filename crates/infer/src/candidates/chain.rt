@@ -7,7 +7,7 @@ ghost use Rattle.infer.specs.Questions.{IsAsked};
 ghost use Rattle.infer.specs.Row.{Accepts};
 ghost use Rattle.infer.specs.Walks.{IsFirstAmong, RowHas, Takes, row_numbered};
 
-use crate::ask::question::{At, InPlace, Question, Shrunk, Way, is_asked};
+use crate::ask::question::{Question, is_asked, takes};
 use crate::table::rows::{DOCX, HTML, LZ4, PPTX, XLSX, XML, ZST};
 use infer_deep::archive::after_skippable_frames;
 use infer_deep::doc::deciding_folder;
@@ -22,7 +22,7 @@ pub trait Chain {
     ghost rows: { Self → List ℕ };
 
     /// The first that accepts `buf`, of those that are asked for.
-    fn first<W: Way, Q: Question>(&self, question: &Q, buf: &[u8]) -> Option<usize>
+    fn first<Q: Question>(&self, question: &Q, buf: &[u8]) -> Option<usize>
         ensures { IsFirstAmong (RowHas (Takes (Q.asked question.now) buf.now))
             (rows self.now) result };
 }
@@ -71,7 +71,7 @@ impl Chain for End {
     ghost rows = { λ _. [] };
 
     #[inline(always)]
-    fn first<W: Way, Q: Question>(&self, _question: &Q, _buf: &[u8]) -> Option<usize> {
+    fn first<Q: Question>(&self, _question: &Q, _buf: &[u8]) -> Option<usize> {
         None
     }
 }
@@ -80,11 +80,11 @@ impl<const I: usize, C: Chain> Chain for Then<I, C> {
     ghost rows = { λ s. I ∷ C.rows s.0 };
 
     #[inline(always)]
-    fn first<W: Way, Q: Question>(&self, question: &Q, buf: &[u8]) -> Option<usize> {
-        if W::takes::<At<I>, Q>(question, buf) {
+    fn first<Q: Question>(&self, question: &Q, buf: &[u8]) -> Option<usize> {
+        if takes(I, question, buf) {
             return Some(I);
         }
-        self.0.first::<W, Q>(question, buf)
+        self.0.first(question, buf)
     }
 }
 
@@ -92,17 +92,17 @@ impl<const I: usize, const J: usize, const K: usize, C: Chain> Chain for ThenThr
     ghost rows = { λ s. I ∷ J ∷ K ∷ C.rows s.0 };
 
     #[inline(always)]
-    fn first<W: Way, Q: Question>(&self, question: &Q, buf: &[u8]) -> Option<usize> {
-        if W::takes::<At<I>, Q>(question, buf) {
+    fn first<Q: Question>(&self, question: &Q, buf: &[u8]) -> Option<usize> {
+        if takes(I, question, buf) {
             return Some(I);
         }
-        if W::takes::<At<J>, Q>(question, buf) {
+        if takes(J, question, buf) {
             return Some(J);
         }
-        if W::takes::<At<K>, Q>(question, buf) {
+        if takes(K, question, buf) {
             return Some(K);
         }
-        self.0.first::<W, Q>(question, buf)
+        self.0.first(question, buf)
     }
 }
 
@@ -112,10 +112,10 @@ impl<C: Chain> Chain for ThenOffice<C> {
     ghost rows = { λ s. DOCX ∷ XLSX ∷ PPTX ∷ C.rows s.0 };
 
     #[inline(always)]
-    fn first<W: Way, Q: Question>(&self, question: &Q, buf: &[u8]) -> Option<usize> {
+    fn first<Q: Question>(&self, question: &Q, buf: &[u8]) -> Option<usize> {
         match office_row(question, buf) {
             Some(row) => Some(row),
-            None => self.0.first::<W, Q>(question, buf),
+            None => self.0.first(question, buf),
         }
     }
 }
@@ -125,15 +125,15 @@ impl<const I: usize, const J: usize, S: Shared<I, J>, C: Chain> Chain for ThenTw
 
     #[tactic(auto, using(crate::proofs::CandidateLemmas::taken_alike), unfolding(crate::specs::Walks::IsFirstAmong))]
     #[inline(always)]
-    fn first<W: Way, Q: Question>(&self, question: &Q, buf: &[u8]) -> Option<usize> {
+    fn first<Q: Question>(&self, question: &Q, buf: &[u8]) -> Option<usize> {
         let rest = self.0.after(question, buf);
-        if W::takes::<At<I>, Q>(question, rest) {
+        if takes(I, question, rest) {
             return Some(I);
         }
-        if W::takes::<At<J>, Q>(question, rest) {
+        if takes(J, question, rest) {
             return Some(J);
         }
-        self.1.first::<W, Q>(question, buf)
+        self.1.first(question, buf)
     }
 }
 
@@ -165,8 +165,8 @@ impl<C: Chain> Chain for Outlined<C> {
     ghost rows = { λ s. C.rows s.0 };
 
     #[inline(never)]
-    fn first<W: Way, Q: Question>(&self, question: &Q, buf: &[u8]) -> Option<usize> {
-        self.0.first::<W, Q>(question, buf)
+    fn first<Q: Question>(&self, question: &Q, buf: &[u8]) -> Option<usize> {
+        self.0.first(question, buf)
     }
 }
 
@@ -178,7 +178,7 @@ impl<C: Chain> Outlined<C> {
         ensures { IsFirstAmong (RowHas (Takes (Q.asked question.now) buf.now)) (C.rows self.now.0)
             (row_numbered result) }
     {
-        match self.0.first::<InPlace, Q>(question, buf) {
+        match self.0.first(question, buf) {
             Some(row) => row as u32,
             None => NO_ROW,
         }
@@ -194,13 +194,12 @@ pub trait Told {
             (told result) };
 }
 
-/// For class tests, each of which asks for few rows.
 impl Told for Option<usize> {
     ghost told = { λ row. row };
 
     #[inline(always)]
     fn of<C: Chain, Q: Question>(chain: &Outlined<C>, question: &Q, buf: &[u8]) -> Option<usize> {
-        chain.first::<Shrunk, Q>(question, buf)
+        chain.first(question, buf)
     }
 }
 
