@@ -11,7 +11,7 @@ from typing import Iterator, NamedTuple
 
 from texts import TOP, kept, text_of
 
-# The crates whose contracts callers rely on, each on those before it, with what one of them is for.
+# The crates whose contracts callers rely on, those first that callers begin with, each with what it is for.
 CRATES = {
     "infer": "rows and answers", "infer_more": "further rows, and types of a text", "infer_named": "a name and its bytes",
     "infer_sniff": "growing input", "infer_tool": "the program",
