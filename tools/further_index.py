@@ -40,14 +40,15 @@ pub(crate) fn found_below(buf: &[u8], row: usize) -> usize
     }}
 }}
 """
-ROW_AT = """//! Made by `tools/tables` from the further rows: each by its number.
-ghost use Rattle.std.specs.Prelude.{{◌≡◌, IfSome, IsTrue, option_map, slice_get}};
+BY_NUMBER = """//! Made by `tools/tables` from the further rows: each by its number, and code of its own for each.
+ghost use Rattle.std.specs.Prelude.{{◌≡◌, ◌↔◌, IfSome, IsTrue, option_map, slice_get}};
 ghost use Rattle.infer_more.specs.Ended.{{ended_listed, ended_shown}};
 ghost use Rattle.infer_more.specs.Listed.{{row_listed}};
 ghost use Rattle.infer_more.specs.Row.{{is_row_closed}};
 ghost use Rattle.infer_more.specs.Table.{{further}};
+ghost use Rattle.infer_more.specs.Wider.{{WidensAt}};
 
-use crate::table::{{FurtherRow, row_in_lists, row_of}};
+use crate::table::{{FurtherRow, row_in_lists, row_of, widens_any, widens_row}};
 
 /// Row `i`, by one look: the compiler makes a table of the addresses.
 pub(crate) fn row_at(i: usize) -> Option<&'static FurtherRow>
@@ -61,6 +62,17 @@ pub(crate) fn row_at(i: usize) -> Option<&'static FurtherRow>
         _ => row_in_lists(i),
     }}
 }}
+
+/// Whether further row `i` has this parent and accepts the buffer: code of its own for each row.
+#[inline(never)]
+pub(crate) fn widens(i: usize, parent: Option<usize>, buf: &[u8]) -> bool
+    ensures {{ IsTrue result ↔ WidensAt parent buf.now i }}
+{{
+    match i {{
+{}
+        _ => widens_any(i, parent, buf),
+    }}
+}}
 """
 NO_OTHER_PARENT = """-- Made by `tools/tables` from the further rows: no row that the code does not name is the parent of one.
 use Rattle.infer_more.proofs.Common.{{◌∷◌, [], None, arith, refl, archives, code, further, headers, images, late, markup, media, packages, records}}
@@ -71,23 +83,6 @@ pub returns-in_default : goal.returns-in_default
 unfolding further archives code headers images late markup media packages records
 returns-in_default c =
     (None, none_below_others ({parents} ∷ []) refl c.args.row {differ} c.args.buf.now, refl)
-"""
-BY_ROW = """//! Made by `tools/tables` from the further rows: code of its own for each of them.
-ghost use Rattle.std.specs.Prelude.{{◌↔◌, IsTrue}};
-ghost use Rattle.infer_more.specs.Wider.{{WidensAt}};
-
-use crate::tried::{{widens_any, widens_row}};
-
-/// Whether further row `i` has this parent and accepts the buffer.
-#[inline(never)]
-pub(crate) fn widens(i: usize, parent: Option<usize>, buf: &[u8]) -> bool
-    ensures {{ IsTrue result ↔ WidensAt parent buf.now i }}
-{{
-    match i {{
-{}
-        _ => widens_any(i, parent, buf),
-    }}
-}}
 """
 # A text or a character in the code.
 TEXT = r"""(?:"(?:[^"\\]|\\.)*"|'(?:[^'\\]|\\.)*')"""
@@ -546,14 +541,9 @@ def no_other_parent(rows, parents):
     return NO_OTHER_PARENT.format(parents=" ∷ ".join(map(str, listed)), differ=differ)
 
 
-def row_at(rows):
-    """The file with each row by its number."""
-    return ROW_AT.format(arms(range(len(rows)), "row_of::<{}>()"))
-
-
-def by_row(rows):
-    """The file with code for each row."""
-    return BY_ROW.format(arms(range(len(rows)), "widens_row::<{}>(parent, buf)"))
+def by_number(rows):
+    """The file with each row by its number, and with code for each."""
+    return BY_NUMBER.format(*(arms(range(len(rows)), it) for it in ("row_of::<{}>()", "widens_row::<{}>(parent, buf)")))
 
 
 def text(rows, parents):

@@ -1,17 +1,24 @@
-//! What the further rows answer.
-ghost use Rattle.std.specs.Prelude.{◌≡◌, ◌+◌, ◌<◌, IfSome, Some, option_map};
-ghost use Rattle.infer.specs.First.{IsFirstOf};
+//! What the further rows answer, and rows by their numbers, built-in and further.
+ghost use Rattle.std.specs.Prelude.{◌≡◌, ◌↔◌, ◌+◌, ◌<◌, ◌≤◌, IfSome, IsTrue, None, Some, length, option_map, slice_get};
+ghost use Rattle.std.specs.List.{HoldsAt};
+ghost use Rattle.infer.specs.First.{IsFirstOf, SomeHas};
 ghost use Rattle.infer.specs.Row.{Accepts};
 ghost use Rattle.infer.specs.Table.{table};
 ghost use Rattle.infer.specs.Triple.{triple_of};
 ghost use Rattle.infer.specs.declared.table.rows.TheConstants.{ROW_COUNT};
-ghost use Rattle.infer_more.specs.Wider.{IsWidened, IsWider, IsWiderAnswer};
+ghost use Rattle.infer_more.specs.Ended.{ended_listed, ended_shown};
+ghost use Rattle.infer_more.specs.Listed.{row_listed};
+ghost use Rattle.infer_more.specs.Table.{further};
+ghost use Rattle.infer_more.specs.Wider.{AcceptsAt, IsWidened, IsWider, IsWiderAnswer, parent_at, shown};
 ghost use Rattle.infer_more.specs.declared.index.generated.TheConstants.{FURTHER_COUNT};
 
 use crate::index::asked::found_free;
-use crate::index::found_below;
-use crate::rows::row;
+use crate::index::{FURTHER_COUNT, found_below};
+use crate::signature;
+use crate::signature::ANY;
+use crate::table::{EndedTexts, FurtherRow, row_at};
 use infer::Type;
+use infer::rows::{ROW_COUNT, numbers as law_numbers};
 
 /// The number of the wider answer of a buffer whose built-in answer is this.
 #[inline(always)]
@@ -49,4 +56,138 @@ pub fn get(buf: &[u8]) -> Option<Type>
     ensures { IsWiderAnswer buf.now (option_map triple_of result) }
 {
     get_from(infer::position(buf), buf)
+}
+
+/// A type keeps no matcher, so it is given one that accepts nothing.
+fn never(_buf: &[u8]) -> bool {
+    false
+}
+
+/// The type of a further row.
+fn type_of(row: &FurtherRow) -> Type
+    ensures { triple_of result ≡ (row_listed row.now).shows }
+{
+    Type::new(row.matcher_type, row.mime_type, row.extension, never)
+}
+
+/// The type of further row `i`, counted among these.
+#[inline(never)]
+fn further_type(i: usize) -> Option<Type>
+    ensures { option_map triple_of result ≡ option_map (λ r. r.shows) (slice_get further i) }
+{
+    match row_at(i) {
+        Some(row) => Some(type_of(row)),
+        None => None,
+    }
+}
+
+/// The type of row `i`, built-in or further.
+#[tactic(auto, using(crate::proofs::ShownLemmas::shown_built_in, crate::proofs::ShownLemmas::shown_further))]
+#[inline(always)]
+pub fn row(i: usize) -> Option<Type>
+    ensures { option_map triple_of result ≡ slice_get shown i }
+{
+    law_numbers();
+    if i < ROW_COUNT {
+        return infer::row(i);
+    }
+    further_type(i - ROW_COUNT)
+}
+
+/// The texts of further row `i`, each with a zero after it.
+#[tactic(auto, using(crate::proofs::ShownLemmas::shown_further))]
+pub fn ended_texts(i: usize) -> Option<&'static EndedTexts>
+    ensures built_in { i < ROW_COUNT → result ≡ None }
+    ensures further { ROW_COUNT ≤ i → option_map (λ texts. ended_listed texts.now) result
+        ≡ option_map ended_shown (slice_get shown i) }
+{
+    law_numbers();
+    if i < ROW_COUNT {
+        return None;
+    }
+    match row_at(i - ROW_COUNT) {
+        Some(row) => Some(&row.ended),
+        None => None,
+    }
+}
+
+/// The number of the parent of row `i`.
+pub fn parent(i: usize) -> Option<usize>
+    ensures { result ≡ parent_at i }
+{
+    if i < ROW_COUNT {
+        return None;
+    }
+    match row_at(i - ROW_COUNT) {
+        Some(row) => row.parent,
+        None => None,
+    }
+}
+
+/// Whether the signature of row `i`, built-in or further, accepts the buffer.
+pub fn accepts(buf: &[u8], i: usize) -> bool
+    ensures { IsTrue result ↔ AcceptsAt buf.now i }
+{
+    if i < ROW_COUNT {
+        return infer::accepts(buf, i);
+    }
+    match row_at(i - ROW_COUNT) {
+        Some(row) => signature::accepts::<ANY>(row.signature, buf),
+        None => false,
+    }
+}
+
+/// Whether the texts are the same.
+fn is_same(a: &str, b: &str) -> bool
+    ensures { IsTrue result ↔ (a.now ≡ b.now) }
+{
+    a == b
+}
+
+/// Whether further row `i` has this extension.
+#[tactic(auto, using(crate::proofs::RowLemmas::has_no_row, crate::proofs::RowLemmas::has_row))]
+fn shows_extension(i: usize, extension: &str) -> bool
+    ensures { IsTrue result ↔ ((i < length further)
+        × HoldsAt (λ r. r.shows.extension ≡ extension.now) further i) }
+{
+    match row_at(i) {
+        Some(row) => is_same(row.extension, extension),
+        None => false,
+    }
+}
+
+/// Whether some further row has this extension.
+pub fn has_extension(extension: &str) -> bool
+    ensures { IsTrue result ↔ SomeHas (λ r. r.shows.extension ≡ extension.now) further }
+{
+    for i in 0..FURTHER_COUNT {
+        if shows_extension(i, extension) {
+            return true;
+        }
+    }
+    false
+}
+
+/// Whether further row `i` has this MIME type.
+#[tactic(auto, using(crate::proofs::RowLemmas::has_no_row, crate::proofs::RowLemmas::has_row))]
+fn shows_mime_type(i: usize, mime_type: &str) -> bool
+    ensures { IsTrue result ↔ ((i < length further)
+        × HoldsAt (λ r. r.shows.mime_type ≡ mime_type.now) further i) }
+{
+    match row_at(i) {
+        Some(row) => is_same(row.mime_type, mime_type),
+        None => false,
+    }
+}
+
+/// Whether some further row has this MIME type.
+pub fn has_mime_type(mime_type: &str) -> bool
+    ensures { IsTrue result ↔ SomeHas (λ r. r.shows.mime_type ≡ mime_type.now) further }
+{
+    for i in 0..FURTHER_COUNT {
+        if shows_mime_type(i, mime_type) {
+            return true;
+        }
+    }
+    false
 }

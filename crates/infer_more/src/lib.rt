@@ -7,8 +7,8 @@
 //!
 //! The numbers of the further rows go on from the built-in ones: the first has the number `ROW_COUNT`.
 //!
-//! Each module uses only those before it: `signature`, one function that decides any signature; `table`, the rows; `tried`,
-//! that function for each of them; `index`, which rows are asked; `rows`, each by its number; `answers`, what they answer;
+//! Each module uses only those before it: `signature`, one function that decides any signature; `table`, the rows, and that
+//! function for each of them; `index`, which rows are asked; `answers`, what they answer, and each row by its number;
 //! `types`, those that a text describes; `added`, the rows of a caller; `read`, the front of a file or of a reader; `laws`,
 //! facts about all of these; `samples`; `open`, what the bytes after a buffer can bring a signature; `decided`, what they
 //! can change of the answer.
@@ -34,11 +34,9 @@ mod index;
 pub mod laws;
 mod open;
 mod read;
-mod rows;
 mod samples;
 mod signature;
 mod table;
-mod tried;
 pub mod types;
 
 pub use index::FURTHER_COUNT;
@@ -84,7 +82,7 @@ pub fn position(buf: &[u8]) -> Option<usize>
 pub fn row(i: usize) -> Option<Type>
     ensures { option_map triple_of result ≡ slice_get shown i }
 {
-    rows::row(i)
+    answers::row(i)
 }
 
 /// The texts of further row `i`, each with a zero after it, and `None` of any other number.
@@ -93,14 +91,14 @@ pub fn ended_texts(i: usize) -> Option<&'static EndedTexts>
     ensures further { ROW_COUNT ≤ i → option_map (λ texts. ended_listed texts.now) result
         ≡ option_map ended_shown (slice_get shown i) }
 {
-    rows::ended_texts(i)
+    answers::ended_texts(i)
 }
 
 /// The number of the built-in row that is the parent of further row `i`, and `None` if it has none or is no further row.
 pub fn parent(i: usize) -> Option<usize>
     ensures { result ≡ parent_at i }
 {
-    rows::parent(i)
+    answers::parent(i)
 }
 
 /// Whether the signature of row `i`, built-in or further, accepts `buf`, which need not be the answer. A further row's
@@ -108,7 +106,7 @@ pub fn parent(i: usize) -> Option<usize>
 pub fn accepts(buf: &[u8], i: usize) -> bool
     ensures { IsTrue result ↔ AcceptsAt buf.now i }
 {
-    rows::accepts(buf, i)
+    answers::accepts(buf, i)
 }
 
 /// Whether no bytes after `buf` change its wider answer, which is the number of the row or that there is none. A yes is
@@ -136,14 +134,14 @@ pub fn may_become(buf: &[u8], i: usize) -> bool
 pub fn is_supported(extension: &str) -> bool
     ensures { IsTrue result ↔ ShowsExtension extension.now }
 {
-    infer::is_supported(extension) || rows::has_extension(extension)
+    infer::is_supported(extension) || answers::has_extension(extension)
 }
 
 /// Whether some row, built-in or further, has this MIME type.
 pub fn is_mime_supported(mime_type: &str) -> bool
     ensures { IsTrue result ↔ ShowsMimeType mime_type.now }
 {
-    infer::is_mime_supported(mime_type) || rows::has_mime_type(mime_type)
+    infer::is_mime_supported(mime_type) || answers::has_mime_type(mime_type)
 }
 
 /// Whether `buf` is text: a byte order mark first, or at least one byte and none of 00 to 08, 0B, 0E to 1A and 1C to 1F.

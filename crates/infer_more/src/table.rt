@@ -1,11 +1,14 @@
-//! The further rows, in the order in which they are asked.
-ghost use Rattle.std.specs.Prelude.{◌≡◌, All, IfSome, IsTrue, option_map, slice_get};
+//! The further rows, in the order in which they are asked, and whether each widens an answer: a function for each row, which
+//! the compiler makes of the evaluator.
+ghost use Rattle.std.specs.Prelude.{◌≡◌, ◌↔◌, All, IfSome, IsTrue, option_map, slice_get};
 ghost use Rattle.infer_more.specs.Ended.{ended_listed, ended_shown};
 ghost use Rattle.infer_more.specs.Listed.{AreEnded, joined, row_listed};
 ghost use Rattle.infer_more.specs.Row.{is_row_closed};
 ghost use Rattle.infer_more.specs.Table.{further};
+ghost use Rattle.infer_more.specs.Wider.{Widens, WidensAt};
 
-use crate::signature::Alternative;
+use crate::signature;
+use crate::signature::{ANY, Alternative};
 use infer::MatcherType;
 
 /// The texts of a row, each with a zero after it, as C wants them.
@@ -92,7 +95,7 @@ mod media;
 mod packages;
 mod records;
 
-pub(crate) use generated::row_at;
+pub(crate) use generated::{row_at, widens};
 
 /// The rows, list by list.
 #[inline(always)]
@@ -138,4 +141,34 @@ pub(crate) fn row_of<const ROW: usize>() -> Option<&'static FurtherRow>
     ensures closed { IfSome result (λ row. IsTrue (is_row_closed (row_listed row.now))) }
 {
     row_in_lists(ROW)
+}
+
+/// Whether the row has this parent and accepts the buffer.
+#[inline(always)]
+fn row_widens<const ROW: usize>(row: &FurtherRow, parent: Option<usize>, buf: &[u8]) -> bool
+    requires { IsTrue (is_row_closed (row_listed row.now)) }
+    ensures { IsTrue result ↔ Widens parent buf.now (row_listed row.now) }
+{
+    row.parent == parent && signature::accepts::<ROW>(row.signature, buf)
+}
+
+/// [`widens`] of row `ROW`. It is no part of [`widens`] from the start, so that the compiler makes it by itself first.
+fn widens_row<const ROW: usize>(parent: Option<usize>, buf: &[u8]) -> bool
+    ensures { IsTrue result ↔ WidensAt parent buf.now ROW }
+{
+    match row_of::<ROW>() {
+        Some(row) => row_widens::<ROW>(row, parent, buf),
+        None => false,
+    }
+}
+
+/// [`widens`] of any row, by the evaluator itself.
+#[inline(never)]
+fn widens_any(i: usize, parent: Option<usize>, buf: &[u8]) -> bool
+    ensures { IsTrue result ↔ WidensAt parent buf.now i }
+{
+    match row_at(i) {
+        Some(row) => row_widens::<ANY>(row, parent, buf),
+        None => false,
+    }
 }

@@ -13,7 +13,7 @@ use crate::index::{
     Below, Entry, Except, FURTHER_COUNT, Gate, Guard, Named, Parentless, Range, Rooted, Texts,
     index,
 };
-use crate::tried::widens;
+use crate::table::widens;
 use infer::rows::ROW_COUNT;
 use infer_deep::doc::class_id;
 use infer_deep::places::stands_at;

@@ -1,7 +1,7 @@
 use Rattle.infer_more.proofs.Common.{◌≡◌, ◌≤◌, below_more, length, arith, false≢true, Further, further}
 use Rattle.infer_more.proofs.RowLemmas.{none_of_all}
 use Rattle.infer_more.proofs.TableLemmas.{length-further}
-use Rattle.infer_more.proofs.rows.has_mime_type.Goals as goal
+use Rattle.infer_more.proofs.answers.has_mime_type.Goals as goal
 
 pub loop-i-preserved : goal.loop-i-preserved
 loop-i-preserved c = below_more _ _ c.loop-i.invariant (λ h. false≢true (c.if-shows_mime_type.ensures.1 h))
