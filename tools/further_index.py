@@ -75,12 +75,13 @@ pub(crate) fn widens(i: usize, parent: Option<usize>, buf: &[u8]) -> bool
 }}
 """
 NO_OTHER_PARENT = """-- Made by `tools/tables` from the further rows: no row that the code does not name is the parent of one.
-use Rattle.infer_more.proofs.Common.{{◌∷◌, [], None, arith, refl, archives, code, further, headers, images, late, markup, media, packages, records}}
+use Rattle.infer_more.proofs.Common.{{◌∷◌, [], None, arith, refl}}
+use Rattle.infer_more.proofs.Common.{{{names}}}
 use Rattle.infer_more.proofs.BelowLemmas.{{none_below_others}}
 use Rattle.infer_more.proofs.index.generated.found_below.Goals as goal
 
 pub returns-in_default : goal.returns-in_default
-unfolding further archives code headers images late markup media packages records
+unfolding {unfolded}
 returns-in_default c =
     (None, none_below_others ({parents} ∷ []) refl c.args.row {differ} c.args.buf.now, refl)
 """
@@ -538,7 +539,8 @@ def no_other_parent(rows, parents):
     differ = "tt"
     for _ in listed:
         differ = f"(λ e. omega arith, {differ})"
-    return NO_OTHER_PARENT.format(parents=" ∷ ".join(map(str, listed)), differ=differ)
+    names = sorted(re.findall(r"^unfoldable pub (\w+) : List Further$", text_of("crates/infer_more/specs/Table.antt"), re.M))
+    return NO_OTHER_PARENT.format(parents=" ∷ ".join(map(str, listed)), differ=differ, names=", ".join(names), unfolded=" ".join(names))
 
 
 def by_number(rows):

@@ -385,16 +385,16 @@ module _ (index : RowIndex) (all : FindsAll index) (b : List ℕ) (bytes : IsBuf
       ]))
 
 -- as computed of sixteen rows a step, with room for more of them: a refusal shows the numbers of the rows that are not found
-pub each_below : (ways : List below.Below) → NoneRefused (is_row_below_found ways) FURTHER_COUNT 0 16 → IsTrue (are_true 0 ways) → EachBelowIsFound ways
+pub each_below : (ways : List below.Below) → NoneRefused (is_row_below_found ways) FURTHER_COUNT 0 64 → IsTrue (are_true 0 ways) → EachBelowIsFound ways
 each_below ways none told = record {
-  found = λ i lt. let many = length-further in passed (is_row_below_found ways) FURTHER_COUNT 16 none (omega arith) i (omega arith);
+  found = λ i lt. let many = length-further in passed (is_row_below_found ways) FURTHER_COUNT 64 none (omega arith) i (omega arith);
   told = told;
 }
 
-pub each_free : (index : Parentless) → NoneRefused (is_row_free_found index) FURTHER_COUNT 0 16 → IsTrue (are_texts index.texts)
+pub each_free : (index : Parentless) → NoneRefused (is_row_free_found index) FURTHER_COUNT 0 64 → IsTrue (are_texts index.texts)
     → IsTrue (are_rooted index.roots.now) → EachFreeIsFound index
 each_free index none texts roots = record {
-  found = λ i lt. let many = length-further in passed (is_row_free_found index) FURTHER_COUNT 16 none (omega arith) i (omega arith);
+  found = λ i lt. let many = length-further in passed (is_row_free_found index) FURTHER_COUNT 64 none (omega arith) i (omega arith);
   texts = texts;
   roots = roots;
 }

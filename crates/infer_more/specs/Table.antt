@@ -5,8 +5,8 @@ use Rattle.infer_sig.specs.Signature as fixed
 use Rattle.infer_sig.specs.Signature.{text, byte, any_of, between}
 use Rattle.infer.specs.Triple.{triple}
 use Rattle.infer.specs.declared.table.file_type.MatcherType.{MatcherType}
-use Rattle.infer.specs.declared.table.file_type.MatcherType.TheVariants.{App, Archive, Audio, Doc, Font, Image, Text, Video}
-use Rattle.infer.specs.declared.table.rows.TheConstants.{DER, ELF, HEIF, HTML, JPEG2000, MSI, ODP, ODS, ODT, OGG, PEM, PNG, PS, SHELLSCRIPT, SQLITE, TIFF, XML, ZIP}
+use Rattle.infer.specs.declared.table.file_type.MatcherType.TheVariants.{App, Archive, Audio, Book, Doc, Font, Image, Text, Video}
+use Rattle.infer.specs.declared.table.rows.TheConstants.{CAB, DER, DJVU, ELF, GZ, HEIF, HTML, JPEG2000, MSI, ODP, ODS, ODT, OGG, PEM, PNG, PS, RPM, SHELLSCRIPT, SQLITE, TIFF, XML, ZIP}
 use Rattle.infer_more.specs.Row.{Further}
 use Rattle.infer_notation.specs.Alternative.{Alternative, at_least, binary_bytes, related}
 
@@ -174,7 +174,7 @@ media =
     ∷ row Text (codes "application/x-subrip") (codes "srt") None (related subrip ∷ [])
     ∷ []
 
--- rows that leave the first bytes free, and texts
+-- rows that leave the first bytes free
 unfoldable pub late : List Further
 late =
     row Archive (codes "application/x-lzh-compressed") (codes "lzh") None (at_least 7 (text 2 (codes "-lh") ∷ byte 5 (between 0x30 0x37) ∷ text 6 (codes "-") ∷ []) ∷ at_least 7 (text 2 (codes "-lh") ∷ byte 5 (any_of (0x64 ∷ 0x78 ∷ [])) ∷ text 6 (codes "-") ∷ []) ∷ at_least 7 (text 2 (codes "-lz") ∷ byte 5 (any_of (0x34 ∷ 0x35 ∷ 0x73 ∷ [])) ∷ text 6 (codes "-") ∷ []) ∷ at_least 7 (text 2 (codes "-pm") ∷ byte 5 (between 0x30 0x32) ∷ text 6 (codes "-") ∷ []) ∷ [])
@@ -193,11 +193,203 @@ late =
     ∷ row Archive (codes "application/x-ext-filesystem") (codes "ext2") None (at_least 1086 (text 1080 (0x53 ∷ 0xEF ∷ []) ∷ byte 1082 (between 0x00 0x07) ∷ text 1083 (0x00 ∷ []) ∷ byte 1084 (between 0x01 0x03) ∷ text 1085 (0x00 ∷ []) ∷ []) ∷ [])
     ∷ row Video (codes "video/mp2t") (codes "ts") None (at_least 753 (text 0 (codes "G") ∷ text 188 (codes "G") ∷ text 376 (codes "G") ∷ text 564 (codes "G") ∷ text 752 (codes "G") ∷ []) ∷ at_least 773 (text 4 (codes "G") ∷ text 196 (codes "G") ∷ text 388 (codes "G") ∷ text 580 (codes "G") ∷ text 772 (codes "G") ∷ []) ∷ [])
     ∷ row Archive (codes "application/x-tar") (codes "tar") None (related tar_checksum ∷ [])
-    ∷ row Text (codes "application/x-ndjson") (codes "ndjson") None (related json_lines ∷ [])
+    ∷ []
+
+-- kinds of ZIP archives: OpenDocument, StarOffice and others
+unfoldable pub office : List Further
+office =
+    row Doc (codes "application/vnd.oasis.opendocument.chart") (codes "odc") (Some ZIP) (at_least 80 (text 0 (codes "PK" ++ 0x03 ∷ 0x04 ∷ []) ∷ text 30 (codes "mimetypeapplication/vnd.oasis.opendocument.chartPK") ∷ []) ∷ [])
+    ∷ row Image (codes "application/vnd.oasis.opendocument.graphics-template") (codes "otg") (Some ZIP) (at_least 92 (text 0 (codes "PK" ++ 0x03 ∷ 0x04 ∷ []) ∷ text 30 (codes "mimetypeapplication/vnd.oasis.opendocument.graphics-templatePK") ∷ []) ∷ [])
+    ∷ row Doc (codes "application/vnd.sun.xml.writer") (codes "sxw") (Some ZIP) (at_least 70 (text 0 (codes "PK" ++ 0x03 ∷ 0x04 ∷ []) ∷ text 30 (codes "mimetypeapplication/vnd.sun.xml.writerPK") ∷ []) ∷ [])
+    ∷ row Image (codes "application/x-karbon") (codes "karbon") (Some ZIP) (at_least 58 (text 0 (codes "PK" ++ 0x03 ∷ 0x04 ∷ []) ∷ text 30 (codes "mimetypeapplication/x-karbon") ∷ []) ∷ [])
+    ∷ row Doc (codes "application/x-kchart") (codes "chrt") (Some ZIP) (at_least 58 (text 0 (codes "PK" ++ 0x03 ∷ 0x04 ∷ []) ∷ text 30 (codes "mimetypeapplication/x-kchart") ∷ []) ∷ [])
+    ∷ row Doc (codes "application/x-kivio") (codes "flw") (Some ZIP) (at_least 57 (text 0 (codes "PK" ++ 0x03 ∷ 0x04 ∷ []) ∷ text 30 (codes "mimetypeapplication/x-kivio") ∷ []) ∷ [])
+    ∷ row Doc (codes "application/vnd.apple.keynote") (codes "key") (Some ZIP) (related (first_entry_is (codes "index.apxl")) ∷ [])
+    ∷ row App (codes "application/vnd.apple.pkpass") (codes "pkpass") (Some ZIP) (related (first_entry_is (codes "pass.json")) ∷ [])
+    ∷ row Book (codes "application/x-zip-compressed-fb2") (codes "fbz") (Some ZIP) (related (first_entry_ends_in (codes ".fb2")) ∷ [])
+    ∷ []
+
+-- kinds of other files that have a parent: PEM, JPEG 2000, Ogg, PostScript, RPM, scripts and gzip
+unfoldable pub kinds : List Further
+kinds =
+    row App (codes "application/pkix-crl") (codes "crl") (Some PEM) (at_least 24 (text 0 (codes "-----BEGIN X509 CRL-----") ∷ []) ∷ [])
+    ∷ row Image (codes "image/jpm") (codes "jpm") (Some JPEG2000) (at_least 24 (text 16 (codes "ftypjpm ") ∷ []) ∷ [])
+    ∷ row Video (codes "video/mj2") (codes "mj2") (Some JPEG2000) (at_least 24 (text 16 (codes "ftypmjp2") ∷ []) ∷ at_least 24 (text 16 (codes "ftypmj2s") ∷ []) ∷ [])
+    ∷ row Image (codes "image/vnd.djvu+multipage") (codes "djvm") (Some DJVU) (at_least 16 (text 12 (codes "DJVM") ∷ []) ∷ [])
+    ∷ row Audio (codes "audio/x-speex+ogg") (codes "spx") (Some OGG) (at_least 36 (text 28 (codes "Speex   ") ∷ []) ∷ [])
+    ∷ row Font (codes "application/x-font-type1") (codes "pfa") (Some PS) (at_least 16 (text 0 (codes "%!PS-AdobeFont-1") ∷ []) ∷ at_least 13 (text 0 (codes "%!FontType1-1") ∷ []) ∷ [])
+    ∷ row Archive (codes "application/x-installshield") (codes "cab") (Some CAB) (at_least 4 (text 0 (codes "ISc(") ∷ []) ∷ [])
+    ∷ row Archive (codes "application/x-source-rpm") (codes "srpm") (Some RPM) (at_least 8 (text 6 (0x00 ∷ 0x01 ∷ []) ∷ []) ∷ [])
+    ∷ row Text (codes "text/javascript") (codes "gjs") (Some SHELLSCRIPT) (related (program (codes "gjs")) ∷ related (program (codes "cjs")) ∷ related (program (codes "qjs")) ∷ related (program (codes "rhino")) ∷ [])
+    ∷ row Text (codes "text/x-qml") (codes "qml") (Some SHELLSCRIPT) (related (program (codes "qml")) ∷ related (program (codes "qmlscene")) ∷ [])
+    ∷ row Doc (codes "application/x-kpresenter") (codes "kpr") (Some GZ) (at_least 44 (byte 3 (any_of (0x08 ∷ 0x18 ∷ [])) ∷ text 10 (codes "KOffice application/x-kpresenter" ++ 0x04 ∷ 0x06 ∷ []) ∷ []) ∷ [])
+    ∷ row Doc (codes "application/x-kword") (codes "kwd") (Some GZ) (at_least 39 (byte 3 (any_of (0x08 ∷ 0x18 ∷ [])) ∷ text 10 (codes "KOffice application/x-kword" ++ 0x04 ∷ 0x06 ∷ []) ∷ []) ∷ [])
+    ∷ row Doc (codes "application/x-kspread") (codes "ksp") (Some GZ) (at_least 41 (byte 3 (any_of (0x08 ∷ 0x18 ∷ [])) ∷ text 10 (codes "KOffice application/x-kspread" ++ 0x04 ∷ 0x06 ∷ []) ∷ []) ∷ [])
+    ∷ []
+
+-- kinds of XML
+unfoldable pub roots : List Further
+roots =
+    row Text (codes "text/x-opml+xml") (codes "opml") (Some XML) (related (root (codes "opml")) ∷ [])
+    ∷ row Book (codes "application/x-fictionbook+xml") (codes "fb2") (Some XML) (related (root (codes "FictionBook")) ∷ [])
+    ∷ row Text (codes "application/x-gtk-builder") (codes "gtkbuilder") (Some XML) (related (root (codes "interface")) ∷ [])
+    ∷ row Text (codes "text/vnd.trolltech.linguist") (codes "lingts") (Some XML) (related (root (codes "TS")) ∷ [])
+    ∷ row Text (codes "application/owl+xml") (codes "owx") (Some XML) (related (root_with (codes "Ontology") (codes "http://www.w3.org/2002/07/owl#")) ∷ [])
+    ∷ row Text (codes "application/sparql-results+xml") (codes "srx") (Some XML) (related (root_with (codes "sparql") (codes "http://www.w3.org/2005/sparql-results#")) ∷ [])
+    ∷ row Text (codes "application/metalink4+xml") (codes "meta4") (Some XML) (related (root_with (codes "metalink") (codes "urn:ietf:params:xml:ns:metalink")) ∷ [])
+    ∷ row Text (codes "application/x-nzb") (codes "nzb") (Some XML) (related (root (codes "nzb")) ∷ [])
+    ∷ row Text (codes "application/x-java-jnlp-file") (codes "jnlp") (Some XML) (related (root (codes "jnlp")) ∷ [])
+    ∷ []
+
+-- more kinds of XML, and markup without a declaration
+unfoldable pub elements : List Further
+elements =
+    row Image (codes "application/x-dia-shape") (codes "diashape") (Some XML) (related (root_with (codes "shape") (codes "http://www.daa.com.au/~james/dia-shape-ns")) ∷ [])
+    ∷ row Doc (codes "application/vnd.oasis.opendocument.text-flat-xml") (codes "fodt") (Some XML) (related (root_with (codes "document") (codes "application/vnd.oasis.opendocument.text")) ∷ [])
+    ∷ row Font (codes "application/x-font-ttx") (codes "ttx") (Some XML) (related (root (codes "ttFont")) ∷ [])
+    ∷ row Text (codes "application/x-xmp+xml") (codes "xmp") None (related (root (codes "xmpmeta")) ∷ [])
+    ∷ row Text (codes "application/mathml+xml") (codes "mml") None (related (root_with (codes "math") (codes "http://www.w3.org/1998/Math/MathML")) ∷ [])
+    ∷ row Text (codes "application/x-sami") (codes "sami") None (related (root (codes "SAMI")) ∷ related (root (codes "sami")) ∷ [])
+    ∷ []
+
+-- images of graphics systems and cameras
+unfoldable pub pictures : List Further
+pictures =
+    row Image (codes "image/ktx") (codes "ktx") None (at_least 12 (text 0 (0xAB ∷ [] ++ codes "KTX 11" ++ 0xBB ∷ 0x0D ∷ 0x0A ∷ 0x1A ∷ 0x0A ∷ []) ∷ []) ∷ [])
+    ∷ row Image (codes "image/ktx2") (codes "ktx2") None (at_least 12 (text 0 (0xAB ∷ [] ++ codes "KTX 20" ++ 0xBB ∷ 0x0D ∷ 0x0A ∷ 0x1A ∷ 0x0A ∷ []) ∷ []) ∷ [])
+    ∷ row Image (codes "image/astc") (codes "astc") None (at_least 4 (text 0 (0x13 ∷ 0xAB ∷ 0xA1 ∷ 0x5C ∷ []) ∷ []) ∷ [])
+    ∷ row Image (codes "image/x-exr") (codes "exr") None (at_least 4 (text 0 (codes "v/1" ++ 0x01 ∷ []) ∷ []) ∷ [])
+    ∷ row Image (codes "image/vnd.radiance") (codes "hdr") None (at_least 10 (text 0 (codes "#?RADIANCE") ∷ []) ∷ at_least 6 (text 0 (codes "#?RGBE") ∷ []) ∷ [])
+    ∷ row Image (codes "image/vnd.zbrush.pcx") (codes "pcx") None (at_least 66 (text 0 (0x0A ∷ []) ∷ byte 1 (any_of (0x00 ∷ 0x02 ∷ 0x03 ∷ 0x04 ∷ 0x05 ∷ [])) ∷ byte 2 (any_of (0x00 ∷ 0x01 ∷ [])) ∷ byte 3 (any_of (0x01 ∷ 0x02 ∷ 0x04 ∷ 0x08 ∷ [])) ∷ text 64 (0x00 ∷ []) ∷ byte 65 (any_of (0x01 ∷ 0x03 ∷ 0x04 ∷ [])) ∷ []) ∷ [])
+    ∷ row Image (codes "image/x-sgi") (codes "sgi") None (at_least 6 (text 0 (0x01 ∷ 0xDA ∷ []) ∷ byte 2 (any_of (0x00 ∷ 0x01 ∷ [])) ∷ byte 3 (any_of (0x01 ∷ 0x02 ∷ [])) ∷ text 4 (0x00 ∷ []) ∷ byte 5 (between 0x01 0x03) ∷ []) ∷ [])
+    ∷ row Image (codes "image/x-sun-raster") (codes "ras") None (at_least 4 (text 0 (codes "Y" ++ 0xA6 ∷ [] ++ codes "j" ++ 0x95 ∷ []) ∷ []) ∷ [])
+    ∷ row Image (codes "image/x-xwindowdump") (codes "xwd") None (at_least 12 (text 0 (0x00 ∷ 0x00 ∷ []) ∷ text 4 (0x00 ∷ 0x00 ∷ 0x00 ∷ 0x07 ∷ 0x00 ∷ 0x00 ∷ 0x00 ∷ []) ∷ byte 11 (between 0x00 0x02) ∷ []) ∷ [])
+    ∷ row Image (codes "image/x-win-bitmap") (codes "cur") None (at_least 22 (text 0 (0x00 ∷ 0x00 ∷ 0x02 ∷ 0x00 ∷ []) ∷ byte 4 (between 0x01 0x20) ∷ text 5 (0x00 ∷ []) ∷ text 9 (0x00 ∷ []) ∷ text 20 (0x00 ∷ 0x00 ∷ []) ∷ []) ∷ [])
+    ∷ row Image (codes "image/flif") (codes "flif") None (at_least 6 (text 0 (codes "FLIF") ∷ byte 4 (between 0x31 0x74) ∷ byte 5 (between 0x30 0x32) ∷ []) ∷ [])
+    ∷ row Image (codes "image/bpg") (codes "bpg") None (at_least 4 (text 0 (codes "BPG" ++ 0xFB ∷ []) ∷ []) ∷ [])
+    ∷ row Video (codes "video/x-mng") (codes "mng") None (at_least 8 (text 0 (0x8A ∷ [] ++ codes "MNG" ++ 0x0D ∷ 0x0A ∷ 0x1A ∷ 0x0A ∷ []) ∷ []) ∷ [])
+    ∷ row Image (codes "image/x-jp2-codestream") (codes "j2c") None (at_least 4 (text 0 (0xFF ∷ [] ++ codes "O" ++ 0xFF ∷ [] ++ codes "Q") ∷ []) ∷ [])
+    ∷ row Image (codes "image/x-paintshoppro") (codes "psp") None (at_least 32 (text 0 (codes "Paint Shop Pro Image File" ++ 0x0A ∷ 0x1A ∷ 0x00 ∷ 0x00 ∷ 0x00 ∷ 0x00 ∷ 0x00 ∷ []) ∷ []) ∷ [])
+    ∷ []
+
+-- images of programs
+unfoldable pub rasters : List Further
+rasters =
+    row Image (codes "image/x-miff") (codes "miff") None (at_least 14 (text 0 (codes "id=ImageMagick") ∷ []) ∷ [])
+    ∷ row Image (codes "image/dpx") (codes "dpx") None (at_least 5 (text 0 (codes "SDPX" ++ 0x00 ∷ []) ∷ []) ∷ at_least 8 (text 0 (codes "XPDS") ∷ text 6 (0x00 ∷ 0x00 ∷ []) ∷ []) ∷ [])
+    ∷ row Image (codes "image/x-sigma-x3f") (codes "x3f") None (at_least 8 (text 0 (codes "FOVb") ∷ text 5 (0x00 ∷ []) ∷ text 7 (0x00 ∷ []) ∷ []) ∷ [])
+    ∷ row Image (codes "image/x-canon-crw") (codes "crw") None (at_least 14 (text 0 (codes "II" ++ 0x1A ∷ 0x00 ∷ 0x00 ∷ 0x00 ∷ [] ++ codes "HEAPCCDR") ∷ []) ∷ [])
+    ∷ row Image (codes "image/x-gimp-gbr") (codes "gbr") None (at_least 24 (text 0 (0x00 ∷ 0x00 ∷ []) ∷ text 4 (0x00 ∷ 0x00 ∷ 0x00 ∷ 0x02 ∷ []) ∷ text 20 (codes "GIMP") ∷ []) ∷ [])
+    ∷ row Image (codes "image/x-gimp-pat") (codes "pat") None (at_least 24 (text 0 (0x00 ∷ 0x00 ∷ []) ∷ text 4 (0x00 ∷ 0x00 ∷ 0x00 ∷ 0x01 ∷ []) ∷ text 20 (codes "GPAT") ∷ []) ∷ [])
+    ∷ row Image (codes "image/vnd.ms-modi") (codes "mdi") None (at_least 4 (text 0 (codes "EP*" ++ 0x00 ∷ []) ∷ []) ∷ [])
+    ∷ row Image (codes "image/x-pgf") (codes "pgf") None (at_least 8 (text 0 (codes "PGF") ∷ byte 3 (any_of (0x32 ∷ 0x36 ∷ [])) ∷ text 6 (0x00 ∷ 0x00 ∷ []) ∷ []) ∷ [])
+    ∷ row Image (codes "image/x-3ds") (codes "3ds") None (at_least 18 (text 0 (codes "MM") ∷ text 6 (0x02 ∷ 0x00 ∷ 0x0A ∷ 0x00 ∷ 0x00 ∷ 0x00 ∷ []) ∷ text 16 (codes "==") ∷ []) ∷ [])
+    ∷ row Image (codes "image/x-ilbm") (codes "ilbm") None (at_least 12 (text 0 (codes "FORM") ∷ text 8 (codes "ILBM") ∷ []) ∷ at_least 12 (text 0 (codes "FORM") ∷ text 8 (codes "PBM ") ∷ []) ∷ [])
+    ∷ []
+
+-- modules and sounds
+unfoldable pub sounds : List Further
+sounds =
+    row Audio (codes "audio/x-it") (codes "it") None (binary_bytes (fixed.at_least 5 (text 0 (codes "IMPM") ∷ [])) ∷ [])
+    ∷ row Audio (codes "audio/x-xm") (codes "xm") None (at_least 17 (text 0 (codes "Extended Module: ") ∷ []) ∷ [])
+    ∷ row Audio (codes "audio/x-mtm") (codes "mtm") None (at_least 4 (text 0 (codes "MTM" ++ 0x10 ∷ []) ∷ []) ∷ [])
+    ∷ row Audio (codes "audio/x-med") (codes "med") None (at_least 5 (text 0 (codes "MMD") ∷ byte 3 (between 0x30 0x33) ∷ text 4 (0x00 ∷ []) ∷ []) ∷ [])
+    ∷ row Audio (codes "audio/x-mo3") (codes "mo3") None (at_least 4 (text 0 (codes "MO3") ∷ byte 3 (between 0x00 0x05) ∷ []) ∷ [])
+    ∷ row Audio (codes "audio/prs.sid") (codes "sid") None (at_least 6 (byte 0 (any_of (0x50 ∷ 0x52 ∷ [])) ∷ text 1 (codes "SID" ++ 0x00 ∷ []) ∷ byte 5 (between 0x01 0x04) ∷ []) ∷ [])
+    ∷ row Audio (codes "audio/x-nsf") (codes "nsf") None (at_least 6 (text 0 (codes "NESM" ++ 0x1A ∷ []) ∷ byte 5 (any_of (0x01 ∷ 0x02 ∷ [])) ∷ []) ∷ [])
+    ∷ row Audio (codes "audio/vnd.dts") (codes "dts") None (at_least 4 (text 0 (0x7F ∷ 0xFE ∷ 0x80 ∷ 0x01 ∷ []) ∷ []) ∷ at_least 4 (text 0 (0xFE ∷ 0x7F ∷ 0x01 ∷ 0x80 ∷ []) ∷ []) ∷ at_least 6 (text 0 (0x1F ∷ 0xFF ∷ 0xE8 ∷ 0x00 ∷ 0x07 ∷ []) ∷ byte 5 (between 0xF0 0xFF) ∷ []) ∷ at_least 6 (text 0 (0xFF ∷ 0x1F ∷ 0x00 ∷ 0xE8 ∷ []) ∷ byte 4 (between 0xF0 0xFF) ∷ text 5 (0x07 ∷ []) ∷ []) ∷ [])
+    ∷ row Audio (codes "audio/x-pn-realaudio") (codes "ra") None (at_least 5 (text 0 (codes ".ra" ++ 0xFD ∷ 0x00 ∷ []) ∷ []) ∷ [])
+    ∷ row Video (codes "application/vnd.rn-realmedia") (codes "rm") None (at_least 7 (text 0 (codes ".RMF" ++ 0x00 ∷ 0x00 ∷ 0x00 ∷ []) ∷ []) ∷ [])
+    ∷ row Audio (codes "audio/x-dff") (codes "dff") None (at_least 16 (text 0 (codes "FRM8") ∷ text 12 (codes "DSD ") ∷ []) ∷ [])
+    ∷ row Audio (codes "application/vnd.smaf") (codes "mmf") None (at_least 12 (text 0 (codes "MMMD") ∷ text 8 (codes "CNTI") ∷ []) ∷ [])
+    ∷ row Audio (codes "text/x-imelody") (codes "imy") None (at_least 13 (text 0 (codes "BEGIN:IMELODY") ∷ []) ∷ [])
+    ∷ []
+
+-- films, and what packs files
+unfoldable pub packed : List Further
+packed =
+    row Video (codes "application/mxf") (codes "mxf") None (at_least 14 (text 0 (0x06 ∷ 0x0E ∷ [] ++ codes "+4" ++ 0x02 ∷ 0x05 ∷ 0x01 ∷ 0x01 ∷ 0x0D ∷ 0x01 ∷ 0x02 ∷ 0x01 ∷ 0x01 ∷ 0x02 ∷ []) ∷ []) ∷ [])
+    ∷ row Video (codes "video/dv") (codes "dv") None (at_least 4 (text 0 (0x1F ∷ 0x07 ∷ 0x00 ∷ []) ∷ byte 3 (any_of (0x3F ∷ 0xBF ∷ [])) ∷ []) ∷ [])
+    ∷ row Video (codes "video/x-ms-wtv") (codes "wtv") None (at_least 16 (text 0 (0xB7 ∷ 0xD8 ∷ 0x00 ∷ [] ++ codes " 7I" ++ 0xDA ∷ 0x11 ∷ 0xA6 ∷ [] ++ codes "N" ++ 0x00 ∷ 0x07 ∷ 0xE9 ∷ [] ++ codes "^" ++ 0xAD ∷ 0x8D ∷ []) ∷ []) ∷ [])
+    ∷ row Archive (codes "application/x-lzop") (codes "lzo") None (at_least 9 (text 0 (0x89 ∷ [] ++ codes "LZO" ++ 0x00 ∷ 0x0D ∷ 0x0A ∷ 0x1A ∷ 0x0A ∷ []) ∷ []) ∷ [])
+    ∷ row Archive (codes "application/x-lrzip") (codes "lrz") None (at_least 5 (text 0 (codes "LRZI" ++ 0x00 ∷ []) ∷ []) ∷ [])
+    ∷ row Archive (codes "application/x-alz") (codes "alz") None (at_least 8 (text 0 (codes "ALZ" ++ 0x01 ∷ 0x0A ∷ 0x00 ∷ 0x00 ∷ 0x00 ∷ []) ∷ []) ∷ [])
+    ∷ row Archive (codes "application/x-qpress") (codes "qp") None (at_least 8 (text 0 (codes "qpress10") ∷ []) ∷ [])
+    ∷ row Archive (codes "application/x-bsdiff") (codes "bsdiff") None (at_least 8 (text 0 (codes "BSDIFF40") ∷ []) ∷ at_least 8 (text 0 (codes "BSDIFN40") ∷ []) ∷ [])
+    ∷ row Archive (codes "application/x-asar") (codes "asar") None (at_least 25 (text 0 (0x04 ∷ 0x00 ∷ 0x00 ∷ 0x00 ∷ []) ∷ text 16 (codes "{" ++ 0x22 ∷ [] ++ codes "files" ++ 0x22 ∷ [] ++ codes ":") ∷ []) ∷ [])
+    ∷ row Archive (codes "application/vnd.flatpak") (codes "flatpak") None (at_least 12 (text 0 (codes "flatpak" ++ 0x00 ∷ 0x01 ∷ 0x00 ∷ 0x89 ∷ 0xE5 ∷ []) ∷ []) ∷ at_least 12 (text 0 (codes "xdg-app" ++ 0x00 ∷ 0x01 ∷ 0x00 ∷ 0x89 ∷ 0xE5 ∷ []) ∷ []) ∷ [])
+    ∷ []
+
+-- disks and what instruments write
+unfoldable pub disks : List Further
+disks =
+    row Archive (codes "application/x-qed-disk") (codes "qed") None (at_least 4 (text 0 (codes "QED" ++ 0x00 ∷ []) ∷ []) ∷ [])
+    ∷ row Archive (codes "application/x-amiga-disk-format") (codes "adf") None (at_least 4 (text 0 (codes "DOS") ∷ byte 3 (between 0x00 0x07) ∷ []) ∷ [])
+    ∷ row Archive (codes "application/x-hfe-floppy-image") (codes "hfe") None (at_least 8 (text 0 (codes "HXCPICFE") ∷ []) ∷ at_least 8 (text 0 (codes "HXCHFEV3") ∷ []) ∷ [])
+    ∷ row Archive (codes "application/x-fds-disk") (codes "fds") None (at_least 8 (text 0 (codes "FDS" ++ 0x1A ∷ []) ∷ text 5 (0x00 ∷ 0x00 ∷ 0x00 ∷ []) ∷ []) ∷ at_least 15 (text 0 (0x01 ∷ [] ++ codes "*NINTENDO-HVC*") ∷ []) ∷ [])
+    ∷ row Image (codes "image/x-lytro-lfp") (codes "lfp") None (at_least 8 (text 0 (0x89 ∷ [] ++ codes "LFP" ++ 0x0D ∷ 0x0A ∷ 0x1A ∷ 0x0A ∷ []) ∷ []) ∷ [])
+    ∷ row Image (codes "image/x-zeiss-czi") (codes "czi") None (at_least 10 (text 0 (codes "ZISRAWFILE") ∷ []) ∷ [])
+    ∷ []
+
+-- records and documents
+unfoldable pub papers : List Further
+papers =
+    row App (codes "application/x-sqlite2") (codes "sqlite2") None (at_least 33 (text 0 (codes "** This file contains an SQLite 2") ∷ []) ∷ [])
+    ∷ row Archive (codes "application/x-openzim") (codes "zim") None (at_least 6 (text 0 (codes "ZIM" ++ 0x04 ∷ []) ∷ text 5 (0x00 ∷ []) ∷ []) ∷ [])
+    ∷ row App (codes "application/x-hdf") (codes "hdf4") None (at_least 4 (text 0 (0x0E ∷ 0x03 ∷ 0x13 ∷ 0x01 ∷ []) ∷ []) ∷ [])
+    ∷ row App (codes "application/x-spss-sav") (codes "sav") None (at_least 8 (text 0 (codes "$FL") ∷ byte 3 (any_of (0x32 ∷ 0x33 ∷ [])) ∷ text 4 (codes "@(#)") ∷ []) ∷ [])
+    ∷ row Doc (codes "application/vnd.lotus-wordpro") (codes "lwp") None (at_least 8 (text 0 (codes "WordPro") ∷ byte 7 (any_of (0x00 ∷ 0x0D ∷ [])) ∷ []) ∷ [])
+    ∷ row Doc (codes "application/winhlp") (codes "hlp") None (at_least 5 (text 0 (codes "?_" ++ 0x03 ∷ 0x00 ∷ []) ∷ []) ∷ [])
+    ∷ row Doc (codes "application/x-indesign") (codes "indd") None (at_least 16 (text 0 (0x06 ∷ 0x06 ∷ 0xED ∷ 0xF5 ∷ 0xD8 ∷ 0x1D ∷ [] ++ codes "F" ++ 0xE5 ∷ 0xBD ∷ [] ++ codes "1" ++ 0xEF ∷ 0xE7 ∷ 0xFE ∷ [] ++ codes "t" ++ 0xB7 ∷ 0x1D ∷ []) ∷ []) ∷ [])
+    ∷ row Doc (codes "application/vnd.ms-tnef") (codes "tnef") None (at_least 4 (text 0 (codes "x" ++ 0x9F ∷ [] ++ codes ">" ++ 0x22 ∷ []) ∷ []) ∷ [])
+    ∷ row Doc (codes "application/x-dvi") (codes "dvi") None (at_least 10 (text 0 (0xF7 ∷ 0x02 ∷ 0x01 ∷ 0x83 ∷ 0x92 ∷ 0xC0 ∷ 0x1C ∷ [] ++ codes ";" ++ 0x00 ∷ 0x00 ∷ []) ∷ []) ∷ [])
+    ∷ []
+
+-- archives of programs, fonts and keys
+unfoldable pub stores : List Further
+stores =
+    row Archive (codes "application/x-java-pack200") (codes "pack200") None (at_least 4 (text 0 (0xCA ∷ 0xFE ∷ 0xD0 ∷ 0x0D ∷ []) ∷ []) ∷ [])
+    ∷ row Font (codes "application/x-font-type1") (codes "pfb") None (at_least 8 (text 0 (0x80 ∷ 0x01 ∷ []) ∷ text 4 (0x00 ∷ 0x00 ∷ [] ++ codes "%!") ∷ []) ∷ [])
+    ∷ row Font (codes "application/x-font-afm") (codes "afm") None (at_least 17 (text 0 (codes "StartFontMetrics ") ∷ []) ∷ [])
+    ∷ row App (codes "application/x-java-keystore") (codes "jks") None (at_least 8 (text 0 (0xFE ∷ 0xED ∷ 0xFE ∷ 0xED ∷ 0x00 ∷ 0x00 ∷ 0x00 ∷ []) ∷ byte 7 (any_of (0x01 ∷ 0x02 ∷ [])) ∷ []) ∷ [])
+    ∷ row App (codes "application/x-java-jce-keystore") (codes "jceks") None (at_least 8 (text 0 (0xCE ∷ 0xCE ∷ 0xCE ∷ 0xCE ∷ 0x00 ∷ 0x00 ∷ 0x00 ∷ []) ∷ byte 7 (any_of (0x01 ∷ 0x02 ∷ [])) ∷ []) ∷ [])
+    ∷ []
+
+-- cartridges and discs of games
+unfoldable pub games : List Further
+games =
+    row App (codes "application/x-n64-rom") (codes "n64") None (at_least 6 (text 0 (0x80 ∷ [] ++ codes "7" ++ 0x12 ∷ [] ++ codes "@" ++ 0x00 ∷ 0x00 ∷ []) ∷ []) ∷ at_least 6 (text 0 (codes "7" ++ 0x80 ∷ [] ++ codes "@" ++ 0x12 ∷ 0x00 ∷ 0x00 ∷ []) ∷ []) ∷ at_least 8 (text 0 (codes "@" ++ 0x12 ∷ [] ++ codes "7" ++ 0x80 ∷ []) ∷ text 6 (0x00 ∷ 0x00 ∷ []) ∷ []) ∷ [])
+    ∷ row App (codes "application/x-atari-lynx-rom") (codes "lnx") None (at_least 10 (text 0 (codes "LYNX") ∷ text 8 (0x01 ∷ 0x00 ∷ []) ∷ []) ∷ at_least 10 (text 0 (0x80 ∷ 0x08 ∷ []) ∷ text 6 (codes "BS93") ∷ []) ∷ [])
+    ∷ row App (codes "application/x-atari-7800-rom") (codes "a78") None (at_least 10 (byte 0 (between 0x00 0x04) ∷ text 1 (codes "ATARI7800") ∷ []) ∷ [])
+    ∷ row App (codes "application/x-wii-wad") (codes "wiiwad") None (at_least 8 (text 0 (0x00 ∷ 0x00 ∷ 0x00 ∷ [] ++ codes " Is" ++ 0x00 ∷ 0x00 ∷ []) ∷ []) ∷ at_least 8 (text 0 (0x00 ∷ 0x00 ∷ 0x00 ∷ [] ++ codes " ib" ++ 0x00 ∷ 0x00 ∷ []) ∷ []) ∷ at_least 8 (text 0 (0x00 ∷ 0x00 ∷ 0x00 ∷ [] ++ codes " Bk" ++ 0x00 ∷ 0x00 ∷ []) ∷ []) ∷ [])
+    ∷ row Archive (codes "application/x-mame-chd") (codes "chd") None (at_least 11 (text 0 (codes "MComprHD" ++ 0x00 ∷ 0x00 ∷ 0x00 ∷ []) ∷ []) ∷ [])
+    ∷ []
+
+-- patches, profiles and others
+unfoldable pub others : List Further
+others =
+    row Archive (codes "application/x-doom-wad") (codes "wad") None (at_least 8 (byte 0 (any_of (0x49 ∷ 0x50 ∷ [])) ∷ text 1 (codes "WAD") ∷ text 7 (0x00 ∷ []) ∷ []) ∷ [])
+    ∷ row Archive (codes "application/x-bps-patch") (codes "bps") None (at_least 5 (text 0 (codes "BPS1") ∷ []) ∷ [])
+    ∷ row Archive (codes "application/x-ips-patch") (codes "ips") None (binary_bytes (fixed.at_least 6 (text 0 (codes "PATCH") ∷ [])) ∷ [])
+    ∷ row Text (codes "application/x-it87") (codes "it87") None (at_least 5 (text 0 (codes "IT8.7") ∷ []) ∷ [])
+    ∷ row Text (codes "application/x-ccmx") (codes "ccmx") None (at_least 5 (text 0 (codes "CCMX ") ∷ []) ∷ [])
+    ∷ row Archive (codes "application/gnunet-directory") (codes "gnd") None (at_least 8 (text 0 (0x89 ∷ [] ++ codes "GND" ++ 0x0D ∷ 0x0A ∷ 0x1A ∷ 0x0A ∷ []) ∷ []) ∷ [])
+    ∷ row Doc (codes "application/x-qtiplot") (codes "qti") None (at_least 8 (text 0 (codes "QtiPlot ") ∷ []) ∷ [])
+    ∷ row Doc (codes "application/x-pocket-word") (codes "psw") None (at_least 5 (text 0 (codes "{" ++ 0x5C ∷ [] ++ codes "pw") ∷ byte 4 (any_of (0x64 ∷ 0x69 ∷ [])) ∷ []) ∷ [])
+    ∷ row Image (codes "image/x-itc") (codes "itc") None (at_least 8 (text 0 (0x00 ∷ 0x00 ∷ []) ∷ text 4 (codes "itch") ∷ []) ∷ [])
+    ∷ row Video (codes "video/x-red-r3d") (codes "r3d") None (at_least 8 (text 0 (0x00 ∷ 0x00 ∷ []) ∷ text 4 (codes "RED") ∷ byte 7 (any_of (0x31 ∷ 0x32 ∷ [])) ∷ []) ∷ [])
+    ∷ row Image (codes "application/vnd.iccprofile") (codes "icc") None (at_least 40 (text 0 (0x00 ∷ []) ∷ text 36 (codes "acsp") ∷ []) ∷ [])
+    ∷ []
+
+-- texts, which come last, as they accept what other rows do
+unfoldable pub texts : List Further
+texts =
+    row Text (codes "application/x-ndjson") (codes "ndjson") None (related json_lines ∷ [])
     ∷ row Text (codes "application/json") (codes "json") None (related json_text ∷ [])
     ∷ row Text (codes "text/plain") (codes "txt") None (related plain_text ∷ [])
     ∷ []
 
 -- all of them
 unfoldable pub further : List Further
-further = packages ++ (headers ++ (markup ++ (code ++ (records ++ (archives ++ (images ++ (media ++ (late ++ []))))))))
+further =
+    packages ++ (headers ++ (markup ++ (code ++ (records ++ (archives ++ (images ++ (media ++ (late ++ (office ++ (kinds ++ (roots ++ (elements ++ (pictures ++ (rasters ++ (sounds ++ (packed ++ (disks ++ (papers ++ (stores ++ (games ++ (others ++ (texts ++ []))))))))))))))))))))))

@@ -86,20 +86,34 @@ macro_rules! is {
 
 mod archives;
 mod code;
+mod disks;
+mod elements;
+mod games;
 mod generated;
 mod headers;
 mod images;
+mod kinds;
 mod late;
 mod markup;
 mod media;
+mod office;
+mod others;
 mod packages;
+mod packed;
+mod papers;
+mod pictures;
+mod rasters;
 mod records;
+mod roots;
+mod sounds;
+mod stores;
+mod texts;
 
 pub(crate) use generated::{row_at, widens};
 
 /// The rows, list by list.
 #[inline(always)]
-pub(crate) fn lists() -> [&'static [FurtherRow]; 9]
+pub(crate) fn lists() -> [&'static [FurtherRow]; 23]
     ensures listed { joined result ≡ further }
     ensures ended { All (λ rows. AreEnded rows.now) result }
 {
@@ -113,6 +127,20 @@ pub(crate) fn lists() -> [&'static [FurtherRow]; 9]
         images::rows(),
         media::rows(),
         late::rows(),
+        office::rows(),
+        kinds::rows(),
+        roots::rows(),
+        elements::rows(),
+        pictures::rows(),
+        rasters::rows(),
+        sounds::rows(),
+        packed::rows(),
+        disks::rows(),
+        papers::rows(),
+        stores::rows(),
+        games::rows(),
+        others::rows(),
+        texts::rows(),
     ]
 }
 

@@ -8,7 +8,7 @@ use crate::index::asked::found_row_apart;
 use crate::index::{Below, Entry, Except, Gate, Guard, Named, Parentless, Range, Rooted, Texts};
 
 /// How many further rows there are.
-pub const FURTHER_COUNT: usize = 140;
+pub const FURTHER_COUNT: usize = 261;
 
 pub(super) static BELOW: &[Below] = &[
     Nothing,
@@ -22,12 +22,14 @@ pub(super) static BELOW: &[Below] = &[
     Nothing,
     Entries(entries![7 0x30 27, 14 0x02 28]),
     Nothing,
-    Entries(entries![20 0x47 22, 26 0x42 23, 28 0x4C 23, 21 0x55 24, 25 0x45 25, 9 0x4E 26]),
+    Entries(
+        entries![20 0x47 22, 20 0x43 23, 28 0x4C 23, 21 0x55 24, 23 0x41 25, 20 0x45 26, 23 0x49 26, 23 0x4B 26, 23 0x2D 146],
+    ),
     Nothing,
     Nothing,
     Nothing,
     Nothing,
-    Entries(entries![22 0x78 33]),
+    Entries(entries![22 0x78 33, 22 0x6D 147, 21 0x6A 148]),
     Entries(entries![3 0x47 31]),
     Nothing,
     Nothing,
@@ -41,6 +43,7 @@ pub(super) static BELOW: &[Below] = &[
     Nothing,
     Nothing,
     Nothing,
+    Entries(entries![15 0x4D 149]),
     Nothing,
     Nothing,
     Nothing,
@@ -55,8 +58,7 @@ pub(super) static BELOW: &[Below] = &[
     Nothing,
     Nothing,
     Nothing,
-    Nothing,
-    Entries(entries![28 0x80 35, 32 0x43 36]),
+    Entries(entries![28 0x80 35, 32 0x43 36, 32 0x78 150]),
     Nothing,
     Nothing,
     Nothing,
@@ -79,13 +81,14 @@ pub(super) static BELOW: &[Below] = &[
     Entries(entries![89 0x70 17]),
     Nothing,
     Packages(
-        entries![37 0x4D 4, 42 0x2F 4, 38 0x2F 6, 81 0x50 12, 53 0x2E 13, 52 0x6B 14],
-        excepts![26 0x00 5, 27 0x00 5, 28 0x00 6, 29 0x00 6],
+        entries![37 0x4D 4, 39 0x63 4, 38 0x2F 6, 81 0x50 12, 76 0x6D 13, 56 0x61 14, 79 0x4B 137, 56 0x73 138, 53 0x2E 139, 55 0x62 140, 53 0x63 141, 36 0x70 142, 38 0x78 143, 35 0x6A 144],
+        excepts![26 0x00 5, 27 0x00 5, 28 0x00 6, 29 0x00 6, 26 0x00 145, 27 0x00 145],
         named![b"word/" 7, b"xl/" 8, b"ppt/" 9, b"visio/" 10, b"3D/" 11],
     ),
     Nothing,
     Nothing,
     Nothing,
+    Entries(entries![33 0x70 156, 38 0x06 157, 40 0x06 158]),
     Nothing,
     Nothing,
     Nothing,
@@ -94,17 +97,16 @@ pub(super) static BELOW: &[Below] = &[
     Nothing,
     Nothing,
     Nothing,
-    Nothing,
-    Entries(entries![19 0x2D 34]),
+    Entries(entries![10 0x2D 34, 1 0x21 151]),
     Entries(entries![69 0x50 29]),
     Nothing,
     Nothing,
+    Entries(entries![3 0x28 152]),
     Nothing,
     Nothing,
     Nothing,
     Nothing,
-    Nothing,
-    Nothing,
+    Entries(entries![7 0x01 153]),
     Nothing,
     Nothing,
     Nothing,
@@ -114,85 +116,87 @@ pub(super) static BELOW: &[Below] = &[
     Nothing,
     Roots(rooted![b"svg" () 52]),
     Roots(
-        rooted![b"svg" () 45, b"rss" () 46, b"RDF" (b"http://purl.org/rss/1.0/") 46, b"feed" (b"http://www.w3.org/2005/Atom") 47, b"kml" () 48, b"gpx" () 49, b"html" (b"http://www.w3.org/1999/xhtml") 50, b"plist" () 51],
+        rooted![b"svg" () 45, b"rss" () 46, b"RDF" (b"http://purl.org/rss/1.0/") 46, b"feed" (b"http://www.w3.org/2005/Atom") 47, b"kml" () 48, b"gpx" () 49, b"html" (b"http://www.w3.org/1999/xhtml") 50, b"plist" () 51, b"opml" () 159, b"FictionBook" () 160, b"interface" () 161, b"TS" () 162, b"Ontology" (b"http://www.w3.org/2002/07/owl#") 163, b"sparql" (b"http://www.w3.org/2005/sparql-results#") 164, b"metalink" (b"urn:ietf:params:xml:ns:metalink") 165, b"nzb" () 166, b"jnlp" () 167, b"shape" (b"http://www.daa.com.au/~james/dia-shape-ns") 168, b"document" (b"application/vnd.oasis.opendocument.text") 169, b"ttFont" () 170],
     ),
     Programs(
-        buckets![() (b"awk" 43) (b"bun" 40) () (b"deno" 40) (b"expect" 44) () (b"gawk" 43) () () (b"jruby" 39) () (b"lua" 42, b"luajit" 42) (b"mawk" 43) (b"node" 40, b"nodejs" 40, b"nawk" 43) () (b"python" 37, b"pypy" 37, b"perl" 38, b"php" 41) () (b"ruby" 39) () (b"tclsh" 44) () () (b"wish" 44) () () () () () () () ()],
+        buckets![() (b"awk" 43) (b"bun" 40) (b"cjs" 154) (b"deno" 40) (b"expect" 44) () (b"gawk" 43, b"gjs" 154) () () (b"jruby" 39) () (b"lua" 42, b"luajit" 42) (b"mawk" 43) (b"node" 40, b"nodejs" 40, b"nawk" 43) () (b"python" 37, b"pypy" 37, b"perl" 38, b"php" 41) (b"qjs" 154, b"qml" 155, b"qmlscene" 155) (b"ruby" 39, b"rhino" 154) () (b"tclsh" 44) () () (b"wish" 44) () () () () () () () ()],
     ),
 ];
 
 pub(super) static PARENTLESS: Parentless = Parentless {
     first: lists![
-        () () (3 0x18 90, 13 0x00 133) (13 0x00 133) () () () ()
-        () () (2 0x0D 54) () () () () ()
-        () () () (2 0x9A 83) () () () ()
-        () () (7 0x00 56) (1 0x4C 60) () () (1 0x02 56) ()
-        () (9 0x4D 73) () (6 0x55 113) () () () ()
-        () () () () () () (5 0x00 108) (8 0x2F 104)
-        (4 0x30 93, 0 0x30 120, 13 0x00 133) (0 0x31 120, 13 0x00 133) (0 0x32 120, 13 0x00 133) (0 0x33 120) (0 0x34 120) (0 0x35 120) (0 0x36 120) (0 0x37 120)
-        (0 0x38 120) (0 0x39 120) () () (4 0x70 119) () () ()
-        () (5 0x31 79) (6 0x52 107, 11 0x4E 116, 10 0x44 117) (12 0x63 112, 13 0x00 133) () (3 0x46 71) (11 0x4D 61, 11 0x2D 98, 11 0x43 109) (3 0x46 80, 752 0x47 135)
-        () (2 0x55 99, 3 0x46 114) (7 0x04 59) (3 0x56 66) (5 0xBE 63, 7 0x48 69, 19 0x46 72) (3 0xA1 70, 3 0x49 87, 1 0x50 111) () (2 0x6A 77, 2 0x43 78)
-        (2 0x55 62, 2 0x52 76, 0 0x50 103, 3 0x23 103) () (11 0x4E 102) (29 0x54 97) (3 0x66 58) () () (6 0x2E 94, 5 0x54 118)
-        (4 0x10 95) () () () () (2 0x00 92) () ()
-        (10 0x02 89) (20 0x31 64) (7 0x30 100) (7 0x78 67, 13 0x00 133) (2 0x3A 74, 3 0x3A 74) () () (7 0x66 96, 3 0x46 106)
-        (2 0x71 86) (1 0x63 101) () () () () () ()
-        () () () (1 0x71 86) (3 0x66 115) () (4 0x66 68) (9 0x04 110)
-        (3 0x21 88) () () () () () () ()
-        () () () (13 0x00 133) () () () ()
-        () (6 0x1A 130) () (13 0x00 133) () () () ()
+        () (1 0xDA 180, 14 0x2A 225) (3 0x18 90, 13 0x00 133) (13 0x00 133) (24 0x3A 220) () (13 0x02 212, 15 0x1D 234) ()
+        () () (2 0x0D 54, 64 0x00 179) () () () (2 0x13 230) ()
+        () () () (2 0x9A 83, 3 0x5C 176) () () () ()
+        () () (7 0x00 56) (1 0x4C 60) () () (1 0x02 56) (2 0xE8 206, 1 0x07 213)
+        () (9 0x4D 73) () (5 0x33 113, 2 0x52 178) (7 0x29 231) () () ()
+        () () (32 0x32 228) () () () (3 0x64 108, 3 0xFD 207, 3 0x46 208) (8 0x2F 104)
+        (4 0x30 93, 0 0x30 120, 13 0x00 133) (0 0x31 120, 13 0x00 133) (0 0x32 120, 13 0x00 133) (0 0x33 120) (0 0x34 120) (0 0x35 120) (0 0x36 120) (0 0x37 120, 3 0x12 242)
+        (0 0x38 120) (0 0x39 120) () () (4 0x70 119) () () (2 0x03 233)
+        (3 0x80 242) (5 0x31 79, 2 0x5A 217) (3 0x4E 107, 11 0x4E 116, 7 0x43 117, 3 0xFB 185, 2 0x47 211, 3 0x49 219, 3 0x31 248) (12 0x63 112, 13 0x00 133, 3 0x58 251) (2 0x53 223) (3 0x46 71, 2 0x2A 195, 15 0x3A 200) (3 0x31 61, 3 0x49 98, 11 0x43 109, 3 0x46 184, 3 0x62 191, 3 0x4D 198, 3 0x38 209, 3 0x1A 225) (3 0x46 80, 752 0x47 135)
+        (2 0x43 224) (2 0x55 99, 3 0x46 114, 2 0x1A 192, 3 0x4D 199, 3 0x44 247, 4 0x37 250) (7 0x04 59) (3 0x56 66) (1 0x55 63, 3 0x53 69, 3 0x00 72, 3 0x49 216, 3 0x58 243) (1 0x3C 70, 1 0x53 87, 1 0x50 111, 8 0x0A 197, 3 0x10 201, 2 0x44 202, 2 0x33 203, 10 0x54 210, 7 0x44 246) (4 0x1A 205) (2 0x6A 77, 2 0x43 78)
+        (2 0x55 62, 2 0x52 76, 2 0x09 103, 2 0x0A 103, 2 0x0D 103, 2 0x20 103, 3 0x23 103, 3 0x6E 188, 2 0x46 196, 2 0x49 204, 3 0x44 247, 4 0x48 249) (2 0x44 222, 3 0x50 253) (3 0x46 102, 3 0x44 204) (4 0x4C 97, 3 0x58 190, 14 0x63 239) (3 0x66 58) () () (6 0x2E 94, 5 0x54 118, 4 0x50 232)
+        (1 0x63 95, 3 0x53 190) (3 0x95 181) (5 0x57 227, 3 0x04 229) () () (2 0x00 92) () ()
+        (10 0x02 89) (20 0x31 64) (7 0x30 100) (7 0x78 67, 13 0x00 133) (2 0x3A 74, 3 0x3A 74) () (11 0xE5 221) (7 0x66 96, 3 0x46 106)
+        (2 0x71 86) (1 0x63 101, 13 0x6B 189) () () () () () ()
+        () (7 0x30 218) () (1 0x71 86) (3 0x66 115) () (3 0x78 68, 2 0x31 177) (9 0x04 110)
+        (3 0x21 88, 3 0x2D 221, 3 0x22 235) () () (3 0x77 254) () () () (2 0x80 206)
+        (1 0x01 238, 1 0x37 242, 9 0x33 243) () () (13 0x00 133) () () () ()
+        () (3 0x46 130, 7 0x1A 215, 3 0x50 226, 6 0x1A 252) (6 0x1A 186) (13 0x00 133) () () () ()
         () () () (5 0x59 75) (2 0x04 65) (3 0xDE 57, 3 0x04 65) () ()
         (2 0x04 65) (3 0x04 65) () () () () () ()
         () (5 0x02 70) () () () () () ()
-        () () () () () () () ()
-        () () () () () () () ()
+        () () () (6 0x31 174, 10 0x1A 175) () () () ()
+        () () () () () () () (15 0x8D 214)
         () () () () () () () ()
         () () () () () (2 0x04 65, 3 0x04 65, 3 0xC6 105) (2 0x04 65, 3 0x04 65) ()
-        () () () (13 0x00 133) () (3 0x13 83) (3 0x13 83) (3 0x13 83)
+        () () (3 0x0D 237) (13 0x00 133) () (3 0x13 83) (3 0x13 83, 3 0xCE 241) (3 0x13 83)
         () () () () (4 0x02 70) () () ()
         () () () () () () (3 0x95 57) ()
         () () () () () () () ()
         () () () () () () () (9 0x55 113, 14 0x4E 116, 9 0x56 117, 8 0x54 118, 2 0xBF 120)
-        () () () () () (13 0x00 133) () ()
-        () () () () () () () (9 0x59 91)
+        () () () () () (13 0x00 133) () (7 0x3B 236)
+        () () () () () () (3 0x80 206, 3 0xED 240) (1 0x06 91, 3 0x51 187, 5 0x07 206)
     ],
     guards: guards![
-        2 0x0D (3 0x0A 55);
-        2 0x27 (103 0x32 84, 29 0x03 85);
+        2 0x02 (21 0x00 183);
         2 0x2D (6 0x2D 121);
+        3 0x0A (2 0x0D 55, 103 0x32 84, 29 0x03 85);
+        3 0x20 (7 0x00 245);
         4 0x47 (772 0x47 135);
-        4 0x53 (13 0x4A 81, 18 0x42 82);
+        4 0x52 (7 0x38 244, 6 0x44 256);
+        7 0x07 (10 0x00 182);
         8 0x7B (9 0x22 129);
         13 0x05 (15 0x62 131);
         13 0x06 (14 0x15 131);
         13 0x15 (14 0x06 131);
         13 0x31 (14 0x05 131);
+        20 0x47 (23 0x50 193, 23 0x54 194);
+        37 0x63 (39 0x70 257);
         64 0x7F (67 0xBE 132);
         512 0x89 (518 0x1A 130);
         1080 0x53 (1081 0xEF 134);
     ],
     gate: gate![
-        4 0x66
+        5 0x74
+        6 0x63 (7 0x68 255);
+        8 0x33 (10 0x65 122, 10 0x67 122, 10 0x70 122, 10 0x72 122, 10 0x73 122, 10 0x32 123);
         8 0x4D (10 0x42 125);
         8 0x63 (10 0x78 126);
         8 0x66 (10 0x76 124);
         8 0x68 (10 0x76 127);
         8 0x6D (11 0x31 128);
-        10 0x32 (9 0x67 123);
-        10 0x65 (9 0x67 122);
-        10 0x67 (9 0x67 122);
-        10 0x70 (9 0x67 122);
-        10 0x72 (9 0x67 122);
-        10 0x73 (9 0x67 122);
+        13 0x41 (18 0x42 82);
+        13 0x4A (18 0x42 81);
     ],
     ranges: ranges![
         148 0x20 0x37 136;
     ],
-    roots: rooted![b"svg" () 53],
+    roots: rooted![b"svg" () 53, b"xmpmeta" () 171, b"math" (b"http://www.w3.org/1998/Math/MathML") 172, b"SAMI" () 173, b"sami" () 173],
     texts: Texts {
-        lines: 137,
-        json: 138,
-        plain: 139,
+        lines: 258,
+        json: 259,
+        plain: 260,
     },
 };
 
@@ -210,13 +214,17 @@ pub(crate) fn found_below(buf: &[u8], row: usize) -> usize
         17 => found_row_apart::<17>(buf),
         21 => found_row_apart::<21>(buf),
         26 => found_row_apart::<26>(buf),
+        30 => found_row_apart::<30>(buf),
         45 => found_row_apart::<45>(buf),
         63 => found_row_apart::<63>(buf),
         64 => found_row_apart::<64>(buf),
         65 => found_row_apart::<65>(buf),
         67 => found_row_apart::<67>(buf),
+        71 => found_row_apart::<71>(buf),
         80 => found_row_apart::<80>(buf),
         81 => found_row_apart::<81>(buf),
+        84 => found_row_apart::<84>(buf),
+        89 => found_row_apart::<89>(buf),
         93 => found_row_apart::<93>(buf),
         95 => found_row_apart::<95>(buf),
         96 => found_row_apart::<96>(buf),

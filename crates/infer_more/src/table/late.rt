@@ -1,4 +1,4 @@
-//! Rows that leave the first bytes free, and texts.
+//! Rows that leave the first bytes free.
 ghost use Rattle.std.specs.Prelude.{◌≡◌, map};
 ghost use Rattle.infer_more.specs.Listed.{AreEnded, row_listed};
 ghost use Rattle.infer_more.specs.Table.{late};
@@ -7,7 +7,7 @@ use crate::signature::Piece::{At, Between, OneOf};
 use crate::signature::{Alternative, Bytes};
 use crate::table::{EndedTexts, FurtherRow};
 use infer::MatcherType;
-use infer_formats::relation::Relation::{Dbase, JsonLines, JsonText, PlainText, TarChecksum};
+use infer_formats::relation::Relation::{Dbase, TarChecksum};
 
 static ROWS: &[FurtherRow] = rows![
     Archive "application/x-lzh-compressed" "lzh": => [7, At(2, b"-lh"), Between(5, 0x30, 0x37), is!(6, b'-')] [7, At(2, b"-lh"), OneOf(5, b"dx"), is!(6, b'-')] [7, At(2, b"-lz"), OneOf(5, b"45s"), is!(6, b'-')] [7, At(2, b"-pm"), Between(5, 0x30, 0x32), is!(6, b'-')];
@@ -26,9 +26,6 @@ static ROWS: &[FurtherRow] = rows![
     Archive "application/x-ext-filesystem" "ext2": => [1086, At(1080, b"S\xEF"), Between(1082, 0x00, 0x07), is!(1083, 0x00), Between(1084, 0x01, 0x03), is!(1085, 0x00)];
     Video "video/mp2t" "ts": => [753, is!(0, b'G'), is!(188, b'G'), is!(376, b'G'), is!(564, b'G'), is!(752, b'G')] [773, is!(4, b'G'), is!(196, b'G'), is!(388, b'G'), is!(580, b'G'), is!(772, b'G')];
     Archive "application/x-tar" "tar": => [TarChecksum];
-    Text "application/x-ndjson" "ndjson": => [JsonLines];
-    Text "application/json" "json": => [JsonText];
-    Text "text/plain" "txt": => [PlainText];
 ];
 
 #[inline(always)]

@@ -1,0 +1,27 @@
+//! Disks and what instruments write.
+ghost use Rattle.std.specs.Prelude.{◌≡◌, map};
+ghost use Rattle.infer_more.specs.Listed.{AreEnded, row_listed};
+ghost use Rattle.infer_more.specs.Table.{disks};
+
+use crate::signature::Piece::{At, Between};
+use crate::signature::{Alternative, Bytes};
+use crate::table::{EndedTexts, FurtherRow};
+use infer::MatcherType;
+
+static ROWS: &[FurtherRow] = rows![
+    Archive "application/x-qed-disk" "qed": => [4, At(0, b"QED\0")];
+    Archive "application/x-amiga-disk-format" "adf": => [4, At(0, b"DOS"), Between(3, 0x00, 0x07)];
+    Archive "application/x-hfe-floppy-image" "hfe": => [8, At(0, b"HXCPICFE")] [8, At(0, b"HXCHFEV3")];
+    Archive "application/x-fds-disk" "fds": => [8, At(0, b"FDS\x1A"), At(5, b"\0\0\0")] [15, At(0, b"\x01*NINTENDO-HVC*")];
+    Image "image/x-lytro-lfp" "lfp": => [8, At(0, b"\x89LFP\r\n\x1A\n")];
+    Image "image/x-zeiss-czi" "czi": => [10, At(0, b"ZISRAWFILE")];
+];
+
+#[tactic(auto, unfolding(crate::specs::Table::disks))]
+#[inline(always)]
+pub(super) fn rows() -> &'static [FurtherRow]
+    ensures listed { map row_listed result.now ≡ disks }
+    ensures ended { AreEnded result.now }
+{
+    ROWS
+}

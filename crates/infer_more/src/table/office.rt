@@ -1,0 +1,32 @@
+//! Kinds of ZIP archives: OpenDocument, StarOffice and others.
+ghost use Rattle.std.specs.Prelude.{◌≡◌, map};
+ghost use Rattle.infer_more.specs.Listed.{AreEnded, row_listed};
+ghost use Rattle.infer_more.specs.Table.{office};
+
+use crate::signature::Piece::At;
+use crate::signature::{Alternative, Bytes};
+use crate::table::{EndedTexts, FurtherRow};
+use infer::MatcherType;
+use infer::rows::ZIP;
+use infer_formats::relation::Relation::{FirstEntryEndsIn, FirstEntryIs};
+
+static ROWS: &[FurtherRow] = rows![
+    Doc "application/vnd.oasis.opendocument.chart" "odc": ZIP => [80, At(0, b"PK\x03\x04"), At(30, b"mimetypeapplication/vnd.oasis.opendocument.chartPK")];
+    Image "application/vnd.oasis.opendocument.graphics-template" "otg": ZIP => [92, At(0, b"PK\x03\x04"), At(30, b"mimetypeapplication/vnd.oasis.opendocument.graphics-templatePK")];
+    Doc "application/vnd.sun.xml.writer" "sxw": ZIP => [70, At(0, b"PK\x03\x04"), At(30, b"mimetypeapplication/vnd.sun.xml.writerPK")];
+    Image "application/x-karbon" "karbon": ZIP => [58, At(0, b"PK\x03\x04"), At(30, b"mimetypeapplication/x-karbon")];
+    Doc "application/x-kchart" "chrt": ZIP => [58, At(0, b"PK\x03\x04"), At(30, b"mimetypeapplication/x-kchart")];
+    Doc "application/x-kivio" "flw": ZIP => [57, At(0, b"PK\x03\x04"), At(30, b"mimetypeapplication/x-kivio")];
+    Doc "application/vnd.apple.keynote" "key": ZIP => [FirstEntryIs(b"index.apxl")];
+    App "application/vnd.apple.pkpass" "pkpass": ZIP => [FirstEntryIs(b"pass.json")];
+    Book "application/x-zip-compressed-fb2" "fbz": ZIP => [FirstEntryEndsIn(b".fb2")];
+];
+
+#[tactic(auto, unfolding(crate::specs::Table::office))]
+#[inline(always)]
+pub(super) fn rows() -> &'static [FurtherRow]
+    ensures listed { map row_listed result.now ≡ office }
+    ensures ended { AreEnded result.now }
+{
+    ROWS
+}
