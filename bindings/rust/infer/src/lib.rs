@@ -16,6 +16,8 @@ mod matchers;
 pub mod more;
 #[cfg(feature = "std")]
 mod read;
+#[cfg(feature = "serde")]
+mod serialized;
 mod types;
 
 pub use encoding::{encoding, Encoding};
