@@ -1,0 +1,43 @@
+"""The names that libmagic has for the types, by bindings/libmagic/names.tsv: a line for each type, in which "-" stands for
+what our row says. They are made into a table of C in the order of the rows, built-in and further."""
+import sys
+
+from texts import text_of
+
+NAMES = "bindings/libmagic/names.tsv"
+CALLERS = "bindings/libmagic/callers.tsv"
+MADE = "bindings/libmagic/src/names.h"
+WORDS = {"data": "OF_DATA", "text": "OF_TEXT", "script": "OF_SCRIPT", "plain": "OF_PLAIN_TEXT", "elf": "OF_ELF"}
+
+
+def lines_of(path):
+    return [line.split("\t") for line in text_of(path).splitlines()]
+
+
+def rows():
+    """The extension and MIME type of each row."""
+    built_in = [(extension, mime_type) for _, mime_type, extension, _ in lines_of("vectors/rows.tsv")]
+    return built_in + [(extension, mime_type) for _, mime_type, extension, *_ in lines_of("vectors/further/rows.tsv")]
+
+
+def line(mime_type, extension, named):
+    theirs, extensions, words, description, _ = named
+    texts = (mime_type if theirs == "-" else theirs, extension if extensions == "-" else extensions, description)
+    return "    {" + ", ".join([f'"{it}"' for it in texts] + [WORDS[words]]) + "},"
+
+
+def callers():
+    """The table of what each kind of caller gets."""
+    yield from ["| A program that | gets | and not |", "|---|---|---|"]
+    yield from (f"| {' | '.join(cells)} |" for cells in lines_of(CALLERS))
+
+
+def made():
+    """It ends the program with a row that has no line, or a line that is of no row or stands twice."""
+    named = {(extension, mime_type): rest for extension, mime_type, *rest in lines_of(NAMES)[1:]}
+    if wrong := sorted({*named} ^ {*rows()}):
+        sys.exit(f"tools/tables: {NAMES} and the rows have other types: {wrong[0][0]} {wrong[0][1]}")
+    if len(named) != len(lines_of(NAMES)) - 1:
+        sys.exit(f"tools/tables: {NAMES} has a type twice")
+    listed = [line(mime_type, extension, named[extension, mime_type]) for extension, mime_type in rows()]
+    yield MADE, "/* Made by tools/tables of names.tsv: the names of each row's type. */\n" + "\n".join(listed) + "\n"
