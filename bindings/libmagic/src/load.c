@@ -54,21 +54,32 @@ static int take_text(struct magic_set *it, const char *from, const char *text, s
     return -1;
 }
 
+/* 1 if it was taken, 0 if there is no such file, and -1 if it could not be taken. */
 static int take_file(struct magic_set *it, const char *path) {
     FILE *file = fopen(path, "rbe");
+    if (file == NULL) return 0;
     char *text = malloc(TEXT_MAX + 1);
+    size_t len = text == NULL ? 0 : fread(text, 1, TEXT_MAX + 1, file);
     int answer = -1;
-    if (file == NULL || text == NULL) {
-        /* In libmagic's words, and without its number, as there. */
-        fail(it, 0, "could not find any valid magic files!");
-    } else {
-        size_t len = fread(text, 1, TEXT_MAX + 1, file);
-        if (ferror(file)) fail(it, errno, "cannot read `%s'", path);
-        else if (len > TEXT_MAX) fail(it, EFBIG, "the types of `%s' are too long", path);
-        else answer = take_text(it, path, text, len);
-    }
+    if (text == NULL) fail(it, ENOMEM, "cannot keep the types of %s", path);
+    else if (ferror(file)) fail(it, errno, "cannot read `%s'", path);
+    else if (len > TEXT_MAX) fail(it, EFBIG, "the types of `%s' are too long", path);
+    else if (take_text(it, path, text, len) == 0) answer = 1;
     free(text);
-    if (file != NULL) fclose(file);
+    fclose(file);
+    return answer;
+}
+
+/* The same of the first path of a list, `len` bytes long. */
+static int take_path(struct magic_set *it, const char *paths, size_t len) {
+    if (len == 0 || is_default(paths, len)) return len != 0;
+    char *path = strndup(paths, len);
+    if (path == NULL) {
+        fail(it, ENOMEM, "cannot keep a path");
+        return -1;
+    }
+    int answer = take_file(it, path);
+    free(path);
     return answer;
 }
 
@@ -83,18 +94,20 @@ static void begin_load(struct magic_set *it) {
 int load_types(struct magic_set *it, const char *paths) {
     begin_load(it);
     if (paths == NULL) paths = getenv("MAGIC");
-    while (paths != NULL && *paths != '\0') {
+    if (paths == NULL) paths = default_paths();
+    while (*paths != '\0') {
         size_t len = strcspn(paths, ":");
-        if (len != 0 && !is_default(paths, len)) {
-            char *path = strndup(paths, len);
-            int answer = path == NULL ? -1 : take_file(it, path);
-            free(path);
-            if (answer != 0) return -1;
+        int taken = take_path(it, paths, len);
+        if (taken < 0) {
+            it->is_loaded = false;
+            return -1;
         }
+        if (taken > 0) it->is_loaded = true;
         paths += len + (paths[len] == ':');
     }
-    it->is_loaded = true;
-    return 0;
+    /* In libmagic's words, and without a number of errno, as there. */
+    if (!it->is_loaded) fail(it, 0, "could not find any valid magic files!");
+    return it->is_loaded ? 0 : -1;
 }
 
 int load_texts(struct magic_set *it, void **texts, size_t *sizes, size_t count) {
