@@ -1,4 +1,5 @@
 -- The first key with a text stands in the slot of the text.
+use Rattle.std.specs.Prelude.{⊤}
 use Rattle.std.proofs.Common.{◌≡◌, ◌≢◌, ◌+◌, ◌-◌, ◌*◌, ◌/◌, ◌%◌, ◌<◌, ◌≤◌, ◌==◌, ◌&&◌, ◌∙◌, ℕ, zero, suc, Bool, true, false, IsTrue, List, [], ◌∷◌, ◌++◌, Option, None, Some, ap, sym, subst, refl, arith, length, get_or, map, inl, inr}
 use Rattle.std.proofs.lemmas.Bool.{and_from, and_parts, cases_Bool, eqb-true, eq-eqb}
 use Rattle.std.proofs.lemmas.List.{get_or_append_left, get_or-append_right}
@@ -7,6 +8,7 @@ use Rattle.std.proofs.lemmas.Slice.Eq.{bytes_eq-Decides}
 use Rattle.std.specs.List.{find, list_all}
 use Rattle.std.specs.Option.{option_or}
 use Rattle.std.specs.Str.{bytes_eq}
+use Rattle.infer_named.specs.Laws.{wrong_keys}
 use Rattle.infer_named.specs.Names.{are_placed, is_key, joined, same_part, slot_of}
 use Rattle.infer_named.specs.Table.{groups, keys}
 use Rattle.infer_named.specs.Key.{Key}
@@ -70,3 +72,23 @@ placed_append i n (slot ∷ xs) ys long h g =
     let parts = and_parts (list_all (λ k. slot_of k.text == i) slot) (are_placed (i + 1) xs) h in
     let same : i + n ≡ (i + 1) + (n - 1) = omega arith in
     and_from _ _ parts.0 (placed_append (i + 1) (n - 1) xs ys (omega arith) parts.1 (subst (λ k. IsTrue (are_placed k ys)) same g))
+
+both_empty : {A : Type 0} (xs ys : List A) → xs ++ ys ≡ [] → (xs ≡ []) × (ys ≡ [])
+both_empty [] ys e = (refl, e)
+both_empty (x ∷ xs) ys e = absurd (cc)
+
+-- two lists of slots without wrong keys
+fit_append : (xs ys : List (List Key)) → joined (map wrong_keys xs) ≡ [] → joined (map wrong_keys ys) ≡ [] → joined (map wrong_keys (xs ++ ys)) ≡ []
+fit_append [] ys h g = g
+fit_append (slot ∷ xs) ys h g =
+    let (here, later) = both_empty (wrong_keys slot) (joined (map wrong_keys xs)) h in
+    ap (λ l. l ++ joined (map wrong_keys (xs ++ ys))) here ∙ fit_append xs ys later g
+
+-- so in each of some lists of slots
+abbrev pub AllFit : List (List (List Key)) → Type 0
+AllFit [] = ⊤
+AllFit (g ∷ all) = (joined (map wrong_keys g) ≡ []) × AllFit all
+
+pub all_fit : (all : List (List (List Key))) → AllFit all → joined (map wrong_keys (joined all)) ≡ []
+all_fit [] h = refl
+all_fit (g ∷ all) h = fit_append g (joined all) h.0 (all_fit all h.1)

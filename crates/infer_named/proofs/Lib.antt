@@ -4,3 +4,4 @@ pub mod Placed
 pub mod PlacedLemmas
 pub mod TableLemmas
 pub mod KindLemmas
+pub mod LawLemmas

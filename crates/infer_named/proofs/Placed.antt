@@ -1,4 +1,4 @@
--- Made by `tools/tables` from names.txt: the keys of all slots, sixteen a group.
+-- Made by `tools/tables` from names.txt: the keys of all slots, 16 a group.
 pub mod G00
 pub mod G01
 pub mod G02

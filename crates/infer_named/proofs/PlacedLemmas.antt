@@ -1,8 +1,9 @@
--- Made by `tools/tables` from names.txt: each key stands in its slot, and a group has sixteen slots.
-use Rattle.std.proofs.Common.{◌==◌, IsTrue, length, refl}
+-- Made by `tools/tables` from names.txt: each key stands in its slot, a group has sixteen slots, and no key is wrong.
+use Rattle.std.proofs.Common.{◌≡◌, ◌==◌, [], IsTrue, length, map, refl}
 use Rattle.std.proofs.lemmas.Bool.{and_from, eq-eqb}
 use Rattle.std.specs.List.{list_all}
-use Rattle.infer_named.proofs.FindLemmas.{placed_append}
+use Rattle.infer_named.proofs.FindLemmas.{all_fit, placed_append}
+use Rattle.infer_named.specs.Laws.{wrong_keys}
 use Rattle.infer_named.specs.Names.{are_placed, joined}
 use Rattle.infer_named.specs.Table.{groups}
 use Rattle.infer_named.proofs.Placed.G00 as g00
@@ -111,3 +112,7 @@ sixteen =
     (and_from _ _ (eq-eqb _ _ g30.sixteen)
     (and_from _ _ (eq-eqb _ _ g31.sixteen)
     (refl))))))))))))))))))))))))))))))))
+
+pub fit : joined (map wrong_keys (joined groups)) ≡ []
+unfolding groups
+fit = all_fit groups (g00.fit, (g01.fit, (g02.fit, (g03.fit, (g04.fit, (g05.fit, (g06.fit, (g07.fit, (g08.fit, (g09.fit, (g10.fit, (g11.fit, (g12.fit, (g13.fit, (g14.fit, (g15.fit, (g16.fit, (g17.fit, (g18.fit, (g19.fit, (g20.fit, (g21.fit, (g22.fit, (g23.fit, (g24.fit, (g25.fit, (g26.fit, (g27.fit, (g28.fit, (g29.fit, (g30.fit, (g31.fit, tt))))))))))))))))))))))))))))))))

@@ -39,6 +39,15 @@ abbrev pub is_own_name : Told → Bool
 is_own_name (of_bytes t) = false
 is_own_name (of_name t) = is_own t.origin
 
+-- the type that a name with that key has first, whatever the bytes are
+abbrev pub first_type : List Reading → Option Told
+first_type [] = None
+first_type (r ∷ readings) = Some (of_name r.named)
+
+abbrev pub type_of_name : Option Key → Option Told
+type_of_name None = None
+type_of_name (Some k) = first_type k.readings
+
 -- a standing, and the type that is told
 pub record Answer : Type 0 where
   pub standing : Standing

@@ -31,15 +31,8 @@ pub record Key : Type 0 where
   pub is_loose : Bool
   pub readings : List Reading
 
-abbrev pub reading : Origin → List ℕ → Asks → List (List ℕ) → List (List ℕ) → List (List ℕ) → List (List ℕ) → Reading
-reading origin mime_type asks agrees begins finer leads = record {
-  named = record { mime_type = mime_type; origin = origin };
-  asks = asks;
-  agrees = agrees;
-  begins = begins;
-  finer = finer;
-  leads = leads;
-}
+abbrev pub named : List ℕ → Origin → NamedType
+named mime_type origin = record { mime_type = mime_type; origin = origin }
 
 abbrev pub key : Part → List ℕ → Bool → List Reading → Key
 key part text is_loose readings = record { part = part; text = text; is_loose = is_loose; readings = readings }

@@ -1,6 +1,8 @@
 pub mod Key
-pub mod Listed
 pub mod Texts
+pub mod Types
+pub mod Sets
+pub mod Listed
 pub mod Names
 pub mod Slots
 pub mod Table
@@ -8,3 +10,4 @@ pub mod Bytes
 pub mod Asks
 pub mod Join
 pub mod Named
+pub mod Laws

@@ -1,4 +1,4 @@
--- Made by `tools/tables` from names.txt: the keys of all slots, sixteen a group.
+-- Made by `tools/tables` from names.txt: the keys of all slots, 16 a group.
 use Rattle.std.specs.Prelude.{List, [], ◌∷◌}
 use Rattle.infer_named.specs.Key.{Key}
 use Rattle.infer_named.specs.Names.{joined}

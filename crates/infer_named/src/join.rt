@@ -2,15 +2,16 @@
 ghost use Rattle.std.specs.Prelude.{◌≡◌, None, Some, map, nat_eq, option_map};
 ghost use Rattle.std.specs.List.{list_any, starts_with};
 ghost use Rattle.infer.specs.Triple.{triple_of};
+ghost use Rattle.infer_more.specs.Wider.{IsWiderAnswer};
 ghost use Rattle.infer_named.specs.Asks.{admits};
 ghost use Rattle.infer_named.specs.Bytes.{IsKind, has_no_zero, is_empty, lead_of};
-ghost use Rattle.infer_named.specs.Join.{answer, extension_of, fits, is_among, is_own, is_own_name, joined_with, keyed, mime_type_of, reading_of, reading_without, row_extension, told_by, takes, unnamed};
+ghost use Rattle.infer_named.specs.Join.{answer, extension_of, first_type, fits, is_among, is_own, is_own_name, joined_with, keyed, mime_type_of, reading_of, reading_without, row_extension, told_by, takes, type_of_name, unnamed};
 ghost use Rattle.infer_named.specs.Listed.{key_listed, origin_listed, reading_listed, texts};
 ghost use Rattle.infer_named.specs.Named.{IsNamed, answer_of, key_of, told_listed};
 
 use crate::bytes::{Kind, kind_of, lead_of};
 use crate::names::key;
-use crate::table::{Asks, Key, NamedType, Origin, Reading};
+use crate::table::{Asks, Key, NamedType, Origin, Reading, leads, named, rows};
 use infer::Type;
 
 /// What the name did.
@@ -103,11 +104,33 @@ pub struct Named {
     pub key: Option<&'static Key>,
 }
 
-/// What the name and the bytes tell.
-pub fn answer(name: &[u8], buf: &[u8]) -> Named
+impl Named {
+    /// The type that the name has first, whatever the bytes are, if it has a key.
+    pub fn type_of_name(&self) -> Option<Told>
+        ensures { option_map told_listed result ≡ type_of_name (key_of self.now) }
+    {
+        match self.key {
+            Some(key) => first_type(key.readings),
+            None => None,
+        }
+    }
+}
+
+/// The type of the first reading.
+fn first_type(readings: &[Reading]) -> Option<Told>
+    ensures { option_map told_listed result ≡ first_type (map reading_listed readings.now) }
+{
+    match readings {
+        [first, ..] => Some(Told::Name(named(first.named))),
+        [] => None,
+    }
+}
+
+/// What the name and the bytes tell, whose wider answer has this type.
+pub fn answer(name: &[u8], buf: &[u8], found: Option<Type>) -> Named
+    requires { IsWiderAnswer buf.now (option_map triple_of found) }
     ensures { IsNamed name.now buf.now result }
 {
-    let found = infer_more::get(buf);
     match key(name) {
         Some(key) => keyed(key, found, buf),
         None => unnamed(found),
@@ -170,7 +193,11 @@ fn keyed_alone(key: &'static Key, buf: &[u8]) -> Named
         return silent(Standing::Nothing, Some(key));
     }
     match reading_without(key.readings, kind_of(buf), buf) {
-        Some(reading) => telling(Standing::NameAlone, Told::Name(reading.named), Some(key)),
+        Some(reading) => telling(
+            Standing::NameAlone,
+            Told::Name(named(reading.named)),
+            Some(key),
+        ),
         None => silent(Standing::Contradicts, Some(key)),
     }
 }
@@ -198,11 +225,15 @@ fn told_by(key: &'static Key, reading: &Reading, t: Type) -> Named
     ensures answer { answer_of result ≡ told_by (reading_listed reading.now) (triple_of t) }
     ensures key { key_of result ≡ Some (key_listed key.now) }
 {
-    if is_among(t, reading.agrees) {
+    if is_among(t, rows(reading.agrees)) {
         return telling(Standing::Agree, Told::Bytes(t), Some(key));
     }
-    if is_among(t, reading.begins) {
-        return telling(Standing::NameRefines, Told::Name(reading.named), Some(key));
+    if is_among(t, rows(reading.begins)) {
+        return telling(
+            Standing::NameRefines,
+            Told::Name(named(reading.named)),
+            Some(key),
+        );
     }
     telling(Standing::BytesRefine, Told::Bytes(t), Some(key))
 }
@@ -237,7 +268,9 @@ fn reading_without(readings: &'static [Reading], kind: Kind, buf: &[u8]) -> Opti
 fn takes(reading: &Reading, t: Type) -> bool
     ensures { result ≡ takes (triple_of t) (reading_listed reading.now) }
 {
-    is_among(t, reading.agrees) || is_among(t, reading.begins) || is_among(t, reading.finer)
+    is_among(t, rows(reading.agrees))
+        || is_among(t, rows(reading.begins))
+        || is_among(t, rows(reading.finer))
 }
 
 /// Whether the type is that of one of the rows.
@@ -257,10 +290,11 @@ fn is_among(t: Type, rows: &[&str]) -> bool
 fn fits(reading: &Reading, buf: &[u8]) -> bool
     ensures { result ≡ fits (lead_of buf.now) (reading_listed reading.now) }
 {
-    if reading.leads.is_empty() {
+    let leads = leads(reading.leads);
+    if leads.is_empty() {
         return true;
     }
-    begins_with(lead_of(buf).bytes(), reading.leads)
+    begins_with(lead_of(buf).bytes(), leads)
 }
 
 /// Whether the lead begins with one of the texts.

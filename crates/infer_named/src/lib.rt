@@ -9,6 +9,8 @@
 #![tactic(auto)]
 
 ghost use Rattle.std.specs.Prelude.{◌≡◌, option_map};
+ghost use Rattle.infer.specs.Triple.{triple_of};
+ghost use Rattle.infer_more.specs.Wider.{IsWiderAnswer};
 ghost use Rattle.infer_named.specs.Bytes.{IsKind, lead_bytes, lead_of};
 ghost use Rattle.infer_named.specs.Listed.{key_listed};
 ghost use Rattle.infer_named.specs.Named.{IsNamed};
@@ -17,12 +19,14 @@ ghost use Rattle.infer_named.specs.Table.{keys};
 
 mod bytes;
 mod join;
+pub mod laws;
 mod names;
 mod table;
 #[cfg(test)]
 mod tests;
 
 pub use bytes::{Kind, Lead};
+use infer::Type;
 pub use join::{Named, Standing, Told};
 pub use table::{Asks, Key, NamedType, Origin, Part, Reading};
 
@@ -30,7 +34,15 @@ pub use table::{Asks, Key, NamedType, Origin, Part, Reading};
 pub fn named(name: &[u8], buf: &[u8]) -> Named
     ensures { IsNamed name.now buf.now result }
 {
-    join::answer(name, buf)
+    join::answer(name, buf, infer_more::get(buf))
+}
+
+/// What they tell where the type of the wider answer of the bytes is known already.
+pub fn named_with(name: &[u8], buf: &[u8], found: Option<Type>) -> Named
+    requires { IsWiderAnswer buf.now (option_map triple_of found) }
+    ensures { IsNamed name.now buf.now result }
+{
+    join::answer(name, buf, found)
 }
 
 /// The key of the name, and `None` exactly if it has none.

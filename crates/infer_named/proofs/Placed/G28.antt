@@ -1,13 +1,20 @@
--- Made by `tools/tables` from names.txt: each key of slots 448 to 463 stands in its slot.
-use Rattle.std.proofs.Common.{◌≡◌, IsTrue, length, refl}
-use Rattle.infer_named.specs.Key.{Key}
-use Rattle.infer_named.specs.Names.{are_placed}
-use Rattle.infer_named.specs.Slots.G28.{group, slot_0, slot_1, slot_2, slot_3, slot_4, slot_5, slot_6, slot_7, slot_8, slot_9, slot_10, slot_11, slot_12, slot_13, slot_14, slot_15}
+-- Made by `tools/tables` from names.txt: each key of slots 448 to 463 stands in its slot, and none is wrong.
+use Rattle.std.proofs.Common.{◌≡◌, [], IsTrue, length, map, refl}
+use Rattle.infer_named.specs.Laws.{wrong_keys}
+use Rattle.infer_named.specs.Names.{are_placed, joined}
+use Rattle.infer_named.specs.Sets.{lead_lists, set_groups}
+use Rattle.infer_named.specs.Slots.G28.{group}
+use Rattle.infer_named.specs.Types.{type_groups, types_0, types_1, types_2, types_3, types_4, types_5, types_6, types_7, types_8, types_9, types_10, types_11, types_12, types_13, types_14, types_15}
 
 pub placed : IsTrue (are_placed 448 group)
-unfolding group slot_0 slot_1 slot_2 slot_3 slot_4 slot_5 slot_6 slot_7 slot_8 slot_9 slot_10 slot_11 slot_12 slot_13 slot_14 slot_15
+unfolding group
 placed = refl
 
 pub sixteen : length group ≡ 16
 unfolding group
 sixteen = refl
+
+-- If a key is wrong, its text stands in the error.
+pub fit : joined (map wrong_keys group) ≡ []
+unfolding group type_groups set_groups lead_lists types_0 types_1 types_2 types_3 types_4 types_5 types_6 types_7 types_8 types_9 types_10 types_11 types_12 types_13 types_14 types_15
+fit = refl

@@ -1,143 +1,114 @@
 -- Made by `tools/tables` from names.txt: the keys of slots 16 to 31.
 use Rattle.std.specs.Prelude.{List, [], ◌∷◌, codes, false, true}
-use Rattle.infer_named.specs.Key.{Key, key, known, own, reading, row}
-use Rattle.infer_named.specs.Texts.{any, none, texts}
+use Rattle.infer_named.specs.Key.{Key, key}
+use Rattle.infer_named.specs.Listed.{reading}
+use Rattle.infer_named.specs.Sets.{any-lead, leads-10, no-rows, rows-3g2-3gp-f4v-m4a-m4b-m4v-mov, rows-3gp, rows-application-x-ole-storage, rows-atom, rows-eps, rows-gpkg, rows-heif, rows-html-json-php-svg-txt-xhtml-xml, rows-html-txt-xhtml-xml, rows-html-txt-xml, rows-jp2, rows-json, rows-lnk, rows-lua, rows-m4v, rows-mp3, rows-mp4, rows-ndjson, rows-pl, rows-ppt, rows-ps, rows-ps-txt, rows-sh, rows-sh-txt, rows-sqlite, rows-squashfs, rows-tcl, rows-tif, rows-txt, rows-txt-xml, rows-vhdx, rows-woff, rows-xhtml, rows-xpm, rows-zip, text-rows}
+use Rattle.infer_named.specs.Types.{is-application-atom-xml, is-application-font-woff-as-row-woff, is-application-lrc, is-application-vnd-flatpak, is-application-vnd-ms-powerpoint, is-application-vnd-oasis-opendocument-presentation-flat-xml, is-application-vnd-sqlite3, is-application-vnd-squashfs, is-application-vnd-sun-xml-calc, is-application-x-aspx, is-application-x-bufr, is-application-x-drawio-xml, is-application-x-dtbncx-xml, is-application-x-gschema-compiled, is-application-x-hwp, is-application-x-ms-shortcut, is-application-x-ndjson, is-application-x-vhdx-disk, is-application-x-zsh, is-application-xhtml-xml, is-application-xml-external-parsed-entity, is-application-xquery, is-audio-mpeg, is-image-x-eps, is-image-x-pentax-pef, is-image-x-sigma-x3f, is-text-markdown, is-text-plain, is-text-troff, is-text-x-bitbake, is-text-x-c-hdr, is-text-x-c-src, is-text-x-checksums, is-text-x-crystal, is-text-x-csrc, is-text-x-dts, is-text-x-fastq, is-text-x-gams, is-text-x-gherkin, is-text-x-glsl, is-text-x-groovy, is-text-x-java, is-text-x-lua, is-text-x-perl, is-text-x-raku, is-text-x-rst, is-text-x-sas, is-text-x-shellscript, is-text-x-ssa, is-text-x-systemd-unit, is-text-x-tcl, is-text-x-tex, is-text-x-tmux-conf, is-text-x-vcl, is-text-x-verilog, is-text-x-wat, is-video-3gpp, is-video-h264, is-video-mj2, is-video-mp4, is-video-x-m4v}
 use Rattle.infer_named.specs.declared.table.Asks.TheVariants.{Bytes, Nothing, Signature, Text}
 use Rattle.infer_named.specs.declared.table.Part.TheVariants.{Extension, Whole}
 
-unfoldable pub slot_0 : List Key
-slot_0 =
-    key Whole (codes ".tmux.conf") false (reading own (codes "text/x-tmux-conf") Text none (codes "txt" ∷ []) none any ∷ []) ∷
-    key Extension (codes "c") false (reading known (codes "text/x-csrc") Text none (codes "txt" ∷ []) (codes "xpm" ∷ []) any ∷ []) ∷
-    key Extension (codes "hwp") false (reading known (codes "application/x-hwp") Signature none (codes "application/x-ole-storage" ∷ []) none any ∷ []) ∷
-    key Extension (codes "rst") false (reading known (codes "text/x-rst") Text none (codes "txt" ∷ []) none any ∷ []) ∷
-    key Extension (codes "story") false (reading known (codes "text/x-gherkin") Text none (codes "txt" ∷ []) none any ∷ []) ∷
-    key Extension (codes "zsh") false (reading own (codes "application/x-zsh") Text none (codes "sh" ∷ codes "txt" ∷ []) none any ∷ []) ∷
-    []
-
-unfoldable pub slot_1 : List Key
-slot_1 =
-    key Extension (codes "cc") false (reading known (codes "text/x-c++src") Text none (codes "txt" ∷ []) none any ∷ []) ∷
-    key Extension (codes "dtsi") false (reading own (codes "text/x-dts") Text none (codes "txt" ∷ []) none any ∷ []) ∷
-    key Extension (codes "lnk") false (reading (row (codes "lnk")) (codes "application/x-ms-shortcut") Signature (codes "lnk" ∷ []) none none any ∷ []) ∷
-    key Extension (codes "rest") false (reading known (codes "text/x-rst") Text none (codes "txt" ∷ []) none any ∷ []) ∷
-    []
-
-unfoldable pub slot_2 : List Key
-slot_2 =
-    key Extension (codes "ashx") false (reading known (codes "application/x-aspx") Text none (codes "html" ∷ codes "json" ∷ codes "php" ∷ codes "svg" ∷ codes "txt" ∷ codes "xhtml" ∷ codes "xml" ∷ []) none any ∷ []) ∷
-    key Extension (codes "cr") false (reading known (codes "text/x-crystal") Text none (codes "sh" ∷ codes "txt" ∷ []) none any ∷ []) ∷
-    key Extension (codes "link") false (reading known (codes "text/x-systemd-unit") Text none (codes "txt" ∷ []) none any ∷ []) ∷
-    key Extension (codes "nqp") false (reading own (codes "text/x-raku") Text none (codes "sh" ∷ codes "txt" ∷ []) none any ∷ []) ∷
-    key Extension (codes "pef") false (reading known (codes "image/x-pentax-pef") Signature none (codes "tif" ∷ []) none any ∷ []) ∷
-    key Whole (codes "readme") false (reading (row (codes "txt")) (codes "text/plain") Text (codes "txt" ∷ []) none texts any ∷ []) ∷
-    []
-
-unfoldable pub slot_3 : List Key
-slot_3 =
-    key Extension (codes "atom") false (reading (row (codes "atom")) (codes "application/atom+xml") Text (codes "atom" ∷ []) (codes "html" ∷ codes "txt" ∷ codes "xml" ∷ []) none (codes "<" ∷ []) ∷ []) ∷
-    key Extension (codes "avhdx") false (reading (row (codes "vhdx")) (codes "application/x-vhdx-disk") Signature (codes "vhdx" ∷ []) none none any ∷ []) ∷
-    key Extension (codes "flatpak") false (reading known (codes "application/vnd.flatpak") Bytes none none none any ∷ []) ∷
-    key Extension (codes "gvy") false (reading known (codes "text/x-groovy") Text none (codes "sh" ∷ codes "txt" ∷ []) none any ∷ []) ∷
-    key Extension (codes "sfs") false (reading (row (codes "squashfs")) (codes "application/vnd.squashfs") Signature (codes "squashfs" ∷ []) none none any ∷ []) ∷
-    []
-
-unfoldable pub slot_4 : List Key
-slot_4 =
-    key Extension (codes "3p") false (reading known (codes "text/troff") Text none (codes "txt" ∷ []) none any ∷ []) ∷
-    key Extension (codes "bbappend") false (reading own (codes "text/x-bitbake") Text none (codes "txt" ∷ []) none any ∷ []) ∷
-    key Extension (codes "fodp") false (reading known (codes "application/vnd.oasis.opendocument.presentation-flat-xml") Text none (codes "html" ∷ codes "txt" ∷ codes "xhtml" ∷ codes "xml" ∷ []) none (codes "<" ∷ []) ∷ []) ∷
-    key Extension (codes "sqfs") false (reading (row (codes "squashfs")) (codes "application/vnd.squashfs") Signature (codes "squashfs" ∷ []) none none any ∷ []) ∷
-    []
-
-unfoldable pub slot_5 : List Key
-slot_5 =
-    key Extension (codes "as") false (reading (row (codes "txt")) (codes "text/plain") Text (codes "txt" ∷ []) none texts any ∷ []) ∷
-    key Extension (codes "bbl") false (reading known (codes "text/x-tex") Text none (codes "ps" ∷ codes "txt" ∷ []) none any ∷ []) ∷
-    key Whole (codes "gschemas.compiled") false (reading own (codes "application/x-gschema-compiled") Bytes none none none any ∷ []) ∷
-    key Extension (codes "m4v") false (reading (row (codes "m4v")) (codes "video/x-m4v") Bytes (codes "m4v" ∷ []) (codes "mp4" ∷ []) none any ∷ []) ∷
-    key Extension (codes "psgi") false (reading (row (codes "pl")) (codes "text/x-perl") Text (codes "pl" ∷ []) (codes "sh" ∷ codes "txt" ∷ []) none any ∷ []) ∷
-    []
-
-unfoldable pub slot_6 : List Key
-slot_6 =
-    key Extension (codes "3gpp") false (reading (row (codes "3gp")) (codes "video/3gpp") Bytes (codes "3gp" ∷ []) (codes "mp4" ∷ []) none any ∷ []) ∷
-    key Extension (codes "ass") false (reading known (codes "text/x-ssa") Text none (codes "txt" ∷ []) none any ∷ []) ∷
-    key Extension (codes "h264") false (reading own (codes "video/h264") Bytes none none none any ∷ []) ∷
-    key Extension (codes "java") false (reading known (codes "text/x-java") Text none (codes "txt" ∷ []) none any ∷ []) ∷
-    key Extension (codes "jsonl") false (reading (row (codes "ndjson")) (codes "application/x-ndjson") Text (codes "ndjson" ∷ []) (codes "json" ∷ []) none any ∷ []) ∷
-    key Extension (codes "mp4v") false (reading (row (codes "mp4")) (codes "video/mp4") Bytes (codes "mp4" ∷ []) (codes "heif" ∷ []) (codes "3g2" ∷ codes "3gp" ∷ codes "f4v" ∷ codes "m4a" ∷ codes "m4b" ∷ codes "m4v" ∷ codes "mov" ∷ []) any ∷ []) ∷
-    []
-
-unfoldable pub slot_7 : List Key
-slot_7 =
-    key Extension (codes "drawio") false (reading own (codes "application/x-drawio+xml") Text none (codes "html" ∷ codes "txt" ∷ codes "xhtml" ∷ codes "xml" ∷ []) none (codes "<" ∷ []) ∷ []) ∷
-    key Extension (codes "mdwn") false (reading known (codes "text/markdown") Text none (codes "html" ∷ codes "json" ∷ codes "php" ∷ codes "svg" ∷ codes "txt" ∷ codes "xhtml" ∷ codes "xml" ∷ []) none any ∷ []) ∷
-    key Extension (codes "ppa") false (reading (row (codes "ppt")) (codes "application/vnd.ms-powerpoint") Signature (codes "ppt" ∷ []) (codes "application/x-ole-storage" ∷ []) none any ∷ []) ∷
-    key Whole (codes "robots.txt") false (reading (row (codes "txt")) (codes "text/plain") Text (codes "txt" ∷ []) none texts any ∷ []) ∷
-    key Extension (codes "sha512") false (reading own (codes "text/x-checksums") Text none (codes "txt" ∷ []) none any ∷ []) ∷
-    []
-
-unfoldable pub slot_8 : List Key
-slot_8 =
-    key Whole (codes "copying") false (reading (row (codes "txt")) (codes "text/plain") Text (codes "txt" ∷ []) none texts any ∷ []) ∷
-    key Extension (codes "gms") false (reading own (codes "text/x-gams") Text none (codes "txt" ∷ []) none any ∷ []) ∷
-    key Extension (codes "h++") false (reading known (codes "text/x-c++hdr") Text none (codes "txt" ∷ []) none any ∷ []) ∷
-    key Extension (codes "ncx") false (reading own (codes "application/x-dtbncx+xml") Text none (codes "html" ∷ codes "txt" ∷ codes "xhtml" ∷ codes "xml" ∷ []) none (codes "<" ∷ []) ∷ []) ∷
-    key Extension (codes "vcl") false (reading own (codes "text/x-vcl") Text none (codes "txt" ∷ []) none any ∷ []) ∷
-    key Extension (codes "wat") false (reading own (codes "text/x-wat") Text none (codes "txt" ∷ []) none any ∷ []) ∷
-    key Extension (codes "woff") false (reading (row (codes "woff")) (codes "application/font-woff") Bytes (codes "woff" ∷ []) none none any ∷ []) ∷
-    []
-
-unfoldable pub slot_9 : List Key
-slot_9 =
-    key Extension (codes "mp2") false (reading (row (codes "mp3")) (codes "audio/mpeg") Bytes (codes "mp3" ∷ []) none none any ∷ []) ∷
-    key Extension (codes "sxc") false (reading known (codes "application/vnd.sun.xml.calc") Signature none (codes "zip" ∷ []) none any ∷ []) ∷
-    []
-
-unfoldable pub slot_10 : List Key
-slot_10 =
-    key Extension (codes "bufr") false (reading own (codes "application/x-bufr") Bytes none none none any ∷ []) ∷
-    key Whole (codes "licence") false (reading (row (codes "txt")) (codes "text/plain") Text (codes "txt" ∷ []) none texts any ∷ []) ∷
-    key Whole (codes "license") false (reading (row (codes "txt")) (codes "text/plain") Text (codes "txt" ∷ []) none texts any ∷ []) ∷
-    key Extension (codes "mjp2") false (reading known (codes "video/mj2") Bytes none (codes "jp2" ∷ []) none any ∷ []) ∷
-    key Extension (codes "s3db") false (reading (row (codes "sqlite")) (codes "application/vnd.sqlite3") Signature (codes "sqlite" ∷ []) none (codes "gpkg" ∷ []) any ∷ []) ∷
-    key Extension (codes "veo") false (reading known (codes "text/x-verilog") Text none (codes "txt" ∷ []) none any ∷ []) ∷
-    []
-
-unfoldable pub slot_11 : List Key
-slot_11 =
-    key Extension (codes "ascx") false (reading known (codes "application/x-aspx") Text none (codes "html" ∷ codes "json" ∷ codes "php" ∷ codes "svg" ∷ codes "txt" ∷ codes "xhtml" ∷ codes "xml" ∷ []) none any ∷ []) ∷
-    key Extension (codes "ent") false (reading known (codes "application/xml-external-parsed-entity") Text none (codes "html" ∷ codes "txt" ∷ codes "xml" ∷ []) none any ∷ []) ∷
-    key Extension (codes "epsf") false (reading (row (codes "eps")) (codes "image/x-eps") Text (codes "eps" ∷ []) (codes "ps" ∷ []) none any ∷ []) ∷
-    key Extension (codes "itcl") false (reading (row (codes "tcl")) (codes "text/x-tcl") Text (codes "tcl" ∷ []) (codes "sh" ∷ codes "txt" ∷ []) none any ∷ []) ∷
-    key Extension (codes "xht") false (reading (row (codes "xhtml")) (codes "application/xhtml+xml") Text (codes "xhtml" ∷ []) (codes "html" ∷ codes "txt" ∷ codes "xml" ∷ []) none (codes "<" ∷ []) ∷ []) ∷
-    []
-
-unfoldable pub slot_12 : List Key
-slot_12 =
-    key Extension (codes "nse") false (reading (row (codes "lua")) (codes "text/x-lua") Text (codes "lua" ∷ []) (codes "sh" ∷ codes "txt" ∷ []) none any ∷ []) ∷
-    key Extension (codes "sas") false (reading known (codes "text/x-sas") Text none (codes "txt" ∷ []) none any ∷ []) ∷
-    key Extension (codes "sh") false (reading (row (codes "sh")) (codes "text/x-shellscript") Text (codes "sh" ∷ []) (codes "txt" ∷ []) none any ∷ []) ∷
-    key Extension (codes "x3f") false (reading known (codes "image/x-sigma-x3f") Bytes none none none any ∷ []) ∷
-    []
-
-unfoldable pub slot_13 : List Key
-slot_13 =
-    key Extension (codes "lrc") false (reading own (codes "application/lrc") Text none (codes "txt" ∷ []) none any ∷ []) ∷
-    key Extension (codes "mkiv") false (reading known (codes "text/x-tex") Text none (codes "ps" ∷ codes "txt" ∷ []) none any ∷ []) ∷
-    []
-
-unfoldable pub slot_14 : List Key
-slot_14 =
-    key Extension (codes "fastq") false (reading own (codes "text/x-fastq") Text none (codes "txt" ∷ []) none any ∷ []) ∷
-    key Extension (codes "xql") false (reading known (codes "application/xquery") Text none (codes "txt" ∷ codes "xml" ∷ []) none any ∷ []) ∷
-    []
-
-unfoldable pub slot_15 : List Key
-slot_15 =
-    key Extension (codes "rgen") false (reading own (codes "text/x-glsl") Text none (codes "txt" ∷ []) none any ∷ []) ∷
-    []
-
 unfoldable pub group : List (List Key)
-group = slot_0 ∷ slot_1 ∷ slot_2 ∷ slot_3 ∷ slot_4 ∷ slot_5 ∷ slot_6 ∷ slot_7 ∷ slot_8 ∷ slot_9 ∷ slot_10 ∷ slot_11 ∷ slot_12 ∷ slot_13 ∷ slot_14 ∷ slot_15 ∷ []
+group =
+    (
+    key Whole (codes ".tmux.conf") false (reading is-text-x-tmux-conf Text no-rows rows-txt no-rows any-lead ∷ []) ∷
+    key Extension (codes "c") false (reading is-text-x-csrc Text no-rows rows-txt rows-xpm any-lead ∷ []) ∷
+    key Extension (codes "hwp") false (reading is-application-x-hwp Signature no-rows rows-application-x-ole-storage no-rows any-lead ∷ []) ∷
+    key Extension (codes "rst") false (reading is-text-x-rst Text no-rows rows-txt no-rows any-lead ∷ []) ∷
+    key Extension (codes "story") false (reading is-text-x-gherkin Text no-rows rows-txt no-rows any-lead ∷ []) ∷
+    key Extension (codes "zsh") false (reading is-application-x-zsh Text no-rows rows-sh-txt no-rows any-lead ∷ []) ∷
+    [])
+    ∷ (
+    key Extension (codes "cc") false (reading is-text-x-c-src Text no-rows rows-txt no-rows any-lead ∷ []) ∷
+    key Extension (codes "dtsi") false (reading is-text-x-dts Text no-rows rows-txt no-rows any-lead ∷ []) ∷
+    key Extension (codes "lnk") false (reading is-application-x-ms-shortcut Signature rows-lnk no-rows no-rows any-lead ∷ []) ∷
+    key Extension (codes "rest") false (reading is-text-x-rst Text no-rows rows-txt no-rows any-lead ∷ []) ∷
+    [])
+    ∷ (
+    key Extension (codes "ashx") false (reading is-application-x-aspx Text no-rows rows-html-json-php-svg-txt-xhtml-xml no-rows any-lead ∷ []) ∷
+    key Extension (codes "cr") false (reading is-text-x-crystal Text no-rows rows-sh-txt no-rows any-lead ∷ []) ∷
+    key Extension (codes "link") false (reading is-text-x-systemd-unit Text no-rows rows-txt no-rows any-lead ∷ []) ∷
+    key Extension (codes "nqp") false (reading is-text-x-raku Text no-rows rows-sh-txt no-rows any-lead ∷ []) ∷
+    key Extension (codes "pef") false (reading is-image-x-pentax-pef Signature no-rows rows-tif no-rows any-lead ∷ []) ∷
+    key Whole (codes "readme") false (reading is-text-plain Text rows-txt no-rows text-rows any-lead ∷ []) ∷
+    [])
+    ∷ (
+    key Extension (codes "atom") false (reading is-application-atom-xml Text rows-atom rows-html-txt-xml no-rows leads-10 ∷ []) ∷
+    key Extension (codes "avhdx") false (reading is-application-x-vhdx-disk Signature rows-vhdx no-rows no-rows any-lead ∷ []) ∷
+    key Extension (codes "flatpak") false (reading is-application-vnd-flatpak Bytes no-rows no-rows no-rows any-lead ∷ []) ∷
+    key Extension (codes "gvy") false (reading is-text-x-groovy Text no-rows rows-sh-txt no-rows any-lead ∷ []) ∷
+    key Extension (codes "sfs") false (reading is-application-vnd-squashfs Signature rows-squashfs no-rows no-rows any-lead ∷ []) ∷
+    [])
+    ∷ (
+    key Extension (codes "3p") false (reading is-text-troff Text no-rows rows-txt no-rows any-lead ∷ []) ∷
+    key Extension (codes "bbappend") false (reading is-text-x-bitbake Text no-rows rows-txt no-rows any-lead ∷ []) ∷
+    key Extension (codes "fodp") false (reading is-application-vnd-oasis-opendocument-presentation-flat-xml Text no-rows rows-html-txt-xhtml-xml no-rows leads-10 ∷ []) ∷
+    key Extension (codes "sqfs") false (reading is-application-vnd-squashfs Signature rows-squashfs no-rows no-rows any-lead ∷ []) ∷
+    [])
+    ∷ (
+    key Extension (codes "as") false (reading is-text-plain Text rows-txt no-rows text-rows any-lead ∷ []) ∷
+    key Extension (codes "bbl") false (reading is-text-x-tex Text no-rows rows-ps-txt no-rows any-lead ∷ []) ∷
+    key Whole (codes "gschemas.compiled") false (reading is-application-x-gschema-compiled Bytes no-rows no-rows no-rows any-lead ∷ []) ∷
+    key Extension (codes "m4v") false (reading is-video-x-m4v Bytes rows-m4v rows-mp4 no-rows any-lead ∷ []) ∷
+    key Extension (codes "psgi") false (reading is-text-x-perl Text rows-pl rows-sh-txt no-rows any-lead ∷ []) ∷
+    [])
+    ∷ (
+    key Extension (codes "3gpp") false (reading is-video-3gpp Bytes rows-3gp rows-mp4 no-rows any-lead ∷ []) ∷
+    key Extension (codes "ass") false (reading is-text-x-ssa Text no-rows rows-txt no-rows any-lead ∷ []) ∷
+    key Extension (codes "h264") false (reading is-video-h264 Bytes no-rows no-rows no-rows any-lead ∷ []) ∷
+    key Extension (codes "java") false (reading is-text-x-java Text no-rows rows-txt no-rows any-lead ∷ []) ∷
+    key Extension (codes "jsonl") false (reading is-application-x-ndjson Text rows-ndjson rows-json no-rows any-lead ∷ []) ∷
+    key Extension (codes "mp4v") false (reading is-video-mp4 Bytes rows-mp4 rows-heif rows-3g2-3gp-f4v-m4a-m4b-m4v-mov any-lead ∷ []) ∷
+    [])
+    ∷ (
+    key Extension (codes "drawio") false (reading is-application-x-drawio-xml Text no-rows rows-html-txt-xhtml-xml no-rows leads-10 ∷ []) ∷
+    key Extension (codes "mdwn") false (reading is-text-markdown Text no-rows rows-html-json-php-svg-txt-xhtml-xml no-rows any-lead ∷ []) ∷
+    key Extension (codes "ppa") false (reading is-application-vnd-ms-powerpoint Signature rows-ppt rows-application-x-ole-storage no-rows any-lead ∷ []) ∷
+    key Whole (codes "robots.txt") false (reading is-text-plain Text rows-txt no-rows text-rows any-lead ∷ []) ∷
+    key Extension (codes "sha512") false (reading is-text-x-checksums Text no-rows rows-txt no-rows any-lead ∷ []) ∷
+    [])
+    ∷ (
+    key Whole (codes "copying") false (reading is-text-plain Text rows-txt no-rows text-rows any-lead ∷ []) ∷
+    key Extension (codes "gms") false (reading is-text-x-gams Text no-rows rows-txt no-rows any-lead ∷ []) ∷
+    key Extension (codes "h++") false (reading is-text-x-c-hdr Text no-rows rows-txt no-rows any-lead ∷ []) ∷
+    key Extension (codes "ncx") false (reading is-application-x-dtbncx-xml Text no-rows rows-html-txt-xhtml-xml no-rows leads-10 ∷ []) ∷
+    key Extension (codes "vcl") false (reading is-text-x-vcl Text no-rows rows-txt no-rows any-lead ∷ []) ∷
+    key Extension (codes "wat") false (reading is-text-x-wat Text no-rows rows-txt no-rows any-lead ∷ []) ∷
+    key Extension (codes "woff") false (reading is-application-font-woff-as-row-woff Bytes rows-woff no-rows no-rows any-lead ∷ []) ∷
+    [])
+    ∷ (
+    key Extension (codes "mp2") false (reading is-audio-mpeg Bytes rows-mp3 no-rows no-rows any-lead ∷ []) ∷
+    key Extension (codes "sxc") false (reading is-application-vnd-sun-xml-calc Signature no-rows rows-zip no-rows any-lead ∷ []) ∷
+    [])
+    ∷ (
+    key Extension (codes "bufr") false (reading is-application-x-bufr Bytes no-rows no-rows no-rows any-lead ∷ []) ∷
+    key Whole (codes "licence") false (reading is-text-plain Text rows-txt no-rows text-rows any-lead ∷ []) ∷
+    key Whole (codes "license") false (reading is-text-plain Text rows-txt no-rows text-rows any-lead ∷ []) ∷
+    key Extension (codes "mjp2") false (reading is-video-mj2 Bytes no-rows rows-jp2 no-rows any-lead ∷ []) ∷
+    key Extension (codes "s3db") false (reading is-application-vnd-sqlite3 Signature rows-sqlite no-rows rows-gpkg any-lead ∷ []) ∷
+    key Extension (codes "veo") false (reading is-text-x-verilog Text no-rows rows-txt no-rows any-lead ∷ []) ∷
+    [])
+    ∷ (
+    key Extension (codes "ascx") false (reading is-application-x-aspx Text no-rows rows-html-json-php-svg-txt-xhtml-xml no-rows any-lead ∷ []) ∷
+    key Extension (codes "ent") false (reading is-application-xml-external-parsed-entity Text no-rows rows-html-txt-xml no-rows any-lead ∷ []) ∷
+    key Extension (codes "epsf") false (reading is-image-x-eps Text rows-eps rows-ps no-rows any-lead ∷ []) ∷
+    key Extension (codes "itcl") false (reading is-text-x-tcl Text rows-tcl rows-sh-txt no-rows any-lead ∷ []) ∷
+    key Extension (codes "xht") false (reading is-application-xhtml-xml Text rows-xhtml rows-html-txt-xml no-rows leads-10 ∷ []) ∷
+    [])
+    ∷ (
+    key Extension (codes "nse") false (reading is-text-x-lua Text rows-lua rows-sh-txt no-rows any-lead ∷ []) ∷
+    key Extension (codes "sas") false (reading is-text-x-sas Text no-rows rows-txt no-rows any-lead ∷ []) ∷
+    key Extension (codes "sh") false (reading is-text-x-shellscript Text rows-sh rows-txt no-rows any-lead ∷ []) ∷
+    key Extension (codes "x3f") false (reading is-image-x-sigma-x3f Bytes no-rows no-rows no-rows any-lead ∷ []) ∷
+    [])
+    ∷ (
+    key Extension (codes "lrc") false (reading is-application-lrc Text no-rows rows-txt no-rows any-lead ∷ []) ∷
+    key Extension (codes "mkiv") false (reading is-text-x-tex Text no-rows rows-ps-txt no-rows any-lead ∷ []) ∷
+    [])
+    ∷ (
+    key Extension (codes "fastq") false (reading is-text-x-fastq Text no-rows rows-txt no-rows any-lead ∷ []) ∷
+    key Extension (codes "xql") false (reading is-application-xquery Text no-rows rows-txt-xml no-rows any-lead ∷ []) ∷
+    [])
+    ∷ (
+    key Extension (codes "rgen") false (reading is-text-x-glsl Text no-rows rows-txt no-rows any-lead ∷ []) ∷
+    [])
+    ∷ []

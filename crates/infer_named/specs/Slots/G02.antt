@@ -1,135 +1,106 @@
 -- Made by `tools/tables` from names.txt: the keys of slots 32 to 47.
 use Rattle.std.specs.Prelude.{List, [], ◌∷◌, codes, false, true}
-use Rattle.infer_named.specs.Key.{Key, key, known, own, reading, row}
-use Rattle.infer_named.specs.Texts.{any, none, texts}
+use Rattle.infer_named.specs.Key.{Key, key}
+use Rattle.infer_named.specs.Listed.{reading}
+use Rattle.infer_named.specs.Sets.{any-lead, leads-10, no-rows, rows-application-x-ole-storage-pptx-zip, rows-awk, rows-dbf, rows-dey, rows-djvu, rows-elf, rows-exe, rows-gz, rows-html-json-php-svg-txt-xhtml-xml, rows-html-txt-xhtml-xml, rows-html-txt-xml, rows-jpg, rows-json, rows-json-ndjson-txt, rows-json-plist-txt-xml, rows-ogg, rows-ogg-ogv, rows-opus, rows-pem, rows-pl, rows-ps-sh-txt, rows-ps-txt, rows-rb, rows-sh-txt, rows-sig, rows-tif, rows-txt, rows-xcf, rows-z, rows-zip, text-rows}
+use Rattle.infer_named.specs.Types.{is-application-graphql, is-application-jsonnet, is-application-ld-json, is-application-msgpack, is-application-oxps, is-application-pgp-signature, is-application-raml-yaml, is-application-vnd-android-dey, is-application-vnd-dbf, is-application-vnd-microsoft-portable-executable, is-application-vnd-ms-powerpoint-slideshow-macroenabled-12, is-application-vnd-nintendo-nitro-rom, is-application-x-bsp, is-application-x-compress, is-application-x-elc, is-application-x-emz, is-application-x-font-type1, is-application-x-gba-rom, is-application-x-innodb, is-application-x-ipynb-json, is-application-x-jmeter-xml, is-application-x-lzop, is-application-x-mame-chd, is-application-x-msbuild-xml, is-application-x-rhino, is-application-x-theme-xml, is-application-xml-dtd, is-application-yaml, is-audio-opus, is-image-jpeg, is-image-vnd-djvu, is-image-x-samsung-srw, is-image-x-xcf, is-model-step, is-text-plain, is-text-tab-separated-values, is-text-velocity, is-text-x-awk, is-text-x-cypher, is-text-x-dsrc, is-text-x-ebnf, is-text-x-editorconfig, is-text-x-eiffel, is-text-x-erlang, is-text-x-gap, is-text-x-gcode, is-text-x-gn, is-text-x-kusto, is-text-x-lean, is-text-x-lsl, is-text-x-makefile, is-text-x-monkey, is-text-x-msdos-batch, is-text-x-newick, is-text-x-perl, is-text-x-ruby, is-text-x-sln, is-text-x-stylus, is-text-x-systemd-unit, is-text-x-vim, is-video-x-ogm-ogg}
 use Rattle.infer_named.specs.declared.table.Asks.TheVariants.{Bytes, Nothing, Signature, Text}
 use Rattle.infer_named.specs.declared.table.Part.TheVariants.{Extension, Whole}
 
-unfoldable pub slot_0 : List Key
-slot_0 =
-    key Extension (codes "bsp") false (reading own (codes "application/x-bsp") Bytes none none none any ∷ []) ∷
-    key Extension (codes "kql") false (reading own (codes "text/x-kusto") Text none (codes "txt" ∷ []) none any ∷ []) ∷
-    key Extension (codes "nwk") false (reading own (codes "text/x-newick") Text none (codes "txt" ∷ []) none any ∷ []) ∷
-    []
-
-unfoldable pub slot_1 : List Key
-slot_1 =
-    key Whole (codes ".gitlab-ci.yml") false (reading own (codes "application/yaml") Text none (codes "json" ∷ codes "ndjson" ∷ codes "txt" ∷ []) none any ∷ []) ∷
-    key Extension (codes "di") false (reading known (codes "text/x-dsrc") Text none (codes "sh" ∷ codes "txt" ∷ []) none any ∷ []) ∷
-    key Extension (codes "elc") false (reading own (codes "application/x-elc") Bytes none (codes "txt" ∷ []) none any ∷ []) ∷
-    key Extension (codes "monkey") false (reading own (codes "text/x-monkey") Text none (codes "txt" ∷ []) none any ∷ []) ∷
-    key Extension (codes "msgpack") false (reading own (codes "application/msgpack") Bytes none none none any ∷ []) ∷
-    key Extension (codes "nawk") false (reading (row (codes "awk")) (codes "text/x-awk") Text (codes "awk" ∷ []) (codes "sh" ∷ codes "txt" ∷ []) none any ∷ []) ∷
-    key Extension (codes "opus") false (reading (row (codes "opus")) (codes "audio/opus") Signature (codes "opus" ∷ []) (codes "ogg" ∷ []) none any ∷ []) ∷
-    key Extension (codes "sln") false (reading own (codes "text/x-sln") Text none (codes "txt" ∷ []) none any ∷ []) ∷
-    []
-
-unfoldable pub slot_2 : List Key
-slot_2 =
-    key Extension (codes "awk") false (reading (row (codes "awk")) (codes "text/x-awk") Text (codes "awk" ∷ []) (codes "sh" ∷ codes "txt" ∷ []) none any ∷ []) ∷
-    key Extension (codes "djvu") false (reading (row (codes "djvu")) (codes "image/vnd.djvu") Signature (codes "djvu" ∷ []) none none any ∷ []) ∷
-    key Whole (codes "fastfile") false (reading (row (codes "rb")) (codes "text/x-ruby") Text (codes "rb" ∷ []) (codes "sh" ∷ codes "txt" ∷ []) none any ∷ []) ∷
-    []
-
-unfoldable pub slot_3 : List Key
-slot_3 =
-    key Whole (codes ".editorconfig") false (reading own (codes "text/x-editorconfig") Text none (codes "txt" ∷ []) none any ∷ []) ∷
-    key Extension (codes "vcxproj") false (reading own (codes "application/x-msbuild+xml") Text none (codes "html" ∷ codes "txt" ∷ codes "xhtml" ∷ codes "xml" ∷ []) none (codes "<" ∷ []) ∷ []) ∷
-    key Extension (codes "z") false (reading (row (codes "Z")) (codes "application/x-compress") Bytes (codes "Z" ∷ []) none none any ∷ []) ∷
-    []
-
-unfoldable pub slot_4 : List Key
-slot_4 =
-    key Extension (codes "cmd") false (reading own (codes "text/x-msdos-batch") Text none (codes "txt" ∷ []) none any ∷ []) ∷
-    key Extension (codes "ebnf") false (reading known (codes "text/x-ebnf") Text none (codes "txt" ∷ []) none any ∷ []) ∷
-    key Extension (codes "network") false (reading known (codes "text/x-systemd-unit") Text none (codes "txt" ∷ []) none any ∷ []) ∷
-    []
-
-unfoldable pub slot_5 : List Key
-slot_5 =
-    key Extension (codes "3dm") false (reading own (codes "application/x-rhino") Bytes none none none any ∷ []) ∷
-    key Extension (codes "lzo") false (reading known (codes "application/x-lzop") Bytes none none none any ∷ []) ∷
-    key Extension (codes "mk") false (reading known (codes "text/x-makefile") Text none (codes "sh" ∷ codes "txt" ∷ []) none any ∷ []) ∷
-    key Extension (codes "odex") false (reading (row (codes "dey")) (codes "application/vnd.android.dey") Signature (codes "dey" ∷ []) (codes "elf" ∷ []) none any ∷ []) ∷
-    []
-
-unfoldable pub slot_6 : List Key
-slot_6 =
-    key Extension (codes "graphqls") false (reading own (codes "application/graphql") Text none (codes "txt" ∷ []) none any ∷ []) ∷
-    key Extension (codes "ipynb") false (reading known (codes "application/x-ipynb+json") Text none (codes "json" ∷ []) none any ∷ []) ∷
-    key Extension (codes "libsonnet") false (reading own (codes "application/jsonnet") Text none (codes "sh" ∷ codes "txt" ∷ []) none any ∷ []) ∷
-    key Extension (codes "tap") false (reading known (codes "text/x.gcode") Text none (codes "txt" ∷ []) none any ∷ []) ∷
-    key Whole (codes "wheel") false (reading (row (codes "txt")) (codes "text/plain") Text (codes "txt" ∷ []) none texts any ∷ []) ∷
-    []
-
-unfoldable pub slot_7 : List Key
-slot_7 =
-    key Extension (codes "dtd") false (reading known (codes "application/xml-dtd") Text none (codes "html" ∷ codes "txt" ∷ codes "xml" ∷ []) none any ∷ []) ∷
-    key Extension (codes "erl") false (reading known (codes "text/x-erlang") Text none (codes "ps" ∷ codes "sh" ∷ codes "txt" ∷ []) none any ∷ []) ∷
-    key Extension (codes "plx") false (reading (row (codes "pl")) (codes "text/x-perl") Text (codes "pl" ∷ []) (codes "sh" ∷ codes "txt" ∷ []) none any ∷ []) ∷
-    key Extension (codes "srw") false (reading own (codes "image/x-samsung-srw") Signature none (codes "tif" ∷ []) none any ∷ []) ∷
-    []
-
-unfoldable pub slot_8 : List Key
-slot_8 =
-    key Extension (codes "cypher") false (reading own (codes "text/x-cypher") Text none (codes "txt" ∷ []) none any ∷ []) ∷
-    key Extension (codes "emz") false (reading own (codes "application/x-emz") Signature none (codes "gz" ∷ []) none any ∷ []) ∷
-    key Extension (codes "gap") false (reading own (codes "text/x-gap") Text none (codes "txt" ∷ []) none any ∷ []) ∷
-    []
-
-unfoldable pub slot_9 : List Key
-slot_9 =
-    key Extension (codes "dbf") false (reading (row (codes "dbf")) (codes "application/vnd.dbf") Bytes (codes "dbf" ∷ []) none none any ∷ []) ∷
-    key Extension (codes "pfa") false (reading known (codes "application/x-font-type1") Text none (codes "ps" ∷ codes "txt" ∷ []) none any ∷ []) ∷
-    key Extension (codes "ppsm") false (reading known (codes "application/vnd.ms-powerpoint.slideshow.macroEnabled.12") Signature none (codes "application/x-ole-storage" ∷ codes "pptx" ∷ codes "zip" ∷ []) none any ∷ []) ∷
-    key Extension (codes "styl") false (reading own (codes "text/x-stylus") Text none (codes "txt" ∷ []) none any ∷ []) ∷
-    key Extension (codes "vm") false (reading known (codes "text/velocity") Text none (codes "html" ∷ codes "json" ∷ codes "php" ∷ codes "svg" ∷ codes "txt" ∷ codes "xhtml" ∷ codes "xml" ∷ []) none any ∷ []) ∷
-    key Extension (codes "winmd") false (reading (row (codes "exe")) (codes "application/vnd.microsoft.portable-executable") Signature (codes "exe" ∷ []) none none any ∷ []) ∷
-    []
-
-unfoldable pub slot_10 : List Key
-slot_10 =
-    key Extension (codes "oxps") false (reading known (codes "application/oxps") Signature none (codes "zip" ∷ []) none any ∷ []) ∷
-    []
-
-unfoldable pub slot_11 : List Key
-slot_11 =
-    key Whole (codes "_vimrc") false (reading own (codes "text/x-vim") Text none (codes "txt" ∷ []) none any ∷ []) ∷
-    key Extension (codes "jpg") false (reading (row (codes "jpg")) (codes "image/jpeg") Signature (codes "jpg" ∷ []) none none any ∷ []) ∷
-    key Extension (codes "sign") false (reading (row (codes "sig")) (codes "application/pgp-signature") Nothing (codes "sig" ∷ []) (codes "pem" ∷ []) none any ∷ []) ∷
-    key Extension (codes "tmtheme") false (reading own (codes "application/x-theme+xml") Text none (codes "json" ∷ codes "plist" ∷ codes "txt" ∷ codes "xml" ∷ []) none (codes "<" ∷ []) ∷ []) ∷
-    []
-
-unfoldable pub slot_12 : List Key
-slot_12 =
-    key Extension (codes "eif") false (reading known (codes "text/x-eiffel") Text none (codes "txt" ∷ []) none any ∷ []) ∷
-    key Extension (codes "jsonld") false (reading known (codes "application/ld+json") Text none (codes "json" ∷ []) none any ∷ []) ∷
-    key Extension (codes "lsl") false (reading own (codes "text/x-lsl") Text none (codes "txt" ∷ []) none any ∷ []) ∷
-    key Extension (codes "xcf") false (reading (row (codes "xcf")) (codes "image/x-xcf") Signature (codes "xcf" ∷ []) none none any ∷ []) ∷
-    []
-
-unfoldable pub slot_13 : List Key
-slot_13 =
-    key Extension (codes "chd") false (reading known (codes "application/x-mame-chd") Bytes none none none any ∷ []) ∷
-    key Extension (codes "p21") false (reading known (codes "model/step") Text none (codes "txt" ∷ []) none any ∷ []) ∷
-    []
-
-unfoldable pub slot_14 : List Key
-slot_14 =
-    key Extension (codes "agb") false (reading known (codes "application/x-gba-rom") Bytes none none none any ∷ []) ∷
-    key Extension (codes "gn") false (reading own (codes "text/x-gn") Text none (codes "txt" ∷ []) none any ∷ []) ∷
-    key Extension (codes "jmx") false (reading own (codes "application/x-jmeter+xml") Text none (codes "html" ∷ codes "txt" ∷ codes "xhtml" ∷ codes "xml" ∷ []) none (codes "<" ∷ []) ∷ []) ∷
-    key Extension (codes "ogm") false (reading known (codes "video/x-ogm+ogg") Signature none (codes "ogg" ∷ codes "ogv" ∷ []) none any ∷ []) ∷
-    key Extension (codes "tab") true (reading known (codes "text/tab-separated-values") Text none (codes "txt" ∷ []) none any ∷ []) ∷
-    []
-
-unfoldable pub slot_15 : List Key
-slot_15 =
-    key Extension (codes "ibd") false (reading own (codes "application/x-innodb") Bytes none none none any ∷ []) ∷
-    key Extension (codes "lean") false (reading own (codes "text/x-lean") Text none (codes "txt" ∷ []) none any ∷ []) ∷
-    key Extension (codes "nds") false (reading known (codes "application/vnd.nintendo.nitro.rom") Bytes none none none any ∷ []) ∷
-    key Extension (codes "raml") false (reading known (codes "application/raml+yaml") Text none (codes "json" ∷ codes "ndjson" ∷ codes "txt" ∷ []) none any ∷ []) ∷
-    []
-
 unfoldable pub group : List (List Key)
-group = slot_0 ∷ slot_1 ∷ slot_2 ∷ slot_3 ∷ slot_4 ∷ slot_5 ∷ slot_6 ∷ slot_7 ∷ slot_8 ∷ slot_9 ∷ slot_10 ∷ slot_11 ∷ slot_12 ∷ slot_13 ∷ slot_14 ∷ slot_15 ∷ []
+group =
+    (
+    key Extension (codes "bsp") false (reading is-application-x-bsp Bytes no-rows no-rows no-rows any-lead ∷ []) ∷
+    key Extension (codes "kql") false (reading is-text-x-kusto Text no-rows rows-txt no-rows any-lead ∷ []) ∷
+    key Extension (codes "nwk") false (reading is-text-x-newick Text no-rows rows-txt no-rows any-lead ∷ []) ∷
+    [])
+    ∷ (
+    key Whole (codes ".gitlab-ci.yml") false (reading is-application-yaml Text no-rows rows-json-ndjson-txt no-rows any-lead ∷ []) ∷
+    key Extension (codes "di") false (reading is-text-x-dsrc Text no-rows rows-sh-txt no-rows any-lead ∷ []) ∷
+    key Extension (codes "elc") false (reading is-application-x-elc Bytes no-rows rows-txt no-rows any-lead ∷ []) ∷
+    key Extension (codes "monkey") false (reading is-text-x-monkey Text no-rows rows-txt no-rows any-lead ∷ []) ∷
+    key Extension (codes "msgpack") false (reading is-application-msgpack Bytes no-rows no-rows no-rows any-lead ∷ []) ∷
+    key Extension (codes "nawk") false (reading is-text-x-awk Text rows-awk rows-sh-txt no-rows any-lead ∷ []) ∷
+    key Extension (codes "opus") false (reading is-audio-opus Signature rows-opus rows-ogg no-rows any-lead ∷ []) ∷
+    key Extension (codes "sln") false (reading is-text-x-sln Text no-rows rows-txt no-rows any-lead ∷ []) ∷
+    [])
+    ∷ (
+    key Extension (codes "awk") false (reading is-text-x-awk Text rows-awk rows-sh-txt no-rows any-lead ∷ []) ∷
+    key Extension (codes "djvu") false (reading is-image-vnd-djvu Signature rows-djvu no-rows no-rows any-lead ∷ []) ∷
+    key Whole (codes "fastfile") false (reading is-text-x-ruby Text rows-rb rows-sh-txt no-rows any-lead ∷ []) ∷
+    [])
+    ∷ (
+    key Whole (codes ".editorconfig") false (reading is-text-x-editorconfig Text no-rows rows-txt no-rows any-lead ∷ []) ∷
+    key Extension (codes "vcxproj") false (reading is-application-x-msbuild-xml Text no-rows rows-html-txt-xhtml-xml no-rows leads-10 ∷ []) ∷
+    key Extension (codes "z") false (reading is-application-x-compress Bytes rows-z no-rows no-rows any-lead ∷ []) ∷
+    [])
+    ∷ (
+    key Extension (codes "cmd") false (reading is-text-x-msdos-batch Text no-rows rows-txt no-rows any-lead ∷ []) ∷
+    key Extension (codes "ebnf") false (reading is-text-x-ebnf Text no-rows rows-txt no-rows any-lead ∷ []) ∷
+    key Extension (codes "network") false (reading is-text-x-systemd-unit Text no-rows rows-txt no-rows any-lead ∷ []) ∷
+    [])
+    ∷ (
+    key Extension (codes "3dm") false (reading is-application-x-rhino Bytes no-rows no-rows no-rows any-lead ∷ []) ∷
+    key Extension (codes "lzo") false (reading is-application-x-lzop Bytes no-rows no-rows no-rows any-lead ∷ []) ∷
+    key Extension (codes "mk") false (reading is-text-x-makefile Text no-rows rows-sh-txt no-rows any-lead ∷ []) ∷
+    key Extension (codes "odex") false (reading is-application-vnd-android-dey Signature rows-dey rows-elf no-rows any-lead ∷ []) ∷
+    [])
+    ∷ (
+    key Extension (codes "graphqls") false (reading is-application-graphql Text no-rows rows-txt no-rows any-lead ∷ []) ∷
+    key Extension (codes "ipynb") false (reading is-application-x-ipynb-json Text no-rows rows-json no-rows any-lead ∷ []) ∷
+    key Extension (codes "libsonnet") false (reading is-application-jsonnet Text no-rows rows-sh-txt no-rows any-lead ∷ []) ∷
+    key Extension (codes "tap") false (reading is-text-x-gcode Text no-rows rows-txt no-rows any-lead ∷ []) ∷
+    key Whole (codes "wheel") false (reading is-text-plain Text rows-txt no-rows text-rows any-lead ∷ []) ∷
+    [])
+    ∷ (
+    key Extension (codes "dtd") false (reading is-application-xml-dtd Text no-rows rows-html-txt-xml no-rows any-lead ∷ []) ∷
+    key Extension (codes "erl") false (reading is-text-x-erlang Text no-rows rows-ps-sh-txt no-rows any-lead ∷ []) ∷
+    key Extension (codes "plx") false (reading is-text-x-perl Text rows-pl rows-sh-txt no-rows any-lead ∷ []) ∷
+    key Extension (codes "srw") false (reading is-image-x-samsung-srw Signature no-rows rows-tif no-rows any-lead ∷ []) ∷
+    [])
+    ∷ (
+    key Extension (codes "cypher") false (reading is-text-x-cypher Text no-rows rows-txt no-rows any-lead ∷ []) ∷
+    key Extension (codes "emz") false (reading is-application-x-emz Signature no-rows rows-gz no-rows any-lead ∷ []) ∷
+    key Extension (codes "gap") false (reading is-text-x-gap Text no-rows rows-txt no-rows any-lead ∷ []) ∷
+    [])
+    ∷ (
+    key Extension (codes "dbf") false (reading is-application-vnd-dbf Bytes rows-dbf no-rows no-rows any-lead ∷ []) ∷
+    key Extension (codes "pfa") false (reading is-application-x-font-type1 Text no-rows rows-ps-txt no-rows any-lead ∷ []) ∷
+    key Extension (codes "ppsm") false (reading is-application-vnd-ms-powerpoint-slideshow-macroenabled-12 Signature no-rows rows-application-x-ole-storage-pptx-zip no-rows any-lead ∷ []) ∷
+    key Extension (codes "styl") false (reading is-text-x-stylus Text no-rows rows-txt no-rows any-lead ∷ []) ∷
+    key Extension (codes "vm") false (reading is-text-velocity Text no-rows rows-html-json-php-svg-txt-xhtml-xml no-rows any-lead ∷ []) ∷
+    key Extension (codes "winmd") false (reading is-application-vnd-microsoft-portable-executable Signature rows-exe no-rows no-rows any-lead ∷ []) ∷
+    [])
+    ∷ (
+    key Extension (codes "oxps") false (reading is-application-oxps Signature no-rows rows-zip no-rows any-lead ∷ []) ∷
+    [])
+    ∷ (
+    key Whole (codes "_vimrc") false (reading is-text-x-vim Text no-rows rows-txt no-rows any-lead ∷ []) ∷
+    key Extension (codes "jpg") false (reading is-image-jpeg Signature rows-jpg no-rows no-rows any-lead ∷ []) ∷
+    key Extension (codes "sign") false (reading is-application-pgp-signature Nothing rows-sig rows-pem no-rows any-lead ∷ []) ∷
+    key Extension (codes "tmtheme") false (reading is-application-x-theme-xml Text no-rows rows-json-plist-txt-xml no-rows leads-10 ∷ []) ∷
+    [])
+    ∷ (
+    key Extension (codes "eif") false (reading is-text-x-eiffel Text no-rows rows-txt no-rows any-lead ∷ []) ∷
+    key Extension (codes "jsonld") false (reading is-application-ld-json Text no-rows rows-json no-rows any-lead ∷ []) ∷
+    key Extension (codes "lsl") false (reading is-text-x-lsl Text no-rows rows-txt no-rows any-lead ∷ []) ∷
+    key Extension (codes "xcf") false (reading is-image-x-xcf Signature rows-xcf no-rows no-rows any-lead ∷ []) ∷
+    [])
+    ∷ (
+    key Extension (codes "chd") false (reading is-application-x-mame-chd Bytes no-rows no-rows no-rows any-lead ∷ []) ∷
+    key Extension (codes "p21") false (reading is-model-step Text no-rows rows-txt no-rows any-lead ∷ []) ∷
+    [])
+    ∷ (
+    key Extension (codes "agb") false (reading is-application-x-gba-rom Bytes no-rows no-rows no-rows any-lead ∷ []) ∷
+    key Extension (codes "gn") false (reading is-text-x-gn Text no-rows rows-txt no-rows any-lead ∷ []) ∷
+    key Extension (codes "jmx") false (reading is-application-x-jmeter-xml Text no-rows rows-html-txt-xhtml-xml no-rows leads-10 ∷ []) ∷
+    key Extension (codes "ogm") false (reading is-video-x-ogm-ogg Signature no-rows rows-ogg-ogv no-rows any-lead ∷ []) ∷
+    key Extension (codes "tab") true (reading is-text-tab-separated-values Text no-rows rows-txt no-rows any-lead ∷ []) ∷
+    [])
+    ∷ (
+    key Extension (codes "ibd") false (reading is-application-x-innodb Bytes no-rows no-rows no-rows any-lead ∷ []) ∷
+    key Extension (codes "lean") false (reading is-text-x-lean Text no-rows rows-txt no-rows any-lead ∷ []) ∷
+    key Extension (codes "nds") false (reading is-application-vnd-nintendo-nitro-rom Bytes no-rows no-rows no-rows any-lead ∷ []) ∷
+    key Extension (codes "raml") false (reading is-application-raml-yaml Text no-rows rows-json-ndjson-txt no-rows any-lead ∷ []) ∷
+    [])
+    ∷ []

@@ -1,128 +1,99 @@
 -- Made by `tools/tables` from names.txt: the keys of slots 128 to 143.
 use Rattle.std.specs.Prelude.{List, [], ◌∷◌, codes, false, true}
-use Rattle.infer_named.specs.Key.{Key, key, known, own, reading, row}
-use Rattle.infer_named.specs.Texts.{any, none, texts}
+use Rattle.infer_named.specs.Key.{Key, key}
+use Rattle.infer_named.specs.Listed.{reading}
+use Rattle.infer_named.specs.Sets.{any-lead, leads-10, no-rows, rows-appimage-core-o-so, rows-application-x-ole-storage-pptx-zip, rows-application-x-ole-storage-zip, rows-avi, rows-awk, rows-cpio, rows-der-pem-txt, rows-elf, rows-eps, rows-exe, rows-gdbm, rows-gz, rows-hdf5, rows-html-json-php-svg-txt-xhtml-xml, rows-html-txt-xhtml-xml, rows-html-txt-xml, rows-ico, rows-ics, rows-jp2, rows-jpg, rows-jpx, rows-npy, rows-pptx, rows-ps, rows-sh-txt, rows-tif, rows-txt, rows-xhtml, rows-zip, text-rows}
+use Rattle.infer_named.specs.Types.{is-application-gzip, is-application-pkcs10, is-application-vnd-comicbook-zip, is-application-vnd-microsoft-portable-executable, is-application-vnd-oasis-opendocument-spreadsheet-flat-xml, is-application-vnd-openxmlformats-officedocument-presentationml-presentation, is-application-vnd-openxmlformats-officedocument-presentationml-template, is-application-vsix, is-application-x-ableton-live-set, is-application-x-aspx, is-application-x-cpio, is-application-x-executable-as-row-elf, is-application-x-gdbm, is-application-x-grib, is-application-x-hdf5, is-application-x-leveldb-table, is-application-x-n64-rom, is-application-x-npy, is-application-x-spss-sav, is-application-x-wheel-zip, is-application-xhtml-xml, is-audio-vnd-audible, is-image-jpeg, is-image-jpx, is-image-vnd-microsoft-icon, is-image-x-eps, is-image-x-kodak-kdc, is-text-calendar, is-text-plain, is-text-x-awk, is-text-x-c-hdr, is-text-x-cabal, is-text-x-cairo, is-text-x-cobol, is-text-x-fastq, is-text-x-fountain, is-text-x-groovy, is-text-x-irclog, is-text-x-ld-script, is-text-x-nsis, is-text-x-rdoc, is-text-x-reason, is-text-x-roc, is-text-x-snakemake, is-text-x-xmi, is-video-vnd-radgamettools-smacker, is-video-x-msvideo, is-video-x-nsv}
 use Rattle.infer_named.specs.declared.table.Asks.TheVariants.{Bytes, Nothing, Signature, Text}
 use Rattle.infer_named.specs.declared.table.Part.TheVariants.{Extension, Whole}
 
-unfoldable pub slot_0 : List Key
-slot_0 =
-    key Extension (codes "fods") false (reading known (codes "application/vnd.oasis.opendocument.spreadsheet-flat-xml") Text none (codes "html" ∷ codes "txt" ∷ codes "xhtml" ∷ codes "xml" ∷ []) none (codes "<" ∷ []) ∷ []) ∷
-    key Extension (codes "fountain") false (reading own (codes "text/x-fountain") Text none (codes "txt" ∷ []) none any ∷ []) ∷
-    key Extension (codes "nsv") false (reading known (codes "video/x-nsv") Bytes none none none any ∷ []) ∷
-    key Extension (codes "potx") false (reading known (codes "application/vnd.openxmlformats-officedocument.presentationml.template") Signature none (codes "application/x-ole-storage" ∷ codes "pptx" ∷ codes "zip" ∷ []) none any ∷ []) ∷
-    key Extension (codes "pptx") false (reading (row (codes "pptx")) (codes "application/vnd.openxmlformats-officedocument.presentationml.presentation") Signature (codes "pptx" ∷ []) (codes "application/x-ole-storage" ∷ codes "zip" ∷ []) none any ∷ []) ∷
-    key Extension (codes "roc") false (reading own (codes "text/x-roc") Text none (codes "txt" ∷ []) none any ∷ []) ∷
-    key Extension (codes "smk") false (reading own (codes "text/x-snakemake") Text none (codes "txt" ∷ []) none any ∷ reading known (codes "video/vnd.radgamettools.smacker") Bytes none none none any ∷ []) ∷
-    []
-
-unfoldable pub slot_1 : List Key
-slot_1 =
-    key Extension (codes "gzip") false (reading (row (codes "gz")) (codes "application/gzip") Signature (codes "gz" ∷ []) none none any ∷ []) ∷
-    key Extension (codes "rdoc") false (reading own (codes "text/x-rdoc") Text none (codes "txt" ∷ []) none any ∷ []) ∷
-    key Extension (codes "xhtml") false (reading (row (codes "xhtml")) (codes "application/xhtml+xml") Text (codes "xhtml" ∷ []) (codes "html" ∷ codes "txt" ∷ codes "xml" ∷ []) none (codes "<" ∷ []) ∷ []) ∷
-    []
-
-unfoldable pub slot_2 : List Key
-slot_2 =
-    key Extension (codes "hp") false (reading known (codes "text/x-c++hdr") Text none (codes "txt" ∷ []) none any ∷ []) ∷
-    []
-
-unfoldable pub slot_3 : List Key
-slot_3 =
-    key Extension (codes "cbz") false (reading known (codes "application/vnd.comicbook+zip") Signature none (codes "zip" ∷ []) none any ∷ []) ∷
-    key Extension (codes "hpp") false (reading known (codes "text/x-c++hdr") Text none (codes "txt" ∷ []) none any ∷ []) ∷
-    []
-
-unfoldable pub slot_4 : List Key
-slot_4 =
-    key Extension (codes "aax") false (reading own (codes "audio/vnd.audible") Bytes none none none any ∷ []) ∷
-    []
-
-unfoldable pub slot_5 : List Key
-slot_5 =
-    key Extension (codes "asax") false (reading known (codes "application/x-aspx") Text none (codes "html" ∷ codes "json" ∷ codes "php" ∷ codes "svg" ∷ codes "txt" ∷ codes "xhtml" ∷ codes "xml" ∷ []) none any ∷ []) ∷
-    key Extension (codes "cpio") false (reading (row (codes "cpio")) (codes "application/x-cpio") Bytes (codes "cpio" ∷ []) none none any ∷ []) ∷
-    key Extension (codes "fq") false (reading own (codes "text/x-fastq") Text none (codes "txt" ∷ []) none any ∷ []) ∷
-    key Extension (codes "ical") false (reading (row (codes "ics")) (codes "text/calendar") Text (codes "ics" ∷ []) (codes "txt" ∷ []) none any ∷ []) ∷
-    key Extension (codes "jfi") false (reading (row (codes "jpg")) (codes "image/jpeg") Signature (codes "jpg" ∷ []) none none any ∷ []) ∷
-    key Extension (codes "resi") false (reading own (codes "text/x-reason") Text none (codes "txt" ∷ []) none any ∷ []) ∷
-    key Extension (codes "whl") false (reading own (codes "application/x-wheel+zip") Signature none (codes "zip" ∷ []) none any ∷ []) ∷
-    []
-
-unfoldable pub slot_6 : List Key
-slot_6 =
-    key Extension (codes "cairo") false (reading own (codes "text/x-cairo") Text none (codes "txt" ∷ []) none any ∷ []) ∷
-    key Extension (codes "diz") false (reading (row (codes "txt")) (codes "text/plain") Text (codes "txt" ∷ []) none texts any ∷ []) ∷
-    key Extension (codes "ico") false (reading (row (codes "ico")) (codes "image/vnd.microsoft.icon") Signature (codes "ico" ∷ []) none none any ∷ []) ∷
-    key Extension (codes "ldscript") false (reading own (codes "text/x-ld-script") Text none (codes "txt" ∷ []) none any ∷ []) ∷
-    key Extension (codes "sst") false (reading own (codes "application/x-leveldb-table") Bytes none none none any ∷ []) ∷
-    key Extension (codes "xmi") false (reading known (codes "text/x-xmi") Text none (codes "html" ∷ codes "txt" ∷ codes "xhtml" ∷ codes "xml" ∷ []) none (codes "<" ∷ []) ∷ []) ∷
-    []
-
-unfoldable pub slot_7 : List Key
-slot_7 =
-    key Extension (codes "epsi") false (reading (row (codes "eps")) (codes "image/x-eps") Text (codes "eps" ∷ []) (codes "ps" ∷ []) none any ∷ []) ∷
-    key Whole (codes "pkg-info") false (reading (row (codes "txt")) (codes "text/plain") Text (codes "txt" ∷ []) none texts any ∷ []) ∷
-    []
-
-unfoldable pub slot_8 : List Key
-slot_8 =
-    key Extension (codes "gdbm") false (reading (row (codes "gdbm")) (codes "application/x-gdbm") Signature (codes "gdbm" ∷ []) none none any ∷ []) ∷
-    key Extension (codes "nc4") false (reading (row (codes "hdf5")) (codes "application/x-hdf5") Bytes (codes "hdf5" ∷ []) none none any ∷ []) ∷
-    key Extension (codes "nsh") false (reading known (codes "text/x-nsis") Text none (codes "txt" ∷ []) none any ∷ []) ∷
-    key Extension (codes "sav") true (reading known (codes "application/x-spss-sav") Bytes none none none any ∷ []) ∷
-    []
-
-unfoldable pub slot_9 : List Key
-slot_9 =
-    key Extension (codes "als") false (reading own (codes "application/x-ableton-live-set") Signature none (codes "gz" ∷ []) none any ∷ []) ∷
-    key Extension (codes "grib") false (reading own (codes "application/x-grib") Bytes none none none any ∷ []) ∷
-    key Extension (codes "groovy") false (reading known (codes "text/x-groovy") Text none (codes "sh" ∷ codes "txt" ∷ []) none any ∷ []) ∷
-    key Extension (codes "v64") false (reading known (codes "application/x-n64-rom") Bytes none none none any ∷ []) ∷
-    []
-
-unfoldable pub slot_10 : List Key
-slot_10 =
-    key Extension (codes "def") true (reading (row (codes "txt")) (codes "text/plain") Text (codes "txt" ∷ []) none texts any ∷ []) ∷
-    key Extension (codes "req") false (reading known (codes "application/pkcs10") Bytes none (codes "der" ∷ codes "pem" ∷ codes "txt" ∷ []) none any ∷ []) ∷
-    []
-
-unfoldable pub slot_11 : List Key
-slot_11 =
-    key Extension (codes "cbl") false (reading known (codes "text/x-cobol") Text none (codes "txt" ∷ []) none any ∷ []) ∷
-    key Extension (codes "me") true (reading (row (codes "txt")) (codes "text/plain") Text (codes "txt" ∷ []) none texts any ∷ []) ∷
-    key Extension (codes "npy") false (reading (row (codes "npy")) (codes "application/x-npy") Signature (codes "npy" ∷ []) none none any ∷ []) ∷
-    key Extension (codes "vsix") false (reading own (codes "application/vsix") Signature none (codes "zip" ∷ []) none any ∷ []) ∷
-    []
-
-unfoldable pub slot_12 : List Key
-slot_12 =
-    key Extension (codes "auk") false (reading (row (codes "awk")) (codes "text/x-awk") Text (codes "awk" ∷ []) (codes "sh" ∷ codes "txt" ∷ []) none any ∷ []) ∷
-    key Extension (codes "irclog") false (reading own (codes "text/x-irclog") Text none (codes "txt" ∷ []) none any ∷ []) ∷
-    []
-
-unfoldable pub slot_13 : List Key
-slot_13 =
-    key Extension (codes "cabal") false (reading own (codes "text/x-cabal") Text none (codes "txt" ∷ []) none any ∷ []) ∷
-    key Extension (codes "cobol") false (reading known (codes "text/x-cobol") Text none (codes "txt" ∷ []) none any ∷ []) ∷
-    key Extension (codes "elf") false (reading (row (codes "elf")) (codes "application/x-executable") Signature (codes "elf" ∷ []) none (codes "appimage" ∷ codes "core" ∷ codes "o" ∷ codes "so" ∷ []) any ∷ []) ∷
-    key Extension (codes "kdc") false (reading known (codes "image/x-kodak-kdc") Signature none (codes "tif" ∷ []) none any ∷ []) ∷
-    []
-
-unfoldable pub slot_14 : List Key
-slot_14 =
-    key Extension (codes "acm") false (reading (row (codes "exe")) (codes "application/vnd.microsoft.portable-executable") Signature (codes "exe" ∷ []) none none any ∷ []) ∷
-    key Extension (codes "divx") false (reading (row (codes "avi")) (codes "video/x-msvideo") Signature (codes "avi" ∷ []) none none any ∷ []) ∷
-    key Extension (codes "icalendar") false (reading (row (codes "ics")) (codes "text/calendar") Text (codes "ics" ∷ []) (codes "txt" ∷ []) none any ∷ []) ∷
-    key Extension (codes "ocx") false (reading (row (codes "exe")) (codes "application/vnd.microsoft.portable-executable") Signature (codes "exe" ∷ []) none none any ∷ []) ∷
-    []
-
-unfoldable pub slot_15 : List Key
-slot_15 =
-    key Extension (codes "jpx") false (reading (row (codes "jpx")) (codes "image/jpx") Signature (codes "jpx" ∷ []) (codes "jp2" ∷ []) none any ∷ []) ∷
-    key Extension (codes "v") false (reading (row (codes "txt")) (codes "text/plain") Text (codes "txt" ∷ []) none texts any ∷ []) ∷
-    []
-
 unfoldable pub group : List (List Key)
-group = slot_0 ∷ slot_1 ∷ slot_2 ∷ slot_3 ∷ slot_4 ∷ slot_5 ∷ slot_6 ∷ slot_7 ∷ slot_8 ∷ slot_9 ∷ slot_10 ∷ slot_11 ∷ slot_12 ∷ slot_13 ∷ slot_14 ∷ slot_15 ∷ []
+group =
+    (
+    key Extension (codes "fods") false (reading is-application-vnd-oasis-opendocument-spreadsheet-flat-xml Text no-rows rows-html-txt-xhtml-xml no-rows leads-10 ∷ []) ∷
+    key Extension (codes "fountain") false (reading is-text-x-fountain Text no-rows rows-txt no-rows any-lead ∷ []) ∷
+    key Extension (codes "nsv") false (reading is-video-x-nsv Bytes no-rows no-rows no-rows any-lead ∷ []) ∷
+    key Extension (codes "potx") false (reading is-application-vnd-openxmlformats-officedocument-presentationml-template Signature no-rows rows-application-x-ole-storage-pptx-zip no-rows any-lead ∷ []) ∷
+    key Extension (codes "pptx") false (reading is-application-vnd-openxmlformats-officedocument-presentationml-presentation Signature rows-pptx rows-application-x-ole-storage-zip no-rows any-lead ∷ []) ∷
+    key Extension (codes "roc") false (reading is-text-x-roc Text no-rows rows-txt no-rows any-lead ∷ []) ∷
+    key Extension (codes "smk") false (reading is-text-x-snakemake Text no-rows rows-txt no-rows any-lead ∷ reading is-video-vnd-radgamettools-smacker Bytes no-rows no-rows no-rows any-lead ∷ []) ∷
+    [])
+    ∷ (
+    key Extension (codes "gzip") false (reading is-application-gzip Signature rows-gz no-rows no-rows any-lead ∷ []) ∷
+    key Extension (codes "rdoc") false (reading is-text-x-rdoc Text no-rows rows-txt no-rows any-lead ∷ []) ∷
+    key Extension (codes "xhtml") false (reading is-application-xhtml-xml Text rows-xhtml rows-html-txt-xml no-rows leads-10 ∷ []) ∷
+    [])
+    ∷ (
+    key Extension (codes "hp") false (reading is-text-x-c-hdr Text no-rows rows-txt no-rows any-lead ∷ []) ∷
+    [])
+    ∷ (
+    key Extension (codes "cbz") false (reading is-application-vnd-comicbook-zip Signature no-rows rows-zip no-rows any-lead ∷ []) ∷
+    key Extension (codes "hpp") false (reading is-text-x-c-hdr Text no-rows rows-txt no-rows any-lead ∷ []) ∷
+    [])
+    ∷ (
+    key Extension (codes "aax") false (reading is-audio-vnd-audible Bytes no-rows no-rows no-rows any-lead ∷ []) ∷
+    [])
+    ∷ (
+    key Extension (codes "asax") false (reading is-application-x-aspx Text no-rows rows-html-json-php-svg-txt-xhtml-xml no-rows any-lead ∷ []) ∷
+    key Extension (codes "cpio") false (reading is-application-x-cpio Bytes rows-cpio no-rows no-rows any-lead ∷ []) ∷
+    key Extension (codes "fq") false (reading is-text-x-fastq Text no-rows rows-txt no-rows any-lead ∷ []) ∷
+    key Extension (codes "ical") false (reading is-text-calendar Text rows-ics rows-txt no-rows any-lead ∷ []) ∷
+    key Extension (codes "jfi") false (reading is-image-jpeg Signature rows-jpg no-rows no-rows any-lead ∷ []) ∷
+    key Extension (codes "resi") false (reading is-text-x-reason Text no-rows rows-txt no-rows any-lead ∷ []) ∷
+    key Extension (codes "whl") false (reading is-application-x-wheel-zip Signature no-rows rows-zip no-rows any-lead ∷ []) ∷
+    [])
+    ∷ (
+    key Extension (codes "cairo") false (reading is-text-x-cairo Text no-rows rows-txt no-rows any-lead ∷ []) ∷
+    key Extension (codes "diz") false (reading is-text-plain Text rows-txt no-rows text-rows any-lead ∷ []) ∷
+    key Extension (codes "ico") false (reading is-image-vnd-microsoft-icon Signature rows-ico no-rows no-rows any-lead ∷ []) ∷
+    key Extension (codes "ldscript") false (reading is-text-x-ld-script Text no-rows rows-txt no-rows any-lead ∷ []) ∷
+    key Extension (codes "sst") false (reading is-application-x-leveldb-table Bytes no-rows no-rows no-rows any-lead ∷ []) ∷
+    key Extension (codes "xmi") false (reading is-text-x-xmi Text no-rows rows-html-txt-xhtml-xml no-rows leads-10 ∷ []) ∷
+    [])
+    ∷ (
+    key Extension (codes "epsi") false (reading is-image-x-eps Text rows-eps rows-ps no-rows any-lead ∷ []) ∷
+    key Whole (codes "pkg-info") false (reading is-text-plain Text rows-txt no-rows text-rows any-lead ∷ []) ∷
+    [])
+    ∷ (
+    key Extension (codes "gdbm") false (reading is-application-x-gdbm Signature rows-gdbm no-rows no-rows any-lead ∷ []) ∷
+    key Extension (codes "nc4") false (reading is-application-x-hdf5 Bytes rows-hdf5 no-rows no-rows any-lead ∷ []) ∷
+    key Extension (codes "nsh") false (reading is-text-x-nsis Text no-rows rows-txt no-rows any-lead ∷ []) ∷
+    key Extension (codes "sav") true (reading is-application-x-spss-sav Bytes no-rows no-rows no-rows any-lead ∷ []) ∷
+    [])
+    ∷ (
+    key Extension (codes "als") false (reading is-application-x-ableton-live-set Signature no-rows rows-gz no-rows any-lead ∷ []) ∷
+    key Extension (codes "grib") false (reading is-application-x-grib Bytes no-rows no-rows no-rows any-lead ∷ []) ∷
+    key Extension (codes "groovy") false (reading is-text-x-groovy Text no-rows rows-sh-txt no-rows any-lead ∷ []) ∷
+    key Extension (codes "v64") false (reading is-application-x-n64-rom Bytes no-rows no-rows no-rows any-lead ∷ []) ∷
+    [])
+    ∷ (
+    key Extension (codes "def") true (reading is-text-plain Text rows-txt no-rows text-rows any-lead ∷ []) ∷
+    key Extension (codes "req") false (reading is-application-pkcs10 Bytes no-rows rows-der-pem-txt no-rows any-lead ∷ []) ∷
+    [])
+    ∷ (
+    key Extension (codes "cbl") false (reading is-text-x-cobol Text no-rows rows-txt no-rows any-lead ∷ []) ∷
+    key Extension (codes "me") true (reading is-text-plain Text rows-txt no-rows text-rows any-lead ∷ []) ∷
+    key Extension (codes "npy") false (reading is-application-x-npy Signature rows-npy no-rows no-rows any-lead ∷ []) ∷
+    key Extension (codes "vsix") false (reading is-application-vsix Signature no-rows rows-zip no-rows any-lead ∷ []) ∷
+    [])
+    ∷ (
+    key Extension (codes "auk") false (reading is-text-x-awk Text rows-awk rows-sh-txt no-rows any-lead ∷ []) ∷
+    key Extension (codes "irclog") false (reading is-text-x-irclog Text no-rows rows-txt no-rows any-lead ∷ []) ∷
+    [])
+    ∷ (
+    key Extension (codes "cabal") false (reading is-text-x-cabal Text no-rows rows-txt no-rows any-lead ∷ []) ∷
+    key Extension (codes "cobol") false (reading is-text-x-cobol Text no-rows rows-txt no-rows any-lead ∷ []) ∷
+    key Extension (codes "elf") false (reading is-application-x-executable-as-row-elf Signature rows-elf no-rows rows-appimage-core-o-so any-lead ∷ []) ∷
+    key Extension (codes "kdc") false (reading is-image-x-kodak-kdc Signature no-rows rows-tif no-rows any-lead ∷ []) ∷
+    [])
+    ∷ (
+    key Extension (codes "acm") false (reading is-application-vnd-microsoft-portable-executable Signature rows-exe no-rows no-rows any-lead ∷ []) ∷
+    key Extension (codes "divx") false (reading is-video-x-msvideo Signature rows-avi no-rows no-rows any-lead ∷ []) ∷
+    key Extension (codes "icalendar") false (reading is-text-calendar Text rows-ics rows-txt no-rows any-lead ∷ []) ∷
+    key Extension (codes "ocx") false (reading is-application-vnd-microsoft-portable-executable Signature rows-exe no-rows no-rows any-lead ∷ []) ∷
+    [])
+    ∷ (
+    key Extension (codes "jpx") false (reading is-image-jpx Signature rows-jpx rows-jp2 no-rows any-lead ∷ []) ∷
+    key Extension (codes "v") false (reading is-text-plain Text rows-txt no-rows text-rows any-lead ∷ []) ∷
+    [])
+    ∷ []

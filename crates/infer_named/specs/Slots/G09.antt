@@ -1,134 +1,105 @@
 -- Made by `tools/tables` from names.txt: the keys of slots 144 to 159.
 use Rattle.std.specs.Prelude.{List, [], ◌∷◌, codes, false, true}
-use Rattle.infer_named.specs.Key.{Key, key, known, own, reading, row}
-use Rattle.infer_named.specs.Texts.{any, none, texts}
+use Rattle.infer_named.specs.Key.{Key, key}
+use Rattle.infer_named.specs.Listed.{reading}
+use Rattle.infer_named.specs.Sets.{any-lead, leads-10, leads-5, leads-9, no-rows, rows-age, rows-apk, rows-application-x-ole-storage, rows-der, rows-fits, rows-gguf, rows-html-json-php-svg-txt-xhtml-xml, rows-html-txt-xhtml-xml, rows-jar-zip, rows-json, rows-json-sh-txt, rows-json-txt, rows-p7b, rows-pem, rows-ppt, rows-ps-txt, rows-psd, rows-py, rows-rb, rows-sh-txt, rows-txt, rows-vhdx, rows-vsdx, rows-wmv, rows-xls, rows-zip, text-rows}
+use Rattle.infer_named.specs.Types.{is-application-hjson, is-application-its-xml, is-application-json, is-application-onenote, is-application-pkcs7-mime, is-application-sparql-query, is-application-sql, is-application-timestamp-query, is-application-vnd-android-package-archive, is-application-vnd-apple-numbers, is-application-vnd-coffeescript, is-application-vnd-lotus-1-2-3, is-application-vnd-ms-excel, is-application-vnd-ms-powerpoint, is-application-vnd-ms-visio-drawing-main-xml, is-application-vnd-recordare-musicxml, is-application-x-age-encryption, is-application-x-gguf, is-application-x-glade, is-application-x-jsonc, is-application-x-jsp, is-application-x-msbuild-xml, is-application-x-precompiled-header, is-application-x-profraw, is-application-x-stuffit, is-application-x-vhdx-disk, is-application-xml, is-image-fits, is-image-vnd-adobe-photoshop, is-text-plain, is-text-x-clojure, is-text-x-elixir, is-text-x-forth, is-text-x-gdb, is-text-x-glsl, is-text-x-hcl, is-text-x-jcl, is-text-x-lex, is-text-x-llvm, is-text-x-makefile, is-text-x-meson, is-text-x-mirc, is-text-x-python-as-row-py, is-text-x-racket, is-text-x-rexx, is-text-x-rmarkdown, is-text-x-robotframework, is-text-x-ruby, is-text-x-slint, is-text-x-starlark, is-text-x-swift, is-text-x-systemd-unit, is-text-x-tex, is-text-x-vagrantfile, is-text-x-vim, is-video-x-flic, is-video-x-ms-wmv}
 use Rattle.infer_named.specs.declared.table.Asks.TheVariants.{Bytes, Nothing, Signature, Text}
 use Rattle.infer_named.specs.declared.table.Part.TheVariants.{Extension, Whole}
 
-unfoldable pub slot_0 : List Key
-slot_0 =
-    key Extension (codes "jbuilder") false (reading (row (codes "rb")) (codes "text/x-ruby") Text (codes "rb" ∷ []) (codes "sh" ∷ codes "txt" ∷ []) none any ∷ []) ∷
-    key Extension (codes "jcl") false (reading own (codes "text/x-jcl") Text none (codes "txt" ∷ []) none any ∷ []) ∷
-    key Extension (codes "jspx") false (reading known (codes "application/x-jsp") Text none (codes "html" ∷ codes "json" ∷ codes "php" ∷ codes "svg" ∷ codes "txt" ∷ codes "xhtml" ∷ codes "xml" ∷ []) none any ∷ []) ∷
-    key Extension (codes "tsq") false (reading known (codes "application/timestamp-query") Bytes none (codes "der" ∷ []) none any ∷ []) ∷
-    []
-
-unfoldable pub slot_1 : List Key
-slot_1 =
-    key Extension (codes "gdb") false (reading own (codes "text/x-gdb") Text none (codes "sh" ∷ codes "txt" ∷ []) none any ∷ []) ∷
-    key Extension (codes "iced") false (reading known (codes "application/vnd.coffeescript") Text none (codes "sh" ∷ codes "txt" ∷ []) none any ∷ []) ∷
-    key Extension (codes "its") false (reading known (codes "application/its+xml") Text none (codes "html" ∷ codes "txt" ∷ codes "xhtml" ∷ codes "xml" ∷ []) none (codes "<" ∷ []) ∷ []) ∷
-    key Extension (codes "proj") false (reading own (codes "application/x-msbuild+xml") Text none (codes "html" ∷ codes "txt" ∷ codes "xhtml" ∷ codes "xml" ∷ []) none (codes "<" ∷ []) ∷ []) ∷
-    []
-
-unfoldable pub slot_2 : List Key
-slot_2 =
-    key Whole (codes "gnumakefile") false (reading known (codes "text/x-makefile") Text none (codes "sh" ∷ codes "txt" ∷ []) none any ∷ []) ∷
-    []
-
-unfoldable pub slot_3 : List Key
-slot_3 =
-    key Extension (codes "mrc") false (reading own (codes "text/x-mirc") Text none (codes "txt" ∷ []) none any ∷ []) ∷
-    []
-
-unfoldable pub slot_4 : List Key
-slot_4 =
-    key Extension (codes "cljx") false (reading known (codes "text/x-clojure") Text none (codes "sh" ∷ codes "txt" ∷ []) none any ∷ []) ∷
-    key Whole (codes "flake.lock") false (reading (row (codes "json")) (codes "application/json") Text (codes "json" ∷ []) none none any ∷ []) ∷
-    key Extension (codes "p7m") false (reading (row (codes "p7b")) (codes "application/pkcs7-mime") Bytes (codes "p7b" ∷ []) (codes "pem" ∷ []) none any ∷ []) ∷
-    key Extension (codes "vhdx") false (reading (row (codes "vhdx")) (codes "application/x-vhdx-disk") Signature (codes "vhdx" ∷ []) none none any ∷ []) ∷
-    key Extension (codes "vsdx") false (reading (row (codes "vsdx")) (codes "application/vnd.ms-visio.drawing.main+xml") Signature (codes "vsdx" ∷ []) (codes "zip" ∷ []) none any ∷ []) ∷
-    key Extension (codes "xsd") false (reading known (codes "application/xml") Text none (codes "html" ∷ codes "txt" ∷ codes "xhtml" ∷ codes "xml" ∷ []) none (codes "<" ∷ []) ∷ []) ∷
-    []
-
-unfoldable pub slot_5 : List Key
-slot_5 =
-    key Extension (codes "apk") false (reading (row (codes "apk")) (codes "application/vnd.android.package-archive") Signature (codes "apk" ∷ []) (codes "jar" ∷ codes "zip" ∷ []) none any ∷ []) ∷
-    key Extension (codes "tfvars") false (reading own (codes "text/x-hcl") Text none (codes "txt" ∷ []) none any ∷ []) ∷
-    []
-
-unfoldable pub slot_6 : List Key
-slot_6 =
-    key Whole (codes "thorfile") false (reading (row (codes "rb")) (codes "text/x-ruby") Text (codes "rb" ∷ []) (codes "sh" ∷ codes "txt" ∷ []) none any ∷ []) ∷
-    []
-
-unfoldable pub slot_7 : List Key
-slot_7 =
-    key Extension (codes "4th") false (reading known (codes "text/x-forth") Text none (codes "sh" ∷ codes "txt" ∷ []) none any ∷ []) ∷
-    key Extension (codes "ddl") false (reading known (codes "application/sql") Text none (codes "sh" ∷ codes "txt" ∷ []) none any ∷ []) ∷
-    key Extension (codes "flc") false (reading known (codes "video/x-flic") Bytes none none none any ∷ []) ∷
-    key Whole (codes "gemfile") false (reading (row (codes "rb")) (codes "text/x-ruby") Text (codes "rb" ∷ []) (codes "sh" ∷ codes "txt" ∷ []) none any ∷ []) ∷
-    key Extension (codes "robot") false (reading own (codes "text/x-robotframework") Text none (codes "sh" ∷ codes "txt" ∷ []) none any ∷ []) ∷
-    []
-
-unfoldable pub slot_8 : List Key
-slot_8 =
-    key Extension (codes "ex") false (reading known (codes "text/x-elixir") Text none (codes "sh" ∷ codes "txt" ∷ []) none any ∷ []) ∷
-    key Extension (codes "mkvi") false (reading known (codes "text/x-tex") Text none (codes "ps" ∷ codes "txt" ∷ []) none any ∷ []) ∷
-    key Extension (codes "profdata") false (reading own (codes "application/x-profraw") Bytes none none none any ∷ []) ∷
-    key Extension (codes "qmd") false (reading own (codes "text/x-rmarkdown") Text none (codes "html" ∷ codes "json" ∷ codes "php" ∷ codes "svg" ∷ codes "txt" ∷ codes "xhtml" ∷ codes "xml" ∷ []) none any ∷ []) ∷
-    key Extension (codes "rexx") false (reading own (codes "text/x-rexx") Text none (codes "sh" ∷ codes "txt" ∷ []) none any ∷ []) ∷
-    key Extension (codes "sit") false (reading known (codes "application/x-stuffit") Bytes none none none any ∷ []) ∷
-    []
-
-unfoldable pub slot_9 : List Key
-slot_9 =
-    key Extension (codes "mxl") false (reading known (codes "application/vnd.recordare.musicxml") Signature none (codes "zip" ∷ []) none any ∷ []) ∷
-    key Extension (codes "py") false (reading (row (codes "py")) (codes "text/x-python") Text (codes "py" ∷ []) (codes "json" ∷ codes "sh" ∷ codes "txt" ∷ []) none any ∷ []) ∷
-    key Extension (codes "tesc") false (reading own (codes "text/x-glsl") Text none (codes "txt" ∷ []) none any ∷ []) ∷
-    key Extension (codes "wixproj") false (reading own (codes "application/x-msbuild+xml") Text none (codes "html" ∷ codes "txt" ∷ codes "xhtml" ∷ codes "xml" ∷ []) none (codes "<" ∷ []) ∷ []) ∷
-    []
-
-unfoldable pub slot_10 : List Key
-slot_10 =
-    key Extension (codes "age") false (reading (row (codes "age")) (codes "application/x-age-encryption") Signature (codes "age" ∷ []) (codes "pem" ∷ []) none any ∷ []) ∷
-    key Whole (codes "berksfile") false (reading own (codes "text/x-vagrantfile") Text none (codes "txt" ∷ []) none any ∷ []) ∷
-    key Extension (codes "fit") false (reading (row (codes "fits")) (codes "image/fits") Signature (codes "fits" ∷ []) none none any ∷ []) ∷
-    key Extension (codes "slint") false (reading own (codes "text/x-slint") Text none (codes "txt" ∷ []) none any ∷ []) ∷
-    key Extension (codes "swift") false (reading known (codes "text/x-swift") Text none (codes "sh" ∷ codes "txt" ∷ []) none any ∷ []) ∷
-    key Extension (codes "wk1") false (reading known (codes "application/vnd.lotus-1-2-3") Bytes none none none any ∷ []) ∷
-    key Whole (codes "workspace.bazel") false (reading own (codes "text/x-starlark") Text none (codes "sh" ∷ codes "txt" ∷ []) none any ∷ []) ∷
-    []
-
-unfoldable pub slot_11 : List Key
-slot_11 =
-    key Whole (codes "meson_options.txt") false (reading known (codes "text/x-meson") Text none (codes "txt" ∷ []) none any ∷ []) ∷
-    key Extension (codes "one") false (reading known (codes "application/onenote") Bytes none none none any ∷ []) ∷
-    key Extension (codes "xla") false (reading (row (codes "xls")) (codes "application/vnd.ms-excel") Bytes (codes "xls" ∷ []) (codes "application/x-ole-storage" ∷ []) none any ∷ []) ∷
-    []
-
-unfoldable pub slot_12 : List Key
-slot_12 =
-    key Extension (codes "psb") false (reading (row (codes "psd")) (codes "image/vnd.adobe.photoshop") Signature (codes "psd" ∷ []) none none any ∷ []) ∷
-    key Extension (codes "rktd") false (reading own (codes "text/x-racket") Text none (codes "sh" ∷ codes "txt" ∷ []) none any ∷ []) ∷
-    []
-
-unfoldable pub slot_13 : List Key
-slot_13 =
-    key Extension (codes "gguf") false (reading (row (codes "gguf")) (codes "application/x-gguf") Signature (codes "gguf" ∷ []) none none any ∷ []) ∷
-    key Extension (codes "l") false (reading own (codes "text/x-lex") Text none (codes "txt" ∷ []) none any ∷ []) ∷
-    key Extension (codes "numbers") false (reading known (codes "application/vnd.apple.numbers") Signature none (codes "zip" ∷ []) none any ∷ []) ∷
-    key Extension (codes "scrbl") false (reading own (codes "text/x-racket") Text none (codes "sh" ∷ codes "txt" ∷ []) none any ∷ []) ∷
-    []
-
-unfoldable pub slot_14 : List Key
-slot_14 =
-    key Extension (codes "gch") false (reading own (codes "application/x-precompiled-header") Bytes none none none any ∷ []) ∷
-    key Extension (codes "gemspec") false (reading (row (codes "rb")) (codes "text/x-ruby") Text (codes "rb" ∷ []) (codes "sh" ∷ codes "txt" ∷ []) none any ∷ []) ∷
-    key Extension (codes "glade") false (reading known (codes "application/x-glade") Text none (codes "html" ∷ codes "txt" ∷ codes "xhtml" ∷ codes "xml" ∷ []) none (codes "<" ∷ []) ∷ []) ∷
-    key Extension (codes "hjson") false (reading own (codes "application/hjson") Text none (codes "json" ∷ codes "txt" ∷ []) none any ∷ []) ∷
-    key Whole (codes "language-configuration.json") false (reading own (codes "application/x-jsonc") Text none (codes "txt" ∷ []) (codes "json" ∷ []) any ∷ []) ∷
-    key Extension (codes "ll") false (reading own (codes "text/x-llvm") Text none (codes "txt" ∷ []) none (codes ";" ∷ codes "ta" ∷ codes "so" ∷ codes "de" ∷ codes "@" ∷ []) ∷ reading own (codes "text/x-lex") Text none (codes "txt" ∷ []) none (codes "/" ∷ codes "%{" ∷ codes "%o" ∷ codes "%%" ∷ []) ∷ reading (row (codes "txt")) (codes "text/plain") Text (codes "txt" ∷ []) none texts any ∷ []) ∷
-    key Extension (codes "netdev") false (reading known (codes "text/x-systemd-unit") Text none (codes "txt" ∷ []) none any ∷ []) ∷
-    key Extension (codes "sparql") false (reading known (codes "application/sparql-query") Text none (codes "txt" ∷ []) none any ∷ []) ∷
-    key Extension (codes "vmb") false (reading own (codes "text/x-vim") Text none (codes "txt" ∷ []) none any ∷ []) ∷
-    []
-
-unfoldable pub slot_15 : List Key
-slot_15 =
-    key Extension (codes "pps") false (reading (row (codes "ppt")) (codes "application/vnd.ms-powerpoint") Signature (codes "ppt" ∷ []) (codes "application/x-ole-storage" ∷ []) none any ∷ []) ∷
-    key Extension (codes "wm") false (reading (row (codes "wmv")) (codes "video/x-ms-wmv") Signature (codes "wmv" ∷ []) none none any ∷ []) ∷
-    []
-
 unfoldable pub group : List (List Key)
-group = slot_0 ∷ slot_1 ∷ slot_2 ∷ slot_3 ∷ slot_4 ∷ slot_5 ∷ slot_6 ∷ slot_7 ∷ slot_8 ∷ slot_9 ∷ slot_10 ∷ slot_11 ∷ slot_12 ∷ slot_13 ∷ slot_14 ∷ slot_15 ∷ []
+group =
+    (
+    key Extension (codes "jbuilder") false (reading is-text-x-ruby Text rows-rb rows-sh-txt no-rows any-lead ∷ []) ∷
+    key Extension (codes "jcl") false (reading is-text-x-jcl Text no-rows rows-txt no-rows any-lead ∷ []) ∷
+    key Extension (codes "jspx") false (reading is-application-x-jsp Text no-rows rows-html-json-php-svg-txt-xhtml-xml no-rows any-lead ∷ []) ∷
+    key Extension (codes "tsq") false (reading is-application-timestamp-query Bytes no-rows rows-der no-rows any-lead ∷ []) ∷
+    [])
+    ∷ (
+    key Extension (codes "gdb") false (reading is-text-x-gdb Text no-rows rows-sh-txt no-rows any-lead ∷ []) ∷
+    key Extension (codes "iced") false (reading is-application-vnd-coffeescript Text no-rows rows-sh-txt no-rows any-lead ∷ []) ∷
+    key Extension (codes "its") false (reading is-application-its-xml Text no-rows rows-html-txt-xhtml-xml no-rows leads-10 ∷ []) ∷
+    key Extension (codes "proj") false (reading is-application-x-msbuild-xml Text no-rows rows-html-txt-xhtml-xml no-rows leads-10 ∷ []) ∷
+    [])
+    ∷ (
+    key Whole (codes "gnumakefile") false (reading is-text-x-makefile Text no-rows rows-sh-txt no-rows any-lead ∷ []) ∷
+    [])
+    ∷ (
+    key Extension (codes "mrc") false (reading is-text-x-mirc Text no-rows rows-txt no-rows any-lead ∷ []) ∷
+    [])
+    ∷ (
+    key Extension (codes "cljx") false (reading is-text-x-clojure Text no-rows rows-sh-txt no-rows any-lead ∷ []) ∷
+    key Whole (codes "flake.lock") false (reading is-application-json Text rows-json no-rows no-rows any-lead ∷ []) ∷
+    key Extension (codes "p7m") false (reading is-application-pkcs7-mime Bytes rows-p7b rows-pem no-rows any-lead ∷ []) ∷
+    key Extension (codes "vhdx") false (reading is-application-x-vhdx-disk Signature rows-vhdx no-rows no-rows any-lead ∷ []) ∷
+    key Extension (codes "vsdx") false (reading is-application-vnd-ms-visio-drawing-main-xml Signature rows-vsdx rows-zip no-rows any-lead ∷ []) ∷
+    key Extension (codes "xsd") false (reading is-application-xml Text no-rows rows-html-txt-xhtml-xml no-rows leads-10 ∷ []) ∷
+    [])
+    ∷ (
+    key Extension (codes "apk") false (reading is-application-vnd-android-package-archive Signature rows-apk rows-jar-zip no-rows any-lead ∷ []) ∷
+    key Extension (codes "tfvars") false (reading is-text-x-hcl Text no-rows rows-txt no-rows any-lead ∷ []) ∷
+    [])
+    ∷ (
+    key Whole (codes "thorfile") false (reading is-text-x-ruby Text rows-rb rows-sh-txt no-rows any-lead ∷ []) ∷
+    [])
+    ∷ (
+    key Extension (codes "4th") false (reading is-text-x-forth Text no-rows rows-sh-txt no-rows any-lead ∷ []) ∷
+    key Extension (codes "ddl") false (reading is-application-sql Text no-rows rows-sh-txt no-rows any-lead ∷ []) ∷
+    key Extension (codes "flc") false (reading is-video-x-flic Bytes no-rows no-rows no-rows any-lead ∷ []) ∷
+    key Whole (codes "gemfile") false (reading is-text-x-ruby Text rows-rb rows-sh-txt no-rows any-lead ∷ []) ∷
+    key Extension (codes "robot") false (reading is-text-x-robotframework Text no-rows rows-sh-txt no-rows any-lead ∷ []) ∷
+    [])
+    ∷ (
+    key Extension (codes "ex") false (reading is-text-x-elixir Text no-rows rows-sh-txt no-rows any-lead ∷ []) ∷
+    key Extension (codes "mkvi") false (reading is-text-x-tex Text no-rows rows-ps-txt no-rows any-lead ∷ []) ∷
+    key Extension (codes "profdata") false (reading is-application-x-profraw Bytes no-rows no-rows no-rows any-lead ∷ []) ∷
+    key Extension (codes "qmd") false (reading is-text-x-rmarkdown Text no-rows rows-html-json-php-svg-txt-xhtml-xml no-rows any-lead ∷ []) ∷
+    key Extension (codes "rexx") false (reading is-text-x-rexx Text no-rows rows-sh-txt no-rows any-lead ∷ []) ∷
+    key Extension (codes "sit") false (reading is-application-x-stuffit Bytes no-rows no-rows no-rows any-lead ∷ []) ∷
+    [])
+    ∷ (
+    key Extension (codes "mxl") false (reading is-application-vnd-recordare-musicxml Signature no-rows rows-zip no-rows any-lead ∷ []) ∷
+    key Extension (codes "py") false (reading is-text-x-python-as-row-py Text rows-py rows-json-sh-txt no-rows any-lead ∷ []) ∷
+    key Extension (codes "tesc") false (reading is-text-x-glsl Text no-rows rows-txt no-rows any-lead ∷ []) ∷
+    key Extension (codes "wixproj") false (reading is-application-x-msbuild-xml Text no-rows rows-html-txt-xhtml-xml no-rows leads-10 ∷ []) ∷
+    [])
+    ∷ (
+    key Extension (codes "age") false (reading is-application-x-age-encryption Signature rows-age rows-pem no-rows any-lead ∷ []) ∷
+    key Whole (codes "berksfile") false (reading is-text-x-vagrantfile Text no-rows rows-txt no-rows any-lead ∷ []) ∷
+    key Extension (codes "fit") false (reading is-image-fits Signature rows-fits no-rows no-rows any-lead ∷ []) ∷
+    key Extension (codes "slint") false (reading is-text-x-slint Text no-rows rows-txt no-rows any-lead ∷ []) ∷
+    key Extension (codes "swift") false (reading is-text-x-swift Text no-rows rows-sh-txt no-rows any-lead ∷ []) ∷
+    key Extension (codes "wk1") false (reading is-application-vnd-lotus-1-2-3 Bytes no-rows no-rows no-rows any-lead ∷ []) ∷
+    key Whole (codes "workspace.bazel") false (reading is-text-x-starlark Text no-rows rows-sh-txt no-rows any-lead ∷ []) ∷
+    [])
+    ∷ (
+    key Whole (codes "meson_options.txt") false (reading is-text-x-meson Text no-rows rows-txt no-rows any-lead ∷ []) ∷
+    key Extension (codes "one") false (reading is-application-onenote Bytes no-rows no-rows no-rows any-lead ∷ []) ∷
+    key Extension (codes "xla") false (reading is-application-vnd-ms-excel Bytes rows-xls rows-application-x-ole-storage no-rows any-lead ∷ []) ∷
+    [])
+    ∷ (
+    key Extension (codes "psb") false (reading is-image-vnd-adobe-photoshop Signature rows-psd no-rows no-rows any-lead ∷ []) ∷
+    key Extension (codes "rktd") false (reading is-text-x-racket Text no-rows rows-sh-txt no-rows any-lead ∷ []) ∷
+    [])
+    ∷ (
+    key Extension (codes "gguf") false (reading is-application-x-gguf Signature rows-gguf no-rows no-rows any-lead ∷ []) ∷
+    key Extension (codes "l") false (reading is-text-x-lex Text no-rows rows-txt no-rows any-lead ∷ []) ∷
+    key Extension (codes "numbers") false (reading is-application-vnd-apple-numbers Signature no-rows rows-zip no-rows any-lead ∷ []) ∷
+    key Extension (codes "scrbl") false (reading is-text-x-racket Text no-rows rows-sh-txt no-rows any-lead ∷ []) ∷
+    [])
+    ∷ (
+    key Extension (codes "gch") false (reading is-application-x-precompiled-header Bytes no-rows no-rows no-rows any-lead ∷ []) ∷
+    key Extension (codes "gemspec") false (reading is-text-x-ruby Text rows-rb rows-sh-txt no-rows any-lead ∷ []) ∷
+    key Extension (codes "glade") false (reading is-application-x-glade Text no-rows rows-html-txt-xhtml-xml no-rows leads-10 ∷ []) ∷
+    key Extension (codes "hjson") false (reading is-application-hjson Text no-rows rows-json-txt no-rows any-lead ∷ []) ∷
+    key Whole (codes "language-configuration.json") false (reading is-application-x-jsonc Text no-rows rows-txt rows-json any-lead ∷ []) ∷
+    key Extension (codes "ll") false (reading is-text-x-llvm Text no-rows rows-txt no-rows leads-9 ∷ reading is-text-x-lex Text no-rows rows-txt no-rows leads-5 ∷ reading is-text-plain Text rows-txt no-rows text-rows any-lead ∷ []) ∷
+    key Extension (codes "netdev") false (reading is-text-x-systemd-unit Text no-rows rows-txt no-rows any-lead ∷ []) ∷
+    key Extension (codes "sparql") false (reading is-application-sparql-query Text no-rows rows-txt no-rows any-lead ∷ []) ∷
+    key Extension (codes "vmb") false (reading is-text-x-vim Text no-rows rows-txt no-rows any-lead ∷ []) ∷
+    [])
+    ∷ (
+    key Extension (codes "pps") false (reading is-application-vnd-ms-powerpoint Signature rows-ppt rows-application-x-ole-storage no-rows any-lead ∷ []) ∷
+    key Extension (codes "wm") false (reading is-video-x-ms-wmv Signature rows-wmv no-rows no-rows any-lead ∷ []) ∷
+    [])
+    ∷ []

@@ -1,133 +1,102 @@
 -- Made by `tools/tables` from names.txt: the keys of slots 192 to 207.
 use Rattle.std.specs.Prelude.{List, [], ◌∷◌, codes, false, true}
-use Rattle.infer_named.specs.Key.{Key, key, known, own, reading, row}
-use Rattle.infer_named.specs.Texts.{any, none, texts}
+use Rattle.infer_named.specs.Key.{Key, key}
+use Rattle.infer_named.specs.Listed.{reading}
+use Rattle.infer_named.specs.Sets.{any-lead, leads-10, no-rows, rows-application-x-msi, rows-application-x-ole-storage, rows-asc, rows-bc, rows-djvu, rows-elf, rows-exe, rows-gpg, rows-gpkg, rows-html, rows-html-json-php-svg-txt-xhtml-xml, rows-html-sh-svg-txt-xhtml-xml, rows-html-txt-xhtml-xml, rows-json, rows-json-sh-txt, rows-lzma, rows-mach, rows-mkv, rows-o, rows-obj, rows-odt, rows-ott, rows-pem, rows-pgp, rows-php, rows-php-svg-txt-xhtml-xml, rows-ppt, rows-ps-txt, rows-py, rows-rb, rows-sh-txt, rows-sig, rows-sqlite, rows-txt, rows-vmdk, rows-woff2, rows-zip, text-rows}
+use Rattle.infer_named.specs.Types.{is-application-dita-xml, is-application-font-woff-as-row-woff2, is-application-json, is-application-pgp-encrypted, is-application-pgp-keys-as-row-asc, is-application-pgp-keys-as-row-gpg, is-application-pgp-signature, is-application-vnd-chess-pgn, is-application-vnd-microsoft-portable-executable, is-application-vnd-ms-powerpoint, is-application-vnd-oasis-opendocument-text, is-application-vnd-sqlite3, is-application-x-executable-as-row-obj, is-application-x-gir-xml, is-application-x-jsonc, is-application-x-llvm, is-application-x-lzma-compressed-tar, is-application-x-m4, is-application-x-mach-binary, is-application-x-msbuild-xml, is-application-x-msi, is-application-x-object, is-application-x-precompiled-header, is-application-x-pytorch, is-application-x-tmx-xml, is-application-x-vmdk-disk, is-application-x-wix-xml, is-audio-x-s3m, is-image-vnd-djvu, is-image-x-tga, is-image-x-xfig, is-text-html, is-text-plain, is-text-troff, is-text-x-checksums, is-text-x-cmake, is-text-x-d2, is-text-x-dune, is-text-x-ebnf, is-text-x-eex, is-text-x-ejs, is-text-x-gerber, is-text-x-hlsl, is-text-x-ini, is-text-x-lex, is-text-x-lilypond, is-text-x-mermaid, is-text-x-opentype-feature, is-text-x-opml-xml, is-text-x-php, is-text-x-puppet, is-text-x-python-as-row-py, is-text-x-qmake, is-text-x-ruby, is-text-x-stata, is-text-x-systemd-unit, is-text-x-tla, is-text-x-vim, is-text-x-xmi, is-video-x-matroska-3d}
 use Rattle.infer_named.specs.declared.table.Asks.TheVariants.{Bytes, Nothing, Signature, Text}
 use Rattle.infer_named.specs.declared.table.Part.TheVariants.{Extension, Whole}
 
-unfoldable pub slot_0 : List Key
-slot_0 =
-    key Extension (codes "ax") false (reading (row (codes "exe")) (codes "application/vnd.microsoft.portable-executable") Signature (codes "exe" ∷ []) none none any ∷ []) ∷
-    key Extension (codes "doh") false (reading own (codes "text/x-stata") Text none (codes "txt" ∷ []) none any ∷ []) ∷
-    key Whole (codes "dune-workspace") false (reading own (codes "text/x-dune") Text none (codes "txt" ∷ []) none any ∷ []) ∷
-    key Extension (codes "mmd") false (reading own (codes "text/x-mermaid") Text none (codes "txt" ∷ []) none any ∷ []) ∷
-    key Extension (codes "vmdk") false (reading (row (codes "vmdk")) (codes "application/x-vmdk-disk") Bytes (codes "vmdk" ∷ []) (codes "txt" ∷ []) none any ∷ []) ∷
-    []
-
-unfoldable pub slot_1 : List Key
-slot_1 =
-    key Whole (codes "api-extractor.json") false (reading own (codes "application/x-jsonc") Text none (codes "txt" ∷ []) (codes "json" ∷ []) any ∷ []) ∷
-    key Extension (codes "bnf") false (reading known (codes "text/x-ebnf") Text none (codes "txt" ∷ []) none any ∷ []) ∷
-    key Extension (codes "djv") false (reading (row (codes "djvu")) (codes "image/vnd.djvu") Signature (codes "djvu" ∷ []) none none any ∷ []) ∷
-    key Extension (codes "ly") false (reading known (codes "text/x-lilypond") Text none (codes "ps" ∷ codes "txt" ∷ []) none any ∷ []) ∷
-    key Extension (codes "sqlproj") false (reading own (codes "application/x-msbuild+xml") Text none (codes "html" ∷ codes "txt" ∷ codes "xhtml" ∷ codes "xml" ∷ []) none (codes "<" ∷ []) ∷ []) ∷
-    key Extension (codes "stp") false (reading (row (codes "txt")) (codes "text/plain") Text (codes "txt" ∷ []) none texts any ∷ []) ∷
-    []
-
-unfoldable pub slot_2 : List Key
-slot_2 =
-    key Extension (codes "fea") false (reading own (codes "text/x-opentype-feature") Text none (codes "txt" ∷ []) none any ∷ []) ∷
-    key Extension (codes "lex") false (reading own (codes "text/x-lex") Text none (codes "txt" ∷ []) none any ∷ []) ∷
-    key Extension (codes "py3") false (reading (row (codes "py")) (codes "text/x-python") Text (codes "py" ∷ []) (codes "json" ∷ codes "sh" ∷ codes "txt" ∷ []) none any ∷ []) ∷
-    []
-
-unfoldable pub slot_3 : List Key
-slot_3 =
-    key Extension (codes "leex") false (reading own (codes "text/x-eex") Text none (codes "html" ∷ codes "json" ∷ codes "php" ∷ codes "svg" ∷ codes "txt" ∷ codes "xhtml" ∷ codes "xml" ∷ []) none any ∷ []) ∷
-    key Extension (codes "mk3d") false (reading known (codes "video/x-matroska-3d") Signature none (codes "mkv" ∷ []) none any ∷ []) ∷
-    key Extension (codes "ppt") false (reading (row (codes "ppt")) (codes "application/vnd.ms-powerpoint") Signature (codes "ppt" ∷ []) (codes "application/x-ole-storage" ∷ []) none any ∷ []) ∷
-    key Extension (codes "tla") false (reading own (codes "text/x-tla") Text none (codes "txt" ∷ []) none any ∷ []) ∷
-    []
-
-unfoldable pub slot_4 : List Key
-slot_4 =
-    key Extension (codes "mermaid") false (reading own (codes "text/x-mermaid") Text none (codes "txt" ∷ []) none any ∷ []) ∷
-    key Extension (codes "pch") true (reading own (codes "application/x-precompiled-header") Bytes none none none any ∷ reading (row (codes "txt")) (codes "text/plain") Text (codes "txt" ∷ []) none texts any ∷ []) ∷
-    key Extension (codes "phpt") false (reading (row (codes "php")) (codes "text/x-php") Text (codes "php" ∷ []) (codes "html" ∷ codes "sh" ∷ codes "svg" ∷ codes "txt" ∷ codes "xhtml" ∷ codes "xml" ∷ []) none any ∷ []) ∷
-    key Extension (codes "podspec") false (reading (row (codes "rb")) (codes "text/x-ruby") Text (codes "rb" ∷ []) (codes "sh" ∷ codes "txt" ∷ []) none any ∷ []) ∷
-    key Extension (codes "sig") false (reading (row (codes "sig")) (codes "application/pgp-signature") Nothing (codes "sig" ∷ []) (codes "pem" ∷ []) none any ∷ []) ∷
-    key Extension (codes "vimrc") false (reading own (codes "text/x-vim") Text none (codes "txt" ∷ []) none any ∷ []) ∷
-    []
-
-unfoldable pub slot_5 : List Key
-slot_5 =
-    []
-
-unfoldable pub slot_6 : List Key
-slot_6 =
-    key Extension (codes "ckpt") false (reading own (codes "application/x-pytorch") Bytes none (codes "zip" ∷ []) none any ∷ []) ∷
-    key Extension (codes "cmake") false (reading known (codes "text/x-cmake") Text none (codes "txt" ∷ []) none any ∷ []) ∷
-    key Extension (codes "fig") false (reading known (codes "image/x-xfig") Text none (codes "txt" ∷ []) none any ∷ []) ∷
-    key Extension (codes "msm") false (reading (row (codes "msi")) (codes "application/x-msi") Signature (codes "application/x-msi" ∷ []) (codes "application/x-ole-storage" ∷ []) none any ∷ []) ∷
-    key Extension (codes "puppet") false (reading known (codes "text/x-puppet") Text none (codes "txt" ∷ []) none any ∷ []) ∷
-    []
-
-unfoldable pub slot_7 : List Key
-slot_7 =
-    []
-
-unfoldable pub slot_8 : List Key
-slot_8 =
-    key Whole (codes "alembic.ini") false (reading own (codes "text/x-ini") Text none (codes "txt" ∷ []) none any ∷ []) ∷
-    key Extension (codes "d2") false (reading own (codes "text/x-d2") Text none (codes "txt" ∷ []) none any ∷ []) ∷
-    key Extension (codes "gir") false (reading own (codes "application/x-gir+xml") Text none (codes "html" ∷ codes "txt" ∷ codes "xhtml" ∷ codes "xml" ∷ []) none (codes "<" ∷ []) ∷ []) ∷
-    key Extension (codes "pgn") false (reading known (codes "application/vnd.chess-pgn") Text none (codes "txt" ∷ []) none any ∷ []) ∷
-    key Extension (codes "tar.lzma") false (reading known (codes "application/x-lzma-compressed-tar") Signature none (codes "lzma" ∷ []) none any ∷ []) ∷
-    []
-
-unfoldable pub slot_9 : List Key
-slot_9 =
-    key Extension (codes "gpg") true (reading (row (codes "asc")) (codes "application/pgp-keys") Text (codes "asc" ∷ []) none none any ∷ reading (row (codes "pgp")) (codes "application/pgp-encrypted") Text (codes "pgp" ∷ []) none none any ∷ reading (row (codes "gpg")) (codes "application/pgp-keys") Bytes (codes "gpg" ∷ []) none none any ∷ []) ∷
-    key Extension (codes "md5sum") false (reading own (codes "text/x-checksums") Text none (codes "txt" ∷ []) none any ∷ []) ∷
-    key Extension (codes "odt") false (reading (row (codes "odt")) (codes "application/vnd.oasis.opendocument.text") Signature (codes "odt" ∷ []) (codes "zip" ∷ []) (codes "ott" ∷ []) any ∷ []) ∷
-    key Extension (codes "sha384") false (reading own (codes "text/x-checksums") Text none (codes "txt" ∷ []) none any ∷ []) ∷
-    key Extension (codes "woff2") false (reading (row (codes "woff2")) (codes "application/font-woff") Bytes (codes "woff2" ∷ []) none none any ∷ []) ∷
-    key Extension (codes "wxi") false (reading own (codes "application/x-wix+xml") Text none (codes "html" ∷ codes "txt" ∷ codes "xhtml" ∷ codes "xml" ∷ []) none (codes "<" ∷ []) ∷ []) ∷
-    []
-
-unfoldable pub slot_10 : List Key
-slot_10 =
-    key Extension (codes "ditamap") false (reading own (codes "application/dita+xml") Text none (codes "html" ∷ codes "txt" ∷ codes "xhtml" ∷ codes "xml" ∷ []) none (codes "<" ∷ []) ∷ []) ∷
-    key Extension (codes "s3m") false (reading known (codes "audio/x-s3m") Bytes none none none any ∷ []) ∷
-    key Extension (codes "tmx") false (reading own (codes "application/x-tmx+xml") Text none (codes "html" ∷ codes "txt" ∷ codes "xhtml" ∷ codes "xml" ∷ []) none (codes "<" ∷ []) ∷ []) ∷
-    []
-
-unfoldable pub slot_11 : List Key
-slot_11 =
-    key Extension (codes "ejs") false (reading own (codes "text/x-ejs") Text none (codes "html" ∷ codes "json" ∷ codes "php" ∷ codes "svg" ∷ codes "txt" ∷ codes "xhtml" ∷ codes "xml" ∷ []) none any ∷ []) ∷
-    key Extension (codes "html.hl") false (reading (row (codes "html")) (codes "text/html") Text (codes "html" ∷ []) (codes "php" ∷ codes "svg" ∷ codes "txt" ∷ codes "xhtml" ∷ codes "xml" ∷ []) none any ∷ []) ∷
-    []
-
-unfoldable pub slot_12 : List Key
-slot_12 =
-    key Extension (codes "ecore") false (reading known (codes "text/x-xmi") Text none (codes "html" ∷ codes "txt" ∷ codes "xhtml" ∷ codes "xml" ∷ []) none (codes "<" ∷ []) ∷ []) ∷
-    key Extension (codes "m4") false (reading known (codes "application/x-m4") Text none (codes "sh" ∷ codes "txt" ∷ []) none any ∷ []) ∷
-    key Extension (codes "o") true (reading (row (codes "o")) (codes "application/x-object") Signature (codes "o" ∷ []) (codes "elf" ∷ []) none any ∷ reading (row (codes "obj")) (codes "application/x-executable") Signature (codes "obj" ∷ []) none none any ∷ reading (row (codes "bc")) (codes "application/x-llvm") Signature (codes "bc" ∷ []) none none any ∷ reading (row (codes "mach")) (codes "application/x-mach-binary") Signature (codes "mach" ∷ []) none none any ∷ []) ∷
-    key Extension (codes "tga") false (reading known (codes "image/x-tga") Bytes none none none any ∷ []) ∷
-    []
-
-unfoldable pub slot_13 : List Key
-slot_13 =
-    key Whole (codes "fstab") false (reading (row (codes "txt")) (codes "text/plain") Text (codes "txt" ∷ []) none texts any ∷ []) ∷
-    key Extension (codes "opml") false (reading known (codes "text/x-opml+xml") Text none (codes "html" ∷ codes "txt" ∷ codes "xhtml" ∷ codes "xml" ∷ []) none (codes "<" ∷ []) ∷ []) ∷
-    key Whole (codes "package-lock.json") false (reading (row (codes "json")) (codes "application/json") Text (codes "json" ∷ []) none none any ∷ []) ∷
-    key Extension (codes "pri") false (reading own (codes "text/x-qmake") Text none (codes "txt" ∷ []) none any ∷ []) ∷
-    []
-
-unfoldable pub slot_14 : List Key
-slot_14 =
-    key Extension (codes "3perl") false (reading known (codes "text/troff") Text none (codes "txt" ∷ []) none any ∷ []) ∷
-    key Whole (codes "pylintrc") false (reading own (codes "text/x-ini") Text none (codes "txt" ∷ []) none any ∷ []) ∷
-    key Extension (codes "sqlitedb") false (reading (row (codes "sqlite")) (codes "application/vnd.sqlite3") Signature (codes "sqlite" ∷ []) none (codes "gpkg" ∷ []) any ∷ []) ∷
-    []
-
-unfoldable pub slot_15 : List Key
-slot_15 =
-    key Extension (codes "fxh") false (reading own (codes "text/x-hlsl") Text none (codes "txt" ∷ []) none any ∷ []) ∷
-    key Extension (codes "gbo") false (reading own (codes "text/x-gerber") Text none (codes "txt" ∷ []) none any ∷ []) ∷
-    key Whole (codes "pipfile.lock") false (reading (row (codes "json")) (codes "application/json") Text (codes "json" ∷ []) none none any ∷ []) ∷
-    key Extension (codes "service") false (reading known (codes "text/x-systemd-unit") Text none (codes "txt" ∷ []) none any ∷ []) ∷
-    []
-
 unfoldable pub group : List (List Key)
-group = slot_0 ∷ slot_1 ∷ slot_2 ∷ slot_3 ∷ slot_4 ∷ slot_5 ∷ slot_6 ∷ slot_7 ∷ slot_8 ∷ slot_9 ∷ slot_10 ∷ slot_11 ∷ slot_12 ∷ slot_13 ∷ slot_14 ∷ slot_15 ∷ []
+group =
+    (
+    key Extension (codes "ax") false (reading is-application-vnd-microsoft-portable-executable Signature rows-exe no-rows no-rows any-lead ∷ []) ∷
+    key Extension (codes "doh") false (reading is-text-x-stata Text no-rows rows-txt no-rows any-lead ∷ []) ∷
+    key Whole (codes "dune-workspace") false (reading is-text-x-dune Text no-rows rows-txt no-rows any-lead ∷ []) ∷
+    key Extension (codes "mmd") false (reading is-text-x-mermaid Text no-rows rows-txt no-rows any-lead ∷ []) ∷
+    key Extension (codes "vmdk") false (reading is-application-x-vmdk-disk Bytes rows-vmdk rows-txt no-rows any-lead ∷ []) ∷
+    [])
+    ∷ (
+    key Whole (codes "api-extractor.json") false (reading is-application-x-jsonc Text no-rows rows-txt rows-json any-lead ∷ []) ∷
+    key Extension (codes "bnf") false (reading is-text-x-ebnf Text no-rows rows-txt no-rows any-lead ∷ []) ∷
+    key Extension (codes "djv") false (reading is-image-vnd-djvu Signature rows-djvu no-rows no-rows any-lead ∷ []) ∷
+    key Extension (codes "ly") false (reading is-text-x-lilypond Text no-rows rows-ps-txt no-rows any-lead ∷ []) ∷
+    key Extension (codes "sqlproj") false (reading is-application-x-msbuild-xml Text no-rows rows-html-txt-xhtml-xml no-rows leads-10 ∷ []) ∷
+    key Extension (codes "stp") false (reading is-text-plain Text rows-txt no-rows text-rows any-lead ∷ []) ∷
+    [])
+    ∷ (
+    key Extension (codes "fea") false (reading is-text-x-opentype-feature Text no-rows rows-txt no-rows any-lead ∷ []) ∷
+    key Extension (codes "lex") false (reading is-text-x-lex Text no-rows rows-txt no-rows any-lead ∷ []) ∷
+    key Extension (codes "py3") false (reading is-text-x-python-as-row-py Text rows-py rows-json-sh-txt no-rows any-lead ∷ []) ∷
+    [])
+    ∷ (
+    key Extension (codes "leex") false (reading is-text-x-eex Text no-rows rows-html-json-php-svg-txt-xhtml-xml no-rows any-lead ∷ []) ∷
+    key Extension (codes "mk3d") false (reading is-video-x-matroska-3d Signature no-rows rows-mkv no-rows any-lead ∷ []) ∷
+    key Extension (codes "ppt") false (reading is-application-vnd-ms-powerpoint Signature rows-ppt rows-application-x-ole-storage no-rows any-lead ∷ []) ∷
+    key Extension (codes "tla") false (reading is-text-x-tla Text no-rows rows-txt no-rows any-lead ∷ []) ∷
+    [])
+    ∷ (
+    key Extension (codes "mermaid") false (reading is-text-x-mermaid Text no-rows rows-txt no-rows any-lead ∷ []) ∷
+    key Extension (codes "pch") true (reading is-application-x-precompiled-header Bytes no-rows no-rows no-rows any-lead ∷ reading is-text-plain Text rows-txt no-rows text-rows any-lead ∷ []) ∷
+    key Extension (codes "phpt") false (reading is-text-x-php Text rows-php rows-html-sh-svg-txt-xhtml-xml no-rows any-lead ∷ []) ∷
+    key Extension (codes "podspec") false (reading is-text-x-ruby Text rows-rb rows-sh-txt no-rows any-lead ∷ []) ∷
+    key Extension (codes "sig") false (reading is-application-pgp-signature Nothing rows-sig rows-pem no-rows any-lead ∷ []) ∷
+    key Extension (codes "vimrc") false (reading is-text-x-vim Text no-rows rows-txt no-rows any-lead ∷ []) ∷
+    [])
+    ∷ []
+    ∷ (
+    key Extension (codes "ckpt") false (reading is-application-x-pytorch Bytes no-rows rows-zip no-rows any-lead ∷ []) ∷
+    key Extension (codes "cmake") false (reading is-text-x-cmake Text no-rows rows-txt no-rows any-lead ∷ []) ∷
+    key Extension (codes "fig") false (reading is-image-x-xfig Text no-rows rows-txt no-rows any-lead ∷ []) ∷
+    key Extension (codes "msm") false (reading is-application-x-msi Signature rows-application-x-msi rows-application-x-ole-storage no-rows any-lead ∷ []) ∷
+    key Extension (codes "puppet") false (reading is-text-x-puppet Text no-rows rows-txt no-rows any-lead ∷ []) ∷
+    [])
+    ∷ []
+    ∷ (
+    key Whole (codes "alembic.ini") false (reading is-text-x-ini Text no-rows rows-txt no-rows any-lead ∷ []) ∷
+    key Extension (codes "d2") false (reading is-text-x-d2 Text no-rows rows-txt no-rows any-lead ∷ []) ∷
+    key Extension (codes "gir") false (reading is-application-x-gir-xml Text no-rows rows-html-txt-xhtml-xml no-rows leads-10 ∷ []) ∷
+    key Extension (codes "pgn") false (reading is-application-vnd-chess-pgn Text no-rows rows-txt no-rows any-lead ∷ []) ∷
+    key Extension (codes "tar.lzma") false (reading is-application-x-lzma-compressed-tar Signature no-rows rows-lzma no-rows any-lead ∷ []) ∷
+    [])
+    ∷ (
+    key Extension (codes "gpg") true (reading is-application-pgp-keys-as-row-asc Text rows-asc no-rows no-rows any-lead ∷ reading is-application-pgp-encrypted Text rows-pgp no-rows no-rows any-lead ∷ reading is-application-pgp-keys-as-row-gpg Bytes rows-gpg no-rows no-rows any-lead ∷ []) ∷
+    key Extension (codes "md5sum") false (reading is-text-x-checksums Text no-rows rows-txt no-rows any-lead ∷ []) ∷
+    key Extension (codes "odt") false (reading is-application-vnd-oasis-opendocument-text Signature rows-odt rows-zip rows-ott any-lead ∷ []) ∷
+    key Extension (codes "sha384") false (reading is-text-x-checksums Text no-rows rows-txt no-rows any-lead ∷ []) ∷
+    key Extension (codes "woff2") false (reading is-application-font-woff-as-row-woff2 Bytes rows-woff2 no-rows no-rows any-lead ∷ []) ∷
+    key Extension (codes "wxi") false (reading is-application-x-wix-xml Text no-rows rows-html-txt-xhtml-xml no-rows leads-10 ∷ []) ∷
+    [])
+    ∷ (
+    key Extension (codes "ditamap") false (reading is-application-dita-xml Text no-rows rows-html-txt-xhtml-xml no-rows leads-10 ∷ []) ∷
+    key Extension (codes "s3m") false (reading is-audio-x-s3m Bytes no-rows no-rows no-rows any-lead ∷ []) ∷
+    key Extension (codes "tmx") false (reading is-application-x-tmx-xml Text no-rows rows-html-txt-xhtml-xml no-rows leads-10 ∷ []) ∷
+    [])
+    ∷ (
+    key Extension (codes "ejs") false (reading is-text-x-ejs Text no-rows rows-html-json-php-svg-txt-xhtml-xml no-rows any-lead ∷ []) ∷
+    key Extension (codes "html.hl") false (reading is-text-html Text rows-html rows-php-svg-txt-xhtml-xml no-rows any-lead ∷ []) ∷
+    [])
+    ∷ (
+    key Extension (codes "ecore") false (reading is-text-x-xmi Text no-rows rows-html-txt-xhtml-xml no-rows leads-10 ∷ []) ∷
+    key Extension (codes "m4") false (reading is-application-x-m4 Text no-rows rows-sh-txt no-rows any-lead ∷ []) ∷
+    key Extension (codes "o") true (reading is-application-x-object Signature rows-o rows-elf no-rows any-lead ∷ reading is-application-x-executable-as-row-obj Signature rows-obj no-rows no-rows any-lead ∷ reading is-application-x-llvm Signature rows-bc no-rows no-rows any-lead ∷ reading is-application-x-mach-binary Signature rows-mach no-rows no-rows any-lead ∷ []) ∷
+    key Extension (codes "tga") false (reading is-image-x-tga Bytes no-rows no-rows no-rows any-lead ∷ []) ∷
+    [])
+    ∷ (
+    key Whole (codes "fstab") false (reading is-text-plain Text rows-txt no-rows text-rows any-lead ∷ []) ∷
+    key Extension (codes "opml") false (reading is-text-x-opml-xml Text no-rows rows-html-txt-xhtml-xml no-rows leads-10 ∷ []) ∷
+    key Whole (codes "package-lock.json") false (reading is-application-json Text rows-json no-rows no-rows any-lead ∷ []) ∷
+    key Extension (codes "pri") false (reading is-text-x-qmake Text no-rows rows-txt no-rows any-lead ∷ []) ∷
+    [])
+    ∷ (
+    key Extension (codes "3perl") false (reading is-text-troff Text no-rows rows-txt no-rows any-lead ∷ []) ∷
+    key Whole (codes "pylintrc") false (reading is-text-x-ini Text no-rows rows-txt no-rows any-lead ∷ []) ∷
+    key Extension (codes "sqlitedb") false (reading is-application-vnd-sqlite3 Signature rows-sqlite no-rows rows-gpkg any-lead ∷ []) ∷
+    [])
+    ∷ (
+    key Extension (codes "fxh") false (reading is-text-x-hlsl Text no-rows rows-txt no-rows any-lead ∷ []) ∷
+    key Extension (codes "gbo") false (reading is-text-x-gerber Text no-rows rows-txt no-rows any-lead ∷ []) ∷
+    key Whole (codes "pipfile.lock") false (reading is-application-json Text rows-json no-rows no-rows any-lead ∷ []) ∷
+    key Extension (codes "service") false (reading is-text-x-systemd-unit Text no-rows rows-txt no-rows any-lead ∷ []) ∷
+    [])
+    ∷ []

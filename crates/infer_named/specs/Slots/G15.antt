@@ -1,140 +1,111 @@
 -- Made by `tools/tables` from names.txt: the keys of slots 240 to 255.
 use Rattle.std.specs.Prelude.{List, [], ◌∷◌, codes, false, true}
-use Rattle.infer_named.specs.Key.{Key, key, known, own, reading, row}
-use Rattle.infer_named.specs.Texts.{any, none, texts}
+use Rattle.infer_named.specs.Key.{Key, key}
+use Rattle.infer_named.specs.Listed.{reading}
+use Rattle.infer_named.specs.Sets.{any-lead, leads-10, leads-2, no-rows, rows-3gp, rows-application-x-ole-storage, rows-application-x-ole-storage-pptx-zip, rows-atom-gpx-kml-plist-rss-svg-xhtml, rows-bz2, rows-docx-application-x-ole-storage-zip, rows-dwg, rows-elf, rows-elf-so, rows-eps, rows-exe, rows-gpkg, rows-html-txt, rows-html-txt-xhtml-xml, rows-html-txt-xml, rows-jmod, rows-js, rows-json, rows-json-sh-txt, rows-jxr, rows-kml, rows-mp4, rows-mpc, rows-nes, rows-o, rows-odg, rows-pcapng, rows-ps, rows-ps-txt, rows-psd, rows-sh-txt, rows-sqlite, rows-txt, rows-wmv, rows-xml, rows-zip, rows-zst, text-rows}
+use Rattle.infer_named.specs.Types.{is-application-metalink-xml, is-application-postscript, is-application-vnd-adobe-xfdf, is-application-vnd-corel-draw, is-application-vnd-geogebra-file, is-application-vnd-google-earth-kml-xml, is-application-vnd-ms-powerpoint-presentation-macroenabled-12, is-application-vnd-ms-powerpoint-template-macroenabled-12, is-application-vnd-oasis-opendocument-graphics, is-application-vnd-openxmlformats-officedocument-wordprocessingml-template, is-application-vnd-sqlite3, is-application-vnd-sun-xml-impress, is-application-x-ant-xml, is-application-x-bzip2, is-application-x-cmi, is-application-x-com-executable, is-application-x-gameboy-rom, is-application-x-gds, is-application-x-intellij-xml, is-application-x-java-jmod, is-application-x-jsonc, is-application-x-locale-archive, is-application-x-mimecache, is-application-x-msbuild-xml, is-application-x-mysql-myisam, is-application-x-nintendo-nes-rom, is-application-x-object, is-application-x-pcapng, is-application-x-powershell, is-application-x-swiftmodule, is-application-x-tflite, is-application-x-thumbs-db, is-application-x-vim-swap, is-application-x-zstd-compressed-tar, is-application-xaml-xml, is-application-xliff-xml, is-audio-prs-sid, is-audio-x-ms-wma, is-audio-x-musepack, is-image-vnd-adobe-photoshop, is-image-vnd-dwg, is-image-vnd-ms-photo, is-image-x-3ds, is-text-javascript, is-text-plain, is-text-troff, is-text-x-bluespec, is-text-x-c-src, is-text-x-expect, is-text-x-fortran, is-text-x-fsharp, is-text-x-gerber, is-text-x-isabelle, is-text-x-maven-xml, is-text-x-octave, is-text-x-pascal, is-text-x-rsrc, is-text-x-spice, is-text-x-tex, is-text-x-vim, is-text-x-wkt, is-text-xml, is-video-3gpp}
 use Rattle.infer_named.specs.declared.table.Asks.TheVariants.{Bytes, Nothing, Signature, Text}
 use Rattle.infer_named.specs.declared.table.Part.TheVariants.{Extension, Whole}
 
-unfoldable pub slot_0 : List Key
-slot_0 =
-    key Extension (codes "cir") false (reading own (codes "text/x-spice") Text none (codes "txt" ∷ []) none any ∷ []) ∷
-    key Extension (codes "jsx") false (reading (row (codes "js")) (codes "text/javascript") Text (codes "js" ∷ []) (codes "json" ∷ codes "sh" ∷ codes "txt" ∷ []) none any ∷ []) ∷
-    key Extension (codes "wma") false (reading known (codes "audio/x-ms-wma") Signature none (codes "wmv" ∷ []) none any ∷ []) ∷
-    key Extension (codes "xliff") false (reading known (codes "application/xliff+xml") Text none (codes "html" ∷ codes "txt" ∷ codes "xhtml" ∷ codes "xml" ∷ []) none (codes "<" ∷ []) ∷ []) ∷
-    []
-
-unfoldable pub slot_1 : List Key
-slot_1 =
-    key Extension (codes "njs") false (reading (row (codes "js")) (codes "text/javascript") Text (codes "js" ∷ []) (codes "json" ∷ codes "sh" ∷ codes "txt" ∷ []) none any ∷ []) ∷
-    key Extension (codes "prj") false (reading own (codes "text/x-wkt") Text none (codes "txt" ∷ []) none any ∷ []) ∷
-    key Extension (codes "sxi") false (reading known (codes "application/vnd.sun.xml.impress") Signature none (codes "zip" ∷ []) none any ∷ []) ∷
-    []
-
-unfoldable pub slot_2 : List Key
-slot_2 =
-    key Extension (codes "3gp") false (reading (row (codes "3gp")) (codes "video/3gpp") Bytes (codes "3gp" ∷ []) (codes "mp4" ∷ []) none any ∷ []) ∷
-    key Extension (codes "ggb") false (reading known (codes "application/vnd.geogebra.file") Signature none (codes "zip" ∷ []) none any ∷ []) ∷
-    key Extension (codes "iws") false (reading own (codes "application/x-intellij+xml") Text none (codes "html" ∷ codes "txt" ∷ codes "xhtml" ∷ codes "xml" ∷ []) none (codes "<" ∷ []) ∷ []) ∷
-    key Extension (codes "pcapng") false (reading (row (codes "pcapng")) (codes "application/x-pcapng") Signature (codes "pcapng" ∷ []) none none any ∷ []) ∷
-    key Extension (codes "swiftdoc") false (reading own (codes "application/x-swiftmodule") Bytes none none none any ∷ []) ∷
-    key Extension (codes "xml") false (reading (row (codes "xml")) (codes "text/xml") Text (codes "xml" ∷ []) (codes "html" ∷ codes "txt" ∷ []) (codes "atom" ∷ codes "gpx" ∷ codes "kml" ∷ codes "plist" ∷ codes "rss" ∷ codes "svg" ∷ codes "xhtml" ∷ []) (codes "<" ∷ []) ∷ []) ∷
-    []
-
-unfoldable pub slot_3 : List Key
-slot_3 =
-    key Extension (codes "dpr") false (reading known (codes "text/x-pascal") Text none (codes "txt" ∷ []) none any ∷ []) ∷
-    key Extension (codes "gbp") false (reading own (codes "text/x-gerber") Text none (codes "txt" ∷ []) none any ∷ []) ∷
-    key Extension (codes "txt") false (reading (row (codes "txt")) (codes "text/plain") Text (codes "txt" ∷ []) none texts any ∷ []) ∷
-    key Extension (codes "xaml") false (reading own (codes "application/xaml+xml") Text none (codes "html" ∷ codes "txt" ∷ codes "xhtml" ∷ codes "xml" ∷ []) none (codes "<" ∷ []) ∷ []) ∷
-    []
-
-unfoldable pub slot_4 : List Key
-slot_4 =
-    key Extension (codes "cmx") false (reading own (codes "application/x-cmi") Bytes none (codes "elf" ∷ codes "so" ∷ []) none any ∷ []) ∷
-    key Extension (codes "dwg") false (reading (row (codes "dwg")) (codes "image/vnd.dwg") Signature (codes "dwg" ∷ []) none none any ∷ []) ∷
-    key Extension (codes "kml") false (reading (row (codes "kml")) (codes "application/vnd.google-earth.kml+xml") Text (codes "kml" ∷ []) (codes "html" ∷ codes "txt" ∷ codes "xml" ∷ []) none (codes "<" ∷ []) ∷ []) ∷
-    key Extension (codes "potm") false (reading known (codes "application/vnd.ms-powerpoint.template.macroEnabled.12") Signature none (codes "application/x-ole-storage" ∷ codes "pptx" ∷ codes "zip" ∷ []) none any ∷ []) ∷
-    key Extension (codes "pptm") false (reading known (codes "application/vnd.ms-powerpoint.presentation.macroEnabled.12") Signature none (codes "application/x-ole-storage" ∷ codes "pptx" ∷ codes "zip" ∷ []) none any ∷ []) ∷
-    key Extension (codes "text") false (reading (row (codes "txt")) (codes "text/plain") Text (codes "txt" ∷ []) none texts any ∷ []) ∷
-    []
-
-unfoldable pub slot_5 : List Key
-slot_5 =
-    key Extension (codes "bz2") false (reading (row (codes "bz2")) (codes "application/x-bzip2") Signature (codes "bz2" ∷ []) none none any ∷ []) ∷
-    key Extension (codes "gds") false (reading own (codes "application/x-gds") Bytes none none none any ∷ []) ∷
-    key Extension (codes "jmod") false (reading (row (codes "jmod")) (codes "application/x-java-jmod") Signature (codes "jmod" ∷ []) none none any ∷ []) ∷
-    key Extension (codes "ko") true (reading (row (codes "o")) (codes "application/x-object") Signature (codes "o" ∷ []) (codes "elf" ∷ []) none any ∷ []) ∷
-    key Whole (codes "locale-archive") false (reading own (codes "application/x-locale-archive") Bytes none none none any ∷ []) ∷
-    key Extension (codes "odg") false (reading (row (codes "odg")) (codes "application/vnd.oasis.opendocument.graphics") Signature (codes "odg" ∷ []) (codes "zip" ∷ []) none any ∷ []) ∷
-    key Extension (codes "tflite") false (reading own (codes "application/x-tflite") Bytes none none none any ∷ []) ∷
-    []
-
-unfoldable pub slot_6 : List Key
-slot_6 =
-    key Extension (codes "csproj") false (reading own (codes "application/x-msbuild+xml") Text none (codes "html" ∷ codes "txt" ∷ codes "xhtml" ∷ codes "xml" ∷ []) none (codes "<" ∷ []) ∷ []) ∷
-    key Extension (codes "metalink") false (reading known (codes "application/metalink+xml") Text none (codes "html" ∷ codes "txt" ∷ codes "xhtml" ∷ codes "xml" ∷ []) none (codes "<" ∷ []) ∷ []) ∷
-    []
-
-unfoldable pub slot_7 : List Key
-slot_7 =
-    key Extension (codes "dtx") false (reading known (codes "text/x-tex") Text none (codes "ps" ∷ codes "txt" ∷ []) none any ∷ []) ∷
-    key Extension (codes "f08") false (reading known (codes "text/x-fortran") Text none (codes "txt" ∷ []) none any ∷ []) ∷
-    key Extension (codes "psid") false (reading known (codes "audio/prs.sid") Bytes none none none any ∷ []) ∷
-    key Extension (codes "psm1") false (reading known (codes "application/x-powershell") Text none (codes "sh" ∷ codes "txt" ∷ []) none any ∷ []) ∷
-    key Extension (codes "thy") false (reading own (codes "text/x-isabelle") Text none (codes "txt" ∷ []) none any ∷ []) ∷
-    key Whole (codes "tslint.json") false (reading own (codes "application/x-jsonc") Text none (codes "txt" ∷ []) (codes "json" ∷ []) any ∷ []) ∷
-    []
-
-unfoldable pub slot_8 : List Key
-slot_8 =
-    key Extension (codes "bsv") false (reading own (codes "text/x-bluespec") Text none (codes "txt" ∷ []) none any ∷ []) ∷
-    key Extension (codes "dotx") false (reading known (codes "application/vnd.openxmlformats-officedocument.wordprocessingml.template") Signature none (codes "docx" ∷ codes "application/x-ole-storage" ∷ codes "zip" ∷ []) none any ∷ []) ∷
-    key Extension (codes "myi") false (reading own (codes "application/x-mysql-myisam") Bytes none none none any ∷ []) ∷
-    key Extension (codes "xfdf") false (reading own (codes "application/vnd.adobe.xfdf") Text none (codes "html" ∷ codes "txt" ∷ codes "xhtml" ∷ codes "xml" ∷ []) none (codes "<" ∷ []) ∷ []) ∷
-    []
-
-unfoldable pub slot_9 : List Key
-slot_9 =
-    key Extension (codes "cdr") false (reading known (codes "application/vnd.corel-draw") Bytes none none none any ∷ []) ∷
-    key Extension (codes "ipp") false (reading known (codes "text/x-c++src") Text none (codes "txt" ∷ []) none any ∷ []) ∷
-    []
-
-unfoldable pub slot_10 : List Key
-slot_10 =
-    key Extension (codes "cmxs") false (reading own (codes "application/x-cmi") Bytes none (codes "elf" ∷ codes "so" ∷ []) none any ∷ []) ∷
-    key Extension (codes "f90") false (reading known (codes "text/x-fortran") Text none (codes "txt" ∷ []) none any ∷ []) ∷
-    key Extension (codes "gb") false (reading known (codes "application/x-gameboy-rom") Bytes none none none any ∷ []) ∷
-    key Extension (codes "nes") false (reading (row (codes "nes")) (codes "application/x-nintendo-nes-rom") Signature (codes "nes" ∷ []) none none any ∷ []) ∷
-    []
-
-unfoldable pub slot_11 : List Key
-slot_11 =
-    key Extension (codes "1ssl") false (reading known (codes "text/troff") Text none (codes "txt" ∷ []) none any ∷ []) ∷
-    key Extension (codes "expect") true (reading own (codes "text/x-expect") Text none (codes "sh" ∷ codes "txt" ∷ []) none any ∷ []) ∷
-    key Extension (codes "r") false (reading known (codes "text/x-rsrc") Text none (codes "sh" ∷ codes "txt" ∷ []) none any ∷ []) ∷
-    []
-
-unfoldable pub slot_12 : List Key
-slot_12 =
-    key Extension (codes "fsi") false (reading known (codes "text/x-fsharp") Text none (codes "txt" ∷ []) none any ∷ []) ∷
-    key Extension (codes "pom") false (reading known (codes "text/x-maven+xml") Text none (codes "html" ∷ codes "txt" ∷ codes "xhtml" ∷ codes "xml" ∷ []) none (codes "<" ∷ []) ∷ []) ∷
-    key Extension (codes "tst") true (reading known (codes "text/x-octave") Text none (codes "ps" ∷ []) none any ∷ reading (row (codes "txt")) (codes "text/plain") Text (codes "txt" ∷ []) none texts any ∷ []) ∷
-    []
-
-unfoldable pub slot_13 : List Key
-slot_13 =
-    key Extension (codes "3ds") true (reading known (codes "image/x-3ds") Bytes none none none any ∷ []) ∷
-    key Extension (codes "db3") false (reading (row (codes "sqlite")) (codes "application/vnd.sqlite3") Signature (codes "sqlite" ∷ []) none (codes "gpkg" ∷ []) any ∷ []) ∷
-    key Whole (codes "mime.cache") false (reading own (codes "application/x-mimecache") Bytes none none none any ∷ []) ∷
-    key Extension (codes "mpc") false (reading (row (codes "mpc")) (codes "audio/x-musepack") Signature (codes "mpc" ∷ []) none none any ∷ []) ∷
-    key Extension (codes "tzst") false (reading known (codes "application/x-zstd-compressed-tar") Signature none (codes "zst" ∷ []) none any ∷ []) ∷
-    []
-
-unfoldable pub slot_14 : List Key
-slot_14 =
-    key Extension (codes "com") true (reading own (codes "application/x-com-executable") Bytes none (codes "exe" ∷ []) none any ∷ reading (row (codes "txt")) (codes "text/plain") Text (codes "txt" ∷ []) none texts any ∷ []) ∷
-    key Extension (codes "swo") false (reading own (codes "application/x-vim-swap") Bytes none none none any ∷ []) ∷
-    key Extension (codes "vim") false (reading own (codes "text/x-vim") Text none (codes "txt" ∷ []) none any ∷ []) ∷
-    []
-
-unfoldable pub slot_15 : List Key
-slot_15 =
-    key Extension (codes "hdp") false (reading (row (codes "jxr")) (codes "image/vnd.ms-photo") Signature (codes "jxr" ∷ []) none none any ∷ []) ∷
-    key Extension (codes "ivy") false (reading own (codes "application/x-ant+xml") Text none (codes "html" ∷ codes "txt" ∷ codes "xhtml" ∷ codes "xml" ∷ []) none (codes "<" ∷ []) ∷ []) ∷
-    key Extension (codes "pdd") false (reading (row (codes "psd")) (codes "image/vnd.adobe.photoshop") Signature (codes "psd" ∷ []) none none any ∷ []) ∷
-    key Extension (codes "ps") false (reading (row (codes "ps")) (codes "application/postscript") Text (codes "ps" ∷ []) (codes "txt" ∷ []) (codes "eps" ∷ []) (codes "%" ∷ []) ∷ []) ∷
-    key Whole (codes "thumbs.db") false (reading own (codes "application/x-thumbs-db") Signature none (codes "application/x-ole-storage" ∷ []) none any ∷ []) ∷
-    []
-
 unfoldable pub group : List (List Key)
-group = slot_0 ∷ slot_1 ∷ slot_2 ∷ slot_3 ∷ slot_4 ∷ slot_5 ∷ slot_6 ∷ slot_7 ∷ slot_8 ∷ slot_9 ∷ slot_10 ∷ slot_11 ∷ slot_12 ∷ slot_13 ∷ slot_14 ∷ slot_15 ∷ []
+group =
+    (
+    key Extension (codes "cir") false (reading is-text-x-spice Text no-rows rows-txt no-rows any-lead ∷ []) ∷
+    key Extension (codes "jsx") false (reading is-text-javascript Text rows-js rows-json-sh-txt no-rows any-lead ∷ []) ∷
+    key Extension (codes "wma") false (reading is-audio-x-ms-wma Signature no-rows rows-wmv no-rows any-lead ∷ []) ∷
+    key Extension (codes "xliff") false (reading is-application-xliff-xml Text no-rows rows-html-txt-xhtml-xml no-rows leads-10 ∷ []) ∷
+    [])
+    ∷ (
+    key Extension (codes "njs") false (reading is-text-javascript Text rows-js rows-json-sh-txt no-rows any-lead ∷ []) ∷
+    key Extension (codes "prj") false (reading is-text-x-wkt Text no-rows rows-txt no-rows any-lead ∷ []) ∷
+    key Extension (codes "sxi") false (reading is-application-vnd-sun-xml-impress Signature no-rows rows-zip no-rows any-lead ∷ []) ∷
+    [])
+    ∷ (
+    key Extension (codes "3gp") false (reading is-video-3gpp Bytes rows-3gp rows-mp4 no-rows any-lead ∷ []) ∷
+    key Extension (codes "ggb") false (reading is-application-vnd-geogebra-file Signature no-rows rows-zip no-rows any-lead ∷ []) ∷
+    key Extension (codes "iws") false (reading is-application-x-intellij-xml Text no-rows rows-html-txt-xhtml-xml no-rows leads-10 ∷ []) ∷
+    key Extension (codes "pcapng") false (reading is-application-x-pcapng Signature rows-pcapng no-rows no-rows any-lead ∷ []) ∷
+    key Extension (codes "swiftdoc") false (reading is-application-x-swiftmodule Bytes no-rows no-rows no-rows any-lead ∷ []) ∷
+    key Extension (codes "xml") false (reading is-text-xml Text rows-xml rows-html-txt rows-atom-gpx-kml-plist-rss-svg-xhtml leads-10 ∷ []) ∷
+    [])
+    ∷ (
+    key Extension (codes "dpr") false (reading is-text-x-pascal Text no-rows rows-txt no-rows any-lead ∷ []) ∷
+    key Extension (codes "gbp") false (reading is-text-x-gerber Text no-rows rows-txt no-rows any-lead ∷ []) ∷
+    key Extension (codes "txt") false (reading is-text-plain Text rows-txt no-rows text-rows any-lead ∷ []) ∷
+    key Extension (codes "xaml") false (reading is-application-xaml-xml Text no-rows rows-html-txt-xhtml-xml no-rows leads-10 ∷ []) ∷
+    [])
+    ∷ (
+    key Extension (codes "cmx") false (reading is-application-x-cmi Bytes no-rows rows-elf-so no-rows any-lead ∷ []) ∷
+    key Extension (codes "dwg") false (reading is-image-vnd-dwg Signature rows-dwg no-rows no-rows any-lead ∷ []) ∷
+    key Extension (codes "kml") false (reading is-application-vnd-google-earth-kml-xml Text rows-kml rows-html-txt-xml no-rows leads-10 ∷ []) ∷
+    key Extension (codes "potm") false (reading is-application-vnd-ms-powerpoint-template-macroenabled-12 Signature no-rows rows-application-x-ole-storage-pptx-zip no-rows any-lead ∷ []) ∷
+    key Extension (codes "pptm") false (reading is-application-vnd-ms-powerpoint-presentation-macroenabled-12 Signature no-rows rows-application-x-ole-storage-pptx-zip no-rows any-lead ∷ []) ∷
+    key Extension (codes "text") false (reading is-text-plain Text rows-txt no-rows text-rows any-lead ∷ []) ∷
+    [])
+    ∷ (
+    key Extension (codes "bz2") false (reading is-application-x-bzip2 Signature rows-bz2 no-rows no-rows any-lead ∷ []) ∷
+    key Extension (codes "gds") false (reading is-application-x-gds Bytes no-rows no-rows no-rows any-lead ∷ []) ∷
+    key Extension (codes "jmod") false (reading is-application-x-java-jmod Signature rows-jmod no-rows no-rows any-lead ∷ []) ∷
+    key Extension (codes "ko") true (reading is-application-x-object Signature rows-o rows-elf no-rows any-lead ∷ []) ∷
+    key Whole (codes "locale-archive") false (reading is-application-x-locale-archive Bytes no-rows no-rows no-rows any-lead ∷ []) ∷
+    key Extension (codes "odg") false (reading is-application-vnd-oasis-opendocument-graphics Signature rows-odg rows-zip no-rows any-lead ∷ []) ∷
+    key Extension (codes "tflite") false (reading is-application-x-tflite Bytes no-rows no-rows no-rows any-lead ∷ []) ∷
+    [])
+    ∷ (
+    key Extension (codes "csproj") false (reading is-application-x-msbuild-xml Text no-rows rows-html-txt-xhtml-xml no-rows leads-10 ∷ []) ∷
+    key Extension (codes "metalink") false (reading is-application-metalink-xml Text no-rows rows-html-txt-xhtml-xml no-rows leads-10 ∷ []) ∷
+    [])
+    ∷ (
+    key Extension (codes "dtx") false (reading is-text-x-tex Text no-rows rows-ps-txt no-rows any-lead ∷ []) ∷
+    key Extension (codes "f08") false (reading is-text-x-fortran Text no-rows rows-txt no-rows any-lead ∷ []) ∷
+    key Extension (codes "psid") false (reading is-audio-prs-sid Bytes no-rows no-rows no-rows any-lead ∷ []) ∷
+    key Extension (codes "psm1") false (reading is-application-x-powershell Text no-rows rows-sh-txt no-rows any-lead ∷ []) ∷
+    key Extension (codes "thy") false (reading is-text-x-isabelle Text no-rows rows-txt no-rows any-lead ∷ []) ∷
+    key Whole (codes "tslint.json") false (reading is-application-x-jsonc Text no-rows rows-txt rows-json any-lead ∷ []) ∷
+    [])
+    ∷ (
+    key Extension (codes "bsv") false (reading is-text-x-bluespec Text no-rows rows-txt no-rows any-lead ∷ []) ∷
+    key Extension (codes "dotx") false (reading is-application-vnd-openxmlformats-officedocument-wordprocessingml-template Signature no-rows rows-docx-application-x-ole-storage-zip no-rows any-lead ∷ []) ∷
+    key Extension (codes "myi") false (reading is-application-x-mysql-myisam Bytes no-rows no-rows no-rows any-lead ∷ []) ∷
+    key Extension (codes "xfdf") false (reading is-application-vnd-adobe-xfdf Text no-rows rows-html-txt-xhtml-xml no-rows leads-10 ∷ []) ∷
+    [])
+    ∷ (
+    key Extension (codes "cdr") false (reading is-application-vnd-corel-draw Bytes no-rows no-rows no-rows any-lead ∷ []) ∷
+    key Extension (codes "ipp") false (reading is-text-x-c-src Text no-rows rows-txt no-rows any-lead ∷ []) ∷
+    [])
+    ∷ (
+    key Extension (codes "cmxs") false (reading is-application-x-cmi Bytes no-rows rows-elf-so no-rows any-lead ∷ []) ∷
+    key Extension (codes "f90") false (reading is-text-x-fortran Text no-rows rows-txt no-rows any-lead ∷ []) ∷
+    key Extension (codes "gb") false (reading is-application-x-gameboy-rom Bytes no-rows no-rows no-rows any-lead ∷ []) ∷
+    key Extension (codes "nes") false (reading is-application-x-nintendo-nes-rom Signature rows-nes no-rows no-rows any-lead ∷ []) ∷
+    [])
+    ∷ (
+    key Extension (codes "1ssl") false (reading is-text-troff Text no-rows rows-txt no-rows any-lead ∷ []) ∷
+    key Extension (codes "expect") true (reading is-text-x-expect Text no-rows rows-sh-txt no-rows any-lead ∷ []) ∷
+    key Extension (codes "r") false (reading is-text-x-rsrc Text no-rows rows-sh-txt no-rows any-lead ∷ []) ∷
+    [])
+    ∷ (
+    key Extension (codes "fsi") false (reading is-text-x-fsharp Text no-rows rows-txt no-rows any-lead ∷ []) ∷
+    key Extension (codes "pom") false (reading is-text-x-maven-xml Text no-rows rows-html-txt-xhtml-xml no-rows leads-10 ∷ []) ∷
+    key Extension (codes "tst") true (reading is-text-x-octave Text no-rows rows-ps no-rows any-lead ∷ reading is-text-plain Text rows-txt no-rows text-rows any-lead ∷ []) ∷
+    [])
+    ∷ (
+    key Extension (codes "3ds") true (reading is-image-x-3ds Bytes no-rows no-rows no-rows any-lead ∷ []) ∷
+    key Extension (codes "db3") false (reading is-application-vnd-sqlite3 Signature rows-sqlite no-rows rows-gpkg any-lead ∷ []) ∷
+    key Whole (codes "mime.cache") false (reading is-application-x-mimecache Bytes no-rows no-rows no-rows any-lead ∷ []) ∷
+    key Extension (codes "mpc") false (reading is-audio-x-musepack Signature rows-mpc no-rows no-rows any-lead ∷ []) ∷
+    key Extension (codes "tzst") false (reading is-application-x-zstd-compressed-tar Signature no-rows rows-zst no-rows any-lead ∷ []) ∷
+    [])
+    ∷ (
+    key Extension (codes "com") true (reading is-application-x-com-executable Bytes no-rows rows-exe no-rows any-lead ∷ reading is-text-plain Text rows-txt no-rows text-rows any-lead ∷ []) ∷
+    key Extension (codes "swo") false (reading is-application-x-vim-swap Bytes no-rows no-rows no-rows any-lead ∷ []) ∷
+    key Extension (codes "vim") false (reading is-text-x-vim Text no-rows rows-txt no-rows any-lead ∷ []) ∷
+    [])
+    ∷ (
+    key Extension (codes "hdp") false (reading is-image-vnd-ms-photo Signature rows-jxr no-rows no-rows any-lead ∷ []) ∷
+    key Extension (codes "ivy") false (reading is-application-x-ant-xml Text no-rows rows-html-txt-xhtml-xml no-rows leads-10 ∷ []) ∷
+    key Extension (codes "pdd") false (reading is-image-vnd-adobe-photoshop Signature rows-psd no-rows no-rows any-lead ∷ []) ∷
+    key Extension (codes "ps") false (reading is-application-postscript Text rows-ps rows-txt rows-eps leads-2 ∷ []) ∷
+    key Whole (codes "thumbs.db") false (reading is-application-x-thumbs-db Signature no-rows rows-application-x-ole-storage no-rows any-lead ∷ []) ∷
+    [])
+    ∷ []

@@ -1,132 +1,102 @@
 -- Made by `tools/tables` from names.txt: the keys of slots 256 to 271.
 use Rattle.std.specs.Prelude.{List, [], ◌∷◌, codes, false, true}
-use Rattle.infer_named.specs.Key.{Key, key, known, own, reading, row}
-use Rattle.infer_named.specs.Texts.{any, none, texts}
+use Rattle.infer_named.specs.Key.{Key, key}
+use Rattle.infer_named.specs.Listed.{reading}
+use Rattle.infer_named.specs.Sets.{any-lead, leads-10, leads-11, no-rows, rows-accdb, rows-arrow, rows-asc-key-openssh-pgp-sig, rows-avi, rows-bz2, rows-gz-xml, rows-html-json-php-svg-txt-xhtml-xml, rows-html-txt-xhtml-xml, rows-json, rows-p7b, rows-pem, rows-ps-txt, rows-rb, rows-sh-txt, rows-swf, rows-txt, rows-vsdx-zip, rows-wv, rows-xpm, rows-z, text-rows}
+use Rattle.infer_named.specs.Types.{is-application-geo-json, is-application-n-triples, is-application-pkcs7-mime, is-application-topo-json, is-application-ttml-xml, is-application-vnd-apache-arrow-file, is-application-vnd-lotus-1-2-3, is-application-vnd-ms-visio-drawing-macroenabled-main-xml, is-application-vnd-smaf, is-application-x-apple-diskimage, is-application-x-arc, is-application-x-archive-dar, is-application-x-bash, is-application-x-bzip-compressed-tar, is-application-x-dia-diagram, is-application-x-eclipse-xml, is-application-x-font-type1, is-application-x-go-sgf, is-application-x-msaccess-as-row-accdb, is-application-x-ps1xml, is-application-x-shockwave-flash, is-application-x-tarz, is-application-x-vim-spell, is-application-x-x509-ca-cert-as-row-pem, is-audio-x-wavpack, is-image-vnd-zbrush-pcx, is-multipart-related, is-text-css, is-text-markdown, is-text-plain, is-text-x-bitbake, is-text-x-blade, is-text-x-c-hdr, is-text-x-chdr, is-text-x-checksums, is-text-x-csharp, is-text-x-cuda, is-text-x-debian-control, is-text-x-dotenv, is-text-x-factor, is-text-x-glsl, is-text-x-gradle, is-text-x-kconfig, is-text-x-makefile, is-text-x-newick, is-text-x-postcss, is-text-x-rmarkdown, is-text-x-rpm-spec, is-text-x-ruby, is-text-x-scala, is-text-x-xcu-rng, is-video-x-msvideo}
 use Rattle.infer_named.specs.declared.table.Asks.TheVariants.{Bytes, Nothing, Signature, Text}
 use Rattle.infer_named.specs.declared.table.Part.TheVariants.{Extension, Whole}
 
-unfoldable pub slot_0 : List Key
-slot_0 =
-    key Extension (codes "gradle") false (reading known (codes "text/x-gradle") Text none (codes "sh" ∷ codes "txt" ∷ []) none any ∷ []) ∷
-    key Extension (codes "kojo") false (reading known (codes "text/x-scala") Text none (codes "sh" ∷ codes "txt" ∷ []) none any ∷ []) ∷
-    []
-
-unfoldable pub slot_1 : List Key
-slot_1 =
-    key Extension (codes "bash") false (reading own (codes "application/x-bash") Text none (codes "sh" ∷ codes "txt" ∷ []) none any ∷ []) ∷
-    key Extension (codes "cs") false (reading known (codes "text/x-csharp") Text none (codes "txt" ∷ []) none any ∷ []) ∷
-    key Extension (codes "md5") false (reading own (codes "text/x-checksums") Text none (codes "txt" ∷ []) none any ∷ []) ∷
-    key Extension (codes "pcss") false (reading own (codes "text/x-postcss") Text none (codes "txt" ∷ []) none any ∷ []) ∷
-    key Extension (codes "rbw") false (reading (row (codes "rb")) (codes "text/x-ruby") Text (codes "rb" ∷ []) (codes "sh" ∷ codes "txt" ∷ []) none any ∷ []) ∷
-    key Extension (codes "tar.bz2") false (reading known (codes "application/x-bzip-compressed-tar") Signature none (codes "bz2" ∷ []) none any ∷ []) ∷
-    []
-
-unfoldable pub slot_2 : List Key
-slot_2 =
-    key Extension (codes "css") false (reading known (codes "text/css") Text none (codes "txt" ∷ []) none any ∷ []) ∷
-    key Extension (codes "dia") false (reading known (codes "application/x-dia-diagram") Signature none (codes "gz" ∷ codes "xml" ∷ []) none any ∷ []) ∷
-    key Extension (codes "nt") false (reading known (codes "application/n-triples") Text none (codes "txt" ∷ []) none (codes "<" ∷ codes "_" ∷ codes "#" ∷ []) ∷ []) ∷
-    []
-
-unfoldable pub slot_3 : List Key
-slot_3 =
-    key Extension (codes "bbclass") false (reading own (codes "text/x-bitbake") Text none (codes "txt" ∷ []) none any ∷ []) ∷
-    key Extension (codes "cfg") false (reading (row (codes "txt")) (codes "text/plain") Text (codes "txt" ∷ []) none texts any ∷ []) ∷
-    key Extension (codes "flf") false (reading own (codes "text/x-xcu-rng") Text none (codes "txt" ∷ []) none any ∷ []) ∷
-    key Whole (codes "guardfile") false (reading (row (codes "rb")) (codes "text/x-ruby") Text (codes "rb" ∷ []) (codes "sh" ∷ codes "txt" ∷ []) none any ∷ []) ∷
-    key Whole (codes "requirements.txt") false (reading (row (codes "txt")) (codes "text/plain") Text (codes "txt" ∷ []) none texts any ∷ []) ∷
-    []
-
-unfoldable pub slot_4 : List Key
-slot_4 =
-    key Extension (codes "accdb") false (reading (row (codes "accdb")) (codes "application/x-msaccess") Signature (codes "accdb" ∷ []) none none any ∷ []) ∷
-    key Extension (codes "dfxp") false (reading known (codes "application/ttml+xml") Text none (codes "html" ∷ codes "txt" ∷ codes "xhtml" ∷ codes "xml" ∷ []) none (codes "<" ∷ []) ∷ []) ∷
-    key Whole (codes "makefile.in") false (reading known (codes "text/x-makefile") Text none (codes "sh" ∷ codes "txt" ∷ []) none any ∷ []) ∷
-    key Extension (codes "pcx") false (reading known (codes "image/vnd.zbrush.pcx") Bytes none none none any ∷ []) ∷
-    []
-
-unfoldable pub slot_5 : List Key
-slot_5 =
-    key Extension (codes "spl") false (reading own (codes "application/x-vim-spell") Bytes none none none any ∷ reading (row (codes "swf")) (codes "application/x-shockwave-flash") Signature (codes "swf" ∷ []) none none any ∷ []) ∷
-    []
-
-unfoldable pub slot_6 : List Key
-slot_6 =
-    key Extension (codes "config") false (reading (row (codes "txt")) (codes "text/plain") Text (codes "txt" ∷ []) none texts any ∷ []) ∷
-    key Extension (codes "dmg") false (reading known (codes "application/x-apple-diskimage") Bytes none none none any ∷ []) ∷
-    key Extension (codes "gsf") false (reading known (codes "application/x-font-type1") Text none (codes "ps" ∷ codes "txt" ∷ []) none any ∷ []) ∷
-    key Extension (codes "mkdn") false (reading known (codes "text/markdown") Text none (codes "html" ∷ codes "json" ∷ codes "php" ∷ codes "svg" ∷ codes "txt" ∷ codes "xhtml" ∷ codes "xml" ∷ []) none any ∷ []) ∷
-    key Extension (codes "topojson") false (reading own (codes "application/topo+json") Text none (codes "json" ∷ []) none any ∷ []) ∷
-    key Extension (codes "wk4") false (reading known (codes "application/vnd.lotus-1-2-3") Bytes none none none any ∷ []) ∷
-    key Extension (codes "wv") false (reading (row (codes "wv")) (codes "audio/x-wavpack") Signature (codes "wv" ∷ []) none none any ∷ []) ∷
-    []
-
-unfoldable pub slot_7 : List Key
-slot_7 =
-    key Extension (codes "geojson") false (reading known (codes "application/geo+json") Text none (codes "json" ∷ []) none any ∷ []) ∷
-    []
-
-unfoldable pub slot_8 : List Key
-slot_8 =
-    key Extension (codes "glslf") false (reading own (codes "text/x-glsl") Text none (codes "txt" ∷ []) none any ∷ []) ∷
-    key Extension (codes "mmf") false (reading known (codes "application/vnd.smaf") Bytes none none none any ∷ []) ∷
-    key Extension (codes "p7b") false (reading (row (codes "p7b")) (codes "application/pkcs7-mime") Bytes (codes "p7b" ∷ []) (codes "pem" ∷ []) none any ∷ []) ∷
-    key Extension (codes "vsdm") false (reading known (codes "application/vnd.ms-visio.drawing.macroEnabled.main+xml") Signature none (codes "vsdx" ∷ codes "zip" ∷ []) none any ∷ []) ∷
-    []
-
-unfoldable pub slot_9 : List Key
-slot_9 =
-    key Whole (codes "bugs") false (reading (row (codes "txt")) (codes "text/plain") Text (codes "txt" ∷ []) none texts any ∷ []) ∷
-    key Extension (codes "h") false (reading known (codes "text/x-chdr") Text none (codes "txt" ∷ []) (codes "xpm" ∷ []) any ∷ []) ∷
-    key Extension (codes "mht") false (reading known (codes "multipart/related") Text none (codes "txt" ∷ []) none any ∷ []) ∷
-    key Extension (codes "newick") false (reading own (codes "text/x-newick") Text none (codes "txt" ∷ []) none any ∷ []) ∷
-    key Extension (codes "psc1") false (reading own (codes "application/x-ps1xml") Text none (codes "html" ∷ codes "txt" ∷ codes "xhtml" ∷ codes "xml" ∷ []) none (codes "<" ∷ []) ∷ []) ∷
-    key Extension (codes "spec") false (reading known (codes "text/x-rpm-spec") Text none (codes "txt" ∷ []) none any ∷ []) ∷
-    []
-
-unfoldable pub slot_10 : List Key
-slot_10 =
-    key Whole (codes ".env") false (reading own (codes "text/x-dotenv") Text none (codes "txt" ∷ []) none any ∷ []) ∷
-    key Extension (codes "hh") false (reading known (codes "text/x-c++hdr") Text none (codes "txt" ∷ []) none any ∷ []) ∷
-    key Extension (codes "markdown") false (reading known (codes "text/markdown") Text none (codes "html" ∷ codes "json" ∷ codes "php" ∷ codes "svg" ∷ codes "txt" ∷ codes "xhtml" ∷ codes "xml" ∷ []) none any ∷ []) ∷
-    key Extension (codes "sgf") false (reading known (codes "application/x-go-sgf") Text none (codes "txt" ∷ []) none any ∷ []) ∷
-    []
-
-unfoldable pub slot_11 : List Key
-slot_11 =
-    key Extension (codes "arc") true (reading known (codes "application/x-arc") Bytes none none none any ∷ []) ∷
-    key Extension (codes "sbt") false (reading known (codes "text/x-scala") Text none (codes "sh" ∷ codes "txt" ∷ []) none any ∷ []) ∷
-    key Extension (codes "tar.z") false (reading known (codes "application/x-tarz") Signature none (codes "Z" ∷ []) none any ∷ []) ∷
-    []
-
-unfoldable pub slot_12 : List Key
-slot_12 =
-    key Extension (codes "blade.php") false (reading own (codes "text/x-blade") Text none (codes "html" ∷ codes "json" ∷ codes "php" ∷ codes "svg" ∷ codes "txt" ∷ codes "xhtml" ∷ codes "xml" ∷ []) none any ∷ []) ∷
-    key Extension (codes "cuh") false (reading own (codes "text/x-cuda") Text none (codes "txt" ∷ []) none any ∷ []) ∷
-    key Extension (codes "dsp") false (reading (row (codes "txt")) (codes "text/plain") Text (codes "txt" ∷ []) none texts any ∷ []) ∷
-    []
-
-unfoldable pub slot_13 : List Key
-slot_13 =
-    []
-
-unfoldable pub slot_14 : List Key
-slot_14 =
-    key Extension (codes "dar") false (reading own (codes "application/x-archive-dar") Bytes none none none any ∷ []) ∷
-    key Extension (codes "factor") false (reading known (codes "text/x-factor") Text none (codes "sh" ∷ codes "txt" ∷ []) none any ∷ []) ∷
-    key Extension (codes "fx") false (reading (row (codes "txt")) (codes "text/plain") Text (codes "txt" ∷ []) none texts any ∷ []) ∷
-    key Extension (codes "pem") false (reading (row (codes "pem")) (codes "application/x-x509-ca-cert") Text (codes "pem" ∷ []) (codes "txt" ∷ []) (codes "asc" ∷ codes "key" ∷ codes "openssh" ∷ codes "pgp" ∷ codes "sig" ∷ []) any ∷ []) ∷
-    key Extension (codes "rmd") false (reading own (codes "text/x-rmarkdown") Text none (codes "html" ∷ codes "json" ∷ codes "php" ∷ codes "svg" ∷ codes "txt" ∷ codes "xhtml" ∷ codes "xml" ∷ []) none any ∷ []) ∷
-    []
-
-unfoldable pub slot_15 : List Key
-slot_15 =
-    key Whole (codes ".classpath") false (reading own (codes "application/x-eclipse+xml") Text none (codes "html" ∷ codes "txt" ∷ codes "xhtml" ∷ codes "xml" ∷ []) none (codes "<" ∷ []) ∷ []) ∷
-    key Extension (codes "avi") false (reading (row (codes "avi")) (codes "video/x-msvideo") Signature (codes "avi" ∷ []) none none any ∷ []) ∷
-    key Extension (codes "changes") false (reading own (codes "text/x-debian-control") Text none (codes "txt" ∷ []) none any ∷ []) ∷
-    key Extension (codes "feather") false (reading (row (codes "arrow")) (codes "application/vnd.apache.arrow.file") Bytes (codes "arrow" ∷ []) none none any ∷ []) ∷
-    key Whole (codes "kconfig") false (reading own (codes "text/x-kconfig") Text none (codes "txt" ∷ []) none any ∷ []) ∷
-    []
-
 unfoldable pub group : List (List Key)
-group = slot_0 ∷ slot_1 ∷ slot_2 ∷ slot_3 ∷ slot_4 ∷ slot_5 ∷ slot_6 ∷ slot_7 ∷ slot_8 ∷ slot_9 ∷ slot_10 ∷ slot_11 ∷ slot_12 ∷ slot_13 ∷ slot_14 ∷ slot_15 ∷ []
+group =
+    (
+    key Extension (codes "gradle") false (reading is-text-x-gradle Text no-rows rows-sh-txt no-rows any-lead ∷ []) ∷
+    key Extension (codes "kojo") false (reading is-text-x-scala Text no-rows rows-sh-txt no-rows any-lead ∷ []) ∷
+    [])
+    ∷ (
+    key Extension (codes "bash") false (reading is-application-x-bash Text no-rows rows-sh-txt no-rows any-lead ∷ []) ∷
+    key Extension (codes "cs") false (reading is-text-x-csharp Text no-rows rows-txt no-rows any-lead ∷ []) ∷
+    key Extension (codes "md5") false (reading is-text-x-checksums Text no-rows rows-txt no-rows any-lead ∷ []) ∷
+    key Extension (codes "pcss") false (reading is-text-x-postcss Text no-rows rows-txt no-rows any-lead ∷ []) ∷
+    key Extension (codes "rbw") false (reading is-text-x-ruby Text rows-rb rows-sh-txt no-rows any-lead ∷ []) ∷
+    key Extension (codes "tar.bz2") false (reading is-application-x-bzip-compressed-tar Signature no-rows rows-bz2 no-rows any-lead ∷ []) ∷
+    [])
+    ∷ (
+    key Extension (codes "css") false (reading is-text-css Text no-rows rows-txt no-rows any-lead ∷ []) ∷
+    key Extension (codes "dia") false (reading is-application-x-dia-diagram Signature no-rows rows-gz-xml no-rows any-lead ∷ []) ∷
+    key Extension (codes "nt") false (reading is-application-n-triples Text no-rows rows-txt no-rows leads-11 ∷ []) ∷
+    [])
+    ∷ (
+    key Extension (codes "bbclass") false (reading is-text-x-bitbake Text no-rows rows-txt no-rows any-lead ∷ []) ∷
+    key Extension (codes "cfg") false (reading is-text-plain Text rows-txt no-rows text-rows any-lead ∷ []) ∷
+    key Extension (codes "flf") false (reading is-text-x-xcu-rng Text no-rows rows-txt no-rows any-lead ∷ []) ∷
+    key Whole (codes "guardfile") false (reading is-text-x-ruby Text rows-rb rows-sh-txt no-rows any-lead ∷ []) ∷
+    key Whole (codes "requirements.txt") false (reading is-text-plain Text rows-txt no-rows text-rows any-lead ∷ []) ∷
+    [])
+    ∷ (
+    key Extension (codes "accdb") false (reading is-application-x-msaccess-as-row-accdb Signature rows-accdb no-rows no-rows any-lead ∷ []) ∷
+    key Extension (codes "dfxp") false (reading is-application-ttml-xml Text no-rows rows-html-txt-xhtml-xml no-rows leads-10 ∷ []) ∷
+    key Whole (codes "makefile.in") false (reading is-text-x-makefile Text no-rows rows-sh-txt no-rows any-lead ∷ []) ∷
+    key Extension (codes "pcx") false (reading is-image-vnd-zbrush-pcx Bytes no-rows no-rows no-rows any-lead ∷ []) ∷
+    [])
+    ∷ (
+    key Extension (codes "spl") false (reading is-application-x-vim-spell Bytes no-rows no-rows no-rows any-lead ∷ reading is-application-x-shockwave-flash Signature rows-swf no-rows no-rows any-lead ∷ []) ∷
+    [])
+    ∷ (
+    key Extension (codes "config") false (reading is-text-plain Text rows-txt no-rows text-rows any-lead ∷ []) ∷
+    key Extension (codes "dmg") false (reading is-application-x-apple-diskimage Bytes no-rows no-rows no-rows any-lead ∷ []) ∷
+    key Extension (codes "gsf") false (reading is-application-x-font-type1 Text no-rows rows-ps-txt no-rows any-lead ∷ []) ∷
+    key Extension (codes "mkdn") false (reading is-text-markdown Text no-rows rows-html-json-php-svg-txt-xhtml-xml no-rows any-lead ∷ []) ∷
+    key Extension (codes "topojson") false (reading is-application-topo-json Text no-rows rows-json no-rows any-lead ∷ []) ∷
+    key Extension (codes "wk4") false (reading is-application-vnd-lotus-1-2-3 Bytes no-rows no-rows no-rows any-lead ∷ []) ∷
+    key Extension (codes "wv") false (reading is-audio-x-wavpack Signature rows-wv no-rows no-rows any-lead ∷ []) ∷
+    [])
+    ∷ (
+    key Extension (codes "geojson") false (reading is-application-geo-json Text no-rows rows-json no-rows any-lead ∷ []) ∷
+    [])
+    ∷ (
+    key Extension (codes "glslf") false (reading is-text-x-glsl Text no-rows rows-txt no-rows any-lead ∷ []) ∷
+    key Extension (codes "mmf") false (reading is-application-vnd-smaf Bytes no-rows no-rows no-rows any-lead ∷ []) ∷
+    key Extension (codes "p7b") false (reading is-application-pkcs7-mime Bytes rows-p7b rows-pem no-rows any-lead ∷ []) ∷
+    key Extension (codes "vsdm") false (reading is-application-vnd-ms-visio-drawing-macroenabled-main-xml Signature no-rows rows-vsdx-zip no-rows any-lead ∷ []) ∷
+    [])
+    ∷ (
+    key Whole (codes "bugs") false (reading is-text-plain Text rows-txt no-rows text-rows any-lead ∷ []) ∷
+    key Extension (codes "h") false (reading is-text-x-chdr Text no-rows rows-txt rows-xpm any-lead ∷ []) ∷
+    key Extension (codes "mht") false (reading is-multipart-related Text no-rows rows-txt no-rows any-lead ∷ []) ∷
+    key Extension (codes "newick") false (reading is-text-x-newick Text no-rows rows-txt no-rows any-lead ∷ []) ∷
+    key Extension (codes "psc1") false (reading is-application-x-ps1xml Text no-rows rows-html-txt-xhtml-xml no-rows leads-10 ∷ []) ∷
+    key Extension (codes "spec") false (reading is-text-x-rpm-spec Text no-rows rows-txt no-rows any-lead ∷ []) ∷
+    [])
+    ∷ (
+    key Whole (codes ".env") false (reading is-text-x-dotenv Text no-rows rows-txt no-rows any-lead ∷ []) ∷
+    key Extension (codes "hh") false (reading is-text-x-c-hdr Text no-rows rows-txt no-rows any-lead ∷ []) ∷
+    key Extension (codes "markdown") false (reading is-text-markdown Text no-rows rows-html-json-php-svg-txt-xhtml-xml no-rows any-lead ∷ []) ∷
+    key Extension (codes "sgf") false (reading is-application-x-go-sgf Text no-rows rows-txt no-rows any-lead ∷ []) ∷
+    [])
+    ∷ (
+    key Extension (codes "arc") true (reading is-application-x-arc Bytes no-rows no-rows no-rows any-lead ∷ []) ∷
+    key Extension (codes "sbt") false (reading is-text-x-scala Text no-rows rows-sh-txt no-rows any-lead ∷ []) ∷
+    key Extension (codes "tar.z") false (reading is-application-x-tarz Signature no-rows rows-z no-rows any-lead ∷ []) ∷
+    [])
+    ∷ (
+    key Extension (codes "blade.php") false (reading is-text-x-blade Text no-rows rows-html-json-php-svg-txt-xhtml-xml no-rows any-lead ∷ []) ∷
+    key Extension (codes "cuh") false (reading is-text-x-cuda Text no-rows rows-txt no-rows any-lead ∷ []) ∷
+    key Extension (codes "dsp") false (reading is-text-plain Text rows-txt no-rows text-rows any-lead ∷ []) ∷
+    [])
+    ∷ []
+    ∷ (
+    key Extension (codes "dar") false (reading is-application-x-archive-dar Bytes no-rows no-rows no-rows any-lead ∷ []) ∷
+    key Extension (codes "factor") false (reading is-text-x-factor Text no-rows rows-sh-txt no-rows any-lead ∷ []) ∷
+    key Extension (codes "fx") false (reading is-text-plain Text rows-txt no-rows text-rows any-lead ∷ []) ∷
+    key Extension (codes "pem") false (reading is-application-x-x509-ca-cert-as-row-pem Text rows-pem rows-txt rows-asc-key-openssh-pgp-sig any-lead ∷ []) ∷
+    key Extension (codes "rmd") false (reading is-text-x-rmarkdown Text no-rows rows-html-json-php-svg-txt-xhtml-xml no-rows any-lead ∷ []) ∷
+    [])
+    ∷ (
+    key Whole (codes ".classpath") false (reading is-application-x-eclipse-xml Text no-rows rows-html-txt-xhtml-xml no-rows leads-10 ∷ []) ∷
+    key Extension (codes "avi") false (reading is-video-x-msvideo Signature rows-avi no-rows no-rows any-lead ∷ []) ∷
+    key Extension (codes "changes") false (reading is-text-x-debian-control Text no-rows rows-txt no-rows any-lead ∷ []) ∷
+    key Extension (codes "feather") false (reading is-application-vnd-apache-arrow-file Bytes rows-arrow no-rows no-rows any-lead ∷ []) ∷
+    key Whole (codes "kconfig") false (reading is-text-x-kconfig Text no-rows rows-txt no-rows any-lead ∷ []) ∷
+    [])
+    ∷ []

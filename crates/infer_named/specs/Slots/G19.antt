@@ -1,137 +1,107 @@
 -- Made by `tools/tables` from names.txt: the keys of slots 304 to 319.
 use Rattle.std.specs.Prelude.{List, [], ◌∷◌, codes, false, true}
-use Rattle.infer_named.specs.Key.{Key, key, known, own, reading, row}
-use Rattle.infer_named.specs.Texts.{any, none, texts}
+use Rattle.infer_named.specs.Key.{Key, key}
+use Rattle.infer_named.specs.Listed.{reading}
+use Rattle.infer_named.specs.Sets.{any-lead, leads-10, no-rows, rows-3g2-3gp-f4v-m4a-m4b-m4v-mov, rows-3mf-apk-docx-epub-jar-kmz-kra-odf-odg-odp-ods-odt-ora-otp-ots-ott-pptx-vsdx-xlsx, rows-amr, rows-apk-jar-zip, rows-application-x-msi, rows-application-x-ole-storage, rows-bplist, rows-cr3, rows-der-pem-txt, rows-fits, rows-heif, rows-html-json-php-svg-txt-xhtml-xml, rows-html-txt-xhtml-xml, rows-js, rows-json, rows-json-sh-txt, rows-json-txt, rows-jxl, rows-m4a, rows-m4b-m4v-mp4, rows-mp4, rows-ora, rows-pl, rows-plist, rows-py, rows-pyc, rows-sh-txt, rows-shp, rows-shx, rows-txt, rows-txt-xml, rows-warc, rows-xz, rows-zip, text-rows}
+use Rattle.infer_named.specs.Types.{is-application-json, is-application-pkcs10, is-application-pkix-crl, is-application-toml, is-application-trig, is-application-vnd-oasis-opendocument-image, is-application-vnd-shp, is-application-warc, is-application-x-apkm, is-application-x-bplist, is-application-x-cd-image, is-application-x-devhelp-xml, is-application-x-godot-package, is-application-x-jasper-xml, is-application-x-jsonc, is-application-x-kdenlive, is-application-x-msbuild-xml, is-application-x-msi, is-application-x-plist, is-application-x-python-bytecode, is-application-x-wix-xml, is-application-x-xz, is-application-zip, is-audio-amr, is-audio-m4a, is-image-fits, is-image-jxl, is-image-openraster, is-image-x-canon-cr3, is-image-x-gimp-gbr, is-model-vnd-collada-xml, is-model-x3d-vrml, is-text-javascript, is-text-plain, is-text-wgsl, is-text-x-aidl, is-text-x-asm, is-text-x-basic, is-text-x-c-src, is-text-x-checksums, is-text-x-cmake, is-text-x-cppconf, is-text-x-cwl, is-text-x-debian-control, is-text-x-dimacs, is-text-x-ebnf, is-text-x-gerber, is-text-x-gherkin, is-text-x-gosum, is-text-x-hcl, is-text-x-ocaml, is-text-x-perl, is-text-x-python-as-row-py, is-text-x-shell-config, is-text-x-stata, is-text-x-svhdr, is-text-x-twig, is-video-mp4}
 use Rattle.infer_named.specs.declared.table.Asks.TheVariants.{Bytes, Nothing, Signature, Text}
 use Rattle.infer_named.specs.declared.table.Part.TheVariants.{Extension, Whole}
 
-unfoldable pub slot_0 : List Key
-slot_0 =
-    key Extension (codes "amr") false (reading (row (codes "amr")) (codes "audio/amr") Signature (codes "amr" ∷ []) none none any ∷ []) ∷
-    key Extension (codes "fits") false (reading (row (codes "fits")) (codes "image/fits") Signature (codes "fits" ∷ []) none none any ∷ []) ∷
-    key Extension (codes "gyp") false (reading (row (codes "py")) (codes "text/x-python") Text (codes "py" ∷ []) (codes "json" ∷ codes "sh" ∷ codes "txt" ∷ []) none any ∷ []) ∷
-    key Extension (codes "pck") false (reading own (codes "application/x-godot-package") Bytes none none none any ∷ []) ∷
-    key Extension (codes "warc") false (reading (row (codes "warc")) (codes "application/warc") Signature (codes "warc" ∷ []) none none any ∷ []) ∷
-    key Extension (codes "xapk") false (reading own (codes "application/x-apkm") Signature none (codes "apk" ∷ codes "jar" ∷ codes "zip" ∷ []) none any ∷ []) ∷
-    []
-
-unfoldable pub slot_1 : List Key
-slot_1 =
-    key Whole (codes "cmakelists.txt") false (reading known (codes "text/x-cmake") Text none (codes "txt" ∷ []) none any ∷ []) ∷
-    []
-
-unfoldable pub slot_2 : List Key
-slot_2 =
-    key Whole (codes "cargo.lock") false (reading known (codes "application/toml") Text none (codes "txt" ∷ []) none any ∷ []) ∷
-    key Extension (codes "cwl") false (reading own (codes "text/x-cwl") Text none (codes "json" ∷ codes "txt" ∷ []) none any ∷ []) ∷
-    key Extension (codes "kdenlive") false (reading own (codes "application/x-kdenlive") Text none (codes "html" ∷ codes "txt" ∷ codes "xhtml" ∷ codes "xml" ∷ []) none (codes "<" ∷ []) ∷ []) ∷
-    key Extension (codes "msp") false (reading (row (codes "msi")) (codes "application/x-msi") Signature (codes "application/x-msi" ∷ []) (codes "application/x-ole-storage" ∷ []) none any ∷ []) ∷
-    key Extension (codes "pyo") false (reading (row (codes "pyc")) (codes "application/x-python-bytecode") Bytes (codes "pyc" ∷ []) none none any ∷ []) ∷
-    []
-
-unfoldable pub slot_3 : List Key
-slot_3 =
-    key Extension (codes "filters") false (reading own (codes "application/x-msbuild+xml") Text none (codes "html" ∷ codes "txt" ∷ codes "xhtml" ∷ codes "xml" ∷ []) none (codes "<" ∷ []) ∷ []) ∷
-    key Extension (codes "z01") false (reading (row (codes "zip")) (codes "application/zip") Signature (codes "zip" ∷ []) none (codes "3mf" ∷ codes "apk" ∷ codes "docx" ∷ codes "epub" ∷ codes "jar" ∷ codes "kmz" ∷ codes "kra" ∷ codes "odf" ∷ codes "odg" ∷ codes "odp" ∷ codes "ods" ∷ codes "odt" ∷ codes "ora" ∷ codes "otp" ∷ codes "ots" ∷ codes "ott" ∷ codes "pptx" ∷ codes "vsdx" ∷ codes "xlsx" ∷ []) any ∷ []) ∷
-    []
-
-unfoldable pub slot_4 : List Key
-slot_4 =
-    key Whole (codes ".bash_logout") false (reading own (codes "text/x-shell-config") Text none (codes "sh" ∷ codes "txt" ∷ []) none any ∷ []) ∷
-    []
-
-unfoldable pub slot_5 : List Key
-slot_5 =
-    key Extension (codes "bi") false (reading own (codes "text/x-basic") Text none (codes "txt" ∷ []) none any ∷ []) ∷
-    key Extension (codes "dimacs") false (reading own (codes "text/x-dimacs") Text none (codes "txt" ∷ []) none any ∷ []) ∷
-    key Extension (codes "ml4") false (reading known (codes "text/x-ocaml") Text none (codes "sh" ∷ codes "txt" ∷ []) none any ∷ []) ∷
-    key Extension (codes "nfo") false (reading (row (codes "txt")) (codes "text/plain") Text (codes "txt" ∷ []) none texts any ∷ []) ∷
-    key Extension (codes "wxl") false (reading own (codes "application/x-wix+xml") Text none (codes "html" ∷ codes "txt" ∷ codes "xhtml" ∷ codes "xml" ∷ []) none (codes "<" ∷ []) ∷ []) ∷
-    []
-
-unfoldable pub slot_6 : List Key
-slot_6 =
-    key Extension (codes "aidl") false (reading own (codes "text/x-aidl") Text none (codes "txt" ∷ []) none any ∷ []) ∷
-    key Whole (codes "doxyfile") false (reading own (codes "text/x-cppconf") Text none (codes "txt" ∷ []) none any ∷ []) ∷
-    key Extension (codes "iso") false (reading known (codes "application/x-cd-image") Bytes none none none any ∷ []) ∷
-    key Whole (codes "metadata") false (reading (row (codes "txt")) (codes "text/plain") Text (codes "txt" ∷ []) none texts any ∷ []) ∷
-    key Extension (codes "sublime-build") false (reading own (codes "application/x-jsonc") Text none (codes "txt" ∷ []) (codes "json" ∷ []) any ∷ []) ∷
-    []
-
-unfoldable pub slot_7 : List Key
-slot_7 =
-    key Extension (codes "cr3") false (reading (row (codes "cr3")) (codes "image/x-canon-cr3") Signature (codes "cr3" ∷ []) none none any ∷ []) ∷
-    key Extension (codes "jxl") false (reading (row (codes "jxl")) (codes "image/jxl") Bytes (codes "jxl" ∷ []) none none any ∷ []) ∷
-    key Extension (codes "ora") false (reading (row (codes "ora")) (codes "image/openraster") Signature (codes "ora" ∷ []) (codes "zip" ∷ []) none any ∷ []) ∷
-    key Extension (codes "svh") false (reading known (codes "text/x-svhdr") Text none (codes "txt" ∷ []) none any ∷ []) ∷
-    []
-
-unfoldable pub slot_8 : List Key
-slot_8 =
-    key Extension (codes "conf") false (reading (row (codes "txt")) (codes "text/plain") Text (codes "txt" ∷ []) none texts any ∷ []) ∷
-    key Extension (codes "dsc") false (reading own (codes "text/x-debian-control") Text none (codes "txt" ∷ []) none any ∷ []) ∷
-    key Extension (codes "nomad") false (reading own (codes "text/x-hcl") Text none (codes "txt" ∷ []) none any ∷ []) ∷
-    key Extension (codes "plist") false (reading (row (codes "plist")) (codes "application/x-plist") Text (codes "plist" ∷ []) (codes "txt" ∷ codes "xml" ∷ []) none any ∷ reading (row (codes "bplist")) (codes "application/x-bplist") Signature (codes "bplist" ∷ []) none none any ∷ []) ∷
-    key Extension (codes "sha1sum") false (reading own (codes "text/x-checksums") Text none (codes "txt" ∷ []) none any ∷ []) ∷
-    key Extension (codes "x3dv") false (reading known (codes "model/x3d-vrml") Text none (codes "txt" ∷ []) none any ∷ []) ∷
-    key Extension (codes "xz") false (reading (row (codes "xz")) (codes "application/x-xz") Signature (codes "xz" ∷ []) none none any ∷ []) ∷
-    []
-
-unfoldable pub slot_9 : List Key
-slot_9 =
-    key Extension (codes "gtp") false (reading own (codes "text/x-gerber") Text none (codes "txt" ∷ []) none any ∷ []) ∷
-    key Extension (codes "jrxml") false (reading own (codes "application/x-jasper+xml") Text none (codes "html" ∷ codes "txt" ∷ codes "xhtml" ∷ codes "xml" ∷ []) none (codes "<" ∷ []) ∷ []) ∷
-    []
-
-unfoldable pub slot_10 : List Key
-slot_10 =
-    key Extension (codes "dae") false (reading known (codes "model/vnd.collada+xml") Text none (codes "html" ∷ codes "txt" ∷ codes "xhtml" ∷ codes "xml" ∷ []) none (codes "<" ∷ []) ∷ []) ∷
-    key Extension (codes "perl") false (reading (row (codes "pl")) (codes "text/x-perl") Text (codes "pl" ∷ []) (codes "sh" ∷ codes "txt" ∷ []) none any ∷ []) ∷
-    key Extension (codes "sha512sum") false (reading own (codes "text/x-checksums") Text none (codes "txt" ∷ []) none any ∷ []) ∷
-    key Whole (codes "sudoers") false (reading (row (codes "txt")) (codes "text/plain") Text (codes "txt" ∷ []) none texts any ∷ []) ∷
-    []
-
-unfoldable pub slot_11 : List Key
-slot_11 =
-    key Extension (codes "crl") false (reading known (codes "application/pkix-crl") Bytes none (codes "der" ∷ codes "pem" ∷ codes "txt" ∷ []) none any ∷ []) ∷
-    key Extension (codes "feature") false (reading known (codes "text/x-gherkin") Text none (codes "txt" ∷ []) none any ∷ []) ∷
-    key Extension (codes "gbr") false (reading known (codes "image/x-gimp-gbr") Bytes none none none any ∷ []) ∷
-    key Extension (codes "trig") false (reading known (codes "application/trig") Text none (codes "txt" ∷ []) none any ∷ []) ∷
-    key Extension (codes "twig") false (reading known (codes "text/x-twig") Text none (codes "html" ∷ codes "json" ∷ codes "php" ∷ codes "svg" ∷ codes "txt" ∷ codes "xhtml" ∷ codes "xml" ∷ []) none any ∷ []) ∷
-    []
-
-unfoldable pub slot_12 : List Key
-slot_12 =
-    []
-
-unfoldable pub slot_13 : List Key
-slot_13 =
-    key Extension (codes "m4p") false (reading (row (codes "m4a")) (codes "audio/m4a") Bytes (codes "m4a" ∷ []) (codes "m4b" ∷ codes "m4v" ∷ codes "mp4" ∷ []) none any ∷ []) ∷
-    key Extension (codes "nasm") false (reading own (codes "text/x-asm") Text none (codes "txt" ∷ []) none any ∷ []) ∷
-    key Extension (codes "odi") false (reading known (codes "application/vnd.oasis.opendocument.image") Signature none (codes "zip" ∷ []) none any ∷ []) ∷
-    key Extension (codes "shp") false (reading (row (codes "shp")) (codes "application/vnd.shp") Signature (codes "shp" ∷ []) none (codes "shx" ∷ []) any ∷ []) ∷
-    []
-
-unfoldable pub slot_14 : List Key
-slot_14 =
-    key Whole (codes ".wgetrc") false (reading (row (codes "txt")) (codes "text/plain") Text (codes "txt" ∷ []) none texts any ∷ []) ∷
-    key Extension (codes "asm") false (reading own (codes "text/x-asm") Text none (codes "txt" ∷ []) none any ∷ []) ∷
-    key Extension (codes "lark") false (reading known (codes "text/x-ebnf") Text none (codes "txt" ∷ []) none any ∷ []) ∷
-    key Extension (codes "p10") false (reading known (codes "application/pkcs10") Bytes none (codes "der" ∷ codes "pem" ∷ codes "txt" ∷ []) none any ∷ []) ∷
-    []
-
-unfoldable pub slot_15 : List Key
-slot_15 =
-    key Whole (codes ".babelrc") false (reading own (codes "application/x-jsonc") Text none (codes "txt" ∷ []) (codes "json" ∷ []) any ∷ []) ∷
-    key Whole (codes ".bowerrc") false (reading (row (codes "json")) (codes "application/json") Text (codes "json" ∷ []) none none any ∷ []) ∷
-    key Extension (codes "devhelp2") false (reading own (codes "application/x-devhelp+xml") Text none (codes "html" ∷ codes "txt" ∷ codes "xhtml" ∷ codes "xml" ∷ []) none (codes "<" ∷ []) ∷ []) ∷
-    key Whole (codes "go.work.sum") false (reading own (codes "text/x-gosum") Text none (codes "txt" ∷ []) none any ∷ []) ∷
-    key Extension (codes "ino") false (reading known (codes "text/x-c++src") Text none (codes "txt" ∷ []) none any ∷ []) ∷
-    key Extension (codes "mpg4") false (reading (row (codes "mp4")) (codes "video/mp4") Bytes (codes "mp4" ∷ []) (codes "heif" ∷ []) (codes "3g2" ∷ codes "3gp" ∷ codes "f4v" ∷ codes "m4a" ∷ codes "m4b" ∷ codes "m4v" ∷ codes "mov" ∷ []) any ∷ []) ∷
-    key Extension (codes "sjs") false (reading (row (codes "js")) (codes "text/javascript") Text (codes "js" ∷ []) (codes "json" ∷ codes "sh" ∷ codes "txt" ∷ []) none any ∷ []) ∷
-    key Extension (codes "sthlp") false (reading own (codes "text/x-stata") Text none (codes "txt" ∷ []) none any ∷ []) ∷
-    key Extension (codes "wgsl") false (reading known (codes "text/wgsl") Text none (codes "txt" ∷ []) none any ∷ []) ∷
-    []
-
 unfoldable pub group : List (List Key)
-group = slot_0 ∷ slot_1 ∷ slot_2 ∷ slot_3 ∷ slot_4 ∷ slot_5 ∷ slot_6 ∷ slot_7 ∷ slot_8 ∷ slot_9 ∷ slot_10 ∷ slot_11 ∷ slot_12 ∷ slot_13 ∷ slot_14 ∷ slot_15 ∷ []
+group =
+    (
+    key Extension (codes "amr") false (reading is-audio-amr Signature rows-amr no-rows no-rows any-lead ∷ []) ∷
+    key Extension (codes "fits") false (reading is-image-fits Signature rows-fits no-rows no-rows any-lead ∷ []) ∷
+    key Extension (codes "gyp") false (reading is-text-x-python-as-row-py Text rows-py rows-json-sh-txt no-rows any-lead ∷ []) ∷
+    key Extension (codes "pck") false (reading is-application-x-godot-package Bytes no-rows no-rows no-rows any-lead ∷ []) ∷
+    key Extension (codes "warc") false (reading is-application-warc Signature rows-warc no-rows no-rows any-lead ∷ []) ∷
+    key Extension (codes "xapk") false (reading is-application-x-apkm Signature no-rows rows-apk-jar-zip no-rows any-lead ∷ []) ∷
+    [])
+    ∷ (
+    key Whole (codes "cmakelists.txt") false (reading is-text-x-cmake Text no-rows rows-txt no-rows any-lead ∷ []) ∷
+    [])
+    ∷ (
+    key Whole (codes "cargo.lock") false (reading is-application-toml Text no-rows rows-txt no-rows any-lead ∷ []) ∷
+    key Extension (codes "cwl") false (reading is-text-x-cwl Text no-rows rows-json-txt no-rows any-lead ∷ []) ∷
+    key Extension (codes "kdenlive") false (reading is-application-x-kdenlive Text no-rows rows-html-txt-xhtml-xml no-rows leads-10 ∷ []) ∷
+    key Extension (codes "msp") false (reading is-application-x-msi Signature rows-application-x-msi rows-application-x-ole-storage no-rows any-lead ∷ []) ∷
+    key Extension (codes "pyo") false (reading is-application-x-python-bytecode Bytes rows-pyc no-rows no-rows any-lead ∷ []) ∷
+    [])
+    ∷ (
+    key Extension (codes "filters") false (reading is-application-x-msbuild-xml Text no-rows rows-html-txt-xhtml-xml no-rows leads-10 ∷ []) ∷
+    key Extension (codes "z01") false (reading is-application-zip Signature rows-zip no-rows rows-3mf-apk-docx-epub-jar-kmz-kra-odf-odg-odp-ods-odt-ora-otp-ots-ott-pptx-vsdx-xlsx any-lead ∷ []) ∷
+    [])
+    ∷ (
+    key Whole (codes ".bash_logout") false (reading is-text-x-shell-config Text no-rows rows-sh-txt no-rows any-lead ∷ []) ∷
+    [])
+    ∷ (
+    key Extension (codes "bi") false (reading is-text-x-basic Text no-rows rows-txt no-rows any-lead ∷ []) ∷
+    key Extension (codes "dimacs") false (reading is-text-x-dimacs Text no-rows rows-txt no-rows any-lead ∷ []) ∷
+    key Extension (codes "ml4") false (reading is-text-x-ocaml Text no-rows rows-sh-txt no-rows any-lead ∷ []) ∷
+    key Extension (codes "nfo") false (reading is-text-plain Text rows-txt no-rows text-rows any-lead ∷ []) ∷
+    key Extension (codes "wxl") false (reading is-application-x-wix-xml Text no-rows rows-html-txt-xhtml-xml no-rows leads-10 ∷ []) ∷
+    [])
+    ∷ (
+    key Extension (codes "aidl") false (reading is-text-x-aidl Text no-rows rows-txt no-rows any-lead ∷ []) ∷
+    key Whole (codes "doxyfile") false (reading is-text-x-cppconf Text no-rows rows-txt no-rows any-lead ∷ []) ∷
+    key Extension (codes "iso") false (reading is-application-x-cd-image Bytes no-rows no-rows no-rows any-lead ∷ []) ∷
+    key Whole (codes "metadata") false (reading is-text-plain Text rows-txt no-rows text-rows any-lead ∷ []) ∷
+    key Extension (codes "sublime-build") false (reading is-application-x-jsonc Text no-rows rows-txt rows-json any-lead ∷ []) ∷
+    [])
+    ∷ (
+    key Extension (codes "cr3") false (reading is-image-x-canon-cr3 Signature rows-cr3 no-rows no-rows any-lead ∷ []) ∷
+    key Extension (codes "jxl") false (reading is-image-jxl Bytes rows-jxl no-rows no-rows any-lead ∷ []) ∷
+    key Extension (codes "ora") false (reading is-image-openraster Signature rows-ora rows-zip no-rows any-lead ∷ []) ∷
+    key Extension (codes "svh") false (reading is-text-x-svhdr Text no-rows rows-txt no-rows any-lead ∷ []) ∷
+    [])
+    ∷ (
+    key Extension (codes "conf") false (reading is-text-plain Text rows-txt no-rows text-rows any-lead ∷ []) ∷
+    key Extension (codes "dsc") false (reading is-text-x-debian-control Text no-rows rows-txt no-rows any-lead ∷ []) ∷
+    key Extension (codes "nomad") false (reading is-text-x-hcl Text no-rows rows-txt no-rows any-lead ∷ []) ∷
+    key Extension (codes "plist") false (reading is-application-x-plist Text rows-plist rows-txt-xml no-rows any-lead ∷ reading is-application-x-bplist Signature rows-bplist no-rows no-rows any-lead ∷ []) ∷
+    key Extension (codes "sha1sum") false (reading is-text-x-checksums Text no-rows rows-txt no-rows any-lead ∷ []) ∷
+    key Extension (codes "x3dv") false (reading is-model-x3d-vrml Text no-rows rows-txt no-rows any-lead ∷ []) ∷
+    key Extension (codes "xz") false (reading is-application-x-xz Signature rows-xz no-rows no-rows any-lead ∷ []) ∷
+    [])
+    ∷ (
+    key Extension (codes "gtp") false (reading is-text-x-gerber Text no-rows rows-txt no-rows any-lead ∷ []) ∷
+    key Extension (codes "jrxml") false (reading is-application-x-jasper-xml Text no-rows rows-html-txt-xhtml-xml no-rows leads-10 ∷ []) ∷
+    [])
+    ∷ (
+    key Extension (codes "dae") false (reading is-model-vnd-collada-xml Text no-rows rows-html-txt-xhtml-xml no-rows leads-10 ∷ []) ∷
+    key Extension (codes "perl") false (reading is-text-x-perl Text rows-pl rows-sh-txt no-rows any-lead ∷ []) ∷
+    key Extension (codes "sha512sum") false (reading is-text-x-checksums Text no-rows rows-txt no-rows any-lead ∷ []) ∷
+    key Whole (codes "sudoers") false (reading is-text-plain Text rows-txt no-rows text-rows any-lead ∷ []) ∷
+    [])
+    ∷ (
+    key Extension (codes "crl") false (reading is-application-pkix-crl Bytes no-rows rows-der-pem-txt no-rows any-lead ∷ []) ∷
+    key Extension (codes "feature") false (reading is-text-x-gherkin Text no-rows rows-txt no-rows any-lead ∷ []) ∷
+    key Extension (codes "gbr") false (reading is-image-x-gimp-gbr Bytes no-rows no-rows no-rows any-lead ∷ []) ∷
+    key Extension (codes "trig") false (reading is-application-trig Text no-rows rows-txt no-rows any-lead ∷ []) ∷
+    key Extension (codes "twig") false (reading is-text-x-twig Text no-rows rows-html-json-php-svg-txt-xhtml-xml no-rows any-lead ∷ []) ∷
+    [])
+    ∷ []
+    ∷ (
+    key Extension (codes "m4p") false (reading is-audio-m4a Bytes rows-m4a rows-m4b-m4v-mp4 no-rows any-lead ∷ []) ∷
+    key Extension (codes "nasm") false (reading is-text-x-asm Text no-rows rows-txt no-rows any-lead ∷ []) ∷
+    key Extension (codes "odi") false (reading is-application-vnd-oasis-opendocument-image Signature no-rows rows-zip no-rows any-lead ∷ []) ∷
+    key Extension (codes "shp") false (reading is-application-vnd-shp Signature rows-shp no-rows rows-shx any-lead ∷ []) ∷
+    [])
+    ∷ (
+    key Whole (codes ".wgetrc") false (reading is-text-plain Text rows-txt no-rows text-rows any-lead ∷ []) ∷
+    key Extension (codes "asm") false (reading is-text-x-asm Text no-rows rows-txt no-rows any-lead ∷ []) ∷
+    key Extension (codes "lark") false (reading is-text-x-ebnf Text no-rows rows-txt no-rows any-lead ∷ []) ∷
+    key Extension (codes "p10") false (reading is-application-pkcs10 Bytes no-rows rows-der-pem-txt no-rows any-lead ∷ []) ∷
+    [])
+    ∷ (
+    key Whole (codes ".babelrc") false (reading is-application-x-jsonc Text no-rows rows-txt rows-json any-lead ∷ []) ∷
+    key Whole (codes ".bowerrc") false (reading is-application-json Text rows-json no-rows no-rows any-lead ∷ []) ∷
+    key Extension (codes "devhelp2") false (reading is-application-x-devhelp-xml Text no-rows rows-html-txt-xhtml-xml no-rows leads-10 ∷ []) ∷
+    key Whole (codes "go.work.sum") false (reading is-text-x-gosum Text no-rows rows-txt no-rows any-lead ∷ []) ∷
+    key Extension (codes "ino") false (reading is-text-x-c-src Text no-rows rows-txt no-rows any-lead ∷ []) ∷
+    key Extension (codes "mpg4") false (reading is-video-mp4 Bytes rows-mp4 rows-heif rows-3g2-3gp-f4v-m4a-m4b-m4v-mov any-lead ∷ []) ∷
+    key Extension (codes "sjs") false (reading is-text-javascript Text rows-js rows-json-sh-txt no-rows any-lead ∷ []) ∷
+    key Extension (codes "sthlp") false (reading is-text-x-stata Text no-rows rows-txt no-rows any-lead ∷ []) ∷
+    key Extension (codes "wgsl") false (reading is-text-wgsl Text no-rows rows-txt no-rows any-lead ∷ []) ∷
+    [])
+    ∷ []

@@ -1,131 +1,101 @@
 -- Made by `tools/tables` from names.txt: the keys of slots 352 to 367.
 use Rattle.std.specs.Prelude.{List, [], ◌∷◌, codes, false, true}
-use Rattle.infer_named.specs.Key.{Key, key, known, own, reading, row}
-use Rattle.infer_named.specs.Texts.{any, none, texts}
+use Rattle.infer_named.specs.Key.{Key, key}
+use Rattle.infer_named.specs.Listed.{reading}
+use Rattle.infer_named.specs.Sets.{any-lead, leads-10, no-rows, rows-apk-jar-zip, rows-appimage, rows-application-x-ole-storage, rows-application-x-ole-storage-zip, rows-beam, rows-der-p7b-pem, rows-docx-application-x-ole-storage-zip, rows-elf, rows-evtx, rows-gz, rows-hdf5, rows-heics, rows-heif, rows-html-json-php-svg-txt-xhtml-xml, rows-html-sh-svg-txt-xhtml-xml, rows-js, rows-json, rows-json-ndjson-txt, rows-json-plist-txt-xml, rows-json-sh-txt, rows-json-txt, rows-ndjson, rows-o, rows-p12, rows-php, rows-pl, rows-rar, rows-rb, rows-sh-txt, rows-ttc, rows-txt, rows-vcf, rows-wasm, rows-xlsx, text-rows}
+use Rattle.infer_named.specs.Types.{is-application-gzip, is-application-pkcs12, is-application-pkcs7-signature, is-application-vnd-appimage, is-application-vnd-comicbook-rar, is-application-vnd-lotus-1-2-3, is-application-vnd-ms-project, is-application-vnd-ms-word-template-macroenabled-12, is-application-vnd-nintendo-snes-rom, is-application-vnd-openxmlformats-officedocument-spreadsheetml-sheet, is-application-wasm, is-application-x-ace, is-application-x-apkm, is-application-x-device-tree-blob, is-application-x-erlang-beam, is-application-x-hdf5, is-application-x-ms-evtx, is-application-x-ndjson, is-application-x-object, is-application-x-theme-xml, is-application-yaml, is-font-collection, is-image-heic-sequence, is-image-x-minolta-mrw, is-model-mtl, is-multipart-related, is-text-csv, is-text-javascript, is-text-plain, is-text-uri-list, is-text-vcard, is-text-x-abap, is-text-x-asn1, is-text-x-dune, is-text-x-ejs, is-text-x-emacs-lisp, is-text-x-gitignore, is-text-x-handlebars, is-text-x-ldif, is-text-x-lex, is-text-x-metal, is-text-x-perl, is-text-x-php, is-text-x-pig, is-text-x-psv, is-text-x-ragel, is-text-x-raku, is-text-x-reason, is-text-x-ruby, is-text-x-setext, is-text-x-stan, is-text-x-texinfo, is-text-x-vue, is-video-x-flic}
 use Rattle.infer_named.specs.declared.table.Asks.TheVariants.{Bytes, Nothing, Signature, Text}
 use Rattle.infer_named.specs.declared.table.Part.TheVariants.{Extension, Whole}
 
-unfoldable pub slot_0 : List Key
-slot_0 =
-    key Whole (codes "maintainers") false (reading (row (codes "txt")) (codes "text/plain") Text (codes "txt" ∷ []) none texts any ∷ []) ∷
-    key Extension (codes "smc") false (reading known (codes "application/vnd.nintendo.snes.rom") Bytes none none none any ∷ []) ∷
-    []
-
-unfoldable pub slot_1 : List Key
-slot_1 =
-    key Extension (codes "appimage") false (reading (row (codes "appimage")) (codes "application/vnd.appimage") Signature (codes "appimage" ∷ []) (codes "elf" ∷ []) none any ∷ []) ∷
-    key Whole (codes "authors") false (reading (row (codes "txt")) (codes "text/plain") Text (codes "txt" ∷ []) none texts any ∷ []) ∷
-    key Extension (codes "ctp") false (reading (row (codes "php")) (codes "text/x-php") Text (codes "php" ∷ []) (codes "html" ∷ codes "sh" ∷ codes "svg" ∷ codes "txt" ∷ codes "xhtml" ∷ codes "xml" ∷ []) none any ∷ []) ∷
-    key Extension (codes "mpt") false (reading known (codes "application/vnd.ms-project") Signature none (codes "application/x-ole-storage" ∷ []) none any ∷ []) ∷
-    key Extension (codes "uris") false (reading known (codes "text/uri-list") Text none (codes "txt" ∷ []) none any ∷ []) ∷
-    []
-
-unfoldable pub slot_2 : List Key
-slot_2 =
-    key Extension (codes "asn") false (reading own (codes "text/x-asn1") Text none (codes "txt" ∷ []) none any ∷ []) ∷
-    key Extension (codes "ect") false (reading own (codes "text/x-ejs") Text none (codes "html" ∷ codes "json" ∷ codes "php" ∷ codes "svg" ∷ codes "txt" ∷ codes "xhtml" ∷ codes "xml" ∷ []) none any ∷ []) ∷
-    key Extension (codes "gz") false (reading (row (codes "gz")) (codes "application/gzip") Signature (codes "gz" ∷ []) none none any ∷ []) ∷
-    key Whole (codes "installer") false (reading (row (codes "txt")) (codes "text/plain") Text (codes "txt" ∷ []) none texts any ∷ []) ∷
-    key Extension (codes "pig") false (reading own (codes "text/x-pig") Text none (codes "txt" ∷ []) none any ∷ []) ∷
-    key Extension (codes "rl") false (reading own (codes "text/x-ragel") Text none (codes "txt" ∷ []) none any ∷ []) ∷
-    key Extension (codes "vue") false (reading own (codes "text/x-vue") Text none (codes "html" ∷ codes "json" ∷ codes "php" ∷ codes "svg" ∷ codes "txt" ∷ codes "xhtml" ∷ codes "xml" ∷ []) none any ∷ []) ∷
-    []
-
-unfoldable pub slot_3 : List Key
-slot_3 =
-    key Extension (codes "cbr") false (reading known (codes "application/vnd.comicbook-rar") Signature none (codes "rar" ∷ []) none any ∷ []) ∷
-    key Extension (codes "mrw") false (reading known (codes "image/x-minolta-mrw") Bytes none none none any ∷ []) ∷
-    key Extension (codes "ndjson") false (reading (row (codes "ndjson")) (codes "application/x-ndjson") Text (codes "ndjson" ∷ []) (codes "json" ∷ []) none any ∷ []) ∷
-    key Extension (codes "tmlanguage") false (reading own (codes "application/x-theme+xml") Text none (codes "json" ∷ codes "plist" ∷ codes "txt" ∷ codes "xml" ∷ []) none (codes "<" ∷ []) ∷ []) ∷
-    key Extension (codes "ttc") false (reading (row (codes "ttc")) (codes "font/collection") Signature (codes "ttc" ∷ []) none none any ∷ []) ∷
-    key Extension (codes "wasm") false (reading (row (codes "wasm")) (codes "application/wasm") Signature (codes "wasm" ∷ []) none none any ∷ []) ∷
-    []
-
-unfoldable pub slot_4 : List Key
-slot_4 =
-    key Extension (codes "el") false (reading known (codes "text/x-emacs-lisp") Text none (codes "sh" ∷ codes "txt" ∷ []) none any ∷ []) ∷
-    key Extension (codes "gitignore") false (reading own (codes "text/x-gitignore") Text none (codes "txt" ∷ []) none any ∷ []) ∷
-    key Extension (codes "heics") false (reading (row (codes "heics")) (codes "image/heic-sequence") Signature (codes "heics" ∷ []) (codes "heif" ∷ []) none any ∷ []) ∷
-    key Extension (codes "jsm") false (reading (row (codes "js")) (codes "text/javascript") Text (codes "js" ∷ []) (codes "json" ∷ codes "sh" ∷ codes "txt" ∷ []) none any ∷ []) ∷
-    key Extension (codes "vcard") false (reading (row (codes "vcf")) (codes "text/vcard") Text (codes "vcf" ∷ []) (codes "txt" ∷ []) none any ∷ []) ∷
-    []
-
-unfoldable pub slot_5 : List Key
-slot_5 =
-    key Extension (codes "abap") false (reading own (codes "text/x-abap") Text none (codes "txt" ∷ []) none any ∷ []) ∷
-    key Extension (codes "jflex") false (reading own (codes "text/x-lex") Text none (codes "txt" ∷ []) none any ∷ []) ∷
-    key Extension (codes "mustache") false (reading own (codes "text/x-handlebars") Text none (codes "html" ∷ codes "json" ∷ codes "php" ∷ codes "svg" ∷ codes "txt" ∷ codes "xhtml" ∷ codes "xml" ∷ []) none any ∷ []) ∷
-    key Extension (codes "pfx") false (reading (row (codes "p12")) (codes "application/pkcs12") Bytes (codes "p12" ∷ []) none none any ∷ []) ∷
-    key Extension (codes "pm") false (reading (row (codes "pl")) (codes "text/x-perl") Text (codes "pl" ∷ []) (codes "sh" ∷ codes "txt" ∷ []) none any ∷ []) ∷
-    key Extension (codes "xlsx") false (reading (row (codes "xlsx")) (codes "application/vnd.openxmlformats-officedocument.spreadsheetml.sheet") Signature (codes "xlsx" ∷ []) (codes "application/x-ole-storage" ∷ codes "zip" ∷ []) none any ∷ []) ∷
-    []
-
-unfoldable pub slot_6 : List Key
-slot_6 =
-    []
-
-unfoldable pub slot_7 : List Key
-slot_7 =
-    key Extension (codes "ldif") false (reading known (codes "text/x-ldif") Text none (codes "txt" ∷ []) none any ∷ []) ∷
-    key Extension (codes "txi") false (reading known (codes "text/x-texinfo") Text none (codes "txt" ∷ []) none any ∷ []) ∷
-    []
-
-unfoldable pub slot_8 : List Key
-slot_8 =
-    key Extension (codes "texi") false (reading known (codes "text/x-texinfo") Text none (codes "txt" ∷ []) none any ∷ []) ∷
-    key Extension (codes "yml") false (reading own (codes "application/yaml") Text none (codes "json" ∷ codes "ndjson" ∷ codes "txt" ∷ []) none any ∷ []) ∷
-    []
-
-unfoldable pub slot_9 : List Key
-slot_9 =
-    key Extension (codes "stan") false (reading own (codes "text/x-stan") Text none (codes "txt" ∷ []) none any ∷ []) ∷
-    key Extension (codes "watchr") false (reading (row (codes "rb")) (codes "text/x-ruby") Text (codes "rb" ∷ []) (codes "sh" ∷ codes "txt" ∷ []) none any ∷ []) ∷
-    key Extension (codes "yaml") false (reading own (codes "application/yaml") Text none (codes "json" ∷ codes "ndjson" ∷ codes "txt" ∷ []) none any ∷ []) ∷
-    []
-
-unfoldable pub slot_10 : List Key
-slot_10 =
-    key Extension (codes "rakumod") false (reading own (codes "text/x-raku") Text none (codes "sh" ∷ codes "txt" ∷ []) none any ∷ []) ∷
-    key Extension (codes "rei") false (reading own (codes "text/x-reason") Text none (codes "txt" ∷ []) none any ∷ []) ∷
-    []
-
-unfoldable pub slot_11 : List Key
-slot_11 =
-    key Extension (codes "123") false (reading known (codes "application/vnd.lotus-1-2-3") Bytes none none none any ∷ []) ∷
-    key Extension (codes "lo") false (reading (row (codes "o")) (codes "application/x-object") Signature (codes "o" ∷ []) (codes "elf" ∷ []) none any ∷ []) ∷
-    []
-
-unfoldable pub slot_12 : List Key
-slot_12 =
-    key Extension (codes "aab") false (reading own (codes "application/x-apkm") Signature none (codes "apk" ∷ codes "jar" ∷ codes "zip" ∷ []) none any ∷ []) ∷
-    key Extension (codes "dotm") false (reading known (codes "application/vnd.ms-word.template.macroEnabled.12") Signature none (codes "docx" ∷ codes "application/x-ole-storage" ∷ codes "zip" ∷ []) none any ∷ []) ∷
-    key Extension (codes "p7s") false (reading known (codes "application/pkcs7-signature") Signature none (codes "der" ∷ codes "p7b" ∷ codes "pem" ∷ []) none any ∷ []) ∷
-    key Extension (codes "psv") false (reading own (codes "text/x-psv") Text none (codes "txt" ∷ []) none any ∷ []) ∷
-    []
-
-unfoldable pub slot_13 : List Key
-slot_13 =
-    key Extension (codes "etx") false (reading known (codes "text/x-setext") Text none (codes "txt" ∷ []) none any ∷ []) ∷
-    key Extension (codes "h5") false (reading (row (codes "hdf5")) (codes "application/x-hdf5") Bytes (codes "hdf5" ∷ []) none none any ∷ []) ∷
-    key Extension (codes "mtl") false (reading known (codes "model/mtl") Text none (codes "txt" ∷ []) none any ∷ []) ∷
-    key Extension (codes "opam") false (reading own (codes "text/x-dune") Text none (codes "txt" ∷ []) none any ∷ []) ∷
-    []
-
-unfoldable pub slot_14 : List Key
-slot_14 =
-    key Extension (codes "ace") false (reading known (codes "application/x-ace") Bytes none none none any ∷ []) ∷
-    key Extension (codes "csv") false (reading known (codes "text/csv") Text none (codes "json" ∷ codes "txt" ∷ []) none any ∷ []) ∷
-    key Extension (codes "dtbo") false (reading own (codes "application/x-device-tree-blob") Bytes none none none any ∷ []) ∷
-    key Extension (codes "evtx") false (reading (row (codes "evtx")) (codes "application/x-ms-evtx") Signature (codes "evtx" ∷ []) none none any ∷ []) ∷
-    []
-
-unfoldable pub slot_15 : List Key
-slot_15 =
-    key Extension (codes "beam") false (reading (row (codes "beam")) (codes "application/x-erlang-beam") Bytes (codes "beam" ∷ []) none none any ∷ []) ∷
-    key Extension (codes "fli") false (reading known (codes "video/x-flic") Bytes none none none any ∷ []) ∷
-    key Extension (codes "metal") false (reading own (codes "text/x-metal") Text none (codes "txt" ∷ []) none any ∷ []) ∷
-    key Extension (codes "mhtml") false (reading known (codes "multipart/related") Text none (codes "txt" ∷ []) none any ∷ []) ∷
-    []
-
 unfoldable pub group : List (List Key)
-group = slot_0 ∷ slot_1 ∷ slot_2 ∷ slot_3 ∷ slot_4 ∷ slot_5 ∷ slot_6 ∷ slot_7 ∷ slot_8 ∷ slot_9 ∷ slot_10 ∷ slot_11 ∷ slot_12 ∷ slot_13 ∷ slot_14 ∷ slot_15 ∷ []
+group =
+    (
+    key Whole (codes "maintainers") false (reading is-text-plain Text rows-txt no-rows text-rows any-lead ∷ []) ∷
+    key Extension (codes "smc") false (reading is-application-vnd-nintendo-snes-rom Bytes no-rows no-rows no-rows any-lead ∷ []) ∷
+    [])
+    ∷ (
+    key Extension (codes "appimage") false (reading is-application-vnd-appimage Signature rows-appimage rows-elf no-rows any-lead ∷ []) ∷
+    key Whole (codes "authors") false (reading is-text-plain Text rows-txt no-rows text-rows any-lead ∷ []) ∷
+    key Extension (codes "ctp") false (reading is-text-x-php Text rows-php rows-html-sh-svg-txt-xhtml-xml no-rows any-lead ∷ []) ∷
+    key Extension (codes "mpt") false (reading is-application-vnd-ms-project Signature no-rows rows-application-x-ole-storage no-rows any-lead ∷ []) ∷
+    key Extension (codes "uris") false (reading is-text-uri-list Text no-rows rows-txt no-rows any-lead ∷ []) ∷
+    [])
+    ∷ (
+    key Extension (codes "asn") false (reading is-text-x-asn1 Text no-rows rows-txt no-rows any-lead ∷ []) ∷
+    key Extension (codes "ect") false (reading is-text-x-ejs Text no-rows rows-html-json-php-svg-txt-xhtml-xml no-rows any-lead ∷ []) ∷
+    key Extension (codes "gz") false (reading is-application-gzip Signature rows-gz no-rows no-rows any-lead ∷ []) ∷
+    key Whole (codes "installer") false (reading is-text-plain Text rows-txt no-rows text-rows any-lead ∷ []) ∷
+    key Extension (codes "pig") false (reading is-text-x-pig Text no-rows rows-txt no-rows any-lead ∷ []) ∷
+    key Extension (codes "rl") false (reading is-text-x-ragel Text no-rows rows-txt no-rows any-lead ∷ []) ∷
+    key Extension (codes "vue") false (reading is-text-x-vue Text no-rows rows-html-json-php-svg-txt-xhtml-xml no-rows any-lead ∷ []) ∷
+    [])
+    ∷ (
+    key Extension (codes "cbr") false (reading is-application-vnd-comicbook-rar Signature no-rows rows-rar no-rows any-lead ∷ []) ∷
+    key Extension (codes "mrw") false (reading is-image-x-minolta-mrw Bytes no-rows no-rows no-rows any-lead ∷ []) ∷
+    key Extension (codes "ndjson") false (reading is-application-x-ndjson Text rows-ndjson rows-json no-rows any-lead ∷ []) ∷
+    key Extension (codes "tmlanguage") false (reading is-application-x-theme-xml Text no-rows rows-json-plist-txt-xml no-rows leads-10 ∷ []) ∷
+    key Extension (codes "ttc") false (reading is-font-collection Signature rows-ttc no-rows no-rows any-lead ∷ []) ∷
+    key Extension (codes "wasm") false (reading is-application-wasm Signature rows-wasm no-rows no-rows any-lead ∷ []) ∷
+    [])
+    ∷ (
+    key Extension (codes "el") false (reading is-text-x-emacs-lisp Text no-rows rows-sh-txt no-rows any-lead ∷ []) ∷
+    key Extension (codes "gitignore") false (reading is-text-x-gitignore Text no-rows rows-txt no-rows any-lead ∷ []) ∷
+    key Extension (codes "heics") false (reading is-image-heic-sequence Signature rows-heics rows-heif no-rows any-lead ∷ []) ∷
+    key Extension (codes "jsm") false (reading is-text-javascript Text rows-js rows-json-sh-txt no-rows any-lead ∷ []) ∷
+    key Extension (codes "vcard") false (reading is-text-vcard Text rows-vcf rows-txt no-rows any-lead ∷ []) ∷
+    [])
+    ∷ (
+    key Extension (codes "abap") false (reading is-text-x-abap Text no-rows rows-txt no-rows any-lead ∷ []) ∷
+    key Extension (codes "jflex") false (reading is-text-x-lex Text no-rows rows-txt no-rows any-lead ∷ []) ∷
+    key Extension (codes "mustache") false (reading is-text-x-handlebars Text no-rows rows-html-json-php-svg-txt-xhtml-xml no-rows any-lead ∷ []) ∷
+    key Extension (codes "pfx") false (reading is-application-pkcs12 Bytes rows-p12 no-rows no-rows any-lead ∷ []) ∷
+    key Extension (codes "pm") false (reading is-text-x-perl Text rows-pl rows-sh-txt no-rows any-lead ∷ []) ∷
+    key Extension (codes "xlsx") false (reading is-application-vnd-openxmlformats-officedocument-spreadsheetml-sheet Signature rows-xlsx rows-application-x-ole-storage-zip no-rows any-lead ∷ []) ∷
+    [])
+    ∷ []
+    ∷ (
+    key Extension (codes "ldif") false (reading is-text-x-ldif Text no-rows rows-txt no-rows any-lead ∷ []) ∷
+    key Extension (codes "txi") false (reading is-text-x-texinfo Text no-rows rows-txt no-rows any-lead ∷ []) ∷
+    [])
+    ∷ (
+    key Extension (codes "texi") false (reading is-text-x-texinfo Text no-rows rows-txt no-rows any-lead ∷ []) ∷
+    key Extension (codes "yml") false (reading is-application-yaml Text no-rows rows-json-ndjson-txt no-rows any-lead ∷ []) ∷
+    [])
+    ∷ (
+    key Extension (codes "stan") false (reading is-text-x-stan Text no-rows rows-txt no-rows any-lead ∷ []) ∷
+    key Extension (codes "watchr") false (reading is-text-x-ruby Text rows-rb rows-sh-txt no-rows any-lead ∷ []) ∷
+    key Extension (codes "yaml") false (reading is-application-yaml Text no-rows rows-json-ndjson-txt no-rows any-lead ∷ []) ∷
+    [])
+    ∷ (
+    key Extension (codes "rakumod") false (reading is-text-x-raku Text no-rows rows-sh-txt no-rows any-lead ∷ []) ∷
+    key Extension (codes "rei") false (reading is-text-x-reason Text no-rows rows-txt no-rows any-lead ∷ []) ∷
+    [])
+    ∷ (
+    key Extension (codes "123") false (reading is-application-vnd-lotus-1-2-3 Bytes no-rows no-rows no-rows any-lead ∷ []) ∷
+    key Extension (codes "lo") false (reading is-application-x-object Signature rows-o rows-elf no-rows any-lead ∷ []) ∷
+    [])
+    ∷ (
+    key Extension (codes "aab") false (reading is-application-x-apkm Signature no-rows rows-apk-jar-zip no-rows any-lead ∷ []) ∷
+    key Extension (codes "dotm") false (reading is-application-vnd-ms-word-template-macroenabled-12 Signature no-rows rows-docx-application-x-ole-storage-zip no-rows any-lead ∷ []) ∷
+    key Extension (codes "p7s") false (reading is-application-pkcs7-signature Signature no-rows rows-der-p7b-pem no-rows any-lead ∷ []) ∷
+    key Extension (codes "psv") false (reading is-text-x-psv Text no-rows rows-txt no-rows any-lead ∷ []) ∷
+    [])
+    ∷ (
+    key Extension (codes "etx") false (reading is-text-x-setext Text no-rows rows-txt no-rows any-lead ∷ []) ∷
+    key Extension (codes "h5") false (reading is-application-x-hdf5 Bytes rows-hdf5 no-rows no-rows any-lead ∷ []) ∷
+    key Extension (codes "mtl") false (reading is-model-mtl Text no-rows rows-txt no-rows any-lead ∷ []) ∷
+    key Extension (codes "opam") false (reading is-text-x-dune Text no-rows rows-txt no-rows any-lead ∷ []) ∷
+    [])
+    ∷ (
+    key Extension (codes "ace") false (reading is-application-x-ace Bytes no-rows no-rows no-rows any-lead ∷ []) ∷
+    key Extension (codes "csv") false (reading is-text-csv Text no-rows rows-json-txt no-rows any-lead ∷ []) ∷
+    key Extension (codes "dtbo") false (reading is-application-x-device-tree-blob Bytes no-rows no-rows no-rows any-lead ∷ []) ∷
+    key Extension (codes "evtx") false (reading is-application-x-ms-evtx Signature rows-evtx no-rows no-rows any-lead ∷ []) ∷
+    [])
+    ∷ (
+    key Extension (codes "beam") false (reading is-application-x-erlang-beam Bytes rows-beam no-rows no-rows any-lead ∷ []) ∷
+    key Extension (codes "fli") false (reading is-video-x-flic Bytes no-rows no-rows no-rows any-lead ∷ []) ∷
+    key Extension (codes "metal") false (reading is-text-x-metal Text no-rows rows-txt no-rows any-lead ∷ []) ∷
+    key Extension (codes "mhtml") false (reading is-multipart-related Text no-rows rows-txt no-rows any-lead ∷ []) ∷
+    [])
+    ∷ []

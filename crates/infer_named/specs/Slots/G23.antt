@@ -1,135 +1,106 @@
 -- Made by `tools/tables` from names.txt: the keys of slots 368 to 383.
 use Rattle.std.specs.Prelude.{List, [], ◌∷◌, codes, false, true}
-use Rattle.infer_named.specs.Key.{Key, key, known, own, reading, row}
-use Rattle.infer_named.specs.Texts.{any, none, texts}
+use Rattle.infer_named.specs.Key.{Key, key}
+use Rattle.infer_named.specs.Listed.{reading}
+use Rattle.infer_named.specs.Sets.{any-lead, leads-10, no-rows, rows-accdb, rows-application-x-ole-storage, rows-application-x-ole-storage-zip, rows-bz2-gz-xz, rows-chm, rows-docx, rows-gpkg, rows-hdf5, rows-html-txt-xhtml-xml, rows-jpg, rows-json, rows-odt-zip, rows-ogg, rows-ogv, rows-orc, rows-ott, rows-ps-txt, rows-rb, rows-sh-txt, rows-sqlite, rows-tcl, rows-txt, rows-wim, rows-xpm, rows-zip, text-rows}
+use Rattle.infer_named.specs.Types.{is-application-atomcat-xml, is-application-schema-json, is-application-smil-xml, is-application-vnd-apple-pages, is-application-vnd-ms-htmlhelp, is-application-vnd-oasis-opendocument-text-template, is-application-vnd-openxmlformats-officedocument-wordprocessingml-document, is-application-vnd-sqlite3, is-application-x-csh, is-application-x-godot-scene, is-application-x-hdf5, is-application-x-matlab-data, is-application-x-ms-registry-hive, is-application-x-ms-wim, is-application-x-msaccess-as-row-accdb, is-application-x-nuspec-xml, is-application-x-orc, is-application-x-quattropro, is-application-x-r-data, is-application-x-shared-library-la, is-application-x-urdf-xml, is-audio-x-mo3, is-audio-x-scpls, is-chemical-x-mdl-molfile, is-image-jpeg, is-image-x-ilbm, is-image-x-sgi, is-image-x-xpixmap, is-text-plain, is-text-x-bicep, is-text-x-bpftrace, is-text-x-cobol, is-text-x-csound, is-text-x-ebnf, is-text-x-fennel, is-text-x-gitconfig, is-text-x-gitignore, is-text-x-gn, is-text-x-kotlin, is-text-x-metafont, is-text-x-pawn, is-text-x-rebol, is-text-x-rsrc, is-text-x-ruby, is-text-x-scala, is-text-x-shell-config, is-text-x-systemd-unit, is-text-x-tcl, is-text-x-tex, is-text-x-txt2tags, is-text-x-verilog, is-text-x-xresources, is-video-h265, is-video-ogg}
 use Rattle.infer_named.specs.declared.table.Asks.TheVariants.{Bytes, Nothing, Signature, Text}
 use Rattle.infer_named.specs.declared.table.Part.TheVariants.{Extension, Whole}
 
-unfoldable pub slot_0 : List Key
-slot_0 =
-    key Whole (codes ".gitmodules") false (reading own (codes "text/x-gitconfig") Text none (codes "txt" ∷ []) none any ∷ []) ∷
-    key Whole (codes ".xresources") false (reading own (codes "text/x-xresources") Text none (codes "txt" ∷ []) none any ∷ []) ∷
-    key Extension (codes "accde") false (reading (row (codes "accdb")) (codes "application/x-msaccess") Signature (codes "accdb" ∷ []) none none any ∷ []) ∷
-    key Extension (codes "schema.json") false (reading known (codes "application/schema+json") Text none (codes "json" ∷ []) none any ∷ []) ∷
-    []
-
-unfoldable pub slot_1 : List Key
-slot_1 =
-    key Whole (codes ".eslintignore") false (reading own (codes "text/x-gitignore") Text none (codes "txt" ∷ []) none any ∷ []) ∷
-    key Extension (codes "chm") false (reading (row (codes "chm")) (codes "application/vnd.ms-htmlhelp") Signature (codes "chm" ∷ []) none none any ∷ []) ∷
-    key Extension (codes "fnl") false (reading own (codes "text/x-fennel") Text none (codes "sh" ∷ codes "txt" ∷ []) none any ∷ []) ∷
-    key Extension (codes "itk") false (reading (row (codes "tcl")) (codes "text/x-tcl") Text (codes "tcl" ∷ []) (codes "sh" ∷ codes "txt" ∷ []) none any ∷ []) ∷
-    key Extension (codes "sc") false (reading known (codes "text/x-scala") Text none (codes "sh" ∷ codes "txt" ∷ []) none any ∷ []) ∷
-    key Extension (codes "t2t") false (reading known (codes "text/x-txt2tags") Text none (codes "txt" ∷ []) none any ∷ []) ∷
-    []
-
-unfoldable pub slot_2 : List Key
-slot_2 =
-    key Extension (codes "bicep") false (reading own (codes "text/x-bicep") Text none (codes "txt" ∷ []) none any ∷ []) ∷
-    key Extension (codes "cob") false (reading known (codes "text/x-cobol") Text none (codes "txt" ∷ []) none any ∷ []) ∷
-    key Extension (codes "hevc") false (reading own (codes "video/h265") Bytes none none none any ∷ []) ∷
-    key Extension (codes "mo3") false (reading known (codes "audio/x-mo3") Bytes none none none any ∷ []) ∷
-    key Extension (codes "ogv") false (reading (row (codes "ogv")) (codes "video/ogg") Signature (codes "ogv" ∷ []) (codes "ogg" ∷ []) none any ∷ []) ∷
-    key Extension (codes "vstemplate") false (reading own (codes "application/x-nuspec+xml") Text none (codes "html" ∷ codes "txt" ∷ codes "xhtml" ∷ codes "xml" ∷ []) none (codes "<" ∷ []) ∷ []) ∷
-    key Extension (codes "xacro") false (reading own (codes "application/x-urdf+xml") Text none (codes "html" ∷ codes "txt" ∷ codes "xhtml" ∷ codes "xml" ∷ []) none (codes "<" ∷ []) ∷ []) ∷
-    []
-
-unfoldable pub slot_3 : List Key
-slot_3 =
-    key Extension (codes "jpeg") false (reading (row (codes "jpg")) (codes "image/jpeg") Signature (codes "jpg" ∷ []) none none any ∷ []) ∷
-    key Extension (codes "pls") false (reading known (codes "audio/x-scpls") Text none (codes "txt" ∷ []) none any ∷ []) ∷
-    []
-
-unfoldable pub slot_4 : List Key
-slot_4 =
-    key Extension (codes "fr") false (reading (row (codes "txt")) (codes "text/plain") Text (codes "txt" ∷ []) none texts any ∷ []) ∷
-    key Extension (codes "ilbm") false (reading known (codes "image/x-ilbm") Bytes none none none any ∷ []) ∷
-    key Whole (codes "ntuser.dat") false (reading own (codes "application/x-ms-registry-hive") Bytes none none none any ∷ []) ∷
-    key Extension (codes "wim") false (reading (row (codes "wim")) (codes "application/x-ms-wim") Signature (codes "wim" ∷ []) none none any ∷ []) ∷
-    []
-
-unfoldable pub slot_5 : List Key
-slot_5 =
-    key Extension (codes "cls") true (reading (row (codes "txt")) (codes "text/plain") Text (codes "txt" ∷ []) none texts any ∷ []) ∷
-    key Extension (codes "d") false (reading (row (codes "txt")) (codes "text/plain") Text (codes "txt" ∷ []) none texts any ∷ []) ∷
-    key Extension (codes "tscn") false (reading known (codes "application/x-godot-scene") Text none (codes "txt" ∷ []) none any ∷ []) ∷
-    []
-
-unfoldable pub slot_6 : List Key
-slot_6 =
-    key Whole (codes ".rprofile") false (reading known (codes "text/x-rsrc") Text none (codes "sh" ∷ codes "txt" ∷ []) none any ∷ []) ∷
-    key Whole (codes ".zprofile") false (reading own (codes "text/x-shell-config") Text none (codes "sh" ∷ codes "txt" ∷ []) none any ∷ []) ∷
-    key Extension (codes "csh") false (reading known (codes "application/x-csh") Text none (codes "sh" ∷ codes "txt" ∷ []) none any ∷ []) ∷
-    key Extension (codes "mol") false (reading known (codes "chemical/x-mdl-molfile") Text none (codes "txt" ∷ []) none any ∷ []) ∷
-    key Extension (codes "nuspec") false (reading own (codes "application/x-nuspec+xml") Text none (codes "html" ∷ codes "txt" ∷ codes "xhtml" ∷ codes "xml" ∷ []) none (codes "<" ∷ []) ∷ []) ∷
-    key Extension (codes "rabl") false (reading (row (codes "rb")) (codes "text/x-ruby") Text (codes "rb" ∷ []) (codes "sh" ∷ codes "txt" ∷ []) none any ∷ []) ∷
-    key Extension (codes "sgi") false (reading known (codes "image/x-sgi") Bytes none none none any ∷ []) ∷
-    []
-
-unfoldable pub slot_7 : List Key
-slot_7 =
-    key Extension (codes "rebol") false (reading own (codes "text/x-rebol") Text none (codes "txt" ∷ []) none any ∷ []) ∷
-    key Extension (codes "wb1") false (reading known (codes "application/x-quattropro") Bytes none (codes "application/x-ole-storage" ∷ []) none any ∷ []) ∷
-    key Extension (codes "xpm") false (reading (row (codes "xpm")) (codes "image/x-xpixmap") Text (codes "xpm" ∷ []) (codes "txt" ∷ []) none any ∷ []) ∷
-    []
-
-unfoldable pub slot_8 : List Key
-slot_8 =
-    key Extension (codes "manifest") false (reading (row (codes "txt")) (codes "text/plain") Text (codes "txt" ∷ []) none texts any ∷ []) ∷
-    key Extension (codes "pwn") false (reading own (codes "text/x-pawn") Text none (codes "txt" ∷ []) none any ∷ []) ∷
-    key Extension (codes "sqlite3") false (reading (row (codes "sqlite")) (codes "application/vnd.sqlite3") Signature (codes "sqlite" ∷ []) none (codes "gpkg" ∷ []) any ∷ []) ∷
-    []
-
-unfoldable pub slot_9 : List Key
-slot_9 =
-    key Extension (codes "cpy") false (reading known (codes "text/x-cobol") Text none (codes "txt" ∷ []) none any ∷ []) ∷
-    key Extension (codes "exp") false (reading (row (codes "tcl")) (codes "text/x-tcl") Text (codes "tcl" ∷ []) (codes "sh" ∷ codes "txt" ∷ []) none any ∷ []) ∷
-    key Extension (codes "ott") true (reading (row (codes "ott")) (codes "application/vnd.oasis.opendocument.text-template") Signature (codes "ott" ∷ []) (codes "odt" ∷ codes "zip" ∷ []) none any ∷ []) ∷
-    key Extension (codes "smil") false (reading known (codes "application/smil+xml") Text none (codes "html" ∷ codes "txt" ∷ codes "xhtml" ∷ codes "xml" ∷ []) none (codes "<" ∷ []) ∷ []) ∷
-    []
-
-unfoldable pub slot_10 : List Key
-slot_10 =
-    key Extension (codes "bt") false (reading own (codes "text/x-bpftrace") Text none (codes "sh" ∷ codes "txt" ∷ []) none any ∷ []) ∷
-    key Extension (codes "lai") false (reading known (codes "application/x-shared-library-la") Text none (codes "txt" ∷ []) none any ∷ []) ∷
-    key Extension (codes "mf") false (reading own (codes "text/x-metafont") Text none (codes "txt" ∷ []) none any ∷ []) ∷
-    []
-
-unfoldable pub slot_11 : List Key
-slot_11 =
-    key Extension (codes "gni") false (reading own (codes "text/x-gn") Text none (codes "txt" ∷ []) none any ∷ []) ∷
-    key Extension (codes "target") false (reading known (codes "text/x-systemd-unit") Text none (codes "txt" ∷ []) none any ∷ []) ∷
-    key Extension (codes "tpl") false (reading (row (codes "txt")) (codes "text/plain") Text (codes "txt" ∷ []) none texts any ∷ []) ∷
-    []
-
-unfoldable pub slot_12 : List Key
-slot_12 =
-    key Extension (codes "atomcat") false (reading known (codes "application/atomcat+xml") Text none (codes "html" ∷ codes "txt" ∷ codes "xhtml" ∷ codes "xml" ∷ []) none (codes "<" ∷ []) ∷ []) ∷
-    key Extension (codes "mat") true (reading own (codes "application/x-matlab-data") Bytes none (codes "hdf5" ∷ []) none any ∷ []) ∷
-    key Extension (codes "tmpl") false (reading (row (codes "txt")) (codes "text/plain") Text (codes "txt" ∷ []) none texts any ∷ []) ∷
-    []
-
-unfoldable pub slot_13 : List Key
-slot_13 =
-    key Extension (codes "docx") false (reading (row (codes "docx")) (codes "application/vnd.openxmlformats-officedocument.wordprocessingml.document") Signature (codes "docx" ∷ []) (codes "application/x-ole-storage" ∷ codes "zip" ∷ []) none any ∷ []) ∷
-    key Extension (codes "kts") false (reading known (codes "text/x-kotlin") Text none (codes "sh" ∷ codes "txt" ∷ []) none any ∷ []) ∷
-    key Extension (codes "tikz") false (reading known (codes "text/x-tex") Text none (codes "ps" ∷ codes "txt" ∷ []) none any ∷ []) ∷
-    []
-
-unfoldable pub slot_14 : List Key
-slot_14 =
-    key Extension (codes "automount") false (reading known (codes "text/x-systemd-unit") Text none (codes "txt" ∷ []) none any ∷ []) ∷
-    key Extension (codes "he5") false (reading (row (codes "hdf5")) (codes "application/x-hdf5") Bytes (codes "hdf5" ∷ []) none none any ∷ []) ∷
-    key Extension (codes "pages") false (reading known (codes "application/vnd.apple.pages") Signature none (codes "zip" ∷ []) none any ∷ []) ∷
-    key Extension (codes "pegjs") false (reading known (codes "text/x-ebnf") Text none (codes "txt" ∷ []) none any ∷ []) ∷
-    key Extension (codes "vh") false (reading known (codes "text/x-verilog") Text none (codes "txt" ∷ []) none any ∷ []) ∷
-    []
-
-unfoldable pub slot_15 : List Key
-slot_15 =
-    key Extension (codes "orc") false (reading (row (codes "orc")) (codes "application/x-orc") Bytes (codes "orc" ∷ []) none none any ∷ reading own (codes "text/x-csound") Text none (codes "sh" ∷ codes "txt" ∷ []) none any ∷ []) ∷
-    key Extension (codes "rda") false (reading own (codes "application/x-r-data") Bytes none (codes "bz2" ∷ codes "gz" ∷ codes "xz" ∷ []) none any ∷ []) ∷
-    []
-
 unfoldable pub group : List (List Key)
-group = slot_0 ∷ slot_1 ∷ slot_2 ∷ slot_3 ∷ slot_4 ∷ slot_5 ∷ slot_6 ∷ slot_7 ∷ slot_8 ∷ slot_9 ∷ slot_10 ∷ slot_11 ∷ slot_12 ∷ slot_13 ∷ slot_14 ∷ slot_15 ∷ []
+group =
+    (
+    key Whole (codes ".gitmodules") false (reading is-text-x-gitconfig Text no-rows rows-txt no-rows any-lead ∷ []) ∷
+    key Whole (codes ".xresources") false (reading is-text-x-xresources Text no-rows rows-txt no-rows any-lead ∷ []) ∷
+    key Extension (codes "accde") false (reading is-application-x-msaccess-as-row-accdb Signature rows-accdb no-rows no-rows any-lead ∷ []) ∷
+    key Extension (codes "schema.json") false (reading is-application-schema-json Text no-rows rows-json no-rows any-lead ∷ []) ∷
+    [])
+    ∷ (
+    key Whole (codes ".eslintignore") false (reading is-text-x-gitignore Text no-rows rows-txt no-rows any-lead ∷ []) ∷
+    key Extension (codes "chm") false (reading is-application-vnd-ms-htmlhelp Signature rows-chm no-rows no-rows any-lead ∷ []) ∷
+    key Extension (codes "fnl") false (reading is-text-x-fennel Text no-rows rows-sh-txt no-rows any-lead ∷ []) ∷
+    key Extension (codes "itk") false (reading is-text-x-tcl Text rows-tcl rows-sh-txt no-rows any-lead ∷ []) ∷
+    key Extension (codes "sc") false (reading is-text-x-scala Text no-rows rows-sh-txt no-rows any-lead ∷ []) ∷
+    key Extension (codes "t2t") false (reading is-text-x-txt2tags Text no-rows rows-txt no-rows any-lead ∷ []) ∷
+    [])
+    ∷ (
+    key Extension (codes "bicep") false (reading is-text-x-bicep Text no-rows rows-txt no-rows any-lead ∷ []) ∷
+    key Extension (codes "cob") false (reading is-text-x-cobol Text no-rows rows-txt no-rows any-lead ∷ []) ∷
+    key Extension (codes "hevc") false (reading is-video-h265 Bytes no-rows no-rows no-rows any-lead ∷ []) ∷
+    key Extension (codes "mo3") false (reading is-audio-x-mo3 Bytes no-rows no-rows no-rows any-lead ∷ []) ∷
+    key Extension (codes "ogv") false (reading is-video-ogg Signature rows-ogv rows-ogg no-rows any-lead ∷ []) ∷
+    key Extension (codes "vstemplate") false (reading is-application-x-nuspec-xml Text no-rows rows-html-txt-xhtml-xml no-rows leads-10 ∷ []) ∷
+    key Extension (codes "xacro") false (reading is-application-x-urdf-xml Text no-rows rows-html-txt-xhtml-xml no-rows leads-10 ∷ []) ∷
+    [])
+    ∷ (
+    key Extension (codes "jpeg") false (reading is-image-jpeg Signature rows-jpg no-rows no-rows any-lead ∷ []) ∷
+    key Extension (codes "pls") false (reading is-audio-x-scpls Text no-rows rows-txt no-rows any-lead ∷ []) ∷
+    [])
+    ∷ (
+    key Extension (codes "fr") false (reading is-text-plain Text rows-txt no-rows text-rows any-lead ∷ []) ∷
+    key Extension (codes "ilbm") false (reading is-image-x-ilbm Bytes no-rows no-rows no-rows any-lead ∷ []) ∷
+    key Whole (codes "ntuser.dat") false (reading is-application-x-ms-registry-hive Bytes no-rows no-rows no-rows any-lead ∷ []) ∷
+    key Extension (codes "wim") false (reading is-application-x-ms-wim Signature rows-wim no-rows no-rows any-lead ∷ []) ∷
+    [])
+    ∷ (
+    key Extension (codes "cls") true (reading is-text-plain Text rows-txt no-rows text-rows any-lead ∷ []) ∷
+    key Extension (codes "d") false (reading is-text-plain Text rows-txt no-rows text-rows any-lead ∷ []) ∷
+    key Extension (codes "tscn") false (reading is-application-x-godot-scene Text no-rows rows-txt no-rows any-lead ∷ []) ∷
+    [])
+    ∷ (
+    key Whole (codes ".rprofile") false (reading is-text-x-rsrc Text no-rows rows-sh-txt no-rows any-lead ∷ []) ∷
+    key Whole (codes ".zprofile") false (reading is-text-x-shell-config Text no-rows rows-sh-txt no-rows any-lead ∷ []) ∷
+    key Extension (codes "csh") false (reading is-application-x-csh Text no-rows rows-sh-txt no-rows any-lead ∷ []) ∷
+    key Extension (codes "mol") false (reading is-chemical-x-mdl-molfile Text no-rows rows-txt no-rows any-lead ∷ []) ∷
+    key Extension (codes "nuspec") false (reading is-application-x-nuspec-xml Text no-rows rows-html-txt-xhtml-xml no-rows leads-10 ∷ []) ∷
+    key Extension (codes "rabl") false (reading is-text-x-ruby Text rows-rb rows-sh-txt no-rows any-lead ∷ []) ∷
+    key Extension (codes "sgi") false (reading is-image-x-sgi Bytes no-rows no-rows no-rows any-lead ∷ []) ∷
+    [])
+    ∷ (
+    key Extension (codes "rebol") false (reading is-text-x-rebol Text no-rows rows-txt no-rows any-lead ∷ []) ∷
+    key Extension (codes "wb1") false (reading is-application-x-quattropro Bytes no-rows rows-application-x-ole-storage no-rows any-lead ∷ []) ∷
+    key Extension (codes "xpm") false (reading is-image-x-xpixmap Text rows-xpm rows-txt no-rows any-lead ∷ []) ∷
+    [])
+    ∷ (
+    key Extension (codes "manifest") false (reading is-text-plain Text rows-txt no-rows text-rows any-lead ∷ []) ∷
+    key Extension (codes "pwn") false (reading is-text-x-pawn Text no-rows rows-txt no-rows any-lead ∷ []) ∷
+    key Extension (codes "sqlite3") false (reading is-application-vnd-sqlite3 Signature rows-sqlite no-rows rows-gpkg any-lead ∷ []) ∷
+    [])
+    ∷ (
+    key Extension (codes "cpy") false (reading is-text-x-cobol Text no-rows rows-txt no-rows any-lead ∷ []) ∷
+    key Extension (codes "exp") false (reading is-text-x-tcl Text rows-tcl rows-sh-txt no-rows any-lead ∷ []) ∷
+    key Extension (codes "ott") true (reading is-application-vnd-oasis-opendocument-text-template Signature rows-ott rows-odt-zip no-rows any-lead ∷ []) ∷
+    key Extension (codes "smil") false (reading is-application-smil-xml Text no-rows rows-html-txt-xhtml-xml no-rows leads-10 ∷ []) ∷
+    [])
+    ∷ (
+    key Extension (codes "bt") false (reading is-text-x-bpftrace Text no-rows rows-sh-txt no-rows any-lead ∷ []) ∷
+    key Extension (codes "lai") false (reading is-application-x-shared-library-la Text no-rows rows-txt no-rows any-lead ∷ []) ∷
+    key Extension (codes "mf") false (reading is-text-x-metafont Text no-rows rows-txt no-rows any-lead ∷ []) ∷
+    [])
+    ∷ (
+    key Extension (codes "gni") false (reading is-text-x-gn Text no-rows rows-txt no-rows any-lead ∷ []) ∷
+    key Extension (codes "target") false (reading is-text-x-systemd-unit Text no-rows rows-txt no-rows any-lead ∷ []) ∷
+    key Extension (codes "tpl") false (reading is-text-plain Text rows-txt no-rows text-rows any-lead ∷ []) ∷
+    [])
+    ∷ (
+    key Extension (codes "atomcat") false (reading is-application-atomcat-xml Text no-rows rows-html-txt-xhtml-xml no-rows leads-10 ∷ []) ∷
+    key Extension (codes "mat") true (reading is-application-x-matlab-data Bytes no-rows rows-hdf5 no-rows any-lead ∷ []) ∷
+    key Extension (codes "tmpl") false (reading is-text-plain Text rows-txt no-rows text-rows any-lead ∷ []) ∷
+    [])
+    ∷ (
+    key Extension (codes "docx") false (reading is-application-vnd-openxmlformats-officedocument-wordprocessingml-document Signature rows-docx rows-application-x-ole-storage-zip no-rows any-lead ∷ []) ∷
+    key Extension (codes "kts") false (reading is-text-x-kotlin Text no-rows rows-sh-txt no-rows any-lead ∷ []) ∷
+    key Extension (codes "tikz") false (reading is-text-x-tex Text no-rows rows-ps-txt no-rows any-lead ∷ []) ∷
+    [])
+    ∷ (
+    key Extension (codes "automount") false (reading is-text-x-systemd-unit Text no-rows rows-txt no-rows any-lead ∷ []) ∷
+    key Extension (codes "he5") false (reading is-application-x-hdf5 Bytes rows-hdf5 no-rows no-rows any-lead ∷ []) ∷
+    key Extension (codes "pages") false (reading is-application-vnd-apple-pages Signature no-rows rows-zip no-rows any-lead ∷ []) ∷
+    key Extension (codes "pegjs") false (reading is-text-x-ebnf Text no-rows rows-txt no-rows any-lead ∷ []) ∷
+    key Extension (codes "vh") false (reading is-text-x-verilog Text no-rows rows-txt no-rows any-lead ∷ []) ∷
+    [])
+    ∷ (
+    key Extension (codes "orc") false (reading is-application-x-orc Bytes rows-orc no-rows no-rows any-lead ∷ reading is-text-x-csound Text no-rows rows-sh-txt no-rows any-lead ∷ []) ∷
+    key Extension (codes "rda") false (reading is-application-x-r-data Bytes no-rows rows-bz2-gz-xz no-rows any-lead ∷ []) ∷
+    [])
+    ∷ []

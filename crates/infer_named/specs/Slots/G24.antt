@@ -1,128 +1,99 @@
 -- Made by `tools/tables` from names.txt: the keys of slots 384 to 399.
 use Rattle.std.specs.Prelude.{List, [], ◌∷◌, codes, false, true}
-use Rattle.infer_named.specs.Key.{Key, key, known, own, reading, row}
-use Rattle.infer_named.specs.Texts.{any, none, texts}
+use Rattle.infer_named.specs.Key.{Key, key}
+use Rattle.infer_named.specs.Listed.{reading}
+use Rattle.infer_named.specs.Sets.{any-lead, leads-10, no-rows, rows-aifc, rows-aiff, rows-avif, rows-eps, rows-exe, rows-heic, rows-heif, rows-html-json-php-svg-txt-xhtml-xml, rows-html-txt-xhtml-xml, rows-jar-zip, rows-json, rows-json-ndjson-txt, rows-m4a, rows-m4b-m4v-mp4, rows-mach, rows-mo, rows-mp3, rows-mpg, rows-otf, rows-p12, rows-pl, rows-ps, rows-ps-sh-txt, rows-pyc, rows-rar, rows-rb, rows-sh-txt, rows-ttf, rows-txt, rows-z, text-rows}
+use Rattle.infer_named.specs.Types.{is-application-font-sfnt-as-row-otf, is-application-graphql, is-application-metalink4-xml, is-application-pkcs12, is-application-vnd-microsoft-portable-executable, is-application-vnd-mozilla-webapp-json, is-application-vnd-rar, is-application-x-alz, is-application-x-asp, is-application-x-genesis-rom, is-application-x-gettext-translation, is-application-x-java-enterprise-archive, is-application-x-java-keystore, is-application-x-mach-binary, is-application-x-mswinurl, is-application-x-python-bytecode, is-application-x-tarz, is-application-x-tex-pk, is-audio-m4a, is-audio-mpeg, is-audio-x-aifc, is-image-heif, is-image-ktx2, is-image-x-eps, is-text-plain, is-text-troff, is-text-x-c-src, is-text-x-chuck, is-text-x-clojure, is-text-x-coq, is-text-x-cython, is-text-x-dune, is-text-x-eex, is-text-x-elm, is-text-x-erlang, is-text-x-gap, is-text-x-gff, is-text-x-gitignore, is-text-x-ini, is-text-x-jelly, is-text-x-jinja, is-text-x-kaitai-struct, is-text-x-lean, is-text-x-mlir, is-text-x-perl, is-text-x-reject, is-text-x-rexx, is-text-x-ruby, is-text-x-tsx, is-text-x-yang, is-video-mpeg}
 use Rattle.infer_named.specs.declared.table.Asks.TheVariants.{Bytes, Nothing, Signature, Text}
 use Rattle.infer_named.specs.declared.table.Part.TheVariants.{Extension, Whole}
 
-unfoldable pub slot_0 : List Key
-slot_0 =
-    key Extension (codes "yang") false (reading own (codes "text/x-yang") Text none (codes "txt" ∷ []) none any ∷ []) ∷
-    []
-
-unfoldable pub slot_1 : List Key
-slot_1 =
-    key Extension (codes "graphql") false (reading own (codes "application/graphql") Text none (codes "txt" ∷ []) none any ∷ []) ∷
-    key Extension (codes "otf") false (reading (row (codes "otf")) (codes "application/font-sfnt") Bytes (codes "otf" ∷ []) (codes "ttf" ∷ []) none any ∷ []) ∷
-    []
-
-unfoldable pub slot_2 : List Key
-slot_2 =
-    key Extension (codes "pyc") false (reading (row (codes "pyc")) (codes "application/x-python-bytecode") Bytes (codes "pyc" ∷ []) none none any ∷ []) ∷
-    key Extension (codes "rar") false (reading (row (codes "rar")) (codes "application/vnd.rar") Signature (codes "rar" ∷ []) none none any ∷ []) ∷
-    []
-
-unfoldable pub slot_3 : List Key
-slot_3 =
-    key Extension (codes "gi") false (reading own (codes "text/x-gap") Text none (codes "txt" ∷ []) none any ∷ []) ∷
-    key Extension (codes "txx") false (reading known (codes "text/x-c++src") Text none (codes "txt" ∷ []) none any ∷ []) ∷
-    []
-
-unfoldable pub slot_4 : List Key
-slot_4 =
-    key Extension (codes "ear") false (reading own (codes "application/x-java-enterprise-archive") Signature none (codes "jar" ∷ codes "zip" ∷ []) none any ∷ []) ∷
-    key Extension (codes "hlean") false (reading own (codes "text/x-lean") Text none (codes "txt" ∷ []) none any ∷ []) ∷
-    key Whole (codes "mypy.ini") false (reading own (codes "text/x-ini") Text none (codes "txt" ∷ []) none any ∷ []) ∷
-    key Extension (codes "smd") false (reading known (codes "application/x-genesis-rom") Bytes none none none any ∷ []) ∷
-    []
-
-unfoldable pub slot_5 : List Key
-slot_5 =
-    key Extension (codes "alz") false (reading known (codes "application/x-alz") Bytes none none none any ∷ []) ∷
-    key Extension (codes "boot") false (reading known (codes "text/x-clojure") Text none (codes "sh" ∷ codes "txt" ∷ []) none any ∷ []) ∷
-    key Extension (codes "m4r") false (reading (row (codes "m4a")) (codes "audio/m4a") Bytes (codes "m4a" ∷ []) (codes "m4b" ∷ codes "m4v" ∷ codes "mp4" ∷ []) none any ∷ []) ∷
-    []
-
-unfoldable pub slot_6 : List Key
-slot_6 =
-    key Extension (codes "ktx2") false (reading known (codes "image/ktx2") Bytes none none none any ∷ []) ∷
-    key Extension (codes "p12") false (reading (row (codes "p12")) (codes "application/pkcs12") Bytes (codes "p12" ∷ []) none none any ∷ []) ∷
-    key Extension (codes "rex") false (reading own (codes "text/x-rexx") Text none (codes "sh" ∷ codes "txt" ∷ []) none any ∷ []) ∷
-    []
-
-unfoldable pub slot_7 : List Key
-slot_7 =
-    key Extension (codes "pk") true (reading known (codes "application/x-tex-pk") Bytes none none none any ∷ []) ∷
-    key Extension (codes "url") false (reading known (codes "application/x-mswinurl") Text none (codes "txt" ∷ []) none any ∷ []) ∷
-    []
-
-unfoldable pub slot_8 : List Key
-slot_8 =
-    key Extension (codes "aifc") false (reading (row (codes "aifc")) (codes "audio/x-aifc") Signature (codes "aifc" ∷ []) (codes "aiff" ∷ []) none any ∷ []) ∷
-    key Extension (codes "eex") false (reading own (codes "text/x-eex") Text none (codes "html" ∷ codes "json" ∷ codes "php" ∷ codes "svg" ∷ codes "txt" ∷ codes "xhtml" ∷ codes "xml" ∷ []) none any ∷ []) ∷
-    key Extension (codes "gmo") false (reading (row (codes "mo")) (codes "application/x-gettext-translation") Signature (codes "mo" ∷ []) none none any ∷ []) ∷
-    []
-
-unfoldable pub slot_9 : List Key
-slot_9 =
-    key Extension (codes "ck") false (reading own (codes "text/x-chuck") Text none (codes "txt" ∷ []) none any ∷ []) ∷
-    key Extension (codes "dylib") false (reading (row (codes "mach")) (codes "application/x-mach-binary") Signature (codes "mach" ∷ []) none none any ∷ []) ∷
-    key Extension (codes "elm") false (reading known (codes "text/x-elm") Text none (codes "txt" ∷ []) none any ∷ []) ∷
-    key Extension (codes "hrl") false (reading known (codes "text/x-erlang") Text none (codes "ps" ∷ codes "sh" ∷ codes "txt" ∷ []) none any ∷ []) ∷
-    key Extension (codes "jelly") false (reading own (codes "text/x-jelly") Text none (codes "html" ∷ codes "txt" ∷ codes "xhtml" ∷ codes "xml" ∷ []) none (codes "<" ∷ []) ∷ []) ∷
-    key Extension (codes "thor") false (reading (row (codes "rb")) (codes "text/x-ruby") Text (codes "rb" ∷ []) (codes "sh" ∷ codes "txt" ∷ []) none any ∷ []) ∷
-    []
-
-unfoldable pub slot_10 : List Key
-slot_10 =
-    key Whole (codes "dune") false (reading own (codes "text/x-dune") Text none (codes "txt" ∷ []) none any ∷ []) ∷
-    key Extension (codes "keystore") false (reading known (codes "application/x-java-keystore") Bytes none none none any ∷ []) ∷
-    key Extension (codes "ksy") false (reading known (codes "text/x-kaitai-struct") Text none (codes "json" ∷ codes "ndjson" ∷ codes "txt" ∷ []) none any ∷ []) ∷
-    []
-
-unfoldable pub slot_11 : List Key
-slot_11 =
-    key Extension (codes "m2a") false (reading (row (codes "mp3")) (codes "audio/mpeg") Bytes (codes "mp3" ∷ []) none none any ∷ []) ∷
-    key Extension (codes "webapp") false (reading own (codes "application/vnd.mozilla.webapp+json") Text none (codes "json" ∷ []) none any ∷ []) ∷
-    []
-
-unfoldable pub slot_12 : List Key
-slot_12 =
-    key Extension (codes "3x") false (reading known (codes "text/troff") Text none (codes "txt" ∷ []) none any ∷ []) ∷
-    key Extension (codes "al") false (reading (row (codes "pl")) (codes "text/x-perl") Text (codes "pl" ∷ []) (codes "sh" ∷ codes "txt" ∷ []) none any ∷ []) ∷
-    key Extension (codes "gff3") false (reading own (codes "text/x-gff") Text none (codes "txt" ∷ []) none any ∷ []) ∷
-    key Extension (codes "j2") false (reading own (codes "text/x-jinja") Text none (codes "html" ∷ codes "json" ∷ codes "php" ∷ codes "svg" ∷ codes "txt" ∷ codes "xhtml" ∷ codes "xml" ∷ []) none any ∷ []) ∷
-    key Extension (codes "tsx") false (reading own (codes "text/x-tsx") Text none (codes "txt" ∷ []) none any ∷ []) ∷
-    []
-
-unfoldable pub slot_13 : List Key
-slot_13 =
-    key Whole (codes ".curlrc") false (reading (row (codes "txt")) (codes "text/plain") Text (codes "txt" ∷ []) none texts any ∷ []) ∷
-    key Whole (codes ".yarnrc") false (reading (row (codes "txt")) (codes "text/plain") Text (codes "txt" ∷ []) none texts any ∷ []) ∷
-    key Extension (codes "eps") false (reading (row (codes "eps")) (codes "image/x-eps") Text (codes "eps" ∷ []) (codes "ps" ∷ []) none any ∷ []) ∷
-    key Extension (codes "mlir") false (reading own (codes "text/x-mlir") Text none (codes "txt" ∷ []) none any ∷ []) ∷
-    key Extension (codes "mpg") false (reading (row (codes "mpg")) (codes "video/mpeg") Bytes (codes "mpg" ∷ []) none none any ∷ []) ∷
-    key Whole (codes "ssh_config") false (reading (row (codes "txt")) (codes "text/plain") Text (codes "txt" ∷ []) none texts any ∷ []) ∷
-    []
-
-unfoldable pub slot_14 : List Key
-slot_14 =
-    key Whole (codes ".prettierignore") false (reading own (codes "text/x-gitignore") Text none (codes "txt" ∷ []) none any ∷ []) ∷
-    key Extension (codes "asa") false (reading known (codes "application/x-asp") Text none (codes "html" ∷ codes "json" ∷ codes "php" ∷ codes "svg" ∷ codes "txt" ∷ codes "xhtml" ∷ codes "xml" ∷ []) none any ∷ []) ∷
-    key Extension (codes "coq") false (reading own (codes "text/x-coq") Text none (codes "txt" ∷ []) none any ∷ []) ∷
-    key Extension (codes "hif") false (reading (row (codes "heif")) (codes "image/heif") Signature (codes "heif" ∷ []) (codes "avif" ∷ []) (codes "heic" ∷ []) any ∷ []) ∷
-    key Extension (codes "rej") false (reading known (codes "text/x-reject") Text none (codes "txt" ∷ []) none any ∷ []) ∷
-    key Extension (codes "scr") false (reading (row (codes "exe")) (codes "application/vnd.microsoft.portable-executable") Signature (codes "exe" ∷ []) none none any ∷ []) ∷
-    key Extension (codes "taz") false (reading known (codes "application/x-tarz") Signature none (codes "Z" ∷ []) none any ∷ []) ∷
-    []
-
-unfoldable pub slot_15 : List Key
-slot_15 =
-    key Extension (codes "heif") false (reading (row (codes "heif")) (codes "image/heif") Signature (codes "heif" ∷ []) (codes "avif" ∷ []) (codes "heic" ∷ []) any ∷ []) ∷
-    key Extension (codes "inc") false (reading (row (codes "txt")) (codes "text/plain") Text (codes "txt" ∷ []) none texts any ∷ []) ∷
-    key Extension (codes "meta4") false (reading known (codes "application/metalink4+xml") Text none (codes "html" ∷ codes "txt" ∷ codes "xhtml" ∷ codes "xml" ∷ []) none (codes "<" ∷ []) ∷ []) ∷
-    key Extension (codes "pxi") false (reading known (codes "text/x-cython") Text none (codes "sh" ∷ codes "txt" ∷ []) none any ∷ []) ∷
-    []
-
 unfoldable pub group : List (List Key)
-group = slot_0 ∷ slot_1 ∷ slot_2 ∷ slot_3 ∷ slot_4 ∷ slot_5 ∷ slot_6 ∷ slot_7 ∷ slot_8 ∷ slot_9 ∷ slot_10 ∷ slot_11 ∷ slot_12 ∷ slot_13 ∷ slot_14 ∷ slot_15 ∷ []
+group =
+    (
+    key Extension (codes "yang") false (reading is-text-x-yang Text no-rows rows-txt no-rows any-lead ∷ []) ∷
+    [])
+    ∷ (
+    key Extension (codes "graphql") false (reading is-application-graphql Text no-rows rows-txt no-rows any-lead ∷ []) ∷
+    key Extension (codes "otf") false (reading is-application-font-sfnt-as-row-otf Bytes rows-otf rows-ttf no-rows any-lead ∷ []) ∷
+    [])
+    ∷ (
+    key Extension (codes "pyc") false (reading is-application-x-python-bytecode Bytes rows-pyc no-rows no-rows any-lead ∷ []) ∷
+    key Extension (codes "rar") false (reading is-application-vnd-rar Signature rows-rar no-rows no-rows any-lead ∷ []) ∷
+    [])
+    ∷ (
+    key Extension (codes "gi") false (reading is-text-x-gap Text no-rows rows-txt no-rows any-lead ∷ []) ∷
+    key Extension (codes "txx") false (reading is-text-x-c-src Text no-rows rows-txt no-rows any-lead ∷ []) ∷
+    [])
+    ∷ (
+    key Extension (codes "ear") false (reading is-application-x-java-enterprise-archive Signature no-rows rows-jar-zip no-rows any-lead ∷ []) ∷
+    key Extension (codes "hlean") false (reading is-text-x-lean Text no-rows rows-txt no-rows any-lead ∷ []) ∷
+    key Whole (codes "mypy.ini") false (reading is-text-x-ini Text no-rows rows-txt no-rows any-lead ∷ []) ∷
+    key Extension (codes "smd") false (reading is-application-x-genesis-rom Bytes no-rows no-rows no-rows any-lead ∷ []) ∷
+    [])
+    ∷ (
+    key Extension (codes "alz") false (reading is-application-x-alz Bytes no-rows no-rows no-rows any-lead ∷ []) ∷
+    key Extension (codes "boot") false (reading is-text-x-clojure Text no-rows rows-sh-txt no-rows any-lead ∷ []) ∷
+    key Extension (codes "m4r") false (reading is-audio-m4a Bytes rows-m4a rows-m4b-m4v-mp4 no-rows any-lead ∷ []) ∷
+    [])
+    ∷ (
+    key Extension (codes "ktx2") false (reading is-image-ktx2 Bytes no-rows no-rows no-rows any-lead ∷ []) ∷
+    key Extension (codes "p12") false (reading is-application-pkcs12 Bytes rows-p12 no-rows no-rows any-lead ∷ []) ∷
+    key Extension (codes "rex") false (reading is-text-x-rexx Text no-rows rows-sh-txt no-rows any-lead ∷ []) ∷
+    [])
+    ∷ (
+    key Extension (codes "pk") true (reading is-application-x-tex-pk Bytes no-rows no-rows no-rows any-lead ∷ []) ∷
+    key Extension (codes "url") false (reading is-application-x-mswinurl Text no-rows rows-txt no-rows any-lead ∷ []) ∷
+    [])
+    ∷ (
+    key Extension (codes "aifc") false (reading is-audio-x-aifc Signature rows-aifc rows-aiff no-rows any-lead ∷ []) ∷
+    key Extension (codes "eex") false (reading is-text-x-eex Text no-rows rows-html-json-php-svg-txt-xhtml-xml no-rows any-lead ∷ []) ∷
+    key Extension (codes "gmo") false (reading is-application-x-gettext-translation Signature rows-mo no-rows no-rows any-lead ∷ []) ∷
+    [])
+    ∷ (
+    key Extension (codes "ck") false (reading is-text-x-chuck Text no-rows rows-txt no-rows any-lead ∷ []) ∷
+    key Extension (codes "dylib") false (reading is-application-x-mach-binary Signature rows-mach no-rows no-rows any-lead ∷ []) ∷
+    key Extension (codes "elm") false (reading is-text-x-elm Text no-rows rows-txt no-rows any-lead ∷ []) ∷
+    key Extension (codes "hrl") false (reading is-text-x-erlang Text no-rows rows-ps-sh-txt no-rows any-lead ∷ []) ∷
+    key Extension (codes "jelly") false (reading is-text-x-jelly Text no-rows rows-html-txt-xhtml-xml no-rows leads-10 ∷ []) ∷
+    key Extension (codes "thor") false (reading is-text-x-ruby Text rows-rb rows-sh-txt no-rows any-lead ∷ []) ∷
+    [])
+    ∷ (
+    key Whole (codes "dune") false (reading is-text-x-dune Text no-rows rows-txt no-rows any-lead ∷ []) ∷
+    key Extension (codes "keystore") false (reading is-application-x-java-keystore Bytes no-rows no-rows no-rows any-lead ∷ []) ∷
+    key Extension (codes "ksy") false (reading is-text-x-kaitai-struct Text no-rows rows-json-ndjson-txt no-rows any-lead ∷ []) ∷
+    [])
+    ∷ (
+    key Extension (codes "m2a") false (reading is-audio-mpeg Bytes rows-mp3 no-rows no-rows any-lead ∷ []) ∷
+    key Extension (codes "webapp") false (reading is-application-vnd-mozilla-webapp-json Text no-rows rows-json no-rows any-lead ∷ []) ∷
+    [])
+    ∷ (
+    key Extension (codes "3x") false (reading is-text-troff Text no-rows rows-txt no-rows any-lead ∷ []) ∷
+    key Extension (codes "al") false (reading is-text-x-perl Text rows-pl rows-sh-txt no-rows any-lead ∷ []) ∷
+    key Extension (codes "gff3") false (reading is-text-x-gff Text no-rows rows-txt no-rows any-lead ∷ []) ∷
+    key Extension (codes "j2") false (reading is-text-x-jinja Text no-rows rows-html-json-php-svg-txt-xhtml-xml no-rows any-lead ∷ []) ∷
+    key Extension (codes "tsx") false (reading is-text-x-tsx Text no-rows rows-txt no-rows any-lead ∷ []) ∷
+    [])
+    ∷ (
+    key Whole (codes ".curlrc") false (reading is-text-plain Text rows-txt no-rows text-rows any-lead ∷ []) ∷
+    key Whole (codes ".yarnrc") false (reading is-text-plain Text rows-txt no-rows text-rows any-lead ∷ []) ∷
+    key Extension (codes "eps") false (reading is-image-x-eps Text rows-eps rows-ps no-rows any-lead ∷ []) ∷
+    key Extension (codes "mlir") false (reading is-text-x-mlir Text no-rows rows-txt no-rows any-lead ∷ []) ∷
+    key Extension (codes "mpg") false (reading is-video-mpeg Bytes rows-mpg no-rows no-rows any-lead ∷ []) ∷
+    key Whole (codes "ssh_config") false (reading is-text-plain Text rows-txt no-rows text-rows any-lead ∷ []) ∷
+    [])
+    ∷ (
+    key Whole (codes ".prettierignore") false (reading is-text-x-gitignore Text no-rows rows-txt no-rows any-lead ∷ []) ∷
+    key Extension (codes "asa") false (reading is-application-x-asp Text no-rows rows-html-json-php-svg-txt-xhtml-xml no-rows any-lead ∷ []) ∷
+    key Extension (codes "coq") false (reading is-text-x-coq Text no-rows rows-txt no-rows any-lead ∷ []) ∷
+    key Extension (codes "hif") false (reading is-image-heif Signature rows-heif rows-avif rows-heic any-lead ∷ []) ∷
+    key Extension (codes "rej") false (reading is-text-x-reject Text no-rows rows-txt no-rows any-lead ∷ []) ∷
+    key Extension (codes "scr") false (reading is-application-vnd-microsoft-portable-executable Signature rows-exe no-rows no-rows any-lead ∷ []) ∷
+    key Extension (codes "taz") false (reading is-application-x-tarz Signature no-rows rows-z no-rows any-lead ∷ []) ∷
+    [])
+    ∷ (
+    key Extension (codes "heif") false (reading is-image-heif Signature rows-heif rows-avif rows-heic any-lead ∷ []) ∷
+    key Extension (codes "inc") false (reading is-text-plain Text rows-txt no-rows text-rows any-lead ∷ []) ∷
+    key Extension (codes "meta4") false (reading is-application-metalink4-xml Text no-rows rows-html-txt-xhtml-xml no-rows leads-10 ∷ []) ∷
+    key Extension (codes "pxi") false (reading is-text-x-cython Text no-rows rows-sh-txt no-rows any-lead ∷ []) ∷
+    [])
+    ∷ []

@@ -1,138 +1,109 @@
 -- Made by `tools/tables` from names.txt: the keys of slots 400 to 415.
 use Rattle.std.specs.Prelude.{List, [], ◌∷◌, codes, false, true}
-use Rattle.infer_named.specs.Key.{Key, key, known, own, reading, row}
-use Rattle.infer_named.specs.Texts.{any, none, texts}
+use Rattle.infer_named.specs.Key.{Key, key}
+use Rattle.infer_named.specs.Listed.{reading}
+use Rattle.infer_named.specs.Sets.{any-lead, leads-10, no-rows, rows-aac, rows-application-x-ole-storage, rows-application-x-ole-storage-xlsx-zip, rows-ar, rows-bc, rows-ext2, rows-hdf5, rows-html, rows-html-json-php-svg-txt-xhtml-xml, rows-html-rss-txt-xml, rows-html-txt-xhtml-xml, rows-jp2, rows-jpx, rows-json, rows-json-ndjson-txt, rows-midi, rows-mp3, rows-parquet, rows-php-svg-txt-xhtml-xml, rows-rb, rows-sh, rows-sh-txt, rows-txt, text-rows}
+use Rattle.infer_named.specs.Types.{is-application-brotli, is-application-hta, is-application-rdf-xml, is-application-vnd-apache-parquet, is-application-vnd-ms-excel-addin-macroenabled-12, is-application-x-avro-schema-json, is-application-x-eclipse-xml, is-application-x-ext-filesystem, is-application-x-fbx, is-application-x-gschema-xml, is-application-x-hdf5, is-application-x-hxml, is-application-x-jsonc, is-application-x-llvm, is-application-x-quake-pak, is-application-x-quattropro, is-application-x-rust-rlib, is-application-x-shapefile-index, is-application-x-sketchup, is-application-x-sublime-syntax, is-application-x-urdf-xml, is-audio-aac, is-audio-midi, is-audio-mpeg, is-audio-x-mod, is-image-jp2, is-image-vnd-dxf, is-image-x-dds, is-image-x-jp2-codestream, is-text-html, is-text-markdown, is-text-plain, is-text-velocity, is-text-x-bc, is-text-x-editorconfig, is-text-x-fasta, is-text-x-fortran, is-text-x-gcode, is-text-x-haml, is-text-x-igor, is-text-x-ini, is-text-x-nginx-conf, is-text-x-ninja, is-text-x-opencl-src, is-text-x-razor, is-text-x-ruby, is-text-x-scala, is-text-x-shell-config, is-text-x-shellscript, is-text-x-slim, is-text-x-subviewer, is-text-x-supercollider, is-text-x-vim, is-text-x-xmi}
 use Rattle.infer_named.specs.declared.table.Asks.TheVariants.{Bytes, Nothing, Signature, Text}
 use Rattle.infer_named.specs.declared.table.Part.TheVariants.{Extension, Whole}
 
-unfoldable pub slot_0 : List Key
-slot_0 =
-    key Extension (codes "aac") false (reading (row (codes "aac")) (codes "audio/aac") Bytes (codes "aac" ∷ []) none none any ∷ []) ∷
-    key Whole (codes "contributors") false (reading (row (codes "txt")) (codes "text/plain") Text (codes "txt" ∷ []) none texts any ∷ []) ∷
-    key Whole (codes "nginx.conf") false (reading known (codes "text/x-nginx-conf") Text none (codes "txt" ∷ []) none any ∷ []) ∷
-    key Extension (codes "uml") false (reading known (codes "text/x-xmi") Text none (codes "html" ∷ codes "txt" ∷ codes "xhtml" ∷ codes "xml" ∷ []) none (codes "<" ∷ []) ∷ []) ∷
-    []
-
-unfoldable pub slot_1 : List Key
-slot_1 =
-    key Whole (codes ".coveragerc") false (reading own (codes "text/x-ini") Text none (codes "txt" ∷ []) none any ∷ []) ∷
-    key Extension (codes "ipf") false (reading own (codes "text/x-igor") Text none (codes "txt" ∷ []) none any ∷ []) ∷
-    key Extension (codes "j2k") false (reading known (codes "image/x-jp2-codestream") Bytes none none none any ∷ []) ∷
-    key Extension (codes "mtm") false (reading known (codes "audio/x-mod") Bytes none none none any ∷ []) ∷
-    []
-
-unfoldable pub slot_2 : List Key
-slot_2 =
-    key Whole (codes ".cproject") false (reading own (codes "application/x-eclipse+xml") Text none (codes "html" ∷ codes "txt" ∷ codes "xhtml" ∷ codes "xml" ∷ []) none (codes "<" ∷ []) ∷ []) ∷
-    key Extension (codes "avpr") false (reading own (codes "application/x-avro-schema+json") Text none (codes "json" ∷ []) none any ∷ []) ∷
-    key Extension (codes "parquet") false (reading (row (codes "parquet")) (codes "application/vnd.apache.parquet") Signature (codes "parquet" ∷ []) none none any ∷ []) ∷
-    []
-
-unfoldable pub slot_3 : List Key
-slot_3 =
-    key Extension (codes "dds") false (reading known (codes "image/x-dds") Bytes none none none any ∷ []) ∷
-    key Extension (codes "haml") false (reading known (codes "text/x-haml") Text none (codes "txt" ∷ []) none any ∷ []) ∷
-    key Extension (codes "hta") false (reading known (codes "application/hta") Text none (codes "html" ∷ codes "json" ∷ codes "php" ∷ codes "svg" ∷ codes "txt" ∷ codes "xhtml" ∷ codes "xml" ∷ []) none any ∷ []) ∷
-    key Extension (codes "html") false (reading (row (codes "html")) (codes "text/html") Text (codes "html" ∷ []) (codes "php" ∷ codes "svg" ∷ codes "txt" ∷ codes "xhtml" ∷ codes "xml" ∷ []) none any ∷ []) ∷
-    key Extension (codes "hxml") false (reading own (codes "application/x-hxml") Text none (codes "txt" ∷ []) none any ∷ []) ∷
-    key Extension (codes "mpga") false (reading (row (codes "mp3")) (codes "audio/mpeg") Bytes (codes "mp3" ∷ []) none none any ∷ []) ∷
-    key Extension (codes "vtl") false (reading known (codes "text/velocity") Text none (codes "html" ∷ codes "json" ∷ codes "php" ∷ codes "svg" ∷ codes "txt" ∷ codes "xhtml" ∷ codes "xml" ∷ []) none any ∷ []) ∷
-    key Extension (codes "xlam") false (reading known (codes "application/vnd.ms-excel.addin.macroEnabled.12") Signature none (codes "application/x-ole-storage" ∷ codes "xlsx" ∷ codes "zip" ∷ []) none any ∷ []) ∷
-    []
-
-unfoldable pub slot_4 : List Key
-slot_4 =
-    key Extension (codes "mid") false (reading (row (codes "midi")) (codes "audio/midi") Signature (codes "midi" ∷ []) none none any ∷ []) ∷
-    key Extension (codes "sp") true (reading (row (codes "txt")) (codes "text/plain") Text (codes "txt" ∷ []) none texts any ∷ []) ∷
-    key Extension (codes "sub") true (reading known (codes "text/x-subviewer") Text none (codes "txt" ∷ []) none any ∷ []) ∷
-    []
-
-unfoldable pub slot_5 : List Key
-slot_5 =
-    key Whole (codes ".gemrc") false (reading (row (codes "txt")) (codes "text/plain") Text (codes "txt" ∷ []) none texts any ∷ []) ∷
-    key Whole (codes ".npmrc") false (reading (row (codes "txt")) (codes "text/plain") Text (codes "txt" ∷ []) none texts any ∷ []) ∷
-    key Whole (codes ".vimrc") false (reading own (codes "text/x-vim") Text none (codes "txt" ∷ []) none any ∷ []) ∷
-    key Whole (codes "apkbuild") false (reading (row (codes "sh")) (codes "text/x-shellscript") Text (codes "sh" ∷ []) (codes "txt" ∷ []) none any ∷ []) ∷
-    key Extension (codes "fa") false (reading own (codes "text/x-fasta") Text none (codes "txt" ∷ []) none any ∷ []) ∷
-    key Extension (codes "jpg2") false (reading (row (codes "jp2")) (codes "image/jp2") Bytes (codes "jp2" ∷ []) none (codes "jpx" ∷ []) any ∷ []) ∷
-    []
-
-unfoldable pub slot_6 : List Key
-slot_6 =
-    key Extension (codes "ext2") false (reading (row (codes "ext2")) (codes "application/x-ext-filesystem") Bytes (codes "ext2" ∷ []) none none any ∷ []) ∷
-    key Extension (codes "faa") false (reading own (codes "text/x-fasta") Text none (codes "txt" ∷ []) none any ∷ []) ∷
-    key Extension (codes "q") false (reading (row (codes "txt")) (codes "text/plain") Text (codes "txt" ∷ []) none texts any ∷ []) ∷
-    key Extension (codes "scala") false (reading known (codes "text/x-scala") Text none (codes "sh" ∷ codes "txt" ∷ []) none any ∷ []) ∷
-    key Extension (codes "scd") false (reading own (codes "text/x-supercollider") Text none (codes "txt" ∷ []) none any ∷ []) ∷
-    key Extension (codes "urdf") false (reading own (codes "application/x-urdf+xml") Text none (codes "html" ∷ codes "txt" ∷ codes "xhtml" ∷ codes "xml" ∷ []) none (codes "<" ∷ []) ∷ []) ∷
-    key Extension (codes "vbhtml") false (reading own (codes "text/x-razor") Text none (codes "html" ∷ codes "json" ∷ codes "php" ∷ codes "svg" ∷ codes "txt" ∷ codes "xhtml" ∷ codes "xml" ∷ []) none any ∷ []) ∷
-    []
-
-unfoldable pub slot_7 : List Key
-slot_7 =
-    key Extension (codes "editorconfig") false (reading own (codes "text/x-editorconfig") Text none (codes "txt" ∷ []) none any ∷ []) ∷
-    key Extension (codes "fpp") false (reading known (codes "text/x-fortran") Text none (codes "txt" ∷ []) none any ∷ []) ∷
-    key Extension (codes "hdf") false (reading (row (codes "hdf5")) (codes "application/x-hdf5") Bytes (codes "hdf5" ∷ []) none none any ∷ []) ∷
-    key Extension (codes "ninja") false (reading own (codes "text/x-ninja") Text none (codes "txt" ∷ []) none any ∷ []) ∷
-    []
-
-unfoldable pub slot_8 : List Key
-slot_8 =
-    key Extension (codes "fypp") false (reading known (codes "text/x-fortran") Text none (codes "txt" ∷ []) none any ∷ []) ∷
-    []
-
-unfoldable pub slot_9 : List Key
-slot_9 =
-    key Extension (codes "sublime-menu") false (reading own (codes "application/x-jsonc") Text none (codes "txt" ∷ []) (codes "json" ∷ []) any ∷ []) ∷
-    []
-
-unfoldable pub slot_10 : List Key
-slot_10 =
-    key Whole (codes ".project") false (reading own (codes "application/x-eclipse+xml") Text none (codes "html" ∷ codes "txt" ∷ codes "xhtml" ∷ codes "xml" ∷ []) none (codes "<" ∷ []) ∷ []) ∷
-    key Extension (codes "gco") false (reading known (codes "text/x.gcode") Text none (codes "txt" ∷ []) none any ∷ []) ∷
-    key Extension (codes "opencl") false (reading known (codes "text/x-opencl-src") Text none (codes "txt" ∷ []) none any ∷ []) ∷
-    key Extension (codes "pak") true (reading own (codes "application/x-quake-pak") Bytes none none none any ∷ []) ∷
-    []
-
-unfoldable pub slot_11 : List Key
-slot_11 =
-    key Extension (codes "bc") false (reading (row (codes "bc")) (codes "application/x-llvm") Signature (codes "bc" ∷ []) none none any ∷ reading own (codes "text/x-bc") Text none (codes "txt" ∷ []) none any ∷ []) ∷
-    key Extension (codes "dxf") false (reading known (codes "image/vnd.dxf") Text none (codes "txt" ∷ []) none any ∷ []) ∷
-    key Extension (codes "jpc") false (reading known (codes "image/x-jp2-codestream") Bytes none none none any ∷ []) ∷
-    key Extension (codes "rlib") false (reading own (codes "application/x-rust-rlib") Signature none (codes "ar" ∷ []) none any ∷ []) ∷
-    key Extension (codes "sbx") false (reading own (codes "application/x-shapefile-index") Bytes none none none any ∷ []) ∷
-    key Extension (codes "wb2") false (reading known (codes "application/x-quattropro") Bytes none (codes "application/x-ole-storage" ∷ []) none any ∷ []) ∷
-    []
-
-unfoldable pub slot_12 : List Key
-slot_12 =
-    key Extension (codes "br") false (reading own (codes "application/brotli") Bytes none none none any ∷ []) ∷
-    key Extension (codes "md") false (reading known (codes "text/markdown") Text none (codes "html" ∷ codes "json" ∷ codes "php" ∷ codes "svg" ∷ codes "txt" ∷ codes "xhtml" ∷ codes "xml" ∷ []) none any ∷ []) ∷
-    []
-
-unfoldable pub slot_13 : List Key
-slot_13 =
-    key Extension (codes "dist") false (reading (row (codes "txt")) (codes "text/plain") Text (codes "txt" ∷ []) none texts any ∷ []) ∷
-    key Extension (codes "fbx") false (reading own (codes "application/x-fbx") Bytes none (codes "txt" ∷ []) none any ∷ []) ∷
-    key Extension (codes "gschema") false (reading own (codes "application/x-gschema+xml") Text none (codes "html" ∷ codes "txt" ∷ codes "xhtml" ∷ codes "xml" ∷ []) none (codes "<" ∷ []) ∷ []) ∷
-    key Extension (codes "ms") true (reading (row (codes "txt")) (codes "text/plain") Text (codes "txt" ∷ []) none texts any ∷ []) ∷
-    key Extension (codes "rake") false (reading (row (codes "rb")) (codes "text/x-ruby") Text (codes "rb" ∷ []) (codes "sh" ∷ codes "txt" ∷ []) none any ∷ []) ∷
-    key Extension (codes "slim") false (reading known (codes "text/x-slim") Text none (codes "txt" ∷ []) none any ∷ []) ∷
-    []
-
-unfoldable pub slot_14 : List Key
-slot_14 =
-    key Whole (codes ".cshrc") false (reading own (codes "text/x-shell-config") Text none (codes "sh" ∷ codes "txt" ∷ []) none any ∷ []) ∷
-    key Whole (codes ".kshrc") false (reading own (codes "text/x-shell-config") Text none (codes "sh" ∷ codes "txt" ∷ []) none any ∷ []) ∷
-    key Whole (codes ".zshrc") false (reading own (codes "text/x-shell-config") Text none (codes "sh" ∷ codes "txt" ∷ []) none any ∷ []) ∷
-    key Extension (codes "rdfs") false (reading known (codes "application/rdf+xml") Text none (codes "html" ∷ codes "rss" ∷ codes "txt" ∷ codes "xml" ∷ []) none (codes "<" ∷ []) ∷ []) ∷
-    key Extension (codes "skp") false (reading own (codes "application/x-sketchup") Bytes none none none any ∷ []) ∷
-    []
-
-unfoldable pub slot_15 : List Key
-slot_15 =
-    key Extension (codes "sublime-syntax") false (reading own (codes "application/x-sublime-syntax") Text none (codes "json" ∷ codes "ndjson" ∷ codes "txt" ∷ []) none any ∷ []) ∷
-    []
-
 unfoldable pub group : List (List Key)
-group = slot_0 ∷ slot_1 ∷ slot_2 ∷ slot_3 ∷ slot_4 ∷ slot_5 ∷ slot_6 ∷ slot_7 ∷ slot_8 ∷ slot_9 ∷ slot_10 ∷ slot_11 ∷ slot_12 ∷ slot_13 ∷ slot_14 ∷ slot_15 ∷ []
+group =
+    (
+    key Extension (codes "aac") false (reading is-audio-aac Bytes rows-aac no-rows no-rows any-lead ∷ []) ∷
+    key Whole (codes "contributors") false (reading is-text-plain Text rows-txt no-rows text-rows any-lead ∷ []) ∷
+    key Whole (codes "nginx.conf") false (reading is-text-x-nginx-conf Text no-rows rows-txt no-rows any-lead ∷ []) ∷
+    key Extension (codes "uml") false (reading is-text-x-xmi Text no-rows rows-html-txt-xhtml-xml no-rows leads-10 ∷ []) ∷
+    [])
+    ∷ (
+    key Whole (codes ".coveragerc") false (reading is-text-x-ini Text no-rows rows-txt no-rows any-lead ∷ []) ∷
+    key Extension (codes "ipf") false (reading is-text-x-igor Text no-rows rows-txt no-rows any-lead ∷ []) ∷
+    key Extension (codes "j2k") false (reading is-image-x-jp2-codestream Bytes no-rows no-rows no-rows any-lead ∷ []) ∷
+    key Extension (codes "mtm") false (reading is-audio-x-mod Bytes no-rows no-rows no-rows any-lead ∷ []) ∷
+    [])
+    ∷ (
+    key Whole (codes ".cproject") false (reading is-application-x-eclipse-xml Text no-rows rows-html-txt-xhtml-xml no-rows leads-10 ∷ []) ∷
+    key Extension (codes "avpr") false (reading is-application-x-avro-schema-json Text no-rows rows-json no-rows any-lead ∷ []) ∷
+    key Extension (codes "parquet") false (reading is-application-vnd-apache-parquet Signature rows-parquet no-rows no-rows any-lead ∷ []) ∷
+    [])
+    ∷ (
+    key Extension (codes "dds") false (reading is-image-x-dds Bytes no-rows no-rows no-rows any-lead ∷ []) ∷
+    key Extension (codes "haml") false (reading is-text-x-haml Text no-rows rows-txt no-rows any-lead ∷ []) ∷
+    key Extension (codes "hta") false (reading is-application-hta Text no-rows rows-html-json-php-svg-txt-xhtml-xml no-rows any-lead ∷ []) ∷
+    key Extension (codes "html") false (reading is-text-html Text rows-html rows-php-svg-txt-xhtml-xml no-rows any-lead ∷ []) ∷
+    key Extension (codes "hxml") false (reading is-application-x-hxml Text no-rows rows-txt no-rows any-lead ∷ []) ∷
+    key Extension (codes "mpga") false (reading is-audio-mpeg Bytes rows-mp3 no-rows no-rows any-lead ∷ []) ∷
+    key Extension (codes "vtl") false (reading is-text-velocity Text no-rows rows-html-json-php-svg-txt-xhtml-xml no-rows any-lead ∷ []) ∷
+    key Extension (codes "xlam") false (reading is-application-vnd-ms-excel-addin-macroenabled-12 Signature no-rows rows-application-x-ole-storage-xlsx-zip no-rows any-lead ∷ []) ∷
+    [])
+    ∷ (
+    key Extension (codes "mid") false (reading is-audio-midi Signature rows-midi no-rows no-rows any-lead ∷ []) ∷
+    key Extension (codes "sp") true (reading is-text-plain Text rows-txt no-rows text-rows any-lead ∷ []) ∷
+    key Extension (codes "sub") true (reading is-text-x-subviewer Text no-rows rows-txt no-rows any-lead ∷ []) ∷
+    [])
+    ∷ (
+    key Whole (codes ".gemrc") false (reading is-text-plain Text rows-txt no-rows text-rows any-lead ∷ []) ∷
+    key Whole (codes ".npmrc") false (reading is-text-plain Text rows-txt no-rows text-rows any-lead ∷ []) ∷
+    key Whole (codes ".vimrc") false (reading is-text-x-vim Text no-rows rows-txt no-rows any-lead ∷ []) ∷
+    key Whole (codes "apkbuild") false (reading is-text-x-shellscript Text rows-sh rows-txt no-rows any-lead ∷ []) ∷
+    key Extension (codes "fa") false (reading is-text-x-fasta Text no-rows rows-txt no-rows any-lead ∷ []) ∷
+    key Extension (codes "jpg2") false (reading is-image-jp2 Bytes rows-jp2 no-rows rows-jpx any-lead ∷ []) ∷
+    [])
+    ∷ (
+    key Extension (codes "ext2") false (reading is-application-x-ext-filesystem Bytes rows-ext2 no-rows no-rows any-lead ∷ []) ∷
+    key Extension (codes "faa") false (reading is-text-x-fasta Text no-rows rows-txt no-rows any-lead ∷ []) ∷
+    key Extension (codes "q") false (reading is-text-plain Text rows-txt no-rows text-rows any-lead ∷ []) ∷
+    key Extension (codes "scala") false (reading is-text-x-scala Text no-rows rows-sh-txt no-rows any-lead ∷ []) ∷
+    key Extension (codes "scd") false (reading is-text-x-supercollider Text no-rows rows-txt no-rows any-lead ∷ []) ∷
+    key Extension (codes "urdf") false (reading is-application-x-urdf-xml Text no-rows rows-html-txt-xhtml-xml no-rows leads-10 ∷ []) ∷
+    key Extension (codes "vbhtml") false (reading is-text-x-razor Text no-rows rows-html-json-php-svg-txt-xhtml-xml no-rows any-lead ∷ []) ∷
+    [])
+    ∷ (
+    key Extension (codes "editorconfig") false (reading is-text-x-editorconfig Text no-rows rows-txt no-rows any-lead ∷ []) ∷
+    key Extension (codes "fpp") false (reading is-text-x-fortran Text no-rows rows-txt no-rows any-lead ∷ []) ∷
+    key Extension (codes "hdf") false (reading is-application-x-hdf5 Bytes rows-hdf5 no-rows no-rows any-lead ∷ []) ∷
+    key Extension (codes "ninja") false (reading is-text-x-ninja Text no-rows rows-txt no-rows any-lead ∷ []) ∷
+    [])
+    ∷ (
+    key Extension (codes "fypp") false (reading is-text-x-fortran Text no-rows rows-txt no-rows any-lead ∷ []) ∷
+    [])
+    ∷ (
+    key Extension (codes "sublime-menu") false (reading is-application-x-jsonc Text no-rows rows-txt rows-json any-lead ∷ []) ∷
+    [])
+    ∷ (
+    key Whole (codes ".project") false (reading is-application-x-eclipse-xml Text no-rows rows-html-txt-xhtml-xml no-rows leads-10 ∷ []) ∷
+    key Extension (codes "gco") false (reading is-text-x-gcode Text no-rows rows-txt no-rows any-lead ∷ []) ∷
+    key Extension (codes "opencl") false (reading is-text-x-opencl-src Text no-rows rows-txt no-rows any-lead ∷ []) ∷
+    key Extension (codes "pak") true (reading is-application-x-quake-pak Bytes no-rows no-rows no-rows any-lead ∷ []) ∷
+    [])
+    ∷ (
+    key Extension (codes "bc") false (reading is-application-x-llvm Signature rows-bc no-rows no-rows any-lead ∷ reading is-text-x-bc Text no-rows rows-txt no-rows any-lead ∷ []) ∷
+    key Extension (codes "dxf") false (reading is-image-vnd-dxf Text no-rows rows-txt no-rows any-lead ∷ []) ∷
+    key Extension (codes "jpc") false (reading is-image-x-jp2-codestream Bytes no-rows no-rows no-rows any-lead ∷ []) ∷
+    key Extension (codes "rlib") false (reading is-application-x-rust-rlib Signature no-rows rows-ar no-rows any-lead ∷ []) ∷
+    key Extension (codes "sbx") false (reading is-application-x-shapefile-index Bytes no-rows no-rows no-rows any-lead ∷ []) ∷
+    key Extension (codes "wb2") false (reading is-application-x-quattropro Bytes no-rows rows-application-x-ole-storage no-rows any-lead ∷ []) ∷
+    [])
+    ∷ (
+    key Extension (codes "br") false (reading is-application-brotli Bytes no-rows no-rows no-rows any-lead ∷ []) ∷
+    key Extension (codes "md") false (reading is-text-markdown Text no-rows rows-html-json-php-svg-txt-xhtml-xml no-rows any-lead ∷ []) ∷
+    [])
+    ∷ (
+    key Extension (codes "dist") false (reading is-text-plain Text rows-txt no-rows text-rows any-lead ∷ []) ∷
+    key Extension (codes "fbx") false (reading is-application-x-fbx Bytes no-rows rows-txt no-rows any-lead ∷ []) ∷
+    key Extension (codes "gschema") false (reading is-application-x-gschema-xml Text no-rows rows-html-txt-xhtml-xml no-rows leads-10 ∷ []) ∷
+    key Extension (codes "ms") true (reading is-text-plain Text rows-txt no-rows text-rows any-lead ∷ []) ∷
+    key Extension (codes "rake") false (reading is-text-x-ruby Text rows-rb rows-sh-txt no-rows any-lead ∷ []) ∷
+    key Extension (codes "slim") false (reading is-text-x-slim Text no-rows rows-txt no-rows any-lead ∷ []) ∷
+    [])
+    ∷ (
+    key Whole (codes ".cshrc") false (reading is-text-x-shell-config Text no-rows rows-sh-txt no-rows any-lead ∷ []) ∷
+    key Whole (codes ".kshrc") false (reading is-text-x-shell-config Text no-rows rows-sh-txt no-rows any-lead ∷ []) ∷
+    key Whole (codes ".zshrc") false (reading is-text-x-shell-config Text no-rows rows-sh-txt no-rows any-lead ∷ []) ∷
+    key Extension (codes "rdfs") false (reading is-application-rdf-xml Text no-rows rows-html-rss-txt-xml no-rows leads-10 ∷ []) ∷
+    key Extension (codes "skp") false (reading is-application-x-sketchup Bytes no-rows no-rows no-rows any-lead ∷ []) ∷
+    [])
+    ∷ (
+    key Extension (codes "sublime-syntax") false (reading is-application-x-sublime-syntax Text no-rows rows-json-ndjson-txt no-rows any-lead ∷ []) ∷
+    [])
+    ∷ []

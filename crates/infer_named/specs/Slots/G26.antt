@@ -1,131 +1,102 @@
 -- Made by `tools/tables` from names.txt: the keys of slots 416 to 431.
 use Rattle.std.specs.Prelude.{List, [], ◌∷◌, codes, false, true}
-use Rattle.infer_named.specs.Key.{Key, key, known, own, reading, row}
-use Rattle.infer_named.specs.Texts.{any, none, texts}
+use Rattle.infer_named.specs.Key.{Key, key}
+use Rattle.infer_named.specs.Listed.{reading}
+use Rattle.infer_named.specs.Sets.{any-lead, leads-10, no-rows, rows-3g2-3gp-f4v-m4a-m4b-m4v-mov, rows-apk-jar-zip, rows-application-x-ole-storage, rows-awk, rows-dsf, rows-exe, rows-heif, rows-html-json-php-svg-txt-xhtml-xml, rows-html-sh-svg-txt-xhtml-xml, rows-html-txt-xhtml-xml, rows-json, rows-mp4, rows-mpg, rows-odg-zip, rows-php, rows-py, rows-rb, rows-sh-txt, rows-tar, rows-txt, rows-vsd, rows-zip, text-rows}
+use Rattle.infer_named.specs.Types.{is-application-vnd-microsoft-portable-executable, is-application-vnd-oasis-opendocument-graphics-template, is-application-vnd-visio, is-application-x-android-archive, is-application-x-asar, is-application-x-asp, is-application-x-cbt, is-application-x-desktop, is-application-x-eclipse-xml, is-application-x-grib, is-application-x-hwpx, is-application-x-jsonc, is-application-x-python-pickle, is-application-x-quattropro, is-application-x-sketch, is-application-x-terraform-state-json, is-application-x-tex-tfm, is-application-xproc-xml, is-audio-x-dsf, is-image-wmf, is-image-x-cmu-raster, is-image-x-ilbm, is-text-plain, is-text-troff, is-text-turtle, is-text-vnd-familysearch-gedcom, is-text-vnd-graphviz, is-text-x-adasrc, is-text-x-agda, is-text-x-asm, is-text-x-awk, is-text-x-c-src, is-text-x-chapel, is-text-x-checksums, is-text-x-clojure, is-text-x-common-lisp, is-text-x-dns-zone, is-text-x-ebuild, is-text-x-forth, is-text-x-fortran, is-text-x-gerber, is-text-x-hcl, is-text-x-java, is-text-x-kotlin, is-text-x-newick, is-text-x-php, is-text-x-python-as-row-py, is-text-x-ruby, is-text-x-stata, is-text-x-textile, is-video-mp4, is-video-mpeg}
 use Rattle.infer_named.specs.declared.table.Asks.TheVariants.{Bytes, Nothing, Signature, Text}
 use Rattle.infer_named.specs.declared.table.Part.TheVariants.{Extension, Whole}
 
-unfoldable pub slot_0 : List Key
-slot_0 =
-    key Extension (codes "cljc") false (reading known (codes "text/x-clojure") Text none (codes "sh" ∷ codes "txt" ∷ []) none any ∷ []) ∷
-    key Extension (codes "kt") false (reading known (codes "text/x-kotlin") Text none (codes "sh" ∷ codes "txt" ∷ []) none any ∷ []) ∷
-    key Extension (codes "php3") false (reading (row (codes "php")) (codes "text/x-php") Text (codes "php" ∷ []) (codes "html" ∷ codes "sh" ∷ codes "svg" ∷ codes "txt" ∷ codes "xhtml" ∷ codes "xml" ∷ []) none any ∷ []) ∷
-    key Extension (codes "vf") false (reading own (codes "application/x-tex-tfm") Bytes none none none any ∷ []) ∷
-    []
-
-unfoldable pub slot_1 : List Key
-slot_1 =
-    key Whole (codes ".pythonrc") false (reading (row (codes "py")) (codes "text/x-python") Text (codes "py" ∷ []) (codes "sh" ∷ codes "txt" ∷ []) none any ∷ []) ∷
-    key Extension (codes "ado") false (reading own (codes "text/x-stata") Text none (codes "txt" ∷ []) none any ∷ []) ∷
-    []
-
-unfoldable pub slot_2 : List Key
-slot_2 =
-    key Whole (codes "md5sums") false (reading own (codes "text/x-checksums") Text none (codes "txt" ∷ []) none any ∷ []) ∷
-    key Extension (codes "md5sums") false (reading own (codes "text/x-checksums") Text none (codes "txt" ∷ []) none any ∷ []) ∷
-    []
-
-unfoldable pub slot_3 : List Key
-slot_3 =
-    key Extension (codes "fth") false (reading known (codes "text/x-forth") Text none (codes "sh" ∷ codes "txt" ∷ []) none any ∷ []) ∷
-    key Extension (codes "iff") false (reading known (codes "image/x-ilbm") Bytes none none none any ∷ []) ∷
-    []
-
-unfoldable pub slot_4 : List Key
-slot_4 =
-    key Extension (codes "a51") false (reading own (codes "text/x-asm") Text none (codes "txt" ∷ []) none any ∷ []) ∷
-    key Extension (codes "dsf") false (reading (row (codes "dsf")) (codes "audio/x-dsf") Signature (codes "dsf" ∷ []) none none any ∷ []) ∷
-    key Extension (codes "g") false (reading (row (codes "txt")) (codes "text/plain") Text (codes "txt" ∷ []) none texts any ∷ []) ∷
-    key Extension (codes "ged") false (reading known (codes "text/vnd.familysearch.gedcom") Text none (codes "txt" ∷ []) none any ∷ []) ∷
-    key Extension (codes "hcl") false (reading own (codes "text/x-hcl") Text none (codes "txt" ∷ []) none any ∷ []) ∷
-    key Extension (codes "hwpx") false (reading own (codes "application/x-hwpx") Bytes none (codes "zip" ∷ []) none any ∷ []) ∷
-    key Whole (codes "jsconfig.json") false (reading own (codes "application/x-jsonc") Text none (codes "txt" ∷ []) (codes "json" ∷ []) any ∷ []) ∷
-    key Extension (codes "sketch") false (reading own (codes "application/x-sketch") Signature none (codes "zip" ∷ []) none any ∷ []) ∷
-    key Extension (codes "wmf") false (reading known (codes "image/wmf") Bytes none none none any ∷ []) ∷
-    []
-
-unfoldable pub slot_5 : List Key
-slot_5 =
-    key Extension (codes "cpl") false (reading (row (codes "exe")) (codes "application/vnd.microsoft.portable-executable") Signature (codes "exe" ∷ []) none none any ∷ []) ∷
-    key Extension (codes "gts") false (reading own (codes "text/x-gerber") Text none (codes "txt" ∷ []) none any ∷ []) ∷
-    key Extension (codes "otg") false (reading known (codes "application/vnd.oasis.opendocument.graphics-template") Signature none (codes "odg" ∷ codes "zip" ∷ []) none any ∷ []) ∷
-    key Extension (codes "pro") false (reading (row (codes "txt")) (codes "text/plain") Text (codes "txt" ∷ []) none texts any ∷ []) ∷
-    key Extension (codes "qpw") false (reading known (codes "application/x-quattropro") Bytes none (codes "application/x-ole-storage" ∷ []) none any ∷ []) ∷
-    []
-
-unfoldable pub slot_6 : List Key
-slot_6 =
-    key Extension (codes "chpl") false (reading own (codes "text/x-chapel") Text none (codes "sh" ∷ codes "txt" ∷ []) none any ∷ []) ∷
-    key Extension (codes "directory") false (reading known (codes "application/x-desktop") Text none (codes "txt" ∷ []) none any ∷ []) ∷
-    key Extension (codes "gv") false (reading known (codes "text/vnd.graphviz") Text none (codes "txt" ∷ []) none any ∷ []) ∷
-    key Extension (codes "pyd") false (reading (row (codes "exe")) (codes "application/vnd.microsoft.portable-executable") Signature (codes "exe" ∷ []) none none any ∷ []) ∷
-    key Extension (codes "ras") false (reading known (codes "image/x-cmu-raster") Bytes none none none any ∷ []) ∷
-    []
-
-unfoldable pub slot_7 : List Key
-slot_7 =
-    key Whole (codes ".swcrc") false (reading own (codes "application/x-jsonc") Text none (codes "txt" ∷ []) (codes "json" ∷ []) any ∷ []) ∷
-    key Extension (codes "m2p") false (reading (row (codes "mpg")) (codes "video/mpeg") Bytes (codes "mpg" ∷ []) none none any ∷ []) ∷
-    key Extension (codes "xproc") false (reading own (codes "application/xproc+xml") Text none (codes "html" ∷ codes "txt" ∷ codes "xhtml" ∷ codes "xml" ∷ []) none (codes "<" ∷ []) ∷ []) ∷
-    []
-
-unfoldable pub slot_8 : List Key
-slot_8 =
-    key Whole (codes ".jscsrc") false (reading own (codes "application/x-jsonc") Text none (codes "txt" ∷ []) (codes "json" ∷ []) any ∷ []) ∷
-    key Extension (codes "launch") false (reading own (codes "application/x-eclipse+xml") Text none (codes "html" ∷ codes "txt" ∷ codes "xhtml" ∷ codes "xml" ∷ []) none (codes "<" ∷ []) ∷ []) ∷
-    key Extension (codes "vsd") false (reading (row (codes "vsd")) (codes "application/vnd.visio") Signature (codes "vsd" ∷ []) (codes "application/x-ole-storage" ∷ []) none any ∷ []) ∷
-    []
-
-unfoldable pub slot_9 : List Key
-slot_9 =
-    key Extension (codes "3pm") false (reading known (codes "text/troff") Text none (codes "txt" ∷ []) none any ∷ []) ∷
-    key Extension (codes "ada") false (reading known (codes "text/x-adasrc") Text none (codes "txt" ∷ []) none any ∷ []) ∷
-    key Extension (codes "m4s") false (reading (row (codes "mp4")) (codes "video/mp4") Bytes (codes "mp4" ∷ []) (codes "heif" ∷ []) (codes "3g2" ∷ codes "3gp" ∷ codes "f4v" ∷ codes "m4a" ∷ codes "m4b" ∷ codes "m4v" ∷ codes "mov" ∷ []) any ∷ []) ∷
-    []
-
-unfoldable pub slot_10 : List Key
-slot_10 =
-    key Extension (codes "agda") false (reading own (codes "text/x-agda") Text none (codes "txt" ∷ []) none any ∷ []) ∷
-    key Extension (codes "asp") false (reading known (codes "application/x-asp") Text none (codes "html" ∷ codes "json" ∷ codes "php" ∷ codes "svg" ∷ codes "txt" ∷ codes "xhtml" ∷ codes "xml" ∷ []) none any ∷ []) ∷
-    key Whole (codes "rakefile") false (reading (row (codes "rb")) (codes "text/x-ruby") Text (codes "rb" ∷ []) (codes "sh" ∷ codes "txt" ∷ []) none any ∷ []) ∷
-    []
-
-unfoldable pub slot_11 : List Key
-slot_11 =
-    key Extension (codes "cbt") false (reading known (codes "application/x-cbt") Signature none (codes "tar" ∷ []) none any ∷ []) ∷
-    key Extension (codes "eclass") false (reading own (codes "text/x-ebuild") Text none (codes "txt" ∷ []) none any ∷ []) ∷
-    key Extension (codes "grb") false (reading own (codes "application/x-grib") Bytes none none none any ∷ []) ∷
-    key Extension (codes "mawk") false (reading (row (codes "awk")) (codes "text/x-awk") Text (codes "awk" ∷ []) (codes "sh" ∷ codes "txt" ∷ []) none any ∷ []) ∷
-    []
-
-unfoldable pub slot_12 : List Key
-slot_12 =
-    key Extension (codes "aar") false (reading own (codes "application/x-android-archive") Signature none (codes "apk" ∷ codes "jar" ∷ codes "zip" ∷ []) none any ∷ []) ∷
-    key Extension (codes "pkl") false (reading own (codes "application/x-python-pickle") Bytes none none none any ∷ []) ∷
-    []
-
-unfoldable pub slot_13 : List Key
-slot_13 =
-    key Extension (codes "asar") false (reading known (codes "application/x-asar") Bytes none none none any ∷ []) ∷
-    key Extension (codes "cxx") false (reading known (codes "text/x-c++src") Text none (codes "txt" ∷ []) none any ∷ []) ∷
-    key Extension (codes "ny") false (reading known (codes "text/x-common-lisp") Text none (codes "sh" ∷ codes "txt" ∷ []) none any ∷ []) ∷
-    []
-
-unfoldable pub slot_14 : List Key
-slot_14 =
-    key Extension (codes "aj") false (reading known (codes "text/x-java") Text none (codes "txt" ∷ []) none any ∷ []) ∷
-    key Extension (codes "f95") false (reading known (codes "text/x-fortran") Text none (codes "txt" ∷ []) none any ∷ []) ∷
-    key Extension (codes "nex") false (reading own (codes "text/x-newick") Text none (codes "txt" ∷ []) none any ∷ []) ∷
-    key Extension (codes "turtle") false (reading known (codes "text/turtle") Text none (codes "txt" ∷ []) none any ∷ []) ∷
-    key Extension (codes "zone") false (reading own (codes "text/x-dns-zone") Text none (codes "txt" ∷ []) none any ∷ []) ∷
-    []
-
-unfoldable pub slot_15 : List Key
-slot_15 =
-    key Whole (codes "authorized_keys") false (reading (row (codes "txt")) (codes "text/plain") Text (codes "txt" ∷ []) none texts any ∷ []) ∷
-    key Extension (codes "textile") false (reading known (codes "text/x-textile") Text none (codes "txt" ∷ []) none any ∷ []) ∷
-    key Extension (codes "tfstate") false (reading own (codes "application/x-terraform-state+json") Text none (codes "json" ∷ []) none any ∷ []) ∷
-    []
-
 unfoldable pub group : List (List Key)
-group = slot_0 ∷ slot_1 ∷ slot_2 ∷ slot_3 ∷ slot_4 ∷ slot_5 ∷ slot_6 ∷ slot_7 ∷ slot_8 ∷ slot_9 ∷ slot_10 ∷ slot_11 ∷ slot_12 ∷ slot_13 ∷ slot_14 ∷ slot_15 ∷ []
+group =
+    (
+    key Extension (codes "cljc") false (reading is-text-x-clojure Text no-rows rows-sh-txt no-rows any-lead ∷ []) ∷
+    key Extension (codes "kt") false (reading is-text-x-kotlin Text no-rows rows-sh-txt no-rows any-lead ∷ []) ∷
+    key Extension (codes "php3") false (reading is-text-x-php Text rows-php rows-html-sh-svg-txt-xhtml-xml no-rows any-lead ∷ []) ∷
+    key Extension (codes "vf") false (reading is-application-x-tex-tfm Bytes no-rows no-rows no-rows any-lead ∷ []) ∷
+    [])
+    ∷ (
+    key Whole (codes ".pythonrc") false (reading is-text-x-python-as-row-py Text rows-py rows-sh-txt no-rows any-lead ∷ []) ∷
+    key Extension (codes "ado") false (reading is-text-x-stata Text no-rows rows-txt no-rows any-lead ∷ []) ∷
+    [])
+    ∷ (
+    key Whole (codes "md5sums") false (reading is-text-x-checksums Text no-rows rows-txt no-rows any-lead ∷ []) ∷
+    key Extension (codes "md5sums") false (reading is-text-x-checksums Text no-rows rows-txt no-rows any-lead ∷ []) ∷
+    [])
+    ∷ (
+    key Extension (codes "fth") false (reading is-text-x-forth Text no-rows rows-sh-txt no-rows any-lead ∷ []) ∷
+    key Extension (codes "iff") false (reading is-image-x-ilbm Bytes no-rows no-rows no-rows any-lead ∷ []) ∷
+    [])
+    ∷ (
+    key Extension (codes "a51") false (reading is-text-x-asm Text no-rows rows-txt no-rows any-lead ∷ []) ∷
+    key Extension (codes "dsf") false (reading is-audio-x-dsf Signature rows-dsf no-rows no-rows any-lead ∷ []) ∷
+    key Extension (codes "g") false (reading is-text-plain Text rows-txt no-rows text-rows any-lead ∷ []) ∷
+    key Extension (codes "ged") false (reading is-text-vnd-familysearch-gedcom Text no-rows rows-txt no-rows any-lead ∷ []) ∷
+    key Extension (codes "hcl") false (reading is-text-x-hcl Text no-rows rows-txt no-rows any-lead ∷ []) ∷
+    key Extension (codes "hwpx") false (reading is-application-x-hwpx Bytes no-rows rows-zip no-rows any-lead ∷ []) ∷
+    key Whole (codes "jsconfig.json") false (reading is-application-x-jsonc Text no-rows rows-txt rows-json any-lead ∷ []) ∷
+    key Extension (codes "sketch") false (reading is-application-x-sketch Signature no-rows rows-zip no-rows any-lead ∷ []) ∷
+    key Extension (codes "wmf") false (reading is-image-wmf Bytes no-rows no-rows no-rows any-lead ∷ []) ∷
+    [])
+    ∷ (
+    key Extension (codes "cpl") false (reading is-application-vnd-microsoft-portable-executable Signature rows-exe no-rows no-rows any-lead ∷ []) ∷
+    key Extension (codes "gts") false (reading is-text-x-gerber Text no-rows rows-txt no-rows any-lead ∷ []) ∷
+    key Extension (codes "otg") false (reading is-application-vnd-oasis-opendocument-graphics-template Signature no-rows rows-odg-zip no-rows any-lead ∷ []) ∷
+    key Extension (codes "pro") false (reading is-text-plain Text rows-txt no-rows text-rows any-lead ∷ []) ∷
+    key Extension (codes "qpw") false (reading is-application-x-quattropro Bytes no-rows rows-application-x-ole-storage no-rows any-lead ∷ []) ∷
+    [])
+    ∷ (
+    key Extension (codes "chpl") false (reading is-text-x-chapel Text no-rows rows-sh-txt no-rows any-lead ∷ []) ∷
+    key Extension (codes "directory") false (reading is-application-x-desktop Text no-rows rows-txt no-rows any-lead ∷ []) ∷
+    key Extension (codes "gv") false (reading is-text-vnd-graphviz Text no-rows rows-txt no-rows any-lead ∷ []) ∷
+    key Extension (codes "pyd") false (reading is-application-vnd-microsoft-portable-executable Signature rows-exe no-rows no-rows any-lead ∷ []) ∷
+    key Extension (codes "ras") false (reading is-image-x-cmu-raster Bytes no-rows no-rows no-rows any-lead ∷ []) ∷
+    [])
+    ∷ (
+    key Whole (codes ".swcrc") false (reading is-application-x-jsonc Text no-rows rows-txt rows-json any-lead ∷ []) ∷
+    key Extension (codes "m2p") false (reading is-video-mpeg Bytes rows-mpg no-rows no-rows any-lead ∷ []) ∷
+    key Extension (codes "xproc") false (reading is-application-xproc-xml Text no-rows rows-html-txt-xhtml-xml no-rows leads-10 ∷ []) ∷
+    [])
+    ∷ (
+    key Whole (codes ".jscsrc") false (reading is-application-x-jsonc Text no-rows rows-txt rows-json any-lead ∷ []) ∷
+    key Extension (codes "launch") false (reading is-application-x-eclipse-xml Text no-rows rows-html-txt-xhtml-xml no-rows leads-10 ∷ []) ∷
+    key Extension (codes "vsd") false (reading is-application-vnd-visio Signature rows-vsd rows-application-x-ole-storage no-rows any-lead ∷ []) ∷
+    [])
+    ∷ (
+    key Extension (codes "3pm") false (reading is-text-troff Text no-rows rows-txt no-rows any-lead ∷ []) ∷
+    key Extension (codes "ada") false (reading is-text-x-adasrc Text no-rows rows-txt no-rows any-lead ∷ []) ∷
+    key Extension (codes "m4s") false (reading is-video-mp4 Bytes rows-mp4 rows-heif rows-3g2-3gp-f4v-m4a-m4b-m4v-mov any-lead ∷ []) ∷
+    [])
+    ∷ (
+    key Extension (codes "agda") false (reading is-text-x-agda Text no-rows rows-txt no-rows any-lead ∷ []) ∷
+    key Extension (codes "asp") false (reading is-application-x-asp Text no-rows rows-html-json-php-svg-txt-xhtml-xml no-rows any-lead ∷ []) ∷
+    key Whole (codes "rakefile") false (reading is-text-x-ruby Text rows-rb rows-sh-txt no-rows any-lead ∷ []) ∷
+    [])
+    ∷ (
+    key Extension (codes "cbt") false (reading is-application-x-cbt Signature no-rows rows-tar no-rows any-lead ∷ []) ∷
+    key Extension (codes "eclass") false (reading is-text-x-ebuild Text no-rows rows-txt no-rows any-lead ∷ []) ∷
+    key Extension (codes "grb") false (reading is-application-x-grib Bytes no-rows no-rows no-rows any-lead ∷ []) ∷
+    key Extension (codes "mawk") false (reading is-text-x-awk Text rows-awk rows-sh-txt no-rows any-lead ∷ []) ∷
+    [])
+    ∷ (
+    key Extension (codes "aar") false (reading is-application-x-android-archive Signature no-rows rows-apk-jar-zip no-rows any-lead ∷ []) ∷
+    key Extension (codes "pkl") false (reading is-application-x-python-pickle Bytes no-rows no-rows no-rows any-lead ∷ []) ∷
+    [])
+    ∷ (
+    key Extension (codes "asar") false (reading is-application-x-asar Bytes no-rows no-rows no-rows any-lead ∷ []) ∷
+    key Extension (codes "cxx") false (reading is-text-x-c-src Text no-rows rows-txt no-rows any-lead ∷ []) ∷
+    key Extension (codes "ny") false (reading is-text-x-common-lisp Text no-rows rows-sh-txt no-rows any-lead ∷ []) ∷
+    [])
+    ∷ (
+    key Extension (codes "aj") false (reading is-text-x-java Text no-rows rows-txt no-rows any-lead ∷ []) ∷
+    key Extension (codes "f95") false (reading is-text-x-fortran Text no-rows rows-txt no-rows any-lead ∷ []) ∷
+    key Extension (codes "nex") false (reading is-text-x-newick Text no-rows rows-txt no-rows any-lead ∷ []) ∷
+    key Extension (codes "turtle") false (reading is-text-turtle Text no-rows rows-txt no-rows any-lead ∷ []) ∷
+    key Extension (codes "zone") false (reading is-text-x-dns-zone Text no-rows rows-txt no-rows any-lead ∷ []) ∷
+    [])
+    ∷ (
+    key Whole (codes "authorized_keys") false (reading is-text-plain Text rows-txt no-rows text-rows any-lead ∷ []) ∷
+    key Extension (codes "textile") false (reading is-text-x-textile Text no-rows rows-txt no-rows any-lead ∷ []) ∷
+    key Extension (codes "tfstate") false (reading is-application-x-terraform-state-json Text no-rows rows-json no-rows any-lead ∷ []) ∷
+    [])
+    ∷ []

@@ -1,6 +1,6 @@
-//! Made by `tools/tables` from names.txt: the keys of all slots, sixteen a group.
-ghost use Rattle.std.specs.Prelude.{◌≡◌, ◌<◌, [], get_or, map};
-ghost use Rattle.infer_named.specs.Listed.{key_listed};
+//! Made by `tools/tables` from names.txt: the keys of all slots, 16 a group, and what their numbers mean.
+ghost use Rattle.std.specs.Prelude.{◌≡◌, ◌<◌, [], get_or};
+ghost use Rattle.infer_named.specs.Listed.{slots_listed};
 ghost use Rattle.infer_named.specs.Table.{groups};
 
 use crate::table::Key;
@@ -37,46 +37,47 @@ mod g28;
 mod g29;
 mod g30;
 mod g31;
+pub(super) mod sets;
+pub(super) mod types;
 
-/// The keys of a slot of a group.
+/// The keys of the slots of a group.
 #[tactic(auto, unfolding(crate::specs::Table::groups))]
-pub(super) fn slot(group: usize, place: usize) -> &'static [Key]
-    requires group { group < 32 }
-    requires place { place < 16 }
-    ensures { map key_listed result.now ≡ get_or (get_or groups group []) place [] }
+pub(super) fn group(number: usize) -> &'static [&'static [Key]]
+    requires { number < 32 }
+    ensures { slots_listed result.now ≡ get_or groups number [] }
 {
-    match group {
-        0 => g00::slot(place),
-        1 => g01::slot(place),
-        2 => g02::slot(place),
-        3 => g03::slot(place),
-        4 => g04::slot(place),
-        5 => g05::slot(place),
-        6 => g06::slot(place),
-        7 => g07::slot(place),
-        8 => g08::slot(place),
-        9 => g09::slot(place),
-        10 => g10::slot(place),
-        11 => g11::slot(place),
-        12 => g12::slot(place),
-        13 => g13::slot(place),
-        14 => g14::slot(place),
-        15 => g15::slot(place),
-        16 => g16::slot(place),
-        17 => g17::slot(place),
-        18 => g18::slot(place),
-        19 => g19::slot(place),
-        20 => g20::slot(place),
-        21 => g21::slot(place),
-        22 => g22::slot(place),
-        23 => g23::slot(place),
-        24 => g24::slot(place),
-        25 => g25::slot(place),
-        26 => g26::slot(place),
-        27 => g27::slot(place),
-        28 => g28::slot(place),
-        29 => g29::slot(place),
-        30 => g30::slot(place),
-        _ => g31::slot(place),
+    match number {
+        0 => g00::slots(),
+        1 => g01::slots(),
+        2 => g02::slots(),
+        3 => g03::slots(),
+        4 => g04::slots(),
+        5 => g05::slots(),
+        6 => g06::slots(),
+        7 => g07::slots(),
+        8 => g08::slots(),
+        9 => g09::slots(),
+        10 => g10::slots(),
+        11 => g11::slots(),
+        12 => g12::slots(),
+        13 => g13::slots(),
+        14 => g14::slots(),
+        15 => g15::slots(),
+        16 => g16::slots(),
+        17 => g17::slots(),
+        18 => g18::slots(),
+        19 => g19::slots(),
+        20 => g20::slots(),
+        21 => g21::slots(),
+        22 => g22::slots(),
+        23 => g23::slots(),
+        24 => g24::slots(),
+        25 => g25::slots(),
+        26 => g26::slots(),
+        27 => g27::slots(),
+        28 => g28::slots(),
+        29 => g29::slots(),
+        30 => g30::slots(),
+        _ => g31::slots(),
     }
 }

@@ -1,279 +1,118 @@
 //! Made by `tools/tables` from names.txt: the keys of slots 16 to 31.
-ghost use Rattle.std.specs.Prelude.{◌≡◌, ◌<◌, [], get_or, map};
-ghost use Rattle.infer_named.specs.Listed.{key_listed};
-ghost use Rattle.infer_named.specs.Slots.G01.{group, slot_0, slot_1, slot_2, slot_3, slot_4, slot_5, slot_6, slot_7, slot_8, slot_9, slot_10, slot_11, slot_12, slot_13, slot_14, slot_15};
+ghost use Rattle.std.specs.Prelude.{◌≡◌};
+ghost use Rattle.infer_named.specs.Listed.{slots_listed};
+ghost use Rattle.infer_named.specs.Slots.G01.{group};
 
-use crate::table::Origin::{Known, Own, Row};
-use crate::table::{ANY, Asks, Key, NONE, NamedType, Part, Reading, TEXTS, is_loose, keys};
+use crate::table::{Asks, Key, Part, Reading, is_loose, keys};
 
-static SLOT_0: &[Key] = keys![
-    Strict Whole ".tmux.conf" [Own, "text/x-tmux-conf", Text, NONE, &["txt"], NONE, ANY];
-    Strict Extension "c" [Known, "text/x-csrc", Text, NONE, &["txt"], &["xpm"], ANY];
-    Strict Extension "hwp" [Known, "application/x-hwp", Signature, NONE, &["application/x-ole-storage"], NONE, ANY];
-    Strict Extension "rst" [Known, "text/x-rst", Text, NONE, &["txt"], NONE, ANY];
-    Strict Extension "story" [Known, "text/x-gherkin", Text, NONE, &["txt"], NONE, ANY];
-    Strict Extension "zsh" [Own, "application/x-zsh", Text, NONE, &["sh", "txt"], NONE, ANY];
+static SLOTS: [&[Key]; 16] = [
+    keys![
+        Strict Whole ".tmux.conf" [963 Text 0 246 0 0];
+        Strict Extension "c" [703 Text 0 246 275 0];
+        Strict Extension "hwp" [299 Signature 0 23 0 0];
+        Strict Extension "rst" [909 Text 0 246 0 0];
+        Strict Extension "story" [752 Text 0 246 0 0];
+        Strict Extension "zsh" [463 Text 0 227 0 0];
+    ],
+    keys![
+        Strict Extension "cc" [681 Text 0 246 0 0];
+        Strict Extension "dtsi" [717 Text 0 246 0 0];
+        Strict Extension "lnk" [351 Signature 136 0 0 0];
+        Strict Extension "rest" [909 Text 0 246 0 0];
+    ],
+    keys![
+        Strict Extension "ashx" [216 Text 0 108 0 0];
+        Strict Extension "cr" [700 Text 0 227 0 0];
+        Strict Extension "link" [953 Text 0 246 0 0];
+        Strict Extension "nqp" [892 Text 0 227 0 0];
+        Strict Extension "pef" [586 Signature 0 241 0 0];
+        Strict Whole "readme" [631 Text 246 0 31 0];
+    ],
+    keys![
+        Strict Extension "atom" [1 Text 33 113 0 10];
+        Strict Extension "avhdx" [445 Signature 252 0 0 0];
+        Strict Extension "flatpak" [107 Bytes 0 0 0 0];
+        Strict Extension "gvy" [765 Text 0 227 0 0];
+        Strict Extension "sfs" [183 Signature 233 0 0 0];
+    ],
+    keys![
+        Strict Extension "3p" [635 Text 0 246 0 0];
+        Strict Extension "bbappend" [674 Text 0 246 0 0];
+        Strict Extension "fodp" [156 Text 0 112 0 10];
+        Strict Extension "sqfs" [183 Signature 233 0 0 0];
+    ],
+    keys![
+        Strict Extension "as" [631 Text 246 0 31 0];
+        Strict Extension "bbl" [957 Text 0 210 0 0];
+        Strict Whole "gschemas.compiled" [294 Bytes 0 0 0 0];
+        Strict Extension "m4v" [1014 Bytes 149 158 0 0];
+        Strict Extension "psgi" [863 Text 200 227 0 0];
+    ],
+    keys![
+        Strict Extension "3gpp" [997 Bytes 3 158 0 0];
+        Strict Extension "ass" [941 Text 0 246 0 0];
+        Strict Extension "h264" [1000 Bytes 0 0 0 0];
+        Strict Extension "java" [787 Text 0 246 0 0];
+        Strict Extension "jsonl" [363 Text 162 125 0 0];
+        Strict Extension "mp4v" [1004 Bytes 158 106 2 0];
+    ],
+    keys![
+        Strict Extension "drawio" [250 Text 0 112 0 10];
+        Strict Extension "mdwn" [627 Text 0 108 0 0];
+        Strict Extension "ppa" [131 Signature 205 23 0 0];
+        Strict Whole "robots.txt" [631 Text 246 0 31 0];
+        Strict Extension "sha512" [688 Text 0 246 0 0];
+    ],
+    keys![
+        Strict Whole "copying" [631 Text 246 0 31 0];
+        Strict Extension "gms" [742 Text 0 246 0 0];
+        Strict Extension "h++" [680 Text 0 246 0 0];
+        Strict Extension "ncx" [251 Text 0 112 0 10];
+        Strict Extension "vcl" [976 Text 0 246 0 0];
+        Strict Extension "wat" [983 Text 0 246 0 0];
+        Strict Extension "woff" [15 Bytes 266 0 0 0];
+    ],
+    keys![
+        Strict Extension "mp2" [485 Bytes 157 0 0 0];
+        Strict Extension "sxc" [184 Signature 0 277 0 0];
+    ],
+    keys![
+        Strict Extension "bufr" [225 Bytes 0 0 0 0];
+        Strict Whole "licence" [631 Text 246 0 31 0];
+        Strict Whole "license" [631 Text 246 0 31 0];
+        Strict Extension "mjp2" [1002 Bytes 0 121 0 0];
+        Strict Extension "s3db" [182 Signature 232 0 94 0];
+        Strict Extension "veo" [978 Text 0 246 0 0];
+    ],
+    keys![
+        Strict Extension "ascx" [216 Text 0 108 0 0];
+        Strict Extension "ent" [470 Text 0 113 0 0];
+        Strict Extension "epsf" [568 Text 78 208 0 0];
+        Strict Extension "itcl" [955 Text 239 227 0 0];
+        Strict Extension "xht" [466 Text 271 113 0 10];
+    ],
+    keys![
+        Strict Extension "nse" [816 Text 137 227 0 0];
+        Strict Extension "sas" [913 Text 0 246 0 0];
+        Strict Extension "sh" [925 Text 226 246 0 0];
+        Strict Extension "x3f" [594 Bytes 0 0 0 0];
+    ],
+    keys![
+        Strict Extension "lrc" [33 Text 0 246 0 0];
+        Strict Extension "mkiv" [957 Text 0 210 0 0];
+    ],
+    keys![
+        Strict Extension "fastq" [733 Text 0 246 0 0];
+        Strict Extension "xql" [472 Text 0 247 0 0];
+    ],
+    keys![
+        Strict Extension "rgen" [757 Text 0 246 0 0];
+    ],
 ];
-
-#[tactic(auto, unfolding(crate::specs::Slots::G01::slot_0))]
-#[inline(always)]
-fn slot_0() -> &'static [Key]
-    ensures { map key_listed result.now ≡ slot_0 }
-{
-    SLOT_0
-}
-
-static SLOT_1: &[Key] = keys![
-    Strict Extension "cc" [Known, "text/x-c++src", Text, NONE, &["txt"], NONE, ANY];
-    Strict Extension "dtsi" [Own, "text/x-dts", Text, NONE, &["txt"], NONE, ANY];
-    Strict Extension "lnk" [Row("lnk"), "application/x-ms-shortcut", Signature, &["lnk"], NONE, NONE, ANY];
-    Strict Extension "rest" [Known, "text/x-rst", Text, NONE, &["txt"], NONE, ANY];
-];
-
-#[tactic(auto, unfolding(crate::specs::Slots::G01::slot_1))]
-#[inline(always)]
-fn slot_1() -> &'static [Key]
-    ensures { map key_listed result.now ≡ slot_1 }
-{
-    SLOT_1
-}
-
-static SLOT_2: &[Key] = keys![
-    Strict Extension "ashx" [Known, "application/x-aspx", Text, NONE, &["html", "json", "php", "svg", "txt", "xhtml", "xml"], NONE, ANY];
-    Strict Extension "cr" [Known, "text/x-crystal", Text, NONE, &["sh", "txt"], NONE, ANY];
-    Strict Extension "link" [Known, "text/x-systemd-unit", Text, NONE, &["txt"], NONE, ANY];
-    Strict Extension "nqp" [Own, "text/x-raku", Text, NONE, &["sh", "txt"], NONE, ANY];
-    Strict Extension "pef" [Known, "image/x-pentax-pef", Signature, NONE, &["tif"], NONE, ANY];
-    Strict Whole "readme" [Row("txt"), "text/plain", Text, &["txt"], NONE, TEXTS, ANY];
-];
-
-#[tactic(auto, unfolding(crate::specs::Slots::G01::slot_2))]
-#[inline(always)]
-fn slot_2() -> &'static [Key]
-    ensures { map key_listed result.now ≡ slot_2 }
-{
-    SLOT_2
-}
-
-static SLOT_3: &[Key] = keys![
-    Strict Extension "atom" [Row("atom"), "application/atom+xml", Text, &["atom"], &["html", "txt", "xml"], NONE, &[b"<"]];
-    Strict Extension "avhdx" [Row("vhdx"), "application/x-vhdx-disk", Signature, &["vhdx"], NONE, NONE, ANY];
-    Strict Extension "flatpak" [Known, "application/vnd.flatpak", Bytes, NONE, NONE, NONE, ANY];
-    Strict Extension "gvy" [Known, "text/x-groovy", Text, NONE, &["sh", "txt"], NONE, ANY];
-    Strict Extension "sfs" [Row("squashfs"), "application/vnd.squashfs", Signature, &["squashfs"], NONE, NONE, ANY];
-];
-
-#[tactic(auto, unfolding(crate::specs::Slots::G01::slot_3))]
-#[inline(always)]
-fn slot_3() -> &'static [Key]
-    ensures { map key_listed result.now ≡ slot_3 }
-{
-    SLOT_3
-}
-
-static SLOT_4: &[Key] = keys![
-    Strict Extension "3p" [Known, "text/troff", Text, NONE, &["txt"], NONE, ANY];
-    Strict Extension "bbappend" [Own, "text/x-bitbake", Text, NONE, &["txt"], NONE, ANY];
-    Strict Extension "fodp" [Known, "application/vnd.oasis.opendocument.presentation-flat-xml", Text, NONE, &["html", "txt", "xhtml", "xml"], NONE, &[b"<"]];
-    Strict Extension "sqfs" [Row("squashfs"), "application/vnd.squashfs", Signature, &["squashfs"], NONE, NONE, ANY];
-];
-
-#[tactic(auto, unfolding(crate::specs::Slots::G01::slot_4))]
-#[inline(always)]
-fn slot_4() -> &'static [Key]
-    ensures { map key_listed result.now ≡ slot_4 }
-{
-    SLOT_4
-}
-
-static SLOT_5: &[Key] = keys![
-    Strict Extension "as" [Row("txt"), "text/plain", Text, &["txt"], NONE, TEXTS, ANY];
-    Strict Extension "bbl" [Known, "text/x-tex", Text, NONE, &["ps", "txt"], NONE, ANY];
-    Strict Whole "gschemas.compiled" [Own, "application/x-gschema-compiled", Bytes, NONE, NONE, NONE, ANY];
-    Strict Extension "m4v" [Row("m4v"), "video/x-m4v", Bytes, &["m4v"], &["mp4"], NONE, ANY];
-    Strict Extension "psgi" [Row("pl"), "text/x-perl", Text, &["pl"], &["sh", "txt"], NONE, ANY];
-];
-
-#[tactic(auto, unfolding(crate::specs::Slots::G01::slot_5))]
-#[inline(always)]
-fn slot_5() -> &'static [Key]
-    ensures { map key_listed result.now ≡ slot_5 }
-{
-    SLOT_5
-}
-
-static SLOT_6: &[Key] = keys![
-    Strict Extension "3gpp" [Row("3gp"), "video/3gpp", Bytes, &["3gp"], &["mp4"], NONE, ANY];
-    Strict Extension "ass" [Known, "text/x-ssa", Text, NONE, &["txt"], NONE, ANY];
-    Strict Extension "h264" [Own, "video/h264", Bytes, NONE, NONE, NONE, ANY];
-    Strict Extension "java" [Known, "text/x-java", Text, NONE, &["txt"], NONE, ANY];
-    Strict Extension "jsonl" [Row("ndjson"), "application/x-ndjson", Text, &["ndjson"], &["json"], NONE, ANY];
-    Strict Extension "mp4v" [Row("mp4"), "video/mp4", Bytes, &["mp4"], &["heif"], &["3g2", "3gp", "f4v", "m4a", "m4b", "m4v", "mov"], ANY];
-];
-
-#[tactic(auto, unfolding(crate::specs::Slots::G01::slot_6))]
-#[inline(always)]
-fn slot_6() -> &'static [Key]
-    ensures { map key_listed result.now ≡ slot_6 }
-{
-    SLOT_6
-}
-
-static SLOT_7: &[Key] = keys![
-    Strict Extension "drawio" [Own, "application/x-drawio+xml", Text, NONE, &["html", "txt", "xhtml", "xml"], NONE, &[b"<"]];
-    Strict Extension "mdwn" [Known, "text/markdown", Text, NONE, &["html", "json", "php", "svg", "txt", "xhtml", "xml"], NONE, ANY];
-    Strict Extension "ppa" [Row("ppt"), "application/vnd.ms-powerpoint", Signature, &["ppt"], &["application/x-ole-storage"], NONE, ANY];
-    Strict Whole "robots.txt" [Row("txt"), "text/plain", Text, &["txt"], NONE, TEXTS, ANY];
-    Strict Extension "sha512" [Own, "text/x-checksums", Text, NONE, &["txt"], NONE, ANY];
-];
-
-#[tactic(auto, unfolding(crate::specs::Slots::G01::slot_7))]
-#[inline(always)]
-fn slot_7() -> &'static [Key]
-    ensures { map key_listed result.now ≡ slot_7 }
-{
-    SLOT_7
-}
-
-static SLOT_8: &[Key] = keys![
-    Strict Whole "copying" [Row("txt"), "text/plain", Text, &["txt"], NONE, TEXTS, ANY];
-    Strict Extension "gms" [Own, "text/x-gams", Text, NONE, &["txt"], NONE, ANY];
-    Strict Extension "h++" [Known, "text/x-c++hdr", Text, NONE, &["txt"], NONE, ANY];
-    Strict Extension "ncx" [Own, "application/x-dtbncx+xml", Text, NONE, &["html", "txt", "xhtml", "xml"], NONE, &[b"<"]];
-    Strict Extension "vcl" [Own, "text/x-vcl", Text, NONE, &["txt"], NONE, ANY];
-    Strict Extension "wat" [Own, "text/x-wat", Text, NONE, &["txt"], NONE, ANY];
-    Strict Extension "woff" [Row("woff"), "application/font-woff", Bytes, &["woff"], NONE, NONE, ANY];
-];
-
-#[tactic(auto, unfolding(crate::specs::Slots::G01::slot_8))]
-#[inline(always)]
-fn slot_8() -> &'static [Key]
-    ensures { map key_listed result.now ≡ slot_8 }
-{
-    SLOT_8
-}
-
-static SLOT_9: &[Key] = keys![
-    Strict Extension "mp2" [Row("mp3"), "audio/mpeg", Bytes, &["mp3"], NONE, NONE, ANY];
-    Strict Extension "sxc" [Known, "application/vnd.sun.xml.calc", Signature, NONE, &["zip"], NONE, ANY];
-];
-
-#[tactic(auto, unfolding(crate::specs::Slots::G01::slot_9))]
-#[inline(always)]
-fn slot_9() -> &'static [Key]
-    ensures { map key_listed result.now ≡ slot_9 }
-{
-    SLOT_9
-}
-
-static SLOT_10: &[Key] = keys![
-    Strict Extension "bufr" [Own, "application/x-bufr", Bytes, NONE, NONE, NONE, ANY];
-    Strict Whole "licence" [Row("txt"), "text/plain", Text, &["txt"], NONE, TEXTS, ANY];
-    Strict Whole "license" [Row("txt"), "text/plain", Text, &["txt"], NONE, TEXTS, ANY];
-    Strict Extension "mjp2" [Known, "video/mj2", Bytes, NONE, &["jp2"], NONE, ANY];
-    Strict Extension "s3db" [Row("sqlite"), "application/vnd.sqlite3", Signature, &["sqlite"], NONE, &["gpkg"], ANY];
-    Strict Extension "veo" [Known, "text/x-verilog", Text, NONE, &["txt"], NONE, ANY];
-];
-
-#[tactic(auto, unfolding(crate::specs::Slots::G01::slot_10))]
-#[inline(always)]
-fn slot_10() -> &'static [Key]
-    ensures { map key_listed result.now ≡ slot_10 }
-{
-    SLOT_10
-}
-
-static SLOT_11: &[Key] = keys![
-    Strict Extension "ascx" [Known, "application/x-aspx", Text, NONE, &["html", "json", "php", "svg", "txt", "xhtml", "xml"], NONE, ANY];
-    Strict Extension "ent" [Known, "application/xml-external-parsed-entity", Text, NONE, &["html", "txt", "xml"], NONE, ANY];
-    Strict Extension "epsf" [Row("eps"), "image/x-eps", Text, &["eps"], &["ps"], NONE, ANY];
-    Strict Extension "itcl" [Row("tcl"), "text/x-tcl", Text, &["tcl"], &["sh", "txt"], NONE, ANY];
-    Strict Extension "xht" [Row("xhtml"), "application/xhtml+xml", Text, &["xhtml"], &["html", "txt", "xml"], NONE, &[b"<"]];
-];
-
-#[tactic(auto, unfolding(crate::specs::Slots::G01::slot_11))]
-#[inline(always)]
-fn slot_11() -> &'static [Key]
-    ensures { map key_listed result.now ≡ slot_11 }
-{
-    SLOT_11
-}
-
-static SLOT_12: &[Key] = keys![
-    Strict Extension "nse" [Row("lua"), "text/x-lua", Text, &["lua"], &["sh", "txt"], NONE, ANY];
-    Strict Extension "sas" [Known, "text/x-sas", Text, NONE, &["txt"], NONE, ANY];
-    Strict Extension "sh" [Row("sh"), "text/x-shellscript", Text, &["sh"], &["txt"], NONE, ANY];
-    Strict Extension "x3f" [Known, "image/x-sigma-x3f", Bytes, NONE, NONE, NONE, ANY];
-];
-
-#[tactic(auto, unfolding(crate::specs::Slots::G01::slot_12))]
-#[inline(always)]
-fn slot_12() -> &'static [Key]
-    ensures { map key_listed result.now ≡ slot_12 }
-{
-    SLOT_12
-}
-
-static SLOT_13: &[Key] = keys![
-    Strict Extension "lrc" [Own, "application/lrc", Text, NONE, &["txt"], NONE, ANY];
-    Strict Extension "mkiv" [Known, "text/x-tex", Text, NONE, &["ps", "txt"], NONE, ANY];
-];
-
-#[tactic(auto, unfolding(crate::specs::Slots::G01::slot_13))]
-#[inline(always)]
-fn slot_13() -> &'static [Key]
-    ensures { map key_listed result.now ≡ slot_13 }
-{
-    SLOT_13
-}
-
-static SLOT_14: &[Key] = keys![
-    Strict Extension "fastq" [Own, "text/x-fastq", Text, NONE, &["txt"], NONE, ANY];
-    Strict Extension "xql" [Known, "application/xquery", Text, NONE, &["txt", "xml"], NONE, ANY];
-];
-
-#[tactic(auto, unfolding(crate::specs::Slots::G01::slot_14))]
-#[inline(always)]
-fn slot_14() -> &'static [Key]
-    ensures { map key_listed result.now ≡ slot_14 }
-{
-    SLOT_14
-}
-
-static SLOT_15: &[Key] = keys![
-    Strict Extension "rgen" [Own, "text/x-glsl", Text, NONE, &["txt"], NONE, ANY];
-];
-
-#[tactic(auto, unfolding(crate::specs::Slots::G01::slot_15))]
-#[inline(always)]
-fn slot_15() -> &'static [Key]
-    ensures { map key_listed result.now ≡ slot_15 }
-{
-    SLOT_15
-}
 
 #[tactic(auto, unfolding(crate::specs::Slots::G01::group))]
-#[inline(always)]
-pub(super) fn slot(place: usize) -> &'static [Key]
-    requires { place < 16 }
-    ensures { map key_listed result.now ≡ get_or group place [] }
+pub(super) fn slots() -> &'static [&'static [Key]]
+    ensures { slots_listed result.now ≡ group }
 {
-    match place {
-        0 => slot_0(),
-        1 => slot_1(),
-        2 => slot_2(),
-        3 => slot_3(),
-        4 => slot_4(),
-        5 => slot_5(),
-        6 => slot_6(),
-        7 => slot_7(),
-        8 => slot_8(),
-        9 => slot_9(),
-        10 => slot_10(),
-        11 => slot_11(),
-        12 => slot_12(),
-        13 => slot_13(),
-        14 => slot_14(),
-        _ => slot_15(),
-    }
+    &SLOTS
 }

@@ -1,276 +1,115 @@
 //! Made by `tools/tables` from names.txt: the keys of slots 240 to 255.
-ghost use Rattle.std.specs.Prelude.{◌≡◌, ◌<◌, [], get_or, map};
-ghost use Rattle.infer_named.specs.Listed.{key_listed};
-ghost use Rattle.infer_named.specs.Slots.G15.{group, slot_0, slot_1, slot_2, slot_3, slot_4, slot_5, slot_6, slot_7, slot_8, slot_9, slot_10, slot_11, slot_12, slot_13, slot_14, slot_15};
+ghost use Rattle.std.specs.Prelude.{◌≡◌};
+ghost use Rattle.infer_named.specs.Listed.{slots_listed};
+ghost use Rattle.infer_named.specs.Slots.G15.{group};
 
-use crate::table::Origin::{Known, Own, Row};
-use crate::table::{ANY, Asks, Key, NONE, NamedType, Part, Reading, TEXTS, is_loose, keys};
+use crate::table::{Asks, Key, Part, Reading, is_loose, keys};
 
-static SLOT_0: &[Key] = keys![
-    Strict Extension "cir" [Own, "text/x-spice", Text, NONE, &["txt"], NONE, ANY];
-    Strict Extension "jsx" [Row("js"), "text/javascript", Text, &["js"], &["json", "sh", "txt"], NONE, ANY];
-    Strict Extension "wma" [Known, "audio/x-ms-wma", Signature, NONE, &["wmv"], NONE, ANY];
-    Strict Extension "xliff" [Known, "application/xliff+xml", Text, NONE, &["html", "txt", "xhtml", "xml"], NONE, &[b"<"]];
+static SLOTS: [&[Key]; 16] = [
+    keys![
+        Strict Extension "cir" [938 Text 0 246 0 0];
+        Strict Extension "jsx" [626 Text 124 128 0 0];
+        Strict Extension "wma" [510 Signature 0 265 0 0];
+        Strict Extension "xliff" [467 Text 0 112 0 10];
+    ],
+    keys![
+        Strict Extension "njs" [626 Text 124 128 0 0];
+        Strict Extension "prj" [985 Text 0 246 0 0];
+        Strict Extension "sxi" [186 Signature 0 277 0 0];
+    ],
+    keys![
+        Strict Extension "3gp" [997 Bytes 3 158 0 0];
+        Strict Extension "ggb" [109 Signature 0 277 0 0];
+        Strict Extension "iws" [303 Text 0 112 0 10];
+        Strict Extension "pcapng" [379 Signature 194 0 0 0];
+        Strict Extension "swiftdoc" [424 Bytes 0 0 0 0];
+        Strict Extension "xml" [996 Text 274 111 34 10];
+    ],
+    keys![
+        Strict Extension "dpr" [860 Text 0 246 0 0];
+        Strict Extension "gbp" [747 Text 0 246 0 0];
+        Strict Extension "txt" [631 Text 246 0 31 0];
+        Strict Extension "xaml" [465 Text 0 112 0 10];
+    ],
+    keys![
+        Strict Extension "cmx" [231 Bytes 0 76 0 0];
+        Strict Extension "dwg" [553 Signature 74 0 0 0];
+        Strict Extension "kml" [110 Text 133 113 0 10];
+        Strict Extension "potm" [134 Signature 0 24 0 0];
+        Strict Extension "pptm" [132 Signature 0 24 0 0];
+        Strict Extension "text" [631 Text 246 0 31 0];
+    ],
+    keys![
+        Strict Extension "bz2" [227 Signature 46 0 0 0];
+        Strict Extension "gds" [277 Bytes 0 0 0 0];
+        Strict Extension "jmod" [310 Signature 119 0 0 0];
+        Loose Extension "ko" [370 Signature 165 75 0 0];
+        Strict Whole "locale-archive" [326 Bytes 0 0 0 0];
+        Strict Extension "odg" [151 Signature 168 277 0 0];
+        Strict Extension "tflite" [432 Bytes 0 0 0 0];
+    ],
+    keys![
+        Strict Extension "csproj" [355 Text 0 112 0 10];
+        Strict Extension "metalink" [37 Text 0 112 0 10];
+    ],
+    keys![
+        Strict Extension "dtx" [957 Text 0 210 0 0];
+        Strict Extension "f08" [738 Text 0 246 0 0];
+        Strict Extension "psid" [489 Bytes 0 0 0 0];
+        Strict Extension "psm1" [386 Text 0 227 0 0];
+        Strict Extension "thy" [785 Text 0 246 0 0];
+        Strict Whole "tslint.json" [317 Text 0 246 125 0];
+    ],
+    keys![
+        Strict Extension "bsv" [676 Text 0 246 0 0];
+        Strict Extension "dotx" [172 Signature 0 72 0 0];
+        Strict Extension "myi" [359 Bytes 0 0 0 0];
+        Strict Extension "xfdf" [86 Text 0 112 0 10];
+    ],
+    keys![
+        Strict Extension "cdr" [103 Bytes 0 0 0 0];
+        Strict Extension "ipp" [681 Text 0 246 0 0];
+    ],
+    keys![
+        Strict Extension "cmxs" [231 Bytes 0 76 0 0];
+        Strict Extension "f90" [738 Text 0 246 0 0];
+        Strict Extension "gb" [273 Bytes 0 0 0 0];
+        Strict Extension "nes" [365 Signature 163 0 0 0];
+    ],
+    keys![
+        Strict Extension "1ssl" [635 Text 0 246 0 0];
+        Loose Extension "expect" [730 Text 0 227 0 0];
+        Strict Extension "r" [908 Text 0 227 0 0];
+    ],
+    keys![
+        Strict Extension "fsi" [741 Text 0 246 0 0];
+        Strict Extension "pom" [821 Text 0 112 0 10];
+        Loose Extension "tst" [852 Text 0 208 0 0] [631 Text 246 0 31 0];
+    ],
+    keys![
+        Loose Extension "3ds" [562 Bytes 0 0 0 0];
+        Strict Extension "db3" [182 Signature 232 0 94 0];
+        Strict Whole "mime.cache" [345 Bytes 0 0 0 0];
+        Strict Extension "mpc" [511 Signature 159 0 0 0];
+        Strict Extension "tzst" [464 Signature 0 278 0 0];
+    ],
+    keys![
+        Loose Extension "com" [233 Bytes 0 82 0 0] [631 Text 246 0 31 0];
+        Strict Extension "swo" [447 Bytes 0 0 0 0];
+        Strict Extension "vim" [980 Text 0 246 0 0];
+    ],
+    keys![
+        Strict Extension "hdp" [557 Signature 131 0 0 0];
+        Strict Extension "ivy" [206 Text 0 112 0 10];
+        Strict Extension "pdd" [551 Signature 211 0 0 0];
+        Strict Extension "ps" [63 Text 208 246 78 2];
+        Strict Whole "thumbs.db" [435 Signature 0 23 0 0];
+    ],
 ];
-
-#[tactic(auto, unfolding(crate::specs::Slots::G15::slot_0))]
-#[inline(always)]
-fn slot_0() -> &'static [Key]
-    ensures { map key_listed result.now ≡ slot_0 }
-{
-    SLOT_0
-}
-
-static SLOT_1: &[Key] = keys![
-    Strict Extension "njs" [Row("js"), "text/javascript", Text, &["js"], &["json", "sh", "txt"], NONE, ANY];
-    Strict Extension "prj" [Own, "text/x-wkt", Text, NONE, &["txt"], NONE, ANY];
-    Strict Extension "sxi" [Known, "application/vnd.sun.xml.impress", Signature, NONE, &["zip"], NONE, ANY];
-];
-
-#[tactic(auto, unfolding(crate::specs::Slots::G15::slot_1))]
-#[inline(always)]
-fn slot_1() -> &'static [Key]
-    ensures { map key_listed result.now ≡ slot_1 }
-{
-    SLOT_1
-}
-
-static SLOT_2: &[Key] = keys![
-    Strict Extension "3gp" [Row("3gp"), "video/3gpp", Bytes, &["3gp"], &["mp4"], NONE, ANY];
-    Strict Extension "ggb" [Known, "application/vnd.geogebra.file", Signature, NONE, &["zip"], NONE, ANY];
-    Strict Extension "iws" [Own, "application/x-intellij+xml", Text, NONE, &["html", "txt", "xhtml", "xml"], NONE, &[b"<"]];
-    Strict Extension "pcapng" [Row("pcapng"), "application/x-pcapng", Signature, &["pcapng"], NONE, NONE, ANY];
-    Strict Extension "swiftdoc" [Own, "application/x-swiftmodule", Bytes, NONE, NONE, NONE, ANY];
-    Strict Extension "xml" [Row("xml"), "text/xml", Text, &["xml"], &["html", "txt"], &["atom", "gpx", "kml", "plist", "rss", "svg", "xhtml"], &[b"<"]];
-];
-
-#[tactic(auto, unfolding(crate::specs::Slots::G15::slot_2))]
-#[inline(always)]
-fn slot_2() -> &'static [Key]
-    ensures { map key_listed result.now ≡ slot_2 }
-{
-    SLOT_2
-}
-
-static SLOT_3: &[Key] = keys![
-    Strict Extension "dpr" [Known, "text/x-pascal", Text, NONE, &["txt"], NONE, ANY];
-    Strict Extension "gbp" [Own, "text/x-gerber", Text, NONE, &["txt"], NONE, ANY];
-    Strict Extension "txt" [Row("txt"), "text/plain", Text, &["txt"], NONE, TEXTS, ANY];
-    Strict Extension "xaml" [Own, "application/xaml+xml", Text, NONE, &["html", "txt", "xhtml", "xml"], NONE, &[b"<"]];
-];
-
-#[tactic(auto, unfolding(crate::specs::Slots::G15::slot_3))]
-#[inline(always)]
-fn slot_3() -> &'static [Key]
-    ensures { map key_listed result.now ≡ slot_3 }
-{
-    SLOT_3
-}
-
-static SLOT_4: &[Key] = keys![
-    Strict Extension "cmx" [Own, "application/x-cmi", Bytes, NONE, &["elf", "so"], NONE, ANY];
-    Strict Extension "dwg" [Row("dwg"), "image/vnd.dwg", Signature, &["dwg"], NONE, NONE, ANY];
-    Strict Extension "kml" [Row("kml"), "application/vnd.google-earth.kml+xml", Text, &["kml"], &["html", "txt", "xml"], NONE, &[b"<"]];
-    Strict Extension "potm" [Known, "application/vnd.ms-powerpoint.template.macroEnabled.12", Signature, NONE, &["application/x-ole-storage", "pptx", "zip"], NONE, ANY];
-    Strict Extension "pptm" [Known, "application/vnd.ms-powerpoint.presentation.macroEnabled.12", Signature, NONE, &["application/x-ole-storage", "pptx", "zip"], NONE, ANY];
-    Strict Extension "text" [Row("txt"), "text/plain", Text, &["txt"], NONE, TEXTS, ANY];
-];
-
-#[tactic(auto, unfolding(crate::specs::Slots::G15::slot_4))]
-#[inline(always)]
-fn slot_4() -> &'static [Key]
-    ensures { map key_listed result.now ≡ slot_4 }
-{
-    SLOT_4
-}
-
-static SLOT_5: &[Key] = keys![
-    Strict Extension "bz2" [Row("bz2"), "application/x-bzip2", Signature, &["bz2"], NONE, NONE, ANY];
-    Strict Extension "gds" [Own, "application/x-gds", Bytes, NONE, NONE, NONE, ANY];
-    Strict Extension "jmod" [Row("jmod"), "application/x-java-jmod", Signature, &["jmod"], NONE, NONE, ANY];
-    Loose Extension "ko" [Row("o"), "application/x-object", Signature, &["o"], &["elf"], NONE, ANY];
-    Strict Whole "locale-archive" [Own, "application/x-locale-archive", Bytes, NONE, NONE, NONE, ANY];
-    Strict Extension "odg" [Row("odg"), "application/vnd.oasis.opendocument.graphics", Signature, &["odg"], &["zip"], NONE, ANY];
-    Strict Extension "tflite" [Own, "application/x-tflite", Bytes, NONE, NONE, NONE, ANY];
-];
-
-#[tactic(auto, unfolding(crate::specs::Slots::G15::slot_5))]
-#[inline(always)]
-fn slot_5() -> &'static [Key]
-    ensures { map key_listed result.now ≡ slot_5 }
-{
-    SLOT_5
-}
-
-static SLOT_6: &[Key] = keys![
-    Strict Extension "csproj" [Own, "application/x-msbuild+xml", Text, NONE, &["html", "txt", "xhtml", "xml"], NONE, &[b"<"]];
-    Strict Extension "metalink" [Known, "application/metalink+xml", Text, NONE, &["html", "txt", "xhtml", "xml"], NONE, &[b"<"]];
-];
-
-#[tactic(auto, unfolding(crate::specs::Slots::G15::slot_6))]
-#[inline(always)]
-fn slot_6() -> &'static [Key]
-    ensures { map key_listed result.now ≡ slot_6 }
-{
-    SLOT_6
-}
-
-static SLOT_7: &[Key] = keys![
-    Strict Extension "dtx" [Known, "text/x-tex", Text, NONE, &["ps", "txt"], NONE, ANY];
-    Strict Extension "f08" [Known, "text/x-fortran", Text, NONE, &["txt"], NONE, ANY];
-    Strict Extension "psid" [Known, "audio/prs.sid", Bytes, NONE, NONE, NONE, ANY];
-    Strict Extension "psm1" [Known, "application/x-powershell", Text, NONE, &["sh", "txt"], NONE, ANY];
-    Strict Extension "thy" [Own, "text/x-isabelle", Text, NONE, &["txt"], NONE, ANY];
-    Strict Whole "tslint.json" [Own, "application/x-jsonc", Text, NONE, &["txt"], &["json"], ANY];
-];
-
-#[tactic(auto, unfolding(crate::specs::Slots::G15::slot_7))]
-#[inline(always)]
-fn slot_7() -> &'static [Key]
-    ensures { map key_listed result.now ≡ slot_7 }
-{
-    SLOT_7
-}
-
-static SLOT_8: &[Key] = keys![
-    Strict Extension "bsv" [Own, "text/x-bluespec", Text, NONE, &["txt"], NONE, ANY];
-    Strict Extension "dotx" [Known, "application/vnd.openxmlformats-officedocument.wordprocessingml.template", Signature, NONE, &["docx", "application/x-ole-storage", "zip"], NONE, ANY];
-    Strict Extension "myi" [Own, "application/x-mysql-myisam", Bytes, NONE, NONE, NONE, ANY];
-    Strict Extension "xfdf" [Own, "application/vnd.adobe.xfdf", Text, NONE, &["html", "txt", "xhtml", "xml"], NONE, &[b"<"]];
-];
-
-#[tactic(auto, unfolding(crate::specs::Slots::G15::slot_8))]
-#[inline(always)]
-fn slot_8() -> &'static [Key]
-    ensures { map key_listed result.now ≡ slot_8 }
-{
-    SLOT_8
-}
-
-static SLOT_9: &[Key] = keys![
-    Strict Extension "cdr" [Known, "application/vnd.corel-draw", Bytes, NONE, NONE, NONE, ANY];
-    Strict Extension "ipp" [Known, "text/x-c++src", Text, NONE, &["txt"], NONE, ANY];
-];
-
-#[tactic(auto, unfolding(crate::specs::Slots::G15::slot_9))]
-#[inline(always)]
-fn slot_9() -> &'static [Key]
-    ensures { map key_listed result.now ≡ slot_9 }
-{
-    SLOT_9
-}
-
-static SLOT_10: &[Key] = keys![
-    Strict Extension "cmxs" [Own, "application/x-cmi", Bytes, NONE, &["elf", "so"], NONE, ANY];
-    Strict Extension "f90" [Known, "text/x-fortran", Text, NONE, &["txt"], NONE, ANY];
-    Strict Extension "gb" [Known, "application/x-gameboy-rom", Bytes, NONE, NONE, NONE, ANY];
-    Strict Extension "nes" [Row("nes"), "application/x-nintendo-nes-rom", Signature, &["nes"], NONE, NONE, ANY];
-];
-
-#[tactic(auto, unfolding(crate::specs::Slots::G15::slot_10))]
-#[inline(always)]
-fn slot_10() -> &'static [Key]
-    ensures { map key_listed result.now ≡ slot_10 }
-{
-    SLOT_10
-}
-
-static SLOT_11: &[Key] = keys![
-    Strict Extension "1ssl" [Known, "text/troff", Text, NONE, &["txt"], NONE, ANY];
-    Loose Extension "expect" [Own, "text/x-expect", Text, NONE, &["sh", "txt"], NONE, ANY];
-    Strict Extension "r" [Known, "text/x-rsrc", Text, NONE, &["sh", "txt"], NONE, ANY];
-];
-
-#[tactic(auto, unfolding(crate::specs::Slots::G15::slot_11))]
-#[inline(always)]
-fn slot_11() -> &'static [Key]
-    ensures { map key_listed result.now ≡ slot_11 }
-{
-    SLOT_11
-}
-
-static SLOT_12: &[Key] = keys![
-    Strict Extension "fsi" [Known, "text/x-fsharp", Text, NONE, &["txt"], NONE, ANY];
-    Strict Extension "pom" [Known, "text/x-maven+xml", Text, NONE, &["html", "txt", "xhtml", "xml"], NONE, &[b"<"]];
-    Loose Extension "tst" [Known, "text/x-octave", Text, NONE, &["ps"], NONE, ANY] [Row("txt"), "text/plain", Text, &["txt"], NONE, TEXTS, ANY];
-];
-
-#[tactic(auto, unfolding(crate::specs::Slots::G15::slot_12))]
-#[inline(always)]
-fn slot_12() -> &'static [Key]
-    ensures { map key_listed result.now ≡ slot_12 }
-{
-    SLOT_12
-}
-
-static SLOT_13: &[Key] = keys![
-    Loose Extension "3ds" [Known, "image/x-3ds", Bytes, NONE, NONE, NONE, ANY];
-    Strict Extension "db3" [Row("sqlite"), "application/vnd.sqlite3", Signature, &["sqlite"], NONE, &["gpkg"], ANY];
-    Strict Whole "mime.cache" [Own, "application/x-mimecache", Bytes, NONE, NONE, NONE, ANY];
-    Strict Extension "mpc" [Row("mpc"), "audio/x-musepack", Signature, &["mpc"], NONE, NONE, ANY];
-    Strict Extension "tzst" [Known, "application/x-zstd-compressed-tar", Signature, NONE, &["zst"], NONE, ANY];
-];
-
-#[tactic(auto, unfolding(crate::specs::Slots::G15::slot_13))]
-#[inline(always)]
-fn slot_13() -> &'static [Key]
-    ensures { map key_listed result.now ≡ slot_13 }
-{
-    SLOT_13
-}
-
-static SLOT_14: &[Key] = keys![
-    Loose Extension "com" [Own, "application/x-com-executable", Bytes, NONE, &["exe"], NONE, ANY] [Row("txt"), "text/plain", Text, &["txt"], NONE, TEXTS, ANY];
-    Strict Extension "swo" [Own, "application/x-vim-swap", Bytes, NONE, NONE, NONE, ANY];
-    Strict Extension "vim" [Own, "text/x-vim", Text, NONE, &["txt"], NONE, ANY];
-];
-
-#[tactic(auto, unfolding(crate::specs::Slots::G15::slot_14))]
-#[inline(always)]
-fn slot_14() -> &'static [Key]
-    ensures { map key_listed result.now ≡ slot_14 }
-{
-    SLOT_14
-}
-
-static SLOT_15: &[Key] = keys![
-    Strict Extension "hdp" [Row("jxr"), "image/vnd.ms-photo", Signature, &["jxr"], NONE, NONE, ANY];
-    Strict Extension "ivy" [Own, "application/x-ant+xml", Text, NONE, &["html", "txt", "xhtml", "xml"], NONE, &[b"<"]];
-    Strict Extension "pdd" [Row("psd"), "image/vnd.adobe.photoshop", Signature, &["psd"], NONE, NONE, ANY];
-    Strict Extension "ps" [Row("ps"), "application/postscript", Text, &["ps"], &["txt"], &["eps"], &[b"%"]];
-    Strict Whole "thumbs.db" [Own, "application/x-thumbs-db", Signature, NONE, &["application/x-ole-storage"], NONE, ANY];
-];
-
-#[tactic(auto, unfolding(crate::specs::Slots::G15::slot_15))]
-#[inline(always)]
-fn slot_15() -> &'static [Key]
-    ensures { map key_listed result.now ≡ slot_15 }
-{
-    SLOT_15
-}
 
 #[tactic(auto, unfolding(crate::specs::Slots::G15::group))]
-#[inline(always)]
-pub(super) fn slot(place: usize) -> &'static [Key]
-    requires { place < 16 }
-    ensures { map key_listed result.now ≡ get_or group place [] }
+pub(super) fn slots() -> &'static [&'static [Key]]
+    ensures { slots_listed result.now ≡ group }
 {
-    match place {
-        0 => slot_0(),
-        1 => slot_1(),
-        2 => slot_2(),
-        3 => slot_3(),
-        4 => slot_4(),
-        5 => slot_5(),
-        6 => slot_6(),
-        7 => slot_7(),
-        8 => slot_8(),
-        9 => slot_9(),
-        10 => slot_10(),
-        11 => slot_11(),
-        12 => slot_12(),
-        13 => slot_13(),
-        14 => slot_14(),
-        _ => slot_15(),
-    }
+    &SLOTS
 }

@@ -1,266 +1,105 @@
 //! Made by `tools/tables` from names.txt: the keys of slots 352 to 367.
-ghost use Rattle.std.specs.Prelude.{◌≡◌, ◌<◌, [], get_or, map};
-ghost use Rattle.infer_named.specs.Listed.{key_listed};
-ghost use Rattle.infer_named.specs.Slots.G22.{group, slot_0, slot_1, slot_2, slot_3, slot_4, slot_5, slot_6, slot_7, slot_8, slot_9, slot_10, slot_11, slot_12, slot_13, slot_14, slot_15};
+ghost use Rattle.std.specs.Prelude.{◌≡◌};
+ghost use Rattle.infer_named.specs.Listed.{slots_listed};
+ghost use Rattle.infer_named.specs.Slots.G22.{group};
 
-use crate::table::Origin::{Known, Own, Row};
-use crate::table::{ANY, Asks, Key, NONE, NamedType, Part, Reading, TEXTS, is_loose, keys};
+use crate::table::{Asks, Key, Part, Reading, is_loose, keys};
 
-static SLOT_0: &[Key] = keys![
-    Strict Whole "maintainers" [Row("txt"), "text/plain", Text, &["txt"], NONE, TEXTS, ANY];
-    Strict Extension "smc" [Known, "application/vnd.nintendo.snes.rom", Bytes, NONE, NONE, NONE, ANY];
+static SLOTS: [&[Key]; 16] = [
+    keys![
+        Strict Whole "maintainers" [631 Text 246 0 31 0];
+        Strict Extension "smc" [147 Bytes 0 0 0 0];
+    ],
+    keys![
+        Strict Extension "appimage" [93 Signature 20 75 0 0];
+        Strict Whole "authors" [631 Text 246 0 31 0];
+        Strict Extension "ctp" [864 Text 198 110 0 0];
+        Strict Extension "mpt" [135 Signature 0 23 0 0];
+        Strict Extension "uris" [637 Text 0 246 0 0];
+    ],
+    keys![
+        Strict Extension "asn" [659 Text 0 246 0 0];
+        Strict Extension "ect" [724 Text 0 108 0 0];
+        Strict Extension "gz" [22 Signature 96 0 0 0];
+        Strict Whole "installer" [631 Text 246 0 31 0];
+        Strict Extension "pig" [866 Text 0 246 0 0];
+        Strict Extension "rl" [891 Text 0 246 0 0];
+        Strict Extension "vue" [981 Text 0 108 0 0];
+    ],
+    keys![
+        Strict Extension "cbr" [102 Signature 0 219 0 0];
+        Strict Extension "mrw" [581 Bytes 0 0 0 0];
+        Strict Extension "ndjson" [363 Text 162 125 0 0];
+        Strict Extension "tmlanguage" [434 Text 0 127 0 10];
+        Strict Extension "ttc" [525 Signature 244 0 0 0];
+        Strict Extension "wasm" [195 Signature 260 0 0 0];
+    ],
+    keys![
+        Strict Extension "el" [728 Text 0 227 0 0];
+        Strict Extension "gitignore" [755 Text 0 246 0 0];
+        Strict Extension "heics" [536 Signature 104 106 0 0];
+        Strict Extension "jsm" [626 Text 124 128 0 0];
+        Strict Extension "vcard" [639 Text 249 246 0 0];
+    ],
+    keys![
+        Strict Extension "abap" [647 Text 0 246 0 0];
+        Strict Extension "jflex" [807 Text 0 246 0 0];
+        Strict Extension "mustache" [767 Text 0 108 0 0];
+        Strict Extension "pfx" [57 Bytes 189 0 0 0];
+        Strict Extension "pm" [863 Text 200 227 0 0];
+        Strict Extension "xlsx" [169 Signature 273 26 0 0];
+    ],
+    keys![],
+    keys![
+        Strict Extension "ldif" [804 Text 0 246 0 0];
+        Strict Extension "txi" [958 Text 0 246 0 0];
+    ],
+    keys![
+        Strict Extension "texi" [958 Text 0 246 0 0];
+        Strict Extension "yml" [475 Text 0 126 0 0];
+    ],
+    keys![
+        Strict Extension "stan" [942 Text 0 246 0 0];
+        Strict Extension "watchr" [910 Text 220 227 0 0];
+        Strict Extension "yaml" [475 Text 0 126 0 0];
+    ],
+    keys![
+        Strict Extension "rakumod" [892 Text 0 227 0 0];
+        Strict Extension "rei" [896 Text 0 246 0 0];
+    ],
+    keys![
+        Strict Extension "123" [115 Bytes 0 0 0 0];
+        Strict Extension "lo" [370 Signature 165 75 0 0];
+    ],
+    keys![
+        Strict Extension "aab" [207 Signature 0 18 0 0];
+        Strict Extension "dotm" [143 Signature 0 72 0 0];
+        Strict Extension "p7s" [59 Signature 0 63 0 0];
+        Strict Extension "psv" [880 Text 0 246 0 0];
+    ],
+    keys![
+        Strict Extension "etx" [923 Text 0 246 0 0];
+        Strict Extension "h5" [297 Bytes 102 0 0 0];
+        Strict Extension "mtl" [610 Text 0 246 0 0];
+        Strict Extension "opam" [718 Text 0 246 0 0];
+    ],
+    keys![
+        Strict Extension "ace" [200 Bytes 0 0 0 0];
+        Strict Extension "csv" [624 Text 0 129 0 0];
+        Strict Extension "dtbo" [245 Bytes 0 0 0 0];
+        Strict Extension "evtx" [348 Signature 81 0 0 0];
+    ],
+    keys![
+        Strict Extension "beam" [260 Bytes 42 0 0 0];
+        Strict Extension "fli" [1011 Bytes 0 0 0 0];
+        Strict Extension "metal" [828 Text 0 246 0 0];
+        Strict Extension "mhtml" [619 Text 0 246 0 0];
+    ],
 ];
-
-#[tactic(auto, unfolding(crate::specs::Slots::G22::slot_0))]
-#[inline(always)]
-fn slot_0() -> &'static [Key]
-    ensures { map key_listed result.now ≡ slot_0 }
-{
-    SLOT_0
-}
-
-static SLOT_1: &[Key] = keys![
-    Strict Extension "appimage" [Row("appimage"), "application/vnd.appimage", Signature, &["appimage"], &["elf"], NONE, ANY];
-    Strict Whole "authors" [Row("txt"), "text/plain", Text, &["txt"], NONE, TEXTS, ANY];
-    Strict Extension "ctp" [Row("php"), "text/x-php", Text, &["php"], &["html", "sh", "svg", "txt", "xhtml", "xml"], NONE, ANY];
-    Strict Extension "mpt" [Known, "application/vnd.ms-project", Signature, NONE, &["application/x-ole-storage"], NONE, ANY];
-    Strict Extension "uris" [Known, "text/uri-list", Text, NONE, &["txt"], NONE, ANY];
-];
-
-#[tactic(auto, unfolding(crate::specs::Slots::G22::slot_1))]
-#[inline(always)]
-fn slot_1() -> &'static [Key]
-    ensures { map key_listed result.now ≡ slot_1 }
-{
-    SLOT_1
-}
-
-static SLOT_2: &[Key] = keys![
-    Strict Extension "asn" [Own, "text/x-asn1", Text, NONE, &["txt"], NONE, ANY];
-    Strict Extension "ect" [Own, "text/x-ejs", Text, NONE, &["html", "json", "php", "svg", "txt", "xhtml", "xml"], NONE, ANY];
-    Strict Extension "gz" [Row("gz"), "application/gzip", Signature, &["gz"], NONE, NONE, ANY];
-    Strict Whole "installer" [Row("txt"), "text/plain", Text, &["txt"], NONE, TEXTS, ANY];
-    Strict Extension "pig" [Own, "text/x-pig", Text, NONE, &["txt"], NONE, ANY];
-    Strict Extension "rl" [Own, "text/x-ragel", Text, NONE, &["txt"], NONE, ANY];
-    Strict Extension "vue" [Own, "text/x-vue", Text, NONE, &["html", "json", "php", "svg", "txt", "xhtml", "xml"], NONE, ANY];
-];
-
-#[tactic(auto, unfolding(crate::specs::Slots::G22::slot_2))]
-#[inline(always)]
-fn slot_2() -> &'static [Key]
-    ensures { map key_listed result.now ≡ slot_2 }
-{
-    SLOT_2
-}
-
-static SLOT_3: &[Key] = keys![
-    Strict Extension "cbr" [Known, "application/vnd.comicbook-rar", Signature, NONE, &["rar"], NONE, ANY];
-    Strict Extension "mrw" [Known, "image/x-minolta-mrw", Bytes, NONE, NONE, NONE, ANY];
-    Strict Extension "ndjson" [Row("ndjson"), "application/x-ndjson", Text, &["ndjson"], &["json"], NONE, ANY];
-    Strict Extension "tmlanguage" [Own, "application/x-theme+xml", Text, NONE, &["json", "plist", "txt", "xml"], NONE, &[b"<"]];
-    Strict Extension "ttc" [Row("ttc"), "font/collection", Signature, &["ttc"], NONE, NONE, ANY];
-    Strict Extension "wasm" [Row("wasm"), "application/wasm", Signature, &["wasm"], NONE, NONE, ANY];
-];
-
-#[tactic(auto, unfolding(crate::specs::Slots::G22::slot_3))]
-#[inline(always)]
-fn slot_3() -> &'static [Key]
-    ensures { map key_listed result.now ≡ slot_3 }
-{
-    SLOT_3
-}
-
-static SLOT_4: &[Key] = keys![
-    Strict Extension "el" [Known, "text/x-emacs-lisp", Text, NONE, &["sh", "txt"], NONE, ANY];
-    Strict Extension "gitignore" [Own, "text/x-gitignore", Text, NONE, &["txt"], NONE, ANY];
-    Strict Extension "heics" [Row("heics"), "image/heic-sequence", Signature, &["heics"], &["heif"], NONE, ANY];
-    Strict Extension "jsm" [Row("js"), "text/javascript", Text, &["js"], &["json", "sh", "txt"], NONE, ANY];
-    Strict Extension "vcard" [Row("vcf"), "text/vcard", Text, &["vcf"], &["txt"], NONE, ANY];
-];
-
-#[tactic(auto, unfolding(crate::specs::Slots::G22::slot_4))]
-#[inline(always)]
-fn slot_4() -> &'static [Key]
-    ensures { map key_listed result.now ≡ slot_4 }
-{
-    SLOT_4
-}
-
-static SLOT_5: &[Key] = keys![
-    Strict Extension "abap" [Own, "text/x-abap", Text, NONE, &["txt"], NONE, ANY];
-    Strict Extension "jflex" [Own, "text/x-lex", Text, NONE, &["txt"], NONE, ANY];
-    Strict Extension "mustache" [Own, "text/x-handlebars", Text, NONE, &["html", "json", "php", "svg", "txt", "xhtml", "xml"], NONE, ANY];
-    Strict Extension "pfx" [Row("p12"), "application/pkcs12", Bytes, &["p12"], NONE, NONE, ANY];
-    Strict Extension "pm" [Row("pl"), "text/x-perl", Text, &["pl"], &["sh", "txt"], NONE, ANY];
-    Strict Extension "xlsx" [Row("xlsx"), "application/vnd.openxmlformats-officedocument.spreadsheetml.sheet", Signature, &["xlsx"], &["application/x-ole-storage", "zip"], NONE, ANY];
-];
-
-#[tactic(auto, unfolding(crate::specs::Slots::G22::slot_5))]
-#[inline(always)]
-fn slot_5() -> &'static [Key]
-    ensures { map key_listed result.now ≡ slot_5 }
-{
-    SLOT_5
-}
-
-static SLOT_6: &[Key] = keys![];
-
-#[tactic(auto, unfolding(crate::specs::Slots::G22::slot_6))]
-#[inline(always)]
-fn slot_6() -> &'static [Key]
-    ensures { map key_listed result.now ≡ slot_6 }
-{
-    SLOT_6
-}
-
-static SLOT_7: &[Key] = keys![
-    Strict Extension "ldif" [Known, "text/x-ldif", Text, NONE, &["txt"], NONE, ANY];
-    Strict Extension "txi" [Known, "text/x-texinfo", Text, NONE, &["txt"], NONE, ANY];
-];
-
-#[tactic(auto, unfolding(crate::specs::Slots::G22::slot_7))]
-#[inline(always)]
-fn slot_7() -> &'static [Key]
-    ensures { map key_listed result.now ≡ slot_7 }
-{
-    SLOT_7
-}
-
-static SLOT_8: &[Key] = keys![
-    Strict Extension "texi" [Known, "text/x-texinfo", Text, NONE, &["txt"], NONE, ANY];
-    Strict Extension "yml" [Own, "application/yaml", Text, NONE, &["json", "ndjson", "txt"], NONE, ANY];
-];
-
-#[tactic(auto, unfolding(crate::specs::Slots::G22::slot_8))]
-#[inline(always)]
-fn slot_8() -> &'static [Key]
-    ensures { map key_listed result.now ≡ slot_8 }
-{
-    SLOT_8
-}
-
-static SLOT_9: &[Key] = keys![
-    Strict Extension "stan" [Own, "text/x-stan", Text, NONE, &["txt"], NONE, ANY];
-    Strict Extension "watchr" [Row("rb"), "text/x-ruby", Text, &["rb"], &["sh", "txt"], NONE, ANY];
-    Strict Extension "yaml" [Own, "application/yaml", Text, NONE, &["json", "ndjson", "txt"], NONE, ANY];
-];
-
-#[tactic(auto, unfolding(crate::specs::Slots::G22::slot_9))]
-#[inline(always)]
-fn slot_9() -> &'static [Key]
-    ensures { map key_listed result.now ≡ slot_9 }
-{
-    SLOT_9
-}
-
-static SLOT_10: &[Key] = keys![
-    Strict Extension "rakumod" [Own, "text/x-raku", Text, NONE, &["sh", "txt"], NONE, ANY];
-    Strict Extension "rei" [Own, "text/x-reason", Text, NONE, &["txt"], NONE, ANY];
-];
-
-#[tactic(auto, unfolding(crate::specs::Slots::G22::slot_10))]
-#[inline(always)]
-fn slot_10() -> &'static [Key]
-    ensures { map key_listed result.now ≡ slot_10 }
-{
-    SLOT_10
-}
-
-static SLOT_11: &[Key] = keys![
-    Strict Extension "123" [Known, "application/vnd.lotus-1-2-3", Bytes, NONE, NONE, NONE, ANY];
-    Strict Extension "lo" [Row("o"), "application/x-object", Signature, &["o"], &["elf"], NONE, ANY];
-];
-
-#[tactic(auto, unfolding(crate::specs::Slots::G22::slot_11))]
-#[inline(always)]
-fn slot_11() -> &'static [Key]
-    ensures { map key_listed result.now ≡ slot_11 }
-{
-    SLOT_11
-}
-
-static SLOT_12: &[Key] = keys![
-    Strict Extension "aab" [Own, "application/x-apkm", Signature, NONE, &["apk", "jar", "zip"], NONE, ANY];
-    Strict Extension "dotm" [Known, "application/vnd.ms-word.template.macroEnabled.12", Signature, NONE, &["docx", "application/x-ole-storage", "zip"], NONE, ANY];
-    Strict Extension "p7s" [Known, "application/pkcs7-signature", Signature, NONE, &["der", "p7b", "pem"], NONE, ANY];
-    Strict Extension "psv" [Own, "text/x-psv", Text, NONE, &["txt"], NONE, ANY];
-];
-
-#[tactic(auto, unfolding(crate::specs::Slots::G22::slot_12))]
-#[inline(always)]
-fn slot_12() -> &'static [Key]
-    ensures { map key_listed result.now ≡ slot_12 }
-{
-    SLOT_12
-}
-
-static SLOT_13: &[Key] = keys![
-    Strict Extension "etx" [Known, "text/x-setext", Text, NONE, &["txt"], NONE, ANY];
-    Strict Extension "h5" [Row("hdf5"), "application/x-hdf5", Bytes, &["hdf5"], NONE, NONE, ANY];
-    Strict Extension "mtl" [Known, "model/mtl", Text, NONE, &["txt"], NONE, ANY];
-    Strict Extension "opam" [Own, "text/x-dune", Text, NONE, &["txt"], NONE, ANY];
-];
-
-#[tactic(auto, unfolding(crate::specs::Slots::G22::slot_13))]
-#[inline(always)]
-fn slot_13() -> &'static [Key]
-    ensures { map key_listed result.now ≡ slot_13 }
-{
-    SLOT_13
-}
-
-static SLOT_14: &[Key] = keys![
-    Strict Extension "ace" [Known, "application/x-ace", Bytes, NONE, NONE, NONE, ANY];
-    Strict Extension "csv" [Known, "text/csv", Text, NONE, &["json", "txt"], NONE, ANY];
-    Strict Extension "dtbo" [Own, "application/x-device-tree-blob", Bytes, NONE, NONE, NONE, ANY];
-    Strict Extension "evtx" [Row("evtx"), "application/x-ms-evtx", Signature, &["evtx"], NONE, NONE, ANY];
-];
-
-#[tactic(auto, unfolding(crate::specs::Slots::G22::slot_14))]
-#[inline(always)]
-fn slot_14() -> &'static [Key]
-    ensures { map key_listed result.now ≡ slot_14 }
-{
-    SLOT_14
-}
-
-static SLOT_15: &[Key] = keys![
-    Strict Extension "beam" [Row("beam"), "application/x-erlang-beam", Bytes, &["beam"], NONE, NONE, ANY];
-    Strict Extension "fli" [Known, "video/x-flic", Bytes, NONE, NONE, NONE, ANY];
-    Strict Extension "metal" [Own, "text/x-metal", Text, NONE, &["txt"], NONE, ANY];
-    Strict Extension "mhtml" [Known, "multipart/related", Text, NONE, &["txt"], NONE, ANY];
-];
-
-#[tactic(auto, unfolding(crate::specs::Slots::G22::slot_15))]
-#[inline(always)]
-fn slot_15() -> &'static [Key]
-    ensures { map key_listed result.now ≡ slot_15 }
-{
-    SLOT_15
-}
 
 #[tactic(auto, unfolding(crate::specs::Slots::G22::group))]
-#[inline(always)]
-pub(super) fn slot(place: usize) -> &'static [Key]
-    requires { place < 16 }
-    ensures { map key_listed result.now ≡ get_or group place [] }
+pub(super) fn slots() -> &'static [&'static [Key]]
+    ensures { slots_listed result.now ≡ group }
 {
-    match place {
-        0 => slot_0(),
-        1 => slot_1(),
-        2 => slot_2(),
-        3 => slot_3(),
-        4 => slot_4(),
-        5 => slot_5(),
-        6 => slot_6(),
-        7 => slot_7(),
-        8 => slot_8(),
-        9 => slot_9(),
-        10 => slot_10(),
-        11 => slot_11(),
-        12 => slot_12(),
-        13 => slot_13(),
-        14 => slot_14(),
-        _ => slot_15(),
-    }
+    &SLOTS
 }

@@ -1,264 +1,103 @@
 //! Made by `tools/tables` from names.txt: the keys of slots 384 to 399.
-ghost use Rattle.std.specs.Prelude.{◌≡◌, ◌<◌, [], get_or, map};
-ghost use Rattle.infer_named.specs.Listed.{key_listed};
-ghost use Rattle.infer_named.specs.Slots.G24.{group, slot_0, slot_1, slot_2, slot_3, slot_4, slot_5, slot_6, slot_7, slot_8, slot_9, slot_10, slot_11, slot_12, slot_13, slot_14, slot_15};
+ghost use Rattle.std.specs.Prelude.{◌≡◌};
+ghost use Rattle.infer_named.specs.Listed.{slots_listed};
+ghost use Rattle.infer_named.specs.Slots.G24.{group};
 
-use crate::table::Origin::{Known, Own, Row};
-use crate::table::{ANY, Asks, Key, NONE, NamedType, Part, Reading, TEXTS, is_loose, keys};
+use crate::table::{Asks, Key, Part, Reading, is_loose, keys};
 
-static SLOT_0: &[Key] = keys![
-    Strict Extension "yang" [Own, "text/x-yang", Text, NONE, &["txt"], NONE, ANY];
+static SLOTS: [&[Key]; 16] = [
+    keys![
+        Strict Extension "yang" [992 Text 0 246 0 0];
+    ],
+    keys![
+        Strict Extension "graphql" [21 Text 0 246 0 0];
+        Strict Extension "otf" [13 Bytes 185 245 0 0];
+    ],
+    keys![
+        Strict Extension "pyc" [390 Bytes 216 0 0 0];
+        Strict Extension "rar" [174 Signature 219 0 0 0];
+    ],
+    keys![
+        Strict Extension "gi" [743 Text 0 246 0 0];
+        Strict Extension "txx" [681 Text 0 246 0 0];
+    ],
+    keys![
+        Strict Extension "ear" [307 Signature 0 118 0 0];
+        Strict Extension "hlean" [805 Text 0 246 0 0];
+        Strict Whole "mypy.ini" [780 Text 0 246 0 0];
+        Strict Extension "smd" [279 Bytes 0 0 0 0];
+    ],
+    keys![
+        Strict Extension "alz" [203 Bytes 0 0 0 0];
+        Strict Extension "boot" [690 Text 0 227 0 0];
+        Strict Extension "m4r" [483 Bytes 145 148 0 0];
+    ],
+    keys![
+        Strict Extension "ktx2" [544 Bytes 0 0 0 0];
+        Strict Extension "p12" [57 Bytes 189 0 0 0];
+        Strict Extension "rex" [901 Text 0 227 0 0];
+    ],
+    keys![
+        Loose Extension "pk" [430 Bytes 0 0 0 0];
+        Strict Extension "url" [357 Text 0 246 0 0];
+    ],
+    keys![
+        Strict Extension "aifc" [496 Signature 12 13 0 0];
+        Strict Extension "eex" [722 Text 0 108 0 0];
+        Strict Extension "gmo" [280 Signature 154 0 0 0];
+    ],
+    keys![
+        Strict Extension "ck" [689 Text 0 246 0 0];
+        Strict Extension "dylib" [340 Signature 150 0 0 0];
+        Strict Extension "elm" [726 Text 0 246 0 0];
+        Strict Extension "hrl" [729 Text 0 209 0 0];
+        Strict Extension "jelly" [791 Text 0 112 0 10];
+        Strict Extension "thor" [910 Text 220 227 0 0];
+    ],
+    keys![
+        Strict Whole "dune" [718 Text 0 246 0 0];
+        Strict Extension "keystore" [312 Bytes 0 0 0 0];
+        Strict Extension "ksy" [796 Text 0 126 0 0];
+    ],
+    keys![
+        Strict Extension "m2a" [485 Bytes 157 0 0 0];
+        Strict Extension "webapp" [119 Text 0 125 0 0];
+    ],
+    keys![
+        Strict Extension "3x" [635 Text 0 246 0 0];
+        Strict Extension "al" [863 Text 200 227 0 0];
+        Strict Extension "gff3" [750 Text 0 246 0 0];
+        Strict Extension "j2" [792 Text 0 108 0 0];
+        Strict Extension "tsx" [964 Text 0 246 0 0];
+    ],
+    keys![
+        Strict Whole ".curlrc" [631 Text 246 0 31 0];
+        Strict Whole ".yarnrc" [631 Text 246 0 31 0];
+        Strict Extension "eps" [568 Text 78 208 0 0];
+        Strict Extension "mlir" [831 Text 0 246 0 0];
+        Strict Extension "mpg" [1005 Bytes 160 0 0 0];
+        Strict Whole "ssh_config" [631 Text 246 0 31 0];
+    ],
+    keys![
+        Strict Whole ".prettierignore" [755 Text 0 246 0 0];
+        Strict Extension "asa" [215 Text 0 108 0 0];
+        Strict Extension "coq" [696 Text 0 246 0 0];
+        Strict Extension "hif" [537 Signature 106 37 103 0];
+        Strict Extension "rej" [900 Text 0 246 0 0];
+        Strict Extension "scr" [118 Signature 82 0 0 0];
+        Strict Extension "taz" [427 Signature 0 8 0 0];
+    ],
+    keys![
+        Strict Extension "heif" [537 Signature 106 37 103 0];
+        Strict Extension "inc" [631 Text 246 0 31 0];
+        Strict Extension "meta4" [38 Text 0 112 0 10];
+        Strict Extension "pxi" [707 Text 0 227 0 0];
+    ],
 ];
-
-#[tactic(auto, unfolding(crate::specs::Slots::G24::slot_0))]
-#[inline(always)]
-fn slot_0() -> &'static [Key]
-    ensures { map key_listed result.now ≡ slot_0 }
-{
-    SLOT_0
-}
-
-static SLOT_1: &[Key] = keys![
-    Strict Extension "graphql" [Own, "application/graphql", Text, NONE, &["txt"], NONE, ANY];
-    Strict Extension "otf" [Row("otf"), "application/font-sfnt", Bytes, &["otf"], &["ttf"], NONE, ANY];
-];
-
-#[tactic(auto, unfolding(crate::specs::Slots::G24::slot_1))]
-#[inline(always)]
-fn slot_1() -> &'static [Key]
-    ensures { map key_listed result.now ≡ slot_1 }
-{
-    SLOT_1
-}
-
-static SLOT_2: &[Key] = keys![
-    Strict Extension "pyc" [Row("pyc"), "application/x-python-bytecode", Bytes, &["pyc"], NONE, NONE, ANY];
-    Strict Extension "rar" [Row("rar"), "application/vnd.rar", Signature, &["rar"], NONE, NONE, ANY];
-];
-
-#[tactic(auto, unfolding(crate::specs::Slots::G24::slot_2))]
-#[inline(always)]
-fn slot_2() -> &'static [Key]
-    ensures { map key_listed result.now ≡ slot_2 }
-{
-    SLOT_2
-}
-
-static SLOT_3: &[Key] = keys![
-    Strict Extension "gi" [Own, "text/x-gap", Text, NONE, &["txt"], NONE, ANY];
-    Strict Extension "txx" [Known, "text/x-c++src", Text, NONE, &["txt"], NONE, ANY];
-];
-
-#[tactic(auto, unfolding(crate::specs::Slots::G24::slot_3))]
-#[inline(always)]
-fn slot_3() -> &'static [Key]
-    ensures { map key_listed result.now ≡ slot_3 }
-{
-    SLOT_3
-}
-
-static SLOT_4: &[Key] = keys![
-    Strict Extension "ear" [Own, "application/x-java-enterprise-archive", Signature, NONE, &["jar", "zip"], NONE, ANY];
-    Strict Extension "hlean" [Own, "text/x-lean", Text, NONE, &["txt"], NONE, ANY];
-    Strict Whole "mypy.ini" [Own, "text/x-ini", Text, NONE, &["txt"], NONE, ANY];
-    Strict Extension "smd" [Known, "application/x-genesis-rom", Bytes, NONE, NONE, NONE, ANY];
-];
-
-#[tactic(auto, unfolding(crate::specs::Slots::G24::slot_4))]
-#[inline(always)]
-fn slot_4() -> &'static [Key]
-    ensures { map key_listed result.now ≡ slot_4 }
-{
-    SLOT_4
-}
-
-static SLOT_5: &[Key] = keys![
-    Strict Extension "alz" [Known, "application/x-alz", Bytes, NONE, NONE, NONE, ANY];
-    Strict Extension "boot" [Known, "text/x-clojure", Text, NONE, &["sh", "txt"], NONE, ANY];
-    Strict Extension "m4r" [Row("m4a"), "audio/m4a", Bytes, &["m4a"], &["m4b", "m4v", "mp4"], NONE, ANY];
-];
-
-#[tactic(auto, unfolding(crate::specs::Slots::G24::slot_5))]
-#[inline(always)]
-fn slot_5() -> &'static [Key]
-    ensures { map key_listed result.now ≡ slot_5 }
-{
-    SLOT_5
-}
-
-static SLOT_6: &[Key] = keys![
-    Strict Extension "ktx2" [Known, "image/ktx2", Bytes, NONE, NONE, NONE, ANY];
-    Strict Extension "p12" [Row("p12"), "application/pkcs12", Bytes, &["p12"], NONE, NONE, ANY];
-    Strict Extension "rex" [Own, "text/x-rexx", Text, NONE, &["sh", "txt"], NONE, ANY];
-];
-
-#[tactic(auto, unfolding(crate::specs::Slots::G24::slot_6))]
-#[inline(always)]
-fn slot_6() -> &'static [Key]
-    ensures { map key_listed result.now ≡ slot_6 }
-{
-    SLOT_6
-}
-
-static SLOT_7: &[Key] = keys![
-    Loose Extension "pk" [Known, "application/x-tex-pk", Bytes, NONE, NONE, NONE, ANY];
-    Strict Extension "url" [Known, "application/x-mswinurl", Text, NONE, &["txt"], NONE, ANY];
-];
-
-#[tactic(auto, unfolding(crate::specs::Slots::G24::slot_7))]
-#[inline(always)]
-fn slot_7() -> &'static [Key]
-    ensures { map key_listed result.now ≡ slot_7 }
-{
-    SLOT_7
-}
-
-static SLOT_8: &[Key] = keys![
-    Strict Extension "aifc" [Row("aifc"), "audio/x-aifc", Signature, &["aifc"], &["aiff"], NONE, ANY];
-    Strict Extension "eex" [Own, "text/x-eex", Text, NONE, &["html", "json", "php", "svg", "txt", "xhtml", "xml"], NONE, ANY];
-    Strict Extension "gmo" [Row("mo"), "application/x-gettext-translation", Signature, &["mo"], NONE, NONE, ANY];
-];
-
-#[tactic(auto, unfolding(crate::specs::Slots::G24::slot_8))]
-#[inline(always)]
-fn slot_8() -> &'static [Key]
-    ensures { map key_listed result.now ≡ slot_8 }
-{
-    SLOT_8
-}
-
-static SLOT_9: &[Key] = keys![
-    Strict Extension "ck" [Own, "text/x-chuck", Text, NONE, &["txt"], NONE, ANY];
-    Strict Extension "dylib" [Row("mach"), "application/x-mach-binary", Signature, &["mach"], NONE, NONE, ANY];
-    Strict Extension "elm" [Known, "text/x-elm", Text, NONE, &["txt"], NONE, ANY];
-    Strict Extension "hrl" [Known, "text/x-erlang", Text, NONE, &["ps", "sh", "txt"], NONE, ANY];
-    Strict Extension "jelly" [Own, "text/x-jelly", Text, NONE, &["html", "txt", "xhtml", "xml"], NONE, &[b"<"]];
-    Strict Extension "thor" [Row("rb"), "text/x-ruby", Text, &["rb"], &["sh", "txt"], NONE, ANY];
-];
-
-#[tactic(auto, unfolding(crate::specs::Slots::G24::slot_9))]
-#[inline(always)]
-fn slot_9() -> &'static [Key]
-    ensures { map key_listed result.now ≡ slot_9 }
-{
-    SLOT_9
-}
-
-static SLOT_10: &[Key] = keys![
-    Strict Whole "dune" [Own, "text/x-dune", Text, NONE, &["txt"], NONE, ANY];
-    Strict Extension "keystore" [Known, "application/x-java-keystore", Bytes, NONE, NONE, NONE, ANY];
-    Strict Extension "ksy" [Known, "text/x-kaitai-struct", Text, NONE, &["json", "ndjson", "txt"], NONE, ANY];
-];
-
-#[tactic(auto, unfolding(crate::specs::Slots::G24::slot_10))]
-#[inline(always)]
-fn slot_10() -> &'static [Key]
-    ensures { map key_listed result.now ≡ slot_10 }
-{
-    SLOT_10
-}
-
-static SLOT_11: &[Key] = keys![
-    Strict Extension "m2a" [Row("mp3"), "audio/mpeg", Bytes, &["mp3"], NONE, NONE, ANY];
-    Strict Extension "webapp" [Own, "application/vnd.mozilla.webapp+json", Text, NONE, &["json"], NONE, ANY];
-];
-
-#[tactic(auto, unfolding(crate::specs::Slots::G24::slot_11))]
-#[inline(always)]
-fn slot_11() -> &'static [Key]
-    ensures { map key_listed result.now ≡ slot_11 }
-{
-    SLOT_11
-}
-
-static SLOT_12: &[Key] = keys![
-    Strict Extension "3x" [Known, "text/troff", Text, NONE, &["txt"], NONE, ANY];
-    Strict Extension "al" [Row("pl"), "text/x-perl", Text, &["pl"], &["sh", "txt"], NONE, ANY];
-    Strict Extension "gff3" [Own, "text/x-gff", Text, NONE, &["txt"], NONE, ANY];
-    Strict Extension "j2" [Own, "text/x-jinja", Text, NONE, &["html", "json", "php", "svg", "txt", "xhtml", "xml"], NONE, ANY];
-    Strict Extension "tsx" [Own, "text/x-tsx", Text, NONE, &["txt"], NONE, ANY];
-];
-
-#[tactic(auto, unfolding(crate::specs::Slots::G24::slot_12))]
-#[inline(always)]
-fn slot_12() -> &'static [Key]
-    ensures { map key_listed result.now ≡ slot_12 }
-{
-    SLOT_12
-}
-
-static SLOT_13: &[Key] = keys![
-    Strict Whole ".curlrc" [Row("txt"), "text/plain", Text, &["txt"], NONE, TEXTS, ANY];
-    Strict Whole ".yarnrc" [Row("txt"), "text/plain", Text, &["txt"], NONE, TEXTS, ANY];
-    Strict Extension "eps" [Row("eps"), "image/x-eps", Text, &["eps"], &["ps"], NONE, ANY];
-    Strict Extension "mlir" [Own, "text/x-mlir", Text, NONE, &["txt"], NONE, ANY];
-    Strict Extension "mpg" [Row("mpg"), "video/mpeg", Bytes, &["mpg"], NONE, NONE, ANY];
-    Strict Whole "ssh_config" [Row("txt"), "text/plain", Text, &["txt"], NONE, TEXTS, ANY];
-];
-
-#[tactic(auto, unfolding(crate::specs::Slots::G24::slot_13))]
-#[inline(always)]
-fn slot_13() -> &'static [Key]
-    ensures { map key_listed result.now ≡ slot_13 }
-{
-    SLOT_13
-}
-
-static SLOT_14: &[Key] = keys![
-    Strict Whole ".prettierignore" [Own, "text/x-gitignore", Text, NONE, &["txt"], NONE, ANY];
-    Strict Extension "asa" [Known, "application/x-asp", Text, NONE, &["html", "json", "php", "svg", "txt", "xhtml", "xml"], NONE, ANY];
-    Strict Extension "coq" [Own, "text/x-coq", Text, NONE, &["txt"], NONE, ANY];
-    Strict Extension "hif" [Row("heif"), "image/heif", Signature, &["heif"], &["avif"], &["heic"], ANY];
-    Strict Extension "rej" [Known, "text/x-reject", Text, NONE, &["txt"], NONE, ANY];
-    Strict Extension "scr" [Row("exe"), "application/vnd.microsoft.portable-executable", Signature, &["exe"], NONE, NONE, ANY];
-    Strict Extension "taz" [Known, "application/x-tarz", Signature, NONE, &["Z"], NONE, ANY];
-];
-
-#[tactic(auto, unfolding(crate::specs::Slots::G24::slot_14))]
-#[inline(always)]
-fn slot_14() -> &'static [Key]
-    ensures { map key_listed result.now ≡ slot_14 }
-{
-    SLOT_14
-}
-
-static SLOT_15: &[Key] = keys![
-    Strict Extension "heif" [Row("heif"), "image/heif", Signature, &["heif"], &["avif"], &["heic"], ANY];
-    Strict Extension "inc" [Row("txt"), "text/plain", Text, &["txt"], NONE, TEXTS, ANY];
-    Strict Extension "meta4" [Known, "application/metalink4+xml", Text, NONE, &["html", "txt", "xhtml", "xml"], NONE, &[b"<"]];
-    Strict Extension "pxi" [Known, "text/x-cython", Text, NONE, &["sh", "txt"], NONE, ANY];
-];
-
-#[tactic(auto, unfolding(crate::specs::Slots::G24::slot_15))]
-#[inline(always)]
-fn slot_15() -> &'static [Key]
-    ensures { map key_listed result.now ≡ slot_15 }
-{
-    SLOT_15
-}
 
 #[tactic(auto, unfolding(crate::specs::Slots::G24::group))]
-#[inline(always)]
-pub(super) fn slot(place: usize) -> &'static [Key]
-    requires { place < 16 }
-    ensures { map key_listed result.now ≡ get_or group place [] }
+pub(super) fn slots() -> &'static [&'static [Key]]
+    ensures { slots_listed result.now ≡ group }
 {
-    match place {
-        0 => slot_0(),
-        1 => slot_1(),
-        2 => slot_2(),
-        3 => slot_3(),
-        4 => slot_4(),
-        5 => slot_5(),
-        6 => slot_6(),
-        7 => slot_7(),
-        8 => slot_8(),
-        9 => slot_9(),
-        10 => slot_10(),
-        11 => slot_11(),
-        12 => slot_12(),
-        13 => slot_13(),
-        14 => slot_14(),
-        _ => slot_15(),
-    }
+    &SLOTS
 }

@@ -1,264 +1,103 @@
 //! Made by `tools/tables` from names.txt: the keys of slots 480 to 495.
-ghost use Rattle.std.specs.Prelude.{◌≡◌, ◌<◌, [], get_or, map};
-ghost use Rattle.infer_named.specs.Listed.{key_listed};
-ghost use Rattle.infer_named.specs.Slots.G30.{group, slot_0, slot_1, slot_2, slot_3, slot_4, slot_5, slot_6, slot_7, slot_8, slot_9, slot_10, slot_11, slot_12, slot_13, slot_14, slot_15};
+ghost use Rattle.std.specs.Prelude.{◌≡◌};
+ghost use Rattle.infer_named.specs.Listed.{slots_listed};
+ghost use Rattle.infer_named.specs.Slots.G30.{group};
 
-use crate::table::Origin::{Known, Own, Row};
-use crate::table::{ANY, Asks, Key, NONE, NamedType, Part, Reading, TEXTS, is_loose, keys};
+use crate::table::{Asks, Key, Part, Reading, is_loose, keys};
 
-static SLOT_0: &[Key] = keys![
-    Strict Extension "cljs" [Known, "text/x-clojure", Text, NONE, &["sh", "txt"], NONE, ANY];
-    Strict Extension "mml" [Known, "application/mathml+xml", Text, NONE, &["html", "txt", "xhtml", "xml"], NONE, &[b"<"]];
-    Strict Extension "zimpl" [Own, "text/x-zimpl", Text, NONE, &["txt"], NONE, ANY];
-    Loose Extension "zoo" [Known, "application/x-zoo", Bytes, NONE, NONE, NONE, ANY];
+static SLOTS: [&[Key]; 16] = [
+    keys![
+        Strict Extension "cljs" [690 Text 0 227 0 0];
+        Strict Extension "mml" [35 Text 0 112 0 10];
+        Strict Extension "zimpl" [994 Text 0 246 0 0];
+        Loose Extension "zoo" [462 Bytes 0 0 0 0];
+    ],
+    keys![
+        Strict Extension "creole" [698 Text 0 246 0 0];
+        Strict Extension "mo" [280 Signature 154 0 0 0] [832 Text 0 246 0 0];
+        Strict Extension "mxml" [358 Text 0 112 0 10];
+    ],
+    keys![
+        Strict Extension "mata" [944 Text 0 246 0 0];
+        Strict Extension "pony" [872 Text 0 246 0 0];
+        Strict Extension "sitx" [421 Bytes 0 0 0 0];
+        Strict Extension "wks" [144 Signature 0 23 0 0];
+    ],
+    keys![
+        Strict Extension "jpe" [540 Signature 122 0 0 0];
+    ],
+    keys![
+        Strict Extension "jks" [312 Bytes 0 0 0 0];
+        Loose Extension "vb" [975 Text 0 246 0 0];
+        Strict Extension "wmv" [1018 Signature 265 0 0 0];
+    ],
+    keys![
+        Strict Extension "exs" [725 Text 0 227 0 0];
+        Strict Extension "fna" [732 Text 0 246 0 0];
+        Strict Extension "ult" [508 Bytes 0 0 0 0];
+    ],
+    keys![
+        Strict Whole ".xsession" [924 Text 0 227 0 0];
+        Strict Extension "pyt" [886 Text 214 128 0 0];
+    ],
+    keys![
+        Strict Extension "3ssl" [635 Text 0 246 0 0];
+        Strict Extension "ebuild" [720 Text 0 246 0 0];
+        Strict Extension "lha" [333 Bytes 142 0 0 0];
+    ],
+    keys![
+        Strict Extension "lwp" [116 Bytes 0 0 0 0];
+        Strict Extension "php5" [864 Text 198 110 0 0];
+        Strict Extension "tcc" [681 Text 0 246 0 0];
+        Strict Extension "tr" [635 Text 0 246 0 0];
+        Strict Extension "vst" [189 Signature 255 23 0 0];
+        Strict Extension "webm" [1009 Signature 262 153 0 0];
+    ],
+    keys![
+        Strict Whole ".pystartup" [886 Text 214 227 0 0];
+        Strict Extension "clh" [855 Text 0 246 0 0];
+        Strict Extension "nft" [842 Text 0 227 0 0];
+        Strict Extension "odin" [853 Text 0 246 0 0];
+        Strict Extension "wdp" [557 Signature 131 0 0 0];
+    ],
+    keys![
+        Strict Whole ".htaccess" [653 Text 0 246 0 0];
+        Strict Extension "hlsli" [772 Text 0 246 0 0];
+        Loose Extension "p8" [60 Bytes 0 62 0 0];
+        Strict Extension "rd" [889 Text 0 246 0 0];
+        Strict Extension "rmvb" [177 Bytes 0 0 0 0];
+    ],
+    keys![
+        Strict Extension "orf" [584 Bytes 0 0 0 0];
+        Strict Extension "rs" [632 Text 0 227 0 0];
+        Strict Extension "tnef" [137 Bytes 0 0 0 0];
+    ],
+    keys![
+        Strict Extension "kdbx" [320 Bytes 0 0 0 0];
+        Strict Extension "mathml" [35 Text 0 112 0 10];
+        Strict Extension "mojo" [834 Text 0 246 0 0];
+        Strict Extension "rss" [68 Text 222 113 0 10];
+    ],
+    keys![
+        Strict Extension "appdata.xml" [208 Text 0 112 0 10];
+        Strict Extension "asciidoc" [657 Text 0 246 0 0];
+        Strict Extension "exe" [118 Signature 82 0 0 0];
+        Strict Extension "jake" [626 Text 124 128 0 0];
+        Strict Extension "textproto" [960 Text 0 246 0 0];
+    ],
+    keys![
+        Loose Extension "msg" [129 Signature 161 23 0 0] [631 Text 246 0 31 0];
+        Loose Extension "pt" [393 Bytes 0 277 0 0];
+        Strict Extension "sexp" [694 Text 0 227 0 0];
+    ],
+    keys![
+        Strict Whole ".inputrc" [895 Text 0 246 0 0];
+    ],
 ];
-
-#[tactic(auto, unfolding(crate::specs::Slots::G30::slot_0))]
-#[inline(always)]
-fn slot_0() -> &'static [Key]
-    ensures { map key_listed result.now ≡ slot_0 }
-{
-    SLOT_0
-}
-
-static SLOT_1: &[Key] = keys![
-    Strict Extension "creole" [Own, "text/x-creole", Text, NONE, &["txt"], NONE, ANY];
-    Strict Extension "mo" [Row("mo"), "application/x-gettext-translation", Signature, &["mo"], NONE, NONE, ANY] [Known, "text/x-modelica", Text, NONE, &["txt"], NONE, ANY];
-    Strict Extension "mxml" [Own, "application/x-mxml", Text, NONE, &["html", "txt", "xhtml", "xml"], NONE, &[b"<"]];
-];
-
-#[tactic(auto, unfolding(crate::specs::Slots::G30::slot_1))]
-#[inline(always)]
-fn slot_1() -> &'static [Key]
-    ensures { map key_listed result.now ≡ slot_1 }
-{
-    SLOT_1
-}
-
-static SLOT_2: &[Key] = keys![
-    Strict Extension "mata" [Own, "text/x-stata", Text, NONE, &["txt"], NONE, ANY];
-    Strict Extension "pony" [Own, "text/x-pony", Text, NONE, &["txt"], NONE, ANY];
-    Strict Extension "sitx" [Known, "application/x-stuffit", Bytes, NONE, NONE, NONE, ANY];
-    Strict Extension "wks" [Known, "application/vnd.ms-works", Signature, NONE, &["application/x-ole-storage"], NONE, ANY];
-];
-
-#[tactic(auto, unfolding(crate::specs::Slots::G30::slot_2))]
-#[inline(always)]
-fn slot_2() -> &'static [Key]
-    ensures { map key_listed result.now ≡ slot_2 }
-{
-    SLOT_2
-}
-
-static SLOT_3: &[Key] = keys![
-    Strict Extension "jpe" [Row("jpg"), "image/jpeg", Signature, &["jpg"], NONE, NONE, ANY];
-];
-
-#[tactic(auto, unfolding(crate::specs::Slots::G30::slot_3))]
-#[inline(always)]
-fn slot_3() -> &'static [Key]
-    ensures { map key_listed result.now ≡ slot_3 }
-{
-    SLOT_3
-}
-
-static SLOT_4: &[Key] = keys![
-    Strict Extension "jks" [Known, "application/x-java-keystore", Bytes, NONE, NONE, NONE, ANY];
-    Loose Extension "vb" [Known, "text/x-vb", Text, NONE, &["txt"], NONE, ANY];
-    Strict Extension "wmv" [Row("wmv"), "video/x-ms-wmv", Signature, &["wmv"], NONE, NONE, ANY];
-];
-
-#[tactic(auto, unfolding(crate::specs::Slots::G30::slot_4))]
-#[inline(always)]
-fn slot_4() -> &'static [Key]
-    ensures { map key_listed result.now ≡ slot_4 }
-{
-    SLOT_4
-}
-
-static SLOT_5: &[Key] = keys![
-    Strict Extension "exs" [Known, "text/x-elixir", Text, NONE, &["sh", "txt"], NONE, ANY];
-    Strict Extension "fna" [Own, "text/x-fasta", Text, NONE, &["txt"], NONE, ANY];
-    Strict Extension "ult" [Known, "audio/x-mod", Bytes, NONE, NONE, NONE, ANY];
-];
-
-#[tactic(auto, unfolding(crate::specs::Slots::G30::slot_5))]
-#[inline(always)]
-fn slot_5() -> &'static [Key]
-    ensures { map key_listed result.now ≡ slot_5 }
-{
-    SLOT_5
-}
-
-static SLOT_6: &[Key] = keys![
-    Strict Whole ".xsession" [Own, "text/x-shell-config", Text, NONE, &["sh", "txt"], NONE, ANY];
-    Strict Extension "pyt" [Row("py"), "text/x-python", Text, &["py"], &["json", "sh", "txt"], NONE, ANY];
-];
-
-#[tactic(auto, unfolding(crate::specs::Slots::G30::slot_6))]
-#[inline(always)]
-fn slot_6() -> &'static [Key]
-    ensures { map key_listed result.now ≡ slot_6 }
-{
-    SLOT_6
-}
-
-static SLOT_7: &[Key] = keys![
-    Strict Extension "3ssl" [Known, "text/troff", Text, NONE, &["txt"], NONE, ANY];
-    Strict Extension "ebuild" [Own, "text/x-ebuild", Text, NONE, &["txt"], NONE, ANY];
-    Strict Extension "lha" [Row("lzh"), "application/x-lzh-compressed", Bytes, &["lzh"], NONE, NONE, ANY];
-];
-
-#[tactic(auto, unfolding(crate::specs::Slots::G30::slot_7))]
-#[inline(always)]
-fn slot_7() -> &'static [Key]
-    ensures { map key_listed result.now ≡ slot_7 }
-{
-    SLOT_7
-}
-
-static SLOT_8: &[Key] = keys![
-    Strict Extension "lwp" [Known, "application/vnd.lotus-wordpro", Bytes, NONE, NONE, NONE, ANY];
-    Strict Extension "php5" [Row("php"), "text/x-php", Text, &["php"], &["html", "sh", "svg", "txt", "xhtml", "xml"], NONE, ANY];
-    Strict Extension "tcc" [Known, "text/x-c++src", Text, NONE, &["txt"], NONE, ANY];
-    Strict Extension "tr" [Known, "text/troff", Text, NONE, &["txt"], NONE, ANY];
-    Strict Extension "vst" [Row("vsd"), "application/vnd.visio", Signature, &["vsd"], &["application/x-ole-storage"], NONE, ANY];
-    Strict Extension "webm" [Row("webm"), "video/webm", Signature, &["webm"], &["mkv"], NONE, ANY];
-];
-
-#[tactic(auto, unfolding(crate::specs::Slots::G30::slot_8))]
-#[inline(always)]
-fn slot_8() -> &'static [Key]
-    ensures { map key_listed result.now ≡ slot_8 }
-{
-    SLOT_8
-}
-
-static SLOT_9: &[Key] = keys![
-    Strict Whole ".pystartup" [Row("py"), "text/x-python", Text, &["py"], &["sh", "txt"], NONE, ANY];
-    Strict Extension "clh" [Known, "text/x-opencl-src", Text, NONE, &["txt"], NONE, ANY];
-    Strict Extension "nft" [Own, "text/x-nftables", Text, NONE, &["sh", "txt"], NONE, ANY];
-    Strict Extension "odin" [Own, "text/x-odin", Text, NONE, &["txt"], NONE, ANY];
-    Strict Extension "wdp" [Row("jxr"), "image/vnd.ms-photo", Signature, &["jxr"], NONE, NONE, ANY];
-];
-
-#[tactic(auto, unfolding(crate::specs::Slots::G30::slot_9))]
-#[inline(always)]
-fn slot_9() -> &'static [Key]
-    ensures { map key_listed result.now ≡ slot_9 }
-{
-    SLOT_9
-}
-
-static SLOT_10: &[Key] = keys![
-    Strict Whole ".htaccess" [Own, "text/x-apacheconf", Text, NONE, &["txt"], NONE, ANY];
-    Strict Extension "hlsli" [Own, "text/x-hlsl", Text, NONE, &["txt"], NONE, ANY];
-    Loose Extension "p8" [Known, "application/pkcs8", Bytes, NONE, &["der", "key", "pem"], NONE, ANY];
-    Strict Extension "rd" [Own, "text/x-r-doc", Text, NONE, &["txt"], NONE, ANY];
-    Strict Extension "rmvb" [Known, "application/vnd.rn-realmedia", Bytes, NONE, NONE, NONE, ANY];
-];
-
-#[tactic(auto, unfolding(crate::specs::Slots::G30::slot_10))]
-#[inline(always)]
-fn slot_10() -> &'static [Key]
-    ensures { map key_listed result.now ≡ slot_10 }
-{
-    SLOT_10
-}
-
-static SLOT_11: &[Key] = keys![
-    Strict Extension "orf" [Known, "image/x-olympus-orf", Bytes, NONE, NONE, NONE, ANY];
-    Strict Extension "rs" [Known, "text/rust", Text, NONE, &["sh", "txt"], NONE, ANY];
-    Strict Extension "tnef" [Known, "application/vnd.ms-tnef", Bytes, NONE, NONE, NONE, ANY];
-];
-
-#[tactic(auto, unfolding(crate::specs::Slots::G30::slot_11))]
-#[inline(always)]
-fn slot_11() -> &'static [Key]
-    ensures { map key_listed result.now ≡ slot_11 }
-{
-    SLOT_11
-}
-
-static SLOT_12: &[Key] = keys![
-    Strict Extension "kdbx" [Own, "application/x-keepass2", Bytes, NONE, NONE, NONE, ANY];
-    Strict Extension "mathml" [Known, "application/mathml+xml", Text, NONE, &["html", "txt", "xhtml", "xml"], NONE, &[b"<"]];
-    Strict Extension "mojo" [Own, "text/x-mojo", Text, NONE, &["txt"], NONE, ANY];
-    Strict Extension "rss" [Row("rss"), "application/rss+xml", Text, &["rss"], &["html", "txt", "xml"], NONE, &[b"<"]];
-];
-
-#[tactic(auto, unfolding(crate::specs::Slots::G30::slot_12))]
-#[inline(always)]
-fn slot_12() -> &'static [Key]
-    ensures { map key_listed result.now ≡ slot_12 }
-{
-    SLOT_12
-}
-
-static SLOT_13: &[Key] = keys![
-    Strict Extension "appdata.xml" [Own, "application/x-appdata+xml", Text, NONE, &["html", "txt", "xhtml", "xml"], NONE, &[b"<"]];
-    Strict Extension "asciidoc" [Own, "text/x-asciidoc", Text, NONE, &["txt"], NONE, ANY];
-    Strict Extension "exe" [Row("exe"), "application/vnd.microsoft.portable-executable", Signature, &["exe"], NONE, NONE, ANY];
-    Strict Extension "jake" [Row("js"), "text/javascript", Text, &["js"], &["json", "sh", "txt"], NONE, ANY];
-    Strict Extension "textproto" [Own, "text/x-textproto", Text, NONE, &["txt"], NONE, ANY];
-];
-
-#[tactic(auto, unfolding(crate::specs::Slots::G30::slot_13))]
-#[inline(always)]
-fn slot_13() -> &'static [Key]
-    ensures { map key_listed result.now ≡ slot_13 }
-{
-    SLOT_13
-}
-
-static SLOT_14: &[Key] = keys![
-    Loose Extension "msg" [Row("msg"), "application/vnd.ms-outlook", Signature, &["msg"], &["application/x-ole-storage"], NONE, ANY] [Row("txt"), "text/plain", Text, &["txt"], NONE, TEXTS, ANY];
-    Loose Extension "pt" [Own, "application/x-pytorch", Bytes, NONE, &["zip"], NONE, ANY];
-    Strict Extension "sexp" [Known, "text/x-common-lisp", Text, NONE, &["sh", "txt"], NONE, ANY];
-];
-
-#[tactic(auto, unfolding(crate::specs::Slots::G30::slot_14))]
-#[inline(always)]
-fn slot_14() -> &'static [Key]
-    ensures { map key_listed result.now ≡ slot_14 }
-{
-    SLOT_14
-}
-
-static SLOT_15: &[Key] = keys![
-    Strict Whole ".inputrc" [Own, "text/x-readline", Text, NONE, &["txt"], NONE, ANY];
-];
-
-#[tactic(auto, unfolding(crate::specs::Slots::G30::slot_15))]
-#[inline(always)]
-fn slot_15() -> &'static [Key]
-    ensures { map key_listed result.now ≡ slot_15 }
-{
-    SLOT_15
-}
 
 #[tactic(auto, unfolding(crate::specs::Slots::G30::group))]
-#[inline(always)]
-pub(super) fn slot(place: usize) -> &'static [Key]
-    requires { place < 16 }
-    ensures { map key_listed result.now ≡ get_or group place [] }
+pub(super) fn slots() -> &'static [&'static [Key]]
+    ensures { slots_listed result.now ≡ group }
 {
-    match place {
-        0 => slot_0(),
-        1 => slot_1(),
-        2 => slot_2(),
-        3 => slot_3(),
-        4 => slot_4(),
-        5 => slot_5(),
-        6 => slot_6(),
-        7 => slot_7(),
-        8 => slot_8(),
-        9 => slot_9(),
-        10 => slot_10(),
-        11 => slot_11(),
-        12 => slot_12(),
-        13 => slot_13(),
-        14 => slot_14(),
-        _ => slot_15(),
-    }
+    &SLOTS
 }

@@ -1,0 +1,119 @@
+-- Laws of names and bytes. They hold for every key, so for every table.
+use Rattle.std.specs.Prelude.{All, ◌==◌, ◌&&◌, ◌||◌, if◌then◌else◌, map, nat_le, nat_lt, ◌≡◌, ◌≢◌, ◌↔◌, ◌<◌, ◌++◌, ℕ, Bool, false, true, IsTrue, List, [], ◌∷◌, Option, None, Some, length, not, option_map}
+use Rattle.std.specs.List.{list_all, list_any}
+use Rattle.std.specs.Option.{option_map_or}
+use Rattle.infer.specs.Triple.{Triple}
+use Rattle.infer_formats.specs.Text.{IsText}
+use Rattle.infer_more.specs.Wider.{IsWiderAnswer}
+use Rattle.infer_named.specs.Asks.{admits}
+use Rattle.infer_named.specs.Bytes.{IsKind, lead_of}
+use Rattle.infer_named.specs.Join.{Answer, answer, fits, is_among, join, of_bytes, of_name, reading_of, reading_without, takes}
+use Rattle.infer_named.specs.Key.{Key, Reading}
+use Rattle.infer_named.specs.Names.{is_key, joined}
+use Rattle.infer_named.specs.Table.{groups}
+use Rattle.infer_named.specs.Named.{IsNamed, answer_of, key_of}
+use Rattle.infer_named.specs.declared.bytes.Kind.{Kind}
+use Rattle.infer_named.specs.declared.bytes.Kind.TheVariants.{Binary}
+use Rattle.infer_named.specs.declared.join.Named.{Named}
+use Rattle.infer_named.specs.declared.join.Standing.{Standing}
+use Rattle.infer_named.specs.declared.join.Standing.TheVariants.{Agree, BytesAlone, BytesRefine, Contradicts, NameAlone, NameRefines, Nothing}
+
+-- the standing is one with which the type of the bytes is told
+abbrev pub tells_bytes : Standing → Bool
+tells_bytes Agree = true
+tells_bytes NameRefines = false
+tells_bytes BytesRefine = true
+tells_bytes BytesAlone = true
+tells_bytes NameAlone = false
+tells_bytes Contradicts = true
+tells_bytes Nothing = false
+
+-- The bytes win. Where the standing is one of these, the type of the bytes is told, and none if they have none. And where a
+-- name refines, the bytes have a type as which a file of the told one may begin, by the first reading that fits and takes it.
+pub record BytesWin (k : Option Key) (t : Option Triple) (kind : Kind) (lead : List ℕ) : Type 0 where
+  pub theirs : IsTrue (tells_bytes (join k t kind lead).standing) → (join k t kind lead).told ≡ option_map of_bytes t
+  pub refined : (join k t kind lead).standing ≡ NameRefines → (key : Key) × (r : Reading) × (x : Triple) × (k ≡ Some key) × (t ≡ Some x)
+      × (reading_of key.readings x lead ≡ Some r) × IsTrue (is_among x r.begins) × ((join k t kind lead).told ≡ Some (of_name r.named))
+
+abbrev pub TheBytesWin : Type 0
+TheBytesWin = (k : Option Key) (t : Option Triple) (kind : Kind) (lead : List ℕ) → BytesWin k t kind lead
+
+-- Nothing is invented. A type is told by the name alone only of bytes without one, by the first reading of a strict key that
+-- fits and admits their kind: so never one that asks for a signature, and none that asks for a text where a byte is 00.
+abbrev pub NothingIsInvented : Type 0
+NothingIsInvented =
+    (k : Option Key) (t : Option Triple) (kind : Kind) (lead : List ℕ) → (join k t kind lead).standing ≡ NameAlone
+    → (key : Key) × (r : Reading) × (k ≡ Some key) × (key.is_loose ≡ false) × (t ≡ None)
+    × (reading_without key.readings kind lead ≡ Some r) × IsTrue (admits r.asks kind) × ((join k t kind lead).told ≡ Some (of_name r.named))
+
+-- whether there is no key, or a loose one
+abbrev pub is_silent : Option Key → Bool
+is_silent k = option_map_or (λ key. key.is_loose) k true
+
+-- Nothing is said exactly if the bytes have no type and there is no strict key.
+abbrev pub SilenceIsExact : Type 0
+SilenceIsExact =
+    (k : Option Key) (t : Option Triple) (kind : Kind) (lead : List ℕ)
+    → (join k t kind lead).standing ≡ Nothing ↔ ((t ≡ None) × IsTrue (is_silent k))
+
+-- A lie stays visible. What has a type that no reading of a strict key takes is contradicted, whatever else it has.
+abbrev pub LiesStayVisible : Type 0
+LiesStayVisible =
+    (k : Key) (t : Triple) (kind : Kind) (lead : List ℕ) → k.is_loose ≡ false → IsTrue (list_all (λ r. not (takes t r)) k.readings)
+    → join (Some k) (Some t) kind lead ≡ answer Contradicts (Some (of_bytes t))
+
+-- whether a reading has no leads
+abbrev pub has_no_leads : List (List ℕ) → Bool
+has_no_leads [] = true
+has_no_leads (lead ∷ leads) = false
+
+-- Three things of the bytes count at most: the type, the kind where there is no type, and the lead where a reading has leads.
+pub record OnlyThreeCount : Type 0 where
+  pub no_kind : (k : Option Key) (t : Triple) (kind other : Kind) (lead : List ℕ) → join k (Some t) kind lead ≡ join k (Some t) other lead
+  pub no_lead : (k : Key) (t : Option Triple) (kind : Kind) (lead other : List ℕ) → IsTrue (list_all (λ r. has_no_leads r.leads) k.readings)
+      → join (Some k) t kind lead ≡ join (Some k) t kind other
+
+-- Only the key of a name counts.
+abbrev pub OnlyTheKeyCounts : Type 0
+OnlyTheKeyCounts =
+    (name other b : List ℕ) (n m : Named) (kind : Kind) → IsKind b kind → IsNamed name b n → IsNamed other b m → key_of n ≡ key_of m
+    → answer_of n ≡ answer_of m
+
+-- A lead of two bytes stays, whatever follows, but of EF BB: with BF it becomes a byte order mark.
+abbrev pub LeadsLast : Type 0
+LeadsLast = (b more : List ℕ) → length (lead_of b) ≡ 2 → b ≢ (0xEF ∷ 0xBB ∷ []) → lead_of (b ++ more) ≡ lead_of b
+
+-- What is no text and has a byte never becomes one, and a byte 00 stays.
+pub record KindsLast : Type 0 where
+  pub no_text : (b more : List ℕ) → All (λ x. x < 256) more → b ≢ [] → (¬ IsText b) → ¬ IsText (b ++ more)
+  pub binary : (b more : List ℕ) → All (λ x. x < 256) more → IsKind b Binary → IsKind (b ++ more) Binary
+
+-- So as long as the bytes have the same type, and their lead has two bytes, what follows changes nothing.
+abbrev pub AnswersLast : Type 0
+AnswersLast =
+    (name b more : List ℕ) (n m : Named) (t : Triple) (kind other : Kind) → IsKind b kind → IsKind (b ++ more) other
+    → IsNamed name b n → IsNamed name (b ++ more) m → IsWiderAnswer b (Some t) → IsWiderAnswer (b ++ more) (Some t)
+    → length (lead_of b) ≡ 2 → b ≢ (0xEF ∷ 0xBB ∷ []) → key_of n ≡ key_of m → answer_of n ≡ answer_of m
+
+-- a byte that a key may have: a visible one of ASCII but / and \ and capital letters
+abbrev pub is_key_byte : ℕ → Bool
+is_key_byte x = nat_lt 0x20 x && nat_lt x 0x7F && not (x == 0x2F) && not (x == 0x5C) && (nat_lt x 0x41 || nat_lt 0x5A x)
+
+-- a text has from 1 to n bytes
+abbrev pub has_most : ℕ → List ℕ → Bool
+has_most n text = nat_le 1 (length text) && nat_le (length text) n
+
+-- a key has from 1 to 27 such bytes, and readings, each with a MIME type of 73 bytes at most
+abbrev pub is_key_right : Key → Bool
+is_key_right k =
+    has_most 27 k.text && list_all is_key_byte k.text && nat_le 1 (length k.readings)
+    && list_all (λ r. has_most 73 r.named.mime_type) k.readings
+
+-- the texts of the keys that are not so, or that stand once more behind
+abbrev pub wrong_keys : List Key → List (List ℕ)
+wrong_keys [] = []
+wrong_keys (k ∷ keys) = if is_key_right k && not (list_any (is_key k.part k.text) keys) then wrong_keys keys else k.text ∷ wrong_keys keys
+
+-- no key of a slot is wrong
+abbrev pub KeysAreRight : Type 0
+KeysAreRight = joined (map wrong_keys (joined groups)) ≡ []

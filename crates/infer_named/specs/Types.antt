@@ -1,0 +1,4162 @@
+-- Made by `tools/tables` from names.txt: the types that names have, and their numbers.
+use Rattle.std.specs.Prelude.{ℕ, List, [], ◌∷◌, codes}
+use Rattle.infer_named.specs.Key.{NamedType, known, own, row, named}
+
+abbrev pub is-application-appx : ℕ
+is-application-appx = 0
+
+abbrev pub is-application-atom-xml : ℕ
+is-application-atom-xml = 1
+
+abbrev pub is-application-atomcat-xml : ℕ
+is-application-atomcat-xml = 2
+
+abbrev pub is-application-atomsvc-xml : ℕ
+is-application-atomsvc-xml = 3
+
+abbrev pub is-application-bpmn-xml : ℕ
+is-application-bpmn-xml = 4
+
+abbrev pub is-application-brotli : ℕ
+is-application-brotli = 5
+
+abbrev pub is-application-bson : ℕ
+is-application-bson = 6
+
+abbrev pub is-application-cbor : ℕ
+is-application-cbor = 7
+
+abbrev pub is-application-ccxml-xml : ℕ
+is-application-ccxml-xml = 8
+
+abbrev pub is-application-dicom : ℕ
+is-application-dicom = 9
+
+abbrev pub is-application-dita-xml : ℕ
+is-application-dita-xml = 10
+
+abbrev pub is-application-edn : ℕ
+is-application-edn = 11
+
+abbrev pub is-application-epub-zip : ℕ
+is-application-epub-zip = 12
+
+abbrev pub is-application-font-sfnt-as-row-otf : ℕ
+is-application-font-sfnt-as-row-otf = 13
+
+abbrev pub is-application-font-sfnt-as-row-ttf : ℕ
+is-application-font-sfnt-as-row-ttf = 14
+
+abbrev pub is-application-font-woff-as-row-woff : ℕ
+is-application-font-woff-as-row-woff = 15
+
+abbrev pub is-application-font-woff-as-row-woff2 : ℕ
+is-application-font-woff-as-row-woff2 = 16
+
+abbrev pub is-application-geo-json : ℕ
+is-application-geo-json = 17
+
+abbrev pub is-application-geopackage-sqlite3 : ℕ
+is-application-geopackage-sqlite3 = 18
+
+abbrev pub is-application-gml-xml : ℕ
+is-application-gml-xml = 19
+
+abbrev pub is-application-gpx-xml : ℕ
+is-application-gpx-xml = 20
+
+abbrev pub is-application-graphql : ℕ
+is-application-graphql = 21
+
+abbrev pub is-application-gzip : ℕ
+is-application-gzip = 22
+
+abbrev pub is-application-hjson : ℕ
+is-application-hjson = 23
+
+abbrev pub is-application-hta : ℕ
+is-application-hta = 24
+
+abbrev pub is-application-illustrator : ℕ
+is-application-illustrator = 25
+
+abbrev pub is-application-its-xml : ℕ
+is-application-its-xml = 26
+
+abbrev pub is-application-java : ℕ
+is-application-java = 27
+
+abbrev pub is-application-java-archive : ℕ
+is-application-java-archive = 28
+
+abbrev pub is-application-json : ℕ
+is-application-json = 29
+
+abbrev pub is-application-json5 : ℕ
+is-application-json5 = 30
+
+abbrev pub is-application-jsonnet : ℕ
+is-application-jsonnet = 31
+
+abbrev pub is-application-ld-json : ℕ
+is-application-ld-json = 32
+
+abbrev pub is-application-lrc : ℕ
+is-application-lrc = 33
+
+abbrev pub is-application-manifest-json : ℕ
+is-application-manifest-json = 34
+
+abbrev pub is-application-mathml-xml : ℕ
+is-application-mathml-xml = 35
+
+abbrev pub is-application-mbox : ℕ
+is-application-mbox = 36
+
+abbrev pub is-application-metalink-xml : ℕ
+is-application-metalink-xml = 37
+
+abbrev pub is-application-metalink4-xml : ℕ
+is-application-metalink4-xml = 38
+
+abbrev pub is-application-msgpack : ℕ
+is-application-msgpack = 39
+
+abbrev pub is-application-msix : ℕ
+is-application-msix = 40
+
+abbrev pub is-application-msword : ℕ
+is-application-msword = 41
+
+abbrev pub is-application-msword-template : ℕ
+is-application-msword-template = 42
+
+abbrev pub is-application-mxf : ℕ
+is-application-mxf = 43
+
+abbrev pub is-application-n-quads : ℕ
+is-application-n-quads = 44
+
+abbrev pub is-application-n-triples : ℕ
+is-application-n-triples = 45
+
+abbrev pub is-application-octet-stream : ℕ
+is-application-octet-stream = 46
+
+abbrev pub is-application-oebps-package-xml : ℕ
+is-application-oebps-package-xml = 47
+
+abbrev pub is-application-onenote : ℕ
+is-application-onenote = 48
+
+abbrev pub is-application-onnx : ℕ
+is-application-onnx = 49
+
+abbrev pub is-application-oxps : ℕ
+is-application-oxps = 50
+
+abbrev pub is-application-pdf : ℕ
+is-application-pdf = 51
+
+abbrev pub is-application-pgp-encrypted : ℕ
+is-application-pgp-encrypted = 52
+
+abbrev pub is-application-pgp-keys-as-row-asc : ℕ
+is-application-pgp-keys-as-row-asc = 53
+
+abbrev pub is-application-pgp-keys-as-row-gpg : ℕ
+is-application-pgp-keys-as-row-gpg = 54
+
+abbrev pub is-application-pgp-signature : ℕ
+is-application-pgp-signature = 55
+
+abbrev pub is-application-pkcs10 : ℕ
+is-application-pkcs10 = 56
+
+abbrev pub is-application-pkcs12 : ℕ
+is-application-pkcs12 = 57
+
+abbrev pub is-application-pkcs7-mime : ℕ
+is-application-pkcs7-mime = 58
+
+abbrev pub is-application-pkcs7-signature : ℕ
+is-application-pkcs7-signature = 59
+
+abbrev pub is-application-pkcs8 : ℕ
+is-application-pkcs8 = 60
+
+abbrev pub is-application-pkix-cert : ℕ
+is-application-pkix-cert = 61
+
+abbrev pub is-application-pkix-crl : ℕ
+is-application-pkix-crl = 62
+
+abbrev pub is-application-postscript : ℕ
+is-application-postscript = 63
+
+abbrev pub is-application-protobuf : ℕ
+is-application-protobuf = 64
+
+abbrev pub is-application-raml-yaml : ℕ
+is-application-raml-yaml = 65
+
+abbrev pub is-application-rdf-xml : ℕ
+is-application-rdf-xml = 66
+
+abbrev pub is-application-relax-ng-compact-syntax : ℕ
+is-application-relax-ng-compact-syntax = 67
+
+abbrev pub is-application-rss-xml : ℕ
+is-application-rss-xml = 68
+
+abbrev pub is-application-rtf : ℕ
+is-application-rtf = 69
+
+abbrev pub is-application-sarif-json : ℕ
+is-application-sarif-json = 70
+
+abbrev pub is-application-sbml-xml : ℕ
+is-application-sbml-xml = 71
+
+abbrev pub is-application-schema-json : ℕ
+is-application-schema-json = 72
+
+abbrev pub is-application-smil-xml : ℕ
+is-application-smil-xml = 73
+
+abbrev pub is-application-sourcemap-json : ℕ
+is-application-sourcemap-json = 74
+
+abbrev pub is-application-sparql-query : ℕ
+is-application-sparql-query = 75
+
+abbrev pub is-application-sql : ℕ
+is-application-sql = 76
+
+abbrev pub is-application-srgs-xml : ℕ
+is-application-srgs-xml = 77
+
+abbrev pub is-application-tei-xml : ℕ
+is-application-tei-xml = 78
+
+abbrev pub is-application-timestamp-query : ℕ
+is-application-timestamp-query = 79
+
+abbrev pub is-application-timestamp-reply : ℕ
+is-application-timestamp-reply = 80
+
+abbrev pub is-application-toml : ℕ
+is-application-toml = 81
+
+abbrev pub is-application-topo-json : ℕ
+is-application-topo-json = 82
+
+abbrev pub is-application-trig : ℕ
+is-application-trig = 83
+
+abbrev pub is-application-ttml-xml : ℕ
+is-application-ttml-xml = 84
+
+abbrev pub is-application-tzif : ℕ
+is-application-tzif = 85
+
+abbrev pub is-application-vnd-adobe-xfdf : ℕ
+is-application-vnd-adobe-xfdf = 86
+
+abbrev pub is-application-vnd-amazon-mobi8-ebook : ℕ
+is-application-vnd-amazon-mobi8-ebook = 87
+
+abbrev pub is-application-vnd-android-dex : ℕ
+is-application-vnd-android-dex = 88
+
+abbrev pub is-application-vnd-android-dey : ℕ
+is-application-vnd-android-dey = 89
+
+abbrev pub is-application-vnd-android-package-archive : ℕ
+is-application-vnd-android-package-archive = 90
+
+abbrev pub is-application-vnd-apache-arrow-file : ℕ
+is-application-vnd-apache-arrow-file = 91
+
+abbrev pub is-application-vnd-apache-parquet : ℕ
+is-application-vnd-apache-parquet = 92
+
+abbrev pub is-application-vnd-appimage : ℕ
+is-application-vnd-appimage = 93
+
+abbrev pub is-application-vnd-apple-keynote : ℕ
+is-application-vnd-apple-keynote = 94
+
+abbrev pub is-application-vnd-apple-mpegurl : ℕ
+is-application-vnd-apple-mpegurl = 95
+
+abbrev pub is-application-vnd-apple-numbers : ℕ
+is-application-vnd-apple-numbers = 96
+
+abbrev pub is-application-vnd-apple-pages : ℕ
+is-application-vnd-apple-pages = 97
+
+abbrev pub is-application-vnd-bzip3 : ℕ
+is-application-vnd-bzip3 = 98
+
+abbrev pub is-application-vnd-chess-pgn : ℕ
+is-application-vnd-chess-pgn = 99
+
+abbrev pub is-application-vnd-coffeescript : ℕ
+is-application-vnd-coffeescript = 100
+
+abbrev pub is-application-vnd-comicbook-zip : ℕ
+is-application-vnd-comicbook-zip = 101
+
+abbrev pub is-application-vnd-comicbook-rar : ℕ
+is-application-vnd-comicbook-rar = 102
+
+abbrev pub is-application-vnd-corel-draw : ℕ
+is-application-vnd-corel-draw = 103
+
+abbrev pub is-application-vnd-dbf : ℕ
+is-application-vnd-dbf = 104
+
+abbrev pub is-application-vnd-debian-binary-package : ℕ
+is-application-vnd-debian-binary-package = 105
+
+abbrev pub is-application-vnd-etsi-asic-e-zip : ℕ
+is-application-vnd-etsi-asic-e-zip = 106
+
+abbrev pub is-application-vnd-flatpak : ℕ
+is-application-vnd-flatpak = 107
+
+abbrev pub is-application-vnd-garmin-tcx-xml : ℕ
+is-application-vnd-garmin-tcx-xml = 108
+
+abbrev pub is-application-vnd-geogebra-file : ℕ
+is-application-vnd-geogebra-file = 109
+
+abbrev pub is-application-vnd-google-earth-kml-xml : ℕ
+is-application-vnd-google-earth-kml-xml = 110
+
+abbrev pub is-application-vnd-google-earth-kmz : ℕ
+is-application-vnd-google-earth-kmz = 111
+
+abbrev pub is-application-vnd-hp-pcl : ℕ
+is-application-vnd-hp-pcl = 112
+
+abbrev pub is-application-vnd-iccprofile : ℕ
+is-application-vnd-iccprofile = 113
+
+abbrev pub is-application-vnd-las : ℕ
+is-application-vnd-las = 114
+
+abbrev pub is-application-vnd-lotus-1-2-3 : ℕ
+is-application-vnd-lotus-1-2-3 = 115
+
+abbrev pub is-application-vnd-lotus-wordpro : ℕ
+is-application-vnd-lotus-wordpro = 116
+
+abbrev pub is-application-vnd-mbtiles : ℕ
+is-application-vnd-mbtiles = 117
+
+abbrev pub is-application-vnd-microsoft-portable-executable : ℕ
+is-application-vnd-microsoft-portable-executable = 118
+
+abbrev pub is-application-vnd-mozilla-webapp-json : ℕ
+is-application-vnd-mozilla-webapp-json = 119
+
+abbrev pub is-application-vnd-mozilla-xul-xml : ℕ
+is-application-vnd-mozilla-xul-xml = 120
+
+abbrev pub is-application-vnd-ms-asf : ℕ
+is-application-vnd-ms-asf = 121
+
+abbrev pub is-application-vnd-ms-cab-compressed : ℕ
+is-application-vnd-ms-cab-compressed = 122
+
+abbrev pub is-application-vnd-ms-excel : ℕ
+is-application-vnd-ms-excel = 123
+
+abbrev pub is-application-vnd-ms-excel-addin-macroenabled-12 : ℕ
+is-application-vnd-ms-excel-addin-macroenabled-12 = 124
+
+abbrev pub is-application-vnd-ms-excel-sheet-binary-macroenabled-12 : ℕ
+is-application-vnd-ms-excel-sheet-binary-macroenabled-12 = 125
+
+abbrev pub is-application-vnd-ms-excel-sheet-macroenabled-12 : ℕ
+is-application-vnd-ms-excel-sheet-macroenabled-12 = 126
+
+abbrev pub is-application-vnd-ms-excel-template-macroenabled-12 : ℕ
+is-application-vnd-ms-excel-template-macroenabled-12 = 127
+
+abbrev pub is-application-vnd-ms-htmlhelp : ℕ
+is-application-vnd-ms-htmlhelp = 128
+
+abbrev pub is-application-vnd-ms-outlook : ℕ
+is-application-vnd-ms-outlook = 129
+
+abbrev pub is-application-vnd-ms-outlook-pst : ℕ
+is-application-vnd-ms-outlook-pst = 130
+
+abbrev pub is-application-vnd-ms-powerpoint : ℕ
+is-application-vnd-ms-powerpoint = 131
+
+abbrev pub is-application-vnd-ms-powerpoint-presentation-macroenabled-12 : ℕ
+is-application-vnd-ms-powerpoint-presentation-macroenabled-12 = 132
+
+abbrev pub is-application-vnd-ms-powerpoint-slideshow-macroenabled-12 : ℕ
+is-application-vnd-ms-powerpoint-slideshow-macroenabled-12 = 133
+
+abbrev pub is-application-vnd-ms-powerpoint-template-macroenabled-12 : ℕ
+is-application-vnd-ms-powerpoint-template-macroenabled-12 = 134
+
+abbrev pub is-application-vnd-ms-project : ℕ
+is-application-vnd-ms-project = 135
+
+abbrev pub is-application-vnd-ms-publisher : ℕ
+is-application-vnd-ms-publisher = 136
+
+abbrev pub is-application-vnd-ms-tnef : ℕ
+is-application-vnd-ms-tnef = 137
+
+abbrev pub is-application-vnd-ms-visio-drawing-macroenabled-main-xml : ℕ
+is-application-vnd-ms-visio-drawing-macroenabled-main-xml = 138
+
+abbrev pub is-application-vnd-ms-visio-drawing-main-xml : ℕ
+is-application-vnd-ms-visio-drawing-main-xml = 139
+
+abbrev pub is-application-vnd-ms-visio-stencil-main-xml : ℕ
+is-application-vnd-ms-visio-stencil-main-xml = 140
+
+abbrev pub is-application-vnd-ms-visio-template-main-xml : ℕ
+is-application-vnd-ms-visio-template-main-xml = 141
+
+abbrev pub is-application-vnd-ms-word-document-macroenabled-12 : ℕ
+is-application-vnd-ms-word-document-macroenabled-12 = 142
+
+abbrev pub is-application-vnd-ms-word-template-macroenabled-12 : ℕ
+is-application-vnd-ms-word-template-macroenabled-12 = 143
+
+abbrev pub is-application-vnd-ms-works : ℕ
+is-application-vnd-ms-works = 144
+
+abbrev pub is-application-vnd-ms-xpsdocument : ℕ
+is-application-vnd-ms-xpsdocument = 145
+
+abbrev pub is-application-vnd-nintendo-nitro-rom : ℕ
+is-application-vnd-nintendo-nitro-rom = 146
+
+abbrev pub is-application-vnd-nintendo-snes-rom : ℕ
+is-application-vnd-nintendo-snes-rom = 147
+
+abbrev pub is-application-vnd-oasis-opendocument-base : ℕ
+is-application-vnd-oasis-opendocument-base = 148
+
+abbrev pub is-application-vnd-oasis-opendocument-chart : ℕ
+is-application-vnd-oasis-opendocument-chart = 149
+
+abbrev pub is-application-vnd-oasis-opendocument-formula : ℕ
+is-application-vnd-oasis-opendocument-formula = 150
+
+abbrev pub is-application-vnd-oasis-opendocument-graphics : ℕ
+is-application-vnd-oasis-opendocument-graphics = 151
+
+abbrev pub is-application-vnd-oasis-opendocument-graphics-flat-xml : ℕ
+is-application-vnd-oasis-opendocument-graphics-flat-xml = 152
+
+abbrev pub is-application-vnd-oasis-opendocument-graphics-template : ℕ
+is-application-vnd-oasis-opendocument-graphics-template = 153
+
+abbrev pub is-application-vnd-oasis-opendocument-image : ℕ
+is-application-vnd-oasis-opendocument-image = 154
+
+abbrev pub is-application-vnd-oasis-opendocument-presentation : ℕ
+is-application-vnd-oasis-opendocument-presentation = 155
+
+abbrev pub is-application-vnd-oasis-opendocument-presentation-flat-xml : ℕ
+is-application-vnd-oasis-opendocument-presentation-flat-xml = 156
+
+abbrev pub is-application-vnd-oasis-opendocument-presentation-template : ℕ
+is-application-vnd-oasis-opendocument-presentation-template = 157
+
+abbrev pub is-application-vnd-oasis-opendocument-spreadsheet : ℕ
+is-application-vnd-oasis-opendocument-spreadsheet = 158
+
+abbrev pub is-application-vnd-oasis-opendocument-spreadsheet-flat-xml : ℕ
+is-application-vnd-oasis-opendocument-spreadsheet-flat-xml = 159
+
+abbrev pub is-application-vnd-oasis-opendocument-spreadsheet-template : ℕ
+is-application-vnd-oasis-opendocument-spreadsheet-template = 160
+
+abbrev pub is-application-vnd-oasis-opendocument-text : ℕ
+is-application-vnd-oasis-opendocument-text = 161
+
+abbrev pub is-application-vnd-oasis-opendocument-text-flat-xml : ℕ
+is-application-vnd-oasis-opendocument-text-flat-xml = 162
+
+abbrev pub is-application-vnd-oasis-opendocument-text-master : ℕ
+is-application-vnd-oasis-opendocument-text-master = 163
+
+abbrev pub is-application-vnd-oasis-opendocument-text-template : ℕ
+is-application-vnd-oasis-opendocument-text-template = 164
+
+abbrev pub is-application-vnd-oasis-opendocument-text-web : ℕ
+is-application-vnd-oasis-opendocument-text-web = 165
+
+abbrev pub is-application-vnd-openxmlformats-officedocument-presentationml-presentation : ℕ
+is-application-vnd-openxmlformats-officedocument-presentationml-presentation = 166
+
+abbrev pub is-application-vnd-openxmlformats-officedocument-presentationml-slideshow : ℕ
+is-application-vnd-openxmlformats-officedocument-presentationml-slideshow = 167
+
+abbrev pub is-application-vnd-openxmlformats-officedocument-presentationml-template : ℕ
+is-application-vnd-openxmlformats-officedocument-presentationml-template = 168
+
+abbrev pub is-application-vnd-openxmlformats-officedocument-spreadsheetml-sheet : ℕ
+is-application-vnd-openxmlformats-officedocument-spreadsheetml-sheet = 169
+
+abbrev pub is-application-vnd-openxmlformats-officedocument-spreadsheetml-template : ℕ
+is-application-vnd-openxmlformats-officedocument-spreadsheetml-template = 170
+
+abbrev pub is-application-vnd-openxmlformats-officedocument-wordprocessingml-document : ℕ
+is-application-vnd-openxmlformats-officedocument-wordprocessingml-document = 171
+
+abbrev pub is-application-vnd-openxmlformats-officedocument-wordprocessingml-template : ℕ
+is-application-vnd-openxmlformats-officedocument-wordprocessingml-template = 172
+
+abbrev pub is-application-vnd-osm-xml : ℕ
+is-application-vnd-osm-xml = 173
+
+abbrev pub is-application-vnd-rar : ℕ
+is-application-vnd-rar = 174
+
+abbrev pub is-application-vnd-recordare-musicxml : ℕ
+is-application-vnd-recordare-musicxml = 175
+
+abbrev pub is-application-vnd-recordare-musicxml-xml : ℕ
+is-application-vnd-recordare-musicxml-xml = 176
+
+abbrev pub is-application-vnd-rn-realmedia : ℕ
+is-application-vnd-rn-realmedia = 177
+
+abbrev pub is-application-vnd-shp : ℕ
+is-application-vnd-shp = 178
+
+abbrev pub is-application-vnd-shx : ℕ
+is-application-vnd-shx = 179
+
+abbrev pub is-application-vnd-smaf : ℕ
+is-application-vnd-smaf = 180
+
+abbrev pub is-application-vnd-snap : ℕ
+is-application-vnd-snap = 181
+
+abbrev pub is-application-vnd-sqlite3 : ℕ
+is-application-vnd-sqlite3 = 182
+
+abbrev pub is-application-vnd-squashfs : ℕ
+is-application-vnd-squashfs = 183
+
+abbrev pub is-application-vnd-sun-xml-calc : ℕ
+is-application-vnd-sun-xml-calc = 184
+
+abbrev pub is-application-vnd-sun-xml-draw : ℕ
+is-application-vnd-sun-xml-draw = 185
+
+abbrev pub is-application-vnd-sun-xml-impress : ℕ
+is-application-vnd-sun-xml-impress = 186
+
+abbrev pub is-application-vnd-sun-xml-writer : ℕ
+is-application-vnd-sun-xml-writer = 187
+
+abbrev pub is-application-vnd-tcpdump-pcap : ℕ
+is-application-vnd-tcpdump-pcap = 188
+
+abbrev pub is-application-vnd-visio : ℕ
+is-application-vnd-visio = 189
+
+abbrev pub is-application-vnd-wolfram-mathematica : ℕ
+is-application-vnd-wolfram-mathematica = 190
+
+abbrev pub is-application-vnd-wordperfect : ℕ
+is-application-vnd-wordperfect = 191
+
+abbrev pub is-application-voicexml-xml : ℕ
+is-application-voicexml-xml = 192
+
+abbrev pub is-application-vsix : ℕ
+is-application-vsix = 193
+
+abbrev pub is-application-warc : ℕ
+is-application-warc = 194
+
+abbrev pub is-application-wasm : ℕ
+is-application-wasm = 195
+
+abbrev pub is-application-winhlp : ℕ
+is-application-winhlp = 196
+
+abbrev pub is-application-wsdl-xml : ℕ
+is-application-wsdl-xml = 197
+
+abbrev pub is-application-x-7z-compressed : ℕ
+is-application-x-7z-compressed = 198
+
+abbrev pub is-application-x-ableton-live-set : ℕ
+is-application-x-ableton-live-set = 199
+
+abbrev pub is-application-x-ace : ℕ
+is-application-x-ace = 200
+
+abbrev pub is-application-x-admx : ℕ
+is-application-x-admx = 201
+
+abbrev pub is-application-x-age-encryption : ℕ
+is-application-x-age-encryption = 202
+
+abbrev pub is-application-x-alz : ℕ
+is-application-x-alz = 203
+
+abbrev pub is-application-x-amiga-disk-format : ℕ
+is-application-x-amiga-disk-format = 204
+
+abbrev pub is-application-x-android-archive : ℕ
+is-application-x-android-archive = 205
+
+abbrev pub is-application-x-ant-xml : ℕ
+is-application-x-ant-xml = 206
+
+abbrev pub is-application-x-apkm : ℕ
+is-application-x-apkm = 207
+
+abbrev pub is-application-x-appdata-xml : ℕ
+is-application-x-appdata-xml = 208
+
+abbrev pub is-application-x-apple-diskimage : ℕ
+is-application-x-apple-diskimage = 209
+
+abbrev pub is-application-x-arb-json : ℕ
+is-application-x-arb-json = 210
+
+abbrev pub is-application-x-arc : ℕ
+is-application-x-arc = 211
+
+abbrev pub is-application-x-archive-dar : ℕ
+is-application-x-archive-dar = 212
+
+abbrev pub is-application-x-arj : ℕ
+is-application-x-arj = 213
+
+abbrev pub is-application-x-asar : ℕ
+is-application-x-asar = 214
+
+abbrev pub is-application-x-asp : ℕ
+is-application-x-asp = 215
+
+abbrev pub is-application-x-aspx : ℕ
+is-application-x-aspx = 216
+
+abbrev pub is-application-x-autodesk-max : ℕ
+is-application-x-autodesk-max = 217
+
+abbrev pub is-application-x-avro : ℕ
+is-application-x-avro = 218
+
+abbrev pub is-application-x-avro-schema-json : ℕ
+is-application-x-avro-schema-json = 219
+
+abbrev pub is-application-x-bash : ℕ
+is-application-x-bash = 220
+
+abbrev pub is-application-x-bittorrent : ℕ
+is-application-x-bittorrent = 221
+
+abbrev pub is-application-x-blender : ℕ
+is-application-x-blender = 222
+
+abbrev pub is-application-x-bplist : ℕ
+is-application-x-bplist = 223
+
+abbrev pub is-application-x-bsp : ℕ
+is-application-x-bsp = 224
+
+abbrev pub is-application-x-bufr : ℕ
+is-application-x-bufr = 225
+
+abbrev pub is-application-x-bzip-compressed-tar : ℕ
+is-application-x-bzip-compressed-tar = 226
+
+abbrev pub is-application-x-bzip2 : ℕ
+is-application-x-bzip2 = 227
+
+abbrev pub is-application-x-cb7 : ℕ
+is-application-x-cb7 = 228
+
+abbrev pub is-application-x-cbt : ℕ
+is-application-x-cbt = 229
+
+abbrev pub is-application-x-cd-image : ℕ
+is-application-x-cd-image = 230
+
+abbrev pub is-application-x-cmi : ℕ
+is-application-x-cmi = 231
+
+abbrev pub is-application-x-cml-xml : ℕ
+is-application-x-cml-xml = 232
+
+abbrev pub is-application-x-com-executable : ℕ
+is-application-x-com-executable = 233
+
+abbrev pub is-application-x-compress : ℕ
+is-application-x-compress = 234
+
+abbrev pub is-application-x-compressed-tar : ℕ
+is-application-x-compressed-tar = 235
+
+abbrev pub is-application-x-core : ℕ
+is-application-x-core = 236
+
+abbrev pub is-application-x-cpio : ℕ
+is-application-x-cpio = 237
+
+abbrev pub is-application-x-csh : ℕ
+is-application-x-csh = 238
+
+abbrev pub is-application-x-cue : ℕ
+is-application-x-cue = 239
+
+abbrev pub is-application-x-dbm : ℕ
+is-application-x-dbm = 240
+
+abbrev pub is-application-x-dbus-gvdb : ℕ
+is-application-x-dbus-gvdb = 241
+
+abbrev pub is-application-x-designer : ℕ
+is-application-x-designer = 242
+
+abbrev pub is-application-x-desktop : ℕ
+is-application-x-desktop = 243
+
+abbrev pub is-application-x-devhelp-xml : ℕ
+is-application-x-devhelp-xml = 244
+
+abbrev pub is-application-x-device-tree-blob : ℕ
+is-application-x-device-tree-blob = 245
+
+abbrev pub is-application-x-dia-diagram : ℕ
+is-application-x-dia-diagram = 246
+
+abbrev pub is-application-x-dictzip : ℕ
+is-application-x-dictzip = 247
+
+abbrev pub is-application-x-docbook-xml : ℕ
+is-application-x-docbook-xml = 248
+
+abbrev pub is-application-x-doom-wad : ℕ
+is-application-x-doom-wad = 249
+
+abbrev pub is-application-x-drawio-xml : ℕ
+is-application-x-drawio-xml = 250
+
+abbrev pub is-application-x-dtbncx-xml : ℕ
+is-application-x-dtbncx-xml = 251
+
+abbrev pub is-application-x-dvi : ℕ
+is-application-x-dvi = 252
+
+abbrev pub is-application-x-e57 : ℕ
+is-application-x-e57 = 253
+
+abbrev pub is-application-x-eclipse-xml : ℕ
+is-application-x-eclipse-xml = 254
+
+abbrev pub is-application-x-egg-zip : ℕ
+is-application-x-egg-zip = 255
+
+abbrev pub is-application-x-elc : ℕ
+is-application-x-elc = 256
+
+abbrev pub is-application-x-emz : ℕ
+is-application-x-emz = 257
+
+abbrev pub is-application-x-entitlements : ℕ
+is-application-x-entitlements = 258
+
+abbrev pub is-application-x-erb : ℕ
+is-application-x-erb = 259
+
+abbrev pub is-application-x-erlang-beam : ℕ
+is-application-x-erlang-beam = 260
+
+abbrev pub is-application-x-executable-as-row-elf : ℕ
+is-application-x-executable-as-row-elf = 261
+
+abbrev pub is-application-x-executable-as-row-obj : ℕ
+is-application-x-executable-as-row-obj = 262
+
+abbrev pub is-application-x-ext-filesystem : ℕ
+is-application-x-ext-filesystem = 263
+
+abbrev pub is-application-x-fbx : ℕ
+is-application-x-fbx = 264
+
+abbrev pub is-application-x-fictionbook-xml : ℕ
+is-application-x-fictionbook-xml = 265
+
+abbrev pub is-application-x-fishscript : ℕ
+is-application-x-fishscript = 266
+
+abbrev pub is-application-x-flash-authoring : ℕ
+is-application-x-flash-authoring = 267
+
+abbrev pub is-application-x-font-afm : ℕ
+is-application-x-font-afm = 268
+
+abbrev pub is-application-x-font-bdf : ℕ
+is-application-x-font-bdf = 269
+
+abbrev pub is-application-x-font-pcf : ℕ
+is-application-x-font-pcf = 270
+
+abbrev pub is-application-x-font-type1 : ℕ
+is-application-x-font-type1 = 271
+
+abbrev pub is-application-x-freecad : ℕ
+is-application-x-freecad = 272
+
+abbrev pub is-application-x-gameboy-rom : ℕ
+is-application-x-gameboy-rom = 273
+
+abbrev pub is-application-x-gba-rom : ℕ
+is-application-x-gba-rom = 274
+
+abbrev pub is-application-x-gcov-data : ℕ
+is-application-x-gcov-data = 275
+
+abbrev pub is-application-x-gdbm : ℕ
+is-application-x-gdbm = 276
+
+abbrev pub is-application-x-gds : ℕ
+is-application-x-gds = 277
+
+abbrev pub is-application-x-gdscript : ℕ
+is-application-x-gdscript = 278
+
+abbrev pub is-application-x-genesis-rom : ℕ
+is-application-x-genesis-rom = 279
+
+abbrev pub is-application-x-gettext-translation : ℕ
+is-application-x-gettext-translation = 280
+
+abbrev pub is-application-x-gguf : ℕ
+is-application-x-gguf = 281
+
+abbrev pub is-application-x-gir-xml : ℕ
+is-application-x-gir-xml = 282
+
+abbrev pub is-application-x-glade : ℕ
+is-application-x-glade = 283
+
+abbrev pub is-application-x-glib-typelib : ℕ
+is-application-x-glib-typelib = 284
+
+abbrev pub is-application-x-gnucash : ℕ
+is-application-x-gnucash = 285
+
+abbrev pub is-application-x-gnuplot : ℕ
+is-application-x-gnuplot = 286
+
+abbrev pub is-application-x-go-sgf : ℕ
+is-application-x-go-sgf = 287
+
+abbrev pub is-application-x-godot-package : ℕ
+is-application-x-godot-package = 288
+
+abbrev pub is-application-x-godot-resource : ℕ
+is-application-x-godot-resource = 289
+
+abbrev pub is-application-x-godot-scene : ℕ
+is-application-x-godot-scene = 290
+
+abbrev pub is-application-x-google-chrome-extension : ℕ
+is-application-x-google-chrome-extension = 291
+
+abbrev pub is-application-x-grib : ℕ
+is-application-x-grib = 292
+
+abbrev pub is-application-x-gschema-xml : ℕ
+is-application-x-gschema-xml = 293
+
+abbrev pub is-application-x-gschema-compiled : ℕ
+is-application-x-gschema-compiled = 294
+
+abbrev pub is-application-x-har-json : ℕ
+is-application-x-har-json = 295
+
+abbrev pub is-application-x-haskell-interface : ℕ
+is-application-x-haskell-interface = 296
+
+abbrev pub is-application-x-hdf5 : ℕ
+is-application-x-hdf5 = 297
+
+abbrev pub is-application-x-hprof : ℕ
+is-application-x-hprof = 298
+
+abbrev pub is-application-x-hwp : ℕ
+is-application-x-hwp = 299
+
+abbrev pub is-application-x-hwpx : ℕ
+is-application-x-hwpx = 300
+
+abbrev pub is-application-x-hxml : ℕ
+is-application-x-hxml = 301
+
+abbrev pub is-application-x-innodb : ℕ
+is-application-x-innodb = 302
+
+abbrev pub is-application-x-intellij-xml : ℕ
+is-application-x-intellij-xml = 303
+
+abbrev pub is-application-x-ios-app : ℕ
+is-application-x-ios-app = 304
+
+abbrev pub is-application-x-ipynb-json : ℕ
+is-application-x-ipynb-json = 305
+
+abbrev pub is-application-x-jasper-xml : ℕ
+is-application-x-jasper-xml = 306
+
+abbrev pub is-application-x-java-enterprise-archive : ℕ
+is-application-x-java-enterprise-archive = 307
+
+abbrev pub is-application-x-java-jce-keystore : ℕ
+is-application-x-java-jce-keystore = 308
+
+abbrev pub is-application-x-java-jimage : ℕ
+is-application-x-java-jimage = 309
+
+abbrev pub is-application-x-java-jmod : ℕ
+is-application-x-java-jmod = 310
+
+abbrev pub is-application-x-java-jnlp-file : ℕ
+is-application-x-java-jnlp-file = 311
+
+abbrev pub is-application-x-java-keystore : ℕ
+is-application-x-java-keystore = 312
+
+abbrev pub is-application-x-java-serialized-object : ℕ
+is-application-x-java-serialized-object = 313
+
+abbrev pub is-application-x-java-web-archive : ℕ
+is-application-x-java-web-archive = 314
+
+abbrev pub is-application-x-jmeter-xml : ℕ
+is-application-x-jmeter-xml = 315
+
+abbrev pub is-application-x-jsa : ℕ
+is-application-x-jsa = 316
+
+abbrev pub is-application-x-jsonc : ℕ
+is-application-x-jsonc = 317
+
+abbrev pub is-application-x-jsp : ℕ
+is-application-x-jsp = 318
+
+abbrev pub is-application-x-kdenlive : ℕ
+is-application-x-kdenlive = 319
+
+abbrev pub is-application-x-keepass2 : ℕ
+is-application-x-keepass2 = 320
+
+abbrev pub is-application-x-kerberos-keytab : ℕ
+is-application-x-kerberos-keytab = 321
+
+abbrev pub is-application-x-krita : ℕ
+is-application-x-krita = 322
+
+abbrev pub is-application-x-ksh : ℕ
+is-application-x-ksh = 323
+
+abbrev pub is-application-x-leveldb-table : ℕ
+is-application-x-leveldb-table = 324
+
+abbrev pub is-application-x-llvm : ℕ
+is-application-x-llvm = 325
+
+abbrev pub is-application-x-locale-archive : ℕ
+is-application-x-locale-archive = 326
+
+abbrev pub is-application-x-lottie-json : ℕ
+is-application-x-lottie-json = 327
+
+abbrev pub is-application-x-lrzip : ℕ
+is-application-x-lrzip = 328
+
+abbrev pub is-application-x-lua-bytecode : ℕ
+is-application-x-lua-bytecode = 329
+
+abbrev pub is-application-x-luks : ℕ
+is-application-x-luks = 330
+
+abbrev pub is-application-x-lz4 : ℕ
+is-application-x-lz4 = 331
+
+abbrev pub is-application-x-lz4-compressed-tar : ℕ
+is-application-x-lz4-compressed-tar = 332
+
+abbrev pub is-application-x-lzh-compressed : ℕ
+is-application-x-lzh-compressed = 333
+
+abbrev pub is-application-x-lzip : ℕ
+is-application-x-lzip = 334
+
+abbrev pub is-application-x-lzip-compressed-tar : ℕ
+is-application-x-lzip-compressed-tar = 335
+
+abbrev pub is-application-x-lzma : ℕ
+is-application-x-lzma = 336
+
+abbrev pub is-application-x-lzma-compressed-tar : ℕ
+is-application-x-lzma-compressed-tar = 337
+
+abbrev pub is-application-x-lzop : ℕ
+is-application-x-lzop = 338
+
+abbrev pub is-application-x-m4 : ℕ
+is-application-x-m4 = 339
+
+abbrev pub is-application-x-mach-binary : ℕ
+is-application-x-mach-binary = 340
+
+abbrev pub is-application-x-magic-database : ℕ
+is-application-x-magic-database = 341
+
+abbrev pub is-application-x-mame-chd : ℕ
+is-application-x-mame-chd = 342
+
+abbrev pub is-application-x-matlab-data : ℕ
+is-application-x-matlab-data = 343
+
+abbrev pub is-application-x-maya-binary : ℕ
+is-application-x-maya-binary = 344
+
+abbrev pub is-application-x-mimecache : ℕ
+is-application-x-mimecache = 345
+
+abbrev pub is-application-x-minecraft-world : ℕ
+is-application-x-minecraft-world = 346
+
+abbrev pub is-application-x-mobipocket-ebook : ℕ
+is-application-x-mobipocket-ebook = 347
+
+abbrev pub is-application-x-ms-evtx : ℕ
+is-application-x-ms-evtx = 348
+
+abbrev pub is-application-x-ms-pdb : ℕ
+is-application-x-ms-pdb = 349
+
+abbrev pub is-application-x-ms-registry-hive : ℕ
+is-application-x-ms-registry-hive = 350
+
+abbrev pub is-application-x-ms-shortcut : ℕ
+is-application-x-ms-shortcut = 351
+
+abbrev pub is-application-x-ms-wim : ℕ
+is-application-x-ms-wim = 352
+
+abbrev pub is-application-x-msaccess-as-row-accdb : ℕ
+is-application-x-msaccess-as-row-accdb = 353
+
+abbrev pub is-application-x-msaccess-as-row-mdb : ℕ
+is-application-x-msaccess-as-row-mdb = 354
+
+abbrev pub is-application-x-msbuild-xml : ℕ
+is-application-x-msbuild-xml = 355
+
+abbrev pub is-application-x-msi : ℕ
+is-application-x-msi = 356
+
+abbrev pub is-application-x-mswinurl : ℕ
+is-application-x-mswinurl = 357
+
+abbrev pub is-application-x-mxml : ℕ
+is-application-x-mxml = 358
+
+abbrev pub is-application-x-mysql-myisam : ℕ
+is-application-x-mysql-myisam = 359
+
+abbrev pub is-application-x-n64-rom : ℕ
+is-application-x-n64-rom = 360
+
+abbrev pub is-application-x-natvis-xml : ℕ
+is-application-x-natvis-xml = 361
+
+abbrev pub is-application-x-navi-animation : ℕ
+is-application-x-navi-animation = 362
+
+abbrev pub is-application-x-ndjson : ℕ
+is-application-x-ndjson = 363
+
+abbrev pub is-application-x-netcdf : ℕ
+is-application-x-netcdf = 364
+
+abbrev pub is-application-x-nintendo-nes-rom : ℕ
+is-application-x-nintendo-nes-rom = 365
+
+abbrev pub is-application-x-npy : ℕ
+is-application-x-npy = 366
+
+abbrev pub is-application-x-npz : ℕ
+is-application-x-npz = 367
+
+abbrev pub is-application-x-nuget-package : ℕ
+is-application-x-nuget-package = 368
+
+abbrev pub is-application-x-nuspec-xml : ℕ
+is-application-x-nuspec-xml = 369
+
+abbrev pub is-application-x-object : ℕ
+is-application-x-object = 370
+
+abbrev pub is-application-x-openssh-private-key : ℕ
+is-application-x-openssh-private-key = 371
+
+abbrev pub is-application-x-openzim : ℕ
+is-application-x-openzim = 372
+
+abbrev pub is-application-x-orc : ℕ
+is-application-x-orc = 373
+
+abbrev pub is-application-x-osm-pbf : ℕ
+is-application-x-osm-pbf = 374
+
+abbrev pub is-application-x-ova : ℕ
+is-application-x-ova = 375
+
+abbrev pub is-application-x-par2 : ℕ
+is-application-x-par2 = 376
+
+abbrev pub is-application-x-pascal-resource-strings-json : ℕ
+is-application-x-pascal-resource-strings-json = 377
+
+abbrev pub is-application-x-pascal-unit : ℕ
+is-application-x-pascal-unit = 378
+
+abbrev pub is-application-x-pcapng : ℕ
+is-application-x-pcapng = 379
+
+abbrev pub is-application-x-pem-key : ℕ
+is-application-x-pem-key = 380
+
+abbrev pub is-application-x-perf-data : ℕ
+is-application-x-perf-data = 381
+
+abbrev pub is-application-x-phylip : ℕ
+is-application-x-phylip = 382
+
+abbrev pub is-application-x-plist : ℕ
+is-application-x-plist = 383
+
+abbrev pub is-application-x-ply : ℕ
+is-application-x-ply = 384
+
+abbrev pub is-application-x-pov : ℕ
+is-application-x-pov = 385
+
+abbrev pub is-application-x-powershell : ℕ
+is-application-x-powershell = 386
+
+abbrev pub is-application-x-precompiled-header : ℕ
+is-application-x-precompiled-header = 387
+
+abbrev pub is-application-x-profraw : ℕ
+is-application-x-profraw = 388
+
+abbrev pub is-application-x-ps1xml : ℕ
+is-application-x-ps1xml = 389
+
+abbrev pub is-application-x-python-bytecode : ℕ
+is-application-x-python-bytecode = 390
+
+abbrev pub is-application-x-python-pickle : ℕ
+is-application-x-python-pickle = 391
+
+abbrev pub is-application-x-python-zipapp : ℕ
+is-application-x-python-zipapp = 392
+
+abbrev pub is-application-x-pytorch : ℕ
+is-application-x-pytorch = 393
+
+abbrev pub is-application-x-qemu-disk : ℕ
+is-application-x-qemu-disk = 394
+
+abbrev pub is-application-x-qgis-project : ℕ
+is-application-x-qgis-project = 395
+
+abbrev pub is-application-x-qrc-xml : ℕ
+is-application-x-qrc-xml = 396
+
+abbrev pub is-application-x-quake-pak : ℕ
+is-application-x-quake-pak = 397
+
+abbrev pub is-application-x-quattropro : ℕ
+is-application-x-quattropro = 398
+
+abbrev pub is-application-x-r-data : ℕ
+is-application-x-r-data = 399
+
+abbrev pub is-application-x-resx-xml : ℕ
+is-application-x-resx-xml = 400
+
+abbrev pub is-application-x-rhino : ℕ
+is-application-x-rhino = 401
+
+abbrev pub is-application-x-rpm : ℕ
+is-application-x-rpm = 402
+
+abbrev pub is-application-x-rust-rlib : ℕ
+is-application-x-rust-rlib = 403
+
+abbrev pub is-application-x-safetensors : ℕ
+is-application-x-safetensors = 404
+
+abbrev pub is-application-x-sas-data : ℕ
+is-application-x-sas-data = 405
+
+abbrev pub is-application-x-scribus : ℕ
+is-application-x-scribus = 406
+
+abbrev pub is-application-x-scxml-xml : ℕ
+is-application-x-scxml-xml = 407
+
+abbrev pub is-application-x-setupscript : ℕ
+is-application-x-setupscript = 408
+
+abbrev pub is-application-x-sfnt-collection-dfont : ℕ
+is-application-x-sfnt-collection-dfont = 409
+
+abbrev pub is-application-x-shapefile-index : ℕ
+is-application-x-shapefile-index = 410
+
+abbrev pub is-application-x-shared-library-la : ℕ
+is-application-x-shared-library-la = 411
+
+abbrev pub is-application-x-sharedlib : ℕ
+is-application-x-sharedlib = 412
+
+abbrev pub is-application-x-shockwave-flash : ℕ
+is-application-x-shockwave-flash = 413
+
+abbrev pub is-application-x-sketch : ℕ
+is-application-x-sketch = 414
+
+abbrev pub is-application-x-sketchup : ℕ
+is-application-x-sketchup = 415
+
+abbrev pub is-application-x-snappy-framed : ℕ
+is-application-x-snappy-framed = 416
+
+abbrev pub is-application-x-spss-sav : ℕ
+is-application-x-spss-sav = 417
+
+abbrev pub is-application-x-ssh-public-key : ℕ
+is-application-x-ssh-public-key = 418
+
+abbrev pub is-application-x-stata-dta : ℕ
+is-application-x-stata-dta = 419
+
+abbrev pub is-application-x-storyboard-xml : ℕ
+is-application-x-storyboard-xml = 420
+
+abbrev pub is-application-x-stuffit : ℕ
+is-application-x-stuffit = 421
+
+abbrev pub is-application-x-sublime-syntax : ℕ
+is-application-x-sublime-syntax = 422
+
+abbrev pub is-application-x-subrip : ℕ
+is-application-x-subrip = 423
+
+abbrev pub is-application-x-swiftmodule : ℕ
+is-application-x-swiftmodule = 424
+
+abbrev pub is-application-x-systemd-journal : ℕ
+is-application-x-systemd-journal = 425
+
+abbrev pub is-application-x-tar : ℕ
+is-application-x-tar = 426
+
+abbrev pub is-application-x-tarz : ℕ
+is-application-x-tarz = 427
+
+abbrev pub is-application-x-terminfo : ℕ
+is-application-x-terminfo = 428
+
+abbrev pub is-application-x-terraform-state-json : ℕ
+is-application-x-terraform-state-json = 429
+
+abbrev pub is-application-x-tex-pk : ℕ
+is-application-x-tex-pk = 430
+
+abbrev pub is-application-x-tex-tfm : ℕ
+is-application-x-tex-tfm = 431
+
+abbrev pub is-application-x-tflite : ℕ
+is-application-x-tflite = 432
+
+abbrev pub is-application-x-theme : ℕ
+is-application-x-theme = 433
+
+abbrev pub is-application-x-theme-xml : ℕ
+is-application-x-theme-xml = 434
+
+abbrev pub is-application-x-thumbs-db : ℕ
+is-application-x-thumbs-db = 435
+
+abbrev pub is-application-x-tmx-xml : ℕ
+is-application-x-tmx-xml = 436
+
+abbrev pub is-application-x-unity-asmdef-json : ℕ
+is-application-x-unity-asmdef-json = 437
+
+abbrev pub is-application-x-unity-asset : ℕ
+is-application-x-unity-asset = 438
+
+abbrev pub is-application-x-unix-archive : ℕ
+is-application-x-unix-archive = 439
+
+abbrev pub is-application-x-uproject-json : ℕ
+is-application-x-uproject-json = 440
+
+abbrev pub is-application-x-urdf-xml : ℕ
+is-application-x-urdf-xml = 441
+
+abbrev pub is-application-x-usdz : ℕ
+is-application-x-usdz = 442
+
+abbrev pub is-application-x-vdi-disk : ℕ
+is-application-x-vdi-disk = 443
+
+abbrev pub is-application-x-vhd-disk : ℕ
+is-application-x-vhd-disk = 444
+
+abbrev pub is-application-x-vhdx-disk : ℕ
+is-application-x-vhdx-disk = 445
+
+abbrev pub is-application-x-vim-spell : ℕ
+is-application-x-vim-spell = 446
+
+abbrev pub is-application-x-vim-swap : ℕ
+is-application-x-vim-swap = 447
+
+abbrev pub is-application-x-virtualbox-saved-state : ℕ
+is-application-x-virtualbox-saved-state = 448
+
+abbrev pub is-application-x-vmdk-disk : ℕ
+is-application-x-vmdk-disk = 449
+
+abbrev pub is-application-x-wheel-zip : ℕ
+is-application-x-wheel-zip = 450
+
+abbrev pub is-application-x-windows-dump : ℕ
+is-application-x-windows-dump = 451
+
+abbrev pub is-application-x-wix-xml : ℕ
+is-application-x-wix-xml = 452
+
+abbrev pub is-application-x-wmz : ℕ
+is-application-x-wmz = 453
+
+abbrev pub is-application-x-x509-ca-cert-as-known : ℕ
+is-application-x-x509-ca-cert-as-known = 454
+
+abbrev pub is-application-x-x509-ca-cert-as-row-der : ℕ
+is-application-x-x509-ca-cert-as-row-der = 455
+
+abbrev pub is-application-x-x509-ca-cert-as-row-pem : ℕ
+is-application-x-x509-ca-cert-as-row-pem = 456
+
+abbrev pub is-application-x-xar : ℕ
+is-application-x-xar = 457
+
+abbrev pub is-application-x-xpinstall : ℕ
+is-application-x-xpinstall = 458
+
+abbrev pub is-application-x-xz : ℕ
+is-application-x-xz = 459
+
+abbrev pub is-application-x-xz-compressed-tar : ℕ
+is-application-x-xz-compressed-tar = 460
+
+abbrev pub is-application-x-zcml : ℕ
+is-application-x-zcml = 461
+
+abbrev pub is-application-x-zoo : ℕ
+is-application-x-zoo = 462
+
+abbrev pub is-application-x-zsh : ℕ
+is-application-x-zsh = 463
+
+abbrev pub is-application-x-zstd-compressed-tar : ℕ
+is-application-x-zstd-compressed-tar = 464
+
+abbrev pub is-application-xaml-xml : ℕ
+is-application-xaml-xml = 465
+
+abbrev pub is-application-xhtml-xml : ℕ
+is-application-xhtml-xml = 466
+
+abbrev pub is-application-xliff-xml : ℕ
+is-application-xliff-xml = 467
+
+abbrev pub is-application-xml : ℕ
+is-application-xml = 468
+
+abbrev pub is-application-xml-dtd : ℕ
+is-application-xml-dtd = 469
+
+abbrev pub is-application-xml-external-parsed-entity : ℕ
+is-application-xml-external-parsed-entity = 470
+
+abbrev pub is-application-xproc-xml : ℕ
+is-application-xproc-xml = 471
+
+abbrev pub is-application-xquery : ℕ
+is-application-xquery = 472
+
+abbrev pub is-application-xslt-xml : ℕ
+is-application-xslt-xml = 473
+
+abbrev pub is-application-xspf-xml : ℕ
+is-application-xspf-xml = 474
+
+abbrev pub is-application-yaml : ℕ
+is-application-yaml = 475
+
+abbrev pub is-application-zip : ℕ
+is-application-zip = 476
+
+abbrev pub is-application-zstd : ℕ
+is-application-zstd = 477
+
+abbrev pub is-audio-aac : ℕ
+is-audio-aac = 478
+
+abbrev pub is-audio-ac3 : ℕ
+is-audio-ac3 = 479
+
+abbrev pub is-audio-amr : ℕ
+is-audio-amr = 480
+
+abbrev pub is-audio-basic : ℕ
+is-audio-basic = 481
+
+abbrev pub is-audio-eac3 : ℕ
+is-audio-eac3 = 482
+
+abbrev pub is-audio-m4a : ℕ
+is-audio-m4a = 483
+
+abbrev pub is-audio-midi : ℕ
+is-audio-midi = 484
+
+abbrev pub is-audio-mpeg : ℕ
+is-audio-mpeg = 485
+
+abbrev pub is-audio-ogg-as-row-oga : ℕ
+is-audio-ogg-as-row-oga = 486
+
+abbrev pub is-audio-ogg-as-row-ogg : ℕ
+is-audio-ogg-as-row-ogg = 487
+
+abbrev pub is-audio-opus : ℕ
+is-audio-opus = 488
+
+abbrev pub is-audio-prs-sid : ℕ
+is-audio-prs-sid = 489
+
+abbrev pub is-audio-sf2 : ℕ
+is-audio-sf2 = 490
+
+abbrev pub is-audio-vnd-audible : ℕ
+is-audio-vnd-audible = 491
+
+abbrev pub is-audio-vnd-dts : ℕ
+is-audio-vnd-dts = 492
+
+abbrev pub is-audio-vnd-rn-realaudio : ℕ
+is-audio-vnd-rn-realaudio = 493
+
+abbrev pub is-audio-webm : ℕ
+is-audio-webm = 494
+
+abbrev pub is-audio-x-abc : ℕ
+is-audio-x-abc = 495
+
+abbrev pub is-audio-x-aifc : ℕ
+is-audio-x-aifc = 496
+
+abbrev pub is-audio-x-aiff : ℕ
+is-audio-x-aiff = 497
+
+abbrev pub is-audio-x-ape : ℕ
+is-audio-x-ape = 498
+
+abbrev pub is-audio-x-caf : ℕ
+is-audio-x-caf = 499
+
+abbrev pub is-audio-x-dff : ℕ
+is-audio-x-dff = 500
+
+abbrev pub is-audio-x-dsf : ℕ
+is-audio-x-dsf = 501
+
+abbrev pub is-audio-x-flac : ℕ
+is-audio-x-flac = 502
+
+abbrev pub is-audio-x-gsm : ℕ
+is-audio-x-gsm = 503
+
+abbrev pub is-audio-x-it : ℕ
+is-audio-x-it = 504
+
+abbrev pub is-audio-x-m4b : ℕ
+is-audio-x-m4b = 505
+
+abbrev pub is-audio-x-matroska : ℕ
+is-audio-x-matroska = 506
+
+abbrev pub is-audio-x-mo3 : ℕ
+is-audio-x-mo3 = 507
+
+abbrev pub is-audio-x-mod : ℕ
+is-audio-x-mod = 508
+
+abbrev pub is-audio-x-mpegurl : ℕ
+is-audio-x-mpegurl = 509
+
+abbrev pub is-audio-x-ms-wma : ℕ
+is-audio-x-ms-wma = 510
+
+abbrev pub is-audio-x-musepack : ℕ
+is-audio-x-musepack = 511
+
+abbrev pub is-audio-x-s3m : ℕ
+is-audio-x-s3m = 512
+
+abbrev pub is-audio-x-scpls : ℕ
+is-audio-x-scpls = 513
+
+abbrev pub is-audio-x-tta : ℕ
+is-audio-x-tta = 514
+
+abbrev pub is-audio-x-voc : ℕ
+is-audio-x-voc = 515
+
+abbrev pub is-audio-x-wav : ℕ
+is-audio-x-wav = 516
+
+abbrev pub is-audio-x-wavpack : ℕ
+is-audio-x-wavpack = 517
+
+abbrev pub is-audio-x-xm : ℕ
+is-audio-x-xm = 518
+
+abbrev pub is-chemical-x-cdx : ℕ
+is-chemical-x-cdx = 519
+
+abbrev pub is-chemical-x-cif : ℕ
+is-chemical-x-cif = 520
+
+abbrev pub is-chemical-x-mdl-molfile : ℕ
+is-chemical-x-mdl-molfile = 521
+
+abbrev pub is-chemical-x-mdl-sdfile : ℕ
+is-chemical-x-mdl-sdfile = 522
+
+abbrev pub is-chemical-x-pdb : ℕ
+is-chemical-x-pdb = 523
+
+abbrev pub is-chemical-x-xyz : ℕ
+is-chemical-x-xyz = 524
+
+abbrev pub is-font-collection : ℕ
+is-font-collection = 525
+
+abbrev pub is-image-apng : ℕ
+is-image-apng = 526
+
+abbrev pub is-image-astc : ℕ
+is-image-astc = 527
+
+abbrev pub is-image-avif : ℕ
+is-image-avif = 528
+
+abbrev pub is-image-bmp : ℕ
+is-image-bmp = 529
+
+abbrev pub is-image-bpg : ℕ
+is-image-bpg = 530
+
+abbrev pub is-image-emf : ℕ
+is-image-emf = 531
+
+abbrev pub is-image-fits : ℕ
+is-image-fits = 532
+
+abbrev pub is-image-geotiff : ℕ
+is-image-geotiff = 533
+
+abbrev pub is-image-gif : ℕ
+is-image-gif = 534
+
+abbrev pub is-image-heic : ℕ
+is-image-heic = 535
+
+abbrev pub is-image-heic-sequence : ℕ
+is-image-heic-sequence = 536
+
+abbrev pub is-image-heif : ℕ
+is-image-heif = 537
+
+abbrev pub is-image-jls : ℕ
+is-image-jls = 538
+
+abbrev pub is-image-jp2 : ℕ
+is-image-jp2 = 539
+
+abbrev pub is-image-jpeg : ℕ
+is-image-jpeg = 540
+
+abbrev pub is-image-jpx : ℕ
+is-image-jpx = 541
+
+abbrev pub is-image-jxl : ℕ
+is-image-jxl = 542
+
+abbrev pub is-image-ktx : ℕ
+is-image-ktx = 543
+
+abbrev pub is-image-ktx2 : ℕ
+is-image-ktx2 = 544
+
+abbrev pub is-image-openraster : ℕ
+is-image-openraster = 545
+
+abbrev pub is-image-png : ℕ
+is-image-png = 546
+
+abbrev pub is-image-qoi : ℕ
+is-image-qoi = 547
+
+abbrev pub is-image-svg-xml : ℕ
+is-image-svg-xml = 548
+
+abbrev pub is-image-svg-xml-compressed : ℕ
+is-image-svg-xml-compressed = 549
+
+abbrev pub is-image-tiff : ℕ
+is-image-tiff = 550
+
+abbrev pub is-image-vnd-adobe-photoshop : ℕ
+is-image-vnd-adobe-photoshop = 551
+
+abbrev pub is-image-vnd-djvu : ℕ
+is-image-vnd-djvu = 552
+
+abbrev pub is-image-vnd-dwg : ℕ
+is-image-vnd-dwg = 553
+
+abbrev pub is-image-vnd-dxf : ℕ
+is-image-vnd-dxf = 554
+
+abbrev pub is-image-vnd-fpx : ℕ
+is-image-vnd-fpx = 555
+
+abbrev pub is-image-vnd-microsoft-icon : ℕ
+is-image-vnd-microsoft-icon = 556
+
+abbrev pub is-image-vnd-ms-photo : ℕ
+is-image-vnd-ms-photo = 557
+
+abbrev pub is-image-vnd-radiance : ℕ
+is-image-vnd-radiance = 558
+
+abbrev pub is-image-vnd-zbrush-pcx : ℕ
+is-image-vnd-zbrush-pcx = 559
+
+abbrev pub is-image-webp : ℕ
+is-image-webp = 560
+
+abbrev pub is-image-wmf : ℕ
+is-image-wmf = 561
+
+abbrev pub is-image-x-3ds : ℕ
+is-image-x-3ds = 562
+
+abbrev pub is-image-x-adobe-dng : ℕ
+is-image-x-adobe-dng = 563
+
+abbrev pub is-image-x-canon-cr2 : ℕ
+is-image-x-canon-cr2 = 564
+
+abbrev pub is-image-x-canon-cr3 : ℕ
+is-image-x-canon-cr3 = 565
+
+abbrev pub is-image-x-cmu-raster : ℕ
+is-image-x-cmu-raster = 566
+
+abbrev pub is-image-x-dds : ℕ
+is-image-x-dds = 567
+
+abbrev pub is-image-x-eps : ℕ
+is-image-x-eps = 568
+
+abbrev pub is-image-x-epson-erf : ℕ
+is-image-x-epson-erf = 569
+
+abbrev pub is-image-x-exr : ℕ
+is-image-x-exr = 570
+
+abbrev pub is-image-x-fuji-raf : ℕ
+is-image-x-fuji-raf = 571
+
+abbrev pub is-image-x-gimp-gbr : ℕ
+is-image-x-gimp-gbr = 572
+
+abbrev pub is-image-x-gimp-pat : ℕ
+is-image-x-gimp-pat = 573
+
+abbrev pub is-image-x-hasselblad-3fr : ℕ
+is-image-x-hasselblad-3fr = 574
+
+abbrev pub is-image-x-icns : ℕ
+is-image-x-icns = 575
+
+abbrev pub is-image-x-ilbm : ℕ
+is-image-x-ilbm = 576
+
+abbrev pub is-image-x-jp2-codestream : ℕ
+is-image-x-jp2-codestream = 577
+
+abbrev pub is-image-x-kodak-dcr : ℕ
+is-image-x-kodak-dcr = 578
+
+abbrev pub is-image-x-kodak-kdc : ℕ
+is-image-x-kodak-kdc = 579
+
+abbrev pub is-image-x-mamiya-mef : ℕ
+is-image-x-mamiya-mef = 580
+
+abbrev pub is-image-x-minolta-mrw : ℕ
+is-image-x-minolta-mrw = 581
+
+abbrev pub is-image-x-nikon-nef : ℕ
+is-image-x-nikon-nef = 582
+
+abbrev pub is-image-x-nikon-nrw : ℕ
+is-image-x-nikon-nrw = 583
+
+abbrev pub is-image-x-olympus-orf : ℕ
+is-image-x-olympus-orf = 584
+
+abbrev pub is-image-x-panasonic-rw2 : ℕ
+is-image-x-panasonic-rw2 = 585
+
+abbrev pub is-image-x-pentax-pef : ℕ
+is-image-x-pentax-pef = 586
+
+abbrev pub is-image-x-pict : ℕ
+is-image-x-pict = 587
+
+abbrev pub is-image-x-portable-anymap : ℕ
+is-image-x-portable-anymap = 588
+
+abbrev pub is-image-x-portable-bitmap : ℕ
+is-image-x-portable-bitmap = 589
+
+abbrev pub is-image-x-portable-graymap : ℕ
+is-image-x-portable-graymap = 590
+
+abbrev pub is-image-x-portable-pixmap : ℕ
+is-image-x-portable-pixmap = 591
+
+abbrev pub is-image-x-samsung-srw : ℕ
+is-image-x-samsung-srw = 592
+
+abbrev pub is-image-x-sgi : ℕ
+is-image-x-sgi = 593
+
+abbrev pub is-image-x-sigma-x3f : ℕ
+is-image-x-sigma-x3f = 594
+
+abbrev pub is-image-x-sony-arw : ℕ
+is-image-x-sony-arw = 595
+
+abbrev pub is-image-x-sony-sr2 : ℕ
+is-image-x-sony-sr2 = 596
+
+abbrev pub is-image-x-sony-srf : ℕ
+is-image-x-sony-srf = 597
+
+abbrev pub is-image-x-tga : ℕ
+is-image-x-tga = 598
+
+abbrev pub is-image-x-win-bitmap : ℕ
+is-image-x-win-bitmap = 599
+
+abbrev pub is-image-x-xbitmap : ℕ
+is-image-x-xbitmap = 600
+
+abbrev pub is-image-x-xcf : ℕ
+is-image-x-xcf = 601
+
+abbrev pub is-image-x-xfig : ℕ
+is-image-x-xfig = 602
+
+abbrev pub is-image-x-xpixmap : ℕ
+is-image-x-xpixmap = 603
+
+abbrev pub is-image-x-xwindowdump : ℕ
+is-image-x-xwindowdump = 604
+
+abbrev pub is-message-rfc822 : ℕ
+is-message-rfc822 = 605
+
+abbrev pub is-model-3mf : ℕ
+is-model-3mf = 606
+
+abbrev pub is-model-gltf-json : ℕ
+is-model-gltf-json = 607
+
+abbrev pub is-model-gltf-binary : ℕ
+is-model-gltf-binary = 608
+
+abbrev pub is-model-iges : ℕ
+is-model-iges = 609
+
+abbrev pub is-model-mtl : ℕ
+is-model-mtl = 610
+
+abbrev pub is-model-obj : ℕ
+is-model-obj = 611
+
+abbrev pub is-model-step : ℕ
+is-model-step = 612
+
+abbrev pub is-model-stl : ℕ
+is-model-stl = 613
+
+abbrev pub is-model-vnd-collada-xml : ℕ
+is-model-vnd-collada-xml = 614
+
+abbrev pub is-model-vnd-usdc : ℕ
+is-model-vnd-usdc = 615
+
+abbrev pub is-model-vrml : ℕ
+is-model-vrml = 616
+
+abbrev pub is-model-x3d-xml : ℕ
+is-model-x3d-xml = 617
+
+abbrev pub is-model-x3d-vrml : ℕ
+is-model-x3d-vrml = 618
+
+abbrev pub is-multipart-related : ℕ
+is-multipart-related = 619
+
+abbrev pub is-text-cache-manifest : ℕ
+is-text-cache-manifest = 620
+
+abbrev pub is-text-calendar : ℕ
+is-text-calendar = 621
+
+abbrev pub is-text-cql : ℕ
+is-text-cql = 622
+
+abbrev pub is-text-css : ℕ
+is-text-css = 623
+
+abbrev pub is-text-csv : ℕ
+is-text-csv = 624
+
+abbrev pub is-text-html : ℕ
+is-text-html = 625
+
+abbrev pub is-text-javascript : ℕ
+is-text-javascript = 626
+
+abbrev pub is-text-markdown : ℕ
+is-text-markdown = 627
+
+abbrev pub is-text-mdx : ℕ
+is-text-mdx = 628
+
+abbrev pub is-text-n3 : ℕ
+is-text-n3 = 629
+
+abbrev pub is-text-org : ℕ
+is-text-org = 630
+
+abbrev pub is-text-plain : ℕ
+is-text-plain = 631
+
+abbrev pub is-text-rust : ℕ
+is-text-rust = 632
+
+abbrev pub is-text-sgml : ℕ
+is-text-sgml = 633
+
+abbrev pub is-text-tab-separated-values : ℕ
+is-text-tab-separated-values = 634
+
+abbrev pub is-text-troff : ℕ
+is-text-troff = 635
+
+abbrev pub is-text-turtle : ℕ
+is-text-turtle = 636
+
+abbrev pub is-text-uri-list : ℕ
+is-text-uri-list = 637
+
+abbrev pub is-text-vbscript : ℕ
+is-text-vbscript = 638
+
+abbrev pub is-text-vcard : ℕ
+is-text-vcard = 639
+
+abbrev pub is-text-velocity : ℕ
+is-text-velocity = 640
+
+abbrev pub is-text-vnd-familysearch-gedcom : ℕ
+is-text-vnd-familysearch-gedcom = 641
+
+abbrev pub is-text-vnd-graphviz : ℕ
+is-text-vnd-graphviz = 642
+
+abbrev pub is-text-vnd-trolltech-linguist : ℕ
+is-text-vnd-trolltech-linguist = 643
+
+abbrev pub is-text-vnd-wap-wml : ℕ
+is-text-vnd-wap-wml = 644
+
+abbrev pub is-text-vtt : ℕ
+is-text-vtt = 645
+
+abbrev pub is-text-wgsl : ℕ
+is-text-wgsl = 646
+
+abbrev pub is-text-x-abap : ℕ
+is-text-x-abap = 647
+
+abbrev pub is-text-x-adasrc : ℕ
+is-text-x-adasrc = 648
+
+abbrev pub is-text-x-agda : ℕ
+is-text-x-agda = 649
+
+abbrev pub is-text-x-aidl : ℕ
+is-text-x-aidl = 650
+
+abbrev pub is-text-x-ampl : ℕ
+is-text-x-ampl = 651
+
+abbrev pub is-text-x-antlr : ℕ
+is-text-x-antlr = 652
+
+abbrev pub is-text-x-apacheconf : ℕ
+is-text-x-apacheconf = 653
+
+abbrev pub is-text-x-apex : ℕ
+is-text-x-apex = 654
+
+abbrev pub is-text-x-apl : ℕ
+is-text-x-apl = 655
+
+abbrev pub is-text-x-applescript : ℕ
+is-text-x-applescript = 656
+
+abbrev pub is-text-x-asciidoc : ℕ
+is-text-x-asciidoc = 657
+
+abbrev pub is-text-x-asm : ℕ
+is-text-x-asm = 658
+
+abbrev pub is-text-x-asn1 : ℕ
+is-text-x-asn1 = 659
+
+abbrev pub is-text-x-astro : ℕ
+is-text-x-astro = 660
+
+abbrev pub is-text-x-asymptote : ℕ
+is-text-x-asymptote = 661
+
+abbrev pub is-text-x-autoconf : ℕ
+is-text-x-autoconf = 662
+
+abbrev pub is-text-x-autohotkey : ℕ
+is-text-x-autohotkey = 663
+
+abbrev pub is-text-x-autoit : ℕ
+is-text-x-autoit = 664
+
+abbrev pub is-text-x-automake : ℕ
+is-text-x-automake = 665
+
+abbrev pub is-text-x-awk : ℕ
+is-text-x-awk = 666
+
+abbrev pub is-text-x-ballerina : ℕ
+is-text-x-ballerina = 667
+
+abbrev pub is-text-x-basic : ℕ
+is-text-x-basic = 668
+
+abbrev pub is-text-x-bats : ℕ
+is-text-x-bats = 669
+
+abbrev pub is-text-x-bc : ℕ
+is-text-x-bc = 670
+
+abbrev pub is-text-x-bed : ℕ
+is-text-x-bed = 671
+
+abbrev pub is-text-x-bibtex : ℕ
+is-text-x-bibtex = 672
+
+abbrev pub is-text-x-bicep : ℕ
+is-text-x-bicep = 673
+
+abbrev pub is-text-x-bitbake : ℕ
+is-text-x-bitbake = 674
+
+abbrev pub is-text-x-blade : ℕ
+is-text-x-blade = 675
+
+abbrev pub is-text-x-bluespec : ℕ
+is-text-x-bluespec = 676
+
+abbrev pub is-text-x-boo : ℕ
+is-text-x-boo = 677
+
+abbrev pub is-text-x-bpftrace : ℕ
+is-text-x-bpftrace = 678
+
+abbrev pub is-text-x-bugs : ℕ
+is-text-x-bugs = 679
+
+abbrev pub is-text-x-c-hdr : ℕ
+is-text-x-c-hdr = 680
+
+abbrev pub is-text-x-c-src : ℕ
+is-text-x-c-src = 681
+
+abbrev pub is-text-x-cabal : ℕ
+is-text-x-cabal = 682
+
+abbrev pub is-text-x-cairo : ℕ
+is-text-x-cairo = 683
+
+abbrev pub is-text-x-capnp : ℕ
+is-text-x-capnp = 684
+
+abbrev pub is-text-x-cfm : ℕ
+is-text-x-cfm = 685
+
+abbrev pub is-text-x-chapel : ℕ
+is-text-x-chapel = 686
+
+abbrev pub is-text-x-chdr : ℕ
+is-text-x-chdr = 687
+
+abbrev pub is-text-x-checksums : ℕ
+is-text-x-checksums = 688
+
+abbrev pub is-text-x-chuck : ℕ
+is-text-x-chuck = 689
+
+abbrev pub is-text-x-clojure : ℕ
+is-text-x-clojure = 690
+
+abbrev pub is-text-x-cmake : ℕ
+is-text-x-cmake = 691
+
+abbrev pub is-text-x-cobol : ℕ
+is-text-x-cobol = 692
+
+abbrev pub is-text-x-cocci : ℕ
+is-text-x-cocci = 693
+
+abbrev pub is-text-x-common-lisp : ℕ
+is-text-x-common-lisp = 694
+
+abbrev pub is-text-x-component : ℕ
+is-text-x-component = 695
+
+abbrev pub is-text-x-coq : ℕ
+is-text-x-coq = 696
+
+abbrev pub is-text-x-cppconf : ℕ
+is-text-x-cppconf = 697
+
+abbrev pub is-text-x-creole : ℕ
+is-text-x-creole = 698
+
+abbrev pub is-text-x-cron : ℕ
+is-text-x-cron = 699
+
+abbrev pub is-text-x-crystal : ℕ
+is-text-x-crystal = 700
+
+abbrev pub is-text-x-csharp : ℕ
+is-text-x-csharp = 701
+
+abbrev pub is-text-x-csound : ℕ
+is-text-x-csound = 702
+
+abbrev pub is-text-x-csrc : ℕ
+is-text-x-csrc = 703
+
+abbrev pub is-text-x-cuda : ℕ
+is-text-x-cuda = 704
+
+abbrev pub is-text-x-cwl : ℕ
+is-text-x-cwl = 705
+
+abbrev pub is-text-x-cypher : ℕ
+is-text-x-cypher = 706
+
+abbrev pub is-text-x-cython : ℕ
+is-text-x-cython = 707
+
+abbrev pub is-text-x-d2 : ℕ
+is-text-x-d2 = 708
+
+abbrev pub is-text-x-dart : ℕ
+is-text-x-dart = 709
+
+abbrev pub is-text-x-debian-control : ℕ
+is-text-x-debian-control = 710
+
+abbrev pub is-text-x-dhall : ℕ
+is-text-x-dhall = 711
+
+abbrev pub is-text-x-dimacs : ℕ
+is-text-x-dimacs = 712
+
+abbrev pub is-text-x-dns-zone : ℕ
+is-text-x-dns-zone = 713
+
+abbrev pub is-text-x-dockerfile : ℕ
+is-text-x-dockerfile = 714
+
+abbrev pub is-text-x-dotenv : ℕ
+is-text-x-dotenv = 715
+
+abbrev pub is-text-x-dsrc : ℕ
+is-text-x-dsrc = 716
+
+abbrev pub is-text-x-dts : ℕ
+is-text-x-dts = 717
+
+abbrev pub is-text-x-dune : ℕ
+is-text-x-dune = 718
+
+abbrev pub is-text-x-ebnf : ℕ
+is-text-x-ebnf = 719
+
+abbrev pub is-text-x-ebuild : ℕ
+is-text-x-ebuild = 720
+
+abbrev pub is-text-x-editorconfig : ℕ
+is-text-x-editorconfig = 721
+
+abbrev pub is-text-x-eex : ℕ
+is-text-x-eex = 722
+
+abbrev pub is-text-x-eiffel : ℕ
+is-text-x-eiffel = 723
+
+abbrev pub is-text-x-ejs : ℕ
+is-text-x-ejs = 724
+
+abbrev pub is-text-x-elixir : ℕ
+is-text-x-elixir = 725
+
+abbrev pub is-text-x-elm : ℕ
+is-text-x-elm = 726
+
+abbrev pub is-text-x-emacs-config : ℕ
+is-text-x-emacs-config = 727
+
+abbrev pub is-text-x-emacs-lisp : ℕ
+is-text-x-emacs-lisp = 728
+
+abbrev pub is-text-x-erlang : ℕ
+is-text-x-erlang = 729
+
+abbrev pub is-text-x-expect : ℕ
+is-text-x-expect = 730
+
+abbrev pub is-text-x-factor : ℕ
+is-text-x-factor = 731
+
+abbrev pub is-text-x-fasta : ℕ
+is-text-x-fasta = 732
+
+abbrev pub is-text-x-fastq : ℕ
+is-text-x-fastq = 733
+
+abbrev pub is-text-x-fennel : ℕ
+is-text-x-fennel = 734
+
+abbrev pub is-text-x-flatbuffers : ℕ
+is-text-x-flatbuffers = 735
+
+abbrev pub is-text-x-fontforge-sfd : ℕ
+is-text-x-fontforge-sfd = 736
+
+abbrev pub is-text-x-forth : ℕ
+is-text-x-forth = 737
+
+abbrev pub is-text-x-fortran : ℕ
+is-text-x-fortran = 738
+
+abbrev pub is-text-x-fountain : ℕ
+is-text-x-fountain = 739
+
+abbrev pub is-text-x-freemarker : ℕ
+is-text-x-freemarker = 740
+
+abbrev pub is-text-x-fsharp : ℕ
+is-text-x-fsharp = 741
+
+abbrev pub is-text-x-gams : ℕ
+is-text-x-gams = 742
+
+abbrev pub is-text-x-gap : ℕ
+is-text-x-gap = 743
+
+abbrev pub is-text-x-gdb : ℕ
+is-text-x-gdb = 744
+
+abbrev pub is-text-x-genbank : ℕ
+is-text-x-genbank = 745
+
+abbrev pub is-text-x-genie : ℕ
+is-text-x-genie = 746
+
+abbrev pub is-text-x-gerber : ℕ
+is-text-x-gerber = 747
+
+abbrev pub is-text-x-gettext-translation : ℕ
+is-text-x-gettext-translation = 748
+
+abbrev pub is-text-x-gettext-translation-template : ℕ
+is-text-x-gettext-translation-template = 749
+
+abbrev pub is-text-x-gff : ℕ
+is-text-x-gff = 750
+
+abbrev pub is-text-x-gfortran-module : ℕ
+is-text-x-gfortran-module = 751
+
+abbrev pub is-text-x-gherkin : ℕ
+is-text-x-gherkin = 752
+
+abbrev pub is-text-x-gitattributes : ℕ
+is-text-x-gitattributes = 753
+
+abbrev pub is-text-x-gitconfig : ℕ
+is-text-x-gitconfig = 754
+
+abbrev pub is-text-x-gitignore : ℕ
+is-text-x-gitignore = 755
+
+abbrev pub is-text-x-gleam : ℕ
+is-text-x-gleam = 756
+
+abbrev pub is-text-x-glsl : ℕ
+is-text-x-glsl = 757
+
+abbrev pub is-text-x-gn : ℕ
+is-text-x-gn = 758
+
+abbrev pub is-text-x-go : ℕ
+is-text-x-go = 759
+
+abbrev pub is-text-x-gomod : ℕ
+is-text-x-gomod = 760
+
+abbrev pub is-text-x-gosum : ℕ
+is-text-x-gosum = 761
+
+abbrev pub is-text-x-gotemplate : ℕ
+is-text-x-gotemplate = 762
+
+abbrev pub is-text-x-gpr : ℕ
+is-text-x-gpr = 763
+
+abbrev pub is-text-x-gradle : ℕ
+is-text-x-gradle = 764
+
+abbrev pub is-text-x-groovy : ℕ
+is-text-x-groovy = 765
+
+abbrev pub is-text-x-haml : ℕ
+is-text-x-haml = 766
+
+abbrev pub is-text-x-handlebars : ℕ
+is-text-x-handlebars = 767
+
+abbrev pub is-text-x-haskell : ℕ
+is-text-x-haskell = 768
+
+abbrev pub is-text-x-haxe : ℕ
+is-text-x-haxe = 769
+
+abbrev pub is-text-x-hcl : ℕ
+is-text-x-hcl = 770
+
+abbrev pub is-text-x-hive : ℕ
+is-text-x-hive = 771
+
+abbrev pub is-text-x-hlsl : ℕ
+is-text-x-hlsl = 772
+
+abbrev pub is-text-x-http : ℕ
+is-text-x-http = 773
+
+abbrev pub is-text-x-hunspell-affix : ℕ
+is-text-x-hunspell-affix = 774
+
+abbrev pub is-text-x-hy : ℕ
+is-text-x-hy = 775
+
+abbrev pub is-text-x-idl : ℕ
+is-text-x-idl = 776
+
+abbrev pub is-text-x-idris : ℕ
+is-text-x-idris = 777
+
+abbrev pub is-text-x-igor : ℕ
+is-text-x-igor = 778
+
+abbrev pub is-text-x-imagej : ℕ
+is-text-x-imagej = 779
+
+abbrev pub is-text-x-ini : ℕ
+is-text-x-ini = 780
+
+abbrev pub is-text-x-innosetup : ℕ
+is-text-x-innosetup = 781
+
+abbrev pub is-text-x-io : ℕ
+is-text-x-io = 782
+
+abbrev pub is-text-x-ipxe : ℕ
+is-text-x-ipxe = 783
+
+abbrev pub is-text-x-irclog : ℕ
+is-text-x-irclog = 784
+
+abbrev pub is-text-x-isabelle : ℕ
+is-text-x-isabelle = 785
+
+abbrev pub is-text-x-janet : ℕ
+is-text-x-janet = 786
+
+abbrev pub is-text-x-java : ℕ
+is-text-x-java = 787
+
+abbrev pub is-text-x-java-manifest : ℕ
+is-text-x-java-manifest = 788
+
+abbrev pub is-text-x-java-properties : ℕ
+is-text-x-java-properties = 789
+
+abbrev pub is-text-x-jcl : ℕ
+is-text-x-jcl = 790
+
+abbrev pub is-text-x-jelly : ℕ
+is-text-x-jelly = 791
+
+abbrev pub is-text-x-jinja : ℕ
+is-text-x-jinja = 792
+
+abbrev pub is-text-x-jq : ℕ
+is-text-x-jq = 793
+
+abbrev pub is-text-x-julia : ℕ
+is-text-x-julia = 794
+
+abbrev pub is-text-x-just : ℕ
+is-text-x-just = 795
+
+abbrev pub is-text-x-kaitai-struct : ℕ
+is-text-x-kaitai-struct = 796
+
+abbrev pub is-text-x-kconfig : ℕ
+is-text-x-kconfig = 797
+
+abbrev pub is-text-x-kickstart : ℕ
+is-text-x-kickstart = 798
+
+abbrev pub is-text-x-kotlin : ℕ
+is-text-x-kotlin = 799
+
+abbrev pub is-text-x-krl : ℕ
+is-text-x-krl = 800
+
+abbrev pub is-text-x-kusto : ℕ
+is-text-x-kusto = 801
+
+abbrev pub is-text-x-latte : ℕ
+is-text-x-latte = 802
+
+abbrev pub is-text-x-ld-script : ℕ
+is-text-x-ld-script = 803
+
+abbrev pub is-text-x-ldif : ℕ
+is-text-x-ldif = 804
+
+abbrev pub is-text-x-lean : ℕ
+is-text-x-lean = 805
+
+abbrev pub is-text-x-less : ℕ
+is-text-x-less = 806
+
+abbrev pub is-text-x-lex : ℕ
+is-text-x-lex = 807
+
+abbrev pub is-text-x-lfe : ℕ
+is-text-x-lfe = 808
+
+abbrev pub is-text-x-lilypond : ℕ
+is-text-x-lilypond = 809
+
+abbrev pub is-text-x-liquid : ℕ
+is-text-x-liquid = 810
+
+abbrev pub is-text-x-literate-haskell : ℕ
+is-text-x-literate-haskell = 811
+
+abbrev pub is-text-x-livescript : ℕ
+is-text-x-livescript = 812
+
+abbrev pub is-text-x-llvm : ℕ
+is-text-x-llvm = 813
+
+abbrev pub is-text-x-logtalk : ℕ
+is-text-x-logtalk = 814
+
+abbrev pub is-text-x-lsl : ℕ
+is-text-x-lsl = 815
+
+abbrev pub is-text-x-lua : ℕ
+is-text-x-lua = 816
+
+abbrev pub is-text-x-makefile : ℕ
+is-text-x-makefile = 817
+
+abbrev pub is-text-x-mako : ℕ
+is-text-x-mako = 818
+
+abbrev pub is-text-x-marko : ℕ
+is-text-x-marko = 819
+
+abbrev pub is-text-x-matlab : ℕ
+is-text-x-matlab = 820
+
+abbrev pub is-text-x-maven-xml : ℕ
+is-text-x-maven-xml = 821
+
+abbrev pub is-text-x-maxima : ℕ
+is-text-x-maxima = 822
+
+abbrev pub is-text-x-mcfunction : ℕ
+is-text-x-mcfunction = 823
+
+abbrev pub is-text-x-mediawiki : ℕ
+is-text-x-mediawiki = 824
+
+abbrev pub is-text-x-mermaid : ℕ
+is-text-x-mermaid = 825
+
+abbrev pub is-text-x-meson : ℕ
+is-text-x-meson = 826
+
+abbrev pub is-text-x-metafont : ℕ
+is-text-x-metafont = 827
+
+abbrev pub is-text-x-metal : ℕ
+is-text-x-metal = 828
+
+abbrev pub is-text-x-mib : ℕ
+is-text-x-mib = 829
+
+abbrev pub is-text-x-mirc : ℕ
+is-text-x-mirc = 830
+
+abbrev pub is-text-x-mlir : ℕ
+is-text-x-mlir = 831
+
+abbrev pub is-text-x-modelica : ℕ
+is-text-x-modelica = 832
+
+abbrev pub is-text-x-modula : ℕ
+is-text-x-modula = 833
+
+abbrev pub is-text-x-mojo : ℕ
+is-text-x-mojo = 834
+
+abbrev pub is-text-x-monkey : ℕ
+is-text-x-monkey = 835
+
+abbrev pub is-text-x-moonscript : ℕ
+is-text-x-moonscript = 836
+
+abbrev pub is-text-x-move : ℕ
+is-text-x-move = 837
+
+abbrev pub is-text-x-ms-regedit : ℕ
+is-text-x-ms-regedit = 838
+
+abbrev pub is-text-x-msdos-batch : ℕ
+is-text-x-msdos-batch = 839
+
+abbrev pub is-text-x-newick : ℕ
+is-text-x-newick = 840
+
+abbrev pub is-text-x-nextflow : ℕ
+is-text-x-nextflow = 841
+
+abbrev pub is-text-x-nftables : ℕ
+is-text-x-nftables = 842
+
+abbrev pub is-text-x-nginx-conf : ℕ
+is-text-x-nginx-conf = 843
+
+abbrev pub is-text-x-nim : ℕ
+is-text-x-nim = 844
+
+abbrev pub is-text-x-ninja : ℕ
+is-text-x-ninja = 845
+
+abbrev pub is-text-x-nix : ℕ
+is-text-x-nix = 846
+
+abbrev pub is-text-x-nsis : ℕ
+is-text-x-nsis = 847
+
+abbrev pub is-text-x-nushell : ℕ
+is-text-x-nushell = 848
+
+abbrev pub is-text-x-objc-src : ℕ
+is-text-x-objc-src = 849
+
+abbrev pub is-text-x-objcsrc : ℕ
+is-text-x-objcsrc = 850
+
+abbrev pub is-text-x-ocaml : ℕ
+is-text-x-ocaml = 851
+
+abbrev pub is-text-x-octave : ℕ
+is-text-x-octave = 852
+
+abbrev pub is-text-x-odin : ℕ
+is-text-x-odin = 853
+
+abbrev pub is-text-x-ooc : ℕ
+is-text-x-ooc = 854
+
+abbrev pub is-text-x-opencl-src : ℕ
+is-text-x-opencl-src = 855
+
+abbrev pub is-text-x-openscad : ℕ
+is-text-x-openscad = 856
+
+abbrev pub is-text-x-opentype-feature : ℕ
+is-text-x-opentype-feature = 857
+
+abbrev pub is-text-x-opml-xml : ℕ
+is-text-x-opml-xml = 858
+
+abbrev pub is-text-x-oz : ℕ
+is-text-x-oz = 859
+
+abbrev pub is-text-x-pascal : ℕ
+is-text-x-pascal = 860
+
+abbrev pub is-text-x-patch : ℕ
+is-text-x-patch = 861
+
+abbrev pub is-text-x-pawn : ℕ
+is-text-x-pawn = 862
+
+abbrev pub is-text-x-perl : ℕ
+is-text-x-perl = 863
+
+abbrev pub is-text-x-php : ℕ
+is-text-x-php = 864
+
+abbrev pub is-text-x-pic : ℕ
+is-text-x-pic = 865
+
+abbrev pub is-text-x-pig : ℕ
+is-text-x-pig = 866
+
+abbrev pub is-text-x-pike : ℕ
+is-text-x-pike = 867
+
+abbrev pub is-text-x-pkg-config : ℕ
+is-text-x-pkg-config = 868
+
+abbrev pub is-text-x-plantuml : ℕ
+is-text-x-plantuml = 869
+
+abbrev pub is-text-x-pli : ℕ
+is-text-x-pli = 870
+
+abbrev pub is-text-x-pod : ℕ
+is-text-x-pod = 871
+
+abbrev pub is-text-x-pony : ℕ
+is-text-x-pony = 872
+
+abbrev pub is-text-x-postcss : ℕ
+is-text-x-postcss = 873
+
+abbrev pub is-text-x-praat : ℕ
+is-text-x-praat = 874
+
+abbrev pub is-text-x-preseed : ℕ
+is-text-x-preseed = 875
+
+abbrev pub is-text-x-prisma : ℕ
+is-text-x-prisma = 876
+
+abbrev pub is-text-x-procfile : ℕ
+is-text-x-procfile = 877
+
+abbrev pub is-text-x-prolog : ℕ
+is-text-x-prolog = 878
+
+abbrev pub is-text-x-protobuf : ℕ
+is-text-x-protobuf = 879
+
+abbrev pub is-text-x-psv : ℕ
+is-text-x-psv = 880
+
+abbrev pub is-text-x-pth : ℕ
+is-text-x-pth = 881
+
+abbrev pub is-text-x-pug : ℕ
+is-text-x-pug = 882
+
+abbrev pub is-text-x-puppet : ℕ
+is-text-x-puppet = 883
+
+abbrev pub is-text-x-purescript : ℕ
+is-text-x-purescript = 884
+
+abbrev pub is-text-x-python-as-known : ℕ
+is-text-x-python-as-known = 885
+
+abbrev pub is-text-x-python-as-row-py : ℕ
+is-text-x-python-as-row-py = 886
+
+abbrev pub is-text-x-qmake : ℕ
+is-text-x-qmake = 887
+
+abbrev pub is-text-x-qml : ℕ
+is-text-x-qml = 888
+
+abbrev pub is-text-x-r-doc : ℕ
+is-text-x-r-doc = 889
+
+abbrev pub is-text-x-racket : ℕ
+is-text-x-racket = 890
+
+abbrev pub is-text-x-ragel : ℕ
+is-text-x-ragel = 891
+
+abbrev pub is-text-x-raku : ℕ
+is-text-x-raku = 892
+
+abbrev pub is-text-x-razor : ℕ
+is-text-x-razor = 893
+
+abbrev pub is-text-x-rdoc : ℕ
+is-text-x-rdoc = 894
+
+abbrev pub is-text-x-readline : ℕ
+is-text-x-readline = 895
+
+abbrev pub is-text-x-reason : ℕ
+is-text-x-reason = 896
+
+abbrev pub is-text-x-rebol : ℕ
+is-text-x-rebol = 897
+
+abbrev pub is-text-x-red : ℕ
+is-text-x-red = 898
+
+abbrev pub is-text-x-rego : ℕ
+is-text-x-rego = 899
+
+abbrev pub is-text-x-reject : ℕ
+is-text-x-reject = 900
+
+abbrev pub is-text-x-rexx : ℕ
+is-text-x-rexx = 901
+
+abbrev pub is-text-x-ring : ℕ
+is-text-x-ring = 902
+
+abbrev pub is-text-x-rmarkdown : ℕ
+is-text-x-rmarkdown = 903
+
+abbrev pub is-text-x-robotframework : ℕ
+is-text-x-robotframework = 904
+
+abbrev pub is-text-x-roc : ℕ
+is-text-x-roc = 905
+
+abbrev pub is-text-x-rpgle : ℕ
+is-text-x-rpgle = 906
+
+abbrev pub is-text-x-rpm-spec : ℕ
+is-text-x-rpm-spec = 907
+
+abbrev pub is-text-x-rsrc : ℕ
+is-text-x-rsrc = 908
+
+abbrev pub is-text-x-rst : ℕ
+is-text-x-rst = 909
+
+abbrev pub is-text-x-ruby : ℕ
+is-text-x-ruby = 910
+
+abbrev pub is-text-x-sagemath : ℕ
+is-text-x-sagemath = 911
+
+abbrev pub is-text-x-sam : ℕ
+is-text-x-sam = 912
+
+abbrev pub is-text-x-sas : ℕ
+is-text-x-sas = 913
+
+abbrev pub is-text-x-sass : ℕ
+is-text-x-sass = 914
+
+abbrev pub is-text-x-scala : ℕ
+is-text-x-scala = 915
+
+abbrev pub is-text-x-scheme : ℕ
+is-text-x-scheme = 916
+
+abbrev pub is-text-x-scilab : ℕ
+is-text-x-scilab = 917
+
+abbrev pub is-text-x-scons : ℕ
+is-text-x-scons = 918
+
+abbrev pub is-text-x-scss : ℕ
+is-text-x-scss = 919
+
+abbrev pub is-text-x-sdc : ℕ
+is-text-x-sdc = 920
+
+abbrev pub is-text-x-sed : ℕ
+is-text-x-sed = 921
+
+abbrev pub is-text-x-selinux : ℕ
+is-text-x-selinux = 922
+
+abbrev pub is-text-x-setext : ℕ
+is-text-x-setext = 923
+
+abbrev pub is-text-x-shell-config : ℕ
+is-text-x-shell-config = 924
+
+abbrev pub is-text-x-shellscript : ℕ
+is-text-x-shellscript = 925
+
+abbrev pub is-text-x-sieve : ℕ
+is-text-x-sieve = 926
+
+abbrev pub is-text-x-slim : ℕ
+is-text-x-slim = 927
+
+abbrev pub is-text-x-slint : ℕ
+is-text-x-slint = 928
+
+abbrev pub is-text-x-sln : ℕ
+is-text-x-sln = 929
+
+abbrev pub is-text-x-smali : ℕ
+is-text-x-smali = 930
+
+abbrev pub is-text-x-smarty : ℕ
+is-text-x-smarty = 931
+
+abbrev pub is-text-x-sml : ℕ
+is-text-x-sml = 932
+
+abbrev pub is-text-x-smt : ℕ
+is-text-x-smt = 933
+
+abbrev pub is-text-x-snakemake : ℕ
+is-text-x-snakemake = 934
+
+abbrev pub is-text-x-solidity : ℕ
+is-text-x-solidity = 935
+
+abbrev pub is-text-x-sourcepawn : ℕ
+is-text-x-sourcepawn = 936
+
+abbrev pub is-text-x-soy : ℕ
+is-text-x-soy = 937
+
+abbrev pub is-text-x-spice : ℕ
+is-text-x-spice = 938
+
+abbrev pub is-text-x-spin : ℕ
+is-text-x-spin = 939
+
+abbrev pub is-text-x-squirrel : ℕ
+is-text-x-squirrel = 940
+
+abbrev pub is-text-x-ssa : ℕ
+is-text-x-ssa = 941
+
+abbrev pub is-text-x-stan : ℕ
+is-text-x-stan = 942
+
+abbrev pub is-text-x-starlark : ℕ
+is-text-x-starlark = 943
+
+abbrev pub is-text-x-stata : ℕ
+is-text-x-stata = 944
+
+abbrev pub is-text-x-strings : ℕ
+is-text-x-strings = 945
+
+abbrev pub is-text-x-stylus : ℕ
+is-text-x-stylus = 946
+
+abbrev pub is-text-x-subviewer : ℕ
+is-text-x-subviewer = 947
+
+abbrev pub is-text-x-supercollider : ℕ
+is-text-x-supercollider = 948
+
+abbrev pub is-text-x-svelte : ℕ
+is-text-x-svelte = 949
+
+abbrev pub is-text-x-svhdr : ℕ
+is-text-x-svhdr = 950
+
+abbrev pub is-text-x-svsrc : ℕ
+is-text-x-svsrc = 951
+
+abbrev pub is-text-x-swift : ℕ
+is-text-x-swift = 952
+
+abbrev pub is-text-x-systemd-unit : ℕ
+is-text-x-systemd-unit = 953
+
+abbrev pub is-text-x-tablegen : ℕ
+is-text-x-tablegen = 954
+
+abbrev pub is-text-x-tcl : ℕ
+is-text-x-tcl = 955
+
+abbrev pub is-text-x-template-toolkit : ℕ
+is-text-x-template-toolkit = 956
+
+abbrev pub is-text-x-tex : ℕ
+is-text-x-tex = 957
+
+abbrev pub is-text-x-texinfo : ℕ
+is-text-x-texinfo = 958
+
+abbrev pub is-text-x-textile : ℕ
+is-text-x-textile = 959
+
+abbrev pub is-text-x-textproto : ℕ
+is-text-x-textproto = 960
+
+abbrev pub is-text-x-thrift : ℕ
+is-text-x-thrift = 961
+
+abbrev pub is-text-x-tla : ℕ
+is-text-x-tla = 962
+
+abbrev pub is-text-x-tmux-conf : ℕ
+is-text-x-tmux-conf = 963
+
+abbrev pub is-text-x-tsx : ℕ
+is-text-x-tsx = 964
+
+abbrev pub is-text-x-twig : ℕ
+is-text-x-twig = 965
+
+abbrev pub is-text-x-txt2tags : ℕ
+is-text-x-txt2tags = 966
+
+abbrev pub is-text-x-typescript : ℕ
+is-text-x-typescript = 967
+
+abbrev pub is-text-x-typst : ℕ
+is-text-x-typst = 968
+
+abbrev pub is-text-x-uc : ℕ
+is-text-x-uc = 969
+
+abbrev pub is-text-x-udev-rules : ℕ
+is-text-x-udev-rules = 970
+
+abbrev pub is-text-x-unity : ℕ
+is-text-x-unity = 971
+
+abbrev pub is-text-x-uri : ℕ
+is-text-x-uri = 972
+
+abbrev pub is-text-x-vagrantfile : ℕ
+is-text-x-vagrantfile = 973
+
+abbrev pub is-text-x-vala : ℕ
+is-text-x-vala = 974
+
+abbrev pub is-text-x-vb : ℕ
+is-text-x-vb = 975
+
+abbrev pub is-text-x-vcl : ℕ
+is-text-x-vcl = 976
+
+abbrev pub is-text-x-vdf : ℕ
+is-text-x-vdf = 977
+
+abbrev pub is-text-x-verilog : ℕ
+is-text-x-verilog = 978
+
+abbrev pub is-text-x-vhdl : ℕ
+is-text-x-vhdl = 979
+
+abbrev pub is-text-x-vim : ℕ
+is-text-x-vim = 980
+
+abbrev pub is-text-x-vue : ℕ
+is-text-x-vue = 981
+
+abbrev pub is-text-x-vyper : ℕ
+is-text-x-vyper = 982
+
+abbrev pub is-text-x-wat : ℕ
+is-text-x-wat = 983
+
+abbrev pub is-text-x-wdl : ℕ
+is-text-x-wdl = 984
+
+abbrev pub is-text-x-wkt : ℕ
+is-text-x-wkt = 985
+
+abbrev pub is-text-x-wren : ℕ
+is-text-x-wren = 986
+
+abbrev pub is-text-x-xcu-rng : ℕ
+is-text-x-xcu-rng = 987
+
+abbrev pub is-text-x-xmi : ℕ
+is-text-x-xmi = 988
+
+abbrev pub is-text-x-xonsh : ℕ
+is-text-x-xonsh = 989
+
+abbrev pub is-text-x-xresources : ℕ
+is-text-x-xresources = 990
+
+abbrev pub is-text-x-yacc : ℕ
+is-text-x-yacc = 991
+
+abbrev pub is-text-x-yang : ℕ
+is-text-x-yang = 992
+
+abbrev pub is-text-x-zig : ℕ
+is-text-x-zig = 993
+
+abbrev pub is-text-x-zimpl : ℕ
+is-text-x-zimpl = 994
+
+abbrev pub is-text-x-gcode : ℕ
+is-text-x-gcode = 995
+
+abbrev pub is-text-xml : ℕ
+is-text-xml = 996
+
+abbrev pub is-video-3gpp : ℕ
+is-video-3gpp = 997
+
+abbrev pub is-video-3gpp2 : ℕ
+is-video-3gpp2 = 998
+
+abbrev pub is-video-dv : ℕ
+is-video-dv = 999
+
+abbrev pub is-video-h264 : ℕ
+is-video-h264 = 1000
+
+abbrev pub is-video-h265 : ℕ
+is-video-h265 = 1001
+
+abbrev pub is-video-mj2 : ℕ
+is-video-mj2 = 1002
+
+abbrev pub is-video-mp2t : ℕ
+is-video-mp2t = 1003
+
+abbrev pub is-video-mp4 : ℕ
+is-video-mp4 = 1004
+
+abbrev pub is-video-mpeg : ℕ
+is-video-mpeg = 1005
+
+abbrev pub is-video-ogg : ℕ
+is-video-ogg = 1006
+
+abbrev pub is-video-quicktime : ℕ
+is-video-quicktime = 1007
+
+abbrev pub is-video-vnd-radgamettools-smacker : ℕ
+is-video-vnd-radgamettools-smacker = 1008
+
+abbrev pub is-video-webm : ℕ
+is-video-webm = 1009
+
+abbrev pub is-video-x-f4v : ℕ
+is-video-x-f4v = 1010
+
+abbrev pub is-video-x-flic : ℕ
+is-video-x-flic = 1011
+
+abbrev pub is-video-x-flv : ℕ
+is-video-x-flv = 1012
+
+abbrev pub is-video-x-ivf : ℕ
+is-video-x-ivf = 1013
+
+abbrev pub is-video-x-m4v : ℕ
+is-video-x-m4v = 1014
+
+abbrev pub is-video-x-matroska : ℕ
+is-video-x-matroska = 1015
+
+abbrev pub is-video-x-matroska-3d : ℕ
+is-video-x-matroska-3d = 1016
+
+abbrev pub is-video-x-mng : ℕ
+is-video-x-mng = 1017
+
+abbrev pub is-video-x-ms-wmv : ℕ
+is-video-x-ms-wmv = 1018
+
+abbrev pub is-video-x-msvideo : ℕ
+is-video-x-msvideo = 1019
+
+abbrev pub is-video-x-nsv : ℕ
+is-video-x-nsv = 1020
+
+abbrev pub is-video-x-ogm-ogg : ℕ
+is-video-x-ogm-ogg = 1021
+
+abbrev pub is-video-x-y4m : ℕ
+is-video-x-y4m = 1022
+
+unfoldable pub types_0 : List NamedType
+types_0 =
+    named (codes "application/appx") own
+    ∷ named (codes "application/atom+xml") (row (codes "atom"))
+    ∷ named (codes "application/atomcat+xml") known
+    ∷ named (codes "application/atomsvc+xml") known
+    ∷ named (codes "application/bpmn+xml") own
+    ∷ named (codes "application/brotli") own
+    ∷ named (codes "application/bson") own
+    ∷ named (codes "application/cbor") known
+    ∷ named (codes "application/ccxml+xml") known
+    ∷ named (codes "application/dicom") (row (codes "dcm"))
+    ∷ named (codes "application/dita+xml") own
+    ∷ named (codes "application/edn") own
+    ∷ named (codes "application/epub+zip") (row (codes "epub"))
+    ∷ named (codes "application/font-sfnt") (row (codes "otf"))
+    ∷ named (codes "application/font-sfnt") (row (codes "ttf"))
+    ∷ named (codes "application/font-woff") (row (codes "woff"))
+    ∷ named (codes "application/font-woff") (row (codes "woff2"))
+    ∷ named (codes "application/geo+json") known
+    ∷ named (codes "application/geopackage+sqlite3") (row (codes "gpkg"))
+    ∷ named (codes "application/gml+xml") known
+    ∷ named (codes "application/gpx+xml") (row (codes "gpx"))
+    ∷ named (codes "application/graphql") own
+    ∷ named (codes "application/gzip") (row (codes "gz"))
+    ∷ named (codes "application/hjson") own
+    ∷ named (codes "application/hta") known
+    ∷ named (codes "application/illustrator") known
+    ∷ named (codes "application/its+xml") known
+    ∷ named (codes "application/java") (row (codes "class"))
+    ∷ named (codes "application/java-archive") (row (codes "jar"))
+    ∷ named (codes "application/json") (row (codes "json"))
+    ∷ named (codes "application/json5") own
+    ∷ named (codes "application/jsonnet") own
+    ∷ named (codes "application/ld+json") known
+    ∷ named (codes "application/lrc") own
+    ∷ named (codes "application/manifest+json") known
+    ∷ named (codes "application/mathml+xml") known
+    ∷ named (codes "application/mbox") known
+    ∷ named (codes "application/metalink+xml") known
+    ∷ named (codes "application/metalink4+xml") known
+    ∷ named (codes "application/msgpack") own
+    ∷ named (codes "application/msix") own
+    ∷ named (codes "application/msword") (row (codes "doc"))
+    ∷ named (codes "application/msword-template") known
+    ∷ named (codes "application/mxf") known
+    ∷ named (codes "application/n-quads") known
+    ∷ named (codes "application/n-triples") known
+    ∷ named (codes "application/octet-stream") (row (codes "eot"))
+    ∷ named (codes "application/oebps-package+xml") known
+    ∷ named (codes "application/onenote") known
+    ∷ named (codes "application/onnx") own
+    ∷ named (codes "application/oxps") known
+    ∷ named (codes "application/pdf") (row (codes "pdf"))
+    ∷ named (codes "application/pgp-encrypted") (row (codes "pgp"))
+    ∷ named (codes "application/pgp-keys") (row (codes "asc"))
+    ∷ named (codes "application/pgp-keys") (row (codes "gpg"))
+    ∷ named (codes "application/pgp-signature") (row (codes "sig"))
+    ∷ named (codes "application/pkcs10") known
+    ∷ named (codes "application/pkcs12") (row (codes "p12"))
+    ∷ named (codes "application/pkcs7-mime") (row (codes "p7b"))
+    ∷ named (codes "application/pkcs7-signature") known
+    ∷ named (codes "application/pkcs8") known
+    ∷ named (codes "application/pkix-cert") known
+    ∷ named (codes "application/pkix-crl") known
+    ∷ named (codes "application/postscript") (row (codes "ps"))
+    ∷ []
+
+unfoldable pub types_1 : List NamedType
+types_1 =
+    named (codes "application/protobuf") own
+    ∷ named (codes "application/raml+yaml") known
+    ∷ named (codes "application/rdf+xml") known
+    ∷ named (codes "application/relax-ng-compact-syntax") known
+    ∷ named (codes "application/rss+xml") (row (codes "rss"))
+    ∷ named (codes "application/rtf") (row (codes "rtf"))
+    ∷ named (codes "application/sarif+json") known
+    ∷ named (codes "application/sbml+xml") known
+    ∷ named (codes "application/schema+json") known
+    ∷ named (codes "application/smil+xml") known
+    ∷ named (codes "application/sourcemap+json") own
+    ∷ named (codes "application/sparql-query") known
+    ∷ named (codes "application/sql") known
+    ∷ named (codes "application/srgs+xml") known
+    ∷ named (codes "application/tei+xml") known
+    ∷ named (codes "application/timestamp-query") known
+    ∷ named (codes "application/timestamp-reply") known
+    ∷ named (codes "application/toml") known
+    ∷ named (codes "application/topo+json") own
+    ∷ named (codes "application/trig") known
+    ∷ named (codes "application/ttml+xml") known
+    ∷ named (codes "application/tzif") (row (codes "tzif"))
+    ∷ named (codes "application/vnd.adobe.xfdf") own
+    ∷ named (codes "application/vnd.amazon.mobi8-ebook") known
+    ∷ named (codes "application/vnd.android.dex") (row (codes "dex"))
+    ∷ named (codes "application/vnd.android.dey") (row (codes "dey"))
+    ∷ named (codes "application/vnd.android.package-archive") (row (codes "apk"))
+    ∷ named (codes "application/vnd.apache.arrow.file") (row (codes "arrow"))
+    ∷ named (codes "application/vnd.apache.parquet") (row (codes "parquet"))
+    ∷ named (codes "application/vnd.appimage") (row (codes "appimage"))
+    ∷ named (codes "application/vnd.apple.keynote") known
+    ∷ named (codes "application/vnd.apple.mpegurl") (row (codes "m3u8"))
+    ∷ named (codes "application/vnd.apple.numbers") known
+    ∷ named (codes "application/vnd.apple.pages") known
+    ∷ named (codes "application/vnd.bzip3") (row (codes "bz3"))
+    ∷ named (codes "application/vnd.chess-pgn") known
+    ∷ named (codes "application/vnd.coffeescript") known
+    ∷ named (codes "application/vnd.comicbook+zip") known
+    ∷ named (codes "application/vnd.comicbook-rar") known
+    ∷ named (codes "application/vnd.corel-draw") known
+    ∷ named (codes "application/vnd.dbf") (row (codes "dbf"))
+    ∷ named (codes "application/vnd.debian.binary-package") (row (codes "deb"))
+    ∷ named (codes "application/vnd.etsi.asic-e+zip") known
+    ∷ named (codes "application/vnd.flatpak") known
+    ∷ named (codes "application/vnd.garmin.tcx+xml") own
+    ∷ named (codes "application/vnd.geogebra.file") known
+    ∷ named (codes "application/vnd.google-earth.kml+xml") (row (codes "kml"))
+    ∷ named (codes "application/vnd.google-earth.kmz") (row (codes "kmz"))
+    ∷ named (codes "application/vnd.hp-pcl") known
+    ∷ named (codes "application/vnd.iccprofile") known
+    ∷ named (codes "application/vnd.las") known
+    ∷ named (codes "application/vnd.lotus-1-2-3") known
+    ∷ named (codes "application/vnd.lotus-wordpro") known
+    ∷ named (codes "application/vnd.mbtiles") own
+    ∷ named (codes "application/vnd.microsoft.portable-executable") (row (codes "exe"))
+    ∷ named (codes "application/vnd.mozilla.webapp+json") own
+    ∷ named (codes "application/vnd.mozilla.xul+xml") known
+    ∷ named (codes "application/vnd.ms-asf") known
+    ∷ named (codes "application/vnd.ms-cab-compressed") (row (codes "cab"))
+    ∷ named (codes "application/vnd.ms-excel") (row (codes "xls"))
+    ∷ named (codes "application/vnd.ms-excel.addin.macroEnabled.12") known
+    ∷ named (codes "application/vnd.ms-excel.sheet.binary.macroEnabled.12") known
+    ∷ named (codes "application/vnd.ms-excel.sheet.macroEnabled.12") known
+    ∷ named (codes "application/vnd.ms-excel.template.macroEnabled.12") known
+    ∷ []
+
+unfoldable pub types_2 : List NamedType
+types_2 =
+    named (codes "application/vnd.ms-htmlhelp") (row (codes "chm"))
+    ∷ named (codes "application/vnd.ms-outlook") (row (codes "msg"))
+    ∷ named (codes "application/vnd.ms-outlook-pst") (row (codes "pst"))
+    ∷ named (codes "application/vnd.ms-powerpoint") (row (codes "ppt"))
+    ∷ named (codes "application/vnd.ms-powerpoint.presentation.macroEnabled.12") known
+    ∷ named (codes "application/vnd.ms-powerpoint.slideshow.macroEnabled.12") known
+    ∷ named (codes "application/vnd.ms-powerpoint.template.macroEnabled.12") known
+    ∷ named (codes "application/vnd.ms-project") known
+    ∷ named (codes "application/vnd.ms-publisher") (row (codes "pub"))
+    ∷ named (codes "application/vnd.ms-tnef") known
+    ∷ named (codes "application/vnd.ms-visio.drawing.macroEnabled.main+xml") known
+    ∷ named (codes "application/vnd.ms-visio.drawing.main+xml") (row (codes "vsdx"))
+    ∷ named (codes "application/vnd.ms-visio.stencil.main+xml") known
+    ∷ named (codes "application/vnd.ms-visio.template.main+xml") known
+    ∷ named (codes "application/vnd.ms-word.document.macroEnabled.12") known
+    ∷ named (codes "application/vnd.ms-word.template.macroEnabled.12") known
+    ∷ named (codes "application/vnd.ms-works") known
+    ∷ named (codes "application/vnd.ms-xpsdocument") known
+    ∷ named (codes "application/vnd.nintendo.nitro.rom") known
+    ∷ named (codes "application/vnd.nintendo.snes.rom") known
+    ∷ named (codes "application/vnd.oasis.opendocument.base") known
+    ∷ named (codes "application/vnd.oasis.opendocument.chart") known
+    ∷ named (codes "application/vnd.oasis.opendocument.formula") (row (codes "odf"))
+    ∷ named (codes "application/vnd.oasis.opendocument.graphics") (row (codes "odg"))
+    ∷ named (codes "application/vnd.oasis.opendocument.graphics-flat-xml") known
+    ∷ named (codes "application/vnd.oasis.opendocument.graphics-template") known
+    ∷ named (codes "application/vnd.oasis.opendocument.image") known
+    ∷ named (codes "application/vnd.oasis.opendocument.presentation") (row (codes "odp"))
+    ∷ named (codes "application/vnd.oasis.opendocument.presentation-flat-xml") known
+    ∷ named (codes "application/vnd.oasis.opendocument.presentation-template") (row (codes "otp"))
+    ∷ named (codes "application/vnd.oasis.opendocument.spreadsheet") (row (codes "ods"))
+    ∷ named (codes "application/vnd.oasis.opendocument.spreadsheet-flat-xml") known
+    ∷ named (codes "application/vnd.oasis.opendocument.spreadsheet-template") (row (codes "ots"))
+    ∷ named (codes "application/vnd.oasis.opendocument.text") (row (codes "odt"))
+    ∷ named (codes "application/vnd.oasis.opendocument.text-flat-xml") known
+    ∷ named (codes "application/vnd.oasis.opendocument.text-master") known
+    ∷ named (codes "application/vnd.oasis.opendocument.text-template") (row (codes "ott"))
+    ∷ named (codes "application/vnd.oasis.opendocument.text-web") known
+    ∷ named (codes "application/vnd.openxmlformats-officedocument.presentationml.presentation") (row (codes "pptx"))
+    ∷ named (codes "application/vnd.openxmlformats-officedocument.presentationml.slideshow") known
+    ∷ named (codes "application/vnd.openxmlformats-officedocument.presentationml.template") known
+    ∷ named (codes "application/vnd.openxmlformats-officedocument.spreadsheetml.sheet") (row (codes "xlsx"))
+    ∷ named (codes "application/vnd.openxmlformats-officedocument.spreadsheetml.template") known
+    ∷ named (codes "application/vnd.openxmlformats-officedocument.wordprocessingml.document") (row (codes "docx"))
+    ∷ named (codes "application/vnd.openxmlformats-officedocument.wordprocessingml.template") known
+    ∷ named (codes "application/vnd.osm+xml") own
+    ∷ named (codes "application/vnd.rar") (row (codes "rar"))
+    ∷ named (codes "application/vnd.recordare.musicxml") known
+    ∷ named (codes "application/vnd.recordare.musicxml+xml") known
+    ∷ named (codes "application/vnd.rn-realmedia") known
+    ∷ named (codes "application/vnd.shp") (row (codes "shp"))
+    ∷ named (codes "application/vnd.shx") (row (codes "shx"))
+    ∷ named (codes "application/vnd.smaf") known
+    ∷ named (codes "application/vnd.snap") known
+    ∷ named (codes "application/vnd.sqlite3") (row (codes "sqlite"))
+    ∷ named (codes "application/vnd.squashfs") (row (codes "squashfs"))
+    ∷ named (codes "application/vnd.sun.xml.calc") known
+    ∷ named (codes "application/vnd.sun.xml.draw") known
+    ∷ named (codes "application/vnd.sun.xml.impress") known
+    ∷ named (codes "application/vnd.sun.xml.writer") known
+    ∷ named (codes "application/vnd.tcpdump.pcap") (row (codes "pcap"))
+    ∷ named (codes "application/vnd.visio") (row (codes "vsd"))
+    ∷ named (codes "application/vnd.wolfram.mathematica") known
+    ∷ named (codes "application/vnd.wordperfect") known
+    ∷ []
+
+unfoldable pub types_3 : List NamedType
+types_3 =
+    named (codes "application/voicexml+xml") known
+    ∷ named (codes "application/vsix") own
+    ∷ named (codes "application/warc") (row (codes "warc"))
+    ∷ named (codes "application/wasm") (row (codes "wasm"))
+    ∷ named (codes "application/winhlp") known
+    ∷ named (codes "application/wsdl+xml") known
+    ∷ named (codes "application/x-7z-compressed") (row (codes "7z"))
+    ∷ named (codes "application/x-ableton-live-set") own
+    ∷ named (codes "application/x-ace") known
+    ∷ named (codes "application/x-admx") own
+    ∷ named (codes "application/x-age-encryption") (row (codes "age"))
+    ∷ named (codes "application/x-alz") known
+    ∷ named (codes "application/x-amiga-disk-format") known
+    ∷ named (codes "application/x-android-archive") own
+    ∷ named (codes "application/x-ant+xml") own
+    ∷ named (codes "application/x-apkm") own
+    ∷ named (codes "application/x-appdata+xml") own
+    ∷ named (codes "application/x-apple-diskimage") known
+    ∷ named (codes "application/x-arb+json") own
+    ∷ named (codes "application/x-arc") known
+    ∷ named (codes "application/x-archive-dar") own
+    ∷ named (codes "application/x-arj") (row (codes "arj"))
+    ∷ named (codes "application/x-asar") known
+    ∷ named (codes "application/x-asp") known
+    ∷ named (codes "application/x-aspx") known
+    ∷ named (codes "application/x-autodesk-max") own
+    ∷ named (codes "application/x-avro") (row (codes "avro"))
+    ∷ named (codes "application/x-avro-schema+json") own
+    ∷ named (codes "application/x-bash") own
+    ∷ named (codes "application/x-bittorrent") (row (codes "torrent"))
+    ∷ named (codes "application/x-blender") (row (codes "blend"))
+    ∷ named (codes "application/x-bplist") (row (codes "bplist"))
+    ∷ named (codes "application/x-bsp") own
+    ∷ named (codes "application/x-bufr") own
+    ∷ named (codes "application/x-bzip-compressed-tar") known
+    ∷ named (codes "application/x-bzip2") (row (codes "bz2"))
+    ∷ named (codes "application/x-cb7") known
+    ∷ named (codes "application/x-cbt") known
+    ∷ named (codes "application/x-cd-image") known
+    ∷ named (codes "application/x-cmi") own
+    ∷ named (codes "application/x-cml+xml") own
+    ∷ named (codes "application/x-com-executable") own
+    ∷ named (codes "application/x-compress") (row (codes "Z"))
+    ∷ named (codes "application/x-compressed-tar") known
+    ∷ named (codes "application/x-core") (row (codes "core"))
+    ∷ named (codes "application/x-cpio") (row (codes "cpio"))
+    ∷ named (codes "application/x-csh") known
+    ∷ named (codes "application/x-cue") known
+    ∷ named (codes "application/x-dbm") (row (codes "bdb"))
+    ∷ named (codes "application/x-dbus-gvdb") own
+    ∷ named (codes "application/x-designer") known
+    ∷ named (codes "application/x-desktop") known
+    ∷ named (codes "application/x-devhelp+xml") own
+    ∷ named (codes "application/x-device-tree-blob") own
+    ∷ named (codes "application/x-dia-diagram") known
+    ∷ named (codes "application/x-dictzip") own
+    ∷ named (codes "application/x-docbook+xml") known
+    ∷ named (codes "application/x-doom-wad") known
+    ∷ named (codes "application/x-drawio+xml") own
+    ∷ named (codes "application/x-dtbncx+xml") own
+    ∷ named (codes "application/x-dvi") known
+    ∷ named (codes "application/x-e57") own
+    ∷ named (codes "application/x-eclipse+xml") own
+    ∷ named (codes "application/x-egg+zip") own
+    ∷ []
+
+unfoldable pub types_4 : List NamedType
+types_4 =
+    named (codes "application/x-elc") own
+    ∷ named (codes "application/x-emz") own
+    ∷ named (codes "application/x-entitlements") own
+    ∷ named (codes "application/x-erb") known
+    ∷ named (codes "application/x-erlang-beam") (row (codes "beam"))
+    ∷ named (codes "application/x-executable") (row (codes "elf"))
+    ∷ named (codes "application/x-executable") (row (codes "obj"))
+    ∷ named (codes "application/x-ext-filesystem") (row (codes "ext2"))
+    ∷ named (codes "application/x-fbx") own
+    ∷ named (codes "application/x-fictionbook+xml") known
+    ∷ named (codes "application/x-fishscript") own
+    ∷ named (codes "application/x-flash-authoring") own
+    ∷ named (codes "application/x-font-afm") known
+    ∷ named (codes "application/x-font-bdf") known
+    ∷ named (codes "application/x-font-pcf") known
+    ∷ named (codes "application/x-font-type1") known
+    ∷ named (codes "application/x-freecad") own
+    ∷ named (codes "application/x-gameboy-rom") known
+    ∷ named (codes "application/x-gba-rom") known
+    ∷ named (codes "application/x-gcov-data") own
+    ∷ named (codes "application/x-gdbm") (row (codes "gdbm"))
+    ∷ named (codes "application/x-gds") own
+    ∷ named (codes "application/x-gdscript") known
+    ∷ named (codes "application/x-genesis-rom") known
+    ∷ named (codes "application/x-gettext-translation") (row (codes "mo"))
+    ∷ named (codes "application/x-gguf") (row (codes "gguf"))
+    ∷ named (codes "application/x-gir+xml") own
+    ∷ named (codes "application/x-glade") known
+    ∷ named (codes "application/x-glib-typelib") own
+    ∷ named (codes "application/x-gnucash") known
+    ∷ named (codes "application/x-gnuplot") known
+    ∷ named (codes "application/x-go-sgf") known
+    ∷ named (codes "application/x-godot-package") own
+    ∷ named (codes "application/x-godot-resource") known
+    ∷ named (codes "application/x-godot-scene") known
+    ∷ named (codes "application/x-google-chrome-extension") (row (codes "crx"))
+    ∷ named (codes "application/x-grib") own
+    ∷ named (codes "application/x-gschema+xml") own
+    ∷ named (codes "application/x-gschema-compiled") own
+    ∷ named (codes "application/x-har+json") own
+    ∷ named (codes "application/x-haskell-interface") own
+    ∷ named (codes "application/x-hdf5") (row (codes "hdf5"))
+    ∷ named (codes "application/x-hprof") own
+    ∷ named (codes "application/x-hwp") known
+    ∷ named (codes "application/x-hwpx") own
+    ∷ named (codes "application/x-hxml") own
+    ∷ named (codes "application/x-innodb") own
+    ∷ named (codes "application/x-intellij+xml") own
+    ∷ named (codes "application/x-ios-app") own
+    ∷ named (codes "application/x-ipynb+json") known
+    ∷ named (codes "application/x-jasper+xml") own
+    ∷ named (codes "application/x-java-enterprise-archive") own
+    ∷ named (codes "application/x-java-jce-keystore") known
+    ∷ named (codes "application/x-java-jimage") own
+    ∷ named (codes "application/x-java-jmod") (row (codes "jmod"))
+    ∷ named (codes "application/x-java-jnlp-file") known
+    ∷ named (codes "application/x-java-keystore") known
+    ∷ named (codes "application/x-java-serialized-object") own
+    ∷ named (codes "application/x-java-web-archive") own
+    ∷ named (codes "application/x-jmeter+xml") own
+    ∷ named (codes "application/x-jsa") own
+    ∷ named (codes "application/x-jsonc") own
+    ∷ named (codes "application/x-jsp") known
+    ∷ named (codes "application/x-kdenlive") own
+    ∷ []
+
+unfoldable pub types_5 : List NamedType
+types_5 =
+    named (codes "application/x-keepass2") own
+    ∷ named (codes "application/x-kerberos-keytab") own
+    ∷ named (codes "application/x-krita") (row (codes "kra"))
+    ∷ named (codes "application/x-ksh") own
+    ∷ named (codes "application/x-leveldb-table") own
+    ∷ named (codes "application/x-llvm") (row (codes "bc"))
+    ∷ named (codes "application/x-locale-archive") own
+    ∷ named (codes "application/x-lottie+json") own
+    ∷ named (codes "application/x-lrzip") known
+    ∷ named (codes "application/x-lua-bytecode") (row (codes "luac"))
+    ∷ named (codes "application/x-luks") (row (codes "luks"))
+    ∷ named (codes "application/x-lz4") (row (codes "lz4"))
+    ∷ named (codes "application/x-lz4-compressed-tar") known
+    ∷ named (codes "application/x-lzh-compressed") (row (codes "lzh"))
+    ∷ named (codes "application/x-lzip") (row (codes "lz"))
+    ∷ named (codes "application/x-lzip-compressed-tar") known
+    ∷ named (codes "application/x-lzma") (row (codes "lzma"))
+    ∷ named (codes "application/x-lzma-compressed-tar") known
+    ∷ named (codes "application/x-lzop") known
+    ∷ named (codes "application/x-m4") known
+    ∷ named (codes "application/x-mach-binary") (row (codes "mach"))
+    ∷ named (codes "application/x-magic-database") own
+    ∷ named (codes "application/x-mame-chd") known
+    ∷ named (codes "application/x-matlab-data") own
+    ∷ named (codes "application/x-maya-binary") own
+    ∷ named (codes "application/x-mimecache") own
+    ∷ named (codes "application/x-minecraft-world") own
+    ∷ named (codes "application/x-mobipocket-ebook") (row (codes "mobi"))
+    ∷ named (codes "application/x-ms-evtx") (row (codes "evtx"))
+    ∷ named (codes "application/x-ms-pdb") own
+    ∷ named (codes "application/x-ms-registry-hive") own
+    ∷ named (codes "application/x-ms-shortcut") (row (codes "lnk"))
+    ∷ named (codes "application/x-ms-wim") (row (codes "wim"))
+    ∷ named (codes "application/x-msaccess") (row (codes "accdb"))
+    ∷ named (codes "application/x-msaccess") (row (codes "mdb"))
+    ∷ named (codes "application/x-msbuild+xml") own
+    ∷ named (codes "application/x-msi") (row (codes "msi"))
+    ∷ named (codes "application/x-mswinurl") known
+    ∷ named (codes "application/x-mxml") own
+    ∷ named (codes "application/x-mysql-myisam") own
+    ∷ named (codes "application/x-n64-rom") known
+    ∷ named (codes "application/x-natvis+xml") own
+    ∷ named (codes "application/x-navi-animation") (row (codes "ani"))
+    ∷ named (codes "application/x-ndjson") (row (codes "ndjson"))
+    ∷ named (codes "application/x-netcdf") known
+    ∷ named (codes "application/x-nintendo-nes-rom") (row (codes "nes"))
+    ∷ named (codes "application/x-npy") (row (codes "npy"))
+    ∷ named (codes "application/x-npz") own
+    ∷ named (codes "application/x-nuget-package") own
+    ∷ named (codes "application/x-nuspec+xml") own
+    ∷ named (codes "application/x-object") (row (codes "o"))
+    ∷ named (codes "application/x-openssh-private-key") (row (codes "openssh"))
+    ∷ named (codes "application/x-openzim") known
+    ∷ named (codes "application/x-orc") (row (codes "orc"))
+    ∷ named (codes "application/x-osm-pbf") own
+    ∷ named (codes "application/x-ova") own
+    ∷ named (codes "application/x-par2") (row (codes "par2"))
+    ∷ named (codes "application/x-pascal-resource-strings+json") own
+    ∷ named (codes "application/x-pascal-unit") (row (codes "ppu"))
+    ∷ named (codes "application/x-pcapng") (row (codes "pcapng"))
+    ∷ named (codes "application/x-pem-key") (row (codes "key"))
+    ∷ named (codes "application/x-perf-data") own
+    ∷ named (codes "application/x-phylip") own
+    ∷ named (codes "application/x-plist") (row (codes "plist"))
+    ∷ []
+
+unfoldable pub types_6 : List NamedType
+types_6 =
+    named (codes "application/x-ply") own
+    ∷ named (codes "application/x-pov") own
+    ∷ named (codes "application/x-powershell") known
+    ∷ named (codes "application/x-precompiled-header") own
+    ∷ named (codes "application/x-profraw") own
+    ∷ named (codes "application/x-ps1xml") own
+    ∷ named (codes "application/x-python-bytecode") (row (codes "pyc"))
+    ∷ named (codes "application/x-python-pickle") own
+    ∷ named (codes "application/x-python-zipapp") own
+    ∷ named (codes "application/x-pytorch") own
+    ∷ named (codes "application/x-qemu-disk") (row (codes "qcow2"))
+    ∷ named (codes "application/x-qgis-project") own
+    ∷ named (codes "application/x-qrc+xml") own
+    ∷ named (codes "application/x-quake-pak") own
+    ∷ named (codes "application/x-quattropro") known
+    ∷ named (codes "application/x-r-data") own
+    ∷ named (codes "application/x-resx+xml") own
+    ∷ named (codes "application/x-rhino") own
+    ∷ named (codes "application/x-rpm") (row (codes "rpm"))
+    ∷ named (codes "application/x-rust-rlib") own
+    ∷ named (codes "application/x-safetensors") (row (codes "safetensors"))
+    ∷ named (codes "application/x-sas-data") own
+    ∷ named (codes "application/x-scribus") own
+    ∷ named (codes "application/x-scxml+xml") own
+    ∷ named (codes "application/x-setupscript") own
+    ∷ named (codes "application/x-sfnt-collection-dfont") own
+    ∷ named (codes "application/x-shapefile-index") own
+    ∷ named (codes "application/x-shared-library-la") known
+    ∷ named (codes "application/x-sharedlib") (row (codes "so"))
+    ∷ named (codes "application/x-shockwave-flash") (row (codes "swf"))
+    ∷ named (codes "application/x-sketch") own
+    ∷ named (codes "application/x-sketchup") own
+    ∷ named (codes "application/x-snappy-framed") (row (codes "sz"))
+    ∷ named (codes "application/x-spss-sav") known
+    ∷ named (codes "application/x-ssh-public-key") own
+    ∷ named (codes "application/x-stata-dta") own
+    ∷ named (codes "application/x-storyboard+xml") own
+    ∷ named (codes "application/x-stuffit") known
+    ∷ named (codes "application/x-sublime-syntax") own
+    ∷ named (codes "application/x-subrip") (row (codes "srt"))
+    ∷ named (codes "application/x-swiftmodule") own
+    ∷ named (codes "application/x-systemd-journal") (row (codes "journal"))
+    ∷ named (codes "application/x-tar") (row (codes "tar"))
+    ∷ named (codes "application/x-tarz") known
+    ∷ named (codes "application/x-terminfo") (row (codes "terminfo"))
+    ∷ named (codes "application/x-terraform-state+json") own
+    ∷ named (codes "application/x-tex-pk") known
+    ∷ named (codes "application/x-tex-tfm") own
+    ∷ named (codes "application/x-tflite") own
+    ∷ named (codes "application/x-theme") known
+    ∷ named (codes "application/x-theme+xml") own
+    ∷ named (codes "application/x-thumbs-db") own
+    ∷ named (codes "application/x-tmx+xml") own
+    ∷ named (codes "application/x-unity-asmdef+json") own
+    ∷ named (codes "application/x-unity-asset") own
+    ∷ named (codes "application/x-unix-archive") (row (codes "ar"))
+    ∷ named (codes "application/x-uproject+json") own
+    ∷ named (codes "application/x-urdf+xml") own
+    ∷ named (codes "application/x-usdz") own
+    ∷ named (codes "application/x-vdi-disk") (row (codes "vdi"))
+    ∷ named (codes "application/x-vhd-disk") (row (codes "vhd"))
+    ∷ named (codes "application/x-vhdx-disk") (row (codes "vhdx"))
+    ∷ named (codes "application/x-vim-spell") own
+    ∷ named (codes "application/x-vim-swap") own
+    ∷ []
+
+unfoldable pub types_7 : List NamedType
+types_7 =
+    named (codes "application/x-virtualbox-saved-state") own
+    ∷ named (codes "application/x-vmdk-disk") (row (codes "vmdk"))
+    ∷ named (codes "application/x-wheel+zip") own
+    ∷ named (codes "application/x-windows-dump") own
+    ∷ named (codes "application/x-wix+xml") own
+    ∷ named (codes "application/x-wmz") own
+    ∷ named (codes "application/x-x509-ca-cert") known
+    ∷ named (codes "application/x-x509-ca-cert") (row (codes "der"))
+    ∷ named (codes "application/x-x509-ca-cert") (row (codes "pem"))
+    ∷ named (codes "application/x-xar") (row (codes "xar"))
+    ∷ named (codes "application/x-xpinstall") known
+    ∷ named (codes "application/x-xz") (row (codes "xz"))
+    ∷ named (codes "application/x-xz-compressed-tar") known
+    ∷ named (codes "application/x-zcml") own
+    ∷ named (codes "application/x-zoo") known
+    ∷ named (codes "application/x-zsh") own
+    ∷ named (codes "application/x-zstd-compressed-tar") known
+    ∷ named (codes "application/xaml+xml") own
+    ∷ named (codes "application/xhtml+xml") (row (codes "xhtml"))
+    ∷ named (codes "application/xliff+xml") known
+    ∷ named (codes "application/xml") known
+    ∷ named (codes "application/xml-dtd") known
+    ∷ named (codes "application/xml-external-parsed-entity") known
+    ∷ named (codes "application/xproc+xml") own
+    ∷ named (codes "application/xquery") known
+    ∷ named (codes "application/xslt+xml") known
+    ∷ named (codes "application/xspf+xml") known
+    ∷ named (codes "application/yaml") own
+    ∷ named (codes "application/zip") (row (codes "zip"))
+    ∷ named (codes "application/zstd") (row (codes "zst"))
+    ∷ named (codes "audio/aac") (row (codes "aac"))
+    ∷ named (codes "audio/ac3") known
+    ∷ named (codes "audio/amr") (row (codes "amr"))
+    ∷ named (codes "audio/basic") (row (codes "au"))
+    ∷ named (codes "audio/eac3") known
+    ∷ named (codes "audio/m4a") (row (codes "m4a"))
+    ∷ named (codes "audio/midi") (row (codes "midi"))
+    ∷ named (codes "audio/mpeg") (row (codes "mp3"))
+    ∷ named (codes "audio/ogg") (row (codes "oga"))
+    ∷ named (codes "audio/ogg") (row (codes "ogg"))
+    ∷ named (codes "audio/opus") (row (codes "opus"))
+    ∷ named (codes "audio/prs.sid") known
+    ∷ named (codes "audio/sf2") own
+    ∷ named (codes "audio/vnd.audible") own
+    ∷ named (codes "audio/vnd.dts") known
+    ∷ named (codes "audio/vnd.rn-realaudio") known
+    ∷ named (codes "audio/webm") known
+    ∷ named (codes "audio/x-abc") own
+    ∷ named (codes "audio/x-aifc") (row (codes "aifc"))
+    ∷ named (codes "audio/x-aiff") (row (codes "aiff"))
+    ∷ named (codes "audio/x-ape") (row (codes "ape"))
+    ∷ named (codes "audio/x-caf") own
+    ∷ named (codes "audio/x-dff") known
+    ∷ named (codes "audio/x-dsf") (row (codes "dsf"))
+    ∷ named (codes "audio/x-flac") (row (codes "flac"))
+    ∷ named (codes "audio/x-gsm") known
+    ∷ named (codes "audio/x-it") known
+    ∷ named (codes "audio/x-m4b") (row (codes "m4b"))
+    ∷ named (codes "audio/x-matroska") known
+    ∷ named (codes "audio/x-mo3") known
+    ∷ named (codes "audio/x-mod") known
+    ∷ named (codes "audio/x-mpegurl") known
+    ∷ named (codes "audio/x-ms-wma") known
+    ∷ named (codes "audio/x-musepack") (row (codes "mpc"))
+    ∷ []
+
+unfoldable pub types_8 : List NamedType
+types_8 =
+    named (codes "audio/x-s3m") known
+    ∷ named (codes "audio/x-scpls") known
+    ∷ named (codes "audio/x-tta") known
+    ∷ named (codes "audio/x-voc") (row (codes "voc"))
+    ∷ named (codes "audio/x-wav") (row (codes "wav"))
+    ∷ named (codes "audio/x-wavpack") (row (codes "wv"))
+    ∷ named (codes "audio/x-xm") known
+    ∷ named (codes "chemical/x-cdx") known
+    ∷ named (codes "chemical/x-cif") known
+    ∷ named (codes "chemical/x-mdl-molfile") known
+    ∷ named (codes "chemical/x-mdl-sdfile") known
+    ∷ named (codes "chemical/x-pdb") known
+    ∷ named (codes "chemical/x-xyz") known
+    ∷ named (codes "font/collection") (row (codes "ttc"))
+    ∷ named (codes "image/apng") (row (codes "apng"))
+    ∷ named (codes "image/astc") known
+    ∷ named (codes "image/avif") (row (codes "avif"))
+    ∷ named (codes "image/bmp") (row (codes "bmp"))
+    ∷ named (codes "image/bpg") own
+    ∷ named (codes "image/emf") known
+    ∷ named (codes "image/fits") (row (codes "fits"))
+    ∷ named (codes "image/geotiff") own
+    ∷ named (codes "image/gif") (row (codes "gif"))
+    ∷ named (codes "image/heic") (row (codes "heic"))
+    ∷ named (codes "image/heic-sequence") (row (codes "heics"))
+    ∷ named (codes "image/heif") (row (codes "heif"))
+    ∷ named (codes "image/jls") known
+    ∷ named (codes "image/jp2") (row (codes "jp2"))
+    ∷ named (codes "image/jpeg") (row (codes "jpg"))
+    ∷ named (codes "image/jpx") (row (codes "jpx"))
+    ∷ named (codes "image/jxl") (row (codes "jxl"))
+    ∷ named (codes "image/ktx") known
+    ∷ named (codes "image/ktx2") known
+    ∷ named (codes "image/openraster") (row (codes "ora"))
+    ∷ named (codes "image/png") (row (codes "png"))
+    ∷ named (codes "image/qoi") own
+    ∷ named (codes "image/svg+xml") (row (codes "svg"))
+    ∷ named (codes "image/svg+xml-compressed") known
+    ∷ named (codes "image/tiff") (row (codes "tif"))
+    ∷ named (codes "image/vnd.adobe.photoshop") (row (codes "psd"))
+    ∷ named (codes "image/vnd.djvu") (row (codes "djvu"))
+    ∷ named (codes "image/vnd.dwg") (row (codes "dwg"))
+    ∷ named (codes "image/vnd.dxf") known
+    ∷ named (codes "image/vnd.fpx") known
+    ∷ named (codes "image/vnd.microsoft.icon") (row (codes "ico"))
+    ∷ named (codes "image/vnd.ms-photo") (row (codes "jxr"))
+    ∷ named (codes "image/vnd.radiance") known
+    ∷ named (codes "image/vnd.zbrush.pcx") known
+    ∷ named (codes "image/webp") (row (codes "webp"))
+    ∷ named (codes "image/wmf") known
+    ∷ named (codes "image/x-3ds") known
+    ∷ named (codes "image/x-adobe-dng") (row (codes "dng"))
+    ∷ named (codes "image/x-canon-cr2") (row (codes "cr2"))
+    ∷ named (codes "image/x-canon-cr3") (row (codes "cr3"))
+    ∷ named (codes "image/x-cmu-raster") known
+    ∷ named (codes "image/x-dds") known
+    ∷ named (codes "image/x-eps") (row (codes "eps"))
+    ∷ named (codes "image/x-epson-erf") known
+    ∷ named (codes "image/x-exr") known
+    ∷ named (codes "image/x-fuji-raf") (row (codes "raf"))
+    ∷ named (codes "image/x-gimp-gbr") known
+    ∷ named (codes "image/x-gimp-pat") known
+    ∷ named (codes "image/x-hasselblad-3fr") own
+    ∷ named (codes "image/x-icns") (row (codes "icns"))
+    ∷ []
+
+unfoldable pub types_9 : List NamedType
+types_9 =
+    named (codes "image/x-ilbm") known
+    ∷ named (codes "image/x-jp2-codestream") known
+    ∷ named (codes "image/x-kodak-dcr") known
+    ∷ named (codes "image/x-kodak-kdc") known
+    ∷ named (codes "image/x-mamiya-mef") own
+    ∷ named (codes "image/x-minolta-mrw") known
+    ∷ named (codes "image/x-nikon-nef") known
+    ∷ named (codes "image/x-nikon-nrw") known
+    ∷ named (codes "image/x-olympus-orf") known
+    ∷ named (codes "image/x-panasonic-rw2") (row (codes "rw2"))
+    ∷ named (codes "image/x-pentax-pef") known
+    ∷ named (codes "image/x-pict") known
+    ∷ named (codes "image/x-portable-anymap") (row (codes "pnm"))
+    ∷ named (codes "image/x-portable-bitmap") known
+    ∷ named (codes "image/x-portable-graymap") known
+    ∷ named (codes "image/x-portable-pixmap") known
+    ∷ named (codes "image/x-samsung-srw") own
+    ∷ named (codes "image/x-sgi") known
+    ∷ named (codes "image/x-sigma-x3f") known
+    ∷ named (codes "image/x-sony-arw") known
+    ∷ named (codes "image/x-sony-sr2") known
+    ∷ named (codes "image/x-sony-srf") known
+    ∷ named (codes "image/x-tga") known
+    ∷ named (codes "image/x-win-bitmap") known
+    ∷ named (codes "image/x-xbitmap") known
+    ∷ named (codes "image/x-xcf") (row (codes "xcf"))
+    ∷ named (codes "image/x-xfig") known
+    ∷ named (codes "image/x-xpixmap") (row (codes "xpm"))
+    ∷ named (codes "image/x-xwindowdump") known
+    ∷ named (codes "message/rfc822") known
+    ∷ named (codes "model/3mf") (row (codes "3mf"))
+    ∷ named (codes "model/gltf+json") known
+    ∷ named (codes "model/gltf-binary") (row (codes "glb"))
+    ∷ named (codes "model/iges") known
+    ∷ named (codes "model/mtl") known
+    ∷ named (codes "model/obj") known
+    ∷ named (codes "model/step") known
+    ∷ named (codes "model/stl") known
+    ∷ named (codes "model/vnd.collada+xml") known
+    ∷ named (codes "model/vnd.usdc") own
+    ∷ named (codes "model/vrml") known
+    ∷ named (codes "model/x3d+xml") known
+    ∷ named (codes "model/x3d-vrml") known
+    ∷ named (codes "multipart/related") known
+    ∷ named (codes "text/cache-manifest") known
+    ∷ named (codes "text/calendar") (row (codes "ics"))
+    ∷ named (codes "text/cql") known
+    ∷ named (codes "text/css") known
+    ∷ named (codes "text/csv") known
+    ∷ named (codes "text/html") (row (codes "html"))
+    ∷ named (codes "text/javascript") (row (codes "js"))
+    ∷ named (codes "text/markdown") known
+    ∷ named (codes "text/mdx") own
+    ∷ named (codes "text/n3") known
+    ∷ named (codes "text/org") known
+    ∷ named (codes "text/plain") (row (codes "txt"))
+    ∷ named (codes "text/rust") known
+    ∷ named (codes "text/sgml") known
+    ∷ named (codes "text/tab-separated-values") known
+    ∷ named (codes "text/troff") known
+    ∷ named (codes "text/turtle") known
+    ∷ named (codes "text/uri-list") known
+    ∷ named (codes "text/vbscript") known
+    ∷ named (codes "text/vcard") (row (codes "vcf"))
+    ∷ []
+
+unfoldable pub types_10 : List NamedType
+types_10 =
+    named (codes "text/velocity") known
+    ∷ named (codes "text/vnd.familysearch.gedcom") known
+    ∷ named (codes "text/vnd.graphviz") known
+    ∷ named (codes "text/vnd.trolltech.linguist") known
+    ∷ named (codes "text/vnd.wap.wml") known
+    ∷ named (codes "text/vtt") (row (codes "vtt"))
+    ∷ named (codes "text/wgsl") known
+    ∷ named (codes "text/x-abap") own
+    ∷ named (codes "text/x-adasrc") known
+    ∷ named (codes "text/x-agda") own
+    ∷ named (codes "text/x-aidl") own
+    ∷ named (codes "text/x-ampl") own
+    ∷ named (codes "text/x-antlr") own
+    ∷ named (codes "text/x-apacheconf") own
+    ∷ named (codes "text/x-apex") own
+    ∷ named (codes "text/x-apl") own
+    ∷ named (codes "text/x-applescript") own
+    ∷ named (codes "text/x-asciidoc") own
+    ∷ named (codes "text/x-asm") own
+    ∷ named (codes "text/x-asn1") own
+    ∷ named (codes "text/x-astro") own
+    ∷ named (codes "text/x-asymptote") own
+    ∷ named (codes "text/x-autoconf") own
+    ∷ named (codes "text/x-autohotkey") own
+    ∷ named (codes "text/x-autoit") own
+    ∷ named (codes "text/x-automake") own
+    ∷ named (codes "text/x-awk") (row (codes "awk"))
+    ∷ named (codes "text/x-ballerina") own
+    ∷ named (codes "text/x-basic") own
+    ∷ named (codes "text/x-bats") own
+    ∷ named (codes "text/x-bc") own
+    ∷ named (codes "text/x-bed") own
+    ∷ named (codes "text/x-bibtex") known
+    ∷ named (codes "text/x-bicep") own
+    ∷ named (codes "text/x-bitbake") own
+    ∷ named (codes "text/x-blade") own
+    ∷ named (codes "text/x-bluespec") own
+    ∷ named (codes "text/x-boo") known
+    ∷ named (codes "text/x-bpftrace") own
+    ∷ named (codes "text/x-bugs") own
+    ∷ named (codes "text/x-c++hdr") known
+    ∷ named (codes "text/x-c++src") known
+    ∷ named (codes "text/x-cabal") own
+    ∷ named (codes "text/x-cairo") own
+    ∷ named (codes "text/x-capnp") own
+    ∷ named (codes "text/x-cfm") own
+    ∷ named (codes "text/x-chapel") own
+    ∷ named (codes "text/x-chdr") known
+    ∷ named (codes "text/x-checksums") own
+    ∷ named (codes "text/x-chuck") own
+    ∷ named (codes "text/x-clojure") known
+    ∷ named (codes "text/x-cmake") known
+    ∷ named (codes "text/x-cobol") known
+    ∷ named (codes "text/x-cocci") own
+    ∷ named (codes "text/x-common-lisp") known
+    ∷ named (codes "text/x-component") known
+    ∷ named (codes "text/x-coq") own
+    ∷ named (codes "text/x-cppconf") own
+    ∷ named (codes "text/x-creole") own
+    ∷ named (codes "text/x-cron") own
+    ∷ named (codes "text/x-crystal") known
+    ∷ named (codes "text/x-csharp") known
+    ∷ named (codes "text/x-csound") own
+    ∷ named (codes "text/x-csrc") known
+    ∷ []
+
+unfoldable pub types_11 : List NamedType
+types_11 =
+    named (codes "text/x-cuda") own
+    ∷ named (codes "text/x-cwl") own
+    ∷ named (codes "text/x-cypher") own
+    ∷ named (codes "text/x-cython") known
+    ∷ named (codes "text/x-d2") own
+    ∷ named (codes "text/x-dart") known
+    ∷ named (codes "text/x-debian-control") own
+    ∷ named (codes "text/x-dhall") own
+    ∷ named (codes "text/x-dimacs") own
+    ∷ named (codes "text/x-dns-zone") own
+    ∷ named (codes "text/x-dockerfile") known
+    ∷ named (codes "text/x-dotenv") own
+    ∷ named (codes "text/x-dsrc") known
+    ∷ named (codes "text/x-dts") own
+    ∷ named (codes "text/x-dune") own
+    ∷ named (codes "text/x-ebnf") known
+    ∷ named (codes "text/x-ebuild") own
+    ∷ named (codes "text/x-editorconfig") own
+    ∷ named (codes "text/x-eex") own
+    ∷ named (codes "text/x-eiffel") known
+    ∷ named (codes "text/x-ejs") own
+    ∷ named (codes "text/x-elixir") known
+    ∷ named (codes "text/x-elm") known
+    ∷ named (codes "text/x-emacs-config") own
+    ∷ named (codes "text/x-emacs-lisp") known
+    ∷ named (codes "text/x-erlang") known
+    ∷ named (codes "text/x-expect") own
+    ∷ named (codes "text/x-factor") known
+    ∷ named (codes "text/x-fasta") own
+    ∷ named (codes "text/x-fastq") own
+    ∷ named (codes "text/x-fennel") own
+    ∷ named (codes "text/x-flatbuffers") own
+    ∷ named (codes "text/x-fontforge-sfd") own
+    ∷ named (codes "text/x-forth") known
+    ∷ named (codes "text/x-fortran") known
+    ∷ named (codes "text/x-fountain") own
+    ∷ named (codes "text/x-freemarker") own
+    ∷ named (codes "text/x-fsharp") known
+    ∷ named (codes "text/x-gams") own
+    ∷ named (codes "text/x-gap") own
+    ∷ named (codes "text/x-gdb") own
+    ∷ named (codes "text/x-genbank") own
+    ∷ named (codes "text/x-genie") known
+    ∷ named (codes "text/x-gerber") own
+    ∷ named (codes "text/x-gettext-translation") known
+    ∷ named (codes "text/x-gettext-translation-template") known
+    ∷ named (codes "text/x-gff") own
+    ∷ named (codes "text/x-gfortran-module") own
+    ∷ named (codes "text/x-gherkin") known
+    ∷ named (codes "text/x-gitattributes") own
+    ∷ named (codes "text/x-gitconfig") own
+    ∷ named (codes "text/x-gitignore") own
+    ∷ named (codes "text/x-gleam") own
+    ∷ named (codes "text/x-glsl") own
+    ∷ named (codes "text/x-gn") own
+    ∷ named (codes "text/x-go") known
+    ∷ named (codes "text/x-gomod") own
+    ∷ named (codes "text/x-gosum") own
+    ∷ named (codes "text/x-gotemplate") own
+    ∷ named (codes "text/x-gpr") own
+    ∷ named (codes "text/x-gradle") known
+    ∷ named (codes "text/x-groovy") known
+    ∷ named (codes "text/x-haml") known
+    ∷ named (codes "text/x-handlebars") own
+    ∷ []
+
+unfoldable pub types_12 : List NamedType
+types_12 =
+    named (codes "text/x-haskell") known
+    ∷ named (codes "text/x-haxe") known
+    ∷ named (codes "text/x-hcl") own
+    ∷ named (codes "text/x-hive") own
+    ∷ named (codes "text/x-hlsl") own
+    ∷ named (codes "text/x-http") own
+    ∷ named (codes "text/x-hunspell-affix") own
+    ∷ named (codes "text/x-hy") own
+    ∷ named (codes "text/x-idl") known
+    ∷ named (codes "text/x-idris") own
+    ∷ named (codes "text/x-igor") own
+    ∷ named (codes "text/x-imagej") own
+    ∷ named (codes "text/x-ini") own
+    ∷ named (codes "text/x-innosetup") own
+    ∷ named (codes "text/x-io") own
+    ∷ named (codes "text/x-ipxe") own
+    ∷ named (codes "text/x-irclog") own
+    ∷ named (codes "text/x-isabelle") own
+    ∷ named (codes "text/x-janet") own
+    ∷ named (codes "text/x-java") known
+    ∷ named (codes "text/x-java-manifest") own
+    ∷ named (codes "text/x-java-properties") own
+    ∷ named (codes "text/x-jcl") own
+    ∷ named (codes "text/x-jelly") own
+    ∷ named (codes "text/x-jinja") own
+    ∷ named (codes "text/x-jq") own
+    ∷ named (codes "text/x-julia") known
+    ∷ named (codes "text/x-just") own
+    ∷ named (codes "text/x-kaitai-struct") known
+    ∷ named (codes "text/x-kconfig") own
+    ∷ named (codes "text/x-kickstart") own
+    ∷ named (codes "text/x-kotlin") known
+    ∷ named (codes "text/x-krl") own
+    ∷ named (codes "text/x-kusto") own
+    ∷ named (codes "text/x-latte") own
+    ∷ named (codes "text/x-ld-script") own
+    ∷ named (codes "text/x-ldif") known
+    ∷ named (codes "text/x-lean") own
+    ∷ named (codes "text/x-less") own
+    ∷ named (codes "text/x-lex") own
+    ∷ named (codes "text/x-lfe") own
+    ∷ named (codes "text/x-lilypond") known
+    ∷ named (codes "text/x-liquid") own
+    ∷ named (codes "text/x-literate-haskell") known
+    ∷ named (codes "text/x-livescript") known
+    ∷ named (codes "text/x-llvm") own
+    ∷ named (codes "text/x-logtalk") own
+    ∷ named (codes "text/x-lsl") own
+    ∷ named (codes "text/x-lua") (row (codes "lua"))
+    ∷ named (codes "text/x-makefile") known
+    ∷ named (codes "text/x-mako") own
+    ∷ named (codes "text/x-marko") own
+    ∷ named (codes "text/x-matlab") known
+    ∷ named (codes "text/x-maven+xml") known
+    ∷ named (codes "text/x-maxima") own
+    ∷ named (codes "text/x-mcfunction") own
+    ∷ named (codes "text/x-mediawiki") own
+    ∷ named (codes "text/x-mermaid") own
+    ∷ named (codes "text/x-meson") known
+    ∷ named (codes "text/x-metafont") own
+    ∷ named (codes "text/x-metal") own
+    ∷ named (codes "text/x-mib") own
+    ∷ named (codes "text/x-mirc") own
+    ∷ named (codes "text/x-mlir") own
+    ∷ []
+
+unfoldable pub types_13 : List NamedType
+types_13 =
+    named (codes "text/x-modelica") known
+    ∷ named (codes "text/x-modula") own
+    ∷ named (codes "text/x-mojo") own
+    ∷ named (codes "text/x-monkey") own
+    ∷ named (codes "text/x-moonscript") own
+    ∷ named (codes "text/x-move") own
+    ∷ named (codes "text/x-ms-regedit") known
+    ∷ named (codes "text/x-msdos-batch") own
+    ∷ named (codes "text/x-newick") own
+    ∷ named (codes "text/x-nextflow") own
+    ∷ named (codes "text/x-nftables") own
+    ∷ named (codes "text/x-nginx-conf") known
+    ∷ named (codes "text/x-nim") own
+    ∷ named (codes "text/x-ninja") own
+    ∷ named (codes "text/x-nix") own
+    ∷ named (codes "text/x-nsis") known
+    ∷ named (codes "text/x-nushell") own
+    ∷ named (codes "text/x-objc++src") known
+    ∷ named (codes "text/x-objcsrc") known
+    ∷ named (codes "text/x-ocaml") known
+    ∷ named (codes "text/x-octave") known
+    ∷ named (codes "text/x-odin") own
+    ∷ named (codes "text/x-ooc") known
+    ∷ named (codes "text/x-opencl-src") known
+    ∷ named (codes "text/x-openscad") own
+    ∷ named (codes "text/x-opentype-feature") own
+    ∷ named (codes "text/x-opml+xml") known
+    ∷ named (codes "text/x-oz") known
+    ∷ named (codes "text/x-pascal") known
+    ∷ named (codes "text/x-patch") known
+    ∷ named (codes "text/x-pawn") own
+    ∷ named (codes "text/x-perl") (row (codes "pl"))
+    ∷ named (codes "text/x-php") (row (codes "php"))
+    ∷ named (codes "text/x-pic") own
+    ∷ named (codes "text/x-pig") own
+    ∷ named (codes "text/x-pike") own
+    ∷ named (codes "text/x-pkg-config") own
+    ∷ named (codes "text/x-plantuml") own
+    ∷ named (codes "text/x-pli") own
+    ∷ named (codes "text/x-pod") own
+    ∷ named (codes "text/x-pony") own
+    ∷ named (codes "text/x-postcss") own
+    ∷ named (codes "text/x-praat") own
+    ∷ named (codes "text/x-preseed") own
+    ∷ named (codes "text/x-prisma") own
+    ∷ named (codes "text/x-procfile") own
+    ∷ named (codes "text/x-prolog") own
+    ∷ named (codes "text/x-protobuf") known
+    ∷ named (codes "text/x-psv") own
+    ∷ named (codes "text/x-pth") own
+    ∷ named (codes "text/x-pug") known
+    ∷ named (codes "text/x-puppet") known
+    ∷ named (codes "text/x-purescript") own
+    ∷ named (codes "text/x-python") known
+    ∷ named (codes "text/x-python") (row (codes "py"))
+    ∷ named (codes "text/x-qmake") own
+    ∷ named (codes "text/x-qml") known
+    ∷ named (codes "text/x-r-doc") own
+    ∷ named (codes "text/x-racket") own
+    ∷ named (codes "text/x-ragel") own
+    ∷ named (codes "text/x-raku") own
+    ∷ named (codes "text/x-razor") own
+    ∷ named (codes "text/x-rdoc") own
+    ∷ named (codes "text/x-readline") own
+    ∷ []
+
+unfoldable pub types_14 : List NamedType
+types_14 =
+    named (codes "text/x-reason") own
+    ∷ named (codes "text/x-rebol") own
+    ∷ named (codes "text/x-red") own
+    ∷ named (codes "text/x-rego") own
+    ∷ named (codes "text/x-reject") known
+    ∷ named (codes "text/x-rexx") own
+    ∷ named (codes "text/x-ring") own
+    ∷ named (codes "text/x-rmarkdown") own
+    ∷ named (codes "text/x-robotframework") own
+    ∷ named (codes "text/x-roc") own
+    ∷ named (codes "text/x-rpgle") own
+    ∷ named (codes "text/x-rpm-spec") known
+    ∷ named (codes "text/x-rsrc") known
+    ∷ named (codes "text/x-rst") known
+    ∷ named (codes "text/x-ruby") (row (codes "rb"))
+    ∷ named (codes "text/x-sagemath") known
+    ∷ named (codes "text/x-sam") own
+    ∷ named (codes "text/x-sas") known
+    ∷ named (codes "text/x-sass") known
+    ∷ named (codes "text/x-scala") known
+    ∷ named (codes "text/x-scheme") known
+    ∷ named (codes "text/x-scilab") own
+    ∷ named (codes "text/x-scons") known
+    ∷ named (codes "text/x-scss") known
+    ∷ named (codes "text/x-sdc") own
+    ∷ named (codes "text/x-sed") own
+    ∷ named (codes "text/x-selinux") own
+    ∷ named (codes "text/x-setext") known
+    ∷ named (codes "text/x-shell-config") own
+    ∷ named (codes "text/x-shellscript") (row (codes "sh"))
+    ∷ named (codes "text/x-sieve") own
+    ∷ named (codes "text/x-slim") known
+    ∷ named (codes "text/x-slint") own
+    ∷ named (codes "text/x-sln") own
+    ∷ named (codes "text/x-smali") own
+    ∷ named (codes "text/x-smarty") known
+    ∷ named (codes "text/x-sml") own
+    ∷ named (codes "text/x-smt") own
+    ∷ named (codes "text/x-snakemake") own
+    ∷ named (codes "text/x-solidity") own
+    ∷ named (codes "text/x-sourcepawn") own
+    ∷ named (codes "text/x-soy") known
+    ∷ named (codes "text/x-spice") own
+    ∷ named (codes "text/x-spin") own
+    ∷ named (codes "text/x-squirrel") own
+    ∷ named (codes "text/x-ssa") known
+    ∷ named (codes "text/x-stan") own
+    ∷ named (codes "text/x-starlark") own
+    ∷ named (codes "text/x-stata") own
+    ∷ named (codes "text/x-strings") own
+    ∷ named (codes "text/x-stylus") own
+    ∷ named (codes "text/x-subviewer") known
+    ∷ named (codes "text/x-supercollider") own
+    ∷ named (codes "text/x-svelte") own
+    ∷ named (codes "text/x-svhdr") known
+    ∷ named (codes "text/x-svsrc") known
+    ∷ named (codes "text/x-swift") known
+    ∷ named (codes "text/x-systemd-unit") known
+    ∷ named (codes "text/x-tablegen") own
+    ∷ named (codes "text/x-tcl") (row (codes "tcl"))
+    ∷ named (codes "text/x-template-toolkit") own
+    ∷ named (codes "text/x-tex") known
+    ∷ named (codes "text/x-texinfo") known
+    ∷ named (codes "text/x-textile") known
+    ∷ []
+
+unfoldable pub types_15 : List NamedType
+types_15 =
+    named (codes "text/x-textproto") own
+    ∷ named (codes "text/x-thrift") own
+    ∷ named (codes "text/x-tla") own
+    ∷ named (codes "text/x-tmux-conf") own
+    ∷ named (codes "text/x-tsx") own
+    ∷ named (codes "text/x-twig") known
+    ∷ named (codes "text/x-txt2tags") known
+    ∷ named (codes "text/x-typescript") own
+    ∷ named (codes "text/x-typst") own
+    ∷ named (codes "text/x-uc") own
+    ∷ named (codes "text/x-udev-rules") own
+    ∷ named (codes "text/x-unity") own
+    ∷ named (codes "text/x-uri") known
+    ∷ named (codes "text/x-vagrantfile") own
+    ∷ named (codes "text/x-vala") known
+    ∷ named (codes "text/x-vb") known
+    ∷ named (codes "text/x-vcl") own
+    ∷ named (codes "text/x-vdf") own
+    ∷ named (codes "text/x-verilog") known
+    ∷ named (codes "text/x-vhdl") known
+    ∷ named (codes "text/x-vim") own
+    ∷ named (codes "text/x-vue") own
+    ∷ named (codes "text/x-vyper") own
+    ∷ named (codes "text/x-wat") own
+    ∷ named (codes "text/x-wdl") own
+    ∷ named (codes "text/x-wkt") own
+    ∷ named (codes "text/x-wren") own
+    ∷ named (codes "text/x-xcu-rng") own
+    ∷ named (codes "text/x-xmi") known
+    ∷ named (codes "text/x-xonsh") own
+    ∷ named (codes "text/x-xresources") own
+    ∷ named (codes "text/x-yacc") own
+    ∷ named (codes "text/x-yang") own
+    ∷ named (codes "text/x-zig") own
+    ∷ named (codes "text/x-zimpl") own
+    ∷ named (codes "text/x.gcode") known
+    ∷ named (codes "text/xml") (row (codes "xml"))
+    ∷ named (codes "video/3gpp") (row (codes "3gp"))
+    ∷ named (codes "video/3gpp2") (row (codes "3g2"))
+    ∷ named (codes "video/dv") known
+    ∷ named (codes "video/h264") own
+    ∷ named (codes "video/h265") own
+    ∷ named (codes "video/mj2") known
+    ∷ named (codes "video/mp2t") (row (codes "ts"))
+    ∷ named (codes "video/mp4") (row (codes "mp4"))
+    ∷ named (codes "video/mpeg") (row (codes "mpg"))
+    ∷ named (codes "video/ogg") (row (codes "ogv"))
+    ∷ named (codes "video/quicktime") (row (codes "mov"))
+    ∷ named (codes "video/vnd.radgamettools.smacker") known
+    ∷ named (codes "video/webm") (row (codes "webm"))
+    ∷ named (codes "video/x-f4v") (row (codes "f4v"))
+    ∷ named (codes "video/x-flic") known
+    ∷ named (codes "video/x-flv") (row (codes "flv"))
+    ∷ named (codes "video/x-ivf") own
+    ∷ named (codes "video/x-m4v") (row (codes "m4v"))
+    ∷ named (codes "video/x-matroska") (row (codes "mkv"))
+    ∷ named (codes "video/x-matroska-3d") known
+    ∷ named (codes "video/x-mng") known
+    ∷ named (codes "video/x-ms-wmv") (row (codes "wmv"))
+    ∷ named (codes "video/x-msvideo") (row (codes "avi"))
+    ∷ named (codes "video/x-nsv") known
+    ∷ named (codes "video/x-ogm+ogg") known
+    ∷ named (codes "video/x-y4m") own
+    ∷ []
+
+unfoldable pub type_groups : List (List NamedType)
+type_groups = types_0 ∷ types_1 ∷ types_2 ∷ types_3 ∷ types_4 ∷ types_5 ∷ types_6 ∷ types_7 ∷ types_8 ∷ types_9 ∷ types_10 ∷ types_11 ∷ types_12 ∷ types_13 ∷ types_14 ∷ types_15 ∷ []

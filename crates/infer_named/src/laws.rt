@@ -1,0 +1,51 @@
+//! Laws of names and bytes, each the contract of a function that does nothing beside. They hold for every key, so for every
+//! table. To use a law, call it.
+ghost use Rattle.infer_named.specs.Laws.{AnswersLast, KeysAreRight, KindsLast, LeadsLast, LiesStayVisible, NothingIsInvented, OnlyTheKeyCounts, OnlyThreeCount, SilenceIsExact, TheBytesWin};
+
+/// The bytes win: no type is told that they contradict, and theirs is told but where a name refines it.
+#[tactic(auto, using(crate::proofs::LawLemmas::bytes_win))]
+pub fn bytes_win()
+    ensures { TheBytesWin }
+{}
+
+/// Nothing is invented: a name alone tells a type only of bytes that no row accepts, and that may be of it.
+#[tactic(auto, using(crate::proofs::LawLemmas::nothing_invented))]
+pub fn nothing_is_invented()
+    ensures { NothingIsInvented }
+{}
+
+/// Nothing is said exactly if the bytes have no type and the name has no strict key.
+#[tactic(auto, using(crate::proofs::LawLemmas::silence_exact))]
+pub fn silence_is_exact()
+    ensures { SilenceIsExact }
+{}
+
+/// Two names with one key, or without one, tell the same of the same bytes.
+pub fn only_the_key_counts()
+    ensures { OnlyTheKeyCounts }
+{}
+
+/// Of the bytes count their type, their kind where they have none, and their lead where a reading has leads.
+#[tactic(auto, using(crate::proofs::LawLemmas::only_three))]
+pub fn only_three_count()
+    ensures { OnlyThreeCount }
+{}
+
+/// What follows the bytes changes neither a lead of two bytes, but that of EF BB alone, nor that they are no text, nor a byte
+/// 00 among them. So it changes no answer as long as their type stays.
+pub fn growth()
+    ensures leads { LeadsLast }
+    ensures kinds { KindsLast }
+    ensures answers { AnswersLast }
+{}
+
+/// A lie stays visible: bytes of a type that no reading of a strict key takes contradict it, whatever else they hold.
+pub fn lies_stay_visible()
+    ensures { LiesStayVisible }
+{}
+
+/// The table is right: each key has from 1 to 27 bytes of small letters, digits and marks, stands once, and has readings, of
+/// which each MIME type has at most 73 bytes. Where one is wrong, the check's error has its text.
+pub fn keys_are_right()
+    ensures { KeysAreRight }
+{}
