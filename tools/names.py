@@ -15,8 +15,9 @@ READING = re.compile(r"(?P<mime_type>\S+) \((?:row (?P<row>\S+)|(?P<known>known)
 LEAD = re.compile(r'"(?:[^"\\]|\\.)+"')
 # The rows of texts, which are named together.
 TEXTS = (
-    "asc atom awk eps gpx html ics js json key kml lua m3u8 ndjson openssh pem pgp php pl plist ps py rb rss rtf sh sig srt svg "
-    "tcl vcf vtt xhtml xml xpm"
+    "afm asc atom awk ccmx crl diashape eps fb2 fodt gjs gpx gtkbuilder html ics imy it87 jnlp js json key kml "
+    "lingts lua m3u8 meta4 mml ndjson nzb openssh opml owx pem pfa pgp php pl plist ps py qml rb rss rtf sami sh sig "
+    "srt srx svg tcl ttx vcf vtt xhtml xml xmp xpm"
 ).split()
 # How many types, and how many sets of rows, are one list of the code.
 TYPES, SETS = 64, 32

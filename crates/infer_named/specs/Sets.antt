@@ -44,839 +44,1070 @@ leads-12 = 12
 abbrev pub no-rows : ℕ
 no-rows = 0
 
+abbrev pub rows-3ds : ℕ
+rows-3ds = 1
+
 abbrev pub rows-3g2 : ℕ
-rows-3g2 = 1
+rows-3g2 = 2
 
 abbrev pub rows-3g2-3gp-f4v-m4a-m4b-m4v-mov : ℕ
-rows-3g2-3gp-f4v-m4a-m4b-m4v-mov = 2
+rows-3g2-3gp-f4v-m4a-m4b-m4v-mov = 3
 
 abbrev pub rows-3gp : ℕ
-rows-3gp = 3
+rows-3gp = 4
 
 abbrev pub rows-3gp-mp4 : ℕ
-rows-3gp-mp4 = 4
+rows-3gp-mp4 = 5
 
 abbrev pub rows-3mf : ℕ
-rows-3mf = 5
+rows-3mf = 6
 
-abbrev pub rows-3mf-apk-docx-epub-jar-kmz-kra-odf-odg-odp-ods-odt-ora-otp-ots-ott-pptx-vsdx-xlsx : ℕ
-rows-3mf-apk-docx-epub-jar-kmz-kra-odf-odg-odp-ods-odt-ora-otp-ots-ott-pptx-vsdx-xlsx = 6
+abbrev pub rows-3mf-apk-application-vnd-apple-keynote-chrt-docx-epub-fbz-flw-jar-karbon-kmz-kra-odc-odf-odg-odp-ods-odt-ora-otg-otp-ots-ott-pkpass-pptx-sxw-vsdx-xlsx : ℕ
+rows-3mf-apk-application-vnd-apple-keynote-chrt-docx-epub-fbz-flw-jar-karbon-kmz-kra-odc-odf-odg-odp-ods-odt-ora-otg-otp-ots-ott-pkpass-pptx-sxw-vsdx-xlsx = 7
 
 abbrev pub rows-7z : ℕ
-rows-7z = 7
+rows-7z = 8
 
 abbrev pub rows-z : ℕ
-rows-z = 8
+rows-z = 9
 
 abbrev pub rows-aac : ℕ
-rows-aac = 9
+rows-aac = 10
 
 abbrev pub rows-accdb : ℕ
-rows-accdb = 10
+rows-accdb = 11
 
-abbrev pub rows-age : ℕ
-rows-age = 11
+abbrev pub rows-adf : ℕ
+rows-adf = 12
 
-abbrev pub rows-aifc : ℕ
-rows-aifc = 12
-
-abbrev pub rows-aiff : ℕ
-rows-aiff = 13
-
-abbrev pub rows-amr : ℕ
-rows-amr = 14
-
-abbrev pub rows-ani : ℕ
-rows-ani = 15
-
-abbrev pub rows-ape : ℕ
-rows-ape = 16
-
-abbrev pub rows-apk : ℕ
-rows-apk = 17
-
-abbrev pub rows-apk-jar-zip : ℕ
-rows-apk-jar-zip = 18
-
-abbrev pub rows-apng : ℕ
-rows-apng = 19
-
-abbrev pub rows-appimage : ℕ
-rows-appimage = 20
-
-abbrev pub rows-appimage-core-o-so : ℕ
-rows-appimage-core-o-so = 21
-
-abbrev pub rows-application-x-msi : ℕ
-rows-application-x-msi = 22
-
-abbrev pub rows-application-x-ole-storage : ℕ
-rows-application-x-ole-storage = 23
-
-abbrev pub rows-application-x-ole-storage-pptx-zip : ℕ
-rows-application-x-ole-storage-pptx-zip = 24
-
-abbrev pub rows-application-x-ole-storage-xlsx-zip : ℕ
-rows-application-x-ole-storage-xlsx-zip = 25
-
-abbrev pub rows-application-x-ole-storage-zip : ℕ
-rows-application-x-ole-storage-zip = 26
-
-abbrev pub rows-ar : ℕ
-rows-ar = 27
-
-abbrev pub rows-arj : ℕ
-rows-arj = 28
-
-abbrev pub rows-arrow : ℕ
-rows-arrow = 29
-
-abbrev pub rows-asc : ℕ
-rows-asc = 30
+abbrev pub rows-afm : ℕ
+rows-afm = 13
 
 abbrev pub text-rows : ℕ
-text-rows = 31
+text-rows = 14
 
-abbrev pub rows-asc-key-openssh-pgp-sig : ℕ
-rows-asc-key-openssh-pgp-sig = 32
+abbrev pub rows-age : ℕ
+rows-age = 15
+
+abbrev pub rows-aifc : ℕ
+rows-aifc = 16
+
+abbrev pub rows-aiff : ℕ
+rows-aiff = 17
+
+abbrev pub rows-alz : ℕ
+rows-alz = 18
+
+abbrev pub rows-amr : ℕ
+rows-amr = 19
+
+abbrev pub rows-ani : ℕ
+rows-ani = 20
+
+abbrev pub rows-ape : ℕ
+rows-ape = 21
+
+abbrev pub rows-apk : ℕ
+rows-apk = 22
+
+abbrev pub rows-apk-jar-zip : ℕ
+rows-apk-jar-zip = 23
+
+abbrev pub rows-apng : ℕ
+rows-apng = 24
+
+abbrev pub rows-appimage : ℕ
+rows-appimage = 25
+
+abbrev pub rows-appimage-core-o-so : ℕ
+rows-appimage-core-o-so = 26
+
+abbrev pub rows-application-vnd-apple-keynote : ℕ
+rows-application-vnd-apple-keynote = 27
+
+abbrev pub rows-application-x-installshield : ℕ
+rows-application-x-installshield = 28
+
+abbrev pub rows-application-x-msi : ℕ
+rows-application-x-msi = 29
+
+abbrev pub rows-application-x-ole-storage : ℕ
+rows-application-x-ole-storage = 30
+
+abbrev pub rows-application-x-ole-storage-pptx-zip : ℕ
+rows-application-x-ole-storage-pptx-zip = 31
+
+abbrev pub rows-application-x-ole-storage-xlsx-zip : ℕ
+rows-application-x-ole-storage-xlsx-zip = 32
+
+abbrev pub rows-application-x-ole-storage-zip : ℕ
+rows-application-x-ole-storage-zip = 33
+
+abbrev pub rows-ar : ℕ
+rows-ar = 34
+
+abbrev pub rows-arj : ℕ
+rows-arj = 35
+
+abbrev pub rows-arrow : ℕ
+rows-arrow = 36
+
+abbrev pub rows-asar : ℕ
+rows-asar = 37
+
+abbrev pub rows-asc : ℕ
+rows-asc = 38
+
+abbrev pub rows-asc-crl-key-openssh-pgp-sig : ℕ
+rows-asc-crl-key-openssh-pgp-sig = 39
+
+abbrev pub rows-astc : ℕ
+rows-astc = 40
 
 abbrev pub rows-atom : ℕ
-rows-atom = 33
+rows-atom = 41
 
-abbrev pub rows-atom-gpx-kml-plist-rss-svg-xhtml : ℕ
-rows-atom-gpx-kml-plist-rss-svg-xhtml = 34
+abbrev pub rows-atom-diashape-fb2-fodt-gpx-gtkbuilder-jnlp-kml-lingts-meta4-mml-nzb-opml-owx-plist-rss-srx-svg-ttx-xhtml-xmp : ℕ
+rows-atom-diashape-fb2-fodt-gpx-gtkbuilder-jnlp-kml-lingts-meta4-mml-nzb-opml-owx-plist-rss-srx-svg-ttx-xhtml-xmp = 42
 
 abbrev pub rows-au : ℕ
-rows-au = 35
+rows-au = 43
 
 abbrev pub rows-avi : ℕ
-rows-avi = 36
+rows-avi = 44
 
 abbrev pub rows-avif : ℕ
-rows-avif = 37
+rows-avif = 45
 
 abbrev pub rows-avro : ℕ
-rows-avro = 38
+rows-avro = 46
 
 abbrev pub rows-awk : ℕ
-rows-awk = 39
+rows-awk = 47
 
 abbrev pub rows-bc : ℕ
-rows-bc = 40
+rows-bc = 48
 
 abbrev pub rows-bdb : ℕ
-rows-bdb = 41
+rows-bdb = 49
 
 abbrev pub rows-beam : ℕ
-rows-beam = 42
+rows-beam = 50
 
 abbrev pub rows-blend : ℕ
-rows-blend = 43
+rows-blend = 51
 
 abbrev pub rows-bmp : ℕ
-rows-bmp = 44
+rows-bmp = 52
+
+abbrev pub rows-bpg : ℕ
+rows-bpg = 53
 
 abbrev pub rows-bplist : ℕ
-rows-bplist = 45
+rows-bplist = 54
 
 abbrev pub rows-bz2 : ℕ
-rows-bz2 = 46
+rows-bz2 = 55
 
 abbrev pub rows-bz2-gz-xz : ℕ
-rows-bz2-gz-xz = 47
+rows-bz2-gz-xz = 56
 
 abbrev pub rows-bz3 : ℕ
-rows-bz3 = 48
+rows-bz3 = 57
 
 abbrev pub rows-cab : ℕ
-rows-cab = 49
+rows-cab = 58
+
+abbrev pub rows-chd : ℕ
+rows-chd = 59
 
 abbrev pub rows-chm : ℕ
-rows-chm = 50
+rows-chm = 60
 
 abbrev pub rows-class : ℕ
-rows-class = 51
+rows-class = 61
 
 abbrev pub rows-core : ℕ
-rows-core = 52
+rows-core = 62
 
 abbrev pub rows-cpio : ℕ
-rows-cpio = 53
+rows-cpio = 63
 
 abbrev pub rows-cr2 : ℕ
-rows-cr2 = 54
+rows-cr2 = 64
 
 abbrev pub rows-cr2-dng : ℕ
-rows-cr2-dng = 55
+rows-cr2-dng = 65
 
 abbrev pub rows-cr3 : ℕ
-rows-cr3 = 56
+rows-cr3 = 66
+
+abbrev pub rows-crl : ℕ
+rows-crl = 67
 
 abbrev pub rows-crx : ℕ
-rows-crx = 57
+rows-crx = 68
+
+abbrev pub rows-cur : ℕ
+rows-cur = 69
 
 abbrev pub rows-dbf : ℕ
-rows-dbf = 58
+rows-dbf = 70
 
 abbrev pub rows-dcm : ℕ
-rows-dcm = 59
+rows-dcm = 71
 
 abbrev pub rows-deb : ℕ
-rows-deb = 60
+rows-deb = 72
 
 abbrev pub rows-der : ℕ
-rows-der = 61
+rows-der = 73
 
 abbrev pub rows-der-key-pem : ℕ
-rows-der-key-pem = 62
+rows-der-key-pem = 74
 
 abbrev pub rows-der-p7b-pem : ℕ
-rows-der-p7b-pem = 63
+rows-der-p7b-pem = 75
 
 abbrev pub rows-der-pem : ℕ
-rows-der-pem = 64
+rows-der-pem = 76
 
 abbrev pub rows-der-pem-txt : ℕ
-rows-der-pem-txt = 65
+rows-der-pem-txt = 77
 
 abbrev pub rows-dex : ℕ
-rows-dex = 66
+rows-dex = 78
 
 abbrev pub rows-dey : ℕ
-rows-dey = 67
+rows-dey = 79
+
+abbrev pub rows-dff : ℕ
+rows-dff = 80
+
+abbrev pub rows-djvm : ℕ
+rows-djvm = 81
 
 abbrev pub rows-djvu : ℕ
-rows-djvu = 68
+rows-djvu = 82
 
 abbrev pub rows-dng : ℕ
-rows-dng = 69
+rows-dng = 83
 
 abbrev pub rows-doc : ℕ
-rows-doc = 70
+rows-doc = 84
 
 abbrev pub rows-docx : ℕ
-rows-docx = 71
+rows-docx = 85
 
 abbrev pub rows-docx-application-x-ole-storage-zip : ℕ
-rows-docx-application-x-ole-storage-zip = 72
+rows-docx-application-x-ole-storage-zip = 86
 
 abbrev pub rows-dsf : ℕ
-rows-dsf = 73
+rows-dsf = 87
+
+abbrev pub rows-dts : ℕ
+rows-dts = 88
+
+abbrev pub rows-dv : ℕ
+rows-dv = 89
+
+abbrev pub rows-dvi : ℕ
+rows-dvi = 90
 
 abbrev pub rows-dwg : ℕ
-rows-dwg = 74
+rows-dwg = 91
 
 abbrev pub rows-elf : ℕ
-rows-elf = 75
+rows-elf = 92
 
 abbrev pub rows-elf-so : ℕ
-rows-elf-so = 76
+rows-elf-so = 93
 
 abbrev pub rows-eot : ℕ
-rows-eot = 77
+rows-eot = 94
 
 abbrev pub rows-eps : ℕ
-rows-eps = 78
+rows-eps = 95
 
 abbrev pub rows-eps-pdf-ps : ℕ
-rows-eps-pdf-ps = 79
+rows-eps-pdf-ps = 96
+
+abbrev pub rows-eps-pfa : ℕ
+rows-eps-pfa = 97
 
 abbrev pub rows-epub : ℕ
-rows-epub = 80
+rows-epub = 98
 
 abbrev pub rows-evtx : ℕ
-rows-evtx = 81
+rows-evtx = 99
 
 abbrev pub rows-exe : ℕ
-rows-exe = 82
+rows-exe = 100
+
+abbrev pub rows-exr : ℕ
+rows-exr = 101
 
 abbrev pub rows-ext2 : ℕ
-rows-ext2 = 83
+rows-ext2 = 102
 
 abbrev pub rows-f4v : ℕ
-rows-f4v = 84
+rows-f4v = 103
+
+abbrev pub rows-fb2 : ℕ
+rows-fb2 = 104
 
 abbrev pub rows-fits : ℕ
-rows-fits = 85
+rows-fits = 105
 
 abbrev pub rows-flac : ℕ
-rows-flac = 86
+rows-flac = 106
 
 abbrev pub rows-flac-ogg-opus : ℕ
-rows-flac-ogg-opus = 87
+rows-flac-ogg-opus = 107
+
+abbrev pub rows-flatpak : ℕ
+rows-flatpak = 108
 
 abbrev pub rows-flv : ℕ
-rows-flv = 88
+rows-flv = 109
+
+abbrev pub rows-fodt : ℕ
+rows-fodt = 110
+
+abbrev pub rows-gbr : ℕ
+rows-gbr = 111
 
 abbrev pub rows-gdbm : ℕ
-rows-gdbm = 89
+rows-gdbm = 112
 
 abbrev pub rows-gguf : ℕ
-rows-gguf = 90
+rows-gguf = 113
 
 abbrev pub rows-gif : ℕ
-rows-gif = 91
+rows-gif = 114
+
+abbrev pub rows-gjs-js : ℕ
+rows-gjs-js = 115
 
 abbrev pub rows-glb : ℕ
-rows-glb = 92
+rows-glb = 116
 
 abbrev pub rows-gpg : ℕ
-rows-gpg = 93
+rows-gpg = 117
 
 abbrev pub rows-gpkg : ℕ
-rows-gpkg = 94
+rows-gpkg = 118
 
 abbrev pub rows-gpx : ℕ
-rows-gpx = 95
+rows-gpx = 119
+
+abbrev pub rows-gtkbuilder : ℕ
+rows-gtkbuilder = 120
 
 abbrev pub rows-gz : ℕ
-rows-gz = 96
+rows-gz = 121
 
 abbrev pub rows-gz-sqlite-xml : ℕ
-rows-gz-sqlite-xml = 97
+rows-gz-sqlite-xml = 122
 
 abbrev pub rows-gz-txt-xml : ℕ
-rows-gz-txt-xml = 98
+rows-gz-txt-xml = 123
 
 abbrev pub rows-gz-xml : ℕ
-rows-gz-xml = 99
+rows-gz-xml = 124
 
 abbrev pub rows-gz-zip : ℕ
-rows-gz-zip = 100
+rows-gz-zip = 125
 
 abbrev pub rows-gz-zst : ℕ
-rows-gz-zst = 101
+rows-gz-zst = 126
+
+abbrev pub rows-hdf4 : ℕ
+rows-hdf4 = 127
 
 abbrev pub rows-hdf5 : ℕ
-rows-hdf5 = 102
+rows-hdf5 = 128
+
+abbrev pub rows-hdr : ℕ
+rows-hdr = 129
 
 abbrev pub rows-heic : ℕ
-rows-heic = 103
+rows-heic = 130
 
 abbrev pub rows-heics : ℕ
-rows-heics = 104
+rows-heics = 131
 
 abbrev pub rows-heics-heif : ℕ
-rows-heics-heif = 105
+rows-heics-heif = 132
 
 abbrev pub rows-heif : ℕ
-rows-heif = 106
+rows-heif = 133
+
+abbrev pub rows-hlp : ℕ
+rows-hlp = 134
 
 abbrev pub rows-html : ℕ
-rows-html = 107
+rows-html = 135
 
 abbrev pub rows-html-json-php-svg-txt-xhtml-xml : ℕ
-rows-html-json-php-svg-txt-xhtml-xml = 108
+rows-html-json-php-svg-txt-xhtml-xml = 136
 
 abbrev pub rows-html-rss-txt-xml : ℕ
-rows-html-rss-txt-xml = 109
+rows-html-rss-txt-xml = 137
 
 abbrev pub rows-html-sh-svg-txt-xhtml-xml : ℕ
-rows-html-sh-svg-txt-xhtml-xml = 110
+rows-html-sh-svg-txt-xhtml-xml = 138
 
 abbrev pub rows-html-txt : ℕ
-rows-html-txt = 111
+rows-html-txt = 139
 
 abbrev pub rows-html-txt-xhtml-xml : ℕ
-rows-html-txt-xhtml-xml = 112
+rows-html-txt-xhtml-xml = 140
 
 abbrev pub rows-html-txt-xml : ℕ
-rows-html-txt-xml = 113
+rows-html-txt-xml = 141
+
+abbrev pub rows-icc : ℕ
+rows-icc = 142
 
 abbrev pub rows-icns : ℕ
-rows-icns = 114
+rows-icns = 143
 
 abbrev pub rows-ico : ℕ
-rows-ico = 115
+rows-ico = 144
 
 abbrev pub rows-ics : ℕ
-rows-ics = 116
+rows-ics = 145
+
+abbrev pub rows-ilbm : ℕ
+rows-ilbm = 146
+
+abbrev pub rows-it : ℕ
+rows-it = 147
+
+abbrev pub rows-j2c : ℕ
+rows-j2c = 148
 
 abbrev pub rows-jar : ℕ
-rows-jar = 117
+rows-jar = 149
 
 abbrev pub rows-jar-zip : ℕ
-rows-jar-zip = 118
+rows-jar-zip = 150
+
+abbrev pub rows-jceks : ℕ
+rows-jceks = 151
+
+abbrev pub rows-jks : ℕ
+rows-jks = 152
 
 abbrev pub rows-jmod : ℕ
-rows-jmod = 119
+rows-jmod = 153
+
+abbrev pub rows-jnlp : ℕ
+rows-jnlp = 154
 
 abbrev pub rows-journal : ℕ
-rows-journal = 120
+rows-journal = 155
 
 abbrev pub rows-jp2 : ℕ
-rows-jp2 = 121
+rows-jp2 = 156
 
 abbrev pub rows-jpg : ℕ
-rows-jpg = 122
+rows-jpg = 157
+
+abbrev pub rows-jpm-jpx-mj2 : ℕ
+rows-jpm-jpx-mj2 = 158
 
 abbrev pub rows-jpx : ℕ
-rows-jpx = 123
-
-abbrev pub rows-js : ℕ
-rows-js = 124
+rows-jpx = 159
 
 abbrev pub rows-json : ℕ
-rows-json = 125
+rows-json = 160
 
 abbrev pub rows-json-ndjson-txt : ℕ
-rows-json-ndjson-txt = 126
+rows-json-ndjson-txt = 161
 
 abbrev pub rows-json-plist-txt-xml : ℕ
-rows-json-plist-txt-xml = 127
+rows-json-plist-txt-xml = 162
 
 abbrev pub rows-json-sh-txt : ℕ
-rows-json-sh-txt = 128
+rows-json-sh-txt = 163
 
 abbrev pub rows-json-txt : ℕ
-rows-json-txt = 129
+rows-json-txt = 164
 
 abbrev pub rows-jxl : ℕ
-rows-jxl = 130
+rows-jxl = 165
 
 abbrev pub rows-jxr : ℕ
-rows-jxr = 131
+rows-jxr = 166
 
 abbrev pub rows-key : ℕ
-rows-key = 132
+rows-key = 167
 
 abbrev pub rows-kml : ℕ
-rows-kml = 133
+rows-kml = 168
 
 abbrev pub rows-kmz : ℕ
-rows-kmz = 134
+rows-kmz = 169
+
+abbrev pub rows-kpr-ksp-kwd : ℕ
+rows-kpr-ksp-kwd = 170
 
 abbrev pub rows-kra : ℕ
-rows-kra = 135
+rows-kra = 171
+
+abbrev pub rows-ktx : ℕ
+rows-ktx = 172
+
+abbrev pub rows-ktx2 : ℕ
+rows-ktx2 = 173
+
+abbrev pub rows-lingts : ℕ
+rows-lingts = 174
 
 abbrev pub rows-lnk : ℕ
-rows-lnk = 136
+rows-lnk = 175
+
+abbrev pub rows-lrz : ℕ
+rows-lrz = 176
 
 abbrev pub rows-lua : ℕ
-rows-lua = 137
+rows-lua = 177
 
 abbrev pub rows-luac : ℕ
-rows-luac = 138
+rows-luac = 178
 
 abbrev pub rows-luks : ℕ
-rows-luks = 139
+rows-luks = 179
+
+abbrev pub rows-lwp : ℕ
+rows-lwp = 180
 
 abbrev pub rows-lz : ℕ
-rows-lz = 140
+rows-lz = 181
 
 abbrev pub rows-lz4 : ℕ
-rows-lz4 = 141
+rows-lz4 = 182
 
 abbrev pub rows-lzh : ℕ
-rows-lzh = 142
+rows-lzh = 183
 
 abbrev pub rows-lzma : ℕ
-rows-lzma = 143
+rows-lzma = 184
+
+abbrev pub rows-lzo : ℕ
+rows-lzo = 185
 
 abbrev pub rows-m3u8 : ℕ
-rows-m3u8 = 144
+rows-m3u8 = 186
 
 abbrev pub rows-m4a : ℕ
-rows-m4a = 145
+rows-m4a = 187
 
 abbrev pub rows-m4a-mp4 : ℕ
-rows-m4a-mp4 = 146
+rows-m4a-mp4 = 188
 
 abbrev pub rows-m4b : ℕ
-rows-m4b = 147
+rows-m4b = 189
 
 abbrev pub rows-m4b-m4v-mp4 : ℕ
-rows-m4b-m4v-mp4 = 148
+rows-m4b-m4v-mp4 = 190
 
 abbrev pub rows-m4v : ℕ
-rows-m4v = 149
+rows-m4v = 191
 
 abbrev pub rows-mach : ℕ
-rows-mach = 150
+rows-mach = 192
 
 abbrev pub rows-mdb : ℕ
-rows-mdb = 151
+rows-mdb = 193
+
+abbrev pub rows-med : ℕ
+rows-med = 194
+
+abbrev pub rows-meta4 : ℕ
+rows-meta4 = 195
 
 abbrev pub rows-midi : ℕ
-rows-midi = 152
+rows-midi = 196
+
+abbrev pub rows-mj2 : ℕ
+rows-mj2 = 197
 
 abbrev pub rows-mkv : ℕ
-rows-mkv = 153
+rows-mkv = 198
+
+abbrev pub rows-mmf : ℕ
+rows-mmf = 199
+
+abbrev pub rows-mml : ℕ
+rows-mml = 200
+
+abbrev pub rows-mng : ℕ
+rows-mng = 201
 
 abbrev pub rows-mo : ℕ
-rows-mo = 154
+rows-mo = 202
+
+abbrev pub rows-mo3 : ℕ
+rows-mo3 = 203
 
 abbrev pub rows-mobi : ℕ
-rows-mobi = 155
+rows-mobi = 204
 
 abbrev pub rows-mov : ℕ
-rows-mov = 156
+rows-mov = 205
 
 abbrev pub rows-mp3 : ℕ
-rows-mp3 = 157
+rows-mp3 = 206
 
 abbrev pub rows-mp4 : ℕ
-rows-mp4 = 158
+rows-mp4 = 207
 
 abbrev pub rows-mpc : ℕ
-rows-mpc = 159
+rows-mpc = 208
 
 abbrev pub rows-mpg : ℕ
-rows-mpg = 160
+rows-mpg = 209
 
 abbrev pub rows-msg : ℕ
-rows-msg = 161
+rows-msg = 210
+
+abbrev pub rows-mtm : ℕ
+rows-mtm = 211
+
+abbrev pub rows-mxf : ℕ
+rows-mxf = 212
+
+abbrev pub rows-n64 : ℕ
+rows-n64 = 213
 
 abbrev pub rows-ndjson : ℕ
-rows-ndjson = 162
+rows-ndjson = 214
 
 abbrev pub rows-nes : ℕ
-rows-nes = 163
+rows-nes = 215
 
 abbrev pub rows-npy : ℕ
-rows-npy = 164
+rows-npy = 216
 
 abbrev pub rows-o : ℕ
-rows-o = 165
+rows-o = 217
 
 abbrev pub rows-obj : ℕ
-rows-obj = 166
+rows-obj = 218
+
+abbrev pub rows-odc : ℕ
+rows-odc = 219
 
 abbrev pub rows-odf : ℕ
-rows-odf = 167
+rows-odf = 220
 
 abbrev pub rows-odg : ℕ
-rows-odg = 168
+rows-odg = 221
 
 abbrev pub rows-odg-zip : ℕ
-rows-odg-zip = 169
+rows-odg-zip = 222
 
 abbrev pub rows-odp : ℕ
-rows-odp = 170
+rows-odp = 223
 
 abbrev pub rows-odp-zip : ℕ
-rows-odp-zip = 171
+rows-odp-zip = 224
 
 abbrev pub rows-ods : ℕ
-rows-ods = 172
+rows-ods = 225
 
 abbrev pub rows-ods-zip : ℕ
-rows-ods-zip = 173
+rows-ods-zip = 226
 
 abbrev pub rows-odt : ℕ
-rows-odt = 174
+rows-odt = 227
 
 abbrev pub rows-odt-zip : ℕ
-rows-odt-zip = 175
+rows-odt-zip = 228
 
 abbrev pub rows-oga : ℕ
-rows-oga = 176
+rows-oga = 229
 
-abbrev pub rows-oga-ogv-opus : ℕ
-rows-oga-ogv-opus = 177
+abbrev pub rows-oga-ogv-opus-spx : ℕ
+rows-oga-ogv-opus-spx = 230
 
 abbrev pub rows-ogg : ℕ
-rows-ogg = 178
+rows-ogg = 231
 
 abbrev pub rows-ogg-ogv : ℕ
-rows-ogg-ogv = 179
+rows-ogg-ogv = 232
 
 abbrev pub rows-ogv : ℕ
-rows-ogv = 180
+rows-ogv = 233
 
 abbrev pub rows-openssh : ℕ
-rows-openssh = 181
+rows-openssh = 234
+
+abbrev pub rows-opml : ℕ
+rows-opml = 235
 
 abbrev pub rows-opus : ℕ
-rows-opus = 182
+rows-opus = 236
 
 abbrev pub rows-ora : ℕ
-rows-ora = 183
+rows-ora = 237
 
 abbrev pub rows-orc : ℕ
-rows-orc = 184
+rows-orc = 238
 
 abbrev pub rows-otf : ℕ
-rows-otf = 185
+rows-otf = 239
+
+abbrev pub rows-otg : ℕ
+rows-otg = 240
 
 abbrev pub rows-otp : ℕ
-rows-otp = 186
+rows-otp = 241
 
 abbrev pub rows-ots : ℕ
-rows-ots = 187
+rows-ots = 242
 
 abbrev pub rows-ott : ℕ
-rows-ott = 188
+rows-ott = 243
+
+abbrev pub rows-owx : ℕ
+rows-owx = 244
 
 abbrev pub rows-p12 : ℕ
-rows-p12 = 189
+rows-p12 = 245
 
 abbrev pub rows-p7b : ℕ
-rows-p7b = 190
+rows-p7b = 246
 
 abbrev pub rows-par2 : ℕ
-rows-par2 = 191
+rows-par2 = 247
 
 abbrev pub rows-parquet : ℕ
-rows-parquet = 192
+rows-parquet = 248
+
+abbrev pub rows-pat : ℕ
+rows-pat = 249
 
 abbrev pub rows-pcap : ℕ
-rows-pcap = 193
+rows-pcap = 250
 
 abbrev pub rows-pcapng : ℕ
-rows-pcapng = 194
+rows-pcapng = 251
+
+abbrev pub rows-pcx : ℕ
+rows-pcx = 252
 
 abbrev pub rows-pdf : ℕ
-rows-pdf = 195
+rows-pdf = 253
 
 abbrev pub rows-pem : ℕ
-rows-pem = 196
+rows-pem = 254
+
+abbrev pub rows-pfa-pfb : ℕ
+rows-pfa-pfb = 255
+
+abbrev pub rows-pfb : ℕ
+rows-pfb = 256
 
 abbrev pub rows-pgp : ℕ
-rows-pgp = 197
+rows-pgp = 257
 
 abbrev pub rows-php : ℕ
-rows-php = 198
+rows-php = 258
 
 abbrev pub rows-php-svg-txt-xhtml-xml : ℕ
-rows-php-svg-txt-xhtml-xml = 199
+rows-php-svg-txt-xhtml-xml = 259
 
 abbrev pub rows-pl : ℕ
-rows-pl = 200
+rows-pl = 260
 
 abbrev pub rows-plist : ℕ
-rows-plist = 201
+rows-plist = 261
 
 abbrev pub rows-plist-txt-xml : ℕ
-rows-plist-txt-xml = 202
+rows-plist-txt-xml = 262
 
 abbrev pub rows-png : ℕ
-rows-png = 203
+rows-png = 263
 
 abbrev pub rows-pnm : ℕ
-rows-pnm = 204
+rows-pnm = 264
 
 abbrev pub rows-ppt : ℕ
-rows-ppt = 205
+rows-ppt = 265
 
 abbrev pub rows-pptx : ℕ
-rows-pptx = 206
+rows-pptx = 266
 
 abbrev pub rows-ppu : ℕ
-rows-ppu = 207
+rows-ppu = 267
 
 abbrev pub rows-ps : ℕ
-rows-ps = 208
+rows-ps = 268
 
 abbrev pub rows-ps-sh-txt : ℕ
-rows-ps-sh-txt = 209
+rows-ps-sh-txt = 269
 
 abbrev pub rows-ps-txt : ℕ
-rows-ps-txt = 210
+rows-ps-txt = 270
 
 abbrev pub rows-psd : ℕ
-rows-psd = 211
+rows-psd = 271
 
 abbrev pub rows-pst : ℕ
-rows-pst = 212
+rows-pst = 272
 
 abbrev pub rows-pub : ℕ
-rows-pub = 213
+rows-pub = 273
 
 abbrev pub rows-py : ℕ
-rows-py = 214
+rows-py = 274
 
 abbrev pub rows-py-sh-zip : ℕ
-rows-py-sh-zip = 215
+rows-py-sh-zip = 275
 
 abbrev pub rows-pyc : ℕ
-rows-pyc = 216
+rows-pyc = 276
 
 abbrev pub rows-qcow2 : ℕ
-rows-qcow2 = 217
+rows-qcow2 = 277
+
+abbrev pub rows-qml : ℕ
+rows-qml = 278
+
+abbrev pub rows-ra : ℕ
+rows-ra = 279
 
 abbrev pub rows-raf : ℕ
-rows-raf = 218
+rows-raf = 280
 
 abbrev pub rows-rar : ℕ
-rows-rar = 219
+rows-rar = 281
+
+abbrev pub rows-ras : ℕ
+rows-ras = 282
 
 abbrev pub rows-rb : ℕ
-rows-rb = 220
+rows-rb = 283
+
+abbrev pub rows-rm : ℕ
+rows-rm = 284
 
 abbrev pub rows-rpm : ℕ
-rows-rpm = 221
+rows-rpm = 285
 
 abbrev pub rows-rss : ℕ
-rows-rss = 222
+rows-rss = 286
 
 abbrev pub rows-rtf : ℕ
-rows-rtf = 223
+rows-rtf = 287
 
 abbrev pub rows-rw2 : ℕ
-rows-rw2 = 224
+rows-rw2 = 288
 
 abbrev pub rows-safetensors : ℕ
-rows-safetensors = 225
+rows-safetensors = 289
+
+abbrev pub rows-sav : ℕ
+rows-sav = 290
+
+abbrev pub rows-sgi : ℕ
+rows-sgi = 291
 
 abbrev pub rows-sh : ℕ
-rows-sh = 226
+rows-sh = 292
 
 abbrev pub rows-sh-txt : ℕ
-rows-sh-txt = 227
+rows-sh-txt = 293
 
 abbrev pub rows-shp : ℕ
-rows-shp = 228
+rows-shp = 294
 
 abbrev pub rows-shx : ℕ
-rows-shx = 229
+rows-shx = 295
+
+abbrev pub rows-sid : ℕ
+rows-sid = 296
 
 abbrev pub rows-sig : ℕ
-rows-sig = 230
+rows-sig = 297
 
 abbrev pub rows-so : ℕ
-rows-so = 231
+rows-so = 298
+
+abbrev pub rows-spx : ℕ
+rows-spx = 299
 
 abbrev pub rows-sqlite : ℕ
-rows-sqlite = 232
+rows-sqlite = 300
 
 abbrev pub rows-squashfs : ℕ
-rows-squashfs = 233
+rows-squashfs = 301
+
+abbrev pub rows-srpm : ℕ
+rows-srpm = 302
 
 abbrev pub rows-srt : ℕ
-rows-srt = 234
+rows-srt = 303
 
 abbrev pub rows-svg : ℕ
-rows-svg = 235
+rows-svg = 304
 
 abbrev pub rows-swf : ℕ
-rows-swf = 236
+rows-swf = 305
+
+abbrev pub rows-sxw : ℕ
+rows-sxw = 306
 
 abbrev pub rows-sz : ℕ
-rows-sz = 237
+rows-sz = 307
 
 abbrev pub rows-tar : ℕ
-rows-tar = 238
+rows-tar = 308
 
 abbrev pub rows-tcl : ℕ
-rows-tcl = 239
+rows-tcl = 309
 
 abbrev pub rows-terminfo : ℕ
-rows-terminfo = 240
+rows-terminfo = 310
 
 abbrev pub rows-tif : ℕ
-rows-tif = 241
+rows-tif = 311
+
+abbrev pub rows-tnef : ℕ
+rows-tnef = 312
 
 abbrev pub rows-torrent : ℕ
-rows-torrent = 242
+rows-torrent = 313
 
 abbrev pub rows-ts : ℕ
-rows-ts = 243
+rows-ts = 314
 
 abbrev pub rows-ttc : ℕ
-rows-ttc = 244
+rows-ttc = 315
 
 abbrev pub rows-ttf : ℕ
-rows-ttf = 245
+rows-ttf = 316
 
 abbrev pub rows-txt : ℕ
-rows-txt = 246
+rows-txt = 317
 
 abbrev pub rows-txt-xml : ℕ
-rows-txt-xml = 247
+rows-txt-xml = 318
 
 abbrev pub rows-tzif : ℕ
-rows-tzif = 248
+rows-tzif = 319
 
 abbrev pub rows-vcf : ℕ
-rows-vcf = 249
+rows-vcf = 320
 
 abbrev pub rows-vdi : ℕ
-rows-vdi = 250
+rows-vdi = 321
 
 abbrev pub rows-vhd : ℕ
-rows-vhd = 251
+rows-vhd = 322
 
 abbrev pub rows-vhdx : ℕ
-rows-vhdx = 252
+rows-vhdx = 323
 
 abbrev pub rows-vmdk : ℕ
-rows-vmdk = 253
+rows-vmdk = 324
 
 abbrev pub rows-voc : ℕ
-rows-voc = 254
+rows-voc = 325
 
 abbrev pub rows-vsd : ℕ
-rows-vsd = 255
+rows-vsd = 326
 
 abbrev pub rows-vsdx : ℕ
-rows-vsdx = 256
+rows-vsdx = 327
 
 abbrev pub rows-vsdx-zip : ℕ
-rows-vsdx-zip = 257
+rows-vsdx-zip = 328
 
 abbrev pub rows-vtt : ℕ
-rows-vtt = 258
+rows-vtt = 329
+
+abbrev pub rows-wad : ℕ
+rows-wad = 330
 
 abbrev pub rows-warc : ℕ
-rows-warc = 259
+rows-warc = 331
 
 abbrev pub rows-wasm : ℕ
-rows-wasm = 260
+rows-wasm = 332
 
 abbrev pub rows-wav : ℕ
-rows-wav = 261
+rows-wav = 333
 
 abbrev pub rows-webm : ℕ
-rows-webm = 262
+rows-webm = 334
 
 abbrev pub rows-webp : ℕ
-rows-webp = 263
+rows-webp = 335
+
+abbrev pub rows-wiiwad : ℕ
+rows-wiiwad = 336
 
 abbrev pub rows-wim : ℕ
-rows-wim = 264
+rows-wim = 337
 
 abbrev pub rows-wmv : ℕ
-rows-wmv = 265
+rows-wmv = 338
 
 abbrev pub rows-woff : ℕ
-rows-woff = 266
+rows-woff = 339
 
 abbrev pub rows-woff2 : ℕ
-rows-woff2 = 267
+rows-woff2 = 340
 
 abbrev pub rows-wv : ℕ
-rows-wv = 268
+rows-wv = 341
+
+abbrev pub rows-x3f : ℕ
+rows-x3f = 342
 
 abbrev pub rows-xar : ℕ
-rows-xar = 269
+rows-xar = 343
 
 abbrev pub rows-xcf : ℕ
-rows-xcf = 270
+rows-xcf = 344
 
 abbrev pub rows-xhtml : ℕ
-rows-xhtml = 271
+rows-xhtml = 345
 
 abbrev pub rows-xls : ℕ
-rows-xls = 272
+rows-xls = 346
 
 abbrev pub rows-xlsx : ℕ
-rows-xlsx = 273
+rows-xlsx = 347
+
+abbrev pub rows-xm : ℕ
+rows-xm = 348
 
 abbrev pub rows-xml : ℕ
-rows-xml = 274
+rows-xml = 349
 
 abbrev pub rows-xpm : ℕ
-rows-xpm = 275
+rows-xpm = 350
+
+abbrev pub rows-xwd : ℕ
+rows-xwd = 351
 
 abbrev pub rows-xz : ℕ
-rows-xz = 276
+rows-xz = 352
+
+abbrev pub rows-zim : ℕ
+rows-zim = 353
 
 abbrev pub rows-zip : ℕ
-rows-zip = 277
+rows-zip = 354
 
 abbrev pub rows-zst : ℕ
-rows-zst = 278
+rows-zst = 355
 
 unfoldable pub lead_lists : List (List (List ℕ))
 lead_lists =
@@ -898,19 +1129,24 @@ lead_lists =
 unfoldable pub sets_0 : List (List (List ℕ))
 sets_0 =
     none
+    ∷ (codes "3ds" ∷ [])
     ∷ (codes "3g2" ∷ [])
     ∷ (codes "3g2" ∷ codes "3gp" ∷ codes "f4v" ∷ codes "m4a" ∷ codes "m4b" ∷ codes "m4v" ∷ codes "mov" ∷ [])
     ∷ (codes "3gp" ∷ [])
     ∷ (codes "3gp" ∷ codes "mp4" ∷ [])
     ∷ (codes "3mf" ∷ [])
-    ∷ (codes "3mf" ∷ codes "apk" ∷ codes "docx" ∷ codes "epub" ∷ codes "jar" ∷ codes "kmz" ∷ codes "kra" ∷ codes "odf" ∷ codes "odg" ∷ codes "odp" ∷ codes "ods" ∷ codes "odt" ∷ codes "ora" ∷ codes "otp" ∷ codes "ots" ∷ codes "ott" ∷ codes "pptx" ∷ codes "vsdx" ∷ codes "xlsx" ∷ [])
+    ∷ (codes "3mf" ∷ codes "apk" ∷ codes "application/vnd.apple.keynote" ∷ codes "chrt" ∷ codes "docx" ∷ codes "epub" ∷ codes "fbz" ∷ codes "flw" ∷ codes "jar" ∷ codes "karbon" ∷ codes "kmz" ∷ codes "kra" ∷ codes "odc" ∷ codes "odf" ∷ codes "odg" ∷ codes "odp" ∷ codes "ods" ∷ codes "odt" ∷ codes "ora" ∷ codes "otg" ∷ codes "otp" ∷ codes "ots" ∷ codes "ott" ∷ codes "pkpass" ∷ codes "pptx" ∷ codes "sxw" ∷ codes "vsdx" ∷ codes "xlsx" ∷ [])
     ∷ (codes "7z" ∷ [])
     ∷ (codes "Z" ∷ [])
     ∷ (codes "aac" ∷ [])
     ∷ (codes "accdb" ∷ [])
+    ∷ (codes "adf" ∷ [])
+    ∷ (codes "afm" ∷ [])
+    ∷ texts
     ∷ (codes "age" ∷ [])
     ∷ (codes "aifc" ∷ [])
     ∷ (codes "aiff" ∷ [])
+    ∷ (codes "alz" ∷ [])
     ∷ (codes "amr" ∷ [])
     ∷ (codes "ani" ∷ [])
     ∷ (codes "ape" ∷ [])
@@ -919,23 +1155,26 @@ sets_0 =
     ∷ (codes "apng" ∷ [])
     ∷ (codes "appimage" ∷ [])
     ∷ (codes "appimage" ∷ codes "core" ∷ codes "o" ∷ codes "so" ∷ [])
+    ∷ (codes "application/vnd.apple.keynote" ∷ [])
+    ∷ (codes "application/x-installshield" ∷ [])
     ∷ (codes "application/x-msi" ∷ [])
     ∷ (codes "application/x-ole-storage" ∷ [])
     ∷ (codes "application/x-ole-storage" ∷ codes "pptx" ∷ codes "zip" ∷ [])
-    ∷ (codes "application/x-ole-storage" ∷ codes "xlsx" ∷ codes "zip" ∷ [])
-    ∷ (codes "application/x-ole-storage" ∷ codes "zip" ∷ [])
-    ∷ (codes "ar" ∷ [])
-    ∷ (codes "arj" ∷ [])
-    ∷ (codes "arrow" ∷ [])
-    ∷ (codes "asc" ∷ [])
-    ∷ texts
     ∷ []
 
 unfoldable pub sets_1 : List (List (List ℕ))
 sets_1 =
-    (codes "asc" ∷ codes "key" ∷ codes "openssh" ∷ codes "pgp" ∷ codes "sig" ∷ [])
+    (codes "application/x-ole-storage" ∷ codes "xlsx" ∷ codes "zip" ∷ [])
+    ∷ (codes "application/x-ole-storage" ∷ codes "zip" ∷ [])
+    ∷ (codes "ar" ∷ [])
+    ∷ (codes "arj" ∷ [])
+    ∷ (codes "arrow" ∷ [])
+    ∷ (codes "asar" ∷ [])
+    ∷ (codes "asc" ∷ [])
+    ∷ (codes "asc" ∷ codes "crl" ∷ codes "key" ∷ codes "openssh" ∷ codes "pgp" ∷ codes "sig" ∷ [])
+    ∷ (codes "astc" ∷ [])
     ∷ (codes "atom" ∷ [])
-    ∷ (codes "atom" ∷ codes "gpx" ∷ codes "kml" ∷ codes "plist" ∷ codes "rss" ∷ codes "svg" ∷ codes "xhtml" ∷ [])
+    ∷ (codes "atom" ∷ codes "diashape" ∷ codes "fb2" ∷ codes "fodt" ∷ codes "gpx" ∷ codes "gtkbuilder" ∷ codes "jnlp" ∷ codes "kml" ∷ codes "lingts" ∷ codes "meta4" ∷ codes "mml" ∷ codes "nzb" ∷ codes "opml" ∷ codes "owx" ∷ codes "plist" ∷ codes "rss" ∷ codes "srx" ∷ codes "svg" ∷ codes "ttx" ∷ codes "xhtml" ∷ codes "xmp" ∷ [])
     ∷ (codes "au" ∷ [])
     ∷ (codes "avi" ∷ [])
     ∷ (codes "avif" ∷ [])
@@ -946,76 +1185,100 @@ sets_1 =
     ∷ (codes "beam" ∷ [])
     ∷ (codes "blend" ∷ [])
     ∷ (codes "bmp" ∷ [])
+    ∷ (codes "bpg" ∷ [])
     ∷ (codes "bplist" ∷ [])
     ∷ (codes "bz2" ∷ [])
     ∷ (codes "bz2" ∷ codes "gz" ∷ codes "xz" ∷ [])
     ∷ (codes "bz3" ∷ [])
     ∷ (codes "cab" ∷ [])
+    ∷ (codes "chd" ∷ [])
     ∷ (codes "chm" ∷ [])
     ∷ (codes "class" ∷ [])
     ∷ (codes "core" ∷ [])
     ∷ (codes "cpio" ∷ [])
-    ∷ (codes "cr2" ∷ [])
+    ∷ []
+
+unfoldable pub sets_2 : List (List (List ℕ))
+sets_2 =
+    (codes "cr2" ∷ [])
     ∷ (codes "cr2" ∷ codes "dng" ∷ [])
     ∷ (codes "cr3" ∷ [])
+    ∷ (codes "crl" ∷ [])
     ∷ (codes "crx" ∷ [])
+    ∷ (codes "cur" ∷ [])
     ∷ (codes "dbf" ∷ [])
     ∷ (codes "dcm" ∷ [])
     ∷ (codes "deb" ∷ [])
     ∷ (codes "der" ∷ [])
     ∷ (codes "der" ∷ codes "key" ∷ codes "pem" ∷ [])
     ∷ (codes "der" ∷ codes "p7b" ∷ codes "pem" ∷ [])
-    ∷ []
-
-unfoldable pub sets_2 : List (List (List ℕ))
-sets_2 =
-    (codes "der" ∷ codes "pem" ∷ [])
+    ∷ (codes "der" ∷ codes "pem" ∷ [])
     ∷ (codes "der" ∷ codes "pem" ∷ codes "txt" ∷ [])
     ∷ (codes "dex" ∷ [])
     ∷ (codes "dey" ∷ [])
+    ∷ (codes "dff" ∷ [])
+    ∷ (codes "djvm" ∷ [])
     ∷ (codes "djvu" ∷ [])
     ∷ (codes "dng" ∷ [])
     ∷ (codes "doc" ∷ [])
     ∷ (codes "docx" ∷ [])
     ∷ (codes "docx" ∷ codes "application/x-ole-storage" ∷ codes "zip" ∷ [])
     ∷ (codes "dsf" ∷ [])
+    ∷ (codes "dts" ∷ [])
+    ∷ (codes "dv" ∷ [])
+    ∷ (codes "dvi" ∷ [])
     ∷ (codes "dwg" ∷ [])
     ∷ (codes "elf" ∷ [])
     ∷ (codes "elf" ∷ codes "so" ∷ [])
     ∷ (codes "eot" ∷ [])
     ∷ (codes "eps" ∷ [])
-    ∷ (codes "eps" ∷ codes "pdf" ∷ codes "ps" ∷ [])
-    ∷ (codes "epub" ∷ [])
-    ∷ (codes "evtx" ∷ [])
-    ∷ (codes "exe" ∷ [])
-    ∷ (codes "ext2" ∷ [])
-    ∷ (codes "f4v" ∷ [])
-    ∷ (codes "fits" ∷ [])
-    ∷ (codes "flac" ∷ [])
-    ∷ (codes "flac" ∷ codes "ogg" ∷ codes "opus" ∷ [])
-    ∷ (codes "flv" ∷ [])
-    ∷ (codes "gdbm" ∷ [])
-    ∷ (codes "gguf" ∷ [])
-    ∷ (codes "gif" ∷ [])
-    ∷ (codes "glb" ∷ [])
-    ∷ (codes "gpg" ∷ [])
-    ∷ (codes "gpkg" ∷ [])
-    ∷ (codes "gpx" ∷ [])
     ∷ []
 
 unfoldable pub sets_3 : List (List (List ℕ))
 sets_3 =
-    (codes "gz" ∷ [])
+    (codes "eps" ∷ codes "pdf" ∷ codes "ps" ∷ [])
+    ∷ (codes "eps" ∷ codes "pfa" ∷ [])
+    ∷ (codes "epub" ∷ [])
+    ∷ (codes "evtx" ∷ [])
+    ∷ (codes "exe" ∷ [])
+    ∷ (codes "exr" ∷ [])
+    ∷ (codes "ext2" ∷ [])
+    ∷ (codes "f4v" ∷ [])
+    ∷ (codes "fb2" ∷ [])
+    ∷ (codes "fits" ∷ [])
+    ∷ (codes "flac" ∷ [])
+    ∷ (codes "flac" ∷ codes "ogg" ∷ codes "opus" ∷ [])
+    ∷ (codes "flatpak" ∷ [])
+    ∷ (codes "flv" ∷ [])
+    ∷ (codes "fodt" ∷ [])
+    ∷ (codes "gbr" ∷ [])
+    ∷ (codes "gdbm" ∷ [])
+    ∷ (codes "gguf" ∷ [])
+    ∷ (codes "gif" ∷ [])
+    ∷ (codes "gjs" ∷ codes "js" ∷ [])
+    ∷ (codes "glb" ∷ [])
+    ∷ (codes "gpg" ∷ [])
+    ∷ (codes "gpkg" ∷ [])
+    ∷ (codes "gpx" ∷ [])
+    ∷ (codes "gtkbuilder" ∷ [])
+    ∷ (codes "gz" ∷ [])
     ∷ (codes "gz" ∷ codes "sqlite" ∷ codes "xml" ∷ [])
     ∷ (codes "gz" ∷ codes "txt" ∷ codes "xml" ∷ [])
     ∷ (codes "gz" ∷ codes "xml" ∷ [])
     ∷ (codes "gz" ∷ codes "zip" ∷ [])
     ∷ (codes "gz" ∷ codes "zst" ∷ [])
-    ∷ (codes "hdf5" ∷ [])
+    ∷ (codes "hdf4" ∷ [])
+    ∷ []
+
+unfoldable pub sets_4 : List (List (List ℕ))
+sets_4 =
+    (codes "hdf5" ∷ [])
+    ∷ (codes "hdr" ∷ [])
     ∷ (codes "heic" ∷ [])
     ∷ (codes "heics" ∷ [])
     ∷ (codes "heics" ∷ codes "heif" ∷ [])
     ∷ (codes "heif" ∷ [])
+    ∷ (codes "hlp" ∷ [])
     ∷ (codes "html" ∷ [])
     ∷ (codes "html" ∷ codes "json" ∷ codes "php" ∷ codes "svg" ∷ codes "txt" ∷ codes "xhtml" ∷ codes "xml" ∷ [])
     ∷ (codes "html" ∷ codes "rss" ∷ codes "txt" ∷ codes "xml" ∷ [])
@@ -1023,101 +1286,137 @@ sets_3 =
     ∷ (codes "html" ∷ codes "txt" ∷ [])
     ∷ (codes "html" ∷ codes "txt" ∷ codes "xhtml" ∷ codes "xml" ∷ [])
     ∷ (codes "html" ∷ codes "txt" ∷ codes "xml" ∷ [])
+    ∷ (codes "icc" ∷ [])
     ∷ (codes "icns" ∷ [])
     ∷ (codes "ico" ∷ [])
     ∷ (codes "ics" ∷ [])
+    ∷ (codes "ilbm" ∷ [])
+    ∷ (codes "it" ∷ [])
+    ∷ (codes "j2c" ∷ [])
     ∷ (codes "jar" ∷ [])
     ∷ (codes "jar" ∷ codes "zip" ∷ [])
+    ∷ (codes "jceks" ∷ [])
+    ∷ (codes "jks" ∷ [])
     ∷ (codes "jmod" ∷ [])
+    ∷ (codes "jnlp" ∷ [])
     ∷ (codes "journal" ∷ [])
     ∷ (codes "jp2" ∷ [])
     ∷ (codes "jpg" ∷ [])
+    ∷ (codes "jpm" ∷ codes "jpx" ∷ codes "mj2" ∷ [])
     ∷ (codes "jpx" ∷ [])
-    ∷ (codes "js" ∷ [])
-    ∷ (codes "json" ∷ [])
-    ∷ (codes "json" ∷ codes "ndjson" ∷ codes "txt" ∷ [])
-    ∷ (codes "json" ∷ codes "plist" ∷ codes "txt" ∷ codes "xml" ∷ [])
     ∷ []
 
-unfoldable pub sets_4 : List (List (List ℕ))
-sets_4 =
-    (codes "json" ∷ codes "sh" ∷ codes "txt" ∷ [])
+unfoldable pub sets_5 : List (List (List ℕ))
+sets_5 =
+    (codes "json" ∷ [])
+    ∷ (codes "json" ∷ codes "ndjson" ∷ codes "txt" ∷ [])
+    ∷ (codes "json" ∷ codes "plist" ∷ codes "txt" ∷ codes "xml" ∷ [])
+    ∷ (codes "json" ∷ codes "sh" ∷ codes "txt" ∷ [])
     ∷ (codes "json" ∷ codes "txt" ∷ [])
     ∷ (codes "jxl" ∷ [])
     ∷ (codes "jxr" ∷ [])
     ∷ (codes "key" ∷ [])
     ∷ (codes "kml" ∷ [])
     ∷ (codes "kmz" ∷ [])
+    ∷ (codes "kpr" ∷ codes "ksp" ∷ codes "kwd" ∷ [])
     ∷ (codes "kra" ∷ [])
+    ∷ (codes "ktx" ∷ [])
+    ∷ (codes "ktx2" ∷ [])
+    ∷ (codes "lingts" ∷ [])
     ∷ (codes "lnk" ∷ [])
+    ∷ (codes "lrz" ∷ [])
     ∷ (codes "lua" ∷ [])
     ∷ (codes "luac" ∷ [])
     ∷ (codes "luks" ∷ [])
+    ∷ (codes "lwp" ∷ [])
     ∷ (codes "lz" ∷ [])
     ∷ (codes "lz4" ∷ [])
     ∷ (codes "lzh" ∷ [])
     ∷ (codes "lzma" ∷ [])
+    ∷ (codes "lzo" ∷ [])
     ∷ (codes "m3u8" ∷ [])
     ∷ (codes "m4a" ∷ [])
     ∷ (codes "m4a" ∷ codes "mp4" ∷ [])
     ∷ (codes "m4b" ∷ [])
     ∷ (codes "m4b" ∷ codes "m4v" ∷ codes "mp4" ∷ [])
     ∷ (codes "m4v" ∷ [])
-    ∷ (codes "mach" ∷ [])
+    ∷ []
+
+unfoldable pub sets_6 : List (List (List ℕ))
+sets_6 =
+    (codes "mach" ∷ [])
     ∷ (codes "mdb" ∷ [])
+    ∷ (codes "med" ∷ [])
+    ∷ (codes "meta4" ∷ [])
     ∷ (codes "midi" ∷ [])
+    ∷ (codes "mj2" ∷ [])
     ∷ (codes "mkv" ∷ [])
+    ∷ (codes "mmf" ∷ [])
+    ∷ (codes "mml" ∷ [])
+    ∷ (codes "mng" ∷ [])
     ∷ (codes "mo" ∷ [])
+    ∷ (codes "mo3" ∷ [])
     ∷ (codes "mobi" ∷ [])
     ∷ (codes "mov" ∷ [])
     ∷ (codes "mp3" ∷ [])
     ∷ (codes "mp4" ∷ [])
     ∷ (codes "mpc" ∷ [])
-    ∷ []
-
-unfoldable pub sets_5 : List (List (List ℕ))
-sets_5 =
-    (codes "mpg" ∷ [])
+    ∷ (codes "mpg" ∷ [])
     ∷ (codes "msg" ∷ [])
+    ∷ (codes "mtm" ∷ [])
+    ∷ (codes "mxf" ∷ [])
+    ∷ (codes "n64" ∷ [])
     ∷ (codes "ndjson" ∷ [])
     ∷ (codes "nes" ∷ [])
     ∷ (codes "npy" ∷ [])
     ∷ (codes "o" ∷ [])
     ∷ (codes "obj" ∷ [])
+    ∷ (codes "odc" ∷ [])
     ∷ (codes "odf" ∷ [])
     ∷ (codes "odg" ∷ [])
     ∷ (codes "odg" ∷ codes "zip" ∷ [])
     ∷ (codes "odp" ∷ [])
-    ∷ (codes "odp" ∷ codes "zip" ∷ [])
+    ∷ []
+
+unfoldable pub sets_7 : List (List (List ℕ))
+sets_7 =
+    (codes "odp" ∷ codes "zip" ∷ [])
     ∷ (codes "ods" ∷ [])
     ∷ (codes "ods" ∷ codes "zip" ∷ [])
     ∷ (codes "odt" ∷ [])
     ∷ (codes "odt" ∷ codes "zip" ∷ [])
     ∷ (codes "oga" ∷ [])
-    ∷ (codes "oga" ∷ codes "ogv" ∷ codes "opus" ∷ [])
+    ∷ (codes "oga" ∷ codes "ogv" ∷ codes "opus" ∷ codes "spx" ∷ [])
     ∷ (codes "ogg" ∷ [])
     ∷ (codes "ogg" ∷ codes "ogv" ∷ [])
     ∷ (codes "ogv" ∷ [])
     ∷ (codes "openssh" ∷ [])
+    ∷ (codes "opml" ∷ [])
     ∷ (codes "opus" ∷ [])
     ∷ (codes "ora" ∷ [])
     ∷ (codes "orc" ∷ [])
     ∷ (codes "otf" ∷ [])
+    ∷ (codes "otg" ∷ [])
     ∷ (codes "otp" ∷ [])
     ∷ (codes "ots" ∷ [])
     ∷ (codes "ott" ∷ [])
+    ∷ (codes "owx" ∷ [])
     ∷ (codes "p12" ∷ [])
     ∷ (codes "p7b" ∷ [])
     ∷ (codes "par2" ∷ [])
-    ∷ []
-
-unfoldable pub sets_6 : List (List (List ℕ))
-sets_6 =
-    (codes "parquet" ∷ [])
+    ∷ (codes "parquet" ∷ [])
+    ∷ (codes "pat" ∷ [])
     ∷ (codes "pcap" ∷ [])
     ∷ (codes "pcapng" ∷ [])
+    ∷ (codes "pcx" ∷ [])
     ∷ (codes "pdf" ∷ [])
     ∷ (codes "pem" ∷ [])
+    ∷ (codes "pfa" ∷ codes "pfb" ∷ [])
+    ∷ []
+
+unfoldable pub sets_8 : List (List (List ℕ))
+sets_8 =
+    (codes "pfb" ∷ [])
     ∷ (codes "pgp" ∷ [])
     ∷ (codes "php" ∷ [])
     ∷ (codes "php" ∷ codes "svg" ∷ codes "txt" ∷ codes "xhtml" ∷ codes "xml" ∷ [])
@@ -1139,34 +1438,45 @@ sets_6 =
     ∷ (codes "py" ∷ codes "sh" ∷ codes "zip" ∷ [])
     ∷ (codes "pyc" ∷ [])
     ∷ (codes "qcow2" ∷ [])
+    ∷ (codes "qml" ∷ [])
+    ∷ (codes "ra" ∷ [])
     ∷ (codes "raf" ∷ [])
     ∷ (codes "rar" ∷ [])
+    ∷ (codes "ras" ∷ [])
     ∷ (codes "rb" ∷ [])
+    ∷ (codes "rm" ∷ [])
     ∷ (codes "rpm" ∷ [])
     ∷ (codes "rss" ∷ [])
     ∷ (codes "rtf" ∷ [])
     ∷ []
 
-unfoldable pub sets_7 : List (List (List ℕ))
-sets_7 =
+unfoldable pub sets_9 : List (List (List ℕ))
+sets_9 =
     (codes "rw2" ∷ [])
     ∷ (codes "safetensors" ∷ [])
+    ∷ (codes "sav" ∷ [])
+    ∷ (codes "sgi" ∷ [])
     ∷ (codes "sh" ∷ [])
     ∷ (codes "sh" ∷ codes "txt" ∷ [])
     ∷ (codes "shp" ∷ [])
     ∷ (codes "shx" ∷ [])
+    ∷ (codes "sid" ∷ [])
     ∷ (codes "sig" ∷ [])
     ∷ (codes "so" ∷ [])
+    ∷ (codes "spx" ∷ [])
     ∷ (codes "sqlite" ∷ [])
     ∷ (codes "squashfs" ∷ [])
+    ∷ (codes "srpm" ∷ [])
     ∷ (codes "srt" ∷ [])
     ∷ (codes "svg" ∷ [])
     ∷ (codes "swf" ∷ [])
+    ∷ (codes "sxw" ∷ [])
     ∷ (codes "sz" ∷ [])
     ∷ (codes "tar" ∷ [])
     ∷ (codes "tcl" ∷ [])
     ∷ (codes "terminfo" ∷ [])
     ∷ (codes "tif" ∷ [])
+    ∷ (codes "tnef" ∷ [])
     ∷ (codes "torrent" ∷ [])
     ∷ (codes "ts" ∷ [])
     ∷ (codes "ttc" ∷ [])
@@ -1174,41 +1484,51 @@ sets_7 =
     ∷ (codes "txt" ∷ [])
     ∷ (codes "txt" ∷ codes "xml" ∷ [])
     ∷ (codes "tzif" ∷ [])
-    ∷ (codes "vcf" ∷ [])
+    ∷ []
+
+unfoldable pub sets_10 : List (List (List ℕ))
+sets_10 =
+    (codes "vcf" ∷ [])
     ∷ (codes "vdi" ∷ [])
     ∷ (codes "vhd" ∷ [])
     ∷ (codes "vhdx" ∷ [])
     ∷ (codes "vmdk" ∷ [])
     ∷ (codes "voc" ∷ [])
     ∷ (codes "vsd" ∷ [])
-    ∷ []
-
-unfoldable pub sets_8 : List (List (List ℕ))
-sets_8 =
-    (codes "vsdx" ∷ [])
+    ∷ (codes "vsdx" ∷ [])
     ∷ (codes "vsdx" ∷ codes "zip" ∷ [])
     ∷ (codes "vtt" ∷ [])
+    ∷ (codes "wad" ∷ [])
     ∷ (codes "warc" ∷ [])
     ∷ (codes "wasm" ∷ [])
     ∷ (codes "wav" ∷ [])
     ∷ (codes "webm" ∷ [])
     ∷ (codes "webp" ∷ [])
+    ∷ (codes "wiiwad" ∷ [])
     ∷ (codes "wim" ∷ [])
     ∷ (codes "wmv" ∷ [])
     ∷ (codes "woff" ∷ [])
     ∷ (codes "woff2" ∷ [])
     ∷ (codes "wv" ∷ [])
+    ∷ (codes "x3f" ∷ [])
     ∷ (codes "xar" ∷ [])
     ∷ (codes "xcf" ∷ [])
     ∷ (codes "xhtml" ∷ [])
     ∷ (codes "xls" ∷ [])
     ∷ (codes "xlsx" ∷ [])
+    ∷ (codes "xm" ∷ [])
     ∷ (codes "xml" ∷ [])
     ∷ (codes "xpm" ∷ [])
-    ∷ (codes "xz" ∷ [])
+    ∷ (codes "xwd" ∷ [])
+    ∷ []
+
+unfoldable pub sets_11 : List (List (List ℕ))
+sets_11 =
+    (codes "xz" ∷ [])
+    ∷ (codes "zim" ∷ [])
     ∷ (codes "zip" ∷ [])
     ∷ (codes "zst" ∷ [])
     ∷ []
 
 unfoldable pub set_groups : List (List (List (List ℕ)))
-set_groups = sets_0 ∷ sets_1 ∷ sets_2 ∷ sets_3 ∷ sets_4 ∷ sets_5 ∷ sets_6 ∷ sets_7 ∷ sets_8 ∷ []
+set_groups = sets_0 ∷ sets_1 ∷ sets_2 ∷ sets_3 ∷ sets_4 ∷ sets_5 ∷ sets_6 ∷ sets_7 ∷ sets_8 ∷ sets_9 ∷ sets_10 ∷ sets_11 ∷ []

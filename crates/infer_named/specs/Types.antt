@@ -152,2924 +152,2939 @@ is-application-onenote = 48
 abbrev pub is-application-onnx : ℕ
 is-application-onnx = 49
 
+abbrev pub is-application-owl-xml : ℕ
+is-application-owl-xml = 50
+
 abbrev pub is-application-oxps : ℕ
-is-application-oxps = 50
+is-application-oxps = 51
 
 abbrev pub is-application-pdf : ℕ
-is-application-pdf = 51
+is-application-pdf = 52
 
 abbrev pub is-application-pgp-encrypted : ℕ
-is-application-pgp-encrypted = 52
+is-application-pgp-encrypted = 53
 
 abbrev pub is-application-pgp-keys-as-row-asc : ℕ
-is-application-pgp-keys-as-row-asc = 53
+is-application-pgp-keys-as-row-asc = 54
 
 abbrev pub is-application-pgp-keys-as-row-gpg : ℕ
-is-application-pgp-keys-as-row-gpg = 54
+is-application-pgp-keys-as-row-gpg = 55
 
 abbrev pub is-application-pgp-signature : ℕ
-is-application-pgp-signature = 55
+is-application-pgp-signature = 56
 
 abbrev pub is-application-pkcs10 : ℕ
-is-application-pkcs10 = 56
+is-application-pkcs10 = 57
 
 abbrev pub is-application-pkcs12 : ℕ
-is-application-pkcs12 = 57
+is-application-pkcs12 = 58
 
 abbrev pub is-application-pkcs7-mime : ℕ
-is-application-pkcs7-mime = 58
+is-application-pkcs7-mime = 59
 
 abbrev pub is-application-pkcs7-signature : ℕ
-is-application-pkcs7-signature = 59
+is-application-pkcs7-signature = 60
 
 abbrev pub is-application-pkcs8 : ℕ
-is-application-pkcs8 = 60
+is-application-pkcs8 = 61
 
 abbrev pub is-application-pkix-cert : ℕ
-is-application-pkix-cert = 61
+is-application-pkix-cert = 62
 
 abbrev pub is-application-pkix-crl : ℕ
-is-application-pkix-crl = 62
+is-application-pkix-crl = 63
 
 abbrev pub is-application-postscript : ℕ
-is-application-postscript = 63
+is-application-postscript = 64
 
 abbrev pub is-application-protobuf : ℕ
-is-application-protobuf = 64
+is-application-protobuf = 65
 
 abbrev pub is-application-raml-yaml : ℕ
-is-application-raml-yaml = 65
+is-application-raml-yaml = 66
 
 abbrev pub is-application-rdf-xml : ℕ
-is-application-rdf-xml = 66
+is-application-rdf-xml = 67
 
 abbrev pub is-application-relax-ng-compact-syntax : ℕ
-is-application-relax-ng-compact-syntax = 67
+is-application-relax-ng-compact-syntax = 68
 
 abbrev pub is-application-rss-xml : ℕ
-is-application-rss-xml = 68
+is-application-rss-xml = 69
 
 abbrev pub is-application-rtf : ℕ
-is-application-rtf = 69
+is-application-rtf = 70
 
 abbrev pub is-application-sarif-json : ℕ
-is-application-sarif-json = 70
+is-application-sarif-json = 71
 
 abbrev pub is-application-sbml-xml : ℕ
-is-application-sbml-xml = 71
+is-application-sbml-xml = 72
 
 abbrev pub is-application-schema-json : ℕ
-is-application-schema-json = 72
+is-application-schema-json = 73
 
 abbrev pub is-application-smil-xml : ℕ
-is-application-smil-xml = 73
+is-application-smil-xml = 74
 
 abbrev pub is-application-sourcemap-json : ℕ
-is-application-sourcemap-json = 74
+is-application-sourcemap-json = 75
 
 abbrev pub is-application-sparql-query : ℕ
-is-application-sparql-query = 75
+is-application-sparql-query = 76
 
 abbrev pub is-application-sql : ℕ
-is-application-sql = 76
+is-application-sql = 77
 
 abbrev pub is-application-srgs-xml : ℕ
-is-application-srgs-xml = 77
+is-application-srgs-xml = 78
 
 abbrev pub is-application-tei-xml : ℕ
-is-application-tei-xml = 78
+is-application-tei-xml = 79
 
 abbrev pub is-application-timestamp-query : ℕ
-is-application-timestamp-query = 79
+is-application-timestamp-query = 80
 
 abbrev pub is-application-timestamp-reply : ℕ
-is-application-timestamp-reply = 80
+is-application-timestamp-reply = 81
 
 abbrev pub is-application-toml : ℕ
-is-application-toml = 81
+is-application-toml = 82
 
 abbrev pub is-application-topo-json : ℕ
-is-application-topo-json = 82
+is-application-topo-json = 83
 
 abbrev pub is-application-trig : ℕ
-is-application-trig = 83
+is-application-trig = 84
 
 abbrev pub is-application-ttml-xml : ℕ
-is-application-ttml-xml = 84
+is-application-ttml-xml = 85
 
 abbrev pub is-application-tzif : ℕ
-is-application-tzif = 85
+is-application-tzif = 86
 
 abbrev pub is-application-vnd-adobe-xfdf : ℕ
-is-application-vnd-adobe-xfdf = 86
+is-application-vnd-adobe-xfdf = 87
 
 abbrev pub is-application-vnd-amazon-mobi8-ebook : ℕ
-is-application-vnd-amazon-mobi8-ebook = 87
+is-application-vnd-amazon-mobi8-ebook = 88
 
 abbrev pub is-application-vnd-android-dex : ℕ
-is-application-vnd-android-dex = 88
+is-application-vnd-android-dex = 89
 
 abbrev pub is-application-vnd-android-dey : ℕ
-is-application-vnd-android-dey = 89
+is-application-vnd-android-dey = 90
 
 abbrev pub is-application-vnd-android-package-archive : ℕ
-is-application-vnd-android-package-archive = 90
+is-application-vnd-android-package-archive = 91
 
 abbrev pub is-application-vnd-apache-arrow-file : ℕ
-is-application-vnd-apache-arrow-file = 91
+is-application-vnd-apache-arrow-file = 92
 
 abbrev pub is-application-vnd-apache-parquet : ℕ
-is-application-vnd-apache-parquet = 92
+is-application-vnd-apache-parquet = 93
 
 abbrev pub is-application-vnd-appimage : ℕ
-is-application-vnd-appimage = 93
+is-application-vnd-appimage = 94
 
 abbrev pub is-application-vnd-apple-keynote : ℕ
-is-application-vnd-apple-keynote = 94
+is-application-vnd-apple-keynote = 95
 
 abbrev pub is-application-vnd-apple-mpegurl : ℕ
-is-application-vnd-apple-mpegurl = 95
+is-application-vnd-apple-mpegurl = 96
 
 abbrev pub is-application-vnd-apple-numbers : ℕ
-is-application-vnd-apple-numbers = 96
+is-application-vnd-apple-numbers = 97
 
 abbrev pub is-application-vnd-apple-pages : ℕ
-is-application-vnd-apple-pages = 97
+is-application-vnd-apple-pages = 98
 
 abbrev pub is-application-vnd-bzip3 : ℕ
-is-application-vnd-bzip3 = 98
+is-application-vnd-bzip3 = 99
 
 abbrev pub is-application-vnd-chess-pgn : ℕ
-is-application-vnd-chess-pgn = 99
+is-application-vnd-chess-pgn = 100
 
 abbrev pub is-application-vnd-coffeescript : ℕ
-is-application-vnd-coffeescript = 100
+is-application-vnd-coffeescript = 101
 
 abbrev pub is-application-vnd-comicbook-zip : ℕ
-is-application-vnd-comicbook-zip = 101
+is-application-vnd-comicbook-zip = 102
 
 abbrev pub is-application-vnd-comicbook-rar : ℕ
-is-application-vnd-comicbook-rar = 102
+is-application-vnd-comicbook-rar = 103
 
 abbrev pub is-application-vnd-corel-draw : ℕ
-is-application-vnd-corel-draw = 103
+is-application-vnd-corel-draw = 104
 
 abbrev pub is-application-vnd-dbf : ℕ
-is-application-vnd-dbf = 104
+is-application-vnd-dbf = 105
 
 abbrev pub is-application-vnd-debian-binary-package : ℕ
-is-application-vnd-debian-binary-package = 105
+is-application-vnd-debian-binary-package = 106
 
 abbrev pub is-application-vnd-etsi-asic-e-zip : ℕ
-is-application-vnd-etsi-asic-e-zip = 106
+is-application-vnd-etsi-asic-e-zip = 107
 
 abbrev pub is-application-vnd-flatpak : ℕ
-is-application-vnd-flatpak = 107
+is-application-vnd-flatpak = 108
 
 abbrev pub is-application-vnd-garmin-tcx-xml : ℕ
-is-application-vnd-garmin-tcx-xml = 108
+is-application-vnd-garmin-tcx-xml = 109
 
 abbrev pub is-application-vnd-geogebra-file : ℕ
-is-application-vnd-geogebra-file = 109
+is-application-vnd-geogebra-file = 110
 
 abbrev pub is-application-vnd-google-earth-kml-xml : ℕ
-is-application-vnd-google-earth-kml-xml = 110
+is-application-vnd-google-earth-kml-xml = 111
 
 abbrev pub is-application-vnd-google-earth-kmz : ℕ
-is-application-vnd-google-earth-kmz = 111
+is-application-vnd-google-earth-kmz = 112
 
 abbrev pub is-application-vnd-hp-pcl : ℕ
-is-application-vnd-hp-pcl = 112
+is-application-vnd-hp-pcl = 113
 
 abbrev pub is-application-vnd-iccprofile : ℕ
-is-application-vnd-iccprofile = 113
+is-application-vnd-iccprofile = 114
 
 abbrev pub is-application-vnd-las : ℕ
-is-application-vnd-las = 114
+is-application-vnd-las = 115
 
 abbrev pub is-application-vnd-lotus-1-2-3 : ℕ
-is-application-vnd-lotus-1-2-3 = 115
+is-application-vnd-lotus-1-2-3 = 116
 
 abbrev pub is-application-vnd-lotus-wordpro : ℕ
-is-application-vnd-lotus-wordpro = 116
+is-application-vnd-lotus-wordpro = 117
 
 abbrev pub is-application-vnd-mbtiles : ℕ
-is-application-vnd-mbtiles = 117
+is-application-vnd-mbtiles = 118
 
 abbrev pub is-application-vnd-microsoft-portable-executable : ℕ
-is-application-vnd-microsoft-portable-executable = 118
+is-application-vnd-microsoft-portable-executable = 119
 
 abbrev pub is-application-vnd-mozilla-webapp-json : ℕ
-is-application-vnd-mozilla-webapp-json = 119
+is-application-vnd-mozilla-webapp-json = 120
 
 abbrev pub is-application-vnd-mozilla-xul-xml : ℕ
-is-application-vnd-mozilla-xul-xml = 120
+is-application-vnd-mozilla-xul-xml = 121
 
 abbrev pub is-application-vnd-ms-asf : ℕ
-is-application-vnd-ms-asf = 121
+is-application-vnd-ms-asf = 122
 
 abbrev pub is-application-vnd-ms-cab-compressed : ℕ
-is-application-vnd-ms-cab-compressed = 122
+is-application-vnd-ms-cab-compressed = 123
 
 abbrev pub is-application-vnd-ms-excel : ℕ
-is-application-vnd-ms-excel = 123
+is-application-vnd-ms-excel = 124
 
 abbrev pub is-application-vnd-ms-excel-addin-macroenabled-12 : ℕ
-is-application-vnd-ms-excel-addin-macroenabled-12 = 124
+is-application-vnd-ms-excel-addin-macroenabled-12 = 125
 
 abbrev pub is-application-vnd-ms-excel-sheet-binary-macroenabled-12 : ℕ
-is-application-vnd-ms-excel-sheet-binary-macroenabled-12 = 125
+is-application-vnd-ms-excel-sheet-binary-macroenabled-12 = 126
 
 abbrev pub is-application-vnd-ms-excel-sheet-macroenabled-12 : ℕ
-is-application-vnd-ms-excel-sheet-macroenabled-12 = 126
+is-application-vnd-ms-excel-sheet-macroenabled-12 = 127
 
 abbrev pub is-application-vnd-ms-excel-template-macroenabled-12 : ℕ
-is-application-vnd-ms-excel-template-macroenabled-12 = 127
+is-application-vnd-ms-excel-template-macroenabled-12 = 128
 
 abbrev pub is-application-vnd-ms-htmlhelp : ℕ
-is-application-vnd-ms-htmlhelp = 128
+is-application-vnd-ms-htmlhelp = 129
 
 abbrev pub is-application-vnd-ms-outlook : ℕ
-is-application-vnd-ms-outlook = 129
+is-application-vnd-ms-outlook = 130
 
 abbrev pub is-application-vnd-ms-outlook-pst : ℕ
-is-application-vnd-ms-outlook-pst = 130
+is-application-vnd-ms-outlook-pst = 131
 
 abbrev pub is-application-vnd-ms-powerpoint : ℕ
-is-application-vnd-ms-powerpoint = 131
+is-application-vnd-ms-powerpoint = 132
 
 abbrev pub is-application-vnd-ms-powerpoint-presentation-macroenabled-12 : ℕ
-is-application-vnd-ms-powerpoint-presentation-macroenabled-12 = 132
+is-application-vnd-ms-powerpoint-presentation-macroenabled-12 = 133
 
 abbrev pub is-application-vnd-ms-powerpoint-slideshow-macroenabled-12 : ℕ
-is-application-vnd-ms-powerpoint-slideshow-macroenabled-12 = 133
+is-application-vnd-ms-powerpoint-slideshow-macroenabled-12 = 134
 
 abbrev pub is-application-vnd-ms-powerpoint-template-macroenabled-12 : ℕ
-is-application-vnd-ms-powerpoint-template-macroenabled-12 = 134
+is-application-vnd-ms-powerpoint-template-macroenabled-12 = 135
 
 abbrev pub is-application-vnd-ms-project : ℕ
-is-application-vnd-ms-project = 135
+is-application-vnd-ms-project = 136
 
 abbrev pub is-application-vnd-ms-publisher : ℕ
-is-application-vnd-ms-publisher = 136
+is-application-vnd-ms-publisher = 137
 
 abbrev pub is-application-vnd-ms-tnef : ℕ
-is-application-vnd-ms-tnef = 137
+is-application-vnd-ms-tnef = 138
 
 abbrev pub is-application-vnd-ms-visio-drawing-macroenabled-main-xml : ℕ
-is-application-vnd-ms-visio-drawing-macroenabled-main-xml = 138
+is-application-vnd-ms-visio-drawing-macroenabled-main-xml = 139
 
 abbrev pub is-application-vnd-ms-visio-drawing-main-xml : ℕ
-is-application-vnd-ms-visio-drawing-main-xml = 139
+is-application-vnd-ms-visio-drawing-main-xml = 140
 
 abbrev pub is-application-vnd-ms-visio-stencil-main-xml : ℕ
-is-application-vnd-ms-visio-stencil-main-xml = 140
+is-application-vnd-ms-visio-stencil-main-xml = 141
 
 abbrev pub is-application-vnd-ms-visio-template-main-xml : ℕ
-is-application-vnd-ms-visio-template-main-xml = 141
+is-application-vnd-ms-visio-template-main-xml = 142
 
 abbrev pub is-application-vnd-ms-word-document-macroenabled-12 : ℕ
-is-application-vnd-ms-word-document-macroenabled-12 = 142
+is-application-vnd-ms-word-document-macroenabled-12 = 143
 
 abbrev pub is-application-vnd-ms-word-template-macroenabled-12 : ℕ
-is-application-vnd-ms-word-template-macroenabled-12 = 143
+is-application-vnd-ms-word-template-macroenabled-12 = 144
 
 abbrev pub is-application-vnd-ms-works : ℕ
-is-application-vnd-ms-works = 144
+is-application-vnd-ms-works = 145
 
 abbrev pub is-application-vnd-ms-xpsdocument : ℕ
-is-application-vnd-ms-xpsdocument = 145
+is-application-vnd-ms-xpsdocument = 146
 
 abbrev pub is-application-vnd-nintendo-nitro-rom : ℕ
-is-application-vnd-nintendo-nitro-rom = 146
+is-application-vnd-nintendo-nitro-rom = 147
 
 abbrev pub is-application-vnd-nintendo-snes-rom : ℕ
-is-application-vnd-nintendo-snes-rom = 147
+is-application-vnd-nintendo-snes-rom = 148
 
 abbrev pub is-application-vnd-oasis-opendocument-base : ℕ
-is-application-vnd-oasis-opendocument-base = 148
+is-application-vnd-oasis-opendocument-base = 149
 
 abbrev pub is-application-vnd-oasis-opendocument-chart : ℕ
-is-application-vnd-oasis-opendocument-chart = 149
+is-application-vnd-oasis-opendocument-chart = 150
 
 abbrev pub is-application-vnd-oasis-opendocument-formula : ℕ
-is-application-vnd-oasis-opendocument-formula = 150
+is-application-vnd-oasis-opendocument-formula = 151
 
 abbrev pub is-application-vnd-oasis-opendocument-graphics : ℕ
-is-application-vnd-oasis-opendocument-graphics = 151
+is-application-vnd-oasis-opendocument-graphics = 152
 
 abbrev pub is-application-vnd-oasis-opendocument-graphics-flat-xml : ℕ
-is-application-vnd-oasis-opendocument-graphics-flat-xml = 152
+is-application-vnd-oasis-opendocument-graphics-flat-xml = 153
 
 abbrev pub is-application-vnd-oasis-opendocument-graphics-template : ℕ
-is-application-vnd-oasis-opendocument-graphics-template = 153
+is-application-vnd-oasis-opendocument-graphics-template = 154
 
 abbrev pub is-application-vnd-oasis-opendocument-image : ℕ
-is-application-vnd-oasis-opendocument-image = 154
+is-application-vnd-oasis-opendocument-image = 155
 
 abbrev pub is-application-vnd-oasis-opendocument-presentation : ℕ
-is-application-vnd-oasis-opendocument-presentation = 155
+is-application-vnd-oasis-opendocument-presentation = 156
 
 abbrev pub is-application-vnd-oasis-opendocument-presentation-flat-xml : ℕ
-is-application-vnd-oasis-opendocument-presentation-flat-xml = 156
+is-application-vnd-oasis-opendocument-presentation-flat-xml = 157
 
 abbrev pub is-application-vnd-oasis-opendocument-presentation-template : ℕ
-is-application-vnd-oasis-opendocument-presentation-template = 157
+is-application-vnd-oasis-opendocument-presentation-template = 158
 
 abbrev pub is-application-vnd-oasis-opendocument-spreadsheet : ℕ
-is-application-vnd-oasis-opendocument-spreadsheet = 158
+is-application-vnd-oasis-opendocument-spreadsheet = 159
 
 abbrev pub is-application-vnd-oasis-opendocument-spreadsheet-flat-xml : ℕ
-is-application-vnd-oasis-opendocument-spreadsheet-flat-xml = 159
+is-application-vnd-oasis-opendocument-spreadsheet-flat-xml = 160
 
 abbrev pub is-application-vnd-oasis-opendocument-spreadsheet-template : ℕ
-is-application-vnd-oasis-opendocument-spreadsheet-template = 160
+is-application-vnd-oasis-opendocument-spreadsheet-template = 161
 
 abbrev pub is-application-vnd-oasis-opendocument-text : ℕ
-is-application-vnd-oasis-opendocument-text = 161
+is-application-vnd-oasis-opendocument-text = 162
 
 abbrev pub is-application-vnd-oasis-opendocument-text-flat-xml : ℕ
-is-application-vnd-oasis-opendocument-text-flat-xml = 162
+is-application-vnd-oasis-opendocument-text-flat-xml = 163
 
 abbrev pub is-application-vnd-oasis-opendocument-text-master : ℕ
-is-application-vnd-oasis-opendocument-text-master = 163
+is-application-vnd-oasis-opendocument-text-master = 164
 
 abbrev pub is-application-vnd-oasis-opendocument-text-template : ℕ
-is-application-vnd-oasis-opendocument-text-template = 164
+is-application-vnd-oasis-opendocument-text-template = 165
 
 abbrev pub is-application-vnd-oasis-opendocument-text-web : ℕ
-is-application-vnd-oasis-opendocument-text-web = 165
+is-application-vnd-oasis-opendocument-text-web = 166
 
 abbrev pub is-application-vnd-openxmlformats-officedocument-presentationml-presentation : ℕ
-is-application-vnd-openxmlformats-officedocument-presentationml-presentation = 166
+is-application-vnd-openxmlformats-officedocument-presentationml-presentation = 167
 
 abbrev pub is-application-vnd-openxmlformats-officedocument-presentationml-slideshow : ℕ
-is-application-vnd-openxmlformats-officedocument-presentationml-slideshow = 167
+is-application-vnd-openxmlformats-officedocument-presentationml-slideshow = 168
 
 abbrev pub is-application-vnd-openxmlformats-officedocument-presentationml-template : ℕ
-is-application-vnd-openxmlformats-officedocument-presentationml-template = 168
+is-application-vnd-openxmlformats-officedocument-presentationml-template = 169
 
 abbrev pub is-application-vnd-openxmlformats-officedocument-spreadsheetml-sheet : ℕ
-is-application-vnd-openxmlformats-officedocument-spreadsheetml-sheet = 169
+is-application-vnd-openxmlformats-officedocument-spreadsheetml-sheet = 170
 
 abbrev pub is-application-vnd-openxmlformats-officedocument-spreadsheetml-template : ℕ
-is-application-vnd-openxmlformats-officedocument-spreadsheetml-template = 170
+is-application-vnd-openxmlformats-officedocument-spreadsheetml-template = 171
 
 abbrev pub is-application-vnd-openxmlformats-officedocument-wordprocessingml-document : ℕ
-is-application-vnd-openxmlformats-officedocument-wordprocessingml-document = 171
+is-application-vnd-openxmlformats-officedocument-wordprocessingml-document = 172
 
 abbrev pub is-application-vnd-openxmlformats-officedocument-wordprocessingml-template : ℕ
-is-application-vnd-openxmlformats-officedocument-wordprocessingml-template = 172
+is-application-vnd-openxmlformats-officedocument-wordprocessingml-template = 173
 
 abbrev pub is-application-vnd-osm-xml : ℕ
-is-application-vnd-osm-xml = 173
+is-application-vnd-osm-xml = 174
 
 abbrev pub is-application-vnd-rar : ℕ
-is-application-vnd-rar = 174
+is-application-vnd-rar = 175
 
 abbrev pub is-application-vnd-recordare-musicxml : ℕ
-is-application-vnd-recordare-musicxml = 175
+is-application-vnd-recordare-musicxml = 176
 
 abbrev pub is-application-vnd-recordare-musicxml-xml : ℕ
-is-application-vnd-recordare-musicxml-xml = 176
+is-application-vnd-recordare-musicxml-xml = 177
 
 abbrev pub is-application-vnd-rn-realmedia : ℕ
-is-application-vnd-rn-realmedia = 177
+is-application-vnd-rn-realmedia = 178
 
 abbrev pub is-application-vnd-shp : ℕ
-is-application-vnd-shp = 178
+is-application-vnd-shp = 179
 
 abbrev pub is-application-vnd-shx : ℕ
-is-application-vnd-shx = 179
+is-application-vnd-shx = 180
 
 abbrev pub is-application-vnd-smaf : ℕ
-is-application-vnd-smaf = 180
+is-application-vnd-smaf = 181
 
 abbrev pub is-application-vnd-snap : ℕ
-is-application-vnd-snap = 181
+is-application-vnd-snap = 182
 
 abbrev pub is-application-vnd-sqlite3 : ℕ
-is-application-vnd-sqlite3 = 182
+is-application-vnd-sqlite3 = 183
 
 abbrev pub is-application-vnd-squashfs : ℕ
-is-application-vnd-squashfs = 183
+is-application-vnd-squashfs = 184
 
 abbrev pub is-application-vnd-sun-xml-calc : ℕ
-is-application-vnd-sun-xml-calc = 184
+is-application-vnd-sun-xml-calc = 185
 
 abbrev pub is-application-vnd-sun-xml-draw : ℕ
-is-application-vnd-sun-xml-draw = 185
+is-application-vnd-sun-xml-draw = 186
 
 abbrev pub is-application-vnd-sun-xml-impress : ℕ
-is-application-vnd-sun-xml-impress = 186
+is-application-vnd-sun-xml-impress = 187
 
 abbrev pub is-application-vnd-sun-xml-writer : ℕ
-is-application-vnd-sun-xml-writer = 187
+is-application-vnd-sun-xml-writer = 188
 
 abbrev pub is-application-vnd-tcpdump-pcap : ℕ
-is-application-vnd-tcpdump-pcap = 188
+is-application-vnd-tcpdump-pcap = 189
 
 abbrev pub is-application-vnd-visio : ℕ
-is-application-vnd-visio = 189
+is-application-vnd-visio = 190
 
 abbrev pub is-application-vnd-wolfram-mathematica : ℕ
-is-application-vnd-wolfram-mathematica = 190
+is-application-vnd-wolfram-mathematica = 191
 
 abbrev pub is-application-vnd-wordperfect : ℕ
-is-application-vnd-wordperfect = 191
+is-application-vnd-wordperfect = 192
 
 abbrev pub is-application-voicexml-xml : ℕ
-is-application-voicexml-xml = 192
+is-application-voicexml-xml = 193
 
 abbrev pub is-application-vsix : ℕ
-is-application-vsix = 193
+is-application-vsix = 194
 
 abbrev pub is-application-warc : ℕ
-is-application-warc = 194
+is-application-warc = 195
 
 abbrev pub is-application-wasm : ℕ
-is-application-wasm = 195
+is-application-wasm = 196
 
 abbrev pub is-application-winhlp : ℕ
-is-application-winhlp = 196
+is-application-winhlp = 197
 
 abbrev pub is-application-wsdl-xml : ℕ
-is-application-wsdl-xml = 197
+is-application-wsdl-xml = 198
 
 abbrev pub is-application-x-7z-compressed : ℕ
-is-application-x-7z-compressed = 198
+is-application-x-7z-compressed = 199
 
 abbrev pub is-application-x-ableton-live-set : ℕ
-is-application-x-ableton-live-set = 199
+is-application-x-ableton-live-set = 200
 
 abbrev pub is-application-x-ace : ℕ
-is-application-x-ace = 200
+is-application-x-ace = 201
 
 abbrev pub is-application-x-admx : ℕ
-is-application-x-admx = 201
+is-application-x-admx = 202
 
 abbrev pub is-application-x-age-encryption : ℕ
-is-application-x-age-encryption = 202
+is-application-x-age-encryption = 203
 
 abbrev pub is-application-x-alz : ℕ
-is-application-x-alz = 203
+is-application-x-alz = 204
 
 abbrev pub is-application-x-amiga-disk-format : ℕ
-is-application-x-amiga-disk-format = 204
+is-application-x-amiga-disk-format = 205
 
 abbrev pub is-application-x-android-archive : ℕ
-is-application-x-android-archive = 205
+is-application-x-android-archive = 206
 
 abbrev pub is-application-x-ant-xml : ℕ
-is-application-x-ant-xml = 206
+is-application-x-ant-xml = 207
 
 abbrev pub is-application-x-apkm : ℕ
-is-application-x-apkm = 207
+is-application-x-apkm = 208
 
 abbrev pub is-application-x-appdata-xml : ℕ
-is-application-x-appdata-xml = 208
+is-application-x-appdata-xml = 209
 
 abbrev pub is-application-x-apple-diskimage : ℕ
-is-application-x-apple-diskimage = 209
+is-application-x-apple-diskimage = 210
 
 abbrev pub is-application-x-arb-json : ℕ
-is-application-x-arb-json = 210
+is-application-x-arb-json = 211
 
 abbrev pub is-application-x-arc : ℕ
-is-application-x-arc = 211
+is-application-x-arc = 212
 
 abbrev pub is-application-x-archive-dar : ℕ
-is-application-x-archive-dar = 212
+is-application-x-archive-dar = 213
 
 abbrev pub is-application-x-arj : ℕ
-is-application-x-arj = 213
+is-application-x-arj = 214
 
 abbrev pub is-application-x-asar : ℕ
-is-application-x-asar = 214
+is-application-x-asar = 215
 
 abbrev pub is-application-x-asp : ℕ
-is-application-x-asp = 215
+is-application-x-asp = 216
 
 abbrev pub is-application-x-aspx : ℕ
-is-application-x-aspx = 216
+is-application-x-aspx = 217
 
 abbrev pub is-application-x-autodesk-max : ℕ
-is-application-x-autodesk-max = 217
+is-application-x-autodesk-max = 218
 
 abbrev pub is-application-x-avro : ℕ
-is-application-x-avro = 218
+is-application-x-avro = 219
 
 abbrev pub is-application-x-avro-schema-json : ℕ
-is-application-x-avro-schema-json = 219
+is-application-x-avro-schema-json = 220
 
 abbrev pub is-application-x-bash : ℕ
-is-application-x-bash = 220
+is-application-x-bash = 221
 
 abbrev pub is-application-x-bittorrent : ℕ
-is-application-x-bittorrent = 221
+is-application-x-bittorrent = 222
 
 abbrev pub is-application-x-blender : ℕ
-is-application-x-blender = 222
+is-application-x-blender = 223
 
 abbrev pub is-application-x-bplist : ℕ
-is-application-x-bplist = 223
+is-application-x-bplist = 224
 
 abbrev pub is-application-x-bsp : ℕ
-is-application-x-bsp = 224
+is-application-x-bsp = 225
 
 abbrev pub is-application-x-bufr : ℕ
-is-application-x-bufr = 225
+is-application-x-bufr = 226
 
 abbrev pub is-application-x-bzip-compressed-tar : ℕ
-is-application-x-bzip-compressed-tar = 226
+is-application-x-bzip-compressed-tar = 227
 
 abbrev pub is-application-x-bzip2 : ℕ
-is-application-x-bzip2 = 227
+is-application-x-bzip2 = 228
 
 abbrev pub is-application-x-cb7 : ℕ
-is-application-x-cb7 = 228
+is-application-x-cb7 = 229
 
 abbrev pub is-application-x-cbt : ℕ
-is-application-x-cbt = 229
+is-application-x-cbt = 230
 
 abbrev pub is-application-x-cd-image : ℕ
-is-application-x-cd-image = 230
+is-application-x-cd-image = 231
 
 abbrev pub is-application-x-cmi : ℕ
-is-application-x-cmi = 231
+is-application-x-cmi = 232
 
 abbrev pub is-application-x-cml-xml : ℕ
-is-application-x-cml-xml = 232
+is-application-x-cml-xml = 233
 
 abbrev pub is-application-x-com-executable : ℕ
-is-application-x-com-executable = 233
+is-application-x-com-executable = 234
 
 abbrev pub is-application-x-compress : ℕ
-is-application-x-compress = 234
+is-application-x-compress = 235
 
 abbrev pub is-application-x-compressed-tar : ℕ
-is-application-x-compressed-tar = 235
+is-application-x-compressed-tar = 236
 
 abbrev pub is-application-x-core : ℕ
-is-application-x-core = 236
+is-application-x-core = 237
 
 abbrev pub is-application-x-cpio : ℕ
-is-application-x-cpio = 237
+is-application-x-cpio = 238
 
 abbrev pub is-application-x-csh : ℕ
-is-application-x-csh = 238
+is-application-x-csh = 239
 
 abbrev pub is-application-x-cue : ℕ
-is-application-x-cue = 239
+is-application-x-cue = 240
 
 abbrev pub is-application-x-dbm : ℕ
-is-application-x-dbm = 240
+is-application-x-dbm = 241
 
 abbrev pub is-application-x-dbus-gvdb : ℕ
-is-application-x-dbus-gvdb = 241
+is-application-x-dbus-gvdb = 242
 
 abbrev pub is-application-x-designer : ℕ
-is-application-x-designer = 242
+is-application-x-designer = 243
 
 abbrev pub is-application-x-desktop : ℕ
-is-application-x-desktop = 243
+is-application-x-desktop = 244
 
 abbrev pub is-application-x-devhelp-xml : ℕ
-is-application-x-devhelp-xml = 244
+is-application-x-devhelp-xml = 245
 
 abbrev pub is-application-x-device-tree-blob : ℕ
-is-application-x-device-tree-blob = 245
+is-application-x-device-tree-blob = 246
 
 abbrev pub is-application-x-dia-diagram : ℕ
-is-application-x-dia-diagram = 246
+is-application-x-dia-diagram = 247
 
 abbrev pub is-application-x-dictzip : ℕ
-is-application-x-dictzip = 247
+is-application-x-dictzip = 248
 
 abbrev pub is-application-x-docbook-xml : ℕ
-is-application-x-docbook-xml = 248
+is-application-x-docbook-xml = 249
 
 abbrev pub is-application-x-doom-wad : ℕ
-is-application-x-doom-wad = 249
+is-application-x-doom-wad = 250
 
 abbrev pub is-application-x-drawio-xml : ℕ
-is-application-x-drawio-xml = 250
+is-application-x-drawio-xml = 251
 
 abbrev pub is-application-x-dtbncx-xml : ℕ
-is-application-x-dtbncx-xml = 251
+is-application-x-dtbncx-xml = 252
 
 abbrev pub is-application-x-dvi : ℕ
-is-application-x-dvi = 252
+is-application-x-dvi = 253
 
 abbrev pub is-application-x-e57 : ℕ
-is-application-x-e57 = 253
+is-application-x-e57 = 254
 
 abbrev pub is-application-x-eclipse-xml : ℕ
-is-application-x-eclipse-xml = 254
+is-application-x-eclipse-xml = 255
 
 abbrev pub is-application-x-egg-zip : ℕ
-is-application-x-egg-zip = 255
+is-application-x-egg-zip = 256
 
 abbrev pub is-application-x-elc : ℕ
-is-application-x-elc = 256
+is-application-x-elc = 257
 
 abbrev pub is-application-x-emz : ℕ
-is-application-x-emz = 257
+is-application-x-emz = 258
 
 abbrev pub is-application-x-entitlements : ℕ
-is-application-x-entitlements = 258
+is-application-x-entitlements = 259
 
 abbrev pub is-application-x-erb : ℕ
-is-application-x-erb = 259
+is-application-x-erb = 260
 
 abbrev pub is-application-x-erlang-beam : ℕ
-is-application-x-erlang-beam = 260
+is-application-x-erlang-beam = 261
 
 abbrev pub is-application-x-executable-as-row-elf : ℕ
-is-application-x-executable-as-row-elf = 261
+is-application-x-executable-as-row-elf = 262
 
 abbrev pub is-application-x-executable-as-row-obj : ℕ
-is-application-x-executable-as-row-obj = 262
+is-application-x-executable-as-row-obj = 263
 
 abbrev pub is-application-x-ext-filesystem : ℕ
-is-application-x-ext-filesystem = 263
+is-application-x-ext-filesystem = 264
 
 abbrev pub is-application-x-fbx : ℕ
-is-application-x-fbx = 264
+is-application-x-fbx = 265
 
 abbrev pub is-application-x-fictionbook-xml : ℕ
-is-application-x-fictionbook-xml = 265
+is-application-x-fictionbook-xml = 266
 
 abbrev pub is-application-x-fishscript : ℕ
-is-application-x-fishscript = 266
+is-application-x-fishscript = 267
 
 abbrev pub is-application-x-flash-authoring : ℕ
-is-application-x-flash-authoring = 267
+is-application-x-flash-authoring = 268
 
 abbrev pub is-application-x-font-afm : ℕ
-is-application-x-font-afm = 268
+is-application-x-font-afm = 269
 
 abbrev pub is-application-x-font-bdf : ℕ
-is-application-x-font-bdf = 269
+is-application-x-font-bdf = 270
 
 abbrev pub is-application-x-font-pcf : ℕ
-is-application-x-font-pcf = 270
+is-application-x-font-pcf = 271
 
 abbrev pub is-application-x-font-type1 : ℕ
-is-application-x-font-type1 = 271
+is-application-x-font-type1 = 272
 
 abbrev pub is-application-x-freecad : ℕ
-is-application-x-freecad = 272
+is-application-x-freecad = 273
 
 abbrev pub is-application-x-gameboy-rom : ℕ
-is-application-x-gameboy-rom = 273
+is-application-x-gameboy-rom = 274
 
 abbrev pub is-application-x-gba-rom : ℕ
-is-application-x-gba-rom = 274
+is-application-x-gba-rom = 275
 
 abbrev pub is-application-x-gcov-data : ℕ
-is-application-x-gcov-data = 275
+is-application-x-gcov-data = 276
 
 abbrev pub is-application-x-gdbm : ℕ
-is-application-x-gdbm = 276
+is-application-x-gdbm = 277
 
 abbrev pub is-application-x-gds : ℕ
-is-application-x-gds = 277
+is-application-x-gds = 278
 
 abbrev pub is-application-x-gdscript : ℕ
-is-application-x-gdscript = 278
+is-application-x-gdscript = 279
 
 abbrev pub is-application-x-genesis-rom : ℕ
-is-application-x-genesis-rom = 279
+is-application-x-genesis-rom = 280
 
 abbrev pub is-application-x-gettext-translation : ℕ
-is-application-x-gettext-translation = 280
+is-application-x-gettext-translation = 281
 
 abbrev pub is-application-x-gguf : ℕ
-is-application-x-gguf = 281
+is-application-x-gguf = 282
 
 abbrev pub is-application-x-gir-xml : ℕ
-is-application-x-gir-xml = 282
+is-application-x-gir-xml = 283
 
 abbrev pub is-application-x-glade : ℕ
-is-application-x-glade = 283
+is-application-x-glade = 284
 
 abbrev pub is-application-x-glib-typelib : ℕ
-is-application-x-glib-typelib = 284
+is-application-x-glib-typelib = 285
 
 abbrev pub is-application-x-gnucash : ℕ
-is-application-x-gnucash = 285
+is-application-x-gnucash = 286
 
 abbrev pub is-application-x-gnuplot : ℕ
-is-application-x-gnuplot = 286
+is-application-x-gnuplot = 287
 
 abbrev pub is-application-x-go-sgf : ℕ
-is-application-x-go-sgf = 287
+is-application-x-go-sgf = 288
 
 abbrev pub is-application-x-godot-package : ℕ
-is-application-x-godot-package = 288
+is-application-x-godot-package = 289
 
 abbrev pub is-application-x-godot-resource : ℕ
-is-application-x-godot-resource = 289
+is-application-x-godot-resource = 290
 
 abbrev pub is-application-x-godot-scene : ℕ
-is-application-x-godot-scene = 290
+is-application-x-godot-scene = 291
 
 abbrev pub is-application-x-google-chrome-extension : ℕ
-is-application-x-google-chrome-extension = 291
+is-application-x-google-chrome-extension = 292
 
 abbrev pub is-application-x-grib : ℕ
-is-application-x-grib = 292
+is-application-x-grib = 293
 
 abbrev pub is-application-x-gschema-xml : ℕ
-is-application-x-gschema-xml = 293
+is-application-x-gschema-xml = 294
 
 abbrev pub is-application-x-gschema-compiled : ℕ
-is-application-x-gschema-compiled = 294
+is-application-x-gschema-compiled = 295
+
+abbrev pub is-application-x-gtk-builder : ℕ
+is-application-x-gtk-builder = 296
 
 abbrev pub is-application-x-har-json : ℕ
-is-application-x-har-json = 295
+is-application-x-har-json = 297
 
 abbrev pub is-application-x-haskell-interface : ℕ
-is-application-x-haskell-interface = 296
+is-application-x-haskell-interface = 298
+
+abbrev pub is-application-x-hdf : ℕ
+is-application-x-hdf = 299
 
 abbrev pub is-application-x-hdf5 : ℕ
-is-application-x-hdf5 = 297
+is-application-x-hdf5 = 300
 
 abbrev pub is-application-x-hprof : ℕ
-is-application-x-hprof = 298
+is-application-x-hprof = 301
 
 abbrev pub is-application-x-hwp : ℕ
-is-application-x-hwp = 299
+is-application-x-hwp = 302
 
 abbrev pub is-application-x-hwpx : ℕ
-is-application-x-hwpx = 300
+is-application-x-hwpx = 303
 
 abbrev pub is-application-x-hxml : ℕ
-is-application-x-hxml = 301
+is-application-x-hxml = 304
 
 abbrev pub is-application-x-innodb : ℕ
-is-application-x-innodb = 302
+is-application-x-innodb = 305
 
 abbrev pub is-application-x-intellij-xml : ℕ
-is-application-x-intellij-xml = 303
+is-application-x-intellij-xml = 306
 
 abbrev pub is-application-x-ios-app : ℕ
-is-application-x-ios-app = 304
+is-application-x-ios-app = 307
 
 abbrev pub is-application-x-ipynb-json : ℕ
-is-application-x-ipynb-json = 305
+is-application-x-ipynb-json = 308
 
 abbrev pub is-application-x-jasper-xml : ℕ
-is-application-x-jasper-xml = 306
+is-application-x-jasper-xml = 309
 
 abbrev pub is-application-x-java-enterprise-archive : ℕ
-is-application-x-java-enterprise-archive = 307
+is-application-x-java-enterprise-archive = 310
 
 abbrev pub is-application-x-java-jce-keystore : ℕ
-is-application-x-java-jce-keystore = 308
+is-application-x-java-jce-keystore = 311
 
 abbrev pub is-application-x-java-jimage : ℕ
-is-application-x-java-jimage = 309
+is-application-x-java-jimage = 312
 
 abbrev pub is-application-x-java-jmod : ℕ
-is-application-x-java-jmod = 310
+is-application-x-java-jmod = 313
 
 abbrev pub is-application-x-java-jnlp-file : ℕ
-is-application-x-java-jnlp-file = 311
+is-application-x-java-jnlp-file = 314
 
 abbrev pub is-application-x-java-keystore : ℕ
-is-application-x-java-keystore = 312
+is-application-x-java-keystore = 315
 
 abbrev pub is-application-x-java-serialized-object : ℕ
-is-application-x-java-serialized-object = 313
+is-application-x-java-serialized-object = 316
 
 abbrev pub is-application-x-java-web-archive : ℕ
-is-application-x-java-web-archive = 314
+is-application-x-java-web-archive = 317
 
 abbrev pub is-application-x-jmeter-xml : ℕ
-is-application-x-jmeter-xml = 315
+is-application-x-jmeter-xml = 318
 
 abbrev pub is-application-x-jsa : ℕ
-is-application-x-jsa = 316
+is-application-x-jsa = 319
 
 abbrev pub is-application-x-jsonc : ℕ
-is-application-x-jsonc = 317
+is-application-x-jsonc = 320
 
 abbrev pub is-application-x-jsp : ℕ
-is-application-x-jsp = 318
+is-application-x-jsp = 321
 
 abbrev pub is-application-x-kdenlive : ℕ
-is-application-x-kdenlive = 319
+is-application-x-kdenlive = 322
 
 abbrev pub is-application-x-keepass2 : ℕ
-is-application-x-keepass2 = 320
+is-application-x-keepass2 = 323
 
 abbrev pub is-application-x-kerberos-keytab : ℕ
-is-application-x-kerberos-keytab = 321
+is-application-x-kerberos-keytab = 324
 
 abbrev pub is-application-x-krita : ℕ
-is-application-x-krita = 322
+is-application-x-krita = 325
 
 abbrev pub is-application-x-ksh : ℕ
-is-application-x-ksh = 323
+is-application-x-ksh = 326
 
 abbrev pub is-application-x-leveldb-table : ℕ
-is-application-x-leveldb-table = 324
+is-application-x-leveldb-table = 327
 
 abbrev pub is-application-x-llvm : ℕ
-is-application-x-llvm = 325
+is-application-x-llvm = 328
 
 abbrev pub is-application-x-locale-archive : ℕ
-is-application-x-locale-archive = 326
+is-application-x-locale-archive = 329
 
 abbrev pub is-application-x-lottie-json : ℕ
-is-application-x-lottie-json = 327
+is-application-x-lottie-json = 330
 
 abbrev pub is-application-x-lrzip : ℕ
-is-application-x-lrzip = 328
+is-application-x-lrzip = 331
 
 abbrev pub is-application-x-lua-bytecode : ℕ
-is-application-x-lua-bytecode = 329
+is-application-x-lua-bytecode = 332
 
 abbrev pub is-application-x-luks : ℕ
-is-application-x-luks = 330
+is-application-x-luks = 333
 
 abbrev pub is-application-x-lz4 : ℕ
-is-application-x-lz4 = 331
+is-application-x-lz4 = 334
 
 abbrev pub is-application-x-lz4-compressed-tar : ℕ
-is-application-x-lz4-compressed-tar = 332
+is-application-x-lz4-compressed-tar = 335
 
 abbrev pub is-application-x-lzh-compressed : ℕ
-is-application-x-lzh-compressed = 333
+is-application-x-lzh-compressed = 336
 
 abbrev pub is-application-x-lzip : ℕ
-is-application-x-lzip = 334
+is-application-x-lzip = 337
 
 abbrev pub is-application-x-lzip-compressed-tar : ℕ
-is-application-x-lzip-compressed-tar = 335
+is-application-x-lzip-compressed-tar = 338
 
 abbrev pub is-application-x-lzma : ℕ
-is-application-x-lzma = 336
+is-application-x-lzma = 339
 
 abbrev pub is-application-x-lzma-compressed-tar : ℕ
-is-application-x-lzma-compressed-tar = 337
+is-application-x-lzma-compressed-tar = 340
 
 abbrev pub is-application-x-lzop : ℕ
-is-application-x-lzop = 338
+is-application-x-lzop = 341
 
 abbrev pub is-application-x-m4 : ℕ
-is-application-x-m4 = 339
+is-application-x-m4 = 342
 
 abbrev pub is-application-x-mach-binary : ℕ
-is-application-x-mach-binary = 340
+is-application-x-mach-binary = 343
 
 abbrev pub is-application-x-magic-database : ℕ
-is-application-x-magic-database = 341
+is-application-x-magic-database = 344
 
 abbrev pub is-application-x-mame-chd : ℕ
-is-application-x-mame-chd = 342
+is-application-x-mame-chd = 345
 
 abbrev pub is-application-x-matlab-data : ℕ
-is-application-x-matlab-data = 343
+is-application-x-matlab-data = 346
 
 abbrev pub is-application-x-maya-binary : ℕ
-is-application-x-maya-binary = 344
+is-application-x-maya-binary = 347
 
 abbrev pub is-application-x-mimecache : ℕ
-is-application-x-mimecache = 345
+is-application-x-mimecache = 348
 
 abbrev pub is-application-x-minecraft-world : ℕ
-is-application-x-minecraft-world = 346
+is-application-x-minecraft-world = 349
 
 abbrev pub is-application-x-mobipocket-ebook : ℕ
-is-application-x-mobipocket-ebook = 347
+is-application-x-mobipocket-ebook = 350
 
 abbrev pub is-application-x-ms-evtx : ℕ
-is-application-x-ms-evtx = 348
+is-application-x-ms-evtx = 351
 
 abbrev pub is-application-x-ms-pdb : ℕ
-is-application-x-ms-pdb = 349
+is-application-x-ms-pdb = 352
 
 abbrev pub is-application-x-ms-registry-hive : ℕ
-is-application-x-ms-registry-hive = 350
+is-application-x-ms-registry-hive = 353
 
 abbrev pub is-application-x-ms-shortcut : ℕ
-is-application-x-ms-shortcut = 351
+is-application-x-ms-shortcut = 354
 
 abbrev pub is-application-x-ms-wim : ℕ
-is-application-x-ms-wim = 352
+is-application-x-ms-wim = 355
 
 abbrev pub is-application-x-msaccess-as-row-accdb : ℕ
-is-application-x-msaccess-as-row-accdb = 353
+is-application-x-msaccess-as-row-accdb = 356
 
 abbrev pub is-application-x-msaccess-as-row-mdb : ℕ
-is-application-x-msaccess-as-row-mdb = 354
+is-application-x-msaccess-as-row-mdb = 357
 
 abbrev pub is-application-x-msbuild-xml : ℕ
-is-application-x-msbuild-xml = 355
+is-application-x-msbuild-xml = 358
 
 abbrev pub is-application-x-msi : ℕ
-is-application-x-msi = 356
+is-application-x-msi = 359
 
 abbrev pub is-application-x-mswinurl : ℕ
-is-application-x-mswinurl = 357
+is-application-x-mswinurl = 360
 
 abbrev pub is-application-x-mxml : ℕ
-is-application-x-mxml = 358
+is-application-x-mxml = 361
 
 abbrev pub is-application-x-mysql-myisam : ℕ
-is-application-x-mysql-myisam = 359
+is-application-x-mysql-myisam = 362
 
 abbrev pub is-application-x-n64-rom : ℕ
-is-application-x-n64-rom = 360
+is-application-x-n64-rom = 363
 
 abbrev pub is-application-x-natvis-xml : ℕ
-is-application-x-natvis-xml = 361
+is-application-x-natvis-xml = 364
 
 abbrev pub is-application-x-navi-animation : ℕ
-is-application-x-navi-animation = 362
+is-application-x-navi-animation = 365
 
 abbrev pub is-application-x-ndjson : ℕ
-is-application-x-ndjson = 363
+is-application-x-ndjson = 366
 
 abbrev pub is-application-x-netcdf : ℕ
-is-application-x-netcdf = 364
+is-application-x-netcdf = 367
 
 abbrev pub is-application-x-nintendo-nes-rom : ℕ
-is-application-x-nintendo-nes-rom = 365
+is-application-x-nintendo-nes-rom = 368
 
 abbrev pub is-application-x-npy : ℕ
-is-application-x-npy = 366
+is-application-x-npy = 369
 
 abbrev pub is-application-x-npz : ℕ
-is-application-x-npz = 367
+is-application-x-npz = 370
 
 abbrev pub is-application-x-nuget-package : ℕ
-is-application-x-nuget-package = 368
+is-application-x-nuget-package = 371
 
 abbrev pub is-application-x-nuspec-xml : ℕ
-is-application-x-nuspec-xml = 369
+is-application-x-nuspec-xml = 372
 
 abbrev pub is-application-x-object : ℕ
-is-application-x-object = 370
+is-application-x-object = 373
 
 abbrev pub is-application-x-openssh-private-key : ℕ
-is-application-x-openssh-private-key = 371
+is-application-x-openssh-private-key = 374
 
 abbrev pub is-application-x-openzim : ℕ
-is-application-x-openzim = 372
+is-application-x-openzim = 375
 
 abbrev pub is-application-x-orc : ℕ
-is-application-x-orc = 373
+is-application-x-orc = 376
 
 abbrev pub is-application-x-osm-pbf : ℕ
-is-application-x-osm-pbf = 374
+is-application-x-osm-pbf = 377
 
 abbrev pub is-application-x-ova : ℕ
-is-application-x-ova = 375
+is-application-x-ova = 378
 
 abbrev pub is-application-x-par2 : ℕ
-is-application-x-par2 = 376
+is-application-x-par2 = 379
 
 abbrev pub is-application-x-pascal-resource-strings-json : ℕ
-is-application-x-pascal-resource-strings-json = 377
+is-application-x-pascal-resource-strings-json = 380
 
 abbrev pub is-application-x-pascal-unit : ℕ
-is-application-x-pascal-unit = 378
+is-application-x-pascal-unit = 381
 
 abbrev pub is-application-x-pcapng : ℕ
-is-application-x-pcapng = 379
+is-application-x-pcapng = 382
 
 abbrev pub is-application-x-pem-key : ℕ
-is-application-x-pem-key = 380
+is-application-x-pem-key = 383
 
 abbrev pub is-application-x-perf-data : ℕ
-is-application-x-perf-data = 381
+is-application-x-perf-data = 384
 
 abbrev pub is-application-x-phylip : ℕ
-is-application-x-phylip = 382
+is-application-x-phylip = 385
 
 abbrev pub is-application-x-plist : ℕ
-is-application-x-plist = 383
+is-application-x-plist = 386
 
 abbrev pub is-application-x-ply : ℕ
-is-application-x-ply = 384
+is-application-x-ply = 387
 
 abbrev pub is-application-x-pov : ℕ
-is-application-x-pov = 385
+is-application-x-pov = 388
 
 abbrev pub is-application-x-powershell : ℕ
-is-application-x-powershell = 386
+is-application-x-powershell = 389
 
 abbrev pub is-application-x-precompiled-header : ℕ
-is-application-x-precompiled-header = 387
+is-application-x-precompiled-header = 390
 
 abbrev pub is-application-x-profraw : ℕ
-is-application-x-profraw = 388
+is-application-x-profraw = 391
 
 abbrev pub is-application-x-ps1xml : ℕ
-is-application-x-ps1xml = 389
+is-application-x-ps1xml = 392
 
 abbrev pub is-application-x-python-bytecode : ℕ
-is-application-x-python-bytecode = 390
+is-application-x-python-bytecode = 393
 
 abbrev pub is-application-x-python-pickle : ℕ
-is-application-x-python-pickle = 391
+is-application-x-python-pickle = 394
 
 abbrev pub is-application-x-python-zipapp : ℕ
-is-application-x-python-zipapp = 392
+is-application-x-python-zipapp = 395
 
 abbrev pub is-application-x-pytorch : ℕ
-is-application-x-pytorch = 393
+is-application-x-pytorch = 396
 
 abbrev pub is-application-x-qemu-disk : ℕ
-is-application-x-qemu-disk = 394
+is-application-x-qemu-disk = 397
 
 abbrev pub is-application-x-qgis-project : ℕ
-is-application-x-qgis-project = 395
+is-application-x-qgis-project = 398
 
 abbrev pub is-application-x-qrc-xml : ℕ
-is-application-x-qrc-xml = 396
+is-application-x-qrc-xml = 399
 
 abbrev pub is-application-x-quake-pak : ℕ
-is-application-x-quake-pak = 397
+is-application-x-quake-pak = 400
 
 abbrev pub is-application-x-quattropro : ℕ
-is-application-x-quattropro = 398
+is-application-x-quattropro = 401
 
 abbrev pub is-application-x-r-data : ℕ
-is-application-x-r-data = 399
+is-application-x-r-data = 402
 
 abbrev pub is-application-x-resx-xml : ℕ
-is-application-x-resx-xml = 400
+is-application-x-resx-xml = 403
 
 abbrev pub is-application-x-rhino : ℕ
-is-application-x-rhino = 401
+is-application-x-rhino = 404
 
 abbrev pub is-application-x-rpm : ℕ
-is-application-x-rpm = 402
+is-application-x-rpm = 405
 
 abbrev pub is-application-x-rust-rlib : ℕ
-is-application-x-rust-rlib = 403
+is-application-x-rust-rlib = 406
 
 abbrev pub is-application-x-safetensors : ℕ
-is-application-x-safetensors = 404
+is-application-x-safetensors = 407
 
 abbrev pub is-application-x-sas-data : ℕ
-is-application-x-sas-data = 405
+is-application-x-sas-data = 408
 
 abbrev pub is-application-x-scribus : ℕ
-is-application-x-scribus = 406
+is-application-x-scribus = 409
 
 abbrev pub is-application-x-scxml-xml : ℕ
-is-application-x-scxml-xml = 407
+is-application-x-scxml-xml = 410
 
 abbrev pub is-application-x-setupscript : ℕ
-is-application-x-setupscript = 408
+is-application-x-setupscript = 411
 
 abbrev pub is-application-x-sfnt-collection-dfont : ℕ
-is-application-x-sfnt-collection-dfont = 409
+is-application-x-sfnt-collection-dfont = 412
 
 abbrev pub is-application-x-shapefile-index : ℕ
-is-application-x-shapefile-index = 410
+is-application-x-shapefile-index = 413
 
 abbrev pub is-application-x-shared-library-la : ℕ
-is-application-x-shared-library-la = 411
+is-application-x-shared-library-la = 414
 
 abbrev pub is-application-x-sharedlib : ℕ
-is-application-x-sharedlib = 412
+is-application-x-sharedlib = 415
 
 abbrev pub is-application-x-shockwave-flash : ℕ
-is-application-x-shockwave-flash = 413
+is-application-x-shockwave-flash = 416
 
 abbrev pub is-application-x-sketch : ℕ
-is-application-x-sketch = 414
+is-application-x-sketch = 417
 
 abbrev pub is-application-x-sketchup : ℕ
-is-application-x-sketchup = 415
+is-application-x-sketchup = 418
 
 abbrev pub is-application-x-snappy-framed : ℕ
-is-application-x-snappy-framed = 416
+is-application-x-snappy-framed = 419
 
 abbrev pub is-application-x-spss-sav : ℕ
-is-application-x-spss-sav = 417
+is-application-x-spss-sav = 420
 
 abbrev pub is-application-x-ssh-public-key : ℕ
-is-application-x-ssh-public-key = 418
+is-application-x-ssh-public-key = 421
 
 abbrev pub is-application-x-stata-dta : ℕ
-is-application-x-stata-dta = 419
+is-application-x-stata-dta = 422
 
 abbrev pub is-application-x-storyboard-xml : ℕ
-is-application-x-storyboard-xml = 420
+is-application-x-storyboard-xml = 423
 
 abbrev pub is-application-x-stuffit : ℕ
-is-application-x-stuffit = 421
+is-application-x-stuffit = 424
 
 abbrev pub is-application-x-sublime-syntax : ℕ
-is-application-x-sublime-syntax = 422
+is-application-x-sublime-syntax = 425
 
 abbrev pub is-application-x-subrip : ℕ
-is-application-x-subrip = 423
+is-application-x-subrip = 426
 
 abbrev pub is-application-x-swiftmodule : ℕ
-is-application-x-swiftmodule = 424
+is-application-x-swiftmodule = 427
 
 abbrev pub is-application-x-systemd-journal : ℕ
-is-application-x-systemd-journal = 425
+is-application-x-systemd-journal = 428
 
 abbrev pub is-application-x-tar : ℕ
-is-application-x-tar = 426
+is-application-x-tar = 429
 
 abbrev pub is-application-x-tarz : ℕ
-is-application-x-tarz = 427
+is-application-x-tarz = 430
 
 abbrev pub is-application-x-terminfo : ℕ
-is-application-x-terminfo = 428
+is-application-x-terminfo = 431
 
 abbrev pub is-application-x-terraform-state-json : ℕ
-is-application-x-terraform-state-json = 429
+is-application-x-terraform-state-json = 432
 
 abbrev pub is-application-x-tex-pk : ℕ
-is-application-x-tex-pk = 430
+is-application-x-tex-pk = 433
 
 abbrev pub is-application-x-tex-tfm : ℕ
-is-application-x-tex-tfm = 431
+is-application-x-tex-tfm = 434
 
 abbrev pub is-application-x-tflite : ℕ
-is-application-x-tflite = 432
+is-application-x-tflite = 435
 
 abbrev pub is-application-x-theme : ℕ
-is-application-x-theme = 433
+is-application-x-theme = 436
 
 abbrev pub is-application-x-theme-xml : ℕ
-is-application-x-theme-xml = 434
+is-application-x-theme-xml = 437
 
 abbrev pub is-application-x-thumbs-db : ℕ
-is-application-x-thumbs-db = 435
+is-application-x-thumbs-db = 438
 
 abbrev pub is-application-x-tmx-xml : ℕ
-is-application-x-tmx-xml = 436
+is-application-x-tmx-xml = 439
 
 abbrev pub is-application-x-unity-asmdef-json : ℕ
-is-application-x-unity-asmdef-json = 437
+is-application-x-unity-asmdef-json = 440
 
 abbrev pub is-application-x-unity-asset : ℕ
-is-application-x-unity-asset = 438
+is-application-x-unity-asset = 441
 
 abbrev pub is-application-x-unix-archive : ℕ
-is-application-x-unix-archive = 439
+is-application-x-unix-archive = 442
 
 abbrev pub is-application-x-uproject-json : ℕ
-is-application-x-uproject-json = 440
+is-application-x-uproject-json = 443
 
 abbrev pub is-application-x-urdf-xml : ℕ
-is-application-x-urdf-xml = 441
+is-application-x-urdf-xml = 444
 
 abbrev pub is-application-x-usdz : ℕ
-is-application-x-usdz = 442
+is-application-x-usdz = 445
 
 abbrev pub is-application-x-vdi-disk : ℕ
-is-application-x-vdi-disk = 443
+is-application-x-vdi-disk = 446
 
 abbrev pub is-application-x-vhd-disk : ℕ
-is-application-x-vhd-disk = 444
+is-application-x-vhd-disk = 447
 
 abbrev pub is-application-x-vhdx-disk : ℕ
-is-application-x-vhdx-disk = 445
+is-application-x-vhdx-disk = 448
 
 abbrev pub is-application-x-vim-spell : ℕ
-is-application-x-vim-spell = 446
+is-application-x-vim-spell = 449
 
 abbrev pub is-application-x-vim-swap : ℕ
-is-application-x-vim-swap = 447
+is-application-x-vim-swap = 450
 
 abbrev pub is-application-x-virtualbox-saved-state : ℕ
-is-application-x-virtualbox-saved-state = 448
+is-application-x-virtualbox-saved-state = 451
 
 abbrev pub is-application-x-vmdk-disk : ℕ
-is-application-x-vmdk-disk = 449
+is-application-x-vmdk-disk = 452
 
 abbrev pub is-application-x-wheel-zip : ℕ
-is-application-x-wheel-zip = 450
+is-application-x-wheel-zip = 453
+
+abbrev pub is-application-x-wii-wad : ℕ
+is-application-x-wii-wad = 454
 
 abbrev pub is-application-x-windows-dump : ℕ
-is-application-x-windows-dump = 451
+is-application-x-windows-dump = 455
 
 abbrev pub is-application-x-wix-xml : ℕ
-is-application-x-wix-xml = 452
+is-application-x-wix-xml = 456
 
 abbrev pub is-application-x-wmz : ℕ
-is-application-x-wmz = 453
+is-application-x-wmz = 457
 
 abbrev pub is-application-x-x509-ca-cert-as-known : ℕ
-is-application-x-x509-ca-cert-as-known = 454
+is-application-x-x509-ca-cert-as-known = 458
 
 abbrev pub is-application-x-x509-ca-cert-as-row-der : ℕ
-is-application-x-x509-ca-cert-as-row-der = 455
+is-application-x-x509-ca-cert-as-row-der = 459
 
 abbrev pub is-application-x-x509-ca-cert-as-row-pem : ℕ
-is-application-x-x509-ca-cert-as-row-pem = 456
+is-application-x-x509-ca-cert-as-row-pem = 460
 
 abbrev pub is-application-x-xar : ℕ
-is-application-x-xar = 457
+is-application-x-xar = 461
 
 abbrev pub is-application-x-xpinstall : ℕ
-is-application-x-xpinstall = 458
+is-application-x-xpinstall = 462
 
 abbrev pub is-application-x-xz : ℕ
-is-application-x-xz = 459
+is-application-x-xz = 463
 
 abbrev pub is-application-x-xz-compressed-tar : ℕ
-is-application-x-xz-compressed-tar = 460
+is-application-x-xz-compressed-tar = 464
 
 abbrev pub is-application-x-zcml : ℕ
-is-application-x-zcml = 461
+is-application-x-zcml = 465
 
 abbrev pub is-application-x-zoo : ℕ
-is-application-x-zoo = 462
+is-application-x-zoo = 466
 
 abbrev pub is-application-x-zsh : ℕ
-is-application-x-zsh = 463
+is-application-x-zsh = 467
 
 abbrev pub is-application-x-zstd-compressed-tar : ℕ
-is-application-x-zstd-compressed-tar = 464
+is-application-x-zstd-compressed-tar = 468
 
 abbrev pub is-application-xaml-xml : ℕ
-is-application-xaml-xml = 465
+is-application-xaml-xml = 469
 
 abbrev pub is-application-xhtml-xml : ℕ
-is-application-xhtml-xml = 466
+is-application-xhtml-xml = 470
 
 abbrev pub is-application-xliff-xml : ℕ
-is-application-xliff-xml = 467
+is-application-xliff-xml = 471
 
 abbrev pub is-application-xml : ℕ
-is-application-xml = 468
+is-application-xml = 472
 
 abbrev pub is-application-xml-dtd : ℕ
-is-application-xml-dtd = 469
+is-application-xml-dtd = 473
 
 abbrev pub is-application-xml-external-parsed-entity : ℕ
-is-application-xml-external-parsed-entity = 470
+is-application-xml-external-parsed-entity = 474
 
 abbrev pub is-application-xproc-xml : ℕ
-is-application-xproc-xml = 471
+is-application-xproc-xml = 475
 
 abbrev pub is-application-xquery : ℕ
-is-application-xquery = 472
+is-application-xquery = 476
 
 abbrev pub is-application-xslt-xml : ℕ
-is-application-xslt-xml = 473
+is-application-xslt-xml = 477
 
 abbrev pub is-application-xspf-xml : ℕ
-is-application-xspf-xml = 474
+is-application-xspf-xml = 478
 
 abbrev pub is-application-yaml : ℕ
-is-application-yaml = 475
+is-application-yaml = 479
 
 abbrev pub is-application-zip : ℕ
-is-application-zip = 476
+is-application-zip = 480
 
 abbrev pub is-application-zstd : ℕ
-is-application-zstd = 477
+is-application-zstd = 481
 
 abbrev pub is-audio-aac : ℕ
-is-audio-aac = 478
+is-audio-aac = 482
 
 abbrev pub is-audio-ac3 : ℕ
-is-audio-ac3 = 479
+is-audio-ac3 = 483
 
 abbrev pub is-audio-amr : ℕ
-is-audio-amr = 480
+is-audio-amr = 484
 
 abbrev pub is-audio-basic : ℕ
-is-audio-basic = 481
+is-audio-basic = 485
 
 abbrev pub is-audio-eac3 : ℕ
-is-audio-eac3 = 482
+is-audio-eac3 = 486
 
 abbrev pub is-audio-m4a : ℕ
-is-audio-m4a = 483
+is-audio-m4a = 487
 
 abbrev pub is-audio-midi : ℕ
-is-audio-midi = 484
+is-audio-midi = 488
 
 abbrev pub is-audio-mpeg : ℕ
-is-audio-mpeg = 485
+is-audio-mpeg = 489
 
 abbrev pub is-audio-ogg-as-row-oga : ℕ
-is-audio-ogg-as-row-oga = 486
+is-audio-ogg-as-row-oga = 490
 
 abbrev pub is-audio-ogg-as-row-ogg : ℕ
-is-audio-ogg-as-row-ogg = 487
+is-audio-ogg-as-row-ogg = 491
 
 abbrev pub is-audio-opus : ℕ
-is-audio-opus = 488
+is-audio-opus = 492
 
 abbrev pub is-audio-prs-sid : ℕ
-is-audio-prs-sid = 489
+is-audio-prs-sid = 493
 
 abbrev pub is-audio-sf2 : ℕ
-is-audio-sf2 = 490
+is-audio-sf2 = 494
 
 abbrev pub is-audio-vnd-audible : ℕ
-is-audio-vnd-audible = 491
+is-audio-vnd-audible = 495
 
 abbrev pub is-audio-vnd-dts : ℕ
-is-audio-vnd-dts = 492
+is-audio-vnd-dts = 496
 
 abbrev pub is-audio-vnd-rn-realaudio : ℕ
-is-audio-vnd-rn-realaudio = 493
+is-audio-vnd-rn-realaudio = 497
 
 abbrev pub is-audio-webm : ℕ
-is-audio-webm = 494
+is-audio-webm = 498
 
 abbrev pub is-audio-x-abc : ℕ
-is-audio-x-abc = 495
+is-audio-x-abc = 499
 
 abbrev pub is-audio-x-aifc : ℕ
-is-audio-x-aifc = 496
+is-audio-x-aifc = 500
 
 abbrev pub is-audio-x-aiff : ℕ
-is-audio-x-aiff = 497
+is-audio-x-aiff = 501
 
 abbrev pub is-audio-x-ape : ℕ
-is-audio-x-ape = 498
+is-audio-x-ape = 502
 
 abbrev pub is-audio-x-caf : ℕ
-is-audio-x-caf = 499
+is-audio-x-caf = 503
 
 abbrev pub is-audio-x-dff : ℕ
-is-audio-x-dff = 500
+is-audio-x-dff = 504
 
 abbrev pub is-audio-x-dsf : ℕ
-is-audio-x-dsf = 501
+is-audio-x-dsf = 505
 
 abbrev pub is-audio-x-flac : ℕ
-is-audio-x-flac = 502
+is-audio-x-flac = 506
 
 abbrev pub is-audio-x-gsm : ℕ
-is-audio-x-gsm = 503
+is-audio-x-gsm = 507
 
 abbrev pub is-audio-x-it : ℕ
-is-audio-x-it = 504
+is-audio-x-it = 508
 
 abbrev pub is-audio-x-m4b : ℕ
-is-audio-x-m4b = 505
+is-audio-x-m4b = 509
 
 abbrev pub is-audio-x-matroska : ℕ
-is-audio-x-matroska = 506
+is-audio-x-matroska = 510
 
 abbrev pub is-audio-x-mo3 : ℕ
-is-audio-x-mo3 = 507
+is-audio-x-mo3 = 511
 
 abbrev pub is-audio-x-mod : ℕ
-is-audio-x-mod = 508
+is-audio-x-mod = 512
 
 abbrev pub is-audio-x-mpegurl : ℕ
-is-audio-x-mpegurl = 509
+is-audio-x-mpegurl = 513
 
 abbrev pub is-audio-x-ms-wma : ℕ
-is-audio-x-ms-wma = 510
+is-audio-x-ms-wma = 514
 
 abbrev pub is-audio-x-musepack : ℕ
-is-audio-x-musepack = 511
+is-audio-x-musepack = 515
 
 abbrev pub is-audio-x-s3m : ℕ
-is-audio-x-s3m = 512
+is-audio-x-s3m = 516
 
 abbrev pub is-audio-x-scpls : ℕ
-is-audio-x-scpls = 513
+is-audio-x-scpls = 517
+
+abbrev pub is-audio-x-speex-ogg : ℕ
+is-audio-x-speex-ogg = 518
 
 abbrev pub is-audio-x-tta : ℕ
-is-audio-x-tta = 514
+is-audio-x-tta = 519
 
 abbrev pub is-audio-x-voc : ℕ
-is-audio-x-voc = 515
+is-audio-x-voc = 520
 
 abbrev pub is-audio-x-wav : ℕ
-is-audio-x-wav = 516
+is-audio-x-wav = 521
 
 abbrev pub is-audio-x-wavpack : ℕ
-is-audio-x-wavpack = 517
+is-audio-x-wavpack = 522
 
 abbrev pub is-audio-x-xm : ℕ
-is-audio-x-xm = 518
+is-audio-x-xm = 523
 
 abbrev pub is-chemical-x-cdx : ℕ
-is-chemical-x-cdx = 519
+is-chemical-x-cdx = 524
 
 abbrev pub is-chemical-x-cif : ℕ
-is-chemical-x-cif = 520
+is-chemical-x-cif = 525
 
 abbrev pub is-chemical-x-mdl-molfile : ℕ
-is-chemical-x-mdl-molfile = 521
+is-chemical-x-mdl-molfile = 526
 
 abbrev pub is-chemical-x-mdl-sdfile : ℕ
-is-chemical-x-mdl-sdfile = 522
+is-chemical-x-mdl-sdfile = 527
 
 abbrev pub is-chemical-x-pdb : ℕ
-is-chemical-x-pdb = 523
+is-chemical-x-pdb = 528
 
 abbrev pub is-chemical-x-xyz : ℕ
-is-chemical-x-xyz = 524
+is-chemical-x-xyz = 529
 
 abbrev pub is-font-collection : ℕ
-is-font-collection = 525
+is-font-collection = 530
 
 abbrev pub is-image-apng : ℕ
-is-image-apng = 526
+is-image-apng = 531
 
 abbrev pub is-image-astc : ℕ
-is-image-astc = 527
+is-image-astc = 532
 
 abbrev pub is-image-avif : ℕ
-is-image-avif = 528
+is-image-avif = 533
 
 abbrev pub is-image-bmp : ℕ
-is-image-bmp = 529
+is-image-bmp = 534
 
 abbrev pub is-image-bpg : ℕ
-is-image-bpg = 530
+is-image-bpg = 535
 
 abbrev pub is-image-emf : ℕ
-is-image-emf = 531
+is-image-emf = 536
 
 abbrev pub is-image-fits : ℕ
-is-image-fits = 532
+is-image-fits = 537
 
 abbrev pub is-image-geotiff : ℕ
-is-image-geotiff = 533
+is-image-geotiff = 538
 
 abbrev pub is-image-gif : ℕ
-is-image-gif = 534
+is-image-gif = 539
 
 abbrev pub is-image-heic : ℕ
-is-image-heic = 535
+is-image-heic = 540
 
 abbrev pub is-image-heic-sequence : ℕ
-is-image-heic-sequence = 536
+is-image-heic-sequence = 541
 
 abbrev pub is-image-heif : ℕ
-is-image-heif = 537
+is-image-heif = 542
 
 abbrev pub is-image-jls : ℕ
-is-image-jls = 538
+is-image-jls = 543
 
 abbrev pub is-image-jp2 : ℕ
-is-image-jp2 = 539
+is-image-jp2 = 544
 
 abbrev pub is-image-jpeg : ℕ
-is-image-jpeg = 540
+is-image-jpeg = 545
 
 abbrev pub is-image-jpx : ℕ
-is-image-jpx = 541
+is-image-jpx = 546
 
 abbrev pub is-image-jxl : ℕ
-is-image-jxl = 542
+is-image-jxl = 547
 
 abbrev pub is-image-ktx : ℕ
-is-image-ktx = 543
+is-image-ktx = 548
 
 abbrev pub is-image-ktx2 : ℕ
-is-image-ktx2 = 544
+is-image-ktx2 = 549
 
 abbrev pub is-image-openraster : ℕ
-is-image-openraster = 545
+is-image-openraster = 550
 
 abbrev pub is-image-png : ℕ
-is-image-png = 546
+is-image-png = 551
 
 abbrev pub is-image-qoi : ℕ
-is-image-qoi = 547
+is-image-qoi = 552
 
 abbrev pub is-image-svg-xml : ℕ
-is-image-svg-xml = 548
+is-image-svg-xml = 553
 
 abbrev pub is-image-svg-xml-compressed : ℕ
-is-image-svg-xml-compressed = 549
+is-image-svg-xml-compressed = 554
 
 abbrev pub is-image-tiff : ℕ
-is-image-tiff = 550
+is-image-tiff = 555
 
 abbrev pub is-image-vnd-adobe-photoshop : ℕ
-is-image-vnd-adobe-photoshop = 551
+is-image-vnd-adobe-photoshop = 556
 
 abbrev pub is-image-vnd-djvu : ℕ
-is-image-vnd-djvu = 552
+is-image-vnd-djvu = 557
 
 abbrev pub is-image-vnd-dwg : ℕ
-is-image-vnd-dwg = 553
+is-image-vnd-dwg = 558
 
 abbrev pub is-image-vnd-dxf : ℕ
-is-image-vnd-dxf = 554
+is-image-vnd-dxf = 559
 
 abbrev pub is-image-vnd-fpx : ℕ
-is-image-vnd-fpx = 555
+is-image-vnd-fpx = 560
 
 abbrev pub is-image-vnd-microsoft-icon : ℕ
-is-image-vnd-microsoft-icon = 556
+is-image-vnd-microsoft-icon = 561
 
 abbrev pub is-image-vnd-ms-photo : ℕ
-is-image-vnd-ms-photo = 557
+is-image-vnd-ms-photo = 562
 
 abbrev pub is-image-vnd-radiance : ℕ
-is-image-vnd-radiance = 558
+is-image-vnd-radiance = 563
 
 abbrev pub is-image-vnd-zbrush-pcx : ℕ
-is-image-vnd-zbrush-pcx = 559
+is-image-vnd-zbrush-pcx = 564
 
 abbrev pub is-image-webp : ℕ
-is-image-webp = 560
+is-image-webp = 565
 
 abbrev pub is-image-wmf : ℕ
-is-image-wmf = 561
+is-image-wmf = 566
 
 abbrev pub is-image-x-3ds : ℕ
-is-image-x-3ds = 562
+is-image-x-3ds = 567
 
 abbrev pub is-image-x-adobe-dng : ℕ
-is-image-x-adobe-dng = 563
+is-image-x-adobe-dng = 568
 
 abbrev pub is-image-x-canon-cr2 : ℕ
-is-image-x-canon-cr2 = 564
+is-image-x-canon-cr2 = 569
 
 abbrev pub is-image-x-canon-cr3 : ℕ
-is-image-x-canon-cr3 = 565
+is-image-x-canon-cr3 = 570
 
 abbrev pub is-image-x-cmu-raster : ℕ
-is-image-x-cmu-raster = 566
+is-image-x-cmu-raster = 571
 
 abbrev pub is-image-x-dds : ℕ
-is-image-x-dds = 567
+is-image-x-dds = 572
 
 abbrev pub is-image-x-eps : ℕ
-is-image-x-eps = 568
+is-image-x-eps = 573
 
 abbrev pub is-image-x-epson-erf : ℕ
-is-image-x-epson-erf = 569
+is-image-x-epson-erf = 574
 
 abbrev pub is-image-x-exr : ℕ
-is-image-x-exr = 570
+is-image-x-exr = 575
 
 abbrev pub is-image-x-fuji-raf : ℕ
-is-image-x-fuji-raf = 571
+is-image-x-fuji-raf = 576
 
 abbrev pub is-image-x-gimp-gbr : ℕ
-is-image-x-gimp-gbr = 572
+is-image-x-gimp-gbr = 577
 
 abbrev pub is-image-x-gimp-pat : ℕ
-is-image-x-gimp-pat = 573
+is-image-x-gimp-pat = 578
 
 abbrev pub is-image-x-hasselblad-3fr : ℕ
-is-image-x-hasselblad-3fr = 574
+is-image-x-hasselblad-3fr = 579
 
 abbrev pub is-image-x-icns : ℕ
-is-image-x-icns = 575
+is-image-x-icns = 580
 
 abbrev pub is-image-x-ilbm : ℕ
-is-image-x-ilbm = 576
+is-image-x-ilbm = 581
 
 abbrev pub is-image-x-jp2-codestream : ℕ
-is-image-x-jp2-codestream = 577
+is-image-x-jp2-codestream = 582
 
 abbrev pub is-image-x-kodak-dcr : ℕ
-is-image-x-kodak-dcr = 578
+is-image-x-kodak-dcr = 583
 
 abbrev pub is-image-x-kodak-kdc : ℕ
-is-image-x-kodak-kdc = 579
+is-image-x-kodak-kdc = 584
 
 abbrev pub is-image-x-mamiya-mef : ℕ
-is-image-x-mamiya-mef = 580
+is-image-x-mamiya-mef = 585
 
 abbrev pub is-image-x-minolta-mrw : ℕ
-is-image-x-minolta-mrw = 581
+is-image-x-minolta-mrw = 586
 
 abbrev pub is-image-x-nikon-nef : ℕ
-is-image-x-nikon-nef = 582
+is-image-x-nikon-nef = 587
 
 abbrev pub is-image-x-nikon-nrw : ℕ
-is-image-x-nikon-nrw = 583
+is-image-x-nikon-nrw = 588
 
 abbrev pub is-image-x-olympus-orf : ℕ
-is-image-x-olympus-orf = 584
+is-image-x-olympus-orf = 589
 
 abbrev pub is-image-x-panasonic-rw2 : ℕ
-is-image-x-panasonic-rw2 = 585
+is-image-x-panasonic-rw2 = 590
 
 abbrev pub is-image-x-pentax-pef : ℕ
-is-image-x-pentax-pef = 586
+is-image-x-pentax-pef = 591
 
 abbrev pub is-image-x-pict : ℕ
-is-image-x-pict = 587
+is-image-x-pict = 592
 
 abbrev pub is-image-x-portable-anymap : ℕ
-is-image-x-portable-anymap = 588
+is-image-x-portable-anymap = 593
 
 abbrev pub is-image-x-portable-bitmap : ℕ
-is-image-x-portable-bitmap = 589
+is-image-x-portable-bitmap = 594
 
 abbrev pub is-image-x-portable-graymap : ℕ
-is-image-x-portable-graymap = 590
+is-image-x-portable-graymap = 595
 
 abbrev pub is-image-x-portable-pixmap : ℕ
-is-image-x-portable-pixmap = 591
+is-image-x-portable-pixmap = 596
 
 abbrev pub is-image-x-samsung-srw : ℕ
-is-image-x-samsung-srw = 592
+is-image-x-samsung-srw = 597
 
 abbrev pub is-image-x-sgi : ℕ
-is-image-x-sgi = 593
+is-image-x-sgi = 598
 
 abbrev pub is-image-x-sigma-x3f : ℕ
-is-image-x-sigma-x3f = 594
+is-image-x-sigma-x3f = 599
 
 abbrev pub is-image-x-sony-arw : ℕ
-is-image-x-sony-arw = 595
+is-image-x-sony-arw = 600
 
 abbrev pub is-image-x-sony-sr2 : ℕ
-is-image-x-sony-sr2 = 596
+is-image-x-sony-sr2 = 601
 
 abbrev pub is-image-x-sony-srf : ℕ
-is-image-x-sony-srf = 597
+is-image-x-sony-srf = 602
 
 abbrev pub is-image-x-tga : ℕ
-is-image-x-tga = 598
+is-image-x-tga = 603
 
 abbrev pub is-image-x-win-bitmap : ℕ
-is-image-x-win-bitmap = 599
+is-image-x-win-bitmap = 604
 
 abbrev pub is-image-x-xbitmap : ℕ
-is-image-x-xbitmap = 600
+is-image-x-xbitmap = 605
 
 abbrev pub is-image-x-xcf : ℕ
-is-image-x-xcf = 601
+is-image-x-xcf = 606
 
 abbrev pub is-image-x-xfig : ℕ
-is-image-x-xfig = 602
+is-image-x-xfig = 607
 
 abbrev pub is-image-x-xpixmap : ℕ
-is-image-x-xpixmap = 603
+is-image-x-xpixmap = 608
 
 abbrev pub is-image-x-xwindowdump : ℕ
-is-image-x-xwindowdump = 604
+is-image-x-xwindowdump = 609
 
 abbrev pub is-message-rfc822 : ℕ
-is-message-rfc822 = 605
+is-message-rfc822 = 610
 
 abbrev pub is-model-3mf : ℕ
-is-model-3mf = 606
+is-model-3mf = 611
 
 abbrev pub is-model-gltf-json : ℕ
-is-model-gltf-json = 607
+is-model-gltf-json = 612
 
 abbrev pub is-model-gltf-binary : ℕ
-is-model-gltf-binary = 608
+is-model-gltf-binary = 613
 
 abbrev pub is-model-iges : ℕ
-is-model-iges = 609
+is-model-iges = 614
 
 abbrev pub is-model-mtl : ℕ
-is-model-mtl = 610
+is-model-mtl = 615
 
 abbrev pub is-model-obj : ℕ
-is-model-obj = 611
+is-model-obj = 616
 
 abbrev pub is-model-step : ℕ
-is-model-step = 612
+is-model-step = 617
 
 abbrev pub is-model-stl : ℕ
-is-model-stl = 613
+is-model-stl = 618
 
 abbrev pub is-model-vnd-collada-xml : ℕ
-is-model-vnd-collada-xml = 614
+is-model-vnd-collada-xml = 619
 
 abbrev pub is-model-vnd-usdc : ℕ
-is-model-vnd-usdc = 615
+is-model-vnd-usdc = 620
 
 abbrev pub is-model-vrml : ℕ
-is-model-vrml = 616
+is-model-vrml = 621
 
 abbrev pub is-model-x3d-xml : ℕ
-is-model-x3d-xml = 617
+is-model-x3d-xml = 622
 
 abbrev pub is-model-x3d-vrml : ℕ
-is-model-x3d-vrml = 618
+is-model-x3d-vrml = 623
 
 abbrev pub is-multipart-related : ℕ
-is-multipart-related = 619
+is-multipart-related = 624
 
 abbrev pub is-text-cache-manifest : ℕ
-is-text-cache-manifest = 620
+is-text-cache-manifest = 625
 
 abbrev pub is-text-calendar : ℕ
-is-text-calendar = 621
+is-text-calendar = 626
 
 abbrev pub is-text-cql : ℕ
-is-text-cql = 622
+is-text-cql = 627
 
 abbrev pub is-text-css : ℕ
-is-text-css = 623
+is-text-css = 628
 
 abbrev pub is-text-csv : ℕ
-is-text-csv = 624
+is-text-csv = 629
 
 abbrev pub is-text-html : ℕ
-is-text-html = 625
+is-text-html = 630
 
 abbrev pub is-text-javascript : ℕ
-is-text-javascript = 626
+is-text-javascript = 631
 
 abbrev pub is-text-markdown : ℕ
-is-text-markdown = 627
+is-text-markdown = 632
 
 abbrev pub is-text-mdx : ℕ
-is-text-mdx = 628
+is-text-mdx = 633
 
 abbrev pub is-text-n3 : ℕ
-is-text-n3 = 629
+is-text-n3 = 634
 
 abbrev pub is-text-org : ℕ
-is-text-org = 630
+is-text-org = 635
 
 abbrev pub is-text-plain : ℕ
-is-text-plain = 631
+is-text-plain = 636
 
 abbrev pub is-text-rust : ℕ
-is-text-rust = 632
+is-text-rust = 637
 
 abbrev pub is-text-sgml : ℕ
-is-text-sgml = 633
+is-text-sgml = 638
 
 abbrev pub is-text-tab-separated-values : ℕ
-is-text-tab-separated-values = 634
+is-text-tab-separated-values = 639
 
 abbrev pub is-text-troff : ℕ
-is-text-troff = 635
+is-text-troff = 640
 
 abbrev pub is-text-turtle : ℕ
-is-text-turtle = 636
+is-text-turtle = 641
 
 abbrev pub is-text-uri-list : ℕ
-is-text-uri-list = 637
+is-text-uri-list = 642
 
 abbrev pub is-text-vbscript : ℕ
-is-text-vbscript = 638
+is-text-vbscript = 643
 
 abbrev pub is-text-vcard : ℕ
-is-text-vcard = 639
+is-text-vcard = 644
 
 abbrev pub is-text-velocity : ℕ
-is-text-velocity = 640
+is-text-velocity = 645
 
 abbrev pub is-text-vnd-familysearch-gedcom : ℕ
-is-text-vnd-familysearch-gedcom = 641
+is-text-vnd-familysearch-gedcom = 646
 
 abbrev pub is-text-vnd-graphviz : ℕ
-is-text-vnd-graphviz = 642
+is-text-vnd-graphviz = 647
 
 abbrev pub is-text-vnd-trolltech-linguist : ℕ
-is-text-vnd-trolltech-linguist = 643
+is-text-vnd-trolltech-linguist = 648
 
 abbrev pub is-text-vnd-wap-wml : ℕ
-is-text-vnd-wap-wml = 644
+is-text-vnd-wap-wml = 649
 
 abbrev pub is-text-vtt : ℕ
-is-text-vtt = 645
+is-text-vtt = 650
 
 abbrev pub is-text-wgsl : ℕ
-is-text-wgsl = 646
+is-text-wgsl = 651
 
 abbrev pub is-text-x-abap : ℕ
-is-text-x-abap = 647
+is-text-x-abap = 652
 
 abbrev pub is-text-x-adasrc : ℕ
-is-text-x-adasrc = 648
+is-text-x-adasrc = 653
 
 abbrev pub is-text-x-agda : ℕ
-is-text-x-agda = 649
+is-text-x-agda = 654
 
 abbrev pub is-text-x-aidl : ℕ
-is-text-x-aidl = 650
+is-text-x-aidl = 655
 
 abbrev pub is-text-x-ampl : ℕ
-is-text-x-ampl = 651
+is-text-x-ampl = 656
 
 abbrev pub is-text-x-antlr : ℕ
-is-text-x-antlr = 652
+is-text-x-antlr = 657
 
 abbrev pub is-text-x-apacheconf : ℕ
-is-text-x-apacheconf = 653
+is-text-x-apacheconf = 658
 
 abbrev pub is-text-x-apex : ℕ
-is-text-x-apex = 654
+is-text-x-apex = 659
 
 abbrev pub is-text-x-apl : ℕ
-is-text-x-apl = 655
+is-text-x-apl = 660
 
 abbrev pub is-text-x-applescript : ℕ
-is-text-x-applescript = 656
+is-text-x-applescript = 661
 
 abbrev pub is-text-x-asciidoc : ℕ
-is-text-x-asciidoc = 657
+is-text-x-asciidoc = 662
 
 abbrev pub is-text-x-asm : ℕ
-is-text-x-asm = 658
+is-text-x-asm = 663
 
 abbrev pub is-text-x-asn1 : ℕ
-is-text-x-asn1 = 659
+is-text-x-asn1 = 664
 
 abbrev pub is-text-x-astro : ℕ
-is-text-x-astro = 660
+is-text-x-astro = 665
 
 abbrev pub is-text-x-asymptote : ℕ
-is-text-x-asymptote = 661
+is-text-x-asymptote = 666
 
 abbrev pub is-text-x-autoconf : ℕ
-is-text-x-autoconf = 662
+is-text-x-autoconf = 667
 
 abbrev pub is-text-x-autohotkey : ℕ
-is-text-x-autohotkey = 663
+is-text-x-autohotkey = 668
 
 abbrev pub is-text-x-autoit : ℕ
-is-text-x-autoit = 664
+is-text-x-autoit = 669
 
 abbrev pub is-text-x-automake : ℕ
-is-text-x-automake = 665
+is-text-x-automake = 670
 
 abbrev pub is-text-x-awk : ℕ
-is-text-x-awk = 666
+is-text-x-awk = 671
 
 abbrev pub is-text-x-ballerina : ℕ
-is-text-x-ballerina = 667
+is-text-x-ballerina = 672
 
 abbrev pub is-text-x-basic : ℕ
-is-text-x-basic = 668
+is-text-x-basic = 673
 
 abbrev pub is-text-x-bats : ℕ
-is-text-x-bats = 669
+is-text-x-bats = 674
 
 abbrev pub is-text-x-bc : ℕ
-is-text-x-bc = 670
+is-text-x-bc = 675
 
 abbrev pub is-text-x-bed : ℕ
-is-text-x-bed = 671
+is-text-x-bed = 676
 
 abbrev pub is-text-x-bibtex : ℕ
-is-text-x-bibtex = 672
+is-text-x-bibtex = 677
 
 abbrev pub is-text-x-bicep : ℕ
-is-text-x-bicep = 673
+is-text-x-bicep = 678
 
 abbrev pub is-text-x-bitbake : ℕ
-is-text-x-bitbake = 674
+is-text-x-bitbake = 679
 
 abbrev pub is-text-x-blade : ℕ
-is-text-x-blade = 675
+is-text-x-blade = 680
 
 abbrev pub is-text-x-bluespec : ℕ
-is-text-x-bluespec = 676
+is-text-x-bluespec = 681
 
 abbrev pub is-text-x-boo : ℕ
-is-text-x-boo = 677
+is-text-x-boo = 682
 
 abbrev pub is-text-x-bpftrace : ℕ
-is-text-x-bpftrace = 678
+is-text-x-bpftrace = 683
 
 abbrev pub is-text-x-bugs : ℕ
-is-text-x-bugs = 679
+is-text-x-bugs = 684
 
 abbrev pub is-text-x-c-hdr : ℕ
-is-text-x-c-hdr = 680
+is-text-x-c-hdr = 685
 
 abbrev pub is-text-x-c-src : ℕ
-is-text-x-c-src = 681
+is-text-x-c-src = 686
 
 abbrev pub is-text-x-cabal : ℕ
-is-text-x-cabal = 682
+is-text-x-cabal = 687
 
 abbrev pub is-text-x-cairo : ℕ
-is-text-x-cairo = 683
+is-text-x-cairo = 688
 
 abbrev pub is-text-x-capnp : ℕ
-is-text-x-capnp = 684
+is-text-x-capnp = 689
 
 abbrev pub is-text-x-cfm : ℕ
-is-text-x-cfm = 685
+is-text-x-cfm = 690
 
 abbrev pub is-text-x-chapel : ℕ
-is-text-x-chapel = 686
+is-text-x-chapel = 691
 
 abbrev pub is-text-x-chdr : ℕ
-is-text-x-chdr = 687
+is-text-x-chdr = 692
 
 abbrev pub is-text-x-checksums : ℕ
-is-text-x-checksums = 688
+is-text-x-checksums = 693
 
 abbrev pub is-text-x-chuck : ℕ
-is-text-x-chuck = 689
+is-text-x-chuck = 694
 
 abbrev pub is-text-x-clojure : ℕ
-is-text-x-clojure = 690
+is-text-x-clojure = 695
 
 abbrev pub is-text-x-cmake : ℕ
-is-text-x-cmake = 691
+is-text-x-cmake = 696
 
 abbrev pub is-text-x-cobol : ℕ
-is-text-x-cobol = 692
+is-text-x-cobol = 697
 
 abbrev pub is-text-x-cocci : ℕ
-is-text-x-cocci = 693
+is-text-x-cocci = 698
 
 abbrev pub is-text-x-common-lisp : ℕ
-is-text-x-common-lisp = 694
+is-text-x-common-lisp = 699
 
 abbrev pub is-text-x-component : ℕ
-is-text-x-component = 695
+is-text-x-component = 700
 
 abbrev pub is-text-x-coq : ℕ
-is-text-x-coq = 696
+is-text-x-coq = 701
 
 abbrev pub is-text-x-cppconf : ℕ
-is-text-x-cppconf = 697
+is-text-x-cppconf = 702
 
 abbrev pub is-text-x-creole : ℕ
-is-text-x-creole = 698
+is-text-x-creole = 703
 
 abbrev pub is-text-x-cron : ℕ
-is-text-x-cron = 699
+is-text-x-cron = 704
 
 abbrev pub is-text-x-crystal : ℕ
-is-text-x-crystal = 700
+is-text-x-crystal = 705
 
 abbrev pub is-text-x-csharp : ℕ
-is-text-x-csharp = 701
+is-text-x-csharp = 706
 
 abbrev pub is-text-x-csound : ℕ
-is-text-x-csound = 702
+is-text-x-csound = 707
 
 abbrev pub is-text-x-csrc : ℕ
-is-text-x-csrc = 703
+is-text-x-csrc = 708
 
 abbrev pub is-text-x-cuda : ℕ
-is-text-x-cuda = 704
+is-text-x-cuda = 709
 
 abbrev pub is-text-x-cwl : ℕ
-is-text-x-cwl = 705
+is-text-x-cwl = 710
 
 abbrev pub is-text-x-cypher : ℕ
-is-text-x-cypher = 706
+is-text-x-cypher = 711
 
 abbrev pub is-text-x-cython : ℕ
-is-text-x-cython = 707
+is-text-x-cython = 712
 
 abbrev pub is-text-x-d2 : ℕ
-is-text-x-d2 = 708
+is-text-x-d2 = 713
 
 abbrev pub is-text-x-dart : ℕ
-is-text-x-dart = 709
+is-text-x-dart = 714
 
 abbrev pub is-text-x-debian-control : ℕ
-is-text-x-debian-control = 710
+is-text-x-debian-control = 715
 
 abbrev pub is-text-x-dhall : ℕ
-is-text-x-dhall = 711
+is-text-x-dhall = 716
 
 abbrev pub is-text-x-dimacs : ℕ
-is-text-x-dimacs = 712
+is-text-x-dimacs = 717
 
 abbrev pub is-text-x-dns-zone : ℕ
-is-text-x-dns-zone = 713
+is-text-x-dns-zone = 718
 
 abbrev pub is-text-x-dockerfile : ℕ
-is-text-x-dockerfile = 714
+is-text-x-dockerfile = 719
 
 abbrev pub is-text-x-dotenv : ℕ
-is-text-x-dotenv = 715
+is-text-x-dotenv = 720
 
 abbrev pub is-text-x-dsrc : ℕ
-is-text-x-dsrc = 716
+is-text-x-dsrc = 721
 
 abbrev pub is-text-x-dts : ℕ
-is-text-x-dts = 717
+is-text-x-dts = 722
 
 abbrev pub is-text-x-dune : ℕ
-is-text-x-dune = 718
+is-text-x-dune = 723
 
 abbrev pub is-text-x-ebnf : ℕ
-is-text-x-ebnf = 719
+is-text-x-ebnf = 724
 
 abbrev pub is-text-x-ebuild : ℕ
-is-text-x-ebuild = 720
+is-text-x-ebuild = 725
 
 abbrev pub is-text-x-editorconfig : ℕ
-is-text-x-editorconfig = 721
+is-text-x-editorconfig = 726
 
 abbrev pub is-text-x-eex : ℕ
-is-text-x-eex = 722
+is-text-x-eex = 727
 
 abbrev pub is-text-x-eiffel : ℕ
-is-text-x-eiffel = 723
+is-text-x-eiffel = 728
 
 abbrev pub is-text-x-ejs : ℕ
-is-text-x-ejs = 724
+is-text-x-ejs = 729
 
 abbrev pub is-text-x-elixir : ℕ
-is-text-x-elixir = 725
+is-text-x-elixir = 730
 
 abbrev pub is-text-x-elm : ℕ
-is-text-x-elm = 726
+is-text-x-elm = 731
 
 abbrev pub is-text-x-emacs-config : ℕ
-is-text-x-emacs-config = 727
+is-text-x-emacs-config = 732
 
 abbrev pub is-text-x-emacs-lisp : ℕ
-is-text-x-emacs-lisp = 728
+is-text-x-emacs-lisp = 733
 
 abbrev pub is-text-x-erlang : ℕ
-is-text-x-erlang = 729
+is-text-x-erlang = 734
 
 abbrev pub is-text-x-expect : ℕ
-is-text-x-expect = 730
+is-text-x-expect = 735
 
 abbrev pub is-text-x-factor : ℕ
-is-text-x-factor = 731
+is-text-x-factor = 736
 
 abbrev pub is-text-x-fasta : ℕ
-is-text-x-fasta = 732
+is-text-x-fasta = 737
 
 abbrev pub is-text-x-fastq : ℕ
-is-text-x-fastq = 733
+is-text-x-fastq = 738
 
 abbrev pub is-text-x-fennel : ℕ
-is-text-x-fennel = 734
+is-text-x-fennel = 739
 
 abbrev pub is-text-x-flatbuffers : ℕ
-is-text-x-flatbuffers = 735
+is-text-x-flatbuffers = 740
 
 abbrev pub is-text-x-fontforge-sfd : ℕ
-is-text-x-fontforge-sfd = 736
+is-text-x-fontforge-sfd = 741
 
 abbrev pub is-text-x-forth : ℕ
-is-text-x-forth = 737
+is-text-x-forth = 742
 
 abbrev pub is-text-x-fortran : ℕ
-is-text-x-fortran = 738
+is-text-x-fortran = 743
 
 abbrev pub is-text-x-fountain : ℕ
-is-text-x-fountain = 739
+is-text-x-fountain = 744
 
 abbrev pub is-text-x-freemarker : ℕ
-is-text-x-freemarker = 740
+is-text-x-freemarker = 745
 
 abbrev pub is-text-x-fsharp : ℕ
-is-text-x-fsharp = 741
+is-text-x-fsharp = 746
 
 abbrev pub is-text-x-gams : ℕ
-is-text-x-gams = 742
+is-text-x-gams = 747
 
 abbrev pub is-text-x-gap : ℕ
-is-text-x-gap = 743
+is-text-x-gap = 748
 
 abbrev pub is-text-x-gdb : ℕ
-is-text-x-gdb = 744
+is-text-x-gdb = 749
 
 abbrev pub is-text-x-genbank : ℕ
-is-text-x-genbank = 745
+is-text-x-genbank = 750
 
 abbrev pub is-text-x-genie : ℕ
-is-text-x-genie = 746
+is-text-x-genie = 751
 
 abbrev pub is-text-x-gerber : ℕ
-is-text-x-gerber = 747
+is-text-x-gerber = 752
 
 abbrev pub is-text-x-gettext-translation : ℕ
-is-text-x-gettext-translation = 748
+is-text-x-gettext-translation = 753
 
 abbrev pub is-text-x-gettext-translation-template : ℕ
-is-text-x-gettext-translation-template = 749
+is-text-x-gettext-translation-template = 754
 
 abbrev pub is-text-x-gff : ℕ
-is-text-x-gff = 750
+is-text-x-gff = 755
 
 abbrev pub is-text-x-gfortran-module : ℕ
-is-text-x-gfortran-module = 751
+is-text-x-gfortran-module = 756
 
 abbrev pub is-text-x-gherkin : ℕ
-is-text-x-gherkin = 752
+is-text-x-gherkin = 757
 
 abbrev pub is-text-x-gitattributes : ℕ
-is-text-x-gitattributes = 753
+is-text-x-gitattributes = 758
 
 abbrev pub is-text-x-gitconfig : ℕ
-is-text-x-gitconfig = 754
+is-text-x-gitconfig = 759
 
 abbrev pub is-text-x-gitignore : ℕ
-is-text-x-gitignore = 755
+is-text-x-gitignore = 760
 
 abbrev pub is-text-x-gleam : ℕ
-is-text-x-gleam = 756
+is-text-x-gleam = 761
 
 abbrev pub is-text-x-glsl : ℕ
-is-text-x-glsl = 757
+is-text-x-glsl = 762
 
 abbrev pub is-text-x-gn : ℕ
-is-text-x-gn = 758
+is-text-x-gn = 763
 
 abbrev pub is-text-x-go : ℕ
-is-text-x-go = 759
+is-text-x-go = 764
 
 abbrev pub is-text-x-gomod : ℕ
-is-text-x-gomod = 760
+is-text-x-gomod = 765
 
 abbrev pub is-text-x-gosum : ℕ
-is-text-x-gosum = 761
+is-text-x-gosum = 766
 
 abbrev pub is-text-x-gotemplate : ℕ
-is-text-x-gotemplate = 762
+is-text-x-gotemplate = 767
 
 abbrev pub is-text-x-gpr : ℕ
-is-text-x-gpr = 763
+is-text-x-gpr = 768
 
 abbrev pub is-text-x-gradle : ℕ
-is-text-x-gradle = 764
+is-text-x-gradle = 769
 
 abbrev pub is-text-x-groovy : ℕ
-is-text-x-groovy = 765
+is-text-x-groovy = 770
 
 abbrev pub is-text-x-haml : ℕ
-is-text-x-haml = 766
+is-text-x-haml = 771
 
 abbrev pub is-text-x-handlebars : ℕ
-is-text-x-handlebars = 767
+is-text-x-handlebars = 772
 
 abbrev pub is-text-x-haskell : ℕ
-is-text-x-haskell = 768
+is-text-x-haskell = 773
 
 abbrev pub is-text-x-haxe : ℕ
-is-text-x-haxe = 769
+is-text-x-haxe = 774
 
 abbrev pub is-text-x-hcl : ℕ
-is-text-x-hcl = 770
+is-text-x-hcl = 775
 
 abbrev pub is-text-x-hive : ℕ
-is-text-x-hive = 771
+is-text-x-hive = 776
 
 abbrev pub is-text-x-hlsl : ℕ
-is-text-x-hlsl = 772
+is-text-x-hlsl = 777
 
 abbrev pub is-text-x-http : ℕ
-is-text-x-http = 773
+is-text-x-http = 778
 
 abbrev pub is-text-x-hunspell-affix : ℕ
-is-text-x-hunspell-affix = 774
+is-text-x-hunspell-affix = 779
 
 abbrev pub is-text-x-hy : ℕ
-is-text-x-hy = 775
+is-text-x-hy = 780
 
 abbrev pub is-text-x-idl : ℕ
-is-text-x-idl = 776
+is-text-x-idl = 781
 
 abbrev pub is-text-x-idris : ℕ
-is-text-x-idris = 777
+is-text-x-idris = 782
 
 abbrev pub is-text-x-igor : ℕ
-is-text-x-igor = 778
+is-text-x-igor = 783
 
 abbrev pub is-text-x-imagej : ℕ
-is-text-x-imagej = 779
+is-text-x-imagej = 784
 
 abbrev pub is-text-x-ini : ℕ
-is-text-x-ini = 780
+is-text-x-ini = 785
 
 abbrev pub is-text-x-innosetup : ℕ
-is-text-x-innosetup = 781
+is-text-x-innosetup = 786
 
 abbrev pub is-text-x-io : ℕ
-is-text-x-io = 782
+is-text-x-io = 787
 
 abbrev pub is-text-x-ipxe : ℕ
-is-text-x-ipxe = 783
+is-text-x-ipxe = 788
 
 abbrev pub is-text-x-irclog : ℕ
-is-text-x-irclog = 784
+is-text-x-irclog = 789
 
 abbrev pub is-text-x-isabelle : ℕ
-is-text-x-isabelle = 785
+is-text-x-isabelle = 790
 
 abbrev pub is-text-x-janet : ℕ
-is-text-x-janet = 786
+is-text-x-janet = 791
 
 abbrev pub is-text-x-java : ℕ
-is-text-x-java = 787
+is-text-x-java = 792
 
 abbrev pub is-text-x-java-manifest : ℕ
-is-text-x-java-manifest = 788
+is-text-x-java-manifest = 793
 
 abbrev pub is-text-x-java-properties : ℕ
-is-text-x-java-properties = 789
+is-text-x-java-properties = 794
 
 abbrev pub is-text-x-jcl : ℕ
-is-text-x-jcl = 790
+is-text-x-jcl = 795
 
 abbrev pub is-text-x-jelly : ℕ
-is-text-x-jelly = 791
+is-text-x-jelly = 796
 
 abbrev pub is-text-x-jinja : ℕ
-is-text-x-jinja = 792
+is-text-x-jinja = 797
 
 abbrev pub is-text-x-jq : ℕ
-is-text-x-jq = 793
+is-text-x-jq = 798
 
 abbrev pub is-text-x-julia : ℕ
-is-text-x-julia = 794
+is-text-x-julia = 799
 
 abbrev pub is-text-x-just : ℕ
-is-text-x-just = 795
+is-text-x-just = 800
 
 abbrev pub is-text-x-kaitai-struct : ℕ
-is-text-x-kaitai-struct = 796
+is-text-x-kaitai-struct = 801
 
 abbrev pub is-text-x-kconfig : ℕ
-is-text-x-kconfig = 797
+is-text-x-kconfig = 802
 
 abbrev pub is-text-x-kickstart : ℕ
-is-text-x-kickstart = 798
+is-text-x-kickstart = 803
 
 abbrev pub is-text-x-kotlin : ℕ
-is-text-x-kotlin = 799
+is-text-x-kotlin = 804
 
 abbrev pub is-text-x-krl : ℕ
-is-text-x-krl = 800
+is-text-x-krl = 805
 
 abbrev pub is-text-x-kusto : ℕ
-is-text-x-kusto = 801
+is-text-x-kusto = 806
 
 abbrev pub is-text-x-latte : ℕ
-is-text-x-latte = 802
+is-text-x-latte = 807
 
 abbrev pub is-text-x-ld-script : ℕ
-is-text-x-ld-script = 803
+is-text-x-ld-script = 808
 
 abbrev pub is-text-x-ldif : ℕ
-is-text-x-ldif = 804
+is-text-x-ldif = 809
 
 abbrev pub is-text-x-lean : ℕ
-is-text-x-lean = 805
+is-text-x-lean = 810
 
 abbrev pub is-text-x-less : ℕ
-is-text-x-less = 806
+is-text-x-less = 811
 
 abbrev pub is-text-x-lex : ℕ
-is-text-x-lex = 807
+is-text-x-lex = 812
 
 abbrev pub is-text-x-lfe : ℕ
-is-text-x-lfe = 808
+is-text-x-lfe = 813
 
 abbrev pub is-text-x-lilypond : ℕ
-is-text-x-lilypond = 809
+is-text-x-lilypond = 814
 
 abbrev pub is-text-x-liquid : ℕ
-is-text-x-liquid = 810
+is-text-x-liquid = 815
 
 abbrev pub is-text-x-literate-haskell : ℕ
-is-text-x-literate-haskell = 811
+is-text-x-literate-haskell = 816
 
 abbrev pub is-text-x-livescript : ℕ
-is-text-x-livescript = 812
+is-text-x-livescript = 817
 
 abbrev pub is-text-x-llvm : ℕ
-is-text-x-llvm = 813
+is-text-x-llvm = 818
 
 abbrev pub is-text-x-logtalk : ℕ
-is-text-x-logtalk = 814
+is-text-x-logtalk = 819
 
 abbrev pub is-text-x-lsl : ℕ
-is-text-x-lsl = 815
+is-text-x-lsl = 820
 
 abbrev pub is-text-x-lua : ℕ
-is-text-x-lua = 816
+is-text-x-lua = 821
 
 abbrev pub is-text-x-makefile : ℕ
-is-text-x-makefile = 817
+is-text-x-makefile = 822
 
 abbrev pub is-text-x-mako : ℕ
-is-text-x-mako = 818
+is-text-x-mako = 823
 
 abbrev pub is-text-x-marko : ℕ
-is-text-x-marko = 819
+is-text-x-marko = 824
 
 abbrev pub is-text-x-matlab : ℕ
-is-text-x-matlab = 820
+is-text-x-matlab = 825
 
 abbrev pub is-text-x-maven-xml : ℕ
-is-text-x-maven-xml = 821
+is-text-x-maven-xml = 826
 
 abbrev pub is-text-x-maxima : ℕ
-is-text-x-maxima = 822
+is-text-x-maxima = 827
 
 abbrev pub is-text-x-mcfunction : ℕ
-is-text-x-mcfunction = 823
+is-text-x-mcfunction = 828
 
 abbrev pub is-text-x-mediawiki : ℕ
-is-text-x-mediawiki = 824
+is-text-x-mediawiki = 829
 
 abbrev pub is-text-x-mermaid : ℕ
-is-text-x-mermaid = 825
+is-text-x-mermaid = 830
 
 abbrev pub is-text-x-meson : ℕ
-is-text-x-meson = 826
+is-text-x-meson = 831
 
 abbrev pub is-text-x-metafont : ℕ
-is-text-x-metafont = 827
+is-text-x-metafont = 832
 
 abbrev pub is-text-x-metal : ℕ
-is-text-x-metal = 828
+is-text-x-metal = 833
 
 abbrev pub is-text-x-mib : ℕ
-is-text-x-mib = 829
+is-text-x-mib = 834
 
 abbrev pub is-text-x-mirc : ℕ
-is-text-x-mirc = 830
+is-text-x-mirc = 835
 
 abbrev pub is-text-x-mlir : ℕ
-is-text-x-mlir = 831
+is-text-x-mlir = 836
 
 abbrev pub is-text-x-modelica : ℕ
-is-text-x-modelica = 832
+is-text-x-modelica = 837
 
 abbrev pub is-text-x-modula : ℕ
-is-text-x-modula = 833
+is-text-x-modula = 838
 
 abbrev pub is-text-x-mojo : ℕ
-is-text-x-mojo = 834
+is-text-x-mojo = 839
 
 abbrev pub is-text-x-monkey : ℕ
-is-text-x-monkey = 835
+is-text-x-monkey = 840
 
 abbrev pub is-text-x-moonscript : ℕ
-is-text-x-moonscript = 836
+is-text-x-moonscript = 841
 
 abbrev pub is-text-x-move : ℕ
-is-text-x-move = 837
+is-text-x-move = 842
 
 abbrev pub is-text-x-ms-regedit : ℕ
-is-text-x-ms-regedit = 838
+is-text-x-ms-regedit = 843
 
 abbrev pub is-text-x-msdos-batch : ℕ
-is-text-x-msdos-batch = 839
+is-text-x-msdos-batch = 844
 
 abbrev pub is-text-x-newick : ℕ
-is-text-x-newick = 840
+is-text-x-newick = 845
 
 abbrev pub is-text-x-nextflow : ℕ
-is-text-x-nextflow = 841
+is-text-x-nextflow = 846
 
 abbrev pub is-text-x-nftables : ℕ
-is-text-x-nftables = 842
+is-text-x-nftables = 847
 
 abbrev pub is-text-x-nginx-conf : ℕ
-is-text-x-nginx-conf = 843
+is-text-x-nginx-conf = 848
 
 abbrev pub is-text-x-nim : ℕ
-is-text-x-nim = 844
+is-text-x-nim = 849
 
 abbrev pub is-text-x-ninja : ℕ
-is-text-x-ninja = 845
+is-text-x-ninja = 850
 
 abbrev pub is-text-x-nix : ℕ
-is-text-x-nix = 846
+is-text-x-nix = 851
 
 abbrev pub is-text-x-nsis : ℕ
-is-text-x-nsis = 847
+is-text-x-nsis = 852
 
 abbrev pub is-text-x-nushell : ℕ
-is-text-x-nushell = 848
+is-text-x-nushell = 853
 
 abbrev pub is-text-x-objc-src : ℕ
-is-text-x-objc-src = 849
+is-text-x-objc-src = 854
 
 abbrev pub is-text-x-objcsrc : ℕ
-is-text-x-objcsrc = 850
+is-text-x-objcsrc = 855
 
 abbrev pub is-text-x-ocaml : ℕ
-is-text-x-ocaml = 851
+is-text-x-ocaml = 856
 
 abbrev pub is-text-x-octave : ℕ
-is-text-x-octave = 852
+is-text-x-octave = 857
 
 abbrev pub is-text-x-odin : ℕ
-is-text-x-odin = 853
+is-text-x-odin = 858
 
 abbrev pub is-text-x-ooc : ℕ
-is-text-x-ooc = 854
+is-text-x-ooc = 859
 
 abbrev pub is-text-x-opencl-src : ℕ
-is-text-x-opencl-src = 855
+is-text-x-opencl-src = 860
 
 abbrev pub is-text-x-openscad : ℕ
-is-text-x-openscad = 856
+is-text-x-openscad = 861
 
 abbrev pub is-text-x-opentype-feature : ℕ
-is-text-x-opentype-feature = 857
+is-text-x-opentype-feature = 862
 
 abbrev pub is-text-x-opml-xml : ℕ
-is-text-x-opml-xml = 858
+is-text-x-opml-xml = 863
 
 abbrev pub is-text-x-oz : ℕ
-is-text-x-oz = 859
+is-text-x-oz = 864
 
 abbrev pub is-text-x-pascal : ℕ
-is-text-x-pascal = 860
+is-text-x-pascal = 865
 
 abbrev pub is-text-x-patch : ℕ
-is-text-x-patch = 861
+is-text-x-patch = 866
 
 abbrev pub is-text-x-pawn : ℕ
-is-text-x-pawn = 862
+is-text-x-pawn = 867
 
 abbrev pub is-text-x-perl : ℕ
-is-text-x-perl = 863
+is-text-x-perl = 868
 
 abbrev pub is-text-x-php : ℕ
-is-text-x-php = 864
+is-text-x-php = 869
 
 abbrev pub is-text-x-pic : ℕ
-is-text-x-pic = 865
+is-text-x-pic = 870
 
 abbrev pub is-text-x-pig : ℕ
-is-text-x-pig = 866
+is-text-x-pig = 871
 
 abbrev pub is-text-x-pike : ℕ
-is-text-x-pike = 867
+is-text-x-pike = 872
 
 abbrev pub is-text-x-pkg-config : ℕ
-is-text-x-pkg-config = 868
+is-text-x-pkg-config = 873
 
 abbrev pub is-text-x-plantuml : ℕ
-is-text-x-plantuml = 869
+is-text-x-plantuml = 874
 
 abbrev pub is-text-x-pli : ℕ
-is-text-x-pli = 870
+is-text-x-pli = 875
 
 abbrev pub is-text-x-pod : ℕ
-is-text-x-pod = 871
+is-text-x-pod = 876
 
 abbrev pub is-text-x-pony : ℕ
-is-text-x-pony = 872
+is-text-x-pony = 877
 
 abbrev pub is-text-x-postcss : ℕ
-is-text-x-postcss = 873
+is-text-x-postcss = 878
 
 abbrev pub is-text-x-praat : ℕ
-is-text-x-praat = 874
+is-text-x-praat = 879
 
 abbrev pub is-text-x-preseed : ℕ
-is-text-x-preseed = 875
+is-text-x-preseed = 880
 
 abbrev pub is-text-x-prisma : ℕ
-is-text-x-prisma = 876
+is-text-x-prisma = 881
 
 abbrev pub is-text-x-procfile : ℕ
-is-text-x-procfile = 877
+is-text-x-procfile = 882
 
 abbrev pub is-text-x-prolog : ℕ
-is-text-x-prolog = 878
+is-text-x-prolog = 883
 
 abbrev pub is-text-x-protobuf : ℕ
-is-text-x-protobuf = 879
+is-text-x-protobuf = 884
 
 abbrev pub is-text-x-psv : ℕ
-is-text-x-psv = 880
+is-text-x-psv = 885
 
 abbrev pub is-text-x-pth : ℕ
-is-text-x-pth = 881
+is-text-x-pth = 886
 
 abbrev pub is-text-x-pug : ℕ
-is-text-x-pug = 882
+is-text-x-pug = 887
 
 abbrev pub is-text-x-puppet : ℕ
-is-text-x-puppet = 883
+is-text-x-puppet = 888
 
 abbrev pub is-text-x-purescript : ℕ
-is-text-x-purescript = 884
+is-text-x-purescript = 889
 
 abbrev pub is-text-x-python-as-known : ℕ
-is-text-x-python-as-known = 885
+is-text-x-python-as-known = 890
 
 abbrev pub is-text-x-python-as-row-py : ℕ
-is-text-x-python-as-row-py = 886
+is-text-x-python-as-row-py = 891
 
 abbrev pub is-text-x-qmake : ℕ
-is-text-x-qmake = 887
+is-text-x-qmake = 892
 
 abbrev pub is-text-x-qml : ℕ
-is-text-x-qml = 888
+is-text-x-qml = 893
 
 abbrev pub is-text-x-r-doc : ℕ
-is-text-x-r-doc = 889
+is-text-x-r-doc = 894
 
 abbrev pub is-text-x-racket : ℕ
-is-text-x-racket = 890
+is-text-x-racket = 895
 
 abbrev pub is-text-x-ragel : ℕ
-is-text-x-ragel = 891
+is-text-x-ragel = 896
 
 abbrev pub is-text-x-raku : ℕ
-is-text-x-raku = 892
+is-text-x-raku = 897
 
 abbrev pub is-text-x-razor : ℕ
-is-text-x-razor = 893
+is-text-x-razor = 898
 
 abbrev pub is-text-x-rdoc : ℕ
-is-text-x-rdoc = 894
+is-text-x-rdoc = 899
 
 abbrev pub is-text-x-readline : ℕ
-is-text-x-readline = 895
+is-text-x-readline = 900
 
 abbrev pub is-text-x-reason : ℕ
-is-text-x-reason = 896
+is-text-x-reason = 901
 
 abbrev pub is-text-x-rebol : ℕ
-is-text-x-rebol = 897
+is-text-x-rebol = 902
 
 abbrev pub is-text-x-red : ℕ
-is-text-x-red = 898
+is-text-x-red = 903
 
 abbrev pub is-text-x-rego : ℕ
-is-text-x-rego = 899
+is-text-x-rego = 904
 
 abbrev pub is-text-x-reject : ℕ
-is-text-x-reject = 900
+is-text-x-reject = 905
 
 abbrev pub is-text-x-rexx : ℕ
-is-text-x-rexx = 901
+is-text-x-rexx = 906
 
 abbrev pub is-text-x-ring : ℕ
-is-text-x-ring = 902
+is-text-x-ring = 907
 
 abbrev pub is-text-x-rmarkdown : ℕ
-is-text-x-rmarkdown = 903
+is-text-x-rmarkdown = 908
 
 abbrev pub is-text-x-robotframework : ℕ
-is-text-x-robotframework = 904
+is-text-x-robotframework = 909
 
 abbrev pub is-text-x-roc : ℕ
-is-text-x-roc = 905
+is-text-x-roc = 910
 
 abbrev pub is-text-x-rpgle : ℕ
-is-text-x-rpgle = 906
+is-text-x-rpgle = 911
 
 abbrev pub is-text-x-rpm-spec : ℕ
-is-text-x-rpm-spec = 907
+is-text-x-rpm-spec = 912
 
 abbrev pub is-text-x-rsrc : ℕ
-is-text-x-rsrc = 908
+is-text-x-rsrc = 913
 
 abbrev pub is-text-x-rst : ℕ
-is-text-x-rst = 909
+is-text-x-rst = 914
 
 abbrev pub is-text-x-ruby : ℕ
-is-text-x-ruby = 910
+is-text-x-ruby = 915
 
 abbrev pub is-text-x-sagemath : ℕ
-is-text-x-sagemath = 911
+is-text-x-sagemath = 916
 
 abbrev pub is-text-x-sam : ℕ
-is-text-x-sam = 912
+is-text-x-sam = 917
 
 abbrev pub is-text-x-sas : ℕ
-is-text-x-sas = 913
+is-text-x-sas = 918
 
 abbrev pub is-text-x-sass : ℕ
-is-text-x-sass = 914
+is-text-x-sass = 919
 
 abbrev pub is-text-x-scala : ℕ
-is-text-x-scala = 915
+is-text-x-scala = 920
 
 abbrev pub is-text-x-scheme : ℕ
-is-text-x-scheme = 916
+is-text-x-scheme = 921
 
 abbrev pub is-text-x-scilab : ℕ
-is-text-x-scilab = 917
+is-text-x-scilab = 922
 
 abbrev pub is-text-x-scons : ℕ
-is-text-x-scons = 918
+is-text-x-scons = 923
 
 abbrev pub is-text-x-scss : ℕ
-is-text-x-scss = 919
+is-text-x-scss = 924
 
 abbrev pub is-text-x-sdc : ℕ
-is-text-x-sdc = 920
+is-text-x-sdc = 925
 
 abbrev pub is-text-x-sed : ℕ
-is-text-x-sed = 921
+is-text-x-sed = 926
 
 abbrev pub is-text-x-selinux : ℕ
-is-text-x-selinux = 922
+is-text-x-selinux = 927
 
 abbrev pub is-text-x-setext : ℕ
-is-text-x-setext = 923
+is-text-x-setext = 928
 
 abbrev pub is-text-x-shell-config : ℕ
-is-text-x-shell-config = 924
+is-text-x-shell-config = 929
 
 abbrev pub is-text-x-shellscript : ℕ
-is-text-x-shellscript = 925
+is-text-x-shellscript = 930
 
 abbrev pub is-text-x-sieve : ℕ
-is-text-x-sieve = 926
+is-text-x-sieve = 931
 
 abbrev pub is-text-x-slim : ℕ
-is-text-x-slim = 927
+is-text-x-slim = 932
 
 abbrev pub is-text-x-slint : ℕ
-is-text-x-slint = 928
+is-text-x-slint = 933
 
 abbrev pub is-text-x-sln : ℕ
-is-text-x-sln = 929
+is-text-x-sln = 934
 
 abbrev pub is-text-x-smali : ℕ
-is-text-x-smali = 930
+is-text-x-smali = 935
 
 abbrev pub is-text-x-smarty : ℕ
-is-text-x-smarty = 931
+is-text-x-smarty = 936
 
 abbrev pub is-text-x-sml : ℕ
-is-text-x-sml = 932
+is-text-x-sml = 937
 
 abbrev pub is-text-x-smt : ℕ
-is-text-x-smt = 933
+is-text-x-smt = 938
 
 abbrev pub is-text-x-snakemake : ℕ
-is-text-x-snakemake = 934
+is-text-x-snakemake = 939
 
 abbrev pub is-text-x-solidity : ℕ
-is-text-x-solidity = 935
+is-text-x-solidity = 940
 
 abbrev pub is-text-x-sourcepawn : ℕ
-is-text-x-sourcepawn = 936
+is-text-x-sourcepawn = 941
 
 abbrev pub is-text-x-soy : ℕ
-is-text-x-soy = 937
+is-text-x-soy = 942
 
 abbrev pub is-text-x-spice : ℕ
-is-text-x-spice = 938
+is-text-x-spice = 943
 
 abbrev pub is-text-x-spin : ℕ
-is-text-x-spin = 939
+is-text-x-spin = 944
 
 abbrev pub is-text-x-squirrel : ℕ
-is-text-x-squirrel = 940
+is-text-x-squirrel = 945
 
 abbrev pub is-text-x-ssa : ℕ
-is-text-x-ssa = 941
+is-text-x-ssa = 946
 
 abbrev pub is-text-x-stan : ℕ
-is-text-x-stan = 942
+is-text-x-stan = 947
 
 abbrev pub is-text-x-starlark : ℕ
-is-text-x-starlark = 943
+is-text-x-starlark = 948
 
 abbrev pub is-text-x-stata : ℕ
-is-text-x-stata = 944
+is-text-x-stata = 949
 
 abbrev pub is-text-x-strings : ℕ
-is-text-x-strings = 945
+is-text-x-strings = 950
 
 abbrev pub is-text-x-stylus : ℕ
-is-text-x-stylus = 946
+is-text-x-stylus = 951
 
 abbrev pub is-text-x-subviewer : ℕ
-is-text-x-subviewer = 947
+is-text-x-subviewer = 952
 
 abbrev pub is-text-x-supercollider : ℕ
-is-text-x-supercollider = 948
+is-text-x-supercollider = 953
 
 abbrev pub is-text-x-svelte : ℕ
-is-text-x-svelte = 949
+is-text-x-svelte = 954
 
 abbrev pub is-text-x-svhdr : ℕ
-is-text-x-svhdr = 950
+is-text-x-svhdr = 955
 
 abbrev pub is-text-x-svsrc : ℕ
-is-text-x-svsrc = 951
+is-text-x-svsrc = 956
 
 abbrev pub is-text-x-swift : ℕ
-is-text-x-swift = 952
+is-text-x-swift = 957
 
 abbrev pub is-text-x-systemd-unit : ℕ
-is-text-x-systemd-unit = 953
+is-text-x-systemd-unit = 958
 
 abbrev pub is-text-x-tablegen : ℕ
-is-text-x-tablegen = 954
+is-text-x-tablegen = 959
 
 abbrev pub is-text-x-tcl : ℕ
-is-text-x-tcl = 955
+is-text-x-tcl = 960
 
 abbrev pub is-text-x-template-toolkit : ℕ
-is-text-x-template-toolkit = 956
+is-text-x-template-toolkit = 961
 
 abbrev pub is-text-x-tex : ℕ
-is-text-x-tex = 957
+is-text-x-tex = 962
 
 abbrev pub is-text-x-texinfo : ℕ
-is-text-x-texinfo = 958
+is-text-x-texinfo = 963
 
 abbrev pub is-text-x-textile : ℕ
-is-text-x-textile = 959
+is-text-x-textile = 964
 
 abbrev pub is-text-x-textproto : ℕ
-is-text-x-textproto = 960
+is-text-x-textproto = 965
 
 abbrev pub is-text-x-thrift : ℕ
-is-text-x-thrift = 961
+is-text-x-thrift = 966
 
 abbrev pub is-text-x-tla : ℕ
-is-text-x-tla = 962
+is-text-x-tla = 967
 
 abbrev pub is-text-x-tmux-conf : ℕ
-is-text-x-tmux-conf = 963
+is-text-x-tmux-conf = 968
 
 abbrev pub is-text-x-tsx : ℕ
-is-text-x-tsx = 964
+is-text-x-tsx = 969
 
 abbrev pub is-text-x-twig : ℕ
-is-text-x-twig = 965
+is-text-x-twig = 970
 
 abbrev pub is-text-x-txt2tags : ℕ
-is-text-x-txt2tags = 966
+is-text-x-txt2tags = 971
 
 abbrev pub is-text-x-typescript : ℕ
-is-text-x-typescript = 967
+is-text-x-typescript = 972
 
 abbrev pub is-text-x-typst : ℕ
-is-text-x-typst = 968
+is-text-x-typst = 973
 
 abbrev pub is-text-x-uc : ℕ
-is-text-x-uc = 969
+is-text-x-uc = 974
 
 abbrev pub is-text-x-udev-rules : ℕ
-is-text-x-udev-rules = 970
+is-text-x-udev-rules = 975
 
 abbrev pub is-text-x-unity : ℕ
-is-text-x-unity = 971
+is-text-x-unity = 976
 
 abbrev pub is-text-x-uri : ℕ
-is-text-x-uri = 972
+is-text-x-uri = 977
 
 abbrev pub is-text-x-vagrantfile : ℕ
-is-text-x-vagrantfile = 973
+is-text-x-vagrantfile = 978
 
 abbrev pub is-text-x-vala : ℕ
-is-text-x-vala = 974
+is-text-x-vala = 979
 
 abbrev pub is-text-x-vb : ℕ
-is-text-x-vb = 975
+is-text-x-vb = 980
 
 abbrev pub is-text-x-vcl : ℕ
-is-text-x-vcl = 976
+is-text-x-vcl = 981
 
 abbrev pub is-text-x-vdf : ℕ
-is-text-x-vdf = 977
+is-text-x-vdf = 982
 
 abbrev pub is-text-x-verilog : ℕ
-is-text-x-verilog = 978
+is-text-x-verilog = 983
 
 abbrev pub is-text-x-vhdl : ℕ
-is-text-x-vhdl = 979
+is-text-x-vhdl = 984
 
 abbrev pub is-text-x-vim : ℕ
-is-text-x-vim = 980
+is-text-x-vim = 985
 
 abbrev pub is-text-x-vue : ℕ
-is-text-x-vue = 981
+is-text-x-vue = 986
 
 abbrev pub is-text-x-vyper : ℕ
-is-text-x-vyper = 982
+is-text-x-vyper = 987
 
 abbrev pub is-text-x-wat : ℕ
-is-text-x-wat = 983
+is-text-x-wat = 988
 
 abbrev pub is-text-x-wdl : ℕ
-is-text-x-wdl = 984
+is-text-x-wdl = 989
 
 abbrev pub is-text-x-wkt : ℕ
-is-text-x-wkt = 985
+is-text-x-wkt = 990
 
 abbrev pub is-text-x-wren : ℕ
-is-text-x-wren = 986
+is-text-x-wren = 991
 
 abbrev pub is-text-x-xcu-rng : ℕ
-is-text-x-xcu-rng = 987
+is-text-x-xcu-rng = 992
 
 abbrev pub is-text-x-xmi : ℕ
-is-text-x-xmi = 988
+is-text-x-xmi = 993
 
 abbrev pub is-text-x-xonsh : ℕ
-is-text-x-xonsh = 989
+is-text-x-xonsh = 994
 
 abbrev pub is-text-x-xresources : ℕ
-is-text-x-xresources = 990
+is-text-x-xresources = 995
 
 abbrev pub is-text-x-yacc : ℕ
-is-text-x-yacc = 991
+is-text-x-yacc = 996
 
 abbrev pub is-text-x-yang : ℕ
-is-text-x-yang = 992
+is-text-x-yang = 997
 
 abbrev pub is-text-x-zig : ℕ
-is-text-x-zig = 993
+is-text-x-zig = 998
 
 abbrev pub is-text-x-zimpl : ℕ
-is-text-x-zimpl = 994
+is-text-x-zimpl = 999
 
 abbrev pub is-text-x-gcode : ℕ
-is-text-x-gcode = 995
+is-text-x-gcode = 1000
 
 abbrev pub is-text-xml : ℕ
-is-text-xml = 996
+is-text-xml = 1001
 
 abbrev pub is-video-3gpp : ℕ
-is-video-3gpp = 997
+is-video-3gpp = 1002
 
 abbrev pub is-video-3gpp2 : ℕ
-is-video-3gpp2 = 998
+is-video-3gpp2 = 1003
 
 abbrev pub is-video-dv : ℕ
-is-video-dv = 999
+is-video-dv = 1004
 
 abbrev pub is-video-h264 : ℕ
-is-video-h264 = 1000
+is-video-h264 = 1005
 
 abbrev pub is-video-h265 : ℕ
-is-video-h265 = 1001
+is-video-h265 = 1006
 
 abbrev pub is-video-mj2 : ℕ
-is-video-mj2 = 1002
+is-video-mj2 = 1007
 
 abbrev pub is-video-mp2t : ℕ
-is-video-mp2t = 1003
+is-video-mp2t = 1008
 
 abbrev pub is-video-mp4 : ℕ
-is-video-mp4 = 1004
+is-video-mp4 = 1009
 
 abbrev pub is-video-mpeg : ℕ
-is-video-mpeg = 1005
+is-video-mpeg = 1010
 
 abbrev pub is-video-ogg : ℕ
-is-video-ogg = 1006
+is-video-ogg = 1011
 
 abbrev pub is-video-quicktime : ℕ
-is-video-quicktime = 1007
+is-video-quicktime = 1012
 
 abbrev pub is-video-vnd-radgamettools-smacker : ℕ
-is-video-vnd-radgamettools-smacker = 1008
+is-video-vnd-radgamettools-smacker = 1013
 
 abbrev pub is-video-webm : ℕ
-is-video-webm = 1009
+is-video-webm = 1014
 
 abbrev pub is-video-x-f4v : ℕ
-is-video-x-f4v = 1010
+is-video-x-f4v = 1015
 
 abbrev pub is-video-x-flic : ℕ
-is-video-x-flic = 1011
+is-video-x-flic = 1016
 
 abbrev pub is-video-x-flv : ℕ
-is-video-x-flv = 1012
+is-video-x-flv = 1017
 
 abbrev pub is-video-x-ivf : ℕ
-is-video-x-ivf = 1013
+is-video-x-ivf = 1018
 
 abbrev pub is-video-x-m4v : ℕ
-is-video-x-m4v = 1014
+is-video-x-m4v = 1019
 
 abbrev pub is-video-x-matroska : ℕ
-is-video-x-matroska = 1015
+is-video-x-matroska = 1020
 
 abbrev pub is-video-x-matroska-3d : ℕ
-is-video-x-matroska-3d = 1016
+is-video-x-matroska-3d = 1021
 
 abbrev pub is-video-x-mng : ℕ
-is-video-x-mng = 1017
+is-video-x-mng = 1022
 
 abbrev pub is-video-x-ms-wmv : ℕ
-is-video-x-ms-wmv = 1018
+is-video-x-ms-wmv = 1023
 
 abbrev pub is-video-x-msvideo : ℕ
-is-video-x-msvideo = 1019
+is-video-x-msvideo = 1024
 
 abbrev pub is-video-x-nsv : ℕ
-is-video-x-nsv = 1020
+is-video-x-nsv = 1025
 
 abbrev pub is-video-x-ogm-ogg : ℕ
-is-video-x-ogm-ogg = 1021
+is-video-x-ogm-ogg = 1026
 
 abbrev pub is-video-x-y4m : ℕ
-is-video-x-y4m = 1022
+is-video-x-y4m = 1027
 
 unfoldable pub types_0 : List NamedType
 types_0 =
@@ -3108,21 +3123,22 @@ types_0 =
     ∷ named (codes "application/ld+json") known
     ∷ named (codes "application/lrc") own
     ∷ named (codes "application/manifest+json") known
-    ∷ named (codes "application/mathml+xml") known
+    ∷ named (codes "application/mathml+xml") (row (codes "mml"))
     ∷ named (codes "application/mbox") known
     ∷ named (codes "application/metalink+xml") known
-    ∷ named (codes "application/metalink4+xml") known
+    ∷ named (codes "application/metalink4+xml") (row (codes "meta4"))
     ∷ named (codes "application/msgpack") own
     ∷ named (codes "application/msix") own
     ∷ named (codes "application/msword") (row (codes "doc"))
     ∷ named (codes "application/msword-template") known
-    ∷ named (codes "application/mxf") known
+    ∷ named (codes "application/mxf") (row (codes "mxf"))
     ∷ named (codes "application/n-quads") known
     ∷ named (codes "application/n-triples") known
     ∷ named (codes "application/octet-stream") (row (codes "eot"))
     ∷ named (codes "application/oebps-package+xml") known
     ∷ named (codes "application/onenote") known
     ∷ named (codes "application/onnx") own
+    ∷ named (codes "application/owl+xml") (row (codes "owx"))
     ∷ named (codes "application/oxps") known
     ∷ named (codes "application/pdf") (row (codes "pdf"))
     ∷ named (codes "application/pgp-encrypted") (row (codes "pgp"))
@@ -3135,13 +3151,13 @@ types_0 =
     ∷ named (codes "application/pkcs7-signature") known
     ∷ named (codes "application/pkcs8") known
     ∷ named (codes "application/pkix-cert") known
-    ∷ named (codes "application/pkix-crl") known
-    ∷ named (codes "application/postscript") (row (codes "ps"))
+    ∷ named (codes "application/pkix-crl") (row (codes "crl"))
     ∷ []
 
 unfoldable pub types_1 : List NamedType
 types_1 =
-    named (codes "application/protobuf") own
+    named (codes "application/postscript") (row (codes "ps"))
+    ∷ named (codes "application/protobuf") own
     ∷ named (codes "application/raml+yaml") known
     ∷ named (codes "application/rdf+xml") known
     ∷ named (codes "application/relax-ng-compact-syntax") known
@@ -3171,7 +3187,7 @@ types_1 =
     ∷ named (codes "application/vnd.apache.arrow.file") (row (codes "arrow"))
     ∷ named (codes "application/vnd.apache.parquet") (row (codes "parquet"))
     ∷ named (codes "application/vnd.appimage") (row (codes "appimage"))
-    ∷ named (codes "application/vnd.apple.keynote") known
+    ∷ named (codes "application/vnd.apple.keynote") (row (codes "application/vnd.apple.keynote"))
     ∷ named (codes "application/vnd.apple.mpegurl") (row (codes "m3u8"))
     ∷ named (codes "application/vnd.apple.numbers") known
     ∷ named (codes "application/vnd.apple.pages") known
@@ -3184,16 +3200,16 @@ types_1 =
     ∷ named (codes "application/vnd.dbf") (row (codes "dbf"))
     ∷ named (codes "application/vnd.debian.binary-package") (row (codes "deb"))
     ∷ named (codes "application/vnd.etsi.asic-e+zip") known
-    ∷ named (codes "application/vnd.flatpak") known
+    ∷ named (codes "application/vnd.flatpak") (row (codes "flatpak"))
     ∷ named (codes "application/vnd.garmin.tcx+xml") own
     ∷ named (codes "application/vnd.geogebra.file") known
     ∷ named (codes "application/vnd.google-earth.kml+xml") (row (codes "kml"))
     ∷ named (codes "application/vnd.google-earth.kmz") (row (codes "kmz"))
     ∷ named (codes "application/vnd.hp-pcl") known
-    ∷ named (codes "application/vnd.iccprofile") known
+    ∷ named (codes "application/vnd.iccprofile") (row (codes "icc"))
     ∷ named (codes "application/vnd.las") known
     ∷ named (codes "application/vnd.lotus-1-2-3") known
-    ∷ named (codes "application/vnd.lotus-wordpro") known
+    ∷ named (codes "application/vnd.lotus-wordpro") (row (codes "lwp"))
     ∷ named (codes "application/vnd.mbtiles") own
     ∷ named (codes "application/vnd.microsoft.portable-executable") (row (codes "exe"))
     ∷ named (codes "application/vnd.mozilla.webapp+json") own
@@ -3204,12 +3220,12 @@ types_1 =
     ∷ named (codes "application/vnd.ms-excel.addin.macroEnabled.12") known
     ∷ named (codes "application/vnd.ms-excel.sheet.binary.macroEnabled.12") known
     ∷ named (codes "application/vnd.ms-excel.sheet.macroEnabled.12") known
-    ∷ named (codes "application/vnd.ms-excel.template.macroEnabled.12") known
     ∷ []
 
 unfoldable pub types_2 : List NamedType
 types_2 =
-    named (codes "application/vnd.ms-htmlhelp") (row (codes "chm"))
+    named (codes "application/vnd.ms-excel.template.macroEnabled.12") known
+    ∷ named (codes "application/vnd.ms-htmlhelp") (row (codes "chm"))
     ∷ named (codes "application/vnd.ms-outlook") (row (codes "msg"))
     ∷ named (codes "application/vnd.ms-outlook-pst") (row (codes "pst"))
     ∷ named (codes "application/vnd.ms-powerpoint") (row (codes "ppt"))
@@ -3218,7 +3234,7 @@ types_2 =
     ∷ named (codes "application/vnd.ms-powerpoint.template.macroEnabled.12") known
     ∷ named (codes "application/vnd.ms-project") known
     ∷ named (codes "application/vnd.ms-publisher") (row (codes "pub"))
-    ∷ named (codes "application/vnd.ms-tnef") known
+    ∷ named (codes "application/vnd.ms-tnef") (row (codes "tnef"))
     ∷ named (codes "application/vnd.ms-visio.drawing.macroEnabled.main+xml") known
     ∷ named (codes "application/vnd.ms-visio.drawing.main+xml") (row (codes "vsdx"))
     ∷ named (codes "application/vnd.ms-visio.stencil.main+xml") known
@@ -3230,11 +3246,11 @@ types_2 =
     ∷ named (codes "application/vnd.nintendo.nitro.rom") known
     ∷ named (codes "application/vnd.nintendo.snes.rom") known
     ∷ named (codes "application/vnd.oasis.opendocument.base") known
-    ∷ named (codes "application/vnd.oasis.opendocument.chart") known
+    ∷ named (codes "application/vnd.oasis.opendocument.chart") (row (codes "odc"))
     ∷ named (codes "application/vnd.oasis.opendocument.formula") (row (codes "odf"))
     ∷ named (codes "application/vnd.oasis.opendocument.graphics") (row (codes "odg"))
     ∷ named (codes "application/vnd.oasis.opendocument.graphics-flat-xml") known
-    ∷ named (codes "application/vnd.oasis.opendocument.graphics-template") known
+    ∷ named (codes "application/vnd.oasis.opendocument.graphics-template") (row (codes "otg"))
     ∷ named (codes "application/vnd.oasis.opendocument.image") known
     ∷ named (codes "application/vnd.oasis.opendocument.presentation") (row (codes "odp"))
     ∷ named (codes "application/vnd.oasis.opendocument.presentation-flat-xml") known
@@ -3243,7 +3259,7 @@ types_2 =
     ∷ named (codes "application/vnd.oasis.opendocument.spreadsheet-flat-xml") known
     ∷ named (codes "application/vnd.oasis.opendocument.spreadsheet-template") (row (codes "ots"))
     ∷ named (codes "application/vnd.oasis.opendocument.text") (row (codes "odt"))
-    ∷ named (codes "application/vnd.oasis.opendocument.text-flat-xml") known
+    ∷ named (codes "application/vnd.oasis.opendocument.text-flat-xml") (row (codes "fodt"))
     ∷ named (codes "application/vnd.oasis.opendocument.text-master") known
     ∷ named (codes "application/vnd.oasis.opendocument.text-template") (row (codes "ott"))
     ∷ named (codes "application/vnd.oasis.opendocument.text-web") known
@@ -3258,38 +3274,38 @@ types_2 =
     ∷ named (codes "application/vnd.rar") (row (codes "rar"))
     ∷ named (codes "application/vnd.recordare.musicxml") known
     ∷ named (codes "application/vnd.recordare.musicxml+xml") known
-    ∷ named (codes "application/vnd.rn-realmedia") known
+    ∷ named (codes "application/vnd.rn-realmedia") (row (codes "rm"))
     ∷ named (codes "application/vnd.shp") (row (codes "shp"))
     ∷ named (codes "application/vnd.shx") (row (codes "shx"))
-    ∷ named (codes "application/vnd.smaf") known
+    ∷ named (codes "application/vnd.smaf") (row (codes "mmf"))
     ∷ named (codes "application/vnd.snap") known
     ∷ named (codes "application/vnd.sqlite3") (row (codes "sqlite"))
     ∷ named (codes "application/vnd.squashfs") (row (codes "squashfs"))
     ∷ named (codes "application/vnd.sun.xml.calc") known
     ∷ named (codes "application/vnd.sun.xml.draw") known
     ∷ named (codes "application/vnd.sun.xml.impress") known
-    ∷ named (codes "application/vnd.sun.xml.writer") known
+    ∷ named (codes "application/vnd.sun.xml.writer") (row (codes "sxw"))
     ∷ named (codes "application/vnd.tcpdump.pcap") (row (codes "pcap"))
     ∷ named (codes "application/vnd.visio") (row (codes "vsd"))
     ∷ named (codes "application/vnd.wolfram.mathematica") known
-    ∷ named (codes "application/vnd.wordperfect") known
     ∷ []
 
 unfoldable pub types_3 : List NamedType
 types_3 =
-    named (codes "application/voicexml+xml") known
+    named (codes "application/vnd.wordperfect") known
+    ∷ named (codes "application/voicexml+xml") known
     ∷ named (codes "application/vsix") own
     ∷ named (codes "application/warc") (row (codes "warc"))
     ∷ named (codes "application/wasm") (row (codes "wasm"))
-    ∷ named (codes "application/winhlp") known
+    ∷ named (codes "application/winhlp") (row (codes "hlp"))
     ∷ named (codes "application/wsdl+xml") known
     ∷ named (codes "application/x-7z-compressed") (row (codes "7z"))
     ∷ named (codes "application/x-ableton-live-set") own
     ∷ named (codes "application/x-ace") known
     ∷ named (codes "application/x-admx") own
     ∷ named (codes "application/x-age-encryption") (row (codes "age"))
-    ∷ named (codes "application/x-alz") known
-    ∷ named (codes "application/x-amiga-disk-format") known
+    ∷ named (codes "application/x-alz") (row (codes "alz"))
+    ∷ named (codes "application/x-amiga-disk-format") (row (codes "adf"))
     ∷ named (codes "application/x-android-archive") own
     ∷ named (codes "application/x-ant+xml") own
     ∷ named (codes "application/x-apkm") own
@@ -3299,7 +3315,7 @@ types_3 =
     ∷ named (codes "application/x-arc") known
     ∷ named (codes "application/x-archive-dar") own
     ∷ named (codes "application/x-arj") (row (codes "arj"))
-    ∷ named (codes "application/x-asar") known
+    ∷ named (codes "application/x-asar") (row (codes "asar"))
     ∷ named (codes "application/x-asp") known
     ∷ named (codes "application/x-aspx") known
     ∷ named (codes "application/x-autodesk-max") own
@@ -3334,18 +3350,18 @@ types_3 =
     ∷ named (codes "application/x-dia-diagram") known
     ∷ named (codes "application/x-dictzip") own
     ∷ named (codes "application/x-docbook+xml") known
-    ∷ named (codes "application/x-doom-wad") known
+    ∷ named (codes "application/x-doom-wad") (row (codes "wad"))
     ∷ named (codes "application/x-drawio+xml") own
     ∷ named (codes "application/x-dtbncx+xml") own
-    ∷ named (codes "application/x-dvi") known
+    ∷ named (codes "application/x-dvi") (row (codes "dvi"))
     ∷ named (codes "application/x-e57") own
     ∷ named (codes "application/x-eclipse+xml") own
-    ∷ named (codes "application/x-egg+zip") own
     ∷ []
 
 unfoldable pub types_4 : List NamedType
 types_4 =
-    named (codes "application/x-elc") own
+    named (codes "application/x-egg+zip") own
+    ∷ named (codes "application/x-elc") own
     ∷ named (codes "application/x-emz") own
     ∷ named (codes "application/x-entitlements") own
     ∷ named (codes "application/x-erb") known
@@ -3354,13 +3370,13 @@ types_4 =
     ∷ named (codes "application/x-executable") (row (codes "obj"))
     ∷ named (codes "application/x-ext-filesystem") (row (codes "ext2"))
     ∷ named (codes "application/x-fbx") own
-    ∷ named (codes "application/x-fictionbook+xml") known
+    ∷ named (codes "application/x-fictionbook+xml") (row (codes "fb2"))
     ∷ named (codes "application/x-fishscript") own
     ∷ named (codes "application/x-flash-authoring") own
-    ∷ named (codes "application/x-font-afm") known
+    ∷ named (codes "application/x-font-afm") (row (codes "afm"))
     ∷ named (codes "application/x-font-bdf") known
     ∷ named (codes "application/x-font-pcf") known
-    ∷ named (codes "application/x-font-type1") known
+    ∷ named (codes "application/x-font-type1") (row (codes "pfb"))
     ∷ named (codes "application/x-freecad") own
     ∷ named (codes "application/x-gameboy-rom") known
     ∷ named (codes "application/x-gba-rom") known
@@ -3384,8 +3400,10 @@ types_4 =
     ∷ named (codes "application/x-grib") own
     ∷ named (codes "application/x-gschema+xml") own
     ∷ named (codes "application/x-gschema-compiled") own
+    ∷ named (codes "application/x-gtk-builder") (row (codes "gtkbuilder"))
     ∷ named (codes "application/x-har+json") own
     ∷ named (codes "application/x-haskell-interface") own
+    ∷ named (codes "application/x-hdf") (row (codes "hdf4"))
     ∷ named (codes "application/x-hdf5") (row (codes "hdf5"))
     ∷ named (codes "application/x-hprof") own
     ∷ named (codes "application/x-hwp") known
@@ -3397,23 +3415,23 @@ types_4 =
     ∷ named (codes "application/x-ipynb+json") known
     ∷ named (codes "application/x-jasper+xml") own
     ∷ named (codes "application/x-java-enterprise-archive") own
-    ∷ named (codes "application/x-java-jce-keystore") known
+    ∷ named (codes "application/x-java-jce-keystore") (row (codes "jceks"))
     ∷ named (codes "application/x-java-jimage") own
     ∷ named (codes "application/x-java-jmod") (row (codes "jmod"))
-    ∷ named (codes "application/x-java-jnlp-file") known
-    ∷ named (codes "application/x-java-keystore") known
+    ∷ named (codes "application/x-java-jnlp-file") (row (codes "jnlp"))
+    ∷ named (codes "application/x-java-keystore") (row (codes "jks"))
     ∷ named (codes "application/x-java-serialized-object") own
     ∷ named (codes "application/x-java-web-archive") own
     ∷ named (codes "application/x-jmeter+xml") own
     ∷ named (codes "application/x-jsa") own
-    ∷ named (codes "application/x-jsonc") own
-    ∷ named (codes "application/x-jsp") known
-    ∷ named (codes "application/x-kdenlive") own
     ∷ []
 
 unfoldable pub types_5 : List NamedType
 types_5 =
-    named (codes "application/x-keepass2") own
+    named (codes "application/x-jsonc") own
+    ∷ named (codes "application/x-jsp") known
+    ∷ named (codes "application/x-kdenlive") own
+    ∷ named (codes "application/x-keepass2") own
     ∷ named (codes "application/x-kerberos-keytab") own
     ∷ named (codes "application/x-krita") (row (codes "kra"))
     ∷ named (codes "application/x-ksh") own
@@ -3421,7 +3439,7 @@ types_5 =
     ∷ named (codes "application/x-llvm") (row (codes "bc"))
     ∷ named (codes "application/x-locale-archive") own
     ∷ named (codes "application/x-lottie+json") own
-    ∷ named (codes "application/x-lrzip") known
+    ∷ named (codes "application/x-lrzip") (row (codes "lrz"))
     ∷ named (codes "application/x-lua-bytecode") (row (codes "luac"))
     ∷ named (codes "application/x-luks") (row (codes "luks"))
     ∷ named (codes "application/x-lz4") (row (codes "lz4"))
@@ -3431,11 +3449,11 @@ types_5 =
     ∷ named (codes "application/x-lzip-compressed-tar") known
     ∷ named (codes "application/x-lzma") (row (codes "lzma"))
     ∷ named (codes "application/x-lzma-compressed-tar") known
-    ∷ named (codes "application/x-lzop") known
+    ∷ named (codes "application/x-lzop") (row (codes "lzo"))
     ∷ named (codes "application/x-m4") known
     ∷ named (codes "application/x-mach-binary") (row (codes "mach"))
     ∷ named (codes "application/x-magic-database") own
-    ∷ named (codes "application/x-mame-chd") known
+    ∷ named (codes "application/x-mame-chd") (row (codes "chd"))
     ∷ named (codes "application/x-matlab-data") own
     ∷ named (codes "application/x-maya-binary") own
     ∷ named (codes "application/x-mimecache") own
@@ -3453,7 +3471,7 @@ types_5 =
     ∷ named (codes "application/x-mswinurl") known
     ∷ named (codes "application/x-mxml") own
     ∷ named (codes "application/x-mysql-myisam") own
-    ∷ named (codes "application/x-n64-rom") known
+    ∷ named (codes "application/x-n64-rom") (row (codes "n64"))
     ∷ named (codes "application/x-natvis+xml") own
     ∷ named (codes "application/x-navi-animation") (row (codes "ani"))
     ∷ named (codes "application/x-ndjson") (row (codes "ndjson"))
@@ -3465,7 +3483,7 @@ types_5 =
     ∷ named (codes "application/x-nuspec+xml") own
     ∷ named (codes "application/x-object") (row (codes "o"))
     ∷ named (codes "application/x-openssh-private-key") (row (codes "openssh"))
-    ∷ named (codes "application/x-openzim") known
+    ∷ named (codes "application/x-openzim") (row (codes "zim"))
     ∷ named (codes "application/x-orc") (row (codes "orc"))
     ∷ named (codes "application/x-osm-pbf") own
     ∷ named (codes "application/x-ova") own
@@ -3474,14 +3492,14 @@ types_5 =
     ∷ named (codes "application/x-pascal-unit") (row (codes "ppu"))
     ∷ named (codes "application/x-pcapng") (row (codes "pcapng"))
     ∷ named (codes "application/x-pem-key") (row (codes "key"))
-    ∷ named (codes "application/x-perf-data") own
-    ∷ named (codes "application/x-phylip") own
-    ∷ named (codes "application/x-plist") (row (codes "plist"))
     ∷ []
 
 unfoldable pub types_6 : List NamedType
 types_6 =
-    named (codes "application/x-ply") own
+    named (codes "application/x-perf-data") own
+    ∷ named (codes "application/x-phylip") own
+    ∷ named (codes "application/x-plist") (row (codes "plist"))
+    ∷ named (codes "application/x-ply") own
     ∷ named (codes "application/x-pov") own
     ∷ named (codes "application/x-powershell") known
     ∷ named (codes "application/x-precompiled-header") own
@@ -3514,7 +3532,7 @@ types_6 =
     ∷ named (codes "application/x-sketch") own
     ∷ named (codes "application/x-sketchup") own
     ∷ named (codes "application/x-snappy-framed") (row (codes "sz"))
-    ∷ named (codes "application/x-spss-sav") known
+    ∷ named (codes "application/x-spss-sav") (row (codes "sav"))
     ∷ named (codes "application/x-ssh-public-key") own
     ∷ named (codes "application/x-stata-dta") own
     ∷ named (codes "application/x-storyboard+xml") own
@@ -3542,16 +3560,17 @@ types_6 =
     ∷ named (codes "application/x-usdz") own
     ∷ named (codes "application/x-vdi-disk") (row (codes "vdi"))
     ∷ named (codes "application/x-vhd-disk") (row (codes "vhd"))
-    ∷ named (codes "application/x-vhdx-disk") (row (codes "vhdx"))
-    ∷ named (codes "application/x-vim-spell") own
-    ∷ named (codes "application/x-vim-swap") own
     ∷ []
 
 unfoldable pub types_7 : List NamedType
 types_7 =
-    named (codes "application/x-virtualbox-saved-state") own
+    named (codes "application/x-vhdx-disk") (row (codes "vhdx"))
+    ∷ named (codes "application/x-vim-spell") own
+    ∷ named (codes "application/x-vim-swap") own
+    ∷ named (codes "application/x-virtualbox-saved-state") own
     ∷ named (codes "application/x-vmdk-disk") (row (codes "vmdk"))
     ∷ named (codes "application/x-wheel+zip") own
+    ∷ named (codes "application/x-wii-wad") (row (codes "wiiwad"))
     ∷ named (codes "application/x-windows-dump") own
     ∷ named (codes "application/x-wix+xml") own
     ∷ named (codes "application/x-wmz") own
@@ -3590,10 +3609,10 @@ types_7 =
     ∷ named (codes "audio/ogg") (row (codes "oga"))
     ∷ named (codes "audio/ogg") (row (codes "ogg"))
     ∷ named (codes "audio/opus") (row (codes "opus"))
-    ∷ named (codes "audio/prs.sid") known
+    ∷ named (codes "audio/prs.sid") (row (codes "sid"))
     ∷ named (codes "audio/sf2") own
     ∷ named (codes "audio/vnd.audible") own
-    ∷ named (codes "audio/vnd.dts") known
+    ∷ named (codes "audio/vnd.dts") (row (codes "dts"))
     ∷ named (codes "audio/vnd.rn-realaudio") known
     ∷ named (codes "audio/webm") known
     ∷ named (codes "audio/x-abc") own
@@ -3601,29 +3620,30 @@ types_7 =
     ∷ named (codes "audio/x-aiff") (row (codes "aiff"))
     ∷ named (codes "audio/x-ape") (row (codes "ape"))
     ∷ named (codes "audio/x-caf") own
-    ∷ named (codes "audio/x-dff") known
+    ∷ named (codes "audio/x-dff") (row (codes "dff"))
     ∷ named (codes "audio/x-dsf") (row (codes "dsf"))
     ∷ named (codes "audio/x-flac") (row (codes "flac"))
     ∷ named (codes "audio/x-gsm") known
-    ∷ named (codes "audio/x-it") known
+    ∷ named (codes "audio/x-it") (row (codes "it"))
     ∷ named (codes "audio/x-m4b") (row (codes "m4b"))
     ∷ named (codes "audio/x-matroska") known
-    ∷ named (codes "audio/x-mo3") known
-    ∷ named (codes "audio/x-mod") known
-    ∷ named (codes "audio/x-mpegurl") known
-    ∷ named (codes "audio/x-ms-wma") known
-    ∷ named (codes "audio/x-musepack") (row (codes "mpc"))
+    ∷ named (codes "audio/x-mo3") (row (codes "mo3"))
     ∷ []
 
 unfoldable pub types_8 : List NamedType
 types_8 =
-    named (codes "audio/x-s3m") known
+    named (codes "audio/x-mod") known
+    ∷ named (codes "audio/x-mpegurl") known
+    ∷ named (codes "audio/x-ms-wma") known
+    ∷ named (codes "audio/x-musepack") (row (codes "mpc"))
+    ∷ named (codes "audio/x-s3m") known
     ∷ named (codes "audio/x-scpls") known
+    ∷ named (codes "audio/x-speex+ogg") (row (codes "spx"))
     ∷ named (codes "audio/x-tta") known
     ∷ named (codes "audio/x-voc") (row (codes "voc"))
     ∷ named (codes "audio/x-wav") (row (codes "wav"))
     ∷ named (codes "audio/x-wavpack") (row (codes "wv"))
-    ∷ named (codes "audio/x-xm") known
+    ∷ named (codes "audio/x-xm") (row (codes "xm"))
     ∷ named (codes "chemical/x-cdx") known
     ∷ named (codes "chemical/x-cif") known
     ∷ named (codes "chemical/x-mdl-molfile") known
@@ -3632,10 +3652,10 @@ types_8 =
     ∷ named (codes "chemical/x-xyz") known
     ∷ named (codes "font/collection") (row (codes "ttc"))
     ∷ named (codes "image/apng") (row (codes "apng"))
-    ∷ named (codes "image/astc") known
+    ∷ named (codes "image/astc") (row (codes "astc"))
     ∷ named (codes "image/avif") (row (codes "avif"))
     ∷ named (codes "image/bmp") (row (codes "bmp"))
-    ∷ named (codes "image/bpg") own
+    ∷ named (codes "image/bpg") (row (codes "bpg"))
     ∷ named (codes "image/emf") known
     ∷ named (codes "image/fits") (row (codes "fits"))
     ∷ named (codes "image/geotiff") own
@@ -3648,8 +3668,8 @@ types_8 =
     ∷ named (codes "image/jpeg") (row (codes "jpg"))
     ∷ named (codes "image/jpx") (row (codes "jpx"))
     ∷ named (codes "image/jxl") (row (codes "jxl"))
-    ∷ named (codes "image/ktx") known
-    ∷ named (codes "image/ktx2") known
+    ∷ named (codes "image/ktx") (row (codes "ktx"))
+    ∷ named (codes "image/ktx2") (row (codes "ktx2"))
     ∷ named (codes "image/openraster") (row (codes "ora"))
     ∷ named (codes "image/png") (row (codes "png"))
     ∷ named (codes "image/qoi") own
@@ -3663,11 +3683,11 @@ types_8 =
     ∷ named (codes "image/vnd.fpx") known
     ∷ named (codes "image/vnd.microsoft.icon") (row (codes "ico"))
     ∷ named (codes "image/vnd.ms-photo") (row (codes "jxr"))
-    ∷ named (codes "image/vnd.radiance") known
-    ∷ named (codes "image/vnd.zbrush.pcx") known
+    ∷ named (codes "image/vnd.radiance") (row (codes "hdr"))
+    ∷ named (codes "image/vnd.zbrush.pcx") (row (codes "pcx"))
     ∷ named (codes "image/webp") (row (codes "webp"))
     ∷ named (codes "image/wmf") known
-    ∷ named (codes "image/x-3ds") known
+    ∷ named (codes "image/x-3ds") (row (codes "3ds"))
     ∷ named (codes "image/x-adobe-dng") (row (codes "dng"))
     ∷ named (codes "image/x-canon-cr2") (row (codes "cr2"))
     ∷ named (codes "image/x-canon-cr3") (row (codes "cr3"))
@@ -3675,18 +3695,18 @@ types_8 =
     ∷ named (codes "image/x-dds") known
     ∷ named (codes "image/x-eps") (row (codes "eps"))
     ∷ named (codes "image/x-epson-erf") known
-    ∷ named (codes "image/x-exr") known
-    ∷ named (codes "image/x-fuji-raf") (row (codes "raf"))
-    ∷ named (codes "image/x-gimp-gbr") known
-    ∷ named (codes "image/x-gimp-pat") known
-    ∷ named (codes "image/x-hasselblad-3fr") own
-    ∷ named (codes "image/x-icns") (row (codes "icns"))
+    ∷ named (codes "image/x-exr") (row (codes "exr"))
     ∷ []
 
 unfoldable pub types_9 : List NamedType
 types_9 =
-    named (codes "image/x-ilbm") known
-    ∷ named (codes "image/x-jp2-codestream") known
+    named (codes "image/x-fuji-raf") (row (codes "raf"))
+    ∷ named (codes "image/x-gimp-gbr") (row (codes "gbr"))
+    ∷ named (codes "image/x-gimp-pat") (row (codes "pat"))
+    ∷ named (codes "image/x-hasselblad-3fr") own
+    ∷ named (codes "image/x-icns") (row (codes "icns"))
+    ∷ named (codes "image/x-ilbm") (row (codes "ilbm"))
+    ∷ named (codes "image/x-jp2-codestream") (row (codes "j2c"))
     ∷ named (codes "image/x-kodak-dcr") known
     ∷ named (codes "image/x-kodak-kdc") known
     ∷ named (codes "image/x-mamiya-mef") own
@@ -3702,18 +3722,18 @@ types_9 =
     ∷ named (codes "image/x-portable-graymap") known
     ∷ named (codes "image/x-portable-pixmap") known
     ∷ named (codes "image/x-samsung-srw") own
-    ∷ named (codes "image/x-sgi") known
-    ∷ named (codes "image/x-sigma-x3f") known
+    ∷ named (codes "image/x-sgi") (row (codes "sgi"))
+    ∷ named (codes "image/x-sigma-x3f") (row (codes "x3f"))
     ∷ named (codes "image/x-sony-arw") known
     ∷ named (codes "image/x-sony-sr2") known
     ∷ named (codes "image/x-sony-srf") known
     ∷ named (codes "image/x-tga") known
-    ∷ named (codes "image/x-win-bitmap") known
+    ∷ named (codes "image/x-win-bitmap") (row (codes "cur"))
     ∷ named (codes "image/x-xbitmap") known
     ∷ named (codes "image/x-xcf") (row (codes "xcf"))
     ∷ named (codes "image/x-xfig") known
     ∷ named (codes "image/x-xpixmap") (row (codes "xpm"))
-    ∷ named (codes "image/x-xwindowdump") known
+    ∷ named (codes "image/x-xwindowdump") (row (codes "xwd"))
     ∷ named (codes "message/rfc822") known
     ∷ named (codes "model/3mf") (row (codes "3mf"))
     ∷ named (codes "model/gltf+json") known
@@ -3744,19 +3764,19 @@ types_9 =
     ∷ named (codes "text/rust") known
     ∷ named (codes "text/sgml") known
     ∷ named (codes "text/tab-separated-values") known
-    ∷ named (codes "text/troff") known
-    ∷ named (codes "text/turtle") known
-    ∷ named (codes "text/uri-list") known
-    ∷ named (codes "text/vbscript") known
-    ∷ named (codes "text/vcard") (row (codes "vcf"))
     ∷ []
 
 unfoldable pub types_10 : List NamedType
 types_10 =
-    named (codes "text/velocity") known
+    named (codes "text/troff") known
+    ∷ named (codes "text/turtle") known
+    ∷ named (codes "text/uri-list") known
+    ∷ named (codes "text/vbscript") known
+    ∷ named (codes "text/vcard") (row (codes "vcf"))
+    ∷ named (codes "text/velocity") known
     ∷ named (codes "text/vnd.familysearch.gedcom") known
     ∷ named (codes "text/vnd.graphviz") known
-    ∷ named (codes "text/vnd.trolltech.linguist") known
+    ∷ named (codes "text/vnd.trolltech.linguist") (row (codes "lingts"))
     ∷ named (codes "text/vnd.wap.wml") known
     ∷ named (codes "text/vtt") (row (codes "vtt"))
     ∷ named (codes "text/wgsl") known
@@ -3812,16 +3832,16 @@ types_10 =
     ∷ named (codes "text/x-coq") own
     ∷ named (codes "text/x-cppconf") own
     ∷ named (codes "text/x-creole") own
-    ∷ named (codes "text/x-cron") own
-    ∷ named (codes "text/x-crystal") known
-    ∷ named (codes "text/x-csharp") known
-    ∷ named (codes "text/x-csound") own
-    ∷ named (codes "text/x-csrc") known
     ∷ []
 
 unfoldable pub types_11 : List NamedType
 types_11 =
-    named (codes "text/x-cuda") own
+    named (codes "text/x-cron") own
+    ∷ named (codes "text/x-crystal") known
+    ∷ named (codes "text/x-csharp") known
+    ∷ named (codes "text/x-csound") own
+    ∷ named (codes "text/x-csrc") known
+    ∷ named (codes "text/x-cuda") own
     ∷ named (codes "text/x-cwl") own
     ∷ named (codes "text/x-cypher") own
     ∷ named (codes "text/x-cython") known
@@ -3880,16 +3900,16 @@ types_11 =
     ∷ named (codes "text/x-gomod") own
     ∷ named (codes "text/x-gosum") own
     ∷ named (codes "text/x-gotemplate") own
-    ∷ named (codes "text/x-gpr") own
-    ∷ named (codes "text/x-gradle") known
-    ∷ named (codes "text/x-groovy") known
-    ∷ named (codes "text/x-haml") known
-    ∷ named (codes "text/x-handlebars") own
     ∷ []
 
 unfoldable pub types_12 : List NamedType
 types_12 =
-    named (codes "text/x-haskell") known
+    named (codes "text/x-gpr") own
+    ∷ named (codes "text/x-gradle") known
+    ∷ named (codes "text/x-groovy") known
+    ∷ named (codes "text/x-haml") known
+    ∷ named (codes "text/x-handlebars") own
+    ∷ named (codes "text/x-haskell") known
     ∷ named (codes "text/x-haxe") known
     ∷ named (codes "text/x-hcl") own
     ∷ named (codes "text/x-hive") own
@@ -3948,16 +3968,16 @@ types_12 =
     ∷ named (codes "text/x-mediawiki") own
     ∷ named (codes "text/x-mermaid") own
     ∷ named (codes "text/x-meson") known
-    ∷ named (codes "text/x-metafont") own
-    ∷ named (codes "text/x-metal") own
-    ∷ named (codes "text/x-mib") own
-    ∷ named (codes "text/x-mirc") own
-    ∷ named (codes "text/x-mlir") own
     ∷ []
 
 unfoldable pub types_13 : List NamedType
 types_13 =
-    named (codes "text/x-modelica") known
+    named (codes "text/x-metafont") own
+    ∷ named (codes "text/x-metal") own
+    ∷ named (codes "text/x-mib") own
+    ∷ named (codes "text/x-mirc") own
+    ∷ named (codes "text/x-mlir") own
+    ∷ named (codes "text/x-modelica") known
     ∷ named (codes "text/x-modula") own
     ∷ named (codes "text/x-mojo") own
     ∷ named (codes "text/x-monkey") own
@@ -3983,7 +4003,7 @@ types_13 =
     ∷ named (codes "text/x-opencl-src") known
     ∷ named (codes "text/x-openscad") own
     ∷ named (codes "text/x-opentype-feature") own
-    ∷ named (codes "text/x-opml+xml") known
+    ∷ named (codes "text/x-opml+xml") (row (codes "opml"))
     ∷ named (codes "text/x-oz") known
     ∷ named (codes "text/x-pascal") known
     ∷ named (codes "text/x-patch") known
@@ -4013,19 +4033,19 @@ types_13 =
     ∷ named (codes "text/x-python") known
     ∷ named (codes "text/x-python") (row (codes "py"))
     ∷ named (codes "text/x-qmake") own
-    ∷ named (codes "text/x-qml") known
+    ∷ named (codes "text/x-qml") (row (codes "qml"))
     ∷ named (codes "text/x-r-doc") own
     ∷ named (codes "text/x-racket") own
-    ∷ named (codes "text/x-ragel") own
-    ∷ named (codes "text/x-raku") own
-    ∷ named (codes "text/x-razor") own
-    ∷ named (codes "text/x-rdoc") own
-    ∷ named (codes "text/x-readline") own
     ∷ []
 
 unfoldable pub types_14 : List NamedType
 types_14 =
-    named (codes "text/x-reason") own
+    named (codes "text/x-ragel") own
+    ∷ named (codes "text/x-raku") own
+    ∷ named (codes "text/x-razor") own
+    ∷ named (codes "text/x-rdoc") own
+    ∷ named (codes "text/x-readline") own
+    ∷ named (codes "text/x-reason") own
     ∷ named (codes "text/x-rebol") own
     ∷ named (codes "text/x-red") own
     ∷ named (codes "text/x-rego") own
@@ -4084,16 +4104,16 @@ types_14 =
     ∷ named (codes "text/x-swift") known
     ∷ named (codes "text/x-systemd-unit") known
     ∷ named (codes "text/x-tablegen") own
-    ∷ named (codes "text/x-tcl") (row (codes "tcl"))
-    ∷ named (codes "text/x-template-toolkit") own
-    ∷ named (codes "text/x-tex") known
-    ∷ named (codes "text/x-texinfo") known
-    ∷ named (codes "text/x-textile") known
     ∷ []
 
 unfoldable pub types_15 : List NamedType
 types_15 =
-    named (codes "text/x-textproto") own
+    named (codes "text/x-tcl") (row (codes "tcl"))
+    ∷ named (codes "text/x-template-toolkit") own
+    ∷ named (codes "text/x-tex") known
+    ∷ named (codes "text/x-texinfo") known
+    ∷ named (codes "text/x-textile") known
+    ∷ named (codes "text/x-textproto") own
     ∷ named (codes "text/x-thrift") own
     ∷ named (codes "text/x-tla") own
     ∷ named (codes "text/x-tmux-conf") own
@@ -4132,10 +4152,10 @@ types_15 =
     ∷ named (codes "text/xml") (row (codes "xml"))
     ∷ named (codes "video/3gpp") (row (codes "3gp"))
     ∷ named (codes "video/3gpp2") (row (codes "3g2"))
-    ∷ named (codes "video/dv") known
+    ∷ named (codes "video/dv") (row (codes "dv"))
     ∷ named (codes "video/h264") own
     ∷ named (codes "video/h265") own
-    ∷ named (codes "video/mj2") known
+    ∷ named (codes "video/mj2") (row (codes "mj2"))
     ∷ named (codes "video/mp2t") (row (codes "ts"))
     ∷ named (codes "video/mp4") (row (codes "mp4"))
     ∷ named (codes "video/mpeg") (row (codes "mpg"))
@@ -4150,13 +4170,17 @@ types_15 =
     ∷ named (codes "video/x-m4v") (row (codes "m4v"))
     ∷ named (codes "video/x-matroska") (row (codes "mkv"))
     ∷ named (codes "video/x-matroska-3d") known
-    ∷ named (codes "video/x-mng") known
+    ∷ named (codes "video/x-mng") (row (codes "mng"))
     ∷ named (codes "video/x-ms-wmv") (row (codes "wmv"))
-    ∷ named (codes "video/x-msvideo") (row (codes "avi"))
+    ∷ []
+
+unfoldable pub types_16 : List NamedType
+types_16 =
+    named (codes "video/x-msvideo") (row (codes "avi"))
     ∷ named (codes "video/x-nsv") known
     ∷ named (codes "video/x-ogm+ogg") known
     ∷ named (codes "video/x-y4m") own
     ∷ []
 
 unfoldable pub type_groups : List (List NamedType)
-type_groups = types_0 ∷ types_1 ∷ types_2 ∷ types_3 ∷ types_4 ∷ types_5 ∷ types_6 ∷ types_7 ∷ types_8 ∷ types_9 ∷ types_10 ∷ types_11 ∷ types_12 ∷ types_13 ∷ types_14 ∷ types_15 ∷ []
+type_groups = types_0 ∷ types_1 ∷ types_2 ∷ types_3 ∷ types_4 ∷ types_5 ∷ types_6 ∷ types_7 ∷ types_8 ∷ types_9 ∷ types_10 ∷ types_11 ∷ types_12 ∷ types_13 ∷ types_14 ∷ types_15 ∷ types_16 ∷ []

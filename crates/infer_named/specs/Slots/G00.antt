@@ -2,7 +2,7 @@
 use Rattle.std.specs.Prelude.{List, [], ◌∷◌, codes, false, true}
 use Rattle.infer_named.specs.Key.{Key, key}
 use Rattle.infer_named.specs.Listed.{reading}
-use Rattle.infer_named.specs.Sets.{any-lead, leads-10, leads-3, leads-8, no-rows, rows-application-x-ole-storage, rows-arj, rows-bz2-gz-xz, rows-doc, rows-f4v, rows-gz, rows-html-json-php-svg-txt-xhtml-xml, rows-html-txt-xhtml-xml, rows-html-txt-xml, rows-jpx, rows-json, rows-json-plist-txt-xml, rows-jxr, rows-mp4, rows-plist-txt-xml, rows-ps-sh-txt, rows-ps-txt, rows-rb, rows-sh-txt, rows-txt, rows-zip, text-rows}
+use Rattle.infer_named.specs.Sets.{any-lead, leads-10, leads-3, leads-8, no-rows, rows-application-x-ole-storage, rows-arj, rows-bz2-gz-xz, rows-doc, rows-f4v, rows-gz, rows-html-json-php-svg-txt-xhtml-xml, rows-html-txt-xhtml-xml, rows-html-txt-xml, rows-jpx, rows-json, rows-json-plist-txt-xml, rows-jxr, rows-mp4, rows-plist-txt-xml, rows-ps-sh-txt, rows-ps-txt, rows-rb, rows-sgi, rows-sh-txt, rows-txt, rows-zip, text-rows}
 use Rattle.infer_named.specs.Types.{is-application-msword, is-application-sparql-query, is-application-sql, is-application-vnd-coffeescript, is-application-voicexml-xml, is-application-x-admx, is-application-x-arj, is-application-x-aspx, is-application-x-autodesk-max, is-application-x-dictzip, is-application-x-entitlements, is-application-x-genesis-rom, is-application-x-gnuplot, is-application-x-intellij-xml, is-application-x-java-jimage, is-application-x-jsonc, is-application-x-jsp, is-application-x-msbuild-xml, is-application-x-nuget-package, is-application-x-osm-pbf, is-application-x-r-data, is-application-x-theme-xml, is-audio-x-gsm, is-image-jpx, is-image-vnd-ms-photo, is-image-x-sgi, is-model-vrml, is-text-org, is-text-plain, is-text-sgml, is-text-x-aidl, is-text-x-antlr, is-text-x-bibtex, is-text-x-c-src, is-text-x-checksums, is-text-x-forth, is-text-x-gitconfig, is-text-x-glsl, is-text-x-gosum, is-text-x-ini, is-text-x-io, is-text-x-matlab, is-text-x-modula, is-text-x-move, is-text-x-newick, is-text-x-objc-src, is-text-x-objcsrc, is-text-x-openscad, is-text-x-pascal, is-text-x-pkg-config, is-text-x-plantuml, is-text-x-pli, is-text-x-raku, is-text-x-red, is-text-x-rpgle, is-text-x-ruby, is-text-x-scheme, is-text-x-shell-config, is-text-x-smt, is-text-x-soy, is-text-x-tex, is-text-x-vdf, is-text-x-wkt, is-video-x-f4v}
 use Rattle.infer_named.specs.declared.table.Asks.TheVariants.{Bytes, Nothing, Signature, Text}
 use Rattle.infer_named.specs.declared.table.Part.TheVariants.{Extension, Whole}
@@ -32,7 +32,7 @@ group =
     [])
     ∷ (
     key Extension (codes "gitconfig") false (reading is-text-x-gitconfig Text no-rows rows-txt no-rows any-lead ∷ []) ∷
-    key Extension (codes "rgb") false (reading is-image-x-sgi Bytes no-rows no-rows no-rows any-lead ∷ []) ∷
+    key Extension (codes "rgb") false (reading is-image-x-sgi Bytes rows-sgi no-rows no-rows any-lead ∷ []) ∷
     key Extension (codes "xcscheme") false (reading is-application-x-entitlements Text no-rows rows-plist-txt-xml no-rows leads-10 ∷ []) ∷
     [])
     ∷ (

@@ -2,7 +2,7 @@
 use Rattle.std.specs.Prelude.{List, [], ◌∷◌, codes, false, true}
 use Rattle.infer_named.specs.Key.{Key, key}
 use Rattle.infer_named.specs.Listed.{reading}
-use Rattle.infer_named.specs.Sets.{any-lead, leads-10, no-rows, rows-3g2-3gp-f4v-m4a-m4b-m4v-mov, rows-3gp, rows-application-x-ole-storage, rows-atom, rows-eps, rows-gpkg, rows-heif, rows-html-json-php-svg-txt-xhtml-xml, rows-html-txt-xhtml-xml, rows-html-txt-xml, rows-jp2, rows-json, rows-lnk, rows-lua, rows-m4v, rows-mp3, rows-mp4, rows-ndjson, rows-pl, rows-ppt, rows-ps, rows-ps-txt, rows-sh, rows-sh-txt, rows-sqlite, rows-squashfs, rows-tcl, rows-tif, rows-txt, rows-txt-xml, rows-vhdx, rows-woff, rows-xhtml, rows-xpm, rows-zip, text-rows}
+use Rattle.infer_named.specs.Sets.{any-lead, leads-10, no-rows, rows-3g2-3gp-f4v-m4a-m4b-m4v-mov, rows-3gp, rows-application-x-ole-storage, rows-atom, rows-eps, rows-flatpak, rows-gpkg, rows-heif, rows-html-json-php-svg-txt-xhtml-xml, rows-html-txt-xhtml-xml, rows-html-txt-xml, rows-jp2, rows-json, rows-lnk, rows-lua, rows-m4v, rows-mj2, rows-mp3, rows-mp4, rows-ndjson, rows-pl, rows-ppt, rows-ps, rows-ps-txt, rows-sh, rows-sh-txt, rows-sqlite, rows-squashfs, rows-tcl, rows-tif, rows-txt, rows-txt-xml, rows-vhdx, rows-woff, rows-x3f, rows-xhtml, rows-xpm, rows-zip, text-rows}
 use Rattle.infer_named.specs.Types.{is-application-atom-xml, is-application-font-woff-as-row-woff, is-application-lrc, is-application-vnd-flatpak, is-application-vnd-ms-powerpoint, is-application-vnd-oasis-opendocument-presentation-flat-xml, is-application-vnd-sqlite3, is-application-vnd-squashfs, is-application-vnd-sun-xml-calc, is-application-x-aspx, is-application-x-bufr, is-application-x-drawio-xml, is-application-x-dtbncx-xml, is-application-x-gschema-compiled, is-application-x-hwp, is-application-x-ms-shortcut, is-application-x-ndjson, is-application-x-vhdx-disk, is-application-x-zsh, is-application-xhtml-xml, is-application-xml-external-parsed-entity, is-application-xquery, is-audio-mpeg, is-image-x-eps, is-image-x-pentax-pef, is-image-x-sigma-x3f, is-text-markdown, is-text-plain, is-text-troff, is-text-x-bitbake, is-text-x-c-hdr, is-text-x-c-src, is-text-x-checksums, is-text-x-crystal, is-text-x-csrc, is-text-x-dts, is-text-x-fastq, is-text-x-gams, is-text-x-gherkin, is-text-x-glsl, is-text-x-groovy, is-text-x-java, is-text-x-lua, is-text-x-perl, is-text-x-raku, is-text-x-rst, is-text-x-sas, is-text-x-shellscript, is-text-x-ssa, is-text-x-systemd-unit, is-text-x-tcl, is-text-x-tex, is-text-x-tmux-conf, is-text-x-vcl, is-text-x-verilog, is-text-x-wat, is-video-3gpp, is-video-h264, is-video-mj2, is-video-mp4, is-video-x-m4v}
 use Rattle.infer_named.specs.declared.table.Asks.TheVariants.{Bytes, Nothing, Signature, Text}
 use Rattle.infer_named.specs.declared.table.Part.TheVariants.{Extension, Whole}
@@ -34,7 +34,7 @@ group =
     ∷ (
     key Extension (codes "atom") false (reading is-application-atom-xml Text rows-atom rows-html-txt-xml no-rows leads-10 ∷ []) ∷
     key Extension (codes "avhdx") false (reading is-application-x-vhdx-disk Signature rows-vhdx no-rows no-rows any-lead ∷ []) ∷
-    key Extension (codes "flatpak") false (reading is-application-vnd-flatpak Bytes no-rows no-rows no-rows any-lead ∷ []) ∷
+    key Extension (codes "flatpak") false (reading is-application-vnd-flatpak Bytes rows-flatpak no-rows no-rows any-lead ∷ []) ∷
     key Extension (codes "gvy") false (reading is-text-x-groovy Text no-rows rows-sh-txt no-rows any-lead ∷ []) ∷
     key Extension (codes "sfs") false (reading is-application-vnd-squashfs Signature rows-squashfs no-rows no-rows any-lead ∷ []) ∷
     [])
@@ -83,7 +83,7 @@ group =
     key Extension (codes "bufr") false (reading is-application-x-bufr Bytes no-rows no-rows no-rows any-lead ∷ []) ∷
     key Whole (codes "licence") false (reading is-text-plain Text rows-txt no-rows text-rows any-lead ∷ []) ∷
     key Whole (codes "license") false (reading is-text-plain Text rows-txt no-rows text-rows any-lead ∷ []) ∷
-    key Extension (codes "mjp2") false (reading is-video-mj2 Bytes no-rows rows-jp2 no-rows any-lead ∷ []) ∷
+    key Extension (codes "mjp2") false (reading is-video-mj2 Bytes rows-mj2 rows-jp2 no-rows any-lead ∷ []) ∷
     key Extension (codes "s3db") false (reading is-application-vnd-sqlite3 Signature rows-sqlite no-rows rows-gpkg any-lead ∷ []) ∷
     key Extension (codes "veo") false (reading is-text-x-verilog Text no-rows rows-txt no-rows any-lead ∷ []) ∷
     [])
@@ -98,7 +98,7 @@ group =
     key Extension (codes "nse") false (reading is-text-x-lua Text rows-lua rows-sh-txt no-rows any-lead ∷ []) ∷
     key Extension (codes "sas") false (reading is-text-x-sas Text no-rows rows-txt no-rows any-lead ∷ []) ∷
     key Extension (codes "sh") false (reading is-text-x-shellscript Text rows-sh rows-txt no-rows any-lead ∷ []) ∷
-    key Extension (codes "x3f") false (reading is-image-x-sigma-x3f Bytes no-rows no-rows no-rows any-lead ∷ []) ∷
+    key Extension (codes "x3f") false (reading is-image-x-sigma-x3f Bytes rows-x3f no-rows no-rows any-lead ∷ []) ∷
     [])
     ∷ (
     key Extension (codes "lrc") false (reading is-application-lrc Text no-rows rows-txt no-rows any-lead ∷ []) ∷

@@ -2,7 +2,7 @@
 use Rattle.std.specs.Prelude.{List, [], ◌∷◌, codes, false, true}
 use Rattle.infer_named.specs.Key.{Key, key}
 use Rattle.infer_named.specs.Listed.{reading}
-use Rattle.infer_named.specs.Sets.{any-lead, leads-10, no-rows, rows-application-x-ole-storage-pptx-zip, rows-awk, rows-dbf, rows-dey, rows-djvu, rows-elf, rows-exe, rows-gz, rows-html-json-php-svg-txt-xhtml-xml, rows-html-txt-xhtml-xml, rows-html-txt-xml, rows-jpg, rows-json, rows-json-ndjson-txt, rows-json-plist-txt-xml, rows-ogg, rows-ogg-ogv, rows-opus, rows-pem, rows-pl, rows-ps-sh-txt, rows-ps-txt, rows-rb, rows-sh-txt, rows-sig, rows-tif, rows-txt, rows-xcf, rows-z, rows-zip, text-rows}
+use Rattle.infer_named.specs.Sets.{any-lead, leads-10, no-rows, rows-application-x-ole-storage-pptx-zip, rows-awk, rows-chd, rows-dbf, rows-dey, rows-djvm, rows-djvu, rows-elf, rows-exe, rows-gz, rows-html-json-php-svg-txt-xhtml-xml, rows-html-txt-xhtml-xml, rows-html-txt-xml, rows-jpg, rows-json, rows-json-ndjson-txt, rows-json-plist-txt-xml, rows-lzo, rows-ogg, rows-ogg-ogv, rows-opus, rows-pem, rows-pfa-pfb, rows-pl, rows-ps-sh-txt, rows-ps-txt, rows-rb, rows-sh-txt, rows-sig, rows-tif, rows-txt, rows-xcf, rows-z, rows-zip, text-rows}
 use Rattle.infer_named.specs.Types.{is-application-graphql, is-application-jsonnet, is-application-ld-json, is-application-msgpack, is-application-oxps, is-application-pgp-signature, is-application-raml-yaml, is-application-vnd-android-dey, is-application-vnd-dbf, is-application-vnd-microsoft-portable-executable, is-application-vnd-ms-powerpoint-slideshow-macroenabled-12, is-application-vnd-nintendo-nitro-rom, is-application-x-bsp, is-application-x-compress, is-application-x-elc, is-application-x-emz, is-application-x-font-type1, is-application-x-gba-rom, is-application-x-innodb, is-application-x-ipynb-json, is-application-x-jmeter-xml, is-application-x-lzop, is-application-x-mame-chd, is-application-x-msbuild-xml, is-application-x-rhino, is-application-x-theme-xml, is-application-xml-dtd, is-application-yaml, is-audio-opus, is-image-jpeg, is-image-vnd-djvu, is-image-x-samsung-srw, is-image-x-xcf, is-model-step, is-text-plain, is-text-tab-separated-values, is-text-velocity, is-text-x-awk, is-text-x-cypher, is-text-x-dsrc, is-text-x-ebnf, is-text-x-editorconfig, is-text-x-eiffel, is-text-x-erlang, is-text-x-gap, is-text-x-gcode, is-text-x-gn, is-text-x-kusto, is-text-x-lean, is-text-x-lsl, is-text-x-makefile, is-text-x-monkey, is-text-x-msdos-batch, is-text-x-newick, is-text-x-perl, is-text-x-ruby, is-text-x-sln, is-text-x-stylus, is-text-x-systemd-unit, is-text-x-vim, is-video-x-ogm-ogg}
 use Rattle.infer_named.specs.declared.table.Asks.TheVariants.{Bytes, Nothing, Signature, Text}
 use Rattle.infer_named.specs.declared.table.Part.TheVariants.{Extension, Whole}
@@ -26,7 +26,7 @@ group =
     [])
     ∷ (
     key Extension (codes "awk") false (reading is-text-x-awk Text rows-awk rows-sh-txt no-rows any-lead ∷ []) ∷
-    key Extension (codes "djvu") false (reading is-image-vnd-djvu Signature rows-djvu no-rows no-rows any-lead ∷ []) ∷
+    key Extension (codes "djvu") false (reading is-image-vnd-djvu Signature rows-djvu no-rows rows-djvm any-lead ∷ []) ∷
     key Whole (codes "fastfile") false (reading is-text-x-ruby Text rows-rb rows-sh-txt no-rows any-lead ∷ []) ∷
     [])
     ∷ (
@@ -41,7 +41,7 @@ group =
     [])
     ∷ (
     key Extension (codes "3dm") false (reading is-application-x-rhino Bytes no-rows no-rows no-rows any-lead ∷ []) ∷
-    key Extension (codes "lzo") false (reading is-application-x-lzop Bytes no-rows no-rows no-rows any-lead ∷ []) ∷
+    key Extension (codes "lzo") false (reading is-application-x-lzop Bytes rows-lzo no-rows no-rows any-lead ∷ []) ∷
     key Extension (codes "mk") false (reading is-text-x-makefile Text no-rows rows-sh-txt no-rows any-lead ∷ []) ∷
     key Extension (codes "odex") false (reading is-application-vnd-android-dey Signature rows-dey rows-elf no-rows any-lead ∷ []) ∷
     [])
@@ -65,7 +65,7 @@ group =
     [])
     ∷ (
     key Extension (codes "dbf") false (reading is-application-vnd-dbf Bytes rows-dbf no-rows no-rows any-lead ∷ []) ∷
-    key Extension (codes "pfa") false (reading is-application-x-font-type1 Text no-rows rows-ps-txt no-rows any-lead ∷ []) ∷
+    key Extension (codes "pfa") false (reading is-application-x-font-type1 Text rows-pfa-pfb rows-ps-txt no-rows any-lead ∷ []) ∷
     key Extension (codes "ppsm") false (reading is-application-vnd-ms-powerpoint-slideshow-macroenabled-12 Signature no-rows rows-application-x-ole-storage-pptx-zip no-rows any-lead ∷ []) ∷
     key Extension (codes "styl") false (reading is-text-x-stylus Text no-rows rows-txt no-rows any-lead ∷ []) ∷
     key Extension (codes "vm") false (reading is-text-velocity Text no-rows rows-html-json-php-svg-txt-xhtml-xml no-rows any-lead ∷ []) ∷
@@ -87,7 +87,7 @@ group =
     key Extension (codes "xcf") false (reading is-image-x-xcf Signature rows-xcf no-rows no-rows any-lead ∷ []) ∷
     [])
     ∷ (
-    key Extension (codes "chd") false (reading is-application-x-mame-chd Bytes no-rows no-rows no-rows any-lead ∷ []) ∷
+    key Extension (codes "chd") false (reading is-application-x-mame-chd Bytes rows-chd no-rows no-rows any-lead ∷ []) ∷
     key Extension (codes "p21") false (reading is-model-step Text no-rows rows-txt no-rows any-lead ∷ []) ∷
     [])
     ∷ (

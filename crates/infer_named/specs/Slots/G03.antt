@@ -2,7 +2,7 @@
 use Rattle.std.specs.Prelude.{List, [], ◌∷◌, codes, false, true}
 use Rattle.infer_named.specs.Key.{Key, key}
 use Rattle.infer_named.specs.Listed.{reading}
-use Rattle.infer_named.specs.Sets.{any-lead, leads-10, leads-11, leads-4, no-rows, rows-3g2, rows-3gp-mp4, rows-appimage-core-o-so, rows-application-x-msi, rows-application-x-ole-storage, rows-application-x-ole-storage-xlsx-zip, rows-asc, rows-bz2, rows-der, rows-elf, rows-exe, rows-html, rows-html-json-php-svg-txt-xhtml-xml, rows-html-rss-txt-xml, rows-html-sh-svg-txt-xhtml-xml, rows-html-txt-xhtml-xml, rows-js, rows-json, rows-json-sh-txt, rows-lua, rows-mobi, rows-mp3, rows-mpg, rows-odp, rows-otp, rows-php, rows-php-svg-txt-xhtml-xml, rows-pnm, rows-ps-txt, rows-pub, rows-sh-txt, rows-torrent, rows-ts, rows-txt, rows-webm, rows-zip, text-rows}
+use Rattle.infer_named.specs.Sets.{any-lead, leads-10, leads-11, leads-4, no-rows, rows-3g2, rows-3gp-mp4, rows-appimage-core-o-so, rows-application-x-msi, rows-application-x-ole-storage, rows-application-x-ole-storage-xlsx-zip, rows-asc, rows-bz2, rows-der, rows-elf, rows-exe, rows-gjs-js, rows-html, rows-html-json-php-svg-txt-xhtml-xml, rows-html-rss-txt-xml, rows-html-sh-svg-txt-xhtml-xml, rows-html-txt-xhtml-xml, rows-icc, rows-json, rows-json-sh-txt, rows-ktx, rows-lua, rows-mobi, rows-mp3, rows-mpg, rows-odp, rows-otp, rows-php, rows-php-svg-txt-xhtml-xml, rows-pnm, rows-ps-txt, rows-pub, rows-sh-txt, rows-torrent, rows-ts, rows-txt, rows-webm, rows-zip, text-rows}
 use Rattle.infer_named.specs.Types.{is-application-dita-xml, is-application-n-quads, is-application-onenote, is-application-pgp-keys-as-row-asc, is-application-protobuf, is-application-rdf-xml, is-application-vnd-etsi-asic-e-zip, is-application-vnd-iccprofile, is-application-vnd-microsoft-portable-executable, is-application-vnd-ms-publisher, is-application-vnd-oasis-opendocument-presentation, is-application-vnd-openxmlformats-officedocument-spreadsheetml-template, is-application-vnd-sun-xml-draw, is-application-vnd-wolfram-mathematica, is-application-x-bittorrent, is-application-x-bzip-compressed-tar, is-application-x-executable-as-row-elf, is-application-x-haskell-interface, is-application-x-minecraft-world, is-application-x-mobipocket-ebook, is-application-x-msi, is-application-x-shapefile-index, is-application-x-ssh-public-key, is-application-x-uproject-json, is-application-x-wix-xml, is-application-x-x509-ca-cert-as-row-der, is-audio-eac3, is-audio-mpeg, is-audio-webm, is-image-ktx, is-image-x-portable-anymap, is-message-rfc822, is-model-stl, is-text-html, is-text-javascript, is-text-plain, is-text-troff, is-text-x-adasrc, is-text-x-apl, is-text-x-autohotkey, is-text-x-bibtex, is-text-x-c-src, is-text-x-capnp, is-text-x-clojure, is-text-x-dhall, is-text-x-ebnf, is-text-x-fortran, is-text-x-freemarker, is-text-x-genbank, is-text-x-glsl, is-text-x-groovy, is-text-x-handlebars, is-text-x-java-properties, is-text-x-lua, is-text-x-makefile, is-text-x-nginx-conf, is-text-x-pascal, is-text-x-php, is-text-x-pth, is-text-x-purescript, is-text-x-sdc, is-text-x-solidity, is-text-x-systemd-unit, is-text-x-tex, is-text-x-unity, is-text-x-yacc, is-text-x-zimpl, is-video-3gpp2, is-video-h265, is-video-mp2t, is-video-mpeg}
 use Rattle.infer_named.specs.declared.table.Asks.TheVariants.{Bytes, Nothing, Signature, Text}
 use Rattle.infer_named.specs.declared.table.Part.TheVariants.{Extension, Whole}
@@ -17,7 +17,7 @@ group =
     ∷ (
     key Extension (codes "ads") false (reading is-text-x-adasrc Text no-rows rows-txt no-rows any-lead ∷ []) ∷
     key Extension (codes "clj") false (reading is-text-x-clojure Text no-rows rows-sh-txt no-rows any-lead ∷ []) ∷
-    key Extension (codes "ktx") false (reading is-image-ktx Bytes no-rows no-rows no-rows any-lead ∷ []) ∷
+    key Extension (codes "ktx") false (reading is-image-ktx Bytes rows-ktx no-rows no-rows any-lead ∷ []) ∷
     key Whole (codes "notice") false (reading is-text-plain Text rows-txt no-rows text-rows any-lead ∷ []) ∷
     key Extension (codes "p") false (reading is-text-plain Text rows-txt no-rows text-rows any-lead ∷ []) ∷
     key Extension (codes "pnm") false (reading is-image-x-portable-anymap Signature rows-pnm no-rows no-rows any-lead ∷ []) ∷
@@ -87,7 +87,7 @@ group =
     [])
     ∷ (
     key Extension (codes "cbx") false (reading is-text-x-tex Text no-rows rows-ps-txt no-rows any-lead ∷ []) ∷
-    key Extension (codes "js") false (reading is-text-javascript Text rows-js rows-json-sh-txt no-rows any-lead ∷ []) ∷
+    key Extension (codes "js") false (reading is-text-javascript Text rows-gjs-js rows-json-sh-txt no-rows any-lead ∷ []) ∷
     key Extension (codes "mcpack") false (reading is-application-x-minecraft-world Signature no-rows rows-zip no-rows any-lead ∷ []) ∷
     [])
     ∷ (
@@ -104,7 +104,7 @@ group =
     [])
     ∷ (
     key Extension (codes "dyalog") false (reading is-text-x-apl Text no-rows rows-sh-txt no-rows any-lead ∷ []) ∷
-    key Extension (codes "icm") false (reading is-application-vnd-iccprofile Bytes no-rows no-rows no-rows any-lead ∷ []) ∷
+    key Extension (codes "icm") false (reading is-application-vnd-iccprofile Bytes rows-icc no-rows no-rows any-lead ∷ []) ∷
     [])
     ∷ (
     key Extension (codes "eac3") false (reading is-audio-eac3 Bytes no-rows no-rows no-rows any-lead ∷ []) ∷

@@ -2,7 +2,7 @@
 use Rattle.std.specs.Prelude.{List, [], ◌∷◌, codes, false, true}
 use Rattle.infer_named.specs.Key.{Key, key}
 use Rattle.infer_named.specs.Listed.{reading}
-use Rattle.infer_named.specs.Sets.{any-lead, leads-10, no-rows, rows-aifc, rows-aiff, rows-application-x-ole-storage, rows-avif, rows-bz2, rows-cab, rows-der-key-pem, rows-der-pem, rows-gz, rows-heif, rows-html, rows-html-json-php-svg-txt-xhtml-xml, rows-html-sh-svg-txt-xhtml-xml, rows-html-txt-xhtml-xml, rows-json, rows-json-sh-txt, rows-json-txt, rows-midi, rows-mp3, rows-msg, rows-o, rows-pcap, rows-pcapng, rows-php, rows-php-svg-txt-xhtml-xml, rows-py, rows-sh, rows-sh-txt, rows-shp, rows-shx, rows-terminfo, rows-txt, rows-voc, rows-vsd, rows-webp, rows-zip, text-rows}
+use Rattle.infer_named.specs.Sets.{any-lead, leads-10, no-rows, rows-adf, rows-aifc, rows-aiff, rows-application-x-installshield, rows-application-x-ole-storage, rows-avif, rows-bz2, rows-cab, rows-crl, rows-der-key-pem, rows-der-pem, rows-gz, rows-heif, rows-html, rows-html-json-php-svg-txt-xhtml-xml, rows-html-sh-svg-txt-xhtml-xml, rows-html-txt-xhtml-xml, rows-json, rows-json-sh-txt, rows-json-txt, rows-midi, rows-mp3, rows-msg, rows-o, rows-pcap, rows-pcapng, rows-php, rows-php-svg-txt-xhtml-xml, rows-py, rows-rm, rows-sh, rows-sh-txt, rows-shp, rows-shx, rows-sid, rows-terminfo, rows-txt, rows-voc, rows-vsd, rows-webp, rows-zip, text-rows}
 use Rattle.infer_named.specs.Types.{is-application-json, is-application-json5, is-application-oebps-package-xml, is-application-pkcs8, is-application-tei-xml, is-application-vnd-ms-cab-compressed, is-application-vnd-ms-outlook, is-application-vnd-rn-realmedia, is-application-vnd-shx, is-application-vnd-tcpdump-pcap, is-application-vnd-visio, is-application-vnd-wolfram-mathematica, is-application-x-admx, is-application-x-amiga-disk-format, is-application-x-appdata-xml, is-application-x-bzip-compressed-tar, is-application-x-compressed-tar, is-application-x-devhelp-xml, is-application-x-e57, is-application-x-gcov-data, is-application-x-minecraft-world, is-application-x-msbuild-xml, is-application-x-nuget-package, is-application-x-object, is-application-x-shared-library-la, is-application-x-storyboard-xml, is-application-x-terminfo, is-application-x-uproject-json, is-application-x-x509-ca-cert-as-known, is-audio-midi, is-audio-mpeg, is-audio-prs-sid, is-audio-x-abc, is-audio-x-aiff, is-audio-x-mod, is-audio-x-voc, is-image-avif, is-image-webp, is-image-x-xbitmap, is-text-html, is-text-n3, is-text-plain, is-text-troff, is-text-x-astro, is-text-x-blade, is-text-x-emacs-config, is-text-x-gfortran-module, is-text-x-glsl, is-text-x-gpr, is-text-x-haxe, is-text-x-hlsl, is-text-x-ini, is-text-x-jq, is-text-x-pascal, is-text-x-php, is-text-x-python-as-known, is-text-x-python-as-row-py, is-text-x-shell-config, is-text-x-shellscript, is-text-x-texinfo, is-text-x-uc, is-text-x-unity, is-text-x-wat, is-text-x-xresources, is-text-x-yacc, is-video-x-ivf, is-video-x-y4m}
 use Rattle.infer_named.specs.declared.table.Asks.TheVariants.{Bytes, Nothing, Signature, Text}
 use Rattle.infer_named.specs.declared.table.Part.TheVariants.{Extension, Whole}
@@ -18,7 +18,7 @@ group =
     ∷ (
     key Whole (codes ".emacs") false (reading is-text-x-emacs-config Text no-rows rows-txt no-rows any-lead ∷ []) ∷
     key Extension (codes "dfm") false (reading is-text-x-pascal Text no-rows rows-txt no-rows any-lead ∷ []) ∷
-    key Extension (codes "rm") true (reading is-application-vnd-rn-realmedia Bytes no-rows no-rows no-rows any-lead ∷ []) ∷
+    key Extension (codes "rm") true (reading is-application-vnd-rn-realmedia Bytes rows-rm no-rows no-rows any-lead ∷ []) ∷
     [])
     ∷ (
     key Whole (codes ".profile") false (reading is-text-x-shell-config Text no-rows rows-sh-txt no-rows any-lead ∷ []) ∷
@@ -67,9 +67,9 @@ group =
     key Whole (codes ".bash_aliases") false (reading is-text-x-shell-config Text no-rows rows-sh-txt no-rows any-lead ∷ []) ∷
     key Whole (codes ".bashrc") false (reading is-text-x-shell-config Text no-rows rows-sh-txt no-rows any-lead ∷ []) ∷
     key Whole (codes ".tcshrc") false (reading is-text-x-shell-config Text no-rows rows-sh-txt no-rows any-lead ∷ []) ∷
-    key Extension (codes "cab") false (reading is-application-vnd-ms-cab-compressed Signature rows-cab no-rows no-rows any-lead ∷ []) ∷
+    key Extension (codes "cab") false (reading is-application-vnd-ms-cab-compressed Signature rows-cab no-rows rows-application-x-installshield any-lead ∷ []) ∷
     key Extension (codes "fsproj") false (reading is-application-x-msbuild-xml Text no-rows rows-html-txt-xhtml-xml no-rows leads-10 ∷ []) ∷
-    key Extension (codes "sid") false (reading is-audio-prs-sid Bytes no-rows no-rows no-rows any-lead ∷ []) ∷
+    key Extension (codes "sid") false (reading is-audio-prs-sid Bytes rows-sid no-rows no-rows any-lead ∷ []) ∷
     key Extension (codes "voc") false (reading is-audio-x-voc Signature rows-voc no-rows no-rows any-lead ∷ []) ∷
     [])
     ∷ (
@@ -87,7 +87,7 @@ group =
     ∷ (
     key Extension (codes "1m") false (reading is-text-troff Text no-rows rows-txt no-rows any-lead ∷ []) ∷
     key Extension (codes "abc") false (reading is-audio-x-abc Text no-rows rows-txt no-rows any-lead ∷ []) ∷
-    key Extension (codes "crt") false (reading is-application-x-x509-ca-cert-as-known Bytes rows-der-pem rows-txt no-rows any-lead ∷ []) ∷
+    key Extension (codes "crt") false (reading is-application-x-x509-ca-cert-as-known Bytes rows-der-pem rows-txt rows-crl any-lead ∷ []) ∷
     [])
     ∷ (
     key Extension (codes "mathematica") false (reading is-application-vnd-wolfram-mathematica Text no-rows rows-txt no-rows any-lead ∷ []) ∷
@@ -96,7 +96,7 @@ group =
     key Extension (codes "shader") false (reading is-text-x-glsl Text no-rows rows-txt no-rows any-lead ∷ []) ∷
     [])
     ∷ (
-    key Extension (codes "adf") false (reading is-application-x-amiga-disk-format Bytes no-rows no-rows no-rows any-lead ∷ []) ∷
+    key Extension (codes "adf") false (reading is-application-x-amiga-disk-format Bytes rows-adf no-rows no-rows any-lead ∷ []) ∷
     key Extension (codes "jq") false (reading is-text-x-jq Text no-rows rows-sh-txt no-rows any-lead ∷ []) ∷
     key Extension (codes "json") false (reading is-application-json Text rows-json no-rows no-rows any-lead ∷ []) ∷
     key Extension (codes "shx") false (reading is-application-vnd-shx Signature rows-shx rows-shp no-rows any-lead ∷ []) ∷

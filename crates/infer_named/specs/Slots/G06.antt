@@ -2,7 +2,7 @@
 use Rattle.std.specs.Prelude.{List, [], ◌∷◌, codes, false, true}
 use Rattle.infer_named.specs.Key.{Key, key}
 use Rattle.infer_named.specs.Listed.{reading}
-use Rattle.infer_named.specs.Sets.{any-lead, leads-10, no-rows, rows-3g2-3gp-f4v-m4a-m4b-m4v-mov, rows-elf-so, rows-exe, rows-heif, rows-html-json-php-svg-txt-xhtml-xml, rows-html-txt-xhtml-xml, rows-json, rows-json-sh-txt, rows-mov, rows-mp4, rows-ps-txt, rows-py, rows-sh-txt, rows-squashfs, rows-tar, rows-tif, rows-ts, rows-txt, rows-wav, rows-zip, text-rows}
+use Rattle.infer_named.specs.Sets.{any-lead, leads-10, no-rows, rows-3g2-3gp-f4v-m4a-m4b-m4v-mov, rows-elf-so, rows-exe, rows-heif, rows-html-json-php-svg-txt-xhtml-xml, rows-html-txt-xhtml-xml, rows-json, rows-json-sh-txt, rows-med, rows-mov, rows-mp4, rows-n64, rows-odc, rows-ps-txt, rows-py, rows-sh-txt, rows-squashfs, rows-tar, rows-tif, rows-ts, rows-txt, rows-wav, rows-zip, text-rows}
 use Rattle.infer_named.specs.Types.{is-application-appx, is-application-jsonnet, is-application-manifest-json, is-application-msix, is-application-vnd-microsoft-portable-executable, is-application-vnd-oasis-opendocument-chart, is-application-vnd-squashfs, is-application-x-aspx, is-application-x-cmi, is-application-x-gcov-data, is-application-x-jsonc, is-application-x-n64-rom, is-application-x-ova, is-application-x-qrc-xml, is-application-x-tar, is-application-x-unity-asmdef-json, is-application-x-usdz, is-audio-ac3, is-audio-x-mod, is-audio-x-wav, is-chemical-x-xyz, is-image-x-hasselblad-3fr, is-text-mdx, is-text-plain, is-text-x-asm, is-text-x-autoconf, is-text-x-checksums, is-text-x-dotenv, is-text-x-ejs, is-text-x-fortran, is-text-x-gerber, is-text-x-glsl, is-text-x-ini, is-text-x-janet, is-text-x-java, is-text-x-just, is-text-x-literate-haskell, is-text-x-msdos-batch, is-text-x-postcss, is-text-x-pug, is-text-x-python-as-row-py, is-text-x-rebol, is-text-x-sass, is-text-x-scheme, is-text-x-scss, is-text-x-shell-config, is-text-x-tex, is-text-x-typescript, is-text-x-udev-rules, is-text-x-vim, is-text-x-wren, is-video-mp2t, is-video-mp4, is-video-quicktime}
 use Rattle.infer_named.specs.declared.table.Asks.TheVariants.{Bytes, Nothing, Signature, Text}
 use Rattle.infer_named.specs.declared.table.Part.TheVariants.{Extension, Whole}
@@ -26,7 +26,7 @@ group =
     key Extension (codes "mp4") false (reading is-video-mp4 Bytes rows-mp4 rows-heif rows-3g2-3gp-f4v-m4a-m4b-m4v-mov any-lead ∷ []) ∷
     key Extension (codes "rules") true (reading is-text-x-udev-rules Text no-rows rows-txt no-rows any-lead ∷ []) ∷
     key Extension (codes "ss") false (reading is-text-x-scheme Text no-rows rows-sh-txt no-rows any-lead ∷ []) ∷
-    key Extension (codes "z64") false (reading is-application-x-n64-rom Bytes no-rows no-rows no-rows any-lead ∷ []) ∷
+    key Extension (codes "z64") false (reading is-application-x-n64-rom Bytes rows-n64 no-rows no-rows any-lead ∷ []) ∷
     [])
     ∷ (
     key Extension (codes "fd") false (reading is-text-x-tex Text no-rows rows-ps-txt no-rows any-lead ∷ []) ∷
@@ -49,7 +49,7 @@ group =
     [])
     ∷ (
     key Extension (codes "msix") false (reading is-application-msix Signature no-rows rows-zip no-rows any-lead ∷ []) ∷
-    key Extension (codes "odc") false (reading is-application-vnd-oasis-opendocument-chart Signature no-rows rows-zip no-rows any-lead ∷ []) ∷
+    key Extension (codes "odc") false (reading is-application-vnd-oasis-opendocument-chart Signature rows-odc rows-zip no-rows any-lead ∷ []) ∷
     [])
     ∷ (
     key Extension (codes "ac3") false (reading is-audio-ac3 Bytes no-rows no-rows no-rows any-lead ∷ []) ∷
@@ -63,7 +63,7 @@ group =
     key Extension (codes "squashfs") false (reading is-application-vnd-squashfs Signature rows-squashfs no-rows no-rows any-lead ∷ []) ∷
     [])
     ∷ (
-    key Extension (codes "med") false (reading is-audio-x-mod Bytes no-rows no-rows no-rows any-lead ∷ []) ∷
+    key Extension (codes "med") false (reading is-audio-x-mod Bytes rows-med no-rows no-rows any-lead ∷ []) ∷
     key Extension (codes "ncl") false (reading is-text-plain Text rows-txt no-rows text-rows any-lead ∷ []) ∷
     [])
     ∷ (

@@ -2,7 +2,7 @@
 use Rattle.std.specs.Prelude.{List, [], ◌∷◌, codes, false, true}
 use Rattle.infer_named.specs.Key.{Key, key}
 use Rattle.infer_named.specs.Listed.{reading}
-use Rattle.infer_named.specs.Sets.{any-lead, leads-10, no-rows, rows-appimage-core-o-so, rows-application-x-ole-storage-pptx-zip, rows-application-x-ole-storage-zip, rows-avi, rows-awk, rows-cpio, rows-der-pem-txt, rows-elf, rows-eps, rows-exe, rows-gdbm, rows-gz, rows-hdf5, rows-html-json-php-svg-txt-xhtml-xml, rows-html-txt-xhtml-xml, rows-html-txt-xml, rows-ico, rows-ics, rows-jp2, rows-jpg, rows-jpx, rows-npy, rows-pptx, rows-ps, rows-sh-txt, rows-tif, rows-txt, rows-xhtml, rows-zip, text-rows}
+use Rattle.infer_named.specs.Sets.{any-lead, leads-10, no-rows, rows-appimage-core-o-so, rows-application-x-ole-storage-pptx-zip, rows-application-x-ole-storage-zip, rows-avi, rows-awk, rows-cpio, rows-der-pem-txt, rows-elf, rows-eps, rows-exe, rows-gdbm, rows-gz, rows-hdf5, rows-html-json-php-svg-txt-xhtml-xml, rows-html-txt-xhtml-xml, rows-html-txt-xml, rows-ico, rows-ics, rows-jp2, rows-jpg, rows-jpx, rows-kpr-ksp-kwd, rows-n64, rows-npy, rows-pptx, rows-ps, rows-sav, rows-sh-txt, rows-tif, rows-txt, rows-xhtml, rows-zip, text-rows}
 use Rattle.infer_named.specs.Types.{is-application-gzip, is-application-pkcs10, is-application-vnd-comicbook-zip, is-application-vnd-microsoft-portable-executable, is-application-vnd-oasis-opendocument-spreadsheet-flat-xml, is-application-vnd-openxmlformats-officedocument-presentationml-presentation, is-application-vnd-openxmlformats-officedocument-presentationml-template, is-application-vsix, is-application-x-ableton-live-set, is-application-x-aspx, is-application-x-cpio, is-application-x-executable-as-row-elf, is-application-x-gdbm, is-application-x-grib, is-application-x-hdf5, is-application-x-leveldb-table, is-application-x-n64-rom, is-application-x-npy, is-application-x-spss-sav, is-application-x-wheel-zip, is-application-xhtml-xml, is-audio-vnd-audible, is-image-jpeg, is-image-jpx, is-image-vnd-microsoft-icon, is-image-x-eps, is-image-x-kodak-kdc, is-text-calendar, is-text-plain, is-text-x-awk, is-text-x-c-hdr, is-text-x-cabal, is-text-x-cairo, is-text-x-cobol, is-text-x-fastq, is-text-x-fountain, is-text-x-groovy, is-text-x-irclog, is-text-x-ld-script, is-text-x-nsis, is-text-x-rdoc, is-text-x-reason, is-text-x-roc, is-text-x-snakemake, is-text-x-xmi, is-video-vnd-radgamettools-smacker, is-video-x-msvideo, is-video-x-nsv}
 use Rattle.infer_named.specs.declared.table.Asks.TheVariants.{Bytes, Nothing, Signature, Text}
 use Rattle.infer_named.specs.declared.table.Part.TheVariants.{Extension, Whole}
@@ -19,7 +19,7 @@ group =
     key Extension (codes "smk") false (reading is-text-x-snakemake Text no-rows rows-txt no-rows any-lead ∷ reading is-video-vnd-radgamettools-smacker Bytes no-rows no-rows no-rows any-lead ∷ []) ∷
     [])
     ∷ (
-    key Extension (codes "gzip") false (reading is-application-gzip Signature rows-gz no-rows no-rows any-lead ∷ []) ∷
+    key Extension (codes "gzip") false (reading is-application-gzip Signature rows-gz no-rows rows-kpr-ksp-kwd any-lead ∷ []) ∷
     key Extension (codes "rdoc") false (reading is-text-x-rdoc Text no-rows rows-txt no-rows any-lead ∷ []) ∷
     key Extension (codes "xhtml") false (reading is-application-xhtml-xml Text rows-xhtml rows-html-txt-xml no-rows leads-10 ∷ []) ∷
     [])
@@ -58,13 +58,13 @@ group =
     key Extension (codes "gdbm") false (reading is-application-x-gdbm Signature rows-gdbm no-rows no-rows any-lead ∷ []) ∷
     key Extension (codes "nc4") false (reading is-application-x-hdf5 Bytes rows-hdf5 no-rows no-rows any-lead ∷ []) ∷
     key Extension (codes "nsh") false (reading is-text-x-nsis Text no-rows rows-txt no-rows any-lead ∷ []) ∷
-    key Extension (codes "sav") true (reading is-application-x-spss-sav Bytes no-rows no-rows no-rows any-lead ∷ []) ∷
+    key Extension (codes "sav") true (reading is-application-x-spss-sav Bytes rows-sav no-rows no-rows any-lead ∷ []) ∷
     [])
     ∷ (
     key Extension (codes "als") false (reading is-application-x-ableton-live-set Signature no-rows rows-gz no-rows any-lead ∷ []) ∷
     key Extension (codes "grib") false (reading is-application-x-grib Bytes no-rows no-rows no-rows any-lead ∷ []) ∷
     key Extension (codes "groovy") false (reading is-text-x-groovy Text no-rows rows-sh-txt no-rows any-lead ∷ []) ∷
-    key Extension (codes "v64") false (reading is-application-x-n64-rom Bytes no-rows no-rows no-rows any-lead ∷ []) ∷
+    key Extension (codes "v64") false (reading is-application-x-n64-rom Bytes rows-n64 no-rows no-rows any-lead ∷ []) ∷
     [])
     ∷ (
     key Extension (codes "def") true (reading is-text-plain Text rows-txt no-rows text-rows any-lead ∷ []) ∷

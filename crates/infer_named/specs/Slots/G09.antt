@@ -2,7 +2,7 @@
 use Rattle.std.specs.Prelude.{List, [], ◌∷◌, codes, false, true}
 use Rattle.infer_named.specs.Key.{Key, key}
 use Rattle.infer_named.specs.Listed.{reading}
-use Rattle.infer_named.specs.Sets.{any-lead, leads-10, leads-5, leads-9, no-rows, rows-age, rows-apk, rows-application-x-ole-storage, rows-der, rows-fits, rows-gguf, rows-html-json-php-svg-txt-xhtml-xml, rows-html-txt-xhtml-xml, rows-jar-zip, rows-json, rows-json-sh-txt, rows-json-txt, rows-p7b, rows-pem, rows-ppt, rows-ps-txt, rows-psd, rows-py, rows-rb, rows-sh-txt, rows-txt, rows-vhdx, rows-vsdx, rows-wmv, rows-xls, rows-zip, text-rows}
+use Rattle.infer_named.specs.Sets.{any-lead, leads-10, leads-5, leads-9, no-rows, rows-age, rows-apk, rows-application-x-ole-storage, rows-der, rows-fits, rows-gguf, rows-gtkbuilder, rows-html-json-php-svg-txt-xhtml-xml, rows-html-txt-xhtml-xml, rows-jar-zip, rows-json, rows-json-sh-txt, rows-json-txt, rows-p7b, rows-pem, rows-ppt, rows-ps-txt, rows-psd, rows-py, rows-rb, rows-sh-txt, rows-txt, rows-vhdx, rows-vsdx, rows-wmv, rows-xls, rows-zip, text-rows}
 use Rattle.infer_named.specs.Types.{is-application-hjson, is-application-its-xml, is-application-json, is-application-onenote, is-application-pkcs7-mime, is-application-sparql-query, is-application-sql, is-application-timestamp-query, is-application-vnd-android-package-archive, is-application-vnd-apple-numbers, is-application-vnd-coffeescript, is-application-vnd-lotus-1-2-3, is-application-vnd-ms-excel, is-application-vnd-ms-powerpoint, is-application-vnd-ms-visio-drawing-main-xml, is-application-vnd-recordare-musicxml, is-application-x-age-encryption, is-application-x-gguf, is-application-x-glade, is-application-x-jsonc, is-application-x-jsp, is-application-x-msbuild-xml, is-application-x-precompiled-header, is-application-x-profraw, is-application-x-stuffit, is-application-x-vhdx-disk, is-application-xml, is-image-fits, is-image-vnd-adobe-photoshop, is-text-plain, is-text-x-clojure, is-text-x-elixir, is-text-x-forth, is-text-x-gdb, is-text-x-glsl, is-text-x-hcl, is-text-x-jcl, is-text-x-lex, is-text-x-llvm, is-text-x-makefile, is-text-x-meson, is-text-x-mirc, is-text-x-python-as-row-py, is-text-x-racket, is-text-x-rexx, is-text-x-rmarkdown, is-text-x-robotframework, is-text-x-ruby, is-text-x-slint, is-text-x-starlark, is-text-x-swift, is-text-x-systemd-unit, is-text-x-tex, is-text-x-vagrantfile, is-text-x-vim, is-video-x-flic, is-video-x-ms-wmv}
 use Rattle.infer_named.specs.declared.table.Asks.TheVariants.{Bytes, Nothing, Signature, Text}
 use Rattle.infer_named.specs.declared.table.Part.TheVariants.{Extension, Whole}
@@ -90,7 +90,7 @@ group =
     ∷ (
     key Extension (codes "gch") false (reading is-application-x-precompiled-header Bytes no-rows no-rows no-rows any-lead ∷ []) ∷
     key Extension (codes "gemspec") false (reading is-text-x-ruby Text rows-rb rows-sh-txt no-rows any-lead ∷ []) ∷
-    key Extension (codes "glade") false (reading is-application-x-glade Text no-rows rows-html-txt-xhtml-xml no-rows leads-10 ∷ []) ∷
+    key Extension (codes "glade") false (reading is-application-x-glade Text no-rows rows-html-txt-xhtml-xml rows-gtkbuilder leads-10 ∷ []) ∷
     key Extension (codes "hjson") false (reading is-application-hjson Text no-rows rows-json-txt no-rows any-lead ∷ []) ∷
     key Whole (codes "language-configuration.json") false (reading is-application-x-jsonc Text no-rows rows-txt rows-json any-lead ∷ []) ∷
     key Extension (codes "ll") false (reading is-text-x-llvm Text no-rows rows-txt no-rows leads-9 ∷ reading is-text-x-lex Text no-rows rows-txt no-rows leads-5 ∷ reading is-text-plain Text rows-txt no-rows text-rows any-lead ∷ []) ∷

@@ -2,7 +2,7 @@
 use Rattle.std.specs.Prelude.{List, [], ◌∷◌, codes, false, true}
 use Rattle.infer_named.specs.Key.{Key, key}
 use Rattle.infer_named.specs.Listed.{reading}
-use Rattle.infer_named.specs.Sets.{any-lead, leads-10, leads-7, no-rows, rows-application-x-ole-storage-xlsx-zip, rows-elf, rows-gz-sqlite-xml, rows-html-json-php-svg-txt-xhtml-xml, rows-html-sh-svg-txt-xhtml-xml, rows-html-txt-xhtml-xml, rows-html-txt-xml, rows-json, rows-luac, rows-ods, rows-ots, rows-php, rows-pnm, rows-ps-txt, rows-pst, rows-sh-txt, rows-so, rows-tif, rows-txt, rows-wav, rows-zip, text-rows}
+use Rattle.infer_named.specs.Sets.{any-lead, leads-10, leads-7, no-rows, rows-application-x-ole-storage-xlsx-zip, rows-astc, rows-elf, rows-fodt, rows-gz-sqlite-xml, rows-html-json-php-svg-txt-xhtml-xml, rows-html-sh-svg-txt-xhtml-xml, rows-html-txt-xhtml-xml, rows-html-txt-xml, rows-json, rows-luac, rows-ods, rows-ots, rows-php, rows-pnm, rows-ps-txt, rows-pst, rows-sh-txt, rows-so, rows-tif, rows-txt, rows-wav, rows-zip, text-rows}
 use Rattle.infer_named.specs.Types.{is-application-bson, is-application-sbml-xml, is-application-sql, is-application-toml, is-application-vnd-ms-excel-template-macroenabled-12, is-application-vnd-ms-outlook-pst, is-application-vnd-oasis-opendocument-spreadsheet, is-application-vnd-oasis-opendocument-text-flat-xml, is-application-vnd-wolfram-mathematica, is-application-x-cue, is-application-x-gnucash, is-application-x-gnuplot, is-application-x-lua-bytecode, is-application-x-npz, is-application-x-pascal-resource-strings-json, is-application-x-resx-xml, is-application-x-sharedlib, is-audio-x-wav, is-chemical-x-mdl-sdfile, is-image-astc, is-image-jls, is-image-x-kodak-dcr, is-image-x-portable-bitmap, is-image-x-portable-graymap, is-model-iges, is-text-plain, is-text-sgml, is-text-troff, is-text-turtle, is-text-x-apacheconf, is-text-x-asciidoc, is-text-x-autoit, is-text-x-clojure, is-text-x-cron, is-text-x-csrc, is-text-x-gerber, is-text-x-gotemplate, is-text-x-kotlin, is-text-x-ld-script, is-text-x-liquid, is-text-x-makefile, is-text-x-nim, is-text-x-nsis, is-text-x-ocaml, is-text-x-pascal, is-text-x-php, is-text-x-sml, is-text-x-tex}
 use Rattle.infer_named.specs.declared.table.Asks.TheVariants.{Bytes, Nothing, Signature, Text}
 use Rattle.infer_named.specs.declared.table.Part.TheVariants.{Extension, Whole}
@@ -19,7 +19,7 @@ group =
     key Extension (codes "resx") false (reading is-application-x-resx-xml Text no-rows rows-html-txt-xhtml-xml no-rows leads-10 ∷ []) ∷
     [])
     ∷ (
-    key Extension (codes "astc") false (reading is-image-astc Bytes no-rows no-rows no-rows any-lead ∷ []) ∷
+    key Extension (codes "astc") false (reading is-image-astc Bytes rows-astc no-rows no-rows any-lead ∷ []) ∷
     key Extension (codes "gnucash") false (reading is-application-x-gnucash Signature no-rows rows-gz-sqlite-xml no-rows any-lead ∷ []) ∷
     [])
     ∷ (
@@ -28,7 +28,7 @@ group =
     [])
     ∷ (
     key Extension (codes "dcr") false (reading is-image-x-kodak-dcr Signature no-rows rows-tif no-rows any-lead ∷ []) ∷
-    key Extension (codes "fodt") false (reading is-application-vnd-oasis-opendocument-text-flat-xml Text no-rows rows-html-txt-xhtml-xml no-rows leads-10 ∷ []) ∷
+    key Extension (codes "fodt") false (reading is-application-vnd-oasis-opendocument-text-flat-xml Text rows-fodt rows-html-txt-xhtml-xml no-rows leads-10 ∷ []) ∷
     key Extension (codes "man") false (reading is-text-troff Text no-rows rows-txt no-rows any-lead ∷ []) ∷
     key Extension (codes "mysql") false (reading is-application-sql Text no-rows rows-sh-txt no-rows any-lead ∷ []) ∷
     key Extension (codes "nimble") false (reading is-text-x-nim Text no-rows rows-sh-txt no-rows any-lead ∷ []) ∷

@@ -2,7 +2,7 @@
 use Rattle.std.specs.Prelude.{List, [], ◌∷◌, codes, false, true}
 use Rattle.infer_named.specs.Key.{Key, key}
 use Rattle.infer_named.specs.Listed.{reading}
-use Rattle.infer_named.specs.Sets.{any-lead, leads-10, no-rows, rows-application-x-msi, rows-application-x-ole-storage, rows-asc, rows-bc, rows-djvu, rows-elf, rows-exe, rows-gpg, rows-gpkg, rows-html, rows-html-json-php-svg-txt-xhtml-xml, rows-html-sh-svg-txt-xhtml-xml, rows-html-txt-xhtml-xml, rows-json, rows-json-sh-txt, rows-lzma, rows-mach, rows-mkv, rows-o, rows-obj, rows-odt, rows-ott, rows-pem, rows-pgp, rows-php, rows-php-svg-txt-xhtml-xml, rows-ppt, rows-ps-txt, rows-py, rows-rb, rows-sh-txt, rows-sig, rows-sqlite, rows-txt, rows-vmdk, rows-woff2, rows-zip, text-rows}
+use Rattle.infer_named.specs.Sets.{any-lead, leads-10, no-rows, rows-application-x-msi, rows-application-x-ole-storage, rows-asc, rows-bc, rows-djvm, rows-djvu, rows-elf, rows-exe, rows-gpg, rows-gpkg, rows-html, rows-html-json-php-svg-txt-xhtml-xml, rows-html-sh-svg-txt-xhtml-xml, rows-html-txt-xhtml-xml, rows-json, rows-json-sh-txt, rows-lzma, rows-mach, rows-mkv, rows-o, rows-obj, rows-odt, rows-opml, rows-ott, rows-pem, rows-pgp, rows-php, rows-php-svg-txt-xhtml-xml, rows-ppt, rows-ps-txt, rows-py, rows-rb, rows-sh-txt, rows-sig, rows-sqlite, rows-txt, rows-vmdk, rows-woff2, rows-zip, text-rows}
 use Rattle.infer_named.specs.Types.{is-application-dita-xml, is-application-font-woff-as-row-woff2, is-application-json, is-application-pgp-encrypted, is-application-pgp-keys-as-row-asc, is-application-pgp-keys-as-row-gpg, is-application-pgp-signature, is-application-vnd-chess-pgn, is-application-vnd-microsoft-portable-executable, is-application-vnd-ms-powerpoint, is-application-vnd-oasis-opendocument-text, is-application-vnd-sqlite3, is-application-x-executable-as-row-obj, is-application-x-gir-xml, is-application-x-jsonc, is-application-x-llvm, is-application-x-lzma-compressed-tar, is-application-x-m4, is-application-x-mach-binary, is-application-x-msbuild-xml, is-application-x-msi, is-application-x-object, is-application-x-precompiled-header, is-application-x-pytorch, is-application-x-tmx-xml, is-application-x-vmdk-disk, is-application-x-wix-xml, is-audio-x-s3m, is-image-vnd-djvu, is-image-x-tga, is-image-x-xfig, is-text-html, is-text-plain, is-text-troff, is-text-x-checksums, is-text-x-cmake, is-text-x-d2, is-text-x-dune, is-text-x-ebnf, is-text-x-eex, is-text-x-ejs, is-text-x-gerber, is-text-x-hlsl, is-text-x-ini, is-text-x-lex, is-text-x-lilypond, is-text-x-mermaid, is-text-x-opentype-feature, is-text-x-opml-xml, is-text-x-php, is-text-x-puppet, is-text-x-python-as-row-py, is-text-x-qmake, is-text-x-ruby, is-text-x-stata, is-text-x-systemd-unit, is-text-x-tla, is-text-x-vim, is-text-x-xmi, is-video-x-matroska-3d}
 use Rattle.infer_named.specs.declared.table.Asks.TheVariants.{Bytes, Nothing, Signature, Text}
 use Rattle.infer_named.specs.declared.table.Part.TheVariants.{Extension, Whole}
@@ -19,7 +19,7 @@ group =
     ∷ (
     key Whole (codes "api-extractor.json") false (reading is-application-x-jsonc Text no-rows rows-txt rows-json any-lead ∷ []) ∷
     key Extension (codes "bnf") false (reading is-text-x-ebnf Text no-rows rows-txt no-rows any-lead ∷ []) ∷
-    key Extension (codes "djv") false (reading is-image-vnd-djvu Signature rows-djvu no-rows no-rows any-lead ∷ []) ∷
+    key Extension (codes "djv") false (reading is-image-vnd-djvu Signature rows-djvu no-rows rows-djvm any-lead ∷ []) ∷
     key Extension (codes "ly") false (reading is-text-x-lilypond Text no-rows rows-ps-txt no-rows any-lead ∷ []) ∷
     key Extension (codes "sqlproj") false (reading is-application-x-msbuild-xml Text no-rows rows-html-txt-xhtml-xml no-rows leads-10 ∷ []) ∷
     key Extension (codes "stp") false (reading is-text-plain Text rows-txt no-rows text-rows any-lead ∷ []) ∷
@@ -84,7 +84,7 @@ group =
     [])
     ∷ (
     key Whole (codes "fstab") false (reading is-text-plain Text rows-txt no-rows text-rows any-lead ∷ []) ∷
-    key Extension (codes "opml") false (reading is-text-x-opml-xml Text no-rows rows-html-txt-xhtml-xml no-rows leads-10 ∷ []) ∷
+    key Extension (codes "opml") false (reading is-text-x-opml-xml Text rows-opml rows-html-txt-xhtml-xml no-rows leads-10 ∷ []) ∷
     key Whole (codes "package-lock.json") false (reading is-application-json Text rows-json no-rows no-rows any-lead ∷ []) ∷
     key Extension (codes "pri") false (reading is-text-x-qmake Text no-rows rows-txt no-rows any-lead ∷ []) ∷
     [])

@@ -2,7 +2,7 @@
 use Rattle.std.specs.Prelude.{List, [], ◌∷◌, codes, false, true}
 use Rattle.infer_named.specs.Key.{Key, key}
 use Rattle.infer_named.specs.Listed.{reading}
-use Rattle.infer_named.specs.Sets.{any-lead, leads-10, no-rows, rows-7z, rows-asc, rows-bz2, rows-bz3, rows-cr2, rows-cr2-dng, rows-dex, rows-exe, rows-gif, rows-gpg, rows-gz, rows-html-json-php-svg-txt-xhtml-xml, rows-html-txt-xhtml-xml, rows-ics, rows-json, rows-json-plist-txt-xml, rows-json-sh-txt, rows-par2, rows-pgp, rows-ps-txt, rows-py, rows-py-sh-zip, rows-rb, rows-sh-txt, rows-svg, rows-tif, rows-ttc, rows-txt, rows-tzif}
+use Rattle.infer_named.specs.Sets.{any-lead, leads-10, no-rows, rows-7z, rows-asc, rows-bz2, rows-bz3, rows-cr2, rows-cr2-dng, rows-dex, rows-exe, rows-gif, rows-gpg, rows-gz, rows-html-json-php-svg-txt-xhtml-xml, rows-html-txt-xhtml-xml, rows-ics, rows-json, rows-json-plist-txt-xml, rows-json-sh-txt, rows-par2, rows-pgp, rows-ps-txt, rows-py, rows-py-sh-zip, rows-ra, rows-rb, rows-sh-txt, rows-svg, rows-tif, rows-ttc, rows-txt, rows-tzif, rows-xm}
 use Rattle.infer_named.specs.Types.{is-application-atomsvc-xml, is-application-bpmn-xml, is-application-gml-xml, is-application-pgp-encrypted, is-application-pgp-keys-as-row-asc, is-application-pgp-keys-as-row-gpg, is-application-toml, is-application-ttml-xml, is-application-tzif, is-application-vnd-android-dex, is-application-vnd-bzip3, is-application-vnd-microsoft-portable-executable, is-application-x-bzip2, is-application-x-cb7, is-application-x-erb, is-application-x-gameboy-rom, is-application-x-gnuplot, is-application-x-jsonc, is-application-x-kerberos-keytab, is-application-x-par2, is-application-x-phylip, is-application-x-pov, is-application-x-python-zipapp, is-application-x-sas-data, is-application-x-theme-xml, is-application-x-unity-asset, is-application-x-virtualbox-saved-state, is-audio-sf2, is-audio-vnd-rn-realaudio, is-audio-x-tta, is-audio-x-xm, is-font-collection, is-image-geotiff, is-image-gif, is-image-svg-xml, is-image-tiff, is-image-x-canon-cr2, is-text-calendar, is-text-troff, is-text-x-agda, is-text-x-dockerfile, is-text-x-fortran, is-text-x-fsharp, is-text-x-gdb, is-text-x-gerber, is-text-x-gitignore, is-text-x-glsl, is-text-x-go, is-text-x-gotemplate, is-text-x-haskell, is-text-x-lilypond, is-text-x-ocaml, is-text-x-ooc, is-text-x-oz, is-text-x-python-as-row-py, is-text-x-ruby, is-text-x-sourcepawn, is-text-x-starlark, is-text-x-thrift, is-text-x-uri}
 use Rattle.infer_named.specs.declared.table.Asks.TheVariants.{Bytes, Nothing, Signature, Text}
 use Rattle.infer_named.specs.declared.table.Part.TheVariants.{Extension, Whole}
@@ -46,7 +46,7 @@ group =
     key Extension (codes "gto") false (reading is-text-x-gerber Text no-rows rows-txt no-rows any-lead ∷ []) ∷
     key Extension (codes "mll") false (reading is-text-x-ocaml Text no-rows rows-sh-txt no-rows any-lead ∷ []) ∷
     key Extension (codes "otc") false (reading is-font-collection Signature rows-ttc no-rows no-rows any-lead ∷ []) ∷
-    key Extension (codes "xm") true (reading is-audio-x-xm Bytes no-rows no-rows no-rows any-lead ∷ []) ∷
+    key Extension (codes "xm") true (reading is-audio-x-xm Bytes rows-xm no-rows no-rows any-lead ∷ []) ∷
     [])
     ∷ (
     key Extension (codes "ics") false (reading is-text-calendar Text rows-ics rows-txt no-rows any-lead ∷ []) ∷
@@ -90,7 +90,7 @@ group =
     key Whole (codes "containerfile") false (reading is-text-x-dockerfile Text no-rows rows-sh-txt no-rows any-lead ∷ []) ∷
     key Extension (codes "containerfile") false (reading is-text-x-dockerfile Text no-rows rows-sh-txt no-rows any-lead ∷ []) ∷
     key Extension (codes "go") false (reading is-text-x-go Text no-rows rows-sh-txt no-rows any-lead ∷ []) ∷
-    key Extension (codes "ra") true (reading is-audio-vnd-rn-realaudio Bytes no-rows no-rows no-rows any-lead ∷ []) ∷
+    key Extension (codes "ra") true (reading is-audio-vnd-rn-realaudio Bytes rows-ra no-rows no-rows any-lead ∷ []) ∷
     [])
     ∷ (
     key Whole (codes ".hgignore") false (reading is-text-x-gitignore Text no-rows rows-txt no-rows any-lead ∷ []) ∷

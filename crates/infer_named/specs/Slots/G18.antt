@@ -2,7 +2,7 @@
 use Rattle.std.specs.Prelude.{List, [], ◌∷◌, codes, false, true}
 use Rattle.infer_named.specs.Key.{Key, key}
 use Rattle.infer_named.specs.Listed.{reading}
-use Rattle.infer_named.specs.Sets.{any-lead, leads-10, no-rows, rows-application-x-ole-storage, rows-arrow, rows-bmp, rows-bz2-gz-xz, rows-epub, rows-exe, rows-fits, rows-gpx, rows-gz, rows-hdf5, rows-heic, rows-heics-heif, rows-html-json-php-svg-txt-xhtml-xml, rows-html-txt-xhtml-xml, rows-html-txt-xml, rows-json, rows-json-sh-txt, rows-lz, rows-lzh, rows-m3u8, rows-m4a, rows-m4b-m4v-mp4, rows-p7b, rows-pem, rows-ps-sh-txt, rows-pst, rows-py, rows-qcow2, rows-rb, rows-rpm, rows-sh, rows-sh-txt, rows-tcl, rows-tif, rows-txt, rows-vhd, rows-xls, rows-xz, rows-zip, text-rows}
+use Rattle.infer_named.specs.Sets.{any-lead, leads-10, no-rows, rows-application-x-ole-storage, rows-arrow, rows-bmp, rows-bz2-gz-xz, rows-epub, rows-exe, rows-fits, rows-gpx, rows-gz, rows-hdf5, rows-heic, rows-heics-heif, rows-html-json-php-svg-txt-xhtml-xml, rows-html-txt-xhtml-xml, rows-html-txt-xml, rows-jceks, rows-json, rows-json-sh-txt, rows-lz, rows-lzh, rows-m3u8, rows-m4a, rows-m4b-m4v-mp4, rows-p7b, rows-pem, rows-ps-sh-txt, rows-pst, rows-py, rows-qcow2, rows-rb, rows-rpm, rows-sh, rows-sh-txt, rows-srpm, rows-tcl, rows-tif, rows-txt, rows-vhd, rows-xls, rows-xz, rows-zip, text-rows}
 use Rattle.infer_named.specs.Types.{is-application-epub-zip, is-application-gpx-xml, is-application-mbox, is-application-pkcs7-mime, is-application-vnd-apache-arrow-file, is-application-vnd-coffeescript, is-application-vnd-microsoft-portable-executable, is-application-vnd-ms-excel, is-application-vnd-ms-outlook-pst, is-application-vnd-wordperfect, is-application-x-compressed-tar, is-application-x-gschema-xml, is-application-x-java-jce-keystore, is-application-x-java-serialized-object, is-application-x-jsonc, is-application-x-ksh, is-application-x-lzh-compressed, is-application-x-lzip-compressed-tar, is-application-x-netcdf, is-application-x-qemu-disk, is-application-x-r-data, is-application-x-rpm, is-application-x-vhd-disk, is-application-x-vim-swap, is-application-x-xz-compressed-tar, is-application-xml, is-audio-m4a, is-audio-x-mpegurl, is-image-bmp, is-image-fits, is-image-heic, is-image-x-nikon-nef, is-model-vnd-usdc, is-text-markdown, is-text-plain, is-text-troff, is-text-x-apacheconf, is-text-x-autoconf, is-text-x-c-src, is-text-x-csound, is-text-x-ebnf, is-text-x-erlang, is-text-x-idris, is-text-x-ld-script, is-text-x-less, is-text-x-livescript, is-text-x-mediawiki, is-text-x-ms-regedit, is-text-x-ocaml, is-text-x-puppet, is-text-x-python-as-row-py, is-text-x-readline, is-text-x-ruby, is-text-x-sed, is-text-x-shellscript, is-text-x-svsrc, is-text-x-tcl, is-text-x-typst, is-text-x-vhdl, is-text-x-xonsh}
 use Rattle.infer_named.specs.declared.table.Asks.TheVariants.{Bytes, Nothing, Signature, Text}
 use Rattle.infer_named.specs.declared.table.Part.TheVariants.{Extension, Whole}
@@ -44,7 +44,7 @@ group =
     [])
     ∷ (
     key Extension (codes "gschema.xml") false (reading is-application-x-gschema-xml Text no-rows rows-html-txt-xhtml-xml no-rows leads-10 ∷ []) ∷
-    key Extension (codes "jceks") false (reading is-application-x-java-jce-keystore Bytes no-rows no-rows no-rows any-lead ∷ []) ∷
+    key Extension (codes "jceks") false (reading is-application-x-java-jce-keystore Bytes rows-jceks no-rows no-rows any-lead ∷ []) ∷
     key Extension (codes "pst") false (reading is-application-vnd-ms-outlook-pst Signature rows-pst no-rows no-rows any-lead ∷ []) ∷
     key Extension (codes "ser") true (reading is-application-x-java-serialized-object Bytes no-rows no-rows no-rows any-lead ∷ []) ∷
     key Extension (codes "sys") true (reading is-application-vnd-microsoft-portable-executable Signature rows-exe no-rows no-rows any-lead ∷ []) ∷
@@ -81,7 +81,7 @@ group =
     ∷ (
     key Extension (codes "eliom") false (reading is-text-x-ocaml Text no-rows rows-sh-txt no-rows any-lead ∷ []) ∷
     key Extension (codes "mkd") false (reading is-text-markdown Text no-rows rows-html-json-php-svg-txt-xhtml-xml no-rows any-lead ∷ []) ∷
-    key Extension (codes "srpm") false (reading is-application-x-rpm Bytes rows-rpm no-rows no-rows any-lead ∷ []) ∷
+    key Extension (codes "srpm") false (reading is-application-x-rpm Bytes rows-rpm no-rows rows-srpm any-lead ∷ []) ∷
     key Extension (codes "usdc") false (reading is-model-vnd-usdc Bytes no-rows no-rows no-rows any-lead ∷ []) ∷
     [])
     ∷ []

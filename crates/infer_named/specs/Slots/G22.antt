@@ -2,7 +2,7 @@
 use Rattle.std.specs.Prelude.{List, [], ◌∷◌, codes, false, true}
 use Rattle.infer_named.specs.Key.{Key, key}
 use Rattle.infer_named.specs.Listed.{reading}
-use Rattle.infer_named.specs.Sets.{any-lead, leads-10, no-rows, rows-apk-jar-zip, rows-appimage, rows-application-x-ole-storage, rows-application-x-ole-storage-zip, rows-beam, rows-der-p7b-pem, rows-docx-application-x-ole-storage-zip, rows-elf, rows-evtx, rows-gz, rows-hdf5, rows-heics, rows-heif, rows-html-json-php-svg-txt-xhtml-xml, rows-html-sh-svg-txt-xhtml-xml, rows-js, rows-json, rows-json-ndjson-txt, rows-json-plist-txt-xml, rows-json-sh-txt, rows-json-txt, rows-ndjson, rows-o, rows-p12, rows-php, rows-pl, rows-rar, rows-rb, rows-sh-txt, rows-ttc, rows-txt, rows-vcf, rows-wasm, rows-xlsx, text-rows}
+use Rattle.infer_named.specs.Sets.{any-lead, leads-10, no-rows, rows-apk-jar-zip, rows-appimage, rows-application-x-ole-storage, rows-application-x-ole-storage-zip, rows-beam, rows-der-p7b-pem, rows-docx-application-x-ole-storage-zip, rows-elf, rows-evtx, rows-gjs-js, rows-gz, rows-hdf5, rows-heics, rows-heif, rows-html-json-php-svg-txt-xhtml-xml, rows-html-sh-svg-txt-xhtml-xml, rows-json, rows-json-ndjson-txt, rows-json-plist-txt-xml, rows-json-sh-txt, rows-json-txt, rows-kpr-ksp-kwd, rows-ndjson, rows-o, rows-p12, rows-php, rows-pl, rows-rar, rows-rb, rows-sh-txt, rows-ttc, rows-txt, rows-vcf, rows-wasm, rows-xlsx, text-rows}
 use Rattle.infer_named.specs.Types.{is-application-gzip, is-application-pkcs12, is-application-pkcs7-signature, is-application-vnd-appimage, is-application-vnd-comicbook-rar, is-application-vnd-lotus-1-2-3, is-application-vnd-ms-project, is-application-vnd-ms-word-template-macroenabled-12, is-application-vnd-nintendo-snes-rom, is-application-vnd-openxmlformats-officedocument-spreadsheetml-sheet, is-application-wasm, is-application-x-ace, is-application-x-apkm, is-application-x-device-tree-blob, is-application-x-erlang-beam, is-application-x-hdf5, is-application-x-ms-evtx, is-application-x-ndjson, is-application-x-object, is-application-x-theme-xml, is-application-yaml, is-font-collection, is-image-heic-sequence, is-image-x-minolta-mrw, is-model-mtl, is-multipart-related, is-text-csv, is-text-javascript, is-text-plain, is-text-uri-list, is-text-vcard, is-text-x-abap, is-text-x-asn1, is-text-x-dune, is-text-x-ejs, is-text-x-emacs-lisp, is-text-x-gitignore, is-text-x-handlebars, is-text-x-ldif, is-text-x-lex, is-text-x-metal, is-text-x-perl, is-text-x-php, is-text-x-pig, is-text-x-psv, is-text-x-ragel, is-text-x-raku, is-text-x-reason, is-text-x-ruby, is-text-x-setext, is-text-x-stan, is-text-x-texinfo, is-text-x-vue, is-video-x-flic}
 use Rattle.infer_named.specs.declared.table.Asks.TheVariants.{Bytes, Nothing, Signature, Text}
 use Rattle.infer_named.specs.declared.table.Part.TheVariants.{Extension, Whole}
@@ -23,7 +23,7 @@ group =
     ∷ (
     key Extension (codes "asn") false (reading is-text-x-asn1 Text no-rows rows-txt no-rows any-lead ∷ []) ∷
     key Extension (codes "ect") false (reading is-text-x-ejs Text no-rows rows-html-json-php-svg-txt-xhtml-xml no-rows any-lead ∷ []) ∷
-    key Extension (codes "gz") false (reading is-application-gzip Signature rows-gz no-rows no-rows any-lead ∷ []) ∷
+    key Extension (codes "gz") false (reading is-application-gzip Signature rows-gz no-rows rows-kpr-ksp-kwd any-lead ∷ []) ∷
     key Whole (codes "installer") false (reading is-text-plain Text rows-txt no-rows text-rows any-lead ∷ []) ∷
     key Extension (codes "pig") false (reading is-text-x-pig Text no-rows rows-txt no-rows any-lead ∷ []) ∷
     key Extension (codes "rl") false (reading is-text-x-ragel Text no-rows rows-txt no-rows any-lead ∷ []) ∷
@@ -41,7 +41,7 @@ group =
     key Extension (codes "el") false (reading is-text-x-emacs-lisp Text no-rows rows-sh-txt no-rows any-lead ∷ []) ∷
     key Extension (codes "gitignore") false (reading is-text-x-gitignore Text no-rows rows-txt no-rows any-lead ∷ []) ∷
     key Extension (codes "heics") false (reading is-image-heic-sequence Signature rows-heics rows-heif no-rows any-lead ∷ []) ∷
-    key Extension (codes "jsm") false (reading is-text-javascript Text rows-js rows-json-sh-txt no-rows any-lead ∷ []) ∷
+    key Extension (codes "jsm") false (reading is-text-javascript Text rows-gjs-js rows-json-sh-txt no-rows any-lead ∷ []) ∷
     key Extension (codes "vcard") false (reading is-text-vcard Text rows-vcf rows-txt no-rows any-lead ∷ []) ∷
     [])
     ∷ (

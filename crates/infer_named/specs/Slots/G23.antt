@@ -2,7 +2,7 @@
 use Rattle.std.specs.Prelude.{List, [], ◌∷◌, codes, false, true}
 use Rattle.infer_named.specs.Key.{Key, key}
 use Rattle.infer_named.specs.Listed.{reading}
-use Rattle.infer_named.specs.Sets.{any-lead, leads-10, no-rows, rows-accdb, rows-application-x-ole-storage, rows-application-x-ole-storage-zip, rows-bz2-gz-xz, rows-chm, rows-docx, rows-gpkg, rows-hdf5, rows-html-txt-xhtml-xml, rows-jpg, rows-json, rows-odt-zip, rows-ogg, rows-ogv, rows-orc, rows-ott, rows-ps-txt, rows-rb, rows-sh-txt, rows-sqlite, rows-tcl, rows-txt, rows-wim, rows-xpm, rows-zip, text-rows}
+use Rattle.infer_named.specs.Sets.{any-lead, leads-10, no-rows, rows-accdb, rows-application-x-ole-storage, rows-application-x-ole-storage-zip, rows-bz2-gz-xz, rows-chm, rows-docx, rows-gpkg, rows-hdf5, rows-html-txt-xhtml-xml, rows-ilbm, rows-jpg, rows-json, rows-mo3, rows-odt-zip, rows-ogg, rows-ogv, rows-orc, rows-ott, rows-ps-txt, rows-rb, rows-sgi, rows-sh-txt, rows-sqlite, rows-tcl, rows-txt, rows-wim, rows-xpm, rows-zip, text-rows}
 use Rattle.infer_named.specs.Types.{is-application-atomcat-xml, is-application-schema-json, is-application-smil-xml, is-application-vnd-apple-pages, is-application-vnd-ms-htmlhelp, is-application-vnd-oasis-opendocument-text-template, is-application-vnd-openxmlformats-officedocument-wordprocessingml-document, is-application-vnd-sqlite3, is-application-x-csh, is-application-x-godot-scene, is-application-x-hdf5, is-application-x-matlab-data, is-application-x-ms-registry-hive, is-application-x-ms-wim, is-application-x-msaccess-as-row-accdb, is-application-x-nuspec-xml, is-application-x-orc, is-application-x-quattropro, is-application-x-r-data, is-application-x-shared-library-la, is-application-x-urdf-xml, is-audio-x-mo3, is-audio-x-scpls, is-chemical-x-mdl-molfile, is-image-jpeg, is-image-x-ilbm, is-image-x-sgi, is-image-x-xpixmap, is-text-plain, is-text-x-bicep, is-text-x-bpftrace, is-text-x-cobol, is-text-x-csound, is-text-x-ebnf, is-text-x-fennel, is-text-x-gitconfig, is-text-x-gitignore, is-text-x-gn, is-text-x-kotlin, is-text-x-metafont, is-text-x-pawn, is-text-x-rebol, is-text-x-rsrc, is-text-x-ruby, is-text-x-scala, is-text-x-shell-config, is-text-x-systemd-unit, is-text-x-tcl, is-text-x-tex, is-text-x-txt2tags, is-text-x-verilog, is-text-x-xresources, is-video-h265, is-video-ogg}
 use Rattle.infer_named.specs.declared.table.Asks.TheVariants.{Bytes, Nothing, Signature, Text}
 use Rattle.infer_named.specs.declared.table.Part.TheVariants.{Extension, Whole}
@@ -27,7 +27,7 @@ group =
     key Extension (codes "bicep") false (reading is-text-x-bicep Text no-rows rows-txt no-rows any-lead ∷ []) ∷
     key Extension (codes "cob") false (reading is-text-x-cobol Text no-rows rows-txt no-rows any-lead ∷ []) ∷
     key Extension (codes "hevc") false (reading is-video-h265 Bytes no-rows no-rows no-rows any-lead ∷ []) ∷
-    key Extension (codes "mo3") false (reading is-audio-x-mo3 Bytes no-rows no-rows no-rows any-lead ∷ []) ∷
+    key Extension (codes "mo3") false (reading is-audio-x-mo3 Bytes rows-mo3 no-rows no-rows any-lead ∷ []) ∷
     key Extension (codes "ogv") false (reading is-video-ogg Signature rows-ogv rows-ogg no-rows any-lead ∷ []) ∷
     key Extension (codes "vstemplate") false (reading is-application-x-nuspec-xml Text no-rows rows-html-txt-xhtml-xml no-rows leads-10 ∷ []) ∷
     key Extension (codes "xacro") false (reading is-application-x-urdf-xml Text no-rows rows-html-txt-xhtml-xml no-rows leads-10 ∷ []) ∷
@@ -38,7 +38,7 @@ group =
     [])
     ∷ (
     key Extension (codes "fr") false (reading is-text-plain Text rows-txt no-rows text-rows any-lead ∷ []) ∷
-    key Extension (codes "ilbm") false (reading is-image-x-ilbm Bytes no-rows no-rows no-rows any-lead ∷ []) ∷
+    key Extension (codes "ilbm") false (reading is-image-x-ilbm Bytes rows-ilbm no-rows no-rows any-lead ∷ []) ∷
     key Whole (codes "ntuser.dat") false (reading is-application-x-ms-registry-hive Bytes no-rows no-rows no-rows any-lead ∷ []) ∷
     key Extension (codes "wim") false (reading is-application-x-ms-wim Signature rows-wim no-rows no-rows any-lead ∷ []) ∷
     [])
@@ -54,7 +54,7 @@ group =
     key Extension (codes "mol") false (reading is-chemical-x-mdl-molfile Text no-rows rows-txt no-rows any-lead ∷ []) ∷
     key Extension (codes "nuspec") false (reading is-application-x-nuspec-xml Text no-rows rows-html-txt-xhtml-xml no-rows leads-10 ∷ []) ∷
     key Extension (codes "rabl") false (reading is-text-x-ruby Text rows-rb rows-sh-txt no-rows any-lead ∷ []) ∷
-    key Extension (codes "sgi") false (reading is-image-x-sgi Bytes no-rows no-rows no-rows any-lead ∷ []) ∷
+    key Extension (codes "sgi") false (reading is-image-x-sgi Bytes rows-sgi no-rows no-rows any-lead ∷ []) ∷
     [])
     ∷ (
     key Extension (codes "rebol") false (reading is-text-x-rebol Text no-rows rows-txt no-rows any-lead ∷ []) ∷

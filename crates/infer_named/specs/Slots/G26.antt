@@ -2,7 +2,7 @@
 use Rattle.std.specs.Prelude.{List, [], ◌∷◌, codes, false, true}
 use Rattle.infer_named.specs.Key.{Key, key}
 use Rattle.infer_named.specs.Listed.{reading}
-use Rattle.infer_named.specs.Sets.{any-lead, leads-10, no-rows, rows-3g2-3gp-f4v-m4a-m4b-m4v-mov, rows-apk-jar-zip, rows-application-x-ole-storage, rows-awk, rows-dsf, rows-exe, rows-heif, rows-html-json-php-svg-txt-xhtml-xml, rows-html-sh-svg-txt-xhtml-xml, rows-html-txt-xhtml-xml, rows-json, rows-mp4, rows-mpg, rows-odg-zip, rows-php, rows-py, rows-rb, rows-sh-txt, rows-tar, rows-txt, rows-vsd, rows-zip, text-rows}
+use Rattle.infer_named.specs.Sets.{any-lead, leads-10, no-rows, rows-3g2-3gp-f4v-m4a-m4b-m4v-mov, rows-apk-jar-zip, rows-application-x-ole-storage, rows-asar, rows-awk, rows-dsf, rows-exe, rows-heif, rows-html-json-php-svg-txt-xhtml-xml, rows-html-sh-svg-txt-xhtml-xml, rows-html-txt-xhtml-xml, rows-ilbm, rows-json, rows-mp4, rows-mpg, rows-odg-zip, rows-otg, rows-php, rows-py, rows-ras, rows-rb, rows-sh-txt, rows-tar, rows-txt, rows-vsd, rows-zip, text-rows}
 use Rattle.infer_named.specs.Types.{is-application-vnd-microsoft-portable-executable, is-application-vnd-oasis-opendocument-graphics-template, is-application-vnd-visio, is-application-x-android-archive, is-application-x-asar, is-application-x-asp, is-application-x-cbt, is-application-x-desktop, is-application-x-eclipse-xml, is-application-x-grib, is-application-x-hwpx, is-application-x-jsonc, is-application-x-python-pickle, is-application-x-quattropro, is-application-x-sketch, is-application-x-terraform-state-json, is-application-x-tex-tfm, is-application-xproc-xml, is-audio-x-dsf, is-image-wmf, is-image-x-cmu-raster, is-image-x-ilbm, is-text-plain, is-text-troff, is-text-turtle, is-text-vnd-familysearch-gedcom, is-text-vnd-graphviz, is-text-x-adasrc, is-text-x-agda, is-text-x-asm, is-text-x-awk, is-text-x-c-src, is-text-x-chapel, is-text-x-checksums, is-text-x-clojure, is-text-x-common-lisp, is-text-x-dns-zone, is-text-x-ebuild, is-text-x-forth, is-text-x-fortran, is-text-x-gerber, is-text-x-hcl, is-text-x-java, is-text-x-kotlin, is-text-x-newick, is-text-x-php, is-text-x-python-as-row-py, is-text-x-ruby, is-text-x-stata, is-text-x-textile, is-video-mp4, is-video-mpeg}
 use Rattle.infer_named.specs.declared.table.Asks.TheVariants.{Bytes, Nothing, Signature, Text}
 use Rattle.infer_named.specs.declared.table.Part.TheVariants.{Extension, Whole}
@@ -25,7 +25,7 @@ group =
     [])
     ∷ (
     key Extension (codes "fth") false (reading is-text-x-forth Text no-rows rows-sh-txt no-rows any-lead ∷ []) ∷
-    key Extension (codes "iff") false (reading is-image-x-ilbm Bytes no-rows no-rows no-rows any-lead ∷ []) ∷
+    key Extension (codes "iff") false (reading is-image-x-ilbm Bytes rows-ilbm no-rows no-rows any-lead ∷ []) ∷
     [])
     ∷ (
     key Extension (codes "a51") false (reading is-text-x-asm Text no-rows rows-txt no-rows any-lead ∷ []) ∷
@@ -41,7 +41,7 @@ group =
     ∷ (
     key Extension (codes "cpl") false (reading is-application-vnd-microsoft-portable-executable Signature rows-exe no-rows no-rows any-lead ∷ []) ∷
     key Extension (codes "gts") false (reading is-text-x-gerber Text no-rows rows-txt no-rows any-lead ∷ []) ∷
-    key Extension (codes "otg") false (reading is-application-vnd-oasis-opendocument-graphics-template Signature no-rows rows-odg-zip no-rows any-lead ∷ []) ∷
+    key Extension (codes "otg") false (reading is-application-vnd-oasis-opendocument-graphics-template Signature rows-otg rows-odg-zip no-rows any-lead ∷ []) ∷
     key Extension (codes "pro") false (reading is-text-plain Text rows-txt no-rows text-rows any-lead ∷ []) ∷
     key Extension (codes "qpw") false (reading is-application-x-quattropro Bytes no-rows rows-application-x-ole-storage no-rows any-lead ∷ []) ∷
     [])
@@ -50,7 +50,7 @@ group =
     key Extension (codes "directory") false (reading is-application-x-desktop Text no-rows rows-txt no-rows any-lead ∷ []) ∷
     key Extension (codes "gv") false (reading is-text-vnd-graphviz Text no-rows rows-txt no-rows any-lead ∷ []) ∷
     key Extension (codes "pyd") false (reading is-application-vnd-microsoft-portable-executable Signature rows-exe no-rows no-rows any-lead ∷ []) ∷
-    key Extension (codes "ras") false (reading is-image-x-cmu-raster Bytes no-rows no-rows no-rows any-lead ∷ []) ∷
+    key Extension (codes "ras") false (reading is-image-x-cmu-raster Bytes rows-ras no-rows no-rows any-lead ∷ []) ∷
     [])
     ∷ (
     key Whole (codes ".swcrc") false (reading is-application-x-jsonc Text no-rows rows-txt rows-json any-lead ∷ []) ∷
@@ -83,7 +83,7 @@ group =
     key Extension (codes "pkl") false (reading is-application-x-python-pickle Bytes no-rows no-rows no-rows any-lead ∷ []) ∷
     [])
     ∷ (
-    key Extension (codes "asar") false (reading is-application-x-asar Bytes no-rows no-rows no-rows any-lead ∷ []) ∷
+    key Extension (codes "asar") false (reading is-application-x-asar Bytes rows-asar no-rows no-rows any-lead ∷ []) ∷
     key Extension (codes "cxx") false (reading is-text-x-c-src Text no-rows rows-txt no-rows any-lead ∷ []) ∷
     key Extension (codes "ny") false (reading is-text-x-common-lisp Text no-rows rows-sh-txt no-rows any-lead ∷ []) ∷
     [])

@@ -2,7 +2,7 @@
 use Rattle.std.specs.Prelude.{List, [], ◌∷◌, codes, false, true}
 use Rattle.infer_named.specs.Key.{Key, key}
 use Rattle.infer_named.specs.Listed.{reading}
-use Rattle.infer_named.specs.Sets.{any-lead, leads-10, no-rows, rows-ape, rows-apk-jar-zip, rows-application-x-ole-storage, rows-application-x-ole-storage-pptx-zip, rows-elf-so, rows-ext2, rows-html-json-php-svg-txt-xhtml-xml, rows-html-txt-xhtml-xml, rows-json, rows-json-ndjson-txt, rows-json-plist-txt-xml, rows-lua, rows-lz, rows-mkv, rows-mpg, rows-oga-ogv-opus, rows-ogg, rows-sh-txt, rows-sqlite, rows-squashfs, rows-srt, rows-swf, rows-txt, rows-txt-xml, rows-webm, rows-xls}
+use Rattle.infer_named.specs.Sets.{any-lead, leads-10, no-rows, rows-ape, rows-apk-jar-zip, rows-application-x-ole-storage, rows-application-x-ole-storage-pptx-zip, rows-elf-so, rows-ext2, rows-html-json-php-svg-txt-xhtml-xml, rows-html-txt-xhtml-xml, rows-json, rows-json-ndjson-txt, rows-json-plist-txt-xml, rows-lua, rows-lz, rows-mkv, rows-mpg, rows-oga-ogv-opus-spx, rows-ogg, rows-qml, rows-sh-txt, rows-sqlite, rows-squashfs, rows-srt, rows-swf, rows-txt, rows-txt-xml, rows-webm, rows-xls}
 use Rattle.infer_named.specs.Types.{is-application-cbor, is-application-dita-xml, is-application-relax-ng-compact-syntax, is-application-sql, is-application-tei-xml, is-application-vnd-coffeescript, is-application-vnd-mbtiles, is-application-vnd-ms-excel, is-application-vnd-openxmlformats-officedocument-presentationml-slideshow, is-application-vnd-osm-xml, is-application-vnd-snap, is-application-vnd-wordperfect, is-application-x-apkm, is-application-x-cmi, is-application-x-dbus-gvdb, is-application-x-erb, is-application-x-ext-filesystem, is-application-x-godot-resource, is-application-x-jsa, is-application-x-jsonc, is-application-x-lzip, is-application-x-maya-binary, is-application-x-ms-registry-hive, is-application-x-msbuild-xml, is-application-x-osm-pbf, is-application-x-quattropro, is-application-x-shockwave-flash, is-application-x-stata-dta, is-application-x-subrip, is-application-x-swiftmodule, is-application-x-tex-tfm, is-application-x-theme-xml, is-application-xslt-xml, is-application-yaml, is-audio-ogg-as-row-ogg, is-audio-x-ape, is-text-troff, is-text-x-apex, is-text-x-checksums, is-text-x-csharp, is-text-x-gcode, is-text-x-gitconfig, is-text-x-http, is-text-x-idris, is-text-x-jinja, is-text-x-julia, is-text-x-lua, is-text-x-makefile, is-text-x-matlab, is-text-x-moonscript, is-text-x-pike, is-text-x-pod, is-text-x-qml, is-text-x-racket, is-text-x-scilab, is-text-x-stata, is-text-x-systemd-unit, is-text-x-unity, is-text-x-vala, is-text-x-zig, is-video-mpeg, is-video-x-matroska}
 use Rattle.infer_named.specs.declared.table.Asks.TheVariants.{Bytes, Nothing, Signature, Text}
 use Rattle.infer_named.specs.declared.table.Part.TheVariants.{Extension, Whole}
@@ -58,7 +58,7 @@ group =
     key Extension (codes "cma") false (reading is-application-x-cmi Bytes no-rows rows-elf-so no-rows any-lead ∷ []) ∷
     key Extension (codes "gcode") false (reading is-text-x-gcode Text no-rows rows-txt no-rows any-lead ∷ []) ∷
     key Extension (codes "pod") false (reading is-text-x-pod Text no-rows rows-txt no-rows any-lead ∷ []) ∷
-    key Extension (codes "qml") false (reading is-text-x-qml Text no-rows rows-sh-txt no-rows any-lead ∷ []) ∷
+    key Extension (codes "qml") false (reading is-text-x-qml Text rows-qml rows-sh-txt no-rows any-lead ∷ []) ∷
     key Extension (codes "rkt") false (reading is-text-x-racket Text no-rows rows-sh-txt no-rows any-lead ∷ []) ∷
     key Extension (codes "vbproj") false (reading is-application-x-msbuild-xml Text no-rows rows-html-txt-xhtml-xml no-rows leads-10 ∷ []) ∷
     key Extension (codes "vcproj") false (reading is-application-x-msbuild-xml Text no-rows rows-html-txt-xhtml-xml no-rows leads-10 ∷ []) ∷
@@ -72,7 +72,7 @@ group =
     ∷ (
     key Extension (codes "dml") false (reading is-application-sql Text no-rows rows-sh-txt no-rows any-lead ∷ []) ∷
     key Extension (codes "ext3") false (reading is-application-x-ext-filesystem Bytes rows-ext2 no-rows no-rows any-lead ∷ []) ∷
-    key Extension (codes "ogx") false (reading is-audio-ogg-as-row-ogg Signature rows-ogg no-rows rows-oga-ogv-opus any-lead ∷ []) ∷
+    key Extension (codes "ogx") false (reading is-audio-ogg-as-row-ogg Signature rows-ogg no-rows rows-oga-ogv-opus-spx any-lead ∷ []) ∷
     key Extension (codes "sce") false (reading is-text-x-scilab Text no-rows rows-txt no-rows any-lead ∷ []) ∷
     key Extension (codes "swf") false (reading is-application-x-shockwave-flash Signature rows-swf no-rows no-rows any-lead ∷ []) ∷
     [])

@@ -2,7 +2,7 @@
 use Rattle.std.specs.Prelude.{List, [], ◌∷◌, codes, false, true}
 use Rattle.infer_named.specs.Key.{Key, key}
 use Rattle.infer_named.specs.Listed.{reading}
-use Rattle.infer_named.specs.Sets.{any-lead, leads-10, leads-12, no-rows, rows-application-x-ole-storage, rows-bplist, rows-der-pem-txt, rows-exe, rows-html-json-php-svg-txt-xhtml-xml, rows-html-sh-svg-txt-xhtml-xml, rows-html-txt-xhtml-xml, rows-json, rows-json-plist-txt-xml, rows-mdb, rows-o, rows-obj, rows-otf, rows-p7b, rows-pem, rows-php, rows-pl, rows-pnm, rows-ps-sh-txt, rows-ps-txt, rows-rb, rows-sh-txt, rows-tif, rows-ttf, rows-txt, rows-vsd, rows-xz, rows-zip, rows-zst, text-rows}
+use Rattle.infer_named.specs.Sets.{any-lead, leads-10, leads-12, no-rows, rows-application-x-ole-storage, rows-bplist, rows-der-pem-txt, rows-exe, rows-exr, rows-fb2, rows-html-json-php-svg-txt-xhtml-xml, rows-html-sh-svg-txt-xhtml-xml, rows-html-txt-xhtml-xml, rows-json, rows-json-plist-txt-xml, rows-mdb, rows-mxf, rows-o, rows-obj, rows-otf, rows-p7b, rows-pem, rows-php, rows-pl, rows-pnm, rows-ps-sh-txt, rows-ps-txt, rows-rb, rows-sh-txt, rows-tif, rows-ttf, rows-txt, rows-vsd, rows-xwd, rows-xz, rows-zip, rows-zst, text-rows}
 use Rattle.infer_named.specs.Types.{is-application-font-sfnt-as-row-ttf, is-application-mxf, is-application-pkcs7-mime, is-application-pkix-cert, is-application-sarif-json, is-application-vnd-microsoft-portable-executable, is-application-vnd-oasis-opendocument-text-master, is-application-vnd-oasis-opendocument-text-web, is-application-vnd-visio, is-application-x-bplist, is-application-x-executable-as-row-obj, is-application-x-fictionbook-xml, is-application-x-grib, is-application-x-msaccess-as-row-mdb, is-application-x-object, is-application-x-perf-data, is-application-x-storyboard-xml, is-application-x-theme, is-application-x-theme-xml, is-application-x-xz-compressed-tar, is-application-zstd, is-image-x-exr, is-image-x-portable-pixmap, is-image-x-sony-srf, is-image-x-xwindowdump, is-model-obj, is-text-markdown, is-text-plain, is-text-troff, is-text-x-adasrc, is-text-x-c-src, is-text-x-fsharp, is-text-x-imagej, is-text-x-innosetup, is-text-x-ipxe, is-text-x-logtalk, is-text-x-patch, is-text-x-perl, is-text-x-php, is-text-x-postcss, is-text-x-prolog, is-text-x-ruby, is-text-x-selinux, is-text-x-smt, is-text-x-spin, is-text-x-squirrel, is-text-x-template-toolkit, is-text-x-tex, is-text-x-typescript, is-text-x-unity, is-text-x-vb}
 use Rattle.infer_named.specs.declared.table.Asks.TheVariants.{Bytes, Nothing, Signature, Text}
 use Rattle.infer_named.specs.declared.table.Part.TheVariants.{Extension, Whole}
@@ -11,13 +11,13 @@ unfoldable pub group : List (List Key)
 group =
     (
     key Extension (codes "mdown") false (reading is-text-markdown Text no-rows rows-html-json-php-svg-txt-xhtml-xml no-rows any-lead ∷ []) ∷
-    key Extension (codes "xwd") false (reading is-image-x-xwindowdump Bytes no-rows no-rows no-rows any-lead ∷ []) ∷
+    key Extension (codes "xwd") false (reading is-image-x-xwindowdump Bytes rows-xwd no-rows no-rows any-lead ∷ []) ∷
     key Extension (codes "zst") false (reading is-application-zstd Signature rows-zst no-rows no-rows any-lead ∷ []) ∷
     [])
     ∷ (
-    key Extension (codes "exr") false (reading is-image-x-exr Bytes no-rows no-rows no-rows any-lead ∷ []) ∷
+    key Extension (codes "exr") false (reading is-image-x-exr Bytes rows-exr no-rows no-rows any-lead ∷ []) ∷
     key Extension (codes "mde") false (reading is-application-x-msaccess-as-row-mdb Signature rows-mdb no-rows no-rows any-lead ∷ []) ∷
-    key Extension (codes "mxf") false (reading is-application-mxf Bytes no-rows no-rows no-rows any-lead ∷ []) ∷
+    key Extension (codes "mxf") false (reading is-application-mxf Bytes rows-mxf no-rows no-rows any-lead ∷ []) ∷
     key Extension (codes "spc") false (reading is-application-pkcs7-mime Bytes rows-p7b rows-pem no-rows any-lead ∷ []) ∷
     key Extension (codes "spin") false (reading is-text-x-spin Text no-rows rows-txt no-rows any-lead ∷ []) ∷
     key Extension (codes "vba") false (reading is-text-x-vb Text no-rows rows-txt no-rows any-lead ∷ []) ∷
@@ -38,7 +38,7 @@ group =
     [])
     ∷ (
     key Extension (codes "bbx") false (reading is-text-x-tex Text no-rows rows-ps-txt no-rows any-lead ∷ []) ∷
-    key Extension (codes "fb2") false (reading is-application-x-fictionbook-xml Text no-rows rows-html-txt-xhtml-xml no-rows leads-10 ∷ []) ∷
+    key Extension (codes "fb2") false (reading is-application-x-fictionbook-xml Text rows-fb2 rows-html-txt-xhtml-xml no-rows leads-10 ∷ []) ∷
     key Extension (codes "sarif") false (reading is-application-sarif-json Text no-rows rows-json no-rows any-lead ∷ []) ∷
     key Extension (codes "t") false (reading is-text-x-perl Text rows-pl rows-sh-txt no-rows leads-12 ∷ reading is-text-plain Text rows-txt no-rows text-rows any-lead ∷ []) ∷
     key Extension (codes "te") false (reading is-text-x-selinux Text no-rows rows-txt no-rows any-lead ∷ []) ∷

@@ -2,8 +2,8 @@
 use Rattle.std.specs.Prelude.{List, [], ◌∷◌, codes, false, true}
 use Rattle.infer_named.specs.Key.{Key, key}
 use Rattle.infer_named.specs.Listed.{reading}
-use Rattle.infer_named.specs.Sets.{any-lead, leads-10, no-rows, rows-application-x-ole-storage, rows-application-x-ole-storage-xlsx-zip, rows-ar, rows-arrow, rows-asc, rows-deb, rows-dng, rows-ext2, rows-flac, rows-gz, rows-html-json-php-svg-txt-xhtml-xml, rows-html-sh-svg-txt-xhtml-xml, rows-html-txt-xhtml-xml, rows-icns, rows-jar, rows-jar-zip, rows-js, rows-json, rows-json-sh-txt, rows-lz4, rows-lzma, rows-pem, rows-pgp, rows-php, rows-plist-txt-xml, rows-raf, rows-rb, rows-sh-txt, rows-sig, rows-tif, rows-txt, rows-wim, rows-zip, text-rows}
-use Rattle.infer_named.specs.Types.{is-application-java-archive, is-application-pgp-encrypted, is-application-pgp-keys-as-row-asc, is-application-pgp-signature, is-application-sql, is-application-srgs-xml, is-application-vnd-apache-arrow-file, is-application-vnd-debian-binary-package, is-application-vnd-las, is-application-vnd-ms-excel-sheet-macroenabled-12, is-application-vnd-ms-works, is-application-vnd-nintendo-snes-rom, is-application-x-avro-schema-json, is-application-x-device-tree-blob, is-application-x-doom-wad, is-application-x-entitlements, is-application-x-ext-filesystem, is-application-x-font-type1, is-application-x-java-web-archive, is-application-x-jsp, is-application-x-lz4, is-application-x-lzma, is-application-x-lzop, is-application-x-magic-database, is-application-x-ms-wim, is-application-x-msbuild-xml, is-application-x-powershell, is-application-x-virtualbox-saved-state, is-application-x-zcml, is-audio-x-flac, is-chemical-x-cdx, is-image-geotiff, is-image-svg-xml-compressed, is-image-x-adobe-dng, is-image-x-fuji-raf, is-image-x-icns, is-image-x-nikon-nrw, is-image-x-sony-arw, is-model-gltf-json, is-model-x3d-xml, is-text-cache-manifest, is-text-javascript, is-text-plain, is-text-troff, is-text-x-asciidoc, is-text-x-cfm, is-text-x-component, is-text-x-fasta, is-text-x-gff, is-text-x-gitattributes, is-text-x-gitignore, is-text-x-glsl, is-text-x-handlebars, is-text-x-jinja, is-text-x-makefile, is-text-x-modula, is-text-x-php, is-text-x-raku, is-text-x-rego, is-text-x-ruby, is-text-x-scons, is-text-x-ssa, is-text-x-vagrantfile, is-text-x-yacc}
+use Rattle.infer_named.specs.Sets.{any-lead, leads-10, no-rows, rows-application-x-ole-storage, rows-application-x-ole-storage-xlsx-zip, rows-ar, rows-arrow, rows-asc, rows-deb, rows-dng, rows-ext2, rows-flac, rows-gjs-js, rows-gz, rows-html-json-php-svg-txt-xhtml-xml, rows-html-sh-svg-txt-xhtml-xml, rows-html-txt-xhtml-xml, rows-icns, rows-jar, rows-jar-zip, rows-json, rows-json-sh-txt, rows-lz4, rows-lzma, rows-lzo, rows-pem, rows-pfb, rows-pgp, rows-php, rows-plist-txt-xml, rows-raf, rows-rb, rows-sh-txt, rows-sig, rows-tif, rows-txt, rows-wad, rows-wiiwad, rows-wim, rows-zip, text-rows}
+use Rattle.infer_named.specs.Types.{is-application-java-archive, is-application-pgp-encrypted, is-application-pgp-keys-as-row-asc, is-application-pgp-signature, is-application-sql, is-application-srgs-xml, is-application-vnd-apache-arrow-file, is-application-vnd-debian-binary-package, is-application-vnd-las, is-application-vnd-ms-excel-sheet-macroenabled-12, is-application-vnd-ms-works, is-application-vnd-nintendo-snes-rom, is-application-x-avro-schema-json, is-application-x-device-tree-blob, is-application-x-doom-wad, is-application-x-entitlements, is-application-x-ext-filesystem, is-application-x-font-type1, is-application-x-java-web-archive, is-application-x-jsp, is-application-x-lz4, is-application-x-lzma, is-application-x-lzop, is-application-x-magic-database, is-application-x-ms-wim, is-application-x-msbuild-xml, is-application-x-powershell, is-application-x-virtualbox-saved-state, is-application-x-wii-wad, is-application-x-zcml, is-audio-x-flac, is-chemical-x-cdx, is-image-geotiff, is-image-svg-xml-compressed, is-image-x-adobe-dng, is-image-x-fuji-raf, is-image-x-icns, is-image-x-nikon-nrw, is-image-x-sony-arw, is-model-gltf-json, is-model-x3d-xml, is-text-cache-manifest, is-text-javascript, is-text-plain, is-text-troff, is-text-x-asciidoc, is-text-x-cfm, is-text-x-component, is-text-x-fasta, is-text-x-gff, is-text-x-gitattributes, is-text-x-gitignore, is-text-x-glsl, is-text-x-handlebars, is-text-x-jinja, is-text-x-makefile, is-text-x-modula, is-text-x-php, is-text-x-raku, is-text-x-rego, is-text-x-ruby, is-text-x-scons, is-text-x-ssa, is-text-x-vagrantfile, is-text-x-yacc}
 use Rattle.infer_named.specs.declared.table.Asks.TheVariants.{Bytes, Nothing, Signature, Text}
 use Rattle.infer_named.specs.declared.table.Part.TheVariants.{Extension, Whole}
 
@@ -44,7 +44,7 @@ group =
     key Extension (codes "comp") false (reading is-text-x-glsl Text no-rows rows-txt no-rows any-lead ∷ []) ∷
     key Extension (codes "geotiff") false (reading is-image-geotiff Signature no-rows rows-tif no-rows any-lead ∷ []) ∷
     key Extension (codes "hbs") false (reading is-text-x-handlebars Text no-rows rows-html-json-php-svg-txt-xhtml-xml no-rows any-lead ∷ []) ∷
-    key Extension (codes "tzo") false (reading is-application-x-lzop Bytes no-rows no-rows no-rows any-lead ∷ []) ∷
+    key Extension (codes "tzo") false (reading is-application-x-lzop Bytes rows-lzo no-rows no-rows any-lead ∷ []) ∷
     [])
     ∷ (
     key Extension (codes "asc") false (reading is-application-pgp-keys-as-row-asc Text rows-asc no-rows no-rows any-lead ∷ reading is-application-pgp-signature Text rows-sig rows-pem no-rows any-lead ∷ reading is-application-pgp-encrypted Text rows-pgp no-rows no-rows any-lead ∷ reading is-text-x-asciidoc Text no-rows rows-txt no-rows any-lead ∷ []) ∷
@@ -56,13 +56,13 @@ group =
     key Extension (codes "grxml") false (reading is-application-srgs-xml Text no-rows rows-html-txt-xhtml-xml no-rows leads-10 ∷ []) ∷
     [])
     ∷ (
-    key Extension (codes "jsb") false (reading is-text-javascript Text rows-js rows-json-sh-txt no-rows any-lead ∷ []) ∷
-    key Extension (codes "wad") true (reading is-application-x-doom-wad Bytes no-rows no-rows no-rows any-lead ∷ []) ∷
+    key Extension (codes "jsb") false (reading is-text-javascript Text rows-gjs-js rows-json-sh-txt no-rows any-lead ∷ []) ∷
+    key Extension (codes "wad") true (reading is-application-x-doom-wad Bytes rows-wad no-rows no-rows any-lead ∷ reading is-application-x-wii-wad Bytes rows-wiiwad no-rows no-rows any-lead ∷ []) ∷
     [])
     ∷ (
     key Extension (codes "lz4") false (reading is-application-x-lz4 Signature rows-lz4 no-rows no-rows any-lead ∷ []) ∷
     key Extension (codes "nrw") false (reading is-image-x-nikon-nrw Signature no-rows rows-tif no-rows any-lead ∷ []) ∷
-    key Extension (codes "pfm") false (reading is-application-x-font-type1 Bytes no-rows no-rows no-rows any-lead ∷ []) ∷
+    key Extension (codes "pfm") false (reading is-application-x-font-type1 Bytes rows-pfb no-rows no-rows any-lead ∷ []) ∷
     key Extension (codes "rego") false (reading is-text-x-rego Text no-rows rows-txt no-rows any-lead ∷ []) ∷
     key Extension (codes "wps") false (reading is-application-vnd-ms-works Signature no-rows rows-application-x-ole-storage no-rows any-lead ∷ []) ∷
     key Extension (codes "xlsm") false (reading is-application-vnd-ms-excel-sheet-macroenabled-12 Signature no-rows rows-application-x-ole-storage-xlsx-zip no-rows any-lead ∷ []) ∷
@@ -98,7 +98,7 @@ group =
     key Extension (codes "laz") false (reading is-application-vnd-las Bytes no-rows no-rows no-rows any-lead ∷ []) ∷
     [])
     ∷ (
-    key Extension (codes "cjs") false (reading is-text-javascript Text rows-js rows-json-sh-txt no-rows any-lead ∷ []) ∷
+    key Extension (codes "cjs") false (reading is-text-javascript Text rows-gjs-js rows-json-sh-txt no-rows any-lead ∷ []) ∷
     key Extension (codes "dtb") false (reading is-application-x-device-tree-blob Bytes no-rows no-rows no-rows any-lead ∷ []) ∷
     key Extension (codes "flac") false (reading is-audio-x-flac Signature rows-flac no-rows no-rows any-lead ∷ []) ∷
     key Extension (codes "glsl") false (reading is-text-x-glsl Text no-rows rows-txt no-rows any-lead ∷ []) ∷

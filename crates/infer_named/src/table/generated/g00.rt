@@ -7,101 +7,101 @@ use crate::table::{Asks, Key, Part, Reading, is_loose, keys};
 
 static SLOTS: [&[Key]; 16] = [
     keys![
-        Loose Extension "dz" [247 Signature 0 96 0 0];
-        Strict Extension "rmiss" [757 Text 0 246 0 0];
-        Strict Extension "tmcommand" [434 Text 0 127 0 10];
+        Loose Extension "dz" [248 Signature 0 121 0 0];
+        Strict Extension "rmiss" [762 Text 0 317 0 0];
+        Strict Extension "tmcommand" [437 Text 0 162 0 10];
     ],
     keys![
-        Strict Whole ".devcontainer.json" [317 Text 0 246 125 0];
-        Strict Extension "jimage" [309 Bytes 0 0 0 0];
-        Strict Extension "lfm" [860 Text 0 246 0 0];
-        Strict Extension "scad" [856 Text 0 246 0 0];
-        Strict Extension "sps" [916 Text 0 227 0 0];
+        Strict Whole ".devcontainer.json" [320 Text 0 317 160 0];
+        Strict Extension "jimage" [312 Bytes 0 0 0 0];
+        Strict Extension "lfm" [865 Text 0 317 0 0];
+        Strict Extension "scad" [861 Text 0 317 0 0];
+        Strict Extension "sps" [921 Text 0 293 0 0];
     ],
     keys![
-        Strict Extension "gsm" [503 Bytes 0 0 0 0];
-        Strict Extension "m" [850 Text 0 246 0 8] [820 Text 0 209 0 3] [631 Text 246 0 31 0];
+        Strict Extension "gsm" [507 Bytes 0 0 0 0];
+        Strict Extension "m" [855 Text 0 317 0 8] [825 Text 0 269 0 3] [636 Text 317 0 14 0];
     ],
     keys![
-        Strict Extension "f4p" [1010 Bytes 84 158 0 0];
-        Strict Extension "mm" [849 Text 0 246 0 0];
-        Strict Extension "osm.pbf" [374 Bytes 0 0 0 0];
+        Strict Extension "f4p" [1015 Bytes 103 207 0 0];
+        Strict Extension "mm" [854 Text 0 317 0 0];
+        Strict Extension "osm.pbf" [377 Bytes 0 0 0 0];
     ],
     keys![
-        Strict Extension "gitconfig" [754 Text 0 246 0 0];
-        Strict Extension "rgb" [593 Bytes 0 0 0 0];
-        Strict Extension "xcscheme" [258 Text 0 202 0 10];
+        Strict Extension "gitconfig" [759 Text 0 317 0 0];
+        Strict Extension "rgb" [598 Bytes 291 0 0 0];
+        Strict Extension "xcscheme" [259 Text 0 262 0 10];
     ],
     keys![
-        Strict Whole "go.sum" [761 Text 0 246 0 0];
-        Strict Extension "i3" [833 Text 0 246 0 0];
-        Strict Extension "nupkg" [368 Signature 0 277 0 0];
-        Strict Extension "sty" [957 Text 0 210 0 0];
+        Strict Whole "go.sum" [766 Text 0 317 0 0];
+        Strict Extension "i3" [838 Text 0 317 0 0];
+        Strict Extension "nupkg" [371 Signature 0 354 0 0];
+        Strict Extension "sty" [962 Text 0 270 0 0];
     ],
     keys![
-        Strict Whole ".flake8" [780 Text 0 246 0 0];
-        Strict Extension "pgsql" [76 Text 0 227 0 0];
-        Strict Extension "plsql" [76 Text 0 227 0 0];
-        Strict Extension "sgm" [633 Text 0 113 0 0];
-        Strict Extension "wkt" [985 Text 0 246 0 0];
+        Strict Whole ".flake8" [785 Text 0 317 0 0];
+        Strict Extension "pgsql" [77 Text 0 293 0 0];
+        Strict Extension "plsql" [77 Text 0 293 0 0];
+        Strict Extension "sgm" [638 Text 0 141 0 0];
+        Strict Extension "wkt" [990 Text 0 317 0 0];
     ],
     keys![
-        Strict Extension "arj" [213 Signature 28 0 0 0];
-        Strict Extension "jpf" [541 Signature 123 0 0 0];
-        Strict Extension "rds" [399 Bytes 0 47 0 0];
-        Strict Extension "vrml" [616 Text 0 246 0 0];
-        Strict Extension "vxml" [192 Text 0 112 0 10];
+        Strict Extension "arj" [214 Signature 35 0 0 0];
+        Strict Extension "jpf" [546 Signature 159 0 0 0];
+        Strict Extension "rds" [402 Bytes 0 56 0 0];
+        Strict Extension "vrml" [621 Text 0 317 0 0];
+        Strict Extension "vxml" [193 Text 0 140 0 10];
     ],
     keys![
-        Strict Extension "g4" [652 Text 0 246 0 0];
-        Strict Extension "iml" [303 Text 0 112 0 10];
-        Strict Extension "jspf" [318 Text 0 108 0 0];
-        Strict Extension "move" [837 Text 0 246 0 0];
-        Strict Extension "nuproj" [355 Text 0 112 0 10];
-        Strict Extension "prawn" [910 Text 220 227 0 0];
-        Strict Extension "reds" [898 Text 0 246 0 0];
+        Strict Extension "g4" [657 Text 0 317 0 0];
+        Strict Extension "iml" [306 Text 0 140 0 10];
+        Strict Extension "jspf" [321 Text 0 136 0 0];
+        Strict Extension "move" [842 Text 0 317 0 0];
+        Strict Extension "nuproj" [358 Text 0 140 0 10];
+        Strict Extension "prawn" [915 Text 283 293 0 0];
+        Strict Extension "reds" [903 Text 0 317 0 0];
     ],
     keys![
-        Strict Extension "admx" [201 Text 0 112 0 10];
-        Strict Extension "asmx" [216 Text 0 108 0 0];
-        Strict Extension "io" [782 Text 0 227 0 0];
-        Strict Extension "iuml" [869 Text 0 246 0 0];
+        Strict Extension "admx" [202 Text 0 140 0 10];
+        Strict Extension "asmx" [217 Text 0 136 0 0];
+        Strict Extension "io" [787 Text 0 293 0 0];
+        Strict Extension "iuml" [874 Text 0 317 0 0];
     ],
     keys![
-        Strict Extension "litcoffee" [100 Text 0 227 0 0];
-        Strict Whole "sha256sums" [688 Text 0 246 0 0];
-        Strict Extension "smt2" [933 Text 0 246 0 0];
-        Strict Whole "sshd_config" [631 Text 246 0 31 0];
+        Strict Extension "litcoffee" [101 Text 0 293 0 0];
+        Strict Whole "sha256sums" [693 Text 0 317 0 0];
+        Strict Extension "smt2" [938 Text 0 317 0 0];
+        Strict Whole "sshd_config" [636 Text 317 0 14 0];
     ],
     keys![
-        Strict Extension "32x" [279 Bytes 0 0 0 0];
-        Strict Extension "pli" [870 Text 0 246 0 0];
-        Strict Extension "tpp" [681 Text 0 246 0 0];
-        Strict Extension "vdf" [977 Text 0 246 0 0];
+        Strict Extension "32x" [280 Bytes 0 0 0 0];
+        Strict Extension "pli" [875 Text 0 317 0 0];
+        Strict Extension "tpp" [686 Text 0 317 0 0];
+        Strict Extension "vdf" [982 Text 0 317 0 0];
     ],
     keys![
-        Strict Whole ".bash_login" [924 Text 0 227 0 0];
-        Strict Extension "doc" [41 Signature 70 23 0 0] [631 Text 246 0 31 0];
-        Strict Extension "gp" [286 Text 0 227 0 0];
-        Loose Extension "max" [217 Bytes 0 23 0 0];
-        Strict Extension "p6" [892 Text 0 227 0 0];
-        Strict Extension "rb" [910 Text 220 227 0 0];
+        Strict Whole ".bash_login" [929 Text 0 293 0 0];
+        Strict Extension "doc" [41 Signature 84 30 0 0] [636 Text 317 0 14 0];
+        Strict Extension "gp" [287 Text 0 293 0 0];
+        Loose Extension "max" [218 Bytes 0 30 0 0];
+        Strict Extension "p6" [897 Text 0 293 0 0];
+        Strict Extension "rb" [915 Text 283 293 0 0];
     ],
     keys![
-        Strict Extension "nexus" [840 Text 0 246 0 0];
-        Strict Extension "rq" [75 Text 0 246 0 0];
+        Strict Extension "nexus" [845 Text 0 317 0 0];
+        Strict Extension "rq" [76 Text 0 317 0 0];
     ],
     keys![
-        Strict Extension "bibtex" [672 Text 0 210 0 0];
-        Strict Extension "hal" [650 Text 0 246 0 0];
-        Strict Extension "soy" [937 Text 0 108 0 0];
-        Strict Extension "sqlrpgle" [906 Text 0 246 0 0];
+        Strict Extension "bibtex" [677 Text 0 270 0 0];
+        Strict Extension "hal" [655 Text 0 317 0 0];
+        Strict Extension "soy" [942 Text 0 136 0 0];
+        Strict Extension "sqlrpgle" [911 Text 0 317 0 0];
     ],
     keys![
-        Strict Extension "forth" [737 Text 0 227 0 0];
-        Strict Extension "jxr" [557 Signature 131 0 0 0];
-        Strict Extension "org" [630 Text 0 246 0 0];
-        Strict Extension "pc" [868 Text 0 246 0 0];
+        Strict Extension "forth" [742 Text 0 293 0 0];
+        Strict Extension "jxr" [562 Signature 166 0 0 0];
+        Strict Extension "org" [635 Text 0 317 0 0];
+        Strict Extension "pc" [873 Text 0 317 0 0];
     ],
 ];
 

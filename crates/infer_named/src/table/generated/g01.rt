@@ -7,106 +7,106 @@ use crate::table::{Asks, Key, Part, Reading, is_loose, keys};
 
 static SLOTS: [&[Key]; 16] = [
     keys![
-        Strict Whole ".tmux.conf" [963 Text 0 246 0 0];
-        Strict Extension "c" [703 Text 0 246 275 0];
-        Strict Extension "hwp" [299 Signature 0 23 0 0];
-        Strict Extension "rst" [909 Text 0 246 0 0];
-        Strict Extension "story" [752 Text 0 246 0 0];
-        Strict Extension "zsh" [463 Text 0 227 0 0];
+        Strict Whole ".tmux.conf" [968 Text 0 317 0 0];
+        Strict Extension "c" [708 Text 0 317 350 0];
+        Strict Extension "hwp" [302 Signature 0 30 0 0];
+        Strict Extension "rst" [914 Text 0 317 0 0];
+        Strict Extension "story" [757 Text 0 317 0 0];
+        Strict Extension "zsh" [467 Text 0 293 0 0];
     ],
     keys![
-        Strict Extension "cc" [681 Text 0 246 0 0];
-        Strict Extension "dtsi" [717 Text 0 246 0 0];
-        Strict Extension "lnk" [351 Signature 136 0 0 0];
-        Strict Extension "rest" [909 Text 0 246 0 0];
+        Strict Extension "cc" [686 Text 0 317 0 0];
+        Strict Extension "dtsi" [722 Text 0 317 0 0];
+        Strict Extension "lnk" [354 Signature 175 0 0 0];
+        Strict Extension "rest" [914 Text 0 317 0 0];
     ],
     keys![
-        Strict Extension "ashx" [216 Text 0 108 0 0];
-        Strict Extension "cr" [700 Text 0 227 0 0];
-        Strict Extension "link" [953 Text 0 246 0 0];
-        Strict Extension "nqp" [892 Text 0 227 0 0];
-        Strict Extension "pef" [586 Signature 0 241 0 0];
-        Strict Whole "readme" [631 Text 246 0 31 0];
+        Strict Extension "ashx" [217 Text 0 136 0 0];
+        Strict Extension "cr" [705 Text 0 293 0 0];
+        Strict Extension "link" [958 Text 0 317 0 0];
+        Strict Extension "nqp" [897 Text 0 293 0 0];
+        Strict Extension "pef" [591 Signature 0 311 0 0];
+        Strict Whole "readme" [636 Text 317 0 14 0];
     ],
     keys![
-        Strict Extension "atom" [1 Text 33 113 0 10];
-        Strict Extension "avhdx" [445 Signature 252 0 0 0];
-        Strict Extension "flatpak" [107 Bytes 0 0 0 0];
-        Strict Extension "gvy" [765 Text 0 227 0 0];
-        Strict Extension "sfs" [183 Signature 233 0 0 0];
+        Strict Extension "atom" [1 Text 41 141 0 10];
+        Strict Extension "avhdx" [448 Signature 323 0 0 0];
+        Strict Extension "flatpak" [108 Bytes 108 0 0 0];
+        Strict Extension "gvy" [770 Text 0 293 0 0];
+        Strict Extension "sfs" [184 Signature 301 0 0 0];
     ],
     keys![
-        Strict Extension "3p" [635 Text 0 246 0 0];
-        Strict Extension "bbappend" [674 Text 0 246 0 0];
-        Strict Extension "fodp" [156 Text 0 112 0 10];
-        Strict Extension "sqfs" [183 Signature 233 0 0 0];
+        Strict Extension "3p" [640 Text 0 317 0 0];
+        Strict Extension "bbappend" [679 Text 0 317 0 0];
+        Strict Extension "fodp" [157 Text 0 140 0 10];
+        Strict Extension "sqfs" [184 Signature 301 0 0 0];
     ],
     keys![
-        Strict Extension "as" [631 Text 246 0 31 0];
-        Strict Extension "bbl" [957 Text 0 210 0 0];
-        Strict Whole "gschemas.compiled" [294 Bytes 0 0 0 0];
-        Strict Extension "m4v" [1014 Bytes 149 158 0 0];
-        Strict Extension "psgi" [863 Text 200 227 0 0];
+        Strict Extension "as" [636 Text 317 0 14 0];
+        Strict Extension "bbl" [962 Text 0 270 0 0];
+        Strict Whole "gschemas.compiled" [295 Bytes 0 0 0 0];
+        Strict Extension "m4v" [1019 Bytes 191 207 0 0];
+        Strict Extension "psgi" [868 Text 260 293 0 0];
     ],
     keys![
-        Strict Extension "3gpp" [997 Bytes 3 158 0 0];
-        Strict Extension "ass" [941 Text 0 246 0 0];
-        Strict Extension "h264" [1000 Bytes 0 0 0 0];
-        Strict Extension "java" [787 Text 0 246 0 0];
-        Strict Extension "jsonl" [363 Text 162 125 0 0];
-        Strict Extension "mp4v" [1004 Bytes 158 106 2 0];
+        Strict Extension "3gpp" [1002 Bytes 4 207 0 0];
+        Strict Extension "ass" [946 Text 0 317 0 0];
+        Strict Extension "h264" [1005 Bytes 0 0 0 0];
+        Strict Extension "java" [792 Text 0 317 0 0];
+        Strict Extension "jsonl" [366 Text 214 160 0 0];
+        Strict Extension "mp4v" [1009 Bytes 207 133 3 0];
     ],
     keys![
-        Strict Extension "drawio" [250 Text 0 112 0 10];
-        Strict Extension "mdwn" [627 Text 0 108 0 0];
-        Strict Extension "ppa" [131 Signature 205 23 0 0];
-        Strict Whole "robots.txt" [631 Text 246 0 31 0];
-        Strict Extension "sha512" [688 Text 0 246 0 0];
+        Strict Extension "drawio" [251 Text 0 140 0 10];
+        Strict Extension "mdwn" [632 Text 0 136 0 0];
+        Strict Extension "ppa" [132 Signature 265 30 0 0];
+        Strict Whole "robots.txt" [636 Text 317 0 14 0];
+        Strict Extension "sha512" [693 Text 0 317 0 0];
     ],
     keys![
-        Strict Whole "copying" [631 Text 246 0 31 0];
-        Strict Extension "gms" [742 Text 0 246 0 0];
-        Strict Extension "h++" [680 Text 0 246 0 0];
-        Strict Extension "ncx" [251 Text 0 112 0 10];
-        Strict Extension "vcl" [976 Text 0 246 0 0];
-        Strict Extension "wat" [983 Text 0 246 0 0];
-        Strict Extension "woff" [15 Bytes 266 0 0 0];
+        Strict Whole "copying" [636 Text 317 0 14 0];
+        Strict Extension "gms" [747 Text 0 317 0 0];
+        Strict Extension "h++" [685 Text 0 317 0 0];
+        Strict Extension "ncx" [252 Text 0 140 0 10];
+        Strict Extension "vcl" [981 Text 0 317 0 0];
+        Strict Extension "wat" [988 Text 0 317 0 0];
+        Strict Extension "woff" [15 Bytes 339 0 0 0];
     ],
     keys![
-        Strict Extension "mp2" [485 Bytes 157 0 0 0];
-        Strict Extension "sxc" [184 Signature 0 277 0 0];
+        Strict Extension "mp2" [489 Bytes 206 0 0 0];
+        Strict Extension "sxc" [185 Signature 0 354 0 0];
     ],
     keys![
-        Strict Extension "bufr" [225 Bytes 0 0 0 0];
-        Strict Whole "licence" [631 Text 246 0 31 0];
-        Strict Whole "license" [631 Text 246 0 31 0];
-        Strict Extension "mjp2" [1002 Bytes 0 121 0 0];
-        Strict Extension "s3db" [182 Signature 232 0 94 0];
-        Strict Extension "veo" [978 Text 0 246 0 0];
+        Strict Extension "bufr" [226 Bytes 0 0 0 0];
+        Strict Whole "licence" [636 Text 317 0 14 0];
+        Strict Whole "license" [636 Text 317 0 14 0];
+        Strict Extension "mjp2" [1007 Bytes 197 156 0 0];
+        Strict Extension "s3db" [183 Signature 300 0 118 0];
+        Strict Extension "veo" [983 Text 0 317 0 0];
     ],
     keys![
-        Strict Extension "ascx" [216 Text 0 108 0 0];
-        Strict Extension "ent" [470 Text 0 113 0 0];
-        Strict Extension "epsf" [568 Text 78 208 0 0];
-        Strict Extension "itcl" [955 Text 239 227 0 0];
-        Strict Extension "xht" [466 Text 271 113 0 10];
+        Strict Extension "ascx" [217 Text 0 136 0 0];
+        Strict Extension "ent" [474 Text 0 141 0 0];
+        Strict Extension "epsf" [573 Text 95 268 0 0];
+        Strict Extension "itcl" [960 Text 309 293 0 0];
+        Strict Extension "xht" [470 Text 345 141 0 10];
     ],
     keys![
-        Strict Extension "nse" [816 Text 137 227 0 0];
-        Strict Extension "sas" [913 Text 0 246 0 0];
-        Strict Extension "sh" [925 Text 226 246 0 0];
-        Strict Extension "x3f" [594 Bytes 0 0 0 0];
+        Strict Extension "nse" [821 Text 177 293 0 0];
+        Strict Extension "sas" [918 Text 0 317 0 0];
+        Strict Extension "sh" [930 Text 292 317 0 0];
+        Strict Extension "x3f" [599 Bytes 342 0 0 0];
     ],
     keys![
-        Strict Extension "lrc" [33 Text 0 246 0 0];
-        Strict Extension "mkiv" [957 Text 0 210 0 0];
+        Strict Extension "lrc" [33 Text 0 317 0 0];
+        Strict Extension "mkiv" [962 Text 0 270 0 0];
     ],
     keys![
-        Strict Extension "fastq" [733 Text 0 246 0 0];
-        Strict Extension "xql" [472 Text 0 247 0 0];
+        Strict Extension "fastq" [738 Text 0 317 0 0];
+        Strict Extension "xql" [476 Text 0 318 0 0];
     ],
     keys![
-        Strict Extension "rgen" [757 Text 0 246 0 0];
+        Strict Extension "rgen" [762 Text 0 317 0 0];
     ],
 ];
 

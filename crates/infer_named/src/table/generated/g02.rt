@@ -7,98 +7,98 @@ use crate::table::{Asks, Key, Part, Reading, is_loose, keys};
 
 static SLOTS: [&[Key]; 16] = [
     keys![
-        Strict Extension "bsp" [224 Bytes 0 0 0 0];
-        Strict Extension "kql" [801 Text 0 246 0 0];
-        Strict Extension "nwk" [840 Text 0 246 0 0];
+        Strict Extension "bsp" [225 Bytes 0 0 0 0];
+        Strict Extension "kql" [806 Text 0 317 0 0];
+        Strict Extension "nwk" [845 Text 0 317 0 0];
     ],
     keys![
-        Strict Whole ".gitlab-ci.yml" [475 Text 0 126 0 0];
-        Strict Extension "di" [716 Text 0 227 0 0];
-        Strict Extension "elc" [256 Bytes 0 246 0 0];
-        Strict Extension "monkey" [835 Text 0 246 0 0];
+        Strict Whole ".gitlab-ci.yml" [479 Text 0 161 0 0];
+        Strict Extension "di" [721 Text 0 293 0 0];
+        Strict Extension "elc" [257 Bytes 0 317 0 0];
+        Strict Extension "monkey" [840 Text 0 317 0 0];
         Strict Extension "msgpack" [39 Bytes 0 0 0 0];
-        Strict Extension "nawk" [666 Text 39 227 0 0];
-        Strict Extension "opus" [488 Signature 182 178 0 0];
-        Strict Extension "sln" [929 Text 0 246 0 0];
+        Strict Extension "nawk" [671 Text 47 293 0 0];
+        Strict Extension "opus" [492 Signature 236 231 0 0];
+        Strict Extension "sln" [934 Text 0 317 0 0];
     ],
     keys![
-        Strict Extension "awk" [666 Text 39 227 0 0];
-        Strict Extension "djvu" [552 Signature 68 0 0 0];
-        Strict Whole "fastfile" [910 Text 220 227 0 0];
+        Strict Extension "awk" [671 Text 47 293 0 0];
+        Strict Extension "djvu" [557 Signature 82 0 81 0];
+        Strict Whole "fastfile" [915 Text 283 293 0 0];
     ],
     keys![
-        Strict Whole ".editorconfig" [721 Text 0 246 0 0];
-        Strict Extension "vcxproj" [355 Text 0 112 0 10];
-        Strict Extension "z" [234 Bytes 8 0 0 0];
+        Strict Whole ".editorconfig" [726 Text 0 317 0 0];
+        Strict Extension "vcxproj" [358 Text 0 140 0 10];
+        Strict Extension "z" [235 Bytes 9 0 0 0];
     ],
     keys![
-        Strict Extension "cmd" [839 Text 0 246 0 0];
-        Strict Extension "ebnf" [719 Text 0 246 0 0];
-        Strict Extension "network" [953 Text 0 246 0 0];
+        Strict Extension "cmd" [844 Text 0 317 0 0];
+        Strict Extension "ebnf" [724 Text 0 317 0 0];
+        Strict Extension "network" [958 Text 0 317 0 0];
     ],
     keys![
-        Strict Extension "3dm" [401 Bytes 0 0 0 0];
-        Strict Extension "lzo" [338 Bytes 0 0 0 0];
-        Strict Extension "mk" [817 Text 0 227 0 0];
-        Strict Extension "odex" [89 Signature 67 75 0 0];
+        Strict Extension "3dm" [404 Bytes 0 0 0 0];
+        Strict Extension "lzo" [341 Bytes 185 0 0 0];
+        Strict Extension "mk" [822 Text 0 293 0 0];
+        Strict Extension "odex" [90 Signature 79 92 0 0];
     ],
     keys![
-        Strict Extension "graphqls" [21 Text 0 246 0 0];
-        Strict Extension "ipynb" [305 Text 0 125 0 0];
-        Strict Extension "libsonnet" [31 Text 0 227 0 0];
-        Strict Extension "tap" [995 Text 0 246 0 0];
-        Strict Whole "wheel" [631 Text 246 0 31 0];
+        Strict Extension "graphqls" [21 Text 0 317 0 0];
+        Strict Extension "ipynb" [308 Text 0 160 0 0];
+        Strict Extension "libsonnet" [31 Text 0 293 0 0];
+        Strict Extension "tap" [1000 Text 0 317 0 0];
+        Strict Whole "wheel" [636 Text 317 0 14 0];
     ],
     keys![
-        Strict Extension "dtd" [469 Text 0 113 0 0];
-        Strict Extension "erl" [729 Text 0 209 0 0];
-        Strict Extension "plx" [863 Text 200 227 0 0];
-        Strict Extension "srw" [592 Signature 0 241 0 0];
+        Strict Extension "dtd" [473 Text 0 141 0 0];
+        Strict Extension "erl" [734 Text 0 269 0 0];
+        Strict Extension "plx" [868 Text 260 293 0 0];
+        Strict Extension "srw" [597 Signature 0 311 0 0];
     ],
     keys![
-        Strict Extension "cypher" [706 Text 0 246 0 0];
-        Strict Extension "emz" [257 Signature 0 96 0 0];
-        Strict Extension "gap" [743 Text 0 246 0 0];
+        Strict Extension "cypher" [711 Text 0 317 0 0];
+        Strict Extension "emz" [258 Signature 0 121 0 0];
+        Strict Extension "gap" [748 Text 0 317 0 0];
     ],
     keys![
-        Strict Extension "dbf" [104 Bytes 58 0 0 0];
-        Strict Extension "pfa" [271 Text 0 210 0 0];
-        Strict Extension "ppsm" [133 Signature 0 24 0 0];
-        Strict Extension "styl" [946 Text 0 246 0 0];
-        Strict Extension "vm" [640 Text 0 108 0 0];
-        Strict Extension "winmd" [118 Signature 82 0 0 0];
+        Strict Extension "dbf" [105 Bytes 70 0 0 0];
+        Strict Extension "pfa" [272 Text 255 270 0 0];
+        Strict Extension "ppsm" [134 Signature 0 31 0 0];
+        Strict Extension "styl" [951 Text 0 317 0 0];
+        Strict Extension "vm" [645 Text 0 136 0 0];
+        Strict Extension "winmd" [119 Signature 100 0 0 0];
     ],
     keys![
-        Strict Extension "oxps" [50 Signature 0 277 0 0];
+        Strict Extension "oxps" [51 Signature 0 354 0 0];
     ],
     keys![
-        Strict Whole "_vimrc" [980 Text 0 246 0 0];
-        Strict Extension "jpg" [540 Signature 122 0 0 0];
-        Strict Extension "sign" [55 Nothing 230 196 0 0];
-        Strict Extension "tmtheme" [434 Text 0 127 0 10];
+        Strict Whole "_vimrc" [985 Text 0 317 0 0];
+        Strict Extension "jpg" [545 Signature 157 0 0 0];
+        Strict Extension "sign" [56 Nothing 297 254 0 0];
+        Strict Extension "tmtheme" [437 Text 0 162 0 10];
     ],
     keys![
-        Strict Extension "eif" [723 Text 0 246 0 0];
-        Strict Extension "jsonld" [32 Text 0 125 0 0];
-        Strict Extension "lsl" [815 Text 0 246 0 0];
-        Strict Extension "xcf" [601 Signature 270 0 0 0];
+        Strict Extension "eif" [728 Text 0 317 0 0];
+        Strict Extension "jsonld" [32 Text 0 160 0 0];
+        Strict Extension "lsl" [820 Text 0 317 0 0];
+        Strict Extension "xcf" [606 Signature 344 0 0 0];
     ],
     keys![
-        Strict Extension "chd" [342 Bytes 0 0 0 0];
-        Strict Extension "p21" [612 Text 0 246 0 0];
+        Strict Extension "chd" [345 Bytes 59 0 0 0];
+        Strict Extension "p21" [617 Text 0 317 0 0];
     ],
     keys![
-        Strict Extension "agb" [274 Bytes 0 0 0 0];
-        Strict Extension "gn" [758 Text 0 246 0 0];
-        Strict Extension "jmx" [315 Text 0 112 0 10];
-        Strict Extension "ogm" [1021 Signature 0 179 0 0];
-        Loose Extension "tab" [634 Text 0 246 0 0];
+        Strict Extension "agb" [275 Bytes 0 0 0 0];
+        Strict Extension "gn" [763 Text 0 317 0 0];
+        Strict Extension "jmx" [318 Text 0 140 0 10];
+        Strict Extension "ogm" [1026 Signature 0 232 0 0];
+        Loose Extension "tab" [639 Text 0 317 0 0];
     ],
     keys![
-        Strict Extension "ibd" [302 Bytes 0 0 0 0];
-        Strict Extension "lean" [805 Text 0 246 0 0];
-        Strict Extension "nds" [146 Bytes 0 0 0 0];
-        Strict Extension "raml" [65 Text 0 126 0 0];
+        Strict Extension "ibd" [305 Bytes 0 0 0 0];
+        Strict Extension "lean" [810 Text 0 317 0 0];
+        Strict Extension "nds" [147 Bytes 0 0 0 0];
+        Strict Extension "raml" [66 Text 0 161 0 0];
     ],
 ];
 

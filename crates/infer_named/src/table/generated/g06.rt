@@ -7,102 +7,102 @@ use crate::table::{Asks, Key, Part, Reading, is_loose, keys};
 
 static SLOTS: [&[Key]; 16] = [
     keys![
-        Strict Extension "asmdef" [437 Text 0 125 0 0];
-        Strict Extension "f77" [738 Text 0 246 0 0];
-        Strict Extension "jade" [882 Text 0 246 0 0];
-        Strict Extension "jst" [724 Text 0 108 0 0];
-        Strict Extension "s" [658 Text 0 246 0 0];
-        Strict Extension "wav" [516 Signature 261 0 0 0];
+        Strict Extension "asmdef" [440 Text 0 160 0 0];
+        Strict Extension "f77" [743 Text 0 317 0 0];
+        Strict Extension "jade" [887 Text 0 317 0 0];
+        Strict Extension "jst" [729 Text 0 136 0 0];
+        Strict Extension "s" [663 Text 0 317 0 0];
+        Strict Extension "wav" [521 Signature 333 0 0 0];
     ],
     keys![
-        Strict Whole "configure.ac" [662 Text 0 246 0 0];
-        Strict Whole "copyright" [631 Text 246 0 31 0];
-        Strict Extension "copyright" [631 Text 246 0 31 0];
-        Strict Extension "just" [795 Text 0 227 0 0];
-        Strict Extension "lbx" [957 Text 0 210 0 0];
-        Strict Extension "mp4" [1004 Bytes 158 106 2 0];
-        Loose Extension "rules" [970 Text 0 246 0 0];
-        Strict Extension "ss" [916 Text 0 227 0 0];
-        Strict Extension "z64" [360 Bytes 0 0 0 0];
+        Strict Whole "configure.ac" [667 Text 0 317 0 0];
+        Strict Whole "copyright" [636 Text 317 0 14 0];
+        Strict Extension "copyright" [636 Text 317 0 14 0];
+        Strict Extension "just" [800 Text 0 293 0 0];
+        Strict Extension "lbx" [962 Text 0 270 0 0];
+        Strict Extension "mp4" [1009 Bytes 207 133 3 0];
+        Loose Extension "rules" [975 Text 0 317 0 0];
+        Strict Extension "ss" [921 Text 0 293 0 0];
+        Strict Extension "z64" [363 Bytes 213 0 0 0];
     ],
     keys![
-        Strict Extension "fd" [957 Text 0 210 0 0];
-        Strict Extension "jav" [787 Text 0 246 0 0];
-        Strict Extension "sss" [873 Text 0 246 0 0];
+        Strict Extension "fd" [962 Text 0 270 0 0];
+        Strict Extension "jav" [792 Text 0 317 0 0];
+        Strict Extension "sss" [878 Text 0 317 0 0];
     ],
     keys![
-        Strict Extension "env" [715 Text 0 246 0 0];
-        Strict Extension "fs" [631 Text 246 0 31 0];
-        Strict Extension "gbl" [747 Text 0 246 0 0];
-        Strict Extension "ova" [375 Bytes 0 238 0 0];
-        Strict Extension "rpy" [886 Text 214 128 0 0];
-        Strict Extension "sass" [914 Text 0 246 0 0];
-        Strict Extension "scss" [919 Text 0 246 0 0];
+        Strict Extension "env" [720 Text 0 317 0 0];
+        Strict Extension "fs" [636 Text 317 0 14 0];
+        Strict Extension "gbl" [752 Text 0 317 0 0];
+        Strict Extension "ova" [378 Bytes 0 308 0 0];
+        Strict Extension "rpy" [891 Text 274 163 0 0];
+        Strict Extension "sass" [919 Text 0 317 0 0];
+        Strict Extension "scss" [924 Text 0 317 0 0];
     ],
     keys![
-        Strict Extension "cmt" [231 Bytes 0 76 0 0];
-        Strict Extension "qt" [1007 Bytes 156 158 0 0];
-        Strict Whole "todo" [631 Text 246 0 31 0];
+        Strict Extension "cmt" [232 Bytes 0 93 0 0];
+        Strict Extension "qt" [1012 Bytes 205 207 0 0];
+        Strict Whole "todo" [636 Text 317 0 14 0];
     ],
     keys![
-        Strict Extension "msix" [40 Signature 0 277 0 0];
-        Strict Extension "odc" [149 Signature 0 277 0 0];
+        Strict Extension "msix" [40 Signature 0 354 0 0];
+        Strict Extension "odc" [150 Signature 219 354 0 0];
     ],
     keys![
-        Strict Extension "ac3" [479 Bytes 0 0 0 0];
-        Strict Extension "cmti" [231 Bytes 0 76 0 0];
-        Strict Extension "sha256sum" [688 Text 0 246 0 0];
-        Strict Extension "usdz" [442 Signature 0 277 0 0];
+        Strict Extension "ac3" [483 Bytes 0 0 0 0];
+        Strict Extension "cmti" [232 Bytes 0 93 0 0];
+        Strict Extension "sha256sum" [693 Text 0 317 0 0];
+        Strict Extension "usdz" [445 Signature 0 354 0 0];
     ],
     keys![
-        Strict Extension "ini" [780 Text 0 246 0 0];
-        Strict Whole "sha1sums" [688 Text 0 246 0 0];
-        Strict Extension "squashfs" [183 Signature 233 0 0 0];
+        Strict Extension "ini" [785 Text 0 317 0 0];
+        Strict Whole "sha1sums" [693 Text 0 317 0 0];
+        Strict Extension "squashfs" [184 Signature 301 0 0 0];
     ],
     keys![
-        Strict Extension "med" [508 Bytes 0 0 0 0];
-        Strict Extension "ncl" [631 Text 246 0 31 0];
+        Strict Extension "med" [512 Bytes 194 0 0 0];
+        Strict Extension "ncl" [636 Text 317 0 14 0];
     ],
     keys![
-        Strict Extension "mts" [1003 Bytes 243 0 0 0] [967 Text 0 227 0 0];
+        Strict Extension "mts" [1008 Bytes 314 0 0 0] [972 Text 0 293 0 0];
     ],
     keys![
-        Strict Whole ".gvimrc" [980 Text 0 246 0 0];
-        Strict Extension "appx" [0 Signature 0 277 0 0];
-        Strict Extension "aspx" [216 Text 0 108 0 0];
-        Strict Extension "bat" [839 Text 0 246 0 0];
-        Strict Extension "m2ts" [1003 Bytes 243 0 0 0];
-        Strict Whole "pytest.ini" [780 Text 0 246 0 0];
+        Strict Whole ".gvimrc" [985 Text 0 317 0 0];
+        Strict Extension "appx" [0 Signature 0 354 0 0];
+        Strict Extension "aspx" [217 Text 0 136 0 0];
+        Strict Extension "bat" [844 Text 0 317 0 0];
+        Strict Extension "m2ts" [1008 Bytes 314 0 0 0];
+        Strict Whole "pytest.ini" [785 Text 0 317 0 0];
     ],
     keys![
-        Strict Whole ".xinitrc" [924 Text 0 227 0 0];
-        Strict Extension "janet" [786 Text 0 227 0 0];
-        Strict Extension "qrc" [396 Text 0 112 0 10];
+        Strict Whole ".xinitrc" [929 Text 0 293 0 0];
+        Strict Extension "janet" [791 Text 0 293 0 0];
+        Strict Extension "qrc" [399 Text 0 140 0 10];
     ],
     keys![
-        Strict Whole ".eslintrc" [317 Text 0 246 125 0];
-        Strict Whole ".jshintrc" [317 Text 0 246 125 0];
-        Strict Whole ".jslintrc" [317 Text 0 246 125 0];
-        Strict Whole ".pylintrc" [780 Text 0 246 0 0];
-        Strict Extension "tsp" [118 Signature 82 0 0 0];
+        Strict Whole ".eslintrc" [320 Text 0 317 160 0];
+        Strict Whole ".jshintrc" [320 Text 0 317 160 0];
+        Strict Whole ".jslintrc" [320 Text 0 317 160 0];
+        Strict Whole ".pylintrc" [785 Text 0 317 0 0];
+        Strict Extension "tsp" [119 Signature 100 0 0 0];
     ],
     keys![
-        Strict Extension "jsonnet" [31 Text 0 227 0 0];
-        Strict Extension "mdx" [628 Text 0 108 0 0];
-        Strict Extension "wren" [986 Text 0 227 0 0];
+        Strict Extension "jsonnet" [31 Text 0 293 0 0];
+        Strict Extension "mdx" [633 Text 0 136 0 0];
+        Strict Extension "wren" [991 Text 0 293 0 0];
     ],
     keys![
-        Strict Extension "gcda" [275 Bytes 0 0 0 0];
-        Strict Extension "reb" [897 Text 0 246 0 0];
-        Strict Extension "tar" [426 Bytes 238 0 0 0];
-        Strict Extension "xyz" [524 Text 0 246 0 0];
+        Strict Extension "gcda" [276 Bytes 0 0 0 0];
+        Strict Extension "reb" [902 Text 0 317 0 0];
+        Strict Extension "tar" [429 Bytes 308 0 0 0];
+        Strict Extension "xyz" [529 Text 0 317 0 0];
     ],
     keys![
-        Strict Extension "3fr" [574 Signature 0 241 0 0];
-        Strict Extension "frag" [757 Text 0 246 0 0];
-        Strict Extension "lhs" [811 Text 0 227 0 0];
-        Strict Extension "sublime-settings" [317 Text 0 246 125 0];
-        Strict Extension "webmanifest" [34 Text 0 125 0 0];
+        Strict Extension "3fr" [579 Signature 0 311 0 0];
+        Strict Extension "frag" [762 Text 0 317 0 0];
+        Strict Extension "lhs" [816 Text 0 293 0 0];
+        Strict Extension "sublime-settings" [320 Text 0 317 160 0];
+        Strict Extension "webmanifest" [34 Text 0 160 0 0];
     ],
 ];
 

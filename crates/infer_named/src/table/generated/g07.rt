@@ -7,98 +7,98 @@ use crate::table::{Asks, Key, Part, Reading, is_loose, keys};
 
 static SLOTS: [&[Key]; 16] = [
     keys![
-        Strict Extension "apng" [526 Signature 19 203 0 0];
-        Strict Extension "cql" [622 Text 0 246 0 0];
-        Strict Extension "dot" [42 Signature 0 23 0 0] [642 Text 0 246 0 0];
-        Loose Extension "key" [380 Text 132 196 0 0] [371 Text 181 0 0 0] [53 Text 30 0 0 0] [94 Signature 0 277 0 0] [631 Text 246 0 31 0];
+        Strict Extension "apng" [531 Signature 24 263 0 0];
+        Strict Extension "cql" [627 Text 0 317 0 0];
+        Strict Extension "dot" [42 Signature 0 30 0 0] [647 Text 0 317 0 0];
+        Loose Extension "key" [383 Text 167 254 0 0] [374 Text 234 0 0 0] [54 Text 38 0 0 0] [95 Signature 27 354 0 0] [636 Text 317 0 14 0];
     ],
     keys![
-        Strict Extension "dvi" [252 Bytes 0 0 0 0];
-        Strict Extension "ixx" [681 Text 0 246 0 0];
-        Strict Extension "j2c" [577 Bytes 0 0 0 0];
-        Strict Extension "mdmp" [451 Bytes 0 0 0 0];
-        Strict Extension "xquery" [472 Text 0 247 0 0];
+        Strict Extension "dvi" [253 Bytes 90 0 0 0];
+        Strict Extension "ixx" [686 Text 0 317 0 0];
+        Strict Extension "j2c" [582 Bytes 148 0 0 0];
+        Strict Extension "mdmp" [455 Bytes 0 0 0 0];
+        Strict Extension "xquery" [476 Text 0 318 0 0];
     ],
     keys![
-        Strict Extension "bug" [679 Text 0 246 0 0];
-        Strict Extension "cmxa" [231 Bytes 0 76 0 0];
-        Strict Extension "dfont" [409 Bytes 0 0 0 0];
-        Strict Extension "rpgle" [906 Text 0 246 0 0];
-        Strict Extension "smarty" [931 Text 0 108 0 0];
-        Strict Extension "tex" [957 Text 0 210 0 0];
+        Strict Extension "bug" [684 Text 0 317 0 0];
+        Strict Extension "cmxa" [232 Bytes 0 93 0 0];
+        Strict Extension "dfont" [412 Bytes 0 0 0 0];
+        Strict Extension "rpgle" [911 Text 0 317 0 0];
+        Strict Extension "smarty" [936 Text 0 136 0 0];
+        Strict Extension "tex" [962 Text 0 270 0 0];
     ],
     keys![
-        Strict Extension "cfc" [685 Text 0 108 0 0];
-        Strict Extension "gy" [765 Text 0 227 0 0];
-        Strict Extension "sr2" [596 Signature 0 241 0 0];
-        Strict Extension "wrl" [616 Text 0 246 0 0];
+        Strict Extension "cfc" [690 Text 0 136 0 0];
+        Strict Extension "gy" [770 Text 0 293 0 0];
+        Strict Extension "sr2" [601 Signature 0 311 0 0];
+        Strict Extension "wrl" [621 Text 0 317 0 0];
     ],
     keys![
-        Strict Whole ".condarc" [631 Text 246 0 31 0];
-        Strict Extension "cur" [599 Bytes 0 0 0 0];
-        Strict Extension "pct" [587 Bytes 0 0 0 0];
-        Strict Extension "wmz" [453 Signature 0 100 0 0];
-        Strict Extension "yap" [878 Text 0 209 0 0];
+        Strict Whole ".condarc" [636 Text 317 0 14 0];
+        Strict Extension "cur" [604 Bytes 69 0 0 0];
+        Strict Extension "pct" [592 Bytes 0 0 0 0];
+        Strict Extension "wmz" [457 Signature 0 125 0 0];
+        Strict Extension "yap" [883 Text 0 269 0 0];
     ],
     keys![
-        Strict Extension "pict" [587 Bytes 0 0 0 0];
-        Strict Extension "zsh-theme" [463 Text 0 227 0 0];
+        Strict Extension "pict" [592 Bytes 0 0 0 0];
+        Strict Extension "zsh-theme" [467 Text 0 293 0 0];
     ],
     keys![
-        Strict Extension "pl" [878 Text 0 209 0 1] [863 Text 200 227 0 0];
-        Strict Extension "pyx" [707 Text 0 227 0 0];
+        Strict Extension "pl" [883 Text 0 269 0 1] [868 Text 260 293 0 0];
+        Strict Extension "pyx" [712 Text 0 293 0 0];
     ],
     keys![
-        Strict Extension "ldjson" [363 Text 162 125 0 0];
-        Strict Extension "shlibs" [631 Text 246 0 31 0];
-        Strict Extension "vdi" [443 Signature 250 0 0 0];
+        Strict Extension "ldjson" [366 Text 214 160 0 0];
+        Strict Extension "shlibs" [636 Text 317 0 14 0];
+        Strict Extension "vdi" [446 Signature 321 0 0 0];
     ],
     keys![
-        Strict Extension "cl" [631 Text 246 0 31 0];
-        Strict Extension "natvis" [361 Text 0 112 0 10];
-        Strict Extension "strings" [223 Signature 45 0 0 0] [945 Text 0 246 0 6] [631 Text 246 0 31 0];
-        Strict Whole "winmail.dat" [137 Bytes 0 0 0 0];
+        Strict Extension "cl" [636 Text 317 0 14 0];
+        Strict Extension "natvis" [364 Text 0 140 0 10];
+        Strict Extension "strings" [224 Signature 54 0 0 0] [950 Text 0 317 0 6] [636 Text 317 0 14 0];
+        Strict Whole "winmail.dat" [138 Bytes 312 0 0 0];
     ],
     keys![
-        Strict Extension "journal" [425 Bytes 120 0 0 0];
-        Strict Extension "vssx" [140 Signature 0 257 0 0];
+        Strict Extension "journal" [428 Bytes 155 0 0 0];
+        Strict Extension "vssx" [141 Signature 0 328 0 0];
     ],
     keys![
-        Strict Extension "jif" [540 Signature 122 0 0 0];
-        Strict Extension "rgbe" [558 Bytes 0 0 0 0];
+        Strict Extension "jif" [545 Signature 157 0 0 0];
+        Strict Extension "rgbe" [563 Bytes 129 0 0 0];
     ],
     keys![
-        Strict Extension "am" [665 Text 0 246 0 0];
-        Strict Extension "bpg" [530 Bytes 0 0 0 0];
-        Strict Extension "ftn" [738 Text 0 246 0 0];
-        Strict Extension "jfif" [540 Signature 122 0 0 0];
-        Strict Extension "mjs" [626 Text 124 128 0 0];
-        Strict Extension "prisma" [876 Text 0 246 0 0];
-        Strict Extension "vho" [979 Text 0 246 0 0];
-        Strict Extension "wiki" [824 Text 0 246 0 0];
+        Strict Extension "am" [670 Text 0 317 0 0];
+        Strict Extension "bpg" [535 Bytes 53 0 0 0];
+        Strict Extension "ftn" [743 Text 0 317 0 0];
+        Strict Extension "jfif" [545 Signature 157 0 0 0];
+        Strict Extension "mjs" [631 Text 115 163 0 0];
+        Strict Extension "prisma" [881 Text 0 317 0 0];
+        Strict Extension "vho" [984 Text 0 317 0 0];
+        Strict Extension "wiki" [829 Text 0 317 0 0];
     ],
     keys![
-        Strict Extension "dsl" [631 Text 246 0 31 0];
-        Strict Whole "meson.options" [826 Text 0 246 0 0];
-        Loose Extension "pcf" [270 Bytes 0 0 0 0];
-        Strict Extension "wml" [644 Text 0 108 0 0];
-        Strict Extension "xspf" [474 Text 0 112 0 10];
+        Strict Extension "dsl" [636 Text 317 0 14 0];
+        Strict Whole "meson.options" [831 Text 0 317 0 0];
+        Loose Extension "pcf" [271 Bytes 0 0 0 0];
+        Strict Extension "wml" [649 Text 0 136 0 0];
+        Strict Extension "xspf" [478 Text 0 140 0 10];
     ],
     keys![
-        Strict Extension "resw" [400 Text 0 112 0 10];
+        Strict Extension "resw" [403 Text 0 140 0 10];
     ],
     keys![
-        Strict Extension "oga" [486 Signature 176 87 0 0];
-        Strict Extension "slice" [953 Text 0 246 0 0];
-        Strict Extension "spice" [938 Text 0 246 0 0];
+        Strict Extension "oga" [490 Signature 229 107 0 0] [518 Bytes 299 0 0 0];
+        Strict Extension "slice" [958 Text 0 317 0 0];
+        Strict Extension "spice" [943 Text 0 317 0 0];
     ],
     keys![
-        Strict Extension "m2v" [1005 Bytes 160 0 0 0];
-        Strict Whole "pkgbuild" [925 Text 226 246 0 0];
-        Strict Extension "sfv" [688 Text 0 246 0 0];
-        Strict Extension "sqlite" [182 Signature 232 0 94 0];
-        Strict Extension "sublime-keymap" [317 Text 0 246 125 0];
-        Strict Extension "tt2" [956 Text 0 108 0 0];
+        Strict Extension "m2v" [1010 Bytes 209 0 0 0];
+        Strict Whole "pkgbuild" [930 Text 292 317 0 0];
+        Strict Extension "sfv" [693 Text 0 317 0 0];
+        Strict Extension "sqlite" [183 Signature 300 0 118 0];
+        Strict Extension "sublime-keymap" [320 Text 0 317 160 0];
+        Strict Extension "tt2" [961 Text 0 136 0 0];
     ],
 ];
 

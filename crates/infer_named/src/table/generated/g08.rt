@@ -7,91 +7,91 @@ use crate::table::{Asks, Key, Part, Reading, is_loose, keys};
 
 static SLOTS: [&[Key]; 16] = [
     keys![
-        Strict Extension "fods" [159 Text 0 112 0 10];
-        Strict Extension "fountain" [739 Text 0 246 0 0];
-        Strict Extension "nsv" [1020 Bytes 0 0 0 0];
-        Strict Extension "potx" [168 Signature 0 24 0 0];
-        Strict Extension "pptx" [166 Signature 206 26 0 0];
-        Strict Extension "roc" [905 Text 0 246 0 0];
-        Strict Extension "smk" [934 Text 0 246 0 0] [1008 Bytes 0 0 0 0];
+        Strict Extension "fods" [160 Text 0 140 0 10];
+        Strict Extension "fountain" [744 Text 0 317 0 0];
+        Strict Extension "nsv" [1025 Bytes 0 0 0 0];
+        Strict Extension "potx" [169 Signature 0 31 0 0];
+        Strict Extension "pptx" [167 Signature 266 33 0 0];
+        Strict Extension "roc" [910 Text 0 317 0 0];
+        Strict Extension "smk" [939 Text 0 317 0 0] [1013 Bytes 0 0 0 0];
     ],
     keys![
-        Strict Extension "gzip" [22 Signature 96 0 0 0];
-        Strict Extension "rdoc" [894 Text 0 246 0 0];
-        Strict Extension "xhtml" [466 Text 271 113 0 10];
+        Strict Extension "gzip" [22 Signature 121 0 170 0];
+        Strict Extension "rdoc" [899 Text 0 317 0 0];
+        Strict Extension "xhtml" [470 Text 345 141 0 10];
     ],
     keys![
-        Strict Extension "hp" [680 Text 0 246 0 0];
+        Strict Extension "hp" [685 Text 0 317 0 0];
     ],
     keys![
-        Strict Extension "cbz" [101 Signature 0 277 0 0];
-        Strict Extension "hpp" [680 Text 0 246 0 0];
+        Strict Extension "cbz" [102 Signature 0 354 0 0];
+        Strict Extension "hpp" [685 Text 0 317 0 0];
     ],
     keys![
-        Strict Extension "aax" [491 Bytes 0 0 0 0];
+        Strict Extension "aax" [495 Bytes 0 0 0 0];
     ],
     keys![
-        Strict Extension "asax" [216 Text 0 108 0 0];
-        Strict Extension "cpio" [237 Bytes 53 0 0 0];
-        Strict Extension "fq" [733 Text 0 246 0 0];
-        Strict Extension "ical" [621 Text 116 246 0 0];
-        Strict Extension "jfi" [540 Signature 122 0 0 0];
-        Strict Extension "resi" [896 Text 0 246 0 0];
-        Strict Extension "whl" [450 Signature 0 277 0 0];
+        Strict Extension "asax" [217 Text 0 136 0 0];
+        Strict Extension "cpio" [238 Bytes 63 0 0 0];
+        Strict Extension "fq" [738 Text 0 317 0 0];
+        Strict Extension "ical" [626 Text 145 317 0 0];
+        Strict Extension "jfi" [545 Signature 157 0 0 0];
+        Strict Extension "resi" [901 Text 0 317 0 0];
+        Strict Extension "whl" [453 Signature 0 354 0 0];
     ],
     keys![
-        Strict Extension "cairo" [683 Text 0 246 0 0];
-        Strict Extension "diz" [631 Text 246 0 31 0];
-        Strict Extension "ico" [556 Signature 115 0 0 0];
-        Strict Extension "ldscript" [803 Text 0 246 0 0];
-        Strict Extension "sst" [324 Bytes 0 0 0 0];
-        Strict Extension "xmi" [988 Text 0 112 0 10];
+        Strict Extension "cairo" [688 Text 0 317 0 0];
+        Strict Extension "diz" [636 Text 317 0 14 0];
+        Strict Extension "ico" [561 Signature 144 0 0 0];
+        Strict Extension "ldscript" [808 Text 0 317 0 0];
+        Strict Extension "sst" [327 Bytes 0 0 0 0];
+        Strict Extension "xmi" [993 Text 0 140 0 10];
     ],
     keys![
-        Strict Extension "epsi" [568 Text 78 208 0 0];
-        Strict Whole "pkg-info" [631 Text 246 0 31 0];
+        Strict Extension "epsi" [573 Text 95 268 0 0];
+        Strict Whole "pkg-info" [636 Text 317 0 14 0];
     ],
     keys![
-        Strict Extension "gdbm" [276 Signature 89 0 0 0];
-        Strict Extension "nc4" [297 Bytes 102 0 0 0];
-        Strict Extension "nsh" [847 Text 0 246 0 0];
-        Loose Extension "sav" [417 Bytes 0 0 0 0];
+        Strict Extension "gdbm" [277 Signature 112 0 0 0];
+        Strict Extension "nc4" [300 Bytes 128 0 0 0];
+        Strict Extension "nsh" [852 Text 0 317 0 0];
+        Loose Extension "sav" [420 Bytes 290 0 0 0];
     ],
     keys![
-        Strict Extension "als" [199 Signature 0 96 0 0];
-        Strict Extension "grib" [292 Bytes 0 0 0 0];
-        Strict Extension "groovy" [765 Text 0 227 0 0];
-        Strict Extension "v64" [360 Bytes 0 0 0 0];
+        Strict Extension "als" [200 Signature 0 121 0 0];
+        Strict Extension "grib" [293 Bytes 0 0 0 0];
+        Strict Extension "groovy" [770 Text 0 293 0 0];
+        Strict Extension "v64" [363 Bytes 213 0 0 0];
     ],
     keys![
-        Loose Extension "def" [631 Text 246 0 31 0];
-        Strict Extension "req" [56 Bytes 0 65 0 0];
+        Loose Extension "def" [636 Text 317 0 14 0];
+        Strict Extension "req" [57 Bytes 0 77 0 0];
     ],
     keys![
-        Strict Extension "cbl" [692 Text 0 246 0 0];
-        Loose Extension "me" [631 Text 246 0 31 0];
-        Strict Extension "npy" [366 Signature 164 0 0 0];
-        Strict Extension "vsix" [193 Signature 0 277 0 0];
+        Strict Extension "cbl" [697 Text 0 317 0 0];
+        Loose Extension "me" [636 Text 317 0 14 0];
+        Strict Extension "npy" [369 Signature 216 0 0 0];
+        Strict Extension "vsix" [194 Signature 0 354 0 0];
     ],
     keys![
-        Strict Extension "auk" [666 Text 39 227 0 0];
-        Strict Extension "irclog" [784 Text 0 246 0 0];
+        Strict Extension "auk" [671 Text 47 293 0 0];
+        Strict Extension "irclog" [789 Text 0 317 0 0];
     ],
     keys![
-        Strict Extension "cabal" [682 Text 0 246 0 0];
-        Strict Extension "cobol" [692 Text 0 246 0 0];
-        Strict Extension "elf" [261 Signature 75 0 21 0];
-        Strict Extension "kdc" [579 Signature 0 241 0 0];
+        Strict Extension "cabal" [687 Text 0 317 0 0];
+        Strict Extension "cobol" [697 Text 0 317 0 0];
+        Strict Extension "elf" [262 Signature 92 0 26 0];
+        Strict Extension "kdc" [584 Signature 0 311 0 0];
     ],
     keys![
-        Strict Extension "acm" [118 Signature 82 0 0 0];
-        Strict Extension "divx" [1019 Signature 36 0 0 0];
-        Strict Extension "icalendar" [621 Text 116 246 0 0];
-        Strict Extension "ocx" [118 Signature 82 0 0 0];
+        Strict Extension "acm" [119 Signature 100 0 0 0];
+        Strict Extension "divx" [1024 Signature 44 0 0 0];
+        Strict Extension "icalendar" [626 Text 145 317 0 0];
+        Strict Extension "ocx" [119 Signature 100 0 0 0];
     ],
     keys![
-        Strict Extension "jpx" [541 Signature 123 121 0 0];
-        Strict Extension "v" [631 Text 246 0 31 0];
+        Strict Extension "jpx" [546 Signature 159 156 0 0];
+        Strict Extension "v" [636 Text 317 0 14 0];
     ],
 ];
 

@@ -7,98 +7,98 @@ use crate::table::{Asks, Key, Part, Reading, is_loose, keys};
 
 static SLOTS: [&[Key]; 16] = [
     keys![
-        Strict Extension "bst" [672 Text 0 210 0 0];
-        Strict Extension "mef" [580 Signature 0 241 0 0];
+        Strict Extension "bst" [677 Text 0 270 0 0];
+        Strict Extension "mef" [585 Signature 0 311 0 0];
     ],
     keys![
-        Loose Extension "ks" [798 Text 0 246 0 0];
-        Strict Extension "pike" [867 Text 0 227 0 0];
+        Loose Extension "ks" [803 Text 0 317 0 0];
+        Strict Extension "pike" [872 Text 0 293 0 0];
     ],
     keys![
-        Strict Extension "icb" [598 Bytes 0 0 0 0];
+        Strict Extension "icb" [603 Bytes 0 0 0 0];
     ],
     keys![
-        Strict Extension "cake" [701 Text 0 246 0 0];
-        Strict Extension "hprof" [298 Bytes 0 0 0 0];
-        Strict Extension "pickle" [391 Bytes 0 0 0 0];
-        Strict Extension "rpm" [402 Bytes 221 0 0 0];
-        Strict Extension "vtt" [645 Text 258 0 0 0];
+        Strict Extension "cake" [706 Text 0 317 0 0];
+        Strict Extension "hprof" [301 Bytes 0 0 0 0];
+        Strict Extension "pickle" [394 Bytes 0 0 0 0];
+        Strict Extension "rpm" [405 Bytes 285 0 302 0];
+        Strict Extension "vtt" [650 Text 329 0 0 0];
     ],
     keys![
-        Strict Whole "install-sh" [925 Text 226 246 0 0];
-        Loose Extension "it" [504 Bytes 0 0 0 0];
-        Strict Extension "tf" [770 Text 0 246 0 0];
-        Strict Extension "tsr" [80 Bytes 0 61 0 0];
+        Strict Whole "install-sh" [930 Text 292 317 0 0];
+        Loose Extension "it" [508 Bytes 147 0 0 0];
+        Strict Extension "tf" [775 Text 0 317 0 0];
+        Strict Extension "tsr" [81 Bytes 0 73 0 0];
     ],
     keys![
-        Strict Extension "jsonlines" [363 Text 162 125 0 0];
-        Loose Extension "spx" [487 Signature 178 0 177 0];
+        Strict Extension "jsonlines" [366 Text 214 160 0 0];
+        Loose Extension "spx" [491 Signature 231 0 230 0];
     ],
     keys![
-        Strict Extension "red" [898 Text 0 246 0 0];
-        Strict Extension "smali" [930 Text 0 246 0 0];
-        Strict Extension "swm" [352 Signature 264 0 0 0];
-        Strict Extension "tiff" [550 Signature 241 0 55 0];
+        Strict Extension "red" [903 Text 0 317 0 0];
+        Strict Extension "smali" [935 Text 0 317 0 0];
+        Strict Extension "swm" [355 Signature 337 0 0 0];
+        Strict Extension "tiff" [555 Signature 311 0 65 0];
     ],
     keys![
-        Strict Extension "ani" [362 Signature 15 0 0 0];
-        Strict Extension "fpx" [555 Bytes 0 23 0 0];
-        Strict Extension "gff" [750 Text 0 246 0 0];
-        Strict Extension "jp2" [539 Bytes 121 0 123 0];
-        Strict Extension "mako" [818 Text 0 108 0 0];
-        Loose Extension "pdb" [349 Bytes 0 0 0 0] [523 Text 0 246 0 0];
+        Strict Extension "ani" [365 Signature 20 0 0 0];
+        Strict Extension "fpx" [560 Bytes 0 30 0 0];
+        Strict Extension "gff" [755 Text 0 317 0 0];
+        Strict Extension "jp2" [544 Bytes 156 0 158 0];
+        Strict Extension "mako" [823 Text 0 136 0 0];
+        Loose Extension "pdb" [352 Bytes 0 0 0 0] [528 Text 0 317 0 0];
     ],
     keys![
-        Strict Whole ".envrc" [925 Text 226 246 0 0];
-        Strict Extension "desktop" [243 Text 0 246 0 0];
-        Strict Whole "manifest.mf" [788 Text 0 246 0 0];
+        Strict Whole ".envrc" [930 Text 292 317 0 0];
+        Strict Extension "desktop" [244 Text 0 317 0 0];
+        Strict Whole "manifest.mf" [793 Text 0 317 0 0];
     ],
     keys![
-        Strict Extension "apl" [655 Text 0 227 0 0];
-        Strict Extension "conffiles" [631 Text 246 0 31 0];
-        Strict Extension "jags" [679 Text 0 246 0 0];
-        Strict Extension "sld" [916 Text 0 227 0 0];
+        Strict Extension "apl" [660 Text 0 293 0 0];
+        Strict Extension "conffiles" [636 Text 317 0 14 0];
+        Strict Extension "jags" [684 Text 0 317 0 0];
+        Strict Extension "sld" [921 Text 0 293 0 0];
     ],
     keys![
-        Strict Extension "ampl" [651 Text 0 246 0 0];
-        Strict Extension "dpatch" [861 Text 0 246 0 0];
-        Strict Extension "egg" [255 Signature 0 277 0 0];
-        Strict Extension "owl" [66 Text 0 109 0 10];
-        Strict Extension "pas" [860 Text 0 246 0 0];
-        Strict Extension "ph" [863 Text 200 227 0 0];
+        Strict Extension "ampl" [656 Text 0 317 0 0];
+        Strict Extension "dpatch" [866 Text 0 317 0 0];
+        Strict Extension "egg" [256 Signature 0 354 0 0];
+        Strict Extension "owl" [67 Text 0 137 0 10] [50 Text 244 0 0 10];
+        Strict Extension "pas" [865 Text 0 317 0 0];
+        Strict Extension "ph" [868 Text 260 293 0 0];
     ],
     keys![],
     keys![
-        Strict Extension "avro" [218 Signature 38 0 0 0];
-        Strict Whole "dangerfile" [910 Text 220 227 0 0];
-        Strict Whole "dockerfile" [714 Text 0 227 0 0];
-        Strict Extension "dockerfile" [714 Text 0 227 0 0];
-        Strict Extension "lsp" [694 Text 0 227 0 0];
-        Strict Whole "makefile.pl" [863 Text 200 227 0 0];
-        Strict Extension "mobi" [347 Bytes 155 0 0 0];
+        Strict Extension "avro" [219 Signature 46 0 0 0];
+        Strict Whole "dangerfile" [915 Text 283 293 0 0];
+        Strict Whole "dockerfile" [719 Text 0 293 0 0];
+        Strict Extension "dockerfile" [719 Text 0 293 0 0];
+        Strict Extension "lsp" [699 Text 0 293 0 0];
+        Strict Whole "makefile.pl" [868 Text 260 293 0 0];
+        Strict Extension "mobi" [350 Bytes 204 0 0 0];
     ],
     keys![
-        Strict Whole ".bash_history" [924 Text 0 227 0 0];
-        Strict Extension "lisp" [694 Text 0 227 0 0];
-        Strict Whole "pipfile" [81 Text 0 246 0 0];
-        Strict Whole "podfile" [910 Text 220 227 0 0];
-        Strict Whole "tox.ini" [780 Text 0 246 0 0];
+        Strict Whole ".bash_history" [929 Text 0 293 0 0];
+        Strict Extension "lisp" [699 Text 0 293 0 0];
+        Strict Whole "pipfile" [82 Text 0 317 0 0];
+        Strict Whole "podfile" [915 Text 283 293 0 0];
+        Strict Whole "tox.ini" [785 Text 0 317 0 0];
     ],
     keys![
-        Strict Extension "class" [27 Signature 51 0 0 0];
-        Strict Extension "coffee" [100 Text 0 227 0 0];
-        Strict Extension "hql" [771 Text 0 246 0 0];
-        Strict Extension "midl" [776 Text 0 246 0 0];
-        Strict Extension "mka" [506 Signature 0 153 0 0];
-        Strict Whole "procfile" [877 Text 0 246 0 0];
-        Strict Extension "pyz" [392 Signature 0 215 0 0];
-        Strict Extension "y" [991 Text 0 246 0 0];
+        Strict Extension "class" [27 Signature 61 0 0 0];
+        Strict Extension "coffee" [101 Text 0 293 0 0];
+        Strict Extension "hql" [776 Text 0 317 0 0];
+        Strict Extension "midl" [781 Text 0 317 0 0];
+        Strict Extension "mka" [510 Signature 0 198 0 0];
+        Strict Whole "procfile" [882 Text 0 317 0 0];
+        Strict Extension "pyz" [395 Signature 0 275 0 0];
+        Strict Extension "y" [996 Text 0 317 0 0];
     ],
     keys![
-        Strict Extension "ai" [25 Signature 0 79 0 0];
-        Strict Whole "capfile" [910 Text 220 227 0 0];
-        Strict Extension "erb" [259 Text 0 108 0 0];
-        Strict Extension "yy" [991 Text 0 246 0 0];
+        Strict Extension "ai" [25 Signature 0 96 0 0];
+        Strict Whole "capfile" [915 Text 283 293 0 0];
+        Strict Extension "erb" [260 Text 0 136 0 0];
+        Strict Extension "yy" [996 Text 0 317 0 0];
     ],
 ];
 

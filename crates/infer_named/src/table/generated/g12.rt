@@ -7,94 +7,94 @@ use crate::table::{Asks, Key, Part, Reading, is_loose, keys};
 
 static SLOTS: [&[Key]; 16] = [
     keys![
-        Strict Extension "ax" [118 Signature 82 0 0 0];
-        Strict Extension "doh" [944 Text 0 246 0 0];
-        Strict Whole "dune-workspace" [718 Text 0 246 0 0];
-        Strict Extension "mmd" [825 Text 0 246 0 0];
-        Strict Extension "vmdk" [449 Bytes 253 246 0 0];
+        Strict Extension "ax" [119 Signature 100 0 0 0];
+        Strict Extension "doh" [949 Text 0 317 0 0];
+        Strict Whole "dune-workspace" [723 Text 0 317 0 0];
+        Strict Extension "mmd" [830 Text 0 317 0 0];
+        Strict Extension "vmdk" [452 Bytes 324 317 0 0];
     ],
     keys![
-        Strict Whole "api-extractor.json" [317 Text 0 246 125 0];
-        Strict Extension "bnf" [719 Text 0 246 0 0];
-        Strict Extension "djv" [552 Signature 68 0 0 0];
-        Strict Extension "ly" [809 Text 0 210 0 0];
-        Strict Extension "sqlproj" [355 Text 0 112 0 10];
-        Strict Extension "stp" [631 Text 246 0 31 0];
+        Strict Whole "api-extractor.json" [320 Text 0 317 160 0];
+        Strict Extension "bnf" [724 Text 0 317 0 0];
+        Strict Extension "djv" [557 Signature 82 0 81 0];
+        Strict Extension "ly" [814 Text 0 270 0 0];
+        Strict Extension "sqlproj" [358 Text 0 140 0 10];
+        Strict Extension "stp" [636 Text 317 0 14 0];
     ],
     keys![
-        Strict Extension "fea" [857 Text 0 246 0 0];
-        Strict Extension "lex" [807 Text 0 246 0 0];
-        Strict Extension "py3" [886 Text 214 128 0 0];
+        Strict Extension "fea" [862 Text 0 317 0 0];
+        Strict Extension "lex" [812 Text 0 317 0 0];
+        Strict Extension "py3" [891 Text 274 163 0 0];
     ],
     keys![
-        Strict Extension "leex" [722 Text 0 108 0 0];
-        Strict Extension "mk3d" [1016 Signature 0 153 0 0];
-        Strict Extension "ppt" [131 Signature 205 23 0 0];
-        Strict Extension "tla" [962 Text 0 246 0 0];
+        Strict Extension "leex" [727 Text 0 136 0 0];
+        Strict Extension "mk3d" [1021 Signature 0 198 0 0];
+        Strict Extension "ppt" [132 Signature 265 30 0 0];
+        Strict Extension "tla" [967 Text 0 317 0 0];
     ],
     keys![
-        Strict Extension "mermaid" [825 Text 0 246 0 0];
-        Loose Extension "pch" [387 Bytes 0 0 0 0] [631 Text 246 0 31 0];
-        Strict Extension "phpt" [864 Text 198 110 0 0];
-        Strict Extension "podspec" [910 Text 220 227 0 0];
-        Strict Extension "sig" [55 Nothing 230 196 0 0];
-        Strict Extension "vimrc" [980 Text 0 246 0 0];
-    ],
-    keys![],
-    keys![
-        Strict Extension "ckpt" [393 Bytes 0 277 0 0];
-        Strict Extension "cmake" [691 Text 0 246 0 0];
-        Strict Extension "fig" [602 Text 0 246 0 0];
-        Strict Extension "msm" [356 Signature 22 23 0 0];
-        Strict Extension "puppet" [883 Text 0 246 0 0];
+        Strict Extension "mermaid" [830 Text 0 317 0 0];
+        Loose Extension "pch" [390 Bytes 0 0 0 0] [636 Text 317 0 14 0];
+        Strict Extension "phpt" [869 Text 258 138 0 0];
+        Strict Extension "podspec" [915 Text 283 293 0 0];
+        Strict Extension "sig" [56 Nothing 297 254 0 0];
+        Strict Extension "vimrc" [985 Text 0 317 0 0];
     ],
     keys![],
     keys![
-        Strict Whole "alembic.ini" [780 Text 0 246 0 0];
-        Strict Extension "d2" [708 Text 0 246 0 0];
-        Strict Extension "gir" [282 Text 0 112 0 10];
-        Strict Extension "pgn" [99 Text 0 246 0 0];
-        Strict Extension "tar.lzma" [337 Signature 0 143 0 0];
+        Strict Extension "ckpt" [396 Bytes 0 354 0 0];
+        Strict Extension "cmake" [696 Text 0 317 0 0];
+        Strict Extension "fig" [607 Text 0 317 0 0];
+        Strict Extension "msm" [359 Signature 29 30 0 0];
+        Strict Extension "puppet" [888 Text 0 317 0 0];
+    ],
+    keys![],
+    keys![
+        Strict Whole "alembic.ini" [785 Text 0 317 0 0];
+        Strict Extension "d2" [713 Text 0 317 0 0];
+        Strict Extension "gir" [283 Text 0 140 0 10];
+        Strict Extension "pgn" [100 Text 0 317 0 0];
+        Strict Extension "tar.lzma" [340 Signature 0 184 0 0];
     ],
     keys![
-        Loose Extension "gpg" [53 Text 30 0 0 0] [52 Text 197 0 0 0] [54 Bytes 93 0 0 0];
-        Strict Extension "md5sum" [688 Text 0 246 0 0];
-        Strict Extension "odt" [161 Signature 174 277 188 0];
-        Strict Extension "sha384" [688 Text 0 246 0 0];
-        Strict Extension "woff2" [16 Bytes 267 0 0 0];
-        Strict Extension "wxi" [452 Text 0 112 0 10];
+        Loose Extension "gpg" [54 Text 38 0 0 0] [53 Text 257 0 0 0] [55 Bytes 117 0 0 0];
+        Strict Extension "md5sum" [693 Text 0 317 0 0];
+        Strict Extension "odt" [162 Signature 227 354 243 0];
+        Strict Extension "sha384" [693 Text 0 317 0 0];
+        Strict Extension "woff2" [16 Bytes 340 0 0 0];
+        Strict Extension "wxi" [456 Text 0 140 0 10];
     ],
     keys![
-        Strict Extension "ditamap" [10 Text 0 112 0 10];
-        Strict Extension "s3m" [512 Bytes 0 0 0 0];
-        Strict Extension "tmx" [436 Text 0 112 0 10];
+        Strict Extension "ditamap" [10 Text 0 140 0 10];
+        Strict Extension "s3m" [516 Bytes 0 0 0 0];
+        Strict Extension "tmx" [439 Text 0 140 0 10];
     ],
     keys![
-        Strict Extension "ejs" [724 Text 0 108 0 0];
-        Strict Extension "html.hl" [625 Text 107 199 0 0];
+        Strict Extension "ejs" [729 Text 0 136 0 0];
+        Strict Extension "html.hl" [630 Text 135 259 0 0];
     ],
     keys![
-        Strict Extension "ecore" [988 Text 0 112 0 10];
-        Strict Extension "m4" [339 Text 0 227 0 0];
-        Loose Extension "o" [370 Signature 165 75 0 0] [262 Signature 166 0 0 0] [325 Signature 40 0 0 0] [340 Signature 150 0 0 0];
-        Strict Extension "tga" [598 Bytes 0 0 0 0];
+        Strict Extension "ecore" [993 Text 0 140 0 10];
+        Strict Extension "m4" [342 Text 0 293 0 0];
+        Loose Extension "o" [373 Signature 217 92 0 0] [263 Signature 218 0 0 0] [328 Signature 48 0 0 0] [343 Signature 192 0 0 0];
+        Strict Extension "tga" [603 Bytes 0 0 0 0];
     ],
     keys![
-        Strict Whole "fstab" [631 Text 246 0 31 0];
-        Strict Extension "opml" [858 Text 0 112 0 10];
-        Strict Whole "package-lock.json" [29 Text 125 0 0 0];
-        Strict Extension "pri" [887 Text 0 246 0 0];
+        Strict Whole "fstab" [636 Text 317 0 14 0];
+        Strict Extension "opml" [863 Text 235 140 0 10];
+        Strict Whole "package-lock.json" [29 Text 160 0 0 0];
+        Strict Extension "pri" [892 Text 0 317 0 0];
     ],
     keys![
-        Strict Extension "3perl" [635 Text 0 246 0 0];
-        Strict Whole "pylintrc" [780 Text 0 246 0 0];
-        Strict Extension "sqlitedb" [182 Signature 232 0 94 0];
+        Strict Extension "3perl" [640 Text 0 317 0 0];
+        Strict Whole "pylintrc" [785 Text 0 317 0 0];
+        Strict Extension "sqlitedb" [183 Signature 300 0 118 0];
     ],
     keys![
-        Strict Extension "fxh" [772 Text 0 246 0 0];
-        Strict Extension "gbo" [747 Text 0 246 0 0];
-        Strict Whole "pipfile.lock" [29 Text 125 0 0 0];
-        Strict Extension "service" [953 Text 0 246 0 0];
+        Strict Extension "fxh" [777 Text 0 317 0 0];
+        Strict Extension "gbo" [752 Text 0 317 0 0];
+        Strict Whole "pipfile.lock" [29 Text 160 0 0 0];
+        Strict Extension "service" [958 Text 0 317 0 0];
     ],
 ];
 

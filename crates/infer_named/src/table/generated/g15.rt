@@ -7,103 +7,103 @@ use crate::table::{Asks, Key, Part, Reading, is_loose, keys};
 
 static SLOTS: [&[Key]; 16] = [
     keys![
-        Strict Extension "cir" [938 Text 0 246 0 0];
-        Strict Extension "jsx" [626 Text 124 128 0 0];
-        Strict Extension "wma" [510 Signature 0 265 0 0];
-        Strict Extension "xliff" [467 Text 0 112 0 10];
+        Strict Extension "cir" [943 Text 0 317 0 0];
+        Strict Extension "jsx" [631 Text 115 163 0 0];
+        Strict Extension "wma" [514 Signature 0 338 0 0];
+        Strict Extension "xliff" [471 Text 0 140 0 10];
     ],
     keys![
-        Strict Extension "njs" [626 Text 124 128 0 0];
-        Strict Extension "prj" [985 Text 0 246 0 0];
-        Strict Extension "sxi" [186 Signature 0 277 0 0];
+        Strict Extension "njs" [631 Text 115 163 0 0];
+        Strict Extension "prj" [990 Text 0 317 0 0];
+        Strict Extension "sxi" [187 Signature 0 354 0 0];
     ],
     keys![
-        Strict Extension "3gp" [997 Bytes 3 158 0 0];
-        Strict Extension "ggb" [109 Signature 0 277 0 0];
-        Strict Extension "iws" [303 Text 0 112 0 10];
-        Strict Extension "pcapng" [379 Signature 194 0 0 0];
-        Strict Extension "swiftdoc" [424 Bytes 0 0 0 0];
-        Strict Extension "xml" [996 Text 274 111 34 10];
+        Strict Extension "3gp" [1002 Bytes 4 207 0 0];
+        Strict Extension "ggb" [110 Signature 0 354 0 0];
+        Strict Extension "iws" [306 Text 0 140 0 10];
+        Strict Extension "pcapng" [382 Signature 251 0 0 0];
+        Strict Extension "swiftdoc" [427 Bytes 0 0 0 0];
+        Strict Extension "xml" [1001 Text 349 139 42 10];
     ],
     keys![
-        Strict Extension "dpr" [860 Text 0 246 0 0];
-        Strict Extension "gbp" [747 Text 0 246 0 0];
-        Strict Extension "txt" [631 Text 246 0 31 0];
-        Strict Extension "xaml" [465 Text 0 112 0 10];
+        Strict Extension "dpr" [865 Text 0 317 0 0];
+        Strict Extension "gbp" [752 Text 0 317 0 0];
+        Strict Extension "txt" [636 Text 317 0 14 0];
+        Strict Extension "xaml" [469 Text 0 140 0 10];
     ],
     keys![
-        Strict Extension "cmx" [231 Bytes 0 76 0 0];
-        Strict Extension "dwg" [553 Signature 74 0 0 0];
-        Strict Extension "kml" [110 Text 133 113 0 10];
-        Strict Extension "potm" [134 Signature 0 24 0 0];
-        Strict Extension "pptm" [132 Signature 0 24 0 0];
-        Strict Extension "text" [631 Text 246 0 31 0];
+        Strict Extension "cmx" [232 Bytes 0 93 0 0];
+        Strict Extension "dwg" [558 Signature 91 0 0 0];
+        Strict Extension "kml" [111 Text 168 141 0 10];
+        Strict Extension "potm" [135 Signature 0 31 0 0];
+        Strict Extension "pptm" [133 Signature 0 31 0 0];
+        Strict Extension "text" [636 Text 317 0 14 0];
     ],
     keys![
-        Strict Extension "bz2" [227 Signature 46 0 0 0];
-        Strict Extension "gds" [277 Bytes 0 0 0 0];
-        Strict Extension "jmod" [310 Signature 119 0 0 0];
-        Loose Extension "ko" [370 Signature 165 75 0 0];
-        Strict Whole "locale-archive" [326 Bytes 0 0 0 0];
-        Strict Extension "odg" [151 Signature 168 277 0 0];
-        Strict Extension "tflite" [432 Bytes 0 0 0 0];
+        Strict Extension "bz2" [228 Signature 55 0 0 0];
+        Strict Extension "gds" [278 Bytes 0 0 0 0];
+        Strict Extension "jmod" [313 Signature 153 0 0 0];
+        Loose Extension "ko" [373 Signature 217 92 0 0];
+        Strict Whole "locale-archive" [329 Bytes 0 0 0 0];
+        Strict Extension "odg" [152 Signature 221 354 0 0];
+        Strict Extension "tflite" [435 Bytes 0 0 0 0];
     ],
     keys![
-        Strict Extension "csproj" [355 Text 0 112 0 10];
-        Strict Extension "metalink" [37 Text 0 112 0 10];
+        Strict Extension "csproj" [358 Text 0 140 0 10];
+        Strict Extension "metalink" [37 Text 0 140 0 10];
     ],
     keys![
-        Strict Extension "dtx" [957 Text 0 210 0 0];
-        Strict Extension "f08" [738 Text 0 246 0 0];
-        Strict Extension "psid" [489 Bytes 0 0 0 0];
-        Strict Extension "psm1" [386 Text 0 227 0 0];
-        Strict Extension "thy" [785 Text 0 246 0 0];
-        Strict Whole "tslint.json" [317 Text 0 246 125 0];
+        Strict Extension "dtx" [962 Text 0 270 0 0];
+        Strict Extension "f08" [743 Text 0 317 0 0];
+        Strict Extension "psid" [493 Bytes 296 0 0 0];
+        Strict Extension "psm1" [389 Text 0 293 0 0];
+        Strict Extension "thy" [790 Text 0 317 0 0];
+        Strict Whole "tslint.json" [320 Text 0 317 160 0];
     ],
     keys![
-        Strict Extension "bsv" [676 Text 0 246 0 0];
-        Strict Extension "dotx" [172 Signature 0 72 0 0];
-        Strict Extension "myi" [359 Bytes 0 0 0 0];
-        Strict Extension "xfdf" [86 Text 0 112 0 10];
+        Strict Extension "bsv" [681 Text 0 317 0 0];
+        Strict Extension "dotx" [173 Signature 0 86 0 0];
+        Strict Extension "myi" [362 Bytes 0 0 0 0];
+        Strict Extension "xfdf" [87 Text 0 140 0 10];
     ],
     keys![
-        Strict Extension "cdr" [103 Bytes 0 0 0 0];
-        Strict Extension "ipp" [681 Text 0 246 0 0];
+        Strict Extension "cdr" [104 Bytes 0 0 0 0];
+        Strict Extension "ipp" [686 Text 0 317 0 0];
     ],
     keys![
-        Strict Extension "cmxs" [231 Bytes 0 76 0 0];
-        Strict Extension "f90" [738 Text 0 246 0 0];
-        Strict Extension "gb" [273 Bytes 0 0 0 0];
-        Strict Extension "nes" [365 Signature 163 0 0 0];
+        Strict Extension "cmxs" [232 Bytes 0 93 0 0];
+        Strict Extension "f90" [743 Text 0 317 0 0];
+        Strict Extension "gb" [274 Bytes 0 0 0 0];
+        Strict Extension "nes" [368 Signature 215 0 0 0];
     ],
     keys![
-        Strict Extension "1ssl" [635 Text 0 246 0 0];
-        Loose Extension "expect" [730 Text 0 227 0 0];
-        Strict Extension "r" [908 Text 0 227 0 0];
+        Strict Extension "1ssl" [640 Text 0 317 0 0];
+        Loose Extension "expect" [735 Text 0 293 0 0];
+        Strict Extension "r" [913 Text 0 293 0 0];
     ],
     keys![
-        Strict Extension "fsi" [741 Text 0 246 0 0];
-        Strict Extension "pom" [821 Text 0 112 0 10];
-        Loose Extension "tst" [852 Text 0 208 0 0] [631 Text 246 0 31 0];
+        Strict Extension "fsi" [746 Text 0 317 0 0];
+        Strict Extension "pom" [826 Text 0 140 0 10];
+        Loose Extension "tst" [857 Text 0 268 0 0] [636 Text 317 0 14 0];
     ],
     keys![
-        Loose Extension "3ds" [562 Bytes 0 0 0 0];
-        Strict Extension "db3" [182 Signature 232 0 94 0];
-        Strict Whole "mime.cache" [345 Bytes 0 0 0 0];
-        Strict Extension "mpc" [511 Signature 159 0 0 0];
-        Strict Extension "tzst" [464 Signature 0 278 0 0];
+        Loose Extension "3ds" [567 Bytes 1 0 0 0];
+        Strict Extension "db3" [183 Signature 300 0 118 0];
+        Strict Whole "mime.cache" [348 Bytes 0 0 0 0];
+        Strict Extension "mpc" [515 Signature 208 0 0 0];
+        Strict Extension "tzst" [468 Signature 0 355 0 0];
     ],
     keys![
-        Loose Extension "com" [233 Bytes 0 82 0 0] [631 Text 246 0 31 0];
-        Strict Extension "swo" [447 Bytes 0 0 0 0];
-        Strict Extension "vim" [980 Text 0 246 0 0];
+        Loose Extension "com" [234 Bytes 0 100 0 0] [636 Text 317 0 14 0];
+        Strict Extension "swo" [450 Bytes 0 0 0 0];
+        Strict Extension "vim" [985 Text 0 317 0 0];
     ],
     keys![
-        Strict Extension "hdp" [557 Signature 131 0 0 0];
-        Strict Extension "ivy" [206 Text 0 112 0 10];
-        Strict Extension "pdd" [551 Signature 211 0 0 0];
-        Strict Extension "ps" [63 Text 208 246 78 2];
-        Strict Whole "thumbs.db" [435 Signature 0 23 0 0];
+        Strict Extension "hdp" [562 Signature 166 0 0 0];
+        Strict Extension "ivy" [207 Text 0 140 0 10];
+        Strict Extension "pdd" [556 Signature 271 0 0 0];
+        Strict Extension "ps" [64 Text 268 317 97 2];
+        Strict Whole "thumbs.db" [438 Signature 0 30 0 0];
     ],
 ];
 

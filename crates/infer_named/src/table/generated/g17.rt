@@ -7,104 +7,104 @@ use crate::table::{Asks, Key, Part, Reading, is_loose, keys};
 
 static SLOTS: [&[Key]; 16] = [
     keys![
-        Strict Extension "hsc" [768 Text 0 227 0 0];
-        Loose Extension "pgp" [53 Text 30 0 0 0] [52 Text 197 0 0 0] [54 Bytes 93 0 0 0];
-        Strict Extension "povray" [385 Text 0 246 0 0];
-        Strict Extension "sas7bdat" [405 Bytes 0 0 0 0];
-        Strict Extension "sublime-project" [317 Text 0 246 125 0];
+        Strict Extension "hsc" [773 Text 0 293 0 0];
+        Loose Extension "pgp" [54 Text 38 0 0 0] [53 Text 257 0 0 0] [55 Bytes 117 0 0 0];
+        Strict Extension "povray" [388 Text 0 317 0 0];
+        Strict Extension "sas7bdat" [408 Bytes 0 0 0 0];
+        Strict Extension "sublime-project" [320 Text 0 317 160 0];
     ],
     keys![
-        Strict Extension "gpi" [286 Text 0 227 0 0];
-        Strict Extension "ily" [809 Text 0 210 0 0];
-        Strict Extension "thrift" [961 Text 0 246 0 0];
-        Strict Extension "vmsn" [448 Bytes 0 0 0 0];
+        Strict Extension "gpi" [287 Text 0 293 0 0];
+        Strict Extension "ily" [814 Text 0 270 0 0];
+        Strict Extension "thrift" [966 Text 0 317 0 0];
+        Strict Extension "vmsn" [451 Bytes 0 0 0 0];
     ],
     keys![
-        Strict Extension "dex" [88 Signature 66 0 0 0];
-        Strict Extension "gypi" [886 Text 214 128 0 0];
-        Strict Extension "oz" [859 Text 0 246 0 0];
-        Strict Extension "par2" [376 Signature 191 0 0 0];
+        Strict Extension "dex" [89 Signature 78 0 0 0];
+        Strict Extension "gypi" [891 Text 274 163 0 0];
+        Strict Extension "oz" [864 Text 0 317 0 0];
+        Strict Extension "par2" [379 Signature 247 0 0 0];
     ],
     keys![
-        Strict Extension "cr2" [564 Signature 54 241 0 0];
-        Strict Extension "ifb" [621 Text 116 246 0 0];
-        Strict Extension "sf3" [490 Bytes 0 0 0 0];
-        Strict Extension "svg" [548 Text 235 112 0 10];
+        Strict Extension "cr2" [569 Signature 64 311 0 0];
+        Strict Extension "ifb" [626 Text 145 317 0 0];
+        Strict Extension "sf3" [494 Bytes 0 0 0 0];
+        Strict Extension "svg" [553 Text 304 140 0 10];
     ],
     keys![
-        Strict Extension "bz" [227 Signature 46 0 0 0];
-        Strict Extension "for" [738 Text 0 246 0 0];
-        Strict Extension "gdbinit" [744 Text 0 227 0 0];
-        Strict Extension "ml" [851 Text 0 227 0 0];
-        Strict Extension "tmsnippet" [434 Text 0 127 0 10];
+        Strict Extension "bz" [228 Signature 55 0 0 0];
+        Strict Extension "for" [743 Text 0 317 0 0];
+        Strict Extension "gdbinit" [749 Text 0 293 0 0];
+        Strict Extension "ml" [856 Text 0 293 0 0];
+        Strict Extension "tmsnippet" [437 Text 0 162 0 10];
     ],
     keys![
-        Strict Extension "code-snippets" [317 Text 0 246 125 0];
-        Strict Extension "gto" [747 Text 0 246 0 0];
-        Strict Extension "mll" [851 Text 0 227 0 0];
-        Strict Extension "otc" [525 Signature 244 0 0 0];
-        Loose Extension "xm" [518 Bytes 0 0 0 0];
+        Strict Extension "code-snippets" [320 Text 0 317 160 0];
+        Strict Extension "gto" [752 Text 0 317 0 0];
+        Strict Extension "mll" [856 Text 0 293 0 0];
+        Strict Extension "otc" [530 Signature 315 0 0 0];
+        Loose Extension "xm" [523 Bytes 348 0 0 0];
     ],
     keys![
-        Strict Extension "ics" [621 Text 116 246 0 0];
-        Strict Extension "nroff" [635 Text 0 246 0 0];
-        Strict Extension "tif" [550 Signature 241 0 55 0];
+        Strict Extension "ics" [626 Text 145 317 0 0];
+        Strict Extension "nroff" [640 Text 0 317 0 0];
+        Strict Extension "tif" [555 Signature 311 0 65 0];
     ],
     keys![
-        Strict Extension "bpmn" [4 Text 0 112 0 10];
-        Strict Extension "cb7" [228 Signature 0 7 0 0];
-        Strict Extension "tzif" [85 Signature 248 0 0 0];
+        Strict Extension "bpmn" [4 Text 0 140 0 10];
+        Strict Extension "cb7" [229 Signature 0 8 0 0];
+        Strict Extension "tzif" [86 Signature 319 0 0 0];
     ],
     keys![
-        Strict Extension "atomsvc" [3 Text 0 112 0 10];
-        Strict Extension "fsx" [741 Text 0 246 0 0];
-        Strict Extension "gif" [534 Signature 91 0 0 0];
-        Strict Extension "sma" [936 Text 0 246 0 0];
+        Strict Extension "atomsvc" [3 Text 0 140 0 10];
+        Strict Extension "fsx" [746 Text 0 317 0 0];
+        Strict Extension "gif" [539 Signature 114 0 0 0];
+        Strict Extension "sma" [941 Text 0 317 0 0];
     ],
     keys![
-        Strict Whole ".pryrc" [910 Text 220 227 0 0];
-        Strict Extension "bz3" [98 Signature 48 0 0 0];
-        Strict Extension "drv" [118 Signature 82 0 0 0];
-        Strict Extension "gtif" [533 Signature 0 241 0 0];
-        Strict Extension "unitypackage" [438 Bytes 0 96 0 0];
+        Strict Whole ".pryrc" [915 Text 283 293 0 0];
+        Strict Extension "bz3" [99 Signature 57 0 0 0];
+        Strict Extension "drv" [119 Signature 100 0 0 0];
+        Strict Extension "gtif" [538 Signature 0 311 0 0];
+        Strict Extension "unitypackage" [441 Bytes 0 121 0 0];
     ],
     keys![
-        Strict Extension "ecr" [259 Text 0 108 0 0];
-        Strict Extension "gtiff" [533 Signature 0 241 0 0];
+        Strict Extension "ecr" [260 Text 0 136 0 0];
+        Strict Extension "gtiff" [538 Signature 0 311 0 0];
     ],
     keys![
-        Strict Extension "toml" [81 Text 0 246 0 0];
-        Strict Extension "tta" [514 Bytes 0 0 0 0];
-        Strict Extension "ttml" [84 Text 0 112 0 10];
-        Strict Extension "uri" [972 Text 0 246 0 0];
+        Strict Extension "toml" [82 Text 0 317 0 0];
+        Strict Extension "tta" [519 Bytes 0 0 0 0];
+        Strict Extension "ttml" [85 Text 0 140 0 10];
+        Strict Extension "uri" [977 Text 0 317 0 0];
     ],
     keys![
-        Strict Extension "gml" [19 Text 0 112 0 10];
-        Strict Extension "keytab" [321 Bytes 0 0 0 0];
+        Strict Extension "gml" [19 Text 0 140 0 10];
+        Strict Extension "keytab" [324 Bytes 0 0 0 0];
     ],
     keys![
-        Strict Extension "bzl" [943 Text 0 227 0 0];
-        Strict Whole "containerfile" [714 Text 0 227 0 0];
-        Strict Extension "containerfile" [714 Text 0 227 0 0];
-        Strict Extension "go" [759 Text 0 227 0 0];
-        Loose Extension "ra" [493 Bytes 0 0 0 0];
+        Strict Extension "bzl" [948 Text 0 293 0 0];
+        Strict Whole "containerfile" [719 Text 0 293 0 0];
+        Strict Extension "containerfile" [719 Text 0 293 0 0];
+        Strict Extension "go" [764 Text 0 293 0 0];
+        Loose Extension "ra" [497 Bytes 279 0 0 0];
     ],
     keys![
-        Strict Whole ".hgignore" [755 Text 0 246 0 0];
-        Strict Extension "lagda" [649 Text 0 246 0 0];
-        Strict Extension "ooc" [854 Text 0 246 0 0];
-        Strict Extension "pyzw" [392 Signature 0 215 0 0];
-        Strict Extension "vert" [757 Text 0 246 0 0];
+        Strict Whole ".hgignore" [760 Text 0 317 0 0];
+        Strict Extension "lagda" [654 Text 0 317 0 0];
+        Strict Extension "ooc" [859 Text 0 317 0 0];
+        Strict Extension "pyzw" [395 Signature 0 275 0 0];
+        Strict Extension "vert" [762 Text 0 317 0 0];
     ],
     keys![
-        Strict Whole ".bzrignore" [755 Text 0 246 0 0];
-        Strict Whole ".cvsignore" [755 Text 0 246 0 0];
-        Strict Whole ".gitignore" [755 Text 0 246 0 0];
-        Strict Whole ".npmignore" [755 Text 0 246 0 0];
-        Strict Extension "bazel" [943 Text 0 227 0 0];
-        Strict Extension "gbc" [273 Bytes 0 0 0 0];
-        Strict Extension "gotmpl" [762 Text 0 108 0 0];
-        Strict Extension "phy" [382 Text 0 246 0 0];
+        Strict Whole ".bzrignore" [760 Text 0 317 0 0];
+        Strict Whole ".cvsignore" [760 Text 0 317 0 0];
+        Strict Whole ".gitignore" [760 Text 0 317 0 0];
+        Strict Whole ".npmignore" [760 Text 0 317 0 0];
+        Strict Extension "bazel" [948 Text 0 293 0 0];
+        Strict Extension "gbc" [274 Bytes 0 0 0 0];
+        Strict Extension "gotmpl" [767 Text 0 136 0 0];
+        Strict Extension "phy" [385 Text 0 317 0 0];
     ],
 ];
 

@@ -7,99 +7,99 @@ use crate::table::{Asks, Key, Part, Reading, is_loose, keys};
 
 static SLOTS: [&[Key]; 16] = [
     keys![
-        Strict Extension "amr" [480 Signature 14 0 0 0];
-        Strict Extension "fits" [532 Signature 85 0 0 0];
-        Strict Extension "gyp" [886 Text 214 128 0 0];
-        Strict Extension "pck" [288 Bytes 0 0 0 0];
-        Strict Extension "warc" [194 Signature 259 0 0 0];
-        Strict Extension "xapk" [207 Signature 0 18 0 0];
+        Strict Extension "amr" [484 Signature 19 0 0 0];
+        Strict Extension "fits" [537 Signature 105 0 0 0];
+        Strict Extension "gyp" [891 Text 274 163 0 0];
+        Strict Extension "pck" [289 Bytes 0 0 0 0];
+        Strict Extension "warc" [195 Signature 331 0 0 0];
+        Strict Extension "xapk" [208 Signature 0 23 0 0];
     ],
     keys![
-        Strict Whole "cmakelists.txt" [691 Text 0 246 0 0];
+        Strict Whole "cmakelists.txt" [696 Text 0 317 0 0];
     ],
     keys![
-        Strict Whole "cargo.lock" [81 Text 0 246 0 0];
-        Strict Extension "cwl" [705 Text 0 129 0 0];
-        Strict Extension "kdenlive" [319 Text 0 112 0 10];
-        Strict Extension "msp" [356 Signature 22 23 0 0];
-        Strict Extension "pyo" [390 Bytes 216 0 0 0];
+        Strict Whole "cargo.lock" [82 Text 0 317 0 0];
+        Strict Extension "cwl" [710 Text 0 164 0 0];
+        Strict Extension "kdenlive" [322 Text 0 140 0 10];
+        Strict Extension "msp" [359 Signature 29 30 0 0];
+        Strict Extension "pyo" [393 Bytes 276 0 0 0];
     ],
     keys![
-        Strict Extension "filters" [355 Text 0 112 0 10];
-        Strict Extension "z01" [476 Signature 277 0 6 0];
+        Strict Extension "filters" [358 Text 0 140 0 10];
+        Strict Extension "z01" [480 Signature 354 0 7 0];
     ],
     keys![
-        Strict Whole ".bash_logout" [924 Text 0 227 0 0];
+        Strict Whole ".bash_logout" [929 Text 0 293 0 0];
     ],
     keys![
-        Strict Extension "bi" [668 Text 0 246 0 0];
-        Strict Extension "dimacs" [712 Text 0 246 0 0];
-        Strict Extension "ml4" [851 Text 0 227 0 0];
-        Strict Extension "nfo" [631 Text 246 0 31 0];
-        Strict Extension "wxl" [452 Text 0 112 0 10];
+        Strict Extension "bi" [673 Text 0 317 0 0];
+        Strict Extension "dimacs" [717 Text 0 317 0 0];
+        Strict Extension "ml4" [856 Text 0 293 0 0];
+        Strict Extension "nfo" [636 Text 317 0 14 0];
+        Strict Extension "wxl" [456 Text 0 140 0 10];
     ],
     keys![
-        Strict Extension "aidl" [650 Text 0 246 0 0];
-        Strict Whole "doxyfile" [697 Text 0 246 0 0];
-        Strict Extension "iso" [230 Bytes 0 0 0 0];
-        Strict Whole "metadata" [631 Text 246 0 31 0];
-        Strict Extension "sublime-build" [317 Text 0 246 125 0];
+        Strict Extension "aidl" [655 Text 0 317 0 0];
+        Strict Whole "doxyfile" [702 Text 0 317 0 0];
+        Strict Extension "iso" [231 Bytes 0 0 0 0];
+        Strict Whole "metadata" [636 Text 317 0 14 0];
+        Strict Extension "sublime-build" [320 Text 0 317 160 0];
     ],
     keys![
-        Strict Extension "cr3" [565 Signature 56 0 0 0];
-        Strict Extension "jxl" [542 Bytes 130 0 0 0];
-        Strict Extension "ora" [545 Signature 183 277 0 0];
-        Strict Extension "svh" [950 Text 0 246 0 0];
+        Strict Extension "cr3" [570 Signature 66 0 0 0];
+        Strict Extension "jxl" [547 Bytes 165 0 0 0];
+        Strict Extension "ora" [550 Signature 237 354 0 0];
+        Strict Extension "svh" [955 Text 0 317 0 0];
     ],
     keys![
-        Strict Extension "conf" [631 Text 246 0 31 0];
-        Strict Extension "dsc" [710 Text 0 246 0 0];
-        Strict Extension "nomad" [770 Text 0 246 0 0];
-        Strict Extension "plist" [383 Text 201 247 0 0] [223 Signature 45 0 0 0];
-        Strict Extension "sha1sum" [688 Text 0 246 0 0];
-        Strict Extension "x3dv" [618 Text 0 246 0 0];
-        Strict Extension "xz" [459 Signature 276 0 0 0];
+        Strict Extension "conf" [636 Text 317 0 14 0];
+        Strict Extension "dsc" [715 Text 0 317 0 0];
+        Strict Extension "nomad" [775 Text 0 317 0 0];
+        Strict Extension "plist" [386 Text 261 318 0 0] [224 Signature 54 0 0 0];
+        Strict Extension "sha1sum" [693 Text 0 317 0 0];
+        Strict Extension "x3dv" [623 Text 0 317 0 0];
+        Strict Extension "xz" [463 Signature 352 0 0 0];
     ],
     keys![
-        Strict Extension "gtp" [747 Text 0 246 0 0];
-        Strict Extension "jrxml" [306 Text 0 112 0 10];
+        Strict Extension "gtp" [752 Text 0 317 0 0];
+        Strict Extension "jrxml" [309 Text 0 140 0 10];
     ],
     keys![
-        Strict Extension "dae" [614 Text 0 112 0 10];
-        Strict Extension "perl" [863 Text 200 227 0 0];
-        Strict Extension "sha512sum" [688 Text 0 246 0 0];
-        Strict Whole "sudoers" [631 Text 246 0 31 0];
+        Strict Extension "dae" [619 Text 0 140 0 10];
+        Strict Extension "perl" [868 Text 260 293 0 0];
+        Strict Extension "sha512sum" [693 Text 0 317 0 0];
+        Strict Whole "sudoers" [636 Text 317 0 14 0];
     ],
     keys![
-        Strict Extension "crl" [62 Bytes 0 65 0 0];
-        Strict Extension "feature" [752 Text 0 246 0 0];
-        Strict Extension "gbr" [572 Bytes 0 0 0 0];
-        Strict Extension "trig" [83 Text 0 246 0 0];
-        Strict Extension "twig" [965 Text 0 108 0 0];
+        Strict Extension "crl" [63 Bytes 67 77 0 0];
+        Strict Extension "feature" [757 Text 0 317 0 0];
+        Strict Extension "gbr" [577 Bytes 111 0 0 0];
+        Strict Extension "trig" [84 Text 0 317 0 0];
+        Strict Extension "twig" [970 Text 0 136 0 0];
     ],
     keys![],
     keys![
-        Strict Extension "m4p" [483 Bytes 145 148 0 0];
-        Strict Extension "nasm" [658 Text 0 246 0 0];
-        Strict Extension "odi" [154 Signature 0 277 0 0];
-        Strict Extension "shp" [178 Signature 228 0 229 0];
+        Strict Extension "m4p" [487 Bytes 187 190 0 0];
+        Strict Extension "nasm" [663 Text 0 317 0 0];
+        Strict Extension "odi" [155 Signature 0 354 0 0];
+        Strict Extension "shp" [179 Signature 294 0 295 0];
     ],
     keys![
-        Strict Whole ".wgetrc" [631 Text 246 0 31 0];
-        Strict Extension "asm" [658 Text 0 246 0 0];
-        Strict Extension "lark" [719 Text 0 246 0 0];
-        Strict Extension "p10" [56 Bytes 0 65 0 0];
+        Strict Whole ".wgetrc" [636 Text 317 0 14 0];
+        Strict Extension "asm" [663 Text 0 317 0 0];
+        Strict Extension "lark" [724 Text 0 317 0 0];
+        Strict Extension "p10" [57 Bytes 0 77 0 0];
     ],
     keys![
-        Strict Whole ".babelrc" [317 Text 0 246 125 0];
-        Strict Whole ".bowerrc" [29 Text 125 0 0 0];
-        Strict Extension "devhelp2" [244 Text 0 112 0 10];
-        Strict Whole "go.work.sum" [761 Text 0 246 0 0];
-        Strict Extension "ino" [681 Text 0 246 0 0];
-        Strict Extension "mpg4" [1004 Bytes 158 106 2 0];
-        Strict Extension "sjs" [626 Text 124 128 0 0];
-        Strict Extension "sthlp" [944 Text 0 246 0 0];
-        Strict Extension "wgsl" [646 Text 0 246 0 0];
+        Strict Whole ".babelrc" [320 Text 0 317 160 0];
+        Strict Whole ".bowerrc" [29 Text 160 0 0 0];
+        Strict Extension "devhelp2" [245 Text 0 140 0 10];
+        Strict Whole "go.work.sum" [766 Text 0 317 0 0];
+        Strict Extension "ino" [686 Text 0 317 0 0];
+        Strict Extension "mpg4" [1009 Bytes 207 133 3 0];
+        Strict Extension "sjs" [631 Text 115 163 0 0];
+        Strict Extension "sthlp" [949 Text 0 317 0 0];
+        Strict Extension "wgsl" [651 Text 0 317 0 0];
     ],
 ];
 

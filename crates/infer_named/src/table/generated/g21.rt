@@ -7,87 +7,87 @@ use crate::table::{Asks, Key, Part, Reading, is_loose, keys};
 
 static SLOTS: [&[Key]; 16] = [
     keys![
-        Strict Extension "safetensors" [404 Signature 225 0 0 0];
-        Loose Extension "st" [631 Text 246 0 31 0];
+        Strict Extension "safetensors" [407 Signature 289 0 0 0];
+        Loose Extension "st" [636 Text 317 0 14 0];
     ],
     keys![
-        Strict Extension "anim" [971 Text 0 246 0 0];
-        Strict Whole "pom.xml" [821 Text 0 112 0 10];
-        Strict Extension "templates" [631 Text 246 0 31 0];
+        Strict Extension "anim" [976 Text 0 317 0 0];
+        Strict Whole "pom.xml" [826 Text 0 140 0 10];
+        Strict Extension "templates" [636 Text 317 0 14 0];
     ],
     keys![
-        Strict Extension "sieve" [926 Text 0 227 0 0];
+        Strict Extension "sieve" [931 Text 0 293 0 0];
     ],
     keys![
-        Strict Extension "nims" [844 Text 0 227 0 0];
-        Strict Extension "webidl" [776 Text 0 246 0 0];
-        Strict Extension "xpl" [471 Text 0 112 0 10];
+        Strict Extension "nims" [849 Text 0 293 0 0];
+        Strict Extension "webidl" [781 Text 0 317 0 0];
+        Strict Extension "xpl" [475 Text 0 140 0 10];
     ],
     keys![
-        Strict Extension "pcl" [112 Bytes 0 0 0 0];
+        Strict Extension "pcl" [113 Bytes 0 0 0 0];
     ],
     keys![
-        Strict Extension "dff" [500 Bytes 0 0 0 0];
-        Strict Extension "edn" [11 Text 0 227 0 0];
-        Strict Extension "gedcom" [641 Text 0 246 0 0];
-        Strict Extension "mdb" [354 Signature 151 0 0 0];
-        Strict Extension "ots" [160 Signature 187 173 0 0];
+        Strict Extension "dff" [504 Bytes 80 0 0 0];
+        Strict Extension "edn" [11 Text 0 293 0 0];
+        Strict Extension "gedcom" [646 Text 0 317 0 0];
+        Strict Extension "mdb" [357 Signature 193 0 0 0];
+        Strict Extension "ots" [161 Signature 242 226 0 0];
     ],
     keys![
-        Strict Extension "bed" [671 Text 0 246 0 0];
-        Strict Extension "diff" [861 Text 0 246 0 0];
-        Strict Extension "ogg" [487 Signature 178 0 177 0];
-        Strict Whole "snakefile" [934 Text 0 246 0 0];
+        Strict Extension "bed" [676 Text 0 317 0 0];
+        Strict Extension "diff" [866 Text 0 317 0 0];
+        Strict Extension "ogg" [491 Signature 231 0 230 0];
+        Strict Whole "snakefile" [939 Text 0 317 0 0];
     ],
     keys![
-        Loose Extension "hlp" [196 Bytes 0 0 0 0];
-        Strict Extension "mj2" [1002 Bytes 0 121 0 0];
-        Strict Extension "pascal" [860 Text 0 246 0 0];
-        Strict Extension "razor" [893 Text 0 108 0 0];
-        Strict Extension "vda" [598 Bytes 0 0 0 0];
+        Loose Extension "hlp" [197 Bytes 134 0 0 0];
+        Strict Extension "mj2" [1007 Bytes 197 156 0 0];
+        Strict Extension "pascal" [865 Text 0 317 0 0];
+        Strict Extension "razor" [898 Text 0 136 0 0];
+        Strict Extension "vda" [603 Bytes 0 0 0 0];
     ],
     keys![
-        Strict Extension "bats" [669 Text 0 227 0 0];
-        Strict Extension "blend" [222 Signature 43 101 0 0];
-        Strict Extension "cyp" [706 Text 0 246 0 0];
-        Strict Extension "emf" [531 Bytes 0 0 0 0];
-        Strict Whole "sconstruct" [918 Text 0 246 0 0];
-        Strict Extension "targets" [355 Text 0 112 0 10];
+        Strict Extension "bats" [674 Text 0 293 0 0];
+        Strict Extension "blend" [223 Signature 51 126 0 0];
+        Strict Extension "cyp" [711 Text 0 317 0 0];
+        Strict Extension "emf" [536 Bytes 0 0 0 0];
+        Strict Whole "sconstruct" [923 Text 0 317 0 0];
+        Strict Extension "targets" [358 Text 0 140 0 10];
     ],
     keys![
-        Strict Extension "lrz" [328 Bytes 0 0 0 0];
-        Strict Extension "png" [546 Signature 203 0 19 0];
-        Strict Extension "rchit" [757 Text 0 246 0 0];
-        Strict Extension "triggers" [631 Text 246 0 31 0];
-        Strict Extension "wdl" [984 Text 0 246 0 0];
-        Strict Extension "wxm" [822 Text 0 246 0 0];
+        Strict Extension "lrz" [331 Bytes 176 0 0 0];
+        Strict Extension "png" [551 Signature 263 0 24 0];
+        Strict Extension "rchit" [762 Text 0 317 0 0];
+        Strict Extension "triggers" [636 Text 317 0 14 0];
+        Strict Extension "wdl" [989 Text 0 317 0 0];
+        Strict Extension "wxm" [827 Text 0 317 0 0];
     ],
     keys![
-        Strict Extension "es6" [626 Text 124 128 0 0];
-        Strict Extension "mount" [953 Text 0 246 0 0];
-        Strict Extension "wsdl" [197 Text 0 112 0 10];
+        Strict Extension "es6" [631 Text 115 163 0 0];
+        Strict Extension "mount" [958 Text 0 317 0 0];
+        Strict Extension "wsdl" [198 Text 0 140 0 10];
     ],
     keys![],
     keys![
-        Strict Whole "makefile" [817 Text 0 227 0 0];
-        Strict Extension "makefile" [817 Text 0 227 0 0];
+        Strict Whole "makefile" [822 Text 0 293 0 0];
+        Strict Extension "makefile" [822 Text 0 293 0 0];
     ],
     keys![
-        Strict Extension "eliomi" [851 Text 0 227 0 0];
-        Strict Extension "vy" [982 Text 0 246 0 0];
+        Strict Extension "eliomi" [856 Text 0 293 0 0];
+        Strict Extension "vy" [987 Text 0 317 0 0];
     ],
     keys![
-        Strict Extension "bmp" [529 Signature 44 0 0 0];
-        Strict Extension "dtshd" [492 Bytes 0 0 0 0];
-        Strict Extension "typelib" [284 Bytes 0 0 0 0];
+        Strict Extension "bmp" [534 Signature 52 0 0 0];
+        Strict Extension "dtshd" [496 Bytes 88 0 0 0];
+        Strict Extension "typelib" [285 Bytes 0 0 0 0];
     ],
     keys![
-        Strict Extension "3gpp2" [998 Bytes 1 4 0 0];
-        Strict Extension "gbs" [747 Text 0 246 0 0];
-        Strict Extension "kra" [322 Signature 135 277 0 0];
-        Strict Extension "scxml" [407 Text 0 112 0 10];
-        Strict Extension "tk" [955 Text 239 227 0 0];
-        Strict Extension "yrl" [729 Text 0 209 0 0];
+        Strict Extension "3gpp2" [1003 Bytes 2 5 0 0];
+        Strict Extension "gbs" [752 Text 0 317 0 0];
+        Strict Extension "kra" [325 Signature 171 354 0 0];
+        Strict Extension "scxml" [410 Text 0 140 0 10];
+        Strict Extension "tk" [960 Text 309 293 0 0];
+        Strict Extension "yrl" [734 Text 0 269 0 0];
     ],
 ];
 

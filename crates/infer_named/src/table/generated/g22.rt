@@ -7,93 +7,93 @@ use crate::table::{Asks, Key, Part, Reading, is_loose, keys};
 
 static SLOTS: [&[Key]; 16] = [
     keys![
-        Strict Whole "maintainers" [631 Text 246 0 31 0];
-        Strict Extension "smc" [147 Bytes 0 0 0 0];
+        Strict Whole "maintainers" [636 Text 317 0 14 0];
+        Strict Extension "smc" [148 Bytes 0 0 0 0];
     ],
     keys![
-        Strict Extension "appimage" [93 Signature 20 75 0 0];
-        Strict Whole "authors" [631 Text 246 0 31 0];
-        Strict Extension "ctp" [864 Text 198 110 0 0];
-        Strict Extension "mpt" [135 Signature 0 23 0 0];
-        Strict Extension "uris" [637 Text 0 246 0 0];
+        Strict Extension "appimage" [94 Signature 25 92 0 0];
+        Strict Whole "authors" [636 Text 317 0 14 0];
+        Strict Extension "ctp" [869 Text 258 138 0 0];
+        Strict Extension "mpt" [136 Signature 0 30 0 0];
+        Strict Extension "uris" [642 Text 0 317 0 0];
     ],
     keys![
-        Strict Extension "asn" [659 Text 0 246 0 0];
-        Strict Extension "ect" [724 Text 0 108 0 0];
-        Strict Extension "gz" [22 Signature 96 0 0 0];
-        Strict Whole "installer" [631 Text 246 0 31 0];
-        Strict Extension "pig" [866 Text 0 246 0 0];
-        Strict Extension "rl" [891 Text 0 246 0 0];
-        Strict Extension "vue" [981 Text 0 108 0 0];
+        Strict Extension "asn" [664 Text 0 317 0 0];
+        Strict Extension "ect" [729 Text 0 136 0 0];
+        Strict Extension "gz" [22 Signature 121 0 170 0];
+        Strict Whole "installer" [636 Text 317 0 14 0];
+        Strict Extension "pig" [871 Text 0 317 0 0];
+        Strict Extension "rl" [896 Text 0 317 0 0];
+        Strict Extension "vue" [986 Text 0 136 0 0];
     ],
     keys![
-        Strict Extension "cbr" [102 Signature 0 219 0 0];
-        Strict Extension "mrw" [581 Bytes 0 0 0 0];
-        Strict Extension "ndjson" [363 Text 162 125 0 0];
-        Strict Extension "tmlanguage" [434 Text 0 127 0 10];
-        Strict Extension "ttc" [525 Signature 244 0 0 0];
-        Strict Extension "wasm" [195 Signature 260 0 0 0];
+        Strict Extension "cbr" [103 Signature 0 281 0 0];
+        Strict Extension "mrw" [586 Bytes 0 0 0 0];
+        Strict Extension "ndjson" [366 Text 214 160 0 0];
+        Strict Extension "tmlanguage" [437 Text 0 162 0 10];
+        Strict Extension "ttc" [530 Signature 315 0 0 0];
+        Strict Extension "wasm" [196 Signature 332 0 0 0];
     ],
     keys![
-        Strict Extension "el" [728 Text 0 227 0 0];
-        Strict Extension "gitignore" [755 Text 0 246 0 0];
-        Strict Extension "heics" [536 Signature 104 106 0 0];
-        Strict Extension "jsm" [626 Text 124 128 0 0];
-        Strict Extension "vcard" [639 Text 249 246 0 0];
+        Strict Extension "el" [733 Text 0 293 0 0];
+        Strict Extension "gitignore" [760 Text 0 317 0 0];
+        Strict Extension "heics" [541 Signature 131 133 0 0];
+        Strict Extension "jsm" [631 Text 115 163 0 0];
+        Strict Extension "vcard" [644 Text 320 317 0 0];
     ],
     keys![
-        Strict Extension "abap" [647 Text 0 246 0 0];
-        Strict Extension "jflex" [807 Text 0 246 0 0];
-        Strict Extension "mustache" [767 Text 0 108 0 0];
-        Strict Extension "pfx" [57 Bytes 189 0 0 0];
-        Strict Extension "pm" [863 Text 200 227 0 0];
-        Strict Extension "xlsx" [169 Signature 273 26 0 0];
+        Strict Extension "abap" [652 Text 0 317 0 0];
+        Strict Extension "jflex" [812 Text 0 317 0 0];
+        Strict Extension "mustache" [772 Text 0 136 0 0];
+        Strict Extension "pfx" [58 Bytes 245 0 0 0];
+        Strict Extension "pm" [868 Text 260 293 0 0];
+        Strict Extension "xlsx" [170 Signature 347 33 0 0];
     ],
     keys![],
     keys![
-        Strict Extension "ldif" [804 Text 0 246 0 0];
-        Strict Extension "txi" [958 Text 0 246 0 0];
+        Strict Extension "ldif" [809 Text 0 317 0 0];
+        Strict Extension "txi" [963 Text 0 317 0 0];
     ],
     keys![
-        Strict Extension "texi" [958 Text 0 246 0 0];
-        Strict Extension "yml" [475 Text 0 126 0 0];
+        Strict Extension "texi" [963 Text 0 317 0 0];
+        Strict Extension "yml" [479 Text 0 161 0 0];
     ],
     keys![
-        Strict Extension "stan" [942 Text 0 246 0 0];
-        Strict Extension "watchr" [910 Text 220 227 0 0];
-        Strict Extension "yaml" [475 Text 0 126 0 0];
+        Strict Extension "stan" [947 Text 0 317 0 0];
+        Strict Extension "watchr" [915 Text 283 293 0 0];
+        Strict Extension "yaml" [479 Text 0 161 0 0];
     ],
     keys![
-        Strict Extension "rakumod" [892 Text 0 227 0 0];
-        Strict Extension "rei" [896 Text 0 246 0 0];
+        Strict Extension "rakumod" [897 Text 0 293 0 0];
+        Strict Extension "rei" [901 Text 0 317 0 0];
     ],
     keys![
-        Strict Extension "123" [115 Bytes 0 0 0 0];
-        Strict Extension "lo" [370 Signature 165 75 0 0];
+        Strict Extension "123" [116 Bytes 0 0 0 0];
+        Strict Extension "lo" [373 Signature 217 92 0 0];
     ],
     keys![
-        Strict Extension "aab" [207 Signature 0 18 0 0];
-        Strict Extension "dotm" [143 Signature 0 72 0 0];
-        Strict Extension "p7s" [59 Signature 0 63 0 0];
-        Strict Extension "psv" [880 Text 0 246 0 0];
+        Strict Extension "aab" [208 Signature 0 23 0 0];
+        Strict Extension "dotm" [144 Signature 0 86 0 0];
+        Strict Extension "p7s" [60 Signature 0 75 0 0];
+        Strict Extension "psv" [885 Text 0 317 0 0];
     ],
     keys![
-        Strict Extension "etx" [923 Text 0 246 0 0];
-        Strict Extension "h5" [297 Bytes 102 0 0 0];
-        Strict Extension "mtl" [610 Text 0 246 0 0];
-        Strict Extension "opam" [718 Text 0 246 0 0];
+        Strict Extension "etx" [928 Text 0 317 0 0];
+        Strict Extension "h5" [300 Bytes 128 0 0 0];
+        Strict Extension "mtl" [615 Text 0 317 0 0];
+        Strict Extension "opam" [723 Text 0 317 0 0];
     ],
     keys![
-        Strict Extension "ace" [200 Bytes 0 0 0 0];
-        Strict Extension "csv" [624 Text 0 129 0 0];
-        Strict Extension "dtbo" [245 Bytes 0 0 0 0];
-        Strict Extension "evtx" [348 Signature 81 0 0 0];
+        Strict Extension "ace" [201 Bytes 0 0 0 0];
+        Strict Extension "csv" [629 Text 0 164 0 0];
+        Strict Extension "dtbo" [246 Bytes 0 0 0 0];
+        Strict Extension "evtx" [351 Signature 99 0 0 0];
     ],
     keys![
-        Strict Extension "beam" [260 Bytes 42 0 0 0];
-        Strict Extension "fli" [1011 Bytes 0 0 0 0];
-        Strict Extension "metal" [828 Text 0 246 0 0];
-        Strict Extension "mhtml" [619 Text 0 246 0 0];
+        Strict Extension "beam" [261 Bytes 50 0 0 0];
+        Strict Extension "fli" [1016 Bytes 0 0 0 0];
+        Strict Extension "metal" [833 Text 0 317 0 0];
+        Strict Extension "mhtml" [624 Text 0 317 0 0];
     ],
 ];
 

@@ -7,98 +7,98 @@ use crate::table::{Asks, Key, Part, Reading, is_loose, keys};
 
 static SLOTS: [&[Key]; 16] = [
     keys![
-        Strict Whole ".gitmodules" [754 Text 0 246 0 0];
-        Strict Whole ".xresources" [990 Text 0 246 0 0];
-        Strict Extension "accde" [353 Signature 10 0 0 0];
-        Strict Extension "schema.json" [72 Text 0 125 0 0];
+        Strict Whole ".gitmodules" [759 Text 0 317 0 0];
+        Strict Whole ".xresources" [995 Text 0 317 0 0];
+        Strict Extension "accde" [356 Signature 11 0 0 0];
+        Strict Extension "schema.json" [73 Text 0 160 0 0];
     ],
     keys![
-        Strict Whole ".eslintignore" [755 Text 0 246 0 0];
-        Strict Extension "chm" [128 Signature 50 0 0 0];
-        Strict Extension "fnl" [734 Text 0 227 0 0];
-        Strict Extension "itk" [955 Text 239 227 0 0];
-        Strict Extension "sc" [915 Text 0 227 0 0];
-        Strict Extension "t2t" [966 Text 0 246 0 0];
+        Strict Whole ".eslintignore" [760 Text 0 317 0 0];
+        Strict Extension "chm" [129 Signature 60 0 0 0];
+        Strict Extension "fnl" [739 Text 0 293 0 0];
+        Strict Extension "itk" [960 Text 309 293 0 0];
+        Strict Extension "sc" [920 Text 0 293 0 0];
+        Strict Extension "t2t" [971 Text 0 317 0 0];
     ],
     keys![
-        Strict Extension "bicep" [673 Text 0 246 0 0];
-        Strict Extension "cob" [692 Text 0 246 0 0];
-        Strict Extension "hevc" [1001 Bytes 0 0 0 0];
-        Strict Extension "mo3" [507 Bytes 0 0 0 0];
-        Strict Extension "ogv" [1006 Signature 180 178 0 0];
-        Strict Extension "vstemplate" [369 Text 0 112 0 10];
-        Strict Extension "xacro" [441 Text 0 112 0 10];
+        Strict Extension "bicep" [678 Text 0 317 0 0];
+        Strict Extension "cob" [697 Text 0 317 0 0];
+        Strict Extension "hevc" [1006 Bytes 0 0 0 0];
+        Strict Extension "mo3" [511 Bytes 203 0 0 0];
+        Strict Extension "ogv" [1011 Signature 233 231 0 0];
+        Strict Extension "vstemplate" [372 Text 0 140 0 10];
+        Strict Extension "xacro" [444 Text 0 140 0 10];
     ],
     keys![
-        Strict Extension "jpeg" [540 Signature 122 0 0 0];
-        Strict Extension "pls" [513 Text 0 246 0 0];
+        Strict Extension "jpeg" [545 Signature 157 0 0 0];
+        Strict Extension "pls" [517 Text 0 317 0 0];
     ],
     keys![
-        Strict Extension "fr" [631 Text 246 0 31 0];
-        Strict Extension "ilbm" [576 Bytes 0 0 0 0];
-        Strict Whole "ntuser.dat" [350 Bytes 0 0 0 0];
-        Strict Extension "wim" [352 Signature 264 0 0 0];
+        Strict Extension "fr" [636 Text 317 0 14 0];
+        Strict Extension "ilbm" [581 Bytes 146 0 0 0];
+        Strict Whole "ntuser.dat" [353 Bytes 0 0 0 0];
+        Strict Extension "wim" [355 Signature 337 0 0 0];
     ],
     keys![
-        Loose Extension "cls" [631 Text 246 0 31 0];
-        Strict Extension "d" [631 Text 246 0 31 0];
-        Strict Extension "tscn" [290 Text 0 246 0 0];
+        Loose Extension "cls" [636 Text 317 0 14 0];
+        Strict Extension "d" [636 Text 317 0 14 0];
+        Strict Extension "tscn" [291 Text 0 317 0 0];
     ],
     keys![
-        Strict Whole ".rprofile" [908 Text 0 227 0 0];
-        Strict Whole ".zprofile" [924 Text 0 227 0 0];
-        Strict Extension "csh" [238 Text 0 227 0 0];
-        Strict Extension "mol" [521 Text 0 246 0 0];
-        Strict Extension "nuspec" [369 Text 0 112 0 10];
-        Strict Extension "rabl" [910 Text 220 227 0 0];
-        Strict Extension "sgi" [593 Bytes 0 0 0 0];
+        Strict Whole ".rprofile" [913 Text 0 293 0 0];
+        Strict Whole ".zprofile" [929 Text 0 293 0 0];
+        Strict Extension "csh" [239 Text 0 293 0 0];
+        Strict Extension "mol" [526 Text 0 317 0 0];
+        Strict Extension "nuspec" [372 Text 0 140 0 10];
+        Strict Extension "rabl" [915 Text 283 293 0 0];
+        Strict Extension "sgi" [598 Bytes 291 0 0 0];
     ],
     keys![
-        Strict Extension "rebol" [897 Text 0 246 0 0];
-        Strict Extension "wb1" [398 Bytes 0 23 0 0];
-        Strict Extension "xpm" [603 Text 275 246 0 0];
+        Strict Extension "rebol" [902 Text 0 317 0 0];
+        Strict Extension "wb1" [401 Bytes 0 30 0 0];
+        Strict Extension "xpm" [608 Text 350 317 0 0];
     ],
     keys![
-        Strict Extension "manifest" [631 Text 246 0 31 0];
-        Strict Extension "pwn" [862 Text 0 246 0 0];
-        Strict Extension "sqlite3" [182 Signature 232 0 94 0];
+        Strict Extension "manifest" [636 Text 317 0 14 0];
+        Strict Extension "pwn" [867 Text 0 317 0 0];
+        Strict Extension "sqlite3" [183 Signature 300 0 118 0];
     ],
     keys![
-        Strict Extension "cpy" [692 Text 0 246 0 0];
-        Strict Extension "exp" [955 Text 239 227 0 0];
-        Loose Extension "ott" [164 Signature 188 175 0 0];
-        Strict Extension "smil" [73 Text 0 112 0 10];
+        Strict Extension "cpy" [697 Text 0 317 0 0];
+        Strict Extension "exp" [960 Text 309 293 0 0];
+        Loose Extension "ott" [165 Signature 243 228 0 0];
+        Strict Extension "smil" [74 Text 0 140 0 10];
     ],
     keys![
-        Strict Extension "bt" [678 Text 0 227 0 0];
-        Strict Extension "lai" [411 Text 0 246 0 0];
-        Strict Extension "mf" [827 Text 0 246 0 0];
+        Strict Extension "bt" [683 Text 0 293 0 0];
+        Strict Extension "lai" [414 Text 0 317 0 0];
+        Strict Extension "mf" [832 Text 0 317 0 0];
     ],
     keys![
-        Strict Extension "gni" [758 Text 0 246 0 0];
-        Strict Extension "target" [953 Text 0 246 0 0];
-        Strict Extension "tpl" [631 Text 246 0 31 0];
+        Strict Extension "gni" [763 Text 0 317 0 0];
+        Strict Extension "target" [958 Text 0 317 0 0];
+        Strict Extension "tpl" [636 Text 317 0 14 0];
     ],
     keys![
-        Strict Extension "atomcat" [2 Text 0 112 0 10];
-        Loose Extension "mat" [343 Bytes 0 102 0 0];
-        Strict Extension "tmpl" [631 Text 246 0 31 0];
+        Strict Extension "atomcat" [2 Text 0 140 0 10];
+        Loose Extension "mat" [346 Bytes 0 128 0 0];
+        Strict Extension "tmpl" [636 Text 317 0 14 0];
     ],
     keys![
-        Strict Extension "docx" [171 Signature 71 26 0 0];
-        Strict Extension "kts" [799 Text 0 227 0 0];
-        Strict Extension "tikz" [957 Text 0 210 0 0];
+        Strict Extension "docx" [172 Signature 85 33 0 0];
+        Strict Extension "kts" [804 Text 0 293 0 0];
+        Strict Extension "tikz" [962 Text 0 270 0 0];
     ],
     keys![
-        Strict Extension "automount" [953 Text 0 246 0 0];
-        Strict Extension "he5" [297 Bytes 102 0 0 0];
-        Strict Extension "pages" [97 Signature 0 277 0 0];
-        Strict Extension "pegjs" [719 Text 0 246 0 0];
-        Strict Extension "vh" [978 Text 0 246 0 0];
+        Strict Extension "automount" [958 Text 0 317 0 0];
+        Strict Extension "he5" [300 Bytes 128 0 0 0];
+        Strict Extension "pages" [98 Signature 0 354 0 0];
+        Strict Extension "pegjs" [724 Text 0 317 0 0];
+        Strict Extension "vh" [983 Text 0 317 0 0];
     ],
     keys![
-        Strict Extension "orc" [373 Bytes 184 0 0 0] [702 Text 0 227 0 0];
-        Strict Extension "rda" [399 Bytes 0 47 0 0];
+        Strict Extension "orc" [376 Bytes 238 0 0 0] [707 Text 0 293 0 0];
+        Strict Extension "rda" [402 Bytes 0 56 0 0];
     ],
 ];
 

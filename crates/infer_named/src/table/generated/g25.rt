@@ -7,101 +7,101 @@ use crate::table::{Asks, Key, Part, Reading, is_loose, keys};
 
 static SLOTS: [&[Key]; 16] = [
     keys![
-        Strict Extension "aac" [478 Bytes 9 0 0 0];
-        Strict Whole "contributors" [631 Text 246 0 31 0];
-        Strict Whole "nginx.conf" [843 Text 0 246 0 0];
-        Strict Extension "uml" [988 Text 0 112 0 10];
+        Strict Extension "aac" [482 Bytes 10 0 0 0];
+        Strict Whole "contributors" [636 Text 317 0 14 0];
+        Strict Whole "nginx.conf" [848 Text 0 317 0 0];
+        Strict Extension "uml" [993 Text 0 140 0 10];
     ],
     keys![
-        Strict Whole ".coveragerc" [780 Text 0 246 0 0];
-        Strict Extension "ipf" [778 Text 0 246 0 0];
-        Strict Extension "j2k" [577 Bytes 0 0 0 0];
-        Strict Extension "mtm" [508 Bytes 0 0 0 0];
+        Strict Whole ".coveragerc" [785 Text 0 317 0 0];
+        Strict Extension "ipf" [783 Text 0 317 0 0];
+        Strict Extension "j2k" [582 Bytes 148 0 0 0];
+        Strict Extension "mtm" [512 Bytes 211 0 0 0];
     ],
     keys![
-        Strict Whole ".cproject" [254 Text 0 112 0 10];
-        Strict Extension "avpr" [219 Text 0 125 0 0];
-        Strict Extension "parquet" [92 Signature 192 0 0 0];
+        Strict Whole ".cproject" [255 Text 0 140 0 10];
+        Strict Extension "avpr" [220 Text 0 160 0 0];
+        Strict Extension "parquet" [93 Signature 248 0 0 0];
     ],
     keys![
-        Strict Extension "dds" [567 Bytes 0 0 0 0];
-        Strict Extension "haml" [766 Text 0 246 0 0];
-        Strict Extension "hta" [24 Text 0 108 0 0];
-        Strict Extension "html" [625 Text 107 199 0 0];
-        Strict Extension "hxml" [301 Text 0 246 0 0];
-        Strict Extension "mpga" [485 Bytes 157 0 0 0];
-        Strict Extension "vtl" [640 Text 0 108 0 0];
-        Strict Extension "xlam" [124 Signature 0 25 0 0];
+        Strict Extension "dds" [572 Bytes 0 0 0 0];
+        Strict Extension "haml" [771 Text 0 317 0 0];
+        Strict Extension "hta" [24 Text 0 136 0 0];
+        Strict Extension "html" [630 Text 135 259 0 0];
+        Strict Extension "hxml" [304 Text 0 317 0 0];
+        Strict Extension "mpga" [489 Bytes 206 0 0 0];
+        Strict Extension "vtl" [645 Text 0 136 0 0];
+        Strict Extension "xlam" [125 Signature 0 32 0 0];
     ],
     keys![
-        Strict Extension "mid" [484 Signature 152 0 0 0];
-        Loose Extension "sp" [631 Text 246 0 31 0];
-        Loose Extension "sub" [947 Text 0 246 0 0];
+        Strict Extension "mid" [488 Signature 196 0 0 0];
+        Loose Extension "sp" [636 Text 317 0 14 0];
+        Loose Extension "sub" [952 Text 0 317 0 0];
     ],
     keys![
-        Strict Whole ".gemrc" [631 Text 246 0 31 0];
-        Strict Whole ".npmrc" [631 Text 246 0 31 0];
-        Strict Whole ".vimrc" [980 Text 0 246 0 0];
-        Strict Whole "apkbuild" [925 Text 226 246 0 0];
-        Strict Extension "fa" [732 Text 0 246 0 0];
-        Strict Extension "jpg2" [539 Bytes 121 0 123 0];
+        Strict Whole ".gemrc" [636 Text 317 0 14 0];
+        Strict Whole ".npmrc" [636 Text 317 0 14 0];
+        Strict Whole ".vimrc" [985 Text 0 317 0 0];
+        Strict Whole "apkbuild" [930 Text 292 317 0 0];
+        Strict Extension "fa" [737 Text 0 317 0 0];
+        Strict Extension "jpg2" [544 Bytes 156 0 158 0];
     ],
     keys![
-        Strict Extension "ext2" [263 Bytes 83 0 0 0];
-        Strict Extension "faa" [732 Text 0 246 0 0];
-        Strict Extension "q" [631 Text 246 0 31 0];
-        Strict Extension "scala" [915 Text 0 227 0 0];
-        Strict Extension "scd" [948 Text 0 246 0 0];
-        Strict Extension "urdf" [441 Text 0 112 0 10];
-        Strict Extension "vbhtml" [893 Text 0 108 0 0];
+        Strict Extension "ext2" [264 Bytes 102 0 0 0];
+        Strict Extension "faa" [737 Text 0 317 0 0];
+        Strict Extension "q" [636 Text 317 0 14 0];
+        Strict Extension "scala" [920 Text 0 293 0 0];
+        Strict Extension "scd" [953 Text 0 317 0 0];
+        Strict Extension "urdf" [444 Text 0 140 0 10];
+        Strict Extension "vbhtml" [898 Text 0 136 0 0];
     ],
     keys![
-        Strict Extension "editorconfig" [721 Text 0 246 0 0];
-        Strict Extension "fpp" [738 Text 0 246 0 0];
-        Strict Extension "hdf" [297 Bytes 102 0 0 0];
-        Strict Extension "ninja" [845 Text 0 246 0 0];
+        Strict Extension "editorconfig" [726 Text 0 317 0 0];
+        Strict Extension "fpp" [743 Text 0 317 0 0];
+        Strict Extension "hdf" [300 Bytes 128 0 0 0] [299 Bytes 127 0 0 0];
+        Strict Extension "ninja" [850 Text 0 317 0 0];
     ],
     keys![
-        Strict Extension "fypp" [738 Text 0 246 0 0];
+        Strict Extension "fypp" [743 Text 0 317 0 0];
     ],
     keys![
-        Strict Extension "sublime-menu" [317 Text 0 246 125 0];
+        Strict Extension "sublime-menu" [320 Text 0 317 160 0];
     ],
     keys![
-        Strict Whole ".project" [254 Text 0 112 0 10];
-        Strict Extension "gco" [995 Text 0 246 0 0];
-        Strict Extension "opencl" [855 Text 0 246 0 0];
-        Loose Extension "pak" [397 Bytes 0 0 0 0];
+        Strict Whole ".project" [255 Text 0 140 0 10];
+        Strict Extension "gco" [1000 Text 0 317 0 0];
+        Strict Extension "opencl" [860 Text 0 317 0 0];
+        Loose Extension "pak" [400 Bytes 0 0 0 0];
     ],
     keys![
-        Strict Extension "bc" [325 Signature 40 0 0 0] [670 Text 0 246 0 0];
-        Strict Extension "dxf" [554 Text 0 246 0 0];
-        Strict Extension "jpc" [577 Bytes 0 0 0 0];
-        Strict Extension "rlib" [403 Signature 0 27 0 0];
-        Strict Extension "sbx" [410 Bytes 0 0 0 0];
-        Strict Extension "wb2" [398 Bytes 0 23 0 0];
+        Strict Extension "bc" [328 Signature 48 0 0 0] [675 Text 0 317 0 0];
+        Strict Extension "dxf" [559 Text 0 317 0 0];
+        Strict Extension "jpc" [582 Bytes 148 0 0 0];
+        Strict Extension "rlib" [406 Signature 0 34 0 0];
+        Strict Extension "sbx" [413 Bytes 0 0 0 0];
+        Strict Extension "wb2" [401 Bytes 0 30 0 0];
     ],
     keys![
         Strict Extension "br" [5 Bytes 0 0 0 0];
-        Strict Extension "md" [627 Text 0 108 0 0];
+        Strict Extension "md" [632 Text 0 136 0 0];
     ],
     keys![
-        Strict Extension "dist" [631 Text 246 0 31 0];
-        Strict Extension "fbx" [264 Bytes 0 246 0 0];
-        Strict Extension "gschema" [293 Text 0 112 0 10];
-        Loose Extension "ms" [631 Text 246 0 31 0];
-        Strict Extension "rake" [910 Text 220 227 0 0];
-        Strict Extension "slim" [927 Text 0 246 0 0];
+        Strict Extension "dist" [636 Text 317 0 14 0];
+        Strict Extension "fbx" [265 Bytes 0 317 0 0];
+        Strict Extension "gschema" [294 Text 0 140 0 10];
+        Loose Extension "ms" [636 Text 317 0 14 0];
+        Strict Extension "rake" [915 Text 283 293 0 0];
+        Strict Extension "slim" [932 Text 0 317 0 0];
     ],
     keys![
-        Strict Whole ".cshrc" [924 Text 0 227 0 0];
-        Strict Whole ".kshrc" [924 Text 0 227 0 0];
-        Strict Whole ".zshrc" [924 Text 0 227 0 0];
-        Strict Extension "rdfs" [66 Text 0 109 0 10];
-        Strict Extension "skp" [415 Bytes 0 0 0 0];
+        Strict Whole ".cshrc" [929 Text 0 293 0 0];
+        Strict Whole ".kshrc" [929 Text 0 293 0 0];
+        Strict Whole ".zshrc" [929 Text 0 293 0 0];
+        Strict Extension "rdfs" [67 Text 0 137 0 10];
+        Strict Extension "skp" [418 Bytes 0 0 0 0];
     ],
     keys![
-        Strict Extension "sublime-syntax" [422 Text 0 126 0 0];
+        Strict Extension "sublime-syntax" [425 Text 0 161 0 0];
     ],
 ];
 

@@ -7,94 +7,94 @@ use crate::table::{Asks, Key, Part, Reading, is_loose, keys};
 
 static SLOTS: [&[Key]; 16] = [
     keys![
-        Strict Extension "cljc" [690 Text 0 227 0 0];
-        Strict Extension "kt" [799 Text 0 227 0 0];
-        Strict Extension "php3" [864 Text 198 110 0 0];
-        Strict Extension "vf" [431 Bytes 0 0 0 0];
+        Strict Extension "cljc" [695 Text 0 293 0 0];
+        Strict Extension "kt" [804 Text 0 293 0 0];
+        Strict Extension "php3" [869 Text 258 138 0 0];
+        Strict Extension "vf" [434 Bytes 0 0 0 0];
     ],
     keys![
-        Strict Whole ".pythonrc" [886 Text 214 227 0 0];
-        Strict Extension "ado" [944 Text 0 246 0 0];
+        Strict Whole ".pythonrc" [891 Text 274 293 0 0];
+        Strict Extension "ado" [949 Text 0 317 0 0];
     ],
     keys![
-        Strict Whole "md5sums" [688 Text 0 246 0 0];
-        Strict Extension "md5sums" [688 Text 0 246 0 0];
+        Strict Whole "md5sums" [693 Text 0 317 0 0];
+        Strict Extension "md5sums" [693 Text 0 317 0 0];
     ],
     keys![
-        Strict Extension "fth" [737 Text 0 227 0 0];
-        Strict Extension "iff" [576 Bytes 0 0 0 0];
+        Strict Extension "fth" [742 Text 0 293 0 0];
+        Strict Extension "iff" [581 Bytes 146 0 0 0];
     ],
     keys![
-        Strict Extension "a51" [658 Text 0 246 0 0];
-        Strict Extension "dsf" [501 Signature 73 0 0 0];
-        Strict Extension "g" [631 Text 246 0 31 0];
-        Strict Extension "ged" [641 Text 0 246 0 0];
-        Strict Extension "hcl" [770 Text 0 246 0 0];
-        Strict Extension "hwpx" [300 Bytes 0 277 0 0];
-        Strict Whole "jsconfig.json" [317 Text 0 246 125 0];
-        Strict Extension "sketch" [414 Signature 0 277 0 0];
-        Strict Extension "wmf" [561 Bytes 0 0 0 0];
+        Strict Extension "a51" [663 Text 0 317 0 0];
+        Strict Extension "dsf" [505 Signature 87 0 0 0];
+        Strict Extension "g" [636 Text 317 0 14 0];
+        Strict Extension "ged" [646 Text 0 317 0 0];
+        Strict Extension "hcl" [775 Text 0 317 0 0];
+        Strict Extension "hwpx" [303 Bytes 0 354 0 0];
+        Strict Whole "jsconfig.json" [320 Text 0 317 160 0];
+        Strict Extension "sketch" [417 Signature 0 354 0 0];
+        Strict Extension "wmf" [566 Bytes 0 0 0 0];
     ],
     keys![
-        Strict Extension "cpl" [118 Signature 82 0 0 0];
-        Strict Extension "gts" [747 Text 0 246 0 0];
-        Strict Extension "otg" [153 Signature 0 169 0 0];
-        Strict Extension "pro" [631 Text 246 0 31 0];
-        Strict Extension "qpw" [398 Bytes 0 23 0 0];
+        Strict Extension "cpl" [119 Signature 100 0 0 0];
+        Strict Extension "gts" [752 Text 0 317 0 0];
+        Strict Extension "otg" [154 Signature 240 222 0 0];
+        Strict Extension "pro" [636 Text 317 0 14 0];
+        Strict Extension "qpw" [401 Bytes 0 30 0 0];
     ],
     keys![
-        Strict Extension "chpl" [686 Text 0 227 0 0];
-        Strict Extension "directory" [243 Text 0 246 0 0];
-        Strict Extension "gv" [642 Text 0 246 0 0];
-        Strict Extension "pyd" [118 Signature 82 0 0 0];
-        Strict Extension "ras" [566 Bytes 0 0 0 0];
+        Strict Extension "chpl" [691 Text 0 293 0 0];
+        Strict Extension "directory" [244 Text 0 317 0 0];
+        Strict Extension "gv" [647 Text 0 317 0 0];
+        Strict Extension "pyd" [119 Signature 100 0 0 0];
+        Strict Extension "ras" [571 Bytes 282 0 0 0];
     ],
     keys![
-        Strict Whole ".swcrc" [317 Text 0 246 125 0];
-        Strict Extension "m2p" [1005 Bytes 160 0 0 0];
-        Strict Extension "xproc" [471 Text 0 112 0 10];
+        Strict Whole ".swcrc" [320 Text 0 317 160 0];
+        Strict Extension "m2p" [1010 Bytes 209 0 0 0];
+        Strict Extension "xproc" [475 Text 0 140 0 10];
     ],
     keys![
-        Strict Whole ".jscsrc" [317 Text 0 246 125 0];
-        Strict Extension "launch" [254 Text 0 112 0 10];
-        Strict Extension "vsd" [189 Signature 255 23 0 0];
+        Strict Whole ".jscsrc" [320 Text 0 317 160 0];
+        Strict Extension "launch" [255 Text 0 140 0 10];
+        Strict Extension "vsd" [190 Signature 326 30 0 0];
     ],
     keys![
-        Strict Extension "3pm" [635 Text 0 246 0 0];
-        Strict Extension "ada" [648 Text 0 246 0 0];
-        Strict Extension "m4s" [1004 Bytes 158 106 2 0];
+        Strict Extension "3pm" [640 Text 0 317 0 0];
+        Strict Extension "ada" [653 Text 0 317 0 0];
+        Strict Extension "m4s" [1009 Bytes 207 133 3 0];
     ],
     keys![
-        Strict Extension "agda" [649 Text 0 246 0 0];
-        Strict Extension "asp" [215 Text 0 108 0 0];
-        Strict Whole "rakefile" [910 Text 220 227 0 0];
+        Strict Extension "agda" [654 Text 0 317 0 0];
+        Strict Extension "asp" [216 Text 0 136 0 0];
+        Strict Whole "rakefile" [915 Text 283 293 0 0];
     ],
     keys![
-        Strict Extension "cbt" [229 Signature 0 238 0 0];
-        Strict Extension "eclass" [720 Text 0 246 0 0];
-        Strict Extension "grb" [292 Bytes 0 0 0 0];
-        Strict Extension "mawk" [666 Text 39 227 0 0];
+        Strict Extension "cbt" [230 Signature 0 308 0 0];
+        Strict Extension "eclass" [725 Text 0 317 0 0];
+        Strict Extension "grb" [293 Bytes 0 0 0 0];
+        Strict Extension "mawk" [671 Text 47 293 0 0];
     ],
     keys![
-        Strict Extension "aar" [205 Signature 0 18 0 0];
-        Strict Extension "pkl" [391 Bytes 0 0 0 0];
+        Strict Extension "aar" [206 Signature 0 23 0 0];
+        Strict Extension "pkl" [394 Bytes 0 0 0 0];
     ],
     keys![
-        Strict Extension "asar" [214 Bytes 0 0 0 0];
-        Strict Extension "cxx" [681 Text 0 246 0 0];
-        Strict Extension "ny" [694 Text 0 227 0 0];
+        Strict Extension "asar" [215 Bytes 37 0 0 0];
+        Strict Extension "cxx" [686 Text 0 317 0 0];
+        Strict Extension "ny" [699 Text 0 293 0 0];
     ],
     keys![
-        Strict Extension "aj" [787 Text 0 246 0 0];
-        Strict Extension "f95" [738 Text 0 246 0 0];
-        Strict Extension "nex" [840 Text 0 246 0 0];
-        Strict Extension "turtle" [636 Text 0 246 0 0];
-        Strict Extension "zone" [713 Text 0 246 0 0];
+        Strict Extension "aj" [792 Text 0 317 0 0];
+        Strict Extension "f95" [743 Text 0 317 0 0];
+        Strict Extension "nex" [845 Text 0 317 0 0];
+        Strict Extension "turtle" [641 Text 0 317 0 0];
+        Strict Extension "zone" [718 Text 0 317 0 0];
     ],
     keys![
-        Strict Whole "authorized_keys" [631 Text 246 0 31 0];
-        Strict Extension "textile" [959 Text 0 246 0 0];
-        Strict Extension "tfstate" [429 Text 0 125 0 0];
+        Strict Whole "authorized_keys" [636 Text 317 0 14 0];
+        Strict Extension "textile" [964 Text 0 317 0 0];
+        Strict Extension "tfstate" [432 Text 0 160 0 0];
     ],
 ];
 

@@ -7,85 +7,85 @@ use crate::table::{Asks, Key, Part, Reading, is_loose, keys};
 
 static SLOTS: [&[Key]; 16] = [
     keys![
-        Strict Extension "mdown" [627 Text 0 108 0 0];
-        Strict Extension "xwd" [604 Bytes 0 0 0 0];
-        Strict Extension "zst" [477 Signature 278 0 0 0];
+        Strict Extension "mdown" [632 Text 0 136 0 0];
+        Strict Extension "xwd" [609 Bytes 351 0 0 0];
+        Strict Extension "zst" [481 Signature 355 0 0 0];
     ],
     keys![
-        Strict Extension "exr" [570 Bytes 0 0 0 0];
-        Strict Extension "mde" [354 Signature 151 0 0 0];
-        Strict Extension "mxf" [43 Bytes 0 0 0 0];
-        Strict Extension "spc" [58 Bytes 190 196 0 0];
-        Strict Extension "spin" [939 Text 0 246 0 0];
-        Strict Extension "vba" [975 Text 0 246 0 0];
+        Strict Extension "exr" [575 Bytes 101 0 0 0];
+        Strict Extension "mde" [357 Signature 193 0 0 0];
+        Strict Extension "mxf" [43 Bytes 212 0 0 0];
+        Strict Extension "spc" [59 Bytes 246 254 0 0];
+        Strict Extension "spin" [944 Text 0 317 0 0];
+        Strict Extension "vba" [980 Text 0 317 0 0];
     ],
     keys![
-        Strict Extension "fsscript" [741 Text 0 246 0 0];
-        Strict Extension "nib" [223 Signature 45 0 0 0] [420 Text 0 112 0 10];
+        Strict Extension "fsscript" [746 Text 0 317 0 0];
+        Strict Extension "nib" [224 Signature 54 0 0 0] [423 Text 0 140 0 10];
     ],
     keys![
-        Strict Extension "debdiff" [861 Text 0 246 0 0];
-        Strict Extension "srf" [597 Signature 0 241 0 0];
+        Strict Extension "debdiff" [866 Text 0 317 0 0];
+        Strict Extension "srf" [602 Signature 0 311 0 0];
     ],
     keys![
-        Strict Extension "cer" [61 Bytes 0 65 0 0];
-        Strict Extension "php4" [864 Text 198 110 0 0];
-        Strict Extension "smt" [933 Text 0 246 0 0];
-        Strict Extension "vss" [189 Signature 255 23 0 0];
+        Strict Extension "cer" [62 Bytes 0 77 0 0];
+        Strict Extension "php4" [869 Text 258 138 0 0];
+        Strict Extension "smt" [938 Text 0 317 0 0];
+        Strict Extension "vss" [190 Signature 326 30 0 0];
     ],
     keys![
-        Strict Extension "bbx" [957 Text 0 210 0 0];
-        Strict Extension "fb2" [265 Text 0 112 0 10];
-        Strict Extension "sarif" [70 Text 0 125 0 0];
-        Strict Extension "t" [863 Text 200 227 0 12] [631 Text 246 0 31 0];
-        Strict Extension "te" [922 Text 0 246 0 0];
+        Strict Extension "bbx" [962 Text 0 270 0 0];
+        Strict Extension "fb2" [266 Text 104 140 0 10];
+        Strict Extension "sarif" [71 Text 0 160 0 0];
+        Strict Extension "t" [868 Text 260 293 0 12] [636 Text 317 0 14 0];
+        Strict Extension "te" [927 Text 0 317 0 0];
     ],
     keys![
-        Strict Extension "ipxe" [783 Text 0 227 0 0];
-        Strict Extension "iss" [781 Text 0 246 0 0];
-        Strict Extension "prolog" [878 Text 0 209 0 0];
-        Strict Extension "tt" [956 Text 0 108 0 0];
+        Strict Extension "ipxe" [788 Text 0 293 0 0];
+        Strict Extension "iss" [786 Text 0 317 0 0];
+        Strict Extension "prolog" [883 Text 0 269 0 0];
+        Strict Extension "tt" [961 Text 0 136 0 0];
     ],
     keys![
-        Strict Whole "perf.data" [381 Bytes 0 0 0 0];
-        Strict Extension "ppm" [591 Signature 0 204 0 0];
+        Strict Whole "perf.data" [384 Bytes 0 0 0 0];
+        Strict Extension "ppm" [596 Signature 0 264 0 0];
     ],
     keys![
-        Strict Extension "lgt" [814 Text 0 246 0 0];
-        Strict Extension "theme" [433 Text 0 246 0 0];
-        Strict Extension "tmpreferences" [434 Text 0 127 0 10];
+        Strict Extension "lgt" [819 Text 0 317 0 0];
+        Strict Extension "theme" [436 Text 0 317 0 0];
+        Strict Extension "tmpreferences" [437 Text 0 162 0 10];
     ],
     keys![
-        Strict Extension "oth" [165 Signature 0 277 0 0];
-        Strict Extension "physicmaterial" [971 Text 0 246 0 0];
-        Strict Extension "ru" [910 Text 220 227 0 0];
+        Strict Extension "oth" [166 Signature 0 354 0 0];
+        Strict Extension "physicmaterial" [976 Text 0 317 0 0];
+        Strict Extension "ru" [915 Text 283 293 0 0];
     ],
     keys![
-        Strict Extension "c++" [681 Text 0 246 0 0];
-        Strict Extension "cppm" [681 Text 0 246 0 0];
-        Strict Extension "grib2" [292 Bytes 0 0 0 0];
-        Strict Extension "roff" [635 Text 0 246 0 0];
+        Strict Extension "c++" [686 Text 0 317 0 0];
+        Strict Extension "cppm" [686 Text 0 317 0 0];
+        Strict Extension "grib2" [293 Bytes 0 0 0 0];
+        Strict Extension "roff" [640 Text 0 317 0 0];
     ],
     keys![
-        Strict Extension "ijm" [779 Text 0 246 0 0];
-        Loose Extension "obj" [262 Signature 166 0 0 0] [611 Text 0 246 0 0] [370 Signature 165 0 0 0];
-        Strict Extension "txz" [460 Signature 0 276 0 0];
+        Strict Extension "ijm" [784 Text 0 317 0 0];
+        Loose Extension "obj" [263 Signature 218 0 0 0] [616 Text 0 317 0 0] [373 Signature 217 0 0 0];
+        Strict Extension "txz" [464 Signature 0 352 0 0];
     ],
     keys![
-        Strict Extension "mui" [118 Signature 82 0 0 0];
+        Strict Extension "mui" [119 Signature 100 0 0 0];
     ],
     keys![
-        Strict Extension "adb" [648 Text 0 246 0 0];
-        Strict Extension "cts" [967 Text 0 227 0 0];
-        Strict Extension "odm" [163 Signature 0 277 0 0];
+        Strict Extension "adb" [653 Text 0 317 0 0];
+        Strict Extension "cts" [972 Text 0 293 0 0];
+        Strict Extension "odm" [164 Signature 0 354 0 0];
     ],
     keys![
-        Strict Extension "nut" [940 Text 0 227 0 0];
+        Strict Extension "nut" [945 Text 0 293 0 0];
     ],
     keys![
-        Strict Extension "ins" [957 Text 0 210 0 0];
-        Strict Extension "postcss" [873 Text 0 246 0 0];
-        Strict Extension "ttf" [14 Bytes 245 0 185 0];
+        Strict Extension "ins" [962 Text 0 270 0 0];
+        Strict Extension "postcss" [878 Text 0 317 0 0];
+        Strict Extension "ttf" [14 Bytes 316 0 239 0];
     ],
 ];
 

@@ -7,100 +7,100 @@ use crate::table::{Asks, Key, Part, Reading, is_loose, keys};
 
 static SLOTS: [&[Key]; 16] = [
     keys![
-        Strict Extension "icns" [575 Signature 114 0 0 0];
-        Strict Extension "jsp" [318 Text 0 108 0 0];
-        Strict Extension "sql" [76 Text 0 227 0 0];
-        Strict Extension "war" [314 Signature 0 118 0 0];
+        Strict Extension "icns" [580 Signature 143 0 0 0];
+        Strict Extension "jsp" [321 Text 0 136 0 0];
+        Strict Extension "sql" [77 Text 0 293 0 0];
+        Strict Extension "war" [317 Signature 0 150 0 0];
     ],
     keys![
-        Strict Extension "cdx" [519 Bytes 0 0 0 0];
-        Strict Extension "dng" [563 Signature 69 241 0 0];
-        Strict Extension "gtf" [750 Text 0 246 0 0];
-        Strict Extension "njk" [792 Text 0 108 0 0];
-        Strict Extension "udeb" [105 Signature 60 27 0 0];
+        Strict Extension "cdx" [524 Bytes 0 0 0 0];
+        Strict Extension "dng" [568 Signature 83 311 0 0];
+        Strict Extension "gtf" [755 Text 0 317 0 0];
+        Strict Extension "njk" [797 Text 0 136 0 0];
+        Strict Extension "udeb" [106 Signature 72 34 0 0];
     ],
     keys![
-        Strict Extension "esd" [352 Signature 264 0 0 0];
-        Strict Extension "gltf" [607 Text 0 125 0 0];
-        Strict Extension "jar" [28 Signature 117 277 0 0];
-        Strict Extension "raf" [571 Signature 218 0 0 0];
+        Strict Extension "esd" [355 Signature 337 0 0 0];
+        Strict Extension "gltf" [612 Text 0 160 0 0];
+        Strict Extension "jar" [28 Signature 149 354 0 0];
+        Strict Extension "raf" [576 Signature 280 0 0 0];
     ],
     keys![
-        Strict Whole "appfile" [910 Text 220 227 0 0];
-        Strict Extension "sfc" [147 Bytes 0 0 0 0];
-        Strict Extension "vmem" [448 Bytes 0 0 0 0];
-        Strict Extension "xcworkspacedata" [258 Text 0 202 0 10];
+        Strict Whole "appfile" [915 Text 283 293 0 0];
+        Strict Extension "sfc" [148 Bytes 0 0 0 0];
+        Strict Extension "vmem" [451 Bytes 0 0 0 0];
+        Strict Extension "xcworkspacedata" [259 Text 0 262 0 10];
     ],
     keys![
-        Strict Whole ".gitattributes" [753 Text 0 246 0 0];
-        Strict Whole "changelog" [631 Text 246 0 31 0];
-        Strict Extension "psd1" [386 Text 0 227 0 0];
-        Strict Extension "x3d" [617 Text 0 112 0 10];
+        Strict Whole ".gitattributes" [758 Text 0 317 0 0];
+        Strict Whole "changelog" [636 Text 317 0 14 0];
+        Strict Extension "psd1" [389 Text 0 293 0 0];
+        Strict Extension "x3d" [622 Text 0 140 0 10];
     ],
     keys![
-        Strict Extension "comp" [757 Text 0 246 0 0];
-        Strict Extension "geotiff" [533 Signature 0 241 0 0];
-        Strict Extension "hbs" [767 Text 0 108 0 0];
-        Strict Extension "tzo" [338 Bytes 0 0 0 0];
+        Strict Extension "comp" [762 Text 0 317 0 0];
+        Strict Extension "geotiff" [538 Signature 0 311 0 0];
+        Strict Extension "hbs" [772 Text 0 136 0 0];
+        Strict Extension "tzo" [341 Bytes 185 0 0 0];
     ],
     keys![
-        Strict Extension "asc" [53 Text 30 0 0 0] [55 Text 230 196 0 0] [52 Text 197 0 0 0] [657 Text 0 246 0 0];
-        Strict Whole "faq" [631 Text 246 0 31 0];
-        Strict Extension "props" [355 Text 0 112 0 10];
+        Strict Extension "asc" [54 Text 38 0 0 0] [56 Text 297 254 0 0] [53 Text 257 0 0 0] [662 Text 0 317 0 0];
+        Strict Whole "faq" [636 Text 317 0 14 0];
+        Strict Extension "props" [358 Text 0 140 0 10];
     ],
     keys![
-        Strict Extension "avsc" [219 Text 0 125 0 0];
-        Strict Extension "grxml" [77 Text 0 112 0 10];
+        Strict Extension "avsc" [220 Text 0 160 0 0];
+        Strict Extension "grxml" [78 Text 0 140 0 10];
     ],
     keys![
-        Strict Extension "jsb" [626 Text 124 128 0 0];
-        Loose Extension "wad" [249 Bytes 0 0 0 0];
+        Strict Extension "jsb" [631 Text 115 163 0 0];
+        Loose Extension "wad" [250 Bytes 330 0 0 0] [454 Bytes 336 0 0 0];
     ],
     keys![
-        Strict Extension "lz4" [331 Signature 141 0 0 0];
-        Strict Extension "nrw" [583 Signature 0 241 0 0];
-        Strict Extension "pfm" [271 Bytes 0 0 0 0];
-        Strict Extension "rego" [899 Text 0 246 0 0];
-        Strict Extension "wps" [144 Signature 0 23 0 0];
-        Strict Extension "xlsm" [126 Signature 0 25 0 0];
+        Strict Extension "lz4" [334 Signature 182 0 0 0];
+        Strict Extension "nrw" [588 Signature 0 311 0 0];
+        Strict Extension "pfm" [272 Bytes 256 0 0 0];
+        Strict Extension "rego" [904 Text 0 317 0 0];
+        Strict Extension "wps" [145 Signature 0 30 0 0];
+        Strict Extension "xlsm" [127 Signature 0 32 0 0];
     ],
     keys![
-        Strict Extension "bison" [991 Text 0 246 0 0];
-        Strict Whole "makefile.inc" [817 Text 0 227 0 0];
-        Strict Extension "mgc" [341 Bytes 0 0 0 0];
-        Strict Extension "ssa" [941 Text 0 246 0 0];
+        Strict Extension "bison" [996 Text 0 317 0 0];
+        Strict Whole "makefile.inc" [822 Text 0 293 0 0];
+        Strict Extension "mgc" [344 Bytes 0 0 0 0];
+        Strict Extension "ssa" [946 Text 0 317 0 0];
     ],
     keys![
-        Strict Whole ".dockerignore" [755 Text 0 246 0 0];
-        Strict Extension "arw" [595 Signature 0 241 0 0];
-        Strict Extension "cfm" [685 Text 0 108 0 0];
-        Strict Extension "htc" [695 Text 0 108 0 0];
-        Strict Extension "php" [864 Text 198 110 0 0];
-        Strict Extension "svgz" [549 Signature 0 96 0 0];
+        Strict Whole ".dockerignore" [760 Text 0 317 0 0];
+        Strict Extension "arw" [600 Signature 0 311 0 0];
+        Strict Extension "cfm" [690 Text 0 136 0 0];
+        Strict Extension "htc" [700 Text 0 136 0 0];
+        Strict Extension "php" [869 Text 258 138 0 0];
+        Strict Extension "svgz" [554 Signature 0 121 0 0];
     ],
     keys![
-        Strict Extension "groff" [635 Text 0 246 0 0];
+        Strict Extension "groff" [640 Text 0 317 0 0];
     ],
     keys![
-        Strict Extension "appcache" [620 Text 0 246 0 0];
-        Strict Extension "arrow" [91 Bytes 29 0 0 0];
-        Strict Extension "m3" [833 Text 0 246 0 0];
-        Strict Extension "raku" [892 Text 0 227 0 0];
-        Strict Whole "sconscript" [918 Text 0 246 0 0];
-        Strict Whole "vagrantfile" [973 Text 0 246 0 0];
+        Strict Extension "appcache" [625 Text 0 317 0 0];
+        Strict Extension "arrow" [92 Bytes 36 0 0 0];
+        Strict Extension "m3" [838 Text 0 317 0 0];
+        Strict Extension "raku" [897 Text 0 293 0 0];
+        Strict Whole "sconscript" [923 Text 0 317 0 0];
+        Strict Whole "vagrantfile" [978 Text 0 317 0 0];
     ],
     keys![
-        Strict Extension "ext4" [263 Bytes 83 0 0 0];
-        Strict Extension "fasta" [732 Text 0 246 0 0];
-        Strict Extension "laz" [114 Bytes 0 0 0 0];
+        Strict Extension "ext4" [264 Bytes 102 0 0 0];
+        Strict Extension "fasta" [737 Text 0 317 0 0];
+        Strict Extension "laz" [115 Bytes 0 0 0 0];
     ],
     keys![
-        Strict Extension "cjs" [626 Text 124 128 0 0];
-        Strict Extension "dtb" [245 Bytes 0 0 0 0];
-        Strict Extension "flac" [502 Signature 86 0 0 0];
-        Strict Extension "glsl" [757 Text 0 246 0 0];
-        Strict Extension "lzma" [336 Bytes 143 0 0 0];
-        Strict Extension "zcml" [461 Text 0 112 0 10];
+        Strict Extension "cjs" [631 Text 115 163 0 0];
+        Strict Extension "dtb" [246 Bytes 0 0 0 0];
+        Strict Extension "flac" [506 Signature 106 0 0 0];
+        Strict Extension "glsl" [762 Text 0 317 0 0];
+        Strict Extension "lzma" [339 Bytes 184 0 0 0];
+        Strict Extension "zcml" [465 Text 0 140 0 10];
     ],
 ];
 

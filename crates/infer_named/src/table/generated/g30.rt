@@ -7,91 +7,91 @@ use crate::table::{Asks, Key, Part, Reading, is_loose, keys};
 
 static SLOTS: [&[Key]; 16] = [
     keys![
-        Strict Extension "cljs" [690 Text 0 227 0 0];
-        Strict Extension "mml" [35 Text 0 112 0 10];
-        Strict Extension "zimpl" [994 Text 0 246 0 0];
-        Loose Extension "zoo" [462 Bytes 0 0 0 0];
+        Strict Extension "cljs" [695 Text 0 293 0 0];
+        Strict Extension "mml" [35 Text 200 140 0 10];
+        Strict Extension "zimpl" [999 Text 0 317 0 0];
+        Loose Extension "zoo" [466 Bytes 0 0 0 0];
     ],
     keys![
-        Strict Extension "creole" [698 Text 0 246 0 0];
-        Strict Extension "mo" [280 Signature 154 0 0 0] [832 Text 0 246 0 0];
-        Strict Extension "mxml" [358 Text 0 112 0 10];
+        Strict Extension "creole" [703 Text 0 317 0 0];
+        Strict Extension "mo" [281 Signature 202 0 0 0] [837 Text 0 317 0 0];
+        Strict Extension "mxml" [361 Text 0 140 0 10];
     ],
     keys![
-        Strict Extension "mata" [944 Text 0 246 0 0];
-        Strict Extension "pony" [872 Text 0 246 0 0];
-        Strict Extension "sitx" [421 Bytes 0 0 0 0];
-        Strict Extension "wks" [144 Signature 0 23 0 0];
+        Strict Extension "mata" [949 Text 0 317 0 0];
+        Strict Extension "pony" [877 Text 0 317 0 0];
+        Strict Extension "sitx" [424 Bytes 0 0 0 0];
+        Strict Extension "wks" [145 Signature 0 30 0 0];
     ],
     keys![
-        Strict Extension "jpe" [540 Signature 122 0 0 0];
+        Strict Extension "jpe" [545 Signature 157 0 0 0];
     ],
     keys![
-        Strict Extension "jks" [312 Bytes 0 0 0 0];
-        Loose Extension "vb" [975 Text 0 246 0 0];
-        Strict Extension "wmv" [1018 Signature 265 0 0 0];
+        Strict Extension "jks" [315 Bytes 152 0 0 0];
+        Loose Extension "vb" [980 Text 0 317 0 0];
+        Strict Extension "wmv" [1023 Signature 338 0 0 0];
     ],
     keys![
-        Strict Extension "exs" [725 Text 0 227 0 0];
-        Strict Extension "fna" [732 Text 0 246 0 0];
-        Strict Extension "ult" [508 Bytes 0 0 0 0];
+        Strict Extension "exs" [730 Text 0 293 0 0];
+        Strict Extension "fna" [737 Text 0 317 0 0];
+        Strict Extension "ult" [512 Bytes 0 0 0 0];
     ],
     keys![
-        Strict Whole ".xsession" [924 Text 0 227 0 0];
-        Strict Extension "pyt" [886 Text 214 128 0 0];
+        Strict Whole ".xsession" [929 Text 0 293 0 0];
+        Strict Extension "pyt" [891 Text 274 163 0 0];
     ],
     keys![
-        Strict Extension "3ssl" [635 Text 0 246 0 0];
-        Strict Extension "ebuild" [720 Text 0 246 0 0];
-        Strict Extension "lha" [333 Bytes 142 0 0 0];
+        Strict Extension "3ssl" [640 Text 0 317 0 0];
+        Strict Extension "ebuild" [725 Text 0 317 0 0];
+        Strict Extension "lha" [336 Bytes 183 0 0 0];
     ],
     keys![
-        Strict Extension "lwp" [116 Bytes 0 0 0 0];
-        Strict Extension "php5" [864 Text 198 110 0 0];
-        Strict Extension "tcc" [681 Text 0 246 0 0];
-        Strict Extension "tr" [635 Text 0 246 0 0];
-        Strict Extension "vst" [189 Signature 255 23 0 0];
-        Strict Extension "webm" [1009 Signature 262 153 0 0];
+        Strict Extension "lwp" [117 Bytes 180 0 0 0];
+        Strict Extension "php5" [869 Text 258 138 0 0];
+        Strict Extension "tcc" [686 Text 0 317 0 0];
+        Strict Extension "tr" [640 Text 0 317 0 0];
+        Strict Extension "vst" [190 Signature 326 30 0 0];
+        Strict Extension "webm" [1014 Signature 334 198 0 0];
     ],
     keys![
-        Strict Whole ".pystartup" [886 Text 214 227 0 0];
-        Strict Extension "clh" [855 Text 0 246 0 0];
-        Strict Extension "nft" [842 Text 0 227 0 0];
-        Strict Extension "odin" [853 Text 0 246 0 0];
-        Strict Extension "wdp" [557 Signature 131 0 0 0];
+        Strict Whole ".pystartup" [891 Text 274 293 0 0];
+        Strict Extension "clh" [860 Text 0 317 0 0];
+        Strict Extension "nft" [847 Text 0 293 0 0];
+        Strict Extension "odin" [858 Text 0 317 0 0];
+        Strict Extension "wdp" [562 Signature 166 0 0 0];
     ],
     keys![
-        Strict Whole ".htaccess" [653 Text 0 246 0 0];
-        Strict Extension "hlsli" [772 Text 0 246 0 0];
-        Loose Extension "p8" [60 Bytes 0 62 0 0];
-        Strict Extension "rd" [889 Text 0 246 0 0];
-        Strict Extension "rmvb" [177 Bytes 0 0 0 0];
+        Strict Whole ".htaccess" [658 Text 0 317 0 0];
+        Strict Extension "hlsli" [777 Text 0 317 0 0];
+        Loose Extension "p8" [61 Bytes 0 74 0 0];
+        Strict Extension "rd" [894 Text 0 317 0 0];
+        Strict Extension "rmvb" [178 Bytes 284 0 0 0];
     ],
     keys![
-        Strict Extension "orf" [584 Bytes 0 0 0 0];
-        Strict Extension "rs" [632 Text 0 227 0 0];
-        Strict Extension "tnef" [137 Bytes 0 0 0 0];
+        Strict Extension "orf" [589 Bytes 0 0 0 0];
+        Strict Extension "rs" [637 Text 0 293 0 0];
+        Strict Extension "tnef" [138 Bytes 312 0 0 0];
     ],
     keys![
-        Strict Extension "kdbx" [320 Bytes 0 0 0 0];
-        Strict Extension "mathml" [35 Text 0 112 0 10];
-        Strict Extension "mojo" [834 Text 0 246 0 0];
-        Strict Extension "rss" [68 Text 222 113 0 10];
+        Strict Extension "kdbx" [323 Bytes 0 0 0 0];
+        Strict Extension "mathml" [35 Text 200 140 0 10];
+        Strict Extension "mojo" [839 Text 0 317 0 0];
+        Strict Extension "rss" [69 Text 286 141 0 10];
     ],
     keys![
-        Strict Extension "appdata.xml" [208 Text 0 112 0 10];
-        Strict Extension "asciidoc" [657 Text 0 246 0 0];
-        Strict Extension "exe" [118 Signature 82 0 0 0];
-        Strict Extension "jake" [626 Text 124 128 0 0];
-        Strict Extension "textproto" [960 Text 0 246 0 0];
+        Strict Extension "appdata.xml" [209 Text 0 140 0 10];
+        Strict Extension "asciidoc" [662 Text 0 317 0 0];
+        Strict Extension "exe" [119 Signature 100 0 0 0];
+        Strict Extension "jake" [631 Text 115 163 0 0];
+        Strict Extension "textproto" [965 Text 0 317 0 0];
     ],
     keys![
-        Loose Extension "msg" [129 Signature 161 23 0 0] [631 Text 246 0 31 0];
-        Loose Extension "pt" [393 Bytes 0 277 0 0];
-        Strict Extension "sexp" [694 Text 0 227 0 0];
+        Loose Extension "msg" [130 Signature 210 30 0 0] [636 Text 317 0 14 0];
+        Loose Extension "pt" [396 Bytes 0 354 0 0];
+        Strict Extension "sexp" [699 Text 0 293 0 0];
     ],
     keys![
-        Strict Whole ".inputrc" [895 Text 0 246 0 0];
+        Strict Whole ".inputrc" [900 Text 0 317 0 0];
     ],
 ];
 

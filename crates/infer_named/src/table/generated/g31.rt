@@ -7,89 +7,89 @@ use crate::table::{Asks, Key, Part, Reading, is_loose, keys};
 
 static SLOTS: [&[Key]; 16] = [
     keys![
-        Strict Whole ".clang-tidy" [475 Text 0 126 0 0];
-        Strict Extension "dcm" [9 Bytes 59 0 0 0];
-        Strict Extension "nf" [841 Text 0 246 0 0];
-        Strict Extension "zipx" [476 Signature 277 0 6 0];
+        Strict Whole ".clang-tidy" [479 Text 0 161 0 0];
+        Strict Extension "dcm" [9 Bytes 71 0 0 0];
+        Strict Extension "nf" [846 Text 0 317 0 0];
+        Strict Extension "zipx" [480 Signature 354 0 7 0];
     ],
     keys![
-        Strict Extension "docm" [142 Signature 0 72 0 0];
-        Strict Extension "nu" [848 Text 0 227 0 0];
-        Strict Extension "pbtxt" [960 Text 0 246 0 0];
-        Strict Extension "wdb" [144 Signature 0 23 0 0];
+        Strict Extension "docm" [143 Signature 0 86 0 0];
+        Strict Extension "nu" [853 Text 0 293 0 0];
+        Strict Extension "pbtxt" [965 Text 0 317 0 0];
+        Strict Extension "wdb" [145 Signature 0 30 0 0];
     ],
     keys![
-        Strict Extension "dicom" [9 Bytes 59 0 0 0];
-        Strict Extension "gko" [747 Text 0 246 0 0];
-        Strict Extension "qgs" [395 Text 0 112 0 10];
-        Strict Extension "xqy" [472 Text 0 247 0 0];
+        Strict Extension "dicom" [9 Bytes 71 0 0 0];
+        Strict Extension "gko" [752 Text 0 317 0 0];
+        Strict Extension "qgs" [398 Text 0 140 0 10];
+        Strict Extension "xqy" [476 Text 0 318 0 0];
     ],
     keys![
-        Strict Extension "aff" [774 Text 0 246 0 0];
-        Strict Extension "au" [481 Signature 35 0 0 0];
+        Strict Extension "aff" [779 Text 0 317 0 0];
+        Strict Extension "au" [485 Signature 43 0 0 0];
     ],
     keys![
-        Strict Extension "aiff" [497 Signature 13 0 12 0];
-        Strict Extension "rw2" [585 Bytes 224 0 0 0];
-        Strict Extension "timer" [953 Text 0 246 0 0];
-        Strict Extension "w" [631 Text 246 0 31 0];
+        Strict Extension "aiff" [501 Signature 17 0 16 0];
+        Strict Extension "rw2" [590 Bytes 288 0 0 0];
+        Strict Extension "timer" [958 Text 0 317 0 0];
+        Strict Extension "w" [636 Text 317 0 14 0];
     ],
     keys![
-        Strict Extension "livemd" [627 Text 0 108 0 0];
-        Strict Extension "mp1" [485 Bytes 157 0 0 0];
-        Strict Extension "prc" [347 Bytes 155 0 0 0];
+        Strict Extension "livemd" [632 Text 0 136 0 0];
+        Strict Extension "mp1" [489 Bytes 206 0 0 0];
+        Strict Extension "prc" [350 Bytes 204 0 0 0];
     ],
     keys![
-        Strict Extension "mediawiki" [824 Text 0 246 0 0];
+        Strict Extension "mediawiki" [829 Text 0 317 0 0];
     ],
     keys![
-        Strict Whole ".pypirc" [631 Text 246 0 31 0];
-        Loose Extension "mng" [1017 Bytes 0 0 0 0];
-        Strict Extension "musicxml" [176 Text 0 112 0 10];
-        Strict Extension "sfd" [736 Text 0 246 0 0];
-        Strict Extension "ui" [242 Text 0 112 0 10];
+        Strict Whole ".pypirc" [636 Text 317 0 14 0];
+        Loose Extension "mng" [1022 Bytes 201 0 0 0];
+        Strict Extension "musicxml" [177 Text 0 140 0 10];
+        Strict Extension "sfd" [741 Text 0 317 0 0];
+        Strict Extension "ui" [243 Text 0 140 0 10] [296 Text 120 0 0 10];
     ],
     keys![
-        Strict Extension "jinja2" [792 Text 0 108 0 0];
-        Strict Extension "pot" [749 Text 0 246 0 0] [131 Signature 205 23 0 0];
+        Strict Extension "jinja2" [797 Text 0 136 0 0];
+        Strict Extension "pot" [754 Text 0 317 0 0] [132 Signature 265 30 0 0];
     ],
     keys![
-        Loose Extension "hi" [296 Bytes 0 0 0 0];
-        Strict Extension "plot" [286 Text 0 227 0 0];
-        Strict Extension "star" [943 Text 0 227 0 0];
+        Loose Extension "hi" [298 Bytes 0 0 0 0];
+        Strict Extension "plot" [287 Text 0 293 0 0];
+        Strict Extension "star" [948 Text 0 293 0 0];
     ],
     keys![
-        Strict Extension "asd" [694 Text 0 227 0 0];
-        Strict Extension "deb" [105 Signature 60 27 0 0];
-        Strict Extension "hx" [769 Text 0 246 0 0];
-        Strict Whole "justfile" [795 Text 0 227 0 0];
-        Strict Extension "vsixmanifest" [369 Text 0 112 0 10];
+        Strict Extension "asd" [699 Text 0 293 0 0];
+        Strict Extension "deb" [106 Signature 72 34 0 0];
+        Strict Extension "hx" [774 Text 0 317 0 0];
+        Strict Whole "justfile" [800 Text 0 293 0 0];
+        Strict Extension "vsixmanifest" [372 Text 0 140 0 10];
     ],
     keys![
-        Strict Extension "ddeb" [105 Signature 60 27 0 0];
-        Strict Extension "hxx" [680 Text 0 246 0 0];
-        Strict Extension "inf" [408 Text 0 246 0 0];
-        Strict Extension "qbs" [888 Text 0 246 0 0];
+        Strict Extension "ddeb" [106 Signature 72 34 0 0];
+        Strict Extension "hxx" [685 Text 0 317 0 0];
+        Strict Extension "inf" [411 Text 0 317 0 0];
+        Strict Extension "qbs" [893 Text 278 317 0 0];
     ],
     keys![
-        Strict Extension "vapi" [974 Text 0 227 0 0];
+        Strict Extension "vapi" [979 Text 0 293 0 0];
     ],
     keys![
-        Strict Extension "hs-boot" [768 Text 0 227 0 0];
-        Strict Extension "latte" [802 Text 0 246 0 0];
+        Strict Extension "hs-boot" [773 Text 0 293 0 0];
+        Strict Extension "latte" [807 Text 0 317 0 0];
     ],
     keys![
-        Strict Extension "lottie" [327 Text 0 125 0 0];
-        Strict Extension "ps1xml" [389 Text 0 112 0 10];
-        Strict Extension "pubxml" [355 Text 0 112 0 10];
-        Strict Extension "sha224" [688 Text 0 246 0 0];
-        Strict Whole "uwsgi.ini" [780 Text 0 246 0 0];
-        Strict Extension "zig" [993 Text 0 227 0 0];
+        Strict Extension "lottie" [330 Text 0 160 0 0];
+        Strict Extension "ps1xml" [392 Text 0 140 0 10];
+        Strict Extension "pubxml" [358 Text 0 140 0 10];
+        Strict Extension "sha224" [693 Text 0 317 0 0];
+        Strict Whole "uwsgi.ini" [785 Text 0 317 0 0];
+        Strict Extension "zig" [998 Text 0 293 0 0];
     ],
     keys![
-        Strict Extension "ccxml" [8 Text 0 112 0 10];
-        Strict Extension "flex" [807 Text 0 246 0 0];
-        Strict Whole "go.mod" [760 Text 0 246 0 0];
+        Strict Extension "ccxml" [8 Text 0 140 0 10];
+        Strict Extension "flex" [812 Text 0 317 0 0];
+        Strict Whole "go.mod" [765 Text 0 317 0 0];
     ],
 ];
 

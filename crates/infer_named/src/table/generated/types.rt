@@ -1,7 +1,7 @@
 //! Made by `tools/tables` from names.txt: the types that names have.
 ghost use Rattle.std.specs.Prelude.{◌≡◌, [], get_or, map};
 ghost use Rattle.infer_named.specs.Listed.{type_listed};
-ghost use Rattle.infer_named.specs.Types.{type_groups, types_0, types_1, types_2, types_3, types_4, types_5, types_6, types_7, types_8, types_9, types_10, types_11, types_12, types_13, types_14, types_15};
+ghost use Rattle.infer_named.specs.Types.{type_groups, types_0, types_1, types_2, types_3, types_4, types_5, types_6, types_7, types_8, types_9, types_10, types_11, types_12, types_13, types_14, types_15, types_16};
 
 use crate::table::Origin::{Known, Own, Row};
 use crate::table::{NamedType, types};
@@ -42,21 +42,22 @@ static TYPES_0: &[NamedType] = types![
     "application/ld+json", Known;
     "application/lrc", Own;
     "application/manifest+json", Known;
-    "application/mathml+xml", Known;
+    "application/mathml+xml", Row("mml");
     "application/mbox", Known;
     "application/metalink+xml", Known;
-    "application/metalink4+xml", Known;
+    "application/metalink4+xml", Row("meta4");
     "application/msgpack", Own;
     "application/msix", Own;
     "application/msword", Row("doc");
     "application/msword-template", Known;
-    "application/mxf", Known;
+    "application/mxf", Row("mxf");
     "application/n-quads", Known;
     "application/n-triples", Known;
     "application/octet-stream", Row("eot");
     "application/oebps-package+xml", Known;
     "application/onenote", Known;
     "application/onnx", Own;
+    "application/owl+xml", Row("owx");
     "application/oxps", Known;
     "application/pdf", Row("pdf");
     "application/pgp-encrypted", Row("pgp");
@@ -69,8 +70,7 @@ static TYPES_0: &[NamedType] = types![
     "application/pkcs7-signature", Known;
     "application/pkcs8", Known;
     "application/pkix-cert", Known;
-    "application/pkix-crl", Known;
-    "application/postscript", Row("ps");
+    "application/pkix-crl", Row("crl");
 ];
 
 #[tactic(auto, unfolding(crate::specs::Types::types_0))]
@@ -82,6 +82,7 @@ fn types_0() -> &'static [NamedType]
 }
 
 static TYPES_1: &[NamedType] = types![
+    "application/postscript", Row("ps");
     "application/protobuf", Own;
     "application/raml+yaml", Known;
     "application/rdf+xml", Known;
@@ -112,7 +113,7 @@ static TYPES_1: &[NamedType] = types![
     "application/vnd.apache.arrow.file", Row("arrow");
     "application/vnd.apache.parquet", Row("parquet");
     "application/vnd.appimage", Row("appimage");
-    "application/vnd.apple.keynote", Known;
+    "application/vnd.apple.keynote", Row("application/vnd.apple.keynote");
     "application/vnd.apple.mpegurl", Row("m3u8");
     "application/vnd.apple.numbers", Known;
     "application/vnd.apple.pages", Known;
@@ -125,16 +126,16 @@ static TYPES_1: &[NamedType] = types![
     "application/vnd.dbf", Row("dbf");
     "application/vnd.debian.binary-package", Row("deb");
     "application/vnd.etsi.asic-e+zip", Known;
-    "application/vnd.flatpak", Known;
+    "application/vnd.flatpak", Row("flatpak");
     "application/vnd.garmin.tcx+xml", Own;
     "application/vnd.geogebra.file", Known;
     "application/vnd.google-earth.kml+xml", Row("kml");
     "application/vnd.google-earth.kmz", Row("kmz");
     "application/vnd.hp-pcl", Known;
-    "application/vnd.iccprofile", Known;
+    "application/vnd.iccprofile", Row("icc");
     "application/vnd.las", Known;
     "application/vnd.lotus-1-2-3", Known;
-    "application/vnd.lotus-wordpro", Known;
+    "application/vnd.lotus-wordpro", Row("lwp");
     "application/vnd.mbtiles", Own;
     "application/vnd.microsoft.portable-executable", Row("exe");
     "application/vnd.mozilla.webapp+json", Own;
@@ -145,7 +146,6 @@ static TYPES_1: &[NamedType] = types![
     "application/vnd.ms-excel.addin.macroEnabled.12", Known;
     "application/vnd.ms-excel.sheet.binary.macroEnabled.12", Known;
     "application/vnd.ms-excel.sheet.macroEnabled.12", Known;
-    "application/vnd.ms-excel.template.macroEnabled.12", Known;
 ];
 
 #[tactic(auto, unfolding(crate::specs::Types::types_1))]
@@ -157,6 +157,7 @@ fn types_1() -> &'static [NamedType]
 }
 
 static TYPES_2: &[NamedType] = types![
+    "application/vnd.ms-excel.template.macroEnabled.12", Known;
     "application/vnd.ms-htmlhelp", Row("chm");
     "application/vnd.ms-outlook", Row("msg");
     "application/vnd.ms-outlook-pst", Row("pst");
@@ -166,7 +167,7 @@ static TYPES_2: &[NamedType] = types![
     "application/vnd.ms-powerpoint.template.macroEnabled.12", Known;
     "application/vnd.ms-project", Known;
     "application/vnd.ms-publisher", Row("pub");
-    "application/vnd.ms-tnef", Known;
+    "application/vnd.ms-tnef", Row("tnef");
     "application/vnd.ms-visio.drawing.macroEnabled.main+xml", Known;
     "application/vnd.ms-visio.drawing.main+xml", Row("vsdx");
     "application/vnd.ms-visio.stencil.main+xml", Known;
@@ -178,11 +179,11 @@ static TYPES_2: &[NamedType] = types![
     "application/vnd.nintendo.nitro.rom", Known;
     "application/vnd.nintendo.snes.rom", Known;
     "application/vnd.oasis.opendocument.base", Known;
-    "application/vnd.oasis.opendocument.chart", Known;
+    "application/vnd.oasis.opendocument.chart", Row("odc");
     "application/vnd.oasis.opendocument.formula", Row("odf");
     "application/vnd.oasis.opendocument.graphics", Row("odg");
     "application/vnd.oasis.opendocument.graphics-flat-xml", Known;
-    "application/vnd.oasis.opendocument.graphics-template", Known;
+    "application/vnd.oasis.opendocument.graphics-template", Row("otg");
     "application/vnd.oasis.opendocument.image", Known;
     "application/vnd.oasis.opendocument.presentation", Row("odp");
     "application/vnd.oasis.opendocument.presentation-flat-xml", Known;
@@ -191,7 +192,7 @@ static TYPES_2: &[NamedType] = types![
     "application/vnd.oasis.opendocument.spreadsheet-flat-xml", Known;
     "application/vnd.oasis.opendocument.spreadsheet-template", Row("ots");
     "application/vnd.oasis.opendocument.text", Row("odt");
-    "application/vnd.oasis.opendocument.text-flat-xml", Known;
+    "application/vnd.oasis.opendocument.text-flat-xml", Row("fodt");
     "application/vnd.oasis.opendocument.text-master", Known;
     "application/vnd.oasis.opendocument.text-template", Row("ott");
     "application/vnd.oasis.opendocument.text-web", Known;
@@ -206,21 +207,20 @@ static TYPES_2: &[NamedType] = types![
     "application/vnd.rar", Row("rar");
     "application/vnd.recordare.musicxml", Known;
     "application/vnd.recordare.musicxml+xml", Known;
-    "application/vnd.rn-realmedia", Known;
+    "application/vnd.rn-realmedia", Row("rm");
     "application/vnd.shp", Row("shp");
     "application/vnd.shx", Row("shx");
-    "application/vnd.smaf", Known;
+    "application/vnd.smaf", Row("mmf");
     "application/vnd.snap", Known;
     "application/vnd.sqlite3", Row("sqlite");
     "application/vnd.squashfs", Row("squashfs");
     "application/vnd.sun.xml.calc", Known;
     "application/vnd.sun.xml.draw", Known;
     "application/vnd.sun.xml.impress", Known;
-    "application/vnd.sun.xml.writer", Known;
+    "application/vnd.sun.xml.writer", Row("sxw");
     "application/vnd.tcpdump.pcap", Row("pcap");
     "application/vnd.visio", Row("vsd");
     "application/vnd.wolfram.mathematica", Known;
-    "application/vnd.wordperfect", Known;
 ];
 
 #[tactic(auto, unfolding(crate::specs::Types::types_2))]
@@ -232,19 +232,20 @@ fn types_2() -> &'static [NamedType]
 }
 
 static TYPES_3: &[NamedType] = types![
+    "application/vnd.wordperfect", Known;
     "application/voicexml+xml", Known;
     "application/vsix", Own;
     "application/warc", Row("warc");
     "application/wasm", Row("wasm");
-    "application/winhlp", Known;
+    "application/winhlp", Row("hlp");
     "application/wsdl+xml", Known;
     "application/x-7z-compressed", Row("7z");
     "application/x-ableton-live-set", Own;
     "application/x-ace", Known;
     "application/x-admx", Own;
     "application/x-age-encryption", Row("age");
-    "application/x-alz", Known;
-    "application/x-amiga-disk-format", Known;
+    "application/x-alz", Row("alz");
+    "application/x-amiga-disk-format", Row("adf");
     "application/x-android-archive", Own;
     "application/x-ant+xml", Own;
     "application/x-apkm", Own;
@@ -254,7 +255,7 @@ static TYPES_3: &[NamedType] = types![
     "application/x-arc", Known;
     "application/x-archive-dar", Own;
     "application/x-arj", Row("arj");
-    "application/x-asar", Known;
+    "application/x-asar", Row("asar");
     "application/x-asp", Known;
     "application/x-aspx", Known;
     "application/x-autodesk-max", Own;
@@ -289,13 +290,12 @@ static TYPES_3: &[NamedType] = types![
     "application/x-dia-diagram", Known;
     "application/x-dictzip", Own;
     "application/x-docbook+xml", Known;
-    "application/x-doom-wad", Known;
+    "application/x-doom-wad", Row("wad");
     "application/x-drawio+xml", Own;
     "application/x-dtbncx+xml", Own;
-    "application/x-dvi", Known;
+    "application/x-dvi", Row("dvi");
     "application/x-e57", Own;
     "application/x-eclipse+xml", Own;
-    "application/x-egg+zip", Own;
 ];
 
 #[tactic(auto, unfolding(crate::specs::Types::types_3))]
@@ -307,6 +307,7 @@ fn types_3() -> &'static [NamedType]
 }
 
 static TYPES_4: &[NamedType] = types![
+    "application/x-egg+zip", Own;
     "application/x-elc", Own;
     "application/x-emz", Own;
     "application/x-entitlements", Own;
@@ -316,13 +317,13 @@ static TYPES_4: &[NamedType] = types![
     "application/x-executable", Row("obj");
     "application/x-ext-filesystem", Row("ext2");
     "application/x-fbx", Own;
-    "application/x-fictionbook+xml", Known;
+    "application/x-fictionbook+xml", Row("fb2");
     "application/x-fishscript", Own;
     "application/x-flash-authoring", Own;
-    "application/x-font-afm", Known;
+    "application/x-font-afm", Row("afm");
     "application/x-font-bdf", Known;
     "application/x-font-pcf", Known;
-    "application/x-font-type1", Known;
+    "application/x-font-type1", Row("pfb");
     "application/x-freecad", Own;
     "application/x-gameboy-rom", Known;
     "application/x-gba-rom", Known;
@@ -346,8 +347,10 @@ static TYPES_4: &[NamedType] = types![
     "application/x-grib", Own;
     "application/x-gschema+xml", Own;
     "application/x-gschema-compiled", Own;
+    "application/x-gtk-builder", Row("gtkbuilder");
     "application/x-har+json", Own;
     "application/x-haskell-interface", Own;
+    "application/x-hdf", Row("hdf4");
     "application/x-hdf5", Row("hdf5");
     "application/x-hprof", Own;
     "application/x-hwp", Known;
@@ -359,18 +362,15 @@ static TYPES_4: &[NamedType] = types![
     "application/x-ipynb+json", Known;
     "application/x-jasper+xml", Own;
     "application/x-java-enterprise-archive", Own;
-    "application/x-java-jce-keystore", Known;
+    "application/x-java-jce-keystore", Row("jceks");
     "application/x-java-jimage", Own;
     "application/x-java-jmod", Row("jmod");
-    "application/x-java-jnlp-file", Known;
-    "application/x-java-keystore", Known;
+    "application/x-java-jnlp-file", Row("jnlp");
+    "application/x-java-keystore", Row("jks");
     "application/x-java-serialized-object", Own;
     "application/x-java-web-archive", Own;
     "application/x-jmeter+xml", Own;
     "application/x-jsa", Own;
-    "application/x-jsonc", Own;
-    "application/x-jsp", Known;
-    "application/x-kdenlive", Own;
 ];
 
 #[tactic(auto, unfolding(crate::specs::Types::types_4))]
@@ -382,6 +382,9 @@ fn types_4() -> &'static [NamedType]
 }
 
 static TYPES_5: &[NamedType] = types![
+    "application/x-jsonc", Own;
+    "application/x-jsp", Known;
+    "application/x-kdenlive", Own;
     "application/x-keepass2", Own;
     "application/x-kerberos-keytab", Own;
     "application/x-krita", Row("kra");
@@ -390,7 +393,7 @@ static TYPES_5: &[NamedType] = types![
     "application/x-llvm", Row("bc");
     "application/x-locale-archive", Own;
     "application/x-lottie+json", Own;
-    "application/x-lrzip", Known;
+    "application/x-lrzip", Row("lrz");
     "application/x-lua-bytecode", Row("luac");
     "application/x-luks", Row("luks");
     "application/x-lz4", Row("lz4");
@@ -400,11 +403,11 @@ static TYPES_5: &[NamedType] = types![
     "application/x-lzip-compressed-tar", Known;
     "application/x-lzma", Row("lzma");
     "application/x-lzma-compressed-tar", Known;
-    "application/x-lzop", Known;
+    "application/x-lzop", Row("lzo");
     "application/x-m4", Known;
     "application/x-mach-binary", Row("mach");
     "application/x-magic-database", Own;
-    "application/x-mame-chd", Known;
+    "application/x-mame-chd", Row("chd");
     "application/x-matlab-data", Own;
     "application/x-maya-binary", Own;
     "application/x-mimecache", Own;
@@ -422,7 +425,7 @@ static TYPES_5: &[NamedType] = types![
     "application/x-mswinurl", Known;
     "application/x-mxml", Own;
     "application/x-mysql-myisam", Own;
-    "application/x-n64-rom", Known;
+    "application/x-n64-rom", Row("n64");
     "application/x-natvis+xml", Own;
     "application/x-navi-animation", Row("ani");
     "application/x-ndjson", Row("ndjson");
@@ -434,7 +437,7 @@ static TYPES_5: &[NamedType] = types![
     "application/x-nuspec+xml", Own;
     "application/x-object", Row("o");
     "application/x-openssh-private-key", Row("openssh");
-    "application/x-openzim", Known;
+    "application/x-openzim", Row("zim");
     "application/x-orc", Row("orc");
     "application/x-osm-pbf", Own;
     "application/x-ova", Own;
@@ -443,9 +446,6 @@ static TYPES_5: &[NamedType] = types![
     "application/x-pascal-unit", Row("ppu");
     "application/x-pcapng", Row("pcapng");
     "application/x-pem-key", Row("key");
-    "application/x-perf-data", Own;
-    "application/x-phylip", Own;
-    "application/x-plist", Row("plist");
 ];
 
 #[tactic(auto, unfolding(crate::specs::Types::types_5))]
@@ -457,6 +457,9 @@ fn types_5() -> &'static [NamedType]
 }
 
 static TYPES_6: &[NamedType] = types![
+    "application/x-perf-data", Own;
+    "application/x-phylip", Own;
+    "application/x-plist", Row("plist");
     "application/x-ply", Own;
     "application/x-pov", Own;
     "application/x-powershell", Known;
@@ -490,7 +493,7 @@ static TYPES_6: &[NamedType] = types![
     "application/x-sketch", Own;
     "application/x-sketchup", Own;
     "application/x-snappy-framed", Row("sz");
-    "application/x-spss-sav", Known;
+    "application/x-spss-sav", Row("sav");
     "application/x-ssh-public-key", Own;
     "application/x-stata-dta", Own;
     "application/x-storyboard+xml", Own;
@@ -518,9 +521,6 @@ static TYPES_6: &[NamedType] = types![
     "application/x-usdz", Own;
     "application/x-vdi-disk", Row("vdi");
     "application/x-vhd-disk", Row("vhd");
-    "application/x-vhdx-disk", Row("vhdx");
-    "application/x-vim-spell", Own;
-    "application/x-vim-swap", Own;
 ];
 
 #[tactic(auto, unfolding(crate::specs::Types::types_6))]
@@ -532,9 +532,13 @@ fn types_6() -> &'static [NamedType]
 }
 
 static TYPES_7: &[NamedType] = types![
+    "application/x-vhdx-disk", Row("vhdx");
+    "application/x-vim-spell", Own;
+    "application/x-vim-swap", Own;
     "application/x-virtualbox-saved-state", Own;
     "application/x-vmdk-disk", Row("vmdk");
     "application/x-wheel+zip", Own;
+    "application/x-wii-wad", Row("wiiwad");
     "application/x-windows-dump", Own;
     "application/x-wix+xml", Own;
     "application/x-wmz", Own;
@@ -573,10 +577,10 @@ static TYPES_7: &[NamedType] = types![
     "audio/ogg", Row("oga");
     "audio/ogg", Row("ogg");
     "audio/opus", Row("opus");
-    "audio/prs.sid", Known;
+    "audio/prs.sid", Row("sid");
     "audio/sf2", Own;
     "audio/vnd.audible", Own;
-    "audio/vnd.dts", Known;
+    "audio/vnd.dts", Row("dts");
     "audio/vnd.rn-realaudio", Known;
     "audio/webm", Known;
     "audio/x-abc", Own;
@@ -584,18 +588,14 @@ static TYPES_7: &[NamedType] = types![
     "audio/x-aiff", Row("aiff");
     "audio/x-ape", Row("ape");
     "audio/x-caf", Own;
-    "audio/x-dff", Known;
+    "audio/x-dff", Row("dff");
     "audio/x-dsf", Row("dsf");
     "audio/x-flac", Row("flac");
     "audio/x-gsm", Known;
-    "audio/x-it", Known;
+    "audio/x-it", Row("it");
     "audio/x-m4b", Row("m4b");
     "audio/x-matroska", Known;
-    "audio/x-mo3", Known;
-    "audio/x-mod", Known;
-    "audio/x-mpegurl", Known;
-    "audio/x-ms-wma", Known;
-    "audio/x-musepack", Row("mpc");
+    "audio/x-mo3", Row("mo3");
 ];
 
 #[tactic(auto, unfolding(crate::specs::Types::types_7))]
@@ -607,13 +607,18 @@ fn types_7() -> &'static [NamedType]
 }
 
 static TYPES_8: &[NamedType] = types![
+    "audio/x-mod", Known;
+    "audio/x-mpegurl", Known;
+    "audio/x-ms-wma", Known;
+    "audio/x-musepack", Row("mpc");
     "audio/x-s3m", Known;
     "audio/x-scpls", Known;
+    "audio/x-speex+ogg", Row("spx");
     "audio/x-tta", Known;
     "audio/x-voc", Row("voc");
     "audio/x-wav", Row("wav");
     "audio/x-wavpack", Row("wv");
-    "audio/x-xm", Known;
+    "audio/x-xm", Row("xm");
     "chemical/x-cdx", Known;
     "chemical/x-cif", Known;
     "chemical/x-mdl-molfile", Known;
@@ -622,10 +627,10 @@ static TYPES_8: &[NamedType] = types![
     "chemical/x-xyz", Known;
     "font/collection", Row("ttc");
     "image/apng", Row("apng");
-    "image/astc", Known;
+    "image/astc", Row("astc");
     "image/avif", Row("avif");
     "image/bmp", Row("bmp");
-    "image/bpg", Own;
+    "image/bpg", Row("bpg");
     "image/emf", Known;
     "image/fits", Row("fits");
     "image/geotiff", Own;
@@ -638,8 +643,8 @@ static TYPES_8: &[NamedType] = types![
     "image/jpeg", Row("jpg");
     "image/jpx", Row("jpx");
     "image/jxl", Row("jxl");
-    "image/ktx", Known;
-    "image/ktx2", Known;
+    "image/ktx", Row("ktx");
+    "image/ktx2", Row("ktx2");
     "image/openraster", Row("ora");
     "image/png", Row("png");
     "image/qoi", Own;
@@ -653,11 +658,11 @@ static TYPES_8: &[NamedType] = types![
     "image/vnd.fpx", Known;
     "image/vnd.microsoft.icon", Row("ico");
     "image/vnd.ms-photo", Row("jxr");
-    "image/vnd.radiance", Known;
-    "image/vnd.zbrush.pcx", Known;
+    "image/vnd.radiance", Row("hdr");
+    "image/vnd.zbrush.pcx", Row("pcx");
     "image/webp", Row("webp");
     "image/wmf", Known;
-    "image/x-3ds", Known;
+    "image/x-3ds", Row("3ds");
     "image/x-adobe-dng", Row("dng");
     "image/x-canon-cr2", Row("cr2");
     "image/x-canon-cr3", Row("cr3");
@@ -665,12 +670,7 @@ static TYPES_8: &[NamedType] = types![
     "image/x-dds", Known;
     "image/x-eps", Row("eps");
     "image/x-epson-erf", Known;
-    "image/x-exr", Known;
-    "image/x-fuji-raf", Row("raf");
-    "image/x-gimp-gbr", Known;
-    "image/x-gimp-pat", Known;
-    "image/x-hasselblad-3fr", Own;
-    "image/x-icns", Row("icns");
+    "image/x-exr", Row("exr");
 ];
 
 #[tactic(auto, unfolding(crate::specs::Types::types_8))]
@@ -682,8 +682,13 @@ fn types_8() -> &'static [NamedType]
 }
 
 static TYPES_9: &[NamedType] = types![
-    "image/x-ilbm", Known;
-    "image/x-jp2-codestream", Known;
+    "image/x-fuji-raf", Row("raf");
+    "image/x-gimp-gbr", Row("gbr");
+    "image/x-gimp-pat", Row("pat");
+    "image/x-hasselblad-3fr", Own;
+    "image/x-icns", Row("icns");
+    "image/x-ilbm", Row("ilbm");
+    "image/x-jp2-codestream", Row("j2c");
     "image/x-kodak-dcr", Known;
     "image/x-kodak-kdc", Known;
     "image/x-mamiya-mef", Own;
@@ -699,18 +704,18 @@ static TYPES_9: &[NamedType] = types![
     "image/x-portable-graymap", Known;
     "image/x-portable-pixmap", Known;
     "image/x-samsung-srw", Own;
-    "image/x-sgi", Known;
-    "image/x-sigma-x3f", Known;
+    "image/x-sgi", Row("sgi");
+    "image/x-sigma-x3f", Row("x3f");
     "image/x-sony-arw", Known;
     "image/x-sony-sr2", Known;
     "image/x-sony-srf", Known;
     "image/x-tga", Known;
-    "image/x-win-bitmap", Known;
+    "image/x-win-bitmap", Row("cur");
     "image/x-xbitmap", Known;
     "image/x-xcf", Row("xcf");
     "image/x-xfig", Known;
     "image/x-xpixmap", Row("xpm");
-    "image/x-xwindowdump", Known;
+    "image/x-xwindowdump", Row("xwd");
     "message/rfc822", Known;
     "model/3mf", Row("3mf");
     "model/gltf+json", Known;
@@ -741,11 +746,6 @@ static TYPES_9: &[NamedType] = types![
     "text/rust", Known;
     "text/sgml", Known;
     "text/tab-separated-values", Known;
-    "text/troff", Known;
-    "text/turtle", Known;
-    "text/uri-list", Known;
-    "text/vbscript", Known;
-    "text/vcard", Row("vcf");
 ];
 
 #[tactic(auto, unfolding(crate::specs::Types::types_9))]
@@ -757,10 +757,15 @@ fn types_9() -> &'static [NamedType]
 }
 
 static TYPES_10: &[NamedType] = types![
+    "text/troff", Known;
+    "text/turtle", Known;
+    "text/uri-list", Known;
+    "text/vbscript", Known;
+    "text/vcard", Row("vcf");
     "text/velocity", Known;
     "text/vnd.familysearch.gedcom", Known;
     "text/vnd.graphviz", Known;
-    "text/vnd.trolltech.linguist", Known;
+    "text/vnd.trolltech.linguist", Row("lingts");
     "text/vnd.wap.wml", Known;
     "text/vtt", Row("vtt");
     "text/wgsl", Known;
@@ -816,11 +821,6 @@ static TYPES_10: &[NamedType] = types![
     "text/x-coq", Own;
     "text/x-cppconf", Own;
     "text/x-creole", Own;
-    "text/x-cron", Own;
-    "text/x-crystal", Known;
-    "text/x-csharp", Known;
-    "text/x-csound", Own;
-    "text/x-csrc", Known;
 ];
 
 #[tactic(auto, unfolding(crate::specs::Types::types_10))]
@@ -832,6 +832,11 @@ fn types_10() -> &'static [NamedType]
 }
 
 static TYPES_11: &[NamedType] = types![
+    "text/x-cron", Own;
+    "text/x-crystal", Known;
+    "text/x-csharp", Known;
+    "text/x-csound", Own;
+    "text/x-csrc", Known;
     "text/x-cuda", Own;
     "text/x-cwl", Own;
     "text/x-cypher", Own;
@@ -891,11 +896,6 @@ static TYPES_11: &[NamedType] = types![
     "text/x-gomod", Own;
     "text/x-gosum", Own;
     "text/x-gotemplate", Own;
-    "text/x-gpr", Own;
-    "text/x-gradle", Known;
-    "text/x-groovy", Known;
-    "text/x-haml", Known;
-    "text/x-handlebars", Own;
 ];
 
 #[tactic(auto, unfolding(crate::specs::Types::types_11))]
@@ -907,6 +907,11 @@ fn types_11() -> &'static [NamedType]
 }
 
 static TYPES_12: &[NamedType] = types![
+    "text/x-gpr", Own;
+    "text/x-gradle", Known;
+    "text/x-groovy", Known;
+    "text/x-haml", Known;
+    "text/x-handlebars", Own;
     "text/x-haskell", Known;
     "text/x-haxe", Known;
     "text/x-hcl", Own;
@@ -966,11 +971,6 @@ static TYPES_12: &[NamedType] = types![
     "text/x-mediawiki", Own;
     "text/x-mermaid", Own;
     "text/x-meson", Known;
-    "text/x-metafont", Own;
-    "text/x-metal", Own;
-    "text/x-mib", Own;
-    "text/x-mirc", Own;
-    "text/x-mlir", Own;
 ];
 
 #[tactic(auto, unfolding(crate::specs::Types::types_12))]
@@ -982,6 +982,11 @@ fn types_12() -> &'static [NamedType]
 }
 
 static TYPES_13: &[NamedType] = types![
+    "text/x-metafont", Own;
+    "text/x-metal", Own;
+    "text/x-mib", Own;
+    "text/x-mirc", Own;
+    "text/x-mlir", Own;
     "text/x-modelica", Known;
     "text/x-modula", Own;
     "text/x-mojo", Own;
@@ -1008,7 +1013,7 @@ static TYPES_13: &[NamedType] = types![
     "text/x-opencl-src", Known;
     "text/x-openscad", Own;
     "text/x-opentype-feature", Own;
-    "text/x-opml+xml", Known;
+    "text/x-opml+xml", Row("opml");
     "text/x-oz", Known;
     "text/x-pascal", Known;
     "text/x-patch", Known;
@@ -1038,14 +1043,9 @@ static TYPES_13: &[NamedType] = types![
     "text/x-python", Known;
     "text/x-python", Row("py");
     "text/x-qmake", Own;
-    "text/x-qml", Known;
+    "text/x-qml", Row("qml");
     "text/x-r-doc", Own;
     "text/x-racket", Own;
-    "text/x-ragel", Own;
-    "text/x-raku", Own;
-    "text/x-razor", Own;
-    "text/x-rdoc", Own;
-    "text/x-readline", Own;
 ];
 
 #[tactic(auto, unfolding(crate::specs::Types::types_13))]
@@ -1057,6 +1057,11 @@ fn types_13() -> &'static [NamedType]
 }
 
 static TYPES_14: &[NamedType] = types![
+    "text/x-ragel", Own;
+    "text/x-raku", Own;
+    "text/x-razor", Own;
+    "text/x-rdoc", Own;
+    "text/x-readline", Own;
     "text/x-reason", Own;
     "text/x-rebol", Own;
     "text/x-red", Own;
@@ -1116,11 +1121,6 @@ static TYPES_14: &[NamedType] = types![
     "text/x-swift", Known;
     "text/x-systemd-unit", Known;
     "text/x-tablegen", Own;
-    "text/x-tcl", Row("tcl");
-    "text/x-template-toolkit", Own;
-    "text/x-tex", Known;
-    "text/x-texinfo", Known;
-    "text/x-textile", Known;
 ];
 
 #[tactic(auto, unfolding(crate::specs::Types::types_14))]
@@ -1132,6 +1132,11 @@ fn types_14() -> &'static [NamedType]
 }
 
 static TYPES_15: &[NamedType] = types![
+    "text/x-tcl", Row("tcl");
+    "text/x-template-toolkit", Own;
+    "text/x-tex", Known;
+    "text/x-texinfo", Known;
+    "text/x-textile", Known;
     "text/x-textproto", Own;
     "text/x-thrift", Own;
     "text/x-tla", Own;
@@ -1171,10 +1176,10 @@ static TYPES_15: &[NamedType] = types![
     "text/xml", Row("xml");
     "video/3gpp", Row("3gp");
     "video/3gpp2", Row("3g2");
-    "video/dv", Known;
+    "video/dv", Row("dv");
     "video/h264", Own;
     "video/h265", Own;
-    "video/mj2", Known;
+    "video/mj2", Row("mj2");
     "video/mp2t", Row("ts");
     "video/mp4", Row("mp4");
     "video/mpeg", Row("mpg");
@@ -1189,12 +1194,8 @@ static TYPES_15: &[NamedType] = types![
     "video/x-m4v", Row("m4v");
     "video/x-matroska", Row("mkv");
     "video/x-matroska-3d", Known;
-    "video/x-mng", Known;
+    "video/x-mng", Row("mng");
     "video/x-ms-wmv", Row("wmv");
-    "video/x-msvideo", Row("avi");
-    "video/x-nsv", Known;
-    "video/x-ogm+ogg", Known;
-    "video/x-y4m", Own;
 ];
 
 #[tactic(auto, unfolding(crate::specs::Types::types_15))]
@@ -1203,6 +1204,21 @@ fn types_15() -> &'static [NamedType]
     ensures { map type_listed result.now ≡ types_15 }
 {
     TYPES_15
+}
+
+static TYPES_16: &[NamedType] = types![
+    "video/x-msvideo", Row("avi");
+    "video/x-nsv", Known;
+    "video/x-ogm+ogg", Known;
+    "video/x-y4m", Own;
+];
+
+#[tactic(auto, unfolding(crate::specs::Types::types_16))]
+#[inline(always)]
+fn types_16() -> &'static [NamedType]
+    ensures { map type_listed result.now ≡ types_16 }
+{
+    TYPES_16
 }
 
 /// The types of a list.
@@ -1227,6 +1243,7 @@ pub(crate) fn group(number: usize) -> &'static [NamedType]
         13 => types_13(),
         14 => types_14(),
         15 => types_15(),
+        16 => types_16(),
         _ => &[],
     }
 }
