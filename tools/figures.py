@@ -52,7 +52,6 @@ CORES = {"1": "one", "2": "two", "4": "four", "8": "eight"}
 TIMED = [
     ("README.md", r"jpg`\s+after", "rt try"),
     ("README.md", r"runs\s+the\s+tests,\s+in", ".ci/check --try"),
-    ("README.md", r"before\s+it\s+builds\s+them:", "rt run"),
     ("README.md", r"tests\s+everything,\s+in", ".ci/run"),
     ("docs/ADDING_A_TYPE.md", r"first\s+`rt\s+check`\s+takes", "rt check"),
 ]
