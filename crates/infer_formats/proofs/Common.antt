@@ -25,7 +25,7 @@ pub use Rattle.memchr.specs.Find.{IsFirstByte, Nowhere, OccursAt, Passes, is_byt
 pub use Rattle.infer_deep.proofs.NumberLemmas.{be32-append, le16-append, le32-append}
 pub use Rattle.infer_deep.proofs.OpenLemmas.{IsBytes, agrees_past, grown_agrees, test_from_reads}
 pub use Rattle.infer_deep.proofs.PlaceLemmas.{IsFirstPlace-same, OccursAt-append, OccursAt-begins, OccursAt-first}
-pub use Rattle.infer_deep.proofs.PlaceLemmas.{OccursAt-front, OccursAt-part}
+pub use Rattle.infer_deep.proofs.PlaceLemmas.{OccursAt-front, OccursAt-part, part_reads}
 pub use Rattle.infer_deep.proofs.SearchLemmas.{IsFirstWithin-skip}
 pub use Rattle.infer_deep.specs.Blocks.{AllBelow}
 unfoldable pub use Rattle.infer_deep.specs.Numbers.{le16}
@@ -42,21 +42,21 @@ pub use Rattle.infer_formats.specs.Dbase.{BeginsName, IsDbase, behind, versions}
 pub use Rattle.infer_formats.specs.Elf.{AsksAt, HasOwnTable, IsSharedObject, counted_length, entry_count, entry_size}
 pub use Rattle.infer_formats.specs.Elf.{known_size, table_place}
 pub use Rattle.infer_formats.specs.Json.{BeginsLines, BeginsText, BeginsToken, BeginsWhole, BehindBlanks, CanBe}
-pub use Rattle.infer_formats.specs.Json.{IsAmong, IsBlank, IsJson, IsJsonLines, IsKind, IsMark, NoneGoesOn}
-pub use Rattle.infer_formats.specs.Json.{OpensWithToken, Stands, Symbol, UpToMark, blanks, by_rule, byte, char, chars}
+pub use Rattle.infer_formats.specs.Json.{IsAmong, IsBlank, IsJson, IsJsonLines, IsKind, IsStructural, NoneGoesOn}
+pub use Rattle.infer_formats.specs.Json.{BeginsWithToken, Stands, Symbol, UpToMark, blanks, by_rule, byte, char, chars}
 pub use Rattle.infer_formats.specs.Json.{digit, digits, escape, exact, exponent, fraction, hex, items, member, members}
 pub use Rattle.infer_formats.specs.Json.{more_items, more_members, next_line, nothing, number, one, power, range, rules}
-pub use Rattle.infer_formats.specs.Json.{same_line, text, value, whole}
+pub use Rattle.infer_formats.specs.Json.{same_line, text, value, integer}
 unfoldable pub use Rattle.infer_formats.specs.JsonStates.{frames}
 pub use Rattle.infer_formats.specs.JsonStates.{EndTells, EndsNumber, Follows, IsBracket, IsClosedTo, IsKindBefore}
-pub use Rattle.infer_formats.specs.JsonStates.{IsKindPastMark, IsNextLine, IsOpen, IsPast, IsPastMark, Leaves}
+pub use Rattle.infer_formats.specs.JsonStates.{IsKindPastMark, IsNextLine, IsNested, IsPast, IsPastMark, Leaves}
 pub use Rattle.infer_formats.specs.JsonStates.{LineTells, MayGoOn, NoToken, Onward, PlaceTells, Reads, Starts}
 pub use Rattle.infer_formats.specs.JsonStates.{StartsLine, TellsAsMuch, closing, due_left, first_in, left, more_in}
-pub use Rattle.infer_formats.specs.JsonStates.{next_left, opening}
+pub use Rattle.infer_formats.specs.JsonStates.{next_left, beginning}
 pub use Rattle.infer_formats.specs.Markup.{AgreesWithDoctype, BeginsAt, BeginsElement, ClosesDeclaration, HasInTag}
 pub use Rattle.infer_formats.specs.Markup.{HasRoot, HasRootWith, IsDoctype, IsEnclosed, IsMisc, IsNameByte, IsPart}
-pub use Rattle.infer_formats.specs.Markup.{IsRootElement, IsSpaceRun, IsTypeByte, IsXmlSpace, LeadsToTag, MayOpen}
-pub use Rattle.infer_formats.specs.Markup.{MayReachTag, OpensTag, utf8_mark}
+pub use Rattle.infer_formats.specs.Markup.{IsRootElement, IsSpaceRun, IsTypeByte, IsXmlSpace, ReachesTag, MayStart}
+pub use Rattle.infer_formats.specs.Markup.{MayReachTag, StartsTag, utf8_mark}
 unfoldable pub use Rattle.infer_formats.specs.Numbers.{be16}
 pub use Rattle.infer_formats.specs.Numbers.{bytes16, low_bytes, number16, number32, number64}
 pub use Rattle.infer_formats.specs.Png.{IsAnimated, IsAnimatedFrom, png_header}
@@ -64,8 +64,8 @@ pub use Rattle.infer_formats.specs.Runs.{IsAfterLast, IsNext, IsRun}
 pub use Rattle.infer_formats.specs.Script.{EndsBare, HasEquals, IsEnv, IsFirstWord, IsFolder, IsLineEnd, IsNameOf}
 pub use Rattle.infer_formats.specs.Script.{IsNextWord, IsProgram, IsRead, IsSetting, IsVersionByte, IsWord, IsWordByte}
 pub use Rattle.infer_formats.specs.Script.{NamesProgram}
-pub use Rattle.infer_formats.specs.Subtitles.{AreDigits, EndsLine, IsCue, IsDigit, IsPairAt, IsSubRip, IsTime, MayBeCue}
-pub use Rattle.infer_formats.specs.Subtitles.{MayBeSubRip, MayBeginTime}
+pub use Rattle.infer_formats.specs.Subtitles.{AreDigits, EndsLine, IsCue, IsDigit, IsPairAt, IsSubRip, IsTime, GoesOn}
+pub use Rattle.infer_formats.specs.Subtitles.{MayBeSubRip, MayBeginCue}
 unfoldable pub use Rattle.infer_formats.specs.Tar.{header_sum}
 pub use Rattle.infer_formats.specs.Tar.{HasTarChecksum, IsField, IsOctal, octal, sum_from}
 pub use Rattle.infer_formats.specs.Text.{BeginsUtf8, IsBinary, IsCutLen, IsDataByte, IsPlainByte, IsText, MayBeginChar}
@@ -86,7 +86,7 @@ pub use Rattle.infer_formats.specs.declared.json.token.Token.TheVariants.{Char1,
 pub use Rattle.infer_formats.specs.declared.json.token.Token.TheVariants.{CharF4, Chars, Escape, Exponent, F, Fa, Fal}
 pub use Rattle.infer_formats.specs.declared.json.token.Token.TheVariants.{Fals, Fraction, Hex1, Hex2, Hex3, Hex4, Minus}
 pub use Rattle.infer_formats.specs.declared.json.token.Token.TheVariants.{N, Nu, Nul, Point, Power, Sign, T, Tr, Tru}
-pub use Rattle.infer_formats.specs.declared.json.token.Token.TheVariants.{Whole, Zero}
+pub use Rattle.infer_formats.specs.declared.json.token.Token.TheVariants.{Integer, Zero}
 pub use Rattle.infer_formats.specs.Open.{MayBe, Stays}
 pub use Rattle.infer_formats.specs.Outline.{counted, counted_for, digit_behind, digits_behind, json_outline}
 pub use Rattle.infer_formats.specs.Outline.{markup_lines, named}

@@ -1,5 +1,5 @@
 -- Whatever symbols are left, some bytes complete them.
-use Rattle.infer_formats.proofs.Common.{[], ℕ, zero, suc, ◌≤◌, inl, inr, List, ◌∷◌, ◌++◌, ◌-◌, ◌/◌, ◌%◌, refl, arith, Symbol, range, blanks, value, items, more_items, members, member, more_members, chars, char, escape, hex, number, whole, fraction, exponent, power, digits, text, byte, digit, Stands, nothing, one, by_rule, first_in, frames, left, more_in, next_left, Token, Chars, First, Colon, Next, Between, InKey, InValue, ◌≡◌, Bool, true, IsAmong, and_parts, leb-true, ◌&&◌, nat_le, rules}
+use Rattle.infer_formats.proofs.Common.{[], ℕ, zero, suc, ◌≤◌, inl, inr, List, ◌∷◌, ◌++◌, ◌-◌, ◌/◌, ◌%◌, refl, arith, Symbol, range, blanks, value, items, more_items, members, member, more_members, chars, char, escape, hex, number, integer, fraction, exponent, power, digits, text, byte, digit, Stands, nothing, one, by_rule, first_in, frames, left, more_in, next_left, Token, Chars, First, Colon, Next, Between, InKey, InValue, ◌≡◌, Bool, true, IsAmong, and_parts, leb-true, ◌&&◌, nat_le, rules}
 use Rattle.infer_formats.proofs.JsonLemmas.{value_begins}
 
 abbrev pub Completes : List Symbol → Type 0
@@ -38,8 +38,8 @@ by_member n ss h =
 by_number : (ss : List Symbol) → Completes ss → Completes (number ∷ ss)
 by_number ss h =
     let part = by_none fraction (exponent ∷ ss) (inl refl) (by_none exponent ss (inl refl) h) in
-    let b = by_byte 0x30 0x30 whole (fraction ∷ exponent ∷ ss) (omega arith) (inl refl) part in
-    (b.0, by_rule (whole ∷ fraction ∷ exponent ∷ []) (inl refl) b.1)
+    let b = by_byte 0x30 0x30 integer (fraction ∷ exponent ∷ ss) (omega arith) (inl refl) part in
+    (b.0, by_rule (integer ∷ fraction ∷ exponent ∷ []) (inl refl) b.1)
 
 by_text : (ss : List Symbol) → Completes ss → Completes (text ∷ ss)
 by_text ss h =
@@ -65,7 +65,7 @@ fill char ss l h = by_byte 0x20 0x21 char ss (omega arith) (inl refl) h
 fill escape ss l h = by_byte 0x22 0x22 escape ss (omega arith) (inl refl) h
 fill hex ss l h = by_byte 0x30 0x39 hex ss (omega arith) (inl refl) h
 fill number ss l h = by_number ss h
-fill whole ss l h = by_byte 0x30 0x30 whole ss (omega arith) (inl refl) h
+fill integer ss l h = by_byte 0x30 0x30 integer ss (omega arith) (inl refl) h
 fill power ss l h = by_power ss h
 fill text ss l h = by_text ss h
 fill a ss l h = by_none a ss (inl refl) h

@@ -1,7 +1,8 @@
 -- dBASE tables: what more bytes keep and may make, and the bytes that each has.
-use Rattle.infer_formats.proofs.Common.{◌≡◌, ℕ, ◌+◌, ◌≤◌, List, ◌++◌, length, codes, sym, subst, ◌∙◌, arith, slice_index, get_or_append_left, le16, MayBecome, BeginsName, IsDbase, behind, versions, true, refl, ap, ◌↔◌, IsTrue, and_from, le-leb, lt-ltb, or_left, nat_le, nat_lt, le16-append, MayBe, lines, dbase, StandsByPlace, accepts, stands}
+use Rattle.infer_formats.proofs.Common.{◌≡◌, ℕ, ◌+◌, ◌≤◌, List, ◌++◌, length, codes, sym, subst, ◌∙◌, arith, get_or_append_left, le16, MayBecome, BeginsName, IsDbase, behind, versions, true, refl, ap, ◌↔◌, IsTrue, and_from, le-leb, lt-ltb, or_left, nat_le, nat_lt, le16-append, lines, dbase, StandsByPlace, accepts, stands}
 use Rattle.infer_formats.specs.Dbase.{IsOneOf, MayBeDbase}
 use Rattle.infer_formats.proofs.GrowthLemmas.{carried, kept, longer}
+use Rattle.infer_formats.proofs.OpenLemmas.{known}
 use Rattle.infer_formats.proofs.OutlineLemmas.{pair}
 
 -- ---- a buffer that grows
@@ -33,9 +34,6 @@ module _ (b more : List ℕ) where
 -- ---- what more bytes may make
 
 module _ (b more : List ℕ) where
-  front : (P : ℕ → Type 0) (p : ℕ) → P (slice_index (b ++ more) p) → MayBe P b p
-  front P p h lt = subst P (get_or_append_left b more 0 p lt) h
-
   known_many : 2 ≤ le16 (b ++ more) 10 → 12 ≤ length b → 2 ≤ le16 b 10
   unfolding le16
   known_many many long = omega (arith, get_or_append_left b more 0 10 (omega arith), get_or_append_left b more 0 11 (omega arith))
@@ -43,13 +41,13 @@ module _ (b more : List ℕ) where
 pub dbase_known : (b : List ℕ) → MayBecome IsDbase b → MayBeDbase b
 dbase_known b (more, bytes, (long, (version, month, day, zeros), (name, kind), many, (e, fields))) = record {
   dated = (
-    front b more (IsOneOf versions) 0 version,
-    front b more (λ x. (0x01 ≤ x) × (x ≤ 0x0C)) 2 month,
-    front b more (λ x. (0x01 ≤ x) × (x ≤ 0x1F)) 3 day,
-    front b more (λ x. x ≡ 0) 12 zeros.0,
-    front b more (λ x. x ≡ 0) 13 zeros.1,
+    known b more (IsOneOf versions) 0 version,
+    known b more (λ x. (0x01 ≤ x) × (x ≤ 0x0C)) 2 month,
+    known b more (λ x. (0x01 ≤ x) × (x ≤ 0x1F)) 3 day,
+    known b more (λ x. x ≡ 0) 12 zeros.0,
+    known b more (λ x. x ≡ 0) 13 zeros.1,
   );
-  field = (front b more BeginsName 32 name, front b more (IsOneOf (codes "+@BCDFGILMNOPTVXY")) 43 kind);
+  field = (known b more BeginsName 32 name, known b more (IsOneOf (codes "+@BCDFGILMNOPTVXY")) 43 kind);
   many = known_many b more many;
 }
 

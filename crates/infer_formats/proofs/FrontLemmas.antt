@@ -1,6 +1,6 @@
 -- What two buffers with the same first bytes both have among these.
-use Rattle.infer_formats.proofs.Common.{◌≡◌, ℕ, ◌+◌, ◌-◌, ◌<◌, ◌≤◌, List, ◌++◌, length, get_or, arith, length-append, subst, sym, ◌∙◌, ext_get_or, get_or_append_left, slice_range, OccursAt, IsAfterLast, IsRun}
-use Rattle.infer_formats.proofs.PartLemmas.{part_length, part_reads}
+use Rattle.infer_formats.proofs.Common.{◌≡◌, ℕ, ◌+◌, ◌-◌, ◌<◌, ◌≤◌, List, ◌++◌, length, get_or, arith, length-append, subst, sym, ◌∙◌, ext_get_or, get_or_append_left, slice_range, OccursAt, IsAfterLast, IsRun, part_reads}
+use Rattle.infer_formats.proofs.PartLemmas.{part_length}
 
 -- b and c have n bytes and more, and the same first n
 pub record SharesFront (n : ℕ) (b c : List ℕ) : Type 0 where

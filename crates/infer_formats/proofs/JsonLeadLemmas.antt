@@ -1,26 +1,26 @@
 -- With which byte JSON begins, and that it has a bracket.
-use Rattle.infer_formats.proofs.Common.{[], ◌≡◌, ◌⊎◌, inl, inr, ℕ, zero, suc, ◌<◌, Bool, true, false, List, ◌∷◌, ◌++◌, refl, sym, subst, arith, ◌||◌, ◌==◌, slice_index, nat_tests, BehindBlanks, BeginsLines, BeginsText, IsJson, IsJsonLines, OpensWithToken, UpToMark, blanks, same_line, text, IsBracket, IsPast, utf8_mark, ◌↔◌, IsTrue, cases_lt, OccursAt-begins, IsBlank, json_outline, StandsByPlace, accepts, stands, any_of, at_least}
-use Rattle.infer_formats.specs.Laws.{BeginsJson, HasBracket, OpensBehindBlanks}
+use Rattle.infer_formats.proofs.Common.{[], ◌≡◌, ◌⊎◌, inl, inr, ℕ, zero, suc, ◌<◌, Bool, true, false, List, ◌∷◌, ◌++◌, refl, sym, subst, arith, ◌||◌, ◌==◌, slice_index, nat_tests, BehindBlanks, BeginsLines, BeginsText, IsJson, IsJsonLines, BeginsWithToken, UpToMark, blanks, same_line, text, IsBracket, IsPast, utf8_mark, ◌↔◌, IsTrue, cases_lt, OccursAt-begins, IsBlank, json_outline, StandsByPlace, accepts, stands, any_of, at_least, MayBecome, IsPastMark, length, ap, ◌∙◌, drop, ◌≤◌}
+use Rattle.infer_formats.specs.Laws.{BeginsJson, HasBracket, BeginsBehindBlanks}
 use Rattle.infer_formats.proofs.CompleteLemmas.{completes}
-use Rattle.infer_formats.proofs.LineLemmas.{past_can, text_no_blank, text_opens}
+use Rattle.infer_formats.proofs.LineLemmas.{past_can, text_no_blank, text_begins}
 use Rattle.infer_formats.proofs.OutlineLemmas.{begins_among, marked}
 use Rattle.infer_sig.specs.Signature as fixed
 
 -- one more byte of white space
-one_more : (x : ℕ) (w : List ℕ) → IsBlank x → OpensBehindBlanks w → OpensBehindBlanks (x ∷ w)
+one_more : (x : ℕ) (w : List ℕ) → IsBlank x → BeginsBehindBlanks w → BeginsBehindBlanks (x ∷ w)
 one_more x w blank (k, all, is) = (suc k, each, is)
   where
     each : (j : ℕ) → j < suc k → IsBlank (slice_index (x ∷ w) j)
     each zero lt = blank
     each (suc j) lt = all j (omega arith)
 
-at_once : (x : ℕ) (w : List ℕ) → IsBracket x → OpensBehindBlanks (x ∷ w)
+at_once : (x : ℕ) (w : List ℕ) → IsBracket x → BeginsBehindBlanks (x ∷ w)
 at_once x w is = (0, λ j lt. absurd (omega arith), is)
 
-opens_text : (w : List ℕ) → BehindBlanks OpensWithToken w → OpensBehindBlanks w
-opens_text [] h = absurd (h)
-opens_text (x ∷ w) (inl o) = at_once x w o.0
-opens_text (x ∷ w) (inr (blank, h)) = one_more x w blank (opens_text w h)
+begins_text : (w : List ℕ) → BehindBlanks BeginsWithToken w → BeginsBehindBlanks w
+begins_text [] h = absurd (h)
+begins_text (x ∷ w) (inl o) = at_once x w o.0
+begins_text (x ∷ w) (inr (blank, h)) = one_more x w blank (begins_text w h)
 
 -- ---- lines
 
@@ -48,37 +48,79 @@ past (x ∷ w) = elim (blank_or x) [
   | inr n ↦ (x ∷ w, inr (n, refl))
 ]
 
-opens_past : (w t : List ℕ) (x : ℕ) (rest : List ℕ) → IsPast w t → t ≡ x ∷ rest → IsBracket x → OpensBehindBlanks w
-opens_past [] t x rest e same is = absurd (cc)
-opens_past (y ∷ w) t x rest (inl (blank, p)) same is = one_more y w blank (opens_past w t x rest p same is)
-opens_past (y ∷ w) t x rest (inr (none, e)) same is = let first : x ≡ y = cc in at_once y w (subst IsBracket first is)
+begins_past : (w t : List ℕ) (x : ℕ) (rest : List ℕ) → IsPast w t → t ≡ x ∷ rest → IsBracket x → BeginsBehindBlanks w
+begins_past [] t x rest e same is = absurd (cc)
+begins_past (y ∷ w) t x rest (inl (blank, p)) same is = one_more y w blank (begins_past w t x rest p same is)
+begins_past (y ∷ w) t x rest (inr (none, e)) same is = let first : x ≡ y = cc in at_once y w (subst IsBracket first is)
 
-opens_lines : (w : List ℕ) → BeginsLines w → OpensBehindBlanks w
-opens_lines w (can, single) = by_rest (past w).0 (past w).1
+begins_lines : (w : List ℕ) → BeginsLines w → BeginsBehindBlanks w
+begins_lines w (can, single) = by_rest (past w).0 (past w).1
   where
-    by_rest : (t : List ℕ) → IsPast w t → OpensBehindBlanks w
+    by_rest : (t : List ℕ) → IsPast w t → BeginsBehindBlanks w
     by_rest [] p = absurd (single ((past_can (text ∷ blanks ∷ []) w [] tt (text_no_blank (blanks ∷ [])) p).1 (completes (text ∷ blanks ∷ []) tt)))
     by_rest (x ∷ t) p = elim (bracket_or x) [
-      | inl is ↦ opens_past w (x ∷ t) x t p refl is
-      | inr none ↦ let (v, d) = (past_can (text ∷ same_line ∷ []) w (x ∷ t) tt (text_no_blank (same_line ∷ [])) p).0 can in absurd (text_opens x (same_line ∷ []) (t ++ v) none d)
+      | inl is ↦ begins_past w (x ∷ t) x t p refl is
+      | inr none ↦ let (v, d) = (past_can (text ∷ same_line ∷ []) w (x ∷ t) tt (text_no_blank (same_line ∷ [])) p).0 can in absurd (text_begins x (same_line ∷ []) (t ++ v) none d)
     ]
 
 -- ---- behind a mark
 
-module _ (P : List ℕ → Type 0) (opens : (w : List ℕ) → P w → OpensBehindBlanks w) (b : List ℕ) where
-  pub begins_json : UpToMark P b → BeginsJson b
-  begins_json (inl h) = inr (opens b h)
-  begins_json (inr (w, e, h)) = inl (OccursAt-begins b utf8_mark w e)
+module _ (P : List ℕ → Type 0) (begins : (w : List ℕ) → P w → BeginsBehindBlanks w) where
+  past_mark : (b : List ℕ) → UpToMark P b → UpToMark BeginsBehindBlanks b
+  past_mark b (inl h) = inl (begins b h)
+  past_mark b (inr (w, e, h)) = inr (w, e, begins w h)
 
-  pub has_bracket : UpToMark P b → HasBracket b
-  has_bracket (inl h) = let (k, all, is) = opens b h in (k, is)
-  has_bracket (inr (w, e, h)) = let (k, all, is) = opens w h in subst HasBracket (sym e) (suc (suc (suc k)), is)
+text_past : (b : List ℕ) → IsJson b → UpToMark BeginsBehindBlanks b
+text_past = past_mark BeginsText (λ w t. begins_text w t.0)
+
+lines_past : (b : List ℕ) → IsJsonLines b → UpToMark BeginsBehindBlanks b
+lines_past = past_mark BeginsLines begins_lines
+
+leads : (b : List ℕ) → UpToMark BeginsBehindBlanks b → BeginsJson b × HasBracket b
+leads b (inl (k, all, is)) = (inr (k, all, is), (k, is))
+leads b (inr (w, e, (k, all, is))) = (inl (OccursAt-begins b utf8_mark w e), subst HasBracket (sym e) (suc (suc (suc k)), is))
 
 pub text_leads : (b : List ℕ) → IsJson b → BeginsJson b × HasBracket b
-text_leads b h = (begins_json BeginsText (λ w t. opens_text w t.0) b h, has_bracket BeginsText (λ w t. opens_text w t.0) b h)
+text_leads b h = leads b (text_past b h)
 
 pub lines_lead : (b : List ℕ) → IsJsonLines b → BeginsJson b × HasBracket b
-lines_lead b h = (begins_json BeginsLines opens_lines b h, has_bracket BeginsLines opens_lines b h)
+lines_lead b h = leads b (lines_past b h)
+
+-- ---- what more bytes may make
+
+pub text_may : (b : List ℕ) → MayBecome IsJson b → MayBecome (UpToMark BeginsBehindBlanks) b
+text_may b (more, bytes, h) = (more, bytes, text_past (b ++ more) h)
+
+pub lines_may : (b : List ℕ) → MayBecome IsJsonLines b → MayBecome (UpToMark BeginsBehindBlanks) b
+lines_may b (more, bytes, h) = (more, bytes, lines_past (b ++ more) h)
+
+-- what stands behind white space is the bracket, or the first byte of a mark
+bracket_first : (w t more : List ℕ) → IsPast w t → 1 ≤ length t → BeginsBehindBlanks (w ++ more) → IsBracket (slice_index t 0)
+bracket_first [] t more e some begins = absurd (let none = ap length e in omega arith)
+bracket_first (x ∷ w) t more (inl (blank, p)) some (zero, all, is) = absurd (grind arith)
+bracket_first (x ∷ w) t more (inl (blank, p)) some (suc k, all, is) = bracket_first w t more p some (k, λ j lt. all (suc j) (omega arith), is)
+bracket_first (x ∷ w) t more (inr (dark, e)) some (zero, all, is) = subst (λ s. IsBracket (slice_index s 0)) (sym e) is
+bracket_first (x ∷ w) t more (inr (dark, e)) some (suc k, all, is) = absurd (dark (all 0 (omega arith)))
+
+mark_first : (w t more u : List ℕ) → IsPast w t → 1 ≤ length t → w ++ more ≡ 0xEF ∷ u → slice_index t 0 ≡ 0xEF
+mark_first [] t more u e some f = absurd (let none = ap length e in omega arith)
+mark_first (x ∷ w) t more u (inl (blank, p)) some f = absurd (let first : x ≡ 0xEF = cc in grind arith)
+mark_first (x ∷ w) t more u (inr (dark, e)) some f = let first : x ≡ 0xEF = cc in subst (λ s. slice_index s 0 ≡ 0xEF) (sym e) first
+
+mark_begins : (u : List ℕ) → ¬ BeginsBehindBlanks (0xEF ∷ u)
+mark_begins u (zero, all, is) = grind arith
+mark_begins u (suc k, all, is) = let blank = all 0 (omega arith) in grind arith
+
+pub first_reached : (b w t : List ℕ) → IsPastMark b w → IsPast w t → 1 ≤ length t → MayBecome (UpToMark BeginsBehindBlanks) b
+    → IsBracket (slice_index t 0) ⊎ (slice_index t 0 ≡ 0xEF)
+first_reached b w t (inl e) past some (more, bytes, inl begins) = absurd (mark_begins (0xBB ∷ 0xBF ∷ (w ++ more)) (subst (λ c. BeginsBehindBlanks (c ++ more)) e begins))
+first_reached b w t (inl e) past some (more, bytes, inr (u, f, begins)) =
+    let same : w ++ more ≡ u = ap (drop 3) (sym (ap (λ c. c ++ more) e) ∙ f) in
+    inl (bracket_first w t more past some (subst BeginsBehindBlanks (sym same) begins))
+first_reached b w t (inr (e, lacks)) past some (more, bytes, inl begins) =
+    inl (bracket_first w t more past some (subst (λ c. BeginsBehindBlanks (c ++ more)) e begins))
+first_reached b w t (inr (e, lacks)) past some (more, bytes, inr (u, f, begins)) =
+    inr (mark_first w t more (0xBB ∷ 0xBF ∷ u) past some (sym (ap (λ c. c ++ more) e) ∙ f))
 
 abbrev json_bytes : List ℕ
 json_bytes = 0x09 ∷ 0x0A ∷ 0x0D ∷ 0x20 ∷ 0x5B ∷ 0x7B ∷ []
@@ -87,9 +129,9 @@ json_bytes = 0x09 ∷ 0x0A ∷ 0x0D ∷ 0x20 ∷ 0x5B ∷ 0x7B ∷ []
 module _ (by_place : (place : ℕ) (t buf : List ℕ) → IsTrue (stands place t buf) ↔ StandsByPlace place t buf) (b : List ℕ) where
   pub json_begins : BeginsJson b → IsTrue (accepts json_outline b)
   json_begins (inl o) = marked by_place b (at_least 1 (fixed.byte 0 (any_of json_bytes) ∷ [])) o
-  json_begins (inr (k, spaces, opens)) =
+  json_begins (inr (k, spaces, begins)) =
       let first : IsBlank (slice_index b 0) ⊎ IsBracket (slice_index b 0) = elim (cases_lt 0 k) [
         | inl lt ↦ inl (spaces 0 lt)
-        | inr le ↦ inr (let same : k ≡ 0 = omega arith in subst (λ i. IsBracket (slice_index b i)) same opens)
+        | inr le ↦ inr (let same : k ≡ 0 = omega arith in subst (λ i. IsBracket (slice_index b i)) same begins)
       ] in
       begins_among by_place b json_bytes (grind arith) (grind (arith, nat_tests))

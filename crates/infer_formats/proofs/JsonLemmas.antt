@@ -1,5 +1,5 @@
 -- The grammar, byte by byte.
-use Rattle.infer_formats.proofs.Common.{◌≡◌, ℕ, zero, suc, ◌≤◌, ◌⊎◌, inl, inr, ◌↔◌, codes, List, [], ◌∷◌, ◌++◌, refl, subst, arith, Symbol, range, blanks, value, items, members, chars, escape, hex, whole, fraction, exponent, power, digits, exact, IsAmong, Stands, one, by_rule, rules}
+use Rattle.infer_formats.proofs.Common.{◌≡◌, ℕ, zero, suc, ◌≤◌, ◌⊎◌, inl, inr, ◌↔◌, codes, List, [], ◌∷◌, ◌++◌, refl, subst, arith, Symbol, range, blanks, value, items, members, chars, escape, hex, integer, fraction, exponent, power, digits, exact, IsAmong, Stands, one, by_rule, rules}
 
 abbrev AnyOf : (List Symbol → Type 0) → List (List Symbol) → Type 0
 AnyOf P [] = ⊥
@@ -32,10 +32,10 @@ any_map P Q [] f h = h
 any_map P Q (r ∷ rs) f (inl p) = inl (f r p)
 any_map P Q (r ∷ rs) f (inr h) = inr (any_map P Q rs f h)
 
-opens : {a : Symbol} {ss : List Symbol} {x : ℕ} {v : List ℕ} → Stands (a ∷ ss) (x ∷ v)
+splits : {a : Symbol} {ss : List Symbol} {x : ℕ} {v : List ℕ} → Stands (a ∷ ss) (x ∷ v)
     → IsByte a x (Stands ss v) ⊎ AnyOf (λ r. Stands (r ++ ss) (x ∷ v)) (rules a)
-opens (one l h d) = inl (l, h, d)
-opens {a} {ss} {x} {v} (by_rule r m d) = inr (any_among (λ r. Stands (r ++ ss) (x ∷ v)) (rules a) r m d)
+splits (one l h d) = inl (l, h, d)
+splits {a} {ss} {x} {v} (by_rule r m d) = inr (any_among (λ r. Stands (r ++ ss) (x ∷ v)) (rules a) r m d)
 
 by_byte : (a : Symbol) (ss : List Symbol) (x : ℕ) (v : List ℕ) → IsByte a x (Stands ss v) → Stands (a ∷ ss) (x ∷ v)
 by_byte (range low high) ss x v (l, h, d) = one l h d
@@ -45,7 +45,7 @@ pub begins : (k x : ℕ) (v : List ℕ) (ss : List Symbol) → Stands ss (x ∷ 
 begins zero x v ss = (λ d. d, λ d. d)
 begins (suc k) x v [] = (λ d. elim d [ ], λ d. elim d [ ])
 begins (suc k) x v (a ∷ ss) = (
-  λ d. elim (opens d) [
+  λ d. elim (splits d) [
     | inl b ↦ inl b
     | inr h ↦ inr (any_map (λ r. Stands (r ++ ss) (x ∷ v)) (λ r. Begins k x v (r ++ ss)) (rules a)
         (λ r p. (begins k x v (r ++ ss)).0 p) h)
@@ -71,8 +71,8 @@ module _ (x : ℕ) (ss : List Symbol) (v : List ℕ) where
   pub hex_begins : Stands (hex ∷ ss) (x ∷ v) ↔ Begins 2 x v (hex ∷ ss)
   hex_begins = begins 2 x v (hex ∷ ss)
 
-  pub whole_begins : Stands (whole ∷ ss) (x ∷ v) ↔ Begins 2 x v (whole ∷ ss)
-  whole_begins = begins 2 x v (whole ∷ ss)
+  pub integer_begins : Stands (integer ∷ ss) (x ∷ v) ↔ Begins 2 x v (integer ∷ ss)
+  integer_begins = begins 2 x v (integer ∷ ss)
 
   pub power_begins : Stands (power ∷ ss) (x ∷ v) ↔ Begins 2 x v (power ∷ ss)
   power_begins = begins 2 x v (power ∷ ss)
@@ -92,7 +92,7 @@ abbrev pub ValueBegins : ℕ → List ℕ → List Symbol → Type 0
 ValueBegins x v ss =
     ((x ≡ 0x74) × Stands (exact (codes "rue") ++ ss) v) ⊎ ((x ≡ 0x66) × Stands (exact (codes "alse") ++ ss) v)
     ⊎ ((x ≡ 0x6E) × Stands (exact (codes "ull") ++ ss) v) ⊎ ((x ≡ 0x22) × Stands (chars ∷ ss) v)
-    ⊎ ((x ≡ 0x2D) × Stands (whole ∷ fraction ∷ exponent ∷ ss) v) ⊎ ((x ≡ 0x30) × Stands (fraction ∷ exponent ∷ ss) v)
+    ⊎ ((x ≡ 0x2D) × Stands (integer ∷ fraction ∷ exponent ∷ ss) v) ⊎ ((x ≡ 0x30) × Stands (fraction ∷ exponent ∷ ss) v)
     ⊎ ((0x31 ≤ x) × (x ≤ 0x39) × Stands (digits ∷ fraction ∷ exponent ∷ ss) v)
 
 pub value_begins : (n x : ℕ) (ss : List Symbol) (v : List ℕ) → ¬ (x ≡ 0x5B) → ¬ (x ≡ 0x7B)

@@ -10,8 +10,8 @@ pub mod LeadLemmas
 pub mod LineLemmas
 pub mod MarkupLemmas
 pub mod NearLemmas
+pub mod OneTextLemmas
 pub mod OnwardLemmas
-pub mod OpenJsonLemmas
 pub mod OpenLemmas
 pub mod OutlineLemmas
 pub mod PartLemmas

@@ -22,8 +22,8 @@ some_left [] r e f = absurd (grind arith)
 some_left (x ∷ s) r e f = omega arith
 
 -- by their first byte
-pub text_opens : (x : ℕ) (ss : List Symbol) (v : List ℕ) → ¬ IsBracket x → ¬ Stands (text ∷ ss) (x ∷ v)
-text_opens x ss v p d = let f = (begins 2 x v (text ∷ ss)).0 d in grind arith
+pub text_begins : (x : ℕ) (ss : List Symbol) (v : List ℕ) → ¬ IsBracket x → ¬ Stands (text ∷ ss) (x ∷ v)
+text_begins x ss v p d = let f = (begins 2 x v (text ∷ ss)).0 d in grind arith
 
 line_goes_on : (x : ℕ) (v : List ℕ) → IsBlank x → ¬ (x ≡ 0x0A) → Stands (same_line ∷ []) (x ∷ v)
     ↔ Stands (same_line ∷ []) v
@@ -39,7 +39,7 @@ line_stops x v h d = let f = (begins 2 x v (same_line ∷ [])).0 d in grind arit
 next_blank : (x : ℕ) (v : List ℕ) → IsBlank x → Stands (next_line ∷ []) (x ∷ v) ↔ Stands (next_line ∷ []) v
 next_blank x v h =
     let b = begins 2 x v (next_line ∷ []) in
-    let none = text_opens x (same_line ∷ []) v (λ o. grind arith) in
+    let none = text_begins x (same_line ∷ []) v (λ o. grind arith) in
     let c = begins 1 x v (text ∷ same_line ∷ []) in
     (λ d. let f = b.0 d in grind arith, λ d. b.1 (grind arith))
 
@@ -65,7 +65,7 @@ abbrev pub NoBlank : List Symbol → Type 0
 NoBlank ss = (x : ℕ) (v : List ℕ) → IsBlank x → ¬ Stands ss (x ∷ v)
 
 pub text_no_blank : (ss : List Symbol) → NoBlank (text ∷ ss)
-text_no_blank ss x v h = text_opens x ss v (λ o. grind arith)
+text_no_blank ss x v h = text_begins x ss v (λ o. grind arith)
 
 none_no_blank : NoBlank []
 none_no_blank x v h d = elim d [ ]
@@ -287,14 +287,14 @@ lines_none b s Line.Cut p h is d = ((lines_past b s p).0 d).1 h.1
 lines_none b s Line.Wrong p h is d = h.0 ((lines_past b s p).0 d).0
 
 -- lines open with a bracket
-pub lines_open : (b s rest : List ℕ) (x : ℕ) → IsPast b s → s ≡ x ∷ rest → ¬ IsBracket x → ¬ BeginsLines b
-lines_open b s rest x p e never d =
-    let (v, stands) = subst (CanBe (text ∷ same_line ∷ [])) e ((lines_past b s p).0 d).0 in text_opens x (same_line ∷ []) (rest ++ v) never stands
+pub lines_begin : (b s rest : List ℕ) (x : ℕ) → IsPast b s → s ≡ x ∷ rest → ¬ IsBracket x → ¬ BeginsLines b
+lines_begin b s rest x p e never d =
+    let (v, stands) = subst (CanBe (text ∷ same_line ∷ [])) e ((lines_past b s p).0 d).0 in text_begins x (same_line ∷ []) (rest ++ v) never stands
 
 -- past a mark
 pub mark_stops : (ss : List Symbol) (v : List ℕ) → ¬ Stands (blanks ∷ text ∷ ss) (0xEF ∷ v)
 mark_stops ss v d =
-    text_opens 0xEF ss v (λ o. elim o [ inl e ↦ omega arith | inr e ↦ omega arith ])
+    text_begins 0xEF ss v (λ o. elim o [ inl e ↦ omega arith | inr e ↦ omega arith ])
     ((blank_skip 0xEF (text ∷ ss) v (λ b. grind arith)).0 d)
 
 past_mark : (P : List ℕ → Type 0) (b w : List ℕ) → ((u : List ℕ) → ¬ P (0xEF ∷ u)) → IsPastMark b w → P w

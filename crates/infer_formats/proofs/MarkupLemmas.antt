@@ -1,8 +1,8 @@
 -- The parts of a prolog, the tag that they lead to, the name of the document type, and what more bytes may make of them.
-use Rattle.infer_formats.proofs.Common.{◌≡◌, ◌↔◌, ℕ, ◌+◌, ◌-◌, ◌<◌, ◌≤◌, ◌⊎◌, inl, inr, List, ◌++◌, Option, None, Some, length, codes, get_or, add-zero, refl, sym, subst, ap, ◌∙◌, arith, cases_lt, ext_get_or, slice_range, OccursAt, Lasts, AgreesWithDoctype, BeginsAt, BeginsElement, ClosesDeclaration, HasRoot, HasRootWith, IsDoctype, IsEnclosed, IsMisc, IsPart, IsRootElement, IsSpaceRun, IsTypeByte, IsXmlSpace, LeadsToTag, OpensTag, utf8_mark, IsAfterLast, IsRun, zero, suc, drop, get_or_append_left, AgreesAt, MayBecome, grown_agrees, OccursAt-front, HasInTag, drop-append-le, IsFirstPlace-same, IsNameByte, MayReachTag}
-use Rattle.infer_formats.specs.Markup.{OpensElement, here, later}
+use Rattle.infer_formats.proofs.Common.{◌≡◌, ◌↔◌, ℕ, ◌+◌, ◌-◌, ◌<◌, ◌≤◌, ◌⊎◌, inl, inr, List, ◌++◌, Option, None, Some, length, codes, get_or, add-zero, refl, sym, subst, ap, ◌∙◌, arith, cases_lt, ext_get_or, slice_range, OccursAt, Lasts, AgreesWithDoctype, BeginsAt, BeginsElement, ClosesDeclaration, HasRoot, HasRootWith, IsDoctype, IsEnclosed, IsMisc, IsPart, IsRootElement, IsSpaceRun, IsTypeByte, IsXmlSpace, ReachesTag, StartsTag, utf8_mark, IsAfterLast, IsRun, zero, suc, drop, get_or_append_left, AgreesAt, MayBecome, grown_agrees, OccursAt-front, HasInTag, drop-append-le, IsFirstPlace-same, IsNameByte, MayReachTag, part_reads}
+use Rattle.infer_formats.specs.Markup.{StartsElement, here, later}
 use Rattle.infer_formats.proofs.FrontLemmas.{SharesFront, after_last_shared, byte_shared, byte_shared_back, front_grows, front_swaps, range_shared, run_shared, text_shared}
-use Rattle.infer_formats.proofs.PartLemmas.{part_length, part_reads}
+use Rattle.infer_formats.proofs.PartLemmas.{part_length}
 use Rattle.infer_formats.proofs.RunLemmas.{one_after_last, one_run_end}
 
 -- what the first bytes of a part are
@@ -21,7 +21,7 @@ comment_first b p q (o, end) =
 doctype_first : (b : List ℕ) (p name close : ℕ) → IsDoctype b p name close
     → (get_or b p 0 ≡ 0x3C) × (get_or b (p + 1) 0 ≡ 0x21) × (get_or b (p + 2) 0 ≡ 0x44)
 doctype_first b p name close d =
-    let o = d.opens in (rw add-zero at (o.reads 0 (omega arith)), o.reads 1 (omega arith), o.reads 2 (omega arith))
+    let o = d.starts in (rw add-zero at (o.reads 0 (omega arith)), o.reads 1 (omega arith), o.reads 2 (omega arith))
 
 -- "<" is no white space
 pub not_space : (x : ℕ) → x ≡ 0x3C → ¬ IsXmlSpace x
@@ -81,50 +81,50 @@ part_within b p d q e (inr (name, close, doctype, none, ends, is)) =
     let order = doctype.closes.0.order in
     let whole = doctype.closes.0.whole in (omega (arith, space.0), omega arith)
 
-no_tag : (b : List ℕ) (at to p : ℕ) (d : Option ℕ) (q : ℕ) (e : Option ℕ) → IsPart b p d q e → ¬ OpensTag b at to p d
-no_tag b at to p d q e (inl (inl s, is)) tag = not_space _ tag.opens (space_first b p q s)
+no_tag : (b : List ℕ) (at to p : ℕ) (d : Option ℕ) (q : ℕ) (e : Option ℕ) → IsPart b p d q e → ¬ StartsTag b at to p d
+no_tag b at to p d q e (inl (inl s, is)) tag = not_space _ tag.starts (space_first b p q s)
 no_tag b at to p d q e (inl (inr (inl i), is)) tag = tag.begins.1 (instruction_first b p q i).1
 no_tag b at to p d q e (inl (inr (inr c), is)) tag = tag.begins.0 (comment_first b p q c).1
 no_tag b at to p d q e (inr (name, close, doctype, none, ends, is)) tag =
     tag.begins.0 (doctype_first b p name close doctype).1
 
 -- the ways to a tag
-pub ways : (b : List ℕ) (at to p : ℕ) (d : Option ℕ) → LeadsToTag b at to p d
-    → OpensTag b at to p d ⊎ ((q : ℕ) × ((e : Option ℕ) × IsPart b p d q e × LeadsToTag b at to q e))
+pub ways : (b : List ℕ) (at to p : ℕ) (d : Option ℕ) → ReachesTag b at to p d
+    → StartsTag b at to p d ⊎ ((q : ℕ) × ((e : Option ℕ) × IsPart b p d q e × ReachesTag b at to q e))
 ways b at to p d (here _ _ tag) = inl tag
 ways b at to p d (later _ _ q e is rest) = inr (q, (e, is, rest))
 
 -- one leads past a part that stands there
 pub past_part : (b : List ℕ) (at to p : ℕ) (d : Option ℕ) (q : ℕ) (e : Option ℕ) → IsPart b p d q e
-    → LeadsToTag b at to p d ↔ LeadsToTag b at to q e
+    → ReachesTag b at to p d ↔ ReachesTag b at to q e
 past_part b at to p d q e is = (
   λ leads. elim (ways b at to p d leads) [
     | inl tag ↦ absurd (no_tag b at to p d q e is tag)
     | inr (r, (f, other, rest)) ↦
         let same = one_part b p d r f q e other is in
-        subst (λ x. LeadsToTag b at to x e) same.0 (subst (λ y. LeadsToTag b at to r y) same.1 rest)
+        subst (λ x. ReachesTag b at to x e) same.0 (subst (λ y. ReachesTag b at to r y) same.1 rest)
   ],
   λ rest. later p d q e is rest,
 )
 
--- where no part stands, the tag opens
+-- where no part stands, the tag starts
 pub past_none : (b : List ℕ) (at to p : ℕ) (d : Option ℕ) → ((q : ℕ) (e : Option ℕ) → ¬ IsPart b p d q e)
-    → LeadsToTag b at to p d ↔ OpensTag b at to p d
+    → ReachesTag b at to p d ↔ StartsTag b at to p d
 past_none b at to p d none = (
   λ leads. elim (ways b at to p d leads) [ inl tag ↦ tag | inr (q, (e, is, rest)) ↦ absurd (none q e is) ],
   λ tag. here p d tag,
 )
 
--- one tag opens at a place
-pub one_tag : (b : List ℕ) (at to from end p : ℕ) (d : Option ℕ) → OpensTag b at to p d
-    → OpensTag b from end p d → (at ≡ from) × (to ≡ end)
+-- one tag starts at a place
+pub one_tag : (b : List ℕ) (at to from end p : ℕ) (d : Option ℕ) → StartsTag b at to p d
+    → StartsTag b from end p d → (at ≡ from) × (to ≡ end)
 one_tag b at to from end p d t u =
     let same = one_run_end IsNameByte b (p + 1) to end t.name u.name in
     let moved = subst (λ x. IsAfterLast 0x3A b (p + 1) x at) same t.local in
     (one_after_last 0x3A b (p + 1) end at from moved u.local, same)
 
 -- so a place leads to one
-pub one_lead : (b : List ℕ) (at to from end p : ℕ) (d : Option ℕ) → LeadsToTag b at to p d → LeadsToTag b from end p d
+pub one_lead : (b : List ℕ) (at to from end p : ℕ) (d : Option ℕ) → ReachesTag b at to p d → ReachesTag b from end p d
     → (at ≡ from) × (to ≡ end)
 one_lead b at to from end p d (here _ _ t) other = elim (ways b from end p d other) [
   | inl u ↦ one_tag b at to from end p d t u
@@ -185,27 +185,27 @@ no_misc b p no_space no_instruction no_comment q (inr (inl instruction)) = no_in
 no_misc b p no_space no_instruction no_comment q (inr (inr comment)) = no_comment q comment
 
 -- where the name of an element begins behind "<" none of them does
-pub no_misc_opened : (b : List ℕ) (p : ℕ) → OpensElement b p → (q : ℕ) → ¬ IsMisc b p q
-no_misc_opened b p (within, tag, (no_mark, no_question)) q (inl space) = not_space _ tag (space_first b p q space)
-no_misc_opened b p (within, tag, (no_mark, no_question)) q (inr (inl i)) = no_question (instruction_first b p q i).1
-no_misc_opened b p (within, tag, (no_mark, no_question)) q (inr (inr c)) = no_mark (comment_first b p q c).1
+pub no_misc_started : (b : List ℕ) (p : ℕ) → StartsElement b p → (q : ℕ) → ¬ IsMisc b p q
+no_misc_started b p (within, tag, (no_mark, no_question)) q (inl space) = not_space _ tag (space_first b p q space)
+no_misc_started b p (within, tag, (no_mark, no_question)) q (inr (inl i)) = no_question (instruction_first b p q i).1
+no_misc_started b p (within, tag, (no_mark, no_question)) q (inr (inr c)) = no_mark (comment_first b p q c).1
 
 -- nor any part, where no document type was declared
-pub opened_undeclared : (b : List ℕ) (p : ℕ) → OpensElement b p → (q : ℕ) (e : Option ℕ) → ¬ IsPart b p None q e
-opened_undeclared b p opens = no_part b p None (no_misc_opened b p opens)
-    (λ none name close doctype. let (within, tag, (no_mark, no_question)) = opens in no_mark (doctype_first b p name close doctype).1)
+pub started_undeclared : (b : List ℕ) (p : ℕ) → StartsElement b p → (q : ℕ) (e : Option ℕ) → ¬ IsPart b p None q e
+started_undeclared b p starts = no_part b p None (no_misc_started b p starts)
+    (λ none name close doctype. let (within, tag, (no_mark, no_question)) = starts in no_mark (doctype_first b p name close doctype).1)
 
 -- a tag is led to from before white space as from behind it
 pub spaces_lead : (b : List ℕ) (at to p q : ℕ) (d : Option ℕ) → p ≤ q → ((k : ℕ) → p ≤ k → k < q → IsXmlSpace (get_or b k 0))
-    → LeadsToTag b at to p d ↔ LeadsToTag b at to q d
+    → ReachesTag b at to p d ↔ ReachesTag b at to q d
 spaces_lead b at to p q d order spaces = elim (cases_lt p q) [
-  | inr late ↦ let same : p ≡ q = omega arith in (λ l. subst (λ x. LeadsToTag b at to x d) same l, λ l. subst (λ x. LeadsToTag b at to x d) (sym same) l)
+  | inr late ↦ let same : p ≡ q = omega arith in (λ l. subst (λ x. ReachesTag b at to x d) same l, λ l. subst (λ x. ReachesTag b at to x d) (sym same) l)
   | inl less ↦
       let space = spaces p (omega arith) less in
-      let to_there : (q < length b) → (¬ IsXmlSpace (get_or b q 0)) → LeadsToTag b at to q d → LeadsToTag b at to p d = λ whole ends leads.
+      let to_there : (q < length b) → (¬ IsXmlSpace (get_or b q 0)) → ReachesTag b at to q d → ReachesTag b at to p d = λ whole ends leads.
       later p d q d (inl (inl (less, record { order = order; bytes = spaces; whole = whole; ends = ends }), refl)) leads in (
         λ leads. elim (ways b at to p d leads) [
-          | inl tag ↦ absurd (not_space _ tag.opens space)
+          | inl tag ↦ absurd (not_space _ tag.starts space)
           | inr (r, (e, part, rest)) ↦ elim part [
             | inl (inl (some, run), is) ↦
                 let far : q ≤ r = elim (cases_lt r q) [ inl early ↦ absurd (run.ends (spaces r (omega arith) early)) | inr le ↦ le ] in
@@ -224,7 +224,7 @@ spaces_lead b at to p q d order spaces = elim (cases_lt p q) [
                         is,
                       )) rest
                   | inr le ↦
-                      let here : r ≡ q = omega arith in subst (λ x. LeadsToTag b at to x d) here (subst (λ x. LeadsToTag b at to r x) is rest)
+                      let here : r ≡ q = omega arith in subst (λ x. ReachesTag b at to x d) here (subst (λ x. ReachesTag b at to r x) is rest)
                 ]
             | inl (inr (inl i), is) ↦ absurd (not_space _ (instruction_first b p r i).0 space)
             | inl (inr (inr c), is) ↦ absurd (not_space _ (comment_first b p r c).0 space)
@@ -232,7 +232,7 @@ spaces_lead b at to p q d order spaces = elim (cases_lt p q) [
           ]
         ],
         λ leads. elim (ways b at to q d leads) [
-          | inl tag ↦ to_there (let order = tag.name.order in let whole = tag.name.whole in omega arith) (not_space _ tag.opens) leads
+          | inl tag ↦ to_there (let order = tag.name.order in let whole = tag.name.whole in omega arith) (not_space _ tag.starts) leads
           | inr (r, (e, part, rest)) ↦
               let within = part_within b q d r e part in
               let inside : q < length b = omega arith in
@@ -258,15 +258,15 @@ spaces_lead b at to p q d order spaces = elim (cases_lt p q) [
       )
 ]
 
--- no tag opens where the name, or what follows its last ":", is no name of an element
+-- no tag starts where the name, or what follows its last ":", is no name of an element
 module _ (b : List ℕ) (p to : ℕ) (d : Option ℕ) (run : IsRun IsNameByte b (p + 1) to) where
-  same_end : (at end : ℕ) → OpensTag b at end p d → end ≡ to
+  same_end : (at end : ℕ) → StartsTag b at end p d → end ≡ to
   same_end at end tag = one_run_end IsNameByte b (p + 1) end to tag.name run
 
-  pub undeclared : (¬ AgreesWithDoctype b d (p + 1) to) → (at end : ℕ) → ¬ OpensTag b at end p d
+  pub undeclared : (¬ AgreesWithDoctype b d (p + 1) to) → (at end : ℕ) → ¬ StartsTag b at end p d
   undeclared other at end tag = other (subst (AgreesWithDoctype b d (p + 1)) (same_end at end tag) tag.agrees)
 
-  pub unnamed : IsAfterLast 0x3A b (p + 1) to to → (at end : ℕ) → ¬ OpensTag b at end p d
+  pub unnamed : IsAfterLast 0x3A b (p + 1) to to → (at end : ℕ) → ¬ StartsTag b at end p d
   unnamed none at end tag =
       let same = same_end at end tag in
       let moved = subst (λ x. IsAfterLast 0x3A b (p + 1) x at) same tag.local in
@@ -318,7 +318,7 @@ module _ (b c : List ℕ) (s : SharesFront (length b) b c) where
         name,
         close,
         record {
-          opens = text_shared (length b) b c s (codes "<!DOCTYPE") p doctype.opens.fits doctype.opens;
+          starts = text_shared (length b) b c s (codes "<!DOCTYPE") p doctype.starts.fits doctype.starts;
           space = space_lasts (p + 9) name doctype.space;
           closes = (
             run_shared (length b) b c s (λ x. (x ≡ 0x3E → ⊥) × (x ≡ 0x5B → ⊥)) name close run.whole run,
@@ -340,11 +340,11 @@ module _ (b c : List ℕ) (s : SharesFront (length b) b c) where
         sym declared ∙ is ∙ range_shared (length b) b c s p q order high,
       )
 
-  pub tag_lasts : (at to p : ℕ) (d : Option ℕ) → OpensTag b at to p d → OpensTag c at to p d
+  pub tag_lasts : (at to p : ℕ) (d : Option ℕ) → StartsTag b at to p d → StartsTag c at to p d
   tag_lasts at to p d t =
       let order = t.name.order in
       let whole = t.name.whole in record {
-        opens = byte_shared (length b) b c s (λ x. x ≡ 0x3C) p (omega arith) t.opens;
+        starts = byte_shared (length b) b c s (λ x. x ≡ 0x3C) p (omega arith) t.starts;
         name = run_shared (length b) b c s IsNameByte (p + 1) to whole t.name;
         begins = byte_shared (length b) b c s BeginsElement (p + 1) (omega arith) t.begins;
         local = after_last_shared (length b) b c s 0x3A (p + 1) to at (omega arith) t.local;
@@ -352,12 +352,12 @@ module _ (b c : List ℕ) (s : SharesFront (length b) b c) where
         agrees = name_lasts d (p + 1) to order (omega arith) t.agrees;
       }
 
-  leads_lasts : (at to p : ℕ) (d : Option ℕ) → LeadsToTag b at to p d → LeadsToTag c at to p d
+  leads_lasts : (at to p : ℕ) (d : Option ℕ) → ReachesTag b at to p d → ReachesTag c at to p d
   leads_lasts at to p d (here _ _ tag) = here p d (tag_lasts at to p d tag)
   leads_lasts at to p d (later _ _ q e is rest) = later p d q e (part_lasts p d q e is) (leads_lasts at to q e rest)
 
 -- the tag is within the buffer
-tag_within : (b : List ℕ) (at to p : ℕ) (d : Option ℕ) → LeadsToTag b at to p d
+tag_within : (b : List ℕ) (at to p : ℕ) (d : Option ℕ) → ReachesTag b at to p d
     → (p + 1 ≤ at) × (at < to) × (to < length b)
 tag_within b at to p d (here _ _ tag) = (tag.local.low, tag.some, tag.name.whole)
 tag_within b at to p d (later _ _ q e is rest) =
@@ -411,40 +411,40 @@ begin_stays b more start other begins = elim (cases_lt (length b) 3) [
 ]
 
 -- where no part stands, a tag that comes may open, or white space goes on to the end of b
-reaches : (b more : List ℕ) (p at to : ℕ) (d : Option ℕ) → ((q : ℕ) (e : Option ℕ) → ¬ IsPart b p d q e) → LeadsToTag (b ++ more) at to p d → MayReachTag b p
+reaches : (b more : List ℕ) (p at to : ℕ) (d : Option ℕ) → ((q : ℕ) (e : Option ℕ) → ¬ IsPart b p d q e) → ReachesTag (b ++ more) at to p d → MayReachTag b p
 reaches b more p at to d stuck leads = elim (ways (b ++ more) at to p d leads) [
-  | inl tag ↦ inr (opened tag.opens)
+  | inl tag ↦ inr (started tag.starts)
   | inr (q, (e, inl (inl (some, run), same), rest)) ↦ elim (cases_lt q (length b)) [
     | inl lt ↦ absurd (stuck q d (inl (inl (some, run_shared (length b) (b ++ more) b back IsXmlSpace p q lt run), refl)))
     | inr far ↦ inl (λ k low lt. subst IsXmlSpace (get_or_append_left b more 0 k lt) (run.bytes k low (omega arith)))
   ]
-  | inr (q, (e, inl (inr (inl i), same), rest)) ↦ inr (opened (instruction_first (b ++ more) p q i).0)
-  | inr (q, (e, inl (inr (inr c), same), rest)) ↦ inr (opened (comment_first (b ++ more) p q c).0)
-  | inr (q, (e, inr (name, close, doctype, none, ends, same), rest)) ↦ inr (opened (doctype_first (b ++ more) p name close doctype).0)
+  | inr (q, (e, inl (inr (inl i), same), rest)) ↦ inr (started (instruction_first (b ++ more) p q i).0)
+  | inr (q, (e, inl (inr (inr c), same), rest)) ↦ inr (started (comment_first (b ++ more) p q c).0)
+  | inr (q, (e, inr (name, close, doctype, none, ends, same), rest)) ↦ inr (started (doctype_first (b ++ more) p name close doctype).0)
 ]
   where
     back : SharesFront (length b) (b ++ more) b
     back = front_swaps (length b) b (b ++ more) (front_grows b more)
 
-    opened : get_or (b ++ more) p 0 ≡ 0x3C → AgreesAt b (codes "<") p
-    opened is = record { reads = go }
+    started : get_or (b ++ more) p 0 ≡ 0x3C → AgreesAt b (codes "<") p
+    started is = record { reads = go }
       where
         go : (k : ℕ) → k < 1 → p + k < length b → get_or b (p + k) 0 ≡ get_or (codes "<") k 0
         go zero lt within = let here = get_or_append_left b more 0 p (omega arith) in rw add-zero (sym here ∙ is)
         go (suc k) lt within = absurd (omega arith)
 
 pub root_reached : (b name : List ℕ) (start p : ℕ) (d : Option ℕ) → ¬ ((length b < 3) × AgreesAt b utf8_mark 0) → BeginsAt b start
-    → ((more : List ℕ) (at to : ℕ) → LeadsToTag (b ++ more) at to start None ↔ LeadsToTag (b ++ more) at to p d)
+    → ((more : List ℕ) (at to : ℕ) → ReachesTag (b ++ more) at to start None ↔ ReachesTag (b ++ more) at to p d)
     → ((q : ℕ) (e : Option ℕ) → ¬ IsPart b p d q e) → MayBecome (HasRoot name) b → MayReachTag b p
 root_reached b name start p d other begins grown stuck (more, bytes, (rest, (q, at, to, begin, leads, is, behind))) =
     let same = one_begin (b ++ more) q start begin (begin_stays b more start other begins) in
-    reaches b more p at to d stuck ((grown more at to).0 (subst (λ x. LeadsToTag (b ++ more) at to x None) same leads))
+    reaches b more p at to d stuck ((grown more at to).0 (subst (λ x. ReachesTag (b ++ more) at to x None) same leads))
 
 -- there is one
 pub one_root : (c n rest m other : List ℕ) → IsRootElement n rest c → IsRootElement m other c → (n ≡ m) × (rest ≡ other)
 one_root c n rest m other (p, at, to, begins, leads, is, behind) (q, from, end, begin, lead, same, after) =
     let start = one_begin c q p begin begins in
-    let both = one_lead c at to from end p None leads (subst (λ x. LeadsToTag c from end x None) start lead) in (
+    let both = one_lead c at to from end p None leads (subst (λ x. ReachesTag c from end x None) start lead) in (
       is ∙ ap (λ x. slice_range c x to) both.0 ∙ ap (slice_range c from) both.1 ∙ sym same,
       behind ∙ ap (λ x. drop x c) both.1 ∙ sym after,
     )

@@ -1,5 +1,5 @@
 -- The bytes of a buffer that grows, and numbers as texts.
-use Rattle.infer_formats.proofs.Common.{IsTrue, ◌≡◌, Bool, true, false, add-zero, inl, inr, ℕ, zero, suc, ◌+◌, ◌/◌, ◌%◌, ◌<◌, ◌≤◌, List, ◌++◌, length, get_or, sym, subst, arith, cases_lt, get_or-eq_default, le16, OccursAt, are_bytes, be16, bytes16, number16, IsBytes}
+use Rattle.infer_formats.proofs.Common.{IsTrue, ◌≡◌, Bool, true, false, add-zero, inl, inr, ℕ, zero, suc, ◌+◌, ◌/◌, ◌%◌, ◌<◌, ◌≤◌, List, ◌++◌, length, get_or, sym, subst, arith, cases_lt, get_or-eq_default, le16, OccursAt, are_bytes, be16, bytes16, number16, IsBytes, MayBe, get_or_append_left, slice_index}
 use Rattle.std.proofs.lemmas.List.Elements.{All-append}
 use Rattle.infer_deep.proofs.OpenLemmas.{bytes_from_test}
 
@@ -8,6 +8,10 @@ grown_byte b more p h bytes = elim (cases_lt p (length (b ++ more))) [
   | inl l ↦ All-append (λ x. x < 256) b more (bytes_from_test b h) bytes p 0 l
   | inr l ↦ subst (λ x. x < 256) (sym (get_or-eq_default (b ++ more) 0 l)) (omega arith)
 ]
+
+-- what is told of a byte of a longer buffer is so of b as far as it goes
+pub known : (b more : List ℕ) (P : ℕ → Type 0) (p : ℕ) → P (slice_index (b ++ more) p) → MayBe P b p
+known b more P p h lt = subst P (get_or_append_left b more 0 p lt) h
 
 -- ---- numbers as texts
 

@@ -1,11 +1,7 @@
 -- What the bytes of a part of a buffer say of the buffer.
-use Rattle.infer_formats.proofs.Common.{◌≡◌, ℕ, ◌+◌, ◌-◌, ◌<◌, ◌≤◌, List, length, get_or, take, drop, sym, ap, ◌∙◌, ◌↔◌, arith, eq-eqb, length-drop, Option, Some, None, is_some, IsTrue, refl, eqb-true, get_or-take, get_or-drop, IsFirstByte, Nowhere, Passes, is_byte, length-take}
+use Rattle.infer_formats.proofs.Common.{◌≡◌, ℕ, ◌+◌, ◌-◌, ◌<◌, ◌≤◌, List, length, get_or, take, drop, sym, ap, ◌∙◌, ◌↔◌, arith, eq-eqb, length-drop, Option, Some, None, is_some, IsTrue, refl, eqb-true, IsFirstByte, Nowhere, Passes, is_byte, length-take, part_reads}
 
--- the bytes of a part from s to e
-pub part_reads : (b : List ℕ) (s e i : ℕ) → s + i < e → get_or (take (e - s) (drop s b)) i 0 ≡ get_or b (s + i) 0
-part_reads b s e i l = get_or-take (e - s) (drop s b) i 0 (omega arith) ∙ get_or-drop s b i 0
-
--- and its length
+-- the length of a part from s to e
 pub part_length : (b : List ℕ) (s e : ℕ) → s ≤ e → e ≤ length b → length (take (e - s) (drop s b)) ≡ e - s
 part_length b s e l h = simp (length-take, length-drop) (omega arith)
 

@@ -1,5 +1,5 @@
 -- What is left of a text, byte by byte.
-use Rattle.infer_formats.proofs.Common.{◌≡◌, ℕ, zero, suc, ◌+◌, ◌-◌, ◌*◌, ◌/◌, ◌%◌, ◌^◌, ◌≤◌, ◌<◌, ◌⊎◌, inl, inr, ◌↔◌, Bool, true, false, List, ◌∷◌, refl, sym, subst, ap, ◌∙◌, arith, Symbol, blanks, value, items, more_items, members, member, more_members, chars, text, byte, Stands, first_in, more_in, next_left, IsOpen, frames, due_left, EndsNumber, Reads, Due, First, Value, Key, Colon, After, Next, Closed, Between, Reader, IsBlank, opening, closing, IsClosedTo, MayGoOn}
+use Rattle.infer_formats.proofs.Common.{◌≡◌, ℕ, zero, suc, ◌+◌, ◌-◌, ◌*◌, ◌/◌, ◌%◌, ◌^◌, ◌≤◌, ◌<◌, ◌⊎◌, inl, inr, ◌↔◌, Bool, true, false, List, ◌∷◌, refl, sym, subst, ap, ◌∙◌, arith, Symbol, blanks, value, items, more_items, members, member, more_members, chars, text, byte, Stands, first_in, more_in, next_left, IsNested, frames, due_left, EndsNumber, Reads, Due, First, Value, Key, Colon, After, Next, Closed, Between, Reader, IsBlank, beginning, closing, IsClosedTo, MayGoOn}
 use Rattle.std.proofs.Math.Nat.{pow-le-pow_right}
 use Rattle.std.proofs.lemmas.Grind.{pow_more}
 use Rattle.infer_formats.proofs.JsonLemmas.{begins, range_begins, value_begins, array_begins, object_begins, none_nested}
@@ -167,10 +167,10 @@ pub between_left : (due : Due) (d k : ℕ) (ss : List Symbol) → 1 ≤ d
 between_left After d k ss l = frames_open d k ss l
 between_left _ d k ss l = refl
 
-pub reads_closed : (before : List Symbol → List Symbol) (x : ℕ) (old new : Reader) → IsOpen old → IsClosedTo old new
+pub reads_closed : (before : List Symbol → List Symbol) (x : ℕ) (old new : Reader) → IsNested old → IsClosedTo old new
     → ((ss : List Symbol) (v : List ℕ) → Stands (before ss) (x ∷ v)
     ↔ Stands (frames (old.depth - 1) (old.kinds / 2) ss) v) → Reads before x new true
-reads_closed before x old new opened closed h =
+reads_closed before x old new nested closed h =
     let same = λ (ss : List Symbol).
     let F : Next → ℕ → ℕ → List Symbol = λ n d k. next_left n d k ss in
     let P : List Symbol → Type 0 = λ rest. (v : List ℕ) → Stands (before ss) (x ∷ v) ↔ Stands rest v in
@@ -185,59 +185,59 @@ bits_fit d k b l f g =
     let q = pow-le-pow_right {n = 2} (omega arith) {i = d + 1} {j = 128} (omega arith) in
     (omega arith, q)
 
-brackets : (b : ℕ) → (opening b ≡ 0x5B) ⊎ (opening b ≡ 0x7B)
+brackets : (b : ℕ) → (beginning b ≡ 0x5B) ⊎ (beginning b ≡ 0x7B)
 brackets zero = inl refl
 brackets (suc b) = inr refl
 
-pub opens_no_more : (d k b : ℕ) (ss : List Symbol) (v : List ℕ) → d ≡ 128
-    → ¬ Stands (due_left Value d k ss) (opening b ∷ v)
-opens_no_more d k b ss v e s =
+pub enters_no_more : (d k b : ℕ) (ss : List Symbol) (v : List ℕ) → d ≡ 128
+    → ¬ Stands (due_left Value d k ss) (beginning b ∷ v)
+enters_no_more d k b ss v e s =
     let same : 128 - d ≡ 0 = omega arith in
-    let given = subst (λ n. Stands (value n ∷ frames d k ss) (opening b ∷ v)) same s in
-    none_nested (opening b) (frames d k ss) v (brackets b) given
+    let given = subst (λ n. Stands (value n ∷ frames d k ss) (beginning b ∷ v)) same s in
+    none_nested (beginning b) (frames d k ss) v (brackets b) given
 
-opens_first : (b n : ℕ) (ss : List Symbol) (v : List ℕ) → Stands (value (suc n) ∷ ss) (opening b ∷ v)
+begins_first : (b n : ℕ) (ss : List Symbol) (v : List ℕ) → Stands (value (suc n) ∷ ss) (beginning b ∷ v)
     ↔ Stands (blanks ∷ first_in b n ∷ ss) v
-opens_first zero n ss v = array_begins n ss v
-opens_first (suc b) n ss v = object_begins n ss v
+begins_first zero n ss v = array_begins n ss v
+begins_first (suc b) n ss v = object_begins n ss v
 
-pub opens_more : (d k b : ℕ) (ss : List Symbol) (v : List ℕ) → d < 128 → b ≤ 1
-    → Stands (due_left Value d k ss) (opening b ∷ v) ↔ Stands (blanks ∷ due_left First (d + 1) (2 * k + b) ss) v
-opens_more d k b ss v l g =
+pub enters_more : (d k b : ℕ) (ss : List Symbol) (v : List ℕ) → d < 128 → b ≤ 1
+    → Stands (due_left Value d k ss) (beginning b ∷ v) ↔ Stands (blanks ∷ due_left First (d + 1) (2 * k + b) ss) v
+enters_more d k b ss v l g =
     let less : suc (128 - (d + 1)) ≡ 128 - d = omega arith in
     let kind : b ≡ (2 * k + b) % 2 = omega arith in
     let rest : k ≡ (2 * k + b) / 2 = omega arith in
     let outer : d ≡ d + 1 - 1 = omega arith in
-    let base = opens_first b (128 - (d + 1)) (frames d k ss) v in
+    let base = begins_first b (128 - (d + 1)) (frames d k ss) v in
     let first =
-    subst (λ n. Stands (value n ∷ frames d k ss) (opening b ∷ v)
+    subst (λ n. Stands (value n ∷ frames d k ss) (beginning b ∷ v)
     ↔ Stands (blanks ∷ first_in b (128 - (d + 1)) ∷ frames d k ss) v) less base in
     let second =
-    subst (λ c. Stands (value (128 - d) ∷ frames d k ss) (opening b ∷ v)
+    subst (λ c. Stands (value (128 - d) ∷ frames d k ss) (beginning b ∷ v)
     ↔ Stands (blanks ∷ first_in c (128 - (d + 1)) ∷ frames d k ss) v) kind first in
     let third =
-    subst (λ j. Stands (value (128 - d) ∷ frames d k ss) (opening b ∷ v)
+    subst (λ j. Stands (value (128 - d) ∷ frames d k ss) (beginning b ∷ v)
     ↔ Stands (blanks ∷ first_in ((2 * k + b) % 2) (128 - (d + 1)) ∷ frames d j ss) v) rest second in
-    subst (λ i. Stands (value (128 - d) ∷ frames d k ss) (opening b ∷ v)
+    subst (λ i. Stands (value (128 - d) ∷ frames d k ss) (beginning b ∷ v)
     ↔ Stands (blanks ∷ first_in ((2 * k + b) % 2) (128 - (d + 1)) ∷ frames i ((2 * k + b) / 2) ss) v) outer third
 
 -- the first bracket of a text
-opens_text : (b : ℕ) (ss : List Symbol) (v : List ℕ) → Stands (text ∷ ss) (opening b ∷ v)
+begins_text : (b : ℕ) (ss : List Symbol) (v : List ℕ) → Stands (text ∷ ss) (beginning b ∷ v)
     ↔ Stands (blanks ∷ first_in b 127 ∷ ss) v
-opens_text zero ss v =
+begins_text zero ss v =
     let b = begins 2 0x5B v (text ∷ ss) in (λ d. let e = b.0 d in grind arith, λ d. b.1 (grind arith))
-opens_text (suc k) ss v =
+begins_text (suc k) ss v =
     let b = begins 2 0x7B v (text ∷ ss) in (λ d. let e = b.0 d in grind arith, λ d. b.1 (grind arith))
 
-pub begun : (b : ℕ) (ss : List Symbol) (v : List ℕ) → b ≤ 1 → Stands (text ∷ ss) (opening b ∷ v)
+pub begun : (b : ℕ) (ss : List Symbol) (v : List ℕ) → b ≤ 1 → Stands (text ∷ ss) (beginning b ∷ v)
     ↔ Stands (blanks ∷ due_left First 1 b ss) v
 begun b ss v g =
     let kind : b ≡ b % 2 = omega arith in
     let outer : 0 ≡ b / 2 = omega arith in
     let P : ℕ → List Symbol → Type 0 =
-    λ c rest. Stands (text ∷ ss) (opening b ∷ v) ↔ Stands (blanks ∷ first_in c 127 ∷ rest) v in
+    λ c rest. Stands (text ∷ ss) (beginning b ∷ v) ↔ Stands (blanks ∷ first_in c 127 ∷ rest) v in
     subst (λ c. P c (frames 0 (b / 2) ss)) kind
-    (subst (λ k. P b (frames 0 k ss)) outer (subst (P b) (sym (frames_none 0 ss)) (opens_text b ss v)))
+    (subst (λ k. P b (frames 0 k ss)) outer (subst (P b) (sym (frames_none 0 ss)) (begins_text b ss v)))
 
 -- the rules of `read_after`, whatever the byte
 pub after_closes : (d k x : ℕ) (ss : List Symbol) (v : List ℕ) → x ≡ closing (k % 2)
@@ -268,14 +268,14 @@ closing_object : (kind : ℕ) → kind ≡ 1 → closing kind ≡ 0x7D
 closing_object zero e = absurd (omega arith)
 closing_object (suc k) e = refl
 
-pub opened_value : (d k x : ℕ) (ss : List Symbol) (v : List ℕ) → 1 ≤ d → ¬ (x ≡ closing (k % 2)) → ¬ (k % 2 ≡ 1)
+pub begun_value : (d k x : ℕ) (ss : List Symbol) (v : List ℕ) → 1 ≤ d → ¬ (x ≡ closing (k % 2)) → ¬ (k % 2 ≡ 1)
     → Stands (due_left First d k ss) (x ∷ v) ↔ Stands (due_left Value d k ss) (x ∷ v)
-opened_value d k x ss v l p q =
+begun_value d k x ss v l p q =
     let z : k % 2 ≡ 0 = omega arith in first_is_value d k x ss v l z (λ e. p (e ∙ sym (closing_array (k % 2) z)))
 
-pub opened_key : (d k x : ℕ) (ss : List Symbol) (v : List ℕ) → 1 ≤ d → ¬ (x ≡ closing (k % 2)) → k % 2 ≡ 1
+pub begun_key : (d k x : ℕ) (ss : List Symbol) (v : List ℕ) → 1 ≤ d → ¬ (x ≡ closing (k % 2)) → k % 2 ≡ 1
     → Stands (due_left First d k ss) (x ∷ v) ↔ Stands (due_left Key d k ss) (x ∷ v)
-opened_key d k x ss v l p z = first_is_key d k x ss v l z (λ e. p (e ∙ sym (closing_object (k % 2) z)))
+begun_key d k x ss v l p z = first_is_key d k x ss v l z (λ e. p (e ∙ sym (closing_object (k % 2) z)))
 
 pub reads_between : (due is : Due) (d k x : ℕ) (r : Reader) (ok : Bool) → due ≡ is → ¬ IsBlank x
     → Reads (due_left is d k) x r ok

@@ -52,7 +52,7 @@ module _ (by_place : (place : ℕ) (t buf : List ℕ) → IsTrue (stands place t
   has_lines (first_entry_has_extra extra) small h = counted_for_lines by_place b extra 28 h.0 (omega arith) h.1
   has_lines (package_with folder) small h = package_lines by_place b folder h.0
   has_lines (class_id id) small (place, r, o) = let le = r.header.fits in begins by_place b 8 _ (omega arith) r.header
-  has_lines (directory_tag tag) small (big, opens, e) = tag_lines by_place b tag big opens
+  has_lines (directory_tag tag) small (big, starts, e) = tag_lines by_place b tag big starts
   has_lines animated small (o, a) = let le = o.fits in begins by_place b 4 png_header (omega arith) o
   has_lines subrip small h = subrip_lines by_place b h
   has_lines dbase small h = dbase_lines by_place b h

@@ -310,8 +310,8 @@ module _ (b : List ℕ) (o : OccursAt b (codes "/usr/bin/env ") 2) where
 pub named_stays : (b n name : List ℕ) → IsProgram n b → MayBecome (IsProgram name) b → n ≡ name
 named_stays b n name is (more, bytes, later) = one_program (b ++ more) n name (IsProgram-lasts n b more is) later
 
-pub opened_so : (b name : List ℕ) → MayBecome (IsProgram name) b → AgreesAt b (codes "#!") 0
-opened_so b name (more, bytes, (o, rest)) = grown_agrees b more (codes "#!") 0 o
+pub begun_so : (b name : List ℕ) → MayBecome (IsProgram name) b → AgreesAt b (codes "#!") 0
+begun_so b name (more, bytes, (o, rest)) = grown_agrees b more (codes "#!") 0 o
 
 -- ---- the bytes that each has
 

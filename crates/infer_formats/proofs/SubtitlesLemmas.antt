@@ -1,7 +1,8 @@
 -- Subtitles: what more bytes keep and may make, and the bytes that each file has.
-use Rattle.infer_formats.proofs.Common.{◌≡◌, ℕ, ◌+◌, ◌<◌, ◌≤◌, List, get_or, arith, AreDigits, EndsLine, IsDigit, ◌⊎◌, inl, inr, ◌-◌, ◌++◌, length, sym, subst, ◌∙◌, get_or-eq_default, cases_lt, get_or_default_zero, get_or_append_left, MayBecome, grown_agrees, IsCue, IsPairAt, IsSubRip, IsTime, ◌∷◌, slice_index, OccursAt-append, ◌↔◌, IsTrue, [], lines, subrip, MayBeCue, MayBeSubRip, MayBeginTime, StandsByPlace, accepts, between, stands, at_least}
+use Rattle.infer_formats.proofs.Common.{◌≡◌, ℕ, ◌+◌, ◌<◌, ◌≤◌, List, get_or, arith, AreDigits, EndsLine, IsDigit, inl, inr, ◌++◌, length, subst, ◌∙◌, cases_lt, MayBecome, grown_agrees, IsCue, IsPairAt, IsSubRip, IsTime, ◌∷◌, slice_index, OccursAt-append, ◌↔◌, IsTrue, [], lines, subrip, MayBeSubRip, StandsByPlace, accepts, between, stands, at_least, add-zero, GoesOn, MayBeginCue}
 use Rattle.infer_sig.specs.Signature.{byte}
 use Rattle.infer_formats.proofs.GrowthLemmas.{there, carried, kept}
+use Rattle.infer_formats.proofs.OpenLemmas.{known}
 use Rattle.infer_formats.proofs.OutlineLemmas.{in_range, one, marked, marked_line}
 
 pub cue_by_count : (b : List ℕ) (p n m t : ℕ) → n ≤ 10 → AreDigits b p n → (n < 10 → ¬ IsDigit (get_or b (p + n) 0))
@@ -55,75 +56,16 @@ module _ (b more : List ℕ) where
 
 -- ---- what more bytes may make
 
--- ---- what the count of the digits tells
-
-pub ends_in_number : (b : List ℕ) (p n : ℕ) → n ≤ 9 → AreDigits b p n → length b ≤ p + n → MayBeCue b p
-ends_in_number b p n few digits short = inl (
-  omega arith,
-  λ k low lt. subst (λ i. IsDigit (get_or b i 0)) (let e : p + (k - p) ≡ k = omega arith in e) (digits (k - p) (omega arith)),
-)
-
-module _ (b : List ℕ) (p n : ℕ) (few : n ≤ 9) (digits : AreDigits b p n) (other : ¬ IsDigit (get_or b (p + n) 0)) (within : p + n < length b) where
-  pub cue_goes_on : MayBeCue b p
-      → ((get_or b (p + n) 0 ≡ 0x0D) × (length b ≡ p + n + 1)) ⊎ ((t : ℕ) × EndsLine b (p + n) t × MayBeginTime b t)
-  cue_goes_on (inl (short, all)) = absurd (other (all (p + n) (omega arith) within))
-  cue_goes_on (inr (inl (m, small, others, cr, ends))) =
-      let shorter = digits m in
-      let longer = others n in
-      let same : m ≡ n = grind arith in
-      inl (subst (λ k. (get_or b (p + k) 0 ≡ 0x0D) × (length b ≡ p + k + 1)) same (cr, ends))
-  cue_goes_on (inr (inr (m, t, small, others, line, span))) =
-      let same = cue_by_count b p n m t (omega arith) digits (λ l. other) small.1 others line in
-      inr (t, subst (λ k. EndsLine b (p + k) t) same line, span)
-
-pub line_same : (b : List ℕ) (e t s : ℕ) → EndsLine b e t → EndsLine b e s → t ≡ s
-line_same b e t s f g = grind arith
-
--- a line whose end is cut ends nowhere yet
-pub cut_line : (b : List ℕ) (e t : ℕ) → get_or b e 0 ≡ 0x0D → length b ≡ e + 1 → ¬ EndsLine b e t
-cut_line b e t cr ends (inl (lf, at)) = omega arith
-cut_line b e t cr ends (inr (x, lf, at)) = let past : get_or b (e + 1) 0 ≡ 0 = get_or-eq_default b 0 (omega arith) in omega arith
-
--- ---- what a cue allows
-
 module _ (b more : List ℕ) where
-  front_or : (P : ℕ → Type 0) (p d : ℕ) → P d → P (get_or (b ++ more) p 0) → P (get_or b p d)
-  front_or P p d right h = elim (cases_lt p (length b)) [
-    | inl l ↦ subst P (get_or_append_left b more 0 p l ∙ sym (get_or_default_zero b p d l)) h
-    | inr l ↦ subst P (sym (get_or-eq_default b d l)) right
-  ]
-
-  front : (P : ℕ → Type 0) (p : ℕ) → p < length b → P (get_or (b ++ more) p 0) → P (get_or b p 0)
-  front P p lt h = subst P (get_or_append_left b more 0 p lt) h
-
-  known_digit : (p : ℕ) → IsDigit (get_or (b ++ more) p 0) → IsDigit (get_or b p 0x30)
-  known_digit p h = front_or IsDigit p 0x30 (omega arith, omega arith) h
-
-  known_cue : (p : ℕ) → IsCue (b ++ more) p → MayBeCue b p
-  known_cue p (n, t, (some, few), digits, line, span) = elim (cases_lt (p + n) (length b)) [
-    | inr short ↦ inl (
-      omega arith,
-      λ k low lt.
-          let here = subst (λ i. IsDigit (get_or (b ++ more) i 0)) (let e : p + (k - p) ≡ k = omega arith in e) (digits (k - p) (omega arith)) in
-          front IsDigit k lt here,
-    )
-    | inl within ↦
-        let kept : AreDigits b p n = λ k lt. front IsDigit (p + k) (omega arith) (digits k lt) in
-        elim line [
-          | inl (lf, at) ↦ inr (inr (n, t, (some, few), kept, inl (front (λ x. x ≡ 0x0A) (p + n) within lf, at), known_digit t span.0.hours.0))
-          | inr (cr, lf, at) ↦ elim (cases_lt (p + n + 1) (length b)) [
-            | inr cut ↦ inr (inl (n, (some, few), kept, front (λ x. x ≡ 0x0D) (p + n) within cr, omega arith))
-            | inl l ↦ inr (inr (
-              n,
-              t,
-              (some, few),
-              kept,
-              inr (front (λ x. x ≡ 0x0D) (p + n) within cr, front (λ x. x ≡ 0x0A) (p + n + 1) l lf, at),
-              known_digit t span.0.hours.0,
-            ))
-          ]
-        ]
-  ]
+  known_cue : (p : ℕ) → IsCue (b ++ more) p → MayBeginCue b p
+  known_cue p (n, t, (some, few), digits, line, span) = (
+    known b more IsDigit p (rw add-zero at (digits 0 some)),
+    known b more GoesOn (p + 1) (elim (cases_lt 1 n) [
+      | inl l ↦ inl (digits 1 l)
+      | inr le ↦ let one : n ≡ 1 = omega arith in
+          subst (λ k. GoesOn (slice_index (b ++ more) (p + k))) one (elim line [ inl (lf, at) ↦ inr (inl lf) | inr (cr, lf, at) ↦ inr (inr cr) ])
+    ]),
+  )
 
 pub subrip_known : (b : List ℕ) → MayBecome IsSubRip b → MayBeSubRip b
 subrip_known b (more, bytes, inl cue) = inl (known_cue b more 0 cue)

@@ -1,5 +1,5 @@
 -- The checksum is all the digits that stand behind the spaces.
-use Rattle.infer_formats.proofs.Common.{◌≡◌, ℕ, ◌+◌, ◌<◌, ◌≤◌, List, get_or, add-zero, subst, arith, IsField, IsOctal, octal, inl, inr, zero, suc, ◌-◌, ◌++◌, length, refl, sym, ◌∙◌, cases_lt, get_or_append_left, MayBecome, HasTarChecksum, header_sum, sum_from, true, length-append, slice_index, OccursAt, behind, ◌↔◌, IsTrue, and_from, le-leb, or_left, or_right, get_or-replicate, length-replicate, nat_le, replicate, digit_behind, digits_behind, lines, tar_checksum, StandsByPlace, accepts, fits, stands}
+use Rattle.infer_formats.proofs.Common.{◌≡◌, ℕ, ◌+◌, ◌<◌, ◌≤◌, List, get_or, add-zero, subst, arith, IsField, IsOctal, octal, inl, inr, zero, suc, ◌-◌, ◌++◌, length, refl, sym, ◌∙◌, cases_lt, get_or_append_left, MayBecome, HasTarChecksum, header_sum, sum_from, true, length-append, slice_index, OccursAt, ◌↔◌, IsTrue, and_from, le-leb, or_left, or_right, get_or-replicate, length-replicate, nat_le, replicate, digit_behind, digits_behind, lines, tar_checksum, StandsByPlace, accepts, fits, stands}
 use Rattle.infer_formats.specs.Tar.{HasField}
 use Rattle.infer_formats.proofs.OutlineLemmas.{in_range, occurs}
 

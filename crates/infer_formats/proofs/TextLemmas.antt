@@ -1,10 +1,9 @@
 -- Text and binary data, block by block: what more bytes keep and may make, and the bytes that each has.
-use Rattle.infer_formats.proofs.Common.{[], ◌≡◌, ℕ, ◌+◌, ◌-◌, ◌≤◌, ◌↔◌, Bool, true, false, List, length, get_or, take, drop, sym, subst, ap, ◌∙◌, arith, length-drop, OnTrue, get_or-drop, get_or-take, take_rest, AllBelow, IsBinary, IsDataByte, IsPlainByte, SomeBelow, ◌⊎◌, ◌<◌, inl, inr, suc, IsTrue, nat_eq, ◌∷◌, ◌++◌, refl, slice_index, cases_lt, get_or_append_left, OccursAt, MayBecome, OccursAt-append, OccursAt-front, Stays, lines, plain_text, IsText, StandsByPlace, accepts, between, fits, stands, leb-true, nat_le}
+use Rattle.infer_formats.proofs.Common.{[], ◌≡◌, ℕ, ◌+◌, ◌-◌, ◌≤◌, ◌↔◌, Bool, true, false, List, length, get_or, take, drop, sym, subst, ap, ◌∙◌, arith, length-drop, OnTrue, get_or-drop, get_or-take, take_rest, AllBelow, IsBinary, IsDataByte, IsPlainByte, SomeBelow, ◌⊎◌, ◌<◌, inl, inr, suc, IsTrue, nat_eq, ◌∷◌, ◌++◌, refl, slice_index, cases_lt, get_or_append_left, OccursAt, MayBecome, OccursAt-append, OccursAt-front, Stays, lines, plain_text, IsText, StandsByPlace, accepts, between, stands, leb-true, nat_le, part_reads}
 use Rattle.infer_deep.specs.Text.{BeginsMarked, IsMark}
 use Rattle.infer_sig.specs.Signature.{byte}
 use Rattle.infer_formats.proofs.GrowthLemmas.{carried, longer}
 use Rattle.infer_formats.proofs.OutlineLemmas.{in_range, one}
-use Rattle.infer_formats.proofs.PartLemmas.{part_reads}
 use Rattle.std.proofs.lemmas.List.Sums.{AllPass-from_list_all}
 
 -- one more block of s bytes without them

@@ -1,9 +1,9 @@
 -- Where tokens end.
-use Rattle.infer_formats.proofs.Common.{[], ◌≡◌, ℕ, ◌+◌, ◌≤◌, ◌<◌, ◌⊎◌, inl, inr, ◌↔◌, Bool, true, false, IsTrue, List, ◌∷◌, ◌++◌, Option, None, Some, length, drop, get_or, append_assoc, refl, sym, subst, ap, ◌∙◌, arith, OnTrue, drop_more, Symbol, range, blanks, value, chars, escape, hex, whole, fraction, power, digits, byte, digit, BeginsWhole, BehindBlanks, text, BeginsText, CanBe, IsAmong, IsKind, OpensWithToken, Stands, nothing, one, by_rule, EndsNumber, Follows, IsBracket, IsKindPastMark, IsPast, IsPastMark, left, Kind, Lines, Text, Token, Chars, Inside, Ended, EndedBefore, Wrong, append-nil, not, rules, BeginsToken, IsBlank, IsMark, NoneGoesOn, IsKindBefore, NoToken, Starts}
+use Rattle.infer_formats.proofs.Common.{[], ◌≡◌, ℕ, ◌+◌, ◌≤◌, ◌<◌, ◌⊎◌, inl, inr, ◌↔◌, Bool, true, false, IsTrue, List, ◌∷◌, ◌++◌, Option, None, Some, length, drop, get_or, append_assoc, refl, sym, subst, ap, ◌∙◌, arith, OnTrue, drop_more, Symbol, range, blanks, value, chars, escape, hex, integer, fraction, power, digits, byte, digit, BeginsWhole, BehindBlanks, text, BeginsText, CanBe, IsAmong, IsKind, BeginsWithToken, Stands, nothing, one, by_rule, EndsNumber, Follows, IsBracket, IsKindPastMark, IsPast, IsPastMark, left, Kind, Lines, Text, Token, Chars, Inside, Ended, EndedBefore, Wrong, append-nil, not, rules, BeginsToken, IsBlank, IsStructural, NoneGoesOn, IsKindBefore, NoToken, Starts}
 use Rattle.infer_formats.specs.declared.json.token.Step.{Step}
 use Rattle.infer_formats.proofs.CompleteLemmas.{AllHold, Completes, completes, token_holds}
 use Rattle.infer_formats.proofs.JsonLemmas.{value_begins}
-use Rattle.infer_formats.proofs.LineLemmas.{CutLine, WholeLine, WrongLine, lines_none, lines_open, lines_single, lines_so, none_left, kind_past, past_can, text_no_blank}
+use Rattle.infer_formats.proofs.LineLemmas.{CutLine, WholeLine, WrongLine, lines_none, lines_begin, lines_single, lines_so, none_left, kind_past, past_can, text_no_blank}
 use Rattle.infer_formats.specs.declared.json.lines.Line.TheVariants as Line
 
 -- one after the other, and apart
@@ -135,7 +135,7 @@ begins_some (range low high ∷ ss) = true
 begins_some (chars ∷ ss) = true
 begins_some (escape ∷ ss) = true
 begins_some (hex ∷ ss) = true
-begins_some (whole ∷ ss) = true
+begins_some (integer ∷ ss) = true
 begins_some (fraction ∷ ss) = true
 begins_some (digits ∷ ss) = true
 begins_some (power ∷ ss) = true
@@ -146,7 +146,7 @@ goes (range low high ∷ ss) is h = goes_range low high ss h.0 (completes ss h.1
 goes (chars ∷ ss) is h = goes_by (byte 0x22 ∷ []) chars ss (inl refl) (goes_range 0x22 0x22 ss (omega arith) (completes ss h))
 goes (escape ∷ ss) is h = goes_by (byte 0x22 ∷ []) escape ss (inl refl) (goes_range 0x22 0x22 ss (omega arith) (completes ss h))
 goes (hex ∷ ss) is h = goes_by (digit ∷ []) hex ss (inl refl) (goes_range 0x30 0x39 ss (omega arith) (completes ss h))
-goes (whole ∷ ss) is h = goes_by (byte 0x30 ∷ []) whole ss (inl refl) (goes_range 0x30 0x30 ss (omega arith) (completes ss h))
+goes (integer ∷ ss) is h = goes_by (byte 0x30 ∷ []) integer ss (inl refl) (goes_range 0x30 0x30 ss (omega arith) (completes ss h))
 goes (fraction ∷ ss) is h =
     goes_by (byte 0x2E ∷ digit ∷ digits ∷ []) fraction ss (inr (inl refl))
     (goes_range 0x2E 0x2E (digit ∷ digits ∷ ss) (omega arith) (completes (digit ∷ digits ∷ ss) (omega arith, h)))
@@ -196,7 +196,7 @@ pub token_starts : (x : ℕ) (t : Token) (s : List ℕ) → Starts x t → Begin
 token_starts x t s st =
     whole_step (value 0 ∷ []) (left t) x s (token_completes t) (alone (value 0 ∷ []) (left t) x (st 0 []))
 
-pub none_starts : (x : ℕ) (s : List ℕ) → NoToken x → ¬ IsMark x → ¬ BeginsWhole (value 0 ∷ []) (x ∷ s)
+pub none_starts : (x : ℕ) (s : List ℕ) → NoToken x → ¬ IsStructural x → ¬ BeginsWhole (value 0 ∷ []) (x ∷ s)
 none_starts x s n m =
     let p = λ (e : x ≡ 0x5B). m (inl e) in
     let q = λ (e : x ≡ 0x7B). m (inr (inr (inl e))) in
@@ -224,8 +224,8 @@ token_not_blank x s b d = elim d [
 token_past : (s t : List ℕ) → IsPast s t → BehindBlanks BeginsToken s ↔ BeginsToken t
 token_past s t p = behind_past BeginsToken s t token_not_blank p
 
-opens_past : (s t : List ℕ) → IsPast s t → BehindBlanks OpensWithToken s ↔ OpensWithToken t
-opens_past s t p = behind_past OpensWithToken s t (λ x u b d. (let o = d.0 in grind arith)) p
+begins_past : (s t : List ℕ) → IsPast s t → BehindBlanks BeginsWithToken s ↔ BeginsWithToken t
+begins_past s t p = behind_past BeginsWithToken s t (λ x u b d. (let o = d.0 in grind arith)) p
 
 -- of a buffer by its first byte
 pub tokens_past : (b s rest : List ℕ) (x : ℕ) → IsPast b s → s ≡ x ∷ rest → BehindBlanks BeginsToken b
@@ -239,13 +239,13 @@ no_token b (x ∷ s) p l d = absurd (omega arith)
 pub text_past : (b s rest : List ℕ) (x : ℕ) → IsPast b s → s ≡ x ∷ rest
     → BeginsText b ↔ ((IsBracket x × BehindBlanks BeginsToken rest) × CanBe (text ∷ blanks ∷ []) (x ∷ rest))
 text_past b s rest x p e =
-    let first = subst (λ u. BehindBlanks OpensWithToken b ↔ OpensWithToken u) e (opens_past b s p) in
+    let first = subst (λ u. BehindBlanks BeginsWithToken b ↔ BeginsWithToken u) e (begins_past b s p) in
     let can = subst (λ u. CanBe (blanks ∷ text ∷ blanks ∷ []) b ↔ CanBe (text ∷ blanks ∷ []) u) e
     (past_can (text ∷ blanks ∷ []) b s tt (text_no_blank (blanks ∷ [])) p) in
     (λ (o, d). (first.0 o, can.0 d), λ (o, d). (first.1 o, can.1 d))
 
 pub no_text : (b s : List ℕ) → IsPast b s → length s < 1 → ¬ BeginsText b
-no_text b [] p l d = (opens_past b [] p).0 d.0
+no_text b [] p l d = (begins_past b [] p).0 d.0
 no_text b (x ∷ s) p l d = absurd (omega arith)
 
 -- which kind of JSON it is, by its first line and what stands behind the bracket of its first text
@@ -271,8 +271,8 @@ module _ (b s rest : List ℕ) (x : ℕ) (p : IsPast b s) (e : s ≡ x ∷ rest)
   pub kind_wrong : WrongLine s → IsKindPastMark b None
   kind_wrong wrong = (λ d. wrong.1 (single d).1, lines_none b s Line.Wrong p wrong (inr refl))
 
-  pub kind_unopened : ¬ IsBracket x → IsKindPastMark b None
-  kind_unopened never = (λ d. never ((text_past b s rest x p e).0 d).0.0, lines_open b s rest x p e never)
+  pub kind_unbegun : ¬ IsBracket x → IsKindPastMark b None
+  kind_unbegun never = (λ d. never ((text_past b s rest x p e).0 d).0.0, lines_begin b s rest x p e never)
 
 pub kind_empty : (b s : List ℕ) → IsPast b s → length s < 1 → IsKindPastMark b None
 kind_empty b s p l = (no_text b s p l, lines_none b s Line.Cut p (none_left s l) (inl refl))
@@ -281,7 +281,7 @@ kind_shut : (w : List ℕ) (x : ℕ) → 1 ≤ length w → get_or w 0 0 ≡ x �
 kind_shut [] x l e never none = absurd (omega arith)
 kind_shut (y ∷ w) x l e never none =
     let nb = subst (λ z. ¬ IsBlank z) (sym e) never in
-    kind_unopened (y ∷ w) (y ∷ w) w y (inr (nb, refl)) refl (subst (λ z. ¬ IsBracket z) (sym e) none)
+    kind_unbegun (y ∷ w) (y ∷ w) w y (inr (nb, refl)) refl (subst (λ z. ¬ IsBracket z) (sym e) none)
 
 pub kind_nothing : (w : List ℕ) → length w ≡ 0 → IsKind w None
 kind_nothing [] e = kind_past [] [] None (inr (refl, λ u same. absurd (cc))) (kind_empty [] [] refl (omega arith))
@@ -293,7 +293,7 @@ unmarked w never = inr (refl, λ u e. never (subst (λ l. get_or l 0 0 ≡ 0xEF)
 
 pub on_shut : (w : List ℕ) (r : Bool) → 1 ≤ length w → (IsBlank (get_or w 0 0) ⊎ IsBracket (get_or w 0 0) ⊎ (get_or w 0 0 ≡ 0xEF) → IsTrue r)
     → OnTrue (not r) (IsKind w None)
-on_shut w true l opens = tt
-on_shut w false l opens =
-    kind_past w w None (unmarked w (λ mark. let e = opens (inr (inr mark)) in absurd (cc)))
-    (kind_shut w (get_or w 0 0) l refl (λ blank. let e = opens (inl blank) in absurd (cc)) (λ bracket. let e = opens (inr (inl bracket)) in absurd (cc)))
+on_shut w true l begins = tt
+on_shut w false l begins =
+    kind_past w w None (unmarked w (λ mark. let e = begins (inr (inr mark)) in absurd (cc)))
+    (kind_shut w (get_or w 0 0) l refl (λ blank. let e = begins (inl blank) in absurd (cc)) (λ bracket. let e = begins (inr (inl bracket)) in absurd (cc)))

@@ -1,11 +1,10 @@
 -- ZIP archives and packages: the first entry with a property, what more bytes keep and may make, and the bytes that each has.
-use Rattle.infer_formats.proofs.Common.{[], ◌≡◌, ◌↔◌, ℕ, ◌+◌, ◌-◌, ◌<◌, ◌≤◌, inl, inr, List, length, codes, get_or, take, drop, add-zero, ap, refl, subst, ◌∙◌, arith, eq-eqb, length-drop, take_rest, OccursAt, Nowhere, Passes, is_byte, zip_header, IsFirstFolder, IsFolderEntry, IsPackageWith, IsPartEntry, MayBeginPackage, applications, IsTrue, zero, suc, ◌/◌, ◌%◌, ◌++◌, cases_lt, le16, AgreesAt, are_bytes, MayBecome, grown_agrees, FirstEntryEndsIn, FirstEntryHasExtra, FirstEntryIs, sym, nat_eq, OccursAt-append, OccursAt-first, ◌∷◌, slice_index, OccursAt-front, nat_tests, and_from, lt-ltb, if◌then◌else◌, nat_lt, le16-append, low_bytes, counted, counted_for, named, lines, package_with, StandsByPlace, accepts, all_but, at_least, fits, stands}
-use Rattle.infer_formats.specs.Zip.{IsOneOf, MayBeginAny, MayHaveFirstEnding, MayHaveFirstField, MayHaveFirstName, MayOpenPackage, HasFirstName, IsFolder}
+use Rattle.infer_formats.proofs.Common.{[], ◌≡◌, ◌↔◌, ℕ, ◌+◌, ◌-◌, ◌<◌, ◌≤◌, inl, inr, List, length, codes, get_or, take, drop, add-zero, ap, refl, subst, ◌∙◌, arith, eq-eqb, length-drop, take_rest, OccursAt, Nowhere, Passes, is_byte, zip_header, IsFirstFolder, IsFolderEntry, IsPackageWith, IsPartEntry, MayBeginPackage, applications, IsTrue, zero, suc, ◌/◌, ◌%◌, ◌++◌, cases_lt, le16, AgreesAt, are_bytes, MayBecome, grown_agrees, FirstEntryEndsIn, FirstEntryHasExtra, FirstEntryIs, sym, nat_eq, OccursAt-append, OccursAt-first, ◌∷◌, slice_index, OccursAt-front, nat_tests, and_from, lt-ltb, if◌then◌else◌, nat_lt, le16-append, low_bytes, counted, counted_for, named, lines, package_with, StandsByPlace, accepts, all_but, at_least, stands, part_reads}
+use Rattle.infer_formats.specs.Zip.{IsOneOf, MayBeginAny, MayHaveFirstEnding, MayHaveFirstField, MayHaveFirstName, MayBePackage, HasFirstName, IsFolder}
 use Rattle.infer_sig.specs.Signature.{byte, text}
 use Rattle.infer_formats.proofs.GrowthLemmas.{there, longer}
 use Rattle.infer_formats.proofs.OpenLemmas.{grown_byte}
 use Rattle.infer_formats.proofs.OutlineLemmas.{begins, occurs, other, two}
-use Rattle.infer_formats.proofs.PartLemmas.{part_reads}
 use Rattle.infer_sig.specs.Signature as fixed
 
 -- a place with the property is one of a header, so it is none that the search for its first byte passed over
@@ -277,8 +276,8 @@ first_known folder b application q is (more, bytes, (begins, part, (p, other, o)
     subst (λ t. OccursAt b t (q + 30)) (sym (same_folder folder g application is_g bytes_same)) stands
 
 -- none is reached if b cannot begin as one
-pub opened : (folder b : List ℕ) → MayBecome (IsPackageWith folder) b → MayOpenPackage folder b
-opened folder b (more, bytes, ((o, may), parts, folders)) = (
+pub begun_so : (folder b : List ℕ) → MayBecome (IsPackageWith folder) b → MayBePackage folder b
+begun_so folder b (more, bytes, ((o, may), parts, folders)) = (
   grown_agrees b more zip_header 0 o,
   elim may [
     | inl t ↦ inl (grown_agrees b more _ 30 t)

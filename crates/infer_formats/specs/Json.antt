@@ -23,7 +23,7 @@ pub data Symbol : Type 0 where
   escape : Symbol
   hex : Symbol
   number : Symbol
-  whole : Symbol
+  integer : Symbol
   fraction : Symbol
   exponent : Symbol
   power : Symbol
@@ -76,8 +76,8 @@ rules escape =
     (byte 0x22 ∷ []) ∷ (byte 0x5C ∷ []) ∷ (byte 0x2F ∷ []) ∷ (byte 0x62 ∷ []) ∷ (byte 0x66 ∷ []) ∷ (byte 0x6E ∷ [])
     ∷ (byte 0x72 ∷ []) ∷ (byte 0x74 ∷ []) ∷ (byte 0x75 ∷ hex ∷ hex ∷ hex ∷ hex ∷ []) ∷ []
 rules hex = (digit ∷ []) ∷ (range 0x41 0x46 ∷ []) ∷ (range 0x61 0x66 ∷ []) ∷ []
-rules number = (whole ∷ fraction ∷ exponent ∷ []) ∷ (byte 0x2D ∷ whole ∷ fraction ∷ exponent ∷ []) ∷ []
-rules whole = (byte 0x30 ∷ []) ∷ (range 0x31 0x39 ∷ digits ∷ []) ∷ []
+rules number = (integer ∷ fraction ∷ exponent ∷ []) ∷ (byte 0x2D ∷ integer ∷ fraction ∷ exponent ∷ []) ∷ []
+rules integer = (byte 0x30 ∷ []) ∷ (range 0x31 0x39 ∷ digits ∷ []) ∷ []
 rules fraction = [] ∷ (byte 0x2E ∷ digit ∷ digits ∷ []) ∷ []
 rules exponent = [] ∷ (byte 0x65 ∷ power ∷ []) ∷ (byte 0x45 ∷ power ∷ []) ∷ []
 rules power = (digit ∷ digits ∷ []) ∷ (byte 0x2B ∷ digit ∷ digits ∷ []) ∷ (byte 0x2D ∷ digit ∷ digits ∷ []) ∷ []
@@ -118,27 +118,27 @@ abbrev pub BeginsWhole : List Symbol → List ℕ → Type 0
 BeginsWhole ss s = (t more : List ℕ) × (s ≡ t ++ more) × Stands ss t × NoneGoesOn ss t more
 
 -- one of [ ] { } : ,
-abbrev pub IsMark : ℕ → Type 0
-IsMark x = (x ≡ 0x5B) ⊎ (x ≡ 0x5D) ⊎ (x ≡ 0x7B) ⊎ (x ≡ 0x7D) ⊎ (x ≡ 0x3A) ⊎ (x ≡ 0x2C)
+abbrev pub IsStructural : ℕ → Type 0
+IsStructural x = (x ≡ 0x5B) ⊎ (x ≡ 0x5D) ⊎ (x ≡ 0x7B) ⊎ (x ≡ 0x7D) ⊎ (x ≡ 0x3A) ⊎ (x ≡ 0x2C)
 
 -- s begins with a mark, or with a whole string, name or number (the values without brackets)
 abbrev pub BeginsToken : List ℕ → Type 0
 BeginsToken [] = ⊥
-BeginsToken (x ∷ s) = IsMark x ⊎ BeginsWhole (value 0 ∷ []) (x ∷ s)
+BeginsToken (x ∷ s) = IsStructural x ⊎ BeginsWhole (value 0 ∷ []) (x ∷ s)
 
 -- P holds behind some white space at the front
 abbrev pub BehindBlanks : (List ℕ → Type 0) → List ℕ → Type 0
 BehindBlanks P [] = P []
 BehindBlanks P (x ∷ s) = P (x ∷ s) ⊎ (IsBlank x × BehindBlanks P s)
 
--- the first byte opens an array or an object, and a whole token comes behind it
-abbrev pub OpensWithToken : List ℕ → Type 0
-OpensWithToken [] = ⊥
-OpensWithToken (x ∷ s) = ((x ≡ 0x5B) ⊎ (x ≡ 0x7B)) × BehindBlanks BeginsToken s
+-- the first byte begins an array or an object, and a whole token comes behind it
+abbrev pub BeginsWithToken : List ℕ → Type 0
+BeginsWithToken [] = ⊥
+BeginsWithToken (x ∷ s) = ((x ≡ 0x5B) ⊎ (x ≡ 0x7B)) × BehindBlanks BeginsToken s
 
 -- w has a whole token behind its first bracket, and some bytes can follow so that the whole is one text
 abbrev pub BeginsText : List ℕ → Type 0
-BeginsText w = BehindBlanks OpensWithToken w × CanBe (blanks ∷ text ∷ blanks ∷ []) w
+BeginsText w = BehindBlanks BeginsWithToken w × CanBe (blanks ∷ text ∷ blanks ∷ []) w
 
 -- some bytes can follow w so that the whole is texts, each behind the first on a new line, and none so that it is one text:
 -- the second has begun

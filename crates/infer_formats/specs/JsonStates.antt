@@ -1,10 +1,10 @@
 -- What is left of a text where its reader stands. Only private contracts cite it.
 use Rattle.std.specs.Prelude.{◌≡◌, ◌↔◌, ℕ, zero, suc, ◌-◌, ◌/◌, ◌%◌, ◌<◌, ◌≤◌, ◌^◌, ◌⊎◌, Bool, true, false, List, [], Option, None, Some, length, drop, ◌∷◌, ◌++◌, codes}
-use Rattle.infer_formats.specs.Json.{Symbol, range, blanks, value, items, more_items, members, member, more_members, chars, escape, hex, whole, fraction, exponent, power, digits, text, same_line, next_line, byte, exact, digit, later, BeginsLines, BeginsText, BeginsToken, BehindBlanks, CanBe, IsBlank, Stands}
+use Rattle.infer_formats.specs.Json.{Symbol, range, blanks, value, items, more_items, members, member, more_members, chars, escape, hex, integer, fraction, exponent, power, digits, text, same_line, next_line, byte, exact, digit, later, BeginsLines, BeginsText, BeginsToken, BehindBlanks, CanBe, IsBlank, Stands}
 use Rattle.infer_formats.specs.declared.json.Kind.{Kind}
 use Rattle.infer_formats.specs.declared.json.Kind.TheVariants.{Lines, Text}
 use Rattle.infer_formats.specs.declared.json.token.Token.{Token}
-use Rattle.infer_formats.specs.declared.json.token.Token.TheVariants.{Chars, Escape, Hex4, Hex3, Hex2, Hex1, Char1, Char2, Char3, CharE0, CharEd, CharF0, CharF4, T, Tr, Tru, F, Fa, Fal, Fals, N, Nu, Nul, Minus, Zero, Whole, Point, Fraction, Exponent, Sign, Power}
+use Rattle.infer_formats.specs.declared.json.token.Token.TheVariants.{Chars, Escape, Hex4, Hex3, Hex2, Hex1, Char1, Char2, Char3, CharE0, CharEd, CharF0, CharF4, T, Tr, Tru, F, Fa, Fal, Fals, N, Nu, Nul, Minus, Zero, Integer, Point, Fraction, Exponent, Sign, Power}
 use Rattle.infer_formats.specs.declared.json.token.Step.{Step}
 use Rattle.infer_formats.specs.declared.json.token.Step.TheVariants.{Inside, Ended, EndedBefore, Wrong}
 use Rattle.infer_formats.specs.declared.json.reader.Due.{Due}
@@ -44,9 +44,9 @@ left Fals = exact (codes "e")
 left N = exact (codes "ull")
 left Nu = exact (codes "ll")
 left Nul = exact (codes "l")
-left Minus = whole ∷ fraction ∷ exponent ∷ []
+left Minus = integer ∷ fraction ∷ exponent ∷ []
 left Zero = fraction ∷ exponent ∷ []
-left Whole = digits ∷ fraction ∷ exponent ∷ []
+left Integer = digits ∷ fraction ∷ exponent ∷ []
 left Point = digit ∷ digits ∷ exponent ∷ []
 left Fraction = digits ∷ exponent ∷ []
 left Exponent = power ∷ []
@@ -110,8 +110,8 @@ stack r ss = next_left r.next r.depth r.kinds ss
 abbrev pub IsSound : Reader → Type 0
 IsSound r = (r.depth ≤ 128) × (r.kinds < 2 ^ r.depth)
 
-abbrev pub IsOpen : Reader → Type 0
-IsOpen r = (1 ≤ r.depth) × IsSound r
+abbrev pub IsNested : Reader → Type 0
+IsNested r = (1 ≤ r.depth) × IsSound r
 
 -- where `before` was left, the reader r tells what is left behind the byte x, if it can be
 abbrev pub Reads : (List Symbol → List Symbol) → ℕ → Reader → Bool → Type 0
@@ -129,10 +129,10 @@ abbrev pub IsClosedTo : Reader → Reader → Type 0
 IsClosedTo old new =
     (new.next ≡ Closed) × (new.depth ≡ old.depth - 1) × (new.kinds ≡ old.kinds / 2) × (new.kinds < 2 ^ new.depth)
 
--- the bracket that opens one of this kind, and that closes it
-abbrev pub opening : ℕ → ℕ
-opening zero = 0x5B
-opening (suc k) = 0x7B
+-- the bracket that begins one of this kind, and that closes it
+abbrev pub beginning : ℕ → ℕ
+beginning zero = 0x5B
+beginning (suc k) = 0x7B
 
 abbrev pub closing : ℕ → ℕ
 closing zero = 0x5D
@@ -145,7 +145,7 @@ Starts x t = (n : ℕ) (ss : List Symbol) (v : List ℕ) → Stands (value n ∷
 abbrev pub NoToken : ℕ → Type 0
 NoToken x = (n : ℕ) (ss : List Symbol) (v : List ℕ) → ¬ (x ≡ 0x5B) → ¬ (x ≡ 0x7B) → ¬ Stands (value n ∷ ss) (x ∷ v)
 
--- a bracket that opens
+-- a bracket that begins
 abbrev pub IsBracket : ℕ → Type 0
 IsBracket x = (x ≡ 0x5B) ⊎ (x ≡ 0x7B)
 

@@ -15,34 +15,34 @@ pub record Growth : Type 0 where
   pub binary : Lasts IsBinary
 
 -- from p on stands white space, perhaps none, and then "<"
-abbrev pub OpensBehindSpace : List ℕ → ℕ → Type 0
-OpensBehindSpace b p = (k : ℕ) × (p ≤ k) × ((j : ℕ) → p ≤ j → j < k → IsXmlSpace (slice_index b j)) × (slice_index b k ≡ 0x3C)
+abbrev pub StartsBehindSpace : List ℕ → ℕ → Type 0
+StartsBehindSpace b p = (k : ℕ) × (p ≤ k) × ((j : ℕ) → p ≤ j → j < k → IsXmlSpace (slice_index b j)) × (slice_index b k ≡ 0x3C)
 
 -- b begins with a byte order mark, or with white space, perhaps none, and then "<"
 abbrev pub BeginsMarkup : List ℕ → Type 0
-BeginsMarkup b = OccursAt b utf8_mark 0 ⊎ OpensBehindSpace b 0
+BeginsMarkup b = OccursAt b utf8_mark 0 ⊎ StartsBehindSpace b 0
 
 -- "<" stands in b, and neither "!" nor "?" behind it
-abbrev pub OpensElement : List ℕ → Type 0
-OpensElement b = (k : ℕ) × (slice_index b k ≡ 0x3C) × BeginsElement (slice_index b (k + 1))
+abbrev pub StartsElement : List ℕ → Type 0
+StartsElement b = (k : ℕ) × (slice_index b k ≡ 0x3C) × BeginsElement (slice_index b (k + 1))
 
 -- white space stands first, perhaps none, and then the bracket of an array or of an object
-abbrev pub OpensBehindBlanks : List ℕ → Type 0
-OpensBehindBlanks b = (k : ℕ) × ((j : ℕ) → j < k → IsBlank (slice_index b j)) × IsBracket (slice_index b k)
+abbrev pub BeginsBehindBlanks : List ℕ → Type 0
+BeginsBehindBlanks b = (k : ℕ) × ((j : ℕ) → j < k → IsBlank (slice_index b j)) × IsBracket (slice_index b k)
 
 -- b begins with a byte order mark, or so
 abbrev pub BeginsJson : List ℕ → Type 0
-BeginsJson b = OccursAt b utf8_mark 0 ⊎ OpensBehindBlanks b
+BeginsJson b = OccursAt b utf8_mark 0 ⊎ BeginsBehindBlanks b
 
 -- such a bracket stands in b
 abbrev pub HasBracket : List ℕ → Type 0
 HasBracket b = (k : ℕ) × IsBracket (slice_index b k)
 
--- with what a buffer begins that has a root, and that an element opens in it; one with a text in the tag has the root;
+-- with what a buffer begins that has a root, and that an element starts in it; one with a text in the tag has the root;
 -- with what JSON begins, and that it has a bracket; and with what bytes a buffer that fits a relation
 pub record Leads : Type 0 where
   pub root : (name b : List ℕ) → HasRoot name b → BeginsMarkup b
-  pub element : (name b : List ℕ) → HasRoot name b → OpensElement b
+  pub element : (name b : List ℕ) → HasRoot name b → StartsElement b
   pub json : (b : List ℕ) → IsJson b → BeginsJson b × HasBracket b
   pub json_lines : (b : List ℕ) → IsJsonLines b → BeginsJson b × HasBracket b
   pub root_with : (name text b : List ℕ) → HasRootWith name text b → HasRoot name b

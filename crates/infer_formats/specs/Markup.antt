@@ -40,7 +40,7 @@ ClosesDeclaration b from close = IsRun (λ x. (x ≢ 0x3E) × (x ≢ 0x5B)) b fr
 -- a document type declaration stands at p: "<!DOCTYPE", white space, a name that begins at `name`, and all up to the
 -- first ">" behind the white space, which is at `close`, without a "["
 pub record IsDoctype (b : List ℕ) (p name close : ℕ) : Type 0 where
-  pub opens : OccursAt b (codes "<!DOCTYPE") p
+  pub starts : OccursAt b (codes "<!DOCTYPE") p
   pub space : IsSpaceRun b (p + 9) name
   pub closes : ClosesDeclaration b name close
 
@@ -62,31 +62,31 @@ abbrev pub BeginsElement : ℕ → Type 0
 BeginsElement x = (x ≢ 0x21) × (x ≢ 0x3F)
 
 -- "<" stands at p, and behind it a byte that can begin an element's name
-abbrev pub OpensElement : List ℕ → ℕ → Type 0
-OpensElement b p = (p + 1 < length b) × (slice_index b p ≡ 0x3C) × BeginsElement (slice_index b (p + 1))
+abbrev pub StartsElement : List ℕ → ℕ → Type 0
+StartsElement b p = (p + 1 < length b) × (slice_index b p ≡ 0x3C) × BeginsElement (slice_index b (p + 1))
 
--- the tag of an element opens at p: "<", and a name that ends at `to`, within b, and is that of the document type d.
+-- the tag of an element starts at p: "<", and a name that ends at `to`, within b, and is that of the document type d.
 -- What follows the name's last ":", or all of it, begins at `at` and is not empty
-pub record OpensTag (b : List ℕ) (at to p : ℕ) (d : Option ℕ) : Type 0 where
-  pub opens : slice_index b p ≡ 0x3C
+pub record StartsTag (b : List ℕ) (at to p : ℕ) (d : Option ℕ) : Type 0 where
+  pub starts : slice_index b p ≡ 0x3C
   pub name : IsRun IsNameByte b (p + 1) to
   pub begins : BeginsElement (slice_index b (p + 1))
   pub local : IsAfterLast 0x3A b (p + 1) to at
   pub some : at < to
   pub agrees : AgreesWithDoctype b d (p + 1) to
 
--- the first thing from p on that is no part of the prolog is that tag: it opens at p, or follows on a part that stands
+-- the first thing from p on that is no part of the prolog is that tag: it starts at p, or follows on a part that stands
 -- there
-pub data LeadsToTag (b : List ℕ) (at to : ℕ) : ℕ → Option ℕ → Type 0 where
-  here : (p : ℕ) (d : Option ℕ) → OpensTag b at to p d → LeadsToTag b at to p d
+pub data ReachesTag (b : List ℕ) (at to : ℕ) : ℕ → Option ℕ → Type 0 where
+  here : (p : ℕ) (d : Option ℕ) → StartsTag b at to p d → ReachesTag b at to p d
   later : (p : ℕ) (d : Option ℕ) (q : ℕ) (e : Option ℕ)
-      → IsPart b p d q e → LeadsToTag b at to q e → LeadsToTag b at to p d
+      → IsPart b p d q e → ReachesTag b at to q e → ReachesTag b at to p d
 
--- from `start` on a prolog ends at `place`, whatever bytes follow b: a tag that it leads to opens there. d is where the
+-- from `start` on a prolog ends at `place`, whatever bytes follow b: a tag that it leads to starts there. d is where the
 -- name of the document type begins, if one was declared
 pub record EndsProlog (b : List ℕ) (start place : ℕ) (d : Option ℕ) : Type 0 where
   pub within : place ≤ length b
-  pub leads : (more : List ℕ) (at to : ℕ) → LeadsToTag (b ++ more) at to start None ↔ LeadsToTag (b ++ more) at to place d
+  pub leads : (more : List ℕ) (at to : ℕ) → ReachesTag (b ++ more) at to start None ↔ ReachesTag (b ++ more) at to place d
   pub ends : (q : ℕ) (e : Option ℕ) → ¬ IsPart b place d q e
 
 -- the byte order mark of UTF-8
@@ -100,7 +100,7 @@ BeginsAt b p = (OccursAt b utf8_mark 0 × (p ≡ 3)) ⊎ ((¬ OccursAt b utf8_ma
 -- the root element has this local name, and `rest` is what comes after it in b
 abbrev pub IsRootElement : List ℕ → List ℕ → List ℕ → Type 0
 IsRootElement name rest b =
-    (p at to : ℕ) × BeginsAt b p × LeadsToTag b at to p None × (name ≡ slice_range b at to) × (rest ≡ drop to b)
+    (p at to : ℕ) × BeginsAt b p × ReachesTag b at to p None × (name ≡ slice_range b at to) × (rest ≡ drop to b)
 
 -- the text stands in `rest` before its first ">", or anywhere if it has none
 abbrev pub HasInTag : List ℕ → List ℕ → Type 0
@@ -115,14 +115,14 @@ abbrev pub HasRootWith : List ℕ → List ℕ → List ℕ → Type 0
 HasRootWith name text b = (rest : List ℕ) × IsRootElement name rest b × HasInTag text rest
 
 -- behind a "<" the name of an element stands at p, or another "<" there or behind
-abbrev pub MayOpen : List ℕ → ℕ → Type 0
-MayOpen b p = BeginsElement (slice_index b p) ⊎ ((j : ℕ) × (p ≤ j) × (slice_index b j ≡ 0x3C))
+abbrev pub MayStart : List ℕ → ℕ → Type 0
+MayStart b p = BeginsElement (slice_index b p) ⊎ ((j : ℕ) × (p ≤ j) × (slice_index b j ≡ 0x3C))
 
 -- b begins with a byte order mark, or with white space, perhaps none, and such a "<"
 abbrev pub MayBeRooted : List ℕ → Type 0
 MayBeRooted b =
     OccursAt b utf8_mark 0
-    ⊎ ((k : ℕ) × ((j : ℕ) → j < k → IsXmlSpace (slice_index b j)) × (slice_index b k ≡ 0x3C) × MayOpen b (k + 1))
+    ⊎ ((k : ℕ) × ((j : ℕ) → j < k → IsXmlSpace (slice_index b j)) × (slice_index b k ≡ 0x3C) × MayStart b (k + 1))
 
 -- from p on b has nothing but white space, or "<" stands at p, as far as b goes
 abbrev pub MayReachTag : List ℕ → ℕ → Type 0

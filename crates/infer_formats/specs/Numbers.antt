@@ -1,5 +1,5 @@
 -- Numbers in the bytes of a buffer, in either order.
-use Rattle.std.specs.Prelude.{ℕ, ◌+◌, ◌*◌, ◌/◌, ◌%◌, Bool, List, [], ◌∷◌, slice_index, slice_index_or, if◌then◌else◌}
+use Rattle.std.specs.Prelude.{ℕ, ◌+◌, ◌*◌, ◌/◌, ◌%◌, Bool, List, [], ◌∷◌, slice_index, if◌then◌else◌}
 use Rattle.infer_deep.specs.Numbers.{le16, le32, be32}
 
 -- the number in the two bytes at p, the highest first

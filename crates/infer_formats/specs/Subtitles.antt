@@ -1,7 +1,8 @@
 -- Subtitles of SubRip, by their first cue.
-use Rattle.std.specs.Prelude.{◌≡◌, ℕ, ◌+◌, ◌<◌, ◌≤◌, ◌⊎◌, List, [], ◌∷◌, codes, length, slice_index, slice_index_or}
+use Rattle.std.specs.Prelude.{◌≡◌, ℕ, ◌+◌, ◌<◌, ◌≤◌, ◌⊎◌, List, [], ◌∷◌, codes, slice_index}
 use Rattle.memchr.specs.Find.{OccursAt}
 use Rattle.infer_deep.specs.Open.{AgreesAt}
+use Rattle.infer_formats.specs.Open.{MayBe}
 
 abbrev pub IsDigit : ℕ → Type 0
 IsDigit x = (0x30 ≤ x) × (x ≤ 0x39)
@@ -41,24 +42,13 @@ IsCue b p = (n t : ℕ) × ((1 ≤ n) × (n ≤ 9)) × AreDigits b p n × EndsLi
 abbrev pub IsSubRip : List ℕ → Type 0
 IsSubRip b = IsCue b 0 ⊎ (OccursAt b (0xEF ∷ 0xBB ∷ 0xBF ∷ []) 0 × IsCue b 3)
 
--- as far as b goes, a time may begin at t: a byte past its end counts as a digit
-abbrev pub MayBeginTime : List ℕ → ℕ → Type 0
-MayBeginTime b t = IsDigit (slice_index_or b t 0x30)
+-- as far as b goes, a cue may begin at p: a digit stands there, and behind it another or the end of the line
+abbrev pub GoesOn : ℕ → Type 0
+GoesOn x = IsDigit x ⊎ (x ≡ 0x0A) ⊎ (x ≡ 0x0D)
 
--- b ends in the number of a cue at p or before it, or in the middle of the end of its line
-abbrev pub EndsInNumber : List ℕ → ℕ → Type 0
-EndsInNumber b p = (length b ≤ p + 9) × ((k : ℕ) → p ≤ k → k < length b → IsDigit (slice_index b k))
-
-abbrev pub EndsInLineEnd : List ℕ → ℕ → Type 0
-EndsInLineEnd b p =
-    (n : ℕ) × ((1 ≤ n) × (n ≤ 9)) × AreDigits b p n × (slice_index b (p + n) ≡ 0x0D) × (length b ≡ p + n + 1)
-
--- a cue may stand at p
-abbrev pub MayBeCue : List ℕ → ℕ → Type 0
-MayBeCue b p =
-    EndsInNumber b p ⊎ EndsInLineEnd b p
-    ⊎ ((n t : ℕ) × ((1 ≤ n) × (n ≤ 9)) × AreDigits b p n × EndsLine b (p + n) t × MayBeginTime b t)
+abbrev pub MayBeginCue : List ℕ → ℕ → Type 0
+MayBeginCue b p = MayBe IsDigit b p × MayBe GoesOn b (p + 1)
 
 -- and with it subtitles may
 abbrev pub MayBeSubRip : List ℕ → Type 0
-MayBeSubRip b = MayBeCue b 0 ⊎ (AgreesAt b (0xEF ∷ 0xBB ∷ 0xBF ∷ []) 0 × MayBeCue b 3)
+MayBeSubRip b = MayBeginCue b 0 ⊎ (AgreesAt b (0xEF ∷ 0xBB ∷ 0xBF ∷ []) 0 × MayBeginCue b 3)

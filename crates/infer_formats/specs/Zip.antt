@@ -102,8 +102,8 @@ pub record MayHaveFirstField (text b : List ℕ) : Type 0 where
   pub tells : 30 ≤ length b → (length text ≤ le16 b 28) × AgreesAt b text (30 + le16 b 26)
 
 -- or b begins with an entry that a package with the folder may have first
-abbrev pub MayOpenPackage : List ℕ → List ℕ → Type 0
-MayOpenPackage folder b =
+abbrev pub MayBePackage : List ℕ → List ℕ → Type 0
+MayBePackage folder b =
     AgreesAt b zip_header 0
     × (AgreesAt b (codes "[Content_Types].xml") 30 ⊎ AgreesAt b (codes "_rels/") 30 ⊎ AgreesAt b (codes "docProps/") 30
     ⊎ AgreesAt b folder 30)

@@ -53,21 +53,25 @@ pub fn is_json_lines(buf: &[u8]) -> bool
 pub fn kind_of(buf: &[u8]) -> Option<Kind>
     ensures { IsKind buf.now result }
 {
-    if may_open(buf) { kind_begun(buf) } else { None }
+    if may_begin(buf) {
+        kind_begun(buf)
+    } else {
+        None
+    }
 }
 
 /// Whether white space, a bracket or the first byte of a mark stands first. Most of what is no JSON costs no call.
 #[inline(always)]
-fn may_open(buf: &[u8]) -> bool
+fn may_begin(buf: &[u8]) -> bool
     ensures { OnTrue (not result) (IsKind buf.now None) }
 {
     if buf.is_empty() {
         return false;
     }
-    opens(buf[0])
+    begins_json(buf[0])
 }
 
-fn opens(byte: u8) -> bool
+fn begins_json(byte: u8) -> bool
     ensures { IsTrue result ↔ (IsBlank byte ⊎ IsBracket byte ⊎ (byte ≡ 0xEF)) }
 {
     matches!(byte, b'\t' | b'\n' | b'\r' | b' ' | b'[' | b'{' | 0xEF)

@@ -6,7 +6,7 @@ pub fn growth()
     ensures { Growth }
 {}
 
-/// With what a buffer begins that has a root element, and that an element opens in it; and the same of JSON and a bracket. And
+/// With what a buffer begins that has a root element, and that an element starts in it; and the same of JSON and a bracket. And
 /// with what bytes at fixed places a buffer that fits a relation.
 pub fn leads()
     ensures { Leads }

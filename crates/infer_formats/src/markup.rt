@@ -1,13 +1,13 @@
 //! Markup, by its root element: Extensible Markup Language (XML) 1.0 (W3C), sections 2.8 and 3.1.
 ghost use Rattle.std.specs.Prelude.{◌≡◌, ◌↔◌, ◌+◌, ◌<◌, ◌≤◌, ℕ, List, length, slice_index, IsTrue, IfSome, MatchOption};
 ghost use Rattle.infer_deep.specs.Open.{AgreesAt};
-ghost use Rattle.infer_formats.specs.Markup.{HasInTag, HasRoot, HasRootWith, IsRootElement, MayBeRooted, MayOpen, utf8_mark};
+ghost use Rattle.infer_formats.specs.Markup.{HasInTag, HasRoot, HasRootWith, IsRootElement, MayBeRooted, MayStart, utf8_mark};
 
 mod names;
 mod open;
 mod prolog;
 
-use crate::search::find_opening;
+use crate::search::find_early;
 use infer_deep::places::{has_at, may_stand_at};
 use memchr::memchr;
 use names::{begins_element, is_xml_space};
@@ -30,7 +30,7 @@ impl Root<'_> {
         ensures { IsTrue result ↔ HasInTag text.now self.now.rest.now }
     {
         let end = memchr(b'>', self.rest).unwrap_or(self.rest.len());
-        find_opening(&self.rest[..end], text).is_some()
+        find_early(&self.rest[..end], text).is_some()
     }
 }
 
@@ -99,24 +99,24 @@ pub fn may_be_rooted(buf: &[u8]) -> bool
     }
     for place in 0..buf.len() {
         if !is_xml_space(buf[place]) {
-            return opens_at(buf, place);
+            return starts_at(buf, place);
         }
     }
     false
 }
 
 /// Whether "<" stands there, and behind it the name of an element or another "<".
-fn opens_at(buf: &[u8], place: usize) -> bool
+fn starts_at(buf: &[u8], place: usize) -> bool
     requires { place < length buf.now }
-    ensures { IsTrue result ↔ (slice_index buf.now place ≡ 0x3C) × MayOpen buf.now (place + 1) }
+    ensures { IsTrue result ↔ (slice_index buf.now place ≡ 0x3C) × MayStart buf.now (place + 1) }
 {
-    buf[place] == b'<' && may_open(buf, place + 1)
+    buf[place] == b'<' && may_start(buf, place + 1)
 }
 
 /// Whether the name of an element stands there, or "<" there or behind.
-fn may_open(buf: &[u8], from: usize) -> bool
+fn may_start(buf: &[u8], from: usize) -> bool
     requires { from ≤ length buf.now }
-    ensures { IsTrue result ↔ MayOpen buf.now from }
+    ensures { IsTrue result ↔ MayStart buf.now from }
 {
     if from == buf.len() {
         return true;

@@ -49,7 +49,7 @@ pub fn is_program(buf: &[u8], name: &[u8]) -> bool
 
 /// The name of the program, which the word names.
 fn bare_name(buf: &[u8], word: Word) -> &[u8]
-    requires opens { OccursAt buf.now (codes "#!") 0 }
+    requires begins { OccursAt buf.now (codes "#!") 0 }
     requires names { NamesProgram buf.now word.from word.to }
     requires read { IsRead buf.now word }
     ensures { IsProgram result.now buf.now }

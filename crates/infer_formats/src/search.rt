@@ -20,7 +20,7 @@ const NEAR_MISSES: usize = 8;
 
 /// Which of the 32 bytes from that place on are this one: bit `k` tells of the byte `k` places on.
 #[inline(always)]
-fn marks(buf: &[u8], byte: u8, place: usize) -> u64
+fn hits(buf: &[u8], byte: u8, place: usize) -> u64
     requires { place + 32 ≤ length buf.now }
     ensures { (k : ℕ) → (bit_at result k ≡ 1) ↔ (k < 32)
         × (slice_index buf.now (place + k) ≡ byte) }
@@ -43,9 +43,9 @@ pub(crate) fn find_near(buf: &[u8], byte: u8, start: usize) -> Option<usize>
         if buf.len() - from < 32 {
             break;
         }
-        let marked = marks(buf, byte, from);
-        if marked != 0 {
-            return Some(from + marked.trailing_zeros() as usize);
+        let found = hits(buf, byte, from);
+        if found != 0 {
+            return Some(from + found.trailing_zeros() as usize);
         }
         from += 32;
     }
@@ -96,7 +96,7 @@ fn find_later(buf: &[u8], text: &[u8], start: usize) -> Option<usize>
 /// The first place at which `text` stands: mostly the first one of its first byte. A function of its own, so that few
 /// callers take what it needs.
 #[inline(never)]
-pub(crate) fn find_opening(buf: &[u8], text: &[u8]) -> Option<usize>
+pub(crate) fn find_early(buf: &[u8], text: &[u8]) -> Option<usize>
     ensures { IsFirstWithin OccursAt buf.now text.now 0 (length buf.now) result }
 {
     let Some(first) = text.first() else {

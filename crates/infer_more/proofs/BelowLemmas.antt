@@ -1,20 +1,17 @@
 -- What the wider answer says of the built-in one.
-use Rattle.infer_more.proofs.Common.{◌≡◌, ◌≤◌, ◌<◌, ◌+◌, ◌-◌, ℕ, false, inl, inr, List, Option, None, Some, IfSome, ap, length, nat_lt, subst, sym, ◌∙◌, arith, refl, if◌then◌else◌, option_map_or, lt-ltb, nat_tests, slice_get_cases, IsFirst, IsFirstOf, Accepts, ROW_COUNT, length-table, Further, further, IsWider, Widens, wider, FURTHER_COUNT, Bool, true, [], ◌∷◌, ◌==◌, IsTrue, get_or, list_all, eqb-true, is_listed}
+use Rattle.infer_more.proofs.Common.{◌≡◌, ◌<◌, ◌+◌, ◌-◌, ℕ, false, inl, inr, List, Option, None, Some, IfSome, ap, length, nat_lt, subst, sym, ◌∙◌, arith, refl, if◌then◌else◌, option_map_or, lt-ltb, slice_get_cases, IsFirst, IsFirstOf, Accepts, ROW_COUNT, length-table, Further, further, IsWider, Widens, wider, FURTHER_COUNT, Bool, true, [], ◌∷◌, ◌==◌, IsTrue, get_or, list_all, eqb-true, is_listed}
 use Rattle.std.proofs.Common.{slice_get}
-use Rattle.std.proofs.lemmas.Bool.{or_cases}
+use Rattle.std.proofs.lemmas.Bool.{or_cases, le-ltb}
 use Rattle.std.proofs.lemmas.List.Sums.{AllPass-from_list_all}
 use Rattle.infer.specs.Table as built_in
 use Rattle.infer_more.specs.Laws.{AllAreBelow, built_in_by}
 use Rattle.infer_more.specs.Wider.{IsWidened, parent_at}
 use Rattle.infer_more.proofs.TableLemmas.{length-further}
 
-not_less : (m n : ℕ) → n ≤ m → nat_lt m n ≡ false
-not_less m n le = grind (arith, nat_tests)
-
 -- the row's parent is that of the row with its number
 parent_read : (parent : Option ℕ) (b : List ℕ) (j : ℕ) → IsFirst (Widens parent b) further j → parent_at (ROW_COUNT + j) ≡ parent
 parent_read parent b j h =
-    let there : nat_lt (ROW_COUNT + j) ROW_COUNT ≡ false = not_less (ROW_COUNT + j) ROW_COUNT (omega arith) in
+    let there : nat_lt (ROW_COUNT + j) ROW_COUNT ≡ false = le-ltb (ROW_COUNT + j) ROW_COUNT (omega arith) in
     let place : ROW_COUNT + j - ROW_COUNT ≡ j = omega arith in
     let within : j < length further = h.within in
     elim (slice_get_cases further j).1 [
@@ -34,7 +31,7 @@ told b (Some i) None answers widens =
     let many = length-table in
     ap (λ t. if t then Some i else parent_at i) (lt-ltb i ROW_COUNT (omega arith))
 told b parent (Some j) answers widens =
-    ap (λ t. if t then Some (ROW_COUNT + j) else parent_at (ROW_COUNT + j)) (not_less (ROW_COUNT + j) ROW_COUNT (omega arith))
+    ap (λ t. if t then Some (ROW_COUNT + j) else parent_at (ROW_COUNT + j)) (le-ltb (ROW_COUNT + j) ROW_COUNT (omega arith))
     ∙ parent_read parent b j widens
 
 -- the wider answer by the first further row that widens the built-in one

@@ -27,7 +27,7 @@ pub use denote.Ref.{Bor}
 pub use Rattle.infer.proofs.KnownLemmas.{◌>>◌, Known, at_most, both, each_before, either, needs, negated, proved}
 pub use Rattle.infer.proofs.KnownLemmas.{proved_if, refuted, refuted_if, takes, unknown}
 pub use Rattle.infer.proofs.OrderLemmas.{some_row}
-pub use Rattle.infer.proofs.PlaceLemmas.{ByPlace, occurs}
+pub use Rattle.infer.proofs.PlaceLemmas.{ByPlace, not_both, occurs}
 pub use Rattle.infer.proofs.TableLemmas.{length-table}
 pub use Rattle.infer.proofs.TestLemmas.{NoneRefused, passed}
 pub use Rattle.infer.specs.Buffer.{IsBuffer}

@@ -1,6 +1,7 @@
 -- The rows that are read of a text are those that it describes.
 use Rattle.infer_more.proofs.Common.{◌≡◌, ◌<◌, ◌&&◌, ◌==◌, ℕ, Bool, true, false, not, List, [], ◌∷◌, ◌++◌, Option, None, Some, codes, drop, length, nat_le, option_map, take, inl, inr, refl, sym, ap, subst, ◌∙◌, arith, take-append_seam, cases_Bool, eqb-true, take-append-drop, slice_split_at, slice_split_none, bytes_eq-Decides, if◌then◌else◌, list_all, MatcherType, signature_of, behind_blanks, class_of, fields_of, is_alphanumeric, is_built_in, is_mime_type, is_name, is_name_byte, is_remark, line_of, parent_of, row, row_of, is_line_end, lines_of, rows_in, rows_of, with_row, and_parts}
 use Rattle.std.proofs.Math.Seq.{drop-append_seam}
+use Rattle.std.proofs.lemmas.Bool.{not-true}
 use Rattle.std.proofs.lemmas.List.{append-nil}
 use Rattle.std.specs.List.{prefix_len}
 use Rattle.infer_notation.proofs.MadeLemmas.{front_length, fronts_pass, next_fails, not_same}
@@ -81,29 +82,10 @@ unfolding word
 word_inside [] some = absurd (omega arith)
 word_inside (x ∷ xs) some = omega arith
 
-name_some : (w : List ℕ) → is_name w ≡ true → 0 < length w
-name_some [] is = absurd cc
-name_some (x ∷ xs) is = omega arith
-
-mime_type_some : (w : List ℕ) → is_mime_type w ≡ true → 0 < length w
-unfolding is_mime_type
-mime_type_some [] is = absurd (let none : false ≡ true = is in cc)
-mime_type_some (x ∷ xs) is = omega arith
-
-class_some : (w : List ℕ) (c : MatcherType) → class_of w ≡ Some c → 0 < length w
-unfolding class_of
-class_some [] c is = absurd (let none : None ≡ Some c = is in cc)
-class_some (x ∷ xs) c is = omega arith
-
-parent_some : (w : List ℕ) (p : Option (List ℕ)) → parent_of w ≡ Some p → 0 < length w
-unfolding is_built_in built_in.table
-parent_some [] p is = absurd (let none : None ≡ Some p = is in cc)
-parent_some (x ∷ xs) p is = omega arith
-
-signature_some : (s : List ℕ) (alternatives : List Alternative) → signature_of s ≡ Some alternatives → 0 < length s
-unfolding signature_of
-signature_some [] alternatives is = absurd (let none : None ≡ Some alternatives = is in cc)
-signature_some (x ∷ xs) alternatives is = omega arith
+-- what is read of a word otherwise than of none
+word_some : {A : Type 0} (f : List ℕ → A) (w : List ℕ) (x y : A) → f [] ≡ x → f w ≡ y → (x ≡ y → ⊥) → 0 < length w
+word_some f [] x y none is other = absurd (other (sym none ∙ is))
+word_some f (z ∷ w) x y none is other = omega arith
 
 names_parent : (w : List ℕ) (p : Option (List ℕ)) → parent_of w ≡ Some p → NamesParent w p
 names_parent w p e = elim (cases_Bool (is_none w)) [
@@ -134,20 +116,21 @@ module _ (text : List ℕ) where
 
   row_built : (c : MatcherType) (p : Option (List ℕ)) (s : List Alternative) → is_name (word text) ≡ true → is_mime_type (word second) ≡ true → class_of (word third) ≡ Some c
       → parent_of (word fourth) ≡ Some p → signature_of (behind_word fourth) ≡ Some s → DescribesRow text (row c (word second) (word text) p s)
+  unfolding is_mime_type class_of is_built_in built_in.table signature_of
   row_built c p s is-name is-mime is-class is-parent is-signature =
-      let mime = mime_type_some (word second) is-mime in
-      let class = class_some (word third) c is-class in
-      let parent = parent_some (word fourth) p is-parent in record {
+      let mime = word_some is_mime_type (word second) false true refl is-mime (λ e. cc) in
+      let class = word_some class_of (word third) None (Some c) refl is-class (λ e. cc) in
+      let parent = word_some parent_of (word fourth) None (Some p) refl is-parent (λ e. cc) in record {
         class = word third;
         parent = word fourth;
         signature = behind_word fourth;
         second = second;
         third = third;
         fourth = fourth;
-        extension_first = word_read text (name_some (word text) is-name) (word_inside second mime);
+        extension_first = word_read text (word_some is_name (word text) false true refl is-name (λ e. cc)) (word_inside second mime);
         mime_type_next = word_read second mime (word_inside third class);
         class_next = word_read third class (word_inside fourth parent);
-        parent_next = word_read fourth parent (signature_some (behind_word fourth) s is-signature);
+        parent_next = word_read fourth parent (word_some signature_of (behind_word fourth) None (Some s) refl is-signature (λ e. cc));
         is_extension = is-name;
         is_mime_type = is-mime;
         is_class = is-class;
@@ -226,10 +209,6 @@ behind_told blanks (x ∷ xs) o are e = elim (cases_Bool (x == 0x23)) [
 line_told : (line : List ℕ) (o : Option Row) → line_of line ≡ Some o → DescribesLine line o
 line_told line o e = let f = front line in subst (λ l. DescribesLine l o) (sym f.whole) (behind_told f.blanks (behind_blanks line) o f.are e)
 
-not_true : (b : Bool) → not b ≡ true → b ≡ false
-not_true false is = refl
-not_true true is = absurd cc
-
 -- what a row's text begins with
 row_first : (text : List ℕ) (r : Row) → DescribesRow text r → (first_passes is_blank text ≡ false) × (is_remark text ≡ false)
 row_first text r d = first r.shows.extension d.is_extension d.extension_first
@@ -240,7 +219,7 @@ row_first text r d = first r.shows.extension d.is_extension d.extension_first
         let front = and_parts (is_alphanumeric x && nat_le (length xs) 126) (list_all is_name_byte xs) is in
         let letter = and_parts (is_alphanumeric x) (nat_le (length xs) 126) front.0 in
         let dark = and_parts (is_dark x) (list_all is_dark xs) begins.dark in
-        (ap (first_passes is_blank) begins.whole ∙ not_true (is_blank x) dark.0, ap is_remark begins.whole ∙ not_same is_alphanumeric x 0x23 letter.0 refl)
+        (ap (first_passes is_blank) begins.whole ∙ not-true (is_blank x) dark.0, ap is_remark begins.whole ∙ not_same is_alphanumeric x 0x23 letter.0 refl)
 
 line_read : (line : List ℕ) (o : Option Row) → DescribesLine line o → line_of line ≡ Some o
 line_read line o (blank_line _ are) = ap row_behind (ap behind_blanks (sym (append-nil line)) ∙ past line [] are refl)

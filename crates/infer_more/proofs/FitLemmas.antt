@@ -1,15 +1,15 @@
 -- What a computation says of whether a buffer fits an alternative: that it does, as the sample of one does, by places that
 -- are tried; or that it does not, by its outline.
-use Rattle.infer_more.proofs.Common.{◌≡◌, ◌≢◌, ◌⊎◌, ◌≤◌, inl, inr, ℕ, zero, suc, ◌+◌, ◌-◌, ◌<◌, Bool, true, false, IsTrue, List, [], ◌∷◌, None, codes, drop, length, nat_le, refl, subst, sym, arith, ◌&&◌, ◌||◌, ◌==◌, if◌then◌else◌, not, slice_index, list_any, cases_lt, nat_tests, OccursAt, be32, le16, le32, zip_header, HasBracket, CanBe, IsJson, IsJsonLines, Stands, BeginsElement, HasRoot, IsRootElement, IsXmlSpace, be16, here, IsProgram, IsDigit, IsSubRip, IsOctal, header_sum, IsBinary, IsText, HasFirstName, IsPackageWith, accepts, fits, Known, proved, refuted, at_most, both, either, negated, proved_if, refuted_if, needs, takes, ◌>>◌, ByPlace, occurs, is_plain, lines, Accepted, Fits, related, animated, binary_bytes, bytes, class_id, dbase, directory_tag, first_entry_ends_in, first_entry_has_extra, first_entry_is, package_with, plain_text, png_header, shared_object, subrip, tar_checksum, program, root, root_with, json_lines, json_text}
+use Rattle.infer_more.proofs.Common.{◌≡◌, ◌≢◌, ◌⊎◌, ◌≤◌, inl, inr, ℕ, zero, suc, ◌+◌, ◌-◌, ◌<◌, Bool, true, false, IsTrue, List, [], ◌∷◌, None, codes, drop, length, nat_le, refl, subst, sym, arith, ◌&&◌, ◌||◌, ◌==◌, if◌then◌else◌, not, slice_index, list_any, cases_lt, nat_tests, OccursAt, be32, le16, le32, zip_header, HasBracket, CanBe, IsJson, IsJsonLines, Stands, BeginsElement, HasRoot, IsRootElement, IsXmlSpace, be16, here, IsProgram, IsDigit, IsSubRip, IsOctal, header_sum, IsBinary, IsText, HasFirstName, IsPackageWith, accepts, fits, Known, proved, refuted, at_most, both, either, negated, proved_if, refuted_if, needs, takes, ByPlace, occurs, is_plain, lines, Accepted, Fits, related, animated, binary_bytes, bytes, class_id, dbase, directory_tag, first_entry_ends_in, first_entry_has_extra, first_entry_is, package_with, plain_text, png_header, shared_object, subrip, tar_checksum, program, root, root_with, json_lines, json_text, not_both, ◌>>◌}
 use Rattle.std.proofs.Common.{◌*◌, get_or-drop}
 use Rattle.std.specs.Prelude.{slice_range}
 use Rattle.infer_formats.specs.Dbase.{IsDbase, behind, versions}
 use Rattle.infer_formats.specs.Elf.{IsSharedObject}
 use Rattle.infer_formats.specs.Laws as Inside
-use Rattle.infer_formats.specs.Laws.{OpensElement}
+use Rattle.infer_formats.specs.Laws.{StartsElement}
 use Rattle.infer_formats.specs.Json as Json
 use Rattle.infer_formats.specs.Json.{Symbol}
-use Rattle.infer_formats.specs.Markup.{HasRootWith, IsEnclosed, IsNameByte, LeadsToTag, OpensTag, later, utf8_mark}
+use Rattle.infer_formats.specs.Markup.{HasRootWith, IsEnclosed, IsNameByte, ReachesTag, StartsTag, later, utf8_mark}
 use Rattle.infer_formats.specs.Markup as Markup
 use Rattle.infer_formats.specs.Script.{IsEnv, IsFirstWord, IsWord, IsWordByte}
 use Rattle.infer_formats.specs.Subtitles.{IsPairAt, IsTime}
@@ -24,7 +24,6 @@ use Rattle.infer_notation.specs.Alternative.{Alternative}
 use Rattle.std.proofs.lemmas.Bool.{or_cases}
 use Rattle.infer_more.proofs.IndexLemmas as test
 use Rattle.infer_more.proofs.OutlineLemmas.{has_lines}
-use Rattle.infer_more.proofs.RefusalLemmas.{clash}
 
 -- ---- binary data
 
@@ -59,15 +58,15 @@ abbrev next : List ℕ → ℕ
 next [] = 0
 next (x ∷ b) = x
 
-abbrev opens_none : List ℕ → Bool
-opens_none [] = true
-opens_none (x ∷ b) = not (x == 0x3C && not (next b == 0x21 || next b == 0x3F)) && opens_none b
+abbrev starts_none : List ℕ → Bool
+starts_none [] = true
+starts_none (x ∷ b) = not (x == 0x3C && not (next b == 0x21 || next b == 0x3F)) && starts_none b
 
 next_read : (b : List ℕ) → next b ≡ slice_index b 0
 next_read [] = refl
 next_read (x ∷ b) = refl
 
-pub no_element : (b : List ℕ) → IsTrue (opens_none b) → ¬ OpensElement b
+pub no_element : (b : List ℕ) → IsTrue (starts_none b) → ¬ StartsElement b
 no_element [] h (k, e, begins) = omega arith
 no_element (x ∷ b) h (zero, e, begins) = let same = next_read b in let none = test.both_left (not (x == 0x3C && not (next b == 0x21 || next b == 0x3F))) _ h in grind (arith, nat_tests)
 no_element (x ∷ b) h (suc k, e, begins) = no_element b (test.both_right (not (x == 0x3C && not (next b == 0x21 || next b == 0x3F))) _ h) (k, e, (let same : suc k + 1 ≡ suc (k + 1) = omega arith in subst (λ i. BeginsElement (slice_index (x ∷ b) i)) same begins))
@@ -82,11 +81,11 @@ abbrev is_space : ℕ → Bool
 is_space x = x == 0x09 || (x == 0x0A || (x == 0x0D || x == 0x20))
 
 -- the first byte that is no white space is not "<"
-abbrev opens_other : List ℕ → Bool
-opens_other [] = true
-opens_other (x ∷ b) = not (x == 0x3C) && (not (is_space x) || opens_other b)
+abbrev starts_other : List ℕ → Bool
+starts_other [] = true
+starts_other (x ∷ b) = not (x == 0x3C) && (not (is_space x) || starts_other b)
 
-not_behind_space : (b : List ℕ) → IsTrue (opens_other b) → (k : ℕ) → ((j : ℕ) → j < k → IsXmlSpace (slice_index b j)) → slice_index b k ≢ 0x3C
+not_behind_space : (b : List ℕ) → IsTrue (starts_other b) → (k : ℕ) → ((j : ℕ) → j < k → IsXmlSpace (slice_index b j)) → slice_index b k ≢ 0x3C
 not_behind_space [] h k spaces e = omega arith
 not_behind_space (x ∷ b) h zero spaces e = let none = test.both_left (not (x == 0x3C)) _ h in grind (arith, nat_tests)
 not_behind_space (x ∷ b) h (suc k) spaces e = elim (or_cases (not (is_space x)) _ (test.both_right (not (x == 0x3C)) _ h)) [
@@ -359,19 +358,19 @@ module _ (by_place : ByPlace) (inside : Inside.Leads) (single : Inside.Single) (
     none ← takes (proved_if (not (list_any is_data b)) (lacks_data b))
     proved (inr (some, none))
 
-  pub no_root : (name : List ℕ) → IsTrue (opens_none b || (opens_other b && not (has_mark b))) → ¬ HasRoot name b
-  no_root name h is = elim (or_cases (opens_none b) _ h) [
+  pub no_root : (name : List ℕ) → IsTrue (starts_none b || (starts_other b && not (has_mark b))) → ¬ HasRoot name b
+  no_root name h is = elim (or_cases (starts_none b) _ h) [
     | inl none ↦ no_element b none (inside.element name b is)
     | inr other ↦ elim (inside.root name b is) [
-      | inl mark ↦ let first = mark.reads 0 (omega arith) in no_mark b (test.both_right (opens_other b) _ other) first
-      | inr (k, low, spaces, opens) ↦ not_behind_space b (test.both_left (opens_other b) _ other) k (λ j lt. spaces j (omega arith) lt) opens
+      | inl mark ↦ let first = mark.reads 0 (omega arith) in no_mark b (test.both_right (starts_other b) _ other) first
+      | inr (k, low, spaces, starts) ↦ not_behind_space b (test.both_left (starts_other b) _ other) k (λ j lt. spaces j (omega arith) lt) starts
     ]
   ]
 
   -- letters up to `to` name a program
   pub is_program : (to : ℕ) → OccursAt b (codes "#!") 0 → Letters b 2 to → 2 < to → to < length b → slice_index b to ≡ 0x0A → ¬ OccursAt b (codes "env") 2
       → IsProgram (slice_range b 2 to) b
-  is_program to opens letters some whole ends other =
+  is_program to starts letters some whole ends other =
       let word : IsWord b 2 to = record {
         low = omega arith;
         line = λ k low lt is. omega arith;
@@ -390,7 +389,7 @@ module _ (by_place : ByPlace) (inside : Inside.Leads) (single : Inside.Single) (
         | inl lt ↦ let high = name.high in no_slash (at - 1) (omega arith) (omega arith) (name.begins lt)
         | inr le ↦ let low = name.low in let same : at ≡ 2 = omega arith in other (subst (OccursAt b (codes "env")) same o)
       ] in (
-        opens,
+        starts,
         (
           2,
           to,
@@ -416,12 +415,12 @@ module _ (by_place : ByPlace) (inside : Inside.Leads) (single : Inside.Single) (
 
   abbrev own_program : Known (IsProgram (slice_range b 2 line_end) b)
   own_program = do
-    opens ← takes (occurs by_place (codes "#!") b 0)
+    starts ← takes (occurs by_place (codes "#!") b 0)
     some ← takes (at_most 3 line_end)
     whole ← takes (at_most (suc line_end) (length b))
     ends ← takes (same (slice_index b line_end) 0x0A)
     other ← takes (negated (occurs by_place (codes "env") b 2))
-    proved (is_program line_end opens (letters_from b 2) (omega arith) (omega arith) ends other)
+    proved (is_program line_end starts (letters_from b 2) (omega arith) (omega arith) ends other)
 
   abbrev named_so : (name : List ℕ) → Known (IsProgram name b)
   named_so name = do
@@ -432,13 +431,13 @@ module _ (by_place : ByPlace) (inside : Inside.Leads) (single : Inside.Single) (
   -- an instruction or a comment stands first
   abbrev enclosed : (opening closing : List ℕ) (q : ℕ) → Known (IsEnclosed b opening closing 0 q)
   enclosed opening closing q = do
-    opens ← takes (occurs by_place opening b 0)
+    starts ← takes (occurs by_place opening b 0)
     stands ← takes (occurs by_place closing b (q - length closing))
     low ← takes (at_most (length opening) (q - length closing))
     none ← takes (is (lacks (length opening) (q - length closing) closing b))
     long ← takes (at_most (length closing) q)
     proved (
-      opens,
+      starts,
       (
         q - length closing,
         record {
@@ -456,10 +455,10 @@ module _ (by_place : ByPlace) (inside : Inside.Leads) (single : Inside.Single) (
   pub is_root : (p to : ℕ) → ¬ OccursAt b utf8_mark 0 → (p ≡ 0) ⊎ (IsEnclosed b (codes "<?") (codes "?>") 0 p ⊎ IsEnclosed b (codes "<!--") (codes "-->") 0 p)
       → slice_index b p ≡ 0x3C → Letters b (p + 1) to → p + 1 < to → to < length b → (slice_index b to ≡ 0x3E) ⊎ (slice_index b to ≡ 0x20)
       → IsRootElement (slice_range b (p + 1) to) (drop to b) b
-  is_root p to unmarked prolog opens letters some whole ends =
+  is_root p to unmarked prolog starts letters some whole ends =
       let first = letters (p + 1) (omega arith) some in
-      let tag : OpensTag b (p + 1) to p None = record {
-        opens = opens;
+      let tag : StartsTag b (p + 1) to p None = record {
+        starts = starts;
         name = record {
           order = omega arith;
           bytes = λ k low high. name_letter (slice_index b k) (letters k low high);
@@ -476,13 +475,13 @@ module _ (by_place : ByPlace) (inside : Inside.Leads) (single : Inside.Single) (
         some = some;
         agrees = tt;
       } in
-      let leads : LeadsToTag b (p + 1) to 0 None = elim prolog [
-        | inl e ↦ subst (λ q. LeadsToTag b (p + 1) to q None) e (Markup.here p None tag)
+      let leads : ReachesTag b (p + 1) to 0 None = elim prolog [
+        | inl e ↦ subst (λ q. ReachesTag b (p + 1) to q None) e (Markup.here p None tag)
         | inr part ↦ later 0 None p None (inl (inr part, refl)) (Markup.here p None tag)
       ] in
       (0, p + 1, to, inr (unmarked, refl), leads, refl, refl)
 
-  -- where the root's tag opens: behind the ">" of an instruction or a comment, or at 0
+  -- where the root's tag starts: behind the ">" of an instruction or a comment, or at 0
   abbrev opening : ℕ
   opening = if slice_index b 1 == 0x21 || slice_index b 1 == 0x3F then closed b else 0
 
@@ -494,11 +493,11 @@ module _ (by_place : ByPlace) (inside : Inside.Leads) (single : Inside.Single) (
   own_root = do
     unmarked ← takes (negated (occurs by_place utf8_mark b 0))
     prolog ← takes (prolog_to opening)
-    opens ← takes (same (slice_index b opening) 0x3C)
+    starts ← takes (same (slice_index b opening) 0x3C)
     some ← takes (at_most (opening + 2) name_end)
     whole ← takes (at_most (suc name_end) (length b))
     ends ← takes (either (same (slice_index b name_end) 0x3E) (same (slice_index b name_end) 0x20))
-    proved (is_root opening name_end unmarked prolog opens (letters_from b (opening + 1)) (omega arith) (omega arith) ends)
+    proved (is_root opening name_end unmarked prolog starts (letters_from b (opening + 1)) (omega arith) (omega arith) ends)
 
   -- whether the root has the name
   abbrev rooted_so : (name : List ℕ) → Known (IsRootElement name (drop name_end b) b)
@@ -551,10 +550,10 @@ module _ (by_place : ByPlace) (inside : Inside.Leads) (single : Inside.Single) (
   fitting (related tar_checksum) = checksum
   fitting (related (program name)) = named_so name
   fitting (related (root name)) = do
-    refuted_if (opens_none b || (opens_other b && not (has_mark b))) (no_root name)
+    refuted_if (starts_none b || (starts_other b && not (has_mark b))) (no_root name)
     root_named name
   fitting (related (root_with name t)) = do
-    refuted_if (opens_none b || (opens_other b && not (has_mark b))) (λ none h. no_root name none (inside.root_with name t b h))
+    refuted_if (starts_none b || (starts_other b && not (has_mark b))) (λ none h. no_root name none (inside.root_with name t b h))
     root_named_with name t
   fitting (related json_lines) = do
     refuted_if (not (list_any is_bracket b)) (λ none h. no_bracket b none (inside.json_lines b h).1)
@@ -569,7 +568,7 @@ module _ (by_place : ByPlace) (inside : Inside.Leads) (single : Inside.Single) (
   pub outside : (a : Alternative) → IsTrue (not (is_plain a) && not (accepts (lines a) b)) → ¬ Fits a b
   outside a e h =
       let lasting = test.both_left (not (is_plain a)) _ e in
-      clash _ (has_lines inside b a (λ plain. absurd (clash (is_plain a) plain lasting)) h) (test.both_right (not (is_plain a)) _ e)
+      not_both _ (has_lines inside b a (λ plain. absurd (not_both (is_plain a) plain lasting)) h) (test.both_right (not (is_plain a)) _ e)
 
   abbrev pub known_fit : (a : Alternative) → Known (Fits a b)
   known_fit a = do

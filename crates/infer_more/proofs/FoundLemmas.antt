@@ -1,12 +1,14 @@
 -- By the index just those rows are found that widen an answer.
 use Rattle.std.proofs.lemmas.Bool.{or_cases}
-use Rattle.infer_more.proofs.Common.{◌≡◌, ◌↔◌, ℕ, zero, suc, ◌+◌, ◌<◌, ◌≤◌, ◌==◌, inl, inr, Bool, true, false, IsTrue, List, [], ◌∷◌, Option, None, Some, length, get_or, ap, sym, ◌∙◌, subst, arith, refl, ◌%◌, ◌&&◌, ◌||◌, ◌++◌, slice_index, nat_le, list_all, list_any, option_map_or, cases_lt, eqb-true, leb-true, get_or_default, slice_get_cases, Bor, IsJson, IsJsonLines, BeginsElement, IsRootElement, IsXmlSpace, there, IsProgram, IsOneOf, IsPackageWith, applications, accepts, fits, stands, StandsByPlace, IsBuffer, IsFirstOf, is_listed, NoneRefused, passed, HasTagText, IsFoundBelow, IsLeast, IsNamed, IsOfProgram, IsRootedBy, IsRooted, IsRowOf, IsTried, ascends, candidates, excepted, is_covered, is_excepted, is_plain, is_tried_parentless, is_true_below, named_row, rooted_row, tried_parentless, lines, Further, Accepted, Fits, related, json_lines, json_text, package_with, plain_text, program, root, root_with, further, Widens, WidensAt, Nothing, Except, Named, Parentless, Rooted, FURTHER_COUNT, and_from, bucket_of, class_id}
+use Rattle.infer_more.proofs.Common.{◌≡◌, ◌↔◌, ℕ, zero, suc, ◌+◌, ◌<◌, ◌≤◌, ◌==◌, inl, inr, Bool, true, false, IsTrue, List, [], ◌∷◌, Option, None, Some, length, get_or, ap, sym, ◌∙◌, subst, arith, refl, ◌%◌, ◌&&◌, ◌||◌, ◌++◌, slice_index, nat_le, list_all, list_any, option_map_or, cases_lt, eqb-true, leb-true, get_or_default, slice_get_cases, Bor, IsJson, IsJsonLines, BeginsElement, IsRootElement, there, IsProgram, IsOneOf, IsPackageWith, applications, accepts, fits, stands, StandsByPlace, IsBuffer, is_listed, NoneRefused, passed, HasTagText, IsFoundBelow, IsLeast, IsNamed, IsOfProgram, IsRootedBy, IsRooted, IsRowOf, IsTried, ascends, candidates, excepted, is_covered, is_excepted, is_plain, is_tried_parentless, is_true_below, named_row, rooted_row, tried_parentless, lines, Further, Accepted, Fits, related, json_lines, json_text, package_with, plain_text, program, root, root_with, further, Widens, WidensAt, Nothing, Except, Named, Parentless, Rooted, FURTHER_COUNT, and_from, bucket_of, class_id}
 use Rattle.std.specs.Prelude.{slice_get}
+use Rattle.std.proofs.lemmas.List.Sums.{AllPass-from_list_all}
 use Rattle.infer_deep.specs.ClassId.{HasClassId}
+use Rattle.infer_formats.proofs.MarkupLemmas.{not_space}
 use Rattle.infer_formats.specs.Laws.{Leads}
 use Rattle.infer_formats.specs.Markup.{HasInTag, MayBeRooted}
 use Rattle.infer_sig.specs.Signature as fixed
-use Rattle.infer_more.specs.Index.{AllApplications, AreClassIds, EachBelowIsFound, EachFreeIsFound, EachIsFound, FindsAll, IsFoundFree, IsTextRow, MayBeginMarkup, are_rooted, are_texts, are_true, asks_class_id, asks_folder, asks_program, asks_root, below_at, has_named, has_rooted, is_application, is_child, is_found_below, is_found_free, is_in_class_ids, is_in_folders, is_in_programs, is_in_roots, is_json, is_lines, is_row_below, is_row_below_found, is_row_free, is_row_free_found, is_row_with, is_text_row, is_tried_below, is_tried_in, bucket_at, same, same_text}
+use Rattle.infer_more.specs.Index.{AllApplications, AreClassIds, EachBelowIsFound, EachParentlessIsFound, EachIsFound, FindsAll, IsFoundParentless, IsTextRow, MayBeginMarkup, are_rooted, are_texts, are_true, asks_class_id, asks_folder, asks_program, asks_root, below_at, has_named, has_rooted, is_application, is_child, is_found_below, is_found_parentless, is_in_class_ids, is_in_folders, is_in_programs, is_in_roots, is_json, is_lines, is_row_below, is_row_below_found, is_row_parentless, is_row_parentless_found, is_row_with, is_text_row, is_tried_below, is_tried_in, bucket_at, same, same_text}
 use Rattle.infer_notation.specs.Alternative.{Alternative}
 use Rattle.infer_more.specs.declared.index.Below as below
 use Rattle.infer_more.specs.declared.index.Below.TheVariants.{ClassIds, Entries, Packages, Programs, Roots}
@@ -16,7 +18,7 @@ use Rattle.infer_more.specs.declared.index.Texts.{Texts}
 use Rattle.infer_more.proofs.IndexLemmas.{both_left, both_right, covered_here, excepted_here, listed_left, listed_right, parentless_here}
 use Rattle.infer_more.proofs.LeastLemmas.{least_both, least_late, least_same}
 use Rattle.infer_more.proofs.OutlineLemmas.{has_lines, small_bytes}
-use Rattle.infer_more.proofs.TableLemmas.{length-further}
+use Rattle.infer_more.proofs.TableLemmas.{NoRowFails, each_row}
 
 -- what is computed to be the same is the same
 same_true : (xs ys : List ℕ) → IsTrue (same xs ys) → xs ≡ ys
@@ -42,9 +44,9 @@ listed_at Q none [] i h = none
 listed_at Q none (names ∷ lists) zero h = both_left (Q names.now) _ h
 listed_at Q none (names ∷ lists) (suc i) h = listed_at Q none lists i (both_right (Q names.now) _ h)
 
-pub listed_like : (Q : List Named → Bool) → IsTrue (Q []) → (lists : List (Bor (List Named))) (name : List ℕ) → IsTrue (list_all (λ names. Q names.now) lists) → IsTrue (Q (bucket_of lists name))
-listed_like Q none lists [] h = none
-listed_like Q none lists (x ∷ xs) h = listed_at Q none lists (x % 32) h
+pub listed_in_bucket : (Q : List Named → Bool) → IsTrue (Q []) → (lists : List (Bor (List Named))) (name : List ℕ) → IsTrue (list_all (λ names. Q names.now) lists) → IsTrue (Q (bucket_of lists name))
+listed_in_bucket Q none lists [] h = none
+listed_in_bucket Q none lists (x ∷ xs) h = listed_at Q none lists (x % 32) h
 
 -- the text, if there is one, stands in a tag of which this is the rest
 abbrev OwnText : List ℕ → Option (List ℕ) → Type 0
@@ -77,12 +79,12 @@ module _ (by_place : (place : ℕ) (t buf : List ℕ) → IsTrue (stands place t
     | inr e ↦ line_tried entries some (both_right (is_covered i l entries) _ h) e
   ]
 
-  line_tried_free : (index : Parentless) (some : List fixed.Alternative) → IsTrue (list_all (is_tried_parentless index i) some) → IsTrue (accepts some b)
+  line_tried_parentless : (index : Parentless) (some : List fixed.Alternative) → IsTrue (list_all (is_tried_parentless index i) some) → IsTrue (accepts some b)
       → IsTrue (is_listed (tried_parentless index b) i)
-  line_tried_free index [] h k = absurd (cc)
-  line_tried_free index (l ∷ some) h k = elim (or_cases (fits b l) _ k) [
+  line_tried_parentless index [] h k = absurd (cc)
+  line_tried_parentless index (l ∷ some) h k = elim (or_cases (fits b l) _ k) [
     | inl e ↦ parentless_here by_place index b i l (both_left (is_tried_parentless index i l) _ h) e
-    | inr e ↦ line_tried_free index some (both_right (is_tried_parentless index i l) _ h) e
+    | inr e ↦ line_tried_parentless index some (both_right (is_tried_parentless index i l) _ h) e
   ]
 
   tried : (entries : List Entry) (a : Alternative) → IsTrue (is_tried_below i entries a) → Fits a b → IsTrue (is_listed (candidates b entries) i)
@@ -145,17 +147,17 @@ module _ (by_place : (place : ℕ) (t buf : List ℕ) → IsTrue (stands place t
     found_below way (a ∷ signature) h (inl k) = found_by way a (both_left (is_found_below way i a) _ h) k
     found_below way (a ∷ signature) h (inr k) = found_below way signature (both_right (is_found_below way i a) _ h) k
 
-  found_free : (index : Parentless) → WidensAt None b i → (signature : List Alternative) → IsTrue (list_all (is_found_free index i) signature)
-      → Accepted signature b → IsFoundFree index b i
-  found_free index w [] h k = absurd (k)
-  found_free index w (a ∷ signature) h (inl k) = elim (or_cases (is_text_row index.texts i a) _ (both_left (is_found_free index i a) _ h)) [
+  found_parentless : (index : Parentless) → WidensAt None b i → (signature : List Alternative) → IsTrue (list_all (is_found_parentless index i) signature)
+      → Accepted signature b → IsFoundParentless index b i
+  found_parentless index w [] h k = absurd (k)
+  found_parentless index w (a ∷ signature) h (inl k) = elim (or_cases (is_text_row index.texts i a) _ (both_left (is_found_parentless index i a) _ h)) [
     | inl e ↦ inr (inr (in_texts index.texts a e k))
     | inr e ↦ elim (or_cases (is_in_roots i index.roots.now a) _ e) [
       | inl r ↦ inr (inl (in_roots index.roots.now a r k))
-      | inr t ↦ inl (line_tried_free index (lines a) t (has_lines leads b a (λ plain. small) k), w)
+      | inr t ↦ inl (line_tried_parentless index (lines a) t (has_lines leads b a (λ plain. small) k), w)
     ]
   ]
-  found_free index w (a ∷ signature) h (inr k) = found_free index w signature (both_right (is_found_free index i a) _ h) k
+  found_parentless index w (a ∷ signature) h (inr k) = found_parentless index w signature (both_right (is_found_parentless index i a) _ h) k
 
 -- a row that is told by a name widens the answer
 any_of : (test : Alternative → Bool) (b : List ℕ) → ((a : Alternative) → IsTrue (test a) → Fits a b) → (signature : List Alternative) → IsTrue (list_any test signature)
@@ -250,7 +252,7 @@ module _ (b : List ℕ) where
   widens_below parent (Programs lists) i h (name, p, is) =
       rows_widen named_row (λ e. e.name.now ≡ name) (λ e. asks_program e.name.now) (Some parent) b
       (λ e same. fits_program e.name.now (subst (λ n. IsProgram n b) (sym same) p)) (bucket_of lists.now name) i
-      (listed_like (list_all (λ e. is_row_with (Some parent) (asks_program e.name.now) e.row)) refl lists.now name (both_right (list_all (λ names. ascends named_row names.now) lists.now) _ h)) is
+      (listed_in_bucket (list_all (λ e. is_row_with (Some parent) (asks_program e.name.now) e.row)) refl lists.now name (both_right (list_all (λ names. ascends named_row names.now) lists.now) _ h)) is
   widens_below parent (Roots roots) i h is = widens_root (Some parent) roots.now i (both_right (ascends rooted_row roots.now) _ h) is
   widens_below parent (Packages entries excepts folders) i h (inl is) = is.1
   widens_below parent (Packages entries excepts folders) i h (inr is) =
@@ -288,40 +290,34 @@ module _ (parent : ℕ) where
   abbrev is_told : Named → Bool
   is_told e = is_application e.name.now && is_row_with (Some parent) (asks_folder e.name.now) e.row
 
-  each_application : (folders : List Named) → IsTrue (list_all is_told folders) → (k : ℕ) (d : Named) → k < length folders → IsOneOf (get_or folders k d).name.now applications
-  each_application [] h k d lt = absurd (omega arith)
-  each_application (e ∷ folders) h zero d lt = one_of e.name.now applications (both_left (is_application e.name.now) _ (both_left (is_told e) _ h))
-  each_application (e ∷ folders) h (suc k) d lt = each_application folders (both_right (is_told e) _ h) k d (omega arith)
-
   pub all_applications : (entries : Bor (List Entry)) (excepts : Bor (List Except)) (folders : Bor (List Named)) → IsTrue (is_true_below parent (Packages entries excepts folders)) → AllApplications folders.now
-  all_applications entries excepts folders h = λ k d lt. each_application folders.now (both_right (ascends named_row folders.now) _ h) k d lt
+  all_applications entries excepts folders h = λ k d lt.
+      let name = (get_or folders.now k d).name.now in
+      one_of name applications (both_left (is_application name) _ (AllPass-from_list_all is_told folders.now (both_right (ascends named_row folders.now) _ h) k d lt))
 
 -- each class id has its bytes
 module _ (parent : ℕ) where
   abbrev is_class_id : Named → Bool
   is_class_id e = length e.name.now == 16 && is_row_with (Some parent) (asks_class_id e.name.now) e.row
 
-  each_class_id : (ids : List Named) → IsTrue (list_all is_class_id ids) → (k : ℕ) (d : Named) → k < length ids → length (get_or ids k d).name.now ≡ 16
-  each_class_id [] h k d lt = absurd (omega arith)
-  each_class_id (e ∷ ids) h zero d lt = eqb-true (length e.name.now) 16 (both_left (length e.name.now == 16) _ (both_left (is_class_id e) _ h))
-  each_class_id (e ∷ ids) h (suc k) d lt = each_class_id ids (both_right (is_class_id e) _ h) k d (omega arith)
-
   pub are_class_ids : (ids : Bor (List Named)) → IsTrue (is_true_below parent (ClassIds ids)) → AreClassIds ids.now
-  are_class_ids ids h = λ k d lt. each_class_id ids.now (both_right (ascends named_row ids.now) _ h) k d lt
+  are_class_ids ids h = λ k d lt.
+      let long = length (get_or ids.now k d).name.now in
+      eqb-true long 16 (both_left (long == 16) _ (AllPass-from_list_all is_class_id ids.now (both_right (ascends named_row ids.now) _ h) k d lt))
 
 -- a row is found by its parent, or without one
 module _ (index : RowIndex) (each : EachIsFound index) (i : ℕ) (r : Further) (found : slice_get further i ≡ Some r) (lt : i < length further) where
   asks_below : IsTrue (is_row_below index.below.now i r.parent r)
   asks_below = subst (λ o. IsTrue (option_map_or (λ (x : Further). is_row_below index.below.now i x.parent x) o true)) found (each.below.found i lt)
 
-  asks_free : IsTrue (is_row_free index.parentless.now i r.parent r)
-  asks_free = subst (λ o. IsTrue (option_map_or (λ (x : Further). is_row_free index.parentless.now i x.parent x) o true)) found (each.free.found i lt)
+  asks_parentless : IsTrue (is_row_parentless index.parentless.now i r.parent r)
+  asks_parentless = subst (λ o. IsTrue (option_map_or (λ (x : Further). is_row_parentless index.parentless.now i x.parent x) o true)) found (each.parentless.found i lt)
 
   below_by : (parent : ℕ) → r.parent ≡ Some parent → IsTrue (list_all (is_found_below (below_at index.below.now parent) i) r.signature)
   below_by parent e = subst (λ p. IsTrue (is_row_below index.below.now i p r)) e asks_below
 
-  free_by : r.parent ≡ None → IsTrue (list_all (is_found_free index.parentless.now i) r.signature)
-  free_by e = subst (λ p. IsTrue (is_row_free index.parentless.now i p r)) e asks_free
+  parentless_by : r.parent ≡ None → IsTrue (list_all (is_found_parentless index.parentless.now i) r.signature)
+  parentless_by e = subst (λ p. IsTrue (is_row_parentless index.parentless.now i p r)) e asks_parentless
 
 module _ (by_place : (place : ℕ) (t buf : List ℕ) → IsTrue (stands place t buf) ↔ StandsByPlace place t buf) (leads : Leads) (index : RowIndex) (each : EachIsFound index) (b : List ℕ) (all : IsBuffer b) where
   finds_below : (parent i : ℕ) → WidensAt (Some parent) b i → IsFoundBelow (below_at index.below.now parent) parent b i
@@ -332,24 +328,24 @@ module _ (by_place : (place : ℕ) (t buf : List ℕ) → IsTrue (stands place t
     | inr (past, none) ↦ absurd (let lt = w.0 in omega arith)
   ]
 
-  finds_free : (i : ℕ) → WidensAt None b i → IsFoundFree index.parentless.now b i
-  finds_free i w = elim (slice_get_cases further i).1 [
+  finds_parentless : (i : ℕ) → WidensAt None b i → IsFoundParentless index.parentless.now b i
+  finds_parentless i w = elim (slice_get_cases further i).1 [
     | inl (r, within, found, same_row) ↦
         let holds : Widens None b r = subst (Widens None b) same_row (w.1 r) in
-        found_free by_place leads b (small_bytes b all) i index.parentless.now w r.signature (free_by index each i r found within holds.0) holds.1
+        found_parentless by_place leads b (small_bytes b all) i index.parentless.now w r.signature (parentless_by index each i r found within holds.0) holds.1
     | inr (past, none) ↦ absurd (let lt = w.0 in omega arith)
   ]
 
 pub all_found : ((place : ℕ) (t buf : List ℕ) → IsTrue (stands place t buf) ↔ StandsByPlace place t buf) → Leads → (index : RowIndex) → EachIsFound index → FindsAll index
 all_found by_place leads index each = record {
   below = λ b all parent i. (widens_below b parent (below_at index.below.now parent) i (true_below index.below.now parent each.below), finds_below by_place leads index each b all parent i);
-  free = λ b all i. (
+  parentless = λ b all i. (
     λ is. elim is [
       | inl tried_row ↦ tried_row.1
-      | inr (inl r) ↦ widens_root b None index.parentless.now.roots.now i (both_right (ascends rooted_row index.parentless.now.roots.now) _ each.free.roots) r
-      | inr (inr t) ↦ widens_text b index.parentless.now.texts i each.free.texts t
+      | inr (inl r) ↦ widens_root b None index.parentless.now.roots.now i (both_right (ascends rooted_row index.parentless.now.roots.now) _ each.parentless.roots) r
+      | inr (inr t) ↦ widens_text b index.parentless.now.texts i each.parentless.texts t
     ],
-    finds_free by_place leads index each b all i,
+    finds_parentless by_place leads index each b all i,
   );
 }
 
@@ -370,7 +366,7 @@ module _ (index : RowIndex) (all : FindsAll index) (b : List ℕ) (bytes : IsBuf
       → IsLeast (IsRooted b index.parentless.now.roots.now) tried_least rooted → IsLeast (IsTextRow index.parentless.now.texts b) rooted least
       → IsLeast (WidensAt None b) FURTHER_COUNT least
   least_with_texts tried_least rooted least h r k =
-      least_same _ _ FURTHER_COUNT least (λ i. (all.free b bytes i).0) (λ i. (all.free b bytes i).1)
+      least_same _ _ FURTHER_COUNT least (λ i. (all.parentless b bytes i).0) (λ i. (all.parentless b bytes i).1)
       (least_both _ _ FURTHER_COUNT tried_least least h (least_both _ _ tried_least rooted least r k))
 
   pub least_before_texts : (tried_least least : ℕ) → IsTrue (are_texts index.parentless.now.texts) → least ≤ index.parentless.now.texts.lines
@@ -384,59 +380,47 @@ module _ (index : RowIndex) (all : FindsAll index) (b : List ℕ) (bytes : IsBuf
         | inr (inr (e, p)) ↦ omega arith
       ]))
 
--- as computed of sixteen rows a step, with room for more of them: a refusal shows the numbers of the rows that are not found
-pub each_below : (ways : List below.Below) → NoneRefused (is_row_below_found ways) FURTHER_COUNT 0 64 → IsTrue (are_true 0 ways) → EachBelowIsFound ways
+-- as computed of each row: a refusal shows the numbers of the rows that are not found
+pub each_below : (ways : List below.Below) → NoRowFails (is_row_below_found ways) → IsTrue (are_true 0 ways) → EachBelowIsFound ways
 each_below ways none told = record {
-  found = λ i lt. let many = length-further in passed (is_row_below_found ways) FURTHER_COUNT 64 none (omega arith) i (omega arith);
+  found = each_row (is_row_below_found ways) none;
   told = told;
 }
 
-pub each_free : (index : Parentless) → NoneRefused (is_row_free_found index) FURTHER_COUNT 0 64 → IsTrue (are_texts index.texts)
-    → IsTrue (are_rooted index.roots.now) → EachFreeIsFound index
-each_free index none texts roots = record {
-  found = λ i lt. let many = length-further in passed (is_row_free_found index) FURTHER_COUNT 64 none (omega arith) i (omega arith);
+pub each_parentless : (index : Parentless) → NoRowFails (is_row_parentless_found index) → IsTrue (are_texts index.texts)
+    → IsTrue (are_rooted index.roots.now) → EachParentlessIsFound index
+each_parentless index none texts roots = record {
+  found = each_row (is_row_parentless_found index) none;
   texts = texts;
   roots = roots;
 }
 
 -- a root is that of markup, which begins with white space, "<" or a byte order mark
-pub root_opens : (b : List ℕ) → Leads → (name rest : List ℕ) → IsRootElement name rest b → MayBeginMarkup b
-root_opens b leads name rest element = elim (leads.root name b (rest, element)) [
+pub root_starts : (b : List ℕ) → Leads → (name rest : List ℕ) → IsRootElement name rest b → MayBeginMarkup b
+root_starts b leads name rest element = elim (leads.root name b (rest, element)) [
   | inl o ↦ let fits = o.fits in (omega arith, inr (inr (o.reads 0 (omega arith))))
-  | inr (k, low, spaces, opens) ↦ elim (cases_lt 0 k) [
-    | inl lt ↦ let space = spaces 0 (omega arith) lt in (there b 0 (by_space space), inl space)
-    | inr le ↦ let e : slice_index b 0 ≡ 0x3C = subst (λ i. slice_index b i ≡ 0x3C) (omega arith) opens in (there b 0 (omega arith), inr (inl e))
+  | inr (k, low, spaces, starts) ↦ elim (cases_lt 0 k) [
+    | inl lt ↦ let space = spaces 0 (omega arith) lt in (there b 0 (grind arith), inl space)
+    | inr le ↦ let e : slice_index b 0 ≡ 0x3C = subst (λ i. slice_index b i ≡ 0x3C) (omega arith) starts in (there b 0 (omega arith), inr (inl e))
   ]
 ]
-  where
-    by_space : IsXmlSpace (slice_index b 0) → 1 ≤ slice_index b 0
-    by_space (inl e) = omega arith
-    by_space (inr (inl e)) = omega arith
-    by_space (inr (inr (inl e))) = omega arith
-    by_space (inr (inr (inr e))) = omega arith
 
 -- and behind its first "<" stands an element or another "<"
 pub root_may : (b : List ℕ) → Leads → (name rest : List ℕ) → IsRootElement name rest b → MayBeRooted b
 root_may b leads name rest element = elim (leads.root name b (rest, element)) [
   | inl o ↦ inl o
-  | inr (k, low, spaces, opens) ↦
+  | inr (k, low, spaces, starts) ↦
       let (j, tag, begins) = leads.element name b (rest, element) in
       inr (
         k,
         λ i lt. spaces i (omega arith) lt,
-        opens,
+        starts,
         elim (cases_lt k j) [
           | inl less ↦ inr (j, omega arith, tag)
           | inr more ↦ elim (cases_lt j k) [
-            | inl less ↦ absurd (no_space (slice_index b j) tag (spaces j (omega arith) less))
+            | inl less ↦ absurd (not_space (slice_index b j) tag (spaces j (omega arith) less))
             | inr same ↦ let e : j ≡ k = omega arith in inl (subst (λ i. BeginsElement (slice_index b (i + 1))) e begins)
           ]
         ],
       )
 ]
-  where
-    no_space : (x : ℕ) → x ≡ 0x3C → ¬ IsXmlSpace x
-    no_space x e (inl s) = absurd (omega arith)
-    no_space x e (inr (inl s)) = absurd (omega arith)
-    no_space x e (inr (inr (inl s))) = absurd (omega arith)
-    no_space x e (inr (inr (inr s))) = absurd (omega arith)

@@ -1,8 +1,9 @@
 -- Laws of further rows.
-use Rattle.std.proofs.lemmas.Bool.{and_parts, or_cases, or_left}
-use Rattle.infer_more.proofs.Common.{◌↔◌, ℕ, ◌<◌, ◌≤◌, inl, inr, Bool, true, false, IsTrue, List, [], ◌∷◌, ◌++◌, Option, None, Some, length, get_or, arith, nat_le, refl, subst, sym, ◌≡◌, zero, suc, codes, ◌⊎◌, not, slice_index, HoldsAt, list_all, list_any, cases_lt, leb-true, nat_tests, get_or_from_slice_get, slice_get_cases, OccursAt, HasBracket, HasRoot, there, Lasts, StandsByPlace, at_least, Part, any_text, accepts, fits, has_part, stands, IsFirstOf, is_white, is_settled, AllLast, IsLost, is_dark, is_filled, is_lasting, is_plain, lines, outline, Further, Accepted, Fits, binary_bytes, bytes, related, plain_text, root, root_with, json_lines, json_text, further, Widens}
+use Rattle.std.proofs.lemmas.Bool.{and_parts, or_cases, or_left, not_from_false}
+use Rattle.infer_more.proofs.Common.{◌↔◌, ℕ, ◌<◌, ◌≤◌, inl, inr, true, false, IsTrue, List, [], ◌∷◌, ◌++◌, Option, None, Some, length, get_or, arith, nat_le, refl, subst, sym, ◌≡◌, zero, suc, codes, ◌⊎◌, not, slice_index, HoldsAt, list_all, list_any, cases_lt, leb-true, nat_tests, get_or_from_slice_get, slice_get_cases, OccursAt, HasBracket, HasRoot, there, Lasts, StandsByPlace, at_least, Part, any_text, accepts, fits, has_part, stands, IsFirstOf, is_white, is_settled, AllLast, IsLost, is_dark, is_filled, is_lasting, is_plain, lines, outline, Further, Accepted, Fits, binary_bytes, bytes, related, plain_text, root, root_with, json_lines, json_text, further, Widens, IsFirst, not_both, cases_Bool}
 use Rattle.std.proofs.Common.{All, slice_get}
 use Rattle.std.proofs.lemmas.List.Elements.{All-cons, All-nil, AllWithin-from_all}
+use Rattle.std.proofs.lemmas.List.Sums.{AllPass-from_list_all}
 use Rattle.infer_formats.specs.Laws as Inside
 use Rattle.infer_sig.specs.Signature as fixed
 use Rattle.infer.specs.Buffer.{IsBuffer}
@@ -12,7 +13,6 @@ use Rattle.infer_more.specs.Laws.{IsSteady, MayBeLost, NoneIsBlank, is_dark_alte
 use Rattle.infer_notation.specs.Alternative.{Alternative}
 use Rattle.infer_more.proofs.IndexLemmas.{both_left, both_right, passes_part}
 use Rattle.infer_more.proofs.OutlineLemmas.{has_lines, has_outline, past}
-use Rattle.infer_more.proofs.RefusalLemmas.{clash}
 
 -- ---- growing buffers
 
@@ -70,48 +70,36 @@ module _ (all_lasts : AllLast) (parent : Option ℕ) (short more : List ℕ) whe
   same_row : (i : ℕ) (r : Further) → slice_get further i ≡ Some r → get_or further i r ≡ r
   same_row i r found = get_or_from_slice_get further i r r found
 
-  tested : (x : Bool) → IsTrue x ⊎ IsTrue (not x)
-  tested true = inl refl
-  tested false = inr refl
-
   lost : (i : ℕ) (r : Further) → Some r ≡ slice_get further i → IsTrue (not (lasts r.signature)) → HoldsAt (λ s. IsTrue (not (lasts s.signature))) further i
   lost i r e h d = subst (λ s. IsTrue (not (lasts s.signature))) (sym (get_or_from_slice_get further i r d (sym e))) h
 
+  -- a row that does not widen the longer buffer's answer may be lost
+  may_be_lost : (i : ℕ) → IsFirst (Widens parent short) further i → ((r : Further) → i < length further → ¬ Widens parent (short ++ more) (get_or further i r)) → MayBeLost (Some i)
+  may_be_lost i h none = elim (slice_get_cases further i).1 [
+    | inl (r, lt, found, same) ↦ elim (cases_Bool (lasts r.signature)) [
+      | inl l ↦ absurd (none r lt (stays i r (subst (λ s. IsTrue (lasts s.signature)) (sym (same_row i r found)) l) h.here))
+      | inr l ↦ lost i r (sym found) (not_from_false _ l)
+    ]
+    | inr (past, none) ↦ absurd (let within = h.within in omega arith)
+  ]
+
   steady_at : (before after : Option ℕ) → IsFirstOf (Widens parent short) further before → IsFirstOf (Widens parent (short ++ more)) further after
       → IsNotLater after before ⊎ MayBeLost before
-  steady_at None None h k = inl tt
-  steady_at None (Some j) h k = inl tt
-  steady_at (Some i) None h k = let within : i < length further = h.within in elim (slice_get_cases further i).1 [
-    | inl (r, lt, found, same) ↦ elim (tested (lasts r.signature)) [
-      | inl l ↦ absurd (k i r (omega arith) lt (stays i r (subst (λ s. IsTrue (lasts s.signature)) (sym (same_row i r found)) l) h.here))
-      | inr l ↦ inr (lost i r (sym found) l)
-    ]
-    | inr (past, none) ↦ absurd (omega arith)
-  ]
-  steady_at (Some i) (Some j) h k = let within : i < length further = h.within in elim (cases_lt i j) [
-    | inl lt ↦ elim (slice_get_cases further i).1 [
-      | inl (r, inside, found, same) ↦ elim (tested (lasts r.signature)) [
-        | inl l ↦ absurd (k.before i r (omega arith) lt (stays i r (subst (λ s. IsTrue (lasts s.signature)) (sym (same_row i r found)) l) h.here))
-        | inr l ↦ inr (lost i r (sym found) l)
-      ]
-      | inr (past, none) ↦ absurd (omega arith)
-    ]
+  steady_at None after h k = inl tt
+  steady_at (Some i) None h k = inr (may_be_lost i h (λ r lt. k i r (omega arith) lt))
+  steady_at (Some i) (Some j) h k = elim (cases_lt i j) [
+    | inl early ↦ inr (may_be_lost i h (λ r lt. k.before i r (omega arith) early))
     | inr le ↦ inl le
   ]
 
 pub steady : AllLast → IsSteady
 steady all_lasts parent short more before after = steady_at all_lasts parent short more before after
 
-passes_at : (test : Further → Bool) (rows : List Further) (k : ℕ) (d : Further) → IsTrue (list_all test rows) → k < length rows → IsTrue (test (get_or rows k d))
-passes_at test [] k d h lt = absurd (omega arith)
-passes_at test (r ∷ rows) zero d h lt = both_left (test r) _ h
-passes_at test (r ∷ rows) (suc k) d h lt = passes_at test rows k d (both_right (test r) _ h) (omega arith)
-
 module _ (by_place : (place : ℕ) (t buf : List ℕ) → IsTrue (stands place t buf) ↔ StandsByPlace place t buf) (b : List ℕ) (white : All (λ x. IsTrue (is_white x)) b) where
   refused_at : (p : ℕ) (part : Part) → IsTrue (is_settled (λ x. not (is_white x)) p part) → IsTrue (has_part b part) → ⊥
   refused_at p part h k =
       let here = passes_part by_place (λ x. not (is_white x)) p b part h k in
-      clash (is_white (slice_index b p)) (AllWithin-from_all (λ x. IsTrue (is_white x)) b white p 0 (omega arith) here.0) here.1
+      not_both (is_white (slice_index b p)) (AllWithin-from_all (λ x. IsTrue (is_white x)) b white p 0 (omega arith) here.0) here.1
 
   refused_part : (part : Part) → IsTrue (is_dark_part part) → IsTrue (has_part b part) → ⊥
   refused_part (text p t) h k = refused_at p (text p t) h k
@@ -152,7 +140,7 @@ module _ (by_place : (place : ℕ) (t buf : List ℕ) → IsTrue (stands place t
   by_outline : (b : List ℕ) → All (λ x. IsTrue (is_white x)) b → (a : Alternative) → IsTrue (list_all is_dark_alternative (lines a)) → ¬ Fits a b
   by_outline b white a dark h = refused by_place b white (lines a) dark (has_lines leads b a (λ plain. small_white b white) h)
 
-  -- no markup is white space: an element opens in it
+  -- no markup is white space: an element starts in it
   no_markup : (b : List ℕ) → All (λ x. IsTrue (is_white x)) b → (name : List ℕ) → ¬ HasRoot name b
   no_markup b white name h =
       let (k, e, other) = leads.element name b h in
@@ -183,11 +171,11 @@ module _ (by_place : (place : ℕ) (t buf : List ℕ) → IsTrue (stands place t
   none_is_blank dark filled = record {
     white = λ b white k d le lt (h, other).
         let r = get_or further k d in
-        elim (or_cases (list_any is_plain r.signature) _ (passes_at is_dark further k d dark lt)) [
-          | inl plain ↦ clash _ plain other
+        elim (or_cases (list_any is_plain r.signature) _ (AllPass-from_list_all is_dark further dark k d lt)) [
+          | inl plain ↦ not_both _ plain other
           | inr relations ↦ refused_signature b white r.signature relations h
         ];
     empty = λ k d le lt h.
         let r = get_or further k d in
-        unfilled (outline r.signature) (passes_at is_filled further k d filled lt) (has_outline leads [] (λ i. past [] i (omega arith)) r.signature h);
+        unfilled (outline r.signature) (AllPass-from_list_all is_filled further filled k d lt) (has_outline leads [] (λ i. past [] i (omega arith)) r.signature h);
   }

@@ -1,8 +1,9 @@
 -- Tests of the images of a list.
-use Rattle.infer_more.proofs.Common.{◌≡◌, ℕ, zero, suc, Bool, true, false, IsTrue, List, [], ◌∷◌, ◌+◌, ◌<◌, ◌≤◌, Some, length, get_or, map, take, refl, ap, subst, ◌∙◌, arith, and_parts, get_or_from_slice_get, slice_get_within, ◌&&◌, ◌||◌, not, list_any, list_all}
+use Rattle.infer_more.proofs.Common.{◌≡◌, ℕ, Bool, true, false, IsTrue, List, [], ◌∷◌, ◌+◌, ◌<◌, ◌≤◌, Some, length, get_or, map, take, refl, ap, subst, ◌∙◌, get_or_from_slice_get, slice_get_within, ◌&&◌, ◌||◌, not, list_any, list_all, and_from, sym}
 use Rattle.std.proofs.Common.{slice_get}
 use Rattle.std.proofs.lemmas.List.{take_all}
 use Rattle.std.proofs.lemmas.List.Folds.{list_all_more, list_any_more}
+use Rattle.std.proofs.lemmas.List.Sums.{AllPass-from_list_all}
 
 module _ {A B : Type 0} (p : B → Bool) (f : A → B) where
   pub list_all_map : (xs : List A) → list_all p (map f xs) ≡ list_all (λ x. p (f x)) xs
@@ -11,9 +12,7 @@ module _ {A B : Type 0} (p : B → Bool) (f : A → B) where
 
   -- a test that all images pass is passed by each
   pub passed_by : (xs : List A) (k : ℕ) (d : A) → k < length xs → IsTrue (list_all p (map f xs)) → IsTrue (p (f (get_or xs k d)))
-  passed_by [] k d lt all = absurd (omega arith)
-  passed_by (x ∷ xs) zero d lt all = (and_parts (p (f x)) _ all).0
-  passed_by (x ∷ xs) (suc k) d lt all = passed_by xs k d (omega arith) (and_parts (p (f x)) _ all).1
+  passed_by xs k d lt all = AllPass-from_list_all (λ x. p (f x)) xs (sym (list_all_map xs) ∙ all) k d lt
 
   pub passed_read : (xs : List A) (k : ℕ) (x : A) → slice_get xs k ≡ Some x → IsTrue (list_all p (map f xs)) → IsTrue (p (f x))
   passed_read xs k x e all = subst (λ y. IsTrue (p (f y))) (get_or_from_slice_get xs k x x e) (passed_by xs k x (slice_get_within xs k x e) all)
@@ -24,10 +23,6 @@ module _ {A : Type 0} (p : A → Bool) where
   no_or false y e f = f
   no_or true y e f = absurd (cc)
 
-  yes_and : (x y : Bool) → x ≡ true → y ≡ true → (x && y) ≡ true
-  yes_and true y e f = f
-  yes_and false y e f = absurd (cc)
-
   pub no_more : (xs : List A) (k : ℕ) (d : A) → k < length xs → list_any p (take k xs) ≡ false → p (get_or xs k d) ≡ false → list_any p (take (k + 1) xs) ≡ false
   no_more xs k d lt before here = list_any_more p xs k d lt ∙ no_or (list_any p (take k xs)) _ before here
 
@@ -35,7 +30,7 @@ module _ {A : Type 0} (p : A → Bool) where
   any_of_all xs n le h = subst (λ l. list_any p l ≡ false) (take_all n xs le) h
 
   pub one_more : (xs : List A) (k : ℕ) (d : A) → k < length xs → list_all p (take k xs) ≡ true → p (get_or xs k d) ≡ true → list_all p (take (k + 1) xs) ≡ true
-  one_more xs k d lt before here = list_all_more p xs k d lt ∙ yes_and (list_all p (take k xs)) _ before here
+  one_more xs k d lt before here = list_all_more p xs k d lt ∙ and_from (list_all p (take k xs)) _ before here
 
   pub all_of_all : (xs : List A) (n : ℕ) → length xs ≤ n → list_all p (take n xs) ≡ true → list_all p xs ≡ true
   all_of_all xs n le h = subst (λ l. list_all p l ≡ true) (take_all n xs le) h

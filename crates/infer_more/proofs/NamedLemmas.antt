@@ -1,6 +1,7 @@
 -- Tests of all rows, whose refusal shows the numbers of the rows that fail.
-use Rattle.infer_more.proofs.Common.{◌≡◌, ℕ, zero, suc, Bool, true, false, IsTrue, List, [], ◌∷◌, Some, subst, refl, and_parts, ◌&&◌, if◌then◌else◌, list_all, Further, and_from}
+use Rattle.infer_more.proofs.Common.{◌≡◌, ℕ, suc, Bool, true, false, IsTrue, List, [], ◌∷◌, Some, subst, refl, if◌then◌else◌, list_all, Further, and_from, get_or_from_slice_get, slice_get_within, sym}
 use Rattle.std.proofs.Common.{slice_get}
+use Rattle.std.proofs.lemmas.List.Sums.{AllPass-from_list_all}
 
 pub none_failed : (t : Bool) (i : ℕ) (rest : List ℕ) → (if t then rest else i ∷ rest) ≡ [] → IsTrue t × (rest ≡ [])
 none_failed true i rest e = (refl, e)
@@ -18,6 +19,5 @@ all_pass test i (r ∷ rows) e =
 
 -- a test that all rows pass is passed by the row that is read
 pub row_passes : (test : Further → Bool) (rows : List Further) (i : ℕ) (r : Further) → IsTrue (list_all test rows) → Some r ≡ slice_get rows i → IsTrue (test r)
-row_passes test [] i r h e = absurd (cc)
-row_passes test (x ∷ rows) zero r h e = let same : x ≡ r = cc in subst (λ y. IsTrue (test y)) same (and_parts (test x) _ h).0
-row_passes test (x ∷ rows) (suc i) r h e = row_passes test rows i r (and_parts (test x) _ h).1 e
+row_passes test rows i r h e =
+    subst (λ x. IsTrue (test x)) (get_or_from_slice_get rows i r r (sym e)) (AllPass-from_list_all test rows h i r (slice_get_within rows i r (sym e)))

@@ -1,6 +1,6 @@
 -- What a computation says of buffers that a built-in signature refuses: by their first byte, by what stands behind white
 -- space, or since they begin with no frame; and whether they are markup.
-use Rattle.infer_more.proofs.Common.{◌≡◌, ◌⊎◌, ◌↔◌, inl, inr, ℕ, zero, suc, Bool, true, false, not, IsTrue, List, [], ◌∷◌, ◌++◌, get_or, length, map, take, refl, ap, sym, subst, ◌∙◌, codes, arith, if◌then◌else◌, nat_tests, OccursAt, OccursAt-append, BuiltIn, NoneHas, is_white, Accepts, table, Known, proved, refuted, unknown, at_most, each_before, either, needs, negated, proved_if, refuted_if, takes, ◌>>◌, ByPlace, occurs}
+use Rattle.infer_more.proofs.Common.{◌≡◌, ◌⊎◌, ◌↔◌, inl, inr, ℕ, zero, suc, Bool, true, false, not, IsTrue, List, [], ◌∷◌, ◌++◌, get_or, length, map, take, refl, ap, sym, subst, ◌∙◌, codes, arith, if◌then◌else◌, nat_tests, OccursAt, OccursAt-append, BuiltIn, NoneHas, is_white, Accepts, table, Known, proved, refuted, unknown, at_most, each_before, either, needs, negated, proved_if, refuted_if, takes, ByPlace, occurs, not_both, ◌>>◌}
 use Rattle.std.proofs.Common.{le_refl}
 use Rattle.std.specs.Prelude.{Any}
 use Rattle.std.specs.Char.{to_ascii_lowercase}
@@ -14,10 +14,6 @@ use Rattle.infer.specs.BuiltIn.{framed, html, xml, IsAccepted}
 use Rattle.infer.specs.Leads.{Leads, allows_first}
 use Rattle.infer.proofs.DecisionLemmas.{known}
 use Rattle.infer.proofs.KnownLemmas.{same, same_text, ◌>>=◌}
-
-pub clash : (x : Bool) → IsTrue x → IsTrue (not x) → ⊥
-clash true h k = cc
-clash false h k = cc
 
 -- ---- white space
 
@@ -94,7 +90,7 @@ module _ (b : List ℕ) where
   no_xml_opens none h =
       let byte = IsXml-lead left ((IsXml-trimmed b left (white_skips b) (none_white b)).1 h) in
       let allowed : IsTrue (allows_first xml (get_or left 0 0)) = grind (arith, nat_tests) in
-      clash _ allowed none
+      not_both _ allowed none
 
   no_mark : get_or left 0 0 ≡ 0x3C → NoneBegins IsMark left
   no_mark first word rest is e = elim is [
@@ -127,7 +123,7 @@ no_frame b none word rest f e = none (subst (λ u. OccursAt u frame_mark 1) (sym
 module _ (by_place : ByPlace) (leads : (s : BuiltIn) → Leads s) where
   abbrev refused_first : (s : BuiltIn) (b : List ℕ) → Known (¬ IsAccepted s b)
   refused_first s [] = unknown
-  refused_first s (f ∷ rest) = proved_if (not (allows_first s f)) (λ e h. clash _ (leads s f rest h) e)
+  refused_first s (f ∷ rest) = proved_if (not (allows_first s f)) (λ e h. not_both _ (leads s f rest h) e)
 
   abbrev refused_text : (s : BuiltIn) (b : List ℕ) → Known (¬ IsAccepted s b)
   refused_text html b = negated (known_html b)

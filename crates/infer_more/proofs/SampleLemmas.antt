@@ -1,5 +1,5 @@
 -- Each further row is the wider answer of its sample.
-use Rattle.infer_more.proofs.Common.{◌≡◌, ◌<◌, ◌+◌, suc, ℕ, List, Option, None, Some, MatchOption, ap, get_or, length, refl, sym, ◌≢◌, subst, arith, get_or_default, le16, le32, be32, be16, header_sum, stands, BuiltIn, IsFirst, IsFirstOf, Accepts, ROW_COUNT, Known, proved, refuted, unknown, at_most, both, each_before, negated, takes, some_row, ByPlace, NoneRefused, passed, Further, Reaches, further_sample, archives, code, further, headers, images, late, markup, media, packages, records, disks, elements, games, kinds, office, others, packed, papers, pictures, rasters, roots, sounds, stores, texts, IsWider, Widens, FURTHER_COUNT}
+use Rattle.infer_more.proofs.Common.{◌≡◌, ◌<◌, ◌+◌, suc, ℕ, List, Option, None, Some, MatchOption, ap, get_or, length, refl, subst, arith, get_or_default, le16, le32, be32, be16, header_sum, stands, BuiltIn, IsFirst, IsFirstOf, Accepts, ROW_COUNT, Known, proved, refuted, unknown, at_most, both, each_before, negated, takes, some_row, ByPlace, NoneRefused, passed, Further, Reaches, further_sample, archives, code, further, headers, images, late, markup, media, packages, records, disks, elements, games, kinds, office, others, packed, papers, pictures, rasters, roots, sounds, stores, texts, IsWider, Widens, FURTHER_COUNT, sym, ◌≢◌}
 use Rattle.infer_deep.specs.Laws as Deep
 use Rattle.infer_formats.specs.Laws as Inside
 use Rattle.infer.specs.Leads.{Leads}
@@ -8,7 +8,7 @@ use Rattle.infer.proofs.KnownLemmas.{is_proved, proof_of, same, ◌>>=◌}
 use Rattle.infer.proofs.OrderLemmas.{known_at}
 use Rattle.infer_more.proofs.FitLemmas.{known_accepted}
 use Rattle.infer_more.proofs.RefusalLemmas.{accepted, none_accepts}
-use Rattle.infer_more.proofs.TableLemmas.{length-further}
+use Rattle.infer_more.proofs.TableLemmas.{each_row}
 
 pub others_differ : (i j : ℕ) → i ≢ j → Some i ≢ Some j
 others_differ i j h e = h (cc)
@@ -53,180 +53,13 @@ module _ (by_place : ByPlace) (exclude : Deep.Apart) (leads : (s : BuiltIn) → 
   abbrev reaches : (i : ℕ) → Known (Reaches i (get_or further i d))
   reaches i = reached (get_or further i d).parent i (further_sample (get_or further i d))
 
-  -- sixteen rows a step, with room for more of them
-  all_reach : NoneRefused (λ i. is_proved (reaches i)) FURTHER_COUNT 0 64
+  first_reach : NoneRefused (λ i. is_proved (reaches i)) FURTHER_COUNT 0 16
   unfolding further archives code headers images late markup media packages records disks elements games kinds office others packed papers pictures rasters roots sounds stores texts built_in.table stands le16 le32 be16 be32 header_sum
-  all_reach = (
-    refl,
-    (
-      refl,
-      (
-        refl,
-        (
-          refl,
-          (
-            refl,
-            (
-              refl,
-              (
-                refl,
-                (
-                  refl,
-                  (
-                    refl,
-                    (
-                      refl,
-                      (
-                        refl,
-                        (
-                          refl,
-                          (
-                            refl,
-                            (
-                              refl,
-                              (
-                                refl,
-                                (
-                                  refl,
-                                  (
-                                    refl,
-                                    (
-                                      refl,
-                                      (
-                                        refl,
-                                        (
-                                          refl,
-                                          (
-                                            refl,
-                                            (
-                                              refl,
-                                              (
-                                                refl,
-                                                (
-                                                  refl,
-                                                  (
-                                                    refl,
-                                                    (
-                                                      refl,
-                                                      (
-                                                        refl,
-                                                        (
-                                                          refl,
-                                                          (
-                                                            refl,
-                                                            (
-                                                              refl,
-                                                              (
-                                                                refl,
-                                                                (
-                                                                  refl,
-                                                                  (
-                                                                    refl,
-                                                                    (
-                                                                      refl,
-                                                                      (
-                                                                        refl,
-                                                                        (
-                                                                          refl,
-                                                                          (
-                                                                            refl,
-                                                                            (
-                                                                              refl,
-                                                                              (
-                                                                                refl,
-                                                                                (
-                                                                                  refl,
-                                                                                  (
-                                                                                    refl,
-                                                                                    (
-                                                                                      refl,
-                                                                                      (
-                                                                                        refl,
-                                                                                        (
-                                                                                          refl,
-                                                                                          (
-                                                                                            refl,
-                                                                                            (
-                                                                                              refl,
-                                                                                              (
-                                                                                                refl,
-                                                                                                (
-                                                                                                  refl,
-                                                                                                  (
-                                                                                                    refl,
-                                                                                                    (
-                                                                                                      refl,
-                                                                                                      (
-                                                                                                        refl,
-                                                                                                        (
-                                                                                                          refl,
-                                                                                                          (
-                                                                                                            refl,
-                                                                                                            (
-                                                                                                              refl,
-                                                                                                              (
-                                                                                                                refl,
-                                                                                                                (
-                                                                                                                  refl,
-                                                                                                                  (refl, (refl, (refl, (refl, (refl, (refl, (refl, (refl, tt)))))))),
-                                                                                                                ),
-                                                                                                              ),
-                                                                                                            ),
-                                                                                                          ),
-                                                                                                        ),
-                                                                                                      ),
-                                                                                                    ),
-                                                                                                  ),
-                                                                                                ),
-                                                                                              ),
-                                                                                            ),
-                                                                                          ),
-                                                                                        ),
-                                                                                      ),
-                                                                                    ),
-                                                                                  ),
-                                                                                ),
-                                                                              ),
-                                                                            ),
-                                                                          ),
-                                                                        ),
-                                                                      ),
-                                                                    ),
-                                                                  ),
-                                                                ),
-                                                              ),
-                                                            ),
-                                                          ),
-                                                        ),
-                                                      ),
-                                                    ),
-                                                  ),
-                                                ),
-                                              ),
-                                            ),
-                                          ),
-                                        ),
-                                      ),
-                                    ),
-                                  ),
-                                ),
-                              ),
-                            ),
-                          ),
-                        ),
-                      ),
-                    ),
-                  ),
-                ),
-              ),
-            ),
-          ),
-        ),
-      ),
-    ),
-  )
+  first_reach = (refl, (refl, (refl, (refl, (refl, (refl, (refl, (refl, (refl, (refl, (refl, (refl, (refl, (refl, (refl, (refl, tt))))))))))))))))
+
+  then_reach : NoneRefused (λ i. is_proved (reaches i)) FURTHER_COUNT 256 16
+  unfolding further archives code headers images late markup media packages records disks elements games kinds office others packed papers pictures rasters roots sounds stores texts built_in.table stands le16 le32 be16 be32 header_sum
+  then_reach = (refl, (refl, (refl, (refl, (refl, (refl, (refl, (refl, (refl, (refl, (refl, (refl, (refl, (refl, (refl, (refl, tt))))))))))))))))
 
   pub row_reaches : (i : ℕ) → i < length further → Reaches i (get_or further i d)
-  row_reaches i lt =
-      let many = length-further in
-      proof_of (reaches i) (passed (λ j. is_proved (reaches j)) FURTHER_COUNT 64 all_reach (omega arith) i (omega arith))
+  row_reaches i lt = proof_of (reaches i) (each_row (λ j. is_proved (reaches j)) (first_reach, then_reach) i lt)

@@ -1,5 +1,6 @@
 -- The table's length, that no row asks for more than its least length, and that it can be told what more bytes bring each.
 use Rattle.infer_more.proofs.Common.{◌≡◌, IsTrue, length, refl, list_all, is_row_sound, is_row_closed, archives, code, further, headers, images, late, markup, media, packages, records, disks, elements, games, kinds, office, others, packed, papers, pictures, rasters, roots, sounds, stores, texts, FURTHER_COUNT}
+use Rattle.infer_more.proofs.Common.{◌+◌, ◌*◌, ◌<◌, ℕ, Bool, zero, suc, arith, subst, NoneRefused, passed}
 use Rattle.infer_more.proofs.NamedLemmas.{all_pass}
 
 pub length-further : length further ≡ FURTHER_COUNT
@@ -13,3 +14,19 @@ all_closed = all_pass is_row_closed 0 further refl
 pub all_sound : IsTrue (list_all is_row_sound further)
 unfolding further archives code headers images late markup media packages records disks elements games kinds office others packed papers pictures rasters roots sounds stores texts
 all_sound = all_pass is_row_sound 0 further refl
+
+-- none of m steps of sixteen rows is refused, and none of k steps behind them
+none_behind : (test : ℕ → Bool) (m k s : ℕ) → NoneRefused test FURTHER_COUNT s m → NoneRefused test FURTHER_COUNT (s + 16 * m) k
+    → NoneRefused test FURTHER_COUNT s (m + k)
+none_behind test zero k s here behind = subst (λ t. NoneRefused test FURTHER_COUNT t k) (omega arith) behind
+none_behind test (suc m) k s here behind =
+    (here.0, none_behind test m k (s + 16) here.1 (subst (λ t. NoneRefused test FURTHER_COUNT t k) (omega arith) behind))
+
+-- a test that no row fails, as computed of sixteen rows a step, with room for 512: a refusal shows the rows that fail
+abbrev pub NoRowFails : (ℕ → Bool) → Type 0
+NoRowFails test = NoneRefused test FURTHER_COUNT 0 16 × NoneRefused test FURTHER_COUNT 256 16
+
+pub each_row : (test : ℕ → Bool) → NoRowFails test → (i : ℕ) → i < length further → IsTrue (test i)
+each_row test none i lt =
+    let many = length-further in
+    passed test FURTHER_COUNT 32 (none_behind test 16 16 0 none.0 none.1) (omega arith) i (omega arith)

@@ -4,10 +4,10 @@ use Rattle.infer_more.specs.Line.{is_remark}
 use Rattle.infer_more.specs.Text.{lines_of}
 use Rattle.infer_notation.specs.Words.{behind_blanks}
 
--- the first four bytes of an extension as a number, and 0 for none: equal extensions have the same mark
-abbrev pub mark_of : Option (List ℕ) → ℕ
-mark_of None = 0
-mark_of (Some w) = get_or w 0 0 + 0x100 * get_or w 1 0 + 0x1_0000 * get_or w 2 0 + 0x100_0000 * get_or w 3 0
+-- the first four bytes of an extension as a number, and 0 for none: equal extensions have the same digest
+abbrev pub digest_of : Option (List ℕ) → ℕ
+digest_of None = 0
+digest_of (Some w) = get_or w 0 0 + 0x100 * get_or w 1 0 + 0x1_0000 * get_or w 2 0 + 0x100_0000 * get_or w 3 0
 
 -- the line is neither blank nor a remark
 abbrev pub is_row_line : List ℕ → Bool

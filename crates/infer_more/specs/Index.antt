@@ -175,8 +175,8 @@ abbrev pub MayBeginMarkup : List ℕ → Type 0
 MayBeginMarkup b = (0 < length b) × (IsXmlSpace (slice_index b 0) ⊎ (slice_index b 0 ≡ 0x3C) ⊎ (slice_index b 0 ≡ 0xEF))
 
 -- row i is found without a built-in answer
-abbrev pub IsFoundFree : Parentless → List ℕ → ℕ → Type 0
-IsFoundFree index b i = IsTried None b (tried_parentless index b) i ⊎ IsRooted b index.roots.now i ⊎ IsTextRow index.texts b i
+abbrev pub IsFoundParentless : Parentless → List ℕ → ℕ → Type 0
+IsFoundParentless index b i = IsTried None b (tried_parentless index b) i ⊎ IsRooted b index.roots.now i ⊎ IsTextRow index.texts b i
 
 -- the part settles the place, and allows there only bytes that pass the test
 abbrev pub is_settled : (ℕ → Bool) → ℕ → Part → Bool
@@ -304,8 +304,8 @@ is_text_row t i (related plain_text) = t.plain == i
 is_text_row t i other = false
 
 -- or of the root, or it is tried
-abbrev pub is_found_free : Parentless → ℕ → Alternative → Bool
-is_found_free index i a = is_text_row index.texts i a || (is_in_roots i index.roots.now a || list_all (is_tried_parentless index i) (lines a))
+abbrev pub is_found_parentless : Parentless → ℕ → Alternative → Bool
+is_found_parentless index i a = is_text_row index.texts i a || (is_in_roots i index.roots.now a || list_all (is_tried_parentless index i) (lines a))
 
 -- a row with a parent, if it has one, is found of each buffer that its signature accepts
 abbrev pub is_row_below : List below.Below → ℕ → Option ℕ → Further → Bool
@@ -313,16 +313,16 @@ is_row_below ways i None r = true
 is_row_below ways i (Some parent) r = list_all (is_found_below (below_at ways parent) i) r.signature
 
 -- and so is one without
-abbrev pub is_row_free : Parentless → ℕ → Option ℕ → Further → Bool
-is_row_free index i None r = list_all (is_found_free index i) r.signature
-is_row_free index i (Some parent) r = true
+abbrev pub is_row_parentless : Parentless → ℕ → Option ℕ → Further → Bool
+is_row_parentless index i None r = list_all (is_found_parentless index i) r.signature
+is_row_parentless index i (Some parent) r = true
 
 -- row i is so, if there is such a row
 abbrev pub is_row_below_found : List below.Below → ℕ → Bool
 is_row_below_found ways i = option_map_or (λ r. is_row_below ways i r.parent r) (slice_get further i) true
 
-abbrev pub is_row_free_found : Parentless → ℕ → Bool
-is_row_free_found index i = option_map_or (λ r. is_row_free index i r.parent r) (slice_get further i) true
+abbrev pub is_row_parentless_found : Parentless → ℕ → Bool
+is_row_parentless_found index i = option_map_or (λ r. is_row_parentless index i r.parent r) (slice_get further i) true
 
 -- row i has that parent, and an alternative that passes the test
 abbrev pub is_child : Option ℕ → Option ℕ → Bool
@@ -412,16 +412,16 @@ pub record EachBelowIsFound (ways : List below.Below) : Type 0 where
   pub found : (i : ℕ) → i < length further → IsTrue (is_row_below_found ways i)
   pub told : IsTrue (are_true 0 ways)
 
-pub record EachFreeIsFound (index : Parentless) : Type 0 where
-  pub found : (i : ℕ) → i < length further → IsTrue (is_row_free_found index i)
+pub record EachParentlessIsFound (index : Parentless) : Type 0 where
+  pub found : (i : ℕ) → i < length further → IsTrue (is_row_parentless_found index i)
   pub texts : IsTrue (are_texts index.texts)
   pub roots : IsTrue (are_rooted index.roots.now)
 
 pub record EachIsFound (index : RowIndex) : Type 0 where
   pub below : EachBelowIsFound index.below.now
-  pub free : EachFreeIsFound index.parentless.now
+  pub parentless : EachParentlessIsFound index.parentless.now
 
 -- just the rows that widen an answer are found
 pub record FindsAll (index : RowIndex) : Type 0 where
   pub below : (b : List ℕ) → IsBuffer b → (parent i : ℕ) → IsFoundBelow (below_at index.below.now parent) parent b i ↔ WidensAt (Some parent) b i
-  pub free : (b : List ℕ) → IsBuffer b → (i : ℕ) → IsFoundFree index.parentless.now b i ↔ WidensAt None b i
+  pub parentless : (b : List ℕ) → IsBuffer b → (i : ℕ) → IsFoundParentless index.parentless.now b i ↔ WidensAt None b i

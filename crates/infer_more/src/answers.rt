@@ -12,7 +12,7 @@ ghost use Rattle.infer_more.specs.Table.{further};
 ghost use Rattle.infer_more.specs.Wider.{AcceptsAt, IsWidened, IsWider, IsWiderAnswer, parent_at, shown};
 ghost use Rattle.infer_more.specs.declared.index.generated.TheConstants.{FURTHER_COUNT};
 
-use crate::index::asked::found_free;
+use crate::index::asked::found_parentless;
 use crate::index::{FURTHER_COUNT, found_below};
 use crate::signature;
 use crate::signature::ANY;
@@ -27,7 +27,7 @@ fn widened(parent: Option<usize>, buf: &[u8]) -> Option<usize>
 {
     match parent {
         Some(row) => Some(found_below(buf, row)),
-        None => found_free(buf),
+        None => found_parentless(buf),
     }
 }
 

@@ -1,7 +1,7 @@
 //! Which further rows are tried of a buffer, so that few are. An entry names a row and a byte that it asks, so that a row
 //! is tried whole only where the buffer has that byte too. Rows that ask for a name are told by it, which is read once for
 //! all of them.
-ghost use Rattle.infer_more.specs.Index.{EachBelowIsFound, EachFreeIsFound, EachIsFound, FindsAll};
+ghost use Rattle.infer_more.specs.Index.{EachBelowIsFound, EachParentlessIsFound, EachIsFound, FindsAll};
 
 /// A row, by its number among the further rows, that is tried only if a buffer has the byte at the place.
 pub(crate) struct Entry {
@@ -76,7 +76,7 @@ pub(crate) struct Texts {
     pub plain: u16,
 }
 
-/// The rows without a parent that are tried: by their first byte, and behind guards those that leave the first byte free,
+/// The rows without a parent that are tried: by their first byte, and behind guards those that allow any first byte,
 /// or share it with the zeros of many files. Of these the rows that share another byte stand behind the gate, so that a
 /// buffer without it is told by one look. Ranges have the rows that allow many bytes. The root of markup is looked for once
 /// for all rows that ask for one. The texts come last.
@@ -213,7 +213,7 @@ fn below_rows() -> &'static [Below]
 /// The rows without a parent.
 #[inline(always)]
 fn without_parent() -> &'static Parentless
-    ensures { EachFreeIsFound result.now }
+    ensures { EachParentlessIsFound result.now }
 {
     &PARENTLESS
 }

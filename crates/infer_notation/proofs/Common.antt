@@ -22,7 +22,7 @@ unfoldable pub use Rattle.infer_sig.specs.Signature.{stands}
 pub use Rattle.infer_sig.specs.Signature.{Part, all_but, allows, any_of, between, byte, has_part, text}
 -- of the definitions
 pub use Rattle.infer_notation.specs.Alternative.{Accepted, Alternative, related}
-pub use Rattle.infer_notation.specs.Described.{BeginsWith, IsMadeOf, blank, by_mark, by_word, empty, in_braces}
+pub use Rattle.infer_notation.specs.Described.{BeginsWith, IsMadeOf, blank, by_separator, by_word, empty, in_braces}
 pub use Rattle.infer_notation.specs.Described.{in_quotes, next}
 unfoldable pub use Rattle.infer_notation.specs.Fixed.{step}
 pub use Rattle.infer_notation.specs.Fixed.{Asked, Effect, Rest, accepts, alternatives_of, asks_binary, cursor}
@@ -32,13 +32,13 @@ pub use Rattle.infer_notation.specs.Fixed.{step_at, step_seen, within, word_part
 pub use Rattle.infer_notation.specs.Grammar.{Derives, opened, signature, tokens_at, tokens_of}
 pub use Rattle.infer_notation.specs.Leads.{IsKnown, IsLed, IsRead, is_found}
 pub use Rattle.infer_notation.specs.Relations.{IsSeen, begins_by, bytes_in, each_of, group_listed, groups_of, is_or}
-pub use Rattle.infer_notation.specs.Relations.{item_of, items_in, items_of, left_groups, marked_entry, name_listed}
+pub use Rattle.infer_notation.specs.Relations.{item_of, items_in, items_of, left_groups, extra_entry, name_listed}
 pub use Rattle.infer_notation.specs.Relations.{named_in, names, programs_of, relations_in, relations_of, same_token}
 pub use Rattle.infer_notation.specs.Relations.{short_groups}
 unfoldable pub use Rattle.infer_notation.specs.Signature.{signature_of}
 pub use Rattle.infer_notation.specs.Signature.{begins_relation, described}
 unfoldable pub use Rattle.infer_notation.specs.Tokens.{token_at}
-pub use Rattle.infer_notation.specs.Tokens.{bare, bare_at, is_mark, is_of, mark, quoted, quoted_at, set_at}
+pub use Rattle.infer_notation.specs.Tokens.{bare, bare_at, is_separator, is_of, separator, quoted, quoted_at, set_at}
 pub use Rattle.infer_notation.specs.Tokens.{token_listed}
 pub use Rattle.infer_notation.specs.Words.{◌>>=◌, behind_blanks, byte_of, byte_with, bytes_behind, bytes_of}
 pub use Rattle.infer_notation.specs.Words.{first_passes, found_by, hex_joined, hex_seen, is_blank, number_of}

@@ -1,11 +1,11 @@
 -- What is read of a text is what it describes.
-use Rattle.infer_notation.proofs.Common.{◌≡◌, ◌+◌, ◌<◌, ◌≤◌, ◌&&◌, ◌||◌, ◌==◌, ◌⊎◌, ℕ, Bool, true, false, List, [], ◌∷◌, ◌++◌, Option, None, Some, codes, drop, length, map, nat_le, nat_lt, option_map, inl, inr, refl, sym, ap, subst, ◌∙◌, arith, All, list_all, onto_first, slice_split, cases_Bool, eqb-true, le-leb, leb-true, lt-leb, lt-ltb, ltb-true, append-nil, length-map, All-cons, All-nil, slice_split-cons_no, slice_split_at, slice_split_none, cond_some, bytes_eq-Decides, Alternative, BeginsWith, IsMadeOf, by_word, blank, empty, next, begins_by, bytes_in, each_of, is_or, item_of, items_in, items_of, marked_entry, named_in, names, programs_of, related, relations_in, relations_of, same_token, short_groups, Rest, alternatives_of, rest_of, Derives, opened, signature, tokens_of, begins_relation, described, signature_of, bare, is_of, mark, quoted, ◌>>=◌, behind_blanks, byte_of, byte_with, number_of, Bare, Takes, Nothing, Program, not, or_cases, and_parts}
+use Rattle.infer_notation.proofs.Common.{◌≡◌, ◌+◌, ◌<◌, ◌≤◌, ◌&&◌, ◌||◌, ◌==◌, ◌⊎◌, ℕ, Bool, true, false, List, [], ◌∷◌, ◌++◌, Option, None, Some, codes, drop, length, map, nat_le, nat_lt, option_map, inl, inr, refl, sym, ap, subst, ◌∙◌, arith, All, list_all, onto_first, slice_split, cases_Bool, eqb-true, le-leb, leb-true, lt-leb, lt-ltb, ltb-true, append-nil, length-map, All-cons, All-nil, slice_split-cons_no, slice_split_at, slice_split_none, cond_some, bytes_eq-Decides, Alternative, BeginsWith, IsMadeOf, by_word, blank, empty, next, begins_by, bytes_in, each_of, is_or, item_of, items_in, items_of, extra_entry, named_in, names, programs_of, related, relations_in, relations_of, same_token, short_groups, Rest, alternatives_of, rest_of, Derives, opened, signature, tokens_of, begins_relation, described, signature_of, bare, is_of, separator, quoted, ◌>>=◌, behind_blanks, byte_of, byte_with, number_of, Bare, Takes, Nothing, Program, not, or_cases, and_parts}
 use Rattle.std.proofs.Common.{◌*◌}
 use Rattle.std.specs.Int.{is_in_range}
 use Rattle.std.proofs.lemmas.List.{append_assoc}
 use Rattle.std.proofs.lemmas.List.Splits.{slice_split-cons_yes}
 use Rattle.std.proofs.Math.Bool.{and-false}
-use Rattle.std.proofs.lemmas.Bool.{eq-eqb}
+use Rattle.std.proofs.lemmas.Bool.{eq-eqb, not-true}
 use Rattle.infer_formats.specs.Relation.{Relation, class_id, directory_tag, first_entry_ends_in, first_entry_has_extra, first_entry_is, package_with, program, relation_listed, root, root_with}
 use Rattle.infer_formats.specs.declared.relation.Relation as relations
 use Rattle.infer_notation.specs.Described.{AreBytes, Asks, AsksEach, AsksFor, Describes, IsGroup, IsName, IsNameIn, IsParted, NamesRelation, a_folder, a_name, a_program, a_relation, a_tag, a_text_within, an_element, an_end, an_extra, an_id, last, nothing, other, programs}
@@ -68,7 +68,7 @@ is_grouped ts gs (other g us hs group parted) =
 one_token : (t n : Token) → same_token t n ≡ true → t ≡ n
 one_token (quoted s) (quoted w) is = ap quoted ((bytes_eq-Decides s w).0 is)
 one_token (set s) (set w) is = ap set ((bytes_eq-Decides s w).0 is)
-one_token (mark x) (mark y) is = ap mark (eqb-true x y is)
+one_token (separator x) (separator y) is = ap separator (eqb-true x y is)
 one_token (bare s) (bare w) is = ap bare ((bytes_eq-Decides s w).0 is)
 one_token t n is = absurd cc
 
@@ -119,20 +119,16 @@ all_apart (m ∷ ns) = list_all (are_apart m) ns && all_apart ns
 
 begins_other : (ts ns rest : List Token) → differ ts ns ≡ true → begins_by (ts ++ rest) ns ≡ false
 begins_other (t ∷ ts) (n ∷ ns) rest is = elim (or_cases (not (same_token t n)) (differ ts ns) is) [
-  | inl here ↦ rw (not_so (same_token t n) here) refl
+  | inl here ↦ rw (not-true (same_token t n) here) refl
   | inr later ↦ ap (λ b. same_token t n && b) (begins_other ts ns rest later) ∙ and-false (same_token t n)
 ]
-  where
-    not_so : (b : Bool) → not b ≡ true → b ≡ false
-    not_so true is = absurd cc
-    not_so false is = refl
 begins_other ts ns rest is = absurd cc
 
 same_itself : (t : Token) → same_token t t ≡ true
 same_itself (quoted s) = (bytes_eq-Decides s s).1 refl
 same_itself (set s) = (bytes_eq-Decides s s).1 refl
 same_itself (bare s) = (bytes_eq-Decides s s).1 refl
-same_itself (mark x) = eq-eqb x x refl
+same_itself (separator x) = eq-eqb x x refl
 
 begins_itself : (ts rest : List Token) → (begins_by (ts ++ rest) ts ≡ true) × (drop (length ts) (ts ++ rest) ≡ rest)
 begins_itself [] rest = (refl, refl)
@@ -222,7 +218,7 @@ field_so (bare v ∷ bare w ∷ []) a e =
     subst (Asks Entry (bare (codes "has") ∷ bare (codes "extra") ∷ bare v ∷ bare w ∷ [])) same (an_extra v w x y is-high is-low)
 field_so id a e = absurd cc
 
-extra_so : (ts : List Token) (a : Relation) → marked_entry ts ≡ Some a → Asks Entry ts a
+extra_so : (ts : List Token) (a : Relation) → extra_entry ts ≡ Some a → Asks Entry ts a
 extra_so (t ∷ u ∷ id) a e =
     let (is, some) = cond_given (is_word (codes "has") t && is_word (codes "extra") u) (extra_field id) a e in
     let words = and_parts (is_word (codes "has") t) (is_word (codes "extra") u) is in
@@ -231,9 +227,9 @@ extra_so (t ∷ u ∷ id) a e =
 extra_so ts a e = absurd cc
 
 entry_so : (ts : List Token) (a : Relation) → entry_of ts ≡ Some a → Asks Entry ts a
-entry_so ts a e = elim (either_so (named_entry ts) (or_else (ending_entry ts) (marked_entry ts)) a e) [
+entry_so ts a e = elim (either_so (named_entry ts) (or_else (ending_entry ts) (extra_entry ts)) a e) [
   | inl named ↦ name_so ts a named
-  | inr others ↦ elim (either_so (ending_entry ts) (marked_entry ts) a others) [
+  | inr others ↦ elim (either_so (ending_entry ts) (extra_entry ts) a others) [
     | inl ending ↦ end_so ts a ending
     | inr extra ↦ extra_so ts a extra
   ]
@@ -410,7 +406,7 @@ number_first (x ∷ xs) rest n e = digit_alone x (cond_given (is_digit x) _ n e)
 
 fixed_first : (text : List ℕ) (ts : List Token) (r : Rest) → IsMadeOf text ts → Derives signature ts r → begins_relation (behind_blanks text) ≡ false
 fixed_first text ts r made (opened w n us s is derived) =
-    let (rest, same, some) = first_word text ts w (mark 0x3A ∷ us) made refl in ap begins_relation same ∙ number_first w rest n is
+    let (rest, same, some) = first_word text ts w (separator 0x3A ∷ us) made refl in ap begins_relation same ∙ number_first w rest n is
 
 -- the name begins with a word whose first byte is a letter
 abbrev opens_letter : List Token × Takes → Bool

@@ -1,5 +1,5 @@
 -- What is read is derived by the grammar, and what is derived is read.
-use Rattle.infer_notation.proofs.Common.{◌≡◌, ◌+◌, ◌≤◌, ℕ, zero, suc, true, false, List, [], ◌∷◌, ◌++◌, Option, None, Some, codes, cond, length, nat_le, option_map, inl, inr, refl, sym, ap, subst, ◌∙◌, bytes_eq, cases_Bool, le-leb, bytes_eq-Decides, Part, all_but, any_of, between, byte, text, Asked, Effect, Rest, asks_binary, cursor, joined, opens, part, range_of, rest_at, rest_of, start, step, within, Derives, opened, signature, tokens_at, tokens_of, bare, mark, quoted, token_at, ◌>>=◌, byte_of, bytes_of, is_blank, number_of, step_at, Cursor, Wanted, Length, Colon, At, Place, More, Byte, Binary, Or}
+use Rattle.infer_notation.proofs.Common.{◌≡◌, ◌+◌, ◌≤◌, ℕ, zero, suc, true, false, List, [], ◌∷◌, ◌++◌, Option, None, Some, codes, cond, length, nat_le, option_map, inl, inr, refl, sym, ap, subst, ◌∙◌, bytes_eq, cases_Bool, le-leb, bytes_eq-Decides, Part, all_but, any_of, between, byte, text, Asked, Effect, Rest, asks_binary, cursor, joined, opens, part, range_of, rest_at, rest_of, start, step, within, Derives, opened, signature, tokens_at, tokens_of, bare, separator, quoted, token_at, ◌>>=◌, byte_of, bytes_of, is_blank, number_of, step_at, Cursor, Wanted, Length, Colon, At, Place, More, Byte, Binary, Or}
 use Rattle.infer_notation.specs.Fixed as fixed
 use Rattle.infer_notation.specs.Fixed.{nothing}
 use Rattle.infer_notation.specs.Grammar.{IsPiece, IsSignature, Symbol, a_range, a_set, a_text, another, asked, comma, ended, more, other, others, parts, pieces, placed, rest, some_bytes, with_data, without}
@@ -116,15 +116,15 @@ after_all n p ts r e = absurd cc
 read : (s : Symbol) (ts : List Token) (r : Rest) → Derives s ts r → parse (cursor_of s) ts ≡ Some r
 unfolding step
 read s ts r (opened w n us b is d) =
-    then (cursor Length 0 0) (cursor Colon n 0) (bare w) (opens n) (mark 0x3A ∷ us) b (rw is refl)
-    (then (cursor Colon n 0) (cursor At n 0) (mark 0x3A) nothing us b refl (read (parts n 0) us b d))
+    then (cursor Length 0 0) (cursor Colon n 0) (bare w) (opens n) (separator 0x3A ∷ us) b (rw is refl)
+    (then (cursor Colon n 0) (cursor At n 0) (separator 0x3A) nothing us b refl (read (parts n 0) us b d))
 read s ts r (placed n p w q us b is order d) =
     let below : nat_le p q ≡ true = le-leb p q order in
-    then (cursor At n p) (cursor Place n p) (mark 0x40) nothing (bare w ∷ us) b refl
+    then (cursor At n p) (cursor Place n p) (separator 0x40) nothing (bare w ∷ us) b refl
     (then (cursor Place n p) (cursor Bytes n q) (bare w) nothing us b (rw (is, below) refl) (read (pieces n q) us b d))
 read s ts r (asked n p written q size us b is h d) = pieced n p written q size us b is h (read (rest n (p + size)) us b d)
 read s ts r (more n p us b d) = after_piece n p us b (read (pieces n p) us b d)
-read s ts r (comma n p us b d) = then (cursor More n p) (cursor At n p) (mark 0x2C) nothing us b refl (read (parts n p) us b d)
+read s ts r (comma n p us b d) = then (cursor More n p) (cursor At n p) (separator 0x2C) nothing us b refl (read (parts n p) us b d)
 read s ts r (with_data n p us ys d) =
     then (cursor More n p) (cursor Binary n p) (bare (codes "and")) nothing (bare (codes "binary") ∷ us) (rest_of [] true ys) refl
     (then (cursor Binary n p) (cursor Or 0 0) (bare (codes "binary")) asks_binary us (rest_of [] false ys) refl (read others us (rest_of [] false ys) d))
@@ -144,7 +144,7 @@ Closed r = r ≡ rest_of [] false r.alternatives
 -- what tokens are that add r, by what is wanted first
 abbrev Means : Wanted → ℕ → ℕ → List Token → Rest → Type 0
 Means Length n p ts r = Closed r × Derives signature ts r
-Means Colon n p ts r = (us : List Token) × (ts ≡ mark 0x3A ∷ us) × Derives (parts n p) us r
+Means Colon n p ts r = (us : List Token) × (ts ≡ separator 0x3A ∷ us) × Derives (parts n p) us r
 Means At n p ts r = Derives (parts n p) ts r
 Means Place n p ts r = (w : List ℕ) × (q : ℕ) × (us : List Token) × (ts ≡ bare w ∷ us) × (number_of w ≡ Some q) × (p ≤ q) × Derives (pieces n q) us r
 Means Bytes n p ts r = Derives (pieces n p) ts r
@@ -165,7 +165,7 @@ means_step w n p t d e (counted _ _ v m is) ts b (us, same, derived) =
     (refl, subst (λ vs. Derives signature (bare v ∷ vs) (joined (opens m) b)) (sym same) (opened v m us b is derived))
 means_step w n p t d e (begun _ _) ts b derived = (ts, refl, derived)
 means_step w n p t d e (located _ _) ts b (v, q, us, same, is, order, derived) =
-    subst (λ vs. Derives (parts n p) (mark 0x40 ∷ vs) b) (sym same) (placed n p v q us b is order derived)
+    subst (λ vs. Derives (parts n p) (separator 0x40 ∷ vs) b) (sym same) (placed n p v q us b is order derived)
 means_step w n p t d e (moved _ _ v q is order) ts b derived = (v, q, ts, refl, is, order, derived)
 means_step w n p t d e (negated _ _) ts b (v, x, us, c, same, is, fits, derived, made) =
     subst (λ vs. Derives (pieces n p) (bare (codes "not") ∷ vs) b) (sym same) (subst (Derives (pieces n p) (bare (codes "not") ∷ bare v ∷ us)) (sym made)

@@ -55,11 +55,8 @@ abbrev hex : ℕ → Bool → Bool → Hex
 hex count stands has = record { count = count; stands = stands; has = has }
 
 pub gives_end : (read : Hex) (left buf : List ℕ) → gives read left buf None [] ≡ Some read
-gives_end read left buf = ap (λ (r : Hex). Some r) (ended read (starts_none left))
+gives_end read left buf = ap (λ (r : Hex). Some r) (ended read refl)
   where
-    starts_none : (left : List ℕ) → starts_with nat_eq left [] ≡ true
-    starts_none left = refl
-
     none_among : (buf : List ℕ) → first_passes (allows (any_of [])) buf ≡ false
     none_among [] = refl
     none_among (y ∷ ys) = refl

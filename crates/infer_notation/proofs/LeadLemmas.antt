@@ -1,5 +1,5 @@
 -- What is known of the buffers that fit what was read of a signature.
-use Rattle.infer_notation.proofs.Common.{◌≡◌, ◌+◌, ◌<◌, ◌≤◌, ◌==◌, ◌&&◌, ◌||◌, ℕ, Bool, true, false, codes, cond, List, [], ◌∷◌, Option, None, Some, IsTrue, drop, length, get_or, map, nat_eq, nat_le, nat_lt, option_map, inl, inr, refl, sym, ap, subst, ◌∙◌, arith, list_any, starts_with, at_drop_all, and_parts, false≢true, or_cases, bytes_eq, Part, allows, any_of, between, byte, has_part, stands, text, Accepted, Alternative, Asked, Effect, accepts, alternatives_of, asks_binary, effect_seen, given, has_data, more_read, opens, part, piece, range_of, rest_at, rest_seen, set_part, start, state, state_taken, step, step_seen, within, word_part, IsKnown, IsLed, IsRead, is_found, described, bare, mark, quoted, token_at, ◌>>=◌, bytes_behind, bytes_of, byte_with, first_passes, is_blank, behind_blanks, Cursor, Has, At, Binary, Byte, Length, More}
+use Rattle.infer_notation.proofs.Common.{◌≡◌, ◌+◌, ◌<◌, ◌≤◌, ◌==◌, ◌&&◌, ◌||◌, ℕ, Bool, true, false, codes, cond, List, [], ◌∷◌, Option, None, Some, IsTrue, drop, length, get_or, map, nat_eq, nat_le, nat_lt, option_map, inl, inr, refl, sym, ap, subst, ◌∙◌, arith, list_any, starts_with, at_drop_all, and_parts, false≢true, or_cases, bytes_eq, Part, allows, any_of, between, byte, has_part, stands, text, Accepted, Alternative, Asked, Effect, accepts, alternatives_of, asks_binary, effect_seen, given, has_data, more_read, opens, part, piece, range_of, rest_at, rest_seen, set_part, start, state, state_taken, step, step_seen, within, word_part, IsKnown, IsLed, IsRead, is_found, described, bare, separator, quoted, token_at, ◌>>=◌, bytes_behind, bytes_of, byte_with, first_passes, is_blank, behind_blanks, Cursor, Has, At, Binary, Byte, Length, More}
 use Rattle.std.proofs.Common.{IfSome}
 use Rattle.infer_sig.specs.Signature.{Bytes}
 use Rattle.infer_notation.specs.Fixed as fixed
@@ -12,6 +12,7 @@ use Rattle.infer_notation.specs.declared.leads.Known as kinds
 use Rattle.infer_notation.specs.declared.leads.Known.TheVariants as known
 use Rattle.infer_notation.specs.declared.leads.Lead.{Lead}
 use Rattle.infer_notation.specs.declared.leads.Reading.{Reading}
+use Rattle.std.proofs.lemmas.Bool.{or_left, or_right}
 use Rattle.std.proofs.lemmas.Option.{cond_some}
 use Rattle.infer_notation.proofs.FixedLemmas.{first_at}
 use Rattle.infer_notation.proofs.OptionLemmas.{bind_some, cond_given, map_some}
@@ -21,19 +22,12 @@ use Rattle.infer_notation.proofs.SignatureLemmas.{cursor_taken, ended_is, given_
 
 -- ---- what is known of buffers of two kinds
 
-or_true : (a b : Bool) → b ≡ true → (a || b) ≡ true
-or_true true b e = refl
-or_true false b e = e
-
-or_left : (a b : Bool) → a ≡ true → (a || b) ≡ true
-or_left a b e = ap (λ t. t || b) e
-
-or_right : (a b : Bool) → a ≡ false → (a || b) ≡ b
-or_right a b e = ap (λ t. t || b) e
+or_none : (a b : Bool) → a ≡ false → (a || b) ≡ b
+or_none a b e = ap (λ t. t || b) e
 
 pub known_other : (k : kinds.Known) (f g : List ℕ → Bool) → ((b : List ℕ) → f b ≡ false) → IsKnown k g → IsKnown k (λ b. f b || g b)
-known_other known.Never f g none h = λ b. or_right (f b) (g b) (none b) ∙ h b
-known_other (known.Led l) f g none h = λ b e. h b (sym (or_right (f b) (g b) (none b)) ∙ e)
+known_other known.Never f g none h = λ b. or_none (f b) (g b) (none b) ∙ h b
+known_other (known.Led l) f g none h = λ b e. h b (sym (or_none (f b) (g b) (none b)) ∙ e)
 known_other known.Nothing f g none h = tt
 
 pub known_one : (l : Lead) (f g : List ℕ → Bool) → IsKnown (known.Led l) f → ((b : List ℕ) → g b ≡ false) → IsKnown (known.Led l) (λ b. f b || g b)
@@ -43,7 +37,7 @@ pub known_led : (l m n : Lead) (f g : List ℕ → Bool) → IsKnown (known.Led 
     → ((b : List ℕ) → IsTrue (has_part b (lead_part l) || has_part b (lead_part m)) → IsTrue (has_part b (lead_part n))) → IsKnown (known.Led n) (λ b. f b || g b)
 known_led l m n f g h i both b e = both b (elim (or_cases (f b) (g b) e) [
   | inl one ↦ ap (λ t. t || has_part b (lead_part m)) (h b one)
-  | inr other ↦ or_true (has_part b (lead_part l)) (has_part b (lead_part m)) (i b other)
+  | inr other ↦ or_right (has_part b (lead_part l)) (has_part b (lead_part m)) (i b other)
 ])
 
 -- ---- and of those that have both
@@ -109,9 +103,9 @@ all_added bytes (a ∷ b ∷ c ∷ d ∷ []) one two three four len f g h i = λ
         → (p || (a || (b || (c || (d || false))))) ≡ true → four ≡ true
     joined true a b c d one two three four f g h i e = i (or_left _ _ (h (or_left _ _ (g (or_left _ _ (f refl))))))
     joined false true b c d one two three four f g h i e = i (or_left _ _ (h (or_left _ _ (g (or_left _ _ (f refl))))))
-    joined false false true c d one two three four f g h i e = i (or_left _ _ (h (or_left _ _ (g (or_true one true refl)))))
-    joined false false false true d one two three four f g h i e = i (or_left _ _ (h (or_true two true refl)))
-    joined false false false false true one two three four f g h i e = i (or_true three true refl)
+    joined false false true c d one two three four f g h i e = i (or_left _ _ (h (or_left _ _ (g (or_right one true refl)))))
+    joined false false false true d one two three four f g h i e = i (or_left _ _ (h (or_right two true refl)))
+    joined false false false false true one two three four f g h i e = i (or_right three true refl)
     joined false false false false false one two three four f g h i e = absurd (false≢true e)
 all_added bytes others one two three four len f g h i = absurd (omega arith)
 
@@ -129,7 +123,7 @@ pub merged_leads : (one other : Lead) (bytes : List ℕ) → one.place ≡ other
     → (b : List ℕ) → IsTrue (has_part b (lead_part one) || has_part b (lead_part other)) → IsTrue (has_part b (byte one.place (any_of bytes)))
 merged_leads one other bytes same all b h = elim (or_cases (has_part b (lead_part one)) (has_part b (lead_part other)) h) [
   | inl here ↦ byte_leads (any_of one.bytes) (any_of bytes) one.place b (λ x e. all x (ap (λ t. t || allows (any_of other.bytes) x) e)) here
-  | inr there ↦ byte_leads (any_of other.bytes) (any_of bytes) one.place b (λ x e. all x (or_true (allows (any_of one.bytes) x) (allows (any_of other.bytes) x) e)) (subst (λ p. IsTrue (has_part b (byte p (any_of other.bytes)))) (sym same) there)
+  | inr there ↦ byte_leads (any_of other.bytes) (any_of bytes) one.place b (λ x e. all x (or_right (allows (any_of one.bytes) x) (allows (any_of other.bytes) x) e)) (subst (λ p. IsTrue (has_part b (byte p (any_of other.bytes)))) (sym same) there)
 ]
 
 -- a text that is asked for
@@ -146,7 +140,7 @@ quoted_has least place xs d e b is seen = within_has least place (length xs) (te
 pub more_piece : (least place : ℕ) (t : Token) (d : Cursor) (e : Effect) (b : List ℕ) → more_read least place t ≡ Some (d, e) → effect_seen b e ≡ Has true → piece least place t ≡ Some (d, e)
 more_piece least place (quoted xs) d e b is seen = is
 more_piece least place (set xs) d e b is seen = is
-more_piece least place (mark m) d e b is seen = no_part (m == 0x2C) (fixed.cursor At least place) d e b None is seen
+more_piece least place (separator m) d e b is seen = no_part (m == 0x2C) (fixed.cursor At least place) d e b None is seen
 more_piece least place (bare w) d e b is seen =
     no_part (bytes_eq w (codes "and")) (fixed.cursor Binary least place) d e b (piece least place (bare w))
     (no_part (bytes_eq w (codes "or")) (fixed.cursor Length 0 0) d e b _ is seen) seen
@@ -210,7 +204,7 @@ byte_found found x y b more xs ys is all are =
     joined : (p q r m : Bool) → ((p || q) ≡ true → m ≡ true) → (p || (q || r)) ≡ true → (m || r) ≡ true
     joined true q r m f e = or_left _ _ (f refl)
     joined false true r m f e = or_left _ _ (f refl)
-    joined false false r m f e = or_true m r e
+    joined false false r m f e = or_right m r e
 
 pub blank_found : (x : ℕ) (xs ys : List ℕ) → is_blank x ≡ true → bytes_behind None (x ∷ ys) ≡ Some xs → bytes_behind None ys ≡ Some xs
 blank_found x xs ys blank e = sym (let past : bytes_behind None (x ∷ ys) ≡ bytes_behind None ys = rw blank refl in past) ∙ e

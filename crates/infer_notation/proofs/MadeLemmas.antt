@@ -1,8 +1,8 @@
 -- The tokens that are read of a text are those that it is made of.
-use Rattle.infer_notation.proofs.Common.{◌≡◌, ◌+◌, ◌<◌, ◌==◌, ◌&&◌, ℕ, zero, suc, Bool, true, false, IsTrue, List, [], ◌∷◌, ◌++◌, Option, None, Some, cond, drop, length, nat_lt, option_map, take, inl, inr, refl, sym, ap, subst, ◌∙◌, arith, slice_index, list_all, prefix_len, cases_Bool, cases_lt, eqb-true, lt-ltb, ltb-true, drop_all, drop_more, BeginsWith, IsMadeOf, blank, by_mark, by_word, empty, in_braces, in_quotes, next, tokens_at, tokens_of, bare, bare_at, is_mark, is_of, mark, quoted, quoted_at, set_at, token_at, ◌>>=◌, first_passes, is_blank, Bare, and_parts}
+use Rattle.infer_notation.proofs.Common.{◌≡◌, ◌+◌, ◌<◌, ◌==◌, ◌&&◌, ℕ, zero, suc, Bool, true, false, IsTrue, List, [], ◌∷◌, ◌++◌, Option, None, Some, cond, drop, length, nat_lt, option_map, take, inl, inr, refl, sym, ap, subst, ◌∙◌, arith, slice_index, list_all, prefix_len, cases_Bool, cases_lt, eqb-true, lt-ltb, ltb-true, drop_all, drop_more, BeginsWith, IsMadeOf, blank, by_separator, by_word, empty, in_braces, in_quotes, next, tokens_at, tokens_of, bare, bare_at, is_separator, is_of, separator, quoted, quoted_at, set_at, token_at, ◌>>=◌, first_passes, is_blank, Bare, and_parts}
 use Rattle.std.proofs.Common.{◌-◌}
 use Rattle.std.proofs.Math.Seq.{drop-append-add, drop-append_seam, get_or-append_seam, take-append_seam}
-use Rattle.std.proofs.lemmas.Bool.{eq-eqb, true≢false}
+use Rattle.std.proofs.lemmas.Bool.{eq-eqb, true≢false, false_from_ne_true}
 use Rattle.std.proofs.lemmas.List.{get_or-take, get_or_past, length-take-le, take-append-drop}
 use Rattle.std.proofs.lemmas.List.Folds.{prefix_len-append}
 use Rattle.std.proofs.lemmas.List.Sums.{list_all-from_AllPass, prefix_len-le-length, prefix_len_passes, prefix_len_stops}
@@ -96,20 +96,20 @@ bare_read x xs =
     behind zero lt = absurd (omega arith)
     behind (suc n) lt = ap (λ k. drop k xs) (let e : n ≡ suc n - 1 = omega arith in e)
 
-bare_from : (x : ℕ) (xs : List ℕ) → (x == 0x22) ≡ false → (x == 0x7B) ≡ false → is_mark x ≡ false → token_from x xs ≡ bare_at (x ∷ xs)
+bare_from : (x : ℕ) (xs : List ℕ) → (x == 0x22) ≡ false → (x == 0x7B) ≡ false → is_separator x ≡ false → token_from x xs ≡ bare_at (x ∷ xs)
 bare_from x xs quoteless braceless plain =
-    let others = cond (is_mark x) (Some (mark x, 0)) (bare_at (x ∷ xs)) in
+    let others = cond (is_separator x) (Some (separator x, 0)) (bare_at (x ∷ xs)) in
     ap (λ b. cond b (quoted_at xs) (cond (x == 0x7B) (set_at xs) others)) quoteless
     ∙ ap (λ b. cond b (set_at xs) others) braceless
-    ∙ ap (λ b. cond b (Some (mark x, 0)) (bare_at (x ∷ xs))) plain
+    ∙ ap (λ b. cond b (Some (separator x, 0)) (bare_at (x ∷ xs))) plain
 
 token_read : (x : ℕ) (xs : List ℕ) → Read x xs (token_from x xs)
 token_read x xs = elim (cases_Bool (x == 0x22)) [
   | inl is ↦ rw is (subst (λ y. Read y xs (quoted_at xs)) (sym (eqb-true x 0x22 is)) (quoted_read xs))
   | inr quoteless ↦ elim (cases_Bool (x == 0x7B)) [
     | inl is ↦ rw (quoteless, is) (subst (λ y. Read y xs (set_at xs)) (sym (eqb-true x 0x7B is)) (set_read xs))
-    | inr braceless ↦ elim (cases_Bool (is_mark x)) [
-      | inl is ↦ rw (quoteless, braceless, is) (by_mark x xs is)
+    | inr braceless ↦ elim (cases_Bool (is_separator x)) [
+      | inl is ↦ rw (quoteless, braceless, is) (by_separator x xs is)
       | inr plain ↦ subst (Read x xs) (sym (bare_from x xs quoteless braceless plain)) (bare_read x xs)
     ]
   ]
@@ -163,24 +163,21 @@ module _ (p : ℕ → Bool) (xs rest : List ℕ) (y : ℕ) (all : IsTrue (list_a
   ended_drop : drop (prefix_len p whole + 1) whole ≡ rest
   ended_drop = ap (λ n. drop (n + 1) whole) ended_length ∙ drop-append-add xs (y ∷ rest) 1
 
--- a mark, and a byte of a bare word, is neither a blank nor what another token begins with
+-- a separator, and a byte of a bare word, is neither a blank nor what another token begins with
 pub not_same : (P : ℕ → Bool) (x y : ℕ) → P x ≡ true → P y ≡ false → (x == y) ≡ false
-not_same P x y is other = elim (cases_Bool (x == y)) [
-  | inl same ↦ absurd (true≢false (sym is ∙ ap P (eqb-true x y same) ∙ other))
-  | inr apart ↦ apart
-]
+not_same P x y is other = false_from_ne_true (x == y) (λ same. true≢false (sym is ∙ ap P (eqb-true x y same) ∙ other))
 
 pub not_blank : (P : ℕ → Bool) (x : ℕ) → P 0x20 ≡ false → P 0x09 ≡ false → P 0x0D ≡ false → P x ≡ true → is_blank x ≡ false
 not_blank P x space tab return is = rw (not_same P x 0x20 is space, not_same P x 0x09 is tab, not_same P x 0x0D is return) refl
 
-mark_from : (x : ℕ) (xs : List ℕ) → is_mark x ≡ true → token_from x xs ≡ Some (mark x, 0)
-mark_from x xs is =
-    ap (λ b. cond b (quoted_at xs) (cond (x == 0x7B) (set_at xs) (cond (is_mark x) (Some (mark x, 0)) (bare_at (x ∷ xs))))) (not_same is_mark x 0x22 is refl)
-    ∙ ap (λ b. cond b (set_at xs) (cond (is_mark x) (Some (mark x, 0)) (bare_at (x ∷ xs)))) (not_same is_mark x 0x7B is refl)
-    ∙ ap (λ b. cond b (Some (mark x, 0)) (bare_at (x ∷ xs))) is
+separator_from : (x : ℕ) (xs : List ℕ) → is_separator x ≡ true → token_from x xs ≡ Some (separator x, 0)
+separator_from x xs is =
+    ap (λ b. cond b (quoted_at xs) (cond (x == 0x7B) (set_at xs) (cond (is_separator x) (Some (separator x, 0)) (bare_at (x ∷ xs))))) (not_same is_separator x 0x22 is refl)
+    ∙ ap (λ b. cond b (set_at xs) (cond (is_separator x) (Some (separator x, 0)) (bare_at (x ∷ xs)))) (not_same is_separator x 0x7B is refl)
+    ∙ ap (λ b. cond b (Some (separator x, 0)) (bare_at (x ∷ xs))) is
 
-not_mark : (x : ℕ) → is_of Bare x ≡ true → is_mark x ≡ false
-not_mark x is = rw (not_same (is_of Bare) x 0x2C is refl, not_same (is_of Bare) x 0x3A is refl, not_same (is_of Bare) x 0x40 is refl) refl
+no_separator : (x : ℕ) → is_of Bare x ≡ true → is_separator x ≡ false
+no_separator x is = rw (not_same (is_of Bare) x 0x2C is refl, not_same (is_of Bare) x 0x3A is refl, not_same (is_of Bare) x 0x40 is refl) refl
 
 token_at_front : (text rest : List ℕ) (t : Token) (ts : List Token) → BeginsWith text t rest → tokens_at zero rest ≡ Some ts → tokens_at zero text ≡ Some (t ∷ ts)
 token_at_front text rest t ts (in_quotes xs _ some all) e =
@@ -192,7 +189,7 @@ token_at_front text rest t ts (in_braces xs _ all) e =
     one_read 0x7B (xs ++ (0x7D ∷ rest)) rest (set xs) (prefix_len (is_of Set) (xs ++ (0x7D ∷ rest)) + 1) ts refl
     (rw (ended_by (is_of Set) xs rest 0x7D all refl, ended_take (is_of Set) xs rest 0x7D all refl) refl)
     (ended_drop (is_of Set) xs rest 0x7D all refl) e
-token_at_front text rest t ts (by_mark x _ is) e = one_read x rest rest (mark x) 0 ts (not_blank is_mark x refl refl refl is) (mark_from x rest is) refl e
+token_at_front text rest t ts (by_separator x _ is) e = one_read x rest rest (separator x) 0 ts (not_blank is_separator x refl refl refl is) (separator_from x rest is) refl e
 token_at_front text rest t ts (by_word [] _ some all ends) e = absurd (omega arith)
 token_at_front text rest t ts (by_word (x ∷ xs) _ some all ends) e =
     let is = (and_parts (is_of Bare x) (list_all (is_of Bare) xs) all).0 in
@@ -201,7 +198,7 @@ token_at_front text rest t ts (by_word (x ∷ xs) _ some all ends) e =
     let some = lt-ltb 0 n (omega (arith, long)) in
     let written = ap (λ k. take k (x ∷ (xs ++ rest))) long ∙ take-append_seam (x ∷ xs) rest in
     one_read x (xs ++ rest) rest (bare (x ∷ xs)) (n - 1) ts (not_blank (is_of Bare) x refl refl refl is)
-    (bare_from x (xs ++ rest) (not_same (is_of Bare) x 0x22 is refl) (not_same (is_of Bare) x 0x7B is refl) (not_mark x is)
+    (bare_from x (xs ++ rest) (not_same (is_of Bare) x 0x22 is refl) (not_same (is_of Bare) x 0x7B is refl) (no_separator x is)
     ∙ ap (λ b. cond b (Some (bare (take n (x ∷ (xs ++ rest))), n - 1)) None) some ∙ ap (λ u. Some (bare u, n - 1)) written)
     (ap (λ k. drop k (xs ++ rest)) (let e : n - 1 ≡ length xs = omega (arith, long) in e) ∙ drop-append_seam xs rest) e
 

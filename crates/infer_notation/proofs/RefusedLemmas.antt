@@ -1,5 +1,5 @@
 -- A signature whose last alternative a buffer does not fit, and which has no further one.
-use Rattle.infer_notation.proofs.Common.{◌≡◌, ◌<◌, ◌==◌, ◌&&◌, ◌||◌, ℕ, zero, suc, Bool, true, false, codes, cond, List, [], ◌∷◌, Option, None, Some, get_or, length, nat_lt, option_map, take, inl, inr, refl, sym, ap, subst, ◌∙◌, arith, list_any, prefix_len, bytes_eq, false≢true, Effect, Rest, accepts, given, joined, rest_at, rest_of, rest_seen, step, step_at, is_or, bare, bare_at, is_mark, is_of, mark, quoted, quoted_at, set_at, token_at, ◌>>=◌, is_blank, Cursor, Wanted, Length, State}
+use Rattle.infer_notation.proofs.Common.{◌≡◌, ◌<◌, ◌==◌, ◌&&◌, ◌||◌, ℕ, zero, suc, Bool, true, false, codes, cond, List, [], ◌∷◌, Option, None, Some, get_or, length, nat_lt, option_map, take, inl, inr, refl, sym, ap, subst, ◌∙◌, arith, list_any, prefix_len, bytes_eq, false≢true, Effect, Rest, accepts, given, joined, rest_at, rest_of, rest_seen, step, step_at, is_or, bare, bare_at, is_separator, is_of, separator, quoted, quoted_at, set_at, token_at, ◌>>=◌, is_blank, Cursor, Wanted, Length, State}
 use Rattle.infer_notation.specs.Tokens.{Token, set}
 use Rattle.infer_notation.specs.declared.fixed.Wanted.TheVariants.{Bytes}
 use Rattle.infer_notation.specs.declared.tokens.Run.TheVariants as runs
@@ -39,7 +39,7 @@ bare_other x xs (suc n) nor some = ap (λ t. t && bytes_eq (take n xs) (codes "r
 
 token_other : (x : ℕ) (xs : List ℕ) (t : Token) (n : ℕ) → (x == 0x6F) ≡ false → token_at (x ∷ xs) ≡ Some (t, n) → is_or t ≡ false
 unfolding token_at
-token_other x xs t n nor is = chosen (x == 0x22) (x == 0x7B) (is_mark x) is
+token_other x xs t n nor is = chosen (x == 0x22) (x == 0x7B) (is_separator x) is
   where
     same_token : (u : Token) (m : ℕ) → is_or u ≡ false → ◌≡◌ {A = Option (Token × ℕ)} (Some (u, m)) (Some (t, n)) → is_or t ≡ false
     same_token u m nor is = let same : (u, m) ≡ (t, n) = cc in subst (λ (p : Token × ℕ). is_or p.0 ≡ false) same nor
@@ -56,10 +56,10 @@ token_other x xs t n nor is = chosen (x == 0x22) (x == 0x7B) (is_mark x) is
     on_bare true k m some is = same_token (bare (take k (x ∷ xs))) m (bare_other x xs k nor some) is
     on_bare false k m some is = absurd cc
 
-    chosen : (q s m : Bool) → cond q (quoted_at xs) (cond s (set_at xs) (cond {A = Option (Token × ℕ)} m (Some (mark x, 0)) (bare_at (x ∷ xs)))) ≡ Some (t, n) → is_or t ≡ false
+    chosen : (q s m : Bool) → cond q (quoted_at xs) (cond s (set_at xs) (cond {A = Option (Token × ℕ)} m (Some (separator x, 0)) (bare_at (x ∷ xs)))) ≡ Some (t, n) → is_or t ≡ false
     chosen true s m is = on_quoted _ _ _ is
     chosen false true m is = on_set _ _ _ is
-    chosen false false true is = same_token (mark x) 0 refl is
+    chosen false false true is = same_token (separator x) 0 refl is
     chosen false false false is = on_bare (nat_lt 0 (prefix_len (is_of runs.Bare) (x ∷ xs))) (prefix_len (is_of runs.Bare) (x ∷ xs)) _ refl is
 
 -- ---- what follows

@@ -1,5 +1,5 @@
 -- What a step that is taken is: where the reading stands, the token, where it goes on, and what it adds.
-use Rattle.infer_notation.proofs.Common.{[], ◌≡◌, ◌+◌, ◌≤◌, ◌==◌, ◌∷◌, ℕ, true, List, Option, Some, None, codes, cond, length, nat_le, inl, inr, refl, sym, subst, bytes_eq, cases_Bool, eqb-true, leb-true, cond_some, bytes_eq-Decides, Part, all_but, any_of, between, byte, text, Effect, asks_binary, cursor, more_read, opens, part, piece, range_of, set_part, step_at, within, word_part, bare, mark, quoted, byte_of, bytes_of, number_of, Cursor, Wanted, Length, Colon, At, Place, More, Byte, Binary, Or}
+use Rattle.infer_notation.proofs.Common.{[], ◌≡◌, ◌+◌, ◌≤◌, ◌==◌, ◌∷◌, ℕ, true, List, Option, Some, None, codes, cond, length, nat_le, inl, inr, refl, sym, subst, bytes_eq, cases_Bool, eqb-true, leb-true, cond_some, bytes_eq-Decides, Part, all_but, any_of, between, byte, text, Effect, asks_binary, cursor, more_read, opens, part, piece, range_of, set_part, step_at, within, word_part, bare, separator, quoted, byte_of, bytes_of, number_of, Cursor, Wanted, Length, Colon, At, Place, More, Byte, Binary, Or}
 use Rattle.infer_notation.specs.Fixed.{nothing}
 use Rattle.infer_notation.specs.Grammar.{IsPiece, a_range, a_set, a_text, some_bytes}
 use Rattle.infer_notation.specs.Tokens.{Token, set}
@@ -8,13 +8,13 @@ use Rattle.infer_notation.proofs.OptionLemmas.{bind_some, cond_given, map_some}
 
 pub data Steps : Wanted → ℕ → ℕ → Token → Cursor → Effect → Type 0 where
   counted : (n p : ℕ) (w : List ℕ) (m : ℕ) → number_of w ≡ Some m → Steps Length n p (bare w) (cursor Colon m 0) (opens m)
-  begun : (n p : ℕ) → Steps Colon n p (mark 0x3A) (cursor At n p) nothing
-  located : (n p : ℕ) → Steps At n p (mark 0x40) (cursor Place n p) nothing
+  begun : (n p : ℕ) → Steps Colon n p (separator 0x3A) (cursor At n p) nothing
+  located : (n p : ℕ) → Steps At n p (separator 0x40) (cursor Place n p) nothing
   moved : (n p : ℕ) (w : List ℕ) (q : ℕ) → number_of w ≡ Some q → p ≤ q → Steps Place n p (bare w) (cursor Bytes n q) nothing
   negated : (n p : ℕ) → Steps Bytes n p (bare (codes "not")) (cursor Byte n p) nothing
   wanted : (n p : ℕ) (t : Token) (q : Part) (size : ℕ) → IsPiece p (t ∷ []) q size → p + size ≤ n → Steps Bytes n p t (cursor More n (p + size)) (part q)
   again : (n p : ℕ) (t : Token) (d : Cursor) (e : Effect) → Steps Bytes n p t d e → Steps More n p t d e
-  parted : (n p : ℕ) → Steps More n p (mark 0x2C) (cursor At n p) nothing
+  parted : (n p : ℕ) → Steps More n p (separator 0x2C) (cursor At n p) nothing
   joins : (n p : ℕ) → Steps More n p (bare (codes "and")) (cursor Binary n p) nothing
   ends : (n p : ℕ) → Steps More n p (bare (codes "or")) (cursor Length 0 0) nothing
   excluded : (n p : ℕ) (w : List ℕ) (x : ℕ) → byte_of w ≡ Some x → p + 1 ≤ n → Steps Byte n p (bare w) (cursor More n (p + 1)) (part (byte p (all_but x)))
@@ -24,11 +24,11 @@ pub data Steps : Wanted → ℕ → ℕ → Token → Cursor → Effect → Type
 abbrev On : Wanted → ℕ → ℕ → Token → Cursor × Effect → Type 0
 On w n p t s = Steps w n p t s.0 s.1
 
--- of a mark or a word that is wanted
-on_mark : (w : Wanted) (n p m x : ℕ) (s : Cursor × Effect) (c : Cursor) → Steps w n p (mark m) c nothing → cond (x == m) (Some (c, nothing)) None ≡ Some s → On w n p (mark x) s
-on_mark w n p m x s c h is =
+-- of a separator or a word that is wanted
+on_separator : (w : Wanted) (n p m x : ℕ) (s : Cursor × Effect) (c : Cursor) → Steps w n p (separator m) c nothing → cond (x == m) (Some (c, nothing)) None ≡ Some s → On w n p (separator x) s
+on_separator w n p m x s c h is =
     let (same, e) = cond_some (x == m) (c, nothing) s is in
-    subst (On w n p (mark x)) e (subst (λ y. Steps w n p (mark y) c nothing) (sym (eqb-true x m same)) h)
+    subst (On w n p (separator x)) e (subst (λ y. Steps w n p (separator y) c nothing) (sym (eqb-true x m same)) h)
 
 on_word : (w : Wanted) (n p : ℕ) (v u : List ℕ) (s : Cursor × Effect) (c : Cursor) (f : Effect) → Steps w n p (bare v) c f → bytes_eq u v ≡ true
     → ◌≡◌ {A = Option (Cursor × Effect)} (Some (c, f)) (Some s) → On w n p (bare u) s
@@ -59,7 +59,7 @@ on_piece n p (bare w) s is = elim (cases_Bool (bytes_eq w (codes "not"))) [
   | inl same ↦ on_word Bytes n p (codes "not") w s (cursor Byte n p) nothing (negated n p) same (rw same at is)
   | inr other ↦ on_range n p w (range_of w) s refl (rw other at is)
 ]
-on_piece n p (mark m) s is = absurd cc
+on_piece n p (separator m) s is = absurd cc
 
 on_more : (n p : ℕ) (w : List ℕ) (s : Cursor × Effect) → more_read n p (bare w) ≡ Some s → On More n p (bare w) s
 on_more n p w s is = elim (cases_Bool (bytes_eq w (codes "or"))) [
@@ -72,14 +72,14 @@ on_more n p w s is = elim (cases_Bool (bytes_eq w (codes "or"))) [
 
 pub steps_so : (w : Wanted) (n p : ℕ) (t : Token) (s : Cursor × Effect) → step_at w n p t ≡ Some s → Steps w n p t s.0 s.1
 steps_so Length n p (bare w) s is = let (m, are, e) = map_some (λ m. (cursor Colon m 0, opens m)) (number_of w) s is in subst (On Length n p (bare w)) e (counted n p w m are)
-steps_so Colon n p (mark x) s is = on_mark Colon n p 0x3A x s (cursor At n p) (begun n p) is
-steps_so At n p (mark x) s is = on_mark At n p 0x40 x s (cursor Place n p) (located n p) is
+steps_so Colon n p (separator x) s is = on_separator Colon n p 0x3A x s (cursor At n p) (begun n p) is
+steps_so At n p (separator x) s is = on_separator At n p 0x40 x s (cursor Place n p) (located n p) is
 steps_so Place n p (bare w) s is =
     let (q, are, chosen) = bind_some (number_of w) _ s is in
     let (order, e) = cond_some (nat_le p q) (cursor Bytes n q, nothing) s chosen in
     subst (On Place n p (bare w)) e (moved n p w q are (leb-true p q order))
 steps_so Bytes n p t s is = on_piece n p t s is
-steps_so More n p (mark x) s is = on_mark More n p 0x2C x s (cursor At n p) (parted n p) is
+steps_so More n p (separator x) s is = on_separator More n p 0x2C x s (cursor At n p) (parted n p) is
 steps_so More n p (bare w) s is = on_more n p w s is
 steps_so More n p (quoted xs) s is = again n p (quoted xs) s.0 s.1 (on_piece n p (quoted xs) s is)
 steps_so More n p (set xs) s is = again n p (set xs) s.0 s.1 (on_piece n p (set xs) s is)

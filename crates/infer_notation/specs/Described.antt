@@ -8,7 +8,7 @@ use Rattle.infer_notation.specs.Fixed.{Asked, rest_of}
 use Rattle.infer_notation.specs.Grammar.{Derives, signature}
 use Rattle.infer_notation.specs.Relations.{is_or, names}
 use Rattle.infer_notation.specs.Signature.{described}
-use Rattle.infer_notation.specs.Tokens.{Token, bare, is_mark, is_of, mark, quoted, set}
+use Rattle.infer_notation.specs.Tokens.{Token, bare, is_separator, is_of, separator, quoted, set}
 use Rattle.infer_notation.specs.Words.{byte_of, byte_with, first_passes, is_blank}
 use Rattle.infer_notation.specs.declared.names.Takes.{Takes}
 use Rattle.infer_notation.specs.declared.names.Takes.TheVariants.{ClassId, Entry, Folder, Nothing, Program, Root, Tag}
@@ -23,7 +23,7 @@ AreOf run xs = IsTrue (list_all (is_of run) xs)
 pub data BeginsWith : List ℕ → Token → List ℕ → Type 0 where
   in_quotes : (xs rest : List ℕ) → 0 < length xs → AreOf Quoted xs → BeginsWith (0x22 ∷ (xs ++ 0x22 ∷ rest)) (quoted xs) rest
   in_braces : (xs rest : List ℕ) → AreOf Set xs → BeginsWith (0x7B ∷ (xs ++ 0x7D ∷ rest)) (set xs) rest
-  by_mark : (x : ℕ) (rest : List ℕ) → IsTrue (is_mark x) → BeginsWith (x ∷ rest) (mark x) rest
+  by_separator : (x : ℕ) (rest : List ℕ) → IsTrue (is_separator x) → BeginsWith (x ∷ rest) (separator x) rest
   by_word : (xs rest : List ℕ) → 0 < length xs → AreOf Bare xs → first_passes (is_of Bare) rest ≡ false → BeginsWith (xs ++ rest) (bare xs) rest
 
 -- the text is made of the tokens, and of blanks before and behind them

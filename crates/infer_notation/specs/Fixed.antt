@@ -4,7 +4,7 @@ use Rattle.std.specs.Int.{is_in_range}
 use Rattle.std.specs.List.{list_all, list_any}
 use Rattle.std.specs.Str.{bytes_eq}
 use Rattle.infer_sig.specs.Signature.{Alternative, Part, all_but, any_of, at_least, between, byte, fits, has_part, text}
-use Rattle.infer_notation.specs.Tokens.{Token, bare, mark, quoted, set, token_at}
+use Rattle.infer_notation.specs.Tokens.{Token, bare, separator, quoted, set, token_at}
 use Rattle.infer_notation.specs.Words.{◌>>=◌, byte_of, byte_with, bytes_of, is_blank, number_of}
 use Rattle.infer_notation.specs.declared.fixed.Cursor.{Cursor}
 use Rattle.infer_notation.specs.declared.fixed.Effect as effects
@@ -57,14 +57,14 @@ set_read least place digits = bytes_of digits >>= set_part least place
 abbrev pub piece : ℕ → ℕ → Token → Option (Cursor × Effect)
 piece least place (quoted xs) = within least place (length xs) (text place xs)
 piece least place (set digits) = set_read least place digits
-piece least place (mark m) = None
+piece least place (separator m) = None
 piece least place (bare w) =
     if bytes_eq w (codes "not") then Some (cursor Byte least place, nothing) else word_part least place w (range_of w)
 
--- what follows on a mark that is wanted
-abbrev pub behind_mark : ℕ → Wanted → ℕ → ℕ → Token → Option (Cursor × Effect)
-behind_mark m wanted least place (mark x) = if x == m then Some (cursor wanted least place, nothing) else None
-behind_mark m wanted least place other = None
+-- what follows on a separator that is wanted
+abbrev pub behind_separator : ℕ → Wanted → ℕ → ℕ → Token → Option (Cursor × Effect)
+behind_separator m wanted least place (separator x) = if x == m then Some (cursor wanted least place, nothing) else None
+behind_separator m wanted least place other = None
 
 abbrev pub length_read : Token → Option (Cursor × Effect)
 length_read (bare w) = option_map (λ n. (cursor Colon n 0, opens n)) (number_of w)
@@ -76,7 +76,7 @@ place_read least place (bare w) = number_of w >>= λ p. if nat_le place p then S
 place_read least place other = None
 
 abbrev pub more_read : ℕ → ℕ → Token → Option (Cursor × Effect)
-more_read least place (mark m) = behind_mark 0x2C At least place (mark m)
+more_read least place (separator m) = behind_separator 0x2C At least place (separator m)
 more_read least place (bare w) =
     if bytes_eq w (codes "or") then Some (cursor Length 0 0, nothing)
     else (if bytes_eq w (codes "and") then Some (cursor Binary least place, nothing) else piece least place (bare w))
@@ -94,8 +94,8 @@ other_byte least place other = None
 -- where the reading goes on behind the token, and what it adds
 abbrev pub step_at : Wanted → ℕ → ℕ → Token → Option (Cursor × Effect)
 step_at Length least place t = length_read t
-step_at Colon least place t = behind_mark 0x3A At least place t
-step_at At least place t = behind_mark 0x40 Place least place t
+step_at Colon least place t = behind_separator 0x3A At least place t
+step_at At least place t = behind_separator 0x40 Place least place t
 step_at Place least place t = place_read least place t
 step_at Bytes least place t = piece least place t
 step_at More least place t = more_read least place t

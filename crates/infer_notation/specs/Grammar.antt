@@ -3,7 +3,7 @@ use Rattle.std.specs.Prelude.{◌≡◌, ◌+◌, ◌≤◌, ℕ, zero, suc, tru
 use Rattle.std.specs.Option.{option_map_or}
 use Rattle.infer_sig.specs.Signature.{Part, all_but, any_of, between, byte, text}
 use Rattle.infer_notation.specs.Fixed.{Asked, Rest, asked_of, range_of, rest_of}
-use Rattle.infer_notation.specs.Tokens.{Token, bare, mark, quoted, set, token_at}
+use Rattle.infer_notation.specs.Tokens.{Token, bare, separator, quoted, set, token_at}
 use Rattle.infer_notation.specs.Words.{◌>>=◌, byte_of, bytes_of, is_blank, number_of}
 
 -- the tokens of a text, after some bytes of one that was read already
@@ -54,13 +54,13 @@ pub data Symbol : Type 0 where
 --     others     is  nothing, or "or" signature
 pub data Derives : Symbol → List Token → Rest → Type 0 where
   opened : (w : List ℕ) (n : ℕ) (ts : List Token) (r : Rest) → number_of w ≡ Some n → Derives (parts n 0) ts r
-      → Derives signature (bare w ∷ mark 0x3A ∷ ts) (rest_of [] false (asked_of n r.parts r.binary ∷ r.alternatives))
+      → Derives signature (bare w ∷ separator 0x3A ∷ ts) (rest_of [] false (asked_of n r.parts r.binary ∷ r.alternatives))
   placed : (n p : ℕ) (w : List ℕ) (q : ℕ) (ts : List Token) (r : Rest) → number_of w ≡ Some q → p ≤ q → Derives (pieces n q) ts r
-      → Derives (parts n p) (mark 0x40 ∷ bare w ∷ ts) r
+      → Derives (parts n p) (separator 0x40 ∷ bare w ∷ ts) r
   asked : (n p : ℕ) (written : List Token) (part : Part) (size : ℕ) (ts : List Token) (r : Rest) → IsPiece p written part size → p + size ≤ n
       → Derives (rest n (p + size)) ts r → Derives (pieces n p) (written ++ ts) (rest_of (part ∷ r.parts) r.binary r.alternatives)
   more : (n p : ℕ) (ts : List Token) (r : Rest) → Derives (pieces n p) ts r → Derives (rest n p) ts r
-  comma : (n p : ℕ) (ts : List Token) (r : Rest) → Derives (parts n p) ts r → Derives (rest n p) (mark 0x2C ∷ ts) r
+  comma : (n p : ℕ) (ts : List Token) (r : Rest) → Derives (parts n p) ts r → Derives (rest n p) (separator 0x2C ∷ ts) r
   with_data : (n p : ℕ) (ts : List Token) (ys : List Asked) → Derives others ts (rest_of [] false ys)
       → Derives (rest n p) (bare (codes "and") ∷ bare (codes "binary") ∷ ts) (rest_of [] true ys)
   without : (n p : ℕ) (ts : List Token) (ys : List Asked) → Derives others ts (rest_of [] false ys) → Derives (rest n p) ts (rest_of [] false ys)

@@ -7,7 +7,7 @@ use Rattle.infer_formats.specs.Relation.{Relation, class_id, directory_tag, firs
 use Rattle.infer_formats.specs.declared.relation.Relation.TheVariants as relations
 use Rattle.infer_notation.specs.Alternative.{Accepted, Alternative, related}
 use Rattle.infer_notation.specs.Grammar.{tokens_of}
-use Rattle.infer_notation.specs.Tokens.{Token, bare, mark, quoted, set, token_listed}
+use Rattle.infer_notation.specs.Tokens.{Token, bare, separator, quoted, set, token_listed}
 use Rattle.infer_notation.specs.Words.{◌>>=◌, byte_of, byte_with}
 use Rattle.infer_notation.specs.declared.relations.Group.{Group}
 use Rattle.infer_notation.specs.declared.tokens.Token as declared
@@ -26,11 +26,11 @@ names =
     ∷ (bare (codes "JSON") ∷ [], Nothing relations.JsonText)
     ∷ (bare (codes "text") ∷ [], Nothing relations.PlainText)
     ∷ (bare (codes "first") ∷ bare (codes "directory") ∷ bare (codes "has") ∷ bare (codes "tag") ∷ [], Tag)
-    ∷ (bare (codes "package") ∷ bare (codes "with") ∷ mark 0x3A ∷ [], Folder)
-    ∷ (bare (codes "program") ∷ mark 0x3A ∷ [], Program)
-    ∷ (bare (codes "first") ∷ bare (codes "entry") ∷ mark 0x3A ∷ [], Entry)
-    ∷ (bare (codes "class") ∷ bare (codes "id") ∷ mark 0x3A ∷ [], ClassId)
-    ∷ (bare (codes "root") ∷ mark 0x3A ∷ [], Root)
+    ∷ (bare (codes "package") ∷ bare (codes "with") ∷ separator 0x3A ∷ [], Folder)
+    ∷ (bare (codes "program") ∷ separator 0x3A ∷ [], Program)
+    ∷ (bare (codes "first") ∷ bare (codes "entry") ∷ separator 0x3A ∷ [], Entry)
+    ∷ (bare (codes "class") ∷ bare (codes "id") ∷ separator 0x3A ∷ [], ClassId)
+    ∷ (bare (codes "root") ∷ separator 0x3A ∷ [], Root)
     ∷ []
 
 abbrev pub name_listed : Bor (List declared.Token) × Takes → List Token × Takes
@@ -44,7 +44,7 @@ rest_listed n = (n.0, map token_listed n.1.now)
 abbrev pub same_token : Token → Token → Bool
 same_token (quoted s) (quoted t) = bytes_eq s t
 same_token (set s) (set t) = bytes_eq s t
-same_token (mark x) (mark y) = x == y
+same_token (separator x) (separator y) = x == y
 same_token (bare s) (bare t) = bytes_eq s t
 same_token s t = false
 
@@ -131,9 +131,9 @@ extra_field (bare v ∷ bare w ∷ []) = byte_of v >>= λ x. option_map (λ y. f
 extra_field other = None
 
 -- `has extra FE CA`
-abbrev pub marked_entry : List Token → Option Relation
-marked_entry (has ∷ extra ∷ id) = if is_word (codes "has") has && is_word (codes "extra") extra then extra_field id else None
-marked_entry other = None
+abbrev pub extra_entry : List Token → Option Relation
+extra_entry (has ∷ extra ∷ id) = if is_word (codes "has") has && is_word (codes "extra") extra then extra_field id else None
+extra_entry other = None
 
 -- the first of these that there is
 abbrev pub or_else : Option Relation → Option Relation → Option Relation
@@ -141,7 +141,7 @@ or_else None other = other
 or_else (Some r) other = Some r
 
 abbrev pub entry_of : List Token → Option Relation
-entry_of ts = or_else (named_entry ts) (or_else (ending_entry ts) (marked_entry ts))
+entry_of ts = or_else (named_entry ts) (or_else (ending_entry ts) (extra_entry ts))
 
 -- bytes, each of them a word
 abbrev pub bytes_in : List Token → Option (List ℕ)

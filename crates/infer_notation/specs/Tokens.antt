@@ -7,22 +7,22 @@ use Rattle.infer_notation.specs.declared.tokens.Run.TheVariants.{Bare, Quoted, S
 use Rattle.infer_notation.specs.declared.tokens.Token as tokens
 use Rattle.infer_notation.specs.declared.tokens.Token.TheVariants as listed
 
--- the bytes between quotes or braces, a mark, or a bare word
+-- the bytes between quotes or braces, a separator, or a bare word
 pub data Token : Type 0 where
   quoted : List ℕ → Token
   set : List ℕ → Token
-  mark : ℕ → Token
+  separator : ℕ → Token
   bare : List ℕ → Token
 
 abbrev pub token_listed : tokens.Token → Token
 token_listed (listed.Quoted text) = quoted text.now
 token_listed (listed.Set digits) = set digits.now
-token_listed (listed.Mark byte) = mark byte
+token_listed (listed.Separator byte) = separator byte
 token_listed (listed.Word word) = bare word.now
 
 -- commas, colons and "@"
-abbrev pub is_mark : ℕ → Bool
-is_mark x = x == 0x2C || x == 0x3A || x == 0x40
+abbrev pub is_separator : ℕ → Bool
+is_separator x = x == 0x2C || x == 0x3A || x == 0x40
 
 -- printable ASCII
 abbrev pub is_printable : ℕ → Bool
@@ -30,7 +30,7 @@ is_printable x = is_in_range 0x20 0x7E x
 
 -- what a bare word is made of, a quoted text, and what stands between braces
 abbrev pub is_of : Run → ℕ → Bool
-is_of Bare x = is_in_range 0x21 0x7E x && not (x == 0x22 || x == 0x7B || x == 0x7D || is_mark x)
+is_of Bare x = is_in_range 0x21 0x7E x && not (x == 0x22 || x == 0x7B || x == 0x7D || is_separator x)
 is_of Quoted x = is_printable x && not (x == 0x22)
 is_of Set x = not (x == 0x7D)
 
@@ -57,7 +57,7 @@ abbrev pub token_from : ℕ → List ℕ → Option (Token × ℕ)
 token_from x xs =
     if x == 0x22 then quoted_at xs
     else (if x == 0x7B then set_at xs
-    else (if is_mark x then Some (mark x, 0) else bare_at (x ∷ xs)))
+    else (if is_separator x then Some (separator x, 0) else bare_at (x ∷ xs)))
 
 unfoldable pub token_at : List ℕ → Option (Token × ℕ)
 token_at [] = None

@@ -3,7 +3,7 @@ ghost use Rattle.std.specs.Prelude.{◌≡◌, [], IfErr, codes, false, option_m
 ghost use Rattle.std.specs.List.{starts_with};
 ghost use Rattle.infer_sig.specs.Signature as signature;
 ghost use Rattle.infer_sig.specs.Signature.{all_but, between, has_part};
-ghost use Rattle.infer_notation.specs.Fixed.{asks_binary, behind_mark, behind_word_of, cursor, has_data, length_read, more_read, nothing, other_byte, piece, place_read, range_of, set_read, step, step_seen, within_seen, word_part};
+ghost use Rattle.infer_notation.specs.Fixed.{asks_binary, behind_separator, behind_word_of, cursor, has_data, length_read, more_read, nothing, other_byte, piece, place_read, range_of, set_read, step, step_seen, within_seen, word_part};
 ghost use Rattle.infer_notation.specs.Reasons.{is_of_token};
 ghost use Rattle.infer_notation.specs.Tokens.{token_listed};
 ghost use Rattle.infer_notation.specs.declared.fixed.Wanted.TheVariants.{Length, Or};
@@ -11,7 +11,7 @@ ghost use Rattle.infer_notation.specs.Words.{found_by};
 
 use crate::reason::Reason;
 use crate::tokens::Token;
-use crate::words::{byte, byte_with, bytes, from, number};
+use crate::words::{byte, byte_with, bytes, number, rest_at};
 use infer_formats::text::is_binary;
 
 /// What has to come next.
@@ -65,8 +65,8 @@ pub fn step(cursor: Cursor, token: Token<'_>, buf: &[u8]) -> Result<(Cursor, Eff
 {
     match cursor.wanted {
         Wanted::Length => length_read(token, buf),
-        Wanted::Colon => behind_mark(b':', Wanted::At, cursor, token, Reason::Length),
-        Wanted::At => behind_mark(b'@', Wanted::Place, cursor, token, Reason::Place),
+        Wanted::Colon => behind_separator(b':', Wanted::At, cursor, token, Reason::Length),
+        Wanted::At => behind_separator(b'@', Wanted::Place, cursor, token, Reason::Place),
         Wanted::Place => place_read(cursor, token),
         Wanted::Bytes => piece(cursor, token, buf),
         Wanted::More => more_read(cursor, token, buf),
@@ -144,21 +144,24 @@ fn length_read(token: Token<'_>, buf: &[u8]) -> Result<(Cursor, Effect), Reason>
     }
 }
 
-/// What follows on a mark that is wanted.
+/// What follows on a separator that is wanted.
 #[inline(always)]
-fn behind_mark(
-    mark: u8,
+fn behind_separator(
+    separator: u8,
     wanted: Wanted,
     cursor: Cursor,
     token: Token<'_>,
     reason: Reason,
 ) -> Result<(Cursor, Effect), Reason>
     ensures found { found_by result ≡ option_map (step_seen [])
-        (behind_mark mark wanted cursor.least cursor.place (token_listed token.entry)) }
+        (behind_separator separator wanted cursor.least cursor.place (token_listed token.entry)) }
     ensures kind { IfErr result (λ given. given ≡ reason) }
 {
     match token {
-        Token::Mark(other) if other == mark => Ok((Cursor { wanted, ..cursor }, Effect::Nothing)),
+        Token::Separator(other) if other == separator => Ok((
+            Cursor { wanted, ..cursor },
+            Effect::Nothing,
+        )),
         _ => Err(reason),
     }
 }
@@ -197,7 +200,7 @@ fn more_read(cursor: Cursor, token: Token<'_>, buf: &[u8]) -> Result<(Cursor, Ef
     ensures kind { IfErr result (λ reason. is_of_token reason ≡ false) }
 {
     match token {
-        Token::Mark(_) => behind_mark(b',', Wanted::At, cursor, token, Reason::Bytes),
+        Token::Separator(_) => behind_separator(b',', Wanted::At, cursor, token, Reason::Bytes),
         Token::Word(word) if word == b"or".as_slice() => or_read(token),
         Token::Word(word) if word == b"and".as_slice() => Ok((
             Cursor {
@@ -234,7 +237,7 @@ fn piece(cursor: Cursor, token: Token<'_>, buf: &[u8]) -> Result<(Cursor, Effect
     match token {
         Token::Quoted(text) => within(cursor, text.len(), has_text(buf, cursor.place, text)),
         Token::Set(digits) => set_read(cursor, digits, buf),
-        Token::Mark(_) => Err(Reason::Bytes),
+        Token::Separator(_) => Err(Reason::Bytes),
         Token::Word(word) if word == b"not".as_slice() => Ok((
             Cursor {
                 wanted: Wanted::Byte,
@@ -252,7 +255,7 @@ fn set_read(cursor: Cursor, digits: &[u8], buf: &[u8]) -> Result<(Cursor, Effect
         (set_read cursor.least cursor.place digits.now) }
     ensures kind { IfErr result (λ reason. is_of_token reason ≡ false) }
 {
-    let read = bytes(digits, from(buf, cursor.place))?;
+    let read = bytes(digits, rest_at(buf, cursor.place))?;
     if read.count == 0 {
         return Err(Reason::Bytes);
     }
@@ -274,7 +277,7 @@ fn word_part(cursor: Cursor, word: &[u8], buf: &[u8]) -> Result<(Cursor, Effect)
             within(cursor, 1, has_between(buf, cursor.place, low, high))
         }
         None => {
-            let read = bytes(word, from(buf, cursor.place))?;
+            let read = bytes(word, rest_at(buf, cursor.place))?;
             within(cursor, read.count, read.stands)
         }
     }
@@ -318,7 +321,7 @@ fn within(cursor: Cursor, size: usize, has: bool) -> Result<(Cursor, Effect), Re
 fn has_text(buf: &[u8], place: usize, text: &[u8]) -> bool
     ensures { result ≡ has_part buf.now (signature.text place text.now) }
 {
-    from(buf, place).starts_with(text)
+    rest_at(buf, place).starts_with(text)
 }
 
 /// Whether a byte from `low` up to `high` stands at the place.

@@ -1,7 +1,7 @@
 //! Relations that tokens ask for, behind a name.
 ghost use Rattle.std.specs.Prelude.{◌≡◌, map, option_map};
 ghost use Rattle.infer_formats.specs.Relation.{relation_listed};
-ghost use Rattle.infer_notation.specs.Relations.{alone, directory_of, ending_entry, entry_of, extra_field, id_of, is_word, item_of, marked_entry, named_entry, package_of, program_of, root_of, token_byte};
+ghost use Rattle.infer_notation.specs.Relations.{alone, directory_of, ending_entry, entry_of, extra_field, id_of, is_word, item_of, extra_entry, named_entry, package_of, program_of, root_of, token_byte};
 ghost use Rattle.infer_notation.specs.Tokens.{token_listed};
 
 use crate::names::{Takes, is_word};
@@ -79,7 +79,7 @@ fn entry<'a>(tokens: &[Token<'a>]) -> Option<Relation<'a>>
         Some(relation) => Some(relation),
         None => match ending_entry(tokens) {
             Some(relation) => Some(relation),
-            None => marked_entry(tokens),
+            None => extra_entry(tokens),
         },
     }
 }
@@ -107,8 +107,8 @@ fn ending_entry<'a>(tokens: &[Token<'a>]) -> Option<Relation<'a>>
 }
 
 /// `has extra FE CA`.
-fn marked_entry<'a>(tokens: &[Token<'a>]) -> Option<Relation<'a>>
-    ensures { option_map relation_listed result ≡ marked_entry (map token_listed tokens.now) }
+fn extra_entry<'a>(tokens: &[Token<'a>]) -> Option<Relation<'a>>
+    ensures { option_map relation_listed result ≡ extra_entry (map token_listed tokens.now) }
 {
     let [has, extra, id @ ..] = tokens else {
         return None;

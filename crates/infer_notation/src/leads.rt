@@ -15,7 +15,7 @@ ghost use Rattle.infer_notation.specs.declared.leads.Known.TheVariants.{Led};
 use crate::described::begins_relation;
 use crate::fixed::{Cursor, Effect, Wanted, range, step};
 use crate::tokens::{Token, token_at};
-use crate::words::{behind_first, byte_with, from, is_blank, skip_blanks};
+use crate::words::{behind_first, byte_with, is_blank, rest_at, skip_blanks};
 
 /// A place, and the bytes of which one stands there. If they are fewer than four, one is there more than once.
 #[derive(Clone, Copy)]
@@ -97,7 +97,7 @@ fn fixed_lead(text: &[u8]) -> Option<Lead>
         match next(reading, rest) {
             Some((more, count)) => {
                 reading = more;
-                rest = skip_blanks(from(behind_first(rest), count));
+                rest = skip_blanks(rest_at(behind_first(rest), count));
             }
             None => return None,
         }

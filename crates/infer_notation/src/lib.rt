@@ -16,4 +16,4 @@ mod words;
 pub use described::{accepts, accepts_known};
 pub use leads::{Lead, lead_of};
 pub use reason::{Flaw, Reason};
-pub use words::{behind_first, from, skip_blanks, split_word};
+pub use words::{skip_blanks, split_word};

@@ -4,7 +4,7 @@ ghost use Rattle.infer_notation.specs.Relations.{begins_by, is_word, name_listed
 ghost use Rattle.infer_notation.specs.Tokens.{token_listed};
 
 use crate::tokens::Token;
-use crate::tokens::Token::{Mark, Quoted, Set, Word};
+use crate::tokens::Token::{Quoted, Separator, Set, Word};
 use infer_formats::relation::Relation;
 
 /// What stands behind the name of a relation.
@@ -62,13 +62,19 @@ static NAMES: &[(&[Token<'static>], Takes)] = &[
         Takes::Tag,
     ),
     (
-        &[Word(b"package"), Word(b"with"), Mark(b':')],
+        &[Word(b"package"), Word(b"with"), Separator(b':')],
         Takes::Folder,
     ),
-    (&[Word(b"program"), Mark(b':')], Takes::Program),
-    (&[Word(b"first"), Word(b"entry"), Mark(b':')], Takes::Entry),
-    (&[Word(b"class"), Word(b"id"), Mark(b':')], Takes::ClassId),
-    (&[Word(b"root"), Mark(b':')], Takes::Root),
+    (&[Word(b"program"), Separator(b':')], Takes::Program),
+    (
+        &[Word(b"first"), Word(b"entry"), Separator(b':')],
+        Takes::Entry,
+    ),
+    (
+        &[Word(b"class"), Word(b"id"), Separator(b':')],
+        Takes::ClassId,
+    ),
+    (&[Word(b"root"), Separator(b':')], Takes::Root),
 ];
 
 #[inline(always)]
@@ -112,7 +118,7 @@ fn same_token(token: Token<'_>, other: Token<'_>) -> bool
     match (token, other) {
         (Quoted(text), Quoted(same)) => text == same,
         (Set(digits), Set(same)) => digits == same,
-        (Mark(mark), Mark(same)) => mark == same,
+        (Separator(separator), Separator(same)) => separator == same,
         (Word(word), Word(same)) => word == same,
         _ => false,
     }

@@ -10,7 +10,7 @@ ghost use Rattle.infer_notation.specs.Words.{found_by};
 use crate::items::read_relation;
 use crate::names::{Takes, is_word, named};
 use crate::reason::{Flaw, Reason};
-use crate::tokens::Token::Mark;
+use crate::tokens::Token::Separator;
 use crate::tokens::{Token, next_token};
 use crate::words::skip_blanks;
 
@@ -42,7 +42,7 @@ pub fn read_group(text: &[u8]) -> Result<(Group<'_>, Option<&[u8]>), Flaw>
     ensures flaw { IfErr result (IsFlawOf text.now) }
 {
     let mut group = Group {
-        tokens: [Mark(b':'); 24],
+        tokens: [Separator(b':'); 24],
         count: 0,
     };
     let mut rest = text;

@@ -3,18 +3,18 @@ ghost use Rattle.std.specs.Prelude.{◌≡◌, ◌<◌, ◌≤◌, ◌+◌, ◌-
 ghost use Rattle.std.specs.List.{prefix_len};
 ghost use Rattle.infer_notation.specs.Flaws.{IsFlawOf};
 ghost use Rattle.infer_notation.specs.Grammar.{tokens_of, unread};
-ghost use Rattle.infer_notation.specs.Tokens.{bare_at, is_mark, is_of, pair_listed, quoted_at, set_at, token_at, token_listed};
+ghost use Rattle.infer_notation.specs.Tokens.{bare_at, is_separator, is_of, pair_listed, quoted_at, set_at, token_at, token_listed};
 ghost use Rattle.infer_notation.specs.Words.{found_by};
 
 use crate::reason::{Flaw, Reason};
-use crate::words::{behind_first, from, skip_blanks};
+use crate::words::{behind_first, rest_at, skip_blanks};
 
-/// What stands between quotes or braces, a mark, or a bare word.
+/// What stands between quotes or braces, a separator, or a bare word.
 #[derive(Clone, Copy)]
 pub enum Token<'a> {
     Quoted(&'a [u8]),
     Set(&'a [u8]),
-    Mark(u8),
+    Separator(u8),
     Word(&'a [u8]),
 }
 
@@ -37,7 +37,7 @@ pub fn token_at(text: &[u8]) -> Result<(Token<'_>, usize), Reason>
         [] => Err(Reason::End),
         [b'"', behind @ ..] => quoted_at(behind),
         [b'{', behind @ ..] => set_at(behind),
-        [mark, ..] if is_mark(*mark) => Ok((Token::Mark(*mark), 0)),
+        [separator, ..] if is_separator(*separator) => Ok((Token::Separator(*separator), 0)),
         _ => bare_at(text),
     }
 }
@@ -56,7 +56,7 @@ pub fn next_token(text: &[u8]) -> Result<Option<(Token<'_>, &[u8])>, Flaw>
         return Ok(None);
     }
     match token_at(front) {
-        Ok((token, count)) => Ok(Some((token, from(behind_first(front), count)))),
+        Ok((token, count)) => Ok(Some((token, rest_at(behind_first(front), count)))),
         Err(reason) => Err(Flaw {
             reason,
             left: front.len(),
@@ -128,7 +128,7 @@ fn is_of(run: Run, byte: u8) -> bool
         Run::Bare => {
             byte > b' '
                 && byte < 0x7F
-                && !(byte == b'"' || byte == b'{' || byte == b'}' || is_mark(byte))
+                && !(byte == b'"' || byte == b'{' || byte == b'}' || is_separator(byte))
         }
         Run::Quoted => byte >= b' ' && byte < 0x7F && byte != b'"',
         Run::Set => byte != b'}',
@@ -136,8 +136,8 @@ fn is_of(run: Run, byte: u8) -> bool
 }
 
 #[inline(always)]
-fn is_mark(byte: u8) -> bool
-    ensures { result ≡ is_mark byte }
+fn is_separator(byte: u8) -> bool
+    ensures { result ≡ is_separator byte }
 {
     byte == b',' || byte == b':' || byte == b'@'
 }

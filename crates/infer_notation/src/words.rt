@@ -180,7 +180,7 @@ fn begins_with(buf: &[u8], byte: u8) -> bool
 }
 
 /// All but the first byte.
-pub fn behind_first(buf: &[u8]) -> &[u8]
+pub(crate) fn behind_first(buf: &[u8]) -> &[u8]
     ensures { result.now ≡ drop 1 buf.now }
 {
     match buf {
@@ -190,7 +190,7 @@ pub fn behind_first(buf: &[u8]) -> &[u8]
 }
 
 /// What stands in the buffer from the place on.
-pub fn from(buf: &[u8], place: usize) -> &[u8]
+pub(crate) fn rest_at(buf: &[u8], place: usize) -> &[u8]
     ensures { result.now ≡ drop place buf.now }
 {
     if place < buf.len() {

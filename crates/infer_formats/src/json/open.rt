@@ -1,44 +1,34 @@
 //! What more bytes may make JSON.
-ghost use Rattle.std.specs.Prelude.{◌∷◌, [], IsTrue};
+ghost use Rattle.std.specs.Prelude.{IsTrue};
 ghost use Rattle.infer_deep.specs.Signatures.{MayBecome};
-ghost use Rattle.infer_formats.specs.Json.{blanks, CanBe, IsJson, IsJsonLines, same_line, text};
+ghost use Rattle.infer_formats.specs.Json.{IsJson, IsJsonLines, UpToMark};
+ghost use Rattle.infer_formats.specs.Laws.{BeginsBehindBlanks};
 
-use super::lines::{Line, begins_line, past_blanks, read_line};
-use super::past_mark;
-use crate::markup::ends_in_mark;
+use super::lines::past_blanks;
+use super::{begins_json, past_mark};
 
-/// Whether some bytes after `buf`, or none, may make it JSON.
+/// Whether some bytes after `buf`, or none, may make it JSON. What stands behind the first bracket is not asked.
+#[tactic(auto, using(crate::proofs::JsonLeadLemmas::text_may))]
 pub fn may_become_json(buf: &[u8]) -> bool
     ensures { MayBecome IsJson buf.now → IsTrue result }
 {
-    ends_in_mark(buf) || may_be_text(past_mark(buf))
+    may_reach_bracket(buf)
 }
 
-/// Whether some bytes after `buf`, or none, may make it JSON lines.
+/// Whether some bytes after `buf`, or none, may make it JSON lines. What stands behind the first bracket is not asked.
+#[tactic(auto, using(crate::proofs::JsonLeadLemmas::lines_may))]
 pub fn may_become_json_lines(buf: &[u8]) -> bool
     ensures { MayBecome IsJsonLines buf.now → IsTrue result }
 {
-    ends_in_mark(buf) || may_be_lines(past_mark(buf))
+    may_reach_bracket(buf)
 }
 
-/// Whether some bytes may follow so that the whole is one text between white space.
-fn may_be_text(buf: &[u8]) -> bool
-    ensures { CanBe (blanks ∷ text ∷ blanks ∷ []) buf.now → IsTrue result }
+/// Whether a bracket stands behind the byte order mark, if there is one, and white space, or `buf` ends before one does.
+fn may_reach_bracket(buf: &[u8]) -> bool
+    ensures { MayBecome (UpToMark BeginsBehindBlanks) buf.now → IsTrue result }
 {
-    match read_line(past_blanks(buf)) {
-        Line::Whole(next) => next.is_empty(),
-        Line::Cut => true,
-        Line::Wrong => false,
-    }
-}
-
-/// Whether some may follow so that it is texts, each behind the first on a new line.
-fn may_be_lines(buf: &[u8]) -> bool
-    ensures { CanBe (blanks ∷ text ∷ same_line ∷ []) buf.now → IsTrue result }
-{
-    match read_line(past_blanks(buf)) {
-        Line::Whole(next) => begins_line(next),
-        Line::Cut => true,
-        Line::Wrong => false,
+    match past_blanks(past_mark(buf)) {
+        [first, ..] => begins_json(*first),
+        [] => true,
     }
 }

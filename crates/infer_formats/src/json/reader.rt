@@ -1,14 +1,14 @@
 //! A reader of one text: an array or an object.
 ghost use Rattle.std.specs.Prelude.{◌≡◌, ◌↔◌, ◌≤◌, ◌%◌, ◌∷◌, ℕ, None, length, IsTrue};
 ghost use Rattle.infer_formats.specs.Json.{blanks, IsBlank, text};
-ghost use Rattle.infer_formats.specs.JsonStates.{Begun, closing, due_left, EndTells, IsBracket, IsClosedTo, IsOpen, left, opening, PlaceTells, Reads, TellsAsMuch, Tells};
-ghost use Rattle.infer_formats.specs.declared.json.token.Token.TheVariants.{Chars, Whole};
+ghost use Rattle.infer_formats.specs.JsonStates.{Begun, closing, due_left, EndTells, IsBracket, IsClosedTo, IsNested, left, beginning, PlaceTells, Reads, TellsAsMuch, Tells};
+ghost use Rattle.infer_formats.specs.declared.json.token.Token.TheVariants.{Chars, Integer};
 ghost use Rattle.infer_formats.specs.declared.json.reader.Due.TheVariants.{After, Colon, First, Key, Value};
 ghost use Rattle.infer_formats.specs.declared.json.reader.Next.TheVariants.{Closed};
 ghost use Rattle.infer_formats.specs.declared.json.reader.Place.TheVariants.{At};
 
 use super::lines::{blanks_end, is_blank};
-use super::token::{Step, Token, after_char, after_whole, value_token};
+use super::token::{Step, Token, after_char, after_integer, value_token};
 
 /// How deep brackets may be nested.
 const MOST_DEPTH: u32 = 128;
@@ -39,7 +39,7 @@ enum Next {
 #[derive(Drop)]
 struct Reader {
     next: Next,
-    /// How many brackets are open.
+    /// How many brackets have begun and not ended.
     depth: u32,
     /// A bit for each of them, the innermost lowest: 1 for an object, 0 for an array.
     kinds: u128,
@@ -78,7 +78,7 @@ impl Reader {
     /// Reads a byte behind white space, and answers whether a text may go on so.
     #[inline(always)]
     fn read(&mut self, due: Due, byte: u8) -> bool
-        requires opened { IsOpen self.old }
+        requires nested { IsNested self.old }
         requires black { ¬ IsBlank byte }
         ensures { Reads (λ ss. blanks ∷ due_left due self.old.depth self.old.kinds ss) byte self.new
             result }
@@ -93,7 +93,7 @@ impl Reader {
     }
 
     fn read_first(&mut self, byte: u8) -> bool
-        requires { IsOpen self.old }
+        requires { IsNested self.old }
         ensures { Reads (due_left First self.old.depth self.old.kinds) byte self.new result }
     {
         if byte == self.closing() {
@@ -108,7 +108,7 @@ impl Reader {
     }
 
     fn read_value(&mut self, byte: u8) -> bool
-        requires { IsOpen self.old }
+        requires { IsNested self.old }
         ensures { Reads (due_left Value self.old.depth self.old.kinds) byte self.new result }
     {
         match value_token(byte) {
@@ -116,15 +116,15 @@ impl Reader {
                 self.next = Next::InValue(token);
                 true
             }
-            None if byte == b'[' => self.open(0),
-            None if byte == b'{' => self.open(1),
+            None if byte == b'[' => self.enter(0),
+            None if byte == b'{' => self.enter(1),
             None => false,
         }
     }
 
     #[tactic(auto, using(crate::proofs::ReaderLemmas::key_read))]
     fn read_key(&mut self, byte: u8) -> bool
-        requires { IsOpen self.old }
+        requires { IsNested self.old }
         ensures { Reads (due_left Key self.old.depth self.old.kinds) byte self.new result }
     {
         if byte != b'"' {
@@ -136,7 +136,7 @@ impl Reader {
 
     #[tactic(auto, using(crate::proofs::ReaderLemmas::colon_read))]
     fn read_colon(&mut self, byte: u8) -> bool
-        requires { IsOpen self.old }
+        requires { IsNested self.old }
         ensures { Reads (due_left Colon self.old.depth self.old.kinds) byte self.new result }
     {
         if byte != b':' {
@@ -147,7 +147,7 @@ impl Reader {
     }
 
     fn read_after(&mut self, byte: u8) -> bool
-        requires { IsOpen self.old }
+        requires { IsNested self.old }
         ensures { Reads (due_left After self.old.depth self.old.kinds) byte self.new result }
     {
         if byte == b',' {
@@ -181,7 +181,7 @@ impl Reader {
 
     /// Closes the innermost bracket.
     fn close(&mut self)
-        requires { IsOpen self.old }
+        requires { IsNested self.old }
         ensures { IsClosedTo self.old self.new }
     {
         self.next = Next::Closed;
@@ -189,12 +189,12 @@ impl Reader {
         self.kinds /= 2;
     }
 
-    /// Reads a bracket that opens: 0 for that of an array, 1 for that of an object.
-    fn open(&mut self, kind: u128) -> bool
-        requires opened { IsOpen self.old }
+    /// Reads a bracket that begins: 0 for that of an array, 1 for that of an object.
+    fn enter(&mut self, kind: u128) -> bool
+        requires nested { IsNested self.old }
         requires kind { kind ≤ 1 }
         ensures { Reads (due_left Value self.old.depth self.old.kinds)
-            (opening kind) self.new result }
+            (beginning kind) self.new result }
     {
         if self.depth == MOST_DEPTH {
             return false;
@@ -233,7 +233,7 @@ fn token_end(token: Token, buf: &[u8], at: usize, due: Due) -> Place
 {
     match token {
         Token::Chars => string_end(buf, at, due),
-        Token::Whole => number_end(buf, at, due),
+        Token::Integer => number_end(buf, at, due),
         _ => end_of(token, buf, at, due),
     }
 }
@@ -258,13 +258,13 @@ fn string_end(buf: &[u8], at: usize, due: Due) -> Place
 #[inline(always)]
 fn number_end(buf: &[u8], at: usize, due: Due) -> Place
     requires { at ≤ length buf.now }
-    ensures { EndTells Whole buf.now at due result }
+    ensures { EndTells Integer buf.now at due result }
 {
     for i in at..buf.len() {
-        match after_whole(buf[i]) {
-            Step::Inside(Token::Whole) => {}
+        match after_integer(buf[i]) {
+            Step::Inside(Token::Integer) => {}
             Step::EndedBefore => return Place::At(i, due),
-            _ => return end_of(Token::Whole, buf, i, due),
+            _ => return end_of(Token::Integer, buf, i, due),
         }
     }
     Place::Cut

@@ -1,8 +1,8 @@
 //! The tokens of JSON: strings, numbers and names, byte by byte.
 ghost use Rattle.std.specs.Prelude.{◌↔◌, ◌∷◌, [], None, IsTrue, MatchOption};
-ghost use Rattle.infer_formats.specs.Json.{BeginsToken, BeginsWhole, BehindBlanks, hex, IsMark, range};
+ghost use Rattle.infer_formats.specs.Json.{BeginsToken, BeginsWhole, BehindBlanks, hex, IsStructural, range};
 ghost use Rattle.infer_formats.specs.JsonStates.{Follows, left, NoToken, Starts};
-ghost use Rattle.infer_formats.specs.declared.json.token.Token.TheVariants.{Chars, Escape, Minus, Zero, Whole, Fraction, Exponent, Power};
+ghost use Rattle.infer_formats.specs.declared.json.token.Token.TheVariants.{Chars, Escape, Minus, Zero, Integer, Fraction, Exponent, Power};
 
 use super::lines::past_blanks;
 
@@ -20,7 +20,7 @@ pub(super) fn has_token(buf: &[u8]) -> bool
 fn begins_token(first: u8, rest: &[u8]) -> bool
     ensures { IsTrue result ↔ BeginsToken (first ∷ rest.now) }
 {
-    if is_mark(first) {
+    if is_structural(first) {
         return true;
     }
     match value_token(first) {
@@ -44,8 +44,8 @@ fn begins_whole(token: Token, buf: &[u8]) -> bool
     false
 }
 
-fn is_mark(byte: u8) -> bool
-    ensures { IsTrue result ↔ IsMark byte }
+fn is_structural(byte: u8) -> bool
+    ensures { IsTrue result ↔ IsStructural byte }
 {
     matches!(byte, b'[' | b']' | b'{' | b'}' | b':' | b',')
 }
@@ -84,7 +84,7 @@ pub(super) enum Token {
     /// Behind the sign of a number, its zero, and the digits before its point.
     Minus,
     Zero,
-    Whole,
+    Integer,
     /// Behind the point of a number, and the digits there.
     Point,
     Fraction,
@@ -138,7 +138,7 @@ impl Token {
             Token::Nul => last(byte, b'l'),
             Token::Minus => after_minus(byte),
             Token::Zero => after_zero(byte),
-            Token::Whole => after_whole(byte),
+            Token::Integer => after_integer(byte),
             Token::Point => within(byte, b'0', b'9', Token::Fraction),
             Token::Fraction => after_fraction(byte),
             Token::Exponent => after_exponent(byte),
@@ -219,13 +219,13 @@ fn after_hex(byte: u8, next: Token) -> Step
     }
 }
 
-#[tactic(auto, using(crate::proofs::JsonLemmas::whole_begins))]
+#[tactic(auto, using(crate::proofs::JsonLemmas::integer_begins))]
 fn after_minus(byte: u8) -> Step
     ensures { Follows (left Minus) byte result }
 {
     match byte {
         b'0' => Step::Inside(Token::Zero),
-        b'1'..=b'9' => Step::Inside(Token::Whole),
+        b'1'..=b'9' => Step::Inside(Token::Integer),
         _ => Step::Wrong,
     }
 }
@@ -244,11 +244,11 @@ fn after_zero(byte: u8) -> Step
 
 #[tactic(auto, using(crate::proofs::JsonLemmas::digits_begin, crate::proofs::JsonLemmas::fraction_begins, crate::proofs::JsonLemmas::exponent_begins, crate::proofs::JsonLemmas::range_begins))]
 #[inline(always)]
-pub(super) fn after_whole(byte: u8) -> Step
-    ensures { Follows (left Whole) byte result }
+pub(super) fn after_integer(byte: u8) -> Step
+    ensures { Follows (left Integer) byte result }
 {
     match byte {
-        b'0'..=b'9' => Step::Inside(Token::Whole),
+        b'0'..=b'9' => Step::Inside(Token::Integer),
         b'.' => Step::Inside(Token::Point),
         b'e' | b'E' => Step::Inside(Token::Exponent),
         _ => Step::EndedBefore,
@@ -298,7 +298,7 @@ pub(super) fn value_token(byte: u8) -> Option<Token>
         b'"' => Some(Token::Chars),
         b'-' => Some(Token::Minus),
         b'0' => Some(Token::Zero),
-        b'1'..=b'9' => Some(Token::Whole),
+        b'1'..=b'9' => Some(Token::Integer),
         b't' => Some(Token::T),
         b'f' => Some(Token::F),
         b'n' => Some(Token::N),

@@ -2,27 +2,27 @@
 ghost use Rattle.std.specs.Prelude.{◌≡◌, ◌↔◌, Some, ◌+◌, ◌++◌, ◌<◌, ◌≤◌, ℕ, List, Option, None, length, codes, slice_index, IsTrue, MatchOption};
 ghost use Rattle.infer_deep.specs.Places.{FindsPlace};
 ghost use Rattle.infer_formats.specs.Runs.{IsAfterLast, IsRun};
-ghost use Rattle.infer_formats.specs.Markup.{AgreesWithDoctype, BeginsAt, ClosesDeclaration, EndsProlog, IsDoctype, IsEnclosed, IsMisc, IsNameByte, IsPart, IsSpaceRun, IsXmlSpace, LeadsToTag, OpensElement, OpensTag};
+ghost use Rattle.infer_formats.specs.Markup.{AgreesWithDoctype, BeginsAt, ClosesDeclaration, EndsProlog, IsDoctype, IsEnclosed, IsMisc, IsNameByte, IsPart, IsSpaceRun, IsXmlSpace, ReachesTag, StartsElement, StartsTag};
 
 use super::names::{begins_element, is_name_byte, is_type_byte, is_xml_space};
 use crate::search::{find_closing, find_near};
 use infer_deep::places::{has_at, same_at, stands_at};
 use memchr::memchr;
 
-/// How far the prolog has been read, whether the tag of an element opens there, and where the name of the document type
+/// How far the prolog has been read, whether the tag of an element starts there, and where the name of the document type
 /// stands that it declares.
 #[derive(Clone, Copy)]
 pub(super) struct Reached {
     pub(super) place: usize,
-    pub(super) opens: bool,
+    pub(super) starts: bool,
     pub(super) doctype: Option<usize>,
 }
 
-/// Where white space, instructions and comments end, and whether the tag of an element opens there.
+/// Where white space, instructions and comments end, and whether the tag of an element starts there.
 #[derive(Clone, Copy)]
 struct Stop {
     place: usize,
-    opens: bool,
+    starts: bool,
 }
 
 /// Where the name of a document type begins, and where the ">" at the end of its declaration is.
@@ -55,47 +55,47 @@ pub(super) fn prolog_start(buf: &[u8]) -> usize
 #[inline(always)]
 pub(super) fn prolog_end(buf: &[u8], start: usize) -> Reached
     requires { start ≤ length buf.now }
-    ensures tag { (at to : ℕ) → LeadsToTag buf.now at to start None
-        ↔ OpensTag buf.now at to result.place result.doctype }
+    ensures tag { (at to : ℕ) → ReachesTag buf.now at to start None
+        ↔ StartsTag buf.now at to result.place result.doctype }
     ensures grown { (more : List ℕ) (at to : ℕ)
-        → LeadsToTag (buf.now ++ more) at to start None
-        ↔ LeadsToTag (buf.now ++ more) at to result.place result.doctype }
+        → ReachesTag (buf.now ++ more) at to start None
+        ↔ ReachesTag (buf.now ++ more) at to result.place result.doctype }
     ensures ends { (q : ℕ) (e : Option ℕ) → ¬ IsPart buf.now result.place result.doctype q e }
     ensures within { result.place ≤ length buf.now }
-    ensures opens { IsTrue result.opens ↔ OpensElement buf.now result.place }
+    ensures starts { IsTrue result.starts ↔ StartsElement buf.now result.place }
 {
     let stop = miscs_end(buf, start);
-    if stop.opens {
+    if stop.starts {
         return Reached {
             place: stop.place,
-            opens: true,
+            starts: true,
             doctype: None,
         };
     }
     past_doctype(buf, stop.place)
 }
 
-/// [`prolog_end`] where no tag opens. A function of its own, so that most buffers take nothing of what it needs.
+/// [`prolog_end`] where no tag starts. A function of its own, so that most buffers take nothing of what it needs.
 #[inline(never)]
 fn past_doctype(buf: &[u8], place: usize) -> Reached
     requires within { place ≤ length buf.now }
     requires no_misc { (q : ℕ) → ¬ IsMisc buf.now place q }
-    requires no_tag { ¬ OpensElement buf.now place }
+    requires no_tag { ¬ StartsElement buf.now place }
     ensures ends { EndsProlog buf.now place result.place result.doctype }
-    ensures opens { IsTrue result.opens ↔ OpensElement buf.now result.place }
+    ensures starts { IsTrue result.starts ↔ StartsElement buf.now result.place }
 {
     match doctype_at(buf, place) {
         Some(doctype) => {
             let stop = miscs_end(buf, doctype.close + 1);
             Reached {
                 place: stop.place,
-                opens: stop.opens,
+                starts: stop.starts,
                 doctype: Some(doctype.name),
             }
         }
         None => Reached {
             place,
-            opens: false,
+            starts: false,
             doctype: None,
         },
     }
@@ -107,31 +107,34 @@ fn miscs_end(buf: &[u8], start: usize) -> Stop
     requires { start ≤ length buf.now }
     ensures within { result.place ≤ length buf.now }
     ensures leads { (d : Option ℕ) (more : List ℕ) (at to : ℕ)
-        → LeadsToTag (buf.now ++ more) at to start d
-        ↔ LeadsToTag (buf.now ++ more) at to result.place d }
+        → ReachesTag (buf.now ++ more) at to start d
+        ↔ ReachesTag (buf.now ++ more) at to result.place d }
     ensures ends { (q : ℕ) → ¬ IsMisc buf.now result.place q }
-    ensures opens { IsTrue result.opens ↔ OpensElement buf.now result.place }
+    ensures starts { IsTrue result.starts ↔ StartsElement buf.now result.place }
 {
     let mut place = spaces_end(buf, start);
-    while !opens_element(buf, place) {
+    while !starts_element(buf, place) {
         match misc_end(buf, place) {
             Some(next) => place = spaces_end(buf, next),
             None => {
                 return Stop {
                     place,
-                    opens: false,
+                    starts: false,
                 };
             }
         }
     }
-    Stop { place, opens: true }
+    Stop {
+        place,
+        starts: true,
+    }
 }
 
 /// Whether "<" stands there and a byte of an element's name behind it.
 #[inline(always)]
-fn opens_element(buf: &[u8], place: usize) -> bool
+fn starts_element(buf: &[u8], place: usize) -> bool
     requires { place ≤ length buf.now }
-    ensures { IsTrue result ↔ OpensElement buf.now place }
+    ensures { IsTrue result ↔ StartsElement buf.now place }
 {
     let next = place + 1;
     next < buf.len() && buf[place] == b'<' && begins_element(buf[next])
@@ -189,7 +192,7 @@ pub(super) fn space_end(buf: &[u8], place: usize) -> Option<usize>
 #[inline(always)]
 fn instruction_end(buf: &[u8], place: usize) -> Option<usize>
     requires whole { place + 1 < length buf.now }
-    requires opens { slice_index buf.now place ≡ 0x3C }
+    requires starts { slice_index buf.now place ≡ 0x3C }
     requires begins { slice_index buf.now (place + 1) ≡ 0x3F }
     ensures { FindsPlace (IsEnclosed buf.now (codes "<?") (codes "?>") place) result }
 {
@@ -245,15 +248,15 @@ fn declaration_close(buf: &[u8], from: usize) -> Option<usize>
     Some(close)
 }
 
-/// The tag of an element that opens where the prolog ends.
+/// The tag of an element that starts where the prolog ends.
 #[inline(always)]
 pub(super) fn tag_at(buf: &[u8], reached: Reached) -> Option<Tag>
-    requires { IsTrue reached.opens ↔ OpensElement buf.now reached.place }
+    requires { IsTrue reached.starts ↔ StartsElement buf.now reached.place }
     ensures { MatchOption result ((at to : ℕ)
-        → ¬ OpensTag buf.now at to reached.place reached.doctype)
-        (λ t. OpensTag buf.now t.at t.to reached.place reached.doctype) }
+        → ¬ StartsTag buf.now at to reached.place reached.doctype)
+        (λ t. StartsTag buf.now t.at t.to reached.place reached.doctype) }
 {
-    if !reached.opens {
+    if !reached.starts {
         return None;
     }
     let from = reached.place + 1;

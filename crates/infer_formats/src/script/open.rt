@@ -8,7 +8,7 @@ use infer_deep::places::may_stand_at;
 
 /// Whether some bytes after `buf`, or none, may make it a script of the program with this name: it begins as a script, as far
 /// as it goes, and names that program or none.
-#[tactic(auto, using(crate::proofs::ScriptLemmas::opened_so))]
+#[tactic(auto, using(crate::proofs::ScriptLemmas::begun_so))]
 pub fn may_become_program(buf: &[u8], name: &[u8]) -> bool
     ensures { MayBecome (IsProgram name.now) buf.now → IsTrue result }
 {

@@ -21,6 +21,7 @@ pub fn may_have_tar_checksum(buf: &[u8]) -> bool
 }
 
 /// Whether a whole checksum stands there, of any value.
+#[tactic(auto, using(crate::proofs::TarLemmas::located))]
 fn has_field(buf: &[u8]) -> bool
     requires { 156 ≤ length buf.now }
     ensures { IsTrue result ↔ HasField buf.now }

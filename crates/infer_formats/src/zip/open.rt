@@ -1,6 +1,6 @@
 //! What more bytes may make the first entry of an archive, and a package.
 ghost use Rattle.std.specs.Prelude.{◌↔◌, IsTrue};
-ghost use Rattle.infer_formats.specs.Zip.{FirstEntryEndsIn, FirstEntryHasExtra, FirstEntryIs, IsOneOf, IsPackageWith, MayHaveFirstEnding, MayHaveFirstField, MayHaveFirstName, MayOpenPackage, applications};
+ghost use Rattle.infer_formats.specs.Zip.{FirstEntryEndsIn, FirstEntryHasExtra, FirstEntryIs, IsOneOf, IsPackageWith, MayHaveFirstEnding, MayHaveFirstField, MayHaveFirstName, MayBePackage, applications};
 ghost use Rattle.infer_deep.specs.Signatures.{MayBecome};
 
 use super::{EXTRA_LENGTH, NAME, NAME_LENGTH, first_folder};
@@ -75,12 +75,12 @@ fn may_have_first_field(buf: &[u8], text: &[u8]) -> bool
 
 /// Whether some bytes after `buf`, or none, may make it a package of the Open Packaging Conventions whose first folder of
 /// an application, by place, is this one.
-#[tactic(auto, using(crate::proofs::ZipLemmas::opened))]
+#[tactic(auto, using(crate::proofs::ZipLemmas::begun_so))]
 pub fn may_become_package_with(buf: &[u8], folder: &[u8]) -> bool
     requires { IsOneOf folder.now applications }
     ensures { MayBecome (IsPackageWith folder.now) buf.now → IsTrue result }
 {
-    if !may_open_package(buf, folder) {
+    if !may_be_package(buf, folder) {
         return false;
     }
     match first_folder(buf) {
@@ -89,8 +89,8 @@ pub fn may_become_package_with(buf: &[u8], folder: &[u8]) -> bool
     }
 }
 
-fn may_open_package(buf: &[u8], folder: &[u8]) -> bool
-    ensures { IsTrue result ↔ MayOpenPackage folder.now buf.now }
+fn may_be_package(buf: &[u8], folder: &[u8]) -> bool
+    ensures { IsTrue result ↔ MayBePackage folder.now buf.now }
 {
     may_stand_at(buf, b"PK\x03\x04", 0)
         && (may_stand_at(buf, b"[Content_Types].xml", NAME)

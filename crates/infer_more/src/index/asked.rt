@@ -344,7 +344,7 @@ fn least_root_apart(roots: &[Rooted], buf: &[u8], before: usize) -> usize
 /// The least row that widens an answer below which there is none, or their count. A function of its own, that names the
 /// index itself: so its guards are tested in straight code.
 #[inline(never)]
-fn least_free(buf: &[u8]) -> usize
+fn least_parentless(buf: &[u8]) -> usize
     ensures { IsLeast (WidensAt None buf.now) FURTHER_COUNT result }
 {
     let index = index();
@@ -553,10 +553,10 @@ pub(super) fn found_row_apart<const ROW: usize>(buf: &[u8]) -> usize
 
 /// The number of the wider answer of a buffer that no built-in row accepts.
 #[inline(always)]
-pub(crate) fn found_free(buf: &[u8]) -> Option<usize>
+pub(crate) fn found_parentless(buf: &[u8]) -> Option<usize>
     ensures { IsWidened None buf.now result }
 {
-    let least = least_free(buf);
+    let least = least_parentless(buf);
     if least < FURTHER_COUNT {
         Some(ROW_COUNT + least)
     } else {

@@ -20,6 +20,7 @@ static ROWS: &[FurtherRow] = rows![
     Archive "application/warc" "warc": => [8, At(0, b"WARC/"), Between(5, 0x30, 0x39), is!(6, b'.'), Between(7, 0x30, 0x39)];
 ];
 
+#[tactic(auto, unfolding(crate::specs::Table::archives))]
 #[inline(always)]
 pub(super) fn rows() -> &'static [FurtherRow]
     ensures listed { map row_listed result.now ≡ archives }

@@ -27,6 +27,7 @@ static ROWS: &[FurtherRow] = rows![
     App "application/x-systemd-journal" "journal": => [8, At(0, b"LPKSHHRH")];
 ];
 
+#[tactic(auto, unfolding(crate::specs::Table::code))]
 #[inline(always)]
 pub(super) fn rows() -> &'static [FurtherRow]
     ensures listed { map row_listed result.now ≡ code }

@@ -32,6 +32,7 @@ static ROWS: &[FurtherRow] = rows![
     Audio "audio/ogg" "oga": OGG => [33, At(28, b"\x7FFLAC")];
 ];
 
+#[tactic(auto, unfolding(crate::specs::Table::headers))]
 #[inline(always)]
 pub(super) fn rows() -> &'static [FurtherRow]
     ensures listed { map row_listed result.now ≡ headers }

@@ -24,6 +24,7 @@ static ROWS: &[FurtherRow] = rows![
     Image "application/x-blender" "blend": => [12, At(0, b"BLENDER"), OneOf(7, b"-_"), OneOf(8, b"Vv"), Between(9, 0x30, 0x39)];
 ];
 
+#[tactic(auto, unfolding(crate::specs::Table::images))]
 #[inline(always)]
 pub(super) fn rows() -> &'static [FurtherRow]
     ensures listed { map row_listed result.now ≡ images }

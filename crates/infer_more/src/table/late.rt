@@ -28,6 +28,7 @@ static ROWS: &[FurtherRow] = rows![
     Archive "application/x-tar" "tar": => [TarChecksum];
 ];
 
+#[tactic(auto, unfolding(crate::specs::Table::late))]
 #[inline(always)]
 pub(super) fn rows() -> &'static [FurtherRow]
     ensures listed { map row_listed result.now ≡ late }

@@ -29,6 +29,7 @@ static ROWS: &[FurtherRow] = rows![
     Image "image/svg+xml" "svg": => [Root(b"svg")];
 ];
 
+#[tactic(auto, unfolding(crate::specs::Table::markup))]
 #[inline(always)]
 pub(super) fn rows() -> &'static [FurtherRow]
     ensures listed { map row_listed result.now ≡ markup }

@@ -25,6 +25,7 @@ static ROWS: &[FurtherRow] = rows![
     Text "application/x-subrip" "srt": => [SubRip];
 ];
 
+#[tactic(auto, unfolding(crate::specs::Table::media))]
 #[inline(always)]
 pub(super) fn rows() -> &'static [FurtherRow]
     ensures listed { map row_listed result.now ≡ media }

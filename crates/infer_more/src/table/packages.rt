@@ -33,6 +33,7 @@ static ROWS: &[FurtherRow] = rows![
     Doc "application/vnd.oasis.opendocument.presentation-template" "otp": ODP => [94, At(85, b"-template")];
 ];
 
+#[tactic(auto, unfolding(crate::specs::Table::packages))]
 #[inline(always)]
 pub(super) fn rows() -> &'static [FurtherRow]
     ensures listed { map row_listed result.now ≡ packages }

@@ -27,6 +27,7 @@ static ROWS: &[FurtherRow] = rows![
     App "application/vnd.shp" "shp": => [100, At(0, b"\0\0'\n"), At(28, b"\xE8\x03\0\0")];
 ];
 
+#[tactic(auto, unfolding(crate::specs::Table::records))]
 #[inline(always)]
 pub(super) fn rows() -> &'static [FurtherRow]
     ensures listed { map row_listed result.now ≡ records }

@@ -1,7 +1,7 @@
 //! What is known of the first rows of a text, so that most lines are passed over unread.
 ghost use Rattle.std.specs.Prelude.{◌≡◌, ◌<◌, ◌≤◌, ◌++◌, ℕ, IsTrue, List, MatchOption, Option, Some, get_or, map, option_map, take, true, false};
 ghost use Rattle.infer.specs.Triple.{Triple};
-ghost use Rattle.infer_more.specs.Entries.{is_row_line, left_lines, mark_of, row_lines};
+ghost use Rattle.infer_more.specs.Entries.{is_row_line, left_lines, digest_of, row_lines};
 ghost use Rattle.infer_more.specs.Line.{Row, line_of, parent_of};
 ghost use Rattle.infer_more.specs.Text.{Answers, IsFirstShown, IsLineAnswer, found_shows, lines_of, rows_in};
 ghost use Rattle.infer_notation.specs.Leads.{IsLead};
@@ -11,13 +11,13 @@ use crate::types::line::{answer_of, is_none, is_remark, split};
 use crate::types::lines::next_line;
 use infer_notation::{Lead, lead_of, skip_blanks};
 
-/// A row of a text: its line, the mark of its parent, and what stands in each buffer that it accepts, if that is known.
+/// A row of a text: its line, the digest of its parent, and what stands in each buffer that it accepts, if that is known.
 #[derive(Clone, Copy)]
 pub struct Entry<'a> {
     line: &'a [u8],
-    mark: u32,
+    digest: u32,
     lead: Option<Lead>,
-    ghost tells: { (own : Row) → line_of line.now ≡ Some (Some own) → (mark ≡ mark_of own.parent) × IsLead lead own.signature },
+    ghost tells: { (own : Row) → line_of line.now ≡ Some (Some own) → (digest ≡ digest_of own.parent) × IsLead lead own.signature },
 }
 
 /// The first rows of a text, and what it has behind them.
@@ -30,14 +30,14 @@ pub struct Entries<'a> {
 }
 
 impl<'a> Entry<'a> {
-    /// Whether the row may be asked below the answer with that mark and accept the buffer.
+    /// Whether the row may be asked below the answer with that digest and accept the buffer.
     #[inline(always)]
-    fn may_answer(&self, mark: u32, buf: &[u8]) -> bool
+    fn may_answer(&self, digest: u32, buf: &[u8]) -> bool
         ensures { (own : Row) (extension : Option (List ℕ))
-            → line_of self.now.line.now ≡ Some (Some own) → mark ≡ mark_of extension
+            → line_of self.now.line.now ≡ Some (Some own) → digest ≡ digest_of extension
             → Answers extension buf.now own → IsTrue result }
     {
-        if self.mark != mark {
+        if self.digest != digest {
             return false;
         }
         match &self.lead {
@@ -46,16 +46,16 @@ impl<'a> Entry<'a> {
         }
     }
 
-    /// What the row shows, if it is asked below the built-in answer with this extension, or none, which has that mark, and
+    /// What the row shows, if it is asked below the built-in answer with this extension, or none, which has that digest, and
     /// accepts the buffer.
     #[inline(always)]
-    fn answer(&self, mark: u32, extension: Option<&[u8]>, buf: &[u8]) -> Option<Found<'a>>
-        requires { mark ≡ mark_of (option_map (λ e. e.now) extension) }
+    fn answer(&self, digest: u32, extension: Option<&[u8]>, buf: &[u8]) -> Option<Found<'a>>
+        requires { digest ≡ digest_of (option_map (λ e. e.now) extension) }
         ensures { (r : Option Row) → line_of self.now.line.now ≡ Some r
             → IsLineAnswer (Answers (option_map (λ e. e.now) extension.entry) buf.now) r
             (option_map found_shows result) }
     {
-        if !self.may_answer(mark, buf) {
+        if !self.may_answer(digest, buf) {
             return None;
         }
         answer_of(self.line, extension, buf)
@@ -93,7 +93,7 @@ pub fn entries_of(text: &[u8]) -> Entries<'_>
 fn nothing<'a>() -> Entry<'a> {
     Entry {
         line: b"",
-        mark: 0,
+        digest: 0,
         lead: None,
     }
 }
@@ -108,9 +108,9 @@ fn entry_of(line: &[u8]) -> Option<Entry<'_>>
         return None;
     }
     let fields = split(text);
-    let mark = mark_of(parent_in(fields.parent));
+    let digest = digest_of(parent_in(fields.parent));
     let lead = lead_of(fields.signature);
-    Some(Entry { line, mark, lead })
+    Some(Entry { line, digest, lead })
 }
 
 /// The extension that the word names, or none.
@@ -122,8 +122,8 @@ fn parent_in(word: &[u8]) -> Option<&[u8]>
 }
 
 /// A number that is the same for equal extensions, and seldom for others.
-fn mark_of(extension: Option<&[u8]>) -> u32
-    ensures { result ≡ mark_of (option_map (λ e. e.now) extension.entry) }
+fn digest_of(extension: Option<&[u8]>) -> u32
+    ensures { result ≡ digest_of (option_map (λ e. e.now) extension.entry) }
 {
     match extension {
         Some(text) => {
@@ -157,9 +157,9 @@ fn first_of<'a>(entries: &[Entry<'a>], extension: Option<&[u8]>, buf: &[u8]) -> 
         (λ found. IsFirstShown (Answers (option_map (λ e. e.now) extension.entry) buf.now) rows
         (Some (found_shows found))) }
 {
-    let mark = mark_of(extension);
+    let digest = digest_of(extension);
     for entry in entries {
-        if let Some(found) = entry.answer(mark, extension, buf) {
+        if let Some(found) = entry.answer(digest, extension, buf) {
             return Some(found);
         }
     }

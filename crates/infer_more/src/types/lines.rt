@@ -2,7 +2,6 @@
 ghost use Rattle.std.specs.Prelude.{◌≡◌, ◌∷◌, ◌<◌, [], MatchOption, length};
 ghost use Rattle.infer_more.specs.Text.{lines_of};
 
-use infer_notation::{behind_first, from};
 use memchr::memchr;
 
 /// The first line, and what follows its end, if it has one.
@@ -12,7 +11,7 @@ pub fn next_line(text: &[u8]) -> (&[u8], Option<&[u8]>)
         × (length rest.now < length text.now)) }
 {
     match memchr(b'\n', text) {
-        Some(end) => (&text[..end], Some(behind_first(from(text, end)))),
+        Some(end) => (&text[..end], Some(&text[end + 1..])),
         None => (text, None),
     }
 }

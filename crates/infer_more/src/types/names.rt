@@ -4,7 +4,6 @@ ghost use Rattle.std.specs.List.{list_all};
 ghost use Rattle.infer_more.specs.Line.{class_of, is_alphanumeric, is_built_in, is_mime_type, is_name, is_name_byte, slash_place};
 
 use infer::MatcherType;
-use infer_notation::behind_first;
 
 /// Whether these are 1 to 127 bytes of a name.
 pub fn is_name(text: &[u8]) -> bool
@@ -53,8 +52,10 @@ fn is_alphanumeric(byte: u8) -> bool
 pub fn is_mime_type(text: &[u8]) -> bool
     ensures { result ≡ is_mime_type text.now }
 {
-    let (first, behind) = text.split_at(slash_place(text));
-    is_name(first) && is_name(behind_first(behind))
+    match text.split_at(slash_place(text)) {
+        (first, [_, second @ ..]) => is_name(first) && is_name(second),
+        _ => false,
+    }
 }
 
 /// How many bytes stand before the first "/".

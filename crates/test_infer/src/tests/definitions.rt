@@ -169,8 +169,8 @@ fn inside(rt: HostRuntime) {
         "IsBinary" is_binary, b"a\0", b"a";
         "IsJson" is_json, b"[1,", b"[1";
         "IsJsonLines" is_json_lines, b"[1]\n[", b"[1]\n";
-        "MayBecome IsJson" may_become_json, b"[1", b"[1\0";
-        "MayBecome IsJsonLines" may_become_json_lines, b"[1]", b"[1]x";
+        "MayBecome IsJson" may_become_json, b"[1", b"x";
+        "MayBecome IsJsonLines" may_become_json_lines, b"[1]", b"x";
         "MayBecome IsText" may_become_text, b"", b"\0";
         "Stays IsText" stays_text, b"\xFF\xFE", b"a";
         "IsProgram" is_program_sh, b"#!/bin/sh -e\n", b"#!/bin/sh";

@@ -1,5 +1,5 @@
 use Rattle.infer_formats.proofs.LineLemmas.{by_first}
-use Rattle.infer_formats.proofs.TokenLemmas.{kind_cut, kind_empty, kind_unopened, kind_whole, kind_wrong}
+use Rattle.infer_formats.proofs.TokenLemmas.{kind_cut, kind_empty, kind_unbegun, kind_whole, kind_wrong}
 use Rattle.infer_formats.proofs.json.kind_past_mark.Goals as goal
 
 pub returns-in-Whole : goal.returns-in-Whole
@@ -22,7 +22,7 @@ returns-in-Wrong c =
 pub returns-then-not-is_bracket : goal.returns-then-not-is_bracket
 returns-then-not-is_bracket c =
     let s = c.past_blanks-text.result.now in
-    kind_unopened c.args.buf.now s _ _ c.past_blanks-text.ensures (by_first s c.in-len1-up.len_at_least)
+    kind_unbegun c.args.buf.now s _ _ c.past_blanks-text.ensures (by_first s c.in-len1-up.len_at_least)
     (λ o. let is = c.is_bracket.ensures.1 o in absurd (cc))
 
 pub returns-in_default : goal.returns-in_default

@@ -1,4 +1,4 @@
-use Rattle.infer_formats.proofs.LeadLemmas.{begins_markup, opens_element}
+use Rattle.infer_formats.proofs.LeadLemmas.{begins_markup, starts_element}
 use Rattle.infer_formats.proofs.JsonLeadLemmas.{lines_lead, text_leads}
 use Rattle.infer_formats.proofs.RelationLemmas.{has_lines}
 use Rattle.infer_formats.proofs.laws.leads.Goals as goal
@@ -6,7 +6,7 @@ use Rattle.infer_formats.proofs.laws.leads.Goals as goal
 pub returns : goal.returns
 returns c = record {
   root = λ name b h. begins_markup b name h.0 h.1;
-  element = λ name b h. opens_element b name h.0 h.1;
+  element = λ name b h. starts_element b name h.0 h.1;
   json = text_leads;
   json_lines = lines_lead;
   root_with = λ name text b h. (h.0, h.1);

@@ -1,5 +1,5 @@
 use Rattle.infer_formats.proofs.MarkupLemmas.{one_root}
-use Rattle.infer_formats.proofs.OpenJsonLemmas.{one_text}
+use Rattle.infer_formats.proofs.OneTextLemmas.{one_text}
 use Rattle.infer_formats.proofs.ScriptLemmas.{one_program}
 use Rattle.infer_formats.proofs.laws.single.Goals as goal
 

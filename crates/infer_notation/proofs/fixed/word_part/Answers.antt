@@ -8,7 +8,7 @@ returns-in_err-read-in-None-clause-found c =
     let w = c.args.word.now in
     let p = err_from_is_err_and c.from_residual.result c.from_residual.ensures.1 in
     let no_range = sym c.range.ensures ∙ c.in-None.is in
-    let none = ap (λ b. option_map (hex_seen b) (bytes_of w)) (sym c.from.ensures) ∙ sym c.in_err-read-in-None.ensures.found in
+    let none = ap (λ b. option_map (hex_seen b) (bytes_of w)) (sym c.rest_at.ensures) ∙ sym c.in_err-read-in-None.ensures.found in
     rw (p.1) (sym (ap (λ r. option_map (step_seen c.args.buf.now) (word_part at.least at.place w r)) no_range
     ∙ none_read (hex_seen (drop at.place c.args.buf.now)) (λ xs. within at.least at.place (length xs) (text at.place xs)) (step_seen c.args.buf.now) (bytes_of w) none))
 
@@ -17,7 +17,7 @@ returns-in_ok-read-in-None-clause-found c =
     let at = c.args.cursor in
     let w = c.args.word.now in
     let no_range = sym c.range.ensures ∙ c.in-None.is in
-    let some = ap (λ b. option_map (hex_seen b) (bytes_of w)) (sym c.from.ensures) ∙ sym c.in_ok-read-in-None.ensures.found in
+    let some = ap (λ b. option_map (hex_seen b) (bytes_of w)) (sym c.rest_at.ensures) ∙ sym c.in_ok-read-in-None.ensures.found in
     c.within-in-None.ensures.found
     ∙ sym (ap (λ r. option_map (step_seen c.args.buf.now) (word_part at.least at.place w r)) no_range
     ∙ text_is at.least at.place c.args.buf.now c.in_ok-read-in-None.read (bytes_of w) some)

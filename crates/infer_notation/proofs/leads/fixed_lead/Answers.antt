@@ -10,11 +10,11 @@ loop-rest-init c = record {
 
 pub loop-rest-preserved : goal.loop-rest-preserved
 loop-rest-preserved c =
-    let left = c.from.ensures ∙ ap (drop c.in-Some.count) c.behind_first.ensures ∙ drop-drop c.in-Some.count 1 c.loop-rest.rest.now in
+    let left = c.rest_at.ensures ∙ ap (drop c.in-Some.count) c.behind_first.ensures ∙ drop-drop c.in-Some.count 1 c.loop-rest.rest.now in
     let next = c.in-Some.ensures.found c.args.text.now c.loop-rest.invariant.read in
     record {
       begins = c.skip_blanks-rest-in-Some.ensures.ends;
-      read = subst (IsRead c.in-Some.more c.args.text.now) (sym c.skip_blanks-rest-in-Some.ensures.value) (read_blanks c.in-Some.more c.args.text.now c.from.result.now (subst (IsRead c.in-Some.more c.args.text.now) (sym left) next));
+      read = subst (IsRead c.in-Some.more c.args.text.now) (sym c.skip_blanks-rest-in-Some.ensures.value) (read_blanks c.in-Some.more c.args.text.now c.rest_at.result.now (subst (IsRead c.in-Some.more c.args.text.now) (sym left) next));
     }
 
 pub returns-in-Led : goal.returns-in-Led

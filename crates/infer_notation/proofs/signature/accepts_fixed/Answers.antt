@@ -17,14 +17,14 @@ loop-rest-init c = record {
 pub loop-rest-preserved : goal.loop-rest-preserved
 loop-rest-preserved c =
     let buf = c.args.buf.now in
-    let left = c.from.ensures ∙ ap (drop c.in-Ok.count) c.behind_first.ensures ∙ drop-drop c.in-Ok.count 1 c.loop-rest.rest.now in
+    let left = c.rest_at.ensures ∙ ap (drop c.in-Ok.count) c.behind_first.ensures ∙ drop-drop c.in-Ok.count 1 c.loop-rest.rest.now in
     record {
       begins = c.skip_blanks-rest-in-Ok.ensures.ends;
-      read = c.loop-rest.invariant.read ∙ c.in-Ok.ensures.read ∙ ap unread (sym left) ∙ sym (flaws.past_blanks c.from.result.now)
+      read = c.loop-rest.invariant.read ∙ c.in-Ok.ensures.read ∙ ap unread (sym left) ∙ sym (flaws.past_blanks c.rest_at.result.now)
           ∙ ap unread (sym c.skip_blanks-rest-in-Ok.ensures.value);
       within = (let fits = c.skip_blanks-rest-in-Ok.ensures.fits in let so_far = c.loop-rest.invariant.within in
           let long = ap length left in omega (arith, length-drop (1 + c.in-Ok.count) c.loop-rest.rest.now));
-      same = ap (given buf c.in-Ok.more 0) c.skip_blanks-rest-in-Ok.ensures.value ∙ given_blanks buf c.in-Ok.more c.from.result.now ∙ ap (given buf c.in-Ok.more 0) left ∙ sym c.in-Ok.ensures.found ∙ c.loop-rest.invariant.same;
+      same = ap (given buf c.in-Ok.more 0) c.skip_blanks-rest-in-Ok.ensures.value ∙ given_blanks buf c.in-Ok.more c.rest_at.result.now ∙ ap (given buf c.in-Ok.more 0) left ∙ sym c.in-Ok.ensures.found ∙ c.loop-rest.invariant.same;
     }
 
 pub returns-in-Err-clause-flaw : goal.returns-in-Err-clause-flaw

@@ -51,4 +51,4 @@ returns c =
     let rest = c.args.self.now.rest.now in
     let ends = subst (EndsTag rest) (sym c.unwrap_or-end.ensures) (tag_end rest _ c.memchr.ensures) in
     subst (λ r. IsTrue r ↔ HasInTag c.args.text.now rest) (sym c.is_some.ensures)
-    (finds rest c.args.text.now c.unwrap_or-end.result ends c.find_opening.result c.find_opening.ensures)
+    (finds rest c.args.text.now c.unwrap_or-end.result ends c.find_early.result c.find_early.ensures)

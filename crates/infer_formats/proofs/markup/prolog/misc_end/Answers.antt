@@ -7,8 +7,8 @@ module _ (b : List ℕ) (p : ℕ) (no_space : ¬ IsXmlSpace (get_or b p 0)) wher
   unmarked (no_mark, no_question) = no_misc b p no_space
       (λ q i. no_question (instruction_first b p q i).1) (λ q c. no_mark (comment_first b p q c).1)
 
-  unopened : (¬ (get_or b p 0 ≡ 0x3C)) → (q : ℕ) → ¬ IsMisc b p q
-  unopened other = no_misc b p no_space (λ q i. other (instruction_first b p q i).0) (λ q c. other (comment_first b p q c).0)
+  unstarted : (¬ (get_or b p 0 ≡ 0x3C)) → (q : ℕ) → ¬ IsMisc b p q
+  unstarted other = no_misc b p no_space (λ q i. other (instruction_first b p q i).0) (λ q c. other (comment_first b p q c).0)
 
   instruction_at_most : get_or b (p + 1) 0 ≡ 0x3F → (r : Option ℕ) → FindsPlace (IsEnclosed b (codes "<?") (codes "?>") p) r
       → FindsPlace (IsMisc b p) r

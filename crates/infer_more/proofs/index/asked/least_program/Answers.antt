@@ -1,10 +1,10 @@
 use Rattle.infer_more.proofs.Common.{◌≡◌, refl, subst, sym, true, IsNamed, IsOfProgram, ascends, named_row, bucket_of, FURTHER_COUNT}
-use Rattle.infer_more.proofs.FoundLemmas.{listed_like}
+use Rattle.infer_more.proofs.FoundLemmas.{listed_in_bucket}
 use Rattle.infer_more.proofs.LeastLemmas.{least_none, least_same}
 use Rattle.infer_more.proofs.index.asked.least_program.Goals as goal
 
 pub least_named-requires : goal.least_named-requires
-least_named-requires c = subst (λ n. ascends named_row n ≡ true) (sym c.bucket_of.ensures) (listed_like (ascends named_row) refl c.args.buckets.now c.in-Some.name.now c.requires)
+least_named-requires c = subst (λ n. ascends named_row n ≡ true) (sym c.bucket_of.ensures) (listed_in_bucket (ascends named_row) refl c.args.buckets.now c.in-Some.name.now c.requires)
 
 pub returns-in-Some : goal.returns-in-Some
 returns-in-Some c =

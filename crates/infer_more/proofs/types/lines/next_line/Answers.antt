@@ -1,5 +1,5 @@
-use Rattle.infer_more.proofs.Common.{ap, arith, drop, take, sym, ◌∙◌, ◌∷◌, lines_of}
-use Rattle.std.proofs.lemmas.List.{length-drop}
+use Rattle.infer_more.proofs.Common.{◌+◌, ◌∙◌, ◌∷◌, ap, arith, lines_of, sym, take}
+use Rattle.std.proofs.lemmas.List.{length-drop, take_rest}
 use Rattle.infer_more.proofs.LineLemmas.{line_ended, line_last}
 use Rattle.infer_more.proofs.types.lines.next_line.Goals as goal
 
@@ -8,10 +8,9 @@ returns-in-Some c =
     let text = c.args.text.now in
     let n = c.in-Some.end in
     let found = c.in-Some.ensures.0 in
-    let high = found.high in
-    let behind = c.behind_first.ensures ∙ ap (drop 1) c.from.ensures in (
-      line_ended text n high c.in-Some.ensures.1 (λ k lt. found.before k (omega arith) lt) ∙ ap (λ r. take n text ∷ lines_of r) (sym behind),
-      rw behind (omega (arith, length-drop 1 (drop n text), length-drop n text)),
+    let rest = take_rest text (n + 1) in (
+      line_ended text n found.high c.in-Some.ensures.1 (λ k lt. found.before k (omega arith) lt) ∙ ap (λ r. take n text ∷ lines_of r) (sym rest),
+      rw rest (let high = found.high in omega (arith, length-drop (n + 1) text)),
     )
 
 pub returns-in-None : goal.returns-in-None

@@ -1,5 +1,5 @@
 use Rattle.infer_formats.proofs.Common.{◌≡◌, ◌%◌, ◌∙◌, sym, due_left, Key, Value}
-use Rattle.infer_formats.proofs.ReaderLemmas.{reads_closed, first_closed, opened_key, opened_value, reads_same}
+use Rattle.infer_formats.proofs.ReaderLemmas.{reads_closed, first_closed, begun_key, begun_value, reads_same}
 use Rattle.infer_formats.proofs.json.reader.Reader.read_first.Goals as goal
 
 pub returns-then-byte-closing : goal.returns-then-byte-closing
@@ -13,7 +13,7 @@ returns-then-is_in_object c =
     let s = c.args.self.now in
     let is = c.is_in_object.ensures.0 c.if-is_in_object.true in
     reads_same _ (due_left Key s.depth s.kinds) _ _ _
-    (λ ss v. opened_key s.depth s.kinds c.args.byte ss v c.requires.0
+    (λ ss v. begun_key s.depth s.kinds c.args.byte ss v c.requires.0
     (λ e. c.if-byte-closing.false (e ∙ sym c.closing.ensures)) is) c.read_key.ensures
 
 pub returns-else-is_in_object : goal.returns-else-is_in_object
@@ -21,5 +21,5 @@ returns-else-is_in_object c =
     let s = c.args.self.now in
     let is = λ (e : s.kinds % 2 ≡ 1). let f = c.is_in_object.ensures.1 e in absurd (cc) in
     reads_same _ (due_left Value s.depth s.kinds) _ _ _
-    (λ ss v. opened_value s.depth s.kinds c.args.byte ss v c.requires.0
+    (λ ss v. begun_value s.depth s.kinds c.args.byte ss v c.requires.0
     (λ e. c.if-byte-closing.false (e ∙ sym c.closing.ensures)) is) c.read_value.ensures
