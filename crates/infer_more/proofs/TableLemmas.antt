@@ -1,6 +1,7 @@
 -- The table's length, that no row asks for more than its least length, and that it can be told what more bytes bring each.
 use Rattle.infer_more.proofs.Common.{◌≡◌, IsTrue, length, refl, list_all, is_row_sound, is_row_closed, archives, code, further, headers, images, late, markup, media, packages, records, disks, elements, games, kinds, office, others, packed, papers, pictures, rasters, roots, sounds, stores, texts, FURTHER_COUNT}
-use Rattle.infer_more.proofs.Common.{◌+◌, ◌*◌, ◌<◌, ℕ, Bool, zero, suc, arith, subst, NoneRefused, passed}
+use Rattle.std.proofs.Common.{◌*◌}
+use Rattle.infer_more.proofs.Common.{◌+◌, ◌<◌, ℕ, Bool, zero, suc, arith, subst, NoneRefused, passed}
 use Rattle.infer_more.proofs.NamedLemmas.{all_pass}
 
 pub length-further : length further ≡ FURTHER_COUNT
@@ -17,10 +18,16 @@ all_sound = all_pass is_row_sound 0 further refl
 
 -- none of m steps of sixteen rows is refused, and none of k steps behind them
 none_behind : (test : ℕ → Bool) (m k s : ℕ) → NoneRefused test FURTHER_COUNT s m → NoneRefused test FURTHER_COUNT (s + 16 * m) k
-    → NoneRefused test FURTHER_COUNT s (m + k)
-none_behind test zero k s here behind = subst (λ t. NoneRefused test FURTHER_COUNT t k) (omega arith) behind
+    → NoneRefused test FURTHER_COUNT s (k + m)
+none_behind test zero k s here behind =
+    let same : s + 16 * zero ≡ s = omega arith in
+    let many : k ≡ k + zero = omega arith in
+    subst (NoneRefused test FURTHER_COUNT s) many (subst (λ t. NoneRefused test FURTHER_COUNT t k) same behind)
 none_behind test (suc m) k s here behind =
-    (here.0, none_behind test m k (s + 16) here.1 (subst (λ t. NoneRefused test FURTHER_COUNT t k) (omega arith) behind))
+    let same : s + 16 * suc m ≡ (s + 16) + 16 * m = omega arith in
+    let many : suc (k + m) ≡ k + suc m = omega arith in
+    subst (NoneRefused test FURTHER_COUNT s) many
+    (here.0, none_behind test m k (s + 16) here.1 (subst (λ t. NoneRefused test FURTHER_COUNT t k) same behind))
 
 -- a test that no row fails, as computed of sixteen rows a step, with room for 512: a refusal shows the rows that fail
 abbrev pub NoRowFails : (ℕ → Bool) → Type 0
