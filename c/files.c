@@ -237,6 +237,31 @@ static void all_at_once(void) {
     }
 }
 
+static void is_named(const char *path, int wanted, int32_t standing, const char *mime_type) {
+    struct infer_named_answer got;
+    memset(&got, 0xA5, sizeof got);
+    errno = 0;
+    int answer = infer_named_path(path, &got), fault = errno;
+    same(path, answer ? FAULT(fault) : 0, wanted);
+    same(path, got.standing, standing);
+    same(path, strcmp(got.told.mime_type, mime_type), 0);
+}
+
+/* Names and bytes of files. Of what cannot be read the name alone tells. */
+static void named(void) {
+    write_file("a.py", "import os\n", 10, 10);
+    write_file("a.png", "\xFF\xD8\xFF", 3, 3);
+    write_file("empty.py", "", 0, 0);
+    is_named("a.py", 0, INFER_NAME_REFINES, "text/x-python");
+    is_named("./a.py", 0, INFER_NAME_REFINES, "text/x-python");
+    is_named("a.png", 0, INFER_CONTRADICTS, "image/jpeg");
+    is_named("empty.py", 0, INFER_NAME_ALONE, "text/x-python");
+    is_named("sparse", 0, INFER_BYTES_ALONE, "image/jpeg");
+    is_named("none.py", FAULT(ENOENT), INFER_NAME_ALONE, "text/x-python");
+    is_named("folder", FAULT(EISDIR), INFER_NOTHING, "");
+    is_named("fifo", FAULT(ENOTSUP), INFER_NOTHING, "");
+}
+
 static void descriptors(void) {
     int ends[2], folder = __real_open("folder", O_RDONLY), photo = __real_open("photo", O_RDWR);
     int written = __real_open("photo", O_WRONLY), named = __real_open("photo", O_PATH), zero = __real_open("/dev/zero", O_RDONLY);
@@ -276,6 +301,7 @@ int main(int argc, char **argv) {
     swapped("becomes a folder", IS_FOLDER, FAULT(EISDIR));
     wider();
     all_at_once();
+    named();
     int left = dup(0);
     close(left);
     same("descriptors left open", left, first);

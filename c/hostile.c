@@ -8,6 +8,7 @@
 
 enum { ROOM = 16384, ROUNDS = 20000 };
 static unsigned char *end; /* of the room, right before the page that may not be touched */
+static struct infer_named_answer *answer; /* in a room of its own */
 static long wrong;
 static uint64_t state = 0x2545F4914F6CDD1D;
 
@@ -46,6 +47,24 @@ static void ask_types(const void *buf, size_t len) {
     wants(infer_types_line(text, strlen(text), buf, len) == (size_t)(row < 0));
 }
 
+/* The buffer as a name, of itself and of no bytes. The answer ends at such a page too. */
+static void ask_named(const void *buf, size_t len) {
+    for (int round = 0; round < 2; round++) {
+        const void *front = round ? NULL : buf;
+        const size_t size = round ? 0 : len;
+        memset(answer, 0xA5, sizeof *answer);
+        infer_named(buf, len, front, size, answer);
+        const int32_t standing = answer->standing;
+        const bool is_of_bytes = standing == INFER_AGREE || standing == INFER_BYTES_REFINE || standing == INFER_BYTES_ALONE || standing == INFER_CONTRADICTS;
+        wants(standing >= INFER_AGREE && standing <= INFER_NOTHING);
+        wants(answer->row == infer_more_position(front, size));
+        wants(memchr(answer->told.mime_type, 0, INFER_TEXT_SIZE) && memchr(answer->name.mime_type, 0, INFER_TEXT_SIZE));
+        wants(memchr(answer->told.extension, 0, INFER_TEXT_SIZE) && memchr(answer->name.extension, 0, INFER_TEXT_SIZE));
+        wants(!is_of_bytes || strcmp(answer->told.mime_type, infer_mime_type_text(answer->row)) == 0);
+        wants((standing != INFER_NAME_ALONE && standing != INFER_NOTHING) || answer->row < 0);
+    }
+}
+
 /* What the calls say of one buffer must agree. */
 static void ask(const void *buf, size_t len) {
     bool is_final;
@@ -75,6 +94,7 @@ static void ask(const void *buf, size_t len) {
     wants(infer_encoding(buf, len, name, sizeof name) == strlen(name));
     wants(infer_encoding(buf, len, NULL, 0) == strlen(name));
     ask_types(buf, len);
+    ask_named(buf, len);
     infer_is(buf, len, buf, len);
     infer_is_mime(buf, len, buf, len);
     infer_is_supported(buf, len);
@@ -135,8 +155,10 @@ int main(void) {
     const int32_t last = (int32_t)infer_more_row_count() - 1;
     const int32_t numbers[] = {INT32_MIN, INT32_MIN + 1, -2, -1, last + 1, last + 2, 255, 256, 65536, INT32_MAX - 1, INT32_MAX};
     unsigned char *room = guarded(whole_pages(ROOM));
-    if (!room) return perror("hostile"), 2;
+    unsigned char *other = guarded(whole_pages(sizeof *answer));
+    if (!room || !other) return perror("hostile"), 2;
     end = room + whole_pages(ROOM);
+    answer = (struct infer_named_answer *)(void *)(other + whole_pages(sizeof *answer)) - 1;
     for (int i = 0; i < ROUNDS; i++)
         ask_some();
     for (int32_t row = 0; row <= last; row++) {

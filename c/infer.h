@@ -163,6 +163,36 @@ int32_t infer_types_get(const void *text, size_t text_len, const void *buf, size
  * or none. So a type of your own is told from a further one that has the same MIME type and extension. */
 size_t infer_types_line(const void *text, size_t text_len, const void *buf, size_t len);
 
+/* A NAME AND ITS BYTES. The bytes win: a name only chooses among what they leave open, and the standing says what it did.
+ * docs/NAMES.md tells what of a name counts. */
+enum infer_standing {
+    INFER_AGREE = 0,        /* the bytes are of the type that the name has */
+    INFER_NAME_REFINES = 1, /* they may begin a file of the type that the name has: it is told */
+    INFER_BYTES_REFINE = 2, /* they are of a finer kind of it: theirs is told */
+    INFER_BYTES_ALONE = 3,  /* the name says nothing: the type of the bytes is told */
+    INFER_NAME_ALONE = 4,   /* no row accepts the bytes, and they may be of the type that the name has: it is told */
+    INFER_CONTRADICTS = 5,  /* the bytes are not of a type that the name has: theirs is told, if they have one */
+    INFER_NOTHING = 6       /* neither says anything: no type is told */
+};
+
+/* A type, by texts with a zero after them. The MIME type is empty if there is none, and the extension if no row has the
+ * type. Nobody else names one with an own name: it tells files apart, and is not to be sent. */
+struct infer_named_type {
+    char mime_type[INFER_TEXT_SIZE], extension[INFER_TEXT_SIZE];
+    bool is_own_name;
+};
+
+/* What a name and bytes tell: the standing, one of `enum infer_standing`; the row, as infer_more_position says it of the
+ * bytes alone; the type that is told; and the type that the name has first, whatever the bytes are. */
+struct infer_named_answer {
+    int32_t standing, row;
+    struct infer_named_type told, name;
+};
+
+/* Stores what a file's name and its first bytes tell. The name may have folders before it, and need not be UTF-8. It is
+ * bytes with a length, so one with a zero in it is seen. `answer` must not be null, and what stood in it counts for nothing. */
+void infer_named(const void *name, size_t name_len, const void *buf, size_t len, struct infer_named_answer *answer);
+
 /* Whether some built-in row with this extension or MIME type accepts the buffer. It need not be the answer. */
 bool infer_is(const void *buf, size_t len, const char *extension, size_t extension_len);
 bool infer_is_mime(const void *buf, size_t len, const char *mime_type, size_t mime_type_len);

@@ -13,6 +13,17 @@ static void tell_row(const void *front, size_t len, void *row) { *(int32_t *)row
 static void tell_more_row(const void *front, size_t len, void *row) { *(int32_t *)row = infer_more_position(front, len); }
 static void tell_all(const void *front, size_t len, void *told) { infer_tell(front, len, (struct infer_told *)told); }
 
+/* A path, and where what it and the first bytes tell is stored. */
+struct asked {
+    const char *path;
+    struct infer_named_answer *answer;
+};
+
+static void tell_named(const void *front, size_t len, void *told) {
+    const struct asked *it = (const struct asked *)told;
+    infer_named(it->path, strlen(it->path), front, len, it->answer);
+}
+
 /* Whether this is a regular file. If not, errno says so. */
 static bool is_regular(const struct stat *about) {
     if (S_ISREG(about->st_mode)) return true;
@@ -73,3 +84,8 @@ int infer_fd(int fd, int32_t *row) { return of_fd(fd, row, tell_row); }
 int infer_more_path(const char *path, int32_t *row) { return of_path(path, row, tell_more_row); }
 int infer_more_fd(int fd, int32_t *row) { return of_fd(fd, row, tell_more_row); }
 int infer_tell_path(const char *path, struct infer_told *told) { return of_path(path, told, tell_all); }
+
+int infer_named_path(const char *path, struct infer_named_answer *answer) {
+    struct asked asked = {path, answer};
+    return of_path(path, &asked, tell_named);
+}

@@ -47,6 +47,10 @@ struct infer_told {
 static inline void infer_tell(const void *buf, size_t len, struct infer_told *told);
 int infer_tell_path(const char *path, struct infer_told *told);
 
+/* What the path, as a name, and the first INFER_FRONT bytes of the file tell: infer_named. It answers as infer_path does:
+ * where it fails, `answer` is what the path and no bytes tell. `answer` must not be null. */
+int infer_named_path(const char *path, struct infer_named_answer *answer);
+
 /* A stream that comes in pieces, in the caller's memory: its first INFER_FRONT bytes, how many these are so far, and
  * whether the verdict on them is final, as infer_verdict tells it. It begins as `struct infer_sniffer it = {0};`. Any call
  * takes what is kept, as infer_more_position(it.kept, it.size). */

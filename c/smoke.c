@@ -293,6 +293,39 @@ static void types(void) {
     same("its column", (long)column, 30);
 }
 
+/* What a name and bytes tell, whatever stood in the answer. A MIME type of nothing is that there is none. */
+static void named_is(const char *name, size_t name_len, const char *buf, size_t len, int32_t standing, const char *mime_type, const char *of_name) {
+    struct infer_named_answer got;
+    memset(&got, 0xA5, sizeof got);
+    infer_named(name, name_len, buf, len, &got);
+    same(name, got.standing, standing);
+    same(name, got.row, infer_more_position(buf, len));
+    same(name, strcmp(got.told.mime_type, mime_type), 0);
+    same(name, strcmp(got.name.mime_type, of_name), 0);
+}
+
+static void names(void) {
+    static const char png[] = "\x89PNG\r\n\x1A\n";
+    struct infer_named_answer got;
+    named_is("main.py", 7, "import os\n", 10, INFER_NAME_REFINES, "text/x-python", "text/x-python");
+    named_is("main.py", 7, "#!/usr/bin/perl\n", 16, INFER_CONTRADICTS, "text/x-perl", "text/x-python");
+    named_is("notes.txt", 9, "{\"a\": 1}", 8, INFER_BYTES_REFINE, "application/json", "text/plain");
+    named_is("b/PHOTO.PNG~", 12, png, 8, INFER_AGREE, "image/png", "image/png");
+    named_is("photo", 5, png, 8, INFER_BYTES_ALONE, "image/png", "");
+    named_is("photo.png\0.txt", 14, png, 8, INFER_BYTES_ALONE, "image/png", "");
+    named_is("photo.png", 9, NULL, 0, INFER_CONTRADICTS, "", "image/png");
+    named_is("disk.iso", 8, "\0\0\0\0", 4, INFER_NAME_ALONE, "application/x-cd-image", "application/x-cd-image");
+    named_is("x.unknown", 9, "\0\1", 2, INFER_NOTHING, "", "");
+    named_is(NULL, 0, NULL, 0, INFER_NOTHING, "", "");
+    infer_named("a.dz", 4, "\x1F\x8B\x08", 3, &got);
+    same("an own name", got.told.is_own_name && got.name.is_own_name, true);
+    same("its extension", *got.told.extension, 0);
+    infer_named("a.zip", 5, "PK\3\4", 4, &got);
+    same("no own name", got.told.is_own_name || got.name.is_own_name, false);
+    same("the extension of a row", strcmp(got.told.extension, "zip"), 0);
+    same("that of the name", strcmp(got.name.extension, "zip"), 0);
+}
+
 static void questions(void) {
     same("is jpg", infer_is(JPEG, "jpg", 3), true);
     same("is JPG", infer_is(JPEG, "JPG", 3), false);
@@ -352,6 +385,7 @@ int main(void) {
     classes();
     samples();
     types();
+    names();
     questions();
     tests();
     warnings();

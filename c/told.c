@@ -81,6 +81,25 @@ static void ask_types(const char *text, size_t size, const void *buf, size_t len
     note((int64_t)infer_types_line(text, size, buf, len));
 }
 
+/* The end of the buffer as a name, which some bytes of a name may follow. */
+static void ask_named(const unsigned char *buf, size_t len) {
+    static const char *const ends[] = {"", ".py", ".txt", ".png", ".tar.gz", ".DOC~"};
+    char name[64];
+    struct infer_named_answer found;
+    size_t kept = len < 16 ? len : 16;
+    const char *last = ends[next(sizeof ends / sizeof *ends)];
+    memcpy(name, buf + (len - kept), kept);
+    memcpy(name + kept, last, strlen(last));
+    infer_named(name, kept + strlen(last), buf, len, &found);
+    note(found.standing);
+    note(found.row);
+    note_text(found.told.mime_type);
+    note_text(found.told.extension);
+    note_text(found.name.mime_type);
+    note_text(found.name.extension);
+    note(found.told.is_own_name + 2 * found.name.is_own_name);
+}
+
 static void ask(const void *buf, size_t len, int32_t first) {
     char text[INFER_TEXT_SIZE];
     bool is_final;
@@ -102,6 +121,7 @@ static void ask(const void *buf, size_t len, int32_t first) {
     note((int64_t)column);
     ask_types(types, strlen(types), buf, len);
     ask_types(buf, len, buf, len);
+    ask_named(buf, len);
     note(infer_is(buf, len, infer_extension_text(row), strlen(infer_extension_text(row))));
     note(infer_is_mime(buf, len, infer_mime_type_text(row), strlen(infer_mime_type_text(row))));
 }

@@ -279,7 +279,7 @@ def check_header():
 
 def check_classes():
     """Pages that list the classes or the faults list those of the code."""
-    codes = re.findall(r"^    INFER_([A-Z]+) = \d", text_of("c/infer.h"), re.M)
+    codes = re.findall(r"^    INFER_([A-Z]+) = \d", text_of("c/infer.h").partition("enum infer_class_code")[2].partition("};")[0], re.M)
     classes = sorted(it.lower() for it in codes if it != "CUSTOM")
     told = re.search(r"classes \(([\w, ]+)\)", text_of("examples/upload_gate/README.md"))
     yield told is not None and told[1].split(", ") == classes, f"examples/upload_gate/README.md lists other classes than {classes}"

@@ -24,15 +24,18 @@ ghost use Rattle.infer_more.specs.Wider.{IsWider, shown};
 ghost use Rattle.infer.specs.Triple.{Triple};
 ghost use Rattle.infer_more.specs.Line.{Row};
 ghost use Rattle.infer_more.specs.Text.{IsAnswerLine, IsMistake, IsTypesAnswer, reason_text, rows_of};
+ghost use Rattle.infer_c.specs.Named.{StoresNamed};
 ghost use Rattle.infer_c.specs.Written.{WritesText, WritesWhole};
 
 mod class;
+mod named;
 mod row;
 mod texts;
 mod written;
 
 use infer::MatcherType;
 use infer_more::laws;
+use named::NamedAnswer;
 
 const VERSION: &str = "0.1.0";
 
@@ -345,6 +348,15 @@ pub extern "C" fn infer_types_line(text: &[u8], buf: &[u8]) -> usize
         × IsAnswerLine text.now buf.now number × (result ≡ unwrap_or number 0) }
 {
     infer_more::types::answer_line(text, buf).unwrap_or(0)
+}
+
+/// Stores what a name and bytes tell: the standing, the row of the wider answer of `buf`, or -1, the type that is told, and
+/// the first type that the name has.
+#[unsafe(no_mangle)]
+pub extern "C" fn infer_named(name: &[u8], buf: &[u8], answer: &mut NamedAnswer)
+    ensures { StoresNamed name.now buf.now answer.old answer.new }
+{
+    named::store(name, buf, answer);
 }
 
 /// Whether some row with this extension accepts `buf`.
