@@ -256,6 +256,15 @@ def further_vectors() -> list[tuple[str, bytes, Row | None, str]]:
     return [(name, decode(data), None if row == "-" else named[row], shown) for name, data, row, shown in _lines_of("further/vectors.tsv")]
 
 
+def named_vectors() -> list[tuple[bytes, bytes, str, str]]:
+    """Each name and bytes, with the standing and the MIME type that they have."""
+    found = []
+    for name, digits, standing, mime in _lines_of("named.tsv"):
+        text = re.sub(rb"\\x([0-9A-Fa-f]{2})", lambda it: bytes([int(it[1], 16)]), name.encode())
+        found.append((text, decode("" if digits == "-" else digits), standing, mime))
+    return found
+
+
 def command_in(readme: str, begins: str) -> str:
     """The first command of a README that begins so."""
     return next(line for line in commands_in(readme) if line.startswith(begins))

@@ -8,20 +8,21 @@ The names are those of filetype.py: `guess` takes a path, bytes or a file that i
 `Type` or None. `infer.magic` has the names of python-magic, and `infer.aliases` other names of the types."""
 from __future__ import annotations
 
+import enum
 import os
 from collections.abc import Iterable, Iterator
 from itertools import takewhile
-from typing import Union
+from typing import NamedTuple, Union
 
 from . import _library
 from ._source import FRONT, Readable, Source, Whole, get_bytes, get_front
 
 __all__ = [
-    "FRONT", "Readable", "Sniffer", "Source", "TYPES", "Type", "Types", "TypesError", "Whole", "add_type", "application_match", "application_matchers",
+    "FRONT", "Named", "NamedType", "Readable", "Sniffer", "Source", "Standing", "TYPES", "Type", "Types", "TypesError", "Whole", "add_type", "application_match", "application_matchers",
     "archive_match", "archive_matchers", "audio_match", "audio_matchers", "document_match", "document_matchers", "encoding", "font_match", "font_matchers",
     "further_types", "get_bytes", "get_signature_bytes", "get_type", "guess", "guess_extension", "guess_mime", "image_match", "image_matchers",
     "is_app", "is_archive", "is_audio", "is_book", "is_decided", "is_document", "is_extension", "is_extension_supported", "is_font",
-    "is_image", "is_mime", "is_mime_supported", "is_video", "match", "may_become", "sample", "signature", "types", "verdict", "version", "video_match",
+    "is_image", "is_mime", "is_mime_supported", "is_video", "match", "may_become", "named", "sample", "signature", "types", "verdict", "version", "video_match",
     "video_matchers",
 ]
 
@@ -205,6 +206,75 @@ def sample(kind: Type) -> bytes | None:
     """A short buffer whose answer is this type, or whose wider answer is. It is None if no buffer has it, and of a type
     that is not the library's."""
     return next(filter(None, map(_library.sample, _rows_of.get(tuple(kind), []))), None)
+
+
+class Standing(enum.Enum):
+    """What a name did beside the bytes of its file. The value is its name as a text."""
+
+    AGREE = "agree"
+    """The bytes are of the type that the name has."""
+    NAME_REFINES = "name refines"
+    """They may begin a file of the type that the name has, which is told."""
+    BYTES_REFINE = "bytes refine"
+    """They are of a finer kind of the type that the name has. Theirs is told."""
+    BYTES_ALONE = "bytes alone"
+    """The name says nothing, and the bytes have a type."""
+    NAME_ALONE = "name alone"
+    """No type accepts the bytes, and they may be of the type that the name has."""
+    CONTRADICTS = "contradicts"
+    """The bytes are not of a type that the name has."""
+    NOTHING = "nothing"
+    """Neither says anything."""
+
+
+class NamedType(NamedTuple):
+    """A type that `named` tells."""
+
+    mime: str
+    """The MIME type."""
+    extension: str | None
+    """The usual extension, without a dot, or None if only names tell of the type."""
+    is_own_name: bool
+    """Whether nobody else names it, so that it tells files apart and is not to be sent."""
+
+
+class Named(NamedTuple):
+    """What a name and bytes tell."""
+
+    standing: Standing
+    """What the name did."""
+    type: NamedType | None
+    """The type, or None if none is told."""
+    type_of_name: NamedType | None
+    """The type that the name has first, whatever the bytes are, or None."""
+    type_of_bytes: Type | None
+    """The wider answer, which the bytes have whatever the name is, or None."""
+
+
+_standings = tuple(Standing)
+
+
+def _bytes_of_name(name: Union[str, bytes, os.PathLike[str], os.PathLike[bytes]]) -> bytes:
+    text = os.fspath(name)
+    if isinstance(text, str):
+        try:
+            return str.encode(text, "utf-8", "surrogateescape")
+        except UnicodeEncodeError:
+            # A name that no system gives still has bytes.
+            return _encoded(text)
+    return memoryview(text).tobytes()
+
+
+def named(name: Union[str, bytes, os.PathLike[str], os.PathLike[bytes]], obj: Source | None = None) -> Named:
+    """What a file's name and its first bytes tell. Without bytes the name is a path, whose file is read. The bytes win: a
+    name only chooses among what they leave open. Types that `add_type` took are not asked.
+
+    >>> infer.named("main.py", b"import os").type.mime
+    'text/x-python'"""
+    text = _bytes_of_name(name)
+    front = get_front(os.fsdecode(name) if obj is None else obj)
+    standing, row, told, of_name = _library.named(text, front)
+    return Named(_standings[standing], NamedType(*told) if told else None, NamedType(*of_name) if of_name else None, _all_rows[row] if row >= 0 else None)
 
 
 class Sniffer:

@@ -5,7 +5,7 @@ import ctypes
 import os
 import sys
 from collections.abc import Callable, Sized
-from typing import Any
+from typing import Any, Optional
 
 _SYSTEM_LIBRARY = "libinfer.so.0.1"
 
@@ -105,6 +105,34 @@ def types_get(text: bytes, front: Sized) -> tuple[str, str, str] | None:
 def types_line(text: bytes, front: Sized) -> int:
     """The number of the line, from 1, whose type `types_get` gives, or 0."""
     return _types_line(text, len(text), front, len(front))
+
+
+_TEXT = ctypes.c_char * 74
+
+
+class _NamedType(ctypes.Structure):
+    _fields_ = [("mime_type", _TEXT), ("extension", _TEXT), ("is_own_name", ctypes.c_bool)]
+
+
+class _NamedAnswer(ctypes.Structure):
+    _fields_ = [("standing", ctypes.c_int32), ("row", _ROW), ("told", _NamedType), ("name", _NamedType)]
+
+
+_named: Callable[..., None] = _declare("infer_named", None, _BUFFER, _SIZE, _BUFFER, _SIZE, ctypes.POINTER(_NamedAnswer))
+NamedTexts = tuple[str, Optional[str], bool]
+
+
+def _texts_of(found: _NamedType) -> NamedTexts | None:
+    """The MIME type, the extension of the row that has it, and whether nobody else names it, or None if it has no MIME type."""
+    mime_type, extension = found.mime_type.decode("ascii"), found.extension.decode("ascii")
+    return (mime_type, extension or None, found.is_own_name) if mime_type else None
+
+
+def named(name: bytes, front: Sized) -> tuple[int, int, NamedTexts | None, NamedTexts | None]:
+    """The standing, the number of the wider answer's row or -1, the type that is told, and the first that the name has."""
+    found = _NamedAnswer()
+    _named(name, len(name), front, len(front), ctypes.byref(found))
+    return found.standing, found.row, _texts_of(found.told), _texts_of(found.name)
 
 
 def texts() -> tuple[list[tuple[str, str, str]], int, str]:
