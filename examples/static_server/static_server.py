@@ -8,7 +8,6 @@ import asyncio
 import contextlib
 import email.utils
 import errno
-import mimetypes
 import os
 import re
 import stat
@@ -19,34 +18,16 @@ from collections.abc import Iterator
 from typing import BinaryIO
 
 import infer
-from infer.aliases import BROWSER_OF, BUILT_ON, EXTENSION
+from infer import Standing
+from infer.aliases import BROWSER_OF
 from loopback import listen, number_of
 from serving import PIECE, SHORT, Client, Refusal, Server
 
 WHOLE = 1 << 20
 STATUS_OF = SHORT | {errno.EIO: 500}
 UNKNOWN, PAGE = "application/octet-stream", "application/xhtml+xml"
-TEXTS = {"json": "application/json", "svg": "image/svg+xml", "xhtml": PAGE, "ics": "text/calendar"}
-TEXTS |= {"js": "text/javascript", "mjs": "text/javascript", "md": "text/markdown"}
-TEXTS |= dict.fromkeys(["log", "conf", "cfg", "ini", "yaml", "yml", "toml", "sql"], "text/plain")
-# The system's own list is left out, so that the answers are the same on every machine.
-NAMES = mimetypes.MimeTypes(filenames=())
-# What no browser runs.
+# What no browser runs, but for what is a text too, as an image in SVG is.
 SHOWN = {"image", "audio", "video", "font"}
-
-
-def browser_type(kind: infer.Type) -> str:
-    return BROWSER_OF.get(kind.extension, kind.mime)
-
-
-def type_of_extension(extension: str) -> str | None:
-    if extension in TEXTS:
-        return TEXTS[extension]
-    kind = infer.get_type(ext=extension)
-    found, encoding = NAMES.guess_type("name." + extension, strict=False)
-    if kind is None and (found is None or encoding) and extension in BUILT_ON:
-        kind = infer.get_type(ext=BUILT_ON[extension])
-    return browser_type(kind) if kind else None if encoding else found
 
 
 def is_textual(mime_type: str) -> bool:
@@ -61,19 +42,18 @@ def is_utf8(data: bytes) -> bool:
 
 def content_type(name: str, front: bytes) -> str:
     """The Content-Type, without a charset, for a name and the first bytes."""
-    extension = name.rpartition(".")[2].lower() if "." in name else ""
-    extension = EXTENSION.get(extension, extension)
-    named, told = type_of_extension(extension), infer.guess(front)
-    if named is None:
+    found = infer.named(name, front)
+    kind, told = found.type_of_name, found.type_of_bytes
+    if found.standing in (Standing.AGREE, Standing.NAME_REFINES):
+        kind = found.type
+    elif found.standing is Standing.BYTES_ALONE:
         # What a browser runs is sent as such only if the name says so.
-        return browser_type(told) if told and told.group in SHOWN else UNKNOWN
-    if told is None or named == browser_type(told) or BUILT_ON.get(extension) == told.extension:
-        return named
-    # A text can begin as anything: a script by "#!", a page in Markdown by a tag, a note by BM as a bitmap does.
-    if is_textual(named) and infer.encoding(front) in ("us-ascii", "utf-8"):
-        return named
-    # Of a name and bytes that contradict each other neither is believed, but for one picture named as another.
-    return browser_type(told) if told.group in SHOWN and named.partition("/")[0] == told.group else UNKNOWN
+        return BROWSER_OF.get(told.extension, told.mime) if told.group in SHOWN and not is_textual(told.mime) else UNKNOWN
+    elif found.standing is not Standing.BYTES_REFINE:
+        # A text can begin as anything: a script by "#!", a page in Markdown by a tag, a note by BM as a bitmap does.
+        if not kind or not is_textual(kind.mime) or infer.encoding(front) not in ("us-ascii", "utf-8"):
+            return UNKNOWN
+    return UNKNOWN if kind.is_own_name else BROWSER_OF.get(kind.extension, kind.mime)
 
 
 TARGET = re.compile(r"/(?:[!$&-\[\]-~]|%[0-9A-Fa-f]{2})*")
