@@ -11,7 +11,7 @@ LANGUAGES = ["C", "Python", "Rust", "Go", "JavaScript", "Java"]
 PYTHON, RUST, GO, JAVASCRIPT = "bindings/python/src/infer", "bindings/rust/infer/src", "bindings/go", "bindings/javascript"
 JAVA = "bindings/java/src/dev/hoarvelt/infer"
 # Where the names of a module of the binding for Rust stand.
-RUST_FILES = {"": ["lib", "read", "encoding", "file_type"], "more": ["more"], "Types": ["types"], "app": ["matchers"], "image": ["matchers"]}
+RUST_FILES = {"": ["lib", "read", "encoding", "file_type", "named"], "more": ["more"], "Types": ["types"], "app": ["matchers"], "image": ["matchers"]}
 
 
 def declared():
@@ -36,7 +36,7 @@ def is_in_rust(name):
 def is_in_go(name):
     of, _, item = name.rpartition(".")
     receiver = rf"\(\w+ \*?{of}\) " if of else ""
-    return any(re.search(rf"^(?:func {receiver}|type ){item}\b", text_of(f"{GO}/{it}.go"), re.M) for it in ("infer", "own_types"))
+    return any(re.search(rf"^(?:func {receiver}|type ){item}\b", text_of(f"{GO}/{it}.go"), re.M) for it in ("infer", "named", "own_types"))
 
 
 def is_in_javascript(name):

@@ -420,6 +420,69 @@ func TestMoreReadersAndFiles(t *testing.T) {
 	}
 }
 
+// nameOf gives a name, some bytes of which are written as \xHH.
+func nameOf(t *testing.T, text string) string {
+	parts := strings.Split(text, `\x`)
+	name := parts[0]
+	for _, part := range parts[1:] {
+		digits, err := hex.DecodeString(part[:2])
+		if err != nil {
+			t.Fatal(err)
+		}
+		name += string(digits) + part[2:]
+	}
+	return name
+}
+
+func TestNames(t *testing.T) {
+	all := lines(t, "named.tsv")
+	for _, line := range all {
+		data := decode(t, line[1])
+		found := DetectNamed(nameOf(t, line[0]), data)
+		told := found.Type.String()
+		if told == "" {
+			told = "-"
+		}
+		if ofBytes, _ := DetectMore(data); found.Standing.String() != line[2] || told != line[3] || found.TypeOfBytes != ofBytes {
+			t.Error(line[0], line[1], found)
+		}
+	}
+	if len(all) < 900 {
+		t.Error(len(all))
+	}
+	if got := DetectNamed("a.dz", []byte("\x1F\x8B\x08")); got.Type != (NamedType{"application/x-dictzip", "", true}) {
+		t.Error(got)
+	}
+	if got := DetectNamed("a.png\x00.txt", jpeg); got != (Named{BytesAlone, NamedType{"image/jpeg", "jpg", false}, NamedType{}, want}) {
+		t.Error(got)
+	}
+	if got := Standing(7).String() + Standing(-1).String(); got != "no standingno standing" {
+		t.Error(got)
+	}
+}
+
+func TestNamedFiles(t *testing.T) {
+	folder := t.TempDir()
+	path := filepath.Join(folder, "a.png")
+	if err := os.WriteFile(path, jpeg, 0o600); err != nil {
+		t.Fatal(err)
+	}
+	got, err := DetectNamedFile(path)
+	if err != nil || got.Standing != Contradicts || got.TypeOfName.MIMEType != "image/png" || got.TypeOfBytes != want {
+		t.Error(got, err)
+	}
+	for _, fsys := range []fs.FS{os.DirFS(folder), fstest.MapFS{"a.png": {Data: jpeg}}} {
+		if same, err := DetectNamedFS(fsys, "a.png"); err != nil || same != got {
+			t.Error(same, err)
+		}
+	}
+	for _, wrong := range []string{folder, path + "/b", filepath.Join(folder, "none.py")} {
+		if _, err := DetectNamedFile(wrong); err == nil {
+			t.Error(wrong)
+		}
+	}
+}
+
 // lying gives no bytes and says that it gave some.
 type lying int
 

@@ -47,6 +47,7 @@ mod c {
             extension: *mut c_char,
             extension_size: usize,
         ) -> i32;
+        pub fn infer_named(name: *const c_void, name_len: usize, buf: *const c_void, len: usize, answer: *mut super::NamedAnswer);
         pub fn infer_types_line(text: *const c_void, text_len: usize, buf: *const c_void, len: usize) -> usize;
         pub fn infer_is(buf: *const c_void, len: usize, extension: *const c_char, extension_len: usize) -> bool;
         pub fn infer_is_mime(buf: *const c_void, len: usize, mime_type: *const c_char, mime_type_len: usize) -> bool;
@@ -154,6 +155,7 @@ pub const TYPES_TEXT_SIZE: usize = 256;
 
 /// A text that the library wrote, and a zero behind it.
 #[derive(Copy, Clone, Eq, PartialEq, Hash)]
+#[repr(transparent)]
 pub struct Text<const SIZE: usize> {
     bytes: [u8; SIZE],
 }
@@ -199,6 +201,36 @@ pub fn types_get(text: &[u8], buf: &[u8]) -> Option<(MatcherType, Text<TYPES_TEX
 pub fn types_line(text: &[u8], buf: &[u8]) -> usize {
     // SAFETY: as above.
     unsafe { c::infer_types_line(text.as_ptr().cast(), text.len(), buf.as_ptr().cast(), buf.len()) }
+}
+
+/// `struct infer_named_type` of `infer.h`.
+#[derive(Copy, Clone, Eq, PartialEq, Hash)]
+#[repr(C)]
+pub struct NamedTexts {
+    pub mime_type: Text<TEXT_SIZE>,
+    pub extension: Text<TEXT_SIZE>,
+    pub is_own_name: bool,
+}
+
+impl NamedTexts {
+    const EMPTY: NamedTexts = NamedTexts { mime_type: Text::EMPTY, extension: Text::EMPTY, is_own_name: false };
+}
+
+/// `struct infer_named_answer` of `infer.h`.
+#[repr(C)]
+pub struct NamedAnswer {
+    pub standing: i32,
+    pub row: i32,
+    pub told: NamedTexts,
+    pub name: NamedTexts,
+}
+
+/// What a name and bytes tell.
+pub fn named(name: &[u8], buf: &[u8]) -> NamedAnswer {
+    let mut answer = NamedAnswer { standing: 0, row: 0, told: NamedTexts::EMPTY, name: NamedTexts::EMPTY };
+    // SAFETY: as above, and `answer` is written.
+    unsafe { c::infer_named(name.as_ptr().cast(), name.len(), buf.as_ptr().cast(), buf.len(), &mut answer) };
+    answer
 }
 
 pub fn is(buf: &[u8], extension: &str) -> bool {

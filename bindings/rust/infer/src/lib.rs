@@ -14,6 +14,7 @@ mod ffi;
 mod file_type;
 mod matchers;
 pub mod more;
+mod named;
 #[cfg(feature = "std")]
 mod read;
 #[cfg(feature = "serde")]
@@ -23,6 +24,9 @@ mod types;
 pub use encoding::{encoding, Encoding};
 pub use file_type::{Matcher, MatcherType, Type};
 pub use matchers::{app, archive, audio, book, doc, font, image, odf, text, video};
+#[cfg(feature = "std")]
+pub use named::named_path;
+pub use named::{named, Named, NamedType, Standing};
 #[cfg(feature = "std")]
 pub use read::{get_from_path, get_from_reader, whole};
 pub use types::{Found, Mistake, Types};

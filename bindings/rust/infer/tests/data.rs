@@ -285,3 +285,27 @@ fn every_class_is_there() {
         assert!(rows().iter().any(|row| row.0 == format!("{class:?}")));
     }
 }
+
+/// The bytes of a name, some of which are written as `\xHH`.
+fn name_of(text: &str) -> Vec<u8> {
+    let mut parts = text.split("\\x");
+    let mut name = parts.next().unwrap().as_bytes().to_vec();
+    for part in parts {
+        name.push(u8::from_str_radix(&part[..2], 16).unwrap());
+        name.extend(part[2..].as_bytes());
+    }
+    name
+}
+
+#[test]
+fn names_and_bytes_are_those_of_the_data() {
+    let all = lines("named.tsv");
+    for line in &all {
+        let buf = decode(&line[1]);
+        let found = infer::named(&name_of(&line[0]), &buf);
+        let told = found.told.map_or("-".to_string(), |it| it.mime_type().to_string());
+        assert_eq!((found.standing.to_string(), told), (line[2].clone(), line[3].clone()), "{} {}", line[0], line[1]);
+        assert_eq!(found.of_bytes, infer::more::get(&buf));
+    }
+    assert!(all.len() > 900);
+}
