@@ -65,6 +65,26 @@ JNIEXPORT jint NAME(typesGet)(JNIEnv *env, jclass self, jbyteArray text, jbyteAr
     return class_code;
 }
 
+/* Named.java reads the structure as bytes. */
+_Static_assert(sizeof(struct infer_named_answer) == 308, "Named.java has another size");
+
+JNIEXPORT void NAME(named)(JNIEnv *env, jclass self, jbyteArray name, jbyteArray array, jobject direct, jint from, jint size, jbyteArray told) {
+    struct infer_named_answer answer = {0};
+    size_t name_size = (size_t)(*env)->GetArrayLength(env, name);
+    /* Where a buffer begins is asked before an array is held. */
+    char *at = array ? NULL : held(env, NULL, direct), *text = held(env, name, NULL);
+    (void)self;
+    if (array) at = held(env, array, NULL);
+    if (text && (at || !array)) infer_named(text, name_size, array ? at + from : at, (size_t)size, &answer);
+    release(env, array, at);
+    release(env, name, text);
+    if (!text || (array && !at)) {
+        refuse(env);
+        return;
+    }
+    (*env)->SetByteArrayRegion(env, told, 0, sizeof answer, (const jbyte *)&answer);
+}
+
 JNIEXPORT jstring NAME(typesMistake)(JNIEnv *env, jclass self, jbyteArray text, jlongArray place) {
     char reason[INFER_TEXT_SIZE] = "", *types;
     size_t line = 0, column = 0, text_size = (size_t)(*env)->GetArrayLength(env, text);

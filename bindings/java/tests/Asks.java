@@ -1,4 +1,6 @@
 import dev.hoarvelt.infer.Infer;
+import dev.hoarvelt.infer.Named;
+import dev.hoarvelt.infer.NamedType;
 import dev.hoarvelt.infer.Type;
 import dev.hoarvelt.infer.Types;
 import dev.hoarvelt.infer.TypesException;
@@ -38,6 +40,8 @@ final class Asks {
             case "load" -> rest.forEach(path -> say(path, () -> shown(Types.load(Path.of(path)).get(hex("716f6966" + "00".repeat(10))))));
             case "paths" -> rest.forEach(path -> say(path, () -> shown(Infer.get(Path.of(path)))));
             case "probe" -> rest.forEach(path -> say(path, () -> String.valueOf(Files.probeContentType(Path.of(path)))));
+            case "named" -> named();
+            case "namedPaths" -> rest.forEach(path -> say(path, () -> shown(Infer.named(Path.of(path)))));
             case "streams" -> streams();
             case "nulls" -> nulls();
             case "threads" -> threads();
@@ -77,6 +81,28 @@ final class Asks {
         System.out.println(Infer.version());
         Infer.types().forEach(it -> System.out.println(shown(Optional.of(it))));
         Infer.furtherTypes().forEach(it -> System.out.println(shown(Optional.of(it))));
+    }
+
+    private static String shownType(Optional<NamedType> type) {
+        return type.map(it -> it.mimeType() + " " + it.extension().orElse("-") + " " + it.isOwnName()).orElse("none");
+    }
+
+    private static String shown(Named it) {
+        return String.join("|", it.standing().toString(), shownType(it.type()), shownType(it.typeOfName()), shown(it.typeOfBytes()));
+    }
+
+    /** Of each name and each buffer that are given, what they tell, in each way to hand the buffer over. */
+    private static void named() throws IOException {
+        List<byte[]> all = given();
+        for (int i = 0; i < all.size(); i += 2) {
+            String name = new String(all.get(i), StandardCharsets.UTF_8);
+            byte[] bytes = all.get(i + 1);
+            System.out.println(String.join(
+                "\t",
+                shown(Infer.named(name, bytes)),
+                shown(Infer.named(name, inside(bytes, ByteBuffer.allocateDirect(bytes.length + 9)))),
+                shown(Infer.named(name, new BufferedInputStream(new ByteArrayInputStream(bytes), 16)))));
+        }
     }
 
     private interface Way {

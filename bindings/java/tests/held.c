@@ -12,6 +12,7 @@ ASKED(jint, morePosition, jbyteArray, jobject, jint, jint);
 ASKED(jboolean, isDecided, jbyteArray, jobject, jint, jint);
 ASKED(jstring, encoding, jbyteArray, jobject, jint, jint);
 ASKED(jint, typesGet, jbyteArray, jbyteArray, jobject, jint, jint, jbyteArray, jbyteArray);
+ASKED(void, named, jbyteArray, jbyteArray, jobject, jint, jint, jbyteArray);
 ASKED(jstring, typesMistake, jbyteArray, jlongArray);
 ASKED(jstring, mimeType, jint);
 #define ASK(name, ...) Java_dev_hoarvelt_infer_Library_##name(&env, NULL, __VA_ARGS__)
@@ -112,6 +113,22 @@ static void test_types(struct array *photo) {
     }
 }
 
+/* What is told of a name and bytes begins with the standing, and its MIME type stands behind two numbers. */
+static void test_names(struct array *photo) {
+    struct array name = ARRAY("a.jpg"), other = ARRAY("a.png"), told = ARRAY("");
+    thrown = 0;
+    ASK(named, (jbyteArray)&name, (jbyteArray)photo, NULL, 2, 3, (jbyteArray)&told);
+    wants(told.bytes[0] == 0 && strcmp(told.bytes + 8, "image/jpeg") == 0, "a name that agrees");
+    ASK(named, (jbyteArray)&other, NULL, (jobject)(void *)(photo->bytes + 2), 0, 3, (jbyteArray)&told);
+    wants(told.bytes[0] == 5 && strcmp(told.bytes + 8, "image/jpeg") == 0, "a name that a buffer contradicts");
+    wants(thrown == 0 && held == 0, "an exception, or a name that is held for good");
+    for (int first = 0; first < 2; first++) {
+        refused_from = first;
+        ASK(named, (jbyteArray)&name, (jbyteArray)photo, NULL, 2, 3, (jbyteArray)&told);
+        wants(thrown == 1 + first && held == 0 && told.bytes[0] == 5, "refused memory of a name");
+    }
+}
+
 static void test_refused(struct array *photo) {
     jlong place[2];
     thrown = 0;
@@ -128,6 +145,7 @@ int main(void) {
     char direct[] = "\377\330\377";
     test_answers(&photo, direct);
     test_types(&photo);
+    test_names(&photo);
     test_refused(&photo);
     puts(wrong ? "wrong" : "right");
     return wrong != 0;

@@ -4,6 +4,7 @@ import java.io.IOException;
 import java.io.InputStream;
 import java.nio.ByteBuffer;
 import java.nio.charset.Charset;
+import java.nio.charset.StandardCharsets;
 import java.nio.file.Path;
 import java.util.List;
 import java.util.Optional;
@@ -53,7 +54,7 @@ public final class Infer {
         return VERSION;
     }
 
-    private static Optional<Type> answer(int row) {
+    static Optional<Type> answer(int row) {
         return row < 0 ? Optional.empty() : ANSWERS.get(row);
     }
 
@@ -103,6 +104,32 @@ public final class Infer {
     /** {@return the same, of the first bytes of a file} */
     public static Optional<Type> wider(Path path) throws IOException {
         return wider(Front.of(path));
+    }
+
+    private static Named named(String name, Bytes bytes) {
+        byte[] answer = new byte[Named.SIZE];
+        Library.named(name.getBytes(StandardCharsets.UTF_8), bytes, answer);
+        return Named.of(answer);
+    }
+
+    /** {@return what a file's name and its bytes tell} The bytes win: a name only chooses among what they leave open. */
+    public static Named named(String name, byte[] bytes) {
+        return named(name, Bytes.of(bytes));
+    }
+
+    /** {@return the same, of a buffer's bytes} */
+    public static Named named(String name, ByteBuffer buffer) {
+        return named(name, Bytes.of(buffer));
+    }
+
+    /** {@return the same, of the next bytes of a stream, which stays where it is} */
+    public static Named named(String name, InputStream in) throws IOException {
+        return named(name, Front.of(in));
+    }
+
+    /** {@return the same, of the first bytes of a file, whose name the path is} */
+    public static Named named(Path path) throws IOException {
+        return named(path.toString(), Front.of(path));
     }
 
     private static Optional<Charset> encoding(Bytes bytes) {

@@ -42,6 +42,11 @@ final class Library {
         return typesGet(text, it.array(), it.direct(), it.from(), it.size(), mimeType, extension);
     }
 
+    /** What a name and bytes tell, into the answer, which has {@link Named#SIZE} bytes. */
+    static void named(byte[] name, Bytes it, byte[] answer) {
+        named(name, it.array(), it.direct(), it.from(), it.size(), answer);
+    }
+
     private static native int position(byte[] array, ByteBuffer direct, int from, int size);
 
     private static native int morePosition(byte[] array, ByteBuffer direct, int from, int size);
@@ -53,6 +58,8 @@ final class Library {
     private static native String encoding(byte[] array, ByteBuffer direct, int from, int size);
 
     private static native int typesGet(byte[] text, byte[] array, ByteBuffer direct, int from, int size, byte[] mimeType, byte[] extension);
+
+    private static native void named(byte[] name, byte[] array, ByteBuffer direct, int from, int size, byte[] answer);
 
     /** What is wrong with a text of types, or the empty text. The line and the column go into the place. */
     static native String typesMistake(byte[] text, long[] place);

@@ -32,6 +32,7 @@ final class Library {
     private static final MethodHandle ENCODING = handle("infer_encoding", JAVA_LONG, ADDRESS, JAVA_LONG, ADDRESS, JAVA_LONG);
     private static final MethodHandle TYPES_GET =
         handle("infer_types_get", JAVA_INT, ADDRESS, JAVA_LONG, ADDRESS, JAVA_LONG, ADDRESS, JAVA_LONG, ADDRESS, JAVA_LONG);
+    private static final MethodHandle NAMED = critical("infer_named", FunctionDescriptor.ofVoid(ADDRESS, JAVA_LONG, ADDRESS, JAVA_LONG, ADDRESS));
     private static final MethodHandle TYPES_CHECK = handle("infer_types_check", JAVA_LONG, ADDRESS, JAVA_LONG, ADDRESS, ADDRESS, ADDRESS, JAVA_LONG);
     private static final MethodHandle ROW_COUNT = handle("infer_row_count", JAVA_LONG);
     private static final MethodHandle MORE_ROW_COUNT = handle("infer_more_row_count", JAVA_LONG);
@@ -44,9 +45,13 @@ final class Library {
     private Library() {}
 
     /** A call of the library. It never waits, so it may look at an array where that stands. */
-    private static MethodHandle handle(String name, MemoryLayout result, MemoryLayout... arguments) {
+    private static MethodHandle critical(String name, FunctionDescriptor types) {
         MemorySegment at = SymbolLookup.loaderLookup().find(name).orElseThrow(() -> new UnsatisfiedLinkError("the library has no " + name));
-        return Linker.nativeLinker().downcallHandle(at, FunctionDescriptor.of(result, arguments), Linker.Option.critical(true));
+        return Linker.nativeLinker().downcallHandle(at, types, Linker.Option.critical(true));
+    }
+
+    private static MethodHandle handle(String name, MemoryLayout result, MemoryLayout... arguments) {
+        return critical(name, FunctionDescriptor.of(result, arguments));
     }
 
     private static MemorySegment segment(Bytes it) {
@@ -115,6 +120,15 @@ final class Library {
         try {
             return (int) TYPES_GET.invokeExact(
                 types, (long) text.length, segment(it), (long) it.size(), mimeTypeOut, (long) TEXT_SIZE, extensionOut, (long) TEXT_SIZE);
+        } catch (Throwable fault) {
+            throw thrown(fault);
+        }
+    }
+
+    /** What a name and bytes tell, into the answer, which has {@link Named#SIZE} bytes. */
+    static void named(byte[] name, Bytes it, byte[] answer) {
+        try {
+            NAMED.invokeExact(MemorySegment.ofArray(name), (long) name.length, segment(it), (long) it.size(), MemorySegment.ofArray(answer));
         } catch (Throwable fault) {
             throw thrown(fault);
         }
