@@ -165,7 +165,7 @@ def check_commands(page):
 
 @kept
 def fault_texts():
-    return set(re.findall(r'Fault::\w+(?:\(_\))? => "(.*)"', text_of("crates/infer_tool/src/report.rt")))
+    return set(re.findall(r'Fault::\w+(?:\(_\))? => "(.*)"', text_of("crates/infer_lines/src/faults.rt")))
 
 
 @kept
@@ -193,7 +193,7 @@ def check_lines(page):
 
 def check_statuses():
     """The pages tell of the statuses as the code of the program has them."""
-    outcomes = text_of("crates/infer_tool/src/outcome.rt")
+    outcomes = text_of("crates/infer_lines/src/outcome.rt")
     numbers = dict(re.findall(r"Outcome::(\w+) => (\d),", outcomes))
     listed = {it for line in re.findall(r"^\|.*$", text_of("docs/PROGRAM.md"), re.M) for it in re.findall(r"\| (\d+) \|$", line)}
     yield listed == {*numbers.values(), "127"}, f"docs/PROGRAM.md has the statuses {sorted(listed)}"

@@ -13,7 +13,8 @@ use Rattle.infer.specs.declared.read.fault.Fault.TheVariants.{Memory}
 use Rattle.infer.specs.declared.read.watched.Watched.{Watched}
 use Rattle.infer.specs.declared.table.file_type.FileType.{FileType}
 use Rattle.infer_sniff.specs.Verdicts.{IsSettled}
-use Rattle.infer_tool.specs.Report.{IsFound, Reports, Saying, told}
+use Rattle.infer_lines.specs.Said.{Saying}
+use Rattle.infer_tool.specs.Report.{IsFound, Reports, told}
 
 -- what a reader lost: its first n bytes
 abbrev pub LosesFront : ℕ → Option (List ℕ) → Option (List ℕ) → Type 0

@@ -1,8 +1,6 @@
 -- What is said of an input, and what an outcome says of it.
-use Rattle.std.specs.Prelude.{◌≡◌, ◌≤◌, ℕ, Bool, true, false, List, [], Option, None, Some, Result, Ok, Err, IfOk, IfSome, length, option_map}
-use Rattle.std.specs.Bool.{OnFalse}
-use Rattle.std.specs.Option.{is_none, option_and_then}
-use Rattle.std.specs.Io.KnownBytes.{Appends, Keeps}
+use Rattle.std.specs.Prelude.{◌≡◌, ◌≤◌, ℕ, List, [], Option, None, Some, Result, Ok, Err, IfOk, IfSome, length, option_map}
+use Rattle.std.specs.Io.KnownBytes.{Appends}
 use Rattle.infer.specs.Buffer.{IsBuffer, head}
 use Rattle.infer.specs.First.{IsAnswer}
 use Rattle.infer.specs.Row.{Accepts}
@@ -10,12 +8,10 @@ use Rattle.infer.specs.Table.{table}
 use Rattle.infer.specs.Triple.{Triple, triple_of}
 use Rattle.infer.specs.declared.read.fault.Fault.{Fault}
 use Rattle.infer.specs.declared.table.file_type.FileType.{FileType}
+use Rattle.infer_lines.specs.Said.{Saying}
+use Rattle.infer_lines.specs.declared.outcome.Outcome.{Outcome}
+use Rattle.infer_lines.specs.declared.outcome.Outcome.TheVariants.{Known, Unknown, Failed}
 use Rattle.infer_tool.specs.Line.{fault_line, line}
-use Rattle.infer_tool.specs.Outcome.{outcome_after}
-use Rattle.infer_tool.specs.Writer.{has_failed, inner}
-use Rattle.infer_tool.specs.declared.outcome.Outcome.{Outcome}
-use Rattle.infer_tool.specs.declared.outcome.Outcome.TheVariants.{Known, Unknown, Failed}
-use Rattle.infer_tool.specs.declared.writer.WatchedWriter.{WatchedWriter}
 
 -- what was found, or the fault
 abbrev pub told : Result (Option FileType) Fault → Result (Option Triple) Fault
@@ -37,51 +33,6 @@ written name (Err fault) = []
 abbrev pub fault_written : List ℕ → Result (Option Triple) Fault → List ℕ
 fault_written name (Ok found) = []
 fault_written name (Err fault) = fault_line name fault
-
--- nothing is said of the bytes of a writer that has failed
-abbrev pub unless_failed : Bool → Option (List ℕ) → Option (List ℕ)
-unless_failed true bytes = None
-unless_failed false bytes = bytes
-
--- a watched writer before and after: whether it has failed by then, and what is known of its bytes
-pub record Stream : Type 0 where
-  pub failed : Bool
-  pub old : Option (List ℕ)
-  pub new : Option (List ℕ)
-
-abbrev pub stream : {W : Type 0} → (contents : W → Option (List ℕ)) → (old new : WatchedWriter W) → Stream
-stream contents old new = record { failed = has_failed new; old = contents (inner old); new = contents (inner new) }
-
--- what is known of the bytes of a writer grew by exactly a line, unless the writer has failed
-abbrev pub Tells : Stream → List ℕ → Type 0
-Tells w told_line = OnFalse w.failed (Appends w.old w.new told_line)
-
--- what a run says: its outcome, and the bytes of the writers of lines and of faults, before and after
-abbrev pub Saying : Type 1
-Saying = Outcome → (old new err_old err_new : Option (List ℕ)) → Type 0
-
--- this is said through two watched writers. Of the bytes of one that has failed nothing is said; what is said of the
--- other stands. The outcome is `Failed` if the writer of lines has failed.
-abbrev pub Says : (lines faults : Stream) → Outcome → Saying → Type 0
-Says lines faults result Said =
-    (outcome : Outcome) × (result ≡ outcome_after lines.failed outcome)
-    × Said outcome (unless_failed lines.failed lines.old) lines.new (unless_failed faults.failed faults.old) faults.new
-
--- the outcome is `Failed`, the writer of lines is as it was, and the writer of faults was told this line
-abbrev pub RefusesBy : {W : Type 0} (old new : WatchedWriter W) (faults : Stream) → Outcome → List ℕ → Type 0
-RefusesBy old new faults result refusal = (result ≡ Failed) × (new ≡ old) × Tells faults refusal
-
--- this was said through buffers, which gave their writers back, or none of one that has failed
-abbrev pub SaysThrough : {W E : Type 0} (contents : W → Option (List ℕ)) (err_contents : E → Option (List ℕ))
-    (out : W) (err : E) → Outcome × (Option W × Option E) → Saying → Type 0
-SaysThrough contents err_contents out err done Said =
-    (outcome : Outcome) × (done.0 ≡ outcome_after (is_none done.1.0) outcome)
-    × Said outcome (unless_failed (is_none done.1.0) (contents out)) (option_and_then contents done.1.0)
-    (unless_failed (is_none done.1.1) (err_contents err)) (option_and_then err_contents done.1.1)
-
--- words that are wrong: nothing is written but this line, which says so
-abbrev pub Refuses : List ℕ → Saying
-Refuses refusal outcome old new err_old err_new = (outcome ≡ Failed) × Keeps old new × Appends err_old err_new refusal
 
 -- the outcome is that of what was found, and what is known of the writers' bytes grew by exactly what is written
 abbrev pub Reports : List ℕ → Result (Option Triple) Fault → Saying

@@ -2,15 +2,16 @@
 use Rattle.std.specs.Prelude.{◌≡◌, ◌≢◌, ◌<◌, ◌≤◌, ◌⊎◌, ℕ, List, [], ◌∷◌, ◌++◌, Option, None, drop, length}
 use Rattle.std.specs.Io.KnownBytes.{Keeps}
 use Rattle.infer.specs.declared.read.head.TheConstants.{FRONT}
-use Rattle.infer_tool.specs.Limit.{IsLimit}
+use Rattle.infer_lines.specs.Limit.{IsLimit}
 use Rattle.infer_tool.specs.Line.{limits_line, no_sample_line, usage_line}
-use Rattle.infer_tool.specs.Outcome.{worse_of}
+use Rattle.infer_lines.specs.Outcome.{worse_of}
 use Rattle.infer_tool.specs.Reader.{LosesFront, LosesUntilFinal}
-use Rattle.infer_tool.specs.Report.{ReportsInput, Saying}
+use Rattle.infer_lines.specs.Said.{Saying}
+use Rattle.infer_tool.specs.Report.{ReportsInput}
 use Rattle.infer_tool.specs.Sample.{HasSample, WritesSample}
 use Rattle.infer_tool.specs.Words.{Asks, front_option, sample_option, second}
-use Rattle.infer_tool.specs.declared.outcome.Outcome.{Outcome}
-use Rattle.infer_tool.specs.declared.outcome.Outcome.TheVariants.{Known}
+use Rattle.infer_lines.specs.declared.outcome.Outcome.{Outcome}
+use Rattle.infer_lines.specs.declared.outcome.Outcome.TheVariants.{Known}
 
 -- the reports of files of these names, one after the other, with the worst of their outcomes
 pub data ReportsEach (n : ℕ) : List (List ℕ) → Outcome → (old new err_old err_new : Option (List ℕ)) → Type 0 where

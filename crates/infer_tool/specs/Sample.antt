@@ -7,8 +7,8 @@ use Rattle.infer.specs.Questions.{HasExtension}
 use Rattle.infer.specs.Samples.{sample_of}
 use Rattle.infer.specs.Table.{table}
 use Rattle.infer.specs.declared.table.rows.TheConstants.{DLL, EPUB_ARCHIVE}
-use Rattle.infer_tool.specs.Report.{Saying}
-use Rattle.infer_tool.specs.declared.outcome.Outcome.TheVariants.{Known}
+use Rattle.infer_lines.specs.Said.{Saying}
+use Rattle.infer_lines.specs.declared.outcome.Outcome.TheVariants.{Known}
 
 -- row i is the first with the extension, and has a sample
 abbrev pub HasSample : List ℕ → ℕ → Type 0

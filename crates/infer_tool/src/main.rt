@@ -5,19 +5,16 @@ ghost use Rattle.std.specs.Prelude.{◌≡◌, None, codes, map, string_bytes};
 ghost use Rattle.infer_tool.specs.Report.{ReportsInput};
 ghost use Rattle.infer_tool.specs.Run.{Runs};
 
-mod limit;
 mod lines;
-mod outcome;
 mod report;
 mod run;
 mod sample;
 #[cfg(test)]
 mod tests;
-mod writer;
 
 use infer::Watched;
+use infer_lines::Outcome;
 use lines::run_lines;
-use outcome::Outcome;
 use run::{USAGE, run};
 use std::io::{IsTerminal, Write};
 use std::process::ExitCode;

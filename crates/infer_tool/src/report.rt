@@ -2,15 +2,14 @@
 ghost use Rattle.std.specs.Prelude.{◌≡◌, ◌≢◌, ◌≤◌, IfOk, None, OnErr};
 ghost use Rattle.std.specs.Io.KnownBytes.{Appends};
 ghost use Rattle.infer.specs.Watched.{fault_of};
-ghost use Rattle.infer_tool.specs.Line.{fault_text};
-ghost use Rattle.infer_tool.specs.Outcome.{outcome_after};
+ghost use Rattle.infer_lines.specs.Outcome.{outcome_after};
 ghost use Rattle.infer_tool.specs.Reader.{LosesFront, LosesUntilFinal, ReportsOpened, ReportsReader};
-ghost use Rattle.infer_tool.specs.Report.{Reports, ReportsInput, Says, fault_written, outcome_of, stream, told, unless_failed, written};
-ghost use Rattle.infer_tool.specs.Writer.{IsLater, has_failed, inner};
+ghost use Rattle.infer_lines.specs.Said.{Says, stream, unless_failed};
+ghost use Rattle.infer_tool.specs.Report.{Reports, ReportsInput, fault_written, outcome_of, told, written};
+ghost use Rattle.infer_lines.specs.Writer.{IsLater, has_failed, inner};
 
-use crate::outcome::Outcome;
-use crate::writer::WatchedWriter;
 use infer::{FRONT, Fault, Infer, Type, Watched, laws};
+use infer_lines::{Outcome, WatchedWriter, text_of};
 use infer_sniff::label;
 use std::alloc::Allocator;
 use std::fs::File;
@@ -71,17 +70,6 @@ pub fn report_watched<W: Write, E: Write>(
         }
     };
     outcome.failed_if(out.has_failed())
-}
-
-/// What is said of a fault. The `Display` of a fault says the same, but is derived, so no contract has its text.
-fn text_of(fault: Fault) -> &'static str
-    ensures { result.now ≡ fault_text fault }
-{
-    match fault {
-        Fault::Open(_) => "cannot open",
-        Fault::Read(_) => "cannot read",
-        Fault::Memory => "no memory",
-    }
 }
 
 /// Reads at most 8192 bytes, and reports what they are. No read follows one after which the verdict is final.

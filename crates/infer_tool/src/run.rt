@@ -2,17 +2,16 @@
 ghost use Rattle.std.specs.Prelude.{◌≡◌, ◌≢◌, ◌↔◌, ◌<◌, ◌≤◌, IsTrue, None, codes, drop, length, map, string_bytes};
 ghost use Rattle.infer.specs.Watched.{fault_of};
 ghost use Rattle.infer_tool.specs.Reader.{LosesFront, ReportsReader};
-ghost use Rattle.infer_tool.specs.Report.{RefusesBy, ReportsInput, Says, stream};
+ghost use Rattle.infer_lines.specs.Said.{RefusesBy, Says, stream};
+ghost use Rattle.infer_tool.specs.Report.{ReportsInput};
 ghost use Rattle.infer_tool.specs.Run.{AsksForInput, NamesNoFile, ReportsEach, ReportsFronts, Runs, WritesAsked};
 ghost use Rattle.infer_tool.specs.Words.{Asks};
-ghost use Rattle.infer_tool.specs.Writer.{IsLater};
+ghost use Rattle.infer_lines.specs.Writer.{IsLater};
 
-use crate::limit::limit_of;
-use crate::outcome::Outcome;
 use crate::report::{run_path_within, run_reader_watched, run_reader_within};
 use crate::sample::run_sample;
-use crate::writer::WatchedWriter;
 use infer::{FRONT, Watched};
+use infer_lines::{Outcome, WatchedWriter, limit_of};
 use std::alloc::Allocator;
 use std::io::{Read, Write};
 use std::rt::Files;

@@ -7,14 +7,13 @@ ghost use Rattle.infer.specs.Questions.{HasExtension};
 ghost use Rattle.infer.specs.Table.{table};
 ghost use Rattle.infer.specs.Triple.{triple_of};
 ghost use Rattle.infer_tool.specs.Line.{no_sample_line};
-ghost use Rattle.infer_tool.specs.Report.{RefusesBy, Says, Tells, stream};
+ghost use Rattle.infer_lines.specs.Said.{RefusesBy, Says, Tells, stream};
 ghost use Rattle.infer_tool.specs.Sample.{HasSample, WritesSample};
-ghost use Rattle.infer_tool.specs.Writer.{IsLater, has_failed, inner};
+ghost use Rattle.infer_lines.specs.Writer.{IsLater, has_failed, inner};
 
-use crate::outcome::Outcome;
-use crate::writer::WatchedWriter;
 use infer::rows::{ROW_COUNT, numbers};
 use infer::{SAMPLE_SIZE, Type};
+use infer_lines::{Outcome, WatchedWriter};
 use std::io::Write;
 
 /// Writes the sample of the first row with this extension to `out`, and nothing after it. If there is no such

@@ -1,11 +1,10 @@
 //! What no clause says: that calls succeed, what a failed write leaves behind, how many writes there are, and what is
 //! asked of memory. Lines, statuses and words are asked of the program as a process, by `process-tests`.
 use crate::lines::run_lines;
-use crate::outcome::Outcome;
 use crate::report::{report, run_path, run_path_within, run_reader};
 use crate::run::run;
-use crate::writer::WatchedWriter;
 use infer::{FRONT, Fault, Watched, get};
+use infer_lines::{Outcome, WatchedWriter};
 use linked_list_allocator::LocalHeap;
 use std::alloc::AllocError;
 use std::fs;

@@ -1,13 +1,11 @@
 //! One text that has each property of the program which the page of definitions shows, and one that has not, told by the
 //! call whose contract names the property.
 use super::{JPEG, words_of};
-use crate::limit::limit_of;
 use crate::lines::run_lines;
-use crate::outcome::Outcome;
 use crate::run::{asks, run_watched};
 use crate::sample::run_sample;
-use crate::writer::WatchedWriter;
 use infer::Watched;
+use infer_lines::{Outcome, WatchedWriter, limit_of};
 use std::test::Fail;
 use test_streams::PieceWriter;
 

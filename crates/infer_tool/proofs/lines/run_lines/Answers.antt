@@ -1,8 +1,10 @@
 use Rattle.infer_tool.proofs.Common.{List, ℕ, codes, rules, ◌∙◌, Refuses, RefusesBy, LosesFront, LosesUntilFinal, Says, SaysThrough, Saying, stream, has_failed, inner}
 use Rattle.std.specs.Io.Buffered.{line_writer_contents, writer_contents}
 use Rattle.infer.specs.declared.read.head.TheConstants.{FRONT}
-use Rattle.infer_tool.proofs.LinesLemmas.{reader_moves, refused_is_said, refuses_moves, said_through, sample_moves}
-use Rattle.infer_tool.proofs.RunLemmas.{Moves, each_moves}
+use Rattle.infer_lines.proofs.SaidLemmas.{refused_is_said, refuses_moves, said_through}
+use Rattle.infer_tool.proofs.LinesLemmas.{reader_moves, sample_moves}
+use Rattle.infer_lines.proofs.SaidLemmas.{Moves}
+use Rattle.infer_tool.proofs.RunLemmas.{each_moves}
 use Rattle.infer_tool.proofs.lines.run_lines.Given as given
 use Rattle.infer_tool.proofs.lines.run_lines.Goals as goal
 

@@ -1,6 +1,7 @@
 use Rattle.infer_tool.proofs.Common.{codes, drop, map, rules, stream, string_bytes, LosesFront, LosesUntilFinal, ReportsEach, ReportsReader, WritesSample}
 use Rattle.infer.specs.declared.read.head.TheConstants.{FRONT}
-use Rattle.infer_tool.proofs.RunLemmas.{input_of_reader, said_plainly}
+use Rattle.infer_lines.proofs.SaidLemmas.{said_plainly}
+use Rattle.infer_tool.proofs.RunLemmas.{input_of_reader}
 use Rattle.infer_tool.proofs.run.run.Goals as goal
 
 pub returns-clause-said : goal.returns-clause-said

@@ -1,5 +1,6 @@
 use Rattle.infer_tool.proofs.Common.{◌∙◌, ap, refl, rules, string_bytes, no_input, has_failed, inner, Known}
-use Rattle.infer_tool.proofs.RunLemmas.{each-more, keeps_unless_failed, worse_unless_failed}
+use Rattle.infer_lines.proofs.SaidLemmas.{keeps_unless_failed, worse_unless_failed}
+use Rattle.infer_tool.proofs.RunLemmas.{each-more}
 use Rattle.infer_tool.proofs.run.run_paths.Goals as goal
 
 pub loop-word-init : goal.loop-word-init

@@ -1,5 +1,5 @@
 use Rattle.infer_tool.proofs.Common.{ap, arith, refl, ◌∙◌, outcome_after, has_failed, inner, Known}
-use Rattle.infer_tool.proofs.RunLemmas.{keeps_unless_failed}
+use Rattle.infer_lines.proofs.SaidLemmas.{keeps_unless_failed}
 use Rattle.infer_tool.proofs.SampleLemmas.{never_sampled, sample-written, sampled}
 use Rattle.infer.proofs.OrderLemmas.{some_row}
 use Rattle.infer_tool.proofs.sample.run_sample.Goals as goal

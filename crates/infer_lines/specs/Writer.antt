@@ -1,6 +1,6 @@
 -- What a clause reads of a watched writer.
 use Rattle.std.specs.Prelude.{◌≡◌, Bool, IsTrue}
-use Rattle.infer_tool.specs.declared.writer.WatchedWriter.{WatchedWriter}
+use Rattle.infer_lines.specs.declared.writer.WatchedWriter.{WatchedWriter}
 
 -- the writer that it was lent, as it is now
 abbrev pub inner : {W : Type 0} → WatchedWriter W → W

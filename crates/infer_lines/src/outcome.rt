@@ -1,6 +1,6 @@
 //! How a report ended.
 ghost use Rattle.std.specs.Prelude.{◌≡◌};
-ghost use Rattle.infer_tool.specs.Outcome.{outcome_after, status_of, worse_of};
+ghost use Rattle.infer_lines.specs.Outcome.{outcome_after, status_of, worse_of};
 
 /// How a report ended: with a type, without one, or with a fault or a failed write.
 #[derive(Clone, Copy, Debug)]

@@ -2,7 +2,7 @@
 ghost use Rattle.std.specs.Prelude.{◌≡◌, IfSome, IsTrue, OnErr, OnOk, false};
 ghost use Rattle.std.specs.Bool.{OnFalse};
 ghost use Rattle.std.specs.Io.KnownBytes.{Appends, Keeps};
-ghost use Rattle.infer_tool.specs.Writer.{IsLater, has_failed, inner};
+ghost use Rattle.infer_lines.specs.Writer.{IsLater, has_failed, inner};
 
 use std::fmt::Display;
 use std::io::{self, Write};

@@ -1,6 +1,6 @@
 //! The number of bytes to look at, as a word.
 ghost use Rattle.std.specs.Prelude.{◌≡◌, ◌↔◌, ℕ, IsTrue, MatchOption, slice_index};
-ghost use Rattle.infer_tool.specs.Limit.{IsLimit};
+ghost use Rattle.infer_lines.specs.Limit.{IsLimit};
 
 const MOST: usize = 65536;
 

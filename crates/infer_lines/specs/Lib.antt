@@ -1,0 +1,5 @@
+pub mod Faults
+pub mod Limit
+pub mod Outcome
+pub mod Writer
+pub mod Said
