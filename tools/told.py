@@ -19,7 +19,7 @@ def sources():
     for at, folders, files in os.walk("."):
         folders[:] = sorted(it for it in folders if it not in PRUNED)
         found += (os.path.normpath(f"{at}/{it}") for it in sorted(files) if not it.endswith((".md", ".png", ".svg", ".jpg", ".wasm", ".a")))
-    return [it for it in found if it != "crates/infer_tool/stdin"]
+    return [it for it in found if not it.endswith("/stdin")]
 
 
 def without_blocks(page):

@@ -1,0 +1,5 @@
+pub mod NamesLemmas
+pub mod ReportLemmas
+pub mod RunLemmas
+pub mod SeenLemmas
+pub mod WritesLemmas

@@ -1,0 +1,84 @@
+-- What is printed of a name that is UTF-8, and of one that is not.
+use borrow.Author.Tests.{ltb-true}
+use Rattle.std.proofs.Common.{◌≡◌, ◌<◌, ◌==◌, ◌&&◌, ◌||◌, ◌∙◌, ℕ, Bool, true, false, List, [], ◌∷◌, ◌++◌, ap, ap₂, encode_utf8, map, not, refl, sym, if◌then◌else◌}
+use Rattle.std.specs.Prelude.{nat_lt}
+use Rattle.std.specs.List.{flat_map, list_all}
+use Rattle.std.specs.Str.{IsAscii, IsUtf8, chars, is_utf8}
+use Rattle.std.proofs.lemmas.Str.{IsUtf8-from_ascii, IsUtf8-from_is_utf8, chars-IsAscii, encode_ascii, is_utf8-from_IsUtf8}
+use Rattle.std.proofs.lemmas.Str.Ascii.{IsAscii-cons, IsAscii-nil}
+use Rattle.infer_label.specs.Line.{hex_member, name_member, utf8_member}
+use Rattle.infer_label.specs.Names.{byte_shown, char_shown, code_shown, is_mark, is_obeyed, is_plain, name_shown}
+use Rattle.infer_label.specs.declared.options.Form.{Form}
+use Rattle.infer_label.specs.declared.options.Form.TheVariants.{Json, Text}
+
+pub map-id : (xs : List ℕ) → map (λ x. x) xs ≡ xs
+map-id [] = refl
+map-id (x ∷ xs) = ap (λ l. x ∷ l) (map-id xs)
+
+is_false : (b : Bool) → (b ≡ true → ⊥) → b ≡ false
+is_false true not = absurd (not refl)
+is_false false not = refl
+
+no_utf8 : (name : List ℕ) → (¬ IsUtf8 name) → is_utf8 name ≡ false
+no_utf8 name not = is_false (is_utf8 name) (λ e. not (IsUtf8-from_is_utf8 name e))
+
+chosen : (b : Bool) (xs ys : List ℕ) → b ≡ true → (if b then xs else ys) ≡ xs
+chosen true xs ys is = refl
+chosen false xs ys is = absurd (cc)
+
+left_over : (b : Bool) (xs ys : List ℕ) → b ≡ false → (if b then xs else ys) ≡ ys
+left_over true xs ys is = absurd (cc)
+left_over false xs ys is = refl
+
+pub name_of_chars : (form : Form) (name : List ℕ) → IsUtf8 name → name_shown form name ≡ flat_map (char_shown form) (chars name)
+name_of_chars form name is = chosen (is_utf8 name) _ _ (is_utf8-from_IsUtf8 name is)
+
+pub name_of_bytes : (form : Form) (name : List ℕ) → (¬ IsUtf8 name) → name_shown form name ≡ flat_map (byte_shown form) name
+name_of_bytes form name not = left_over (is_utf8 name) _ _ (no_utf8 name not)
+
+pub member_of_utf8 : (name : List ℕ) → IsUtf8 name → name_member name ≡ utf8_member name
+member_of_utf8 name is = chosen (is_utf8 name) _ _ (is_utf8-from_IsUtf8 name is)
+
+pub member_of_bytes : (name : List ℕ) → (¬ IsUtf8 name) → name_member name ≡ hex_member name
+member_of_bytes name not = left_over (is_utf8 name) _ _ (no_utf8 name not)
+
+both : (a b : Bool) → (a && b) ≡ true → (a ≡ true) × (b ≡ true)
+both true true is = (refl, refl)
+both true false is = absurd (cc)
+both false b is = absurd (cc)
+
+neither : (a b : Bool) → (a || b) ≡ false → a ≡ false
+neither false b is = refl
+neither true b is = absurd (cc)
+
+denied : (a : Bool) → not a ≡ true → a ≡ false
+denied true is = absurd (cc)
+denied false is = refl
+
+no_mark : (form : Form) (x : ℕ) → is_mark Json x ≡ false → is_mark form x ≡ false
+no_mark Text x is = neither (x == 0x5C) (x == 0x22) is
+no_mark Json x is = is
+
+char_itself : (obeyed mark : Bool) (x : ℕ) → obeyed ≡ false → mark ≡ false → x < 128
+    → (if obeyed then code_shown x else (if mark then 0x5C ∷ encode_utf8 x else encode_utf8 x)) ≡ x ∷ []
+char_itself true mark x e f low = absurd (cc)
+char_itself false true x e f low = absurd (cc)
+char_itself false false x e f low = encode_ascii x low
+
+-- plain bytes are of ASCII and stand for themselves
+plain_bytes : (form : Form) (name : List ℕ) → list_all is_plain name ≡ true → (flat_map (char_shown form) name ≡ name) × IsAscii name
+plain_bytes form [] is = (refl, IsAscii-nil)
+plain_bytes form (x ∷ name) is =
+    let (plain, others) = both (is_plain x) (list_all is_plain name) is in
+    let (low, shown) = both (nat_lt x 0x80) (not (is_obeyed x) && not (is_mark Json x)) plain in
+    let (not_obeyed, not_mark) = both (not (is_obeyed x)) (not (is_mark Json x)) shown in
+    let (same, ascii) = plain_bytes form name others in
+    let below : x < 128 = ltb-true x 128 low in (
+      ap₂ (λ a b. a ++ b) (char_itself (is_obeyed x) (is_mark form x) x (denied (is_obeyed x) not_obeyed) (no_mark form x (denied (is_mark Json x) not_mark)) below) same,
+      IsAscii-cons x name below ascii,
+    )
+
+pub name_of_plain : (form : Form) (name : List ℕ) → list_all is_plain name ≡ true → name ≡ name_shown form name
+name_of_plain form name is =
+    let (same, ascii) = plain_bytes form name is in
+    sym (name_of_chars form name (IsUtf8-from_ascii name ascii) ∙ ap (flat_map (char_shown form)) (chars-IsAscii name ascii) ∙ same)

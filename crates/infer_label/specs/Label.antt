@@ -1,0 +1,76 @@
+-- What is told of an input.
+use Rattle.std.specs.Prelude.{◌≡◌, ◌==◌, ℕ, Bool, false, List, Option, None, Some, length, option_map}
+use Rattle.std.specs.Option.{option_and_then}
+use Rattle.infer.specs.First.{IsAnswer}
+use Rattle.infer.specs.Row.{Accepts}
+use Rattle.infer.specs.Table.{table}
+use Rattle.infer.specs.Triple.{Triple}
+use Rattle.infer_formats.specs.Text.{IsEncodingOf}
+use Rattle.infer_formats.specs.declared.text.Encoding.{Encoding}
+use Rattle.infer_more.specs.Wider.{IsWiderAnswer}
+use Rattle.infer_named.specs.Join.{Answer, extension_of, mime_type_of}
+use Rattle.infer_named.specs.Named.{IsNamed, answer_of}
+use Rattle.infer_named.specs.declared.join.Named.{Named}
+use Rattle.infer_named.specs.declared.join.Standing.{Standing}
+use Rattle.infer_label.specs.declared.label.Label as code
+use Rattle.infer_label.specs.declared.options.Look.{Look}
+use Rattle.infer_label.specs.declared.options.Look.TheVariants as looks
+
+-- the MIME type and the extension, if they are known, how the text is encoded, whether there are no bytes, and what the
+-- name did, if it was asked
+pub record Label : Type 0 where
+  pub mime_type : Option (List ℕ)
+  pub extension : Option (List ℕ)
+  pub encoding : Option Encoding
+  pub is_empty : Bool
+  pub standing : Option Standing
+
+abbrev pub is_empty : List ℕ → Bool
+is_empty b = length b == 0
+
+abbrev pub mime_type_in : Option Triple → Option (List ℕ)
+mime_type_in t = option_map (λ it. it.mime_type) t
+
+abbrev pub extension_in : Option Triple → Option (List ℕ)
+extension_in t = option_map (λ it. it.extension) t
+
+-- the label by an answer to a name and bytes, by a type of bytes alone, and by a built-in type
+abbrev pub by_both : Answer → Option Encoding → Bool → Label
+by_both a encoding empty = record {
+  mime_type = option_map mime_type_of a.told;
+  extension = option_and_then extension_of a.told;
+  encoding = encoding;
+  is_empty = empty;
+  standing = Some a.standing;
+}
+
+abbrev pub by_bytes : Option Triple → Option Encoding → Bool → Label
+by_bytes t encoding empty = record {
+  mime_type = mime_type_in t;
+  extension = extension_in t;
+  encoding = encoding;
+  is_empty = empty;
+  standing = None;
+}
+
+abbrev pub by_built_in : Option Triple → Label
+by_built_in t = by_bytes t None false
+
+-- the label of an input with this name, of which b is looked at: by what the name and b tell, with the encoding of b; by
+-- the wider answer of b; or by its first built-in row
+abbrev pub IsLabel : Look → List ℕ → List ℕ → Label → Type 0
+IsLabel looks.NameAndBytes name b label =
+    (n : Named) × (encoding : Option Encoding) × IsNamed name b n × IsEncodingOf b encoding × (label ≡ by_both (answer_of n) encoding (is_empty b))
+IsLabel looks.Bytes name b label =
+    (t : Option Triple) × (encoding : Option Encoding) × IsWiderAnswer b t × IsEncodingOf b encoding × (label ≡ by_bytes t encoding (is_empty b))
+IsLabel looks.BuiltIn name b label = (t : Option Triple) × IsAnswer (Accepts b) table t × (label ≡ by_built_in t)
+
+-- the label as the code has it
+abbrev pub label_listed : code.Label → Label
+label_listed l = record {
+  mime_type = option_map (λ m. m.now) l.mime_type;
+  extension = option_map (λ e. e.now) l.extension;
+  encoding = l.encoding;
+  is_empty = l.is_empty;
+  standing = l.standing;
+}

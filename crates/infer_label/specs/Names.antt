@@ -1,0 +1,56 @@
+-- A name as it is printed.
+use Rattle.std.specs.Prelude.{◌≢◌, ◌≤◌, ◌+◌, ◌/◌, ◌%◌, ◌==◌, ◌&&◌, ◌||◌, ℕ, Bool, List, [], ◌∷◌, encode_utf8, if◌then◌else◌, nat_le, nat_lt, not}
+use Rattle.std.specs.Int.{is_in_range}
+use Rattle.std.specs.List.{flat_map}
+use Rattle.std.specs.Str.{chars, is_utf8}
+use Rattle.infer_label.specs.declared.options.Form.{Form}
+use Rattle.infer_label.specs.declared.options.Form.TheVariants.{Json, Text}
+
+-- the character is obeyed by a terminal or a reader of lines: a control, an end of a line or a mark of direction
+abbrev pub is_obeyed : ℕ → Bool
+is_obeyed c =
+    nat_lt c 0x20
+    || (is_in_range 0x7F 0x9F c
+    || (c == 0x061C
+    || (is_in_range 0x200E 0x200F c
+    || (is_in_range 0x2028 0x202E c
+    || is_in_range 0x2066 0x2069 c))))
+
+-- the character ends a text of the form, or begins an escape there
+abbrev pub is_mark : Form → ℕ → Bool
+is_mark Text c = c == 0x5C
+is_mark Json c = c == 0x5C || c == 0x22
+
+abbrev pub hex_digit : ℕ → ℕ
+hex_digit n = if nat_lt n 10 then 0x30 + n else 0x57 + n
+
+-- the two digits of a byte
+abbrev pub byte_hex : ℕ → List ℕ
+byte_hex x = hex_digit (x / 16 % 16) ∷ hex_digit (x % 16) ∷ []
+
+-- \u and four digits, and \x and two
+abbrev pub code_shown : ℕ → List ℕ
+code_shown c = 0x5C ∷ 0x75 ∷ hex_digit (c / 4096 % 16) ∷ hex_digit (c / 256 % 16) ∷ hex_digit (c / 16 % 16) ∷ hex_digit (c % 16) ∷ []
+
+abbrev pub high_shown : ℕ → List ℕ
+high_shown x = 0x5C ∷ 0x78 ∷ byte_hex x
+
+-- a character as it is printed
+abbrev pub char_shown : Form → ℕ → List ℕ
+char_shown form c = if is_obeyed c then code_shown c else (if is_mark form c then 0x5C ∷ encode_utf8 c else encode_utf8 c)
+
+-- a byte that is no control: none of 00 to 1F, and not 7F
+abbrev pub IsSeen : ℕ → Type 0
+IsSeen x = (0x20 ≤ x) × (x ≢ 0x7F)
+
+-- the byte is of ASCII and stands for itself in each form
+abbrev pub is_plain : ℕ → Bool
+is_plain x = nat_lt x 0x80 && (not (is_obeyed x) && not (is_mark Json x))
+
+-- a byte of a name that is not UTF-8
+abbrev pub byte_shown : Form → ℕ → List ℕ
+byte_shown form x = if nat_le 0x80 x then high_shown x else char_shown form x
+
+-- a name: character by character if it is UTF-8, and else byte by byte
+abbrev pub name_shown : Form → List ℕ → List ℕ
+name_shown form name = if is_utf8 name then flat_map (char_shown form) (chars name) else flat_map (byte_shown form) name

@@ -1,0 +1,102 @@
+//! What a run may be asked for.
+ghost use Rattle.std.specs.Prelude.{◌≡◌};
+ghost use Rattle.infer_label.specs.Options.{default_options, options_listed, with_flag, with_value};
+
+use infer::FRONT;
+
+/// What an input is told by.
+#[derive(Clone, Copy, Debug)]
+pub enum Look {
+    /// Its name and its bytes.
+    NameAndBytes,
+    /// Its bytes alone.
+    Bytes,
+    /// The built-in types alone.
+    BuiltIn,
+}
+
+/// How a line is written.
+#[derive(Clone, Copy, Debug)]
+pub enum Form {
+    /// As a text.
+    Text,
+    /// As an object of JSON.
+    Json,
+}
+
+/// An option that has no value.
+#[derive(Clone, Copy, Debug)]
+pub enum Flag {
+    /// `--bytes`
+    Bytes,
+    /// `--built-in`
+    BuiltIn,
+    /// `--json`
+    Json,
+}
+
+/// An option whose value is the next word.
+#[derive(Clone, Copy, Debug)]
+pub enum Valued {
+    /// `--name`
+    Name,
+}
+
+/// What the options of a run say.
+#[derive(Clone, Copy)]
+pub struct Options<'a> {
+    /// What an input is told by.
+    pub look: Look,
+    /// How a line is written.
+    pub form: Form,
+    /// How many bytes are looked at.
+    pub front: usize,
+    /// The name of standard input.
+    pub input_name: &'a [u8],
+}
+
+impl<'a> Options<'a> {
+    /// What is so if no option says otherwise.
+    pub fn new() -> Options<'a>
+        ensures { options_listed result ≡ default_options }
+    {
+        Options {
+            look: Look::NameAndBytes,
+            form: Form::Text,
+            front: FRONT,
+            input_name: b"-",
+        }
+    }
+
+    /// These options with one more flag.
+    pub fn with_flag(self, flag: Flag) -> Options<'a>
+        ensures { options_listed result ≡ with_flag flag (options_listed self.entry) }
+    {
+        match flag {
+            Flag::Bytes => Options {
+                look: Look::Bytes,
+                ..self
+            },
+            Flag::BuiltIn => Options {
+                look: Look::BuiltIn,
+                ..self
+            },
+            Flag::Json => Options {
+                form: Form::Json,
+                ..self
+            },
+        }
+    }
+
+    /// These options with the value of one.
+    pub fn with_value(self, option: Valued, value: &'a [u8]) -> Options<'a>
+        ensures { options_listed result ≡ with_value option value.entry.now (options_listed self.entry) }
+    {
+        match option {
+            Valued::Name => Options {
+                input_name: value,
+                ..self
+            },
+        }
+    }
+}

@@ -1,0 +1,180 @@
+//! What the words of a run do.
+ghost use Rattle.std.specs.Prelude.{◌≡◌};
+ghost use Rattle.infer_lines.specs.Outcome.{outcome_after};
+ghost use Rattle.infer_lines.specs.Said.{Says, stream};
+ghost use Rattle.infer_lines.specs.Writer.{IsLater, has_failed};
+ghost use Rattle.infer_label.specs.Options.{options_listed};
+ghost use Rattle.infer_label.specs.Report.{ReportsInput};
+ghost use Rattle.infer_label.specs.Run.{ReportsAll, ReportsEach, ReportsPath, RunSays, is_input, refusal_line, valued_text};
+ghost use Rattle.infer_label.specs.Words.{asked, lacking, refusal_listed, texts, unknown};
+ghost use Rattle.infer_label.specs.Writes.{Writes};
+
+use crate::names::write_name;
+use crate::options::{Form, Options, Valued};
+use crate::report::{report_file, report_input};
+use crate::words::{Asked, Refusal, read_words};
+use infer::Watched;
+use infer_lines::{Outcome, WatchedWriter};
+use std::alloc::Allocator;
+use std::io::{Read, Write};
+use std::rt::Files;
+
+/// What the options are.
+pub const HELP: &[u8] = b"usage: infer_label [OPTION ..] [PATH ..]
+
+Prints a line for each file: its path, its MIME type and its extension, by its name and its first bytes, the encoding of a
+text, and what the name did, where it did something. Without a PATH, or as -, it is standard input.
+
+  --bytes      by the bytes alone
+  --built-in   by the bytes alone, and the built-in types
+  --json       as a line of JSON
+  --name NAME  the name of standard input
+  --           what follows are paths
+  --help       this text
+  --version    the version
+
+Status: 0 if each type is known, 1 if some is not, 2 if a file could not be read, a line could not be written or a word is
+wrong.
+";
+
+/// The version.
+pub const VERSION: &[u8] = b"infer_label 0.1.0\n";
+
+/// Does what the words ask for, as far as they are right.
+///
+/// Options come first: a word that begins with a dash, but for `-`. Behind them, or behind `--`, each word is a path.
+pub fn run<R: Files, A: Allocator + Copy, I: Read, W: Write, E: Write>(
+    rt: &R,
+    alloc: A,
+    words: &[Vec<u8>],
+    input: &mut Watched<I>,
+    out: &mut WatchedWriter<'_, W>,
+    err: &mut WatchedWriter<'_, E>,
+) -> Outcome
+    ensures said { Says (stream W.contents out.old out.new) (stream E.contents err.old err.new) result
+        (RunSays I.remaining (asked (texts words.now)) input.old input.new) }
+    ensures later { IsLater out.old out.new }
+    ensures err_later { IsLater err.old err.new }
+{
+    match read_words(words) {
+        Asked::Help => tell(HELP, out),
+        Asked::Version => tell(VERSION, out),
+        Asked::Labels(options, paths) => report_all(rt, alloc, options, paths, input, out, err),
+        Asked::Refused(refusal) => refuse(refusal, err),
+    }
+}
+
+/// Writes a text.
+fn tell<W: Write>(text: &[u8], out: &mut WatchedWriter<'_, W>) -> Outcome
+    ensures outcome { result ≡ outcome_after (has_failed out.new) Outcome.Known }
+    ensures text { Writes W.contents out.old out.new text.now }
+{
+    out.write_all(text);
+    Outcome::Known.failed_if(out.has_failed())
+}
+
+/// Tells why the words are refused.
+fn refuse<E: Write>(refusal: Refusal<'_>, err: &mut WatchedWriter<'_, E>) -> Outcome
+    ensures failed { result ≡ Outcome.Failed }
+    ensures told { Writes E.contents err.old err.new (refusal_line (refusal_listed refusal.entry)) }
+{
+    match refusal {
+        Refusal::Unknown(word) => refuse_unknown(word, err),
+        Refusal::Lacking(option) => refuse_lacking(option, err),
+    }
+    Outcome::Failed
+}
+
+fn refuse_unknown<E: Write>(word: &[u8], err: &mut WatchedWriter<'_, E>)
+    ensures { Writes E.contents err.old err.new (refusal_line (unknown word.now)) }
+{
+    err.write_all(b"infer_label: no option ");
+    write_name(word, Form::Text, err);
+    err.write_all(b"\n");
+}
+
+fn refuse_lacking<E: Write>(option: Valued, err: &mut WatchedWriter<'_, E>)
+    ensures { Writes E.contents err.old err.new (refusal_line (lacking option)) }
+{
+    let text = text_of(option);
+    writeln!(err, "infer_label: no value after {text}");
+}
+
+fn text_of(option: Valued) -> &'static str
+    ensures { result.now ≡ valued_text option }
+{
+    match option {
+        Valued::Name => "--name",
+    }
+}
+
+/// Reports each input, one after the other, and standard input if there is no path.
+fn report_all<R: Files, A: Allocator + Copy, I: Read, W: Write, E: Write>(
+    rt: &R,
+    alloc: A,
+    options: Options<'_>,
+    paths: &[Vec<u8>],
+    input: &mut Watched<I>,
+    out: &mut WatchedWriter<'_, W>,
+    err: &mut WatchedWriter<'_, E>,
+) -> Outcome
+    ensures said { Says (stream W.contents out.old out.new) (stream E.contents err.old err.new) result
+        (ReportsAll I.remaining (options_listed options.entry) (texts paths.now) input.old input.new) }
+    ensures later { IsLater out.old out.new }
+    ensures err_later { IsLater err.old err.new }
+{
+    let mut room = Vec::new(alloc);
+    if paths.is_empty() {
+        return report_input(&mut room, options, input, out, err);
+    }
+    report_each(rt, &mut room, options, paths, input, out, err)
+}
+
+fn report_each<R: Files, A: Allocator, I: Read, W: Write, E: Write>(
+    rt: &R,
+    room: &mut Vec<u8, A>,
+    options: Options<'_>,
+    paths: &[Vec<u8>],
+    input: &mut Watched<I>,
+    out: &mut WatchedWriter<'_, W>,
+    err: &mut WatchedWriter<'_, E>,
+) -> Outcome
+    ensures said { Says (stream W.contents out.old out.new) (stream E.contents err.old err.new) result
+        (ReportsEach I.remaining (options_listed options.entry) (texts paths.now) input.old input.new) }
+    ensures later { IsLater out.old out.new }
+    ensures err_later { IsLater err.old err.new }
+{
+    let mut outcome = Outcome::Known;
+    for path in paths {
+        outcome = outcome.worse(report_path(rt, room, options, path.as_slice(), input, out, err));
+    }
+    outcome.failed_if(out.has_failed())
+}
+
+/// Reports a file, or standard input if the path is `-`.
+fn report_path<R: Files, A: Allocator, I: Read, W: Write, E: Write>(
+    rt: &R,
+    room: &mut Vec<u8, A>,
+    options: Options<'_>,
+    path: &[u8],
+    input: &mut Watched<I>,
+    out: &mut WatchedWriter<'_, W>,
+    err: &mut WatchedWriter<'_, E>,
+) -> Outcome
+    ensures line { Says (stream W.contents out.old out.new) (stream E.contents err.old err.new) result
+        (ReportsPath I.remaining (options_listed options.entry) path.now input.old input.new) }
+    ensures later { IsLater out.old out.new }
+    ensures err_later { IsLater err.old err.new }
+{
+    if is_input(path) {
+        return report_input(room, options, input, out, err);
+    }
+    report_file(rt, room, options, path, out, err)
+}
+
+/// Whether the path stands for standard input.
+fn is_input(path: &[u8]) -> bool
+    ensures { result ≡ is_input path.now }
+{
+    path == b"-".as_slice()
+}
