@@ -10,10 +10,10 @@ use Rattle.infer_lines.specs.declared.outcome.Outcome.TheVariants.{Known}
 use Rattle.infer_label.specs.Names.{name_shown}
 use Rattle.infer_label.specs.Options.{Options}
 use Rattle.infer_label.specs.Report.{ReportsFile, ReportsInput}
-use Rattle.infer_label.specs.Words.{Asked, Refusal, help, labels, lacking, refused, unknown, version}
+use Rattle.infer_label.specs.Words.{Asked, Refusal, help, labels, lacking, no_limit, refused, unknown, version}
 use Rattle.infer_label.specs.declared.options.Form.TheVariants.{Text}
 use Rattle.infer_label.specs.declared.options.Valued.{Valued}
-use Rattle.infer_label.specs.declared.options.Valued.TheVariants.{Name}
+use Rattle.infer_label.specs.declared.options.Valued.TheVariants.{Front, Name}
 use Rattle.infer_label.specs.declared.run.TheConstants.{HELP, VERSION}
 
 -- the path stands for standard input
@@ -22,11 +22,13 @@ is_input path = bytes_eq path (codes "-")
 
 -- why words are refused, with the word
 abbrev pub valued_text : Valued → List ℕ
+valued_text Front = codes "--front"
 valued_text Name = codes "--name"
 
 abbrev pub refusal_line : Refusal → List ℕ
 refusal_line (unknown word) = codes "infer_label: no option " ++ (name_shown Text word ++ 0x0A ∷ [])
 refusal_line (lacking option) = codes "infer_label: no value after " ++ (valued_text option ++ 0x0A ∷ [])
+refusal_line (no_limit word) = codes "infer_label: front must be 1 to 65536: " ++ (name_shown Text word ++ 0x0A ∷ [])
 
 -- a text is written, and nothing else
 abbrev pub WritesText : List ℕ → Saying

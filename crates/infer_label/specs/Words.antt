@@ -6,7 +6,7 @@ use Rattle.infer_label.specs.Options.{Options, default_options, options_listed, 
 use Rattle.infer_label.specs.declared.options.Flag.{Flag}
 use Rattle.infer_label.specs.declared.options.Flag.TheVariants as flags
 use Rattle.infer_label.specs.declared.options.Valued.{Valued}
-use Rattle.infer_label.specs.declared.options.Valued.TheVariants.{Name}
+use Rattle.infer_label.specs.declared.options.Valued.TheVariants.{Front, Name}
 use Rattle.infer_label.specs.declared.words.Asked as asked_code
 use Rattle.infer_label.specs.declared.words.Asked.TheVariants as asks
 use Rattle.infer_label.specs.declared.words.Refusal as refusal_code
@@ -16,10 +16,11 @@ use Rattle.infer_label.specs.declared.words.Step.TheVariants as steps
 use Rattle.infer_label.specs.declared.words.Word.{Word}
 use Rattle.infer_label.specs.declared.words.Word.TheVariants as kinds
 
--- why words are refused: a word is no option, or the value of one is lacking
+-- why words are refused: a word is no option, the value of one is lacking, or it is no number from 1 to 65536
 pub data Refusal : Type 0 where
   unknown : List ℕ → Refusal
   lacking : Valued → Refusal
+  no_limit : List ℕ → Refusal
 
 -- what words ask for: help, the version, labels by some options of these paths, or nothing, as they are wrong
 pub data Asked : Type 0 where
@@ -44,7 +45,7 @@ flag_in word =
     else (if bytes_eq word (codes "--json") then Some flags.Json else None))
 
 abbrev pub valued_in : List ℕ → Option Valued
-valued_in word = if bytes_eq word (codes "--name") then Some Name else None
+valued_in word = if bytes_eq word (codes "--front") then Some Front else (if bytes_eq word (codes "--name") then Some Name else None)
 
 -- a dash stands first, and something behind it
 abbrev pub is_dashed : List ℕ → Bool
@@ -76,10 +77,15 @@ word_step (kinds.Valued option) options word = go_on options (Some option)
 word_step kinds.Path options word = paths_here
 word_step kinds.Unknown options word = stop (refused (unknown word))
 
+-- what the value of an option does, with which the options are these, or which it cannot have
+abbrev pub value_step : Option Options → List ℕ → Step
+value_step (Some more) word = go_on more None
+value_step None word = stop (refused (no_limit word))
+
 -- what a word does if the value of an option is due, or none is
 abbrev pub step_at : Option Valued → Options → List ℕ → Step
 step_at None options word = word_step (kind_of word) options word
-step_at (Some option) options word = go_on (with_value option word options) None
+step_at (Some option) options word = value_step (with_value option word options) word
 
 -- what words ask for, of which the first does this
 abbrev pub after_step : Step → Options → List ℕ → List (List ℕ) → (Options → Option Valued → Asked) → Asked
@@ -109,6 +115,7 @@ texts words = map (λ word. word.items) words
 abbrev pub refusal_listed : refusal_code.Refusal → Refusal
 refusal_listed (refusals.Unknown word) = unknown word.now
 refusal_listed (refusals.Lacking option) = lacking option
+refusal_listed (refusals.NoLimit word) = no_limit word.now
 
 abbrev pub asked_listed : asked_code.Asked → Asked
 asked_listed asks.Help = help

@@ -1,8 +1,9 @@
 //! What a run may be asked for.
-ghost use Rattle.std.specs.Prelude.{◌≡◌};
-ghost use Rattle.infer_label.specs.Options.{default_options, options_listed, with_flag, with_value};
+ghost use Rattle.std.specs.Prelude.{◌≡◌, option_map};
+ghost use Rattle.infer_label.specs.Options.{default_options, options_listed, with_flag, with_front, with_value};
 
 use infer::FRONT;
+use infer_lines::limit_in;
 
 /// What an input is told by.
 #[derive(Clone, Copy, Debug)]
@@ -38,6 +39,8 @@ pub enum Flag {
 /// An option whose value is the next word.
 #[derive(Clone, Copy, Debug)]
 pub enum Valued {
+    /// `--front`
+    Front,
     /// `--name`
     Name,
 }
@@ -88,15 +91,26 @@ impl<'a> Options<'a> {
         }
     }
 
-    /// These options with the value of one.
-    pub fn with_value(self, option: Valued, value: &'a [u8]) -> Options<'a>
-        ensures { options_listed result ≡ with_value option value.entry.now (options_listed self.entry) }
+    /// These options with the value of one, and `None` if it can have no such value.
+    pub fn with_value(self, option: Valued, value: &'a [u8]) -> Option<Options<'a>>
+        ensures { option_map options_listed result ≡ with_value option value.entry.now (options_listed self.entry) }
     {
         match option {
-            Valued::Name => Options {
+            Valued::Front => self.with_front(limit_in(value)),
+            Valued::Name => Some(Options {
                 input_name: value,
                 ..self
-            },
+            }),
+        }
+    }
+
+    /// These options with a number of bytes, if there is one.
+    fn with_front(self, limit: Option<usize>) -> Option<Options<'a>>
+        ensures { option_map options_listed result ≡ with_front limit (options_listed self.entry) }
+    {
+        match limit {
+            Some(front) => Some(Options { front, ..self }),
+            None => None,
         }
     }
 }

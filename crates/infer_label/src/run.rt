@@ -6,7 +6,7 @@ ghost use Rattle.infer_lines.specs.Writer.{IsLater, has_failed};
 ghost use Rattle.infer_label.specs.Options.{options_listed};
 ghost use Rattle.infer_label.specs.Report.{ReportsInput};
 ghost use Rattle.infer_label.specs.Run.{ReportsAll, ReportsEach, ReportsPath, RunSays, is_input, refusal_line, valued_text};
-ghost use Rattle.infer_label.specs.Words.{asked, lacking, refusal_listed, texts, unknown};
+ghost use Rattle.infer_label.specs.Words.{asked, lacking, no_limit, refusal_listed, texts, unknown};
 ghost use Rattle.infer_label.specs.Writes.{Writes};
 
 use crate::names::write_name;
@@ -27,6 +27,7 @@ text, and what the name did, where it did something. Without a PATH, or as -, it
 
   --bytes      by the bytes alone
   --built-in   by the bytes alone, and the built-in types
+  --front N    by the first N bytes, from 1 to 65536, in place of 8192
   --json       as a line of JSON
   --name NAME  the name of standard input
   --           what follows are paths
@@ -81,6 +82,7 @@ fn refuse<E: Write>(refusal: Refusal<'_>, err: &mut WatchedWriter<'_, E>) -> Out
     match refusal {
         Refusal::Unknown(word) => refuse_unknown(word, err),
         Refusal::Lacking(option) => refuse_lacking(option, err),
+        Refusal::NoLimit(word) => refuse_limit(word, err),
     }
     Outcome::Failed
 }
@@ -100,10 +102,19 @@ fn refuse_lacking<E: Write>(option: Valued, err: &mut WatchedWriter<'_, E>)
     writeln!(err, "infer_label: no value after {text}");
 }
 
+fn refuse_limit<E: Write>(word: &[u8], err: &mut WatchedWriter<'_, E>)
+    ensures { Writes E.contents err.old err.new (refusal_line (no_limit word.now)) }
+{
+    err.write_all(b"infer_label: front must be 1 to 65536: ");
+    write_name(word, Form::Text, err);
+    err.write_all(b"\n");
+}
+
 fn text_of(option: Valued) -> &'static str
     ensures { result.now ≡ valued_text option }
 {
     match option {
+        Valued::Front => "--front",
         Valued::Name => "--name",
     }
 }

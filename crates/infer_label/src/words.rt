@@ -1,8 +1,8 @@
 //! What the words of a run ask for.
-ghost use Rattle.std.specs.Prelude.{◌≡◌};
+ghost use Rattle.std.specs.Prelude.{◌≡◌, option_map};
 ghost use Rattle.std.specs.Str.{bytes_eq};
 ghost use Rattle.infer_label.specs.Options.{default_options, options_listed};
-ghost use Rattle.infer_label.specs.Words.{asked, asked_at_end, asked_listed, flag_in, is_dashed, kind_of, labels, option_kind, step_at, step_listed, texts, valued_in, word_step};
+ghost use Rattle.infer_label.specs.Words.{asked, asked_at_end, asked_listed, flag_in, is_dashed, kind_of, labels, option_kind, refusal_listed, refused, step_at, step_listed, stop, texts, value_step, valued_in, word_step};
 
 use crate::options::{Flag, Options, Valued};
 
@@ -32,6 +32,8 @@ pub enum Refusal<'a> {
     Unknown(&'a [u8]),
     /// The value of this option is lacking.
     Lacking(Valued),
+    /// This is no number from 1 to 65536.
+    NoLimit(&'a [u8]),
 }
 
 /// What the words of a run ask for.
@@ -108,8 +110,25 @@ fn step_at<'a>(due: Option<Valued>, options: Options<'a>, word: &'a [u8]) -> Ste
 {
     match due {
         None => word_step(options, word),
-        Some(option) => Step::GoOn(options.with_value(option, word), None),
+        Some(option) => value_step(options.with_value(option, word), word),
     }
+}
+
+/// What the value of an option does, with which the options are these, or which it cannot have.
+fn value_step<'a>(options: Option<Options<'a>>, word: &'a [u8]) -> Step<'a>
+    ensures { step_listed result ≡ value_step (option_map options_listed options.entry) word.entry.now }
+{
+    match options {
+        Some(more) => Step::GoOn(more, None),
+        None => refused(Refusal::NoLimit(word)),
+    }
+}
+
+fn refused<'a>(refusal: Refusal<'a>) -> Step<'a>
+    ensures { step_listed result ≡ stop (refused (refusal_listed refusal.entry)) }
+{
+    let asked = Asked::Refused(refusal);
+    Step::Stop(asked)
 }
 
 /// What a word does where an option may stand.
@@ -186,6 +205,9 @@ fn flag_in(word: &[u8]) -> Option<Flag>
 fn valued_in(word: &[u8]) -> Option<Valued>
     ensures { result ≡ valued_in word.now }
 {
+    if word == b"--front".as_slice() {
+        return Some(Valued::Front);
+    }
     if word == b"--name".as_slice() {
         return Some(Valued::Name);
     }

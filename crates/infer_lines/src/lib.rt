@@ -10,6 +10,6 @@ mod writer;
 
 pub use buffers::{lines_over, writer_of};
 pub use faults::text_of;
-pub use limit::limit_of;
+pub use limit::{limit_in, limit_of};
 pub use outcome::Outcome;
 pub use writer::WatchedWriter;

@@ -1,6 +1,6 @@
 //! The number of bytes to look at, as a word.
 ghost use Rattle.std.specs.Prelude.{◌≡◌, ◌↔◌, ℕ, IsTrue, MatchOption, slice_index};
-ghost use Rattle.infer_lines.specs.Limit.{IsLimit};
+ghost use Rattle.infer_lines.specs.Limit.{IsLimit, limit_in};
 
 const MOST: usize = 65536;
 
@@ -15,6 +15,16 @@ pub fn limit_of(word: &str) -> Option<usize>
     match word.parse::<usize>() {
         Ok(n) if n >= 1 && n <= MOST => Some(n),
         _ => None,
+    }
+}
+
+/// [`limit_of`] of a word that may have any bytes.
+pub fn limit_in(word: &[u8]) -> Option<usize>
+    ensures { result ≡ limit_in word.now }
+{
+    match str::from_utf8(word) {
+        Ok(text) => limit_of(text),
+        Err(_) => None,
     }
 }
 
