@@ -175,13 +175,20 @@ def said():
     return fault_texts() | set(written)
 
 
+def is_told(mime_type, extension, more):
+    """Whether some row has the type, or a name tells of it, and infer_label has the words that follow."""
+    words = re.findall(r'b?", ([a-z ]+)"', text_of("crates/infer_label/src/line.rt"))
+    is_known = any(it[:2] == (mime_type, extension) for it in rows()) if extension else f" {mime_type} (" in text_of("crates/infer_named/names.txt")
+    return is_known and {*more.split(", ")[1:]} <= {*words, "us-ascii", "utf-8", "utf-16le", "utf-16be"}
+
+
 def check_lines(page):
     """What a page shows as a line of the program is one."""
     for line in [*spans(page), *blocks_of(page)]:
         found = re.fullmatch(r"(?:[\w.-]*/)*(?:[\w-]+\.\w+|-|folder|dll): (\S.*)", line)
         if found:
-            is_type = re.fullmatch(rf"({TYPE}) (\w+)", found[1])
-            fits = any(it[:2] == is_type.groups() for it in rows()) if is_type else found[1] in said()
+            is_type = re.fullmatch(rf"({TYPE})(?: (\w+))?((?:, [\w -]+)*)", found[1])
+            fits = is_told(*is_type.groups()) if is_type else found[1] in said()
             yield fits, f"{page}: the program prints no line such as '{line}'"
     texts = re.findall(r'&\[u8\] = b"(.*)\\n"', text_of("crates/infer_tool/src/run.rt"))
     for line in spans(page):
