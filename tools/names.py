@@ -125,9 +125,7 @@ pub(crate) fn group(number: usize) -> &'static [&'static [&'static str]]
     }}
 }}
 """
-SETS_LIST = """static SETS_{number}: &[&[&str]] = lists![
-{sets}
-];
+SETS_LIST = """static SETS_{number}: &[&[&str]] = lists![{sets}];
 
 #[tactic(auto, unfolding(crate::specs::Sets::sets_{number}))]
 #[inline(always)]
@@ -481,9 +479,15 @@ def types_term():
     )
 
 
+def laid_out(texts):
+    """The lists of a macro as `rt fmt` lays them out: on one line if it has room for them."""
+    line = "".join(texts)
+    return line if len(line) < 50 else "\n" + "".join(f"    {it}\n" for it in texts)
+
+
 def sets_code():
     lists = parts(list(sets()), SETS)
-    texts = ("\n".join(f"    {rows_text(rows)}" for rows in it) for it in lists)
+    texts = (laid_out([rows_text(rows) for rows in it]) for it in lists)
     return SETS_CODE.format(
         leads="\n".join(f"    {leads_text(it)}" for it in leads()), names=", ".join(names_of("sets", len(lists))), arms=arms("sets", len(lists)),
         lists="\n".join(SETS_LIST.format(number=number, sets=it) for number, it in enumerate(texts)),

@@ -502,12 +502,7 @@ fn sets_10() -> &'static [&'static [&'static str]]
     SETS_10
 }
 
-static SETS_11: &[&[&str]] = lists![
-    ["xz"]
-    ["zim"]
-    ["zip"]
-    ["zst"]
-];
+static SETS_11: &[&[&str]] = lists![["xz"]["zim"]["zip"]["zst"]];
 
 #[tactic(auto, unfolding(crate::specs::Sets::sets_11))]
 #[inline(always)]
