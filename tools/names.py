@@ -15,12 +15,11 @@ READING = re.compile(r"(?P<mime_type>\S+) \((?:row (?P<row>\S+)|(?P<known>known)
 LEAD = re.compile(r'"(?:[^"\\]|\\.)+"')
 # The rows of texts, which are named together.
 TEXTS = (
-    "afm asc atom awk ccmx crl diashape eps fb2 fodt gjs gpx gtkbuilder html ics imy it87 jnlp js json key kml "
-    "lingts lua m3u8 meta4 mml ndjson nzb openssh opml owx pem pfa pgp php pl plist ps py qml rb rss rtf sami sh sig "
-    "srt srx svg tcl ttx vcf vtt xhtml xml xmp xpm"
+    "asc atom awk eps gpx html ics js json key kml lua m3u8 ndjson openssh pem pgp php pl plist ps py rb rss rtf sh "
+    "sig srt svg tcl vcf vtt xhtml xml xpm"
 ).split()
 # How many types, and how many sets of rows, are one list of the code.
-TYPES, SETS = 64, 32
+TYPES, SETS = 64, 24
 GROUP_CODE = """//! Made by `tools/tables` from names.txt: the keys of slots {first} to {last}.
 ghost use Rattle.std.specs.Prelude.{{◌≡◌}};
 ghost use Rattle.infer_named.specs.Listed.{{slots_listed}};
@@ -480,9 +479,11 @@ def types_term():
 
 
 def laid_out(texts):
-    """The lists of a macro as `rt fmt` lays them out: on one line if it has room for them."""
+    """The lists of a macro as `rt fmt` lays them out: on one line if it has room for them, or if all are short."""
     line = "".join(texts)
-    return line if len(line) < 50 else "\n" + "".join(f"    {it}\n" for it in texts)
+    if len(line) < 50:
+        return line
+    return f"\n    {line}\n" if max(map(len, texts)) <= 10 else "\n" + "".join(f"    {it}\n" for it in texts)
 
 
 def sets_code():

@@ -27,12 +27,12 @@ texts list = map (λ text. text.now) list
 abbrev pub lists_of_texts : List (Bor (List (Bor (List ℕ)))) → List (List (List ℕ))
 lists_of_texts lists = map (λ list. texts list.now) lists
 
--- the type, the rows and the leads of a number, by lists of 64 types and of 32 sets
+-- the type, the rows and the leads of a number, by lists of 64 types and of 24 sets
 abbrev pub type_at : ℕ → NamedType
 type_at n = get_or (get_or type_groups (n / 64) []) (n % 64) (named [] own)
 
 abbrev pub rows_at : ℕ → List (List ℕ)
-rows_at n = get_or (get_or set_groups (n / 32) []) (n % 32) []
+rows_at n = get_or (get_or set_groups (n / 24) []) (n % 24) []
 
 abbrev pub leads_at : ℕ → List (List ℕ)
 leads_at n = get_or lead_lists n []

@@ -83,80 +83,80 @@ rows-adf = 12
 abbrev pub rows-afm : ℕ
 rows-afm = 13
 
-abbrev pub text-rows : ℕ
-text-rows = 14
-
 abbrev pub rows-age : ℕ
-rows-age = 15
+rows-age = 14
 
 abbrev pub rows-aifc : ℕ
-rows-aifc = 16
+rows-aifc = 15
 
 abbrev pub rows-aiff : ℕ
-rows-aiff = 17
+rows-aiff = 16
 
 abbrev pub rows-alz : ℕ
-rows-alz = 18
+rows-alz = 17
 
 abbrev pub rows-amr : ℕ
-rows-amr = 19
+rows-amr = 18
 
 abbrev pub rows-ani : ℕ
-rows-ani = 20
+rows-ani = 19
 
 abbrev pub rows-ape : ℕ
-rows-ape = 21
+rows-ape = 20
 
 abbrev pub rows-apk : ℕ
-rows-apk = 22
+rows-apk = 21
 
 abbrev pub rows-apk-jar-zip : ℕ
-rows-apk-jar-zip = 23
+rows-apk-jar-zip = 22
 
 abbrev pub rows-apng : ℕ
-rows-apng = 24
+rows-apng = 23
 
 abbrev pub rows-appimage : ℕ
-rows-appimage = 25
+rows-appimage = 24
 
 abbrev pub rows-appimage-core-o-so : ℕ
-rows-appimage-core-o-so = 26
+rows-appimage-core-o-so = 25
 
 abbrev pub rows-application-vnd-apple-keynote : ℕ
-rows-application-vnd-apple-keynote = 27
+rows-application-vnd-apple-keynote = 26
 
 abbrev pub rows-application-x-installshield : ℕ
-rows-application-x-installshield = 28
+rows-application-x-installshield = 27
 
 abbrev pub rows-application-x-msi : ℕ
-rows-application-x-msi = 29
+rows-application-x-msi = 28
 
 abbrev pub rows-application-x-ole-storage : ℕ
-rows-application-x-ole-storage = 30
+rows-application-x-ole-storage = 29
 
 abbrev pub rows-application-x-ole-storage-pptx-zip : ℕ
-rows-application-x-ole-storage-pptx-zip = 31
+rows-application-x-ole-storage-pptx-zip = 30
 
 abbrev pub rows-application-x-ole-storage-xlsx-zip : ℕ
-rows-application-x-ole-storage-xlsx-zip = 32
+rows-application-x-ole-storage-xlsx-zip = 31
 
 abbrev pub rows-application-x-ole-storage-zip : ℕ
-rows-application-x-ole-storage-zip = 33
+rows-application-x-ole-storage-zip = 32
 
 abbrev pub rows-ar : ℕ
-rows-ar = 34
+rows-ar = 33
 
 abbrev pub rows-arj : ℕ
-rows-arj = 35
+rows-arj = 34
 
 abbrev pub rows-arrow : ℕ
-rows-arrow = 36
+rows-arrow = 35
 
 abbrev pub rows-asar : ℕ
-rows-asar = 37
+rows-asar = 36
 
 abbrev pub rows-asc : ℕ
-rows-asc = 38
+rows-asc = 37
+
+abbrev pub text-rows : ℕ
+text-rows = 38
 
 abbrev pub rows-asc-crl-key-openssh-pgp-sig : ℕ
 rows-asc-crl-key-openssh-pgp-sig = 39
@@ -1142,7 +1142,6 @@ sets_0 =
     ∷ (codes "accdb" ∷ [])
     ∷ (codes "adf" ∷ [])
     ∷ (codes "afm" ∷ [])
-    ∷ texts
     ∷ (codes "age" ∷ [])
     ∷ (codes "aifc" ∷ [])
     ∷ (codes "aiff" ∷ [])
@@ -1153,24 +1152,25 @@ sets_0 =
     ∷ (codes "apk" ∷ [])
     ∷ (codes "apk" ∷ codes "jar" ∷ codes "zip" ∷ [])
     ∷ (codes "apng" ∷ [])
-    ∷ (codes "appimage" ∷ [])
+    ∷ []
+
+unfoldable pub sets_1 : List (List (List ℕ))
+sets_1 =
+    (codes "appimage" ∷ [])
     ∷ (codes "appimage" ∷ codes "core" ∷ codes "o" ∷ codes "so" ∷ [])
     ∷ (codes "application/vnd.apple.keynote" ∷ [])
     ∷ (codes "application/x-installshield" ∷ [])
     ∷ (codes "application/x-msi" ∷ [])
     ∷ (codes "application/x-ole-storage" ∷ [])
     ∷ (codes "application/x-ole-storage" ∷ codes "pptx" ∷ codes "zip" ∷ [])
-    ∷ []
-
-unfoldable pub sets_1 : List (List (List ℕ))
-sets_1 =
-    (codes "application/x-ole-storage" ∷ codes "xlsx" ∷ codes "zip" ∷ [])
+    ∷ (codes "application/x-ole-storage" ∷ codes "xlsx" ∷ codes "zip" ∷ [])
     ∷ (codes "application/x-ole-storage" ∷ codes "zip" ∷ [])
     ∷ (codes "ar" ∷ [])
     ∷ (codes "arj" ∷ [])
     ∷ (codes "arrow" ∷ [])
     ∷ (codes "asar" ∷ [])
     ∷ (codes "asc" ∷ [])
+    ∷ texts
     ∷ (codes "asc" ∷ codes "crl" ∷ codes "key" ∷ codes "openssh" ∷ codes "pgp" ∷ codes "sig" ∷ [])
     ∷ (codes "astc" ∷ [])
     ∷ (codes "atom" ∷ [])
@@ -1180,7 +1180,11 @@ sets_1 =
     ∷ (codes "avif" ∷ [])
     ∷ (codes "avro" ∷ [])
     ∷ (codes "awk" ∷ [])
-    ∷ (codes "bc" ∷ [])
+    ∷ []
+
+unfoldable pub sets_2 : List (List (List ℕ))
+sets_2 =
+    (codes "bc" ∷ [])
     ∷ (codes "bdb" ∷ [])
     ∷ (codes "beam" ∷ [])
     ∷ (codes "blend" ∷ [])
@@ -1196,11 +1200,7 @@ sets_1 =
     ∷ (codes "class" ∷ [])
     ∷ (codes "core" ∷ [])
     ∷ (codes "cpio" ∷ [])
-    ∷ []
-
-unfoldable pub sets_2 : List (List (List ℕ))
-sets_2 =
-    (codes "cr2" ∷ [])
+    ∷ (codes "cr2" ∷ [])
     ∷ (codes "cr2" ∷ codes "dng" ∷ [])
     ∷ (codes "cr3" ∷ [])
     ∷ (codes "crl" ∷ [])
@@ -1208,7 +1208,11 @@ sets_2 =
     ∷ (codes "cur" ∷ [])
     ∷ (codes "dbf" ∷ [])
     ∷ (codes "dcm" ∷ [])
-    ∷ (codes "deb" ∷ [])
+    ∷ []
+
+unfoldable pub sets_3 : List (List (List ℕ))
+sets_3 =
+    (codes "deb" ∷ [])
     ∷ (codes "der" ∷ [])
     ∷ (codes "der" ∷ codes "key" ∷ codes "pem" ∷ [])
     ∷ (codes "der" ∷ codes "p7b" ∷ codes "pem" ∷ [])
@@ -1234,8 +1238,8 @@ sets_2 =
     ∷ (codes "eps" ∷ [])
     ∷ []
 
-unfoldable pub sets_3 : List (List (List ℕ))
-sets_3 =
+unfoldable pub sets_4 : List (List (List ℕ))
+sets_4 =
     (codes "eps" ∷ codes "pdf" ∷ codes "ps" ∷ [])
     ∷ (codes "eps" ∷ codes "pfa" ∷ [])
     ∷ (codes "epub" ∷ [])
@@ -1260,7 +1264,11 @@ sets_3 =
     ∷ (codes "gpg" ∷ [])
     ∷ (codes "gpkg" ∷ [])
     ∷ (codes "gpx" ∷ [])
-    ∷ (codes "gtkbuilder" ∷ [])
+    ∷ []
+
+unfoldable pub sets_5 : List (List (List ℕ))
+sets_5 =
+    (codes "gtkbuilder" ∷ [])
     ∷ (codes "gz" ∷ [])
     ∷ (codes "gz" ∷ codes "sqlite" ∷ codes "xml" ∷ [])
     ∷ (codes "gz" ∷ codes "txt" ∷ codes "xml" ∷ [])
@@ -1268,11 +1276,7 @@ sets_3 =
     ∷ (codes "gz" ∷ codes "zip" ∷ [])
     ∷ (codes "gz" ∷ codes "zst" ∷ [])
     ∷ (codes "hdf4" ∷ [])
-    ∷ []
-
-unfoldable pub sets_4 : List (List (List ℕ))
-sets_4 =
-    (codes "hdf5" ∷ [])
+    ∷ (codes "hdf5" ∷ [])
     ∷ (codes "hdr" ∷ [])
     ∷ (codes "heic" ∷ [])
     ∷ (codes "heics" ∷ [])
@@ -1288,7 +1292,11 @@ sets_4 =
     ∷ (codes "html" ∷ codes "txt" ∷ codes "xml" ∷ [])
     ∷ (codes "icc" ∷ [])
     ∷ (codes "icns" ∷ [])
-    ∷ (codes "ico" ∷ [])
+    ∷ []
+
+unfoldable pub sets_6 : List (List (List ℕ))
+sets_6 =
+    (codes "ico" ∷ [])
     ∷ (codes "ics" ∷ [])
     ∷ (codes "ilbm" ∷ [])
     ∷ (codes "it" ∷ [])
@@ -1304,11 +1312,7 @@ sets_4 =
     ∷ (codes "jpg" ∷ [])
     ∷ (codes "jpm" ∷ codes "jpx" ∷ codes "mj2" ∷ [])
     ∷ (codes "jpx" ∷ [])
-    ∷ []
-
-unfoldable pub sets_5 : List (List (List ℕ))
-sets_5 =
-    (codes "json" ∷ [])
+    ∷ (codes "json" ∷ [])
     ∷ (codes "json" ∷ codes "ndjson" ∷ codes "txt" ∷ [])
     ∷ (codes "json" ∷ codes "plist" ∷ codes "txt" ∷ codes "xml" ∷ [])
     ∷ (codes "json" ∷ codes "sh" ∷ codes "txt" ∷ [])
@@ -1316,7 +1320,11 @@ sets_5 =
     ∷ (codes "jxl" ∷ [])
     ∷ (codes "jxr" ∷ [])
     ∷ (codes "key" ∷ [])
-    ∷ (codes "kml" ∷ [])
+    ∷ []
+
+unfoldable pub sets_7 : List (List (List ℕ))
+sets_7 =
+    (codes "kml" ∷ [])
     ∷ (codes "kmz" ∷ [])
     ∷ (codes "kpr" ∷ codes "ksp" ∷ codes "kwd" ∷ [])
     ∷ (codes "kra" ∷ [])
@@ -1342,8 +1350,8 @@ sets_5 =
     ∷ (codes "m4v" ∷ [])
     ∷ []
 
-unfoldable pub sets_6 : List (List (List ℕ))
-sets_6 =
+unfoldable pub sets_8 : List (List (List ℕ))
+sets_8 =
     (codes "mach" ∷ [])
     ∷ (codes "mdb" ∷ [])
     ∷ (codes "med" ∷ [])
@@ -1368,7 +1376,11 @@ sets_6 =
     ∷ (codes "n64" ∷ [])
     ∷ (codes "ndjson" ∷ [])
     ∷ (codes "nes" ∷ [])
-    ∷ (codes "npy" ∷ [])
+    ∷ []
+
+unfoldable pub sets_9 : List (List (List ℕ))
+sets_9 =
+    (codes "npy" ∷ [])
     ∷ (codes "o" ∷ [])
     ∷ (codes "obj" ∷ [])
     ∷ (codes "odc" ∷ [])
@@ -1376,11 +1388,7 @@ sets_6 =
     ∷ (codes "odg" ∷ [])
     ∷ (codes "odg" ∷ codes "zip" ∷ [])
     ∷ (codes "odp" ∷ [])
-    ∷ []
-
-unfoldable pub sets_7 : List (List (List ℕ))
-sets_7 =
-    (codes "odp" ∷ codes "zip" ∷ [])
+    ∷ (codes "odp" ∷ codes "zip" ∷ [])
     ∷ (codes "ods" ∷ [])
     ∷ (codes "ods" ∷ codes "zip" ∷ [])
     ∷ (codes "odt" ∷ [])
@@ -1396,7 +1404,11 @@ sets_7 =
     ∷ (codes "ora" ∷ [])
     ∷ (codes "orc" ∷ [])
     ∷ (codes "otf" ∷ [])
-    ∷ (codes "otg" ∷ [])
+    ∷ []
+
+unfoldable pub sets_10 : List (List (List ℕ))
+sets_10 =
+    (codes "otg" ∷ [])
     ∷ (codes "otp" ∷ [])
     ∷ (codes "ots" ∷ [])
     ∷ (codes "ott" ∷ [])
@@ -1412,11 +1424,7 @@ sets_7 =
     ∷ (codes "pdf" ∷ [])
     ∷ (codes "pem" ∷ [])
     ∷ (codes "pfa" ∷ codes "pfb" ∷ [])
-    ∷ []
-
-unfoldable pub sets_8 : List (List (List ℕ))
-sets_8 =
-    (codes "pfb" ∷ [])
+    ∷ (codes "pfb" ∷ [])
     ∷ (codes "pgp" ∷ [])
     ∷ (codes "php" ∷ [])
     ∷ (codes "php" ∷ codes "svg" ∷ codes "txt" ∷ codes "xhtml" ∷ codes "xml" ∷ [])
@@ -1424,7 +1432,11 @@ sets_8 =
     ∷ (codes "plist" ∷ [])
     ∷ (codes "plist" ∷ codes "txt" ∷ codes "xml" ∷ [])
     ∷ (codes "png" ∷ [])
-    ∷ (codes "pnm" ∷ [])
+    ∷ []
+
+unfoldable pub sets_11 : List (List (List ℕ))
+sets_11 =
+    (codes "pnm" ∷ [])
     ∷ (codes "ppt" ∷ [])
     ∷ (codes "pptx" ∷ [])
     ∷ (codes "ppu" ∷ [])
@@ -1450,8 +1462,8 @@ sets_8 =
     ∷ (codes "rtf" ∷ [])
     ∷ []
 
-unfoldable pub sets_9 : List (List (List ℕ))
-sets_9 =
+unfoldable pub sets_12 : List (List (List ℕ))
+sets_12 =
     (codes "rw2" ∷ [])
     ∷ (codes "safetensors" ∷ [])
     ∷ (codes "sav" ∷ [])
@@ -1476,7 +1488,11 @@ sets_9 =
     ∷ (codes "tcl" ∷ [])
     ∷ (codes "terminfo" ∷ [])
     ∷ (codes "tif" ∷ [])
-    ∷ (codes "tnef" ∷ [])
+    ∷ []
+
+unfoldable pub sets_13 : List (List (List ℕ))
+sets_13 =
+    (codes "tnef" ∷ [])
     ∷ (codes "torrent" ∷ [])
     ∷ (codes "ts" ∷ [])
     ∷ (codes "ttc" ∷ [])
@@ -1484,11 +1500,7 @@ sets_9 =
     ∷ (codes "txt" ∷ [])
     ∷ (codes "txt" ∷ codes "xml" ∷ [])
     ∷ (codes "tzif" ∷ [])
-    ∷ []
-
-unfoldable pub sets_10 : List (List (List ℕ))
-sets_10 =
-    (codes "vcf" ∷ [])
+    ∷ (codes "vcf" ∷ [])
     ∷ (codes "vdi" ∷ [])
     ∷ (codes "vhd" ∷ [])
     ∷ (codes "vhdx" ∷ [])
@@ -1504,7 +1516,11 @@ sets_10 =
     ∷ (codes "wav" ∷ [])
     ∷ (codes "webm" ∷ [])
     ∷ (codes "webp" ∷ [])
-    ∷ (codes "wiiwad" ∷ [])
+    ∷ []
+
+unfoldable pub sets_14 : List (List (List ℕ))
+sets_14 =
+    (codes "wiiwad" ∷ [])
     ∷ (codes "wim" ∷ [])
     ∷ (codes "wmv" ∷ [])
     ∷ (codes "woff" ∷ [])
@@ -1520,15 +1536,11 @@ sets_10 =
     ∷ (codes "xml" ∷ [])
     ∷ (codes "xpm" ∷ [])
     ∷ (codes "xwd" ∷ [])
-    ∷ []
-
-unfoldable pub sets_11 : List (List (List ℕ))
-sets_11 =
-    (codes "xz" ∷ [])
+    ∷ (codes "xz" ∷ [])
     ∷ (codes "zim" ∷ [])
     ∷ (codes "zip" ∷ [])
     ∷ (codes "zst" ∷ [])
     ∷ []
 
 unfoldable pub set_groups : List (List (List (List ℕ)))
-set_groups = sets_0 ∷ sets_1 ∷ sets_2 ∷ sets_3 ∷ sets_4 ∷ sets_5 ∷ sets_6 ∷ sets_7 ∷ sets_8 ∷ sets_9 ∷ sets_10 ∷ sets_11 ∷ []
+set_groups = sets_0 ∷ sets_1 ∷ sets_2 ∷ sets_3 ∷ sets_4 ∷ sets_5 ∷ sets_6 ∷ sets_7 ∷ sets_8 ∷ sets_9 ∷ sets_10 ∷ sets_11 ∷ sets_12 ∷ sets_13 ∷ sets_14 ∷ []

@@ -123,7 +123,7 @@ mod generated;
 // How many types, and how many sets of rows, are one list.
 const TYPES: usize = 64;
 
-const SETS: usize = 32;
+const SETS: usize = 24;
 
 /// The keys of a slot.
 #[tactic(auto, using(crate::proofs::TableLemmas::slot_of_group))]

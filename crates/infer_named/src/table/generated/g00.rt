@@ -20,7 +20,7 @@ static SLOTS: [&[Key]; 16] = [
     ],
     keys![
         Strict Extension "gsm" [507 Bytes 0 0 0 0];
-        Strict Extension "m" [855 Text 0 317 0 8] [825 Text 0 269 0 3] [636 Text 317 0 14 0];
+        Strict Extension "m" [855 Text 0 317 0 8] [825 Text 0 269 0 3] [636 Text 317 0 38 0];
     ],
     keys![
         Strict Extension "f4p" [1015 Bytes 103 207 0 0];
@@ -46,7 +46,7 @@ static SLOTS: [&[Key]; 16] = [
         Strict Extension "wkt" [990 Text 0 317 0 0];
     ],
     keys![
-        Strict Extension "arj" [214 Signature 35 0 0 0];
+        Strict Extension "arj" [214 Signature 34 0 0 0];
         Strict Extension "jpf" [546 Signature 159 0 0 0];
         Strict Extension "rds" [402 Bytes 0 56 0 0];
         Strict Extension "vrml" [621 Text 0 317 0 0];
@@ -71,7 +71,7 @@ static SLOTS: [&[Key]; 16] = [
         Strict Extension "litcoffee" [101 Text 0 293 0 0];
         Strict Whole "sha256sums" [693 Text 0 317 0 0];
         Strict Extension "smt2" [938 Text 0 317 0 0];
-        Strict Whole "sshd_config" [636 Text 317 0 14 0];
+        Strict Whole "sshd_config" [636 Text 317 0 38 0];
     ],
     keys![
         Strict Extension "32x" [280 Bytes 0 0 0 0];
@@ -81,9 +81,9 @@ static SLOTS: [&[Key]; 16] = [
     ],
     keys![
         Strict Whole ".bash_login" [929 Text 0 293 0 0];
-        Strict Extension "doc" [41 Signature 84 30 0 0] [636 Text 317 0 14 0];
+        Strict Extension "doc" [41 Signature 84 29 0 0] [636 Text 317 0 38 0];
         Strict Extension "gp" [287 Text 0 293 0 0];
-        Loose Extension "max" [218 Bytes 0 30 0 0];
+        Loose Extension "max" [218 Bytes 0 29 0 0];
         Strict Extension "p6" [897 Text 0 293 0 0];
         Strict Extension "rb" [915 Text 283 293 0 0];
     ],

@@ -9,7 +9,7 @@ static SLOTS: [&[Key]; 16] = [
     keys![
         Strict Whole ".tmux.conf" [968 Text 0 317 0 0];
         Strict Extension "c" [708 Text 0 317 350 0];
-        Strict Extension "hwp" [302 Signature 0 30 0 0];
+        Strict Extension "hwp" [302 Signature 0 29 0 0];
         Strict Extension "rst" [914 Text 0 317 0 0];
         Strict Extension "story" [757 Text 0 317 0 0];
         Strict Extension "zsh" [467 Text 0 293 0 0];
@@ -26,7 +26,7 @@ static SLOTS: [&[Key]; 16] = [
         Strict Extension "link" [958 Text 0 317 0 0];
         Strict Extension "nqp" [897 Text 0 293 0 0];
         Strict Extension "pef" [591 Signature 0 311 0 0];
-        Strict Whole "readme" [636 Text 317 0 14 0];
+        Strict Whole "readme" [636 Text 317 0 38 0];
     ],
     keys![
         Strict Extension "atom" [1 Text 41 141 0 10];
@@ -42,7 +42,7 @@ static SLOTS: [&[Key]; 16] = [
         Strict Extension "sqfs" [184 Signature 301 0 0 0];
     ],
     keys![
-        Strict Extension "as" [636 Text 317 0 14 0];
+        Strict Extension "as" [636 Text 317 0 38 0];
         Strict Extension "bbl" [962 Text 0 270 0 0];
         Strict Whole "gschemas.compiled" [295 Bytes 0 0 0 0];
         Strict Extension "m4v" [1019 Bytes 191 207 0 0];
@@ -59,12 +59,12 @@ static SLOTS: [&[Key]; 16] = [
     keys![
         Strict Extension "drawio" [251 Text 0 140 0 10];
         Strict Extension "mdwn" [632 Text 0 136 0 0];
-        Strict Extension "ppa" [132 Signature 265 30 0 0];
-        Strict Whole "robots.txt" [636 Text 317 0 14 0];
+        Strict Extension "ppa" [132 Signature 265 29 0 0];
+        Strict Whole "robots.txt" [636 Text 317 0 38 0];
         Strict Extension "sha512" [693 Text 0 317 0 0];
     ],
     keys![
-        Strict Whole "copying" [636 Text 317 0 14 0];
+        Strict Whole "copying" [636 Text 317 0 38 0];
         Strict Extension "gms" [747 Text 0 317 0 0];
         Strict Extension "h++" [685 Text 0 317 0 0];
         Strict Extension "ncx" [252 Text 0 140 0 10];
@@ -78,8 +78,8 @@ static SLOTS: [&[Key]; 16] = [
     ],
     keys![
         Strict Extension "bufr" [226 Bytes 0 0 0 0];
-        Strict Whole "licence" [636 Text 317 0 14 0];
-        Strict Whole "license" [636 Text 317 0 14 0];
+        Strict Whole "licence" [636 Text 317 0 38 0];
+        Strict Whole "license" [636 Text 317 0 38 0];
         Strict Extension "mjp2" [1007 Bytes 197 156 0 0];
         Strict Extension "s3db" [183 Signature 300 0 118 0];
         Strict Extension "veo" [983 Text 0 317 0 0];

@@ -47,7 +47,7 @@ static SLOTS: [&[Key]; 16] = [
         Strict Extension "ipynb" [308 Text 0 160 0 0];
         Strict Extension "libsonnet" [31 Text 0 293 0 0];
         Strict Extension "tap" [1000 Text 0 317 0 0];
-        Strict Whole "wheel" [636 Text 317 0 14 0];
+        Strict Whole "wheel" [636 Text 317 0 38 0];
     ],
     keys![
         Strict Extension "dtd" [473 Text 0 141 0 0];
@@ -63,7 +63,7 @@ static SLOTS: [&[Key]; 16] = [
     keys![
         Strict Extension "dbf" [105 Bytes 70 0 0 0];
         Strict Extension "pfa" [272 Text 255 270 0 0];
-        Strict Extension "ppsm" [134 Signature 0 31 0 0];
+        Strict Extension "ppsm" [134 Signature 0 30 0 0];
         Strict Extension "styl" [951 Text 0 317 0 0];
         Strict Extension "vm" [645 Text 0 136 0 0];
         Strict Extension "winmd" [119 Signature 100 0 0 0];

@@ -9,14 +9,14 @@ static SLOTS: [&[Key]; 16] = [
     keys![
         Strict Extension "eml" [610 Text 0 317 0 0];
         Strict Extension "php7" [869 Text 258 138 0 0];
-        Strict Extension "xltx" [171 Signature 0 32 0 0];
+        Strict Extension "xltx" [171 Signature 0 31 0 0];
     ],
     keys![
         Strict Extension "ads" [653 Text 0 317 0 0];
         Strict Extension "clj" [695 Text 0 293 0 0];
         Strict Extension "ktx" [548 Bytes 172 0 0 0];
-        Strict Whole "notice" [636 Text 317 0 14 0];
-        Strict Extension "p" [636 Text 317 0 14 0];
+        Strict Whole "notice" [636 Text 317 0 38 0];
+        Strict Extension "p" [636 Text 317 0 38 0];
         Strict Extension "pnm" [593 Signature 264 0 0 0];
         Strict Extension "socket" [958 Text 0 317 0 0];
         Strict Extension "stl" [618 Nothing 0 317 0 0];
@@ -25,7 +25,7 @@ static SLOTS: [&[Key]; 16] = [
     keys![
         Strict Extension "asice" [107 Signature 0 354 0 0];
         Strict Extension "pp" [865 Text 0 317 0 0];
-        Loose Extension "pub" [137 Signature 273 30 0 0] [421 Text 0 317 0 0] [54 Text 38 0 0 0];
+        Loose Extension "pub" [137 Signature 273 29 0 0] [421 Text 0 317 0 0] [54 Text 37 0 0 0];
     ],
     keys![
         Strict Extension "azw" [350 Bytes 204 0 0 0];
@@ -38,12 +38,12 @@ static SLOTS: [&[Key]; 16] = [
         Strict Extension "shtml" [630 Text 135 259 0 0];
     ],
     keys![
-        Strict Extension "nb" [191 Text 0 317 0 4] [636 Text 317 0 14 0];
+        Strict Extension "nb" [191 Text 0 317 0 4] [636 Text 317 0 38 0];
         Strict Extension "uplugin" [443 Text 0 160 0 0];
         Strict Extension "vob" [1010 Bytes 209 0 0 0];
     ],
     keys![
-        Strict Whole "codeowners" [636 Text 317 0 14 0];
+        Strict Whole "codeowners" [636 Text 317 0 38 0];
         Strict Extension "cpp" [686 Text 0 317 0 0];
         Strict Extension "nq" [44 Text 0 317 0 11];
         Strict Extension "onetoc2" [48 Bytes 0 0 0 0];
@@ -51,7 +51,7 @@ static SLOTS: [&[Key]; 16] = [
     ],
     keys![
         Strict Extension "lua" [821 Text 177 293 0 0];
-        Strict Extension "msi" [359 Signature 29 30 0 0];
+        Strict Extension "msi" [359 Signature 28 29 0 0];
         Strict Extension "peg" [724 Text 0 317 0 0];
         Strict Extension "purs" [889 Text 0 317 0 0];
     ],
@@ -69,7 +69,7 @@ static SLOTS: [&[Key]; 16] = [
         Strict Extension "weba" [498 Signature 0 334 0 0];
     ],
     keys![
-        Strict Extension "axf" [262 Signature 92 0 26 0];
+        Strict Extension "axf" [262 Signature 92 0 25 0];
         Strict Extension "odp" [156 Signature 223 354 241 0];
         Strict Extension "tb2" [227 Signature 0 55 0 0];
     ],

@@ -78,23 +78,23 @@ static SLOTS: [&[Key]; 16] = [
     keys![
         Strict Whole ".zshenv" [929 Text 0 293 0 0];
         Strict Extension "ply" [387 Nothing 0 317 0 0];
-        Strict Extension "xlm" [124 Bytes 346 30 0 0];
+        Strict Extension "xlm" [124 Bytes 346 29 0 0];
     ],
     keys![
         Strict Extension "3mf" [611 Signature 6 354 0 0];
         Strict Extension "abnf" [724 Text 0 317 0 0];
-        Strict Extension "log" [636 Text 317 0 14 0];
+        Strict Extension "log" [636 Text 317 0 38 0];
         Strict Extension "zstd" [481 Signature 355 0 0 0];
     ],
     keys![
         Strict Whole ".exrc" [985 Text 0 317 0 0];
         Strict Extension "pfb" [272 Bytes 256 0 0 0];
         Strict Extension "sla" [409 Text 0 123 0 0];
-        Strict Extension "xlsb" [126 Signature 0 32 0 0];
+        Strict Extension "xlsb" [126 Signature 0 31 0 0];
     ],
     keys![],
     keys![
-        Strict Extension "fla" [268 Bytes 0 33 0 0];
+        Strict Extension "fla" [268 Bytes 0 32 0 0];
         Strict Extension "pcap" [189 Bytes 250 0 251 0];
         Strict Extension "snd" [485 Signature 43 0 0 0];
         Strict Extension "xps" [146 Signature 0 354 0 0];

@@ -30,14 +30,14 @@ static SLOTS: [&[Key]; 16] = [
         Strict Extension "tmac" [640 Text 0 317 0 0];
     ],
     keys![
-        Strict Extension "aif" [501 Signature 17 0 16 0];
+        Strict Extension "aif" [501 Signature 16 0 15 0];
         Strict Whole "config.guess" [930 Text 292 317 0 0];
         Strict Extension "e57" [254 Bytes 0 0 0 0];
         Strict Extension "gcno" [276 Bytes 0 0 0 0];
         Strict Extension "php8" [869 Text 258 138 0 0];
         Strict Extension "snupkg" [371 Signature 0 354 0 0];
         Strict Extension "uproject" [443 Text 0 160 0 0];
-        Strict Extension "vsw" [190 Signature 326 30 0 0];
+        Strict Extension "vsw" [190 Signature 326 29 0 0];
         Strict Extension "webp" [565 Signature 335 0 0 0];
     ],
     keys![
@@ -51,7 +51,7 @@ static SLOTS: [&[Key]; 16] = [
     ],
     keys![
         Strict Extension "m3a" [489 Bytes 206 0 0 0];
-        Loose Extension "mod" [373 Signature 217 0 0 0] [756 Signature 0 121 0 0] [512 Bytes 0 0 0 0] [636 Text 317 0 14 0];
+        Loose Extension "mod" [373 Signature 217 0 0 0] [756 Signature 0 121 0 0] [512 Bytes 0 0 0 0] [636 Text 317 0 38 0];
         Strict Extension "shproj" [358 Text 0 140 0 10];
         Strict Extension "shtm" [630 Text 135 259 0 0];
         Strict Extension "tei" [79 Text 0 140 0 10];
@@ -64,7 +64,7 @@ static SLOTS: [&[Key]; 16] = [
         Strict Whole ".bash_aliases" [929 Text 0 293 0 0];
         Strict Whole ".bashrc" [929 Text 0 293 0 0];
         Strict Whole ".tcshrc" [929 Text 0 293 0 0];
-        Strict Extension "cab" [123 Signature 58 0 28 0];
+        Strict Extension "cab" [123 Signature 58 0 27 0];
         Strict Extension "fsproj" [358 Text 0 140 0 10];
         Strict Extension "sid" [493 Bytes 296 0 0 0];
         Strict Extension "voc" [520 Signature 325 0 0 0];
@@ -106,7 +106,7 @@ static SLOTS: [&[Key]; 16] = [
     ],
     keys![
         Strict Whole ".login" [929 Text 0 293 0 0];
-        Strict Extension "oft" [130 Signature 210 30 0 0];
+        Strict Extension "oft" [130 Signature 210 29 0 0];
         Strict Extension "terminfo" [431 Signature 310 0 0 0];
         Strict Extension "wast" [988 Text 0 317 0 0];
     ],

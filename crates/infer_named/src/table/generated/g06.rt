@@ -16,8 +16,8 @@ static SLOTS: [&[Key]; 16] = [
     ],
     keys![
         Strict Whole "configure.ac" [667 Text 0 317 0 0];
-        Strict Whole "copyright" [636 Text 317 0 14 0];
-        Strict Extension "copyright" [636 Text 317 0 14 0];
+        Strict Whole "copyright" [636 Text 317 0 38 0];
+        Strict Extension "copyright" [636 Text 317 0 38 0];
         Strict Extension "just" [800 Text 0 293 0 0];
         Strict Extension "lbx" [962 Text 0 270 0 0];
         Strict Extension "mp4" [1009 Bytes 207 133 3 0];
@@ -32,7 +32,7 @@ static SLOTS: [&[Key]; 16] = [
     ],
     keys![
         Strict Extension "env" [720 Text 0 317 0 0];
-        Strict Extension "fs" [636 Text 317 0 14 0];
+        Strict Extension "fs" [636 Text 317 0 38 0];
         Strict Extension "gbl" [752 Text 0 317 0 0];
         Strict Extension "ova" [378 Bytes 0 308 0 0];
         Strict Extension "rpy" [891 Text 274 163 0 0];
@@ -42,7 +42,7 @@ static SLOTS: [&[Key]; 16] = [
     keys![
         Strict Extension "cmt" [232 Bytes 0 93 0 0];
         Strict Extension "qt" [1012 Bytes 205 207 0 0];
-        Strict Whole "todo" [636 Text 317 0 14 0];
+        Strict Whole "todo" [636 Text 317 0 38 0];
     ],
     keys![
         Strict Extension "msix" [40 Signature 0 354 0 0];
@@ -61,7 +61,7 @@ static SLOTS: [&[Key]; 16] = [
     ],
     keys![
         Strict Extension "med" [512 Bytes 194 0 0 0];
-        Strict Extension "ncl" [636 Text 317 0 14 0];
+        Strict Extension "ncl" [636 Text 317 0 38 0];
     ],
     keys![
         Strict Extension "mts" [1008 Bytes 314 0 0 0] [972 Text 0 293 0 0];

@@ -7,10 +7,10 @@ use crate::table::{Asks, Key, Part, Reading, is_loose, keys};
 
 static SLOTS: [&[Key]; 16] = [
     keys![
-        Strict Extension "apng" [531 Signature 24 263 0 0];
+        Strict Extension "apng" [531 Signature 23 263 0 0];
         Strict Extension "cql" [627 Text 0 317 0 0];
-        Strict Extension "dot" [42 Signature 0 30 0 0] [647 Text 0 317 0 0];
-        Loose Extension "key" [383 Text 167 254 0 0] [374 Text 234 0 0 0] [54 Text 38 0 0 0] [95 Signature 27 354 0 0] [636 Text 317 0 14 0];
+        Strict Extension "dot" [42 Signature 0 29 0 0] [647 Text 0 317 0 0];
+        Loose Extension "key" [383 Text 167 254 0 0] [374 Text 234 0 0 0] [54 Text 37 0 0 0] [95 Signature 26 354 0 0] [636 Text 317 0 38 0];
     ],
     keys![
         Strict Extension "dvi" [253 Bytes 90 0 0 0];
@@ -34,7 +34,7 @@ static SLOTS: [&[Key]; 16] = [
         Strict Extension "wrl" [621 Text 0 317 0 0];
     ],
     keys![
-        Strict Whole ".condarc" [636 Text 317 0 14 0];
+        Strict Whole ".condarc" [636 Text 317 0 38 0];
         Strict Extension "cur" [604 Bytes 69 0 0 0];
         Strict Extension "pct" [592 Bytes 0 0 0 0];
         Strict Extension "wmz" [457 Signature 0 125 0 0];
@@ -50,13 +50,13 @@ static SLOTS: [&[Key]; 16] = [
     ],
     keys![
         Strict Extension "ldjson" [366 Text 214 160 0 0];
-        Strict Extension "shlibs" [636 Text 317 0 14 0];
+        Strict Extension "shlibs" [636 Text 317 0 38 0];
         Strict Extension "vdi" [446 Signature 321 0 0 0];
     ],
     keys![
-        Strict Extension "cl" [636 Text 317 0 14 0];
+        Strict Extension "cl" [636 Text 317 0 38 0];
         Strict Extension "natvis" [364 Text 0 140 0 10];
-        Strict Extension "strings" [224 Signature 54 0 0 0] [950 Text 0 317 0 6] [636 Text 317 0 14 0];
+        Strict Extension "strings" [224 Signature 54 0 0 0] [950 Text 0 317 0 6] [636 Text 317 0 38 0];
         Strict Whole "winmail.dat" [138 Bytes 312 0 0 0];
     ],
     keys![
@@ -78,7 +78,7 @@ static SLOTS: [&[Key]; 16] = [
         Strict Extension "wiki" [829 Text 0 317 0 0];
     ],
     keys![
-        Strict Extension "dsl" [636 Text 317 0 14 0];
+        Strict Extension "dsl" [636 Text 317 0 38 0];
         Strict Whole "meson.options" [831 Text 0 317 0 0];
         Loose Extension "pcf" [271 Bytes 0 0 0 0];
         Strict Extension "wml" [649 Text 0 136 0 0];

@@ -10,8 +10,8 @@ static SLOTS: [&[Key]; 16] = [
         Strict Extension "fods" [160 Text 0 140 0 10];
         Strict Extension "fountain" [744 Text 0 317 0 0];
         Strict Extension "nsv" [1025 Bytes 0 0 0 0];
-        Strict Extension "potx" [169 Signature 0 31 0 0];
-        Strict Extension "pptx" [167 Signature 266 33 0 0];
+        Strict Extension "potx" [169 Signature 0 30 0 0];
+        Strict Extension "pptx" [167 Signature 266 32 0 0];
         Strict Extension "roc" [910 Text 0 317 0 0];
         Strict Extension "smk" [939 Text 0 317 0 0] [1013 Bytes 0 0 0 0];
     ],
@@ -41,7 +41,7 @@ static SLOTS: [&[Key]; 16] = [
     ],
     keys![
         Strict Extension "cairo" [688 Text 0 317 0 0];
-        Strict Extension "diz" [636 Text 317 0 14 0];
+        Strict Extension "diz" [636 Text 317 0 38 0];
         Strict Extension "ico" [561 Signature 144 0 0 0];
         Strict Extension "ldscript" [808 Text 0 317 0 0];
         Strict Extension "sst" [327 Bytes 0 0 0 0];
@@ -49,7 +49,7 @@ static SLOTS: [&[Key]; 16] = [
     ],
     keys![
         Strict Extension "epsi" [573 Text 95 268 0 0];
-        Strict Whole "pkg-info" [636 Text 317 0 14 0];
+        Strict Whole "pkg-info" [636 Text 317 0 38 0];
     ],
     keys![
         Strict Extension "gdbm" [277 Signature 112 0 0 0];
@@ -64,12 +64,12 @@ static SLOTS: [&[Key]; 16] = [
         Strict Extension "v64" [363 Bytes 213 0 0 0];
     ],
     keys![
-        Loose Extension "def" [636 Text 317 0 14 0];
+        Loose Extension "def" [636 Text 317 0 38 0];
         Strict Extension "req" [57 Bytes 0 77 0 0];
     ],
     keys![
         Strict Extension "cbl" [697 Text 0 317 0 0];
-        Loose Extension "me" [636 Text 317 0 14 0];
+        Loose Extension "me" [636 Text 317 0 38 0];
         Strict Extension "npy" [369 Signature 216 0 0 0];
         Strict Extension "vsix" [194 Signature 0 354 0 0];
     ],
@@ -80,7 +80,7 @@ static SLOTS: [&[Key]; 16] = [
     keys![
         Strict Extension "cabal" [687 Text 0 317 0 0];
         Strict Extension "cobol" [697 Text 0 317 0 0];
-        Strict Extension "elf" [262 Signature 92 0 26 0];
+        Strict Extension "elf" [262 Signature 92 0 25 0];
         Strict Extension "kdc" [584 Signature 0 311 0 0];
     ],
     keys![
@@ -91,7 +91,7 @@ static SLOTS: [&[Key]; 16] = [
     ],
     keys![
         Strict Extension "jpx" [546 Signature 159 156 0 0];
-        Strict Extension "v" [636 Text 317 0 14 0];
+        Strict Extension "v" [636 Text 317 0 38 0];
     ],
 ];
 

@@ -33,7 +33,7 @@ static SLOTS: [&[Key]; 16] = [
         Strict Extension "xsd" [472 Text 0 140 0 10];
     ],
     keys![
-        Strict Extension "apk" [91 Signature 22 150 0 0];
+        Strict Extension "apk" [91 Signature 21 150 0 0];
         Strict Extension "tfvars" [775 Text 0 317 0 0];
     ],
     keys![
@@ -61,7 +61,7 @@ static SLOTS: [&[Key]; 16] = [
         Strict Extension "wixproj" [358 Text 0 140 0 10];
     ],
     keys![
-        Strict Extension "age" [203 Signature 15 254 0 0];
+        Strict Extension "age" [203 Signature 14 254 0 0];
         Strict Whole "berksfile" [978 Text 0 317 0 0];
         Strict Extension "fit" [537 Signature 105 0 0 0];
         Strict Extension "slint" [933 Text 0 317 0 0];
@@ -72,7 +72,7 @@ static SLOTS: [&[Key]; 16] = [
     keys![
         Strict Whole "meson_options.txt" [831 Text 0 317 0 0];
         Strict Extension "one" [48 Bytes 0 0 0 0];
-        Strict Extension "xla" [124 Bytes 346 30 0 0];
+        Strict Extension "xla" [124 Bytes 346 29 0 0];
     ],
     keys![
         Strict Extension "psb" [556 Signature 271 0 0 0];
@@ -90,13 +90,13 @@ static SLOTS: [&[Key]; 16] = [
         Strict Extension "glade" [284 Text 0 140 120 10];
         Strict Extension "hjson" [23 Text 0 164 0 0];
         Strict Whole "language-configuration.json" [320 Text 0 317 160 0];
-        Strict Extension "ll" [818 Text 0 317 0 9] [812 Text 0 317 0 5] [636 Text 317 0 14 0];
+        Strict Extension "ll" [818 Text 0 317 0 9] [812 Text 0 317 0 5] [636 Text 317 0 38 0];
         Strict Extension "netdev" [958 Text 0 317 0 0];
         Strict Extension "sparql" [76 Text 0 317 0 0];
         Strict Extension "vmb" [985 Text 0 317 0 0];
     ],
     keys![
-        Strict Extension "pps" [132 Signature 265 30 0 0];
+        Strict Extension "pps" [132 Signature 265 29 0 0];
         Strict Extension "wm" [1023 Signature 338 0 0 0];
     ],
 ];

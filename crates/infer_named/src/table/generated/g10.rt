@@ -32,7 +32,7 @@ static SLOTS: [&[Key]; 16] = [
         Strict Extension "pgm" [595 Signature 0 264 0 0];
         Loose Extension "sml" [937 Text 0 317 0 0];
         Strict Extension "wave" [521 Signature 333 0 0 0];
-        Strict Extension "xltm" [128 Signature 0 32 0 0];
+        Strict Extension "xltm" [128 Signature 0 31 0 0];
     ],
     keys![
         Strict Extension "htaccess" [658 Text 0 317 0 0];
@@ -47,7 +47,7 @@ static SLOTS: [&[Key]; 16] = [
     keys![],
     keys![
         Strict Extension "ltx" [962 Text 0 270 0 0];
-        Strict Whole "record" [636 Text 317 0 14 0];
+        Strict Whole "record" [636 Text 317 0 38 0];
         Strict Extension "ttl" [641 Text 0 317 0 0];
     ],
     keys![

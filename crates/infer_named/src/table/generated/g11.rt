@@ -41,8 +41,8 @@ static SLOTS: [&[Key]; 16] = [
         Strict Extension "tiff" [555 Signature 311 0 65 0];
     ],
     keys![
-        Strict Extension "ani" [365 Signature 20 0 0 0];
-        Strict Extension "fpx" [560 Bytes 0 30 0 0];
+        Strict Extension "ani" [365 Signature 19 0 0 0];
+        Strict Extension "fpx" [560 Bytes 0 29 0 0];
         Strict Extension "gff" [755 Text 0 317 0 0];
         Strict Extension "jp2" [544 Bytes 156 0 158 0];
         Strict Extension "mako" [823 Text 0 136 0 0];
@@ -55,7 +55,7 @@ static SLOTS: [&[Key]; 16] = [
     ],
     keys![
         Strict Extension "apl" [660 Text 0 293 0 0];
-        Strict Extension "conffiles" [636 Text 317 0 14 0];
+        Strict Extension "conffiles" [636 Text 317 0 38 0];
         Strict Extension "jags" [684 Text 0 317 0 0];
         Strict Extension "sld" [921 Text 0 293 0 0];
     ],

@@ -19,7 +19,7 @@ static SLOTS: [&[Key]; 16] = [
         Strict Extension "djv" [557 Signature 82 0 81 0];
         Strict Extension "ly" [814 Text 0 270 0 0];
         Strict Extension "sqlproj" [358 Text 0 140 0 10];
-        Strict Extension "stp" [636 Text 317 0 14 0];
+        Strict Extension "stp" [636 Text 317 0 38 0];
     ],
     keys![
         Strict Extension "fea" [862 Text 0 317 0 0];
@@ -29,12 +29,12 @@ static SLOTS: [&[Key]; 16] = [
     keys![
         Strict Extension "leex" [727 Text 0 136 0 0];
         Strict Extension "mk3d" [1021 Signature 0 198 0 0];
-        Strict Extension "ppt" [132 Signature 265 30 0 0];
+        Strict Extension "ppt" [132 Signature 265 29 0 0];
         Strict Extension "tla" [967 Text 0 317 0 0];
     ],
     keys![
         Strict Extension "mermaid" [830 Text 0 317 0 0];
-        Loose Extension "pch" [390 Bytes 0 0 0 0] [636 Text 317 0 14 0];
+        Loose Extension "pch" [390 Bytes 0 0 0 0] [636 Text 317 0 38 0];
         Strict Extension "phpt" [869 Text 258 138 0 0];
         Strict Extension "podspec" [915 Text 283 293 0 0];
         Strict Extension "sig" [56 Nothing 297 254 0 0];
@@ -45,7 +45,7 @@ static SLOTS: [&[Key]; 16] = [
         Strict Extension "ckpt" [396 Bytes 0 354 0 0];
         Strict Extension "cmake" [696 Text 0 317 0 0];
         Strict Extension "fig" [607 Text 0 317 0 0];
-        Strict Extension "msm" [359 Signature 29 30 0 0];
+        Strict Extension "msm" [359 Signature 28 29 0 0];
         Strict Extension "puppet" [888 Text 0 317 0 0];
     ],
     keys![],
@@ -57,7 +57,7 @@ static SLOTS: [&[Key]; 16] = [
         Strict Extension "tar.lzma" [340 Signature 0 184 0 0];
     ],
     keys![
-        Loose Extension "gpg" [54 Text 38 0 0 0] [53 Text 257 0 0 0] [55 Bytes 117 0 0 0];
+        Loose Extension "gpg" [54 Text 37 0 0 0] [53 Text 257 0 0 0] [55 Bytes 117 0 0 0];
         Strict Extension "md5sum" [693 Text 0 317 0 0];
         Strict Extension "odt" [162 Signature 227 354 243 0];
         Strict Extension "sha384" [693 Text 0 317 0 0];
@@ -80,7 +80,7 @@ static SLOTS: [&[Key]; 16] = [
         Strict Extension "tga" [603 Bytes 0 0 0 0];
     ],
     keys![
-        Strict Whole "fstab" [636 Text 317 0 14 0];
+        Strict Whole "fstab" [636 Text 317 0 38 0];
         Strict Extension "opml" [863 Text 235 140 0 10];
         Strict Whole "package-lock.json" [29 Text 160 0 0 0];
         Strict Extension "pri" [892 Text 0 317 0 0];

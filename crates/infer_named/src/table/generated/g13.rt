@@ -14,7 +14,7 @@ static SLOTS: [&[Key]; 16] = [
     ],
     keys![
         Strict Extension "luks" [333 Signature 179 0 0 0];
-        Strict Extension "mpp" [136 Signature 0 30 0 0];
+        Strict Extension "mpp" [136 Signature 0 29 0 0];
         Strict Extension "odf" [151 Signature 220 354 0 0];
         Strict Extension "phtml" [869 Text 258 138 0 0];
         Strict Extension "xq" [476 Text 0 318 0 0];
@@ -48,7 +48,7 @@ static SLOTS: [&[Key]; 16] = [
         Strict Extension "axaml" [469 Text 0 140 0 10];
         Strict Extension "cginc" [777 Text 0 317 0 0];
         Strict Extension "icc" [114 Bytes 142 0 0 0];
-        Loose Extension "lib" [442 Signature 34 0 72 0];
+        Loose Extension "lib" [442 Signature 33 0 72 0];
         Strict Extension "td" [959 Text 0 317 0 0];
         Strict Extension "zim" [375 Bytes 353 0 0 0];
     ],
@@ -70,11 +70,11 @@ static SLOTS: [&[Key]; 16] = [
         Strict Extension "fish" [267 Text 0 293 0 0];
         Strict Extension "gs" [751 Text 0 317 0 0];
         Strict Extension "n64" [363 Bytes 213 0 0 0];
-        Loose Extension "re" [636 Text 317 0 14 0];
+        Loose Extension "re" [636 Text 317 0 38 0];
     ],
     keys![
         Strict Whole "dune-project" [723 Text 0 317 0 0];
-        Strict Extension "e" [636 Text 317 0 14 0];
+        Strict Extension "e" [636 Text 317 0 38 0];
         Strict Extension "nix" [851 Text 0 293 0 0];
         Strict Extension "scm" [921 Text 0 293 0 0];
     ],
@@ -96,9 +96,9 @@ static SLOTS: [&[Key]; 16] = [
         Strict Extension "step" [617 Text 0 317 0 0];
     ],
     keys![
-        Strict Extension "awb" [484 Signature 19 0 0 0];
+        Strict Extension "awb" [484 Signature 18 0 0 0];
         Strict Extension "csr" [57 Bytes 0 77 0 0];
-        Strict Whole "known_hosts" [636 Text 317 0 14 0];
+        Strict Whole "known_hosts" [636 Text 317 0 38 0];
         Strict Extension "mov" [1012 Bytes 205 207 0 0];
         Strict Extension "pat" [578 Bytes 249 0 0 0];
         Strict Whole "sha512sums" [693 Text 0 317 0 0];

@@ -28,12 +28,12 @@ static SLOTS: [&[Key]; 16] = [
     keys![
         Strict Extension "krz" [325 Signature 171 354 0 0];
         Strict Extension "rtf" [70 Text 287 0 0 0];
-        Strict Extension "xlc" [124 Bytes 346 30 0 0];
+        Strict Extension "xlc" [124 Bytes 346 29 0 0];
     ],
     keys![
         Strict Whole "devcontainer.json" [320 Text 0 317 160 0];
         Strict Extension "psd" [556 Signature 271 0 0 0];
-        Strict Whole "thanks" [636 Text 317 0 14 0];
+        Strict Whole "thanks" [636 Text 317 0 38 0];
         Strict Extension "vhdl" [984 Text 0 317 0 0];
     ],
     keys![
@@ -78,13 +78,13 @@ static SLOTS: [&[Key]; 16] = [
         Strict Extension "crx" [292 Bytes 68 0 0 0];
         Strict Extension "heex" [727 Text 0 136 0 0];
         Strict Extension "krl" [805 Text 0 317 0 0];
-        Strict Extension "symbols" [636 Text 317 0 14 0];
+        Strict Extension "symbols" [636 Text 317 0 38 0];
     ],
     keys![
         Strict Extension "cocci" [698 Text 0 317 0 0];
         Strict Extension "kmz" [112 Signature 169 354 0 0];
-        Loose Extension "map" [75 Text 0 160 0 0] [636 Text 317 0 14 0];
-        Strict Whole "requirements-dev.txt" [636 Text 317 0 14 0];
+        Loose Extension "map" [75 Text 0 160 0 0] [636 Text 317 0 38 0];
+        Strict Whole "requirements-dev.txt" [636 Text 317 0 38 0];
     ],
     keys![],
     keys![

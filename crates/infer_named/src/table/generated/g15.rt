@@ -28,16 +28,16 @@ static SLOTS: [&[Key]; 16] = [
     keys![
         Strict Extension "dpr" [865 Text 0 317 0 0];
         Strict Extension "gbp" [752 Text 0 317 0 0];
-        Strict Extension "txt" [636 Text 317 0 14 0];
+        Strict Extension "txt" [636 Text 317 0 38 0];
         Strict Extension "xaml" [469 Text 0 140 0 10];
     ],
     keys![
         Strict Extension "cmx" [232 Bytes 0 93 0 0];
         Strict Extension "dwg" [558 Signature 91 0 0 0];
         Strict Extension "kml" [111 Text 168 141 0 10];
-        Strict Extension "potm" [135 Signature 0 31 0 0];
-        Strict Extension "pptm" [133 Signature 0 31 0 0];
-        Strict Extension "text" [636 Text 317 0 14 0];
+        Strict Extension "potm" [135 Signature 0 30 0 0];
+        Strict Extension "pptm" [133 Signature 0 30 0 0];
+        Strict Extension "text" [636 Text 317 0 38 0];
     ],
     keys![
         Strict Extension "bz2" [228 Signature 55 0 0 0];
@@ -84,7 +84,7 @@ static SLOTS: [&[Key]; 16] = [
     keys![
         Strict Extension "fsi" [746 Text 0 317 0 0];
         Strict Extension "pom" [826 Text 0 140 0 10];
-        Loose Extension "tst" [857 Text 0 268 0 0] [636 Text 317 0 14 0];
+        Loose Extension "tst" [857 Text 0 268 0 0] [636 Text 317 0 38 0];
     ],
     keys![
         Loose Extension "3ds" [567 Bytes 1 0 0 0];
@@ -94,7 +94,7 @@ static SLOTS: [&[Key]; 16] = [
         Strict Extension "tzst" [468 Signature 0 355 0 0];
     ],
     keys![
-        Loose Extension "com" [234 Bytes 0 100 0 0] [636 Text 317 0 14 0];
+        Loose Extension "com" [234 Bytes 0 100 0 0] [636 Text 317 0 38 0];
         Strict Extension "swo" [450 Bytes 0 0 0 0];
         Strict Extension "vim" [985 Text 0 317 0 0];
     ],
@@ -103,7 +103,7 @@ static SLOTS: [&[Key]; 16] = [
         Strict Extension "ivy" [207 Text 0 140 0 10];
         Strict Extension "pdd" [556 Signature 271 0 0 0];
         Strict Extension "ps" [64 Text 268 317 97 2];
-        Strict Whole "thumbs.db" [438 Signature 0 30 0 0];
+        Strict Whole "thumbs.db" [438 Signature 0 29 0 0];
     ],
 ];
 

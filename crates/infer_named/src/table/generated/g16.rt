@@ -25,10 +25,10 @@ static SLOTS: [&[Key]; 16] = [
     ],
     keys![
         Strict Extension "bbclass" [679 Text 0 317 0 0];
-        Strict Extension "cfg" [636 Text 317 0 14 0];
+        Strict Extension "cfg" [636 Text 317 0 38 0];
         Strict Extension "flf" [992 Text 0 317 0 0];
         Strict Whole "guardfile" [915 Text 283 293 0 0];
-        Strict Whole "requirements.txt" [636 Text 317 0 14 0];
+        Strict Whole "requirements.txt" [636 Text 317 0 38 0];
     ],
     keys![
         Strict Extension "accdb" [356 Signature 11 0 0 0];
@@ -40,7 +40,7 @@ static SLOTS: [&[Key]; 16] = [
         Strict Extension "spl" [449 Bytes 0 0 0 0] [416 Signature 305 0 0 0];
     ],
     keys![
-        Strict Extension "config" [636 Text 317 0 14 0];
+        Strict Extension "config" [636 Text 317 0 38 0];
         Strict Extension "dmg" [210 Bytes 0 0 0 0];
         Strict Extension "gsf" [272 Text 255 270 0 0];
         Strict Extension "mkdn" [632 Text 0 136 0 0];
@@ -58,7 +58,7 @@ static SLOTS: [&[Key]; 16] = [
         Strict Extension "vsdm" [139 Signature 0 328 0 0];
     ],
     keys![
-        Strict Whole "bugs" [636 Text 317 0 14 0];
+        Strict Whole "bugs" [636 Text 317 0 38 0];
         Strict Extension "h" [692 Text 0 317 350 0];
         Strict Extension "mht" [624 Text 0 317 0 0];
         Strict Extension "newick" [845 Text 0 317 0 0];
@@ -79,13 +79,13 @@ static SLOTS: [&[Key]; 16] = [
     keys![
         Strict Extension "blade.php" [680 Text 0 136 0 0];
         Strict Extension "cuh" [709 Text 0 317 0 0];
-        Strict Extension "dsp" [636 Text 317 0 14 0];
+        Strict Extension "dsp" [636 Text 317 0 38 0];
     ],
     keys![],
     keys![
         Strict Extension "dar" [213 Bytes 0 0 0 0];
         Strict Extension "factor" [736 Text 0 293 0 0];
-        Strict Extension "fx" [636 Text 317 0 14 0];
+        Strict Extension "fx" [636 Text 317 0 38 0];
         Strict Extension "pem" [460 Text 254 317 39 0];
         Strict Extension "rmd" [908 Text 0 136 0 0];
     ],
@@ -93,7 +93,7 @@ static SLOTS: [&[Key]; 16] = [
         Strict Whole ".classpath" [255 Text 0 140 0 10];
         Strict Extension "avi" [1024 Signature 44 0 0 0];
         Strict Extension "changes" [715 Text 0 317 0 0];
-        Strict Extension "feather" [92 Bytes 36 0 0 0];
+        Strict Extension "feather" [92 Bytes 35 0 0 0];
         Strict Whole "kconfig" [802 Text 0 317 0 0];
     ],
 ];

@@ -8,7 +8,7 @@ use crate::table::{Asks, Key, Part, Reading, is_loose, keys};
 static SLOTS: [&[Key]; 16] = [
     keys![
         Strict Extension "hsc" [773 Text 0 293 0 0];
-        Loose Extension "pgp" [54 Text 38 0 0 0] [53 Text 257 0 0 0] [55 Bytes 117 0 0 0];
+        Loose Extension "pgp" [54 Text 37 0 0 0] [53 Text 257 0 0 0] [55 Bytes 117 0 0 0];
         Strict Extension "povray" [388 Text 0 317 0 0];
         Strict Extension "sas7bdat" [408 Bytes 0 0 0 0];
         Strict Extension "sublime-project" [320 Text 0 317 160 0];

@@ -17,14 +17,14 @@ static SLOTS: [&[Key]; 16] = [
     ],
     keys![
         Strict Whole "config.sub" [930 Text 292 317 0 0];
-        Strict Whole "credits" [636 Text 317 0 14 0];
+        Strict Whole "credits" [636 Text 317 0 38 0];
         Strict Extension "epp" [888 Text 0 317 0 0];
         Strict Extension "epub" [12 Signature 98 354 0 0];
         Strict Extension "m4a" [487 Bytes 187 190 0 0];
         Strict Extension "wp5" [192 Bytes 0 0 0 0];
     ],
     keys![
-        Strict Whole ".netrc" [636 Text 317 0 14 0];
+        Strict Whole ".netrc" [636 Text 317 0 38 0];
         Strict Whole "configure" [930 Text 292 317 0 0];
         Strict Extension "reg" [843 Text 0 317 0 0];
         Strict Extension "sco" [707 Text 0 293 0 0];
@@ -37,7 +37,7 @@ static SLOTS: [&[Key]; 16] = [
         Strict Extension "nc" [367 Bytes 0 128 0 0];
         Strict Extension "pde" [686 Text 0 317 0 0];
         Strict Extension "vpc" [447 Bytes 322 0 0 0];
-        Strict Extension "xls" [124 Bytes 346 30 0 0];
+        Strict Extension "xls" [124 Bytes 346 29 0 0];
     ],
     keys![
         Strict Extension "gschema.xml" [294 Text 0 140 0 10];
@@ -49,7 +49,7 @@ static SLOTS: [&[Key]; 16] = [
     ],
     keys![
         Strict Extension "ac" [667 Text 0 317 0 0];
-        Strict Extension "ipc" [92 Bytes 36 0 0 0];
+        Strict Extension "ipc" [92 Bytes 35 0 0 0];
         Strict Extension "pest" [724 Text 0 317 0 0];
         Strict Extension "rbx" [915 Text 283 293 0 0];
     ],

@@ -7,12 +7,12 @@ use crate::table::{Asks, Key, Part, Reading, is_loose, keys};
 
 static SLOTS: [&[Key]; 16] = [
     keys![
-        Strict Extension "amr" [484 Signature 19 0 0 0];
+        Strict Extension "amr" [484 Signature 18 0 0 0];
         Strict Extension "fits" [537 Signature 105 0 0 0];
         Strict Extension "gyp" [891 Text 274 163 0 0];
         Strict Extension "pck" [289 Bytes 0 0 0 0];
         Strict Extension "warc" [195 Signature 331 0 0 0];
-        Strict Extension "xapk" [208 Signature 0 23 0 0];
+        Strict Extension "xapk" [208 Signature 0 22 0 0];
     ],
     keys![
         Strict Whole "cmakelists.txt" [696 Text 0 317 0 0];
@@ -21,7 +21,7 @@ static SLOTS: [&[Key]; 16] = [
         Strict Whole "cargo.lock" [82 Text 0 317 0 0];
         Strict Extension "cwl" [710 Text 0 164 0 0];
         Strict Extension "kdenlive" [322 Text 0 140 0 10];
-        Strict Extension "msp" [359 Signature 29 30 0 0];
+        Strict Extension "msp" [359 Signature 28 29 0 0];
         Strict Extension "pyo" [393 Bytes 276 0 0 0];
     ],
     keys![
@@ -35,14 +35,14 @@ static SLOTS: [&[Key]; 16] = [
         Strict Extension "bi" [673 Text 0 317 0 0];
         Strict Extension "dimacs" [717 Text 0 317 0 0];
         Strict Extension "ml4" [856 Text 0 293 0 0];
-        Strict Extension "nfo" [636 Text 317 0 14 0];
+        Strict Extension "nfo" [636 Text 317 0 38 0];
         Strict Extension "wxl" [456 Text 0 140 0 10];
     ],
     keys![
         Strict Extension "aidl" [655 Text 0 317 0 0];
         Strict Whole "doxyfile" [702 Text 0 317 0 0];
         Strict Extension "iso" [231 Bytes 0 0 0 0];
-        Strict Whole "metadata" [636 Text 317 0 14 0];
+        Strict Whole "metadata" [636 Text 317 0 38 0];
         Strict Extension "sublime-build" [320 Text 0 317 160 0];
     ],
     keys![
@@ -52,7 +52,7 @@ static SLOTS: [&[Key]; 16] = [
         Strict Extension "svh" [955 Text 0 317 0 0];
     ],
     keys![
-        Strict Extension "conf" [636 Text 317 0 14 0];
+        Strict Extension "conf" [636 Text 317 0 38 0];
         Strict Extension "dsc" [715 Text 0 317 0 0];
         Strict Extension "nomad" [775 Text 0 317 0 0];
         Strict Extension "plist" [386 Text 261 318 0 0] [224 Signature 54 0 0 0];
@@ -68,7 +68,7 @@ static SLOTS: [&[Key]; 16] = [
         Strict Extension "dae" [619 Text 0 140 0 10];
         Strict Extension "perl" [868 Text 260 293 0 0];
         Strict Extension "sha512sum" [693 Text 0 317 0 0];
-        Strict Whole "sudoers" [636 Text 317 0 14 0];
+        Strict Whole "sudoers" [636 Text 317 0 38 0];
     ],
     keys![
         Strict Extension "crl" [63 Bytes 67 77 0 0];
@@ -85,7 +85,7 @@ static SLOTS: [&[Key]; 16] = [
         Strict Extension "shp" [179 Signature 294 0 295 0];
     ],
     keys![
-        Strict Whole ".wgetrc" [636 Text 317 0 14 0];
+        Strict Whole ".wgetrc" [636 Text 317 0 38 0];
         Strict Extension "asm" [663 Text 0 317 0 0];
         Strict Extension "lark" [724 Text 0 317 0 0];
         Strict Extension "p10" [57 Bytes 0 77 0 0];

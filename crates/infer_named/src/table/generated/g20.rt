@@ -12,11 +12,11 @@ static SLOTS: [&[Key]; 16] = [
         Strict Extension "cif" [525 Text 0 317 0 0];
         Strict Extension "scope" [958 Text 0 317 0 0];
         Strict Extension "ssjs" [631 Text 115 163 0 0];
-        Strict Extension "vcf" [644 Text 320 0 0 0] [636 Text 317 0 14 0];
+        Strict Extension "vcf" [644 Text 320 0 0 0] [636 Text 317 0 38 0];
     ],
     keys![
         Strict Extension "ipr" [306 Text 0 140 0 10];
-        Strict Whole "news" [636 Text 317 0 14 0];
+        Strict Whole "news" [636 Text 317 0 38 0];
         Strict Extension "txtpb" [965 Text 0 317 0 0];
     ],
     keys![
@@ -33,7 +33,7 @@ static SLOTS: [&[Key]; 16] = [
     ],
     keys![
         Strict Extension "cml" [233 Text 0 140 0 10];
-        Strict Whole "constraints.txt" [636 Text 317 0 14 0];
+        Strict Whole "constraints.txt" [636 Text 317 0 38 0];
         Strict Extension "sam" [917 Text 0 317 0 0];
         Strict Extension "tsv" [639 Text 0 317 0 0];
         Strict Extension "vstx" [142 Signature 0 328 0 0];
@@ -46,7 +46,7 @@ static SLOTS: [&[Key]; 16] = [
         Strict Extension "wp6" [192 Bytes 0 0 0 0];
     ],
     keys![
-        Strict Extension "a" [442 Signature 34 0 72 0] [808 Text 0 317 0 7];
+        Strict Extension "a" [442 Signature 33 0 72 0] [808 Text 0 317 0 7];
         Strict Extension "fun" [937 Text 0 317 0 0];
         Strict Extension "mks" [1020 Signature 198 0 334 0];
         Strict Extension "proto" [884 Text 0 317 0 0];
@@ -57,7 +57,7 @@ static SLOTS: [&[Key]; 16] = [
         Strict Extension "hdr" [563 Bytes 129 0 0 0];
         Strict Extension "mobileconfig" [259 Text 0 262 0 10];
         Strict Extension "pdf" [52 Signature 253 0 0 0];
-        Strict Extension "xlt" [124 Bytes 346 30 0 0];
+        Strict Extension "xlt" [124 Bytes 346 29 0 0];
     ],
     keys![
         Strict Extension "glslv" [762 Text 0 317 0 0];
@@ -81,11 +81,11 @@ static SLOTS: [&[Key]; 16] = [
     ],
     keys![
         Strict Extension "ftlh" [745 Text 0 136 0 0];
-        Strict Whole "hacking" [636 Text 317 0 14 0];
+        Strict Whole "hacking" [636 Text 317 0 38 0];
         Strict Extension "mib" [834 Text 0 317 0 0];
     ],
     keys![
-        Strict Extension "list" [636 Text 317 0 14 0];
+        Strict Extension "list" [636 Text 317 0 38 0];
         Strict Extension "tcsh" [239 Text 0 293 0 0];
     ],
     keys![

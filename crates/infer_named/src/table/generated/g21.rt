@@ -8,12 +8,12 @@ use crate::table::{Asks, Key, Part, Reading, is_loose, keys};
 static SLOTS: [&[Key]; 16] = [
     keys![
         Strict Extension "safetensors" [407 Signature 289 0 0 0];
-        Loose Extension "st" [636 Text 317 0 14 0];
+        Loose Extension "st" [636 Text 317 0 38 0];
     ],
     keys![
         Strict Extension "anim" [976 Text 0 317 0 0];
         Strict Whole "pom.xml" [826 Text 0 140 0 10];
-        Strict Extension "templates" [636 Text 317 0 14 0];
+        Strict Extension "templates" [636 Text 317 0 38 0];
     ],
     keys![
         Strict Extension "sieve" [931 Text 0 293 0 0];
@@ -56,9 +56,9 @@ static SLOTS: [&[Key]; 16] = [
     ],
     keys![
         Strict Extension "lrz" [331 Bytes 176 0 0 0];
-        Strict Extension "png" [551 Signature 263 0 24 0];
+        Strict Extension "png" [551 Signature 263 0 23 0];
         Strict Extension "rchit" [762 Text 0 317 0 0];
-        Strict Extension "triggers" [636 Text 317 0 14 0];
+        Strict Extension "triggers" [636 Text 317 0 38 0];
         Strict Extension "wdl" [989 Text 0 317 0 0];
         Strict Extension "wxm" [827 Text 0 317 0 0];
     ],

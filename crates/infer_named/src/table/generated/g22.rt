@@ -7,21 +7,21 @@ use crate::table::{Asks, Key, Part, Reading, is_loose, keys};
 
 static SLOTS: [&[Key]; 16] = [
     keys![
-        Strict Whole "maintainers" [636 Text 317 0 14 0];
+        Strict Whole "maintainers" [636 Text 317 0 38 0];
         Strict Extension "smc" [148 Bytes 0 0 0 0];
     ],
     keys![
-        Strict Extension "appimage" [94 Signature 25 92 0 0];
-        Strict Whole "authors" [636 Text 317 0 14 0];
+        Strict Extension "appimage" [94 Signature 24 92 0 0];
+        Strict Whole "authors" [636 Text 317 0 38 0];
         Strict Extension "ctp" [869 Text 258 138 0 0];
-        Strict Extension "mpt" [136 Signature 0 30 0 0];
+        Strict Extension "mpt" [136 Signature 0 29 0 0];
         Strict Extension "uris" [642 Text 0 317 0 0];
     ],
     keys![
         Strict Extension "asn" [664 Text 0 317 0 0];
         Strict Extension "ect" [729 Text 0 136 0 0];
         Strict Extension "gz" [22 Signature 121 0 170 0];
-        Strict Whole "installer" [636 Text 317 0 14 0];
+        Strict Whole "installer" [636 Text 317 0 38 0];
         Strict Extension "pig" [871 Text 0 317 0 0];
         Strict Extension "rl" [896 Text 0 317 0 0];
         Strict Extension "vue" [986 Text 0 136 0 0];
@@ -47,7 +47,7 @@ static SLOTS: [&[Key]; 16] = [
         Strict Extension "mustache" [772 Text 0 136 0 0];
         Strict Extension "pfx" [58 Bytes 245 0 0 0];
         Strict Extension "pm" [868 Text 260 293 0 0];
-        Strict Extension "xlsx" [170 Signature 347 33 0 0];
+        Strict Extension "xlsx" [170 Signature 347 32 0 0];
     ],
     keys![],
     keys![
@@ -72,7 +72,7 @@ static SLOTS: [&[Key]; 16] = [
         Strict Extension "lo" [373 Signature 217 92 0 0];
     ],
     keys![
-        Strict Extension "aab" [208 Signature 0 23 0 0];
+        Strict Extension "aab" [208 Signature 0 22 0 0];
         Strict Extension "dotm" [144 Signature 0 86 0 0];
         Strict Extension "p7s" [60 Signature 0 75 0 0];
         Strict Extension "psv" [885 Text 0 317 0 0];

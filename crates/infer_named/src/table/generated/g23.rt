@@ -34,14 +34,14 @@ static SLOTS: [&[Key]; 16] = [
         Strict Extension "pls" [517 Text 0 317 0 0];
     ],
     keys![
-        Strict Extension "fr" [636 Text 317 0 14 0];
+        Strict Extension "fr" [636 Text 317 0 38 0];
         Strict Extension "ilbm" [581 Bytes 146 0 0 0];
         Strict Whole "ntuser.dat" [353 Bytes 0 0 0 0];
         Strict Extension "wim" [355 Signature 337 0 0 0];
     ],
     keys![
-        Loose Extension "cls" [636 Text 317 0 14 0];
-        Strict Extension "d" [636 Text 317 0 14 0];
+        Loose Extension "cls" [636 Text 317 0 38 0];
+        Strict Extension "d" [636 Text 317 0 38 0];
         Strict Extension "tscn" [291 Text 0 317 0 0];
     ],
     keys![
@@ -55,11 +55,11 @@ static SLOTS: [&[Key]; 16] = [
     ],
     keys![
         Strict Extension "rebol" [902 Text 0 317 0 0];
-        Strict Extension "wb1" [401 Bytes 0 30 0 0];
+        Strict Extension "wb1" [401 Bytes 0 29 0 0];
         Strict Extension "xpm" [608 Text 350 317 0 0];
     ],
     keys![
-        Strict Extension "manifest" [636 Text 317 0 14 0];
+        Strict Extension "manifest" [636 Text 317 0 38 0];
         Strict Extension "pwn" [867 Text 0 317 0 0];
         Strict Extension "sqlite3" [183 Signature 300 0 118 0];
     ],
@@ -77,15 +77,15 @@ static SLOTS: [&[Key]; 16] = [
     keys![
         Strict Extension "gni" [763 Text 0 317 0 0];
         Strict Extension "target" [958 Text 0 317 0 0];
-        Strict Extension "tpl" [636 Text 317 0 14 0];
+        Strict Extension "tpl" [636 Text 317 0 38 0];
     ],
     keys![
         Strict Extension "atomcat" [2 Text 0 140 0 10];
         Loose Extension "mat" [346 Bytes 0 128 0 0];
-        Strict Extension "tmpl" [636 Text 317 0 14 0];
+        Strict Extension "tmpl" [636 Text 317 0 38 0];
     ],
     keys![
-        Strict Extension "docx" [172 Signature 85 33 0 0];
+        Strict Extension "docx" [172 Signature 85 32 0 0];
         Strict Extension "kts" [804 Text 0 293 0 0];
         Strict Extension "tikz" [962 Text 0 270 0 0];
     ],

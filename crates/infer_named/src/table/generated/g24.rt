@@ -28,7 +28,7 @@ static SLOTS: [&[Key]; 16] = [
         Strict Extension "smd" [280 Bytes 0 0 0 0];
     ],
     keys![
-        Strict Extension "alz" [204 Bytes 18 0 0 0];
+        Strict Extension "alz" [204 Bytes 17 0 0 0];
         Strict Extension "boot" [695 Text 0 293 0 0];
         Strict Extension "m4r" [487 Bytes 187 190 0 0];
     ],
@@ -42,7 +42,7 @@ static SLOTS: [&[Key]; 16] = [
         Strict Extension "url" [360 Text 0 317 0 0];
     ],
     keys![
-        Strict Extension "aifc" [500 Signature 16 17 0 0];
+        Strict Extension "aifc" [500 Signature 15 16 0 0];
         Strict Extension "eex" [727 Text 0 136 0 0];
         Strict Extension "gmo" [281 Signature 202 0 0 0];
     ],
@@ -71,12 +71,12 @@ static SLOTS: [&[Key]; 16] = [
         Strict Extension "tsx" [969 Text 0 317 0 0];
     ],
     keys![
-        Strict Whole ".curlrc" [636 Text 317 0 14 0];
-        Strict Whole ".yarnrc" [636 Text 317 0 14 0];
+        Strict Whole ".curlrc" [636 Text 317 0 38 0];
+        Strict Whole ".yarnrc" [636 Text 317 0 38 0];
         Strict Extension "eps" [573 Text 95 268 0 0];
         Strict Extension "mlir" [836 Text 0 317 0 0];
         Strict Extension "mpg" [1010 Bytes 209 0 0 0];
-        Strict Whole "ssh_config" [636 Text 317 0 14 0];
+        Strict Whole "ssh_config" [636 Text 317 0 38 0];
     ],
     keys![
         Strict Whole ".prettierignore" [760 Text 0 317 0 0];
@@ -89,7 +89,7 @@ static SLOTS: [&[Key]; 16] = [
     ],
     keys![
         Strict Extension "heif" [542 Signature 133 45 130 0];
-        Strict Extension "inc" [636 Text 317 0 14 0];
+        Strict Extension "inc" [636 Text 317 0 38 0];
         Strict Extension "meta4" [38 Text 195 140 0 10];
         Strict Extension "pxi" [712 Text 0 293 0 0];
     ],

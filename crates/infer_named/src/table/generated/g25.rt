@@ -8,7 +8,7 @@ use crate::table::{Asks, Key, Part, Reading, is_loose, keys};
 static SLOTS: [&[Key]; 16] = [
     keys![
         Strict Extension "aac" [482 Bytes 10 0 0 0];
-        Strict Whole "contributors" [636 Text 317 0 14 0];
+        Strict Whole "contributors" [636 Text 317 0 38 0];
         Strict Whole "nginx.conf" [848 Text 0 317 0 0];
         Strict Extension "uml" [993 Text 0 140 0 10];
     ],
@@ -31,16 +31,16 @@ static SLOTS: [&[Key]; 16] = [
         Strict Extension "hxml" [304 Text 0 317 0 0];
         Strict Extension "mpga" [489 Bytes 206 0 0 0];
         Strict Extension "vtl" [645 Text 0 136 0 0];
-        Strict Extension "xlam" [125 Signature 0 32 0 0];
+        Strict Extension "xlam" [125 Signature 0 31 0 0];
     ],
     keys![
         Strict Extension "mid" [488 Signature 196 0 0 0];
-        Loose Extension "sp" [636 Text 317 0 14 0];
+        Loose Extension "sp" [636 Text 317 0 38 0];
         Loose Extension "sub" [952 Text 0 317 0 0];
     ],
     keys![
-        Strict Whole ".gemrc" [636 Text 317 0 14 0];
-        Strict Whole ".npmrc" [636 Text 317 0 14 0];
+        Strict Whole ".gemrc" [636 Text 317 0 38 0];
+        Strict Whole ".npmrc" [636 Text 317 0 38 0];
         Strict Whole ".vimrc" [985 Text 0 317 0 0];
         Strict Whole "apkbuild" [930 Text 292 317 0 0];
         Strict Extension "fa" [737 Text 0 317 0 0];
@@ -49,7 +49,7 @@ static SLOTS: [&[Key]; 16] = [
     keys![
         Strict Extension "ext2" [264 Bytes 102 0 0 0];
         Strict Extension "faa" [737 Text 0 317 0 0];
-        Strict Extension "q" [636 Text 317 0 14 0];
+        Strict Extension "q" [636 Text 317 0 38 0];
         Strict Extension "scala" [920 Text 0 293 0 0];
         Strict Extension "scd" [953 Text 0 317 0 0];
         Strict Extension "urdf" [444 Text 0 140 0 10];
@@ -77,19 +77,19 @@ static SLOTS: [&[Key]; 16] = [
         Strict Extension "bc" [328 Signature 48 0 0 0] [675 Text 0 317 0 0];
         Strict Extension "dxf" [559 Text 0 317 0 0];
         Strict Extension "jpc" [582 Bytes 148 0 0 0];
-        Strict Extension "rlib" [406 Signature 0 34 0 0];
+        Strict Extension "rlib" [406 Signature 0 33 0 0];
         Strict Extension "sbx" [413 Bytes 0 0 0 0];
-        Strict Extension "wb2" [401 Bytes 0 30 0 0];
+        Strict Extension "wb2" [401 Bytes 0 29 0 0];
     ],
     keys![
         Strict Extension "br" [5 Bytes 0 0 0 0];
         Strict Extension "md" [632 Text 0 136 0 0];
     ],
     keys![
-        Strict Extension "dist" [636 Text 317 0 14 0];
+        Strict Extension "dist" [636 Text 317 0 38 0];
         Strict Extension "fbx" [265 Bytes 0 317 0 0];
         Strict Extension "gschema" [294 Text 0 140 0 10];
-        Loose Extension "ms" [636 Text 317 0 14 0];
+        Loose Extension "ms" [636 Text 317 0 38 0];
         Strict Extension "rake" [915 Text 283 293 0 0];
         Strict Extension "slim" [932 Text 0 317 0 0];
     ],

@@ -27,7 +27,7 @@ static SLOTS: [&[Key]; 16] = [
     keys![
         Strict Extension "a51" [663 Text 0 317 0 0];
         Strict Extension "dsf" [505 Signature 87 0 0 0];
-        Strict Extension "g" [636 Text 317 0 14 0];
+        Strict Extension "g" [636 Text 317 0 38 0];
         Strict Extension "ged" [646 Text 0 317 0 0];
         Strict Extension "hcl" [775 Text 0 317 0 0];
         Strict Extension "hwpx" [303 Bytes 0 354 0 0];
@@ -39,8 +39,8 @@ static SLOTS: [&[Key]; 16] = [
         Strict Extension "cpl" [119 Signature 100 0 0 0];
         Strict Extension "gts" [752 Text 0 317 0 0];
         Strict Extension "otg" [154 Signature 240 222 0 0];
-        Strict Extension "pro" [636 Text 317 0 14 0];
-        Strict Extension "qpw" [401 Bytes 0 30 0 0];
+        Strict Extension "pro" [636 Text 317 0 38 0];
+        Strict Extension "qpw" [401 Bytes 0 29 0 0];
     ],
     keys![
         Strict Extension "chpl" [691 Text 0 293 0 0];
@@ -57,7 +57,7 @@ static SLOTS: [&[Key]; 16] = [
     keys![
         Strict Whole ".jscsrc" [320 Text 0 317 160 0];
         Strict Extension "launch" [255 Text 0 140 0 10];
-        Strict Extension "vsd" [190 Signature 326 30 0 0];
+        Strict Extension "vsd" [190 Signature 326 29 0 0];
     ],
     keys![
         Strict Extension "3pm" [640 Text 0 317 0 0];
@@ -76,11 +76,11 @@ static SLOTS: [&[Key]; 16] = [
         Strict Extension "mawk" [671 Text 47 293 0 0];
     ],
     keys![
-        Strict Extension "aar" [206 Signature 0 23 0 0];
+        Strict Extension "aar" [206 Signature 0 22 0 0];
         Strict Extension "pkl" [394 Bytes 0 0 0 0];
     ],
     keys![
-        Strict Extension "asar" [215 Bytes 37 0 0 0];
+        Strict Extension "asar" [215 Bytes 36 0 0 0];
         Strict Extension "cxx" [686 Text 0 317 0 0];
         Strict Extension "ny" [699 Text 0 293 0 0];
     ],
@@ -92,7 +92,7 @@ static SLOTS: [&[Key]; 16] = [
         Strict Extension "zone" [718 Text 0 317 0 0];
     ],
     keys![
-        Strict Whole "authorized_keys" [636 Text 317 0 14 0];
+        Strict Whole "authorized_keys" [636 Text 317 0 38 0];
         Strict Extension "textile" [964 Text 0 317 0 0];
         Strict Extension "tfstate" [432 Text 0 160 0 0];
     ],

@@ -31,7 +31,7 @@ static SLOTS: [&[Key]; 16] = [
     ],
     keys![
         Strict Extension "cbor" [7 Bytes 0 0 0 0];
-        Strict Extension "xlw" [124 Bytes 346 30 0 0];
+        Strict Extension "xlw" [124 Bytes 346 29 0 0];
     ],
     keys![
         Strict Extension "jsa" [319 Bytes 0 0 0 0];
@@ -40,7 +40,7 @@ static SLOTS: [&[Key]; 16] = [
         Strict Extension "xsl" [477 Text 0 140 0 10];
     ],
     keys![
-        Strict Extension "ppsx" [168 Signature 0 31 0 0];
+        Strict Extension "ppsx" [168 Signature 0 30 0 0];
         Strict Extension "rnc" [68 Text 0 317 0 0];
         Strict Extension "sttheme" [437 Text 0 162 0 10];
     ],
@@ -86,7 +86,7 @@ static SLOTS: [&[Key]; 16] = [
         Strict Extension "zon" [998 Text 0 293 0 0];
     ],
     keys![
-        Strict Extension "ape" [502 Signature 21 0 0 0];
+        Strict Extension "ape" [502 Signature 20 0 0 0];
         Strict Extension "idr" [782 Text 0 317 0 0];
         Strict Extension "rhtml" [260 Text 0 136 0 0];
         Strict Extension "wpd" [192 Bytes 0 0 0 0];
@@ -97,12 +97,12 @@ static SLOTS: [&[Key]; 16] = [
     keys![
         Strict Whole ".gitconfig" [759 Text 0 317 0 0];
         Strict Extension "7ssl" [640 Text 0 317 0 0];
-        Strict Extension "apks" [208 Signature 0 23 0 0];
+        Strict Extension "apks" [208 Signature 0 22 0 0];
         Strict Extension "jinja" [797 Text 0 136 0 0];
         Strict Extension "moon" [841 Text 0 293 0 0];
         Strict Extension "sublime-commands" [320 Text 0 317 160 0];
         Strict Extension "tres" [290 Text 0 317 0 0];
-        Strict Extension "wb3" [401 Bytes 0 30 0 0];
+        Strict Extension "wb3" [401 Bytes 0 29 0 0];
     ],
 ];
 

@@ -31,13 +31,13 @@ static SLOTS: [&[Key]; 16] = [
         Strict Extension "cer" [62 Bytes 0 77 0 0];
         Strict Extension "php4" [869 Text 258 138 0 0];
         Strict Extension "smt" [938 Text 0 317 0 0];
-        Strict Extension "vss" [190 Signature 326 30 0 0];
+        Strict Extension "vss" [190 Signature 326 29 0 0];
     ],
     keys![
         Strict Extension "bbx" [962 Text 0 270 0 0];
         Strict Extension "fb2" [266 Text 104 140 0 10];
         Strict Extension "sarif" [71 Text 0 160 0 0];
-        Strict Extension "t" [868 Text 260 293 0 12] [636 Text 317 0 14 0];
+        Strict Extension "t" [868 Text 260 293 0 12] [636 Text 317 0 38 0];
         Strict Extension "te" [927 Text 0 317 0 0];
     ],
     keys![

@@ -17,7 +17,7 @@ static SLOTS: [&[Key]; 16] = [
         Strict Extension "dng" [568 Signature 83 311 0 0];
         Strict Extension "gtf" [755 Text 0 317 0 0];
         Strict Extension "njk" [797 Text 0 136 0 0];
-        Strict Extension "udeb" [106 Signature 72 34 0 0];
+        Strict Extension "udeb" [106 Signature 72 33 0 0];
     ],
     keys![
         Strict Extension "esd" [355 Signature 337 0 0 0];
@@ -33,7 +33,7 @@ static SLOTS: [&[Key]; 16] = [
     ],
     keys![
         Strict Whole ".gitattributes" [758 Text 0 317 0 0];
-        Strict Whole "changelog" [636 Text 317 0 14 0];
+        Strict Whole "changelog" [636 Text 317 0 38 0];
         Strict Extension "psd1" [389 Text 0 293 0 0];
         Strict Extension "x3d" [622 Text 0 140 0 10];
     ],
@@ -44,8 +44,8 @@ static SLOTS: [&[Key]; 16] = [
         Strict Extension "tzo" [341 Bytes 185 0 0 0];
     ],
     keys![
-        Strict Extension "asc" [54 Text 38 0 0 0] [56 Text 297 254 0 0] [53 Text 257 0 0 0] [662 Text 0 317 0 0];
-        Strict Whole "faq" [636 Text 317 0 14 0];
+        Strict Extension "asc" [54 Text 37 0 0 0] [56 Text 297 254 0 0] [53 Text 257 0 0 0] [662 Text 0 317 0 0];
+        Strict Whole "faq" [636 Text 317 0 38 0];
         Strict Extension "props" [358 Text 0 140 0 10];
     ],
     keys![
@@ -61,8 +61,8 @@ static SLOTS: [&[Key]; 16] = [
         Strict Extension "nrw" [588 Signature 0 311 0 0];
         Strict Extension "pfm" [272 Bytes 256 0 0 0];
         Strict Extension "rego" [904 Text 0 317 0 0];
-        Strict Extension "wps" [145 Signature 0 30 0 0];
-        Strict Extension "xlsm" [127 Signature 0 32 0 0];
+        Strict Extension "wps" [145 Signature 0 29 0 0];
+        Strict Extension "xlsm" [127 Signature 0 31 0 0];
     ],
     keys![
         Strict Extension "bison" [996 Text 0 317 0 0];
@@ -83,7 +83,7 @@ static SLOTS: [&[Key]; 16] = [
     ],
     keys![
         Strict Extension "appcache" [625 Text 0 317 0 0];
-        Strict Extension "arrow" [92 Bytes 36 0 0 0];
+        Strict Extension "arrow" [92 Bytes 35 0 0 0];
         Strict Extension "m3" [838 Text 0 317 0 0];
         Strict Extension "raku" [897 Text 0 293 0 0];
         Strict Whole "sconscript" [923 Text 0 317 0 0];

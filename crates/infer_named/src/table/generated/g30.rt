@@ -21,7 +21,7 @@ static SLOTS: [&[Key]; 16] = [
         Strict Extension "mata" [949 Text 0 317 0 0];
         Strict Extension "pony" [877 Text 0 317 0 0];
         Strict Extension "sitx" [424 Bytes 0 0 0 0];
-        Strict Extension "wks" [145 Signature 0 30 0 0];
+        Strict Extension "wks" [145 Signature 0 29 0 0];
     ],
     keys![
         Strict Extension "jpe" [545 Signature 157 0 0 0];
@@ -50,7 +50,7 @@ static SLOTS: [&[Key]; 16] = [
         Strict Extension "php5" [869 Text 258 138 0 0];
         Strict Extension "tcc" [686 Text 0 317 0 0];
         Strict Extension "tr" [640 Text 0 317 0 0];
-        Strict Extension "vst" [190 Signature 326 30 0 0];
+        Strict Extension "vst" [190 Signature 326 29 0 0];
         Strict Extension "webm" [1014 Signature 334 198 0 0];
     ],
     keys![
@@ -86,7 +86,7 @@ static SLOTS: [&[Key]; 16] = [
         Strict Extension "textproto" [965 Text 0 317 0 0];
     ],
     keys![
-        Loose Extension "msg" [130 Signature 210 30 0 0] [636 Text 317 0 14 0];
+        Loose Extension "msg" [130 Signature 210 29 0 0] [636 Text 317 0 38 0];
         Loose Extension "pt" [396 Bytes 0 354 0 0];
         Strict Extension "sexp" [699 Text 0 293 0 0];
     ],

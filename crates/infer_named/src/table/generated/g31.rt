@@ -16,7 +16,7 @@ static SLOTS: [&[Key]; 16] = [
         Strict Extension "docm" [143 Signature 0 86 0 0];
         Strict Extension "nu" [853 Text 0 293 0 0];
         Strict Extension "pbtxt" [965 Text 0 317 0 0];
-        Strict Extension "wdb" [145 Signature 0 30 0 0];
+        Strict Extension "wdb" [145 Signature 0 29 0 0];
     ],
     keys![
         Strict Extension "dicom" [9 Bytes 71 0 0 0];
@@ -29,10 +29,10 @@ static SLOTS: [&[Key]; 16] = [
         Strict Extension "au" [485 Signature 43 0 0 0];
     ],
     keys![
-        Strict Extension "aiff" [501 Signature 17 0 16 0];
+        Strict Extension "aiff" [501 Signature 16 0 15 0];
         Strict Extension "rw2" [590 Bytes 288 0 0 0];
         Strict Extension "timer" [958 Text 0 317 0 0];
-        Strict Extension "w" [636 Text 317 0 14 0];
+        Strict Extension "w" [636 Text 317 0 38 0];
     ],
     keys![
         Strict Extension "livemd" [632 Text 0 136 0 0];
@@ -43,7 +43,7 @@ static SLOTS: [&[Key]; 16] = [
         Strict Extension "mediawiki" [829 Text 0 317 0 0];
     ],
     keys![
-        Strict Whole ".pypirc" [636 Text 317 0 14 0];
+        Strict Whole ".pypirc" [636 Text 317 0 38 0];
         Loose Extension "mng" [1022 Bytes 201 0 0 0];
         Strict Extension "musicxml" [177 Text 0 140 0 10];
         Strict Extension "sfd" [741 Text 0 317 0 0];
@@ -51,7 +51,7 @@ static SLOTS: [&[Key]; 16] = [
     ],
     keys![
         Strict Extension "jinja2" [797 Text 0 136 0 0];
-        Strict Extension "pot" [754 Text 0 317 0 0] [132 Signature 265 30 0 0];
+        Strict Extension "pot" [754 Text 0 317 0 0] [132 Signature 265 29 0 0];
     ],
     keys![
         Loose Extension "hi" [298 Bytes 0 0 0 0];
@@ -60,13 +60,13 @@ static SLOTS: [&[Key]; 16] = [
     ],
     keys![
         Strict Extension "asd" [699 Text 0 293 0 0];
-        Strict Extension "deb" [106 Signature 72 34 0 0];
+        Strict Extension "deb" [106 Signature 72 33 0 0];
         Strict Extension "hx" [774 Text 0 317 0 0];
         Strict Whole "justfile" [800 Text 0 293 0 0];
         Strict Extension "vsixmanifest" [372 Text 0 140 0 10];
     ],
     keys![
-        Strict Extension "ddeb" [106 Signature 72 34 0 0];
+        Strict Extension "ddeb" [106 Signature 72 33 0 0];
         Strict Extension "hxx" [685 Text 0 317 0 0];
         Strict Extension "inf" [411 Text 0 317 0 0];
         Strict Extension "qbs" [893 Text 278 317 0 0];

@@ -1,7 +1,7 @@
 //! Made by `tools/tables` from names.txt: the sets of rows that readings have, and their leads.
 ghost use Rattle.std.specs.Prelude.{◌≡◌, [], get_or};
 ghost use Rattle.infer_named.specs.Listed.{lists_of_texts};
-ghost use Rattle.infer_named.specs.Sets.{lead_lists, set_groups, sets_0, sets_1, sets_2, sets_3, sets_4, sets_5, sets_6, sets_7, sets_8, sets_9, sets_10, sets_11};
+ghost use Rattle.infer_named.specs.Sets.{lead_lists, set_groups, sets_0, sets_1, sets_2, sets_3, sets_4, sets_5, sets_6, sets_7, sets_8, sets_9, sets_10, sets_11, sets_12, sets_13, sets_14};
 
 use crate::table::lists;
 
@@ -44,7 +44,6 @@ static SETS_0: &[&[&str]] = lists![
     ["accdb"]
     ["adf"]
     ["afm"]
-    ["afm" "asc" "atom" "awk" "ccmx" "crl" "diashape" "eps" "fb2" "fodt" "gjs" "gpx" "gtkbuilder" "html" "ics" "imy" "it87" "jnlp" "js" "json" "key" "kml" "lingts" "lua" "m3u8" "meta4" "mml" "ndjson" "nzb" "openssh" "opml" "owx" "pem" "pfa" "pgp" "php" "pl" "plist" "ps" "py" "qml" "rb" "rss" "rtf" "sami" "sh" "sig" "srt" "srx" "svg" "tcl" "ttx" "vcf" "vtt" "xhtml" "xml" "xmp" "xpm"]
     ["age"]
     ["aifc"]
     ["aiff"]
@@ -55,13 +54,6 @@ static SETS_0: &[&[&str]] = lists![
     ["apk"]
     ["apk" "jar" "zip"]
     ["apng"]
-    ["appimage"]
-    ["appimage" "core" "o" "so"]
-    ["application/vnd.apple.keynote"]
-    ["application/x-installshield"]
-    ["application/x-msi"]
-    ["application/x-ole-storage"]
-    ["application/x-ole-storage" "pptx" "zip"]
 ];
 
 #[tactic(auto, unfolding(crate::specs::Sets::sets_0))]
@@ -73,6 +65,13 @@ fn sets_0() -> &'static [&'static [&'static str]]
 }
 
 static SETS_1: &[&[&str]] = lists![
+    ["appimage"]
+    ["appimage" "core" "o" "so"]
+    ["application/vnd.apple.keynote"]
+    ["application/x-installshield"]
+    ["application/x-msi"]
+    ["application/x-ole-storage"]
+    ["application/x-ole-storage" "pptx" "zip"]
     ["application/x-ole-storage" "xlsx" "zip"]
     ["application/x-ole-storage" "zip"]
     ["ar"]
@@ -80,6 +79,7 @@ static SETS_1: &[&[&str]] = lists![
     ["arrow"]
     ["asar"]
     ["asc"]
+    ["asc" "atom" "awk" "eps" "gpx" "html" "ics" "js" "json" "key" "kml" "lua" "m3u8" "ndjson" "openssh" "pem" "pgp" "php" "pl" "plist" "ps" "py" "rb" "rss" "rtf" "sh" "sig" "srt" "svg" "tcl" "vcf" "vtt" "xhtml" "xml" "xpm"]
     ["asc" "crl" "key" "openssh" "pgp" "sig"]
     ["astc"]
     ["atom"]
@@ -89,6 +89,17 @@ static SETS_1: &[&[&str]] = lists![
     ["avif"]
     ["avro"]
     ["awk"]
+];
+
+#[tactic(auto, unfolding(crate::specs::Sets::sets_1))]
+#[inline(always)]
+fn sets_1() -> &'static [&'static [&'static str]]
+    ensures { lists_of_texts result.now ≡ sets_1 }
+{
+    SETS_1
+}
+
+static SETS_2: &[&[&str]] = lists![
     ["bc"]
     ["bdb"]
     ["beam"]
@@ -105,17 +116,6 @@ static SETS_1: &[&[&str]] = lists![
     ["class"]
     ["core"]
     ["cpio"]
-];
-
-#[tactic(auto, unfolding(crate::specs::Sets::sets_1))]
-#[inline(always)]
-fn sets_1() -> &'static [&'static [&'static str]]
-    ensures { lists_of_texts result.now ≡ sets_1 }
-{
-    SETS_1
-}
-
-static SETS_2: &[&[&str]] = lists![
     ["cr2"]
     ["cr2" "dng"]
     ["cr3"]
@@ -124,6 +124,17 @@ static SETS_2: &[&[&str]] = lists![
     ["cur"]
     ["dbf"]
     ["dcm"]
+];
+
+#[tactic(auto, unfolding(crate::specs::Sets::sets_2))]
+#[inline(always)]
+fn sets_2() -> &'static [&'static [&'static str]]
+    ensures { lists_of_texts result.now ≡ sets_2 }
+{
+    SETS_2
+}
+
+static SETS_3: &[&[&str]] = lists![
     ["deb"]
     ["der"]
     ["der" "key" "pem"]
@@ -150,15 +161,15 @@ static SETS_2: &[&[&str]] = lists![
     ["eps"]
 ];
 
-#[tactic(auto, unfolding(crate::specs::Sets::sets_2))]
+#[tactic(auto, unfolding(crate::specs::Sets::sets_3))]
 #[inline(always)]
-fn sets_2() -> &'static [&'static [&'static str]]
-    ensures { lists_of_texts result.now ≡ sets_2 }
+fn sets_3() -> &'static [&'static [&'static str]]
+    ensures { lists_of_texts result.now ≡ sets_3 }
 {
-    SETS_2
+    SETS_3
 }
 
-static SETS_3: &[&[&str]] = lists![
+static SETS_4: &[&[&str]] = lists![
     ["eps" "pdf" "ps"]
     ["eps" "pfa"]
     ["epub"]
@@ -183,6 +194,17 @@ static SETS_3: &[&[&str]] = lists![
     ["gpg"]
     ["gpkg"]
     ["gpx"]
+];
+
+#[tactic(auto, unfolding(crate::specs::Sets::sets_4))]
+#[inline(always)]
+fn sets_4() -> &'static [&'static [&'static str]]
+    ensures { lists_of_texts result.now ≡ sets_4 }
+{
+    SETS_4
+}
+
+static SETS_5: &[&[&str]] = lists![
     ["gtkbuilder"]
     ["gz"]
     ["gz" "sqlite" "xml"]
@@ -191,17 +213,6 @@ static SETS_3: &[&[&str]] = lists![
     ["gz" "zip"]
     ["gz" "zst"]
     ["hdf4"]
-];
-
-#[tactic(auto, unfolding(crate::specs::Sets::sets_3))]
-#[inline(always)]
-fn sets_3() -> &'static [&'static [&'static str]]
-    ensures { lists_of_texts result.now ≡ sets_3 }
-{
-    SETS_3
-}
-
-static SETS_4: &[&[&str]] = lists![
     ["hdf5"]
     ["hdr"]
     ["heic"]
@@ -218,6 +229,17 @@ static SETS_4: &[&[&str]] = lists![
     ["html" "txt" "xml"]
     ["icc"]
     ["icns"]
+];
+
+#[tactic(auto, unfolding(crate::specs::Sets::sets_5))]
+#[inline(always)]
+fn sets_5() -> &'static [&'static [&'static str]]
+    ensures { lists_of_texts result.now ≡ sets_5 }
+{
+    SETS_5
+}
+
+static SETS_6: &[&[&str]] = lists![
     ["ico"]
     ["ics"]
     ["ilbm"]
@@ -234,17 +256,6 @@ static SETS_4: &[&[&str]] = lists![
     ["jpg"]
     ["jpm" "jpx" "mj2"]
     ["jpx"]
-];
-
-#[tactic(auto, unfolding(crate::specs::Sets::sets_4))]
-#[inline(always)]
-fn sets_4() -> &'static [&'static [&'static str]]
-    ensures { lists_of_texts result.now ≡ sets_4 }
-{
-    SETS_4
-}
-
-static SETS_5: &[&[&str]] = lists![
     ["json"]
     ["json" "ndjson" "txt"]
     ["json" "plist" "txt" "xml"]
@@ -253,6 +264,17 @@ static SETS_5: &[&[&str]] = lists![
     ["jxl"]
     ["jxr"]
     ["key"]
+];
+
+#[tactic(auto, unfolding(crate::specs::Sets::sets_6))]
+#[inline(always)]
+fn sets_6() -> &'static [&'static [&'static str]]
+    ensures { lists_of_texts result.now ≡ sets_6 }
+{
+    SETS_6
+}
+
+static SETS_7: &[&[&str]] = lists![
     ["kml"]
     ["kmz"]
     ["kpr" "ksp" "kwd"]
@@ -279,39 +301,27 @@ static SETS_5: &[&[&str]] = lists![
     ["m4v"]
 ];
 
-#[tactic(auto, unfolding(crate::specs::Sets::sets_5))]
+#[tactic(auto, unfolding(crate::specs::Sets::sets_7))]
 #[inline(always)]
-fn sets_5() -> &'static [&'static [&'static str]]
-    ensures { lists_of_texts result.now ≡ sets_5 }
+fn sets_7() -> &'static [&'static [&'static str]]
+    ensures { lists_of_texts result.now ≡ sets_7 }
 {
-    SETS_5
+    SETS_7
 }
 
-static SETS_6: &[&[&str]] = lists![
-    ["mach"]
-    ["mdb"]
-    ["med"]
-    ["meta4"]
-    ["midi"]
-    ["mj2"]
-    ["mkv"]
-    ["mmf"]
-    ["mml"]
-    ["mng"]
-    ["mo"]
-    ["mo3"]
-    ["mobi"]
-    ["mov"]
-    ["mp3"]
-    ["mp4"]
-    ["mpc"]
-    ["mpg"]
-    ["msg"]
-    ["mtm"]
-    ["mxf"]
-    ["n64"]
-    ["ndjson"]
-    ["nes"]
+static SETS_8: &[&[&str]] = lists![
+    ["mach"]["mdb"]["med"]["meta4"]["midi"]["mj2"]["mkv"]["mmf"]["mml"]["mng"]["mo"]["mo3"]["mobi"]["mov"]["mp3"]["mp4"]["mpc"]["mpg"]["msg"]["mtm"]["mxf"]["n64"]["ndjson"]["nes"]
+];
+
+#[tactic(auto, unfolding(crate::specs::Sets::sets_8))]
+#[inline(always)]
+fn sets_8() -> &'static [&'static [&'static str]]
+    ensures { lists_of_texts result.now ≡ sets_8 }
+{
+    SETS_8
+}
+
+static SETS_9: &[&[&str]] = lists![
     ["npy"]
     ["o"]
     ["obj"]
@@ -320,17 +330,6 @@ static SETS_6: &[&[&str]] = lists![
     ["odg"]
     ["odg" "zip"]
     ["odp"]
-];
-
-#[tactic(auto, unfolding(crate::specs::Sets::sets_6))]
-#[inline(always)]
-fn sets_6() -> &'static [&'static [&'static str]]
-    ensures { lists_of_texts result.now ≡ sets_6 }
-{
-    SETS_6
-}
-
-static SETS_7: &[&[&str]] = lists![
     ["odp" "zip"]
     ["ods"]
     ["ods" "zip"]
@@ -347,6 +346,17 @@ static SETS_7: &[&[&str]] = lists![
     ["ora"]
     ["orc"]
     ["otf"]
+];
+
+#[tactic(auto, unfolding(crate::specs::Sets::sets_9))]
+#[inline(always)]
+fn sets_9() -> &'static [&'static [&'static str]]
+    ensures { lists_of_texts result.now ≡ sets_9 }
+{
+    SETS_9
+}
+
+static SETS_10: &[&[&str]] = lists![
     ["otg"]
     ["otp"]
     ["ots"]
@@ -363,17 +373,6 @@ static SETS_7: &[&[&str]] = lists![
     ["pdf"]
     ["pem"]
     ["pfa" "pfb"]
-];
-
-#[tactic(auto, unfolding(crate::specs::Sets::sets_7))]
-#[inline(always)]
-fn sets_7() -> &'static [&'static [&'static str]]
-    ensures { lists_of_texts result.now ≡ sets_7 }
-{
-    SETS_7
-}
-
-static SETS_8: &[&[&str]] = lists![
     ["pfb"]
     ["pgp"]
     ["php"]
@@ -382,6 +381,17 @@ static SETS_8: &[&[&str]] = lists![
     ["plist"]
     ["plist" "txt" "xml"]
     ["png"]
+];
+
+#[tactic(auto, unfolding(crate::specs::Sets::sets_10))]
+#[inline(always)]
+fn sets_10() -> &'static [&'static [&'static str]]
+    ensures { lists_of_texts result.now ≡ sets_10 }
+{
+    SETS_10
+}
+
+static SETS_11: &[&[&str]] = lists![
     ["pnm"]
     ["ppt"]
     ["pptx"]
@@ -408,15 +418,15 @@ static SETS_8: &[&[&str]] = lists![
     ["rtf"]
 ];
 
-#[tactic(auto, unfolding(crate::specs::Sets::sets_8))]
+#[tactic(auto, unfolding(crate::specs::Sets::sets_11))]
 #[inline(always)]
-fn sets_8() -> &'static [&'static [&'static str]]
-    ensures { lists_of_texts result.now ≡ sets_8 }
+fn sets_11() -> &'static [&'static [&'static str]]
+    ensures { lists_of_texts result.now ≡ sets_11 }
 {
-    SETS_8
+    SETS_11
 }
 
-static SETS_9: &[&[&str]] = lists![
+static SETS_12: &[&[&str]] = lists![
     ["rw2"]
     ["safetensors"]
     ["sav"]
@@ -441,6 +451,17 @@ static SETS_9: &[&[&str]] = lists![
     ["tcl"]
     ["terminfo"]
     ["tif"]
+];
+
+#[tactic(auto, unfolding(crate::specs::Sets::sets_12))]
+#[inline(always)]
+fn sets_12() -> &'static [&'static [&'static str]]
+    ensures { lists_of_texts result.now ≡ sets_12 }
+{
+    SETS_12
+}
+
+static SETS_13: &[&[&str]] = lists![
     ["tnef"]
     ["torrent"]
     ["ts"]
@@ -449,17 +470,6 @@ static SETS_9: &[&[&str]] = lists![
     ["txt"]
     ["txt" "xml"]
     ["tzif"]
-];
-
-#[tactic(auto, unfolding(crate::specs::Sets::sets_9))]
-#[inline(always)]
-fn sets_9() -> &'static [&'static [&'static str]]
-    ensures { lists_of_texts result.now ≡ sets_9 }
-{
-    SETS_9
-}
-
-static SETS_10: &[&[&str]] = lists![
     ["vcf"]
     ["vdi"]
     ["vhd"]
@@ -476,40 +486,26 @@ static SETS_10: &[&[&str]] = lists![
     ["wav"]
     ["webm"]
     ["webp"]
-    ["wiiwad"]
-    ["wim"]
-    ["wmv"]
-    ["woff"]
-    ["woff2"]
-    ["wv"]
-    ["x3f"]
-    ["xar"]
-    ["xcf"]
-    ["xhtml"]
-    ["xls"]
-    ["xlsx"]
-    ["xm"]
-    ["xml"]
-    ["xpm"]
-    ["xwd"]
 ];
 
-#[tactic(auto, unfolding(crate::specs::Sets::sets_10))]
+#[tactic(auto, unfolding(crate::specs::Sets::sets_13))]
 #[inline(always)]
-fn sets_10() -> &'static [&'static [&'static str]]
-    ensures { lists_of_texts result.now ≡ sets_10 }
+fn sets_13() -> &'static [&'static [&'static str]]
+    ensures { lists_of_texts result.now ≡ sets_13 }
 {
-    SETS_10
+    SETS_13
 }
 
-static SETS_11: &[&[&str]] = lists![["xz"]["zim"]["zip"]["zst"]];
+static SETS_14: &[&[&str]] = lists![
+    ["wiiwad"]["wim"]["wmv"]["woff"]["woff2"]["wv"]["x3f"]["xar"]["xcf"]["xhtml"]["xls"]["xlsx"]["xm"]["xml"]["xpm"]["xwd"]["xz"]["zim"]["zip"]["zst"]
+];
 
-#[tactic(auto, unfolding(crate::specs::Sets::sets_11))]
+#[tactic(auto, unfolding(crate::specs::Sets::sets_14))]
 #[inline(always)]
-fn sets_11() -> &'static [&'static [&'static str]]
-    ensures { lists_of_texts result.now ≡ sets_11 }
+fn sets_14() -> &'static [&'static [&'static str]]
+    ensures { lists_of_texts result.now ≡ sets_14 }
 {
-    SETS_11
+    SETS_14
 }
 
 /// The sets of a list.
@@ -530,6 +526,9 @@ pub(crate) fn group(number: usize) -> &'static [&'static [&'static str]]
         9 => sets_9(),
         10 => sets_10(),
         11 => sets_11(),
+        12 => sets_12(),
+        13 => sets_13(),
+        14 => sets_14(),
         _ => &[],
     }
 }
