@@ -19,6 +19,8 @@ SMALL = 1 << 32
 UNKNOWN = -1
 # Blocks stand in one another so deep that more would only be wide.
 DEEPEST = 6
+# Compilers need not take more than 127 blocks inside each other. A deeper one has a label and no braces.
+MOST_BRACES = 100
 # What an expression can read beside locals.
 MEMORY = -1
 LONGEST = 120
@@ -414,7 +416,8 @@ class Translation:
 
     def on_block(self, results: list[str]) -> None:
         self.enter("block", results)
-        self.open("{")
+        if len(self.blocks) <= MOST_BRACES:
+            self.open("{")
 
     def on_loop(self, results: list[str]) -> None:
         lost = self.lost.get(self.at, set())
@@ -462,7 +465,8 @@ class Translation:
         if block.kind == "if":
             block.states.append(block.state)
         del self.stack[block.height :]
-        self.open("}")
+        if block.kind != "block" or len(self.blocks) <= MOST_BRACES:
+            self.open("}")
         self.blocks.pop()
         self.is_live = bool(block.states)
         if block.label in self.jumped_to and block.kind != "loop":

@@ -5,7 +5,6 @@ them. README.md says what it refuses.
 usage: judge_upload.py [--types FILE] CLASS|MIME_TYPE,.. FILE NAME [CONTENT_TYPE]"""
 from __future__ import annotations
 
-import mmap
 import os
 import sys
 
@@ -20,6 +19,7 @@ FITTING |= {"msi": FITTING["zip"], "ar": FITTING["sh"]}
 CLOSED = {"audio", "font", "image", "text", "video", "pdf", "rtf"}
 # What archives have that their programs find wherever they begin. The end of ZIP's directory need not come after it.
 ARCHIVES = [{b"PK\1\2", b"PK\5\6"}, {b"Rar!\x1a\7"}, {b"7z\xbc\xaf\x27\x1c"}]
+PIECE = 65536
 
 
 def is_one(kind: infer.Type, names: set[str]) -> bool:
@@ -35,8 +35,13 @@ def is_kin(kind: infer.Type, other: infer.Type) -> bool:
 
 
 def hides_archive(path: str) -> bool:
-    with open(path, "rb") as file, mmap.mmap(file.fileno(), 0, access=mmap.ACCESS_READ) as whole:
-        return any(all(whole.find(mark) >= 0 for mark in marks) for marks in ARCHIVES)
+    """Whether there is an archive in the file, of which two pieces are in memory at a time."""
+    found, before = set[bytes](), b""
+    with open(path, "rb") as file:
+        while piece := file.read(PIECE):
+            found |= {mark for mark in set().union(*ARCHIVES) if mark in before + piece}
+            before = piece
+    return any(marks <= found for marks in ARCHIVES)
 
 
 class Judge:
