@@ -45,7 +45,8 @@ static void compare(char *const fields[]) {
 
 int main(int argc, char **argv) {
     if (argc != 2) return 2;
-    struct table table = read_table(argv[1], 4);
+    static struct table table;
+    table = read_table(argv[1], 4);
     for (size_t i = 0; i < table.count; i++)
         compare(table.lines[i].fields);
     const struct tally tallies[] = {vectors, others};
