@@ -69,6 +69,50 @@ export class Types {
     line(bytes: Bytes): number | undefined;
 }
 
+/** What a name did beside the bytes of its file. */
+export const Standing: {
+    /** The bytes are of the type that the name has. */
+    readonly AGREE: "agree";
+    /** They may begin a file of the type that the name has, which is told. */
+    readonly NAME_REFINES: "name refines";
+    /** They are of a finer kind of the type that the name has. Theirs is told. */
+    readonly BYTES_REFINE: "bytes refine";
+    /** The name says nothing, and the bytes have a type. */
+    readonly BYTES_ALONE: "bytes alone";
+    /** No type accepts the bytes, and they may be of the type that the name has. */
+    readonly NAME_ALONE: "name alone";
+    /** The bytes are not of a type that the name has. */
+    readonly CONTRADICTS: "contradicts";
+    /** Neither says anything. */
+    readonly NOTHING: "nothing";
+};
+export type Standing = (typeof Standing)[keyof typeof Standing];
+
+/** A type that names tell. */
+export interface NamedType {
+    /** The extension, without a dot, and undefined if only names tell of the type. */
+    readonly ext: string | undefined;
+    readonly mime: string;
+    /** Whether nobody else names it, so that it tells files apart and is not to be sent. */
+    readonly isOwnName: boolean;
+}
+
+/** What a name and bytes tell. */
+export interface Named {
+    readonly standing: Standing;
+    readonly type: NamedType | undefined;
+    /** The type that the name has first, whatever the bytes are. */
+    readonly typeOfName: NamedType | undefined;
+    /** The answer of wider, which the bytes have whatever the name is. */
+    readonly typeOfBytes: FileTypeResult | undefined;
+}
+
+/**
+ * What a file's name and its first 8192 bytes tell. The bytes win: a name only chooses among what they leave open. A name
+ * may be bytes.
+ */
+export function named(name: string | Bytes, bytes: Bytes): Named;
+
 /** The extensions that fileTypeFromBuffer knows. */
 export const supportedExtensions: ReadonlySet<string>;
 

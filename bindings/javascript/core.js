@@ -172,6 +172,41 @@ const hold = (text) => {
     return [at(TYPES), BigInt(text.length)];
 };
 
+export const Standing = Object.freeze({
+    AGREE: "agree",
+    NAME_REFINES: "name refines",
+    BYTES_REFINE: "bytes refine",
+    BYTES_ALONE: "bytes alone",
+    NAME_ALONE: "name alone",
+    CONTRADICTS: "contradicts",
+    NOTHING: "nothing",
+});
+/** In the order of their numbers. */
+const standings = Object.values(Standing);
+/** How long each text of what names tell is at most, and how long both texts of a type and a byte are. */
+const NAMED_TEXT = 74;
+const NAMED_TYPE = 2 * NAMED_TEXT + 1;
+
+/** A type whose texts stand so far behind the bytes that the module is asked about. */
+const namedTypeAt = (distance) => {
+    const mime = written(distance);
+    const ext = written(distance + NAMED_TEXT) || undefined;
+    return mime ? { ext, mime, isOwnName: room[distance + 2 * NAMED_TEXT] !== 0 } : undefined;
+};
+
+export const named = (name, input) => {
+    const text = typeof name === "string" ? new TextEncoder().encode(name) : frontOf(name, Infinity).slice();
+    const size = hand(input);
+    infer.infer_named(...hold(text), place, size, at(FRONT));
+    const numbers = new DataView(room.buffer, room.byteOffset + FRONT, 8);
+    return {
+        standing: standings[numbers.getInt32(0, true)],
+        type: namedTypeAt(FRONT + 8),
+        typeOfName: namedTypeAt(FRONT + 8 + NAMED_TYPE),
+        typeOfBytes: answerOf(numbers.getInt32(4, true)),
+    };
+};
+
 export class Types {
     #text;
 

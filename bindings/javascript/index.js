@@ -9,6 +9,7 @@ await connect(async () => {
 });
 
 export {
+    Standing,
     Types,
     TypesError,
     encoding,
@@ -21,6 +22,7 @@ export {
     knownTypes,
     mayBecome,
     mayBecomeWider,
+    named,
     sample,
     supportedExtensions,
     supportedMimeTypes,

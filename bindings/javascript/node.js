@@ -2,6 +2,7 @@
 import { constants, readFileSync } from "node:fs";
 import { open, stat } from "node:fs/promises";
 import { Readable } from "node:stream";
+import { fileURLToPath } from "node:url";
 import * as core from "./core.js";
 
 const FRONT = 8192;
@@ -9,6 +10,7 @@ const FRONT = 8192;
 core.connectAtOnce(() => readFileSync(new URL("infer.wasm", import.meta.url)));
 
 export {
+    Standing,
     Types,
     TypesError,
     encoding,
@@ -19,6 +21,7 @@ export {
     knownTypes,
     mayBecome,
     mayBecomeWider,
+    named,
     sample,
     supportedExtensions,
     supportedMimeTypes,
@@ -33,7 +36,8 @@ const refuseUnlessRegular = (about, path) => {
     throw Object.assign(new Error(`${code}: ${why}, open '${path}'`), { code, syscall: "open", path });
 };
 
-export const fileTypeFromFile = async (path, options) => {
+/** The first bytes of a regular file. */
+const frontOfFile = async (path) => {
     // A device can act as soon as it is opened. By then the path may name another file, so that is asked again.
     refuseUnlessRegular(await stat(path), path);
     const file = await open(path, constants.O_RDONLY | constants.O_NONBLOCK | constants.O_NOCTTY);
@@ -46,11 +50,15 @@ export const fileTypeFromFile = async (path, options) => {
             if (bytesRead === 0) break;
             length += bytesRead;
         }
-        return await core.fileTypeFromBuffer(front.subarray(0, length), options);
+        return front.subarray(0, length);
     } finally {
         await file.close();
     }
 };
+
+export const fileTypeFromFile = async (path, options) => core.fileTypeFromBuffer(await frontOfFile(path), options);
+
+export const namedFromFile = async (path) => core.named(path instanceof URL ? fileURLToPath(path) : path, await frontOfFile(path));
 
 export const fileTypeFromStream = async (stream, options) => {
     if (!(stream instanceof Readable)) return core.fileTypeFromStream(stream, options);

@@ -3,7 +3,7 @@ import assert from "node:assert/strict";
 import { test } from "node:test";
 import * as infer from "hoarvelt-infer";
 import * as aliases from "hoarvelt-infer/aliases";
-import { furtherRows, furtherVectors, generator, rows, samples, vectors } from "./support.mjs";
+import { furtherRows, furtherVectors, generator, namedVectors, rows, samples, vectors } from "./support.mjs";
 
 const { fileTypeFromBuffer, isDecided, isWiderDecided, wider } = infer;
 const JPEG = { ext: "jpg", mime: "image/jpeg" };
@@ -88,6 +88,35 @@ test("each vector of the further rows has its wider answer", () => {
         const found = wider(data);
         assert.equal(found ? `${found.mime} ${found.ext}` : "unknown", shown, name);
     }
+});
+
+test("each name and its bytes have their standing and their type", () => {
+    assert.ok(namedVectors.length > 900);
+    for (const { name, data, standing, mime } of namedVectors) {
+        const found = infer.named(name, data);
+        assert.deepEqual([found.standing, found.type?.mime ?? "-", found.typeOfBytes], [standing, mime, wider(data)], Buffer.from(name).toString());
+        if (Buffer.from(Buffer.from(name).toString()).equals(name)) assert.deepEqual(infer.named(Buffer.from(name).toString(), data), found);
+    }
+    assert.deepEqual(new Set(namedVectors.map((it) => it.standing)), new Set(Object.values(infer.Standing)));
+});
+
+test("a name has a type of its own, and may be odd", () => {
+    const { AGREE, BYTES_ALONE, BYTES_REFINE, CONTRADICTS } = infer.Standing;
+    const json = { ext: "json", mime: "application/json" };
+    assert.deepEqual(infer.named("notes.txt", new TextEncoder().encode('{"a": 1}')), {
+        standing: BYTES_REFINE,
+        type: { ...json, isOwnName: false },
+        typeOfName: { ext: "txt", mime: "text/plain", isOwnName: false },
+        typeOfBytes: json,
+    });
+    assert.deepEqual(infer.named("a.dz", new Uint8Array([0x1f, 0x8b, 8])).type, { ext: undefined, mime: "application/x-dictzip", isOwnName: true });
+    for (const name of ["", ".", "/", "a.jpg.", "a.jpg\0", "a.jpg\0.txt", "a".repeat(5000), ".".repeat(70_000), "a.j\u0440g"]) {
+        assert.equal(infer.named(name, jpeg).standing, BYTES_ALONE, name);
+    }
+    for (const name of ["a.jpg", "A.JPG~", "b/a.jpg", "b\\a.jpg", `${"b/".repeat(50_000)}a.jpg`, "\ud800.jpg"]) assert.equal(infer.named(name, jpeg).standing, AGREE);
+    assert.equal(infer.named("a.png", jpeg).standing, CONTRADICTS);
+    for (const name of [undefined, 3, {}, ["a.jpg"]]) assert.throws(() => infer.named(name, jpeg), TypeError);
+    assert.throws(() => infer.named("a.jpg", "text"), TypeError);
 });
 
 const OWN_TYPES = `# extension MIME type class parent signature \u2014 mine

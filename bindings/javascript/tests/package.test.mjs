@@ -100,7 +100,7 @@ test("the file for browsers has every name but that of files, and reads by fetch
         const { extensions } = await import("./node_modules/hoarvelt-infer/aliases.js");
         console.log(extensions.get("jpeg"));`;
     const ended = node(folder, "--input-type=module", "-e", source);
-    assert.equal(ended.stdout, "fileTypeFromFile gif\njpg\n", ended.stderr);
+    assert.equal(ended.stdout, "fileTypeFromFile,namedFromFile gif\njpg\n", ended.stderr);
 });
 
 const TYPED = `import * as types from "hoarvelt-infer";
@@ -114,12 +114,15 @@ const place = (fault: types.TypesError): string => fault.reason + (fault.line + 
 const options: types.Options = { more: true, detectors: [(front) => (front.length > 4 ? found : undefined), async () => undefined] };
 const asked = [await types.fileTypeFromBuffer(new Uint8Array(4), options), await types.fileTypeFromBlob(new Blob([]), options), (await types.fileTypeStream(new Blob([]).stream(), options)).fileType];
 const told: [Uint8Array | undefined, string, boolean, number | undefined] = [types.sample(4), types.version, types.mayBecome(new Uint8Array(4), "jpg") || types.mayBecomeWider(new Uint8Array(4), "jpg"), new types.Types("").line(new Uint8Array(4))];
+const named: types.Named = types.named("photo.jpg", new Uint8Array(4)) ?? types.named(new Uint8Array(4), new Uint8Array(4));
+const standing: types.Standing = named.standing === types.Standing.AGREE ? "agree" : types.Standing.NOTHING;
+const ofName: [string | undefined, boolean | undefined] = [named.typeOfName?.ext ?? named.typeOfBytes?.ext, named.type?.isOwnName];
 const isDecided: boolean = types.isDecided(new DataView(new ArrayBuffer(4))) && types.isWiderDecided(new Uint8Array(4));
 // @ts-expect-error
 await types.fileTypeFromBuffer("text");
 // @ts-expect-error
 found!.ext = "x";
-export { names, whole, more, own, place, isDecided, asked, told };
+export { names, whole, more, own, place, isDecided, asked, told, standing, ofName };
 `;
 
 const TYPED_FOR_NODE = `import { createReadStream } from "node:fs";

@@ -7,7 +7,7 @@ import { execFileSync } from "node:child_process";
 import { Readable } from "node:stream";
 import { test } from "node:test";
 import { pathToFileURL } from "node:url";
-import { fileTypeFromBlob, fileTypeFromFile, fileTypeFromStream, fileTypeStream, isDecided } from "hoarvelt-infer";
+import { fileTypeFromBlob, fileTypeFromFile, fileTypeFromStream, fileTypeStream, isDecided, namedFromFile } from "hoarvelt-infer";
 import { samples } from "./support.mjs";
 
 const jpeg = new Uint8Array([0xff, 0xd8, 0xff, 0xe0]);
@@ -221,6 +221,11 @@ test("a file is told by its path, and faults are those of Node", async () => {
         await assert.rejects(fileTypeFromFile(folder), { code: "EISDIR" });
         await assert.rejects(fileTypeFromFile(path + "\0"), TypeError);
         for (const other of [undefined, 3, {}, jpeg.buffer]) await assert.rejects(fileTypeFromFile(other), TypeError);
+        const image = join(folder, "photo.png");
+        writeFileSync(image, jpeg);
+        for (const name of [image, pathToFileURL(image), Buffer.from(image)]) assert.equal((await namedFromFile(name)).standing, "contradicts");
+        await assert.rejects(namedFromFile(join(folder, "none.png")), { code: "ENOENT" });
+        for (const other of [undefined, 3, {}, jpeg.buffer]) await assert.rejects(namedFromFile(other), TypeError);
     } finally {
         rmSync(folder, { recursive: true });
     }

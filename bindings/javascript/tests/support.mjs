@@ -29,6 +29,11 @@ export const furtherRows = linesOf("further/rows.tsv").map(([group, mime, ext]) 
 /** The name, the bytes, and what the wider answer shows: a MIME type and an extension, or "unknown". */
 export const furtherVectors = linesOf("further/vectors.tsv").map(([name, data, , shown]) => ({ name, data: decode(data), shown }));
 
+/** The bytes of a name, some of which are written as \xHH. */
+const nameOf = (text) =>
+    new Uint8Array(Buffer.concat(text.split(/(\\x[0-9A-F]{2})/).map((part) => (part.startsWith("\\x") ? Buffer.from(part.slice(2), "hex") : Buffer.from(part)))));
+export const namedVectors = linesOf("named.tsv").map(([name, data, standing, mime]) => ({ name: nameOf(name), data: decode(data), standing, mime }));
+
 /** Whole numbers below a limit, by the generator mulberry32. */
 export const generator = (seed) => {
     let state = seed;
