@@ -32,7 +32,7 @@ pub fn only_three_count()
 {}
 
 /// What follows the bytes changes neither a lead of two bytes, but that of EF BB alone, nor that they are no text, nor a byte
-/// 00 among them. So it changes no answer as long as their type stays.
+/// 00 among them. So it changes no answer about bytes that have a type, as long as the type stays.
 pub fn growth()
     ensures leads { LeadsLast }
     ensures kinds { KindsLast }
@@ -45,7 +45,7 @@ pub fn lies_stay_visible()
 {}
 
 /// The table is right: each key has from 1 to 27 bytes of small letters, digits and marks, stands once, and has readings, of
-/// which each MIME type has at most 73 bytes. Where one is wrong, the check's error has its text.
+/// which each MIME type has at most 73 bytes.
 pub fn keys_are_right()
     ensures { KeysAreRight }
 {}
