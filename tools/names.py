@@ -1,5 +1,7 @@
-"""Makes the lists of crates/infer_named from names.txt, slot by slot, so that a name is found by one look."""
+"""Makes the lists of crates/infer_named from names.txt: the keys in the order of their slots, so that a name is found by one look.
+Code has them as numbers and as one text, since the prover reads those at once; the definition has a key a line."""
 import ast
+import bisect
 import re
 from typing import NamedTuple
 
@@ -7,98 +9,82 @@ from texts import kept, text_of
 
 CRATE = "crates/infer_named"
 NAMES = f"{CRATE}/names.txt"
-SLOTS, GROUP = 512, 16
+# How many slots there are, and of how many the keys are one list of the definition.
+SLOTS, GROUP = 512, 64
 LONGEST = 27
 COPIES = ("~", ".bak", ".orig", ".old")
 LINE = re.compile(r"(?P<loose>loose )?(?P<part>extension|whole) (?P<text>\S+): (?P<readings>.*)")
 READING = re.compile(r"(?P<mime_type>\S+) \((?:row (?P<row>\S+)|(?P<known>known)|own)\), (?P<asks>signature|text|bytes|nothing)(?P<sets>(?:; .*)?)")
 LEAD = re.compile(r'"(?:[^"\\]|\\.)+"')
+ROW = re.compile(r'Row\("(.*)"\)')
+WIDTH = 99
 # The rows of texts, which are named together.
 TEXTS = (
     "asc atom awk eps gpx html ics js json key kml lua m3u8 ndjson openssh pem pgp php pl plist ps py rb rss rtf sh "
     "sig srt svg tcl vcf vtt xhtml xml xpm"
 ).split()
-# How many types, and how many sets of rows, are one list of the code.
-TYPES, SETS = 64, 24
-GROUP_CODE = """//! Made by `tools/tables` from names.txt: the keys of slots {first} to {last}.
-ghost use Rattle.std.specs.Prelude.{{◌≡◌}};
-ghost use Rattle.infer_named.specs.Listed.{{slots_listed}};
-ghost use Rattle.infer_named.specs.Slots.{name}.{{group}};
+# How many types, and how many sets of rows, are one list of the definition.
+TYPES, SETS = 256, 128
+KEYS_CODE = """//! Made by `tools/tables` from names.txt: the keys in the order of their slots, where the slots begin, and the readings.
+use crate::table::{{Asks, Key, Part, Reading, Span, is_loose, keys, readings, span}};
 
-use crate::table::{{Asks, Key, Part, Reading, is_loose, keys}};
-
-static SLOTS: [&[Key]; {count}] = [
-{slots}
+/// Where the keys of each slot begin, and where those of the last end.
+pub(crate) static STARTS: [u16; {starts_count}] = [
+{starts}
 ];
 
-#[tactic(auto, unfolding(crate::specs::Slots::{name}::group))]
-pub(super) fn slots() -> &'static [&'static [Key]]
-    ensures {{ slots_listed result.now ≡ group }}
-{{
-    &SLOTS
-}}
+/// How a key is used, what it is of a name, where its text stands and how long it is, and where its readings stand and how many
+/// they are.
+pub(crate) static KEYS: [Key; {count}] = keys![
+{keys}
+];
+
+/// The number of a reading's type, what it asks, and the numbers of its sets of rows and of its leads.
+pub(crate) static READINGS: [Reading; {readings_count}] = readings![
+{readings}
+];
 """
-GROUPS = """//! Made by `tools/tables` from names.txt: the keys of all slots, {size} a group, and what their numbers mean.
-ghost use Rattle.std.specs.Prelude.{{◌≡◌, ◌<◌, [], get_or}};
-ghost use Rattle.infer_named.specs.Listed.{{slots_listed}};
-ghost use Rattle.infer_named.specs.Table.{{groups}};
+TEXTS_CODE = """//! Made by `tools/tables` from names.txt: the texts of the keys, of the types and of the rows, each text behind the other.
 
-use crate::table::Key;
+pub(crate) static KEY_TEXTS: &[u8] =
+    b"{keys}";
 
-{mods}
-pub(super) mod sets;
-pub(super) mod types;
+pub(crate) static MIME_TYPES: &str =
+    "{types}";
 
-/// The keys of the slots of a group.
-#[tactic(auto, unfolding(crate::specs::Table::groups))]
-pub(super) fn group(number: usize) -> &'static [&'static [Key]]
-    requires {{ number < {count} }}
-    ensures {{ slots_listed result.now ≡ get_or groups number [] }}
-{{
-    match number {{
-{arms}
-        _ => g{final:02}::slots(),
-    }}
-}}
+pub(crate) static ROW_TEXTS: &str =
+    "{rows}";
 """
 TYPES_CODE = """//! Made by `tools/tables` from names.txt: the types that names have.
-ghost use Rattle.std.specs.Prelude.{{◌≡◌, [], get_or, map}};
-ghost use Rattle.infer_named.specs.Listed.{{type_listed}};
-ghost use Rattle.infer_named.specs.Types.{{type_groups, {names}}};
-
 use crate::table::Origin::{{Known, Own, Row}};
-use crate::table::{{NamedType, types}};
+use crate::table::{{NamedType, Span, origin, span, types}};
 
-{lists}
-/// The types of a list.
-#[tactic(auto, unfolding(crate::specs::Types::type_groups))]
-pub(crate) fn group(number: usize) -> &'static [NamedType]
-    ensures {{ map type_listed result.now ≡ get_or type_groups number [] }}
-{{
-    match number {{
-{arms}
-        _ => &[],
-    }}
-}}
-"""
-TYPES_LIST = """static TYPES_{number}: &[NamedType] = types![
+/// Where the MIME type of a type stands and how long it is, and who names it: a row, with the place and length of its extension.
+pub(crate) static TYPES: [NamedType; {count}] = types![
 {types}
 ];
-
-#[tactic(auto, unfolding(crate::specs::Types::types_{number}))]
-#[inline(always)]
-fn types_{number}() -> &'static [NamedType]
-    ensures {{ map type_listed result.now ≡ types_{number} }}
-{{
-    TYPES_{number}
-}}
 """
 SETS_CODE = """//! Made by `tools/tables` from names.txt: the sets of rows that readings have, and their leads.
-ghost use Rattle.std.specs.Prelude.{{◌≡◌, [], get_or}};
+ghost use Rattle.std.specs.Prelude.{{◌≡◌}};
 ghost use Rattle.infer_named.specs.Listed.{{lists_of_texts}};
-ghost use Rattle.infer_named.specs.Sets.{{lead_lists, set_groups, {names}}};
+ghost use Rattle.infer_named.specs.Sets.{{lead_lists}};
 
-use crate::table::lists;
+use crate::table::{{Span, lists, span, spans}};
+
+/// Where the text of a row stands and how long it is.
+pub(crate) static ROWS: [Span; {rows_count}] = spans![
+{rows}
+];
+
+/// The numbers of the rows of the sets, one set behind the other.
+pub(crate) static MEMBERS: [u16; {members_count}] = [
+{members}
+];
+
+/// Where the rows of a set stand among these and how many they are.
+pub(crate) static SETS: [Span; {sets_count}] = spans![
+{sets}
+];
 
 static LEADS: &[&[&[u8]]] = lists![
 {leads}
@@ -111,40 +97,18 @@ pub(crate) fn leads() -> &'static [&'static [&'static [u8]]]
 {{
     LEADS
 }}
-
-{lists}
-/// The sets of a list.
-#[tactic(auto, unfolding(crate::specs::Sets::set_groups))]
-pub(crate) fn group(number: usize) -> &'static [&'static [&'static str]]
-    ensures {{ lists_of_texts result.now ≡ get_or set_groups number [] }}
-{{
-    match number {{
-{arms}
-        _ => &[],
-    }}
-}}
-"""
-SETS_LIST = """static SETS_{number}: &[&[&str]] = lists![{sets}];
-
-#[tactic(auto, unfolding(crate::specs::Sets::sets_{number}))]
-#[inline(always)]
-fn sets_{number}() -> &'static [&'static [&'static str]]
-    ensures {{ lists_of_texts result.now ≡ sets_{number} }}
-{{
-    SETS_{number}
-}}
 """
 NUMBER_TERM = """abbrev pub {name} : ℕ
 {name} = {number}
 """
 TYPES_TERM = """-- Made by `tools/tables` from names.txt: the types that names have, and their numbers.
-use Rattle.std.specs.Prelude.{{ℕ, List, [], ◌∷◌, codes}}
+use Rattle.std.specs.Prelude.{{ℕ, List, [], ◌∷◌, ◌++◌, codes}}
 use Rattle.infer_named.specs.Key.{{NamedType, known, own, row, named}}
 
 {numbers}
 {lists}
-unfoldable pub type_groups : List (List NamedType)
-type_groups = {names} ∷ []
+unfoldable pub types : List NamedType
+types = {names}
 """
 TYPES_LIST_TERM = """unfoldable pub types_{number} : List NamedType
 types_{number} =
@@ -152,7 +116,7 @@ types_{number} =
     ∷ []
 """
 SETS_TERM = """-- Made by `tools/tables` from names.txt: the sets of rows that readings have, and their leads, and the numbers of both.
-use Rattle.std.specs.Prelude.{{ℕ, List, [], ◌∷◌, codes}}
+use Rattle.std.specs.Prelude.{{ℕ, List, [], ◌∷◌, ◌++◌, codes}}
 use Rattle.infer_named.specs.Texts.{{none, any, texts}}
 
 {numbers}
@@ -162,86 +126,94 @@ lead_lists =
     ∷ []
 
 {lists}
-unfoldable pub set_groups : List (List (List (List ℕ)))
-set_groups = {names} ∷ []
+unfoldable pub sets : List (List (List ℕ))
+sets = {names}
 """
 SETS_LIST_TERM = """unfoldable pub sets_{number} : List (List (List ℕ))
 sets_{number} =
 {sets}
     ∷ []
 """
-TABLE = """-- Made by `tools/tables` from names.txt: the keys of all slots, {size} a group.
-use Rattle.std.specs.Prelude.{{List, [], ◌∷◌}}
+TABLE = """-- Made by `tools/tables` from names.txt: all keys, in the order of their slots.
+use Rattle.std.specs.Prelude.{{List, ◌++◌}}
 use Rattle.infer_named.specs.Key.{{Key}}
-use Rattle.infer_named.specs.Names.{{joined}}
 {uses}
-
-unfoldable pub groups : List (List (List Key))
-groups =
-{groups}
-    ∷ []
 
 -- the table of keys
 unfoldable pub keys : List Key
-keys = joined (joined groups)
+keys = {keys}
 """
-PLACED = """-- Made by `tools/tables` from names.txt: each key of slots {first} to {last} stands in its slot, and none is wrong.
-use Rattle.std.proofs.Common.{{◌≡◌, [], IsTrue, length, map, refl}}
-use Rattle.infer_named.specs.Laws.{{wrong_keys}}
-use Rattle.infer_named.specs.Names.{{are_placed, joined}}
-use Rattle.infer_named.specs.Sets.{{lead_lists, set_groups}}
-use Rattle.infer_named.specs.Slots.{name}.{{group}}
-use Rattle.infer_named.specs.Types.{{type_groups, {names}}}
+# The proofs of one part of the keys, which begins behind so many.
+KEYS_PROOF = """-- Made by `tools/tables` from names.txt: code and definition have the same keys of slots {first} to {last}. Each stands in its
+-- slot, and none is wrong: if one is, its text stands in the error.
+use Rattle.std.proofs.Common.{{◌≡◌, [], drop, length, map, refl, take}}
+use Rattle.infer_named.proofs.FindLemmas.{{wrong_from}}
+use Rattle.infer_named.specs.Keys.{name}.{{keys}}
+use Rattle.infer_named.specs.Listed.{{key_listed, key_texts, readings}}
+use Rattle.infer_named.specs.Slots.{{starts}}
+use Rattle.infer_named.specs.Types.{{types, {types}}}
+use Rattle.infer_named.specs.declared.table.generated.keys.TheConstants.{{KEYS}}
 
-pub placed : IsTrue (are_placed {first} group)
-unfolding group
-placed = refl
+pub listed : map key_listed (take {count} (drop {start} KEYS)) ≡ keys
+unfolding keys key_texts readings
+listed = refl
 
-pub sixteen : length group ≡ {count}
-unfolding group
-sixteen = refl
+pub many : length keys ≡ {count}
+unfolding keys
+many = refl
 
--- If a key is wrong, its text stands in the error.
-pub fit : joined (map wrong_keys group) ≡ []
-unfolding group type_groups set_groups lead_lists {types}
-fit = refl
+pub right : wrong_from starts {end} {start} keys ≡ []
+unfolding keys starts types {types_names}
+right = refl
 """
-ALL_PLACED = """-- Made by `tools/tables` from names.txt: each key stands in its slot, a group has sixteen slots, and no key is wrong.
-use Rattle.std.proofs.Common.{{◌≡◌, ◌==◌, [], IsTrue, length, map, refl}}
-use Rattle.std.proofs.lemmas.Bool.{{and_from, eq-eqb}}
-use Rattle.std.specs.List.{{list_all}}
-use Rattle.infer_named.proofs.FindLemmas.{{all_fit, placed_append}}
-use Rattle.infer_named.specs.Laws.{{wrong_keys}}
-use Rattle.infer_named.specs.Names.{{are_placed, joined}}
-use Rattle.infer_named.specs.Table.{{groups}}
-{}
+ALL_PROOF = """-- Made by `tools/tables` from names.txt: code and definition have the same keys, types and sets, and no key is wrong.
+use Rattle.std.proofs.Common.{{◌≡◌, [], drop, map, refl, take}}
+use Rattle.infer_named.proofs.FindLemmas.{{right_append, wrong_from}}
+use Rattle.infer_named.proofs.ListLemmas.{{listed_append, listed_last}}
+use Rattle.infer_named.specs.Listed.{{key_listed, members, mime_types, row_spans, row_texts, set_listed, type_listed}}
+use Rattle.infer_named.specs.Sets.{{sets, {sets}}}
+use Rattle.infer_named.specs.Slots.{{starts}}
+use Rattle.infer_named.specs.Table.{{keys}}
+use Rattle.infer_named.specs.Types.{{types, {types}}}
+use Rattle.infer_named.specs.declared.table.generated.keys.TheConstants.{{KEYS}}
+use Rattle.infer_named.specs.declared.table.generated.sets.TheConstants.{{SETS}}
+use Rattle.infer_named.specs.declared.table.generated.types.TheConstants.{{TYPES}}
+{uses}
 
-pub placed : IsTrue (are_placed 0 (joined groups))
-unfolding groups
-placed =
-    {}
+pub keys_listed : map key_listed KEYS ≡ keys
+unfolding keys
+keys_listed ={keys_listed}
 
-pub sixteen : IsTrue (list_all (λ g. length g == {}) groups)
-unfolding groups
-sixteen =
-    {}
+pub right : wrong_from starts {count} 0 keys ≡ []
+unfolding keys
+right ={right}
 
-pub fit : joined (map wrong_keys (joined groups)) ≡ []
-unfolding groups
-fit = all_fit groups {}
+{of_types}
+pub types_listed : map type_listed TYPES ≡ types
+unfolding types
+types_listed ={types_listed}
+
+{of_sets}
+pub sets_listed : map set_listed SETS ≡ sets
+unfolding sets
+sets_listed ={sets_listed}
 """
-SLOTS_HEAD = "-- Made by `tools/tables` from names.txt: the keys of all slots, {} a group.\n"
-SLOTS_TERM = """-- Made by `tools/tables` from names.txt: the keys of slots {} to {}.
+PART_PROOF = """{word}_{number}-listed : map {of}_listed (take {count} (drop {start} {constant})) ≡ {word}_{number}
+unfolding {word}_{number} {names}
+{word}_{number}-listed = refl
+"""
+KEYS_HEAD = "-- Made by `tools/tables` from names.txt: the keys of all slots, {} a file.\n"
+KEYS_TERM = """-- Made by `tools/tables` from names.txt: the keys of slots {} to {}.
 use Rattle.std.specs.Prelude.{{List, [], ◌∷◌, codes, false, true}}
 use Rattle.infer_named.specs.Key.{{Key, key}}
 use Rattle.infer_named.specs.Listed.{{reading}}
 use Rattle.infer_named.specs.Sets.{{{}}}
 use Rattle.infer_named.specs.Types.{{{}}}
-use Rattle.infer_named.specs.declared.table.Asks.TheVariants.{{Bytes, Nothing, Signature, Text}}
-use Rattle.infer_named.specs.declared.table.Part.TheVariants.{{Extension, Whole}}
+use Rattle.infer_named.specs.declared.table.Asks.TheVariants.{{{}}}
+use Rattle.infer_named.specs.declared.table.Part.TheVariants.{{{}}}
 
-unfoldable pub group : List (List Key)
-group =
+unfoldable pub keys : List Key
+keys =
 {}
     ∷ []
 """
@@ -345,33 +317,114 @@ def parts(lines, size):
     return [lines[at : at + size] for at in range(0, len(lines), size)]
 
 
-def rows_text(rows):
-    return f"[{' '.join(f'{chr(34)}{it}{chr(34)}' for it in rows)}]"
+def numbers_text(numbers):
+    """Numbers as `rt fmt` lays them out."""
+    lines, line = [], ""
+    for it in numbers:
+        if line and len(line) + len(f" {it},") > WIDTH:
+            lines.append(line)
+            line = ""
+        line += f"{' ' if line else '    '}{it},"
+    return "\n".join([*lines, line])
+
+
+class Texts:
+    """Texts, one behind the other, each once."""
+
+    def __init__(self, texts):
+        self.places, self.text = {}, ""
+        for it in texts:
+            if it not in self.places:
+                self.places[it] = len(self.text)
+                self.text += it
+
+    def span(self, text):
+        return f"{self.places[text]} {len(text)}"
+
+
+@kept
+def in_slots():
+    """The keys in the order of their slots."""
+    return sorted(listed(), key=lambda it: slot_of(it.text))
+
+
+def starts():
+    """How many keys stand before each slot, and how many there are."""
+    slots = [slot_of(it.text) for it in in_slots()]
+    return [bisect.bisect_left(slots, number) for number in range(SLOTS + 1)]
+
+
+@kept
+def rows():
+    """The texts of the rows that sets and types have, each with its number."""
+    named = {it for rows in sets() for it in rows} | {found[1] for _, origin in types() if (found := ROW.fullmatch(origin))}
+    return {it: number for number, it in enumerate(sorted(named))}
+
+
+@kept
+def key_texts():
+    return Texts(it.text for it in in_slots())
+
+
+@kept
+def mime_types():
+    return Texts(it for it, _ in types())
+
+
+@kept
+def row_texts():
+    return Texts(rows())
+
+
+def rust_text(text):
+    return re.sub(r'(["\\])', r"\\\1", text)
+
+
+def keys_code():
+    keys, readings = [], []
+    for it in in_slots():
+        spans = f"{key_texts().span(it.text)} {len(readings)} {len(it.readings)}"
+        keys.append(f'    {"Loose" if it.is_loose else "Strict"} {it.part} {spans};')
+        readings += map(reading_text, it.readings)
+    return KEYS_CODE.format(
+        starts=numbers_text(starts()), starts_count=SLOTS + 1, keys="\n".join(keys), count=len(keys),
+        readings="\n".join(readings), readings_count=len(readings),
+    )
+
+
+def texts_code():
+    return TEXTS_CODE.format(keys=rust_text(key_texts().text), types=rust_text(mime_types().text), rows=rust_text(row_texts().text))
+
+
+def reading_text(it):
+    """A reading as numbers: of its type, of its sets and of its leads."""
+    rows = " ".join(str(sets()[rows]) for rows in (it.agrees, it.begins, it.finer))
+    return f"    {types()[it.mime_type, it.origin]} {it.asks} {rows} {leads()[it.leads]};"
+
+
+def type_text(it, origin):
+    row = ROW.fullmatch(origin)
+    return f"    {mime_types().span(it)} {f'Row {row_texts().span(row[1])}' if row else origin};"
+
+
+def types_code():
+    return TYPES_CODE.format(count=len(types()), types="\n".join(type_text(*it) for it in types()))
 
 
 def leads_text(found):
     return f"[{' '.join(f'b{lead}' for lead in found)}]"
 
 
-def reading_text(it):
-    """A reading as numbers: of its type, of its sets and of its leads."""
-    rows = " ".join(str(sets()[rows]) for rows in (it.agrees, it.begins, it.finer))
-    return f"[{types()[it.mime_type, it.origin]} {it.asks} {rows} {leads()[it.leads]}]"
-
-
-def line_of(it):
-    return f'        {"Loose" if it.is_loose else "Strict"} {it.part} "{it.text}" {" ".join(map(reading_text, it.readings))};'
-
-
-def slots_of(number):
-    """The keys of each slot of a group."""
-    return [[it for it in listed() if slot_of(it.text) == number * GROUP + k] for k in range(GROUP)]
-
-
-def group(number):
-    name, first = f"G{number:02}", number * GROUP
-    slots = "\n".join(f"    keys![{''.join(f'{chr(10)}{line_of(it)}' for it in keys)}{chr(10) + '    ' if keys else ''}]," for keys in slots_of(number))
-    return GROUP_CODE.format(first=first, last=first + GROUP - 1, name=name, slots=slots, count=GROUP)
+def sets_code():
+    members, spans = [], []
+    for it in sets():
+        spans.append(f"    {len(members)} {len(it)};")
+        members += [rows()[row] for row in it]
+    return SETS_CODE.format(
+        rows="\n".join(f"    {row_texts().span(it)};" for it in rows()), rows_count=len(rows()),
+        members=numbers_text(members), members_count=len(members), sets="\n".join(spans), sets_count=len(spans),
+        leads="\n".join(f"    {leads_text(found)}" for found in leads()),
+    )
 
 
 def codes(texts):
@@ -431,95 +484,104 @@ def key_term(it):
     return f'key {it.part} (codes "{it.text}") {"true" if it.is_loose else "false"} ({readings})'
 
 
-def slot_term(keys):
-    return "\n".join(["(", *(f"    {key_term(it)} ∷" for it in keys), "    [])"]) if keys else "[]"
-
-
 def listed_terms(terms):
     return "\n".join(f"    {'∷ ' if number else ''}{it}" for number, it in enumerate(terms))
 
 
+def of_group(number):
+    """The keys of the slots of a group."""
+    return in_slots()[starts()[number * GROUP] : starts()[(number + 1) * GROUP]]
+
+
 def group_term(number):
-    first, slots = number * GROUP, slots_of(number)
-    readings = [reading for keys in slots for it in keys for reading in it.readings]
+    first, keys = number * GROUP, of_group(number)
+    readings = [reading for it in keys for reading in it.readings]
     of_sets = {names_of_sets()[rows] for it in readings for rows in (it.agrees, it.begins, it.finer)} | {name_of_leads(it.leads) for it in readings}
     of_types = {names_of_types()[it.mime_type, it.origin] for it in readings}
-    return SLOTS_TERM.format(first, first + GROUP - 1, ", ".join(sorted(of_sets)), ", ".join(sorted(of_types)), listed_terms(map(slot_term, slots)))
+    used = (of_sets, of_types, {it.asks for it in readings}, {it.part for it in keys})
+    return KEYS_TERM.format(first, first + GROUP - 1, *(", ".join(sorted(it)) for it in used), listed_terms(map(key_term, keys)))
 
 
 def names_of(word, count):
     return [f"{word}_{it}" for it in range(count)]
 
 
-def arms(word, count):
-    return "\n".join(f"        {it} => {word}_{it}()," for it in range(count))
-
-
-def types_code():
-    lists = parts(list(types()), TYPES)
-    texts = ("\n".join(f'    "{mime_type}", {origin};' for mime_type, origin in it) for it in lists)
-    return TYPES_CODE.format(
-        names=", ".join(names_of("types", len(lists))), arms=arms("types", len(lists)),
-        lists="\n".join(TYPES_LIST.format(number=number, types=it) for number, it in enumerate(texts)),
-    )
-
-
 def numbers(names):
     return "\n".join(NUMBER_TERM.format(name=it, number=number) for number, it in enumerate(names))
 
 
+def of_types():
+    return parts(list(types()), TYPES)
+
+
+def of_sets():
+    return parts(list(sets()), SETS)
+
+
 def types_term():
-    lists = parts(list(types()), TYPES)
-    terms = (listed_terms(f'named (codes "{mime_type}") {origin_term(origin)}' for mime_type, origin in it) for it in lists)
+    terms = (listed_terms(f'named (codes "{mime_type}") {origin_term(origin)}' for mime_type, origin in it) for it in of_types())
     return TYPES_TERM.format(
         numbers=numbers(names_of_types().values()),
-        names=" ∷ ".join(names_of("types", len(lists))),
+        names=joined(names_of("types", len(of_types()))),
         lists="\n".join(TYPES_LIST_TERM.format(number=number, types=it) for number, it in enumerate(terms)),
     )
 
 
-def laid_out(texts):
-    """The lists of a macro as `rt fmt` lays them out: on one line if it has room for them, or if all are short."""
-    line = "".join(texts)
-    if len(line) < 50:
-        return line
-    return f"\n    {line}\n" if max(map(len, texts)) <= 10 else "\n" + "".join(f"    {it}\n" for it in texts)
-
-
-def sets_code():
-    lists = parts(list(sets()), SETS)
-    texts = (laid_out([rows_text(rows) for rows in it]) for it in lists)
-    return SETS_CODE.format(
-        leads="\n".join(f"    {leads_text(it)}" for it in leads()), names=", ".join(names_of("sets", len(lists))), arms=arms("sets", len(lists)),
-        lists="\n".join(SETS_LIST.format(number=number, sets=it) for number, it in enumerate(texts)),
-    )
-
-
 def sets_term():
-    lists = parts(list(sets()), SETS)
-    terms = (listed_terms(map(rows_term, it)) for it in lists)
+    terms = (listed_terms(map(rows_term, it)) for it in of_sets())
     return SETS_TERM.format(
         numbers=numbers([*map(name_of_leads, leads())]) + "\n" + numbers(names_of_sets().values()),
-        leads=listed_terms(map(leads_term, leads())), names=" ∷ ".join(names_of("sets", len(lists))),
+        leads=listed_terms(map(leads_term, leads())), names=joined(names_of("sets", len(of_sets()))),
         lists="\n".join(SETS_LIST_TERM.format(number=number, sets=it) for number, it in enumerate(terms)),
     )
 
 
-def placed(number):
-    lists = names_of("types", len(parts(list(types()), TYPES)))
-    return PLACED.format(first=number * GROUP, last=number * GROUP + GROUP - 1, name=f"G{number:02}", count=GROUP, types=" ".join(lists), names=", ".join(lists))
+def joined(names):
+    """The lists of these names, one behind the other."""
+    return " ++ (".join(names) + ")" * (len(names) - 1)
 
 
-def all_placed(count):
-    uses = "\n".join(f"use Rattle.infer_named.proofs.Placed.G{it:02} as g{it:02}" for it in range(count))
-    placed, sixteen = "refl", "refl"
-    for it in reversed(range(count)):
-        placed = f"placed_append {it * GROUP} {GROUP} _ _ g{it:02}.sixteen g{it:02}.placed\n    ({placed})"
-        sixteen = f"and_from _ _ (eq-eqb _ _ g{it:02}.sixteen)\n    ({sixteen})"
-    fit = "tt"
-    for it in reversed(range(count)):
-        fit = f"(g{it:02}.fit, {fit})"
-    return ALL_PLACED.format(uses, placed, GROUP, sixteen, fit)
+def group_proof(number):
+    lists = names_of("types", len(of_types()))
+    start, end = starts()[number * GROUP], starts()[(number + 1) * GROUP]
+    return KEYS_PROOF.format(
+        first=number * GROUP, last=(number + 1) * GROUP - 1, name=f"K{number}", count=end - start, start=start, end=end,
+        types=", ".join(lists), types_names=" ".join(lists),
+    )
+
+
+def parts_proof(word, of, names, constant, lists, size):
+    """That code and definition have the same parts, and the proof of all from theirs."""
+    each = "\n".join(
+        PART_PROOF.format(word=word, of=of, names=names, number=number, constant=constant, start=number * size, count=len(it)) for number, it in enumerate(lists)
+    )
+    numbered = [(number * size, len(it), f"{word}_{number}-listed") for number, it in enumerate(lists)]
+    return each, listed_proof(f"{of}_listed", constant, numbered)
+
+
+def listed_proof(of, constant, numbered):
+    """Each part begins at a place, has a length, and has a proof. Behind the last stands nothing."""
+    start, count, proof = numbered[-1]
+    term = f"listed_last {of} {constant} {start} {count} refl {proof}"
+    for start, count, proof in reversed(numbered[:-1]):
+        term = f"listed_append {of} {constant} {start} {count} {proof}\n    ({term})"
+    return f"\n    {term}"
+
+
+def all_proof():
+    count = SLOTS // GROUP
+    uses = "\n".join(f"use Rattle.infer_named.proofs.Placed.K{it} as k{it}" for it in range(count))
+    numbered = [(starts()[it * GROUP], len(of_group(it)), f"k{it}.listed") for it in range(count)]
+    right = f"k{count - 1}.right"
+    for it in reversed(range(count - 1)):
+        right = f"right_append starts {len(in_slots())} {starts()[it * GROUP]} {len(of_group(it))} _ _ refl k{it}.many k{it}.right\n    ({right})"
+    types_each, types_all = parts_proof("types", "type", "mime_types row_texts", "TYPES", of_types(), TYPES)
+    sets_each, sets_all = parts_proof("sets", "set", "members row_spans row_texts", "SETS", of_sets(), SETS)
+    return ALL_PROOF.format(
+        uses=uses, keys_listed=listed_proof("key_listed", "KEYS", numbered), right=f"\n    {right}", count=len(in_slots()),
+        types=", ".join(names_of("types", len(of_types()))), sets=", ".join(names_of("sets", len(of_sets()))),
+        of_types=types_each, of_sets=sets_each, types_listed=types_all, sets_listed=sets_all,
+    )
 
 
 VECTORS, SHORT = "vectors/named.tsv", 80
@@ -578,23 +640,17 @@ def tests():
 
 def made():
     yield f"{CRATE}/src/tests/generated.rt", tests()
-    count = SLOTS // GROUP
-    for number in range(count):
-        yield f"{CRATE}/src/table/generated/g{number:02}.rt", group(number)
-    mods = "\n".join(f"mod g{it:02};" for it in range(count))
-    by_number = "\n".join(f"        {it} => g{it:02}::slots()," for it in range(count - 1))
-    yield f"{CRATE}/src/table/generated.rt", GROUPS.format(mods=mods, size=GROUP, arms=by_number, count=count, final=count - 1)
-    yield f"{CRATE}/src/table/generated/types.rt", types_code()
-    yield f"{CRATE}/src/table/generated/sets.rt", sets_code()
+    for name, code in (("keys", keys_code), ("texts", texts_code), ("types", types_code), ("sets", sets_code)):
+        yield f"{CRATE}/src/table/generated/{name}.rt", code()
     yield f"{CRATE}/specs/Types.antt", types_term()
     yield f"{CRATE}/specs/Sets.antt", sets_term()
-    for number in range(count):
-        yield f"{CRATE}/specs/Slots/G{number:02}.antt", group_term(number)
-    for number in range(count):
-        yield f"{CRATE}/proofs/Placed/G{number:02}.antt", placed(number)
-    yield f"{CRATE}/proofs/Placed.antt", SLOTS_HEAD.format(GROUP) + "".join(f"pub mod G{it:02}\n" for it in range(count))
-    yield f"{CRATE}/proofs/PlacedLemmas.antt", all_placed(count)
-    yield f"{CRATE}/specs/Slots.antt", SLOTS_HEAD.format(GROUP) + "".join(f"pub mod G{it:02}\n" for it in range(count))
-    uses = "\n".join(f"use Rattle.infer_named.specs.Slots.G{it:02} as g{it:02}" for it in range(count))
-    terms = listed_terms(f"g{it:02}.group" for it in range(count))
-    yield f"{CRATE}/specs/Table.antt", TABLE.format(size=GROUP, uses=uses, groups=terms)
+    lists = range(SLOTS // GROUP)
+    for number in lists:
+        yield f"{CRATE}/specs/Keys/K{number}.antt", group_term(number)
+        yield f"{CRATE}/proofs/Placed/K{number}.antt", group_proof(number)
+    mods = KEYS_HEAD.format(GROUP) + "".join(f"pub mod K{it}\n" for it in lists)
+    yield f"{CRATE}/specs/Keys.antt", mods
+    yield f"{CRATE}/proofs/Placed.antt", mods
+    yield f"{CRATE}/proofs/PlacedLemmas.antt", all_proof()
+    uses = "\n".join(f"use Rattle.infer_named.specs.Keys.K{it} as k{it}" for it in lists)
+    yield f"{CRATE}/specs/Table.antt", TABLE.format(uses=uses, keys=joined([f"k{it}.keys" for it in lists]))

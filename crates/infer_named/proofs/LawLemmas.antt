@@ -1,5 +1,5 @@
 -- Laws of names and bytes.
-use Rattle.std.proofs.Common.{All, ◌++◌, ◌+◌, ◌<◌, ◌==◌, ◌||◌, drop, take, filter, get_or, nat_eq, slice_index, arith, ◌≡◌, ◌≢◌, ◌↔◌, ◌&&◌, ◌∙◌, ℕ, Bool, true, false, IsTrue, List, [], ◌∷◌, Option, None, Some, ap, sym, subst, refl, length, not, option_map, inl, inr, if◌then◌else◌}
+use Rattle.std.proofs.Common.{All, ◌++◌, ◌<◌, ◌==◌, ◌||◌, drop, take, nat_eq, arith, ◌≡◌, ◌≢◌, ◌&&◌, ◌∙◌, ℕ, Bool, true, false, IsTrue, List, [], ◌∷◌, Option, None, Some, ap, sym, subst, refl, length, not, option_map, inl, inr, if◌then◌else◌}
 use Rattle.std.proofs.lemmas.Bool.{and_parts, cases_Bool, eqb-true}
 use Rattle.std.proofs.lemmas.List.{get_or_append_left, length-append}
 use Rattle.std.proofs.lemmas.List.Elements.{filter-append}
@@ -15,16 +15,13 @@ use Rattle.infer_more.specs.Table.{further}
 use Rattle.infer_more.specs.Wider.{IsWiderAnswer, Widens, shown_at, wider}
 use Rattle.infer.specs.Triple.{Triple}
 use Rattle.infer_named.specs.Asks.{admits}
-use Rattle.infer_named.specs.Join.{Answer, answer, fits, is_among, join, joined_with, joined_without, of_bytes, of_name, reading_of, reading_without, takes, told_by}
+use Rattle.infer_named.specs.Join.{Answer, answer, fits, is_among, join, joined_with, joined_without, of_bytes, of_name, reading_of, reading_without, takes}
 use Rattle.infer_named.specs.Key.{Key, Reading}
-use Rattle.infer_named.specs.Bytes.{HasZero, IsKind, lead_of, shown, unmarked, without_white}
-use Rattle.infer_named.specs.Laws.{AnswersLast, BytesWin, KindsLast, LeadsLast, LiesStayVisible, NothingIsInvented, OnlyTheKeyCounts, OnlyThreeCount, SilenceIsExact, TheBytesWin, has_no_leads, is_silent, tells_bytes}
-use Rattle.infer_named.specs.Named.{IsNamed, answer_of, key_of}
+use Rattle.infer_named.specs.Bytes.{HasZero, lead_of, shown, unmarked, without_white}
+use Rattle.infer_named.specs.Laws.{AnswersLast, KindsLast, LeadsLast, LiesStayVisible, NothingIsInvented, OnlyTheKeyCounts, OnlyThreeCount, SilenceIsExact, TheBytesWin, has_no_leads, is_silent, tells_bytes}
+use Rattle.infer_named.specs.Named.{key_of}
 use Rattle.infer_named.specs.declared.bytes.Kind.{Kind}
-use Rattle.infer_named.specs.declared.bytes.Kind.TheVariants.{Binary}
-use Rattle.infer_named.specs.declared.join.Named.{Named}
-use Rattle.infer_named.specs.declared.join.Standing.{Standing}
-use Rattle.infer_named.specs.declared.join.Standing.TheVariants.{Agree, BytesAlone, BytesRefine, Contradicts, NameAlone, NameRefines, Nothing}
+use Rattle.infer_named.specs.declared.join.Standing.TheVariants.{Agree, BytesRefine, Contradicts, NameAlone, NameRefines, Nothing}
 
 -- what is found passes
 pub found_passes : {A : Type 0} (p : A → Bool) (xs : List A) (x : A) → find p xs ≡ Some x → IsTrue (p x)

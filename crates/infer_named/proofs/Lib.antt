@@ -1,4 +1,7 @@
 pub mod SmallLemmas
+pub mod ListLemmas
+pub mod StretchLemmas
+pub mod AsciiLemmas
 pub mod FindLemmas
 pub mod Placed
 pub mod PlacedLemmas

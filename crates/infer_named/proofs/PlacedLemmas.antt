@@ -1,118 +1,92 @@
--- Made by `tools/tables` from names.txt: each key stands in its slot, a group has sixteen slots, and no key is wrong.
-use Rattle.std.proofs.Common.{◌≡◌, ◌==◌, [], IsTrue, length, map, refl}
-use Rattle.std.proofs.lemmas.Bool.{and_from, eq-eqb}
-use Rattle.std.specs.List.{list_all}
-use Rattle.infer_named.proofs.FindLemmas.{all_fit, placed_append}
-use Rattle.infer_named.specs.Laws.{wrong_keys}
-use Rattle.infer_named.specs.Names.{are_placed, joined}
-use Rattle.infer_named.specs.Table.{groups}
-use Rattle.infer_named.proofs.Placed.G00 as g00
-use Rattle.infer_named.proofs.Placed.G01 as g01
-use Rattle.infer_named.proofs.Placed.G02 as g02
-use Rattle.infer_named.proofs.Placed.G03 as g03
-use Rattle.infer_named.proofs.Placed.G04 as g04
-use Rattle.infer_named.proofs.Placed.G05 as g05
-use Rattle.infer_named.proofs.Placed.G06 as g06
-use Rattle.infer_named.proofs.Placed.G07 as g07
-use Rattle.infer_named.proofs.Placed.G08 as g08
-use Rattle.infer_named.proofs.Placed.G09 as g09
-use Rattle.infer_named.proofs.Placed.G10 as g10
-use Rattle.infer_named.proofs.Placed.G11 as g11
-use Rattle.infer_named.proofs.Placed.G12 as g12
-use Rattle.infer_named.proofs.Placed.G13 as g13
-use Rattle.infer_named.proofs.Placed.G14 as g14
-use Rattle.infer_named.proofs.Placed.G15 as g15
-use Rattle.infer_named.proofs.Placed.G16 as g16
-use Rattle.infer_named.proofs.Placed.G17 as g17
-use Rattle.infer_named.proofs.Placed.G18 as g18
-use Rattle.infer_named.proofs.Placed.G19 as g19
-use Rattle.infer_named.proofs.Placed.G20 as g20
-use Rattle.infer_named.proofs.Placed.G21 as g21
-use Rattle.infer_named.proofs.Placed.G22 as g22
-use Rattle.infer_named.proofs.Placed.G23 as g23
-use Rattle.infer_named.proofs.Placed.G24 as g24
-use Rattle.infer_named.proofs.Placed.G25 as g25
-use Rattle.infer_named.proofs.Placed.G26 as g26
-use Rattle.infer_named.proofs.Placed.G27 as g27
-use Rattle.infer_named.proofs.Placed.G28 as g28
-use Rattle.infer_named.proofs.Placed.G29 as g29
-use Rattle.infer_named.proofs.Placed.G30 as g30
-use Rattle.infer_named.proofs.Placed.G31 as g31
+-- Made by `tools/tables` from names.txt: code and definition have the same keys, types and sets, and no key is wrong.
+use Rattle.std.proofs.Common.{◌≡◌, [], drop, map, refl, take}
+use Rattle.infer_named.proofs.FindLemmas.{right_append, wrong_from}
+use Rattle.infer_named.proofs.ListLemmas.{listed_append, listed_last}
+use Rattle.infer_named.specs.Listed.{key_listed, members, mime_types, row_spans, row_texts, set_listed, type_listed}
+use Rattle.infer_named.specs.Sets.{sets, sets_0, sets_1, sets_2}
+use Rattle.infer_named.specs.Slots.{starts}
+use Rattle.infer_named.specs.Table.{keys}
+use Rattle.infer_named.specs.Types.{types, types_0, types_1, types_2, types_3, types_4}
+use Rattle.infer_named.specs.declared.table.generated.keys.TheConstants.{KEYS}
+use Rattle.infer_named.specs.declared.table.generated.sets.TheConstants.{SETS}
+use Rattle.infer_named.specs.declared.table.generated.types.TheConstants.{TYPES}
+use Rattle.infer_named.proofs.Placed.K0 as k0
+use Rattle.infer_named.proofs.Placed.K1 as k1
+use Rattle.infer_named.proofs.Placed.K2 as k2
+use Rattle.infer_named.proofs.Placed.K3 as k3
+use Rattle.infer_named.proofs.Placed.K4 as k4
+use Rattle.infer_named.proofs.Placed.K5 as k5
+use Rattle.infer_named.proofs.Placed.K6 as k6
+use Rattle.infer_named.proofs.Placed.K7 as k7
 
-pub placed : IsTrue (are_placed 0 (joined groups))
-unfolding groups
-placed =
-    placed_append 0 16 _ _ g00.sixteen g00.placed
-    (placed_append 16 16 _ _ g01.sixteen g01.placed
-    (placed_append 32 16 _ _ g02.sixteen g02.placed
-    (placed_append 48 16 _ _ g03.sixteen g03.placed
-    (placed_append 64 16 _ _ g04.sixteen g04.placed
-    (placed_append 80 16 _ _ g05.sixteen g05.placed
-    (placed_append 96 16 _ _ g06.sixteen g06.placed
-    (placed_append 112 16 _ _ g07.sixteen g07.placed
-    (placed_append 128 16 _ _ g08.sixteen g08.placed
-    (placed_append 144 16 _ _ g09.sixteen g09.placed
-    (placed_append 160 16 _ _ g10.sixteen g10.placed
-    (placed_append 176 16 _ _ g11.sixteen g11.placed
-    (placed_append 192 16 _ _ g12.sixteen g12.placed
-    (placed_append 208 16 _ _ g13.sixteen g13.placed
-    (placed_append 224 16 _ _ g14.sixteen g14.placed
-    (placed_append 240 16 _ _ g15.sixteen g15.placed
-    (placed_append 256 16 _ _ g16.sixteen g16.placed
-    (placed_append 272 16 _ _ g17.sixteen g17.placed
-    (placed_append 288 16 _ _ g18.sixteen g18.placed
-    (placed_append 304 16 _ _ g19.sixteen g19.placed
-    (placed_append 320 16 _ _ g20.sixteen g20.placed
-    (placed_append 336 16 _ _ g21.sixteen g21.placed
-    (placed_append 352 16 _ _ g22.sixteen g22.placed
-    (placed_append 368 16 _ _ g23.sixteen g23.placed
-    (placed_append 384 16 _ _ g24.sixteen g24.placed
-    (placed_append 400 16 _ _ g25.sixteen g25.placed
-    (placed_append 416 16 _ _ g26.sixteen g26.placed
-    (placed_append 432 16 _ _ g27.sixteen g27.placed
-    (placed_append 448 16 _ _ g28.sixteen g28.placed
-    (placed_append 464 16 _ _ g29.sixteen g29.placed
-    (placed_append 480 16 _ _ g30.sixteen g30.placed
-    (placed_append 496 16 _ _ g31.sixteen g31.placed
-    (refl))))))))))))))))))))))))))))))))
+pub keys_listed : map key_listed KEYS ≡ keys
+unfolding keys
+keys_listed =
+    listed_append key_listed KEYS 0 269 k0.listed
+    (listed_append key_listed KEYS 269 262 k1.listed
+    (listed_append key_listed KEYS 531 230 k2.listed
+    (listed_append key_listed KEYS 761 259 k3.listed
+    (listed_append key_listed KEYS 1020 254 k4.listed
+    (listed_append key_listed KEYS 1274 233 k5.listed
+    (listed_append key_listed KEYS 1507 244 k6.listed
+    (listed_last key_listed KEYS 1751 221 refl k7.listed)))))))
 
-pub sixteen : IsTrue (list_all (λ g. length g == 16) groups)
-unfolding groups
-sixteen =
-    and_from _ _ (eq-eqb _ _ g00.sixteen)
-    (and_from _ _ (eq-eqb _ _ g01.sixteen)
-    (and_from _ _ (eq-eqb _ _ g02.sixteen)
-    (and_from _ _ (eq-eqb _ _ g03.sixteen)
-    (and_from _ _ (eq-eqb _ _ g04.sixteen)
-    (and_from _ _ (eq-eqb _ _ g05.sixteen)
-    (and_from _ _ (eq-eqb _ _ g06.sixteen)
-    (and_from _ _ (eq-eqb _ _ g07.sixteen)
-    (and_from _ _ (eq-eqb _ _ g08.sixteen)
-    (and_from _ _ (eq-eqb _ _ g09.sixteen)
-    (and_from _ _ (eq-eqb _ _ g10.sixteen)
-    (and_from _ _ (eq-eqb _ _ g11.sixteen)
-    (and_from _ _ (eq-eqb _ _ g12.sixteen)
-    (and_from _ _ (eq-eqb _ _ g13.sixteen)
-    (and_from _ _ (eq-eqb _ _ g14.sixteen)
-    (and_from _ _ (eq-eqb _ _ g15.sixteen)
-    (and_from _ _ (eq-eqb _ _ g16.sixteen)
-    (and_from _ _ (eq-eqb _ _ g17.sixteen)
-    (and_from _ _ (eq-eqb _ _ g18.sixteen)
-    (and_from _ _ (eq-eqb _ _ g19.sixteen)
-    (and_from _ _ (eq-eqb _ _ g20.sixteen)
-    (and_from _ _ (eq-eqb _ _ g21.sixteen)
-    (and_from _ _ (eq-eqb _ _ g22.sixteen)
-    (and_from _ _ (eq-eqb _ _ g23.sixteen)
-    (and_from _ _ (eq-eqb _ _ g24.sixteen)
-    (and_from _ _ (eq-eqb _ _ g25.sixteen)
-    (and_from _ _ (eq-eqb _ _ g26.sixteen)
-    (and_from _ _ (eq-eqb _ _ g27.sixteen)
-    (and_from _ _ (eq-eqb _ _ g28.sixteen)
-    (and_from _ _ (eq-eqb _ _ g29.sixteen)
-    (and_from _ _ (eq-eqb _ _ g30.sixteen)
-    (and_from _ _ (eq-eqb _ _ g31.sixteen)
-    (refl))))))))))))))))))))))))))))))))
+pub right : wrong_from starts 1972 0 keys ≡ []
+unfolding keys
+right =
+    right_append starts 1972 0 269 _ _ refl k0.many k0.right
+    (right_append starts 1972 269 262 _ _ refl k1.many k1.right
+    (right_append starts 1972 531 230 _ _ refl k2.many k2.right
+    (right_append starts 1972 761 259 _ _ refl k3.many k3.right
+    (right_append starts 1972 1020 254 _ _ refl k4.many k4.right
+    (right_append starts 1972 1274 233 _ _ refl k5.many k5.right
+    (right_append starts 1972 1507 244 _ _ refl k6.many k6.right
+    (k7.right)))))))
 
-pub fit : joined (map wrong_keys (joined groups)) ≡ []
-unfolding groups
-fit = all_fit groups (g00.fit, (g01.fit, (g02.fit, (g03.fit, (g04.fit, (g05.fit, (g06.fit, (g07.fit, (g08.fit, (g09.fit, (g10.fit, (g11.fit, (g12.fit, (g13.fit, (g14.fit, (g15.fit, (g16.fit, (g17.fit, (g18.fit, (g19.fit, (g20.fit, (g21.fit, (g22.fit, (g23.fit, (g24.fit, (g25.fit, (g26.fit, (g27.fit, (g28.fit, (g29.fit, (g30.fit, (g31.fit, tt))))))))))))))))))))))))))))))))
+types_0-listed : map type_listed (take 256 (drop 0 TYPES)) ≡ types_0
+unfolding types_0 mime_types row_texts
+types_0-listed = refl
+
+types_1-listed : map type_listed (take 256 (drop 256 TYPES)) ≡ types_1
+unfolding types_1 mime_types row_texts
+types_1-listed = refl
+
+types_2-listed : map type_listed (take 256 (drop 512 TYPES)) ≡ types_2
+unfolding types_2 mime_types row_texts
+types_2-listed = refl
+
+types_3-listed : map type_listed (take 256 (drop 768 TYPES)) ≡ types_3
+unfolding types_3 mime_types row_texts
+types_3-listed = refl
+
+types_4-listed : map type_listed (take 4 (drop 1024 TYPES)) ≡ types_4
+unfolding types_4 mime_types row_texts
+types_4-listed = refl
+
+pub types_listed : map type_listed TYPES ≡ types
+unfolding types
+types_listed =
+    listed_append type_listed TYPES 0 256 types_0-listed
+    (listed_append type_listed TYPES 256 256 types_1-listed
+    (listed_append type_listed TYPES 512 256 types_2-listed
+    (listed_append type_listed TYPES 768 256 types_3-listed
+    (listed_last type_listed TYPES 1024 4 refl types_4-listed))))
+
+sets_0-listed : map set_listed (take 128 (drop 0 SETS)) ≡ sets_0
+unfolding sets_0 members row_spans row_texts
+sets_0-listed = refl
+
+sets_1-listed : map set_listed (take 128 (drop 128 SETS)) ≡ sets_1
+unfolding sets_1 members row_spans row_texts
+sets_1-listed = refl
+
+sets_2-listed : map set_listed (take 100 (drop 256 SETS)) ≡ sets_2
+unfolding sets_2 members row_spans row_texts
+sets_2-listed = refl
+
+pub sets_listed : map set_listed SETS ≡ sets
+unfolding sets
+sets_listed =
+    listed_append set_listed SETS 0 128 sets_0-listed
+    (listed_append set_listed SETS 128 128 sets_1-listed
+    (listed_last set_listed SETS 256 100 refl sets_2-listed))

@@ -1,5 +1,5 @@
 -- Laws of names and bytes. They hold for every key, so for every table.
-use Rattle.std.specs.Prelude.{All, ◌==◌, ◌&&◌, ◌||◌, if◌then◌else◌, map, nat_le, nat_lt, ◌≡◌, ◌≢◌, ◌↔◌, ◌<◌, ◌++◌, ℕ, Bool, false, true, IsTrue, List, [], ◌∷◌, Option, None, Some, length, not, option_map}
+use Rattle.std.specs.Prelude.{All, ◌==◌, ◌&&◌, ◌||◌, if◌then◌else◌, nat_le, nat_lt, ◌≡◌, ◌≢◌, ◌↔◌, ◌<◌, ◌++◌, ℕ, Bool, false, true, IsTrue, List, [], ◌∷◌, Option, None, Some, length, not, option_map}
 use Rattle.std.specs.List.{list_all, list_any}
 use Rattle.std.specs.Option.{option_map_or}
 use Rattle.infer.specs.Triple.{Triple}
@@ -7,10 +7,10 @@ use Rattle.infer_formats.specs.Text.{IsText}
 use Rattle.infer_more.specs.Wider.{IsWiderAnswer}
 use Rattle.infer_named.specs.Asks.{admits}
 use Rattle.infer_named.specs.Bytes.{IsKind, lead_of}
-use Rattle.infer_named.specs.Join.{Answer, answer, fits, is_among, join, of_bytes, of_name, reading_of, reading_without, takes}
+use Rattle.infer_named.specs.Join.{answer, is_among, join, of_bytes, of_name, reading_of, reading_without, takes}
 use Rattle.infer_named.specs.Key.{Key, Reading}
-use Rattle.infer_named.specs.Names.{is_key, joined}
-use Rattle.infer_named.specs.Table.{groups}
+use Rattle.infer_named.specs.Names.{is_key}
+use Rattle.infer_named.specs.Table.{keys}
 use Rattle.infer_named.specs.Named.{IsNamed, answer_of, key_of}
 use Rattle.infer_named.specs.declared.bytes.Kind.{Kind}
 use Rattle.infer_named.specs.declared.bytes.Kind.TheVariants.{Binary}
@@ -114,6 +114,6 @@ abbrev pub wrong_keys : List Key → List (List ℕ)
 wrong_keys [] = []
 wrong_keys (k ∷ keys) = if is_key_right k && not (list_any (is_key k.part k.text) keys) then wrong_keys keys else k.text ∷ wrong_keys keys
 
--- no key of a slot is wrong
+-- no key of the table is wrong
 abbrev pub KeysAreRight : Type 0
-KeysAreRight = joined (map wrong_keys (joined groups)) ≡ []
+KeysAreRight = wrong_keys keys ≡ []

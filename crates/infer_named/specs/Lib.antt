@@ -4,8 +4,9 @@ pub mod Types
 pub mod Sets
 pub mod Listed
 pub mod Names
-pub mod Slots
+pub mod Keys
 pub mod Table
+pub mod Slots
 pub mod Bytes
 pub mod Asks
 pub mod Join

@@ -1,23 +1,58 @@
 -- The table as the code lists it.
-use Rattle.std.specs.Prelude.{◌/◌, ◌%◌, ℕ, List, [], get_or, map}
+use Rattle.std.specs.Prelude.{ℕ, List, [], drop, get_or, map, take}
 use denote.Ref.{Bor}
 use Rattle.infer_named.specs.Key.{Key, NamedType, Origin, Reading, key, known, named, own, row}
-use Rattle.infer_named.specs.Sets.{lead_lists, set_groups}
-use Rattle.infer_named.specs.Types.{type_groups}
+use Rattle.infer_named.specs.Sets.{lead_lists, sets}
+use Rattle.infer_named.specs.Types.{types}
 use Rattle.infer_named.specs.declared.table.Asks.{Asks}
 use Rattle.infer_named.specs.declared.table.Key as code_key
 use Rattle.infer_named.specs.declared.table.NamedType as code_type
 use Rattle.infer_named.specs.declared.table.Origin as code_origin
 use Rattle.infer_named.specs.declared.table.Origin.TheVariants.{Known, Own, Row}
 use Rattle.infer_named.specs.declared.table.Reading as code_reading
+use Rattle.infer_named.specs.declared.table.Span.{Span}
+use Rattle.infer_named.specs.declared.table.generated.keys.TheConstants.{READINGS}
+use Rattle.infer_named.specs.declared.table.generated.sets.TheConstants.{MEMBERS, ROWS}
+use Rattle.infer_named.specs.declared.table.generated.texts.TheConstants.{KEY_TEXTS, MIME_TYPES, ROW_TEXTS}
+
+-- so many elements of a list from a place on, or those that there are
+abbrev pub stretch : {A : Type 0} → List A → ℕ → ℕ → List A
+stretch list start count = take count (drop start list)
+
+-- the texts of the keys, of the types and of the rows, each text behind the other
+unfoldable pub key_texts : List ℕ
+key_texts = KEY_TEXTS.now
+
+unfoldable pub mime_types : List ℕ
+mime_types = MIME_TYPES.now
+
+unfoldable pub row_texts : List ℕ
+row_texts = ROW_TEXTS.now
+
+-- where the texts of the rows stand, the numbers of the rows of the sets, and the readings of the keys
+unfoldable pub row_spans : List Span
+row_spans = ROWS
+
+unfoldable pub members : List ℕ
+members = MEMBERS
+
+unfoldable pub readings : List code_reading.Reading
+readings = READINGS
+
+-- what stands at a span among the MIME types, and among the texts of rows
+abbrev pub mime_type : Span → List ℕ
+mime_type span = stretch mime_types span.start span.count
+
+abbrev pub row_text : Span → List ℕ
+row_text span = stretch row_texts span.start span.count
 
 abbrev pub origin_listed : code_origin.Origin → Origin
-origin_listed (Row extension) = row extension.now
+origin_listed (Row extension) = row (row_text extension)
 origin_listed Known = known
 origin_listed Own = own
 
 abbrev pub type_listed : code_type.NamedType → NamedType
-type_listed t = record { mime_type = t.mime_type.now; origin = origin_listed t.origin }
+type_listed t = record { mime_type = mime_type t.mime_type; origin = origin_listed t.origin }
 
 -- what a list of texts points to
 abbrev pub texts : List (Bor (List ℕ)) → List (List ℕ)
@@ -27,12 +62,20 @@ texts list = map (λ text. text.now) list
 abbrev pub lists_of_texts : List (Bor (List (Bor (List ℕ)))) → List (List (List ℕ))
 lists_of_texts lists = map (λ list. texts list.now) lists
 
--- the type, the rows and the leads of a number, by lists of 64 types and of 24 sets
+-- the row of a number, and none by its text for a number too great
+abbrev pub row_at : ℕ → List ℕ
+row_at n = get_or (map row_text row_spans) n []
+
+-- the rows of the numbers at a span
+abbrev pub set_listed : Span → List (List ℕ)
+set_listed span = map row_at (stretch members span.start span.count)
+
+-- the type, the rows and the leads of a number
 abbrev pub type_at : ℕ → NamedType
-type_at n = get_or (get_or type_groups (n / 64) []) (n % 64) (named [] own)
+type_at n = get_or types n (named [] own)
 
 abbrev pub rows_at : ℕ → List (List ℕ)
-rows_at n = get_or (get_or set_groups (n / 24) []) (n % 24) []
+rows_at n = get_or sets n []
 
 abbrev pub leads_at : ℕ → List (List ℕ)
 leads_at n = get_or lead_lists n []
@@ -52,8 +95,5 @@ abbrev pub reading_listed : code_reading.Reading → Reading
 reading_listed r = reading r.named r.asks r.agrees r.begins r.finer r.leads
 
 abbrev pub key_listed : code_key.Key → Key
-key_listed k = key k.part k.text.now k.is_loose (map reading_listed k.readings.now)
-
--- the keys of each slot
-abbrev pub slots_listed : List (Bor (List code_key.Key)) → List (List Key)
-slots_listed slots = map (λ slot. map key_listed slot.now) slots
+key_listed k =
+    key k.part (stretch key_texts k.text.start k.text.count) k.is_loose (map reading_listed (stretch readings k.readings.start k.readings.count))

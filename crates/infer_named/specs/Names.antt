@@ -1,7 +1,7 @@
 -- The key of a name.
-use Rattle.std.specs.Prelude.{◌≡◌, ◌+◌, ◌-◌, ◌*◌, ◌/◌, ◌%◌, ◌==◌, ◌&&◌, ◌||◌, ℕ, Bool, true, false, List, [], ◌∷◌, ◌++◌, Option, None, Some, MatchOption, codes, drop, get_or, if◌then◌else◌, length, map, nat_le, nat_lt, not, take, unwrap_or}
+use Rattle.std.specs.Prelude.{◌≡◌, ◌+◌, ◌-◌, ◌*◌, ◌/◌, ◌%◌, ◌==◌, ◌&&◌, ◌||◌, ℕ, Bool, true, false, List, [], ◌∷◌, Option, None, Some, MatchOption, codes, drop, get_or, if◌then◌else◌, length, map, nat_le, nat_lt, not, take, unwrap_or}
 use Rattle.std.specs.Char.{to_ascii_lowercase}
-use Rattle.std.specs.List.{find, list_all, list_any}
+use Rattle.std.specs.List.{find, list_any}
 use Rattle.std.specs.Option.{option_map_or, option_or}
 use Rattle.std.specs.Str.{bytes_eq}
 use Rattle.memchr.specs.Find.{IsFirstByte, IsLast, IsLastByte, Passes, is_byte, is_byte2}
@@ -131,13 +131,3 @@ abbrev pub slot_of : List ℕ → ℕ
 slot_of [] = 0
 slot_of (c ∷ text) =
     (length (c ∷ text) + 118 * c + 203 * get_or (c ∷ text) (length (c ∷ text) / 2) 0 + 36 * get_or (c ∷ text) (length text) 0) % 512
-
--- the elements of some lists, one list after the other
-abbrev pub joined : {A : Type 0} → List (List A) → List A
-joined [] = []
-joined (xs ∷ others) = xs ++ joined others
-
--- the keys of each slot have it, from slot i on
-abbrev pub are_placed : ℕ → List (List Key) → Bool
-are_placed i [] = true
-are_placed i (slot ∷ slots) = list_all (λ k. slot_of k.text == i) slot && are_placed (i + 1) slots

@@ -1,5 +1,5 @@
 -- Made by `tools/tables` from names.txt: the sets of rows that readings have, and their leads, and the numbers of both.
-use Rattle.std.specs.Prelude.{ℕ, List, [], ◌∷◌, codes}
+use Rattle.std.specs.Prelude.{ℕ, List, [], ◌∷◌, ◌++◌, codes}
 use Rattle.infer_named.specs.Texts.{none, any, texts}
 
 abbrev pub any-lead : ℕ
@@ -1152,11 +1152,7 @@ sets_0 =
     ∷ (codes "apk" ∷ [])
     ∷ (codes "apk" ∷ codes "jar" ∷ codes "zip" ∷ [])
     ∷ (codes "apng" ∷ [])
-    ∷ []
-
-unfoldable pub sets_1 : List (List (List ℕ))
-sets_1 =
-    (codes "appimage" ∷ [])
+    ∷ (codes "appimage" ∷ [])
     ∷ (codes "appimage" ∷ codes "core" ∷ codes "o" ∷ codes "so" ∷ [])
     ∷ (codes "application/vnd.apple.keynote" ∷ [])
     ∷ (codes "application/x-installshield" ∷ [])
@@ -1180,11 +1176,7 @@ sets_1 =
     ∷ (codes "avif" ∷ [])
     ∷ (codes "avro" ∷ [])
     ∷ (codes "awk" ∷ [])
-    ∷ []
-
-unfoldable pub sets_2 : List (List (List ℕ))
-sets_2 =
-    (codes "bc" ∷ [])
+    ∷ (codes "bc" ∷ [])
     ∷ (codes "bdb" ∷ [])
     ∷ (codes "beam" ∷ [])
     ∷ (codes "blend" ∷ [])
@@ -1208,11 +1200,7 @@ sets_2 =
     ∷ (codes "cur" ∷ [])
     ∷ (codes "dbf" ∷ [])
     ∷ (codes "dcm" ∷ [])
-    ∷ []
-
-unfoldable pub sets_3 : List (List (List ℕ))
-sets_3 =
-    (codes "deb" ∷ [])
+    ∷ (codes "deb" ∷ [])
     ∷ (codes "der" ∷ [])
     ∷ (codes "der" ∷ codes "key" ∷ codes "pem" ∷ [])
     ∷ (codes "der" ∷ codes "p7b" ∷ codes "pem" ∷ [])
@@ -1236,11 +1224,7 @@ sets_3 =
     ∷ (codes "elf" ∷ codes "so" ∷ [])
     ∷ (codes "eot" ∷ [])
     ∷ (codes "eps" ∷ [])
-    ∷ []
-
-unfoldable pub sets_4 : List (List (List ℕ))
-sets_4 =
-    (codes "eps" ∷ codes "pdf" ∷ codes "ps" ∷ [])
+    ∷ (codes "eps" ∷ codes "pdf" ∷ codes "ps" ∷ [])
     ∷ (codes "eps" ∷ codes "pfa" ∷ [])
     ∷ (codes "epub" ∷ [])
     ∷ (codes "evtx" ∷ [])
@@ -1264,11 +1248,7 @@ sets_4 =
     ∷ (codes "gpg" ∷ [])
     ∷ (codes "gpkg" ∷ [])
     ∷ (codes "gpx" ∷ [])
-    ∷ []
-
-unfoldable pub sets_5 : List (List (List ℕ))
-sets_5 =
-    (codes "gtkbuilder" ∷ [])
+    ∷ (codes "gtkbuilder" ∷ [])
     ∷ (codes "gz" ∷ [])
     ∷ (codes "gz" ∷ codes "sqlite" ∷ codes "xml" ∷ [])
     ∷ (codes "gz" ∷ codes "txt" ∷ codes "xml" ∷ [])
@@ -1276,7 +1256,11 @@ sets_5 =
     ∷ (codes "gz" ∷ codes "zip" ∷ [])
     ∷ (codes "gz" ∷ codes "zst" ∷ [])
     ∷ (codes "hdf4" ∷ [])
-    ∷ (codes "hdf5" ∷ [])
+    ∷ []
+
+unfoldable pub sets_1 : List (List (List ℕ))
+sets_1 =
+    (codes "hdf5" ∷ [])
     ∷ (codes "hdr" ∷ [])
     ∷ (codes "heic" ∷ [])
     ∷ (codes "heics" ∷ [])
@@ -1292,11 +1276,7 @@ sets_5 =
     ∷ (codes "html" ∷ codes "txt" ∷ codes "xml" ∷ [])
     ∷ (codes "icc" ∷ [])
     ∷ (codes "icns" ∷ [])
-    ∷ []
-
-unfoldable pub sets_6 : List (List (List ℕ))
-sets_6 =
-    (codes "ico" ∷ [])
+    ∷ (codes "ico" ∷ [])
     ∷ (codes "ics" ∷ [])
     ∷ (codes "ilbm" ∷ [])
     ∷ (codes "it" ∷ [])
@@ -1320,11 +1300,7 @@ sets_6 =
     ∷ (codes "jxl" ∷ [])
     ∷ (codes "jxr" ∷ [])
     ∷ (codes "key" ∷ [])
-    ∷ []
-
-unfoldable pub sets_7 : List (List (List ℕ))
-sets_7 =
-    (codes "kml" ∷ [])
+    ∷ (codes "kml" ∷ [])
     ∷ (codes "kmz" ∷ [])
     ∷ (codes "kpr" ∷ codes "ksp" ∷ codes "kwd" ∷ [])
     ∷ (codes "kra" ∷ [])
@@ -1348,11 +1324,7 @@ sets_7 =
     ∷ (codes "m4b" ∷ [])
     ∷ (codes "m4b" ∷ codes "m4v" ∷ codes "mp4" ∷ [])
     ∷ (codes "m4v" ∷ [])
-    ∷ []
-
-unfoldable pub sets_8 : List (List (List ℕ))
-sets_8 =
-    (codes "mach" ∷ [])
+    ∷ (codes "mach" ∷ [])
     ∷ (codes "mdb" ∷ [])
     ∷ (codes "med" ∷ [])
     ∷ (codes "meta4" ∷ [])
@@ -1376,11 +1348,7 @@ sets_8 =
     ∷ (codes "n64" ∷ [])
     ∷ (codes "ndjson" ∷ [])
     ∷ (codes "nes" ∷ [])
-    ∷ []
-
-unfoldable pub sets_9 : List (List (List ℕ))
-sets_9 =
-    (codes "npy" ∷ [])
+    ∷ (codes "npy" ∷ [])
     ∷ (codes "o" ∷ [])
     ∷ (codes "obj" ∷ [])
     ∷ (codes "odc" ∷ [])
@@ -1404,11 +1372,7 @@ sets_9 =
     ∷ (codes "ora" ∷ [])
     ∷ (codes "orc" ∷ [])
     ∷ (codes "otf" ∷ [])
-    ∷ []
-
-unfoldable pub sets_10 : List (List (List ℕ))
-sets_10 =
-    (codes "otg" ∷ [])
+    ∷ (codes "otg" ∷ [])
     ∷ (codes "otp" ∷ [])
     ∷ (codes "ots" ∷ [])
     ∷ (codes "ott" ∷ [])
@@ -1424,7 +1388,11 @@ sets_10 =
     ∷ (codes "pdf" ∷ [])
     ∷ (codes "pem" ∷ [])
     ∷ (codes "pfa" ∷ codes "pfb" ∷ [])
-    ∷ (codes "pfb" ∷ [])
+    ∷ []
+
+unfoldable pub sets_2 : List (List (List ℕ))
+sets_2 =
+    (codes "pfb" ∷ [])
     ∷ (codes "pgp" ∷ [])
     ∷ (codes "php" ∷ [])
     ∷ (codes "php" ∷ codes "svg" ∷ codes "txt" ∷ codes "xhtml" ∷ codes "xml" ∷ [])
@@ -1432,11 +1400,7 @@ sets_10 =
     ∷ (codes "plist" ∷ [])
     ∷ (codes "plist" ∷ codes "txt" ∷ codes "xml" ∷ [])
     ∷ (codes "png" ∷ [])
-    ∷ []
-
-unfoldable pub sets_11 : List (List (List ℕ))
-sets_11 =
-    (codes "pnm" ∷ [])
+    ∷ (codes "pnm" ∷ [])
     ∷ (codes "ppt" ∷ [])
     ∷ (codes "pptx" ∷ [])
     ∷ (codes "ppu" ∷ [])
@@ -1460,11 +1424,7 @@ sets_11 =
     ∷ (codes "rpm" ∷ [])
     ∷ (codes "rss" ∷ [])
     ∷ (codes "rtf" ∷ [])
-    ∷ []
-
-unfoldable pub sets_12 : List (List (List ℕ))
-sets_12 =
-    (codes "rw2" ∷ [])
+    ∷ (codes "rw2" ∷ [])
     ∷ (codes "safetensors" ∷ [])
     ∷ (codes "sav" ∷ [])
     ∷ (codes "sgi" ∷ [])
@@ -1488,11 +1448,7 @@ sets_12 =
     ∷ (codes "tcl" ∷ [])
     ∷ (codes "terminfo" ∷ [])
     ∷ (codes "tif" ∷ [])
-    ∷ []
-
-unfoldable pub sets_13 : List (List (List ℕ))
-sets_13 =
-    (codes "tnef" ∷ [])
+    ∷ (codes "tnef" ∷ [])
     ∷ (codes "torrent" ∷ [])
     ∷ (codes "ts" ∷ [])
     ∷ (codes "ttc" ∷ [])
@@ -1516,11 +1472,7 @@ sets_13 =
     ∷ (codes "wav" ∷ [])
     ∷ (codes "webm" ∷ [])
     ∷ (codes "webp" ∷ [])
-    ∷ []
-
-unfoldable pub sets_14 : List (List (List ℕ))
-sets_14 =
-    (codes "wiiwad" ∷ [])
+    ∷ (codes "wiiwad" ∷ [])
     ∷ (codes "wim" ∷ [])
     ∷ (codes "wmv" ∷ [])
     ∷ (codes "woff" ∷ [])
@@ -1542,5 +1494,5 @@ sets_14 =
     ∷ (codes "zst" ∷ [])
     ∷ []
 
-unfoldable pub set_groups : List (List (List (List ℕ)))
-set_groups = sets_0 ∷ sets_1 ∷ sets_2 ∷ sets_3 ∷ sets_4 ∷ sets_5 ∷ sets_6 ∷ sets_7 ∷ sets_8 ∷ sets_9 ∷ sets_10 ∷ sets_11 ∷ sets_12 ∷ sets_13 ∷ sets_14 ∷ []
+unfoldable pub sets : List (List (List ℕ))
+sets = sets_0 ++ (sets_1 ++ (sets_2))

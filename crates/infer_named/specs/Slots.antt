@@ -1,33 +1,13 @@
--- Made by `tools/tables` from names.txt: the keys of all slots, 16 a group.
-pub mod G00
-pub mod G01
-pub mod G02
-pub mod G03
-pub mod G04
-pub mod G05
-pub mod G06
-pub mod G07
-pub mod G08
-pub mod G09
-pub mod G10
-pub mod G11
-pub mod G12
-pub mod G13
-pub mod G14
-pub mod G15
-pub mod G16
-pub mod G17
-pub mod G18
-pub mod G19
-pub mod G20
-pub mod G21
-pub mod G22
-pub mod G23
-pub mod G24
-pub mod G25
-pub mod G26
-pub mod G27
-pub mod G28
-pub mod G29
-pub mod G30
-pub mod G31
+-- The slots of keys. A slot has those that stand from where it begins to where the next does.
+use Rattle.std.specs.Prelude.{◌+◌, ◌-◌, ℕ, List, get_or}
+use Rattle.infer_named.specs.Key.{Key}
+use Rattle.infer_named.specs.Listed.{stretch}
+use Rattle.infer_named.specs.Table.{keys}
+use Rattle.infer_named.specs.declared.table.generated.keys.TheConstants.{STARTS}
+
+-- where the keys of each slot begin
+unfoldable pub starts : List ℕ
+starts = STARTS
+
+abbrev pub keys_of_slot : ℕ → List Key
+keys_of_slot n = stretch keys (get_or starts n 0) (get_or starts (n + 1) 0 - get_or starts n 0)

@@ -1,5 +1,5 @@
 -- Made by `tools/tables` from names.txt: the types that names have, and their numbers.
-use Rattle.std.specs.Prelude.{ℕ, List, [], ◌∷◌, codes}
+use Rattle.std.specs.Prelude.{ℕ, List, [], ◌∷◌, ◌++◌, codes}
 use Rattle.infer_named.specs.Key.{NamedType, known, own, row, named}
 
 abbrev pub is-application-appx : ℕ
@@ -3152,11 +3152,7 @@ types_0 =
     ∷ named (codes "application/pkcs8") known
     ∷ named (codes "application/pkix-cert") known
     ∷ named (codes "application/pkix-crl") (row (codes "crl"))
-    ∷ []
-
-unfoldable pub types_1 : List NamedType
-types_1 =
-    named (codes "application/postscript") (row (codes "ps"))
+    ∷ named (codes "application/postscript") (row (codes "ps"))
     ∷ named (codes "application/protobuf") own
     ∷ named (codes "application/raml+yaml") known
     ∷ named (codes "application/rdf+xml") known
@@ -3220,11 +3216,7 @@ types_1 =
     ∷ named (codes "application/vnd.ms-excel.addin.macroEnabled.12") known
     ∷ named (codes "application/vnd.ms-excel.sheet.binary.macroEnabled.12") known
     ∷ named (codes "application/vnd.ms-excel.sheet.macroEnabled.12") known
-    ∷ []
-
-unfoldable pub types_2 : List NamedType
-types_2 =
-    named (codes "application/vnd.ms-excel.template.macroEnabled.12") known
+    ∷ named (codes "application/vnd.ms-excel.template.macroEnabled.12") known
     ∷ named (codes "application/vnd.ms-htmlhelp") (row (codes "chm"))
     ∷ named (codes "application/vnd.ms-outlook") (row (codes "msg"))
     ∷ named (codes "application/vnd.ms-outlook-pst") (row (codes "pst"))
@@ -3288,11 +3280,7 @@ types_2 =
     ∷ named (codes "application/vnd.tcpdump.pcap") (row (codes "pcap"))
     ∷ named (codes "application/vnd.visio") (row (codes "vsd"))
     ∷ named (codes "application/vnd.wolfram.mathematica") known
-    ∷ []
-
-unfoldable pub types_3 : List NamedType
-types_3 =
-    named (codes "application/vnd.wordperfect") known
+    ∷ named (codes "application/vnd.wordperfect") known
     ∷ named (codes "application/voicexml+xml") known
     ∷ named (codes "application/vsix") own
     ∷ named (codes "application/warc") (row (codes "warc"))
@@ -3358,8 +3346,8 @@ types_3 =
     ∷ named (codes "application/x-eclipse+xml") own
     ∷ []
 
-unfoldable pub types_4 : List NamedType
-types_4 =
+unfoldable pub types_1 : List NamedType
+types_1 =
     named (codes "application/x-egg+zip") own
     ∷ named (codes "application/x-elc") own
     ∷ named (codes "application/x-emz") own
@@ -3424,11 +3412,7 @@ types_4 =
     ∷ named (codes "application/x-java-web-archive") own
     ∷ named (codes "application/x-jmeter+xml") own
     ∷ named (codes "application/x-jsa") own
-    ∷ []
-
-unfoldable pub types_5 : List NamedType
-types_5 =
-    named (codes "application/x-jsonc") own
+    ∷ named (codes "application/x-jsonc") own
     ∷ named (codes "application/x-jsp") known
     ∷ named (codes "application/x-kdenlive") own
     ∷ named (codes "application/x-keepass2") own
@@ -3492,11 +3476,7 @@ types_5 =
     ∷ named (codes "application/x-pascal-unit") (row (codes "ppu"))
     ∷ named (codes "application/x-pcapng") (row (codes "pcapng"))
     ∷ named (codes "application/x-pem-key") (row (codes "key"))
-    ∷ []
-
-unfoldable pub types_6 : List NamedType
-types_6 =
-    named (codes "application/x-perf-data") own
+    ∷ named (codes "application/x-perf-data") own
     ∷ named (codes "application/x-phylip") own
     ∷ named (codes "application/x-plist") (row (codes "plist"))
     ∷ named (codes "application/x-ply") own
@@ -3560,11 +3540,7 @@ types_6 =
     ∷ named (codes "application/x-usdz") own
     ∷ named (codes "application/x-vdi-disk") (row (codes "vdi"))
     ∷ named (codes "application/x-vhd-disk") (row (codes "vhd"))
-    ∷ []
-
-unfoldable pub types_7 : List NamedType
-types_7 =
-    named (codes "application/x-vhdx-disk") (row (codes "vhdx"))
+    ∷ named (codes "application/x-vhdx-disk") (row (codes "vhdx"))
     ∷ named (codes "application/x-vim-spell") own
     ∷ named (codes "application/x-vim-swap") own
     ∷ named (codes "application/x-virtualbox-saved-state") own
@@ -3630,8 +3606,8 @@ types_7 =
     ∷ named (codes "audio/x-mo3") (row (codes "mo3"))
     ∷ []
 
-unfoldable pub types_8 : List NamedType
-types_8 =
+unfoldable pub types_2 : List NamedType
+types_2 =
     named (codes "audio/x-mod") known
     ∷ named (codes "audio/x-mpegurl") known
     ∷ named (codes "audio/x-ms-wma") known
@@ -3696,11 +3672,7 @@ types_8 =
     ∷ named (codes "image/x-eps") (row (codes "eps"))
     ∷ named (codes "image/x-epson-erf") known
     ∷ named (codes "image/x-exr") (row (codes "exr"))
-    ∷ []
-
-unfoldable pub types_9 : List NamedType
-types_9 =
-    named (codes "image/x-fuji-raf") (row (codes "raf"))
+    ∷ named (codes "image/x-fuji-raf") (row (codes "raf"))
     ∷ named (codes "image/x-gimp-gbr") (row (codes "gbr"))
     ∷ named (codes "image/x-gimp-pat") (row (codes "pat"))
     ∷ named (codes "image/x-hasselblad-3fr") own
@@ -3764,11 +3736,7 @@ types_9 =
     ∷ named (codes "text/rust") known
     ∷ named (codes "text/sgml") known
     ∷ named (codes "text/tab-separated-values") known
-    ∷ []
-
-unfoldable pub types_10 : List NamedType
-types_10 =
-    named (codes "text/troff") known
+    ∷ named (codes "text/troff") known
     ∷ named (codes "text/turtle") known
     ∷ named (codes "text/uri-list") known
     ∷ named (codes "text/vbscript") known
@@ -3832,11 +3800,7 @@ types_10 =
     ∷ named (codes "text/x-coq") own
     ∷ named (codes "text/x-cppconf") own
     ∷ named (codes "text/x-creole") own
-    ∷ []
-
-unfoldable pub types_11 : List NamedType
-types_11 =
-    named (codes "text/x-cron") own
+    ∷ named (codes "text/x-cron") own
     ∷ named (codes "text/x-crystal") known
     ∷ named (codes "text/x-csharp") known
     ∷ named (codes "text/x-csound") own
@@ -3902,8 +3866,8 @@ types_11 =
     ∷ named (codes "text/x-gotemplate") own
     ∷ []
 
-unfoldable pub types_12 : List NamedType
-types_12 =
+unfoldable pub types_3 : List NamedType
+types_3 =
     named (codes "text/x-gpr") own
     ∷ named (codes "text/x-gradle") known
     ∷ named (codes "text/x-groovy") known
@@ -3968,11 +3932,7 @@ types_12 =
     ∷ named (codes "text/x-mediawiki") own
     ∷ named (codes "text/x-mermaid") own
     ∷ named (codes "text/x-meson") known
-    ∷ []
-
-unfoldable pub types_13 : List NamedType
-types_13 =
-    named (codes "text/x-metafont") own
+    ∷ named (codes "text/x-metafont") own
     ∷ named (codes "text/x-metal") own
     ∷ named (codes "text/x-mib") own
     ∷ named (codes "text/x-mirc") own
@@ -4036,11 +3996,7 @@ types_13 =
     ∷ named (codes "text/x-qml") (row (codes "qml"))
     ∷ named (codes "text/x-r-doc") own
     ∷ named (codes "text/x-racket") own
-    ∷ []
-
-unfoldable pub types_14 : List NamedType
-types_14 =
-    named (codes "text/x-ragel") own
+    ∷ named (codes "text/x-ragel") own
     ∷ named (codes "text/x-raku") own
     ∷ named (codes "text/x-razor") own
     ∷ named (codes "text/x-rdoc") own
@@ -4104,11 +4060,7 @@ types_14 =
     ∷ named (codes "text/x-swift") known
     ∷ named (codes "text/x-systemd-unit") known
     ∷ named (codes "text/x-tablegen") own
-    ∷ []
-
-unfoldable pub types_15 : List NamedType
-types_15 =
-    named (codes "text/x-tcl") (row (codes "tcl"))
+    ∷ named (codes "text/x-tcl") (row (codes "tcl"))
     ∷ named (codes "text/x-template-toolkit") own
     ∷ named (codes "text/x-tex") known
     ∷ named (codes "text/x-texinfo") known
@@ -4174,13 +4126,13 @@ types_15 =
     ∷ named (codes "video/x-ms-wmv") (row (codes "wmv"))
     ∷ []
 
-unfoldable pub types_16 : List NamedType
-types_16 =
+unfoldable pub types_4 : List NamedType
+types_4 =
     named (codes "video/x-msvideo") (row (codes "avi"))
     ∷ named (codes "video/x-nsv") known
     ∷ named (codes "video/x-ogm+ogg") known
     ∷ named (codes "video/x-y4m") own
     ∷ []
 
-unfoldable pub type_groups : List (List NamedType)
-type_groups = types_0 ∷ types_1 ∷ types_2 ∷ types_3 ∷ types_4 ∷ types_5 ∷ types_6 ∷ types_7 ∷ types_8 ∷ types_9 ∷ types_10 ∷ types_11 ∷ types_12 ∷ types_13 ∷ types_14 ∷ types_15 ∷ types_16 ∷ []
+unfoldable pub types : List NamedType
+types = types_0 ++ (types_1 ++ (types_2 ++ (types_3 ++ (types_4))))

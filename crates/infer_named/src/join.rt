@@ -6,12 +6,15 @@ ghost use Rattle.infer_more.specs.Wider.{IsWiderAnswer};
 ghost use Rattle.infer_named.specs.Asks.{admits};
 ghost use Rattle.infer_named.specs.Bytes.{IsKind, has_no_zero, is_empty, lead_of};
 ghost use Rattle.infer_named.specs.Join.{answer, extension_of, first_type, fits, is_among, is_own, is_own_name, joined_with, keyed, mime_type_of, reading_of, reading_without, row_extension, told_by, takes, type_of_name, unnamed};
-ghost use Rattle.infer_named.specs.Listed.{key_listed, origin_listed, reading_listed, texts};
+ghost use Rattle.infer_named.specs.Listed.{key_listed, origin_listed, reading_listed, row_at, texts};
 ghost use Rattle.infer_named.specs.Named.{IsNamed, answer_of, key_of, told_listed};
 
 use crate::bytes::{Kind, kind_of, lead_of};
 use crate::names::key;
-use crate::table::{Asks, Key, NamedType, Origin, Reading, leads, named, rows};
+use crate::table::{
+    Asks, Key, NamedType, Origin, Reading, leads, mime_type, named, readings_of, row, row_text,
+    rows,
+};
 use infer::Type;
 
 /// What the name did.
@@ -49,7 +52,7 @@ impl Told {
     {
         match self {
             Told::Bytes(t) => t.mime_type(),
-            Told::Name(t) => t.mime_type,
+            Told::Name(t) => mime_type(t.mime_type),
         }
     }
 
@@ -79,7 +82,7 @@ fn row_extension(origin: Origin) -> Option<&'static str>
     ensures { option_map (λ e. e.now) result ≡ row_extension (origin_listed origin) }
 {
     match origin {
-        Origin::Row(extension) => Some(extension),
+        Origin::Row(extension) => Some(row_text(extension)),
         Origin::Known | Origin::Own => None,
     }
 }
@@ -110,7 +113,7 @@ impl Named {
         ensures { option_map told_listed result ≡ type_of_name (key_of self.now) }
     {
         match self.key {
-            Some(key) => first_type(key.readings),
+            Some(key) => first_type(readings_of(key)),
             None => None,
         }
     }
@@ -177,7 +180,7 @@ fn keyed(key: &'static Key, found: Option<Type>, buf: &[u8]) -> Named
     ensures key { key_of result ≡ Some (key_listed key.now) }
 {
     match found {
-        Some(t) => joined_with(key, t, reading_of(key.readings, t, buf)),
+        Some(t) => joined_with(key, t, reading_of(readings_of(key), t, buf)),
         None => keyed_alone(key, buf),
     }
 }
@@ -192,7 +195,7 @@ fn keyed_alone(key: &'static Key, buf: &[u8]) -> Named
     if key.is_loose {
         return silent(Standing::Nothing, Some(key));
     }
-    match reading_without(key.readings, kind_of(buf), buf) {
+    match reading_without(readings_of(key), kind_of(buf), buf) {
         Some(reading) => telling(
             Standing::NameAlone,
             Told::Name(named(reading.named)),
@@ -273,13 +276,14 @@ fn takes(reading: &Reading, t: Type) -> bool
         || is_among(t, rows(reading.finer))
 }
 
-/// Whether the type is that of one of the rows.
-fn is_among(t: Type, rows: &[&str]) -> bool
-    ensures { result ≡ is_among (triple_of t) (texts rows.now) }
+/// Whether the type is that of one of the rows of these numbers.
+fn is_among(t: Type, rows: &[u16]) -> bool
+    ensures { result ≡ is_among (triple_of t) (map row_at rows.now) }
 {
     let (extension, mime_type) = (t.extension(), t.mime_type());
-    for row in rows {
-        if *row == extension || *row == mime_type {
+    for number in rows {
+        let row = row(*number);
+        if row == extension || row == mime_type {
             return true;
         }
     }

@@ -9,7 +9,7 @@ ghost use Rattle.infer_named.specs.Names.{IsBase, IsDottedKey, IsExtensionKey, I
 ghost use Rattle.infer_named.specs.Table.{keys};
 ghost use Rattle.infer_named.specs.declared.table.Part.TheVariants.{Whole};
 
-use crate::table::{Key, Part, slot};
+use crate::table::{Key, Part, key_text, slot};
 use memchr::{memchr, memrchr, memrchr2};
 
 /// The key of the name, and `None` exactly if it has none.
@@ -267,7 +267,7 @@ fn find_in(names: &'static [Key], part: Part, text: &[u8]) -> Option<&'static Ke
 fn is_key(key: &Key, part: Part, text: &[u8]) -> bool
     ensures { result ≡ is_key part (small text.now) (key_listed key.now) }
 {
-    is_same_part(part, key.part) && is_small(text, key.text.as_bytes())
+    is_same_part(part, key.part) && is_small(text, key_text(key))
 }
 
 fn is_same_part(a: Part, b: Part) -> bool

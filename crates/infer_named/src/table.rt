@@ -1,8 +1,8 @@
-//! What names tell, as data: the names, and the readings of each.
-ghost use Rattle.std.specs.Prelude.{◌≡◌, ◌<◌, [], get_or, map};
-ghost use Rattle.infer_named.specs.Listed.{key_listed, leads_at, rows_at, texts, type_at, type_listed};
-ghost use Rattle.infer_named.specs.Names.{joined};
-ghost use Rattle.infer_named.specs.Table.{groups};
+//! What names tell, as data: the names, and the readings of each. The prover reads numbers and texts at once, so the table is
+//! lists of numbers, and one text of the keys, one of the types and one of the rows.
+ghost use Rattle.std.specs.Prelude.{◌≡◌, ◌<◌, IsAscii, map};
+ghost use Rattle.infer_named.specs.Listed.{key_listed, leads_at, mime_type, reading_listed, row_at, row_text, rows_at, stretch, texts, type_at, type_listed};
+ghost use Rattle.infer_named.specs.Slots.{keys_of_slot};
 
 /// What of a file's name a key is.
 #[derive(Clone, Copy, Debug)]
@@ -13,21 +13,28 @@ pub enum Part {
     Extension,
 }
 
+/// Where something begins in a list, and how much of it there is.
+#[derive(Clone, Copy, Debug)]
+pub struct Span {
+    pub(crate) start: u16,
+    pub(crate) count: u8,
+}
+
 /// Who names a type.
 #[derive(Clone, Copy, Debug)]
 pub enum Origin {
-    /// A row of `infer_more`, with this extension.
-    Row(&'static str),
+    /// A row of `infer_more`, whose extension stands there among the texts of rows.
+    Row(Span),
     /// No row, but a registry or another program.
     Known,
     /// Nobody else, so that it tells files apart and is not to be sent.
     Own,
 }
 
-/// A type that a name tells.
+/// A type that a name tells, whose MIME type stands there among those of all.
 #[derive(Clone, Copy, Debug)]
 pub struct NamedType {
-    pub(crate) mime_type: &'static str,
+    pub(crate) mime_type: Span,
     pub(crate) origin: Origin,
 }
 
@@ -59,32 +66,12 @@ pub struct Reading {
     pub(crate) leads: u16,
 }
 
-/// What of a name stands in the table.
+/// What of a name stands in the table. Its text stands among those of all keys, and its readings among all.
 pub struct Key {
     pub(crate) part: Part,
-    pub(crate) text: &'static str,
     pub(crate) is_loose: bool,
-    pub(crate) readings: &'static [Reading],
-}
-
-// A key a line: how it is used, what it is of a name, its text, and its readings, each with the numbers of its type, of its
-// sets of rows and of its leads.
-macro_rules! keys {
-    ($($use:ident $part:ident $text:literal $([$named:literal $asks:ident $agrees:literal $begins:literal $finer:literal $leads:literal])*;)*) => {
-        &[$(Key {
-            part: Part::$part,
-            text: $text,
-            is_loose: is_loose!($use),
-            readings: &[$(Reading {
-                named: $named,
-                asks: Asks::$asks,
-                agrees: $agrees,
-                begins: $begins,
-                finer: $finer,
-                leads: $leads,
-            }),*],
-        }),*]
-    };
+    pub(crate) text: Span,
+    pub(crate) readings: Span,
 }
 
 macro_rules! is_loose {
@@ -96,17 +83,64 @@ macro_rules! is_loose {
     };
 }
 
-// A type a line: its MIME type, and who names it.
-macro_rules! types {
-    ($($mime_type:literal, $origin:expr;)*) => {
-        &[$(NamedType {
-            mime_type: $mime_type,
-            origin: $origin,
+macro_rules! span {
+    ($start:literal $count:literal) => {
+        Span {
+            start: $start,
+            count: $count,
+        }
+    };
+}
+
+// A line each.
+macro_rules! keys {
+    ($($use:ident $part:ident $text:literal $length:literal $readings:literal $count:literal;)*) => {
+        [$(Key {
+            part: Part::$part,
+            is_loose: is_loose!($use),
+            text: span!($text $length),
+            readings: span!($readings $count),
         }),*]
     };
 }
 
-// A list a line.
+macro_rules! readings {
+    ($($named:literal $asks:ident $agrees:literal $begins:literal $finer:literal $leads:literal;)*) => {
+        [$(Reading {
+            named: $named,
+            asks: Asks::$asks,
+            agrees: $agrees,
+            begins: $begins,
+            finer: $finer,
+            leads: $leads,
+        }),*]
+    };
+}
+
+macro_rules! origin {
+    (Row $start:literal $count:literal) => {
+        Row(span!($start $count))
+    };
+    ($origin:ident) => {
+        $origin
+    };
+}
+
+macro_rules! types {
+    ($($start:literal $count:literal $origin:ident $($row:literal)*;)*) => {
+        [$(NamedType {
+            mime_type: span!($start $count),
+            origin: origin!($origin $($row)*),
+        }),*]
+    };
+}
+
+macro_rules! spans {
+    ($($start:literal $count:literal;)*) => {
+        [$(span!($start $count)),*]
+    };
+}
+
 macro_rules! lists {
     ($([$($it:literal)*])*) => {
         &[$(&[$($it),*]),*]
@@ -116,58 +150,123 @@ macro_rules! lists {
 pub(crate) use is_loose;
 pub(crate) use keys;
 pub(crate) use lists;
+pub(crate) use origin;
+pub(crate) use readings;
+pub(crate) use span;
+pub(crate) use spans;
 pub(crate) use types;
 
 mod generated;
 
-// How many types, and how many sets of rows, are one list.
-const TYPES: usize = 64;
+use generated::{
+    all_keys, all_readings, all_sets, all_types, key_texts, members, mime_types, row_spans,
+    row_texts, starts,
+};
 
-const SETS: usize = 24;
-
-/// The keys of a slot.
-#[tactic(auto, using(crate::proofs::TableLemmas::slot_of_group))]
-pub(crate) fn slot(number: usize) -> &'static [Key]
-    requires { number < 512 }
-    ensures { map key_listed result.now ≡ get_or (joined groups) number [] }
+/// So many elements from a place on, or those that there are.
+fn stretch<T>(list: &[T], start: usize, count: usize) -> &[T]
+    ensures { result.now ≡ stretch list.now start count }
 {
-    slot_of(number / 16, number % 16)
+    let Some(rest) = list.get(start..) else {
+        return &[];
+    };
+    match rest.get(..count) {
+        Some(stretch) => stretch,
+        None => rest,
+    }
 }
 
-/// The keys of the slot of a group at this place.
-fn slot_of(group: usize, place: usize) -> &'static [Key]
-    requires { group < 32 }
-    ensures { map key_listed result.now ≡ get_or (get_or groups group []) place [] }
+/// What stands in a list at a span.
+fn at<T>(list: &[T], span: Span) -> &[T]
+    ensures { result.now ≡ stretch list.now span.start span.count }
 {
-    if let Some(keys) = generated::group(group).get(place) {
-        return *keys;
-    }
-    &[]
+    stretch(list, usize::from(span.start), usize::from(span.count))
+}
+
+/// The keys of a slot.
+#[tactic(auto, using(crate::proofs::StretchLemmas::stretch_listed))]
+pub(crate) fn slot(number: usize) -> &'static [Key]
+    requires { number < 512 }
+    ensures { map key_listed result.now ≡ keys_of_slot number }
+{
+    let starts = starts();
+    let start = usize::from(starts[number]);
+    let end = usize::from(starts[number + 1]);
+    stretch(all_keys(), start, end.saturating_sub(start))
+}
+
+/// The text of a key.
+pub(crate) fn key_text(key: &Key) -> &'static [u8]
+    ensures { result.now ≡ (key_listed key.now).text }
+{
+    at(key_texts(), key.text)
+}
+
+/// The readings of a key.
+pub(crate) fn readings_of(key: &Key) -> &'static [Reading]
+    ensures { map reading_listed result.now ≡ (key_listed key.now).readings }
+{
+    at(all_readings(), key.readings)
 }
 
 /// The type of this number.
+#[tactic(auto, using(crate::proofs::StretchLemmas::element_listed, crate::proofs::StretchLemmas::past_listed))]
 pub(crate) fn named(number: u16) -> NamedType
     ensures { type_listed result ≡ type_at number }
 {
-    let number = usize::from(number);
-    match generated::types::group(number / TYPES).get(number % TYPES) {
+    match all_types().get(usize::from(number)) {
         Some(found) => *found,
         None => NamedType {
-            mime_type: "",
+            mime_type: span!(0 0),
             origin: Origin::Own,
         },
     }
 }
 
-/// The rows of the set of this number, each by its extension, or by its MIME type where two types have one extension.
-pub(crate) fn rows(number: u16) -> &'static [&'static str]
-    ensures { texts result.now ≡ rows_at number }
+/// What stands in an ASCII text at a span.
+fn text_at(text: &'static str, span: Span) -> &'static str
+    requires { IsAscii text.now }
+    ensures { result.now ≡ stretch text.now span.start span.count }
 {
-    let number = usize::from(number);
-    if let Some(rows) = generated::sets::group(number / SETS).get(number % SETS) {
-        return *rows;
+    let start = usize::from(span.start).min(text.len());
+    let end = (start + usize::from(span.count)).min(text.len());
+    &text[start..end]
+}
+
+/// The MIME type at a span.
+pub(crate) fn mime_type(span: Span) -> &'static str
+    ensures { result.now ≡ mime_type span }
+{
+    text_at(mime_types(), span)
+}
+
+/// The text of a row at a span.
+pub(crate) fn row_text(span: Span) -> &'static str
+    ensures { result.now ≡ row_text span }
+{
+    text_at(row_texts(), span)
+}
+
+/// The numbers of the rows of the set of this number.
+#[tactic(auto, using(crate::proofs::StretchLemmas::element_listed, crate::proofs::StretchLemmas::past_listed))]
+pub(crate) fn rows(number: u16) -> &'static [u16]
+    ensures { map row_at result.now ≡ rows_at number }
+{
+    match all_sets().get(usize::from(number)) {
+        Some(set) => at(members(), *set),
+        None => &[],
     }
-    &[]
+}
+
+/// The row of this number: its extension, or its MIME type where two types have one extension.
+#[tactic(auto, using(crate::proofs::StretchLemmas::element_listed, crate::proofs::StretchLemmas::past_listed))]
+pub(crate) fn row(number: u16) -> &'static str
+    ensures { result.now ≡ row_at number }
+{
+    match row_spans().get(usize::from(number)) {
+        Some(span) => row_text(*span),
+        None => "",
+    }
 }
 
 /// The leads of this number, each of one or two bytes. Any is one if there are none.

@@ -1,4 +1,4 @@
-use Rattle.std.proofs.Common.{◌≡◌, ◌∙◌, ap, option_map, subst, sym}
+use Rattle.std.proofs.Common.{◌∙◌, ap, option_map, subst, sym}
 use Rattle.infer.specs.Triple.{triple_of}
 use Rattle.infer_named.specs.Bytes.{lead_of}
 use Rattle.infer_named.specs.Join.{join}

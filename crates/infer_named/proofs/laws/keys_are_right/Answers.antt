@@ -1,5 +1,5 @@
-use Rattle.infer_named.proofs.PlacedLemmas.{fit}
+use Rattle.infer_named.proofs.TableLemmas.{all_right}
 use Rattle.infer_named.proofs.laws.keys_are_right.Goals as goal
 
 pub returns : goal.returns
-returns c = fit
+returns c = all_right

@@ -1,9 +1,719 @@
 //! Made by `tools/tables` from names.txt: the sets of rows that readings have, and their leads.
-ghost use Rattle.std.specs.Prelude.{◌≡◌, [], get_or};
+ghost use Rattle.std.specs.Prelude.{◌≡◌};
 ghost use Rattle.infer_named.specs.Listed.{lists_of_texts};
-ghost use Rattle.infer_named.specs.Sets.{lead_lists, set_groups, sets_0, sets_1, sets_2, sets_3, sets_4, sets_5, sets_6, sets_7, sets_8, sets_9, sets_10, sets_11, sets_12, sets_13, sets_14};
+ghost use Rattle.infer_named.specs.Sets.{lead_lists};
 
-use crate::table::lists;
+use crate::table::{Span, lists, span, spans};
+
+/// Where the text of a row stands and how long it is.
+pub(crate) static ROWS: [Span; 314] = spans![
+    0 3;
+    3 3;
+    6 3;
+    9 3;
+    12 2;
+    14 1;
+    15 3;
+    18 5;
+    23 3;
+    26 3;
+    29 3;
+    32 4;
+    36 4;
+    40 3;
+    43 3;
+    46 3;
+    49 3;
+    52 3;
+    55 4;
+    59 8;
+    67 29;
+    96 27;
+    123 17;
+    140 25;
+    165 2;
+    167 3;
+    170 5;
+    175 4;
+    179 3;
+    182 4;
+    186 4;
+    190 2;
+    192 3;
+    195 4;
+    199 4;
+    203 3;
+    206 2;
+    208 3;
+    211 4;
+    215 5;
+    220 3;
+    223 3;
+    226 6;
+    232 3;
+    235 3;
+    238 3;
+    241 3;
+    244 3;
+    247 4;
+    251 5;
+    256 4;
+    260 4;
+    264 3;
+    267 3;
+    270 3;
+    273 3;
+    276 3;
+    279 3;
+    282 3;
+    285 3;
+    288 3;
+    291 3;
+    294 3;
+    297 3;
+    300 8;
+    308 4;
+    312 4;
+    316 3;
+    319 3;
+    322 4;
+    326 3;
+    329 3;
+    332 2;
+    334 3;
+    337 3;
+    340 3;
+    343 3;
+    346 3;
+    349 4;
+    353 4;
+    357 3;
+    360 3;
+    363 4;
+    367 3;
+    370 3;
+    373 3;
+    376 4;
+    380 4;
+    384 7;
+    391 3;
+    394 3;
+    397 4;
+    401 3;
+    404 4;
+    408 4;
+    412 3;
+    415 3;
+    418 3;
+    421 3;
+    424 4;
+    428 3;
+    431 10;
+    441 2;
+    443 4;
+    447 4;
+    451 3;
+    454 4;
+    458 5;
+    463 4;
+    467 3;
+    470 4;
+    474 3;
+    477 4;
+    481 3;
+    484 3;
+    487 4;
+    491 2;
+    493 3;
+    496 3;
+    499 5;
+    504 3;
+    507 4;
+    511 4;
+    515 7;
+    522 3;
+    525 3;
+    528 3;
+    531 3;
+    534 2;
+    536 4;
+    540 3;
+    543 3;
+    546 6;
+    552 3;
+    555 3;
+    558 3;
+    561 3;
+    564 3;
+    567 3;
+    570 3;
+    573 4;
+    577 3;
+    580 6;
+    586 3;
+    589 3;
+    592 3;
+    595 4;
+    599 4;
+    603 3;
+    606 2;
+    608 3;
+    611 3;
+    614 4;
+    618 3;
+    621 4;
+    625 3;
+    628 3;
+    631 3;
+    634 4;
+    638 3;
+    641 3;
+    644 5;
+    649 4;
+    653 3;
+    656 3;
+    659 3;
+    662 3;
+    665 3;
+    668 2;
+    670 3;
+    673 4;
+    677 3;
+    680 3;
+    683 3;
+    686 3;
+    689 3;
+    692 3;
+    695 3;
+    698 3;
+    701 3;
+    704 3;
+    707 6;
+    713 3;
+    716 3;
+    719 3;
+    722 1;
+    723 3;
+    726 3;
+    729 3;
+    732 3;
+    735 3;
+    738 3;
+    741 3;
+    744 3;
+    747 3;
+    750 3;
+    753 7;
+    760 4;
+    764 4;
+    768 3;
+    771 3;
+    774 3;
+    777 3;
+    780 3;
+    783 3;
+    786 3;
+    789 3;
+    792 3;
+    795 3;
+    798 4;
+    802 7;
+    809 3;
+    812 4;
+    816 6;
+    822 3;
+    825 3;
+    828 3;
+    831 3;
+    834 3;
+    837 3;
+    840 3;
+    843 6;
+    849 2;
+    851 5;
+    856 3;
+    859 3;
+    862 3;
+    865 4;
+    869 3;
+    872 2;
+    874 3;
+    877 3;
+    880 3;
+    883 2;
+    885 3;
+    888 5;
+    893 3;
+    896 2;
+    898 3;
+    901 3;
+    904 3;
+    907 2;
+    909 2;
+    911 3;
+    914 3;
+    917 3;
+    920 3;
+    923 11;
+    934 3;
+    937 3;
+    940 2;
+    942 3;
+    945 3;
+    948 3;
+    951 3;
+    954 2;
+    956 3;
+    959 6;
+    965 8;
+    973 4;
+    977 3;
+    980 3;
+    983 3;
+    986 3;
+    989 3;
+    992 2;
+    994 3;
+    997 3;
+    1000 8;
+    1008 3;
+    1011 4;
+    1015 7;
+    1022 2;
+    1024 3;
+    1027 3;
+    1030 3;
+    1033 3;
+    1036 4;
+    1040 3;
+    1043 3;
+    1046 3;
+    1049 4;
+    1053 4;
+    1057 3;
+    1060 3;
+    1063 4;
+    1067 3;
+    1070 3;
+    1073 4;
+    1077 4;
+    1081 3;
+    1084 4;
+    1088 4;
+    1092 6;
+    1098 3;
+    1101 3;
+    1104 4;
+    1108 5;
+    1113 2;
+    1115 3;
+    1118 3;
+    1121 3;
+    1124 5;
+    1129 3;
+    1132 4;
+    1136 2;
+    1138 3;
+    1141 3;
+    1144 3;
+    1147 3;
+    1150 2;
+    1152 3;
+    1155 3;
+    1158 3;
+];
+
+/// The numbers of the rows of the sets, one set behind the other.
+pub(crate) static MEMBERS: [u16; 544] = [
+    0, 1, 1, 2, 83, 155, 156, 157, 171, 2, 2, 173, 3, 3, 17, 20, 48, 69, 78, 85, 90, 118, 132, 135,
+    137, 187, 188, 189, 190, 191, 192, 199, 202, 203, 204, 205, 221, 227, 264, 285, 304, 4, 5, 6,
+    7, 8, 9, 10, 11, 12, 13, 14, 15, 16, 17, 17, 118, 312, 18, 19, 19, 50, 185, 255, 20, 21, 22,
+    23, 23, 227, 312, 23, 304, 312, 23, 312, 24, 25, 26, 27, 28, 28, 30, 35, 77, 100, 110, 114,
+    128, 129, 133, 134, 145, 154, 181, 196, 216, 219, 220, 222, 223, 229, 233, 241, 244, 245, 250,
+    254, 260, 262, 267, 278, 286, 302, 306, 308, 28, 54, 133, 196, 219, 254, 29, 30, 30, 64, 84,
+    91, 100, 101, 122, 134, 142, 161, 166, 184, 197, 206, 223, 244, 261, 262, 275, 302, 307, 31,
+    32, 33, 34, 35, 36, 37, 38, 39, 40, 41, 42, 43, 43, 102, 310, 44, 45, 46, 47, 49, 50, 51, 52,
+    52, 67, 53, 54, 55, 56, 57, 58, 59, 60, 60, 133, 216, 60, 208, 216, 60, 216, 60, 216, 276, 61,
+    62, 63, 65, 66, 67, 68, 69, 69, 23, 312, 70, 71, 72, 73, 74, 75, 75, 255, 76, 77, 77, 215, 229,
+    77, 217, 78, 79, 80, 81, 82, 83, 84, 86, 87, 87, 194, 198, 88, 89, 91, 92, 93, 94, 95, 96, 128,
+    97, 98, 99, 100, 101, 102, 102, 257, 306, 102, 276, 306, 102, 306, 102, 312, 102, 313, 103,
+    104, 105, 106, 107, 107, 108, 108, 109, 110, 110, 129, 220, 262, 276, 302, 306, 110, 244, 276,
+    306, 110, 250, 262, 276, 302, 306, 110, 276, 110, 276, 302, 306, 110, 276, 306, 111, 112, 113,
+    114, 115, 116, 117, 118, 118, 312, 119, 120, 121, 122, 123, 124, 125, 126, 127, 163, 127, 129,
+    129, 181, 276, 129, 223, 276, 306, 129, 250, 276, 129, 276, 130, 131, 133, 134, 135, 136, 138,
+    141, 137, 139, 140, 142, 143, 144, 145, 146, 147, 148, 149, 150, 151, 152, 153, 154, 155, 155,
+    173, 156, 156, 157, 173, 157, 158, 159, 160, 161, 162, 163, 164, 165, 166, 167, 168, 169, 170,
+    171, 172, 173, 174, 175, 176, 178, 179, 180, 181, 182, 183, 185, 186, 187, 188, 189, 189, 312,
+    190, 190, 312, 191, 191, 312, 192, 192, 312, 193, 193, 195, 198, 256, 194, 194, 195, 195, 196,
+    197, 198, 199, 200, 201, 202, 203, 204, 205, 206, 207, 208, 209, 210, 211, 212, 213, 214, 215,
+    216, 217, 218, 218, 219, 220, 220, 262, 276, 302, 306, 222, 223, 223, 276, 306, 224, 225, 226,
+    227, 228, 229, 229, 250, 276, 229, 276, 230, 231, 232, 233, 233, 250, 312, 234, 235, 236, 237,
+    238, 239, 240, 241, 242, 243, 244, 245, 246, 247, 248, 249, 250, 250, 276, 251, 252, 253, 254,
+    255, 256, 257, 258, 259, 260, 262, 263, 264, 265, 266, 267, 268, 269, 270, 271, 272, 273, 274,
+    276, 276, 306, 277, 278, 279, 280, 281, 282, 283, 284, 285, 285, 312, 286, 287, 288, 289, 290,
+    291, 292, 293, 294, 295, 296, 297, 298, 299, 300, 301, 302, 303, 304, 305, 306, 308, 309, 310,
+    311, 312, 313,
+];
+
+/// Where the rows of a set stand among these and how many they are.
+pub(crate) static SETS: [Span; 356] = spans![
+    0 0;
+    0 1;
+    1 1;
+    2 7;
+    9 1;
+    10 2;
+    12 1;
+    13 28;
+    41 1;
+    42 1;
+    43 1;
+    44 1;
+    45 1;
+    46 1;
+    47 1;
+    48 1;
+    49 1;
+    50 1;
+    51 1;
+    52 1;
+    53 1;
+    54 1;
+    55 3;
+    58 1;
+    59 1;
+    60 4;
+    64 1;
+    65 1;
+    66 1;
+    67 1;
+    68 3;
+    71 3;
+    74 2;
+    76 1;
+    77 1;
+    78 1;
+    79 1;
+    80 1;
+    81 35;
+    116 6;
+    122 1;
+    123 1;
+    124 21;
+    145 1;
+    146 1;
+    147 1;
+    148 1;
+    149 1;
+    150 1;
+    151 1;
+    152 1;
+    153 1;
+    154 1;
+    155 1;
+    156 1;
+    157 1;
+    158 3;
+    161 1;
+    162 1;
+    163 1;
+    164 1;
+    165 1;
+    166 1;
+    167 1;
+    168 1;
+    169 2;
+    171 1;
+    172 1;
+    173 1;
+    174 1;
+    175 1;
+    176 1;
+    177 1;
+    178 1;
+    179 3;
+    182 3;
+    185 2;
+    187 3;
+    190 1;
+    191 1;
+    192 1;
+    193 1;
+    194 1;
+    195 1;
+    196 1;
+    197 1;
+    198 3;
+    201 1;
+    202 1;
+    203 1;
+    204 1;
+    205 1;
+    206 1;
+    207 2;
+    209 1;
+    210 1;
+    211 3;
+    214 2;
+    216 1;
+    217 1;
+    218 1;
+    219 1;
+    220 1;
+    221 1;
+    222 1;
+    223 1;
+    224 1;
+    225 3;
+    228 1;
+    229 1;
+    230 1;
+    231 1;
+    232 1;
+    233 1;
+    234 1;
+    235 2;
+    237 1;
+    238 1;
+    239 1;
+    240 1;
+    241 1;
+    242 1;
+    243 3;
+    246 3;
+    249 2;
+    251 2;
+    253 2;
+    255 1;
+    256 1;
+    257 1;
+    258 1;
+    259 1;
+    260 2;
+    262 1;
+    263 1;
+    264 1;
+    265 7;
+    272 4;
+    276 6;
+    282 2;
+    284 4;
+    288 3;
+    291 1;
+    292 1;
+    293 1;
+    294 1;
+    295 1;
+    296 1;
+    297 1;
+    298 1;
+    299 2;
+    301 1;
+    302 1;
+    303 1;
+    304 1;
+    305 1;
+    306 1;
+    307 1;
+    308 3;
+    311 1;
+    312 1;
+    313 3;
+    316 4;
+    320 3;
+    323 2;
+    325 1;
+    326 1;
+    327 1;
+    328 1;
+    329 1;
+    330 3;
+    333 1;
+    334 1;
+    335 1;
+    336 1;
+    337 1;
+    338 1;
+    339 1;
+    340 1;
+    341 1;
+    342 1;
+    343 1;
+    344 1;
+    345 1;
+    346 1;
+    347 1;
+    348 1;
+    349 1;
+    350 2;
+    352 1;
+    353 3;
+    356 1;
+    357 1;
+    358 1;
+    359 1;
+    360 1;
+    361 1;
+    362 1;
+    363 1;
+    364 1;
+    365 1;
+    366 1;
+    367 1;
+    368 1;
+    369 1;
+    370 1;
+    371 1;
+    372 1;
+    373 1;
+    374 1;
+    375 1;
+    376 1;
+    377 1;
+    378 1;
+    379 1;
+    380 1;
+    381 1;
+    382 1;
+    383 1;
+    384 1;
+    385 1;
+    386 1;
+    387 2;
+    389 1;
+    390 2;
+    392 1;
+    393 2;
+    395 1;
+    396 2;
+    398 1;
+    399 4;
+    403 1;
+    404 2;
+    406 1;
+    407 1;
+    408 1;
+    409 1;
+    410 1;
+    411 1;
+    412 1;
+    413 1;
+    414 1;
+    415 1;
+    416 1;
+    417 1;
+    418 1;
+    419 1;
+    420 1;
+    421 1;
+    422 1;
+    423 1;
+    424 1;
+    425 1;
+    426 1;
+    427 1;
+    428 2;
+    430 1;
+    431 1;
+    432 1;
+    433 5;
+    438 1;
+    439 1;
+    440 3;
+    443 1;
+    444 1;
+    445 1;
+    446 1;
+    447 1;
+    448 1;
+    449 3;
+    452 2;
+    454 1;
+    455 1;
+    456 1;
+    457 1;
+    458 3;
+    461 1;
+    462 1;
+    463 1;
+    464 1;
+    465 1;
+    466 1;
+    467 1;
+    468 1;
+    469 1;
+    470 1;
+    471 1;
+    472 1;
+    473 1;
+    474 1;
+    475 1;
+    476 1;
+    477 1;
+    478 2;
+    480 1;
+    481 1;
+    482 1;
+    483 1;
+    484 1;
+    485 1;
+    486 1;
+    487 1;
+    488 1;
+    489 1;
+    490 1;
+    491 1;
+    492 1;
+    493 1;
+    494 1;
+    495 1;
+    496 1;
+    497 1;
+    498 1;
+    499 1;
+    500 1;
+    501 1;
+    502 1;
+    503 1;
+    504 2;
+    506 1;
+    507 1;
+    508 1;
+    509 1;
+    510 1;
+    511 1;
+    512 1;
+    513 1;
+    514 1;
+    515 2;
+    517 1;
+    518 1;
+    519 1;
+    520 1;
+    521 1;
+    522 1;
+    523 1;
+    524 1;
+    525 1;
+    526 1;
+    527 1;
+    528 1;
+    529 1;
+    530 1;
+    531 1;
+    532 1;
+    533 1;
+    534 1;
+    535 1;
+    536 1;
+    537 1;
+    538 1;
+    539 1;
+    540 1;
+    541 1;
+    542 1;
+    543 1;
+];
 
 static LEADS: &[&[&[u8]]] = lists![
     []
@@ -27,508 +737,4 @@ pub(crate) fn leads() -> &'static [&'static [&'static [u8]]]
     ensures { lists_of_texts result.now ≡ lead_lists }
 {
     LEADS
-}
-
-static SETS_0: &[&[&str]] = lists![
-    []
-    ["3ds"]
-    ["3g2"]
-    ["3g2" "3gp" "f4v" "m4a" "m4b" "m4v" "mov"]
-    ["3gp"]
-    ["3gp" "mp4"]
-    ["3mf"]
-    ["3mf" "apk" "application/vnd.apple.keynote" "chrt" "docx" "epub" "fbz" "flw" "jar" "karbon" "kmz" "kra" "odc" "odf" "odg" "odp" "ods" "odt" "ora" "otg" "otp" "ots" "ott" "pkpass" "pptx" "sxw" "vsdx" "xlsx"]
-    ["7z"]
-    ["Z"]
-    ["aac"]
-    ["accdb"]
-    ["adf"]
-    ["afm"]
-    ["age"]
-    ["aifc"]
-    ["aiff"]
-    ["alz"]
-    ["amr"]
-    ["ani"]
-    ["ape"]
-    ["apk"]
-    ["apk" "jar" "zip"]
-    ["apng"]
-];
-
-#[tactic(auto, unfolding(crate::specs::Sets::sets_0))]
-#[inline(always)]
-fn sets_0() -> &'static [&'static [&'static str]]
-    ensures { lists_of_texts result.now ≡ sets_0 }
-{
-    SETS_0
-}
-
-static SETS_1: &[&[&str]] = lists![
-    ["appimage"]
-    ["appimage" "core" "o" "so"]
-    ["application/vnd.apple.keynote"]
-    ["application/x-installshield"]
-    ["application/x-msi"]
-    ["application/x-ole-storage"]
-    ["application/x-ole-storage" "pptx" "zip"]
-    ["application/x-ole-storage" "xlsx" "zip"]
-    ["application/x-ole-storage" "zip"]
-    ["ar"]
-    ["arj"]
-    ["arrow"]
-    ["asar"]
-    ["asc"]
-    ["asc" "atom" "awk" "eps" "gpx" "html" "ics" "js" "json" "key" "kml" "lua" "m3u8" "ndjson" "openssh" "pem" "pgp" "php" "pl" "plist" "ps" "py" "rb" "rss" "rtf" "sh" "sig" "srt" "svg" "tcl" "vcf" "vtt" "xhtml" "xml" "xpm"]
-    ["asc" "crl" "key" "openssh" "pgp" "sig"]
-    ["astc"]
-    ["atom"]
-    ["atom" "diashape" "fb2" "fodt" "gpx" "gtkbuilder" "jnlp" "kml" "lingts" "meta4" "mml" "nzb" "opml" "owx" "plist" "rss" "srx" "svg" "ttx" "xhtml" "xmp"]
-    ["au"]
-    ["avi"]
-    ["avif"]
-    ["avro"]
-    ["awk"]
-];
-
-#[tactic(auto, unfolding(crate::specs::Sets::sets_1))]
-#[inline(always)]
-fn sets_1() -> &'static [&'static [&'static str]]
-    ensures { lists_of_texts result.now ≡ sets_1 }
-{
-    SETS_1
-}
-
-static SETS_2: &[&[&str]] = lists![
-    ["bc"]
-    ["bdb"]
-    ["beam"]
-    ["blend"]
-    ["bmp"]
-    ["bpg"]
-    ["bplist"]
-    ["bz2"]
-    ["bz2" "gz" "xz"]
-    ["bz3"]
-    ["cab"]
-    ["chd"]
-    ["chm"]
-    ["class"]
-    ["core"]
-    ["cpio"]
-    ["cr2"]
-    ["cr2" "dng"]
-    ["cr3"]
-    ["crl"]
-    ["crx"]
-    ["cur"]
-    ["dbf"]
-    ["dcm"]
-];
-
-#[tactic(auto, unfolding(crate::specs::Sets::sets_2))]
-#[inline(always)]
-fn sets_2() -> &'static [&'static [&'static str]]
-    ensures { lists_of_texts result.now ≡ sets_2 }
-{
-    SETS_2
-}
-
-static SETS_3: &[&[&str]] = lists![
-    ["deb"]
-    ["der"]
-    ["der" "key" "pem"]
-    ["der" "p7b" "pem"]
-    ["der" "pem"]
-    ["der" "pem" "txt"]
-    ["dex"]
-    ["dey"]
-    ["dff"]
-    ["djvm"]
-    ["djvu"]
-    ["dng"]
-    ["doc"]
-    ["docx"]
-    ["docx" "application/x-ole-storage" "zip"]
-    ["dsf"]
-    ["dts"]
-    ["dv"]
-    ["dvi"]
-    ["dwg"]
-    ["elf"]
-    ["elf" "so"]
-    ["eot"]
-    ["eps"]
-];
-
-#[tactic(auto, unfolding(crate::specs::Sets::sets_3))]
-#[inline(always)]
-fn sets_3() -> &'static [&'static [&'static str]]
-    ensures { lists_of_texts result.now ≡ sets_3 }
-{
-    SETS_3
-}
-
-static SETS_4: &[&[&str]] = lists![
-    ["eps" "pdf" "ps"]
-    ["eps" "pfa"]
-    ["epub"]
-    ["evtx"]
-    ["exe"]
-    ["exr"]
-    ["ext2"]
-    ["f4v"]
-    ["fb2"]
-    ["fits"]
-    ["flac"]
-    ["flac" "ogg" "opus"]
-    ["flatpak"]
-    ["flv"]
-    ["fodt"]
-    ["gbr"]
-    ["gdbm"]
-    ["gguf"]
-    ["gif"]
-    ["gjs" "js"]
-    ["glb"]
-    ["gpg"]
-    ["gpkg"]
-    ["gpx"]
-];
-
-#[tactic(auto, unfolding(crate::specs::Sets::sets_4))]
-#[inline(always)]
-fn sets_4() -> &'static [&'static [&'static str]]
-    ensures { lists_of_texts result.now ≡ sets_4 }
-{
-    SETS_4
-}
-
-static SETS_5: &[&[&str]] = lists![
-    ["gtkbuilder"]
-    ["gz"]
-    ["gz" "sqlite" "xml"]
-    ["gz" "txt" "xml"]
-    ["gz" "xml"]
-    ["gz" "zip"]
-    ["gz" "zst"]
-    ["hdf4"]
-    ["hdf5"]
-    ["hdr"]
-    ["heic"]
-    ["heics"]
-    ["heics" "heif"]
-    ["heif"]
-    ["hlp"]
-    ["html"]
-    ["html" "json" "php" "svg" "txt" "xhtml" "xml"]
-    ["html" "rss" "txt" "xml"]
-    ["html" "sh" "svg" "txt" "xhtml" "xml"]
-    ["html" "txt"]
-    ["html" "txt" "xhtml" "xml"]
-    ["html" "txt" "xml"]
-    ["icc"]
-    ["icns"]
-];
-
-#[tactic(auto, unfolding(crate::specs::Sets::sets_5))]
-#[inline(always)]
-fn sets_5() -> &'static [&'static [&'static str]]
-    ensures { lists_of_texts result.now ≡ sets_5 }
-{
-    SETS_5
-}
-
-static SETS_6: &[&[&str]] = lists![
-    ["ico"]
-    ["ics"]
-    ["ilbm"]
-    ["it"]
-    ["j2c"]
-    ["jar"]
-    ["jar" "zip"]
-    ["jceks"]
-    ["jks"]
-    ["jmod"]
-    ["jnlp"]
-    ["journal"]
-    ["jp2"]
-    ["jpg"]
-    ["jpm" "jpx" "mj2"]
-    ["jpx"]
-    ["json"]
-    ["json" "ndjson" "txt"]
-    ["json" "plist" "txt" "xml"]
-    ["json" "sh" "txt"]
-    ["json" "txt"]
-    ["jxl"]
-    ["jxr"]
-    ["key"]
-];
-
-#[tactic(auto, unfolding(crate::specs::Sets::sets_6))]
-#[inline(always)]
-fn sets_6() -> &'static [&'static [&'static str]]
-    ensures { lists_of_texts result.now ≡ sets_6 }
-{
-    SETS_6
-}
-
-static SETS_7: &[&[&str]] = lists![
-    ["kml"]
-    ["kmz"]
-    ["kpr" "ksp" "kwd"]
-    ["kra"]
-    ["ktx"]
-    ["ktx2"]
-    ["lingts"]
-    ["lnk"]
-    ["lrz"]
-    ["lua"]
-    ["luac"]
-    ["luks"]
-    ["lwp"]
-    ["lz"]
-    ["lz4"]
-    ["lzh"]
-    ["lzma"]
-    ["lzo"]
-    ["m3u8"]
-    ["m4a"]
-    ["m4a" "mp4"]
-    ["m4b"]
-    ["m4b" "m4v" "mp4"]
-    ["m4v"]
-];
-
-#[tactic(auto, unfolding(crate::specs::Sets::sets_7))]
-#[inline(always)]
-fn sets_7() -> &'static [&'static [&'static str]]
-    ensures { lists_of_texts result.now ≡ sets_7 }
-{
-    SETS_7
-}
-
-static SETS_8: &[&[&str]] = lists![
-    ["mach"]["mdb"]["med"]["meta4"]["midi"]["mj2"]["mkv"]["mmf"]["mml"]["mng"]["mo"]["mo3"]["mobi"]["mov"]["mp3"]["mp4"]["mpc"]["mpg"]["msg"]["mtm"]["mxf"]["n64"]["ndjson"]["nes"]
-];
-
-#[tactic(auto, unfolding(crate::specs::Sets::sets_8))]
-#[inline(always)]
-fn sets_8() -> &'static [&'static [&'static str]]
-    ensures { lists_of_texts result.now ≡ sets_8 }
-{
-    SETS_8
-}
-
-static SETS_9: &[&[&str]] = lists![
-    ["npy"]
-    ["o"]
-    ["obj"]
-    ["odc"]
-    ["odf"]
-    ["odg"]
-    ["odg" "zip"]
-    ["odp"]
-    ["odp" "zip"]
-    ["ods"]
-    ["ods" "zip"]
-    ["odt"]
-    ["odt" "zip"]
-    ["oga"]
-    ["oga" "ogv" "opus" "spx"]
-    ["ogg"]
-    ["ogg" "ogv"]
-    ["ogv"]
-    ["openssh"]
-    ["opml"]
-    ["opus"]
-    ["ora"]
-    ["orc"]
-    ["otf"]
-];
-
-#[tactic(auto, unfolding(crate::specs::Sets::sets_9))]
-#[inline(always)]
-fn sets_9() -> &'static [&'static [&'static str]]
-    ensures { lists_of_texts result.now ≡ sets_9 }
-{
-    SETS_9
-}
-
-static SETS_10: &[&[&str]] = lists![
-    ["otg"]
-    ["otp"]
-    ["ots"]
-    ["ott"]
-    ["owx"]
-    ["p12"]
-    ["p7b"]
-    ["par2"]
-    ["parquet"]
-    ["pat"]
-    ["pcap"]
-    ["pcapng"]
-    ["pcx"]
-    ["pdf"]
-    ["pem"]
-    ["pfa" "pfb"]
-    ["pfb"]
-    ["pgp"]
-    ["php"]
-    ["php" "svg" "txt" "xhtml" "xml"]
-    ["pl"]
-    ["plist"]
-    ["plist" "txt" "xml"]
-    ["png"]
-];
-
-#[tactic(auto, unfolding(crate::specs::Sets::sets_10))]
-#[inline(always)]
-fn sets_10() -> &'static [&'static [&'static str]]
-    ensures { lists_of_texts result.now ≡ sets_10 }
-{
-    SETS_10
-}
-
-static SETS_11: &[&[&str]] = lists![
-    ["pnm"]
-    ["ppt"]
-    ["pptx"]
-    ["ppu"]
-    ["ps"]
-    ["ps" "sh" "txt"]
-    ["ps" "txt"]
-    ["psd"]
-    ["pst"]
-    ["pub"]
-    ["py"]
-    ["py" "sh" "zip"]
-    ["pyc"]
-    ["qcow2"]
-    ["qml"]
-    ["ra"]
-    ["raf"]
-    ["rar"]
-    ["ras"]
-    ["rb"]
-    ["rm"]
-    ["rpm"]
-    ["rss"]
-    ["rtf"]
-];
-
-#[tactic(auto, unfolding(crate::specs::Sets::sets_11))]
-#[inline(always)]
-fn sets_11() -> &'static [&'static [&'static str]]
-    ensures { lists_of_texts result.now ≡ sets_11 }
-{
-    SETS_11
-}
-
-static SETS_12: &[&[&str]] = lists![
-    ["rw2"]
-    ["safetensors"]
-    ["sav"]
-    ["sgi"]
-    ["sh"]
-    ["sh" "txt"]
-    ["shp"]
-    ["shx"]
-    ["sid"]
-    ["sig"]
-    ["so"]
-    ["spx"]
-    ["sqlite"]
-    ["squashfs"]
-    ["srpm"]
-    ["srt"]
-    ["svg"]
-    ["swf"]
-    ["sxw"]
-    ["sz"]
-    ["tar"]
-    ["tcl"]
-    ["terminfo"]
-    ["tif"]
-];
-
-#[tactic(auto, unfolding(crate::specs::Sets::sets_12))]
-#[inline(always)]
-fn sets_12() -> &'static [&'static [&'static str]]
-    ensures { lists_of_texts result.now ≡ sets_12 }
-{
-    SETS_12
-}
-
-static SETS_13: &[&[&str]] = lists![
-    ["tnef"]
-    ["torrent"]
-    ["ts"]
-    ["ttc"]
-    ["ttf"]
-    ["txt"]
-    ["txt" "xml"]
-    ["tzif"]
-    ["vcf"]
-    ["vdi"]
-    ["vhd"]
-    ["vhdx"]
-    ["vmdk"]
-    ["voc"]
-    ["vsd"]
-    ["vsdx"]
-    ["vsdx" "zip"]
-    ["vtt"]
-    ["wad"]
-    ["warc"]
-    ["wasm"]
-    ["wav"]
-    ["webm"]
-    ["webp"]
-];
-
-#[tactic(auto, unfolding(crate::specs::Sets::sets_13))]
-#[inline(always)]
-fn sets_13() -> &'static [&'static [&'static str]]
-    ensures { lists_of_texts result.now ≡ sets_13 }
-{
-    SETS_13
-}
-
-static SETS_14: &[&[&str]] = lists![
-    ["wiiwad"]["wim"]["wmv"]["woff"]["woff2"]["wv"]["x3f"]["xar"]["xcf"]["xhtml"]["xls"]["xlsx"]["xm"]["xml"]["xpm"]["xwd"]["xz"]["zim"]["zip"]["zst"]
-];
-
-#[tactic(auto, unfolding(crate::specs::Sets::sets_14))]
-#[inline(always)]
-fn sets_14() -> &'static [&'static [&'static str]]
-    ensures { lists_of_texts result.now ≡ sets_14 }
-{
-    SETS_14
-}
-
-/// The sets of a list.
-#[tactic(auto, unfolding(crate::specs::Sets::set_groups))]
-pub(crate) fn group(number: usize) -> &'static [&'static [&'static str]]
-    ensures { lists_of_texts result.now ≡ get_or set_groups number [] }
-{
-    match number {
-        0 => sets_0(),
-        1 => sets_1(),
-        2 => sets_2(),
-        3 => sets_3(),
-        4 => sets_4(),
-        5 => sets_5(),
-        6 => sets_6(),
-        7 => sets_7(),
-        8 => sets_8(),
-        9 => sets_9(),
-        10 => sets_10(),
-        11 => sets_11(),
-        12 => sets_12(),
-        13 => sets_13(),
-        14 => sets_14(),
-        _ => &[],
-    }
 }
