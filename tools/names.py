@@ -20,8 +20,9 @@ ROW = re.compile(r'Row\("(.*)"\)')
 WIDTH = 99
 # The rows of texts, which are named together.
 TEXTS = (
-    "asc atom awk eps gpx html ics js json key kml lua m3u8 ndjson openssh pem pgp php pl plist ps py rb rss rtf sh "
-    "sig srt svg tcl vcf vtt xhtml xml xpm"
+    "afm application/x-pem-key asc atom awk ccmx diashape eps fb2 fodt gjs gpx gtkbuilder html ics imy it87 jnlp js "
+    "json kml lingts lua m3u8 meta4 mml ndjson nzb openssh opml owx pem pfa pgp php pl plist ps py qml qti rb rss "
+    "rtf sami sh sig srt srx svg tcl ttx vcf vtt xhtml xml xmp xpm"
 ).split()
 # How many types, and how many sets of rows, are one list of the definition.
 TYPES, SETS = 256, 128

@@ -83,467 +83,467 @@ rows-adf = 12
 abbrev pub rows-afm : ℕ
 rows-afm = 13
 
+abbrev pub text-rows : ℕ
+text-rows = 14
+
 abbrev pub rows-age : ℕ
-rows-age = 14
+rows-age = 15
 
 abbrev pub rows-aifc : ℕ
-rows-aifc = 15
+rows-aifc = 16
 
 abbrev pub rows-aiff : ℕ
-rows-aiff = 16
+rows-aiff = 17
 
 abbrev pub rows-alz : ℕ
-rows-alz = 17
+rows-alz = 18
 
 abbrev pub rows-amr : ℕ
-rows-amr = 18
+rows-amr = 19
 
 abbrev pub rows-ani : ℕ
-rows-ani = 19
+rows-ani = 20
 
 abbrev pub rows-ape : ℕ
-rows-ape = 20
+rows-ape = 21
 
 abbrev pub rows-apk : ℕ
-rows-apk = 21
+rows-apk = 22
 
 abbrev pub rows-apk-jar-zip : ℕ
-rows-apk-jar-zip = 22
+rows-apk-jar-zip = 23
 
 abbrev pub rows-apng : ℕ
-rows-apng = 23
+rows-apng = 24
 
 abbrev pub rows-appimage : ℕ
-rows-appimage = 24
+rows-appimage = 25
 
 abbrev pub rows-appimage-core-o-so : ℕ
-rows-appimage-core-o-so = 25
+rows-appimage-core-o-so = 26
 
 abbrev pub rows-application-vnd-apple-keynote : ℕ
-rows-application-vnd-apple-keynote = 26
+rows-application-vnd-apple-keynote = 27
 
 abbrev pub rows-application-x-installshield : ℕ
-rows-application-x-installshield = 27
+rows-application-x-installshield = 28
 
 abbrev pub rows-application-x-msi : ℕ
-rows-application-x-msi = 28
+rows-application-x-msi = 29
 
 abbrev pub rows-application-x-ole-storage : ℕ
-rows-application-x-ole-storage = 29
+rows-application-x-ole-storage = 30
 
 abbrev pub rows-application-x-ole-storage-pptx-zip : ℕ
-rows-application-x-ole-storage-pptx-zip = 30
+rows-application-x-ole-storage-pptx-zip = 31
 
 abbrev pub rows-application-x-ole-storage-xlsx-zip : ℕ
-rows-application-x-ole-storage-xlsx-zip = 31
+rows-application-x-ole-storage-xlsx-zip = 32
 
 abbrev pub rows-application-x-ole-storage-zip : ℕ
-rows-application-x-ole-storage-zip = 32
+rows-application-x-ole-storage-zip = 33
+
+abbrev pub rows-application-x-pem-key : ℕ
+rows-application-x-pem-key = 34
 
 abbrev pub rows-ar : ℕ
-rows-ar = 33
+rows-ar = 35
 
 abbrev pub rows-arj : ℕ
-rows-arj = 34
+rows-arj = 36
 
 abbrev pub rows-arrow : ℕ
-rows-arrow = 35
+rows-arrow = 37
 
 abbrev pub rows-asar : ℕ
-rows-asar = 36
+rows-asar = 38
 
 abbrev pub rows-asc : ℕ
-rows-asc = 37
+rows-asc = 39
 
-abbrev pub text-rows : ℕ
-text-rows = 38
-
-abbrev pub rows-asc-crl-key-openssh-pgp-sig : ℕ
-rows-asc-crl-key-openssh-pgp-sig = 39
+abbrev pub rows-asc-crl-application-x-pem-key-openssh-pgp-sig : ℕ
+rows-asc-crl-application-x-pem-key-openssh-pgp-sig = 40
 
 abbrev pub rows-astc : ℕ
-rows-astc = 40
+rows-astc = 41
 
 abbrev pub rows-atom : ℕ
-rows-atom = 41
+rows-atom = 42
 
 abbrev pub rows-atom-diashape-fb2-fodt-gpx-gtkbuilder-jnlp-kml-lingts-meta4-mml-nzb-opml-owx-plist-rss-srx-svg-ttx-xhtml-xmp : ℕ
-rows-atom-diashape-fb2-fodt-gpx-gtkbuilder-jnlp-kml-lingts-meta4-mml-nzb-opml-owx-plist-rss-srx-svg-ttx-xhtml-xmp = 42
+rows-atom-diashape-fb2-fodt-gpx-gtkbuilder-jnlp-kml-lingts-meta4-mml-nzb-opml-owx-plist-rss-srx-svg-ttx-xhtml-xmp = 43
 
 abbrev pub rows-au : ℕ
-rows-au = 43
+rows-au = 44
 
 abbrev pub rows-avi : ℕ
-rows-avi = 44
+rows-avi = 45
 
 abbrev pub rows-avif : ℕ
-rows-avif = 45
+rows-avif = 46
 
 abbrev pub rows-avro : ℕ
-rows-avro = 46
+rows-avro = 47
 
 abbrev pub rows-awk : ℕ
-rows-awk = 47
+rows-awk = 48
 
 abbrev pub rows-bc : ℕ
-rows-bc = 48
+rows-bc = 49
 
 abbrev pub rows-bdb : ℕ
-rows-bdb = 49
+rows-bdb = 50
 
 abbrev pub rows-beam : ℕ
-rows-beam = 50
+rows-beam = 51
 
 abbrev pub rows-blend : ℕ
-rows-blend = 51
+rows-blend = 52
 
 abbrev pub rows-bmp : ℕ
-rows-bmp = 52
+rows-bmp = 53
 
 abbrev pub rows-bpg : ℕ
-rows-bpg = 53
+rows-bpg = 54
 
 abbrev pub rows-bplist : ℕ
-rows-bplist = 54
+rows-bplist = 55
 
 abbrev pub rows-bz2 : ℕ
-rows-bz2 = 55
+rows-bz2 = 56
 
 abbrev pub rows-bz2-gz-xz : ℕ
-rows-bz2-gz-xz = 56
+rows-bz2-gz-xz = 57
 
 abbrev pub rows-bz3 : ℕ
-rows-bz3 = 57
+rows-bz3 = 58
 
 abbrev pub rows-cab : ℕ
-rows-cab = 58
+rows-cab = 59
 
 abbrev pub rows-chd : ℕ
-rows-chd = 59
+rows-chd = 60
 
 abbrev pub rows-chm : ℕ
-rows-chm = 60
+rows-chm = 61
 
 abbrev pub rows-class : ℕ
-rows-class = 61
+rows-class = 62
 
 abbrev pub rows-core : ℕ
-rows-core = 62
+rows-core = 63
 
 abbrev pub rows-cpio : ℕ
-rows-cpio = 63
+rows-cpio = 64
 
 abbrev pub rows-cr2 : ℕ
-rows-cr2 = 64
+rows-cr2 = 65
 
 abbrev pub rows-cr2-dng : ℕ
-rows-cr2-dng = 65
+rows-cr2-dng = 66
 
 abbrev pub rows-cr3 : ℕ
-rows-cr3 = 66
+rows-cr3 = 67
 
 abbrev pub rows-crl : ℕ
-rows-crl = 67
+rows-crl = 68
 
 abbrev pub rows-crx : ℕ
-rows-crx = 68
+rows-crx = 69
 
 abbrev pub rows-cur : ℕ
-rows-cur = 69
+rows-cur = 70
 
 abbrev pub rows-dbf : ℕ
-rows-dbf = 70
+rows-dbf = 71
 
 abbrev pub rows-dcm : ℕ
-rows-dcm = 71
+rows-dcm = 72
 
 abbrev pub rows-deb : ℕ
-rows-deb = 72
+rows-deb = 73
 
 abbrev pub rows-der : ℕ
-rows-der = 73
+rows-der = 74
 
-abbrev pub rows-der-key-pem : ℕ
-rows-der-key-pem = 74
+abbrev pub rows-der-application-x-pem-key-pem : ℕ
+rows-der-application-x-pem-key-pem = 75
 
 abbrev pub rows-der-p7b-pem : ℕ
-rows-der-p7b-pem = 75
+rows-der-p7b-pem = 76
 
 abbrev pub rows-der-pem : ℕ
-rows-der-pem = 76
+rows-der-pem = 77
 
 abbrev pub rows-der-pem-txt : ℕ
-rows-der-pem-txt = 77
+rows-der-pem-txt = 78
 
 abbrev pub rows-dex : ℕ
-rows-dex = 78
+rows-dex = 79
 
 abbrev pub rows-dey : ℕ
-rows-dey = 79
+rows-dey = 80
 
 abbrev pub rows-dff : ℕ
-rows-dff = 80
+rows-dff = 81
 
 abbrev pub rows-djvm : ℕ
-rows-djvm = 81
+rows-djvm = 82
 
 abbrev pub rows-djvu : ℕ
-rows-djvu = 82
+rows-djvu = 83
 
 abbrev pub rows-dng : ℕ
-rows-dng = 83
+rows-dng = 84
 
 abbrev pub rows-doc : ℕ
-rows-doc = 84
+rows-doc = 85
 
 abbrev pub rows-docx : ℕ
-rows-docx = 85
+rows-docx = 86
 
 abbrev pub rows-docx-application-x-ole-storage-zip : ℕ
-rows-docx-application-x-ole-storage-zip = 86
+rows-docx-application-x-ole-storage-zip = 87
 
 abbrev pub rows-dsf : ℕ
-rows-dsf = 87
+rows-dsf = 88
 
 abbrev pub rows-dts : ℕ
-rows-dts = 88
+rows-dts = 89
 
 abbrev pub rows-dv : ℕ
-rows-dv = 89
+rows-dv = 90
 
 abbrev pub rows-dvi : ℕ
-rows-dvi = 90
+rows-dvi = 91
 
 abbrev pub rows-dwg : ℕ
-rows-dwg = 91
+rows-dwg = 92
 
 abbrev pub rows-elf : ℕ
-rows-elf = 92
+rows-elf = 93
 
 abbrev pub rows-elf-so : ℕ
-rows-elf-so = 93
+rows-elf-so = 94
 
 abbrev pub rows-eot : ℕ
-rows-eot = 94
+rows-eot = 95
 
 abbrev pub rows-eps : ℕ
-rows-eps = 95
+rows-eps = 96
 
 abbrev pub rows-eps-pdf-ps : ℕ
-rows-eps-pdf-ps = 96
+rows-eps-pdf-ps = 97
 
 abbrev pub rows-eps-pfa : ℕ
-rows-eps-pfa = 97
+rows-eps-pfa = 98
 
 abbrev pub rows-epub : ℕ
-rows-epub = 98
+rows-epub = 99
 
 abbrev pub rows-evtx : ℕ
-rows-evtx = 99
+rows-evtx = 100
 
 abbrev pub rows-exe : ℕ
-rows-exe = 100
+rows-exe = 101
 
 abbrev pub rows-exr : ℕ
-rows-exr = 101
+rows-exr = 102
 
 abbrev pub rows-ext2 : ℕ
-rows-ext2 = 102
+rows-ext2 = 103
 
 abbrev pub rows-f4v : ℕ
-rows-f4v = 103
+rows-f4v = 104
 
 abbrev pub rows-fb2 : ℕ
-rows-fb2 = 104
+rows-fb2 = 105
 
 abbrev pub rows-fits : ℕ
-rows-fits = 105
+rows-fits = 106
 
 abbrev pub rows-flac : ℕ
-rows-flac = 106
+rows-flac = 107
 
 abbrev pub rows-flac-ogg-opus : ℕ
-rows-flac-ogg-opus = 107
+rows-flac-ogg-opus = 108
 
 abbrev pub rows-flatpak : ℕ
-rows-flatpak = 108
+rows-flatpak = 109
 
 abbrev pub rows-flv : ℕ
-rows-flv = 109
+rows-flv = 110
 
 abbrev pub rows-fodt : ℕ
-rows-fodt = 110
+rows-fodt = 111
 
 abbrev pub rows-gbr : ℕ
-rows-gbr = 111
+rows-gbr = 112
 
 abbrev pub rows-gdbm : ℕ
-rows-gdbm = 112
+rows-gdbm = 113
 
 abbrev pub rows-gguf : ℕ
-rows-gguf = 113
+rows-gguf = 114
 
 abbrev pub rows-gif : ℕ
-rows-gif = 114
+rows-gif = 115
 
 abbrev pub rows-gjs-js : ℕ
-rows-gjs-js = 115
+rows-gjs-js = 116
 
 abbrev pub rows-glb : ℕ
-rows-glb = 116
+rows-glb = 117
 
 abbrev pub rows-gpg : ℕ
-rows-gpg = 117
+rows-gpg = 118
 
 abbrev pub rows-gpkg : ℕ
-rows-gpkg = 118
+rows-gpkg = 119
 
 abbrev pub rows-gpx : ℕ
-rows-gpx = 119
+rows-gpx = 120
 
 abbrev pub rows-gtkbuilder : ℕ
-rows-gtkbuilder = 120
+rows-gtkbuilder = 121
 
 abbrev pub rows-gz : ℕ
-rows-gz = 121
+rows-gz = 122
 
 abbrev pub rows-gz-sqlite-xml : ℕ
-rows-gz-sqlite-xml = 122
+rows-gz-sqlite-xml = 123
 
 abbrev pub rows-gz-txt-xml : ℕ
-rows-gz-txt-xml = 123
+rows-gz-txt-xml = 124
 
 abbrev pub rows-gz-xml : ℕ
-rows-gz-xml = 124
+rows-gz-xml = 125
 
 abbrev pub rows-gz-zip : ℕ
-rows-gz-zip = 125
+rows-gz-zip = 126
 
 abbrev pub rows-gz-zst : ℕ
-rows-gz-zst = 126
+rows-gz-zst = 127
 
 abbrev pub rows-hdf4 : ℕ
-rows-hdf4 = 127
+rows-hdf4 = 128
 
 abbrev pub rows-hdf5 : ℕ
-rows-hdf5 = 128
+rows-hdf5 = 129
 
 abbrev pub rows-hdr : ℕ
-rows-hdr = 129
+rows-hdr = 130
 
 abbrev pub rows-heic : ℕ
-rows-heic = 130
+rows-heic = 131
 
 abbrev pub rows-heics : ℕ
-rows-heics = 131
+rows-heics = 132
 
 abbrev pub rows-heics-heif : ℕ
-rows-heics-heif = 132
+rows-heics-heif = 133
 
 abbrev pub rows-heif : ℕ
-rows-heif = 133
+rows-heif = 134
 
 abbrev pub rows-hlp : ℕ
-rows-hlp = 134
+rows-hlp = 135
 
 abbrev pub rows-html : ℕ
-rows-html = 135
+rows-html = 136
 
 abbrev pub rows-html-json-php-svg-txt-xhtml-xml : ℕ
-rows-html-json-php-svg-txt-xhtml-xml = 136
+rows-html-json-php-svg-txt-xhtml-xml = 137
 
 abbrev pub rows-html-rss-txt-xml : ℕ
-rows-html-rss-txt-xml = 137
+rows-html-rss-txt-xml = 138
 
 abbrev pub rows-html-sh-svg-txt-xhtml-xml : ℕ
-rows-html-sh-svg-txt-xhtml-xml = 138
+rows-html-sh-svg-txt-xhtml-xml = 139
 
 abbrev pub rows-html-txt : ℕ
-rows-html-txt = 139
+rows-html-txt = 140
 
 abbrev pub rows-html-txt-xhtml-xml : ℕ
-rows-html-txt-xhtml-xml = 140
+rows-html-txt-xhtml-xml = 141
 
 abbrev pub rows-html-txt-xml : ℕ
-rows-html-txt-xml = 141
+rows-html-txt-xml = 142
 
 abbrev pub rows-icc : ℕ
-rows-icc = 142
+rows-icc = 143
 
 abbrev pub rows-icns : ℕ
-rows-icns = 143
+rows-icns = 144
 
 abbrev pub rows-ico : ℕ
-rows-ico = 144
+rows-ico = 145
 
 abbrev pub rows-ics : ℕ
-rows-ics = 145
+rows-ics = 146
 
 abbrev pub rows-ilbm : ℕ
-rows-ilbm = 146
+rows-ilbm = 147
 
 abbrev pub rows-it : ℕ
-rows-it = 147
+rows-it = 148
 
 abbrev pub rows-j2c : ℕ
-rows-j2c = 148
+rows-j2c = 149
 
 abbrev pub rows-jar : ℕ
-rows-jar = 149
+rows-jar = 150
 
 abbrev pub rows-jar-zip : ℕ
-rows-jar-zip = 150
+rows-jar-zip = 151
 
 abbrev pub rows-jceks : ℕ
-rows-jceks = 151
+rows-jceks = 152
 
 abbrev pub rows-jks : ℕ
-rows-jks = 152
+rows-jks = 153
 
 abbrev pub rows-jmod : ℕ
-rows-jmod = 153
+rows-jmod = 154
 
 abbrev pub rows-jnlp : ℕ
-rows-jnlp = 154
+rows-jnlp = 155
 
 abbrev pub rows-journal : ℕ
-rows-journal = 155
+rows-journal = 156
 
 abbrev pub rows-jp2 : ℕ
-rows-jp2 = 156
+rows-jp2 = 157
 
 abbrev pub rows-jpg : ℕ
-rows-jpg = 157
+rows-jpg = 158
 
 abbrev pub rows-jpm-jpx-mj2 : ℕ
-rows-jpm-jpx-mj2 = 158
+rows-jpm-jpx-mj2 = 159
 
 abbrev pub rows-jpx : ℕ
-rows-jpx = 159
+rows-jpx = 160
 
 abbrev pub rows-json : ℕ
-rows-json = 160
+rows-json = 161
 
 abbrev pub rows-json-ndjson-txt : ℕ
-rows-json-ndjson-txt = 161
+rows-json-ndjson-txt = 162
 
 abbrev pub rows-json-plist-txt-xml : ℕ
-rows-json-plist-txt-xml = 162
+rows-json-plist-txt-xml = 163
 
 abbrev pub rows-json-sh-txt : ℕ
-rows-json-sh-txt = 163
+rows-json-sh-txt = 164
 
 abbrev pub rows-json-txt : ℕ
-rows-json-txt = 164
+rows-json-txt = 165
 
 abbrev pub rows-jxl : ℕ
-rows-jxl = 165
+rows-jxl = 166
 
 abbrev pub rows-jxr : ℕ
-rows-jxr = 166
-
-abbrev pub rows-key : ℕ
-rows-key = 167
+rows-jxr = 167
 
 abbrev pub rows-kml : ℕ
 rows-kml = 168
@@ -1142,6 +1142,7 @@ sets_0 =
     ∷ (codes "accdb" ∷ [])
     ∷ (codes "adf" ∷ [])
     ∷ (codes "afm" ∷ [])
+    ∷ texts
     ∷ (codes "age" ∷ [])
     ∷ (codes "aifc" ∷ [])
     ∷ (codes "aiff" ∷ [])
@@ -1161,13 +1162,13 @@ sets_0 =
     ∷ (codes "application/x-ole-storage" ∷ codes "pptx" ∷ codes "zip" ∷ [])
     ∷ (codes "application/x-ole-storage" ∷ codes "xlsx" ∷ codes "zip" ∷ [])
     ∷ (codes "application/x-ole-storage" ∷ codes "zip" ∷ [])
+    ∷ (codes "application/x-pem-key" ∷ [])
     ∷ (codes "ar" ∷ [])
     ∷ (codes "arj" ∷ [])
     ∷ (codes "arrow" ∷ [])
     ∷ (codes "asar" ∷ [])
     ∷ (codes "asc" ∷ [])
-    ∷ texts
-    ∷ (codes "asc" ∷ codes "crl" ∷ codes "key" ∷ codes "openssh" ∷ codes "pgp" ∷ codes "sig" ∷ [])
+    ∷ (codes "asc" ∷ codes "crl" ∷ codes "application/x-pem-key" ∷ codes "openssh" ∷ codes "pgp" ∷ codes "sig" ∷ [])
     ∷ (codes "astc" ∷ [])
     ∷ (codes "atom" ∷ [])
     ∷ (codes "atom" ∷ codes "diashape" ∷ codes "fb2" ∷ codes "fodt" ∷ codes "gpx" ∷ codes "gtkbuilder" ∷ codes "jnlp" ∷ codes "kml" ∷ codes "lingts" ∷ codes "meta4" ∷ codes "mml" ∷ codes "nzb" ∷ codes "opml" ∷ codes "owx" ∷ codes "plist" ∷ codes "rss" ∷ codes "srx" ∷ codes "svg" ∷ codes "ttx" ∷ codes "xhtml" ∷ codes "xmp" ∷ [])
@@ -1202,7 +1203,7 @@ sets_0 =
     ∷ (codes "dcm" ∷ [])
     ∷ (codes "deb" ∷ [])
     ∷ (codes "der" ∷ [])
-    ∷ (codes "der" ∷ codes "key" ∷ codes "pem" ∷ [])
+    ∷ (codes "der" ∷ codes "application/x-pem-key" ∷ codes "pem" ∷ [])
     ∷ (codes "der" ∷ codes "p7b" ∷ codes "pem" ∷ [])
     ∷ (codes "der" ∷ codes "pem" ∷ [])
     ∷ (codes "der" ∷ codes "pem" ∷ codes "txt" ∷ [])
@@ -1255,12 +1256,12 @@ sets_0 =
     ∷ (codes "gz" ∷ codes "xml" ∷ [])
     ∷ (codes "gz" ∷ codes "zip" ∷ [])
     ∷ (codes "gz" ∷ codes "zst" ∷ [])
-    ∷ (codes "hdf4" ∷ [])
     ∷ []
 
 unfoldable pub sets_1 : List (List (List ℕ))
 sets_1 =
-    (codes "hdf5" ∷ [])
+    (codes "hdf4" ∷ [])
+    ∷ (codes "hdf5" ∷ [])
     ∷ (codes "hdr" ∷ [])
     ∷ (codes "heic" ∷ [])
     ∷ (codes "heics" ∷ [])
@@ -1299,7 +1300,6 @@ sets_1 =
     ∷ (codes "json" ∷ codes "txt" ∷ [])
     ∷ (codes "jxl" ∷ [])
     ∷ (codes "jxr" ∷ [])
-    ∷ (codes "key" ∷ [])
     ∷ (codes "kml" ∷ [])
     ∷ (codes "kmz" ∷ [])
     ∷ (codes "kpr" ∷ codes "ksp" ∷ codes "kwd" ∷ [])
