@@ -1,4 +1,5 @@
-/* Calls one function of the library on each buffer of a pack: a 4-byte length, lowest byte first, and the bytes. */
+/* Calls one function of the library on each buffer of a pack: a 4-byte length, lowest byte first, and the bytes. The
+ * function that has a name too takes it from the third word. */
 #include "infer.h"
 #include <stdio.h>
 #include <stdlib.h>
@@ -6,7 +7,8 @@
 
 static volatile long sink;
 
-static void call(const char *what, const void *buf, size_t len) {
+static void call(const char *what, const char *name, const void *buf, size_t len) {
+    struct infer_named_answer answer;
     if (!strcmp(what, "position")) sink = infer_position(buf, len);
     else if (!strcmp(what, "more_position")) sink = infer_more_position(buf, len);
     else if (!strcmp(what, "is_decided")) sink = infer_is_decided(buf, len);
@@ -22,6 +24,7 @@ static void call(const char *what, const void *buf, size_t len) {
     else if (!strcmp(what, "is_font")) sink = infer_is_font(buf, len);
     else if (!strcmp(what, "is_image")) sink = infer_is_image(buf, len);
     else if (!strcmp(what, "is_video")) sink = infer_is_video(buf, len);
+    else if (!strcmp(what, "named")) infer_named(name, strlen(name), buf, len, &answer), sink = answer.standing;
     else exit(3);
 }
 
@@ -41,14 +44,14 @@ static int write_samples(const char *path) {
 
 int main(int argc, char **argv) {
     if (argc == 3 && !strcmp(argv[1], "write_samples")) return write_samples(argv[2]);
-    FILE *pack = argc == 3 ? fopen(argv[2], "rb") : NULL;
+    FILE *pack = argc == 3 || argc == 4 ? fopen(argv[2], "rb") : NULL;
     uint8_t head[4];
     if (!pack) return 2;
     while (fread(head, 1, 4, pack) == 4) {
         size_t len = head[0] | head[1] << 8 | head[2] << 16 | (size_t)head[3] << 24;
         uint8_t *buf = malloc(len + 1);
         if (!buf || fread(buf, 1, len, pack) != len) return 2;
-        call(argv[1], buf, len);
+        call(argv[1], argc == 4 ? argv[3] : "", buf, len);
         free(buf);
     }
     return 0;
