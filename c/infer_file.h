@@ -1,6 +1,6 @@
-/* The type of a file by its path or its descriptor, for programs on POSIX. The code is C, in infer_file.c, and no part
- * of the proved library: an installed tree has it as libinfer_file.a, and pkg-config and CMake name both. For Windows it
- * is infer_file_windows.c, where a path is of UTF-8, and EILSEQ says that it is not. */
+/* The type of a file by its path or its descriptor, for programs on POSIX and Windows. The code is C, in infer_file.c,
+ * and no part of the proved library: an installed tree has it as libinfer_file.a, and pkg-config and CMake name both. On
+ * Windows a path is of UTF-8, and EILSEQ says that it is not. */
 #ifndef INFER_FILE_H
 #define INFER_FILE_H
 
