@@ -202,6 +202,7 @@ def versions():
         ("bindings/python/backend.py", r'^NAME, VERSION = "\w+", "(.*)"$'),
         ("bindings/python/pyproject.toml", r'^version = "(.*)"$'),
         ("bindings/rust/infer/Cargo.toml", r'^version = "(.*?)\+infer\.\d+\.\d+\.\d+"$'),
+        ("bindings/rust/infer/Cargo.lock", r'^version = "(.*?)\+infer\.'),
         ("CHANGELOG.md", r"^## (\d+\.\d+\.\d+)"),
         ("bindings/rust/infer/README.md", r"`(\d+\.\d+\.\d+)\+infer"),
         ("bindings/python/README.md", r"hoarvelt-infer==(\d+\.\d+\.\d+)"),
