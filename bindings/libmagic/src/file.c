@@ -69,7 +69,8 @@ static ssize_t read_front(struct magic_set *it, int fd) {
     return read_up_to(it, fd, (size_t)count, all, is_pipe);
 }
 
-int say_descriptor(struct magic_set *it, int fd, const char *shown_as) {
+/* The path is null if it does not count. */
+static int say_read(struct magic_set *it, int fd, const char *shown_as, const char *path) {
     off_t place = lseek(fd, 0, SEEK_CUR);
     ssize_t count = read_front(it, fd);
     int fault = errno;
@@ -80,10 +81,12 @@ int say_descriptor(struct magic_set *it, int fd, const char *shown_as) {
         return -1;
     }
     /* A header's places are those of the file, which a descriptor that stands elsewhere does not read. */
-    struct front front = {it->read, (size_t)count, place == 0 ? fd : -1};
+    struct front front = {it->read, (size_t)count, place == 0 ? fd : -1, path};
     say_type(it, &front);
     return 0;
 }
+
+int say_descriptor(struct magic_set *it, int fd, const char *shown_as) { return say_read(it, fd, shown_as, NULL); }
 
 /* Gives the file the times back that it had. */
 static void restore_times(const char *path, const struct stat *about) {
@@ -104,7 +107,7 @@ int say_path(struct magic_set *it, const char *path) {
         return 0;
     }
     bool restores = it->flags & MAGIC_PRESERVE_ATIME && fstat(fd, &about) == 0;
-    int answer = say_descriptor(it, fd, path);
+    int answer = say_read(it, fd, path, it->asks_names ? path : NULL);
     close(fd);
     if (restores) restore_times(path, &about);
     return answer;

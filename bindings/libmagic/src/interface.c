@@ -32,6 +32,8 @@ magic_t magic_open(int flags) {
     magic_t it = calloc(1, sizeof *it);
     if (it == NULL) return NULL;
     it->flags = flags;
+    const char *names = getenv("INFER_LIBMAGIC_NAMES");
+    it->asks_names = names != NULL && strcmp(names, "1") == 0;
     memcpy(it->params, DEFAULTS, sizeof it->params);
     return it;
 }
@@ -66,14 +68,14 @@ const char *magic_file(magic_t it, const char *path) {
 const char *magic_descriptor(magic_t it, int fd) {
     if (!begin(it)) return NULL;
     /* libmagic takes -1 for a file without contents. */
-    if (fd == -1) say_type(it, &(struct front){NULL, 0, -1});
+    if (fd == -1) say_type(it, &(struct front){NULL, 0, -1, NULL});
     else if (say_descriptor(it, fd, fd == 0 ? "/dev/stdin" : NULL) != 0) return NULL;
     return answer_of(it);
 }
 
 const char *magic_buffer(magic_t it, const void *bytes, size_t len) {
     if (!begin(it)) return NULL;
-    say_type(it, &(struct front){bytes, len, -1});
+    say_type(it, &(struct front){bytes, len, -1, NULL});
     return answer_of(it);
 }
 

@@ -40,6 +40,8 @@ enum {
 struct magic_set {
     int flags;
     size_t params[MAGIC_PARAMS];
+    /* Whether the path of a file counts, beside its bytes. */
+    bool asks_names;
     bool is_loaded;
     /* Types of the caller's own, in infer's notation. */
     char *types;
@@ -55,11 +57,12 @@ struct magic_set {
     size_t room;
 };
 
-/* Some bytes, and the file that they begin, or -1. */
+/* Some bytes, the file that they begin, or -1, and its path if that counts, or null. */
 struct front {
     const unsigned char *bytes;
     size_t len;
     int fd;
+    const char *path;
 };
 
 /* What libmagic calls a type. */
@@ -84,8 +87,9 @@ const char *words_of_encoding(const char *encoding);
 /* elf.c: the name of an ELF file by its header, and of a shared object by its dynamic section. */
 struct name name_of_elf(const struct front *front, bool asks_dynamic);
 
-/* names.c: the name of the row's type. */
+/* names.c: the name of the row's type, and the row that has both texts, or -1. */
 struct name name_of_row(int32_t row);
+int32_t row_with(const char *mime_type, const char *extension);
 
 /* type.c: says what the bytes are. */
 void say_type(struct magic_set *it, const struct front *front);

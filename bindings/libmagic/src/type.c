@@ -28,29 +28,49 @@ static bool is_left_out(int flags, const char *mime_type) {
     return flags & MAGIC_NO_CHECK_SOFT;
 }
 
-/* A type of the caller's own has the name that its line gives it, which is written here. */
-struct own {
+/* What is told of a type without a row is written here. */
+struct texts {
     char mime_type[INFER_TYPES_TEXT_SIZE], extension[INFER_TYPES_TEXT_SIZE];
 };
 
-static bool is_own(const struct magic_set *it, const struct front *front, struct own *own) {
+/* Whether the bytes are of a type of the caller's own, which has the name that its line gives it. */
+static bool is_own(const struct magic_set *it, const struct front *front, struct texts *texts) {
     if (it->types == NULL || infer_types_line(it->types, it->types_len, front->bytes, front->len) == 0) return false;
-    infer_types_get(it->types, it->types_len, front->bytes, front->len, own->mime_type, sizeof own->mime_type, own->extension, sizeof own->extension);
+    infer_types_get(it->types, it->types_len, front->bytes, front->len, texts->mime_type, sizeof texts->mime_type, texts->extension, sizeof texts->extension);
     return true;
 }
 
-/* What a signature tells; a MIME type of null if none does. */
-static struct name name_by_signature(const struct magic_set *it, const struct front *front, struct own *own) {
-    if (is_own(it, front, own)) return (struct name){own->mime_type, own->extension, own->mime_type, OF_DATA};
+/* Whether the path chooses among what the bytes leave open. The row is then that of its type, or -1 if none has it. */
+static bool is_named(const struct front *front, int32_t *row, struct texts *texts) {
+    struct infer_named_answer answer;
+    if (front->path == NULL) return false;
+    infer_named(front->path, strlen(front->path), front->bytes, front->len, &answer);
+    if (answer.standing != INFER_NAME_REFINES && answer.standing != INFER_NAME_ALONE) return false;
+    /* A name that nobody else knows is said to no program, and any text is plain without a name. */
+    if (answer.told.is_own_name || strcmp(answer.told.mime_type, "text/plain") == 0) return false;
+    memcpy(texts->mime_type, answer.told.mime_type, sizeof answer.told.mime_type);
+    *row = row_with(answer.told.mime_type, answer.told.extension);
+    return true;
+}
+
+/* The description of a type without a row is its MIME type. */
+static struct name name_without_row(const char *mime_type) {
+    return (struct name){mime_type, "???", mime_type, strncmp(mime_type, "text/", 5) == 0 ? OF_TEXT : OF_DATA};
+}
+
+/* What a signature tells, or a path beside it; a MIME type of null if neither does. */
+static struct name name_by_signature(const struct magic_set *it, const struct front *front, struct texts *texts) {
+    if (is_own(it, front, texts)) return (struct name){texts->mime_type, texts->extension, texts->mime_type, OF_DATA};
     int32_t row = infer_more_position(front->bytes, front->len);
-    if (row < 0) return (struct name){NULL, NULL, NULL, OF_DATA};
+    bool has_name = is_named(front, &row, texts);
+    if (row < 0) return has_name ? name_without_row(texts->mime_type) : (struct name){NULL, NULL, NULL, OF_DATA};
     struct name name = name_of_row(row);
     return name.words == OF_ELF ? name_of_elf(front, !(it->flags & MAGIC_NO_CHECK_ELF)) : name;
 }
 
-static struct name name_of(const struct magic_set *it, const struct front *front, const char *encoding, struct own *own) {
+static struct name name_of(const struct magic_set *it, const struct front *front, const char *encoding, struct texts *texts) {
     if (front->len < 2) return front->len == 0 ? EMPTY : SHORT;
-    struct name name = name_by_signature(it, front, own);
+    struct name name = name_by_signature(it, front, texts);
     if (name.mime_type != NULL && !is_left_out(it->flags, name.mime_type)) return name;
     return strcmp(encoding, "binary") == 0 || it->flags & MAGIC_NO_CHECK_TEXT ? UNKNOWN : PLAIN_TEXT;
 }
@@ -66,13 +86,13 @@ static void say_description(struct magic_set *it, const struct name *name, const
 }
 
 void say_type(struct magic_set *it, const struct front *front) {
-    struct own own;
+    struct texts texts;
     struct front looked = *front;
     if (looked.len > it->params[MAGIC_PARAM_BYTES_MAX]) looked.len = it->params[MAGIC_PARAM_BYTES_MAX];
     size_t encoded = looked.len < it->params[MAGIC_PARAM_ENCODING_MAX] ? looked.len : it->params[MAGIC_PARAM_ENCODING_MAX];
     bool has_encoding = looked.len > 1 && !(it->flags & MAGIC_NO_CHECK_ENCODING);
     const char *encoding = has_encoding ? encoding_of(looked.bytes, encoded) : "binary";
-    struct name name = name_of(it, &looked, encoding, &own);
+    struct name name = name_of(it, &looked, encoding, &texts);
     int flags = it->flags;
     if (flags & MAGIC_MIME_TYPE) say(it, "%s", name.mime_type);
     if ((flags & MAGIC_MIME) == MAGIC_MIME) say(it, "; charset=");
