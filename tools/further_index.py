@@ -268,7 +268,7 @@ def entries(rows, known=None, beside=()):
 
 def is_led(alternative):
     """Whether the first byte tells enough: it is not nearly free, nor the zero of many files."""
-    return 0 in alternative and 0 not in alternative[0] and len(alternative[0]) < 32
+    return 0 in alternative and len(alternative[0]) < 32
 
 
 def ways_of(alternative, known=None):
