@@ -7,13 +7,12 @@ from texts import kept, text_of
 HEAD = """# The further types of the library, as a text of types, in the order in which they are asked. tools/tables writes it from
 # the rows.
 """
-# What each alternative is called that takes something, and what it takes.
+# What each alternative is called that takes something other than a text, and what it takes.
 NAMES = {
     "BinaryBytes": lambda it: f"{fixed(it.removeprefix('bytes!(').removesuffix(')'))} and binary",
     "FirstEntryIs": lambda it: f"first entry: is {quoted(it)}",
     "FirstEntryEndsIn": lambda it: f"first entry: ends in {quoted(it)}",
     "FirstEntryHasExtra": lambda it: f"first entry: has extra {spaced(it)}",
-    "PackageWith": lambda it: f"package with: {quoted(it)}",
     "ClassId": lambda it: f"class id: {spaced(it)}",
     "DirectoryTag": lambda it: f"first directory has tag {int(it, 0):04X}",
     "Program": lambda it: f"program: {bytes_of(it).decode()}",
@@ -22,13 +21,21 @@ NAMES = {
 }
 
 
+def called(tokens):
+    """What these tokens of relation.rt write."""
+    found = re.findall(rf"(\w+)\((?:b'(.)'|({TEXT_OF_BYTES}))\)", tokens)
+    return " ".join(byte or (quoted(text) if kind == "Quoted" else bytes_of(text).decode()) for kind, byte, text in found).replace(" :", ":")
+
+
 @kept
 def names():
-    """What stands for each alternative: of a relation that takes nothing, what names.rt calls it."""
-    code = " ".join(text_of("crates/infer_notation/src/names.rt").split())
-    alone = re.findall(r"\(\s*&\[([^]]*)\],\s*Takes::Nothing\(Relation::(\w+)\)", code)
-    said = {name: " ".join(quoted(text) if kind == "Quoted" else bytes_of(text).decode() for kind, text in re.findall(rf"(\w+)\(({TEXT_OF_BYTES})\)", tokens)) for tokens, name in alone}
-    return {**NAMES, **{name: lambda it, text=text: text for name, text in said.items()}}
+    """What stands for each alternative: of a relation that takes nothing or a text, what relation.rt calls it."""
+    code = " ".join(text_of("crates/infer_formats/src/relation.rt").split())
+    of_text = dict(re.findall(r"OfText::(\w+) => Relation::(\w+)\(text\)", code))
+    found = dict(NAMES)
+    for tokens, takes, name in re.findall(r"\(\s*&\[([^]]*)\],\s*Takes::(Nothing|OneText)\(\w+::(\w+)\)", code):
+        found[of_text.get(name, name)] = lambda it, said=called(tokens), takes=takes: said if takes == "Nothing" else f"{said} {quoted(it)}"
+    return found
 
 
 def texts(code):
@@ -81,10 +88,11 @@ def alternative(inside):
 
 def line(row, parents):
     """The line of a row, by the extensions of the parents' constants."""
+    first, *others = map(alternative, row.alternatives)
     # What is said of one kind is said once: `root: rss or RDF with ..`, `program: python pypy`.
-    said = " or ".join(map(alternative, row.alternatives)).replace(" or program: ", " ")
-    for name in ("first entry: ", "class id: ", "root: "):
-        said = said.replace(f" or {name}", " or ")
+    kind, colon, _ = first.partition(": ")
+    once = "" if kind.isdigit() else kind + colon
+    said = first + "".join((" " if kind == "program" else " or ") + it.removeprefix(once) for it in others)
     words = [f"{row.extension:<11}", f"{row.mime_type:<36}", f"{row.group.lower():<7}", f"{parents[row.parent] if row.parent else '-':<6}", said]
     return "  ".join(words) + "\n"
 

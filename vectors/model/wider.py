@@ -149,8 +149,8 @@ def never_summed(buf: bytes, _: str) -> bool:
 # What each relation is called in the notation, and what rules an alternative of it out.
 NEVER: dict[str, Callable[[bytes, str], bool]] = {
     "shared object": never_shared, "first entry:": never_named, "package with:": never_packed, "first directory has tag": never_tagged,
-    'chunk "acTL" before "IDAT"': never_animated, "class id:": never_class, "JSON lines": never_json, "JSON": never_json, "root:": never_rooted,
-    "program:": never_run, "text": never_text, "first cue of SubRip": never_subtitles, "dBASE header": never_dbase, "tar checksum": never_summed,
+    'chunk "acTL" before "IDAT"': never_animated, "class id:": never_class, "JSON lines": never_json,
+    "JSON": never_json, "root:": never_rooted, "program:": never_run, "text": never_text, "first cue of SubRip": never_subtitles, "dBASE header": never_dbase, "tar checksum": never_summed,
 }
 
 

@@ -2,7 +2,7 @@
 use Rattle.infer.proofs.Common.{◌<◌, ◌≤◌, ◌+◌, ◌-◌, ◌⊎◌, ◌++◌, zero-le, ℕ, suc, List, length, refl, inl, inr, arith, IsTrue, length-append, AllWithin, range_with_len, take-append-le, get_or-range_with_len, length-range_with_len, Alternative, IsAwaited, last_awaited, Comes, BuiltIn, avif, doc, framed, heif, html, office, ppt, xls, xml, IsAccepted, IsNear, signature_of, table, ROW_COUNT}
 use Rattle.infer_sig.specs.Laws as Fixed
 use Rattle.infer_deep.specs.Laws as Deep
-use Rattle.infer.proofs.KnownLemmas.{Known, proved, each_known, each_before, at_most, takes, ◌>>=◌}
+use Rattle.infer_sig.proofs.KnownLemmas.{Known, proved, each_known, each_before, at_most, takes, ◌>>=◌}
 use Rattle.infer.proofs.LawLemmas.{known_near}
 use Rattle.infer.proofs.OrderLemmas.{exclusion}
 

@@ -4,9 +4,9 @@ use Rattle.infer.proofs.Common.{◌≡◌, ◌⊎◌, ◌≢◌, ◌+◌, ◌<�
 use Rattle.std.proofs.lemmas.Option.{none-some, same_Some}
 use Rattle.infer_deep.specs.Laws as Deep
 use Rattle.infer.proofs.DecisionLemmas.{occurs, behind, long_frame, space, wide_mark}
-use Rattle.infer.proofs.KnownLemmas.{Known, proved, is, each_known, proof_of, same, at_most, negated, both, either, each_before, needs, takes, ◌>>=◌}
+use Rattle.infer_sig.proofs.KnownLemmas.{Known, proved, is, each_known, proof_of, same, at_most, negated, both, either, each_before, needs, takes, ◌>>=◌}
 use Rattle.infer.proofs.OrderLemmas.{known_first, some_row}
-use Rattle.infer.proofs.PlaceLemmas.{ByPlace, not_both}
+use Rattle.infer_sig.proofs.OccurrenceLemmas.{ByPlace, not_both}
 use Rattle.infer.proofs.TableLemmas.{length-table}
 
 -- a box that ends after the first 1024 bytes

@@ -1,11 +1,12 @@
 -- What a computation says of a built-in signature and a buffer.
-use Rattle.infer.proofs.Common.{◌≡◌, ◌≤◌, ◌⊎◌, inl, inr, ℕ, suc, ◌+◌, ◌-◌, ◌*◌, ◌/◌, List, [], ◌∷◌, ◌++◌, map, length, get_or, replicate, take, eqb, IsTrue, refl, sym, ap, ◌∙◌, codes, arith, append_assoc, Bool, list_any, AllByRecursion, concat, eqb-true, eq-eqb, or_left, or_right, append-nil, take_at, All-replicate, recursion_from_All, front_fits, front_reads, AllPass-from_list_all, HasCompatible, IsBoxed, compound_header, HasClassId, IsRoot, word_id, old_excel_id, excel_id, powerpoint_id, OccursAt, IsFrame, IsFramed, SkipsTo, le16, le32, be32, zip_header, HasFolder, IsDecidingHeader, IsHeaderFrom, IsThirdHeader, IsOffice, BeginsWithTag, IsHtml, IsMark, IsSpace, IsXml, StandsBy, accepts, stands, BuiltIn, fixed, avif, doc, framed, heif, html, matroska, office, pdf, ppt, xls, xml, IsAccepted}
+use Rattle.infer.proofs.Common.{◌≡◌, ◌≤◌, ◌⊎◌, inl, inr, ℕ, suc, ◌+◌, ◌-◌, ◌/◌, List, [], ◌∷◌, ◌++◌, map, length, get_or, replicate, take, eqb, IsTrue, refl, sym, ap, ◌∙◌, codes, arith, append_assoc, Bool, list_any, AllByRecursion, concat, eqb-true, eq-eqb, or_left, or_right, append-nil, take_at, All-replicate, recursion_from_All, front_fits, front_reads, AllPass-from_list_all, HasCompatible, IsBoxed, word_id, old_excel_id, excel_id, powerpoint_id, OccursAt, IsFrame, IsFramed, SkipsTo, le32, be32, zip_header, HasFolder, IsDecidingHeader, IsHeaderFrom, IsThirdHeader, IsOffice, BeginsWithTag, IsHtml, IsMark, IsSpace, IsXml, StandsBy, accepts, stands, BuiltIn, fixed, avif, doc, framed, heif, html, matroska, office, pdf, ppt, xls, xml, IsAccepted}
 use Rattle.std.specs.Char.{to_ascii_lowercase}
 use Rattle.std.proofs.lemmas.List.Folds.{list_any-append}
 use Rattle.infer_deep.proofs.PlaceLemmas.{OccursAt-begins, begins-from_OccursAt}
-use Rattle.infer.proofs.KnownLemmas.{Known, proved, refuted, unknown, is, same, at_most, same_text, refuted_if, both, either, needs, takes, ◌>>=◌, ◌>>◌}
-use Rattle.infer.proofs.PlaceLemmas.{ByPlace, lacks, lacked, nowhere_from}
-use Rattle.infer.proofs.PlaceLemmas as Place
+use Rattle.infer_sig.proofs.ClassIdLemmas.{known_class}
+use Rattle.infer_sig.proofs.KnownLemmas.{Known, proved, refuted, unknown, is, at_most, same_text, refuted_if, both, either, needs, takes, ◌>>=◌, ◌>>◌}
+use Rattle.infer_sig.proofs.OccurrenceLemmas.{ByPlace, lacks, lacked, nowhere_from}
+use Rattle.infer_sig.proofs.OccurrenceLemmas as Place
 
 -- ---- words of one kind, as white space and frames, and then a text
 
@@ -112,29 +113,6 @@ module _ (by_place : ByPlace) (b : List ℕ) where
     room ← needs (at_most 20 (be32 b 0)) (λ (k, lt, o). omega arith)
     unknown
 
-  -- if the sectors are the smaller
-  abbrev root : ℕ
-  root = (le32 b 48 + 1) * 512
-
-  pub root_fits : (id : List ℕ) → HasClassId id b → root + 128 ≤ length b
-  root_fits id (place, r, o) = let whole = r.whole in let begins = r.begins in grind arith
-
-  -- and if the version says so
-  pub stands_at_root : (id : List ℕ) → le16 b 26 ≡ 3 → HasClassId id b → OccursAt b id (root + 80)
-  stands_at_root id version h2 = grind arith
-
-  abbrev pub known_class : (id : List ℕ) → Known (HasClassId id b)
-  known_class id = do
-    header ← needs (occurs 0 compound_header) (λ h. h.1.header)
-    whole ← needs (at_most (root + 128) (length b)) (root_fits id)
-    version ← takes (same (le16 b 26) 3)
-    here ← needs (occurs (root + 80) id) (stands_at_root id version)
-    order ← takes (occurs 28 (0xFE ∷ 0xFF ∷ []))
-    shift ← takes (same (le16 b 30) 9)
-    kind ← takes (same (get_or b (root + 66) 0) 5)
-    let found : IsRoot b root = record { header = header; byte_order = order; begins = inl (version, shift, refl); whole = whole; kind = kind }
-    proved (root, found, here)
-
   abbrev folder_at : (p : ℕ) → Known (HasFolder b p)
   folder_at p = either (occurs p (codes "word/")) (either (occurs p (codes "ppt/")) (occurs p (codes "xl/")))
 
@@ -201,9 +179,9 @@ module _ (by_place : ByPlace) (b : List ℕ) where
       | refuted none ↦ known_late 1049 1079 folder zip none
       | unknown ↦ unknown
     ]
-  known doc = known_class word_id
-  known xls = either (known_class old_excel_id) (known_class excel_id)
-  known ppt = known_class powerpoint_id
+  known doc = known_class by_place b word_id
+  known xls = either (known_class by_place b old_excel_id) (known_class by_place b excel_id)
+  known ppt = known_class by_place b powerpoint_id
   known html = do
     some ← needs (is (list_any is_opening b)) (html_opens b)
     equal ← takes (same_text b (behind (length b - 3) space (codes "<P>")))

@@ -4,9 +4,9 @@ use Rattle.std.proofs.lemmas.Option.{slice_get_within}
 use Rattle.infer_deep.proofs.OpenLemmas.{bytes_from_test}
 use Rattle.infer_sig.specs.Open as Fixed
 use Rattle.infer.proofs.DecisionLemmas.{known, spaced_html, spaced_xml, stands_whole, tagged_xml, unskipped}
-use Rattle.infer.proofs.KnownLemmas.{Known, proved, unknown, is, each_known, proved_if, takes, ◌>>=◌}
-use Rattle.infer.proofs.PlaceLemmas.{ByPlace}
-use Rattle.infer.proofs.PlaceLemmas as Place
+use Rattle.infer_sig.proofs.KnownLemmas.{Known, proved, unknown, is, each_known, proved_if, takes, ◌>>=◌}
+use Rattle.infer_sig.proofs.OccurrenceLemmas.{ByPlace}
+use Rattle.infer_sig.proofs.OccurrenceLemmas as Place
 use Rattle.infer.proofs.TableLemmas.{length-table}
 
 abbrev Begins : BuiltIn → Type 0

@@ -2,7 +2,7 @@
 use Rattle.infer.proofs.Common.{accepts, IsAccepted, ◌≡◌, ◌<◌, ℕ, List, length, get_or, refl, ◌⊎◌, sym, ◌∙◌, arith, IsTrue, Alternative, BuiltIn, fixed, avif, doc, framed, heif, html, matroska, office, pdf, ppt, xls, xml, signatures, is_far_row, Lasts, IsNear, OthersAreNear, signature_of, table, MATCHER_COUNT}
 use Rattle.infer_sig.specs.Laws as Fixed
 use Rattle.infer_deep.specs.Laws as Deep
-use Rattle.infer.proofs.KnownLemmas.{Known, proved, unknown, is, either, each_known, proved_if}
+use Rattle.infer_sig.proofs.KnownLemmas.{Known, proved, unknown, is, either, each_known, proved_if}
 
 pub length_signatures : length signatures ≡ MATCHER_COUNT
 unfolding signatures table

@@ -1,14 +1,11 @@
 pub mod Common
 pub mod ListLemmas
-pub mod TestLemmas
 pub mod RowLemmas
 pub mod TableLemmas
 pub mod LawLemmas
 pub mod HeadLemmas
 pub mod BuiltInLemmas
 pub mod LeadLemmas
-pub mod KnownLemmas
-pub mod PlaceLemmas
 pub mod DecisionLemmas
 pub mod FirstLemmas
 pub mod IndexLemmas

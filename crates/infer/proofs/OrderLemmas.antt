@@ -2,8 +2,8 @@
 use Rattle.infer.proofs.Common.{◌∷◌, le_refl, suc, ℕ, List, [], Option, None, Some, length, get_or, subst, arith, get_or_default, HasClassId, IsXls, IsOffice, AreApart, BuiltIn, framed, office, doc, xls, ppt, html, xml, IsAccepted, IsFirstOf, NoneHas, Row, Accepts, table, row, Text}
 use Rattle.infer_deep.specs.Laws as Deep
 use Rattle.infer.proofs.DecisionLemmas.{known}
-use Rattle.infer.proofs.KnownLemmas.{Known, proved, unknown, same, negated, each_before, at_most, takes, ◌>>=◌, ◌>>◌}
-use Rattle.infer.proofs.PlaceLemmas.{ByPlace}
+use Rattle.infer_sig.proofs.KnownLemmas.{Known, proved, unknown, same, negated, each_before, at_most, takes, ◌>>=◌, ◌>>◌}
+use Rattle.infer_sig.proofs.OccurrenceLemmas.{ByPlace}
 
 -- any row
 pub some_row : Row BuiltIn

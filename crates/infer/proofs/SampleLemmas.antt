@@ -4,9 +4,9 @@ use Rattle.std.proofs.lemmas.List.{get_or-map}
 use Rattle.infer.specs.declared.samples.TheConstants.{SAMPLE_SIZE}
 use Rattle.infer_deep.specs.Laws as Deep
 use Rattle.infer.specs.declared.table.built_in.Pieces.{Pieces}
-use Rattle.infer.proofs.KnownLemmas.{Known, same, either, each_known}
+use Rattle.infer_sig.proofs.KnownLemmas.{Known, same, either, each_known}
 use Rattle.infer.proofs.OrderLemmas.{known_first, some_row}
-use Rattle.infer.proofs.PlaceLemmas.{ByPlace}
+use Rattle.infer_sig.proofs.OccurrenceLemmas.{ByPlace}
 use Rattle.infer.proofs.TableLemmas.{length-table}
 
 module _ (by_place : ByPlace) (exclude : Deep.Apart) (d : Row BuiltIn) where

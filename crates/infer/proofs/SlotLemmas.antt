@@ -5,7 +5,7 @@ use Rattle.infer.specs.declared.table.rows.RowName.{RowName}
 use Rattle.infer.proofs.AskLemmas.{asked_up_to, candidates_numbered, filtered_alike, found_among, listed_row, may_take, none_among, room_left, row_passes}
 use Rattle.infer.proofs.CandidateLemmas.{accepted_may_take, first_listed, passes_row, read_has}
 use Rattle.infer.proofs.ListLemmas.{HoldsAt-read}
-use Rattle.infer.proofs.TestLemmas.{NoneRefused, passed}
+use Rattle.infer_sig.proofs.TestLemmas.{NoneRefused, passed}
 
 -- the rows of a slot are those whose text has it
 abbrev pub of_slot : (Row BuiltIn → List ℕ) → List (List ℕ) → ℕ → Bool

@@ -1,9 +1,11 @@
 -- dBASE tables: what more bytes keep and may make, and the bytes that each has.
-use Rattle.infer_formats.proofs.Common.{◌≡◌, ℕ, ◌+◌, ◌≤◌, List, ◌++◌, length, codes, sym, subst, ◌∙◌, arith, get_or_append_left, le16, MayBecome, BeginsName, IsDbase, behind, versions, true, refl, ap, ◌↔◌, IsTrue, and_from, le-leb, lt-ltb, or_left, nat_le, nat_lt, le16-append, lines, dbase, StandsByPlace, accepts, stands}
+use Rattle.infer_formats.proofs.Common.{◌≡◌, ℕ, ◌+◌, ◌≤◌, List, ◌++◌, length, codes, sym, subst, ◌∙◌, arith, get_or_append_left, le16, MayBecome, BeginsName, IsDbase, behind, versions, true, refl, ap, ◌↔◌, IsTrue, and_from, le-leb, lt-ltb, or_left, nat_le, nat_lt, le16-append, lines, dbase, StandsByPlace, accepts, stands, ◌==◌, inl, slice_index}
 use Rattle.infer_formats.specs.Dbase.{IsOneOf, MayBeDbase}
 use Rattle.infer_formats.proofs.GrowthLemmas.{carried, kept, longer}
 use Rattle.infer_formats.proofs.OpenLemmas.{known}
 use Rattle.infer_formats.proofs.OutlineLemmas.{pair}
+use Rattle.std.specs.List.{list_any}
+use Rattle.infer_sig.proofs.KnownLemmas.{Known, at_most, both, is, proved, same, takes, ◌>>=◌}
 
 -- ---- a buffer that grows
 
@@ -59,3 +61,21 @@ module _ (by_place : (place : ℕ) (t buf : List ℕ) → IsTrue (stands place t
       or_left _ _ (and_from (nat_le 14 (length b)) _ (le-leb 14 (length b) (omega arith))
       (and_from _ _ (and_from (nat_lt 0 (length b)) _ (lt-ltb 0 (length b) (omega arith)) dated.0)
       (and_from _ true (pair by_place b 12 0x00 0x00 (omega arith) dated.3.0 dated.3.1) refl)))
+
+-- ---- what a computation says of a table of dBASE
+
+module _ (b : List ℕ) where
+  -- one field
+  abbrev pub known_table : Known (IsDbase b)
+  known_table = do
+    long ← takes (at_most 65 (length b))
+    version ← takes (is (list_any (λ y. slice_index b 0 == y) versions))
+    month ← takes (both (at_most 0x01 (slice_index b 2)) (at_most (slice_index b 2) 0x0C))
+    day ← takes (both (at_most 0x01 (slice_index b 3)) (at_most (slice_index b 3) 0x1F))
+    zeros ← takes (both (same (slice_index b 12) 0) (same (slice_index b 13) 0))
+    name ← takes (both (at_most 0x41 (slice_index b 32)) (at_most (slice_index b 32) 0x5A))
+    kind ← takes (is (list_any (λ y. slice_index b 43 == y) (codes "+@BCDFGILMNOPTVXY")))
+    many ← takes (at_most 2 (le16 b 10))
+    sum ← takes (same (64 + behind (slice_index b 0)) (le16 b 8))
+    end ← takes (same (slice_index b 64) 0x0D)
+    proved (long, (version, month, day, zeros), (inl name, kind), many, (64, (sum, omega arith, refl, long, end)))

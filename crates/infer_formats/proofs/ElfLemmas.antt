@@ -1,11 +1,14 @@
 -- Shared objects: what more bytes keep, what they may make, and the bytes that each has.
-use Rattle.infer_formats.proofs.Common.{[], IsTrue, ◌≡◌, inl, inr, ℕ, ◌+◌, ◌*◌, ◌<◌, ◌≤◌, Bool, true, false, List, ◌++◌, length, get_or, refl, sym, subst, ◌∙◌, arith, cases_lt, le16, are_bytes, MayBecome, grown_agrees, AsksAt, HasOwnTable, IsSharedObject, counted_length, entry_count, entry_size, known_size, table_place, be16, bytes16, number16, ◌∷◌, number32, ◌↔◌, lines, shared_object, StandsByPlace, accepts, at_least, stands}
+use Rattle.infer_formats.proofs.Common.{[], IsTrue, ◌≡◌, inl, inr, ℕ, ◌+◌, ◌*◌, ◌<◌, ◌≤◌, Bool, true, false, List, ◌++◌, length, get_or, refl, sym, subst, ◌∙◌, arith, cases_lt, le16, are_bytes, MayBecome, grown_agrees, AsksAt, HasOwnTable, IsSharedObject, counted_length, entry_count, entry_size, known_size, table_place, be16, bytes16, number16, ◌∷◌, number32, ◌↔◌, lines, shared_object, StandsByPlace, accepts, at_least, stands, slice_index}
 use Rattle.infer_formats.specs.Elf.{MayBeSharedObject, size_at}
 use Rattle.infer_sig.specs.Signature.{text}
 use Rattle.infer_formats.proofs.GrowthLemmas.{number32-append, number64-append, kept, longer, number16-append}
 use Rattle.infer_formats.proofs.OpenLemmas.{grown_byte, number16_stands}
 use Rattle.infer_formats.proofs.OutlineLemmas.{other, pair, one}
 use Rattle.infer_sig.specs.Signature as fixed
+use Rattle.infer_deep.specs.Numbers.{le32}
+use Rattle.infer_formats.proofs.TestLemmas.{only_first}
+use Rattle.infer_sig.proofs.KnownLemmas.{Known, at_most, negated, proved, same, takes, ◌>>=◌}
 
 header_inside : (b : List ℕ) (wide : Bool) → counted_length wide ≤ length b → (46 ≤ length b) × (size_at wide + 2 ≤ length b)
 header_inside b true le = (omega arith, omega arith)
@@ -103,3 +106,32 @@ module _ (by_place : (place : ℕ) (t buf : List ℕ) → IsTrue (stands place t
   object_lines false false t = let n = t.long in let is = t.kind in one by_place b 18 (text 16 (0x03 ∷ 0x00 ∷ [])) (big_object ∷ []) (omega arith) (pair by_place b 16 0x03 0x00 (omega arith) (omega arith) (omega arith))
   object_lines true true t = let n = t.long in let is = t.kind in other by_place b little_object (big_object ∷ []) (one by_place b 18 (text 16 (0x00 ∷ 0x03 ∷ [])) [] (omega arith) (pair by_place b 16 0x00 0x03 (omega arith) (omega arith) (omega arith)))
   object_lines false true t = let n = t.long in let is = t.kind in other by_place b little_object (big_object ∷ []) (one by_place b 18 (text 16 (0x00 ∷ 0x03 ∷ [])) [] (omega arith) (pair by_place b 16 0x00 0x03 (omega arith) (omega arith) (omega arith)))
+
+-- ---- what a computation says of an ELF file
+
+module _ (b : List ℕ) where
+  -- a narrow file whose lowest byte comes first, with one entry
+  abbrev pub known_object : Known (IsSharedObject b)
+  known_object = do
+    class ← takes (same (slice_index b 4) 1)
+    order ← takes (same (slice_index b 5) 1)
+    long ← takes (at_most 46 (length b))
+    kind ← takes (same (le16 b 16) 3)
+    size ← takes (same (le16 b 42) 32)
+    one ← takes (same (le16 b 44) 1)
+    whole ← takes (at_most (le32 b 28 + le16 b 44 * 32) (length b))
+    alone ← takes (negated (same (le32 b (le32 b 28 + 0 * 32)) 3))
+    proved (
+      false,
+      false,
+      class,
+      order,
+      record {
+        long = long;
+        kind = kind;
+        size = size;
+        some = omega arith;
+        whole = whole;
+        alone = λ i lt. only_first (λ i. ¬ (le32 b (le32 b 28 + i * 32) ≡ 3)) alone i (omega arith);
+      },
+    )

@@ -1,5 +1,10 @@
 -- The grammar, byte by byte.
-use Rattle.infer_formats.proofs.Common.{◌≡◌, ℕ, zero, suc, ◌≤◌, ◌⊎◌, inl, inr, ◌↔◌, codes, List, [], ◌∷◌, ◌++◌, refl, subst, arith, Symbol, range, blanks, value, items, members, chars, escape, hex, integer, fraction, exponent, power, digits, exact, IsAmong, Stands, one, by_rule, rules}
+use Rattle.infer_formats.proofs.Common.{◌≡◌, ℕ, zero, suc, ◌≤◌, ◌⊎◌, inl, inr, ◌↔◌, codes, List, [], ◌∷◌, ◌++◌, refl, subst, arith, Symbol, range, blanks, value, items, members, chars, escape, hex, integer, fraction, exponent, power, digits, exact, IsAmong, Stands, one, by_rule, rules, ◌==◌, ◌||◌, Bool, IsTrue, nat_tests, not, sym, CanBe, IsJson, IsJsonLines}
+use Rattle.std.specs.List.{list_any}
+use Rattle.infer_formats.specs.Json as Json
+use Rattle.infer_formats.specs.Laws.{HasBracket, Leads, Single}
+use Rattle.infer_formats.proofs.TestLemmas.{neither}
+use Rattle.infer_sig.proofs.KnownLemmas.{Known, proved, refuted, refuted_if, same_text, takes, ◌>>=◌, ◌>>◌}
 
 abbrev AnyOf : (List Symbol → Type 0) → List (List Symbol) → Type 0
 AnyOf P [] = ⊥
@@ -114,3 +119,62 @@ object_begins n ss v =
 
 pub none_nested : (x : ℕ) (ss : List Symbol) (v : List ℕ) → (x ≡ 0x5B) ⊎ (x ≡ 0x7B) → ¬ Stands (value 0 ∷ ss) (x ∷ v)
 none_nested x ss v h d = let e = (begins 4 x v (value 0 ∷ ss)).0 d in grind arith
+
+-- ---- what a computation says of JSON
+
+abbrev is_bracket : ℕ → Bool
+is_bracket x = x == 0x5B || x == 0x7B
+
+pub no_bracket : (b : List ℕ) → IsTrue (not (list_any is_bracket b)) → ¬ HasBracket b
+no_bracket [] h (k, is) = grind arith
+no_bracket (x ∷ b) h (zero, is) = let none = (neither (is_bracket x) (list_any is_bracket b) h).0 in grind (arith, nat_tests)
+no_bracket (x ∷ b) h (suc k, is) = no_bracket b (neither (is_bracket x) (list_any is_bracket b) h).1 (k, is)
+
+-- an array, and one with the next on a new line, which has begun
+abbrev array : List ℕ
+array = 0x5B ∷ 0x5D ∷ []
+
+abbrev two_lines : List ℕ
+two_lines = 0x5B ∷ 0x5D ∷ 0x0A ∷ 0x5B ∷ []
+
+array_stands : {ss : List Symbol} {v : List ℕ} → Stands ss v → Stands (Json.text ∷ ss) (0x5B ∷ 0x5D ∷ v)
+array_stands rest =
+    Json.by_rule (Json.byte 0x5B ∷ Json.blanks ∷ Json.items 127 ∷ []) (inl refl)
+    (Json.one (omega arith) (omega arith)
+    (Json.by_rule [] (inl refl) (Json.by_rule (Json.byte 0x5D ∷ []) (inl refl) (Json.one (omega arith) (omega arith) rest))))
+
+array_can_be : CanBe (Json.blanks ∷ Json.text ∷ Json.blanks ∷ []) array
+array_can_be = ([], Json.by_rule [] (inl refl) (array_stands (Json.by_rule [] (inl refl) Json.nothing)))
+
+pub array_is_json : IsJson array
+array_is_json = inl (inl (inl refl, inl (inl (inr (inl refl)))), array_can_be)
+
+pub array_is_no_lines : ¬ IsJsonLines array
+array_is_no_lines (inl lines) = lines.1 array_can_be
+array_is_no_lines (inr (w, e, lines)) = absurd (cc)
+
+pub are_lines : Single → IsJsonLines two_lines
+are_lines single = inl (
+  (
+    codes "]",
+    Json.by_rule [] (inl refl)
+        (array_stands
+        (Json.by_rule (Json.byte 0x0A ∷ Json.next_line ∷ []) (inr (inr (inr (inr (inl refl)))))
+        (Json.one (omega arith) (omega arith)
+        (Json.by_rule (Json.text ∷ Json.same_line ∷ []) (inr (inr (inr (inr (inr (inl refl))))))
+        (array_stands (Json.by_rule [] (inl refl) Json.nothing)))))),
+  ),
+  single.json (0x5B ∷ []) [],
+)
+
+module _ (inside : Leads) (single : Single) (b : List ℕ) where
+  abbrev pub known_json_lines : Known (IsJsonLines b)
+  known_json_lines = do
+    refuted_if (not (list_any is_bracket b)) (λ none h. no_bracket b none (inside.json_lines b h).1)
+    (do equal ← takes (same_text b two_lines); proved (subst IsJsonLines (sym equal) (are_lines single)))
+    (do equal ← takes (same_text b array); refuted (subst (λ u. ¬ IsJsonLines u) (sym equal) array_is_no_lines))
+
+  abbrev pub known_json : Known (IsJson b)
+  known_json = do
+    refuted_if (not (list_any is_bracket b)) (λ none h. no_bracket b none (inside.json b h).1)
+    (do equal ← takes (same_text b array); proved (subst IsJson (sym equal) array_is_json))

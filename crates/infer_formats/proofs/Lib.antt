@@ -7,6 +7,7 @@ pub mod GrowthLemmas
 pub mod JsonLeadLemmas
 pub mod JsonLemmas
 pub mod LeadLemmas
+pub mod LetterLemmas
 pub mod LineLemmas
 pub mod MarkupLemmas
 pub mod NearLemmas
@@ -18,10 +19,12 @@ pub mod PartLemmas
 pub mod PngLemmas
 pub mod ReaderLemmas
 pub mod RelationLemmas
+pub mod RootLemmas
 pub mod RunLemmas
 pub mod ScriptLemmas
 pub mod SubtitlesLemmas
 pub mod TarLemmas
+pub mod TestLemmas
 pub mod TextLemmas
 pub mod TiffLemmas
 pub mod TokenLemmas

@@ -1,7 +1,9 @@
 -- What a chunk says of those after it.
-use Rattle.infer_formats.proofs.Common.{◌≡◌, ◌↔◌, ◌⊎◌, inl, inr, ℕ, ◌+◌, ◌<◌, ◌≤◌, List, ◌++◌, length, codes, sym, subst, ◌∙◌, arith, length-append, OccursAt, be32, MayBecome, be32-append, OccursAt-append, OccursAt-front, IsAnimated, IsAnimatedFrom, ap}
+use Rattle.infer_formats.proofs.Common.{◌≡◌, ◌↔◌, ◌⊎◌, inl, inr, ℕ, ◌+◌, ◌<◌, ◌≤◌, List, ◌++◌, length, codes, sym, subst, ◌∙◌, arith, length-append, OccursAt, be32, MayBecome, be32-append, OccursAt-append, OccursAt-front, IsAnimated, IsAnimatedFrom, ap, png_header}
 use Rattle.infer_formats.specs.Png.{later, here}
 use Rattle.infer_formats.proofs.GrowthLemmas.{longer}
+use Rattle.infer_sig.proofs.KnownLemmas.{Known, both, proved, takes, ◌>>=◌}
+use Rattle.infer_sig.proofs.OccurrenceLemmas.{ByPlace, occurs}
 
 parts : (b : List ℕ) (c : ℕ) → IsAnimatedFrom b c
     → OccursAt b (codes "acTL") (c + 4) ⊎ ((c + 8 ≤ length b) × (OccursAt b (codes "IDAT") (c + 4) → ⊥) × IsAnimatedFrom b (c + 12 + be32 b c))
@@ -62,3 +64,11 @@ module _ (b more : List ℕ) where
   chunk c (later _ fits other rest) =
       later c (longer b more _ fits) (λ o. other (OccursAt-front b more _ (c + 4) (omega arith) o))
       (subst (IsAnimatedFrom (b ++ more)) (ap (λ n. c + 12 + n) (sym (be32-append b more c (omega arith)))) (chunk (c + 12 + be32 b c) rest))
+
+-- ---- what a computation says of a PNG image
+
+module _ (by_place : ByPlace) (b : List ℕ) where
+  abbrev pub known_animation : Known (OccursAt b png_header 0 × IsAnimated b)
+  known_animation = both (occurs by_place png_header b 0) (do
+    type ← takes (occurs by_place (codes "acTL") b 12)
+    proved (here 8 type))

@@ -1,21 +1,27 @@
 -- Each relation, by the lemmas of its format.
 use Rattle.infer_formats.proofs.Common.{[], ◌≡◌, ◌↔◌, IsTrue, List, ℕ, OccursAt-append, Lasts, arith, refl, StandsByPlace, stands, Stays, png_header, Fits, HasLines, Relation, animated, class_id, dbase, directory_tag, first_entry_ends_in, first_entry_has_extra, first_entry_is, is_lasting, json_lines, json_text, package_with, plain_text, program, relation_listed, root, root_with, shared_object, subrip, tar_checksum}
-use Rattle.infer_formats.proofs.DbaseLemmas.{dbase_lines, dbase-lasts}
-use Rattle.infer_formats.proofs.ElfLemmas.{object_lines, shared_object-lasts}
+use Rattle.infer_formats.proofs.DbaseLemmas.{dbase_lines, dbase-lasts, known_table}
+use Rattle.infer_formats.proofs.ElfLemmas.{object_lines, shared_object-lasts, known_object}
 use Rattle.infer_formats.proofs.JsonLeadLemmas.{lines_lead, text_leads, json_begins}
 use Rattle.infer_formats.proofs.LeadLemmas.{begins_markup, markup_begins}
 use Rattle.infer_formats.proofs.MarkupLemmas.{HasRoot-lasts, HasRootWith-lasts}
 use Rattle.infer_formats.proofs.OutlineLemmas.{begins}
-use Rattle.infer_formats.proofs.PngLemmas.{chunk}
-use Rattle.infer_formats.proofs.ScriptLemmas.{IsProgram-lasts, program_lines}
-use Rattle.infer_formats.proofs.SubtitlesLemmas.{subrip_lines, subrip-lasts}
-use Rattle.infer_formats.proofs.TarLemmas.{field_lines, tar_checksum-lasts}
-use Rattle.infer_formats.proofs.TextLemmas.{text_lines}
-use Rattle.infer_formats.proofs.TiffLemmas.{tag_lines, tag-lasts}
-use Rattle.infer_formats.proofs.ZipLemmas.{counted_for_lines, named_part, package_lines, first_entry_ends_in-lasts, first_entry_has_extra-lasts, first_entry_is-lasts, package_with-lasts}
+use Rattle.infer_formats.proofs.PngLemmas.{chunk, known_animation}
+use Rattle.infer_formats.proofs.ScriptLemmas.{IsProgram-lasts, program_lines, known_program}
+use Rattle.infer_formats.proofs.SubtitlesLemmas.{subrip_lines, subrip-lasts, known_subrip}
+use Rattle.infer_formats.proofs.TarLemmas.{field_lines, tar_checksum-lasts, known_checksum}
+use Rattle.infer_formats.proofs.TextLemmas.{text_lines, known_text}
+use Rattle.infer_formats.proofs.TiffLemmas.{tag_lines, tag-lasts, known_tag}
+use Rattle.infer_formats.proofs.ZipLemmas.{counted_for_lines, named_part, package_lines, first_entry_ends_in-lasts, first_entry_has_extra-lasts, first_entry_is-lasts, package_with-lasts, known_ending, known_entry, known_extra, known_package}
 use Rattle.infer_formats.specs.declared.relation.Relation as declared
 use Rattle.infer_formats.specs.declared.relation.Relation.TheVariants.{JsonLines, JsonText, PlainText}
 use Rattle.infer_deep.proofs.ClassIdLemmas.{HasClassId-lasts}
+use Rattle.infer_formats.proofs.JsonLemmas.{known_json, known_json_lines}
+use Rattle.infer_formats.proofs.RootLemmas.{known_root, known_root_with}
+use Rattle.infer_formats.specs.Laws.{Leads, Single}
+use Rattle.infer_sig.proofs.ClassIdLemmas.{known_class}
+use Rattle.infer_sig.proofs.KnownLemmas.{Known}
+use Rattle.infer_sig.proofs.OccurrenceLemmas.{ByPlace}
 
 pub relation_lasts : (r : Relation) → IsTrue (is_lasting r) → Lasts (Fits r)
 relation_lasts shared_object l = shared_object-lasts
@@ -63,3 +69,25 @@ module _ (by_place : (place : ℕ) (t buf : List ℕ) → IsTrue (stands place t
   has_lines json_lines small h = json_begins by_place b (lines_lead b h).0
   has_lines json_text small h = json_begins by_place b (text_leads b h).0
   has_lines plain_text small h = text_lines by_place b (small refl) h
+
+-- ---- what a computation says of each
+
+module _ (by_place : ByPlace) (inside : Leads) (single : Single) (b : List ℕ) where
+  abbrev pub known_relation : (r : Relation) → Known (Fits r b)
+  known_relation shared_object = known_object b
+  known_relation (first_entry_is name) = known_entry by_place b name
+  known_relation (first_entry_ends_in text) = known_ending by_place b text
+  known_relation (first_entry_has_extra text) = known_extra by_place b text
+  known_relation (package_with folder) = known_package by_place b folder
+  known_relation (class_id id) = known_class by_place b id
+  known_relation (directory_tag tag) = known_tag by_place b tag
+  known_relation animated = known_animation by_place b
+  known_relation subrip = known_subrip by_place b
+  known_relation dbase = known_table b
+  known_relation tar_checksum = known_checksum b
+  known_relation (program name) = known_program by_place single b name
+  known_relation (root name) = known_root by_place inside single b name
+  known_relation (root_with name t) = known_root_with by_place inside single b name t
+  known_relation json_lines = known_json_lines inside single b
+  known_relation json_text = known_json inside single b
+  known_relation plain_text = known_text b

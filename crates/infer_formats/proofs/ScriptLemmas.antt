@@ -1,11 +1,16 @@
 -- The program that a script names, and what more bytes may make of it.
-use Rattle.infer_formats.proofs.Common.{◌≡◌, ◌==◌, ◌||◌, ℕ, zero, suc, ◌+◌, ◌-◌, ◌<◌, ◌≤◌, ◌⊎◌, inl, inr, ap, refl, Bool, true, false, List, ◌++◌, Option, None, Some, length, codes, get_or, sym, subst, ◌∙◌, MatchOption, arith, list_all, get_or_append_left, OccursAt, Lasts, IsEnv, IsFirstWord, IsLineEnd, IsNextWord, IsProgram, IsSetting, IsVersionByte, IsWord, IsWordByte, NamesProgram, IsRun, AgreesAt, MayBecome, grown_agrees, ◌↔◌, IsTrue, not, true≢false, lines, program, EndsBare, IsFolder, IsNameOf, IsRead, StandsByPlace, accepts, stands}
+use Rattle.infer_formats.proofs.Common.{◌≡◌, ◌==◌, ◌||◌, ℕ, zero, suc, ◌+◌, ◌-◌, ◌<◌, ◌≤◌, ◌⊎◌, inl, inr, ap, refl, Bool, true, false, List, ◌++◌, Option, None, Some, length, codes, get_or, sym, subst, ◌∙◌, MatchOption, arith, list_all, get_or_append_left, OccursAt, Lasts, IsEnv, IsFirstWord, IsLineEnd, IsNextWord, IsProgram, IsSetting, IsVersionByte, IsWord, IsWordByte, NamesProgram, IsRun, AgreesAt, MayBecome, grown_agrees, ◌↔◌, IsTrue, not, true≢false, lines, program, EndsBare, IsFolder, IsNameOf, IsRead, StandsByPlace, accepts, stands, cases_lt, drop, nat_tests, slice_index, slice_range}
 use Rattle.std.proofs.lemmas.List.Sums.{AllPass-from_list_all}
 use Rattle.infer_formats.specs.Script.{IsBlank}
 use Rattle.infer_formats.specs.declared.script.Word.{Word}
 use Rattle.infer_formats.proofs.FrontLemmas.{SharesFront, after_last_shared, byte_shared, byte_shared_back, front_grows, front_swaps, range_shared, run_shared, text_shared}
 use Rattle.infer_formats.proofs.OutlineLemmas.{begins}
 use Rattle.infer_formats.proofs.RunLemmas.{one_after_last, one_run_end}
+use Rattle.std.proofs.Common.{◌≢◌}
+use Rattle.infer_formats.specs.Laws.{Single}
+use Rattle.infer_formats.proofs.LetterLemmas.{Letters, is_letter, letters, letters_from}
+use Rattle.infer_sig.proofs.KnownLemmas.{Known, at_most, needs, negated, proved, same, same_text, takes, ◌>>=◌}
+use Rattle.infer_sig.proofs.OccurrenceLemmas.{ByPlace, occurs}
 
 -- words that overlap are one
 pub one_word : (b : List ℕ) (from to p q : ℕ) → IsWord b from to → IsWord b p q → from ≤ p → p < to → (p ≡ from) × (q ≡ to)
@@ -318,3 +323,71 @@ begun_so b name (more, bytes, (o, rest)) = grown_agrees b more (codes "#!") 0 o
 module _ (by_place : (place : ℕ) (t buf : List ℕ) → IsTrue (stands place t buf) ↔ StandsByPlace place t buf) (b : List ℕ) where
   pub program_lines : (name : List ℕ) → IsProgram name b → IsTrue (accepts (lines (program name)) b)
   program_lines name (o, _) = begins by_place b 2 (codes "#!") (let le = o.fits in omega arith) o
+
+-- ---- what a computation says of the program of a script
+
+-- a word can have letters
+word_letter : (x : ℕ) → IsTrue (is_letter x) → IsWordByte x
+word_letter x h = (λ e. grind (arith, nat_tests), λ e. grind (arith, nat_tests), λ e. grind (arith, nat_tests), λ e. grind (arith, nat_tests))
+
+module _ (by_place : ByPlace) (single : Single) (b : List ℕ) where
+  -- letters up to `to` name a program
+  pub is_program : (to : ℕ) → OccursAt b (codes "#!") 0 → Letters b 2 to → 2 < to → to < length b → slice_index b to ≡ 0x0A → ¬ OccursAt b (codes "env") 2
+      → IsProgram (slice_range b 2 to) b
+  is_program to starts letters some whole ends other =
+      let word : IsWord b 2 to = record {
+        low = omega arith;
+        line = λ k low lt is. omega arith;
+        begins = λ lt. absurd (omega arith);
+        some = some;
+        run = record {
+          order = omega arith;
+          bytes = λ k low high. word_letter (slice_index b k) (letters k low high);
+          whole = whole;
+          ends = λ is. is.2 ends;
+        };
+      } in
+      let no_slash : (k : ℕ) → 2 ≤ k → k < to → slice_index b k ≢ 0x2F = λ k low high e. (let letter = letters k low high in grind (arith, nat_tests)) in
+      let first : IsFirstWord b 2 to = record { word = word; low = omega arith; has = tt; before = λ p q low lt. absurd (omega arith) } in
+      let not_env : ¬ IsEnv b 2 to = λ (at, name, o, e). elim (cases_lt 2 at) [
+        | inl lt ↦ let high = name.high in no_slash (at - 1) (omega arith) (omega arith) (name.begins lt)
+        | inr le ↦ let low = name.low in let same : at ≡ 2 = omega arith in other (subst (OccursAt b (codes "env")) same o)
+      ] in (
+        starts,
+        (
+          2,
+          to,
+          record {
+            from = 2;
+            to = to;
+            word = inl (first, not_env);
+            name = record { low = omega arith; high = omega arith; begins = λ lt. absurd (omega arith); last = no_slash };
+            bare = record {
+              low = omega arith;
+              high = omega arith;
+              dropped = λ k low lt. absurd (omega arith);
+              kept = λ lt is. let letter = letters (to - 1) (omega arith) (omega arith) in grind (arith, nat_tests);
+            };
+          },
+          refl,
+        ),
+      )
+
+  -- the program of a line of "#!" and letters
+  abbrev line_end : ℕ
+  line_end = 2 + letters (drop 2 b)
+
+  abbrev own_program : Known (IsProgram (slice_range b 2 line_end) b)
+  own_program = do
+    starts ← takes (occurs by_place (codes "#!") b 0)
+    some ← takes (at_most 3 line_end)
+    whole ← takes (at_most (suc line_end) (length b))
+    ends ← takes (same (slice_index b line_end) 0x0A)
+    other ← takes (negated (occurs by_place (codes "env") b 2))
+    proved (is_program line_end starts (letters_from b 2) (omega arith) (omega arith) ends other)
+
+  abbrev pub known_program : (name : List ℕ) → Known (IsProgram name b)
+  known_program name = do
+    own ← takes own_program
+    equal ← needs (same_text name (slice_range b 2 line_end)) (λ is. single.program b name (slice_range b 2 line_end) is own)
+    proved (subst (λ n. IsProgram n b) (sym equal) own)

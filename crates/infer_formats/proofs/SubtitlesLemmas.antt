@@ -1,9 +1,12 @@
 -- Subtitles: what more bytes keep and may make, and the bytes that each file has.
-use Rattle.infer_formats.proofs.Common.{◌≡◌, ℕ, ◌+◌, ◌<◌, ◌≤◌, List, get_or, arith, AreDigits, EndsLine, IsDigit, inl, inr, ◌++◌, length, subst, ◌∙◌, cases_lt, MayBecome, grown_agrees, IsCue, IsPairAt, IsSubRip, IsTime, ◌∷◌, slice_index, OccursAt-append, ◌↔◌, IsTrue, [], lines, subrip, MayBeSubRip, StandsByPlace, accepts, between, stands, at_least, add-zero, GoesOn, MayBeginCue}
+use Rattle.infer_formats.proofs.Common.{◌≡◌, ℕ, ◌+◌, ◌<◌, ◌≤◌, List, get_or, arith, AreDigits, EndsLine, IsDigit, inl, inr, ◌++◌, length, subst, ◌∙◌, cases_lt, MayBecome, grown_agrees, IsCue, IsPairAt, IsSubRip, IsTime, ◌∷◌, slice_index, OccursAt-append, ◌↔◌, IsTrue, [], lines, subrip, MayBeSubRip, StandsByPlace, accepts, between, stands, at_least, add-zero, GoesOn, MayBeginCue, codes, refl}
 use Rattle.infer_sig.specs.Signature.{byte}
 use Rattle.infer_formats.proofs.GrowthLemmas.{there, carried, kept}
 use Rattle.infer_formats.proofs.OpenLemmas.{known}
 use Rattle.infer_formats.proofs.OutlineLemmas.{in_range, one, marked, marked_line}
+use Rattle.infer_formats.proofs.TestLemmas.{only_first}
+use Rattle.infer_sig.proofs.KnownLemmas.{Known, at_most, both, either, proved, same, takes, ◌>>=◌}
+use Rattle.infer_sig.proofs.OccurrenceLemmas.{ByPlace, occurs}
 
 pub cue_by_count : (b : List ℕ) (p n m t : ℕ) → n ≤ 10 → AreDigits b p n → (n < 10 → ¬ IsDigit (get_or b (p + n) 0))
     → m ≤ 9 → AreDigits b p m → EndsLine b (p + m) t → m ≡ n
@@ -81,3 +84,33 @@ module _ (by_place : (place : ℕ) (t buf : List ℕ) → IsTrue (stands place t
       let lt : 0 < length b = there b 0 (omega arith) in
       one by_place b 1 (byte 0 (between 0x30 0x39)) (marked_line ∷ []) (omega arith) (in_range by_place b 0 0x30 0x39 lt digit.0 digit.1)
   subrip_lines (inr (o, cue)) = marked by_place b (at_least 1 (byte 0 (between 0x30 0x39) ∷ [])) o
+
+-- ---- what a computation says of subtitles
+
+module _ (by_place : ByPlace) (b : List ℕ) where
+  abbrev known_digit : (p : ℕ) → Known (IsDigit (slice_index b p))
+  known_digit p = both (at_most 0x30 (slice_index b p)) (at_most (slice_index b p) 0x39)
+
+  abbrev known_pair : (p : ℕ) → Known (IsPairAt b p)
+  known_pair p = both (known_digit p) (known_digit (p + 1))
+
+  abbrev known_time : (t : ℕ) → Known (IsTime b t)
+  known_time t = do
+    hours ← takes (known_pair t)
+    to_minutes ← takes (same (slice_index b (t + 2)) 0x3A)
+    minutes ← takes (known_pair (t + 3))
+    to_seconds ← takes (same (slice_index b (t + 5)) 0x3A)
+    seconds ← takes (known_pair (t + 6))
+    to_thousandths ← takes (either (same (slice_index b (t + 8)) 0x2C) (same (slice_index b (t + 8)) 0x2E))
+    thousandths ← takes (both (known_pair (t + 9)) (known_digit (t + 11)))
+    proved (record { hours = hours; to_minutes = to_minutes; minutes = minutes; to_seconds = to_seconds; seconds = seconds; to_thousandths = to_thousandths; thousandths = thousandths })
+
+  -- a cue with one known_digit, and 0A after it
+  abbrev pub known_subrip : Known (IsSubRip b)
+  known_subrip = do
+    first ← takes (known_digit 0)
+    ends ← takes (same (slice_index b 1) 0x0A)
+    start ← takes (known_time 2)
+    arrow ← takes (occurs by_place (codes " --> ") b 14)
+    stop ← takes (known_time 19)
+    proved (inl (1, 2, (omega arith, omega arith), (λ k lt. only_first (λ k. IsDigit (slice_index b (0 + k))) first k lt), inl (ends, refl), (start, arrow, stop)))

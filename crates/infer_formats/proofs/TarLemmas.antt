@@ -2,6 +2,7 @@
 use Rattle.infer_formats.proofs.Common.{◌≡◌, ℕ, ◌+◌, ◌<◌, ◌≤◌, List, get_or, add-zero, subst, arith, IsField, IsOctal, octal, inl, inr, zero, suc, ◌-◌, ◌++◌, length, refl, sym, ◌∙◌, cases_lt, get_or_append_left, MayBecome, HasTarChecksum, header_sum, sum_from, true, length-append, slice_index, OccursAt, ◌↔◌, IsTrue, and_from, le-leb, or_left, or_right, get_or-replicate, length-replicate, nat_le, replicate, digit_behind, digits_behind, lines, tar_checksum, StandsByPlace, accepts, fits, stands}
 use Rattle.infer_formats.specs.Tar.{HasField}
 use Rattle.infer_formats.proofs.OutlineLemmas.{in_range, occurs}
+use Rattle.infer_sig.proofs.KnownLemmas.{Known, at_most, both, proved, same, takes, ◌>>=◌}
 
 module _ (b : List ℕ) (place count p d : ℕ) (low : 148 ≤ place) (spaces : (k : ℕ) → 148 ≤ k → k < place → get_or b k 0 ≡ 0x20)
     (ends : place < 156 → ¬ (get_or b place 0 ≡ 0x20)) (f : IsField b p d) where
@@ -126,3 +127,40 @@ module _ (by_place : (place : ℕ) (t buf : List ℕ) → IsTrue (stands place t
       (and_from _ true (in_range by_place b (148 + (p - 148)) 0x30 0x37 (omega arith) digit.0 digit.1) refl)) in
       let e : p - 148 ≡ 0 + (p - 148) = omega arith in
       digit_lines 0 8 (p - 148) (omega arith) (subst (λ n. IsTrue (fits b (digit_behind n))) e behind)
+
+-- ---- what a computation says of a tar archive
+
+module _ (b : List ℕ) where
+  pub digits_of : IsOctal (slice_index b 148) → IsOctal (slice_index b 149) → IsOctal (slice_index b 150) → (k : ℕ) → k < 3 → IsOctal (slice_index b (148 + k))
+  digits_of x y z zero lt = x
+  digits_of x y z (suc zero) lt = y
+  digits_of x y z (suc (suc zero)) lt = z
+  digits_of x y z (suc (suc (suc k))) lt = absurd (omega arith)
+
+  -- three digits
+  abbrev pub known_checksum : Known (HasTarChecksum b)
+  known_checksum = do
+    long ← takes (at_most 512 (length b))
+    some ← takes (at_most 1 (slice_index b 0))
+    first ← takes (both (at_most 0x30 (slice_index b 148)) (at_most (slice_index b 148) 0x37))
+    second ← takes (both (at_most 0x30 (slice_index b 149)) (at_most (slice_index b 149) 0x37))
+    third ← takes (both (at_most 0x30 (slice_index b 150)) (at_most (slice_index b 150) 0x37))
+    end ← takes (same (slice_index b 151) 0x00)
+    sums ← takes (same (octal b 148 3) (header_sum b))
+    proved (
+      long,
+      some,
+      (
+        148,
+        3,
+        record {
+          low = omega arith;
+          spaces = λ k low lt. absurd (omega arith);
+          some = omega arith;
+          high = omega arith;
+          digits = digits_of first second third;
+          end = inr (inl end);
+        },
+        sums,
+      ),
+    )

@@ -1,10 +1,14 @@
 -- Text and binary data, block by block: what more bytes keep and may make, and the bytes that each has.
-use Rattle.infer_formats.proofs.Common.{[], ◌≡◌, ℕ, ◌+◌, ◌-◌, ◌≤◌, ◌↔◌, Bool, true, false, List, length, get_or, take, drop, sym, subst, ap, ◌∙◌, arith, length-drop, OnTrue, get_or-drop, get_or-take, take_rest, AllBelow, IsBinary, IsDataByte, IsPlainByte, SomeBelow, ◌⊎◌, ◌<◌, inl, inr, suc, IsTrue, nat_eq, ◌∷◌, ◌++◌, refl, slice_index, cases_lt, get_or_append_left, OccursAt, MayBecome, OccursAt-append, OccursAt-front, Stays, lines, plain_text, IsText, StandsByPlace, accepts, between, stands, leb-true, nat_le, part_reads}
+use Rattle.infer_formats.proofs.Common.{[], ◌≡◌, ℕ, ◌+◌, ◌-◌, ◌≤◌, ◌↔◌, Bool, true, false, List, length, get_or, take, drop, sym, subst, ap, ◌∙◌, arith, length-drop, OnTrue, get_or-drop, get_or-take, take_rest, AllBelow, IsBinary, IsDataByte, IsPlainByte, SomeBelow, ◌⊎◌, ◌<◌, inl, inr, suc, IsTrue, nat_eq, ◌∷◌, ◌++◌, refl, slice_index, cases_lt, get_or_append_left, OccursAt, MayBecome, OccursAt-append, OccursAt-front, Stays, lines, plain_text, IsText, StandsByPlace, accepts, between, stands, leb-true, nat_le, part_reads, ◌==◌, ◌&&◌, ◌||◌, nat_tests, not, zero}
 use Rattle.infer_deep.specs.Text.{BeginsMarked, IsMark}
 use Rattle.infer_sig.specs.Signature.{byte}
 use Rattle.infer_formats.proofs.GrowthLemmas.{carried, longer}
 use Rattle.infer_formats.proofs.OutlineLemmas.{in_range, one}
 use Rattle.std.proofs.lemmas.List.Sums.{AllPass-from_list_all}
+use Rattle.std.specs.List.{list_any}
+use Rattle.std.proofs.lemmas.Bool.{or_cases}
+use Rattle.infer_formats.proofs.TestLemmas.{neither}
+use Rattle.infer_sig.proofs.KnownLemmas.{Known, at_most, proved, proved_if, takes, ◌>>=◌}
 
 -- one more block of s bytes without them
 pub plain_more : (b : List ℕ) (s n m : ℕ) → m ≡ n + s → AllBelow IsPlainByte b n → AllBelow IsPlainByte (take (n + s - n) (drop n b)) s
@@ -110,3 +114,36 @@ module _ (by_place : (place : ℕ) (t buf : List ℕ) → IsTrue (stands place t
           | inr l ↦ l
         ],
       )
+
+-- ---- what a computation says of text, and of binary data
+
+abbrev is_data : ℕ → Bool
+is_data x = nat_le x 0x08 || (x == 0x0B || ((nat_le 0x0E x && nat_le x 0x1A) || (nat_le 0x1C x && nat_le x 0x1F)))
+
+data_byte : (x : ℕ) → IsTrue (is_data x) → IsDataByte x
+data_byte x h = grind (arith, nat_tests)
+
+no_data_byte : (x : ℕ) → IsTrue (not (is_data x)) → ¬ IsDataByte x
+no_data_byte x h is = grind (arith, nat_tests)
+
+pub has_data : (b : List ℕ) → IsTrue (list_any is_data b) → IsBinary b
+has_data [] h = absurd (cc)
+has_data (x ∷ b) h = elim (or_cases (is_data x) _ h) [
+  | inl e ↦ (0, omega arith, data_byte x e)
+  | inr e ↦ let (k, lt, is) = has_data b e in (suc k, omega arith, is)
+]
+
+pub lacks_data : (b : List ℕ) → IsTrue (not (list_any is_data b)) → ¬ IsBinary b
+lacks_data [] h (k, lt, is) = omega arith
+lacks_data (x ∷ b) h (zero, lt, is) = no_data_byte x (neither (is_data x) (list_any is_data b) h).0 is
+lacks_data (x ∷ b) h (suc k, lt, is) = lacks_data b (neither (is_data x) (list_any is_data b) h).1 (k, omega arith, is)
+
+module _ (b : List ℕ) where
+  abbrev pub known_binary : Known (IsBinary b)
+  known_binary = proved_if (list_any is_data b) (has_data b)
+
+  abbrev pub known_text : Known (IsText b)
+  known_text = do
+    some ← takes (at_most 1 (length b))
+    none ← takes (proved_if (not (list_any is_data b)) (lacks_data b))
+    proved (inr (some, none))

@@ -1,11 +1,14 @@
 -- Tags of TIFF files: what more bytes keep and may bring, and the bytes that each file has.
-use Rattle.infer_formats.proofs.Common.{[], IsTrue, ◌≡◌, inl, inr, ℕ, ◌+◌, ◌-◌, ◌*◌, ◌/◌, min, ◌<◌, ◌≤◌, Bool, true, false, List, ◌++◌, length, get_or, subst, arith, cases_lt, AgreesAt, are_bytes, MayBecome, agrees_past, grown_agrees, bytes16, number16, number32, BeginsTiff, HasTag, IsTagEntry, ◌∷◌, sym, ◌∙◌, OccursAt-append, ◌↔◌, lines, directory_tag, StandsByPlace, accepts, at_least, stands}
+use Rattle.infer_formats.proofs.Common.{[], IsTrue, ◌≡◌, inl, inr, ℕ, ◌+◌, ◌-◌, ◌*◌, ◌/◌, min, ◌<◌, ◌≤◌, Bool, true, false, List, ◌++◌, length, get_or, subst, arith, cases_lt, AgreesAt, are_bytes, MayBecome, agrees_past, grown_agrees, bytes16, number16, number32, BeginsTiff, HasTag, IsTagEntry, ◌∷◌, sym, ◌∙◌, OccursAt-append, ◌↔◌, lines, directory_tag, StandsByPlace, accepts, at_least, stands, be16, be32}
 use Rattle.infer_formats.specs.Tiff.{MayBeginTiff, MayHaveEntry, MayHaveTag}
 use Rattle.infer_sig.specs.Signature.{text}
 use Rattle.infer_formats.proofs.GrowthLemmas.{number16-append, number32-append, longer}
 use Rattle.infer_formats.proofs.OpenLemmas.{grown_byte, number16_stands}
 use Rattle.infer_formats.proofs.OutlineLemmas.{occurs, other, one}
 use Rattle.infer_sig.specs.Signature as fixed
+use Rattle.infer_sig.proofs.KnownLemmas.{Known, at_most, proved, same, takes, ◌>>=◌}
+use Rattle.infer_sig.proofs.OccurrenceLemmas as Place
+use Rattle.infer_sig.proofs.OccurrenceLemmas.{ByPlace}
 
 -- ---- a buffer that grows
 
@@ -80,3 +83,15 @@ module _ (by_place : (place : ℕ) (t buf : List ℕ) → IsTrue (stands place t
   pub tag_lines : (tag : ℕ) (big : Bool) → BeginsTiff big b → IsTrue (accepts (lines (directory_tag tag)) b)
   tag_lines tag false o = let le = o.fits in one by_place b 4 (text 0 (0x49 ∷ 0x49 ∷ 0x2A ∷ 0x00 ∷ [])) (big_tiff ∷ []) (omega arith) (occurs by_place b 0 _ o)
   tag_lines tag true o = let le = o.fits in other by_place b little_tiff (big_tiff ∷ []) (one by_place b 4 (text 0 (0x4D ∷ 0x4D ∷ 0x00 ∷ 0x2A ∷ [])) [] (omega arith) (occurs by_place b 0 _ o))
+
+-- ---- what a computation says of a directory of TIFF
+
+module _ (by_place : ByPlace) (b : List ℕ) where
+  -- the first entry of a directory whose highest byte comes first
+  abbrev pub known_tag : (tag : ℕ) → Known (HasTag tag b)
+  known_tag tag = do
+    begins ← takes (Place.occurs by_place (0x4D ∷ 0x4D ∷ 0x00 ∷ 0x2A ∷ []) b 0)
+    some ← takes (at_most 1 (be16 b (be32 b 4)))
+    whole ← takes (at_most (be32 b 4 + 2 + 12 * 0 + 12) (length b))
+    is_it ← takes (same (be16 b (be32 b 4 + 2 + 12 * 0)) tag)
+    proved (true, begins, (0, (some, whole, is_it)))

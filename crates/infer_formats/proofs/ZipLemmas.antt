@@ -6,6 +6,9 @@ use Rattle.infer_formats.proofs.GrowthLemmas.{there, longer}
 use Rattle.infer_formats.proofs.OpenLemmas.{grown_byte}
 use Rattle.infer_formats.proofs.OutlineLemmas.{begins, occurs, other, two}
 use Rattle.infer_sig.specs.Signature as fixed
+use Rattle.infer_sig.proofs.KnownLemmas.{Known, at_most, either, both, needs, negated, proved, same, takes, ◌>>=◌}
+use Rattle.infer_sig.proofs.OccurrenceLemmas as Place
+use Rattle.infer_sig.proofs.OccurrenceLemmas.{ByPlace}
 
 -- a place with the property is one of a header, so it is none that the search for its first byte passed over
 module _ (b : List ℕ) (E : ℕ → Type 0) (headed : (p : ℕ) → E p → OccursAt b zip_header p) (from : ℕ)
@@ -322,3 +325,73 @@ module _ (by_place : (place : ℕ) (t buf : List ℕ) → IsTrue (stands place t
         | inr (inr (inl t)) ↦ other by_place b types (links ∷ about ∷ last) (other by_place b links (about ∷ last) (named_part (codes "docProps/") last o t))
         | inr (inr (inr t)) ↦ other by_place b types (links ∷ about ∷ last) (other by_place b links (about ∷ last) (other by_place b about last (named_part folder [] o t)))
       ]
+
+-- ---- what a computation says of the entries of a ZIP archive
+
+module _ (by_place : ByPlace) (b : List ℕ) where
+  abbrev known_first_name : Known (HasFirstName b)
+  known_first_name = do
+    long ← takes (at_most 30 (length b))
+    header ← takes (Place.occurs by_place zip_header b 0)
+    whole ← takes (at_most (30 + le16 b 26) (length b))
+    proved (record { long = long; header = header; whole = whole })
+
+  abbrev known_folder : (q : ℕ) → Known (IsFolderEntry b q)
+  known_folder q =
+      both (Place.occurs by_place zip_header b q)
+      (either (Place.occurs by_place (codes "word/") b (q + 30)) (either (Place.occurs by_place (codes "xl/") b (q + 30)) (either (Place.occurs by_place (codes "ppt/") b (q + 30))
+      (either (Place.occurs by_place (codes "visio/") b (q + 30)) (Place.occurs by_place (codes "3D/") b (q + 30))))))
+
+  pub none_nearer : (n : ℕ) → ((k : ℕ) → k < n → ¬ IsFolderEntry b k) → ¬ IsFolderEntry b n → (k : ℕ) → k < suc n → ¬ IsFolderEntry b k
+  none_nearer n before absent k lt = elim (cases_lt k n) [
+    | inl l ↦ before k l
+    | inr le ↦ let e : n ≡ k = omega arith in subst (λ i. ¬ IsFolderEntry b i) e absent
+  ]
+
+  abbrev no_folder_before : (n : ℕ) → Known ((k : ℕ) → k < n → ¬ IsFolderEntry b k)
+  no_folder_before zero = proved (λ k lt. absurd (omega arith))
+  no_folder_before (suc n) = do
+    before ← takes (no_folder_before n)
+    absent ← takes (negated (known_folder n))
+    proved (none_nearer n before absent)
+
+  -- if the first folder has its header at 6, it is the one that is asked
+  pub asked_at_6 : (folder : List ℕ) → IsFolderEntry b 6 → ((k : ℕ) → k < 6 → ¬ IsFolderEntry b k) → IsPackageWith folder b → OccursAt b folder 36
+  asked_at_6 folder named before (begins, part, (q, (is_entry, none), o)) = elim (cases_lt q 6) [
+    | inl lt ↦ absurd (before q lt is_entry)
+    | inr le ↦ elim (cases_lt 6 q) [
+      | inl lt ↦ absurd (none 6 lt named)
+      | inr high ↦ let e : q + 30 ≡ 36 = omega arith in subst (OccursAt b folder) e o
+    ]
+  ]
+
+  -- the links of a package first, and a folder whose header is at 6
+  abbrev pub known_package : (folder : List ℕ) → Known (IsPackageWith folder b)
+  known_package folder = do
+    named ← takes (known_folder 6)
+    before ← takes (no_folder_before 6)
+    is_it ← needs (Place.occurs by_place folder b 36) (asked_at_6 folder named before)
+    header ← takes (Place.occurs by_place zip_header b 0)
+    links ← takes (Place.occurs by_place (codes "_rels/") b 30)
+    proved ((header, inr (inl links)), (0, (header, inr links)), (6, (named, before), is_it))
+
+  abbrev pub known_entry : (name : List ℕ) → Known (FirstEntryIs name b)
+  known_entry name = do
+    entry ← takes known_first_name
+    long ← takes (same (le16 b 26) (length name))
+    stands ← takes (Place.occurs by_place name b 30)
+    proved (entry, long, stands)
+
+  abbrev pub known_ending : (t : List ℕ) → Known (FirstEntryEndsIn t b)
+  known_ending t = do
+    name ← takes known_first_name
+    long ← needs (at_most (length t) (le16 b 26)) (λ h. h.1)
+    ends ← needs (Place.occurs by_place t b (30 + le16 b 26 - length t)) (λ h. h.2)
+    proved (name, long, ends)
+
+  abbrev pub known_extra : (t : List ℕ) → Known (FirstEntryHasExtra t b)
+  known_extra t = do
+    name ← takes known_first_name
+    long ← takes (at_most (length t) (le16 b 28))
+    stands ← takes (Place.occurs by_place t b (30 + le16 b 26))
+    proved (name, long, stands)

@@ -14,5 +14,6 @@ pub mod JsonStates
 pub mod Markup
 pub mod Open
 pub mod Outline
+pub mod Token
 pub mod Relation
 pub mod Laws

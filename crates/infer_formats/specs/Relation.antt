@@ -14,6 +14,7 @@ use Rattle.infer_formats.specs.Subtitles.{IsSubRip}
 use Rattle.infer_formats.specs.Tar.{HasTarChecksum}
 use Rattle.infer_formats.specs.Text.{IsText}
 use Rattle.infer_formats.specs.Tiff.{HasTag}
+use Rattle.infer_formats.specs.Token.{Token, bare, quoted, separator, token_listed}
 use Rattle.infer_formats.specs.Zip.{FirstEntryEndsIn, FirstEntryHasExtra, FirstEntryIs, IsOneOf, IsPackageWith, applications}
 use Rattle.infer_sig.specs.Signature as fixed
 use Rattle.infer_sig.specs.Signature.{Part, accepts, any_of, at_least, between, byte, text}
@@ -21,8 +22,14 @@ use Rattle.infer_formats.specs.declared.model.Model.{Model}
 use Rattle.infer_formats.specs.declared.model.Placed.{Placed}
 use Rattle.infer_formats.specs.declared.model.Text.{Text}
 use Rattle.infer_formats.specs.declared.model.Text.TheVariants as texts
+use Rattle.infer_formats.specs.declared.relation.OfText.{OfText}
+use Rattle.infer_formats.specs.declared.relation.OfText.TheVariants.{Package}
 use Rattle.infer_formats.specs.declared.relation.Relation as declared
 use Rattle.infer_formats.specs.declared.relation.Relation.TheVariants as listed
+use Rattle.infer_formats.specs.declared.relation.Takes.{Takes}
+use Rattle.infer_formats.specs.declared.relation.Takes.TheVariants.{ClassId, Entry, Nothing, OneText, Program, Root, Tag}
+use Rattle.infer_formats.specs.declared.token.Token as tokens
+use denote.Ref.{Bor}
 
 pub data Relation : Type 0 where
   shared_object : Relation
@@ -62,6 +69,32 @@ relation_listed (listed.RootWith name t) = root_with name.now t.now
 relation_listed listed.JsonLines = json_lines
 relation_listed listed.JsonText = json_text
 relation_listed listed.PlainText = plain_text
+
+-- the relation that takes this text
+abbrev pub of_text : OfText → List ℕ → Relation
+of_text Package t = package_with t
+
+-- what each relation is called, and what stands behind its name. "JSON lines" stands before "JSON"
+abbrev pub names : List (List Token × Takes)
+names =
+    (bare (codes "shared") ∷ bare (codes "object") ∷ [], Nothing listed.SharedObject)
+    ∷ (bare (codes "chunk") ∷ quoted (codes "acTL") ∷ bare (codes "before") ∷ quoted (codes "IDAT") ∷ [], Nothing listed.Animated)
+    ∷ (bare (codes "first") ∷ bare (codes "cue") ∷ bare (codes "of") ∷ bare (codes "SubRip") ∷ [], Nothing listed.SubRip)
+    ∷ (bare (codes "dBASE") ∷ bare (codes "header") ∷ [], Nothing listed.Dbase)
+    ∷ (bare (codes "tar") ∷ bare (codes "checksum") ∷ [], Nothing listed.TarChecksum)
+    ∷ (bare (codes "JSON") ∷ bare (codes "lines") ∷ [], Nothing listed.JsonLines)
+    ∷ (bare (codes "JSON") ∷ [], Nothing listed.JsonText)
+    ∷ (bare (codes "text") ∷ [], Nothing listed.PlainText)
+    ∷ (bare (codes "first") ∷ bare (codes "directory") ∷ bare (codes "has") ∷ bare (codes "tag") ∷ [], Tag)
+    ∷ (bare (codes "package") ∷ bare (codes "with") ∷ separator 0x3A ∷ [], OneText Package)
+    ∷ (bare (codes "program") ∷ separator 0x3A ∷ [], Program)
+    ∷ (bare (codes "first") ∷ bare (codes "entry") ∷ separator 0x3A ∷ [], Entry)
+    ∷ (bare (codes "class") ∷ bare (codes "id") ∷ separator 0x3A ∷ [], ClassId)
+    ∷ (bare (codes "root") ∷ separator 0x3A ∷ [], Root)
+    ∷ []
+
+abbrev pub name_listed : Bor (List tokens.Token) × Takes → List Token × Takes
+name_listed n = (map token_listed n.0.now, n.1)
 
 -- the buffer has what the relation asks
 abbrev pub Fits : Relation → List ℕ → Type 0

@@ -20,4 +20,5 @@ pub mod tar;
 mod tests;
 pub mod text;
 pub mod tiff;
+pub mod token;
 pub mod zip;

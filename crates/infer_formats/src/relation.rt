@@ -1,9 +1,9 @@
 //! Relations: what each takes, whether a buffer has it, what bytes after the buffer can bring or take, and a short buffer that
 //! has it.
-ghost use Rattle.std.specs.Prelude.{◌≡◌, ◌≤◌, ◌↔◌, [], IsTrue, length};
+ghost use Rattle.std.specs.Prelude.{◌≡◌, ◌≤◌, ◌↔◌, [], IsTrue, length, map};
 ghost use Rattle.infer_deep.specs.Signatures.{MayBecome};
 ghost use Rattle.infer_formats.specs.Open.{Stays};
-ghost use Rattle.infer_formats.specs.Relation.{Fits, IsSound, class_id, dbase, directory_tag, least_of, model, model_listed, package_with, program, relation_listed, root, root_with, shared_object};
+ghost use Rattle.infer_formats.specs.Relation.{Fits, IsSound, class_id, dbase, directory_tag, least_of, model, model_listed, name_listed, names, of_text, package_with, program, relation_listed, root, root_with, shared_object};
 
 use crate::dbase::{is_dbase, may_become_dbase};
 use crate::elf::{is_shared_object, may_become_shared_object};
@@ -16,6 +16,8 @@ use crate::subtitles::{is_subrip, may_become_subrip};
 use crate::tar::{has_tar_checksum, may_have_tar_checksum};
 use crate::text::{is_text, may_become_text, stays_text};
 use crate::tiff::{first_directory_has_tag, first_directory_may_have_tag};
+use crate::token::Token;
+use crate::token::Token::{Quoted, Separator, Word};
 use crate::zip::{
     first_entry_ends_in, first_entry_has_extra, first_entry_is, is_package_with,
     may_become_package_with, may_have_first_entry, may_have_first_entry_ending,
@@ -44,6 +46,100 @@ pub enum Relation<'a> {
     JsonLines,
     JsonText,
     PlainText,
+}
+
+/// What stands behind the name of a relation.
+#[derive(Clone, Copy)]
+pub enum Takes {
+    Nothing(Relation<'static>),
+    OneText(OfText),
+    Tag,
+    Program,
+    Entry,
+    ClassId,
+    Root,
+}
+
+/// The relations that take a text between quotes, and nothing else.
+#[derive(Clone, Copy)]
+pub enum OfText {
+    Package,
+}
+
+impl OfText {
+    /// The relation that takes this text.
+    pub fn with<'a>(self, text: &'a [u8]) -> Relation<'a>
+        ensures { relation_listed result ≡ of_text self text.now }
+    {
+        match self {
+            OfText::Package => Relation::PackageWith(text),
+        }
+    }
+}
+
+static NAMES: &[(&[Token<'static>], Takes)] = &[
+    (
+        &[Word(b"shared"), Word(b"object")],
+        Takes::Nothing(Relation::SharedObject),
+    ),
+    (
+        &[
+            Word(b"chunk"),
+            Quoted(b"acTL"),
+            Word(b"before"),
+            Quoted(b"IDAT"),
+        ],
+        Takes::Nothing(Relation::Animated),
+    ),
+    (
+        &[Word(b"first"), Word(b"cue"), Word(b"of"), Word(b"SubRip")],
+        Takes::Nothing(Relation::SubRip),
+    ),
+    (
+        &[Word(b"dBASE"), Word(b"header")],
+        Takes::Nothing(Relation::Dbase),
+    ),
+    (
+        &[Word(b"tar"), Word(b"checksum")],
+        Takes::Nothing(Relation::TarChecksum),
+    ),
+    (
+        &[Word(b"JSON"), Word(b"lines")],
+        Takes::Nothing(Relation::JsonLines),
+    ),
+    (&[Word(b"JSON")], Takes::Nothing(Relation::JsonText)),
+    (&[Word(b"text")], Takes::Nothing(Relation::PlainText)),
+    (
+        &[
+            Word(b"first"),
+            Word(b"directory"),
+            Word(b"has"),
+            Word(b"tag"),
+        ],
+        Takes::Tag,
+    ),
+    (
+        &[Word(b"package"), Word(b"with"), Separator(b':')],
+        Takes::OneText(OfText::Package),
+    ),
+    (&[Word(b"program"), Separator(b':')], Takes::Program),
+    (
+        &[Word(b"first"), Word(b"entry"), Separator(b':')],
+        Takes::Entry,
+    ),
+    (
+        &[Word(b"class"), Word(b"id"), Separator(b':')],
+        Takes::ClassId,
+    ),
+    (&[Word(b"root"), Separator(b':')], Takes::Root),
+];
+
+/// What each relation is called, and what it takes. The first name by which a text begins counts.
+#[inline(always)]
+pub fn names() -> &'static [(&'static [Token<'static>], Takes)]
+    ensures { map name_listed result.now ≡ names }
+{
+    NAMES
 }
 
 impl<'a> Relation<'a> {

@@ -1,5 +1,5 @@
 -- What an alternative accepts, its signature does.
-use Rattle.infer_more.proofs.Common.{◌≡◌, ℕ, zero, suc, ◌+◌, ◌<◌, ◌≤◌, ◌⊎◌, inl, inr, List, [], ◌∷◌, length, get_or, map, take, subst, sym, arith, ◌≢◌, ◌↔◌, cases_lt, FitsAt, signature_listed, Accepted}
+use Rattle.infer_more.proofs.Common.{◌≡◌, ℕ, zero, suc, ◌+◌, ◌≤◌, ◌⊎◌, inl, inr, List, [], ◌∷◌, length, subst, arith, cases_lt, FitsAt, signature_listed, Accepted}
 use Rattle.infer_more.specs.declared.signature.Alternative.{Alternative}
 
 module _ (b : List ℕ) where

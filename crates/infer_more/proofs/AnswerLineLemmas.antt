@@ -1,6 +1,6 @@
 -- The number of a line of a text: of the first one that answers, and of the first mistake.
-use Rattle.std.proofs.Common.{◌≡◌, ◌+◌, ◌-◌, ◌<◌, ◌≤◌, ℕ, zero, suc, Bool, true, false, List, [], ◌∷◌, Option, None, Some, IsTrue, get_or, inl, inr, is_some, length, option_map, refl, sym, ap, subst, ◌∙◌, arith}
-use Rattle.infer.specs.First.{IsFirst, IsFirstOf}
+use Rattle.std.proofs.Common.{◌≡◌, ◌+◌, ◌<◌, ℕ, zero, suc, false, List, [], ◌∷◌, Option, None, Some, IsTrue, get_or, inl, inr, is_some, length, option_map, refl, sym, ap, subst, ◌∙◌, arith}
+use Rattle.infer.specs.First.{IsFirstOf}
 use Rattle.infer.specs.Triple.{Triple}
 use Rattle.infer_more.specs.Line.{Row, line_of}
 use Rattle.infer_more.specs.Text.{Answers, IsLineAnswer, LineAnswers, found_shows, lines_of, rows_in, rows_of}

@@ -24,12 +24,12 @@ pub use Rattle.std.specs.List.{HoldsAt, concat, list_all, list_any}
 pub use Rattle.std.specs.Option.{option_map_or}
 pub use denote.Ref.{Bor}
 -- of the crates below
-pub use Rattle.infer.proofs.KnownLemmas.{◌>>◌, Known, at_most, both, each_before, either, needs, negated, proved}
-pub use Rattle.infer.proofs.KnownLemmas.{proved_if, refuted, refuted_if, takes, unknown}
+pub use Rattle.infer_sig.proofs.KnownLemmas.{◌>>◌, Known, at_most, both, each_before, either, needs, negated, proved}
+pub use Rattle.infer_sig.proofs.KnownLemmas.{proved_if, refuted, refuted_if, takes, unknown}
 pub use Rattle.infer.proofs.OrderLemmas.{some_row}
-pub use Rattle.infer.proofs.PlaceLemmas.{ByPlace, not_both, occurs}
+pub use Rattle.infer_sig.proofs.OccurrenceLemmas.{ByPlace, not_both, occurs}
 pub use Rattle.infer.proofs.TableLemmas.{length-table}
-pub use Rattle.infer.proofs.TestLemmas.{NoneRefused, passed}
+pub use Rattle.infer_sig.proofs.TestLemmas.{NoneRefused, passed}
 pub use Rattle.infer.specs.Buffer.{IsBuffer}
 pub use Rattle.infer.specs.BuiltIn.{BuiltIn}
 pub use Rattle.infer.specs.First.{IsFirst, IsFirstOf, NoneHas, SomeHas}

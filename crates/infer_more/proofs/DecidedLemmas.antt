@@ -1,5 +1,5 @@
 -- What more bytes can change of a wider answer, by the further rows that they can bring.
-use Rattle.infer_more.proofs.Common.{◌≡◌, ◌↔◌, ◌+◌, ◌<◌, ◌≤◌, ℕ, List, [], ◌∷◌, ◌++◌, Option, None, Some, get_or, length, sym, subst, ap, ◌∙◌, arith, MatchOption, All-nil, get_or_from_slice_get, Stays, IsBuffer, IsFirst, IsFirstOf, Accepts, MayWiden, Further, Accepted, further, IsWider, Widens, wider}
+use Rattle.infer_more.proofs.Common.{◌≡◌, ◌<◌, ◌≤◌, ℕ, List, [], ◌++◌, Option, None, Some, get_or, length, sym, subst, ap, ◌∙◌, arith, MatchOption, All-nil, get_or_from_slice_get, Stays, IsBuffer, IsFirst, IsFirstOf, Accepts, MayWiden, Further, Accepted, further, IsWider, Widens, wider}
 use Rattle.std.proofs.Common.{append-nil, slice_get}
 use Rattle.infer.specs.Decided as built_in_decided
 use Rattle.infer.specs.Table as built_in

@@ -1,5 +1,5 @@
 -- What the words of a row say.
-use Rattle.infer_more.proofs.Common.{◌≡◌, ◌⊎◌, ℕ, Bool, true, false, List, Option, None, Some, cond, option_map, refl, MatcherType, signature_of, Fields, class_of, is_mime_type, is_name, parent_of, row, row_of}
+use Rattle.infer_more.proofs.Common.{◌≡◌, ℕ, Bool, true, false, List, Option, None, Some, cond, option_map, refl, MatcherType, signature_of, Fields, class_of, is_mime_type, is_name, parent_of, row, row_of}
 use Rattle.infer_notation.specs.Alternative.{Alternative}
 use Rattle.infer_notation.specs.Words.{◌>>=◌}
 use Rattle.infer_more.specs.Line.{Row}

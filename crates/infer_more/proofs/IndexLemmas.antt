@@ -1,6 +1,6 @@
 -- A row of which a buffer has the bytes is tried.
 use Rattle.std.proofs.lemmas.Bool.{or_cases, or_left, or_right}
-use Rattle.infer_more.proofs.Common.{◌≡◌, ◌↔◌, ℕ, zero, suc, ◌+◌, ◌-◌, ◌<◌, ◌≤◌, ◌==◌, ◌⊎◌, inl, inr, Bool, true, false, IsTrue, List, [], ◌∷◌, ◌++◌, length, ap, sym, ◌∙◌, subst, arith, refl, nat_le, nat_lt, ◌&&◌, ◌||◌, if◌then◌else◌, slice_index, list_all, list_any, option_map_or, cases_lt, eq-eqb, eqb-true, leb-true, lt-ltb, get_or_from_slice_get, slice_get_cases, at_least, Bytes, any_of, between, all_but, Part, any_text, allows, fits, has_part, stands, StandsByPlace, is_listed, tried_parentless, candidate, candidates, excepted, guarded, has_byte, is_excepted, is_tried_parentless, is_covered, is_settled, ranged, unless, within, Except, Parentless, and_from, and_parts}
+use Rattle.infer_more.proofs.Common.{◌≡◌, ◌↔◌, ℕ, zero, suc, ◌+◌, ◌-◌, ◌<◌, ◌≤◌, ◌==◌, inl, inr, Bool, true, false, IsTrue, List, [], ◌∷◌, ◌++◌, length, ap, sym, ◌∙◌, subst, arith, refl, nat_le, nat_lt, ◌&&◌, if◌then◌else◌, slice_index, list_all, list_any, option_map_or, cases_lt, eq-eqb, eqb-true, leb-true, lt-ltb, get_or_from_slice_get, slice_get_cases, at_least, Bytes, any_of, between, all_but, Part, any_text, allows, fits, has_part, stands, StandsByPlace, is_listed, tried_parentless, candidate, candidates, excepted, guarded, has_byte, is_excepted, is_tried_parentless, is_covered, is_settled, ranged, unless, within, Except, Parentless, and_from, and_parts}
 use Rattle.std.specs.List.{range_with_len}
 use Rattle.std.proofs.lemmas.Bool.{ltb-true}
 use Rattle.infer_sig.specs.Signature.{Alternative, text, byte}

@@ -1,5 +1,5 @@
 -- Which texts are lost: some buffer is JSON, or JSON lines, and with more bytes no longer.
-use Rattle.infer_more.proofs.Common.{◌≡◌, ℕ, List, inl, inr, [], ◌∷◌, ◌++◌, ap, codes, get_or, refl, arith, CanBe, Stands, IsLost, related, json_lines, json_text, plain_text}
+use Rattle.infer_more.proofs.Common.{ℕ, List, inl, inr, [], ◌∷◌, ◌++◌, ap, codes, get_or, refl, arith, CanBe, Stands, IsLost, related, json_lines, json_text, plain_text}
 use Rattle.infer_formats.specs.Json.{blanks, by_rule, byte, items, next_line, nothing, one, same_line, text}
 use Rattle.infer_formats.specs.Laws.{Single}
 use Rattle.infer_formats.proofs.JsonLemmas.{begins}

@@ -1,6 +1,6 @@
 -- What bytes after a buffer can bring an alternative and a signature, and what they can take from them.
 use Rattle.std.proofs.lemmas.Bool.{or_cases}
-use Rattle.infer_more.proofs.Common.{◌≡◌, ◌↔◌, ◌⊎◌, ◌+◌, ◌-◌, ◌<◌, ◌≤◌, inl, inr, ℕ, zero, suc, Bool, true, false, IsTrue, List, [], ◌∷◌, ◌++◌, append_assoc, get_or, length, map, nat_le, take, refl, sym, subst, ap, ◌∙◌, arith, ◌||◌, ◌==◌, if◌then◌else◌, slice_index, and_from, and_parts, eqb-true, le-leb, leb-true, get_or-take, length-take, All-nil, OccursAt, MayBecome, Stays, here, IsBinary, Lasts, applications, package_with, may_have, accepts, Bytes, Part, allows, between, fits, AllLast, is_lasting, alternative_listed, signature_listed, Accepted, Fits}
+use Rattle.infer_more.proofs.Common.{◌≡◌, ◌↔◌, ◌⊎◌, ◌+◌, ◌-◌, ◌<◌, ◌≤◌, inl, inr, ℕ, zero, suc, Bool, true, false, IsTrue, List, [], ◌∷◌, ◌++◌, append_assoc, get_or, length, nat_le, take, refl, sym, subst, ap, ◌∙◌, arith, ◌||◌, ◌==◌, if◌then◌else◌, slice_index, and_from, and_parts, eqb-true, le-leb, leb-true, get_or-take, length-take, All-nil, MayBecome, Stays, IsBinary, Lasts, applications, package_with, may_have, accepts, Bytes, Part, allows, between, fits, AllLast, is_lasting, alternative_listed, signature_listed, Accepted, Fits}
 use Rattle.std.proofs.Common.{length-append, take_all}
 use Rattle.std.proofs.lemmas.Bool.{or_left}
 use Rattle.std.proofs.lemmas.List.Elements.{All-append, All-cons}

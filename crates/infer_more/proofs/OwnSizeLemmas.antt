@@ -1,5 +1,5 @@
 -- How long the texts of an answer are, by a text of types or not.
-use Rattle.std.proofs.Common.{◌≡◌, ◌+◌, ◌-◌, ◌<◌, ◌≤◌, ◌&&◌, ℕ, Bool, true, false, List, [], ◌∷◌, Option, None, Some, MatchOption, IfSome, drop, get_or, length, nat_le, option_map, take, inl, inr, refl, sym, ap, subst, ◌∙◌, arith}
+use Rattle.std.proofs.Common.{◌≡◌, ◌<◌, ◌≤◌, ◌&&◌, ℕ, Bool, true, false, List, [], ◌∷◌, Option, None, Some, MatchOption, IfSome, drop, length, nat_le, option_map, take, inl, inr, refl, sym, subst, ◌∙◌, arith}
 use Rattle.std.specs.List.{list_all}
 use Rattle.std.proofs.lemmas.Bool.{and_parts, leb-true}
 use Rattle.std.proofs.lemmas.List.{length-drop, length-take}
@@ -7,7 +7,7 @@ use Rattle.infer.specs.Triple.{Triple}
 use Rattle.infer_notation.specs.Words.{behind_blanks}
 use Rattle.infer_more.specs.Laws.{OwnTextsFit, TextsFit}
 use Rattle.infer_more.specs.Line.{Fields, Row, fields_of, is_alphanumeric, is_mime_type, is_name, is_name_byte, is_remark, line_of, row_of, slash_place}
-use Rattle.infer_more.specs.Text.{Answers, IsFirstShown, IsTypesAnswer, lines_of, rows_in, rows_of, with_row}
+use Rattle.infer_more.specs.Text.{Answers, IsFirstShown, lines_of, rows_in, with_row}
 use Rattle.infer_more.specs.Wider.{IsWiderAnswer, shown_at}
 use Rattle.infer_more.proofs.FieldLemmas.{says}
 use Rattle.infer_more.proofs.EntryLemmas.{row_in}

@@ -13,7 +13,7 @@ use Rattle.infer_deep.proofs.TextLemmas.{IsHtml-left, IsXml-lead, IsXml-left, Is
 use Rattle.infer.specs.BuiltIn.{framed, html, xml, IsAccepted}
 use Rattle.infer.specs.Leads.{Leads, allows_first}
 use Rattle.infer.proofs.DecisionLemmas.{known}
-use Rattle.infer.proofs.KnownLemmas.{same, same_text, ◌>>=◌}
+use Rattle.infer_sig.proofs.KnownLemmas.{same, same_text, ◌>>=◌}
 
 -- ---- white space
 

@@ -1,10 +1,10 @@
 -- Each further row is the wider answer of its sample.
-use Rattle.infer_more.proofs.Common.{◌≡◌, ◌<◌, ◌+◌, suc, ℕ, List, Option, None, Some, MatchOption, ap, get_or, length, refl, subst, arith, get_or_default, le16, le32, be32, be16, header_sum, stands, BuiltIn, IsFirst, IsFirstOf, Accepts, ROW_COUNT, Known, proved, refuted, unknown, at_most, both, each_before, negated, takes, some_row, ByPlace, NoneRefused, passed, Further, Reaches, further_sample, archives, code, further, headers, images, late, markup, media, packages, records, disks, elements, games, kinds, office, others, packed, papers, pictures, rasters, roots, sounds, stores, texts, IsWider, Widens, FURTHER_COUNT, sym, ◌≢◌}
+use Rattle.infer_more.proofs.Common.{◌≡◌, ◌<◌, ◌+◌, suc, ℕ, List, Option, None, Some, MatchOption, ap, get_or, length, refl, subst, arith, get_or_default, le16, le32, be32, be16, header_sum, stands, BuiltIn, IsFirst, IsFirstOf, Accepts, ROW_COUNT, Known, proved, refuted, unknown, at_most, both, each_before, negated, takes, some_row, ByPlace, NoneRefused, Further, Reaches, further_sample, archives, code, further, headers, images, late, markup, media, packages, records, disks, elements, games, kinds, office, others, packed, papers, pictures, rasters, roots, sounds, stores, texts, IsWider, Widens, FURTHER_COUNT, sym, ◌≢◌}
 use Rattle.infer_deep.specs.Laws as Deep
 use Rattle.infer_formats.specs.Laws as Inside
 use Rattle.infer.specs.Leads.{Leads}
 use Rattle.infer.specs.Table as built_in
-use Rattle.infer.proofs.KnownLemmas.{is_proved, proof_of, same, ◌>>=◌}
+use Rattle.infer_sig.proofs.KnownLemmas.{is_proved, proof_of, same, ◌>>=◌}
 use Rattle.infer.proofs.OrderLemmas.{known_at}
 use Rattle.infer_more.proofs.FitLemmas.{known_accepted}
 use Rattle.infer_more.proofs.RefusalLemmas.{accepted, none_accepts}

@@ -1,5 +1,5 @@
 -- What is written of the sample of a row, and which rows have none.
-use Rattle.infer_more.proofs.Common.{◌↔◌, IfSome, MatchOption, is_some, ◌≡◌, ◌≢◌, ◌⊎◌, ◌≤◌, ◌<◌, ◌+◌, ◌-◌, ℕ, Bool, true, false, IsTrue, inl, inr, List, [], ◌∷◌, ◌++◌, Option, None, Some, ap, drop, get_or, length, map, max, option_map, subst, append_assoc, sym, take, unwrap_or, ◌∙◌, arith, refl, nat_le, ◌==◌, ◌||◌, if◌then◌else◌, Bor, HoldsAt, concat, list_all, option_map_or, take-append_seam, leb-true, nat_tests, drop-drop, drop_more, length-replicate, length-take-le, get_or_from_slice_get, slice_get-map, slice_get_cases, slice_get_past, slice_get_within, Part, any_text, BuiltIn, put, with_parts, zeros, ROW_COUNT, length-table, alternative_listed, row_listed, Further, is_inside, further, Reaches, built_in_sample, further_sample, has_room, model, parent_sample, parts_of, written, SAMPLE_SIZE, FurtherRow}
+use Rattle.infer_more.proofs.Common.{◌↔◌, IfSome, MatchOption, is_some, ◌≡◌, ◌≢◌, ◌⊎◌, ◌≤◌, ◌<◌, ◌+◌, ◌-◌, ℕ, Bool, true, false, IsTrue, inl, inr, List, [], ◌∷◌, ◌++◌, Option, None, Some, ap, drop, length, max, option_map, subst, sym, take, unwrap_or, ◌∙◌, arith, refl, nat_le, ◌==◌, ◌||◌, if◌then◌else◌, HoldsAt, list_all, option_map_or, leb-true, nat_tests, length-replicate, length-take-le, get_or_from_slice_get, slice_get-map, slice_get_cases, slice_get_past, slice_get_within, Part, any_text, BuiltIn, put, with_parts, zeros, ROW_COUNT, length-table, alternative_listed, row_listed, Further, is_inside, further, Reaches, built_in_sample, further_sample, has_room, model, parent_sample, parts_of, written, SAMPLE_SIZE, FurtherRow}
 use Rattle.std.proofs.Common.{length-append, length-drop, slice_get}
 use Rattle.std.proofs.Math.Seq.{drop-append-add, take-append-add}
 use Rattle.std.proofs.lemmas.List.{drop-replicate, take-replicate, take_at}

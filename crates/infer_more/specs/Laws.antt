@@ -1,5 +1,5 @@
 -- Laws of further rows and of the wider answer.
-use Rattle.std.specs.Prelude.{◌≡◌, ◌<◌, ◌≤◌, ◌⊎◌, ◌||◌, ℕ, Bool, true, false, IfSome, IsTrue, List, [], ◌++◌, Option, None, Some, All, MatchOption, if◌then◌else◌, length, nat_le, nat_lt, not, option_map, slice_get}
+use Rattle.std.specs.Prelude.{◌≡◌, ◌<◌, ◌≤◌, ◌⊎◌, ◌||◌, ℕ, Bool, true, IfSome, IsTrue, List, [], ◌++◌, Option, None, Some, All, MatchOption, if◌then◌else◌, length, nat_le, nat_lt, not, option_map, slice_get}
 use Rattle.std.specs.List.{HoldsAt, list_all, list_any}
 use Rattle.infer_formats.specs.Relation as relation
 use Rattle.infer_formats.specs.Relation.{json_lines, json_text, root, root_with}

@@ -1,5 +1,5 @@
 -- A sample of each row: a short buffer that has it as its answer.
-use Rattle.std.specs.Prelude.{◌≡◌, ◌+◌, ◌-◌, ◌/◌, ◌%◌, ◌<◌, ◌≤◌, ◌⊎◌, ◌==◌, ◌&&◌, ◌||◌, ℕ, Bool, false, List, [], ◌∷◌, ◌++◌, MatchBool, MatchOption, Option, None, Some, codes, if◌then◌else◌, length, max, nat_le, nat_lt, option_and_then, option_map, slice_get, unwrap_or}
+use Rattle.std.specs.Prelude.{◌≡◌, ◌+◌, ◌-◌, ◌<◌, ◌≤◌, ◌⊎◌, ◌==◌, ◌&&◌, ◌||◌, ℕ, Bool, false, List, [], ◌++◌, MatchBool, MatchOption, Option, None, Some, codes, if◌then◌else◌, length, max, nat_le, nat_lt, option_and_then, option_map, slice_get, unwrap_or}
 use Rattle.std.specs.List.{HoldsAt, list_all}
 use Rattle.std.specs.Option.{option_map_or}
 use Rattle.infer_formats.specs.Relation as relation

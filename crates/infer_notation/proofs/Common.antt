@@ -31,9 +31,10 @@ pub use Rattle.infer_notation.specs.Fixed.{range_of, rest_at, rest_of, rest_seen
 pub use Rattle.infer_notation.specs.Fixed.{step_at, step_seen, within, word_part}
 pub use Rattle.infer_notation.specs.Grammar.{Derives, opened, signature, tokens_at, tokens_of}
 pub use Rattle.infer_notation.specs.Leads.{IsKnown, IsLed, IsRead, is_found}
+pub use Rattle.infer_formats.specs.Relation.{name_listed, names}
 pub use Rattle.infer_notation.specs.Relations.{IsSeen, begins_by, bytes_in, each_of, group_listed, groups_of, is_or}
-pub use Rattle.infer_notation.specs.Relations.{item_of, items_in, items_of, left_groups, extra_entry, name_listed}
-pub use Rattle.infer_notation.specs.Relations.{named_in, names, programs_of, relations_in, relations_of, same_token}
+pub use Rattle.infer_notation.specs.Relations.{item_of, items_in, items_of, left_groups, extra_entry}
+pub use Rattle.infer_notation.specs.Relations.{named_in, programs_of, relations_in, relations_of, same_token}
 pub use Rattle.infer_notation.specs.Relations.{short_groups}
 unfoldable pub use Rattle.infer_notation.specs.Signature.{signature_of}
 pub use Rattle.infer_notation.specs.Signature.{begins_relation, described}
@@ -46,8 +47,8 @@ pub use Rattle.infer_notation.specs.declared.fixed.Cursor.{Cursor}
 pub use Rattle.infer_notation.specs.declared.fixed.Effect.TheVariants.{Has}
 pub use Rattle.infer_notation.specs.declared.fixed.Wanted.{Wanted}
 pub use Rattle.infer_notation.specs.declared.fixed.Wanted.TheVariants.{At, Binary, Byte, Colon, Length, More, Or, Place}
-pub use Rattle.infer_notation.specs.declared.names.Takes.{Takes}
-pub use Rattle.infer_notation.specs.declared.names.Takes.TheVariants.{Nothing, Program}
+pub use Rattle.infer_formats.specs.declared.relation.Takes.{Takes}
+pub use Rattle.infer_formats.specs.declared.relation.Takes.TheVariants.{Nothing, Program}
 pub use Rattle.infer_notation.specs.declared.signature.State.{State}
 pub use Rattle.infer_notation.specs.declared.tokens.Run.TheVariants.{Bare}
 pub use Rattle.infer_notation.specs.declared.words.Hex.{Hex}

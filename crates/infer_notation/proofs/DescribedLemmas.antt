@@ -6,16 +6,17 @@ use Rattle.std.proofs.lemmas.List.{append_assoc}
 use Rattle.std.proofs.lemmas.List.Splits.{slice_split-cons_yes}
 use Rattle.std.proofs.Math.Bool.{and-false}
 use Rattle.std.proofs.lemmas.Bool.{eq-eqb, not-true}
-use Rattle.infer_formats.specs.Relation.{Relation, class_id, directory_tag, first_entry_ends_in, first_entry_has_extra, first_entry_is, package_with, program, relation_listed, root, root_with}
+use Rattle.infer_formats.specs.Relation.{Relation, class_id, directory_tag, first_entry_ends_in, first_entry_has_extra, first_entry_is, of_text, program, relation_listed, root, root_with}
 use Rattle.infer_formats.specs.declared.relation.Relation as relations
-use Rattle.infer_notation.specs.Described.{AreBytes, Asks, AsksEach, AsksFor, Describes, IsGroup, IsName, IsNameIn, IsParted, NamesRelation, a_folder, a_name, a_program, a_relation, a_tag, a_text_within, an_element, an_end, an_extra, an_id, last, nothing, other, programs}
-use Rattle.infer_notation.specs.Relations.{alone, directory_of, ending_entry, entry_of, extra_field, id_of, is_word, named_entry, or_else, package_of, program_of, root_of}
+use Rattle.infer_notation.specs.Described.{AreBytes, Asks, AsksEach, AsksFor, Describes, IsGroup, IsName, IsNameIn, IsParted, NamesRelation, a_text, a_name, a_program, a_relation, a_tag, a_text_within, an_element, an_end, an_extra, an_id, last, nothing, other, programs}
+use Rattle.infer_notation.specs.Relations.{alone, directory_of, ending_entry, entry_of, extra_field, id_of, is_word, named_entry, or_else, text_of, program_of, root_of}
 use Rattle.infer_notation.specs.Tokens.{Token, set}
 use Rattle.infer_notation.specs.Words.{is_digit}
 use Rattle.infer_notation.proofs.GrammarLemmas as grammar
 use Rattle.infer_notation.proofs.GrammarLemmas.{is_derived}
 use Rattle.infer_notation.proofs.MadeLemmas.{is_made, is_read, not_blank}
-use Rattle.infer_notation.specs.declared.names.Takes.TheVariants.{ClassId, Entry, Folder, Root, Tag}
+use Rattle.infer_formats.specs.declared.relation.OfText.{OfText}
+use Rattle.infer_formats.specs.declared.relation.Takes.TheVariants.{ClassId, Entry, OneText, Root, Tag}
 use Rattle.infer_notation.proofs.OptionLemmas.{bind_some, cond_given, map_some}
 use Rattle.infer_notation.proofs.RelationLemmas.{begins_not}
 
@@ -184,9 +185,9 @@ directory_so (bare (w ∷ x ∷ y ∷ z ∷ []) ∷ []) a e =
     subst (Asks Tag (bare (w ∷ x ∷ y ∷ z ∷ []) ∷ [])) same (a_tag w x y z h l is-high is-low)
 directory_so ts a e = absurd cc
 
-folder_so : (ts : List Token) (a : Relation) → package_of ts ≡ Some a → Asks Folder ts a
-folder_so (quoted t ∷ []) a e = let same : package_with t ≡ a = cc in subst (Asks Folder (quoted t ∷ [])) same (a_folder t)
-folder_so ts a e = absurd cc
+text_so : (which : OfText) (ts : List Token) (a : Relation) → text_of which ts ≡ Some a → Asks (OneText which) ts a
+text_so which (quoted t ∷ []) a e = let same : of_text which t ≡ a = cc in subst (Asks (OneText which) (quoted t ∷ [])) same (a_text which t)
+text_so which ts a e = absurd cc
 
 program_so : (ts : List Token) (a : Relation) → program_of ts ≡ Some a → Asks Program ts a
 program_so (bare w ∷ []) a e = let same : program w ≡ a = cc in subst (Asks Program (bare w ∷ [])) same (a_program w)
@@ -274,7 +275,7 @@ root_so ts a e = absurd cc
 asked_so : (takes : Takes) (ts : List Token) (a : Relation) → item_of takes ts ≡ Some a → Asks takes ts a
 asked_so (Nothing r) ts a e = alone_so r ts a e
 asked_so Tag ts a e = directory_so ts a e
-asked_so Folder ts a e = folder_so ts a e
+asked_so (OneText which) ts a e = text_so which ts a e
 asked_so Program ts a e = program_so ts a e
 asked_so Entry ts a e = entry_so ts a e
 asked_so ClassId ts a e = id_so ts a e
@@ -324,7 +325,7 @@ one_so takes ts bs e =
 asked_for : (takes : Takes) (ts : List Token) (bs : List Alternative) → items_of takes ts ≡ Some bs → AsksFor takes ts bs
 asked_for (Nothing r) ts bs e = one_so (Nothing r) ts bs e
 asked_for Tag ts bs e = one_so Tag ts bs e
-asked_for Folder ts bs e = one_so Folder ts bs e
+asked_for (OneText which) ts bs e = one_so (OneText which) ts bs e
 asked_for Program ts bs e = programs_so ts bs e
 asked_for Entry ts bs e = one_so Entry ts bs e
 asked_for ClassId ts bs e = one_so ClassId ts bs e

@@ -9,7 +9,7 @@ use Rattle.std.proofs.lemmas.Grind.{take-set_at}
 use Rattle.infer_notation.specs.Tokens.{Token}
 use Rattle.infer_notation.specs.declared.reason.Flaw.{Flaw}
 use Rattle.infer_notation.specs.declared.relations.Group.{Group}
-use Rattle.infer_notation.specs.declared.tokens.Token as declared
+use Rattle.infer_formats.specs.declared.token.Token as declared
 use Rattle.infer_notation.proofs.ReadLemmas as read
 
 -- bytes of a token that was read count no more

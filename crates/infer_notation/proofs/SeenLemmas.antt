@@ -1,5 +1,5 @@
 -- What a buffer makes of alternatives that a text describes by a relation.
-use Rattle.infer_notation.proofs.Common.{◌≡◌, ◌+◌, ◌⊎◌, ◌||◌, ◌≤◌, ℕ, suc, slice_index, Bool, true, false, not, cond, ◌&&◌, List, [], ◌∷◌, ◌++◌, Option, None, Some, IsTrue, drop, length, map, option_map, get_or, inl, inr, refl, sym, ap, subst, ◌∙◌, ◌<◌, arith, and_parts, false≢true, or_cases, nat_tests, drop_all, drop_more, Accepted, Alternative, Asked, accepts, has_data, described, IsSeen, each_of, groups_of, item_of, items_of, items_in, left_groups, named_in, names, programs_of, relations_in, relations_of, token_listed, ◌>>=◌, Takes, Program}
+use Rattle.infer_notation.proofs.Common.{◌≡◌, ◌+◌, ◌⊎◌, ◌||◌, ◌≤◌, ℕ, suc, slice_index, Bool, true, false, not, cond, ◌&&◌, List, [], ◌∷◌, ◌++◌, Option, None, Some, IsTrue, drop, length, map, option_map, get_or, inl, inr, refl, sym, ap, subst, ◌∙◌, ◌<◌, arith, and_parts, false≢true, or_cases, nat_tests, drop_all, drop_more, Accepted, Alternative, Asked, accepts, has_data, described, IsSeen, each_of, groups_of, item_of, items_of, items_in, left_groups, named_in, names, relations_in, relations_of, token_listed, ◌>>=◌, Takes, Program}
 use Rattle.std.proofs.Common.{◌↔◌}
 use Rattle.std.proofs.Math.Bool.{and-true}
 use Rattle.std.proofs.lemmas.Bool.Decides.{Decides-or}
@@ -10,7 +10,7 @@ use Rattle.infer_formats.specs.Text.{IsBinary, IsDataByte}
 use Rattle.infer_notation.specs.Alternative.{Fits, binary_bytes, bytes, related}
 use Rattle.infer_notation.specs.Fixed.{fits_asked, is_data_byte}
 use Rattle.infer_notation.specs.Tokens.{Token}
-use Rattle.infer_notation.specs.declared.tokens.Token as declared
+use Rattle.infer_formats.specs.declared.token.Token as declared
 
 -- ---- alternatives
 
@@ -108,10 +108,6 @@ one_seen o r b x is fit = (one r, ap (option_map one) (sym is), (λ t. inl (fit.
 
 abbrev pub AreLeft : Bool → List declared.Token → List ℕ → Option Bool → Type 0
 AreLeft any ts b x = IsLeft any (each_of Program (map token_listed ts)) b x
-
-pub programs_first : (ts : List declared.Token) (b : List ℕ) → 0 < length ts → (x : Option Bool) → AreLeft false ts b x → IsSeen (programs_of (map token_listed ts)) b x
-programs_first [] b some x left = absurd (omega arith)
-programs_first (t ∷ ts) b some x left = only_left (each_of Program (map token_listed (t ∷ ts))) b x left
 
 -- the next
 module _ (ts : List declared.Token) (i : ℕ) (t : declared.Token) (inside : i < length ts) (b : List ℕ) where

@@ -1,17 +1,18 @@
 -- What a text describes, as relations between its bytes, its tokens and alternatives.
 use Rattle.std.specs.Prelude.{◌≡◌, ◌+◌, ◌*◌, ◌<◌, ◌≤◌, ◌⊎◌, ℕ, false, All, IsFalse, IsTrue, List, [], ◌∷◌, ◌++◌, Some, codes, length, map}
 use Rattle.std.specs.List.{list_all}
-use Rattle.infer_formats.specs.Relation.{Relation, class_id, directory_tag, first_entry_ends_in, first_entry_has_extra, first_entry_is, package_with, program, relation_listed, root, root_with}
+use Rattle.infer_formats.specs.Relation.{Relation, class_id, directory_tag, first_entry_ends_in, first_entry_has_extra, first_entry_is, names, of_text, program, relation_listed, root, root_with}
 use Rattle.infer_formats.specs.declared.relation.Relation as relations
 use Rattle.infer_notation.specs.Alternative.{Alternative, related}
 use Rattle.infer_notation.specs.Fixed.{Asked, rest_of}
 use Rattle.infer_notation.specs.Grammar.{Derives, signature}
-use Rattle.infer_notation.specs.Relations.{is_or, names}
+use Rattle.infer_notation.specs.Relations.{is_or}
 use Rattle.infer_notation.specs.Signature.{described}
 use Rattle.infer_notation.specs.Tokens.{Token, bare, is_separator, is_of, separator, quoted, set}
 use Rattle.infer_notation.specs.Words.{byte_of, byte_with, first_passes, is_blank}
-use Rattle.infer_notation.specs.declared.names.Takes.{Takes}
-use Rattle.infer_notation.specs.declared.names.Takes.TheVariants.{ClassId, Entry, Folder, Nothing, Program, Root, Tag}
+use Rattle.infer_formats.specs.declared.relation.OfText.{OfText}
+use Rattle.infer_formats.specs.declared.relation.Takes.{Takes}
+use Rattle.infer_formats.specs.declared.relation.Takes.TheVariants.{ClassId, Entry, Nothing, OneText, Program, Root, Tag}
 use Rattle.infer_notation.specs.declared.tokens.Run.{Run}
 use Rattle.infer_notation.specs.declared.tokens.Run.TheVariants.{Bare, Quoted, Set}
 
@@ -51,7 +52,7 @@ pub data Asks : Takes → List Token → Relation → Type 0 where
   nothing : (r : relations.Relation) → Asks (Nothing r) [] (relation_listed r)
   a_tag : (a b c d x y : ℕ) → byte_with a b ≡ Some x → byte_with c d ≡ Some y
       → Asks Tag (bare (a ∷ b ∷ c ∷ d ∷ []) ∷ []) (directory_tag (256 * x + y))
-  a_folder : (folder : List ℕ) → Asks Folder (quoted folder ∷ []) (package_with folder)
+  a_text : (which : OfText) (text : List ℕ) → Asks (OneText which) (quoted text ∷ []) (of_text which text)
   a_program : (w : List ℕ) → Asks Program (bare w ∷ []) (program w)
   a_name : (name : List ℕ) → Asks Entry (bare (codes "is") ∷ quoted name ∷ []) (first_entry_is name)
   an_end : (end : List ℕ) → Asks Entry (bare (codes "ends") ∷ bare (codes "in") ∷ quoted end ∷ []) (first_entry_ends_in end)

@@ -3,38 +3,16 @@ use Rattle.std.specs.Prelude.{◌≡◌, ◌+◌, ◌*◌, ◌↔◌, ◌==◌, 
 use Rattle.std.specs.List.{slice_split}
 use Rattle.std.specs.Str.{bytes_eq}
 use denote.Ref.{Bor}
-use Rattle.infer_formats.specs.Relation.{Relation, class_id, directory_tag, first_entry_ends_in, first_entry_has_extra, first_entry_is, package_with, program, relation_listed, root, root_with}
-use Rattle.infer_formats.specs.declared.relation.Relation.TheVariants as relations
+use Rattle.infer_formats.specs.Relation.{Relation, class_id, directory_tag, first_entry_ends_in, first_entry_has_extra, first_entry_is, names, of_text, program, relation_listed, root, root_with}
 use Rattle.infer_notation.specs.Alternative.{Accepted, Alternative, related}
 use Rattle.infer_notation.specs.Grammar.{tokens_of}
 use Rattle.infer_notation.specs.Tokens.{Token, bare, separator, quoted, set, token_listed}
 use Rattle.infer_notation.specs.Words.{◌>>=◌, byte_of, byte_with}
 use Rattle.infer_notation.specs.declared.relations.Group.{Group}
-use Rattle.infer_notation.specs.declared.tokens.Token as declared
-use Rattle.infer_notation.specs.declared.names.Takes.{Takes}
-use Rattle.infer_notation.specs.declared.names.Takes.TheVariants.{ClassId, Entry, Folder, Nothing, Program, Root, Tag}
-
--- what each relation is called, and what stands behind its name. "JSON lines" stands before "JSON"
-abbrev pub names : List (List Token × Takes)
-names =
-    (bare (codes "shared") ∷ bare (codes "object") ∷ [], Nothing relations.SharedObject)
-    ∷ (bare (codes "chunk") ∷ quoted (codes "acTL") ∷ bare (codes "before") ∷ quoted (codes "IDAT") ∷ [], Nothing relations.Animated)
-    ∷ (bare (codes "first") ∷ bare (codes "cue") ∷ bare (codes "of") ∷ bare (codes "SubRip") ∷ [], Nothing relations.SubRip)
-    ∷ (bare (codes "dBASE") ∷ bare (codes "header") ∷ [], Nothing relations.Dbase)
-    ∷ (bare (codes "tar") ∷ bare (codes "checksum") ∷ [], Nothing relations.TarChecksum)
-    ∷ (bare (codes "JSON") ∷ bare (codes "lines") ∷ [], Nothing relations.JsonLines)
-    ∷ (bare (codes "JSON") ∷ [], Nothing relations.JsonText)
-    ∷ (bare (codes "text") ∷ [], Nothing relations.PlainText)
-    ∷ (bare (codes "first") ∷ bare (codes "directory") ∷ bare (codes "has") ∷ bare (codes "tag") ∷ [], Tag)
-    ∷ (bare (codes "package") ∷ bare (codes "with") ∷ separator 0x3A ∷ [], Folder)
-    ∷ (bare (codes "program") ∷ separator 0x3A ∷ [], Program)
-    ∷ (bare (codes "first") ∷ bare (codes "entry") ∷ separator 0x3A ∷ [], Entry)
-    ∷ (bare (codes "class") ∷ bare (codes "id") ∷ separator 0x3A ∷ [], ClassId)
-    ∷ (bare (codes "root") ∷ separator 0x3A ∷ [], Root)
-    ∷ []
-
-abbrev pub name_listed : Bor (List declared.Token) × Takes → List Token × Takes
-name_listed n = (map token_listed n.0.now, n.1)
+use Rattle.infer_formats.specs.declared.token.Token as declared
+use Rattle.infer_formats.specs.declared.relation.OfText.{OfText}
+use Rattle.infer_formats.specs.declared.relation.Takes.{Takes}
+use Rattle.infer_formats.specs.declared.relation.Takes.TheVariants.{ClassId, Entry, Nothing, OneText, Program, Root, Tag}
 
 -- what stands behind a name, and the tokens there
 abbrev pub rest_listed : Takes × Bor (List declared.Token) → Takes × List Token
@@ -100,10 +78,10 @@ abbrev pub directory_of : List Token → Option Relation
 directory_of (bare (a ∷ b ∷ c ∷ d ∷ []) ∷ []) = byte_with a b >>= λ x. option_map (λ y. directory_tag (256 * x + y)) (byte_with c d)
 directory_of other = None
 
--- a folder
-abbrev pub package_of : List Token → Option Relation
-package_of (quoted t ∷ []) = Some (package_with t)
-package_of other = None
+-- a text
+abbrev pub text_of : OfText → List Token → Option Relation
+text_of which (quoted t ∷ []) = Some (of_text which t)
+text_of which other = None
 
 -- a word
 abbrev pub program_of : List Token → Option Relation
@@ -161,8 +139,8 @@ root_of other = None
 -- the relation that the tokens ask for behind a name
 abbrev pub item_of : Takes → List Token → Option Relation
 item_of (Nothing r) ts = alone (relation_listed r) ts
+item_of (OneText which) ts = text_of which ts
 item_of Tag ts = directory_of ts
-item_of Folder ts = package_of ts
 item_of Program ts = program_of ts
 item_of Entry ts = entry_of ts
 item_of ClassId ts = id_of ts

@@ -2,23 +2,10 @@
 use Rattle.std.specs.Prelude.{◌+◌, ◌-◌, ◌==◌, ◌&&◌, ◌||◌, ℕ, Bool, not, List, [], ◌∷◌, Option, None, Some, nat_lt, slice_index, take, if◌then◌else◌}
 use Rattle.std.specs.Int.{is_in_range}
 use Rattle.std.specs.List.{prefix_len}
+pub use Rattle.infer_formats.specs.Token.{Token, bare, quoted, separator, set, token_listed}
+use Rattle.infer_formats.specs.declared.token.Token as tokens
 use Rattle.infer_notation.specs.declared.tokens.Run.{Run}
 use Rattle.infer_notation.specs.declared.tokens.Run.TheVariants.{Bare, Quoted, Set}
-use Rattle.infer_notation.specs.declared.tokens.Token as tokens
-use Rattle.infer_notation.specs.declared.tokens.Token.TheVariants as listed
-
--- the bytes between quotes or braces, a separator, or a bare word
-pub data Token : Type 0 where
-  quoted : List ℕ → Token
-  set : List ℕ → Token
-  separator : ℕ → Token
-  bare : List ℕ → Token
-
-abbrev pub token_listed : tokens.Token → Token
-token_listed (listed.Quoted text) = quoted text.now
-token_listed (listed.Set digits) = set digits.now
-token_listed (listed.Separator byte) = separator byte
-token_listed (listed.Word word) = bare word.now
 
 -- commas, colons and "@"
 abbrev pub is_separator : ℕ → Bool

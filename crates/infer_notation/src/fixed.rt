@@ -10,9 +10,9 @@ ghost use Rattle.infer_notation.specs.declared.fixed.Wanted.TheVariants.{Length,
 ghost use Rattle.infer_notation.specs.Words.{found_by};
 
 use crate::reason::Reason;
-use crate::tokens::Token;
 use crate::words::{byte, byte_with, bytes, number, rest_at};
 use infer_formats::text::is_binary;
+use infer_formats::token::Token;
 
 /// What has to come next.
 #[derive(Clone, Copy)]

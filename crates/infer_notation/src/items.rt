@@ -1,14 +1,14 @@
 //! Relations that tokens ask for, behind a name.
 ghost use Rattle.std.specs.Prelude.{◌≡◌, map, option_map};
 ghost use Rattle.infer_formats.specs.Relation.{relation_listed};
-ghost use Rattle.infer_notation.specs.Relations.{alone, directory_of, ending_entry, entry_of, extra_field, id_of, is_word, item_of, extra_entry, named_entry, package_of, program_of, root_of, token_byte};
+ghost use Rattle.infer_notation.specs.Relations.{alone, directory_of, ending_entry, entry_of, extra_field, id_of, is_word, item_of, extra_entry, named_entry, program_of, root_of, text_of, token_byte};
 ghost use Rattle.infer_notation.specs.Tokens.{token_listed};
 
-use crate::names::{Takes, is_word};
-use crate::tokens::Token;
-use crate::tokens::Token::{Quoted, Word};
+use crate::names::is_word;
 use crate::words::{byte, byte_with};
-use infer_formats::relation::Relation;
+use infer_formats::relation::{OfText, Relation, Takes};
+use infer_formats::token::Token;
+use infer_formats::token::Token::{Quoted, Word};
 
 /// The relation that the tokens ask for behind a name that takes this, if they ask for one.
 pub fn read_relation<'a>(takes: Takes, tokens: &[Token<'a>]) -> Option<Relation<'a>>
@@ -16,8 +16,8 @@ pub fn read_relation<'a>(takes: Takes, tokens: &[Token<'a>]) -> Option<Relation<
 {
     match takes {
         Takes::Nothing(relation) => alone(relation, tokens),
+        Takes::OneText(which) => text(which, tokens),
         Takes::Tag => directory(tokens),
-        Takes::Folder => package(tokens),
         Takes::Program => program(tokens),
         Takes::Entry => entry(tokens),
         Takes::ClassId => compound(tokens),
@@ -51,12 +51,12 @@ fn directory<'a>(tokens: &[Token<'a>]) -> Option<Relation<'a>>
     }
 }
 
-/// A folder, as in `"word/"`.
-fn package<'a>(tokens: &[Token<'a>]) -> Option<Relation<'a>>
-    ensures { option_map relation_listed result ≡ package_of (map token_listed tokens.now) }
+/// A text, as in `"word/"`.
+fn text<'a>(which: OfText, tokens: &[Token<'a>]) -> Option<Relation<'a>>
+    ensures { option_map relation_listed result ≡ text_of which (map token_listed tokens.now) }
 {
     match tokens {
-        [Quoted(folder)] => Some(Relation::PackageWith(folder)),
+        [Quoted(text)] => Some(which.with(text)),
         _ => None,
     }
 }

@@ -14,8 +14,9 @@ ghost use Rattle.infer_notation.specs.declared.leads.Known.TheVariants.{Led};
 
 use crate::described::begins_relation;
 use crate::fixed::{Cursor, Effect, Wanted, range, step};
-use crate::tokens::{Token, token_at};
+use crate::tokens::token_at;
 use crate::words::{behind_first, byte_with, is_blank, rest_at, skip_blanks};
+use infer_formats::token::Token;
 
 /// A place, and the bytes of which one stands there. If they are fewer than four, one is there more than once.
 #[derive(Clone, Copy)]

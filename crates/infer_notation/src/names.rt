@@ -1,94 +1,18 @@
 //! What relations are called.
 ghost use Rattle.std.specs.Prelude.{◌≡◌, ◌≤◌, IsTrue, length, map, option_map};
-ghost use Rattle.infer_notation.specs.Relations.{begins_by, is_word, name_listed, named_in, names, rest_listed, same_token};
+ghost use Rattle.infer_formats.specs.Relation.{names};
+ghost use Rattle.infer_notation.specs.Relations.{begins_by, is_word, named_in, rest_listed, same_token};
 ghost use Rattle.infer_notation.specs.Tokens.{token_listed};
 
-use crate::tokens::Token;
-use crate::tokens::Token::{Quoted, Separator, Set, Word};
-use infer_formats::relation::Relation;
-
-/// What stands behind the name of a relation.
-#[derive(Clone, Copy)]
-pub enum Takes {
-    Nothing(Relation<'static>),
-    Tag,
-    Folder,
-    Program,
-    Entry,
-    ClassId,
-    Root,
-}
-
-/// What each relation is called, and what it takes.
-static NAMES: &[(&[Token<'static>], Takes)] = &[
-    (
-        &[Word(b"shared"), Word(b"object")],
-        Takes::Nothing(Relation::SharedObject),
-    ),
-    (
-        &[
-            Word(b"chunk"),
-            Quoted(b"acTL"),
-            Word(b"before"),
-            Quoted(b"IDAT"),
-        ],
-        Takes::Nothing(Relation::Animated),
-    ),
-    (
-        &[Word(b"first"), Word(b"cue"), Word(b"of"), Word(b"SubRip")],
-        Takes::Nothing(Relation::SubRip),
-    ),
-    (
-        &[Word(b"dBASE"), Word(b"header")],
-        Takes::Nothing(Relation::Dbase),
-    ),
-    (
-        &[Word(b"tar"), Word(b"checksum")],
-        Takes::Nothing(Relation::TarChecksum),
-    ),
-    (
-        &[Word(b"JSON"), Word(b"lines")],
-        Takes::Nothing(Relation::JsonLines),
-    ),
-    (&[Word(b"JSON")], Takes::Nothing(Relation::JsonText)),
-    (&[Word(b"text")], Takes::Nothing(Relation::PlainText)),
-    (
-        &[
-            Word(b"first"),
-            Word(b"directory"),
-            Word(b"has"),
-            Word(b"tag"),
-        ],
-        Takes::Tag,
-    ),
-    (
-        &[Word(b"package"), Word(b"with"), Separator(b':')],
-        Takes::Folder,
-    ),
-    (&[Word(b"program"), Separator(b':')], Takes::Program),
-    (
-        &[Word(b"first"), Word(b"entry"), Separator(b':')],
-        Takes::Entry,
-    ),
-    (
-        &[Word(b"class"), Word(b"id"), Separator(b':')],
-        Takes::ClassId,
-    ),
-    (&[Word(b"root"), Separator(b':')], Takes::Root),
-];
-
-#[inline(always)]
-fn all_names() -> &'static [(&'static [Token<'static>], Takes)]
-    ensures { map name_listed result.now ≡ names }
-{
-    NAMES
-}
+use infer_formats::relation::{Takes, names};
+use infer_formats::token::Token;
+use infer_formats::token::Token::{Quoted, Separator, Set, Word};
 
 /// What stands behind the name by which the tokens begin, and the tokens there.
 pub fn named<'a, 'b>(tokens: &'b [Token<'a>]) -> Option<(Takes, &'b [Token<'a>])>
     ensures { option_map rest_listed result ≡ named_in names (map token_listed tokens.now) }
 {
-    for (name, takes) in all_names() {
+    for (name, takes) in names() {
         if begins_with(tokens, name) {
             return Some((*takes, &tokens[name.len()..]));
         }

@@ -8,11 +8,13 @@ ghost use Rattle.infer_notation.specs.Tokens.{token_listed};
 ghost use Rattle.infer_notation.specs.Words.{found_by};
 
 use crate::items::read_relation;
-use crate::names::{Takes, is_word, named};
+use crate::names::{is_word, named};
 use crate::reason::{Flaw, Reason};
-use crate::tokens::Token::Separator;
-use crate::tokens::{Token, next_token};
+use crate::tokens::next_token;
 use crate::words::skip_blanks;
+use infer_formats::relation::Takes;
+use infer_formats::token::Token;
+use infer_formats::token::Token::Separator;
 
 /// Tokens of one alternative: the first `count`.
 #[derive(Clone, Copy)]

@@ -8,15 +8,7 @@ ghost use Rattle.infer_notation.specs.Words.{found_by};
 
 use crate::reason::{Flaw, Reason};
 use crate::words::{behind_first, rest_at, skip_blanks};
-
-/// What stands between quotes or braces, a separator, or a bare word.
-#[derive(Clone, Copy)]
-pub enum Token<'a> {
-    Quoted(&'a [u8]),
-    Set(&'a [u8]),
-    Separator(u8),
-    Word(&'a [u8]),
-}
+use infer_formats::token::Token;
 
 /// What a run of bytes is of.
 #[derive(Clone, Copy)]

@@ -1,6 +1,6 @@
 use Rattle.infer.proofs.Common.{◌≡◌, ◌+◌, ◌<◌, ℕ, List, [], ◌∷◌, length, get_or, IsTrue, ap, ◌∙◌, arith, nat_tests, accepts, stands}
 use Rattle.infer_sig.specs.App.{java, mach}
-use Rattle.infer.proofs.PlaceLemmas.{ByPlace}
+use Rattle.infer_sig.proofs.OccurrenceLemmas.{ByPlace}
 use Rattle.infer.proofs.laws.apart.Goals as goal
 
 module _ (by_place : ByPlace) (buf : List ℕ) where

@@ -1,5 +1,5 @@
 use Rattle.infer_notation.proofs.Common.{◌≡◌, ◌<◌, ◌∷◌, List, None, [], arith, length, map, refl, extra_entry, token_listed}
-use Rattle.infer_notation.specs.declared.tokens.Token.{Token}
+use Rattle.infer_formats.specs.declared.token.Token.{Token}
 use Rattle.infer_notation.proofs.items.extra_entry.Goals as goal
 
 few : (ts : List Token) → length ts < 2 → None ≡ extra_entry (map token_listed ts)

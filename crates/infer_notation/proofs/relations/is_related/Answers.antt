@@ -1,6 +1,7 @@
 use Rattle.std.proofs.Common.{◌≡◌, ◌||◌, Some, arith, rules, ap, map, option_map, refl, subst, sym, ◌∙◌}
 use Rattle.std.proofs.lemmas.Result.{err_from_is_err_and}
-use Rattle.infer_notation.specs.Relations.{IsSeen, group_listed, items_of, named_in, names, relations_of, rest_listed}
+use Rattle.infer_notation.specs.Relations.{IsSeen, group_listed, items_of, named_in, relations_of, rest_listed}
+use Rattle.infer_formats.specs.Relation.{names}
 use Rattle.infer_notation.specs.Tokens.{token_listed}
 use Rattle.infer_notation.specs.Words.{found_by}
 use Rattle.infer_notation.proofs.FlawLemmas.{behind_next, flaw_behind}

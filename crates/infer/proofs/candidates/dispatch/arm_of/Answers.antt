@@ -2,7 +2,7 @@ use Rattle.infer.proofs.Common.{ℕ, Bool, ◌∙◌, ap, get_or, refl, arith, g
 use Rattle.infer.specs.Arms.{rows_of}
 use Rattle.infer.specs.declared.candidates.arms.Arm.TheVariants.{Other}
 use Rattle.infer.specs.declared.candidates.dispatch.TheConstants.{ARMS}
-use Rattle.infer.proofs.TestLemmas.{NoneRefused, passed}
+use Rattle.infer_sig.proofs.TestLemmas.{NoneRefused, passed}
 use Rattle.infer.proofs.candidates.dispatch.arm_of.Goals as goal
 
 -- the arm of a first byte asks the candidates of that byte

@@ -1,5 +1,5 @@
 use Rattle.infer.proofs.Common.{[], refl, le16, le32, be32, stands, table}
-use Rattle.infer.proofs.KnownLemmas.{proof_of}
+use Rattle.infer_sig.proofs.KnownLemmas.{proof_of}
 use Rattle.infer.proofs.OrderLemmas.{none_accepts}
 use Rattle.infer.proofs.candidates.dispatch.blank.Goals as goal
 

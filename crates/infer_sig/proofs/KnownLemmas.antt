@@ -1,6 +1,6 @@
 -- What a computation says of a claim: a proof of it, a proof that it fails, or nothing.
-use Rattle.infer.proofs.Common.{◌*◌, ◌<◌, ◌≡◌, ◌≤◌, ◌⊎◌, inl, inr, ℕ, Bool, true, false, List, eqb, leb, IsTrue, refl, length, take, arith, Decides, AllWithin, list_all, bytes_eq, leb-true, le-leb, Decides-eqb, not_from_Decides, get_or-take, length-take-le, AllPass-from_list_all, bytes_eq-Decides}
-use Rattle.infer.proofs.TestLemmas.{NoneRefused, passed}
+use Rattle.infer_deep.proofs.Common.{◌*◌, ◌<◌, ◌≡◌, ◌≤◌, ◌⊎◌, inl, inr, ℕ, Bool, true, false, List, eqb, leb, IsTrue, refl, length, take, arith, Decides, AllWithin, list_all, bytes_eq, leb-true, le-leb, Decides-eqb, not_from_Decides, get_or-take, length-take-le, AllPass-from_list_all, bytes_eq-Decides}
+use Rattle.infer_sig.proofs.TestLemmas.{NoneRefused, passed}
 
 pub data Known (P : Type 0) : Type 0 where
   proved : P → Known P

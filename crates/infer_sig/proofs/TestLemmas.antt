@@ -1,5 +1,5 @@
 -- A test of the numbers below n, in sixteens, so that the check of one which fails shows the numbers that it refuses.
-use Rattle.infer.proofs.Common.{◌≡◌, ◌+◌, ◌-◌, ◌*◌, ◌<◌, ◌≤◌, ℕ, suc, zero, Bool, ◌||◌, not, cond, leb, List, [], ◌∷◌, get_or, length, arith, IsTrue, filter, range_with_len, nat_tests, get_or-range_with_len, length-range_with_len}
+use Rattle.infer_deep.proofs.Common.{◌≡◌, ◌+◌, ◌-◌, ◌*◌, ◌<◌, ◌≤◌, ℕ, suc, zero, Bool, ◌||◌, not, cond, leb, List, [], ◌∷◌, get_or, length, arith, IsTrue, filter, range_with_len, nat_tests, get_or-range_with_len, length-range_with_len}
 
 module _ (test : ℕ → Bool) (n : ℕ) where
   abbrev pub passes : ℕ → Bool

@@ -1,7 +1,8 @@
 -- What a computation says of a text in a buffer: that it stands at a place, or at none of some places.
-use Rattle.infer.proofs.Common.{◌<◌, ◌≤◌, ℕ, zero, suc, ◌+◌, ◌-◌, Bool, true, ◌&&◌, not, ◌↔◌, List, [], ◌∷◌, length, drop, leb, IsTrue, arith, drop-drop, and_parts, and_from, leb-true, le-leb, OccursAt, stands}
+use Rattle.infer_deep.proofs.Common.{◌<◌, ◌≤◌, ℕ, zero, suc, ◌+◌, ◌-◌, Bool, true, ◌&&◌, not, ◌↔◌, List, [], ◌∷◌, length, drop, leb, IsTrue, arith, drop-drop, and_parts, and_from, leb-true, le-leb, OccursAt}
 use Rattle.infer_sig.specs.Places.{StandsByPlace}
-use Rattle.infer.proofs.KnownLemmas.{Known, decided}
+use Rattle.infer_sig.specs.Signature.{stands}
+use Rattle.infer_sig.proofs.KnownLemmas.{Known, decided}
 
 pub not_both : (a : Bool) → IsTrue a → ¬ IsTrue (not a)
 not_both a h e = grind arith
