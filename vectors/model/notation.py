@@ -216,6 +216,16 @@ def root(buf):
     return (local or None), buf[found.end() :].partition(b">")[0]
 
 
+def behind_tag(buf):
+    """What stands behind an ID3 tag, and nothing if no whole tag stands first."""
+    if buf[:3] != b"ID3" or len(buf) < 10 or any(byte >= 0x80 for byte in buf[6:10]):
+        return b""
+    size = 0
+    for byte in buf[6:10]:
+        size = size << 7 | byte
+    return buf[10 + size :]
+
+
 def is_text(buf):
     return buf[:2] in (b"\xfe\xff", b"\xff\xfe") or buf[:3] == b"\xef\xbb\xbf" or (buf != b"" and not re.search(rb"[\0-\x08\x0B\x0E-\x1A\x1C-\x1F]", buf))
 
@@ -234,6 +244,7 @@ RELATIONS = [
     ('text', rb"", lambda buf, words: is_text(buf)),
     ('first directory has tag', HEX + HEX, None),
     ('package with :', QUOTED, None),
+    ('behind an ID3 tag :', QUOTED, lambda buf, words: behind_tag(buf).startswith(words[0][1:-1])),
     ('program :', rb"%s(?:\0%s)*" % (WORD, WORD), lambda buf, words: program(buf) in words),
     ('first entry :', rb"is\0" + QUOTED, lambda buf, words: first_name(buf)[1] == words[1][1:-1]),
     ('first entry :', rb"ends\0in\0" + QUOTED, lambda buf, words: first_name(buf)[1] is not None and first_name(buf)[1].endswith(words[2][1:-1])),

@@ -4,6 +4,7 @@ pub mod DbaseLemmas
 pub mod ElfLemmas
 pub mod FrontLemmas
 pub mod GrowthLemmas
+pub mod Id3Lemmas
 pub mod JsonLeadLemmas
 pub mod JsonLemmas
 pub mod LeadLemmas

@@ -1,7 +1,9 @@
 -- Each relation, by the lemmas of its format.
 use Rattle.infer_formats.proofs.Common.{[], ◌≡◌, ◌↔◌, IsTrue, List, ℕ, OccursAt-append, Lasts, arith, refl, StandsByPlace, stands, Stays, png_header, Fits, HasLines, Relation, animated, class_id, dbase, directory_tag, first_entry_ends_in, first_entry_has_extra, first_entry_is, is_lasting, json_lines, json_text, package_with, plain_text, program, relation_listed, root, root_with, shared_object, subrip, tar_checksum}
+use Rattle.infer_formats.specs.Relation.{behind_id3}
 use Rattle.infer_formats.proofs.DbaseLemmas.{dbase_lines, dbase-lasts, known_table}
 use Rattle.infer_formats.proofs.ElfLemmas.{object_lines, shared_object-lasts, known_object}
+use Rattle.infer_formats.proofs.Id3Lemmas.{behind-lasts, behind_lines, known_behind}
 use Rattle.infer_formats.proofs.JsonLeadLemmas.{lines_lead, text_leads, json_begins}
 use Rattle.infer_formats.proofs.LeadLemmas.{begins_markup, markup_begins}
 use Rattle.infer_formats.proofs.MarkupLemmas.{HasRoot-lasts, HasRootWith-lasts}
@@ -31,6 +33,7 @@ relation_lasts (first_entry_has_extra text) l = λ b more. first_entry_has_extra
 relation_lasts (package_with folder) l = λ b more. package_with-lasts b more folder
 relation_lasts (class_id id) l = HasClassId-lasts id
 relation_lasts (directory_tag tag) l = λ b more. tag-lasts b more tag
+relation_lasts (behind_id3 t) l = λ b more. behind-lasts b more t
 relation_lasts animated l = λ b more (header, chunks). (OccursAt-append b more png_header 0 header, chunk b more 8 chunks)
 relation_lasts subrip l = subrip-lasts
 relation_lasts dbase l = dbase-lasts
@@ -59,6 +62,7 @@ module _ (by_place : (place : ℕ) (t buf : List ℕ) → IsTrue (stands place t
   has_lines (package_with folder) small h = package_lines by_place b folder h.0
   has_lines (class_id id) small (place, r, o) = let le = r.header.fits in begins by_place b 8 _ (omega arith) r.header
   has_lines (directory_tag tag) small (big, starts, e) = tag_lines by_place b tag big starts
+  has_lines (behind_id3 t) small h = behind_lines by_place b t h
   has_lines animated small (o, a) = let le = o.fits in begins by_place b 4 png_header (omega arith) o
   has_lines subrip small h = subrip_lines by_place b h
   has_lines dbase small h = dbase_lines by_place b h
@@ -81,6 +85,7 @@ module _ (by_place : ByPlace) (inside : Leads) (single : Single) (b : List ℕ) 
   known_relation (package_with folder) = known_package by_place b folder
   known_relation (class_id id) = known_class by_place b id
   known_relation (directory_tag tag) = known_tag by_place b tag
+  known_relation (behind_id3 t) = known_behind by_place b t
   known_relation animated = known_animation by_place b
   known_relation subrip = known_subrip by_place b
   known_relation dbase = known_table b

@@ -5,6 +5,7 @@ pub mod Tiff
 pub mod Png
 pub mod Dbase
 pub mod Elf
+pub mod Id3
 pub mod Subtitles
 pub mod Tar
 pub mod Runs

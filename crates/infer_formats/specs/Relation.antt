@@ -5,6 +5,7 @@ use Rattle.infer_deep.specs.Office.{zip_header}
 use Rattle.memchr.specs.Find.{OccursAt}
 use Rattle.infer_formats.specs.Dbase.{IsDbase, versions}
 use Rattle.infer_formats.specs.Elf.{IsSharedObject}
+use Rattle.infer_formats.specs.Id3.{IsBehindId3}
 use Rattle.infer_formats.specs.Json.{IsJson, IsJsonLines}
 use Rattle.infer_formats.specs.Markup.{HasRoot, HasRootWith}
 use Rattle.infer_formats.specs.Outline.{counted_for, digits_behind, json_outline, markup_lines, model_entry, named}
@@ -23,7 +24,7 @@ use Rattle.infer_formats.specs.declared.model.Placed.{Placed}
 use Rattle.infer_formats.specs.declared.model.Text.{Text}
 use Rattle.infer_formats.specs.declared.model.Text.TheVariants as texts
 use Rattle.infer_formats.specs.declared.relation.OfText.{OfText}
-use Rattle.infer_formats.specs.declared.relation.OfText.TheVariants.{Package}
+use Rattle.infer_formats.specs.declared.relation.OfText.TheVariants.{BehindId3, Package}
 use Rattle.infer_formats.specs.declared.relation.Relation as declared
 use Rattle.infer_formats.specs.declared.relation.Relation.TheVariants as listed
 use Rattle.infer_formats.specs.declared.relation.Takes.{Takes}
@@ -39,6 +40,7 @@ pub data Relation : Type 0 where
   package_with : List ℕ → Relation
   class_id : List ℕ → Relation
   directory_tag : ℕ → Relation
+  behind_id3 : List ℕ → Relation
   animated : Relation
   subrip : Relation
   dbase : Relation
@@ -59,6 +61,7 @@ relation_listed (listed.FirstEntryHasExtra extra) = first_entry_has_extra extra
 relation_listed (listed.PackageWith folder) = package_with folder.now
 relation_listed (listed.ClassId id) = class_id id
 relation_listed (listed.DirectoryTag tag) = directory_tag tag
+relation_listed (listed.BehindId3 t) = behind_id3 t.now
 relation_listed listed.Animated = animated
 relation_listed listed.SubRip = subrip
 relation_listed listed.Dbase = dbase
@@ -73,6 +76,7 @@ relation_listed listed.PlainText = plain_text
 -- the relation that takes this text
 abbrev pub of_text : OfText → List ℕ → Relation
 of_text Package t = package_with t
+of_text BehindId3 t = behind_id3 t
 
 -- what each relation is called, and what stands behind its name. "JSON lines" stands before "JSON"
 abbrev pub names : List (List Token × Takes)
@@ -87,6 +91,7 @@ names =
     ∷ (bare (codes "text") ∷ [], Nothing listed.PlainText)
     ∷ (bare (codes "first") ∷ bare (codes "directory") ∷ bare (codes "has") ∷ bare (codes "tag") ∷ [], Tag)
     ∷ (bare (codes "package") ∷ bare (codes "with") ∷ separator 0x3A ∷ [], OneText Package)
+    ∷ (bare (codes "behind") ∷ bare (codes "an") ∷ bare (codes "ID3") ∷ bare (codes "tag") ∷ separator 0x3A ∷ [], OneText BehindId3)
     ∷ (bare (codes "program") ∷ separator 0x3A ∷ [], Program)
     ∷ (bare (codes "first") ∷ bare (codes "entry") ∷ separator 0x3A ∷ [], Entry)
     ∷ (bare (codes "class") ∷ bare (codes "id") ∷ separator 0x3A ∷ [], ClassId)
@@ -105,6 +110,7 @@ Fits (first_entry_has_extra t) b = FirstEntryHasExtra t b
 Fits (package_with folder) b = IsPackageWith folder b
 Fits (class_id id) b = HasClassId id b
 Fits (directory_tag tag) b = HasTag tag b
+Fits (behind_id3 t) b = IsBehindId3 t b
 Fits animated b = OccursAt b png_header 0 × IsAnimated b
 Fits subrip b = IsSubRip b
 Fits dbase b = IsDbase b
@@ -137,6 +143,7 @@ lines (first_entry_has_extra extra) = counted_for extra 28
 lines (package_with folder) = named (codes "[Content_Types].xml") ∷ named (codes "_rels/") ∷ named (codes "docProps/") ∷ named folder ∷ []
 lines (class_id id) = at_least 8 (text 0 compound_header ∷ []) ∷ []
 lines (directory_tag tag) = at_least 4 (text 0 (0x49 ∷ 0x49 ∷ 0x2A ∷ 0x00 ∷ []) ∷ []) ∷ at_least 4 (text 0 (0x4D ∷ 0x4D ∷ 0x00 ∷ 0x2A ∷ []) ∷ []) ∷ []
+lines (behind_id3 t) = at_least 3 (text 0 (codes "ID3") ∷ []) ∷ []
 lines animated = at_least 4 (text 0 png_header ∷ []) ∷ []
 lines subrip = at_least 1 (byte 0 (between 0x30 0x39) ∷ []) ∷ at_least 3 (text 0 (0xEF ∷ 0xBB ∷ 0xBF ∷ []) ∷ []) ∷ []
 lines dbase = at_least 14 (byte 0 (any_of versions) ∷ text 12 (0x00 ∷ 0x00 ∷ []) ∷ []) ∷ []
@@ -170,6 +177,7 @@ model before (class_id id) =
     at_least 640 (text 0 compound_header ∷ text 26 (0x03 ∷ 0x00 ∷ 0xFE ∷ 0xFF ∷ 0x09 ∷ []) ∷ text 578 (0x05 ∷ []) ∷ text 592 id ∷ [])
 model before (directory_tag tag) =
     at_least 20 (text 0 (0x4D ∷ 0x4D ∷ 0x00 ∷ 0x2A ∷ 0x00 ∷ 0x00 ∷ 0x00 ∷ 0x06 ∷ []) ∷ text 8 (tag / 256 ∷ tag % 256 ∷ []) ∷ [])
+model before (behind_id3 t) = at_least (10 + length t) (text 0 (codes "ID3") ∷ text 10 t ∷ [])
 model before animated = at_least 16 (text 0 png_header ∷ text 12 (codes "acTL") ∷ [])
 model before subrip = at_least 31 (text 0 (codes "0\n00:00:00,000 --> 00:00:00,000") ∷ [])
 model before dbase =

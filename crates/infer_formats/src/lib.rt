@@ -4,6 +4,7 @@
 
 pub mod dbase;
 pub mod elf;
+pub mod id3;
 pub mod json;
 pub mod laws;
 pub mod markup;

@@ -7,6 +7,7 @@ ghost use Rattle.infer_formats.specs.Relation.{Fits, IsSound, class_id, dbase, d
 
 use crate::dbase::{is_dbase, may_become_dbase};
 use crate::elf::{is_shared_object, may_become_shared_object};
+use crate::id3::{is_behind_id3, may_be_behind_id3};
 use crate::json::{is_json, is_json_lines, may_become_json, may_become_json_lines};
 use crate::markup::{has_root, has_root_with, may_have_root, may_have_root_with};
 use crate::model::{Model, Text, at, entry, five, four, made, one, three, two};
@@ -36,6 +37,7 @@ pub enum Relation<'a> {
     PackageWith(&'a [u8]),
     ClassId([u8; 16]),
     DirectoryTag(u16),
+    BehindId3(&'a [u8]),
     Animated,
     SubRip,
     Dbase,
@@ -64,6 +66,7 @@ pub enum Takes {
 #[derive(Clone, Copy)]
 pub enum OfText {
     Package,
+    BehindId3,
 }
 
 impl OfText {
@@ -73,6 +76,7 @@ impl OfText {
     {
         match self {
             OfText::Package => Relation::PackageWith(text),
+            OfText::BehindId3 => Relation::BehindId3(text),
         }
     }
 }
@@ -122,6 +126,16 @@ static NAMES: &[(&[Token<'static>], Takes)] = &[
         &[Word(b"package"), Word(b"with"), Separator(b':')],
         Takes::OneText(OfText::Package),
     ),
+    (
+        &[
+            Word(b"behind"),
+            Word(b"an"),
+            Word(b"ID3"),
+            Word(b"tag"),
+            Separator(b':'),
+        ],
+        Takes::OneText(OfText::BehindId3),
+    ),
     (&[Word(b"program"), Separator(b':')], Takes::Program),
     (
         &[Word(b"first"), Word(b"entry"), Separator(b':')],
@@ -157,6 +171,7 @@ impl<'a> Relation<'a> {
             Relation::PackageWith(folder) => is_package_with(buf, folder),
             Relation::ClassId(id) => has_class_id(buf, id),
             Relation::DirectoryTag(tag) => first_directory_has_tag(buf, *tag),
+            Relation::BehindId3(text) => is_behind_id3(buf, text),
             Relation::Animated => stands_at(buf, b"\x89PNG", 0) && is_animated(buf),
             Relation::SubRip => is_subrip(buf),
             Relation::Dbase => is_dbase(buf),
@@ -183,6 +198,7 @@ impl<'a> Relation<'a> {
             Relation::PackageWith(folder) => may_become_package_with(buf, folder),
             Relation::ClassId(id) => may_have_class_id(buf, id),
             Relation::DirectoryTag(tag) => first_directory_may_have_tag(buf, *tag),
+            Relation::BehindId3(text) => may_be_behind_id3(buf, text),
             Relation::Animated => may_stand_at(buf, b"\x89PNG", 0) && may_become_animated(buf),
             Relation::SubRip => may_become_subrip(buf),
             Relation::Dbase => may_become_dbase(buf),
@@ -224,6 +240,7 @@ impl<'a> Relation<'a> {
             Relation::PackageWith(folder) => package(folder),
             Relation::ClassId(id) => compound(*id),
             Relation::DirectoryTag(tag) => directory(*tag),
+            Relation::BehindId3(text) => two(10 + text.len(), at(0, b"ID3"), at(10, text)),
             Relation::Animated => two(16, at(0, b"\x89PNG"), at(12, b"acTL")),
             Relation::SubRip => one(31, at(0, b"0\n00:00:00,000 --> 00:00:00,000")),
             Relation::Dbase => table(),

@@ -2,6 +2,7 @@
 
 mod dbase;
 mod elf;
+mod id3;
 mod json;
 mod markup;
 mod png;

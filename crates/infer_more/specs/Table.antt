@@ -1,12 +1,12 @@
 -- The further rows, in order. A row whose signature has no alternative accepts nothing.
 use Rattle.std.specs.Prelude.{ℕ, List, [], ◌∷◌, ◌++◌, Option, None, Some, codes}
-use Rattle.infer_formats.specs.Relation.{animated, class_id, dbase, directory_tag, first_entry_ends_in, first_entry_has_extra, first_entry_is, json_lines, json_text, package_with, plain_text, program, root, root_with, shared_object, subrip, tar_checksum}
+use Rattle.infer_formats.specs.Relation.{animated, behind_id3, class_id, dbase, directory_tag, first_entry_ends_in, first_entry_has_extra, first_entry_is, json_lines, json_text, package_with, plain_text, program, root, root_with, shared_object, subrip, tar_checksum}
 use Rattle.infer_sig.specs.Signature as fixed
 use Rattle.infer_sig.specs.Signature.{text, byte, any_of, between}
 use Rattle.infer.specs.Triple.{triple}
 use Rattle.infer.specs.declared.table.file_type.MatcherType.{MatcherType}
 use Rattle.infer.specs.declared.table.file_type.MatcherType.TheVariants.{App, Archive, Audio, Book, Doc, Font, Image, Text, Video}
-use Rattle.infer.specs.declared.table.rows.TheConstants.{CAB, DER, DJVU, ELF, GZ, HEIF, HTML, JPEG2000, MSI, ODP, ODS, ODT, OGG, PEM, PNG, PS, RPM, SHELLSCRIPT, SQLITE, TIFF, XML, ZIP}
+use Rattle.infer.specs.declared.table.rows.TheConstants.{CAB, DER, DJVU, ELF, GZ, HEIF, HTML, JPEG2000, MP3, MSI, ODP, ODS, ODT, OGG, PEM, PNG, PS, RPM, SHELLSCRIPT, SQLITE, TIFF, XML, ZIP}
 use Rattle.infer_more.specs.Row.{Further}
 use Rattle.infer_notation.specs.Alternative.{Alternative, at_least, binary_bytes, related}
 
@@ -303,6 +303,11 @@ sounds =
     ∷ row Audio (codes "audio/x-dff") (codes "dff") None (at_least 16 (text 0 (codes "FRM8") ∷ text 12 (codes "DSD ") ∷ []) ∷ [])
     ∷ row Audio (codes "application/vnd.smaf") (codes "mmf") None (at_least 12 (text 0 (codes "MMMD") ∷ text 8 (codes "CNTI") ∷ []) ∷ [])
     ∷ row Audio (codes "text/x-imelody") (codes "imy") None (at_least 13 (text 0 (codes "BEGIN:IMELODY") ∷ []) ∷ [])
+    ∷ row Audio (codes "audio/x-flac") (codes "flac") (Some MP3) (related (behind_id3 (codes "fLaC")) ∷ [])
+    ∷ row Audio (codes "audio/x-ape") (codes "ape") (Some MP3) (related (behind_id3 (codes "MAC ")) ∷ [])
+    ∷ row Audio (codes "audio/x-tta") (codes "tta") (Some MP3) (related (behind_id3 (codes "TTA1")) ∷ [])
+    ∷ row Audio (codes "audio/x-musepack") (codes "mpc") (Some MP3) (related (behind_id3 (codes "MPCK")) ∷ related (behind_id3 (codes "MP+")) ∷ [])
+    ∷ row Audio (codes "audio/x-dsf") (codes "dsf") (Some MP3) (related (behind_id3 (codes "DSD ")) ∷ [])
     ∷ []
 
 -- films, and what packs files

@@ -986,128 +986,131 @@ rows-torrent = 313
 abbrev pub rows-ts : ℕ
 rows-ts = 314
 
+abbrev pub rows-tta : ℕ
+rows-tta = 315
+
 abbrev pub rows-ttc : ℕ
-rows-ttc = 315
+rows-ttc = 316
 
 abbrev pub rows-ttf : ℕ
-rows-ttf = 316
+rows-ttf = 317
 
 abbrev pub rows-txt : ℕ
-rows-txt = 317
+rows-txt = 318
 
 abbrev pub rows-txt-xml : ℕ
-rows-txt-xml = 318
+rows-txt-xml = 319
 
 abbrev pub rows-tzif : ℕ
-rows-tzif = 319
+rows-tzif = 320
 
 abbrev pub rows-vcf : ℕ
-rows-vcf = 320
+rows-vcf = 321
 
 abbrev pub rows-vdi : ℕ
-rows-vdi = 321
+rows-vdi = 322
 
 abbrev pub rows-vhd : ℕ
-rows-vhd = 322
+rows-vhd = 323
 
 abbrev pub rows-vhdx : ℕ
-rows-vhdx = 323
+rows-vhdx = 324
 
 abbrev pub rows-vmdk : ℕ
-rows-vmdk = 324
+rows-vmdk = 325
 
 abbrev pub rows-voc : ℕ
-rows-voc = 325
+rows-voc = 326
 
 abbrev pub rows-vsd : ℕ
-rows-vsd = 326
+rows-vsd = 327
 
 abbrev pub rows-vsdx : ℕ
-rows-vsdx = 327
+rows-vsdx = 328
 
 abbrev pub rows-vsdx-zip : ℕ
-rows-vsdx-zip = 328
+rows-vsdx-zip = 329
 
 abbrev pub rows-vtt : ℕ
-rows-vtt = 329
+rows-vtt = 330
 
 abbrev pub rows-wad : ℕ
-rows-wad = 330
+rows-wad = 331
 
 abbrev pub rows-warc : ℕ
-rows-warc = 331
+rows-warc = 332
 
 abbrev pub rows-wasm : ℕ
-rows-wasm = 332
+rows-wasm = 333
 
 abbrev pub rows-wav : ℕ
-rows-wav = 333
+rows-wav = 334
 
 abbrev pub rows-webm : ℕ
-rows-webm = 334
+rows-webm = 335
 
 abbrev pub rows-webp : ℕ
-rows-webp = 335
+rows-webp = 336
 
 abbrev pub rows-wiiwad : ℕ
-rows-wiiwad = 336
+rows-wiiwad = 337
 
 abbrev pub rows-wim : ℕ
-rows-wim = 337
+rows-wim = 338
 
 abbrev pub rows-wmv : ℕ
-rows-wmv = 338
+rows-wmv = 339
 
 abbrev pub rows-woff : ℕ
-rows-woff = 339
+rows-woff = 340
 
 abbrev pub rows-woff2 : ℕ
-rows-woff2 = 340
+rows-woff2 = 341
 
 abbrev pub rows-wv : ℕ
-rows-wv = 341
+rows-wv = 342
 
 abbrev pub rows-x3f : ℕ
-rows-x3f = 342
+rows-x3f = 343
 
 abbrev pub rows-xar : ℕ
-rows-xar = 343
+rows-xar = 344
 
 abbrev pub rows-xcf : ℕ
-rows-xcf = 344
+rows-xcf = 345
 
 abbrev pub rows-xhtml : ℕ
-rows-xhtml = 345
+rows-xhtml = 346
 
 abbrev pub rows-xls : ℕ
-rows-xls = 346
+rows-xls = 347
 
 abbrev pub rows-xlsx : ℕ
-rows-xlsx = 347
+rows-xlsx = 348
 
 abbrev pub rows-xm : ℕ
-rows-xm = 348
+rows-xm = 349
 
 abbrev pub rows-xml : ℕ
-rows-xml = 349
+rows-xml = 350
 
 abbrev pub rows-xpm : ℕ
-rows-xpm = 350
+rows-xpm = 351
 
 abbrev pub rows-xwd : ℕ
-rows-xwd = 351
+rows-xwd = 352
 
 abbrev pub rows-xz : ℕ
-rows-xz = 352
+rows-xz = 353
 
 abbrev pub rows-zim : ℕ
-rows-zim = 353
+rows-zim = 354
 
 abbrev pub rows-zip : ℕ
-rows-zip = 354
+rows-zip = 355
 
 abbrev pub rows-zst : ℕ
-rows-zst = 355
+rows-zst = 356
 
 unfoldable pub lead_lists : List (List (List ℕ))
 lead_lists =
@@ -1451,6 +1454,7 @@ sets_2 =
     ∷ (codes "tnef" ∷ [])
     ∷ (codes "torrent" ∷ [])
     ∷ (codes "ts" ∷ [])
+    ∷ (codes "tta" ∷ [])
     ∷ (codes "ttc" ∷ [])
     ∷ (codes "ttf" ∷ [])
     ∷ (codes "txt" ∷ [])

@@ -3615,7 +3615,7 @@ types_2 =
     ∷ named (codes "audio/x-s3m") known
     ∷ named (codes "audio/x-scpls") known
     ∷ named (codes "audio/x-speex+ogg") (row (codes "spx"))
-    ∷ named (codes "audio/x-tta") known
+    ∷ named (codes "audio/x-tta") (row (codes "tta"))
     ∷ named (codes "audio/x-voc") (row (codes "voc"))
     ∷ named (codes "audio/x-wav") (row (codes "wav"))
     ∷ named (codes "audio/x-wavpack") (row (codes "wv"))

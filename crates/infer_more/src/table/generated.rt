@@ -277,6 +277,11 @@ pub(crate) fn row_at(i: usize) -> Option<&'static FurtherRow>
         258 => row_of::<258>(),
         259 => row_of::<259>(),
         260 => row_of::<260>(),
+        261 => row_of::<261>(),
+        262 => row_of::<262>(),
+        263 => row_of::<263>(),
+        264 => row_of::<264>(),
+        265 => row_of::<265>(),
         _ => row_in_lists(i),
     }
 }
@@ -548,6 +553,11 @@ pub(crate) fn widens(i: usize, parent: Option<usize>, buf: &[u8]) -> bool
         258 => widens_row::<258>(parent, buf),
         259 => widens_row::<259>(parent, buf),
         260 => widens_row::<260>(parent, buf),
+        261 => widens_row::<261>(parent, buf),
+        262 => widens_row::<262>(parent, buf),
+        263 => widens_row::<263>(parent, buf),
+        264 => widens_row::<264>(parent, buf),
+        265 => widens_row::<265>(parent, buf),
         _ => widens_any(i, parent, buf),
     }
 }

@@ -1,4 +1,4 @@
-//! Modules and sounds.
+//! Modules and sounds, and sounds behind an ID3 tag.
 ghost use Rattle.std.specs.Prelude.{◌≡◌, map};
 ghost use Rattle.infer_more.specs.Listed.{AreEnded, row_listed};
 ghost use Rattle.infer_more.specs.Table.{sounds};
@@ -7,6 +7,8 @@ use crate::signature::Piece::{At, Between, OneOf};
 use crate::signature::{Alternative, Bytes};
 use crate::table::{EndedTexts, FurtherRow};
 use infer::MatcherType;
+use infer::rows::MP3;
+use infer_formats::relation::Relation::BehindId3;
 
 static ROWS: &[FurtherRow] = rows![
     Audio "audio/x-it" "it": => [BinaryBytes(bytes!(5, At(0, b"IMPM")))];
@@ -22,6 +24,11 @@ static ROWS: &[FurtherRow] = rows![
     Audio "audio/x-dff" "dff": => [16, At(0, b"FRM8"), At(12, b"DSD ")];
     Audio "application/vnd.smaf" "mmf": => [12, At(0, b"MMMD"), At(8, b"CNTI")];
     Audio "text/x-imelody" "imy": => [13, At(0, b"BEGIN:IMELODY")];
+    Audio "audio/x-flac" "flac": MP3 => [BehindId3(b"fLaC")];
+    Audio "audio/x-ape" "ape": MP3 => [BehindId3(b"MAC ")];
+    Audio "audio/x-tta" "tta": MP3 => [BehindId3(b"TTA1")];
+    Audio "audio/x-musepack" "mpc": MP3 => [BehindId3(b"MPCK")] [BehindId3(b"MP+")];
+    Audio "audio/x-dsf" "dsf": MP3 => [BehindId3(b"DSD ")];
 ];
 
 #[tactic(auto, unfolding(crate::specs::Table::sounds))]
