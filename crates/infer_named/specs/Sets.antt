@@ -878,239 +878,242 @@ rows-qcow2 = 277
 abbrev pub rows-qml : ℕ
 rows-qml = 278
 
+abbrev pub rows-qoi : ℕ
+rows-qoi = 279
+
 abbrev pub rows-ra : ℕ
-rows-ra = 279
+rows-ra = 280
 
 abbrev pub rows-raf : ℕ
-rows-raf = 280
+rows-raf = 281
 
 abbrev pub rows-rar : ℕ
-rows-rar = 281
+rows-rar = 282
 
 abbrev pub rows-ras : ℕ
-rows-ras = 282
+rows-ras = 283
 
 abbrev pub rows-rb : ℕ
-rows-rb = 283
+rows-rb = 284
 
 abbrev pub rows-rm : ℕ
-rows-rm = 284
+rows-rm = 285
 
 abbrev pub rows-rpm : ℕ
-rows-rpm = 285
+rows-rpm = 286
 
 abbrev pub rows-rss : ℕ
-rows-rss = 286
+rows-rss = 287
 
 abbrev pub rows-rtf : ℕ
-rows-rtf = 287
+rows-rtf = 288
 
 abbrev pub rows-rw2 : ℕ
-rows-rw2 = 288
+rows-rw2 = 289
 
 abbrev pub rows-safetensors : ℕ
-rows-safetensors = 289
+rows-safetensors = 290
 
 abbrev pub rows-sav : ℕ
-rows-sav = 290
+rows-sav = 291
 
 abbrev pub rows-sgi : ℕ
-rows-sgi = 291
+rows-sgi = 292
 
 abbrev pub rows-sh : ℕ
-rows-sh = 292
+rows-sh = 293
 
 abbrev pub rows-sh-txt : ℕ
-rows-sh-txt = 293
+rows-sh-txt = 294
 
 abbrev pub rows-shp : ℕ
-rows-shp = 294
+rows-shp = 295
 
 abbrev pub rows-shx : ℕ
-rows-shx = 295
+rows-shx = 296
 
 abbrev pub rows-sid : ℕ
-rows-sid = 296
+rows-sid = 297
 
 abbrev pub rows-sig : ℕ
-rows-sig = 297
+rows-sig = 298
 
 abbrev pub rows-so : ℕ
-rows-so = 298
+rows-so = 299
 
 abbrev pub rows-spx : ℕ
-rows-spx = 299
+rows-spx = 300
 
 abbrev pub rows-sqlite : ℕ
-rows-sqlite = 300
+rows-sqlite = 301
 
 abbrev pub rows-squashfs : ℕ
-rows-squashfs = 301
+rows-squashfs = 302
 
 abbrev pub rows-srpm : ℕ
-rows-srpm = 302
+rows-srpm = 303
 
 abbrev pub rows-srt : ℕ
-rows-srt = 303
+rows-srt = 304
 
 abbrev pub rows-svg : ℕ
-rows-svg = 304
+rows-svg = 305
 
 abbrev pub rows-swf : ℕ
-rows-swf = 305
+rows-swf = 306
 
 abbrev pub rows-sxw : ℕ
-rows-sxw = 306
+rows-sxw = 307
 
 abbrev pub rows-sz : ℕ
-rows-sz = 307
+rows-sz = 308
 
 abbrev pub rows-tar : ℕ
-rows-tar = 308
+rows-tar = 309
 
 abbrev pub rows-tcl : ℕ
-rows-tcl = 309
+rows-tcl = 310
 
 abbrev pub rows-terminfo : ℕ
-rows-terminfo = 310
+rows-terminfo = 311
 
 abbrev pub rows-tif : ℕ
-rows-tif = 311
+rows-tif = 312
 
 abbrev pub rows-tnef : ℕ
-rows-tnef = 312
+rows-tnef = 313
 
 abbrev pub rows-torrent : ℕ
-rows-torrent = 313
+rows-torrent = 314
 
 abbrev pub rows-ts : ℕ
-rows-ts = 314
+rows-ts = 315
 
 abbrev pub rows-tta : ℕ
-rows-tta = 315
+rows-tta = 316
 
 abbrev pub rows-ttc : ℕ
-rows-ttc = 316
+rows-ttc = 317
 
 abbrev pub rows-ttf : ℕ
-rows-ttf = 317
+rows-ttf = 318
 
 abbrev pub rows-txt : ℕ
-rows-txt = 318
+rows-txt = 319
 
 abbrev pub rows-txt-xml : ℕ
-rows-txt-xml = 319
+rows-txt-xml = 320
 
 abbrev pub rows-tzif : ℕ
-rows-tzif = 320
+rows-tzif = 321
 
 abbrev pub rows-vcf : ℕ
-rows-vcf = 321
+rows-vcf = 322
 
 abbrev pub rows-vdi : ℕ
-rows-vdi = 322
+rows-vdi = 323
 
 abbrev pub rows-vhd : ℕ
-rows-vhd = 323
+rows-vhd = 324
 
 abbrev pub rows-vhdx : ℕ
-rows-vhdx = 324
+rows-vhdx = 325
 
 abbrev pub rows-vmdk : ℕ
-rows-vmdk = 325
+rows-vmdk = 326
 
 abbrev pub rows-voc : ℕ
-rows-voc = 326
+rows-voc = 327
 
 abbrev pub rows-vsd : ℕ
-rows-vsd = 327
+rows-vsd = 328
 
 abbrev pub rows-vsdx : ℕ
-rows-vsdx = 328
+rows-vsdx = 329
 
 abbrev pub rows-vsdx-zip : ℕ
-rows-vsdx-zip = 329
+rows-vsdx-zip = 330
 
 abbrev pub rows-vtt : ℕ
-rows-vtt = 330
+rows-vtt = 331
 
 abbrev pub rows-wad : ℕ
-rows-wad = 331
+rows-wad = 332
 
 abbrev pub rows-warc : ℕ
-rows-warc = 332
+rows-warc = 333
 
 abbrev pub rows-wasm : ℕ
-rows-wasm = 333
+rows-wasm = 334
 
 abbrev pub rows-wav : ℕ
-rows-wav = 334
+rows-wav = 335
 
 abbrev pub rows-webm : ℕ
-rows-webm = 335
+rows-webm = 336
 
 abbrev pub rows-webp : ℕ
-rows-webp = 336
+rows-webp = 337
 
 abbrev pub rows-wiiwad : ℕ
-rows-wiiwad = 337
+rows-wiiwad = 338
 
 abbrev pub rows-wim : ℕ
-rows-wim = 338
+rows-wim = 339
 
 abbrev pub rows-wmv : ℕ
-rows-wmv = 339
+rows-wmv = 340
 
 abbrev pub rows-woff : ℕ
-rows-woff = 340
+rows-woff = 341
 
 abbrev pub rows-woff2 : ℕ
-rows-woff2 = 341
+rows-woff2 = 342
 
 abbrev pub rows-wv : ℕ
-rows-wv = 342
+rows-wv = 343
 
 abbrev pub rows-x3f : ℕ
-rows-x3f = 343
+rows-x3f = 344
 
 abbrev pub rows-xar : ℕ
-rows-xar = 344
+rows-xar = 345
 
 abbrev pub rows-xcf : ℕ
-rows-xcf = 345
+rows-xcf = 346
 
 abbrev pub rows-xhtml : ℕ
-rows-xhtml = 346
+rows-xhtml = 347
 
 abbrev pub rows-xls : ℕ
-rows-xls = 347
+rows-xls = 348
 
 abbrev pub rows-xlsx : ℕ
-rows-xlsx = 348
+rows-xlsx = 349
 
 abbrev pub rows-xm : ℕ
-rows-xm = 349
+rows-xm = 350
 
 abbrev pub rows-xml : ℕ
-rows-xml = 350
+rows-xml = 351
 
 abbrev pub rows-xpm : ℕ
-rows-xpm = 351
+rows-xpm = 352
 
 abbrev pub rows-xwd : ℕ
-rows-xwd = 352
+rows-xwd = 353
 
 abbrev pub rows-xz : ℕ
-rows-xz = 353
+rows-xz = 354
 
 abbrev pub rows-zim : ℕ
-rows-zim = 354
+rows-zim = 355
 
 abbrev pub rows-zip : ℕ
-rows-zip = 355
+rows-zip = 356
 
 abbrev pub rows-zst : ℕ
-rows-zst = 356
+rows-zst = 357
 
 unfoldable pub lead_lists : List (List (List ℕ))
 lead_lists =
@@ -1418,6 +1421,7 @@ sets_2 =
     ∷ (codes "pyc" ∷ [])
     ∷ (codes "qcow2" ∷ [])
     ∷ (codes "qml" ∷ [])
+    ∷ (codes "qoi" ∷ [])
     ∷ (codes "ra" ∷ [])
     ∷ (codes "raf" ∷ [])
     ∷ (codes "rar" ∷ [])
