@@ -2,7 +2,7 @@
 
 `bench/run --pages` writes the tables of docs/PERFORMANCE.md, each between marks that name it, the picture, and the
 figures of those tables that other pages repeat; here both are read. What a command takes stands in docs/seconds.tsv,
-where `bench/commands --pages` and `.ci/run --pages` write it, and `tools/tables` writes it into the pages. The version
+where `bench/commands --pages` and `.ci/run --pages` write it, and `tools/tables` writes it into README.md. The version
 is that of c/infer.h."""
 import json
 import math
@@ -47,20 +47,18 @@ REPEATED = [
 
 
 SECONDS = "docs/seconds.tsv"
-CORES = {"1": "one", "2": "two", "4": "four", "8": "eight"}
-# Where a page tells what a command takes, by the words before it.
-TIMED = [
-    ("README.md", r"jpg`\s+after", "rt try"),
-    ("README.md", r"runs\s+the\s+tests,\s+in", ".ci/check --try"),
-    ("README.md", r"tests\s+everything,\s+in", ".ci/run"),
-    ("docs/ADDING_A_TYPE.md", r"first\s+`rt\s+check`\s+takes", "rt check"),
-]
-TIME = r"\d+\s+processor\s+(?:seconds|minutes),\s+\d+\s+(?:seconds|minutes)\s+on\s+\w+\s+cores"
+# Each command that is timed: as README.md writes it, and what it does.
+COMMANDS = {
+    "rt try": ("cd crates/infer_tool && rt try -- /tmp/photo.jpg", "prints `/tmp/photo.jpg: image/jpeg jpg`, proves nothing"),
+    ".ci/check --try": (".ci/check --try", "runs the tests, proves nothing"),
+    "rt check": ("cd crates/infer && rt check", "proves the table of built-in types"),
+    ".ci/run": (".ci/run", "proves and tests everything"),
+}
 
 
 def span(seconds):
-    """A time as its number and its unit."""
-    return (seconds, "seconds") if seconds < 100 else (round(seconds / 60), "minutes")
+    """A time with its unit."""
+    return f"{seconds} seconds" if seconds < 100 else f"{round(seconds / 60)} minutes"
 
 
 def seconds_of():
@@ -68,20 +66,13 @@ def seconds_of():
     return {command: its for command, *its in (line.split("\t") for line in text_of(SECONDS).splitlines())}
 
 
-def told_time(processor_seconds, seconds, cores):
-    processor_time, time = span(int(processor_seconds)), span(int(seconds))
-    return f"{processor_time[0]} processor {processor_time[1]}, {time[0]} {time[1]} on {CORES.get(cores, cores)} cores"
-
-
-def timed(path, text):
-    """The page with what each command takes, its lines broken as they are."""
+def commands():
+    """The table of README.md: each command with what it takes."""
     known = seconds_of()
-    for before, command in [(before, command) for page, before, command in TIMED if page == path]:
-        words = iter(told_time(*known[command]).split())
-        text, found = re.subn(rf"({before}\s+)({TIME})", lambda it: it[1] + re.sub(r"\S+", lambda _: next(words), it[2]), text)
-        if found != 1:
-            raise SystemExit(f"{path} has no place for what {command} takes")
-    return text
+    yield from ["| At the top | It | Processor time | Time |", "|---|---|---|---|"]
+    for command, (written, does) in COMMANDS.items():
+        processor_seconds, seconds, cores = known[command]
+        yield f"| `{written}` | {does} | {span(int(processor_seconds))} | {span(int(seconds))} on {cores} cores |"
 
 
 def marked(name):
@@ -150,7 +141,7 @@ def check_performance():
 
 # Where the time of a question stands that another program was asked too: the page, the rows of both, and what is counted.
 TIMED_AGAINST = {
-    "`file`": ("examples/directory_report/README.md", "xargs -0 infer_tool", "xargs -0 file", "seconds for 20,000 files"),
+    "`file`": ("examples/directory_report/README.md", "xargs -0 infer_tool", "xargs -0 file", "seconds, 20,000 files"),
     "mimetype": ("bindings/go/README.md", "infer.Detect", "mimetype.Detect", "nanoseconds"),
     "python-magic": ("bindings/python/README.md", "infer.magic", "python-magic", "microseconds"),
     "filetype.py": ("bindings/python/README.md", "infer.guess", "filetype.guess", "microseconds"),
@@ -158,16 +149,30 @@ TIMED_AGAINST = {
 
 
 def time_of(program):
-    """What a question takes here and there, with a link to the page that has it, and nothing if none has."""
+    """What a question takes here and there, and nothing if no page has it."""
     if program.startswith("Rust crate"):
         row = table_of(text_of(PERFORMANCE), "answer")[MEDIAN]
-        return f"[{row['`position`'].partition(' / ')[0]} / {row['`get` there']} instructions]({PERFORMANCE})"
+        return f"{row['`position`'].partition(' / ')[0]} / {row['`get` there']} instructions"
     for name, (page, here, there, counted) in TIMED_AGAINST.items():
         if program.startswith(name):
             rows = table_of(text_of(page), "speed")
             ours, theirs = (next([*cells.values()][0] for label, cells in rows.items() if it in label) for it in (here, there))
-            return f"[{ours} / {theirs} {counted}]({page}#speed)"
+            return f"{ours} / {theirs} {counted}"
     return ""
+
+
+# How each program takes types of a user's own, and where it runs, by its own pages.
+TOLD_OF = {
+    "here, the built-in": ("functions", "Linux, Windows, macOS, C99"),
+    "here, with": ("lines of a text", "Linux, Windows, macOS, C99"),
+    "Rust crate": ("functions", "where Rust does"),
+    "`file`": ("magic(5)", "Unix"),
+    "mimetype": ("functions", "where Go does"),
+    "python-magic": ("magic(5)", "where libmagic does"),
+    "filetype.py": ("classes", "where Python does"),
+    "file-type": ("functions", "Node and browsers"),
+    "shared-mime-info": ("XML", "Linux, BSD"),
+}
 
 
 def comparison():
@@ -176,10 +181,13 @@ def comparison():
     compared = table_of(differences, "compared")
     head, rows = next((head, rows) for head, rows in tables("docs/DIFFERENCES.md") if " suites: " in head[0])
     count = re.search(r"(\d+) binary files", head[0])[1]
-    yield from [f"| | Types | Right, of {count} | Wrong | Time of a question, here / there |", "|---|---|---|---|---|"]
-    for program, right, _, _, wrong, *_ in rows:
-        types = [cells["Types"] for label, cells in compared.items() if label.startswith(program.removesuffix(", not run"))]
-        yield f"| {program} | {''.join(it for it in types if it.isdigit())} | {right} | {wrong} | {time_of(program)} |"
+    yield f"| | Types | Right, of {count} | Wrong | Labelled | A question, here / there | Own types | Runs on |"
+    yield "|---|---|---|---|---|---|---|---|"
+    for program, right, _, _, wrong, *_ in (row for row in rows if not row[0].endswith(", not run")):
+        its = [cells for label, cells in compared.items() if label.startswith(program)]
+        types, labelled = ("".join(it[column] for it in its if it["Types"].isdigit()) for column in ("Types", "Labelled"))
+        own, places = next(told for name, told in TOLD_OF.items() if program.startswith(name))
+        yield f"| {program} | {types} | {right} | {wrong} | {labelled} | {time_of(program)} | {own} | {places} |"
 
 
 def check_repeated(page):
