@@ -170,9 +170,9 @@ def fault_texts():
 
 @kept
 def said():
-    """What the program says of an input, after its name, but for types."""
+    """What the programs say of an input, after its name, but for types."""
     written = re.findall(r'writeln!\(\w+, "\{\w+\}: ([a-z ]+)"\)', text_of("crates/infer_tool/src/report.rt") + text_of("crates/infer_tool/src/sample.rt"))
-    return fault_texts() | set(written)
+    return fault_texts() | set(written) | set(re.findall(r'write_all\(b"([a-z]+)"\)', text_of("crates/infer_label/src/line.rt")))
 
 
 def is_told(mime_type, extension, more):
