@@ -274,9 +274,16 @@ def named_in(text: str, path: str) -> Iterator[tuple[re.Match[str], str, Definit
             yield it, word, found
 
 
+def called(call: str) -> Function:
+    """The function that a page calls so, which may have the name of its crate before it."""
+    crate, _, name = call.partition("::")
+    crates, name = ([crate], name) if crate in CRATES else ([*CRATES], call)
+    return next(it for crate in crates for it in functions_of(crate) if it.name == name)
+
+
 def unfolded(calls: list[str], modules: tuple[str, ...]) -> list[Definition]:
     """The definitions of these modules to which the contracts of these calls unfold, in the order of crates and files."""
-    functions = [next(it for crate in CRATES for it in functions_of(crate) if it.name == call) for call in calls]
+    functions = [called(call) for call in calls]
     left = [(clause, it.path) for it in functions for _, clause in it.clauses]
     found: dict[str, Definition] = {}
     while left:
