@@ -34,13 +34,9 @@ def at_most(cell):
 # Where another page repeats a figure, its group, and the table, the row and the column in which it stands.
 REPEATED = [
     ("CHANGELOG.md", r"`position`\s+takes\s+([\d,]+)\s+instructions\s+at\s+the\s+median", "answer", MEDIAN, "`position`", as_it_is),
-    ("docs/HOSTILE_INPUT.md", r"\| white space, .*\| ([\d.]+) \|", "dearest", "white space", "a byte of 8 KB", at_most),
-    ("docs/HOSTILE_INPUT.md", r"\| byte order marks, .*\| ([\d.]+)[ ,]", "dearest", "byte order marks", "a byte of 8 KB", at_most),
-    ("docs/HOSTILE_INPUT.md", r"\| skippable frames .*\| ([\d.]+)[ ,]", "dearest", "skippable frames", "a byte of 8 KB", at_most),
-    ("docs/HOSTILE_INPUT.md", r"bounded: ([\d,]+) in all and [\d,]+ of 8192 bytes", "dearest", "near misses of a header of Office", "64 KB, in all", as_it_is),
-    ("docs/HOSTILE_INPUT.md", r"bounded: [\d,]+ in all and ([\d,]+) of 8192 bytes", "dearest", "near misses of a header of Office", "8 KB, in all", as_it_is),
-    ("docs/HOSTILE_INPUT.md", r"for \"%PDF\" \| bounded: ([\d,]+) in all", "dearest", "near misses of \"%PDF\"", "64 KB, in all", as_it_is),
-    ("docs/HOSTILE_INPUT.md", r"\| a box \"ftyp\" .*\| ([\d.]+) \|", "dearest", "a whole box \"ftyp\"", "a byte of 8 KB", at_most),
+    ("docs/HOSTILE_INPUT.md", r"`position`\s+([\d.]+)\s+instructions\s+a\s+byte", "dearest", "near misses of a header of Office", "a byte of 8 KB", at_most),
+    ("docs/HOSTILE_INPUT.md", r"byte\s+order\s+marks\s+([\d.]+),", "dearest", "byte order marks", "a byte of 8 KB", at_most),
+    ("docs/HOSTILE_INPUT.md", r"Zstandard\s+and\s+LZ4\s+([\d.]+)\.\s", "dearest", "skippable frames", "a byte of 8 KB", at_most),
     ("docs/HOSTILE_INPUT.md", r"(\d+)\s+million\s+instructions\s+for\s+a\s+ZIP", "bytewise", "an archive of Office, with near misses of its headers", "instructions", in_millions),
     ("docs/HOSTILE_INPUT.md", r"(\d+)\s+million\s+for\s+byte\s+order\s+marks", "bytewise", "marks FF FE, each sixteenth FE FF", "instructions", in_millions),
 ]
