@@ -33,7 +33,6 @@ def at_most(cell):
 
 # Where another page repeats a figure, its group, and the table, the row and the column in which it stands.
 REPEATED = [
-    ("CHANGELOG.md", r"`position`\s+takes\s+([\d,]+)\s+instructions\s+at\s+the\s+median", "answer", MEDIAN, "`position`", as_it_is),
     ("docs/HOSTILE_INPUT.md", r"`position`\s+([\d.]+)\s+instructions\s+a\s+byte", "dearest", "near misses of a header of Office", "a byte of 8 KB", at_most),
     ("docs/HOSTILE_INPUT.md", r"byte\s+order\s+marks\s+([\d.]+),", "dearest", "byte order marks", "a byte of 8 KB", at_most),
     ("docs/HOSTILE_INPUT.md", r"Zstandard\s+and\s+LZ4\s+([\d.]+)\.\s", "dearest", "skippable frames", "a byte of 8 KB", at_most),
