@@ -1,6 +1,4 @@
 """What the example servers share: the words that start them, where they listen, and what they print."""
-from __future__ import annotations
-
 import contextlib
 import os
 import re
@@ -22,17 +20,16 @@ def number_of(word: str, most: int) -> int:
 
 
 def listen(port: int) -> socket.socket:
-    """A socket that listens on the loopback."""
+    """A socket that listens on the loopback, and says so."""
     # No connection gets the number of a standard descriptor that is closed, or lines would be sent over it.
     while os.open("/dev/null", os.O_RDWR) <= 2:
         pass
     it = socket.create_server(("127.0.0.1", port), backlog=256)
+    # Or the end of an answer would wait until its client tells that it has the beginning.
+    it.setsockopt(socket.IPPROTO_TCP, socket.TCP_NODELAY, 1)
     it.setblocking(False)
+    print(f"listening on 127.0.0.1:{it.getsockname()[1]}", flush=True)
     return it
-
-
-def announce(listening: socket.socket) -> None:
-    print(f"listening on 127.0.0.1:{listening.getsockname()[1]}", flush=True)
 
 
 class Lines:

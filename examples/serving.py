@@ -7,18 +7,19 @@ import errno
 import itertools
 import re
 import resource
-import socket
 from collections import OrderedDict
 from collections.abc import Awaitable, Callable, Iterable
 from http import HTTPStatus
 from typing import BinaryIO
 
 import h11
-from loopback import announce
+from loopback import listen
 
 # The status if the system has no more of something.
 SHORT = dict.fromkeys((errno.EMFILE, errno.ENFILE, errno.ENOBUFS, errno.ENOMEM, errno.EAGAIN), 503)
-PIECE, HEAD, PLACES, LINGER, DROPPED = 65536, 8192, 200, 2, 16 << 20
+# And of a head that does not come, ends early, is too long, or has a length of more digits than Python reads.
+BAD_HEAD = {asyncio.TimeoutError: 408, asyncio.IncompleteReadError: 400, asyncio.LimitOverrunError: 431, ValueError: 413}
+PIECE, HEAD, PLACES, LINGER = 65536, 8192, 200, 2
 # Heads of any other form, or with one of these headers twice or of two values, two servers could read in two ways.
 PLAIN = re.compile(rb"[A-Za-z]+ [!-~]+ HTTP/1\.[01]\r\n(?:[-0-9A-Za-z]+:[\t -~\x80-\xff]*\r\n)*\r\n")
 DOUBLE = re.compile(rb"\n(content-length|content-type|host):(?s:.*)\n\1:|\ncontent-(?:length|type):.*,", re.IGNORECASE)
@@ -29,10 +30,6 @@ OWN_HOST = re.compile(r"(?:127\.0\.0\.1|localhost|\[::1\])(?::[0-9]+)?", re.IGNO
 class Refusal(Exception):
     """Ends a request and its connection: the status, and the headers that go with it."""
 
-    def __init__(self, status: int, *fields: tuple[str, str]) -> None:
-        super().__init__(status)
-        self.status, self.fields = status, fields
-
 
 class Client:
     """A connection, with the request that is to be answered. Of headers with one name it has a list."""
@@ -40,30 +37,21 @@ class Client:
     def __init__(self, server: Server, reader: asyncio.StreamReader, writer: asyncio.StreamWriter) -> None:
         self.server, self.reader, self.writer, self.http = server, reader, writer, h11.Connection(h11.SERVER)
         writer.transport.set_write_buffer_limits(0)  # so that what was drained is with the system
-        # Or the end of an answer would wait until its client tells that it has the beginning.
-        writer.get_extra_info("socket").setsockopt(socket.IPPROTO_TCP, socket.TCP_NODELAY, 1)
 
-    async def next_head(self) -> bytes:
-        """The head of the next request, or nothing. Who is silent before one is let go, and within one is told so."""
+    async def next_request(self) -> bool:
+        """Whether a request has come. Who is silent before one is let go, and within one is told so."""
         self.method, self.target, self.headers = "", "", dict[str, str]()
-        first = await asyncio.wait_for(self.reader.read(1), self.server.seconds)
+        head = await asyncio.wait_for(self.reader.read(1), self.server.seconds)
+        if not head:
+            return False
         try:
-            return first and first + await asyncio.wait_for(self.reader.readuntil(b"\r\n\r\n"), self.server.seconds)
-        except asyncio.TimeoutError:
-            raise Refusal(408) from None
-        except asyncio.IncompleteReadError:
-            raise Refusal(400) from None
-        except asyncio.LimitOverrunError:
-            raise Refusal(431) from None
-
-    def read(self, head: bytes) -> None:
-        if not PLAIN.fullmatch(head) or DOUBLE.search(head):
-            raise Refusal(400)
-        self.http.receive_data(head)
-        try:
+            head += await asyncio.wait_for(self.reader.readuntil(b"\r\n\r\n"), self.server.seconds)
+            if not PLAIN.fullmatch(head) or DOUBLE.search(head):
+                raise Refusal(400)
+            self.http.receive_data(head)
             request = self.http.next_event()
-        except ValueError:  # a length of more digits than Python reads
-            raise Refusal(413) from None
+        except tuple(BAD_HEAD) as fault:
+            raise Refusal(BAD_HEAD[type(fault)]) from None
         self.method, self.target = request.method.decode(), request.target.decode()
         for name, value in ((name.decode(), value.decode("latin-1")) for name, value in request.headers):
             self.headers[name] = f"{self.headers[name]}, {value}" if name in self.headers else value
@@ -72,6 +60,7 @@ class Client:
         if not OWN_HOST.fullmatch(self.headers.get("host", "localhost")):
             raise Refusal(421)
         self.server.moved(self.writer)
+        return True
 
     async def receive(self, file: BinaryIO) -> None:
         """Writes the request's body to the file. A sender that waits for leave to send it is given leave."""
@@ -106,21 +95,20 @@ class Client:
         await asyncio.wait_for(self.drop(), LINGER)
 
     async def drop(self) -> None:
-        left = DROPPED
-        while left > 0 and (piece := await self.reader.read(PIECE)):
-            left -= len(piece)
+        while await self.reader.read(PIECE):
+            pass
 
     async def answer_all(self) -> None:
         try:
-            while head := await self.next_head():
-                self.read(head)
+            while await self.next_request():
                 await self.server.answer(self)
                 if self.http.our_state is not h11.DONE:
                     return
                 self.http.next_event()  # the end of a request without a body
                 self.http.start_next_cycle()
         except Refusal as it:
-            await self.end(it.status, "", *it.fields)
+            status, *fields = it.args
+            await self.end(status, "", *fields)
         except h11.RemoteProtocolError as fault:
             await self.end(fault.error_status_hint)
 
@@ -128,9 +116,7 @@ class Client:
 class Server:
     """So many connections at most, in the order in which they last brought a request or a piece, or took one."""
 
-    def __init__(
-        self, answer: Callable[[Client], Awaitable[None]], seconds: int, tell: Callable[[str], None] = lambda line: None
-    ) -> None:
+    def __init__(self, answer: Callable[[Client], Awaitable[None]], seconds: int, tell: Callable[[str], None]) -> None:
         self.answer, self.seconds, self.tell = answer, seconds, tell
         # Each client takes two descriptors, its own and that of a file.
         self.places = max(1, min(PLACES, resource.getrlimit(resource.RLIMIT_NOFILE)[0] // 2 - 16))
@@ -153,14 +139,11 @@ class Server:
             self.clients.pop(writer, None)
             writer.transport.abort()
 
-    async def run(self, listening: socket.socket) -> None:
+    async def run(self, port: int) -> None:
+        def report(loop: asyncio.AbstractEventLoop, about: dict[str, object]) -> None:
+            # A client that leaves is no fault of this program, and without a descriptor asyncio tries again.
+            if not isinstance(about.get("exception"), OSError):
+                loop.default_exception_handler(about)
+
         asyncio.get_running_loop().set_exception_handler(report)
-        serving = await asyncio.start_server(self.serve, sock=listening, limit=HEAD)
-        announce(listening)
-        await serving.serve_forever()
-
-
-def report(loop: asyncio.AbstractEventLoop, about: dict[str, object]) -> None:
-    """Prints a fault of this program. A client that leaves is none, and without a descriptor asyncio tries again."""
-    if not isinstance(about.get("exception"), OSError):
-        loop.default_exception_handler(about)
+        await (await asyncio.start_server(self.serve, sock=listen(port), limit=HEAD)).serve_forever()

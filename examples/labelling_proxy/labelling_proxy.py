@@ -2,8 +2,6 @@
 """A proxy on the loopback that prints the type of what each client sends. README.md says what it writes.
 
 usage: labelling_proxy.py PORT TO_PORT [SECONDS]"""
-from __future__ import annotations
-
 import asyncio
 import socket
 import struct
@@ -11,7 +9,7 @@ import sys
 import time
 
 import infer
-from loopback import Lines, announce, listen, number_of
+from loopback import Lines, fail, listen, number_of
 
 ROOM, STREAMS, REST, TURN = 65536, 256, 0.1, 1
 AT_ONCE, IN_ORDER = struct.pack("ii", 1, 0), struct.pack("ii", 0, 0)
@@ -24,9 +22,9 @@ class Stream:
         self.client, self.server, self.port, self.lines = client, server, port, lines
         self.sniffer, self.count, self.is_told, self.is_broken = infer.Sniffer(), 0, False, False
         self.moved, self.ended = time.monotonic(), set[socket.socket]()
+        server.setsockopt(socket.IPPROTO_TCP, socket.TCP_NODELAY, 1)
         for side in (client, server):
             side.setblocking(False)
-            side.setsockopt(socket.IPPROTO_TCP, socket.TCP_NODELAY, 1)
             side.setsockopt(socket.SOL_SOCKET, socket.SO_OOBINLINE, 1)
             # What is closed is reset, or an end of this program would tell a server that an upload is whole.
             side.setsockopt(socket.SOL_SOCKET, socket.SO_LINGER, AT_ONCE)
@@ -90,36 +88,28 @@ class Stream:
             side.close()
 
 
-async def take(listening: socket.socket, lines: Lines) -> Stream | None:
-    """The next stream, or None if there is no descriptor. Before a client is taken its server has a socket."""
-    try:
-        with socket.socket() as server:
-            client, (_, port) = await asyncio.get_running_loop().sock_accept(listening)
-            return Stream(client, socket.socket(fileno=server.detach()), port, lines)
-    except OSError:
-        return None
-
-
-async def serve(listening: socket.socket, to_port: int, seconds: int) -> None:
-    lines, running = Lines(), set[asyncio.Task[None]]()
-    announce(listening)
+async def serve(port: int, to_port: int, seconds: int) -> None:
+    listening, lines, running = listen(port), Lines(), set[asyncio.Task[None]]()
     while True:
         while len(running) >= STREAMS:
             await asyncio.wait(running, return_when=asyncio.FIRST_COMPLETED)
-        stream = await take(listening, lines)
-        if stream:
-            running.add(task := asyncio.create_task(stream.run(to_port, seconds)))
-            task.add_done_callback(running.discard)
-        else:
+        try:
+            # Before a client is taken its server has a socket.
+            with socket.socket() as server:
+                client, (_, client_port) = await asyncio.get_running_loop().sock_accept(listening)
+                stream = Stream(client, socket.socket(fileno=server.detach()), client_port, lines)
+        except OSError:  # there is no descriptor
             await asyncio.sleep(REST)
+            continue
+        running.add(task := asyncio.create_task(stream.run(to_port, seconds)))
+        task.add_done_callback(running.discard)
 
 
 def main() -> None:
     port, to_port, seconds = (*sys.argv[1:], "60")[:3] if 3 <= len(sys.argv) <= 4 else ("", "", "")
     if number_of(port, 65535) < 0 or number_of(to_port, 65535) < 0 or number_of(seconds, 86400) < 1:
-        print("usage: labelling_proxy.py PORT TO_PORT [SECONDS]", file=sys.stderr)
-        sys.exit(2)
-    asyncio.run(serve(listen(int(port)), int(to_port), int(seconds)))
+        fail("usage: labelling_proxy.py PORT TO_PORT [SECONDS]")
+    asyncio.run(serve(int(port), int(to_port), int(seconds)))
 
 
 if __name__ == "__main__":

@@ -2,8 +2,6 @@
 """A static file server on the loopback, which takes the type of a file from its name and its bytes together.
 
 usage: static_server.py PORT FOLDER [SECONDS]"""
-from __future__ import annotations
-
 import asyncio
 import contextlib
 import email.utils
@@ -18,45 +16,34 @@ from collections.abc import Iterator
 from typing import BinaryIO
 
 import infer
-from infer import Standing
 from infer.aliases import BROWSER_OF
-from loopback import listen, number_of
+from loopback import number_of
 from serving import PIECE, SHORT, Client, Refusal, Server
 
 WHOLE = 1 << 20
 STATUS_OF = SHORT | {errno.EIO: 500}
+TARGET = re.compile(r"/(?:[!$&-\[\]-~]|%[0-9A-Fa-f]{2})*")
 UNKNOWN, PAGE = "application/octet-stream", "application/xhtml+xml"
 # What no browser runs, but for what is a text too, as an image in SVG is.
 SHOWN = {"image", "audio", "video", "font"}
+BELIEVED = {infer.Standing.AGREE, infer.Standing.NAME_REFINES, infer.Standing.BYTES_REFINE}
 
 
 def is_textual(mime_type: str) -> bool:
     return mime_type.startswith("text/") or mime_type.endswith(("xml", "json", "javascript"))
 
 
-def is_utf8(data: bytes) -> bool:
-    with contextlib.suppress(UnicodeDecodeError):
-        return data.decode("utf-8") is not None
-    return False
-
-
 def content_type(name: str, front: bytes) -> str:
     """The Content-Type, without a charset, for a name and the first bytes."""
     found = infer.named(name, front)
-    kind, told = found.type_of_name, found.type_of_bytes
-    if found.standing in (Standing.AGREE, Standing.NAME_REFINES):
-        kind = found.type
-    elif found.standing is Standing.BYTES_ALONE:
+    # Where the bytes are finer than the name, a page say that is named as a text, a browser is to see what the name has.
+    kind = found.type_of_name if found.standing is infer.Standing.BYTES_REFINE else found.type
+    if found.standing is infer.Standing.BYTES_ALONE:
         # What a browser runs is sent as such only if the name says so.
-        return BROWSER_OF.get(told.extension, told.mime) if told.group in SHOWN and not is_textual(told.mime) else UNKNOWN
-    elif found.standing is not Standing.BYTES_REFINE:
-        # A text can begin as anything: a script by "#!", a page in Markdown by a tag, a note by BM as a bitmap does.
-        if not kind or not is_textual(kind.mime) or infer.encoding(front) not in ("us-ascii", "utf-8"):
-            return UNKNOWN
-    return UNKNOWN if kind.is_own_name else BROWSER_OF.get(kind.extension, kind.mime)
-
-
-TARGET = re.compile(r"/(?:[!$&-\[\]-~]|%[0-9A-Fa-f]{2})*")
+        is_sent = found.type_of_bytes.group in SHOWN and not is_textual(kind.mime)
+    else:
+        is_sent = found.standing in BELIEVED and not kind.is_own_name
+    return BROWSER_OF.get(kind.extension, kind.mime) if is_sent else UNKNOWN
 
 
 def names_of(target: str) -> list[bytes]:
@@ -104,18 +91,12 @@ def is_listed(tag: str, listed: str) -> bool:
     return listed == "*" or tag in (it.strip(" \t") for it in listed.split(","))
 
 
-def seconds_of(date: str) -> float:
-    """The date in seconds, or infinity, which no file is later than, if it is none."""
-    with contextlib.suppress(TypeError, ValueError, LookupError, OverflowError):
-        return email.utils.parsedate_to_datetime(date).timestamp()
-    return float("inf")
-
-
 def is_known(headers: dict[str, str], tag: str, modified: str) -> bool:
     """Whether the client has the file as it is. A file that it wants only as it was is refused if it is another one."""
     if not is_listed(tag, headers.get("if-match", tag)):
         raise Refusal(412)
-    if "if-match" not in headers and seconds_of(modified) > seconds_of(headers.get("if-unmodified-since", "")):
+    date = email.utils.parsedate(headers.get("if-unmodified-since"))
+    if date and "if-match" not in headers and email.utils.parsedate(modified) > date:
         raise Refusal(412)
     if "if-none-match" in headers:
         return is_listed(tag, headers["if-none-match"].replace("W/", ""))
@@ -125,9 +106,11 @@ def is_known(headers: dict[str, str], tag: str, modified: str) -> bool:
 def type_fields(file: BinaryIO, name: str, size: int) -> list[tuple[str, str]]:
     """The headers that say what a file is. A charset is said of a text that was looked at as a whole."""
     front = file.read(infer.FRONT)
-    mime_type = content_type(name, front)
-    is_short_text = is_textual(mime_type) and size <= WHOLE
-    charset = "; charset=utf-8" if is_short_text and is_utf8(front + file.read(WHOLE)) else ""
+    mime_type, charset = content_type(name, front), ""
+    if is_textual(mime_type) and size <= WHOLE:
+        with contextlib.suppress(UnicodeDecodeError):
+            (front + file.read(WHOLE)).decode()
+            charset = "; charset=utf-8"
     # An image in SVG that is opened by itself is a page, whose scripts this stops.
     is_drawing = mime_type.endswith("xml") and mime_type != PAGE
     return [("Content-Type", mime_type + charset)] + [("Content-Security-Policy", "sandbox")] * is_drawing
@@ -184,7 +167,7 @@ def main() -> None:
     if number_of(port, 65535) < 0 or number_of(seconds, 86400) < 1 or not os.path.isdir(folder):
         sys.exit("usage: static_server.py PORT FOLDER [SECONDS]")
     top = os.open(folder, os.O_PATH | os.O_DIRECTORY)
-    asyncio.run(Server(lambda client: answer(top, client), int(seconds)).run(listen(int(port))))
+    asyncio.run(Server(lambda client: answer(top, client), int(seconds), lambda line: None).run(int(port)))
 
 
 if __name__ == "__main__":

@@ -2,8 +2,6 @@
 """An upload gate on the loopback: takes PUT /NAME, and keeps what its judge lets through.
 
 usage: upload_gate.py PORT FOLDER SECONDS [--types FILE] CLASS|MIME_TYPE,.."""
-from __future__ import annotations
-
 import asyncio
 import errno
 import os
@@ -12,7 +10,7 @@ import sys
 from typing import BinaryIO
 
 from judge_upload import Judge
-from loopback import Lines, fail, listen, number_of
+from loopback import Lines, fail, number_of
 from serving import SHORT, Client, Refusal, Server
 
 LARGEST = 8 << 20
@@ -89,7 +87,7 @@ def main() -> None:
     try:
         gate = Gate(folder, int(seconds), Judge(allowed, *types[1:]))
         gate.unnamed().close()
-        asyncio.run(Server(gate.answer, int(seconds), Lines().tell).run(listen(int(port))))
+        asyncio.run(Server(gate.answer, int(seconds), Lines().tell).run(int(port)))
     except (OSError, ValueError) as fault:
         fail(f"upload_gate.py: {fault}")
 
