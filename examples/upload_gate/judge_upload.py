@@ -3,13 +3,11 @@
 them. README.md says what it refuses.
 
 usage: judge_upload.py [--types FILE] CLASS|MIME_TYPE,.. FILE NAME [CONTENT_TYPE]"""
-from __future__ import annotations
-
 import os
 import sys
 
 import infer
-from infer.aliases import BROWSER, EXTENSION, MIME_TYPE
+from infer.aliases import BROWSER, MIME_TYPE
 from loopback import fail
 
 # The classes and extensions of files that honestly fit a type too: they are built on it, or hold files of it.
@@ -22,15 +20,10 @@ ARCHIVES = [{b"PK\1\2", b"PK\5\6"}, {b"Rar!\x1a\7"}, {b"7z\xbc\xaf\x27\x1c"}]
 PIECE = 65536
 
 
-def is_one(kind: infer.Type, names: set[str]) -> bool:
-    """Whether its class or its extension is one of these."""
-    return not names.isdisjoint((kind.group, kind.extension))
-
-
 def is_kin(kind: infer.Type, other: infer.Type) -> bool:
     """Whether honest files that are told as `kind` fit `other` too."""
     if other.extension in FITTING:
-        return is_one(kind, FITTING[other.extension])
+        return bool({kind.group, kind.extension} & FITTING[other.extension])
     return kind.group == other.group != "archive"
 
 
@@ -49,7 +42,7 @@ class Judge:
 
     def __init__(self, allowed: str, types: str = os.devnull) -> None:
         self.allowed, self.own = set(allowed.lower().split(",")), infer.Types.load(types)
-        known = {word.lower() for kind in infer.types for word in (kind.group, kind.mime)}
+        known = {word.lower() for kind in (*infer.types, *infer.further_types) for word in (kind.group, kind.mime)}
         if unknown := self.allowed - known - set(self.own.text.decode("ascii", "replace").lower().split()):
             raise ValueError(f"no class and no MIME type: {','.join(sorted(unknown))}")
 
@@ -62,12 +55,19 @@ class Judge:
         kind = own or built_in
         if kind is None:
             return 415, "these bytes are of no known type"
-        if self.allowed.isdisjoint((kind.group, kind.mime.lower())):
-            return 415, f"{kind.mime} is not allowed"
+        named = infer.named(name, data)
+        # By the wider answer too it is to be allowed: an SVG image is text/xml by the built-in types alone.
+        told = kind if own else named.type_of_bytes
+        for it in (kind, told):
+            if not self.allowed & {it.group, it.mime.lower()}:
+                return 415, f"{it.mime} is not allowed"
         if not extension and not claim:
             return 422, f"no extension and no Content-Type, but {kind.mime}"
-        if extension and extension != kind.extension.lower() and EXTENSION.get(extension) != kind.extension:
-            return 422, f"named .{extension}, but {kind.mime}"
+        # A name can only refuse. One of an own type has its extension, and the library knows no other.
+        agrees = not own and named.standing is infer.Standing.AGREE and told == kind
+        is_lie = not own and named.standing is infer.Standing.CONTRADICTS
+        if is_lie or extension not in ("", kind.extension.lower()) and not agrees:
+            return 422, f"named {'.' + extension if extension else named.type_of_name.mime}, but {told.mime}"
         if claim and claim != kind.mime.lower() and (own or (MIME_TYPE | BROWSER).get(claim) != kind.extension):
             return 422, f"claimed {claim}, but {kind.mime}"
         # An own type is judged as the built-in one is that it stands below.
@@ -76,7 +76,7 @@ class Judge:
             return 422, f"{kind.mime} that fits another type too"
         if parent.extension == "pdf" and not data.front.startswith(b"%PDF"):
             return 422, f"{kind.mime} behind something else"
-        if is_one(parent, CLOSED) and parent.extension != "ora" and hides_archive(path):
+        if {parent.group, parent.extension} & CLOSED and parent.extension != "ora" and hides_archive(path):
             return 422, f"{kind.mime} that holds an archive"
         return 201, kind.mime
 
