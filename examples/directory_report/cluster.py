@@ -8,7 +8,6 @@ from __future__ import annotations
 import argparse
 import contextlib
 import errno
-import functools
 import hashlib
 import io
 import json
@@ -24,7 +23,7 @@ import tempfile
 import threading
 import zlib
 from collections import Counter
-from collections.abc import Callable, Iterable, Iterator
+from collections.abc import Iterable, Iterator
 from concurrent.futures import FIRST_COMPLETED, CancelledError, Executor, Future, ProcessPoolExecutor, wait
 from concurrent.futures.process import BrokenProcessPool
 from dataclasses import dataclass
@@ -126,28 +125,13 @@ def read_front(folder: int, path: bytes) -> tuple[bytes, int]:
         return front, about.st_size
 
 
-def type_of_extension(word: str) -> infer.Type | None:
-    """The type that an extension says."""
+def claim(found: infer.Named, front: bytes, size: int) -> infer.NamedType | None:
+    """The type that the name says, if that is a lie. An old document can need more bytes than these to be told."""
     import infer
-    from infer.aliases import BUILT_ON, EXTENSION
-    return infer.get_type(ext=EXTENSION.get(word, word), more=True) or infer.get_type(ext=BUILT_ON.get(word, word), more=True)
-
-
-def disagreement(name: bytes, front: bytes, kind: infer.Type, type_of: Callable[[str], infer.Type | None]) -> infer.Type | None:
-    """The type that the name says, if it is another than that of the bytes; otherwise None."""
-    import infer
-    from infer.aliases import BUILT_ON
-    stem, _, last = os.path.basename(name).rpartition(b".")
-    word = os.fsdecode(last.lower()) if stem else ""
-    if word in ("", kind.extension):
+    said = found.type_of_name
+    if not front or not said or found.standing is not infer.Standing.CONTRADICTS:
         return None
-    claimed = type_of(word)
-    # A script need not begin with "#!", nor any text as its type's signature says.
-    if not claimed or (kind.mime == "text/plain" and claimed.group == "text"):
-        return None
-    right = {claimed.extension, BUILT_ON.get(word, claimed.extension)}
-    fits = any(it.extension in right or it.mime == claimed.mime for it in (kind, infer.guess(front)) if it)
-    return None if fits else claimed
+    return None if size > len(front) and said.extension and infer.may_become(front, said.extension, more=True) else said
 
 
 def named(name: bytes) -> dict[str, str]:
@@ -157,8 +141,8 @@ def named(name: bytes) -> dict[str, str]:
         return {"name_hex": name.hex()}
 
 
-def answer(entry: Entry, folder: int, sums: Counter[str], type_of: Callable[[str], infer.Type | None]) -> dict[str, str | None]:
-    """The line of a file, which is counted in the sums."""
+def answer(entry: Entry, folder: int, sums: Counter[str]) -> dict[str, object]:
+    """The line of a file, which is counted in the sums. An empty file has no type."""
     import infer
     try:
         if entry.fault:
@@ -166,23 +150,22 @@ def answer(entry: Entry, folder: int, sums: Counter[str], type_of: Callable[[str
         front, size = read_front(folder, os.path.basename(entry.below))
     except OSError as fault:
         return named(entry.name()) | {"fault": reason(fault)}
-    kind = infer.guess(front, more=True)
-    line = named(entry.name()) | (dict(zip(["mime_type", "extension", "class"], kind)) if kind else {"mime_type": None})
-    if encoding := infer.encoding(front):
-        line["encoding"] = encoding
-    key = "\t".join(kind) if kind else "unknown"
+    found = infer.named(entry.name(), front)
+    kind, group = (found.type, found.type_of_bytes and found.type_of_bytes.group) if front else (None, None)
+    told = {"extension": kind and kind.extension, "class": group, "empty": not front, "encoding": infer.encoding(front)}
+    line = named(entry.name()) | {"mime_type": kind and kind.mime} | {word: it for word, it in told.items() if it}
+    key = f"{kind.mime}\t{kind.extension or ''}\t{group or ''}" if kind else "unknown" if front else "empty"
     sums.update({f"files\t{key}": 1, f"bytes\t{key}": size})
-    if kind and (claimed := disagreement(entry.name(), front, kind, type_of)):
-        sums[f"disagree\t{claimed.extension}\t{kind.extension}"] += 1
-        line |= {"name_mime_type": claimed.mime, "name_extension": claimed.extension}
+    line |= {"standing": found.standing.value, "bytes": size}
+    if said := claim(found, front, size):
+        sums[f"disagree\t{said.extension or said.mime}\t{kind.extension or kind.mime if kind else 'unknown'}"] += 1
+        line |= {"name_mime_type": said.mime} | ({"name_extension": said.extension} if said.extension else {})
     return line
 
 
-def lines_of(part: list[Entry], sums: Counter[str]) -> Iterator[dict[str, str | None]]:
+def lines_of(part: list[Entry], sums: Counter[str]) -> Iterator[dict[str, object]]:
     """The lines of a partition. The folder of the last file stays open for the next."""
     last, folder = None, -1
-    # A type is looked for among all, and the names of a partition have few extensions.
-    type_of = functools.cache(type_of_extension)
     for entry in part:
         place = (entry.root, os.path.dirname(entry.below))
         if place != last and not entry.fault:
@@ -193,7 +176,7 @@ def lines_of(part: list[Entry], sums: Counter[str]) -> Iterator[dict[str, str | 
                 folder, last = open_folder(*place), place
             except OSError as fault:
                 entry = Entry(entry.root, entry.below, reason(fault))
-        line = answer(entry, folder, sums, type_of)
+        line = answer(entry, folder, sums)
         sums["faults"] += "fault" in line
         sums["names"] += 1
         yield line
@@ -216,7 +199,7 @@ def put(path: str, content: bytes) -> None:
     os.rename(file.name, path)
 
 
-def line_of(told: dict[str, str | None]) -> str:
+def line_of(told: dict[str, object]) -> str:
     """The line of a file, in which no name has what a terminal or a reader of lines obeys."""
     return OBEYED.sub(lambda it: f"\\u{ord(it[0]):04x}", json.dumps(told, ensure_ascii=False, separators=(",", ":"))) + "\n"
 
@@ -296,12 +279,12 @@ def clear(out: str, paths: set[str]) -> None:
 def summary(total: Counter[str]) -> dict[str, object]:
     keys = sorted((key[6:] for key in total if key.startswith("files\t")), key=lambda key: (-total[f"files\t{key}"], key))
     counts = {key: {"files": total[f"files\t{key}"], "bytes": total[f"bytes\t{key}"]} for key in keys}
-    unknown = counts.pop("unknown", {"files": 0, "bytes": 0})
+    unknown, empty = (counts.pop(key, {"files": 0, "bytes": 0}) for key in ("unknown", "empty"))
     types = [dict(zip(["mime_type", "extension", "class"], key.split("\t"))) | count for key, count in counts.items()]
     wrong = [(*key.split("\t")[1:], files) for key, files in sorted(total.items()) if key.startswith("disagree\t")]
     return {
         "files": total["names"] - total["faults"], "bytes": sum(it["bytes"] for it in [*counts.values(), unknown]), "faults": total["faults"],
-        "unknown": unknown, "types": types, "disagree": [dict(zip(["name_extension", "extension", "files"], it)) for it in wrong],
+        "unknown": unknown, "empty": empty, "types": types, "disagree": [dict(zip(["name_extension", "extension", "files"], it)) for it in wrong],
     }
 
 
@@ -313,7 +296,7 @@ def draw(told: dict, path: str) -> None:
         return
     matplotlib.use("Agg")
     from matplotlib import pyplot
-    types = [(it["extension"], it) for it in told["types"][:15]] + [("unknown", told["unknown"])]
+    types = [(it["extension"] or it["mime_type"], it) for it in told["types"][:15]] + [("unknown", told["unknown"])]
     wrong = sorted(((f"{it['name_extension']} is {it['extension']}", it["files"]) for it in told["disagree"]), key=lambda bar: -bar[1])
     panels = {
         "files": [(name, it["files"]) for name, it in types] + [("faults", told["faults"])],

@@ -1,10 +1,10 @@
 /* Tells the types of files whose names come on standard input, or that stand in folders. README.md says how. */
 #define _POSIX_C_SOURCE 200809L
-#include "infer_aliases.h"
 #include "infer_file.h"
 #include <dirent.h>
 #include <errno.h>
 #include <fcntl.h>
+#include <fnmatch.h>
 #include <limits.h>
 #include <stdio.h>
 #include <stdlib.h>
@@ -14,9 +14,9 @@
 #include <time.h>
 #include <unistd.h>
 
-/* How deep folders are entered, each of which holds a descriptor; room for an extension; milliseconds between two
- * progress lines. */
-enum { DEEPEST = 512, EXTENSION = 128, PACE = 200 };
+/* How deep folders are entered, each of which holds a descriptor; lists of types that were counted; milliseconds between
+ * two progress lines. */
+enum { DEEPEST = 512, LISTS = 1024, PACE = 200 };
 
 static const char help[] =
     "usage: directory_report [OPTION..] < NAMES\n"
@@ -24,29 +24,28 @@ static const char help[] =
     "\n"
     "Tells the type of each file by its first 8192 bytes. The names come on standard\n"
     "input, each up to a zero byte, or are those of all files in the folders:\n"
-    "\n"
     "    find . -type f -print0 | directory_report -j\n"
-    "    directory_report --summary -r /srv /home\n"
     "\n"
     "A line is the MIME type, the extension, the class and the name between tabs, and\n"
     "ends in a zero byte, or on a terminal as lines do. A fault is a line as well.\n"
-    "\n"
     "  -j            write JSON, an object on each line\n"
-    "  -r            walk the folders: no link is followed, only files are opened\n"
-    "  --more        give the wider answer, which knows further types, and how a text\n"
-    "                is encoded, before the name\n"
-    "  --types FILE  the same, and first ask the types that this file describes, each\n"
-    "                by a line such as: qoi image/qoi image - 14: @0 \"qoif\"\n"
+    "  --csv         write CSV, with a first line that names the columns\n"
+    "  --more        by the name too, and the encoding of a text before the name\n"
+    "  --types FILE  the same, and ask the types first that FILE describes, in lines\n"
+    "                such as: qoi image/qoi image - 14: @0 \"qoif\"\n"
     "  --summary     write a table instead: files and bytes by type\n"
-    "  --disagree    or write only the files whose name says another type than their\n"
-    "                bytes, with the type by the name before the name\n"
-    "\n"
-    "The status is 0 if some file could be read, or if there was none; 1 if none\n"
-    "could; 2 if lines are missing, or the arguments or the types are wrong.\n";
+    "  --disagree    tell only of files whose name is a lie, and of which\n"
+    "  -r            walk the folders: no link is followed, only files are opened\n"
+    "  --one-file-system, --exclude GLOB\n"
+    "                leave out of them what lies in others, or has such a name\n"
+    "The status is 0 if some file could be read, or there was none; 1 if none could;\n"
+    "2 if lines are missing, or a word is wrong; 3 if --disagree tells of some name.\n";
 
 struct options {
-    bool is_json, is_walk, is_more, is_summary, is_disagree, is_help;
+    bool is_json, is_csv, is_walk, is_more, is_summary, is_disagree, is_one_system, is_help;
     const char *types; /* the name of the file that describes types, or a null pointer */
+    const char **excluded;
+    size_t excluded_count;
 };
 
 /* A type of the caller. */
@@ -55,7 +54,7 @@ struct own_type {
     int32_t class_code;
 };
 
-/* The text that describes them, and what they show. Their numbers follow those of all rows. */
+/* The text that describes them, and what they show. */
 static struct {
     char *text, *words;
     size_t size, count;
@@ -68,27 +67,40 @@ struct name {
     bool is_cut, is_ended; /* it is longer than a path can be; it has its zero byte */
 };
 
-struct finding {
-    int32_t row, claimed; /* the answer; the row of the name if that is another type, and otherwise -1 */
-    uintmax_t bytes;
-    char encoding[INFER_TEXT_SIZE]; /* of a text, and otherwise empty */
-    const char *fault;              /* why there is no answer, or a null pointer */
+/* A type as it is told: its texts are null pointers if there is none. */
+struct type {
+    const char *mime_type, *extension, *class_name;
 };
 
-/* The files of a type. */
+struct finding {
+    struct type told, claimed; /* claimed is what a name says that is a lie */
+    uintmax_t bytes;
+    bool is_empty;
+    char encoding[INFER_TEXT_SIZE];  /* of a text, and otherwise empty */
+    const char *fault;               /* why there is no answer, or a null pointer */
+    struct infer_named_answer named; /* what the name and the bytes tell, if names were asked for */
+};
+
+/* The files that have these types, and the next of the list. */
 struct total {
-    int32_t row;
+    struct total *next;
+    struct type told, claimed;
+    bool is_empty;
     uintmax_t files, bytes;
 };
 
 struct report {
     struct options options;
     struct name name;
-    uintmax_t names, faults; /* how many names were read, and of how many the file could not be */
-    struct total *totals;    /* of each row, of each type of the caller, and then of no row */
-    bool is_seen;            /* the lines are written to a terminal */
-    bool is_shown;           /* the progress line */
-    long long shown, input;  /* when it was written last; the size of the list of names, or 0 */
+    struct finding found;          /* of the file that has the name */
+    uintmax_t names, faults, lies; /* how many names were read, of how many the file could not be, and how many lie */
+    struct total *totals[LISTS];
+    size_t total_count;
+    dev_t system;   /* the file system of the folder that is walked */
+    bool is_short;  /* there was too little memory to count all */
+    bool is_seen;   /* the lines are written to a terminal */
+    bool is_shown;  /* the progress line */
+    long long shown, input; /* when it was written last; the size of the list of names, or 0 */
 };
 
 /* An open folder of a walk, and the length of its name with a slash after it. */
@@ -115,26 +127,13 @@ static bool read_name(struct name *name) {
     return true;
 }
 
-/* The type of the caller with this number, or a null pointer. */
-static const struct own_type *own_type_of(int32_t row) {
-    int32_t rows = (int32_t)infer_more_row_count();
-    return row < rows ? NULL : &own.all[row - rows];
+static struct type type_of_row(int32_t row) {
+    if (row < 0)
+        return (struct type){NULL, NULL, NULL};
+    return (struct type){infer_mime_type_text(row), infer_extension_text(row), infer_class_name_text(infer_class(row))};
 }
 
-static const char *mime_type_of(int32_t row) { return own_type_of(row) ? own_type_of(row)->mime_type : infer_mime_type_text(row); }
-static const char *extension_of(int32_t row) { return own_type_of(row) ? own_type_of(row)->extension : infer_extension_text(row); }
-static int32_t class_code_of(int32_t row) { return own_type_of(row) ? own_type_of(row)->class_code : infer_class(row); }
-static const char *class_of(int32_t row) { return infer_class_name_text(class_code_of(row)); }
-static size_t type_count(void) { return infer_more_row_count() + own.count; }
-
-/* The row or the type with this extension, of those that are asked, or -1. */
-static int32_t row_of(const struct report *report, const char *extension) {
-    int32_t count = (int32_t)(report->options.is_more ? type_count() : infer_row_count());
-    for (int32_t row = 0; row < count; row++)
-        if (strcasecmp(extension_of(row), extension) == 0)
-            return row;
-    return -1;
-}
+static struct type type_of_own(const struct own_type *it) { return (struct type){it->mime_type, it->extension, infer_class_name_text(it->class_code)}; }
 
 static int32_t class_named(const char *name) {
     int32_t code = INFER_APP;
@@ -203,34 +202,23 @@ static bool take_types(const char *path) {
     return false;
 }
 
-/* The wider answer, before which the types of the caller are asked. */
-static int32_t answer_of(const unsigned char *front, size_t size) {
-    int32_t wider = infer_more_position(front, size);
+/* The type of the caller that the bytes have, or a null pointer. */
+static const struct own_type *own_type_of(const unsigned char *front, size_t size) {
     char mime_type[INFER_TYPES_TEXT_SIZE], extension[INFER_TYPES_TEXT_SIZE];
     int32_t code = own.text ? infer_types_get(own.text, own.size, front, size, mime_type, sizeof mime_type, extension, sizeof extension) : INFER_NO_ROW;
     for (size_t i = 0; code != INFER_NO_ROW && i < own.count; i++)
         if (own.all[i].class_code == code && strcmp(own.all[i].mime_type, mime_type) == 0 && strcmp(own.all[i].extension, extension) == 0)
-            return (int32_t)(infer_more_row_count() + i);
-    return wider;
+            return &own.all[i];
+    return NULL;
 }
 
-/* The extension of a name in lower case. It is empty if the name has none, or one that is longer than any type's. */
-static void put_extension(const struct name *name, char out[EXTENSION]) {
-    const char *last = strrchr(name->text, '/');
-    last = last ? last + 1 : name->text;
-    const char *dot = strrchr(last, '.');
-    size_t size = dot && dot > last ? strlen(dot + 1) : 0;
-    size = size < EXTENSION ? size : 0;
-    for (size_t i = 0; i < size; i++)
-        out[i] = dot[1 + i] >= 'A' && dot[1 + i] <= 'Z' ? (char)(dot[1 + i] - 'A' + 'a') : dot[1 + i];
-    out[size] = 0;
-}
-
-/* Whether a file of that row may have the extension, which claims another row. */
-static bool fits(int32_t row, const char *extension, int32_t claimed) {
-    const char *right = extension_of(row), *wider = infer_alias_target(INFER_ALIAS_BUILT_ON, extension);
-    bool is_same = strcasecmp(right, extension_of(claimed)) == 0 || (wider && strcmp(right, wider) == 0);
-    return is_same || strcmp(mime_type_of(row), mime_type_of(claimed)) == 0;
+/* The type of the caller whose extension the name has, or a null pointer. */
+static const struct own_type *own_type_named(const char *name) {
+    const char *last = strrchr(name, '/'), *dot = strrchr(last ? last + 1 : name, '.');
+    for (size_t i = 0; dot && i < own.count; i++)
+        if (strcasecmp(own.all[i].extension, dot + 1) == 0)
+            return &own.all[i];
+    return NULL;
 }
 
 /* The number of bytes at the front of the file, or -1. */
@@ -248,39 +236,35 @@ static ssize_t read_front(int fd, unsigned char front[INFER_FRONT]) {
     return (ssize_t)count;
 }
 
-/* The row that the name claims, if the bytes are of a known type and the name's is another; otherwise -1. An old document
- * can need more bytes than these to be told from another type: then the name is believed. */
-static int32_t claimed_row(const struct report *report, const unsigned char *front, size_t size, uintmax_t bytes) {
-    char extension[EXTENSION];
-    put_extension(&report->name, extension);
-    const char *same = infer_alias_target(INFER_ALIAS_EXTENSION, extension);
-    const char *wider = infer_alias_target(INFER_ALIAS_BUILT_ON, extension);
-    int32_t claimed = row_of(report, same ? same : extension);
-    if (claimed < 0 && wider)
-        claimed = row_of(report, wider);
-    if (!*extension || claimed < 0)
-        return -1;
-    int32_t row = infer_position(front, size), more = answer_of(front, size);
-    /* A script need not begin with "#!", nor any text as its type's signature says. */
-    bool is_plain = more >= 0 && strcmp(mime_type_of(more), "text/plain") == 0 && class_code_of(claimed) == INFER_TEXT;
-    bool is_known = (report->options.is_more ? more : row) >= 0;
-    bool is_open = bytes > size && (row < 0 || claimed < row) && infer_may_become(front, size, claimed);
-    return !is_known || is_plain || is_open || fits(row, extension, claimed) || fits(more, extension, claimed) ? -1 : claimed;
+/* Whether bytes after the first ones can still make the file what its name says: an old document can need more to be told. */
+static bool is_open(const unsigned char *front, size_t size, const struct finding *found) {
+    int32_t rows = found->bytes > size ? (int32_t)infer_more_row_count() : 0;
+    for (int32_t row = 0; row < rows; row++)
+        if (strcmp(infer_extension_text(row), found->named.name.extension) == 0 && infer_more_may_become(front, size, row))
+            return true;
+    return false;
 }
 
-/* Looks at an open file once more, for what infer_fd does not tell. */
-static int look_wider(const struct report *report, int fd, struct finding *found) {
-    unsigned char front[INFER_FRONT];
-    ssize_t size = read_front(fd, front);
-    if (size < 0)
-        return -1;
-    if (report->options.is_more) {
-        found->row = answer_of(front, (size_t)size);
-        infer_encoding(front, (size_t)size, found->encoding, sizeof found->encoding);
+/* Takes what the name and the bytes tell together. An empty file has no type, and its name is no lie. */
+static void name_joins(struct report *report, const unsigned char *front, size_t size) {
+    struct finding *found = &report->found;
+    struct infer_named_answer *named = &found->named;
+    infer_named(report->name.text, report->name.size, front, size, named);
+    if (size == 0)
+        return;
+    const struct own_type *mine = own_type_of(front, size), *said = own_type_named(report->name.text);
+    found->told = type_of_row(named->row);
+    if (mine) {
+        found->told = type_of_own(mine);
+    } else if (*named->told.mime_type) {
+        found->told.mime_type = named->told.mime_type;
+        found->told.extension = *named->told.extension ? named->told.extension : NULL;
     }
-    if (report->options.is_disagree)
-        found->claimed = claimed_row(report, front, (size_t)size, found->bytes);
-    return 0;
+    bool is_own = said && found->told.mime_type && strcmp(said->mime_type, found->told.mime_type) == 0;
+    if (said && !is_own && found->told.mime_type)
+        found->claimed = type_of_own(said);
+    else if (!said && named->standing == INFER_CONTRADICTS && !is_open(front, size, found))
+        found->claimed = (struct type){named->name.mime_type, *named->name.extension ? named->name.extension : NULL, NULL};
 }
 
 /* Opens a regular file and nothing else: a device can act as soon as it is opened. Opening a FIFO waits for a writer
@@ -299,18 +283,31 @@ static int open_file(int folder, const char *path, const struct stat *about, int
 
 static const char *fault_text(int fault) { return fault == ENOTSUP ? "Not a regular file" : strerror(fault); }
 
-/* What the file is. `about` may be of another file by now, so infer_fd asks the open one again. */
-static struct finding find(const struct report *report, int folder, const char *path, const struct stat *about, int flags) {
-    struct finding found = {.row = -1, .claimed = -1, .bytes = (uintmax_t)about->st_size};
+/* Looks at a file. `about` may be of another file by now, so the open one is asked again. */
+static void find(struct report *report, int folder, const char *path, const struct stat *about, int flags) {
+    const struct options *asked = &report->options;
+    struct finding *found = &report->found;
+    unsigned char front[INFER_FRONT];
+    struct stat opened = *about;
     int fd = open_file(folder, path, about, flags);
-    bool is_read = fd >= 0 && infer_fd(fd, &found.row) == 0;
-    bool is_wider = report->options.is_more || report->options.is_disagree;
-    if (is_read && is_wider)
-        is_read = look_wider(report, fd, &found) == 0;
-    found.fault = is_read ? NULL : fault_text(errno);
+    ssize_t size = fd >= 0 && fstat(fd, &opened) == 0 ? 0 : -1;
+    if (size == 0 && !S_ISREG(opened.st_mode)) {
+        errno = ENOTSUP;
+        size = -1;
+    }
+    if (size == 0)
+        size = read_front(fd, front);
+    *found = (struct finding){.bytes = (uintmax_t)opened.st_size, .is_empty = size == 0, .fault = size < 0 ? fault_text(errno) : NULL};
     if (fd >= 0)
         close(fd);
-    return found;
+    if (size < 0)
+        return;
+    if (asked->is_more)
+        infer_encoding(front, (size_t)size, found->encoding, sizeof found->encoding);
+    if (asked->is_more || asked->is_summary || asked->is_disagree)
+        name_joins(report, front, (size_t)size);
+    else
+        found->told = type_of_row(infer_position(front, (size_t)size));
 }
 
 /* The length of the UTF-8 character at the text's beginning, or 0 if it begins with none. */
@@ -383,46 +380,93 @@ static void put_json_name(const struct name *name) {
     putchar('"');
 }
 
-static void put_json_type(int32_t row) {
-    if (row < 0) {
-        fputs("\"mime_type\":null", stdout);
-        return;
-    }
-    printf("\"mime_type\":\"%s\",\"extension\":\"%s\"", mime_type_of(row), extension_of(row));
-    printf(",\"class\":\"%s\"", class_of(row));
+static void put_json_type(const struct type *it, bool is_empty) {
+    printf(it->mime_type ? "\"mime_type\":\"%s\"" : "\"mime_type\":null", it->mime_type);
+    if (it->extension)
+        printf(",\"extension\":\"%s\"", it->extension);
+    if (it->class_name)
+        printf(",\"class\":\"%s\"", it->class_name);
+    if (is_empty)
+        fputs(",\"empty\":true", stdout);
 }
 
-static void put_json_line(const struct name *name, const struct finding *found) {
-    put_json_name(name);
+static void put_json_claim(const struct type *it) {
+    if (it->mime_type)
+        printf(",\"name_mime_type\":\"%s\"", it->mime_type);
+    if (it->extension)
+        printf(",\"name_extension\":\"%s\"", it->extension);
+}
+
+static const char *standing_of(const struct finding *found) {
+    static const char *const words[] = {"agree", "name refines", "bytes refine", "bytes alone", "name alone", "contradicts", "nothing"};
+    return words[found->named.standing];
+}
+
+static void put_json_line(const struct report *report) {
+    const struct finding *found = &report->found;
+    put_json_name(&report->name);
     putchar(',');
     if (found->fault) {
         fputs("\"fault\":", stdout);
         put_json(found->fault);
-    } else {
-        put_json_type(found->row);
+        fputs("}\n", stdout);
+        return;
     }
+    put_json_type(&found->told, found->is_empty);
     if (*found->encoding)
         printf(",\"encoding\":\"%s\"", found->encoding);
-    if (found->claimed >= 0)
-        printf(",\"name_mime_type\":\"%s\",\"name_extension\":\"%s\"", mime_type_of(found->claimed), extension_of(found->claimed));
+    if (report->options.is_more)
+        printf(",\"standing\":\"%s\",\"bytes\":%ju", standing_of(found), found->bytes);
+    if (report->options.is_disagree)
+        put_json_claim(&found->claimed);
     fputs("}\n", stdout);
+}
+
+/* Writes a field of CSV, in which nothing is obeyed, and of which no table makes a sum. A path that begins as a sum does
+ * is the same path after "./". */
+static void put_csv(const char *text) {
+    fputs(strchr("=+-@", *text) && *text ? "\"./" : "\"", stdout);
+    for (const char *quote; (quote = strchr(text, '"')); text = quote + 1) {
+        char part[PATH_MAX + 1];
+        size_t size = (size_t)(quote - text);
+        memcpy(part, text, size);
+        part[size] = 0;
+        put_escaped(part, "\\");
+        fputs("\"\"", stdout);
+    }
+    put_escaped(text, "\\");
+    putchar('"');
+}
+
+static const char *or_none(const char *text) { return text ? text : ""; }
+
+static void put_csv_line(const struct report *report) {
+    const struct finding *found = &report->found;
+    const struct type *told = &found->told, *claimed = &found->claimed;
+    bool is_named = !found->fault && (report->options.is_more || report->options.is_disagree);
+    put_csv(report->name.text);
+    printf(",%s,%s,%s,%s,", found->is_empty ? "empty" : or_none(told->mime_type), or_none(told->extension), or_none(told->class_name), found->encoding);
+    printf("%s,%s,%s,", is_named ? standing_of(found) : "", or_none(claimed->mime_type), or_none(claimed->extension));
+    if (!found->fault)
+        printf("%ju", found->bytes);
+    printf(",%s\n", or_none(found->fault));
 }
 
 /* The name comes last, since it alone can have tabs. A terminal gets a line that it does not obey; all else gets the name
  * as it is, up to a zero byte, which no name has. */
-static void put_line(const struct report *report, const struct finding *found) {
+static void put_line(const struct report *report) {
+    const struct finding *found = &report->found;
+    const struct type *told = &found->told, *claimed = &found->claimed;
     if (found->fault)
         printf("fault\t%s\t-\t", found->fault);
-    else if (found->row >= 0)
-        printf("%s\t%s\t%s\t", mime_type_of(found->row), extension_of(found->row), class_of(found->row));
+    else if (told->mime_type)
+        printf("%s\t%s\t%s\t", told->mime_type, told->extension ? told->extension : "-", told->class_name ? told->class_name : "-");
     else
-        fputs("unknown\t-\t-\t", stdout);
+        printf("%s\t-\t-\t", found->is_empty ? "empty" : "unknown");
     if (report->options.is_more)
         printf("%s\t", *found->encoding ? found->encoding : "-");
-    if (report->options.is_disagree && found->claimed >= 0)
-        printf("%s\t%s\t", mime_type_of(found->claimed), extension_of(found->claimed));
-    else if (report->options.is_disagree)
-        fputs("-\t-\t", stdout);
+    if (report->options.is_disagree)
+        printf("%s\t%s\t", claimed->mime_type ? claimed->mime_type : "-", claimed->extension ? claimed->extension : "-");
     if (report->is_seen) {
         put_escaped(report->name.text, "\\");
         putchar('\n');
@@ -451,31 +495,83 @@ static void show(struct report *report) {
     fputs("\033[K", stderr);
 }
 
-static void count(struct report *report, const struct finding *found) {
-    report->names++;
-    report->faults += found->fault != NULL;
-    if (found->fault)
+static bool is_same_text(const char *left, const char *right) { return left && right ? strcmp(left, right) == 0 : left == right; }
+
+static bool is_same(const struct type *left, const struct type *right) {
+    return is_same_text(left->mime_type, right->mime_type) && is_same_text(left->extension, right->extension);
+}
+
+/* A number of a text that is another for most others. */
+static size_t mixed(size_t before, const char *text) {
+    size_t sum = before;
+    for (; text && *text; text++)
+        sum = sum * 31 + (unsigned char)*text;
+    return sum;
+}
+
+/* The texts in memory of their own, for as long as the program runs. */
+static bool keep(struct type *it) {
+    char *mime_type = it->mime_type ? strdup(it->mime_type) : NULL, *extension = it->extension ? strdup(it->extension) : NULL;
+    bool is_kept = !mime_type == !it->mime_type && !extension == !it->extension;
+    it->mime_type = mime_type;
+    it->extension = extension;
+    return is_kept;
+}
+
+/* Where the files of these types are counted, or a null pointer if there is too little memory. */
+static struct total *total_of(struct report *report, const struct finding *found) {
+    size_t list = mixed(mixed(found->is_empty, found->told.mime_type), found->claimed.mime_type) % LISTS;
+    struct total *it = report->totals[list];
+    while (it && !(it->is_empty == found->is_empty && is_same(&it->told, &found->told) && is_same(&it->claimed, &found->claimed)))
+        it = it->next;
+    if (it)
+        return it;
+    it = malloc(sizeof *it);
+    if (!it)
+        return NULL;
+    *it = (struct total){.next = report->totals[list], .told = found->told, .claimed = found->claimed, .is_empty = found->is_empty};
+    report->totals[list] = it;
+    report->total_count++;
+    return keep(&it->told) && keep(&it->claimed) ? it : NULL;
+}
+
+/* Counts the file with the others of its types, of which a claimed one is told if names that lie were asked for. */
+static void count(struct report *report) {
+    struct finding *found = &report->found;
+    struct total *total = total_of(report, found);
+    report->is_short = report->is_short || !total;
+    if (!total)
         return;
-    struct total *total = &report->totals[found->row < 0 ? type_count() : (size_t)found->row];
     total->files++;
     total->bytes += found->bytes;
 }
 
-static void put(struct report *report, const struct finding *found) {
-    count(report, found);
+static void put(struct report *report) {
+    struct finding *found = &report->found;
+    bool is_lie = found->claimed.mime_type;
+    report->names++;
+    report->faults += found->fault != NULL;
+    report->lies += is_lie;
     show(report);
-    bool is_kept = !report->options.is_disagree || found->fault || found->claimed >= 0;
-    if (report->options.is_summary || !is_kept)
+    if (report->options.is_disagree && !found->fault && !is_lie)
         return;
-    if (report->options.is_json)
-        put_json_line(&report->name, found);
+    if (!report->options.is_disagree)
+        found->claimed = (struct type){NULL, NULL, NULL};
+    if (report->options.is_summary && !found->fault)
+        count(report);
+    else if (report->options.is_summary)
+        return;
+    else if (report->options.is_json)
+        put_json_line(report);
+    else if (report->options.is_csv)
+        put_csv_line(report);
     else
-        put_line(report, found);
+        put_line(report);
 }
 
 static void put_fault(struct report *report, const char *fault) {
-    struct finding found = {.row = -1, .claimed = -1, .fault = fault};
-    put(report, &found);
+    report->found = (struct finding){.fault = fault};
+    put(report);
 }
 
 static void report_names(struct report *report) {
@@ -486,8 +582,8 @@ static void report_names(struct report *report) {
         } else if (stat(report->name.text, &about) != 0) {
             put_fault(report, fault_text(errno));
         } else {
-            struct finding found = find(report, AT_FDCWD, report->name.text, &about, 0);
-            put(report, &found);
+            find(report, AT_FDCWD, report->name.text, &about, 0);
+            put(report);
         }
     }
 }
@@ -519,26 +615,42 @@ static const char *enter(struct report *report, struct level *level, int folder,
     return NULL;
 }
 
+/* Whether an entry of a folder is left out: by its last name, or by all of it if there is a slash in what is excluded. */
+static bool is_excluded(const struct report *report, const char *entry) {
+    for (size_t i = 0; i < report->options.excluded_count; i++) {
+        const char *it = report->options.excluded[i];
+        if (fnmatch(it, strchr(it, '/') ? report->name.text : entry, 0) == 0)
+            return true;
+    }
+    return false;
+}
+
 /* Reports the entry that has the report's name if it is a file, and answers whether it is a folder that was entered. */
 static bool visit(struct report *report, struct level *levels, size_t depth, int folder, const char *path) {
     struct stat about = {0};
     const char *fault = NULL;
+    if (depth > 0 && is_excluded(report, path))
+        return false;
     if (report->name.is_cut)
         fault = strerror(ENAMETOOLONG);
     else if (fstatat(folder, path, &about, AT_SYMLINK_NOFOLLOW) != 0)
         fault = strerror(errno);
+    else if (S_ISDIR(about.st_mode) && depth > 0 && report->options.is_one_system && about.st_dev != report->system)
+        return false;
     else if (S_ISDIR(about.st_mode))
         fault = depth == DEEPEST ? "Too many folders in each other" : enter(report, &levels[depth], folder, path);
     else if (depth == 0 && S_ISLNK(about.st_mode))
         fault = "A link, which is not followed";
+    if (depth == 0)
+        report->system = about.st_dev;
     if (fault)
         put_fault(report, fault);
     if (fault || S_ISDIR(about.st_mode))
         return !fault;
     /* What is neither a file nor a folder is left out, as by find -type f, unless it was asked for by its name. */
     if (S_ISREG(about.st_mode) || depth == 0) {
-        struct finding found = find(report, folder, path, &about, O_NOFOLLOW);
-        put(report, &found);
+        find(report, folder, path, &about, O_NOFOLLOW);
+        put(report);
     }
     return false;
 }
@@ -569,61 +681,67 @@ static void walk(struct report *report, const char *path) {
     }
 }
 
+/* The most frequent come first, and what has no type last. */
 static int by_files(const void *left, const void *right) {
-    const struct total *a = left, *b = right;
+    const struct total *a = *(struct total *const *)left, *b = *(struct total *const *)right;
+    if (!a->told.mime_type != !b->told.mime_type)
+        return a->told.mime_type ? -1 : 1;
     if (a->files != b->files)
         return a->files < b->files ? 1 : -1;
-    return a->row < b->row ? -1 : a->row > b->row;
+    int order = strcmp(or_none(a->told.mime_type), or_none(b->told.mime_type));
+    order = order ? order : strcmp(or_none(a->told.extension), or_none(b->told.extension));
+    order = order ? order : strcmp(or_none(a->claimed.mime_type), or_none(b->claimed.mime_type));
+    return order ? order : b->is_empty - a->is_empty;
 }
 
-/* Some rows show the same type: the first of them gets what all have. Then the most frequent come first. */
-static void sort_totals(struct total *totals) {
-    size_t rows = type_count();
-    for (size_t i = 0; i < rows; i++) {
-        size_t first = 0;
-        while (totals[i].files && (strcmp(mime_type_of((int32_t)first), mime_type_of((int32_t)i)) != 0 ||
-                                   strcmp(extension_of((int32_t)first), extension_of((int32_t)i)) != 0))
-            first++;
-        if (first == i || totals[i].files == 0)
-            continue;
-        totals[first].files += totals[i].files;
-        totals[first].bytes += totals[i].bytes;
-        totals[i].files = 0;
-    }
-    qsort(totals, rows, sizeof *totals, by_files);
+/* All that was counted, in order, or a null pointer if there is too little memory. */
+static struct total **sorted_totals(const struct report *report) {
+    struct total **all = calloc(report->total_count + 1, sizeof *all);
+    size_t count = 0;
+    for (size_t list = 0; all && list < LISTS; list++)
+        for (struct total *it = report->totals[list]; it; it = it->next)
+            all[count++] = it;
+    if (all)
+        qsort(all, count, sizeof *all, by_files);
+    return all;
 }
 
 static void put_total(const struct report *report, const struct total *total) {
     double share = (double)total->files / (double)(report->names - report->faults);
+    const struct type *told = &total->told, *claimed = &total->claimed;
     if (report->options.is_json) {
         putchar('{');
-        put_json_type(total->row);
+        put_json_type(told, total->is_empty);
+        put_json_claim(claimed);
         printf(",\"files\":%ju,\"bytes\":%ju,\"share\":%.6f}\n", total->files, total->bytes, share);
         return;
     }
     printf("%12ju %18ju %6.1f %%  ", total->files, total->bytes, 100 * share);
-    if (total->row < 0)
-        puts("unknown");
-    else
-        printf("%s %s\n", mime_type_of(total->row), extension_of(total->row));
+    fputs(told->mime_type ? told->mime_type : total->is_empty ? "empty" : "unknown", stdout);
+    if (told->extension)
+        printf(" %s", told->extension);
+    if (claimed->mime_type)
+        printf(", named %s", claimed->mime_type);
+    putchar('\n');
 }
 
-static void put_summary(const struct report *report) {
-    size_t rows = type_count();
-    uintmax_t bytes = 0;
-    sort_totals(report->totals);
+static void put_summary(struct report *report) {
+    struct total **all = sorted_totals(report);
+    report->is_short = report->is_short || !all;
+    uintmax_t files = 0, bytes = 0;
     if (!report->options.is_json)
         printf("%12s %18s %8s  %s\n", "files", "bytes", "share", "type");
-    for (size_t i = 0; i <= rows; i++) {
-        bytes += report->totals[i].files ? report->totals[i].bytes : 0;
-        if (report->totals[i].files)
-            put_total(report, &report->totals[i]);
+    for (size_t i = 0; all && i < report->total_count; i++) {
+        files += all[i]->files;
+        bytes += all[i]->bytes;
+        put_total(report, all[i]);
     }
+    free(all);
     if (report->options.is_json) {
-        printf("{\"files\":%ju,\"bytes\":%ju,\"faults\":%ju}\n", report->names - report->faults, bytes, report->faults);
+        printf("{\"files\":%ju,\"bytes\":%ju,\"faults\":%ju}\n", files, bytes, report->faults);
         return;
     }
-    printf("%12ju %18ju %8s  all\n", report->names - report->faults, bytes, "");
+    printf("%12ju %18ju %8s  all\n", files, bytes, "");
     if (report->faults)
         printf("%12ju %18s %8s  could not be read\n", report->faults, "", "");
 }
@@ -639,9 +757,10 @@ static void put_suspicion(const struct report *report) {
 
 /* The flag of an option that was not given yet, or a null pointer. */
 static bool *flag_of(struct options *options, const char *word) {
-    static const char *const words[] = {"-j", "-r", "--more", "--summary", "--disagree", "--help"};
+    static const char *const words[] = {"-j", "--csv", "-r", "--more", "--summary", "--disagree", "--one-file-system", "--help"};
     bool *const flags[] = {
-        &options->is_json, &options->is_walk, &options->is_more, &options->is_summary, &options->is_disagree, &options->is_help,
+        &options->is_json, &options->is_csv, &options->is_walk, &options->is_more,
+        &options->is_summary, &options->is_disagree, &options->is_one_system, &options->is_help,
     };
     for (size_t i = 0; i < sizeof flags / sizeof *flags; i++)
         if (strcmp(words[i], word) == 0 && !*flags[i])
@@ -649,26 +768,48 @@ static bool *flag_of(struct options *options, const char *word) {
     return NULL;
 }
 
-/* Reads the arguments, and moves the folders to their front. The answer is how many folders there are, or -1. */
+/* Why these options do not go together, or a null pointer. */
+static const char *misfit(const struct options *options, int folders) {
+    bool is_wanting = options->is_one_system || options->excluded_count > 0;
+    return options->is_help                                                           ? NULL
+           : options->is_walk && folders == 0                                         ? "-r wants a folder"
+           : is_wanting && !options->is_walk                                          ? "--one-file-system and --exclude want -r"
+           : options->is_csv && (options->is_json || options->is_summary)             ? "--csv goes with neither -j nor --summary"
+                                                                                      : NULL;
+}
+
+/* Reads the arguments, and moves the folders to their front. The answer is how many folders there are, or -1 after what
+ * is wrong was told. */
 static int parse(int argc, char **argv, struct options *options) {
     int folders = 0;
     bool is_option = true;
-    for (int i = 1; i < argc; i++) {
+    const char *wrong = NULL;
+    for (int i = 1; i < argc && !wrong; i++) {
         bool *flag = NULL;
-        if (is_option && strcmp(argv[i], "--") == 0)
+        const char *word = argv[i];
+        bool has_next = i + 1 < argc;
+        if (is_option && strcmp(word, "--") == 0)
             is_option = false;
-        else if (!is_option || argv[i][0] != '-')
+        else if (!is_option || word[0] != '-')
             argv[folders++] = argv[i];
-        else if ((flag = flag_of(options, argv[i])))
+        else if ((flag = flag_of(options, word)))
             *flag = true;
-        else if (strcmp(argv[i], "--types") == 0 && !options->types && i + 1 < argc)
+        else if (strcmp(word, "--types") == 0 && !options->types && has_next)
             options->types = argv[++i];
+        else if (strcmp(word, "--exclude") == 0 && has_next)
+            options->excluded[options->excluded_count++] = argv[++i];
         else
-            return -1;
+            wrong = word;
+    }
+    if (!wrong && folders > 0 && !options->is_walk && !options->is_help)
+        wrong = argv[0];
+    const char *why = wrong ? "the word is wrong, or is there twice, or wants another: " : misfit(options, folders);
+    if (why) {
+        fprintf(stderr, "directory_report: %s%s\n", why, or_none(wrong));
+        fputs("usage: directory_report [OPTION..] < NAMES, and directory_report --help says more\n", stderr);
     }
     options->is_more = options->is_more || options->types;
-    bool is_right = options->is_walk == (folders > 0) && !(options->is_summary && options->is_disagree);
-    return is_right || options->is_help ? folders : -1;
+    return why ? -1 : folders;
 }
 
 /* A progress line is of use if names end some time, and mixes with no other lines. */
@@ -680,18 +821,12 @@ static void prepare_progress(struct report *report) {
     report->shown = report->is_shown ? now() : 0;
 }
 
-static bool make_totals(struct report *report) {
-    size_t rows = type_count();
-    report->totals = calloc(rows + 1, sizeof *report->totals);
-    for (size_t i = 0; report->totals && i <= rows; i++)
-        report->totals[i].row = i < rows ? (int32_t)i : -1;
-    return report->totals;
-}
-
 /* Writes the whole report, and answers the status. */
 static int run(struct report *report, char **folders, int count) {
     prepare_progress(report);
     report->is_seen = isatty(STDOUT_FILENO);
+    if (report->options.is_csv)
+        puts("name,mime_type,extension,class,encoding,standing,name_mime_type,name_extension,bytes,fault");
     for (int i = 0; i < count; i++)
         walk(report, folders[i]);
     if (!report->options.is_walk)
@@ -700,29 +835,30 @@ static int run(struct report *report, char **folders, int count) {
         fputs("\r\033[K", stderr);
     if (report->options.is_summary)
         put_summary(report);
-    bool is_whole = (report->options.is_walk || !ferror(stdin)) && !ferror(stdout);
+    if (report->is_short)
+        fprintf(stderr, "directory_report: %s\n", strerror(ENOMEM));
+    bool is_whole = !report->is_short && (report->options.is_walk || !ferror(stdin)) && !ferror(stdout);
     if (fflush(stdout) != 0 || !is_whole)
         return 2;
     if (report->names == 0 || report->faults < report->names)
-        return 0;
+        return report->lies && report->options.is_disagree ? 3 : 0;
     put_suspicion(report);
     return 1;
 }
 
 int main(int argc, char **argv) {
     static struct report report;
-    int folders = parse(argc, argv, &report.options);
-    if (folders >= 0 && report.options.is_help)
-        return fputs(help, stdout) < 0 || fflush(stdout) != 0 ? 2 : 0;
-    if (folders >= 0 && report.options.types && !take_types(report.options.types))
-        return 2;
-    if (folders < 0 || !make_totals(&report)) {
-        const char *why = folders < 0 ? "usage: directory_report [OPTION..] < NAMES, and directory_report --help says more" : strerror(ENOMEM);
-        fprintf(stderr, "%s\n", why);
+    report.options.excluded = calloc((size_t)argc, sizeof *report.options.excluded);
+    if (!report.options.excluded) {
+        fprintf(stderr, "directory_report: %s\n", strerror(ENOMEM));
         return 2;
     }
-    int status = run(&report, argv, folders);
-    free(report.totals);
+    int folders = parse(argc, argv, &report.options), status = 2;
+    if (folders >= 0 && report.options.is_help)
+        status = fputs(help, stdout) < 0 || fflush(stdout) != 0 ? 2 : 0;
+    else if (folders >= 0 && (!report.options.types || take_types(report.options.types)))
+        status = run(&report, argv, folders);
+    free(report.options.excluded);
     free(own.text);
     free(own.words);
     free(own.all);
