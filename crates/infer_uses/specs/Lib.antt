@@ -4,3 +4,5 @@ pub mod Counts
 pub mod Fields
 pub mod Labels
 pub mod Relays
+pub mod Sendings
+pub mod Uploads

@@ -1,6 +1,6 @@
-//! Six users of `infer`, each proved: what an upload gate lets pass, which type a file server sends, what a report on
-//! directories counts, what a labelling proxy writes, how a relay passes a stream on, and what a catalogue of wider
-//! answers tells.
+//! Eight users of `infer`, each proved: what an upload gate lets pass and which type a file server sends, by the built-in
+//! rows and by names, what a report on directories counts, what a labelling proxy writes, how a relay passes a stream on,
+//! and what a catalogue of wider answers tells.
 #![tactic(auto)]
 
 pub mod catalogue;
@@ -9,3 +9,7 @@ pub mod gate;
 pub mod label;
 pub mod name;
 pub mod relay;
+pub mod sending;
+#[cfg(test)]
+mod tests;
+pub mod upload;
