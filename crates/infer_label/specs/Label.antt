@@ -8,22 +8,24 @@ use Rattle.infer.specs.Triple.{Triple}
 use Rattle.infer_formats.specs.Text.{IsEncodingOf}
 use Rattle.infer_formats.specs.declared.text.Encoding.{Encoding}
 use Rattle.infer_more.specs.Wider.{IsWiderAnswer}
-use Rattle.infer_named.specs.Join.{Answer, extension_of, mime_type_of}
-use Rattle.infer_named.specs.Named.{IsNamed, answer_of}
+use Rattle.infer_named.specs.Join.{Answer, Told, extension_of, mime_type_of, type_of_name}
+use Rattle.infer_named.specs.Named.{IsNamed, answer_of, key_of}
 use Rattle.infer_named.specs.declared.join.Named.{Named}
 use Rattle.infer_named.specs.declared.join.Standing.{Standing}
+use Rattle.infer_named.specs.declared.join.Standing.TheVariants.{Agree, BytesAlone, BytesRefine, Contradicts, NameAlone, NameRefines, Nothing}
 use Rattle.infer_label.specs.declared.label.Label as code
 use Rattle.infer_label.specs.declared.options.Look.{Look}
 use Rattle.infer_label.specs.declared.options.Look.TheVariants as looks
 
--- the MIME type and the extension, if they are known, how the text is encoded, whether there are no bytes, and what the
--- name did, if it was asked
+-- the MIME type and the extension, if they are known, how the text is encoded, whether there are no bytes, what the name
+-- did, if it was asked, and the MIME type that it has, if the bytes contradict it
 pub record Label : Type 0 where
   pub mime_type : Option (List ℕ)
   pub extension : Option (List ℕ)
   pub encoding : Option Encoding
   pub is_empty : Bool
   pub standing : Option Standing
+  pub named : Option (List ℕ)
 
 abbrev pub is_empty : List ℕ → Bool
 is_empty b = length b == 0
@@ -34,14 +36,26 @@ mime_type_in t = option_map (λ it. it.mime_type) t
 abbrev pub extension_in : Option Triple → Option (List ℕ)
 extension_in t = option_map (λ it. it.extension) t
 
--- the label by an answer to a name and bytes, by a type of bytes alone, and by a built-in type
-abbrev pub by_both : Answer → Option Encoding → Bool → Label
-by_both a encoding empty = record {
+-- of a name whose type is this what is told beside a standing: the MIME type, if the bytes contradict it
+abbrev pub contradicted : Standing → Option Told → Option (List ℕ)
+contradicted Contradicts told = option_map mime_type_of told
+contradicted Agree told = None
+contradicted NameRefines told = None
+contradicted BytesRefine told = None
+contradicted BytesAlone told = None
+contradicted NameAlone told = None
+contradicted Nothing told = None
+
+-- the label by an answer to a name and bytes, where this is the type of the name; by a type of bytes alone; and by a built-in
+-- type
+abbrev pub by_both : Answer → Option Told → Option Encoding → Bool → Label
+by_both a name_type encoding empty = record {
   mime_type = option_map mime_type_of a.told;
   extension = option_and_then extension_of a.told;
   encoding = encoding;
   is_empty = empty;
   standing = Some a.standing;
+  named = contradicted a.standing name_type;
 }
 
 abbrev pub by_bytes : Option Triple → Option Encoding → Bool → Label
@@ -51,6 +65,7 @@ by_bytes t encoding empty = record {
   encoding = encoding;
   is_empty = empty;
   standing = None;
+  named = None;
 }
 
 abbrev pub by_built_in : Option Triple → Label
@@ -60,7 +75,7 @@ by_built_in t = by_bytes t None false
 -- the wider answer of b; or by its first built-in row
 abbrev pub IsLabel : Look → List ℕ → List ℕ → Label → Type 0
 IsLabel looks.NameAndBytes name b label =
-    (n : Named) × (encoding : Option Encoding) × IsNamed name b n × IsEncodingOf b encoding × (label ≡ by_both (answer_of n) encoding (is_empty b))
+    (n : Named) × (encoding : Option Encoding) × IsNamed name b n × IsEncodingOf b encoding × (label ≡ by_both (answer_of n) (type_of_name (key_of n)) encoding (is_empty b))
 IsLabel looks.Bytes name b label =
     (t : Option Triple) × (encoding : Option Encoding) × IsWiderAnswer b t × IsEncodingOf b encoding × (label ≡ by_bytes t encoding (is_empty b))
 IsLabel looks.BuiltIn name b label = (t : Option Triple) × IsAnswer (Accepts b) table t × (label ≡ by_built_in t)
@@ -73,4 +88,5 @@ label_listed l = record {
   encoding = l.encoding;
   is_empty = l.is_empty;
   standing = l.standing;
+  named = option_map (λ m. m.now) l.named;
 }

@@ -23,8 +23,8 @@ standing_name NameAlone = codes "name alone"
 standing_name Contradicts = codes "contradicts"
 standing_name Nothing = codes "nothing"
 
--- As a text: the MIME type and the extension; that there are no bytes; the encoding; and what the name did, where it did
--- something.
+-- As a text: the MIME type and the extension; that there are no bytes; the encoding; what the name did, where it did
+-- something; and the type that it has, where it contradicts.
 abbrev pub extension_text : Option (List ℕ) → List ℕ
 extension_text None = []
 extension_text (Some extension) = codes " " ++ extension
@@ -52,8 +52,13 @@ standing_text (Some BytesAlone) = []
 standing_text (Some Nothing) = []
 standing_text None = []
 
+abbrev pub named_text : Option (List ℕ) → List ℕ
+named_text None = []
+named_text (Some mime_type) = codes ": named " ++ mime_type
+
 abbrev pub label_text : Label → List ℕ
-label_text l = type_text l.mime_type l.extension l.is_empty ++ (encoding_text l.encoding ++ standing_text l.standing)
+label_text l =
+    type_text l.mime_type l.extension l.is_empty ++ (encoding_text l.encoding ++ (standing_text l.standing ++ named_text l.named))
 
 -- As an object of JSON: the name, or its bytes in hexadecimal if it is not UTF-8, and a member for what is known.
 abbrev pub utf8_member : List ℕ → List ℕ
@@ -85,8 +90,14 @@ abbrev pub standing_member : Option Standing → List ℕ
 standing_member None = []
 standing_member (Some standing) = codes ",\"standing\":\"" ++ (standing_name standing ++ codes "\"")
 
+abbrev pub named_member : Option (List ℕ) → List ℕ
+named_member None = []
+named_member (Some mime_type) = codes ",\"named\":\"" ++ (mime_type ++ codes "\"")
+
 abbrev pub label_members : Label → List ℕ
-label_members l = type_members l.mime_type l.extension ++ (empty_member l.is_empty ++ (encoding_member l.encoding ++ standing_member l.standing))
+label_members l =
+    type_members l.mime_type l.extension
+    ++ (empty_member l.is_empty ++ (encoding_member l.encoding ++ (standing_member l.standing ++ named_member l.named)))
 
 -- the line of an input with this name and label, with its line end
 abbrev pub line : Form → List ℕ → Label → List ℕ

@@ -2,7 +2,7 @@
 ghost use Rattle.std.specs.Prelude.{◌≡◌, None, Some, option_map};
 ghost use Rattle.std.specs.List.{flat_map};
 ghost use Rattle.infer_label.specs.Label.{label_listed};
-ghost use Rattle.infer_label.specs.Line.{empty_member, encoding_member, extension_member, fault_line, hex_member, label_members, line, name_member, standing_member, standing_name, type_members, utf8_member};
+ghost use Rattle.infer_label.specs.Line.{empty_member, encoding_member, extension_member, fault_line, hex_member, label_members, line, name_member, named_member, standing_member, standing_name, type_members, utf8_member};
 ghost use Rattle.infer_label.specs.Names.{byte_hex};
 ghost use Rattle.infer_label.specs.Writes.{Writes};
 
@@ -75,6 +75,7 @@ fn write_members<W: Write>(label: &Label, out: &mut WatchedWriter<'_, W>)
     write_empty_member(label.is_empty, out);
     write_encoding_member(label.encoding, out);
     write_standing_member(label.standing, out);
+    write_named_member(label.named, out);
 }
 
 fn write_type_members<W: Write>(
@@ -139,6 +140,14 @@ fn write_standing_member<W: Write>(standing: Option<Standing>, out: &mut Watched
     if let Some(standing) = standing {
         let name = standing_name(standing);
         write!(out, ",\"standing\":\"{name}\"");
+    }
+}
+
+fn write_named_member<W: Write>(named: Option<&'static str>, out: &mut WatchedWriter<'_, W>)
+    ensures { Writes W.contents out.old out.new (named_member (option_map (λ m. m.now) named.entry)) }
+{
+    if let Some(mime_type) = named {
+        write!(out, ",\"named\":\"{mime_type}\"");
     }
 }
 

@@ -2,14 +2,14 @@
 ghost use Rattle.std.specs.Prelude.{◌≡◌, ℕ, List, option_map};
 ghost use Rattle.std.specs.Option.{option_and_then};
 ghost use Rattle.infer.specs.Triple.{triple_of};
-ghost use Rattle.infer_named.specs.Join.{extension_of, mime_type_of};
-ghost use Rattle.infer_named.specs.Named.{told_listed};
-ghost use Rattle.infer_label.specs.Label.{IsLabel, extension_in, label_listed, mime_type_in};
+ghost use Rattle.infer_named.specs.Join.{extension_of, mime_type_of, type_of_name};
+ghost use Rattle.infer_named.specs.Named.{key_of, told_listed};
+ghost use Rattle.infer_label.specs.Label.{IsLabel, contradicted, extension_in, label_listed, mime_type_in};
 
 use crate::options::Look;
 use infer::Type;
 use infer_more::text::Encoding;
-use infer_named::{Standing, Told};
+use infer_named::{Named, Standing, Told};
 
 /// What is told of an input.
 #[derive(Clone, Copy)]
@@ -24,6 +24,8 @@ pub struct Label {
     pub is_empty: bool,
     /// What the name did, if it was asked.
     pub standing: Option<Standing>,
+    /// The MIME type that the name has, if the bytes contradict it.
+    pub named: Option<&'static str>,
 }
 
 /// What is told of an input with this name and these first bytes.
@@ -48,6 +50,22 @@ fn by_both(name: &[u8], buf: &[u8]) -> Label
         encoding: infer_more::encoding(buf),
         is_empty: buf.is_empty(),
         standing: Some(found.standing),
+        named: contradicted(found),
+    }
+}
+
+/// The MIME type that the name has, if the bytes contradict it.
+fn contradicted(found: Named) -> Option<&'static str>
+    ensures { option_map (λ m. m.now) result ≡ contradicted found.standing (type_of_name (key_of found)) }
+{
+    match found.standing {
+        Standing::Contradicts => mime_type_told(found.type_of_name()),
+        Standing::Agree
+        | Standing::NameRefines
+        | Standing::BytesRefine
+        | Standing::BytesAlone
+        | Standing::NameAlone
+        | Standing::Nothing => None,
     }
 }
 
@@ -80,6 +98,7 @@ fn by_bytes(buf: &[u8]) -> Label
         encoding: infer_more::encoding(buf),
         is_empty: buf.is_empty(),
         standing: None,
+        named: None,
     }
 }
 
@@ -94,6 +113,7 @@ fn by_built_in(buf: &[u8]) -> Label
         encoding: None,
         is_empty: false,
         standing: None,
+        named: None,
     }
 }
 

@@ -1,7 +1,7 @@
 //! The line of an input.
 ghost use Rattle.std.specs.Prelude.{◌≡◌, option_map};
 ghost use Rattle.infer_label.specs.Label.{label_listed};
-ghost use Rattle.infer_label.specs.Line.{empty_text, encoding_text, extension_text, fault_line, label_text, line, standing_text, type_text};
+ghost use Rattle.infer_label.specs.Line.{empty_text, encoding_text, extension_text, fault_line, label_text, line, named_text, standing_text, type_text};
 ghost use Rattle.infer_label.specs.Writes.{Writes};
 
 use crate::json::{write_json, write_json_fault};
@@ -57,6 +57,7 @@ fn write_label<W: Write>(label: &Label, out: &mut WatchedWriter<'_, W>)
     write_type(label.mime_type, label.extension, label.is_empty, out);
     write_encoding(label.encoding, out);
     write_standing(label.standing, out);
+    write_named(label.named, out);
 }
 
 fn write_type<W: Write>(
@@ -124,5 +125,14 @@ fn standing_text(standing: Option<Standing>) -> &'static [u8]
         Some(Standing::NameAlone) => b", name alone",
         Some(Standing::Contradicts) => b", contradicts",
         Some(Standing::Agree | Standing::BytesAlone | Standing::Nothing) | None => b"",
+    }
+}
+
+/// Writes the type that the name has, where the bytes contradict it.
+fn write_named<W: Write>(named: Option<&'static str>, out: &mut WatchedWriter<'_, W>)
+    ensures { Writes W.contents out.old out.new (named_text (option_map (λ m. m.now) named.entry)) }
+{
+    if let Some(mime_type) = named {
+        write!(out, ": named {mime_type}");
     }
 }
