@@ -280,7 +280,7 @@ fn takes(reading: &Reading, t: Type) -> bool
 fn is_among(t: Type, rows: &[u16]) -> bool
     ensures { result ≡ is_among (triple_of t) (map row_at rows.now) }
 {
-    let (extension, mime_type) = (t.extension(), t.mime_type());
+    let (extension, mime_type) = (t.extension().as_bytes(), t.mime_type().as_bytes());
     for number in rows {
         let row = row(*number);
         if row == extension || row == mime_type {

@@ -260,12 +260,12 @@ pub(crate) fn rows(number: u16) -> &'static [u16]
 
 /// The row of this number: its extension, or its MIME type where two types have one extension.
 #[tactic(auto, using(crate::proofs::StretchLemmas::element_listed, crate::proofs::StretchLemmas::past_listed))]
-pub(crate) fn row(number: u16) -> &'static str
+pub(crate) fn row(number: u16) -> &'static [u8]
     ensures { result.now ≡ row_at number }
 {
     match row_spans().get(usize::from(number)) {
-        Some(span) => row_text(*span),
-        None => "",
+        Some(span) => at(row_texts().as_bytes(), *span),
+        None => &[],
     }
 }
 
