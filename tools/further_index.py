@@ -266,9 +266,19 @@ def entries(rows, known=None, beside=()):
         yield from ((place, byte, number) for place, byte in sorted(chosen))
 
 
-def is_led(alternative):
-    """Whether the first byte tells enough: it is not nearly free, nor the zero of many files."""
+def is_begun(alternative):
+    """Whether it asks for a first byte, which is not nearly free."""
     return 0 in alternative and len(alternative[0]) < 32
+
+
+def is_led(alternative):
+    """Whether the first byte tells enough: it is no zero, as of many files."""
+    return is_begun(alternative) and 0 not in alternative[0]
+
+
+def is_listed(number, alternative, zeros):
+    """Whether it is told by its first byte: it tells enough, or the row is one of those that a zero has to tell."""
+    return is_led(alternative) or number in zeros and is_begun(alternative)
 
 
 def ways_of(alternative, known=None):
@@ -391,10 +401,22 @@ def gates(free):
             yield gate, inside
 
 
-def gated(rows):
+def with_zeros(rows):
+    """The rows that a first byte 00 has to tell, as few of the last as leave no more guards than the most, and what is left."""
+    begun = [number for number, row in enumerate(rows) if not row.parent and any(is_begun(it) and not is_led(it) for it in row.outlines(TOLD))]
+    for count in range(len(begun) + 1):
+        zeros = set(begun[len(begun) - count :])
+        found = gated(rows, zeros)
+        if len(found[1]) <= MOST_GUARDS:
+            break
+    return zeros, found
+
+
+def gated(rows, zeros):
     """The gate, the guards beside it and those behind it, for the rows of no parent whose first byte tells too little. Every
     buffer without an answer is asked for the guards and for the gate's byte, and few for the guards behind the gate."""
-    free = [(number, it) for number, row in enumerate(rows) if not row.parent for it in row.outlines(TOLD) if not is_led(it) and not is_wide(it)]
+    numbered = [(number, it) for number, row in enumerate(rows) if not row.parent for it in row.outlines(TOLD)]
+    free = [(number, it) for number, it in numbered if not is_listed(number, it, zeros) and not is_wide(it)]
     every = choose(free)
     ways = [(weigh(passing(free), every), (0, 0), list(guards(free, every)), [])]
     for gate, inside in gates(free):
@@ -497,15 +519,15 @@ def lists(rows, parents):
     yield "];\n"
     yield "pub(super) static PARENTLESS: Parentless = Parentless {"
     yield "    first: lists!["
-    led = [[(k, [it for it in row.outlines(TOLD) if is_led(it) and byte in it[0]]) for k, row in numbered if not row.parent] for byte in range(256)]
+    zeros, ((place, first), outside, inside) = with_zeros(rows)
+    led = [[(k, [it for it in row.outlines(TOLD) if is_listed(k, it, zeros) and byte in it[0]]) for k, row in numbered if not row.parent] for byte in range(256)]
     yield from in_lines(entries([it for it in some if it[1]], (0, byte)) for byte, some in enumerate(led))
     yield "    ],"
-    (place, byte), outside, inside = gated(rows)
     yield "    guards: guards!["
     yield from in_guards(outside)
     yield "    ],"
     yield "    gate: gate!["
-    yield f"        {place} 0x{byte:02X}"
+    yield f"        {place} 0x{first:02X}"
     yield from in_guards(inside)
     yield "    ],"
     yield "    ranges: ranges!["

@@ -33,6 +33,7 @@ pub fn is_decided(buf: &[u8]) -> bool
 /// assert_eq!(rt; infer::position_for_good(b"MZ"), Some(Some(rows::EXE)));
 /// assert_eq!(rt; infer::position_for_good(b"M"), None);
 /// ```
+#[inline(always)]
 pub fn position_for_good(buf: &[u8]) -> Option<Option<usize>>
     ensures decided { IfSome result (IsAnswerForGood buf.now) }
     ensures open { result ≡ None → IsChangeable buf.now }

@@ -1658,140 +1658,140 @@ is-image-openraster = 550
 abbrev pub is-image-png : ℕ
 is-image-png = 551
 
+abbrev pub is-image-qoi : ℕ
+is-image-qoi = 552
+
 abbrev pub is-image-svg-xml : ℕ
-is-image-svg-xml = 552
+is-image-svg-xml = 553
 
 abbrev pub is-image-svg-xml-compressed : ℕ
-is-image-svg-xml-compressed = 553
+is-image-svg-xml-compressed = 554
 
 abbrev pub is-image-tiff : ℕ
-is-image-tiff = 554
+is-image-tiff = 555
 
 abbrev pub is-image-vnd-adobe-photoshop : ℕ
-is-image-vnd-adobe-photoshop = 555
+is-image-vnd-adobe-photoshop = 556
 
 abbrev pub is-image-vnd-djvu : ℕ
-is-image-vnd-djvu = 556
+is-image-vnd-djvu = 557
 
 abbrev pub is-image-vnd-dwg : ℕ
-is-image-vnd-dwg = 557
+is-image-vnd-dwg = 558
 
 abbrev pub is-image-vnd-dxf : ℕ
-is-image-vnd-dxf = 558
+is-image-vnd-dxf = 559
 
 abbrev pub is-image-vnd-fpx : ℕ
-is-image-vnd-fpx = 559
+is-image-vnd-fpx = 560
 
 abbrev pub is-image-vnd-microsoft-icon : ℕ
-is-image-vnd-microsoft-icon = 560
+is-image-vnd-microsoft-icon = 561
 
 abbrev pub is-image-vnd-ms-photo : ℕ
-is-image-vnd-ms-photo = 561
+is-image-vnd-ms-photo = 562
 
 abbrev pub is-image-vnd-radiance : ℕ
-is-image-vnd-radiance = 562
+is-image-vnd-radiance = 563
 
 abbrev pub is-image-vnd-zbrush-pcx : ℕ
-is-image-vnd-zbrush-pcx = 563
+is-image-vnd-zbrush-pcx = 564
 
 abbrev pub is-image-webp : ℕ
-is-image-webp = 564
+is-image-webp = 565
 
 abbrev pub is-image-wmf : ℕ
-is-image-wmf = 565
+is-image-wmf = 566
 
 abbrev pub is-image-x-3ds : ℕ
-is-image-x-3ds = 566
+is-image-x-3ds = 567
 
 abbrev pub is-image-x-adobe-dng : ℕ
-is-image-x-adobe-dng = 567
+is-image-x-adobe-dng = 568
 
 abbrev pub is-image-x-canon-cr2 : ℕ
-is-image-x-canon-cr2 = 568
+is-image-x-canon-cr2 = 569
 
 abbrev pub is-image-x-canon-cr3 : ℕ
-is-image-x-canon-cr3 = 569
+is-image-x-canon-cr3 = 570
 
 abbrev pub is-image-x-cmu-raster : ℕ
-is-image-x-cmu-raster = 570
+is-image-x-cmu-raster = 571
 
 abbrev pub is-image-x-dds : ℕ
-is-image-x-dds = 571
+is-image-x-dds = 572
 
 abbrev pub is-image-x-eps : ℕ
-is-image-x-eps = 572
+is-image-x-eps = 573
 
 abbrev pub is-image-x-epson-erf : ℕ
-is-image-x-epson-erf = 573
+is-image-x-epson-erf = 574
 
 abbrev pub is-image-x-exr : ℕ
-is-image-x-exr = 574
+is-image-x-exr = 575
 
 abbrev pub is-image-x-fuji-raf : ℕ
-is-image-x-fuji-raf = 575
+is-image-x-fuji-raf = 576
 
 abbrev pub is-image-x-gimp-gbr : ℕ
-is-image-x-gimp-gbr = 576
+is-image-x-gimp-gbr = 577
 
 abbrev pub is-image-x-gimp-pat : ℕ
-is-image-x-gimp-pat = 577
+is-image-x-gimp-pat = 578
 
 abbrev pub is-image-x-hasselblad-3fr : ℕ
-is-image-x-hasselblad-3fr = 578
+is-image-x-hasselblad-3fr = 579
 
 abbrev pub is-image-x-icns : ℕ
-is-image-x-icns = 579
+is-image-x-icns = 580
 
 abbrev pub is-image-x-ilbm : ℕ
-is-image-x-ilbm = 580
+is-image-x-ilbm = 581
 
 abbrev pub is-image-x-jp2-codestream : ℕ
-is-image-x-jp2-codestream = 581
+is-image-x-jp2-codestream = 582
 
 abbrev pub is-image-x-kodak-dcr : ℕ
-is-image-x-kodak-dcr = 582
+is-image-x-kodak-dcr = 583
 
 abbrev pub is-image-x-kodak-kdc : ℕ
-is-image-x-kodak-kdc = 583
+is-image-x-kodak-kdc = 584
 
 abbrev pub is-image-x-mamiya-mef : ℕ
-is-image-x-mamiya-mef = 584
+is-image-x-mamiya-mef = 585
 
 abbrev pub is-image-x-minolta-mrw : ℕ
-is-image-x-minolta-mrw = 585
+is-image-x-minolta-mrw = 586
 
 abbrev pub is-image-x-nikon-nef : ℕ
-is-image-x-nikon-nef = 586
+is-image-x-nikon-nef = 587
 
 abbrev pub is-image-x-nikon-nrw : ℕ
-is-image-x-nikon-nrw = 587
+is-image-x-nikon-nrw = 588
 
 abbrev pub is-image-x-olympus-orf : ℕ
-is-image-x-olympus-orf = 588
+is-image-x-olympus-orf = 589
 
 abbrev pub is-image-x-panasonic-rw2 : ℕ
-is-image-x-panasonic-rw2 = 589
+is-image-x-panasonic-rw2 = 590
 
 abbrev pub is-image-x-pentax-pef : ℕ
-is-image-x-pentax-pef = 590
+is-image-x-pentax-pef = 591
 
 abbrev pub is-image-x-pict : ℕ
-is-image-x-pict = 591
+is-image-x-pict = 592
 
 abbrev pub is-image-x-portable-anymap : ℕ
-is-image-x-portable-anymap = 592
+is-image-x-portable-anymap = 593
 
 abbrev pub is-image-x-portable-bitmap : ℕ
-is-image-x-portable-bitmap = 593
+is-image-x-portable-bitmap = 594
 
 abbrev pub is-image-x-portable-graymap : ℕ
-is-image-x-portable-graymap = 594
+is-image-x-portable-graymap = 595
 
 abbrev pub is-image-x-portable-pixmap : ℕ
-is-image-x-portable-pixmap = 595
-
-abbrev pub is-image-x-qoi : ℕ
-is-image-x-qoi = 596
+is-image-x-portable-pixmap = 596
 
 abbrev pub is-image-x-samsung-srw : ℕ
 is-image-x-samsung-srw = 597
@@ -3648,6 +3648,7 @@ types_2 =
     ∷ named (codes "image/ktx2") (row (codes "ktx2"))
     ∷ named (codes "image/openraster") (row (codes "ora"))
     ∷ named (codes "image/png") (row (codes "png"))
+    ∷ named (codes "image/qoi") own
     ∷ named (codes "image/svg+xml") (row (codes "svg"))
     ∷ named (codes "image/svg+xml-compressed") known
     ∷ named (codes "image/tiff") (row (codes "tif"))
@@ -3692,7 +3693,6 @@ types_2 =
     ∷ named (codes "image/x-portable-bitmap") known
     ∷ named (codes "image/x-portable-graymap") known
     ∷ named (codes "image/x-portable-pixmap") known
-    ∷ named (codes "image/x-qoi") (row (codes "qoi"))
     ∷ named (codes "image/x-samsung-srw") own
     ∷ named (codes "image/x-sgi") (row (codes "sgi"))
     ∷ named (codes "image/x-sigma-x3f") (row (codes "x3f"))
