@@ -1,5 +1,5 @@
 -- A buffer is decided just if none of the rows before its answer may still accept it.
-use Rattle.infer.proofs.Common.{AllWithin-more, add-one, ◌≡◌, ◌↔◌, ◌<◌, ◌≤◌, le_refl, ◌∙◌, sym, refl, zero, suc, ℕ, Bool, true, List, [], ◌∷◌, ◌++◌, length, get_or, Option, None, Some, IfSome, is_some, All, IsTrue, subst, append_assoc, append-nil, arith, AllPass-from_list_all, All-append, All-nil, AllWithin-none, AllWithin, list_all, MayBecome, MayBecomeIsExact, is_sound, Alternative, stands, BuiltIn, fixed, IsAccepted, IsAnswerForGood, IsBuffer, CanBeDecided, DecidedByRows, DecidedLasts, FirstOpenComes, IsChangeable, IsDecided, IsToldExactly, MayBecomeRow, ReachNarrows, TellsMayBecome, rows_before, IsFirst, IsFirstOf, NoneHas, Leads, candidates_of, Lasts, signatures, Row, Accepts, signature_of, table, IsFirstAmong, RowHas, EXE}
+use Rattle.infer.proofs.Common.{AllWithin-more, add-one, ◌≡◌, ◌↔◌, ◌<◌, ◌≤◌, le_refl, ◌∙◌, sym, refl, zero, suc, ℕ, Bool, true, List, [], ◌∷◌, ◌++◌, length, get_or, Option, None, Some, IfSome, All, IsTrue, subst, append_assoc, append-nil, arith, AllPass-from_list_all, All-append, All-nil, AllWithin-none, AllWithin, list_all, MayBecome, MayBecomeIsExact, is_sound, Alternative, stands, BuiltIn, fixed, IsAccepted, IsAnswerForGood, IsBuffer, CanBeDecided, DecidedByRows, DecidedLasts, FirstOpenComes, IsChangeable, IsDecided, IsToldExactly, MayBecomeRow, ReachNarrows, TellsMayBecome, rows_before, IsFirst, IsFirstOf, NoneHas, Leads, candidates_of, Lasts, signatures, Row, Accepts, signature_of, table, IsFirstAmong, RowHas, EXE}
 use Rattle.std.specs.Bool.{then_some}
 use Rattle.std.proofs.lemmas.Option.{slice_get_cases}
 use Rattle.infer.proofs.TableLemmas.{signature_has}
@@ -82,11 +82,6 @@ not_unanswered P xs none = none None (none_first P xs none (length xs) (le_refl 
 undecided : (b : List ℕ) → IsChangeable b → ¬ IsDecided b
 undecided b (more, bytes, changes) decided = not_unanswered (Accepts b) table (λ o first. changes o first (decided more o bytes first))
 
--- so a buffer is decided just if it has an answer for good
-pub decided_by_answer : (b : List ℕ) (o : Option (Option ℕ)) → IfSome o (IsAnswerForGood b) → (o ≡ None → IsChangeable b) → IsTrue (is_some o) ↔ IsDecided b
-decided_by_answer b None answer open_it = (λ t. absurd (cc), λ d. absurd (undecided b (open_it refl) d))
-decided_by_answer b (Some o) answer open_it = (λ t. answer.decided, λ d. refl)
-
 pub first_open_comes : FirstOpenComes
 first_open_comes b i first =
     let (more, bytes, a) = first.here some_row in
@@ -112,7 +107,7 @@ module _ (lasts : (s : BuiltIn) → Lasts (IsAccepted s)) (b : List ℕ) where
     first_accepts : (o : Option ℕ) → o ≡ Some i → IsFirstOf (Accepts b) table o → RowHas (Accepts b) i
     first_accepts o e now = let at : IsFirst (Accepts b) table i = rw e at now in (read_has (Accepts b) table i).1 (at.within, at.here)
 
-    changes_by_first : (¬ RowHas (Accepts b) i) → IsChangeable b
+    pub changes_by_first : (¬ RowHas (Accepts b) i) → IsChangeable b
     changes_by_first not =
         let (more, bytes, comes) = first_open_comes b i first in
         (more, bytes, λ o now then. not (first_accepts o (IsFirstOf-same (Accepts (b ++ more)) table o (Some i) then comes) now))
@@ -125,6 +120,12 @@ module _ (lasts : (s : BuiltIn) → Lasts (IsAccepted s)) (b : List ℕ) where
           before = λ k d low lt a. first.before k d low lt (may_accept_now lasts b (get_or table k d) a);
         } in
         record { now = now; decided = (decided_by_rows lasts b (Some i) now).1 first.before }
+
+    decided_if_accepted : RowHas (Accepts b) i → IsDecided b
+    decided_if_accepted here = (answer_if_accepted here).decided
+
+    pub decided_by_first : (r : Bool) → IsTrue r ↔ RowHas (Accepts b) i → IsTrue r ↔ IsDecided b
+    decided_by_first r h = grind (arith, decided_if_accepted, undecided, changes_by_first)
 
     pub answer_by_first : (r : Bool) (o : Option (Option ℕ)) → o ≡ then_some r (Some i) → IsTrue r ↔ RowHas (Accepts b) i
         → IfSome o (IsAnswerForGood b) × (o ≡ None → IsChangeable b)
@@ -150,6 +151,9 @@ empty_changes blank (x ∷ b) none = absurd (omega (arith, none))
 empty_changes blank [] none =
     let none_first = λ (o : Option ℕ) (first : IsFirstOf (Accepts []) table o). IsFirstOf-same (Accepts []) table o None first blank in
     (program, bytes_from_test program refl, λ o first then. some_accepts (rw (none_first o first) at then))
+
+pub empty_open : NoneHas (Accepts []) table → (b : List ℕ) → length b ≡ 0 → ¬ IsDecided b
+empty_open blank b none = undecided b (empty_changes blank b none)
 
 -- the first of the candidates that may accept the buffer is the first row of the table that may
 pub first_open_row : ((s : BuiltIn) → Leads s) → (b cs : List ℕ) (o : Option ℕ) → 0 < length b → cs ≡ candidates_of b

@@ -11,33 +11,40 @@ use crate::table::rows::ROW_COUNT;
 /// Whether no bytes after `buf` change its answer. If this is false, some bytes do. The empty buffer is never decided, and
 /// every other can be: some bytes after it make a buffer that is.
 ///
+/// The first candidate that may still accept `buf` is the answer of some longer buffer. So `buf` is decided exactly if
+/// that row accepts it already, or if there is none.
+///
 /// ```
 /// assert!(rt; infer::is_decided(b"MZ") && !infer::is_decided(b"M"));
 /// ```
-#[tactic(auto, using(crate::proofs::DecidedLemmas::decided_by_answer))]
 pub fn is_decided(buf: &[u8]) -> bool
     ensures exact { IsTrue result ↔ IsDecided buf.now }
     ensures open { IsFalse result → IsChangeable buf.now }
     ensures can_be { 0 < length buf.now → CanBeDecided buf.now }
 {
-    position_for_good(buf).is_some()
+    leads();
+    blank();
+    infer_sig::laws::growth();
+    infer_deep::laws::growth();
+    let Some(first) = buf.first() else {
+        return false;
+    };
+    match first_open(candidates_at(arm_of(*first)), buf) {
+        Some(row) => accepts_at(row, buf),
+        None => true,
+    }
 }
 
-/// The answer of `buf` if no bytes after it change it: the number of its row, or that it has none. If this is `None`, some
-/// bytes change it.
-///
-/// The first candidate that may still accept `buf` is the answer of some longer buffer. So `buf` is decided exactly if
-/// that row accepts it already, or if there is none.
+/// The answer of `buf` if it is decided: the number of its row, or that it has none.
 ///
 /// ```
 /// assert_eq!(rt; infer::position_for_good(b"MZ"), Some(Some(rows::EXE)));
 /// assert_eq!(rt; infer::position_for_good(b"M"), None);
 /// ```
-#[inline(always)]
+// No part of `is_decided`, which keeps no number, and so takes fewer instructions.
 pub fn position_for_good(buf: &[u8]) -> Option<Option<usize>>
     ensures decided { IfSome result (IsAnswerForGood buf.now) }
     ensures open { result ≡ None → IsChangeable buf.now }
-    ensures can_be { 0 < length buf.now → CanBeDecided buf.now }
 {
     leads();
     blank();

@@ -1,5 +1,5 @@
 use Rattle.infer.proofs.Common.{◌≡◌, ◌<◌, length, Some, None, arith, rules}
-use Rattle.infer.proofs.DecidedLemmas.{answer_by_first, answer_if_none, decided_itself, decided_with_first, empty_changes, first_open_row}
+use Rattle.infer.proofs.DecidedLemmas.{answer_by_first, answer_if_none, empty_changes, first_open_row}
 use Rattle.infer.proofs.LawLemmas.{every_lasts}
 use Rattle.infer.proofs.TableLemmas.{length-table}
 use Rattle.infer.proofs.decided.position_for_good.Goals as goal
@@ -22,11 +22,10 @@ returns-in-Some c =
     let first = first_open_row c.leads.ensures c.args.buf.now _ (Some row) long (search rules) c.in-Some.ensures in
     let lasts = every_lasts c.growth.ensures c.growth-2.ensures in
     let answer = answer_by_first lasts c.args.buf.now row first c.accepts_at.result c.then_some.result c.then_some.ensures c.accepts_at.ensures in
-    record { decided = answer.0; «open» = answer.1; can_be = λ l. decided_with_first lasts c.args.buf.now row first }
+    record { decided = answer.0; «open» = answer.1 }
 
 pub returns-in-None : goal.returns-in-None
 returns-in-None c =
     let long : 0 < length c.args.buf.now = grind (arith) in
     let first = first_open_row c.leads.ensures c.args.buf.now _ None long (search rules) c.in-None.ensures in
-    let answer = answer_if_none (every_lasts c.growth.ensures c.growth-2.ensures) c.args.buf.now first in
-    record { decided = answer; «open» = λ e. absurd (cc); can_be = λ l. decided_itself c.args.buf.now answer.decided }
+    record { decided = answer_if_none (every_lasts c.growth.ensures c.growth-2.ensures) c.args.buf.now first; «open» = λ e. absurd (cc) }
