@@ -1,6 +1,6 @@
 //! What more bytes can change of an answer.
-ghost use Rattle.std.specs.Prelude.{◌≡◌, ◌↔◌, ◌<◌, IfSome, IsFalse, IsTrue, None, length};
-ghost use Rattle.infer.specs.Decided.{CanBeDecided, IsAnswerForGood, IsChangeable, IsDecided, MayBecomeRow};
+ghost use Rattle.std.specs.Prelude.{◌↔◌, ◌<◌, IsFalse, IsTrue, length};
+ghost use Rattle.infer.specs.Decided.{CanBeDecided, IsChangeable, IsDecided, MayBecomeRow};
 ghost use Rattle.infer.specs.Walks.{IsFirstAmong, RowHas};
 
 use crate::ask::question::accepts_at;
@@ -32,28 +32,6 @@ pub fn is_decided(buf: &[u8]) -> bool
     match first_open(candidates_at(arm_of(*first)), buf) {
         Some(row) => accepts_at(row, buf),
         None => true,
-    }
-}
-
-/// The answer of `buf` if it is decided: the number of its row, or that it has none.
-///
-/// ```
-/// assert_eq!(rt; infer::position_for_good(b"MZ"), Some(Some(rows::EXE)));
-/// assert_eq!(rt; infer::position_for_good(b"M"), None);
-/// ```
-// No part of `is_decided`, which keeps no number, and so takes fewer instructions.
-pub fn position_for_good(buf: &[u8]) -> Option<Option<usize>>
-    ensures decided { IfSome result (IsAnswerForGood buf.now) }
-    ensures open { result ≡ None → IsChangeable buf.now }
-{
-    leads();
-    blank();
-    infer_sig::laws::growth();
-    infer_deep::laws::growth();
-    let first = buf.first()?;
-    match first_open(candidates_at(arm_of(*first)), buf) {
-        Some(row) => accepts_at(row, buf).then_some(Some(row)),
-        None => Some(None),
     }
 }
 
