@@ -281,7 +281,6 @@
     {"image/x-sun-raster", "ras", "Sun raster image data", OF_DATA},
     {"image/x-xwindowdump", "xwd", "X-Window screen dump image data", OF_DATA},
     {"image/x-win-bitmap", "cur", "MS Windows cursor resource", OF_DATA},
-    {"image/x-qoi", "qoi", "image/x-qoi", OF_DATA},
     {"image/flif", "flif", "FLIF image data", OF_DATA},
     {"image/bpg", "bpg", "image/bpg", OF_DATA},
     {"video/x-mng", "mng", "MNG video data", OF_DATA},

@@ -265,7 +265,6 @@ pictures =
     ∷ row Image (codes "image/x-sun-raster") (codes "ras") None (at_least 4 (text 0 (codes "Y" ++ 0xA6 ∷ [] ++ codes "j" ++ 0x95 ∷ []) ∷ []) ∷ [])
     ∷ row Image (codes "image/x-xwindowdump") (codes "xwd") None (at_least 12 (text 0 (0x00 ∷ 0x00 ∷ []) ∷ text 4 (0x00 ∷ 0x00 ∷ 0x00 ∷ 0x07 ∷ 0x00 ∷ 0x00 ∷ 0x00 ∷ []) ∷ byte 11 (between 0x00 0x02) ∷ []) ∷ [])
     ∷ row Image (codes "image/x-win-bitmap") (codes "cur") None (at_least 22 (text 0 (0x00 ∷ 0x00 ∷ 0x02 ∷ 0x00 ∷ []) ∷ byte 4 (between 0x01 0x20) ∷ text 5 (0x00 ∷ []) ∷ text 9 (0x00 ∷ []) ∷ text 20 (0x00 ∷ 0x00 ∷ []) ∷ []) ∷ [])
-    ∷ row Image (codes "image/x-qoi") (codes "qoi") None (at_least 14 (text 0 (codes "qoif") ∷ byte 12 (any_of (0x03 ∷ 0x04 ∷ [])) ∷ byte 13 (any_of (0x00 ∷ 0x01 ∷ [])) ∷ []) ∷ [])
     ∷ row Image (codes "image/flif") (codes "flif") None (at_least 6 (text 0 (codes "FLIF") ∷ byte 4 (between 0x31 0x74) ∷ byte 5 (between 0x30 0x32) ∷ []) ∷ [])
     ∷ row Image (codes "image/bpg") (codes "bpg") None (at_least 4 (text 0 (codes "BPG" ++ 0xFB ∷ []) ∷ []) ∷ [])
     ∷ row Video (codes "video/x-mng") (codes "mng") None (at_least 8 (text 0 (0x8A ∷ [] ++ codes "MNG" ++ 0x0D ∷ 0x0A ∷ 0x1A ∷ 0x0A ∷ []) ∷ []) ∷ [])

@@ -878,242 +878,239 @@ rows-qcow2 = 277
 abbrev pub rows-qml : ℕ
 rows-qml = 278
 
-abbrev pub rows-qoi : ℕ
-rows-qoi = 279
-
 abbrev pub rows-ra : ℕ
-rows-ra = 280
+rows-ra = 279
 
 abbrev pub rows-raf : ℕ
-rows-raf = 281
+rows-raf = 280
 
 abbrev pub rows-rar : ℕ
-rows-rar = 282
+rows-rar = 281
 
 abbrev pub rows-ras : ℕ
-rows-ras = 283
+rows-ras = 282
 
 abbrev pub rows-rb : ℕ
-rows-rb = 284
+rows-rb = 283
 
 abbrev pub rows-rm : ℕ
-rows-rm = 285
+rows-rm = 284
 
 abbrev pub rows-rpm : ℕ
-rows-rpm = 286
+rows-rpm = 285
 
 abbrev pub rows-rss : ℕ
-rows-rss = 287
+rows-rss = 286
 
 abbrev pub rows-rtf : ℕ
-rows-rtf = 288
+rows-rtf = 287
 
 abbrev pub rows-rw2 : ℕ
-rows-rw2 = 289
+rows-rw2 = 288
 
 abbrev pub rows-safetensors : ℕ
-rows-safetensors = 290
+rows-safetensors = 289
 
 abbrev pub rows-sav : ℕ
-rows-sav = 291
+rows-sav = 290
 
 abbrev pub rows-sgi : ℕ
-rows-sgi = 292
+rows-sgi = 291
 
 abbrev pub rows-sh : ℕ
-rows-sh = 293
+rows-sh = 292
 
 abbrev pub rows-sh-txt : ℕ
-rows-sh-txt = 294
+rows-sh-txt = 293
 
 abbrev pub rows-shp : ℕ
-rows-shp = 295
+rows-shp = 294
 
 abbrev pub rows-shx : ℕ
-rows-shx = 296
+rows-shx = 295
 
 abbrev pub rows-sid : ℕ
-rows-sid = 297
+rows-sid = 296
 
 abbrev pub rows-sig : ℕ
-rows-sig = 298
+rows-sig = 297
 
 abbrev pub rows-so : ℕ
-rows-so = 299
+rows-so = 298
 
 abbrev pub rows-spx : ℕ
-rows-spx = 300
+rows-spx = 299
 
 abbrev pub rows-sqlite : ℕ
-rows-sqlite = 301
+rows-sqlite = 300
 
 abbrev pub rows-squashfs : ℕ
-rows-squashfs = 302
+rows-squashfs = 301
 
 abbrev pub rows-srpm : ℕ
-rows-srpm = 303
+rows-srpm = 302
 
 abbrev pub rows-srt : ℕ
-rows-srt = 304
+rows-srt = 303
 
 abbrev pub rows-svg : ℕ
-rows-svg = 305
+rows-svg = 304
 
 abbrev pub rows-swf : ℕ
-rows-swf = 306
+rows-swf = 305
 
 abbrev pub rows-sxw : ℕ
-rows-sxw = 307
+rows-sxw = 306
 
 abbrev pub rows-sz : ℕ
-rows-sz = 308
+rows-sz = 307
 
 abbrev pub rows-tar : ℕ
-rows-tar = 309
+rows-tar = 308
 
 abbrev pub rows-tcl : ℕ
-rows-tcl = 310
+rows-tcl = 309
 
 abbrev pub rows-terminfo : ℕ
-rows-terminfo = 311
+rows-terminfo = 310
 
 abbrev pub rows-tif : ℕ
-rows-tif = 312
+rows-tif = 311
 
 abbrev pub rows-tnef : ℕ
-rows-tnef = 313
+rows-tnef = 312
 
 abbrev pub rows-torrent : ℕ
-rows-torrent = 314
+rows-torrent = 313
 
 abbrev pub rows-ts : ℕ
-rows-ts = 315
+rows-ts = 314
 
 abbrev pub rows-tta : ℕ
-rows-tta = 316
+rows-tta = 315
 
 abbrev pub rows-ttc : ℕ
-rows-ttc = 317
+rows-ttc = 316
 
 abbrev pub rows-ttf : ℕ
-rows-ttf = 318
+rows-ttf = 317
 
 abbrev pub rows-txt : ℕ
-rows-txt = 319
+rows-txt = 318
 
 abbrev pub rows-txt-xml : ℕ
-rows-txt-xml = 320
+rows-txt-xml = 319
 
 abbrev pub rows-tzif : ℕ
-rows-tzif = 321
+rows-tzif = 320
 
 abbrev pub rows-vcf : ℕ
-rows-vcf = 322
+rows-vcf = 321
 
 abbrev pub rows-vdi : ℕ
-rows-vdi = 323
+rows-vdi = 322
 
 abbrev pub rows-vhd : ℕ
-rows-vhd = 324
+rows-vhd = 323
 
 abbrev pub rows-vhdx : ℕ
-rows-vhdx = 325
+rows-vhdx = 324
 
 abbrev pub rows-vmdk : ℕ
-rows-vmdk = 326
+rows-vmdk = 325
 
 abbrev pub rows-voc : ℕ
-rows-voc = 327
+rows-voc = 326
 
 abbrev pub rows-vsd : ℕ
-rows-vsd = 328
+rows-vsd = 327
 
 abbrev pub rows-vsdx : ℕ
-rows-vsdx = 329
+rows-vsdx = 328
 
 abbrev pub rows-vsdx-zip : ℕ
-rows-vsdx-zip = 330
+rows-vsdx-zip = 329
 
 abbrev pub rows-vtt : ℕ
-rows-vtt = 331
+rows-vtt = 330
 
 abbrev pub rows-wad : ℕ
-rows-wad = 332
+rows-wad = 331
 
 abbrev pub rows-warc : ℕ
-rows-warc = 333
+rows-warc = 332
 
 abbrev pub rows-wasm : ℕ
-rows-wasm = 334
+rows-wasm = 333
 
 abbrev pub rows-wav : ℕ
-rows-wav = 335
+rows-wav = 334
 
 abbrev pub rows-webm : ℕ
-rows-webm = 336
+rows-webm = 335
 
 abbrev pub rows-webp : ℕ
-rows-webp = 337
+rows-webp = 336
 
 abbrev pub rows-wiiwad : ℕ
-rows-wiiwad = 338
+rows-wiiwad = 337
 
 abbrev pub rows-wim : ℕ
-rows-wim = 339
+rows-wim = 338
 
 abbrev pub rows-wmv : ℕ
-rows-wmv = 340
+rows-wmv = 339
 
 abbrev pub rows-woff : ℕ
-rows-woff = 341
+rows-woff = 340
 
 abbrev pub rows-woff2 : ℕ
-rows-woff2 = 342
+rows-woff2 = 341
 
 abbrev pub rows-wv : ℕ
-rows-wv = 343
+rows-wv = 342
 
 abbrev pub rows-x3f : ℕ
-rows-x3f = 344
+rows-x3f = 343
 
 abbrev pub rows-xar : ℕ
-rows-xar = 345
+rows-xar = 344
 
 abbrev pub rows-xcf : ℕ
-rows-xcf = 346
+rows-xcf = 345
 
 abbrev pub rows-xhtml : ℕ
-rows-xhtml = 347
+rows-xhtml = 346
 
 abbrev pub rows-xls : ℕ
-rows-xls = 348
+rows-xls = 347
 
 abbrev pub rows-xlsx : ℕ
-rows-xlsx = 349
+rows-xlsx = 348
 
 abbrev pub rows-xm : ℕ
-rows-xm = 350
+rows-xm = 349
 
 abbrev pub rows-xml : ℕ
-rows-xml = 351
+rows-xml = 350
 
 abbrev pub rows-xpm : ℕ
-rows-xpm = 352
+rows-xpm = 351
 
 abbrev pub rows-xwd : ℕ
-rows-xwd = 353
+rows-xwd = 352
 
 abbrev pub rows-xz : ℕ
-rows-xz = 354
+rows-xz = 353
 
 abbrev pub rows-zim : ℕ
-rows-zim = 355
+rows-zim = 354
 
 abbrev pub rows-zip : ℕ
-rows-zip = 356
+rows-zip = 355
 
 abbrev pub rows-zst : ℕ
-rows-zst = 357
+rows-zst = 356
 
 unfoldable pub lead_lists : List (List (List ℕ))
 lead_lists =
@@ -1421,7 +1418,6 @@ sets_2 =
     ∷ (codes "pyc" ∷ [])
     ∷ (codes "qcow2" ∷ [])
     ∷ (codes "qml" ∷ [])
-    ∷ (codes "qoi" ∷ [])
     ∷ (codes "ra" ∷ [])
     ∷ (codes "raf" ∷ [])
     ∷ (codes "rar" ∷ [])

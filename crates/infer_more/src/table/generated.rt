@@ -282,7 +282,6 @@ pub(crate) fn row_at(i: usize) -> Option<&'static FurtherRow>
         263 => row_of::<263>(),
         264 => row_of::<264>(),
         265 => row_of::<265>(),
-        266 => row_of::<266>(),
         _ => row_in_lists(i),
     }
 }
@@ -559,7 +558,6 @@ pub(crate) fn widens(i: usize, parent: Option<usize>, buf: &[u8]) -> bool
         263 => widens_row::<263>(parent, buf),
         264 => widens_row::<264>(parent, buf),
         265 => widens_row::<265>(parent, buf),
-        266 => widens_row::<266>(parent, buf),
         _ => widens_any(i, parent, buf),
     }
 }

@@ -19,7 +19,6 @@ static ROWS: &[FurtherRow] = rows![
     Image "image/x-sun-raster" "ras": => [4, At(0, b"Y\xA6j\x95")];
     Image "image/x-xwindowdump" "xwd": => [12, At(0, b"\0\0"), At(4, b"\0\0\0\x07\0\0\0"), Between(11, 0x00, 0x02)];
     Image "image/x-win-bitmap" "cur": => [22, At(0, b"\0\0\x02\0"), Between(4, 0x01, 0x20), is!(5, 0x00), is!(9, 0x00), At(20, b"\0\0")];
-    Image "image/x-qoi" "qoi": => [14, At(0, b"qoif"), OneOf(12, b"\x03\x04"), OneOf(13, b"\0\x01")];
     Image "image/flif" "flif": => [6, At(0, b"FLIF"), Between(4, 0x31, 0x74), Between(5, 0x30, 0x32)];
     Image "image/bpg" "bpg": => [4, At(0, b"BPG\xFB")];
     Video "video/x-mng" "mng": => [8, At(0, b"\x8AMNG\r\n\x1A\n")];
