@@ -17,7 +17,7 @@ ROOT = os.path.dirname(HERE)
 sys.path[:0] = [HERE, f"{ROOT}/tools", f"{ROOT}/bindings/python/src"]
 import infer
 import rust_crate
-from texts import text_of
+from texts import text_of, write_table
 
 FRONT = 8192
 # What says nothing of a type.
@@ -114,14 +114,6 @@ def contents(path):
 def written(path, text):
     with open(path, "w", encoding="utf-8") as file:
         file.write(text)
-
-
-def write_table(page, name, text):
-    """Writes a table into a page, where it stands between marks."""
-    whole, found = re.subn(rf"(<!-- {name} -->\n)(.*?)(?=<!-- end -->\n)", lambda it: f"{it[1]}{text}\n", text_of(page), flags=re.S)
-    if found != 1:
-        sys.exit(f"bench/{os.path.basename(sys.argv[0])}: {page} has no place for the table")
-    written(f"{ROOT}/{page}", whole)
 
 
 def of_crate(room):

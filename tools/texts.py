@@ -5,6 +5,8 @@ import functools
 import importlib.machinery
 import importlib.util
 import os
+import re
+import sys
 
 TOP = os.path.normpath(f"{os.path.dirname(os.path.abspath(__file__))}/..")
 texts = {}
@@ -22,6 +24,15 @@ def text_of(path):
         with open(f"{TOP}/{path}", encoding="utf-8") as it:
             texts[path] = it.read()
     return texts[path]
+
+
+def write_table(page, name, text):
+    """Writes a table into a page, where it stands between marks."""
+    whole, found = re.subn(rf"(<!-- {name} -->\n)(.*?)(?=<!-- end -->\n)", lambda it: f"{it[1]}{text}\n", text_of(page), flags=re.S)
+    if found != 1:
+        sys.exit(f"{page} has no place for the table of {name}")
+    with open(f"{TOP}/{page}", "w", encoding="utf-8") as it:
+        it.write(whole)
 
 
 def kept(function):
