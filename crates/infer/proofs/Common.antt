@@ -5,7 +5,7 @@ pub use Rattle.infer.specs.Buffer.{head, IsBuffer}
 pub use Rattle.infer.specs.BuiltIn.{BuiltIn, IsAccepted}
 pub use Rattle.infer.specs.BuiltIn.{avif, doc, fixed, framed, heif, html, matroska, office, pdf, ppt, xls, xml}
 pub use Rattle.infer.specs.Caller.{Contracts, Contract, Allows, FixesAnswers}
-pub use Rattle.infer.specs.Decided.{AllowsExactly, AnswersAreOpen, CanBeDecided, DecidedByRows, DecidedLasts}
+pub use Rattle.infer.specs.Decided.{AllowsExactly, AnswersAreOpen, CanBeDecided, DecidedByRows, DecidedLasts, IsAnswerForGood}
 pub use Rattle.infer.specs.Decided.{FirstOpenComes, IsChangeable, IsDecided, IsToldExactly, MayBecomeRow, ReachNarrows}
 pub use Rattle.infer.specs.Decided.{TellsMayBecome}
 pub use Rattle.infer.specs.Decided.{rows_before}

@@ -1,5 +1,6 @@
 -- A buffer is decided just if none of the rows before its answer may still accept it.
-use Rattle.infer.proofs.Common.{AllWithin-more, add-one, ◌≡◌, ◌↔◌, ◌<◌, ◌≤◌, le_refl, ◌∙◌, sym, refl, zero, suc, ℕ, Bool, true, List, [], ◌∷◌, ◌++◌, length, get_or, Option, None, Some, All, IsTrue, subst, append_assoc, append-nil, arith, AllPass-from_list_all, All-append, All-nil, AllWithin-none, AllWithin, list_all, MayBecome, MayBecomeIsExact, is_sound, Alternative, stands, BuiltIn, fixed, IsAccepted, IsBuffer, CanBeDecided, DecidedByRows, DecidedLasts, FirstOpenComes, IsChangeable, IsDecided, IsToldExactly, MayBecomeRow, ReachNarrows, TellsMayBecome, rows_before, IsFirst, IsFirstOf, NoneHas, Leads, candidates_of, Lasts, signatures, Row, Accepts, signature_of, table, IsFirstAmong, RowHas, EXE}
+use Rattle.infer.proofs.Common.{IfSome, IsAnswerForGood, AllWithin-more, add-one, ◌≡◌, ◌↔◌, ◌<◌, ◌≤◌, le_refl, ◌∙◌, sym, refl, zero, suc, ℕ, Bool, true, List, [], ◌∷◌, ◌++◌, length, get_or, Option, None, Some, All, IsTrue, subst, append_assoc, append-nil, arith, AllPass-from_list_all, All-append, All-nil, AllWithin-none, AllWithin, list_all, MayBecome, MayBecomeIsExact, is_sound, Alternative, stands, BuiltIn, fixed, IsAccepted, IsBuffer, CanBeDecided, DecidedByRows, DecidedLasts, FirstOpenComes, IsChangeable, IsDecided, IsToldExactly, MayBecomeRow, ReachNarrows, TellsMayBecome, rows_before, IsFirst, IsFirstOf, NoneHas, Leads, candidates_of, Lasts, signatures, Row, Accepts, signature_of, table, IsFirstAmong, RowHas, EXE}
+use Rattle.std.specs.Bool.{then_some}
 use Rattle.std.proofs.lemmas.Option.{slice_get_cases}
 use Rattle.infer.proofs.TableLemmas.{signature_has}
 use Rattle.infer_deep.proofs.OpenLemmas.{bytes_from_test}
@@ -97,9 +98,10 @@ pub narrows : ReachNarrows
 narrows b more r bytes (rest, rest_bytes, a) = (more ++ rest, both_bytes more rest bytes rest_bytes, joined b more rest r a)
 
 module _ (lasts : (s : BuiltIn) → Lasts (IsAccepted s)) (b : List ℕ) where
-  pub decided_if_none : IsFirstOf (MayBecomeRow b) table None → IsDecided b
-  decided_if_none none =
-      (decided_by_rows lasts b None (λ k d low lt a. none k d low lt (may_accept_now lasts b (get_or table k d) a))).1 none
+  pub answer_if_none : IsFirstOf (MayBecomeRow b) table None → IsAnswerForGood b None
+  answer_if_none none =
+      let now : IsFirstOf (Accepts b) table None = λ k d low lt a. none k d low lt (may_accept_now lasts b (get_or table k d) a) in
+      record { now = now; decided = (decided_by_rows lasts b None now).1 none }
 
   module _ (i : ℕ) (first : IsFirst (MayBecomeRow b) table i) where
     first_accepts : (o : Option ℕ) → o ≡ Some i → IsFirstOf (Accepts b) table o → RowHas (Accepts b) i
@@ -110,16 +112,23 @@ module _ (lasts : (s : BuiltIn) → Lasts (IsAccepted s)) (b : List ℕ) where
         let (more, bytes, comes) = first_open_comes b i first in
         (more, bytes, λ o now then. not (first_accepts o (IsFirstOf-same (Accepts (b ++ more)) table o (Some i) then comes) now))
 
-    decided_if_accepted : RowHas (Accepts b) i → IsDecided b
-    decided_if_accepted here =
-        (decided_by_rows lasts b (Some i) (record {
+    answer_if_accepted : RowHas (Accepts b) i → IsAnswerForGood b (Some i)
+    answer_if_accepted here =
+        let now : IsFirstOf (Accepts b) table (Some i) = record {
           within = first.within;
           here = ((read_has (Accepts b) table i).0 here).1;
           before = λ k d low lt a. first.before k d low lt (may_accept_now lasts b (get_or table k d) a);
-        })).1 first.before
+        } in
+        record { now = now; decided = (decided_by_rows lasts b (Some i) now).1 first.before }
 
     pub decided_by_first : (r : Bool) → IsTrue r ↔ RowHas (Accepts b) i → IsTrue r ↔ IsDecided b
-    decided_by_first r h = grind (arith, decided_if_accepted, undecided, changes_by_first)
+    decided_by_first r h =
+        let decided = λ (here : RowHas (Accepts b) i). (answer_if_accepted here).decided in
+        grind (arith, decided, undecided, changes_by_first)
+
+    pub answer_by_first : (r : Bool) (o : Option (Option ℕ)) → o ≡ then_some r (Some i) → IsTrue r ↔ RowHas (Accepts b) i
+        → IfSome o (IsAnswerForGood b) × (o ≡ None → IsChangeable b)
+    answer_by_first r o e h = grind (arith, answer_if_accepted, changes_by_first)
 
     pub decided_with_first : CanBeDecided b
     decided_with_first =

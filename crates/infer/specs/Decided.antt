@@ -15,6 +15,11 @@ use Rattle.infer.specs.Walks.{RowHas}
 abbrev pub IsDecided : List ℕ → Type 0
 IsDecided b = (more : List ℕ) (o : Option ℕ) → IsBuffer more → IsFirstOf (Accepts b) table o → IsFirstOf (Accepts (b ++ more)) table o
 
+-- this is the first row that accepts the buffer, or that none does, whatever bytes follow
+pub record IsAnswerForGood (b : List ℕ) (o : Option ℕ) : Type 0 where
+  pub now : IsFirstOf (Accepts b) table o
+  pub decided : IsDecided b
+
 -- some bytes after the buffer make the row accept it
 abbrev pub MayBecomeRow : List ℕ → Row BuiltIn → Type 0
 MayBecomeRow b r = MayBecome (λ c. Accepts c r) b

@@ -1,6 +1,6 @@
 //! What more bytes can change of an answer.
-ghost use Rattle.std.specs.Prelude.{◌↔◌, ◌<◌, IsFalse, IsTrue, length};
-ghost use Rattle.infer.specs.Decided.{CanBeDecided, IsChangeable, IsDecided, MayBecomeRow};
+ghost use Rattle.std.specs.Prelude.{◌≡◌, ◌↔◌, ◌<◌, IfSome, IsFalse, IsTrue, None, length};
+ghost use Rattle.infer.specs.Decided.{CanBeDecided, IsAnswerForGood, IsChangeable, IsDecided, MayBecomeRow};
 ghost use Rattle.infer.specs.Walks.{IsFirstAmong, RowHas};
 
 use crate::ask::question::accepts_at;
@@ -35,8 +35,41 @@ pub fn is_decided(buf: &[u8]) -> bool
     }
 }
 
+/// The answer of `buf` if no bytes after it change it: the number of its row, or that it has none. If this is `None`, some
+/// bytes change it.
+///
+/// ```
+/// assert_eq!(rt; infer::position_for_good(b"MZ"), Some(Some(rows::EXE)));
+/// assert_eq!(rt; infer::position_for_good(b"M"), None);
+/// ```
+#[inline(always)]
+pub fn position_for_good(buf: &[u8]) -> Option<Option<usize>>
+    ensures decided { IfSome result (IsAnswerForGood buf.now) }
+    ensures open { result ≡ None → IsChangeable buf.now }
+{
+    leads();
+    blank();
+    infer_sig::laws::growth();
+    infer_deep::laws::growth();
+    let first = buf.first()?;
+    match first_awaited(candidates_at(arm_of(*first)), buf) {
+        Some(row) => accepts_at(row, buf).then_some(Some(row)),
+        None => Some(None),
+    }
+}
+
 /// The first of the rows that may still accept `buf`.
 fn first_open(rows: &[usize], buf: &[u8]) -> Option<usize>
+    ensures { IsFirstAmong (RowHas (MayBecomeRow buf.now)) rows.now result }
+{
+    let may_become_row = |row: &&usize| -> bool
+        ensures { IsTrue result ↔ RowHas (MayBecomeRow buf.entry.now) row.now.now }
+    { may_become(buf, **row) };
+    rows.iter().find(may_become_row).copied()
+}
+
+/// The same, for the other question: a search that two callers share is compiled into neither, and takes a fourth more.
+fn first_awaited(rows: &[usize], buf: &[u8]) -> Option<usize>
     ensures { IsFirstAmong (RowHas (MayBecomeRow buf.now)) rows.now result }
 {
     let may_become_row = |row: &&usize| -> bool

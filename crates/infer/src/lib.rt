@@ -43,7 +43,7 @@ use ask::class::{App, Archive, Audio, Book, Doc, Font, Image, Video};
 pub use ask::question::accepts;
 pub use caller::infer::Infer;
 pub use candidates::asker::{Ask, Asker, is_counted, position_counted, walk};
-pub use decided::{is_decided, may_become};
+pub use decided::{is_decided, may_become, position_for_good};
 pub use infer_sig::{
     app as app, archive as archive, audio as audio, book as book, doc as doc, font as font,
     image as image, odf as odf, text as text, video as video,

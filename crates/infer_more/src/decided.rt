@@ -19,7 +19,10 @@ use infer::rows::ROW_COUNT;
 pub fn is_decided(buf: &[u8]) -> bool
     ensures { IsTrue result → IsDecided buf.now }
 {
-    infer::is_decided(buf) && is_widened_for_good(infer::position(buf), buf)
+    match infer::position_for_good(buf) {
+        Some(parent) => is_widened_for_good(parent, buf),
+        None => false,
+    }
 }
 
 /// Whether none changes the first further row that widens this answer. A function of its own, so that a buffer whose

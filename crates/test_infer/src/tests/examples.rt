@@ -36,6 +36,9 @@ fn answers(rt: HostRuntime) -> Result<(), Fail> {
 fn growing(rt: HostRuntime) -> Result<(), Fail> {
     // infer::is_decided
     assert!(rt; infer::is_decided(b"MZ") && !infer::is_decided(b"M"));
+    // infer::position_for_good
+    assert_eq!(rt; infer::position_for_good(b"MZ"), Some(Some(rows::EXE)));
+    assert_eq!(rt; infer::position_for_good(b"M"), None);
     // infer::may_become
     assert!(rt; infer::may_become(b"\x89P", rows::PNG) && !infer::may_become(b"\x89X", rows::PNG));
     // infer_sniff::Sniffer::push

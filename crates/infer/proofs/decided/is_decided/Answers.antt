@@ -1,5 +1,5 @@
 use Rattle.infer.proofs.Common.{◌≡◌, ◌<◌, length, Some, None, refl, arith, rules}
-use Rattle.infer.proofs.DecidedLemmas.{changes_by_first, decided_by_first, decided_if_none, decided_itself, decided_with_first, empty_changes, empty_open, first_open_row}
+use Rattle.infer.proofs.DecidedLemmas.{answer_if_none, changes_by_first, decided_by_first, decided_itself, decided_with_first, empty_changes, empty_open, first_open_row}
 use Rattle.infer.proofs.LawLemmas.{every_lasts}
 use Rattle.infer.proofs.TableLemmas.{length-table}
 use Rattle.infer.proofs.decided.is_decided.Goals as goal
@@ -35,5 +35,5 @@ pub returns-in-None : goal.returns-in-None
 returns-in-None c =
     let long : 0 < length c.args.buf.now = grind (arith) in
     let first = first_open_row c.leads.ensures c.args.buf.now _ None long (search rules) c.in-None.ensures in
-    let decided = decided_if_none (every_lasts c.growth.ensures c.growth-2.ensures) c.args.buf.now first in
+    let decided = (answer_if_none (every_lasts c.growth.ensures c.growth-2.ensures) c.args.buf.now first).decided in
     record { exact = (λ t. decided, λ d. refl); «open» = λ f. absurd (cc); can_be = λ l. decided_itself c.args.buf.now decided }
