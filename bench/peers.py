@@ -1,5 +1,5 @@
-"""The programs that tell types, each asked by the contents of files alone: the Rust crate infer, `file`, mimetype for Go,
-python-magic, filetype.py, file-type for Node, and shared-mime-info by GLib's `gio`.
+"""The programs that tell types, each asked by the contents of files alone, and gio by their names too: the Rust crate
+infer, `file`, mimetype for Go, python-magic, filetype.py, file-type for Node, and shared-mime-info by GLib's `gio`.
 
 They are those of Debian's packages librust-infer-dev, file, python3-magic, python3-filetype,
 golang-github-gabriel-vasile-mimetype-dev, libglib2.0-bin and shared-mime-info. RUST_REGISTRY names another folder of
@@ -146,6 +146,13 @@ def of_filetype(_):
     return f"filetype.py {filetype.version}", len(filetype.types), called(filetype.guess_mime)
 
 
+def of_paths(paths):
+    """What gio says of files, by their names and bytes."""
+    command = "xargs", "-0", "gio", "info", "--attributes=standard::content-type"
+    told = told_by(*command, input="\0".join(paths), errors="surrogateescape")
+    return re.findall("^  standard::content-type: (.*)$", told, re.M)
+
+
 def of_desktop(_):
     version, glib = told_by("update-mime-database", "-v", stderr=subprocess.STDOUT).split()[2], told_by("gio", "version").strip()
     command = "xargs", "gio", "info", "--attributes=standard::content-type"
@@ -171,16 +178,25 @@ OTHERS = {
 }
 
 
-def programs(room, others):
-    """Each program, how many types it knows, and what says its answers about some contents: none if something of it is not there."""
-    yield "here, the built-in types", len(infer.types), called(infer.guess_mime)
-    yield "here, with the further types", len([*rows()]), called(lambda buf: infer.guess_mime(buf, more=True))
+WIDER = "here, with the further types"
+
+
+def asked_of(room, others):
+    """Each of these programs, how many types it knows, and what says its answers about some contents. That is none if
+    something of it is not there."""
     for name, of in others.items():
         try:
             program = of(room)
         except (ImportError, FileNotFoundError):
             program = name, "", None
         yield program
+
+
+def programs(room, others):
+    """The library, with and without the further types, and these programs."""
+    yield "here, the built-in types", len(infer.types), called(infer.guess_mime)
+    yield WIDER, len([*rows()]), called(lambda buf: infer.guess_mime(buf, more=True))
+    yield from asked_of(room, others)
 
 
 def answers(program, ask, contents):

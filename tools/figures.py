@@ -156,33 +156,41 @@ def time_of(program):
     return ""
 
 
-# How each program takes types of a user's own, and where it runs, by its own pages.
+# How each program takes types of a user's own, whether it says that more bytes cannot change an answer, and where it runs,
+# by its own pages.
 TOLD_OF = {
-    "here, the built-in": ("functions", "Linux, Windows, macOS, C99"),
-    "here, with": ("lines of a text", "Linux, Windows, macOS, C99"),
-    "Rust crate": ("functions", "where Rust does"),
-    "`file`": ("magic(5)", "Unix"),
-    "mimetype": ("functions", "where Go does"),
-    "python-magic": ("magic(5)", "where libmagic does"),
-    "filetype.py": ("classes", "where Python does"),
-    "file-type": ("functions", "Node and browsers"),
-    "shared-mime-info": ("XML", "Linux, BSD"),
+    "here, the built-in": ("functions", "exactly", "Linux, Windows, macOS, C99"),
+    "here, with": ("lines of a text", "yes", "Linux, Windows, macOS, C99"),
+    "Rust crate": ("functions", "no", "where Rust does"),
+    "`file`": ("magic(5)", "no", "Unix"),
+    "mimetype": ("functions", "no", "where Go does"),
+    "python-magic": ("magic(5)", "no", "where libmagic does"),
+    "filetype.py": ("classes", "no", "where Python does"),
+    "file-type": ("functions", "no", "Node and browsers"),
+    "shared-mime-info": ("XML", "no", "Linux, BSD"),
 }
+# The row of what is told by name and bytes that is the same program as a row of the others.
+BY_NAME = {"here, with the further types": "here, by name and bytes"}
 
 
 def comparison():
     """The table of README.md: of each program its types, what it says of the files of other tests, and its time."""
     differences = text_of("docs/DIFFERENCES.md")
-    compared = table_of(differences, "compared")
+    compared, named = table_of(differences, "compared"), table_of(differences, "named")
     head, rows = next((head, rows) for head, rows in tables("docs/DIFFERENCES.md") if " suites: " in head[0])
     count = re.search(r"(\d+) binary files", head[0])[1]
-    yield f"| | Types | Right, of {count} | Wrong | Labelled | A question, here / there | Own types | Runs on |"
-    yield "|---|---|---|---|---|---|---|---|"
+    judged = next((column for column in [*named.values()][0] if column.startswith("Right")), "") if named else ""
+    counted = f"Types | Right, of {count} | Wrong | Labelled | With names | {judged.replace('Right', 'Judged')}"
+    yield f"| | {counted} | A question, here / there | Growing input | Own types | Runs on |"
+    yield "|---|---|---|---|---|---|---|---|---|---|---|"
     for program, right, _, _, wrong, *_ in (row for row in rows if not row[0].endswith(", not run")):
         its = [cells for label, cells in compared.items() if label.startswith(program)]
         types, labelled = ("".join(it[column] for it in its if it["Types"].isdigit()) for column in ("Types", "Labelled"))
-        own, places = next(told for name, told in TOLD_OF.items() if program.startswith(name))
-        yield f"| {program} | {types} | {right} | {wrong} | {labelled} | {time_of(program)} | {own} | {places} |"
+        by_name = named.get(BY_NAME.get(program, program), {})
+        own, growing, places = next(told for name, told in TOLD_OF.items() if program.startswith(name))
+        with_names = [by_name.get(it, "") for it in ("More than plain text", judged)]
+        cells = [program, types, right, wrong, labelled, *with_names, time_of(program), growing, own, places]
+        yield f"| {' | '.join(cells)} |"
 
 
 def check_repeated(page):
