@@ -79,3 +79,10 @@ fn wider(rt: HostRuntime) -> Result<(), Fail> {
     assert_eq!(rt; found.mime_type(), "image/x-drawing");
     Ok(())
 }
+
+#[test]
+fn content_types(rt: HostRuntime) -> Result<(), Fail> {
+    // mime_sniff::go::detect_content_type
+    assert_eq!(rt; mime_sniff::go::detect_content_type(b"<p>Hello"), "text/html; charset=utf-8");
+    Ok(())
+}

@@ -1,0 +1,4 @@
+pub mod FirstLemmas
+pub mod RuleLemmas
+pub mod RowLemmas
+pub mod GoLemmas

@@ -1,0 +1,137 @@
+-- What a rule asks of a buffer, by the byte that its pattern begins with.
+use Rattle.std.proofs.Common.{◌≡◌, ◌↔◌, ◌==◌, ◌&&◌, ℕ, ◌+◌, ◌<◌, Bool, true, false, not, List, [], ◌∷◌, Option, None, Some, bit_and, get_or, length, nat_lt, refl, subst, sym, ap, ◌∙◌, arith}
+use Rattle.std.proofs.lemmas.Bool.{and_parts, eq-eqb, eqb-true, false≢true, ltb-true}
+use Rattle.std.proofs.lemmas.Bool.Decides.{nat_tests}
+use Rattle.std.proofs.lemmas.Grind.{and_numeral}
+use Rattle.std.proofs.lemmas.List.{get_or-append-add}
+use Rattle.std.specs.List.{AllByRecursion, concat, list_all}
+use Rattle.infer_deep.specs.Joined.{Behind, NoneBegins, SkipsTo}
+use Rattle.infer_deep.specs.Text.{IsSpace}
+use Rattle.infer_deep.proofs.JoinedLemmas.{Behind-left, IsPrefixFree}
+use Rattle.mime_sniff.specs.Go.{earlier, later, between, led_by, lead_of, markup}
+use Rattle.mime_sniff.specs.Row.{AcceptsFixed, Fits, FitsBehind, Pattern, mask_at}
+use Rattle.mime_sniff.specs.Rule.{Accepts, FitsRule, FitsSignature, IsAccepted, Rule, Signature, TellsFirst, fixed, mp4, no_data}
+use Rattle.mime_sniff.proofs.FirstLemmas.{tells_alike, tells_filtered, tells_nothing}
+
+-- what all rules of a list have that pass a test
+pub all_by_test : (test : Rule → Bool) (P : Rule → Type 0) → ((r : Rule) → test r ≡ true → P r) → (rules : List Rule) → list_all test rules ≡ true → AllByRecursion P rules
+all_by_test test P has [] all = tt
+all_by_test test P has (r ∷ rules) all =
+    let parts = and_parts (test r) (list_all test rules) all in (has r parts.0, all_by_test test P has rules parts.1)
+
+-- a pattern that asks for its whole first byte
+abbrev is_led : Pattern → Bool
+is_led p = nat_lt 0 (length p.bytes) && (mask_at p.mask 0 == 0xFF)
+
+fits_lead : (p : Pattern) (b : List ℕ) → is_led p ≡ true → get_or b 0 0 < 256 → Fits p b → get_or b 0 0 ≡ get_or p.bytes 0 0
+fits_lead p b led byte fits =
+    let parts = and_parts (nat_lt 0 (length p.bytes)) (mask_at p.mask 0 == 0xFF) led in
+    let some : 0 < length p.bytes = ltb-true 0 (length p.bytes) parts.0 in
+    let all : mask_at p.mask 0 ≡ 255 = eqb-true (mask_at p.mask 0) 255 parts.1 in
+    let same = fits.same 0 some in
+    grind (arith, and_numeral, same, all)
+
+-- a rule of a pattern that begins with a whole byte, before which nothing is ignored
+abbrev is_plain : Signature → Bool
+is_plain (fixed p) = not p.ignores_white && is_led p
+is_plain other = false
+
+abbrev pub is_plain_rule : Rule → Bool
+is_plain_rule r = is_plain r.signature
+
+accepts_plain : (b : List ℕ) (p : Pattern) → not p.ignores_white ≡ true → Fits p b ↔ AcceptsFixed p b
+accepts_plain b p not_white = fits_behind p.ignores_white not_white
+  where
+    fits_behind : (w : Bool) → not w ≡ true → Fits p b ↔ FitsBehind w p b
+    fits_behind true e = cc
+    fits_behind false e = (λ h. h, λ h. h)
+
+module _ (b : List ℕ) (byte : get_or b 0 0 < 256) where
+  plain_signature : (s : Signature) → is_plain s ≡ true → FitsSignature b s ↔ IsAccepted s b
+  plain_signature (fixed p) is = accepts_plain b p (and_parts (not p.ignores_white) (is_led p) is).0
+  plain_signature mp4 is = absurd (false≢true is)
+  plain_signature no_data is = absurd (false≢true is)
+
+  plain_lead : (s : Signature) → is_plain s ≡ true → FitsSignature b s → (lead_of s == get_or b 0 0) ≡ true
+  plain_lead (fixed p) is fits =
+      eq-eqb _ _ (sym (fits_lead p b (and_parts (not p.ignores_white) (is_led p) is).1 byte fits))
+  plain_lead mp4 is fits = absurd (false≢true is)
+  plain_lead no_data is fits = absurd (false≢true is)
+
+  plain_some : (s : Signature) → is_plain s ≡ true → FitsSignature b s → 0 < length b
+  plain_some (fixed p) is fits =
+      let led = (and_parts (not p.ignores_white) (is_led p) is).1 in
+      let some : 0 < length p.bytes = ltb-true 0 (length p.bytes) (and_parts (nat_lt 0 (length p.bytes)) (mask_at p.mask 0 == 0xFF) led).0 in
+      let long = fits.long in
+      omega arith
+  plain_some mp4 is fits = absurd (false≢true is)
+  plain_some no_data is fits = absurd (false≢true is)
+
+  -- of plain rules those that the buffer's first byte leads tell the type, and for an empty buffer none does
+  pub tells_led : (rules : List Rule) (told : Option (List ℕ)) → list_all is_plain_rule rules ≡ true
+      → TellsFirst (FitsRule b) (led_by (get_or b 0 0) rules) told → TellsFirst (Accepts b) rules told
+  tells_led rules told plain h =
+      tells_alike (FitsRule b) (Accepts b) rules told
+      (all_by_test is_plain_rule (λ r. FitsRule b r ↔ Accepts b r) (λ r. plain_signature r.signature) rules plain)
+      (tells_filtered (FitsRule b) (λ r. lead_of r.signature == get_or b 0 0) rules told
+      (all_by_test is_plain_rule (λ r. FitsRule b r → (lead_of r.signature == get_or b 0 0) ≡ true) (λ r. plain_lead r.signature) rules plain) h)
+
+  pub tells_empty : (rules : List Rule) → list_all is_plain_rule rules ≡ true → length b ≡ 0 → TellsFirst (Accepts b) rules None
+  tells_empty rules plain none =
+      tells_nothing (Accepts b) rules
+      (all_by_test is_plain_rule (λ r. ¬ Accepts b r)
+      (λ r is a. let some = plain_some r.signature is ((plain_signature r.signature is).1 a) in omega (arith, some, none)) rules plain)
+
+-- a rule of a pattern that begins "<", before which white space is ignored
+abbrev is_markup : Signature → Bool
+is_markup (fixed p) = p.ignores_white && (is_led p && (get_or p.bytes 0 0 == 0x3C))
+is_markup other = false
+
+abbrev pub is_markup_rule : Rule → Bool
+is_markup_rule r = is_markup r.signature
+
+one_space : IsPrefixFree IsSpace
+one_space v w x y (a, f, p) (b, g, q) e = cc
+
+module _ (b text : List ℕ) (skips : SkipsTo IsSpace b text) (stops : NoneBegins IsSpace text) (byte : get_or text 0 0 < 256) where
+  accepts_white : (p : Pattern) → p.ignores_white ≡ true → Fits p text ↔ AcceptsFixed p b
+  accepts_white p white =
+      let behind = Behind-left IsSpace (λ t. NoneBegins IsSpace t × Fits p t) one_space (λ t h. h.0) b text skips stops in
+      subst (λ w. Fits p text ↔ FitsBehind w p b) (sym white) (λ fits. behind.0 (stops, fits), λ a. (behind.1 a).1)
+
+  markup_signature : (s : Signature) → is_markup s ≡ true → FitsSignature text s ↔ IsAccepted s b
+  markup_signature (fixed p) is = accepts_white p (and_parts p.ignores_white (is_led p && (get_or p.bytes 0 0 == 0x3C)) is).0
+  markup_signature mp4 is = absurd (false≢true is)
+  markup_signature no_data is = absurd (false≢true is)
+
+  markup_lead : (s : Signature) → is_markup s ≡ true → FitsSignature text s → (0 < length text) × (get_or text 0 0 ≡ 0x3C)
+  markup_lead (fixed p) is fits =
+      let parts = and_parts (is_led p) (get_or p.bytes 0 0 == 0x3C) (and_parts p.ignores_white (is_led p && (get_or p.bytes 0 0 == 0x3C)) is).1 in
+      let some : 0 < length p.bytes = ltb-true 0 (length p.bytes) (and_parts (nat_lt 0 (length p.bytes)) (mask_at p.mask 0 == 0xFF) parts.0).0 in
+      let first = fits_lead p text parts.0 byte fits in
+      let is_tag : get_or p.bytes 0 0 ≡ 0x3C = eqb-true (get_or p.bytes 0 0) 0x3C parts.1 in
+      let long = fits.long in
+      (omega arith, omega arith)
+  markup_lead mp4 is fits = absurd (false≢true is)
+  markup_lead no_data is fits = absurd (false≢true is)
+
+  pub tells_markup : (rules : List Rule) (told : Option (List ℕ)) → list_all is_markup_rule rules ≡ true
+      → TellsFirst (FitsRule text) rules told → TellsFirst (Accepts b) rules told
+  tells_markup rules told is =
+      tells_alike (FitsRule text) (Accepts b) rules told
+      (all_by_test is_markup_rule (λ r. FitsRule text r ↔ Accepts b r) (λ r. markup_signature r.signature) rules is)
+
+  pub tells_no_markup : (rules : List Rule) → list_all is_markup_rule rules ≡ true
+      → (0 < length text → get_or text 0 0 ≡ 0x3C → ⊥) → TellsFirst (Accepts b) rules None
+  tells_no_markup rules is other =
+      tells_nothing (Accepts b) rules
+      (all_by_test is_markup_rule (λ r. ¬ Accepts b r)
+      (λ r m a. let lead = markup_lead r.signature m ((markup_signature r.signature m).1 a) in other lead.0 lead.1) rules is)
+
+-- behind white space too a byte is a byte
+pub first_behind : (b text : List ℕ) → SkipsTo IsSpace b text → ((i : ℕ) → get_or b i 0 < 256) → get_or text 0 0 < 256
+first_behind b text skips bytes =
+    let front = concat skips.words in
+    let byte = bytes (length front + 0) in
+    let read : get_or b (length front + 0) 0 ≡ get_or text 0 0 = ap (λ l. get_or l (length front + 0) 0) skips.whole ∙ get_or-append-add front text 0 0 in
+    omega (arith, byte, read)

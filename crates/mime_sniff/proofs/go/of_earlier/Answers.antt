@@ -1,0 +1,14 @@
+use Rattle.std.proofs.Common.{◌≡◌, arith, length}
+use Rattle.std.proofs.lemmas.Bool.Decides.{nat_tests}
+use Rattle.mime_sniff.specs.Go.{earlier}
+use Rattle.mime_sniff.proofs.GoLemmas.{earlier_is}
+use Rattle.mime_sniff.proofs.RuleLemmas.{tells_empty, tells_led}
+use Rattle.mime_sniff.proofs.go.of_earlier.Goals as goal
+
+pub returns-then-is_empty : goal.returns-then-is_empty
+returns-then-is_empty c =
+    let none : length c.args.header.now ≡ 0 = grind (arith, nat_tests, c.is_empty.ensures, c.if-is_empty.true) in
+    tells_empty c.args.header.now (omega (arith, c.type_inv.header 0)) earlier earlier_is none
+
+pub returns : goal.returns
+returns c = tells_led c.args.header.now (omega (arith, c.type_inv.header 0)) earlier _ earlier_is (rw c.earlier.ensures at c.first_type.ensures)

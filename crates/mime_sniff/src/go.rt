@@ -1,0 +1,93 @@
+//! What Go's package `net/http` takes first bytes for.
+ghost use Rattle.std.specs.Prelude.{◌≡◌, ◌↔◌, map, option_map};
+ghost use Rattle.mime_sniff.specs.Go.{IsContentType, between, earlier, later, markup, rules};
+ghost use Rattle.mime_sniff.specs.Rule.{Accepts, TellsFirst};
+
+use crate::mp4::is_mp4;
+use crate::row::first_type;
+use infer_deep::text::after_white_space;
+use infer_formats::text::is_binary;
+
+mod table;
+
+/// How many bytes are looked at.
+pub const HEADER_LENGTH: usize = 512;
+
+/// The MIME type of a file that begins with these bytes, as Go's `http.DetectContentType` tells it, byte for byte. It is
+/// never empty: what no rule accepts is `application/octet-stream`.
+///
+/// Only the first 512 bytes count. A text has its encoding behind it, as in `text/html; charset=utf-8`.
+///
+/// ```
+/// assert_eq!(rt; mime_sniff::go::detect_content_type(b"<p>Hello"), "text/html; charset=utf-8");
+/// ```
+pub fn detect_content_type(buf: &[u8]) -> &'static str
+    ensures { IsContentType buf.now result.now }
+{
+    match first_rule(&buf[..HEADER_LENGTH.min(buf.len())]) {
+        Some(mime_type) => mime_type,
+        None => "application/octet-stream",
+    }
+}
+
+/// The type of the first rule that accepts the header.
+fn first_rule(header: &[u8]) -> Option<&'static str>
+    ensures { TellsFirst (Accepts header.now) rules (option_map (λ t. t.now) result) }
+{
+    if let Some(found) = of_markup(header) {
+        return Some(found);
+    }
+    if let Some(found) = of_earlier(header) {
+        return Some(found);
+    }
+    if is_mp4(header) {
+        return Some("video/mp4");
+    }
+    if let Some(found) = of_between(header) {
+        return Some(found);
+    }
+    if let Some(found) = of_later(header) {
+        return Some(found);
+    }
+    if is_binary(header) {
+        return None;
+    }
+    Some("text/plain; charset=utf-8")
+}
+
+/// The type of the first rule of markup. Each of them asks for "<" behind the white space.
+fn of_markup(header: &[u8]) -> Option<&'static str>
+    ensures { TellsFirst (Accepts header.now) markup (option_map (λ t. t.now) result) }
+{
+    let text = after_white_space(header);
+    if text.is_empty() || text[0] != b'<' {
+        return None;
+    }
+    first_type(table::markup(), text)
+}
+
+/// The type of the first rule before MP4, of those with the first byte.
+fn of_earlier(header: &[u8]) -> Option<&'static str>
+    ensures { TellsFirst (Accepts header.now) earlier (option_map (λ t. t.now) result) }
+{
+    if header.is_empty() {
+        return None;
+    }
+    first_type(table::earlier(header[0]), header)
+}
+
+fn of_between(header: &[u8]) -> Option<&'static str>
+    ensures { TellsFirst (Accepts header.now) between (option_map (λ t. t.now) result) }
+{
+    first_type(table::between(), header)
+}
+
+/// The type of the first rule before text, of those with the first byte.
+fn of_later(header: &[u8]) -> Option<&'static str>
+    ensures { TellsFirst (Accepts header.now) later (option_map (λ t. t.now) result) }
+{
+    if header.is_empty() {
+        return None;
+    }
+    first_type(table::later(header[0]), header)
+}

@@ -1,0 +1,67 @@
+//! A row of a table, as the standard writes it: a pattern, a mask, and what is ignored in front.
+ghost use Rattle.std.specs.Prelude.{◌≡◌, ◌↔◌, IsTrue, map, option_map};
+ghost use Rattle.mime_sniff.specs.Listed.{pattern_listed, rule_listed};
+ghost use Rattle.mime_sniff.specs.Row.{EndsTag, Fits, mask_at};
+ghost use Rattle.mime_sniff.specs.Rule.{FitsRule, TellsFirst};
+
+/// What a row asks of a buffer, and the type that it tells.
+pub(crate) struct Row {
+    /// The bytes, where the mask has bits.
+    pub pattern: &'static [u8],
+    /// Which bits of each byte are asked: all of them past its end.
+    pub mask: &'static [u8],
+    /// Whether white space may stand in front.
+    pub ignores_white: bool,
+    /// Whether a space or ">" has to follow.
+    pub ends_tag: bool,
+    /// The type.
+    pub mime_type: &'static str,
+}
+
+/// The type of the first of the rows that `text` fits. What they ignore in front has been passed over.
+pub(crate) fn first_type(rows: &[Row], text: &[u8]) -> Option<&'static str>
+    ensures { TellsFirst (FitsRule text.now) (map rule_listed rows.now)
+        (option_map (λ t. t.now) result) }
+{
+    for row in rows {
+        if fits(row, text) {
+            return Some(row.mime_type);
+        }
+    }
+    None
+}
+
+/// Whether the pattern stands first in `text`, and behind it a byte that ends a tag if the row asks for one.
+fn fits(row: &Row, text: &[u8]) -> bool
+    ensures { IsTrue result ↔ Fits (pattern_listed row.now) text.now }
+{
+    let end = row.pattern.len();
+    if text.len() < end || row.ends_tag && !ends_tag(text, end) {
+        return false;
+    }
+    // From the end, since patterns that begin alike end otherwise.
+    for i in (0..end).rev() {
+        if text[i] & mask_at(row.mask, i) != row.pattern[i] {
+            return false;
+        }
+    }
+    true
+}
+
+fn mask_at(mask: &[u8], i: usize) -> u8
+    ensures { result ≡ mask_at mask.now i }
+{
+    match mask.get(i) {
+        Some(bits) => *bits,
+        None => 0xFF,
+    }
+}
+
+fn ends_tag(text: &[u8], place: usize) -> bool
+    ensures { IsTrue result ↔ EndsTag text.now place }
+{
+    match text.get(place) {
+        Some(byte) => matches!(*byte, b' ' | b'>'),
+        None => false,
+    }
+}
