@@ -1,8 +1,10 @@
 -- The first rule of a list that has a property, and the type that it tells.
 use Rattle.std.proofs.Common.{◌≡◌, ◌↔◌, ◌⊎◌, inl, inr, ℕ, Bool, true, false, List, [], ◌∷◌, ◌++◌, Option, None, Some, refl, ap, subst, sym, ◌∙◌, append_assoc, arith}
 use Rattle.std.proofs.lemmas.List.Elements.{All-cons, All-nil, All-tail}
+use Rattle.std.proofs.lemmas.Bool.{and_parts}
+use Rattle.std.proofs.lemmas.List.Folds.{list_all-append}
 use Rattle.std.specs.Prelude.{All}
-use Rattle.std.specs.List.{AllByRecursion, filter}
+use Rattle.std.specs.List.{AllByRecursion, filter, list_all}
 use Rattle.mime_sniff.specs.Rule.{IsFirst, Rule, TellsFirst}
 
 module _ (P : Rule → Type 0) where
@@ -103,6 +105,14 @@ module _ (P : Rule → Type 0) where
   one_first [] (Some a) b (r, first, is) g = absurd (no_first r first)
   one_first [] None (Some b) h (r, first, is) = absurd (no_first r first)
   one_first (r ∷ rules) a b h g = both r rules a b (one_first rules a b) (tells_cases r rules a h) (tells_cases r rules b g)
+
+-- what all of the rules pass, the first one passes
+pub told_passes : (P : Rule → Type 0) (test : Rule → Bool) (rules : List Rule) (t : List ℕ) → list_all test rules ≡ true → TellsFirst P rules (Some t)
+    → (rule : Rule) × (test rule ≡ true) × (rule.mime_type ≡ t)
+told_passes P test rules t all (rule, first, is) =
+    let here = and_parts (list_all test first.before) (list_all test (rule ∷ first.after))
+    (sym (list_all-append test first.before (rule ∷ first.after)) ∙ (ap (λ xs. list_all test xs) (sym first.whole) ∙ all)) in
+    (rule, (and_parts (test rule) (list_all test first.after) here.1).0, is)
 
 -- properties that the rules have alike
 module _ (P Q : Rule → Type 0) where

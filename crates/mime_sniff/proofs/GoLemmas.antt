@@ -1,11 +1,12 @@
 -- The rules of Go, part by part.
-use Rattle.std.proofs.Common.{◌≡◌, ◌↔◌, true, ℕ, List, [], ◌∷◌, ◌++◌, codes, Option, None, Some, refl}
+use Rattle.std.proofs.Common.{◌≡◌, ◌↔◌, true, ℕ, List, [], ◌∷◌, ◌++◌, ◌<◌, ◌≤◌, ◌&&◌, Bool, codes, length, nat_le, nat_lt, Option, None, Some, refl, subst}
+use Rattle.std.proofs.lemmas.Bool.{and_parts, leb-true, ltb-true}
 use Rattle.std.specs.List.{list_all}
 use Rattle.infer_formats.specs.Text.{IsBinary}
 use Rattle.mime_sniff.specs.Mp4.{IsMp4}
 use Rattle.mime_sniff.specs.Go.{between, earlier, later, markup, mp4_rule, rules, text_rule}
 use Rattle.mime_sniff.specs.Rule.{Accepts, FitsRule, Rule, TellsFirst}
-use Rattle.mime_sniff.proofs.FirstLemmas.{tells_alike, tells_here, tells_later, tells_left, tells_none, tells_right}
+use Rattle.mime_sniff.proofs.FirstLemmas.{told_passes, tells_alike, tells_here, tells_later, tells_left, tells_none, tells_right}
 use Rattle.mime_sniff.proofs.RuleLemmas.{is_markup_rule, is_plain_rule}
 
 pub markup_is : list_all is_markup_rule markup ≡ true
@@ -72,3 +73,17 @@ module _ (b : List ℕ) where
 
             pub by_none : IsBinary b → TellsFirst P rules None
             by_none is = tells_right P before_text (text_rule ∷ []) None (past_between None no_later) (tells_later P text_rule [] None (λ not. not is) (tells_none P))
+
+-- no type is empty, or longer than "application/vnd.ms-fontobject"
+abbrev is_short : Rule → Bool
+is_short rule = nat_lt 0 (length rule.mime_type) && nat_le (length rule.mime_type) 29
+
+all_short : list_all is_short rules ≡ true
+unfolding markup earlier between later
+all_short = refl
+
+pub told_short : (P : Rule → Type 0) (t : List ℕ) → TellsFirst P rules (Some t) → (0 < length t) × (length t ≤ 29)
+told_short P t h =
+    let (rule, short, is) = told_passes P is_short rules t all_short h in
+    let parts = and_parts (nat_lt 0 (length rule.mime_type)) (nat_le (length rule.mime_type) 29) short in
+    subst (λ u. (0 < length u) × (length u ≤ 29)) is (ltb-true 0 _ parts.0, leb-true (length rule.mime_type) 29 parts.1)

@@ -1,5 +1,5 @@
 //! What Go's package `net/http` takes first bytes for.
-ghost use Rattle.std.specs.Prelude.{◌≡◌, ◌↔◌, map, option_map};
+ghost use Rattle.std.specs.Prelude.{◌≡◌, ◌<◌, ◌≤◌, ◌↔◌, length, map, option_map};
 ghost use Rattle.mime_sniff.specs.Go.{IsContentType, between, earlier, later, markup, rules};
 ghost use Rattle.mime_sniff.specs.Rule.{Accepts, TellsFirst};
 
@@ -13,16 +13,19 @@ mod table;
 /// How many bytes are looked at.
 pub const HEADER_LENGTH: usize = 512;
 
-/// The MIME type of a file that begins with these bytes, as Go's `http.DetectContentType` tells it, byte for byte. It is
-/// never empty: what no rule accepts is `application/octet-stream`.
+/// The MIME type of a file that begins with these bytes, as Go's `http.DetectContentType` tells it, byte for byte. What
+/// no rule accepts is `application/octet-stream`. The text has 29 bytes at most.
 ///
 /// Only the first 512 bytes count. A text has its encoding behind it, as in `text/html; charset=utf-8`.
 ///
 /// ```
-/// assert_eq!(rt; mime_sniff::go::detect_content_type(b"<p>Hello"), "text/html; charset=utf-8");
+/// let told = mime_sniff::go::detect_content_type(b"<p>Hello");
+/// assert_eq!(rt; told, "text/html; charset=utf-8");
 /// ```
 pub fn detect_content_type(buf: &[u8]) -> &'static str
-    ensures { IsContentType buf.now result.now }
+    ensures answer { IsContentType buf.now result.now }
+    ensures some { 0 < length result.now }
+    ensures short { length result.now ≤ 29 }
 {
     match first_rule(&buf[..HEADER_LENGTH.min(buf.len())]) {
         Some(mime_type) => mime_type,

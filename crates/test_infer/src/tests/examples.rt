@@ -83,6 +83,7 @@ fn wider(rt: HostRuntime) -> Result<(), Fail> {
 #[test]
 fn content_types(rt: HostRuntime) -> Result<(), Fail> {
     // mime_sniff::go::detect_content_type
-    assert_eq!(rt; mime_sniff::go::detect_content_type(b"<p>Hello"), "text/html; charset=utf-8");
+    let told = mime_sniff::go::detect_content_type(b"<p>Hello");
+    assert_eq!(rt; told, "text/html; charset=utf-8");
     Ok(())
 }
