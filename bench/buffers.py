@@ -73,6 +73,21 @@ def long():
     ]
 
 
+def headers():
+    """Buffers of 512 bytes, of which a content type is told."""
+    begun = lambda front, rest=TEXT * 100: (front + rest)[:512]
+    return [
+        ("512 bytes of English-like text", begun(b"")),
+        ("512 bytes of such text behind \"R\", with which RIFF and RAR begin", begun(b"R")),
+        ("512 bytes of such text behind spaces", begun(b" " * 64)),
+        ("512 bytes of HTML that begins with \"<p>\"", begun(b"<p>")),
+        ("512 bytes of markup that begins with no known tag", begun(b"<x>")),
+        ("512 spaces", b" " * 512),
+        ("512 zeros", bytes(512)),
+        ("a PNG image", begun(b"\x89PNG\r\n\x1a\n", bytes(512))),
+    ]
+
+
 def growing():
     """The kinds of buffers that grow, each with its buffers of every length."""
     kinds = [(name, [unit * (length // len(unit)) for _, length in LENGTHS]) for name, unit in UNITS]
