@@ -41,6 +41,9 @@ module _ (b : List ℕ) where
   from_between : (t : List ℕ) → TellsFirst P before_later (Some t) → TellsFirst P rules (Some t)
   from_between t h = tells_left P before_text (text_rule ∷ []) t (tells_left P before_later later t h)
 
+  pub by_markup : (t : List ℕ) → TellsFirst P markup (Some t) → TellsFirst P rules (Some t)
+  by_markup t h = from_between t (tells_left P before_mp4 (mp4_rule ∷ between) t (tells_left P markup earlier t h))
+
   module _ (no_markup : TellsFirst P markup None) where
     pub by_earlier : (t : List ℕ) → TellsFirst P earlier (Some t) → TellsFirst P rules (Some t)
     by_earlier t h = from_between t (tells_left P before_mp4 (mp4_rule ∷ between) t (tells_right P markup earlier (Some t) no_markup h))

@@ -1,5 +1,5 @@
--- What Go's `http.DetectContentType` answers: the standard's tables but for MP3 without a tag, with fonts and WebAssembly,
--- WebM by four bytes, and RAR as its files are.
+-- What Go's `http.DetectContentType` answers: the standard's tables but for MP3 without a tag, with fonts and
+-- WebAssembly, WebM by four bytes, and RAR as its files are.
 use Rattle.std.specs.Prelude.{◌≡◌, ℕ, ◌==◌, Bool, true, false, List, [], ◌∷◌, ◌++◌, Option, codes, replicate, slice_index, take, unwrap_or}
 use Rattle.std.specs.List.{filter}
 use Rattle.mime_sniff.specs.Row.{Pattern}
@@ -9,7 +9,8 @@ abbrev pub rule : Signature → List ℕ → Rule
 rule signature mime_type = record { signature = signature; mime_type = mime_type }
 
 abbrev pub pattern : List ℕ → List ℕ → Bool → Bool → Signature
-pattern bytes mask ignores_white ends_tag = fixed (record { bytes = bytes; mask = mask; ignores_white = ignores_white; ends_tag = ends_tag })
+pattern bytes mask ignores_white ends_tag =
+    fixed (record { bytes = bytes; mask = mask; ignores_white = ignores_white; ends_tag = ends_tag })
 
 -- these bytes; or these as far as the mask has bits
 abbrev pub exact : List ℕ → List ℕ → Rule
@@ -118,7 +119,9 @@ header b = take 512 b
 
 -- t is the type of the first rule that accepts b's header, and that of unknown bytes if none does
 abbrev pub IsContentType : List ℕ → List ℕ → Type 0
-IsContentType b t = (told : Option (List ℕ)) × TellsFirst (Accepts (header b)) rules told × (t ≡ unwrap_or told (codes "application/octet-stream"))
+IsContentType b t =
+    (told : Option (List ℕ)) × TellsFirst (Accepts (header b)) rules told
+    × (t ≡ unwrap_or told (codes "application/octet-stream"))
 
 -- the first byte of a rule's pattern
 abbrev pub lead_of : Signature → ℕ

@@ -18,13 +18,14 @@ mask_at mask i = slice_index_or mask i 0xFF
 abbrev pub EndsTag : List ℕ → ℕ → Type 0
 EndsTag b p = (p < length b) × ((slice_index b p ≡ 0x20) ⊎ (slice_index b p ≡ 0x3E))
 
--- the text begins with the pattern, as far as the mask has bits, and with a byte that ends a tag behind it if that is asked
+-- the text begins with the pattern, as far as the mask has bits, and a byte that ends a tag follows if that is asked
 pub record Fits (pattern : Pattern) (text : List ℕ) : Type 0 where
   pub long : length pattern.bytes ≤ length text
-  pub same : (i : ℕ) → i < length pattern.bytes → bit_and (slice_index text i) (mask_at pattern.mask i) ≡ slice_index pattern.bytes i
+  pub same : (i : ℕ) → i < length pattern.bytes
+      → bit_and (slice_index text i) (mask_at pattern.mask i) ≡ slice_index pattern.bytes i
   pub ends : IsTrue pattern.ends_tag → EndsTag text (length pattern.bytes)
 
--- b is what is ignored, here white space or nothing, and then a text that fits the pattern and begins with nothing to ignore
+-- b is what is ignored, white space or nothing, and then a text that fits the pattern and begins with no more of it
 abbrev pub FitsBehind : Bool → Pattern → List ℕ → Type 0
 FitsBehind true pattern b = Behind IsSpace (λ text. NoneBegins IsSpace text × Fits pattern text) b
 FitsBehind false pattern b = Fits pattern b

@@ -1,5 +1,8 @@
-use Rattle.mime_sniff.proofs.GoLemmas.{by_between, by_earlier, by_later, by_mp4, by_none, by_text}
+use Rattle.mime_sniff.proofs.GoLemmas.{by_between, by_earlier, by_later, by_markup, by_mp4, by_none, by_text}
 use Rattle.mime_sniff.proofs.go.first_rule.Goals as goal
+
+pub returns-in-Some : goal.returns-in-Some
+returns-in-Some c = by_markup c.args.header.now c.in-Some.found.now c.in-Some.ensures
 
 pub returns-in-Some-of_earlier : goal.returns-in-Some-of_earlier
 returns-in-Some-of_earlier c = by_earlier c.args.header.now c.in_default.ensures c.in-Some-of_earlier.found.now c.in-Some-of_earlier.ensures
