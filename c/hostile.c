@@ -93,6 +93,9 @@ static void ask(const void *buf, size_t len) {
     char name[16];
     wants(infer_encoding(buf, len, name, sizeof name) == strlen(name));
     wants(infer_encoding(buf, len, NULL, 0) == strlen(name));
+    char content_type[INFER_TEXT_SIZE];
+    wants(infer_detect_content_type(buf, len, content_type, sizeof content_type) == strlen(content_type) && *content_type);
+    wants(infer_detect_content_type(buf, len, NULL, 0) == strlen(content_type));
     ask_types(buf, len);
     ask_named(buf, len);
     infer_is(buf, len, buf, len);

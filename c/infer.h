@@ -125,6 +125,10 @@ size_t infer_class_name(int32_t class_code, char *out, size_t size);
  * its encoding is not known. A character that is cut at the end makes no difference. */
 size_t infer_encoding(const void *buf, size_t len, char *out, size_t size);
 
+/* The MIME type of a file that begins with these bytes, as Go's http.DetectContentType tells it by the first 512 of them,
+ * such as "text/html; charset=utf-8". It is never empty. */
+size_t infer_detect_content_type(const void *buf, size_t len, char *out, size_t size);
+
 /* What the calls that end in _text ask, for languages that cannot: `out` gets where the text stands, and its size with
  * the zero. It must have a text before too, such as {"", 1}. */
 struct infer_text {

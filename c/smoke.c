@@ -104,6 +104,20 @@ static void encoded(const char *name, const char *buf, size_t len) {
     same(name, strcmp(out, name), 0);
 }
 
+static void content_type(const char *type, const char *buf, size_t len) {
+    char out[INFER_TEXT_SIZE];
+    same(type, (long)infer_detect_content_type(buf, len, out, sizeof out), (long)strlen(type));
+    same(type, strcmp(out, type), 0);
+}
+
+static void content_types(void) {
+    content_type("text/plain; charset=utf-8", NULL, 0);
+    content_type("text/html; charset=utf-8", "\n <p>", 5);
+    content_type("text/plain; charset=utf-8", "\n <p", 4);
+    content_type("video/mp4", "\0\0\0\x0C" "ftypmp42", 12);
+    content_type("application/octet-stream", "\0\0\0\x08" "ftypmp42", 12);
+}
+
 static void encodings(void) {
     encoded("us-ascii", "plain\n", 6);
     encoded("utf-8", "caf\xC3\xA9", 5);
@@ -382,6 +396,7 @@ int main(void) {
     own_texts();
     class_names();
     encodings();
+    content_types();
     classes();
     samples();
     types();

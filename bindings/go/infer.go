@@ -21,6 +21,11 @@ static struct name encoding(const uint8_t *buf, size_t len) {
 	found.size = infer_encoding(buf, len, found.text, sizeof found.text);
 	return found;
 }
+static struct name content_type(const uint8_t *buf, size_t len) {
+	struct name found;
+	found.size = infer_detect_content_type(buf, len, found.text, sizeof found.text);
+	return found;
+}
 static bool is_decided(const uint8_t *buf, size_t len) { return infer_is_decided(buf, len); }
 static bool more_is_decided(const uint8_t *buf, size_t len) { return infer_more_is_decided(buf, len); }
 static bool may_become(const uint8_t *buf, size_t len, int32_t row) { return infer_may_become(buf, len, row); }
@@ -165,6 +170,13 @@ func Encoding(b []byte) (name string, ok bool) {
 		}
 	}
 	return string(told), len(told) > 0
+}
+
+// DetectContentType tells the MIME type of a file that begins with these bytes, as the function of this name in net/http
+// does, byte for byte.
+func DetectContentType(b []byte) string {
+	found := C.content_type(first(b), C.size_t(len(b)))
+	return string(unsafe.Slice((*byte)(unsafe.Pointer(&found.text[0])), int(found.size)))
 }
 
 // Verdict tells what Detect does, and whether it is final: no bytes that may follow can change it then.

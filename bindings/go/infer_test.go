@@ -10,6 +10,7 @@ import (
 	"io/fs"
 	"math"
 	"math/rand"
+	"net/http"
 	"os"
 	"path/filepath"
 	"runtime/debug"
@@ -118,6 +119,25 @@ func TestEncodings(t *testing.T) {
 		}
 		if got, _ := Encoding(data); got != want {
 			t.Fatalf("%q: %q", data, got)
+		}
+	}
+}
+
+// What net/http tells of a million buffers: those of the vectors, with bytes in front, changed and cut.
+func TestContentTypes(t *testing.T) {
+	var seeds [][]byte
+	for _, line := range lines(t, "content_types.tsv") {
+		seeds = append(seeds, decode(t, line[0]))
+	}
+	chance := rand.New(rand.NewSource(2))
+	for round := 0; round < 1_000_000; round++ {
+		data := append(bytes.Repeat([]byte{"\t\n\f\r "[chance.Intn(5)]}, chance.Intn(3)*chance.Intn(3)), seeds[chance.Intn(len(seeds))]...)
+		if len(data) > 0 && chance.Intn(2) == 0 {
+			data[chance.Intn(len(data))%40] = byte(chance.Intn(256))
+		}
+		data = data[:len(data)-chance.Intn(len(data)+1)*chance.Intn(2)]
+		if got, want := DetectContentType(data), http.DetectContentType(data); got != want {
+			t.Fatalf("%q: %q, and in net/http %q", data, got, want)
 		}
 	}
 }
@@ -571,6 +591,7 @@ func TestAllocations(t *testing.T) {
 		"Detect":              {0, func() { Detect(jpeg) }},
 		"DetectMore":          {0, func() { DetectMore(jpeg) }},
 		"Encoding":            {0, func() { Encoding(text) }},
+		"DetectContentType":   {1, func() { DetectContentType(jpeg) }},
 		"IsDecided":           {0, func() { IsDecided(jpeg) }},
 		"IsMoreDecided":       {0, func() { IsMoreDecided(jpeg) }},
 		"MayBecome":           {0, func() { MayBecome(jpeg, extension) }},

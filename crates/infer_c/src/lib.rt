@@ -24,6 +24,7 @@ ghost use Rattle.infer_more.specs.Wider.{IsWider, shown};
 ghost use Rattle.infer.specs.Triple.{Triple};
 ghost use Rattle.infer_more.specs.Line.{Row};
 ghost use Rattle.infer_more.specs.Text.{IsAnswerLine, IsMistake, IsTypesAnswer, reason_text, rows_of};
+ghost use Rattle.mime_sniff.specs.Go.{IsContentType};
 ghost use Rattle.infer_c.specs.Named.{StoresNamed};
 ghost use Rattle.infer_c.specs.Written.{WritesText, WritesWhole};
 
@@ -250,6 +251,16 @@ pub extern "C" fn infer_encoding(buf: &[u8], out: &mut [u8]) -> usize
         Some(found) => written::write_text(found.name(), out),
         None => written::write_text("", out),
     }
+}
+
+/// The length of the content type of `buf`, as Go's function tells it, which is written to `out`. It is at most 73.
+#[unsafe(no_mangle)]
+pub extern "C" fn infer_detect_content_type(buf: &[u8], out: &mut [u8]) -> usize
+    ensures text { (found : List ℕ) × IsContentType buf.now found × (result ≡ length found)
+        × WritesText found out.old out.new }
+    ensures few { result ≤ 73 }
+{
+    written::write_text(mime_sniff::go::detect_content_type(buf), out)
 }
 
 /// The length of the row's sample, which is written to `out` if it fits, and 0 if the row is never the answer or there is
