@@ -7,4 +7,5 @@ pub mod Placed
 pub mod PlacedLemmas
 pub mod TableLemmas
 pub mod KindLemmas
+pub mod OddLemmas
 pub mod LawLemmas

@@ -11,4 +11,5 @@ pub mod Bytes
 pub mod Asks
 pub mod Join
 pub mod Named
+pub mod Odd
 pub mod Laws

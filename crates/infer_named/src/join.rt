@@ -302,7 +302,7 @@ fn fits(reading: &Reading, buf: &[u8]) -> bool
 }
 
 /// Whether the lead begins with one of the texts.
-fn begins_with(lead: &[u8], leads: &[&[u8]]) -> bool
+pub fn begins_with(lead: &[u8], leads: &[&[u8]]) -> bool
     ensures { result ≡ list_any (λ text. starts_with nat_eq lead.now text) (texts leads.now) }
 {
     for text in leads {

@@ -5,7 +5,7 @@
 //! which rows may accept the bytes of such a file.
 //!
 //! Each module uses only those before it: `table`, the keys with their readings; `names`, the key of a name; `bytes`, what
-//! is asked of the bytes beside their wider answer; `join`, both together.
+//! is asked of the bytes beside their wider answer; `join`, both together; `odd`, what is odd about a name.
 #![tactic(auto)]
 
 ghost use Rattle.std.specs.Prelude.{◌≡◌, option_map};
@@ -15,12 +15,14 @@ ghost use Rattle.infer_named.specs.Bytes.{IsKind, lead_bytes, lead_of};
 ghost use Rattle.infer_named.specs.Listed.{key_listed};
 ghost use Rattle.infer_named.specs.Named.{IsNamed};
 ghost use Rattle.infer_named.specs.Names.{IsKey};
+ghost use Rattle.infer_named.specs.Odd.{AreOddities};
 ghost use Rattle.infer_named.specs.Table.{keys};
 
 mod bytes;
 mod join;
 pub mod laws;
 mod names;
+mod odd;
 mod table;
 #[cfg(test)]
 mod tests;
@@ -28,6 +30,7 @@ mod tests;
 pub use bytes::{Kind, Lead};
 use infer::Type;
 pub use join::{Named, Standing, Told};
+pub use odd::Oddities;
 pub use table::{Asks, Key, NamedType, Origin, Part, Reading};
 
 /// What the name and the bytes tell.
@@ -65,4 +68,12 @@ pub fn lead(buf: &[u8]) -> Lead
     ensures { lead_bytes result ≡ lead_of buf.now }
 {
     bytes::lead_of(buf)
+}
+
+/// What is odd about the name. None of it changes what the name and the bytes tell: it is for those who keep a file under
+/// its name, or show it.
+pub fn oddities(name: &[u8]) -> Oddities
+    ensures { AreOddities keys name.now result }
+{
+    odd::oddities_of(name)
 }

@@ -23,7 +23,7 @@ pub fn key(name: &[u8]) -> Option<&'static Key>
 }
 
 /// What stands behind the last "/" or "\".
-fn base(name: &[u8]) -> &[u8]
+pub fn base(name: &[u8]) -> &[u8]
     ensures { IsBase name.now result.now }
 {
     match memrchr2(b'/', b'\\', name) {
@@ -118,7 +118,7 @@ fn extension_key(stem: &[u8]) -> Option<&'static Key>
 }
 
 /// The last dot before the place, but for one that is the first byte.
-fn last_dot(stem: &[u8], before: usize) -> Option<usize>
+pub fn last_dot(stem: &[u8], before: usize) -> Option<usize>
     requires { before ≤ length stem.now }
     ensures dot { IsLastDot stem.now before result }
 {
@@ -140,7 +140,7 @@ fn second_dot(stem: &[u8], last: Option<usize>) -> Option<usize>
 }
 
 /// The extension behind a dot, if there is one.
-fn extension_at(stem: &[u8], dot: Option<usize>) -> Option<&'static Key>
+pub fn extension_at(stem: &[u8], dot: Option<usize>) -> Option<&'static Key>
     requires { IfSome dot (λ place. place < length stem.now) }
     ensures { option_map (λ k. key_listed k.now) result ≡ extension_at keys stem.now dot }
 {
@@ -246,7 +246,7 @@ fn is_maker(text: &[u8]) -> bool
 
 /// The key of the table that is this part of a name, with this text in small letters.
 #[tactic(auto, using(crate::proofs::TableLemmas::found_in_slot))]
-fn entry(part: Part, text: &[u8]) -> Option<&'static Key>
+pub fn entry(part: Part, text: &[u8]) -> Option<&'static Key>
     ensures { option_map (λ k. key_listed k.now) result ≡ entry keys part text.now }
 {
     find_in(slot(slot_of(text)), part, text)

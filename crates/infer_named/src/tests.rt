@@ -3,6 +3,7 @@ use crate::{Standing, named};
 use std::test::Fail;
 
 mod generated;
+mod odd;
 
 /// Each begins as the document of its type has it.
 const TEXTS: [(&[u8], &str); 8] = [

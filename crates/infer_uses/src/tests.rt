@@ -21,7 +21,7 @@ fn what_passes(rt: HostRuntime) -> Result<(), Fail> {
         "application/json",
         "text/x-python",
     ];
-    let cases: [(&[u8], &[u8], bool); 16] = [
+    let cases: [(&[u8], &[u8], bool); 19] = [
         (b"photo.png", PNG, true),
         (b"PHOTO.PNG~", PNG, true),
         (b"data.json", JSON, true),
@@ -34,6 +34,9 @@ fn what_passes(rt: HostRuntime) -> Result<(), Fail> {
         (b"photo.jpg", PNG, false),
         (b"photo", PNG, false),
         (b"photo.png\0.txt", PNG, false),
+        (b"photo\n.png", PNG, false),
+        (b"\xE2\x80\xAEphoto.png", PNG, false),
+        (b"photo.py.png", PNG, true),
         (b"__init__.py", b"", false),
         (b"x.unknown", b"hello\n", false),
         (b"x.unknown", b"\0\x01", false),
