@@ -12,4 +12,5 @@ pub mod Asks
 pub mod Join
 pub mod Named
 pub mod Odd
+pub mod Reading
 pub mod Laws

@@ -129,6 +129,13 @@ fn first_type(readings: &[Reading]) -> Option<Told>
     }
 }
 
+/// What the name and the bytes tell.
+pub fn named_of(name: &[u8], buf: &[u8]) -> Named
+    ensures { IsNamed name.now buf.now result }
+{
+    answer(name, buf, infer_more::get(buf))
+}
+
 /// What the name and the bytes tell, whose wider answer has this type.
 pub fn answer(name: &[u8], buf: &[u8], found: Option<Type>) -> Named
     requires { IsWiderAnswer buf.now (option_map triple_of found) }

@@ -5,17 +5,20 @@
 //! which rows may accept the bytes of such a file.
 //!
 //! Each module uses only those before it: `table`, the keys with their readings; `names`, the key of a name; `bytes`, what
-//! is asked of the bytes beside their wider answer; `join`, both together; `odd`, what is odd about a name.
+//! is asked of the bytes beside their wider answer; `join`, both together; `read`, the front of a file or of a reader;
+//! `odd`, what is odd about a name.
 #![tactic(auto)]
 
-ghost use Rattle.std.specs.Prelude.{◌≡◌, option_map};
+ghost use Rattle.std.specs.Prelude.{◌≡◌, ◌≤◌, IfOk, None, option_map};
 ghost use Rattle.infer.specs.Triple.{triple_of};
+ghost use Rattle.infer.specs.Watched.{fault_of};
 ghost use Rattle.infer_more.specs.Wider.{IsWiderAnswer};
 ghost use Rattle.infer_named.specs.Bytes.{IsKind, lead_bytes, lead_of};
 ghost use Rattle.infer_named.specs.Listed.{key_listed};
 ghost use Rattle.infer_named.specs.Named.{IsNamed};
 ghost use Rattle.infer_named.specs.Names.{IsKey};
 ghost use Rattle.infer_named.specs.Odd.{AreOddities};
+ghost use Rattle.infer_named.specs.Reading.{NamesOpened, NamesReader, NamesSome};
 ghost use Rattle.infer_named.specs.Table.{keys};
 
 mod bytes;
@@ -23,21 +26,26 @@ mod join;
 pub mod laws;
 mod names;
 mod odd;
+mod read;
 mod table;
 #[cfg(test)]
 mod tests;
 
 pub use bytes::{Kind, Lead};
-use infer::Type;
+use infer::{FRONT, Fault, Type, Watched};
 pub use join::{Named, Standing, Told};
 pub use odd::Oddities;
+use std::alloc::Allocator;
+use std::io;
+use std::io::Read;
+use std::rt::Files;
 pub use table::{Asks, Key, NamedType, Origin, Part, Reading};
 
 /// What the name and the bytes tell.
 pub fn named(name: &[u8], buf: &[u8]) -> Named
     ensures { IsNamed name.now buf.now result }
 {
-    join::answer(name, buf, infer_more::get(buf))
+    join::named_of(name, buf)
 }
 
 /// What they tell where the type of the wider answer of the bytes is known already.
@@ -46,6 +54,70 @@ pub fn named_with(name: &[u8], buf: &[u8], found: Option<Type>) -> Named
     ensures { IsNamed name.now buf.now result }
 {
     join::answer(name, buf, found)
+}
+
+/// What the name and the first 8192 bytes of a reader tell, or all if it has fewer. It reads and refuses as
+/// `infer_more::get_from_reader` does.
+pub fn named_from_reader<A: Allocator, R: Read>(
+    alloc: A,
+    name: &[u8],
+    r: &mut Watched<R>,
+) -> Result<Named, Fault>
+    requires { fault_of r.old ≡ None }
+    ensures { NamesReader R.remaining FRONT name.now r.old r.new result }
+{
+    read::named_from_reader_within(alloc, name, r, FRONT)
+}
+
+/// [`named_from_reader`] with `n` bytes in place of 8192, of which there are from 1 to 65536.
+pub fn named_from_reader_within<A: Allocator, R: Read>(
+    alloc: A,
+    name: &[u8],
+    r: &mut Watched<R>,
+    n: usize,
+) -> Result<Named, Fault>
+    requires no_fault { fault_of r.old ≡ None }
+    requires least { 1 ≤ n }
+    requires most { n ≤ 65536 }
+    ensures { NamesReader R.remaining n name.now r.old r.new result }
+{
+    read::named_from_reader_within(alloc, name, r, n)
+}
+
+/// What a path, as a name, and the first 8192 bytes of its file tell, or all if it has fewer. It opens the file, reserves
+/// 8192 bytes and reads, in this order.
+pub fn named_from_path<R: Files, A: Allocator>(rt: &R, alloc: A, path: &str) -> Result<Named, Fault>
+    ensures { NamesSome FRONT path.now result }
+{
+    read::named_from_path_within(rt, alloc, path, FRONT)
+}
+
+/// [`named_from_path`] with `n` bytes in place of 8192, of which there are from 1 to 65536.
+pub fn named_from_path_within<R: Files, A: Allocator>(
+    rt: &R,
+    alloc: A,
+    path: &str,
+    n: usize,
+) -> Result<Named, Fault>
+    requires least { 1 ≤ n }
+    requires most { n ≤ 65536 }
+    ensures { NamesSome n path.now result }
+{
+    read::named_from_path_within(rt, alloc, path, n)
+}
+
+/// [`named_from_path_within`] under any name, for what is opened already, or for the error that opening gave, which is `Open`
+/// then. It reads into `room`, which is made `n` bytes long if it is shorter, so that one room serves many files.
+pub fn named_from_opened<A: Allocator, R: Read>(
+    room: &mut Vec<u8, A>,
+    name: &[u8],
+    opened: &mut io::Result<Watched<R>>,
+    n: usize,
+) -> Result<Named, Fault>
+    requires { IfOk opened.old (λ r. fault_of r ≡ None) }
+    ensures { NamesOpened R.remaining n name.now opened.old opened.new result }
+{
+    read::named_from_opened(room, name, opened, n)
 }
 
 /// The key of the name, and `None` exactly if it has none.

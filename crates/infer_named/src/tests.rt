@@ -4,6 +4,7 @@ use std::test::Fail;
 
 mod generated;
 mod odd;
+mod read;
 
 /// Each begins as the document of its type has it.
 const TEXTS: [(&[u8], &str); 8] = [
