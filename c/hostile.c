@@ -49,6 +49,9 @@ static void ask_types(const void *buf, size_t len) {
 
 /* The buffer as a name, of itself and of no bytes. The answer ends at such a page too. */
 static void ask_named(const void *buf, size_t len) {
+    const uint32_t odd = infer_oddities(buf, len);
+    wants(odd <= (INFER_ODD_CONTROL | INFER_ODD_DIRECTION | INFER_ODD_END | INFER_ODD_TWO));
+    wants(len == 0 || !memchr(buf, 0, len) || odd & INFER_ODD_CONTROL);
     for (int round = 0; round < 2; round++) {
         const void *front = round ? NULL : buf;
         const size_t size = round ? 0 : len;

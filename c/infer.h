@@ -197,6 +197,16 @@ struct infer_named_answer {
  * bytes with a length, so one with a zero in it is seen. `answer` must not be null, and what stood in it counts for nothing. */
 void infer_named(const void *name, size_t name_len, const void *buf, size_t len, struct infer_named_answer *answer);
 
+/* What is odd about a name: a sum of these, and 0 if nothing is. It changes nothing of what the name tells. A name with one of
+ * the first two misleads who sees it, so a gate should refuse it. Honest names have two extensions too, as initial.json.gz. */
+enum infer_oddity {
+    INFER_ODD_CONTROL = 1,   /* a control character of ASCII: a byte below 20, or 7F */
+    INFER_ODD_DIRECTION = 2, /* a mark of the direction of writing, in UTF-8: behind one gnp.exe is shown as exe.png */
+    INFER_ODD_END = 4,       /* the base ends in a dot or a blank, which Windows leaves out */
+    INFER_ODD_TWO = 8        /* its last part and an earlier one are extensions, and no one extension together: shell.php.jpg */
+};
+uint32_t infer_oddities(const void *name, size_t name_len);
+
 /* Whether some built-in row with this extension or MIME type accepts the buffer. It need not be the answer. */
 bool infer_is(const void *buf, size_t len, const char *extension, size_t extension_len);
 bool infer_is_mime(const void *buf, size_t len, const char *mime_type, size_t mime_type_len);

@@ -340,6 +340,19 @@ static void names(void) {
     same("that of the name", strcmp(got.name.extension, "zip"), 0);
 }
 
+static void odd_names(void) {
+    same("a plain name", infer_oddities("a/photo.png", 11), 0);
+    same("no name", infer_oddities(NULL, 0), 0);
+    same("a control", infer_oddities("photo.png\n", 10), INFER_ODD_CONTROL);
+    same("a zero", infer_oddities("photo.png\0.txt", 14), INFER_ODD_CONTROL);
+    same("a mark of direction", infer_oddities("\xE2\x80\xAEgnp.exe", 10), INFER_ODD_DIRECTION);
+    same("a dot at the end", infer_oddities("photo.png.", 10), INFER_ODD_END);
+    same("two extensions", infer_oddities("shell.php.jpg", 13), INFER_ODD_TWO);
+    same("one of two parts", infer_oddities("a.tar.gz", 8), 0);
+    same("all but two extensions", infer_oddities("\x1B\xD8\x9C ", 4), INFER_ODD_CONTROL | INFER_ODD_DIRECTION | INFER_ODD_END);
+    same("all but an end", infer_oddities("\x7F\xE2\x81\xA6.php.jpg", 12), INFER_ODD_CONTROL | INFER_ODD_DIRECTION | INFER_ODD_TWO);
+}
+
 static void questions(void) {
     same("is jpg", infer_is(JPEG, "jpg", 3), true);
     same("is JPG", infer_is(JPEG, "JPG", 3), false);
@@ -401,6 +414,7 @@ int main(void) {
     samples();
     types();
     names();
+    odd_names();
     questions();
     tests();
     warnings();

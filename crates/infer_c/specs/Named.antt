@@ -1,12 +1,15 @@
 -- What is told to C of a name and bytes.
-use Rattle.std.specs.Prelude.{◌≡◌, ℕ, ℤ, Bool, false, pos, List, [], Option, None, Some, option_map}
+use Rattle.std.specs.Prelude.{◌≡◌, ◌+◌, ℕ, ℤ, Bool, false, pos, List, [], Option, None, Some, if◌then◌else◌, option_map}
 use Rattle.std.specs.Option.{option_map_or}
 use Rattle.infer_more.specs.Wider.{IsWider}
 use Rattle.infer_named.specs.Join.{Told, extension_of, is_own_name, mime_type_of, type_of_name}
 use Rattle.infer_named.specs.Named.{IsNamed, key_of, told_listed}
+use Rattle.infer_named.specs.Odd.{AreOddities}
+use Rattle.infer_named.specs.Table.{keys}
 use Rattle.infer_named.specs.declared.join.Named.{Named}
 use Rattle.infer_named.specs.declared.join.Standing.{Standing}
 use Rattle.infer_named.specs.declared.join.Standing.TheVariants.{Agree, BytesAlone, BytesRefine, Contradicts, NameAlone, NameRefines, Nothing}
+use Rattle.infer_named.specs.declared.odd.Oddities.{Oddities}
 use Rattle.infer_c.specs.Codes.{row_code}
 use Rattle.infer_c.specs.Written.{WritesText}
 use Rattle.infer_c.specs.declared.named.NamedAnswer.{NamedAnswer}
@@ -49,3 +52,13 @@ pub record StoresNamed (name b : List ℕ) (old new : NamedAnswer) : Type 0 wher
   pub row : new.row ≡ row_code wider
   pub told : WritesType (option_map told_listed named.told) old.told new.told
   pub of_name : WritesType (type_of_name (key_of named)) old.name new.name
+
+-- the number of what is odd about a name: a control counts 1, a mark of direction 2, an odd end 4 and two extensions 8
+abbrev pub number_if : Bool → ℕ → ℕ
+number_if is number = if is then number else 0
+
+abbrev pub oddity_code : Oddities → ℕ
+oddity_code odd = number_if odd.has_control 1 + number_if odd.has_direction_mark 2 + number_if odd.ends_oddly 4 + number_if odd.has_two_extensions 8
+
+abbrev pub IsOddityCode : List ℕ → ℕ → Type 0
+IsOddityCode name code = (odd : Oddities) × AreOddities keys name odd × (code ≡ oddity_code odd)

@@ -25,7 +25,7 @@ ghost use Rattle.infer.specs.Triple.{Triple};
 ghost use Rattle.infer_more.specs.Line.{Row};
 ghost use Rattle.infer_more.specs.Text.{IsAnswerLine, IsMistake, IsTypesAnswer, reason_text, rows_of};
 ghost use Rattle.mime_sniff.specs.Go.{IsContentType};
-ghost use Rattle.infer_c.specs.Named.{StoresNamed};
+ghost use Rattle.infer_c.specs.Named.{IsOddityCode, StoresNamed};
 ghost use Rattle.infer_c.specs.Written.{WritesText, WritesWhole};
 
 mod class;
@@ -368,6 +368,14 @@ pub extern "C" fn infer_named(name: &[u8], buf: &[u8], answer: &mut NamedAnswer)
     ensures { StoresNamed name.now buf.now answer.old answer.new }
 {
     named::store(name, buf, answer);
+}
+
+/// What is odd about a name, as a sum: 1 for a control, 2 for a mark of direction, 4 for an odd end, 8 for two extensions.
+#[unsafe(no_mangle)]
+pub extern "C" fn infer_oddities(name: &[u8]) -> u32
+    ensures { IsOddityCode name.now result }
+{
+    named::oddities(name)
 }
 
 /// Whether some row with this extension accepts `buf`.

@@ -1,16 +1,16 @@
 //! What a name and bytes tell, as C has it.
-ghost use Rattle.std.specs.Prelude.{◌≡◌, ◌+◌, ◌<◌, IfSome, option_map};
+ghost use Rattle.std.specs.Prelude.{◌≡◌, ◌+◌, ◌<◌, ◌≤◌, IfSome, option_map};
 ghost use Rattle.infer.specs.Triple.{triple_of};
 ghost use Rattle.infer.specs.declared.table.rows.TheConstants.{ROW_COUNT};
 ghost use Rattle.infer_more.specs.Wider.{shown_at};
 ghost use Rattle.infer_more.specs.declared.index.generated.TheConstants.{FURTHER_COUNT};
 ghost use Rattle.infer_named.specs.Named.{told_listed};
-ghost use Rattle.infer_c.specs.Named.{StoresNamed, WritesType, standing_code};
+ghost use Rattle.infer_c.specs.Named.{IsOddityCode, StoresNamed, WritesType, number_if, oddity_code, standing_code};
 ghost use Rattle.infer_c.specs.Codes.{row_code};
 
 use crate::written::write_text;
 use infer::Type;
-use infer_named::{Standing, Told};
+use infer_named::{Oddities, Standing, Told};
 
 /// How many bytes are room for each text.
 const ROOM: usize = 74;
@@ -96,4 +96,29 @@ fn code(standing: Standing) -> i32
         Standing::Contradicts => 5,
         Standing::Nothing => 6,
     }
+}
+
+/// The number of what is odd about the name.
+pub fn oddities(name: &[u8]) -> u32
+    ensures { IsOddityCode name.now result }
+{
+    oddity_code(infer_named::oddities(name))
+}
+
+/// The sum of the numbers of what is so.
+fn oddity_code(odd: Oddities) -> u32
+    ensures { result ≡ oddity_code odd }
+{
+    number_if(odd.has_control, 1)
+        + number_if(odd.has_direction_mark, 2)
+        + number_if(odd.ends_oddly, 4)
+        + number_if(odd.has_two_extensions, 8)
+}
+
+/// The number if this is so, and else 0.
+fn number_if(is_so: bool, number: u32) -> u32
+    ensures value { result ≡ number_if is_so number }
+    ensures most { result ≤ number }
+{
+    if is_so { number } else { 0 }
 }

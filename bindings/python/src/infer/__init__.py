@@ -18,11 +18,11 @@ from . import _library
 from ._source import FRONT, Readable, Source, Whole, get_bytes, get_front
 
 __all__ = [
-    "FRONT", "Named", "NamedType", "Readable", "Sniffer", "Source", "Standing", "TYPES", "Type", "Types", "TypesError", "Whole", "add_type", "application_match", "application_matchers",
+    "FRONT", "Named", "NamedType", "Oddity", "Readable", "Sniffer", "Source", "Standing", "TYPES", "Type", "Types", "TypesError", "Whole", "add_type", "application_match", "application_matchers",
     "archive_match", "archive_matchers", "audio_match", "audio_matchers", "document_match", "document_matchers", "encoding", "font_match", "font_matchers",
     "further_types", "get_bytes", "get_signature_bytes", "get_type", "guess", "guess_extension", "guess_mime", "image_match", "image_matchers",
     "is_app", "is_archive", "is_audio", "is_book", "is_decided", "is_document", "is_extension", "is_extension_supported", "is_font",
-    "is_image", "is_mime", "is_mime_supported", "is_video", "match", "may_become", "named", "sample", "signature", "types", "verdict", "version", "video_match",
+    "is_image", "is_mime", "is_mime_supported", "is_video", "match", "may_become", "named", "oddities", "sample", "signature", "types", "verdict", "version", "video_match",
     "video_matchers",
 ]
 
@@ -275,6 +275,28 @@ def named(name: Union[str, bytes, os.PathLike[str], os.PathLike[bytes]], obj: So
     front = get_front(os.fsdecode(name) if obj is None else obj)
     standing, row, told, of_name = _library.named(text, front)
     return Named(_standings[standing], NamedType(*told) if told else None, NamedType(*of_name) if of_name else None, _all_rows[row] if row >= 0 else None)
+
+
+class Oddity(enum.Flag):
+    """What can be odd about a name. Who sees a name with one of the first two is misled."""
+
+    CONTROL = 1
+    """A control character of ASCII."""
+    DIRECTION = 2
+    """A mark of the direction of writing, by which gnp.exe can be shown as exe.png."""
+    END = 4
+    """The base ends in a dot or a blank, which Windows leaves out."""
+    TWO_EXTENSIONS = 8
+    """The last part and an earlier one are extensions, as in shell.php.jpg. Honest names have that too."""
+
+
+def oddities(name: Union[str, bytes, os.PathLike[str], os.PathLike[bytes]]) -> Oddity:
+    """What is odd about a name. It changes nothing of what `named` tells.
+
+    >>> infer.Oddity.TWO_EXTENSIONS in infer.oddities("shell.php.jpg")
+    True"""
+    text = _bytes_of_name(name)
+    return Oddity(_library.oddities(text, len(text)))
 
 
 class Sniffer:

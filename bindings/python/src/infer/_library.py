@@ -135,6 +135,9 @@ def named(name: bytes, front: Sized) -> tuple[int, int, NamedTexts | None, Named
     return found.standing, found.row, _texts_of(found.told), _texts_of(found.name)
 
 
+oddities: Callable[[bytes, int], int] = _declare("infer_oddities", ctypes.c_uint32, _BUFFER, _SIZE)
+
+
 def texts() -> tuple[list[tuple[str, str, str]], int, str]:
     """The MIME type, the extension and the class of each row, how many of the rows are built-in, and the version."""
     out = ctypes.create_string_buffer(256)
