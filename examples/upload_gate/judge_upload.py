@@ -18,6 +18,8 @@ CLOSED = {"audio", "font", "image", "text", "video", "pdf", "rtf"}
 # What archives have that their programs find wherever they begin. The end of ZIP's directory need not come after it.
 ARCHIVES = [{b"PK\1\2", b"PK\5\6"}, {b"Rar!\x1a\7"}, {b"7z\xbc\xaf\x27\x1c"}]
 PIECE = 65536
+# Who sees a name with one of these takes the file for another.
+MISLEADING = infer.Oddity.CONTROL | infer.Oddity.DIRECTION
 
 
 def is_kin(kind: infer.Type, other: infer.Type) -> bool:
@@ -48,6 +50,8 @@ class Judge:
 
     def judge(self, path: str, name: str, claim: str) -> tuple[int, str]:
         """The status for the sender, and the MIME type or the reason."""
+        if infer.oddities(name) & MISLEADING:
+            return 400, "the name has a control character or a mark of the direction of writing"
         data, extension = infer.Whole(path), os.path.splitext(name)[1][1:].lower()
         claim = "" if claim.lower() == "application/octet-stream" else claim.lower()
         # Of the library's further types none is asked, so what a line refuses is not taken for one that shows the same.
