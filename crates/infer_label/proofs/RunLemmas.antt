@@ -1,5 +1,5 @@
 -- What a run says, one input after the other, and what is said of what is known of the writers less.
-use Rattle.std.proofs.Common.{◌≡◌, ◌≢◌, ◌+◌, ◌<◌, ◌==◌, ℕ, Bool, true, false, List, [], ◌∷◌, ◌++◌, Option, IsTrue, length, take, get_or, ap, refl, subst, sym, ◌∙◌, Result, Vec}
+use Rattle.std.proofs.Common.{◌≡◌, ◌≢◌, ◌+◌, ◌<◌, ◌==◌, ℕ, Bool, true, false, List, [], ◌∷◌, ◌++◌, Option, IsTrue, length, take, get_or, ap, refl, subst, sym, ◌∙◌, inl, inr, Result, Vec}
 use Rattle.std.proofs.lemmas.List.{map_more}
 use Rattle.std.specs.declared.alloc.Global.{Global}
 use Rattle.infer.specs.declared.read.fault.Fault.{Fault}
@@ -12,9 +12,9 @@ use Rattle.infer_lines.specs.declared.outcome.Outcome.TheVariants.{Failed, Known
 use Rattle.infer_lines.specs.declared.writer.WatchedWriter.{WatchedWriter}
 use Rattle.infer_lines.proofs.SaidLemmas.{Moves, appends-moved, in_two, keeps-moved, keeps_unless_failed, later_moved, refuses_moves}
 use Rattle.infer_label.specs.Label.{Label}
-use Rattle.infer_label.specs.Options.{Options}
+use Rattle.infer_label.specs.Options.{Options, OwnTypes, no_types, types_at, types_of, with_types}
 use Rattle.infer_label.specs.Report.{Reports, ReportsFile, ReportsInput, fault_written, outcome_of, written}
-use Rattle.infer_label.specs.Run.{ReportsAll, ReportsEach, ReportsPath, ReportsPathIf, RunSays, WritesText, is_input, no_path, one_more}
+use Rattle.infer_label.specs.Run.{ReportsAll, ReportsAt, ReportsBy, ReportsEach, ReportsPath, ReportsPathIf, ReportsWith, RunSays, WritesText, is_input, no_path, one_more}
 use Rattle.infer_label.specs.Words.{Asked, help, labels, refused, texts, version}
 use Rattle.infer_label.specs.Writes.{Writes}
 use Rattle.infer_label.specs.declared.options.Form.{Form}
@@ -83,12 +83,30 @@ module _ {I : Type 0} (remaining : I → Option (List ℕ)) (options : Options) 
       subst (λ l. ReportsEach remaining options l b a (worse_of earlier outcome) (unless_failed after old) new (unless_failed fa eo) en) more
       (one_more names path b between a earlier outcome _ _ new _ _ en so_far this)
 
+-- the same by the types of a text, by those of a file, and by those that are asked for
+module _ {I : Type 0} (remaining : I → Option (List ℕ)) (options : Options) (paths : List (List ℕ)) (b a : Watched I) where
+  by_moves : (path text : List ℕ) → Moves (ReportsBy remaining options paths path text b a)
+  by_moves path text o old new eo en before after eb ea m e (inl (described, said)) =
+      inl (described, all_moves remaining (with_types text options) paths b a o old new eo en before after eb ea m e said)
+  by_moves path text o old new eo en before after eb ea m e (inr (mistake, none, is, same, said)) =
+      inr (mistake, none, is, same, refuses_moves _ o old new eo en before after eb ea m e said)
+
+  at_moves : (path : List ℕ) → Moves (ReportsAt remaining options paths path b a)
+  at_moves path o old new eo en before after eb ea m e (inl (text, said)) = inl (text, by_moves path text o old new eo en before after eb ea m e said)
+  at_moves path o old new eo en before after eb ea m e (inr (fault, same, said)) =
+      inr (fault, same, refuses_moves _ o old new eo en before after eb ea m e said)
+
+  with_moves : (own : OwnTypes) → Moves (ReportsWith remaining options paths own b a)
+  with_moves no_types o old new eo en before after eb ea m e said = all_moves remaining options paths b a o old new eo en before after eb ea m e said
+  with_moves (types_at path) o old new eo en before after eb ea m e said = at_moves path o old new eo en before after eb ea m e said
+  with_moves (types_of text) o old new eo en before after eb ea m e said = all_moves remaining options paths b a o old new eo en before after eb ea m e said
+
 -- what a run says
 pub run_moves : {I : Type 0} (remaining : I → Option (List ℕ)) (what : Asked) (b a : Watched I) → Moves (RunSays remaining what b a)
 run_moves remaining help b a o old new eo en before after eb ea m e said = text_moves _ o old new eo en before after eb ea m e said
 run_moves remaining version b a o old new eo en before after eb ea m e said = text_moves _ o old new eo en before after eb ea m e said
 run_moves remaining (labels options paths) b a o old new eo en before after eb ea m e said =
-    all_moves remaining options paths b a o old new eo en before after eb ea m e said
+    with_moves remaining options paths b a options.own o old new eo en before after eb ea m e said
 run_moves remaining (refused refusal) b a o old new eo en before after eb ea m e said = refuses_moves _ o old new eo en before after eb ea m e said
 
 -- what is written is said

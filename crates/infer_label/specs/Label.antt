@@ -1,5 +1,5 @@
 -- What is told of an input.
-use Rattle.std.specs.Prelude.{◌≡◌, ◌==◌, ℕ, Bool, false, List, Option, None, Some, length, option_map}
+use Rattle.std.specs.Prelude.{◌≡◌, ◌==◌, ℕ, Bool, false, List, Option, None, Some, MatchOption, length, option_map}
 use Rattle.std.specs.Option.{option_and_then}
 use Rattle.infer.specs.First.{IsAnswer}
 use Rattle.infer.specs.Row.{Accepts}
@@ -7,12 +7,15 @@ use Rattle.infer.specs.Table.{table}
 use Rattle.infer.specs.Triple.{Triple}
 use Rattle.infer_formats.specs.Text.{IsEncodingOf}
 use Rattle.infer_formats.specs.declared.text.Encoding.{Encoding}
+use Rattle.infer_more.specs.Line.{Row}
+use Rattle.infer_more.specs.Text.{IsAnswerLine, IsTypesAnswer, rows_of}
 use Rattle.infer_more.specs.Wider.{IsWiderAnswer}
 use Rattle.infer_named.specs.Join.{Answer, Told, extension_of, mime_type_of, type_of_name}
 use Rattle.infer_named.specs.Named.{IsNamed, answer_of, key_of}
 use Rattle.infer_named.specs.declared.join.Named.{Named}
 use Rattle.infer_named.specs.declared.join.Standing.{Standing}
 use Rattle.infer_named.specs.declared.join.Standing.TheVariants.{Agree, BytesAlone, BytesRefine, Contradicts, NameAlone, NameRefines, Nothing}
+use Rattle.infer_label.specs.Options.{Options, OwnTypes, no_types, types_at, types_of}
 use Rattle.infer_label.specs.declared.label.Label as code
 use Rattle.infer_label.specs.declared.options.Look.{Look}
 use Rattle.infer_label.specs.declared.options.Look.TheVariants as looks
@@ -73,12 +76,31 @@ by_built_in t = by_bytes t None false
 
 -- the label of an input with this name, of which b is looked at: by what the name and b tell, with the encoding of b; by
 -- the wider answer of b; or by its first built-in row
-abbrev pub IsLabel : Look → List ℕ → List ℕ → Label → Type 0
-IsLabel looks.NameAndBytes name b label =
+abbrev pub IsLabelBy : Look → List ℕ → List ℕ → Label → Type 0
+IsLabelBy looks.NameAndBytes name b label =
     (n : Named) × (encoding : Option Encoding) × IsNamed name b n × IsEncodingOf b encoding × (label ≡ by_both (answer_of n) (type_of_name (key_of n)) encoding (is_empty b))
-IsLabel looks.Bytes name b label =
+IsLabelBy looks.Bytes name b label =
     (t : Option Triple) × (encoding : Option Encoding) × IsWiderAnswer b t × IsEncodingOf b encoding × (label ≡ by_bytes t encoding (is_empty b))
-IsLabel looks.BuiltIn name b label = (t : Option Triple) × IsAnswer (Accepts b) table t × (label ≡ by_built_in t)
+IsLabelBy looks.BuiltIn name b label = (t : Option Triple) × IsAnswer (Accepts b) table t × (label ≡ by_built_in t)
+
+-- the label by the types of rows, by the bytes alone
+abbrev pub IsLabelOfTypes : List Row → List ℕ → Label → Type 0
+IsLabelOfTypes rows b label =
+    (t : Option Triple) × (encoding : Option Encoding) × IsTypesAnswer rows b t × IsEncodingOf b encoding × (label ≡ by_bytes t encoding (is_empty b))
+
+-- the label by a text that describes rows: that of the rows if a line of it answers, and else by what is looked at
+abbrev pub IsOwnLabel : List ℕ → List Row → Look → List ℕ → List ℕ → Label → Type 0
+IsOwnLabel text rows look name b label =
+    (number : Option ℕ) × IsAnswerLine text b number × MatchOption number (IsLabelBy look name b label) (λ n. IsLabelOfTypes rows b label)
+
+-- the label by some options: types of one's own are asked first, if they are read
+abbrev pub IsLabelWith : OwnTypes → Look → List ℕ → List ℕ → Label → Type 0
+IsLabelWith no_types look name b label = IsLabelBy look name b label
+IsLabelWith (types_at path) look name b label = IsLabelBy look name b label
+IsLabelWith (types_of text) look name b label = (rows : List Row) → rows_of text ≡ Some rows → IsOwnLabel text rows look name b label
+
+abbrev pub IsLabel : Options → List ℕ → List ℕ → Label → Type 0
+IsLabel options name b label = IsLabelWith options.own options.look name b label
 
 -- the label as the code has it
 abbrev pub label_listed : code.Label → Label

@@ -9,19 +9,29 @@ use Rattle.infer_label.specs.declared.options.Form.TheVariants.{Json, Text}
 use Rattle.infer_label.specs.declared.options.Look.{Look}
 use Rattle.infer_label.specs.declared.options.Look.TheVariants as looks
 use Rattle.infer_label.specs.declared.options.Options as code
+use Rattle.infer_label.specs.declared.options.OwnTypes as code_types
+use Rattle.infer_label.specs.declared.options.OwnTypes.TheVariants as types
 use Rattle.infer_label.specs.declared.options.Valued.{Valued}
-use Rattle.infer_label.specs.declared.options.Valued.TheVariants.{Front, Name}
+use Rattle.infer_label.specs.declared.options.Valued.TheVariants.{Front, Name, Types}
 
--- what an input is told by, how its line is written, how many bytes are looked at, and the name of standard input
+-- types of one's own: none, those of a file with this path, or those of a text
+pub data OwnTypes : Type 0 where
+  no_types : OwnTypes
+  types_at : List ℕ → OwnTypes
+  types_of : List ℕ → OwnTypes
+
+-- what an input is told by, how its line is written, how many bytes are looked at, the name of standard input, and the types
+-- that are asked before all others
 pub record Options : Type 0 where
   pub look : Look
   pub form : Form
   pub front : ℕ
   pub input_name : List ℕ
+  pub own : OwnTypes
 
 -- what is so if no option says otherwise
 abbrev pub default_options : Options
-default_options = record { look = looks.NameAndBytes; form = Text; front = FRONT; input_name = codes "-" }
+default_options = record { look = looks.NameAndBytes; form = Text; front = FRONT; input_name = codes "-"; own = no_types }
 
 -- what a flag changes
 abbrev pub with_flag : Flag → Options → Options
@@ -37,7 +47,17 @@ with_front None options = None
 abbrev pub with_value : Valued → List ℕ → Options → Option Options
 with_value Front value options = with_front (limit_in value) options
 with_value Name value options = Some (record options { input_name = value })
+with_value Types value options = Some (record options { own = types_at value })
 
--- the options as the code has them
+-- the options with the types of a text
+abbrev pub with_types : List ℕ → Options → Options
+with_types text options = record options { own = types_of text }
+
+-- the types and the options as the code has them
+abbrev pub own_listed : code_types.OwnTypes → OwnTypes
+own_listed types.None = no_types
+own_listed (types.At path) = types_at path.now
+own_listed (types.Text text) = types_of text.now
+
 abbrev pub options_listed : code.Options → Options
-options_listed o = record { look = o.look; form = o.form; front = o.front; input_name = o.input_name.now }
+options_listed o = record { look = o.look; form = o.form; front = o.front; input_name = o.input_name.now; own = own_listed o.own }

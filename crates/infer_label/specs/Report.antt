@@ -24,7 +24,7 @@ IsFront n left b = (length b ≤ n) × IfSome left (λ s. b ≡ head n s)
 
 -- the label is that of the bytes that are looked at
 abbrev pub IsLabelOf : Options → List ℕ → Option (List ℕ) → Label → Type 0
-IsLabelOf options name left label = (b : List ℕ) × IsFront options.front left b × IsLabel options.look name b label
+IsLabelOf options name left label = (b : List ℕ) × IsFront options.front left b × IsLabel options name b label
 
 -- what is told of a reader: the label of its first bytes, which alone it loses; or that it could not be read, exactly if a
 -- read has failed, now or before

@@ -2,11 +2,13 @@
 use Rattle.std.specs.Prelude.{◌==◌, ℕ, Bool, false, List, [], ◌∷◌, Option, None, Some, codes, if◌then◌else◌, map, not, Vec}
 use Rattle.std.specs.Str.{bytes_eq}
 use Rattle.std.specs.declared.alloc.Global.{Global}
+use Rattle.infer.specs.declared.read.fault.Fault.{Fault}
+use Rattle.infer_more.specs.declared.types.Mistake.{Mistake}
 use Rattle.infer_label.specs.Options.{Options, default_options, options_listed, with_flag, with_value}
 use Rattle.infer_label.specs.declared.options.Flag.{Flag}
 use Rattle.infer_label.specs.declared.options.Flag.TheVariants as flags
 use Rattle.infer_label.specs.declared.options.Valued.{Valued}
-use Rattle.infer_label.specs.declared.options.Valued.TheVariants.{Front, Name}
+use Rattle.infer_label.specs.declared.options.Valued.TheVariants.{Front, Name, Types}
 use Rattle.infer_label.specs.declared.words.Asked as asked_code
 use Rattle.infer_label.specs.declared.words.Asked.TheVariants as asks
 use Rattle.infer_label.specs.declared.words.Refusal as refusal_code
@@ -16,11 +18,14 @@ use Rattle.infer_label.specs.declared.words.Step.TheVariants as steps
 use Rattle.infer_label.specs.declared.words.Word.{Word}
 use Rattle.infer_label.specs.declared.words.Word.TheVariants as kinds
 
--- why words are refused: a word is no option, the value of one is lacking, or it is no number from 1 to 65536
+-- why words are refused: a word is no option, the value of one is lacking, it is no number from 1 to 65536, or the file of
+-- types with this path had a fault or a mistake in its text
 pub data Refusal : Type 0 where
   unknown : List ℕ → Refusal
   lacking : Valued → Refusal
   no_limit : List ℕ → Refusal
+  unread : List ℕ → Fault → Refusal
+  mistaken : List ℕ → Mistake → Refusal
 
 -- what words ask for: help, the version, labels by some options of these paths, or nothing, as they are wrong
 pub data Asked : Type 0 where
@@ -45,7 +50,10 @@ flag_in word =
     else (if bytes_eq word (codes "--json") then Some flags.Json else None))
 
 abbrev pub valued_in : List ℕ → Option Valued
-valued_in word = if bytes_eq word (codes "--front") then Some Front else (if bytes_eq word (codes "--name") then Some Name else None)
+valued_in word =
+    if bytes_eq word (codes "--front") then Some Front
+    else (if bytes_eq word (codes "--name") then Some Name
+    else (if bytes_eq word (codes "--types") then Some Types else None))
 
 -- a dash stands first, and something behind it
 abbrev pub is_dashed : List ℕ → Bool
@@ -116,6 +124,8 @@ abbrev pub refusal_listed : refusal_code.Refusal → Refusal
 refusal_listed (refusals.Unknown word) = unknown word.now
 refusal_listed (refusals.Lacking option) = lacking option
 refusal_listed (refusals.NoLimit word) = no_limit word.now
+refusal_listed (refusals.Unread path fault) = unread path.now fault
+refusal_listed (refusals.Mistaken path mistake) = mistaken path.now mistake
 
 abbrev pub asked_listed : asked_code.Asked → Asked
 asked_listed asks.Help = help

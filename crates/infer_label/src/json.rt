@@ -16,7 +16,7 @@ use infer_named::Standing;
 use std::io::Write;
 
 /// Writes the line of an input with this name and label.
-pub fn write_json<W: Write>(name: &[u8], label: &Label, out: &mut WatchedWriter<'_, W>)
+pub fn write_json<W: Write>(name: &[u8], label: &Label<'_>, out: &mut WatchedWriter<'_, W>)
     ensures { Writes W.contents out.old out.new (line Form.Json name.now (label_listed label.now)) }
 {
     write_name_member(name, out);
@@ -68,7 +68,7 @@ fn write_hex<W: Write>(name: &[u8], out: &mut WatchedWriter<'_, W>)
     }
 }
 
-fn write_members<W: Write>(label: &Label, out: &mut WatchedWriter<'_, W>)
+fn write_members<W: Write>(label: &Label<'_>, out: &mut WatchedWriter<'_, W>)
     ensures { Writes W.contents out.old out.new (label_members (label_listed label.now)) }
 {
     write_type_members(label.mime_type, label.extension, out);
@@ -79,8 +79,8 @@ fn write_members<W: Write>(label: &Label, out: &mut WatchedWriter<'_, W>)
 }
 
 fn write_type_members<W: Write>(
-    mime_type: Option<&'static str>,
-    extension: Option<&'static str>,
+    mime_type: Option<&str>,
+    extension: Option<&str>,
     out: &mut WatchedWriter<'_, W>,
 )
     ensures { Writes W.contents out.old out.new
@@ -93,8 +93,8 @@ fn write_type_members<W: Write>(
 }
 
 fn write_known_type<W: Write>(
-    mime_type: &'static str,
-    extension: Option<&'static str>,
+    mime_type: &str,
+    extension: Option<&str>,
     out: &mut WatchedWriter<'_, W>,
 )
     ensures { Writes W.contents out.old out.new
@@ -110,7 +110,7 @@ fn write_no_type<W: Write>(out: &mut WatchedWriter<'_, W>)
     out.write_all(b",\"mime_type\":null");
 }
 
-fn write_extension_member<W: Write>(extension: Option<&'static str>, out: &mut WatchedWriter<'_, W>)
+fn write_extension_member<W: Write>(extension: Option<&str>, out: &mut WatchedWriter<'_, W>)
     ensures { Writes W.contents out.old out.new (extension_member (option_map (λ e. e.now) extension.entry)) }
 {
     if let Some(extension) = extension {
@@ -143,7 +143,7 @@ fn write_standing_member<W: Write>(standing: Option<Standing>, out: &mut Watched
     }
 }
 
-fn write_named_member<W: Write>(named: Option<&'static str>, out: &mut WatchedWriter<'_, W>)
+fn write_named_member<W: Write>(named: Option<&str>, out: &mut WatchedWriter<'_, W>)
     ensures { Writes W.contents out.old out.new (named_member (option_map (λ m. m.now) named.entry)) }
 {
     if let Some(mime_type) = named {

@@ -1,23 +1,27 @@
 //! What an input is.
-ghost use Rattle.std.specs.Prelude.{◌≡◌, ℕ, List, option_map};
+ghost use Rattle.std.specs.Prelude.{◌≡◌, ℕ, List, Some, option_map};
 ghost use Rattle.std.specs.Option.{option_and_then};
 ghost use Rattle.infer.specs.Triple.{triple_of};
 ghost use Rattle.infer_named.specs.Join.{extension_of, mime_type_of, type_of_name};
 ghost use Rattle.infer_named.specs.Named.{key_of, told_listed};
-ghost use Rattle.infer_label.specs.Label.{IsLabel, contradicted, extension_in, label_listed, mime_type_in};
+ghost use Rattle.infer_more.specs.Line.{Row};
+ghost use Rattle.infer_more.specs.Text.{found_shows, rows_of};
+ghost use Rattle.infer_label.specs.Options.{options_listed};
+ghost use Rattle.infer_label.specs.Label.{IsLabel, IsLabelBy, IsLabelOfTypes, IsOwnLabel, contradicted, extension_in, label_listed, mime_type_in};
 
-use crate::options::Look;
+use crate::options::{Look, Options, OwnTypes};
 use infer::Type;
 use infer_more::text::Encoding;
+use infer_more::types::{self, Found, answer_line};
 use infer_named::{Named, Standing, Told};
 
 /// What is told of an input.
 #[derive(Clone, Copy)]
-pub struct Label {
+pub struct Label<'a> {
     /// The MIME type, if one is known.
-    pub mime_type: Option<&'static str>,
+    pub mime_type: Option<&'a str>,
     /// The extension, if the type has one.
-    pub extension: Option<&'static str>,
+    pub extension: Option<&'a str>,
     /// How the text is encoded, if it is one.
     pub encoding: Option<Encoding>,
     /// Whether there are no bytes.
@@ -25,12 +29,67 @@ pub struct Label {
     /// What the name did, if it was asked.
     pub standing: Option<Standing>,
     /// The MIME type that the name has, if the bytes contradict it.
-    pub named: Option<&'static str>,
+    pub named: Option<&'a str>,
 }
 
 /// What is told of an input with this name and these first bytes.
-pub fn label_of(look: Look, name: &[u8], buf: &[u8]) -> Label
-    ensures { IsLabel look name.now buf.now (label_listed result) }
+pub fn label_of<'a>(options: Options<'a>, name: &[u8], buf: &[u8]) -> Label<'a>
+    ensures { IsLabel (options_listed options.entry) name.now buf.now (label_listed result) }
+{
+    match options.own {
+        OwnTypes::Text(text) => by_text(text, options.look, name, buf),
+        OwnTypes::None | OwnTypes::At(_) => by_look(options.look, name, buf),
+    }
+}
+
+/// By the types of a text, and by what else the options say if none of them accepts the bytes.
+fn by_text<'a>(text: &'a [u8], look: Look, name: &[u8], buf: &[u8]) -> Label<'a>
+    ensures { (rows : List Row) → rows_of text.entry.now ≡ Some rows
+        → IsOwnLabel text.entry.now rows look name.now buf.now (label_listed result) }
+{
+    match answer_line(text, buf) {
+        Some(_) => by_own(text, buf),
+        None => by_look(look, name, buf),
+    }
+}
+
+/// By the types of a text, one of which accepts the bytes.
+fn by_own<'a>(text: &'a [u8], buf: &[u8]) -> Label<'a>
+    ensures { (rows : List Row) → rows_of text.entry.now ≡ Some rows
+        → IsLabelOfTypes rows buf.now (label_listed result) }
+{
+    let found = types::get(text, buf);
+    Label {
+        mime_type: mime_type_found(found),
+        extension: extension_found(found),
+        encoding: infer_more::encoding(buf),
+        is_empty: buf.is_empty(),
+        standing: None,
+        named: None,
+    }
+}
+
+fn mime_type_found<'a>(found: Option<Found<'a>>) -> Option<&'a str>
+    ensures { option_map (λ m. m.now) result ≡ mime_type_in (option_map found_shows found.entry) }
+{
+    match found {
+        Some(found) => Some(found.mime_type()),
+        None => None,
+    }
+}
+
+fn extension_found<'a>(found: Option<Found<'a>>) -> Option<&'a str>
+    ensures { option_map (λ e. e.now) result ≡ extension_in (option_map found_shows found.entry) }
+{
+    match found {
+        Some(found) => Some(found.extension()),
+        None => None,
+    }
+}
+
+/// By what is looked at.
+fn by_look(look: Look, name: &[u8], buf: &[u8]) -> Label<'static>
+    ensures { IsLabelBy look name.now buf.now (label_listed result) }
 {
     match look {
         Look::NameAndBytes => by_both(name, buf),
@@ -40,8 +99,8 @@ pub fn label_of(look: Look, name: &[u8], buf: &[u8]) -> Label
 }
 
 /// By the name and the bytes.
-fn by_both(name: &[u8], buf: &[u8]) -> Label
-    ensures { IsLabel Look.NameAndBytes name.now buf.now (label_listed result) }
+fn by_both(name: &[u8], buf: &[u8]) -> Label<'static>
+    ensures { IsLabelBy Look.NameAndBytes name.now buf.now (label_listed result) }
 {
     let found = infer_named::named(name, buf);
     Label {
@@ -88,8 +147,8 @@ fn extension_told(told: Option<Told>) -> Option<&'static str>
 }
 
 /// By the bytes alone.
-fn by_bytes(buf: &[u8]) -> Label
-    ensures { (name : List ℕ) → IsLabel Look.Bytes name buf.now (label_listed result) }
+fn by_bytes(buf: &[u8]) -> Label<'static>
+    ensures { (name : List ℕ) → IsLabelBy Look.Bytes name buf.now (label_listed result) }
 {
     let found = infer_more::get(buf);
     Label {
@@ -103,8 +162,8 @@ fn by_bytes(buf: &[u8]) -> Label
 }
 
 /// By the built-in types alone.
-fn by_built_in(buf: &[u8]) -> Label
-    ensures { (name : List ℕ) → IsLabel Look.BuiltIn name buf.now (label_listed result) }
+fn by_built_in(buf: &[u8]) -> Label<'static>
+    ensures { (name : List ℕ) → IsLabelBy Look.BuiltIn name buf.now (label_listed result) }
 {
     let found = infer::get(buf);
     Label {

@@ -15,7 +15,12 @@ use infer_named::Standing;
 use std::io::Write;
 
 /// Writes the line of an input with this name and label.
-pub fn write_line<W: Write>(form: Form, name: &[u8], label: &Label, out: &mut WatchedWriter<'_, W>)
+pub fn write_line<W: Write>(
+    form: Form,
+    name: &[u8],
+    label: &Label<'_>,
+    out: &mut WatchedWriter<'_, W>,
+)
     ensures { Writes W.contents out.old out.new (line form name.now (label_listed label.now)) }
 {
     match form {
@@ -42,7 +47,7 @@ fn write_text_fault<W: Write>(name: &[u8], fault: Fault, out: &mut WatchedWriter
     writeln!(out, ": {text}");
 }
 
-fn write_text<W: Write>(name: &[u8], label: &Label, out: &mut WatchedWriter<'_, W>)
+fn write_text<W: Write>(name: &[u8], label: &Label<'_>, out: &mut WatchedWriter<'_, W>)
     ensures { Writes W.contents out.old out.new (line Form.Text name.now (label_listed label.now)) }
 {
     write_name(name, Form::Text, out);
@@ -51,7 +56,7 @@ fn write_text<W: Write>(name: &[u8], label: &Label, out: &mut WatchedWriter<'_, 
     out.write_all(b"\n");
 }
 
-fn write_label<W: Write>(label: &Label, out: &mut WatchedWriter<'_, W>)
+fn write_label<W: Write>(label: &Label<'_>, out: &mut WatchedWriter<'_, W>)
     ensures { Writes W.contents out.old out.new (label_text (label_listed label.now)) }
 {
     write_type(label.mime_type, label.extension, label.is_empty, out);
@@ -61,8 +66,8 @@ fn write_label<W: Write>(label: &Label, out: &mut WatchedWriter<'_, W>)
 }
 
 fn write_type<W: Write>(
-    mime_type: Option<&'static str>,
-    extension: Option<&'static str>,
+    mime_type: Option<&str>,
+    extension: Option<&str>,
     is_empty: bool,
     out: &mut WatchedWriter<'_, W>,
 )
@@ -85,7 +90,7 @@ fn write_type<W: Write>(
     }
 }
 
-fn write_extension<W: Write>(extension: Option<&'static str>, out: &mut WatchedWriter<'_, W>)
+fn write_extension<W: Write>(extension: Option<&str>, out: &mut WatchedWriter<'_, W>)
     ensures { Writes W.contents out.old out.new (extension_text (option_map (λ e. e.now) extension.entry)) }
 {
     if let Some(extension) = extension {
@@ -129,7 +134,7 @@ fn standing_text(standing: Option<Standing>) -> &'static [u8]
 }
 
 /// Writes the type that the name has, where the bytes contradict it.
-fn write_named<W: Write>(named: Option<&'static str>, out: &mut WatchedWriter<'_, W>)
+fn write_named<W: Write>(named: Option<&str>, out: &mut WatchedWriter<'_, W>)
     ensures { Writes W.contents out.old out.new (named_text (option_map (λ m. m.now) named.entry)) }
 {
     if let Some(mime_type) = named {

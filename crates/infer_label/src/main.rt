@@ -10,6 +10,8 @@ mod names;
 mod options;
 mod report;
 mod run;
+#[cfg(test)]
+mod tests;
 mod words;
 
 use infer::Watched;

@@ -1,6 +1,6 @@
 //! What a run may be asked for.
 ghost use Rattle.std.specs.Prelude.{◌≡◌, option_map};
-ghost use Rattle.infer_label.specs.Options.{default_options, options_listed, with_flag, with_front, with_value};
+ghost use Rattle.infer_label.specs.Options.{default_options, options_listed, with_flag, with_front, with_types, with_value};
 
 use infer::FRONT;
 use infer_lines::limit_in;
@@ -43,6 +43,19 @@ pub enum Valued {
     Front,
     /// `--name`
     Name,
+    /// `--types`
+    Types,
+}
+
+/// Types of one's own.
+#[derive(Clone, Copy)]
+pub enum OwnTypes<'a> {
+    /// There are none.
+    None,
+    /// A file with this path has them, which is not read yet.
+    At(&'a [u8]),
+    /// This text has them.
+    Text(&'a [u8]),
 }
 
 /// What the options of a run say.
@@ -56,6 +69,8 @@ pub struct Options<'a> {
     pub front: usize,
     /// The name of standard input.
     pub input_name: &'a [u8],
+    /// The types that are asked before all others.
+    pub own: OwnTypes<'a>,
 }
 
 impl<'a> Options<'a> {
@@ -68,6 +83,7 @@ impl<'a> Options<'a> {
             form: Form::Text,
             front: FRONT,
             input_name: b"-",
+            own: OwnTypes::None,
         }
     }
 
@@ -101,6 +117,20 @@ impl<'a> Options<'a> {
                 input_name: value,
                 ..self
             }),
+            Valued::Types => Some(Options {
+                own: OwnTypes::At(value),
+                ..self
+            }),
+        }
+    }
+
+    /// These options with the types of a text.
+    pub fn with_types(self, text: &'a [u8]) -> Options<'a>
+        ensures { options_listed result ≡ with_types text.entry.now (options_listed self.entry) }
+    {
+        Options {
+            own: OwnTypes::Text(text),
+            ..self
         }
     }
 

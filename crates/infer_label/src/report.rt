@@ -56,7 +56,7 @@ pub fn report_file<R: Files, A: Allocator, W: Write, E: Write>(
 }
 
 /// Opens a file. The system's paths here are UTF-8: any other is told as one that cannot be opened.
-fn open<R: Files>(rt: &R, path: &[u8]) -> io::Result<R::File> {
+pub fn open<R: Files>(rt: &R, path: &[u8]) -> io::Result<R::File> {
     match str::from_utf8(path) {
         Ok(path) => File::open(rt, path),
         Err(_) => Err(io::Error::from(ErrorKind::InvalidInput)),
@@ -64,12 +64,12 @@ fn open<R: Files>(rt: &R, path: &[u8]) -> io::Result<R::File> {
 }
 
 /// What is told of what was opened, or of the error in its place.
-fn tell_opened<A: Allocator, R: Read>(
+fn tell_opened<'a, A: Allocator, R: Read>(
     room: &mut Vec<u8, A>,
-    options: Options<'_>,
+    options: Options<'a>,
     name: &[u8],
     opened: &mut io::Result<Watched<R>>,
-) -> Result<Label, Fault>
+) -> Result<Label<'a>, Fault>
     ensures { TellsOpened R.remaining (options_listed options.entry) name.now opened.old opened.new (answer_listed result) }
 {
     match opened {
@@ -79,12 +79,12 @@ fn tell_opened<A: Allocator, R: Read>(
 }
 
 /// What is told of the first bytes of a reader, which it reads into `room`, or of the fault that it has.
-fn tell_reader<A: Allocator, R: Read>(
+fn tell_reader<'a, A: Allocator, R: Read>(
     room: &mut Vec<u8, A>,
-    options: Options<'_>,
+    options: Options<'a>,
     name: &[u8],
     reader: &mut Watched<R>,
-) -> Result<Label, Fault>
+) -> Result<Label<'a>, Fault>
     ensures { TellsReader R.remaining (options_listed options.entry) name.now reader.old reader.new (answer_listed result) }
 {
     if let Some(kind) = reader.fault() {
@@ -100,18 +100,18 @@ fn tell_reader<A: Allocator, R: Read>(
 }
 
 /// What is told of as many bytes as there are in `room`, into which it reads.
-fn tell_front<R: Read>(
+fn tell_front<'a, R: Read>(
     room: &mut [u8],
-    options: Options<'_>,
+    options: Options<'a>,
     name: &[u8],
     reader: &mut Watched<R>,
-) -> Result<Label, Fault>
+) -> Result<Label<'a>, Fault>
     requires room { length room.old ≡ (options_listed options).front }
     requires fault { fault_of reader.old ≡ None }
     ensures { TellsReader R.remaining (options_listed options.entry) name.now reader.old reader.new (answer_listed result) }
 {
     match read_head(reader, room) {
-        Ok(count) => Ok(label_of(options.look, name, &room[..count])),
+        Ok(count) => Ok(label_of(options, name, &room[..count])),
         Err(kind) => Err(Fault::Read(kind)),
     }
 }
@@ -120,13 +120,13 @@ fn tell_front<R: Read>(
 fn report<W: Write, E: Write>(
     form: Form,
     name: &[u8],
-    answer: Result<Label, Fault>,
+    answer: Result<Label<'_>, Fault>,
     out: &mut WatchedWriter<'_, W>,
     err: &mut WatchedWriter<'_, E>,
 ) -> Outcome
-    ensures outcome { result ≡ outcome_after (has_failed out.new) (outcome_of (answer_listed answer)) }
-    ensures line { Writes W.contents out.old out.new (written form name.now (answer_listed answer)) }
-    ensures err_line { Writes E.contents err.old err.new (fault_written form name.now (answer_listed answer)) }
+    ensures outcome { result ≡ outcome_after (has_failed out.new) (outcome_of (answer_listed answer.entry)) }
+    ensures line { Writes W.contents out.old out.new (written form name.now (answer_listed answer.entry)) }
+    ensures err_line { Writes E.contents err.old err.new (fault_written form name.now (answer_listed answer.entry)) }
 {
     match answer {
         Ok(label) => report_label(form, name, &label, out),
@@ -137,7 +137,7 @@ fn report<W: Write, E: Write>(
 fn report_label<W: Write>(
     form: Form,
     name: &[u8],
-    label: &Label,
+    label: &Label<'_>,
     out: &mut WatchedWriter<'_, W>,
 ) -> Outcome
     ensures outcome { result ≡ outcome_after (has_failed out.new) (label_outcome (label_listed label.now)) }
@@ -151,7 +151,7 @@ fn report_label<W: Write>(
 fn write_unless_failed<W: Write>(
     form: Form,
     name: &[u8],
-    label: &Label,
+    label: &Label<'_>,
     out: &mut WatchedWriter<'_, W>,
 )
     ensures { Writes W.contents out.old out.new (line form name.now (label_listed label.now)) }
@@ -179,7 +179,7 @@ fn report_fault<W: Write, E: Write>(
     Outcome::Failed
 }
 
-fn outcome_of(label: &Label) -> Outcome
+fn outcome_of(label: &Label<'_>) -> Outcome
     ensures { result ≡ label_outcome (label_listed label.now) }
 {
     match label.mime_type {

@@ -5,18 +5,20 @@ ghost use Rattle.infer_lines.specs.Said.{Says, stream};
 ghost use Rattle.infer_lines.specs.Writer.{IsLater, has_failed};
 ghost use Rattle.infer_label.specs.Options.{options_listed};
 ghost use Rattle.infer_label.specs.Report.{ReportsInput};
-ghost use Rattle.infer_label.specs.Run.{ReportsAll, ReportsEach, ReportsPath, RunSays, is_input, refusal_line, valued_text};
-ghost use Rattle.infer_label.specs.Words.{asked, lacking, no_limit, refusal_listed, texts, unknown};
+ghost use Rattle.infer_label.specs.Run.{ReportsAll, ReportsAt, ReportsBy, ReportsEach, ReportsPath, ReportsWith, RunSays, is_input, mistake_text, refusal_line, valued_text};
+ghost use Rattle.infer_label.specs.Words.{asked, lacking, mistaken, no_limit, refusal_listed, texts, unknown, unread};
 ghost use Rattle.infer_label.specs.Writes.{Writes};
 
+use crate::line::write_fault;
 use crate::names::write_name;
-use crate::options::{Form, Options, Valued};
-use crate::report::{report_file, report_input};
+use crate::options::{Form, Options, OwnTypes, Valued};
+use crate::report::{open, report_file, report_input};
 use crate::words::{Asked, Refusal, read_words};
-use infer::Watched;
+use infer::{Fault, Watched};
 use infer_lines::{Outcome, WatchedWriter};
+use infer_more::types::{self, Mistake};
 use std::alloc::Allocator;
-use std::io::{Read, Write};
+use std::io::{ErrorKind, Read, Write};
 use std::rt::Files;
 
 /// What the options are.
@@ -30,6 +32,7 @@ text, and what the name did, where it did something. Without a PATH, or as -, it
   --front N    by the first N bytes, from 1 to 65536, in place of 8192
   --json       as a line of JSON
   --name NAME  the name of standard input
+  --types FILE the types of this text first, by the bytes alone
   --           what follows are paths
   --help       this text
   --version    the version
@@ -60,7 +63,7 @@ pub fn run<R: Files, A: Allocator + Copy, I: Read, W: Write, E: Write>(
     match read_words(words) {
         Asked::Help => tell(HELP, out),
         Asked::Version => tell(VERSION, out),
-        Asked::Labels(options, paths) => report_all(rt, alloc, options, paths, input, out, err),
+        Asked::Labels(options, paths) => report_with(rt, alloc, options, paths, input, out, err),
         Asked::Refused(refusal) => refuse(refusal, err),
     }
 }
@@ -83,6 +86,8 @@ fn refuse<E: Write>(refusal: Refusal<'_>, err: &mut WatchedWriter<'_, E>) -> Out
         Refusal::Unknown(word) => refuse_unknown(word, err),
         Refusal::Lacking(option) => refuse_lacking(option, err),
         Refusal::NoLimit(word) => refuse_limit(word, err),
+        Refusal::Unread(path, fault) => refuse_unread(path, fault, err),
+        Refusal::Mistaken(path, mistake) => refuse_mistaken(path, mistake, err),
     }
     Outcome::Failed
 }
@@ -110,12 +115,137 @@ fn refuse_limit<E: Write>(word: &[u8], err: &mut WatchedWriter<'_, E>)
     err.write_all(b"\n");
 }
 
+fn refuse_unread<E: Write>(path: &[u8], fault: Fault, err: &mut WatchedWriter<'_, E>)
+    ensures { Writes E.contents err.old err.new (refusal_line (unread path.now fault)) }
+{
+    err.write_all(b"infer_label: ");
+    write_fault(Form::Text, path, fault, err);
+}
+
+fn refuse_mistaken<E: Write>(path: &[u8], mistake: Mistake, err: &mut WatchedWriter<'_, E>)
+    ensures { Writes E.contents err.old err.new (refusal_line (mistaken path.now mistake)) }
+{
+    err.write_all(b"infer_label: ");
+    write_name(path, Form::Text, err);
+    write_mistake(mistake, err);
+    err.write_all(b"\n");
+}
+
+/// Writes where a mistake is, and what it is.
+fn write_mistake<E: Write>(mistake: Mistake, err: &mut WatchedWriter<'_, E>)
+    ensures { Writes E.contents err.old err.new (mistake_text mistake) }
+{
+    let (line, column, reason) = (mistake.line, mistake.column, mistake.reason.text());
+    write!(err, ":{line}:{column}: {reason}");
+}
+
 fn text_of(option: Valued) -> &'static str
     ensures { result.now ≡ valued_text option }
 {
     match option {
         Valued::Front => "--front",
         Valued::Name => "--name",
+        Valued::Types => "--types",
+    }
+}
+
+/// Reports the inputs, after it has read the types that are asked for.
+fn report_with<R: Files, A: Allocator + Copy, I: Read, W: Write, E: Write>(
+    rt: &R,
+    alloc: A,
+    options: Options<'_>,
+    paths: &[Vec<u8>],
+    input: &mut Watched<I>,
+    out: &mut WatchedWriter<'_, W>,
+    err: &mut WatchedWriter<'_, E>,
+) -> Outcome
+    ensures said { Says (stream W.contents out.old out.new) (stream E.contents err.old err.new) result
+        (ReportsWith I.remaining (options_listed options.entry) (texts paths.now)
+        (options_listed options.entry).own input.old input.new) }
+    ensures later { IsLater out.old out.new }
+    ensures err_later { IsLater err.old err.new }
+{
+    match options.own {
+        OwnTypes::At(path) => report_at(rt, alloc, path, options, paths, input, out, err),
+        OwnTypes::None | OwnTypes::Text(_) => {
+            report_all(rt, alloc, options, paths, input, out, err)
+        }
+    }
+}
+
+/// Reports the inputs by the types of the file with this path.
+fn report_at<R: Files, A: Allocator + Copy, I: Read, W: Write, E: Write>(
+    rt: &R,
+    alloc: A,
+    path: &[u8],
+    options: Options<'_>,
+    paths: &[Vec<u8>],
+    input: &mut Watched<I>,
+    out: &mut WatchedWriter<'_, W>,
+    err: &mut WatchedWriter<'_, E>,
+) -> Outcome
+    ensures said { Says (stream W.contents out.old out.new) (stream E.contents err.old err.new) result
+        (ReportsAt I.remaining (options_listed options.entry) (texts paths.now) path.now input.old input.new) }
+    ensures later { IsLater out.old out.new }
+    ensures err_later { IsLater err.old err.new }
+{
+    match read_all(rt, alloc, path) {
+        Ok(text) => report_by(
+            rt,
+            alloc,
+            path,
+            text.as_slice(),
+            options,
+            paths,
+            input,
+            out,
+            err,
+        ),
+        Err(fault) => refuse(Refusal::Unread(path, fault), err),
+    }
+}
+
+/// Reports the inputs by the types of a text, which the file with this path has.
+fn report_by<R: Files, A: Allocator + Copy, I: Read, W: Write, E: Write>(
+    rt: &R,
+    alloc: A,
+    path: &[u8],
+    text: &[u8],
+    options: Options<'_>,
+    paths: &[Vec<u8>],
+    input: &mut Watched<I>,
+    out: &mut WatchedWriter<'_, W>,
+    err: &mut WatchedWriter<'_, E>,
+) -> Outcome
+    ensures said { Says (stream W.contents out.old out.new) (stream E.contents err.old err.new) result
+        (ReportsBy I.remaining (options_listed options.entry) (texts paths.now) path.now text.now input.old input.new) }
+    ensures later { IsLater out.old out.new }
+    ensures err_later { IsLater err.old err.new }
+{
+    match types::check(text) {
+        Ok(()) => report_all(rt, alloc, options.with_types(text), paths, input, out, err),
+        Err(mistake) => refuse(Refusal::Mistaken(path, mistake), err),
+    }
+}
+
+/// All bytes of a file. No contract can say which those are.
+fn read_all<R: Files, A: Allocator>(rt: &R, alloc: A, path: &[u8]) -> Result<Vec<u8, A>, Fault> {
+    let mut file = match open(rt, path) {
+        Ok(file) => file,
+        Err(error) => return Err(Fault::Open(error.kind())),
+    };
+    let mut bytes = Vec::new(alloc);
+    match file.read_to_end(&mut bytes) {
+        Ok(_) => Ok(bytes),
+        Err(error) => Err(fault_of(error.kind())),
+    }
+}
+
+/// The fault of a read that gave an error of this kind.
+fn fault_of(kind: ErrorKind) -> Fault {
+    match kind {
+        ErrorKind::OutOfMemory => Fault::Memory,
+        _ => Fault::Read(kind),
     }
 }
 

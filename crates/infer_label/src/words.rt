@@ -5,6 +5,8 @@ ghost use Rattle.infer_label.specs.Options.{default_options, options_listed};
 ghost use Rattle.infer_label.specs.Words.{asked, asked_at_end, asked_listed, flag_in, is_dashed, kind_of, labels, option_kind, refusal_listed, refused, step_at, step_listed, stop, texts, value_step, valued_in, word_step};
 
 use crate::options::{Flag, Options, Valued};
+use infer::Fault;
+use infer_more::types::Mistake;
 
 /// What a word is where an option may stand.
 #[derive(Clone, Copy, Debug)]
@@ -34,6 +36,10 @@ pub enum Refusal<'a> {
     Lacking(Valued),
     /// This is no number from 1 to 65536.
     NoLimit(&'a [u8]),
+    /// The file with this path, whose types are asked for, had a fault.
+    Unread(&'a [u8], Fault),
+    /// Its text has a mistake.
+    Mistaken(&'a [u8], Mistake),
 }
 
 /// What the words of a run ask for.
@@ -210,6 +216,9 @@ fn valued_in(word: &[u8]) -> Option<Valued>
     }
     if word == b"--name".as_slice() {
         return Some(Valued::Name);
+    }
+    if word == b"--types".as_slice() {
+        return Some(Valued::Types);
     }
     None
 }

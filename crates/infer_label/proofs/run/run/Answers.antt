@@ -18,8 +18,8 @@ returns-in-Version-clause-said g c =
 
 pub returns-in-Labels-clause-said : goal.returns-in-Labels-clause-said
 returns-in-Labels-clause-said g c =
-    subst (λ what. Says (stream g.W.Write.contents c.args.out.now c.report_all.new.out) (stream g.E.Write.contents c.args.err.now c.report_all.new.err) c.report_all.result
-    (RunSays g.I.Read.remaining what c.args.input.now c.report_all.new.input)) c.in-Labels.ensures c.report_all.ensures.said
+    subst (λ what. Says (stream g.W.Write.contents c.args.out.now c.report_with.new.out) (stream g.E.Write.contents c.args.err.now c.report_with.new.err) c.report_with.result
+    (RunSays g.I.Read.remaining what c.args.input.now c.report_with.new.input)) c.in-Labels.ensures c.report_with.ensures.said
 
 pub returns-in-Refused-clause-said : goal.returns-in-Refused-clause-said
 returns-in-Refused-clause-said g c =
