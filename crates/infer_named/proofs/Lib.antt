@@ -7,5 +7,6 @@ pub mod Placed
 pub mod PlacedLemmas
 pub mod TableLemmas
 pub mod KindLemmas
+pub mod SetLemmas
 pub mod OddLemmas
 pub mod LawLemmas

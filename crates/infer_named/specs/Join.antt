@@ -64,6 +64,11 @@ is_among t rows = list_any (λ row. bytes_eq row t.extension || bytes_eq row t.m
 abbrev pub takes : Triple → Reading → Bool
 takes t r = is_among t r.agrees || (is_among t r.begins || is_among t r.finer)
 
+-- what the first of the reading's sets that has the type makes of the name, if one has it
+abbrev pub standing_in : Triple → Reading → Option Standing
+standing_in t r =
+    if is_among t r.agrees then Some Agree else (if is_among t r.begins then Some NameRefines else (if is_among t r.finer then Some BytesRefine else None))
+
 -- whether a lead begins with one of the texts, or there are none
 abbrev pub begins_with : List ℕ → List (List ℕ) → Bool
 begins_with lead [] = true

@@ -5,7 +5,7 @@ ghost use Rattle.infer.specs.Triple.{triple_of};
 ghost use Rattle.infer_more.specs.Wider.{IsWiderAnswer};
 ghost use Rattle.infer_named.specs.Asks.{admits};
 ghost use Rattle.infer_named.specs.Bytes.{IsKind, has_no_zero, is_empty, lead_of};
-ghost use Rattle.infer_named.specs.Join.{answer, extension_of, first_type, fits, is_among, is_own, is_own_name, joined_with, keyed, mime_type_of, reading_of, reading_without, row_extension, told_by, takes, type_of_name, unnamed};
+ghost use Rattle.infer_named.specs.Join.{answer, extension_of, first_type, fits, is_among, is_own, is_own_name, joined_with, keyed, mime_type_of, reading_of, reading_without, row_extension, standing_in, told_by, type_of_name, unnamed};
 ghost use Rattle.infer_named.specs.Listed.{key_listed, origin_listed, reading_listed, row_at, texts};
 ghost use Rattle.infer_named.specs.Named.{IsNamed, answer_of, key_of, told_listed};
 
@@ -187,7 +187,7 @@ fn keyed(key: &'static Key, found: Option<Type>, buf: &[u8]) -> Named
     ensures key { key_of result ≡ Some (key_listed key.now) }
 {
     match found {
-        Some(t) => joined_with(key, t, reading_of(readings_of(key), t, buf)),
+        Some(t) => joined(key, t, buf),
         None => keyed_alone(key, buf),
     }
 }
@@ -212,51 +212,65 @@ fn keyed_alone(key: &'static Key, buf: &[u8]) -> Named
     }
 }
 
-/// What it tells of bytes with this type, of which this is the reading.
-fn joined_with(key: &'static Key, t: Type, reading: Option<&'static Reading>) -> Named
-    ensures answer { answer_of result
-        ≡ joined_with (key_listed key.now).is_loose (triple_of t) (option_map (λ r. reading_listed r.now) reading.entry) }
+/// What it tells of bytes with this type: what the first reading tells that the bytes fit and that has it in a set.
+#[tactic(auto, using(crate::proofs::SetLemmas::takes_is))]
+fn joined(key: &'static Key, t: Type, buf: &[u8]) -> Named
+    ensures answer { answer_of result ≡ joined_with (key_listed key.now).is_loose (triple_of t)
+        (reading_of (key_listed key.now).readings (triple_of t) (lead_of buf.now)) }
     ensures key { key_of result ≡ Some (key_listed key.now) }
 {
-    match reading {
-        Some(reading) => told_by(key, reading, t),
-        None => {
-            if key.is_loose {
-                telling(Standing::BytesAlone, Told::Bytes(t), Some(key))
-            } else {
-                telling(Standing::Contradicts, Told::Bytes(t), Some(key))
-            }
+    let readings = readings_of(key);
+    for reading in readings {
+        let standing = standing_in(reading, t);
+        if standing.is_some() && fits(reading, buf) {
+            return told_by(key, reading, standing, t);
         }
+    }
+    untaken(key, t)
+}
+
+/// What it tells of bytes with this type, which no reading has.
+fn untaken(key: &'static Key, t: Type) -> Named
+    ensures answer { answer_of result ≡ joined_with (key_listed key.now).is_loose (triple_of t) None }
+    ensures key { key_of result ≡ Some (key_listed key.now) }
+{
+    if key.is_loose {
+        telling(Standing::BytesAlone, Told::Bytes(t), Some(key))
+    } else {
+        telling(Standing::Contradicts, Told::Bytes(t), Some(key))
     }
 }
 
-/// What a reading tells of a type that one of its sets has.
-fn told_by(key: &'static Key, reading: &Reading, t: Type) -> Named
+/// What a reading tells of a type, by what the set that has it makes of the name.
+#[tactic(auto, using(crate::proofs::SetLemmas::told_refined, crate::proofs::SetLemmas::told_agreed, crate::proofs::SetLemmas::told_others))]
+fn told_by(key: &'static Key, reading: &Reading, standing: Option<Standing>, t: Type) -> Named
+    requires { standing_in (triple_of t) (reading_listed reading.now) ≡ standing }
     ensures answer { answer_of result ≡ told_by (reading_listed reading.now) (triple_of t) }
     ensures key { key_of result ≡ Some (key_listed key.now) }
 {
-    if is_among(t, rows(reading.agrees)) {
-        return telling(Standing::Agree, Told::Bytes(t), Some(key));
-    }
-    if is_among(t, rows(reading.begins)) {
-        return telling(
+    match standing {
+        Some(Standing::NameRefines) => telling(
             Standing::NameRefines,
             Told::Name(named(reading.named)),
             Some(key),
-        );
+        ),
+        Some(Standing::Agree) => telling(Standing::Agree, Told::Bytes(t), Some(key)),
+        _ => telling(Standing::BytesRefine, Told::Bytes(t), Some(key)),
     }
-    telling(Standing::BytesRefine, Told::Bytes(t), Some(key))
 }
 
-/// The first reading that the bytes fit and that has their type in a set.
-fn reading_of(readings: &'static [Reading], t: Type, buf: &[u8]) -> Option<&'static Reading>
-    ensures { option_map (λ r. reading_listed r.now) result
-        ≡ reading_of (map reading_listed readings.now) (triple_of t) (lead_of buf.now) }
+/// What the first of the reading's sets that has the type makes of the name, if one has it.
+fn standing_in(reading: &Reading, t: Type) -> Option<Standing>
+    ensures { result ≡ standing_in (triple_of t) (reading_listed reading.now) }
 {
-    for reading in readings {
-        if takes(reading, t) && fits(reading, buf) {
-            return Some(reading);
-        }
+    if is_among(t, rows(reading.agrees)) {
+        return Some(Standing::Agree);
+    }
+    if is_among(t, rows(reading.begins)) {
+        return Some(Standing::NameRefines);
+    }
+    if is_among(t, rows(reading.finer)) {
+        return Some(Standing::BytesRefine);
     }
     None
 }
@@ -272,15 +286,6 @@ fn reading_without(readings: &'static [Reading], kind: Kind, buf: &[u8]) -> Opti
         }
     }
     None
-}
-
-/// Whether one of the reading's sets has the type.
-fn takes(reading: &Reading, t: Type) -> bool
-    ensures { result ≡ takes (triple_of t) (reading_listed reading.now) }
-{
-    is_among(t, rows(reading.agrees))
-        || is_among(t, rows(reading.begins))
-        || is_among(t, rows(reading.finer))
 }
 
 /// Whether the type is that of one of the rows of these numbers.
