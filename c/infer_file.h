@@ -53,7 +53,8 @@ int infer_named_path(const char *path, struct infer_named_answer *answer);
 
 /* A stream that comes in pieces, in the caller's memory: its first INFER_FRONT bytes, how many these are so far, and
  * whether the verdict on them is final, as infer_verdict tells it. It begins as `struct infer_sniffer it = {0};`. Any call
- * takes what is kept, as infer_more_position(it.kept, it.size). */
+ * takes what is kept, as infer_more_position(it.kept, it.size). `is_final` speaks of infer_position alone: ask
+ * infer_more_is_decided(it.kept, it.size) whether the wider answer can still change. */
 struct infer_sniffer {
     unsigned char kept[INFER_FRONT];
     size_t size;

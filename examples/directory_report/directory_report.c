@@ -265,6 +265,11 @@ static void name_joins(struct report *report, const unsigned char *front, size_t
         found->claimed = type_of_own(said);
     else if (!said && named->standing == INFER_CONTRADICTS && !is_open(front, size, found))
         found->claimed = (struct type){named->name.mime_type, *named->name.extension ? named->name.extension : NULL, NULL};
+    // The table of names knows no type of a text.
+    if (mine)
+        named->standing = is_own ? INFER_AGREE : named->standing == INFER_AGREE ? INFER_BYTES_REFINE : INFER_BYTES_ALONE;
+    if (found->claimed.mime_type)
+        named->standing = INFER_CONTRADICTS;
 }
 
 /* Opens a regular file and nothing else: a device can act as soon as it is opened. Opening a FIFO waits for a writer
