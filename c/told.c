@@ -91,6 +91,7 @@ static void ask_named(const unsigned char *buf, size_t len) {
     memcpy(name, buf + (len - kept), kept);
     memcpy(name + kept, last, strlen(last));
     infer_named(name, kept + strlen(last), buf, len, &found);
+    note(infer_oddities(name, kept + strlen(last)));
     note(found.standing);
     note(found.row);
     note_text(found.told.mime_type);
@@ -114,6 +115,8 @@ static void ask(const void *buf, size_t len, int32_t first) {
     for (int32_t i = first; i < rows; i += EVERY)
         note(infer_accepts(buf, len, i) + 2 * infer_may_become(buf, len, i) + 4 * infer_more_may_become(buf, len, i));
     note((int64_t)infer_encoding(buf, len, text, sizeof text));
+    note_text(text);
+    note((int64_t)infer_detect_content_type(buf, len, text, sizeof text));
     note_text(text);
     note((int64_t)infer_types_check(buf, len, &line, &column, text, sizeof text));
     note_text(text);
