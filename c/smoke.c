@@ -240,6 +240,12 @@ static void widers(void) {
     int32_t o = infer_more_position(object, sizeof object);
     same("may become an object", infer_more_may_become(object, 16, o), true);
     same("may become none", infer_more_may_become(shared, sizeof shared, o), false);
+    /* No clause says that a row with a relation is ever told not to come. */
+    int32_t json = infer_more_position("{\"a\": 1}", 8), svg = infer_more_position("<svg/>", 6);
+    same("may become JSON", infer_more_may_become("{", 1, json), true);
+    same("may become no JSON", infer_more_may_become("<", 1, json), false);
+    same("may become a drawing", infer_more_may_become("<", 1, svg), true);
+    same("may become no drawing", infer_more_may_become("{", 1, svg), false);
     same("may become a built-in row", infer_more_may_become("\xFF\xD8", 2, jpeg()), true);
     same("more may become row -1", infer_more_may_become(NULL, 0, -1), false);
     same("more may become the last row", infer_more_may_become(NULL, 0, last_of_all()), true);
