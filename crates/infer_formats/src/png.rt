@@ -1,11 +1,13 @@
 //! PNG images, by their chunks: PNG Specification, third edition (W3C), sections 5.2 and 5.3.
 ghost use Rattle.std.specs.Prelude.{◌↔◌, IsTrue};
-ghost use Rattle.infer_deep.specs.Signatures.{MayBecome};
 ghost use Rattle.infer_formats.specs.Open.{TellsMayBecome};
 ghost use Rattle.infer_formats.specs.Png.{IsAnimated};
 
+mod open;
+
 use infer_deep::numbers::be32;
 use infer_deep::places::stands_at;
+pub use open::may_become_animated;
 
 /// Behind the signature the first chunk begins.
 const SIGNATURE_SIZE: usize = 8;
@@ -19,13 +21,6 @@ pub fn is_animated(buf: &[u8]) -> bool
     ensures { IsTrue result ↔ IsAnimated buf.now }
 {
     animation(buf) == Some(true)
-}
-
-/// Whether some bytes after `buf`, or none, may make it an animated image.
-pub fn may_become_animated(buf: &[u8]) -> bool
-    ensures { MayBecome IsAnimated buf.now → IsTrue result }
-{
-    animation(buf) != Some(false)
 }
 
 /// Whether the chunks are those of an animated image, and none if they go on past the end of `buf`.

@@ -3,13 +3,14 @@ ghost use Rattle.std.specs.Prelude.{◌≡◌, ◌↔◌, ◌<◌, ◌≤◌, �
 ghost use Rattle.std.specs.Bool.{OnTrue};
 ghost use Rattle.std.specs.Str.{IsAscii};
 ghost use Rattle.infer_deep.specs.Blocks.{AllBelow};
-ghost use Rattle.infer_deep.specs.Signatures.{MayBecome};
 ghost use Rattle.infer_deep.specs.Text.{BeginsMarked};
-ghost use Rattle.infer_formats.specs.Open.{Stays};
 ghost use Rattle.simdutf8.specs.Steps.{IsContinuation, least_after, most_after};
 ghost use Rattle.infer_formats.specs.Text.{IsCutLen, SomeBelow, MayBeginChar, BeginsUtf8, IsBinary, IsDataByte, IsEncodingOf, IsPlainByte, IsText, encoding_name};
 
+mod open;
+
 use infer_deep::places::stands_at;
+pub use open::{may_become_text, stays_text};
 use simdutf8::is_utf8;
 use std::fmt;
 
@@ -72,21 +73,6 @@ pub fn is_binary(buf: &[u8]) -> bool
     }
     let rest = &buf[printed_front(buf)..];
     has_data(&rest[plain_front(rest)..])
-}
-
-/// Whether some bytes after `buf`, or none, may make it text.
-pub fn may_become_text(buf: &[u8]) -> bool
-    ensures { MayBecome IsText buf.now → IsTrue result }
-{
-    buf.is_empty() || is_text(buf)
-}
-
-/// Whether `buf` is text whatever bytes follow: a byte order mark stands first.
-#[tactic(auto, using(crate::proofs::TextLemmas::marked_stays))]
-pub fn stays_text(buf: &[u8]) -> bool
-    ensures { IsTrue result → Stays IsText buf.now }
-{
-    is_marked(buf)
 }
 
 fn is_marked(buf: &[u8]) -> bool
