@@ -115,15 +115,24 @@ def counted(place):
     return [ZIP | {place: NOT_ZERO}, ZIP | {place + 1: NOT_ZERO}]
 
 
+def begun(text):
+    """A text that stands first, or behind a byte order mark."""
+    return [dict(enumerate({byte} for byte in text)), {0: {0xEF}, 1: {0xBB}, 2: {0xBF}}]
+
+
+# What it takes, by its first text.
 NAMED = {
     "FirstEntryIs": lambda name: [named(name)],
     "FirstEntryEndsIn": lambda name: counted(26),
     "FirstEntryHasExtra": lambda extra: counted(28),
+    "TextFirst": begun,
+    "TextFirstWith": begun,
     "PackageWith": lambda folder: [named(it) for it in (b"[Content_Types].xml", b"_rels/", b"docProps/", folder)],
 }
 MARKUP = [{0: set(b"\t\n\r <")}, {0: {0xEF}, 1: {0xBB}, 2: {0xBF}}]
 JSON = [{0: set(b"\t\n\r [{")}, {0: {0xEF}, 1: {0xBB}, 2: {0xBF}}]
 OUTLINES = {
+    "HasEntry": [ZIP],
     # (its own pieces tell them)
     "BinaryBytes": None,
     "ClassId": [{0: {0xD0}, 1: {0xCF}, 2: {0x11}, 3: {0xE0}}],
@@ -217,7 +226,7 @@ def alternative(code):
     if code[0].isdigit():
         return Alternative("", "", [asked(code)])
     if name in NAMED:
-        return Alternative(name, takes, NAMED[name](bytes_of(takes)))
+        return Alternative(name, takes, NAMED[name](bytes_of(re.match(TEXT_OF_BYTES, takes.removeprefix("*"))[0])))
     return Alternative(name, takes, OUTLINES.get(name) or outlines_of(name) or [asked(code)])
 
 

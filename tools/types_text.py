@@ -16,6 +16,8 @@ NAMES = {
     "ClassId": lambda it: f"class id: {spaced(it)}",
     "DirectoryTag": lambda it: f"first directory has tag {int(it, 0):04X}",
     "Program": lambda it: f"program: {bytes_of(it).decode()}",
+    "TextFirst": lambda it: f"begins: {quoted(it)}",
+    "TextFirstWith": lambda it: "begins: {} has {}".format(*map(quoted, texts(it))),
     "Root": lambda it: f"root: {bytes_of(it).decode()}",
     "RootWith": lambda it: "root: {} with {}".format(bytes_of(texts(it)[0]).decode(), quoted(texts(it)[1])),
 }

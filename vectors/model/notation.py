@@ -226,6 +226,16 @@ def behind_tag(buf):
     return buf[10 + size :]
 
 
+def has_entry(buf, name):
+    """Whether an entry of that name stands somewhere."""
+    headers = (it.start() for it in re.finditer(rb"(?=PK\x03\x04)", buf))
+    return any(int.from_bytes(buf[at + 26 : at + 28], "little") == len(name) and buf[at + 30 :].startswith(name) for at in headers if at + 30 <= len(buf))
+
+
+def begins(buf, text):
+    return buf.startswith(text) or buf.startswith(b"\xef\xbb\xbf" + text)
+
+
 def is_text(buf):
     return buf[:2] in (b"\xfe\xff", b"\xff\xfe") or buf[:3] == b"\xef\xbb\xbf" or (buf != b"" and not re.search(rb"[\0-\x08\x0B\x0E-\x1A\x1C-\x1F]", buf))
 
@@ -245,6 +255,9 @@ RELATIONS = [
     ('first directory has tag', HEX + HEX, None),
     ('package with :', QUOTED, None),
     ('behind an ID3 tag :', QUOTED, lambda buf, words: behind_tag(buf).startswith(words[0][1:-1])),
+    ('entry :', QUOTED, lambda buf, words: has_entry(buf, words[0][1:-1])),
+    ('begins :', QUOTED, lambda buf, words: begins(buf, words[0][1:-1])),
+    ('begins :', QUOTED + rb"\0has\0" + QUOTED, lambda buf, words: begins(buf, words[0][1:-1]) and words[2][1:-1] in buf),
     ('program :', rb"%s(?:\0%s)*" % (WORD, WORD), lambda buf, words: program(buf) in words),
     ('first entry :', rb"is\0" + QUOTED, lambda buf, words: first_name(buf)[1] == words[1][1:-1]),
     ('first entry :', rb"ends\0in\0" + QUOTED, lambda buf, words: first_name(buf)[1] is not None and first_name(buf)[1].endswith(words[2][1:-1])),

@@ -85,7 +85,7 @@ def name(rng):
 def relation(rng):
     """The words of a relation, a buffer that fits it, and the parent below which that is asked. Of what the model does not
     decide the buffer is none that is asked."""
-    names, kind = [rng.choice(["flow", "flows", "svg", "or", "with", "x.y", "with3"]) for _ in range(rng.choice([1, 1, 2, 3]))], rng.randrange(5)
+    names, kind = [rng.choice(["flow", "flows", "svg", "or", "with", "x.y", "with3"]) for _ in range(rng.choice([1, 1, 2, 3]))], rng.randrange(7)
     one = rng.choice(names).encode()
     if kind == 0:
         texts = [rng.choice([[], [], ["with", '"urn:a"'], ["with", '"b"']]) for _ in names]
@@ -102,6 +102,13 @@ def relation(rng):
         head = b"PK\3\4" + bytes(22) + len(name).to_bytes(2, "little") + rng.choice([b"\0\0", b"\2\0", b"\4\0"])
         return ["first", "entry", ":", *joined(said)], head + name + rng.choice([b"", b"\xfe\xca", b"\xfe\xca\0\0"]), "zip"
     if kind == 3:
+        head = b"PK\3\4" + bytes(22) + len(one).to_bytes(2, "little") + b"\0\0"
+        buf = b"PK\3\4" + bytes(rng.choice([0, 3, 30])) + rng.choice([b"", b"PK", b"PK\3\4"]) + head + one
+        return ["entry", ":", *joined([[f'"{name}"'] for name in names])], buf[: len(buf) - rng.choice([0, 0, 0, 1])], "zip"
+    if kind == 4:
+        said = [rng.choice([[f'"{name}"'], [f'"{name}"', "has", '"urn:a"']]) for name in names]
+        return ["begins", ":", *joined(said)], rng.choice([b"", b"\xef\xbb\xbf", b"\xef\xbb"]) + one + rng.choice([b"", b" urn:a", b" urn:"]), "-"
+    if kind == 5:
         return ["text"], rng.choice([b"abc", b"a\0", b"\xff\xfe\0", b"a\x0b", b"a\x1b"]), "-"
     ids = [[pair(rng, rng.randrange(256)) for _ in range(16)] for _ in names]
     said = [

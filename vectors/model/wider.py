@@ -96,6 +96,12 @@ def never_behind_tag(buf: bytes, said: str) -> bool:
     return len(sizes) == 4 and not agrees(buf, said[1:-1].encode(), 10 + sum(byte << 7 * place for place, byte in enumerate(reversed(sizes))))
 
 
+def never_begun(buf: bytes, said: str) -> bool:
+    """It begins otherwise. What it has to have beside may always follow."""
+    text = said[1 : said.index('"', 1)].encode()
+    return not agrees(buf, text, 0) and not (agrees(buf, MARKS[0], 0) and agrees(buf, text, 3))
+
+
 def never_animated(buf: bytes, _: str) -> bool:
     """A chunk of the image comes before any of its animation."""
     place = 8
@@ -157,7 +163,7 @@ def never_summed(buf: bytes, _: str) -> bool:
 # What each relation is called in the notation, and what rules an alternative of it out.
 NEVER: dict[str, Callable[[bytes, str], bool]] = {
     "shared object": never_shared, "first entry:": never_named, "package with:": never_packed, "first directory has tag": never_tagged,
-    'chunk "acTL" before "IDAT"': never_animated, "behind an ID3 tag:": never_behind_tag, "class id:": never_class, "JSON lines": never_json,
+    'chunk "acTL" before "IDAT"': never_animated, "behind an ID3 tag:": never_behind_tag, "class id:": never_class, "entry:": lambda buf, said: False, "begins:": never_begun, "JSON lines": never_json,
     "JSON": never_json, "root:": never_rooted, "program:": never_run, "text": never_text, "first cue of SubRip": never_subtitles, "dBASE header": never_dbase, "tar checksum": never_summed,
 }
 

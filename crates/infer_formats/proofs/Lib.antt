@@ -1,3 +1,4 @@
+pub mod BeginsLemmas
 pub mod Common
 pub mod CompleteLemmas
 pub mod DbaseLemmas

@@ -1,6 +1,7 @@
 -- Each relation, by the lemmas of its format.
 use Rattle.infer_formats.proofs.Common.{[], ◌≡◌, ◌↔◌, IsTrue, List, ℕ, OccursAt-append, Lasts, arith, refl, StandsByPlace, stands, Stays, png_header, Fits, HasLines, Relation, animated, class_id, dbase, directory_tag, first_entry_ends_in, first_entry_has_extra, first_entry_is, is_lasting, json_lines, json_text, package_with, plain_text, program, relation_listed, root, root_with, shared_object, subrip, tar_checksum}
-use Rattle.infer_formats.specs.Relation.{behind_id3}
+use Rattle.infer_formats.specs.Relation.{behind_id3, has_entry, text_first, text_first_with}
+use Rattle.infer_formats.proofs.BeginsLemmas.{begins_and_has-lasts, begins-lasts, begins_lines, known_begins, known_begins_and_has}
 use Rattle.infer_formats.proofs.DbaseLemmas.{dbase_lines, dbase-lasts, known_table}
 use Rattle.infer_formats.proofs.ElfLemmas.{object_lines, shared_object-lasts, known_object}
 use Rattle.infer_formats.proofs.Id3Lemmas.{behind-lasts, behind_lines, known_behind}
@@ -14,7 +15,7 @@ use Rattle.infer_formats.proofs.SubtitlesLemmas.{subrip_lines, subrip-lasts, kno
 use Rattle.infer_formats.proofs.TarLemmas.{field_lines, tar_checksum-lasts, known_checksum}
 use Rattle.infer_formats.proofs.TextLemmas.{text_lines, known_text}
 use Rattle.infer_formats.proofs.TiffLemmas.{tag_lines, tag-lasts, known_tag}
-use Rattle.infer_formats.proofs.ZipLemmas.{counted_for_lines, named_part, package_lines, first_entry_ends_in-lasts, first_entry_has_extra-lasts, first_entry_is-lasts, package_with-lasts, known_ending, known_entry, known_extra, known_package}
+use Rattle.infer_formats.proofs.ZipLemmas.{counted_for_lines, entry_lines, named_part, package_lines, has_entry-lasts, known_later, first_entry_ends_in-lasts, first_entry_has_extra-lasts, first_entry_is-lasts, package_with-lasts, known_ending, known_entry, known_extra, known_package}
 use Rattle.infer_formats.specs.declared.relation.Relation as declared
 use Rattle.infer_formats.specs.declared.relation.Relation.TheVariants.{JsonLines, JsonText, PlainText}
 use Rattle.infer_deep.proofs.ClassIdLemmas.{HasClassId-lasts}
@@ -30,10 +31,13 @@ relation_lasts shared_object l = shared_object-lasts
 relation_lasts (first_entry_is name) l = λ b more. first_entry_is-lasts b more name
 relation_lasts (first_entry_ends_in text) l = λ b more. first_entry_ends_in-lasts b more text
 relation_lasts (first_entry_has_extra text) l = λ b more. first_entry_has_extra-lasts b more text
+relation_lasts (has_entry name) l = λ b more. has_entry-lasts b more name
 relation_lasts (package_with folder) l = λ b more. package_with-lasts b more folder
 relation_lasts (class_id id) l = HasClassId-lasts id
 relation_lasts (directory_tag tag) l = λ b more. tag-lasts b more tag
 relation_lasts (behind_id3 t) l = λ b more. behind-lasts b more t
+relation_lasts (text_first t) l = λ b more. begins-lasts b more t
+relation_lasts (text_first_with t u) l = λ b more. begins_and_has-lasts b more t u
 relation_lasts animated l = λ b more (header, chunks). (OccursAt-append b more png_header 0 header, chunk b more 8 chunks)
 relation_lasts subrip l = subrip-lasts
 relation_lasts dbase l = dbase-lasts
@@ -59,10 +63,13 @@ module _ (by_place : (place : ℕ) (t buf : List ℕ) → IsTrue (stands place t
   has_lines (first_entry_is name) small h = named_part by_place b name [] h.0.header h.2
   has_lines (first_entry_ends_in name) small h = counted_for_lines by_place b name 26 h.0 (omega arith) h.1
   has_lines (first_entry_has_extra extra) small h = counted_for_lines by_place b extra 28 h.0 (omega arith) h.1
+  has_lines (has_entry name) small h = entry_lines by_place b name h
   has_lines (package_with folder) small h = package_lines by_place b folder h.0
   has_lines (class_id id) small (place, r, o) = let le = r.header.fits in begins by_place b 8 _ (omega arith) r.header
   has_lines (directory_tag tag) small (big, starts, e) = tag_lines by_place b tag big starts
   has_lines (behind_id3 t) small h = behind_lines by_place b t h
+  has_lines (text_first t) small h = begins_lines by_place b t h
+  has_lines (text_first_with t u) small h = begins_lines by_place b t h.0
   has_lines animated small (o, a) = let le = o.fits in begins by_place b 4 png_header (omega arith) o
   has_lines subrip small h = subrip_lines by_place b h
   has_lines dbase small h = dbase_lines by_place b h
@@ -82,10 +89,13 @@ module _ (by_place : ByPlace) (inside : Leads) (single : Single) (b : List ℕ) 
   known_relation (first_entry_is name) = known_entry by_place b name
   known_relation (first_entry_ends_in text) = known_ending by_place b text
   known_relation (first_entry_has_extra text) = known_extra by_place b text
+  known_relation (has_entry name) = known_later by_place b name
   known_relation (package_with folder) = known_package by_place b folder
   known_relation (class_id id) = known_class by_place b id
   known_relation (directory_tag tag) = known_tag by_place b tag
   known_relation (behind_id3 t) = known_behind by_place b t
+  known_relation (text_first t) = known_begins by_place b t
+  known_relation (text_first_with t u) = known_begins_and_has by_place b t u
   known_relation animated = known_animation by_place b
   known_relation subrip = known_subrip by_place b
   known_relation dbase = known_table b

@@ -1,12 +1,13 @@
 -- ZIP archives and packages: the first entry with a property, what more bytes keep and may make, and the bytes that each has.
 use Rattle.infer_formats.proofs.Common.{[], ◌≡◌, ◌↔◌, ℕ, ◌+◌, ◌-◌, ◌<◌, ◌≤◌, inl, inr, List, length, codes, get_or, take, drop, add-zero, ap, refl, subst, ◌∙◌, arith, eq-eqb, length-drop, take_rest, OccursAt, Nowhere, Passes, is_byte, zip_header, IsFirstFolder, IsFolderEntry, IsPackageWith, IsPartEntry, MayBeginPackage, applications, IsTrue, zero, suc, ◌/◌, ◌%◌, ◌++◌, cases_lt, le16, AgreesAt, are_bytes, MayBecome, grown_agrees, FirstEntryEndsIn, FirstEntryHasExtra, FirstEntryIs, sym, nat_eq, OccursAt-append, OccursAt-first, ◌∷◌, slice_index, OccursAt-front, nat_tests, and_from, lt-ltb, if◌then◌else◌, nat_lt, le16-append, low_bytes, counted, counted_for, named, lines, package_with, StandsByPlace, accepts, all_but, at_least, stands, part_reads}
-use Rattle.infer_formats.specs.Zip.{IsOneOf, MayBeginAny, MayHaveFirstEnding, MayHaveFirstField, MayHaveFirstName, MayBePackage, HasFirstName, IsFolder}
+use Rattle.infer_formats.specs.Zip.{HasEntry, IsOneOf, MayBeginAny, MayHaveFirstEnding, MayHaveFirstField, MayHaveFirstName, MayBePackage, HasFirstName, IsFolder}
 use Rattle.infer_sig.specs.Signature.{byte, text}
 use Rattle.infer_formats.proofs.GrowthLemmas.{there, longer}
 use Rattle.infer_formats.proofs.OpenLemmas.{grown_byte}
 use Rattle.infer_formats.proofs.OutlineLemmas.{begins, occurs, other, two}
 use Rattle.infer_sig.specs.Signature as fixed
-use Rattle.infer_sig.proofs.KnownLemmas.{Known, at_most, either, both, needs, negated, proved, same, takes, ◌>>=◌}
+use Rattle.infer_formats.specs.Relation.{has_entry}
+use Rattle.infer_sig.proofs.KnownLemmas.{Known, at_most, either, both, needs, negated, proved, refuted_if, same, takes, ◌>>=◌, ◌>>◌}
 use Rattle.infer_sig.proofs.OccurrenceLemmas as Place
 use Rattle.infer_sig.proofs.OccurrenceLemmas.{ByPlace}
 
@@ -210,6 +211,14 @@ module _ (b more : List ℕ) where
   package_with-lasts folder (begins, (p, part), (q, first, f)) =
       (begins_package folder begins, (p, part_entry p part), (q, first_folder-lasts q first, OccursAt-append b more folder (q + 30) f))
 
+-- a place of an entry in b is one of b with more behind it
+pub has_entry-lasts : (b more name : List ℕ) → HasEntry name b → HasEntry name (b ++ more)
+has_entry-lasts b more name (first, (q, (o, sized, stands))) =
+    let fits = stands.fits in (
+      OccursAt-append b more zip_header 0 first,
+      (q, (OccursAt-append b more zip_header q o, le16-append b more (q + 26) (omega arith) ∙ sized, OccursAt-append b more name (q + 30) stands)),
+    )
+
 -- ---- the first entry
 
 pub name_known : (name b : List ℕ) → IsTrue (are_bytes b) → MayBecome (FirstEntryIs name) b → MayHaveFirstName name b
@@ -313,6 +322,9 @@ module _ (by_place : (place : ℕ) (t buf : List ℕ) → IsTrue (stands place t
   counted_for_lines [] place h low le = begins by_place b 30 zip_header h.long h.header
   counted_for_lines (x ∷ t) place h low le = counted_lines place h low (omega arith)
 
+  pub entry_lines : (name : List ℕ) → HasEntry name b → IsTrue (accepts (lines (has_entry name)) b)
+  entry_lines name h = begins by_place b 4 zip_header (let fits = h.0.fits in omega arith) h.0
+
   pub named_part : (name : List ℕ) (others : List fixed.Alternative) → OccursAt b zip_header 0 → OccursAt b name 30 → IsTrue (accepts (named name ∷ others) b)
   named_part name others o t = two by_place b 30 (text 0 zip_header) (text 30 name) others (let fits = t.fits in omega arith) (occurs by_place b 0 zip_header o) (occurs by_place b 30 name t)
 
@@ -374,6 +386,21 @@ module _ (by_place : ByPlace) (b : List ℕ) where
     header ← takes (Place.occurs by_place zip_header b 0)
     links ← takes (Place.occurs by_place (codes "_rels/") b 30)
     proved ((header, inr (inl links)), (0, (header, inr links)), (6, (named, before), is_it))
+
+  abbrev known_at_48 : (name : List ℕ) → Known (HasEntry name b)
+  known_at_48 name = do
+    first ← takes (Place.occurs by_place zip_header b 0)
+    header ← takes (Place.occurs by_place zip_header b 48)
+    long ← takes (same (le16 b 74) (length name))
+    stands ← takes (Place.occurs by_place name b 78)
+    proved (first, (48, (header, long, stands)))
+
+  pub unnamed : (name : List ℕ) → IsTrue (Place.lacks 0 (suc (length b)) name b) → ¬ HasEntry name b
+  unnamed name none (first, (q, (o, sized, stands))) = Place.nowhere_from by_place name b 0 (q + 30) (omega arith) none stands
+
+  -- an entry behind the first, or no such name
+  abbrev pub known_later : (name : List ℕ) → Known (HasEntry name b)
+  known_later name = ◌>>◌ (known_at_48 name) (refuted_if (Place.lacks 0 (suc (length b)) name b) (unnamed name))
 
   abbrev pub known_entry : (name : List ℕ) → Known (FirstEntryIs name b)
   known_entry name = do

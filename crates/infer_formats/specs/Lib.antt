@@ -1,4 +1,5 @@
 pub mod Text
+pub mod Begins
 pub mod Zip
 pub mod Numbers
 pub mod Tiff

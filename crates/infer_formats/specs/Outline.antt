@@ -31,6 +31,10 @@ abbrev pub markup_lines : List fixed.Alternative
 markup_lines =
     at_least 1 (byte 0 (any_of (0x09 ∷ 0x0A ∷ 0x0D ∷ 0x20 ∷ 0x3C ∷ [])) ∷ []) ∷ at_least 3 (text 0 (0xEF ∷ 0xBB ∷ 0xBF ∷ []) ∷ []) ∷ []
 
+-- the text or a byte order mark first
+abbrev pub first_lines : List ℕ → List fixed.Alternative
+first_lines t = at_least (length t) (text 0 t ∷ []) ∷ at_least 3 (text 0 (0xEF ∷ 0xBB ∷ 0xBF ∷ []) ∷ []) ∷ []
+
 -- a byte order mark, white space or a bracket first
 abbrev pub json_outline : List fixed.Alternative
 json_outline =

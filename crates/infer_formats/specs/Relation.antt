@@ -3,12 +3,13 @@ use Rattle.std.specs.Prelude.{ℕ, ◌+◌, ◌/◌, ◌%◌, ◌<◌, Bool, fal
 use Rattle.infer_deep.specs.ClassId.{HasClassId, compound_header}
 use Rattle.infer_deep.specs.Office.{zip_header}
 use Rattle.memchr.specs.Find.{OccursAt}
+use Rattle.infer_formats.specs.Begins.{Begins, BeginsAndHas}
 use Rattle.infer_formats.specs.Dbase.{IsDbase, versions}
 use Rattle.infer_formats.specs.Elf.{IsSharedObject}
 use Rattle.infer_formats.specs.Id3.{IsBehindId3}
 use Rattle.infer_formats.specs.Json.{IsJson, IsJsonLines}
 use Rattle.infer_formats.specs.Markup.{HasRoot, HasRootWith}
-use Rattle.infer_formats.specs.Outline.{counted_for, digits_behind, json_outline, markup_lines, model_entry, named}
+use Rattle.infer_formats.specs.Outline.{counted_for, digits_behind, first_lines, json_outline, markup_lines, model_entry, named}
 use Rattle.infer_formats.specs.Png.{IsAnimated, png_header}
 use Rattle.infer_formats.specs.Script.{IsProgram}
 use Rattle.infer_formats.specs.Subtitles.{IsSubRip}
@@ -16,7 +17,7 @@ use Rattle.infer_formats.specs.Tar.{HasTarChecksum}
 use Rattle.infer_formats.specs.Text.{IsText}
 use Rattle.infer_formats.specs.Tiff.{HasTag}
 use Rattle.infer_formats.specs.Token.{Token, bare, quoted, separator, token_listed}
-use Rattle.infer_formats.specs.Zip.{FirstEntryEndsIn, FirstEntryHasExtra, FirstEntryIs, IsOneOf, IsPackageWith, applications}
+use Rattle.infer_formats.specs.Zip.{FirstEntryEndsIn, FirstEntryHasExtra, FirstEntryIs, HasEntry, IsOneOf, IsPackageWith, applications}
 use Rattle.infer_sig.specs.Signature as fixed
 use Rattle.infer_sig.specs.Signature.{Part, accepts, any_of, at_least, between, byte, text}
 use Rattle.infer_formats.specs.declared.model.Model.{Model}
@@ -24,10 +25,11 @@ use Rattle.infer_formats.specs.declared.model.Placed.{Placed}
 use Rattle.infer_formats.specs.declared.model.Text.{Text}
 use Rattle.infer_formats.specs.declared.model.Text.TheVariants as texts
 use Rattle.infer_formats.specs.declared.relation.OfText.{OfText}
-use Rattle.infer_formats.specs.declared.relation.OfText.TheVariants.{BehindId3, Package}
+use Rattle.infer_formats.specs.declared.relation.OfText.TheVariants.{AnyEntry, BehindId3, Package}
 use Rattle.infer_formats.specs.declared.relation.Relation as declared
 use Rattle.infer_formats.specs.declared.relation.Relation.TheVariants as listed
 use Rattle.infer_formats.specs.declared.relation.Takes.{Takes}
+use Rattle.infer_formats.specs.declared.relation.Takes.TheVariants as Takes
 use Rattle.infer_formats.specs.declared.relation.Takes.TheVariants.{ClassId, Entry, Nothing, OneText, Program, Root, Tag}
 use Rattle.infer_formats.specs.declared.token.Token as tokens
 use denote.Ref.{Bor}
@@ -37,10 +39,13 @@ pub data Relation : Type 0 where
   first_entry_is : List ℕ → Relation
   first_entry_ends_in : List ℕ → Relation
   first_entry_has_extra : List ℕ → Relation
+  has_entry : List ℕ → Relation
   package_with : List ℕ → Relation
   class_id : List ℕ → Relation
   directory_tag : ℕ → Relation
   behind_id3 : List ℕ → Relation
+  text_first : List ℕ → Relation
+  text_first_with : List ℕ → List ℕ → Relation
   animated : Relation
   subrip : Relation
   dbase : Relation
@@ -58,10 +63,13 @@ relation_listed listed.SharedObject = shared_object
 relation_listed (listed.FirstEntryIs name) = first_entry_is name.now
 relation_listed (listed.FirstEntryEndsIn end) = first_entry_ends_in end.now
 relation_listed (listed.FirstEntryHasExtra extra) = first_entry_has_extra extra
+relation_listed (listed.HasEntry name) = has_entry name.now
 relation_listed (listed.PackageWith folder) = package_with folder.now
 relation_listed (listed.ClassId id) = class_id id
 relation_listed (listed.DirectoryTag tag) = directory_tag tag
 relation_listed (listed.BehindId3 t) = behind_id3 t.now
+relation_listed (listed.TextFirst t) = text_first t.now
+relation_listed (listed.TextFirstWith t u) = text_first_with t.now u.now
 relation_listed listed.Animated = animated
 relation_listed listed.SubRip = subrip
 relation_listed listed.Dbase = dbase
@@ -76,6 +84,7 @@ relation_listed listed.PlainText = plain_text
 -- the relation that takes this text
 abbrev pub of_text : OfText → List ℕ → Relation
 of_text Package t = package_with t
+of_text AnyEntry t = has_entry t
 of_text BehindId3 t = behind_id3 t
 
 -- what each relation is called, and what stands behind its name. "JSON lines" stands before "JSON"
@@ -92,6 +101,8 @@ names =
     ∷ (bare (codes "first") ∷ bare (codes "directory") ∷ bare (codes "has") ∷ bare (codes "tag") ∷ [], Tag)
     ∷ (bare (codes "package") ∷ bare (codes "with") ∷ separator 0x3A ∷ [], OneText Package)
     ∷ (bare (codes "behind") ∷ bare (codes "an") ∷ bare (codes "ID3") ∷ bare (codes "tag") ∷ separator 0x3A ∷ [], OneText BehindId3)
+    ∷ (bare (codes "entry") ∷ separator 0x3A ∷ [], OneText AnyEntry)
+    ∷ (bare (codes "begins") ∷ separator 0x3A ∷ [], Takes.Begins)
     ∷ (bare (codes "program") ∷ separator 0x3A ∷ [], Program)
     ∷ (bare (codes "first") ∷ bare (codes "entry") ∷ separator 0x3A ∷ [], Entry)
     ∷ (bare (codes "class") ∷ bare (codes "id") ∷ separator 0x3A ∷ [], ClassId)
@@ -107,10 +118,13 @@ Fits shared_object b = IsSharedObject b
 Fits (first_entry_is name) b = FirstEntryIs name b
 Fits (first_entry_ends_in t) b = FirstEntryEndsIn t b
 Fits (first_entry_has_extra t) b = FirstEntryHasExtra t b
+Fits (has_entry name) b = HasEntry name b
 Fits (package_with folder) b = IsPackageWith folder b
 Fits (class_id id) b = HasClassId id b
 Fits (directory_tag tag) b = HasTag tag b
 Fits (behind_id3 t) b = IsBehindId3 t b
+Fits (text_first t) b = Begins t b
+Fits (text_first_with t u) b = BeginsAndHas t u b
 Fits animated b = OccursAt b png_header 0 × IsAnimated b
 Fits subrip b = IsSubRip b
 Fits dbase b = IsDbase b
@@ -140,10 +154,13 @@ lines shared_object = at_least 18 (text 16 (0x03 ∷ 0x00 ∷ []) ∷ []) ∷ at
 lines (first_entry_is name) = named name ∷ []
 lines (first_entry_ends_in name) = counted_for name 26
 lines (first_entry_has_extra extra) = counted_for extra 28
+lines (has_entry name) = at_least 4 (text 0 zip_header ∷ []) ∷ []
 lines (package_with folder) = named (codes "[Content_Types].xml") ∷ named (codes "_rels/") ∷ named (codes "docProps/") ∷ named folder ∷ []
 lines (class_id id) = at_least 8 (text 0 compound_header ∷ []) ∷ []
 lines (directory_tag tag) = at_least 4 (text 0 (0x49 ∷ 0x49 ∷ 0x2A ∷ 0x00 ∷ []) ∷ []) ∷ at_least 4 (text 0 (0x4D ∷ 0x4D ∷ 0x00 ∷ 0x2A ∷ []) ∷ []) ∷ []
 lines (behind_id3 t) = at_least 3 (text 0 (codes "ID3") ∷ []) ∷ []
+lines (text_first t) = first_lines t
+lines (text_first_with t u) = first_lines t
 lines animated = at_least 4 (text 0 png_header ∷ []) ∷ []
 lines subrip = at_least 1 (byte 0 (between 0x30 0x39) ∷ []) ∷ at_least 3 (text 0 (0xEF ∷ 0xBB ∷ 0xBF ∷ []) ∷ []) ∷ []
 lines dbase = at_least 14 (byte 0 (any_of versions) ∷ text 12 (0x00 ∷ 0x00 ∷ []) ∷ []) ∷ []
@@ -171,6 +188,8 @@ model before shared_object = at_least 46 (text 4 (0x01 ∷ 0x01 ∷ []) ∷ text
 model before (first_entry_is name) = model_entry 26 name
 model before (first_entry_ends_in end) = model_entry 26 end
 model before (first_entry_has_extra extra) = model_entry 28 extra
+model before (has_entry name) =
+    at_least (78 + length name) (text 0 zip_header ∷ text 48 zip_header ∷ text 74 (length name % 256 ∷ []) ∷ text 78 name ∷ [])
 model before (package_with folder) =
     at_least (36 + length folder) (text 0 zip_header ∷ text 6 zip_header ∷ text 30 (codes "_rels/") ∷ text 36 folder ∷ [])
 model before (class_id id) =
@@ -178,6 +197,8 @@ model before (class_id id) =
 model before (directory_tag tag) =
     at_least 20 (text 0 (0x4D ∷ 0x4D ∷ 0x00 ∷ 0x2A ∷ 0x00 ∷ 0x00 ∷ 0x00 ∷ 0x06 ∷ []) ∷ text 8 (tag / 256 ∷ tag % 256 ∷ []) ∷ [])
 model before (behind_id3 t) = at_least (10 + length t) (text 0 (codes "ID3") ∷ text 10 t ∷ [])
+model before (text_first t) = at_least (length t) (text 0 t ∷ [])
+model before (text_first_with t u) = at_least (length t + length u) (text 0 t ∷ text (length t) u ∷ [])
 model before animated = at_least 16 (text 0 png_header ∷ text 12 (codes "acTL") ∷ [])
 model before subrip = at_least 31 (text 0 (codes "0\n00:00:00,000 --> 00:00:00,000") ∷ [])
 model before dbase =

@@ -54,6 +54,14 @@ abbrev pub IsPackageWith : List ℕ → List ℕ → Type 0
 IsPackageWith folder b =
     MayBeginPackage folder b × ((p : ℕ) × IsPartEntry b p) × ((q : ℕ) × IsFirstFolder b q × OccursAt b folder (q + 30))
 
+-- an entry stands at q whose name, of the length that the two bytes 26 places on say, is exactly the text
+abbrev pub IsEntryNamed : List ℕ → List ℕ → ℕ → Type 0
+IsEntryNamed name b q = OccursAt b zip_header q × (le16 b (q + 26) ≡ length name) × OccursAt b name (q + 30)
+
+-- b begins with an entry, and some entry has the name
+abbrev pub HasEntry : List ℕ → List ℕ → Type 0
+HasEntry name b = OccursAt b zip_header 0 × ((q : ℕ) × IsEntryNamed name b q)
+
 -- r is whether there is such a part
 abbrev pub FindsPart : List ℕ → Bool → Type 0
 FindsPart b r = IsTrue r ↔ ((p : ℕ) × IsPartEntry b p)

@@ -2,6 +2,7 @@
 //! no is certain.
 #![tactic(auto)]
 
+pub mod begins;
 pub mod dbase;
 pub mod elf;
 pub mod id3;

@@ -3,8 +3,9 @@
 ghost use Rattle.std.specs.Prelude.{◌≡◌, ◌≤◌, ◌↔◌, [], IsTrue, length, map};
 ghost use Rattle.infer_deep.specs.Signatures.{MayBecome};
 ghost use Rattle.infer_formats.specs.Open.{Stays};
-ghost use Rattle.infer_formats.specs.Relation.{Fits, IsSound, class_id, dbase, directory_tag, least_of, model, model_listed, name_listed, names, of_text, package_with, program, relation_listed, root, root_with, shared_object};
+ghost use Rattle.infer_formats.specs.Relation.{Fits, IsSound, class_id, dbase, directory_tag, has_entry, least_of, model, model_listed, name_listed, names, of_text, package_with, program, relation_listed, root, root_with, shared_object};
 
+use crate::begins::{begins, begins_and_has, may_begin};
 use crate::dbase::{is_dbase, may_become_dbase};
 use crate::elf::{is_shared_object, may_become_shared_object};
 use crate::id3::{is_behind_id3, may_be_behind_id3};
@@ -20,7 +21,7 @@ use crate::tiff::{first_directory_has_tag, first_directory_may_have_tag};
 use crate::token::Token;
 use crate::token::Token::{Quoted, Separator, Word};
 use crate::zip::{
-    first_entry_ends_in, first_entry_has_extra, first_entry_is, is_package_with,
+    first_entry_ends_in, first_entry_has_extra, first_entry_is, has_entry, is_package_with,
     may_become_package_with, may_have_first_entry, may_have_first_entry_ending,
     may_have_first_extra,
 };
@@ -34,10 +35,13 @@ pub enum Relation<'a> {
     FirstEntryIs(&'a [u8]),
     FirstEntryEndsIn(&'a [u8]),
     FirstEntryHasExtra([u8; 2]),
+    HasEntry(&'a [u8]),
     PackageWith(&'a [u8]),
     ClassId([u8; 16]),
     DirectoryTag(u16),
     BehindId3(&'a [u8]),
+    TextFirst(&'a [u8]),
+    TextFirstWith(&'a [u8], &'a [u8]),
     Animated,
     SubRip,
     Dbase,
@@ -60,12 +64,14 @@ pub enum Takes {
     Entry,
     ClassId,
     Root,
+    Begins,
 }
 
 /// The relations that take a text between quotes, and nothing else.
 #[derive(Clone, Copy)]
 pub enum OfText {
     Package,
+    AnyEntry,
     BehindId3,
 }
 
@@ -76,6 +82,7 @@ impl OfText {
     {
         match self {
             OfText::Package => Relation::PackageWith(text),
+            OfText::AnyEntry => Relation::HasEntry(text),
             OfText::BehindId3 => Relation::BehindId3(text),
         }
     }
@@ -136,6 +143,11 @@ static NAMES: &[(&[Token<'static>], Takes)] = &[
         ],
         Takes::OneText(OfText::BehindId3),
     ),
+    (
+        &[Word(b"entry"), Separator(b':')],
+        Takes::OneText(OfText::AnyEntry),
+    ),
+    (&[Word(b"begins"), Separator(b':')], Takes::Begins),
     (&[Word(b"program"), Separator(b':')], Takes::Program),
     (
         &[Word(b"first"), Word(b"entry"), Separator(b':')],
@@ -168,10 +180,13 @@ impl<'a> Relation<'a> {
             Relation::FirstEntryIs(name) => first_entry_is(buf, name),
             Relation::FirstEntryEndsIn(end) => first_entry_ends_in(buf, end),
             Relation::FirstEntryHasExtra(extra) => first_entry_has_extra(buf, extra),
+            Relation::HasEntry(name) => has_entry(buf, name),
             Relation::PackageWith(folder) => is_package_with(buf, folder),
             Relation::ClassId(id) => has_class_id(buf, id),
             Relation::DirectoryTag(tag) => first_directory_has_tag(buf, *tag),
             Relation::BehindId3(text) => is_behind_id3(buf, text),
+            Relation::TextFirst(text) => begins(buf, text),
+            Relation::TextFirstWith(text, other) => begins_and_has(buf, text, other),
             Relation::Animated => stands_at(buf, b"\x89PNG", 0) && is_animated(buf),
             Relation::SubRip => is_subrip(buf),
             Relation::Dbase => is_dbase(buf),
@@ -195,10 +210,15 @@ impl<'a> Relation<'a> {
             Relation::FirstEntryIs(name) => may_have_first_entry(buf, name),
             Relation::FirstEntryEndsIn(end) => may_have_first_entry_ending(buf, end),
             Relation::FirstEntryHasExtra(extra) => may_have_first_extra(buf, extra),
+            // An entry may always follow.
+            Relation::HasEntry(_) => may_stand_at(buf, b"PK\x03\x04", 0),
             Relation::PackageWith(folder) => may_become_package_with(buf, folder),
             Relation::ClassId(id) => may_have_class_id(buf, id),
             Relation::DirectoryTag(tag) => first_directory_may_have_tag(buf, *tag),
             Relation::BehindId3(text) => may_be_behind_id3(buf, text),
+            Relation::TextFirst(text) => may_begin(buf, text),
+            // So may the other text.
+            Relation::TextFirstWith(text, _) => may_begin(buf, text),
             Relation::Animated => may_stand_at(buf, b"\x89PNG", 0) && may_become_animated(buf),
             Relation::SubRip => may_become_subrip(buf),
             Relation::Dbase => may_become_dbase(buf),
@@ -237,10 +257,17 @@ impl<'a> Relation<'a> {
             Relation::FirstEntryIs(name) => entry(26, Text::Slice(name)),
             Relation::FirstEntryEndsIn(end) => entry(26, Text::Slice(end)),
             Relation::FirstEntryHasExtra(extra) => entry(28, Text::Two(*extra)),
+            Relation::HasEntry(name) => entry_behind(name),
             Relation::PackageWith(folder) => package(folder),
             Relation::ClassId(id) => compound(*id),
             Relation::DirectoryTag(tag) => directory(*tag),
             Relation::BehindId3(text) => two(10 + text.len(), at(0, b"ID3"), at(10, text)),
+            Relation::TextFirst(text) => one(text.len(), at(0, text)),
+            Relation::TextFirstWith(text, other) => two(
+                text.len() + other.len(),
+                at(0, text),
+                at(text.len(), other),
+            ),
             Relation::Animated => two(16, at(0, b"\x89PNG"), at(12, b"acTL")),
             Relation::SubRip => one(31, at(0, b"0\n00:00:00,000 --> 00:00:00,000")),
             Relation::Dbase => table(),
@@ -265,6 +292,21 @@ fn object() -> Model<'static>
         at(4, b"\x01\x01"),
         at(16, b"\x03"),
         at(42, b"\x20\0\x01"),
+    )
+}
+
+/// That of an archive with an entry of this name, behind what its parent has.
+fn entry_behind<'b>(name: &'b [u8]) -> Model<'b>
+    requires { length name.now ≤ 65536 }
+    ensures model { model_listed result ≡ model [] (has_entry name.now) }
+    ensures few { result.count ≤ 5 }
+{
+    four(
+        78 + name.len(),
+        at(0, b"PK\x03\x04"),
+        at(48, b"PK\x03\x04"),
+        made(74, Text::One([(name.len() % 256) as u8])),
+        at(78, name),
     )
 }
 

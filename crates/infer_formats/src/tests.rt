@@ -1,5 +1,6 @@
 //! Buffers whose answers a program computed that shares no code with this one.
 
+mod begins;
 mod dbase;
 mod elf;
 mod id3;

@@ -1,9 +1,9 @@
 //! ZIP archives, by the names of their entries: ZIP APPNOTE, section 4.3.7, the local file header; and packages: ECMA-376,
 //! part 2.
-ghost use Rattle.std.specs.Prelude.{◌≡◌, ◌↔◌, ◌+◌, ◌≤◌, length, IsTrue};
+ghost use Rattle.std.specs.Prelude.{◌≡◌, ◌↔◌, ◌+◌, ◌≤◌, ℕ, length, IsTrue};
 ghost use Rattle.infer_deep.specs.Numbers.{le16};
 ghost use Rattle.infer_deep.specs.Places.{FindsPlace};
-ghost use Rattle.infer_formats.specs.Zip.{FindsFolder, FindsPackage, FindsPart, FirstEntryEndsIn, FirstEntryHasExtra, FirstEntryIs, HasFirstName, IsFolder, IsFolderEntry, IsPackageWith, IsPartEntry, MayBeginAny, MayBeginPackage};
+ghost use Rattle.infer_formats.specs.Zip.{FindsFolder, FindsPackage, FindsPart, FirstEntryEndsIn, FirstEntryHasExtra, FirstEntryIs, HasEntry, HasFirstName, IsEntryNamed, IsFolder, IsFolderEntry, IsPackageWith, IsPartEntry, MayBeginAny, MayBeginPackage};
 
 mod open;
 
@@ -64,6 +64,37 @@ fn first_name_end(buf: &[u8]) -> Option<usize>
         return None;
     }
     Some(end)
+}
+
+/// An archive of which some entry, wherever it stands, has this name.
+pub fn has_entry(buf: &[u8], name: &[u8]) -> bool
+    ensures { IsTrue result ↔ HasEntry name.now buf.now }
+{
+    stands_at(buf, b"PK\x03\x04", 0) && has_named(buf, name)
+}
+
+#[inline(never)]
+fn has_named(buf: &[u8], name: &[u8]) -> bool
+    ensures { IsTrue result ↔ ((q : ℕ) × IsEntryNamed name.now buf.now q) }
+{
+    let mut from = 0;
+    while let Some(step) = memchr(b'P', &buf[from..]) {
+        if is_entry_named(buf, name, from + step) {
+            return true;
+        }
+        from += step + 1;
+    }
+    false
+}
+
+fn is_entry_named(buf: &[u8], name: &[u8], place: usize) -> bool
+    requires { place ≤ length buf.now }
+    ensures { IsTrue result ↔ IsEntryNamed name.now buf.now place }
+{
+    has_at(buf, b"PK\x03\x04", place)
+        && buf.len() - place >= NAME
+        && le16(buf, place + NAME_LENGTH) as usize == name.len()
+        && stands_at(buf, name, place + NAME)
 }
 
 /// A package of the Open Packaging Conventions whose first folder of an application, by place, is this one.

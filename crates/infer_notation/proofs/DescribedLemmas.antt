@@ -6,17 +6,17 @@ use Rattle.std.proofs.lemmas.List.{append_assoc}
 use Rattle.std.proofs.lemmas.List.Splits.{slice_split-cons_yes}
 use Rattle.std.proofs.Math.Bool.{and-false}
 use Rattle.std.proofs.lemmas.Bool.{eq-eqb, not-true}
-use Rattle.infer_formats.specs.Relation.{Relation, class_id, directory_tag, first_entry_ends_in, first_entry_has_extra, first_entry_is, of_text, program, relation_listed, root, root_with}
+use Rattle.infer_formats.specs.Relation.{Relation, class_id, directory_tag, first_entry_ends_in, first_entry_has_extra, first_entry_is, of_text, program, relation_listed, root, root_with, text_first, text_first_with}
 use Rattle.infer_formats.specs.declared.relation.Relation as relations
-use Rattle.infer_notation.specs.Described.{AreBytes, Asks, AsksEach, AsksFor, Describes, IsGroup, IsName, IsNameIn, IsParted, NamesRelation, a_text, a_name, a_program, a_relation, a_tag, a_text_within, an_element, an_end, an_extra, an_id, last, nothing, other, programs}
-use Rattle.infer_notation.specs.Relations.{alone, directory_of, ending_entry, entry_of, extra_field, id_of, is_word, named_entry, or_else, text_of, program_of, root_of}
+use Rattle.infer_notation.specs.Described.{AreBytes, Asks, AsksEach, AsksFor, Describes, IsGroup, IsName, IsNameIn, IsParted, NamesRelation, a_text, a_name, a_program, a_beginning, a_relation, a_tag, a_text_behind, a_text_within, an_element, an_end, an_extra, an_id, last, nothing, other, programs}
+use Rattle.infer_notation.specs.Relations.{alone, beginning_of, directory_of, ending_entry, entry_of, extra_field, id_of, is_word, named_entry, or_else, text_of, program_of, root_of}
 use Rattle.infer_notation.specs.Tokens.{Token, set}
 use Rattle.infer_notation.specs.Words.{is_digit}
 use Rattle.infer_notation.proofs.GrammarLemmas as grammar
 use Rattle.infer_notation.proofs.GrammarLemmas.{is_derived}
 use Rattle.infer_notation.proofs.MadeLemmas.{is_made, is_read, not_blank}
 use Rattle.infer_formats.specs.declared.relation.OfText.{OfText}
-use Rattle.infer_formats.specs.declared.relation.Takes.TheVariants.{ClassId, Entry, OneText, Root, Tag}
+use Rattle.infer_formats.specs.declared.relation.Takes.TheVariants.{Begins, ClassId, Entry, OneText, Root, Tag}
 use Rattle.infer_notation.proofs.OptionLemmas.{bind_some, cond_given, map_some}
 use Rattle.infer_notation.proofs.RelationLemmas.{begins_not}
 
@@ -272,6 +272,13 @@ root_so (bare n ∷ t ∷ quoted s ∷ []) a e =
     subst (λ u. Asks Root (bare n ∷ u ∷ quoted s ∷ []) a) (sym (word_is (codes "with") t both.0)) (subst (Asks Root (bare n ∷ bare (codes "with") ∷ quoted s ∷ [])) both.1 (a_text_within n s))
 root_so ts a e = absurd cc
 
+beginning_so : (ts : List Token) (a : Relation) → beginning_of ts ≡ Some a → Asks Begins ts a
+beginning_so (quoted s ∷ []) a e = let same : text_first s ≡ a = cc in subst (Asks Begins (quoted s ∷ [])) same (a_beginning s)
+beginning_so (quoted s ∷ t ∷ quoted u ∷ []) a e =
+    let both = cond_some (is_word (codes "has") t) (text_first_with s u) a e in
+    subst (λ v. Asks Begins (quoted s ∷ v ∷ quoted u ∷ []) a) (sym (word_is (codes "has") t both.0)) (subst (Asks Begins (quoted s ∷ bare (codes "has") ∷ quoted u ∷ [])) both.1 (a_text_behind s u))
+beginning_so ts a e = absurd cc
+
 asked_so : (takes : Takes) (ts : List Token) (a : Relation) → item_of takes ts ≡ Some a → Asks takes ts a
 asked_so (Nothing r) ts a e = alone_so r ts a e
 asked_so Tag ts a e = directory_so ts a e
@@ -280,6 +287,7 @@ asked_so Program ts a e = program_so ts a e
 asked_so Entry ts a e = entry_so ts a e
 asked_so ClassId ts a e = id_so ts a e
 asked_so Root ts a e = root_so ts a e
+asked_so Begins ts a e = beginning_so ts a e
 
 asks_so : (takes : Takes) (ts : List Token) (a : Relation) → Asks takes ts a → items_of takes ts ≡ Some (related a ∷ [])
 asks_so takes ts a (a_tag w x y z high low is-high is-low) = rw (is-high, is-low) refl
@@ -330,6 +338,7 @@ asked_for Program ts bs e = programs_so ts bs e
 asked_for Entry ts bs e = one_so Entry ts bs e
 asked_for ClassId ts bs e = one_so ClassId ts bs e
 asked_for Root ts bs e = one_so Root ts bs e
+asked_for Begins ts bs e = one_so Begins ts bs e
 
 asks_for : (takes : Takes) (ts : List Token) (bs : List Alternative) → AsksFor takes ts bs → items_of takes ts ≡ Some bs
 asks_for takes ts bs (a_relation _ _ r asks) = asks_so takes ts r asks

@@ -1,7 +1,7 @@
 //! Relations that tokens ask for, behind a name.
 ghost use Rattle.std.specs.Prelude.{◌≡◌, map, option_map};
 ghost use Rattle.infer_formats.specs.Relation.{relation_listed};
-ghost use Rattle.infer_notation.specs.Relations.{alone, directory_of, ending_entry, entry_of, extra_field, id_of, is_word, item_of, extra_entry, named_entry, program_of, root_of, text_of, token_byte};
+ghost use Rattle.infer_notation.specs.Relations.{alone, beginning_of, directory_of, ending_entry, entry_of, extra_field, id_of, is_word, item_of, extra_entry, named_entry, program_of, root_of, text_of, token_byte};
 ghost use Rattle.infer_notation.specs.Tokens.{token_listed};
 
 use crate::names::is_word;
@@ -22,6 +22,7 @@ pub fn read_relation<'a>(takes: Takes, tokens: &[Token<'a>]) -> Option<Relation<
         Takes::Entry => entry(tokens),
         Takes::ClassId => compound(tokens),
         Takes::Root => markup(tokens),
+        Takes::Begins => beginning(tokens),
     }
 }
 
@@ -142,6 +143,23 @@ fn markup<'a>(tokens: &[Token<'a>]) -> Option<Relation<'a>>
         [Word(name), with, Quoted(text)] => {
             if is_word(*with, b"with") {
                 Some(Relation::RootWith(name, text))
+            } else {
+                None
+            }
+        }
+        _ => None,
+    }
+}
+
+/// `"TEXT"` or `"TEXT" has "OTHER"`.
+fn beginning<'a>(tokens: &[Token<'a>]) -> Option<Relation<'a>>
+    ensures { option_map relation_listed result ≡ beginning_of (map token_listed tokens.now) }
+{
+    match tokens {
+        [Quoted(text)] => Some(Relation::TextFirst(text)),
+        [Quoted(text), has, Quoted(other)] => {
+            if is_word(*has, b"has") {
+                Some(Relation::TextFirstWith(text, other))
             } else {
                 None
             }

@@ -1,4 +1,6 @@
-use crate::zip::{first_entry_ends_in, first_entry_has_extra, first_entry_is, is_package_with};
+use crate::zip::{
+    first_entry_ends_in, first_entry_has_extra, first_entry_is, has_entry, is_package_with,
+};
 
 #[test]
 fn android(rt: HostRuntime) {
@@ -333,5 +335,47 @@ fn models(rt: HostRuntime) {
     ];
     for (buf, expected) in cases {
         assert_eq!(rt; is_package_with(buf, b"3D/"), expected);
+    }
+}
+
+// By hand from section 4.3.7 of APPNOTE.
+#[test]
+fn entries(rt: HostRuntime) {
+    let cases: [(&[u8], bool); 8] = [
+        (
+            b"PK\x03\x04\0\0\0\0\0\0\0\0\0\0\0\0\0\0\0\0\0\0\0\0\0\0\x03\0\0\0a/b",
+            true,
+        ),
+        (
+            b"PK\x03\x04\0\0\0\0\0\0\0\0\0\0\0\0\0\0\0\0\0\0\0\0\0\0\x01\0\0\0xdataPK\x03\x04\0\0\0\0\0\0\0\0\0\0\0\0\0\0\0\0\0\0\0\0\0\0\x03\0\0\0a/b",
+            true,
+        ),
+        (
+            b"PK\x03\x04\0\0\0\0\0\0\0\0\0\0\0\0\0\0\0\0\0\0\0\0\0\0\x01\0\0\0xPKPKPK\x03\x04\0\0\0\0\0\0\0\0\0\0\0\0\0\0\0\0\0\0\0\0\0\0\x03\0\0\0a/bdata",
+            true,
+        ),
+        (
+            b"PK\x03\x04\0\0\0\0\0\0\0\0\0\0\0\0\0\0\0\0\0\0\0\0\0\0\x01\0\0\0xdataPK\x03\x04\0\0\0\0\0\0\0\0\0\0\0\0\0\0\0\0\0\0\0\0\0\0\x03\0\0\0a/",
+            false,
+        ),
+        (
+            b"PK\x03\x04\0\0\0\0\0\0\0\0\0\0\0\0\0\0\0\0\0\0\0\0\0\0\x01\0\0\0xdataPK\x03\x04\0\0\0\0\0\0\0\0\0\0\0\0\0\0\0\0\0\0\0\0\0\0\x02\0\0\0a/b",
+            false,
+        ),
+        (
+            b"PK\x03\x04\0\0\0\0\0\0\0\0\0\0\0\0\0\0\0\0\0\0\0\0\0\0\x01\0\0\0xdataPK\x03\x04\0\0\0\0\0\0\0\0\0\0\0\0\0\0\0\0\0\0\0\0\0\0\x04\0\0\0a/bc",
+            false,
+        ),
+        (
+            b"xPK\x03\x04\0\0\0\0\0\0\0\0\0\0\0\0\0\0\0\0\0\0\0\0\0\0\x03\0\0\0a/b",
+            false,
+        ),
+        (
+            b"PK\x03\x04\0\0\0\0\0\0\0\0\0\0\0\0\0\0\0\0\0\0\0\0\0\0\x01\0\0\0xa/b",
+            false,
+        ),
+    ];
+    for (buf, expected) in cases {
+        assert_eq!(rt; has_entry(buf, b"a/b"), expected);
     }
 }
