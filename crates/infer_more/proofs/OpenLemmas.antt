@@ -6,7 +6,7 @@ use Rattle.std.proofs.lemmas.Bool.{or_left}
 use Rattle.std.proofs.lemmas.List.Elements.{All-append, All-cons}
 use Rattle.infer_deep.specs.Open.{AgreesAt}
 use Rattle.infer_formats.specs.Relation.{IsSound, Relation}
-use Rattle.infer_more.specs.Open.{is_known}
+use Rattle.infer_more.specs.Open.{is_known, is_one_or_lasts}
 use Rattle.infer_more.proofs.FoundLemmas.{one_of}
 use Rattle.infer_sig.specs.Open.{MayBecomeIsExact, agrees, is_alternative_sound, is_sound, may_fit}
 use Rattle.infer_sig.specs.Signature as fixed
@@ -189,6 +189,12 @@ module _ (place : ℕ) (b : List ℕ) where
 pub fit_stays : AllLast → (a : Alternative) → IsTrue (is_lasting (alternative_listed a)) → (b : List ℕ) → Fits (alternative_listed a) b → Stays (Fits (alternative_listed a)) b
 fit_stays all_last a l b f more bytes =
     elim (all_last (alternative_listed a ∷ []) (and_from (is_lasting (alternative_listed a)) true l refl) b more (inl f)) [ inl g ↦ g | inr g ↦ absurd g ]
+
+-- and of two alternatives or more
+pub many_stay : AllLast → (s : List Alternative) → 2 ≤ length s → IsTrue (is_one_or_lasts (signature_listed s)) → (b : List ℕ) → Accepted (signature_listed s) b → Stays (Accepted (signature_listed s)) b
+many_stay all_last (x ∷ y ∷ s) long known b h = λ more bytes. all_last (signature_listed (x ∷ y ∷ s)) known b more h
+many_stay all_last (x ∷ []) long known b h = absurd (omega arith)
+many_stay all_last [] long known b h = absurd (omega arith)
 
 -- ---- a relation, whose folder is that of an application
 

@@ -1,12 +1,12 @@
 -- The further rows, in order. A row whose signature has no alternative accepts nothing.
 use Rattle.std.specs.Prelude.{ℕ, List, [], ◌∷◌, ◌++◌, Option, None, Some, codes}
-use Rattle.infer_formats.specs.Relation.{animated, behind_id3, class_id, dbase, directory_tag, first_entry_ends_in, first_entry_has_extra, first_entry_is, json_lines, json_text, package_with, plain_text, program, root, root_with, shared_object, subrip, tar_checksum}
+use Rattle.infer_formats.specs.Relation.{animated, behind_id3, class_id, dbase, directory_tag, first_entry_ends_in, first_entry_has_extra, first_entry_is, has_entry, json_lines, json_text, package_with, plain_text, program, root, root_with, shared_object, subrip, tar_checksum}
 use Rattle.infer_sig.specs.Signature as fixed
 use Rattle.infer_sig.specs.Signature.{text, byte, any_of, between}
 use Rattle.infer.specs.Triple.{triple}
 use Rattle.infer.specs.declared.table.file_type.MatcherType.{MatcherType}
 use Rattle.infer.specs.declared.table.file_type.MatcherType.TheVariants.{App, Archive, Audio, Book, Doc, Font, Image, Text, Video}
-use Rattle.infer.specs.declared.table.rows.TheConstants.{CAB, DER, DJVU, ELF, GZ, HEIF, HTML, JPEG2000, MP3, MSI, ODP, ODS, ODT, OGG, PEM, PNG, PS, RPM, SHELLSCRIPT, SQLITE, TIFF, XML, ZIP}
+use Rattle.infer.specs.declared.table.rows.TheConstants.{CAB, DER, DJVU, DOCX, ELF, GZ, HEIF, HTML, JPEG2000, MP3, MSI, ODP, ODS, ODT, OGG, PEM, PNG, PPTX, PS, RPM, SHELLSCRIPT, SQLITE, TIFF, XLSX, XML, ZIP}
 use Rattle.infer_more.specs.Row.{Further}
 use Rattle.infer_notation.specs.Alternative.{Alternative, at_least, binary_bytes, related}
 
@@ -207,6 +207,10 @@ office =
     ∷ row Doc (codes "application/vnd.apple.keynote") (codes "key") (Some ZIP) (related (first_entry_is (codes "index.apxl")) ∷ [])
     ∷ row App (codes "application/vnd.apple.pkpass") (codes "pkpass") (Some ZIP) (related (first_entry_is (codes "pass.json")) ∷ [])
     ∷ row Book (codes "application/x-zip-compressed-fb2") (codes "fbz") (Some ZIP) (related (first_entry_ends_in (codes ".fb2")) ∷ [])
+    ∷ row Doc (codes "application/vnd.ms-word.document.macroEnabled.12") (codes "docm") (Some DOCX) (related (has_entry (codes "word/vbaProject.bin")) ∷ [])
+    ∷ row Doc (codes "application/vnd.ms-excel.sheet.macroEnabled.12") (codes "xlsm") (Some XLSX) (related (has_entry (codes "xl/vbaProject.bin")) ∷ [])
+    ∷ row Doc (codes "application/vnd.ms-excel.sheet.binary.macroEnabled.12") (codes "xlsb") (Some XLSX) (related (has_entry (codes "xl/workbook.bin")) ∷ [])
+    ∷ row Doc (codes "application/vnd.ms-powerpoint.presentation.macroEnabled.12") (codes "pptm") (Some PPTX) (related (has_entry (codes "ppt/vbaProject.bin")) ∷ [])
     ∷ []
 
 -- kinds of other files that have a parent: PEM, JPEG 2000, Ogg, PostScript, RPM, scripts and gzip

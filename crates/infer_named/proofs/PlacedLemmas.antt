@@ -80,7 +80,7 @@ sets_1-listed : map set_listed (take 128 (drop 128 SETS)) ≡ sets_1
 unfolding sets_1 members row_spans row_texts
 sets_1-listed = refl
 
-sets_2-listed : map set_listed (take 101 (drop 256 SETS)) ≡ sets_2
+sets_2-listed : map set_listed (take 108 (drop 256 SETS)) ≡ sets_2
 unfolding sets_2 members row_spans row_texts
 sets_2-listed = refl
 
@@ -89,4 +89,4 @@ unfolding sets
 sets_listed =
     listed_append set_listed SETS 0 128 sets_0-listed
     (listed_append set_listed SETS 128 128 sets_1-listed
-    (listed_last set_listed SETS 256 101 refl sets_2-listed))
+    (listed_last set_listed SETS 256 108 refl sets_2-listed))

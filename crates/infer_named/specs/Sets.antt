@@ -134,983 +134,1004 @@ rows-application-x-msi = 29
 abbrev pub rows-application-x-ole-storage : ℕ
 rows-application-x-ole-storage = 30
 
+abbrev pub rows-application-x-ole-storage-pptm-pptx-zip : ℕ
+rows-application-x-ole-storage-pptm-pptx-zip = 31
+
 abbrev pub rows-application-x-ole-storage-pptx-zip : ℕ
-rows-application-x-ole-storage-pptx-zip = 31
+rows-application-x-ole-storage-pptx-zip = 32
+
+abbrev pub rows-application-x-ole-storage-xlsm-xlsx-zip : ℕ
+rows-application-x-ole-storage-xlsm-xlsx-zip = 33
 
 abbrev pub rows-application-x-ole-storage-xlsx-zip : ℕ
-rows-application-x-ole-storage-xlsx-zip = 32
+rows-application-x-ole-storage-xlsx-zip = 34
 
 abbrev pub rows-application-x-ole-storage-zip : ℕ
-rows-application-x-ole-storage-zip = 33
+rows-application-x-ole-storage-zip = 35
 
 abbrev pub rows-application-x-pem-key : ℕ
-rows-application-x-pem-key = 34
+rows-application-x-pem-key = 36
 
 abbrev pub rows-ar : ℕ
-rows-ar = 35
+rows-ar = 37
 
 abbrev pub rows-arj : ℕ
-rows-arj = 36
+rows-arj = 38
 
 abbrev pub rows-arrow : ℕ
-rows-arrow = 37
+rows-arrow = 39
 
 abbrev pub rows-asar : ℕ
-rows-asar = 38
+rows-asar = 40
 
 abbrev pub rows-asc : ℕ
-rows-asc = 39
+rows-asc = 41
 
 abbrev pub rows-asc-crl-application-x-pem-key-openssh-pgp-sig : ℕ
-rows-asc-crl-application-x-pem-key-openssh-pgp-sig = 40
+rows-asc-crl-application-x-pem-key-openssh-pgp-sig = 42
 
 abbrev pub rows-astc : ℕ
-rows-astc = 41
+rows-astc = 43
 
 abbrev pub rows-atom : ℕ
-rows-atom = 42
+rows-atom = 44
 
 abbrev pub rows-atom-diashape-fb2-fodt-gpx-gtkbuilder-jnlp-kml-lingts-meta4-mml-nzb-opml-owx-plist-rss-srx-svg-ttx-xhtml-xmp : ℕ
-rows-atom-diashape-fb2-fodt-gpx-gtkbuilder-jnlp-kml-lingts-meta4-mml-nzb-opml-owx-plist-rss-srx-svg-ttx-xhtml-xmp = 43
+rows-atom-diashape-fb2-fodt-gpx-gtkbuilder-jnlp-kml-lingts-meta4-mml-nzb-opml-owx-plist-rss-srx-svg-ttx-xhtml-xmp = 45
 
 abbrev pub rows-au : ℕ
-rows-au = 44
+rows-au = 46
 
 abbrev pub rows-avi : ℕ
-rows-avi = 45
+rows-avi = 47
 
 abbrev pub rows-avif : ℕ
-rows-avif = 46
+rows-avif = 48
 
 abbrev pub rows-avro : ℕ
-rows-avro = 47
+rows-avro = 49
 
 abbrev pub rows-awk : ℕ
-rows-awk = 48
+rows-awk = 50
 
 abbrev pub rows-bc : ℕ
-rows-bc = 49
+rows-bc = 51
 
 abbrev pub rows-bdb : ℕ
-rows-bdb = 50
+rows-bdb = 52
 
 abbrev pub rows-beam : ℕ
-rows-beam = 51
+rows-beam = 53
 
 abbrev pub rows-blend : ℕ
-rows-blend = 52
+rows-blend = 54
 
 abbrev pub rows-bmp : ℕ
-rows-bmp = 53
+rows-bmp = 55
 
 abbrev pub rows-bpg : ℕ
-rows-bpg = 54
+rows-bpg = 56
 
 abbrev pub rows-bplist : ℕ
-rows-bplist = 55
+rows-bplist = 57
 
 abbrev pub rows-bz2 : ℕ
-rows-bz2 = 56
+rows-bz2 = 58
 
 abbrev pub rows-bz2-gz-xz : ℕ
-rows-bz2-gz-xz = 57
+rows-bz2-gz-xz = 59
 
 abbrev pub rows-bz3 : ℕ
-rows-bz3 = 58
+rows-bz3 = 60
 
 abbrev pub rows-cab : ℕ
-rows-cab = 59
+rows-cab = 61
 
 abbrev pub rows-chd : ℕ
-rows-chd = 60
+rows-chd = 62
 
 abbrev pub rows-chm : ℕ
-rows-chm = 61
+rows-chm = 63
 
 abbrev pub rows-class : ℕ
-rows-class = 62
+rows-class = 64
 
 abbrev pub rows-core : ℕ
-rows-core = 63
+rows-core = 65
 
 abbrev pub rows-cpio : ℕ
-rows-cpio = 64
+rows-cpio = 66
 
 abbrev pub rows-cr2 : ℕ
-rows-cr2 = 65
+rows-cr2 = 67
 
 abbrev pub rows-cr2-dng : ℕ
-rows-cr2-dng = 66
+rows-cr2-dng = 68
 
 abbrev pub rows-cr3 : ℕ
-rows-cr3 = 67
+rows-cr3 = 69
 
 abbrev pub rows-crl : ℕ
-rows-crl = 68
+rows-crl = 70
 
 abbrev pub rows-crx : ℕ
-rows-crx = 69
+rows-crx = 71
 
 abbrev pub rows-cur : ℕ
-rows-cur = 70
+rows-cur = 72
 
 abbrev pub rows-dbf : ℕ
-rows-dbf = 71
+rows-dbf = 73
 
 abbrev pub rows-dcm : ℕ
-rows-dcm = 72
+rows-dcm = 74
 
 abbrev pub rows-deb : ℕ
-rows-deb = 73
+rows-deb = 75
 
 abbrev pub rows-der : ℕ
-rows-der = 74
+rows-der = 76
 
 abbrev pub rows-der-application-x-pem-key-pem : ℕ
-rows-der-application-x-pem-key-pem = 75
+rows-der-application-x-pem-key-pem = 77
 
 abbrev pub rows-der-p7b-pem : ℕ
-rows-der-p7b-pem = 76
+rows-der-p7b-pem = 78
 
 abbrev pub rows-der-pem : ℕ
-rows-der-pem = 77
+rows-der-pem = 79
 
 abbrev pub rows-der-pem-txt : ℕ
-rows-der-pem-txt = 78
+rows-der-pem-txt = 80
 
 abbrev pub rows-dex : ℕ
-rows-dex = 79
+rows-dex = 81
 
 abbrev pub rows-dey : ℕ
-rows-dey = 80
+rows-dey = 82
 
 abbrev pub rows-dff : ℕ
-rows-dff = 81
+rows-dff = 83
 
 abbrev pub rows-djvm : ℕ
-rows-djvm = 82
+rows-djvm = 84
 
 abbrev pub rows-djvu : ℕ
-rows-djvu = 83
+rows-djvu = 85
 
 abbrev pub rows-dng : ℕ
-rows-dng = 84
+rows-dng = 86
 
 abbrev pub rows-doc : ℕ
-rows-doc = 85
+rows-doc = 87
+
+abbrev pub rows-docm : ℕ
+rows-docm = 88
+
+abbrev pub rows-docm-docx-application-x-ole-storage-zip : ℕ
+rows-docm-docx-application-x-ole-storage-zip = 89
 
 abbrev pub rows-docx : ℕ
-rows-docx = 86
+rows-docx = 90
 
 abbrev pub rows-docx-application-x-ole-storage-zip : ℕ
-rows-docx-application-x-ole-storage-zip = 87
+rows-docx-application-x-ole-storage-zip = 91
 
 abbrev pub rows-dsf : ℕ
-rows-dsf = 88
+rows-dsf = 92
 
 abbrev pub rows-dts : ℕ
-rows-dts = 89
+rows-dts = 93
 
 abbrev pub rows-dv : ℕ
-rows-dv = 90
+rows-dv = 94
 
 abbrev pub rows-dvi : ℕ
-rows-dvi = 91
+rows-dvi = 95
 
 abbrev pub rows-dwg : ℕ
-rows-dwg = 92
+rows-dwg = 96
 
 abbrev pub rows-elf : ℕ
-rows-elf = 93
+rows-elf = 97
 
 abbrev pub rows-elf-so : ℕ
-rows-elf-so = 94
+rows-elf-so = 98
 
 abbrev pub rows-eot : ℕ
-rows-eot = 95
+rows-eot = 99
 
 abbrev pub rows-eps : ℕ
-rows-eps = 96
+rows-eps = 100
 
 abbrev pub rows-eps-pdf-ps : ℕ
-rows-eps-pdf-ps = 97
+rows-eps-pdf-ps = 101
 
 abbrev pub rows-eps-pfa : ℕ
-rows-eps-pfa = 98
+rows-eps-pfa = 102
 
 abbrev pub rows-epub : ℕ
-rows-epub = 99
+rows-epub = 103
 
 abbrev pub rows-evtx : ℕ
-rows-evtx = 100
+rows-evtx = 104
 
 abbrev pub rows-exe : ℕ
-rows-exe = 101
+rows-exe = 105
 
 abbrev pub rows-exr : ℕ
-rows-exr = 102
+rows-exr = 106
 
 abbrev pub rows-ext2 : ℕ
-rows-ext2 = 103
+rows-ext2 = 107
 
 abbrev pub rows-f4v : ℕ
-rows-f4v = 104
+rows-f4v = 108
 
 abbrev pub rows-fb2 : ℕ
-rows-fb2 = 105
+rows-fb2 = 109
 
 abbrev pub rows-fits : ℕ
-rows-fits = 106
+rows-fits = 110
 
 abbrev pub rows-flac : ℕ
-rows-flac = 107
+rows-flac = 111
 
 abbrev pub rows-flac-ogg-opus : ℕ
-rows-flac-ogg-opus = 108
+rows-flac-ogg-opus = 112
 
 abbrev pub rows-flatpak : ℕ
-rows-flatpak = 109
+rows-flatpak = 113
 
 abbrev pub rows-flv : ℕ
-rows-flv = 110
+rows-flv = 114
 
 abbrev pub rows-fodt : ℕ
-rows-fodt = 111
+rows-fodt = 115
 
 abbrev pub rows-gbr : ℕ
-rows-gbr = 112
+rows-gbr = 116
 
 abbrev pub rows-gdbm : ℕ
-rows-gdbm = 113
+rows-gdbm = 117
 
 abbrev pub rows-gguf : ℕ
-rows-gguf = 114
+rows-gguf = 118
 
 abbrev pub rows-gif : ℕ
-rows-gif = 115
+rows-gif = 119
 
 abbrev pub rows-gjs-js : ℕ
-rows-gjs-js = 116
+rows-gjs-js = 120
 
 abbrev pub rows-glb : ℕ
-rows-glb = 117
+rows-glb = 121
 
 abbrev pub rows-gpg : ℕ
-rows-gpg = 118
+rows-gpg = 122
 
 abbrev pub rows-gpkg : ℕ
-rows-gpkg = 119
+rows-gpkg = 123
 
 abbrev pub rows-gpx : ℕ
-rows-gpx = 120
+rows-gpx = 124
 
 abbrev pub rows-gtkbuilder : ℕ
-rows-gtkbuilder = 121
+rows-gtkbuilder = 125
 
 abbrev pub rows-gz : ℕ
-rows-gz = 122
+rows-gz = 126
 
 abbrev pub rows-gz-sqlite-xml : ℕ
-rows-gz-sqlite-xml = 123
+rows-gz-sqlite-xml = 127
 
 abbrev pub rows-gz-txt-xml : ℕ
-rows-gz-txt-xml = 124
+rows-gz-txt-xml = 128
 
 abbrev pub rows-gz-xml : ℕ
-rows-gz-xml = 125
+rows-gz-xml = 129
 
 abbrev pub rows-gz-zip : ℕ
-rows-gz-zip = 126
+rows-gz-zip = 130
 
 abbrev pub rows-gz-zst : ℕ
-rows-gz-zst = 127
+rows-gz-zst = 131
 
 abbrev pub rows-hdf4 : ℕ
-rows-hdf4 = 128
+rows-hdf4 = 132
 
 abbrev pub rows-hdf5 : ℕ
-rows-hdf5 = 129
+rows-hdf5 = 133
 
 abbrev pub rows-hdr : ℕ
-rows-hdr = 130
+rows-hdr = 134
 
 abbrev pub rows-heic : ℕ
-rows-heic = 131
+rows-heic = 135
 
 abbrev pub rows-heics : ℕ
-rows-heics = 132
+rows-heics = 136
 
 abbrev pub rows-heics-heif : ℕ
-rows-heics-heif = 133
+rows-heics-heif = 137
 
 abbrev pub rows-heif : ℕ
-rows-heif = 134
+rows-heif = 138
 
 abbrev pub rows-hlp : ℕ
-rows-hlp = 135
+rows-hlp = 139
 
 abbrev pub rows-html : ℕ
-rows-html = 136
+rows-html = 140
 
 abbrev pub rows-html-json-php-svg-txt-xhtml-xml : ℕ
-rows-html-json-php-svg-txt-xhtml-xml = 137
+rows-html-json-php-svg-txt-xhtml-xml = 141
 
 abbrev pub rows-html-rss-txt-xml : ℕ
-rows-html-rss-txt-xml = 138
+rows-html-rss-txt-xml = 142
 
 abbrev pub rows-html-sh-svg-txt-xhtml-xml : ℕ
-rows-html-sh-svg-txt-xhtml-xml = 139
+rows-html-sh-svg-txt-xhtml-xml = 143
 
 abbrev pub rows-html-txt : ℕ
-rows-html-txt = 140
+rows-html-txt = 144
 
 abbrev pub rows-html-txt-xhtml-xml : ℕ
-rows-html-txt-xhtml-xml = 141
+rows-html-txt-xhtml-xml = 145
 
 abbrev pub rows-html-txt-xml : ℕ
-rows-html-txt-xml = 142
+rows-html-txt-xml = 146
 
 abbrev pub rows-icc : ℕ
-rows-icc = 143
+rows-icc = 147
 
 abbrev pub rows-icns : ℕ
-rows-icns = 144
+rows-icns = 148
 
 abbrev pub rows-ico : ℕ
-rows-ico = 145
+rows-ico = 149
 
 abbrev pub rows-ics : ℕ
-rows-ics = 146
+rows-ics = 150
 
 abbrev pub rows-ilbm : ℕ
-rows-ilbm = 147
+rows-ilbm = 151
 
 abbrev pub rows-it : ℕ
-rows-it = 148
+rows-it = 152
 
 abbrev pub rows-j2c : ℕ
-rows-j2c = 149
+rows-j2c = 153
 
 abbrev pub rows-jar : ℕ
-rows-jar = 150
+rows-jar = 154
 
 abbrev pub rows-jar-zip : ℕ
-rows-jar-zip = 151
+rows-jar-zip = 155
 
 abbrev pub rows-jceks : ℕ
-rows-jceks = 152
+rows-jceks = 156
 
 abbrev pub rows-jks : ℕ
-rows-jks = 153
+rows-jks = 157
 
 abbrev pub rows-jmod : ℕ
-rows-jmod = 154
+rows-jmod = 158
 
 abbrev pub rows-jnlp : ℕ
-rows-jnlp = 155
+rows-jnlp = 159
 
 abbrev pub rows-journal : ℕ
-rows-journal = 156
+rows-journal = 160
 
 abbrev pub rows-jp2 : ℕ
-rows-jp2 = 157
+rows-jp2 = 161
 
 abbrev pub rows-jpg : ℕ
-rows-jpg = 158
+rows-jpg = 162
 
 abbrev pub rows-jpm-jpx-mj2 : ℕ
-rows-jpm-jpx-mj2 = 159
+rows-jpm-jpx-mj2 = 163
 
 abbrev pub rows-jpx : ℕ
-rows-jpx = 160
+rows-jpx = 164
 
 abbrev pub rows-json : ℕ
-rows-json = 161
+rows-json = 165
 
 abbrev pub rows-json-ndjson-txt : ℕ
-rows-json-ndjson-txt = 162
+rows-json-ndjson-txt = 166
 
 abbrev pub rows-json-plist-txt-xml : ℕ
-rows-json-plist-txt-xml = 163
+rows-json-plist-txt-xml = 167
 
 abbrev pub rows-json-sh-txt : ℕ
-rows-json-sh-txt = 164
+rows-json-sh-txt = 168
 
 abbrev pub rows-json-txt : ℕ
-rows-json-txt = 165
+rows-json-txt = 169
 
 abbrev pub rows-jxl : ℕ
-rows-jxl = 166
+rows-jxl = 170
 
 abbrev pub rows-jxr : ℕ
-rows-jxr = 167
+rows-jxr = 171
 
 abbrev pub rows-kml : ℕ
-rows-kml = 168
+rows-kml = 172
 
 abbrev pub rows-kmz : ℕ
-rows-kmz = 169
+rows-kmz = 173
 
 abbrev pub rows-kpr-ksp-kwd : ℕ
-rows-kpr-ksp-kwd = 170
+rows-kpr-ksp-kwd = 174
 
 abbrev pub rows-kra : ℕ
-rows-kra = 171
+rows-kra = 175
 
 abbrev pub rows-ktx : ℕ
-rows-ktx = 172
+rows-ktx = 176
 
 abbrev pub rows-ktx2 : ℕ
-rows-ktx2 = 173
+rows-ktx2 = 177
 
 abbrev pub rows-lingts : ℕ
-rows-lingts = 174
+rows-lingts = 178
 
 abbrev pub rows-lnk : ℕ
-rows-lnk = 175
+rows-lnk = 179
 
 abbrev pub rows-lrz : ℕ
-rows-lrz = 176
+rows-lrz = 180
 
 abbrev pub rows-lua : ℕ
-rows-lua = 177
+rows-lua = 181
 
 abbrev pub rows-luac : ℕ
-rows-luac = 178
+rows-luac = 182
 
 abbrev pub rows-luks : ℕ
-rows-luks = 179
+rows-luks = 183
 
 abbrev pub rows-lwp : ℕ
-rows-lwp = 180
+rows-lwp = 184
 
 abbrev pub rows-lz : ℕ
-rows-lz = 181
+rows-lz = 185
 
 abbrev pub rows-lz4 : ℕ
-rows-lz4 = 182
+rows-lz4 = 186
 
 abbrev pub rows-lzh : ℕ
-rows-lzh = 183
+rows-lzh = 187
 
 abbrev pub rows-lzma : ℕ
-rows-lzma = 184
+rows-lzma = 188
 
 abbrev pub rows-lzo : ℕ
-rows-lzo = 185
+rows-lzo = 189
 
 abbrev pub rows-m3u8 : ℕ
-rows-m3u8 = 186
+rows-m3u8 = 190
 
 abbrev pub rows-m4a : ℕ
-rows-m4a = 187
+rows-m4a = 191
 
 abbrev pub rows-m4a-mp4 : ℕ
-rows-m4a-mp4 = 188
+rows-m4a-mp4 = 192
 
 abbrev pub rows-m4b : ℕ
-rows-m4b = 189
+rows-m4b = 193
 
 abbrev pub rows-m4b-m4v-mp4 : ℕ
-rows-m4b-m4v-mp4 = 190
+rows-m4b-m4v-mp4 = 194
 
 abbrev pub rows-m4v : ℕ
-rows-m4v = 191
+rows-m4v = 195
 
 abbrev pub rows-mach : ℕ
-rows-mach = 192
+rows-mach = 196
 
 abbrev pub rows-mdb : ℕ
-rows-mdb = 193
+rows-mdb = 197
 
 abbrev pub rows-med : ℕ
-rows-med = 194
+rows-med = 198
 
 abbrev pub rows-meta4 : ℕ
-rows-meta4 = 195
+rows-meta4 = 199
 
 abbrev pub rows-midi : ℕ
-rows-midi = 196
+rows-midi = 200
 
 abbrev pub rows-mj2 : ℕ
-rows-mj2 = 197
+rows-mj2 = 201
 
 abbrev pub rows-mkv : ℕ
-rows-mkv = 198
+rows-mkv = 202
 
 abbrev pub rows-mmf : ℕ
-rows-mmf = 199
+rows-mmf = 203
 
 abbrev pub rows-mml : ℕ
-rows-mml = 200
+rows-mml = 204
 
 abbrev pub rows-mng : ℕ
-rows-mng = 201
+rows-mng = 205
 
 abbrev pub rows-mo : ℕ
-rows-mo = 202
+rows-mo = 206
 
 abbrev pub rows-mo3 : ℕ
-rows-mo3 = 203
+rows-mo3 = 207
 
 abbrev pub rows-mobi : ℕ
-rows-mobi = 204
+rows-mobi = 208
 
 abbrev pub rows-mov : ℕ
-rows-mov = 205
+rows-mov = 209
 
 abbrev pub rows-mp3 : ℕ
-rows-mp3 = 206
+rows-mp3 = 210
 
 abbrev pub rows-mp4 : ℕ
-rows-mp4 = 207
+rows-mp4 = 211
 
 abbrev pub rows-mpc : ℕ
-rows-mpc = 208
+rows-mpc = 212
 
 abbrev pub rows-mpg : ℕ
-rows-mpg = 209
+rows-mpg = 213
 
 abbrev pub rows-msg : ℕ
-rows-msg = 210
+rows-msg = 214
 
 abbrev pub rows-mtm : ℕ
-rows-mtm = 211
+rows-mtm = 215
 
 abbrev pub rows-mxf : ℕ
-rows-mxf = 212
+rows-mxf = 216
 
 abbrev pub rows-n64 : ℕ
-rows-n64 = 213
+rows-n64 = 217
 
 abbrev pub rows-ndjson : ℕ
-rows-ndjson = 214
+rows-ndjson = 218
 
 abbrev pub rows-nes : ℕ
-rows-nes = 215
+rows-nes = 219
 
 abbrev pub rows-npy : ℕ
-rows-npy = 216
+rows-npy = 220
 
 abbrev pub rows-o : ℕ
-rows-o = 217
+rows-o = 221
 
 abbrev pub rows-obj : ℕ
-rows-obj = 218
+rows-obj = 222
 
 abbrev pub rows-odc : ℕ
-rows-odc = 219
+rows-odc = 223
 
 abbrev pub rows-odf : ℕ
-rows-odf = 220
+rows-odf = 224
 
 abbrev pub rows-odg : ℕ
-rows-odg = 221
+rows-odg = 225
 
 abbrev pub rows-odg-zip : ℕ
-rows-odg-zip = 222
+rows-odg-zip = 226
 
 abbrev pub rows-odp : ℕ
-rows-odp = 223
+rows-odp = 227
 
 abbrev pub rows-odp-zip : ℕ
-rows-odp-zip = 224
+rows-odp-zip = 228
 
 abbrev pub rows-ods : ℕ
-rows-ods = 225
+rows-ods = 229
 
 abbrev pub rows-ods-zip : ℕ
-rows-ods-zip = 226
+rows-ods-zip = 230
 
 abbrev pub rows-odt : ℕ
-rows-odt = 227
+rows-odt = 231
 
 abbrev pub rows-odt-zip : ℕ
-rows-odt-zip = 228
+rows-odt-zip = 232
 
 abbrev pub rows-oga : ℕ
-rows-oga = 229
+rows-oga = 233
 
 abbrev pub rows-oga-ogv-opus-spx : ℕ
-rows-oga-ogv-opus-spx = 230
+rows-oga-ogv-opus-spx = 234
 
 abbrev pub rows-ogg : ℕ
-rows-ogg = 231
+rows-ogg = 235
 
 abbrev pub rows-ogg-ogv : ℕ
-rows-ogg-ogv = 232
+rows-ogg-ogv = 236
 
 abbrev pub rows-ogv : ℕ
-rows-ogv = 233
+rows-ogv = 237
 
 abbrev pub rows-openssh : ℕ
-rows-openssh = 234
+rows-openssh = 238
 
 abbrev pub rows-opml : ℕ
-rows-opml = 235
+rows-opml = 239
 
 abbrev pub rows-opus : ℕ
-rows-opus = 236
+rows-opus = 240
 
 abbrev pub rows-ora : ℕ
-rows-ora = 237
+rows-ora = 241
 
 abbrev pub rows-orc : ℕ
-rows-orc = 238
+rows-orc = 242
 
 abbrev pub rows-otf : ℕ
-rows-otf = 239
+rows-otf = 243
 
 abbrev pub rows-otg : ℕ
-rows-otg = 240
+rows-otg = 244
 
 abbrev pub rows-otp : ℕ
-rows-otp = 241
+rows-otp = 245
 
 abbrev pub rows-ots : ℕ
-rows-ots = 242
+rows-ots = 246
 
 abbrev pub rows-ott : ℕ
-rows-ott = 243
+rows-ott = 247
 
 abbrev pub rows-owx : ℕ
-rows-owx = 244
+rows-owx = 248
 
 abbrev pub rows-p12 : ℕ
-rows-p12 = 245
+rows-p12 = 249
 
 abbrev pub rows-p7b : ℕ
-rows-p7b = 246
+rows-p7b = 250
 
 abbrev pub rows-par2 : ℕ
-rows-par2 = 247
+rows-par2 = 251
 
 abbrev pub rows-parquet : ℕ
-rows-parquet = 248
+rows-parquet = 252
 
 abbrev pub rows-pat : ℕ
-rows-pat = 249
+rows-pat = 253
 
 abbrev pub rows-pcap : ℕ
-rows-pcap = 250
+rows-pcap = 254
 
 abbrev pub rows-pcapng : ℕ
-rows-pcapng = 251
+rows-pcapng = 255
 
 abbrev pub rows-pcx : ℕ
-rows-pcx = 252
+rows-pcx = 256
 
 abbrev pub rows-pdf : ℕ
-rows-pdf = 253
+rows-pdf = 257
 
 abbrev pub rows-pem : ℕ
-rows-pem = 254
+rows-pem = 258
 
 abbrev pub rows-pfa-pfb : ℕ
-rows-pfa-pfb = 255
+rows-pfa-pfb = 259
 
 abbrev pub rows-pfb : ℕ
-rows-pfb = 256
+rows-pfb = 260
 
 abbrev pub rows-pgp : ℕ
-rows-pgp = 257
+rows-pgp = 261
 
 abbrev pub rows-php : ℕ
-rows-php = 258
+rows-php = 262
 
 abbrev pub rows-php-svg-txt-xhtml-xml : ℕ
-rows-php-svg-txt-xhtml-xml = 259
+rows-php-svg-txt-xhtml-xml = 263
 
 abbrev pub rows-pl : ℕ
-rows-pl = 260
+rows-pl = 264
 
 abbrev pub rows-plist : ℕ
-rows-plist = 261
+rows-plist = 265
 
 abbrev pub rows-plist-txt-xml : ℕ
-rows-plist-txt-xml = 262
+rows-plist-txt-xml = 266
 
 abbrev pub rows-png : ℕ
-rows-png = 263
+rows-png = 267
 
 abbrev pub rows-pnm : ℕ
-rows-pnm = 264
+rows-pnm = 268
 
 abbrev pub rows-ppt : ℕ
-rows-ppt = 265
+rows-ppt = 269
+
+abbrev pub rows-pptm : ℕ
+rows-pptm = 270
 
 abbrev pub rows-pptx : ℕ
-rows-pptx = 266
+rows-pptx = 271
 
 abbrev pub rows-ppu : ℕ
-rows-ppu = 267
+rows-ppu = 272
 
 abbrev pub rows-ps : ℕ
-rows-ps = 268
+rows-ps = 273
 
 abbrev pub rows-ps-sh-txt : ℕ
-rows-ps-sh-txt = 269
+rows-ps-sh-txt = 274
 
 abbrev pub rows-ps-txt : ℕ
-rows-ps-txt = 270
+rows-ps-txt = 275
 
 abbrev pub rows-psd : ℕ
-rows-psd = 271
+rows-psd = 276
 
 abbrev pub rows-pst : ℕ
-rows-pst = 272
+rows-pst = 277
 
 abbrev pub rows-pub : ℕ
-rows-pub = 273
+rows-pub = 278
 
 abbrev pub rows-py : ℕ
-rows-py = 274
+rows-py = 279
 
 abbrev pub rows-py-sh-zip : ℕ
-rows-py-sh-zip = 275
+rows-py-sh-zip = 280
 
 abbrev pub rows-pyc : ℕ
-rows-pyc = 276
+rows-pyc = 281
 
 abbrev pub rows-qcow2 : ℕ
-rows-qcow2 = 277
+rows-qcow2 = 282
 
 abbrev pub rows-qml : ℕ
-rows-qml = 278
+rows-qml = 283
 
 abbrev pub rows-ra : ℕ
-rows-ra = 279
+rows-ra = 284
 
 abbrev pub rows-raf : ℕ
-rows-raf = 280
+rows-raf = 285
 
 abbrev pub rows-rar : ℕ
-rows-rar = 281
+rows-rar = 286
 
 abbrev pub rows-ras : ℕ
-rows-ras = 282
+rows-ras = 287
 
 abbrev pub rows-rb : ℕ
-rows-rb = 283
+rows-rb = 288
 
 abbrev pub rows-rm : ℕ
-rows-rm = 284
+rows-rm = 289
 
 abbrev pub rows-rpm : ℕ
-rows-rpm = 285
+rows-rpm = 290
 
 abbrev pub rows-rss : ℕ
-rows-rss = 286
+rows-rss = 291
 
 abbrev pub rows-rtf : ℕ
-rows-rtf = 287
+rows-rtf = 292
 
 abbrev pub rows-rw2 : ℕ
-rows-rw2 = 288
+rows-rw2 = 293
 
 abbrev pub rows-safetensors : ℕ
-rows-safetensors = 289
+rows-safetensors = 294
 
 abbrev pub rows-sav : ℕ
-rows-sav = 290
+rows-sav = 295
 
 abbrev pub rows-sgi : ℕ
-rows-sgi = 291
+rows-sgi = 296
 
 abbrev pub rows-sh : ℕ
-rows-sh = 292
+rows-sh = 297
 
 abbrev pub rows-sh-txt : ℕ
-rows-sh-txt = 293
+rows-sh-txt = 298
 
 abbrev pub rows-shp : ℕ
-rows-shp = 294
+rows-shp = 299
 
 abbrev pub rows-shx : ℕ
-rows-shx = 295
+rows-shx = 300
 
 abbrev pub rows-sid : ℕ
-rows-sid = 296
+rows-sid = 301
 
 abbrev pub rows-sig : ℕ
-rows-sig = 297
+rows-sig = 302
 
 abbrev pub rows-so : ℕ
-rows-so = 298
+rows-so = 303
 
 abbrev pub rows-spx : ℕ
-rows-spx = 299
+rows-spx = 304
 
 abbrev pub rows-sqlite : ℕ
-rows-sqlite = 300
+rows-sqlite = 305
 
 abbrev pub rows-squashfs : ℕ
-rows-squashfs = 301
+rows-squashfs = 306
 
 abbrev pub rows-srpm : ℕ
-rows-srpm = 302
+rows-srpm = 307
 
 abbrev pub rows-srt : ℕ
-rows-srt = 303
+rows-srt = 308
 
 abbrev pub rows-svg : ℕ
-rows-svg = 304
+rows-svg = 309
 
 abbrev pub rows-swf : ℕ
-rows-swf = 305
+rows-swf = 310
 
 abbrev pub rows-sxw : ℕ
-rows-sxw = 306
+rows-sxw = 311
 
 abbrev pub rows-sz : ℕ
-rows-sz = 307
+rows-sz = 312
 
 abbrev pub rows-tar : ℕ
-rows-tar = 308
+rows-tar = 313
 
 abbrev pub rows-tcl : ℕ
-rows-tcl = 309
+rows-tcl = 314
 
 abbrev pub rows-terminfo : ℕ
-rows-terminfo = 310
+rows-terminfo = 315
 
 abbrev pub rows-tif : ℕ
-rows-tif = 311
+rows-tif = 316
 
 abbrev pub rows-tnef : ℕ
-rows-tnef = 312
+rows-tnef = 317
 
 abbrev pub rows-torrent : ℕ
-rows-torrent = 313
+rows-torrent = 318
 
 abbrev pub rows-ts : ℕ
-rows-ts = 314
+rows-ts = 319
 
 abbrev pub rows-tta : ℕ
-rows-tta = 315
+rows-tta = 320
 
 abbrev pub rows-ttc : ℕ
-rows-ttc = 316
+rows-ttc = 321
 
 abbrev pub rows-ttf : ℕ
-rows-ttf = 317
+rows-ttf = 322
 
 abbrev pub rows-txt : ℕ
-rows-txt = 318
+rows-txt = 323
 
 abbrev pub rows-txt-xml : ℕ
-rows-txt-xml = 319
+rows-txt-xml = 324
 
 abbrev pub rows-tzif : ℕ
-rows-tzif = 320
+rows-tzif = 325
 
 abbrev pub rows-vcf : ℕ
-rows-vcf = 321
+rows-vcf = 326
 
 abbrev pub rows-vdi : ℕ
-rows-vdi = 322
+rows-vdi = 327
 
 abbrev pub rows-vhd : ℕ
-rows-vhd = 323
+rows-vhd = 328
 
 abbrev pub rows-vhdx : ℕ
-rows-vhdx = 324
+rows-vhdx = 329
 
 abbrev pub rows-vmdk : ℕ
-rows-vmdk = 325
+rows-vmdk = 330
 
 abbrev pub rows-voc : ℕ
-rows-voc = 326
+rows-voc = 331
 
 abbrev pub rows-vsd : ℕ
-rows-vsd = 327
+rows-vsd = 332
 
 abbrev pub rows-vsdx : ℕ
-rows-vsdx = 328
+rows-vsdx = 333
 
 abbrev pub rows-vsdx-zip : ℕ
-rows-vsdx-zip = 329
+rows-vsdx-zip = 334
 
 abbrev pub rows-vtt : ℕ
-rows-vtt = 330
+rows-vtt = 335
 
 abbrev pub rows-wad : ℕ
-rows-wad = 331
+rows-wad = 336
 
 abbrev pub rows-warc : ℕ
-rows-warc = 332
+rows-warc = 337
 
 abbrev pub rows-wasm : ℕ
-rows-wasm = 333
+rows-wasm = 338
 
 abbrev pub rows-wav : ℕ
-rows-wav = 334
+rows-wav = 339
 
 abbrev pub rows-webm : ℕ
-rows-webm = 335
+rows-webm = 340
 
 abbrev pub rows-webp : ℕ
-rows-webp = 336
+rows-webp = 341
 
 abbrev pub rows-wiiwad : ℕ
-rows-wiiwad = 337
+rows-wiiwad = 342
 
 abbrev pub rows-wim : ℕ
-rows-wim = 338
+rows-wim = 343
 
 abbrev pub rows-wmv : ℕ
-rows-wmv = 339
+rows-wmv = 344
 
 abbrev pub rows-woff : ℕ
-rows-woff = 340
+rows-woff = 345
 
 abbrev pub rows-woff2 : ℕ
-rows-woff2 = 341
+rows-woff2 = 346
 
 abbrev pub rows-wv : ℕ
-rows-wv = 342
+rows-wv = 347
 
 abbrev pub rows-x3f : ℕ
-rows-x3f = 343
+rows-x3f = 348
 
 abbrev pub rows-xar : ℕ
-rows-xar = 344
+rows-xar = 349
 
 abbrev pub rows-xcf : ℕ
-rows-xcf = 345
+rows-xcf = 350
 
 abbrev pub rows-xhtml : ℕ
-rows-xhtml = 346
+rows-xhtml = 351
 
 abbrev pub rows-xls : ℕ
-rows-xls = 347
+rows-xls = 352
+
+abbrev pub rows-xlsb : ℕ
+rows-xlsb = 353
+
+abbrev pub rows-xlsm : ℕ
+rows-xlsm = 354
 
 abbrev pub rows-xlsx : ℕ
-rows-xlsx = 348
+rows-xlsx = 355
 
 abbrev pub rows-xm : ℕ
-rows-xm = 349
+rows-xm = 356
 
 abbrev pub rows-xml : ℕ
-rows-xml = 350
+rows-xml = 357
 
 abbrev pub rows-xpm : ℕ
-rows-xpm = 351
+rows-xpm = 358
 
 abbrev pub rows-xwd : ℕ
-rows-xwd = 352
+rows-xwd = 359
 
 abbrev pub rows-xz : ℕ
-rows-xz = 353
+rows-xz = 360
 
 abbrev pub rows-zim : ℕ
-rows-zim = 354
+rows-zim = 361
 
 abbrev pub rows-zip : ℕ
-rows-zip = 355
+rows-zip = 362
 
 abbrev pub rows-zst : ℕ
-rows-zst = 356
+rows-zst = 363
 
 unfoldable pub lead_lists : List (List (List ℕ))
 lead_lists =
@@ -1162,7 +1183,9 @@ sets_0 =
     ∷ (codes "application/x-installshield" ∷ [])
     ∷ (codes "application/x-msi" ∷ [])
     ∷ (codes "application/x-ole-storage" ∷ [])
+    ∷ (codes "application/x-ole-storage" ∷ codes "pptm" ∷ codes "pptx" ∷ codes "zip" ∷ [])
     ∷ (codes "application/x-ole-storage" ∷ codes "pptx" ∷ codes "zip" ∷ [])
+    ∷ (codes "application/x-ole-storage" ∷ codes "xlsm" ∷ codes "xlsx" ∷ codes "zip" ∷ [])
     ∷ (codes "application/x-ole-storage" ∷ codes "xlsx" ∷ codes "zip" ∷ [])
     ∷ (codes "application/x-ole-storage" ∷ codes "zip" ∷ [])
     ∷ (codes "application/x-pem-key" ∷ [])
@@ -1217,6 +1240,8 @@ sets_0 =
     ∷ (codes "djvu" ∷ [])
     ∷ (codes "dng" ∷ [])
     ∷ (codes "doc" ∷ [])
+    ∷ (codes "docm" ∷ [])
+    ∷ (codes "docm" ∷ codes "docx" ∷ codes "application/x-ole-storage" ∷ codes "zip" ∷ [])
     ∷ (codes "docx" ∷ [])
     ∷ (codes "docx" ∷ codes "application/x-ole-storage" ∷ codes "zip" ∷ [])
     ∷ (codes "dsf" ∷ [])
@@ -1255,15 +1280,15 @@ sets_0 =
     ∷ (codes "gtkbuilder" ∷ [])
     ∷ (codes "gz" ∷ [])
     ∷ (codes "gz" ∷ codes "sqlite" ∷ codes "xml" ∷ [])
-    ∷ (codes "gz" ∷ codes "txt" ∷ codes "xml" ∷ [])
-    ∷ (codes "gz" ∷ codes "xml" ∷ [])
-    ∷ (codes "gz" ∷ codes "zip" ∷ [])
-    ∷ (codes "gz" ∷ codes "zst" ∷ [])
     ∷ []
 
 unfoldable pub sets_1 : List (List (List ℕ))
 sets_1 =
-    (codes "hdf4" ∷ [])
+    (codes "gz" ∷ codes "txt" ∷ codes "xml" ∷ [])
+    ∷ (codes "gz" ∷ codes "xml" ∷ [])
+    ∷ (codes "gz" ∷ codes "zip" ∷ [])
+    ∷ (codes "gz" ∷ codes "zst" ∷ [])
+    ∷ (codes "hdf4" ∷ [])
     ∷ (codes "hdf5" ∷ [])
     ∷ (codes "hdr" ∷ [])
     ∷ (codes "heic" ∷ [])
@@ -1387,15 +1412,15 @@ sets_1 =
     ∷ (codes "pat" ∷ [])
     ∷ (codes "pcap" ∷ [])
     ∷ (codes "pcapng" ∷ [])
-    ∷ (codes "pcx" ∷ [])
-    ∷ (codes "pdf" ∷ [])
-    ∷ (codes "pem" ∷ [])
-    ∷ (codes "pfa" ∷ codes "pfb" ∷ [])
     ∷ []
 
 unfoldable pub sets_2 : List (List (List ℕ))
 sets_2 =
-    (codes "pfb" ∷ [])
+    (codes "pcx" ∷ [])
+    ∷ (codes "pdf" ∷ [])
+    ∷ (codes "pem" ∷ [])
+    ∷ (codes "pfa" ∷ codes "pfb" ∷ [])
+    ∷ (codes "pfb" ∷ [])
     ∷ (codes "pgp" ∷ [])
     ∷ (codes "php" ∷ [])
     ∷ (codes "php" ∷ codes "svg" ∷ codes "txt" ∷ codes "xhtml" ∷ codes "xml" ∷ [])
@@ -1405,6 +1430,7 @@ sets_2 =
     ∷ (codes "png" ∷ [])
     ∷ (codes "pnm" ∷ [])
     ∷ (codes "ppt" ∷ [])
+    ∷ (codes "pptm" ∷ [])
     ∷ (codes "pptx" ∷ [])
     ∷ (codes "ppu" ∷ [])
     ∷ (codes "ps" ∷ [])
@@ -1487,6 +1513,8 @@ sets_2 =
     ∷ (codes "xcf" ∷ [])
     ∷ (codes "xhtml" ∷ [])
     ∷ (codes "xls" ∷ [])
+    ∷ (codes "xlsb" ∷ [])
+    ∷ (codes "xlsm" ∷ [])
     ∷ (codes "xlsx" ∷ [])
     ∷ (codes "xm" ∷ [])
     ∷ (codes "xml" ∷ [])

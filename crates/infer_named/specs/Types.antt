@@ -3214,14 +3214,14 @@ types_0 =
     ∷ named (codes "application/vnd.ms-cab-compressed") (row (codes "cab"))
     ∷ named (codes "application/vnd.ms-excel") (row (codes "xls"))
     ∷ named (codes "application/vnd.ms-excel.addin.macroEnabled.12") known
-    ∷ named (codes "application/vnd.ms-excel.sheet.binary.macroEnabled.12") known
-    ∷ named (codes "application/vnd.ms-excel.sheet.macroEnabled.12") known
+    ∷ named (codes "application/vnd.ms-excel.sheet.binary.macroEnabled.12") (row (codes "xlsb"))
+    ∷ named (codes "application/vnd.ms-excel.sheet.macroEnabled.12") (row (codes "xlsm"))
     ∷ named (codes "application/vnd.ms-excel.template.macroEnabled.12") known
     ∷ named (codes "application/vnd.ms-htmlhelp") (row (codes "chm"))
     ∷ named (codes "application/vnd.ms-outlook") (row (codes "msg"))
     ∷ named (codes "application/vnd.ms-outlook-pst") (row (codes "pst"))
     ∷ named (codes "application/vnd.ms-powerpoint") (row (codes "ppt"))
-    ∷ named (codes "application/vnd.ms-powerpoint.presentation.macroEnabled.12") known
+    ∷ named (codes "application/vnd.ms-powerpoint.presentation.macroEnabled.12") (row (codes "pptm"))
     ∷ named (codes "application/vnd.ms-powerpoint.slideshow.macroEnabled.12") known
     ∷ named (codes "application/vnd.ms-powerpoint.template.macroEnabled.12") known
     ∷ named (codes "application/vnd.ms-project") known
@@ -3231,7 +3231,7 @@ types_0 =
     ∷ named (codes "application/vnd.ms-visio.drawing.main+xml") (row (codes "vsdx"))
     ∷ named (codes "application/vnd.ms-visio.stencil.main+xml") known
     ∷ named (codes "application/vnd.ms-visio.template.main+xml") known
-    ∷ named (codes "application/vnd.ms-word.document.macroEnabled.12") known
+    ∷ named (codes "application/vnd.ms-word.document.macroEnabled.12") (row (codes "docm"))
     ∷ named (codes "application/vnd.ms-word.template.macroEnabled.12") known
     ∷ named (codes "application/vnd.ms-works") known
     ∷ named (codes "application/vnd.ms-xpsdocument") known

@@ -282,6 +282,10 @@ pub(crate) fn row_at(i: usize) -> Option<&'static FurtherRow>
         263 => row_of::<263>(),
         264 => row_of::<264>(),
         265 => row_of::<265>(),
+        266 => row_of::<266>(),
+        267 => row_of::<267>(),
+        268 => row_of::<268>(),
+        269 => row_of::<269>(),
         _ => row_in_lists(i),
     }
 }
@@ -558,6 +562,10 @@ pub(crate) fn widens(i: usize, parent: Option<usize>, buf: &[u8]) -> bool
         263 => widens_row::<263>(parent, buf),
         264 => widens_row::<264>(parent, buf),
         265 => widens_row::<265>(parent, buf),
+        266 => widens_row::<266>(parent, buf),
+        267 => widens_row::<267>(parent, buf),
+        268 => widens_row::<268>(parent, buf),
+        269 => widens_row::<269>(parent, buf),
         _ => widens_any(i, parent, buf),
     }
 }

@@ -1,4 +1,4 @@
-//! Kinds of ZIP archives: OpenDocument, StarOffice and others.
+//! Kinds of ZIP archives: OpenDocument, StarOffice and others; and documents of Office with macros.
 ghost use Rattle.std.specs.Prelude.{◌≡◌, map};
 ghost use Rattle.infer_more.specs.Listed.{AreEnded, row_listed};
 ghost use Rattle.infer_more.specs.Table.{office};
@@ -7,8 +7,8 @@ use crate::signature::Piece::At;
 use crate::signature::{Alternative, Bytes};
 use crate::table::{EndedTexts, FurtherRow};
 use infer::MatcherType;
-use infer::rows::ZIP;
-use infer_formats::relation::Relation::{FirstEntryEndsIn, FirstEntryIs};
+use infer::rows::{DOCX, PPTX, XLSX, ZIP};
+use infer_formats::relation::Relation::{FirstEntryEndsIn, FirstEntryIs, HasEntry};
 
 static ROWS: &[FurtherRow] = rows![
     Doc "application/vnd.oasis.opendocument.chart" "odc": ZIP => [80, At(0, b"PK\x03\x04"), At(30, b"mimetypeapplication/vnd.oasis.opendocument.chartPK")];
@@ -20,6 +20,10 @@ static ROWS: &[FurtherRow] = rows![
     Doc "application/vnd.apple.keynote" "key": ZIP => [FirstEntryIs(b"index.apxl")];
     App "application/vnd.apple.pkpass" "pkpass": ZIP => [FirstEntryIs(b"pass.json")];
     Book "application/x-zip-compressed-fb2" "fbz": ZIP => [FirstEntryEndsIn(b".fb2")];
+    Doc "application/vnd.ms-word.document.macroEnabled.12" "docm": DOCX => [HasEntry(b"word/vbaProject.bin")];
+    Doc "application/vnd.ms-excel.sheet.macroEnabled.12" "xlsm": XLSX => [HasEntry(b"xl/vbaProject.bin")];
+    Doc "application/vnd.ms-excel.sheet.binary.macroEnabled.12" "xlsb": XLSX => [HasEntry(b"xl/workbook.bin")];
+    Doc "application/vnd.ms-powerpoint.presentation.macroEnabled.12" "pptm": PPTX => [HasEntry(b"ppt/vbaProject.bin")];
 ];
 
 #[tactic(auto, unfolding(crate::specs::Table::office))]

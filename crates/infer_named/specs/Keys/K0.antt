@@ -2,7 +2,7 @@
 use Rattle.std.specs.Prelude.{List, [], ◌∷◌, codes, false, true}
 use Rattle.infer_named.specs.Key.{Key, key}
 use Rattle.infer_named.specs.Listed.{reading}
-use Rattle.infer_named.specs.Sets.{any-lead, leads-10, leads-11, leads-3, leads-4, leads-8, no-rows, rows-3g2, rows-3g2-3gp-f4v-m4a-m4b-m4v-mov, rows-3gp, rows-3gp-mp4, rows-appimage-core-o-so, rows-application-x-msi, rows-application-x-ole-storage, rows-application-x-ole-storage-pptx-zip, rows-application-x-ole-storage-xlsx-zip, rows-arj, rows-asc, rows-atom, rows-awk, rows-bz2, rows-bz2-gz-xz, rows-chd, rows-dbf, rows-der, rows-dey, rows-djvm, rows-djvu, rows-doc, rows-elf, rows-eps, rows-exe, rows-f4v, rows-flatpak, rows-gjs-js, rows-gpkg, rows-gz, rows-heif, rows-html, rows-html-json-php-svg-txt-xhtml-xml, rows-html-rss-txt-xml, rows-html-sh-svg-txt-xhtml-xml, rows-html-txt-xhtml-xml, rows-html-txt-xml, rows-icc, rows-jp2, rows-jpg, rows-jpx, rows-json, rows-json-ndjson-txt, rows-json-plist-txt-xml, rows-json-sh-txt, rows-jxr, rows-ktx, rows-lnk, rows-lua, rows-lzo, rows-m4v, rows-mj2, rows-mobi, rows-mp3, rows-mp4, rows-mpg, rows-ndjson, rows-odp, rows-ogg, rows-ogg-ogv, rows-opus, rows-otp, rows-pem, rows-pfa-pfb, rows-php, rows-php-svg-txt-xhtml-xml, rows-pl, rows-plist-txt-xml, rows-pnm, rows-ppt, rows-ps, rows-ps-sh-txt, rows-ps-txt, rows-pub, rows-rb, rows-sgi, rows-sh, rows-sh-txt, rows-sig, rows-sqlite, rows-squashfs, rows-tcl, rows-tif, rows-torrent, rows-ts, rows-txt, rows-txt-xml, rows-vhdx, rows-webm, rows-woff, rows-x3f, rows-xcf, rows-xhtml, rows-xpm, rows-z, rows-zip, text-rows}
+use Rattle.infer_named.specs.Sets.{any-lead, leads-10, leads-11, leads-3, leads-4, leads-8, no-rows, rows-3g2, rows-3g2-3gp-f4v-m4a-m4b-m4v-mov, rows-3gp, rows-3gp-mp4, rows-appimage-core-o-so, rows-application-x-msi, rows-application-x-ole-storage, rows-application-x-ole-storage-pptm-pptx-zip, rows-application-x-ole-storage-xlsx-zip, rows-arj, rows-asc, rows-atom, rows-awk, rows-bz2, rows-bz2-gz-xz, rows-chd, rows-dbf, rows-der, rows-dey, rows-djvm, rows-djvu, rows-doc, rows-elf, rows-eps, rows-exe, rows-f4v, rows-flatpak, rows-gjs-js, rows-gpkg, rows-gz, rows-heif, rows-html, rows-html-json-php-svg-txt-xhtml-xml, rows-html-rss-txt-xml, rows-html-sh-svg-txt-xhtml-xml, rows-html-txt-xhtml-xml, rows-html-txt-xml, rows-icc, rows-jp2, rows-jpg, rows-jpx, rows-json, rows-json-ndjson-txt, rows-json-plist-txt-xml, rows-json-sh-txt, rows-jxr, rows-ktx, rows-lnk, rows-lua, rows-lzo, rows-m4v, rows-mj2, rows-mobi, rows-mp3, rows-mp4, rows-mpg, rows-ndjson, rows-odp, rows-ogg, rows-ogg-ogv, rows-opus, rows-otp, rows-pem, rows-pfa-pfb, rows-php, rows-php-svg-txt-xhtml-xml, rows-pl, rows-plist-txt-xml, rows-pnm, rows-ppt, rows-ps, rows-ps-sh-txt, rows-ps-txt, rows-pub, rows-rb, rows-sgi, rows-sh, rows-sh-txt, rows-sig, rows-sqlite, rows-squashfs, rows-tcl, rows-tif, rows-torrent, rows-ts, rows-txt, rows-txt-xml, rows-vhdx, rows-webm, rows-woff, rows-x3f, rows-xcf, rows-xhtml, rows-xpm, rows-z, rows-zip, text-rows}
 use Rattle.infer_named.specs.Types.{is-application-atom-xml, is-application-dita-xml, is-application-font-woff-as-row-woff, is-application-graphql, is-application-jsonnet, is-application-ld-json, is-application-lrc, is-application-msgpack, is-application-msword, is-application-n-quads, is-application-onenote, is-application-oxps, is-application-pgp-keys-as-row-asc, is-application-pgp-signature, is-application-protobuf, is-application-raml-yaml, is-application-rdf-xml, is-application-sparql-query, is-application-sql, is-application-vnd-android-dey, is-application-vnd-coffeescript, is-application-vnd-dbf, is-application-vnd-etsi-asic-e-zip, is-application-vnd-flatpak, is-application-vnd-iccprofile, is-application-vnd-microsoft-portable-executable, is-application-vnd-ms-powerpoint, is-application-vnd-ms-powerpoint-slideshow-macroenabled-12, is-application-vnd-ms-publisher, is-application-vnd-nintendo-nitro-rom, is-application-vnd-oasis-opendocument-presentation, is-application-vnd-oasis-opendocument-presentation-flat-xml, is-application-vnd-openxmlformats-officedocument-spreadsheetml-template, is-application-vnd-sqlite3, is-application-vnd-squashfs, is-application-vnd-sun-xml-calc, is-application-vnd-sun-xml-draw, is-application-vnd-wolfram-mathematica, is-application-voicexml-xml, is-application-x-admx, is-application-x-arj, is-application-x-aspx, is-application-x-autodesk-max, is-application-x-bittorrent, is-application-x-bsp, is-application-x-bufr, is-application-x-bzip-compressed-tar, is-application-x-compress, is-application-x-dictzip, is-application-x-drawio-xml, is-application-x-dtbncx-xml, is-application-x-elc, is-application-x-emz, is-application-x-entitlements, is-application-x-executable-as-row-elf, is-application-x-font-type1, is-application-x-gba-rom, is-application-x-genesis-rom, is-application-x-gnuplot, is-application-x-gschema-compiled, is-application-x-haskell-interface, is-application-x-hwp, is-application-x-innodb, is-application-x-intellij-xml, is-application-x-ipynb-json, is-application-x-java-jimage, is-application-x-jmeter-xml, is-application-x-jsonc, is-application-x-jsp, is-application-x-lzop, is-application-x-mame-chd, is-application-x-minecraft-world, is-application-x-mobipocket-ebook, is-application-x-ms-shortcut, is-application-x-msbuild-xml, is-application-x-msi, is-application-x-ndjson, is-application-x-nuget-package, is-application-x-osm-pbf, is-application-x-r-data, is-application-x-rhino, is-application-x-shapefile-index, is-application-x-ssh-public-key, is-application-x-theme-xml, is-application-x-uproject-json, is-application-x-vhdx-disk, is-application-x-wix-xml, is-application-x-x509-ca-cert-as-row-der, is-application-x-zsh, is-application-xhtml-xml, is-application-xml-dtd, is-application-xml-external-parsed-entity, is-application-xquery, is-application-yaml, is-audio-eac3, is-audio-mpeg, is-audio-opus, is-audio-webm, is-audio-x-gsm, is-image-jpeg, is-image-jpx, is-image-ktx, is-image-vnd-djvu, is-image-vnd-ms-photo, is-image-x-eps, is-image-x-pentax-pef, is-image-x-portable-anymap, is-image-x-samsung-srw, is-image-x-sgi, is-image-x-sigma-x3f, is-image-x-xcf, is-message-rfc822, is-model-step, is-model-stl, is-model-vrml, is-text-html, is-text-javascript, is-text-markdown, is-text-org, is-text-plain, is-text-sgml, is-text-tab-separated-values, is-text-troff, is-text-velocity, is-text-x-adasrc, is-text-x-aidl, is-text-x-antlr, is-text-x-apl, is-text-x-autohotkey, is-text-x-awk, is-text-x-bibtex, is-text-x-bitbake, is-text-x-c-hdr, is-text-x-c-src, is-text-x-capnp, is-text-x-checksums, is-text-x-clojure, is-text-x-crystal, is-text-x-csrc, is-text-x-cypher, is-text-x-dhall, is-text-x-dsrc, is-text-x-dts, is-text-x-ebnf, is-text-x-editorconfig, is-text-x-eiffel, is-text-x-erlang, is-text-x-fastq, is-text-x-forth, is-text-x-fortran, is-text-x-freemarker, is-text-x-gams, is-text-x-gap, is-text-x-gcode, is-text-x-genbank, is-text-x-gherkin, is-text-x-gitconfig, is-text-x-glsl, is-text-x-gn, is-text-x-gosum, is-text-x-groovy, is-text-x-handlebars, is-text-x-ini, is-text-x-io, is-text-x-java, is-text-x-java-properties, is-text-x-kusto, is-text-x-lean, is-text-x-lsl, is-text-x-lua, is-text-x-makefile, is-text-x-matlab, is-text-x-modula, is-text-x-monkey, is-text-x-move, is-text-x-msdos-batch, is-text-x-newick, is-text-x-nginx-conf, is-text-x-objc-src, is-text-x-objcsrc, is-text-x-openscad, is-text-x-pascal, is-text-x-perl, is-text-x-php, is-text-x-pkg-config, is-text-x-plantuml, is-text-x-pli, is-text-x-pth, is-text-x-purescript, is-text-x-raku, is-text-x-red, is-text-x-rpgle, is-text-x-rst, is-text-x-ruby, is-text-x-sas, is-text-x-scheme, is-text-x-sdc, is-text-x-shell-config, is-text-x-shellscript, is-text-x-sln, is-text-x-smt, is-text-x-solidity, is-text-x-soy, is-text-x-ssa, is-text-x-stylus, is-text-x-systemd-unit, is-text-x-tcl, is-text-x-tex, is-text-x-tmux-conf, is-text-x-unity, is-text-x-vcl, is-text-x-vdf, is-text-x-verilog, is-text-x-vim, is-text-x-wat, is-text-x-wkt, is-text-x-yacc, is-text-x-zimpl, is-video-3gpp, is-video-3gpp2, is-video-h264, is-video-h265, is-video-mj2, is-video-mp2t, is-video-mp4, is-video-mpeg, is-video-x-f4v, is-video-x-m4v, is-video-x-ogm-ogg}
 use Rattle.infer_named.specs.declared.table.Asks.TheVariants.{Bytes, Nothing, Signature, Text}
 use Rattle.infer_named.specs.declared.table.Part.TheVariants.{Extension, Whole}
@@ -182,7 +182,7 @@ keys =
     ∷ key Extension (codes "gap") false (reading is-text-x-gap Text no-rows rows-txt no-rows any-lead ∷ [])
     ∷ key Extension (codes "dbf") false (reading is-application-vnd-dbf Bytes rows-dbf no-rows no-rows any-lead ∷ [])
     ∷ key Extension (codes "pfa") false (reading is-application-x-font-type1 Text rows-pfa-pfb rows-ps-txt no-rows any-lead ∷ [])
-    ∷ key Extension (codes "ppsm") false (reading is-application-vnd-ms-powerpoint-slideshow-macroenabled-12 Signature no-rows rows-application-x-ole-storage-pptx-zip no-rows any-lead ∷ [])
+    ∷ key Extension (codes "ppsm") false (reading is-application-vnd-ms-powerpoint-slideshow-macroenabled-12 Signature no-rows rows-application-x-ole-storage-pptm-pptx-zip no-rows any-lead ∷ [])
     ∷ key Extension (codes "styl") false (reading is-text-x-stylus Text no-rows rows-txt no-rows any-lead ∷ [])
     ∷ key Extension (codes "vm") false (reading is-text-velocity Text no-rows rows-html-json-php-svg-txt-xhtml-xml no-rows any-lead ∷ [])
     ∷ key Extension (codes "winmd") false (reading is-application-vnd-microsoft-portable-executable Signature rows-exe no-rows no-rows any-lead ∷ [])

@@ -2,7 +2,7 @@
 use Rattle.std.specs.Prelude.{List, [], ◌∷◌, codes, false, true}
 use Rattle.infer_named.specs.Key.{Key, key}
 use Rattle.infer_named.specs.Listed.{reading}
-use Rattle.infer_named.specs.Sets.{any-lead, leads-10, leads-7, no-rows, rows-3g2, rows-3gp-mp4, rows-3mf-apk-application-vnd-apple-keynote-chrt-docx-epub-fbz-flw-jar-karbon-kmz-kra-odc-odf-odg-odp-ods-odt-ora-otg-otp-ots-ott-pkpass-pptx-sxw-vsdx-xlsx, rows-7z, rows-accdb, rows-apk-jar-zip, rows-apng, rows-appimage, rows-application-x-ole-storage, rows-application-x-ole-storage-zip, rows-ar, rows-beam, rows-blend, rows-bmp, rows-bz2, rows-bz2-gz-xz, rows-chm, rows-deb, rows-der-p7b-pem, rows-dff, rows-docx, rows-docx-application-x-ole-storage-zip, rows-dts, rows-elf, rows-evtx, rows-flv, rows-gjs-js, rows-gpkg, rows-gz, rows-gz-zst, rows-hdf5, rows-hdr, rows-heics, rows-heif, rows-hlp, rows-html, rows-html-json-php-svg-txt-xhtml-xml, rows-html-sh-svg-txt-xhtml-xml, rows-html-txt-xhtml-xml, rows-ilbm, rows-jp2, rows-jpg, rows-json, rows-json-ndjson-txt, rows-json-plist-txt-xml, rows-json-sh-txt, rows-json-txt, rows-kpr-ksp-kwd, rows-kra, rows-lrz, rows-lua, rows-lz4, rows-m4a-mp4, rows-m4b, rows-mdb, rows-mj2, rows-mkv, rows-mo3, rows-mpg, rows-ndjson, rows-o, rows-ods-zip, rows-odt-zip, rows-oga-ogv-opus-spx, rows-ogg, rows-ogv, rows-orc, rows-ots, rows-ott, rows-p12, rows-pdf, rows-php, rows-php-svg-txt-xhtml-xml, rows-pl, rows-plist-txt-xml, rows-png, rows-ps-sh-txt, rows-ps-txt, rows-py, rows-rar, rows-rb, rows-safetensors, rows-sgi, rows-sh-txt, rows-sqlite, rows-tcl, rows-tif, rows-ttc, rows-txt, rows-vcf, rows-vsdx-zip, rows-wasm, rows-webm, rows-wim, rows-xls, rows-xlsx, rows-xpm, rows-zip, text-rows}
+use Rattle.infer_named.specs.Sets.{any-lead, leads-10, leads-7, no-rows, rows-3g2, rows-3gp-mp4, rows-3mf-apk-application-vnd-apple-keynote-chrt-docx-epub-fbz-flw-jar-karbon-kmz-kra-odc-odf-odg-odp-ods-odt-ora-otg-otp-ots-ott-pkpass-pptx-sxw-vsdx-xlsx, rows-7z, rows-accdb, rows-apk-jar-zip, rows-apng, rows-appimage, rows-application-x-ole-storage, rows-application-x-ole-storage-zip, rows-ar, rows-beam, rows-blend, rows-bmp, rows-bz2, rows-bz2-gz-xz, rows-chm, rows-deb, rows-der-p7b-pem, rows-dff, rows-docm-docx-application-x-ole-storage-zip, rows-docx, rows-dts, rows-elf, rows-evtx, rows-flv, rows-gjs-js, rows-gpkg, rows-gz, rows-gz-zst, rows-hdf5, rows-hdr, rows-heics, rows-heif, rows-hlp, rows-html, rows-html-json-php-svg-txt-xhtml-xml, rows-html-sh-svg-txt-xhtml-xml, rows-html-txt-xhtml-xml, rows-ilbm, rows-jp2, rows-jpg, rows-json, rows-json-ndjson-txt, rows-json-plist-txt-xml, rows-json-sh-txt, rows-json-txt, rows-kpr-ksp-kwd, rows-kra, rows-lrz, rows-lua, rows-lz4, rows-m4a-mp4, rows-m4b, rows-mdb, rows-mj2, rows-mkv, rows-mo3, rows-mpg, rows-ndjson, rows-o, rows-ods-zip, rows-odt-zip, rows-oga-ogv-opus-spx, rows-ogg, rows-ogv, rows-orc, rows-ots, rows-ott, rows-p12, rows-pdf, rows-php, rows-php-svg-txt-xhtml-xml, rows-pl, rows-plist-txt-xml, rows-png, rows-ps-sh-txt, rows-ps-txt, rows-py, rows-rar, rows-rb, rows-safetensors, rows-sgi, rows-sh-txt, rows-sqlite, rows-tcl, rows-tif, rows-ttc, rows-txt, rows-vcf, rows-vsdx-zip, rows-wasm, rows-webm, rows-wim, rows-xls, rows-xlsx, rows-xpm, rows-zip, text-rows}
 use Rattle.infer_named.specs.Types.{is-application-atomcat-xml, is-application-edn, is-application-gzip, is-application-onnx, is-application-pdf, is-application-pkcs12, is-application-pkcs7-signature, is-application-schema-json, is-application-smil-xml, is-application-vnd-appimage, is-application-vnd-apple-pages, is-application-vnd-comicbook-rar, is-application-vnd-hp-pcl, is-application-vnd-lotus-1-2-3, is-application-vnd-mozilla-xul-xml, is-application-vnd-ms-excel, is-application-vnd-ms-htmlhelp, is-application-vnd-ms-project, is-application-vnd-ms-visio-template-main-xml, is-application-vnd-ms-word-template-macroenabled-12, is-application-vnd-nintendo-snes-rom, is-application-vnd-oasis-opendocument-spreadsheet-template, is-application-vnd-oasis-opendocument-text-template, is-application-vnd-openxmlformats-officedocument-spreadsheetml-sheet, is-application-vnd-openxmlformats-officedocument-wordprocessingml-document, is-application-vnd-sqlite3, is-application-vnd-wordperfect, is-application-wasm, is-application-winhlp, is-application-wsdl-xml, is-application-x-7z-compressed, is-application-x-ace, is-application-x-apkm, is-application-x-blender, is-application-x-bzip-compressed-tar, is-application-x-cml-xml, is-application-x-csh, is-application-x-device-tree-blob, is-application-x-entitlements, is-application-x-erlang-beam, is-application-x-glib-typelib, is-application-x-godot-scene, is-application-x-hdf5, is-application-x-intellij-xml, is-application-x-krita, is-application-x-lrzip, is-application-x-lz4-compressed-tar, is-application-x-matlab-data, is-application-x-ms-evtx, is-application-x-ms-registry-hive, is-application-x-ms-wim, is-application-x-msaccess-as-row-accdb, is-application-x-msaccess-as-row-mdb, is-application-x-msbuild-xml, is-application-x-ndjson, is-application-x-netcdf, is-application-x-nuspec-xml, is-application-x-object, is-application-x-orc, is-application-x-profraw, is-application-x-quattropro, is-application-x-r-data, is-application-x-safetensors, is-application-x-scxml-xml, is-application-x-shared-library-la, is-application-x-theme-xml, is-application-x-unix-archive, is-application-x-urdf-xml, is-application-xliff-xml, is-application-xproc-xml, is-application-xslt-xml, is-application-yaml, is-application-zip, is-audio-ogg-as-row-ogg, is-audio-vnd-audible, is-audio-vnd-dts, is-audio-x-dff, is-audio-x-m4b, is-audio-x-mo3, is-audio-x-scpls, is-chemical-x-cif, is-chemical-x-mdl-molfile, is-font-collection, is-image-bmp, is-image-emf, is-image-heic-sequence, is-image-jpeg, is-image-png, is-image-vnd-radiance, is-image-x-epson-erf, is-image-x-ilbm, is-image-x-minolta-mrw, is-image-x-sgi, is-image-x-tga, is-image-x-xpixmap, is-model-mtl, is-multipart-related, is-text-csv, is-text-html, is-text-javascript, is-text-plain, is-text-tab-separated-values, is-text-uri-list, is-text-vcard, is-text-vnd-familysearch-gedcom, is-text-x-abap, is-text-x-asn1, is-text-x-ballerina, is-text-x-bats, is-text-x-bed, is-text-x-bicep, is-text-x-bpftrace, is-text-x-cfm, is-text-x-cobol, is-text-x-csound, is-text-x-cypher, is-text-x-dune, is-text-x-ebnf, is-text-x-ejs, is-text-x-emacs-lisp, is-text-x-erlang, is-text-x-fennel, is-text-x-freemarker, is-text-x-gerber, is-text-x-gettext-translation, is-text-x-gitconfig, is-text-x-gitignore, is-text-x-glsl, is-text-x-gn, is-text-x-groovy, is-text-x-handlebars, is-text-x-haskell, is-text-x-hunspell-affix, is-text-x-idl, is-text-x-jinja, is-text-x-kotlin, is-text-x-ld-script, is-text-x-ldif, is-text-x-lex, is-text-x-lua, is-text-x-makefile, is-text-x-maven-xml, is-text-x-maxima, is-text-x-metafont, is-text-x-metal, is-text-x-mib, is-text-x-nim, is-text-x-ocaml, is-text-x-pascal, is-text-x-patch, is-text-x-pawn, is-text-x-perl, is-text-x-php, is-text-x-pig, is-text-x-plantuml, is-text-x-protobuf, is-text-x-psv, is-text-x-python-as-row-py, is-text-x-ragel, is-text-x-raku, is-text-x-razor, is-text-x-reason, is-text-x-rebol, is-text-x-rsrc, is-text-x-ruby, is-text-x-sam, is-text-x-scala, is-text-x-scons, is-text-x-setext, is-text-x-shell-config, is-text-x-sieve, is-text-x-sml, is-text-x-snakemake, is-text-x-stan, is-text-x-systemd-unit, is-text-x-tcl, is-text-x-tex, is-text-x-texinfo, is-text-x-textproto, is-text-x-tmux-conf, is-text-x-txt2tags, is-text-x-unity, is-text-x-verilog, is-text-x-vue, is-text-x-vyper, is-text-x-wdl, is-text-x-xresources, is-video-3gpp2, is-video-h265, is-video-mj2, is-video-mpeg, is-video-ogg, is-video-x-flic, is-video-x-flv, is-video-x-matroska}
 use Rattle.infer_named.specs.declared.table.Asks.TheVariants.{Bytes, Signature, Text}
 use Rattle.infer_named.specs.declared.table.Part.TheVariants.{Extension, Whole}
@@ -165,7 +165,7 @@ keys =
     ∷ key Extension (codes "123") false (reading is-application-vnd-lotus-1-2-3 Bytes no-rows no-rows no-rows any-lead ∷ [])
     ∷ key Extension (codes "lo") false (reading is-application-x-object Signature rows-o rows-elf no-rows any-lead ∷ [])
     ∷ key Extension (codes "aab") false (reading is-application-x-apkm Signature no-rows rows-apk-jar-zip no-rows any-lead ∷ [])
-    ∷ key Extension (codes "dotm") false (reading is-application-vnd-ms-word-template-macroenabled-12 Signature no-rows rows-docx-application-x-ole-storage-zip no-rows any-lead ∷ [])
+    ∷ key Extension (codes "dotm") false (reading is-application-vnd-ms-word-template-macroenabled-12 Signature no-rows rows-docm-docx-application-x-ole-storage-zip no-rows any-lead ∷ [])
     ∷ key Extension (codes "p7s") false (reading is-application-pkcs7-signature Signature no-rows rows-der-p7b-pem no-rows any-lead ∷ [])
     ∷ key Extension (codes "psv") false (reading is-text-x-psv Text no-rows rows-txt no-rows any-lead ∷ [])
     ∷ key Extension (codes "etx") false (reading is-text-x-setext Text no-rows rows-txt no-rows any-lead ∷ [])
