@@ -1,0 +1,38 @@
+-- Segments: how long what they leave is.
+use Rattle.std.proofs.Common.{◌≡◌, ◌==◌, ◌∷◌, [], ℕ, ◌+◌, ◌<◌, ◌≤◌, List, Bool, true, false, None, arith, drop, get_or, length, length-drop, refl, if◌then◌else◌}
+use Rattle.mime_types.specs.Segment.{bare, named, quoted, quoted_len, segment, valued}
+use Rattle.mime_types.specs.Text.{behind, ends_name, front, is_semicolon, lower, onward, trim_start, before}
+
+pub closes : (t : List ℕ) → 0 < length t → get_or t 0 0 ≡ 0x22 → quoted_len t ≡ 0
+closes [] some is = refl
+closes (x ∷ []) some is = let e : x ≡ 0x22 = is in rw e refl
+closes (x ∷ y ∷ s) some is = let e : x ≡ 0x22 = is in rw e refl
+
+behind_shorter : (t : List ℕ) → length (behind is_semicolon t) ≤ length t
+behind_shorter t = omega (arith, length-drop (before is_semicolon t + 1) t)
+
+bare_shorter : (name s : List ℕ) → length (bare name s).rest ≤ length s
+bare_shorter name s = behind_shorter s
+
+valued_shorter : (name s : List ℕ) → length (valued name s).rest ≤ length s
+valued_shorter name [] = bare_shorter name []
+valued_shorter name (x ∷ s) = cases (x == 0x22)
+  where
+    cases : (b : Bool) → length (if b then quoted name s else bare name (x ∷ s)).rest ≤ length (x ∷ s)
+    cases true = let less = behind_shorter (drop (quoted_len s) s) in omega (arith, length-drop (quoted_len s) s)
+    cases false = bare_shorter name (x ∷ s)
+
+named_shorter : (name s : List ℕ) (n : ℕ) → length s ≤ n → 0 < n → length (named name s).rest < n
+named_shorter name [] n fits some = omega arith
+named_shorter name (x ∷ s) n fits some = cases (x == 0x3D)
+  where
+    cases : (b : Bool) → length (if b then valued name s else record { written = None; rest = s }).rest < n
+    cases true = let less = valued_shorter name s in omega arith
+    cases false = omega arith
+
+-- a segment takes a byte at least
+pub leaves_less : (s : List ℕ) → 0 < length s → length (segment s).rest < length s
+unfolding segment
+leaves_less s some =
+    named_shorter (lower (front ends_name (trim_start s))) (onward ends_name (trim_start s)) (length s)
+    (omega (arith, length-drop {A = ℕ})) some

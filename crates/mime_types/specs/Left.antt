@@ -1,0 +1,10 @@
+-- What is left of parameters that come one after the other.
+use Rattle.std.specs.Prelude.{List}
+use Rattle.mime_types.specs.Mime.{Parameter}
+use Rattle.mime_types.specs.Parameters.{kept}
+use Rattle.mime_types.specs.Segment.{written, written_by}
+use Rattle.mime_types.specs.declared.parameters.Parameters.{Parameters}
+
+-- those that count, behind those that were written before them
+abbrev pub left : Parameters → List Parameter
+left p = kept (written_by p.count p.tail.now) (written p.rest.now)

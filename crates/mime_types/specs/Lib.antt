@@ -1,0 +1,11 @@
+pub mod Bytes
+pub mod Text
+pub mod Mime
+pub mod Segment
+pub mod Parameters
+pub mod Parse
+pub mod Seen
+pub mod Groups
+pub mod Left
+pub mod Serialize
+pub mod Wrote

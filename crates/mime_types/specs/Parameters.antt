@@ -1,0 +1,30 @@
+-- The parameters that count, of those that are written.
+use Rattle.std.specs.Prelude.{◌&&◌, Bool, List, [], ◌∷◌, ◌++◌, ℕ, not, if◌then◌else◌}
+use Rattle.std.specs.List.{list_all, list_any}
+use Rattle.std.specs.Str.{bytes_eq}
+use Rattle.mime_types.specs.Bytes.{is_quotable}
+use Rattle.mime_types.specs.Mime.{Parameter}
+use Rattle.mime_types.specs.Segment.{written}
+use Rattle.mime_types.specs.Text.{is_a_token}
+
+-- the name is a token, and the value may stand in quotes
+abbrev pub is_valid : Parameter → Bool
+is_valid p = is_a_token p.name && list_all is_quotable p.value
+
+-- a valid one, with that name
+abbrev pub is_named : List ℕ → Parameter → Bool
+is_named name p = is_valid p && bytes_eq p.name name
+
+-- it is valid, and no valid one of these has its name
+abbrev pub is_first : List Parameter → Parameter → Bool
+is_first earlier p = is_valid p && not (list_any (is_named p.name) earlier)
+
+-- of those that are written behind others, the first valid one of each name
+unfoldable pub kept : List Parameter → List Parameter → List Parameter
+kept earlier [] = []
+kept earlier (p ∷ ps) =
+    if is_first earlier p then p ∷ kept (earlier ++ p ∷ []) ps else kept (earlier ++ p ∷ []) ps
+
+-- the parameters of what stands behind a subtype
+abbrev pub parameters : List ℕ → List Parameter
+parameters tail = kept [] (written tail)

@@ -1,0 +1,22 @@
+//! MIME types: how they are read, and what groups they are in, by the MIME Sniffing Standard.
+#![tactic(auto)]
+
+mod bytes;
+mod first;
+mod groups;
+mod mime_type;
+mod parameter;
+mod parameters;
+mod read;
+mod segment;
+#[cfg(test)]
+mod tests;
+mod text;
+mod value;
+mod write;
+
+pub use mime_type::MimeType;
+pub use parameter::{Parameter, Value};
+pub use parameters::Parameters;
+pub use read::parse;
+pub use write::WriteError;

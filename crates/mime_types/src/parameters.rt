@@ -1,0 +1,68 @@
+//! The parameters of a MIME type, one after the other.
+ghost use Rattle.mime_types.specs.Segment.{left_by};
+ghost use Rattle.std.specs.Prelude.{◌≡◌, ◌≤◌, ◌+◌, length};
+
+use crate::first::is_first;
+use crate::parameter::Parameter;
+use crate::segment::first_segment;
+
+/// The parameters that count, in order: of those that are written, the first valid one of each name.
+#[derive(Drop)]
+pub struct Parameters<'a> {
+    tail: &'a [u8],
+    rest: &'a [u8],
+    count: usize,
+    ghost place: { left_by count tail.now ≡ rest.now },
+    ghost bound: { count + length rest.now ≤ length tail.now },
+}
+
+impl<'a> Parameters<'a> {
+    ghost use Rattle.std.specs.Prelude.{◌<◌, ◌++◌, ◌∷◌, [], MatchOption, option_map, option_to_list};
+    ghost use Rattle.mime_types.specs.Parameters.{parameters};
+    ghost use Rattle.mime_types.specs.Left.{left};
+    ghost use Rattle.mime_types.specs.Segment.{written, written_by};
+    ghost use Rattle.mime_types.specs.Seen.{parameter_seen};
+
+    /// All of what stands behind a subtype.
+    pub(crate) fn new(tail: &'a [u8]) -> Self
+        ensures { left result ≡ parameters tail.now }
+    {
+        Parameters {
+            tail,
+            rest: tail,
+            count: 0,
+        }
+    }
+
+    /// The next one.
+    pub fn next(&mut self) -> Option<Parameter<'a>>
+        ensures { MatchOption result (left self.old ≡ [])
+            (λ p. left self.old ≡ parameter_seen p ∷ left self.new) }
+    {
+        while !self.rest.is_empty() {
+            let count = self.count;
+            if let Some(found) = self.next_written() {
+                if is_first(self.tail, count, &found) {
+                    return Some(found);
+                }
+            }
+        }
+        None
+    }
+
+    /// What the next segment writes, if it does.
+    fn next_written(&mut self) -> Option<Parameter<'a>>
+        requires { 0 < length self.old.rest.now }
+        ensures tail { self.new.tail.now ≡ self.old.tail.now }
+        ensures shorter { length self.new.rest.now < length self.old.rest.now }
+        ensures later { written self.old.rest.now
+            ≡ option_to_list (option_map parameter_seen result) ++ written self.new.rest.now }
+        ensures earlier { written_by self.new.count self.new.tail.now
+            ≡ written_by self.old.count self.old.tail.now ++ option_to_list (option_map parameter_seen result) }
+    {
+        let segment = first_segment(self.rest);
+        self.rest = segment.rest;
+        self.count += 1;
+        segment.written
+    }
+}

@@ -1,0 +1,113 @@
+//! What browsers' tests and other programs say of texts.
+use crate::{MimeType, parse};
+use std::test::Fail;
+
+mod generated;
+
+#[test]
+fn as_others_parse_the_first(rt: HostRuntime) -> Result<(), Fail> {
+    for (i, (text, wanted)) in generated::PARSED_1.iter().enumerate() {
+        assert!(rt; is_said(*text, *wanted), "text {i}");
+    }
+    Ok(())
+}
+
+#[test]
+fn as_others_parse_the_second(rt: HostRuntime) -> Result<(), Fail> {
+    for (i, (text, wanted)) in generated::PARSED_2.iter().enumerate() {
+        assert!(rt; is_said(*text, *wanted), "text {i}");
+    }
+    Ok(())
+}
+
+#[test]
+fn as_others_parse_the_third(rt: HostRuntime) -> Result<(), Fail> {
+    for (i, (text, wanted)) in generated::PARSED_3.iter().enumerate() {
+        assert!(rt; is_said(*text, *wanted), "text {i}");
+    }
+    Ok(())
+}
+
+#[test]
+fn as_others_parse_the_fourth(rt: HostRuntime) -> Result<(), Fail> {
+    for (i, (text, wanted)) in generated::PARSED_4.iter().enumerate() {
+        assert!(rt; is_said(*text, *wanted), "text {i}");
+    }
+    Ok(())
+}
+
+#[test]
+fn as_others_parse_the_fifth(rt: HostRuntime) -> Result<(), Fail> {
+    for (i, (text, wanted)) in generated::PARSED_5.iter().enumerate() {
+        assert!(rt; is_said(*text, *wanted), "text {i}");
+    }
+    Ok(())
+}
+
+#[test]
+fn as_others_parse_the_sixth(rt: HostRuntime) -> Result<(), Fail> {
+    for (i, (text, wanted)) in generated::PARSED_6.iter().enumerate() {
+        assert!(rt; is_said(*text, *wanted), "text {i}");
+    }
+    Ok(())
+}
+
+#[test]
+fn as_others_parse_the_seventh(rt: HostRuntime) -> Result<(), Fail> {
+    for (i, (text, wanted)) in generated::PARSED_7.iter().enumerate() {
+        assert!(rt; is_said(*text, *wanted), "text {i}");
+    }
+    Ok(())
+}
+
+#[test]
+fn as_others_parse_the_eighth(rt: HostRuntime) -> Result<(), Fail> {
+    for (i, (text, wanted)) in generated::PARSED_8.iter().enumerate() {
+        assert!(rt; is_said(*text, *wanted), "text {i}");
+    }
+    Ok(())
+}
+
+fn is_said(text: &[u8], wanted: &[u8]) -> bool {
+    match parse(text) {
+        Some(found) => is_written(&found, wanted),
+        None => wanted.is_empty(),
+    }
+}
+
+fn is_written(found: &MimeType<'_>, wanted: &[u8]) -> bool {
+    let mut out = [0; 1024];
+    match found.write(&mut out) {
+        Ok(end) => end <= out.len() && &out[..end] == wanted,
+        Err(_) => false,
+    }
+}
+
+#[test]
+fn as_others_group(rt: HostRuntime) -> Result<(), Fail> {
+    for (i, (text, wanted)) in generated::GROUPED.iter().enumerate() {
+        let found = parse(*text).ok_or("no MIME type")?;
+        assert_eq!(rt; groups(&found), *wanted, "text {i}");
+    }
+    Ok(())
+}
+
+/// A bit for each group, the lowest for images.
+fn groups(found: &MimeType<'_>) -> u16 {
+    let mut bits = 0;
+    for is_in in [
+        found.is_json(),
+        found.is_javascript(),
+        found.is_scriptable(),
+        found.is_html(),
+        found.is_xml(),
+        found.is_archive(),
+        found.is_zip_based(),
+        found.is_font(),
+        found.is_audio_or_video(),
+        found.is_image(),
+    ] {
+        bits = (bits & 0x7FFF) << 1 | u16::from(is_in);
+    }
+    bits
+}

@@ -1,0 +1,178 @@
+//! The text of a MIME type, written into a buffer.
+ghost use Rattle.std.specs.Prelude.{◌≡◌, ◌↔◌, ◌≤◌, ◌∷◌, ◌+◌, ◌<◌, [], length, IsTrue, IsSome};
+ghost use Rattle.mime_types.specs.Segment.{left_by};
+ghost use Rattle.mime_types.specs.Parameters.{parameters};
+ghost use Rattle.mime_types.specs.Seen.{parameter_seen, value_seen};
+ghost use Rattle.mime_types.specs.Serialize.{escaped, in_quotes, parameter_text, parameters_text, value_text};
+ghost use Rattle.mime_types.specs.Text.{lower};
+ghost use Rattle.mime_types.specs.Wrote.{Wrote};
+
+use crate::mime_type::MimeType;
+use crate::parameter::{Parameter, Value};
+use crate::parameters::Parameters;
+use crate::segment::first_segment;
+use crate::value::{is_token_value, split_value};
+
+/// Why a text was not written.
+#[derive(Clone, Copy, Debug, Drop)]
+pub enum WriteError {
+    /// There are more than 256 segments behind the subtype, each of which would be compared with those before it.
+    TooManyParameters,
+    /// The text is longer than the buffer.
+    NoRoom,
+}
+
+fn write_byte(out: &mut [u8], at: usize, byte: u8) -> Option<usize>
+    requires { at ≤ length out.old }
+    ensures { Wrote out.old out.new at (byte ∷ []) result }
+{
+    if at == out.len() {
+        return None;
+    }
+    out[at] = byte;
+    Some(at + 1)
+}
+
+fn write_lower(out: &mut [u8], at: usize, text: &[u8]) -> Option<usize>
+    requires { at ≤ length out.old }
+    ensures { Wrote out.old out.new at (lower text.now) result }
+{
+    let mut end = at;
+    for byte in text {
+        end = write_byte(out, end, byte.to_ascii_lowercase())?;
+    }
+    Some(end)
+}
+
+fn write_plain(out: &mut [u8], at: usize, value: &Value<'_>) -> Option<usize>
+    requires { at ≤ length out.old }
+    ensures { Wrote out.old out.new at (value_seen value.now) result }
+{
+    let mut end = at;
+    let mut left = *value;
+    while let Some((byte, rest)) = split_value(&left) {
+        end = write_byte(out, end, byte)?;
+        left = rest;
+    }
+    Some(end)
+}
+
+fn write_escaped(out: &mut [u8], at: usize, value: &Value<'_>) -> Option<usize>
+    requires { at ≤ length out.old }
+    ensures { Wrote out.old out.new at (escaped (value_seen value.now)) result }
+{
+    let mut end = at;
+    let mut left = *value;
+    while let Some((byte, rest)) = split_value(&left) {
+        end = write_escaped_byte(out, end, byte)?;
+        left = rest;
+    }
+    Some(end)
+}
+
+fn write_escaped_byte(out: &mut [u8], at: usize, byte: u8) -> Option<usize>
+    requires { at ≤ length out.old }
+    ensures { Wrote out.old out.new at (escaped (byte ∷ [])) result }
+{
+    if byte == b'"' || byte == b'\\' {
+        let at = write_byte(out, at, b'\\')?;
+        return write_byte(out, at, byte);
+    }
+    write_byte(out, at, byte)
+}
+
+fn write_quoted(out: &mut [u8], at: usize, value: &Value<'_>) -> Option<usize>
+    requires { at ≤ length out.old }
+    ensures { Wrote out.old out.new at (in_quotes (value_seen value.now)) result }
+{
+    let at = write_byte(out, at, b'"')?;
+    let at = write_escaped(out, at, value)?;
+    write_byte(out, at, b'"')
+}
+
+fn write_value(out: &mut [u8], at: usize, value: &Value<'_>) -> Option<usize>
+    requires { at ≤ length out.old }
+    ensures { Wrote out.old out.new at (value_text (value_seen value.now)) result }
+{
+    if is_token_value(value) {
+        return write_plain(out, at, value);
+    }
+    write_quoted(out, at, value)
+}
+
+fn write_parameter(out: &mut [u8], at: usize, parameter: &Parameter<'_>) -> Option<usize>
+    requires { at ≤ length out.old }
+    ensures { Wrote out.old out.new at (parameter_text (parameter_seen parameter.now)) result }
+{
+    let at = write_byte(out, at, b';')?;
+    let at = write_lower(out, at, parameter.name)?;
+    let at = write_byte(out, at, b'=')?;
+    write_value(out, at, &parameter.value)
+}
+
+fn write_parameters(out: &mut [u8], at: usize, tail: &[u8]) -> Option<usize>
+    requires { at ≤ length out.old }
+    ensures { Wrote out.old out.new at (parameters_text (parameters tail.now)) result }
+{
+    let mut end = at;
+    let mut left = Parameters::new(tail);
+    while let Some(parameter) = left.next() {
+        end = write_parameter(out, end, &parameter)?;
+    }
+    Some(end)
+}
+
+/// How many segments behind a subtype are told apart: each parameter is compared with those before it.
+pub const MOST_SEGMENTS: usize = 256;
+
+impl<'a> MimeType<'a> {
+    ghost use Rattle.std.specs.Prelude.{IfSome};
+    ghost use Rattle.mime_types.specs.Left.{left};
+    ghost use Rattle.mime_types.specs.Seen.{mime_of};
+    ghost use Rattle.mime_types.specs.Serialize.{serialize};
+    ghost use Rattle.mime_types.specs.Wrote.{HasFew, IsWritten};
+
+    /// The parameters that count, or none if there are more than 256 segments.
+    pub fn parameters(&self) -> Option<Parameters<'a>>
+        ensures few { IsSome result ↔ HasFew MOST_SEGMENTS self.now }
+        ensures all { IfSome result (λ p. left p ≡ parameters self.now.tail.now) }
+    {
+        if has_few(self.tail) {
+            return Some(Parameters::new(self.tail));
+        }
+        None
+    }
+
+    /// Writes the text of the MIME type, and returns how long it is.
+    pub fn write(&self, out: &mut [u8]) -> Result<usize, WriteError>
+        ensures { IsWritten MOST_SEGMENTS self.now out.old out.new result }
+    {
+        if !has_few(self.tail) {
+            return Err(WriteError::TooManyParameters);
+        }
+        match self.write_text(out) {
+            Some(end) => Ok(end),
+            None => Err(WriteError::NoRoom),
+        }
+    }
+
+    fn write_text(&self, out: &mut [u8]) -> Option<usize>
+        ensures { Wrote out.old out.new 0 (serialize (mime_of self.now)) result }
+    {
+        let at = write_lower(out, 0, self.type_name)?;
+        let at = write_byte(out, at, b'/')?;
+        let at = write_lower(out, at, self.subtype)?;
+        write_parameters(out, at, self.tail)
+    }
+}
+
+/// Whether there are no more than 256 segments.
+fn has_few(tail: &[u8]) -> bool
+    ensures { IsTrue result ↔ (left_by MOST_SEGMENTS tail.now ≡ []) }
+{
+    let mut rest = tail;
+    for i in 0..MOST_SEGMENTS {
+        rest = first_segment(rest).rest;
+    }
+    rest.is_empty()
+}
