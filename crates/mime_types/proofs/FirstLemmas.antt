@@ -59,7 +59,7 @@ and_swapped true false = refl
 and_swapped false true = refl
 and_swapped false false = refl
 
-kept_case : (e : List Parameter) (p : Parameter) (ps : List Parameter) (b : Bool) → is_first e p ≡ b
+pub kept_case : (e : List Parameter) (p : Parameter) (ps : List Parameter) (b : Bool) → is_first e p ≡ b
     → kept e (p ∷ ps) ≡ (if b then p ∷ kept (e ++ p ∷ []) ps else kept (e ++ p ∷ []) ps)
 unfolding kept
 kept_case e p ps b is = ap (λ b. if b then p ∷ kept (e ++ p ∷ []) ps else kept (e ++ p ∷ []) ps) is

@@ -5,3 +5,7 @@ pub mod SegmentLemmas
 pub mod WrittenLemmas
 pub mod FirstLemmas
 pub mod WroteLemmas
+pub mod CutLemmas
+pub mod JoinLemmas
+pub mod KeptLemmas
+pub mod AgainLemmas

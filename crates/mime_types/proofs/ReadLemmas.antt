@@ -47,3 +47,6 @@ module _ (t a b tail : List ℕ) (type_is : a ≡ type_text t) (subtype_is : b �
 
   pub no_subtype : is_a_token b ≡ false → (m : Mime) → (nothing ≡ Some m) ↔ Parsed t m
   no_subtype bad m = (λ e. absurd (no_mime m e), λ p. absurd (false≢true (sym bad ∙ ap is_a_token subtype_is ∙ p.subtype_token)))
+
+pub equal_mime : (m n : Mime) → m.kind.type_name ≡ n.kind.type_name → m.kind.subtype ≡ n.kind.subtype → m.parameters ≡ n.parameters → m ≡ n
+equal_mime m n e f g = one_mime m n (same_mime m.kind.type_name m.kind.subtype m.parameters n e f g)

@@ -1,5 +1,5 @@
 -- Texts that are written one behind the other.
-use Rattle.std.proofs.Common.{◌≡◌, ◌∙◌, ◌++◌, ◌∷◌, [], ℕ, ◌+◌, ◌<◌, ◌≤◌, List, Option, None, Some, ap, append_assoc, arith, length, length-append, subst, sym, take, refl}
+use Rattle.std.proofs.Common.{◌≡◌, ◌∙◌, ◌++◌, ◌∷◌, [], ℕ, ◌≤◌, List, Option, None, Some, ap, append_assoc, arith, length, length-append, subst, sym, take, refl}
 use Rattle.std.proofs.lemmas.List.{append-nil}
 use Rattle.mime_types.specs.Mime.{Parameter}
 use Rattle.mime_types.specs.Serialize.{parameter_text, parameters_text}

@@ -9,3 +9,4 @@ pub mod Groups
 pub mod Left
 pub mod Serialize
 pub mod Wrote
+pub mod Laws

@@ -4,6 +4,7 @@
 mod bytes;
 mod first;
 mod groups;
+pub mod laws;
 mod mime_type;
 mod parameter;
 mod parameters;

@@ -1,4 +1,4 @@
-use Rattle.std.proofs.Common.{Some, ap, arith, drop}
+use Rattle.std.proofs.Common.{Some, ap, drop}
 use Rattle.std.proofs.lemmas.List.{drop_all}
 use Rattle.mime_types.specs.Text.{lower}
 use Rattle.mime_types.proofs.WroteLemmas.{wrote_rest}
