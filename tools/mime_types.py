@@ -11,7 +11,7 @@ GROUPS = ["image", "audio or video", "font", "ZIP-based", "archive", "XML", "HTM
 HEAD = """//! Made by `tools/tables` from vectors/mime_types.tsv: texts and what others say of them.
 
 macro_rules! cases {
-    ($($text:literal => $answer:literal;)*) => {
+    ($($text:literal => $answer:expr;)*) => {
         &[$(($text, $answer)),*]
     };
 }
@@ -24,6 +24,22 @@ GROUPED = """
 /// A text, and a bit for each of its groups.
 pub(super) static GROUPED: &[(&[u8], u16)] = cases![
 """
+MINIMIZED = """
+/// A text, whether its essence is supported, and the place among the variants of `Minimal`.
+pub(super) static MINIMIZED: &[(&[u8], (bool, u8))] = cases![
+"""
+NOSNIFF = """
+/// The value of `X-Content-Type-Options`, and whether it forbids to sniff.
+pub(super) static NOSNIFF: &[(&[u8], bool)] = cases![
+"""
+BLOCKED = """
+/// A text, the place of the destination among the variants of `Destination`, and whether `nosniff` blocks it.
+pub(super) static BLOCKED: &[(&[u8], (u8, bool))] = cases![
+"""
+# The answers of minimizing that are no essence, in the order of the variants.
+FIXED = ["text/javascript", "application/json", "image/svg+xml", "application/xml", None, ""]
+SCRIPTS = "audioworklet paintworklet script serviceworker sharedworker worker".split()
+WHITE = "\t\n\r "
 
 
 def told(text):
@@ -37,9 +53,29 @@ def asked(name):
             yield json.loads(inputs), json.loads(answer)
 
 
+def minimized():
+    for (text, supported), answer in asked("minimize"):
+        is_supported = text.partition(";")[0].strip(WHITE).lower() in supported
+        yield f"    {told(text)} => ({str(is_supported).lower()}, {FIXED.index(answer) if answer in FIXED else 4});\n"
+
+
+def nosniff():
+    for values, answer in asked("nosniff"):
+        yield f"    {told(', '.join(it.strip(WHITE) for it in values))} => {str(answer).lower()};\n"
+
+
+def blocked():
+    """Those with one type at most: of more the last that can be read counts, which is a call of its own."""
+    for (options, types, destination), answer in asked("blocked"):
+        if options == ["nosniff"] and len(types) <= 1:
+            number = 0 if destination in SCRIPTS else 1 if destination == "style" else 2
+            yield f"    {told(''.join(types))} => ({number}, {str(answer).lower()});\n"
+
+
 def made():
     parsed = [f"    {told(text)} => {told(answer or '')};\n" for (text,), answer in asked("parse")]
     size = -(-len(parsed) // LISTS)
     lists = (PARSED.format(number=i // size + 1) + "".join(parsed[i:i + size]) + "];\n" for i in range(0, len(parsed), size))
     grouped = (f"    {told(text)} => 0b{sum(1 << GROUPS.index(it) for it in answer):010b};\n" for (text,), answer in asked("groups"))
-    yield "crates/mime_types/src/tests/generated.rt", HEAD + "".join(lists) + GROUPED + "".join(grouped) + "];\n"
+    yield "crates/mime_types/src/tests/generated.rt", HEAD + "".join(lists) + GROUPED + "".join(grouped) + "];\n" + "".join(
+        head + "".join(lines) + "];\n" for head, lines in ((MINIMIZED, minimized()), (NOSNIFF, nosniff()), (BLOCKED, blocked())))

@@ -9,3 +9,4 @@ pub mod CutLemmas
 pub mod JoinLemmas
 pub mod KeptLemmas
 pub mod AgainLemmas
+pub mod BlankLemmas

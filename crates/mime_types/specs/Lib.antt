@@ -10,3 +10,5 @@ pub mod Left
 pub mod Serialize
 pub mod Wrote
 pub mod Laws
+pub mod Minimal
+pub mod Nosniff

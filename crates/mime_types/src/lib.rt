@@ -6,6 +6,8 @@ mod first;
 mod groups;
 pub mod laws;
 mod mime_type;
+mod minimal;
+mod nosniff;
 mod parameter;
 mod parameters;
 mod read;
@@ -17,6 +19,8 @@ mod value;
 mod write;
 
 pub use mime_type::MimeType;
+pub use minimal::Minimal;
+pub use nosniff::{Destination, is_blocked, is_nosniff};
 pub use parameter::{Parameter, Value};
 pub use parameters::Parameters;
 pub use read::parse;

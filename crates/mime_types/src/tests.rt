@@ -1,5 +1,5 @@
 //! What browsers' tests and other programs say of texts.
-use crate::{MimeType, parse};
+use crate::{Destination, MimeType, Minimal, is_blocked, is_nosniff, parse};
 use std::test::Fail;
 
 mod generated;
@@ -110,4 +110,45 @@ fn groups(found: &MimeType<'_>) -> u16 {
         bits = (bits & 0x7FFF) << 1 | u16::from(is_in);
     }
     bits
+}
+
+#[test]
+fn as_others_minimize(rt: HostRuntime) -> Result<(), Fail> {
+    for (i, (text, (is_supported, wanted))) in generated::MINIMIZED.iter().enumerate() {
+        let found = parse(*text).ok_or("no MIME type")?;
+        assert_eq!(rt; place(found.minimize(*is_supported)), *wanted, "text {i}");
+    }
+    Ok(())
+}
+
+fn place(minimal: Minimal) -> u8 {
+    match minimal {
+        Minimal::JavaScript => 0,
+        Minimal::Json => 1,
+        Minimal::Svg => 2,
+        Minimal::Xml => 3,
+        Minimal::Essence => 4,
+        Minimal::Nothing => 5,
+    }
+}
+
+#[test]
+fn as_others_forbid(rt: HostRuntime) -> Result<(), Fail> {
+    for (i, (value, wanted)) in generated::NOSNIFF.iter().enumerate() {
+        assert_eq!(rt; is_nosniff(*value), *wanted, "value {i}");
+    }
+    Ok(())
+}
+
+#[test]
+fn as_others_block(rt: HostRuntime) -> Result<(), Fail> {
+    for (i, (text, (place, wanted))) in generated::BLOCKED.iter().enumerate() {
+        let destination = match *place {
+            0 => Destination::Script,
+            1 => Destination::Style,
+            _ => Destination::Other,
+        };
+        assert_eq!(rt; is_blocked(parse(*text), destination), *wanted, "text {i}");
+    }
+    Ok(())
 }

@@ -1,7 +1,7 @@
 //! Made by `tools/tables` from vectors/mime_types.tsv: texts and what others say of them.
 
 macro_rules! cases {
-    ($($text:literal => $answer:literal;)*) => {
+    ($($text:literal => $answer:expr;)*) => {
         &[$(($text, $answer)),*]
     };
 }
@@ -1239,4 +1239,102 @@ pub(super) static GROUPED: &[(&[u8], u16)] = cases![
     b"APPLICATION/pdf " => 0b0010000000;
     b"text/css " => 0b0000000000;
     b"text/css;b=\"c\"" => 0b0000000000;
+];
+
+/// A text, whether its essence is supported, and the place among the variants of `Minimal`.
+pub(super) static MINIMIZED: &[(&[u8], (bool, u8))] = cases![
+    b"application/ecmascript" => (false, 0);
+    b"application/javascript" => (false, 0);
+    b"application/x-ecmascript" => (false, 0);
+    b"application/x-javascript" => (false, 0);
+    b"text/ecmascript" => (false, 0);
+    b"text/javascript1.1" => (false, 0);
+    b"text/javascript1.2" => (false, 0);
+    b"text/javascript1.3" => (false, 0);
+    b"text/javascript1.4" => (false, 0);
+    b"text/javascript1.5" => (false, 0);
+    b"text/jscript" => (false, 0);
+    b"text/livescript" => (false, 0);
+    b"text/x-ecmascript" => (false, 0);
+    b"application/json" => (false, 1);
+    b"text/json" => (false, 1);
+    b"application/ld+json" => (false, 1);
+    b"image/svg+xml" => (false, 2);
+    b"text/xml" => (false, 3);
+    b"application/xhtml+xml" => (false, 3);
+    b"image/png;7a752164-f10e-11ed-a05b-0242ac120003" => (true, 4);
+    b"text/xml;7a758876-f40e-11ee-998b-0242abgh0003" => (false, 3);
+    b"image/png" => (true, 4);
+    b"image/jpe" => (false, 5);
+    b"application/png" => (false, 5);
+    b"random/png" => (false, 5);
+    b"application/abcd" => (false, 5);
+    b"text/xml;x=y" => (false, 3);
+    b"image/svg+xml;charset=utf-8" => (false, 2);
+    b"x/y+xml" => (false, 3);
+    b"x/y+json" => (false, 1);
+    b"TEXT/JScript" => (false, 0);
+    b"text/html" => (false, 5);
+    b"text/plain" => (false, 5);
+    b"font/woff" => (false, 5);
+    b"application/ld+json" => (false, 1);
+    b"image/svg+xml;a=b" => (false, 2);
+];
+
+/// The value of `X-Content-Type-Options`, and whether it forbids to sniff.
+pub(super) static NOSNIFF: &[(&[u8], bool)] = cases![
+    b"NOSNIFF" => true;
+    b"nosniff" => true;
+    b"nosniff,,@#$#%%&^&^*()()11!" => true;
+    b"@#$#%%&^&^*()()11!,nosniff" => false;
+    b"nosniff, no" => true;
+    b"no, nosniff" => false;
+    b", nosniff" => false;
+    b"nosniff, nosniff" => true;
+    b"nosniff\x0B" => false;
+    b"nosniff\x0B,nosniff" => false;
+    b"\"nosniFF\"" => false;
+    b"NosNiFF" => true;
+    b"sniff, nosniff" => false;
+    b"NoSniff" => true;
+    b"nosniFF" => true;
+    b"nosniff" => true;
+    b"nosniff,x" => true;
+    b"NOSNIFF , y" => true;
+];
+
+/// A text, the place of the destination among the variants of `Destination`, and whether `nosniff` blocks it.
+pub(super) static BLOCKED: &[(&[u8], (u8, bool))] = cases![
+    b"text/javascript;charset=windows-1252" => (0, false);
+    b"text/javascript;\";charset=windows-1252" => (0, false);
+    b"\"text/javascript\"" => (0, true);
+    b"text/ javascript" => (0, true);
+    b"" => (0, true);
+    b"x/x" => (0, true);
+    b"text/html" => (0, true);
+    b"text/json" => (0, true);
+    b"text/javascript" => (0, false);
+    b"text/ecmascript;blah" => (0, false);
+    b"text/javascript1.0" => (0, false);
+    b"" => (0, true);
+    b"x/x" => (0, true);
+    b"text/html" => (0, true);
+    b"text/javascript" => (0, false);
+    b"text/ecmascript" => (0, false);
+    b"text/ecmascript;yay" => (0, false);
+    b"" => (1, true);
+    b"x" => (1, true);
+    b"text/json" => (1, true);
+    b"text/css" => (1, false);
+    b"text/css;charset=utf-8" => (1, false);
+    b"text/css;blah" => (1, false);
+    b"" => (2, false);
+    b"x" => (2, false);
+    b"x/x" => (2, false);
+    b"image/gif" => (2, false);
+    b"image/png" => (2, false);
+    b"image/svg+xml" => (2, false);
+    b"text/html" => (2, false);
+    b"application/xml" => (2, false);
+    b"application/blah+xml" => (2, false);
 ];
