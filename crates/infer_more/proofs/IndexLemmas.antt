@@ -120,11 +120,11 @@ candidates_here b i place x (e ∷ entries) lt at h = elim (or_cases (e.row == i
 ]
 
 module _ (by_place : (place : ℕ) (t buf : List ℕ) → IsTrue (stands place t buf) ↔ StandsByPlace place t buf) (b : List ℕ) (i : ℕ) where
-  covered_in : (a : Alternative) (all some : List Entry) → IsTrue (list_any (λ e. is_tested (has_entry i all e.place) e.place a) some) → IsTrue (fits b a)
+  covered_in : (a : Alternative) (all some : List Entry) → IsTrue (list_any (λ e. e.row == i && is_tested (has_entry i all e.place) e.place a) some) → IsTrue (fits b a)
       → IsTrue (is_listed (candidates b all) i)
   covered_in a all [] h k = absurd (cc)
-  covered_in a all (e ∷ some) h k = elim (or_cases (is_tested (has_entry i all e.place) e.place a) _ h) [
-    | inl here ↦ let at = passes by_place (has_entry i all e.place) e.place b a here k in candidates_here b i e.place (slice_index b e.place) all at.0 refl at.1
+  covered_in a all (e ∷ some) h k = elim (or_cases (e.row == i && is_tested (has_entry i all e.place) e.place a) _ h) [
+    | inl here ↦ let at = passes by_place (has_entry i all e.place) e.place b a (both_right (e.row == i) _ here) k in candidates_here b i e.place (slice_index b e.place) all at.0 refl at.1
     | inr later ↦ covered_in a all some later k
   ]
 

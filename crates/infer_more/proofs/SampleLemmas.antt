@@ -61,5 +61,13 @@ module _ (by_place : ByPlace) (exclude : Deep.Apart) (leads : (s : BuiltIn) → 
   unfolding further archives code headers images late markup media packages records disks elements games kinds office others packed papers pictures rasters roots sounds stores texts built_in.table stands le16 le32 be16 be32 header_sum
   then_reach = (refl, (refl, (refl, (refl, (refl, (refl, (refl, (refl, (refl, (refl, (refl, (refl, (refl, (refl, (refl, (refl, tt))))))))))))))))
 
+  third_reach : NoneRefused (λ i. is_proved (reaches i)) FURTHER_COUNT 512 16
+  unfolding further archives code headers images late markup media packages records disks elements games kinds office others packed papers pictures rasters roots sounds stores texts built_in.table stands le16 le32 be16 be32 header_sum
+  third_reach = (refl, (refl, (refl, (refl, (refl, (refl, (refl, (refl, (refl, (refl, (refl, (refl, (refl, (refl, (refl, (refl, tt))))))))))))))))
+
+  last_reach : NoneRefused (λ i. is_proved (reaches i)) FURTHER_COUNT 768 16
+  unfolding further archives code headers images late markup media packages records disks elements games kinds office others packed papers pictures rasters roots sounds stores texts built_in.table stands le16 le32 be16 be32 header_sum
+  last_reach = (refl, (refl, (refl, (refl, (refl, (refl, (refl, (refl, (refl, (refl, (refl, (refl, (refl, (refl, (refl, (refl, tt))))))))))))))))
+
   pub row_reaches : (i : ℕ) → i < length further → Reaches i (get_or further i d)
-  row_reaches i lt = proof_of (reaches i) (each_row (λ j. is_proved (reaches j)) (first_reach, then_reach) i lt)
+  row_reaches i lt = proof_of (reaches i) (each_row (λ j. is_proved (reaches j)) (first_reach, then_reach, third_reach, last_reach) i lt)

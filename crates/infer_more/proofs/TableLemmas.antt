@@ -29,11 +29,15 @@ none_behind test (suc m) k s here behind =
     subst (NoneRefused test FURTHER_COUNT s) many
     (here.0, none_behind test m k (s + 16) here.1 (subst (λ t. NoneRefused test FURTHER_COUNT t k) same behind))
 
--- a test that no row fails, as computed of sixteen rows a step, with room for 512: a refusal shows the rows that fail
+-- a test that no row fails, as computed of sixteen rows a step, with room for 1024: a refusal shows the rows that fail
 abbrev pub NoRowFails : (ℕ → Bool) → Type 0
-NoRowFails test = NoneRefused test FURTHER_COUNT 0 16 × NoneRefused test FURTHER_COUNT 256 16
+NoRowFails test =
+    NoneRefused test FURTHER_COUNT 0 16 × NoneRefused test FURTHER_COUNT 256 16
+    × NoneRefused test FURTHER_COUNT 512 16 × NoneRefused test FURTHER_COUNT 768 16
 
 pub each_row : (test : ℕ → Bool) → NoRowFails test → (i : ℕ) → i < length further → IsTrue (test i)
 each_row test none i lt =
     let many = length-further in
-    passed test FURTHER_COUNT 32 (none_behind test 16 16 0 none.0 none.1) (omega arith) i (omega arith)
+    let upper = none_behind test 16 16 512 none.2 none.3 in
+    let all = none_behind test 16 48 0 none.0 (none_behind test 16 32 256 none.1 upper) in
+    passed test FURTHER_COUNT 64 all (omega arith) i (omega arith)

@@ -194,9 +194,9 @@ is_tested test place (at_least n parts) = list_any (is_settled test place) parts
 abbrev pub has_entry : ℕ → List Entry → ℕ → ℕ → Bool
 has_entry i entries place x = list_any (λ e. e.row == i && (e.place == place && e.byte == x)) entries
 
--- at some place of the entries the alternative allows only bytes that row i has an entry for
+-- at the place of some entry of row i the alternative allows only bytes that row i has an entry for
 abbrev pub is_covered : ℕ → fixed.Alternative → List Entry → Bool
-is_covered i a entries = list_any (λ e. is_tested (has_entry i entries e.place) e.place a) entries
+is_covered i a entries = list_any (λ e. e.row == i && is_tested (has_entry i entries e.place) e.place a) entries
 
 -- with that byte at the place the entries have row i
 abbrev pub is_met : ℕ → fixed.Alternative → List Entry → ℕ → ℕ → Bool
