@@ -26,8 +26,18 @@ TEXTS = (
 ).split()
 # How many types, and how many sets of rows, are one list of the definition.
 TYPES, SETS = 256, 128
+# How many slots the rows have, and groups that are shifted together; and the weights of a text's length and of four of its bytes.
+ROW_SLOTS, ROW_GROUPS = 512, 64
+ROW_WEIGHTS = (1, 1031, 67, 259, 17)
+# How many marks there are for each length of a text, of which this one stands for all that are greater.
+MARKS, LONG = 32, 63
 KEYS_CODE = """//! Made by `tools/tables` from names.txt: the keys in the order of their slots, where the slots begin, and the readings.
 use crate::table::{{Asks, Key, Part, Reading, Span, is_loose, keys, readings, span}};
+
+/// For each mark whether a whole name has it.
+pub(crate) static WHOLE_MARKS: [u8; {marks_count}] = [
+{marks}
+];
 
 /// Where the keys of each slot begin, and where those of the last end.
 pub(crate) static STARTS: [u16; {starts_count}] = [
@@ -77,14 +87,29 @@ pub(crate) static ROWS: [Span; {rows_count}] = spans![
 {rows}
 ];
 
-/// The numbers of the rows of the sets, one set behind the other.
-pub(crate) static MEMBERS: [u16; {members_count}] = [
-{members}
+/// The rows of the sets, by the number of the first and how many follow each other, one set behind the other.
+pub(crate) static RANGES: [Span; {ranges_count}] = spans![
+{ranges}
 ];
 
-/// Where the rows of a set stand among these and how many they are.
+/// Where the ranges of a set stand among these and how many they are.
 pub(crate) static SETS: [Span; {sets_count}] = spans![
 {sets}
+];
+
+/// For each mark whether a row has it.
+pub(crate) static ROW_MARKS: [u8; {marks_count}] = [
+{marks}
+];
+
+/// By how many slots each group of texts is shifted, so that each row has a slot of its own.
+pub(crate) static ROW_SHIFTS: [u16; {shifts_count}] = [
+{shifts}
+];
+
+/// The number of the row of each slot. A slot without one has the first row.
+pub(crate) static ROW_SLOTS: [u16; {slots_count}] = [
+{slots}
 ];
 
 static LEADS: &[&[&[u8]]] = lists![
@@ -146,11 +171,13 @@ keys = {keys}
 """
 # The proofs of one part of the keys, which begins behind so many.
 KEYS_PROOF = """-- Made by `tools/tables` from names.txt: code and definition have the same keys of slots {first} to {last}. Each stands in its
--- slot, and none is wrong: if one is, its text stands in the error.
+-- slot, and none is wrong: if one is, its text stands in the error. And each whole name has its mark.
 use Rattle.std.proofs.Common.{{◌≡◌, [], drop, length, map, refl, take}}
 use Rattle.infer_named.proofs.FindLemmas.{{wrong_from}}
+use Rattle.infer_named.proofs.MarkLemmas.{{AreMarked}}
 use Rattle.infer_named.specs.Keys.{name}.{{keys}}
 use Rattle.infer_named.specs.Listed.{{key_listed, key_texts, readings}}
+use Rattle.infer_named.specs.Marks.{{whole_marks}}
 use Rattle.infer_named.specs.Slots.{{starts}}
 use Rattle.infer_named.specs.Types.{{types, {types}}}
 use Rattle.infer_named.specs.declared.table.generated.keys.TheConstants.{{KEYS}}
@@ -166,12 +193,17 @@ many = refl
 pub right : wrong_from starts {end} {start} keys ≡ []
 unfolding keys starts types {types_names}
 right = refl
+
+pub marked : AreMarked keys
+unfolding keys whole_marks
+marked = record {{ all = refl }}
 """
 ALL_PROOF = """-- Made by `tools/tables` from names.txt: code and definition have the same keys, types and sets, and no key is wrong.
 use Rattle.std.proofs.Common.{{◌≡◌, [], drop, map, refl, take}}
 use Rattle.infer_named.proofs.FindLemmas.{{right_append, wrong_from}}
 use Rattle.infer_named.proofs.ListLemmas.{{listed_append, listed_last}}
-use Rattle.infer_named.specs.Listed.{{key_listed, members, mime_types, row_spans, row_texts, set_listed, type_listed}}
+use Rattle.infer_named.proofs.MarkLemmas.{{AreMarked, marked_append}}
+use Rattle.infer_named.specs.Listed.{{key_listed, mime_types, ranges, row_spans, row_texts, set_listed, type_listed}}
 use Rattle.infer_named.specs.Sets.{{sets, {sets}}}
 use Rattle.infer_named.specs.Slots.{{starts}}
 use Rattle.infer_named.specs.Table.{{keys}}
@@ -188,6 +220,10 @@ keys_listed ={keys_listed}
 pub right : wrong_from starts {count} 0 keys ≡ []
 unfolding keys
 right ={right}
+
+pub marked : AreMarked keys
+unfolding keys
+marked ={marked}
 
 {of_types}
 pub types_listed : map type_listed TYPES ≡ types
@@ -329,6 +365,17 @@ def numbers_text(numbers):
     return "\n".join([*lines, line])
 
 
+def mark_of(text):
+    """The mark of a text, as crates/infer_named/specs/Marks.antt defines it."""
+    return MARKS * min(len(text), LONG) + (5 * ord(text[0]) + 4 * ord(text[-1])) % MARKS
+
+
+def marks(texts):
+    """For each mark whether a text has it."""
+    found = {mark_of(it) for it in texts}
+    return [int(it in found) for it in range(MARKS * (1 + max(map(len, texts))))]
+
+
 class Texts:
     """Texts, one behind the other, each once."""
 
@@ -357,9 +404,44 @@ def starts():
 
 @kept
 def rows():
-    """The texts of the rows that sets and types have, each with its number."""
+    """The texts of the rows that sets and types have, each with its number: those of texts first, which sets have together."""
     named = {it for rows in sets() for it in rows} | {found[1] for _, origin in types() if (found := ROW.fullmatch(origin))}
-    return {it: number for number, it in enumerate(sorted(named))}
+    return {it: number for number, it in enumerate([*TEXTS, *sorted(named.difference(TEXTS))])}
+
+
+def ranges(numbers):
+    """Where runs of numbers that follow each other begin, and how long they are."""
+    found = []
+    for it in numbers:
+        if found and it == sum(found[-1]):
+            found[-1] = (found[-1][0], found[-1][1] + 1)
+        else:
+            found.append((it, 1))
+    return found
+
+
+def row_sum(text):
+    """The sum of a row's text, as crates/infer_named/specs/Rows.antt defines it."""
+    at = [len(text), *(ord(text[place]) for place in (0, len(text) // 4, len(text) // 2, len(text) - 1))]
+    return sum(weight * it for weight, it in zip(ROW_WEIGHTS, at))
+
+
+@kept
+def row_slots():
+    """By how many slots each group is shifted, and the row of each slot: the largest groups are placed first."""
+    groups, shifts, slots = {}, [0] * ROW_GROUPS, {}
+    for it in rows():
+        groups.setdefault(row_sum(it) % ROW_GROUPS, []).append(it)
+    for group, texts in sorted(groups.items(), key=lambda it: (-len(it[1]), it[0])):
+        for shift in range(ROW_SLOTS):
+            places = {(row_sum(it) // ROW_GROUPS + shift) % ROW_SLOTS: it for it in texts}
+            if len(places) == len(texts) and not places.keys() & slots.keys():
+                shifts[group] = shift
+                slots |= places
+                break
+        else:
+            raise SystemExit(f"tools/tables: {NAMES}: the rows {' '.join(texts)} want other weights in row_sum")
+    return shifts, [rows().get(slots.get(it), 0) for it in range(ROW_SLOTS)]
 
 
 @kept
@@ -374,7 +456,7 @@ def mime_types():
 
 @kept
 def row_texts():
-    return Texts(rows())
+    return Texts(sorted(rows()))
 
 
 def rust_text(text):
@@ -387,8 +469,9 @@ def keys_code():
         spans = f"{key_texts().span(it.text)} {len(readings)} {len(it.readings)}"
         keys.append(f'    {"Loose" if it.is_loose else "Strict"} {it.part} {spans};')
         readings += map(reading_text, it.readings)
+    whole = marks([it.text for it in listed() if it.part == "Whole"])
     return KEYS_CODE.format(
-        starts=numbers_text(starts()), starts_count=SLOTS + 1, keys="\n".join(keys), count=len(keys),
+        marks=numbers_text(whole), marks_count=len(whole), starts=numbers_text(starts()), starts_count=SLOTS + 1, keys="\n".join(keys), count=len(keys),
         readings="\n".join(readings), readings_count=len(readings),
     )
 
@@ -417,13 +500,16 @@ def leads_text(found):
 
 
 def sets_code():
-    members, spans = [], []
+    found, spans, (shifts, slots) = [], [], row_slots()
     for it in sets():
-        spans.append(f"    {len(members)} {len(it)};")
-        members += [rows()[row] for row in it]
+        of_set = ranges(rows()[row] for row in it)
+        spans.append(f"    {len(found)} {len(of_set)};")
+        found += of_set
     return SETS_CODE.format(
         rows="\n".join(f"    {row_texts().span(it)};" for it in rows()), rows_count=len(rows()),
-        members=numbers_text(members), members_count=len(members), sets="\n".join(spans), sets_count=len(spans),
+        ranges="\n".join(f"    {start} {count};" for start, count in found), ranges_count=len(found),
+        sets="\n".join(spans), sets_count=len(spans), shifts=numbers_text(shifts), shifts_count=len(shifts),
+        slots=numbers_text(slots), slots_count=len(slots), marks=numbers_text(marks(rows())), marks_count=len(marks(rows())),
         leads="\n".join(f"    {leads_text(found)}" for found in leads()),
     )
 
@@ -576,10 +662,14 @@ def all_proof():
     right = f"k{count - 1}.right"
     for it in reversed(range(count - 1)):
         right = f"right_append starts {len(in_slots())} {starts()[it * GROUP]} {len(of_group(it))} _ _ refl k{it}.many k{it}.right\n    ({right})"
+    marked = f"k{count - 1}.marked"
+    for it in reversed(range(count - 1)):
+        marked = f"marked_append k{it}.marked\n    ({marked})"
     types_each, types_all = parts_proof("types", "type", "mime_types row_texts", "TYPES", of_types(), TYPES)
-    sets_each, sets_all = parts_proof("sets", "set", "members row_spans row_texts", "SETS", of_sets(), SETS)
+    sets_each, sets_all = parts_proof("sets", "set", "ranges row_spans row_texts", "SETS", of_sets(), SETS)
     return ALL_PROOF.format(
         uses=uses, keys_listed=listed_proof("key_listed", "KEYS", numbered), right=f"\n    {right}", count=len(in_slots()),
+        marked=f"\n    {marked}",
         types=", ".join(names_of("types", len(of_types()))), sets=", ".join(names_of("sets", len(of_sets()))),
         of_types=types_each, of_sets=sets_each, types_listed=types_all, sets_listed=sets_all,
     )

@@ -3,10 +3,15 @@ pub mod ListLemmas
 pub mod StretchLemmas
 pub mod AsciiLemmas
 pub mod FindLemmas
+pub mod MarkLemmas
 pub mod Placed
 pub mod PlacedLemmas
 pub mod TableLemmas
+pub mod DotLemmas
 pub mod KindLemmas
+pub mod CopyLemmas
+pub mod EdgeLemmas
+pub mod RowLemmas
 pub mod SetLemmas
 pub mod OddLemmas
 pub mod LawLemmas

@@ -2,7 +2,8 @@
 use Rattle.std.proofs.Common.{◌≡◌, [], drop, map, refl, take}
 use Rattle.infer_named.proofs.FindLemmas.{right_append, wrong_from}
 use Rattle.infer_named.proofs.ListLemmas.{listed_append, listed_last}
-use Rattle.infer_named.specs.Listed.{key_listed, members, mime_types, row_spans, row_texts, set_listed, type_listed}
+use Rattle.infer_named.proofs.MarkLemmas.{AreMarked, marked_append}
+use Rattle.infer_named.specs.Listed.{key_listed, mime_types, ranges, row_spans, row_texts, set_listed, type_listed}
 use Rattle.infer_named.specs.Sets.{sets, sets_0, sets_1, sets_2}
 use Rattle.infer_named.specs.Slots.{starts}
 use Rattle.infer_named.specs.Table.{keys}
@@ -43,6 +44,18 @@ right =
     (right_append starts 1972 1507 244 _ _ refl k6.many k6.right
     (k7.right)))))))
 
+pub marked : AreMarked keys
+unfolding keys
+marked =
+    marked_append k0.marked
+    (marked_append k1.marked
+    (marked_append k2.marked
+    (marked_append k3.marked
+    (marked_append k4.marked
+    (marked_append k5.marked
+    (marked_append k6.marked
+    (k7.marked)))))))
+
 types_0-listed : map type_listed (take 256 (drop 0 TYPES)) ≡ types_0
 unfolding types_0 mime_types row_texts
 types_0-listed = refl
@@ -73,15 +86,15 @@ types_listed =
     (listed_last type_listed TYPES 1024 4 refl types_4-listed))))
 
 sets_0-listed : map set_listed (take 128 (drop 0 SETS)) ≡ sets_0
-unfolding sets_0 members row_spans row_texts
+unfolding sets_0 ranges row_spans row_texts
 sets_0-listed = refl
 
 sets_1-listed : map set_listed (take 128 (drop 128 SETS)) ≡ sets_1
-unfolding sets_1 members row_spans row_texts
+unfolding sets_1 ranges row_spans row_texts
 sets_1-listed = refl
 
 sets_2-listed : map set_listed (take 108 (drop 256 SETS)) ≡ sets_2
-unfolding sets_2 members row_spans row_texts
+unfolding sets_2 ranges row_spans row_texts
 sets_2-listed = refl
 
 pub sets_listed : map set_listed SETS ≡ sets

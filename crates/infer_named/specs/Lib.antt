@@ -3,10 +3,13 @@ pub mod Texts
 pub mod Types
 pub mod Sets
 pub mod Listed
+pub mod Rows
 pub mod Names
 pub mod Keys
 pub mod Table
+pub mod Dots
 pub mod Slots
+pub mod Marks
 pub mod Bytes
 pub mod Asks
 pub mod Join

@@ -1,5 +1,6 @@
 -- The table as the code lists it.
 use Rattle.std.specs.Prelude.{ℕ, List, [], drop, get_or, map, take}
+use Rattle.std.specs.List.{flat_map}
 use denote.Ref.{Bor}
 use Rattle.infer_named.specs.Key.{Key, NamedType, Origin, Reading, key, known, named, own, row}
 use Rattle.infer_named.specs.Sets.{lead_lists, sets}
@@ -12,7 +13,7 @@ use Rattle.infer_named.specs.declared.table.Origin.TheVariants.{Known, Own, Row}
 use Rattle.infer_named.specs.declared.table.Reading as code_reading
 use Rattle.infer_named.specs.declared.table.Span.{Span}
 use Rattle.infer_named.specs.declared.table.generated.keys.TheConstants.{READINGS}
-use Rattle.infer_named.specs.declared.table.generated.sets.TheConstants.{MEMBERS, ROWS}
+use Rattle.infer_named.specs.declared.table.generated.sets.TheConstants.{RANGES, ROWS}
 use Rattle.infer_named.specs.declared.table.generated.texts.TheConstants.{KEY_TEXTS, MIME_TYPES, ROW_TEXTS}
 
 -- so many elements of a list from a place on, or those that there are
@@ -29,12 +30,12 @@ mime_types = MIME_TYPES.now
 unfoldable pub row_texts : List ℕ
 row_texts = ROW_TEXTS.now
 
--- where the texts of the rows stand, the numbers of the rows of the sets, and the readings of the keys
+-- where the texts of the rows stand, the ranges of rows that the sets have, and the readings of the keys
 unfoldable pub row_spans : List Span
 row_spans = ROWS
 
-unfoldable pub members : List ℕ
-members = MEMBERS
+unfoldable pub ranges : List Span
+ranges = RANGES
 
 unfoldable pub readings : List code_reading.Reading
 readings = READINGS
@@ -62,13 +63,19 @@ texts list = map (λ text. text.now) list
 abbrev pub lists_of_texts : List (Bor (List (Bor (List ℕ)))) → List (List (List ℕ))
 lists_of_texts lists = map (λ list. texts list.now) lists
 
--- the row of a number, and none by its text for a number too great
-abbrev pub row_at : ℕ → List ℕ
-row_at n = get_or (map row_text row_spans) n []
+-- the texts of the rows, that of a number, and no text for a number too great
+abbrev pub row_list : List (List ℕ)
+row_list = map row_text row_spans
 
--- the rows of the numbers at a span
+abbrev pub row_at : ℕ → List ℕ
+row_at n = get_or row_list n []
+
+-- the rows of a range, and those of the ranges at a span
+abbrev pub range_listed : Span → List (List ℕ)
+range_listed range = stretch row_list range.start range.count
+
 abbrev pub set_listed : Span → List (List ℕ)
-set_listed span = map row_at (stretch members span.start span.count)
+set_listed span = flat_map range_listed (stretch ranges span.start span.count)
 
 -- the type, the rows and the leads of a number
 abbrev pub type_at : ℕ → NamedType

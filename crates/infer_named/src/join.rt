@@ -5,15 +5,15 @@ ghost use Rattle.infer.specs.Triple.{triple_of};
 ghost use Rattle.infer_more.specs.Wider.{IsWiderAnswer};
 ghost use Rattle.infer_named.specs.Asks.{admits};
 ghost use Rattle.infer_named.specs.Bytes.{IsKind, has_no_zero, is_empty, lead_of};
-ghost use Rattle.infer_named.specs.Join.{answer, extension_of, first_type, fits, is_among, is_own, is_own_name, joined_with, keyed, mime_type_of, reading_of, reading_without, row_extension, standing_in, told_by, type_of_name, unnamed};
-ghost use Rattle.infer_named.specs.Listed.{key_listed, origin_listed, reading_listed, row_at, texts};
+ghost use Rattle.infer_named.specs.Join.{answer, extension_of, first_type, fits, is_own, is_own_name, joined_with, keyed, mime_type_of, reading_of, reading_without, row_extension, standing_in, told_by, type_of_name, unnamed};
+ghost use Rattle.infer_named.specs.Listed.{key_listed, origin_listed, reading_listed, texts};
 ghost use Rattle.infer_named.specs.Named.{IsNamed, answer_of, key_of, told_listed};
 
 use crate::bytes::{Kind, kind_of, lead_of};
 use crate::names::key;
+use crate::rows::Numbered;
 use crate::table::{
-    Asks, Key, NamedType, Origin, Reading, leads, mime_type, named, readings_of, row, row_text,
-    rows,
+    Asks, Key, NamedType, Origin, Reading, leads, mime_type, named, readings_of, row_text,
 };
 use infer::Type;
 
@@ -220,8 +220,9 @@ fn joined(key: &'static Key, t: Type, buf: &[u8]) -> Named
     ensures key { key_of result ≡ Some (key_listed key.now) }
 {
     let readings = readings_of(key);
+    let numbered = Numbered::new(t);
     for reading in readings {
-        let standing = standing_in(reading, t);
+        let standing = standing_in(reading, &numbered);
         if standing.is_some() && fits(reading, buf) {
             return told_by(key, reading, standing, t);
         }
@@ -260,16 +261,16 @@ fn told_by(key: &'static Key, reading: &Reading, standing: Option<Standing>, t: 
 }
 
 /// What the first of the reading's sets that has the type makes of the name, if one has it.
-fn standing_in(reading: &Reading, t: Type) -> Option<Standing>
-    ensures { result ≡ standing_in (triple_of t) (reading_listed reading.now) }
+fn standing_in(reading: &Reading, numbered: &Numbered) -> Option<Standing>
+    ensures { result ≡ standing_in (triple_of numbered.now.found) (reading_listed reading.now) }
 {
-    if is_among(t, rows(reading.agrees)) {
+    if numbered.is_among(reading.agrees) {
         return Some(Standing::Agree);
     }
-    if is_among(t, rows(reading.begins)) {
+    if numbered.is_among(reading.begins) {
         return Some(Standing::NameRefines);
     }
-    if is_among(t, rows(reading.finer)) {
+    if numbered.is_among(reading.finer) {
         return Some(Standing::BytesRefine);
     }
     None
@@ -286,20 +287,6 @@ fn reading_without(readings: &'static [Reading], kind: Kind, buf: &[u8]) -> Opti
         }
     }
     None
-}
-
-/// Whether the type is that of one of the rows of these numbers.
-fn is_among(t: Type, rows: &[u16]) -> bool
-    ensures { result ≡ is_among (triple_of t) (map row_at rows.now) }
-{
-    let (extension, mime_type) = (t.extension().as_bytes(), t.mime_type().as_bytes());
-    for number in rows {
-        let row = row(*number);
-        if row == extension || row == mime_type {
-            return true;
-        }
-    }
-    false
 }
 
 /// Whether the bytes begin as a file of the reading's type does.

@@ -5,8 +5,8 @@
 //! which rows may accept the bytes of such a file.
 //!
 //! Each module uses only those before it: `table`, the keys with their readings; `names`, the key of a name; `bytes`, what
-//! is asked of the bytes beside their wider answer; `join`, both together; `read`, the front of a file or of a reader;
-//! `odd`, what is odd about a name.
+//! is asked of the bytes beside their wider answer; `rows`, the sets that have a type; `join`, all together; `read`, the
+//! front of a file or of a reader; `odd`, what is odd about a name.
 #![tactic(auto)]
 
 ghost use Rattle.std.specs.Prelude.{◌≡◌, ◌≤◌, IfOk, None, option_map};
@@ -24,9 +24,11 @@ ghost use Rattle.infer_named.specs.Table.{keys};
 mod bytes;
 mod join;
 pub mod laws;
+mod marks;
 mod names;
 mod odd;
 mod read;
+mod rows;
 mod table;
 #[cfg(test)]
 mod tests;

@@ -1,25 +1,56 @@
 //! The key of a name.
-ghost use Rattle.std.specs.Prelude.{◌≡◌, ◌<◌, ◌≤◌, IfSome, IsTrue, None, if◌then◌else◌, length, map, not, option_map, true, unwrap_or};
+ghost use Rattle.std.specs.Prelude.{◌≡◌, ◌<◌, ◌≤◌, ◌==◌, ℕ, IfSome, Option, IsTrue, None, Some, false, if◌then◌else◌, length, map, not, option_map, true};
 ghost use Rattle.std.specs.Char.{to_ascii_lowercase};
 ghost use Rattle.std.specs.List.{find, list_any};
 ghost use Rattle.std.specs.Str.{bytes_eq};
-ghost use Rattle.memchr.specs.Find.{IsLastByte};
+ghost use Rattle.memchr.specs.Find.{IsLastByte, is_byte3};
+ghost use Rattle.infer_named.specs.Dots.{IsNear};
 ghost use Rattle.infer_named.specs.Listed.{key_listed};
-ghost use Rattle.infer_named.specs.Names.{IsBase, IsDottedKey, IsExtensionKey, IsKey, IsLastDot, IsMakerKey, IsStemKey, IsVersioned, are_parts, copy_length, ends_in, entry, extension_at, is_digit, is_key, is_version, is_version_byte, makers, same_part, slot_of, small, stem_of};
+ghost use Rattle.infer_named.specs.Marks.{mark_of};
+ghost use Rattle.infer_named.specs.Names.{IsBase, IsDottedKey, IsExtensionKey, IsKey, IsLastDot, IsMakerKey, IsStemKey, IsVersioned, are_parts, copy_length, ends_copy, ends_in, entry, extension_at, is_digit, is_key, is_version, is_version_byte, makers, same_part, slot_of, small, stem_of};
 ghost use Rattle.infer_named.specs.Table.{keys};
 ghost use Rattle.infer_named.specs.declared.table.Part.TheVariants.{Whole};
 
-use crate::table::{Key, Part, key_text, slot};
-use memchr::{memchr, memrchr, memrchr2};
+use crate::marks::{is_marked, mark};
+use crate::table::{Key, Part, key_text, slot, whole_marks};
+use memchr::{memchr, memrchr, memrchr2, memrchr3};
+
+/// How many bytes at the end of a name are searched first: one less than a vector has.
+const NEAR: usize = 31;
+
+/// A dot so far from the end has more behind it than a key has.
+const FAR: usize = 28;
 
 /// The key of the name, and `None` exactly if it has none.
 pub fn key(name: &[u8]) -> Option<&'static Key>
     ensures { IsKey keys name.now (option_map (λ k. key_listed k.now) result) }
 {
-    if memchr(0, name).is_some() {
+    match last_edge(name) {
+        Some(place) => key_behind(name, place),
+        None => key_of_stem(stem(name)),
+    }
+}
+
+/// Where the last byte 00, "/" or "\" stands. Most bases are short, so the last bytes are searched by themselves.
+fn last_edge(name: &[u8]) -> Option<usize>
+    ensures { IsLastByte (is_byte3 0 0x2F 0x5C) name.now result }
+{
+    let near = name.len().saturating_sub(NEAR);
+    match memrchr3(0, b'/', b'\\', &name[near..]) {
+        Some(place) => Some(near + place),
+        None => memrchr3(0, b'/', b'\\', &name[..near]),
+    }
+}
+
+/// The key of a name of which the last such byte stands here.
+fn key_behind(name: &[u8], place: usize) -> Option<&'static Key>
+    requires { IsLastByte (is_byte3 0 0x2F 0x5C) name.now (Some place) }
+    ensures { IsKey keys name.now (option_map (λ k. key_listed k.now) result) }
+{
+    if memchr(0, &name[..place + 1]).is_some() {
         return None;
     }
-    key_of_stem(stem(base(name)))
+    key_of_stem(stem(&name[place + 1..]))
 }
 
 /// What stands behind the last "/" or "\".
@@ -44,6 +75,9 @@ fn copy_length(base: &[u8]) -> usize
     ensures value { result ≡ copy_length base.now }
     ensures bound { result ≤ length base.now }
 {
+    if !may_be_copy(base) {
+        return 0;
+    }
     if ends_in(base, b"~") {
         return 1;
     }
@@ -57,6 +91,23 @@ fn copy_length(base: &[u8]) -> usize
         return 4;
     }
     0
+}
+
+/// Whether the last byte is that of the ending of a copy, which most names do not have.
+#[tactic(auto, using(crate::proofs::CopyLemmas::no_copy))]
+fn may_be_copy(base: &[u8]) -> bool
+    ensures { result ≡ false → copy_length base.now ≡ 0 }
+{
+    match base {
+        [.., last] => ends_copy(last.to_ascii_lowercase()),
+        [] => true,
+    }
+}
+
+fn ends_copy(last: u8) -> bool
+    ensures { result ≡ ends_copy last }
+{
+    last == b'~' || last == b'k' || last == b'g' || last == b'd'
 }
 
 /// Whether the text ends in this ending, whose letters are small, and something stands before it.
@@ -87,10 +138,34 @@ fn is_small(text: &[u8], other: &[u8]) -> bool
 fn key_of_stem(stem: &[u8]) -> Option<&'static Key>
     ensures { IsStemKey keys stem.now (option_map (λ k. key_listed k.now) result) }
 {
-    match entry(Part::Whole, stem) {
+    match whole_key(stem) {
         Some(found) => Some(found),
         None => dotted_key(stem),
     }
+}
+
+/// The whole name that the stem is, if it is one. The mark of most stems is that of none.
+fn whole_key(stem: &[u8]) -> Option<&'static Key>
+    ensures { option_map (λ k. key_listed k.now) result ≡ entry keys Whole stem.now }
+{
+    if is_marked(whole_marks(), small_mark(stem)) {
+        entry(Part::Whole, stem)
+    } else {
+        None
+    }
+}
+
+/// The mark of a text in small letters.
+#[tactic(auto, using(crate::proofs::MarkLemmas::mark_small))]
+fn small_mark(text: &[u8]) -> usize
+    ensures { result ≡ mark_of (small text.now) }
+{
+    if text.is_empty() {
+        return mark(0, 0, 0);
+    }
+    let first = small_number(text[0]);
+    let last = small_number(text[text.len() - 1]);
+    mark(text.len(), first, last)
 }
 
 fn dotted_key(stem: &[u8]) -> Option<&'static Key>
@@ -106,7 +181,7 @@ fn dotted_key(stem: &[u8]) -> Option<&'static Key>
 fn extension_key(stem: &[u8]) -> Option<&'static Key>
     ensures { IsExtensionKey keys stem.now (option_map (λ k. key_listed k.now) result) }
 {
-    let last = last_dot(stem, stem.len());
+    let last = near_dot(stem, stem.len());
     let second = second_dot(stem, last);
     if is_versioned(stem) {
         return entry(Part::Extension, b"so");
@@ -128,13 +203,35 @@ pub fn last_dot(stem: &[u8], before: usize) -> Option<usize>
     }
 }
 
+/// The last such dot before the place, or none if more stands behind it than a key has.
+fn near_dot(stem: &[u8], before: usize) -> Option<usize>
+    requires { before ≤ length stem.now }
+    ensures near { (dot : Option ℕ) → IsLastDot stem.now before dot → IsNear stem.now dot result }
+    ensures inside { IfSome result (λ dot. dot < length stem.now) }
+{
+    let start = stem.len().saturating_sub(FAR).min(before);
+    match memrchr(b'.', &stem[start..before]) {
+        Some(place) => not_first(start + place),
+        None => None,
+    }
+}
+
+/// The place, if it is not the first.
+fn not_first(place: usize) -> Option<usize>
+    ensures { result ≡ (if place == 0 then None else Some place) }
+{
+    if place == 0 { None } else { Some(place) }
+}
+
 /// The last such dot before this one.
 fn second_dot(stem: &[u8], last: Option<usize>) -> Option<usize>
-    requires { IsLastDot stem.now (length stem.now) last }
-    ensures { IsLastDot stem.now (unwrap_or last 0) result }
+    requires { IfSome last (λ dot. dot < length stem.now) }
+    ensures near { (dot : Option ℕ) → IfSome last (λ l. IsLastDot stem.now l dot) → IfSome last (λ _. IsNear stem.now dot result) }
+    ensures none { last ≡ None → result ≡ None }
+    ensures inside { IfSome result (λ dot. dot < length stem.now) }
 {
     match last {
-        Some(dot) => last_dot(stem, dot),
+        Some(dot) => near_dot(stem, dot),
         None => None,
     }
 }

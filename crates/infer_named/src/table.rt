@@ -1,7 +1,8 @@
 //! What names tell, as data: the names, and the readings of each. The prover reads numbers and texts at once, so the table is
 //! lists of numbers, and one text of the keys, one of the types and one of the rows.
 ghost use Rattle.std.specs.Prelude.{◌≡◌, ◌<◌, IsAscii, map};
-ghost use Rattle.infer_named.specs.Listed.{key_listed, leads_at, mime_type, reading_listed, row_at, row_text, rows_at, stretch, texts, type_at, type_listed};
+ghost use Rattle.std.specs.List.{flat_map};
+ghost use Rattle.infer_named.specs.Listed.{key_listed, leads_at, mime_type, range_listed, reading_listed, row_at, row_text, rows_at, stretch, texts, type_at, type_listed};
 ghost use Rattle.infer_named.specs.Slots.{keys_of_slot};
 
 /// What of a file's name a key is.
@@ -159,9 +160,10 @@ pub(crate) use types;
 mod generated;
 
 use generated::{
-    all_keys, all_readings, all_sets, all_types, key_texts, members, mime_types, row_spans,
+    all_keys, all_ranges, all_readings, all_sets, all_types, key_texts, mime_types, row_spans,
     row_texts, starts,
 };
+pub(crate) use generated::{row_marks, row_shifts, row_slots, whole_marks};
 
 /// So many elements from a place on, or those that there are.
 fn stretch<T>(list: &[T], start: usize, count: usize) -> &[T]
@@ -247,13 +249,13 @@ pub(crate) fn row_text(span: Span) -> &'static str
     text_at(row_texts(), span)
 }
 
-/// The numbers of the rows of the set of this number.
+/// The ranges of the set of this number.
 #[tactic(auto, using(crate::proofs::StretchLemmas::element_listed, crate::proofs::StretchLemmas::past_listed))]
-pub(crate) fn rows(number: u16) -> &'static [u16]
-    ensures { map row_at result.now ≡ rows_at number }
+pub(crate) fn ranges(number: u16) -> &'static [Span]
+    ensures { flat_map range_listed result.now ≡ rows_at number }
 {
     match all_sets().get(usize::from(number)) {
-        Some(set) => at(members(), *set),
+        Some(set) => at(all_ranges(), *set),
         None => &[],
     }
 }

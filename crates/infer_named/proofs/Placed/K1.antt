@@ -1,9 +1,11 @@
 -- Made by `tools/tables` from names.txt: code and definition have the same keys of slots 64 to 127. Each stands in its
--- slot, and none is wrong: if one is, its text stands in the error.
+-- slot, and none is wrong: if one is, its text stands in the error. And each whole name has its mark.
 use Rattle.std.proofs.Common.{◌≡◌, [], drop, length, map, refl, take}
 use Rattle.infer_named.proofs.FindLemmas.{wrong_from}
+use Rattle.infer_named.proofs.MarkLemmas.{AreMarked}
 use Rattle.infer_named.specs.Keys.K1.{keys}
 use Rattle.infer_named.specs.Listed.{key_listed, key_texts, readings}
+use Rattle.infer_named.specs.Marks.{whole_marks}
 use Rattle.infer_named.specs.Slots.{starts}
 use Rattle.infer_named.specs.Types.{types, types_0, types_1, types_2, types_3, types_4}
 use Rattle.infer_named.specs.declared.table.generated.keys.TheConstants.{KEYS}
@@ -19,3 +21,7 @@ many = refl
 pub right : wrong_from starts 531 269 keys ≡ []
 unfolding keys starts types types_0 types_1 types_2 types_3 types_4
 right = refl
+
+pub marked : AreMarked keys
+unfolding keys whole_marks
+marked = record { all = refl }

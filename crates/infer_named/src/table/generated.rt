@@ -1,15 +1,17 @@
 //! The lists of the table, which `tools/tables` makes from names.txt, each with what it lists.
 ghost use Rattle.std.specs.Prelude.{◌≡◌, IsAscii, length, map};
 ghost use Rattle.infer_named.specs.Key.{NamedType};
-ghost use Rattle.infer_named.specs.Listed.{key_listed, key_texts, members, mime_types, readings, row_spans, row_texts, set_listed, type_listed};
+ghost use Rattle.infer_named.specs.Listed.{key_listed, key_texts, mime_types, ranges, readings, row_spans, row_texts, set_listed, type_listed};
+ghost use Rattle.infer_named.specs.Marks.{row_marks, whole_marks};
+ghost use Rattle.infer_named.specs.Rows.{row_shifts, row_slots};
 ghost use Rattle.infer_named.specs.Sets.{sets};
 ghost use Rattle.infer_named.specs.Slots.{starts};
 ghost use Rattle.infer_named.specs.Table.{keys};
 ghost use Rattle.infer_named.specs.Types.{types};
 
 use crate::table::{Key, NamedType, Reading, Span};
-use keys::{KEYS, READINGS, STARTS};
-use sets::{MEMBERS, ROWS, SETS};
+use keys::{KEYS, READINGS, STARTS, WHOLE_MARKS};
+use sets::{RANGES, ROW_MARKS, ROW_SHIFTS, ROW_SLOTS, ROWS, SETS};
 use texts::{KEY_TEXTS, MIME_TYPES, ROW_TEXTS};
 use types::TYPES;
 
@@ -24,6 +26,13 @@ pub(crate) fn starts() -> &'static [u16]
     ensures many { length result.now ≡ 513 }
 {
     &STARTS
+}
+
+/// For each mark whether a whole name has it.
+pub(crate) fn whole_marks() -> &'static [u8]
+    ensures { result.now ≡ whole_marks }
+{
+    &WHOLE_MARKS
 }
 
 /// All keys, in the order of their slots.
@@ -62,18 +71,41 @@ pub(crate) fn mime_types() -> &'static str
     MIME_TYPES
 }
 
-/// The sets of rows, each by where its rows stand among the members.
+/// The sets of rows, each by where its ranges stand among those of all.
 pub(crate) fn all_sets() -> &'static [Span]
     ensures { map set_listed result.now ≡ sets }
 {
     &SETS
 }
 
-/// The numbers of the rows of the sets, one set behind the other.
-pub(crate) fn members() -> &'static [u16]
-    ensures { result.now ≡ members }
+/// The ranges of rows of the sets, one set behind the other.
+pub(crate) fn all_ranges() -> &'static [Span]
+    ensures { result.now ≡ ranges }
 {
-    &MEMBERS
+    &RANGES
+}
+
+/// For each mark whether a row has it.
+pub(crate) fn row_marks() -> &'static [u8]
+    ensures { result.now ≡ row_marks }
+{
+    &ROW_MARKS
+}
+
+/// By how many slots each group of texts is shifted.
+pub(crate) fn row_shifts() -> &'static [u16]
+    ensures value { result.now ≡ row_shifts }
+    ensures many { length result.now ≡ 64 }
+{
+    &ROW_SHIFTS
+}
+
+/// The number of the row of each slot.
+pub(crate) fn row_slots() -> &'static [u16]
+    ensures value { result.now ≡ row_slots }
+    ensures many { length result.now ≡ 512 }
+{
+    &ROW_SLOTS
 }
 
 /// Where the texts of the rows stand.

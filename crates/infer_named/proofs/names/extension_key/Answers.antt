@@ -1,0 +1,18 @@
+use Rattle.std.proofs.Common.{rules}
+use Rattle.infer_named.proofs.DotLemmas.{near_key}
+use Rattle.infer_named.proofs.names.extension_key.Goals as goal
+
+pub returns-then-is_versioned : goal.returns-then-is_versioned
+returns-then-is_versioned c =
+    near_key c.args.stem.now c.is_versioned.result c.near_dot-last.result c.second_dot-second.result _ c.is_versioned.ensures c.near_dot-last.ensures.near
+    c.second_dot-second.ensures.near c.second_dot-second.ensures.none (search rules)
+
+pub returns-in-Some : goal.returns-in-Some
+returns-in-Some c =
+    near_key c.args.stem.now c.is_versioned.result c.near_dot-last.result c.second_dot-second.result _ c.is_versioned.ensures c.near_dot-last.ensures.near
+    c.second_dot-second.ensures.near c.second_dot-second.ensures.none (search rules)
+
+pub returns-in-None : goal.returns-in-None
+returns-in-None c =
+    near_key c.args.stem.now c.is_versioned.result c.near_dot-last.result c.second_dot-second.result _ c.is_versioned.ensures c.near_dot-last.ensures.near
+    c.second_dot-second.ensures.near c.second_dot-second.ensures.none (search rules)

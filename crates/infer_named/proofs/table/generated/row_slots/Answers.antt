@@ -1,0 +1,10 @@
+use Rattle.std.proofs.Common.{refl}
+use Rattle.infer_named.specs.Rows.{row_slots}
+use Rattle.infer_named.proofs.table.generated.row_slots.Goals as goal
+
+pub returns-clause-value : goal.returns-clause-value
+unfolding row_slots
+returns-clause-value c = refl
+
+pub returns-clause-many : goal.returns-clause-many
+returns-clause-many c = refl
