@@ -3,3 +3,4 @@ pub mod ReportLemmas
 pub mod RunLemmas
 pub mod SeenLemmas
 pub mod WritesLemmas
+pub mod HaltingLemmas

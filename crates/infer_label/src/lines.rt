@@ -4,6 +4,7 @@ ghost use Rattle.infer_lines.specs.Said.{SaysThrough};
 ghost use Rattle.infer_label.specs.Run.{RunSays};
 ghost use Rattle.infer_label.specs.Words.{asked, texts};
 
+use crate::halting::{HaltingWriter, inner_of};
 use crate::run::run;
 use infer::Watched;
 use infer_lines::{Outcome, WatchedWriter, lines_over, writer_of};
@@ -12,7 +13,8 @@ use std::io::{self, Read, Write};
 use std::rt::Files;
 
 /// Runs through buffers for lines. A line of `err` costs one system call, and so do the lines of `out` that fit into a
-/// block, or each of them if `block` is 0. It gives the writers back, and none in the place of one that has failed.
+/// block, or each of them if `block` is 0. It gives the writers back, and none in the place of one that has failed, to which
+/// nothing is written from then on.
 ///
 /// An error is want of memory for the buffers; then nothing was read or written.
 pub fn run_lines<R: Files, A: Allocator + Copy, I: Read, W: Write + Drop, E: Write + Drop>(
@@ -28,14 +30,16 @@ pub fn run_lines<R: Files, A: Allocator + Copy, I: Read, W: Write + Drop, E: Wri
     ensures said { IfOk result (λ done. SaysThrough W.contents E.contents out err done
         (RunSays I.remaining (asked (texts words.now)) input.old input.new)) }
 {
-    let mut lines = lines_over(alloc, block, out)?;
-    let mut faults = lines_over(alloc, 0, err)?;
+    let mut lines = lines_over(alloc, block, HaltingWriter::new(out))?;
+    let mut faults = lines_over(alloc, 0, HaltingWriter::new(err))?;
     let (mut out, mut err) = (
         WatchedWriter::new(&mut lines),
         WatchedWriter::new(&mut faults),
     );
     let outcome = run(rt, alloc, words, input, &mut out, &mut err);
     let (out_failed, err_failed) = (out.has_failed(), err.has_failed());
-    let writers = (writer_of(out_failed, lines), writer_of(err_failed, faults));
+    let lines = writer_of(out_failed, lines);
+    let faults = writer_of(err_failed, faults);
+    let writers = (inner_of(lines), inner_of(faults));
     Ok((outcome.failed_if(writers.0.is_none()), writers))
 }

@@ -1,6 +1,7 @@
 //! Prints what each file is that it is given, by its name and its first bytes.
 #![tactic(auto)]
 
+mod halting;
 mod json;
 mod label;
 mod laws;
@@ -14,6 +15,7 @@ mod run;
 mod tests;
 mod words;
 
+use halting::HaltingWriter;
 use infer::Watched;
 use infer_lines::{Outcome, WatchedWriter};
 use lines::run_lines;
@@ -77,8 +79,8 @@ fn run_words(rt: &HostRuntime, words: &[Vec<u8>]) -> Outcome {
             rt.alloc(),
             words,
             input,
-            &mut WatchedWriter::new(&mut rt.stdout()),
-            &mut WatchedWriter::new(&mut rt.stderr()),
+            &mut WatchedWriter::new(&mut HaltingWriter::new(rt.stdout())),
+            &mut WatchedWriter::new(&mut HaltingWriter::new(rt.stderr())),
         ),
     }
 }

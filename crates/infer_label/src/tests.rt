@@ -1,6 +1,7 @@
 //! What no clause says: that calls succeed, and what a failed read or write leaves behind. Lines, statuses and words are asked
 //! of the program as a process, by `process-tests`.
 use crate::label::label_of;
+use crate::lines::run_lines;
 use crate::options::Options;
 use crate::run::run;
 use infer::Watched;
@@ -71,6 +72,45 @@ fn each_write_fails_in_turn(rt: HostRuntime) -> Result<(), Fail> {
     fs::remove_file(&rt, "own.txt")?;
     fs::remove_file(&rt, "main.py")?;
     fs::remove_file(&rt, "drawing.py")?;
+    Ok(())
+}
+
+/// Nothing is written after a write that failed, though the buffers still hold what it did not take.
+#[test]
+fn nothing_follows_a_failed_write(rt: HostRuntime) -> Result<(), Fail> {
+    fs::write(&rt, "first.py", b"import os\n")?;
+    fs::write(&rt, "second.py", b"import os\n")?;
+    let words = words_of(&rt, &[b"first.py".as_slice(), b"second.py".as_slice()])?;
+    let whole =
+        b"first.py: text/x-python py, us-ascii, name refines\nsecond.py: text/x-python py, us-ascii, name refines\n";
+    for block in [0, 16, 4096] {
+        for fails_at in 0..48u32 {
+            let (mut out, mut err) = (PieceWriter::failing(3, fails_at), PieceWriter::new(512));
+            let input = &mut Watched::new(PieceReader::new(b"", 1));
+            let (outcome, given) = run_lines(
+                &rt,
+                rt.alloc(),
+                words.as_slice(),
+                input,
+                block,
+                &mut out,
+                &mut err,
+            )?;
+            let gives = given.0.is_some();
+            if out.has_failed() {
+                assert_eq!(rt;
+                    (outcome.status(), gives, out.writes),
+                    (2, false, fails_at + 1)
+                );
+                assert!(rt; whole.as_slice().starts_with(out.taken()));
+            } else {
+                assert_eq!(rt; (outcome.status(), gives), (0, true));
+                assert_eq!(rt; out.taken(), whole.as_slice());
+            }
+        }
+    }
+    fs::remove_file(&rt, "first.py")?;
+    fs::remove_file(&rt, "second.py")?;
     Ok(())
 }
 
