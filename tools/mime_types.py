@@ -33,8 +33,16 @@ NOSNIFF = """
 pub(super) static NOSNIFF: &[(&[u8], bool)] = cases![
 """
 BLOCKED = """
-/// A text, the place of the destination among the variants of `Destination`, and whether `nosniff` blocks it.
+/// The values of `Content-Type`, as one, the place of the destination among the variants of `Destination`, and whether `nosniff` blocks it.
 pub(super) static BLOCKED: &[(&[u8], (u8, bool))] = cases![
+"""
+SPLIT = """
+/// The value of a header, and its pieces.
+pub(super) static SPLIT: &[(&[u8], &[&[u8]])] = cases![
+"""
+EXTRACTED = """
+/// The values of `Content-Type`, as one, and the text of the MIME type that they say, which is empty if they say none.
+pub(super) static EXTRACTED: &[(&[u8], &[u8])] = cases![
 """
 # The answers of minimizing that are no essence, in the order of the variants.
 FIXED = ["text/javascript", "application/json", "image/svg+xml", "application/xml", None, ""]
@@ -59,17 +67,31 @@ def minimized():
         yield f"    {told(text)} => ({str(is_supported).lower()}, {FIXED.index(answer) if answer in FIXED else 4});\n"
 
 
+def joined(values):
+    """The values of a header as one."""
+    return told(", ".join(it.strip(WHITE) for it in values))
+
+
 def nosniff():
     for values, answer in asked("nosniff"):
-        yield f"    {told(', '.join(it.strip(WHITE) for it in values))} => {str(answer).lower()};\n"
+        yield f"    {joined(values)} => {str(answer).lower()};\n"
 
 
 def blocked():
-    """Those with one type at most: of more the last that can be read counts, which is a call of its own."""
     for (options, types, destination), answer in asked("blocked"):
-        if options == ["nosniff"] and len(types) <= 1:
+        if options == ["nosniff"]:
             number = 0 if destination in SCRIPTS else 1 if destination == "style" else 2
-            yield f"    {told(''.join(types))} => ({number}, {str(answer).lower()});\n"
+            yield f"    {joined(types)} => ({number}, {str(answer).lower()});\n"
+
+
+def split():
+    for (value,), answer in asked("split"):
+        yield f"    {told(value)} => &[{', '.join(map(told, answer))}];\n"
+
+
+def extracted():
+    for values, answer in asked("extract"):
+        yield f"    {joined(values)} => {told(answer or '')};\n"
 
 
 def made():
@@ -78,4 +100,4 @@ def made():
     lists = (PARSED.format(number=i // size + 1) + "".join(parsed[i:i + size]) + "];\n" for i in range(0, len(parsed), size))
     grouped = (f"    {told(text)} => 0b{sum(1 << GROUPS.index(it) for it in answer):010b};\n" for (text,), answer in asked("groups"))
     yield "crates/mime_types/src/tests/generated.rt", HEAD + "".join(lists) + GROUPED + "".join(grouped) + "];\n" + "".join(
-        head + "".join(lines) + "];\n" for head, lines in ((MINIMIZED, minimized()), (NOSNIFF, nosniff()), (BLOCKED, blocked())))
+        head + "".join(lines) + "];\n" for head, lines in ((MINIMIZED, minimized()), (NOSNIFF, nosniff()), (BLOCKED, blocked()), (SPLIT, split()), (EXTRACTED, extracted())))

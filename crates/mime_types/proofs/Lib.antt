@@ -10,3 +10,6 @@ pub mod JoinLemmas
 pub mod KeptLemmas
 pub mod AgainLemmas
 pub mod BlankLemmas
+pub mod NamedLemmas
+pub mod PiecesLemmas
+pub mod ExtractedLemmas

@@ -12,3 +12,6 @@ pub mod Wrote
 pub mod Laws
 pub mod Minimal
 pub mod Nosniff
+pub mod Named
+pub mod Pieces
+pub mod Extracted

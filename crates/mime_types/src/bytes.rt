@@ -16,6 +16,16 @@ pub(crate) fn is_token(byte: u8) -> bool
     ensures { result ≡ is_token byte }
 {
     byte >= b'^' && byte <= b'z'
+        || byte >= b'-' && byte <= b'9' && byte != b'/'
+        || is_other_token(byte)
+}
+
+/// [`is_token`] of bytes of which few are letters. Not inlined, or the compiler compares each letter with all of them.
+#[inline(never)]
+fn is_other_token(byte: u8) -> bool
+    ensures { result ≡ is_token byte }
+{
+    byte >= b'^' && byte <= b'z'
         || byte >= b'0' && byte <= b'9'
         || byte >= b'A' && byte <= b'Z'
         || byte == b'!'

@@ -2,14 +2,17 @@
 #![tactic(auto)]
 
 mod bytes;
+mod extraction;
 mod first;
 mod groups;
 pub mod laws;
 mod mime_type;
 mod minimal;
+mod named;
 mod nosniff;
 mod parameter;
 mod parameters;
+mod pieces;
 mod read;
 mod segment;
 #[cfg(test)]
@@ -18,10 +21,12 @@ mod text;
 mod value;
 mod write;
 
+pub use extraction::{Extracted, extract};
 pub use mime_type::MimeType;
 pub use minimal::Minimal;
 pub use nosniff::{Destination, is_blocked, is_nosniff};
 pub use parameter::{Parameter, Value};
 pub use parameters::Parameters;
+pub use pieces::Pieces;
 pub use read::parse;
 pub use write::WriteError;

@@ -31,6 +31,10 @@ pub fn is_blocked(told: Option<MimeType<'_>>, destination: Destination) -> bool
 
 /// Whether the value of `X-Content-Type-Options` forbids to sniff. Several values are given as one, with `, ` between
 /// them.
+///
+/// ```
+/// assert!(rt; mime_types::is_nosniff(b"NoSniff, x"));
+/// ```
 pub fn is_nosniff(value: &[u8]) -> bool
     ensures { IsTrue result ↔ IsNosniff value.now }
 {
@@ -45,7 +49,7 @@ enum Place {
 }
 
 /// How many bytes stand before the first comma outside of quotes, or how many there are.
-fn piece_len(text: &[u8]) -> usize
+pub(crate) fn piece_len(text: &[u8]) -> usize
     ensures value { result ≡ piece_len Place.Outside text.now }
     ensures bound { result ≤ length text.now }
 {
@@ -82,7 +86,7 @@ fn next_place(place: Place, byte: u8) -> Place
 }
 
 /// The text without tabs and blanks at both ends.
-fn trim_blanks(text: &[u8]) -> &[u8]
+pub(crate) fn trim_blanks(text: &[u8]) -> &[u8]
     ensures { result.now ≡ trim_blanks text.now }
 {
     blanks_behind(blanks_before(text))

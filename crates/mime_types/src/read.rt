@@ -7,7 +7,12 @@ ghost use Rattle.mime_types.specs.Seen.{mime_of};
 use crate::mime_type::MimeType;
 use crate::text::{cut, is_a_token, trim, trim_end};
 
-/// The MIME type that the text says, as the value of the header `Content-Type`.
+/// The MIME type that the text says, as the value of the header `Content-Type`. It takes no memory.
+///
+/// ```
+/// let found = mime_types::parse(b"Text/HTML; charset=utf-8").ok_or("a MIME type")?;
+/// assert!(rt; found.is_html());
+/// ```
 pub fn parse(text: &[u8]) -> Option<MimeType<'_>>
     ensures { (m : Mime) → (option_map mime_of result ≡ Some m) ↔ Parsed text.now m }
 {

@@ -1,5 +1,9 @@
 //! What browsers' tests and other programs say of texts.
-use crate::{Destination, MimeType, Minimal, is_blocked, is_nosniff, parse};
+use crate::{
+    Destination, Extracted, MimeType, Minimal, Pieces, WriteError, extract, is_blocked, is_nosniff,
+    parse,
+};
+use std::alloc::Global;
 use std::test::Fail;
 
 mod generated;
@@ -148,7 +152,98 @@ fn as_others_block(rt: HostRuntime) -> Result<(), Fail> {
             1 => Destination::Style,
             _ => Destination::Other,
         };
-        assert_eq!(rt; is_blocked(parse(*text), destination), *wanted, "text {i}");
+        let told = extract(*text).map(|found| found.mime_type);
+        assert_eq!(rt; is_blocked(told, destination), *wanted, "text {i}");
     }
+    Ok(())
+}
+
+#[test]
+fn as_others_split(rt: HostRuntime) -> Result<(), Fail> {
+    for (i, (value, wanted)) in generated::SPLIT.iter().enumerate() {
+        let mut pieces = Pieces::new(*value);
+        for piece in *wanted {
+            assert!(rt; pieces.next() == Some(*piece), "value {i}");
+        }
+        assert!(rt; pieces.next().is_none(), "value {i}");
+    }
+    Ok(())
+}
+
+#[test]
+fn as_others_extract(rt: HostRuntime) -> Result<(), Fail> {
+    for (i, (value, wanted)) in generated::EXTRACTED.iter().enumerate() {
+        match extract(*value) {
+            Some(found) => assert!(rt; is_extracted(rt.alloc(), &found, *wanted)?, "value {i}"),
+            None => assert!(rt; wanted.is_empty(), "value {i}"),
+        }
+    }
+    Ok(())
+}
+
+/// Whether the MIME type says this, with the charset behind its parameters if it has none.
+fn is_extracted(alloc: Global, found: &Extracted<'_>, wanted: &[u8]) -> Result<bool, Fail> {
+    let mut out = [0; 1024];
+    let end = found.mime_type.write(&mut out).map_err(|_| "no room")?;
+    let mut text = Vec::new(alloc);
+    text.extend_from_slice(&out[..end.min(1024)])?;
+    if let (Some(value), None) = (found.charset, found.mime_type.parameter(b"charset")) {
+        text.extend_from_slice(b";charset=")?;
+        let quote = if value.is_quoted { "\"" } else { "" };
+        text.extend_from_slice(quote.as_bytes())?;
+        text.extend_from_slice(value.text)?;
+        text.extend_from_slice(quote.as_bytes())?;
+    }
+    Ok(is_said(&text, wanted))
+}
+
+#[test]
+fn a_parameter_by_its_name(rt: HostRuntime) -> Result<(), Fail> {
+    let found = parse(b"Text/HTML; a=\x01; A=b; charset=\"x\\y\"; charset=z").ok_or(
+        "no MIME type",
+    )?;
+    let value = found.parameter(b"a").ok_or("no value")?;
+    assert!(rt; value.text == b"b".as_slice() && !value.is_quoted);
+    let value = found.parameter(b"CHARSET").ok_or("no value")?;
+    assert!(rt; value.text == b"x\\y".as_slice() && value.is_quoted);
+    assert!(rt; found.parameter(b"b").is_none());
+    let mut out = [0; 16];
+    assert!(rt; found.write_essence(&mut out) == Some(9) && &out[..9] == b"text/html".as_slice());
+    assert!(rt; found.write_essence(&mut out[..8]).is_none());
+    Ok(())
+}
+
+/// A header of a megabyte, with 100,000 parameters of ten bytes.
+#[test]
+fn a_long_header(rt: HostRuntime) -> Result<(), Fail> {
+    let mut text = Vec::new(rt.alloc());
+    text.extend_from_slice(b"text/html")?;
+    for _ in 0..100_000 {
+        text.extend_from_slice(b";name=text")?;
+    }
+    text.extend_from_slice(b";last=1")?;
+    let found = parse(&text).ok_or("no MIME type")?;
+    assert!(rt; found.is_html() && found.parameters().is_none());
+    assert!(rt; found.parameter(b"last").is_some() && found.parameter(b"none").is_none());
+    assert!(rt;
+        matches!(
+            found.write(&mut [0; 64]),
+            Err(WriteError::TooManyParameters)
+        )
+    );
+    let found = extract(&text).ok_or("no MIME type")?;
+    assert!(rt; found.mime_type.is_html() && found.charset.is_none());
+    Ok(())
+}
+
+#[test]
+fn a_long_list(rt: HostRuntime) -> Result<(), Fail> {
+    let mut text = Vec::new(rt.alloc());
+    text.extend_from_slice(b"a/b;charset=x")?;
+    for _ in 0..200_000 {
+        text.extend_from_slice(b", a/b")?;
+    }
+    let found = extract(&text).ok_or("no MIME type")?;
+    assert!(rt; found.charset.ok_or("no charset")?.text == b"x".as_slice());
     Ok(())
 }

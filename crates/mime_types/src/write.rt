@@ -128,7 +128,8 @@ pub const MOST_SEGMENTS: usize = 256;
 impl<'a> MimeType<'a> {
     ghost use Rattle.std.specs.Prelude.{IfSome};
     ghost use Rattle.mime_types.specs.Left.{left};
-    ghost use Rattle.mime_types.specs.Seen.{mime_of};
+    ghost use Rattle.mime_types.specs.Groups.{essence};
+    ghost use Rattle.mime_types.specs.Seen.{kind_of, mime_of};
     ghost use Rattle.mime_types.specs.Serialize.{serialize};
     ghost use Rattle.mime_types.specs.Wrote.{HasFew, IsWritten};
 
@@ -159,10 +160,18 @@ impl<'a> MimeType<'a> {
     fn write_text(&self, out: &mut [u8]) -> Option<usize>
         ensures { Wrote out.old out.new 0 (serialize (mime_of self.now)) result }
     {
+        let at = self.write_essence(out)?;
+        write_parameters(out, at, self.tail)
+    }
+
+    /// Writes the type and the subtype in lower case, as `text/html`, and returns how long that is; or none if it is longer
+    /// than the buffer.
+    pub fn write_essence(&self, out: &mut [u8]) -> Option<usize>
+        ensures { Wrote out.old out.new 0 (essence (kind_of self.now)) result }
+    {
         let at = write_lower(out, 0, self.type_name)?;
         let at = write_byte(out, at, b'/')?;
-        let at = write_lower(out, at, self.subtype)?;
-        write_parameters(out, at, self.tail)
+        write_lower(out, at, self.subtype)
     }
 }
 
