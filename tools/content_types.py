@@ -19,10 +19,15 @@ pub(super) static CASES: &[Case] = cases![
 """
 
 
+def pieces(words):
+    """Words of hexadecimal digits as bytes and how often they stand there: `00*26` is 26 bytes of 00, and "-" is none."""
+    parts = (it.partition("*") for it in words.replace("-", "").split())
+    return ", ".join(f"{literal(bytes.fromhex(digits))} {count or 1}" for digits, _, count in parts)
+
+
 def case(line):
     words, mime_type = line.split("\t")
-    pieces = (it.partition("*") for it in words.replace("-", "").split())
-    return f'    {", ".join(f"{literal(bytes.fromhex(digits))} {count or 1}" for digits, _, count in pieces)} => "{mime_type}";\n'.replace("     =>", "    =>")
+    return f'    {pieces(words)} => "{mime_type}";\n'.replace("     =>", "    =>")
 
 
 def made():

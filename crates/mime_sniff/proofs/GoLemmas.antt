@@ -1,29 +1,30 @@
 -- The rules of Go, part by part.
-use Rattle.std.proofs.Common.{◌≡◌, ◌↔◌, true, ℕ, List, [], ◌∷◌, ◌++◌, ◌<◌, ◌≤◌, ◌&&◌, Bool, codes, length, nat_le, nat_lt, Option, None, Some, refl, subst}
+use Rattle.std.proofs.Common.{◌≡◌, true, ℕ, List, [], ◌∷◌, ◌++◌, ◌<◌, ◌≤◌, ◌&&◌, Bool, codes, length, nat_le, nat_lt, Option, None, Some, refl, subst}
 use Rattle.std.proofs.lemmas.Bool.{and_parts, leb-true, ltb-true}
 use Rattle.std.specs.List.{list_all}
 use Rattle.infer_formats.specs.Text.{IsBinary}
 use Rattle.mime_sniff.specs.Mp4.{IsMp4}
-use Rattle.mime_sniff.specs.Go.{between, earlier, later, markup, mp4_rule, rules, text_rule}
-use Rattle.mime_sniff.specs.Rule.{Accepts, FitsRule, Rule, TellsFirst}
-use Rattle.mime_sniff.proofs.FirstLemmas.{told_passes, tells_alike, tells_here, tells_later, tells_left, tells_none, tells_right}
-use Rattle.mime_sniff.proofs.RuleLemmas.{is_markup_rule, is_plain_rule}
+use Rattle.mime_sniff.specs.Go.{between, documents, earlier, later, markup, mp4_rule, rules, text_rule}
+use Rattle.mime_sniff.specs.Table.{images, markup_rules, sounds}
+use Rattle.mime_sniff.specs.Rule.{Accepts, Rule, TellsFirst}
+use Rattle.mime_sniff.proofs.FirstLemmas.{told_passes, tells_here, tells_later, tells_left, tells_none, tells_right}
+use Rattle.mime_sniff.proofs.RuleLemmas.{is_direct_rule, is_markup_rule, is_plain_rule}
 
 pub markup_is : list_all is_markup_rule markup ≡ true
-unfolding markup
+unfolding markup_rules
 markup_is = refl
 
-pub earlier_is : list_all is_plain_rule earlier ≡ true
-unfolding earlier
-earlier_is = refl
+pub documents_is : list_all is_plain_rule documents ≡ true
+unfolding documents
+documents_is = refl
 
 pub later_is : list_all is_plain_rule later ≡ true
 unfolding later
 later_is = refl
 
-pub tells_between : (b : List ℕ) (told : Option (List ℕ)) → TellsFirst (FitsRule b) between told → TellsFirst (Accepts b) between told
+pub between_is : list_all is_direct_rule between ≡ true
 unfolding between
-tells_between b told h = tells_alike (FitsRule b) (Accepts b) between told ((λ x. x, λ x. x), ((λ x. x, λ x. x), tt)) h
+between_is = refl
 
 abbrev before_mp4 : List Rule
 before_mp4 = markup ++ earlier
@@ -40,6 +41,17 @@ module _ (b : List ℕ) where
 
   from_between : (t : List ℕ) → TellsFirst P before_later (Some t) → TellsFirst P rules (Some t)
   from_between t h = tells_left P before_text (text_rule ∷ []) t (tells_left P before_later later t h)
+
+  -- what is asked of the first byte
+  pub by_documents : (t : List ℕ) → TellsFirst P documents (Some t) → TellsFirst P earlier (Some t)
+  by_documents t h = tells_left P (documents ++ images) sounds t (tells_left P documents images t h)
+
+  module _ (no_documents : TellsFirst P documents None) where
+    pub by_images : (t : List ℕ) → TellsFirst P images (Some t) → TellsFirst P earlier (Some t)
+    by_images t h = tells_left P (documents ++ images) sounds t (tells_right P documents images (Some t) no_documents h)
+
+    pub by_sounds : (told : Option (List ℕ)) → TellsFirst P images None → TellsFirst P sounds told → TellsFirst P earlier told
+    by_sounds told no_images h = tells_right P (documents ++ images) sounds told (tells_right P documents images None no_documents no_images) h
 
   pub by_markup : (t : List ℕ) → TellsFirst P markup (Some t) → TellsFirst P rules (Some t)
   by_markup t h = from_between t (tells_left P before_mp4 (mp4_rule ∷ between) t (tells_left P markup earlier t h))
@@ -82,7 +94,7 @@ abbrev is_short : Rule → Bool
 is_short rule = nat_lt 0 (length rule.mime_type) && nat_le (length rule.mime_type) 29
 
 all_short : list_all is_short rules ≡ true
-unfolding markup earlier between later
+unfolding markup_rules documents images sounds between later
 all_short = refl
 
 pub told_short : (P : Rule → Type 0) (t : List ℕ) → TellsFirst P rules (Some t) → (0 < length t) × (length t ≤ 29)

@@ -2,3 +2,9 @@ pub mod FirstLemmas
 pub mod RuleLemmas
 pub mod RowLemmas
 pub mod GoLemmas
+pub mod StandardLemmas
+pub mod WebmLemmas
+pub mod ComputedLemmas
+pub mod GrowthLemmas
+pub mod DecidedLemmas
+pub mod SnifferLemmas

@@ -2,7 +2,7 @@
 use Rattle.std.proofs.Common.{◌≡◌, ℕ, ◌+◌, ◌<◌, ◌≤◌, List, ◌∷◌, Option, None, Some, add-one, drop, drop-cons, get_or, length, map, sym, subst}
 use Rattle.mime_sniff.specs.Listed.{pattern_listed, rule_listed}
 use Rattle.mime_sniff.specs.Row.{Fits}
-use Rattle.mime_sniff.specs.Rule.{FitsRule, Rule, TellsFirst}
+use Rattle.mime_sniff.specs.Rule.{FitsRule, TellsFirst}
 use Rattle.mime_sniff.specs.declared.row.Row as code
 use Rattle.std.proofs.lemmas.List.{drop_all}
 use Rattle.mime_sniff.proofs.FirstLemmas.{tells_here, tells_later, tells_none}

@@ -1,16 +1,15 @@
 -- What a rule asks of a buffer, by the byte that its pattern begins with.
-use Rattle.std.proofs.Common.{◌≡◌, ◌↔◌, ◌==◌, ◌&&◌, ℕ, ◌+◌, ◌<◌, Bool, true, false, not, List, [], ◌∷◌, Option, None, Some, bit_and, get_or, length, nat_lt, refl, subst, sym, ap, ◌∙◌, arith}
+use Rattle.std.proofs.Common.{◌≡◌, ◌↔◌, ◌==◌, ◌&&◌, ℕ, ◌+◌, ◌<◌, Bool, true, false, not, List, [], ◌∷◌, Option, None, get_or, length, nat_lt, subst, sym, ap, ◌∙◌, arith}
 use Rattle.std.proofs.lemmas.Bool.{and_parts, eq-eqb, eqb-true, false≢true, ltb-true}
-use Rattle.std.proofs.lemmas.Bool.Decides.{nat_tests}
 use Rattle.std.proofs.lemmas.Grind.{and_numeral}
 use Rattle.std.proofs.lemmas.List.{get_or-append-add}
 use Rattle.std.specs.List.{AllByRecursion, concat, list_all}
-use Rattle.infer_deep.specs.Joined.{Behind, NoneBegins, SkipsTo}
+use Rattle.infer_deep.specs.Joined.{NoneBegins, SkipsTo}
 use Rattle.infer_deep.specs.Text.{IsSpace}
 use Rattle.infer_deep.proofs.JoinedLemmas.{Behind-left, IsPrefixFree}
-use Rattle.mime_sniff.specs.Go.{earlier, later, between, led_by, lead_of, markup}
+use Rattle.mime_sniff.specs.Table.{led_by, lead_of}
 use Rattle.mime_sniff.specs.Row.{AcceptsFixed, Fits, FitsBehind, Pattern, mask_at}
-use Rattle.mime_sniff.specs.Rule.{Accepts, FitsRule, FitsSignature, IsAccepted, Rule, Signature, TellsFirst, fixed, mp4, no_data}
+use Rattle.mime_sniff.specs.Rule.{Accepts, FitsRule, FitsSignature, IsAccepted, Rule, Signature, TellsFirst, fixed, mp3, mp4, mp4_of_any_box, no_data, webm}
 use Rattle.mime_sniff.proofs.FirstLemmas.{tells_alike, tells_filtered, tells_nothing}
 
 -- what all rules of a list have that pass a test
@@ -50,12 +49,18 @@ module _ (b : List ℕ) (byte : get_or b 0 0 < 256) where
   plain_signature : (s : Signature) → is_plain s ≡ true → FitsSignature b s ↔ IsAccepted s b
   plain_signature (fixed p) is = accepts_plain b p (and_parts (not p.ignores_white) (is_led p) is).0
   plain_signature mp4 is = absurd (false≢true is)
+  plain_signature mp4_of_any_box is = absurd (false≢true is)
+  plain_signature webm is = absurd (false≢true is)
+  plain_signature mp3 is = absurd (false≢true is)
   plain_signature no_data is = absurd (false≢true is)
 
   plain_lead : (s : Signature) → is_plain s ≡ true → FitsSignature b s → (lead_of s == get_or b 0 0) ≡ true
   plain_lead (fixed p) is fits =
       eq-eqb _ _ (sym (fits_lead p b (and_parts (not p.ignores_white) (is_led p) is).1 byte fits))
   plain_lead mp4 is fits = absurd (false≢true is)
+  plain_lead mp4_of_any_box is fits = absurd (false≢true is)
+  plain_lead webm is fits = absurd (false≢true is)
+  plain_lead mp3 is fits = absurd (false≢true is)
   plain_lead no_data is fits = absurd (false≢true is)
 
   plain_some : (s : Signature) → is_plain s ≡ true → FitsSignature b s → 0 < length b
@@ -65,6 +70,9 @@ module _ (b : List ℕ) (byte : get_or b 0 0 < 256) where
       let long = fits.long in
       omega arith
   plain_some mp4 is fits = absurd (false≢true is)
+  plain_some mp4_of_any_box is fits = absurd (false≢true is)
+  plain_some webm is fits = absurd (false≢true is)
+  plain_some mp3 is fits = absurd (false≢true is)
   plain_some no_data is fits = absurd (false≢true is)
 
   -- of plain rules those that the buffer's first byte leads tell the type, and for an empty buffer none does
@@ -81,6 +89,29 @@ module _ (b : List ℕ) (byte : get_or b 0 0 < 256) where
       tells_nothing (Accepts b) rules
       (all_by_test is_plain_rule (λ r. ¬ Accepts b r)
       (λ r is a. let some = plain_some r.signature is ((plain_signature r.signature is).1 a) in omega (arith, some, none)) rules plain)
+
+-- a rule of a pattern before which nothing is ignored
+abbrev is_direct : Signature → Bool
+is_direct (fixed p) = not p.ignores_white
+is_direct other = false
+
+abbrev pub is_direct_rule : Rule → Bool
+is_direct_rule r = is_direct r.signature
+
+direct_signature : (b : List ℕ) (s : Signature) → is_direct s ≡ true → FitsSignature b s ↔ IsAccepted s b
+direct_signature b (fixed p) is = accepts_plain b p is
+direct_signature b mp4 is = absurd (false≢true is)
+direct_signature b mp4_of_any_box is = absurd (false≢true is)
+direct_signature b webm is = absurd (false≢true is)
+direct_signature b mp3 is = absurd (false≢true is)
+direct_signature b no_data is = absurd (false≢true is)
+
+-- such rules tell what they tell of a text that fits them
+pub tells_direct : (b : List ℕ) (rules : List Rule) (told : Option (List ℕ)) → list_all is_direct_rule rules ≡ true
+    → TellsFirst (FitsRule b) rules told → TellsFirst (Accepts b) rules told
+tells_direct b rules told direct =
+    tells_alike (FitsRule b) (Accepts b) rules told
+    (all_by_test is_direct_rule (λ r. FitsRule b r ↔ Accepts b r) (λ r. direct_signature b r.signature) rules direct)
 
 -- a rule of a pattern that begins "<", before which white space is ignored
 abbrev is_markup : Signature → Bool
@@ -102,6 +133,9 @@ module _ (b text : List ℕ) (skips : SkipsTo IsSpace b text) (stops : NoneBegin
   markup_signature : (s : Signature) → is_markup s ≡ true → FitsSignature text s ↔ IsAccepted s b
   markup_signature (fixed p) is = accepts_white p (and_parts p.ignores_white (is_led p && (get_or p.bytes 0 0 == 0x3C)) is).0
   markup_signature mp4 is = absurd (false≢true is)
+  markup_signature mp4_of_any_box is = absurd (false≢true is)
+  markup_signature webm is = absurd (false≢true is)
+  markup_signature mp3 is = absurd (false≢true is)
   markup_signature no_data is = absurd (false≢true is)
 
   markup_lead : (s : Signature) → is_markup s ≡ true → FitsSignature text s → (0 < length text) × (get_or text 0 0 ≡ 0x3C)
@@ -113,6 +147,9 @@ module _ (b text : List ℕ) (skips : SkipsTo IsSpace b text) (stops : NoneBegin
       let long = fits.long in
       (omega arith, omega arith)
   markup_lead mp4 is fits = absurd (false≢true is)
+  markup_lead mp4_of_any_box is fits = absurd (false≢true is)
+  markup_lead webm is fits = absurd (false≢true is)
+  markup_lead mp3 is fits = absurd (false≢true is)
   markup_lead no_data is fits = absurd (false≢true is)
 
   pub tells_markup : (rules : List Rule) (told : Option (List ℕ)) → list_all is_markup_rule rules ≡ true

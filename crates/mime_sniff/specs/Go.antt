@@ -1,84 +1,26 @@
 -- What Go's `http.DetectContentType` answers: the standard's tables but for MP3 without a tag, with fonts and
 -- WebAssembly, WebM by four bytes, and RAR as its files are.
-use Rattle.std.specs.Prelude.{◌≡◌, ℕ, ◌==◌, Bool, true, false, List, [], ◌∷◌, ◌++◌, Option, codes, replicate, slice_index, take, unwrap_or}
-use Rattle.std.specs.List.{filter}
-use Rattle.mime_sniff.specs.Row.{Pattern}
-use Rattle.mime_sniff.specs.Rule.{Accepts, Rule, Signature, TellsFirst, fixed, mp4, no_data}
+use Rattle.std.specs.Prelude.{◌≡◌, ℕ, List, [], ◌∷◌, ◌++◌, Option, codes, take, unwrap_or}
+use Rattle.mime_sniff.specs.Rule.{Accepts, Rule, TellsFirst, mp4, no_data}
+use Rattle.mime_sniff.specs.Table.{any, exact, images, markup_rules, masked, rule, same, sounds}
 
-abbrev pub rule : Signature → List ℕ → Rule
-rule signature mime_type = record { signature = signature; mime_type = mime_type }
+-- markup, with its encoding
+abbrev pub markup : List Rule
+markup = markup_rules (codes "text/html; charset=utf-8") (codes "text/xml; charset=utf-8")
 
-abbrev pub pattern : List ℕ → List ℕ → Bool → Bool → Signature
-pattern bytes mask ignores_white ends_tag =
-    fixed (record { bytes = bytes; mask = mask; ignores_white = ignores_white; ends_tag = ends_tag })
-
--- these bytes; or these as far as the mask has bits
-abbrev pub exact : List ℕ → List ℕ → Rule
-exact bytes mime_type = rule (pattern bytes [] false false) mime_type
-
-abbrev pub masked : List ℕ → List ℕ → List ℕ → Rule
-masked bytes mask mime_type = rule (pattern bytes mask false false) mime_type
-
--- a tag of HTML behind white space: letters stand in either case, and a byte that ends the tag follows
-abbrev pub tag : List ℕ → List ℕ → Rule
-tag bytes mask = rule (pattern bytes mask true true) (codes "text/html; charset=utf-8")
-
--- the mask of n letters in either case, of n bytes as they are, and of any n bytes
-abbrev pub letters : ℕ → List ℕ
-letters n = replicate n 0xDF
-
-abbrev pub same : ℕ → List ℕ
-same n = replicate n 0xFF
-
-abbrev pub any : ℕ → List ℕ
-any n = replicate n 0x00
-
--- markup, which begins "<"
-unfoldable pub markup : List Rule
-markup =
-    tag (codes "<!DOCTYPE HTML") (same 2 ++ letters 7 ++ same 1 ++ letters 4)
-    ∷ tag (codes "<HTML") (same 1 ++ letters 4)
-    ∷ tag (codes "<HEAD") (same 1 ++ letters 4)
-    ∷ tag (codes "<SCRIPT") (same 1 ++ letters 6)
-    ∷ tag (codes "<IFRAME") (same 1 ++ letters 6)
-    ∷ tag (codes "<H1") (same 1 ++ letters 1 ++ same 1)
-    ∷ tag (codes "<DIV") (same 1 ++ letters 3)
-    ∷ tag (codes "<FONT") (same 1 ++ letters 4)
-    ∷ tag (codes "<TABLE") (same 1 ++ letters 5)
-    ∷ tag (codes "<A") (same 1 ++ letters 1)
-    ∷ tag (codes "<STYLE") (same 1 ++ letters 5)
-    ∷ tag (codes "<TITLE") (same 1 ++ letters 5)
-    ∷ tag (codes "<B") (same 1 ++ letters 1)
-    ∷ tag (codes "<BODY") (same 1 ++ letters 4)
-    ∷ tag (codes "<BR") (same 1 ++ letters 2)
-    ∷ tag (codes "<P") (same 1 ++ letters 1)
-    ∷ tag (codes "<!--") []
-    ∷ rule (pattern (codes "<?xml") [] true false) (codes "text/xml; charset=utf-8")
-    ∷ []
-
--- documents, marks of texts, images and sounds
-unfoldable pub earlier : List Rule
-earlier =
+-- documents, and marks of texts
+unfoldable pub documents : List Rule
+documents =
     exact (codes "%PDF-") (codes "application/pdf")
     ∷ exact (codes "%!PS-Adobe-") (codes "application/postscript")
     ∷ masked (0xFE ∷ 0xFF ∷ any 2) (same 2 ++ any 2) (codes "text/plain; charset=utf-16be")
     ∷ masked (0xFF ∷ 0xFE ∷ any 2) (same 2 ++ any 2) (codes "text/plain; charset=utf-16le")
     ∷ masked (0xEF ∷ 0xBB ∷ 0xBF ∷ any 1) (same 3 ++ any 1) (codes "text/plain; charset=utf-8")
-    ∷ exact (0x00 ∷ 0x00 ∷ 0x01 ∷ 0x00 ∷ []) (codes "image/x-icon")
-    ∷ exact (0x00 ∷ 0x00 ∷ 0x02 ∷ 0x00 ∷ []) (codes "image/x-icon")
-    ∷ exact (codes "BM") (codes "image/bmp")
-    ∷ exact (codes "GIF87a") (codes "image/gif")
-    ∷ exact (codes "GIF89a") (codes "image/gif")
-    ∷ masked (codes "RIFF" ++ any 4 ++ codes "WEBPVP") (same 4 ++ any 4 ++ same 6) (codes "image/webp")
-    ∷ exact (0x89 ∷ codes "PNG" ++ 0x0D ∷ 0x0A ∷ 0x1A ∷ 0x0A ∷ []) (codes "image/png")
-    ∷ exact (0xFF ∷ 0xD8 ∷ 0xFF ∷ []) (codes "image/jpeg")
-    ∷ masked (codes "FORM" ++ any 4 ++ codes "AIFF") (same 4 ++ any 4 ++ same 4) (codes "audio/aiff")
-    ∷ exact (codes "ID3") (codes "audio/mpeg")
-    ∷ exact (codes "OggS" ++ 0x00 ∷ []) (codes "application/ogg")
-    ∷ exact (codes "MThd" ++ 0x00 ∷ 0x00 ∷ 0x00 ∷ 0x06 ∷ []) (codes "audio/midi")
-    ∷ masked (codes "RIFF" ++ any 4 ++ codes "AVI ") (same 4 ++ any 4 ++ same 4) (codes "video/avi")
-    ∷ masked (codes "RIFF" ++ any 4 ++ codes "WAVE") (same 4 ++ any 4 ++ same 4) (codes "audio/wave")
     ∷ []
+
+-- what is asked before MP4 of the first byte
+abbrev pub earlier : List Rule
+earlier = documents ++ images ++ sounds
 
 -- WebM, and fonts for old browsers, which are told by their 35th byte
 unfoldable pub between : List Rule
@@ -122,12 +64,3 @@ abbrev pub IsContentType : List ℕ → List ℕ → Type 0
 IsContentType b t =
     (told : Option (List ℕ)) × TellsFirst (Accepts (header b)) rules told
     × (t ≡ unwrap_or told (codes "application/octet-stream"))
-
--- the first byte of a rule's pattern
-abbrev pub lead_of : Signature → ℕ
-lead_of (fixed p) = slice_index p.bytes 0
-lead_of other = 0
-
--- the rules whose pattern begins with the byte
-abbrev pub led_by : ℕ → List Rule → List Rule
-led_by first rules = filter (λ r. lead_of r.signature == first) rules

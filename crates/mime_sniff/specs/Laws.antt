@@ -1,6 +1,10 @@
--- Laws of content types.
-use Rattle.std.specs.Prelude.{◌≡◌, ◌↔◌, ℕ, List}
-use Rattle.mime_sniff.specs.Go.{IsContentType, header}
+-- Laws of content types and of computed types.
+use Rattle.std.specs.Prelude.{◌≡◌, ◌↔◌, ◌⊎◌, Any, IsTrue, List, Option, ℕ}
+use Rattle.mime_sniff.specs.Computed.{IsComputed, IsSuppliedScriptable, IsUnknown, Supply, TellsScriptable}
+use Rattle.mime_sniff.specs.Go.{IsContentType}
+use Rattle.mime_sniff.specs.Go as go
+use Rattle.mime_sniff.specs.Rule.{Accepts}
+use Rattle.mime_sniff.specs.Standard.{header, scriptable}
 
 -- a buffer has one content type
 abbrev pub HasOneType : Type 0
@@ -8,4 +12,20 @@ HasOneType = (b s t : List ℕ) → IsContentType b s → IsContentType b t → 
 
 -- it is that of the header
 abbrev pub HeaderDecides : Type 0
-HeaderDecides = (b t : List ℕ) → IsContentType (header b) t ↔ IsContentType b t
+HeaderDecides = (b t : List ℕ) → IsContentType (go.header b) t ↔ IsContentType b t
+
+-- what is supplied and a buffer have one computed type
+abbrev pub ComputesOne : Type 0
+ComputesOne = (s : Supply) (b : List ℕ) (t u : Option (List ℕ)) → IsComputed s b t → IsComputed s b u → t ≡ u
+
+-- it is that of the header, and so that of the bytes that a sniffer of pieces keeps
+abbrev pub HeaderComputes : Type 0
+HeaderComputes = (s : Supply) (b : List ℕ) (t : Option (List ℕ)) → IsComputed s (header b) t ↔ IsComputed s b t
+
+-- nothing tells the type, sniffing is not forbidden, and what may run scripts accepts the bytes
+abbrev pub MayEscalate : Supply → List ℕ → Type 0
+MayEscalate s b = IsUnknown s.kind × (¬ IsTrue s.no_sniff) × Any (Accepts (header b)) scriptable
+
+-- a computed type may run scripts only if the supplied one may, or so
+abbrev pub Escalates : Type 0
+Escalates = (s : Supply) (b : List ℕ) (told : Option (List ℕ)) → IsComputed s b told → TellsScriptable s told → IsSuppliedScriptable s ⊎ MayEscalate s b

@@ -1,6 +1,12 @@
 pub mod Row
 pub mod Mp4
+pub mod Webm
+pub mod Mp3
 pub mod Rule
+pub mod Table
 pub mod Go
+pub mod Standard
+pub mod Computed
+pub mod Growth
 pub mod Listed
 pub mod Laws

@@ -23,3 +23,11 @@ pub record IsMp4 (b : List ℕ) : Type 0 where
   pub whole : box_length b ≤ length b
   pub words : box_length b % 4 ≡ 0
   pub brand : HasBrand b
+
+-- the same, but that the major brand counts even if the box is said to end before it
+pub record IsMp4OfAnyBox (b : List ℕ) : Type 0 where
+  pub long : 12 ≤ length b
+  pub kind : OccursAt b (codes "ftyp") 4
+  pub whole : box_length b ≤ length b
+  pub words : box_length b % 4 ≡ 0
+  pub brand : OccursAt b (codes "mp4") 8 ⊎ HasBrand b

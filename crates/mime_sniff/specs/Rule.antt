@@ -1,13 +1,18 @@
 -- Rules, in order: what each asks of a buffer, and the type that it tells.
 use Rattle.std.specs.Prelude.{◌≡◌, ℕ, List, ◌∷◌, ◌++◌, All, MatchOption, Option}
 use Rattle.infer_formats.specs.Text.{IsBinary}
-use Rattle.mime_sniff.specs.Mp4.{IsMp4}
+use Rattle.mime_sniff.specs.Mp3.{IsMp3}
+use Rattle.mime_sniff.specs.Mp4.{IsMp4, IsMp4OfAnyBox}
 use Rattle.mime_sniff.specs.Row.{AcceptsFixed, Fits, Pattern}
+use Rattle.mime_sniff.specs.Webm.{IsWebm}
 
--- a pattern, a box of MP4, or no byte of binary data
+-- a pattern, MP4 in one of two ways, WebM, MP3, or no byte of binary data
 pub data Signature : Type 0 where
   fixed : Pattern → Signature
   mp4 : Signature
+  mp4_of_any_box : Signature
+  webm : Signature
+  mp3 : Signature
   no_data : Signature
 
 pub record Rule : Type 0 where
@@ -18,6 +23,9 @@ pub record Rule : Type 0 where
 abbrev pub IsAccepted : Signature → List ℕ → Type 0
 IsAccepted (fixed pattern) b = AcceptsFixed pattern b
 IsAccepted mp4 b = IsMp4 b
+IsAccepted mp4_of_any_box b = IsMp4OfAnyBox b
+IsAccepted webm b = IsWebm b
+IsAccepted mp3 b = IsMp3 b
 IsAccepted no_data b = ¬ IsBinary b
 
 abbrev pub Accepts : List ℕ → Rule → Type 0

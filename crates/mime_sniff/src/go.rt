@@ -1,10 +1,11 @@
 //! What Go's package `net/http` takes first bytes for.
 ghost use Rattle.std.specs.Prelude.{◌≡◌, ◌<◌, ◌≤◌, ◌↔◌, length, map, option_map};
-ghost use Rattle.mime_sniff.specs.Go.{IsContentType, between, earlier, later, markup, rules};
+ghost use Rattle.mime_sniff.specs.Go.{IsContentType, between, documents, earlier, later, markup, rules};
 ghost use Rattle.mime_sniff.specs.Rule.{Accepts, TellsFirst};
 
 use crate::mp4::is_mp4;
 use crate::row::first_type;
+use crate::standard::{of_images, of_sounds};
 use infer_deep::text::after_white_space;
 use infer_formats::text::is_binary;
 
@@ -69,14 +70,27 @@ fn of_markup(header: &[u8]) -> Option<&'static str>
     first_type(table::markup(), text)
 }
 
-/// The type of the first rule before MP4, of those with the first byte.
+/// The type of the first rule before MP4.
 fn of_earlier(header: &[u8]) -> Option<&'static str>
     ensures { TellsFirst (Accepts header.now) earlier (option_map (λ t. t.now) result) }
+{
+    if let Some(found) = of_documents(header) {
+        return Some(found);
+    }
+    if let Some(found) = of_images(header) {
+        return Some(found);
+    }
+    of_sounds(header)
+}
+
+/// The type of the first rule of documents, of those with the first byte.
+fn of_documents(header: &[u8]) -> Option<&'static str>
+    ensures { TellsFirst (Accepts header.now) documents (option_map (λ t. t.now) result) }
 {
     if header.is_empty() {
         return None;
     }
-    first_type(table::earlier(header[0]), header)
+    first_type(table::documents(header[0]), header)
 }
 
 fn of_between(header: &[u8]) -> Option<&'static str>

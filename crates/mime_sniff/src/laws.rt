@@ -1,5 +1,5 @@
 //! Facts about the definitions, each the contract of a function that does nothing beside. To use a law, call it.
-ghost use Rattle.mime_sniff.specs.Laws.{HasOneType, HeaderDecides};
+ghost use Rattle.mime_sniff.specs.Laws.{ComputesOne, Escalates, HasOneType, HeaderComputes, HeaderDecides};
 
 /// No buffer has two content types.
 pub fn one_type()
@@ -9,4 +9,20 @@ pub fn one_type()
 /// What stands behind the header makes no difference.
 pub fn header_decides()
     ensures { HeaderDecides }
+{}
+
+/// What is supplied and a buffer have no two computed types.
+pub fn one_computed()
+    ensures { ComputesOne }
+{}
+
+/// What stands behind the first 1445 bytes makes no difference to a computed type.
+pub fn header_computes()
+    ensures { HeaderComputes }
+{}
+
+/// A computed type may run scripts only if the supplied type may; or if none that tells anything was supplied, sniffing was
+/// not forbidden, and a rule of what may run scripts accepts the first bytes.
+pub fn escalation()
+    ensures { Escalates }
 {}

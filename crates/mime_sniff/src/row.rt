@@ -1,5 +1,7 @@
 //! A row of a table, as the standard writes it: a pattern, a mask, and what is ignored in front.
-ghost use Rattle.std.specs.Prelude.{◌≡◌, ◌↔◌, IsTrue, map, option_map};
+ghost use Rattle.std.specs.Prelude.{◌≡◌, ◌↔◌, IfSome, IsTrue, map, option_map};
+ghost use Rattle.std.specs.Bool.{OnFalse};
+ghost use Rattle.mime_sniff.specs.Growth.{FitForGood, NeverHolds};
 ghost use Rattle.mime_sniff.specs.Listed.{pattern_listed, rule_listed};
 ghost use Rattle.mime_sniff.specs.Row.{EndsTag, Fits, mask_at};
 ghost use Rattle.mime_sniff.specs.Rule.{FitsRule, TellsFirst};
@@ -48,6 +50,39 @@ fn fits(row: &Row, text: &[u8]) -> bool
     true
 }
 
+/// The type of the first of the rows that `text` fits whatever follows it, or none of them fits; and none if more bytes may
+/// change that.
+pub(crate) fn settled_type(rows: &[Row], text: &[u8]) -> Option<Option<&'static str>>
+    ensures { IfSome result (λ told. FitForGood text.now (map rule_listed rows.now)
+        (option_map (λ t. t.now) told)) }
+{
+    for row in rows {
+        if fits(row, text) {
+            return Some(Some(row.mime_type));
+        }
+        if may_fit(row, text) {
+            return None;
+        }
+    }
+    Some(None)
+}
+
+/// Whether more bytes may make a text fit that does not. It says so of all whose bytes fit that are there.
+fn may_fit(row: &Row, text: &[u8]) -> bool
+    ensures { OnFalse result (NeverHolds (Fits (pattern_listed row.now)) text.now) }
+{
+    let end = row.pattern.len();
+    if end < text.len() && row.ends_tag && !ends_tag(text, end) {
+        return false;
+    }
+    for i in 0..end.min(text.len()) {
+        if text[i] & mask_at(row.mask, i) != row.pattern[i] {
+            return false;
+        }
+    }
+    true
+}
+
 fn mask_at(mask: &[u8], i: usize) -> u8
     ensures { result ≡ mask_at mask.now i }
 {
@@ -65,3 +100,53 @@ fn ends_tag(text: &[u8], place: usize) -> bool
         None => false,
     }
 }
+
+// A row a line: what it asks, and its type.
+macro_rules! rows {
+    ($($kind:ident $pattern:literal $($mask:literal)? => $mime_type:literal;)*) => {
+        &[$(one_row!($kind $pattern $($mask)? => $mime_type)),*]
+    };
+}
+
+pub(crate) use rows;
+
+macro_rules! one_row {
+    (exact $pattern:literal => $mime_type:literal) => {
+        Row {
+            pattern: $pattern,
+            mask: b"",
+            ignores_white: false,
+            ends_tag: false,
+            mime_type: $mime_type,
+        }
+    };
+    (masked $pattern:literal $mask:literal => $mime_type:literal) => {
+        Row {
+            pattern: $pattern,
+            mask: $mask,
+            ignores_white: false,
+            ends_tag: false,
+            mime_type: $mime_type,
+        }
+    };
+    (tag $pattern:literal $mask:literal => $mime_type:literal) => {
+        Row {
+            pattern: $pattern,
+            mask: $mask,
+            ignores_white: true,
+            ends_tag: true,
+            mime_type: $mime_type,
+        }
+    };
+    (text $pattern:literal => $mime_type:literal) => {
+        Row {
+            pattern: $pattern,
+            mask: b"",
+            ignores_white: true,
+            ends_tag: false,
+            mime_type: $mime_type,
+        }
+    };
+}
+
+pub(crate) use one_row;

@@ -2,6 +2,7 @@
 use infer::{Infer, Watched, rows};
 use infer_more::types;
 use infer_sniff::{Sniffer, Verdict};
+use mime_sniff::{Computed, Supplied};
 use std::test::Fail;
 
 #[test]
@@ -85,5 +86,43 @@ fn content_types(rt: HostRuntime) -> Result<(), Fail> {
     // mime_sniff::go::detect_content_type
     let told = mime_sniff::go::detect_content_type(b"<p>Hello");
     assert_eq!(rt; told, "text/html; charset=utf-8");
+    // mime_sniff::compute
+    let supplied = Supplied {
+        mime_type: mime_types::parse(b"image/png"),
+        no_sniff: false,
+        check_for_apache_bug: false,
+    };
+    let computed = mime_sniff::compute(&supplied, b"GIF89a");
+    assert!(rt; matches!(computed, Computed::Sniffed("image/gif")));
+    // mime_sniff::may_be_scriptable
+    assert!(rt; mime_sniff::may_be_scriptable(b" <scr") && !mime_sniff::may_be_scriptable(b"GIF"));
+    // mime_sniff::Sniffer
+    let mut sniffer = mime_sniff::Sniffer::new();
+    sniffer.push(b"GIF");
+    sniffer.push(b"89a");
+    assert_eq!(rt; sniffer.kept(), b"GIF89a".as_slice());
+    Ok(())
+}
+
+#[test]
+fn mime_types_of_headers(rt: HostRuntime) -> Result<(), Fail> {
+    // mime_types::parse
+    let found = mime_types::parse(b"Text/HTML; charset=utf-8").ok_or("a MIME type")?;
+    assert!(rt; found.is_html());
+    // mime_types::MimeType::parameter
+    let found = mime_types::parse(b"text/html; charset=\"utf-8\"").ok_or("a MIME type")?;
+    let value = found.parameter(b"charset").ok_or("a charset")?;
+    assert_eq!(rt; value.text, b"utf-8".as_slice());
+    // mime_types::extract
+    let found = mime_types::extract(b"text/html;charset=gbk, text/html").ok_or("a MIME type")?;
+    assert!(rt; found.mime_type.is_html());
+    assert_eq!(rt; found.charset.ok_or("a charset")?.text, b"gbk".as_slice());
+    // mime_types::Pieces
+    let mut pieces = mime_types::Pieces::new(b"a, \"b,c\"");
+    assert_eq!(rt; pieces.next(), Some(b"a".as_slice()));
+    assert_eq!(rt; pieces.next(), Some(b"\"b,c\"".as_slice()));
+    assert_eq!(rt; pieces.next(), None);
+    // mime_types::is_nosniff
+    assert!(rt; mime_types::is_nosniff(b"NoSniff, x"));
     Ok(())
 }

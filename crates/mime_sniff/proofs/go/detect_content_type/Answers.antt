@@ -1,4 +1,4 @@
-use Rattle.std.proofs.Common.{◌≡◌, ◌∙◌, List, None, Option, Some, ap, refl, subst, take}
+use Rattle.std.proofs.Common.{◌≡◌, ◌∙◌, None, Some, ap, refl, subst, take}
 use Rattle.std.proofs.lemmas.List.{take_min}
 use Rattle.mime_sniff.specs.Go.{header, rules}
 use Rattle.mime_sniff.specs.Rule.{Accepts, TellsFirst}

@@ -1,14 +1,11 @@
-use Rattle.std.proofs.Common.{◌≡◌, arith, length}
-use Rattle.std.proofs.lemmas.Bool.Decides.{nat_tests}
-use Rattle.mime_sniff.specs.Go.{earlier}
-use Rattle.mime_sniff.proofs.GoLemmas.{earlier_is}
-use Rattle.mime_sniff.proofs.RuleLemmas.{tells_empty, tells_led}
+use Rattle.mime_sniff.proofs.GoLemmas.{by_documents, by_images, by_sounds}
 use Rattle.mime_sniff.proofs.go.of_earlier.Goals as goal
 
-pub returns-then-is_empty : goal.returns-then-is_empty
-returns-then-is_empty c =
-    let none : length c.args.header.now ≡ 0 = grind (arith, nat_tests, c.is_empty.ensures, c.if-is_empty.true) in
-    tells_empty c.args.header.now (omega (arith, c.type_inv.header 0)) earlier earlier_is none
+pub returns-in-Some : goal.returns-in-Some
+returns-in-Some c = by_documents c.args.header.now c.in-Some.found.now c.in-Some.ensures
+
+pub returns-in-Some-of_images : goal.returns-in-Some-of_images
+returns-in-Some-of_images c = by_images c.args.header.now c.in_default.ensures c.in-Some-of_images.found.now c.in-Some-of_images.ensures
 
 pub returns : goal.returns
-returns c = tells_led c.args.header.now (omega (arith, c.type_inv.header 0)) earlier _ earlier_is (rw c.earlier.ensures at c.first_type.ensures)
+returns c = by_sounds c.args.header.now c.in_default.ensures _ c.in_default-of_images.ensures c.of_sounds.ensures

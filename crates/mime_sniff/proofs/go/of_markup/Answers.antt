@@ -1,4 +1,4 @@
-use Rattle.std.proofs.Common.{◌<◌, ◌≡◌, arith, get_or, length}
+use Rattle.std.proofs.Common.{◌<◌, arith, get_or}
 use Rattle.std.proofs.lemmas.Bool.Decides.{nat_tests}
 use Rattle.mime_sniff.specs.Go.{markup}
 use Rattle.mime_sniff.proofs.GoLemmas.{markup_is}

@@ -1,5 +1,5 @@
-use Rattle.std.proofs.Common.{◌≡◌, ℕ, List, arith, subst, sym, take, take-take}
-use Rattle.mime_sniff.specs.Go.{IsContentType, header, rules}
+use Rattle.std.proofs.Common.{◌≡◌, ℕ, List, arith, subst, sym, take-take}
+use Rattle.mime_sniff.specs.Go.{header, rules}
 use Rattle.mime_sniff.specs.Rule.{Accepts, TellsFirst}
 use Rattle.mime_sniff.proofs.laws.header_decides.Goals as goal
 

@@ -1,4 +1,4 @@
-use Rattle.std.proofs.Common.{◌≡◌, ◌∙◌, ap, codes, sym}
+use Rattle.std.proofs.Common.{◌∙◌, ap, codes, sym}
 use Rattle.std.specs.Option.{unwrap_or}
 use Rattle.mime_sniff.specs.Go.{header, rules}
 use Rattle.mime_sniff.specs.Rule.{Accepts}

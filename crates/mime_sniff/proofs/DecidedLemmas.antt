@@ -1,0 +1,49 @@
+-- When more bytes leave the computed type as it is.
+use Rattle.std.proofs.Common.{◌≡◌, ◌∙◌, inl, inr, ℕ, ◌+◌, ◌-◌, ◌≤◌, List, [], ◌++◌, Any, None, Option, ap, arith, length, subst, sym, take}
+use Rattle.std.proofs.Math.Seq.{take-append-add}
+use Rattle.std.proofs.lemmas.Bool.{cases_lt}
+use Rattle.std.proofs.lemmas.List.{append-nil, take-append-le, take_all}
+use Rattle.mime_sniff.specs.Computed.{Answers, IsAsked, Supply}
+use Rattle.mime_sniff.specs.Growth.{AnswerForGood, IsDecided, NeverScripts, TellForGood}
+use Rattle.mime_sniff.specs.Rule.{Accepts, Rule, TellsFirst}
+use Rattle.mime_sniff.specs.Standard.{header, scriptable}
+use Rattle.mime_sniff.specs.declared.question.Question.{Question}
+use Rattle.mime_sniff.proofs.ComputedLemmas.{one_answer, one_question}
+
+module _ (b more : List ℕ) where
+  full_stays : 1445 ≤ length b → header (b ++ more) ≡ header b
+  full_stays full = take-append-le 1445 b more full
+
+  -- the header of what goes on is the header that is there, and then some bytes
+  grows : (m : List ℕ) × (header (b ++ more) ≡ header b ++ m)
+  grows = elim (cases_lt (length b) 1445) [
+    | inl short ↦
+        let n = 1445 - length b in
+        let all : header b ≡ b = take_all 1445 b (omega (arith, short)) in
+        let whole : length b + n ≡ 1445 = omega (arith, short) in
+        (take n more, ap (λ k. take k (b ++ more)) (sym whole) ∙ (take-append-add b more n ∙ ap (λ h. h ++ take n more) (sym all)))
+    | inr full ↦ ([], full_stays full ∙ sym (append-nil (header b)))
+  ]
+
+pub decided_full : (s : Supply) (b : List ℕ) → 1445 ≤ length b → IsDecided s b
+decided_full s b full more told (q, asked, h) = (q, asked, subst (λ x. Answers q x told) (sym (full_stays b more full)) h)
+
+pub decided_settled : (s : Supply) (b : List ℕ) (q : Question) (told : Option (List ℕ)) → IsAsked s q → AnswerForGood q (header b) told → IsDecided s b
+decided_settled s b q told asked good more now (r, also, h) =
+    let same : r ≡ q = one_question s r q also asked in
+    let answer = subst (λ x. Answers x (header b) now) same h in
+    let now_is : told ≡ now = one_answer q (header b) told now (subst (λ x. Answers q x told) (append-nil (header b)) (good [])) answer in
+    let (m, e) = grows b more in
+    (q, asked, subst (λ t. Answers q (header (b ++ more)) t) now_is (subst (λ x. Answers q x told) (sym e) (good m)))
+
+-- no rule accepts, if all refuse
+no_rule : (P : Rule → Type 0) (rules : List Rule) → TellsFirst P rules None → ¬ Any P rules
+no_rule P rules all (k, rule, within, at, accepts) = all k rule within (subst P (sym at) accepts)
+
+pub never_full : (b : List ℕ) → 1445 ≤ length b → TellsFirst (Accepts (header b)) scriptable None → NeverScripts b
+never_full b full none more = subst (λ h. ¬ Any (Accepts h) scriptable) (sym (full_stays b more full)) (no_rule (Accepts (header b)) scriptable none)
+
+pub never_settled : (b : List ℕ) → TellForGood (header b) scriptable None → NeverScripts b
+never_settled b good more =
+    let (m, e) = grows b more in
+    subst (λ h. ¬ Any (Accepts h) scriptable) (sym e) (no_rule (Accepts (header b ++ m)) scriptable (good m))

@@ -1,0 +1,229 @@
+//! What the rules tell of bytes that may go on, whatever follows them. None means that more bytes may change it.
+ghost use Rattle.std.specs.Prelude.{◌≡◌, ◌∷◌, ◌++◌, ◌↔◌, [], IfSome, IsTrue, option_map};
+ghost use Rattle.mime_sniff.specs.Growth.{AnswerForGood, MayBeginHeader, TellForGood, told_or_else};
+ghost use Rattle.mime_sniff.specs.Standard.{archives, documents, fonts, markup, marks, media, mp3_rule, mp4_rule, scriptable, text_or_binary_rules, text_rule, texts, unscripted, webm_rule};
+ghost use Rattle.mime_sniff.specs.Table.{images, sounds};
+
+use crate::mp3::is_mp3;
+use crate::mp4::is_mp4_of_any_box;
+use crate::question::Question;
+use crate::row::settled_type;
+use crate::standard::{or_octets, table};
+use crate::table::{images, sounds};
+use crate::webm::is_webm;
+use infer_deep::places::may_stand_at;
+use infer_deep::text::after_white_space;
+use infer_formats::text::is_binary;
+
+/// What the question's rules tell of the header.
+pub(crate) fn settled(question: Question, header: &[u8]) -> Option<Option<&'static str>>
+    ensures { IfSome result (λ told. AnswerForGood question header.now (option_map (λ t. t.now) told)) }
+{
+    match question {
+        Question::Anything => anything(header),
+        Question::Unscripted => unscripted(header),
+        Question::TextOrBinary => text_or_binary(header),
+        Question::Images => of_images(header),
+        Question::Media => of_media(header),
+        Question::Fonts => of_fonts(header),
+        Question::Nothing => Some(None),
+        Question::Octets => Some(Some("application/octet-stream")),
+        Question::Vtt => Some(Some("text/vtt")),
+        Question::Manifest => Some(Some("text/cache-manifest")),
+    }
+}
+
+fn anything(header: &[u8]) -> Option<Option<&'static str>>
+    ensures { IfSome result (λ told. AnswerForGood Question.Anything header.now (option_map (λ t. t.now) told)) }
+{
+    match of_anything(header) {
+        Some(told) => Some(or_octets(told)),
+        None => None,
+    }
+}
+
+fn unscripted(header: &[u8]) -> Option<Option<&'static str>>
+    ensures { IfSome result (λ told. AnswerForGood Question.Unscripted header.now (option_map (λ t. t.now) told)) }
+{
+    match of_unscripted(header) {
+        Some(told) => Some(or_octets(told)),
+        None => None,
+    }
+}
+
+fn text_or_binary(header: &[u8]) -> Option<Option<&'static str>>
+    ensures { IfSome result (λ told. AnswerForGood Question.TextOrBinary header.now (option_map (λ t. t.now) told)) }
+{
+    match of_text_or_binary(header) {
+        Some(told) => Some(or_octets(told)),
+        None => None,
+    }
+}
+
+fn of_anything(header: &[u8]) -> Option<Option<&'static str>>
+    ensures { IfSome result (λ told. TellForGood header.now (scriptable ++ unscripted) (option_map (λ t. t.now) told)) }
+{
+    or_else(of_scriptable(header), of_unscripted(header))
+}
+
+pub(crate) fn of_scriptable(header: &[u8]) -> Option<Option<&'static str>>
+    ensures { IfSome result (λ told. TellForGood header.now scriptable (option_map (λ t. t.now) told)) }
+{
+    or_else(of_markup(header), of_documents(header))
+}
+
+fn of_markup(header: &[u8]) -> Option<Option<&'static str>>
+    ensures { IfSome result (λ told. TellForGood header.now markup (option_map (λ t. t.now) told)) }
+{
+    let text = after_white_space(header);
+    if text.is_empty() {
+        return None;
+    }
+    settled_type(table::markup(), text)
+}
+
+fn of_unscripted(header: &[u8]) -> Option<Option<&'static str>>
+    ensures { IfSome result (λ told. TellForGood header.now unscripted (option_map (λ t. t.now) told)) }
+{
+    or_else(of_texts(header), of_behind_texts(header))
+}
+
+fn of_behind_texts(header: &[u8]) -> Option<Option<&'static str>>
+    ensures { IfSome result (λ told. TellForGood header.now (images ++ (media ++ (archives ++ text_rule ∷ []))) (option_map (λ t. t.now) told)) }
+{
+    let behind_images = or_else(
+        of_media(header),
+        or_else(of_archives(header), of_text(header)),
+    );
+    or_else(of_images(header), behind_images)
+}
+
+fn of_text_or_binary(header: &[u8]) -> Option<Option<&'static str>>
+    ensures { IfSome result (λ told. TellForGood header.now text_or_binary_rules (option_map (λ t. t.now) told)) }
+{
+    or_else(of_marks(header), of_text(header))
+}
+
+fn of_documents(header: &[u8]) -> Option<Option<&'static str>>
+    ensures { IfSome result (λ told. TellForGood header.now documents (option_map (λ t. t.now) told)) }
+{
+    settled_type(table::documents(), header)
+}
+
+fn of_texts(header: &[u8]) -> Option<Option<&'static str>>
+    ensures { IfSome result (λ told. TellForGood header.now texts (option_map (λ t. t.now) told)) }
+{
+    settled_type(table::texts(), header)
+}
+
+fn of_archives(header: &[u8]) -> Option<Option<&'static str>>
+    ensures { IfSome result (λ told. TellForGood header.now archives (option_map (λ t. t.now) told)) }
+{
+    settled_type(table::archives(), header)
+}
+
+fn of_fonts(header: &[u8]) -> Option<Option<&'static str>>
+    ensures { IfSome result (λ told. TellForGood header.now fonts (option_map (λ t. t.now) told)) }
+{
+    settled_type(table::fonts(), header)
+}
+
+fn of_marks(header: &[u8]) -> Option<Option<&'static str>>
+    ensures { IfSome result (λ told. TellForGood header.now marks (option_map (λ t. t.now) told)) }
+{
+    settled_type(table::marks(), header)
+}
+
+/// A byte of binary data stays, and one may come as long as there is none.
+fn of_text(header: &[u8]) -> Option<Option<&'static str>>
+    ensures { IfSome result (λ told. TellForGood header.now (text_rule ∷ []) (option_map (λ t. t.now) told)) }
+{
+    if is_binary(header) {
+        return Some(None);
+    }
+    None
+}
+
+fn of_images(header: &[u8]) -> Option<Option<&'static str>>
+    ensures { IfSome result (λ told. TellForGood header.now images (option_map (λ t. t.now) told)) }
+{
+    if header.is_empty() {
+        return None;
+    }
+    settled_type(images(header[0]), header)
+}
+
+fn of_sounds(header: &[u8]) -> Option<Option<&'static str>>
+    ensures { IfSome result (λ told. TellForGood header.now sounds (option_map (λ t. t.now) told)) }
+{
+    if header.is_empty() {
+        return None;
+    }
+    settled_type(sounds(header[0]), header)
+}
+
+fn of_media(header: &[u8]) -> Option<Option<&'static str>>
+    ensures { IfSome result (λ told. TellForGood header.now media (option_map (λ t. t.now) told)) }
+{
+    let behind_mp4 = or_else(of_webm(header), of_mp3(header));
+    or_else(of_sounds(header), or_else(of_mp4(header), behind_mp4))
+}
+
+fn of_mp4(header: &[u8]) -> Option<Option<&'static str>>
+    ensures { IfSome result (λ told. TellForGood header.now (mp4_rule ∷ []) (option_map (λ t. t.now) told)) }
+{
+    if is_mp4_of_any_box(header) {
+        return Some(Some("video/mp4"));
+    }
+    if may_stand_at(header, b"ftyp", 4) {
+        return None;
+    }
+    Some(None)
+}
+
+fn of_webm(header: &[u8]) -> Option<Option<&'static str>>
+    ensures { IfSome result (λ told. TellForGood header.now (webm_rule ∷ []) (option_map (λ t. t.now) told)) }
+{
+    if is_webm(header) {
+        return Some(Some("video/webm"));
+    }
+    if may_stand_at(header, b"\x1AE\xDF\xA3", 0) {
+        return None;
+    }
+    Some(None)
+}
+
+fn of_mp3(header: &[u8]) -> Option<Option<&'static str>>
+    ensures { IfSome result (λ told. TellForGood header.now (mp3_rule ∷ []) (option_map (λ t. t.now) told)) }
+{
+    if is_mp3(header) {
+        return Some(Some("audio/mpeg"));
+    }
+    if may_begin_header(header) {
+        return None;
+    }
+    Some(None)
+}
+
+/// What the first rules tell, or those behind them if the first ones tell nothing.
+fn or_else(
+    first: Option<Option<&'static str>>,
+    behind: Option<Option<&'static str>>,
+) -> Option<Option<&'static str>>
+    ensures { result ≡ told_or_else first.entry behind.entry }
+{
+    match first {
+        Some(None) => behind,
+        Some(Some(mime_type)) => Some(Some(mime_type)),
+        None => None,
+    }
+}
+
+/// Whether the bytes that are there are those of the header of a frame.
+fn may_begin_header(buf: &[u8]) -> bool
+    ensures { IsTrue result ↔ MayBeginHeader buf.now }
+{
+    (buf.is_empty() || buf[0] == 0xFF)
+        && (buf.len() < 2 || buf[1] & 0xE6 == 0xE2)
+        && (buf.len() < 3 || buf[2] & 0xF0 != 0xF0 && buf[2] & 0x0C != 0x0C)
+}

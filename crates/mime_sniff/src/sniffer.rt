@@ -1,0 +1,89 @@
+//! First bytes that come in pieces.
+ghost use Rattle.std.specs.Prelude.{◌≡◌, ◌≤◌, ◌<◌, ◌∷◌, ◌++◌, ℕ, List, [], length, take};
+ghost use Rattle.std.specs.Bool.{OnTrue};
+ghost use Rattle.mime_sniff.specs.Computed.{IsComputed, supply_of, told_by};
+ghost use Rattle.mime_sniff.specs.Growth.{IsDecided};
+ghost use Rattle.mime_sniff.specs.Standard.{header};
+
+use crate::computed::{Computed, HEADER_LENGTH, compute, is_decided};
+use crate::supplied::Supplied;
+use std::marker::Model;
+
+/// The first 1445 bytes of a resource, kept by value: it takes no memory beside.
+///
+/// A contract sees it as the list of the bytes that are kept.
+///
+/// ```
+/// let mut sniffer = mime_sniff::Sniffer::new();
+/// sniffer.push(b"GIF");
+/// sniffer.push(b"89a");
+/// assert_eq!(rt; sniffer.kept(), b"GIF89a".as_slice());
+/// ```
+#[derive(Drop)]
+pub struct Sniffer {
+    bytes: [u8; HEADER_LENGTH],
+    len: usize,
+}
+
+impl Model for Sniffer {
+    ghost Value = { List ℕ };
+
+    ghost view = { λ s. take s.len s.bytes };
+
+    ghost invariant = { λ s. s.len ≤ 1445 };
+}
+
+impl Sniffer {
+    /// It keeps no byte yet.
+    pub fn new() -> Sniffer
+        ensures { result ≡ [] }
+    {
+        Sniffer {
+            bytes: [0; HEADER_LENGTH],
+            len: 0,
+        }
+    }
+
+    /// Adds a piece behind the bytes so far, of which the first 1445 are kept.
+    pub fn push(&mut self, piece: &[u8])
+        ensures { self.new ≡ header (self.old ++ piece.now) }
+    {
+        let room = HEADER_LENGTH - self.kept().len();
+        let count = room.min(piece.len());
+        let part = &piece[..count];
+        for byte in part {
+            self.push_byte(*byte);
+        }
+    }
+
+    fn push_byte(&mut self, byte: u8)
+        requires { length self.old < 1445 }
+        ensures { self.new ≡ self.old ++ byte ∷ [] }
+    {
+        self.bytes[self.len] = byte;
+        self.len += 1;
+    }
+
+    /// The first 1445 bytes of all that was pushed, or all if these are fewer.
+    pub fn kept(&self) -> &[u8]
+        ensures all { result.now ≡ self.now }
+        ensures few { length result.now ≤ 1445 }
+    {
+        &self.bytes[..self.len]
+    }
+
+    /// The computed type of what was pushed.
+    pub fn compute(&self, supplied: &Supplied<'_>) -> Computed
+        ensures { IsComputed (supply_of supplied.now) self.now (told_by result) }
+    {
+        compute(supplied, self.kept())
+    }
+
+    /// Whether no further pieces change it. A yes is right; a no may be too careful, as that of
+    /// [`is_decided`](crate::is_decided).
+    pub fn is_decided(&self, supplied: &Supplied<'_>) -> bool
+        ensures { OnTrue result (IsDecided (supply_of supplied.now) self.now) }
+    {
+        is_decided(supplied, self.kept())
+    }
+}
