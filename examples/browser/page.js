@@ -13,8 +13,6 @@ const BETWEEN_PAINTS = 200;
 const WORK_AT_ONCE = 20;
 /** Of a name that is too long for its line so many last characters stay. */
 const END_OF_A_NAME = 12;
-/** An extension that is never the answer, since an earlier type has the same signature. */
-const SAME_SIGNATURE = new Map([["dll", "exe"]]);
 
 const byId = (id) => document.getElementById(id);
 const counted = (count, word) => `${count.toLocaleString("en")} ${word}${count === 1 ? "" : "s"}`;
@@ -39,7 +37,6 @@ const UNSEEN = /[\p{C}\p{Default_Ignorable_Code_Point}\u2800]|[\p{Z}--[ ]]|\\(?=
 const visible = (name) => name.replace(UNSEEN, (it) => `\\u{${it.codePointAt(0).toString(16)}}`);
 
 let infer;
-let aliases;
 
 /** Lets the browser draw and answer the keyboard. */
 const rest = () => new Promise((resolve) => setTimeout(resolve));
@@ -86,20 +83,18 @@ const decidingPlaces = async (front, type) => {
     return places;
 };
 
-/** Whether a name's extension and the types that the bytes have agree, as a class and a few words. */
-const agreement = (name, types) => {
-    const base = name.slice(name.lastIndexOf("/") + 1);
-    const dot = base.lastIndexOf(".");
-    if (dot <= 0 || dot === base.length - 1) return ["none", "none"];
-    const written = base.slice(dot + 1).toLowerCase();
-    const extension = aliases.extensions.get(written) ?? written;
-    const known = aliases.builtOn.get(extension) ?? SAME_SIGNATURE.get(extension) ?? extension;
-    if (types.some((type) => type.ext === extension || type.ext === known)) return ["agrees", "agrees"];
-    const claimed = [extension, known].map((it) => infer.knownTypes.find((type) => type.ext === it)).find(Boolean);
-    if (!claimed) return ["none", `${visible(written)} is not known`];
-    if (types.length === 1 && types[0].mime === "text/plain" && claimed.class === "text") return ["none", `text, as a ${visible(written)} is`];
-    if (types.length === 0) return ["none", `the bytes do not show ${visible(written)}`];
-    return ["differs", `the name says ${visible(written)}`];
+/** A type in a word. */
+const wordOf = ({ ext, mime }) => ext ?? mime;
+
+/** What the name did, as a class and a few words. */
+const saidOf = ({ standing, type, typeOfName }) => {
+    const { AGREE, NAME_REFINES, BYTES_REFINE, NAME_ALONE, CONTRADICTS } = infer.Standing;
+    if (standing === AGREE) return ["agrees", "agrees"];
+    if (standing === NAME_REFINES) return ["agrees", `refines to ${wordOf(type)}`];
+    if (standing === BYTES_REFINE) return ["agrees", `is wider: ${wordOf(typeOfName)}`];
+    if (standing === NAME_ALONE) return ["none", `alone says ${wordOf(type)}`];
+    if (standing === CONTRADICTS) return ["differs", `contradicts: ${wordOf(typeOfName)}`];
+    return ["none", "says nothing"];
 };
 
 const frontOf = async (file) => new Uint8Array(await file.slice(0, FRONT).arrayBuffer());
@@ -118,8 +113,10 @@ const read = async ({ name, open }) => {
 const judge = async ({ name, file, size, front, fault }) => {
     if (fault !== undefined) return { name, fault };
     const [type, wider] = [await infer.fileTypeFromBuffer(front), infer.wider(front)];
-    const [kind, words] = agreement(name, [type, wider].filter(Boolean));
-    return { name, file, size, type, wider, encoding: infer.encoding(front), after: decidedAfter(front), kind, words };
+    const told = infer.named(name, front);
+    const [kind, words] = saidOf(told);
+    const { standing, typeOfName } = told;
+    return { name, file, size, type, wider, encoding: infer.encoding(front), after: decidedAfter(front), standing, typeOfName, kind, words };
 };
 
 const afterText = ({ after, size }) => {
@@ -225,7 +222,7 @@ const rowOf = (result) => {
     }
     const type = result.wider ? [result.wider.ext, " ", element("span", "note", result.wider.mime)] : ["unknown"];
     const [encoding, after] = [result.encoding ?? "none", afterText(result)];
-    row.append(cellOf("Type", "", ...type), cellOf("Encoding", "", encoding), cellOf("Extension", result.kind, result.words), cellOf("Decided after", "", after));
+    row.append(cellOf("Type", "", ...type), cellOf("Encoding", "", encoding), cellOf("The name", result.kind, result.words), cellOf("Decided after", "", after));
     row.addEventListener("click", () => toggle(row, result));
     return row;
 };
@@ -235,7 +232,7 @@ const counts = new Map();
 const differs = (result) => result.kind === "differs" || result.fault !== undefined;
 const nameOfType = ({ wider, fault }) => (fault === undefined ? (wider?.ext ?? "unknown") : "not read");
 
-/** What is listed: by which words and in which order. Without a key, those that differ come first. */
+/** What is listed: by which words and in which order. Without a key, those that are contradicted come first. */
 const list = { onlyDiffering: false, words: "", key: "", isDown: false, most: ROWS_AT_ONCE };
 
 /** By what a column is sorted. */
@@ -243,7 +240,7 @@ const KEYS = {
     name: ({ name }) => name,
     type: nameOfType,
     encoding: ({ encoding }) => encoding ?? "",
-    extension: (result) => (differs(result) ? ` ${result.words}` : (result.words ?? "")),
+    standing: (result) => (differs(result) ? ` ${result.words}` : (result.words ?? "")),
     after: ({ after, size }) => after ?? FRONT + (size ?? 0),
 };
 
@@ -305,10 +302,10 @@ const keep = (result) => {
     counts.set(nameOfType(result), (counts.get(nameOfType(result)) ?? 0) + 1);
 };
 
-/** A link to the files whose extension differs, in what the page says. */
+/** A link to the files whose name the bytes contradict, in what the page says. */
 const sayResults = () => {
     const count = results.filter((it) => it.kind === "differs").length;
-    const words = `${count === 0 ? "none" : count.toLocaleString("en")} of them ${count === 1 ? "has" : "have"} an extension that differs`;
+    const words = `${count === 0 ? "none" : count.toLocaleString("en")} of them ${count === 1 ? "has" : "have"} a name that the bytes contradict`;
     const link = element("a", "", words);
     link.href = "#differ";
     say([`${counted(results.length, "file")} looked at, and `, count === 0 ? words : link, ". Nothing was sent."]);
@@ -335,7 +332,7 @@ const lookAt = async (sources) => {
     sayResults();
 };
 
-const SAVED = ["name", "mime_type", "extension", "encoding", "size", "decided_after", "name_says", "fault"];
+const SAVED = ["name", "mime_type", "extension", "encoding", "size", "decided_after", "standing", "name_says", "fault"];
 
 /** What is saved of a file. Where the table has words, it has none. */
 const savedOf = (result) => ({
@@ -345,7 +342,8 @@ const savedOf = (result) => ({
     encoding: result.encoding ?? null,
     size: result.size ?? null,
     decided_after: result.after ?? null,
-    name_says: result.kind === "differs" ? result.words.replace("the name says ", "") : null,
+    standing: result.standing ?? null,
+    name_says: result.typeOfName?.mime ?? null,
     fault: result.fault ?? null,
 });
 
@@ -365,7 +363,7 @@ const save = (name, type, text) => {
     setTimeout(() => URL.revokeObjectURL(link.href), 10_000);
 };
 
-/** Small files to try the page with, two of which have a name that says something else. */
+/** Small files to try the page with, two of which have a name that the bytes contradict. */
 const exampleFiles = () => {
     const bytes = (digits, text = "", size = 0) => {
         const begin = Uint8Array.from(digits.match(/../g) ?? [], (it) => Number.parseInt(it, 16));
@@ -382,6 +380,7 @@ const exampleFiles = () => {
         ["song.mp3", bytes("49443304000000000000", "TIT2", 9000)],
         ["invoice.pdf", bytes("4d5a90000300000004000000ffff0000", "", 9000)],
         ["photo.png", bytes("", "<!doctype html><title>not a photo</title>\n")],
+        ["hello.py", bytes("", "print('hello')\n")],
     ];
     return files.map(([name, data]) => new File([data], name));
 };
@@ -471,7 +470,7 @@ const listen = () => {
 };
 
 try {
-    [infer, aliases] = await Promise.all([import("./infer/index.js"), import("./infer/aliases.js")]);
+    infer = await import("./infer/index.js");
     listen();
     say("The page is ready.");
 } catch (fault) {
