@@ -44,7 +44,7 @@ REPEATED = [
 SECONDS = "docs/seconds.tsv"
 # Each command that is timed: as README.md writes it, and what it does.
 COMMANDS = {
-    "rt try": ("cd crates/infer_tool && rt try -- /tmp/photo.jpg", "prints `/tmp/photo.jpg: image/jpeg jpg`, proves nothing"),
+    "rt try": ("cd crates/infer_label && rt try -- /tmp/photo.jpg", "prints `/tmp/photo.jpg: image/jpeg jpg`, proves nothing"),
     ".ci/check --try": (".ci/check --try", "runs the tests, proves nothing"),
     "rt check": ("cd crates/infer && rt check", "proves the table of built-in types"),
     ".ci/run": (".ci/run", "proves and tests everything"),
@@ -159,8 +159,8 @@ def time_of(program):
 # How each program takes types of a user's own, whether it says that more bytes cannot change an answer, and where it runs,
 # by its own pages.
 TOLD_OF = {
-    "here, the built-in": ("functions", "exactly", "Linux, Windows, macOS, C99"),
-    "here, with": ("lines of a text", "yes", "Linux, Windows, macOS, C99"),
+    "here, the built-in": ("functions", "exactly", "Linux, C99; Windows and macOS [as far as it ran](docs/PLATFORMS.md#what-never-ran)"),
+    "here, with": ("lines of a text", "yes", "Linux, C99; Windows and macOS [as far as it ran](docs/PLATFORMS.md#what-never-ran)"),
     "Rust crate": ("functions", "no", "where Rust does"),
     "`file`": ("magic(5)", "no", "Unix"),
     "mimetype": ("functions", "no", "where Go does"),
