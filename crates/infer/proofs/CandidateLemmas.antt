@@ -1,5 +1,5 @@
 -- The first of the candidates that has a property is the first row of the table that has it.
-use Rattle.infer.proofs.Common.{◌≡◌, ◌<◌, ◌≤◌, ◌+◌, ℕ, zero, suc, Bool, false, List, [], ◌∷◌, length, subst, arith, IsTrue, refl, Option, Some, None, MatchOption, inl, inr, is_some, ◌↔◌, slice_get, AllWithin, HoldsAt, ne_eqb, AllWithin-more, AllWithin-none, AllWithin-upto, none_from_all_within, option_map_or, range_with_len, BuiltIn, IsFirstOf, NoneHas, SomeHas, Leads, candidates_of, numbers_from, Row, Accepts, table, IsFirstAmong, RowHas, Takes, WalksFindFirst, row_numbered, ROW_COUNT, HasGiven, Triple}
+use Rattle.infer.proofs.Common.{◌≡◌, ◌<◌, ◌≤◌, ◌+◌, ◌++◌, ℕ, zero, suc, Bool, true, false, false≢true, List, [], ◌∷◌, length, subst, arith, IsTrue, refl, ◌∙◌, Option, Some, None, MatchOption, inl, inr, is_some, ◌↔◌, slice_get, AllWithin, HoldsAt, ne_eqb, AllWithin-more, AllWithin-none, AllWithin-upto, none_from_all_within, option_map_or, range_with_len, BuiltIn, IsFirstOf, NoneHas, SomeHas, Leads, candidates_of, numbers_from, Row, Accepts, table, IsFirstAmong, RowHas, Takes, TellsSome, WalksFindFirst, row_numbered, ROW_COUNT, HasGiven, Triple}
 use Rattle.infer.proofs.AskLemmas.{candidates_numbered, count_numbers, first_kept, found_among, may_take, none_among, numbered, numbers, read_number, row_passes}
 use Rattle.infer.proofs.ListLemmas.{HoldsAt-read}
 use Rattle.infer.proofs.OrderLemmas.{some_row}
@@ -45,6 +45,61 @@ module _ (P : Row BuiltIn → Type 0) where
       → IsFirstAmong (RowHas P) (numbers_from test 0 table) o ↔ IsFirstOf P table o
   first_listed test only o = grind (arith, first_kept, numbered, first_from, AllWithin-none, among_all)
 
+-- ---- one number after the other
+
+module _ (b : List ℕ) where
+  pub found_here : (i : ℕ) (is : List ℕ) → IsTrue true ↔ RowHas (Accepts b) i → IsFirstAmong (RowHas (Accepts b)) (i ∷ is) (Some i)
+  unfolding IsFirstAmong
+  found_here i is told = inl (told.0 refl, refl)
+
+  pub found_behind : (i : ℕ) (is : List ℕ) (o : Option ℕ) → IsTrue false ↔ RowHas (Accepts b) i → IsFirstAmong (RowHas (Accepts b)) is o
+      → IsFirstAmong (RowHas (Accepts b)) (i ∷ is) o
+  unfolding IsFirstAmong
+  found_behind i is o told rest = inr ((λ h. false≢true (told.1 h)), rest)
+
+  pub found_nowhere : IsFirstAmong (RowHas (Accepts b)) [] None
+  unfolding IsFirstAmong
+  found_nowhere = refl
+
+module _ (P : ℕ → Type 0) (ys : List ℕ) where
+  pub found_in_front : (xs : List ℕ) (i : ℕ) → IsFirstAmong P xs (Some i) → IsFirstAmong P (xs ++ ys) (Some i)
+  unfolding IsFirstAmong
+  found_in_front [] i h = absurd (cc)
+  found_in_front (x ∷ xs) i (inl h) = inl h
+  found_in_front (x ∷ xs) i (inr h) = inr (h.0, found_in_front xs i h.1)
+
+  pub found_past : (xs : List ℕ) (o : Option ℕ) → IsFirstAmong P xs None → IsFirstAmong P ys o → IsFirstAmong P (xs ++ ys) o
+  unfolding IsFirstAmong
+  found_past [] o h rest = rest
+  found_past (x ∷ xs) o (inl h) rest = absurd (let no = h.1 in cc)
+  found_past (x ∷ xs) o (inr h) rest = inr (h.0, found_past xs o h.1 rest)
+
+some_behind : (P : ℕ → Type 0) (n : ℕ) (ns : List ℕ) → ¬ P n → (i : ℕ) → i < length (n ∷ ns) → HoldsAt P (n ∷ ns) i → SomeHas P ns
+some_behind P n ns not zero lt at = absurd (not (at 0))
+some_behind P n ns not (suc i) lt at = (i, omega arith, at)
+
+-- whether one of them has the property
+some_of_among : (P : ℕ → Type 0) (ns : List ℕ) (o : Option ℕ) (r : Bool) → r ≡ is_some o → IsFirstAmong P ns o → IsTrue r ↔ SomeHas P ns
+unfolding IsFirstAmong
+some_of_among P [] o r e none = (λ t. absurd (cc), λ some. absurd (omega (arith, some.1)))
+some_of_among P (n ∷ ns) o r e (inl (h, same)) = (λ t. (0, omega arith, λ d. h), λ some. e ∙ rw same refl)
+some_of_among P (n ∷ ns) o r e (inr (not, rest)) =
+    let behind = some_of_among P ns o r e rest in (
+      λ t. let (i, lt, at) = behind.0 t in (suc i, omega arith, at),
+      λ some. behind.1 (some_behind P n ns not some.0 some.1 some.2),
+    )
+
+pub some_among : (b ns : List ℕ) (o : Option ℕ) (r : Bool) → r ≡ is_some o → IsFirstAmong (RowHas (Accepts b)) ns o → TellsSome ns b r
+unfolding TellsSome
+some_among b ns o r e first = some_of_among (RowHas (Accepts b)) ns o r e first
+
+-- what is told of a buffer is so of another of which the row says the same
+pub alike : {P Q : Type 0} {r : Bool} → IsTrue r ↔ P → P ↔ Q → IsTrue r ↔ Q
+alike told same = ((λ h. same.0 (told.0 h)), (λ h. told.1 (same.1 h)))
+
+-- what a chain of rows is proved by
+pub ruleset in_turn = (found_here, found_behind, found_nowhere)
+
 -- the first of some numbers that a row has is the number of a row
 pub first_is_row : (P : Row BuiltIn → Type 0) (ns : List ℕ) (i : ℕ) → IsFirstAmong (RowHas P) ns (Some i) → i < ROW_COUNT
 unfolding IsFirstAmong
@@ -79,14 +134,15 @@ module _ (leads : (s : BuiltIn) → Leads s) (blank : NoneHas (Accepts []) table
       → IsFirstAmong (RowHas (Takes asked b)) cs o → IsFirstOf (Takes asked b) table o
   first_of_buffer asked b cs o same h = (walk_first asked b o).0 (rw same at h)
 
-  pub first_of_walk : (b cs : List ℕ) (o : Option ℕ) → cs ≡ candidates_of b
-      → IsFirstAmong (RowHas (Takes (HasGiven None) b)) cs o → IsFirstOf (Accepts b) table o
-  first_of_walk b cs o same h = first_of_every b table o (first_of_buffer (HasGiven None) b cs o same h)
+  -- the first of the candidates of a buffer that accepts it is the first row of the table that does
+  pub first_accepting : (b cs : List ℕ) (o : Option ℕ) → cs ≡ candidates_of b → IsFirstAmong (RowHas (Accepts b)) cs o → IsFirstOf (Accepts b) table o
+  first_accepting b cs o same h =
+      let all : IsFirstAmong (RowHas (Accepts b)) (candidates_of b) o ↔ IsFirstOf (Accepts b) table o
+      = rw (← candidates_numbered b) (first_listed (Accepts b) (may_take b) (λ i a. grind (arith, accepted_may_take b i)) o) in
+      all.0 (rw same at h)
 
   pub walks_find_first : WalksFindFirst
-  walks_find_first b o = (first_of_walk b (candidates_of b) o refl, λ first. (walk_first (HasGiven None) b o).1 (grind arith))
-
--- a row that accepts two buffers alike takes them alike
-pub taken_alike : (asked : Triple → Type 0) (s t : List ℕ) (i : ℕ) → (RowHas (Accepts s) i → RowHas (Accepts t) i)
-    → RowHas (Takes asked s) i → RowHas (Takes asked t) i
-taken_alike asked s t i same h = grind arith
+  walks_find_first b o = (
+    λ h. first_of_every b table o (first_of_buffer (HasGiven None) b (candidates_of b) o refl h),
+    λ first. (walk_first (HasGiven None) b o).1 (grind arith),
+  )

@@ -28,7 +28,7 @@ pub use Rattle.infer.specs.Slots.{slot_of, extension_of, mime_type_of}
 unfoldable pub use Rattle.infer.specs.Table.{table, signature_of}
 pub use Rattle.infer.specs.Table.{row}
 pub use Rattle.infer.specs.Triple.{Triple, triple_of}
-unfoldable pub use Rattle.infer.specs.Walks.{IsFirstAmong}
+unfoldable pub use Rattle.infer.specs.Walks.{IsFirstAmong, TellsSome}
 pub use Rattle.infer.specs.Walks.{HasGiven, RowHas, Takes, WalksFindFirst}
 pub use Rattle.infer.specs.Walks.{asked_rows, count_asked, is_asked, is_listed, is_not_above, row_numbered}
 pub use Rattle.infer.specs.Watched.{IsDue, fault_of, inner}

@@ -1,11 +1,11 @@
 -- The first of some rows, named by their numbers, and which were asked.
-use Rattle.std.specs.Prelude.{◌≡◌, ◌↔◌, ◌==◌, ◌⊎◌, ◌&&◌, ℕ, Bool, true, false, List, [], ◌∷◌, Option, None, Some, MatchOption, length, nat_le, if◌then◌else◌}
+use Rattle.std.specs.Prelude.{◌≡◌, ◌↔◌, ◌==◌, ◌⊎◌, ◌&&◌, ℕ, Bool, IsTrue, true, false, List, [], ◌∷◌, Option, None, Some, MatchOption, length, nat_le, if◌then◌else◌}
 use Rattle.std.specs.List.{filter, list_any, slice_get}
 use Rattle.std.specs.Option.{option_map_or}
 use Rattle.std.specs.Str.{bytes_eq}
 use denote.Ref.{Bor}
 use Rattle.infer.specs.BuiltIn.{BuiltIn}
-use Rattle.infer.specs.First.{IsFirstOf}
+use Rattle.infer.specs.First.{IsFirstOf, SomeHas}
 use Rattle.infer.specs.Leads.{candidates_of}
 use Rattle.infer.specs.Questions.{IsAsked}
 use Rattle.infer.specs.Row.{Row, Accepts}
@@ -33,6 +33,10 @@ has_given (Some extension) t = bytes_eq t.extension extension.now
 unfoldable pub IsFirstAmong : (ℕ → Type 0) → List ℕ → Option ℕ → Type 0
 IsFirstAmong P [] o = o ≡ None
 IsFirstAmong P (i ∷ is) o = (P i × (o ≡ Some i)) ⊎ ((¬ P i) × IsFirstAmong P is o)
+
+-- it is told whether one of the rows with these numbers accepts the buffer
+unfoldable pub TellsSome : List ℕ → List ℕ → Bool → Type 0
+TellsSome rows b told = IsTrue told ↔ SomeHas (RowHas (Accepts b)) rows
 
 -- the row with that number of 32 bits, of which the greatest stands for no row
 abbrev pub row_numbered : ℕ → Option ℕ

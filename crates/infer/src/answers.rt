@@ -9,13 +9,12 @@ ghost use Rattle.infer.specs.Table.{table};
 ghost use Rattle.infer.specs.Triple.{triple_of};
 ghost use Rattle.infer.specs.Walks.{RowHas, Takes};
 
-use crate::ask::class::Class;
-use crate::ask::question::{Every, OfClass, Question, is_asked, takes_row};
-use crate::candidates::dispatch::{arm_of, blank, first_of, first_of_class, leads};
+use crate::ask::question::{Question, is_asked, takes_row};
+use crate::candidates::classes::Class;
+use crate::candidates::dispatch::{arm_of, blank, first_of, leads};
 use crate::table::built_in::rows;
 use crate::table::file_type::FileType;
 use crate::table::rows::{ROW_COUNT, RowName};
-use std::marker::PhantomData;
 
 /// The number of the first built-in row that accepts `buf`, and `None` exactly if no row accepts it. Only the candidates
 /// of its first byte are asked.
@@ -32,7 +31,7 @@ pub fn position(buf: &[u8]) -> Option<usize>
     leads();
     blank();
     let lead = buf.first()?;
-    first_of(arm_of(*lead), &Every, buf)
+    first_of(arm_of(*lead), buf)
 }
 
 /// The type of the built-in row `i`, and `None` exactly from [`ROW_COUNT`] on.
@@ -61,8 +60,7 @@ pub fn get(buf: &[u8]) -> Option<FileType>
     row(position(buf)?)
 }
 
-/// Whether some row of the class accepts `buf`. Only the candidates of its first byte are asked, in code of their own, in
-/// which the class is settled.
+/// Whether some row of the class accepts `buf`. Only the candidates of its first byte that have it are asked.
 #[inline(always)]
 pub fn some_of_class<C: Class>(buf: &[u8]) -> bool
     ensures { IsTrue result ↔ SomeBoth (HasClass C.CLASS) (Accepts buf.now) table }
@@ -72,7 +70,7 @@ pub fn some_of_class<C: Class>(buf: &[u8]) -> bool
     let Some(lead) = buf.first() else {
         return false;
     };
-    first_of_class(arm_of(*lead), &OfClass::<C>(PhantomData), buf).is_some()
+    C::some(arm_of(*lead), buf)
 }
 
 /// Whether some row that is asked for accepts `buf`. All that are asked for are among `rows`, and only these are asked.

@@ -1,3 +1,2 @@
 //! A question, asked of one row.
-pub mod class;
 pub mod question;

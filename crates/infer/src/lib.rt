@@ -39,10 +39,10 @@ mod table;
 pub mod texts;
 
 pub use answers::{get, position, row};
-use ask::class::{App, Archive, Audio, Book, Doc, Font, Image, Video};
 pub use ask::question::accepts;
 pub use caller::infer::Infer;
 pub use candidates::asker::{Ask, Asker, is_counted, position_counted, walk};
+use candidates::classes::{App, Archive, Audio, Book, Doc, Font, Image, Video};
 pub use decided::{is_decided, may_become, position_for_good};
 pub use infer_sig::{
     app as app, archive as archive, audio as audio, book as book, doc as doc, font as font,

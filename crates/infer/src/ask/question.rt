@@ -1,4 +1,4 @@
-//! What is asked for, and of one row: every row, or those with one extension, MIME type or class.
+//! What is asked for, and of one row: the rows with one extension or MIME type.
 ghost use Rattle.std.specs.Prelude.{◌≡◌, ◌↔◌, ◌<◌, IsTrue};
 ghost use Rattle.infer.specs.Listed.{number_of};
 ghost use Rattle.infer.specs.Questions.{IsAsked};
@@ -6,11 +6,9 @@ ghost use Rattle.infer.specs.Row.{Accepts};
 ghost use Rattle.infer.specs.Triple.{Triple, triple_of};
 ghost use Rattle.infer.specs.Walks.{RowHas, Takes};
 
-use crate::ask::class::Class;
 use crate::table::built_in::{accepts_row, name_at, row_of, rows};
 use crate::table::file_type::FileType;
 use crate::table::rows::{ROW_COUNT, RowName};
-use std::marker::PhantomData;
 
 /// A question, which is known by its type, so that code is made for each.
 pub trait Question {
@@ -22,10 +20,6 @@ pub trait Question {
         ensures { IsTrue result ↔ asked self.now (triple_of file_type.now) };
 }
 
-/// Asks for every row.
-#[derive(Drop)]
-pub struct Every;
-
 /// Asks for the rows with this extension. A text that is not UTF-8 is no row's.
 #[derive(Clone, Copy)]
 pub struct WithExtension<'a>(pub &'a [u8]);
@@ -33,19 +27,6 @@ pub struct WithExtension<'a>(pub &'a [u8]);
 /// Asks for the rows with this MIME type. A text that is not UTF-8 is no row's.
 #[derive(Clone, Copy)]
 pub struct WithMimeType<'a>(pub &'a [u8]);
-
-/// Asks for the rows of this class.
-#[derive(Drop)]
-pub struct OfClass<C>(pub PhantomData<C>);
-
-impl Question for Every {
-    ghost asked = { λ _ t. Unit {0} };
-
-    #[inline(always)]
-    fn asks_for(&self, _file_type: &FileType) -> bool {
-        true
-    }
-}
 
 impl Question for WithExtension<'_> {
     ghost asked = { λ q t. t.extension ≡ q.0.now };
@@ -62,15 +43,6 @@ impl Question for WithMimeType<'_> {
     #[inline(always)]
     fn asks_for(&self, file_type: &FileType) -> bool {
         file_type.mime_type.as_bytes() == self.0
-    }
-}
-
-impl<C: Class> Question for OfClass<C> {
-    ghost asked = { λ _ t. t.class ≡ C.CLASS };
-
-    #[inline(always)]
-    fn asks_for(&self, file_type: &FileType) -> bool {
-        file_type.matcher_type == C::CLASS
     }
 }
 
@@ -101,17 +73,6 @@ pub fn is_asked<Q: Question>(i: usize, question: &Q) -> bool
 {
     match rows().get(i) {
         Some(row) => question.asks_for(&row.file_type),
-        None => false,
-    }
-}
-
-/// Whether row `i` is one that the question asks for, and accepts `buf`.
-#[inline(always)]
-pub fn takes<Q: Question>(i: usize, question: &Q, buf: &[u8]) -> bool
-    ensures { IsTrue result ↔ RowHas (Takes (Q.asked question.now) buf.now) i }
-{
-    match rows().get(i) {
-        Some(row) => question.asks_for(&row.file_type) && row.accepts(buf),
         None => false,
     }
 }

@@ -9,9 +9,11 @@ ghost use Rattle.infer.specs.Triple.{triple, triple_of};
 ghost use Rattle.infer.specs.Watched.{fault_of};
 ghost use Rattle.infer.specs.declared.table.file_type.MatcherType.{MatcherType};
 
-use crate::ask::class::{App, Archive, Audio, Book, Class, Custom, Doc, Font, Image, Video};
-use crate::ask::question::{OfClass, Question, WithExtension, WithMimeType};
+use crate::ask::question::{Question, WithExtension, WithMimeType};
 use crate::caller::custom::CustomRow;
+use crate::candidates::classes::{
+    App, Archive, Audio, Book, Class, Custom, Doc, Font, Image, OfClass, Video,
+};
 use crate::read::fault::Fault;
 use crate::read::head::{FRONT, lengthen, make_room, read_head};
 use crate::read::watched::Watched;

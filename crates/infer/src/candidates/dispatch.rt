@@ -1,18 +1,16 @@
 //! The first byte of a buffer decides which rows are asked: in turn, in a chain of rows, each made straight code of its own.
-#![tactic(auto, unfolding(crate::specs::Walks::IsFirstAmong))]
+#![tactic(auto, using(crate::proofs::CandidateLemmas::in_turn))]
 
 ghost use Rattle.std.specs.Prelude.{◌≡◌, ◌↔◌, ◌≤◌, [], ◌∷◌, ℕ, List, Option, IsTrue, length};
-ghost use Rattle.infer_deep.specs.Find.{OccursAt};
 ghost use Rattle.infer.specs.Arms.{rows_of};
 ghost use Rattle.infer.specs.BuiltIn.{BuiltIn};
 ghost use Rattle.infer.specs.First.{NoneHas};
 ghost use Rattle.infer.specs.Leads.{Leads, candidates};
-ghost use Rattle.infer.specs.Questions.{IsAsked};
 ghost use Rattle.infer.specs.Row.{Accepts};
 ghost use Rattle.infer.specs.Table.{table};
-ghost use Rattle.infer.specs.Walks.{IsFirstAmong, RowHas, Takes, row_numbered};
+ghost use Rattle.infer.specs.Walks.{IsFirstAmong, RowHas, TellsSome, row_numbered};
 
-use crate::ask::question::{Question, is_asked, takes};
+use crate::ask::question::accepts;
 use crate::candidates::arms::{ARM_COUNT, Arm, with_candidates, with_first_bytes};
 use crate::table::rows::*;
 use infer_deep::archive::after_skippable_frames;
@@ -27,10 +25,9 @@ const NO_ROW: u32 = u32::MAX;
 pub trait Chain {
     ghost rows: { Self → List ℕ };
 
-    /// The first that accepts `buf`, of those that are asked for.
-    fn first<Q: Question>(&self, question: &Q, buf: &[u8]) -> Option<usize>
-        ensures { IsFirstAmong (RowHas (Takes (Q.asked question.now) buf.now))
-            (rows self.now) result };
+    /// The first that accepts `buf`.
+    fn first(&self, buf: &[u8]) -> Option<usize>
+        ensures { IsFirstAmong (RowHas (Accepts buf.now)) (rows self.now) result };
 }
 
 /// No row.
@@ -55,8 +52,8 @@ pub struct ThenTwo<const I: usize, const J: usize, S, C>(pub S, pub C);
 
 /// The beginning that two rows pass over.
 pub trait Shared<const I: usize, const J: usize>: Drop {
-    /// What follows it in `buf`, or `buf` if row `I` is not asked for. Both rows answer of it as of `buf`.
-    fn after<'a, Q: Question>(&self, question: &Q, buf: &'a [u8]) -> &'a [u8]
+    /// What follows it in `buf`. Both rows answer of it as of `buf`.
+    fn after<'a>(&self, buf: &'a [u8]) -> &'a [u8]
         ensures first { RowHas (Accepts result.now) I ↔ RowHas (Accepts buf.now) I }
         ensures second { RowHas (Accepts result.now) J ↔ RowHas (Accepts buf.now) J };
 }
@@ -77,7 +74,7 @@ impl Chain for End {
     ghost rows = { λ _. [] };
 
     #[inline(always)]
-    fn first<Q: Question>(&self, _question: &Q, _buf: &[u8]) -> Option<usize> {
+    fn first(&self, _buf: &[u8]) -> Option<usize> {
         None
     }
 }
@@ -86,11 +83,11 @@ impl<const I: usize, C: Chain> Chain for Then<I, C> {
     ghost rows = { λ s. I ∷ C.rows s.0 };
 
     #[inline(always)]
-    fn first<Q: Question>(&self, question: &Q, buf: &[u8]) -> Option<usize> {
-        if takes(I, question, buf) {
+    fn first(&self, buf: &[u8]) -> Option<usize> {
+        if accepts(buf, I) {
             return Some(I);
         }
-        self.0.first(question, buf)
+        self.0.first(buf)
     }
 }
 
@@ -98,17 +95,17 @@ impl<const I: usize, const J: usize, const K: usize, C: Chain> Chain for ThenThr
     ghost rows = { λ s. I ∷ J ∷ K ∷ C.rows s.0 };
 
     #[inline(always)]
-    fn first<Q: Question>(&self, question: &Q, buf: &[u8]) -> Option<usize> {
-        if takes(I, question, buf) {
+    fn first(&self, buf: &[u8]) -> Option<usize> {
+        if accepts(buf, I) {
             return Some(I);
         }
-        if takes(J, question, buf) {
+        if accepts(buf, J) {
             return Some(J);
         }
-        if takes(K, question, buf) {
+        if accepts(buf, K) {
             return Some(K);
         }
-        self.0.first(question, buf)
+        self.0.first(buf)
     }
 }
 
@@ -118,10 +115,10 @@ impl<C: Chain> Chain for ThenOffice<C> {
     ghost rows = { λ s. DOCX ∷ XLSX ∷ PPTX ∷ C.rows s.0 };
 
     #[inline(always)]
-    fn first<Q: Question>(&self, question: &Q, buf: &[u8]) -> Option<usize> {
-        match office_row(question, buf) {
+    fn first(&self, buf: &[u8]) -> Option<usize> {
+        match office_row(buf) {
             Some(row) => Some(row),
-            None => self.0.first(question, buf),
+            None => self.0.first(buf),
         }
     }
 }
@@ -129,41 +126,32 @@ impl<C: Chain> Chain for ThenOffice<C> {
 impl<const I: usize, const J: usize, S: Shared<I, J>, C: Chain> Chain for ThenTwo<I, J, S, C> {
     ghost rows = { λ s. I ∷ J ∷ C.rows s.1 };
 
-    #[tactic(auto, using(crate::proofs::CandidateLemmas::taken_alike), unfolding(crate::specs::Walks::IsFirstAmong))]
     #[inline(always)]
-    fn first<Q: Question>(&self, question: &Q, buf: &[u8]) -> Option<usize> {
-        let rest = self.0.after(question, buf);
-        if takes(I, question, rest) {
+    fn first(&self, buf: &[u8]) -> Option<usize> {
+        let rest = self.0.after(buf);
+        if accepts(rest, I) {
             return Some(I);
         }
-        if takes(J, question, rest) {
+        if accepts(rest, J) {
             return Some(J);
         }
-        self.1.first(question, buf)
+        self.1.first(buf)
     }
 }
 
 impl Shared<{ ZST }, { LZ4 }> for Frames {
     #[tactic(auto, unfolding(crate::specs::Table::table))]
     #[inline(always)]
-    fn after<'a, Q: Question>(&self, question: &Q, buf: &'a [u8]) -> &'a [u8] {
-        if is_asked(ZST, question) {
-            after_skippable_frames(buf)
-        } else {
-            buf
-        }
+    fn after<'a>(&self, buf: &'a [u8]) -> &'a [u8] {
+        after_skippable_frames(buf)
     }
 }
 
 impl Shared<{ HTML }, { XML }> for Markup {
     #[tactic(auto, unfolding(crate::specs::Table::table))]
     #[inline(always)]
-    fn after<'a, Q: Question>(&self, question: &Q, buf: &'a [u8]) -> &'a [u8] {
-        if is_asked(HTML, question) {
-            after_white_space(buf)
-        } else {
-            buf
-        }
+    fn after<'a>(&self, buf: &'a [u8]) -> &'a [u8] {
+        after_white_space(buf)
     }
 }
 
@@ -171,8 +159,8 @@ impl<C: Chain> Chain for Outlined<C> {
     ghost rows = { λ s. C.rows s.0 };
 
     #[inline(never)]
-    fn first<Q: Question>(&self, question: &Q, buf: &[u8]) -> Option<usize> {
-        self.0.first(question, buf)
+    fn first(&self, buf: &[u8]) -> Option<usize> {
+        self.0.first(buf)
     }
 }
 
@@ -180,74 +168,40 @@ impl<C: Chain> Outlined<C> {
     /// The number of the first row, as [`Chain::first`] answers, and [`NO_ROW`] for none. A number takes one register.
     #[tactic(auto, using(crate::proofs::CandidateLemmas::first_is_row, crate::proofs::CandidateLemmas::numbered_row))]
     #[inline(never)]
-    pub fn number<Q: Question>(&self, question: &Q, buf: &[u8]) -> u32
-        ensures { IsFirstAmong (RowHas (Takes (Q.asked question.now) buf.now)) (C.rows self.now.0)
-            (row_numbered result) }
+    pub fn number(&self, buf: &[u8]) -> u32
+        ensures { IsFirstAmong (RowHas (Accepts buf.now)) (C.rows self.now.0) (row_numbered result) }
     {
-        match self.0.first(question, buf) {
+        match self.0.first(buf) {
             Some(row) => row as u32,
             None => NO_ROW,
         }
     }
-}
 
-/// How the first row of a chain is told.
-pub trait Told {
-    ghost told: { Self → Option ℕ };
-
-    fn of<C: Chain, Q: Question>(chain: &Outlined<C>, question: &Q, buf: &[u8]) -> Self
-        ensures { IsFirstAmong (RowHas (Takes (Q.asked question.now) buf.now)) (C.rows chain.now.0)
-            (told result) };
-}
-
-impl Told for Option<usize> {
-    ghost told = { λ row. row };
-
-    #[inline(always)]
-    fn of<C: Chain, Q: Question>(chain: &Outlined<C>, question: &Q, buf: &[u8]) -> Option<usize> {
-        chain.first(question, buf)
+    /// Whether some row of the chain accepts `buf`.
+    #[inline(never)]
+    pub fn some(&self, buf: &[u8]) -> bool
+        ensures { TellsSome (C.rows self.now.0) buf.now result }
+    {
+        self.0.first(buf).is_some()
     }
 }
 
-/// A number takes one register. That of no row is [`NO_ROW`].
-impl Told for u32 {
-    ghost told = { row_numbered };
-
-    #[inline(always)]
-    fn of<C: Chain, Q: Question>(chain: &Outlined<C>, question: &Q, buf: &[u8]) -> u32 {
-        chain.number(question, buf)
-    }
-}
-
-/// The first row of Office in ZIP archives that accepts `buf`, of those that are asked for.
-#[tactic(auto, unfolding(crate::specs::Walks::IsFirstAmong, crate::specs::Table::table))]
-fn office_row<Q: Question>(question: &Q, buf: &[u8]) -> Option<usize>
-    ensures { IsFirstAmong (RowHas (Takes (Q.asked question.now) buf.now))
-        (DOCX ∷ XLSX ∷ PPTX ∷ []) result }
+/// The first row of Office in ZIP archives that accepts `buf`.
+#[tactic(auto, using(crate::proofs::CandidateLemmas::in_turn), unfolding(crate::specs::Table::table))]
+fn office_row(buf: &[u8]) -> Option<usize>
+    ensures { IsFirstAmong (RowHas (Accepts buf.now)) (DOCX ∷ XLSX ∷ PPTX ∷ []) result }
 {
-    if !is_asked(DOCX, question) && !is_asked(XLSX, question) && !is_asked(PPTX, question) {
-        return None;
-    }
     let folder = deciding_folder(buf);
-    if is_folder_of(DOCX, question, folder, b"word/") {
+    if stands_at(folder, b"word/", 0) {
         return Some(DOCX);
     }
-    if is_folder_of(XLSX, question, folder, b"xl/") {
+    if stands_at(folder, b"xl/", 0) {
         return Some(XLSX);
     }
-    if is_folder_of(PPTX, question, folder, b"ppt/") {
+    if stands_at(folder, b"ppt/", 0) {
         return Some(PPTX);
     }
     None
-}
-
-/// Whether row `i` is asked for, and the folder has that name.
-#[inline(always)]
-fn is_folder_of<Q: Question>(i: usize, question: &Q, folder: &[u8], name: &[u8]) -> bool
-    ensures { IsTrue result ↔ RowHas (IsAsked (Q.asked question.now)) i
-        × OccursAt folder.now name.now 0 }
-{
-    is_asked(i, question) && stands_at(folder, name, 0)
 }
 
 macro_rules! arms {
@@ -292,10 +246,10 @@ macro_rules! list_at {
     };
 }
 
-macro_rules! told_at {
-    ([$arm:ident $question:ident $buf:ident] $($name:ident ($($row:tt)*))*) => {
+macro_rules! number_at {
+    ([$arm:ident $buf:ident] $($name:ident ($($row:tt)*))*) => {
         match $arm {
-            $(Arm::$name => T::of(&Outlined(chain!($($row)*)), $question, $buf),)*
+            $(Arm::$name => Outlined(chain!($($row)*)).number($buf),)*
         }
     };
 }
@@ -324,6 +278,8 @@ macro_rules! chain {
     };
 }
 
+pub(crate) use chain;
+
 /// The candidates of each arm, which `rows_of` reads.
 static CANDIDATES: [&[usize]; ARM_COUNT] = with_candidates!(lists);
 
@@ -342,35 +298,25 @@ pub fn candidates_at(arm: Arm) -> &'static [usize]
     with_candidates!(list_at arm)
 }
 
-/// What is told of the first candidate of an arm that accepts `buf`, of those that are asked for.
+/// The number of the first candidate of an arm that accepts `buf`, and [`NO_ROW`] for none.
 #[tactic(auto)]
 #[inline(always)]
-fn tell_first<T: Told, Q: Question>(arm: Arm, question: &Q, buf: &[u8]) -> T
-    ensures { IsFirstAmong (RowHas (Takes (Q.asked question.now) buf.now)) (rows_of arm)
-        (T.told result) }
+fn number_of_first(arm: Arm, buf: &[u8]) -> u32
+    ensures { IsFirstAmong (RowHas (Accepts buf.now)) (rows_of arm) (row_numbered result) }
 {
-    with_candidates!(told_at arm question buf)
+    with_candidates!(number_at arm buf)
 }
 
-/// The first candidate of an arm that accepts `buf`, of those that are asked for.
+/// The first candidate of an arm that accepts `buf`.
 #[tactic(auto)]
 #[inline(always)]
-pub fn first_of<Q: Question>(arm: Arm, question: &Q, buf: &[u8]) -> Option<usize>
-    ensures { IsFirstAmong (RowHas (Takes (Q.asked question.now) buf.now)) (rows_of arm) result }
+pub fn first_of(arm: Arm, buf: &[u8]) -> Option<usize>
+    ensures { IsFirstAmong (RowHas (Accepts buf.now)) (rows_of arm) result }
 {
-    match tell_first::<u32, Q>(arm, question, buf) {
+    match number_of_first(arm, buf) {
         NO_ROW => None,
         number => Some(number as usize),
     }
-}
-
-/// [`first_of`] for class tests, as a function of its own. A test that has it inside can take longer to begin than to
-/// answer, so the compiler chooses.
-#[tactic(auto)]
-pub fn first_of_class<Q: Question>(arm: Arm, question: &Q, buf: &[u8]) -> Option<usize>
-    ensures { IsFirstAmong (RowHas (Takes (Q.asked question.now) buf.now)) (rows_of arm) result }
-{
-    tell_first::<Option<usize>, Q>(arm, question, buf)
 }
 
 /// A buffer that a built-in signature accepts begins with a byte that the signature allows there.
