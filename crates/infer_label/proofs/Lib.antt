@@ -3,4 +3,3 @@ pub mod ReportLemmas
 pub mod RunLemmas
 pub mod SeenLemmas
 pub mod WritesLemmas
-pub mod HaltingLemmas

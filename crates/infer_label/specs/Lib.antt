@@ -1,7 +1,6 @@
 pub mod Options
 pub mod Words
 pub mod Writes
-pub mod Halting
 pub mod Names
 pub mod Label
 pub mod Line

@@ -4,7 +4,6 @@ ghost use Rattle.infer_lines.specs.Said.{SaysThrough};
 ghost use Rattle.infer_label.specs.Run.{RunSays};
 ghost use Rattle.infer_label.specs.Words.{asked, texts};
 
-use crate::halting::{HaltingWriter, inner_of};
 use crate::run::run;
 use infer::Watched;
 use infer_lines::{Outcome, WatchedWriter, lines_over, writer_of};
@@ -30,16 +29,14 @@ pub fn run_lines<R: Files, A: Allocator + Copy, I: Read, W: Write + Drop, E: Wri
     ensures said { IfOk result (λ done. SaysThrough W.contents E.contents out err done
         (RunSays I.remaining (asked (texts words.now)) input.old input.new)) }
 {
-    let mut lines = lines_over(alloc, block, HaltingWriter::new(out))?;
-    let mut faults = lines_over(alloc, 0, HaltingWriter::new(err))?;
+    let mut lines = lines_over(alloc, block, out)?;
+    let mut faults = lines_over(alloc, 0, err)?;
     let (mut out, mut err) = (
         WatchedWriter::new(&mut lines),
         WatchedWriter::new(&mut faults),
     );
     let outcome = run(rt, alloc, words, input, &mut out, &mut err);
     let (out_failed, err_failed) = (out.has_failed(), err.has_failed());
-    let lines = writer_of(out_failed, lines);
-    let faults = writer_of(err_failed, faults);
-    let writers = (inner_of(lines), inner_of(faults));
+    let writers = (writer_of(out_failed, lines), writer_of(err_failed, faults));
     Ok((outcome.failed_if(writers.0.is_none()), writers))
 }

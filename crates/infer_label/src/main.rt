@@ -1,7 +1,6 @@
 //! Prints what each file is that it is given, by its name and its first bytes.
 #![tactic(auto)]
 
-mod halting;
 mod json;
 mod label;
 mod laws;
@@ -15,9 +14,8 @@ mod run;
 mod tests;
 mod words;
 
-use halting::HaltingWriter;
 use infer::Watched;
-use infer_lines::{Outcome, WatchedWriter};
+use infer_lines::{HaltingWriter, Outcome, WatchedWriter};
 use lines::run_lines;
 use run::run;
 use std::env::FillError;

@@ -1,4 +1,5 @@
 pub mod Faults
+pub mod Halting
 pub mod Limit
 pub mod Outcome
 pub mod Writer

@@ -13,7 +13,8 @@ use std::io::{self, Read, Write};
 use std::rt::Files;
 
 /// Runs through buffers for lines. A line of `err` costs one system call, and so do the lines of `out` that fit into a
-/// block, or each of them if `block` is 0. It gives the writers back, and none in the place of one that has failed.
+/// block, or each of them if `block` is 0. It gives the writers back, and none in the place of one that has failed, to which
+/// nothing is written from then on.
 ///
 /// An error is want of memory for the buffers; then nothing was read or written.
 pub fn run_lines<R: Files, A: Allocator + Copy, I: Read, W: Write + Drop, E: Write + Drop>(

@@ -13,7 +13,7 @@ mod sample;
 mod tests;
 
 use infer::Watched;
-use infer_lines::Outcome;
+use infer_lines::{HaltingWriter, Outcome};
 use lines::run_lines;
 use run::{USAGE, run};
 use std::io::{IsTerminal, Write};
@@ -66,8 +66,8 @@ fn run_words(rt: &HostRuntime, words: &[String]) -> Outcome
             rt.alloc(),
             words,
             rt.stdin(),
-            &mut rt.stdout(),
-            &mut rt.stderr(),
+            &mut HaltingWriter::new(rt.stdout()),
+            &mut HaltingWriter::new(rt.stderr()),
         ),
     }
 }

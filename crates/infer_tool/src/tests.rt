@@ -85,6 +85,25 @@ fn each_write_fails_in_turn(rt: HostRuntime) -> Result<(), Fail> {
     Ok(())
 }
 
+/// Nothing is written after a write that failed, though the buffers still hold what it did not take.
+#[test]
+fn nothing_follows_a_failed_write(rt: HostRuntime) -> Result<(), Fail> {
+    fs::write(&rt, "i.jpg", &JPEG)?;
+    let words = words_of(&rt, &["i.jpg", "i.jpg", "missing.bin"])?;
+    for block in [0, 16, 4096] {
+        for fails_at in 0..3u32 {
+            let (status, given, (out, err)) = through(&rt, words.as_slice(), block, fails_at)?;
+            assert_eq!(rt; (status, given), (2, (!out.has_failed(), true)));
+            if out.has_failed() {
+                assert_eq!(rt; out.writes, fails_at + 1, "{block}");
+            }
+            assert_eq!(rt; err.taken(), b"missing.bin: cannot open\n".as_slice());
+        }
+    }
+    fs::remove_file(&rt, "i.jpg")?;
+    Ok(())
+}
+
 /// A block holds lines of several files, and is written out before a fault is told and at the end.
 #[test]
 fn lines_in_blocks(rt: HostRuntime) -> Result<(), Fail> {

@@ -1,6 +1,7 @@
 use Rattle.infer_tool.proofs.Common.{List, ℕ, codes, rules, ◌∙◌, Refuses, RefusesBy, LosesFront, LosesUntilFinal, Says, SaysThrough, Saying, stream, has_failed, inner}
 use Rattle.std.specs.Io.Buffered.{line_writer_contents, writer_contents}
 use Rattle.infer.specs.declared.read.head.TheConstants.{FRONT}
+use Rattle.infer_lines.specs.Halting.{halting_contents}
 use Rattle.infer_lines.proofs.SaidLemmas.{refused_is_said, refuses_moves, said_through}
 use Rattle.infer_tool.proofs.LinesLemmas.{reader_moves, sample_moves}
 use Rattle.infer_lines.proofs.SaidLemmas.{Moves}
@@ -10,13 +11,13 @@ use Rattle.infer_tool.proofs.lines.run_lines.Goals as goal
 
 -- what was said of the buffers is said of the writers that they were made over
 through : (g : given.Over) (c : goal.After-failed_if g) (Said : Saying) → Moves Said
-    → Says (stream (line_writer_contents (writer_contents g.W.Write.contents)) c.new-out.result c.run_watched-outcome.new.out)
-    (stream (line_writer_contents (writer_contents g.E.Write.contents)) c.new-err.result c.run_watched-outcome.new.err)
+    → Says (stream (line_writer_contents (writer_contents (halting_contents g.W.Write.contents))) c.new-out.result c.run_watched-outcome.new.out)
+    (stream (line_writer_contents (writer_contents (halting_contents g.E.Write.contents))) c.new-err.result c.run_watched-outcome.new.err)
     c.run_watched-outcome.result Said
     → SaysThrough g.W.Write.contents g.E.Write.contents c.args.out c.args.err (c.failed_if.result, (c.writer_of.result, c.writer_of-2.result)) Said
 through g c Said moves said =
-    let held = line_writer_contents (writer_contents g.W.Write.contents) in
-    let err_held = line_writer_contents (writer_contents g.E.Write.contents) in
+    let held = line_writer_contents (writer_contents (halting_contents g.W.Write.contents)) in
+    let err_held = line_writer_contents (writer_contents (halting_contents g.E.Write.contents)) in
     let out = c.run_watched-outcome.new.out in
     let err = c.run_watched-outcome.new.err in
     said_through Said moves g.W.Write.contents g.E.Write.contents c.args.out c.args.err c.writer_of.result c.writer_of-2.result (has_failed out) (has_failed err)
@@ -28,11 +29,11 @@ through g c Said moves said =
 
 -- a line that refuses wrong words went to them
 refused : (g : given.Over) (c : goal.After-failed_if g) (refusal : List ℕ)
-    → RefusesBy c.new-out.result c.run_watched-outcome.new.out (stream (line_writer_contents (writer_contents g.E.Write.contents)) c.new-err.result c.run_watched-outcome.new.err)
+    → RefusesBy c.new-out.result c.run_watched-outcome.new.out (stream (line_writer_contents (writer_contents (halting_contents g.E.Write.contents))) c.new-err.result c.run_watched-outcome.new.err)
     c.run_watched-outcome.result refusal
     → SaysThrough g.W.Write.contents g.E.Write.contents c.args.out c.args.err (c.failed_if.result, (c.writer_of.result, c.writer_of-2.result)) (Refuses refusal)
 refused g c refusal this = through g c (Refuses refusal) (refuses_moves refusal)
-    (refused_is_said (line_writer_contents (writer_contents g.W.Write.contents)) _ _ _ _ refusal this)
+    (refused_is_said (line_writer_contents (writer_contents (halting_contents g.W.Write.contents))) _ _ _ _ refusal this)
 
 pub returns-clause-said : goal.returns-clause-said
 returns-clause-said g c =

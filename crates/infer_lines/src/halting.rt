@@ -1,8 +1,8 @@
 //! A writer that ends with its first failure.
-ghost use Rattle.std.specs.Prelude.{◌≡◌, ◌↔◌, IsTrue, OnErr, false, option_map, true};
+ghost use Rattle.std.specs.Prelude.{◌≡◌, ◌↔◌, IsTrue, OnErr, false, true};
 ghost use Rattle.std.specs.Io.KnownBytes.{Keeps, WriteAppends};
 ghost use Rattle.std.specs.Io.{WritesAtMost};
-ghost use Rattle.infer_label.specs.Halting.{HasFailed};
+ghost use Rattle.infer_lines.specs.Halting.{HasFailed};
 
 use std::io::{self, ErrorKind, Write};
 
@@ -78,14 +78,4 @@ fn has_failed(done: &io::Result<usize>, buf: &[u8]) -> bool
 /// What is said of a write that was not tried.
 fn halted() -> io::Error {
     io::Error::from(ErrorKind::BrokenPipe)
-}
-
-/// The writer that a halting one hands on to, if there is one.
-pub fn inner_of<W: Write + Drop>(given: Option<HaltingWriter<W>>) -> Option<W>
-    ensures { result ≡ option_map (λ halting. halting.writer) given }
-{
-    match given {
-        Some(halting) => Some(halting.into_inner()),
-        None => None,
-    }
 }

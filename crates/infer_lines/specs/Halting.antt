@@ -3,7 +3,7 @@ use Rattle.std.specs.Prelude.{◌≡◌, ◌<◌, ℕ, Err, List, Ok, Option, Re
 use Rattle.std.specs.IoError.{error_kind}
 use Rattle.std.specs.declared.io.Error.{Error}
 use Rattle.std.specs.declared.io.ErrorKind.TheVariants.{Interrupted}
-use Rattle.infer_label.specs.declared.halting.HaltingWriter.{HaltingWriter}
+use Rattle.infer_lines.specs.declared.halting.HaltingWriter.{HaltingWriter}
 
 abbrev pub halting_contents : {W : Type 0} → (contents : W → Option (List ℕ)) → HaltingWriter W → Option (List ℕ)
 halting_contents contents w = contents w.writer
