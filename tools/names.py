@@ -324,6 +324,17 @@ def listed():
     return names
 
 
+def other_extensions(known):
+    """The extensions of the types of some rows that are not the rows' own, each with the extension of its row. A name that may
+    mean several types is none of them."""
+    for it in sorted(listed()):
+        own = it.readings[0].origin
+        if it.part == "Extension" and not it.is_loose and len(it.readings) == 1 and "." not in it.text and it.text not in known:
+            found = ROW.fullmatch(own)
+            if found and found[1] in known and found[1] in it.readings[0].agrees:
+                yield it.text, found[1]
+
+
 def slot_of(text):
     """The slot of a key, as crates/infer_named/specs/Names.antt defines it."""
     first, middle, last = text[0], text[len(text) // 2], text[-1]
