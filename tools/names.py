@@ -13,6 +13,8 @@ NAMES = f"{CRATE}/names.txt"
 SLOTS, GROUP = 512, 64
 LONGEST = 27
 COPIES = ("~", ".bak", ".orig", ".old")
+# Who names a type, from those whose types more files have.
+ORIGINS = ("Row", "Known", "Own")
 LINE = re.compile(r"(?P<loose>loose )?(?P<part>extension|whole) (?P<text>\S+): (?P<readings>.*)")
 READING = re.compile(r"(?P<mime_type>\S+) \((?:row (?P<row>\S+)|(?P<known>known)|own)\), (?P<asks>signature|text|bytes|nothing)(?P<sets>(?:; .*)?)")
 LEAD = re.compile(r'"(?:[^"\\]|\\.)+"')
@@ -30,7 +32,7 @@ TYPES, SETS = 256, 128
 ROW_SLOTS, ROW_GROUPS = 512, 64
 ROW_WEIGHTS = (1, 1031, 67, 259, 17)
 # How many marks there are for each length of a text, of which this one stands for all that are greater.
-MARKS, LONG = 32, 63
+MARKS, LONG = 64, 63
 KEYS_CODE = """//! Made by `tools/tables` from names.txt: the keys in the order of their slots, where the slots begin, and the readings.
 use crate::table::{{Asks, Key, Part, Reading, Span, is_loose, keys, readings, span}};
 
@@ -378,7 +380,7 @@ def numbers_text(numbers):
 
 def mark_of(text):
     """The mark of a text, as crates/infer_named/specs/Marks.antt defines it."""
-    return MARKS * min(len(text), LONG) + (5 * ord(text[0]) + 4 * ord(text[-1])) % MARKS
+    return MARKS * min(len(text), LONG) + (7 * ord(text[0]) + 8 * ord(text[-1])) % MARKS
 
 
 def marks(texts):
@@ -403,8 +405,9 @@ class Texts:
 
 @kept
 def in_slots():
-    """The keys in the order of their slots."""
-    return sorted(listed(), key=lambda it: slot_of(it.text))
+    """The keys in the order of their slots. In a slot those come first that more files have: extensions, those of a row's type
+    before others, and short ones before long ones."""
+    return sorted(listed(), key=lambda it: (slot_of(it.text), it.part != "Extension", ORIGINS.index(it.readings[0].origin.partition("(")[0]), len(it.text)))
 
 
 def starts():

@@ -177,3 +177,18 @@ near_key stem versioned last second found is_versioned near next none is =
       is_second = other.1;
       is = is ∙ ap₂ (λ a b. if versioned then entry keys Extension (codes "so") else option_or a b) second_alike last_alike;
     }
+
+-- the extension of a versioned stem, whatever its dots are
+pub versioned_key : (stem : List ℕ) (found : Option Key) → IsVersioned stem true → found ≡ entry keys Extension (codes "so") → IsExtensionKey keys stem found
+versioned_key stem found is_versioned is =
+    let dot = dot_before stem (length stem) in
+    let other = dot_before stem (unwrap_or dot.0 0) in
+    record {
+      versioned = true;
+      last = dot.0;
+      second = other.0;
+      is_versioned = is_versioned;
+      is_last = dot.1;
+      is_second = other.1;
+      is = is;
+    }

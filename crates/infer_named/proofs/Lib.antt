@@ -11,6 +11,7 @@ pub mod DotLemmas
 pub mod KindLemmas
 pub mod CopyLemmas
 pub mod EdgeLemmas
+pub mod MakerLemmas
 pub mod RowLemmas
 pub mod SetLemmas
 pub mod OddLemmas

@@ -12,7 +12,7 @@ row_marks = ROW_MARKS
 
 -- the mark of a text of this length, with these bytes first and last; lengths from 63 on are alike
 abbrev pub mark : ℕ → ℕ → ℕ → ℕ
-mark long first last = 32 * min long 63 + (5 * first + 4 * last) % 32
+mark long first last = 64 * min long 63 + (7 * first + 8 * last) % 64
 
 abbrev pub mark_of : List ℕ → ℕ
 mark_of text = mark (length text) (get_or text 0 0) (get_or text (length text - 1) 0)

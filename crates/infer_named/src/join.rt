@@ -305,11 +305,22 @@ pub fn begins_with(lead: &[u8], leads: &[&[u8]]) -> bool
     ensures { result ≡ list_any (λ text. starts_with nat_eq lead.now text) (texts leads.now) }
 {
     for text in leads {
-        if lead.starts_with(text) {
+        if begins(lead, text) {
             return true;
         }
     }
     false
+}
+
+/// Whether the lead begins with the text. Of most leads the first byte tells that they do not.
+#[tactic(auto, using(crate::proofs::ListLemmas::other_first))]
+fn begins(lead: &[u8], text: &[u8]) -> bool
+    ensures { result ≡ starts_with nat_eq lead.now text.now }
+{
+    if !lead.is_empty() && !text.is_empty() && lead[0] != text[0] {
+        return false;
+    }
+    lead.starts_with(text)
 }
 
 /// Whether bytes of this kind, which no row accepts, are as the type asks.

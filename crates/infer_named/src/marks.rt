@@ -8,7 +8,7 @@ pub fn mark(length: usize, first: usize, last: usize) -> usize
     requires last { last < 256 }
     ensures { result ≡ mark length first last }
 {
-    32 * length.min(63) + (5 * first + 4 * last) % 32
+    64 * length.min(63) + (7 * first + 8 * last) % 64
 }
 
 /// Whether some text has this mark.

@@ -21,6 +21,9 @@ const NEAR: usize = 31;
 /// A dot so far from the end has more behind it than a key has.
 const FAR: usize = 28;
 
+/// A first dot that does not stand among so many bytes has more before it than a maker has.
+const MAKER_FRONT: usize = 14;
+
 /// The key of the name, and `None` exactly if it has none.
 pub fn key(name: &[u8]) -> Option<&'static Key>
     ensures { IsKey keys name.now (option_map (λ k. key_listed k.now) result) }
@@ -181,11 +184,11 @@ fn dotted_key(stem: &[u8]) -> Option<&'static Key>
 fn extension_key(stem: &[u8]) -> Option<&'static Key>
     ensures { IsExtensionKey keys stem.now (option_map (λ k. key_listed k.now) result) }
 {
-    let last = near_dot(stem, stem.len());
-    let second = second_dot(stem, last);
     if is_versioned(stem) {
         return entry(Part::Extension, b"so");
     }
+    let last = near_dot(stem, stem.len());
+    let second = second_dot(stem, last);
     match extension_at(stem, second) {
         Some(found) => Some(found),
         None => extension_at(stem, last),
@@ -314,8 +317,8 @@ fn are_parts(text: &[u8]) -> bool
 fn maker_key(stem: &[u8]) -> Option<&'static Key>
     ensures { IsMakerKey keys stem.now (option_map (λ k. key_listed k.now) result) }
 {
-    let dot = memchr(b'.', stem);
-    match dot {
+    let end = stem.len().min(MAKER_FRONT);
+    match memchr(b'.', &stem[..end]) {
         Some(place) => maker(&stem[..place]),
         None => None,
     }
