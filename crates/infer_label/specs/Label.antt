@@ -8,7 +8,7 @@ use Rattle.infer.specs.Triple.{Triple}
 use Rattle.infer_formats.specs.Text.{IsEncodingOf}
 use Rattle.infer_formats.specs.declared.text.Encoding.{Encoding}
 use Rattle.infer_more.specs.Line.{Row}
-use Rattle.infer_more.specs.Text.{IsAnswerLine, IsTypesAnswer, rows_of}
+use Rattle.infer_more.specs.Text.{IsOwnAnswer, rows_of}
 use Rattle.infer_more.specs.Wider.{IsWiderAnswer}
 use Rattle.infer_named.specs.Join.{Answer, Told, extension_of, mime_type_of, type_of_name}
 use Rattle.infer_named.specs.Named.{IsNamed, answer_of, key_of}
@@ -74,30 +74,32 @@ by_bytes t encoding empty = record {
 abbrev pub by_built_in : Option Triple → Label
 by_built_in t = by_bytes t None false
 
--- the label of an input with this name, of which b is looked at: by what the name and b tell, with the encoding of b; by
--- the wider answer of b; or by its first built-in row
+-- the label of an input by what its name and b tell, with the encoding of b
+abbrev pub IsLabelOf : Named → List ℕ → Label → Type 0
+IsLabelOf n b label = (encoding : Option Encoding) × IsEncodingOf b encoding × (label ≡ by_both (answer_of n) (type_of_name (key_of n)) encoding (is_empty b))
+
+-- the label of an input with this name, of which b is looked at: by what the name and b tell; by the wider answer of b; or
+-- by its first built-in row
 abbrev pub IsLabelBy : Look → List ℕ → List ℕ → Label → Type 0
-IsLabelBy looks.NameAndBytes name b label =
-    (n : Named) × (encoding : Option Encoding) × IsNamed name b n × IsEncodingOf b encoding × (label ≡ by_both (answer_of n) (type_of_name (key_of n)) encoding (is_empty b))
+IsLabelBy looks.NameAndBytes name b label = (n : Named) × IsNamed name b n × IsLabelOf n b label
 IsLabelBy looks.Bytes name b label =
     (t : Option Triple) × (encoding : Option Encoding) × IsWiderAnswer b t × IsEncodingOf b encoding × (label ≡ by_bytes t encoding (is_empty b))
 IsLabelBy looks.BuiltIn name b label = (t : Option Triple) × IsAnswer (Accepts b) table t × (label ≡ by_built_in t)
 
--- the label by the types of rows, by the bytes alone
-abbrev pub IsLabelOfTypes : List Row → List ℕ → Label → Type 0
-IsLabelOfTypes rows b label =
-    (t : Option Triple) × (encoding : Option Encoding) × IsTypesAnswer rows b t × IsEncodingOf b encoding × (label ≡ by_bytes t encoding (is_empty b))
+-- the label by a type of one's own, by the bytes alone
+abbrev pub IsLabelOfType : Triple → List ℕ → Label → Type 0
+IsLabelOfType t b label = (encoding : Option Encoding) × IsEncodingOf b encoding × (label ≡ by_bytes (Some t) encoding (is_empty b))
 
--- the label by a text that describes rows: that of the rows if a line of it answers, and else by what is looked at
-abbrev pub IsOwnLabel : List ℕ → List Row → Look → List ℕ → List ℕ → Label → Type 0
-IsOwnLabel text rows look name b label =
-    (number : Option ℕ) × IsAnswerLine text b number × MatchOption number (IsLabelBy look name b label) (λ n. IsLabelOfTypes rows b label)
+-- the label by the rows of a text: that of the first which accepts the bytes, and else by what is looked at
+abbrev pub IsOwnLabel : List Row → Look → List ℕ → List ℕ → Label → Type 0
+IsOwnLabel rows look name b label =
+    (own : Option Triple) × IsOwnAnswer rows b own × MatchOption own (IsLabelBy look name b label) (λ t. IsLabelOfType t b label)
 
 -- the label by some options: types of one's own are asked first, if they are read
 abbrev pub IsLabelWith : OwnTypes → Look → List ℕ → List ℕ → Label → Type 0
 IsLabelWith no_types look name b label = IsLabelBy look name b label
 IsLabelWith (types_at path) look name b label = IsLabelBy look name b label
-IsLabelWith (types_of text) look name b label = (rows : List Row) → rows_of text ≡ Some rows → IsOwnLabel text rows look name b label
+IsLabelWith (types_of text) look name b label = (rows : List Row) → rows_of text ≡ Some rows → IsOwnLabel rows look name b label
 
 abbrev pub IsLabel : Options → List ℕ → List ℕ → Label → Type 0
 IsLabel options name b label = IsLabelWith options.own options.look name b label

@@ -7,13 +7,13 @@ ghost use Rattle.infer_named.specs.Named.{key_of, told_listed};
 ghost use Rattle.infer_more.specs.Line.{Row};
 ghost use Rattle.infer_more.specs.Text.{found_shows, rows_of};
 ghost use Rattle.infer_label.specs.Options.{options_listed};
-ghost use Rattle.infer_label.specs.Label.{IsLabel, IsLabelBy, IsLabelOfTypes, IsOwnLabel, contradicted, extension_in, label_listed, mime_type_in};
+ghost use Rattle.infer_label.specs.Label.{IsLabel, IsLabelBy, IsLabelOf, IsLabelOfType, IsOwnLabel, contradicted, extension_in, label_listed, mime_type_in};
 
 use crate::options::{Look, Options, OwnTypes};
 use infer::Type;
 use infer_more::text::Encoding;
-use infer_more::types::{self, Found, answer_line};
-use infer_named::{Named, Standing, Told};
+use infer_more::types::{self, Found};
+use infer_named::{Named, NamedBy, Standing, Told, named_by};
 
 /// What is told of an input.
 #[derive(Clone, Copy)]
@@ -45,45 +45,47 @@ pub fn label_of<'a>(options: Options<'a>, name: &[u8], buf: &[u8]) -> Label<'a>
 /// By the types of a text, and by what else the options say if none of them accepts the bytes.
 fn by_text<'a>(text: &'a [u8], look: Look, name: &[u8], buf: &[u8]) -> Label<'a>
     ensures { (rows : List Row) → rows_of text.entry.now ≡ Some rows
-        → IsOwnLabel text.entry.now rows look name.now buf.now (label_listed result) }
+        → IsOwnLabel rows look name.now buf.now (label_listed result) }
 {
-    match answer_line(text, buf) {
-        Some(_) => by_own(text, buf),
+    match look {
+        Look::NameAndBytes => by_all(text, name, buf),
+        Look::Bytes | Look::BuiltIn => by_text_or_bytes(text, look, name, buf),
+    }
+}
+
+/// By the types of a text, and by the name and the bytes if none of them accepts the bytes.
+fn by_all<'a>(text: &'a [u8], name: &[u8], buf: &[u8]) -> Label<'a>
+    ensures { (rows : List Row) → rows_of text.entry.now ≡ Some rows
+        → IsOwnLabel rows Look.NameAndBytes name.now buf.now (label_listed result) }
+{
+    match named_by(text, name, buf) {
+        NamedBy::Own(found) => of_own(found, buf),
+        NamedBy::Named(found) => of_named(found, buf),
+    }
+}
+
+/// By the types of a text, and by what is looked at if none of them accepts the bytes.
+fn by_text_or_bytes<'a>(text: &'a [u8], look: Look, name: &[u8], buf: &[u8]) -> Label<'a>
+    ensures { (rows : List Row) → rows_of text.entry.now ≡ Some rows
+        → IsOwnLabel rows look name.now buf.now (label_listed result) }
+{
+    match types::own(text, buf) {
+        Some(found) => of_own(found, buf),
         None => by_look(look, name, buf),
     }
 }
 
-/// By the types of a text, one of which accepts the bytes.
-fn by_own<'a>(text: &'a [u8], buf: &[u8]) -> Label<'a>
-    ensures { (rows : List Row) → rows_of text.entry.now ≡ Some rows
-        → IsLabelOfTypes rows buf.now (label_listed result) }
+/// By a type of a text, which accepts the bytes.
+fn of_own<'a>(found: Found<'a>, buf: &[u8]) -> Label<'a>
+    ensures { IsLabelOfType (found_shows found.entry) buf.now (label_listed result) }
 {
-    let found = types::get(text, buf);
     Label {
-        mime_type: mime_type_found(found),
-        extension: extension_found(found),
+        mime_type: Some(found.mime_type()),
+        extension: Some(found.extension()),
         encoding: infer_more::encoding(buf),
         is_empty: buf.is_empty(),
         standing: None,
         named: None,
-    }
-}
-
-fn mime_type_found<'a>(found: Option<Found<'a>>) -> Option<&'a str>
-    ensures { option_map (λ m. m.now) result ≡ mime_type_in (option_map found_shows found.entry) }
-{
-    match found {
-        Some(found) => Some(found.mime_type()),
-        None => None,
-    }
-}
-
-fn extension_found<'a>(found: Option<Found<'a>>) -> Option<&'a str>
-    ensures { option_map (λ e. e.now) result ≡ extension_in (option_map found_shows found.entry) }
-{
-    match found {
-        Some(found) => Some(found.extension()),
-        None => None,
     }
 }
 
@@ -102,7 +104,13 @@ fn by_look(look: Look, name: &[u8], buf: &[u8]) -> Label<'static>
 fn by_both(name: &[u8], buf: &[u8]) -> Label<'static>
     ensures { IsLabelBy Look.NameAndBytes name.now buf.now (label_listed result) }
 {
-    let found = infer_named::named(name, buf);
+    of_named(infer_named::named(name, buf), buf)
+}
+
+/// By what the name and the bytes tell.
+fn of_named(found: Named, buf: &[u8]) -> Label<'static>
+    ensures { IsLabelOf found buf.now (label_listed result) }
+{
     Label {
         mime_type: mime_type_told(found.told),
         extension: extension_told(found.told),

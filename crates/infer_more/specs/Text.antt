@@ -97,6 +97,13 @@ abbrev pub IsLineAnswer : (Row → Type 0) → Option Row → Option Triple → 
 IsLineAnswer P None t = t ≡ None
 IsLineAnswer P (Some r) t = (P r × (t ≡ Some r.shows)) ⊎ ((¬ P r) × (t ≡ None))
 
+-- the triple is that of the first row that is asked below the built-in answer and accepts the buffer, and none exactly if
+-- there is none
+pub record IsOwnAnswer (rows : List Row) (b : List ℕ) (own : Option Triple) : Type 0 where
+  pub parent : Option Triple
+  pub answers : IsAnswer (Accepts b) built_in.table parent
+  pub first : IsFirstShown (Answers (option_map (λ p. p.extension) parent) b) rows own
+
 -- the triple is that of the first row that is asked below the built-in answer and accepts the buffer, and that of the
 -- wider answer exactly if there is none
 pub record IsTypesAnswer (rows : List Row) (b : List ℕ) (t : Option Triple) : Type 0 where

@@ -7,7 +7,7 @@ ghost use Rattle.infer.specs.Table.{table};
 ghost use Rattle.infer.specs.Triple.{Triple};
 ghost use Rattle.infer_more.specs.Entries.{left_lines, row_lines};
 ghost use Rattle.infer_more.specs.Line.{Row};
-ghost use Rattle.infer_more.specs.Text.{Answers, IsAnswerLine, IsFirstShown, IsNextRow, LineAnswers, IsTypesAnswer, NextShown, IsMistake, found_shows, left_size, lines_of, rows_left, rows_of};
+ghost use Rattle.infer_more.specs.Text.{Answers, IsAnswerLine, IsFirstShown, IsNextRow, IsOwnAnswer, LineAnswers, IsTypesAnswer, NextShown, IsMistake, found_shows, left_size, lines_of, rows_left, rows_of};
 ghost use Rattle.infer_more.specs.Wider.{IsWiderAnswer};
 
 mod entries;
@@ -181,6 +181,16 @@ pub fn get<'a>(text: &'a [u8], buf: &[u8]) -> Option<Found<'a>>
         Some(found) => Some(found),
         None => wider(parent, buf),
     }
+}
+
+/// What the first row of the text shows that is asked below the built-in answer of the buffer and accepts it, and `None` if
+/// there is none. The wider answer is not asked.
+pub fn own<'a>(text: &'a [u8], buf: &[u8]) -> Option<Found<'a>>
+    ensures { (rows : List Row) → rows_of text.now ≡ Some rows
+        → IsOwnAnswer rows buf.now (option_map found_shows result) }
+{
+    let (_, extension) = built_in(buf);
+    find(text, extension, buf)
 }
 
 /// The number, from 1, of the line whose type [`get`] answers, and `None` if no line's type is the answer, so that the

@@ -14,6 +14,7 @@ pub mod Bytes
 pub mod Asks
 pub mod Join
 pub mod Named
+pub mod Own
 pub mod Odd
 pub mod Reading
 pub mod Laws

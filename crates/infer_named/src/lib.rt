@@ -5,8 +5,8 @@
 //! which rows may accept the bytes of such a file.
 //!
 //! Each module uses only those before it: `table`, the keys with their readings; `names`, the key of a name; `bytes`, what
-//! is asked of the bytes beside their wider answer; `rows`, the sets that have a type; `join`, all together; `read`, the
-//! front of a file or of a reader; `odd`, what is odd about a name.
+//! is asked of the bytes beside their wider answer; `rows`, the sets that have a type; `join`, all together; `own`, types of a
+//! text beside these; `read`, the front of a file or of a reader; `odd`, what is odd about a name.
 #![tactic(auto)]
 
 ghost use Rattle.std.specs.Prelude.{◌≡◌, ◌≤◌, IfOk, None, option_map};
@@ -27,6 +27,7 @@ pub mod laws;
 mod marks;
 mod names;
 mod odd;
+mod own;
 mod read;
 mod rows;
 mod table;
@@ -37,6 +38,7 @@ pub use bytes::{Kind, Lead};
 use infer::{FRONT, Fault, Type, Watched};
 pub use join::{Named, Standing, Told};
 pub use odd::Oddities;
+pub use own::{NamedBy, named_by};
 use std::alloc::Allocator;
 use std::io;
 use std::io::Read;

@@ -4,6 +4,7 @@ use std::test::Fail;
 
 mod generated;
 mod odd;
+mod own;
 mod read;
 
 /// Each begins as the document of its type has it.
