@@ -1,9 +1,10 @@
 //! First bytes that come in pieces.
-ghost use Rattle.std.specs.Prelude.{◌≡◌, ◌≤◌, ◌<◌, ◌∷◌, ◌++◌, ℕ, List, [], length, take};
+ghost use Rattle.std.specs.Prelude.{◌≡◌, ◌≤◌, ◌++◌, ℕ, List, [], length, take};
 ghost use Rattle.std.specs.Bool.{OnTrue};
 ghost use Rattle.mime_sniff.specs.Computed.{IsComputed, supply_of, told_by};
 ghost use Rattle.mime_sniff.specs.Growth.{IsDecided};
 ghost use Rattle.mime_sniff.specs.Standard.{header};
+ghost use Rattle.mime_sniff.specs.declared.computed.TheConstants.{HEADER_LENGTH};
 
 use crate::computed::{Computed, HEADER_LENGTH, compute, is_decided};
 use crate::supplied::Supplied;
@@ -30,7 +31,7 @@ impl Model for Sniffer {
 
     ghost view = { λ s. take s.len s.bytes };
 
-    ghost invariant = { λ s. s.len ≤ 1445 };
+    ghost invariant = { λ s. s.len ≤ HEADER_LENGTH };
 }
 
 impl Sniffer {
@@ -48,26 +49,16 @@ impl Sniffer {
     pub fn push(&mut self, piece: &[u8])
         ensures { self.new ≡ header (self.old ++ piece.now) }
     {
-        let room = HEADER_LENGTH - self.kept().len();
-        let count = room.min(piece.len());
-        let part = &piece[..count];
-        for byte in part {
-            self.push_byte(*byte);
-        }
-    }
-
-    fn push_byte(&mut self, byte: u8)
-        requires { length self.old < 1445 }
-        ensures { self.new ≡ self.old ++ byte ∷ [] }
-    {
-        self.bytes[self.len] = byte;
-        self.len += 1;
+        let start = self.len;
+        let count = (HEADER_LENGTH - start).min(piece.len());
+        self.bytes[start..start + count].copy_from_slice(&piece[..count]);
+        self.len = start + count;
     }
 
     /// The first 1445 bytes of all that was pushed, or all if these are fewer.
     pub fn kept(&self) -> &[u8]
         ensures all { result.now ≡ self.now }
-        ensures few { length result.now ≤ 1445 }
+        ensures few { length result.now ≤ HEADER_LENGTH }
     {
         &self.bytes[..self.len]
     }
