@@ -1,7 +1,7 @@
 //! MIME types of texts.
-ghost use Rattle.std.specs.Prelude.{◌≡◌, ◌↔◌, Some, option_map};
+ghost use Rattle.std.specs.Prelude.{◌≡◌, ◌↔◌, IfSome, Some, option_map};
 ghost use Rattle.mime_types.specs.Mime.{Mime};
-ghost use Rattle.mime_types.specs.Parse.{Parsed};
+ghost use Rattle.mime_types.specs.Parse.{Parsed, tail_text};
 ghost use Rattle.mime_types.specs.Seen.{mime_of};
 
 use crate::mime_type::MimeType;
@@ -14,7 +14,8 @@ use crate::text::{cut, is_a_token, trim, trim_end};
 /// assert!(rt; found.is_html());
 /// ```
 pub fn parse(text: &[u8]) -> Option<MimeType<'_>>
-    ensures { (m : Mime) → (option_map mime_of result ≡ Some m) ↔ Parsed text.now m }
+    ensures says { (m : Mime) → (option_map mime_of result ≡ Some m) ↔ Parsed text.now m }
+    ensures tail { IfSome result (λ found. found.tail.now ≡ tail_text text.now) }
 {
     let (type_name, behind) = cut(trim(text), b'/');
     let (front, tail) = cut(behind, b';');

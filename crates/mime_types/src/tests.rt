@@ -206,6 +206,9 @@ fn a_parameter_by_its_name(rt: HostRuntime) -> Result<(), Fail> {
     assert!(rt; value.text == b"b".as_slice() && !value.is_quoted);
     let value = found.parameter(b"CHARSET").ok_or("no value")?;
     assert!(rt; value.text == b"x\\y".as_slice() && value.is_quoted);
+    let mut said = [0; 2];
+    assert!(rt; value.write(&mut said) == Some(2) && said == *b"xy");
+    assert!(rt; value.write(&mut said[..1]).is_none());
     assert!(rt; found.parameter(b"b").is_none());
     let mut out = [0; 16];
     assert!(rt; found.write_essence(&mut out) == Some(9) && &out[..9] == b"text/html".as_slice());

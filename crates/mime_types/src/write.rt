@@ -175,6 +175,16 @@ impl<'a> MimeType<'a> {
     }
 }
 
+impl<'a> Value<'a> {
+    /// Writes what the value says, without quotes and backslashes, and returns how long that is; or none if it is longer than
+    /// the buffer.
+    pub fn write(&self, out: &mut [u8]) -> Option<usize>
+        ensures { Wrote out.old out.new 0 (value_seen self.now) result }
+    {
+        write_plain(out, 0, self)
+    }
+}
+
 /// Whether there are no more than 256 segments.
 fn has_few(tail: &[u8]) -> bool
     ensures { IsTrue result ↔ (left_by MOST_SEGMENTS tail.now ≡ []) }
