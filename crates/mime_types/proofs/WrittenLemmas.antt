@@ -104,3 +104,18 @@ first_written s o r is some = written_first s some ∙ ap (λ g. option_to_list 
 
 pub first_leaves : (s : List ℕ) (o : Option Parameter) (r : List ℕ) → segment_of o r ≡ segment s → 0 < length s → length r < length s
 first_leaves s o r is some = let less = leaves_less s some in let same : r ≡ (segment s).rest = ap (λ g. g.rest) is in omega (arith, ap length same)
+
+left_of_nothing : (n : ℕ) → left_by n [] ≡ []
+unfolding left_by segment
+left_of_nothing zero = refl
+left_of_nothing (suc n) = left_of_nothing n
+
+left_split : (n m k : ℕ) (s : List ℕ) → n + m ≡ k → left_by k s ≡ left_by m (left_by n s)
+unfolding left_by
+left_split zero m k s e = let same : k ≡ m = omega (arith, e) in ap (λ j. left_by j s) same
+left_split (suc n) m zero s e = absurd (omega (arith, e))
+left_split (suc n) m (suc k) s e = left_split n m k (segment s).rest (omega (arith, e))
+
+-- once nothing is left, nothing is
+pub left_none : (n k : ℕ) (s : List ℕ) → n ≤ k → left_by n s ≡ [] → left_by k s ≡ []
+left_none n k s few none = left_split n (k - n) k s (omega (arith, few)) ∙ (ap (left_by (k - n)) none ∙ left_of_nothing (k - n))

@@ -191,6 +191,9 @@ fn has_few(tail: &[u8]) -> bool
 {
     let mut rest = tail;
     for i in 0..MOST_SEGMENTS {
+        if rest.is_empty() {
+            return true;
+        }
         rest = first_segment(rest).rest;
     }
     rest.is_empty()
