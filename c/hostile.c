@@ -68,6 +68,37 @@ static void ask_named(const void *buf, size_t len) {
     }
 }
 
+/* The front of a buffer as the text of a MIME type, with the buffer as what it is told of. */
+static void ask_mime(const char *buf, size_t len) {
+    static const char *const types[] = {"", "text/plain", "image/png", "audio/ogg", "text/html", "a/b;c=d"};
+    char text[INFER_MIME_SIZE], again[INFER_MIME_SIZE], essence[INFER_MIME_SIZE];
+    bool has;
+    size_t size = infer_mime_parse(buf, len, text, sizeof text);
+    wants(size == strlen(text) && size < INFER_MIME_SIZE && infer_mime_parse(buf, len, NULL, 0) == size);
+    wants(infer_mime_parse(text, size, again, sizeof again) == size && strcmp(text, again) == 0);
+    wants(infer_mime_essence(buf, len, essence, sizeof essence) == strlen(essence));
+    wants(size == 0 || (strncmp(text, essence, strlen(essence)) == 0 && infer_mime_groups(text, size) == infer_mime_groups(buf, len)));
+    wants(infer_mime_minimize(buf, len, true, again, sizeof again) == strlen(again) && !*again == !*essence);
+    infer_mime_parameter(buf, len, buf, len, &has, again, sizeof again);
+    wants(!has || *essence);
+    infer_mime_is_nosniff(buf, len);
+    infer_mime_is_old_server(buf, len);
+    const char *type = types[next() % (sizeof types / sizeof *types)];
+    const uint32_t flags = (uint32_t)next();
+    size = infer_mime_compute(type, strlen(type), flags, INFER_MIME_IN_PAGE, buf, len, text, sizeof text);
+    wants(size == strlen(text) && size > 0);
+    size_t kept = len < INFER_MIME_HEADER ? len : INFER_MIME_HEADER;
+    wants(infer_mime_compute(type, strlen(type), flags, INFER_MIME_IN_PAGE, buf, kept, again, sizeof again) == size && strcmp(text, again) == 0);
+    wants(!(flags & INFER_MIME_NO_SNIFF) || !*type || strcmp(text, type) == 0);
+    wants(*type || !(infer_mime_groups(text, size) & INFER_MIME_SCRIPTABLE) || (!(flags & INFER_MIME_NO_SNIFF) && infer_mime_may_be_scriptable(buf, len)));
+    wants(kept < INFER_MIME_HEADER || infer_mime_is_decided(type, strlen(type), flags, buf, len));
+    for (int32_t context = -1; context <= INFER_MIME_IN_CACHE_MANIFEST + 1; context++)
+        infer_mime_compute(buf, len, flags, context, buf, len, text, sizeof text);
+    wants(!infer_mime_is_blocked(buf, len, INFER_MIME_OTHER));
+    infer_mime_is_blocked(buf, len, INFER_MIME_SCRIPT);
+    infer_mime_is_blocked(buf, len, INFER_MIME_STYLE);
+}
+
 /* What the calls say of one buffer must agree. */
 static void ask(const void *buf, size_t len) {
     bool is_final;
@@ -99,6 +130,7 @@ static void ask(const void *buf, size_t len) {
     char content_type[INFER_TEXT_SIZE];
     wants(infer_detect_content_type(buf, len, content_type, sizeof content_type) == strlen(content_type) && *content_type);
     wants(infer_detect_content_type(buf, len, NULL, 0) == strlen(content_type));
+    ask_mime(buf, len);
     ask_types(buf, len);
     ask_named(buf, len);
     infer_is(buf, len, buf, len);

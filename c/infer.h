@@ -129,6 +129,72 @@ size_t infer_encoding(const void *buf, size_t len, char *out, size_t size);
  * such as "text/html; charset=utf-8". It is never empty. */
 size_t infer_detect_content_type(const void *buf, size_t len, char *out, size_t size);
 
+/* MIME TYPES, as browsers read them, by the MIME Sniffing Standard. `text` is the value of a header, such as
+ * "Text/HTML; Charset=utf-8". A text is written as infer_mime_type writes its own, and INFER_MIME_SIZE bytes are room for it:
+ * one that would take more is empty.
+ *
+ * The MIME type that the text says, as the standard writes it: "text/html;charset=utf-8". It is empty if the text says none,
+ * or has more than 256 parameters. */
+#define INFER_MIME_SIZE 4096
+size_t infer_mime_parse(const char *text, size_t text_len, char *out, size_t size);
+
+/* Its type and subtype, such as "text/html"; the value of the parameter with that name, in either case, and in `has`, which
+ * must not be null, whether there is one; and what a browser takes it for that supports it or not, such as
+ * "application/json" of "text/json". All are empty if the text says none. */
+size_t infer_mime_essence(const char *text, size_t text_len, char *out, size_t size);
+size_t infer_mime_parameter(const char *text, size_t text_len, const char *name, size_t name_len, bool *has, char *out, size_t size);
+size_t infer_mime_minimize(const char *text, size_t text_len, bool is_supported, char *out, size_t size);
+
+/* The groups that it is in, a sum of these, and 0 if it is in none or the text says none. */
+enum infer_mime_group {
+    INFER_MIME_IMAGE = 1,
+    INFER_MIME_AUDIO_VIDEO = 2,
+    INFER_MIME_FONT = 4,
+    INFER_MIME_ZIP = 8,         /* a ZIP archive, or by its ending based on one */
+    INFER_MIME_ARCHIVE = 16,
+    INFER_MIME_XML = 32,
+    INFER_MIME_HTML = 64,
+    INFER_MIME_SCRIPTABLE = 128, /* a document of it may run scripts: XML, HTML and PDF */
+    INFER_MIME_JAVASCRIPT = 256,
+    INFER_MIME_JSON = 512
+};
+uint32_t infer_mime_groups(const char *text, size_t text_len);
+
+/* Whether the value of X-Content-Type-Options forbids to sniff; whether a response that does is blocked, by the value of
+ * Content-Type and what it is fetched for; and whether that value is one that old servers sent of every file. Several values
+ * are given as one, with ", " between them, and the last of them for the last. */
+enum infer_mime_destination { INFER_MIME_SCRIPT = 0, INFER_MIME_STYLE = 1, INFER_MIME_OTHER = 2 };
+bool infer_mime_is_nosniff(const char *value, size_t value_len);
+bool infer_mime_is_blocked(const char *value, size_t value_len, int32_t destination);
+bool infer_mime_is_old_server(const char *value, size_t value_len);
+
+/* WHAT A BROWSER MAKES OF FIRST BYTES, by the same standard: the type that it computes of what was told and of the first
+ * INFER_MIME_HEADER bytes, written as infer_mime_parse writes its text. `content_type` is the MIME type that was told, and
+ * empty if none was. A context is what the bytes are loaded for; any other number is a page. The type that was told stays
+ * where the standard asks nothing, and it is written as infer_mime_parse writes it, so it is empty if none was told. */
+#define INFER_MIME_HEADER 1445
+enum infer_mime_flag {
+    INFER_MIME_NO_SNIFF = 1,  /* sniffing is forbidden */
+    INFER_MIME_OLD_SERVER = 2 /* the header is one that old servers sent of every file */
+};
+enum infer_mime_context {
+    INFER_MIME_IN_PAGE = 0,
+    INFER_MIME_IN_IMAGE = 1,
+    INFER_MIME_IN_AUDIO_VIDEO = 2,
+    INFER_MIME_IN_FONT = 3,
+    INFER_MIME_IN_PLUGIN = 4,
+    INFER_MIME_IN_STYLE = 5,
+    INFER_MIME_IN_SCRIPT = 6,
+    INFER_MIME_IN_TEXT_TRACK = 7,
+    INFER_MIME_IN_CACHE_MANIFEST = 8
+};
+size_t infer_mime_compute(const char *content_type, size_t content_type_len, uint32_t flags, int32_t context, const void *buf, size_t len, char *out, size_t size);
+
+/* Whether no bytes that may follow change what is computed of a page, and whether some make a browser that was told nothing
+ * run scripts. True of the first is certain, and false of the second: the other way round both may err. */
+bool infer_mime_is_decided(const char *content_type, size_t content_type_len, uint32_t flags, const void *buf, size_t len);
+bool infer_mime_may_be_scriptable(const void *buf, size_t len);
+
 /* What the calls that end in _text ask, for languages that cannot: `out` gets where the text stands, and its size with
  * the zero. It must have a text before too, such as {"", 1}. */
 struct infer_text {

@@ -118,6 +118,85 @@ static void content_types(void) {
     content_type("application/octet-stream", "\0\0\0\x08" "ftypmp42", 12);
 }
 
+static void mime_type(const char *said, const char *type) {
+    char out[INFER_MIME_SIZE];
+    same(said, (long)infer_mime_parse(said, strlen(said), out, sizeof out), (long)strlen(type));
+    same(said, strcmp(out, type), 0);
+}
+
+/* MIME types of texts; the longest of which there is room for, and one more; and the most parameters, and one more. */
+static void mime_types(void) {
+    static const char text[] = "Text/JSON; Charset=\"UTF\\-8\"; b=\" \"";
+    static char made[8192];
+    char out[INFER_MIME_SIZE];
+    bool has = false;
+    mime_type("Text/HTML; charset = x;a= b", "text/html;a=\" b\"");
+    mime_type("text", "");
+    same("its essence", (long)infer_mime_essence(text, sizeof text - 1, out, sizeof out) + strcmp(out, "text/json"), 9);
+    same("its charset", (long)infer_mime_parameter(text, sizeof text - 1, "CHARSET", 7, &has, out, sizeof out) + strcmp(out, "UTF-8"), 5);
+    same("it has one", has, true);
+    same("no parameter", (long)infer_mime_parameter(text, sizeof text - 1, "c", 1, &has, out, sizeof out), 0);
+    same("it has none", has || *out, false);
+    same("what it is for", (long)infer_mime_minimize(text, sizeof text - 1, false, out, sizeof out) + strcmp(out, "application/json"), 16);
+    same("its groups", infer_mime_groups(text, sizeof text - 1), INFER_MIME_JSON);
+    same("groups of a drawing", infer_mime_groups("image/svg+xml", 13), INFER_MIME_IMAGE | INFER_MIME_XML | INFER_MIME_SCRIPTABLE);
+    same("groups of nothing", infer_mime_groups(NULL, 0), 0);
+    memset(made, 'a', sizeof made);
+    made[1] = '/';
+    same("a long MIME type", (long)infer_mime_parse(made, INFER_MIME_SIZE - 1, out, sizeof out), INFER_MIME_SIZE - 1);
+    same("a longer one", (long)infer_mime_parse(made, INFER_MIME_SIZE, out, sizeof out) + *out, 0);
+    same("a long essence", (long)infer_mime_essence(made, INFER_MIME_SIZE - 1, out, sizeof out), INFER_MIME_SIZE - 1);
+    same("a longer one", (long)infer_mime_essence(made, INFER_MIME_SIZE, out, sizeof out) + *out, 0);
+    memcpy(made, "a/a;", 4);
+    made[5] = '=';
+    same("a long value", (long)infer_mime_parameter(made, 6 + INFER_MIME_SIZE - 1, "a", 1, &has, out, sizeof out), INFER_MIME_SIZE - 1);
+    same("a longer one", (long)infer_mime_parameter(made, 6 + INFER_MIME_SIZE, "a", 1, &has, out, sizeof out) + *out, 0);
+    same("it has it", has, true);
+    memset(made, ';', sizeof made);
+    memcpy(made, "a/a", 3);
+    same("many semicolons", (long)infer_mime_parse(made, 4 + 256, out, sizeof out), 3);
+    same("too many", (long)infer_mime_parse(made, 4 + 257, out, sizeof out) + *out, 0);
+}
+
+static void computed(const char *type, uint32_t flags, int32_t context, const char *buf, size_t len, const char *wanted) {
+    char out[INFER_MIME_SIZE];
+    same(wanted, (long)infer_mime_compute(type, strlen(type), flags, context, buf, len, out, sizeof out), (long)strlen(wanted));
+    same(wanted, strcmp(out, wanted), 0);
+}
+
+static void sniffed(void) {
+    const uint32_t both = INFER_MIME_NO_SNIFF | INFER_MIME_OLD_SERVER;
+    computed("", 0, INFER_MIME_IN_PAGE, "<p>", 3, "text/html");
+    computed("", INFER_MIME_NO_SNIFF, INFER_MIME_IN_PAGE, "<p>", 3, "text/plain");
+    computed("Image/PNG;a=b", 0, INFER_MIME_IN_PAGE, "GIF89a", 6, "image/gif");
+    computed("Image/PNG;a=b", INFER_MIME_NO_SNIFF, INFER_MIME_IN_PAGE, "GIF89a", 6, "image/png;a=b");
+    computed("text/plain", INFER_MIME_OLD_SERVER, INFER_MIME_IN_PAGE, "\1", 1, "application/octet-stream");
+    computed("text/plain", both, INFER_MIME_IN_PAGE, "\1", 1, "text/plain");
+    computed("text/html", ~both, INFER_MIME_IN_PAGE, "\1", 1, "text/html");
+    computed("text/html", 0, INFER_MIME_IN_IMAGE, "GIF89a", 6, "image/gif");
+    computed("", 0, INFER_MIME_IN_AUDIO_VIDEO, "OggS", 5, "application/ogg");
+    computed("", 0, INFER_MIME_IN_FONT, "OTTO", 4, "font/otf");
+    computed("", 0, INFER_MIME_IN_FONT, NULL, 0, "");
+    computed("", 0, INFER_MIME_IN_PLUGIN, NULL, 0, "application/octet-stream");
+    computed("", 0, INFER_MIME_IN_STYLE, "a", 1, "");
+    computed("text/css", 0, INFER_MIME_IN_SCRIPT, "a", 1, "text/css");
+    computed("", 0, INFER_MIME_IN_TEXT_TRACK, "a", 1, "text/vtt");
+    computed("", 0, INFER_MIME_IN_CACHE_MANIFEST, "a", 1, "text/cache-manifest");
+    computed("image/png", 0, INFER_MIME_IN_CACHE_MANIFEST + 1, "GIF89a", 6, "image/gif");
+    same("an image is decided", infer_mime_is_decided("", 0, 0, "GIF89a", 6), true);
+    same("white space is not", infer_mime_is_decided("", 0, 0, " ", 1), false);
+    same("what is told is", infer_mime_is_decided("text/html", 9, 0, " ", 1), true);
+    same("a tag may run scripts", infer_mime_may_be_scriptable(" <scr", 5), true);
+    same("an image may not", infer_mime_may_be_scriptable("GIF89a", 6), false);
+    same("sniffing is forbidden", infer_mime_is_nosniff("NoSniff , x", 11), true);
+    same("sniffing is not", infer_mime_is_nosniff("x, nosniff", 10), false);
+    same("a script is blocked", infer_mime_is_blocked("text/json", 9, INFER_MIME_SCRIPT), true);
+    same("a style is not", infer_mime_is_blocked("text/html, text/css", 19, INFER_MIME_STYLE), false);
+    same("a page is not", infer_mime_is_blocked("", 0, INFER_MIME_OTHER) || infer_mime_is_blocked("", 0, -1), false);
+    same("an old server", infer_mime_is_old_server("text/plain; charset=UTF-8", 25), true);
+    same("another", infer_mime_is_old_server("text/plain; charset=utf-8", 25), false);
+}
+
 static void encodings(void) {
     encoded("us-ascii", "plain\n", 6);
     encoded("utf-8", "caf\xC3\xA9", 5);
@@ -416,6 +495,8 @@ int main(void) {
     class_names();
     encodings();
     content_types();
+    mime_types();
+    sniffed();
     classes();
     samples();
     types();

@@ -101,6 +101,27 @@ static void ask_named(const unsigned char *buf, size_t len) {
     note(found.told.is_own_name + 2 * found.name.is_own_name);
 }
 
+/* The buffer as MIME types, and what they make of it. */
+static void ask_mime(const char *buf, size_t len) {
+    static const char *const types[] = {"", "text/plain", "image/png", "audio/ogg", "text/html", "a/b;c=d", "*/*"};
+    char text[INFER_MIME_SIZE];
+    bool has;
+    const char *type = types[next(sizeof types / sizeof *types)];
+    uint32_t flags = (uint32_t)next(4);
+    int32_t context = (int32_t)next(10);
+    note((int64_t)infer_mime_parse(buf, len, text, sizeof text));
+    note_text(text);
+    note((int64_t)infer_mime_essence(buf, len, text, sizeof text));
+    note((int64_t)infer_mime_parameter(buf, len, "a", 1, &has, text, sizeof text));
+    note(has);
+    note((int64_t)infer_mime_minimize(buf, len, has, text, sizeof text));
+    note(infer_mime_groups(buf, len));
+    note(infer_mime_is_nosniff(buf, len) + 2 * infer_mime_is_old_server(buf, len) + 4 * infer_mime_is_blocked(buf, len, (int32_t)next(3)));
+    note((int64_t)infer_mime_compute(type, strlen(type), flags, context, buf, len, text, sizeof text));
+    note_text(text);
+    note(infer_mime_is_decided(type, strlen(type), flags, buf, len) + 2 * infer_mime_may_be_scriptable(buf, len));
+}
+
 static void ask(const void *buf, size_t len, int32_t first) {
     char text[INFER_TEXT_SIZE];
     bool is_final;
@@ -122,6 +143,7 @@ static void ask(const void *buf, size_t len, int32_t first) {
     note_text(text);
     note((int64_t)line);
     note((int64_t)column);
+    ask_mime(buf, len);
     ask_types(types, strlen(types), buf, len);
     ask_types(buf, len, buf, len);
     ask_named(buf, len);

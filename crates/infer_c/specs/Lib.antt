@@ -1,3 +1,4 @@
 pub mod Codes
 pub mod Written
 pub mod Named
+pub mod Mime

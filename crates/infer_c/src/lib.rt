@@ -2,7 +2,8 @@
 //! them. A text from C is bytes: one that is not UTF-8 is no row's text.
 #![tactic(auto)]
 
-ghost use Rattle.std.specs.Prelude.{◌≡◌, ◌↔◌, ◌+◌, ◌≤◌, ◌⊎◌, ℕ, List, Option, None, Some, [], IsTrue, codes, is_some, length, negsuc, pos, ◌<◌, IfSome, unwrap_or};
+ghost use Rattle.std.specs.Prelude.{◌≡◌, ◌↔◌, ◌+◌, ◌≤◌, ◌⊎◌, ℕ, List, Option, None, Some, [], Any, IsTrue, codes, is_some, length, negsuc, pos, ◌<◌, IfSome, unwrap_or};
+ghost use Rattle.std.specs.Bool.{OnFalse, OnTrue};
 ghost use Rattle.std.specs.Option.{option_map_or};
 ghost use Rattle.infer.specs.App.{coff_i386, coff_ia64, coff_x64};
 ghost use Rattle.infer.specs.Signature.{accepts};
@@ -25,10 +26,20 @@ ghost use Rattle.infer.specs.Triple.{Triple};
 ghost use Rattle.infer_more.specs.Line.{Row};
 ghost use Rattle.infer_more.specs.Text.{IsAnswerLine, IsMistake, IsTypesAnswer, reason_text, rows_of};
 ghost use Rattle.mime_sniff.specs.Go.{IsContentType};
+ghost use Rattle.mime_types.specs.Extracted.{IsExtracted};
+ghost use Rattle.mime_types.specs.Mime.{Mime};
+ghost use Rattle.mime_types.specs.Nosniff.{IsBlocked, IsNosniff};
+ghost use Rattle.mime_types.specs.Text.{lower};
+ghost use Rattle.mime_types.specs.declared.extraction.Extracted.{Extracted};
+ghost use Rattle.mime_sniff.specs.Computed.{IsComputedIn, apache_bugs};
+ghost use Rattle.mime_sniff.specs.Growth as growth;
+ghost use Rattle.mime_sniff.specs.Growth.{NeverScripts};
+ghost use Rattle.infer_c.specs.Mime.{IsContextOf, IsDestinationOf, IsEssenceText, IsGroupCodeSaid, IsMimeText, IsMinimalText, IsToldText, IsValueText, Says, kind_said, mime_extracted, supply_told, value_said};
 ghost use Rattle.infer_c.specs.Named.{IsOddityCode, StoresNamed};
 ghost use Rattle.infer_c.specs.Written.{WritesText, WritesWhole};
 
 mod class;
+mod mime;
 mod named;
 mod row;
 mod texts;
@@ -36,6 +47,8 @@ mod written;
 
 use infer::MatcherType;
 use infer_more::laws;
+use mime_sniff::Context;
+use mime_types::Destination;
 use named::NamedAnswer;
 
 const VERSION: &str = "0.1.0";
@@ -261,6 +274,126 @@ pub extern "C" fn infer_detect_content_type(buf: &[u8], out: &mut [u8]) -> usize
     ensures few { result ≤ 73 }
 {
     written::write_text(mime_sniff::go::detect_content_type(buf), out)
+}
+
+/// The length of the text of the MIME type that `text` says, which is written to `out`, and 0 if it says none, has more than
+/// 256 parameters, or would take more than 4095 bytes.
+#[unsafe(no_mangle)]
+pub extern "C" fn infer_mime_parse(text: &[u8], out: &mut [u8]) -> usize
+    ensures { (said : Option Mime) × (written : List ℕ) × Says text.now said × IsMimeText text.now said written
+        × (result ≡ length written) × WritesText written out.old out.new }
+{
+    mime::write_said(text, out)
+}
+
+/// The length of that MIME type's type and subtype, as `text/html`, which is written to `out`, and 0 if there is none or it
+/// would take more than 4095 bytes.
+#[unsafe(no_mangle)]
+pub extern "C" fn infer_mime_essence(text: &[u8], out: &mut [u8]) -> usize
+    ensures { (said : Option Mime) × (written : List ℕ) × Says text.now said × IsEssenceText (kind_said said) written
+        × (result ≡ length written) × WritesText written out.old out.new }
+{
+    mime::write_essence(text, out)
+}
+
+/// The length of what that MIME type is taken for by someone who supports it or not, which is written to `out`, and 0 if
+/// that is nothing or would take more than 4095 bytes.
+#[unsafe(no_mangle)]
+pub extern "C" fn infer_mime_minimize(text: &[u8], is_supported: bool, out: &mut [u8]) -> usize
+    ensures { (said : Option Mime) × (written : List ℕ) × Says text.now said
+        × IsMinimalText (kind_said said) is_supported written
+        × (result ≡ length written) × WritesText written out.old out.new }
+{
+    mime::write_minimal(text, is_supported, out)
+}
+
+/// The length of the value of that MIME type's parameter with the name, in any ASCII case, which is written to `out`, and
+/// whether there is one. It is 0 if the value would take more than 4095 bytes.
+#[unsafe(no_mangle)]
+pub extern "C" fn infer_mime_parameter(
+    text: &[u8],
+    name: &[u8],
+    has: &mut bool,
+    out: &mut [u8],
+) -> usize
+    ensures { (said : Option Mime) × (written : List ℕ) × Says text.now said
+        × (has.new ≡ is_some (value_said (lower name.now) said))
+        × IsValueText (value_said (lower name.now) said) written
+        × (result ≡ length written) × WritesText written out.old out.new }
+{
+    mime::write_parameter(text, name, has, out)
+}
+
+/// The groups that the MIME type is in, as a sum, and 0 if `text` says none.
+#[unsafe(no_mangle)]
+pub extern "C" fn infer_mime_groups(text: &[u8]) -> u32
+    ensures { (said : Option Mime) × Says text.now said × IsGroupCodeSaid (kind_said said) result }
+{
+    mime::groups(text)
+}
+
+/// Whether the value of `X-Content-Type-Options` forbids to sniff.
+#[unsafe(no_mangle)]
+pub extern "C" fn infer_mime_is_nosniff(value: &[u8]) -> bool
+    ensures { IsTrue result ↔ IsNosniff value.now }
+{
+    mime_types::is_nosniff(value)
+}
+
+/// Whether a response that forbids to sniff is blocked, by the value of `Content-Type` and what it is fetched for: 0 is a
+/// script, 1 a style sheet, and all else something else.
+#[unsafe(no_mangle)]
+pub extern "C" fn infer_mime_is_blocked(value: &[u8], destination: i32) -> bool
+    ensures { (found : Option Extracted) × IsExtracted value.now found
+        × (wanted : Option Destination) × IsDestinationOf destination wanted
+        × (IsTrue result ↔ IsBlocked (mime_extracted found) (unwrap_or wanted Destination.Other)) }
+{
+    mime::is_blocked(value, destination)
+}
+
+/// Whether the value of `Content-Type` is one that old servers send of every file.
+#[unsafe(no_mangle)]
+pub extern "C" fn infer_mime_is_old_server(value: &[u8]) -> bool
+    ensures { IsTrue result ↔ Any (λ bug. value.now ≡ bug) apache_bugs }
+{
+    mime_sniff::is_apache_bug(value)
+}
+
+/// The length of the type that a browser computes, which is written to `out`, and 0 if there is none: by a MIME type, flags,
+/// what it is loaded for, and the first bytes.
+#[unsafe(no_mangle)]
+pub extern "C" fn infer_mime_compute(
+    content_type: &[u8],
+    flags: u32,
+    context: i32,
+    buf: &[u8],
+    out: &mut [u8],
+) -> usize
+    ensures { (said : Option Mime) × (told : Option (List ℕ)) × (written : List ℕ) × Says content_type.now said
+        × (place : Option Context) × IsContextOf context place
+        × IsComputedIn (unwrap_or place Context.Browsing) (supply_told said flags) buf.now told
+        × IsToldText content_type.now said told written
+        × (result ≡ length written) × WritesText written out.old out.new }
+{
+    mime::write_computed(content_type, flags, context, buf, out)
+}
+
+/// Whether no bytes after `buf` change the type that a browser computes of a page: a yes is certain.
+#[unsafe(no_mangle)]
+pub extern "C" fn infer_mime_is_decided(content_type: &[u8], flags: u32, buf: &[u8]) -> bool
+    ensures { (said : Option Mime) × Says content_type.now said
+        × OnTrue result (growth.IsDecided (supply_told said flags) buf.now) }
+{
+    mime::is_decided(content_type, flags, buf)
+}
+
+/// Whether a browser that knows no type may tell one that runs scripts, by these bytes or with more after them: a no is
+/// certain.
+#[unsafe(no_mangle)]
+pub extern "C" fn infer_mime_may_be_scriptable(buf: &[u8]) -> bool
+    ensures { OnFalse result (NeverScripts buf.now) }
+{
+    mime_sniff::may_be_scriptable(buf)
 }
 
 /// The length of the row's sample, which is written to `out` if it fits, and 0 if the row is never the answer or there is

@@ -116,7 +116,7 @@ fn oddity_code(odd: Oddities) -> u32
 }
 
 /// The number if this is so, and else 0.
-fn number_if(is_so: bool, number: u32) -> u32
+pub fn number_if(is_so: bool, number: u32) -> u32
     ensures value { result ≡ number_if is_so number }
     ensures most { result ≤ number }
 {

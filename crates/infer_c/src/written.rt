@@ -7,7 +7,14 @@ pub fn write_text(text: &str, out: &mut [u8]) -> usize
     ensures length { result ≡ length text.now }
     ensures written { WritesText text.now out.old out.new }
 {
-    let bytes = text.as_bytes();
+    write_bytes(text.as_bytes(), out)
+}
+
+/// The same of bytes.
+pub fn write_bytes(bytes: &[u8], out: &mut [u8]) -> usize
+    ensures length { result ≡ length bytes.now }
+    ensures written { WritesText bytes.now out.old out.new }
+{
     if !out.is_empty() {
         let count = bytes.len().min(out.len() - 1);
         out[..count].copy_from_slice(&bytes[..count]);

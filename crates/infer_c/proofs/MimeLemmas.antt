@@ -1,0 +1,72 @@
+-- Texts of MIME types, and the room for them.
+use Rattle.std.proofs.Common.{◌≡◌, ◌∙◌, ◌≤◌, ◌↔◌, ℕ, Bool, List, [], Option, None, Some, Ok, Err, IfSome, ap, arith, inl, inr, length, min, option_map, refl, subst, sym, take}
+use Rattle.std.proofs.lemmas.List.{length-take, take_min}
+use Rattle.mime_types.specs.Mime.{Kind, Mime}
+use Rattle.mime_types.specs.Parse.{Parsed, tail_text}
+use Rattle.mime_types.specs.Seen.{kind_of, mime_of}
+use Rattle.mime_types.specs.Serialize.{serialize}
+use Rattle.mime_types.specs.Wrote.{IsWritten, Wrote}
+use Rattle.mime_types.specs.declared.mime_type.MimeType.{MimeType}
+use Rattle.mime_types.specs.declared.write.TheConstants.{MOST_SEGMENTS}
+use Rattle.mime_types.specs.declared.write.WriteError.{WriteError}
+use Rattle.mime_types.specs.declared.write.WriteError.TheVariants.{NoRoom, TooManyParameters}
+use Rattle.mime_sniff.specs.Computed.{IsComputedIn, Supply, supply_of}
+use Rattle.mime_sniff.specs.declared.context.Context.{Context}
+use Rattle.mime_sniff.specs.declared.supplied.Supplied.{Supplied}
+use Rattle.infer_c.specs.Mime.{IsFoundText, IsMimeText, IsTextOf, IsWithRoom, Says, has_bit, kind_said, supply_told}
+use Rattle.infer_c.specs.declared.mime.TheConstants.{MOST}
+
+-- what the code's view shows is what the text says
+pub says_of : (t : List ℕ) (o : Option Mime) → ((m : Mime) → (o ≡ Some m) ↔ Parsed t m) → Says t o
+says_of t None c = λ m p. let e = (c m).1 p in absurd (cc)
+says_of t (Some m) c = (c m).0 refl
+
+pub text_of_found : (t : List ℕ) (o : Option MimeType) (written : List ℕ) → IfSome o (λ v. v.tail.now ≡ tail_text t) → IsFoundText o written → IsMimeText t (option_map mime_of o) written
+text_of_found t None written tail is = is
+text_of_found t (Some v) written tail is = subst (λ tl. IsTextOf tl (mime_of v) written) tail is
+
+-- a text stands in the room from its start on, and is as long as was told
+taken : (n : ℕ) (room text : List ℕ) → n ≡ length text → take n room ≡ text → (n ≤ length room) × (take (min n (length room)) room ≡ text)
+taken n room text long is =
+    let l : min n (length room) ≡ length text = sym (length-take n room) ∙ ap length is in
+    (omega (arith, l, long), take_min n room ∙ is)
+
+pub written_whole : (v : MimeType) (old new : List ℕ) (n : ℕ) → length new ≡ MOST → IsWritten MOST_SEGMENTS v old new (Ok n)
+    → IsTextOf v.tail.now (mime_of v) (take (min n MOST) new)
+written_whole v old new n size (few, long, is) =
+    let t = taken n new (serialize (mime_of v)) long is in
+    inl ((few, omega (arith, long, size, t.0)), subst (λ k. take (min n k) new ≡ serialize (mime_of v)) size t.1)
+
+pub written_none : (v : MimeType) (old new : List ℕ) (e : WriteError) → length old ≡ MOST → IsWritten MOST_SEGMENTS v old new (Err e)
+    → IsTextOf v.tail.now (mime_of v) []
+written_none v old new NoRoom size (few, short) = inr ((λ is. absurd (omega (arith, is.1, size, short))), refl)
+written_none v old new TooManyParameters size many = inr ((λ is. many is.0), refl)
+
+-- the same of a text that is written from the start on
+pub wrote_whole : (old new text : List ℕ) (n : ℕ) → length new ≡ MOST → Wrote old new 0 text (Some n) → IsWithRoom text (take (min n MOST) new)
+wrote_whole old new text n size (long, fits, is) =
+    let same : n ≡ length text = omega (arith, long) in
+    let t = taken n new text same is in
+    inl (omega (arith, same, size, t.0), subst (λ k. take (min n k) new ≡ text) size t.1)
+
+pub wrote_none : (old new text : List ℕ) → length old ≡ MOST → Wrote old new 0 text None → IsWithRoom text []
+wrote_none old new text size short = inr ((λ is. absurd (omega (arith, is, size, short))), refl)
+
+kinds : (o : Option MimeType) → option_map kind_of o ≡ kind_said (option_map mime_of o)
+kinds None = refl
+kinds (Some v) = refl
+
+supply : Option Kind → Bool → Bool → Supply
+supply k no_sniff bug = record { kind = k; no_sniff = no_sniff; apache_bug = bug }
+
+-- what is supplied is what was told
+pub supply_is : (s : Supplied) (flags : ℕ) → s.no_sniff ≡ has_bit flags 1 → s.check_for_apache_bug ≡ has_bit flags 2
+    → supply_of s ≡ supply_told (option_map mime_of s.mime_type) flags
+unfolding supply
+supply_is s flags forbids old =
+    ap (λ k. supply k s.no_sniff s.check_for_apache_bug) (kinds s.mime_type)
+    ∙ (ap (λ n. supply (kind_said (option_map mime_of s.mime_type)) n s.check_for_apache_bug) forbids
+    ∙ ap (λ b. supply (kind_said (option_map mime_of s.mime_type)) (has_bit flags 1) b) old)
+
+pub computed_by : (p q : Context) (s t : Supply) (b : List ℕ) (told : Option (List ℕ)) → p ≡ q → s ≡ t → IsComputedIn p s b told → IsComputedIn q t b told
+computed_by p q s t b told places supplies is = subst (λ x. IsComputedIn x t b told) places (subst (λ y. IsComputedIn p y b told) supplies is)
