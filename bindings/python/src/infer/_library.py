@@ -138,6 +138,41 @@ def named(name: bytes, front: Sized) -> tuple[int, int, NamedTexts | None, Named
 oddities: Callable[[bytes, int], int] = _declare("infer_oddities", ctypes.c_uint32, _BUFFER, _SIZE)
 
 
+_MIME_SIZE = 4096
+_mime_parse: Callable[..., int] = _declare("infer_mime_parse", _SIZE, _BUFFER, _SIZE, ctypes.c_char_p, _SIZE)
+_mime_minimize: Callable[..., int] = _declare("infer_mime_minimize", _SIZE, _BUFFER, _SIZE, ctypes.c_bool, ctypes.c_char_p, _SIZE)
+_mime_compute: Callable[..., int] = _declare(
+    "infer_mime_compute", _SIZE, _BUFFER, _SIZE, ctypes.c_uint32, ctypes.c_int32, _BUFFER, _SIZE, ctypes.c_char_p, _SIZE
+)
+mime_groups: Callable[[bytes, int], int] = _declare("infer_mime_groups", ctypes.c_uint32, _BUFFER, _SIZE)
+mime_is_nosniff: _Ask = _declare("infer_mime_is_nosniff", ctypes.c_bool, _BUFFER, _SIZE)
+mime_is_old_server: _Ask = _declare("infer_mime_is_old_server", ctypes.c_bool, _BUFFER, _SIZE)
+mime_is_blocked: Callable[[bytes, int, int], bool] = _declare("infer_mime_is_blocked", ctypes.c_bool, _BUFFER, _SIZE, ctypes.c_int32)
+mime_is_decided: Callable[..., bool] = _declare("infer_mime_is_decided", ctypes.c_bool, _BUFFER, _SIZE, ctypes.c_uint32, _BUFFER, _SIZE)
+mime_may_be_scriptable: _Ask = _declare("infer_mime_may_be_scriptable", ctypes.c_bool, _BUFFER, _SIZE)
+
+
+def _mime_text(ask: Callable[..., int], *words: object) -> bytes:
+    out = ctypes.create_string_buffer(_MIME_SIZE)
+    size = ask(*words, out, len(out))
+    return out.raw[:size]
+
+
+def mime_parse(text: bytes) -> bytes:
+    """The text of the MIME type that a text says, or nothing."""
+    return _mime_text(_mime_parse, text, len(text))
+
+
+def mime_minimize(text: bytes, is_supported: bool) -> bytes:
+    """What it is taken for, or nothing."""
+    return _mime_text(_mime_minimize, text, len(text), is_supported)
+
+
+def mime_compute(content_type: bytes, flags: int, context: int, front: Sized) -> bytes:
+    """What a browser computes, or nothing."""
+    return _mime_text(_mime_compute, content_type, len(content_type), flags, context, front, len(front))
+
+
 def texts() -> tuple[list[tuple[str, str, str]], int, str]:
     """The MIME type, the extension and the class of each row, how many of the rows are built-in, and the version."""
     out = ctypes.create_string_buffer(256)
