@@ -29,6 +29,39 @@ mod c {
         pub fn infer_sample(row: i32, out: *mut c_void, size: usize) -> usize;
         pub fn infer_version(out: *mut c_char, size: usize) -> usize;
         pub fn infer_encoding(buf: *const c_void, len: usize, out: *mut c_char, size: usize) -> usize;
+        pub fn infer_mime_parse(text: *const c_char, text_len: usize, out: *mut c_char, size: usize) -> usize;
+        pub fn infer_mime_parameter(
+            text: *const c_char,
+            text_len: usize,
+            name: *const c_char,
+            name_len: usize,
+            has: *mut bool,
+            out: *mut c_char,
+            size: usize,
+        ) -> usize;
+        pub fn infer_mime_minimize(text: *const c_char, text_len: usize, is_supported: bool, out: *mut c_char, size: usize) -> usize;
+        pub fn infer_mime_groups(text: *const c_char, text_len: usize) -> u32;
+        pub fn infer_mime_is_nosniff(value: *const c_char, value_len: usize) -> bool;
+        pub fn infer_mime_is_blocked(value: *const c_char, value_len: usize, destination: i32) -> bool;
+        pub fn infer_mime_is_old_server(value: *const c_char, value_len: usize) -> bool;
+        pub fn infer_mime_compute(
+            content_type: *const c_char,
+            content_type_len: usize,
+            flags: u32,
+            context: i32,
+            buf: *const c_void,
+            len: usize,
+            out: *mut c_char,
+            size: usize,
+        ) -> usize;
+        pub fn infer_mime_is_decided(
+            content_type: *const c_char,
+            content_type_len: usize,
+            flags: u32,
+            buf: *const c_void,
+            len: usize,
+        ) -> bool;
+        pub fn infer_mime_may_be_scriptable(buf: *const c_void, len: usize) -> bool;
         pub fn infer_types_check(
             text: *const c_void,
             text_len: usize,
@@ -88,7 +121,7 @@ of_buffers! {
     is_coff_x64 = infer_is_coff_x64,
     /// Whether the buffer begins as a COFF object for the processor ia64.
     is_coff_ia64 = infer_is_coff_ia64,
-    is_decided = infer_is_decided, more_is_decided = infer_more_is_decided
+    is_decided = infer_is_decided, more_is_decided = infer_more_is_decided, mime_may_be_scriptable = infer_mime_may_be_scriptable
 }
 
 /// The number of the first built-in row that accepts the buffer. It is an index into [`all_rows`], as the one below.
@@ -148,6 +181,67 @@ pub fn encoding<'out>(buf: &[u8], out: &'out mut [u8; TEXT_SIZE]) -> &'out [u8] 
     // SAFETY: as above, and `out` has room for as many bytes as it says.
     let size = unsafe { c::infer_encoding(buf.as_ptr().cast(), buf.len(), out.as_mut_ptr().cast(), out.len()) };
     &out[..size]
+}
+
+/// A text of a MIME type, for which `INFER_MIME_SIZE` bytes of `infer.h` are room, that a call writes.
+fn mime_text(write: impl FnOnce(*mut c_char, usize) -> usize) -> Vec<u8> {
+    let mut out = vec![0_u8; 4096];
+    let size = write(out.as_mut_ptr().cast(), out.len());
+    out.truncate(size);
+    out
+}
+
+/// The text of the MIME type that a text says, or nothing.
+pub fn mime_parse(text: &[u8]) -> Vec<u8> {
+    // SAFETY: as above, also of those below.
+    mime_text(|out, size| unsafe { c::infer_mime_parse(text.as_ptr().cast(), text.len(), out, size) })
+}
+
+/// The value of its parameter with that name.
+pub fn mime_parameter(text: &[u8], name: &[u8]) -> Option<Vec<u8>> {
+    let mut has = false;
+    let value = mime_text(|out, size| unsafe {
+        c::infer_mime_parameter(text.as_ptr().cast(), text.len(), name.as_ptr().cast(), name.len(), &mut has, out, size)
+    });
+    has.then_some(value)
+}
+
+/// What it is taken for, or nothing.
+pub fn mime_minimize(text: &[u8], is_supported: bool) -> Vec<u8> {
+    mime_text(|out, size| unsafe { c::infer_mime_minimize(text.as_ptr().cast(), text.len(), is_supported, out, size) })
+}
+
+/// The sum of its groups.
+pub fn mime_groups(text: &[u8]) -> u32 {
+    // SAFETY: as above.
+    unsafe { c::infer_mime_groups(text.as_ptr().cast(), text.len()) }
+}
+
+pub fn mime_is_nosniff(value: &[u8]) -> bool {
+    // SAFETY: as above.
+    unsafe { c::infer_mime_is_nosniff(value.as_ptr().cast(), value.len()) }
+}
+
+pub fn mime_is_blocked(value: &[u8], destination: i32) -> bool {
+    // SAFETY: as above; any number may be handed over.
+    unsafe { c::infer_mime_is_blocked(value.as_ptr().cast(), value.len(), destination) }
+}
+
+pub fn mime_is_old_server(value: &[u8]) -> bool {
+    // SAFETY: as above.
+    unsafe { c::infer_mime_is_old_server(value.as_ptr().cast(), value.len()) }
+}
+
+/// What a browser computes, or nothing.
+pub fn mime_compute(content_type: &[u8], flags: u32, context: i32, buf: &[u8]) -> Vec<u8> {
+    mime_text(|out, size| unsafe {
+        c::infer_mime_compute(content_type.as_ptr().cast(), content_type.len(), flags, context, buf.as_ptr().cast(), buf.len(), out, size)
+    })
+}
+
+pub fn mime_is_decided(content_type: &[u8], flags: u32, buf: &[u8]) -> bool {
+    // SAFETY: as above.
+    unsafe { c::infer_mime_is_decided(content_type.as_ptr().cast(), content_type.len(), flags, buf.as_ptr().cast(), buf.len()) }
 }
 
 /// Room for each text of a type that a text describes, `INFER_TYPES_TEXT_SIZE` of `infer.h`.

@@ -13,6 +13,7 @@ mod encoding;
 mod ffi;
 mod file_type;
 mod matchers;
+pub mod mimesniff;
 pub mod more;
 mod named;
 #[cfg(feature = "std")]

@@ -309,3 +309,106 @@ fn names_and_bytes_are_those_of_the_data() {
     }
     assert!(all.len() > 900);
 }
+
+/// The values of a list of JSON, texts and words. Each code point of a text is a byte, and nothing stands for null.
+fn values(list: &str) -> Vec<Vec<u8>> {
+    let (mut found, mut left) = (Vec::new(), list.trim_start_matches('['));
+    while !left.is_empty() && !left.starts_with(']') {
+        let text = left.strip_prefix('"');
+        let end = if text.is_some() { closing(left) } else { left.find([',', ']']).unwrap_or(left.len()) };
+        found.push(text.map_or_else(|| left[..end].replace("null", "").into_bytes(), |_| unescaped(&left[1..end - 1])));
+        left = left[end..].trim_start_matches([',', ' ']);
+    }
+    found
+}
+
+/// Behind the quote that ends the text.
+fn closing(text: &str) -> usize {
+    let mut at = 1;
+    while text.as_bytes()[at] != b'"' {
+        at += if text.as_bytes()[at] == b'\\' { 2 } else { 1 };
+    }
+    at + 1
+}
+
+fn unescaped(text: &str) -> Vec<u8> {
+    let (mut bytes, mut chars) = (Vec::new(), text.chars());
+    while let Some(it) = chars.next() {
+        let code = match (it, it == '\\') {
+            (_, false) => u32::from(it),
+            _ => match chars.next().unwrap() {
+                'b' => 8,
+                'f' => 12,
+                'n' => 10,
+                'r' => 13,
+                't' => 9,
+                'u' => u32::from_str_radix(&(0..4).map(|_| chars.next().unwrap()).collect::<String>(), 16).unwrap(),
+                other => u32::from(other),
+            },
+        };
+        bytes.push(u8::try_from(code).unwrap());
+    }
+    bytes
+}
+
+/// An answer of JSON, of which a dash says that no rule tells one.
+fn answer(text: &str) -> Option<Vec<u8>> {
+    values(text).pop().filter(|it| !it.is_empty() && it != b"-")
+}
+
+#[test]
+fn mime_types_are_those_of_browsers_tests() {
+    use infer::mimesniff::MimeType;
+    for line in lines("mime_types.tsv").iter().filter(|line| line[0] == "parse") {
+        let text = values(&line[1]).remove(0);
+        let found = MimeType::parse(&text);
+        assert_eq!(found.as_ref().map(|it| it.as_bytes().to_vec()), answer(&line[2]), "{}", line[1]);
+    }
+    for line in lines("mime_types.tsv").iter().filter(|line| line[0] == "groups") {
+        use infer::mimesniff::Group::*;
+        let found = MimeType::parse(&values(&line[1])[0]).unwrap();
+        let groups = [Image, AudioOrVideo, Font, ZipBased, Archive, Xml, Html, Scriptable, JavaScript, Json];
+        let names = ["image", "audio or video", "font", "ZIP-based", "archive", "XML", "HTML", "scriptable", "JavaScript", "JSON"];
+        let told: Vec<_> =
+            groups.iter().zip(names).filter(|(group, _)| found.is_in(**group)).map(|(_, name)| name.as_bytes().to_vec()).collect();
+        assert_eq!(told, values(&line[2]), "{}", line[1]);
+    }
+    let found = MimeType::parse(b"Text/JSON; Charset=\"UTF\\-8\"; b=\xE9").unwrap();
+    assert_eq!((found.essence(), found.to_string()), (b"text/json".as_slice(), "text/json;charset=UTF-8;b=\"\u{e9}\"".to_string()));
+    assert_eq!((found.parameter(b"CHARSET"), found.parameter(b"c")), (Some(b"UTF-8".to_vec()), None));
+    assert_eq!(found.minimize(false), Some(b"application/json".to_vec()));
+}
+
+#[test]
+fn computed_types_are_those_of_other_programs() {
+    use infer::mimesniff::{compute, is_decided, is_old_server, may_be_scriptable, Context, Supplied};
+    let mut asked = 0;
+    for line in lines("sniffed.tsv") {
+        let (given, data) = (values(&line[1]), decode(&line[2]));
+        let is = |at: usize| given[at] == b"true";
+        let in_context = |context| Supplied { context, ..Supplied::default() };
+        let supplied = match line[0].as_str() {
+            "compute" | "decided" => Supplied { content_type: &given[0], no_sniff: is(1), old_server: is(2), ..Supplied::default() },
+            "unknown" => Supplied { no_sniff: !is(0), ..Supplied::default() },
+            "text_or_binary" => Supplied { content_type: b"text/plain", old_server: true, ..Supplied::default() },
+            "image" => in_context(Context::Image),
+            "audio_video" => in_context(Context::AudioOrVideo),
+            "font" => in_context(Context::Font),
+            "may_be_scriptable" => {
+                assert!(may_be_scriptable(&data) || line[3] == "false", "{line:?}");
+                continue;
+            }
+            "apache_bug" => {
+                assert_eq!(is_old_server(&given[0]), line[3] == "true", "{line:?}");
+                continue;
+            }
+            _ => continue,
+        };
+        asked += 1;
+        match line[0].as_str() {
+            "decided" => assert!(line[3] == "true" || !is_decided(&supplied, &data), "{line:?}"),
+            _ => assert_eq!(compute(&supplied, &data), answer(&line[3]), "{line:?}"),
+        }
+    }
+    assert!(asked > 1000);
+}
