@@ -113,6 +113,83 @@ export interface Named {
  */
 export function named(name: string | Bytes, bytes: Bytes): Named;
 
+/**
+ * A MIME type, by the MIME Sniffing Standard. A code point of a text is one of the standard's, and each of bytes counts as the
+ * code point with its number.
+ */
+export class MIMEType {
+    /** Throws a SyntaxError if the text says none, has more than 256 parameters, or would take more than 4095 bytes. */
+    constructor(text: string | Bytes);
+    /** The MIME type that the text says, or null. */
+    static parse(text: string | Bytes): MIMEType | null;
+    /** The type and the subtype, as "text/html". */
+    readonly essence: string;
+    readonly type: string;
+    readonly subtype: string;
+    /** A copy of the parameters, in their order. Names are in lower case. */
+    readonly parameters: Map<string, string>;
+    /** The text, as the standard writes it. */
+    toString(): string;
+    isImage(): boolean;
+    isAudioOrVideo(): boolean;
+    isFont(): boolean;
+    isZipBased(): boolean;
+    isArchive(): boolean;
+    isXML(): boolean;
+    isHTML(): boolean;
+    /** Whether a document of it may run scripts: XML, HTML and PDF. */
+    isScriptable(): boolean;
+    isJavaScript(options?: { readonly prohibitParameters?: boolean }): boolean;
+    isJSON(): boolean;
+    /** What a browser takes it for that supports it or not, as "application/json" of "text/json", or undefined. */
+    minimize(isSupported?: boolean): string | undefined;
+}
+
+/** What bytes are loaded for. */
+export const Context: {
+    readonly PAGE: "page";
+    readonly IMAGE: "image";
+    readonly AUDIO_OR_VIDEO: "audio or video";
+    readonly FONT: "font";
+    readonly PLUGIN: "plugin";
+    readonly STYLE: "style";
+    readonly SCRIPT: "script";
+    readonly TEXT_TRACK: "text track";
+    readonly CACHE_MANIFEST: "cache manifest";
+};
+export type Context = (typeof Context)[keyof typeof Context];
+
+/** What is known of a resource before its bytes are looked at. */
+export interface Supplied {
+    /** The MIME type that was told. */
+    readonly contentType?: string | Bytes;
+    /** Whether sniffing is forbidden, as isNosniff tells. */
+    readonly nosniff?: boolean;
+    /** Whether the header is one that old servers sent of every file, as isOldServer tells. */
+    readonly oldServer?: boolean;
+}
+
+/**
+ * The type that a browser computes of what is known and of the first 1445 bytes. It is undefined if nothing is told and
+ * nothing is found, which is never so of a page.
+ */
+export function compute(bytes: Bytes, options?: Supplied & { readonly context?: Context }): string | undefined;
+
+/** Whether no bytes that may follow change what compute says of a page. True is certain. */
+export function isComputeDecided(bytes: Bytes, options?: Supplied): boolean;
+
+/** Whether some bytes that may follow make a browser that was told no type run scripts. False is certain. */
+export function mayBeScriptable(bytes: Bytes): boolean;
+
+/** Whether the value of X-Content-Type-Options forbids to sniff. Several values are given as one, with ", " between them. */
+export function isNosniff(value: string | Bytes): boolean;
+
+/** Whether a response that forbids to sniff is blocked, by the value of Content-Type and what it is fetched for. */
+export function isBlocked(value: string | Bytes, destination: "script" | "style" | "other"): boolean;
+
+/** Whether the value of the last Content-Type is one that old servers sent of every file. */
+export function isOldServer(value: string | Bytes): boolean;
+
 /** The extensions that fileTypeFromBuffer knows. */
 export const supportedExtensions: ReadonlySet<string>;
 

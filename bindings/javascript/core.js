@@ -229,6 +229,151 @@ export class Types {
     }
 }
 
+/** Room for each text of a MIME type. */
+const MIME = 4096;
+
+/** The bytes of a text. Each code point is one, but DEL stands for those beyond: no MIME type has either. */
+const bytesOfText = (text) =>
+    typeof text === "string" ? Uint8Array.from(text, (it) => (it.codePointAt(0) > 0xff ? 0x7f : it.codePointAt(0))) : frontOf(text, Infinity).slice();
+
+/** A text that the module writes of bytes of a text, behind these. */
+const mimeText = (write, bytes, ...asked) => {
+    const given = hold(bytes);
+    const distance = TYPES + bytes.length;
+    makeRoom(distance + MIME);
+    const size = Number(write(...given, ...asked, at(distance), BigInt(MIME)));
+    return String.fromCharCode(...room.subarray(distance, distance + size));
+};
+
+const Groups = { IMAGE: 1, AUDIO_OR_VIDEO: 2, FONT: 4, ZIP_BASED: 8, ARCHIVE: 16, XML: 32, HTML: 64, SCRIPTABLE: 128, JAVASCRIPT: 256, JSON: 512 };
+
+export class MIMEType {
+    #text;
+    #parameters;
+
+    constructor(text) {
+        this.#text = mimeText(infer.infer_mime_parse, bytesOfText(text));
+        if (this.#text === "") throw new SyntaxError(`no MIME type: ${text}`);
+        const found = this.#text.slice(this.essence.length).matchAll(/;([^=]*)=(?:"((?:[^"\\]|\\.)*)"|([^;]*))/gs);
+        this.#parameters = new Map(Array.from(found, ([, name, quoted, bare]) => [name, quoted === undefined ? bare : quoted.replace(/\\(.)/gs, "$1")]));
+    }
+
+    static parse(text) {
+        try {
+            return new MIMEType(text);
+        } catch (fault) {
+            if (fault instanceof SyntaxError) return null;
+            throw fault;
+        }
+    }
+
+    get essence() {
+        return this.#text.split(";", 1)[0];
+    }
+
+    get type() {
+        return this.essence.split("/")[0];
+    }
+
+    get subtype() {
+        return this.essence.split("/")[1];
+    }
+
+    get parameters() {
+        return new Map(this.#parameters);
+    }
+
+    toString() {
+        return this.#text;
+    }
+
+    #isIn(group) {
+        return (infer.infer_mime_groups(...hold(bytesOfText(this.#text))) & group) !== 0;
+    }
+
+    isImage() {
+        return this.#isIn(Groups.IMAGE);
+    }
+
+    isAudioOrVideo() {
+        return this.#isIn(Groups.AUDIO_OR_VIDEO);
+    }
+
+    isFont() {
+        return this.#isIn(Groups.FONT);
+    }
+
+    isZipBased() {
+        return this.#isIn(Groups.ZIP_BASED);
+    }
+
+    isArchive() {
+        return this.#isIn(Groups.ARCHIVE);
+    }
+
+    isXML() {
+        return this.#isIn(Groups.XML);
+    }
+
+    isHTML() {
+        return this.#isIn(Groups.HTML);
+    }
+
+    isScriptable() {
+        return this.#isIn(Groups.SCRIPTABLE);
+    }
+
+    isJavaScript({ prohibitParameters = false } = {}) {
+        return this.#isIn(Groups.JAVASCRIPT) && !(prohibitParameters && this.#parameters.size > 0);
+    }
+
+    isJSON() {
+        return this.#isIn(Groups.JSON);
+    }
+
+    minimize(isSupported = false) {
+        return mimeText(infer.infer_mime_minimize, bytesOfText(this.#text), Number(Boolean(isSupported))) || undefined;
+    }
+}
+
+export const Context = Object.freeze({
+    PAGE: "page",
+    IMAGE: "image",
+    AUDIO_OR_VIDEO: "audio or video",
+    FONT: "font",
+    PLUGIN: "plugin",
+    STYLE: "style",
+    SCRIPT: "script",
+    TEXT_TRACK: "text track",
+    CACHE_MANIFEST: "cache manifest",
+});
+/** In the order of their numbers, as what a response is fetched for. */
+const contexts = Object.values(Context);
+const destinations = ["script", "style", "other"];
+
+const numberIn = (names, name) => {
+    const number = names.indexOf(name);
+    if (number < 0) throw new RangeError(`hand over one of ${names.join(", ")}`);
+    return number;
+};
+
+const flagsOf = ({ nosniff = false, oldServer = false }) => Number(Boolean(nosniff)) + 2 * Number(Boolean(oldServer));
+
+export const compute = (input, options = {}) => {
+    const { contentType = "", context = Context.PAGE } = options;
+    const size = hand(input);
+    return mimeText(infer.infer_mime_compute, bytesOfText(contentType), flagsOf(options), numberIn(contexts, context), place, size) || undefined;
+};
+
+export const isComputeDecided = (input, options = {}) => {
+    const size = hand(input);
+    return infer.infer_mime_is_decided(...hold(bytesOfText(options.contentType ?? "")), flagsOf(options), place, size) !== 0;
+};
+export const mayBeScriptable = (input) => ask(infer.infer_mime_may_be_scriptable, input) !== 0;
+export const isNosniff = (value) => infer.infer_mime_is_nosniff(...hold(bytesOfText(value))) !== 0;
+export const isBlocked = (value, destination) => infer.infer_mime_is_blocked(...hold(bytesOfText(value)), numberIn(destinations, destination)) !== 0;
+export const isOldServer = (value) => infer.infer_mime_is_old_server(...hold(bytesOfText(value))) !== 0;
+
 export const fileTypeFromBlob = async (blob, options) => {
     if (typeof blob?.slice !== "function" || typeof blob.arrayBuffer !== "function") throw new TypeError("hand over a Blob or a File");
     const first = frontOf(await blob.slice(0, FIRST).arrayBuffer(), FRONT);

@@ -10,15 +10,23 @@ const FRONT = 8192;
 core.connectAtOnce(() => readFileSync(new URL("infer.wasm", import.meta.url)));
 
 export {
+    Context,
+    MIMEType,
     Standing,
     Types,
     TypesError,
+    compute,
     encoding,
     fileTypeFromBlob,
     fileTypeFromBuffer,
+    isBlocked,
+    isComputeDecided,
     isDecided,
+    isNosniff,
+    isOldServer,
     isWiderDecided,
     knownTypes,
+    mayBeScriptable,
     mayBecome,
     mayBecomeWider,
     named,

@@ -3,7 +3,7 @@ import assert from "node:assert/strict";
 import { test } from "node:test";
 import * as infer from "hoarvelt-infer";
 import * as aliases from "hoarvelt-infer/aliases";
-import { furtherRows, furtherVectors, generator, namedVectors, rows, samples, vectors } from "./support.mjs";
+import { furtherRows, furtherVectors, generator, mimeTypes, namedVectors, rows, samples, sniffed, vectors } from "./support.mjs";
 
 const { fileTypeFromBuffer, isDecided, isWiderDecided, wider } = infer;
 const JPEG = { ext: "jpg", mime: "image/jpeg" };
@@ -310,4 +310,76 @@ test("the aliases lead to extensions that are known", () => {
     assert.equal(aliases.mimeTypes.get("image/jpg"), "jpg");
     const maps = [aliases.extensions, aliases.mimeTypes, aliases.browserTypes, aliases.builtOn];
     for (const target of maps.flatMap((map) => [...map.values()])) assert.ok(infer.supportedExtensions.has(target), target);
+});
+
+const joined = (values) => values.map((value) => value.replace(/^[\t\n\r ]+|[\t\n\r ]+$/g, "")).join(", ");
+const groupsOf = (found) =>
+    Object.entries({
+        image: found.isImage(),
+        "audio or video": found.isAudioOrVideo(),
+        font: found.isFont(),
+        "ZIP-based": found.isZipBased(),
+        archive: found.isArchive(),
+        XML: found.isXML(),
+        HTML: found.isHTML(),
+        scriptable: found.isScriptable(),
+        JavaScript: found.isJavaScript(),
+        JSON: found.isJSON(),
+    }).flatMap(([name, isIn]) => (isIn ? [name] : []));
+
+test("MIME types are those of browsers' tests", () => {
+    const { MIMEType } = infer;
+    const scripts = ["audioworklet", "paintworklet", "script", "serviceworker", "sharedworker", "worker"];
+    const asked = {
+        parse([text], wanted) {
+            const found = MIMEType.parse(text);
+            assert.equal(found && String(found), wanted, text);
+            assert.equal(String(MIMEType.parse(Uint8Array.from(text, (it) => it.charCodeAt(0)))), String(found));
+            if (!found) return assert.throws(() => new MIMEType(text), SyntaxError);
+            const again = [...found.parameters].map(([name, value]) => `;${name}="${value.replace(/["\\]/g, "\\$&")}"`).join("");
+            return assert.equal(String(new MIMEType(`${found.type}/${found.subtype}${again}`)), wanted);
+        },
+        groups: ([text], wanted) => assert.deepEqual(groupsOf(new MIMEType(text)), wanted, text),
+        minimize: ([text, supported], wanted) => {
+            const found = new MIMEType(text);
+            assert.equal(found.minimize(supported.includes(found.essence)) ?? "", wanted, text);
+        },
+        nosniff: (values, wanted) => assert.equal(infer.isNosniff(joined(values)), wanted, values),
+        blocked([options, types, name], wanted) {
+            const destination = scripts.includes(name) ? "script" : name === "style" ? "style" : "other";
+            assert.equal(infer.isNosniff(joined(options)) && infer.isBlocked(joined(types), destination), wanted, name);
+        },
+    };
+    for (const { question, given, wanted } of mimeTypes) asked[question]?.(given, wanted);
+    assert.equal(String(new MIMEType("a/b;c=\u20ac;c=d")), "a/b;c=d");
+    assert.ok(new MIMEType("text/javascript;a=b").isJavaScript() && !new MIMEType("text/javascript;a=b").isJavaScript({ prohibitParameters: true }));
+    assert.throws(() => new MIMEType(1), TypeError);
+    assert.equal(MIMEType.parse(`a/${"b".repeat(4094)}`), null);
+});
+
+test("computed types are those of other programs", () => {
+    const { Context, compute } = infer;
+    let [due, told] = [0, 0];
+    const asked = {
+        unknown: ([isScriptable], data) => compute(data, { nosniff: !isScriptable }),
+        text_or_binary: (_, data) => compute(data, { contentType: "text/plain", oldServer: true }),
+        image: (_, data) => compute(data, { context: Context.IMAGE }),
+        audio_video: (_, data) => compute(data, { context: Context.AUDIO_OR_VIDEO }),
+        font: (_, data) => compute(data, { context: Context.FONT }),
+        compute: ([contentType, nosniff, oldServer], data) => compute(data, { contentType: contentType ?? "", nosniff, oldServer }),
+        context: ([name, contentType], data) => compute(data, { contentType: contentType ?? "", context: name === "browsing" ? Context.PAGE : name }),
+        apache_bug: ([value]) => infer.isOldServer(value),
+    };
+    for (const { question, given, data, wanted } of sniffed) {
+        if (question in asked) assert.equal(asked[question](given, data) ?? null, wanted === "-" ? null : wanted, `${question} ${given}`);
+        if (question === "may_be_scriptable") assert.ok(infer.mayBeScriptable(data) || !wanted);
+        if (question !== "decided") continue;
+        const [contentType, nosniff, oldServer] = given;
+        const isDecided = infer.isComputeDecided(data, { contentType: contentType ?? "", nosniff, oldServer });
+        assert.ok(wanted || !isDecided);
+        [due, told] = [due + Number(wanted), told + Number(isDecided)];
+    }
+    assert.ok(told >= due - due / 4);
+    assert.throws(() => compute(new Uint8Array(), { context: "window" }), RangeError);
+    assert.throws(() => compute("text"), TypeError);
 });

@@ -44,3 +44,7 @@ export const generator = (seed) => {
         return ((mixed ^ (mixed >>> 14)) >>> 0) % limit;
     };
 };
+
+/** What browsers' tests and other programs say of MIME types, and of first bytes. */
+export const mimeTypes = linesOf("mime_types.tsv").map(([question, given, wanted]) => ({ question, given: JSON.parse(given), wanted: JSON.parse(wanted) }));
+export const sniffed = linesOf("sniffed.tsv").map(([question, given, data, wanted]) => ({ question, given: JSON.parse(given), data: decode(data), wanted: JSON.parse(wanted) }));
