@@ -1,5 +1,6 @@
 """What bindings/README.md shows of the calls of infer.h and infer_file.h in each language, by bindings/calls.tsv. There a
 cell has names, with what is asked of them in parentheses, or "-" and why there is none."""
+import os
 import re
 import sys
 
@@ -11,7 +12,7 @@ LANGUAGES = ["C", "Python", "Rust", "Go", "JavaScript", "Java"]
 PYTHON, RUST, GO, JAVASCRIPT = "bindings/python/src/infer", "bindings/rust/infer/src", "bindings/go", "bindings/javascript"
 JAVA = "bindings/java/src/dev/hoarvelt/infer"
 # Where the names of a module of the binding for Rust stand.
-RUST_FILES = {"": ["lib", "read", "encoding", "file_type", "named"], "more": ["more"], "Types": ["types"], "app": ["matchers"], "image": ["matchers"]}
+RUST_FILES = {"": ["lib", "read", "encoding", "file_type", "named"], "more": ["more"], "mimesniff": ["mimesniff"], "Types": ["types"], "app": ["matchers"], "image": ["matchers"]}
 
 
 def declared():
@@ -21,6 +22,9 @@ def declared():
 
 def is_in_python(name):
     of, _, method = name.rpartition(".")
+    # A name of a module of its own, or of the package.
+    if os.path.isfile(f"{PYTHON}/{of}.py"):
+        return f'"{method}"' in text_of(f"{PYTHON}/{of}.py").partition("__all__ = ")[2].partition("]")[0]
     module = text_of(f"{PYTHON}/__init__.py")
     body = re.search(rf"^class {of}\b.*?(?=^\S)", module + "\nend", re.M | re.S) if of else None
     return f"def {method}(" in body[0] if body else f'"{method}"' in module.partition("__all__ = ")[2].partition("]")[0]
