@@ -1,5 +1,6 @@
 //! What is asked of the bytes of a resource, and what they answer.
 ghost use Rattle.std.specs.Prelude.{◌≡◌, ◌↔◌, IsTrue, MatchOption, Some};
+ghost use Rattle.mime_types.specs.Groups.{IsImage};
 ghost use Rattle.mime_types.specs.Seen.{kind_of};
 ghost use Rattle.mime_sniff.specs.Computed.{IsAsked, IsAskedIn, IsAskedOf, IsSuppliedXml, IsUnknown, UnlessXml, asked_of_unknown, supply_of};
 
@@ -39,6 +40,10 @@ pub(crate) fn asked(supplied: &Supplied<'_>) -> Question
     match supplied.mime_type {
         None => asked_of_unknown(supplied.no_sniff),
         Some(found) => {
+            // An image is no other kind, so most is not asked of it.
+            if found.is_image() {
+                return asked_of_image(&found, supplied);
+            }
             if is_unknown(&found) {
                 return asked_of_unknown(supplied.no_sniff);
             }
@@ -63,8 +68,20 @@ fn is_unknown(found: &MimeType<'_>) -> bool
     found.is(b"unknown", b"unknown") || found.is(b"application", b"unknown") || found.is(b"*", b"*")
 }
 
-/// What is asked where a type that tells something is supplied.
+/// What is asked of an image.
+fn asked_of_image(found: &MimeType<'_>, supplied: &Supplied<'_>) -> Question
+    requires { IsImage (kind_of found.now) }
+    ensures { IsAskedOf (supply_of supplied.now) (kind_of found.now) result }
+{
+    if supplied.no_sniff || found.is_xml() {
+        return Question::Nothing;
+    }
+    Question::Images
+}
+
+/// What is asked where a type that tells something, and is no image, is supplied.
 fn asked_of_known(found: &MimeType<'_>, supplied: &Supplied<'_>) -> Question
+    requires { ¬ IsImage (kind_of found.now) }
     ensures { IsAskedOf (supply_of supplied.now) (kind_of found.now) result }
 {
     if found.is_xml() || found.is_html() || supplied.no_sniff {
@@ -72,9 +89,6 @@ fn asked_of_known(found: &MimeType<'_>, supplied: &Supplied<'_>) -> Question
     }
     if supplied.check_for_apache_bug && found.is(b"text", b"plain") {
         return Question::TextOrBinary;
-    }
-    if found.is_image() {
-        return Question::Images;
     }
     if found.is_audio_or_video() {
         return Question::Media;
