@@ -1,7 +1,7 @@
 #!/usr/bin/env python3
 """A proxy on the loopback that prints the type of what each client sends. README.md says what it writes.
 
-usage: labelling_proxy.py PORT TO_PORT [SECONDS]"""
+usage: labelling_proxy.py [--browser] PORT TO_PORT [SECONDS]"""
 import asyncio
 import socket
 import struct
@@ -9,6 +9,7 @@ import sys
 import time
 
 import infer
+from infer import mimesniff
 from loopback import Lines, fail, listen, number_of
 
 ROOM, STREAMS, REST, TURN = 65536, 256, 0.1, 1
@@ -18,9 +19,9 @@ AT_ONCE, IN_ORDER = struct.pack("ii", 1, 0), struct.pack("ii", 0, 0)
 class Stream:
     """A client and its server, and what is known of what the client sends."""
 
-    def __init__(self, client: socket.socket, server: socket.socket, port: int, lines: Lines) -> None:
+    def __init__(self, client: socket.socket, server: socket.socket, port: int, lines: Lines, by_browser: bool) -> None:
         self.client, self.server, self.port, self.lines = client, server, port, lines
-        self.sniffer, self.count, self.is_told, self.is_broken = infer.Sniffer(), 0, False, False
+        self.sniffer, self.count, self.is_told, self.is_broken = mimesniff.Sniffer() if by_browser else infer.Sniffer(), 0, False, False
         self.moved, self.ended = time.monotonic(), set[socket.socket]()
         server.setsockopt(socket.IPPROTO_TCP, socket.TCP_NODELAY, 1)
         for side in (client, server):
@@ -29,10 +30,15 @@ class Stream:
             # What is closed is reset, or an end of this program would tell a server that an upload is whole.
             side.setsockopt(socket.SOL_SOCKET, socket.SO_LINGER, AT_ONCE)
 
+    def guess(self) -> str:
+        """The type, or what a browser would make of the bytes if it was told none."""
+        found = self.sniffer.compute() if isinstance(self.sniffer, mimesniff.Sniffer) else self.sniffer.guess_mime()
+        return found or "unknown"
+
     def tell(self, when: str) -> None:
         """Prints the label once."""
         if not self.is_told:
-            self.lines.tell(f"127.0.0.1:{self.port} {self.sniffer.guess_mime() or 'unknown'} {when} {self.count}")
+            self.lines.tell(f"127.0.0.1:{self.port} {self.guess()} {when} {self.count}")
         self.is_told = True
 
     def label(self, piece: bytes) -> None:
@@ -88,7 +94,7 @@ class Stream:
             side.close()
 
 
-async def serve(port: int, to_port: int, seconds: int) -> None:
+async def serve(port: int, to_port: int, seconds: int, by_browser: bool) -> None:
     listening, lines, running = listen(port), Lines(), set[asyncio.Task[None]]()
     while True:
         while len(running) >= STREAMS:
@@ -97,7 +103,7 @@ async def serve(port: int, to_port: int, seconds: int) -> None:
             # Before a client is taken its server has a socket.
             with socket.socket() as server:
                 client, (_, client_port) = await asyncio.get_running_loop().sock_accept(listening)
-                stream = Stream(client, socket.socket(fileno=server.detach()), client_port, lines)
+                stream = Stream(client, socket.socket(fileno=server.detach()), client_port, lines, by_browser)
         except OSError:  # there is no descriptor
             await asyncio.sleep(REST)
             continue
@@ -106,10 +112,12 @@ async def serve(port: int, to_port: int, seconds: int) -> None:
 
 
 def main() -> None:
-    port, to_port, seconds = (*sys.argv[1:], "60")[:3] if 3 <= len(sys.argv) <= 4 else ("", "", "")
+    by_browser = sys.argv[1:2] == ["--browser"]
+    words = sys.argv[2:] if by_browser else sys.argv[1:]
+    port, to_port, seconds = (*words, "60")[:3] if 2 <= len(words) <= 3 else ("", "", "")
     if number_of(port, 65535) < 0 or number_of(to_port, 65535) < 0 or number_of(seconds, 86400) < 1:
-        fail("usage: labelling_proxy.py PORT TO_PORT [SECONDS]")
-    asyncio.run(serve(int(port), int(to_port), int(seconds)))
+        fail("usage: labelling_proxy.py [--browser] PORT TO_PORT [SECONDS]")
+    asyncio.run(serve(int(port), int(to_port), int(seconds), by_browser))
 
 
 if __name__ == "__main__":

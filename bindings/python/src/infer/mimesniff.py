@@ -21,9 +21,12 @@ import re
 from typing import Union
 
 from . import _library
-from ._source import Source, get_front
+from ._source import Source, get_bytes, get_front
 
-__all__ = ["Context", "Destination", "Group", "MimeType", "compute", "is_blocked", "is_decided", "is_nosniff", "is_old_server", "may_be_scriptable"]
+__all__ = ["Context", "Destination", "Group", "HEADER", "MimeType", "Sniffer", "compute", "is_blocked", "is_decided", "is_nosniff", "is_old_server", "may_be_scriptable"]
+
+HEADER = 1445
+"""How many bytes are looked at."""
 
 Text = Union[str, bytes]
 
@@ -164,6 +167,38 @@ def may_be_scriptable(obj: Source) -> bool:
     """Whether some bytes that may follow make a browser that was told no type run scripts. A no is certain."""
     front = get_front(obj)
     return _library.mime_may_be_scriptable(front, len(front))
+
+
+class Sniffer:
+    """What a browser makes of bytes that come in pieces, of which the first 1445 are kept.
+
+    >>> sniffer = mimesniff.Sniffer(content_type="image/png")
+    >>> sniffer.push(b"GIF")
+    >>> sniffer.push(b"89a")
+    >>> sniffer.compute(), sniffer.is_decided()
+    ('image/gif', True)"""
+
+    def __init__(self, content_type: Text | None = None, nosniff: bool = False, old_server: bool = False) -> None:
+        self.kept = b""
+        """The first bytes of what was pushed, at most 1445."""
+        self._supplied = (content_type, nosniff, old_server)
+
+    def push(self, piece: Union[bytes, bytearray, memoryview]) -> None:
+        """Takes the next bytes."""
+        if not self.is_full():
+            self.kept = (self.kept + get_bytes(piece))[:HEADER]
+
+    def is_full(self) -> bool:
+        """Whether 1445 bytes are kept, so that no more are looked at."""
+        return len(self.kept) == HEADER
+
+    def is_decided(self) -> bool:
+        """Whether no bytes that may follow change what a browser computes of a page, as the function `is_decided` says."""
+        return is_decided(self.kept, *self._supplied)
+
+    def compute(self, context: Context = Context.PAGE) -> str | None:
+        """What it computes of what is kept."""
+        return compute(self.kept, *self._supplied, context)
 
 
 def is_nosniff(value: Text) -> bool:
