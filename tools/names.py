@@ -22,9 +22,10 @@ ROW = re.compile(r'Row\("(.*)"\)')
 WIDTH = 99
 # The rows of texts, which are named together.
 TEXTS = (
-    "afm application/x-pem-key asc atom awk ccmx diashape eps fb2 fodt gjs gpx gtkbuilder html ics imy it87 jnlp js "
-    "json kml lingts lua m3u8 meta4 mml ndjson nzb openssh opml owx pem pfa pgp php pl plist ps py qml qti rb rss "
-    "rtf sami sh sig srt srx svg tcl ttx vcf vtt xhtml xml xmp xpm"
+    "afm application/x-pem-key asc atom awk ccmx clj csh dart diashape eps escript execline exs fb2 fish fodt gjs "
+    "gnuplot gpx groovy gtkbuilder hs html ics imy it87 jl jnlp js json kml lingts lisp lua m m3u8 meta4 mk ml mml "
+    "ndjson nft nzb openssh opml owx pem pfa pgp php pl plist ps ps1 py qml qti r raku rb rkt rss rtf sami scala scm "
+    "sed sh sig srt srx stp svg tcl texlua ttx vcf vtt xhtml xml xmp xpm"
 ).split()
 # How many types, and how many sets of rows, are one list of the definition.
 TYPES, SETS = 256, 128

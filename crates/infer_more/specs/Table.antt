@@ -229,6 +229,12 @@ kinds =
     ∷ row Doc (codes "application/x-kpresenter") (codes "kpr") (Some GZ) (at_least 44 (byte 3 (any_of (0x08 ∷ 0x18 ∷ [])) ∷ text 10 (codes "KOffice application/x-kpresenter" ++ 0x04 ∷ 0x06 ∷ []) ∷ []) ∷ [])
     ∷ row Doc (codes "application/x-kword") (codes "kwd") (Some GZ) (at_least 39 (byte 3 (any_of (0x08 ∷ 0x18 ∷ [])) ∷ text 10 (codes "KOffice application/x-kword" ++ 0x04 ∷ 0x06 ∷ []) ∷ []) ∷ [])
     ∷ row Doc (codes "application/x-kspread") (codes "ksp") (Some GZ) (at_least 41 (byte 3 (any_of (0x08 ∷ 0x18 ∷ [])) ∷ text 10 (codes "KOffice application/x-kspread" ++ 0x04 ∷ 0x06 ∷ []) ∷ []) ∷ [])
+    ∷ row Text (codes "text/x-erlang") (codes "escript") (Some SHELLSCRIPT) (related (program (codes "escript")) ∷ [])
+    ∷ row Text (codes "text/x-raku") (codes "raku") (Some SHELLSCRIPT) (related (program (codes "raku")) ∷ related (program (codes "rakudo")) ∷ [])
+    ∷ row Text (codes "text/x-racket") (codes "rkt") (Some SHELLSCRIPT) (related (program (codes "racket")) ∷ [])
+    ∷ row Text (codes "text/x-common-lisp") (codes "lisp") (Some SHELLSCRIPT) (related (program (codes "sbcl")) ∷ related (program (codes "clisp")) ∷ related (program (codes "ecl")) ∷ [])
+    ∷ row Text (codes "application/x-dart") (codes "dart") (Some SHELLSCRIPT) (related (program (codes "dart")) ∷ [])
+    ∷ row Text (codes "text/x-nftables") (codes "nft") (Some SHELLSCRIPT) (related (program (codes "nft")) ∷ [])
     ∷ []
 
 -- kinds of XML
@@ -390,6 +396,31 @@ others =
     ∷ row Image (codes "application/vnd.iccprofile") (codes "icc") None (at_least 40 (text 0 (0x00 ∷ []) ∷ text 36 (codes "acsp") ∷ []) ∷ [])
     ∷ []
 
+-- more programs that name their interpreter
+unfoldable pub scripts : List Further
+scripts =
+    row Text (codes "application/x-csh") (codes "csh") (Some SHELLSCRIPT) (related (program (codes "csh")) ∷ related (program (codes "tcsh")) ∷ [])
+    ∷ row Text (codes "application/x-fishscript") (codes "fish") (Some SHELLSCRIPT) (related (program (codes "fish")) ∷ [])
+    ∷ row Text (codes "text/x-r") (codes "r") (Some SHELLSCRIPT) (related (program (codes "Rscript")) ∷ related (program (codes "r")) ∷ related (program (codes "littler")) ∷ [])
+    ∷ row Text (codes "text/x-scheme") (codes "scm") (Some SHELLSCRIPT) (related (program (codes "guile")) ∷ related (program (codes "csi")) ∷ related (program (codes "scheme")) ∷ related (program (codes "gosh")) ∷ [])
+    ∷ row Text (codes "text/x-clojure") (codes "clj") (Some SHELLSCRIPT) (related (program (codes "clj")) ∷ related (program (codes "clojure")) ∷ [])
+    ∷ row Text (codes "text/x-groovy") (codes "groovy") (Some SHELLSCRIPT) (related (program (codes "groovy")) ∷ [])
+    ∷ row Text (codes "text/x-scala") (codes "scala") (Some SHELLSCRIPT) (related (program (codes "scala")) ∷ [])
+    ∷ row Text (codes "text/x-ocaml") (codes "ml") (Some SHELLSCRIPT) (related (program (codes "ocaml")) ∷ related (program (codes "ocamlscript")) ∷ related (program (codes "utop")) ∷ [])
+    ∷ row App (codes "application/x-ocaml-bytecode") (codes "ocamlrun") (Some SHELLSCRIPT) (related (program (codes "ocamlrun")) ∷ [])
+    ∷ row Text (codes "text/x-haskell") (codes "hs") (Some SHELLSCRIPT) (related (program (codes "runhaskell")) ∷ related (program (codes "runghc")) ∷ related (program (codes "stack")) ∷ [])
+    ∷ row Text (codes "text/x-julia") (codes "jl") (Some SHELLSCRIPT) (related (program (codes "julia")) ∷ [])
+    ∷ row Text (codes "text/x-octave") (codes "m") (Some SHELLSCRIPT) (related (program (codes "octave")) ∷ related (program (codes "octave-cli")) ∷ [])
+    ∷ row Text (codes "application/x-gnuplot") (codes "gnuplot") (Some SHELLSCRIPT) (related (program (codes "gnuplot")) ∷ [])
+    ∷ row Text (codes "text/x-makefile") (codes "mk") (Some SHELLSCRIPT) (related (program (codes "make")) ∷ related (program (codes "gmake")) ∷ [])
+    ∷ row Text (codes "text/x-sed") (codes "sed") (Some SHELLSCRIPT) (related (program (codes "sed")) ∷ related (program (codes "gsed")) ∷ [])
+    ∷ row Text (codes "text/x-systemtap") (codes "stp") (Some SHELLSCRIPT) (related (program (codes "stap")) ∷ [])
+    ∷ row Text (codes "text/x-execline") (codes "execline") (Some SHELLSCRIPT) (related (program (codes "execlineb")) ∷ [])
+    ∷ row Text (codes "text/x-luatex") (codes "texlua") (Some SHELLSCRIPT) (related (program (codes "texlua")) ∷ related (program (codes "luatex")) ∷ [])
+    ∷ row Text (codes "application/x-powershell") (codes "ps1") (Some SHELLSCRIPT) (related (program (codes "pwsh")) ∷ related (program (codes "powershell")) ∷ [])
+    ∷ row Text (codes "text/x-elixir") (codes "exs") (Some SHELLSCRIPT) (related (program (codes "elixir")) ∷ [])
+    ∷ []
+
 -- texts, which come last, as they accept what other rows do
 unfoldable pub texts : List Further
 texts =
@@ -401,4 +432,4 @@ texts =
 -- all of them
 unfoldable pub further : List Further
 further =
-    packages ++ (headers ++ (markup ++ (code ++ (records ++ (archives ++ (images ++ (media ++ (late ++ (office ++ (kinds ++ (roots ++ (elements ++ (pictures ++ (rasters ++ (sounds ++ (packed ++ (disks ++ (papers ++ (stores ++ (games ++ (others ++ (texts ++ []))))))))))))))))))))))
+    packages ++ (headers ++ (markup ++ (code ++ (records ++ (archives ++ (images ++ (media ++ (late ++ (office ++ (kinds ++ (roots ++ (elements ++ (pictures ++ (rasters ++ (sounds ++ (packed ++ (disks ++ (papers ++ (stores ++ (games ++ (others ++ (scripts ++ (texts ++ [])))))))))))))))))))))))

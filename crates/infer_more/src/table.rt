@@ -105,6 +105,7 @@ mod pictures;
 mod rasters;
 mod records;
 mod roots;
+mod scripts;
 mod sounds;
 mod stores;
 mod texts;
@@ -113,7 +114,7 @@ pub(crate) use generated::{row_at, widens};
 
 /// The rows, list by list.
 #[inline(always)]
-pub(crate) fn lists() -> [&'static [FurtherRow]; 23]
+pub(crate) fn lists() -> [&'static [FurtherRow]; 24]
     ensures listed { joined result ≡ further }
     ensures ended { All (λ rows. AreEnded rows.now) result }
 {
@@ -140,6 +141,7 @@ pub(crate) fn lists() -> [&'static [FurtherRow]; 23]
         stores::rows(),
         games::rows(),
         others::rows(),
+        scripts::rows(),
         texts::rows(),
     ]
 }

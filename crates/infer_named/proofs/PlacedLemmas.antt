@@ -4,7 +4,7 @@ use Rattle.infer_named.proofs.FindLemmas.{right_append, wrong_from}
 use Rattle.infer_named.proofs.ListLemmas.{listed_append, listed_last}
 use Rattle.infer_named.proofs.MarkLemmas.{AreMarked, marked_append}
 use Rattle.infer_named.specs.Listed.{key_listed, mime_types, ranges, row_spans, row_texts, set_listed, type_listed}
-use Rattle.infer_named.specs.Sets.{sets, sets_0, sets_1, sets_2}
+use Rattle.infer_named.specs.Sets.{sets, sets_0, sets_1, sets_2, sets_3}
 use Rattle.infer_named.specs.Slots.{starts}
 use Rattle.infer_named.specs.Table.{keys}
 use Rattle.infer_named.specs.Types.{types, types_0, types_1, types_2, types_3, types_4}
@@ -93,13 +93,18 @@ sets_1-listed : map set_listed (take 128 (drop 128 SETS)) ≡ sets_1
 unfolding sets_1 ranges row_spans row_texts
 sets_1-listed = refl
 
-sets_2-listed : map set_listed (take 108 (drop 256 SETS)) ≡ sets_2
+sets_2-listed : map set_listed (take 128 (drop 256 SETS)) ≡ sets_2
 unfolding sets_2 ranges row_spans row_texts
 sets_2-listed = refl
+
+sets_3-listed : map set_listed (take 2 (drop 384 SETS)) ≡ sets_3
+unfolding sets_3 ranges row_spans row_texts
+sets_3-listed = refl
 
 pub sets_listed : map set_listed SETS ≡ sets
 unfolding sets
 sets_listed =
     listed_append set_listed SETS 0 128 sets_0-listed
     (listed_append set_listed SETS 128 128 sets_1-listed
-    (listed_last set_listed SETS 256 108 refl sets_2-listed))
+    (listed_append set_listed SETS 256 128 sets_2-listed
+    (listed_last set_listed SETS 384 2 refl sets_3-listed)))

@@ -236,902 +236,968 @@ rows-chm = 63
 abbrev pub rows-class : ℕ
 rows-class = 64
 
+abbrev pub rows-clj : ℕ
+rows-clj = 65
+
 abbrev pub rows-core : ℕ
-rows-core = 65
+rows-core = 66
 
 abbrev pub rows-cpio : ℕ
-rows-cpio = 66
+rows-cpio = 67
 
 abbrev pub rows-cr2 : ℕ
-rows-cr2 = 67
+rows-cr2 = 68
 
 abbrev pub rows-cr2-dng : ℕ
-rows-cr2-dng = 68
+rows-cr2-dng = 69
 
 abbrev pub rows-cr3 : ℕ
-rows-cr3 = 69
+rows-cr3 = 70
 
 abbrev pub rows-crl : ℕ
-rows-crl = 70
+rows-crl = 71
 
 abbrev pub rows-crx : ℕ
-rows-crx = 71
+rows-crx = 72
+
+abbrev pub rows-csh : ℕ
+rows-csh = 73
 
 abbrev pub rows-cur : ℕ
-rows-cur = 72
+rows-cur = 74
+
+abbrev pub rows-dart : ℕ
+rows-dart = 75
 
 abbrev pub rows-dbf : ℕ
-rows-dbf = 73
+rows-dbf = 76
 
 abbrev pub rows-dcm : ℕ
-rows-dcm = 74
+rows-dcm = 77
 
 abbrev pub rows-deb : ℕ
-rows-deb = 75
+rows-deb = 78
 
 abbrev pub rows-der : ℕ
-rows-der = 76
+rows-der = 79
 
 abbrev pub rows-der-application-x-pem-key-pem : ℕ
-rows-der-application-x-pem-key-pem = 77
+rows-der-application-x-pem-key-pem = 80
 
 abbrev pub rows-der-p7b-pem : ℕ
-rows-der-p7b-pem = 78
+rows-der-p7b-pem = 81
 
 abbrev pub rows-der-pem : ℕ
-rows-der-pem = 79
+rows-der-pem = 82
 
 abbrev pub rows-der-pem-txt : ℕ
-rows-der-pem-txt = 80
+rows-der-pem-txt = 83
 
 abbrev pub rows-dex : ℕ
-rows-dex = 81
+rows-dex = 84
 
 abbrev pub rows-dey : ℕ
-rows-dey = 82
+rows-dey = 85
 
 abbrev pub rows-dff : ℕ
-rows-dff = 83
+rows-dff = 86
 
 abbrev pub rows-djvm : ℕ
-rows-djvm = 84
+rows-djvm = 87
 
 abbrev pub rows-djvu : ℕ
-rows-djvu = 85
+rows-djvu = 88
 
 abbrev pub rows-dng : ℕ
-rows-dng = 86
+rows-dng = 89
 
 abbrev pub rows-doc : ℕ
-rows-doc = 87
+rows-doc = 90
 
 abbrev pub rows-docm : ℕ
-rows-docm = 88
+rows-docm = 91
 
 abbrev pub rows-docm-docx-application-x-ole-storage-zip : ℕ
-rows-docm-docx-application-x-ole-storage-zip = 89
+rows-docm-docx-application-x-ole-storage-zip = 92
 
 abbrev pub rows-docx : ℕ
-rows-docx = 90
+rows-docx = 93
 
 abbrev pub rows-docx-application-x-ole-storage-zip : ℕ
-rows-docx-application-x-ole-storage-zip = 91
+rows-docx-application-x-ole-storage-zip = 94
 
 abbrev pub rows-dsf : ℕ
-rows-dsf = 92
+rows-dsf = 95
 
 abbrev pub rows-dts : ℕ
-rows-dts = 93
+rows-dts = 96
 
 abbrev pub rows-dv : ℕ
-rows-dv = 94
+rows-dv = 97
 
 abbrev pub rows-dvi : ℕ
-rows-dvi = 95
+rows-dvi = 98
 
 abbrev pub rows-dwg : ℕ
-rows-dwg = 96
+rows-dwg = 99
 
 abbrev pub rows-elf : ℕ
-rows-elf = 97
+rows-elf = 100
 
 abbrev pub rows-elf-so : ℕ
-rows-elf-so = 98
+rows-elf-so = 101
 
 abbrev pub rows-eot : ℕ
-rows-eot = 99
+rows-eot = 102
 
 abbrev pub rows-eps : ℕ
-rows-eps = 100
+rows-eps = 103
 
 abbrev pub rows-eps-pdf-ps : ℕ
-rows-eps-pdf-ps = 101
+rows-eps-pdf-ps = 104
 
 abbrev pub rows-eps-pfa : ℕ
-rows-eps-pfa = 102
+rows-eps-pfa = 105
 
 abbrev pub rows-epub : ℕ
-rows-epub = 103
+rows-epub = 106
+
+abbrev pub rows-escript : ℕ
+rows-escript = 107
 
 abbrev pub rows-evtx : ℕ
-rows-evtx = 104
+rows-evtx = 108
 
 abbrev pub rows-exe : ℕ
-rows-exe = 105
+rows-exe = 109
 
 abbrev pub rows-exr : ℕ
-rows-exr = 106
+rows-exr = 110
+
+abbrev pub rows-exs : ℕ
+rows-exs = 111
 
 abbrev pub rows-ext2 : ℕ
-rows-ext2 = 107
+rows-ext2 = 112
 
 abbrev pub rows-f4v : ℕ
-rows-f4v = 108
+rows-f4v = 113
 
 abbrev pub rows-fb2 : ℕ
-rows-fb2 = 109
+rows-fb2 = 114
+
+abbrev pub rows-fish : ℕ
+rows-fish = 115
 
 abbrev pub rows-fits : ℕ
-rows-fits = 110
+rows-fits = 116
 
 abbrev pub rows-flac : ℕ
-rows-flac = 111
+rows-flac = 117
 
 abbrev pub rows-flac-ogg-opus : ℕ
-rows-flac-ogg-opus = 112
+rows-flac-ogg-opus = 118
 
 abbrev pub rows-flatpak : ℕ
-rows-flatpak = 113
+rows-flatpak = 119
 
 abbrev pub rows-flv : ℕ
-rows-flv = 114
+rows-flv = 120
 
 abbrev pub rows-fodt : ℕ
-rows-fodt = 115
+rows-fodt = 121
 
 abbrev pub rows-gbr : ℕ
-rows-gbr = 116
+rows-gbr = 122
 
 abbrev pub rows-gdbm : ℕ
-rows-gdbm = 117
+rows-gdbm = 123
 
 abbrev pub rows-gguf : ℕ
-rows-gguf = 118
+rows-gguf = 124
 
 abbrev pub rows-gif : ℕ
-rows-gif = 119
+rows-gif = 125
 
 abbrev pub rows-gjs-js : ℕ
-rows-gjs-js = 120
+rows-gjs-js = 126
 
 abbrev pub rows-glb : ℕ
-rows-glb = 121
+rows-glb = 127
+
+abbrev pub rows-gnuplot : ℕ
+rows-gnuplot = 128
 
 abbrev pub rows-gpg : ℕ
-rows-gpg = 122
+rows-gpg = 129
 
 abbrev pub rows-gpkg : ℕ
-rows-gpkg = 123
+rows-gpkg = 130
 
 abbrev pub rows-gpx : ℕ
-rows-gpx = 124
+rows-gpx = 131
+
+abbrev pub rows-groovy : ℕ
+rows-groovy = 132
 
 abbrev pub rows-gtkbuilder : ℕ
-rows-gtkbuilder = 125
+rows-gtkbuilder = 133
 
 abbrev pub rows-gz : ℕ
-rows-gz = 126
+rows-gz = 134
 
 abbrev pub rows-gz-sqlite-xml : ℕ
-rows-gz-sqlite-xml = 127
+rows-gz-sqlite-xml = 135
 
 abbrev pub rows-gz-txt-xml : ℕ
-rows-gz-txt-xml = 128
+rows-gz-txt-xml = 136
 
 abbrev pub rows-gz-xml : ℕ
-rows-gz-xml = 129
+rows-gz-xml = 137
 
 abbrev pub rows-gz-zip : ℕ
-rows-gz-zip = 130
+rows-gz-zip = 138
 
 abbrev pub rows-gz-zst : ℕ
-rows-gz-zst = 131
+rows-gz-zst = 139
 
 abbrev pub rows-hdf4 : ℕ
-rows-hdf4 = 132
+rows-hdf4 = 140
 
 abbrev pub rows-hdf5 : ℕ
-rows-hdf5 = 133
+rows-hdf5 = 141
 
 abbrev pub rows-hdr : ℕ
-rows-hdr = 134
+rows-hdr = 142
 
 abbrev pub rows-heic : ℕ
-rows-heic = 135
+rows-heic = 143
 
 abbrev pub rows-heics : ℕ
-rows-heics = 136
+rows-heics = 144
 
 abbrev pub rows-heics-heif : ℕ
-rows-heics-heif = 137
+rows-heics-heif = 145
 
 abbrev pub rows-heif : ℕ
-rows-heif = 138
+rows-heif = 146
 
 abbrev pub rows-hlp : ℕ
-rows-hlp = 139
+rows-hlp = 147
+
+abbrev pub rows-hs : ℕ
+rows-hs = 148
 
 abbrev pub rows-html : ℕ
-rows-html = 140
+rows-html = 149
 
 abbrev pub rows-html-json-php-svg-txt-xhtml-xml : ℕ
-rows-html-json-php-svg-txt-xhtml-xml = 141
+rows-html-json-php-svg-txt-xhtml-xml = 150
 
 abbrev pub rows-html-rss-txt-xml : ℕ
-rows-html-rss-txt-xml = 142
+rows-html-rss-txt-xml = 151
 
 abbrev pub rows-html-sh-svg-txt-xhtml-xml : ℕ
-rows-html-sh-svg-txt-xhtml-xml = 143
+rows-html-sh-svg-txt-xhtml-xml = 152
 
 abbrev pub rows-html-txt : ℕ
-rows-html-txt = 144
+rows-html-txt = 153
 
 abbrev pub rows-html-txt-xhtml-xml : ℕ
-rows-html-txt-xhtml-xml = 145
+rows-html-txt-xhtml-xml = 154
 
 abbrev pub rows-html-txt-xml : ℕ
-rows-html-txt-xml = 146
+rows-html-txt-xml = 155
 
 abbrev pub rows-icc : ℕ
-rows-icc = 147
+rows-icc = 156
 
 abbrev pub rows-icns : ℕ
-rows-icns = 148
+rows-icns = 157
 
 abbrev pub rows-ico : ℕ
-rows-ico = 149
+rows-ico = 158
 
 abbrev pub rows-ics : ℕ
-rows-ics = 150
+rows-ics = 159
 
 abbrev pub rows-ilbm : ℕ
-rows-ilbm = 151
+rows-ilbm = 160
 
 abbrev pub rows-it : ℕ
-rows-it = 152
+rows-it = 161
 
 abbrev pub rows-j2c : ℕ
-rows-j2c = 153
+rows-j2c = 162
 
 abbrev pub rows-jar : ℕ
-rows-jar = 154
+rows-jar = 163
 
 abbrev pub rows-jar-zip : ℕ
-rows-jar-zip = 155
+rows-jar-zip = 164
 
 abbrev pub rows-jceks : ℕ
-rows-jceks = 156
+rows-jceks = 165
 
 abbrev pub rows-jks : ℕ
-rows-jks = 157
+rows-jks = 166
+
+abbrev pub rows-jl : ℕ
+rows-jl = 167
 
 abbrev pub rows-jmod : ℕ
-rows-jmod = 158
+rows-jmod = 168
 
 abbrev pub rows-jnlp : ℕ
-rows-jnlp = 159
+rows-jnlp = 169
 
 abbrev pub rows-journal : ℕ
-rows-journal = 160
+rows-journal = 170
 
 abbrev pub rows-jp2 : ℕ
-rows-jp2 = 161
+rows-jp2 = 171
 
 abbrev pub rows-jpg : ℕ
-rows-jpg = 162
+rows-jpg = 172
 
 abbrev pub rows-jpm-jpx-mj2 : ℕ
-rows-jpm-jpx-mj2 = 163
+rows-jpm-jpx-mj2 = 173
 
 abbrev pub rows-jpx : ℕ
-rows-jpx = 164
+rows-jpx = 174
 
 abbrev pub rows-json : ℕ
-rows-json = 165
+rows-json = 175
 
 abbrev pub rows-json-ndjson-txt : ℕ
-rows-json-ndjson-txt = 166
+rows-json-ndjson-txt = 176
 
 abbrev pub rows-json-plist-txt-xml : ℕ
-rows-json-plist-txt-xml = 167
+rows-json-plist-txt-xml = 177
 
 abbrev pub rows-json-sh-txt : ℕ
-rows-json-sh-txt = 168
+rows-json-sh-txt = 178
 
 abbrev pub rows-json-txt : ℕ
-rows-json-txt = 169
+rows-json-txt = 179
 
 abbrev pub rows-jxl : ℕ
-rows-jxl = 170
+rows-jxl = 180
 
 abbrev pub rows-jxr : ℕ
-rows-jxr = 171
+rows-jxr = 181
 
 abbrev pub rows-kml : ℕ
-rows-kml = 172
+rows-kml = 182
 
 abbrev pub rows-kmz : ℕ
-rows-kmz = 173
+rows-kmz = 183
 
 abbrev pub rows-kpr-ksp-kwd : ℕ
-rows-kpr-ksp-kwd = 174
+rows-kpr-ksp-kwd = 184
 
 abbrev pub rows-kra : ℕ
-rows-kra = 175
+rows-kra = 185
 
 abbrev pub rows-ktx : ℕ
-rows-ktx = 176
+rows-ktx = 186
 
 abbrev pub rows-ktx2 : ℕ
-rows-ktx2 = 177
+rows-ktx2 = 187
 
 abbrev pub rows-lingts : ℕ
-rows-lingts = 178
+rows-lingts = 188
+
+abbrev pub rows-lisp : ℕ
+rows-lisp = 189
 
 abbrev pub rows-lnk : ℕ
-rows-lnk = 179
+rows-lnk = 190
 
 abbrev pub rows-lrz : ℕ
-rows-lrz = 180
+rows-lrz = 191
 
 abbrev pub rows-lua : ℕ
-rows-lua = 181
+rows-lua = 192
 
 abbrev pub rows-luac : ℕ
-rows-luac = 182
+rows-luac = 193
 
 abbrev pub rows-luks : ℕ
-rows-luks = 183
+rows-luks = 194
 
 abbrev pub rows-lwp : ℕ
-rows-lwp = 184
+rows-lwp = 195
 
 abbrev pub rows-lz : ℕ
-rows-lz = 185
+rows-lz = 196
 
 abbrev pub rows-lz4 : ℕ
-rows-lz4 = 186
+rows-lz4 = 197
 
 abbrev pub rows-lzh : ℕ
-rows-lzh = 187
+rows-lzh = 198
 
 abbrev pub rows-lzma : ℕ
-rows-lzma = 188
+rows-lzma = 199
 
 abbrev pub rows-lzo : ℕ
-rows-lzo = 189
+rows-lzo = 200
+
+abbrev pub rows-m : ℕ
+rows-m = 201
 
 abbrev pub rows-m3u8 : ℕ
-rows-m3u8 = 190
+rows-m3u8 = 202
 
 abbrev pub rows-m4a : ℕ
-rows-m4a = 191
+rows-m4a = 203
 
 abbrev pub rows-m4a-mp4 : ℕ
-rows-m4a-mp4 = 192
+rows-m4a-mp4 = 204
 
 abbrev pub rows-m4b : ℕ
-rows-m4b = 193
+rows-m4b = 205
 
 abbrev pub rows-m4b-m4v-mp4 : ℕ
-rows-m4b-m4v-mp4 = 194
+rows-m4b-m4v-mp4 = 206
 
 abbrev pub rows-m4v : ℕ
-rows-m4v = 195
+rows-m4v = 207
 
 abbrev pub rows-mach : ℕ
-rows-mach = 196
+rows-mach = 208
 
 abbrev pub rows-mdb : ℕ
-rows-mdb = 197
+rows-mdb = 209
 
 abbrev pub rows-med : ℕ
-rows-med = 198
+rows-med = 210
 
 abbrev pub rows-meta4 : ℕ
-rows-meta4 = 199
+rows-meta4 = 211
 
 abbrev pub rows-midi : ℕ
-rows-midi = 200
+rows-midi = 212
 
 abbrev pub rows-mj2 : ℕ
-rows-mj2 = 201
+rows-mj2 = 213
+
+abbrev pub rows-mk : ℕ
+rows-mk = 214
 
 abbrev pub rows-mkv : ℕ
-rows-mkv = 202
+rows-mkv = 215
+
+abbrev pub rows-ml : ℕ
+rows-ml = 216
 
 abbrev pub rows-mmf : ℕ
-rows-mmf = 203
+rows-mmf = 217
 
 abbrev pub rows-mml : ℕ
-rows-mml = 204
+rows-mml = 218
 
 abbrev pub rows-mng : ℕ
-rows-mng = 205
+rows-mng = 219
 
 abbrev pub rows-mo : ℕ
-rows-mo = 206
+rows-mo = 220
 
 abbrev pub rows-mo3 : ℕ
-rows-mo3 = 207
+rows-mo3 = 221
 
 abbrev pub rows-mobi : ℕ
-rows-mobi = 208
+rows-mobi = 222
 
 abbrev pub rows-mov : ℕ
-rows-mov = 209
+rows-mov = 223
 
 abbrev pub rows-mp3 : ℕ
-rows-mp3 = 210
+rows-mp3 = 224
 
 abbrev pub rows-mp4 : ℕ
-rows-mp4 = 211
+rows-mp4 = 225
 
 abbrev pub rows-mpc : ℕ
-rows-mpc = 212
+rows-mpc = 226
 
 abbrev pub rows-mpg : ℕ
-rows-mpg = 213
+rows-mpg = 227
 
 abbrev pub rows-msg : ℕ
-rows-msg = 214
+rows-msg = 228
 
 abbrev pub rows-mtm : ℕ
-rows-mtm = 215
+rows-mtm = 229
 
 abbrev pub rows-mxf : ℕ
-rows-mxf = 216
+rows-mxf = 230
 
 abbrev pub rows-n64 : ℕ
-rows-n64 = 217
+rows-n64 = 231
 
 abbrev pub rows-ndjson : ℕ
-rows-ndjson = 218
+rows-ndjson = 232
 
 abbrev pub rows-nes : ℕ
-rows-nes = 219
+rows-nes = 233
+
+abbrev pub rows-nft : ℕ
+rows-nft = 234
 
 abbrev pub rows-npy : ℕ
-rows-npy = 220
+rows-npy = 235
 
 abbrev pub rows-o : ℕ
-rows-o = 221
+rows-o = 236
 
 abbrev pub rows-obj : ℕ
-rows-obj = 222
+rows-obj = 237
 
 abbrev pub rows-odc : ℕ
-rows-odc = 223
+rows-odc = 238
 
 abbrev pub rows-odf : ℕ
-rows-odf = 224
+rows-odf = 239
 
 abbrev pub rows-odg : ℕ
-rows-odg = 225
+rows-odg = 240
 
 abbrev pub rows-odg-zip : ℕ
-rows-odg-zip = 226
+rows-odg-zip = 241
 
 abbrev pub rows-odp : ℕ
-rows-odp = 227
+rows-odp = 242
 
 abbrev pub rows-odp-zip : ℕ
-rows-odp-zip = 228
+rows-odp-zip = 243
 
 abbrev pub rows-ods : ℕ
-rows-ods = 229
+rows-ods = 244
 
 abbrev pub rows-ods-zip : ℕ
-rows-ods-zip = 230
+rows-ods-zip = 245
 
 abbrev pub rows-odt : ℕ
-rows-odt = 231
+rows-odt = 246
 
 abbrev pub rows-odt-zip : ℕ
-rows-odt-zip = 232
+rows-odt-zip = 247
 
 abbrev pub rows-oga : ℕ
-rows-oga = 233
+rows-oga = 248
 
 abbrev pub rows-oga-ogv-opus-spx : ℕ
-rows-oga-ogv-opus-spx = 234
+rows-oga-ogv-opus-spx = 249
 
 abbrev pub rows-ogg : ℕ
-rows-ogg = 235
+rows-ogg = 250
 
 abbrev pub rows-ogg-ogv : ℕ
-rows-ogg-ogv = 236
+rows-ogg-ogv = 251
 
 abbrev pub rows-ogv : ℕ
-rows-ogv = 237
+rows-ogv = 252
 
 abbrev pub rows-openssh : ℕ
-rows-openssh = 238
+rows-openssh = 253
 
 abbrev pub rows-opml : ℕ
-rows-opml = 239
+rows-opml = 254
 
 abbrev pub rows-opus : ℕ
-rows-opus = 240
+rows-opus = 255
 
 abbrev pub rows-ora : ℕ
-rows-ora = 241
+rows-ora = 256
 
 abbrev pub rows-orc : ℕ
-rows-orc = 242
+rows-orc = 257
 
 abbrev pub rows-otf : ℕ
-rows-otf = 243
+rows-otf = 258
 
 abbrev pub rows-otg : ℕ
-rows-otg = 244
+rows-otg = 259
 
 abbrev pub rows-otp : ℕ
-rows-otp = 245
+rows-otp = 260
 
 abbrev pub rows-ots : ℕ
-rows-ots = 246
+rows-ots = 261
 
 abbrev pub rows-ott : ℕ
-rows-ott = 247
+rows-ott = 262
 
 abbrev pub rows-owx : ℕ
-rows-owx = 248
+rows-owx = 263
 
 abbrev pub rows-p12 : ℕ
-rows-p12 = 249
+rows-p12 = 264
 
 abbrev pub rows-p7b : ℕ
-rows-p7b = 250
+rows-p7b = 265
 
 abbrev pub rows-par2 : ℕ
-rows-par2 = 251
+rows-par2 = 266
 
 abbrev pub rows-parquet : ℕ
-rows-parquet = 252
+rows-parquet = 267
 
 abbrev pub rows-pat : ℕ
-rows-pat = 253
+rows-pat = 268
 
 abbrev pub rows-pcap : ℕ
-rows-pcap = 254
+rows-pcap = 269
 
 abbrev pub rows-pcapng : ℕ
-rows-pcapng = 255
+rows-pcapng = 270
 
 abbrev pub rows-pcx : ℕ
-rows-pcx = 256
+rows-pcx = 271
 
 abbrev pub rows-pdf : ℕ
-rows-pdf = 257
+rows-pdf = 272
 
 abbrev pub rows-pem : ℕ
-rows-pem = 258
+rows-pem = 273
 
 abbrev pub rows-pfa-pfb : ℕ
-rows-pfa-pfb = 259
+rows-pfa-pfb = 274
 
 abbrev pub rows-pfb : ℕ
-rows-pfb = 260
+rows-pfb = 275
 
 abbrev pub rows-pgp : ℕ
-rows-pgp = 261
+rows-pgp = 276
 
 abbrev pub rows-php : ℕ
-rows-php = 262
+rows-php = 277
 
 abbrev pub rows-php-svg-txt-xhtml-xml : ℕ
-rows-php-svg-txt-xhtml-xml = 263
+rows-php-svg-txt-xhtml-xml = 278
 
 abbrev pub rows-pl : ℕ
-rows-pl = 264
+rows-pl = 279
 
 abbrev pub rows-plist : ℕ
-rows-plist = 265
+rows-plist = 280
 
 abbrev pub rows-plist-txt-xml : ℕ
-rows-plist-txt-xml = 266
+rows-plist-txt-xml = 281
 
 abbrev pub rows-png : ℕ
-rows-png = 267
+rows-png = 282
 
 abbrev pub rows-pnm : ℕ
-rows-pnm = 268
+rows-pnm = 283
 
 abbrev pub rows-ppt : ℕ
-rows-ppt = 269
+rows-ppt = 284
 
 abbrev pub rows-pptm : ℕ
-rows-pptm = 270
+rows-pptm = 285
 
 abbrev pub rows-pptx : ℕ
-rows-pptx = 271
+rows-pptx = 286
 
 abbrev pub rows-ppu : ℕ
-rows-ppu = 272
+rows-ppu = 287
 
 abbrev pub rows-ps : ℕ
-rows-ps = 273
+rows-ps = 288
 
 abbrev pub rows-ps-sh-txt : ℕ
-rows-ps-sh-txt = 274
+rows-ps-sh-txt = 289
 
 abbrev pub rows-ps-txt : ℕ
-rows-ps-txt = 275
+rows-ps-txt = 290
+
+abbrev pub rows-ps1 : ℕ
+rows-ps1 = 291
 
 abbrev pub rows-psd : ℕ
-rows-psd = 276
+rows-psd = 292
 
 abbrev pub rows-pst : ℕ
-rows-pst = 277
+rows-pst = 293
 
 abbrev pub rows-pub : ℕ
-rows-pub = 278
+rows-pub = 294
 
 abbrev pub rows-py : ℕ
-rows-py = 279
+rows-py = 295
 
 abbrev pub rows-py-sh-zip : ℕ
-rows-py-sh-zip = 280
+rows-py-sh-zip = 296
 
 abbrev pub rows-pyc : ℕ
-rows-pyc = 281
+rows-pyc = 297
 
 abbrev pub rows-qcow2 : ℕ
-rows-qcow2 = 282
+rows-qcow2 = 298
 
 abbrev pub rows-qml : ℕ
-rows-qml = 283
+rows-qml = 299
+
+abbrev pub rows-r : ℕ
+rows-r = 300
 
 abbrev pub rows-ra : ℕ
-rows-ra = 284
+rows-ra = 301
 
 abbrev pub rows-raf : ℕ
-rows-raf = 285
+rows-raf = 302
+
+abbrev pub rows-raku : ℕ
+rows-raku = 303
 
 abbrev pub rows-rar : ℕ
-rows-rar = 286
+rows-rar = 304
 
 abbrev pub rows-ras : ℕ
-rows-ras = 287
+rows-ras = 305
 
 abbrev pub rows-rb : ℕ
-rows-rb = 288
+rows-rb = 306
+
+abbrev pub rows-rkt : ℕ
+rows-rkt = 307
 
 abbrev pub rows-rm : ℕ
-rows-rm = 289
+rows-rm = 308
 
 abbrev pub rows-rpm : ℕ
-rows-rpm = 290
+rows-rpm = 309
 
 abbrev pub rows-rss : ℕ
-rows-rss = 291
+rows-rss = 310
 
 abbrev pub rows-rtf : ℕ
-rows-rtf = 292
+rows-rtf = 311
 
 abbrev pub rows-rw2 : ℕ
-rows-rw2 = 293
+rows-rw2 = 312
 
 abbrev pub rows-safetensors : ℕ
-rows-safetensors = 294
+rows-safetensors = 313
 
 abbrev pub rows-sav : ℕ
-rows-sav = 295
+rows-sav = 314
+
+abbrev pub rows-scala : ℕ
+rows-scala = 315
+
+abbrev pub rows-scm : ℕ
+rows-scm = 316
+
+abbrev pub rows-sed : ℕ
+rows-sed = 317
 
 abbrev pub rows-sgi : ℕ
-rows-sgi = 296
+rows-sgi = 318
 
 abbrev pub rows-sh : ℕ
-rows-sh = 297
+rows-sh = 319
 
 abbrev pub rows-sh-txt : ℕ
-rows-sh-txt = 298
+rows-sh-txt = 320
 
 abbrev pub rows-shp : ℕ
-rows-shp = 299
+rows-shp = 321
 
 abbrev pub rows-shx : ℕ
-rows-shx = 300
+rows-shx = 322
 
 abbrev pub rows-sid : ℕ
-rows-sid = 301
+rows-sid = 323
 
 abbrev pub rows-sig : ℕ
-rows-sig = 302
+rows-sig = 324
 
 abbrev pub rows-so : ℕ
-rows-so = 303
+rows-so = 325
 
 abbrev pub rows-spx : ℕ
-rows-spx = 304
+rows-spx = 326
 
 abbrev pub rows-sqlite : ℕ
-rows-sqlite = 305
+rows-sqlite = 327
 
 abbrev pub rows-squashfs : ℕ
-rows-squashfs = 306
+rows-squashfs = 328
 
 abbrev pub rows-srpm : ℕ
-rows-srpm = 307
+rows-srpm = 329
 
 abbrev pub rows-srt : ℕ
-rows-srt = 308
+rows-srt = 330
 
 abbrev pub rows-svg : ℕ
-rows-svg = 309
+rows-svg = 331
 
 abbrev pub rows-swf : ℕ
-rows-swf = 310
+rows-swf = 332
 
 abbrev pub rows-sxw : ℕ
-rows-sxw = 311
+rows-sxw = 333
 
 abbrev pub rows-sz : ℕ
-rows-sz = 312
+rows-sz = 334
 
 abbrev pub rows-tar : ℕ
-rows-tar = 313
+rows-tar = 335
 
 abbrev pub rows-tcl : ℕ
-rows-tcl = 314
+rows-tcl = 336
 
 abbrev pub rows-terminfo : ℕ
-rows-terminfo = 315
+rows-terminfo = 337
 
 abbrev pub rows-tif : ℕ
-rows-tif = 316
+rows-tif = 338
 
 abbrev pub rows-tnef : ℕ
-rows-tnef = 317
+rows-tnef = 339
 
 abbrev pub rows-torrent : ℕ
-rows-torrent = 318
+rows-torrent = 340
 
 abbrev pub rows-ts : ℕ
-rows-ts = 319
+rows-ts = 341
 
 abbrev pub rows-tta : ℕ
-rows-tta = 320
+rows-tta = 342
 
 abbrev pub rows-ttc : ℕ
-rows-ttc = 321
+rows-ttc = 343
 
 abbrev pub rows-ttf : ℕ
-rows-ttf = 322
+rows-ttf = 344
 
 abbrev pub rows-txt : ℕ
-rows-txt = 323
+rows-txt = 345
 
 abbrev pub rows-txt-xml : ℕ
-rows-txt-xml = 324
+rows-txt-xml = 346
 
 abbrev pub rows-tzif : ℕ
-rows-tzif = 325
+rows-tzif = 347
 
 abbrev pub rows-vcf : ℕ
-rows-vcf = 326
+rows-vcf = 348
 
 abbrev pub rows-vdi : ℕ
-rows-vdi = 327
+rows-vdi = 349
 
 abbrev pub rows-vhd : ℕ
-rows-vhd = 328
+rows-vhd = 350
 
 abbrev pub rows-vhdx : ℕ
-rows-vhdx = 329
+rows-vhdx = 351
 
 abbrev pub rows-vmdk : ℕ
-rows-vmdk = 330
+rows-vmdk = 352
 
 abbrev pub rows-voc : ℕ
-rows-voc = 331
+rows-voc = 353
 
 abbrev pub rows-vsd : ℕ
-rows-vsd = 332
+rows-vsd = 354
 
 abbrev pub rows-vsdx : ℕ
-rows-vsdx = 333
+rows-vsdx = 355
 
 abbrev pub rows-vsdx-zip : ℕ
-rows-vsdx-zip = 334
+rows-vsdx-zip = 356
 
 abbrev pub rows-vtt : ℕ
-rows-vtt = 335
+rows-vtt = 357
 
 abbrev pub rows-wad : ℕ
-rows-wad = 336
+rows-wad = 358
 
 abbrev pub rows-warc : ℕ
-rows-warc = 337
+rows-warc = 359
 
 abbrev pub rows-wasm : ℕ
-rows-wasm = 338
+rows-wasm = 360
 
 abbrev pub rows-wav : ℕ
-rows-wav = 339
+rows-wav = 361
 
 abbrev pub rows-webm : ℕ
-rows-webm = 340
+rows-webm = 362
 
 abbrev pub rows-webp : ℕ
-rows-webp = 341
+rows-webp = 363
 
 abbrev pub rows-wiiwad : ℕ
-rows-wiiwad = 342
+rows-wiiwad = 364
 
 abbrev pub rows-wim : ℕ
-rows-wim = 343
+rows-wim = 365
 
 abbrev pub rows-wmv : ℕ
-rows-wmv = 344
+rows-wmv = 366
 
 abbrev pub rows-woff : ℕ
-rows-woff = 345
+rows-woff = 367
 
 abbrev pub rows-woff2 : ℕ
-rows-woff2 = 346
+rows-woff2 = 368
 
 abbrev pub rows-wv : ℕ
-rows-wv = 347
+rows-wv = 369
 
 abbrev pub rows-x3f : ℕ
-rows-x3f = 348
+rows-x3f = 370
 
 abbrev pub rows-xar : ℕ
-rows-xar = 349
+rows-xar = 371
 
 abbrev pub rows-xcf : ℕ
-rows-xcf = 350
+rows-xcf = 372
 
 abbrev pub rows-xhtml : ℕ
-rows-xhtml = 351
+rows-xhtml = 373
 
 abbrev pub rows-xls : ℕ
-rows-xls = 352
+rows-xls = 374
 
 abbrev pub rows-xlsb : ℕ
-rows-xlsb = 353
+rows-xlsb = 375
 
 abbrev pub rows-xlsm : ℕ
-rows-xlsm = 354
+rows-xlsm = 376
 
 abbrev pub rows-xlsx : ℕ
-rows-xlsx = 355
+rows-xlsx = 377
 
 abbrev pub rows-xm : ℕ
-rows-xm = 356
+rows-xm = 378
 
 abbrev pub rows-xml : ℕ
-rows-xml = 357
+rows-xml = 379
 
 abbrev pub rows-xpm : ℕ
-rows-xpm = 358
+rows-xpm = 380
 
 abbrev pub rows-xwd : ℕ
-rows-xwd = 359
+rows-xwd = 381
 
 abbrev pub rows-xz : ℕ
-rows-xz = 360
+rows-xz = 382
 
 abbrev pub rows-zim : ℕ
-rows-zim = 361
+rows-zim = 383
 
 abbrev pub rows-zip : ℕ
-rows-zip = 362
+rows-zip = 384
 
 abbrev pub rows-zst : ℕ
-rows-zst = 363
+rows-zst = 385
 
 unfoldable pub lead_lists : List (List (List ℕ))
 lead_lists =
@@ -1217,6 +1283,7 @@ sets_0 =
     ∷ (codes "chd" ∷ [])
     ∷ (codes "chm" ∷ [])
     ∷ (codes "class" ∷ [])
+    ∷ (codes "clj" ∷ [])
     ∷ (codes "core" ∷ [])
     ∷ (codes "cpio" ∷ [])
     ∷ (codes "cr2" ∷ [])
@@ -1224,7 +1291,9 @@ sets_0 =
     ∷ (codes "cr3" ∷ [])
     ∷ (codes "crl" ∷ [])
     ∷ (codes "crx" ∷ [])
+    ∷ (codes "csh" ∷ [])
     ∷ (codes "cur" ∷ [])
+    ∷ (codes "dart" ∷ [])
     ∷ (codes "dbf" ∷ [])
     ∷ (codes "dcm" ∷ [])
     ∷ (codes "deb" ∷ [])
@@ -1256,12 +1325,15 @@ sets_0 =
     ∷ (codes "eps" ∷ codes "pdf" ∷ codes "ps" ∷ [])
     ∷ (codes "eps" ∷ codes "pfa" ∷ [])
     ∷ (codes "epub" ∷ [])
+    ∷ (codes "escript" ∷ [])
     ∷ (codes "evtx" ∷ [])
     ∷ (codes "exe" ∷ [])
     ∷ (codes "exr" ∷ [])
+    ∷ (codes "exs" ∷ [])
     ∷ (codes "ext2" ∷ [])
     ∷ (codes "f4v" ∷ [])
     ∷ (codes "fb2" ∷ [])
+    ∷ (codes "fish" ∷ [])
     ∷ (codes "fits" ∷ [])
     ∷ (codes "flac" ∷ [])
     ∷ (codes "flac" ∷ codes "ogg" ∷ codes "opus" ∷ [])
@@ -1274,17 +1346,19 @@ sets_0 =
     ∷ (codes "gif" ∷ [])
     ∷ (codes "gjs" ∷ codes "js" ∷ [])
     ∷ (codes "glb" ∷ [])
-    ∷ (codes "gpg" ∷ [])
-    ∷ (codes "gpkg" ∷ [])
-    ∷ (codes "gpx" ∷ [])
-    ∷ (codes "gtkbuilder" ∷ [])
-    ∷ (codes "gz" ∷ [])
-    ∷ (codes "gz" ∷ codes "sqlite" ∷ codes "xml" ∷ [])
     ∷ []
 
 unfoldable pub sets_1 : List (List (List ℕ))
 sets_1 =
-    (codes "gz" ∷ codes "txt" ∷ codes "xml" ∷ [])
+    (codes "gnuplot" ∷ [])
+    ∷ (codes "gpg" ∷ [])
+    ∷ (codes "gpkg" ∷ [])
+    ∷ (codes "gpx" ∷ [])
+    ∷ (codes "groovy" ∷ [])
+    ∷ (codes "gtkbuilder" ∷ [])
+    ∷ (codes "gz" ∷ [])
+    ∷ (codes "gz" ∷ codes "sqlite" ∷ codes "xml" ∷ [])
+    ∷ (codes "gz" ∷ codes "txt" ∷ codes "xml" ∷ [])
     ∷ (codes "gz" ∷ codes "xml" ∷ [])
     ∷ (codes "gz" ∷ codes "zip" ∷ [])
     ∷ (codes "gz" ∷ codes "zst" ∷ [])
@@ -1296,6 +1370,7 @@ sets_1 =
     ∷ (codes "heics" ∷ codes "heif" ∷ [])
     ∷ (codes "heif" ∷ [])
     ∷ (codes "hlp" ∷ [])
+    ∷ (codes "hs" ∷ [])
     ∷ (codes "html" ∷ [])
     ∷ (codes "html" ∷ codes "json" ∷ codes "php" ∷ codes "svg" ∷ codes "txt" ∷ codes "xhtml" ∷ codes "xml" ∷ [])
     ∷ (codes "html" ∷ codes "rss" ∷ codes "txt" ∷ codes "xml" ∷ [])
@@ -1314,6 +1389,7 @@ sets_1 =
     ∷ (codes "jar" ∷ codes "zip" ∷ [])
     ∷ (codes "jceks" ∷ [])
     ∷ (codes "jks" ∷ [])
+    ∷ (codes "jl" ∷ [])
     ∷ (codes "jmod" ∷ [])
     ∷ (codes "jnlp" ∷ [])
     ∷ (codes "journal" ∷ [])
@@ -1335,6 +1411,7 @@ sets_1 =
     ∷ (codes "ktx" ∷ [])
     ∷ (codes "ktx2" ∷ [])
     ∷ (codes "lingts" ∷ [])
+    ∷ (codes "lisp" ∷ [])
     ∷ (codes "lnk" ∷ [])
     ∷ (codes "lrz" ∷ [])
     ∷ (codes "lua" ∷ [])
@@ -1346,6 +1423,7 @@ sets_1 =
     ∷ (codes "lzh" ∷ [])
     ∷ (codes "lzma" ∷ [])
     ∷ (codes "lzo" ∷ [])
+    ∷ (codes "m" ∷ [])
     ∷ (codes "m3u8" ∷ [])
     ∷ (codes "m4a" ∷ [])
     ∷ (codes "m4a" ∷ codes "mp4" ∷ [])
@@ -1358,7 +1436,9 @@ sets_1 =
     ∷ (codes "meta4" ∷ [])
     ∷ (codes "midi" ∷ [])
     ∷ (codes "mj2" ∷ [])
+    ∷ (codes "mk" ∷ [])
     ∷ (codes "mkv" ∷ [])
+    ∷ (codes "ml" ∷ [])
     ∷ (codes "mmf" ∷ [])
     ∷ (codes "mml" ∷ [])
     ∷ (codes "mng" ∷ [])
@@ -1376,6 +1456,7 @@ sets_1 =
     ∷ (codes "n64" ∷ [])
     ∷ (codes "ndjson" ∷ [])
     ∷ (codes "nes" ∷ [])
+    ∷ (codes "nft" ∷ [])
     ∷ (codes "npy" ∷ [])
     ∷ (codes "o" ∷ [])
     ∷ (codes "obj" ∷ [])
@@ -1397,7 +1478,11 @@ sets_1 =
     ∷ (codes "openssh" ∷ [])
     ∷ (codes "opml" ∷ [])
     ∷ (codes "opus" ∷ [])
-    ∷ (codes "ora" ∷ [])
+    ∷ []
+
+unfoldable pub sets_2 : List (List (List ℕ))
+sets_2 =
+    (codes "ora" ∷ [])
     ∷ (codes "orc" ∷ [])
     ∷ (codes "otf" ∷ [])
     ∷ (codes "otg" ∷ [])
@@ -1412,11 +1497,7 @@ sets_1 =
     ∷ (codes "pat" ∷ [])
     ∷ (codes "pcap" ∷ [])
     ∷ (codes "pcapng" ∷ [])
-    ∷ []
-
-unfoldable pub sets_2 : List (List (List ℕ))
-sets_2 =
-    (codes "pcx" ∷ [])
+    ∷ (codes "pcx" ∷ [])
     ∷ (codes "pdf" ∷ [])
     ∷ (codes "pem" ∷ [])
     ∷ (codes "pfa" ∷ codes "pfb" ∷ [])
@@ -1436,6 +1517,7 @@ sets_2 =
     ∷ (codes "ps" ∷ [])
     ∷ (codes "ps" ∷ codes "sh" ∷ codes "txt" ∷ [])
     ∷ (codes "ps" ∷ codes "txt" ∷ [])
+    ∷ (codes "ps1" ∷ [])
     ∷ (codes "psd" ∷ [])
     ∷ (codes "pst" ∷ [])
     ∷ (codes "pub" ∷ [])
@@ -1444,11 +1526,14 @@ sets_2 =
     ∷ (codes "pyc" ∷ [])
     ∷ (codes "qcow2" ∷ [])
     ∷ (codes "qml" ∷ [])
+    ∷ (codes "r" ∷ [])
     ∷ (codes "ra" ∷ [])
     ∷ (codes "raf" ∷ [])
+    ∷ (codes "raku" ∷ [])
     ∷ (codes "rar" ∷ [])
     ∷ (codes "ras" ∷ [])
     ∷ (codes "rb" ∷ [])
+    ∷ (codes "rkt" ∷ [])
     ∷ (codes "rm" ∷ [])
     ∷ (codes "rpm" ∷ [])
     ∷ (codes "rss" ∷ [])
@@ -1456,6 +1541,9 @@ sets_2 =
     ∷ (codes "rw2" ∷ [])
     ∷ (codes "safetensors" ∷ [])
     ∷ (codes "sav" ∷ [])
+    ∷ (codes "scala" ∷ [])
+    ∷ (codes "scm" ∷ [])
+    ∷ (codes "sed" ∷ [])
     ∷ (codes "sgi" ∷ [])
     ∷ (codes "sh" ∷ [])
     ∷ (codes "sh" ∷ codes "txt" ∷ [])
@@ -1522,9 +1610,13 @@ sets_2 =
     ∷ (codes "xwd" ∷ [])
     ∷ (codes "xz" ∷ [])
     ∷ (codes "zim" ∷ [])
-    ∷ (codes "zip" ∷ [])
+    ∷ []
+
+unfoldable pub sets_3 : List (List (List ℕ))
+sets_3 =
+    (codes "zip" ∷ [])
     ∷ (codes "zst" ∷ [])
     ∷ []
 
 unfoldable pub sets : List (List (List ℕ))
-sets = sets_0 ++ (sets_1 ++ (sets_2))
+sets = sets_0 ++ (sets_1 ++ (sets_2 ++ (sets_3)))

@@ -3327,7 +3327,7 @@ types_0 =
     ∷ named (codes "application/x-compressed-tar") known
     ∷ named (codes "application/x-core") (row (codes "core"))
     ∷ named (codes "application/x-cpio") (row (codes "cpio"))
-    ∷ named (codes "application/x-csh") known
+    ∷ named (codes "application/x-csh") (row (codes "csh"))
     ∷ named (codes "application/x-cue") known
     ∷ named (codes "application/x-dbm") (row (codes "bdb"))
     ∷ named (codes "application/x-dbus-gvdb") own
@@ -3359,7 +3359,7 @@ types_1 =
     ∷ named (codes "application/x-ext-filesystem") (row (codes "ext2"))
     ∷ named (codes "application/x-fbx") own
     ∷ named (codes "application/x-fictionbook+xml") (row (codes "fb2"))
-    ∷ named (codes "application/x-fishscript") own
+    ∷ named (codes "application/x-fishscript") (row (codes "fish"))
     ∷ named (codes "application/x-flash-authoring") own
     ∷ named (codes "application/x-font-afm") (row (codes "afm"))
     ∷ named (codes "application/x-font-bdf") known
@@ -3379,7 +3379,7 @@ types_1 =
     ∷ named (codes "application/x-glade") known
     ∷ named (codes "application/x-glib-typelib") own
     ∷ named (codes "application/x-gnucash") known
-    ∷ named (codes "application/x-gnuplot") known
+    ∷ named (codes "application/x-gnuplot") (row (codes "gnuplot"))
     ∷ named (codes "application/x-go-sgf") known
     ∷ named (codes "application/x-godot-package") own
     ∷ named (codes "application/x-godot-resource") known
@@ -3481,7 +3481,7 @@ types_1 =
     ∷ named (codes "application/x-plist") (row (codes "plist"))
     ∷ named (codes "application/x-ply") own
     ∷ named (codes "application/x-pov") own
-    ∷ named (codes "application/x-powershell") known
+    ∷ named (codes "application/x-powershell") (row (codes "ps1"))
     ∷ named (codes "application/x-precompiled-header") own
     ∷ named (codes "application/x-profraw") own
     ∷ named (codes "application/x-ps1xml") own
@@ -3791,11 +3791,11 @@ types_2 =
     ∷ named (codes "text/x-chdr") known
     ∷ named (codes "text/x-checksums") own
     ∷ named (codes "text/x-chuck") own
-    ∷ named (codes "text/x-clojure") known
+    ∷ named (codes "text/x-clojure") (row (codes "clj"))
     ∷ named (codes "text/x-cmake") known
     ∷ named (codes "text/x-cobol") known
     ∷ named (codes "text/x-cocci") own
-    ∷ named (codes "text/x-common-lisp") known
+    ∷ named (codes "text/x-common-lisp") (row (codes "lisp"))
     ∷ named (codes "text/x-component") known
     ∷ named (codes "text/x-coq") own
     ∷ named (codes "text/x-cppconf") own
@@ -3826,11 +3826,11 @@ types_2 =
     ∷ named (codes "text/x-eex") own
     ∷ named (codes "text/x-eiffel") known
     ∷ named (codes "text/x-ejs") own
-    ∷ named (codes "text/x-elixir") known
+    ∷ named (codes "text/x-elixir") (row (codes "exs"))
     ∷ named (codes "text/x-elm") known
     ∷ named (codes "text/x-emacs-config") own
     ∷ named (codes "text/x-emacs-lisp") known
-    ∷ named (codes "text/x-erlang") known
+    ∷ named (codes "text/x-erlang") (row (codes "escript"))
     ∷ named (codes "text/x-expect") own
     ∷ named (codes "text/x-factor") known
     ∷ named (codes "text/x-fasta") own
@@ -3870,10 +3870,10 @@ unfoldable pub types_3 : List NamedType
 types_3 =
     named (codes "text/x-gpr") own
     ∷ named (codes "text/x-gradle") known
-    ∷ named (codes "text/x-groovy") known
+    ∷ named (codes "text/x-groovy") (row (codes "groovy"))
     ∷ named (codes "text/x-haml") known
     ∷ named (codes "text/x-handlebars") own
-    ∷ named (codes "text/x-haskell") known
+    ∷ named (codes "text/x-haskell") (row (codes "hs"))
     ∷ named (codes "text/x-haxe") known
     ∷ named (codes "text/x-hcl") own
     ∷ named (codes "text/x-hive") own
@@ -3899,7 +3899,7 @@ types_3 =
     ∷ named (codes "text/x-jelly") own
     ∷ named (codes "text/x-jinja") own
     ∷ named (codes "text/x-jq") own
-    ∷ named (codes "text/x-julia") known
+    ∷ named (codes "text/x-julia") (row (codes "jl"))
     ∷ named (codes "text/x-just") own
     ∷ named (codes "text/x-kaitai-struct") known
     ∷ named (codes "text/x-kconfig") own
@@ -3922,7 +3922,7 @@ types_3 =
     ∷ named (codes "text/x-logtalk") own
     ∷ named (codes "text/x-lsl") own
     ∷ named (codes "text/x-lua") (row (codes "lua"))
-    ∷ named (codes "text/x-makefile") known
+    ∷ named (codes "text/x-makefile") (row (codes "mk"))
     ∷ named (codes "text/x-mako") own
     ∷ named (codes "text/x-marko") own
     ∷ named (codes "text/x-matlab") known
@@ -3947,7 +3947,7 @@ types_3 =
     ∷ named (codes "text/x-msdos-batch") own
     ∷ named (codes "text/x-newick") own
     ∷ named (codes "text/x-nextflow") own
-    ∷ named (codes "text/x-nftables") own
+    ∷ named (codes "text/x-nftables") (row (codes "nft"))
     ∷ named (codes "text/x-nginx-conf") known
     ∷ named (codes "text/x-nim") own
     ∷ named (codes "text/x-ninja") own
@@ -3956,8 +3956,8 @@ types_3 =
     ∷ named (codes "text/x-nushell") own
     ∷ named (codes "text/x-objc++src") known
     ∷ named (codes "text/x-objcsrc") known
-    ∷ named (codes "text/x-ocaml") known
-    ∷ named (codes "text/x-octave") known
+    ∷ named (codes "text/x-ocaml") (row (codes "ml"))
+    ∷ named (codes "text/x-octave") (row (codes "m"))
     ∷ named (codes "text/x-odin") own
     ∷ named (codes "text/x-ooc") known
     ∷ named (codes "text/x-opencl-src") known
@@ -3995,9 +3995,9 @@ types_3 =
     ∷ named (codes "text/x-qmake") own
     ∷ named (codes "text/x-qml") (row (codes "qml"))
     ∷ named (codes "text/x-r-doc") own
-    ∷ named (codes "text/x-racket") own
+    ∷ named (codes "text/x-racket") (row (codes "rkt"))
     ∷ named (codes "text/x-ragel") own
-    ∷ named (codes "text/x-raku") own
+    ∷ named (codes "text/x-raku") (row (codes "raku"))
     ∷ named (codes "text/x-razor") own
     ∷ named (codes "text/x-rdoc") own
     ∷ named (codes "text/x-readline") own
@@ -4020,13 +4020,13 @@ types_3 =
     ∷ named (codes "text/x-sam") own
     ∷ named (codes "text/x-sas") known
     ∷ named (codes "text/x-sass") known
-    ∷ named (codes "text/x-scala") known
-    ∷ named (codes "text/x-scheme") known
+    ∷ named (codes "text/x-scala") (row (codes "scala"))
+    ∷ named (codes "text/x-scheme") (row (codes "scm"))
     ∷ named (codes "text/x-scilab") own
     ∷ named (codes "text/x-scons") known
     ∷ named (codes "text/x-scss") known
     ∷ named (codes "text/x-sdc") own
-    ∷ named (codes "text/x-sed") own
+    ∷ named (codes "text/x-sed") (row (codes "sed"))
     ∷ named (codes "text/x-selinux") own
     ∷ named (codes "text/x-setext") known
     ∷ named (codes "text/x-shell-config") own

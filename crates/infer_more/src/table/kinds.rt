@@ -24,6 +24,12 @@ static ROWS: &[FurtherRow] = rows![
     Doc "application/x-kpresenter" "kpr": GZ => [44, OneOf(3, b"\x08\x18"), At(10, b"KOffice application/x-kpresenter\x04\x06")];
     Doc "application/x-kword" "kwd": GZ => [39, OneOf(3, b"\x08\x18"), At(10, b"KOffice application/x-kword\x04\x06")];
     Doc "application/x-kspread" "ksp": GZ => [41, OneOf(3, b"\x08\x18"), At(10, b"KOffice application/x-kspread\x04\x06")];
+    Text "text/x-erlang" "escript": SHELLSCRIPT => [Program(b"escript")];
+    Text "text/x-raku" "raku": SHELLSCRIPT => [Program(b"raku")] [Program(b"rakudo")];
+    Text "text/x-racket" "rkt": SHELLSCRIPT => [Program(b"racket")];
+    Text "text/x-common-lisp" "lisp": SHELLSCRIPT => [Program(b"sbcl")] [Program(b"clisp")] [Program(b"ecl")];
+    Text "application/x-dart" "dart": SHELLSCRIPT => [Program(b"dart")];
+    Text "text/x-nftables" "nft": SHELLSCRIPT => [Program(b"nft")];
 ];
 
 #[tactic(auto, unfolding(crate::specs::Table::kinds))]

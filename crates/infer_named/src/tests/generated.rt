@@ -268,7 +268,7 @@ fn part_2(rt: HostRuntime) -> Result<(), Fail> {
         b"x.1p" b"\xEF\xBB\xBFmark\n" NameRefines "text/troff";
         b"A.jsp" b"x = 1\n" NameRefines "application/x-jsp";
         b"A.pbm" b"{\"a\":1}\n{\"b\":2}\n" Contradicts "application/x-ndjson";
-        b".h.xslt" b"#!/usr/bin/env Rscript\n1\n" Contradicts "text/x-shellscript";
+        b".h.xslt" b"#!/usr/bin/env Rscript\n1\n" Contradicts "text/x-r";
         b"v1.0.sam" b"%!TEX root = main.tex\n" Contradicts "application/postscript";
         b"A.dotm" b"\xEF\xBB\xBFmark\n" Contradicts "text/plain";
         b".h.sf3" b"[1, 2]\n" Contradicts "application/json";
@@ -297,7 +297,7 @@ fn part_2(rt: HostRuntime) -> Result<(), Fail> {
         b"v1.0.psgi" b"int main(void) { return 0; }\n" NameRefines "text/x-perl";
         b"A.jfi" b"h\xC3\xA9llo\n" Contradicts "text/plain";
         b".h.3ds" b"<greeting>hello</greeting>\n" BytesAlone "text/plain";
-        b"v1.0.less" b"#!/usr/bin/env Rscript\n1\n" Contradicts "text/x-shellscript";
+        b"v1.0.less" b"#!/usr/bin/env Rscript\n1\n" Contradicts "text/x-r";
         b"x.rmiss" b"<!DOCTYPE html>\n<title>t</title>\n" Contradicts "text/html";
         b"v1.0.entitlements" b"key: value\n" Contradicts "text/plain";
         b".h.pps" b"<?xml version=\"1.0\"?>\n<a/>\n" Contradicts "text/xml";
@@ -670,7 +670,7 @@ fn part_5(rt: HostRuntime) -> Result<(), Fail> {
         b"v1.0.ott" b"\x89PNG" BytesAlone "image/png";
         b"A.p8" b"# a comment\n\nhello\n" BytesAlone "text/plain";
         b"A.pch" b"%!TEX root = main.tex\n" BytesRefine "application/postscript";
-        b"A.pdb" b"#!/usr/bin/env Rscript\n1\n" BytesAlone "text/x-shellscript";
+        b"A.pdb" b"#!/usr/bin/env Rscript\n1\n" BytesAlone "text/x-r";
         b".h.pgp" b"\xEF\xBB\xBFmark\n" BytesAlone "text/plain";
         b"dir/a b.pk" b"#![no_std]\n" BytesAlone "text/x-shellscript";
         b"x.ra" b"%!TEX root = main.tex\n" BytesAlone "application/postscript";
@@ -696,7 +696,7 @@ fn part_6(rt: HostRuntime) -> Result<(), Fail> {
         b"v1.0.sys" b"# a comment\n\nhello\n" BytesAlone "text/plain";
         b"A.tab" b"\x01\x02\x03\x04\x05\x06\x07\x08\t\n\x0B\x0C\r\x0E\x0F\x10\x11\x12\x13\x14\x15\x16\x17\x18\x19\x1A\x1B\x1C\x1D" Nothing "";
         b"dir/a b.wad" b"#![no_std]\n" BytesAlone "text/x-shellscript";
-        b"v1.0.xm" b"#!/usr/bin/env Rscript\n1\n" BytesAlone "text/x-shellscript";
+        b"v1.0.xm" b"#!/usr/bin/env Rscript\n1\n" BytesAlone "text/x-r";
         b"v1.0.zoo" b"\xFF\xFEh\0i\0" BytesAlone "text/plain";
         b"a.png" b"\x89PNG" Agree "image/png";
         b"a.png" b"x = 1\n" Contradicts "text/plain";
@@ -816,7 +816,7 @@ fn part_7(rt: HostRuntime) -> Result<(), Fail> {
         b"libm-2.36.so" b"\x7FELF\0\0\0\0\0\0\0\0\0\0\0\0\0\0\0\0\0\0\0\0\0\0\0\0\0\0\0\0\0\0\0\0\0\0\0\0\0\0\0\0\0\0\0\0\0\0\0\0\0" NameRefines "application/x-sharedlib";
         b"a.so.6.gz" b"x = 1\n" Contradicts "text/plain";
         b"Makefile" b"x = 1\n" NameRefines "text/x-makefile";
-        b"Makefile" b"#!/usr/bin/env Rscript\n1\n" NameRefines "text/x-makefile";
+        b"Makefile" b"#!/usr/bin/env Rscript\n1\n" Contradicts "text/x-r";
         b"makefile" b"x = 1\n" NameRefines "text/x-makefile";
         b"makefile" b"\xEF\xBB\xBFmark\n" NameRefines "text/x-makefile";
         b"MAKEFILE" b"x = 1\n" NameRefines "text/x-makefile";
@@ -829,7 +829,7 @@ fn part_7(rt: HostRuntime) -> Result<(), Fail> {
         b"dir/Makefile" b"<!DOCTYPE html>\n<title>t</title>\n" Contradicts "text/html";
         b"dir\\Makefile" b"x = 1\n" NameRefines "text/x-makefile";
         b"dir\\Makefile" b"key: value\n" NameRefines "text/x-makefile";
-        b"Makefile/" b"#!/usr/bin/env Rscript\n1\n" BytesAlone "text/x-shellscript";
+        b"Makefile/" b"#!/usr/bin/env Rscript\n1\n" BytesAlone "text/x-r";
         b"x.Makefile" b"x = 1\n" NameRefines "text/x-makefile";
         b"x.Makefile" b"# a comment\n\nhello\n" NameRefines "text/x-makefile";
         b"Makefile.pdf" b"\xFF\xFEh\0i\0" Contradicts "text/plain";
@@ -839,13 +839,13 @@ fn part_7(rt: HostRuntime) -> Result<(), Fail> {
         b"go.mod" b"x = 1\n" NameRefines "text/x-gomod";
         b"go.mod" b"{\"a\": 1}\n" Contradicts "application/json";
         b"go.sum" b"x = 1\n" NameRefines "text/x-gosum";
-        b"go.sum" b"#!/usr/bin/env Rscript\n1\n" Contradicts "text/x-shellscript";
+        b"go.sum" b"#!/usr/bin/env Rscript\n1\n" Contradicts "text/x-r";
         b"x.go.mod" b"x = 1\n" Agree "text/plain";
         b"Dockerfile" b"x = 1\n" NameRefines "text/x-dockerfile";
         b"Dockerfile.dev" b"x = 1\n" NameRefines "text/x-dockerfile";
         b"dev.Dockerfile" b"<!-- note -->\n<p>hi</p>\n" Contradicts "text/html";
         b"Makefile.svg" b"x = 1\n" Contradicts "text/plain";
-        b"Makefile.svg" b"#!/usr/bin/env Rscript\n1\n" Contradicts "text/x-shellscript";
+        b"Makefile.svg" b"#!/usr/bin/env Rscript\n1\n" Contradicts "text/x-r";
         b"MAKEFILE.win" b"x = 1\n" NameRefines "text/x-makefile";
         b"MAKEFILE.win" b"<!-- note -->\n<p>hi</p>\n" Contradicts "text/html";
         b"Makefile." b"<?xml version=\"1.0\"?>\n<a/>\n" Contradicts "text/xml";

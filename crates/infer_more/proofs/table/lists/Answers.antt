@@ -28,5 +28,6 @@ returns-clause-listed c =
       c.rows-21.ensures.listed,
       c.rows-22.ensures.listed,
       c.rows-23.ensures.listed,
+      c.rows-24.ensures.listed,
     )
     refl
