@@ -75,7 +75,7 @@ fn what_is_sent(rt: HostRuntime) {
         (b"photo.jpg", PNG, UNSAID),
         (b"photo.png", PAGE, UNSAID),
         (b"__init__.py", b"", UNSAID),
-        (b"a.6pl", b"say 1;\n", UNSAID),
+        (b"a.chpl", b"writeln(1);\n", UNSAID),
         (b"x.unknown", b"\0\x01", UNSAID),
         (b"", b"", UNSAID),
     ];
